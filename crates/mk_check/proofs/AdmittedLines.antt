@@ -2,18 +2,18 @@
 use Rattle.mk_check.proofs.Vocabulary.{Answer, At, Bool, Fed, HasFew, IfSome, IsOfKind, Item, Kind, List, NeverState}
 use Rattle.mk_check.proofs.Vocabulary.{Op, Option, Some, Value, ℕ, arith, base_of, false, flagged, global_names}
 use Rattle.mk_check.proofs.Vocabulary.{global_type, globals_of, kind_of, length, moved_by, number_of_name, op_of}
-use Rattle.mk_check.proofs.Vocabulary.{pointer_at, pointer_names, refl, scope_of, slice_get, subst, sym, true}
-use Rattle.mk_check.proofs.Vocabulary.{type_names, ◌<◌, ◌≡◌}
+use Rattle.mk_check.proofs.Vocabulary.{pointer_at, pointer_names, refl, scope_of, slice_get, subst, sym, type_names}
+use Rattle.mk_check.proofs.Vocabulary.{◌<◌, ◌≡◌}
 use Rattle.mk_never.proofs.Edits.{if_by, left_at_by}
 use Rattle.mk_never.specs.Admitted.{AccessIsAdmitted, IsAdmitted, IsBase, IsNumber, IsPointer, Meets}
 use Rattle.mk_never.specs.Admitted.{OperandsAreInRange, StoreIsAdmitted}
-use Rattle.mk_never.specs.NeverHeap.{after_free, after_op, target_of, with_new, with_register, word_at}
-use Rattle.mk_never.specs.declared.values.Value.TheVariants.{Null, Num, Ptr}
+use Rattle.mk_never.specs.NeverHeap.{after_op, target_of, with_new, with_register, word_at}
 use Rattle.mk_never.specs.declared.types.Kind.TheVariants.{Num as NumKind, To}
+use Rattle.mk_never.specs.declared.values.Value.TheVariants.{Null}
+use Rattle.mk_check.proofs.DeclaredPlaces.{global_place, global_within, pointer_within, type_place}
 use Rattle.mk_check.proofs.DeclaredRegisters.{AreAsDeclared, FitsScript, global_word, kind_at, loaded_word}
 use Rattle.mk_check.proofs.DeclaredRegisters.{meets_before, meets_weaker, moved_word, register_of, set_register}
-use Rattle.mk_check.proofs.TypedLines.{PointsBefore, PointsBeforeOne, PointsBehind, PointsToGlobal, PointsToType, Says}
-use Rattle.mk_check.proofs.DeclaredPlaces.{global_place, global_within, pointer_within, type_place}
+use Rattle.mk_check.proofs.TypedLines.{PointsBefore, PointsBeforeOne, PointsToGlobal, Says}
 use Rattle.mk_script.specs.declared.items.Item.TheVariants.{Casp, Clear, Free, Getn, Getp, Isnull, Lea, Loadg, Move}
 use Rattle.mk_script.specs.declared.items.Item.TheVariants.{New, Same, Setn, Setp, Show, Storeg}
 use Rattle.mk_script.specs.declared.items.TypeWord.TheVariants.{Number, Pointer}
@@ -21,19 +21,16 @@ use Rattle.mk_script.specs.declared.items.TypeWord.TheVariants.{Number, Pointer}
 -- what holds of a New, full or not, holds of it as it is noted
 flagged_new : (Q : Op → Type 0) (d ty : ℕ) → ((full : Bool) → Q (Op.New d ty full)) → (a : Answer)
     → Q (flagged (Op.New d ty false) a)
-flagged_new Q d ty holds Answer.Full = holds true
-flagged_new Q d ty holds a = holds false
+flagged_new x0 d ty holds a = grind arith
 
 -- null or a pointer to a first word is a whole allocation
 bases : (program : List Item) (v : Value) (at : At) → at.offset ≡ 0 → IsOfKind v (kind_at program at) → IsBase v
-bases program (Num m) at base of_kind = of_kind
-bases program x1 at base of_kind = cc
+bases program x1 at base of_kind = grind arith
 
 -- both hold of one word
 meets_both : (n : NeverState) (v : Value) (i : ℕ) (P Q : Kind → Type 0) → Meets n v i P → Meets n v i Q
     → Meets n v i (λ kind. P kind × Q kind)
-meets_both n (Ptr number ty offset) i P Q first second = (first.0, (first.1, second.1))
-meets_both n _ i _ _ first second = tt
+meets_both n x1 i x3 x4 first second = grind arith
 
 module _ (program script : List Item) (few : HasFew (scope_of program script)) (n : NeverState) (caller : ℕ)
     (fits : FitsScript program script n caller) where
@@ -45,10 +42,6 @@ module _ (program script : List Item) (few : HasFew (scope_of program script)) (
       → number_of_name name (global_names program) < length n.globals
   globals name ty is = grind (arith, global_within)
 
-  types : (pointer ty : List ℕ) → PointsToType program script pointer ty
-      → number_of_name ty (type_names program) < length n.types
-  types pointer ty s = grind (arith, type_place)
-
   -- Accesses.
 
   abbrev Admits : Op → Type 0
@@ -58,8 +51,7 @@ module _ (program script : List Item) (few : HasFew (scope_of program script)) (
       → Meets n (register_of script n caller pointer) i IsNumber
   number_access pointer i s =
       meets_weaker n (register_of script n caller pointer) i (λ kind. kind ≡ NumKind) IsNumber
-      (λ kind e. subst IsNumber (sym e) refl)
-      (meets_before program script n caller fits pointer i Number s)
+      (λ kind e. subst IsNumber (sym e) refl) (meets_before program script n caller fits pointer i Number s)
 
   pointer_access : (pointer : List ℕ) (i : ℕ) (register : List ℕ) → PointsBeforeOne program script pointer i register
       → Meets n (register_of script n caller pointer) i IsPointer
@@ -73,13 +65,6 @@ module _ (program script : List Item) (few : HasFew (scope_of program script)) (
       meets_weaker n (register_of script n caller pointer) i (λ kind. kind ≡ kind_at program s.at) (IsOfKind
       (register_of script n caller register)) (λ kind e. subst (IsOfKind (register_of script n caller register)) (sym e)
       (fits.declared register s.at s.declared)) (meets_before program script n caller fits pointer i _ s.word)
-
-  any_access : (pointer : List ℕ) (i : ℕ) (register : List ℕ) → PointsBehind program script pointer i register
-      → Meets n (register_of script n caller pointer) i (λ kind. Unit {0})
-  any_access pointer i register s =
-      meets_weaker n (register_of script n caller pointer) i (λ kind. kind ≡ kind_of (type_names program) s.word)
-      (λ kind. Unit {0}) (λ kind e. tt)
-      (meets_before program script n caller fits pointer i s.word s.before)
 
   global_store : (stored global : List ℕ) → (s : PointsToGlobal program script stored global)
       → IfSome (slice_get (globals_of program) (number_of_name global (global_names program)))
@@ -96,7 +81,7 @@ module _ (program script : List Item) (few : HasFew (scope_of program script)) (
   pub admitted : (fed : Fed) (item : Item) → Says program script item
       → IfSome (op_of (scope_of program script) fed item) (λ o. (a : Answer) → Admits (flagged o a))
   admitted fed (New pointer ty) s =
-      flagged_new Admits _ _ (λ full. admits (pointers pointer _ s.declared, types pointer ty s) tt tt)
+      flagged_new Admits _ _ (λ full. admits (pointers pointer _ s.declared, grind (arith, type_place)) tt tt)
   admitted fed (Free pointer) s =
       λ a. admits (pointers pointer s.at s.declared) tt
       (bases program (register_of script n caller pointer) s.at s.base (fits.declared pointer s.at s.declared))
@@ -118,7 +103,8 @@ module _ (program script : List Item) (few : HasFew (scope_of program script)) (
       (store_access pointer index stored s.1))
   admitted fed (Lea moved pointer index) s =
       λ a. admits (pointers moved _ s.declared, pointers pointer s.before.at s.before.declared)
-      (any_access pointer index moved s) tt
+      (meets_weaker n (register_of script n caller pointer) index (λ kind. kind ≡ kind_of (type_names program) s.word)
+      (λ kind. Unit {0}) (λ kind e. tt) (meets_before program script n caller fits pointer index s.word s.before)) tt
   admitted fed (Move copied pointer) s = grind (arith, admits, pointers)
   admitted fed (Clear pointer) s = λ a. admits (pointers pointer s.at s.declared) tt tt
   admitted fed (Loadg loaded global) s = λ a. admits (pointers loaded _ s.declared, globals global s.ty s.is) tt tt
@@ -132,11 +118,6 @@ module _ (program script : List Item) (few : HasFew (scope_of program script)) (
 
   abbrev Keeps : NeverState → Type 0
   Keeps m = AreAsDeclared program script m caller
-
-  free_keeps : (v : Value) → Keeps (after_free n v)
-  free_keeps Null = fits.declared
-  free_keeps (Num m) = fits.declared
-  free_keeps (Ptr number ty offset) = fits.declared
 
   sets : (name : List ℕ) (at : At) (v : Value) → pointer_at name script ≡ Some at → IsOfKind v (kind_at program at)
       → Keeps (with_register n caller (number_of_name name (pointer_names script)) v)
@@ -158,14 +139,13 @@ module _ (program script : List Item) (few : HasFew (scope_of program script)) (
       if_by Keeps full _ _ (λ e. fits.declared)
       (λ e. set_register program script (with_new n (number_of_name ty (type_names program))) caller pointer
       (base_of ty) _ fits.declared s.declared (refl, refl)))
-  line_keeps fed (Free pointer) s = λ a. free_keeps (register_of script n caller pointer)
+  line_keeps fed (Free pointer) s = λ a. grind arith
   line_keeps fed (Getn number pointer index) s = λ a. fits.declared
   line_keeps fed (Setn pointer index number) s = grind (arith, left_at_by, register_of)
   line_keeps fed (Getp loaded pointer index) s = λ a. load_keeps loaded pointer index s
   line_keeps fed (Setp pointer index stored) s = grind (arith, left_at_by, register_of)
   line_keeps fed (Casp number pointer index expected stored) s = grind (arith, left_at_by, register_of, if_by)
-  line_keeps fed (Lea moved pointer index) s = λ a.
-      sets moved (moved_by index s.before.at) _ s.declared
+  line_keeps fed (Lea moved pointer index) s = λ a. sets moved (moved_by index s.before.at) _ s.declared
       (moved_word program (register_of script n caller pointer) index s.before.at
       (fits.declared pointer s.before.at s.before.declared))
   line_keeps fed (Move copied pointer) s = λ a. sets copied s.at _ s.first_is (fits.declared pointer s.at s.second_is)

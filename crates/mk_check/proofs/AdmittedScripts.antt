@@ -19,7 +19,6 @@ use Rattle.mk_check.proofs.{Numbered.ops-with_answer, Numbered.run_agrees, Typed
 use Rattle.mk_check.specs.Laws.{AnswersAreNoted, AreAdmittedFor, AreNotedBy, AreOfScripts, IsChecked, IsScript}
 use Rattle.mk_check.specs.Laws.{NextIsAdmitted, OthersAreIgnored, heap_of, ops_of_caller}
 use Rattle.mk_check.specs.Blocks.{AllPlaced}
-use Rattle.mk_script.specs.declared.items.Item.TheVariants.{New}
 use Rattle.mk_never.proofs.Registers as registers
 use Rattle.mk_never.proofs.TypedCalls as typed_calls
 
@@ -36,8 +35,7 @@ record IsAsked (program script : List Item) (op : Op) : Type 0 where
 -- No line asks for a New that is full, so an operation is asked for as it is noted with this answer.
 flagged_asked : (scope : Scope) (fed : Fed) (item : Item)
     → option_map (λ o. flagged o Answer.Done) (op_of scope fed item) ≡ op_of scope fed item
-flagged_asked scope fed (New pointer ty) = refl
-flagged_asked scope fed item = refl
+flagged_asked scope fed item = grind arith
 
 by_caller : {P : Type 0} (c caller : ℕ) → (c ≡ caller → P) → (c ≢ caller → P) → P
 by_caller c caller own other = grind (arith, eqb-true, eq-eqb)
@@ -183,8 +181,7 @@ ops_push caller (y ∷ calls) x = by_test (y.caller == caller) (ops_push caller 
         → (if same then y.op ∷ ops_of_caller caller (calls ++ x ∷ []) else ops_of_caller caller (calls ++ x ∷ []))
         ≡ (if same then y.op ∷ ops_of_caller caller calls else ops_of_caller caller calls)
         ++ ops_of_caller caller (x ∷ [])
-    by_test true e = ap (λ (ops : List Op). y.op ∷ ops) e
-    by_test false e = e
+    by_test x0 e = grind arith
 
 own_op : (caller : ℕ) (o : Op) → ops_of_caller caller (record { caller = caller; op = o } ∷ []) ≡ o ∷ []
 own_op caller o = ap (λ (same : Bool). if same then o ∷ [] else []) (eq-eqb caller caller refl)
@@ -193,13 +190,11 @@ other_op : (caller : ℕ) (x : Call) → x.caller ≢ caller → ops_of_caller c
 other_op caller x differs = grind (arith, eqb-true)
 
 pub answers_are_noted : (program : List Item) (k : ℕ) (answers : List Answer) (calls : List Call)
-    → AreNotedBy program k answers calls
-    → AnswersAreNoted program k answers calls
+    → AreNotedBy program k answers calls → AnswersAreNoted program k answers calls
 answers_are_noted program k answers calls are o a e = grind (arith, ops_push, own_op, ops-feed_push)
 
 pub others_are_ignored : (program : List Item) (k : ℕ) (answers : List Answer) (calls : List Call)
-    → AreNotedBy program k answers calls
-    → OthersAreIgnored program k answers calls
+    → AreNotedBy program k answers calls → OthersAreIgnored program k answers calls
 others_are_ignored program k answers calls are call differs = grind (arith, ops_push, other_op, append-nil)
 
 feed_asked : (program : List Item) (k : ℕ) (answers : List Answer) → IsChecked program
@@ -209,24 +204,29 @@ feed_asked program k answers checked =
     let scope = script_scope program k in
     let P = λ (line : ℕ) (item : Item). Says program script.items item in
     takes_asked program script.items (text_has_few program k checked.of_some_text) answers
-    (fed_before_answers scope script)
-    (AllPlaced-run P scope (blocks_from script.line script.items)
+    (fed_before_answers scope script) (AllPlaced-run P scope (blocks_from script.line script.items)
     (placed_of_script P script.line script.items (script_says program k checked.well_typed))
     (fed_before_lines scope script))
     (subst (All (IsAsked program script.items)) (sym (started_ops program k)) (All-nil (IsAsked program script.items)))
 
 -- the caller's operations are asked for, where its script notes them
 noted_asked : (program : List Item) (k : ℕ) (answers : List Answer) (calls : List Call) → IsChecked program
-    → AreNotedBy program k answers calls
-    → All (IsAsked program (lines_of program k)) (ops_of_caller k calls)
+    → AreNotedBy program k answers calls → All (IsAsked program (lines_of program k)) (ops_of_caller k calls)
 noted_asked program k answers calls checked are = grind (arith, lines_of, feed_asked)
 
-next_asked : (program : List Item) (k : ℕ) (answers : List Answer) (o : Op) (a : Answer) → IsChecked program
-    → next_op program k answers ≡ Some o
-    → IsAsked program (lines_of program k) (flagged o a)
-next_asked program k answers o a checked e =
-    let at = next_placed (λ line. Says program (lines_of program k)) program k answers o
-    (script_says program k checked.well_typed) e in
+pub next_is_admitted : (program : List Item) (callers : ℕ) (calls : List Call) (k : ℕ) (answers : List Answer)
+    → IsChecked program
+    → length (script_names program) ≤ callers → IsScript program k → AreAdmittedFor program callers calls
+    → AreNotedBy program k answers calls → NextIsAdmitted program callers calls k answers
+next_is_admitted program callers calls k answers checked enough is_script admits are =
+    let script = lines_of program k in
+    let few = text_has_few program k checked.of_some_text in
+    let is_caller : k < callers = omega arith in
+    let fits = calls_fit program script few (heap_of program callers) k calls
+    (start_fits program script few callers k is_caller) admits (noted_asked program k answers calls checked are) in
+    let noted_too = λ (o : Op) (a : Answer) (e : next_op program k answers ≡ Some o). asked_admitted program script few
+    (after_calls (heap_of program callers) calls) k fits (flagged o a) (let at = next_placed
+    (λ line. Says program (lines_of program k)) program k answers o (script_says program k checked.well_typed) e in
     record {
       item = at.item;
       says = at.holds;
@@ -235,31 +235,11 @@ next_asked program k answers o a checked e =
       is = at.op;
       answer = a;
       noted_so = refl;
-    }
-
-flagged_next : (program : List Item) (k : ℕ) (answers : List Answer) (o : Op) → next_op program k answers ≡ Some o
-    → flagged o Answer.Done ≡ o
-flagged_next program k answers o e = grind (arith, next_stands, flagged_asked)
-
-pub next_is_admitted : (program : List Item) (callers : ℕ) (calls : List Call) (k : ℕ) (answers : List Answer)
-    → IsChecked program
-    → length (script_names program) ≤ callers → IsScript program k → AreAdmittedFor program callers calls
-    → AreNotedBy program k answers calls
-    → NextIsAdmitted program callers calls k answers
-next_is_admitted program callers calls k answers checked enough is_script admits are =
-    let script = lines_of program k in
-    let few = text_has_few program k checked.of_some_text in
-    let is_caller : k < callers = omega arith in
-    let fits = calls_fit program script few (heap_of program callers) k calls
-    (start_fits program script few callers k is_caller) admits
-    (noted_asked program k answers calls checked are) in
-    let noted_too = λ (o : Op) (a : Answer) (e : next_op program k answers ≡ Some o).
-    asked_admitted program script few (after_calls (heap_of program callers) calls) k fits (flagged o a)
-    (next_asked program k answers o a checked e) in
+    }) in
     record {
       asked = λ o e. subst
           (λ (x : Op). IsAdmitted (globals_of program) (after_calls (heap_of program callers) calls) k x)
-          (flagged_next program k answers o e) (noted_too o Answer.Done e);
+          (grind (arith, next_stands, flagged_asked)) (noted_too o Answer.Done e);
       noted = noted_too;
     }
 
@@ -285,8 +265,7 @@ all_admitted program checked n (x ∷ xs) fits callers asked =
     )
 
 pub scripts_are_admitted : (program : List Item) (callers : ℕ) (calls : List Call) → IsChecked program
-    → length (script_names program) ≤ callers
-    → AreOfScripts program calls → AreAdmittedFor program callers calls
+    → length (script_names program) ≤ callers → AreOfScripts program calls → AreAdmittedFor program callers calls
 scripts_are_admitted program callers calls checked enough are =
     all_admitted program checked (heap_of program callers) calls
     (λ k is. start_fits program (lines_of program k) (text_has_few program k checked.of_some_text) callers k

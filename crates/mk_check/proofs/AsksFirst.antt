@@ -3,33 +3,28 @@ use Rattle.std.proofs.lemmas.Option.{get_or_from_slice_get, slice_get-get_or}
 use Rattle.std.proofs.{Common.IsTrue, Common.slice_set, Common.◌||◌, lemmas.List.drop_all, lemmas.List.set_split}
 use Rattle.mk_check.proofs.Vocabulary.{Bool, Frame, FrameIsWithin, FramesAreWithin, HasStopped, Instruction, List}
 use Rattle.mk_check.proofs.Vocabulary.{MovesOn, Node, None, Option, Place, PlaceIsWithin, Some, ℕ, after_line}
-use Rattle.mk_check.proofs.Vocabulary.{and_parts, ap, arith, asks_first, false, if◌then◌else◌, innermost, is_asking}
-use Rattle.mk_check.proofs.Vocabulary.{is_print, is_some, kept_in, length, length_push, node_at, not, op_asked, refl}
-use Rattle.mk_check.proofs.Vocabulary.{slice_get, slice_get_within, slice_index, steps_at, steps_from, subst, suc, sym}
-use Rattle.mk_check.proofs.Vocabulary.{take, take_all, take_more, trees, true, with_kept, zero, [], ◌&&◌, ◌++◌, ◌+◌}
-use Rattle.mk_check.proofs.Vocabulary.{◌-◌, ◌<◌, ◌==◌, ◌∙◌, ◌∷◌, ◌≡◌}
+use Rattle.mk_check.proofs.Vocabulary.{and_parts, ap, arith, asks_first, false, innermost, is_asking, is_print, is_some}
+use Rattle.mk_check.proofs.Vocabulary.{kept_in, length, length_push, node_at, not, op_asked, refl, slice_get}
+use Rattle.mk_check.proofs.Vocabulary.{slice_get_within, steps_at, steps_from, subst, suc, sym, take, take_all}
+use Rattle.mk_check.proofs.Vocabulary.{take_more, trees, true, with_kept, zero, [], ◌&&◌, ◌++◌, ◌+◌, ◌-◌, ◌<◌, ◌∙◌, ◌∷◌}
+use Rattle.mk_check.proofs.Vocabulary.{◌≡◌}
 use Rattle.mk_check.proofs.Moves.{FramesAreWithin_pop, asks_at, end_goes_on, line_goes_on}
 use Rattle.mk_check.proofs.TreeNodes.{IsAt, steps_at-trees}
 use Rattle.mk_check.specs.Trees.{LeavesBlock, MovesToOp, node_after, node_to_go_on, place_behind_block, place_in_branch}
 use Rattle.mk_check.specs.Trees.{place_in_rounds, resumed_node}
-use Rattle.mk_check.specs.declared.feeding.instructions.Instruction.TheVariants.{Nothing}
 
 pub asked_so : (numbers : List ℕ) (instruction : Instruction)
     → is_some (op_asked numbers instruction) ≡ is_asking instruction
-asked_so numbers Nothing = refl
-asked_so numbers x1 = cc
+asked_so numbers x1 = grind arith
 
 pub asks_here : (a b c : Bool) → a ≡ true → (a || (not b && c)) ≡ true
-asks_here true b c e = refl
-asks_here false b c e = cc
+asks_here x0 b c e = grind arith
 
 pub asks_later : (a b c : Bool) → a ≡ false → b ≡ false → (a || (not b && c)) ≡ c
-asks_later false false c e f = refl
-asks_later _ _ c e f = cc
+asks_later x0 x1 c e f = grind arith
 
 no_print : (a b c : Bool) → a ≡ false → (a || (not b && c)) ≡ true → b ≡ false
-no_print false false c e h = refl
-no_print _ _ c e h = cc
+no_print x0 x1 c e h = grind arith
 
 -- The innermost block.
 
@@ -98,18 +93,14 @@ branch_left p q next e is = record {
 }
 
 at_after : (p : Place) (f : Frame) → (place_behind_block p f).at ≡ node_after f
-at_after p (Frame.Rounds zero body next) = refl
-at_after p x1 = cc
+at_after p x1 = grind arith
 
 node_after_within : (count : ℕ) (f : Frame) → FrameIsWithin count f → node_after f < count
-node_after_within count (Frame.Rounds zero body next) w = w.1
-node_after_within count (Frame.Rounds (suc more) body next) w = w.0
-node_after_within count (Frame.Branch next) w = w
+node_after_within count x1 w = grind arith
 
 to_go_on_within : (count : ℕ) (n : Node) (at : ℕ) (block : Option Frame) → at < count
     → ((f : Frame) → block ≡ Some f → FrameIsWithin count f) → node_to_go_on n at block < count
-to_go_on_within count Node.Done at (Some f) h w = node_after_within count f (w f refl)
-to_go_on_within count _ at _ h w = h
+to_go_on_within count x1 at x3 h w = grind (arith, node_after_within)
 
 pub resumed_within : (nodes : List Node) (p : Place) → PlaceIsWithin (length nodes) p
     → resumed_node nodes p < length nodes
@@ -128,8 +119,7 @@ module _ (nodes : List Node) where
       → asks_first (steps_at (trees nodes) p.at) ≡ asks_first (steps_at (trees nodes) next)
   first_later {instruction} {next} at asks prints =
       first_from at
-      ∙ asks_later (is_asking instruction) (is_print instruction) (asks_first (steps_at (trees nodes) next)) asks
-      prints
+      ∙ asks_later (is_asking instruction) (is_print instruction) (asks_first (steps_at (trees nodes) next)) asks prints
 
   pub first_done : {p : Place} → IsAt nodes p Node.Done → asks_first (steps_at (trees nodes) p.at) ≡ false
   first_done at = first_from at
@@ -148,13 +138,7 @@ module _ (nodes : List Node) where
   first_in_branch {p} {number} {first} {second} at asks =
       let both = and_parts (asks_first (steps_at (trees nodes) first)) (asks_first (steps_at (trees nodes) second))
       (sym (first_from at) ∙ asks) in
-      by_test (slice_index p.numbers number == 0) both.0 both.1
-    where
-      by_test : (b : Bool) → asks_first (steps_at (trees nodes) first) ≡ true
-          → asks_first (steps_at (trees nodes) second) ≡ true
-          → asks_first (steps_at (trees nodes) (if b then second else first)) ≡ true
-      by_test true f g = g
-      by_test false f g = f
+      grind arith
 
   pub no_print_here : {p : Place} {line : ℕ} {instruction : Instruction} {next : ℕ}
       → IsAt nodes p (Node.Line line instruction next) → is_asking instruction ≡ false

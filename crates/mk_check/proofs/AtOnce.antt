@@ -1,18 +1,17 @@
 -- An answer at which nothing is printed, where the next line asks: the script stops there.
 use Rattle.mk_check.proofs.Vocabulary.{Answer, Bool, FeedState, HasStopped, Instruction, IsFeed, IsTree, IsWaiting}
 use Rattle.mk_check.proofs.Vocabulary.{KeptState, List, Node, Place, PlaceFits, PlaceIsWithin, StopsAt, TakesAnswer, ℕ}
-use Rattle.mk_check.proofs.Vocabulary.{after_answer, and_parts, ap, append-nil, asks_at, false, is_some, kept_in}
-use Rattle.mk_check.proofs.Vocabulary.{left_in, length, node_at, not, op_asked, op_of_node, refl, refusal_line}
-use Rattle.mk_check.proofs.Vocabulary.{refusal_text, stop_on_answer, stopped_in, subst, sym, true, with_kept, with_text}
-use Rattle.mk_check.proofs.Vocabulary.{work_left, [], ◌++◌, ◌<◌, ◌∙◌, ◌∷◌, ◌≡◌}
+use Rattle.mk_check.proofs.Vocabulary.{after_answer, and_parts, ap, append-nil, arith, asks_at, false, is_some, kept_in}
+use Rattle.mk_check.proofs.Vocabulary.{left_in, length, node_at, not, op_asked, op_of_node, refusal_line, refusal_text}
+use Rattle.mk_check.proofs.Vocabulary.{stop_on_answer, stopped_in, true, with_kept, with_text, work_left, [], ◌++◌, ◌<◌}
+use Rattle.mk_check.proofs.Vocabulary.{◌∙◌, ◌∷◌, ◌≡◌}
 use Rattle.mk_check.proofs.{AsksFirst.asked_so, Moves.line_fits, Moves.unfolded_line, Stands.answer_stands}
 use Rattle.mk_check.proofs.{Stands.waits_for_answer, TreeNodes.IsAt, TreeNodes.is_at, WorkLaws.answer_nearer}
 use Rattle.mk_check.specs.{Feed.is_refusal, Steps.is_show, Steps.is_silent}
 use Rattle.mk_check.proofs.Moves as moves
 
 no_text : (a : Answer) → not (is_refusal a) ≡ true → refusal_text a ≡ []
-no_text Answer.Done h = refl
-no_text x0 h = cc
+no_text x0 h = grind arith
 
 silent_kept : (line : ℕ) (instruction : Instruction) (a : Answer) (k : KeptState) → is_silent instruction a ≡ true
     → with_text k (refusal_line line (refusal_text a)) ≡ k
@@ -49,15 +48,12 @@ stops_at_once {nodes} {p} {line} {instruction} {next} a t at silent stopped =
     }
 
 pub asks_so : (numbers : List ℕ) (n : Node) → asks_at n ≡ true → is_some (op_of_node numbers n) ≡ true
-asks_so numbers (Node.Line line instruction next) h = asked_so numbers instruction ∙ h
-asks_so numbers _ h = cc
+asks_so numbers x1 h = grind (arith, asked_so)
 
 -- whether it took the answer or not
 pub feeds : (s : FeedState) (t : Place) (taken : Bool) → (taken ≡ true → IsFeed (record { nodes = s.nodes; place = t }))
     → (taken ≡ false → t ≡ s.place) → IsFeed s → IsFeed (record { nodes = s.nodes; place = t })
-feeds s t true takes stays is = takes refl
-feeds s t false takes stays is =
-    subst (λ (p : Place). IsFeed (record { nodes = s.nodes; place = p })) (sym (stays refl)) is
+feeds s t x2 takes stays is = grind arith
 
 -- A script that waits at a line, answered so.
 pub record IsAnsweredAtOnce (s : FeedState) (t : Place) (a : Answer) : Type 0 where
@@ -80,11 +76,7 @@ module _ {s : FeedState} {t : Place} {a : Answer} (is : IsAnsweredAtOnce s t a) 
 
   pub feeds_at_once : IsFeed (record { nodes = s.nodes; place = t })
   feeds_at_once = record {
-    stop = record {
-      within = is.behind.within;
-      fits = is.behind.fits is.feed.stop.fits;
-      stops = is.behind.at;
-    };
+    stop = record { within = is.behind.within; fits = is.behind.fits is.feed.stop.fits; stops = is.behind.at };
     some = record {
       program = is.feed.some.program;
       k = is.feed.some.k;

@@ -24,12 +24,6 @@ steps_at_push nodes n j h =
     ap (λ (ts : List Steps). steps_at ts j) (trees_push nodes n)
     ∙ get_or_append_left (trees nodes) (steps_from (trees nodes) n ∷ []) Done j (omega (arith, length-trees nodes))
 
-pub steps_at_last : (nodes : List Node) (n : Node)
-    → steps_at (trees (nodes ++ n ∷ [])) (length nodes) ≡ steps_from (trees nodes) n
-steps_at_last nodes n =
-    ap (λ (ts : List Steps). steps_at ts (length nodes)) (trees_push nodes n)
-    ∙ get_or_at (trees nodes) (steps_from (trees nodes) n) [] Done (length nodes) (length-trees nodes)
-
 pub parts_at_push : (built : List Steps) (parts : List Part) (part : Part)
     → parts_at built (parts ++ part ∷ []) ≡ part_at built part ∷ parts_at built parts
 parts_at_push built parts part = grind (arith, fold_push)
@@ -50,8 +44,7 @@ PartsAreWithin-more few many [] h w = tt
 PartsAreWithin-more few many (part ∷ parts) h w = (omega arith, omega arith, PartsAreWithin-more few many parts h w.2)
 
 PartsAreWithin_push : (count : ℕ) (parts : List Part) (part : Part) → PartsAreWithin count parts → part.steps < count
-    → part.second < count
-    → PartsAreWithin count (parts ++ part ∷ [])
+    → part.second < count → PartsAreWithin count (parts ++ part ∷ [])
 PartsAreWithin_push count [] part w s t = (s, t, tt)
 PartsAreWithin_push count (p ∷ parts) part w s t = (w.0, w.1, PartsAreWithin_push count parts part w.2 s t)
 
@@ -103,21 +96,20 @@ grown_parts : (b : Built) (n : Node) (second : ℕ) → IsSoundlyBuilt b → sec
     → parts_in (with_node_and_part b n second)
     ≡ record { steps = steps_from (trees b.nodes) n; second = steps_at (trees b.nodes) second } ∷ parts_in b
 grown_parts b n second sound h =
-    let f = steps_at_last b.nodes n in
+    let f = ap (λ (ts : List Steps). steps_at ts (length b.nodes)) (trees_push b.nodes n)
+    ∙ get_or_at (trees b.nodes) (steps_from (trees b.nodes) n) [] Done (length b.nodes) (length-trees b.nodes) in
     let g = steps_at_push b.nodes n second h in
     let k = parts_keep b.nodes n [] b.parts sound.parts in
     let at : StepPart = part_at (trees (b.nodes ++ n ∷ [])) (record { steps = length b.nodes; second = second }) in
     let e : at ≡ record { steps = steps_from (trees b.nodes) n; second = steps_at (trees b.nodes) second } = cc in
     parts_at_push (trees (b.nodes ++ n ∷ [])) b.parts (record { steps = length b.nodes; second = second })
-    ∙ (ap (λ (p : StepPart). p ∷ parts_at (trees (b.nodes ++ n ∷ [])) b.parts) e
-    ∙ ap (λ (ps : List StepPart). record {
+    ∙ (ap (λ (p : StepPart). p ∷ parts_at (trees (b.nodes ++ n ∷ [])) b.parts) e ∙ ap (λ (ps : List StepPart). record {
       steps = steps_from (trees b.nodes) n;
       second = steps_at (trees b.nodes) second;
     } ∷ ps) k)
 
 pub line_added : (b : Built) (parts : List Part) (part : Part) (line : ℕ) (instruction : Instruction) → IsSoundlyBuilt b
-    → b.parts ≡ parts ++ part ∷ []
-    → AddsLine line (Element.Line instruction) b
+    → b.parts ≡ parts ++ part ∷ [] → AddsLine line (Element.Line instruction) b
     (with_node_and_part (record b { parts = parts }) (Node.Line line instruction part.steps) part.second)
 line_added b parts part line instruction sound was =
     let p = popped b part parts sound was in
@@ -128,8 +120,7 @@ line_added b parts part line instruction sound was =
     }
 
 pub repeat_added : (b : Built) (parts : List Part) (part body : Part) (line rounds : ℕ) → IsSoundlyBuilt b
-    → b.parts ≡ (parts ++ part ∷ []) ++ body ∷ []
-    → AddsLine line (Element.Repeat rounds) b
+    → b.parts ≡ (parts ++ part ∷ []) ++ body ∷ [] → AddsLine line (Element.Repeat rounds) b
     (with_node_and_part (record b { parts = parts }) (Node.Rounds rounds body.steps part.steps) part.second)
 repeat_added b parts part body line rounds sound was =
     let p = popped b body (parts ++ part ∷ []) sound was in
@@ -142,8 +133,7 @@ repeat_added b parts part body line rounds sound was =
     }
 
 pub if_added : (b : Built) (parts : List Part) (part branches : Part) (line number : ℕ) → IsSoundlyBuilt b
-    → b.parts ≡ (parts ++ part ∷ []) ++ branches ∷ []
-    → AddsLine line (Element.If number) b
+    → b.parts ≡ (parts ++ part ∷ []) ++ branches ∷ [] → AddsLine line (Element.If number) b
     (with_node_and_part (record b { parts = parts }) (Node.Choice number branches.steps branches.second part.steps)
     part.second)
 if_added b parts part branches line number sound was =
@@ -153,8 +143,7 @@ if_added b parts part branches line number sound was =
       sound = grown_sound (record b { parts = parts }) (Node.Choice number branches.steps branches.second part.steps)
           part.second q.0 q.2;
       parts = grown_parts (record b { parts = parts }) (Node.Choice number branches.steps branches.second part.steps)
-          part.second q.0 q.2
-          ∙ sym (ap (with_element line (Element.If number)) (p.3
+          part.second q.0 q.2 ∙ sym (ap (with_element line (Element.If number)) (p.3
           ∙ ap (λ (ps : List StepPart). part_at (trees b.nodes) branches ∷ ps) q.3));
     }
 
@@ -163,8 +152,7 @@ put_parts : (b : Built) (second : ℕ) → IsSoundlyBuilt b
 put_parts b second sound = grind (arith, parts_at_push)
 
 pub else_added : (b : Built) (parts : List Part) (part : Part) (line : ℕ) → IsSoundlyBuilt b → b.parts ≡ parts
-    ++ part ∷ []
-    → AddsLine line Element.Else b (with_part (record b { parts = parts }) 0 part.steps)
+    ++ part ∷ [] → AddsLine line Element.Else b (with_part (record b { parts = parts }) 0 part.steps)
 else_added b parts part line sound was =
     let p = popped b part parts sound was in
     record {
@@ -190,6 +178,5 @@ end_added b line sound = record {
 
 -- no part is open, or one
 pub none_added : (b c : Built) (line : ℕ) (e : Element) → IsSoundlyBuilt b → b.parts ≡ [] → c ≡ b
-    → with_element line e [] ≡ []
-    → AddsLine line e b c
+    → with_element line e [] ≡ [] → AddsLine line e b c
 none_added b c line e sound none same nothing = grind arith

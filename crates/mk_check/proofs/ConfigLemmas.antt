@@ -1,48 +1,30 @@
 -- The configuration of a well typed program of some text is within its limits.
 use Rattle.std.proofs.{Common.add-one, lemmas.List.Elements.All-cons, lemmas.List.Elements.All-nil}
 use Rattle.mk_check.proofs.Vocabulary.{All, ArePassed, Around, At, Bool, Config, Item, Kind, List, None, Option, Some}
-use Rattle.mk_check.proofs.Vocabulary.{TypeKind, TypeWord, Which, ℕ, ap, arith, at_line, bytes_eq, false, false≢true}
-use Rattle.mk_check.proofs.Vocabulary.{fault_from, globals_among, globals_of, if◌then◌else◌, is_some, kind_of}
-use Rattle.mk_check.proofs.Vocabulary.{kinds_among, kinds_of, length, length-map, map, number_of_name, pages_of, refl}
-use Rattle.mk_check.proofs.Vocabulary.{resident_of, script_names, slice_get, slice_get_within, sym, this_script, true}
-use Rattle.mk_check.proofs.Vocabulary.{type_names, type_words, types_of, typing_fault, word_among, [], ◌++◌, ◌+◌, ◌<◌}
-use Rattle.mk_check.proofs.Vocabulary.{◌or◌, ◌∷◌, ◌≡◌, ◌≤◌}
+use Rattle.mk_check.proofs.Vocabulary.{TypeWord, Which, ℕ, ap, arith, bytes_eq, false≢true, fault_from, globals_among}
+use Rattle.mk_check.proofs.Vocabulary.{globals_of, if◌then◌else◌, is_some, kind_of, kinds_among, kinds_of, length}
+use Rattle.mk_check.proofs.Vocabulary.{length-map, map, number_of_name, pages_of, refl, resident_of, script_names}
+use Rattle.mk_check.proofs.Vocabulary.{slice_get, slice_get_within, this_script, true, type_names, type_words, types_of}
+use Rattle.mk_check.proofs.Vocabulary.{typing_fault, word_among, [], ◌++◌, ◌+◌, ◌<◌, ◌or◌, ◌∷◌, ◌≡◌, ◌≤◌}
 use Rattle.mk_core.specs.Config.{IsAmong, IsTypeAmong, IsWithinLimits}
-use Rattle.mk_check.proofs.GrammarLemmas.{Some≢None, at_most-None, heap_within, length-global_names}
-use Rattle.mk_check.proofs.GrammarLemmas.{length-script_names, length-type_names, option_or-None}
+use Rattle.mk_check.proofs.FaultLemmas.{at_line-None, has_value, or-None, unless-None}
+use Rattle.mk_check.proofs.GrammarLemmas.{at_most-None, heap_within, length-global_names, length-script_names}
+use Rattle.mk_check.proofs.GrammarLemmas.{length-type_names}
 use Rattle.mk_check.proofs.NumberLemmas.{length-globals_among, length-kinds_among}
 use Rattle.mk_check.proofs.FormLemmas.{line_item-word}
-use Rattle.mk_check.specs.{Declarations.config_of, Typing.IsWellTyped, Typing.TypingFault, Typing.inside_fault}
-use Rattle.mk_check.specs.{Typing.offsets_fault, Typing.pointers_fault, Typing.type_fault, Typing.unless}
+use Rattle.mk_check.specs.Typing.{IsWellTyped, inside_fault, offsets_fault, pointers_fault, type_fault}
+use Rattle.mk_check.specs.Declarations.{config_of}
 use Rattle.mk_script.{proofs.PassedLines.IsWhole, specs.Lines.at_most, specs.declared.items.Item.TheVariants.Global}
 use Rattle.mk_script.{specs.declared.items.Item.TheVariants.TypeLine, specs.declared.items.TypeWord.TheVariants.Number}
 use Rattle.mk_script.{specs.declared.items.TypeWord.TheVariants.Pointer}
-
-or-None : (fault other : Option TypeKind) → fault or other ≡ None → (fault ≡ None) × (other ≡ None)
-or-None None other h = (refl, h)
-or-None (Some fault) other h = absurd (Some≢None fault h)
-
-unless-None : (b : Bool) (fault : TypeKind) → unless b fault ≡ None → b ≡ true
-unless-None true fault h = refl
-unless-None false fault h = absurd (Some≢None fault h)
-
-at_line-None : (line : ℕ) (fault : Option TypeKind) (other : Option TypingFault) → at_line line fault other ≡ None
-    → (fault ≡ None) × (other ≡ None)
-at_line-None line None other h = (refl, h)
-at_line-None line (Some fault) other h = absurd (Some≢None _ h)
 
 -- A type that is found has a number, and its kinds stand there.
 pub record IsAt (types : List (List Kind)) (place : ℕ) (found : List Kind) : Type 0 where
   pub within : place < length types
   pub kinds : kinds_of types place ≡ found
 
-or_default : {X : Type 0} → X → Option X → X
-or_default other None = other
-or_default other (Some x) = x
-
-some_value : {X : Type 0} (other x y : X) → Some x ≡ Some y → x ≡ y
-unfolding or_default
-some_value other x y h = ap (or_default other) h
+some_value : {X : Type 0} (x y : X) → Some x ≡ Some y → x ≡ y
+some_value x y h = cc
 
 module _ (names : List (List ℕ)) where
   first_type : (words : List TypeWord) (types : List (List Kind))
@@ -54,31 +36,20 @@ module _ (names : List (List ℕ)) where
   later_type first types place found h = rw add-one (record { within = omega (arith, h.within); kinds = h.kinds })
 
   chosen : (b : Bool) (words sought : List TypeWord) (later : Option (List TypeWord)) (types : List (List Kind))
-      (place : ℕ)
-      → (later ≡ Some sought → IsAt types place (map (kind_of names) sought))
+      (place : ℕ) → (later ≡ Some sought → IsAt types place (map (kind_of names) sought))
       → (if b then Some words else later) ≡ Some sought
       → IsAt (map (kind_of names) words ∷ types) (if b then 0 else place + 1) (map (kind_of names) sought)
-  chosen true words sought later types place behind h = grind (arith, some_value, first_type)
-  chosen false words sought later types place behind h = grind (arith, later_type)
+  chosen x0 words sought later types place behind h = grind (arith, some_value, first_type, later_type)
 
   -- the type of a name
   pub type_words-IsAt : (name : List ℕ) (items : List Item) (sought : List TypeWord)
       → type_words name items ≡ Some sought
       → IsAt (kinds_among names items) (number_of_name name (type_names items)) (map (kind_of names) sought)
-  type_words-IsAt name [] sought h = absurd (Some≢None sought (sym h))
+  type_words-IsAt name [] sought h = cc
   type_words-IsAt name (TypeLine other words ∷ items) sought h =
       chosen (bytes_eq name other) words sought (type_words name items) (kinds_among names items)
       (number_of_name name (type_names items)) (type_words-IsAt name items sought) h
   type_words-IsAt name (item ∷ items) sought h = type_words-IsAt name items sought h
-
--- a value, by its test
-record HasValue {X : Type 0} (o : Option X) : Type 0 where
-  value : X
-  is : o ≡ Some value
-
-has_value : {X : Type 0} (o : Option X) → is_some o ≡ true → HasValue o
-has_value None h = absurd (false≢true h)
-has_value (Some x) h = record { value = x; is = refl }
 
 module _ (program : List Item) (script : List Item) where
   -- the place of a type that is declared
@@ -112,8 +83,7 @@ module _ (program : List Item) (script : List Item) where
   words_among [] h = All-nil (IsAmong (types_of program))
   words_among (Number ∷ words) h = All-cons (IsAmong (types_of program)) _ _ tt (words_among words h)
   words_among (Pointer at ∷ words) h =
-      let both = or-None (inside_fault (record { program = program; script = script }) (Some at))
-      (offsets_fault (record { program = program; script = script }) words) h in
+      let both = or-None _ (offsets_fault (record { program = program; script = script }) words) h in
       All-cons (IsAmong (types_of program)) _ _ (inside_fault-IsAmong at both.0) (words_among words both.1)
 
 -- the types that lines after these declare
@@ -123,11 +93,9 @@ pub types-within : (program : List Item) (line : ℕ) (before items : List Item)
 types-within program line before [] lines h = All-nil (IsTypeAmong (types_of program))
 types-within program line before (TypeLine name words ∷ items) lines h =
     let a : Around = record { program = program; script = this_script before } in
-    let both = at_line-None line (typing_fault a line items (TypeLine name words))
-    (fault_from program (line + 1) (before ++ TypeLine name words ∷ []) items) h in
+    let both = at_line-None line _ (fault_from program (line + 1) (before ++ TypeLine name words ∷ []) items) h in
     let pointers = or-None (pointers_fault a words) (offsets_fault a words) both.0 in
-    let limits = option_or-None (at_most (length (type_names before) + 1) 64 Which.Types)
-    (at_most (length words) 4096 Which.Words) lines.0.within in
+    let limits = or-None (at_most (length (type_names before) + 1) 64 Which.Types) _ lines.0.within in
     let size = length-map words (kind_of (type_names program)) in
     All-cons (IsTypeAmong (types_of program)) _ _ (
       (
@@ -135,12 +103,10 @@ types-within program line before (TypeLine name words ∷ items) lines h =
         omega (arith, size, at_most-None (length words) 4096 Which.Words limits.1),
       ),
       words_among program (this_script before) words pointers.1,
-    )
-    (types-within program (line + 1) (before ++ TypeLine name words ∷ []) items lines.1 both.1)
+    ) (types-within program (line + 1) (before ++ TypeLine name words ∷ []) items lines.1 both.1)
 types-within program line before (item ∷ items) lines h =
     types-within program (line + 1) (before ++ item ∷ []) items lines.1
-    (at_line-None line (typing_fault (record { program = program; script = this_script before }) line items item)
-    (fault_from program (line + 1) (before ++ item ∷ []) items) h).1
+    (at_line-None line (typing_fault (record { program = program; script = this_script before }) line items item) _ h).1
 
 -- the globals that lines after these declare
 pub globals-within : (program : List Item) (line : ℕ) (before items : List Item)
@@ -148,14 +114,12 @@ pub globals-within : (program : List Item) (line : ℕ) (before items : List Ite
     → All (λ ty. ty < length (types_of program)) (globals_among (type_names program) items)
 globals-within program line before [] h = All-nil (λ ty. ty < length (types_of program))
 globals-within program line before (Global name ty ∷ items) h =
-    let both = at_line-None line (type_fault (record { program = program; script = this_script before }) ty)
-    (fault_from program (line + 1) (before ++ Global name ty ∷ []) items) h in
+    let both = at_line-None line _ (fault_from program (line + 1) (before ++ Global name ty ∷ []) items) h in
     All-cons (λ t. t < length (types_of program)) _ _ (type_fault-within program (this_script before) ty both.0)
     (globals-within program (line + 1) (before ++ Global name ty ∷ []) items both.1)
 globals-within program line before (item ∷ items) h =
     globals-within program (line + 1) (before ++ item ∷ []) items
-    (at_line-None line (typing_fault (record { program = program; script = this_script before }) line items item)
-    (fault_from program (line + 1) (before ++ item ∷ []) items) h).1
+    (at_line-None line (typing_fault (record { program = program; script = this_script before }) line items item) _ h).1
 
 -- the configuration of a program is within its limits
 pub config_within : (program : List Item) (markers : ℕ) → IsWhole program → IsWellTyped program → markers ≤ 8
@@ -180,8 +144,7 @@ config_within program markers lines typed few =
 -- a configuration that has what the program declares
 pub config_is : (program : List Item) (pages resident callers markers : ℕ) (types : List (List Kind)) (globals : List ℕ)
     → pages ≡ pages_of program → resident ≡ resident_of program → callers ≡ length (script_names program)
-    → types ≡ types_of program → globals ≡ globals_of program
-    → ◌≡◌ {A = Config} (record {
+    → types ≡ types_of program → globals ≡ globals_of program → ◌≡◌ {A = Config} (record {
       pages = pages;
       resident = resident;
       callers = callers;

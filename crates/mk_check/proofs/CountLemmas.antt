@@ -2,30 +2,25 @@
 use Rattle.std.proofs.lemmas.List.{length-reverse, reverse-append, reverse-reverse, set_at}
 use Rattle.std.proofs.{Common.set, lemmas.Grind.reverse_onto}
 use Rattle.mk_check.proofs.Vocabulary.{Bool, Item, List, Part, PartCount, ℕ, ap, append_assoc, arith}
-use Rattle.mk_check.proofs.Vocabulary.{before_next_script, branch, cases_lt, counts_of, drop, drop_more, false}
-use Rattle.mk_check.proofs.Vocabulary.{false≢true, get_or, get_or_at, if◌then◌else◌, is_script, length, length-append}
-use Rattle.mk_check.proofs.Vocabulary.{max, outermost_blocks, refl, reverse, suc, sym, take, take_more, true, with_item}
-use Rattle.mk_check.proofs.Vocabulary.{zero, [], ◌*◌, ◌++◌, ◌+◌, ◌-◌, ◌<◌, ◌∙◌, ◌∷◌, ◌≡◌}
+use Rattle.mk_check.proofs.Vocabulary.{before_next_script, branch, cases_lt, counts_of, drop, drop_more, false, get_or}
+use Rattle.mk_check.proofs.Vocabulary.{get_or_at, if◌then◌else◌, is_script, length, length-append, max}
+use Rattle.mk_check.proofs.Vocabulary.{outermost_blocks, refl, reverse, suc, take, take_more, true, with_item, zero, []}
+use Rattle.mk_check.proofs.Vocabulary.{◌*◌, ◌++◌, ◌+◌, ◌-◌, ◌<◌, ◌∙◌, ◌∷◌, ◌≡◌}
 use Rattle.mk_check.specs.Counts.{counts_with, innermost_count, saturated_count, with_count, with_innermost}
 use Rattle.mk_check.specs.Lengths.{length_of}
-use Rattle.mk_script.specs.declared.items.Item.TheVariants.{Else, End, If, Repeat, Script}
+use Rattle.mk_script.specs.declared.items.Item.TheVariants.{Else, End, If, Repeat}
 use Rattle.mk_script.specs.Scopes.{is_instruction}
-
-saturated_count-add : (n m : ℕ) → saturated_count (n + m) ≡ saturated_count (saturated_count m + n)
-saturated_count-add n m = omega arith
 
 saturated_count-rounds : (rounds body : ℕ)
     → saturated_count (1 + rounds * (1 + body)) ≡ saturated_count (1 + rounds * (1 + saturated_count body))
 saturated_count-rounds zero body = omega arith
 saturated_count-rounds (suc rounds) body = grind (arith, cases_lt)
 
-saturated_count-repeat : (rounds body rest : ℕ)
-    → saturated_count (1 + rounds * (1 + body) + rest)
+saturated_count-repeat : (rounds body rest : ℕ) → saturated_count (1 + rounds * (1 + body) + rest)
     ≡ saturated_count (saturated_count rest + saturated_count (1 + rounds * (1 + saturated_count body)))
 saturated_count-repeat rounds body rest = omega (arith, saturated_count-rounds rounds body)
 
-saturated_count-if : (first second rest : ℕ)
-    → saturated_count (1 + max first second + rest)
+saturated_count-if : (first second rest : ℕ) → saturated_count (1 + max first second + rest)
     ≡ saturated_count (saturated_count rest
     + saturated_count (1 + max (saturated_count first) (saturated_count second)))
 saturated_count-if first second rest = omega arith
@@ -38,34 +33,21 @@ counts-with_line : (instruction : Bool) (part : Part) (parts : List Part)
     → with_lines part parts (saturated_count ((if instruction then 1 else 0) + length_of part.blocks))
     ≡ (if instruction then with_count 1 (counts_of (part ∷ parts)) else counts_of (part ∷ parts))
 unfolding with_lines
-counts-with_line true part parts = ap (with_lines part parts) (saturated_count-add 1 (length_of part.blocks))
+counts-with_line true part parts = ap (with_lines part parts) (omega arith)
 counts-with_line false part parts = ap (with_lines part parts) (ap saturated_count (omega arith))
 
 -- what is kept of the open parts is what is kept of them with an item before
 pub counts-with_item : (line : ℕ) (item : Item) (parts : List Part)
     → counts_of (with_item line item parts) ≡ counts_with item (counts_of parts)
 unfolding with_lines
-counts-with_item line (Repeat rounds) [] = refl
-counts-with_item line (Repeat rounds) (body ∷ []) = refl
-counts-with_item line (Repeat rounds) (body ∷ part ∷ parts) = grind (arith, with_lines, saturated_count-repeat)
-counts-with_item line (If number) [] = refl
-counts-with_item line (If number) (first ∷ []) = refl
-counts-with_item line (If number) (first ∷ part ∷ parts) = grind (arith, with_lines, saturated_count-if)
-counts-with_item line Else [] = refl
-counts-with_item line Else (second ∷ parts) = refl
-counts-with_item line End parts = refl
-counts-with_item line item [] = refl
-counts-with_item line item (part ∷ parts) = counts-with_line (is_instruction item) part parts
+counts-with_item line item parts =
+    grind (arith, with_lines, saturated_count-repeat, saturated_count-if, counts-with_line)
 
 -- the items that open and end no part
 pub counts_with-line : (item : Item) (counts : List PartCount) → ((rounds : ℕ) → item ≡ Repeat rounds → ⊥)
     → ((number : List ℕ) → item ≡ If number → ⊥) → (item ≡ Else → ⊥) → (item ≡ End → ⊥)
     → counts_with item counts ≡ (if is_instruction item then with_count 1 counts else counts)
-counts_with-line (Repeat rounds) counts not_repeat not_if not_else not_end = absurd (not_repeat rounds refl)
-counts_with-line (If number) counts not_repeat not_if not_else not_end = absurd (not_if number refl)
-counts_with-line Else counts not_repeat not_if not_else not_end = absurd (not_else refl)
-counts_with-line End counts not_repeat not_if not_else not_end = absurd (not_end refl)
-counts_with-line item counts not_repeat not_if not_else not_end = refl
+counts_with-line item counts not_repeat not_if not_else not_end = grind arith
 
 -- The innermost part is the last in memory.
 
@@ -96,27 +78,23 @@ reverse-none f (x ∷ xs) n counted none = absurd (omega arith)
 
 pub lines-innermost : (parts : List Part)
     → (innermost_count (counts_of parts)).lines ≡ saturated_count (length_of (outermost_blocks parts))
-lines-innermost [] = refl
-lines-innermost (part ∷ parts) = refl
+lines-innermost x0 = grind arith
 
 -- Where a script ends.
 
 before_next_script-script : (item : Item) (items : List Item) → is_script item ≡ true
     → before_next_script (item ∷ items) ≡ []
-before_next_script-script (Script name) items h = refl
-before_next_script-script item items h = absurd (false≢true h)
+before_next_script-script item items h = grind arith
 
 before_next_script-other : (item : Item) (items : List Item) → is_script item ≡ false
     → before_next_script (item ∷ items) ≡ item ∷ before_next_script items
-before_next_script-other (Script name) items h = absurd (false≢true (sym h))
-before_next_script-other item items h = refl
+before_next_script-other item items h = grind arith
 
 module _ (items : List Item) (i : ℕ) (item : Item) (within : i < length items) (read : item ≡ get_or items i item) where
   pub before_next_script-end : is_script item ≡ true → before_next_script (drop i items) ≡ []
   before_next_script-end h = grind (arith, drop_more, before_next_script-script)
 
-  pub before_next_script-more : is_script item ≡ false
-      → take i items ++ before_next_script (drop i items)
+  pub before_next_script-more : is_script item ≡ false → take i items ++ before_next_script (drop i items)
       ≡ take (i + 1) items ++ before_next_script (drop (i + 1) items)
   before_next_script-more h =
       rw (

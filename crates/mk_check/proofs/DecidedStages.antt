@@ -1,14 +1,14 @@
 -- A caller's call is decided once, before its last step.
 use Rattle.std.specs.List.{list_any}
-use Rattle.mk_check.proofs.Vocabulary.{Answer, Bool, Config, None, Op, Option, Some, ℕ, and_parts, ap, arith, false}
+use Rattle.mk_check.proofs.Vocabulary.{Answer, Bool, Config, None, Op, Option, Some, ℕ, and_parts, arith, false}
 use Rattle.mk_check.proofs.Vocabulary.{if◌then◌else◌, refl, subst, sym, true, ◌+◌, ◌==◌, ◌≡◌}
 use Rattle.mk_geom.specs.{Headers.header_of, declared.addresses.Cell.Cell}
-use Rattle.mk_core.specs.Calls.{begun, is_same_stage, onward, progress_p, progress_q, progress_read, progress_reg}
-use Rattle.mk_core.specs.Calls.{refused, stage_behind, stage_refused, steps_of, still}
-use Rattle.mk_core.specs.Effects.{decided, progress, progress_freed, progress_look, sees_double}
+use Rattle.mk_core.specs.Calls.{begun, is_same_stage, onward, progress_p, progress_q, progress_reg, refused}
+use Rattle.mk_core.specs.Calls.{stage_behind, stage_refused, steps_of, still}
+use Rattle.mk_core.specs.Effects.{decided, progress, progress_freed, sees_double}
 use Rattle.mk_core.specs.Order.{comes_next, is_of_any_holder, may_decide_new}
-use Rattle.mk_core.specs.{Cells.is_unmapped_header, Enabled.holder_may, Moments.Moment, TurnConditions.cell_freed}
-use Rattle.mk_core.specs.{TurnConditions.is_decided, Words.Words, declared.events.Step.Step, declared.events.Word.Word}
+use Rattle.mk_core.specs.{Cells.is_unmapped_header, Enabled.holder_may, Moments.Moment, TurnConditions.is_decided}
+use Rattle.mk_core.specs.{Words.Words, declared.events.Step.Step, declared.events.Word.Word}
 use Rattle.mk_core.specs.{declared.seats.Flight.Flight, declared.seats.Progress.Progress, declared.seats.Stage.Stage}
 use Rattle.mk_check.specs.Output.{ends_call}
 
@@ -70,20 +70,14 @@ decides Stage.LoadP (Op.IsNull p) = 1
 decides _ o = 0
 
 next_stage : (s : Stage) (o : Op) → has_stage o s ≡ true → has_stage o (stage_behind s (steps_of o)) ≡ true
-next_stage Stage.Idle (Op.Free p) h = cc
-next_stage Stage.Idle _ h = cc
-next_stage _ (Op.Free p) h = cc
-next_stage _ _ h = cc
+next_stage x0 x1 h = grind arith
 
 next_pending : (s : Stage) (o : Op) → goes_on s ≡ true → has_stage o s ≡ true
     → pending (stage_behind s (steps_of o)) ≡ pending s + decides s o
-next_pending Stage.Idle _ g h = cc
-next_pending _ (Op.Free p) g h = cc
-next_pending _ _ g h = cc
+next_pending x0 x1 g h = grind arith
 
 onward_goes : (s : Stage) (o : Op) (q p r l q' p' r' l' : ℕ) (a : Option Answer) → goes_on s ≡ true
-    → has_stage o s ≡ true → count a ≡ decides s o
-    → Goes (flight s o q p r l) (onward (flight s o q' p' r' l') a)
+    → has_stage o s ≡ true → count a ≡ decides s o → Goes (flight s o q p r l) (onward (flight s o q' p' r' l') a)
 onward_goes s o q p r l q' p' r' l' a g h e = grind (arith, next_stage, pending, next_pending)
 
 abbrev may_refuse : Stage → Bool
@@ -91,47 +85,30 @@ may_refuse Stage.LoadQ = true
 may_refuse Stage.Probe = true
 may_refuse _ = false
 
-refused_stage : (s : Stage) (o : Op) → may_refuse s ≡ true → has_stage o s ≡ true → has_stage o (stage_refused o) ≡ true
-refused_stage Stage.Idle _ m h = cc
-refused_stage _ (Op.Free p) m h = cc
-refused_stage _ _ m h = cc
-
 refused_pending : (s : Stage) (o : Op) → may_refuse s ≡ true → pending (stage_refused o) ≡ pending s + 1
-refused_pending Stage.Idle _ m = cc
-refused_pending _ (Op.Free p) m = cc
-refused_pending _ _ m = cc
+refused_pending x0 x1 m = grind arith
 
 refused_goes : (s : Stage) (o : Op) (q p r l q' p' r' l' : ℕ) (a : Answer) → may_refuse s ≡ true → has_stage o s ≡ true
     → Goes (flight s o q p r l) (refused (flight s o q' p' r' l') a)
-refused_goes s o q p r l q' p' r' l' a m h = record { stage = refused_stage s o m h; pending = refused_pending s o m }
+refused_goes s o q p r l q' p' r' l' a m h = record { stage = grind arith; pending = refused_pending s o m }
 
 -- `reg`
 
 q_goes : (o : Op) (q p r l found : ℕ) → has_stage o Stage.LoadQ ≡ true
     → Goes (flight Stage.LoadQ o q p r l) (progress_q (flight Stage.LoadQ o q p r l) o found)
-q_goes (Op.Move d q') q p r l found h = onward_goes Stage.LoadQ (Op.Move d q') q p r l found p r l None refl h refl
-q_goes (Op.Same p' q') q p r l found h = onward_goes Stage.LoadQ (Op.Same p' q') q p r l found p r l _ refl h refl
-q_goes o q p r l found h = grind (arith, either, refused_goes, onward_goes)
+q_goes o q p r l found h = grind (arith, onward_goes, either, refused_goes)
 
 p_goes : (o : Op) (q p r l found : ℕ) → has_stage o Stage.LoadP ≡ true
     → Goes (flight Stage.LoadP o q p r l) (progress_p (flight Stage.LoadP o q p r l) o found)
-p_goes (Op.IsNull p') q p r l found h = onward_goes Stage.LoadP (Op.IsNull p') q p r l q found r l _ refl h refl
-p_goes (Op.Free p') q p r l found h = grind (arith, either, pending, onward_goes)
-p_goes o q p r l found h = onward_goes Stage.LoadP o q p r l q found r l None refl h refl
+p_goes o q p r l found h = grind (arith, onward_goes, either, pending)
 
 -- after a `put` comes `leave`
 leave_stage : (o : Op) → has_stage o Stage.Put ≡ true → has_stage o Stage.Leave ≡ true
-leave_stage (Op.Free p) h = cc
-leave_stage _ h = cc
+leave_stage x0 h = grind arith
 
 reg_goes : (s : Stage) (o : Op) (q p r l found : ℕ) → has_stage o s ≡ true → comes_next s o Step.Reg ≡ true
     → Goes (flight s o q p r l) (progress_reg (flight s o q p r l) s found)
-reg_goes Stage.LoadQ o q p r l found h n = q_goes o q p r l found h
-reg_goes Stage.LoadP o q p r l found h n = p_goes o q p r l found h
-reg_goes Stage.LoadR o q p r l found h n = onward_goes Stage.LoadR o q p r l q p found l None refl h refl
-reg_goes Stage.Store o q p r l found h n = onward_goes Stage.Store o q p r l q p r l _ refl h refl
-reg_goes Stage.Put o q p r l found h n = record { stage = leave_stage o h; pending = refl }
-reg_goes s o q p r l found h n = still_goes s o q p r l h
+reg_goes s o q p r l found h n = grind (arith, q_goes, p_goes, onward_goes, leave_stage, pending, still_goes)
 
 -- the steps that have a stage of their own
 
@@ -160,82 +137,46 @@ has_stage_of_its_own Step.Dirty = true
 has_stage_of_its_own _ = false
 
 not_holders : (x : Step) → has_stage_of_its_own x ≡ true → is_of_any_holder x ≡ true → ⊥
-not_holders Step.Leave k h = cc
-not_holders _ k h = cc
+not_holders x0 k h = grind arith
 
 not_deciding : (o : Op) (x : Step) → has_stage_of_its_own x ≡ true → may_decide_new o x ≡ true → ⊥
-not_deciding (Op.New d ty full) Step.Grant k h = cc
-not_deciding (Op.New d ty full) Step.Full k h = cc
-not_deciding o x k h = not_holders x k h
+not_deciding o x k h = grind (arith, not_holders)
 
 own_stage : (s : Stage) (o : Op) (x : Step) → has_stage_of_its_own x ≡ true → comes_next s o x ≡ true → s ≡ stage_of x
-own_stage Stage.Turn o x k h = absurd (not_deciding o x k h)
-own_stage Stage.Give o x k h = absurd (not_holders x k h)
-own_stage Stage.Idle o (Step.Enter y) k h = refl
-own_stage _ o (Step.Enter y) k h = cc
-own_stage _ o _ k h = cc
+own_stage x0 o x k h = grind (arith, not_deciding, not_holders)
 
 begun_goes : (o y : Op) (q p r l : ℕ) → Goes (flight Stage.Idle o q p r l) (record { flight = begun y; answer = None })
-begun_goes o (Op.Free p') q p r l = record { stage = refl; pending = refl }
-begun_goes o _ q p r l = record { stage = refl; pending = refl }
+begun_goes o x1 q p r l = grind (arith, pending)
 
 probe_goes : (o : Op) (q p r l : ℕ) (b : Bool) → has_stage o Stage.Probe ≡ true
     → Goes (flight Stage.Probe o q p r l) (if b then refused (flight Stage.Probe o q p r l) Answer.Fault
     else onward (flight Stage.Probe o q p r l) None)
 probe_goes o q p r l b h = grind (arith, either, refused_goes, onward_goes)
 
-read_goes : (o : Op) (q p r l found : ℕ) → has_stage o Stage.Read ≡ true
-    → Goes (flight Stage.Read o q p r l) (progress_read (flight Stage.Read o q p r l) o found)
-read_goes (Op.GetPtr d q' i) q p r l found h = grind (arith, onward_goes)
-read_goes o q p r l found h = onward_goes Stage.Read o q p r l q p r l _ refl h refl
-
 -- the turn's steps
-
-give_stage : (o : Op) → has_stage o Stage.Turn ≡ true → has_stage o Stage.Give ≡ true
-give_stage (Op.Free p) h = refl
-give_stage _ h = cc
 
 decided_goes : (o : Op) (q p r l : ℕ) (a : Answer) → has_stage o Stage.Turn ≡ true
     → Goes (flight Stage.Turn o q p r l) (decided (flight Stage.Turn o q p r l) a)
-decided_goes o q p r l a h = record { stage = give_stage o h; pending = refl }
+decided_goes o q p r l a h = record { stage = grind arith; pending = refl }
 
 sees_none : (w : Words) (x : Word) → sees_double w None x ≡ false
-sees_none w (Word.Quar p) = refl
-sees_none w _ = refl
-
-look_goes : (s : Stage) (o : Op) (q p r l : ℕ) (c : Config) (w : Words) (x : Word) → has_stage o s ≡ true
-    → comes_next s o (Step.Look x) ≡ true
-    → Goes (flight s o q p r l) (progress_look c w (flight s o q p r l) x)
-look_goes Stage.Turn o q p r l c w x h n = grind (arith, either, flight, decided_goes, still_goes)
-look_goes Stage.Give o q p r l c w x h n = rw (sees_none w x) (still_goes Stage.Give o q p r l h)
-look_goes s o q p r l c w x h n = cc
+sees_none w x1 = grind arith
 
 freed_goes : (o : Op) (q p r l : ℕ) (cell : Option Cell) → has_stage o Stage.Turn ≡ true
     → Goes (flight Stage.Turn o q p r l) (progress_freed (flight Stage.Turn o q p r l) cell)
-freed_goes o q p r l (Some cell) h = decided_goes o q p r l Answer.Done h
-freed_goes o q p r l None h = still_goes Stage.Turn o q p r l h
+freed_goes o q p r l x5 h = grind (arith, decided_goes, still_goes)
 
 -- nothing is freed where the Free is decided
 freed_none : (b : Bool) (f : Flight) → progress_freed f (if b then None else None) ≡ still f
-freed_none true f = refl
-freed_none false f = refl
-
-quar_goes : (s : Stage) (o : Op) (q p r l : ℕ) (c : Config) (w : Words) (page v : ℕ) → has_stage o s ≡ true
-    → comes_next s o (Step.Quar page v) ≡ true
-    → Goes (flight s o q p r l) (progress_freed (flight s o q p r l) (cell_freed c.pages w (flight s o q p r l) page v))
-quar_goes Stage.Turn o q p r l c w page v h n = grind (arith, freed_goes, flight)
-quar_goes Stage.Give o q p r l c w page v h n = grind (arith, flight, freed_none, still_goes)
-quar_goes s o q p r l c w page v h n = cc
+freed_none x0 f = grind arith
 
 -- a New is granted, or refused, while it is undecided
 
 grants_at_turn : (s : Stage) (o : Op) → comes_next s o Step.Grant ≡ true → s ≡ Stage.Turn
-grants_at_turn Stage.Turn o n = refl
-grants_at_turn _ o n = cc
+grants_at_turn x0 o n = grind arith
 
 fulls_at_turn : (s : Stage) (o : Op) → comes_next s o Step.Full ≡ true → s ≡ Stage.Turn
-fulls_at_turn Stage.Turn o n = refl
-fulls_at_turn _ o n = cc
+fulls_at_turn x0 o n = grind arith
 
 abbrev pub At : Config → Moment → Op → ℕ → ℕ → ℕ → ℕ → ℕ → Step → Stage → Type 0
 At c m o q p r l found x s = Goes (flight s o q p r l) (progress c m (flight s o q p r l) found x)
@@ -259,7 +200,7 @@ goes c m s o q p r l found Step.Reg h n e = reg_goes s o q p r l found h n
 goes c m s o q p r l found Step.Probe h n e =
     own c m s o q p r l found Step.Probe refl h n (λ i. probe_goes o q p r l (is_unmapped_header (header_of found)) i)
 goes c m s o q p r l found Step.Read h n e =
-    own c m s o q p r l found Step.Read refl h n (λ i. read_goes o q p r l found i)
+    own c m s o q p r l found Step.Read refl h n (λ i. grind (arith, onward_goes))
 goes c m s o q p r l found Step.Write h n e =
     own c m s o q p r l found Step.Write refl h n (λ i. onward_goes Stage.Write o q p r l q p r l _ refl i refl)
 goes c m s o q p r l found Step.Cas h n e =
@@ -270,8 +211,8 @@ goes c m s o q p r l found Step.Setg h n e =
     own c m s o q p r l found Step.Setg refl h n (λ i. onward_goes Stage.Setg o q p r l q p r l _ refl i refl)
 goes c m s o q p r l found Step.Dirty h n e =
     own c m s o q p r l found Step.Dirty refl h n (λ i. onward_goes Stage.Dirty o q p r l q p r l None refl i refl)
-goes c m s o q p r l found (Step.Look x) h n e = look_goes s o q p r l c m.words x h n
-goes c m s o q p r l found (Step.Quar page v) h n e = quar_goes s o q p r l c m.words page v h n
+goes c m s o q p r l found (Step.Look x) h n e = grind (arith, either, flight, decided_goes, still_goes, sees_none)
+goes c m s o q p r l found (Step.Quar page v) h n e = grind (arith, freed_goes, flight, freed_none, still_goes)
 goes c m s o q p r l found Step.Grant h n e =
     let is = grants_at_turn s o n in
     subst (At c m o q p r l found Step.Grant) (sym is)
@@ -284,11 +225,8 @@ goes c m s o q p r l found _ h n e = still_goes s o q p r l h
 
 -- At its call's last step the answer is decided.
 gives_decided : (s : Stage) (o : Op) → comes_next s o Step.Give ≡ true → is_decided s ≡ true → pending s ≡ 1
-gives_decided Stage.Give o n d = refl
-gives_decided _ o n d = cc
+gives_decided x0 o n d = grind arith
 
 pub ends : (c : Config) (m : Moment) (f : Flight) (x : Step) → comes_next f.stage f.op x ≡ true
     → holder_may c m f x ≡ true → ends_call x ≡ true → pending f.stage ≡ 1
-ends c m f Step.Leave n h e = ap pending (own_stage f.stage f.op Step.Leave refl n)
-ends c m f Step.Give n h e = grind (arith, gives_decided, and_parts)
-ends c m f _ n h e = cc
+ends c m f x3 n h e = grind (arith, pending, own_stage, gives_decided, and_parts)

@@ -1,17 +1,17 @@
 -- A caller's registers hold what its script declares them for, and its typed lines keep them so.
 use Rattle.std.proofs.lemmas.Option.{get_or_from_slice_get, slice_get-map}
-use Rattle.mk_check.proofs.Vocabulary.{At, IfSome, IsOfKind, Item, Kind, List, NeverState, None, Option, Some, TypeWord}
+use Rattle.mk_check.proofs.Vocabulary.{At, IfSome, IsOfKind, Item, Kind, List, NeverState, Option, Some, TypeWord}
 use Rattle.mk_check.proofs.Vocabulary.{Value, ℕ, ap, arith, base_of, get_or, global_names, global_type, globals_of}
 use Rattle.mk_check.proofs.Vocabulary.{kind_of, kinds_of, length, length-map, map, moved_by, number_of_name, option_map}
-use Rattle.mk_check.proofs.Vocabulary.{pointer_at, pointer_names, refl, same_Some, slice_get, slice_get_within, subst}
-use Rattle.mk_check.proofs.Vocabulary.{sym, type_names, type_words, types_of, word_among, ◌*◌, ◌+◌, ◌<◌, ◌∙◌, ◌≡◌}
+use Rattle.mk_check.proofs.Vocabulary.{pointer_at, pointer_names, same_Some, slice_get, slice_get_within, subst, sym}
+use Rattle.mk_check.proofs.Vocabulary.{type_names, type_words, types_of, word_among, ◌*◌, ◌+◌, ◌<◌, ◌∙◌, ◌≡◌}
 use Rattle.mk_never.proofs.Edits.{exists, if_by, set_by}
-use Rattle.mk_never.specs.Admitted.{IsCaller, Meets}
 use Rattle.mk_never.specs.NeverHeap.{allocation_at, global_at, moved_on, register_at, target_of, with_register, word_at}
 use Rattle.mk_never.specs.NeverHeap.{words_of}
+use Rattle.mk_never.specs.Typed.{IsSound, IsTyped, kind_in}
 use Rattle.mk_never.specs.declared.types.Kind.TheVariants.{Num as NumKind, To}
-use Rattle.mk_never.specs.declared.values.Value.TheVariants.{Null, Num, Ptr}
-use Rattle.mk_never.specs.{Typed.IsSound, Typed.IsTyped, Typed.kind_in, declared.values.Target.TheVariants.WordOf}
+use Rattle.mk_never.specs.declared.values.Value.TheVariants.{Null, Ptr}
+use Rattle.mk_never.specs.{Admitted.IsCaller, Admitted.Meets, declared.values.Target.TheVariants.WordOf}
 use Rattle.mk_check.proofs.DeclaredPlaces.{global_place, pointer_within, same_place, type_place}
 use Rattle.mk_check.proofs.TypedLines.{PointsBefore}
 use Rattle.mk_script.specs.declared.items.TypeWord.TheVariants.{Pointer}
@@ -58,13 +58,11 @@ record WordAmong (words : Option (List TypeWord)) (i : ℕ) (word : TypeWord) : 
 
 word_in : (words : Option (List TypeWord)) (i : ℕ) (word : TypeWord) → word_among words i ≡ Some word
     → WordAmong words i word
-word_in None i word e = cc
-word_in (Some all) i word e = record { all = all; is = refl; at = e }
+word_in x0 i word e = grind arith
 
 pub meets_weaker : (n : NeverState) (v : Value) (i : ℕ) (P Q : Kind → Type 0) → ((kind : Kind) → P kind → Q kind)
     → Meets n v i P → Meets n v i Q
-meets_weaker n (Ptr number ty offset) i P Q weaker meets = (meets.0, weaker _ meets.1)
-meets_weaker n _ i _ _ weaker meets = tt
+meets_weaker n x1 i x3 x4 weaker meets = grind arith
 
 -- a pointer to a place: the word i words on is inside its type
 meets_word : (program : List Item) (n : NeverState) (v : Value) (at : At) (i : ℕ) (word : TypeWord)
@@ -107,8 +105,7 @@ record IsTypedWord (n : NeverState) (number place : ℕ) (Q : Kind → Type 0) :
 
 is_typed_word : (n : NeverState) (v : Value) (i : ℕ) (Q : Kind → Type 0) (number place : ℕ) → Meets n v i Q
     → target_of n v i ≡ WordOf number place → IsTypedWord n number place Q
-is_typed_word n (Ptr a ty offset) i Q number place meets e = grind (arith, if_by, exists)
-is_typed_word n _ i _ number place meets e = cc
+is_typed_word n x1 i x3 number place meets e = grind (arith, if_by, exists)
 
 -- a pointer word that is loaded points to where it is declared to
 pub loaded_word : (program : List Item) (n : NeverState) (v : Value) (i : ℕ) (at : At) (number place : ℕ)
@@ -120,9 +117,7 @@ loaded_word program n v i at number place typed meets e = grind (arith, is_typed
 -- a pointer that is moved on points to where its place is moved on to
 pub moved_word : (program : List Item) (v : Value) (i : ℕ) (at : At) → IsOfKind v (kind_at program at)
     → IsOfKind (moved_on v i) (kind_at program (moved_by i at))
-moved_word program Null i at of_kind = tt
-moved_word program (Num m) i at of_kind = absurd of_kind
-moved_word program (Ptr number ty offset) i at of_kind = (of_kind.0, ap (λ (o : ℕ). o + i) of_kind.1)
+moved_word program x1 i at of_kind = grind arith
 
 -- what a global holds
 pub global_word : (program : List Item) (n : NeverState) (name ty : List ℕ) → IsTyped (globals_of program) n

@@ -1,14 +1,33 @@
 -- The first fault, as lines are read one by one.
 use Rattle.std.proofs.{Common.IfOk, Common.cond, Common.count_by, lemmas.List.Recursion.is_count_by}
-use Rattle.mk_check.proofs.Vocabulary.{Err, Item, List, None, Ok, Option, Result, Some, TypeKind, ℕ, arith, around}
-use Rattle.mk_check.proofs.Vocabulary.{at_line, drop, drop_more, fault_from, get_or, is_script, length, refl}
-use Rattle.mk_check.proofs.Vocabulary.{script_names, take, take_more, typing_fault, ◌+◌, ◌<◌, ◌∙◌, ◌∷◌, ◌≡◌}
-use Rattle.mk_check.specs.Lookups.{Reading}
-use Rattle.mk_script.specs.declared.items.Item.TheVariants.{Script}
+use Rattle.mk_check.proofs.Vocabulary.{Bool, Item, List, None, Option, Result, Some, TypeKind, ℕ, arith, around}
+use Rattle.mk_check.proofs.Vocabulary.{at_line, drop, drop_more, fault_from, get_or, is_script, is_some, length}
+use Rattle.mk_check.proofs.Vocabulary.{option_or, refl, script_names, take, take_more, true, typing_fault, ◌+◌, ◌<◌}
+use Rattle.mk_check.proofs.Vocabulary.{◌∙◌, ◌∷◌, ◌≡◌}
+use Rattle.mk_check.specs.{Lookups.Reading, Typing.TypingFault, Typing.unless}
 
 pub IfOk-map : {T E : Type 0} {P Q : T → Type 0} (r : Result T E) → ((x : T) → P x → Q x) → IfOk r P → IfOk r Q
-IfOk-map (Ok x) f p = f x p
-IfOk-map (Err e) f p = tt
+IfOk-map x0 f p = grind arith
+
+-- Tests that report nothing.
+
+pub or-None : {T : Type 0} (fault other : Option T) → option_or fault other ≡ None → (fault ≡ None) × (other ≡ None)
+or-None x0 other h = grind arith
+
+pub unless-None : (b : Bool) (fault : TypeKind) → unless b fault ≡ None → b ≡ true
+unless-None x0 fault h = grind arith
+
+pub at_line-None : (line : ℕ) (fault : Option TypeKind) (other : Option TypingFault) → at_line line fault other ≡ None
+    → (fault ≡ None) × (other ≡ None)
+at_line-None line x1 other h = grind arith
+
+-- a value, by its test
+pub record HasValue {X : Type 0} (o : Option X) : Type 0 where
+  pub value : X
+  pub is : o ≡ Some value
+
+pub has_value : {X : Type 0} (o : Option X) → is_some o ≡ true → HasValue o
+has_value x0 h = grind arith
 
 module _ (program : List Item) (i : ℕ) (item : Item) (within : i < length program) (read : item ≡ get_or program i item)
     (reading : Reading) (at : reading ≡ record { program = program; count = i }) (behind : List Item)
@@ -26,16 +45,13 @@ module _ (program : List Item) (i : ℕ) (item : Item) (within : i < length prog
 
   -- it isn't
   pub fault_from-none : (fault : Option TypeKind) → fault ≡ typing_fault (around reading) (i + 1) behind item
-      → fault ≡ None
-      → fault_from program (i + 1) (take i program) (drop i program)
+      → fault ≡ None → fault_from program (i + 1) (take i program) (drop i program)
       ≡ fault_from program (i + 1 + 1) (take (i + 1) program) (drop (i + 1) program)
   fault_from-none fault is none = fault_from-next fault is ∙ rw none refl
 
-script_names-cons : (item : Item) (items : List Item)
-    → length (script_names (item ∷ items))
+script_names-cons : (item : Item) (items : List Item) → length (script_names (item ∷ items))
     ≡ cond (is_script item) (1 + length (script_names items)) (length (script_names items))
-script_names-cons (Script name) items = omega arith
-script_names-cons item items = refl
+script_names-cons item items = grind arith
 
 pub length-script_names : (items : List Item) → length (script_names items) ≡ count_by is_script items
 length-script_names items = is_count_by (λ xs. length (script_names xs)) is_script refl script_names-cons items

@@ -1,10 +1,9 @@
 -- A script that is fed with one more answer.
 use Rattle.std.proofs.Common.{IsNone, IsTrue, ◌↔◌}
-use Rattle.mk_check.proofs.Vocabulary.{Answer, Blocks, Bool, Fed, FeedStandsFor, FeedState, IsWaiting, Item, Line, List}
-use Rattle.mk_check.proofs.Vocabulary.{Op, Option, Scope, Some, ℕ, ap, false, fed_before_answers, feed, first_op}
-use Rattle.mk_check.proofs.Vocabulary.{flagged, is_end_of_block, is_some, next_op, note, op_of, refl, script_of}
-use Rattle.mk_check.proofs.Vocabulary.{script_scope, take_answer, take_answers, true, with_answer, [], ◌++◌, ◌∙◌, ◌∷◌}
-use Rattle.mk_check.proofs.Vocabulary.{◌≡◌}
+use Rattle.mk_check.proofs.Vocabulary.{Answer, Blocks, Fed, FeedStandsFor, FeedState, IsWaiting, Item, Line, List, Op}
+use Rattle.mk_check.proofs.Vocabulary.{Option, Scope, Some, ℕ, ap, arith, fed_before_answers, feed, first_op, flagged}
+use Rattle.mk_check.proofs.Vocabulary.{is_some, next_op, note, op_of, refl, script_of, script_scope, take_answer}
+use Rattle.mk_check.proofs.Vocabulary.{take_answers, true, with_answer, [], ◌++◌, ◌∙◌, ◌∷◌, ◌≡◌}
 use Rattle.mk_check.{proofs.Numbered.ops-with_answer, proofs.Numbered.run_agrees, specs.Feed.has_ended}
 
 pub take_answers_push : (scope : Scope) (fed : Fed) (answers : List Answer) (a : Answer)
@@ -13,25 +12,16 @@ pub take_answers_push : (scope : Scope) (fed : Fed) (answers : List Answer) (a :
 take_answers_push scope fed [] a = refl
 take_answers_push scope fed (b ∷ answers) a = take_answers_push scope (take_answer scope fed fed.left b) answers a
 
-pub feed_push : (program : List Item) (k : ℕ) (answers : List Answer) (a : Answer)
-    → feed program k (answers ++ a ∷ [])
+pub feed_push : (program : List Item) (k : ℕ) (answers : List Answer) (a : Answer) → feed program k (answers ++ a ∷ [])
     ≡ take_answer (script_scope program k) (feed program k answers) (feed program k answers).left a
 feed_push program k answers a =
     take_answers_push (script_scope program k) (fed_before_answers (script_scope program k) (script_of program k))
     answers a
 
-taken_at_end : (scope : Scope) (fed : Fed) (left : Blocks) (a : Answer) → is_end_of_block left ≡ true
-    → take_answer scope fed left a ≡ fed
-taken_at_end scope fed (Line line item rest) a h = cc
-taken_at_end scope fed _ a h = refl
-
 -- A script that has ended takes no answer.
 pub feed_push-ended : (program : List Item) (k : ℕ) (answers : List Answer) (a : Answer)
-    → has_ended (feed program k answers) ≡ true
-    → feed program k (answers ++ a ∷ []) ≡ feed program k answers
-feed_push-ended program k answers a h =
-    feed_push program k answers a
-    ∙ taken_at_end (script_scope program k) (feed program k answers) (feed program k answers).left a h
+    → has_ended (feed program k answers) ≡ true → feed program k (answers ++ a ∷ []) ≡ feed program k answers
+feed_push-ended program k answers a h = feed_push program k answers a ∙ (grind arith)
 
 ops_taken : (scope : Scope) (fed : Fed) (left : Blocks) (a : Answer) (o : Op) → first_op scope fed left ≡ Some o
     → (take_answer scope fed left a).ops ≡ fed.ops ++ flagged o a ∷ []
@@ -52,11 +42,5 @@ ops-feed_push program k answers a o h =
 -- A feed that has an operation waits.
 pub waits_for_op : (s : FeedState) (o : Option Op)
     → ((program : List Item) (k : ℕ) (answers : List Answer) → FeedStandsFor program k s answers
-    → IsNone o ↔ IsTrue (has_ended (feed program k answers)))
-    → is_some o ≡ true → IsWaiting s
-waits_for_op s o none some = λ program k answers st. by_end (has_ended (feed program k answers))
-    (none program k answers st).1
-  where
-    by_end : (b : Bool) → (IsTrue b → IsNone o) → b ≡ false
-    by_end true f = let e : is_some o ≡ false = f refl in cc
-    by_end false f = refl
+    → IsNone o ↔ IsTrue (has_ended (feed program k answers))) → is_some o ≡ true → IsWaiting s
+waits_for_op s o none some = λ program k answers st. grind arith

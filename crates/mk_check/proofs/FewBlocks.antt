@@ -6,9 +6,9 @@ use Rattle.mk_check.proofs.Vocabulary.{script_from, script_of, subst, suc, with_
 use Rattle.mk_check.proofs.Vocabulary.{◌≡◌, ◌≤◌}
 use Rattle.mk_check.proofs.GrammarLemmas.{at_most-None}
 use Rattle.mk_check.specs.Blocks.{with_else, with_if, with_repeat}
+use Rattle.mk_script.specs.Grammar.{IsOfSomeText}
 use Rattle.mk_script.specs.Scopes.{behind_else, behind_end, open_behind, open_blocks}
-use Rattle.mk_script.specs.declared.items.Item.TheVariants.{Else, End, If, Repeat, Script}
-use Rattle.mk_script.specs.{Grammar.IsOfSomeText, declared.scope.OpenBlock.OpenBlock}
+use Rattle.mk_script.specs.{declared.items.Item.TheVariants.Script, declared.scope.OpenBlock.OpenBlock}
 
 abbrev depth : Blocks → ℕ
 depth Done = 0
@@ -26,33 +26,26 @@ depth-numbered scope (Choice number first second rest) =
     let f = depth-numbered scope second in
     let g = depth-numbered scope rest in cc
 
--- With as many blocks open around it, no more than 32 are ever open in this part.
-abbrev PartFits : ℕ → Part → Type 0
-PartFits around part = (around + depth part.blocks ≤ 32) × (around + depth (branch part.second) ≤ 32)
-
 -- The innermost part comes first, which has as many blocks around it.
 abbrev PartsFit : ℕ → List Part → Type 0
 PartsFit around [] = Unit {0}
-PartsFit around (part ∷ parts) = PartFits around part × PartsFit (around - 1) parts
+PartsFit around (part ∷ parts) =
+    ((around + depth part.blocks ≤ 32) × (around + depth (branch part.second) ≤ 32)) × PartsFit (around - 1) parts
 
 line_fits : (around line : ℕ) (item : Item) (parts : List Part) → PartsFit around parts
     → PartsFit around (with_line line item parts)
-line_fits around line item [] h = tt
-line_fits around line item (part ∷ parts) h = h
+line_fits around line item x3 h = grind arith
 
 repeat_fits : (around rounds : ℕ) (parts : List Part) → PartsFit (around + 1) parts
     → PartsFit around (with_repeat rounds parts)
-repeat_fits around rounds (body ∷ part ∷ parts) h = grind arith
-repeat_fits around rounds _ h = tt
+repeat_fits around rounds x2 h = grind arith
 
 if_fits : (around : ℕ) (number : List ℕ) (parts : List Part) → PartsFit (around + 1) parts
     → PartsFit around (with_if number parts)
-if_fits around number (first ∷ part ∷ parts) h = grind arith
-if_fits around number _ h = tt
+if_fits around number x2 h = grind arith
 
 else_fits : (around : ℕ) (parts : List Part) → around ≤ 32 → PartsFit around parts → PartsFit around (with_else parts)
-else_fits around [] few h = tt
-else_fits around (second ∷ parts) few h = ((omega arith, h.0.0), h.1)
+else_fits around x1 few h = grind arith
 
 -- How many blocks are open.
 
@@ -64,21 +57,14 @@ opened_push : (before : List Item) (item : Item)
 opened_push before item = ap (λ (bs : List OpenBlock). length bs) (fold_push open_behind [] before item)
 
 length-behind_else : (blocks : List OpenBlock) → length (behind_else blocks) ≡ length blocks
-length-behind_else [] = refl
-length-behind_else (block ∷ blocks) = refl
+length-behind_else x0 = grind arith
 
 length-behind_end : (blocks : List OpenBlock) → length (behind_end blocks) ≡ length blocks - 1
-length-behind_end [] = refl
-length-behind_end (block ∷ blocks) = omega arith
+length-behind_end x0 = grind arith
 
 few_open : (before : List Item) (item : Item) → limit_fault before item ≡ None → opened before ≤ 32
     → opened (before ++ item ∷ []) ≤ 32
-few_open before (Script name) limit h = omega (arith, opened_push before (Script name))
-few_open before (Repeat rounds) limit h = grind (arith, opened_push, at_most-None, opened)
-few_open before (If number) limit h = grind (arith, opened_push, at_most-None, opened)
-few_open before Else limit h = omega (arith, opened_push before Else, length-behind_else (open_blocks before))
-few_open before End limit h = omega (arith, opened_push before End, length-behind_end (open_blocks before))
-few_open before item limit h = omega (arith, opened_push before item)
+few_open before item limit h = grind (arith, opened_push, at_most-None, opened, length-behind_else, length-behind_end)
 
 -- The parts of a script before its lines that are left.
 
@@ -93,12 +79,19 @@ module _ (before more : List Item) (line : ℕ) where
 
   parts_before : (item : Item) → opened before ≤ 32 → Behind item
       → PartsFit (opened before) (parts_from line (before_next_script (item ∷ more)))
-  parts_before (Script name) few h = ((omega arith, omega arith), tt)
-  parts_before (Repeat rounds) few h = grind (arith, repeat_fits, opened, around_it, opened_push)
-  parts_before (If number) few h = grind (arith, if_fits, opened, around_it, opened_push)
-  parts_before Else few h = grind (arith, else_fits, opened, around_it, opened_push, length-behind_else)
-  parts_before End few h = grind (arith, around_it, opened, opened_push, length-behind_end)
-  parts_before item few h = grind (arith, line_fits, opened, around_it, opened_push)
+  parts_before item few h =
+      grind (
+        arith,
+        repeat_fits,
+        opened,
+        around_it,
+        opened_push,
+        if_fits,
+        else_fits,
+        length-behind_else,
+        length-behind_end,
+        line_fits,
+      )
 
 parts_fit : (before more : List Item) (line : ℕ) → ArePassed before more → opened before ≤ 32
     → PartsFit (opened before) (parts_from line (before_next_script more))
@@ -108,8 +101,7 @@ parts_fit before (item ∷ more) line passed few =
     (parts_fit (before ++ item ∷ []) more (line + 1) passed.1 (few_open before item passed.0.within few))
 
 outermost_fits : (around : ℕ) (parts : List Part) → PartsFit around parts → depth (outermost_blocks parts) ≤ 32
-outermost_fits around [] h = omega arith
-outermost_fits around (part ∷ parts) h = let fits = h.0.0 in omega arith
+outermost_fits around x1 h = grind arith
 
 script_fits : (before more : List Item) (line k : ℕ) → ArePassed before more → opened before ≤ 32
     → depth (blocks_from (script_from line k more).line (script_from line k more).items) ≤ 32

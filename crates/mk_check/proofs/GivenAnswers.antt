@@ -12,13 +12,13 @@ use Rattle.mk_check.proofs.Vocabulary.{◌≡◌, ◌≤◌}
 use Rattle.mk_core.proofs.Histories.{calls_more, enabled_parts, last_enabled}
 use Rattle.mk_core.proofs.Conditions.{enabled_meets}
 use Rattle.mk_core.specs.Decided.{Decided, entry_of}
+use Rattle.mk_core.specs.Effects.{answer_decided, flights_behind, progress}
 use Rattle.mk_core.specs.History.{AreEnabled, AreEnabledFrom, World, call_decided, calls, calls_from, first_world, left}
 use Rattle.mk_core.specs.History.{left_from, world_behind}
 use Rattle.mk_core.specs.declared.events.Seat.TheVariants.{Caller, Host, Marker}
-use Rattle.mk_core.specs.{Accesses.found, Calls.at_rest, Effects.answer_decided, Effects.flights_behind}
-use Rattle.mk_core.specs.{Effects.progress, Enabled.IsEnabled, Growing.is_same_seat, Moments.Moment, Moments.flight_of}
-use Rattle.mk_core.specs.{declared.events.Event.Event, declared.events.Seat.Seat, declared.events.Step.Step}
-use Rattle.mk_core.specs.{declared.seats.Flight.Flight, declared.seats.Progress.Progress, declared.seats.Stage.Stage}
+use Rattle.mk_core.specs.{Accesses.found, Calls.at_rest, Enabled.IsEnabled, Growing.is_same_seat, Moments.Moment}
+use Rattle.mk_core.specs.{Moments.flight_of, declared.events.Event.Event, declared.events.Seat.Seat}
+use Rattle.mk_core.specs.{declared.events.Step.Step, declared.seats.Flight.Flight, declared.seats.Progress.Progress}
 use Rattle.mk_check.proofs.DecidedStages.{Goes, count, ends, goes, has_stage, pending}
 use Rattle.mk_check.specs.Output.{EndedCallsAreAnswered, answer_waiting, answers_among, answers_given, ended_calls}
 use Rattle.mk_check.specs.Output.{ends_call, ends_call_of}
@@ -47,36 +47,23 @@ pub record ServesMore (callers : ℕ) (new : List Flight) (k n : ℕ) (answers :
 
 -- the answers of a caller's among the calls
 
-among_more : (k : ℕ) (xs ys : List Decided) → answers_among k (xs ++ ys) ≡ answers_among k xs ++ answers_among k ys
+pub among_more : (k : ℕ) (xs ys : List Decided) → answers_among k (xs ++ ys) ≡ answers_among k xs ++ answers_among k ys
 among_more k xs ys = grind (arith, filter-append, map-append)
 
-same_number : (j : ℕ) → (j == j) ≡ true
+pub same_number : (j : ℕ) → (j == j) ≡ true
 same_number j = eq-eqb j j refl
 
-other_number : (j k : ℕ) → j ≢ k → (j == k) ≡ false
+pub other_number : (j k : ℕ) → j ≢ k → (j == k) ≡ false
 other_number j k ne = grind (arith, nat_tests)
 
 among_mine : (k : ℕ) (o : Op) (a : Option Answer) → answers_among k (entry_of k o a) ≡ as_list a
-among_mine k o (Some a) = rw (same_number k) refl
-among_mine k o None = refl
+among_mine k o x2 = grind (arith, same_number)
 
 among_others : (k j : ℕ) (o : Op) (a : Option Answer) → j ≢ k → answers_among k (entry_of j o a) ≡ []
-among_others k j o (Some a) ne = rw (other_number j k ne) refl
-among_others k j o None ne = refl
-
--- a caller's last step leaves it at rest, and decides nothing
-last_rests : (c : Config) (m : Moment) (f : Flight) (found : ℕ) (x : Step) → ends_call x ≡ true
-    → progress c m f found x ≡ record { flight = at_rest; answer = None }
-last_rests c m f found Step.Leave h = refl
-last_rests c m f found x4 h = cc
-
-few_pending : (s : Stage) → pending s ≤ 1
-few_pending Stage.Put = omega arith
-few_pending _ = omega arith
+among_others k j o x3 ne = grind (arith, other_number)
 
 pending_behind : (n p p' k : ℕ) (a : Option Answer) → k ≡ n + p → p' ≡ p + count a → k + length (as_list a) ≡ n + p'
-pending_behind n p p' k (Some a) h i = omega arith
-pending_behind n p p' k None h i = omega arith
+pending_behind n p p' k x4 h i = grind arith
 
 none_before : (a : Answer) (b : Option Answer) (p p' : ℕ) → b ≡ Some a → p' ≤ 1 → p' ≡ p + count b → p ≡ 0
 none_before a b p p' is few h = let e : count b ≡ 1 = ap count is in omega arith
@@ -103,7 +90,7 @@ goes_more callers flights k n answers p lt h g =
           (get_or-set_same flights k p.flight at_rest (omega arith)) (length-set flights k p.flight
           ∙ h.long) g.stage (omega arith);
       last = λ e. cc;
-      once = λ b _ e. (let none = none_before b p.answer was (pending p.flight.stage) e (few_pending p.flight.stage)
+      once = λ b _ e. (let none = none_before b p.answer was (pending p.flight.stage) e (grind arith)
           g.pending in omega arith);
       few = omega arith;
     }
@@ -123,8 +110,7 @@ ends_more callers flights k n answers p lt h one is =
     record {
       serves =
           serves_at callers (set flights k p.flight) k (n + 1) (answers ++ as_list p.answer) at_rest rests
-          (length-set flights k p.flight ∙ h.long) refl
-          (ap length more ∙ omega arith);
+          (length-set flights k p.flight ∙ h.long) refl (ap length more ∙ omega arith);
       last = λ _. (none, omega arith);
       once = λ b _ e. (let never = sym none ∙ e in cc);
       few = omega arith;
@@ -132,8 +118,7 @@ ends_more callers flights k n answers p lt h one is =
 
 -- a step of another's
 others_more : (callers : ℕ) (flights new : List Flight) (k n : ℕ) (answers : List Answer) (decided : Option Answer)
-    (last : Bool)
-    → get_or new k at_rest ≡ get_or flights k at_rest → length new ≡ length flights
+    (last : Bool) → get_or new k at_rest ≡ get_or flights k at_rest → length new ≡ length flights
     → Serves callers flights k n answers → ServesMore callers new k n answers decided false last
 others_more callers flights new k n answers decided last same long h =
     let a = h.decided in record {
@@ -161,7 +146,7 @@ own_step c m k n answers x true is enabled h =
     let f = flight_of m (Caller k) in
     let meets = enabled_meets c m e enabled in
     ends_more c.callers m.seats.flights k n answers (progress c m f (found c m e) x) (ltb-true k c.callers meets.seat) h
-    (ends c m f x meets.order meets.holder is) (last_rests c m f (found c m e) x is)
+    (ends c m f x meets.order meets.holder is) (grind arith)
 own_step c m k n answers x false is enabled h =
     let e : Event = record { seat = Caller k; step = x } in
     let f = flight_of m (Caller k) in
@@ -172,15 +157,13 @@ own_step c m k n answers x false is enabled h =
 serves_more : (c : Config) (m : Moment) (k n : ℕ) (answers : List Answer) (seat : Seat) (x : Step)
     → IsEnabled c m (record { seat = seat; step = x }) → Serves c.callers m.seats.flights k n answers
     → Behind c m seat x k n answers
-serves_more c m k n answers (Caller j) x enabled h =
-    elim (cases_eq k j) [
-      | inl same ↦ subst (λ (i : ℕ). Behind c m (Caller i) x k n answers) same
-          (rw (same_number k) (own_step c m k n answers x (ends_call x) refl
-          (subst (λ (i : ℕ). IsEnabled c m (record { seat = Caller i; step = x })) (sym same) enabled) h))
-      | inr ne ↦ rw (other_number k j ne)
-          (others_more c.callers m.seats.flights _ k n answers _ (ends_call x)
-          (get_or-set_other m.seats.flights j k _ at_rest ne) (length-set m.seats.flights j _) h)
-    ]
+serves_more c m k n answers (Caller j) x enabled h = elim (cases_eq k j) [
+  | inl same ↦ subst (λ (i : ℕ). Behind c m (Caller i) x k n answers) same
+      (rw (same_number k) (own_step c m k n answers x (ends_call x) refl
+      (subst (λ (i : ℕ). IsEnabled c m (record { seat = Caller i; step = x })) (sym same) enabled) h))
+  | inr ne ↦ rw (other_number k j ne) (others_more c.callers m.seats.flights _ k n answers _ (ends_call x)
+      (get_or-set_other m.seats.flights j k _ at_rest ne) (length-set m.seats.flights j _) h)
+]
 serves_more c m k n answers (Marker j) x enabled h =
     others_more c.callers m.seats.flights m.seats.flights k n answers None (ends_call x) refl refl h
 serves_more c m k n answers Host x enabled h = others_more _ _ _ k n answers None _ refl refl h
@@ -189,12 +172,10 @@ serves_more c m k n answers Host x enabled h = others_more _ _ _ k n answers Non
 event_among : (c : Config) (m : Moment) (k : ℕ) (seat : Seat) (x : Step)
     → answers_among k (call_decided c m (record { seat = seat; step = x }))
     ≡ (if is_same_seat (Caller k) seat then as_list (answer_decided c m (record { seat = seat; step = x })) else [])
-event_among c m k (Caller j) x = grind (arith, same_number, as_list, among_mine, other_number, among_others)
-event_among c m k _ x = refl
+event_among c m k x3 x = grind (arith, same_number, as_list, among_mine, other_number, among_others)
 
 counts_more : (n : ℕ) (b : Bool) → n + (if b then 1 else 0) ≡ counted n b
-counts_more n true = refl
-counts_more n false = omega arith
+counts_more n x1 = grind arith
 
 serves_from : (c : Config) (w : World) (k n : ℕ) (answers : List Answer) (es : List Event) → AreEnabledFrom c w es
     → Serves c.callers w.now.seats.flights k n answers
@@ -254,23 +235,13 @@ given_case answers n a true true few l =
 given_case answers n a true false few l = take-append-le n answers (as_list a) few ∙ sym (append-nil (take n answers))
 given_case answers n a false last few l = ap (take n) (append-nil answers) ∙ sym (append-nil (take n answers))
 
-waiting_case : (answers : List Answer) (n : ℕ) (a : Option Answer) (mine last : Bool)
-    → ((mine && last) ≡ true → (a ≡ None) × (length answers ≡ n + 1))
-    → ((b : Answer) → mine ≡ true → a ≡ Some b → length answers ≡ n)
-    → slice_get (answers ++ (if mine then as_list a else [])) (counted n (mine && last))
-    ≡ waiting_by mine last a (slice_get answers n)
-waiting_case answers n a true true l o = grind (arith, append-nil, slice_get_past)
-waiting_case answers n (Some b) true false l o = last_of answers n b (o b refl refl)
-waiting_case answers n _ _ _ l o = ap (λ (xs : List Answer). slice_get xs n) (append-nil answers)
-
 -- the answers and the count of the ended calls, with one event more
-more_answers : (c : Config) (es : List Event) (e : Event) (k : ℕ)
-    → answers_among k (calls c (es ++ e ∷ []))
+more_answers : (c : Config) (es : List Event) (e : Event) (k : ℕ) → answers_among k (calls c (es ++ e ∷ []))
     ≡ answers_among k (calls c es)
     ++ (if is_same_seat (Caller k) e.seat then as_list (answer_decided c (left c es).now e) else [])
 more_answers c es e k = grind (arith, calls_more, among_more, event_among)
 
-more_ended : (es : List Event) (e : Event) (k : ℕ)
+pub more_ended : (es : List Event) (e : Event) (k : ℕ)
     → ended_calls k (es ++ e ∷ []) ≡ counted (ended_calls k es) (ends_call_of k e)
 more_ended es e k = grind (arith, sum_by_push, counts_more)
 
@@ -296,9 +267,7 @@ pub waiting_more : (c : Config) (es : List Event) (e : Event) (k : ℕ) → AreE
     (answer_waiting c es k)
 waiting_more c es e k h =
     let s = step_of c es e k h in
-    rw (more_ended es e k, more_answers c es e k)
-    (waiting_case (answers_among k (calls c es)) (ended_calls k es) (answer_decided c (left c es).now e)
-    (is_same_seat (Caller k) e.seat) (ends_call e.step) s.last s.once)
+    rw (more_ended es e k, more_answers c es e k) (grind (arith, append-nil, slice_get_past, last_of))
 
 -- There are no more answers than events.
 pub few_answers : (c : Config) (es : List Event) (k : ℕ) → length (answers_given c es k) ≤ length es

@@ -1,44 +1,25 @@
 -- Limits that the lines of a program of some text keep.
-use Rattle.std.proofs.Common.{is_ok, leb-true}
-use Rattle.mk_check.proofs.Vocabulary.{ArePassed, Bool, Err, Item, List, None, Ok, Option, Result, Some, Which, ℕ, ap}
-use Rattle.mk_check.proofs.Vocabulary.{append-nil, append_assoc, arith, false, false≢true, global_names, if◌then◌else◌}
-use Rattle.mk_check.proofs.Vocabulary.{is_some, length, length-append, limit_fault, option_or, pages_of, refl}
-use Rattle.mk_check.proofs.Vocabulary.{resident_of, script_names, subst, sym, true, type_names, [], ◌&&◌, ◌++◌, ◌+◌}
-use Rattle.mk_check.proofs.Vocabulary.{◌-◌, ◌∷◌, ◌≡◌, ◌≤◌}
+use Rattle.std.proofs.Common.{leb-true}
+use Rattle.mk_check.proofs.Vocabulary.{ArePassed, Bool, Err, Item, List, None, Ok, Result, Some, Which, ℕ, and_parts}
+use Rattle.mk_check.proofs.Vocabulary.{ap, append-nil, append_assoc, arith, false≢true, global_names, if◌then◌else◌}
+use Rattle.mk_check.proofs.Vocabulary.{length, length-append, limit_fault, pages_of, resident_of, script_names, subst}
+use Rattle.mk_check.proofs.Vocabulary.{sym, true, type_names, [], ◌++◌, ◌+◌, ◌-◌, ◌∷◌, ◌≡◌, ◌≤◌}
 use Rattle.mk_core.specs.Config.{IsBetween}
-use Rattle.mk_check.proofs.NumberLemmas.{length-global_names-append, type_names-append}
+use Rattle.mk_check.proofs.FaultLemmas.{or-None}
+use Rattle.mk_script.proofs.Pushed.{global_names-append, script_names-append, type_names-append}
 use Rattle.mk_script.proofs.PassedLines.{IsWhole}
 use Rattle.mk_script.specs.Lines.{at_most, has_script, heap_line, within}
 use Rattle.mk_script.specs.Operands.{item_from, number, ◌>>=◌}
 use Rattle.mk_script.specs.declared.items.Item.TheVariants.{Global, Heap, Script, TypeLine}
-use Rattle.mk_script.specs.{declared.faults.LineFault.LineFault, declared.faults.LineFault.TheVariants.Text}
-use Rattle.mk_script.specs.{declared.faults.TextKind.TheVariants.Header, declared.keywords.Keyword.Keyword}
+use Rattle.mk_script.specs.{declared.faults.LineFault.LineFault, declared.keywords.Keyword.Keyword}
 
-pub Err≢Ok : {T E : Type 0} (e : E) (x : T) → Err e ≡ Ok x → ⊥
-Err≢Ok e x h = false≢true (ap is_ok h)
-
-pub Some≢None : {T : Type 0} (x : T) → Some x ≡ None → ⊥
-Some≢None x h = false≢true (sym (ap is_some h))
-
-ok_value : {T E : Type 0} → T → Result T E → T
-ok_value other (Ok x) = x
-ok_value other (Err e) = other
-
-pub Ok-injective : {T E : Type 0} (x y : T) → ◌≡◌ {A = Result T E} (Ok x) (Ok y) → x ≡ y
-unfolding ok_value
-Ok-injective x y h = ap (ok_value x) h
-
-pub if-Ok : {T E : Type 0} (b : Bool) (r : Result T E) (e : E) (x : T) → (if b then r else Err e) ≡ Ok x → r ≡ Ok x
-if-Ok true r e x h = h
-if-Ok false r e x h = absurd (Err≢Ok e x h)
+-- a test that an Ok has passed
+pub passed_then : {X Fault : Type 0} (test : Bool) (fault : Fault) (found : Result X Fault) (x : X)
+    → (if test then found else Err fault) ≡ Ok x → (test ≡ true) × (found ≡ Ok x)
+passed_then x0 fault found x h = grind arith
 
 if-None : {T : Type 0} (b : Bool) (x : T) → (if b then None else Some x) ≡ None → b ≡ true
-if-None true x h = refl
-if-None false x h = absurd (Some≢None x h)
-
-pub and-true : (a b : Bool) → (a && b) ≡ true → (a ≡ true) × (b ≡ true)
-and-true true b h = (refl, h)
-and-true false b h = absurd (false≢true h)
+if-None x0 x h = grind arith
 
 -- Counts of declarations.
 
@@ -55,14 +36,20 @@ bound count most keeps before (item ∷ rest) lines h =
 pub at_most-None : (found greatest : ℕ) (which' : Which) → at_most found greatest which' ≡ None → found ≤ greatest
 at_most-None found greatest which' h = grind (arith, leb-true, if-None)
 
-pub option_or-None : (fault other : Option LineFault) → option_or fault other ≡ None → (fault ≡ None) × (other ≡ None)
-option_or-None None other h = (refl, h)
-option_or-None (Some fault) other h = absurd (Some≢None fault h)
+-- Names that lines declare are no more than may be, with one line more.
+names-keep : (names : List Item → List (List ℕ)) (most : ℕ)
+    → ((items behind : List Item) → names (items ++ behind) ≡ names items ++ names behind)
+    → (before : List Item) (item : Item) → length (names before) + length (names (item ∷ [])) ≤ most
+    → length (names (before ++ item ∷ [])) ≤ most
+names-keep names most append before item fits =
+    omega (arith, ap length (append before (item ∷ [])), length-append (names before) (names (item ∷ [])))
 
 globals-keep : (before : List Item) (item : Item) → limit_fault before item ≡ None → length (global_names before) ≤ 64
     → length (global_names (before ++ item ∷ [])) ≤ 64
-globals-keep before (Global name ty) within h = grind (arith, length-global_names-append, at_most-None)
-globals-keep before item within h = omega (arith, length-global_names-append before (item ∷ []))
+globals-keep before (Global name ty) within h =
+    names-keep global_names 64 global_names-append before _
+    (at_most-None (length (global_names before) + 1) 64 Which.Globals within)
+globals-keep before item within h = names-keep global_names 64 global_names-append before item (omega arith)
 
 pub length-global_names : (items : List Item) → IsWhole items → length (global_names items) ≤ 64
 length-global_names items program = bound (λ xs. length (global_names xs)) 64 globals-keep [] items program.lines
@@ -71,32 +58,21 @@ length-global_names items program = bound (λ xs. length (global_names xs)) 64 g
 types-keep : (before : List Item) (item : Item) → limit_fault before item ≡ None → length (type_names before) ≤ 64
     → length (type_names (before ++ item ∷ [])) ≤ 64
 types-keep before (TypeLine name words) within h =
-    let most = at_most-None (length (type_names before) + 1) 64 Which.Types
-    (option_or-None (at_most (length (type_names before) + 1) 64 Which.Types)
-    (at_most (length words) 4096 Which.Words) within).0 in
-    omega (
-      arith,
-      ap length (type_names-append before (TypeLine name words ∷ [])),
-      length-append (type_names before) (name ∷ []),
-      most,
-    )
-types-keep before item within h =
-    omega (arith, ap length (type_names-append before (item ∷ [])), length-append (type_names before) [])
+    names-keep type_names 64 type_names-append before _ (at_most-None (length (type_names before) + 1) 64 Which.Types
+    (or-None (at_most (length (type_names before) + 1) 64 Which.Types)
+    (at_most (length words) 4096 Which.Words) within).0)
+types-keep before item within h = names-keep type_names 64 type_names-append before item (omega arith)
 
 pub length-type_names : (items : List Item) → IsWhole items → length (type_names items) ≤ 64
 length-type_names items program = bound (λ xs. length (type_names xs)) 64 types-keep [] items program.lines
     (omega arith)
 
-length-script_names-append : (items behind : List Item)
-    → length (script_names (items ++ behind)) ≡ length (script_names items) + length (script_names behind)
-length-script_names-append [] behind = omega arith
-length-script_names-append (Script name ∷ items) behind = omega (arith, length-script_names-append items behind)
-length-script_names-append (item ∷ items) behind = length-script_names-append items behind
-
 scripts-keep : (before : List Item) (item : Item) → limit_fault before item ≡ None → length (script_names before) ≤ 16
     → length (script_names (before ++ item ∷ [])) ≤ 16
-scripts-keep before (Script name) within h = grind (arith, length-script_names-append, at_most-None)
-scripts-keep before item within h = omega (arith, length-script_names-append before (item ∷ []))
+scripts-keep before (Script name) within h =
+    names-keep script_names 16 script_names-append before _
+    (at_most-None (length (script_names before) + 1) 16 Which.Scripts within)
+scripts-keep before item within h = names-keep script_names 16 script_names-append before item (omega arith)
 
 some_script : (items : List Item) → has_script items ≡ true → 1 ≤ length (script_names items)
 some_script [] has = absurd (false≢true has)
@@ -106,15 +82,14 @@ some_script (item ∷ items) has = some_script items has
 pub length-script_names : (items : List Item) → IsWhole items → IsBetween 1 16 (length (script_names items))
 length-script_names items program = (
   some_script items program.script,
-  bound (λ xs. length (script_names xs)) 16 scripts-keep [] items program.lines
-      (omega arith),
+  bound (λ xs. length (script_names xs)) 16 scripts-keep [] items program.lines (omega arith),
 )
 
 -- The pages of the heap.
 
-within-None : (least found greatest : ℕ) (which' : Which) → within least found greatest which' ≡ None
+pub within-None : (least found greatest : ℕ) (which' : Which) → within least found greatest which' ≡ None
     → IsBetween least greatest found
-within-None least found greatest which' h = grind (arith, and-true, if-None, leb-true)
+within-None least found greatest which' h = grind (arith, and_parts, if-None, leb-true)
 
 pub record IsHeapLine (item : Item) : Type 0 where
   pub pages : ℕ
@@ -123,16 +98,14 @@ pub record IsHeapLine (item : Item) : Type 0 where
 
 two_numbers : (pages resident : Result ℕ LineFault) (item : Item)
     → (pages >>= (λ p. resident >>= (λ r. Ok (Heap p r)))) ≡ Ok item → IsHeapLine item
-two_numbers (Ok p) (Ok r) item h = record { pages = p; resident = r; is = sym (Ok-injective (Heap p r) item h) }
-two_numbers x0 resident item h = cc
+two_numbers x0 resident item h = grind arith
 
 item_from-heap : (a b : List ℕ) (item : Item) → item_from Keyword.Heap (a ∷ b ∷ []) ≡ Ok item → IsHeapLine item
 unfolding item_from
 item_from-heap a b item h = two_numbers (number a) (number b) item h
 
 pub heap_line-item : (words : List (List ℕ)) (item : Item) → heap_line words ≡ Ok item → IsHeapLine item
-heap_line-item (word ∷ a ∷ b ∷ []) item h = grind (arith, item_from-heap, if-Ok)
-heap_line-item words item h = absurd (Err≢Ok (Text Header) item h)
+heap_line-item words item h = grind (arith, item_from-heap, passed_then)
 
 pub record IsHeapWithin (items : List Item) : Type 0 where
   pub pages : IsBetween 1 4096 (pages_of items)
@@ -140,7 +113,7 @@ pub record IsHeapWithin (items : List Item) : Type 0 where
 
 heap_first : (item : Item) (items : List Item) → limit_fault [] item ≡ None → IsHeapLine item
     → IsHeapWithin (item ∷ items)
-heap_first item items h heap = grind (arith, option_or-None, within-None)
+heap_first item items h heap = grind (arith, or-None, within-None)
 
 pub heap_within : (items : List Item) → IsWhole items → IsHeapWithin items
 heap_within [] program = absurd (false≢true program.script)

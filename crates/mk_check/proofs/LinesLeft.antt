@@ -9,7 +9,6 @@ use Rattle.mk_check.proofs.Vocabulary.{take_answer, take_answers, true, with_ans
 use Rattle.mk_check.proofs.Vocabulary.{◌++◌, ◌+◌, ◌==◌, ◌∙◌, ◌∷◌, ◌≡◌}
 use Rattle.mk_check.specs.Blocks.{AllFrom, AllLines, AllPlaced, followed_by}
 use Rattle.mk_check.specs.Feed.{number_in, run_line, run_rounds, then_run}
-use Rattle.mk_script.specs.declared.items.Item.TheVariants.{Else, End, If, Repeat}
 
 module _ (P : ℕ → Item → Type 0) where
   -- The blocks of a script.
@@ -21,22 +20,12 @@ module _ (P : ℕ → Item → Type 0) where
   AllPlacedParts-with_line : (line : ℕ) (item : Item) (parts : List Part) → P line item → AllPlacedParts parts
       → AllPlacedParts (with_line line item parts)
   unfolding AllPlacedParts
-  AllPlacedParts-with_line line item [] here h = tt
-  AllPlacedParts-with_line line item (part ∷ parts) here h = ((here, h.0), h.1, h.2)
+  AllPlacedParts-with_line line item x2 here h = grind arith
 
   AllPlacedParts-with_item : (line : ℕ) (item : Item) (parts : List Part) → P line item → AllPlacedParts parts
       → AllPlacedParts (with_item line item parts)
   unfolding AllPlacedParts
-  AllPlacedParts-with_item line (Repeat rounds) [] here h = tt
-  AllPlacedParts-with_item line (Repeat rounds) (body ∷ []) here h = tt
-  AllPlacedParts-with_item line (Repeat rounds) (body ∷ part ∷ parts) here h = ((h.0, h.2.0), h.2.1, h.2.2)
-  AllPlacedParts-with_item line (If number) [] here h = tt
-  AllPlacedParts-with_item line (If number) (first ∷ []) here h = tt
-  AllPlacedParts-with_item line (If number) (first ∷ part ∷ parts) here h = ((h.0, h.1, h.2.0), h.2.1, h.2.2)
-  AllPlacedParts-with_item line Else [] here h = tt
-  AllPlacedParts-with_item line Else (second ∷ parts) here h = (tt, h.0, h.2)
-  AllPlacedParts-with_item line End parts here h = (tt, tt, h)
-  AllPlacedParts-with_item line item parts here h = AllPlacedParts-with_line line item parts here h
+  AllPlacedParts-with_item line item parts here h = grind arith
 
   AllPlacedParts-parts_from : (line : ℕ) (items : List Item) → AllFrom P line items
       → AllPlacedParts (parts_from line items)
@@ -48,8 +37,7 @@ module _ (P : ℕ → Item → Type 0) where
 
   AllPlaced-outermost_blocks : (parts : List Part) → AllPlacedParts parts → AllPlaced P (outermost_blocks parts)
   unfolding AllPlacedParts
-  AllPlaced-outermost_blocks [] h = tt
-  AllPlaced-outermost_blocks (part ∷ parts) h = h.0
+  AllPlaced-outermost_blocks x0 h = grind arith
 
   pub placed_of_script : (line : ℕ) (items : List Item) → AllFrom P line items → AllPlaced P (blocks_from line items)
   placed_of_script line items h =
@@ -64,8 +52,7 @@ module _ (P : ℕ → Item → Type 0) where
   AllPlaced-followed_by (Choice number first second rest) b h more = (h.0, h.1, AllPlaced-followed_by rest b h.2 more)
 
   AllPlaced-then_run : (fed : Fed) (go : Fed → Fed) (rest : Blocks) → AllPlaced P fed.left
-      → ((f : Fed) → AllPlaced P (go f).left) → AllPlaced P rest
-      → AllPlaced P (then_run fed go rest).left
+      → ((f : Fed) → AllPlaced P (go f).left) → AllPlaced P rest → AllPlaced P (then_run fed go rest).left
   AllPlaced-then_run fed go rest h goes behind = by_test (is_end_of_block fed.left)
     where
       by_test : (t : Bool) → AllPlaced P (if t then go fed else record fed { left = followed_by fed.left rest }).left
@@ -73,8 +60,7 @@ module _ (P : ℕ → Item → Type 0) where
       by_test false = AllPlaced-followed_by fed.left rest h behind
 
   AllPlaced-run_rounds : (rounds : ℕ) (body : Blocks) (go : Fed → Fed) → AllPlaced P body
-      → ((f : Fed) → AllPlaced P (go f).left)
-      → (fed : Fed) → AllPlaced P (run_rounds rounds body go fed).left
+      → ((f : Fed) → AllPlaced P (go f).left) → (fed : Fed) → AllPlaced P (run_rounds rounds body go fed).left
   AllPlaced-run_rounds zero body go inside goes fed = tt
   AllPlaced-run_rounds (suc more) body go inside goes fed =
       AllPlaced-then_run (go fed) (run_rounds more body go) (Rounds more body Done) (goes fed)
@@ -88,28 +74,24 @@ module _ (P : ℕ → Item → Type 0) where
       by_test : (t : Bool) → AllPlaced P (run scope rest (run_line scope fed item)).left
           → AllPlaced P (if t then record fed { left = Line line item rest }
           else run scope rest (run_line scope fed item)).left
-      by_test true ran = h
-      by_test false ran = ran
+      by_test x0 ran = grind arith
   AllPlaced-run scope (Rounds rounds body rest) h fed =
       AllPlaced-then_run (run_rounds rounds body (run scope body) fed) (run scope rest) rest
       (AllPlaced-run_rounds rounds body (run scope body) h.0 (AllPlaced-run scope body h.0) fed)
       (AllPlaced-run scope rest h.1) h.1
   AllPlaced-run scope (Choice number first second rest) h fed =
       AllPlaced-then_run (if number_in scope fed number == 0 then run scope second fed else run scope first fed)
-      (run scope rest) rest
-      (by_test (number_in scope fed number == 0) (AllPlaced-run scope first h.0 fed)
+      (run scope rest) rest (by_test (number_in scope fed number == 0) (AllPlaced-run scope first h.0 fed)
       (AllPlaced-run scope second h.1 fed)) (AllPlaced-run scope rest h.2) h.2
     where
       by_test : (t : Bool) → AllPlaced P (run scope first fed).left → AllPlaced P (run scope second fed).left
           → AllPlaced P (if t then run scope second fed else run scope first fed).left
-      by_test true f g = g
-      by_test false f g = f
+      by_test x0 f g = grind arith
 
   -- What answers leave.
 
   AllPlaced-take_answer : (scope : Scope) (fed : Fed) (left : Blocks) (a : Answer) → AllPlaced P left
-      → AllPlaced P fed.left
-      → AllPlaced P (take_answer scope fed left a).left
+      → AllPlaced P fed.left → AllPlaced P (take_answer scope fed left a).left
   AllPlaced-take_answer scope fed (Line line item rest) a h now =
       AllPlaced-run scope rest h.1 (with_answer scope (note fed (op_of scope fed item) line a) item a)
   AllPlaced-take_answer scope fed _ a h now = now
@@ -123,8 +105,7 @@ module _ (P : ℕ → Item → Type 0) where
 
   -- Whatever holds of each line of a script holds of each that is left.
   pub placed_left : (program : List Item) (k : ℕ) (answers : List Answer)
-      → AllFrom P (script_of program k).line (script_of program k).items
-      → AllPlaced P (feed program k answers).left
+      → AllFrom P (script_of program k).line (script_of program k).items → AllPlaced P (feed program k answers).left
   placed_left program k answers h =
       let script = script_of program k in
       let scope = script_scope program k in
@@ -142,10 +123,8 @@ pub record IsAtLine (P : ℕ → Item → Type 0) (scope : Scope) (fed : Fed) (o
   pub op : op_of scope fed item ≡ Some o
 
 line_of_op : (P : ℕ → Item → Type 0) (scope : Scope) (fed : Fed) (left : Blocks) (o : Op) → fed.left ≡ left
-    → AllPlaced P left → first_op scope fed left ≡ Some o
-    → IsAtLine P scope fed o
-line_of_op P scope fed (Line line item rest) o is h e = grind arith
-line_of_op _ scope fed _ o is h e = cc
+    → AllPlaced P left → first_op scope fed left ≡ Some o → IsAtLine P scope fed o
+line_of_op x0 scope fed x3 o is h e = grind arith
 
 -- An operation that is asked for is that of a line of the script.
 pub next_placed : (P : ℕ → Item → Type 0) (program : List Item) (k : ℕ) (answers : List Answer) (o : Op)
@@ -176,8 +155,7 @@ pub record StandsIn (script : ScriptText) (line : ℕ) (item : Item) : Type 0 wh
   pub at : line ≡ script.line + length before
 
 stand_from : (script : ScriptText) (before items : List Item) (line : ℕ) → script.items ≡ before ++ items
-    → line ≡ script.line + length before
-    → AllFrom (StandsIn script) line items
+    → line ≡ script.line + length before → AllFrom (StandsIn script) line items
 stand_from script before [] line is at = tt
 stand_from script before (item ∷ items) line is at = (
   record { before = before; behind = items; items = is; at = at },

@@ -1,52 +1,40 @@
 -- What names stand for with one more line.
-use Rattle.std.proofs.{Common.Bor, Common.cond, lemmas.Bool.cases_Bool, lemmas.List.Sums.fold-append}
+use Rattle.std.proofs.{Common.Bor, Common.cond, lemmas.Bool.cases_Bool}
 use Rattle.std.specs.{Cmp.Lexicographic.nat_list_eq_equiv, Option.option_copied}
-use Rattle.mk_check.proofs.Vocabulary.{At, Bool, Err, Item, List, None, Ok, OnOk, Option, Result, Some, TypeWord, ℕ, ap}
-use Rattle.mk_check.proofs.Vocabulary.{append-nil, bytes_eq, bytes_eq-Decides, false, false≢true, first_at, global_type}
-use Rattle.mk_check.proofs.Vocabulary.{if◌then◌else◌, is_script, is_some, number_names, option_or, pointer_at, refl}
-use Rattle.mk_check.proofs.Vocabulary.{subst, sym, this_script, true, type_words, [], ⊎_elim, ◌++◌, ◌∙◌, ◌∷◌, ◌≡◌}
-use Rattle.mk_check.specs.{Lookups.lines_behind, declared.lookups.PointerRegister.PointerRegister}
+use Rattle.mk_check.proofs.Vocabulary.{At, Bool, Item, List, None, OnOk, Option, Result, Some, TypeWord, ℕ, ap}
+use Rattle.mk_check.proofs.Vocabulary.{append-nil, arith, bytes_eq, bytes_eq-Decides, false, first_at, global_type}
+use Rattle.mk_check.proofs.Vocabulary.{if◌then◌else◌, is_script, is_some, number_names, number_names-append, option_or}
+use Rattle.mk_check.proofs.Vocabulary.{pointer_at, refl, subst, sym, true, type_words, [], ⊎_elim, ◌++◌, ◌∙◌, ◌∷◌, ◌≡◌}
+use Rattle.mk_check.specs.declared.lookups.PointerRegister.{PointerRegister}
 use Rattle.mk_script.specs.declared.items.Item.TheVariants.{Global, Num, Ptr, Script, TypeLine}
 
 -- no value, by its test
 pub None-from_is_some : {X : Type 0} (o : Option X) → is_some o ≡ false → o ≡ None
-None-from_is_some None absent = refl
-None-from_is_some (Some x) absent = absurd (false≢true (sym absent))
+None-from_is_some x0 absent = grind arith
 
 pub option_or-none : {X : Type 0} (o : Option X) → option_or o None ≡ o
-option_or-none None = refl
-option_or-none (Some x) = refl
+option_or-none x0 = grind arith
 
 if-or : {X : Type 0} (b : Bool) (x : X) (o p : Option X)
     → (if b then Some x else option_or o p) ≡ option_or (if b then Some x else o) p
-if-or true x o p = refl
-if-or false x o p = refl
+if-or x0 x o p = grind arith
 
 module _ {X : Type 0} (old new : List ℕ → Option X) (name : List ℕ) (value : X) (absent : old name ≡ None)
     (updated : (other : List ℕ) → new other ≡ cond (bytes_eq name other) (Some value) (old other)) where
-  at_name : (other : List ℕ) → bytes_eq name other ≡ true
-      → new other ≡ option_or (old other) (if bytes_eq other name then Some value else None)
-  at_name other same =
-      let none : old other ≡ None = subst (λ n. old n ≡ None) ((bytes_eq-Decides name other).0 same) absent in
-      let back : bytes_eq other name ≡ true = nat_list_eq_equiv.symm other name ∙ same in
-      updated other ∙ rw (same, none, back) refl
-
-  apart : (other : List ℕ) → bytes_eq name other ≡ false
-      → new other ≡ option_or (old other) (if bytes_eq other name then Some value else None)
-  apart other differs =
-      let back : bytes_eq other name ≡ false = nat_list_eq_equiv.symm other name ∙ differs in
-      updated other ∙ rw (differs, back) (sym (option_or-none (old other)))
-
   -- a value is put for a name that has none
   pub put_first : (other : List ℕ)
       → new other ≡ option_or (old other) (if bytes_eq other name then Some value else None)
-  put_first other = ⊎_elim (at_name other) (apart other) (cases_Bool (bytes_eq name other))
+  put_first other = ⊎_elim (λ same.
+      let none : old other ≡ None = subst (λ n. old n ≡ None) ((bytes_eq-Decides name other).0 same) absent in
+      let back : bytes_eq other name ≡ true = nat_list_eq_equiv.symm other name ∙ same in
+      updated other ∙ rw (same, none, back) refl) (λ differs.
+      let back : bytes_eq other name ≡ false = nat_list_eq_equiv.symm other name ∙ differs in
+      updated other ∙ rw (differs, back) (sym (option_or-none (old other)))) (cases_Bool (bytes_eq name other))
 
 copied-or : {X : Type 0} (o : Option (Bor X)) (b : Bool) (x : Bor X)
     → option_copied (option_or o (if b then Some x else None))
     ≡ option_or (option_copied o) (if b then Some x.now else None)
-copied-or None true x = refl
-copied-or x0 b x = cc
+copied-or x0 b x = grind arith
 
 -- a line that declares a name, where the names before are known
 pub known-more : {X : Type 0} (old new : List ℕ → Option (Bor X)) (before behind : List ℕ
@@ -54,8 +42,7 @@ pub known-more : {X : Type 0} (old new : List ℕ → Option (Bor X)) (before be
     → ((other : List ℕ) → new other ≡ option_or (old other) (if bytes_eq other name then Some value else None))
     → ((other : List ℕ) → option_copied (old other) ≡ before other)
     → ((other : List ℕ) → behind other ≡ option_or (before other) (if bytes_eq other name then Some value.now
-    else None))
-    → (other : List ℕ) → option_copied (new other) ≡ behind other
+    else None)) → (other : List ℕ) → option_copied (new other) ≡ behind other
 known-more old new before behind name value adds known more other =
     cc (adds other, copied-or (old other) (bytes_eq other name) value, known other, more other)
 
@@ -90,53 +77,28 @@ pointer_at-append name (Ptr other at ∷ items) behind =
     (if-or (bytes_eq name other) at (pointer_at name items) (pointer_at name behind))
 pointer_at-append name (item ∷ items) behind = pointer_at-append name items behind
 
-pub number_names-append : (items behind : List Item)
-    → number_names (items ++ behind) ≡ number_names items ++ number_names behind
-number_names-append [] behind = refl
-number_names-append (Num name ∷ items) behind = ap (λ names. name ∷ names) (number_names-append items behind)
-number_names-append (item ∷ items) behind = number_names-append items behind
-
 -- Other lines declare no such name.
 
 none-of : {X : Type 0} (all before behind : Option X) → all ≡ option_or before behind → behind ≡ None → all ≡ before
 none-of all before behind split none = split ∙ ap (option_or before) none ∙ option_or-none before
 
-type_words-other : (name : List ℕ) (item : Item)
-    → ((other : List ℕ) (words : List TypeWord) → item ≡ TypeLine other words → ⊥) → type_words name (item ∷ []) ≡ None
-type_words-other name (TypeLine other words) differs = absurd (differs other words refl)
-type_words-other name item differs = refl
-
 pub type_words-push_other : (name : List ℕ) (items : List Item) (item : Item)
     → ((other : List ℕ) (words : List TypeWord) → item ≡ TypeLine other words → ⊥)
     → type_words name (items ++ item ∷ []) ≡ type_words name items
-type_words-push_other name items item differs =
-    none-of _ _ _ (type_words-append name items (item ∷ [])) (type_words-other name item differs)
-
-global_type-other : (name : List ℕ) (item : Item) → ((other ty : List ℕ) → item ≡ Global other ty → ⊥)
-    → global_type name (item ∷ []) ≡ None
-global_type-other name (Global other ty) differs = absurd (differs other ty refl)
-global_type-other name item differs = refl
+type_words-push_other name items item differs = none-of _ _ _ (type_words-append name items (item ∷ [])) (grind arith)
 
 pub global_type-push_other : (name : List ℕ) (items : List Item) (item : Item)
     → ((other ty : List ℕ) → item ≡ Global other ty → ⊥)
     → global_type name (items ++ item ∷ []) ≡ global_type name items
-global_type-push_other name items item differs =
-    none-of _ _ _ (global_type-append name items (item ∷ [])) (global_type-other name item differs)
-
-pointer_at-other : (name : List ℕ) (item : Item) → ((other : List ℕ) (at : At) → item ≡ Ptr other at → ⊥)
-    → pointer_at name (item ∷ []) ≡ None
-pointer_at-other name (Ptr other at) differs = absurd (differs other at refl)
-pointer_at-other name item differs = refl
+global_type-push_other name items item differs = none-of _ _ _ (global_type-append name items (item ∷ [])) (grind arith)
 
 pub pointer_at-push_other : (name : List ℕ) (items : List Item) (item : Item)
     → ((other : List ℕ) (at : At) → item ≡ Ptr other at → ⊥)
     → pointer_at name (items ++ item ∷ []) ≡ pointer_at name items
-pointer_at-push_other name items item differs =
-    none-of _ _ _ (pointer_at-append name items (item ∷ [])) (pointer_at-other name item differs)
+pointer_at-push_other name items item differs = none-of _ _ _ (pointer_at-append name items (item ∷ [])) (grind arith)
 
 number_names-other : (item : Item) → ((other : List ℕ) → item ≡ Num other → ⊥) → number_names (item ∷ []) ≡ []
-number_names-other (Num other) differs = absurd (differs other refl)
-number_names-other item differs = refl
+number_names-other item differs = grind arith
 
 pub number_names-push_other : (items : List Item) (item : Item) → ((other : List ℕ) → item ≡ Num other → ⊥)
     → number_names (items ++ item ∷ []) ≡ number_names items
@@ -144,14 +106,7 @@ number_names-push_other items item differs =
     cc (number_names-append items (item ∷ []), number_names-other item differs, append-nil (number_names items))
 
 pub is_script-other : (item : Item) → ((name : List ℕ) → item ≡ Script name → ⊥) → is_script item ≡ false
-is_script-other (Script name) differs = absurd (differs name refl)
-is_script-other item differs = refl
+is_script-other item differs = grind arith
 
 pub OnOk-map : {T E : Type 0} {P Q : Type 0} (r : Result T E) → (P → Q) → OnOk r P → OnOk r Q
-OnOk-map (Ok x) f p = f p
-OnOk-map (Err e) f p = tt
-
-pub this_script-push : (items : List Item) (item : Item)
-    → this_script (items ++ item ∷ []) ≡ lines_behind (this_script items) item
-this_script-push items item = fold-append (λ lines item. if is_script item then [] else lines ++ item ∷ []) [] items
-    (item ∷ [])
+OnOk-map x0 f p = grind arith

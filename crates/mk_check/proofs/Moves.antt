@@ -16,8 +16,7 @@ pub behind_frames_push : (built : List Steps) (frames : List Frame) (f : Frame)
 behind_frames_push built frames f = fold_push (frame_steps built) Done frames f
 
 pub FramesAreWithin_push : (count : ℕ) (frames : List Frame) (f : Frame) → FramesAreWithin count frames
-    → FrameIsWithin count f
-    → FramesAreWithin count (frames ++ f ∷ [])
+    → FrameIsWithin count f → FramesAreWithin count (frames ++ f ∷ [])
 FramesAreWithin_push count [] f w here = (here, tt)
 FramesAreWithin_push count (g ∷ frames) f w here = (w.0, FramesAreWithin_push count frames f w.1 here)
 
@@ -60,19 +59,16 @@ module _ (nodes : List Node) where
       → stop_of (left_in nodes (place_in_rounds p rounds body next)) (kept_in (place_in_rounds p rounds body next))
       ≡ stop_of (Rounds rounds (steps_at (trees nodes) body)
       (then_steps (steps_at (trees nodes) next) (behind_frames (trees nodes) p.frames))) (kept_in p)
-  entered_runs p zero body next = refl
-  entered_runs p (suc more) body next = grind (arith, behind_frames_push, stop_of-round)
+  entered_runs p x1 body next = grind (arith, behind_frames_push, stop_of-round)
 
-  entered_nearer : (p : Place) (rounds body next : ℕ)
-      → work_in nodes (place_in_rounds p rounds body next)
+  entered_nearer : (p : Place) (rounds body next : ℕ) → work_in nodes (place_in_rounds p rounds body next)
       < 2 * work_of (Rounds rounds (steps_at (trees nodes) body)
       (then_steps (steps_at (trees nodes) next) (behind_frames (trees nodes) p.frames))) + length p.frames
   entered_nearer p zero body next = omega arith
   entered_nearer p (suc more) body next = grind (arith, behind_frames_push, work_of-then_steps, length_push)
 
   entered_within : (p : Place) (rounds body next : ℕ) → FramesAreWithin (length nodes) p.frames → body < length nodes
-      → next < length nodes
-      → PlaceIsWithin (length nodes) (place_in_rounds p rounds body next)
+      → next < length nodes → PlaceIsWithin (length nodes) (place_in_rounds p rounds body next)
   entered_within p zero body next w b n = record { at = n; frames = w }
   entered_within p (suc more) body next w b n =
       record { at = b; frames = FramesAreWithin_push (length nodes) p.frames (Frame.Rounds more body next) w (b, n) }
@@ -84,22 +80,7 @@ module _ (nodes : List Node) where
   entered_fits p (suc more) body next w f =
       let longer = length_push p.frames (Frame.Rounds more body next) in
       let deep = f.0 in
-      record {
-        here = omega arith;
-        frames = FramesFit_push (trees nodes) p.frames (Frame.Rounds more body next) w f;
-      }
-
-  -- a branch begins
-  chosen_fits : (p : Place) (at next : ℕ) → FramesFit (trees nodes) 0 p.frames
-      → length p.frames + 1 + depth_of (steps_at (trees nodes) at) ≤ 32
-      → length p.frames + depth_of (steps_at (trees nodes) next) ≤ 32
-      → PlaceFits nodes (record p { at = at; frames = p.frames ++ Frame.Branch next ∷ [] })
-  chosen_fits p at next w inside behind =
-      let longer = length_push p.frames (Frame.Branch next) in
-      record {
-        here = omega arith;
-        frames = FramesFit_push (trees nodes) p.frames (Frame.Branch next) w behind;
-      }
+      record { here = omega arith; frames = FramesFit_push (trees nodes) p.frames (Frame.Rounds more body next) w f }
 
   -- a node's steps are as deep as they are
   depth_here : {p : Place} {n : Node} → IsAt nodes p n
@@ -145,14 +126,7 @@ module _ (nodes : List Node) where
       → MovesOn nodes p (with_kept (record p { at = next }) (after_line instruction (kept_in p)))
   line_goes_on {p} {line} {instruction} {next} at none =
       let here = unfolded at in
-      let rest = then_steps (steps_at (trees nodes) next) (behind_frames (trees nodes) p.frames) in
-      let stop : Stopped = record { left = Line line instruction rest; kept = kept_in p } in
-      record {
-        within = record { at = below_length at; frames = at.within.frames };
-        run = cc (here, none);
-        nearer = omega (arith, ap work_of here);
-        fits = λ f. let behind = line_fits at f in record { here = behind.here; frames = behind.frames };
-      }
+      grind (arith, below_length, line_fits, Line)
 
   pub rounds_go_on : {p : Place} {rounds body next : ℕ} → IsAt nodes p (Node.Rounds rounds body next)
       → MovesOn nodes p (place_in_rounds p rounds body next)
@@ -175,8 +149,7 @@ module _ (nodes : List Node) where
       → work_of (steps_at (trees nodes) branch)
       ≤ max (work_of (steps_at (trees nodes) first)) (work_of (steps_at (trees nodes) second))
       → depth_of (steps_at (trees nodes) branch)
-      ≤ max (depth_of (steps_at (trees nodes) first)) (depth_of (steps_at (trees nodes) second))
-      → ((rest : Steps)
+      ≤ max (depth_of (steps_at (trees nodes) first)) (depth_of (steps_at (trees nodes) second)) → ((rest : Steps)
       → stop_of (Choice number (steps_at (trees nodes) first) (steps_at (trees nodes) second) rest) (kept_in p)
       ≡ stop_of (then_steps (steps_at (trees nodes) branch) rest) (kept_in p))
       → MovesOn nodes p (record p { at = branch; frames = p.frames ++ Frame.Branch next ∷ [] })
@@ -201,11 +174,14 @@ module _ (nodes : List Node) where
         fits = λ f.
             let deep = depth_here at in
             let around = f.here in
-            chosen_fits p branch next f.frames (omega arith) (omega arith);
+            let longer = length_push p.frames (Frame.Branch next) in
+            record {
+              here = omega arith;
+              frames = FramesFit_push (trees nodes) p.frames (Frame.Branch next) f.frames (omega arith);
+            };
       }
 
-  pub choice_goes_on : {p : Place} {number first second next : ℕ}
-      → IsAt nodes p (Node.Choice number first second next)
+  pub choice_goes_on : {p : Place} {number first second next : ℕ} → IsAt nodes p (Node.Choice number first second next)
       → MovesOn nodes p (place_in_branch p number first second next)
   choice_goes_on {p} {number} {first} {second} {next} at = by_test (slice_index p.numbers number == 0) refl
     where

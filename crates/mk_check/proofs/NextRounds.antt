@@ -21,8 +21,7 @@ pub round_begins : (nodes : List Node) (p t : Place) (rounds less body next : �
 round_begins nodes p t rounds less body next tree w e some one fewer asks is =
     let moves = end_goes_on nodes (is_at tree w e) (round_left p t rounds less body next some one fewer is) in
     let at : t.at ≡ body = ap (λ (x : Place). x.at) is in
-    let stopped =
-    stopped_here nodes t (node_at nodes t.at) tree moves.within refl
+    let stopped = stopped_here nodes t (node_at nodes t.at) tree moves.within refl
     (asks_so t.numbers (node_at nodes t.at) (ap (λ (b : ℕ). asks_at (node_at nodes b)) at ∙ asks)) in
     record {
       within = stopped.within;

@@ -1,17 +1,17 @@
 -- Numbers of types, and tables of types and globals, as lines are read.
 use Rattle.std.{proofs.Common.take-append-drop, specs.Borrow.Bor, specs.HashMap.HashMap}
 use Rattle.mk_check.proofs.Vocabulary.{Bool, Item, List, None, Option, Some, TypeWord, ℕ, ap, arith, bytes_eq, drop}
-use Rattle.mk_check.proofs.Vocabulary.{drop_more, false, get_or, global_names, globals_among, if◌then◌else◌, kind_of}
+use Rattle.mk_check.proofs.Vocabulary.{drop_more, get_or, global_names, globals_among, if◌then◌else◌, kind_of}
 use Rattle.mk_check.proofs.Vocabulary.{kinds_among, length, length-append, map, number_of_name, option_map, option_or}
-use Rattle.mk_check.proofs.Vocabulary.{refl, suc, sym, take, take_more, true, type_names, unwrap_or, [], ◌++◌, ◌+◌, ◌<◌}
-use Rattle.mk_check.proofs.Vocabulary.{◌∙◌, ◌∷◌, ◌≡◌}
+use Rattle.mk_check.proofs.Vocabulary.{refl, suc, sym, take, take_more, type_names, unwrap_or, [], ◌++◌, ◌+◌, ◌<◌, ◌∙◌}
+use Rattle.mk_check.proofs.Vocabulary.{◌∷◌, ◌≡◌}
 use Rattle.mk_check.specs.{Lookups.AddsFirst, Numbers.AreNumbers, Numbers.number_among}
+use Rattle.mk_script.proofs.Pushed.{global_names-append}
 use Rattle.mk_script.specs.declared.items.Item.TheVariants.{Global, TypeLine}
 
 place-step : (b : Bool) (o : Option ℕ) (n : ℕ)
     → (if b then 0 else unwrap_or o n + 1) ≡ unwrap_or (if b then Some 0 else option_map (λ place. place + 1) o) (suc n)
-place-step false None n = omega arith
-place-step _ _ n = refl
+place-step x0 x1 n = grind arith
 
 pub number_of_name-among : (name : List ℕ) (names : List (List ℕ))
     → number_of_name name names ≡ unwrap_or (number_among name names) (length names)
@@ -19,28 +19,12 @@ number_of_name-among name [] = refl
 number_of_name-among name (other ∷ others) =
     cc (number_of_name-among name others, place-step (bytes_eq name other) (number_among name others) (length others))
 
-number_among-step : (b c : Bool) (o : Option ℕ) (n : ℕ)
-    → (if b then Some 0 else option_map (λ place. place + 1) (option_or o (if c then Some n else None)))
-    ≡ option_or (if b then Some 0 else option_map (λ place. place + 1) o) (if c then Some (suc n) else None)
-number_among-step true c o n = refl
-number_among-step false true None n = ap Some (omega arith)
-number_among-step false false None n = refl
-number_among-step false c (Some place) n = refl
-
-pub number_among-push : (name : List ℕ) (names : List (List ℕ)) (last : List ℕ)
-    → number_among name (names ++ last ∷ [])
+pub number_among-push : (name : List ℕ) (names : List (List ℕ)) (last : List ℕ) → number_among name (names ++ last ∷ [])
     ≡ option_or (number_among name names) (if bytes_eq name last then Some (length names) else None)
 number_among-push name [] last = refl
 number_among-push name (other ∷ others) last =
     ap (λ place. if bytes_eq name other then Some 0 else option_map (λ n. n + 1) place)
-    (number_among-push name others last)
-    ∙ number_among-step (bytes_eq name other) (bytes_eq name last) (number_among name others) (length others)
-
-pub type_names-append : (items behind : List Item)
-    → type_names (items ++ behind) ≡ type_names items ++ type_names behind
-type_names-append [] behind = refl
-type_names-append (TypeLine name words ∷ items) behind = ap (λ names. name ∷ names) (type_names-append items behind)
-type_names-append (item ∷ items) behind = type_names-append items behind
+    (number_among-push name others last) ∙ (grind arith)
 
 pub type_names-push_other : (items : List Item) (item : Item)
     → ((name : List ℕ) (words : List TypeWord) → item ≡ TypeLine name words → ⊥)
@@ -93,13 +77,6 @@ module _ (types : List (List ℕ)) where
   length-kinds_among (TypeLine name words ∷ items) = ap suc (length-kinds_among items)
   length-kinds_among (item ∷ items) = length-kinds_among items
 
--- names of globals are no more with more lines
-pub length-global_names-append : (items behind : List Item)
-    → length (global_names (items ++ behind)) ≡ length (global_names items) + length (global_names behind)
-length-global_names-append [] behind = omega arith
-length-global_names-append (Global name ty ∷ items) behind = omega (arith, length-global_names-append items behind)
-length-global_names-append (item ∷ items) behind = length-global_names-append items behind
-
 -- one more line
 module _ (items : List Item) (i : ℕ) (item : Item) (within : i < length items) (read : item ≡ get_or items i item) where
   pub take-step : take (i + 1) items ≡ take i items ++ item ∷ []
@@ -109,13 +86,18 @@ module _ (items : List Item) (i : ℕ) (item : Item) (within : i < length items)
   pub length-global_names-take : (name ty : List ℕ) → item ≡ Global name ty
       → length (global_names (take i items)) < length (global_names items)
   length-global_names-take name ty is =
-      let parts : items ≡ take i items ++ item ∷ drop (i + 1) items =
-      sym (take-append-drop i items)
+      let parts : items ≡ take i items ++ item ∷ drop (i + 1) items = sym (take-append-drop i items)
       ∙ ap (λ rest. take i items ++ rest) (drop_more items i item within
       ∙ ap (λ first. first ∷ drop (i + 1) items) (sym read)) in
       let split = ap (λ xs. length (global_names xs)) (parts
       ∙ ap (λ first. take i items ++ first ∷ drop (i + 1) items) is) in
-      omega (arith, split, length-global_names-append (take i items) (Global name ty ∷ drop (i + 1) items))
+      let rest = Global name ty ∷ drop (i + 1) items in
+      omega (
+        arith,
+        split,
+        ap length (global_names-append (take i items) rest),
+        length-append (global_names (take i items)) (global_names rest),
+      )
 
 -- one more name
 pub AreNumbers-push : {S : Type 0} (old new : HashMap (Bor (List ℕ)) ℕ S) (count : ℕ) (names : List (List ℕ))

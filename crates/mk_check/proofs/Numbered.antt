@@ -1,11 +1,10 @@
 -- A script with numbers for its names does what the script does.
 use Rattle.mk_check.proofs.Vocabulary.{Answer, Blocks, Bool, Choice, Done, Fed, Item, KeptState, Line, List, Op, Option}
-use Rattle.mk_check.proofs.Vocabulary.{Rounds, Scope, Steps, Stopped, ℕ, after_answer, after_line, ap, false}
-use Rattle.mk_check.proofs.Vocabulary.{if◌then◌else◌, instruction_of, is_some, number_of_name, numbered, op_asked}
-use Rattle.mk_check.proofs.Vocabulary.{op_of, refl, run, stop_behind, stop_of, stop_of_rounds, suc, then_steps, true}
-use Rattle.mk_check.proofs.Vocabulary.{with_answer, zero, ◌==◌, ◌∙◌, ◌≡◌}
+use Rattle.mk_check.proofs.Vocabulary.{Rounds, Scope, Stopped, ℕ, after_answer, after_line, ap, arith, if◌then◌else◌}
+use Rattle.mk_check.proofs.Vocabulary.{instruction_of, is_some, number_of_name, numbered, op_asked, op_of, refl, run}
+use Rattle.mk_check.proofs.Vocabulary.{stop_behind, stop_of, stop_of_rounds, suc, then_steps, with_answer, zero, ◌==◌}
+use Rattle.mk_check.proofs.Vocabulary.{◌∙◌, ◌≡◌}
 use Rattle.mk_check.specs.{Blocks.followed_by, Feed.number_in, Feed.run_line, Feed.run_rounds, Feed.then_run}
-use Rattle.mk_script.specs.declared.items.Item.TheVariants.{Heap}
 use Rattle.mk_check.specs.Steps as steps
 
 abbrev pub kept_of : Fed → KeptState
@@ -27,27 +26,18 @@ steps_of-followed_by scope (Choice number first second rest) b =
 
 pub op_of-asked : (scope : Scope) (fed : Fed) (item : Item)
     → op_of scope fed item ≡ op_asked fed.numbers (instruction_of scope item)
-op_of-asked scope fed (Heap pages resident) = refl
-op_of-asked scope fed item = refl
-
-kept_of-run_line : (scope : Scope) (fed : Fed) (item : Item)
-    → kept_of (run_line scope fed item) ≡ after_line (instruction_of scope item) (kept_of fed)
-kept_of-run_line scope fed (Heap pages resident) = refl
-kept_of-run_line scope fed item = refl
+op_of-asked scope fed item = grind arith
 
 ops-run_line : (scope : Scope) (fed : Fed) (item : Item) → (run_line scope fed item).ops ≡ fed.ops
-ops-run_line scope fed (Heap pages resident) = refl
-ops-run_line scope fed item = refl
+ops-run_line scope fed item = grind arith
 
 pub kept_of-with_answer : (scope : Scope) (fed : Fed) (item : Item) (a : Answer)
     → kept_of (with_answer scope fed item a) ≡ after_answer (instruction_of scope item) a (kept_of fed)
-kept_of-with_answer scope fed (Heap pages resident) a = refl
-kept_of-with_answer scope fed item a = refl
+kept_of-with_answer scope fed item a = grind arith
 
 pub ops-with_answer : (scope : Scope) (fed : Fed) (item : Item) (a : Answer)
     → (with_answer scope fed item a).ops ≡ fed.ops
-ops-with_answer scope fed (Heap pages resident) a = refl
-ops-with_answer scope fed item a = refl
+ops-with_answer scope fed item a = grind arith
 
 -- What is kept of a run, and the operations that were answered before it.
 pub record Agrees (scope : Scope) (fed : Fed) (stopped : Stopped) (ops : List Op) : Type 0 where
@@ -57,31 +47,12 @@ pub record Agrees (scope : Scope) (fed : Fed) (stopped : Stopped) (ops : List Op
 then_run_agrees : (scope : Scope) (fed : Fed) (go : Fed → Fed) (rest : Blocks) (go' : KeptState → Stopped)
     → ((f : Fed) → Agrees scope (go f) (go' (kept_of f)) f.ops)
     → Agrees scope (then_run fed go rest) (stop_behind (stopped_of scope fed) go' (numbered scope rest)) fed.ops
-then_run_agrees scope fed go rest go' h = by_left fed.left
-  where
-    by_left : (left : Blocks) → Agrees scope (then_run (record fed { left = left }) go rest)
-        (stop_behind (stopped_of scope (record fed { left = left })) go' (numbered scope rest)) fed.ops
-    by_left Done = h (record fed { left = Done })
-    by_left (Line line item left) = record {
-      stop = ap (λ (s : Steps). let at : Stopped = record { left = s; kept = kept_of fed } in at)
-          (steps_of-followed_by scope (Line line item left) rest);
-      answers = refl;
-    }
-    by_left (Rounds rounds body left) = record {
-      stop = ap (λ (s : Steps). let at : Stopped = record { left = s; kept = kept_of fed } in at)
-          (steps_of-followed_by scope (Rounds rounds body left) rest);
-      answers = refl;
-    }
-    by_left (Choice number first second left) = record {
-      stop = ap (λ (s : Steps). let at : Stopped = record { left = s; kept = kept_of fed } in at)
-          (steps_of-followed_by scope (Choice number first second left) rest);
-      answers = refl;
-    }
+then_run_agrees scope fed go rest go' h =
+    grind (arith, stopped_of, kept_of, steps_of-followed_by, Done, Line, Rounds, Choice)
 
 -- a part that agrees, and then the rest
 then_agrees : (scope : Scope) (fed : Fed) (go : Fed → Fed) (rest : Blocks) (stopped : Stopped) (go' : KeptState
-    → Stopped) (ops : List Op)
-    → Agrees scope fed stopped ops
+    → Stopped) (ops : List Op) → Agrees scope fed stopped ops
     → ((f : Fed) → Agrees scope (go f) (go' (kept_of f)) f.ops)
     → Agrees scope (then_run fed go rest) (stop_behind stopped go' (numbered scope rest)) ops
 then_agrees scope fed go rest stopped go' ops a h =
@@ -98,8 +69,7 @@ run_rounds_agrees : (scope : Scope) (rounds : ℕ) (body : Blocks) (go : Fed →
 run_rounds_agrees scope zero body go go' h fed = record { stop = refl; answers = refl }
 run_rounds_agrees scope (suc more) body go go' h fed =
     then_agrees scope (go fed) (run_rounds more body go) (Rounds more body Done) (go' (kept_of fed))
-    (stop_of_rounds more (numbered scope body) go') fed.ops
-    (h fed) (run_rounds_agrees scope more body go go' h)
+    (stop_of_rounds more (numbered scope body) go') fed.ops (h fed) (run_rounds_agrees scope more body go go' h)
 
 -- The steps stop where the blocks do.
 pub run_agrees : (scope : Scope) (b : Blocks) (fed : Fed)
@@ -110,25 +80,19 @@ run_agrees scope (Line line item rest) fed =
     (ap (λ (o : Option Op). is_some o) (op_of-asked scope fed item))
     (let a = run_agrees scope rest (run_line scope fed item) in
     record {
-      stop = a.stop ∙ ap (stop_of (numbered scope rest)) (kept_of-run_line scope fed item);
+      stop = a.stop ∙ ap (stop_of (numbered scope rest)) (grind arith);
       answers = a.answers ∙ ops-run_line scope fed item;
     })
   where
-    by_test : (s t : Bool) → s ≡ t
-        → Agrees scope (run scope rest (run_line scope fed item))
+    by_test : (s t : Bool) → s ≡ t → Agrees scope (run scope rest (run_line scope fed item))
         (stop_of (numbered scope rest) (after_line (instruction_of scope item) (kept_of fed))) fed.ops
         → Agrees scope (if s then record fed { left = Line line item rest }
-        else run scope rest (run_line scope fed item))
-        (if t then record {
+        else run scope rest (run_line scope fed item)) (if t then record {
           left = steps.Line line (instruction_of scope item) (numbered scope rest);
           kept = kept_of fed;
         }
-        else stop_of (numbered scope rest) (after_line (instruction_of scope item) (kept_of fed)))
-        fed.ops
-    by_test true true e h = record { stop = refl; answers = refl }
-    by_test true false e h = cc
-    by_test false true e h = cc
-    by_test false false e h = h
+        else stop_of (numbered scope rest) (after_line (instruction_of scope item) (kept_of fed))) fed.ops
+    by_test x0 x1 e h = grind arith
 run_agrees scope (Rounds rounds body rest) fed =
     then_agrees scope (run_rounds rounds body (run scope body) fed) (run scope rest) rest
     (stop_of_rounds rounds (numbered scope body) (stop_of (numbered scope body)) (kept_of fed))
@@ -137,10 +101,8 @@ run_agrees scope (Rounds rounds body rest) fed =
     (run_agrees scope rest)
 run_agrees scope (Choice number first second rest) fed =
     then_agrees scope (if number_in scope fed number == 0 then run scope second fed else run scope first fed)
-    (run scope rest) rest
-    (if number_in scope fed number == 0 then stop_of (numbered scope second) (kept_of fed)
-    else stop_of (numbered scope first) (kept_of fed))
-    (stop_of (numbered scope rest)) fed.ops
+    (run scope rest) rest (if number_in scope fed number == 0 then stop_of (numbered scope second) (kept_of fed)
+    else stop_of (numbered scope first) (kept_of fed)) (stop_of (numbered scope rest)) fed.ops
     (by_test (number_in scope fed number == 0) (run_agrees scope first fed) (run_agrees scope second fed))
     (run_agrees scope rest)
   where
@@ -149,5 +111,4 @@ run_agrees scope (Choice number first second rest) fed =
         → Agrees scope (if t then run scope second fed else run scope first fed)
         (if t then stop_of (numbered scope second) (kept_of fed) else stop_of (numbered scope first) (kept_of fed))
         fed.ops
-    by_test true f g = g
-    by_test false f g = f
+    by_test x0 f g = grind arith

@@ -1,32 +1,21 @@
 -- What is told of what comes after a line, and where a script then stops.
 use Rattle.mk_check.proofs.Vocabulary.{Answer, Bool, HasStopped, Instruction, IsTree, KeptState, List, Node, None}
 use Rattle.mk_check.proofs.Vocabulary.{Option, Place, PlaceIsWithin, Sequel, Some, TakesLine, ℕ, after_answer, ap}
-use Rattle.mk_check.proofs.Vocabulary.{asks_at, false, if◌then◌else◌, is_asking, kept_in, length, node_at, not, refl}
+use Rattle.mk_check.proofs.Vocabulary.{arith, asks_at, false, if◌then◌else◌, kept_in, length, node_at, not, refl}
 use Rattle.mk_check.proofs.Vocabulary.{sequel_to, sequels_of, subst, sym, true, with_kept, ◌&&◌, ◌∙◌, ◌≡◌}
 use Rattle.mk_check.proofs.AtOnce.{asks_so, stopped_here}
 use Rattle.mk_check.proofs.{Moves.below_length, NextRounds.round_begins, TreeNodes.is_at}
+use Rattle.mk_check.specs.AtOnce.{BeginsRound, TakesAtOnce}
 use Rattle.mk_check.specs.Steps.{is_show, is_silent, keeping_register, with_value}
-use Rattle.mk_check.specs.declared.feeding.instructions.Instruction.TheVariants.{GetNum}
-use Rattle.mk_check.specs.declared.feeding.tree.Sequels.{Sequels}
-use Rattle.mk_check.specs.{AtOnce.BeginsRound, AtOnce.TakesAtOnce, Feed.is_refusal, Spots.sequels_by}
+use Rattle.mk_check.specs.{Feed.is_refusal, Spots.sequels_by, declared.feeding.tree.Sequels.Sequels}
 
 -- what is next, where that is told
 
 asks_if : (b : Bool) → (if b then Sequel.Asks else Sequel.Other) ≡ Sequel.Asks → b ≡ true
-asks_if true e = refl
-asks_if false e = cc
-
-next_asks : (n : Node) → sequel_to n ≡ Sequel.Asks → asks_at n ≡ true
-next_asks (Node.Line line instruction next) e = asks_if (is_asking instruction) e
-next_asks _ e = cc
+asks_if x0 e = grind arith
 
 ends_not : (b : Bool) (n : Node) → (if b then Sequel.Asks else Sequel.Other) ≡ Sequel.Ends → n ≡ Node.Done
-ends_not true n e = cc
-ends_not false n e = cc
-
-next_ends : (n : Node) → sequel_to n ≡ Sequel.Ends → n ≡ Node.Done
-next_ends (Node.Line line instruction next) e = ends_not (is_asking instruction) (Node.Line line instruction next) e
-next_ends x0 e = cc
+ends_not x0 n e = grind arith
 
 -- The node is a line before this one, whose answer this register keeps, if any does, and this comes next.
 record IsLine (nodes : List Node) (n : Node) (next : ℕ) (kept : Option ℕ) (s : Sequel) : Type 0 where
@@ -38,17 +27,14 @@ record IsLine (nodes : List Node) (n : Node) (next : ℕ) (kept : Option ℕ) (s
   told : sequel_to (node_at nodes next) ≡ s
 
 kept_by : (next : ℕ) (shown : Bool) (kept : Option ℕ) (u s : Sequel) → (s ≡ Sequel.Other → ⊥)
-    → (sequels_by next shown kept u).kept ≡ s
-    → ((sequels_by next shown kept u).next ≡ next) × (shown ≡ false)
+    → (sequels_by next shown kept u).kept ≡ s → ((sequels_by next shown kept u).next ≡ next) × (shown ≡ false)
     × (kept ≡ Some (sequels_by next shown kept u).register) × (u ≡ s)
-kept_by next false (Some number) u s known e = (refl, refl, refl, e)
-kept_by next _ _ u s known e = absurd (known (sym e))
+kept_by next x1 x2 u s known e = grind arith
 
 unkept_by : (next : ℕ) (shown : Bool) (kept : Option ℕ) (u s : Sequel) → (s ≡ Sequel.Other → ⊥)
     → (sequels_by next shown kept u).unkept ≡ s
     → ((sequels_by next shown kept u).next ≡ next) × (shown ≡ false) × (kept ≡ None) × (u ≡ s)
-unkept_by next false None u s known e = (refl, refl, refl, e)
-unkept_by next _ _ u s known e = absurd (known (sym e))
+unkept_by next x1 x2 u s known e = grind arith
 
 line_told : (nodes : List Node) (line : ℕ) (instruction : Instruction) {next behind : ℕ} {kept : Option ℕ} {s : Sequel}
     → (behind ≡ next) × (is_show instruction ≡ false) × (keeping_register instruction ≡ kept)
@@ -62,20 +48,6 @@ line_told nodes line instruction by = record {
   told = ap (λ (j : ℕ). sequel_to (node_at nodes j)) by.0 ∙ by.3;
 }
 
-kept_line : (nodes : List Node) (n : Node) (s : Sequel) → (s ≡ Sequel.Other → ⊥) → (sequels_of nodes n).kept ≡ s
-    → IsLine nodes n (sequels_of nodes n).next (Some (sequels_of nodes n).register) s
-kept_line nodes (Node.Line line instruction next) s known e =
-    line_told nodes line instruction
-    (kept_by next (is_show instruction) (keeping_register instruction) (sequel_to (node_at nodes next)) s known e)
-kept_line nodes _ s known e = absurd (known (sym e))
-
-unkept_line : (nodes : List Node) (n : Node) (s : Sequel) → (s ≡ Sequel.Other → ⊥)
-    → (sequels_of nodes n).unkept ≡ s → IsLine nodes n (sequels_of nodes n).next None s
-unkept_line nodes (Node.Line line instruction next) s known e =
-    line_told nodes line instruction
-    (unkept_by next (is_show instruction) (keeping_register instruction) (sequel_to (node_at nodes next)) s known e)
-unkept_line nodes _ s known e = absurd (known (sym e))
-
 asks_is_known : Sequel.Asks ≡ Sequel.Other → ⊥
 asks_is_known e = absurd cc
 
@@ -87,17 +59,14 @@ ends_is_known e = absurd cc
 pub number_kept : (instruction : Instruction) (number value : ℕ) (k : KeptState)
     → keeping_register instruction ≡ Some number
     → after_answer instruction (Answer.Num value) k ≡ with_value k number value
-number_kept (GetNum q n i) number value k e = cc
-number_kept x0 number value k e = cc
+number_kept x0 number value k e = grind arith
 
 pub nothing_kept : (instruction : Instruction) (a : Answer) (k : KeptState) → is_show instruction ≡ false
     → keeping_register instruction ≡ None → after_answer instruction a k ≡ k
-nothing_kept (GetNum q n i) a k s e = cc
-nothing_kept x0 a k s e = cc
+nothing_kept x0 a k s e = grind arith
 
 neither : (a b : Bool) → a ≡ false → b ≡ false → (not a && not b) ≡ true
-neither false false e f = refl
-neither _ _ e f = cc
+neither x0 x1 e f = grind arith
 
 pub silent : (instruction : Instruction) (a : Answer) → is_refusal a ≡ false → is_show instruction ≡ false
     → is_silent instruction a ≡ true
@@ -143,7 +112,7 @@ module _ (nodes : List Node) (p : Place) (tree : IsTree nodes) (w : PlaceIsWithi
     next = next;
     here = l.is;
     taken = stops_at_line nodes p next l.instruction tree (within_next l.line l.instruction next l.is) a t
-        (silent l.instruction a accepted l.shown) (next_asks (node_at nodes next) l.told)
+        (silent l.instruction a accepted l.shown) (grind (arith, asks_if))
         (is ∙ ap (λ (x : KeptState). with_kept (record p { at = next }) x) (sym after));
   }
 
@@ -156,7 +125,7 @@ module _ (nodes : List Node) (p : Place) (tree : IsTree nodes) (w : PlaceIsWithi
     next = next;
     here = l.is;
     taken = stops_in_round nodes p next l.instruction tree (within_next l.line l.instruction next l.is) a q t
-        (silent l.instruction a accepted l.shown) (next_ends (node_at nodes next) l.told) begins
+        (silent l.instruction a accepted l.shown) (grind (arith, ends_not)) begins
         (is ∙ ap (λ (x : KeptState). with_kept q x) (sym after));
   }
 
@@ -165,13 +134,13 @@ module _ (nodes : List Node) (p : Place) (tree : IsTree nodes) (w : PlaceIsWithi
         → IsLine nodes (node_at nodes p.at) s.next (Some s.register) told
     kept_here told known e =
         subst (λ (x : Sequels). IsLine nodes (node_at nodes p.at) x.next (Some x.register) told) (sym so)
-        (kept_line nodes (node_at nodes p.at) told known (sym (ap (λ (x : Sequels). x.kept) so) ∙ e))
+        (grind (arith, line_told, kept_by))
 
     unkept_here : (told : Sequel) → (told ≡ Sequel.Other → ⊥) → s.unkept ≡ told
         → IsLine nodes (node_at nodes p.at) s.next None told
     unkept_here told known e =
         subst (λ (x : Sequels). IsLine nodes (node_at nodes p.at) x.next None told) (sym so)
-        (unkept_line nodes (node_at nodes p.at) told known (sym (ap (λ (x : Sequels). x.unkept) so) ∙ e))
+        (grind (arith, line_told, unkept_by))
 
     pub number_at_line : (value : ℕ) (t : Place) → s.kept ≡ Sequel.Asks
         → t ≡ with_kept (record p { at = s.next }) (with_value (kept_in p) s.register value)

@@ -11,14 +11,11 @@ use Rattle.mk_check.specs.declared.feeding.tree.Spot.{Spot}
 
 -- whether a node asks for an operation, by its instruction
 pub asks_by_instruction : (n : Node) → is_asking (instruction_of_node n) ≡ asks_at n
-asks_by_instruction Node.Done = refl
-asks_by_instruction x0 = cc
+asks_by_instruction x0 = grind arith
 
 -- the operation that it asks for
-pub op_by_instruction : (numbers : List ℕ) (n : Node)
-    → op_asked numbers (instruction_of_node n) ≡ op_of_node numbers n
-op_by_instruction numbers Node.Done = refl
-op_by_instruction numbers x1 = cc
+pub op_by_instruction : (numbers : List ℕ) (n : Node) → op_asked numbers (instruction_of_node n) ≡ op_of_node numbers n
+op_by_instruction numbers x1 = grind arith
 
 pub length-nodes_of : (spots : List Spot) → length (nodes_of spots) ≡ length spots
 length-nodes_of spots = length-map spots (λ (s : Spot). s.node)
@@ -76,8 +73,7 @@ IsMarkedTree_push spots s m below mark = record {
 
 -- what is known at a place of the list, whatever would stand where there is none
 pub mark_there : (spots : List Spot) (at : ℕ) (s : Spot) → IsMarkedTree spots → at < length (nodes_of spots)
-    → s ≡ get_or spots at s
-    → (s.instruction ≡ instruction_of_node (node_at (nodes_of spots) at))
+    → s ≡ get_or spots at s → (s.instruction ≡ instruction_of_node (node_at (nodes_of spots) at))
     × (s.sequels ≡ sequels_of (nodes_of spots) (node_at (nodes_of spots) at))
     × (s.asks_first ≡ asks_first (steps_at (trees (nodes_of spots)) at))
 mark_there spots at s m h is = grind (arith, length-nodes_of, get_or_default, node_of_spot, steps_at-trees)

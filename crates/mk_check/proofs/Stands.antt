@@ -1,18 +1,17 @@
 -- A script that is fed stands for what the definition says.
 use Rattle.mk_check.proofs.Vocabulary.{Answer, Blocks, Bool, Choice, Done, Fed, FeedStandsFor, FeedState, HasStopped}
 use Rattle.mk_check.proofs.Vocabulary.{Instruction, IsAtStop, IsFeed, IsTree, IsWaiting, Item, KeptState, Line, List}
-use Rattle.mk_check.proofs.Vocabulary.{Node, None, Op, Option, Place, PlaceIsWithin, Rounds, Scope, ScriptText, Some}
-use Rattle.mk_check.proofs.Vocabulary.{Steps, Stopped, StopsAt, ℕ, after_answer, ap, append_assoc, arith, blocks_from}
-use Rattle.mk_check.proofs.Vocabulary.{false, fed_before_lines, feed, first_op, flagged, instruction_of}
-use Rattle.mk_check.proofs.Vocabulary.{is_end_of_block, is_some, kept_in, left_in, length, length_push, node_at, note}
-use Rattle.mk_check.proofs.Vocabulary.{numbered, op_asked, op_in, op_of, op_of_node, refl, refusal_line, refusal_text}
-use Rattle.mk_check.proofs.Vocabulary.{script_of, script_scope, steps_at, stop_of, stop_on_answer, stopped_in, sym}
-use Rattle.mk_check.proofs.Vocabulary.{take_answer, then_steps, trees, true, with_answer, with_kept, with_text, []}
-use Rattle.mk_check.proofs.Vocabulary.{◌++◌, ◌+◌, ◌∙◌, ◌∷◌, ◌≡◌}
+use Rattle.mk_check.proofs.Vocabulary.{Node, None, Op, Option, Place, PlaceIsWithin, Rounds, Scope, ScriptText, Steps}
+use Rattle.mk_check.proofs.Vocabulary.{Stopped, StopsAt, ℕ, after_answer, ap, append_assoc, arith, blocks_from, false}
+use Rattle.mk_check.proofs.Vocabulary.{fed_before_lines, feed, first_op, instruction_of, is_end_of_block, is_some}
+use Rattle.mk_check.proofs.Vocabulary.{kept_in, left_in, length, length_push, node_at, note, numbered, op_asked, op_in}
+use Rattle.mk_check.proofs.Vocabulary.{op_of, op_of_node, refl, refusal_line, refusal_text, script_of, script_scope}
+use Rattle.mk_check.proofs.Vocabulary.{steps_at, stop_of, stop_on_answer, stopped_in, sym, take_answer, then_steps}
+use Rattle.mk_check.proofs.Vocabulary.{trees, true, with_answer, with_kept, with_text, [], ◌++◌, ◌+◌, ◌∙◌, ◌∷◌, ◌≡◌}
 use Rattle.mk_check.proofs.Numbered.{kept_of, kept_of-with_answer, op_of-asked, ops-with_answer, run_agrees, stopped_of}
 use Rattle.mk_check.proofs.StepLaws.{behind_text, stop_of-text, stopped_behind_text}
 use Rattle.mk_check.proofs.{FeedLaws.feed_push, Moves.unfolded_done, Moves.unfolded_line, TreeNodes.is_at}
-use Rattle.mk_check.specs.{Feed.has_ended, declared.feeding.instructions.Instruction.TheVariants.Show}
+use Rattle.mk_check.specs.Feed.{has_ended}
 use Rattle.mk_check.specs.Steps as steps
 
 -- blocks that begin with a line
@@ -45,8 +44,7 @@ tells : (scope : Scope) (fed : Fed) (nodes : List Node) (p : Place) (n : Node) �
     → left_in nodes p ≡ numbered scope fed.left → p.numbers ≡ fed.numbers → Tells scope fed (op_of_node p.numbers n)
 tells scope fed nodes p Node.Done tree w e stops left numbers = grind (arith, no_more, unfolded_done, is_at)
 tells scope fed nodes p (Node.Line line instruction next) tree w e stops left numbers =
-    let here = begins_with scope fed.left line instruction _ (sym left
-    ∙ unfolded_line nodes (is_at tree w e)) in
+    let here = begins_with scope fed.left line instruction _ (sym left ∙ unfolded_line nodes (is_at tree w e)) in
     let op : op_asked p.numbers instruction ≡ first_op scope fed fed.left = grind (arith, op_of-asked) in
     let on : has_ended fed ≡ false = ap is_end_of_block here.is in
     record { op = op; ended = λ h. cc; none = λ h. cc }
@@ -55,12 +53,10 @@ tells scope fed nodes p _ tree w e stops left numbers = absurd stops
 pub op_of_others : (numbers : List ℕ) (n : Node)
     → ((line : ℕ) (instruction : Instruction) (next : ℕ) → n ≡ Node.Line line instruction next → ⊥)
     → op_of_node numbers n ≡ None
-op_of_others numbers (Node.Line line instruction next) h = absurd (h line instruction next refl)
-op_of_others numbers _ h = refl
+op_of_others numbers x1 h = grind arith
 
 pub op_stands : (program : List Item) (k : ℕ) (s : FeedState) (answers : List Answer) → IsTree s.nodes → IsAtStop s
-    → FeedStandsFor program k s answers
-    → Tells (script_scope program k) (feed program k answers) (op_in s)
+    → FeedStandsFor program k s answers → Tells (script_scope program k) (feed program k answers) (op_in s)
 op_stands program k s answers tree stop st =
     tells (script_scope program k) (feed program k answers) s.nodes s.place (node_at s.nodes s.place.at) tree
     stop.within refl stop.stops st.left st.numbers
@@ -77,11 +73,9 @@ waits_for_answer s tree h waiting = by_op (is_some (op_in s)) refl
 
 -- A script that begins.
 
-pub start_stands : (program : List Item) (k : ℕ) (s : FeedState)
-    → stopped_in s.nodes s.place
+pub start_stands : (program : List Item) (k : ℕ) (s : FeedState) → stopped_in s.nodes s.place
     ≡ stop_of (numbered (script_scope program k) (blocks_from (script_of program k).line (script_of program k).items))
-    (kept_of (fed_before_lines (script_scope program k) (script_of program k)))
-    → FeedStandsFor program k s []
+    (kept_of (fed_before_lines (script_scope program k) (script_of program k))) → FeedStandsFor program k s []
 start_stands program k s e =
     let a = run_agrees (script_scope program k) (blocks_from (script_of program k).line (script_of program k).items)
     (fed_before_lines (script_scope program k) (script_of program k)) in
@@ -101,15 +95,13 @@ then_steps-done (steps.Choice number first second rest) = ap (steps.Choice numbe
 
 -- a script that ran from its first line
 pub start_stops : (nodes : List Node) (scope : Scope) (script : ScriptText) (at : ℕ) (p q : Place)
-    → steps_at (trees nodes) at ≡ numbered scope (blocks_from script.line script.items)
-    → p ≡ record {
+    → steps_at (trees nodes) at ≡ numbered scope (blocks_from script.line script.items) → p ≡ record {
       at = at;
       frames = [];
       numbers = (fed_before_lines scope script).numbers;
       text = (fed_before_lines scope script).text;
     }
-    → HasStopped nodes p q
-    → stopped_in nodes q
+    → HasStopped nodes p q → stopped_in nodes q
     ≡ stop_of (numbered scope (blocks_from script.line script.items)) (kept_of (fed_before_lines scope script))
 start_stops nodes scope script at p q tree begins stopped = grind (arith, then_steps-done)
 
@@ -120,8 +112,7 @@ record Notes (fed : Fed) (noted : Fed) (line : ℕ) (a : Answer) : Type 0 where
   more : length noted.ops ≡ length fed.ops + 1
 
 notes : (fed : Fed) (o : Option Op) (line : ℕ) (a : Answer) → is_some o ≡ true → Notes fed (note fed o line a) line a
-notes fed None line a h = cc
-notes fed (Some o) line a h = record { kept = refl; more = length_push fed.ops (flagged o a) }
+notes fed x1 line a h = grind (arith, length_push)
 
 record Answers (scope : Scope) (fed : Fed) (line : ℕ) (item : Item) (rest : Blocks) (a : Answer) : Type 0 where
   stop : stopped_of scope (take_answer scope fed (Line line item rest) a)
@@ -129,8 +120,7 @@ record Answers (scope : Scope) (fed : Fed) (line : ℕ) (item : Item) (rest : Bl
   more : length (take_answer scope fed (Line line item rest) a).ops ≡ length fed.ops + 1
 
 answer_agrees : (scope : Scope) (fed : Fed) (line : ℕ) (item : Item) (rest : Blocks) (a : Answer)
-    → is_some (op_of scope fed item) ≡ true
-    → Answers scope fed line item rest a
+    → is_some (op_of scope fed item) ≡ true → Answers scope fed line item rest a
 answer_agrees scope fed line item rest a h =
     let n = notes fed (op_of scope fed item) line a h in
     let noted_fed = note fed (op_of scope fed item) line a in
@@ -145,8 +135,7 @@ answered_from : (program : List Item) (k : ℕ) (answers : List Answer) (a : Ans
     → (feed program k answers).left ≡ Line line item rest → length (feed program k answers).ops ≡ length answers
     → is_some (op_of (script_scope program k) (feed program k answers) item) ≡ true
     → stopped_in s.nodes s.place ≡ stop_on_answer (numbered (script_scope program k) (feed program k answers).left) a
-    (kept_of (feed program k answers))
-    → FeedStandsFor program k s (answers ++ a ∷ [])
+    (kept_of (feed program k answers)) → FeedStandsFor program k s (answers ++ a ∷ [])
 answered_from program k answers a line item rest s is taken some stop =
     let scope = script_scope program k in
     let fed = feed program k answers in
@@ -165,33 +154,28 @@ answered_from program k answers a line item rest s is taken some stop =
 pub answer_stands : (program : List Item) (k : ℕ) (answers : List Answer) (a : Answer) (s t : FeedState) (line : ℕ)
     (instruction : Instruction) (next : ℕ)
     → IsTree s.nodes → PlaceIsWithin (length s.nodes) s.place → node_at s.nodes s.place.at
-    ≡ Node.Line line instruction next
-    → is_some (op_asked s.place.numbers instruction) ≡ true
+    ≡ Node.Line line instruction next → is_some (op_asked s.place.numbers instruction) ≡ true
     → stopped_in t.nodes t.place ≡ stop_on_answer (left_in s.nodes s.place) a (kept_in s.place)
     → FeedStandsFor program k s answers → FeedStandsFor program k t (answers ++ a ∷ [])
 answer_stands program k answers a s t line instruction next tree w e some stop st =
     let scope = script_scope program k in
     let fed = feed program k answers in
-    let here = begins_with scope fed.left line instruction _ (sym st.left
-    ∙ unfolded_line s.nodes (is_at tree w e)) in
+    let here = begins_with scope fed.left line instruction _ (sym st.left ∙ unfolded_line s.nodes (is_at tree w e)) in
     let op : op_of scope fed here.item ≡ op_asked s.place.numbers instruction =
     cc (op_of-asked scope fed here.item, here.named, st.numbers) in
     let kept : kept_in s.place ≡ kept_of fed = (let f = st.numbers in let g = st.text in cc) in
     answered_from program k answers a line here.item here.more t here.is st.taken (ap (λ (o : Option Op). is_some o) op
-    ∙ some)
-    (stop ∙ (ap (λ (x : Steps). stop_on_answer x a (kept_in s.place)) st.left
+    ∙ some) (stop ∙ (ap (λ (x : Steps). stop_on_answer x a (kept_in s.place)) st.left
     ∙ ap (stop_on_answer (numbered scope fed.left) a) kept))
 
 -- The text of an answer is made apart, and stands after the text before.
 
 after_answer-text : (text : List ℕ) (instruction : Instruction) (a : Answer) (k : KeptState)
     → after_answer instruction a (behind_text text k) ≡ behind_text text (after_answer instruction a k)
-after_answer-text text (Show p) a k = grind (arith, append_assoc)
-after_answer-text text _ a k = refl
+after_answer-text text x1 a k = grind (arith, append_assoc)
 
 pub stop_on_answer-text : (rest : Steps) (line : ℕ) (instruction : Instruction) (a : Answer) (k : KeptState)
-    → stop_on_answer (steps.Line line instruction rest) a k
-    ≡ stopped_behind_text k.text
+    → stop_on_answer (steps.Line line instruction rest) a k ≡ stopped_behind_text k.text
     (stop_of rest (after_answer instruction a
     (record { numbers = k.numbers; text = refusal_line line (refusal_text a) })))
 stop_on_answer-text rest line instruction a k =

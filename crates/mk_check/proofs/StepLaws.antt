@@ -1,11 +1,8 @@
 -- Laws of what steps do: one part after another, rounds, and text that stands before.
-use Rattle.std.specs.Fmt.{decimal}
-use Rattle.mk_check.proofs.Vocabulary.{Bool, Instruction, KeptState, List, Steps, Stopped, ℕ, after_line, ap}
-use Rattle.mk_check.proofs.Vocabulary.{append_assoc, false, if◌then◌else◌, is_some, op_asked, refl, slice_index}
-use Rattle.mk_check.proofs.Vocabulary.{stop_behind, stop_of, stop_of_rounds, suc, sym, then_steps, true, zero, ◌++◌}
-use Rattle.mk_check.proofs.Vocabulary.{◌==◌, ◌∙◌, ◌≡◌}
+use Rattle.mk_check.proofs.Vocabulary.{Bool, KeptState, List, Steps, Stopped, ℕ, after_line, ap, append_assoc, arith}
+use Rattle.mk_check.proofs.Vocabulary.{false, if◌then◌else◌, is_some, op_asked, refl, slice_index, stop_behind, stop_of}
+use Rattle.mk_check.proofs.Vocabulary.{stop_of_rounds, suc, then_steps, true, zero, ◌++◌, ◌==◌, ◌∙◌, ◌≡◌}
 use Rattle.mk_check.specs.Steps.{Choice, Done, Line, Rounds}
-use Rattle.mk_check.specs.{Feed.newline, declared.feeding.instructions.Instruction.TheVariants.Print}
 
 pub then_steps_assoc : (a b c : Steps) → then_steps (then_steps a b) c ≡ then_steps a (then_steps b c)
 then_steps_assoc Done b c = refl
@@ -18,16 +15,7 @@ then_ran_then : (left : Steps) (kept : KeptState) (rest more : Steps)
     → ((k : KeptState) → stop_of (then_steps rest more) k ≡ stop_behind (stop_of rest k) (stop_of more) more)
     → stop_behind (record { left = left; kept = kept }) (stop_of (then_steps rest more)) (then_steps rest more)
     ≡ stop_behind (stop_behind (record { left = left; kept = kept }) (stop_of rest) rest) (stop_of more) more
-then_ran_then Done kept rest more h = h kept
-then_ran_then (Line line instruction left) kept rest more h =
-    ap (λ (s : Steps). let at : Stopped = record { left = s; kept = kept } in at)
-    (sym (then_steps_assoc (Line line instruction left) rest more))
-then_ran_then (Rounds rounds body left) kept rest more h =
-    ap (λ (s : Steps). let at : Stopped = record { left = s; kept = kept } in at)
-    (sym (then_steps_assoc (Rounds rounds body left) rest more))
-then_ran_then (Choice number first second left) kept rest more h =
-    ap (λ (s : Steps). let at : Stopped = record { left = s; kept = kept } in at)
-    (sym (then_steps_assoc (Choice number first second left) rest more))
+then_ran_then x0 kept rest more h = grind (arith, then_steps_assoc)
 
 -- One part runs, and then the other.
 pub stop_of-then_steps : (a b : Steps) (k : KeptState) → stop_of (then_steps a b) k
@@ -36,15 +24,13 @@ stop_of-then_steps Done b k = refl
 stop_of-then_steps (Line line instruction rest) b k =
     by_test (is_some (op_asked k.numbers instruction)) (stop_of-then_steps rest b (after_line instruction k))
   where
-    by_test : (t : Bool)
-        → stop_of (then_steps rest b) (after_line instruction k)
+    by_test : (t : Bool) → stop_of (then_steps rest b) (after_line instruction k)
         ≡ stop_behind (stop_of rest (after_line instruction k)) (stop_of b) b
         → (if t then record { left = Line line instruction (then_steps rest b); kept = k }
         else stop_of (then_steps rest b) (after_line instruction k))
         ≡ stop_behind (if t then record { left = Line line instruction rest; kept = k }
         else stop_of rest (after_line instruction k)) (stop_of b) b
-    by_test true h = refl
-    by_test false h = h
+    by_test x0 h = grind arith
 stop_of-then_steps (Rounds rounds body rest) b k =
     let s = stop_of_rounds rounds body (stop_of body) k in
     then_ran_then s.left s.kept rest b (stop_of-then_steps rest b)
@@ -57,23 +43,12 @@ rounds_behind : (left : Steps) (kept : KeptState) (more : ℕ) (body rest : Step
     → stop_behind (stop_behind (record { left = left; kept = kept }) (stop_of_rounds more body (stop_of body))
     (Rounds more body Done)) (stop_of rest) rest
     ≡ stop_behind (record { left = left; kept = kept }) (stop_of (Rounds more body rest)) (Rounds more body rest)
-rounds_behind Done kept more body rest = refl
-rounds_behind (Line line instruction left) kept more body rest =
-    ap (λ (s : Steps). let at : Stopped = record { left = s; kept = kept } in at)
-    (then_steps_assoc (Line line instruction left) (Rounds more body Done) rest)
-rounds_behind (Rounds rounds inner left) kept more body rest =
-    ap (λ (s : Steps). let at : Stopped = record { left = s; kept = kept } in at)
-    (then_steps_assoc (Rounds rounds inner left) (Rounds more body Done) rest)
-rounds_behind (Choice number first second left) kept more body rest =
-    ap (λ (s : Steps). let at : Stopped = record { left = s; kept = kept } in at)
-    (then_steps_assoc (Choice number first second left) (Rounds more body Done) rest)
+rounds_behind x0 kept more body rest = grind (arith, then_steps_assoc)
 
 -- A round more is the body, and then the other rounds.
 pub stop_of-round : (more : ℕ) (body rest : Steps) (k : KeptState)
     → stop_of (Rounds (suc more) body rest) k ≡ stop_of (then_steps body (Rounds more body rest)) k
-stop_of-round more body rest k =
-    rounds_behind (stop_of body k).left (stop_of body k).kept more body rest
-    ∙ sym (stop_of-then_steps body (Rounds more body rest) k)
+stop_of-round more body rest k = grind (arith, rounds_behind, stop_of-then_steps, Rounds)
 
 pub stop_of-choice_zero : (number : ℕ) (first second rest : Steps) (k : KeptState)
     → (slice_index k.numbers number == 0) ≡ true
@@ -93,19 +68,11 @@ behind_text text k = record k { text = text ++ k.text }
 abbrev pub stopped_behind_text : List ℕ → Stopped → Stopped
 stopped_behind_text text s = record s { kept = behind_text text s.kept }
 
-pub after_line-text : (text : List ℕ) (instruction : Instruction) (k : KeptState)
-    → after_line instruction (behind_text text k) ≡ behind_text text (after_line instruction k)
-after_line-text text (Print number) k =
-    ap (λ (t : List ℕ). let kept : KeptState = record k { text = t } in kept)
-    (append_assoc text k.text (decimal (slice_index k.numbers number) ++ newline))
-after_line-text text _ k = refl
-
 stop_behind-text : (text : List ℕ) (left : Steps) (kept : KeptState) (go : KeptState → Stopped) (rest : Steps)
     → ((k : KeptState) → go (behind_text text k) ≡ stopped_behind_text text (go k))
     → stop_behind (record { left = left; kept = behind_text text kept }) go rest
     ≡ stopped_behind_text text (stop_behind (record { left = left; kept = kept }) go rest)
-stop_behind-text text Done kept go rest h = h kept
-stop_behind-text text _ kept go rest h = refl
+stop_behind-text text x1 kept go rest h = grind arith
 
 stop_of_rounds-text : (text : List ℕ) (rounds : ℕ) (body : Steps) (go : KeptState → Stopped)
     → ((k : KeptState) → go (behind_text text k) ≡ stopped_behind_text text (go k))
@@ -122,11 +89,10 @@ pub stop_of-text : (text : List ℕ) (steps : Steps) (k : KeptState)
     → stop_of steps (behind_text text k) ≡ stopped_behind_text text (stop_of steps k)
 stop_of-text text Done k = refl
 stop_of-text text (Line line instruction rest) k =
-    by_test (is_some (op_asked k.numbers instruction)) (ap (stop_of rest) (after_line-text text instruction k)
+    by_test (is_some (op_asked k.numbers instruction)) (ap (stop_of rest) (grind (arith, append_assoc))
     ∙ stop_of-text text rest (after_line instruction k))
   where
-    by_test : (t : Bool)
-        → stop_of rest (after_line instruction (behind_text text k))
+    by_test : (t : Bool) → stop_of rest (after_line instruction (behind_text text k))
         ≡ stopped_behind_text text (stop_of rest (after_line instruction k))
         → (if t then record { left = Line line instruction rest; kept = behind_text text k }
         else stop_of rest (after_line instruction (behind_text text k)))
@@ -149,6 +115,4 @@ stop_of-text text (Choice number first second rest) k =
         → stop_behind (if t then stop_of second (behind_text text k) else stop_of first (behind_text text k))
         (stop_of rest) rest
         ≡ stopped_behind_text text (stop_behind (if t then stop_of second k else stop_of first k) (stop_of rest) rest)
-    by_test true f g h = ap (λ (u : Stopped). stop_behind u (stop_of rest) rest) g
-        ∙ stop_behind-text text (stop_of second k).left (stop_of second k).kept (stop_of rest) rest h
-    by_test false f g h = cc (stop_behind-text text (stop_of first k).left (stop_of first k).kept (stop_of rest) rest h)
+    by_test x0 f g h = grind (arith, stop_behind-text)

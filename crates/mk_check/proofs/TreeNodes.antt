@@ -4,18 +4,13 @@ use Rattle.mk_check.proofs.Vocabulary.{IsBelow, IsTree, List, Node, Place, Place
 use Rattle.mk_check.proofs.Vocabulary.{fold_push, get_or_append_left, get_or_at, inl, inr, length, length_push, node_at}
 use Rattle.mk_check.proofs.Vocabulary.{refl, steps_at, steps_from, subst, suc, sym, trees, zero, [], ◌++◌, ◌+◌, ◌<◌}
 use Rattle.mk_check.proofs.Vocabulary.{◌∙◌, ◌∷◌, ◌≡◌, ◌≤◌}
-use Rattle.mk_check.specs.{Steps.Choice, Steps.Done, Steps.Line, Steps.Rounds, Trees.with_node}
+use Rattle.mk_check.specs.{Steps.Done, Trees.with_node}
 
 -- The steps from a node are those that it names.
 
 pub steps_from_same : (count : ℕ) (a b : List Steps) (n : Node) → ((j : ℕ) → j < count → steps_at a j ≡ steps_at b j)
     → IsBelow count n → steps_from a n ≡ steps_from b n
-steps_from_same count a b Node.Done h below = refl
-steps_from_same count a b (Node.Line line instruction next) h below = ap (Line line instruction) (h next below)
-steps_from_same count a b (Node.Rounds rounds body next) h below = let e = h body below.0 in let f =
-    h next below.1 in cc
-steps_from_same count a b (Node.Choice number first second next) h below =
-    let e = h first below.0 in let f = h second below.1 in let g = h next below.2 in cc
+steps_from_same count a b x3 h below = grind arith
 
 trees_keep : (built : List Steps) (nodes : List Node) (j : ℕ) → j < length built
     → steps_at (fold with_node built nodes) j ≡ steps_at built j
@@ -35,14 +30,12 @@ trees_behind built (n ∷ nodes) zero below h =
     let at : length built + 0 ≡ length built = omega arith in
     ap (λ (j : ℕ). steps_at all j) at
     ∙ (trees_keep (with_node built n) nodes (length built) (omega (arith, length_push built (steps_from built n)))
-    ∙ (get_or_at built (steps_from built n) [] Done (length built) refl
-    ∙ steps_from_same (length built) built all n
+    ∙ (get_or_at built (steps_from built n) [] Done (length built) refl ∙ steps_from_same (length built) built all n
     (λ j g. sym (trees_keep built (n ∷ nodes) j g)) here))
 trees_behind built (n ∷ nodes) (suc i) below h =
     let longer : length (with_node built n) ≡ length built + 1 = length_push built (steps_from built n) in
     let at : length built + suc i ≡ length (with_node built n) + i = omega arith in
-    ap (λ (j : ℕ). steps_at (fold with_node (with_node built n) nodes) j) at
-    ∙ trees_behind (with_node built n) nodes i
+    ap (λ (j : ℕ). steps_at (fold with_node (with_node built n) nodes) j) at ∙ trees_behind (with_node built n) nodes i
     (λ k g. subst (λ (c : ℕ). IsBelow c (node_at nodes k)) (omega arith) (below (suc k) (omega arith))) (omega arith)
 
 pub steps_at-trees : (nodes : List Node) (at : ℕ) → IsTree nodes → at < length nodes
@@ -52,10 +45,7 @@ steps_at-trees nodes at tree h =
     cc (e, trees_behind [] nodes at (λ k g. subst (λ (c : ℕ). IsBelow c (node_at nodes k)) (omega arith) (tree k g)) h)
 
 pub IsBelow-more : (few many : ℕ) (n : Node) → few ≤ many → IsBelow few n → IsBelow many n
-IsBelow-more few many Node.Done h below = tt
-IsBelow-more few many (Node.Line line instruction next) h below = omega arith
-IsBelow-more few many (Node.Rounds rounds body next) h below = (omega arith, omega arith)
-IsBelow-more few many (Node.Choice number first second next) h below = (omega arith, omega arith, omega arith)
+IsBelow-more few many x2 h below = grind arith
 
 -- One more node, which names those before it.
 pub IsTree_push : (nodes : List Node) (n : Node) → IsTree nodes → IsBelow (length nodes) n → IsTree (nodes ++ n ∷ [])

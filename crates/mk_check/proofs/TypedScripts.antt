@@ -1,16 +1,10 @@
 -- Each line of a script of a well-typed program says what a well-typed line says.
-use Rattle.mk_check.proofs.Vocabulary.{At, Item, List, None, Option, Some, TypeKind, ℕ, ap, append_assoc, at_line}
-use Rattle.mk_check.proofs.Vocabulary.{before_next_script, fault_from, pointer_at, refl, script_from, script_of, suc}
-use Rattle.mk_check.proofs.Vocabulary.{sym, this_script, typing_fault, zero, [], ◌++◌, ◌+◌, ◌∷◌, ◌≡◌}
-use Rattle.mk_check.proofs.LookupLemmas.{pointer_at-append, this_script-push}
-use Rattle.mk_check.proofs.TypedLines.{Says, says}
-use Rattle.mk_check.specs.{Blocks.AllFrom, Lookups.lines_behind, Typing.IsWellTyped, Typing.TypingFault}
-use Rattle.mk_script.specs.declared.items.Item.TheVariants.{Script}
-
-line_none : (line : ℕ) (fault : Option TypeKind) (other : Option TypingFault) → at_line line fault other ≡ None
-    → (fault ≡ None) × (other ≡ None)
-line_none line None other e = (refl, e)
-line_none line (Some k) other e = cc
+use Rattle.mk_check.proofs.Vocabulary.{At, Item, List, None, Some, ℕ, ap, append_assoc, before_next_script, fault_from}
+use Rattle.mk_check.proofs.Vocabulary.{pointer_at, script_from, script_of, suc, sym, this_script, typing_fault, zero}
+use Rattle.mk_check.proofs.Vocabulary.{[], ◌++◌, ◌+◌, ◌∷◌, ◌≡◌}
+use Rattle.mk_check.proofs.{FaultLemmas.at_line-None, LookupLemmas.pointer_at-append, TypedLines.Says, TypedLines.says}
+use Rattle.mk_check.specs.{Blocks.AllFrom, Typing.IsWellTyped}
+use Rattle.mk_script.{proofs.Pushed.this_script-push, specs.declared.items.Item.TheVariants.Script}
 
 -- what is declared before stays declared with more lines
 stays : (script before behind : List Item) → script ≡ before ++ behind → (name : List ℕ) (at : At)
@@ -21,27 +15,21 @@ module _ (program : List Item) where
   next_none : (before more : List Item) (line : ℕ) (item : Item) → fault_from program line before (item ∷ more) ≡ None
       → (typing_fault (record { program = program; script = this_script before }) line more item ≡ None)
       × (fault_from program (line + 1) (before ++ item ∷ []) more ≡ None)
-  next_none before more line item e = line_none line _ _ e
-
-  -- a line that is no script line, with the lines of its script around it
-  more_lines : (script before more : List Item) (item : Item) → script ≡ this_script before ++ item ∷ more
-      → lines_behind (this_script before) item ≡ this_script before ++ item ∷ []
-      → script ≡ this_script (before ++ item ∷ []) ++ more
-  more_lines script before more item all behind =
-      cc (append_assoc (this_script before) (item ∷ []) more, this_script-push before item)
+  next_none before more line item e = at_line-None line _ _ e
 
   -- the lines that are left of a script
   rest_says : (script before more : List Item) (line place : ℕ) → script ≡ this_script before ++ before_next_script more
-      → fault_from program line before more ≡ None
-      → AllFrom (λ l. Says program script) place (before_next_script more)
+      → fault_from program line before more ≡ None → AllFrom (λ l. Says program script) place (before_next_script more)
   rest_says script before [] line place all e = tt
   rest_says script before (Script name ∷ more) line place all e = tt
   rest_says script before (item ∷ more) line place all e =
       let none = next_none before more line item e in (
         says (record { program = program; script = this_script before }) script
             (stays script (this_script before) (before_next_script (item ∷ more)) all) line more item none.0,
-        rest_says script (before ++ item ∷ []) more (line + 1) (place + 1)
-            (more_lines script before (before_next_script more) item all refl) none.1,
+        rest_says script (before ++ item ∷ []) more (line + 1) (place + 1) (cc (
+          append_assoc (this_script before) (item ∷ []) (before_next_script more),
+          this_script-push before item,
+        )) none.1,
       )
 
   from_says : (before more : List Item) (line place k : ℕ) → fault_from program line before more ≡ None

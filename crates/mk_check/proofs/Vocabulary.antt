@@ -23,6 +23,7 @@ pub use Rattle.mk_core.specs.Decided.{flagged}
 pub use Rattle.mk_core.specs.declared.config.Config.{Config}
 pub use Rattle.mk_core.specs.declared.events.Answer.{Answer}
 pub use Rattle.mk_script.proofs.PassedLines.{ArePassed, is_whole}
+pub use Rattle.mk_script.proofs.Pushed.{number_names-append}
 pub use Rattle.mk_script.specs.Lines.{limit_fault}
 pub use Rattle.mk_script.specs.Scopes.{global_names, is_script, number_names, pointer_names, script_names, this_script}
 pub use Rattle.mk_script.specs.Scopes.{type_names}

@@ -1,10 +1,9 @@
 -- What a run leaves is no more work than it began with, and an answer leaves less.
 use Rattle.mk_check.proofs.Vocabulary.{Answer, Bool, Instruction, IsTree, KeptState, List, Node, Place, PlaceIsWithin}
-use Rattle.mk_check.proofs.Vocabulary.{Steps, Stopped, ℕ, after_answer, after_line, arith, false, if◌then◌else◌}
-use Rattle.mk_check.proofs.Vocabulary.{is_some, kept_in, left_in, length, max, node_at, op_asked, refusal_line}
-use Rattle.mk_check.proofs.Vocabulary.{refusal_text, slice_index, stop_behind, stop_of, stop_of_rounds, stop_on_answer}
-use Rattle.mk_check.proofs.Vocabulary.{stopped_in, subst, suc, sym, then_steps, true, with_text, zero, ◌*◌, ◌+◌, ◌<◌}
-use Rattle.mk_check.proofs.Vocabulary.{◌==◌, ◌≡◌, ◌≤◌}
+use Rattle.mk_check.proofs.Vocabulary.{Steps, Stopped, ℕ, after_answer, after_line, arith, if◌then◌else◌, is_some}
+use Rattle.mk_check.proofs.Vocabulary.{kept_in, left_in, length, max, node_at, op_asked, refusal_line, refusal_text}
+use Rattle.mk_check.proofs.Vocabulary.{slice_index, stop_behind, stop_of, stop_of_rounds, stop_on_answer, stopped_in}
+use Rattle.mk_check.proofs.Vocabulary.{subst, suc, sym, then_steps, with_text, zero, ◌*◌, ◌+◌, ◌<◌, ◌==◌, ◌≡◌, ◌≤◌}
 use Rattle.mk_check.proofs.{Moves.unfolded_line, Moves.work_of-then_steps, TreeNodes.is_at}
 use Rattle.mk_check.specs.{Steps.Choice, Steps.Done, Steps.Line, Steps.Rounds, Steps.none_left, Trees.work_of}
 
@@ -16,8 +15,7 @@ work_of-stop_behind stopped go rest goes = by_test (none_left stopped.left)
     by_test : (t : Bool)
         → work_of (if t then go stopped.kept else record stopped { left = then_steps stopped.left rest }).left
         ≤ work_of stopped.left + work_of rest
-    by_test true = omega (arith, goes stopped.kept)
-    by_test false = omega (arith, work_of-then_steps stopped.left rest)
+    by_test x0 = grind (arith, work_of-then_steps)
 
 work_of-stop_of_rounds : (rounds : ℕ) (body : Steps) (go : KeptState → Stopped)
     → ((k : KeptState) → work_of (go k).left ≤ work_of body)
@@ -37,13 +35,11 @@ work_of-stop_of (Line line instruction rest) k =
     by_test : (t : Bool) → work_of (stop_of rest (after_line instruction k)).left ≤ work_of rest
         → work_of (if t then record { left = Line line instruction rest; kept = k }
         else stop_of rest (after_line instruction k)).left ≤ 1 + work_of rest
-    by_test true h = omega arith
-    by_test false h = omega arith
+    by_test x0 h = grind arith
 work_of-stop_of (Rounds rounds body rest) k =
     omega (
       arith,
-      work_of-stop_behind (stop_of_rounds rounds body (stop_of body) k) (stop_of rest) rest
-          (work_of-stop_of rest),
+      work_of-stop_behind (stop_of_rounds rounds body (stop_of body) k) (stop_of rest) rest (work_of-stop_of rest),
       work_of-stop_of_rounds rounds body (stop_of body) (work_of-stop_of body) k,
     )
 work_of-stop_of (Choice number first second rest) k =
@@ -57,14 +53,7 @@ work_of-stop_of (Choice number first second rest) k =
     by_test : (t : Bool) → work_of (stop_of first k).left ≤ work_of first
         → work_of (stop_of second k).left ≤ work_of second
         → work_of (if t then stop_of second k else stop_of first k).left ≤ max (work_of first) (work_of second)
-    by_test true f g = omega arith
-    by_test false f g = omega arith
-
--- An answered line is no longer left.
-work_of-stop_on_answer : (line : ℕ) (instruction : Instruction) (rest : Steps) (a : Answer) (k : KeptState)
-    → work_of (stop_on_answer (Line line instruction rest) a k).left < work_of (Line line instruction rest)
-work_of-stop_on_answer line instruction rest a k =
-    omega (arith, work_of-stop_of rest (after_answer instruction a (with_text k (refusal_line line (refusal_text a)))))
+    by_test x0 f g = grind arith
 
 -- A place that was answered has less work left.
 pub answer_nearer : (nodes : List Node) (p t : Place) (line : ℕ) (instruction : Instruction) (next : ℕ) (a : Answer)
@@ -74,7 +63,9 @@ pub answer_nearer : (nodes : List Node) (p t : Place) (line : ℕ) (instruction 
 answer_nearer nodes p t line instruction next a tree w here stop =
     let rest = left_in nodes (record p { at = next }) in
     let unfolded = unfolded_line nodes (is_at tree w here) in
-    let less : work_of (stop_on_answer (left_in nodes p) a (kept_in p)).left < work_of (left_in nodes p) =
-    subst (λ (s : Steps). work_of (stop_on_answer s a (kept_in p)).left < work_of s) (sym unfolded)
-    (work_of-stop_on_answer line instruction rest a (kept_in p)) in
+    let less : work_of (stop_on_answer (left_in nodes p) a (kept_in p)).left < work_of (left_in nodes p) = subst
+    (λ (s : Steps). work_of (stop_on_answer s a (kept_in p)).left < work_of s) (sym unfolded) (omega (
+      arith,
+      work_of-stop_of rest (after_answer instruction a (with_text (kept_in p) (refusal_line line (refusal_text a)))),
+    )) in
     subst (λ (s : Stopped). work_of s.left < work_of (left_in nodes p)) (sym stop) less

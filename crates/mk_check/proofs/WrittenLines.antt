@@ -52,9 +52,6 @@ in_front : (line line' : ℕ) (front : List Item) (B : Blocks → Blocks) → li
     → (blocks : List Bool) (part : Part) (parts : List Part) (items : List Item)
     → Stands line' blocks (part ∷ parts) items
     → Stands line blocks (record part { blocks = B part.blocks } ∷ parts) (front ++ items)
-in_front line line' front B e f [] part [] items (none, written) = (none, f part.blocks items written)
-in_front line line' front B e f [] part (next ∷ parts) items h = absurd h
-in_front line line' front B e f (block ∷ blocks) part [] items h = absurd h
 in_front line line' front B e f (block ∷ blocks) part (next ∷ parts) items (inner, more, are, may, written, rest) = (
   front ++ inner,
   more,
@@ -63,6 +60,7 @@ in_front line line' front B e f (block ∷ blocks) part (next ∷ parts) items (
   branches_behind line line' front B e f part.blocks part.second inner written,
   moved (λ n. Stands n blocks (next ∷ parts) more) _ _ (omega (arith, e, length-append front inner)) rest,
 )
+in_front line line' front x4 e f x7 part x9 items h = grind arith
 
 plain_stands : (line : ℕ) (item : Item) (blocks : List Bool) (parts : List Part) (items : List Item)
     → is_plain item ≡ true
@@ -90,15 +88,13 @@ repeat_stands line rounds blocks (body ∷ part ∷ parts) items (inner, more, a
     subst (λ (xs : List Item). Stands line blocks
     (record part { blocks = Rounds rounds body.blocks part.blocks } ∷ parts) xs) whole
     (in_front line (line + 1 + length inner + 1) front (Rounds rounds body.blocks)
-    (omega (arith, length-append inner (End ∷ [])))
-    (λ others xs w. (
+    (omega (arith, length-append inner (End ∷ []))) (λ others xs w. (
       inner,
       xs,
       ap (λ (ys : List Item). Repeat rounds ∷ ys) (append_assoc inner (End ∷ []) xs),
       only_first (line + 1) body inner none written,
       w,
-    ))
-    blocks part parts more rest)
+    )) blocks part parts more rest)
 
 -- a first branch with its second
 if_stands : (line : ℕ) (number : List ℕ) (first second : Blocks) (one other : List Item) (blocks : List Bool)
@@ -116,8 +112,7 @@ if_stands line number first second one other blocks part parts more f s rest =
     (record part { blocks = Choice number first second part.blocks } ∷ parts) xs) (joined more)
     (in_front line (line + 1 + length one + length other + 1) front (Choice number first second)
     (omega (arith, length-append one (other ++ End ∷ []), length-append other (End ∷ [])))
-    (λ others xs w. (one, other, xs, joined xs, f, s, w))
-    blocks part parts more rest)
+    (λ others xs w. (one, other, xs, joined xs, f, s, w)) blocks part parts more rest)
 
 choice_stands : (line : ℕ) (number : List ℕ) (first : Blocks) (second : Option Blocks) (inner more : List Item)
     (blocks : List Bool) (part : Part) (parts : List Part)
@@ -138,11 +133,7 @@ choice_stands line number first (Some second) inner more blocks part parts (one,
 
 if_first : (line : ℕ) (number : List ℕ) (blocks : List Bool) (parts : List Part) (items : List Item)
     → Stands (line + 1) (true ∷ blocks) parts items → Stands line blocks (with_if number parts) (If number ∷ items)
-if_first line number blocks [] items h = absurd h
-if_first line number blocks (first ∷ []) items h = absurd h
-if_first line number blocks (first ∷ part ∷ parts) items (inner, more, are, may, written, rest) =
-    subst (λ (xs : List Item). Stands line blocks (with_if number (first ∷ part ∷ parts)) (If number ∷ xs)) (sym are)
-    (choice_stands line number first.blocks first.second inner more blocks part parts written rest)
+if_first line number blocks x3 items h = grind (arith, choice_stands)
 
 else_stands : (line : ℕ) (blocks : List Bool) (parts : List Part) (items : List Item)
     → Stands (line + 1) (false ∷ blocks) parts items → Stands line (true ∷ blocks) (with_else parts) (Else ∷ items)
@@ -158,8 +149,7 @@ else_stands line blocks (second ∷ part ∷ parts) items (inner, more, are, non
     inner,
     refl,
     refl,
-    moved (λ n. AreWritten n second.blocks inner) _ _ (omega arith)
-        (only_first (line + 1) second inner none written),
+    moved (λ n. AreWritten n second.blocks inner) _ _ (omega arith) (only_first (line + 1) second inner none written),
   ),
   moved (λ n. Stands n blocks (part ∷ parts) more) _ _ (omega arith) rest,
 )
@@ -171,12 +161,7 @@ end_stands line block blocks [] items h = absurd (no_part blocks items h)
     no_part : (bs : List Bool) (xs : List Item) → Stands (line + 1) bs [] xs → ⊥
     no_part [] xs k = k
     no_part (b ∷ bs) xs k = k
-end_stands line block blocks (part ∷ parts) items h =
-    ([], items, refl, may block, refl, moved (λ n. Stands n blocks (part ∷ parts) items) _ _ (omega arith) h)
-  where
-    may : (b : Bool) → MayHave b None
-    may true = tt
-    may false = refl
+end_stands line block blocks (part ∷ parts) items h = grind (arith, moved, Stands)
 
 stands : (line : ℕ) (blocks : List Bool) (items : List Item) → Closes blocks items
     → Stands line blocks (parts_from line items) items
@@ -201,9 +186,7 @@ stands line blocks (item ∷ items) h = plain_stands line item blocks (parts_fro
 
 outermost_written : (line : ℕ) (parts : List Part) (items : List Item) → Stands line [] parts items
     → AreWritten line (outermost_blocks parts) items
-outermost_written line [] items h = absurd h
-outermost_written line (part ∷ []) items (none, written) = written
-outermost_written line (part ∷ next ∷ parts) items h = absurd h
+outermost_written line x1 items h = grind arith
 
 -- The lines of one script close their blocks.
 
@@ -226,24 +209,11 @@ record Later (items : List Item) : Type 0 where
   closes : Closes blocks items
 
 later : (blocks : List Bool) (item : Item) (items : List Item) → Closes blocks (item ∷ items) → Later items
-later blocks (Repeat rounds) items h = record { blocks = false ∷ blocks; closes = h }
-later blocks (If number) items h = record { blocks = true ∷ blocks; closes = h }
-later [] Else items h = absurd h
-later (true ∷ blocks) Else items h = record { blocks = false ∷ blocks; closes = h }
-later (false ∷ blocks) Else items h = absurd h
-later [] End items h = absurd h
-later (block ∷ blocks) End items h = record { blocks = blocks; closes = h }
-later [] (Script name) items h = record { blocks = []; closes = h }
-later (block ∷ blocks) (Script name) items h = absurd h
-later blocks _ items h = record { blocks = blocks; closes = h }
+later blocks x1 items h = grind arith
 
 script_closes : (line k : ℕ) (items : List Item) → Later items → Closes [] (script_from line k items).items
 script_closes line k [] l = refl
-script_closes line zero (Script name ∷ items) l = by_blocks l.blocks l.closes
-  where
-    by_blocks : (blocks : List Bool) → Closes blocks (Script name ∷ items) → Closes [] (before_next_script items)
-    by_blocks [] h = front_closes [] items h
-    by_blocks (block ∷ blocks) h = absurd h
+script_closes line zero (Script name ∷ items) l = grind (arith, front_closes, Closes)
 script_closes line (suc k) (Script name ∷ items) l =
     script_closes (line + 1) k items (later l.blocks (Script name) items l.closes)
 script_closes line zero (item ∷ items) l = script_closes (line + 1) zero items (later l.blocks item items l.closes)

@@ -1,7 +1,6 @@
 -- The generated text is refused by no step.
 use Rattle.std.proofs.Common.{Err}
-use Rattle.mk_gen.proofs.Vocabulary.{Item, List, Ok, Some, ℕ, ap, generated_text, program_of, subst, sym, ◌∙◌, ◌≡◌, ◌≤◌}
-use Rattle.mk_check.proofs.GrammarLemmas.{Err≢Ok, Ok-injective, Some≢None}
+use Rattle.mk_gen.proofs.Vocabulary.{Item, List, Ok, Some, ℕ, ap, generated_text, program_of, subst, ◌∙◌, ◌≡◌, ◌≤◌}
 use Rattle.mk_check.specs.Typing.{NamesFirstFault, first_typing_fault}
 use Rattle.mk_check.specs.declared.typing_faults.TypeStop.TheVariants.{IllTyped}
 use Rattle.mk_check.specs.{declared.typing_faults.TypeKind.TypeKind, declared.typing_faults.TypeStop.TypeStop}
@@ -15,11 +14,11 @@ module _ (start count : ℕ) (most : count ≤ 3000000) (text : List ℕ) (is : 
 
   -- it is of the grammar
   pub is_read : (stop : TextStop) → program_of text ≡ Err stop → ⊥
-  is_read stop refused = Err≢Ok stop (generated_program start count) (sym refused ∙ program_is)
+  is_read stop refused = cc (program_is)
 
   module _ (program : List Item) (read : program_of text ≡ Ok program) where
     pub is_generated : program ≡ generated_program start count
-    is_generated = Ok-injective {E = TextStop} program (generated_program start count) (sym read ∙ program_is)
+    is_generated = cc (program_is)
 
     -- and its program is well typed
     pub is_typed : (line : ℕ) (kind : TypeKind) (stop : TypeStop) → stop ≡ IllTyped line kind
@@ -28,4 +27,4 @@ module _ (start count : ℕ) (most : count ≤ 3000000) (text : List ℕ) (is : 
         let fault : first_typing_fault program ≡ Some (record { line = line; kind = kind }) =
         subst (NamesFirstFault program) ill names in
         let none = ap first_typing_fault is_generated ∙ generated_is_well_typed start count most in
-        Some≢None (record { line = line; kind = kind }) (sym fault ∙ none)
+        cc

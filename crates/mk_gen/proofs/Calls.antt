@@ -1,13 +1,12 @@
 -- How many operations a script without `if` asks for, whatever it is answered.
 use Rattle.std.{proofs.Common.if◌then◌else◌, proofs.Common.is_some, proofs.lemmas.List.length_push, specs.Prelude.⊤}
-use Rattle.mk_gen.proofs.Vocabulary.{Bool, Item, List, None, Option, Some, ℕ, ap, arith, blocks_from, false, false≢true}
-use Rattle.mk_gen.proofs.Vocabulary.{length, refl, subst, suc, sym, true, zero, [], ◌*◌, ◌+◌, ◌∙◌, ◌∷◌, ◌≡◌}
+use Rattle.mk_gen.proofs.Vocabulary.{Bool, Item, List, Option, ℕ, ap, arith, blocks_from, false, length, refl, subst}
+use Rattle.mk_gen.proofs.Vocabulary.{suc, sym, true, zero, [], ◌*◌, ◌+◌, ◌∙◌, ◌∷◌, ◌≡◌}
 use Rattle.mk_never.specs.declared.operations.Op.{Op}
 use Rattle.mk_core.specs.declared.events.Answer.{Answer}
 use Rattle.mk_check.specs.Feed.{Fed, Scope, fed_before_answers, fed_before_lines, feed_script, has_ended, note, op_of}
 use Rattle.mk_check.specs.Feed.{run, run_line, run_rounds, take_answer, take_answers, with_answer}
 use Rattle.mk_check.specs.Blocks.{Blocks, Choice, Done, Line, Rounds, ScriptText, followed_by, is_end_of_block}
-use Rattle.mk_script.specs.declared.items.Item.TheVariants.{Else, Getn, Print}
 
 abbrev pub nowhere : Scope
 nowhere = record { types = []; globals = []; pointers = []; numbers = [] }
@@ -20,8 +19,7 @@ abbrev pub is_call : Item → Bool
 is_call item = is_some (op_of nowhere nothing item)
 
 asks : (scope : Scope) (fed : Fed) (item : Item) → is_some (op_of scope fed item) ≡ is_call item
-asks scope fed Else = refl
-asks scope fed item = refl
+asks scope fed item = grind arith
 
 -- the operations that blocks ask for
 abbrev pub calls_of : Blocks → ℕ
@@ -55,10 +53,7 @@ record IsLeft (calls : ℕ) (before after : Fed) : Type 0 where
   plain : HasNoIf after.left
 
 calls_of-done : (b : Blocks) → is_end_of_block b ≡ true → calls_of b ≡ 0
-calls_of-done Done done = refl
-calls_of-done (Line line item rest) done = absurd (false≢true done)
-calls_of-done (Rounds rounds body rest) done = absurd (false≢true done)
-calls_of-done (Choice number first second rest) done = absurd (false≢true done)
+calls_of-done x0 done = grind arith
 
 -- a part runs, and what stands after it
 left_then : {n : ℕ} {before fed : Fed} (go : Fed → Fed) (rest : Blocks) → IsLeft n before fed → HasNoIf rest
@@ -83,19 +78,16 @@ module _ (scope : Scope) where
   rounds_left (suc more) body go plain goes fed =
       let behind : (f : Fed) → IsLeft (more * calls_of body + 0) f (run_rounds more body go f) =
       λ f. recounted (omega arith) (rounds_left more body go plain goes f) in
-      recounted (omega arith)
-      (left_then (run_rounds more body go) (Rounds more body Done) (goes fed) (plain, tt) behind
+      recounted (omega arith) (left_then (run_rounds more body go) (Rounds more body Done) (goes fed) (plain, tt) behind
       (is_end_of_block (go fed).left) refl)
 
   line_keeps : (fed : Fed) (item : Item) → (run_line scope fed item).ops ≡ fed.ops
-  line_keeps fed (Print number) = refl
-  line_keeps fed item = refl
+  line_keeps fed item = grind arith
 
   line_left : (line : ℕ) (item : Item) (rest : Blocks) (fed after : Fed) → HasNoIf rest
       → IsLeft (calls_of rest) (run_line scope fed item) after → (test : Bool) → test ≡ is_call item
       → IsLeft (calls_of (Line line item rest)) fed (if test then record fed { left = Line line item rest } else after)
-  line_left line item rest fed after plain behind true is = record { ops = refl; calls_are = refl; plain = plain }
-  line_left line item rest fed after plain behind false is = grind (arith, line_keeps)
+  line_left line item rest fed after plain behind x7 is = grind (arith, line_keeps)
 
   run_left : (b : Blocks) → HasNoIf b → (fed : Fed) → IsLeft (calls_of b) fed (run scope b fed)
   run_left Done plain fed = record { ops = refl; calls_are = refl; plain = tt }
@@ -111,13 +103,11 @@ module _ (scope : Scope) where
   run_left (Choice number first second rest) plain fed = absurd plain
 
   answer_keeps : (fed : Fed) (item : Item) (a : Answer) → (with_answer scope fed item a).ops ≡ fed.ops
-  answer_keeps fed (Getn number pointer index) a = refl
-  answer_keeps fed item a = refl
+  answer_keeps fed item a = grind arith
 
   noted : (fed : Fed) (o : Option Op) (line : ℕ) (a : Answer)
       → length (note fed o line a).ops ≡ length fed.ops + (if is_some o then 1 else 0)
-  noted fed None line a = omega arith
-  noted fed (Some o) line a = length_push fed.ops _
+  noted fed x1 line a = grind (arith, length_push)
 
   -- the operations that were noted, and those that are left to ask for
   abbrev pub total : Fed → ℕ

@@ -1,11 +1,11 @@
 -- The lines of a script are read by what stands after its first line alone.
-use Rattle.std.proofs.{lemmas.Bool.or_right, lemmas.List.Folds.list_any-append, lemmas.List.Sums.fold-append}
-use Rattle.std.specs.List.{list_all}
-use Rattle.mk_gen.proofs.Vocabulary.{Bool, Item, List, None, Option, Script, Some, ℕ, and_parts, ap, checked_item}
-use Rattle.mk_gen.proofs.Vocabulary.{false, false≢true, length, line_item, refl, sym, this_script, this_script-push}
-use Rattle.mk_gen.proofs.Vocabulary.{true, words_of_line, [], ◌++◌, ◌+◌, ◌∙◌, ◌∷◌, ◌≡◌}
+use Rattle.std.{proofs.lemmas.Bool.or_right, proofs.lemmas.List.Folds.list_any-append, specs.List.list_all}
+use Rattle.mk_gen.proofs.Vocabulary.{Bool, Item, List, None, Option, Script, Some, ℕ, and_parts, ap, false, false≢true}
+use Rattle.mk_gen.proofs.Vocabulary.{length, line_item, refl, sym, this_script, this_script-push, true, words_of_line}
+use Rattle.mk_gen.proofs.Vocabulary.{[], ◌++◌, ◌+◌, ◌∙◌, ◌∷◌, ◌≡◌}
 use Rattle.mk_check.specs.Lookups.{lines_behind}
 use Rattle.mk_gen.proofs.ReadLines.{AreRead, IsRead}
+use Rattle.mk_script.proofs.Pushed.{open_blocks-push}
 use Rattle.mk_script.specs.Lines.{at_most, has_script, is_among, is_placed, is_twice, limit_fault, other_line}
 use Rattle.mk_script.specs.Lines.{placed_item, register_names}
 use Rattle.mk_script.specs.Scopes.{is_script, number_names, open_behind, open_blocks, pointer_names}
@@ -28,10 +28,6 @@ is_inside item = true
 
 has_script-push : (items : List Item) (item : Item) → has_script items ≡ true → has_script (items ++ item ∷ []) ≡ true
 has_script-push items item has = list_any-append is_script items (item ∷ []) ∙ rw has refl
-
-open_blocks-push : (items : List Item) (item : Item)
-    → open_blocks (items ++ item ∷ []) ≡ open_behind (open_blocks items) item
-open_blocks-push items item = fold-append open_behind [] items (item ∷ [])
 
 pub alike_push : {a b : List Item} (item : Item) → AreAlike a b → AreAlike (a ++ item ∷ []) (b ++ item ∷ [])
 alike_push {a} {b} item alike = record {
@@ -73,9 +69,6 @@ module _ (a b : List Item) (alike : AreAlike a b) where
   other_alike [] = refl
   other_alike (word ∷ operands) = form_alike (keyword_of word) operands
 
-  line_alike : (words : List (List ℕ)) → line_item a words ≡ line_item b words
-  line_alike words = other_line_of a words alike.script ∙ other_alike words ∙ sym (other_line_of b words alike.script')
-
   twice_alike : (item : Item) → is_inside item ≡ true → is_twice a item ≡ is_twice b item
   twice_alike (TypeLine name words) inside = absurd (false≢true inside)
   twice_alike (Global name ty) inside = absurd (false≢true inside)
@@ -95,20 +88,17 @@ module _ (a b : List Item) (alike : AreAlike a b) where
   limit_alike (If number) inside = ap (λ blocks. at_most (length blocks + 1) 32 Which.Depth) alike.blocks
   limit_alike item inside = refl
 
-  checked_alike : (item : Item) → is_inside item ≡ true → checked_item a item ≡ checked_item b item
-  checked_alike item inside = rw (twice_alike item inside, limit_alike item inside, alike.blocks) refl
-
   pub read_alike : (line : List ℕ) (item : Item) → is_inside item ≡ true → IsRead a line item → IsRead b line item
   read_alike line item inside is = record {
-    says = sym (line_alike (words_of_line line)) ∙ is.says;
-    passes = sym (checked_alike item inside) ∙ is.passes;
+    says = sym (other_line_of a (words_of_line line) alike.script ∙ other_alike (words_of_line line) ∙ sym
+        (other_line_of b (words_of_line line) alike.script')) ∙ is.says;
+    passes = sym (rw (twice_alike item inside, limit_alike item inside, alike.blocks) refl) ∙ is.passes;
     is_whole = is.is_whole;
     is_short = is.is_short;
   }
 
 pub AreRead-alike : (lines : List (List ℕ)) (items : List Item) {a b : List Item} → AreAlike a b
-    → list_all is_inside items ≡ true
-    → AreRead a lines items → AreRead b lines items
+    → list_all is_inside items ≡ true → AreRead a lines items → AreRead b lines items
 AreRead-alike [] [] alike inside are = tt
 AreRead-alike [] (item ∷ items) alike inside are = absurd are
 AreRead-alike (line ∷ lines) [] alike inside are = absurd are

@@ -30,6 +30,4 @@ declarations_are_read numbers some few =
     (ap (λ digits. codes "type Buf n*" ++ digits) (sym (append-nil (decimal numbers))))
     (refl, (refl, (is_word-append (codes "n*") (decimal numbers) refl (is_solid-decimal numbers small), tt)))
     (rw (field_of-numbers numbers some small, append-nil) refl) (rw short refl)
-    (omega (arith, length-decimal numbers small))
-    and plain refl refl refl
-    and tt
+    (omega (arith, length-decimal numbers small)) and plain refl refl refl and tt

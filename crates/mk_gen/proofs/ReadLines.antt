@@ -2,10 +2,10 @@
 use Rattle.std.{proofs.Common.length-append, proofs.Common.nat_eq, proofs.Common.nat_lt, proofs.lemmas.Bool.cond-true}
 use Rattle.std.{proofs.lemmas.List.Splits.slice_split_at, specs.List.All, specs.List.slice_split}
 use Rattle.mk_gen.proofs.Vocabulary.{Item, List, Ok, ℕ, ap, append-nil, append_assoc, arith, checked_item, false}
-use Rattle.mk_gen.proofs.Vocabulary.{false≢true, le-leb, leb-true, length, line_item, nat_le, program_of, refl, subst}
-use Rattle.mk_gen.proofs.Vocabulary.{sym, text_of_lines, true, words_of_line, [], ◌*◌, ◌++◌, ◌+◌, ◌∙◌, ◌∷◌, ◌≡◌, ◌≤◌}
-use Rattle.mk_script.proofs.Said.{then_again}
-use Rattle.mk_script.specs.Grammar.{at_end, go_on, items_behind, items_of_lines}
+use Rattle.mk_gen.proofs.Vocabulary.{le-leb, leb-true, length, line_item, nat_le, program_of, refl, subst, sym}
+use Rattle.mk_gen.proofs.Vocabulary.{text_of_lines, true, words_of_line, [], ◌*◌, ◌++◌, ◌+◌, ◌∙◌, ◌∷◌, ◌≡◌, ◌≤◌}
+use Rattle.mk_script.proofs.{CanonicalLines.without_last, Said.then_again}
+use Rattle.mk_script.specs.Grammar.{at_end, go_on, items_behind}
 use Rattle.mk_script.specs.{Lines.line_of, Words.lines_of, Words.without_empty_last}
 
 -- a line of at most 40 bytes, without a newline, which is read as the item
@@ -41,11 +41,6 @@ split_lines (line ∷ lines) before (item ∷ items) are =
     slice_split_at (λ byte. nat_eq byte 10) line 10 (text_of_lines lines) are.0.is_whole refl
     ∙ ap (λ rest. line ∷ rest) (split_lines lines (before ++ item ∷ []) items are.1)
 
-without_last : (lines : List (List ℕ)) → without_empty_last (lines ++ [] ∷ []) ≡ lines
-without_last [] = refl
-without_last (line ∷ []) = refl
-without_last (line ∷ next ∷ lines) = ap (λ rest. line ∷ rest) (without_last (next ∷ lines))
-
 lines_of-text : (lines : List (List ℕ)) (before items : List Item) → AreRead before lines items
     → lines_of (text_of_lines lines) ≡ lines
 lines_of-text lines before items are = ap without_empty_last (split_lines lines before items are) ∙ without_last lines
@@ -60,8 +55,7 @@ length-text (line ∷ lines) before (item ∷ items) are =
 
 is_line : {before : List Item} {line : List ℕ} {item : Item} → IsRead before line item
     → line_of before (words_of_line line) ≡ Ok item
-is_line {before} {line} {item} is =
-    then_again (line_item before (words_of_line line)) (checked_item before) item (Ok item) is.says is.passes
+is_line is = grind (arith, then_again)
 
 items_are : (lines : List (List ℕ)) (before items : List Item) → AreRead before lines items
     → at_end (before ++ items) ≡ Ok (before ++ items) → items_behind lines before ≡ Ok (before ++ items)
@@ -76,9 +70,5 @@ items_are (line ∷ lines) before (item ∷ items) are end =
 -- a text of 1 to 1,000 lines that are read
 pub program_of-lines : (lines : List (List ℕ)) (items : List Item) → AreRead [] lines items → at_end items ≡ Ok items
     → nat_lt 0 (length lines) ≡ true → nat_le (length lines) 1000 ≡ true → program_of (text_of_lines lines) ≡ Ok items
-program_of-lines [] items are end some few = absurd (false≢true some)
-program_of-lines (line ∷ lines) items are end some few =
-    let small : length (text_of_lines (line ∷ lines)) ≤ 1048576 =
-    omega (arith, length-text (line ∷ lines) [] items are, leb-true _ _ few) in
-    cond-true _ _ _ (le-leb _ _ small)
-    ∙ (ap items_of_lines (lines_of-text (line ∷ lines) [] items are) ∙ items_are (line ∷ lines) [] items are end)
+program_of-lines x0 items are end some few =
+    grind (arith, length-text, leb-true, cond-true, le-leb, lines_of-text, items_are)

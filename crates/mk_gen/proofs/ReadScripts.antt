@@ -2,12 +2,12 @@
 use Rattle.std.proofs.Common.{not, ◌&&◌, ◌/◌}
 use Rattle.std.proofs.{Math.Nat.mod-lt, lemmas.Bool.not-true, lemmas.List.Sums.fold-append}
 use Rattle.mk_gen.proofs.Vocabulary.{Bool, Item, List, Ok, Script, ℕ, and_parts, ap, append-nil, arith, body_lines}
-use Rattle.mk_gen.proofs.Vocabulary.{codes, draw, false≢true, leb-true, length, line_item, lines_of_scripts, nat_le}
-use Rattle.mk_gen.proofs.Vocabulary.{next_state, refl, script_body, scripts, sym, true, [], ◌++◌, ◌+◌, ◌<◌, ◌^◌, ◌and◌}
-use Rattle.mk_gen.proofs.Vocabulary.{◌∷◌, ◌≡◌, ◌≤◌}
+use Rattle.mk_gen.proofs.Vocabulary.{codes, draw, leb-true, length, line_item, lines_of_scripts, nat_le, next_state}
+use Rattle.mk_gen.proofs.Vocabulary.{refl, script_body, scripts, sym, true, [], ◌++◌, ◌+◌, ◌<◌, ◌^◌, ◌and◌, ◌∷◌, ◌≡◌}
+use Rattle.mk_gen.proofs.Vocabulary.{◌≤◌}
 use Rattle.mk_gen.proofs.ReadLines.{AreRead, AreRead-append, IsRead}
 use Rattle.mk_gen.proofs.{InScript.AreRead-alike, InScript.alike_at_first, ReadBody.body_is_read, ReadBody.by_words}
-use Rattle.mk_script.proofs.{PrintedForms.read_name, Said.is_word-name}
+use Rattle.mk_script.proofs.{PrintedForms.read_name, Pushed.script_names-append, Said.is_word-name}
 use Rattle.mk_script.specs.Scopes.{open_blocks, script_names}
 use Rattle.mk_script.specs.{Lines.is_among, Names.is_name, Operands.item_from, ScopeOf.has_lines}
 
@@ -28,8 +28,7 @@ MayBegin before (name ∷ names) = (may_begin before name ≡ true) × MayBegin 
 script_says : (before : List Item) (name : List ℕ) → has_lines before ≡ true → is_name name ≡ true
     → line_item before (codes "script" ∷ name ∷ []) ≡ Ok (Script name)
 unfolding item_from
-script_says [] name some named = absurd (false≢true some)
-script_says (first ∷ before) name some named = read_name name named _ refl
+script_says x0 name some named = grind (arith, read_name)
 
 -- a script's first line
 first_is_read : {before : List Item} {names : List (List ℕ)} (name : List ℕ) → AreReady before names
@@ -42,15 +41,8 @@ first_is_read {before} name ready may =
     (refl, (is_word-name name begins.0, tt)) (script_says before name ready.some begins.0)
     (rw (ready.names_are, not-true _ begins.1, parts.1, ready.closed) refl) (omega (arith, short))
 
-script_names-append : (items behind : List Item)
-    → script_names (items ++ behind) ≡ script_names items ++ script_names behind
-script_names-append [] behind = refl
-script_names-append (Script name ∷ items) behind = ap (λ names. name ∷ names) (script_names-append items behind)
-script_names-append (item ∷ items) behind = script_names-append items behind
-
 has_lines-append : (items behind : List Item) → has_lines items ≡ true → has_lines (items ++ behind) ≡ true
-has_lines-append [] behind some = absurd (false≢true some)
-has_lines-append (item ∷ items) behind some = refl
+has_lines-append x0 behind some = grind arith
 
 module _ (turns number place : ℕ) where
   abbrev pub script_items : List ℕ → List Item
@@ -65,8 +57,7 @@ module _ (turns number place : ℕ) where
       → AreReady before names → may_begin names name ≡ true
       → AreRead before ((codes "script " ++ name) ∷ body_lines turns number place) (script_items name)
   script_is_read t a i before names name ready may =
-      first_is_read name ready may
-      and AreRead-alike (body_lines turns number place) (script_body turns number place)
+      first_is_read name ready may and AreRead-alike (body_lines turns number place) (script_body turns number place)
       (alike_at_first before name) refl (body_is_read turns number place t a i)
 
 pub draw-lt : (x m : ℕ) → 0 < m → draw x m < m

@@ -3,19 +3,12 @@ use Rattle.mk_gen.proofs.Vocabulary.{Item, List, Ok, ℕ, all_names, arith, coun
 use Rattle.mk_gen.proofs.Vocabulary.{declarations, lines_of_scripts, next_state, program_of, refl, scripts, turns_of}
 use Rattle.mk_gen.proofs.Vocabulary.{[], ◌++◌, ◌<◌, ◌^◌, ◌≡◌, ◌≤◌}
 use Rattle.mk_gen.proofs.ReadLines.{AreRead, AreRead-append, program_of-lines}
-use Rattle.mk_gen.proofs.ReadScripts.{AreReady, draw-lt, scripts_are_read}
-use Rattle.mk_gen.proofs.ReadDeclarations.{declarations_are_read}
+use Rattle.mk_gen.proofs.{ReadDeclarations.declarations_are_read, ReadScripts.draw-lt, ReadScripts.scripts_are_read}
 use Rattle.mk_gen.specs.{Generated.generated_program, GeneratedText.generated_lines, GeneratedText.generated_text}
 use Rattle.mk_script.specs.Grammar.{at_end}
 
 pub numbers_some : (start : ℕ) → 1 ≤ count_of_numbers start
 numbers_some start = omega arith
-
-pub numbers_few : (start : ℕ) → count_of_numbers start ≤ 100
-numbers_few start = omega (arith, draw-lt (next_state start) 100 (omega arith))
-
-declarations_are_ready : (numbers : ℕ) → AreReady (declarations numbers) []
-declarations_are_ready numbers = record { some = refl; names_are = refl; closed = refl }
 
 module _ (turns numbers x : ℕ) where
   lines : List (List ℕ)
@@ -30,7 +23,7 @@ module _ (turns numbers x : ℕ) where
       AreRead-append (declaration_lines numbers) (lines_of_scripts turns numbers x all_names) []
       (declarations numbers) (scripts turns numbers x all_names) (declarations_are_read numbers some few)
       (scripts_are_read turns numbers small (omega (arith, some)) few x all_names [] (declarations numbers)
-      (declarations_are_ready numbers) (refl, (refl, (refl, (refl, tt)))))
+      (record { some = refl; names_are = refl; closed = refl }) (refl, (refl, (refl, (refl, tt)))))
 
   -- no block is open after all lines, and there are scripts
   ends : at_end items ≡ Ok items
@@ -43,5 +36,5 @@ unfolding generated_program generated_text lines items
 program_of-generated_text start count most =
     program_of-lines (generated_lines start count) (generated_program start count)
     (lines_are_read (turns_of count) (count_of_numbers start) (next_state start) (omega (arith, most))
-    (numbers_some start) (numbers_few start)) (ends (turns_of count) (count_of_numbers start) (next_state start)) refl
-    refl
+    (numbers_some start) (omega (arith, draw-lt (next_state start) 100 (omega arith))))
+    (ends (turns_of count) (count_of_numbers start) (next_state start)) refl refl

@@ -5,7 +5,7 @@ pub use Rattle.std.proofs.Common.{[], ◌*◌, ◌++◌, ◌+◌, ◌<◌, ◌^�
 pub use Rattle.std.proofs.lemmas.Bool.{and_parts, false≢true}
 pub use Rattle.std.specs.Fmt.{decimal}
 pub use Rattle.mk_core.proofs.EventsAt.{◌and◌}
-pub use Rattle.mk_check.proofs.LookupLemmas.{this_script-push}
+pub use Rattle.mk_script.proofs.Pushed.{this_script-push}
 pub use Rattle.mk_check.specs.Blocks.{blocks_from}
 pub use Rattle.mk_script.specs.Grammar.{program_of}
 pub use Rattle.mk_script.specs.Lines.{checked_item, line_item}

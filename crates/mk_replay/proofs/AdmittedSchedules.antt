@@ -1,53 +1,28 @@
 -- The history that a schedule makes of a checked program asks for nothing that isn't admitted, so it is a history of
 -- the program's heap, and keeps all promises.
-use Rattle.std.proofs.lemmas.List.Elements.{All-nil, All-push, filter-append}
-use Rattle.std.proofs.{Common.All, lemmas.List.get_or-replicate, lemmas.List.Sums.sum_by_push}
+use Rattle.std.proofs.lemmas.List.Elements.{All-nil, All-push}
+use Rattle.std.proofs.{Common.All, lemmas.List.get_or-replicate}
 use Rattle.mk_replay.proofs.Vocabulary.{Answer, AreEnabled, Caller, Config, Decided, Entry, Event, Flight, Item, Moment}
 use Rattle.mk_replay.proofs.Vocabulary.{Op, Stage, Step, answer_decided, answers_given, asked, at_rest, calls}
 use Rattle.mk_replay.proofs.Vocabulary.{comes_next, config_of, ends_call, entry_of, event_of_entry, first_world}
-use Rattle.mk_replay.proofs.Vocabulary.{flight_of, history_of, is_same_seat, left, length-append, nat_tests, progress}
+use Rattle.mk_replay.proofs.Vocabulary.{flight_of, history_of, is_same_seat, left, length-append, progress}
 use Rattle.mk_laws.proofs.Vocabulary.{Bool, Host, IsHistory, List, Marker, None, Option, Seat, Some, World, ℕ, ap}
 use Rattle.mk_laws.proofs.Vocabulary.{append-nil, append_assoc, arith, call_decided, cases_eq, enabled_meets}
-use Rattle.mk_laws.proofs.Vocabulary.{enabled_parts, eq-eqb, false, found, get_or, get_or-set_other, get_or-set_same}
-use Rattle.mk_laws.proofs.Vocabulary.{if◌then◌else◌, inl, inr, left_more, length, ltb-true, map-append, refl, subst}
-use Rattle.mk_laws.proofs.Vocabulary.{sym, true, [], ◌&&◌, ◌++◌, ◌+◌, ◌<◌, ◌==◌, ◌∙◌, ◌∷◌, ◌≡◌, ◌≢◌}
+use Rattle.mk_laws.proofs.Vocabulary.{enabled_parts, false, found, get_or, get_or-set_other, get_or-set_same, inl, inr}
+use Rattle.mk_laws.proofs.Vocabulary.{left_more, length, ltb-true, map-append, refl, subst, sym, true, [], ◌&&◌, ◌++◌}
+use Rattle.mk_laws.proofs.Vocabulary.{◌+◌, ◌<◌, ◌∙◌, ◌∷◌, ◌≡◌, ◌≢◌}
 use Rattle.mk_core.proofs.Histories.{calls_more, last_enabled}
 use Rattle.mk_core.specs.{Effects.flights_behind, History.calls_from, History.left_from, Order.is_in_order}
 use Rattle.mk_laws.{proofs.Promises.histories_keep_all_promises, specs.Promises.KeepsAllPromises}
 use Rattle.mk_check.proofs.AdmittedScripts.{first_are_noted, scripts_are_admitted}
-use Rattle.mk_check.proofs.{ConfigLemmas.config_within, GivenAnswers.as_list, GivenAnswers.counted, GivenAnswers.serves}
-use Rattle.mk_check.specs.Output.{answers_among, ended_calls, ends_call_of}
-use Rattle.mk_check.specs.{Feeding.next_op, Laws.IsChecked, Laws.IsScript}
+use Rattle.mk_check.proofs.GivenAnswers.{among_more, as_list, counted, more_ended, other_number, same_number, serves}
+use Rattle.mk_check.proofs.ConfigLemmas.{config_within}
+use Rattle.mk_check.specs.{Feeding.next_op, Laws.IsChecked, Laws.IsScript, Output.answers_among, Output.ended_calls}
 use Rattle.mk_replay.proofs.AskedCalls.{Asks, BeginsAsAsked, Waits, others_step, own_step, same_asks, waits}
 use Rattle.mk_replay.specs.Replays.{history_from, next_op_for, step_of}
 use Rattle.mk_script.{proofs.PassedLines.is_whole, specs.Scopes.script_names}
 
 -- What one event more makes of a caller's answers, and of the count of its calls that ended.
-
-among_more : (k : ℕ) (xs ys : List Decided) → answers_among k (xs ++ ys) ≡ answers_among k xs ++ answers_among k ys
-among_more k xs ys = grind (arith, filter-append, map-append)
-
-is_same : (j : ℕ) → (j == j) ≡ true
-is_same j = eq-eqb j j refl
-
-is_other : (j k : ℕ) → j ≢ k → (j == k) ≡ false
-is_other j k other = grind (arith, nat_tests)
-
-own_among : (k : ℕ) (xs : List Decided) (o : Op) (a : Option Answer)
-    → answers_among k (xs ++ entry_of k o a) ≡ answers_among k xs ++ as_list a
-own_among k xs o a = grind (arith, among_more, as_list, is_same)
-
-others_among : (k j : ℕ) (xs : List Decided) (o : Op) (a : Option Answer) → j ≢ k
-    → answers_among k (xs ++ entry_of j o a) ≡ answers_among k xs
-others_among k j xs o a other = grind (arith, among_more, append-nil, is_other)
-
-ended_more : (es : List Event) (e : Event) (k : ℕ)
-    → ended_calls k (es ++ e ∷ []) ≡ counted (ended_calls k es) (ends_call_of k e)
-ended_more es e k = sum_by_push (λ (x : Event). if ends_call_of k x then 1 else 0) es e ∙ counts (ends_call_of k e)
-  where
-    counts : (b : Bool) → ended_calls k es + (if b then 1 else 0) ≡ counted (ended_calls k es) b
-    counts true = refl
-    counts false = omega arith
 
 asked_more : (xs ys : List Decided) → asked (xs ++ ys) ≡ asked xs ++ asked ys
 asked_more xs ys = map-append _ xs ys
@@ -56,17 +31,11 @@ asked_more xs ys = map-append _ xs ys
 
 no_new_enters : (s : Stage) (f : Op) (d ty : ℕ) (full : Bool) → comes_next s f (Step.Enter (Op.New d ty full)) ≡ true
     → ⊥
-no_new_enters Stage.Turn (Op.New d' ty' full') d ty full h = cc
-no_new_enters Stage.Turn f d ty full h = cc
-no_new_enters s f d ty full h = cc
+no_new_enters s f d ty full h = grind arith
 
 begins_so : (program : List Item) (k : ℕ) (given : List Answer) (x : Step) (o : Option Op) (s : Stage) (f : Op)
     → next_op program k given ≡ o → comes_next s f (step_of x o) ≡ true → BeginsAsAsked program k given (step_of x o)
-begins_so program k given (Step.Enter _) (Some y) s f next order = next
-begins_so program k given (Step.Enter _) None s f next order = absurd (no_new_enters s f 0 0 false order)
-begins_so program k given (Step.Take _) (Some y) s f next order = next
-begins_so program k given (Step.Take _) None s f next order = tt
-begins_so program k given x o s f next order = tt
+begins_so program k given x o s f next order = grind (arith, no_new_enters)
 
 -- what caller k has called after a history, as its script asks for it
 abbrev pub AsksBehind : List Item → List Event → ℕ → Type 0
@@ -117,9 +86,9 @@ module _ (program : List Item) (es : List Event) where
       let inside : j < length m.seats.flights =
       subst (λ (i : ℕ). j < i) (sym (serves c es j before).long) (ltb-true j c.callers meets.seat) in
       let ended : ended_calls j (es ++ e ∷ []) ≡ counted n (ends_call s) =
-      ended_more es e j ∙ ap (λ (b : Bool). counted n (b && ends_call s)) (is_same j) in
+      more_ended es e j ∙ ap (λ (b : Bool). counted n (b && ends_call s)) (same_number j) in
       let answered : answers_among j (calls c (es ++ e ∷ [])) ≡ all ++ as_list p.answer =
-      ap (answers_among j) (calls_more c (first_world c) es e) ∙ own_among j (calls c es) f.op p.answer in
+      ap (answers_among j) (calls_more c (first_world c) es e) ∙ (grind (arith, among_more, as_list, same_number)) in
       let once = λ (goes : ends_call s ≡ false) (b : Answer) (is : p.answer ≡ Some b).
       once_decided n _ all _ p.answer b (waits c es j before) (waits c (es ++ e ∷ []) j enabled) (ended
       ∙ ap (counted n) goes) answered is in
@@ -138,8 +107,9 @@ module _ (program : List Item) (es : List Event) where
       let a = answer_decided c m e in
       same_asks program k (flight_of m (Caller k)) _ n _ all _ (asked (calls c es) ++ asked (entry_of j f.op a)) _
       (flight_behind e k ∙ get_or-set_other m.seats.flights j k _ at_rest (λ same. other (sym same)))
-      (ended_more es e k ∙ ap (λ (b : Bool). counted n (b && ends_call s)) (is_other k j (λ same. other (sym same))))
-      (ap (answers_among k) (calls_more c (first_world c) es e) ∙ others_among k j (calls c es) f.op a other)
+      (more_ended es e k ∙ ap (λ (b : Bool). counted n (b && ends_call s)) (other_number k j (λ same. other (sym same))))
+      (ap (answers_among k) (calls_more c (first_world c) es e)
+      ∙ (grind (arith, among_more, append-nil, other_number)))
       (asked_behind e) (others_step program k (flight_of m (Caller k)) n all (asked (calls c es)) h j f.op a other)
 
   -- an event of a seat that has no call
@@ -152,7 +122,7 @@ module _ (program : List Item) (es : List Event) where
       let same : calls c (es ++ e ∷ []) ≡ calls c es = grind (arith, calls_more, append-nil) in
       same_asks program k (flight_of m (Caller k)) _ n _ all _ (asked (calls c es)) _
       (flight_behind e k ∙ ap (λ (fs : List Flight). get_or fs k at_rest) still)
-      (ended_more es e k ∙ ap (λ (b : Bool). counted n (b && ends_call e.step)) other)
+      (more_ended es e k ∙ ap (λ (b : Bool). counted n (b && ends_call e.step)) other)
       (ap (answers_among k) same) (ap asked same) h
 
   push_caller : (j : ℕ) (o : Op) (a : Option Answer) → IsScript program j
@@ -195,19 +165,7 @@ module _ (program : List Item) (es : List Event) where
       let s = step_of x.form (next_op_for program es x.seat) in
       let e : Event = record { seat = x.seat; step = s } in
       let meets = enabled_meets c m e (last_enabled c (first_world c) es e enabled) in
-      one_more x.seat s enabled (by_seat x.seat meets.order) h
-    where
-      by_seat : (seat : Seat) → is_in_order c m seat (step_of x.form (next_op_for program es seat)) ≡ true
-          → (k : ℕ) → seat ≡ Caller k
-          → BeginsAsAsked program k (answers_given c es k) (step_of x.form (next_op_for program es seat))
-      by_seat (Caller j) order k is =
-          let same : j ≡ k = cc in
-          subst (λ (i : ℕ). BeginsAsAsked program i (answers_given c es i)
-          (step_of x.form (next_op program j (answers_given c es j)))) same
-          (begins_so program j (answers_given c es j) x.form _ (flight_of m (Caller j)).stage
-          (flight_of m (Caller j)).op refl order)
-      by_seat (Marker j) order k is = cc
-      by_seat Host order k is = cc
+      one_more x.seat s enabled (λ k is. grind (arith, begins_so)) h
 
 -- Along a schedule.
 

@@ -4,9 +4,9 @@ use Rattle.mk_replay.proofs.Vocabulary.{Answer, AreEnabled, Caller, Config, Even
 use Rattle.mk_replay.proofs.Vocabulary.{Step, asked, at_rest, calls, comes_next, ends_call, entry_of, flight_of, left}
 use Rattle.mk_replay.proofs.Vocabulary.{length-append, progress, take_all}
 use Rattle.mk_laws.proofs.Vocabulary.{Bool, Call, Cell, List, None, Option, Progress, Some, ℕ, ap, append-nil, arith}
-use Rattle.mk_laws.proofs.Vocabulary.{begun, cell_freed, false, if◌then◌else◌, length, progress_freed, progress_p}
-use Rattle.mk_laws.proofs.Vocabulary.{progress_q, progress_read, progress_reg, refl, still, subst, sym, take, true, []}
-use Rattle.mk_laws.proofs.Vocabulary.{◌++◌, ◌+◌, ◌==◌, ◌∙◌, ◌∷◌, ◌≡◌, ◌≢◌, ◌≤◌}
+use Rattle.mk_laws.proofs.Vocabulary.{begun, false, if◌then◌else◌, length, progress_freed, progress_p, progress_q}
+use Rattle.mk_laws.proofs.Vocabulary.{progress_read, progress_reg, refl, still, subst, sym, take, true, [], ◌++◌, ◌+◌}
+use Rattle.mk_laws.proofs.Vocabulary.{◌==◌, ◌∙◌, ◌∷◌, ◌≡◌, ◌≢◌, ◌≤◌}
 use Rattle.mk_check.proofs.GivenAnswers.{Serves, as_list, counted, serves}
 use Rattle.mk_check.proofs.AdmittedScripts.{answers_are_noted, others_are_ignored}
 use Rattle.mk_check.specs.{Feeding.next_op, Laws.AreNotedBy, Output.answers_among, Output.ended_calls}
@@ -21,51 +21,26 @@ begins_call _ = false
 
 either_op : (b : Bool) (x y : Progress) (o : Op) → x.flight.op ≡ o → y.flight.op ≡ o
     → (if b then x else y).flight.op ≡ o
-either_op true x y o a b = a
-either_op false x y o a b = b
+either_op x0 x y o a b = grind arith
 
 q_op : (f : Flight) (o : Op) (n : ℕ) → (progress_q f o n).flight.op ≡ f.op
-q_op f (Op.Move d q) n = refl
-q_op f (Op.Same p q) n = refl
-q_op f _ n = either_op (n == 0) _ _ f.op refl refl
+q_op f x1 n = grind (arith, either_op)
 
 p_op : (f : Flight) (o : Op) (n : ℕ) → (progress_p f o n).flight.op ≡ f.op
-p_op f (Op.IsNull p) n = refl
-p_op f (Op.Free p) n = either_op (n == 0) _ _ f.op refl refl
-p_op f _ n = refl
+p_op f x1 n = grind (arith, either_op)
 
 reg_op : (f : Flight) (s : Stage) (n : ℕ) → (progress_reg f s n).flight.op ≡ f.op
-reg_op f Stage.LoadQ n = q_op f f.op n
-reg_op f Stage.LoadP n = p_op f f.op n
-reg_op f _ n = refl
+reg_op f x1 n = grind (arith, q_op, p_op)
 
 read_op : (f : Flight) (o : Op) (n : ℕ) → (progress_read f o n).flight.op ≡ f.op
-read_op f (Op.GetPtr d q i) n = refl
-read_op f _ n = refl
+read_op f x1 n = grind arith
 
 freed_op : (f : Flight) (x : Option Cell) → (progress_freed f x).flight.op ≡ f.op
-freed_op f (Some cell) = refl
-freed_op f None = refl
+freed_op f x1 = grind arith
 
 op_stays : (c : Config) (m : Moment) (f : Flight) (n : ℕ) (x : Step) → begins_call x ≡ false → ends_call x ≡ false
     → (progress c m f n x).flight.op ≡ f.op
-op_stays c m f n (Step.Enter o) b e = cc
-op_stays c m f n (Step.Take (Some o)) b e = cc
-op_stays c m f n Step.Leave b e = cc
-op_stays c m f n Step.Give b e = cc
-op_stays c m f n Step.Reg b e = reg_op f f.stage n
-op_stays c m f n Step.Probe b e = either_op _ _ _ f.op refl refl
-op_stays c m f n Step.Read b e = read_op f f.op n
-op_stays c m f n (Step.Look x) b e = either_op _ _ _ f.op refl refl
-op_stays c m f n (Step.Quar p v) b e = freed_op f (cell_freed c.pages m.words f p v)
-op_stays c m f n _ b e = refl
-
--- only a call's first step comes next at rest
-not_at_rest : (s : Stage) (o : Op) (x : Step) → begins_call x ≡ false → comes_next s o x ≡ true → s ≢ Stage.Idle
-not_at_rest Stage.Idle o (Step.Enter y) b h = cc
-not_at_rest Stage.Idle o (Step.Take (Some y)) b h = cc
-not_at_rest Stage.Idle o _ b h = cc
-not_at_rest _ o x b h = λ e. cc
+op_stays c m f n x4 b e = grind (arith, reg_op, either_op, read_op, freed_op)
 
 -- Where n calls of a caller have ended, n of its answers are decided, or one more.
 
@@ -77,8 +52,7 @@ Waits n answers = (n ≤ length answers) × (length answers ≤ n + 1)
 
 at_stage : (s : Stage) (o : Op) (q p r l n : ℕ) (answers : List Answer) → Serves 1 (flight s o q p r l ∷ []) 0 n answers
     → Waits n answers
-at_stage Stage.Idle o q p r l n answers h = let d = h.decided in (omega arith, omega arith)
-at_stage _ o q p r l n answers h = let d = h.decided in (omega arith, omega arith)
+at_stage x0 o q p r l n answers h = grind arith
 
 pub waits : (c : Config) (es : List Event) (k : ℕ) → AreEnabled c es
     → Waits (ended_calls k es) (answers_among k (calls c es))
@@ -138,14 +112,6 @@ module _ (program : List Item) (k : ℕ) (f : Flight) (n : ℕ) (answers : List 
   ends : OwnAsks (n + 1) (record { flight = at_rest; answer = None })
   ends = quiet at_rest (n + 1) (λ _ busy. absurd (busy refl))
 
-  goes : (c : Config) (m : Moment) (found : ℕ) (x : Step) → begins_call x ≡ false → ends_call x ≡ false
-      → comes_next f.stage f.op x ≡ true
-      → ((b : Answer) → (progress c m f found x).answer ≡ Some b → length answers ≡ n)
-      → OwnAsks n (progress c m f found x)
-  goes c m found x b e order once =
-      let p = progress c m f found x in
-      decides p.flight p.answer (op_stays c m f found x b e) (not_at_rest f.stage f.op x b order) once
-
   pub own_step : (c : Config) (m : Moment) (found : ℕ) (x : Step)
       → comes_next f.stage f.op x ≡ true → BeginsAsAsked program k (take n answers) x
       → (ends_call x ≡ false → (b : Answer) → (progress c m f found x).answer ≡ Some b → length answers ≡ n)
@@ -154,11 +120,10 @@ module _ (program : List Item) (k : ℕ) (f : Flight) (n : ℕ) (answers : List 
   own_step c m found (Step.Take (Some o)) order begun once = begins o begun (found == 0)
   own_step c m found Step.Leave order begun once = ends
   own_step c m found Step.Give order begun once = ends
-  own_step c m found x order begun once = goes c m found x refl refl order (once refl)
+  own_step c m found x order begun once = let p = progress c m f found x in
+      decides p.flight p.answer (op_stays c m f found x refl refl) (grind arith) (once refl)
 
   -- another's call, if one is decided
   pub others_step : (j : ℕ) (o : Op) (a : Option Answer) → j ≢ k
       → Asks program k f n answers (calls ++ asked (entry_of j o a))
-  others_step j o (Some a) other = grind (arith, others_are_ignored)
-  others_step j o None other = same_asks program k f f n n answers answers calls (calls ++ []) refl refl refl
-      (append-nil calls) h
+  others_step j o x2 other = grind (arith, others_are_ignored, same_asks, append-nil)

@@ -1,8 +1,8 @@
 -- The forms of a line's pieces and its entries, one piece after another.
 use Rattle.std.{proofs.lemmas.List.take_more, specs.declared.result.Result.Result}
-use Rattle.mk_replay.proofs.Vocabulary.{Bor, Err, Ok, Step, form_of, texts_of}
-use Rattle.mk_laws.proofs.Vocabulary.{List, ℕ, ap, arith, get_or, length, map, map-append, refl, sym, take, [], ◌++◌}
-use Rattle.mk_laws.proofs.Vocabulary.{◌+◌, ◌<◌, ◌∙◌, ◌∷◌, ◌≡◌}
+use Rattle.mk_replay.proofs.Vocabulary.{Bor, Ok, Step, form_of, texts_of}
+use Rattle.mk_laws.proofs.Vocabulary.{List, ℕ, ap, arith, get_or, length, map, map-append, sym, take, [], ◌++◌, ◌+◌}
+use Rattle.mk_laws.proofs.Vocabulary.{◌<◌, ◌∙◌, ◌∷◌, ◌≡◌}
 use Rattle.mk_replay.specs.{Entries.forms_with, Entries.with_form, Forms.both, Forms.worse_fault, Schedules.forms_of}
 use Rattle.mk_script.specs.{Words.words_of_line, declared.faults.TextKind.TextKind}
 
@@ -12,18 +12,10 @@ worse_fault-in_turn a b c = grind arith
 in_turn : (first : Result Step TextKind) (forms : Result (List Step) TextKind) (last : Result Step TextKind)
     → both (λ form forms. form ∷ forms) first (with_form forms last)
     ≡ with_form (both (λ form forms. form ∷ forms) first forms) last
-in_turn (Ok x) (Ok xs) (Ok y) = refl
-in_turn (Ok x) (Ok xs) (Err c) = refl
-in_turn (Ok x) (Err b) (Ok y) = refl
-in_turn (Ok x) (Err b) (Err c) = refl
-in_turn (Err a) (Ok xs) (Ok y) = refl
-in_turn (Err a) (Ok xs) (Err c) = refl
-in_turn (Err a) (Err b) (Ok y) = refl
-in_turn (Err a) (Err b) (Err c) = ap Err (worse_fault-in_turn a b c)
+in_turn x0 x1 x2 = grind (arith, worse_fault-in_turn)
 
 pub single : (last : Result Step TextKind) → both (λ form forms. form ∷ forms) last (Ok []) ≡ with_form (Ok []) last
-single (Ok y) = refl
-single (Err c) = refl
+single x0 = grind arith
 
 -- the forms of one piece more
 pub forms_of-push : (pieces : List (List (List ℕ))) (last : List (List ℕ))

@@ -27,8 +27,7 @@ dropped lines text count are =
 
 pub script_within : (lines : List (Bor (List ℕ))) (text : List ℕ) {place : ℕ} → texts_of lines ≡ lines_of text
     → StandsAt (lines_of text) place → text_length (texts_of (take place lines)) ≤ length text
-script_within lines text {place} are stands =
-    omega (arith, (lines_before place text stands.inside).within, ap text_length (taken lines text place are))
+script_within lines text are stands = grind (arith, lines_before, taken)
 
 -- the program is that of the bytes before the schedule line
 program_before : (text : List ℕ) (place : ℕ) → length text ≤ 1048576 → StandsAt (lines_of text) place

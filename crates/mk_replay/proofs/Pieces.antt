@@ -3,8 +3,8 @@ use Rattle.std.proofs.lemmas.List.{at_drop_more, drop_all, take_more}
 use Rattle.std.proofs.Common.{drop-drop, nat_eq}
 use Rattle.std.specs.{Cmp.Lexicographic.pointwise, List.starts_with}
 use Rattle.mk_laws.proofs.Vocabulary.{Bool, List, ℕ, ap, append-nil, append_assoc, arith, drop, false, get_or}
-use Rattle.mk_laws.proofs.Vocabulary.{if◌then◌else◌, length, refl, sym, take, true, [], ◌&&◌, ◌++◌, ◌+◌, ◌-◌, ◌<◌, ◌==◌}
-use Rattle.mk_laws.proofs.Vocabulary.{◌∙◌, ◌∷◌, ◌≡◌, ◌≤◌}
+use Rattle.mk_laws.proofs.Vocabulary.{if◌then◌else◌, length, sym, take, true, [], ◌&&◌, ◌++◌, ◌+◌, ◌-◌, ◌<◌, ◌==◌, ◌∙◌}
+use Rattle.mk_laws.proofs.Vocabulary.{◌∷◌, ◌≡◌, ◌≤◌}
 use Rattle.mk_replay.proofs.Vocabulary.{length-drop, nat_tests, take_all}
 use Rattle.mk_replay.specs.{Entries.IsEndOfPiece, Schedules.in_front, Schedules.pieces_of}
 
@@ -14,25 +14,15 @@ glue text [] = text ∷ []
 glue text (piece ∷ pieces) = (text ++ piece) ∷ pieces
 
 glue_none : (byte : ℕ) (pieces : List (List ℕ)) → glue [] (in_front byte pieces) ≡ in_front byte pieces
-glue_none byte [] = refl
-glue_none byte (piece ∷ pieces) = refl
+glue_none byte x1 = grind arith
 
 glue_nothing : (is_cut : Bool) (byte : ℕ) (cut uncut : List (List ℕ))
     → glue [] (if is_cut then [] ∷ cut else in_front byte uncut) ≡ (if is_cut then [] ∷ cut else in_front byte uncut)
-glue_nothing true byte cut uncut = refl
-glue_nothing false byte cut uncut = glue_none byte uncut
+glue_nothing x0 byte cut uncut = grind (arith, glue_none, uncut)
 
 pub glue_first : (text : List ℕ) → pieces_of text ≡ glue [] (pieces_of text)
 unfolding pieces_of
-glue_first [] = refl
-glue_first (byte ∷ []) = refl
-glue_first (byte ∷ next ∷ rest) =
-    sym (glue_nothing ((byte == 59) && (next == 32)) byte (pieces_of rest) (pieces_of (next ∷ rest)))
-
-glue_more : (text : List ℕ) (byte : ℕ) (pieces : List (List ℕ))
-    → glue text (in_front byte pieces) ≡ glue (text ++ byte ∷ []) pieces
-glue_more text byte [] = refl
-glue_more text byte (piece ∷ pieces) = simp append_assoc
+glue_first x0 = grind (arith, glue_nothing)
 
 -- whether a cut begins at the head
 abbrev pub is_cut : List ℕ → Bool
@@ -43,14 +33,11 @@ is_cut (byte ∷ next ∷ rest) = (byte == 59) && (next == 32)
 uncut : (byte : ℕ) (rest : List ℕ) → is_cut (byte ∷ rest) ≡ false
     → pieces_of (byte ∷ rest) ≡ in_front byte (pieces_of rest)
 unfolding pieces_of
-uncut byte [] is = refl
-uncut byte (next ∷ rest) is = rw is refl
+uncut byte x1 is = grind arith
 
 cut : (text : List ℕ) → is_cut text ≡ true → pieces_of text ≡ [] ∷ pieces_of (drop 2 text)
 unfolding pieces_of
-cut [] is = absurd cc
-cut (byte ∷ []) is = absurd cc
-cut (byte ∷ next ∷ rest) is = rw is refl
+cut x0 is = grind arith
 
 -- one byte further
 pub goes_on : (text : List ℕ) (i : ℕ) → i < length text → is_cut (drop i text) ≡ false
@@ -58,16 +45,13 @@ pub goes_on : (text : List ℕ) (i : ℕ) → i < length text → is_cut (drop i
     → pieces_of text ≡ glue (take (i + 1) text) (pieces_of (drop (i + 1) text))
 goes_on text i inside is so_far =
     let here : is_cut (get_or text i 0 ∷ drop (i + 1) text) ≡ false = sym (at_drop_more is_cut text i 0 inside) ∙ is in
-    so_far
-    ∙ ap (glue (take i text)) (at_drop_more pieces_of text i 0 inside
+    so_far ∙ ap (glue (take i text)) (at_drop_more pieces_of text i 0 inside
     ∙ uncut (get_or text i 0) (drop (i + 1) text) here)
-    ∙ glue_more (take i text) (get_or text i 0) (pieces_of (drop (i + 1) text))
+    ∙ (grind (arith, append_assoc))
     ∙ ap (λ front. glue front (pieces_of (drop (i + 1) text))) (sym (take_more text i 0 inside))
 
 long : (text : List ℕ) → is_cut text ≡ true → 2 ≤ length text
-long [] is = absurd cc
-long (byte ∷ []) is = absurd cc
-long (byte ∷ next ∷ rest) is = omega arith
+long x0 is = grind arith
 
 -- the end of a piece
 pub ends : (text : List ℕ) (i : ℕ) → i < length text → is_cut (drop i text) ≡ true
@@ -92,14 +76,11 @@ no_end text i whole so_far =
 
 -- the test for a cut
 compared : (text : List ℕ) → is_cut text ≡ pointwise nat_eq (59 ∷ 32 ∷ []) (take 2 text)
-compared [] = refl
-compared (byte ∷ []) = grind (arith, nat_tests)
-compared (byte ∷ next ∷ rest) = grind (arith, nat_tests)
+compared x0 = grind (arith, nat_tests)
 
 pub tested : (text needle : List ℕ) (i : ℕ) (result : Bool) → needle ≡ 59 ∷ 32 ∷ []
     → result ≡ starts_with nat_eq (take (length text - i) (drop i text)) needle → is_cut (drop i text) ≡ result
 tested text needle i result needle_is is =
-    compared (drop i text)
-    ∙ sym (is ∙ ap (starts_with nat_eq (take (length text - i) (drop i text))) needle_is
+    compared (drop i text) ∙ sym (is ∙ ap (starts_with nat_eq (take (length text - i) (drop i text))) needle_is
     ∙ ap (λ rest. starts_with nat_eq rest (59 ∷ 32 ∷ []))
     (take_all (length text - i) (drop i text) (omega (arith, length-drop i text))))

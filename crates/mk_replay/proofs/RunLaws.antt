@@ -6,12 +6,12 @@ use Rattle.mk_replay.proofs.Vocabulary.{IsPlayerOf, Item, Op, TakesStep, answer_
 use Rattle.mk_replay.proofs.Vocabulary.{entry_of, event_of_entry, first_world, flight_of, is_same_seat, left}
 use Rattle.mk_replay.proofs.Vocabulary.{length-append, nat_tests, served_to}
 use Rattle.mk_laws.proofs.Vocabulary.{IsEnabled, List, None, Option, Seat, Some, ℕ, ap, arith, caller_number, cases_eq}
-use Rattle.mk_laws.proofs.Vocabulary.{enabled_meets, eq-eqb, false, get_or, get_or-set_other, get_or-set_same}
+use Rattle.mk_laws.proofs.Vocabulary.{enabled_meets, false, get_or, get_or-set_other, get_or-set_same}
 use Rattle.mk_laws.proofs.Vocabulary.{get_or_append_left, inl, inr, length, refl, seat_exists, slice_index_or}
 use Rattle.mk_laws.proofs.Vocabulary.{slice_set, subst, sym, true, [], ◌++◌, ◌<◌, ◌==◌, ◌∙◌, ◌∷◌, ◌≡◌, ◌≢◌}
 use Rattle.mk_core.proofs.Histories.{calls_more, last_enabled}
 use Rattle.mk_core.specs.{Enabled.failing, Standing.CoreStandsFor, Standing.CoreState}
-use Rattle.mk_check.proofs.FeedLaws.{feed_push, feed_push-ended}
+use Rattle.mk_check.proofs.{FeedLaws.feed_push, FeedLaws.feed_push-ended, GivenAnswers.same_number}
 use Rattle.mk_check.specs.Feeding.{FeedStandsFor, FeedState, TakesAnswer as FeedTakesAnswer}
 use Rattle.mk_check.specs.{Feed.feed, Feed.has_ended, declared.text.Text.Text}
 use Rattle.mk_replay.proofs.ServedMore.{served_first, served_more}
@@ -35,19 +35,12 @@ first_answer (x ∷ xs) = Some x.answer
 
 answer_of_entry : (caller : ℕ) (o : Op) (a : Option Answer) → first_answer (entry_of caller o a) ≡ a
 unfolding first_answer
-answer_of_entry caller o (Some a) = refl
-answer_of_entry caller o None = refl
+answer_of_entry caller o x2 = grind arith
 
 -- The answer that makes this history's calls is the one that the event decides.
 pub answer_is : (c : Config) (es : List Event) (e : Event) (caller : ℕ) (o : Op) (a : Option Answer)
     → calls c (es ++ e ∷ []) ≡ calls c es ++ entry_of caller o a → a ≡ answer_decided c (left c es).now e
 answer_is c es e caller o a h = grind (arith, append_cancel_left, calls_more, answer_of_entry, first_answer)
-
-is_same : (j : ℕ) → (j == j) ≡ true
-is_same j = eq-eqb j j refl
-
-is_other : (j k : ℕ) → j ≢ k → (k == j) ≡ false
-is_other j k ne = grind (arith, nat_tests)
 
 mine : (players : List Player) (j : ℕ) (old new : Player) (e : Event) (a : Option Answer)
     → j < length players → old ≡ slice_index_or players j old → e.seat ≡ Seat.Caller j
@@ -55,7 +48,7 @@ mine : (players : List Player) (j : ℕ) (old new : Player) (e : Event) (a : Opt
     → (program : List Item) (d : Player) (x : Served) → IsPlayerOf program j x (get_or players j d)
     → IsPlayerOf program j (served_by j e a x) (get_or (set players j new) j d)
 mine players j old new e a lt at is takes program d x h =
-    let mine : is_same_seat (Seat.Caller j) e.seat ≡ true = ap (is_same_seat (Seat.Caller j)) is ∙ is_same j in
+    let mine : is_same_seat (Seat.Caller j) e.seat ≡ true = ap (is_same_seat (Seat.Caller j)) is ∙ same_number j in
     let here : get_or players j d ≡ old = get_or_default players j d old lt ∙ sym at in
     rw (mine, get_or-set_same players j new d lt) (takes program j x (subst (IsPlayerOf program j x) here h))
 
@@ -64,20 +57,19 @@ others : (players : List Player) (j : ℕ) (new : Player) (e : Event) (a : Optio
     → IsPlayerOf program k (served_by k e a x) (get_or (set players j new) k d)
 others players j new e a is {k} d other h =
     let not_mine : is_same_seat (Seat.Caller k) e.seat ≡ false = ap (is_same_seat (Seat.Caller k)) is
-    ∙ is_other j k other in
+    ∙ (grind (arith, nat_tests)) in
     rw (not_mine, get_or-set_other players j k new d (λ same. other (sym same))) h
 
 -- One player takes a step of its caller.
 pub one_takes : (players : List Player) (j : ℕ) (old new : Player) (e : Event) (a : Option Answer)
     → j < length players → old ≡ slice_index_or players j old → e.seat ≡ Seat.Caller j
     → TakesStep (ends_call e.step) a old new → TakeEvent e a players (slice_set players j new)
-one_takes players j old new e a lt at is takes = λ program k d x less h.
-    elim (cases_eq j k) [
-      | inl same ↦ subst (λ (i : ℕ). IsPlayerOf program i (served_by i e a x) (get_or (set players j new) i d)) same
-          (mine players j old new e a lt at is takes program d x
-          (subst (λ (i : ℕ). IsPlayerOf program i x (get_or players i d)) (sym same) h))
-      | inr other ↦ others players j new e a is d other h
-    ]
+one_takes players j old new e a lt at is takes = λ program k d x less h. elim (cases_eq j k) [
+  | inl same ↦ subst (λ (i : ℕ). IsPlayerOf program i (served_by i e a x) (get_or (set players j new) i d)) same
+      (mine players j old new e a lt at is takes program d x
+      (subst (λ (i : ℕ). IsPlayerOf program i x (get_or players i d)) (sym same) h))
+  | inr other ↦ others players j new e a is d other h
+]
 
 -- At a call's last step the answer that was kept, or is decided there, is given.
 pub last_takes : (old new : Player) (decided : Option Answer) (a : Answer) → option_or decided old.kept ≡ Some a
@@ -114,22 +106,9 @@ texts_push {program} {es} texts t h new = λ k d less.
       | inr ne ↦ (let lt : k < length texts = omega arith in rw (get_or_append_left texts (t ∷ []) d k lt) (h k d lt))
     ]
 
--- The players after an event that decides this answer.
-players_more : (program : List Item) (es : List Event) (e : Event) (a : Option Answer) (players new : List Player)
-    → length new ≡ length players → AreEnabled (config_of program 8) (es ++ e ∷ [])
-    → a ≡ answer_decided (config_of program 8) (left (config_of program 8) es).now e
-    → TakeEvent e a players new → ArePlayersOf program es players → ArePlayersOf program (es ++ e ∷ []) new
-players_more program es e a players new count enabled is takes h = λ k d less.
-    let lt : k < length players = omega arith in
-    let c = config_of program 8 in
-    subst (λ (x : Served). IsPlayerOf program k x (get_or new k d))
-    (ap (λ (b : Option Answer). served_by k e b (served_to c es k)) is ∙ sym (served_more c es k e enabled))
-    (takes program k d (served_to c es k) lt (h k d lt))
-
 -- A run goes on after an event of the core.
 pub run_goes : {program : List Item} {es : List Event} (x : Entry) {old : Run} (new : Run) {core : CoreState}
-    (e : Event)
-    (a : Option Answer)
+    (e : Event) (a : Option Answer)
     → IsRunAfter program es old → (IsTrue (seat_exists (config_of program 8) x.seat) → e ≡ event_of_entry program es x)
     → e.seat ≡ x.seat → core.config ≡ old.core.config → CoreStandsFor core (es ++ e ∷ [])
     → calls old.core.config (es ++ e ∷ [])
@@ -146,11 +125,15 @@ run_goes {program} {es} x {old} new {core} e a h event seat same stands answers 
     let decided : a ≡ answer_decided c (left c es).now e = grind (arith, answer_is) in
     record {
       enabled = subst (λ (y : Event). failing c (left c es).now y ≡ 0) is enabled;
-      run = subst (λ (y : Event). IsRunAfter program (es ++ y ∷ []) new) is
-          (record {
-            config = ap (λ (k : CoreState). k.config) keeps ∙ config;
-            stands = subst (λ (k : CoreState). CoreStandsFor k (es ++ e ∷ [])) (sym keeps) stands;
-            count = count ∙ h.count;
-            players = players_more program es e a old.players.items new.players.items count all decided takes h.players;
-          });
+      run = subst (λ (y : Event). IsRunAfter program (es ++ y ∷ []) new) is (record {
+        config = ap (λ (k : CoreState). k.config) keeps ∙ config;
+        stands = subst (λ (k : CoreState). CoreStandsFor k (es ++ e ∷ [])) (sym keeps) stands;
+        count = count ∙ h.count;
+        players = λ k d less.
+            let lt : k < length old.players.items = omega arith in
+            let c = config_of program 8 in
+            subst (λ (x : Served). IsPlayerOf program k x (get_or new.players.items k d))
+            (ap (λ (b : Option Answer). served_by k e b (served_to c es k)) decided ∙ sym (served_more c es k e all))
+            (takes program k d (served_to c es k) lt (h.players k d lt));
+      });
     }

@@ -47,8 +47,7 @@ none_by : (line : List ℕ) (lines : List (List ℕ)) (from : ℕ) (is : Bool) �
     → (position_from is_schedule_line (from + 1) lines ≡ None → HasNone lines)
     → cond is (Some from) (position_from is_schedule_line (from + 1) lines) ≡ None → HasNone (line ∷ lines)
 unfolding script_lines schedule_lines
-none_by line lines from true is behind e = absurd cc
-none_by line lines from false is behind e = grind arith
+none_by line lines from x3 is behind e = grind arith
 
 none_from : (lines : List (List ℕ)) (from : ℕ) → position_from is_schedule_line from lines ≡ None → HasNone lines
 unfolding script_lines schedule_lines

@@ -19,8 +19,7 @@ pub record IsCut (text : List ℕ) (before : List (List ℕ)) : Type 0 where
 
 behind_first : (piece : List ℕ) (pieces : List (List ℕ)) → 0 < length pieces
     → without_empty_last (piece ∷ pieces) ≡ piece ∷ without_empty_last pieces
-behind_first piece [] some = absurd (omega arith)
-behind_first piece (next ∷ pieces) some = refl
+behind_first piece x1 some = grind arith
 
 -- the lines of a text that begins with a line and its newline
 lines_of_line : (line : List ℕ) (newline : ℕ) (text : List ℕ) → All (λ byte. is_newline byte ≡ false) line
@@ -66,8 +65,7 @@ cut line newline text before without is inner = record {
 }
 
 at_most_one : (is_empty : Bool) (line : List ℕ) → length (if is_empty then [] else line ∷ []) ≤ 1
-at_most_one true line = omega arith
-at_most_one false line = omega arith
+at_most_one x0 line = grind arith
 
 -- a text without a newline has no line after its first
 one_line : (text : List ℕ) → length text ≤ position_or_len is_newline text → length (lines_of text) ≤ 1

@@ -55,8 +55,7 @@ item_at schedule entries n d same lt =
     rw (same, add-one) (drop-cons schedule n d less)
 
 pub next_under_way : {program : List Item} {schedule : List Entry} (entries : List Entry) {n : ℕ} {old new : Run}
-    (d : Entry)
-    → entries ≡ schedule → n < length entries → (h : IsUnderWay program schedule n old)
+    (d : Entry) → entries ≡ schedule → n < length entries → (h : IsUnderWay program schedule n old)
     → TakesEntry program h.events (get_or entries n d) new → IsUnderWay program schedule (n + 1) new
 next_under_way {program} {schedule} entries {n} d same lt h t =
     let x = get_or entries n d in

@@ -21,10 +21,9 @@ split_lines (item ∷ items) ws =
     rw (line_text-joined (words_of_item item)) (simp append_assoc) in
     ap (λ bytes. slice_split (λ byte. nat_eq byte 10) bytes) text
     ∙ slice_split_at (λ byte. nat_eq byte 10) line 10 (canonical_text items) (without_newline (words_of_item item) ws.0)
-    refl
-    ∙ ap (λ lines. line ∷ lines) (split_lines items ws.1)
+    refl ∙ ap (λ lines. line ∷ lines) (split_lines items ws.1)
 
-without_last : (lines : List (List ℕ)) → without_empty_last (lines ++ [] ∷ []) ≡ lines
+pub without_last : (lines : List (List ℕ)) → without_empty_last (lines ++ [] ∷ []) ≡ lines
 without_last [] = refl
 without_last (line ∷ []) = refl
 without_last (line ∷ next ∷ lines) = ap (λ rest. line ∷ rest) (without_last (next ∷ lines))

@@ -1,9 +1,9 @@
 -- The lines of a text's program close the blocks that they open. Of each open block it is said here whether it may have
 -- an `else`.
 use Rattle.std.proofs.lemmas.List.Sums.{fold_push}
-use Rattle.mk_script.proofs.Vocabulary.{Bool, IsOfSomeText, Item, List, ap, append-nil, append_assoc, ends_rightly}
-use Rattle.mk_script.proofs.Vocabulary.{false, has_none, map, open_behind, open_blocks, refl, subst, sym, true, []}
-use Rattle.mk_script.proofs.Vocabulary.{◌++◌, ◌∙◌, ◌∷◌, ◌≡◌}
+use Rattle.mk_script.proofs.Vocabulary.{Bool, IsOfSomeText, Item, List, ap, append-nil, append_assoc, arith}
+use Rattle.mk_script.proofs.Vocabulary.{ends_rightly, false, has_none, map, open_behind, open_blocks, subst, sym, true}
+use Rattle.mk_script.proofs.Vocabulary.{[], ◌++◌, ◌∙◌, ◌∷◌, ◌≡◌}
 use Rattle.mk_script.proofs.PassedLines.{ArePassed, is_whole}
 use Rattle.mk_script.specs.declared.items.Item.TheVariants.{Else, End, If, Repeat, Script}
 use Rattle.mk_script.specs.Scopes.{InFirst, InRepeat, InSecond, OpenBlock}
@@ -30,21 +30,10 @@ may_have_else InSecond = false
 one_more : (blocks : List OpenBlock) (item : Item) (items : List Item) → ends_rightly blocks item ≡ true
     → Closes (map may_have_else (open_behind blocks item)) items → Closes (map may_have_else blocks) (item ∷ items)
 unfolding may_have_else
-one_more blocks (Repeat rounds) items right h = h
-one_more blocks (If number) items right h = h
-one_more [] Else items right h = cc
-one_more (InRepeat ∷ blocks) Else items right h = cc
-one_more (InFirst ∷ blocks) Else items right h = h
-one_more (InSecond ∷ blocks) Else items right h = cc
-one_more [] End items right h = cc
-one_more (block ∷ blocks) End items right h = h
-one_more [] (Script name) items right h = h
-one_more (block ∷ blocks) (Script name) items right h = cc
-one_more blocks _ items right h = h
+one_more blocks x1 items right h = grind arith
 
 none_open : (blocks : List OpenBlock) → has_none blocks ≡ true → map may_have_else blocks ≡ []
-none_open [] h = refl
-none_open (block ∷ blocks) h = cc
+none_open x0 h = grind arith
 
 closes_behind : (before items : List Item) → ArePassed before items → has_none (open_blocks (before ++ items)) ≡ true
     → Closes (map may_have_else (open_blocks before)) items

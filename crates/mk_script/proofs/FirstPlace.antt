@@ -1,26 +1,23 @@
 -- What stands around the first `+` of a word.
 use Rattle.std.{proofs.Common.length-drop, proofs.Common.ltb, proofs.Common.position, specs.List.position_or_len}
 use Rattle.mk_script.proofs.Vocabulary.{Bool, List, None, Some, ℕ, ap, arith, cond, drop, false, length, list_any}
-use Rattle.mk_script.proofs.Vocabulary.{lt-ltb, nat_tests, not, refl, suc, sym, take, take_all, true, [], ◌+◌, ◌-◌}
-use Rattle.mk_script.proofs.Vocabulary.{◌||◌, ◌∙◌, ◌∷◌, ◌≡◌}
+use Rattle.mk_script.proofs.Vocabulary.{lt-ltb, nat_tests, not, refl, suc, take, take_all, true, [], ◌+◌, ◌-◌, ◌||◌}
+use Rattle.mk_script.proofs.Vocabulary.{◌∙◌, ◌∷◌, ◌≡◌}
 use Rattle.mk_script.specs.Operands.{IsCutAtPlus, is_plus}
 
 behind : (here : Bool) (rest : Bool) (place count : ℕ) → rest ≡ ltb place count
     → (here || rest) ≡ ltb (cond (not here) (1 + place) 0) (suc count)
-behind true rest place count h = sym (lt-ltb 0 (suc count) (omega arith))
-behind false rest place count h = h ∙ grind (arith, nat_tests)
+behind x0 rest place count h = grind (arith, lt-ltb, nat_tests)
 
 any_from_place : {A : Type 0} (p : A → Bool) (xs : List A) → list_any p xs ≡ ltb (position_or_len p xs) (length xs)
 any_from_place p [] = refl
 any_from_place p (x ∷ xs) = behind (p x) (list_any p xs) (position_or_len p xs) (length xs) (any_from_place p xs)
 
 chosen : (test : Bool) (place plus : ℕ) → Some plus ≡ cond test (Some place) None → (test ≡ true) × (plus ≡ place)
-chosen true place plus found = (refl, cc)
-chosen false place plus found = cc
+chosen x0 place plus found = grind arith
 
 unchosen : (test : Bool) (place : ℕ) → None ≡ cond test (Some place) None → test ≡ false
-unchosen true place found = cc
-unchosen false place found = refl
+unchosen x0 place found = grind arith
 
 pub uncut : (word : List ℕ) → None ≡ position is_plus word → list_any is_plus word ≡ false
 uncut word found = any_from_place is_plus word

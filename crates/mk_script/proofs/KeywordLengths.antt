@@ -1,14 +1,13 @@
 -- A word is looked for among the keywords of its length alone.
 use Rattle.std.proofs.Common.{eq-eqb, ⊎_elim}
 use Rattle.std.proofs.{lemmas.Bool.cases_Bool, lemmas.Bool.false≢true, lemmas.Slice.Eq.bytes_eq-Decides}
-use Rattle.mk_script.proofs.Vocabulary.{Bool, Keyword, List, Some, ℕ, ap, bytes_eq, false, filter, if◌then◌else◌}
+use Rattle.mk_script.proofs.Vocabulary.{Bool, Keyword, List, ℕ, ap, arith, bytes_eq, false, filter, if◌then◌else◌}
 use Rattle.mk_script.proofs.Vocabulary.{keyword_of, length, refl, sym, true, [], ◌==◌, ◌∙◌, ◌∷◌, ◌≡◌, ◌≢◌}
 use Rattle.mk_script.specs.Keywords.{keyword_among, keywords}
 
 -- words of different lengths differ
 differ : (word other : List ℕ) → (length other == length word) ≡ false → bytes_eq word other ≡ false
-differ word other apart = ⊎_elim
-    (λ (same : bytes_eq word other ≡ true).
+differ word other apart = ⊎_elim (λ (same : bytes_eq word other ≡ true).
     absurd (false≢true (sym apart ∙ eq-eqb (length other) (length word)
     (sym (ap length ((bytes_eq-Decides word other).0 same))))))
     (λ (is : bytes_eq word other ≡ false). is) (cases_Bool (bytes_eq word other))
@@ -16,9 +15,7 @@ differ word other apart = ⊎_elim
 kept_or_not : (word : List ℕ) (entry : List ℕ × Keyword) (kept all : List (List ℕ × Keyword)) (same : Bool)
     → (length entry.0 == length word) ≡ same → keyword_among kept word ≡ keyword_among all word
     → keyword_among (if same then entry ∷ kept else kept) word ≡ keyword_among (entry ∷ all) word
-kept_or_not word entry kept all true is others =
-    ap (λ other. if bytes_eq word entry.0 then Some entry.1 else other) others
-kept_or_not word entry kept all false is others = rw (differ word entry.0 is) others
+kept_or_not word entry kept all x4 is others = grind (arith, differ)
 
 same_length : (word : List ℕ) (all : List (List ℕ × Keyword))
     → keyword_among (filter (λ entry. length entry.0 == length word) all) word ≡ keyword_among all word

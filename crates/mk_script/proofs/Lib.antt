@@ -20,7 +20,7 @@ mod NamesSoFar
 mod NoForm
 mod PaddedNames
 mod Placed
-mod Pushed
+pub mod Pushed
 mod PutName
 mod Reading
 mod ScopeAfter

@@ -3,7 +3,7 @@ use Rattle.std.proofs.lemmas.List.Elements.{All-append, All-cons, All-nil, All-w
 use Rattle.std.proofs.lemmas.List.Splits.{slice_split_at, slice_split_none}
 use Rattle.std.proofs.{Common.ltb-true, Common.nat_lt, Common.true≢false, lemmas.Fmt.decimal_nonempty}
 use Rattle.std.proofs.{lemmas.List.Folds.list_all-append, lemmas.List.Sums.AllPass-from_list_all}
-use Rattle.std.specs.{Char.is_ascii_digit, List.All, List.slice_split}
+use Rattle.std.specs.List.{All, slice_split}
 use Rattle.mk_script.proofs.Vocabulary.{Bool, List, ℕ, all_ascii_digits, and_from, and_parts, ap, append-nil, arith}
 use Rattle.mk_script.proofs.Vocabulary.{cond-true, decimal, false, filter, is_empty, joined_words, length}
 use Rattle.mk_script.proofs.Vocabulary.{length-append, list_all, lt-ltb, nat_eq, nat_tests, not, refl, spaced_words}
@@ -29,23 +29,17 @@ is_word-append a b p q =
     let some : 0 < length a = ltb-true _ _ parts.0 in
     and_from _ _ (lt-ltb _ _ (omega (arith, length-append a b))) (is_solid-append a b parts.1 q)
 
-name_byte_above : (byte : ℕ) → is_name_byte byte ≡ true → nat_lt 32 byte ≡ true
-name_byte_above byte p = grind (arith, nat_tests)
-
 pub is_solid-names : (name : List ℕ) → list_all is_name_byte name ≡ true → is_solid name ≡ true
 is_solid-names [] p = refl
 is_solid-names (byte ∷ name) p =
     let parts = and_parts _ _ p in
-    and_from _ _ (name_byte_above byte parts.0) (is_solid-names name parts.1)
-
-digit_above : (byte : ℕ) → is_ascii_digit byte ≡ true → nat_lt 32 byte ≡ true
-digit_above byte p = grind (arith, nat_tests)
+    and_from _ _ (grind (arith, nat_tests)) (is_solid-names name parts.1)
 
 pub is_solid-digits : (digits : List ℕ) → all_ascii_digits digits ≡ true → is_solid digits ≡ true
 is_solid-digits [] p = refl
 is_solid-digits (byte ∷ digits) p =
     let parts = and_parts _ _ p in
-    and_from _ _ (digit_above byte parts.0) (is_solid-digits digits parts.1)
+    and_from _ _ (grind (arith, nat_tests)) (is_solid-digits digits parts.1)
 
 pub is_solid-decimal : (n : ℕ) → n < 2 ^ 64 → is_solid (decimal n) ≡ true
 is_solid-decimal n small = is_solid-digits (decimal n) (all_ascii_digits-decimal n small)
@@ -53,13 +47,9 @@ is_solid-decimal n small = is_solid-digits (decimal n) (all_ascii_digits-decimal
 pub is_word-decimal : (n : ℕ) → n < 2 ^ 64 → is_word (decimal n) ≡ true
 is_word-decimal n small = and_from _ _ (lt-ltb _ _ (decimal_nonempty n small)) (is_solid-decimal n small)
 
--- a byte that is not above the space is in no solid text
-other_byte : (low byte : ℕ) → low < 33 → nat_lt 32 byte ≡ true → nat_eq byte low ≡ false
-other_byte low byte l p = grind (arith, nat_tests)
-
 pub without : (low : ℕ) (text : List ℕ) → low < 33 → is_solid text ≡ true → All (λ byte. nat_eq byte low ≡ false) text
 without low text l p = All-weaker (λ byte. nat_lt 32 byte ≡ true) (λ byte. nat_eq byte low ≡ false)
-    (λ byte. other_byte low byte l) text (AllPass-from_list_all (λ byte. nat_lt 32 byte) text p)
+    (λ byte. λ p. grind (arith, nat_tests)) text (AllPass-from_list_all (λ byte. nat_lt 32 byte) text p)
 
 -- words of a line
 abbrev pub AreWords : List (List ℕ) → Type 0

@@ -1,14 +1,11 @@
 -- Names of one length that are padded with zeros are the same where all their bytes are.
 use Rattle.std.proofs.Common.{drop_at, take-append-drop}
 use Rattle.std.proofs.{lemmas.List.drop-replicate, lemmas.Slice.Eq.bytes_eq-Decides}
-use Rattle.mk_script.proofs.Vocabulary.{Bool, List, ℕ, ap, bytes_eq, drop, false, length, refl, replicate, sym, take}
-use Rattle.mk_script.proofs.Vocabulary.{true, ◌++◌, ◌-◌, ◌∙◌, ◌≡◌, ◌≤◌}
+use Rattle.mk_script.proofs.Vocabulary.{Bool, List, ℕ, ap, arith, bytes_eq, drop, length, replicate, sym, take, true}
+use Rattle.mk_script.proofs.Vocabulary.{◌++◌, ◌-◌, ◌∙◌, ◌≡◌, ◌≤◌}
 
 same_test : (r s : Bool) → (r ≡ true → s ≡ true) → (s ≡ true → r ≡ true) → r ≡ s
-same_test true true there back = refl
-same_test true false there back = sym (there refl)
-same_test false true there back = back refl
-same_test false false there back = refl
+same_test x0 x1 there back = grind arith
 
 -- the rest is the same
 with_rest : (n : ℕ) (xs ys : List ℕ) → drop n xs ≡ drop n ys → bytes_eq xs ys ≡ bytes_eq (take n xs) (take n ys)

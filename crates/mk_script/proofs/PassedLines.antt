@@ -1,6 +1,6 @@
 -- What each line of a program of some text keeps, after the lines before it.
-use Rattle.mk_script.proofs.Vocabulary.{Bool, Err, IsOfSomeText, Item, LineFault, List, None, Ok, Option, Result, Some}
-use Rattle.mk_script.proofs.Vocabulary.{ℕ, ap, append-nil, append_assoc, ends_rightly, false, go_on, has_none}
+use Rattle.mk_script.proofs.Vocabulary.{Bool, Err, IsOfSomeText, Item, LineFault, List, None, Ok, Option, Result, ℕ, ap}
+use Rattle.mk_script.proofs.Vocabulary.{append-nil, append_assoc, arith, ends_rightly, false, go_on, has_none}
 use Rattle.mk_script.proofs.Vocabulary.{has_script, if◌then◌else◌, is_twice, items_behind, items_of_lines, length}
 use Rattle.mk_script.proofs.Vocabulary.{line_of, lines_of, nat_le, open_blocks, refl, subst, sym, true, words_of_line}
 use Rattle.mk_script.proofs.Vocabulary.{[], ◌++◌, ◌+◌, ◌>>=◌, ◌∙◌, ◌∷◌, ◌≡◌}
@@ -44,10 +44,7 @@ record Checks (twice right : Bool) (fault : Option LineFault) (found item : Item
 checks : (twice ends : Bool) (first last : LineFault) (fault : Option LineFault) (found item : Item)
     → (if twice then Err first else (or_item fault found >>= (λ item'. if ends then Ok item' else Err last))) ≡ Ok item
     → Checks twice ends fault found item
-checks true ends first last fault found item h = absurd cc
-checks false true first last None found item h = record { same = cc; fresh = refl; within = refl; ends = refl }
-checks false false first last None found item h = absurd cc
-checks false ends first last (Some fault) found item h = absurd cc
+checks x0 ends first last fault found item h = grind arith
 
 pub passed : (before : List Item) (words : List (List ℕ)) (item : Item) → line_of before words ≡ Ok item
     → IsPassed before item
@@ -71,32 +68,13 @@ passed before words item h = by_found (line_item before words) refl h
 ended : (closed script : Bool) (first last : TextStop) (before items : List Item) → script ≡ has_script before
     → closed ≡ has_none (open_blocks before)
     → (if closed then (if script then Ok before else Err first) else Err last) ≡ Ok items → Behind before items
-ended true true first last before items has close h =
-    let same : before ≡ items = cc in
-    record {
-      rest = [];
-      all = append-nil before ∙ same;
-      lines = tt;
-      script = ap has_script (sym same) ∙ sym has;
-      closed = ap (λ (xs : List Item). has_none (open_blocks xs)) (sym same) ∙ sym close;
-    }
-ended true false first last before items has close h = absurd cc
-ended false script first last before items has close h = absurd cc
+ended x0 script first last before items has close h = grind (arith, append-nil)
 
 one_more : (line : ℕ) (before items : List Item) (next : Item → Result (List Item) TextStop) (r : Result Item LineFault)
     → ((item : Item) → r ≡ Ok item → IsPassed before item)
     → ((item : Item) → next item ≡ Ok items → Behind (before ++ item ∷ []) items)
     → go_on line r next ≡ Ok items → Behind before items
-one_more line before items next (Ok item) is behind h =
-    let b = behind item h in
-    record {
-      rest = item ∷ b.rest;
-      all = sym (append_assoc before (item ∷ []) b.rest) ∙ b.all;
-      lines = (is item refl, b.lines);
-      script = b.script;
-      closed = b.closed;
-    }
-one_more line before items next (Err fault) is behind h = absurd cc
+one_more line before items next x4 is behind h = grind (arith, append_assoc)
 
 lines_behind : (lines : List (List ℕ)) (before items : List Item) → items_behind lines before ≡ Ok items
     → Behind before items

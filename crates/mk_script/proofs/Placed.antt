@@ -2,8 +2,8 @@
 use Rattle.std.proofs.Math.Bool.{and-false}
 use Rattle.mk_script.proofs.Vocabulary.{Bool, Err, Item, Keyword, LineFault, List, Ok, Result, Some, ℕ, are_fields}
 use Rattle.mk_script.proofs.Vocabulary.{arith, false, fields_of, has_word_count, have_form, if◌then◌else◌, is_placed}
-use Rattle.mk_script.proofs.Vocabulary.{item_from, le-leb, length, name, refl, sym, true, [], ◌&&◌, ◌<◌, ◌>>=◌, ◌∷◌}
-use Rattle.mk_script.proofs.Vocabulary.{◌≡◌, ◌≢◌}
+use Rattle.mk_script.proofs.Vocabulary.{item_from, le-leb, length, name, refl, true, [], ◌&&◌, ◌<◌, ◌>>=◌, ◌∷◌, ◌≡◌}
+use Rattle.mk_script.proofs.Vocabulary.{◌≢◌}
 use Rattle.mk_script.specs.Lines.{placed_item}
 use Rattle.mk_script.specs.declared.keywords.Keyword.TheVariants.{Add, Casp, Clear, Const, Else, End, Free, Getn, Getp}
 use Rattle.mk_script.specs.declared.keywords.Keyword.TheVariants.{Global, Heap, If, Isnull, Lea, Loadg, Move, New, Num}
@@ -47,14 +47,12 @@ miscounted End [] other counts = cc
 miscounted keyword words other counts = refl
 
 have_form-plain : (keyword : Keyword) (words : List (List ℕ)) → keyword ≢ TypeLine → have_form keyword words ≡ true
-have_form-plain TypeLine words other = absurd (other refl)
-have_form-plain keyword words other = refl
+have_form-plain keyword words other = grind arith
 
 chosen : (counts formed placed : Bool) (found : Result Item LineFault) → formed ≡ true → placed ≡ true
     → (counts ≡ false → found ≡ Err (Text Word))
     → (if counts && formed && placed then found else Err (Text Word)) ≡ found
-chosen true formed placed found is is' unless = rw (is, is') refl
-chosen false formed placed found is is' unless = sym (unless refl)
+chosen x0 formed placed found is is' unless = grind arith
 
 -- a line that isn't a type's and stands in its place
 pub placed_plain : (before : List Item) (keyword : Keyword) (words : List (List ℕ)) → keyword ≢ TypeLine

@@ -4,11 +4,11 @@ use Rattle.std.proofs.{Common.eqb-true, Common.inl, Common.inr, Common.leb-true,
 use Rattle.std.proofs.{lemmas.Bool.cond_both, lemmas.List.length-replicate, lemmas.List.replicate_more}
 use Rattle.std.specs.Option.{is_some, option_and_then, option_map, unwrap_or}
 use Rattle.std.specs.{List.All, Result.result_ok}
-use Rattle.mk_script.proofs.Vocabulary.{At, Bool, Err, LineFault, List, None, Ok, Option, Result, Some, ℕ, and_from}
+use Rattle.mk_script.proofs.Vocabulary.{At, Bool, LineFault, List, None, Ok, Option, Result, Some, ℕ, and_from}
 use Rattle.mk_script.proofs.Vocabulary.{and_parts, append_assoc, arith, at, at_text, codes, cond, cond-true, decimal}
-use Rattle.mk_script.proofs.Vocabulary.{false, fields_behind, fields_of, le-leb, length, length-append, list_all}
-use Rattle.mk_script.proofs.Vocabulary.{nat_eq, nat_le, number_of_word, refl, replicate, subst, suc, sym, true, zero}
-use Rattle.mk_script.proofs.Vocabulary.{[], ◌++◌, ◌+◌, ◌<◌, ◌^◌, ◌∷◌, ◌≡◌}
+use Rattle.mk_script.proofs.Vocabulary.{fields_behind, fields_of, le-leb, length, length-append, list_all, nat_eq}
+use Rattle.mk_script.proofs.Vocabulary.{nat_le, number_of_word, refl, replicate, subst, suc, sym, true, zero, [], ◌++◌}
+use Rattle.mk_script.proofs.Vocabulary.{◌+◌, ◌<◌, ◌^◌, ◌∷◌, ◌≡◌}
 use Rattle.mk_script.proofs.LineWords.{AreWords, is_solid-decimal, is_word, is_word-append}
 use Rattle.mk_script.proofs.Said.{IsPlace, at_again, at_was, is_solid-at}
 use Rattle.mk_script.proofs.PrintedNumbers.{number_of_word-decimal}
@@ -33,26 +33,11 @@ many_numbers : (count : ℕ) → 0 < count → count < 2 ^ 64
     → IsFieldOf (codes "n*" ++ decimal count) (replicate count Number)
 many_numbers count some small = grind (arith, number_of_word-decimal, numbers_again, is_word-append, is_solid-decimal)
 
-pub numbers_text_again : (count : ℕ) → 0 < count → count < 2 ^ 64
-    → IsFieldOf (numbers_text count) (replicate count Number)
-numbers_text_again count some small =
-    cond_both (nat_eq count 1) (codes "n") (codes "n*" ++ decimal count)
-    (λ field. IsFieldOf field (replicate count Number))
-    (λ one. subst (λ k. IsFieldOf (codes "n") (replicate k Number)) (sym (eqb-true count 1 one))
-    (record { says = refl; word = refl }))
-    (λ more. many_numbers count some small)
-
-pub pointer_again : (a : At) → IsPlace a → IsFieldOf (codes "p:" ++ at_text a) (Pointer a ∷ [])
-pointer_again a place = grind (arith, at_again, is_word-append, is_solid-at)
-
 -- fields that each say something, together these words
 pub record AreFieldsOf (fields : List (List ℕ)) (words : List TypeWord) : Type 0 where
   pub say : fields_of fields ≡ words
   pub each : list_all (λ field. is_some (field_of field)) fields ≡ true
   pub apart : AreWords fields
-
-no_fields : AreFieldsOf [] []
-no_fields = record { say = refl; each = refl; apart = tt }
 
 one_more : (field : List ℕ) (fields : List (List ℕ)) (first words : List TypeWord) → IsFieldOf field first
     → AreFieldsOf fields words → AreFieldsOf (field ∷ fields) (first ++ words)
@@ -63,11 +48,15 @@ numbers_before_again : (count : ℕ) (fields : List (List ℕ)) (words : List Ty
 numbers_before_again zero fields words small fs = fs
 numbers_before_again (suc count) fields words small fs =
     one_more (numbers_text (suc count)) fields (replicate (suc count) Number) words
-    (numbers_text_again (suc count) (omega arith) small) fs
+    (cond_both (nat_eq (suc count) 1) (codes "n") (codes "n*" ++ decimal (suc count))
+    (λ field. IsFieldOf field (replicate (suc count) Number))
+    (λ one. subst (λ k. IsFieldOf (codes "n") (replicate k Number)) (sym (eqb-true (suc count) 1 one))
+    (record { says = refl; word = refl })) (λ more. many_numbers (suc count) (omega arith) small)) fs
 
 pub fields_again : (words : List TypeWord) (count : ℕ) → All IsTypeWord words → count + length words < 2 ^ 64
     → AreFieldsOf (fields_behind words count) (replicate count Number ++ words)
-fields_again [] count all small = numbers_before_again count [] [] (omega arith) no_fields
+fields_again [] count all small = numbers_before_again count [] [] (omega arith)
+    (record { say = refl; each = refl; apart = tt })
 fields_again (Number ∷ words) count all small =
     let later = fields_again words (count + 1) (All-tail IsTypeWord Number words all) (omega arith) in
     let same : replicate (count + 1) Number ++ words ≡ replicate count Number ++ (Number ∷ words) =
@@ -77,12 +66,12 @@ fields_again (Pointer a ∷ words) count all small =
     let later = fields_again words 0 (All-tail IsTypeWord (Pointer a) words all) (omega arith) in
     let place : IsPlace a = All-head IsTypeWord (Pointer a) words all in
     numbers_before_again count ((codes "p:" ++ at_text a) ∷ fields_behind words 0) (Pointer a ∷ words) (omega arith)
-    (one_more (codes "p:" ++ at_text a) (fields_behind words 0) (Pointer a ∷ []) words (pointer_again a place) later)
+    (one_more (codes "p:" ++ at_text a) (fields_behind words 0) (Pointer a ∷ []) words (
+    grind (arith, at_again, is_word-append, is_solid-at)) later)
 
 numbers_before_some : (count : ℕ) (fields : List (List ℕ)) → 0 < count + length fields
     → 0 < length (numbers_before count fields)
-numbers_before_some zero fields some = omega arith
-numbers_before_some (suc count) fields some = omega arith
+numbers_before_some x0 fields some = grind arith
 
 -- a type that has words has fields
 pub fields_behind_some : (words : List TypeWord) (count : ℕ) → 0 < count + length words
@@ -99,13 +88,11 @@ pub record AreSaid (words : List TypeWord) : Type 0 where
   pub some : 0 < length words
 
 cond_was : {A : Type 0} (b : Bool) (x y : A) → cond b (Some x) None ≡ Some y → (b ≡ true) × (x ≡ y)
-cond_was true x y e = (refl, cc)
-cond_was false x y e = absurd cc
+cond_was x0 x y e = grind arith
 
 and_then_was : {A B : Type 0} (f : A → Option B) (o : Option A) (y : B) → option_and_then f o ≡ Some y
     → (x : A) × (f x ≡ Some y)
-and_then_was f None y e = absurd cc
-and_then_was f (Some x) y e = (x, e)
+and_then_was f x1 y e = grind arith
 
 numbers_were : (digits : List ℕ) (words : List TypeWord) → option_and_then numbers (number_of_word digits) ≡ Some words
     → AreSaid words
@@ -123,13 +110,11 @@ one_was word words is same =
     subst AreSaid same (record { all = All-cons IsTypeWord word [] is (All-nil IsTypeWord); some = omega arith })
 
 starred_was : (rest : List ℕ) (words : List TypeWord) → number_field rest ≡ Some words → AreSaid words
-starred_was [] words e = let same : Number ∷ [] ≡ words = cc in one_was Number words tt same
-starred_was (star ∷ digits) words e = grind (arith, cases_cond, numbers_were)
+starred_was x0 words e = grind (arith, one_was, cases_cond, numbers_were)
 
 place_was : (r : Result At LineFault) (words : List TypeWord)
     → option_map (λ a. Pointer a ∷ []) (result_ok r) ≡ Some words → ((a : At) → r ≡ Ok a → IsPlace a) → AreSaid words
-place_was (Ok a) words e is = let same : Pointer a ∷ [] ≡ words = cc in one_was (Pointer a) words (is a refl) same
-place_was (Err fault) words e is = absurd cc
+place_was x0 words e is = grind (arith, one_was)
 
 pointed_was : (rest : List ℕ) (words : List TypeWord) → pointer_field rest ≡ Some words → AreSaid words
 pointed_was [] words e = absurd cc
@@ -138,13 +123,11 @@ pointed_was (colon ∷ place) words e =
     [ inl h ↦ place_was (at place) words (sym h) (at_was place) | inr h ↦ absurd cc ]
 
 field_was : (field : List ℕ) (words : List TypeWord) → field_of field ≡ Some words → AreSaid words
-field_was [] words e = absurd cc
-field_was (letter ∷ rest) words e = grind (arith, cases_cond, starred_was, pointed_was)
+field_was x0 words e = grind (arith, cases_cond, starred_was, pointed_was)
 
 some_said : (said : Option (List TypeWord)) → is_some said ≡ true
     → ((words : List TypeWord) → said ≡ Some words → AreSaid words) → AreSaid (unwrap_or said [])
-some_said None e was = absurd cc
-some_said (Some words) e was = was words refl
+some_said x0 e was = grind arith
 
 -- the words of fields that each say something
 pub fields_were : (fields : List (List ℕ)) → list_all (λ field. is_some (field_of field)) fields ≡ true

@@ -104,8 +104,6 @@ said Repeat (a ∷ []) line short count form e = prints (a ∷ []) (codes "repea
     (λ v. Item.Repeat v) refl refl (λ words. refl) (λ v. refl) (λ a. refl) count e
 said If (a ∷ []) line short count form e = prints (a ∷ []) (codes "if") (AName ∷ [])
     (λ v. Item.If v) refl refl (λ words. refl) (λ v. refl) (λ a. refl) count e
-said Else [] line short count form e = prints [] (codes "else") []
-    Item.Else refl refl (λ words. refl) refl refl count e
-said End [] line short count form e = prints [] (codes "end") []
-    Item.End refl refl (λ words. refl) refl refl count e
+said Else [] line short count form e = prints [] (codes "else") [] Item.Else refl refl (λ words. refl) refl refl count e
+said End [] line short count form e = prints [] (codes "end") [] Item.End refl refl (λ words. refl) refl refl count e
 said form operands line short count formed e = no_item e

@@ -3,8 +3,8 @@ use Rattle.std.proofs.lemmas.Fmt.{decimal_digit, decimal_nonempty, digits_decima
 use Rattle.std.proofs.lemmas.Str.Parse.{IsNumeralModel, numerals_by_fold}
 use Rattle.std.proofs.{Common.ne_eqb, lemmas.Bool.not_from_false, lemmas.Bool.or_right, lemmas.Grind.common_steps}
 use Rattle.mk_script.proofs.Vocabulary.{List, Some, ℕ, all_ascii_digits, and_from, arith, cond-true, decimal, get_or}
-use Rattle.mk_script.proofs.Vocabulary.{length, lt-ltb, nat_eq, not, number_of_word, rules, suc, true, value_from, zero}
-use Rattle.mk_script.proofs.Vocabulary.{◌<◌, ◌^◌, ◌||◌, ◌≡◌}
+use Rattle.mk_script.proofs.Vocabulary.{length, lt-ltb, nat_eq, not, number_of_word, rules, true, value_from, ◌<◌, ◌^◌}
+use Rattle.mk_script.proofs.Vocabulary.{◌||◌, ◌≡◌}
 use Rattle.mk_script.specs.Names.{is_numeral}
 
 own : IsNumeralModel (λ ds. all_ascii_digits ds ≡ true) (value_from 0)
@@ -19,8 +19,7 @@ value_from-decimal n small = digits_value-decimal own n small
 -- no zero leads, but that of 0 itself
 leads_rightly : (n : ℕ) → n < 2 ^ 64
     → ((nat_eq (length (decimal n)) 1) || not (nat_eq (get_or (decimal n) 0 0) 48)) ≡ true
-leads_rightly zero small = let one = decimal_digit 0 (omega arith) in rw one
-leads_rightly (suc n) small = grind (arith, first_decimal, or_right, not_from_false, ne_eqb)
+leads_rightly x0 small = grind (arith, decimal_digit, first_decimal, or_right, not_from_false, ne_eqb)
 
 pub is_numeral-decimal : (n : ℕ) → n < 2 ^ 64 → is_numeral (decimal n) ≡ true
 is_numeral-decimal n small = grind (arith, and_from, all_ascii_digits-decimal, lt-ltb, decimal_nonempty, leads_rightly)

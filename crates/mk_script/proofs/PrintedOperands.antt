@@ -55,8 +55,7 @@ with_operand AName w e go =
     with_name w e (λ n p e. go n (record { again = name_again n p; apart = is_word-name n p }) e)
 with_operand ANumber w e go =
     with_number w e (λ n p e. go n (record { again = number_again n p; apart = is_word-decimal n p }) e)
-with_operand APlace w e go =
-    with_at w e (λ a p e. go a (record { again = at_again a p; apart = is_word-at a p }) e)
+with_operand APlace w e go = with_at w e (λ a p e. go a (record { again = at_again a p; apart = is_word-at a p }) e)
 
 -- the item of operands of these kinds
 abbrev pub Makes : List Kind → Type 0
@@ -89,14 +88,13 @@ record Again (ks : List Kind) (make : Makes ks) (front : List (List ℕ)) (count
 
 again : (ks : List Kind) (make : Makes ks) (front operands : List (List ℕ)) (line : Item) → ArePrinted ks make front
     → says ks make operands ≡ Ok line → Again ks make front (length operands) line
-again [] item front [] line printed e =
-    is_this e (Again [] item front 0) (record {
-      operands = [];
-      words = printed ∙ sym (append-nil front);
-      same_count = refl;
-      reads = λ one same. same;
-      apart = tt;
-    })
+again [] item front [] line printed e = is_this e (Again [] item front 0) (record {
+  operands = [];
+  words = printed ∙ sym (append-nil front);
+  same_count = refl;
+  reads = λ one same. same;
+  apart = tt;
+})
 again [] item front (operand ∷ operands) line printed e = no_item e
 again (k ∷ ks) make front [] line printed e = no_item e
 again (k ∷ ks) make front (operand ∷ operands) line printed e =

@@ -1,4 +1,4 @@
--- What lines say, with one line more.
+-- What lines say, with others behind them.
 use Rattle.std.proofs.lemmas.List.{reverse-append, take_more}
 use Rattle.std.proofs.{Common.set, Math.Seq.set-append_seam, lemmas.List.Sums.fold-append}
 use Rattle.mk_script.proofs.Vocabulary.{Item, List, ℕ, ap, arith, get_or, global_names, if◌then◌else◌, is_script}
@@ -8,35 +8,35 @@ use Rattle.mk_script.proofs.Vocabulary.{◌+◌, ◌-◌, ◌<◌, ◌∙◌, �
 use Rattle.mk_script.specs.declared.items.Item.TheVariants.{Global, Num, Ptr, Script, TypeLine}
 use Rattle.mk_script.specs.Scopes.{InSecond, OpenBlock, behind_else}
 
-pub type_names-push : (before : List Item) (item : Item)
-    → type_names (before ++ item ∷ []) ≡ type_names before ++ type_names (item ∷ [])
-type_names-push [] item = refl
-type_names-push (TypeLine name words ∷ before) item = ap (λ names. name ∷ names) (type_names-push before item)
-type_names-push (other ∷ before) item = type_names-push before item
+pub type_names-append : (items behind : List Item)
+    → type_names (items ++ behind) ≡ type_names items ++ type_names behind
+type_names-append [] behind = refl
+type_names-append (TypeLine name words ∷ items) behind = ap (λ names. name ∷ names) (type_names-append items behind)
+type_names-append (item ∷ items) behind = type_names-append items behind
 
-pub global_names-push : (before : List Item) (item : Item)
-    → global_names (before ++ item ∷ []) ≡ global_names before ++ global_names (item ∷ [])
-global_names-push [] item = refl
-global_names-push (Global name ty ∷ before) item = ap (λ names. name ∷ names) (global_names-push before item)
-global_names-push (other ∷ before) item = global_names-push before item
+pub global_names-append : (items behind : List Item)
+    → global_names (items ++ behind) ≡ global_names items ++ global_names behind
+global_names-append [] behind = refl
+global_names-append (Global name ty ∷ items) behind = ap (λ names. name ∷ names) (global_names-append items behind)
+global_names-append (item ∷ items) behind = global_names-append items behind
 
-pub script_names-push : (before : List Item) (item : Item)
-    → script_names (before ++ item ∷ []) ≡ script_names before ++ script_names (item ∷ [])
-script_names-push [] item = refl
-script_names-push (Script name ∷ before) item = ap (λ names. name ∷ names) (script_names-push before item)
-script_names-push (other ∷ before) item = script_names-push before item
+pub script_names-append : (items behind : List Item)
+    → script_names (items ++ behind) ≡ script_names items ++ script_names behind
+script_names-append [] behind = refl
+script_names-append (Script name ∷ items) behind = ap (λ names. name ∷ names) (script_names-append items behind)
+script_names-append (item ∷ items) behind = script_names-append items behind
 
-pub pointer_names-push : (before : List Item) (item : Item)
-    → pointer_names (before ++ item ∷ []) ≡ pointer_names before ++ pointer_names (item ∷ [])
-pointer_names-push [] item = refl
-pointer_names-push (Ptr name at ∷ before) item = ap (λ names. name ∷ names) (pointer_names-push before item)
-pointer_names-push (other ∷ before) item = pointer_names-push before item
+pub pointer_names-append : (items behind : List Item)
+    → pointer_names (items ++ behind) ≡ pointer_names items ++ pointer_names behind
+pointer_names-append [] behind = refl
+pointer_names-append (Ptr name at ∷ items) behind = ap (λ names. name ∷ names) (pointer_names-append items behind)
+pointer_names-append (item ∷ items) behind = pointer_names-append items behind
 
-pub number_names-push : (before : List Item) (item : Item)
-    → number_names (before ++ item ∷ []) ≡ number_names before ++ number_names (item ∷ [])
-number_names-push [] item = refl
-number_names-push (Num name ∷ before) item = ap (λ names. name ∷ names) (number_names-push before item)
-number_names-push (other ∷ before) item = number_names-push before item
+pub number_names-append : (items behind : List Item)
+    → number_names (items ++ behind) ≡ number_names items ++ number_names behind
+number_names-append [] behind = refl
+number_names-append (Num name ∷ items) behind = ap (λ names. name ∷ names) (number_names-append items behind)
+number_names-append (item ∷ items) behind = number_names-append items behind
 
 pub this_script-push : (before : List Item) (item : Item)
     → this_script (before ++ item ∷ []) ≡ (if is_script item then [] else this_script before ++ item ∷ [])

@@ -2,9 +2,9 @@
 use Rattle.std.proofs.{Common.Bor, Common.Result, lemmas.List.at_drop_more}
 use Rattle.std.specs.Result.{IfErr, IfOk, MatchResult}
 use Rattle.mk_script.proofs.Vocabulary.{Err, Item, List, Ok, ℕ, ap, arith, drop, get_or, go_on, items_behind}
-use Rattle.mk_script.proofs.Vocabulary.{items_of_lines, length, length-map, line_of, refl, sym, texts_of, words_of_line}
-use Rattle.mk_script.proofs.Vocabulary.{[], ◌++◌, ◌+◌, ◌<◌, ◌∙◌, ◌∷◌, ◌≡◌, ◌≢◌}
-use Rattle.mk_script.specs.declared.faults.LineStop.TheVariants.{Fault, NoMemory}
+use Rattle.mk_script.proofs.Vocabulary.{items_of_lines, length, length-map, line_of, sym, texts_of, words_of_line, []}
+use Rattle.mk_script.proofs.Vocabulary.{◌++◌, ◌+◌, ◌<◌, ◌∙◌, ◌∷◌, ◌≡◌, ◌≢◌}
+use Rattle.mk_script.specs.declared.faults.LineStop.TheVariants.{NoMemory}
 use Rattle.mk_script.specs.{ScopeOf.IsStopOfLine, ScopeOf.ReadsLine, Stops.stop_at, declared.faults.LineStop.LineStop}
 use Rattle.mk_script.specs.{declared.faults.TextStop.TextStop, declared.scope.Scope.Scope}
 
@@ -17,14 +17,11 @@ goes_on before line lines item is =
 
 pub stops : (before : List Item) (line : List ℕ) (lines : List (List ℕ)) (number : ℕ) (found : LineStop)
     → number ≡ length before + 1 → IsStopOfLine before (words_of_line line) found
-    → stop_at number found ≢ TextStop.NoMemory
-    → items_behind (line ∷ lines) before ≡ Err (stop_at number found)
-stops before line lines number (Fault fault) counts is memory = cc
-stops before line lines number NoMemory counts is memory = absurd (memory refl)
+    → stop_at number found ≢ TextStop.NoMemory → items_behind (line ∷ lines) before ≡ Err (stop_at number found)
+stops before line lines number x4 counts is memory = grind arith
 
 pub from_first : (lines : List (List ℕ)) → 0 < length lines → items_of_lines lines ≡ items_behind lines []
-from_first [] some = absurd (omega arith)
-from_first (line ∷ lines) some = refl
+from_first x0 some = grind arith
 
 -- the same, along the lines of a text
 at_line : (lines : List (Bor (List ℕ))) (i : ℕ) (before : List Item) (d : Bor (List ℕ)) → i < length lines
@@ -33,12 +30,10 @@ at_line : (lines : List (Bor (List ℕ))) (i : ℕ) (before : List Item) (d : Bo
 at_line lines i before d inside = at_drop_more (λ left. items_behind (texts_of left) before) lines i d inside
 
 pub step : (lines : List (Bor (List ℕ))) (i : ℕ) (before items : List Item) (scope : Scope) (d : Bor (List ℕ))
-    → i < length lines
-    → ReadsLine before (words_of_line (get_or lines i d).now) items scope
+    → i < length lines → ReadsLine before (words_of_line (get_or lines i d).now) items scope
     → items_behind (texts_of (drop (i + 1) lines)) items ≡ items_behind (texts_of (drop i lines)) before
 step lines i before items scope d inside read =
-    ap (λ now. items_behind (texts_of (drop (i + 1) lines)) now) read.items_are
-    ∙ sym (at_line lines i before d inside
+    ap (λ now. items_behind (texts_of (drop (i + 1) lines)) now) read.items_are ∙ sym (at_line lines i before d inside
     ∙ goes_on before (get_or lines i d).now (texts_of (drop (i + 1) lines)) read.item read.is_item)
 
 pub stops_at : (lines : List (Bor (List ℕ))) (i : ℕ) (before : List Item) (d : Bor (List ℕ)) (found : LineStop)
@@ -46,8 +41,7 @@ pub stops_at : (lines : List (Bor (List ℕ))) (i : ℕ) (before : List Item) (d
     → IsStopOfLine before (words_of_line (get_or lines i d).now) found → stop_at (i + 1) found ≢ TextStop.NoMemory
     → items_behind (texts_of (drop i lines)) before ≡ Err (stop_at (i + 1) found)
 stops_at lines i before d found inside counts is memory =
-    at_line lines i before d inside
-    ∙ stops before (get_or lines i d).now (texts_of (drop (i + 1) lines)) (i + 1) found
+    at_line lines i before d inside ∙ stops before (get_or lines i d).now (texts_of (drop (i + 1) lines)) (i + 1) found
     (ap (λ n. n + 1) (sym counts)) is memory
 
 pub whole : (lines : List (Bor (List ℕ))) (text_lines : List (List ℕ)) → 0 < length lines → texts_of lines ≡ text_lines
@@ -58,12 +52,10 @@ pub ended_well : {A : Type 0} (view : A
     → List Item) (result : Result A TextStop) (expected found : Result (List Item) TextStop) → expected ≡ found
     → MatchResult result (λ kept. found ≡ Ok (view kept)) (λ stop. found ≡ Err stop)
     → IfOk result (λ kept. expected ≡ Ok (view kept))
-ended_well view (Ok kept) expected found is ended = is ∙ ended
-ended_well view (Err stop) expected found is ended = tt
+ended_well view x1 expected found is ended = grind arith
 
 pub ended_badly : {A : Type 0} (view : A
     → List Item) (result : Result A TextStop) (expected found : Result (List Item) TextStop) → expected ≡ found
     → MatchResult result (λ kept. found ≡ Ok (view kept)) (λ stop. found ≡ Err stop)
     → IfErr result (λ found_stop. found_stop ≢ TextStop.NoMemory → expected ≡ Err found_stop)
-ended_badly view (Ok kept) expected found is ended = tt
-ended_badly view (Err stop) expected found is ended = λ memory. is ∙ ended
+ended_badly view x1 expected found is ended = grind arith

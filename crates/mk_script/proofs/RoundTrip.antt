@@ -23,9 +23,6 @@ said_again before (line ∷ rest) passed =
     let again = line_again before passed.0.words line passed.0.reads in
     (record { reads = again.0; apart = again.1 }, said_again (before ++ line ∷ []) rest passed.1)
 
-ends_again : (items : List Item) → IsWhole items → at_end items ≡ Ok items
-ends_again items is = rw (is.closed, is.script) refl
-
 items_again : (rest before items : List Item) → AreSaidAgain before rest → before ++ rest ≡ items
     → at_end items ≡ Ok items → items_behind (lines_of_items rest) before ≡ Ok items
 items_again [] before items again whole end =
@@ -44,7 +41,7 @@ lines_again : (items : List Item) → IsWhole items → items_of_lines (lines_of
 lines_again [] is = absurd (let none = is.script in cc)
 lines_again (line ∷ items) is =
     items_again (line ∷ items) [] (line ∷ items) (said_again [] (line ∷ items) is.lines) refl
-    (ends_again (line ∷ items) is)
+    (rw (is.closed, is.script) refl)
 
 pub program_of-canonical_text : (items : List Item) → IsOfSomeText items → length (canonical_text items) ≤ 1048576
     → program_of (canonical_text items) ≡ Ok items

@@ -2,11 +2,10 @@
 use Rattle.std.proofs.Common.{drop-drop, drop_at, inl, inr, ne_eqb, ok_or, one-add, take_at}
 use Rattle.std.proofs.lemmas.Bool.{cases_cond, cond-false, cond_both, not_from_false, or_from, or_right}
 use Rattle.std.specs.List.{after_first, before_first, position_or_len}
-use Rattle.mk_script.proofs.Vocabulary.{At, Bool, Err, LineFault, List, None, Ok, Option, Result, Some, ℕ, and_from}
+use Rattle.mk_script.proofs.Vocabulary.{At, Bool, LineFault, List, None, Ok, Option, Result, Some, ℕ, and_from}
 use Rattle.mk_script.proofs.Vocabulary.{and_parts, ap, arith, at, at_text, codes, cond, cond-true, decimal, false}
 use Rattle.mk_script.proofs.Vocabulary.{length, list_all, list_any, list_any-append, name, nat_tests, number_of_word}
-use Rattle.mk_script.proofs.Vocabulary.{refl, subst, suc, sym, true, zero, [], ◌++◌, ◌+◌, ◌<◌, ◌>>=◌, ◌^◌, ◌∙◌, ◌∷◌}
-use Rattle.mk_script.proofs.Vocabulary.{◌≡◌}
+use Rattle.mk_script.proofs.Vocabulary.{refl, subst, sym, true, [], ◌++◌, ◌+◌, ◌<◌, ◌>>=◌, ◌^◌, ◌∙◌, ◌∷◌, ◌≡◌}
 use Rattle.mk_script.proofs.LineWords.{is_solid, is_solid-append, is_solid-decimal, is_solid-names, is_word}
 use Rattle.mk_script.proofs.LineWords.{is_word-append}
 use Rattle.mk_script.proofs.PrintedNumbers.{number_of_word-below, number_of_word-decimal}
@@ -21,12 +20,10 @@ then_again r f x y e g = ap (λ q. q >>= f) e ∙ g
 
 pub then_was : {A B : Type 0} (r : Result A LineFault) (f : A → Result B LineFault) (y : B) → (r >>= f) ≡ Ok y
     → (x : A) × (r ≡ Ok x) × (f x ≡ Ok y)
-then_was (Ok x) f y e = (x, refl, e)
-then_was (Err fault) f y e = absurd cc
+then_was x0 f y e = grind arith
 
 ok_or_was : {A : Type 0} (fault : LineFault) (o : Option A) (x : A) → ok_or o fault ≡ Ok x → o ≡ Some x
-ok_or_was fault None x e = absurd cc
-ok_or_was fault (Some y) x e = cc
+ok_or_was fault x1 x e = grind arith
 
 -- names
 
@@ -34,11 +31,7 @@ pub name_again : (n : List ℕ) → is_name n ≡ true → name n ≡ Ok n
 name_again n h = ap (λ o. ok_or o (Text TextKind.Name)) (cond-true _ _ _ h)
 
 name_of_is : (w n : List ℕ) (b : Bool) → is_name w ≡ b → cond b (Some w) None ≡ Some n → is_name n ≡ true
-name_of_is w n true h e = let same : w ≡ n = cc in subst (λ t. is_name t ≡ true) same h
-name_of_is w n false h e = absurd cc
-
-pub name_was : (w n : List ℕ) → name w ≡ Ok n → is_name n ≡ true
-name_was w n e = name_of_is w n (is_name w) refl (ok_or_was (Text TextKind.Name) (name_of w) n e)
+name_of_is w n x2 h e = grind arith
 
 name_bytes : (n : List ℕ) → is_name n ≡ true → list_all is_name_byte n ≡ true
 name_bytes n h = (and_parts _ _ h).1
@@ -53,9 +46,6 @@ is_word-name n h = and_from _ _ (and_parts _ _ (and_parts _ _ (and_parts _ _ h).
 
 pub number_again : (n : ℕ) → n < 2 ^ 64 → number (decimal n) ≡ Ok n
 number_again n small = ap (λ o. ok_or o (Text TextKind.Number)) (number_of_word-decimal n small)
-
-pub number_was : (w : List ℕ) (n : ℕ) → number w ≡ Ok n → n < 2 ^ 64
-number_was w n e = number_of_word-below w n (ok_or_was (Text TextKind.Number) (number_of_word w) n e)
 
 -- places of types
 
@@ -98,8 +88,7 @@ with_offset n k h small =
 
 at_text_again : (n : List ℕ) (k : ℕ) → is_name n ≡ true → k < 2 ^ 64
     → at (at_text (record { name = n; offset = k })) ≡ Ok (record { name = n; offset = k })
-at_text_again n zero h small = alone n h
-at_text_again n (suc k) h small = grind (arith, ne_eqb, cond-false, with_offset)
+at_text_again n x1 h small = grind (arith, alone, ne_eqb, cond-false, with_offset)
 
 pub at_again : (a : At) → IsPlace a → at (at_text a) ≡ Ok a
 at_again a place = at_text_again a.name a.offset place.named place.small
@@ -108,24 +97,23 @@ at_again a place = at_text_again a.name a.offset place.named place.small
 
 pub with_name : {A P : Type 0} (w : List ℕ) {f : List ℕ → Result A LineFault} {y : A} → (name w >>= f) ≡ Ok y
     → ((n : List ℕ) → is_name n ≡ true → f n ≡ Ok y → P) → P
-with_name w {f} {y} e go = let was = then_was (name w) f y e in go was.0 (name_was w was.0 was.1) was.2
+with_name w {f} {y} e go = let was = then_was (name w) f y e in go was.0 (
+    name_of_is w was.0 (is_name w) refl (ok_or_was (Text TextKind.Name) (name_of w) was.0 was.1)) was.2
 
 pub with_number : {A P : Type 0} (w : List ℕ) {f : ℕ → Result A LineFault} {y : A} → (number w >>= f) ≡ Ok y
     → ((n : ℕ) → n < 2 ^ 64 → f n ≡ Ok y → P) → P
-with_number w {f} {y} e go = let was = then_was (number w) f y e in go was.0 (number_was w was.0 was.1) was.2
+with_number w {f} {y} e go = let was = then_was (number w) f y e in go was.0 (
+    number_of_word-below w was.0 (ok_or_was (Text TextKind.Number) (number_of_word w) was.0 was.1)) was.2
 
 pub is_this : {A : Type 0} {x y : A} → ◌≡◌ {A = Result A LineFault} (Ok x) (Ok y) → (P : A → Type 0) → P x → P y
 is_this {x} {y} e P p = let same : x ≡ y = cc in subst P same p
 
 pub at_was : (w : List ℕ) (a : At) → at w ≡ Ok a → IsPlace a
-at_was w a e =
-    elim (cases_cond (list_any is_plus w) _ _ (Ok a) (sym e)) [
-      | inl h ↦ with_name (before_first is_plus w) (sym h)
-          (λ n named rest. with_number (after_first is_plus w) rest
-          (λ k small done. is_this done IsPlace (record { named = named; small = small })))
-      | inr h ↦ with_name w (sym h)
-          (λ n named done. is_this done IsPlace (record { named = named; small = omega arith }))
-    ]
+at_was w a e = elim (cases_cond (list_any is_plus w) _ _ (Ok a) (sym e)) [
+  | inl h ↦ with_name (before_first is_plus w) (sym h) (λ n named rest. with_number (after_first is_plus w) rest
+      (λ k small done. is_this done IsPlace (record { named = named; small = small })))
+  | inr h ↦ with_name w (sym h) (λ n named done. is_this done IsPlace (record { named = named; small = omega arith }))
+]
 
 pub with_at : {A P : Type 0} (w : List ℕ) {f : At → Result A LineFault} {y : A} → (at w >>= f) ≡ Ok y
     → ((a : At) → IsPlace a → f a ≡ Ok y → P) → P

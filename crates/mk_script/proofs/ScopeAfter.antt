@@ -1,11 +1,11 @@
 -- The scope after one line more, by the line's kind.
 use Rattle.std.proofs.lemmas.List.Sorted.{IsPermutation-append_left, IsPermutation-refl, IsPermutation-trans}
-use Rattle.mk_script.proofs.Vocabulary.{At, Bool, IsPermutation, Item, List, ℕ, ap, append-nil, false, global_names}
-use Rattle.mk_script.proofs.Vocabulary.{has_script, is_script, list_any, list_any-append, number_names, open_behind}
-use Rattle.mk_script.proofs.Vocabulary.{pointer_names, refl, reverse, script_names, sym, this_script, true, type_names}
-use Rattle.mk_script.proofs.Vocabulary.{[], ◌++◌, ◌||◌, ◌∙◌, ◌∷◌, ◌≡◌}
-use Rattle.mk_script.proofs.Pushed.{global_names-push, number_names-push, open_blocks-push, pointer_names-push}
-use Rattle.mk_script.proofs.Pushed.{script_names-push, this_script-push, type_names-push}
+use Rattle.mk_script.proofs.Vocabulary.{At, Bool, IsPermutation, Item, List, ℕ, ap, append-nil, arith, false}
+use Rattle.mk_script.proofs.Vocabulary.{global_names, has_script, is_script, list_any, list_any-append, number_names}
+use Rattle.mk_script.proofs.Vocabulary.{open_behind, pointer_names, refl, reverse, script_names, sym, this_script, true}
+use Rattle.mk_script.proofs.Vocabulary.{type_names, [], ◌++◌, ◌||◌, ◌∙◌, ◌∷◌, ◌≡◌}
+use Rattle.mk_script.proofs.Pushed.{global_names-append, number_names-append, open_blocks-push, pointer_names-append}
+use Rattle.mk_script.proofs.Pushed.{script_names-append, this_script-push, type_names-append}
 use Rattle.mk_script.specs.ScopeOf.{IsScopeOf, has_lines}
 use Rattle.mk_script.specs.declared.items.Item.TheVariants.{Global, Heap, Num, Ptr, Script, TypeLine}
 use Rattle.mk_script.specs.{Scopes.is_instruction, declared.items.TypeWord.TypeWord, declared.scope.Scope.Scope}
@@ -15,12 +15,10 @@ has_lines-push [] item = refl
 has_lines-push (first ∷ before) item = refl
 
 pub or-false : (a b : Bool) → b ≡ false → (a || b) ≡ a
-or-false true b fails = refl
-or-false false b fails = fails
+or-false x0 b fails = grind arith
 
 pub or-true : (a : Bool) → (a || true) ≡ true
-or-true true = refl
-or-true false = refl
+or-true x0 = grind arith
 
 -- the names that a line declares
 pub record Adds (item : Item) (types globals scripts pointers numbers : List (List ℕ)) : Type 0 where
@@ -42,29 +40,19 @@ pub other_adds : (item : Item) → ((pages resident : ℕ) → item ≡ Heap pag
     → ((name ty : List ℕ) → item ≡ Global name ty → ⊥) → ((name : List ℕ) → item ≡ Script name → ⊥)
     → ((name : List ℕ) (at : At) → item ≡ Ptr name at → ⊥) → ((name : List ℕ) → item ≡ Num name → ⊥)
     → Adds item [] [] [] [] [] × (is_script item ≡ false) × (is_instruction item ≡ true)
-other_adds (Heap pages resident) heap type global script ptr num = absurd (heap pages resident refl)
-other_adds (TypeLine name words) heap type global script ptr num = absurd (type name words refl)
-other_adds (Global name ty) heap type global script ptr num = absurd (global name ty refl)
-other_adds (Script name) heap type global script ptr num = absurd (script name refl)
-other_adds (Ptr name at) heap type global script ptr num = absurd (ptr name at refl)
-other_adds (Num name) heap type global script ptr num = absurd (num name refl)
-other_adds item heap type global script ptr num = (
-  record { types_are = refl; globals_are = refl; scripts_are = refl; pointers_are = refl; numbers_are = refl },
-  refl,
-  refl,
-)
+other_adds item heap type global script ptr num = grind arith
 
 -- a set that no name is put to
 pub kept : (set : List (List ℕ)) → IsPermutation (set ++ []) set
 kept set = rw (append-nil set) (IsPermutation-refl set)
 
 names_added : (names : List Item → List (List ℕ))
-    → ((before : List Item) (item : Item) → names (before ++ item ∷ []) ≡ names before ++ names (item ∷ []))
+    → ((items behind : List Item) → names (items ++ behind) ≡ names items ++ names behind)
     → (before : List Item) (item : Item) (set set' added : List (List ℕ)) → names (item ∷ []) ≡ added
     → IsPermutation (names before) set → IsPermutation (set ++ added) set'
     → IsPermutation (names (before ++ item ∷ [])) set'
-names_added names push before item set set' added are said more =
-    let names_are : names (before ++ item ∷ []) ≡ names before ++ added = cc (push before item, are) in
+names_added names append before item set set' added are said more =
+    let names_are : names (before ++ item ∷ []) ≡ names before ++ added = cc (append before (item ∷ []), are) in
     rw names_are (IsPermutation-trans (names before ++ added) (set ++ added) set'
     (IsPermutation-append_left added (names before) set said) more)
 
@@ -81,39 +69,35 @@ pub after_line : (old new : Scope) (before : List Item) (item : Item)
     → IsPermutation (old.types ++ types) new.types → IsPermutation (old.globals ++ globals) new.globals
     → IsPermutation (old.scripts ++ scripts) new.scripts
     → IsPermutation (old.pointers ++ pointers) new.pointers → IsPermutation (old.numbers ++ numbers) new.numbers
-    → reverse new.blocks.items ≡ open_behind (reverse old.blocks.items) item
-    → IsScopeOf new (before ++ item ∷ [])
+    → reverse new.blocks.items ≡ open_behind (reverse old.blocks.items) item → IsScopeOf new (before ++ item ∷ [])
 after_line old new before item types globals scripts pointers numbers scope adds line header script instruction types'
     globals' scripts' pointers' numbers' blocks =
     let lines = this_script-line before item line in
     record {
       header = header ∙ has_lines-push before item;
-      script = script ∙ scope.script
-          ∙ sym (list_any-append is_script before (item ∷ [])
+      script = script ∙ scope.script ∙ sym (list_any-append is_script before (item ∷ [])
           ∙ or-false (has_script before) (is_script item || false) (rw line refl));
       instruction = instruction ∙ ap (λ some. some || is_instruction item) scope.instruction
           ∙ sym (ap (list_any is_instruction) lines ∙ list_any-append is_instruction (this_script before) (item ∷ [])
           ∙ ap (λ some. list_any is_instruction (this_script before) || some)
           (or-false (is_instruction item) false refl));
-      types = names_added type_names type_names-push before item _ _ types adds.types_are scope.types types';
-      globals = names_added global_names global_names-push before item old.globals new.globals globals adds.globals_are
+      types = names_added type_names type_names-append before item _ _ types adds.types_are scope.types types';
+      globals = names_added global_names global_names-append before item old.globals new.globals globals adds.globals_are
           scope.globals globals';
-      scripts = names_added script_names script_names-push before item old.scripts new.scripts scripts adds.scripts_are
+      scripts = names_added script_names script_names-append before item old.scripts new.scripts scripts adds.scripts_are
           scope.scripts scripts';
-      pointers = rw lines (names_added pointer_names pointer_names-push (this_script before) item old.pointers
+      pointers = rw lines (names_added pointer_names pointer_names-append (this_script before) item old.pointers
           new.pointers pointers adds.pointers_are scope.pointers pointers');
-      numbers = rw lines (names_added number_names number_names-push (this_script before) item old.numbers new.numbers
+      numbers = rw lines (names_added number_names number_names-append (this_script before) item old.numbers new.numbers
           numbers adds.numbers_are scope.numbers numbers');
       blocks = blocks ∙ ap (λ open_ones. open_behind open_ones item) scope.blocks ∙ sym (open_blocks-push before item);
     }
 
 -- a script's first line
 pub after_script : (old new : Scope) (before : List Item) (item : Item) (name : List ℕ) → item ≡ Script name
-    → IsScopeOf old before
-    → new.has_header ≡ true → new.has_script ≡ true → new.has_instruction ≡ false
+    → IsScopeOf old before → new.has_header ≡ true → new.has_script ≡ true → new.has_instruction ≡ false
     → new.types ≡ old.types → new.globals ≡ old.globals → IsPermutation (old.scripts ++ name ∷ []) new.scripts
-    → new.pointers ≡ [] → new.numbers ≡ []
-    → reverse new.blocks.items ≡ open_behind (reverse old.blocks.items) item
+    → new.pointers ≡ [] → new.numbers ≡ [] → reverse new.blocks.items ≡ open_behind (reverse old.blocks.items) item
     → IsScopeOf new (before ++ item ∷ [])
 after_script old new before item name is scope header script instruction types' globals' scripts' pointers' numbers'
     blocks =
@@ -123,12 +107,12 @@ after_script old new before item name is scope header script instruction types' 
       header = header ∙ has_lines-push before item;
       script = script ∙ sym (list_any-append is_script before (item ∷ []) ∙ rw is (or-true (has_script before)));
       instruction = instruction ∙ sym (ap (list_any is_instruction) lines);
-      types = rw types' (names_added type_names type_names-push before item old.types old.types [] adds.types_are
+      types = rw types' (names_added type_names type_names-append before item old.types old.types [] adds.types_are
           scope.types (kept old.types));
       globals = rw globals'
-          (names_added global_names global_names-push before item old.globals old.globals [] adds.globals_are
+          (names_added global_names global_names-append before item old.globals old.globals [] adds.globals_are
           scope.globals (kept old.globals));
-      scripts = names_added script_names script_names-push before item old.scripts new.scripts
+      scripts = names_added script_names script_names-append before item old.scripts new.scripts
           (name ∷ []) adds.scripts_are scope.scripts scripts';
       pointers = rw (lines, pointers') (IsPermutation-refl []);
       numbers = rw (lines, numbers') (IsPermutation-refl []);

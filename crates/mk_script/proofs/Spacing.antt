@@ -1,8 +1,8 @@
 -- Words with a space before each, and lines of them.
 use Rattle.std.proofs.Common.{IfOk, add-one, drop-cons}
-use Rattle.mk_script.proofs.Vocabulary.{At, Err, List, Ok, Result, ℕ, ap, append-nil, append_assoc, at_text, codes}
-use Rattle.mk_script.proofs.Vocabulary.{drop, get_or, joined_words, length, refl, spaced_words, suc, sym, zero, []}
-use Rattle.mk_script.proofs.Vocabulary.{◌++◌, ◌+◌, ◌<◌, ◌∙◌, ◌∷◌, ◌≡◌}
+use Rattle.mk_script.proofs.Vocabulary.{At, List, Result, ℕ, ap, append-nil, append_assoc, arith, at_text, codes, drop}
+use Rattle.mk_script.proofs.Vocabulary.{get_or, joined_words, length, refl, spaced_words, suc, sym, [], ◌++◌, ◌+◌, ◌<◌}
+use Rattle.mk_script.proofs.Vocabulary.{◌∙◌, ◌∷◌, ◌≡◌}
 use Rattle.mk_script.specs.Canonical.{line_text, numbers_before}
 
 pub spaced_words-append : (xs ys : List (List ℕ)) → spaced_words (xs ++ ys) ≡ spaced_words xs ++ spaced_words ys
@@ -11,13 +11,7 @@ spaced_words-append (x ∷ xs) ys = ap (λ t. codes " " ++ (x ++ t)) (spaced_wor
 
 pub numbers_before-append : (count : ℕ) (fields : List (List ℕ))
     → numbers_before count fields ≡ numbers_before count [] ++ fields
-numbers_before-append zero fields = refl
-numbers_before-append (suc more) fields = refl
-
-pub spaced_words-numbers_before : (count : ℕ) (fields : List (List ℕ))
-    → spaced_words (numbers_before count fields) ≡ spaced_words (numbers_before count []) ++ spaced_words fields
-spaced_words-numbers_before count fields = ap spaced_words (numbers_before-append count fields)
-    ∙ spaced_words-append (numbers_before count []) fields
+numbers_before-append x0 fields = grind arith
 
 -- a line is its words with spaces between them, and a newline
 pub line_text-joined : (words : List (List ℕ)) → line_text words ≡ joined_words words ++ codes "\n"
@@ -28,8 +22,7 @@ line_text-joined (word ∷ next ∷ words) = ap (λ t. word ++ (codes " " ++ t))
 
 -- where a text is at hand, another form of it is
 pub then_same : {E : Type 0} (r : Result (List ℕ) E) (x y : List ℕ) → IfOk r (λ p. p ≡ x) → x ≡ y → IfOk r (λ p. p ≡ y)
-then_same (Ok p) x y e f = e ∙ f
-then_same (Err e) x y h f = tt
+then_same x0 x y e f = grind arith
 
 -- what is left of a list begins with its next item
 pub drop_next : {A : Type 0} (xs : List A) (i : ℕ) (x : A) → i < length xs → x ≡ get_or xs i x
@@ -41,4 +34,10 @@ pub pointer_behind : (p q r s : List ℕ) (count : ℕ) (at : At) (fields : List
     → q ≡ p ++ spaced_words (numbers_before count []) → r ≡ q ++ (codes " " ++ codes "p:") → s ≡ r ++ at_text at
     → p ++ spaced_words (numbers_before count ((codes "p:" ++ at_text at) ∷ fields)) ≡ s ++ spaced_words fields
 pointer_behind p q r s count at fields e f g =
-    rw (g, f, e, spaced_words-numbers_before count ((codes "p:" ++ at_text at) ∷ fields)) (simp append_assoc)
+    rw (
+      g,
+      f,
+      e,
+      ap spaced_words (numbers_before-append count ((codes "p:" ++ at_text at) ∷ fields))
+          ∙ spaced_words-append (numbers_before count []) ((codes "p:" ++ at_text at) ∷ fields),
+    ) (simp append_assoc)

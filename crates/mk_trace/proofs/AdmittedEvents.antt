@@ -2,11 +2,11 @@
 use Rattle.std.proofs.Common.{set, slice_get}
 use Rattle.std.proofs.lemmas.List.FromFn.{get_or-range_with_len, length-range_with_len}
 use Rattle.std.proofs.{lemmas.List.Elements.All-get_or, lemmas.Option.slice_get-get_or}
-use Rattle.mk_trace.proofs.Vocabulary.{A, AreAdmitted, C, Config, Contents, Event, F, IsAdmitted, IsBetween, IsEventOf}
-use Rattle.mk_trace.proofs.Vocabulary.{IsHistory, IsPlayable, IsSound, K, Kind, NeverState, Null, Num, Op, Ptr, To}
-use Rattle.mk_trace.proofs.Vocabulary.{TraceEvent, Value, W, after_calls, after_free, allocation_at, asked, calls}
-use Rattle.mk_trace.proofs.Vocabulary.{calls_of_caller, config_of, global_at, kinds_of, length-replicate, never_behind}
-use Rattle.mk_trace.proofs.Vocabulary.{never_first, ops_of, range_with_len, register_at, replicate, types_from}
+use Rattle.mk_trace.proofs.Vocabulary.{A, AreAdmitted, C, Config, Contents, F, IsAdmitted, IsBetween, IsEventOf}
+use Rattle.mk_trace.proofs.Vocabulary.{IsPlayable, IsSound, K, Kind, NeverState, Null, Num, Op, Ptr, To, TraceEvent}
+use Rattle.mk_trace.proofs.Vocabulary.{Value, W, after_calls, after_free, allocation_at, asked, calls, calls_of_caller}
+use Rattle.mk_trace.proofs.Vocabulary.{config_of, global_at, kinds_of, length-replicate, never_behind, never_first}
+use Rattle.mk_trace.proofs.Vocabulary.{ops_of, range_with_len, register_at, replicate, types_from}
 use Rattle.mk_laws.proofs.Vocabulary.{AccessIsAdmitted, Bool, IsTyped, IsTypedAllocation, List, Meets}
 use Rattle.mk_laws.proofs.Vocabulary.{Number as NumKind, Some, ℕ, ap, arith, false, get_or, get_or-set_other}
 use Rattle.mk_laws.proofs.Vocabulary.{get_or-set_same, length, refl, subst, suc, sym, true, words_of, zero, [], ◌*◌}
@@ -34,8 +34,7 @@ numbers_behind (suc count) zero = refl
 numbers_behind (suc count) (suc place) = numbers_behind count place
 
 number_at : (slot words index : ℕ) → 1 ≤ index → get_or (slot_type slot words) index NumKind ≡ NumKind
-number_at slot words zero h = absurd (omega arith)
-number_at slot words (suc index) h = numbers_behind (words - 1) index
+number_at slot words x2 h = grind (arith, numbers_behind)
 
 -- A null that is stored leaves all null but what wasn't elsewhere.
 set_null : (xs : List Value) (i k : ℕ) → (k ≢ i → get_or xs k Null ≡ Null) → get_or (set xs i Null) k Null ≡ Null
@@ -88,9 +87,6 @@ module _ (slots : List ℕ) where
         slice_get-get_or listed slot 0 (omega (arith, length-range_with_len 0 (length slots), within))
         ∙ ap Some (get_or-range_with_len 0 (length slots) slot 0 within ∙ (omega arith))
 
-    kinds_here : (n : NeverState) → Stands n → kinds_of n.types slot ≡ slot_type slot (get_or slots slot 0)
-    kinds_here n s = grind (arith, kinds_from)
-
     -- a word of an object of the slot
     meets : (n : NeverState) → Stands n → (v : Value) → IsSound n v → IsOfKind v (To slot 0) → (i : ℕ)
         → i < get_or slots slot 0
@@ -101,23 +97,17 @@ module _ (slots : List ℕ) where
         let a : IsTypedAllocation n (allocation_at n number) = s.typed.allocations number sound.0 in
         let is_slot : (allocation_at n number).ty ≡ slot = sym sound.1 ∙ of_kind.0 in
         let kinds : kinds_of n.types (allocation_at n number).ty ≡ slot_type slot (get_or slots slot 0) =
-        ap (kinds_of n.types) is_slot ∙ kinds_here n s in
+        ap (kinds_of n.types) is_slot ∙ (grind (arith, kinds_from)) in
         let at : offset + i ≡ i = (let z = of_kind.1 in omega arith) in
         let size : length (words_of n number) ≡ get_or slots slot 0 =
-        a.size ∙ ap length kinds
-        ∙ (omega (arith, length-replicate (get_or slots slot 0 - 1) NumKind, inside)) in (
+        a.size ∙ ap length kinds ∙ (omega (arith, length-replicate (get_or slots slot 0 - 1) NumKind, inside)) in (
           omega (arith, at, size, inside),
-          subst P
-              (sym (ap (λ (ks : List Kind). get_or ks (offset + i) NumKind) kinds
+          subst P (sym (ap (λ (ks : List Kind). get_or ks (offset + i) NumKind) kinds
               ∙ ap (λ (k : ℕ). get_or (slot_type slot (get_or slots slot 0)) k NumKind) at)) p,
         )
 
-    global_points : (n : NeverState) → Stands n → IsOfKind (global_at n slot) (To slot 0)
-    global_points n s = grind (arith, listed_at)
-
     base_of_kind : (v : Value) → IsOfKind v (To slot 0) → IsBase v
-    base_of_kind (Num m) h = absurd h
-    base_of_kind x0 h = cc
+    base_of_kind x0 h = grind arith
 
     -- each operation is admitted
 
@@ -136,9 +126,6 @@ module _ (slots : List ℕ) where
 
     set_admitted : (n : NeverState) → Stands n → Points n 0 → IsAdmitted listed n 0 (SetGlobal slot 0)
     set_admitted n s points = grind (arith, admitted_by, listed_at)
-
-    free_admitted : (n : NeverState) → Stands n → Points n 0 → IsAdmitted listed n 0 (Free 0)
-    free_admitted n s points = admitted_by n (Free 0) s (omega arith) tt (base_of_kind (register_at n 0 0) points)
 
     at_register : (n : NeverState) → Stands n → Points n 0 → (i : ℕ) → i < get_or slots slot 0 → (P : Kind → Type 0)
         → P (get_or (slot_type slot (get_or slots slot 0)) i NumKind) → Meets n (register_at n 0 0) i P
@@ -163,23 +150,14 @@ module _ (slots : List ℕ) where
     got_points : (n : NeverState) (d : ℕ) → d < 8 → Stands n → Points (after_op n 0 (GetGlobal d slot)) d
     got_points n d below s =
         let count = s.registers in
-        by_value (get_or-set_same n.registers (8 * 0 + d) (global_at n slot) Null (omega arith)) (global_points n s)
-
-    still_points : (n : NeverState) → Points n 0 → Points (after_op n 0 (GetGlobal 1 slot)) 0
-    still_points n points =
-        by_value (get_or-set_other n.registers (8 * 0 + 1) (8 * 0 + 0) (global_at n slot) Null (λ e. omega arith))
-        points
+        by_value (get_or-set_same n.registers (8 * 0 + d) (global_at n slot) Null (omega arith)) (
+        grind (arith, listed_at))
 
     linked_same : (n : NeverState) (r : ℕ) → register_at (after_op n 0 (SetPtr 0 0 1)) 0 r ≡ register_at n 0 r
     linked_same n r = left_at_by (λ m. register_at m 0 r ≡ register_at n 0 r) _ n _ refl (λ number place e. refl)
 
-    numbered_same : (n : NeverState) (index value r : ℕ)
-        → register_at (after_op n 0 (SetNum 0 index value)) 0 r ≡ register_at n 0 r
-    numbered_same n index value r = grind (arith, left_at_by)
-
     freed_same : (n : NeverState) (v : Value) (r : ℕ) → register_at (after_free n v) 0 r ≡ register_at n 0 r
-    freed_same n Null r = refl
-    freed_same n x1 r = cc
+    freed_same n x1 r = grind arith
 
     -- and which registers they leave null
 
@@ -195,28 +173,23 @@ module _ (slots : List ℕ) where
 
     -- the last operations of an event clear what it has set
 
-    clears_one : (n : NeverState) → ClearFrom n 1 → ClearFrom (after_op n 0 (Clear 0)) 0
-    clears_one n clear r above = set_null n.registers (8 * 0 + 0) (8 * 0 + r) (λ other. clear r (omega (arith, other)))
-
-    clears_two : (n : NeverState) → ClearFrom n 2 → ClearFrom (after_op (after_op n 0 (Clear 0)) 0 (Clear 1)) 0
-    clears_two n clear r above = grind (arith, set_null)
-
     -- so an event's operations
 
     one_clear : (n : NeverState) → Stands n → ClearFrom n 1 → AreFine n (Clear 0 ∷ [])
-    one_clear n s clear = then_all s (clear_admitted n 0 (omega arith) s) (λ t. none_left (clears_one n clear))
+    one_clear n s clear = then_all s (clear_admitted n 0 (omega arith) s) (λ t. none_left (
+        λ r above. set_null n.registers (8 * 0 + 0) (8 * 0 + r) (λ other. clear r (omega (arith, other)))))
 
     two_clear : (n : NeverState) → Stands n → ClearFrom n 2 → AreFine n (Clear 0 ∷ Clear 1 ∷ [])
     two_clear n s clear =
         then_all s (clear_admitted n 0 (omega arith) s) (λ t.
-        then_all t (clear_admitted (after_op n 0 (Clear 0)) 1 (omega arith) t) (λ u. none_left (clears_two n clear)))
+        then_all t (clear_admitted (after_op n 0 (Clear 0)) 1 (omega arith) t) (λ u. none_left (
+        λ r above. grind (arith, set_null))))
 
     made_fine : (n : NeverState) → Stands n → ClearFrom n 0
         → AreFine n (New 0 slot false ∷ SetGlobal slot 0 ∷ Clear 0 ∷ [])
     made_fine n s clear =
         let m = after_op n 0 (New 0 slot false) in
-        then_all s (new_admitted n false s) (λ t.
-        then_all t (set_admitted m t (new_points n s)) (λ u.
+        then_all s (new_admitted n false s) (λ t. then_all t (set_admitted m t (new_points n s)) (λ u.
         one_clear (after_op m 0 (SetGlobal slot 0)) u (new_clear n clear)))
 
     linked_fine : (n : NeverState) → 1 ≤ get_or slots slot 0 → Stands n → ClearFrom n 0
@@ -225,9 +198,9 @@ module _ (slots : List ℕ) where
         let n1 = after_op n 0 (New 0 slot false) in
         let n2 = after_op n1 0 (GetGlobal 1 slot) in
         let n3 = after_op n2 0 (SetPtr 0 0 1) in
-        let points = still_points n1 (new_points n s) in
-        then_all s (new_admitted n false s) (λ s1.
-        then_all s1 (get_admitted n1 1 (omega arith) s1) (λ s2.
+        let points = by_value (get_or-set_other n1.registers (8 * 0 + 1) (8 * 0 + 0) (global_at n1 slot) Null
+        (λ e. omega arith)) (new_points n s) in
+        then_all s (new_admitted n false s) (λ s1. then_all s1 (get_admitted n1 1 (omega arith) s1) (λ s2.
         then_all s2 (link_admitted n2 some s2 points (got_points n1 1 (omega arith) s1)) (λ s3.
         then_all s3 (set_admitted n3 s3 (by_value (linked_same n2 0) points)) (λ s4.
         two_clear (after_op n3 0 (SetGlobal slot 0)) s4
@@ -243,8 +216,8 @@ module _ (slots : List ℕ) where
     freed_fine : (n : NeverState) → Stands n → ClearFrom n 0 → AreFine n (GetGlobal 0 slot ∷ Free 0 ∷ Clear 0 ∷ [])
     freed_fine n s clear =
         let m = after_op n 0 (GetGlobal 0 slot) in
-        then_all s (get_admitted n 0 (omega arith) s) (λ t.
-        then_all t (free_admitted m t (got_points n 0 (omega arith) s)) (λ u. one_clear (after_op m 0 (Free 0)) u
+        then_all s (get_admitted n 0 (omega arith) s) (λ t. then_all t (admitted_by m (Free 0) t (omega arith) tt
+        (base_of_kind (register_at m 0 0) (got_points n 0 (omega arith) s))) (λ u. one_clear (after_op m 0 (Free 0)) u
         (λ r above. freed_same m (register_at m 0 0) r ∙ got_clear n 0 clear r above)))
 
     cleared_fine : (n : NeverState) → Stands n → ClearFrom n 0 → AreFine n (SetGlobal slot 0 ∷ [])
@@ -254,10 +227,9 @@ module _ (slots : List ℕ) where
         → ClearFrom n 0 → AreFine n (GetGlobal 0 slot ∷ SetNum 0 index value ∷ Clear 0 ∷ [])
     written_fine n index value least inside s clear =
         let m = after_op n 0 (GetGlobal 0 slot) in
-        then_all s (get_admitted n 0 (omega arith) s) (λ t.
-        then_all t (number_admitted m index value least inside t (got_points n 0 (omega arith) s)) (λ u.
-        one_clear (after_op m 0 (SetNum 0 index value)) u
-        (λ r above. numbered_same m index value r ∙ got_clear n 0 clear r above)))
+        then_all s (get_admitted n 0 (omega arith) s)
+        (λ t. then_all t (number_admitted m index value least inside t (got_points n 0 (omega arith) s)) (λ u. one_clear
+        (after_op m 0 (SetNum 0 index value)) u (λ r above. (grind (arith, left_at_by)) ∙ got_clear n 0 clear r above)))
 
   pub events_fine : (few : length slots ≤ 64) → ((slot : ℕ) → slot < length slots → 1 ≤ get_or slots slot 0)
       → (n : NeverState) → Stands n → ClearFrom n 0 → (event : TraceEvent) → IsEventOf slots event → (full : Bool)
@@ -279,19 +251,15 @@ module _ (trace : Contents) (playable : IsPlayable trace) where
   abbrev c : Config
   c = config_of trace
 
-  stands_behind : (es : List Event) → IsHistory c es → Stands trace.slots (never_behind c es)
-  stands_behind es history =
-      let stays = calls_stay (never_first c) (asked (calls c es)) in
+  pub events_are_admitted : EventsAreAdmitted trace
+  events_are_admitted es history clear event of_slots full =
+      let fine = events_fine trace.slots playable.slot_count.1
+      (λ slot within. (All-get_or (IsBetween 1 4096) trace.slots slot 0 within playable.slots).0)
+      (never_behind c es) (let stays = calls_stay (never_first c) (asked (calls c es)) in
       record {
         types = stays.types;
         registers = stays.registers ∙ length-replicate 8 Null;
         globals = stays.globals ∙ length-replicate 64 Null;
         typed = stays_typed c.globals c.types 1 (asked (calls c es)) history.admitted;
-      }
-
-  pub events_are_admitted : EventsAreAdmitted trace
-  events_are_admitted es history clear event of_slots full =
-      let fine = events_fine trace.slots playable.slot_count.1
-      (λ slot within. (All-get_or (IsBetween 1 4096) trace.slots slot 0 within playable.slots).0)
-      (never_behind c es) (stands_behind es history) (λ r above. clear r) event of_slots full in
+      }) (λ r above. clear r) event of_slots full in
       (fine.admitted, λ r. fine.clear r (omega arith))

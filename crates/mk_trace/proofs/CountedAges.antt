@@ -94,8 +94,10 @@ module _ (first now : List (ℕ × ℕ)) (i age : ℕ) (p : ℕ × ℕ) (same : 
     left : drop i first ≡ p ∷ drop (i + 1) first
     left = cc (drop_more first i p there, at, same)
 
-    rest_is : with_one first age ≡ take i first ++ with_one (p ∷ drop (i + 1) first) age
-    rest_is = rest ∙ ap (λ (l : List (ℕ × ℕ)). take i first ++ with_one l age) left
-
     pub set_there : (n : ℕ) → age ≡ p.0 → n ≡ in_a_word (p.1 + 1) → slice_set now i (p.0, n) ≡ with_one first age
-    set_there n equal is = cc (same, set_is first i (p.0, n) there, same_one p (drop (i + 1) first) age equal, rest_is)
+    set_there n equal is = cc (
+      same,
+      set_is first i (p.0, n) there,
+      same_one p (drop (i + 1) first) age equal,
+      rest ∙ ap (λ (l : List (ℕ × ℕ)). take i first ++ with_one l age) left,
+    )

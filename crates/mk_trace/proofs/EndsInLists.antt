@@ -1,10 +1,11 @@
 -- What ends find in a list of events that has one cycle at most.
 use Rattle.mk_trace.proofs.Vocabulary.{AreEnabledFrom, Config, EndsNone, EndsOne, EndsTell, Event, FreesNone}
 use Rattle.mk_trace.proofs.Vocabulary.{IsBetweenCycles, LeavesAllocations, ReleasesNone, Step, World, ends, has_step}
-use Rattle.mk_trace.proofs.Vocabulary.{is_begin, is_end, left, moves_phase, none_at, phase_of, world_behind, ⊎_elim}
-use Rattle.mk_laws.proofs.Vocabulary.{At, Bool, List, ℕ, ap, append-nil, append_assoc, arith, cases_Bool, enabled_parts}
+use Rattle.mk_trace.proofs.Vocabulary.{is_begin, is_end, is_grant, is_of_cycle, left, lets_go, moves_phase, none_at}
+use Rattle.mk_trace.proofs.Vocabulary.{phase_of, world_behind, ⊎_elim}
+use Rattle.mk_laws.proofs.Vocabulary.{Bool, List, ℕ, ap, append-nil, append_assoc, arith, cases_Bool, enabled_parts}
 use Rattle.mk_laws.proofs.Vocabulary.{false, inl, inr, left_append, left_in_parts, or_from, or_parts, refl, subst, sym}
-use Rattle.mk_laws.proofs.Vocabulary.{true, true≢false, [], ◌++◌, ◌+◌, ◌∙◌, ◌∷◌, ◌≡◌, ◌⊎◌}
+use Rattle.mk_laws.proofs.Vocabulary.{true, true≢false, [], ◌++◌, ◌+◌, ◌||◌, ◌∙◌, ◌∷◌, ◌≡◌, ◌⊎◌}
 use Rattle.mk_core.specs.{Cycles.Next, History.left_from}
 use Rattle.mk_laws.proofs.CyclePhases.{begin_is, phase_behind}
 use Rattle.mk_alloc.{proofs.ListParts.lacks_first, proofs.ListParts.lacks_second, specs.TurnCycles.RunsOneCycle}
@@ -26,12 +27,8 @@ lacks_by kind other each (e ∷ es) none =
 pub first_at : (kind : Step → Bool) (es : List Event) → has_step kind es ≡ true → Next kind es
 first_at kind es some = next_of kind es (λ none. true≢false (sym some ∙ none))
 
-pub has_at : (kind : Step → Bool) (es : List Event) → At kind es → has_step kind es ≡ true
-has_at kind es at = grind (arith, none_at)
-
 begins_no_end : (s : Step) → is_begin s ≡ true → is_end s ≡ false
-begins_no_end Step.Begin h = refl
-begins_no_end _ h = cc
+begins_no_end x0 h = grind arith
 
 module _ (c : Config) (w : World) (xs : List Event) (b : Event) (ys : List Event)
     (on : AreEnabledFrom c w (xs ++ b ∷ ys)) (idle : phase_of w.now.words ≡ 0) (begins : is_begin b.step ≡ true)
@@ -75,20 +72,7 @@ module _ (c : Config) (w : World) (xs : List Event) (b : Event) (ys : List Event
         released = subst (λ (x : World). ReleasesNone rest.finds x.allocations) (sym left_is) rest.released;
       }
 
-one_second : (xs ys : List Event) → RunsOneCycle (xs ++ ys) → RunsOneCycle ys
-one_second xs ys one b =
-    one (record {
-      before = xs ++ b.before;
-      event = b.event;
-      behind = b.behind;
-      is = ap (λ (l : List Event). xs ++ l) b.is ∙ sym (append_assoc xs b.before (b.event ∷ b.behind));
-      of_kind = b.of_kind;
-    })
-
 -- One part after another.
-
-none_twice : {c : Config} {es fs gs : List Event} → EndsNone c es fs → EndsNone c fs gs → EndsNone c es gs
-none_twice h g = grind (arith, releases_then)
 
 one_behind_none : {c : Config} {es fs gs : List Event} → EndsNone c es fs → EndsOne c fs gs → EndsOne c es gs
 one_behind_none h g = grind arith
@@ -129,8 +113,8 @@ module _ (c : Config) (es more : List Event) where
             let h : EndsOnce c (left c es) more =
             subst (EndsOnce c (left c es)) (sym b.is) (one_cycle c _ _ _ _ (subst (AreEnabledFrom c (left c es)) b.is
             on) idle b.of_kind next.none_before (one b).0 (sym (ap (has_step is_over) b.is) ∙ overs) (frees_behind c _ _
-            _ (frees_second c _ _ (b.event ∷ b.behind) (subst (FreesNoneFrom c (left c es)) b.is frees))) (has_at is_end
-            _ (one b).1)) in
+            _ (frees_second c _ _ (b.event ∷ b.behind) (subst (FreesNoneFrom c (left c es)) b.is frees))) (
+            grind (arith, none_at))) in
             (idle_then h.phase, inr (one_then h))
 
 -- A list in two parts, with no cycle in the first, and no Free in the second.
@@ -144,26 +128,23 @@ module _ (c : Config) (es xs ys : List Event) (on : AreEnabledFrom c (left c es)
   tells_behind_none one frees idle =
       let h = rests c (left c es) xs parts_on.0 idle none (lacks_first is_over xs ys overs) in
       let first = none_then c es xs h in
-      let told = tells_ends c (es ++ xs) ys parts_on.1 (lacks_second is_over xs ys overs) (one_second xs ys one) frees
-      (idle_then c es xs h.phase) in
+      let told = tells_ends c (es ++ xs) ys parts_on.1 (lacks_second is_over xs ys overs) (λ b. one (record {
+        before = xs ++ b.before;
+        event = b.event;
+        behind = b.behind;
+        is = ap (λ (l : List Event). xs ++ l) b.is ∙ sym (append_assoc xs b.before (b.event ∷ b.behind));
+        of_kind = b.of_kind;
+      })) frees (idle_then c es xs h.phase) in
       subst (λ (l : List Event). IsBetweenCycles c l × (EndsNone c es l ⊎ EndsOne c es l)) (append_assoc es xs ys) (
         told.0,
-        ⊎_elim (λ (second : EndsNone c (es ++ xs) ((es ++ xs) ++ ys)). inl (none_twice first second))
+        ⊎_elim (λ (second : EndsNone c (es ++ xs) ((es ++ xs) ++ ys)). inl (grind (arith, releases_then)))
             (λ (second : EndsOne c (es ++ xs) ((es ++ xs) ++ ys)). inr (one_behind_none first second)) told.1,
       )
 
 -- Steps that neither move a cycle on nor change allocations.
 
 abbrev pub changes : Step → Bool
-changes Step.Grant = true
-changes (Step.Quar p v) = true
-changes Step.Begin = true
-changes Step.Want = true
-changes Step.Close = true
-changes Step.Release = true
-changes Step.End = true
-changes Step.Over = true
-changes _ = false
+changes s = (is_grant s || lets_go s) || (is_of_cycle s || is_over s)
 
 record Leaves (c : Config) (w : World) (es : List Event) : Type 0 where
   phase : phase_of (left_from c w es).now.words ≡ phase_of w.now.words
@@ -172,16 +153,14 @@ record Leaves (c : Config) (w : World) (es : List Event) : Type 0 where
   allocations : (left_from c w es).allocations ≡ w.allocations
 
 no_end : (s : Step) → changes s ≡ false → is_end s ≡ false
-no_end Step.End h = cc
-no_end _ h = refl
+no_end x0 h = grind arith
 
 same_phase : (s : Step) (n : ℕ) → changes s ≡ false → phase_behind s n ≡ n
-same_phase Step.Begin n h = cc
-same_phase x0 n h = cc
+same_phase x0 n h = grind arith
 
 same_allocations : (c : Config) (w : World) (e : Event) → changes e.step ≡ false
     → (world_behind c w e).allocations ≡ w.allocations
-same_allocations c w e none = grind (arith, changes)
+same_allocations c w e none = grind arith
 
 leaves : (c : Config) (w : World) (es : List Event) → AreEnabledFrom c w es → has_step changes es ≡ false
     → Leaves c w es

@@ -62,13 +62,7 @@ no_fault = refl
 
 are_admitted : CallsAreAdmitted (config_of stored_and_made) played
 unfolding by c0 all_below pointed_cell stored_and_made played left_from calls_from
-are_admitted =
-    record { of_a_caller = omega arith; in_range = (omega arith, omega arith); access = tt; store = tt }
-    and record { of_a_caller = omega arith; in_range = omega arith; access = tt; store = tt }
-    and record { of_a_caller = omega arith; in_range = omega arith; access = tt; store = tt }
-    and record { of_a_caller = omega arith; in_range = (omega arith, omega arith); access = tt; store = tt }
-    and record { of_a_caller = omega arith; in_range = (omega arith, omega arith); access = tt; store = (refl, refl) }
-    and record { of_a_caller = omega arith; in_range = omega arith; access = tt; store = tt } and tt
+are_admitted = grind arith
 
 parts : (upto_give ++ gives ∷ []) ++ behind ≡ played
 unfolding by c0 stored making behind played
@@ -90,8 +84,7 @@ ends_exactly = record {
     begins = λ b. absurd (none_at is_begin making refl b);
     ends = λ w. absurd (none_at is_want making refl w);
     one = λ b. absurd (none_at is_begin making refl b);
-    keeps = λ g.
-        (or_parts (lets_go g.event.step) (has_step lets_go g.behind)
+    keeps = λ g. (or_parts (lets_go g.event.step) (has_step lets_go g.behind)
         (lacks_second lets_go g.before (g.event ∷ g.behind) (ap (has_step lets_go) (sym g.is) ∙ refl))).1;
   };
 }
@@ -100,8 +93,7 @@ are_exact : TurnsOfAreExact false (config_of stored_and_made) (Caller 0) played
 unfolding by c0 stored making behind
 are_exact =
     let c = config_of stored_and_made in
-    subst (TurnsOfAreExact false c (Caller 0)) parts
-    (none_more false c (Caller 0) (upto_give ++ gives ∷ []) behind refl
+    subst (TurnsOfAreExact false c (Caller 0)) parts (none_more false c (Caller 0) (upto_give ++ gives ∷ []) behind refl
     (one_more false c (Caller 0) upto_give gives
     (none_more false c (Caller 0) [] upto_give refl (nothing_given false c (Caller 0))) ends_exactly))
 
@@ -123,11 +115,7 @@ is_tidy before e behind is give =
     (record { cycles = refl; released = refl; full = refl } and tt) before e behind is (ap is_give give)
 
 is_history : IsHistory (config_of stored_and_made) played
-is_history = record {
-  within_limits = (is_playable stored_and_made is_of_text).heap;
-  enabled = enabled (config_of stored_and_made) played no_fault;
-  admitted = are_admitted;
-}
+is_history = grind (arith, is_playable, stored_and_made, is_of_text, enabled, played, no_fault, are_admitted)
 
 pub is_played : IsPlayed stored_and_made played
 unfolding by c0 all_below pointed_cell stored_and_made played left_from calls_from

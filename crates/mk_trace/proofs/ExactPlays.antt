@@ -1,7 +1,7 @@
 -- The turns of a trace's caller stay exact, and the host makes no cycle, from the first event to the last.
 use Rattle.mk_trace.proofs.Vocabulary.{AllTurnsAreExact, Answer, Caller, Config, Contents, Event, Grows, Has, Host}
-use Rattle.mk_trace.proofs.Vocabulary.{HostState, IsHistory, Marker, Op, PassState, Seat, StayExact, SweepsNothing}
-use Rattle.mk_trace.proofs.Vocabulary.{Word, and-false, config_of, first_world, has_first, has_step, is_of_cycle}
+use Rattle.mk_trace.proofs.Vocabulary.{HostState, IsHistory, Op, PassState, Seat, StayExact, SweepsNothing, Word}
+use Rattle.mk_trace.proofs.Vocabulary.{and-false, config_of, first_world, has_first, has_step, is_of_cycle}
 use Rattle.mk_trace.proofs.Vocabulary.{is_same_seat, pass_for, seat_exists}
 use Rattle.mk_laws.proofs.Vocabulary.{Bool, List, ℕ, ap, arith, false, list_any, list_any-append, ltb-true, or_from}
 use Rattle.mk_laws.proofs.Vocabulary.{or_parts, refl, subst, sym, true, [], ◌&&◌, ◌++◌, ◌∙◌, ◌∷◌, ◌≡◌}
@@ -70,8 +70,7 @@ module _ {p q : PassState} {x : Word} {n : ℕ} (l : Looked p x n q) (host : p.s
         stay_exact_behind_others false c (Caller 0) (Caller 0 ∷ []) p.seen q.seen (has_first (Caller 0) [])
         caller_is_still before.caller;
     host =
-        subst (MakesNoCycle Host) (sym (seen_is l))
-        (no_cycle_append Host p.seen (first l ++ behind l) before.host
+        subst (MakesNoCycle Host) (sym (seen_is l)) (no_cycle_append Host p.seen (first l ++ behind l) before.host
         (lacks_no_cycle Host (first l ++ behind l)
         (all_lack l is_of_cycle (record { take = λ o. refl; look = λ y. refl; give = refl }))));
     caller_unswept =
@@ -99,16 +98,14 @@ module _ {on : Bool} {h : HostState} {o : Op} {told : Answer} {q : PassState} {f
 
   exact : TurnsOfAreExact false config (Caller 0) es → TurnsOfAreExact false config (Caller 0) q.seen
   exact before =
-      subst (λ (b : Bool). TurnsOfAreExact b config (Caller 0) q.seen) off
-      (subst (OwnAreExact on) j.answers.is
+      subst (λ (b : Bool). TurnsOfAreExact b config (Caller 0) q.seen) off (subst (OwnAreExact on) j.answers.is
       (j.answers.exact (subst (λ (b : Bool). TurnsOfAreExact b config (Caller 0) es) (sym off) before)))
 
   pub call_stays_exact : StayExact config es fs
   call_stays_exact before = record {
     caller = stay_exact_behind_others false config (Caller 0) q.seats q.seen fs has_caller j.came (exact before.caller);
     host =
-        subst (MakesNoCycle Host) (sym j.own.is)
-        (no_cycle_append Host es j.own.more before.host
+        subst (MakesNoCycle Host) (sym j.own.is) (no_cycle_append Host es j.own.more before.host
         (others_no_cycle Host (elsewhere j) j.own.more has_host j.own.of_others));
     caller_unswept = others_on config _ _ _ fs has_caller j.came (seat_on _ q sweeps before.caller_unswept);
     host_unswept = others_on config Host (elsewhere j) es fs has_host j.own before.host_unswept;
@@ -124,9 +121,7 @@ exact_over c es0 es1 es2 es3 es4 before call looks more exact = more (looks (cal
 each_seat : (trace : Contents) {es : List Event} → IsHistory (config_of trace) es
     → AllTurnsAreExact (config_of trace) es → (s : Seat) → seat_exists (config_of trace) s ≡ true
     → SweepsNothingFrom (config_of trace) s (first_world (config_of trace)) es
-each_seat trace {es} history exact (Caller k) exists = grind (arith, ltb-true)
-each_seat trace {es} history exact (Marker j) exists = grind (arith, markers_sweep)
-each_seat trace history exact Host exists = exact.host_unswept
+each_seat trace history exact x3 exists = grind (arith, ltb-true, markers_sweep)
 
 pub play_is_unswept : (trace : Contents) (es : List Event) → IsHistory (config_of trace) es
     → AllTurnsAreExact (config_of trace) es → IsUnswept (config_of trace) es

@@ -1,14 +1,15 @@
 -- A trace has few events, each has few operations, and so few cycles end.
 use Rattle.std.proofs.{Common.Result, lemmas.List.Splits.length-slice_split, lemmas.List.Sums.count_by-le-length}
-use Rattle.mk_trace.proofs.Vocabulary.{A, C, Contents, Event, F, HeapPages, IsOfSomeTraceText, K, LinesSoFar, Ok, Op}
-use Rattle.mk_trace.proofs.Vocabulary.{TraceEvent, TraceStop, W, contents_of, ends, events_from, header_line_of}
-use Rattle.mk_trace.proofs.Vocabulary.{length-append, lines_of, nat_tests, nothing_written, ops_of, read_behind}
-use Rattle.mk_trace.proofs.Vocabulary.{text_fault_at, trace_of_lines, type_fault_at, typed_event, with_event}
-use Rattle.mk_trace.proofs.Vocabulary.{with_trace_line, words_of_line, written_from}
-use Rattle.mk_laws.proofs.Vocabulary.{Bool, List, ℕ, ap, arith, drop, false, if◌then◌else◌, length, nat_le, subst, sym}
-use Rattle.mk_laws.proofs.Vocabulary.{true, [], ◌+◌, ◌==◌, ◌∷◌, ◌≡◌, ◌≤◌}
+use Rattle.mk_trace.proofs.Vocabulary.{Contents, Event, HeapPages, IsOfSomeTraceText, LinesSoFar, Ok, Op, TraceEvent}
+use Rattle.mk_trace.proofs.Vocabulary.{TraceStop, contents_of, ends, events_from, header_line_of, length-append}
+use Rattle.mk_trace.proofs.Vocabulary.{lines_of, nat_tests, nothing_written, ops_of, read_behind, text_fault_at}
+use Rattle.mk_trace.proofs.Vocabulary.{trace_of_lines, type_fault_at, typed_event, with_event, with_trace_line}
+use Rattle.mk_trace.proofs.Vocabulary.{words_of_line, written_from}
+use Rattle.mk_laws.proofs.Vocabulary.{Bool, List, ℕ, ap, arith, drop, if◌then◌else◌, length, nat_le, subst, sym, []}
+use Rattle.mk_laws.proofs.Vocabulary.{◌+◌, ◌==◌, ◌∷◌, ◌≡◌, ◌≤◌}
+use Rattle.mk_check.proofs.GrammarLemmas.{passed_then}
 use Rattle.mk_script.specs.Words.{without_empty_last}
-use Rattle.mk_trace.proofs.ReadLines.{gone_on, passed_else, passed_then, then_next}
+use Rattle.mk_trace.proofs.ReadLines.{gone_on, passed_else, then_next}
 use Rattle.mk_trace.specs.{Grammar.along, Traces.contents_from, Traces.words_of_slots, declared.lines.Line.Line}
 
 -- before any event
@@ -17,17 +18,8 @@ none_ended es empty = ap ends empty
 
 -- operations
 
-few_by : (full : Bool) (event : TraceEvent) → length (drop 1 (ops_of full event)) ≤ 5
-few_by true (A slot) = omega arith
-few_by false (A slot) = omega arith
-few_by true (K slot) = omega arith
-few_by false (K slot) = omega arith
-few_by full (F slot) = omega arith
-few_by full (C slot) = omega arith
-few_by full (W slot index value) = omega arith
-
 pub few_later : (full : Bool) (event : TraceEvent) (ops : List Op) → ops ≡ drop 1 (ops_of full event) → length ops ≤ 5
-few_later full event ops is = subst (λ (l : List Op). length l ≤ 5) (sym is) (few_by full event)
+few_later full event ops is = subst (λ (l : List Op). length l ≤ 5) (sym is) (grind arith)
 
 -- What each line adds at most one to, all add to.
 along_grows : {Line Given Whole Fault : Type 0} (told : ℕ → Fault → TraceStop)
@@ -76,8 +68,7 @@ of_lines (first ∷ lines) trace h =
     omega (arith, events, count)
 
 last_by : (b : Bool) (x : List ℕ) → length (if b then [] else x ∷ []) ≤ 1
-last_by true x = omega arith
-last_by false x = omega arith
+last_by x0 x = grind arith
 
 no_more : (lines : List (List ℕ)) → length (without_empty_last lines) ≤ length lines
 no_more [] = omega arith

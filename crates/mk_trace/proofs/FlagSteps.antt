@@ -4,7 +4,7 @@ use Rattle.mk_trace.proofs.Vocabulary.{PlacedAllocation, Ptr, ReleasesNone, Step
 use Rattle.mk_trace.proofs.Vocabulary.{allocation_at, allocations_by, cell_freed, decides_freed, flight_of}
 use Rattle.mk_trace.proofs.Vocabulary.{freed_where_it_stands, granted, has_step, histories_keep_the_invariant}
 use Rattle.mk_trace.proofs.Vocabulary.{is_release, left, length-append, never_behind, never_granted, no_longer_fresh}
-use Rattle.mk_trace.proofs.Vocabulary.{placed_at, unfreed, with_released, world_behind}
+use Rattle.mk_trace.proofs.Vocabulary.{placed_at, unfreed, world_behind}
 use Rattle.mk_laws.proofs.Vocabulary.{Bool, LeavesPlaces, List, NeverAllocation as Allocation, None, Option, Some, ℕ}
 use Rattle.mk_laws.proofs.Vocabulary.{ap, arith, cases_eq, cases_lt, changed_at, false, freed_leaves, freed_released}
 use Rattle.mk_laws.proofs.Vocabulary.{fresh_leaves, get_or-set_other, get_or-set_same, get_or_past, if◌then◌else◌, inl}
@@ -46,10 +46,6 @@ more xs a = record {
   released = λ i lt is. ap (λ (x : PlacedAllocation). x.released) (earlier_at xs a i lt) ∙ is;
 }
 
-kept_release : (c : Config) (w : Words) (a : PlacedAllocation) → a.released ≡ true
-    → (with_released c w a).released ≡ true
-kept_release c w a is = grind arith
-
 step_later : (c : Config) (m : Moment) (f : Flight) (s : Step) (xs : List PlacedAllocation)
     → AreLater xs (allocations_by c m f s xs)
 step_later c m f Step.Grant xs = more xs (granted c m f)
@@ -57,7 +53,7 @@ step_later c m f (Step.Quar p v) xs =
     let cell = cell_freed c.pages m.words f p v in
     changed xs (freed_leaves m.words cell) (λ a is. freed_released m.words cell a ∙ is)
 step_later c m f Step.Begin xs = changed xs fresh_leaves (λ a is. is)
-step_later c m f Step.Release xs = changed xs (released_leaves c m.words) (kept_release c m.words)
+step_later c m f Step.Release xs = changed xs (released_leaves c m.words) (λ a is. grind arith)
 step_later c m f s xs = later_same xs
 
 pub later_left : (c : Config) (w : World) (es : List Event) → AreLater w.allocations (left_from c w es).allocations
@@ -80,12 +76,6 @@ pub frees_then : (xs ys zs : List PlacedAllocation) → FreesNone xs ys → Free
 frees_then xs ys zs h g n = g n ∙ h n
 
 -- one more, and each changed
-
-more_releases : (xs : List PlacedAllocation) (a : PlacedAllocation) → ReleasesNone xs (xs ++ a ∷ [])
-more_releases xs a = record {
-  count = omega (arith, length-append xs (a ∷ []));
-  released = λ n lt. ap (λ (x : PlacedAllocation). x.released) (earlier_at xs a n lt);
-}
 
 more_frees : (xs : List PlacedAllocation) (a : PlacedAllocation) → a.freed ≡ false → FreesNone xs (xs ++ a ∷ [])
 more_frees [] a unfreed zero = unfreed
@@ -110,7 +100,10 @@ changed_frees change xs none keeps n = grind (arith, changed_at)
 
 pub releases_by : (c : Config) (m : Moment) (f : Flight) (s : Step) (xs : List PlacedAllocation) → is_release s ≡ false
     → ReleasesNone xs (allocations_by c m f s xs)
-releases_by c m f Step.Grant xs none = more_releases xs (granted c m f)
+releases_by c m f Step.Grant xs none = record {
+  count = omega (arith, length-append xs ((granted c m f) ∷ []));
+  released = λ n lt. ap (λ (x : PlacedAllocation). x.released) (earlier_at xs (granted c m f) n lt);
+}
 releases_by c m f (Step.Quar p v) xs none =
     let cell = cell_freed c.pages m.words f p v in
     changed_releases (freed_where_it_stands m.words cell) xs (freed_leaves m.words cell).none
@@ -122,16 +115,11 @@ releases_by c m f _ xs none = same_releases xs
 -- What frees nothing changes nothing.
 pub unfreed_all : (w : Words) (cell : Option Cell) (xs : List PlacedAllocation) → is_some cell ≡ false
     → map (freed_where_it_stands w cell) xs ≡ xs
-unfreed_all w None xs none = none_freed w xs
-unfreed_all w (Some cell) xs none = cc
+unfreed_all w x1 xs none = grind (arith, none_freed)
 
 pub frees_by : (c : Config) (m : Moment) (f : Flight) (s : Step) (xs : List PlacedAllocation)
     → decides_freed c m f s ≡ false → FreesNone xs (allocations_by c m f s xs)
-frees_by c m f Step.Grant xs none = more_frees xs (granted c m f) refl
-frees_by c m f (Step.Quar p v) xs none = grind (arith, unfreed_all)
-frees_by c m f Step.Begin xs none = changed_frees no_longer_fresh xs refl (λ a. refl)
-frees_by c m f Step.Release xs none = changed_frees (with_released c m.words) xs refl (λ a. refl)
-frees_by c m f _ xs none = λ n. refl
+frees_by c m f x3 xs none = grind (arith, more_frees, unfreed_all, changed_frees)
 
 -- Where nothing is released, flags stay over a list.
 pub same_released : (c : Config) (w : World) (es : List Event) → has_step is_release es ≡ false
@@ -162,16 +150,13 @@ is_freed_there {c} {es} history i = grind (arith, cases_lt, twins, none_past, no
 -- What a Free does to the flags.
 
 chosen : (b : Bool) (number i : ℕ) → (if b then None else Some number) ≡ Some i → (b ≡ false) × (number ≡ i)
-chosen true number i is = cc
-chosen false number i is = (refl, cc)
+chosen x0 number i is = grind arith
 
 pub points_there : (n : NeverState) (v : Value) (i : ℕ) → unfreed n v ≡ Some i → LeadsTo v i
-points_there n (Ptr number ty offset) i is = (chosen (allocation_at n number).freed number i is).1
-points_there n _ i is = absurd cc
+points_there n x1 i is = grind (arith, chosen)
 
 pub was_unfreed : (n : NeverState) (v : Value) (i : ℕ) → unfreed n v ≡ Some i → (allocation_at n i).freed ≡ false
-was_unfreed n (Ptr number ty offset) i is = grind (arith, chosen)
-was_unfreed n _ i is = absurd cc
+was_unfreed n x1 i is = grind (arith, chosen)
 
 pub is_freed_behind : (n : NeverState) (v : Value) (i : ℕ) → unfreed n v ≡ Some i → i < length n.allocations
     → (allocation_at (after_free n v) i).freed ≡ true

@@ -121,10 +121,6 @@ module _ (c : Config) (es fs : List Event) (x : Option ℕ)
     pub kept_age : (i : ℕ) → was_kept c es fs x flags i ≡ true → age_of i later ≡ age_of i found + 1
     kept_age i kept = grind (arith, and_parts, ys, xs, age_where_kept, not-true, and-false)
 
-    one_those : (i : ℕ) → one_if (is_gone (placed_at xs i))
-        + one_if ((placed_at ys i).released && was_kept c es fs x flags i) ≡ one_if (is_gone (placed_at ys i))
-    one_those i = grind (arith, cases_lt, xs, sums, ys, same_freed, past, unfreed_past, sums_past)
-
     -- The ages of those that it released are counted.
     pub one_ages : (pairs now : List (ℕ × ℕ)) (numbers : List ℕ) → AreAgesOf found xs pairs
         → AreThose (was_kept c es fs x flags) numbers
@@ -143,6 +139,6 @@ module _ (c : Config) (es fs : List Event) (x : Option ℕ)
               ∙ counted_more (map (age_in_a_word later) ages.numbers) (map (age_in_a_word later) rest)
               ∙ ap counted (sym (map-append (age_in_a_word later) ages.numbers rest));
           those = λ i. times_append i ages.numbers rest ∙ ap (λ (n : ℕ). n + times i rest) (ages.those i)
-              ∙ ap (λ (n : ℕ). one_if (is_gone (placed_at xs i)) + n)
-              (those_filtered gone (was_kept c es fs x flags) numbers those i) ∙ one_those i;
+              ∙ ap (λ (n : ℕ). one_if (is_gone (placed_at xs i)) + n) (those_filtered gone (was_kept c es fs x flags)
+              numbers those i) ∙ (grind (arith, cases_lt, xs, sums, ys, same_freed, past, unfreed_past, sums_past));
         }

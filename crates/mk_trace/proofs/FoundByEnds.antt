@@ -19,20 +19,15 @@ is_over _ = false
 
 -- what an event adds
 
-ends-cons : (e : Event) (es : List Event) → ends (e ∷ es) ≡ cond (is_end e.step) 1 0 + ends es
-ends-cons e es = sum_by-cons (λ (x : Event). cond (is_end x.step) 1 0) e es
-
-counts_none : (b : Bool) (n m : ℕ) → n ≡ cond b 1 0 + m → b ≡ false → n ≡ m
-counts_none b n m is none = grind arith
-
 counts_one : (b : Bool) (n m : ℕ) → n ≡ cond b 1 0 + m → b ≡ true → n ≡ 1 + m
 counts_one b n m is one = grind arith
 
 pub no_end-cons : (e : Event) (es : List Event) → is_end e.step ≡ false → ends (e ∷ es) ≡ ends es
-no_end-cons e es none = counts_none (is_end e.step) (ends (e ∷ es)) (ends es) (ends-cons e es) none
+no_end-cons e es none = grind arith
 
 end-cons : (e : Event) (es : List Event) → is_end e.step ≡ true → ends (e ∷ es) ≡ 1 + ends es
-end-cons e es is = counts_one (is_end e.step) (ends (e ∷ es)) (ends es) (ends-cons e es) is
+end-cons e es is = counts_one (is_end e.step) (ends (e ∷ es)) (ends es) (
+    sum_by-cons (λ (x : Event). cond (is_end x.step) 1 0) e es) is
 
 pub none_end : (es : List Event) → has_step is_end es ≡ false → ends es ≡ 0
 none_end [] none = refl
@@ -43,11 +38,6 @@ none_end (e ∷ es) none =
 pub ends-append : (xs ys : List Event) → ends (xs ++ ys) ≡ ends xs + ends ys
 ends-append xs ys = sum_by-append (λ (x : Event). cond (is_end x.step) 1 0) xs ys
 
-found_by_test : (b : Bool) (first : List PlacedAllocation) (xs ys : List (List PlacedAllocation))
-    → (if b then first ∷ (xs ++ ys) else xs ++ ys) ≡ (if b then first ∷ xs else xs) ++ ys
-found_by_test true first xs ys = refl
-found_by_test false first xs ys = refl
-
 pub found-append : (c : Config) (w : World) (xs ys : List Event)
     → found_by_ends_from c w (xs ++ ys) ≡ found_by_ends_from c w xs ++ found_by_ends_from c (left_from c w xs) ys
 unfolding found_by_ends_from left_from
@@ -55,8 +45,7 @@ found-append c w [] ys = refl
 found-append c w (e ∷ xs) ys =
     let on : World = world_behind c w e in
     ap (λ (l : List (List PlacedAllocation)). if is_end e.step then w.allocations ∷ l else l) (found-append c on xs ys)
-    ∙ found_by_test (is_end e.step) w.allocations (found_by_ends_from c on xs)
-    (found_by_ends_from c (left_from c on xs) ys)
+    ∙ (grind arith)
 
 pub found-none : (c : Config) (w : World) (e : Event) (es : List Event) → is_end e.step ≡ false
     → found_by_ends_from c w (e ∷ es) ≡ found_by_ends_from c (world_behind c w e) es
@@ -67,15 +56,6 @@ found-one : (c : Config) (w : World) (e : Event) (es : List Event) → is_end e.
     → found_by_ends_from c w (e ∷ es) ≡ w.allocations ∷ found_by_ends_from c (world_behind c w e) es
 unfolding found_by_ends_from
 found-one c w e es is = rw is
-
--- An `end` itself leaves all allocations.
-end_leaves : (c : Config) (w : World) (e : Event) → is_end e.step ≡ true
-    → (world_behind c w e).allocations ≡ w.allocations
-end_leaves c w e is = grind arith
-
-one_releases_none : (c : Config) (w : World) (e : Event) → is_release e.step ≡ false
-    → ReleasesNone w.allocations (world_behind c w e).allocations
-one_releases_none c w e none = releases_by c w.now (flight_of w.now e.seat) e.step w.allocations none
 
 -- No call of these events is a Free.
 abbrev pub FreesNoneFrom : Config → World → List Event → Type 0
@@ -113,13 +93,7 @@ pub record Rests (c : Config) (w : World) (es : List Event) : Type 0 where
 
 idle_step : (s : Step) → AsksPhase s 0 → is_begin s ≡ false → is_over s ≡ false
     → (phase_behind s 0 ≡ 0) × (is_end s ≡ false) × (is_release s ≡ false)
-idle_step Step.Begin asks begin over = cc
-idle_step Step.Over asks begin over = cc
-idle_step Step.Want asks begin over = absurd (omega arith)
-idle_step Step.Close asks begin over = absurd (omega arith)
-idle_step Step.Release asks begin over = absurd (omega arith)
-idle_step Step.End asks begin over = absurd (omega arith)
-idle_step _ asks begin over = (refl, refl, refl)
+idle_step x0 asks begin over = grind arith
 
 pub rests : (c : Config) (w : World) (es : List Event) → AreEnabledFrom c w es → phase_of w.now.words ≡ 0
     → has_step is_begin es ≡ false → has_step is_over es ≡ false → Rests c w es
@@ -137,7 +111,7 @@ rests c w (e ∷ es) on idle begins overs =
       phase = rest.phase;
       found = found-none c w e es one.1 ∙ rest.found;
       count = no_end-cons e es one.1 ∙ rest.count;
-      released = releases_then (one_releases_none c w e one.2) rest.released;
+      released = releases_then (releases_by c w.now (flight_of w.now e.seat) e.step w.allocations one.2) rest.released;
     }
 
 -- Where a cycle is on, which ends, and none begins, that is the only end.
@@ -154,19 +128,6 @@ pub record EndsOnce (c : Config) (w : World) (es : List Event) : Type 0 where
 pub record IsOn (phase : ℕ) : Type 0 where
   pub least : 1 ≤ phase
   pub most : phase ≤ 4
-
-on_step : (s : Step) {n : ℕ} → AsksPhase s n → IsOn n → is_end s ≡ false → IsOn (phase_behind s n)
-on_step Step.Begin asks on none = record { least = omega arith; most = omega arith }
-on_step Step.Want asks on none = record { least = omega arith; most = omega arith }
-on_step Step.Close asks on none = record { least = omega arith; most = omega arith }
-on_step Step.Release asks on none = record { least = omega arith; most = omega arith }
-on_step Step.End asks on none = cc
-on_step Step.Over asks on none = absurd (omega (arith, on.least))
-on_step _ asks on none = on
-
-end_step : (s : Step) (n : ℕ) → is_end s ≡ true → phase_behind s n ≡ 0
-end_step Step.End n is = refl
-end_step _ n is = cc
 
 pub grows_by : (c : Config) (w : World) (e : Event) → length w.allocations ≤ length (world_behind c w e).allocations
 grows_by c w e = by e.step
@@ -192,7 +153,7 @@ module _ (c : Config) (w : World) (e : Event) (es : List Event) (on : AreEnabled
   unfolding left_from
   ends_here is =
       let moves = moves_phase c w e es on in
-      let rest = rests c behind es moves.2 (moves.1 ∙ end_step e.step (phase_of w.now.words) is)
+      let rest = rests c behind es moves.2 (moves.1 ∙ (grind arith))
       (or_parts (is_begin e.step) (has_step is_begin es) begins).1
       (or_parts (is_over e.step) (has_step is_over es) overs).1 in
       record {
@@ -204,7 +165,7 @@ module _ (c : Config) (w : World) (e : Event) (es : List Event) (on : AreEnabled
         freed = none_freed_from c w (e ∷ es) frees;
         released =
             subst (λ (l : List PlacedAllocation). ReleasesNone l (left_from c behind es).allocations)
-            (end_leaves c w e is) rest.released;
+            (grind arith) rest.released;
       }
 
   ends_later : is_end e.step ≡ false → EndsOnce c behind es → EndsOnce c w (e ∷ es)
@@ -218,7 +179,7 @@ ends_once c w [] on phase begins overs frees ends_in = absurd (true≢false (sym
 ends_once c w (e ∷ es) on phase begins overs frees ends_in =
     let moves = moves_phase c w e es on in
     ⊎_elim (ends_here c w e es on begins overs frees) (λ (none : is_end e.step ≡ false). ends_later c w e es on begins
-    overs frees none (ends_once c (world_behind c w e) es moves.2 (subst IsOn (sym moves.1) (on_step e.step moves.0
-    phase none)) (or_parts (is_begin e.step) (has_step is_begin es) begins).1 (or_parts (is_over e.step) (has_step
+    overs frees none (ends_once c (world_behind c w e) es moves.2 (subst IsOn (sym moves.1) (
+    grind arith)) (or_parts (is_begin e.step) (has_step is_begin es) begins).1 (or_parts (is_over e.step) (has_step
     is_over es) overs).1 (free_parts c w e es frees).1 (sym (ap (λ (b : Bool). b || has_step is_end es) none) ∙
     ends_in))) (cases_Bool _)

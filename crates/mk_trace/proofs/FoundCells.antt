@@ -2,10 +2,10 @@
 use Rattle.mk_trace.proofs.Vocabulary.{Cell, Config, Event, FreedObject, HostOnlyLooks, IsBetweenCycles, IsHistory}
 use Rattle.mk_trace.proofs.Vocabulary.{PlacedAllocation, Word, Words, cell_at, cell_words, freed_object_of, global_at}
 use Rattle.mk_trace.proofs.Vocabulary.{header_at, histories_keep_the_invariant, is_freed, is_heap_address, left}
-use Rattle.mk_trace.proofs.Vocabulary.{never_behind, option_map, phase_of, placed_at, unfreed}
+use Rattle.mk_trace.proofs.Vocabulary.{never_behind, option_map, placed_at, unfreed}
 use Rattle.mk_laws.proofs.Vocabulary.{Bool, List, None, Option, Some, ℕ, ap, arith, false, get_or_past, has_bit}
-use Rattle.mk_laws.proofs.Vocabulary.{if◌then◌else◌, nat_le, no_bit, not, page_at_address, refl, slice_index, sym, true}
-use Rattle.mk_laws.proofs.Vocabulary.{◌%◌, ◌*◌, ◌+◌, ◌<◌, ◌∙◌, ◌≡◌, ◌≢◌, ◌≤◌}
+use Rattle.mk_laws.proofs.Vocabulary.{if◌then◌else◌, nat_le, no_bit, not, page_at_address, slice_index, sym, true, ◌%◌}
+use Rattle.mk_laws.proofs.Vocabulary.{◌*◌, ◌+◌, ◌<◌, ◌∙◌, ◌≡◌, ◌≤◌}
 use Rattle.mk_core.specs.Cells.{pointed_cell}
 use Rattle.mk_laws.proofs.KnownWorlds.{known_world}
 use Rattle.mk_trace.proofs.FoundObjects.{PointsToCell, frees_nothing, points_to_cell}
@@ -43,14 +43,10 @@ pub cell_found : (pages : ℕ) (w : Words) (u header : ℕ) (found : Option Cell
 unfolding pointed_cell
 cell_found pages w u header found is same = same ∙ ap (λ (h : ℕ). cell_at pages h u) is
 
-none_if : (b : Bool) (x : Option Cell) → b ≡ false → None ≡ (if b then x else None)
-none_if true x is = absurd cc
-none_if false x is = refl
-
 pub nothing_found : (pages : ℕ) (w : Words) (u : ℕ) → is_heap_address pages u ≡ false
     → None ≡ pointed_cell pages w.pages u
 unfolding pointed_cell
-nothing_found pages w u outside = none_if (is_heap_address pages u) _ outside
+nothing_found pages w u outside = grind arith
 
 -- whether a cell is freed
 
@@ -83,9 +79,6 @@ module _ (c : Config) (es : List Event) (history : IsHistory c es) where
     abbrev found : Option FreedObject
     found = option_map (freed_object_of c xs) (unfreed (never_behind c es) (global_at (never_behind c es) slot))
 
-    out : phase_of w ≢ 4
-    out four = omega (arith, four, idle)
-
     pub no_object : None ≡ pointed_cell c.pages w.pages address → None ≡ found
     no_object none = ap (option_map (freed_object_of c xs)) (sym (frees_nothing c es history slot (sym none)))
 
@@ -98,7 +91,8 @@ module _ (c : Config) (es : List Event) (history : IsHistory c es) where
 
       by_bit : (freed : Bool) → freed ≡ is_freed w cell
           → unfreed (never_behind c es) (global_at (never_behind c es) slot) ≡ (if freed then None else Some it.number)
-      by_bit freed is = it.frees out ∙ ap (λ (b : Bool). if b then None else Some it.number) (sym is)
+      by_bit freed is = it.frees
+          (λ four. omega (arith, four, idle)) ∙ ap (λ (b : Bool). if b then None else Some it.number) (sym is)
 
       pub freed_object : true ≡ is_freed w cell → None ≡ found
       freed_object is = ap (option_map (freed_object_of c xs)) (sym (by_bit true is))

@@ -63,10 +63,6 @@ module _ (c : Config) (es fs : List Event) (before : IsHistory c es) (behind : I
     (later : AreLater (left c es).allocations (left c fs).allocations)
     (old : (j : ℕ) → (placed_at (left c fs).allocations j).freed ≡ true → j < length (left c es).allocations)
     (out : phase_of (left c fs).now.words ≢ 4) where
-  was_unreleased : (j : ℕ) → j < length (left c es).allocations → (placed_at (left c fs).allocations j).released ≡ false
-      → (placed_at (left c es).allocations j).released ≡ false
-  was_unreleased j lt unreleased = grind (arith, false_from_ne_true)
-
   same_cell : (j : ℕ) → j < length (left c es).allocations → cell_of_allocation c (placed_at (left c fs).allocations j)
       ≡ cell_of_allocation c (placed_at (left c es).allocations j)
   same_cell j lt = grind (arith, cell_by)
@@ -81,9 +77,8 @@ module _ (c : Config) (es fs : List Event) (before : IsHistory c es) (behind : I
         false_from_ne_true _ (λ is.
         (let x = owner c fs behind out (cell_of_allocation c (placed_at (left c es).allocations i)) is in
         let lt = old x.number x.freed in
-        let same : i ≡ x.number =
-        unreleased_are_apart c es (histories_keep_the_invariant c es before).order.laid i x.number unreleased
-        (was_unreleased x.number lt x.unreleased) (sym x.cell ∙ same_cell x.number lt) in
+        let same : i ≡ x.number = unreleased_are_apart c es (histories_keep_the_invariant c es before).order.laid i
+        x.number unreleased (grind (arith, false_from_ne_true)) (sym x.cell ∙ same_cell x.number lt) in
         true≢false (sym gone ∙ ap (λ (k : ℕ). (placed_at (left c fs).allocations k).released) same ∙ x.unreleased)))
         ∙ ap (λ (b : Bool). not b) (sym gone)
   ]
@@ -125,15 +120,11 @@ module _ (c : Config) (es : List Event) (history : IsHistory c es) (slot : ℕ) 
     stands : StandsUsed c (left c es) a
     stands = allocations_stand c es history number unreleased
 
-    type_is : ty ≡ a.ty
-    type_is = sound_pointer.1 ∙ sym (mirrors.twins.ty number (exists_placed xs number unreleased))
-
     as_many : length (kinds_of n.types ty) ≡ length (kinds_of c.types a.ty)
-    as_many = cc (mirrors.types, type_is)
+    as_many = cc (mirrors.types, sound_pointer.1 ∙ sym (mirrors.twins.ty number (exists_placed xs number unreleased)))
 
     within : IsPlaceIn (kinds_of n.types ty) offset → offset < storage_words c a
-    within (inl first) = grind (arith, storage_holds, stands)
-    within (inr inside) = grind (arith, storage_holds, stands, as_many)
+    within x0 = grind (arith, storage_holds, stands, as_many)
 
     is_word : IsWordOf (storage_of c a) (a.base + offset)
     is_word = let lt = within sound_pointer.2 in (omega arith, omega arith)
@@ -151,9 +142,7 @@ module _ (c : Config) (es : List Event) (history : IsHistory c es) (slot : ℕ) 
     page_within = grind (arith, storage_holds, stands)
 
     pub freed_shown : phase_of w ≢ 4 → is_freed w (cell_of_allocation c a) ≡ (allocation_at n number).freed
-    freed_shown out =
-        bit_tells_freed c es history out number unreleased
-        ∙ mirrors.twins.freed number (exists_placed xs number unreleased)
+    freed_shown out = grind (arith, bit_tells_freed, unreleased, mirrors, exists_placed, xs)
 
     pub large_shown : is_large (kinds_of c.types a.ty) ≡ not (nat_le (storage_words c a) 32)
     large_shown =

@@ -1,10 +1,9 @@
 -- What frees an object decides a Free.
-use Rattle.mk_trace.proofs.Vocabulary.{Answer, Caller, Cell, Config, Decided, Flight, Host, Marker, Moment, Op, Seat}
-use Rattle.mk_trace.proofs.Vocabulary.{Stage, Step, call_decided, cell_freed, decides_freed, entry_of, flagged}
-use Rattle.mk_trace.proofs.Vocabulary.{flight_of, is_phase, pointed_cell}
-use Rattle.mk_laws.proofs.Vocabulary.{Bool, None, Option, Some, ℕ, ap, false, frees, if◌then◌else◌, is_free_at, is_some}
-use Rattle.mk_laws.proofs.Vocabulary.{is_undecided_free, list_any, not, progress_freed, refl, target, true, ◌&&◌, ◌||◌}
-use Rattle.mk_laws.proofs.Vocabulary.{◌∙◌, ◌≡◌}
+use Rattle.mk_trace.proofs.Vocabulary.{Answer, Cell, Config, Decided, Flight, Moment, Op, Seat, Stage, Step}
+use Rattle.mk_trace.proofs.Vocabulary.{call_decided, cell_freed, decides_freed, entry_of, flagged, flight_of, is_phase}
+use Rattle.mk_trace.proofs.Vocabulary.{pointed_cell}
+use Rattle.mk_laws.proofs.Vocabulary.{Bool, None, Option, ℕ, arith, false, frees, if◌then◌else◌, is_free_at, is_some}
+use Rattle.mk_laws.proofs.Vocabulary.{is_undecided_free, list_any, not, progress_freed, target, true, ◌&&◌, ◌≡◌}
 
 abbrev pub is_free : Op → Bool
 is_free (Op.Free p) = true
@@ -14,16 +13,13 @@ abbrev pub is_free_call : Decided → Bool
 is_free_call x = is_free x.op
 
 pub flagged_free : (o : Op) (a : Answer) → is_free (flagged o a) ≡ is_free o
-flagged_free (Op.New d ty full) Answer.Full = refl
-flagged_free o a = cc
+flagged_free o a = grind arith
 
 frees_at : (s : Stage) (o : Op) → is_free_at s o ≡ true → is_free o ≡ true
-frees_at Stage.Turn (Op.Free p) h = refl
-frees_at _ _ h = cc
+frees_at x0 x1 h = grind arith
 
 some_by_test : (b : Bool) (x : Option Cell) → is_some (if b then x else None) ≡ true → (b ≡ true) × (is_some x ≡ true)
-some_by_test true x h = (refl, h)
-some_by_test false x h = cc
+some_by_test x0 x h = grind arith
 
 freed_by_free : (c : Config) (m : Moment) (f : Flight) (p v : ℕ) → is_some (cell_freed c.pages m.words f p v) ≡ true
     → is_free f.op ≡ true
@@ -34,25 +30,18 @@ freed_by_free c m f p v some =
 
 decided_by_cell : (k : ℕ) (f : Flight) (cell : Option Cell) → is_some cell ≡ true → is_free f.op ≡ true
     → list_any is_free_call (entry_of k f.op (progress_freed f cell).answer) ≡ true
-decided_by_cell k f (Some cell) some free = ap (λ (b : Bool). b || false) (flagged_free f.op Answer.Done ∙ free)
-decided_by_cell k f None some free = cc
+decided_by_cell k f x2 some free = grind (arith, flagged_free)
 
 quar_decides : (c : Config) (m : Moment) (seat : Seat) (p v : ℕ)
     → is_some (cell_freed c.pages m.words (flight_of m seat) p v) ≡ true
     → list_any is_free_call (call_decided c m (record { seat = seat; step = Step.Quar p v })) ≡ true
-quar_decides c m (Caller k) p v some =
-    let f : Flight = flight_of m (Caller k) in
-    decided_by_cell k f (cell_freed c.pages m.words f p v) some (freed_by_free c m f p v some)
-quar_decides c m (Marker k) p v some = let free = freed_by_free c m (flight_of m (Marker k)) p v some in cc
-quar_decides c m Host p v some = let free = freed_by_free c m (flight_of m Host) p v some in cc
+quar_decides c m x2 p v some = grind (arith, decided_by_cell, freed_by_free)
 
 pub frees_decide : (c : Config) (m : Moment) (seat : Seat) (s : Step) → decides_freed c m (flight_of m seat) s ≡ true
     → list_any is_free_call (call_decided c m (record { seat = seat; step = s })) ≡ true
-frees_decide c m seat (Step.Quar p v) h = quar_decides c m seat p v h
-frees_decide c m seat _ h = cc
+frees_decide c m seat x3 h = grind (arith, quar_decides)
 
 -- What frees is a `quar`.
 pub freeing_is : (kind : Step → Bool) → ((p v : ℕ) → kind (Step.Quar p v) ≡ false) → (c : Config) (m : Moment)
     (f : Flight) (x : Step) → decides_freed c m f x ≡ true → kind x ≡ false
-freeing_is kind quar c m f (Step.Quar p v) h = quar p v
-freeing_is kind quar c m f _ h = cc
+freeing_is kind quar c m f x5 h = grind arith

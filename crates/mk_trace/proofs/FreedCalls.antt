@@ -8,19 +8,18 @@ use Rattle.mk_trace.proofs.Vocabulary.{is_under_turn, lacks_append, left, never_
 use Rattle.mk_trace.proofs.Vocabulary.{placed_at, reach_is_kept, register_at, unflagged, world_behind}
 use Rattle.mk_laws.proofs.Vocabulary.{Bool, List, Some, ℕ, ap, append_assoc, arith, cases_Bool, earlier_part_is_history}
 use Rattle.mk_laws.proofs.Vocabulary.{false, inl, inr, left_in_parts, length, never_in_parts, refl, subst, sym, true}
-use Rattle.mk_laws.proofs.Vocabulary.{true≢false, [], ◌*◌, ◌++◌, ◌+◌, ◌<◌, ◌∙◌, ◌∷◌, ◌≡◌}
+use Rattle.mk_laws.proofs.Vocabulary.{[], ◌*◌, ◌++◌, ◌+◌, ◌<◌, ◌∙◌, ◌∷◌, ◌≡◌}
 use Rattle.mk_never.specs.Reach.IsReachable.{by_register}
 use Rattle.mk_alloc.specs.TurnCycles.{FreeIsExact, FreesFirst, IsDueIn}
-use Rattle.mk_trace.proofs.EndsInCalls.{beside_leaves, ends_told}
+use Rattle.mk_trace.proofs.EndsInLists.{first_at, lacks_by}
 use Rattle.mk_trace.proofs.FlagSteps.{is_freed_behind, is_freed_there, later_left, others_kept, points_there, twins}
 use Rattle.mk_trace.proofs.FlagSteps.{was_unfreed}
 use Rattle.mk_trace.proofs.FreeCalls.{flagged_free, is_free, is_free_call}
 use Rattle.mk_trace.proofs.FreedMost.{FreesBefore, MostWhereFreed, ReleasesLate, free_most, no_more_without_free}
 use Rattle.mk_trace.proofs.FreedWords.{large_weight, quarantined_is, reserved_is, storage_weight, weighed}
-use Rattle.mk_trace.proofs.JoinedCalls.{InTurn, Joined, acts, before, before_lacks, called, decided, exact, in_parts}
-use Rattle.mk_trace.proofs.JoinedCalls.{last, whole}
-use Rattle.mk_trace.proofs.{EndsInLists.first_at, EndsInLists.lacks_by, FoundByEnds.none_freed_from}
-use Rattle.mk_trace.proofs.{HeldCalls.held_at_end, OneCaller.callers_at_home, OwnPieces.within_is}
+use Rattle.mk_trace.proofs.JoinedCalls.{InTurn, Joined, acts, before, before_lacks, beside_leaves, called, decided}
+use Rattle.mk_trace.proofs.JoinedCalls.{ends_told, exact, held_at_end, in_parts, last, whole}
+use Rattle.mk_trace.proofs.{FoundByEnds.none_freed_from, OneCaller.callers_at_home, OwnPieces.within_is}
 use Rattle.mk_trace.specs.Peaks.{greatest_from}
 
 -- What a call does to the flags of allocations: its operation frees one, or none.
@@ -37,18 +36,11 @@ module _ (c : Config) (es more : List Event) (whole : IsHistory c (es ++ more)) 
       subst (λ (w : World). AreLater xs w.allocations) (sym (left_in_parts c es more)) (later_left c (left c es) more)
 
   none_by : (n : NeverState) (o : Op) → is_free o ≡ false → (i : ℕ) → number_freed n o ≡ Some i → ⊥
-  none_by n (Op.Free p) other i is = true≢false other
-  none_by n o other i is = absurd cc
+  none_by n o other i is = grind arith
 
-  flags_of_other : (o : Op) (a : Answer) → is_free o ≡ false → calls_from c (left c es) more ≡ entry_of 0 o (Some a)
+  pub flags_behind : (o : Op) (a : Answer) → calls_from c (left c es) more ≡ entry_of 0 o (Some a)
       → FlagsBehind xs ys (number_freed (never_behind c es) o)
-  flags_of_other o a other one =
-      grind (arith, later, left_in_parts, es, none_freed_from, is_free_call, flagged_free, none_by)
-
-  flags_of_free : (r : ℕ) (a : Answer) → calls_from c (left c es) more ≡ entry_of 0 (Op.Free r) (Some a)
-      → FlagsBehind xs ys (number_freed (never_behind c es) (Op.Free r))
-  flags_of_free r a one =
-      let n : NeverState = never_behind c es in
+  flags_behind (Op.Free r) a one = let n : NeverState = never_behind c es in
       let v = register_at n 0 r in
       let before = earlier_part_is_history c es more whole in
       let never : never_behind c (es ++ more) ≡ after_free n v = grind (arith, never_in_parts, es) in
@@ -57,8 +49,7 @@ module _ (c : Config) (es more : List Event) (whole : IsHistory c (es ++ more)) 
       record {
         later = later;
         kept = λ i out. there i ∙ others_kept n v i out ∙ sym (is_freed_there before i);
-        frees = λ i is.
-            (let unreleased : (placed_at xs i).released ≡ false =
+        frees = λ i is. (let unreleased : (placed_at xs i).released ≡ false =
             reach_is_kept c es before i (by_register (8 * 0 + r) i (points_there n v i is)) in
             let lt : i < length xs = exists_placed xs i unreleased in
             record {
@@ -68,17 +59,12 @@ module _ (c : Config) (es more : List Event) (whole : IsHistory c (es ++ more)) 
               behind = there i ∙ is_freed_behind n v i is (omega (arith, lt, (twins before).count));
             });
       }
-
-  pub flags_behind : (o : Op) (a : Answer) → calls_from c (left c es) more ≡ entry_of 0 o (Some a)
-      → FlagsBehind xs ys (number_freed (never_behind c es) o)
-  flags_behind (Op.Free r) a one = flags_of_free r a one
-  flags_behind o a one = flags_of_other o a refl one
+  flags_behind o a one = grind (arith, later, left_in_parts, es, none_freed_from, is_free_call, flagged_free, none_by)
 
 -- What is seen of a Free's call: where something is released, an event before that frees.
 
 release_of_cycle : (s : Step) → is_of_cycle s ≡ false → is_release s ≡ false
-release_of_cycle Step.Release h = cc
-release_of_cycle _ h = refl
+release_of_cycle x0 h = grind arith
 
 module _ {on : Bool} {h : HostState} {o : Op} {told : Answer} {q : PassState} {fs : List Event}
     (j : Joined on h o told q fs) (r : ℕ) (turn : InTurn j (Op.Free r)) where
@@ -121,8 +107,7 @@ module _ {on : Bool} {h : HostState} {o : Op} {told : Answer} {q : PassState} {f
     | inl begins ↦ inr (frees_before (is_exact.first (is_exact.begins.0 (first_at is_begin part begins).at)))
     | inr none ↦
         inl (ap (has_step is_release) (in_parts j (Op.Free r) turn)
-        ∙ lacks_append is_release prior (part ++ give) none_prior
-        (lacks_append is_release part give
+        ∙ lacks_append is_release prior (part ++ give) none_prior (lacks_append is_release part give
         (releases_none part (is_exact.undue
         (λ (due : IsDueIn turn.ends.turn). none_at is_begin part none (is_exact.begins.1 due)))) refl))
   ]
@@ -163,8 +148,7 @@ module _ {on : Bool} {h : HostState} {o : Op} {told : Answer} {q : PassState} {f
 
   pub quarantined_meanwhile : Calls c es o told fs → QuarantinesMostWhereFreed c es o fs
   quarantined_meanwhile made =
-      subst (QuarantinesMostWhereFreed c es o) (sym j.own.is)
-      (quarantines_most c es o (es ++ j.own.more)
+      subst (QuarantinesMostWhereFreed c es o) (sym j.own.is) (quarantines_most c es o (es ++ j.own.more)
       (λ weight. most_by weight o made.answer j.answers.in_turn (decided j made)))
 
   pub flagged_behind : Calls c es o told fs → FlagsBehindCall c es o fs

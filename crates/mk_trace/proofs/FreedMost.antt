@@ -3,9 +3,9 @@ use Rattle.mk_trace.proofs.Vocabulary.{Answer, AreLater, Cell, Config, Decided, 
 use Rattle.mk_trace.proofs.Vocabulary.{NeverState, Op, PlacedAllocation, Step, Value, Words, World, after_calls}
 use Rattle.mk_trace.proofs.Vocabulary.{after_free, allocations_by, asked, call_decided, calls_append, decides_freed}
 use Rattle.mk_trace.proofs.Vocabulary.{entry_of, first_world, flight_of, freed_where_it_stands, granted, greatest}
-use Rattle.mk_trace.proofs.Vocabulary.{has_step, is_release, is_some_and, lacks_append, lacks_one, left, max}
-use Rattle.mk_trace.proofs.Vocabulary.{never_behind, no_longer_fresh, number_freed, register_at, stands_in}
-use Rattle.mk_trace.proofs.Vocabulary.{sum_by-append, sum_by-cons, unfreed, with_released, words_of_some, world_behind}
+use Rattle.mk_trace.proofs.Vocabulary.{has_step, is_release, lacks_append, lacks_one, left, max, never_behind}
+use Rattle.mk_trace.proofs.Vocabulary.{number_freed, register_at, sum_by-append, sum_by-cons, unfreed, words_of_some}
+use Rattle.mk_trace.proofs.Vocabulary.{world_behind}
 use Rattle.mk_laws.proofs.Vocabulary.{Bool, List, None, Option, Some, ℕ, ap, append-nil, append_assoc, arith}
 use Rattle.mk_laws.proofs.Vocabulary.{earlier_part_is_history, false, if◌then◌else◌, inl, inr, left_in_parts, list_any}
 use Rattle.mk_laws.proofs.Vocabulary.{never_in_parts, not, or_parts, refl, subst, sym, true, true≢false, [], ◌&&◌, ◌*◌}
@@ -32,17 +32,9 @@ freed_part : (n : ℕ) (freed released : Bool)
 freed_part n freed released = grind arith
 
 module _ (weight : ℕ → ℕ) where
-  release_falls : (c : Config) (w : Words) (a : PlacedAllocation) → part weight (with_released c w a) ≤ part weight a
-  release_falls c w a = released_part (weight a.ty) _ a.released _
-
-  by_test : (a : PlacedAllocation) (b : Bool)
-      → part weight a ≤ part weight (if b then record a { freed = true; fresh = true } else a)
-  by_test a true = freed_part (weight a.ty) a.freed a.released
-  by_test a false = omega arith
-
   free_rises : (w : Words) (cell : Option Cell) (a : PlacedAllocation)
       → part weight a ≤ part weight (freed_where_it_stands w cell a)
-  free_rises w cell a = by_test a (is_some_and (λ (x : Cell). stands_in w x a) cell)
+  free_rises w cell a = grind (arith, freed_part)
 
   grant_adds_none : (c : Config) (m : Moment) (f : Flight) (xs : List PlacedAllocation)
       → weighed weight (xs ++ granted c m f ∷ []) ≡ weighed weight xs
@@ -52,19 +44,11 @@ module _ (weight : ℕ → ℕ) where
 
   step_falls : (c : Config) (m : Moment) (f : Flight) (s : Step) (xs : List PlacedAllocation)
       → decides_freed c m f s ≡ false → weighed weight (allocations_by c m f s xs) ≤ weighed weight xs
-  step_falls c m f Step.Grant xs none = let same = grant_adds_none c m f xs in omega arith
-  step_falls c m f (Step.Quar p v) xs none = grind (arith, weighed, unfreed_all)
-  step_falls c m f Step.Begin xs none = sum_falls (part weight) no_longer_fresh (λ a. omega arith) xs
-  step_falls c m f Step.Release xs none = sum_falls (part weight) (with_released c m.words) (release_falls c m.words) xs
-  step_falls c m f s xs none = omega arith
+  step_falls c m f s xs none = grind (arith, grant_adds_none, weighed, unfreed_all, sum_falls, part, released_part)
 
   step_rises : (c : Config) (m : Moment) (f : Flight) (s : Step) (xs : List PlacedAllocation) → is_release s ≡ false
       → weighed weight xs ≤ weighed weight (allocations_by c m f s xs)
-  step_rises c m f Step.Release xs none = absurd (true≢false none)
-  step_rises c m f Step.Grant xs none = let same = grant_adds_none c m f xs in omega arith
-  step_rises c m f (Step.Quar p v) xs none = grind (arith, sum_rises, part, free_rises)
-  step_rises c m f Step.Begin xs none = grind (arith, sum_rises, part)
-  step_rises c m f s xs none = omega arith
+  step_rises c m f s xs none = grind (arith, grant_adds_none, sum_rises, part, free_rises)
 
   -- Lists of events.
 
@@ -120,8 +104,7 @@ MostWhereFreed weight c es o fs =
 -- A call that is no Free
 
 frees_nothing : (n : NeverState) (o : Op) → is_free o ≡ false → number_freed n o ≡ None
-frees_nothing n (Op.Free p) other = absurd (true≢false other)
-frees_nothing n o other = refl
+frees_nothing n o other = grind arith
 
 module _ (weight : ℕ → ℕ) (c : Config) (es more : List Event) (o : Op) (a : Answer)
     (one : calls_from c (left c es) more ≡ entry_of 0 o (Some a)) where
@@ -202,9 +185,6 @@ module _ (weight : ℕ → ℕ) (c : Config) (es more : List Event) (r : ℕ) (a
   unfolding calls_from
   first_decides = grind (arith, calls_append, three, append-nil)
 
-  first_releases_none : has_step is_release first ≡ false
-  first_releases_none = grind (arith, lacks_append, lacks_one, freeing_is)
-
   in_parts : es ++ more ≡ (es ++ first) ++ f.behind
   in_parts = ap (λ (l : List Event). es ++ l) f.is ∙ simp append_assoc
 
@@ -220,9 +200,8 @@ module _ (weight : ℕ → ℕ) (c : Config) (es more : List Event) (r : ℕ) (a
 
   pub most_of_late : MostWhereFreed weight c es (Op.Free r) (es ++ more)
   most_of_late =
-      let done = most_of_free weight c es first r a
-      (earlier_part_is_history c (es ++ first) f.behind (subst (IsHistory c) in_parts whole))
-      first_decides first_releases_none in
+      let done = most_of_free weight c es first r a (earlier_part_is_history c (es ++ first) f.behind
+      (subst (IsHistory c) in_parts whole)) first_decides (grind (arith, lacks_append, lacks_one, freeing_is)) in
       let parts = from-append c (weighed weight) (first_world c) (es ++ first) f.behind in
       let last = last_below c (weighed weight) (first_world c) (es ++ first) in
       let rest = falls in

@@ -2,7 +2,7 @@
 use Rattle.std.proofs.Common.{get_or-drop}
 use Rattle.mk_trace.proofs.Vocabulary.{A, C, Config, Event, F, IsHistory, K, NeverState, Null, Op, TraceEvent, W}
 use Rattle.mk_trace.proofs.Vocabulary.{after_calls, calls_of_caller, drop_more, global_at, histories_keep_the_invariant}
-use Rattle.mk_trace.proofs.Vocabulary.{length-drop, never_behind, ops_of, register_at, take-append-drop}
+use Rattle.mk_trace.proofs.Vocabulary.{length-drop, never_behind, ops_of, register_at}
 use Rattle.mk_laws.proofs.Vocabulary.{Bool, List, ℕ, ap, arith, drop, false, get_or, get_or-set_same, length, list_any}
 use Rattle.mk_laws.proofs.Vocabulary.{list_any-append, or_parts, refl, subst, sym, take, [], ◌*◌, ◌++◌, ◌+◌, ◌<◌, ◌∙◌}
 use Rattle.mk_laws.proofs.Vocabulary.{◌∷◌, ◌≡◌}
@@ -63,10 +63,8 @@ frees_now {event} {items} {i} h o within here frees =
     let ops : List Op = ops_of h.full event in
     let count : length items ≡ length (drop 1 ops) = ap length h.items_are in
     let inside : i + 1 < length ops = omega (arith, within, count, length-drop 1 ops) in
-    let at : get_or ops (i + 1) o ≡ o =
-    ap (λ (k : ℕ). get_or ops k o) (omega arith) ∙ sym (get_or-drop 1 ops i o)
+    let at : get_or ops (i + 1) o ≡ o = ap (λ (k : ℕ). get_or ops k o) (omega arith) ∙ sym (get_or-drop 1 ops i o)
     ∙ sym (ap (λ (l : List Op). get_or l i o) h.items_are) ∙ sym here in
-    let split : ops ≡ take (i + 1) ops ++ o ∷ drop (i + 1 + 1) ops =
-    cc (take-append-drop (i + 1) ops, drop_more ops (i + 1) o inside, at) in
+    let split : ops ≡ take (i + 1) ops ++ o ∷ drop (i + 1 + 1) ops = grind (arith, drop_more) in
     subst (λ (n : NeverState). FreesSlot n (slot_of event) o) (sym (never_behind_all h.calls))
     (frees h.full (take (i + 1) ops) o (drop (i + 1 + 1) ops) split)

@@ -1,14 +1,14 @@
 -- The words of quarantined allocations, and of held ones, where a type says how many words one has.
 use Rattle.mk_trace.proofs.Vocabulary.{AreLater, Cell, Config, Event, Flight, IsHistory, Moment, NeverState}
 use Rattle.mk_trace.proofs.Vocabulary.{PlacedAllocation, Step, Value, Words, World, after_free, allocations_by}
-use Rattle.mk_trace.proofs.Vocabulary.{exists_placed, flight_of, freed_where_it_stands, granted, held_by_allocations}
-use Rattle.mk_trace.proofs.Vocabulary.{is_grant, is_large, is_quarantined, is_some_and, kinds_of, left, lets_go}
-use Rattle.mk_trace.proofs.Vocabulary.{never_behind, never_granted, no_longer_fresh, placed_at, quarantined_words}
-use Rattle.mk_trace.proofs.Vocabulary.{reach_is_kept, reserved_words, stands_in, storage_words, sum_by, sum_by-append}
-use Rattle.mk_trace.proofs.Vocabulary.{sum_by-cons, unfreed, with_released, words_of_some, world_behind}
+use Rattle.mk_trace.proofs.Vocabulary.{exists_placed, flight_of, freed_where_it_stands, held_by_allocations, is_grant}
+use Rattle.mk_trace.proofs.Vocabulary.{is_large, is_quarantined, is_some_and, kinds_of, left, lets_go, never_behind}
+use Rattle.mk_trace.proofs.Vocabulary.{never_granted, placed_at, quarantined_words, reach_is_kept, reserved_words}
+use Rattle.mk_trace.proofs.Vocabulary.{stands_in, sum_by, sum_by-append, sum_by-cons, unfreed, with_released}
+use Rattle.mk_trace.proofs.Vocabulary.{words_of_some, world_behind}
 use Rattle.mk_laws.proofs.Vocabulary.{Bool, List, None, Option, Some, ℕ, arith, cases_lt, false, get_or_past}
 use Rattle.mk_laws.proofs.Vocabulary.{if◌then◌else◌, length, map, not, refl, suc, sym, true, words_made, zero, [], ◌&&◌}
-use Rattle.mk_laws.proofs.Vocabulary.{◌++◌, ◌+◌, ◌||◌, ◌∙◌, ◌∷◌, ◌≡◌, ◌≢◌, ◌≤◌}
+use Rattle.mk_laws.proofs.Vocabulary.{◌+◌, ◌||◌, ◌∙◌, ◌∷◌, ◌≡◌, ◌≢◌, ◌≤◌}
 use Rattle.mk_never.specs.Reach.{IsReachable}
 use Rattle.mk_core.specs.NewPlaces.{object_of}
 use Rattle.mk_objects.proofs.HeldFreed.{held_part, held_sum}
@@ -160,8 +160,7 @@ released_part n released mapped more = grind arith
 
 free_by_test : (c : Config) (a : PlacedAllocation) (b : Bool)
     → held_part c (if b then record a { freed = true; fresh = true } else a) ≤ held_part c a
-free_by_test c a true = freed_part (storage_words c a) a.released a.freed (is_large (kinds_of c.types a.ty))
-free_by_test c a false = omega arith
+free_by_test c a x2 = grind (arith, freed_part)
 
 free_falls : (c : Config) (w : Words) (cell : Option Cell) (a : PlacedAllocation)
     → held_part c (freed_where_it_stands w cell a) ≤ held_part c a
@@ -170,27 +169,15 @@ free_falls c w cell a = free_by_test c a (is_some_and (λ (x : Cell). stands_in 
 release_falls : (c : Config) (w : Words) (a : PlacedAllocation) → held_part c (with_released c w a) ≤ held_part c a
 release_falls c w a = released_part _ a.released (not (a.freed && is_large (kinds_of c.types a.ty))) _
 
-more_rises : (c : Config) (xs : List PlacedAllocation) (a : PlacedAllocation)
-    → held_by_allocations c xs ≤ held_by_allocations c (xs ++ a ∷ [])
-more_rises c xs a = omega (arith, held_sum c xs, held_sum c (xs ++ a ∷ []), sum_by-append (held_part c) xs (a ∷ []))
-
 -- One step.
 
 step_falls : (c : Config) (m : Moment) (f : Flight) (s : Step) (xs : List PlacedAllocation) → is_grant s ≡ false
     → held_by_allocations c (allocations_by c m f s xs) ≤ held_by_allocations c xs
-step_falls c m f Step.Grant xs h = cc
-step_falls c m f (Step.Quar p v) xs h = grind (arith, held_falls, free_falls)
-step_falls c m f Step.Begin xs h = held_falls c no_longer_fresh (λ a. omega arith) xs
-step_falls c m f Step.Release xs h = held_falls c (with_released c m.words) (release_falls c m.words) xs
-step_falls c m f s xs h = omega arith
+step_falls c m f s xs h = grind (arith, held_falls, free_falls, release_falls)
 
 step_rises : (c : Config) (m : Moment) (f : Flight) (s : Step) (xs : List PlacedAllocation) → lets_go s ≡ false
     → held_by_allocations c xs ≤ held_by_allocations c (allocations_by c m f s xs)
-step_rises c m f (Step.Quar p v) xs h = cc
-step_rises c m f Step.Release xs h = cc
-step_rises c m f Step.Grant xs h = more_rises c xs (granted c m f)
-step_rises c m f Step.Begin xs h = grind (arith, sum_rises, held_part, held_sum)
-step_rises c m f s xs h = omega arith
+step_rises c m f s xs h = grind (arith, held_sum, sum_by-append, held_part, sum_rises)
 
 -- One event.
 

@@ -1,8 +1,8 @@
 -- The host looks at the tally of held words: it reports what is held, and nothing is granted or let go meanwhile.
 use Rattle.mk_trace.proofs.Vocabulary.{AreOfOthers, Config, Event, Has, HasAll, IsHistory, Op, PassState, Step, Word}
 use Rattle.mk_trace.proofs.Vocabulary.{event_of, has_step, lacks_append, lacks_one, left, seen_made}
-use Rattle.mk_laws.proofs.Vocabulary.{Bool, List, None, Option, ℕ, ap, earlier_part_is_history, enabled_in_parts, false}
-use Rattle.mk_laws.proofs.Vocabulary.{refl, subst, sym, [], ◌++◌, ◌∙◌, ◌∷◌, ◌≡◌}
+use Rattle.mk_laws.proofs.Vocabulary.{Bool, List, None, Option, ℕ, ap, arith, earlier_part_is_history, enabled_in_parts}
+use Rattle.mk_laws.proofs.Vocabulary.{false, refl, subst, sym, [], ◌++◌, ◌∙◌, ◌∷◌, ◌≡◌}
 use Rattle.mk_core.specs.Counts.{TalliesAreExact}
 use Rattle.mk_laws.proofs.{Tallies.tallies_tell, TallySteps.others_count_nothing}
 use Rattle.mk_alloc.proofs.Parts.{seen_then}
@@ -98,8 +98,7 @@ module _ {p q : PassState} {x : Word} {n : ℕ} (l : Looked p x n q) where
 
   pub mine : AreMine c [] first × AreMine c [] behind
   mine =
-      mine_parts c [] first behind
-      (are_mine c (left c p.seen) [] (first ++ behind)
+      mine_parts c [] first behind (are_mine c (left c p.seen) [] (first ++ behind)
       ((enabled_in_parts c p.seen (first ++ behind)).0
       (subst (IsHistory c) seen_is l.history).enabled).1 (others_nobody (first ++ behind)))
 
@@ -115,10 +114,19 @@ module _ {p q : PassState} {x : Word} {n : ℕ} (l : Looked p x n q) where
 
   pub behind_lacks : (kind : Step → Bool) → IsApart kind → has_step kind behind ≡ false
   behind_lacks kind apart =
-      let parts = mine_parts c [] looking giving mine.1 in
-      lacks_append kind looking giving (others_none h.looks.makes.others (event_of taken (Step.Look x)) kind parts.0
-      (of_pass taken h.looks.makes.others taken_same h.looks.makes.of_others) (apart.look x)) (others_none
-      h.gives.others _ kind parts.1 (of_pass h.looked h.gives.others looked_same h.gives.of_others) apart.give)
+      grind (
+        arith,
+        mine_parts,
+        looking,
+        giving,
+        mine,
+        lacks_append,
+        others_none,
+        taken,
+        of_pass,
+        taken_same,
+        looked_same,
+      )
 
   pub first_lacks : (kind : Step → Bool) → IsApart kind → has_step kind first ≡ false
   first_lacks kind apart =
@@ -131,15 +139,12 @@ module _ {p q : PassState} {x : Word} {n : ℕ} (l : Looked p x n q) where
   pub all_lack : (kind : Step → Bool) → IsApart kind → has_step kind (first ++ behind) ≡ false
   all_lack kind apart = lacks_append kind first behind (first_lacks kind apart) (behind_lacks kind apart)
 
-  history_taken : IsHistory taken.table.config taken.seen
-  history_taken =
-      subst (λ (r : PassState). IsHistory r.table.config taken.seen) (sym taken_same)
-      (earlier_part_is_history c taken.seen behind (subst (IsHistory c) behind_seen l.history))
-
   pub exact : TalliesAreExact c taken.seen
   exact =
       subst (λ (r : PassState). TalliesAreExact r.table.config taken.seen) taken_same
-      (exact_taken h.takes (subst (λ (r : PassState). Has r.seats r.seat) (sym waited_same) l.own) history_taken)
+      (exact_taken h.takes (subst (λ (r : PassState). Has r.seats r.seat) (sym waited_same) l.own)
+      (subst (λ (r : PassState). IsHistory r.table.config taken.seen) (sym taken_same)
+      (earlier_part_is_history c taken.seen behind (subst (IsHistory c) behind_seen l.history))))
 
   pub looks_alone : h.looks.makes.others ≡ []
   looks_alone =

@@ -1,20 +1,30 @@
 -- A call of the one caller, which the host makes again and then joins: all that came meanwhile is what the call made.
 use Rattle.std.proofs.lemmas.List.{append_cancel_left}
-use Rattle.mk_trace.proofs.Vocabulary.{Answer, AreEnabledFrom, AreOfOthers, Caller, Calls, Config, Decided, Event}
-use Rattle.mk_trace.proofs.Vocabulary.{Grows, HasAll, HostState, IsHistory, Op, PassState, Seat, Step, calls}
-use Rattle.mk_trace.proofs.Vocabulary.{calls_from, entry_of, has_step, left, pass_for, without_seat}
-use Rattle.mk_laws.proofs.Vocabulary.{Bool, List, Option, Some, ap, append-nil, append_assoc, earlier_part_is_history}
-use Rattle.mk_laws.proofs.Vocabulary.{enabled_in_parts, false, subst, sym, [], ◌++◌, ◌+◌, ◌∙◌, ◌∷◌, ◌≡◌}
+use Rattle.mk_laws.proofs.Vocabulary.{Bool, List, Option, Some, ℕ, ap, append-nil, append_assoc, arith, cases_Bool}
+use Rattle.mk_laws.proofs.Vocabulary.{earlier_part_is_history, enabled_in_parts, false, inl, inr, left_from}
+use Rattle.mk_laws.proofs.Vocabulary.{left_in_parts, list_any, or_parts, refl, subst, sym, true, [], ◌++◌, ◌+◌, ◌||◌}
+use Rattle.mk_laws.proofs.Vocabulary.{◌∙◌, ◌∷◌, ◌≡◌}
+use Rattle.mk_trace.proofs.Vocabulary.{Answer, AreEnabledFrom, AreOfOthers, Caller, Calls, Config, Decided, EndsTell}
+use Rattle.mk_trace.proofs.Vocabulary.{Event, Grows, HasAll, HoldsMostAtEnd, HostState, IsHistory, LeavesAllocations}
+use Rattle.mk_trace.proofs.Vocabulary.{Op, PassState, Seat, Step, World, calls, calls_from, decides_freed, entry_of}
+use Rattle.mk_trace.proofs.Vocabulary.{flight_of, has_step, is_begin, is_grant, is_of_cycle, is_under_turn}
+use Rattle.mk_trace.proofs.Vocabulary.{lacks_append, lacks_one, left, none_at, object_made, pass_for, unflagged}
+use Rattle.mk_trace.proofs.Vocabulary.{without_seat}
 use Rattle.mk_core.proofs.HistoryParts.{calls_in_parts}
-use Rattle.mk_alloc.specs.{TurnCalls.CalledInTurn, TurnCycles.CallIsExact}
+use Rattle.mk_alloc.proofs.GrantParts.{LastIn, last_before, last_then}
+use Rattle.mk_alloc.proofs.OneCycles.{one_before, one_behind}
+use Rattle.mk_alloc.specs.TurnCycles.{CallIsExact, FreeIsExact, NewIsExact, RunsOneCycle, finishes, within_turn}
+use Rattle.mk_alloc.specs.TurnCalls.{CalledInTurn}
 use Rattle.mk_run.specs.Scripts.{Answers}
-use Rattle.mk_trace.proofs.OwnPieces.{AreMine, HasTheRest, all_again, are_mine, before_turn, before_turn_lacks, giving}
-use Rattle.mk_trace.proofs.OwnPieces.{mine_parts, none_of_others, turn_seen}
-use Rattle.mk_trace.proofs.OneCaller.{calls_are_own, none_called}
-
--- Where all events are of the one caller.
-abbrev pub OneSeat : Config → List Seat → Type 0
-OneSeat c elsewhere = HasTheRest c elsewhere (Caller 0 ∷ [])
+use Rattle.mk_trace.proofs.EndsInCalls.{beside_lacks, flagged_new, freed_list, lacks_over, none_behind_free}
+use Rattle.mk_trace.proofs.EndsInLists.{changes, first_at, lacks_by, leaves_tell, leaves_then, tells_behind_none}
+use Rattle.mk_trace.proofs.EndsInLists.{tells_ends, tells_none}
+use Rattle.mk_trace.proofs.FreeCalls.{freeing_is, frees_decide, is_free_call}
+use Rattle.mk_trace.proofs.OwnPieces.{AreMine, OneSeat, all_again, are_mine, before_turn, before_turn_lacks, giving}
+use Rattle.mk_trace.proofs.OwnPieces.{mine_parts, none_of_others, turn_seen, within_is}
+use Rattle.mk_trace.proofs.{FoundByEnds.FreesNoneFrom, FoundByEnds.is_over, FreedWords.held_falls_at}
+use Rattle.mk_trace.proofs.{FreedWords.held_rises_at, HeldCalls.is_new, HeldCalls.others_grant_none}
+use Rattle.mk_trace.proofs.{OneCaller.calls_are_own, OneCaller.none_called, PeakParts.most_then}
 
 pub record Joined (on : Bool) (h : HostState) (o : Op) (told : Answer) (q : PassState) (fs : List Event) : Type 0 where
   pub answers : Answers on (pass_for h (Caller 0)) o told q
@@ -49,11 +59,9 @@ module _ {on : Bool} {h : HostState} {o : Op} {told : Answer} {q : PassState} {f
   -- All that came is what the call made.
   pub only : (xs : List Event) → q.seen ≡ es ++ xs → j.own.more ≡ xs
   only xs seen =
-      let rest : j.own.more ≡ xs ++ j.came.more =
-      append_cancel_left es j.own.more (xs ++ j.came.more)
+      let rest : j.own.more ≡ xs ++ j.came.more = append_cancel_left es j.own.more (xs ++ j.came.more)
       (sym j.own.is ∙ j.came.is ∙ ap (λ (l : List Event). l ++ j.came.more) seen ∙ append_assoc es xs j.came.more) in
-      let none : j.came.more ≡ [] =
-      none_of_others c elsewhere (Caller 0 ∷ []) j.came.more the_rest
+      let none : j.came.more ≡ [] = none_of_others c elsewhere (Caller 0 ∷ []) j.came.more the_rest
       (mine_parts c elsewhere xs j.came.more (subst (AreMine c elsewhere) rest mine)).1
       (subst (λ (p : PassState). AreOfOthers p.seats j.came.more) j.answers.is j.came.of_others) in
       rest ∙ ap (λ (l : List Event). xs ++ l) none ∙ append-nil xs
@@ -104,3 +112,91 @@ module _ {on : Bool} {h : HostState} {o : Op} {told : Answer} {q : PassState} {f
 
     pub exact : CallIsExact on turn.ends.turn (Some x)
     exact = subst (CallIsExact on turn.ends.turn) turn.turn_op turn.ends.exact
+
+  -- What is held over it: no more than before, or than at its end.
+
+  -- After the grant of a New's object nothing is let go.
+  new_last : (d ty : ℕ) → InTurn (Op.New d ty false) → LastIn j.own.more
+  new_last d ty turn =
+      let o : Op = Op.New d ty false in
+      let exactly : NewIsExact turn.ends.turn (object_made c o) = exact o turn in
+      subst LastIn (sym (in_parts o turn)) (last_then (before o turn) (acts o turn ++ last o turn)
+      (before_lacks o turn is_grant (λ y. refl)) (last_before (acts o turn) (last o turn) exactly.keeps refl refl))
+
+  last_by : (x : Op) → (is_under_turn x ≡ true → InTurn (unflagged x))
+      → (is_new x ≡ false → has_step is_grant j.own.more ≡ false) → LastIn j.own.more
+  last_by x0 in_turn none = grind (arith, new_last, none_at)
+
+  pub held_at_end : Calls c es o told fs → HoldsMostAtEnd c es fs
+  held_at_end made =
+      subst (HoldsMostAtEnd c es) (sym j.own.is) (most_then c _ (held_falls_at c) (held_rises_at c) es j.own.more
+      (last_by o j.answers.in_turn (others_grant_none c _ j.own.more o made.answer enabled (decided made))))
+
+  -- What ends find in it: of a New, a Free, and a call beside the turn.
+
+  abbrev more : List Event
+  more = j.own.more
+
+  overs : has_step is_over more ≡ false
+  overs = lacks_over c (left c es) elsewhere more the_rest enabled mine
+
+  module _ (x : Op) (turn : InTurn x) where
+    one_in_call : RunsOneCycle (acts x turn) → RunsOneCycle more
+    one_in_call one =
+        subst RunsOneCycle (sym (in_parts x turn)) (one_behind (before x turn) (acts x turn ++ last x turn)
+        (before_lacks x turn is_begin (λ y. refl)) (one_before (acts x turn) (last x turn) one refl))
+
+    module _ (off : on ≡ false) (a : Decided) (decides : calls_from c (left c es) more ≡ a ∷ [])
+        (exactly : FreeIsExact on turn.ends.turn) where
+      free_tells : EndsTell c es (es ++ more)
+      free_tells = elim (cases_Bool (has_step is_begin (acts x turn))) [
+        | inl has ↦ let d = (exactly.first (exactly.begins.0 (first_at is_begin (acts x turn) has).at)).due in
+            let w : World = left c es in
+            let xs : List Event = before x turn ++ d.before in
+            let ys : List Event = d.behind ++ last x turn in
+            let is : more ≡ (xs ++ d.event ∷ []) ++ ys =
+            cc (in_parts x turn, d.is, freed_list (before x turn) d.before d.behind (last x turn) d.event) in
+            let there : left c (within_turn turn.ends.turn d.before) ≡ left_from c w xs =
+            ap (left c) (within_is turn d.before) ∙ left_in_parts c es xs in
+            let freed : decides_freed c (left_from c w xs).now (flight_of (left_from c w xs).now d.event.seat)
+            d.event.step ≡ true =
+            subst (λ (v : World). decides_freed c v.now (flight_of v.now d.event.seat) d.event.step ≡ true) there
+            d.due.decides in
+            let none = none_behind_free c w xs d.event ys a (sym (ap (calls_from c w) (is ∙ append_assoc xs
+            (d.event ∷ []) ys)) ∙ decides) (frees_decide c (left_from c w xs).now d.event.seat d.event.step freed) in
+            subst (λ (l : List Event). EndsTell c es (es ++ l)) (sym is) (tells_behind_none c es (xs ++ d.event ∷ []) ys
+            (subst (AreEnabledFrom c w) is enabled) (sym (ap (has_step is_over) is) ∙ overs) (lacks_append is_begin xs
+            (d.event ∷ []) (lacks_append is_begin (before x turn) d.before (before_lacks x turn is_begin (λ y. refl))
+            (lacks_by is_of_cycle is_begin (λ y none'. (or_parts (is_begin y) (finishes y) none').0) d.before
+            (exactly.first (exactly.begins.0 (first_at is_begin (acts x turn) has).at)).no_cycle)) (lacks_one is_begin
+            d.event (freeing_is is_begin (λ p v. refl) c (left_from c w xs).now (flight_of (left_from c w xs).now
+            d.event.seat) d.event.step freed))) (subst RunsOneCycle is (one_in_call (exactly.one off)))
+            (subst (λ (v : World). FreesNoneFrom c v ys) (sym (left_in_parts c es (xs ++ d.event ∷ []))) none))
+        | inr none ↦ tells_none c es more enabled overs (ap (has_step is_begin) (in_parts x turn)
+            ∙ lacks_append is_begin (before x turn) (acts x turn ++ last x turn)
+            (before_lacks x turn is_begin (λ y. refl)) (lacks_append is_begin (acts x turn) (last x turn) none refl))
+      ]
+
+  -- Beside the turn no allocation changes.
+  pub beside_leaves : is_under_turn o ≡ false → LeavesAllocations c es fs
+  beside_leaves out =
+      let b = j.answers.beside out in
+      let is = only b.more b.is in
+      subst (LeavesAllocations c es) (sym j.own.is) (leaves_then c es more enabled (ap (has_step changes) is ∙
+      beside_lacks c _ elsewhere b.more the_rest (subst (AreMine c elsewhere) is mine) b.steps))
+
+  told_by : (x : Op) (said : Answer) → on ≡ false → (is_under_turn x ≡ true → InTurn (unflagged x))
+      → (is_under_turn x ≡ false → LeavesAllocations c es fs)
+      → calls_from c (left c es) more ≡ entry_of 0 x (Some said) → EndsTell c es (es ++ more)
+  told_by (Op.New d ty full) said off in_turn beside entry =
+      let turn : InTurn (Op.New d ty false) = in_turn refl in
+      let exactly : NewIsExact turn.ends.turn (object_made c (Op.New d ty false)) = exact (Op.New d ty false) turn in
+      tells_ends c es more enabled overs (one_in_call (Op.New d ty false) turn exactly.one)
+      (ap (list_any is_free_call) entry ∙ ap (λ (b : Bool). b || false) (flagged_new d ty full said))
+  told_by (Op.Free r) said off in_turn beside entry =
+      free_tells (Op.Free r) (in_turn refl) off _ entry (exact (Op.Free r) (in_turn refl))
+  told_by _ said off in_turn beside entry = subst (EndsTell c es) j.own.is (leaves_tell (beside refl))
+
+  pub ends_told : on ≡ false → Calls c es o told fs → EndsTell c es fs
+  ends_told off made =
+      subst (EndsTell c es) (sym j.own.is) (told_by o made.answer off j.answers.in_turn beside_leaves (decided made))

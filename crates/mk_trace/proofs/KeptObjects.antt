@@ -52,9 +52,6 @@ aged_by c found later xs i one = grind arith
 
 -- flags
 
-not_twice : (b : Bool) → not (not b) ≡ b
-not_twice b = grind arith
-
 still_in : (freed was now : Bool) → (was ≡ true → now ≡ true) → (not now && (freed && not was)) ≡ (freed && not now)
 still_in freed was now later = grind arith
 
@@ -157,26 +154,21 @@ module _ (c : Config) (es fs : List Event) (x : Option ℕ)
       all_aged : map aged objects ≡ map aged_at kept.numbers
       all_aged = ap (map aged) kept.are ∙ mapped_twice aged (aged_object c found xs) kept.numbers
 
-      kept_passes : (test : ℕ → Bool) (i : ℕ) → 1 ≤ times i (filter test kept.numbers) → was_kept i ≡ true
-      kept_passes test i some =
-          (and_parts (test i) (was_kept i)
-          (stands_passes (λ (j : ℕ). test j && was_kept j) (filter test kept.numbers)
-          (those_filtered test was_kept kept.numbers kept.those) i some)).1
-
       pub ages_gone : map (λ (y : FreedObject). y.age)
           (filter (λ (y : FreedObject). not (is_freed w y.cell)) (map aged objects))
           ≡ map (age_in_a_word later) (filter (λ (i : ℕ). (placed_at ys i).released) kept.numbers)
       ages_gone =
           let gone : ℕ → Bool = λ i. (placed_at ys i).released in
           let agree = filters_agree (λ (i : ℕ). not (is_freed w (cell_of_allocation c (placed_at xs i)))) gone
-          kept.numbers
-          (λ i some. ap (λ (b : Bool). not b) (tells kept.numbers kept.those i some) ∙ not_twice (gone i)) in
+          kept.numbers (λ i some. ap (λ (b : Bool). not b) (tells kept.numbers kept.those i some) ∙ (grind arith)) in
           ap (λ (l : List FreedObject). map (λ (y : FreedObject). y.age)
           (filter (λ (y : FreedObject). not (is_freed w y.cell)) l)) all_aged ∙ ap (map (λ (y : FreedObject). y.age))
           (filter_mapped (λ (y : FreedObject). not (is_freed w y.cell)) aged_at kept.numbers ∙ ap (map aged_at) agree)
           ∙ mapped_twice (λ (y : FreedObject). y.age) aged_at (filter gone kept.numbers)
           ∙ maps_agree (λ (i : ℕ). (aged_at i).age) (age_in_a_word later) (filter gone kept.numbers)
-          (λ i some. ap (λ (y : FreedObject). y.age) (aged_by c found later xs i (one i (kept_passes gone i some))))
+          (λ i some. ap (λ (y : FreedObject). y.age) (aged_by c found later xs i (one i (
+          (and_parts (gone i) (was_kept i) (stands_passes (λ (j : ℕ). gone j && was_kept j)
+          (filter gone kept.numbers) (those_filtered gone was_kept kept.numbers kept.those) i some)).1))))
 
     pub let_go : (found later : List (List PlacedAllocation))
         → ((i : ℕ) → was_kept i ≡ true → age_of i later ≡ age_of i found + 1)

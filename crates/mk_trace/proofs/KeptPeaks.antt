@@ -29,17 +29,13 @@ sum_mapped words f (x ∷ numbers) =
 
 sum_noted : (words : FreedObject → ℕ) (objects : List FreedObject) (x : Option FreedObject)
     → sum_by words (objects ++ one_or_none x) ≡ sum_by words objects + some_words words x
-sum_noted words objects None = omega (arith, sum_by-append words objects [])
-sum_noted words objects (Some object) = sum_by_push words objects object
+sum_noted words objects x2 = grind (arith, sum_by-append, sum_by_push)
 
 -- counts
 
 same_count : (before count kept : ℕ) → kept ≡ in_a_word before
     → (in_a_word count == kept) ≡ true → before < 18446744073709551615 → count ≡ before + 1 → ⊥
 same_count before count kept is same few more = grind (arith, eqb-true)
-
-other_count : (before count kept : ℕ) → kept ≡ in_a_word before → (in_a_word count == kept) ≡ false → count ≡ before → ⊥
-other_count before count kept is other same = grind (arith, eq-eqb)
 
 -- One measure: that of these words of an object.
 module _ (c : Config) (measure : List PlacedAllocation → ℕ) (words : FreedObject → ℕ) (weight : ℕ → ℕ)
@@ -205,7 +201,7 @@ module _ (c : Config) (es fs : List Event) (o : Op) (before : IsHistory c es) (b
   ]
   by_count false other s = elim tells [
     | inr one ↦ keeps_one one s
-    | inl none ↦ absurd (other_count (ends es) (ends fs) second.ends (notes.ends ∙ keeps.ends) other none.count)
+    | inl none ↦ absurd (grind (arith, eq-eqb))
   ]
 
   pub keeps_on : Keeps c fs third

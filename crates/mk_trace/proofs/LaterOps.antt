@@ -6,8 +6,8 @@ use Rattle.mk_trace.proofs.Vocabulary.{calls_of_caller, drop_more, flagged, is_r
 use Rattle.mk_trace.proofs.Vocabulary.{never_behind, one_if, ops_of, refused_events, take-append-drop, take_all}
 use Rattle.mk_trace.proofs.Vocabulary.{take_more}
 use Rattle.mk_laws.proofs.Vocabulary.{Bool, List, ℕ, and_parts, ap, append-nil, append_assoc, arith, drop, false}
-use Rattle.mk_laws.proofs.Vocabulary.{get_or, if◌then◌else◌, length, list_any, refl, subst, suc, sym, take, true, zero}
-use Rattle.mk_laws.proofs.Vocabulary.{[], ◌++◌, ◌+◌, ◌-◌, ◌<◌, ◌||◌, ◌∙◌, ◌∷◌, ◌≡◌, ◌≤◌}
+use Rattle.mk_laws.proofs.Vocabulary.{get_or, if◌then◌else◌, length, list_any, subst, suc, sym, take, true, zero, []}
+use Rattle.mk_laws.proofs.Vocabulary.{◌++◌, ◌+◌, ◌-◌, ◌<◌, ◌||◌, ◌∙◌, ◌∷◌, ◌≡◌, ◌≤◌}
 use Rattle.mk_core.specs.Counts.{is_full_answer}
 use Rattle.mk_trace.proofs.OneCaller.{begins_alike, calls_first, calls_more, full_as_told, next_may_come}
 use Rattle.mk_trace.specs.{Calls.CallsAll, Calls.MayCome, Calls.PlaysEvent, Playing.ops_played}
@@ -16,15 +16,11 @@ use Rattle.mk_trace.specs.{Calls.CallsAll, Calls.MayCome, Calls.PlaysEvent, Play
 
 -- Full or not
 pub either_way : (P : Bool → Type 0) → P true → P false → (full : Bool) → P full
-either_way P one two true = one
-either_way P one two false = two
+either_way x0 one two x3 = grind arith
 
 -- an event has an operation
 pub some_ops : (full : Bool) (event : TraceEvent) → 1 ≤ length (ops_of full event)
-some_ops true (A slot) = omega arith
-some_ops true _ = omega arith
-some_ops false (A slot) = omega arith
-some_ops false _ = omega arith
+some_ops x0 x1 = grind arith
 
 counted_more : (refused : Bool) (later behind n : ℕ) → behind ≡ later + n
     → (if refused then behind + 1 else behind) ≡ (if refused then later + 1 else later) + n
@@ -100,22 +96,18 @@ module _ (event : TraceEvent) (more : List Answer) where
 
 made_first : (slot : ℕ) (a : Answer)
     → ops_of (is_full_answer a) (A slot) ≡ flagged (Op.New 0 slot false) a ∷ drop 1 (ops_of (is_full_answer a) (A slot))
-made_first slot Answer.Full = refl
-made_first slot a = refl
+made_first slot a = grind arith
 
 linked_first : (slot : ℕ) (a : Answer)
     → ops_of (is_full_answer a) (K slot) ≡ flagged (Op.New 0 slot false) a ∷ drop 1 (ops_of (is_full_answer a) (K slot))
-linked_first slot Answer.Full = refl
-linked_first slot a = refl
+linked_first slot a = grind arith
 
 abbrev BeginsWith : Op → TraceEvent → Bool → Type 0
 BeginsWith o event full = ops_of full event ≡ o ∷ drop 1 (ops_of full event)
 
 first_of : (o : Op) (a : Answer) (event : TraceEvent) → ops_of false event ≡ o ∷ drop 1 (ops_of false event)
     → ops_of (is_full_answer a) event ≡ flagged o a ∷ drop 1 (ops_of (is_full_answer a) event)
-first_of o a (A slot) is = let same : o ≡ Op.New 0 slot false = cc in rw same (made_first slot a)
-first_of o a (K slot) is = let same : o ≡ Op.New 0 slot false = cc in rw same (linked_first slot a)
-first_of o a _ is = grind (arith, either_way)
+first_of o a x2 is = grind (arith, made_first, linked_first, either_way)
 
 -- The operation is noted as it is, whatever its answer.
 abbrev IsPlain : Op → Type 0
@@ -132,13 +124,6 @@ are_plain (x ∷ ops) zero o plain lt at = grind (arith, and_parts, is_plain)
 are_plain (x ∷ ops) (suc i) o plain lt at =
     are_plain ops i o (and_parts (is_plain x) (list_all is_plain ops) plain).1 (omega (arith, lt)) at
 
--- Only the first may be a New.
-later_plain : (full : Bool) (event : TraceEvent) → list_all is_plain (drop 1 (ops_of full event)) ≡ true
-later_plain true (A slot) = refl
-later_plain true _ = refl
-later_plain false (A slot) = refl
-later_plain false _ = refl
-
 module _ (c : Config) (es : List Event) (full : Bool) (event : TraceEvent) (i : ℕ) (o : Op)
     (within : i < length (drop 1 (ops_of full event))) (at : o ≡ get_or (drop 1 (ops_of full event)) i o) where
   abbrev ops : List Op
@@ -151,31 +136,23 @@ module _ (c : Config) (es : List Event) (full : Bool) (event : TraceEvent) (i : 
   here = ap (λ (n : ℕ). get_or ops n o) (omega arith) ∙ sym (get_or-drop 1 ops i o) ∙ sym at
 
   plain : IsPlain o
-  plain = are_plain (drop 1 ops) i o (later_plain full event) within at
-
-  one_more : take (i + 1 + 1) ops ≡ take (i + 1) ops ++ o ∷ []
-  one_more = take_more ops (i + 1) o inside ∙ ap (λ (x : Op). take (i + 1) ops ++ x ∷ []) here
+  plain = are_plain (drop 1 ops) i o (grind arith) within at
 
   pub later_call : (refused : Bool) (fs : List Event) (told : Answer) (gs : List Event)
       → CallsAll c es full (take (i + 1) ops) refused fs → Calls c fs o told gs
       → CallsAll c es full (take (i + 1 + 1) ops) (refused || is_refusal told) gs
   later_call refused fs told gs h g =
       subst (λ (l : List Op). CallsAll c es full l (refused || is_refusal told) gs)
-      (ap (λ (x : Op). take (i + 1) ops ++ x ∷ []) (plain g.answer) ∙ sym one_more)
-      (calls_more c es full (take (i + 1) ops) refused fs h o told gs g
-      (omega (arith, length-take (i + 1) ops, inside)))
+      (ap (λ (x : Op). take (i + 1) ops ++ x ∷ []) (plain g.answer) ∙ sym
+      (take_more ops (i + 1) o inside ∙ ap (λ (x : Op). take (i + 1) ops ++ x ∷ []) here)) (calls_more c es full
+      (take (i + 1) ops) refused fs h o told gs g (omega (arith, length-take (i + 1) ops, inside)))
 
   pub later_may_come : (refused : Bool) (fs : List Event) → CallsAll c es full (take (i + 1) ops) refused fs
       → AreAdmitted c.globals (never_behind c es) (calls_of_caller ops) → MayCome c fs o
   later_may_come refused fs h admitted =
-      next_may_come o (drop (i + 1 + 1) ops) h
-      (subst (λ (l : List Op). AreAdmitted c.globals (never_behind c es) (calls_of_caller l))
-      (sym (take-append-drop (i + 1) ops)
-      ∙ ap (λ (l : List Op). take (i + 1) ops ++ l) (drop_more' ∙ ap (λ (x : Op). x ∷ drop (i + 1 + 1) ops) here))
-      admitted)
-    where
-      drop_more' : drop (i + 1) ops ≡ get_or ops (i + 1) o ∷ drop (i + 1 + 1) ops
-      drop_more' = drop_more ops (i + 1) o inside
+      next_may_come o (drop (i + 1 + 1) ops) h (subst (λ (l : List Op). AreAdmitted c.globals (never_behind c es)
+      (calls_of_caller l)) (sym (take-append-drop (i + 1) ops) ∙ ap (λ (l : List Op). take (i + 1) ops ++ l) (
+      (drop_more ops (i + 1) o inside) ∙ ap (λ (x : Op). x ∷ drop (i + 1 + 1) ops) here)) admitted)
 
 -- all of them
 pub later_all : {c : Config} {es : List Event} {full : Bool} (event : TraceEvent) (i : ℕ) {refused : Bool}
@@ -195,11 +172,7 @@ first_all {c} {es} {full} event o {refused} {fs} is h = grind arith
 pub begun : {c : Config} {es : List Event} (event : TraceEvent) {o : Op} {told : Answer} {fs : List Event}
     → ops_of false event ≡ o ∷ drop 1 (ops_of false event) → Calls c es o told fs
     → CallsAll c es (is_full_answer told) (take (0 + 1) (ops_of (is_full_answer told) event)) (is_refusal told) fs
-begun event {o} {told} is g =
-    let same : is_full_answer told ≡ is_full_answer g.answer = ap is_full_answer g.is_told ∙ full_as_told g.answer in
-    let first : ops_of (is_full_answer told) event ≡ flagged o g.answer ∷ drop 1 (ops_of (is_full_answer told) event) =
-    cc (same, first_of o g.answer event is) in
-    first_all event (flagged o g.answer) first (calls_first g)
+begun event {o} {told} is g = grind (arith, full_as_told, first_of, first_all, calls_first)
 
 -- What the calls of an event come to.
 pub plays_event : {c : Config} {es : List Event} (event : TraceEvent) {refused : Bool} {fs : List Event} {full : Bool}

@@ -7,8 +7,8 @@ use Rattle.mk_trace.proofs.Vocabulary.{config_of, ends, freed_object_of, freed_w
 use Rattle.mk_trace.proofs.Vocabulary.{is_under_turn, large_words, left, most_held, never_behind, never_first}
 use Rattle.mk_trace.proofs.Vocabulary.{number_freed, objects_kept, option_map, peaks_of, quarantined_words}
 use Rattle.mk_trace.proofs.Vocabulary.{reserved_words, storage_words}
-use Rattle.mk_laws.proofs.Vocabulary.{List, Option, ℕ, ap, arith, false, inl, inr, refl, subst, sym, [], ◌+◌, ◌<◌, ◌∙◌}
-use Rattle.mk_laws.proofs.Vocabulary.{◌≡◌, ◌≤◌, ◌⊎◌}
+use Rattle.mk_laws.proofs.Vocabulary.{List, Option, ℕ, ap, arith, false, refl, subst, sym, [], ◌+◌, ◌<◌, ◌∙◌, ◌≡◌, ◌≤◌}
+use Rattle.mk_laws.proofs.Vocabulary.{◌⊎◌}
 use Rattle.mk_core.specs.{Allocations.unreleased_storage, History.left_from}
 use Rattle.mk_trace.proofs.{KeptPeaks.keeps_on, PeakParts.last_below, ReleasedAreFreed.ages_counted}
 use Rattle.mk_trace.specs.Peaks.{HistoryPeaks, found_by_ends, found_by_ends_from, greatest_from}
@@ -70,8 +70,7 @@ keeps_looked {c} looks h = keeps_left looks.leaves (looks.most (quarantined_word
 
 frees_nothing : (c : Config) (words : PlacedAllocation → ℕ) (es : List Event) (o : Op) → is_under_turn o ≡ false
     → freed_words c words es o ≡ 0
-frees_nothing c words es (Op.Free p) beside = cc
-frees_nothing c words es o beside = refl
+frees_nothing c words es o beside = grind arith
 
 most_beside : (c : Config) (measure : List PlacedAllocation → ℕ) (words : PlacedAllocation → ℕ) (es : List Event)
     (o : Op) (fs : List Event) → is_under_turn o ≡ false → IsMostWhereFreed c measure words es o fs
@@ -113,24 +112,13 @@ module _ (c : Config) (es0 es1 es2 es3 es4 : List Event) (o : Op) (first second 
   is_now : x ≡ option_map (freed_object_of c (left c es1).allocations) (number_freed (never_behind c es1) o)
   is_now = cc (is, before.table.allocations, never_looked before)
 
-  settles_now : SettlesFreed (left c es2).now.words.freed (in_a_word (ends es2)) second third
-  settles_now = grind arith
-
   pub keeps_behind : Keeps c es4 third
   keeps_behind =
       keeps_looked more
-      (keeps_looked looks
-      (keeps_on c es1 es2 o at_first at_last (omega (arith, few, before.leaves.count)) told.0 told.1 flags
-      most first second third x is_now (keeps_looked before keeps) notes settles_now))
+      (keeps_looked looks (keeps_on c es1 es2 o at_first at_last (omega (arith, few, before.leaves.count)) told.0 told.1
+      flags most first second third x is_now (keeps_looked before keeps) notes (grind arith)))
 
 -- At most one cycle ends.
 pub ends_over : {c : Config} {es0 es1 es2 es3 es4 : List Event} → HostOnlyLooks c es0 es1 → IsBetweenCycles c es0
     → EndsTell c es1 es2 → HostOnlyLooks c es2 es3 → HostOnlyLooks c es3 es4 → ends es4 ≤ ends es0 + 1
-ends_over before idle tells looks more =
-    let first = before.leaves.count in
-    let third = looks.leaves.count in
-    let last = more.leaves.count in
-    elim ((tells (idle_looked before idle)).1) [
-      | inl none ↦ (let second = none.count in omega (arith, first, second, third, last))
-      | inr one ↦ (let second = one.count in omega (arith, first, second, third, last))
-    ]
+ends_over before idle tells looks more = grind (arith, idle_looked)

@@ -12,22 +12,15 @@ is_no_look (Step.Look x) = false
 is_no_look Step.Give = false
 is_no_look _ = true
 
-pub named_same : (w : Words) (turn : ℕ) (x : Word) → named_word (record w { turn = turn }) x ≡ named_word w x
-named_same w turn Word.Phase = refl
-named_same w turn _ = refl
-
 pub word_left : {w v : World} → LeavesTable w v → (x : Word) → named_word v.now.words x ≡ named_word w.now.words x
-word_left {w} {v} leaves x = ap (λ (y : Words). named_word y x) leaves.words ∙ named_same w.now.words v.now.words.turn x
+word_left {w} {v} leaves x = ap (λ (y : Words). named_word y x) leaves.words ∙ (grind arith)
 
 pub leaves_then : (u v w : World) → LeavesTable u v → LeavesTable v w → LeavesTable u w
 leaves_then u v w one two = grind arith
 
 step_leaves : (c : Config) (w : World) (seat : Seat) (s : Step) → is_no_look s ≡ false
     → LeavesTable w (world_behind c w (record { seat = seat; step = s }))
-step_leaves c w seat (Step.Take o) looks = record { allocations = refl; words = refl }
-step_leaves c w seat (Step.Look x) looks = record { allocations = refl; words = refl }
-step_leaves c w seat Step.Give looks = record { allocations = refl; words = refl }
-step_leaves c w seat _ looks = cc
+step_leaves c w seat x3 looks = grind arith
 
 pub looks_leave : (c : Config) (w : World) (es : List Event) → has_step is_no_look es ≡ false
     → LeavesTable w (left_from c w es)

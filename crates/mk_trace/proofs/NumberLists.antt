@@ -4,7 +4,7 @@ use Rattle.mk_trace.proofs.Vocabulary.{AreThose, PlacedAllocation, and-false, ex
 use Rattle.mk_trace.proofs.Vocabulary.{nat_tests, never_granted, one_if, placed_at, sum_by, sum_by-cons, times}
 use Rattle.mk_laws.proofs.Vocabulary.{Bool, List, ℕ, and_parts, ap, arith, eq-eqb, eqb-true, false, false_from_ne_true}
 use Rattle.mk_laws.proofs.Vocabulary.{get_or-set_other, get_or-set_same, if◌then◌else◌, length, not-true, refl}
-use Rattle.mk_laws.proofs.Vocabulary.{slice_set, suc, sym, true, [], ◌&&◌, ◌++◌, ◌+◌, ◌<◌, ◌==◌, ◌∙◌, ◌∷◌, ◌≡◌, ◌≤◌}
+use Rattle.mk_laws.proofs.Vocabulary.{slice_set, suc, true, [], ◌&&◌, ◌++◌, ◌+◌, ◌<◌, ◌==◌, ◌∷◌, ◌≡◌, ◌≤◌}
 use Rattle.mk_trace.proofs.FreedWords.{part, sum_alike, weighed}
 use Rattle.mk_trace.specs.Numbers.{AreOfQuarantined}
 
@@ -70,9 +70,6 @@ none_quarantined weight (a ∷ xs) none =
 no_one : (b : Bool) → 0 ≡ one_if b → b ≡ false
 no_one b is = grind arith
 
-some_one : (n : ℕ) (b : Bool) → 1 + n ≡ one_if b → (b ≡ true) × (n ≡ 0)
-some_one n b is = grind arith
-
 module _ (weight : ℕ → ℕ) (xs : List PlacedAllocation) (n : ℕ) (numbers : List ℕ)
     (those : AreOfQuarantined xs (n ∷ numbers)) where
   abbrev gone : PlacedAllocation
@@ -82,7 +79,7 @@ module _ (weight : ℕ → ℕ) (xs : List PlacedAllocation) (n : ℕ) (numbers 
   ys = slice_set xs n gone
 
   at_n : (is_quarantined (placed_at xs n) ≡ true) × (times n numbers ≡ 0)
-  at_n = some_one (times n numbers) _ (ap (λ (b : Bool). one_if b + times n numbers) (sym (equal_is n)) ∙ those n)
+  at_n = grind arith
 
   exists : n < length xs
   exists = exists_placed xs n (not-true (placed_at xs n).released (and_parts _ _ at_n.0).1)

@@ -18,8 +18,7 @@ use Rattle.mk_trace.{proofs.OwnPieces.all_again, specs.Calls.CallsAll, specs.Cal
 use Rattle.mk_words.{proofs.Seats.has_all, proofs.Seats.has_right, specs.Seats.has_over}
 
 by_test : (x : Decided) (xs ys : List Decided) (b : Bool) → b ≡ true → ys ≡ xs → (if b then x ∷ ys else ys) ≡ x ∷ xs
-by_test x xs ys true is same = ap (λ (l : List Decided). x ∷ l) same
-by_test x xs ys false is same = absurd cc
+by_test x xs ys x3 is same = grind arith
 
 all_own : (globals : List ℕ) (n : NeverState) (xs : List Decided) → length n.registers ≡ 8
     → AreAdmitted globals n (asked xs) → calls_by 0 xs ≡ xs
@@ -55,15 +54,13 @@ pub never_behind_all : {c : Config} {es : List Event} {full : Bool} {ops : List 
 never_behind_all {c} {es} {fs} h = never_then_calls c es fs h.more h.is ∙ ap (after_calls (never_behind c es)) h.asks
 
 refused_as_told : (a : Answer) → is_refusal (as_told a) ≡ is_refusal a
-refused_as_told (Answer.Word w) = refl
-refused_as_told a = refl
+refused_as_told a = grind arith
 
 or_none : (b : Bool) → (b || false) ≡ b
 or_none b = grind arith
 
 pub full_as_told : (a : Answer) → is_full_answer (as_told a) ≡ is_full_answer a
-full_as_told (Answer.Word w) = refl
-full_as_told a = refl
+full_as_told a = grind arith
 
 -- as many operations as answers
 pub as_many : (xs : List Decided) (ops : List Op) → asked xs ≡ calls_of_caller ops → length ops ≡ length (answered xs)
@@ -83,8 +80,7 @@ calls_first {o} g = grind (arith, full_as_told, or_none, refused_as_told)
 
 pub begins_alike : (answers more : List Answer) → 1 ≤ length answers
     → begins_full (answers ++ more) ≡ begins_full answers
-begins_alike [] more some = absurd (omega arith)
-begins_alike (a ∷ answers) more some = refl
+begins_alike x0 more some = grind arith
 
 -- and one more
 module _ (c : Config) (es : List Event) (full : Bool) (ops : List Op) (refused : Bool) (fs : List Event)
@@ -109,8 +105,7 @@ pub told_home : {w : WordsState} {h : HostState} (g : HostState) → CallerIsHom
 told_home {w} g home is overs = grind arith
 
 pub joined_home : {w : WordsState} {h : HostState} (out g : HostState) (q : PassState) → CallerIsHome w h
-    → out ≡ with_caller_out h 0
-    → g ≡ with_joined out q g.pass.seen → q.seats ≡ Caller 0 ∷ []
+    → out ≡ with_caller_out h 0 → g ≡ with_joined out q g.pass.seen → q.seats ≡ Caller 0 ∷ []
     → has_over g.pass.seen ≡ has_over out.pass.seen → CallerIsHome w g
 joined_home {w} {h} out g q home is joined seats overs = record {
   table = ap (λ (x : HostState). x.pass.table) joined ∙ ap (λ (x : HostState). x.pass.table) is ∙ home.table;
@@ -118,8 +113,7 @@ joined_home {w} {h} out g q home is joined seats overs = record {
   callers = ap (λ (x : HostState). x.callers) joined ∙ ap (λ (x : HostState). x.callers) is ∙ home.callers;
   markers = ap (λ (x : HostState). x.markers) joined ∙ ap (λ (x : HostState). x.markers) is ∙ home.markers;
   joined =
-      subst (λ (x : HostState). Has x.pass.seats (Caller 0)) (sym joined)
-      (has_right out.pass.seats q.seats (Caller 0)
+      subst (λ (x : HostState). Has x.pass.seats (Caller 0)) (sym joined) (has_right out.pass.seats q.seats (Caller 0)
       (subst (λ (l : List Seat). Has l (Caller 0)) (sym seats) (has_first (Caller 0) [])));
   all =
       subst (λ (x : HostState). HasAll w.config x.pass.seats) (sym joined)

@@ -1,11 +1,11 @@
 -- What a pass may have seen since, and what is seen of a call under the turn.
 use Rattle.std.{proofs.lemmas.List.append_cancel_right, proofs.lemmas.List.Folds.list_all-append, specs.List.list_all}
-use Rattle.mk_trace.proofs.Vocabulary.{Answer, Config, Event, Has, HasAll, Op, PassState, Seat, Step, World, event_of}
-use Rattle.mk_trace.proofs.Vocabulary.{has_first, has_step, is_same_seat, lacks_append, lacks_one, seat_exists}
-use Rattle.mk_trace.proofs.Vocabulary.{seen_made, without_seat, world_behind, ⊎_elim}
-use Rattle.mk_laws.proofs.Vocabulary.{Bool, List, Option, Some, and_from, and_parts, ap, append_assoc, cases_Bool}
-use Rattle.mk_laws.proofs.Vocabulary.{enabled_meets, false, is_one_of, not, not-true, or_cases, or_from, refl, subst}
-use Rattle.mk_laws.proofs.Vocabulary.{sym, true, true≢false, [], ◌&&◌, ◌++◌, ◌∙◌, ◌∷◌, ◌≡◌}
+use Rattle.mk_laws.proofs.Vocabulary.{Bool, List, Option, Some, and_from, and_parts, ap, append_assoc, arith}
+use Rattle.mk_laws.proofs.Vocabulary.{cases_Bool, enabled_meets, false, is_one_of, not, not-true, or_cases, or_from}
+use Rattle.mk_laws.proofs.Vocabulary.{refl, subst, sym, true, true≢false, [], ◌&&◌, ◌++◌, ◌∙◌, ◌∷◌, ◌≡◌}
+use Rattle.mk_trace.proofs.Vocabulary.{Answer, Caller, Config, Event, Has, HasAll, Op, PassState, Seat, Step, World}
+use Rattle.mk_trace.proofs.Vocabulary.{event_of, has_first, has_step, is_same_seat, lacks_append, lacks_one}
+use Rattle.mk_trace.proofs.Vocabulary.{seat_exists, seen_made, without_seat, world_behind, ⊎_elim}
 use Rattle.mk_core.specs.{Growing.AreOfOthers, History.AreEnabledFrom}
 use Rattle.mk_alloc.proofs.Parts.{seen_behind, seen_then}
 use Rattle.mk_alloc.specs.{TurnCalls.CalledInTurn, TurnCycles.within_turn}
@@ -41,6 +41,10 @@ mine_parts c elsewhere xs ys h =
 abbrev pub HasTheRest : Config → List Seat → List Seat → Type 0
 HasTheRest c elsewhere seats = HasAll c (elsewhere ++ seats)
 
+-- Where all events are of the one caller.
+abbrev pub OneSeat : Config → List Seat → Type 0
+OneSeat c elsewhere = HasTheRest c elsewhere (Caller 0 ∷ [])
+
 pub has_mine : (c : Config) (elsewhere seats : List Seat) (e : Event) → HasTheRest c elsewhere seats
     → is_mine c elsewhere e ≡ true → Has seats e.seat
 has_mine c elsewhere seats e all mine =
@@ -57,11 +61,6 @@ none_of_others c elsewhere seats (e ∷ es) all mine others =
     absurd (not_both seats e.seat others.0 (has_mine c elsewhere seats e all
     (and_parts (is_mine c elsewhere e) (list_all (is_mine c elsewhere) es) mine).0))
 
-take_alone : (kind : Step → Bool) → ((x : Option Op) → kind (Step.Take x) ≡ false) → (s : Step) → is_take s ≡ true
-    → kind s ≡ false
-take_alone kind none (Step.Take x) h = none x
-take_alone kind none _ h = cc
-
 -- and who waits for the turn makes no step but takes.
 pub waiting_lacks : (kind : Step → Bool) (c : Config) (elsewhere : List Seat) (p : PassState) (es : List Event)
     → ((x : Option Op) → kind (Step.Take x) ≡ false) → HasTheRest c elsewhere p.seats → AreMine c elsewhere es
@@ -72,9 +71,8 @@ waiting_lacks kind c elsewhere p (e ∷ es) apart all mine waits =
     let parts = and_parts (waits_for p e) (list_all (waits_for p) es) waits in
     or_from (kind _) (has_step kind es) (⊎_elim (λ (out : not (is_one_of p.seats e.seat) ≡ true). absurd (true≢false
     (sym (has_mine c elsewhere p.seats e all mines.0) ∙ not-true (is_one_of p.seats e.seat) out))) (λ (take : (is_take
-    e.step && is_same_seat e.seat p.seat) ≡ true). take_alone kind apart e.step (and_parts (is_take e.step)
-    (is_same_seat e.seat p.seat) take).0) (or_cases (not _) _ parts.0)) (waiting_lacks kind c elsewhere p es apart all
-    mines.1 parts.1)
+    e.step && is_same_seat e.seat p.seat) ≡ true).
+    grind arith) (or_cases (not _) _ parts.0)) (waiting_lacks kind c elsewhere p es apart all mines.1 parts.1)
 
 pub others_lack : (kind : Step → Bool) (c : Config) (elsewhere seats : List Seat) (es : List Event)
     → HasTheRest c elsewhere seats → AreMine c elsewhere es → AreOfOthers seats es → has_step kind es ≡ false
@@ -135,11 +133,6 @@ module _ {on : Bool} {p : PassState} {o : Op} {a : Answer} {q : PassState} (h : 
       (sym done_seen ∙ h.ends.turn.is ∙ sym (append_assoc h.ends.turn.before (take ∷ []) h.ends.turn.behind)) in
       cc (append_assoc h.ends.turn.before (take ∷ []) part, before, append_assoc p.seen before_turn part)
 
-  taking_others : AreOfOthers p.seats h.takes.takes.makes.others
-  taking_others =
-      subst (λ (x : PassState). AreOfOthers x.seats h.takes.takes.makes.others) h.takes.waits.is
-      h.takes.takes.makes.of_others
-
   -- Before the turn there are only takes.
   pub before_turn_lacks : (kind : Step → Bool) → ((x : Option Op) → kind (Step.Take x) ≡ false)
       → (elsewhere : List Seat) → HasTheRest p.table.config elsewhere p.seats
@@ -148,8 +141,8 @@ module _ {on : Bool} {p : PassState} {o : Op} {a : Answer} {q : PassState} (h : 
       let parts = mine_parts p.table.config elsewhere waits taking mine in
       let taken = mine_parts p.table.config elsewhere h.takes.takes.makes.others
       (event_of h.takes.waited (Step.Take (Some o)) ∷ []) parts.1 in
-      lacks_append kind waits taking
-      (waiting_lacks kind p.table.config elsewhere p waits apart all parts.0 h.takes.waits.only)
-      (lacks_append kind h.takes.takes.makes.others (event_of h.takes.waited (Step.Take (Some o)) ∷ [])
-      (others_lack kind p.table.config elsewhere p.seats h.takes.takes.makes.others all taken.0 taking_others)
-      (lacks_one kind (event_of h.takes.waited (Step.Take (Some o))) (apart (Some o))))
+      lacks_append kind waits taking (waiting_lacks kind p.table.config elsewhere p waits apart all parts.0
+      h.takes.waits.only) (lacks_append kind h.takes.takes.makes.others (event_of h.takes.waited (Step.Take (Some o)) ∷
+      []) (others_lack kind p.table.config elsewhere p.seats h.takes.takes.makes.others all taken.0
+      (subst (λ (x : PassState). AreOfOthers x.seats h.takes.takes.makes.others) h.takes.waits.is
+      h.takes.takes.makes.of_others)) (lacks_one kind (event_of h.takes.waited (Step.Take (Some o))) (apart (Some o))))

@@ -2,7 +2,7 @@
 use Rattle.mk_trace.proofs.Vocabulary.{Config, Event, IsHistory, PlacedAllocation, held_by_allocations, left, peaks_of}
 use Rattle.mk_trace.proofs.Vocabulary.{quarantined_words, reserved_words}
 use Rattle.mk_laws.proofs.Vocabulary.{Bool, List, ℕ, arith, earlier_part_is_history, false, if◌then◌else◌, not, refl}
-use Rattle.mk_laws.proofs.Vocabulary.{subst, true, ◌&&◌, ◌++◌, ◌+◌, ◌≡◌, ◌≤◌}
+use Rattle.mk_laws.proofs.Vocabulary.{subst, ◌&&◌, ◌++◌, ◌+◌, ◌≡◌, ◌≤◌}
 use Rattle.mk_quarantine.proofs.CountedWords.{filtered_in_parts}
 use Rattle.mk_quarantine.proofs.{LittleHeld.held_is_little_where_free, Quarters.quarantined_is_fresh_or_kept}
 use Rattle.mk_quarantine.specs.{Bounds.QuarantineIsBounded, Bounds.held_after, KeptAllocations.quarantined_mapped}
@@ -14,11 +14,7 @@ use Rattle.mk_trace.specs.PeakBounds.{BoundsMeetPeaks, FreshIsQuarterOfPeak, Qua
 reserved_or_mapped : (n : ℕ) (released freed large : Bool) → (if freed && not released then n else 0)
     ≤ (if (freed && not released) && large then n else 0)
     + (if (not released && not (freed && large)) && freed then n else 0)
-reserved_or_mapped n true true large = omega arith
-reserved_or_mapped n true false large = omega arith
-reserved_or_mapped n false false large = omega arith
-reserved_or_mapped n false true true = omega arith
-reserved_or_mapped n false true false = omega arith
+reserved_or_mapped n x1 x2 large = grind arith
 
 quarantined_in_parts : (c : Config) (xs : List PlacedAllocation)
     → quarantined_words c xs ≤ reserved_words c xs + quarantined_mapped c xs

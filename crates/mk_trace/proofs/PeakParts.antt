@@ -1,5 +1,5 @@
 -- The greatest measure over a history: over its beginnings, and in two parts.
-use Rattle.mk_trace.proofs.Vocabulary.{Config, Event, PlacedAllocation, Step, World, first_world, greatest, has_step}
+use Rattle.mk_trace.proofs.Vocabulary.{Config, Event, PlacedAllocation, World, first_world, greatest, has_step}
 use Rattle.mk_trace.proofs.Vocabulary.{is_grant, left, lets_go, max, nat_tests, world_behind, ⊎_elim}
 use Rattle.mk_laws.proofs.Vocabulary.{Bool, List, ℕ, ap, arith, cases_Bool, false, left_in_parts, nat_le, or_parts}
 use Rattle.mk_laws.proofs.Vocabulary.{refl, subst, sym, true, [], ◌++◌, ◌∙◌, ◌∷◌, ◌≡◌, ◌≤◌}
@@ -69,32 +69,13 @@ module _ (c : Config) (measure : List PlacedAllocation → ℕ) where
       let r = reached (first_world c) es in
       record {
         reached = record { before = r.before; behind = r.behind; is = r.is; same = r.same };
-        above = λ before behind is.
-            subst (λ (all : List Event). measure
+        above = λ before behind is. subst (λ (all : List Event). measure
             (left_from c (first_world c) before).allocations ≤ greatest c measure all) (sym is)
             (above (first_world c) before behind);
       }
 
 -- The greatest measure over a history in two parts, where a grant alone makes the measure more, and what lets storage
 -- go alone makes it less.
-
-grant_keeps : (s : Step) → is_grant s ≡ true → lets_go s ≡ false
-grant_keeps Step.Grant h = refl
-grant_keeps _ h = cc
-
--- After each grant of a longer list nothing is let go.
-last_later : (e : Event) (es : List Event) → LastIn (e ∷ es) → LastIn es
-last_later e es last g =
-    last (record {
-      before = e ∷ g.before;
-      event = g.event;
-      behind = g.behind;
-      is = ap (λ (l : List Event). e ∷ l) g.is;
-      of_kind = g.of_kind;
-    })
-
-last_first : (e : Event) (es : List Event) → LastIn (e ∷ es) → is_grant e.step ≡ true → has_step lets_go es ≡ false
-last_first e es last is = last (record { before = []; event = e; behind = es; is = refl; of_kind = is })
 
 module _ (c : Config) (measure : List PlacedAllocation → ℕ) where
   -- what a world has, what it has after more events, and what it has at most on the way
@@ -136,10 +117,9 @@ module _ (c : Config) (measure : List PlacedAllocation → ℕ) where
         → LastIn (e ∷ es) → most w (e ∷ es) ≡ max (has w) (has (left_from c w (e ∷ es)))
     unfolding greatest_from left_from
     by_first w e es rest last =
-        ⊎_elim
-        (λ (is : is_grant e.step ≡ true).
-        (let one = rises_at w e (grant_keeps e.step is) in
-        let later = rises (world_behind c w e) es (last_first e es last is) in
+        ⊎_elim (λ (is : is_grant e.step ≡ true). (let one = rises_at w e (grind arith) in
+        let later = rises (world_behind c w e) es (
+        last (record { before = []; event = e; behind = es; is = refl; of_kind = is })) in
         let below = first_below c measure (world_behind c w e) es in
         omega arith)) (λ (none : is_grant e.step ≡ false). (let one = falls_at w e none in omega arith))
         (cases_Bool (is_grant e.step))
@@ -148,7 +128,13 @@ module _ (c : Config) (measure : List PlacedAllocation → ℕ) where
     at_ends : (w : World) (es : List Event) → LastIn es → most w es ≡ max (has w) (has (left_from c w es))
     unfolding greatest_from left_from
     at_ends w [] last = omega arith
-    at_ends w (e ∷ es) last = by_first w e es (at_ends (world_behind c w e) es (last_later e es last)) last
+    at_ends w (e ∷ es) last = by_first w e es (at_ends (world_behind c w e) es (λ g. last (record {
+      before = e ∷ g.before;
+      event = g.event;
+      behind = g.behind;
+      is = ap (λ (l : List Event). e ∷ l) g.is;
+      of_kind = g.of_kind;
+    }))) last
 
     -- With more events, of which grants are last, the most was before, or is at the end.
     pub most_then : (es more : List Event) → LastIn more

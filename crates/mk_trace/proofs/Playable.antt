@@ -3,23 +3,21 @@ use Rattle.std.proofs.lemmas.List.{get_or-map}
 use Rattle.std.proofs.lemmas.List.Elements.{All-append, All-cons, All-map, All-nil}
 use Rattle.std.proofs.{lemmas.List.FromFn.length-range_with_len, lemmas.List.Quantifiers.position-Some}
 use Rattle.std.specs.Str.{bytes_eq}
-use Rattle.mk_trace.proofs.Vocabulary.{A, All, C, Contents, F, HeapPages, IsBetween, IsEventOf, IsOfSomeTraceText}
-use Rattle.mk_trace.proofs.Vocabulary.{IsPlayable, IsWithinLimits, K, LinesSoFar, Ok, TraceEvent, Which, codes}
-use Rattle.mk_trace.proofs.Vocabulary.{config_of, contents_of, events_from, header_line_of, length-append, lines_of}
-use Rattle.mk_trace.proofs.Vocabulary.{nat_tests, nothing_written, read_behind, slot_number, text_fault_at}
-use Rattle.mk_trace.proofs.Vocabulary.{trace_of_lines, type_fault_at, typed_event, types_from, with_event}
-use Rattle.mk_trace.proofs.Vocabulary.{with_trace_line, words_of_line, written_from}
+use Rattle.mk_trace.proofs.Vocabulary.{All, Contents, HeapPages, IsBetween, IsEventOf, IsOfSomeTraceText, IsPlayable}
+use Rattle.mk_trace.proofs.Vocabulary.{LinesSoFar, Ok, TraceEvent, Which, codes, contents_of, events_from}
+use Rattle.mk_trace.proofs.Vocabulary.{header_line_of, length-append, lines_of, nat_tests, nothing_written, read_behind}
+use Rattle.mk_trace.proofs.Vocabulary.{slot_number, text_fault_at, trace_of_lines, type_fault_at, typed_event}
+use Rattle.mk_trace.proofs.Vocabulary.{types_from, with_event, with_trace_line, words_of_line, written_from}
 use Rattle.mk_laws.proofs.Vocabulary.{Bool, List, None, Option, Some, ℕ, arith, false, get_or, if◌then◌else◌, is_some}
 use Rattle.mk_laws.proofs.Vocabulary.{length, length-map, nat_le, refl, subst, true, [], ◌++◌, ◌+◌, ◌<◌, ◌==◌, ◌∷◌, ◌≡◌}
 use Rattle.mk_laws.proofs.Vocabulary.{◌≤◌}
-use Rattle.mk_check.proofs.GrammarLemmas.{at_most-None, option_or-None}
-use Rattle.mk_script.specs.{Lines.at_most, Lines.heap_limit, Lines.within, Operands.name, Operands.number}
-use Rattle.mk_trace.proofs.ReadLines.{along_keeps, bound, gone_on, passed_else, passed_then, then_next, unless_none}
-use Rattle.mk_trace.proofs.ReadLines.{within_none}
+use Rattle.mk_check.proofs.GrammarLemmas.{at_most-None, passed_then, within-None}
+use Rattle.mk_check.proofs.FaultLemmas.{or-None}
+use Rattle.mk_script.specs.{Lines.at_most, Lines.within, Operands.name, Operands.number}
+use Rattle.mk_trace.proofs.ReadLines.{along_keeps, bound, gone_on, passed_else, then_next, unless_none}
 use Rattle.mk_trace.proofs.SlotTypes.{length-types_from, range_below, types_among}
-use Rattle.mk_trace.specs.Lines.{checked_slot, event_line, heap_pages, slot_from, slot_limit, slot_line, trace_line_of}
+use Rattle.mk_trace.specs.Lines.{checked_slot, event_line, heap_pages, slot_from, slot_limit, slot_line}
 use Rattle.mk_trace.specs.Typing.{event_on, on_slot, typed_write, words_at}
-use Rattle.mk_trace.specs.declared.lines.Action.TheVariants.{Clear, Free, Link, New, Write}
 use Rattle.mk_trace.specs.{Traces.contents_from, Traces.words_of_slots, declared.lines.Action.Action}
 use Rattle.mk_trace.specs.{declared.lines.EventLine.EventLine, declared.lines.Line.Line, declared.lines.Slot.Slot}
 
@@ -37,22 +35,14 @@ one_more : (before : List Slot) (slot found : Slot) → checked_slot before slot
 one_more before slot found h are =
     let fresh = passed_else (is_some (slot_number before slot.name)) _ _ found h in
     let is = unless_none (slot_limit (length before + 1) slot.words) slot found fresh.1 in
-    let limits = option_or-None (at_most (length before + 1) 64 Which.Types)
-    (within 1 slot.words 4096 Which.Words) is.0 in
+    let limits = or-None (at_most (length before + 1) 64 Which.Types) (within 1 slot.words 4096 Which.Words) is.0 in
     let count = at_most-None (length before + 1) 64 Which.Types limits.0 in
-    let size = within_none 1 slot.words 4096 Which.Words limits.1 in
+    let size = within-None 1 slot.words 4096 Which.Words limits.1 in
     record {
       few = omega (arith, count, length-append before (found ∷ []));
       sizes = All-append SlotIsWithin before (found ∷ []) are.sizes
           (All-cons SlotIsWithin found [] (subst SlotIsWithin is.1 size) (All-nil SlotIsWithin));
     }
-
-slot_more : (before : List Slot) (word words : List ℕ) (found : Slot) → slot_from before word words ≡ Ok found
-    → AreWithin before → AreWithin (before ++ found ∷ [])
-slot_more before word words found h are =
-    let named = bound (name word) _ found h in
-    let counted = bound (number words) _ found named.behind in
-    one_more before (record { name = named.value; words = counted.value }) found counted.behind are
 
 slot_line_more : (before : LinesSoFar) (operands : List (List ℕ)) (given : Line) → slot_line before operands ≡ Ok given
     → AreWithin before.slots → AreWithin (with_trace_line before given).slots
@@ -61,39 +51,23 @@ slot_line_more before (word ∷ words ∷ []) given h are =
     let found = bound (slot_from before.slots word words) _ given placed.1 in
     let is : Line.Slot found.value ≡ given = cc in
     subst (λ (x : Line). AreWithin (with_trace_line before x).slots) is
-    (slot_more before.slots word words found.value found.is are)
+    (let named = bound (name word) _ found.value found.is in
+    let counted = bound (number words) _ found.value named.behind in
+    one_more before.slots (record { name = named.value; words = counted.value }) found.value counted.behind are)
 slot_line_more before _ given h are = absurd cc
-
-event_line_more : (before : LinesSoFar) (word : List ℕ) (operands : List (List ℕ)) (given : Line)
-    → event_line before word operands ≡ Ok given → AreWithin before.slots
-    → AreWithin (with_trace_line before given).slots
-event_line_more before word operands given h are = grind (arith, passed_else, bound)
 
 by_word : (is_slot : Bool) (before : LinesSoFar) (word : List ℕ) (operands : List (List ℕ)) (given : Line)
     → (if is_slot then slot_line before operands else event_line before word operands) ≡ Ok given
     → AreWithin before.slots → AreWithin (with_trace_line before given).slots
 by_word true before word operands given h are = slot_line_more before operands given h are
-by_word false before word operands given h are = event_line_more before word operands given h are
-
-pub line_more : (before : LinesSoFar) (words : List (List ℕ)) (given : Line) → trace_line_of before words ≡ Ok given
-    → AreWithin before.slots → AreWithin (with_trace_line before given).slots
-line_more before [] given h are = absurd cc
-line_more before (word ∷ operands) given h are = by_word (bytes_eq word (codes "slot")) before word operands given h are
+by_word false before word operands given h are = grind (arith, passed_else, bound)
 
 pub record HeapIsWithin (heap : HeapPages) : Type 0 where
   pub pages : IsBetween 1 4096 heap.pages
   pub resident : IsBetween 1 heap.pages heap.resident
 
 heap_within : (pages resident : List ℕ) (heap : HeapPages) → heap_pages pages resident ≡ Ok heap → HeapIsWithin heap
-heap_within pages resident heap h =
-    let p = bound (number pages) _ heap h in
-    let r = bound (number resident) _ heap p.behind in
-    let is = unless_none (heap_limit p.value r.value) (record { pages = p.value; resident = r.value }) heap r.behind in
-    let limits = option_or-None (within 1 p.value 4096 Which.Pages) (within 1 r.value p.value Which.Resident) is.0 in
-    subst HeapIsWithin is.1 (record {
-      pages = within_none 1 p.value 4096 Which.Pages limits.0;
-      resident = within_none 1 r.value p.value Which.Resident limits.1;
-    })
+heap_within pages resident heap h = grind (arith, bound, unless_none, or-None, within-None)
 
 pub header_within : (words : List (List ℕ)) (heap : HeapPages) → header_line_of words ≡ Ok heap → HeapIsWithin heap
 header_within (word ∷ pages ∷ resident ∷ []) heap h =
@@ -108,12 +82,7 @@ written slots slot words index value event inside words_are h = grind (arith, pa
 
 on : (slots : List ℕ) (slot words : ℕ) (action : Action) (event : TraceEvent) → slot < length slots
     → get_or slots slot 0 ≡ words → event_on slot words action ≡ Ok event → IsEventOf slots event
-on slots slot words New event inside words_are h = let is : A slot ≡ event = cc in subst (IsEventOf slots) is inside
-on slots slot words Link event inside words_are h = let is : K slot ≡ event = cc in subst (IsEventOf slots) is inside
-on slots slot words Free event inside words_are h = let is : F slot ≡ event = cc in subst (IsEventOf slots) is inside
-on slots slot words Clear event inside words_are h = let is : C slot ≡ event = cc in subst (IsEventOf slots) is inside
-on slots slot words
-    (Write index value) event inside words_are h = written slots slot words index value event inside words_are h
+on slots slot words x3 event inside words_are h = grind (arith, written)
 
 numbered : (slots : List Slot) (name : List ℕ) (number : Option ℕ) (action : Action) (event : TraceEvent)
     → slot_number slots name ≡ number → on_slot slots number action ≡ Ok event → IsEventOf (words_of_slots slots) event
@@ -135,21 +104,6 @@ event_more slots before line event h are =
 
 -- A trace of some text can be played.
 
-heap_limits : (trace : Contents) → HeapIsWithin (record { pages = trace.pages; resident = trace.resident })
-    → length trace.slots ≤ 64 → All (IsBetween 1 4096) trace.slots → IsWithinLimits (config_of trace)
-heap_limits trace heap few sizes =
-    let count = length-types_from 0 trace.slots in
-    record {
-      pages = heap.pages;
-      resident = heap.resident;
-      callers = (omega arith, omega arith);
-      markers = omega arith;
-      type_count = omega (arith, count, few);
-      global_count = omega (arith, few, length-range_with_len 0 (length trace.slots));
-      types = types_among (types_from 0 trace.slots) [] 0 trace.slots refl refl sizes;
-      globals = range_below 0 (length trace.slots) (length (types_from 0 trace.slots)) (omega (arith, count));
-    }
-
 read : (heap : HeapPages) (written : LinesSoFar) (trace : Contents) → HeapIsWithin heap → AreWithin written.slots
     → contents_of heap written ≡ Ok trace → IsPlayable trace
 read heap written trace pages slots h =
@@ -170,7 +124,17 @@ read heap written trace pages slots h =
       slot_count = (omega (arith, count, one), few);
       slots = sizes;
       events = are;
-      heap = heap_limits made pages few sizes;
+      heap = let count = length-types_from 0 made.slots in
+          record {
+            pages = pages.pages;
+            resident = pages.resident;
+            callers = (omega arith, omega arith);
+            markers = omega arith;
+            type_count = omega (arith, count, few);
+            global_count = omega (arith, few, length-range_with_len 0 (length made.slots));
+            types = types_among (types_from 0 made.slots) [] 0 made.slots refl refl sizes;
+            globals = range_below 0 (length made.slots) (length (types_from 0 made.slots)) (omega (arith, count));
+          };
     })
 
 of_lines : (lines : List (List ℕ)) (trace : Contents) → trace_of_lines lines ≡ Ok trace → IsPlayable trace
@@ -179,7 +143,7 @@ of_lines (first ∷ lines) trace h =
     let header = gone_on (text_fault_at 1) (header_line_of (words_of_line first)) _ trace h in
     let written = then_next (written_from 2 lines nothing_written) _ trace header.behind in
     let slots = along_keeps text_fault_at read_behind with_trace_line (λ (w : LinesSoFar). AreWithin w.slots)
-    (λ before line given holds is. line_more before (words_of_line line) given is holds) 2 lines nothing_written
+    (λ before line given holds is. grind (arith, by_word)) 2 lines nothing_written
     written.value (record { few = omega arith; sizes = All-nil SlotIsWithin }) written.is in
     read header.value written.value trace (header_within
     (words_of_line first) header.value header.is) slots written.behind

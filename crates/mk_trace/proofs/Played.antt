@@ -1,11 +1,11 @@
 -- What was played so far, with one event more, and at the end.
 use Rattle.mk_trace.proofs.Vocabulary.{AllTurnsAreExact, Answer, Caller, CallerState, Config, Contents, Decided, Event}
 use Rattle.mk_trace.proofs.Vocabulary.{Grows, HostState, IsEventOf, IsHistory, IsPlayable, NeverState, Null, PassState}
-use Rattle.mk_trace.proofs.Vocabulary.{TraceEvent, W, WordsState, after_calls, answered, asked, begins_full, calls}
+use Rattle.mk_trace.proofs.Vocabulary.{TraceEvent, WordsState, after_calls, answered, asked, begins_full, calls}
 use Rattle.mk_trace.proofs.Vocabulary.{calls_of_caller, config_of, first_host, is_refusal, never_behind, never_first}
 use Rattle.mk_trace.proofs.Vocabulary.{one_if, ops_of, pass_for, refused_events, register_at, take_all, take_more}
 use Rattle.mk_laws.proofs.Vocabulary.{Bool, List, ℕ, ap, arith, false, get_or, if◌then◌else◌, length, list_any}
-use Rattle.mk_laws.proofs.Vocabulary.{map-append, refl, subst, sym, take, true, [], ◌++◌, ◌+◌, ◌<◌, ◌∙◌, ◌∷◌, ◌≡◌, ◌≤◌}
+use Rattle.mk_laws.proofs.Vocabulary.{map-append, refl, subst, sym, take, [], ◌++◌, ◌+◌, ◌<◌, ◌∙◌, ◌∷◌, ◌≡◌, ◌≤◌}
 use Rattle.mk_core.specs.History.{calls_from}
 use Rattle.mk_laws.proofs.Promises.{histories_keep_all_promises}
 use Rattle.mk_caller.specs.States.{at_home}
@@ -45,9 +45,6 @@ module _ (trace : Contents) (events : List TraceEvent) (refused : ℕ) (es : Lis
     ops : asked (calls c fs) ≡ calls_of_caller (ops_played (events ++ event ∷ []) (answered (calls c fs)))
     ops = grind (arith, map-append, answers, more, ops-played_more, count, answered_more)
 
-    never_now : never_behind c fs ≡ after_calls (never_behind c es) (calls_of_caller (ops_of (begins_full more) event))
-    never_now = never_then_calls c es fs p.more p.is ∙ ap (after_calls (never_behind c es)) p.asks
-
     pub played_more : EventsAreAdmitted trace → IsHistory c es → IsEventOf trace.slots event
         → HasPlayed trace (events ++ event ∷ []) (refused + one_if is_refused) fs
     played_more admitted history of_slots = record {
@@ -58,7 +55,8 @@ module _ (trace : Contents) (events : List TraceEvent) (refused : ℕ) (es : Lis
           ∙ sym (refused_more event more events answers count
           (sym (as_many p.more (ops_of (begins_full more) event) p.asks)))
           ∙ ap (refused_events (events ++ event ∷ [])) (sym answered_more);
-      clear = λ r. subst (λ (n : NeverState). register_at n 0 r ≡ Null) (sym never_now)
+      clear = λ r. subst (λ (n : NeverState). register_at n 0 r ≡ Null) (sym
+          (never_then_calls c es fs p.more p.is ∙ ap (after_calls (never_behind c es)) p.asks))
           ((admitted es history h.clear event of_slots (begins_full more)).1 r);
     }
 
@@ -85,12 +83,10 @@ pub may_be_played : {trace : Contents} {c : Config} {es : List Event} (fs : List
     → c ≡ config_of trace
     → IsPlayable trace → IsHistory c es → AreNull (never_behind c es) → IsEventOf trace.slots event → SameCalls c es fs
     → MayBePlayed c fs event
-may_be_played {trace} {c} {es} fs event config playable history null of_slots same full =
-    grind (arith, events_are_admitted)
+may_be_played fs event config playable history null of_slots same full = grind (arith, events_are_admitted)
 
 pub slot_within : (slots : List ℕ) (event : TraceEvent) → IsEventOf slots event → slot_of event < length slots
-slot_within slots (W slot index value) h = h.0
-slot_within slots _ h = h
+slot_within slots x1 h = grind arith
 
 -- A slot is a global.
 pub slot_is_global : (trace : Contents) (event : TraceEvent) → IsPlayable trace → IsEventOf trace.slots event
@@ -135,12 +131,10 @@ next_played {trace} events i {refused} count {es} {fs} {event} {is_refused} conf
     of_trace of_slots))
 
 pub one_counted : (b : Bool) (n m : ℕ) → m ≡ (if b then n + 1 else n) → m ≡ n + one_if b
-one_counted true n m is = is
-one_counted false n m is = omega (arith, is)
+one_counted x0 n m is = grind arith
 
 pub still_few : (b : Bool) (n m i : ℕ) → m ≡ (if b then n + 1 else n) → n ≤ i → m ≤ i + 1
-still_few true n m i is few = omega arith
-still_few false n m i is few = omega arith
+still_few x0 n m i is few = grind arith
 
 -- The registers are null between events.
 pub null_between : {trace : Contents} (c : Config) {events : List TraceEvent} {refused : ℕ} {es : List Event}

@@ -1,12 +1,12 @@
 -- Lines, read and printed one after the other.
 use Rattle.std.{proofs.Common.Bor, proofs.Common.Err, proofs.Common.Result, specs.Result.IfErr, specs.Result.OnOk}
-use Rattle.mk_trace.proofs.Vocabulary.{Contents, HeapPages, IsBetween, LinesSoFar, Ok, TraceStop, Which, at_drop_more}
-use Rattle.mk_trace.proofs.Vocabulary.{contents_of, header_line_of, length-drop, lines_of, nat_tests, nothing_written}
-use Rattle.mk_trace.proofs.Vocabulary.{take_all, texts_of, trace_of_lines, words_of_line, written_from}
-use Rattle.mk_laws.proofs.Vocabulary.{Bool, List, None, Option, Some, ℕ, ap, append-nil, append_assoc, arith, cond-true}
-use Rattle.mk_laws.proofs.Vocabulary.{drop, false, get_or, if◌then◌else◌, le-leb, length, refl, subst, sym, take, true}
-use Rattle.mk_laws.proofs.Vocabulary.{[], ◌&&◌, ◌++◌, ◌+◌, ◌-◌, ◌<◌, ◌∙◌, ◌∷◌, ◌≡◌, ◌≢◌, ◌≤◌}
-use Rattle.mk_script.specs.{Lines.within, Operands.◌>>=◌, declared.faults.LineFault.LineFault}
+use Rattle.mk_trace.proofs.Vocabulary.{Contents, HeapPages, LinesSoFar, Ok, TraceStop, at_drop_more, contents_of}
+use Rattle.mk_trace.proofs.Vocabulary.{header_line_of, length-drop, lines_of, nothing_written, take_all, texts_of}
+use Rattle.mk_trace.proofs.Vocabulary.{trace_of_lines, words_of_line, written_from}
+use Rattle.mk_laws.proofs.Vocabulary.{Bool, List, None, Option, ℕ, ap, append-nil, append_assoc, arith, cond-true, drop}
+use Rattle.mk_laws.proofs.Vocabulary.{false, get_or, if◌then◌else◌, le-leb, length, refl, subst, sym, take, [], ◌++◌}
+use Rattle.mk_laws.proofs.Vocabulary.{◌+◌, ◌-◌, ◌<◌, ◌∙◌, ◌∷◌, ◌≡◌, ◌≢◌, ◌≤◌}
+use Rattle.mk_script.specs.{Operands.◌>>=◌, declared.faults.LineFault.LineFault}
 use Rattle.mk_script.specs.{declared.faults.LineFault.TheVariants.Text, declared.faults.TextKind.TheVariants.Word}
 use Rattle.mk_trace.specs.{Grammar.along, Grammar.go_on, Lines.event_line_of, Lines.ok_unless, Lines.slot_line}
 use Rattle.mk_trace.specs.{Traces.and_then, Traces.trace_of, declared.faults.TraceStop.TheVariants.NoMemory}
@@ -21,43 +21,25 @@ pub record Parts {X Fault : Type 0} (first : Result X Fault) (next : X → Type 
 
 pub bound : {X Y : Type 0} (first : Result X LineFault) (next : X → Result Y LineFault) (y : Y)
     → (first >>= next) ≡ Ok y → Parts first (λ x. next x ≡ Ok y)
-bound (Ok x) next y h = record { value = x; is = refl; behind = h }
-bound (Err fault) next y h = absurd cc
+bound x0 next y h = grind arith
 
 pub gone_on : {X Y Fault : Type 0} (told : Fault → TraceStop) (first : Result X Fault)
     (next : X → Result Y TraceStop) (y : Y) → go_on told first next ≡ Ok y → Parts first (λ x. next x ≡ Ok y)
-gone_on told (Ok x) next y h = record { value = x; is = refl; behind = h }
-gone_on told (Err fault) next y h = absurd cc
+gone_on told x1 next y h = grind arith
 
 pub then_next : {X Y : Type 0} (first : Result X TraceStop) (next : X → Result Y TraceStop) (y : Y)
     → and_then first next ≡ Ok y → Parts first (λ x. next x ≡ Ok y)
-then_next (Ok x) next y h = record { value = x; is = refl; behind = h }
-then_next (Err fault) next y h = absurd cc
+then_next x0 next y h = grind arith
 
 pub unless_none : {X : Type 0} (limit : Option LineFault) (x y : X) → ok_unless limit x ≡ Ok y
     → (limit ≡ None) × (x ≡ y)
-unless_none None x y h = (refl, cc)
-unless_none (Some fault) x y h = absurd cc
+unless_none x0 x y h = grind arith
 
 -- a test that an Ok or a None has passed
 
 pub passed_else : {X Fault : Type 0} (test : Bool) (fault : Fault) (found : Result X Fault) (x : X)
     → (if test then Err fault else found) ≡ Ok x → (test ≡ false) × (found ≡ Ok x)
-passed_else true fault found x h = absurd cc
-passed_else false fault found x h = (refl, h)
-
-pub passed_then : {X Fault : Type 0} (test : Bool) (fault : Fault) (found : Result X Fault) (x : X)
-    → (if test then found else Err fault) ≡ Ok x → (test ≡ true) × (found ≡ Ok x)
-passed_then true fault found x h = (refl, h)
-passed_then false fault found x h = absurd cc
-
-both : (a b : Bool) (fault : LineFault) → (if a && b then None else Some fault) ≡ None → (a ≡ true) × (b ≡ true)
-both true true fault h = (refl, refl)
-both _ _ fault h = absurd cc
-
-pub within_none : (least found greatest : ℕ) (which : Which) → within least found greatest which ≡ None
-    → IsBetween least greatest found
-within_none least found greatest which h = grind (arith, both, nat_tests)
+passed_else x0 fault found x h = grind arith
 
 -- what each line keeps, all keep
 pub along_keeps : {Line Given Whole Fault : Type 0} (told : ℕ → Fault → TraceStop)
@@ -74,8 +56,7 @@ along_keeps told read add P keeps number (line ∷ lines) before after holds h =
 
 -- what is said of a success
 pub on_ok : {X Fault : Type 0} {A B : Type 0} (found : Result X Fault) → OnOk found A → (A → B) → OnOk found B
-on_ok (Ok x) told next = next told
-on_ok (Err fault) told next = tt
+on_ok x0 told next = grind arith
 
 -- Lines with a number of words that no form has.
 
@@ -117,8 +98,7 @@ read_whole text lines d heap written small are some header rest =
 pub stops_whole : {X : Type 0} (found : Result X TraceStop) (expected whole : Result Contents TraceStop)
     → whole ≡ expected → IfErr found (λ stop. stop ≢ NoMemory → expected ≡ Err stop)
     → IfErr found (λ stop. stop ≢ NoMemory → whole ≡ Err stop)
-stops_whole (Ok x) expected whole is told = tt
-stops_whole (Err stop) expected whole is told = λ memory. is ∙ told memory
+stops_whole x0 expected whole is told = grind arith
 
 -- Lines after a text, one after the other.
 

@@ -29,8 +29,7 @@ changed_freed change xs none same keeps h i lt gone =
 
 freed_by : (b : Bool) (a : PlacedAllocation) → a.freed ≡ true
     → (if b then record a { freed = true; fresh = true } else a).freed ≡ true
-freed_by true a freed = refl
-freed_by false a freed = freed
+freed_by x0 a freed = grind arith
 
 more_freed : (xs : List PlacedAllocation) (a : PlacedAllocation) → a.released ≡ false → AreFreed xs
     → AreFreed (xs ++ a ∷ [])
@@ -51,38 +50,28 @@ module _ (c : Config) (front : List Event) (history : IsHistory c front) where
   abbrev w : Words
   w = (left c front).now.words
 
-  snapshot_freed : phase_of w ≡ 3 → (i : ℕ) → (placed_at xs i).released ≡ false
-      → (with_released c w (placed_at xs i)).released ≡ true → (placed_at xs i).freed ≡ true
-  snapshot_freed phase i unreleased gone =
-      let a : PlacedAllocation = placed_at xs i in
-      let cell : Cell = cell_of_allocation c a in
-      let s = allocations_stand c front history i unreleased in
-      let bits = sym (released_where_left c w a history.within_limits s.stands s.headers
-      ∙ has_bit_without (slice_index w.snapshot cell.page) (slice_index w.marks cell.page) cell.index) ∙ gone in
-      let cycling = (unreleased_cycles (phase_of w)
-      (record { least = omega (arith, phase); most = omega (arith, phase) })).0 in
-      (and_parts a.freed (not a.fresh)
-      (sym ((histories_keep_the_invariant c front history).order.snapshot.quarantined cycling i unreleased)
-      ∙ (and_parts _ _ bits).0)).0
-
   released_freed : phase_of w ≡ 3 → AreFreed xs → AreFreed (map (with_released c w) xs)
   released_freed phase h i lt gone =
       let at = changed_at (with_released c w) xs i (released_leaves c w).none in
       let there : i < length xs = omega (arith, lt, length-map xs (with_released c w)) in
       let now = sym (ap (λ (a : PlacedAllocation). a.released) at) ∙ gone in
-      ap (λ (a : PlacedAllocation). a.freed) at
-      ∙ elim (cases_Bool (placed_at xs i).released) [
+      ap (λ (a : PlacedAllocation). a.freed) at ∙ elim (cases_Bool (placed_at xs i).released) [
         | inl was ↦ h i there was
-        | inr unreleased ↦ snapshot_freed phase i unreleased now
+        | inr unreleased ↦ let a : PlacedAllocation = placed_at xs i in
+            let cell : Cell = cell_of_allocation c a in
+            let s = allocations_stand c front history i unreleased in
+            let bits = sym (released_where_left c w a history.within_limits s.stands s.headers
+            ∙ has_bit_without (slice_index w.snapshot cell.page) (slice_index w.marks cell.page) cell.index) ∙ now in
+            let cycling = (unreleased_cycles (phase_of w)
+            (record { least = omega (arith, phase); most = omega (arith, phase) })).0 in
+            (and_parts a.freed (not a.fresh) (sym ((histories_keep_the_invariant c front
+            history).order.snapshot.quarantined cycling i unreleased) ∙ (and_parts _ _ bits).0)).0
       ]
 
   step_freed : (e : Event) (s : Step) → e.step ≡ s → AsksPhase s (phase_of w) → AreFreed xs
       → AreFreed (allocations_by c (left c front).now (flight_of (left c front).now e.seat) s xs)
-  step_freed e Step.Grant is asks h = more_freed xs _ refl h
-  step_freed e (Step.Quar p v) is asks h = grind (arith, changed_freed, xs, freed_leaves, freed_released, freed_by)
-  step_freed e Step.Begin is asks h = grind (arith, changed_freed, xs, fresh_leaves)
-  step_freed e Step.Release is asks h = released_freed asks h
-  step_freed e s is asks h = h
+  step_freed e s is asks h =
+      grind (arith, more_freed, xs, changed_freed, freed_leaves, freed_released, freed_by, fresh_leaves, released_freed)
 
 -- all of them
 
@@ -100,8 +89,7 @@ all_freed {c} front [] whole h = grind (arith, append-nil)
 all_freed {c} front (e ∷ rest) whole h =
     let parts = append_assoc front (e ∷ []) rest in
     let same : IsHistory c ((front ++ e ∷ []) ++ rest) = subst (IsHistory c) (sym parts) whole in
-    subst (λ (es : List Event). AreFreed (left c es).allocations) parts
-    (all_freed (front ++ e ∷ []) rest same
+    subst (λ (es : List Event). AreFreed (left c es).allocations) parts (all_freed (front ++ e ∷ []) rest same
     (one_freed c front e (earlier_part_is_history c (front ++ e ∷ []) rest same) h))
 
 none_freed_first : (c : Config) → AreFreed (left c []).allocations
@@ -119,8 +107,7 @@ released_from n (a ∷ xs) = if a.released then n ∷ released_from (n + 1) xs e
 
 ages_by : (f : ℕ → ℕ) (n : ℕ) (ages numbers : List ℕ) (b : Bool) → ages ≡ map f numbers
     → (if b then f n ∷ ages else ages) ≡ map f (if b then n ∷ numbers else numbers)
-ages_by f n ages numbers true is = ap (λ (l : List ℕ). f n ∷ l) is
-ages_by f n ages numbers false is = is
+ages_by f n ages numbers x4 is = grind arith
 
 ages_are : (found : List (List PlacedAllocation)) (n : ℕ) (xs : List PlacedAllocation)
     → released_ages found n xs ≡ map (age_in_a_word found) (released_from n xs)
@@ -141,10 +128,6 @@ first_by : (n i : ℕ) (numbers : List ℕ) (released freed : Bool) → n ≡ i 
     → times i numbers ≡ 0 → times i (if released then n ∷ numbers else numbers) ≡ one_if (freed && released)
 first_by n i numbers released freed same is none = grind (arith, nat_tests)
 
-later_by : (n i : ℕ) (numbers : List ℕ) (b : Bool) → n < i
-    → times i (if b then n ∷ numbers else numbers) ≡ times i numbers
-later_by n i numbers b lt = grind (arith, nat_tests)
-
 those_from : (n : ℕ) (xs : List PlacedAllocation) → AreFreed xs → (i : ℕ)
     → times (n + i) (released_from n xs) ≡ one_if (is_gone (placed_at xs i))
 those_from n [] h i = refl
@@ -153,8 +136,7 @@ those_from n (a ∷ xs) h zero =
     (lower (n + 0) (n + 1) xs (omega arith))
 those_from n (a ∷ xs) h (suc i) =
     let next : n + suc i ≡ (n + 1) + i = omega arith in
-    later_by n (n + suc i) (released_from (n + 1) xs) a.released (omega arith)
-    ∙ ap (λ (k : ℕ). times k (released_from (n + 1) xs)) next
+    (grind (arith, nat_tests)) ∙ ap (λ (k : ℕ). times k (released_from (n + 1) xs)) next
     ∙ those_from (n + 1) xs (λ j lt gone. h (suc j) (omega (arith, lt)) gone) i
 
 pub ages_counted : {c : Config} {es : List Event} {found : List (List PlacedAllocation)} {pairs : List (ℕ × ℕ)}
@@ -163,7 +145,6 @@ pub ages_counted : {c : Config} {es : List Event} {found : List (List PlacedAllo
 ages_counted {c} {es} {found} history h =
     let all : List PlacedAllocation = (left c es).allocations in
     let numbers : List ℕ = released_from 0 all in
-    h.are ∙ same_counted (age_in_a_word found) h.numbers numbers
-    (λ i. (let same : i ≡ 0 + i = omega arith in
+    h.are ∙ same_counted (age_in_a_word found) h.numbers numbers (λ i. (let same : i ≡ 0 + i = omega arith in
     h.those i ∙ sym (ap (λ (k : ℕ). times k numbers) same ∙ those_from 0 all (released_are_freed history) i)))
     ∙ ap counted (sym (ages_are found 0 all))

@@ -2,8 +2,8 @@
 use Rattle.std.proofs.{lemmas.List.Elements.filter-append, lemmas.List.Sums.fold-append, lemmas.List.Sums.sum_by_more}
 use Rattle.mk_trace.proofs.Vocabulary.{Freed, FreedObject, SettlesFreed, aged, fold, in_a_word, objects_kept}
 use Rattle.mk_trace.proofs.Vocabulary.{still_kept, sum_by, take_all, take_more, with_one}
-use Rattle.mk_laws.proofs.Vocabulary.{Bool, List, ℕ, ap, arith, false, get_or, if◌then◌else◌, length, map, map-append}
-use Rattle.mk_laws.proofs.Vocabulary.{not, refl, subst, sym, take, true, [], ◌++◌, ◌+◌, ◌<◌, ◌∙◌, ◌∷◌, ◌≡◌, ◌≤◌}
+use Rattle.mk_laws.proofs.Vocabulary.{Bool, List, ℕ, ap, arith, get_or, if◌then◌else◌, length, map, map-append, not}
+use Rattle.mk_laws.proofs.Vocabulary.{subst, sym, take, [], ◌++◌, ◌+◌, ◌<◌, ◌∙◌, ◌∷◌, ◌≡◌, ◌≤◌}
 use Rattle.mk_trace.proofs.NumberLists.{unequal_is}
 use Rattle.mk_trace.specs.Ledgers.{SettlesWhere, ages_let_go, is_freed_among, weighed_anew}
 
@@ -49,8 +49,7 @@ let_go_one freed objects x = grind (arith, filter-append, map-append)
 
 one_by : (pairs : List (ℕ × ℕ)) (x : FreedObject) (b : Bool) → (if b then pairs else with_one pairs x.age)
     ≡ fold with_one pairs (map (λ (y : FreedObject). y.age) (if not b then x ∷ [] else []))
-one_by pairs x true = refl
-one_by pairs x false = refl
+one_by pairs x x2 = grind arith
 
 pub ages_more : (freed : List ℕ) (found : List FreedObject) (i : ℕ) (d x : FreedObject)
     (first ages now : List (ℕ × ℕ)) (b : Bool) → i < length found
@@ -85,8 +84,7 @@ pub settles_anew : (freed shown : List ℕ) (count told : ℕ) (old new : Freed)
     → new.ends ≡ count → SettlesFreed freed told old new
 settles_anew freed shown count told old new found kept at is other all still quarantined reserved objects ages ends =
     let kept_is : kept ≡ still_kept freed (map aged (objects_kept old)) = cc (still, at, all) in
-    subst (λ (n : ℕ). SettlesFreed freed n old new) is
-    (record {
+    subst (λ (n : ℕ). SettlesFreed freed n old new) is (record {
       ends = ends;
       objects = subst (λ (b : Bool). SettlesWhere b freed old new) (sym (unequal_is count old.ends other)) (
         quarantined

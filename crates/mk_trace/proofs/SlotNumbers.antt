@@ -27,8 +27,7 @@ pub one_more : {S : Type 0} (old new : HashMap (Bor (List ℕ)) ℕ S) (slots : 
 one_more old new slots i from d this inside next is put known name =
     let known' = subst (λ n. AreNumbersFrom old n (drop n slots)) next known in
     put name ∙ ap (λ same. cond same (Some i) (value_for_name old name)) (nat_list_eq_equiv.symm this name)
-    ∙ ap (cond (bytes_eq name this) (Some i)) (known' name)
-    ∙ ap (λ named. cond (bytes_eq name named) (Some i)
+    ∙ ap (cond (bytes_eq name this) (Some i)) (known' name) ∙ ap (λ named. cond (bytes_eq name named) (Some i)
     (position_from (λ (slot : Slot). bytes_eq name slot.name) (i + 1) (drop (i + 1) slots))) is
     ∙ sym (at_drop_more (position_from (λ (slot : Slot). bytes_eq name slot.name) i) slots i d inside)
 

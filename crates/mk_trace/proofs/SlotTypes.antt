@@ -59,8 +59,7 @@ range_more first count below = grind arith
 pub config_is : (trace : Contents) (pages resident count : ℕ) (slots : List ℕ) (types : List (List Kind))
     (globals : List ℕ)
     → pages ≡ trace.pages → resident ≡ trace.resident → slots ≡ trace.slots → types ≡ types_from 0 slots
-    → count ≡ length slots → globals ≡ range_with_len 0 count
-    → config_of trace ≡ record {
+    → count ≡ length slots → globals ≡ range_with_len 0 count → config_of trace ≡ record {
       pages = pages;
       resident = resident;
       callers = 1;

@@ -76,33 +76,24 @@ module _ {p q : PassState} {x : Word} {n : ℕ} (l : Looked p x n q) where
   last_is =
       cc (gives_alone, append-nil h.looked.seen, seen_made h.taken h.looked (Step.Look x) h.looks.makes, looks_alone l)
 
-  ended : ends (at ++ look ∷ []) ≡ ends p.seen
-  ended =
-      let whole = ends-append at (look ∷ []) in
+  told_ends : IsTidy c q.seen → x ≡ Word.Cycles → n ≡ in_a_word (ends p.seen)
+  told_ends tidy is =
+      let tidy_then : TalliesAreTidy c last = grind (arith, last, seen_made, append_assoc) in
+      told_taken ∙ ap (word_behind c at) is ∙ sym (ap (λ (w : World). w.now.words.cycles)
+      (left_more c (first_world c) at look)) ∙ ap (λ (es : List Event). (left c es).now.words.cycles) (sym last_is)
+      ∙ tidy_then.cycles ∙ ap in_a_word (ap ends last_is ∙ (let whole = ends-append at (look ∷ []) in
       let one = no_end-cons look [] refl in
       let taken : ends at ≡ ends (p.seen ++ first l) = ap ends (taken_seen l) in
       let parts = ends-append p.seen (first l) in
       let none = none_end (first l)
       (first_lacks l is_end (record { take = λ o. refl; look = λ y. refl; give = refl })) in
-      omega arith
-
-  told_ends : IsTidy c q.seen → x ≡ Word.Cycles → n ≡ in_a_word (ends p.seen)
-  told_ends tidy is =
-      let tidy_then : TalliesAreTidy c last =
-      tidy last (event_of h.looked Step.Give) []
-      (seen_made h.looked q Step.Give h.gives
-      ∙ sym (append_assoc h.looked.seen h.gives.others (event_of h.looked Step.Give ∷ []))) refl in
-      told_taken ∙ ap (word_behind c at) is
-      ∙ sym (ap (λ (w : World). w.now.words.cycles) (left_more c (first_world c) at look))
-      ∙ ap (λ (es : List Event). (left c es).now.words.cycles) (sym last_is) ∙ tidy_then.cycles
-      ∙ ap in_a_word (ap ends last_is ∙ ended)
+      omega arith))
 
   -- The host's looks are no calls, and leave the allocations.
 
   leaves : LeavesAllocations c p.seen q.seen
   leaves =
-      subst (LeavesAllocations c p.seen) (sym (seen_is l))
-      (leaves_then c p.seen (first l ++ behind l)
+      subst (LeavesAllocations c p.seen) (sym (seen_is l)) (leaves_then c p.seen (first l ++ behind l)
       ((enabled_in_parts c p.seen (first l ++ behind l)).0 (subst (IsHistory c) (seen_is l) l.history).enabled).1
       (all_lack l changes (record { take = λ o. refl; look = λ y. refl; give = refl })))
 

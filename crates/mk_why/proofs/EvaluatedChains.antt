@@ -1,5 +1,5 @@
 -- Why objects are kept at the closes of two small cycles: by a register, by a chain of one link, and by no chain.
-use Rattle.mk_why.proofs.Vocabulary.{Config, Global, IsWhy, Register, Root, World, word_of_root}
+use Rattle.mk_why.proofs.Vocabulary.{Config, IsWhy, Register, Root, World, word_of_root}
 use Rattle.mk_laws.proofs.Vocabulary.{Bool, List, None, Some, ℕ, arith, false, false≢true, leb-true, ltb-true, refl}
 use Rattle.mk_laws.proofs.Vocabulary.{small, subst, true, zero, [], ◌∷◌, ◌≡◌}
 use Rattle.mk_core.proofs.ListTests.{list_all-at, numbered_all}
@@ -13,13 +13,10 @@ use Rattle.mk_why.specs.Chains.{IsChain, NoneIsShorter}
 -- Where what roots point into are members of a set, so is what each chain begins with.
 module _ (c : Config) (w : World) (S : ℕ → Bool) (registers : all_into c w S w.now.words.registers ≡ true)
     (globals : all_into c w S w.now.words.globals ≡ true) where
-  root_into : (root : Root) → is_into_members c w S (word_of_root w.now.words root) ≡ true
-  root_into (Register caller register) = grind (arith, list_all-at, is_into_members)
-  root_into (Global global) = list_all-at (is_into_members c w S) w.now.words.globals 0 globals refl global
-
   begins_in : (root : Root) (links : List ℕ) (b : ℕ) (chain : IsChain c w root links b) → S chain.first ≡ true
   begins_in root links b chain =
-      points_into c w S (word_of_root w.now.words root) chain.first (root_into root) chain.points
+      points_into c w S (word_of_root w.now.words root) chain.first (
+          grind (arith, list_all-at, is_into_members)) chain.points
 
 -- A register holds the first of three objects, and a word of the first points to the second.
 

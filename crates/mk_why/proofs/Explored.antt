@@ -20,8 +20,7 @@ HasScanned c v base n =
     × IsWordOf (storage_of c (placed_at v.allocations a)) n
 
 pub onward_way : (c : Config) (v : View) {found : List (Option Found)} {base : ℕ} (n : ℕ) {links : ℕ} (b : ℕ)
-    → HasScanned c v base n
-    → IsFoundThrough found base links → (value : ℕ) → value ≡ slice_index v.words.heap n
+    → HasScanned c v base n → IsFoundThrough found base links → (value : ℕ) → value ≡ slice_index v.words.heap n
     → PointsIntoAllocation c (world_in v) value b → IsOnward c v found (65536 + 8 * n) base (links + 1) b
 onward_way c v n b x through value is points = grind arith
 
@@ -40,16 +39,13 @@ noted_by {v} {found} {limit} x within b points = grind arith
 -- Roots as words that are looked at.
 
 pub root_is_word : (c : Config) (root : Root) → IsRoot c root → is_word c (root_word root) ≡ true
-root_is_word c (Register caller register) is = grind (arith, and_from, lt-ltb)
-root_is_word c (Global global) is = lt-ltb global 64 is
+root_is_word c x1 is = grind (arith, and_from, lt-ltb)
 
 pub root_is_still : (root : Root) → is_still_word (root_word root) ≡ true
-root_is_still (Register caller register) = refl
-root_is_still (Global global) = refl
+root_is_still x0 = grind arith
 
 pub root_named : (w : Words) (root : Root) → named_word w (root_word root) ≡ word_of_root w root
-root_named w (Register caller register) = refl
-root_named w (Global global) = refl
+root_named w x1 = grind arith
 
 -- A search breadth first finds what chains lead to, through no more links than theirs.
 
@@ -105,19 +101,17 @@ module _ (c : Config) (v : View) (found : List (Option Found))
 
   pub explored : AreWays c v found
       → ((root : Root) → IsRoot c root → IsNoted c v found (word_of_root v.words root) 0) → IsExplored c v found
-  explored ways roots =
-      record {
-        ways = ways;
-        near = λ root links b chain.
-            let first = roots root chain.there chain.first chain.points in
-            let x = leads_within links chain.first b 0 first chain.leads in
-            record { entry = x.entry; there = x.there; near = let low = x.near in omega arith };
-      }
+  explored ways roots = record {
+    ways = ways;
+    near = λ root links b chain.
+        let first = roots root chain.there chain.first chain.points in
+        let x = leads_within links chain.first b 0 first chain.leads in
+        record { entry = x.entry; there = x.there; near = let low = x.near in omega arith };
+  }
 
 pub roots_noted : (c : Config) (v : View) (found : List (Option Found))
     → ((caller : ℕ) → caller < c.callers → (register : ℕ) → register < 8
     → IsNoted c v found (word_of_root v.words (Register caller register)) 0)
     → ((global : ℕ) → global < 64 → IsNoted c v found (word_of_root v.words (Global global)) 0)
     → (root : Root) → IsRoot c root → IsNoted c v found (word_of_root v.words root) 0
-roots_noted c v found registers globals (Register caller register) is = registers caller is.0 register is.1
-roots_noted c v found registers globals (Global global) is = globals global is
+roots_noted c v found registers globals x5 is = grind arith

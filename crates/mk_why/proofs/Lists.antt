@@ -38,29 +38,24 @@ module _ (p : PassState) (history : IsHistory p.table.config p.seen) (still : Is
   abbrev a : ℕ → PlacedAllocation
   a b = placed_at (world_of p).allocations b
 
-  all : Invariant p.table.config (world_of p) (never_behind p.table.config p.seen)
+  all : Invariant c (world_of p) (never_behind c p.seen)
   all = histories_keep_the_invariant c p.seen history
 
-  stands : (b : ℕ) → (placed_at (world_of p).allocations b).released ≡ false
-      → StandsUsed p.table.config (world_of p) (placed_at (world_of p).allocations b)
+  stands : (b : ℕ) → (a b).released ≡ false → StandsUsed c (world_of p) (a b)
   stands b u = allocations_stand c p.seen history b u
 
   -- an unreleased allocation's cell is in the snapshot where it is of the cycle's
-  snapshot_of : (b : ℕ) → (placed_at (world_of p).allocations b).released ≡ false → has_bit
-      (slice_index (now_of p).words.snapshot
-      (cell_of_allocation p.table.config (placed_at (world_of p).allocations b)).page)
-      (cell_of_allocation p.table.config (placed_at (world_of p).allocations b)).index
-      ≡ ((placed_at (world_of p).allocations b).freed && not (placed_at (world_of p).allocations b).fresh)
+  snapshot_of : (b : ℕ) → (a b).released ≡ false → has_bit (slice_index (now_of p).words.snapshot
+      (cell_of_allocation c (a b)).page) (cell_of_allocation c (a b)).index ≡ ((a b).freed && not (a b).fresh)
   snapshot_of b u = all.order.snapshot.quarantined (ap is_cycling still.wanted) b u
 
-  marked_of : (b : ℕ) → (placed_at (world_of p).allocations b).released ≡ false
-      → is_marked_allocation p.table.config (now_of p).words (placed_at (world_of p).allocations b)
-      ≡ is_marked (now_of p).words (cell_of_allocation p.table.config (placed_at (world_of p).allocations b))
+  marked_of : (b : ℕ) → (a b).released ≡ false
+      → is_marked_allocation c (now_of p).words (a b) ≡ is_marked (now_of p).words (cell_of_allocation c (a b))
   marked_of b u = grind (arith, stands, marked_where_its_cell_is)
 
   pub kept_cell : (cell : Cell) → has_bit (slice_index (now_of p).words.snapshot cell.page) cell.index ≡ true
       → has_bit (slice_index (now_of p).words.marks cell.page) cell.index ≡ true
-      → IsKeptCell p.table.config (view_by p) cell (words_under (header_in (now_of p).words cell.page))
+      → IsKeptCell c (view_by p) cell (words_under (header_in (now_of p).words cell.page))
   kept_cell cell in_snapshot marked =
       let f = freed_cell c (world_of p) (never_behind c p.seen)
       (known_world c p.seen history.within_limits history.enabled) all
@@ -81,24 +76,14 @@ module _ (p : PassState) (history : IsHistory p.table.config p.seen) (still : Is
         kept = and_from (is_in_snapshot_of_cycle x) (is_marked_allocation c (now_of p).words x) of_cycle has_mark;
         is = is;
         words = words;
-        within = subst (λ n. n < 64 * c.pages) is (begins_below b f.unreleased);
+        within = subst (λ n. n < 64 * c.pages) is (grind (arith, stands, words_within, typed_size));
       }
-    where
-      begins_below : (b : ℕ) → (placed_at (world_of p).allocations b).released ≡ false
-          → (placed_at (world_of p).allocations b).base < 64 * p.table.config.pages
-      begins_below b u = grind (arith, stands, words_within, typed_size)
 
-  pub has_kept_cell : (b : ℕ) → is_kept p.table.config (world_in (view_by p)) b ≡ true
-      → HasKeptCell p.table.config (view_by p) b
-      (cell_of_allocation p.table.config (placed_at (world_of p).allocations b)).page
-      (words_under (header_in (now_of p).words
-      (cell_of_allocation p.table.config (placed_at (world_of p).allocations b)).page))
-      (cells_under (header_in (now_of p).words
-      (cell_of_allocation p.table.config (placed_at (world_of p).allocations b)).page))
-      (slice_index (now_of p).words.snapshot
-      (cell_of_allocation p.table.config (placed_at (world_of p).allocations b)).page)
-      (slice_index (now_of p).words.marks
-      (cell_of_allocation p.table.config (placed_at (world_of p).allocations b)).page)
+  pub has_kept_cell : (b : ℕ) → is_kept c (world_in (view_by p)) b ≡ true → HasKeptCell c (view_by p) b
+      (cell_of_allocation c (a b)).page (words_under (header_in (now_of p).words (cell_of_allocation c (a b)).page))
+      (cells_under (header_in (now_of p).words (cell_of_allocation c (a b)).page))
+      (slice_index (now_of p).words.snapshot (cell_of_allocation c (a b)).page)
+      (slice_index (now_of p).words.marks (cell_of_allocation c (a b)).page)
   has_kept_cell b kept =
       let x : PlacedAllocation = a b in
       let parts = and_parts (is_in_snapshot_of_cycle x) (is_marked_allocation c (now_of p).words x) kept in
@@ -155,55 +140,49 @@ pub record ListsCell (c : Config) (v : View) (r s : Tables) (base : ℕ) (in_sna
 
 module _ (c : Config) (v : View) (r s : Tables) (cell : Cell) (size : ℕ) (of_kept : AreOfKept c v r.kept.items)
     (within : 64 * cell.page + cell.index * size < length r.kept.items) (kept : IsKeptCell c v cell size)
-    (found : s.found ≡ r.found)
-    (set : s.kept.items ≡ slice_set r.kept.items (64 * cell.page + cell.index * size)
+    (found : s.found ≡ r.found) (set : s.kept.items ≡ slice_set r.kept.items (64 * cell.page + cell.index * size)
     (Some (record { address = 65536 + 8 * (64 * cell.page + cell.index * size); words = size }))) where
   abbrev base : ℕ
   base = 64 * cell.page + cell.index * size
 
   abbrev storage : Storage
-  storage = record { address = 65536 + 8 * (64 * cell.page + cell.index * size); words = size }
+  storage = record { address = 65536 + 8 * base; words = size }
 
-  there : entry_at s.kept.items (64 * cell.page + cell.index * size)
-      ≡ Some (record { address = 65536 + 8 * (64 * cell.page + cell.index * size); words = size })
+  there : entry_at s.kept.items base ≡ Some storage
   there = ap (λ (xs : List (Option Storage)). entry_at xs base) set
       ∙ get_or-set_same r.kept.items base (Some storage) None within
 
-  elsewhere : (k : ℕ) → k ≢ 64 * cell.page + cell.index * size → entry_at s.kept.items k ≡ entry_at r.kept.items k
+  elsewhere : (k : ℕ) → k ≢ base → entry_at s.kept.items k ≡ entry_at r.kept.items k
   elsewhere k ne =
       ap (λ (xs : List (Option Storage)). entry_at xs k) set
       ∙ get_or-set_other r.kept.items base k (Some storage) None ne
 
-  sets_cell : ListsCell c v r s (64 * cell.page + cell.index * size) true true
+  sets_cell : ListsCell c v r s base true true
   sets_cell =
       record {
         on = record {
           size = ap length set ∙ length-set r.kept.items base (Some storage);
-          of_kept = of_all;
+          of_kept = λ k x is. elim (cases_eq k base) [
+            | inl e ↦
+                let both : Some x ≡ Some storage = sym is ∙ ap (λ n. entry_at s.kept.items n) e ∙ there in
+                let same : x ≡ storage = cc in
+                subst (IsKeptAt c v k) (sym same) (record {
+                  number = kept.number;
+                  is = kept.is ∙ sym e;
+                  storage = record {
+                    kept = kept.kept;
+                    address = ap (λ n. 65536 + 8 * n) (sym kept.is);
+                    words = kept.words;
+                  };
+                })
+            | inr ne ↦ of_kept k x (sym (elsewhere k ne) ∙ is)
+          ];
           stays = stays;
           found = found;
         };
         listed = λ one two. record { storage = storage; there = there };
       }
     where
-      of_all : AreOfKept c v s.kept.items
-      of_all k x is = elim (cases_eq k base) [
-        | inl e ↦
-            let both : Some x ≡ Some storage = sym is ∙ ap (λ n. entry_at s.kept.items n) e ∙ there in
-            let same : x ≡ storage = cc in
-            subst (IsKeptAt c v k) (sym same)
-            (record {
-              number = kept.number;
-              is = kept.is ∙ sym e;
-              storage = record {
-                kept = kept.kept;
-                address = ap (λ n. 65536 + 8 * n) (sym kept.is);
-                words = kept.words;
-              };
-            })
-        | inr ne ↦ of_kept k x (sym (elsewhere k ne) ∙ is)
-      ]
-
       stays : (k : ℕ) → IsListed r.kept.items k → IsListed s.kept.items k
       stays k x = elim (cases_eq k base) [
         | inl e ↦ record { storage = storage; there = ap (λ n. entry_at s.kept.items n) e ∙ there }
@@ -249,10 +228,7 @@ pub snapshot_read : (p : PassState) → IsHistory p.table.config p.seen → (pag
     → n / 4294967296 ≡ slice_index (view_by p).words.snapshot page
 snapshot_read p history page n is =
     let small = ((histories_keep_the_invariant p.table.config p.seen history).order.quarantined.small page).0 in
-    half (slice_index (view_by p).words.freed page) (slice_index (view_by p).words.snapshot page) n is small
-  where
-    half : (f s m : ℕ) → m ≡ f + 2 ^ 32 * s → f < 2 ^ 32 → m / 4294967296 ≡ s
-    half f s m e lt = omega arith
+    omega arith
 
 -- A kept allocation begins on a page that there is.
 pub kept_page : (p : PassState) → IsHistory p.table.config p.seen → (k : WordsState) → p.table ≡ k → (b : ℕ)

@@ -7,8 +7,8 @@ use Rattle.mk_why.proofs.Vocabulary.{view_of}
 use Rattle.mk_laws.proofs.Vocabulary.{AreOfOthers, Bool, List, MarkerState, Moment, Step, TurnIsLeft, Word, ℕ}
 use Rattle.mk_laws.proofs.Vocabulary.{all_below, and_from, and_parts, ap, append_assoc, arith, cond, enabled_meets}
 use Rattle.mk_laws.proofs.Vocabulary.{eq-eqb, false, has_closed_page, is_attending, lt-ltb, none_attends, not, not-true}
-use Rattle.mk_laws.proofs.Vocabulary.{outside, page_at_address, refl, roots_point_well, slice_index_or, suc, sym, true}
-use Rattle.mk_laws.proofs.Vocabulary.{true≢false, zero, [], ◌&&◌, ◌++◌, ◌+◌, ◌∙◌, ◌∷◌, ◌≡◌}
+use Rattle.mk_laws.proofs.Vocabulary.{outside, page_at_address, refl, roots_point_well, slice_index_or, suc, true, zero}
+use Rattle.mk_laws.proofs.Vocabulary.{[], ◌&&◌, ◌++◌, ◌+◌, ◌∙◌, ◌∷◌, ◌≡◌}
 use Rattle.mk_core.specs.{Frames.written_of, Growing.Finding, Readings.NoneAttends}
 use Rattle.mk_laws.proofs.{ProtocolFrames.others_leave, Tests.none_from}
 use Rattle.mk_cycle.proofs.KeptInParts.{free_then, keeps_at_once, keeps_then}
@@ -58,19 +58,15 @@ module _ (t u : TurnState) (x : Word) (a : Acts t.pass (Step.Look x) u.pass)
   keeps =
       calm_keeps t.pass (Step.Look x) u.pass a (in_turn_before a) a.makes.pass.history refl still.free but_phase refl
 
-  still_behind : IsStill u.pass
-  still_behind = grind (arith, free_then, keeps, wanted, phase_there, none_after)
-
   pub look_on : u.op ≡ t.op → LooksOn t u
-  look_on same =
-      record {
-        table = ap (λ (y : PassState). y.table) a.makes.is;
-        op = same;
-        does = does_step is_look t.pass u.pass (Step.Look x) a.makes refl;
-        keeps = keeps;
-        view = ap view_of a.world ∙ view_left a.turn (a.stop (a.holds, gates)) still.wanted still.none;
-        still = still_behind;
-      }
+  look_on same = record {
+    table = ap (λ (y : PassState). y.table) a.makes.is;
+    op = same;
+    does = does_step is_look t.pass u.pass (Step.Look x) a.makes refl;
+    keeps = keeps;
+    view = ap view_of a.world ∙ view_left a.turn (a.stop (a.holds, gates)) still.wanted still.none;
+    still = grind (arith, free_then, keeps, wanted, phase_there, none_after);
+  }
 
 -- Nothing is looked at, and one part is after the other.
 
@@ -146,8 +142,7 @@ look_closes (x ∷ xs) h =
     and_from (closes_marks x.event.step) (are_of closes_marks xs) (by x.event.step parts.0) (look_closes xs parts.1)
   where
     by : (s : Step) → is_look s ≡ true → closes_marks s ≡ true
-    by (Step.Look y) e = refl
-    by _ e = cc
+    by x0 e = grind arith
 
 none_wished : (xs : List Finding) → are_of is_look xs ≡ true → count_by (λ (x : Finding). is_want x.event.step) xs ≡ 0
 none_wished [] h = refl
@@ -166,8 +161,7 @@ none_wished (x ∷ xs) h =
 
 -- what is done is counted in parts
 counts_then : (kind : Step → Bool) {kinds more both : Step → Bool} {p q r : PassState} (d : Does kinds p q)
-    (e : Does more q r)
-    (f : Does both p r) → count_done kind f ≡ count_done kind d + count_done kind e
+    (e : Does more q r) (f : Does both p r) → count_done kind f ≡ count_done kind d + count_done kind e
 counts_then kind {p} {r} d e f = grind (arith, done_in_parts, sum_by-append, append_assoc, append_cancel_left)
 
 module _ (p : PassState) (t u : TurnState) (law : ClosesMarks p t.pass) (on : LooksOn t u) (turn : InTurn u.pass)
@@ -175,12 +169,9 @@ module _ (p : PassState) (t u : TurnState) (law : ClosesMarks p t.pass) (on : Lo
   close_now : IsEnabledTo u.pass Step.Close
   close_now = grind (arith, closes_by, may_close_by, pages_close, roots_close)
 
-  look_does : Does closes_marks t.pass u.pass
-  look_does = grind (arith, look_closes)
-
   pub law_kept : ClosesMarks p u.pass
   law_kept =
-      let does = does_then closes_marks p t.pass u.pass law.does look_does in
+      let does = does_then closes_marks p t.pass u.pass law.does (grind (arith, look_closes)) in
       let none : count_done is_want on.does ≡ 0 = none_wished (done_in t.pass on.does.more) on.does.of_kinds in
       let one = law.one_want in
       let both = counts_then is_want law.does on.does does in
@@ -194,8 +185,7 @@ module _ (p : PassState) (t u : TurnState) (law : ClosesMarks p t.pass) (on : Lo
       }
 
 look_marks : HaveNoMark is_look
-look_marks (Step.Mark p v) h = absurd (true≢false (sym h))
-look_marks s h = refl
+look_marks s h = grind arith
 
 pub sweepless_kept : {p : PassState} {t u : TurnState} → ClosesMarks p t.pass → LooksOn t u
     → SweepsNothing p t.pass → SweepsNothing p u.pass

@@ -11,9 +11,8 @@ use Rattle.mk_laws.proofs.Vocabulary.{is_some, length, length-map, lt-ltb, map, 
 use Rattle.mk_laws.proofs.Vocabulary.{slice_index_or, subst, sym, true, true≢false, [], ◌*◌, ◌++◌, ◌+◌, ◌<◌, ◌∙◌, ◌∷◌}
 use Rattle.mk_laws.proofs.Vocabulary.{◌≡◌}
 use Rattle.mk_laws.proofs.MappedWords.{mapped_stays}
-use Rattle.mk_why.specs.Chains.{IsEntryOf}
 use Rattle.mk_why.specs.Entries.{IsLed, IsMadeOf, IsOneMore, IsToldWhy, IsWayOf, back_to, root_of, step_back}
-use Rattle.mk_why.specs.{Listing.IsKeptAt, Searching.IsOnward, declared.found.Way.Way, declared.kept.Kept.Kept}
+use Rattle.mk_why.specs.{Chains.IsEntryOf, Listing.IsKeptAt, declared.found.Way.Way, declared.kept.Kept.Kept}
 
 -- what is read of a table
 pub read_at : {A : Type 0} → (xs : List (Option A)) (i : ℕ) (o : Option A) → o ≡ slice_index_or xs i o → i < length xs
@@ -53,14 +52,6 @@ module _ (c : Config) (v : View) (found : List (Option Found)) (ways : AreWays c
       → (placed_at v.allocations a).released ≡ false
   unreleased_of a is = grind (arith, mapped_stays, and_parts)
 
-  -- the allocation that has the link was found by its own way
-  way_before : (link from links x : ℕ) (on : IsOnward c v found link from links x)
-      → IsWay c v found on.before.way on.before.links on.number
-  way_before link from links x on =
-      let y = ways from on.before on.there in
-      let same : y.number ≡ on.number = grind (arith, unreleased_of) in
-      subst (λ n. IsWay c v found on.before.way on.before.links n) same y.way
-
   led_by : (way : Way) (links : ℕ) (pushed : List ℕ) (b count x : ℕ) → IsWay c v found way links x
       → LinksLead c (world_in v) x (reverse pushed) b → length pushed + links ≡ count → (link : ℕ) (before : Found)
       → step_back found (record { way = way; links = links }) ≡ Some (link, before)
@@ -73,10 +64,11 @@ module _ (c : Config) (v : View) (found : List (Option Found)) (ways : AreWays c
       let size = length-append pushed (link ∷ []) in
       let more = on.one_more in
       subst (λ (f : Found). IsLedBack c v found f (pushed ++ link ∷ []) b count) same.1
-      (subst (λ n. IsLedBack c v found on.before (pushed ++ n ∷ []) b count) same.0
-      (record {
+      (subst (λ n. IsLedBack c v found on.before (pushed ++ n ∷ []) b count) same.0 (record {
         number = on.number;
-        way = way_before to from links x on;
+        way = let y = ways from on.before on.there in
+            let same : y.number ≡ on.number = grind (arith, unreleased_of) in
+            subst (λ n. IsWay c v found on.before.way on.before.links n) same y.way;
         leads = subst (λ ls. LinksLead c (world_in v) on.number ls b) (sym (reverse-append pushed (to ∷ [])))
             (x, on.onward, leads);
         sum = let long = length-append pushed (to ∷ []) in omega arith;
@@ -90,13 +82,12 @@ module _ (c : Config) (v : View) (found : List (Option Found)) (ways : AreWays c
   ends_by : (way : Way) (links : ℕ) (pushed : List ℕ) (b count x : ℕ) → IsWay c v found way links x
       → LinksLead c (world_in v) x (reverse pushed) b → length pushed + links ≡ count
       → step_back found (record { way = way; links = links }) ≡ None → IsLed c v b count (root_of way) (reverse pushed)
-  ends_by (Start root) links pushed b count x way leads sum is =
-      record {
-        start = root;
-        is = refl;
-        chain = record { first = x; there = way.1; points = way.2; leads = leads };
-        as_many = let none = way.0 in let size = length-reverse pushed in omega arith;
-      }
+  ends_by (Start root) links pushed b count x way leads sum is = record {
+    start = root;
+    is = refl;
+    chain = record { first = x; there = way.1; points = way.2; leads = leads };
+    as_many = let none = way.0 in let size = length-reverse pushed in omega arith;
+  }
   ends_by (Link to from) links pushed b count x on leads sum is = grind (arith, pair_is_some, some_back)
 
   pub led_to_root : (f : Found) (pushed : List ℕ) (b count : ℕ) → IsLedBack c v found f pushed b count
@@ -172,33 +163,36 @@ module _ (c : Config) (v : View) (found : List (Option Found)) (kept : List (Opt
 
   pub entries_none : (base : ℕ) (es : List Kept) → entry_at kept base ≡ None → AreEntriesBelow c v base es
       → AreEntriesBelow c v (base + 1) es
-  entries_none base es none x =
-      record {
-        ascending = x.ascending;
-        below = λ i lt. let low = x.below i lt in omega arith;
-        of_one = x.of_one;
-        each = λ b kept_here lt. elim (cases_lt (base_at v b) base) [
-          | inl low ↦ x.each b kept_here low
-          | inr high ↦
-              let y = told.each b kept_here in
-              let e : base_at v b ≡ base = omega arith in
-              let both : Some y.storage ≡ None = sym y.there ∙ ap (entry_at kept) e ∙ none in
-              absurd cc
-        ];
-      }
+  entries_none base es none x = record {
+    ascending = x.ascending;
+    below = λ i lt. let low = x.below i lt in omega arith;
+    of_one = x.of_one;
+    each = λ b kept_here lt. elim (cases_lt (base_at v b) base) [
+      | inl low ↦ x.each b kept_here low
+      | inr high ↦
+          let y = told.each b kept_here in
+          let e : base_at v b ≡ base = omega arith in
+          let both : Some y.storage ≡ None = sym y.there ∙ ap (entry_at kept) e ∙ none in
+          absurd cc
+    ];
+  }
 
   pub entries_some : (base : ℕ) (es fs : List Kept) (s : Storage) → entry_at kept base ≡ Some s
       → IsOneMore found s (entry_at found base) es fs → AreEntriesBelow c v base es → AreEntriesBelow c v (base + 1) fs
   entries_some base es fs s is more x =
-      subst (AreEntriesBelow c v (base + 1)) (sym more.is)
-      (record {
+      subst (AreEntriesBelow c v (base + 1)) (sym more.is) (record {
         ascending = subst IsStrictlyIncreasing (sym mapped)
             (rising_more (map address es) more.entry.address x.ascending (λ i lt.
             let low : slice_index (map address es) i < 65536 + 8 * base =
             x.below i (let size = length-map es address in omega arith) in
             let e = at_base in
             omega arith));
-        below = λ i lt. below_all i lt;
+        below = λ i lt. subst (λ (ns : List ℕ). slice_index ns i < 65536 + 8 * (base + 1)) (sym mapped) (below_pushed
+            (map address es) more.entry.address (65536 + 8 * (base + 1)) (let e = at_base in omega arith) (λ j few.
+            let low : slice_index (map address es) j < 65536 + 8 * base =
+            x.below j (let size = length-map es address in omega arith) in
+            omega arith) i
+            (let size = length-map es address in let both = length-append es (more.entry ∷ []) in omega arith));
         of_one = λ y inside. elim (Contains-push_cases es more.entry y inside) [
           | inl before ↦ x.of_one y before
           | inr same ↦ (k.number, subst (λ (z : Kept). IsEntryOf c (world_in v) z k.number) same entry)
@@ -228,17 +222,6 @@ module _ (c : Config) (v : View) (found : List (Option Found)) (kept : List (Opt
 
       mapped : map address (es ++ more.entry ∷ []) ≡ map address es ++ more.entry.address ∷ []
       mapped = map-append address es (more.entry ∷ [])
-
-      below_all : (i : ℕ) → i < length (es ++ more.entry ∷ [])
-          → slice_index (map address (es ++ more.entry ∷ [])) i < 65536 + 8 * (base + 1)
-      below_all i lt =
-          subst (λ (ns : List ℕ). slice_index ns i < 65536 + 8 * (base + 1)) (sym mapped)
-          (below_pushed (map address es) more.entry.address (65536 + 8 * (base + 1)) (let e = at_base in omega arith)
-          (λ j few.
-          let low : slice_index (map address es) j < 65536 + 8 * base =
-          x.below j (let size = length-map es address in omega arith) in
-          omega arith) i
-          (let size = length-map es address in let both = length-append es (more.entry ∷ []) in omega arith))
 
 pub no_entries : (c : Config) (v : View) → AreEntriesBelow c v 0 []
 no_entries c v = grind arith

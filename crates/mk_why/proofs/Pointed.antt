@@ -26,46 +26,39 @@ module _ (p : PassState) (history : IsHistory p.table.config p.seen) (still : Is
   abbrev a : ℕ → PlacedAllocation
   a b = placed_at (world_of p).allocations b
 
-  pub settled : IsSettled (world_of p)
+  pub settled : IsSettled w
   settled = grind (arith, ne_eqb, gone_is_unmapped)
 
-  told : Told p.table.config (world_of p) (never_behind p.table.config p.seen)
-  told =
-      record {
-        known = known_world c p.seen history.within_limits history.enabled;
-        all = histories_keep_the_invariant c p.seen history;
-      }
+  told : Told c w (never_behind c p.seen)
+  told = record {
+    known = known_world c p.seen history.within_limits history.enabled;
+    all = histories_keep_the_invariant c p.seen history;
+  }
 
-  stands : (b : ℕ) → (placed_at (world_of p).allocations b).released ≡ false
-      → StandsUsed p.table.config (world_of p) (placed_at (world_of p).allocations b)
+  stands : (b : ℕ) → (a b).released ≡ false → StandsUsed c w (a b)
   stands b u = allocations_stand c p.seen history b u
 
   -- what points into an allocation points into its cell
-  into_cell : (value b : ℕ) → PointsIntoAllocation p.table.config (world_of p) value b
-      → pointed_cell p.table.config.pages (now_of p).words.pages value
-      ≡ Some (cell_of_allocation p.table.config (placed_at (world_of p).allocations b))
+  into_cell : (value b : ℕ) → PointsIntoAllocation c w value b
+      → pointed_cell c.pages (now_of p).words.pages value ≡ Some (cell_of_allocation c (a b))
   into_cell value b points = hits c w (never_behind c p.seen) told b value points.0 points.1
 
-  pub none_pointed : (value : ℕ) → pointed_cell p.table.config.pages (now_of p).words.pages value ≡ None
-      → (b : ℕ) → PointsIntoAllocation p.table.config (world_of p) value b → ⊥
+  pub none_pointed : (value : ℕ) → pointed_cell c.pages (now_of p).words.pages value ≡ None
+      → (b : ℕ) → PointsIntoAllocation c w value b → ⊥
   none_pointed value none b points = let some = into_cell value b points in cc
 
-  same_cell : (value b : ℕ) (cell : Cell) → pointed_cell p.table.config.pages (now_of p).words.pages value ≡ Some cell
-      → PointsIntoAllocation p.table.config (world_of p) value b
-      → cell_of_allocation p.table.config (placed_at (world_of p).allocations b) ≡ cell
+  same_cell : (value b : ℕ) (cell : Cell) → pointed_cell c.pages (now_of p).words.pages value ≡ Some cell
+      → PointsIntoAllocation c w value b → cell_of_allocation c (a b) ≡ cell
   same_cell value b cell is points = let some = into_cell value b points in cc
 
-  pub unused_pointed : (value : ℕ) (cell : Cell)
-      → pointed_cell p.table.config.pages (now_of p).words.pages value ≡ Some cell
-      → is_used (now_of p).words cell ≡ false → (b : ℕ) → PointsIntoAllocation p.table.config (world_of p) value b → ⊥
+  pub unused_pointed : (value : ℕ) (cell : Cell) → pointed_cell c.pages (now_of p).words.pages value ≡ Some cell
+      → is_used (now_of p).words cell ≡ false → (b : ℕ) → PointsIntoAllocation c w value b → ⊥
   unused_pointed value cell is unused b points =
       true≢false (sym (stands b points.0).used ∙ ap (is_used (now_of p).words) (same_cell value b cell is points)
       ∙ unused)
 
-  pub used_pointed : (value : ℕ) (cell : Cell)
-      → pointed_cell p.table.config.pages (now_of p).words.pages value ≡ Some cell
-      → is_used (now_of p).words cell ≡ true
-      → PointsAtBase p.table.config (view_by p) value (first_word (now_of p).words cell)
+  pub used_pointed : (value : ℕ) (cell : Cell) → pointed_cell c.pages (now_of p).words.pages value ≡ Some cell
+      → is_used (now_of p).words cell ≡ true → PointsAtBase c (view_by p) value (first_word (now_of p).words cell)
   used_pointed value cell is used =
       let x = used_is_taken c p.seen history settled cell.page cell.index used in
       let st = stands x.number x.unreleased in
@@ -84,36 +77,30 @@ module _ (p : PassState) (history : IsHistory p.table.config p.seen) (still : Is
       }
 
   -- What is scanned has a header that says so.
-  scanned_header : (b : ℕ) → is_scanned_allocation p.table.config (placed_at (world_of p).allocations b) ≡ true
-      → has_no_pointers (header_in (now_of p).words ((placed_at (world_of p).allocations b).base / 64)) ≡ false
+  scanned_header : (b : ℕ) → is_scanned_allocation c (a b) ≡ true
+      → has_no_pointers (header_in (now_of p).words ((a b).base / 64)) ≡ false
   scanned_header b is = (scanned_stands c p.seen history settled b is).scanned
 
-  words_there : (b : ℕ) → (placed_at (world_of p).allocations b).released ≡ false
-      → words_under (header_in (now_of p).words ((placed_at (world_of p).allocations b).base / 64))
-      ≡ storage_words p.table.config (placed_at (world_of p).allocations b)
+  words_there : (b : ℕ) → (a b).released ≡ false
+      → words_under (header_in (now_of p).words ((a b).base / 64)) ≡ storage_words c (a b)
   words_there b u =
       let st = stands b u in
       (cells_begin c (now_of p).words (a b) history.within_limits st.stands st.headers).1
 
-  unreleased_of : (b : ℕ) → is_scanned_allocation p.table.config (placed_at (world_of p).allocations b) ≡ true
-      → (placed_at (world_of p).allocations b).released ≡ false
+  unreleased_of : (b : ℕ) → is_scanned_allocation c (a b) ≡ true → (a b).released ≡ false
   unreleased_of b is = mapped_stays c (a b) (and_parts (is_mapped c (a b)) (not (storage_of c (a b)).leaf) is).0
 
   module _ (base : ℕ) (is : IsFirstWord (view_by p) base) where
-    pub bare_whole : has_no_pointers (header_in (now_of p).words (base / 64)) ≡ true
-        → (b : ℕ) → base_at (view_by p) b ≡ base
-        → is_scanned_allocation p.table.config (placed_at (world_of p).allocations b) ≡ true
-        → 0 ≡ storage_words p.table.config (placed_at (world_of p).allocations b)
+    pub bare_whole : has_no_pointers (header_in (now_of p).words (base / 64)) ≡ true → (b : ℕ)
+        → base_at (view_by p) b ≡ base → is_scanned_allocation c (a b) ≡ true → 0 ≡ storage_words c (a b)
     bare_whole bare b at scanned = grind (arith, scanned_header)
 
-    pub scanned_whole : (b : ℕ) → base_at (view_by p) b ≡ base
-        → is_scanned_allocation p.table.config (placed_at (world_of p).allocations b) ≡ true
-        → words_under (header_in (now_of p).words (base / 64))
-        ≡ storage_words p.table.config (placed_at (world_of p).allocations b)
+    pub scanned_whole : (b : ℕ) → base_at (view_by p) b ≡ base → is_scanned_allocation c (a b) ≡ true
+        → words_under (header_in (now_of p).words (base / 64)) ≡ storage_words c (a b)
     scanned_whole b at scanned = grind (arith, words_there, unreleased_of)
 
     pub scanned_from : has_no_pointers (header_in (now_of p).words (base / 64)) ≡ false
-        → AreScannedFrom p.table.config (view_by p) base (words_under (header_in (now_of p).words (base / 64)))
+        → AreScannedFrom c (view_by p) base (words_under (header_in (now_of p).words (base / 64)))
     scanned_from bare i lt =
         let b = is.number in
         let cell : Cell = cell_of_allocation c (a b) in
@@ -128,10 +115,10 @@ module _ (p : PassState) (history : IsHistory p.table.config p.seen) (still : Is
         let begins : (a b).base ≡ base = is.is in
         (b, is.is, scanned, (omega arith, omega arith))
 
-    pub within_heap : base + words_under (header_in (now_of p).words (base / 64)) ≤ 64 * p.table.config.pages
+    pub within_heap : base + words_under (header_in (now_of p).words (base / 64)) ≤ 64 * c.pages
     within_heap = grind (arith, words_there, stands)
 
-    pub begins_within : base < 64 * p.table.config.pages
+    pub begins_within : base < 64 * c.pages
     begins_within = grind (arith, stands, words_within, typed_size)
 
   pub apart : BeginApart (view_by p)

@@ -1,13 +1,13 @@
 -- What scans find, and that what is said of a view is said of its world.
 use Rattle.std.proofs.{lemmas.List.get_or_read_under, lemmas.List.Sums.count_by-le-length}
-use Rattle.mk_why.proofs.Vocabulary.{AreEntriesBelow, Config, Found, Global, IsFirstWord, IsFoundThrough, IsNoted}
-use Rattle.mk_why.proofs.Vocabulary.{IsSearch, IsSearched, IsTold, IsWhy, LinksLead, Register, Root, Storage, Tables}
-use Rattle.mk_why.proofs.Vocabulary.{View, Words, World, base_at, entry_at, is_scanned_allocation, links_in, links_of}
-use Rattle.mk_why.proofs.Vocabulary.{placed_at, storage_words, view_of, word_of_root, world_in}
-use Rattle.mk_laws.proofs.Vocabulary.{List, None, Option, Some, ℕ, ap, arith, cases_lt, get_or_past, length, refl}
+use Rattle.mk_why.proofs.Vocabulary.{AreEntriesBelow, Config, Found, IsFirstWord, IsFoundThrough, IsNoted, IsSearch}
+use Rattle.mk_why.proofs.Vocabulary.{IsSearched, IsTold, IsWhy, LinksLead, Root, Storage, Tables, View, Words, World}
+use Rattle.mk_why.proofs.Vocabulary.{base_at, entry_at, is_scanned_allocation, links_in, links_of, placed_at}
+use Rattle.mk_why.proofs.Vocabulary.{storage_words, view_of, word_of_root, world_in}
+use Rattle.mk_laws.proofs.Vocabulary.{List, None, Option, Some, ℕ, ap, arith, cases_lt, get_or_past, length}
 use Rattle.mk_laws.proofs.Vocabulary.{slice_index, slice_index_or, subst, sym, true, [], ◌+◌, ◌-◌, ◌<◌, ◌∙◌, ◌∷◌, ◌≡◌}
 use Rattle.mk_laws.proofs.Vocabulary.{◌≤◌}
-use Rattle.mk_why.specs.{Chains.AreKept, Chains.IsChain, Chains.IsEntryOf, Chains.IsLink, declared.kept.Kept.Kept}
+use Rattle.mk_why.specs.{Chains.AreKept, Chains.IsChain, Chains.IsEntryOf, declared.kept.Kept.Kept}
 
 -- What is done after the scan of an allocation's words.
 
@@ -34,25 +34,23 @@ done_from c v {found} {base} size {links} through whole noted a n begins scanned
     (subst (λ j. IsNoted c v found (slice_index v.words.heap j) (links + 1)) here (noted (n - base) few))
 
 module _ (c : Config) (v : View) (r : Tables) (place limit : ℕ) (search : IsSearch c v r limit)
-    (known : place < r.count)
-  where
-    pub queued_within : slice_index r.queue.items place < length r.found.items
-    queued_within = grind (arith, within_table)
+    (known : place < r.count) where
+  pub queued_within : slice_index r.queue.items place < length r.found.items
+  queued_within = grind (arith, within_table)
 
-    pub queued_base : IsFirstWord v (slice_index r.queue.items place)
-    queued_base =
-        let x = search.entries place known in
-        let y = search.ways (slice_index r.queue.items place) x.entry x.there in
-        record { number = y.number; unreleased = y.unreleased; is = y.is }
+  pub queued_base : IsFirstWord v (slice_index r.queue.items place)
+  queued_base =
+      let x = search.entries place known in
+      let y = search.ways (slice_index r.queue.items place) x.entry x.there in
+      record { number = y.number; unreleased = y.unreleased; is = y.is }
 
-    module _ (base : ℕ) (is : base ≡ slice_index r.queue.items place) (f : Found)
-        (there : entry_at r.found.items base ≡ Some f)
-      where
-        pub links_there : links_of r place ≡ f.links
-        links_there = ap (λ n. links_in (entry_at r.found.items n)) (sym is) ∙ ap links_in there
+  module _ (base : ℕ) (is : base ≡ slice_index r.queue.items place) (f : Found)
+      (there : entry_at r.found.items base ≡ Some f) where
+    pub links_there : links_of r place ≡ f.links
+    links_there = ap (λ n. links_in (entry_at r.found.items n)) (sym is) ∙ ap links_in there
 
-        pub one_more_fits : f.links + 1 ≤ r.count
-        one_more_fits = let few = search.shallow place known in let same = links_there in omega arith
+    pub one_more_fits : f.links + 1 ≤ r.count
+    one_more_fits = let few = search.shallow place known in let same = links_there in omega arith
 
 -- The queue has room for all that was found.
 pub count_fits : (r : Tables) → r.count ≤ length r.queue.items
@@ -70,34 +68,23 @@ entry_read r base o f is lt some = grind (arith, get_or_read_under)
 -- What is said of a view is said of its world.
 
 same_root : (w : Words) (root : Root) → word_of_root (record w { phase = 0 }) root ≡ word_of_root w root
-same_root w (Register caller register) = refl
-same_root w (Global global) = refl
+same_root w x1 = grind arith
 
 module _ (c : Config) (w : World) where
-  link_out : (a link b : ℕ) → IsLink c (world_in (view_of w)) a link b → IsLink c w a link b
-  link_out a link b x = grind arith
-
-  link_in : (a link b : ℕ) → IsLink c w a link b → IsLink c (world_in (view_of w)) a link b
-  link_in a link b x = grind arith
-
   leads_out : (links : List ℕ) (a b : ℕ) → LinksLead c (world_in (view_of w)) a links b → LinksLead c w a links b
   leads_out [] a b x = x
-  leads_out (link ∷ links) a b x = (x.0, link_out a link x.0 x.1, leads_out links x.0 b x.2)
+  leads_out (link ∷ links) a b x = (x.0, grind arith, leads_out links x.0 b x.2)
 
   leads_in : (links : List ℕ) (a b : ℕ) → LinksLead c w a links b → LinksLead c (world_in (view_of w)) a links b
   leads_in [] a b x = x
-  leads_in (link ∷ links) a b x = (x.0, link_in a link x.0 x.1, leads_in links x.0 b x.2)
-
-  chain_out : (root : Root) (links : List ℕ) (b : ℕ) → IsChain c (world_in (view_of w)) root links b
-      → IsChain c w root links b
-  chain_out root links b x = grind (arith, same_root, leads_out)
+  leads_in (link ∷ links) a b x = (x.0, grind arith, leads_in links x.0 b x.2)
 
   chain_in : (root : Root) (links : List ℕ) (b : ℕ) → IsChain c w root links b
       → IsChain c (world_in (view_of w)) root links b
   chain_in root links b x = grind (arith, same_root, leads_in)
 
   why_out : (b : ℕ) (o : Option Root) (links : List ℕ) → IsWhy c (world_in (view_of w)) b o links → IsWhy c w b o links
-  why_out b (Some root) links x = (chain_out root links b x.0, λ r ls chain. x.1 r ls (chain_in r ls b chain))
+  why_out b (Some root) links x = (grind (arith, same_root, leads_out), λ r ls chain. x.1 r ls (chain_in r ls b chain))
   why_out b None links x = (x.0, λ r ls chain. x.1 r ls (chain_in r ls b chain))
 
   entry_out : (entry : Kept) (b : ℕ) → IsEntryOf c (world_in (view_of w)) entry b → IsEntryOf c w entry b
@@ -105,12 +92,11 @@ module _ (c : Config) (w : World) where
 
   pub kept_of : (found : List (Option Found)) (kept : List (Option Storage)) (entries : List Kept)
       → IsTold c found kept (view_of w) → AreEntriesBelow c (view_of w) (length kept) entries → AreKept c w entries
-  kept_of found kept entries told x =
-      record {
-        ascending = x.ascending;
-        of_one = λ entry inside. let y = x.of_one entry inside in (y.0, entry_out entry y.0 y.1);
-        each = λ b kept_here.
-            let listed = told.each b kept_here in
-            let y = x.each b kept_here (within_table kept (base_at (view_of w) b) listed.storage listed.there) in
-            (y.0, y.1, entry_out y.0 b y.2);
-      }
+  kept_of found kept entries told x = record {
+    ascending = x.ascending;
+    of_one = λ entry inside. let y = x.of_one entry inside in (y.0, entry_out entry y.0 y.1);
+    each = λ b kept_here.
+        let listed = told.each b kept_here in
+        let y = x.each b kept_here (within_table kept (base_at (view_of w) b) listed.storage listed.there) in
+        (y.0, y.1, entry_out y.0 b y.2);
+  }

@@ -1,8 +1,8 @@
 -- The search, one note after the other: what was found stays, and the queue rises.
 use Rattle.std.proofs.Common.{below_more}
 use Rattle.mk_why.proofs.Vocabulary.{AreWays, Config, FindsMore, Found, IsFound, IsFoundThrough, IsNoted, IsSearch}
-use Rattle.mk_why.proofs.Vocabulary.{IsStill, IsWay, Link, LooksOn, SearchesOn, Start, Tables, TurnState, View}
-use Rattle.mk_why.proofs.Vocabulary.{Root, entry_at, links_in, links_of, view_by, word_of_root}
+use Rattle.mk_why.proofs.Vocabulary.{IsStill, IsWay, LooksOn, Root, SearchesOn, Tables, TurnState, View, entry_at}
+use Rattle.mk_why.proofs.Vocabulary.{links_in, links_of, view_by, word_of_root}
 use Rattle.mk_laws.proofs.Vocabulary.{List, None, Option, Some, ℕ, ap, arith, cases_Bool, cases_eq, cases_lt, false}
 use Rattle.mk_laws.proofs.Vocabulary.{get_or-set_other, get_or-set_same, inl, inr, is_some, length, length-set, refl}
 use Rattle.mk_laws.proofs.Vocabulary.{slice_index, slice_set, subst, sym, true, true≢false, ◌*◌, ◌+◌, ◌<◌, ◌∙◌, ◌≡◌}
@@ -17,16 +17,7 @@ Stays found more = (base : ℕ) (f : Found) → entry_at found base ≡ Some f �
 
 way_stays : (c : Config) (v : View) (found more : List (Option Found)) → Stays found more
     → (way : Way) (links b : ℕ) → IsWay c v found way links b → IsWay c v more way links b
-way_stays c v found more stays (Start root) links b way = way
-way_stays c v found more stays (Link link from) links b way =
-    record {
-      number = way.number;
-      begins = way.begins;
-      onward = way.onward;
-      before = way.before;
-      there = stays from way.before way.there;
-      one_more = way.one_more;
-    }
+way_stays c v found more stays x5 links b way = grind arith
 
 found_stays : (c : Config) (v : View) (found more : List (Option Found)) → Stays found more → (base : ℕ) (f : Found)
     → IsFoundAt c v found base f → IsFoundAt c v more base f
@@ -45,8 +36,7 @@ pub through_stays : (found more : List (Option Found)) → Stays found more → 
 through_stays found more stays base links x = grind arith
 
 pub same_links : {found : List (Option Found)} (more : List (Option Found)) → Stays found more → {base : ℕ}
-    → IsFound found base
-    → links_in (entry_at more base) ≡ links_in (entry_at found base)
+    → IsFound found base → links_in (entry_at more base) ≡ links_in (entry_at found base)
 same_links more stays {base} x = ap links_in (stays base x.entry x.there) ∙ sym (ap links_in x.there)
 
 pub links_stay : {r s : Tables} → FindsMore r s → (i : ℕ) → i < r.count
@@ -67,12 +57,7 @@ searches_nothing t {r} still search = grind (arith, looks_at_nothing, grows_noth
 
 pub searches_then : {c : Config} {t u v : TurnState} {r s x : Tables} {limit : ℕ} → SearchesOn c t u r s limit
     → SearchesOn c u v s x limit → SearchesOn c t v r x limit
-searches_then {c} {x} {limit} one two =
-    record {
-      on = looks_then one.on two.on;
-      search = subst (λ (y : View). IsSearch c y x limit) one.on.view two.search;
-      grows = grows_then one.grows two.grows;
-    }
+searches_then one two = grind (arith, looks_then, grows_then)
 
 -- Looks before a part leave it.
 pub looks_search : {c : Config} {t u v : TurnState} {r s : Tables} {limit : ℕ} → LooksOn t u
@@ -99,8 +84,7 @@ more_noted c v found more stays value limit i before here =
 -- what roots point into, one root more
 pub root_noted : {c : Config} {t u w : TurnState} {r s x : Tables} (root : ℕ → Root) (i : ℕ) → SearchesOn c t u r s 0
     → ((k : ℕ) → k < i → IsNoted c (view_by t.pass) s.found.items (word_of_root (view_by t.pass).words (root k)) 0)
-    → SearchesOn c u w s x 0
-    → IsNoted c (view_by u.pass) x.found.items (word_of_root (view_by u.pass).words (root i)) 0
+    → SearchesOn c u w s x 0 → IsNoted c (view_by u.pass) x.found.items (word_of_root (view_by u.pass).words (root i)) 0
     → (k : ℕ) → k < i + 1 → IsNoted c (view_by t.pass) x.found.items (word_of_root (view_by t.pass).words (root k)) 0
 root_noted {c} {t} {s} {x} root i before so_far one here =
     more_noted c (view_by t.pass) s.found.items x.found.items one.grows.stays
@@ -158,7 +142,7 @@ module _ (c : Config) (v : View) (r s : Tables) (base : ℕ) (f : Found) (search
   note_search : f.links ≤ r.count → IsFoundAt c v r.found.items base f → IsSearch c v s f.links
   note_search shallow way =
       record {
-        size = ap length found ∙ length_set ∙ search.size;
+        size = ap length found ∙ (length-set r.found.items base (Some f)) ∙ search.size;
         ways = ways;
         entries = entries;
         queued = queued;
@@ -167,16 +151,12 @@ module _ (c : Config) (v : View) (r s : Tables) (base : ℕ) (f : Found) (search
         shallow = at_most;
       }
     where
-      length_set : length (slice_set r.found.items base (Some f)) ≡ length r.found.items
-      length_set = length-set r.found.items base (Some f)
-
       ways : AreWays c v s.found.items
       ways k g h = elim (cases_eq k base) [
         | inl e ↦
             let both : Some g ≡ Some f = sym h ∙ ap (λ n. entry_at s.found.items n) e ∙ there in
             let same : g ≡ f = cc in
-            subst (IsFoundAt c v s.found.items k) (sym same)
-            (subst (λ n. IsFoundAt c v s.found.items n f) (sym e)
+            subst (IsFoundAt c v s.found.items k) (sym same) (subst (λ n. IsFoundAt c v s.found.items n f) (sym e)
             (found_stays c v r.found.items s.found.items note_grows.stays base f way))
         | inr ne ↦ found_stays c v r.found.items s.found.items note_grows.stays k g
             (search.ways k g (sym (elsewhere k ne) ∙ h))
@@ -230,12 +210,11 @@ pub notes : {c : Config} {v : View} {r : Tables} (s : Tables) {base : ℕ} {f : 
     → f.links ≤ r.count → IsFoundAt c v r.found.items base f → Notes c v r s base f.links
 notes {c} {v} {r} s {base} {f} search lt known noted last more room shallow way =
     elim (cases_Bool (is_some (entry_at r.found.items base))) [
-      | inl there ↦ subst (λ (x : Tables). Notes c v r x base f.links) (sym (known there))
-          (record {
-            search = search;
-            grows = grows_nothing r;
-            within = before (entry_at r.found.items base) refl there;
-          })
+      | inl there ↦ subst (λ (x : Tables). Notes c v r x base f.links) (sym (known there)) (record {
+        search = search;
+        grows = grows_nothing r;
+        within = before (entry_at r.found.items base) refl there;
+      })
       | inr none ↦
           let new = there c v r s base f search lt none (noted none) (last none) (more none) room in
           record {

@@ -13,8 +13,7 @@ links_swept : (c : Config) (w : World) (links : List ℕ) (a b : ℕ) → LinksL
 links_swept c w [] a b leads x = subst (λ n. IsSwept c w n) leads x
 links_swept c w (link ∷ links) a b leads x =
     let l = leads.1 in
-    links_swept c w links leads.0 b leads.2
-    (record {
+    links_swept c w links leads.0 b leads.2 (record {
       value = slice_index w.now.words.heap l.word;
       found = InWord l.word (record { number = a; scanned = l.scanned; word = l.of_the_one }) refl;
       points = l.to_the_other;

@@ -13,14 +13,13 @@ pub told_by : {k : Config} {t u : TurnState} (a : Tables) {b d : Tables} → Loo
     → ListsOn k (view_by u.pass) b d
     → ((n : ℕ) → is_kept k (world_in (view_by u.pass)) n ≡ true → IsListed d.kept.items (base_at (view_by u.pass) n))
     → IsTold k d.found.items d.kept.items (view_by t.pass)
-told_by {k} {t} a {d} on explored apart same lists each =
-    record {
-      explored = subst (IsExplored k (view_by t.pass)) (sym (ap (λ x. x.items) (lists.found ∙ same))) explored;
-      apart = apart;
-      of_kept = subst (λ (v : View). AreOfKept k v d.kept.items) on.view lists.of_kept;
-      each = subst (λ (v : View). (n : ℕ) → is_kept k (world_in v) n ≡ true → IsListed d.kept.items (base_at v n))
-          on.view each;
-    }
+told_by {k} {t} a {d} on explored apart same lists each = record {
+  explored = subst (IsExplored k (view_by t.pass)) (sym (ap (λ x. x.items) (lists.found ∙ same))) explored;
+  apart = apart;
+  of_kept = subst (λ (v : View). AreOfKept k v d.kept.items) on.view lists.of_kept;
+  each = subst (λ (v : View). (n : ℕ) → is_kept k (world_in v) n ≡ true → IsListed d.kept.items (base_at v n))
+      on.view each;
+}
 
 -- nothing that others did is nothing
 nothing_of_others : (p : PassState) → AreOfOthers p.seats []

@@ -7,8 +7,7 @@ returns-then-is_script c =
     let items = c.args.behind.now in
     let i = c.loop-place.place in
     let item = c.index-behind-place in
-    sym (c.loop-place.invariant
-    ∙ ap (λ rest. take i items ++ rest)
+    sym (c.loop-place.invariant ∙ ap (λ rest. take i items ++ rest)
     (before_next_script-end items i item.result c.loop-place-test.true item.is (sym c.if-is_script.ensures))
     ∙ append-nil (take i items))
 

@@ -20,6 +20,5 @@ loop-item-init c line = rw (c.in_ok-open.ensures, c.new-parts.ensures) refl
 pub loop-item-preserved : goal.loop-item-preserved
 loop-item-preserved c line =
     let item = c.in-Some.item.now in
-    rw (map-append, reverse-append)
-    (c.in_ok-read.ensures ∙ ap (counts_with item) (c.loop-item.invariant (line + 1))
+    rw (map-append, reverse-append) (c.in_ok-read.ensures ∙ ap (counts_with item) (c.loop-item.invariant (line + 1))
     ∙ sym (counts-with_item line item _))

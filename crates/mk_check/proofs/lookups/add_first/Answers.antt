@@ -7,6 +7,5 @@ returns-in_ok-insert-clause-added g c =
     let names = value_for_name c.args.names.now in
     let key = c.as_bytes-key.result.now in
     let absent : names key ≡ None = None-from_is_some (names key) (sym c.if-not-contains_key.ensures) in
-    rw (← c.as_bytes-key.ensures)
-    (put_first names (value_for_name c.insert.new.self) key c.args.value absent
+    rw (← c.as_bytes-key.ensures) (put_first names (value_for_name c.insert.new.self) key c.args.value absent
     (λ other. c.in_ok-insert.ensures.updates.0 (record { ref_ptr = (0, 0); now = other })))

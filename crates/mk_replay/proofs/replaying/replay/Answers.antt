@@ -25,8 +25,7 @@ returns-in_err-step-clause-not_enabled c =
     let refused : stop ≢ NoMemory → refusal_of c.args.program.now c.args.schedule.now ≡ Some stop =
     λ ne. refused_here c.entries-entry-items.result.now _ c.entries-entry-items.ensures c.loop-entry-test.true h
     (c.in_err-step.ensures.stop c.args.program.now h.events h.is_run ne) in
-    handed_on c.from_residual-in_err-step.result stop
-    (λ stop'. stop' ≢ NoMemory
+    handed_on c.from_residual-in_err-step.result stop (λ stop'. stop' ≢ NoMemory
     → refusal_of c.args.program.now c.args.schedule.now ≡ Some stop') c.from_residual-in_err-step.ensures.1 refused
 
 pub loop-entry-preserved : goal.loop-entry-preserved
@@ -58,8 +57,7 @@ returns-clause-admitted c =
     let known = c.program-well_typed.ensures in
     let checked : IsChecked c.args.program.now =
     record { well_typed = known.well_typed; of_some_text = known.of_some_text } in
-    (schedule_is_history c.args.schedule.now checked
-    (over c.entries-entry-items.result.now
+    (schedule_is_history c.args.schedule.now checked (over c.entries-entry-items.result.now
     c.entries-entry-items.ensures c.loop-entry-test.false c.loop-entry.invariant).enabled).admitted
 
 pub returns-clause-promises : goal.returns-clause-promises
@@ -67,6 +65,5 @@ returns-clause-promises c =
     let known = c.program-well_typed.ensures in
     let checked : IsChecked c.args.program.now =
     record { well_typed = known.well_typed; of_some_text = known.of_some_text } in
-    schedule_keeps_all_promises c.args.program.now c.args.schedule.now checked
-    (over c.entries-entry-items.result.now
+    schedule_keeps_all_promises c.args.program.now c.args.schedule.now checked (over c.entries-entry-items.result.now
     c.entries-entry-items.ensures c.loop-entry-test.false c.loop-entry.invariant).enabled

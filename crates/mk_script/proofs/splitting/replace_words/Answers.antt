@@ -5,8 +5,7 @@ use Rattle.mk_script.proofs.splitting.replace_words.Goals as goal
 
 pub returns : goal.returns
 returns c =
-    let seen = YieldsList-end
-    (YieldsList-at c.into_iter-word-iterator.ensures.into_iter_gives
+    let seen = YieldsList-end (YieldsList-at c.into_iter-word-iterator.ensures.into_iter_gives
     (YieldsList-from_slice_split _
     (λ byte. byte == 32) c.args.line.now c.split-word-items.ensures.rest c.split-word-items.ensures.done
     c.split-word-items.ensures.closure (λ x b q k. search (rules, tests))))

@@ -19,9 +19,7 @@ returns-in_ok-settle-clause-keeps g c =
     c.in_ok-settle.ensures.settles
 
 pub returns-in_ok-settle-clause-ends : goal.returns-in_ok-settle-clause-ends
-returns-in_ok-settle-clause-ends g c =
-    ends_over c.object_to_free-freed.ensures.looks c.requires.idle (c.call-told.ensures.ends c.requires.off)
-    c.look-now.ensures.looks c.settle.ensures.looks
+returns-in_ok-settle-clause-ends g c = grind (arith, ends_over)
 
 pub returns-in_ok-settle-clause-exact : goal.returns-in_ok-settle-clause-exact
 returns-in_ok-settle-clause-exact g c = grind (arith, exact_over)
@@ -32,9 +30,7 @@ pub returns-else-is_under_turn-clause-idle : goal.returns-else-is_under_turn-cla
 returns-else-is_under_turn-clause-idle g c = grind arith
 
 pub returns-else-is_under_turn-clause-held : goal.returns-else-is_under_turn-clause-held
-returns-else-is_under_turn-clause-held g c =
-    held_beside c.args.ledger.now.held
-    (c.call.ensures.beside (sym c.is_under_turn.ensures ∙ c.if-is_under_turn.false)) c.call.ensures.held c.requires.held
+returns-else-is_under_turn-clause-held g c = grind (arith, held_beside)
 
 pub returns-else-is_under_turn-clause-ends : goal.returns-else-is_under_turn-clause-ends
 returns-else-is_under_turn-clause-ends g c = grind arith

@@ -1,6 +1,6 @@
 use Rattle.mk_trace.proofs.Vocabulary.{CallerState, Grows, HasAll, HostState, IsHistory, PassState, StayExact}
 use Rattle.mk_trace.proofs.Vocabulary.{SweepsNothing, WordsState}
-use Rattle.mk_laws.proofs.Vocabulary.{ap, subst, sym, ◌∙◌}
+use Rattle.mk_laws.proofs.Vocabulary.{ap, arith, subst, sym, ◌∙◌}
 use Rattle.mk_run.specs.Scripts.{Answers}
 use Rattle.mk_trace.proofs.FreedCalls.{Does, call_does}
 use Rattle.mk_trace.proofs.OneCaller.{joined_home, made_admits, made_alone, made_exists, made_seats}
@@ -8,12 +8,10 @@ use Rattle.mk_trace.proofs.{ExactPlays.call_stays_exact, JoinedCalls.Joined, cal
 use Rattle.mk_trace.proofs.calls.call.Goals as goal
 
 pub answer_to-answer-requires-clause-exists : goal.answer_to-answer-requires-clause-exists
-answer_to-answer-requires-clause-exists g c κs within =
-    made_exists _ _ c.requires.home c.caller_again-caller.result c.caller_again-caller.ensures.caller
+answer_to-answer-requires-clause-exists g c x2 within = grind (arith, made_exists)
 
 pub answer_to-answer-requires-clause-alone : goal.answer_to-answer-requires-clause-alone
-answer_to-answer-requires-clause-alone g c κs within =
-    made_alone _ _ c.requires.home c.caller_again-caller.result c.caller_again-caller.ensures.caller
+answer_to-answer-requires-clause-alone g c x2 within = grind (arith, made_alone)
 
 pub answer_to-answer-requires-clause-admitted : goal.answer_to-answer-requires-clause-admitted
 answer_to-answer-requires-clause-admitted g c κs within =
@@ -76,7 +74,6 @@ returns-clause-flags g c = (did g (goal.at.returns-clause-flags g c).After-is_in
 pub returns-clause-exact : goal.returns-clause-exact
 returns-clause-exact g c = λ off unswept.
     subst (λ (x : WordsState). StayExact x.config c.args.host.now.pass.seen c.join_caller.new.self.pass.seen)
-    c.requires.home.table
-    (call_stays_exact (joined g (goal.at.returns-clause-exact g c).After-is_in_order)
+    c.requires.home.table (call_stays_exact (joined g (goal.at.returns-clause-exact g c).After-is_in_order)
     (subst (λ (x : CallerState). SweepsNothing x.pass c.answer_to-answer.new.caller.pass)
     c.caller_again-caller.ensures.caller (c.answer_to-answer.ensures.reached unswept)) off)

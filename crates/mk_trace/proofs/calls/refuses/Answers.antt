@@ -50,11 +50,7 @@ answer-requires-in-loop-op-clause-few g c κs within =
     omega (arith, so_far, count, inside, few)
 
 pub returns-clause-ends : goal.returns-clause-ends
-returns-clause-ends g c =
-    let so_far = c.loop-op.invariant.ends in
-    let count = few_later c.is_full_answer.result c.args.event c.deref-op-items.result.now
-    (c.deref-op-items.ensures.value ∙ c.in_ok-ops.ensures) in
-    omega (arith, so_far, count)
+returns-clause-ends g c = grind (arith, few_later)
 
 pub loop-op-preserved : goal.loop-op-preserved
 loop-op-preserved g c =

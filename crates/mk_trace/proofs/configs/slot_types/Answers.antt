@@ -1,6 +1,6 @@
 use Rattle.std.proofs.lemmas.List.{at_drop_all}
-use Rattle.mk_trace.proofs.Vocabulary.{Kind, at_drop_more, types_from}
 use Rattle.mk_laws.proofs.Vocabulary.{List, ap, append-nil, append_assoc, drop, sym, [], ◌++◌, ◌+◌, ◌∙◌, ◌∷◌}
+use Rattle.mk_trace.proofs.Vocabulary.{Kind, at_drop_more, types_from}
 use Rattle.mk_trace.proofs.configs.slot_types.Goals as goal
 
 pub loop-slot-preserved : goal.loop-slot-preserved

@@ -1,4 +1,5 @@
-use Rattle.std.proofs.Common.{◌<◌, length, rules}
+use Rattle.mk_laws.proofs.Vocabulary.{length, ◌<◌}
+use Rattle.mk_trace.proofs.Vocabulary.{rules}
 use Rattle.mk_trace.proofs.CountedAges.{set_there}
 use Rattle.mk_trace.proofs.ledger.count_age.Goals as goal
 

@@ -1,5 +1,5 @@
 use Rattle.mk_trace.proofs.Vocabulary.{HostOnlyLooks, IsHistory, left, nat_tests, pointed_cell}
-use Rattle.mk_laws.proofs.Vocabulary.{arith, slice_index, sym, ◌∙◌, ◌≡◌}
+use Rattle.mk_laws.proofs.Vocabulary.{arith, slice_index, ◌≡◌}
 use Rattle.mk_trace.proofs.FoundCells.{cell_within, freed_looked, freed_object, header_looked, looks_twice, no_object}
 use Rattle.mk_trace.proofs.FoundCells.{pointed_looked, unfreed_object}
 use Rattle.mk_trace.proofs.looking.object_of_slot.Goals.{After-cell_at, After-is_in_order, After-is_quarantined}
@@ -28,11 +28,7 @@ pub returns-in-None-clause-finds : goal.returns-in-None-clause-finds
 returns-in-None-clause-finds g c = grind (arith, no_object, before, found)
 
 pub look-header-requires-clause-word : goal.look-header-requires-clause-word
-look-header-requires-clause-word g c =
-    let x = goal.at.look-header-requires-clause-word g c in
-    let within = cell_within c.args.heap.now.config c.args.host.now.pass.seen (before g x.After-is_in_order)
-    c.args.slot c.requires.idle c.in-Some.cell (sym c.in-Some.is ∙ found g x.After-cell_at) in
-    grind (arith, nat_tests, within)
+look-header-requires-clause-word g c = grind (arith, cell_within, before, found, nat_tests)
 
 pub returns-then-is_quarantined-clause-finds : goal.returns-then-is_quarantined-clause-finds
 returns-then-is_quarantined-clause-finds g c = grind (arith, freed_object, before, found, freed_looked, looked_last)

@@ -1,5 +1,5 @@
 use Rattle.mk_trace.proofs.Vocabulary.{AllTurnsAreExact, Config, quarantined_words, reserved_words}
-use Rattle.mk_laws.proofs.Vocabulary.{ap, length, subst, sym, ◌∙◌}
+use Rattle.mk_laws.proofs.Vocabulary.{ap, arith, length, subst, ◌∙◌}
 use Rattle.mk_trace.proofs.LedgerCalls.{ages_of, first_held, first_idle, first_keeps, most_of, peaks_by}
 use Rattle.mk_trace.proofs.Played.{closed, refused_at}
 use Rattle.mk_trace.proofs.{ExactPlays.first_exact, FewEvents.none_ended, HeldCalls.most_told, OneCaller.home_joined}
@@ -13,8 +13,7 @@ played g c =
     let es = c.play_events.new.host.pass.seen in
     let at = c.in_ok-heap.ensures.config ∙ c.in_ok-config.ensures.config in
     closed c.close-report.ensures.history (c.close-report.ensures.config ∙ at)
-    c.in_ok-refused.ensures.played c.close-report.ensures.whole
-    (subst (λ (d : Config). AllTurnsAreExact d es) at
+    c.in_ok-refused.ensures.played c.close-report.ensures.whole (subst (λ (d : Config). AllTurnsAreExact d es) at
     (c.in_ok-refused.ensures.exact
     (first_exact c.in_ok-heap.heap.config c.in_ok-heap.host.pass.seen c.in_ok-heap.ensures.empty)))
 
@@ -32,8 +31,7 @@ returns-clause-peaks g c =
       events = ap length c.events.ensures.events;
       refused = refused_at _ c.close-report.ensures.history c.in_ok-refused.ensures.played;
       of_history =
-          peaks_by _ _
-          (most_told trace d es _ c.held_at_most-held.result c.close-report.ensures.history at
+          peaks_by _ _ (most_told trace d es _ c.held_at_most-held.result c.close-report.ensures.history at
           (c.held_at_most-held.ensures.same ∙ c.in_ok-refused.ensures.held) c.held_at_most-held.ensures.fits)
           (most_of trace d quarantined_words es _ _ c.close-report.ensures.history at keeps.quarantined.most)
           (most_of trace d reserved_words es _ _ c.close-report.ensures.history at keeps.reserved.most)
@@ -42,13 +40,10 @@ returns-clause-peaks g c =
     }
 
 pub play_events-requires-clause-idle : goal.play_events-requires-clause-idle
-play_events-requires-clause-idle g c κs within =
-    first_idle c.in_ok-heap.heap.config c.in_ok-heap.host.pass.seen c.in_ok-heap.ensures.empty
+play_events-requires-clause-idle g c x2 within = grind (arith, first_idle)
 
 pub play_events-requires-clause-held : goal.play_events-requires-clause-held
-play_events-requires-clause-held g c κs within =
-    c.new-ledger.ensures.held
-    ∙ sym (first_held c.in_ok-heap.heap.config c.in_ok-heap.host.pass.seen c.in_ok-heap.ensures.empty)
+play_events-requires-clause-held g c x2 within = grind (arith, first_held)
 
 pub play_events-requires-clause-keeps : goal.play_events-requires-clause-keeps
 play_events-requires-clause-keeps g c κs within =

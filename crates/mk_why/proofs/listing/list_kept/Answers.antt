@@ -24,8 +24,7 @@ loop-page-preserved c =
     record {
       looks = looks_then x.looks c.list_page.ensures.looks;
       on = lists_then x.on on;
-      listed = pages_more c.loop-page.page on x.listed
-          (subst (λ (y : View). (b : ℕ) → is_kept k (world_in y) b ≡ true
+      listed = pages_more c.loop-page.page on x.listed (subst (λ (y : View). (b : ℕ) → is_kept k (world_in y) b ≡ true
           → (cell_of_allocation k (placed_at y.allocations b)).page ≡ c.loop-page.page
           → IsListed s.kept.items (base_at y b)) x.looks.view c.list_page.ensures.listed);
     }

@@ -6,8 +6,7 @@ use Rattle.mk_why.proofs.listing.list_page.Goals as goal
 
 pub list_cells-requires-clause-header : goal.list_cells-requires-clause-header
 list_cells-requires-clause-header c =
-    c.look_at-header.ensures.found
-    ∙ sym (ap (λ (v : View). header_at v.words c.args.page)
+    c.look_at-header.ensures.found ∙ sym (ap (λ (v : View). header_at v.words c.args.page)
     (c.look_at-marks.ensures.on.view ∙ c.look_at-quarantine.ensures.on.view ∙ c.look_at-header.ensures.on.view))
 
 pub list_cells-requires-clause-snapshot : goal.list_cells-requires-clause-snapshot

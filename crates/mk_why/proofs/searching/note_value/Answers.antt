@@ -1,8 +1,7 @@
 use Rattle.mk_why.proofs.Vocabulary.{view_by}
 use Rattle.mk_laws.proofs.Vocabulary.{arith}
-use Rattle.mk_why.proofs.Explored.{found_by, noted_by}
-use Rattle.mk_why.proofs.{Pointed.begins_at, Searches.Notes, Searches.grows_nothing, Searches.notes}
-use Rattle.mk_why.proofs.searching.note_value.Goals.{After-note}
+use Rattle.mk_why.proofs.{Explored.found_by, Explored.noted_by, Pointed.begins_at, Searches.Notes}
+use Rattle.mk_why.proofs.{Searches.grows_nothing, Searches.notes, searching.note_value.Goals.After-note}
 use Rattle.mk_why.proofs.searching.note_value.Goals as goal
 
 pub returns-in_default-clause-noted : goal.returns-in_default-clause-noted
@@ -38,5 +37,4 @@ returns-clause-on c =
     record { on = c.base_pointed.ensures.on; search = n.search; grows = n.grows }
 
 pub returns-clause-noted : goal.returns-clause-noted
-returns-clause-noted c =
-    noted_by c.in-Some.ensures.points (noted (goal.at.returns-clause-noted c).After-note).within
+returns-clause-noted c = noted_by c.in-Some.ensures.points (noted (goal.at.returns-clause-noted c).After-note).within

@@ -34,12 +34,10 @@ returns-clause-explored c =
     (noted_stays k v c.search_registers.new.tables.found.items c.search_globals.new.tables.found.items
     c.search_globals.ensures.on.grows.stays (word_of_root v.words (Register caller register)) 0
     (c.search_registers.ensures.noted caller lt register few)) in
-    let globals : (global : ℕ) → global < 64 → IsNoted k v found (word_of_root v.words (Global global)) 0 =
-    λ global lt. noted_stays k v c.search_globals.new.tables.found.items found c.search_queue.ensures.grows.stays
-    (word_of_root v.words (Global global)) 0
-    (part_noted k c.search_globals.new.tables.found.items
-    (λ y. word_of_root y.words (Global global)) 0 c.search_registers.ensures.on.on
-    (c.search_globals.ensures.noted global lt)) in
+    let globals : (global : ℕ) → global < 64 → IsNoted k v found (word_of_root v.words (Global global)) 0 = λ global
+    lt. noted_stays k v c.search_globals.new.tables.found.items found c.search_queue.ensures.grows.stays
+    (word_of_root v.words (Global global)) 0 (part_noted k c.search_globals.new.tables.found.items (λ y. word_of_root
+    y.words (Global global)) 0 c.search_registers.ensures.on.on (c.search_globals.ensures.noted global lt)) in
     let done : (base : ℕ) → IsFound found base → IsSearched k v found base = λ base x.
     subst (λ (y : View). IsSearched k y found base) on.view (c.search_queue.ensures.done base x) in
     explored k v found done (subst (λ (y : View). AreWays k y found) on.view c.search_queue.ensures.ways)

@@ -54,8 +54,7 @@ search_words-requires-clause-search c =
     let x = goal.at.search_words-requires-clause-search c in
     let k = c.args.words.now.config in
     let r = c.args.tables.now in
-    view_search c.scanned_size-size.ensures.on
-    (subst (λ n. IsSearch k (view_by c.args.stop.now.pass) r (n + 1))
+    view_search c.scanned_size-size.ensures.on (subst (λ n. IsSearch k (view_by c.args.stop.now.pass) r (n + 1))
     (links x.In-Some (base x.After-index-base) (there x.In-Some (low x.After-index-base))) c.requires.search)
 
 pub search_words-requires-clause-shallow : goal.search_words-requires-clause-shallow
@@ -83,11 +82,9 @@ returns-clause-done c =
     let r = c.args.tables.now in
     let there = there x.In-Some (low x.After-index-base) in
     let found = c.search_words.new.tables.found.items in
-    subst (λ n. IsSearched k v found n) (base x.After-index-base)
-    (done_from k v c.scanned_size-size.result
+    subst (λ n. IsSearched k v found n) (base x.After-index-base) (done_from k v c.scanned_size-size.result
     (through_stays r.found.items found c.search_words.ensures.on.grows.stays c.index-base.result.now
     c.in-Some.found.links (record { entry = c.in-Some.found; there = there; through = refl }))
-    c.scanned_size-size.ensures.whole
-    (λ i lt. part_noted k found
+    c.scanned_size-size.ensures.whole (λ i lt. part_noted k found
     (λ y. slice_index y.words.heap (c.index-base.result.now + i)) (c.in-Some.found.links + 1)
     c.scanned_size-size.ensures.on (c.search_words.ensures.noted i lt)))

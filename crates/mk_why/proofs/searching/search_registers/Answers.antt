@@ -22,8 +22,7 @@ loop-caller-preserved c =
       on = searches_then c.loop-caller.invariant.on c.search_registers_of.ensures.on;
       noted =
           below_more (λ j. (r : ℕ) → r < 8 → IsNoted k v more (word_of_root v.words (Register j r)) 0)
-          c.loop-caller.caller
-          (λ j lt r few. noted_stays k v c.loop-caller.tables.found.items more
+          c.loop-caller.caller (λ j lt r few. noted_stays k v c.loop-caller.tables.found.items more
           c.search_registers_of.ensures.on.grows.stays (word_of_root v.words (Register j r)) 0
           (c.loop-caller.invariant.noted j lt r few))
           (λ r few. part_noted k more (λ y. word_of_root y.words (Register c.loop-caller.caller r)) 0

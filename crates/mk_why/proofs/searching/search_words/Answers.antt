@@ -35,10 +35,8 @@ loop-i-preserved c =
     let value : c.look_at-value.result ≡ slice_index v.words.heap (c.args.base + c.loop-i.i) = grind arith in
     record {
       on = searches_then c.loop-i.invariant.on (looks_search c.look_at-value.ensures.on c.note_value.ensures.on);
-      noted = more_noted k v c.loop-i.tables.found.items found c.note_value.ensures.on.grows.stays
-          (λ i. slice_index v.words.heap (c.args.base + i)) (c.args.links + 1) c.loop-i.i c.loop-i.invariant.noted
-          (subst (λ u. IsNoted k v found u (c.args.links + 1)) value
-          (part_noted k found (λ y. c.look_at-value.result)
-          (c.args.links + 1) (looks_then
-          c.loop-i.invariant.on.on c.look_at-value.ensures.on) c.note_value.ensures.noted));
+      noted = more_noted k v c.loop-i.tables.found.items found c.note_value.ensures.on.grows.stays (λ i. slice_index
+          v.words.heap (c.args.base + i)) (c.args.links + 1) c.loop-i.i c.loop-i.invariant.noted (subst (λ u. IsNoted k
+          v found u (c.args.links + 1)) value (part_noted k found (λ y. c.look_at-value.result) (c.args.links + 1)
+          (looks_then c.loop-i.invariant.on.on c.look_at-value.ensures.on) c.note_value.ensures.noted));
     }

@@ -25,9 +25,7 @@ returns-clause-on c =
 
 pub returns-clause-found : goal.returns-clause-found
 returns-clause-found c =
-    look_finds c.args.stop.now.pass c.look.new.self.pass
-    (wanted_now c.args.stop.now.pass
+    look_finds c.args.stop.now.pass c.look.new.self.pass (wanted_now c.args.stop.now.pass
     (in_turn _ _ c.is_in_order.ensures.own c.is_in_order.ensures.turn c.is_in_order.ensures.history)
-    c.is_in_order.ensures.gates c.requires.still)
-    (c.is_in_order.ensures.turn.holds, c.is_in_order.ensures.gates) c.args.x c.look.ensures.acts c.look.result
-    c.look.ensures.finds c.requires.name
+    c.is_in_order.ensures.gates c.requires.still) (c.is_in_order.ensures.turn.holds, c.is_in_order.ensures.gates)
+    c.args.x c.look.ensures.acts c.look.result c.look.ensures.finds c.requires.name

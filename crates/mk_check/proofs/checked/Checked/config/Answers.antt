@@ -27,8 +27,7 @@ returns-clause-within_limits c =
     let program = c.self.inside.program in
     let same = c.items-items.ensures.items in
     let numbers = c.in_ok-numbers.ensures ∙ same in
-    subst IsWithinLimits
-    (sym (config_is program _ _ _ c.args.markers _ _
+    subst IsWithinLimits (sym (config_is program _ _ _ c.args.markers _ _
     (c.heap_pages-heap.ensures.pages ∙ ap pages_of same) (c.heap_pages-heap.ensures.resident ∙ ap resident_of same)
     (c.scripts.ensures ∙ ap (λ items. length (script_names items)) (sym c.self.view_is))
     (c.in_ok-types.ensures ∙ ap types_of numbers) (c.in_ok-globals.ensures ∙ ap globals_of numbers)))

@@ -1,9 +1,9 @@
 use Rattle.std.{proofs.Common.OnErr, specs.declared.result.Result.Result}
-use Rattle.mk_check.proofs.Vocabulary.{Err, FeedState, IfOk-weaker, IsAtStop, IsFeed, IsTree, List, Node, None, Ok}
-use Rattle.mk_check.proofs.Vocabulary.{OnOk, Op, Option, Place, PlaceFits, PlaceIsWithin, StopsAt, TakesAnswer, ℕ}
-use Rattle.mk_check.proofs.Vocabulary.{after_answer, ap, false, is_some, kept_in, left_in, length, node_at, op_asked}
-use Rattle.mk_check.proofs.Vocabulary.{op_in, op_of_node, refusal_line, refusal_text, stop_on_answer, stopped_in, subst}
-use Rattle.mk_check.proofs.Vocabulary.{sym, true, with_kept, work_left, [], ◌++◌, ◌<◌, ◌∙◌, ◌∷◌, ◌≡◌}
+use Rattle.mk_check.proofs.Vocabulary.{FeedState, IfOk-weaker, IsAtStop, IsFeed, IsTree, List, Node, None, OnOk, Op}
+use Rattle.mk_check.proofs.Vocabulary.{Option, Place, PlaceFits, PlaceIsWithin, StopsAt, TakesAnswer, ℕ, after_answer}
+use Rattle.mk_check.proofs.Vocabulary.{ap, arith, false, is_some, kept_in, left_in, length, node_at, op_asked, op_in}
+use Rattle.mk_check.proofs.Vocabulary.{op_of_node, refusal_line, refusal_text, stop_on_answer, stopped_in, subst, sym}
+use Rattle.mk_check.proofs.Vocabulary.{true, with_kept, work_left, [], ◌++◌, ◌<◌, ◌∙◌, ◌∷◌, ◌≡◌}
 use Rattle.mk_check.proofs.Stands.{answer_stands, answer_stops, op_of_others, waits_for_answer}
 use Rattle.mk_check.proofs.feeding.Feed.answer_ahead.Goals.{After-follow, In_ok-take}
 use Rattle.mk_check.proofs.{Moves.line_fits, TreeNodes.is_at, WorkLaws.answer_nearer}
@@ -11,8 +11,7 @@ use Rattle.mk_check.specs.Feeding.{StandsForSome}
 use Rattle.mk_check.proofs.feeding.Feed.answer_ahead.Goals as goal
 
 -- the node that waits is that of the line
-waits : (c : After-follow)
-    → node_at c.self.inside.tree c.self.inside.running.at
+waits : (c : After-follow) → node_at c.self.inside.tree c.self.inside.running.at
     ≡ Node.Line c.in-Line.line c.in-Line.instruction c.in-Line.next
 waits c = ap (node_at c.self.inside.tree) (sym c.at.ensures) ∙ sym c.in-Line.ensures.value
 
@@ -24,23 +23,19 @@ stops : (c : After-follow)
 stops c e =
     let nodes = c.self.inside.tree in
     let p = c.self.inside.running in
-    let starts : c.take.new.self
-    ≡ with_kept (record p { at = c.in-Line.next })
+    let starts : c.take.new.self ≡ with_kept (record p { at = c.in-Line.next })
     (after_answer c.in-Line.instruction c.args.answer
     (record { numbers = p.numbers; text = refusal_line c.in-Line.line (refusal_text c.args.answer) })) =
     c.in_ok-take.ensures
     ∙ ap (λ (q : Place). with_kept q (after_answer c.in-Line.instruction c.args.answer (kept_in q)))
-    (c.in_ok-print_refusal.ensures
-    ∙ ap (λ (q : Place). let later : Place = record q
-    { text = q.text ++ refusal_line c.in-Line.line (refusal_text c.args.answer) } in later) c.copy_at.ensures)
-    in
+    (c.in_ok-print_refusal.ensures ∙ ap (λ (q : Place). let later : Place = record q
+    { text = q.text ++ refusal_line c.in-Line.line (refusal_text c.args.answer) } in later) c.copy_at.ensures) in
     answer_stops nodes p c.take.new.self c.run.new.self c.follow.new.self c.in-Line.line c.in-Line.instruction
     c.in-Line.next c.args.answer
     c.in-Line.ensures.tree c.self.invariant.stop.within (waits c) starts c.in_ok-run.ensures e
 
 either : {T E : Type 0} (r : Result T E) (P Q X : Type 0) → OnOk r P → OnErr r Q → (P → X) → (Q → X) → X
-either (Ok x) P Q X p q f g = f p
-either (Err e) P Q X p q f g = g q
+either x0 x1 x2 x3 p q f g = grind arith
 
 -- the state that it was in
 feed : (c : After-follow) → IsFeed c.args.self.now
@@ -71,8 +66,7 @@ unreachable-requires c =
     let nodes = c.self.inside.tree in
     let is = subst (λ (s : FeedState). IsFeed s) c.self.view_is c.self.invariant in
     let tree = subst (λ (s : FeedState). IsTree s.nodes) c.self.view_is c.node.ensures.tree in
-    let none : op_in c.args.self.now ≡ None =
-    ap op_in (sym c.self.view_is)
+    let none : op_in c.args.self.now ≡ None = ap op_in (sym c.self.view_is)
     ∙ (ap (op_of_node c.self.inside.running.numbers) (sym (c.node.ensures.value ∙ ap (node_at nodes) c.at.ensures))
     ∙ op_of_others c.self.inside.running.numbers c.node.result c.in_default.not-Line) in
     let some = waits_for_answer c.args.self.now tree is c.requires in
@@ -88,34 +82,23 @@ starts_at c =
     ap (node_at nodes) (sym c.at.ensures) ∙ sym c.in-Line.ensures.value in
     let next = line_fits nodes (is_at c.in-Line.ensures.tree c.self.invariant.stop.within here)
     c.self.invariant.stop.fits in
-    let starts : c.take.new.self
-    ≡ with_kept (record p { at = c.in-Line.next })
+    let starts : c.take.new.self ≡ with_kept (record p { at = c.in-Line.next })
     (after_answer c.in-Line.instruction c.args.answer
     (record { numbers = p.numbers; text = refusal_line c.in-Line.line (refusal_text c.args.answer) })) =
     c.in_ok-take.ensures
     ∙ ap (λ (q : Place). with_kept q (after_answer c.in-Line.instruction c.args.answer (kept_in q)))
-    (c.in_ok-print_refusal.ensures
-    ∙ ap (λ (q : Place). let later : Place = record q
-    { text = q.text ++ refusal_line c.in-Line.line (refusal_text c.args.answer) } in later) c.copy_at.ensures)
-    in
+    (c.in_ok-print_refusal.ensures ∙ ap (λ (q : Place). let later : Place = record q
+    { text = q.text ++ refusal_line c.in-Line.line (refusal_text c.args.answer) } in later) c.copy_at.ensures) in
     subst (λ (q : Place). PlaceFits nodes q) (sym starts) (record { here = next.here; frames = next.frames })
-
--- text doesn't change where a script stops
-stops_so : (n : Node) (q : Place) (text : List ℕ) → StopsAt n q → StopsAt n (record q { text = text })
-stops_so Node.Done q text h = h
-stops_so (Node.Line line instruction next) q text h = h
-stops_so (Node.Rounds rounds body next) q text h = h
-stops_so (Node.Choice number first second next) q text h = h
 
 stops_behind_text : (nodes : List Node) (q t : Place) (text : List ℕ) → t ≡ record q { text = text }
     → PlaceIsWithin (length nodes) q → PlaceFits nodes q → StopsAt (node_at nodes q.at) q
     → IsAtStop (record { nodes = nodes; place = t })
 stops_behind_text nodes q t text e w f h =
-    subst (λ (p : Place). IsAtStop (record { nodes = nodes; place = p })) (sym e)
-    (record {
+    subst (λ (p : Place). IsAtStop (record { nodes = nodes; place = p })) (sym e) (record {
       within = record { at = w.at; frames = w.frames };
       fits = record { here = f.here; frames = f.frames };
-      stops = stops_so (node_at nodes q.at) q text h;
+      stops = grind arith;
     })
 
 pub run-requires-clause-fits : goal.run-requires-clause-fits
@@ -131,15 +114,13 @@ invariant_of-self-2 c =
           (c.in_ok-run.ensures.fits (starts_at ((goal.at.invariant_of-self-2 c).In_ok-take))) c.in_ok-run.ensures.at)
           (λ e. subst (λ (p : Place). IsAtStop (record { nodes = c.self.inside.tree; place = p }))
           (sym e) c.self.invariant.stop);
-      some = either c.follow.result _ _ (StandsForSome after) c.follow.ensures.ok c.follow.ensures.err
-          (λ e. record {
-            program = f.some.program;
-            k = f.some.k;
-            answers = f.some.answers ++ c.args.answer ∷ [];
-            stands = takes ((goal.at.invariant_of-self-2 c).After-follow) e f.some.program f.some.k f.some.answers
-                f.some.stands;
-          })
-          (λ e. subst (λ (p : Place). StandsForSome (record { nodes = c.self.inside.tree; place = p }))
+      some = either c.follow.result _ _ (StandsForSome after) c.follow.ensures.ok c.follow.ensures.err (λ e. record {
+        program = f.some.program;
+        k = f.some.k;
+        answers = f.some.answers ++ c.args.answer ∷ [];
+        stands = takes ((goal.at.invariant_of-self-2 c).After-follow) e f.some.program f.some.k f.some.answers
+            f.some.stands;
+      }) (λ e. subst (λ (p : Place). StandsForSome (record { nodes = c.self.inside.tree; place = p }))
           (sym e) c.self.invariant.some);
     }
 

@@ -29,10 +29,8 @@ answered c l =
 pub invariant_of-self : goal.invariant_of-self
 invariant_of-self c =
     feeds (record { nodes = c.self.inside.tree; place = c.self.inside.running }) c.answer_silently.new.self
-    c.answer_silently.result
-    (λ t. feeds_at_once (answered ((goal.at.invariant_of-self c).After-answer_silently)
-    (c.answer_silently.ensures.taken t)))
-    c.answer_silently.ensures.refused c.self.invariant
+    c.answer_silently.result (λ t. feeds_at_once (answered ((goal.at.invariant_of-self c).After-answer_silently)
+    (c.answer_silently.ensures.taken t))) c.answer_silently.ensures.refused c.self.invariant
 
 pub returns-clause-taken : goal.returns-clause-taken
 returns-clause-taken c =

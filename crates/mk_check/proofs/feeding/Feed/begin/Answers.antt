@@ -62,27 +62,23 @@ begins c steps =
     let script : ScriptText = script_of program k in
     let count : c.numbers.result ≡ length scope.numbers = cc (c.numbers.ensures, named) in
     let at = c.in_ok-tree.at in
-    let place : c.in_ok-running.running
-    ≡ record {
+    let place : c.in_ok-running.running ≡ record {
       at = at;
       frames = [];
       numbers = (fed_before_lines scope script).numbers;
       text = (fed_before_lines scope script).text;
     } =
-    c.in_ok-running.ensures
-    ∙ (ap (λ (n : ℕ). let p : Place = record {
+    c.in_ok-running.ensures ∙ (ap (λ (n : ℕ). let p : Place = record {
       at = at;
       frames = [];
       numbers = replicate n 0;
       text = codes "script " ++ (lines.result.name.now ++ newline);
-    } in p) count
-    ∙ ap (λ (name : List ℕ). let p : Place = record {
+    } in p) count ∙ ap (λ (name : List ℕ). let p : Place = record {
       at = at;
       frames = [];
       numbers = (fed_before_lines scope script).numbers;
       text = codes "script " ++ (name ++ newline);
-    } in p)
-    lines.ensures.name) in
+    } in p) lines.ensures.name) in
     start_stands program k (record { nodes = c.in_ok-tree.tree; place = c.run.new.self })
     (start_stops c.in_ok-tree.tree scope script c.in_ok-tree.at c.in_ok-running.running c.run.new.self steps place
     c.in_ok-run.ensures)
@@ -98,8 +94,7 @@ invariant_of-result c = record {
     program = c.args.items.now;
     k = c.args.script;
     answers = [];
-    stands = begins ((goal.at.invariant_of-result c).In_ok-run)
-        (steps ((goal.at.invariant_of-result c).In_ok-running));
+    stands = begins ((goal.at.invariant_of-result c).In_ok-run) (steps ((goal.at.invariant_of-result c).In_ok-running));
   };
 }
 

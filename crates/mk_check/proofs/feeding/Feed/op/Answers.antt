@@ -7,8 +7,7 @@ asks : (c : After-asked) → c.asked.result ≡ op_in c.args.self.now
 asks c =
     let nodes = c.self.inside.tree in
     let numbers = c.self.inside.running.numbers in
-    c.asked.ensures
-    ∙ (ap (op_asked numbers) (c.instruction-instruction.ensures.value
+    c.asked.ensures ∙ (ap (op_asked numbers) (c.instruction-instruction.ensures.value
     ∙ ap (λ (at : _). instruction_of_node (node_at nodes at)) c.at.ensures)
     ∙ (op_by_instruction numbers (node_at nodes c.self.inside.running.at) ∙ ap op_in c.self.view_is))
 

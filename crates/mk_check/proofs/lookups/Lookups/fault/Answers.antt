@@ -14,5 +14,4 @@ returns c line behind =
       c.pointer_access_fault.ensures,
       c.pointer_line_fault.ensures,
       c.number_line_fault.ensures,
-    )
-    (fault_of_sorts-line (around c.args.self.now) line behind c.args.item.now c.requires)
+    ) (fault_of_sorts-line (around c.args.self.now) line behind c.args.item.now c.requires)

@@ -1,7 +1,7 @@
-use Rattle.mk_check.proofs.Vocabulary.{ap, append-nil, first_at, map, map-append, number_names, option_or, pointer_at}
-use Rattle.mk_check.proofs.Vocabulary.{sym, [], ◌++◌, ◌∙◌, ◌∷◌}
-use Rattle.mk_check.proofs.LookupLemmas.{first_at-append, is_script-other, number_names-append, number_names-push_other}
-use Rattle.mk_check.proofs.LookupLemmas.{option_or-none, pointer_at-append, pointer_at-push_other}
+use Rattle.mk_check.proofs.Vocabulary.{ap, append-nil, first_at, map, map-append, number_names, number_names-append}
+use Rattle.mk_check.proofs.Vocabulary.{option_or, pointer_at, sym, [], ◌++◌, ◌∙◌, ◌∷◌}
+use Rattle.mk_check.proofs.LookupLemmas.{first_at-append, is_script-other, number_names-push_other, option_or-none}
+use Rattle.mk_check.proofs.LookupLemmas.{pointer_at-append, pointer_at-push_other}
 use Rattle.mk_script.specs.declared.items.Item.TheVariants.{Num, Ptr}
 use Rattle.mk_check.proofs.lookups.Registers.add.Goals as goal
 

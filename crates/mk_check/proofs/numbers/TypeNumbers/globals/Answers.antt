@@ -29,8 +29,7 @@ loop-item-preserved c =
             next,
             w.in-Global.is,
             globals_among-append names front,
-          )
-          (ap (λ globals. globals ++ number_of_name w.in-Global.ty names ∷ []) c.loop-item.invariant)
+          ) (ap (λ globals. globals ++ number_of_name w.in-Global.ty names ∷ []) c.loop-item.invariant)
       | in_default w ↦
           rw (w.globals-is, next, globals_among-push_other names front c.item-item.result w.in_default.not-Global)
           c.loop-item.invariant
@@ -38,6 +37,5 @@ loop-item-preserved c =
 
 pub returns : goal.returns
 returns c =
-    c.loop-item.invariant
-    ∙ ap (globals_among (type_names c.args.self.now))
+    c.loop-item.invariant ∙ ap (globals_among (type_names c.args.self.now))
     (take_all c.loop-item.item-index c.self.inside.program.now c.loop-item-test.false ∙ c.self.view_is)

@@ -13,6 +13,5 @@ returns c =
       c.as_bytes.ensures,
       number_of_name-among name (type_names c.args.self.now),
       ← c.self.view_is,
-    )
-    (ap (λ place. unwrap_or place c.self.inside.count) (c.self.invariant.places name)
+    ) (ap (λ place. unwrap_or place c.self.inside.count) (c.self.invariant.places name)
     ∙ ap (λ n. unwrap_or (number_among name names) n) c.self.invariant.all)

@@ -1,6 +1,7 @@
 use Rattle.mk_check.proofs.Vocabulary.{arith, take, type_names}
-use Rattle.mk_check.proofs.NumberLemmas.{AreNumbers-push, take-step, type_names-append, type_names-push_other}
+use Rattle.mk_check.proofs.NumberLemmas.{AreNumbers-push, take-step, type_names-push_other}
 use Rattle.mk_check.proofs.numbers.TypeNumbers.of_program.Goals.{in-TypeLine+in_ok-add_first, in_default}
+use Rattle.mk_script.proofs.Pushed.{type_names-append}
 use Rattle.mk_check.proofs.numbers.TypeNumbers.of_program.Goals as goal
 
 pub loop-item-preserved : goal.loop-item-preserved
@@ -18,8 +19,5 @@ loop-item-preserved c =
           })
       | in_default w ↦
           rw (w.numbers-is, w.count-is, next, type_names-push_other front c.item-item.result w.in_default.not-TypeLine)
-          (record {
-            numbers = known.numbers;
-            fits = omega (arith, known.fits);
-          })
+          (record { numbers = known.numbers; fits = omega (arith, known.fits) })
     ]

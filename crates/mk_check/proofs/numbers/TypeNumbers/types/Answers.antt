@@ -19,8 +19,7 @@ loop-item-preserved c =
             next,
             w.in-TypeLine.is,
             kinds_among-append names front,
-          )
-          (ap (λ kinds. kinds ++ map (kind_of names) w.in-TypeLine.words ∷ []) c.loop-item.invariant)
+          ) (ap (λ kinds. kinds ++ map (kind_of names) w.in-TypeLine.words ∷ []) c.loop-item.invariant)
       | in_default w ↦
           rw (w.types-is, next, kinds_among-push_other names front c.item-item.result w.in_default.not-TypeLine)
           c.loop-item.invariant
@@ -28,6 +27,5 @@ loop-item-preserved c =
 
 pub returns : goal.returns
 returns c =
-    c.loop-item.invariant
-    ∙ ap (kinds_among (type_names c.args.self.now))
+    c.loop-item.invariant ∙ ap (kinds_among (type_names c.args.self.now))
     (take_all c.loop-item.item-index c.self.inside.program.now c.loop-item-test.false ∙ c.self.view_is)

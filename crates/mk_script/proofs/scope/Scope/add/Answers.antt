@@ -10,8 +10,7 @@ pub returns-in-Heap : goal.returns-in-Heap
 returns-in-Heap c = λ before scope fresh.
     let old = c.args.self.now in
     let is = c.in-Heap.is in
-    after_line old _ before c.args.item.now [] [] [] [] [] scope
-    (adds c.args.item.now _ is) (ap is_script is)
+    after_line old _ before c.args.item.now [] [] [] [] [] scope (adds c.args.item.now _ is) (ap is_script is)
     refl refl (sym (or-false old.has_instruction (is_instruction c.args.item.now) (ap is_instruction is)))
     (kept old.types) (kept old.globals) (kept old.scripts) (kept old.pointers)
     (kept old.numbers) c.in_ok-follow_blocks.ensures
@@ -33,8 +32,7 @@ returns-in-Global c = λ before scope fresh.
     let old = c.args.self.now in
     let is = c.in-Global.is in
     let absent : is_among c.in-Global.name old.globals ≡ false =
-    among c.in-Global.name (global_names before) old.globals scope.globals ∙ sym (ap (is_twice before) is)
-    ∙ fresh in
+    among c.in-Global.name (global_names before) old.globals scope.globals ∙ sym (ap (is_twice before) is) ∙ fresh in
     on_ok c.insert-in-Global.result (c.insert-in-Global.ensures absent) (λ added.
     after_line old _ before c.args.item.now [] (c.in-Global.name ∷ []) [] [] [] scope
     (adds c.args.item.now _ is) (ap is_script is)
@@ -74,8 +72,7 @@ returns-in-Script c = λ before scope fresh.
     let old = c.args.self.now in
     let is = c.in-Script.is in
     let absent : is_among c.in-Script.name old.scripts ≡ false =
-    among c.in-Script.name (script_names before) old.scripts scope.scripts ∙ sym (ap (is_twice before) is)
-    ∙ fresh in
+    among c.in-Script.name (script_names before) old.scripts scope.scripts ∙ sym (ap (is_twice before) is) ∙ fresh in
     on_ok c.begin_script.result (c.begin_script.ensures absent) (λ begun.
     after_script old c.begin_script.new.self before c.args.item.now c.in-Script.name is scope
     (ap (λ new. new.has_header) begun.new_is) (ap (λ new. new.has_script) begun.new_is)

@@ -7,8 +7,7 @@ use Rattle.mk_check.proofs.feeding.building.Builder.add.Goals as goal
 at_line : (r : Result (Unit {0}) NoMemory) (line : ℕ) (e e' : Element) (old new : Built) → e ≡ e'
     → OnOk r ((at : ℕ) → AddsLine at e' old new) → OnOk r (AddsLine line e old new)
 at_line r line e e' old new is h =
-    IfOk-weaker r (λ _. (at : ℕ)
-    → AddsLine at e' old new) (λ _. AddsLine line e old new)
+    IfOk-weaker r (λ _. (at : ℕ) → AddsLine at e' old new) (λ _. AddsLine line e old new)
     (λ _ a. subst (λ (x : Element). AddsLine line x old new) (sym is) (a line)) h
 
 pub returns-in-Repeat : goal.returns-in-Repeat

@@ -28,5 +28,4 @@ returns c =
     → AddsLine line (Element.If c.args.number) b c.grow.new.self)
     (λ _ e line. subst (λ (x : Built). AddsLine line (Element.If c.args.number) b x)
     (sym (e ∙ ap (λ (x : Built). new x.nodes) c.self.view_is))
-    (if_added b parts part inner line c.args.number c.requires (was ((goal.at.returns c).In-Some-pop))))
-    c.grow.ensures
+    (if_added b parts part inner line c.args.number c.requires (was ((goal.at.returns c).In-Some-pop)))) c.grow.ensures

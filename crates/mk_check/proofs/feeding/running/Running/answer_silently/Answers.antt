@@ -13,10 +13,8 @@ take_silently-requires-clause-fits c =
 
 pub returns-else-take_number_at_once-clause-taken : goal.returns-else-take_number_at_once-clause-taken
 returns-else-take_number_at_once-clause-taken c =
-    λ t. subst (λ (a : Answer). TakesLine c.args.tree.now a c.args.self.now
-    c.take_silently.new.self) (sym c.in-Num.is)
-    (subst (λ (p : Place). TakesLine c.args.tree.now (Answer.Num c.in-Num.value) p
-    c.take_silently.new.self)
+    λ t. subst (λ (a : Answer). TakesLine c.args.tree.now a c.args.self.now c.take_silently.new.self) (sym c.in-Num.is)
+    (subst (λ (p : Place). TakesLine c.args.tree.now (Answer.Num c.in-Num.value) p c.take_silently.new.self)
     (c.take_number_at_once.ensures.refused c.if-take_number_at_once.false) (c.take_silently.ensures.taken t))
 
 pub take_silently-requires-in-Done-clause-within : goal.take_silently-requires-in-Done-clause-within
@@ -31,6 +29,5 @@ take_silently-requires-in-Done-clause-fits c =
 
 pub returns-else-go_on_at_once-clause-taken : goal.returns-else-go_on_at_once-clause-taken
 returns-else-go_on_at_once-clause-taken c =
-    λ t. subst (λ (p : Place). TakesLine c.args.tree.now c.args.answer p
-    c.take_silently-in-Done.new.self)
+    λ t. subst (λ (p : Place). TakesLine c.args.tree.now c.args.answer p c.take_silently-in-Done.new.self)
     (c.go_on_at_once.ensures.refused c.if-go_on_at_once.false) (c.take_silently-in-Done.ensures.taken t)

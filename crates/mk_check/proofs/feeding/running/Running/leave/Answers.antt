@@ -26,5 +26,4 @@ returns-in-Some-Branch-clause-left c =
     λ t. branch_left p c.close-in-Some-Branch.new.self next last c.close-in-Some-Branch.ensures
 
 pub returns-in-None-clause-none : goal.returns-in-None-clause-none
-returns-in-None-clause-none c =
-    λ f. (none_open c.args.self.now.frames (sym c.innermost.ensures ∙ c.in-None.is), refl)
+returns-in-None-clause-none c = λ f. (none_open c.args.self.now.frames (sym c.innermost.ensures ∙ c.in-None.is), refl)

@@ -22,16 +22,14 @@ returns-in-Done-clause-stops c =
     λ f. subst (λ (p : Place). HasStopped c.args.tree.now c.args.self.now p) (sym (c.leave.ensures.none f).1)
     (ends_at c.args.tree.now (found_at c.self.view_is e.tree c.requires.within e.value) (c.leave.ensures.none f).0)
 
-pub returns-in_ok-run_line-in-Line-clause-goes_on :
-    goal.returns-in_ok-run_line-in-Line-clause-goes_on
+pub returns-in_ok-run_line-in-Line-clause-goes_on : goal.returns-in_ok-run_line-in-Line-clause-goes_on
 returns-in_ok-run_line-in-Line-clause-goes_on c =
     let p = c.args.self.now in
     let e = c.in-Line.ensures in
     let none : is_some (op_asked c.args.self.now.numbers c.in-Line.instruction) ≡ false = cc in
     let new : c.run_line.new.self
     ≡ with_kept (record p { at = c.in-Line.next }) (after_line c.in-Line.instruction (kept_in p)) =
-    c.in_ok-run_line-in-Line.ensures
-    ∙ ap (λ (q : Place). with_kept (record q { at = c.in-Line.next })
+    c.in_ok-run_line-in-Line.ensures ∙ ap (λ (q : Place). with_kept (record q { at = c.in-Line.next })
     (after_line c.in-Line.instruction (kept_in q))) c.self.view_is in
     λ t. subst (λ (q : Place). MovesOn c.args.tree.now p q) (sym new)
     (line_goes_on c.args.tree.now (found_at c.self.view_is e.tree c.requires.within e.value) none)

@@ -39,13 +39,11 @@ record GoesOn (c : After-calculate) : Type 0 where
       (after_line c.in-Line.instruction (kept_in c.args.self.now))
 
 goes_on : (c : After-calculate) → GoesOn c
-goes_on c =
-    record {
-      asks = sym c.asks.ensures ∙ c.if-asks.false;
-      new = c.calculate.ensures
-          ∙ ap (λ (q : Place). with_kept (record q { at = c.in-Line.next })
-          (after_line c.in-Line.instruction (kept_in q))) c.self.view_is;
-    }
+goes_on c = record {
+  asks = sym c.asks.ensures ∙ c.if-asks.false;
+  new = c.calculate.ensures ∙ ap (λ (q : Place). with_kept (record q { at = c.in-Line.next })
+      (after_line c.in-Line.instruction (kept_in q))) c.self.view_is;
+}
 
 pub returns-else-asks-clause-goes_on : goal.returns-else-asks-clause-goes_on
 returns-else-asks-clause-goes_on c =

@@ -4,8 +4,7 @@ use Rattle.mk_check.proofs.feeding.tree.Sequels.before.Goals as goal
 
 -- what is told of the instruction and of the node is what is so
 told_so : (next : ℕ) (shows shown : Bool) (told kept : Option ℕ) (s t : Sequel) (r : Sequels) → told ≡ kept → s ≡ t
-    → shows ≡ shown
-    → r ≡ sequels_by next shows told s → r ≡ sequels_by next shown kept t
+    → shows ≡ shown → r ≡ sequels_by next shows told s → r ≡ sequels_by next shown kept t
 told_so next shows shown told kept s t r e f g is = cc
 
 pub returns-then-shows : goal.returns-then-shows
