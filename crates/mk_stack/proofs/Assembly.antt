@@ -4,7 +4,7 @@ use Rattle.mk_stack.proofs.Vocabulary.{Checking, Done, Filling, Founded, Foundin
 use Rattle.mk_stack.proofs.Vocabulary.{NeverState, Op, Ordered, Placing, Point, Pop, Publishing, Push, Replied}
 use Rattle.mk_stack.proofs.Vocabulary.{Starting, bit, freed_by, left_by, numbers_in, register_at}
 use Rattle.mk_stack.proofs.Roles.{Role, Private, Taken, is_gone, put, put_by}
-use Rattle.mk_stack.proofs.Invariant.{Core, Local, IsHeld, IsPushing, IsFreeing, Work, Inv}
+use Rattle.mk_stack.proofs.Invariant.{AllHeld, Core, Inv, IsFreeing, IsHeld, IsPushing, Local, Work}
 use Rattle.mk_stack.proofs.Frames.{Leaves, local_stays}
 
 -- the job that a caller is at
@@ -76,34 +76,32 @@ module _ {callers : ℕ} {n : NeverState} {top : Option ℕ} {role : ℕ → Rol
       → Core callers m top' role' nodes' → ((k : ℕ) → k ≢ c → Leaves n top role m top' role' k)
       → ((k a : ℕ) → k ≢ c → HeldBefore k (role a) (role' a)) → Local m top' role' c w.point w.decided
       → ((a : ℕ) → IsHeld m (role' a) c a w.point) → Inv callers m top' role' nodes' (put W c w)
-  assemble m top' role' nodes' w core leaves before local held =
-      record {
-        core = core;
-        local = put_by (λ (k : ℕ) (x : Work). Local m top' role' k x.point x.decided) W c w local
-            (λ k other. local_stays n top role m top' role' k (leaves k other) (W k).point (W k).decided (inv.local k));
-        held = λ k a. put_by (λ (j : ℕ) (x : Work). IsHeld m (role' a) j a x.point) W c w (held a)
-            (λ j other. held_stays m (inv.held j a) (before j a other) (leaves j other).registers) k;
-      }
+  assemble m top' role' nodes' w core leaves before local held = record {
+    core = core;
+    local = put_by (λ (k : ℕ) (x : Work). Local m top' role' k x.point x.decided) W c w local
+        (λ k other. local_stays n top role m top' role' k (leaves k other) (W k).point (W k).decided (inv.local k));
+    held = λ k a. put_by (λ (j : ℕ) (x : Work). IsHeld m (role' a) j a x.point) W c w (held a)
+        (λ j other. held_stays m (inv.held j a) (before j a other) (leaves j other).registers) k;
+  }
 
   -- A step that changes no role
   pub same_roles : (m : NeverState) (top' : Option ℕ) {s : Point} {u : Option Done} {o : Op} {next : Point}
       {rest : List Replied} (u' : Option Done) (d : Option Ordered) → Core callers m top' role nodes
       → ((k : ℕ) → k ≢ c → Leaves n top role m top' role k) → Local m top' role c next u'
-      → ((a : ℕ) → IsHeld m (role a) c a next) → IsLeft d (numbers_in n nodes) (numbers_in m nodes) → Decides c s u d u'
+      → AllHeld m role c next → IsLeft d (numbers_in n nodes) (numbers_in m nodes) → Decides c s u d u'
       → ((a : ℕ) → freed_by a n c o ≡ 0) → Stepped callers n role nodes W c s u o next rest m
-  same_roles m top' {next} {rest} u' d core leaves local held left decides frees =
-      record {
-        top_now = top';
-        role_now = role;
-        nodes_now = nodes;
-        decided = u';
-        decision = d;
-        inv = assemble m top' role nodes (moved (W c) next u' rest) core leaves
-            (λ k a other. same_before k (role a)) local held;
-        left = left;
-        decides = decides;
-        frees = λ a. omega (arith, frees a);
-      }
+  same_roles m top' {next} {rest} u' d core leaves local held left decides frees = record {
+    top_now = top';
+    role_now = role;
+    nodes_now = nodes;
+    decided = u';
+    decision = d;
+    inv = assemble m top' role nodes (moved (W c) next u' rest) core leaves
+        (λ k a other. same_before k (role a)) local held;
+    left = left;
+    decides = decides;
+    frees = λ a. omega (arith, frees a);
+  }
 
 -- Where no role changes, nothing is freed,
 pub none_freed : (role : ℕ → Role) (a : ℕ) → bit (is_gone (role a)) ≡ bit (is_gone (role a)) + 0

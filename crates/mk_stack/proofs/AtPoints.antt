@@ -19,19 +19,4 @@ module _ {f g : ℕ → Value} (same : (x : ℕ) → x < 8 → g x ≡ f x) wher
 
   pub holds_still : (t : Point) → HoldsAt f t → HoldsAt g t
   holds_still Founding h = tt
-  holds_still Placing h = points 1 0 (omega arith) h
-  holds_still Founded h = tt
-  holds_still (Starting j) h = tt
-  holds_still (Checking j) h = may 1 0 (omega arith) h
-  holds_still (Making n) h = points 1 0 (omega arith) h
-  holds_still (Filling n) h = (points 1 0 (omega arith) h.0, points 0 1 (omega arith) h.1)
-  holds_still (Looking n) h = (points 1 0 (omega arith) h.0, points 0 1 (omega arith) h.1)
-  holds_still (Linking n) h = (points 1 0 (omega arith) h.0, points 0 1 (omega arith) h.1, may 0 2 (omega arith) h.2)
-  holds_still (Publishing n) h = (points 1 0 (omega arith) h.0, points 0 1 (omega arith) h.1, may 0 2 (omega arith) h.2)
-  holds_still Peeking h = points 1 0 (omega arith) h
-  holds_still Testing h = (points 1 0 (omega arith) h.0, may 0 2 (omega arith) h.1)
-  holds_still Following h = (points 1 0 (omega arith) h.0, points 0 2 (omega arith) h.1)
-  holds_still Taking h = (points 1 0 (omega arith) h.0, points 0 2 (omega arith) h.1, may 0 3 (omega arith) h.2)
-  holds_still Freeing h = points 0 2 (omega arith) h
-  holds_still Reading h = points 0 2 (omega arith) h
-  holds_still (Ended d) h = tt
+  holds_still _ h = grind (arith, points, may)

@@ -31,8 +31,7 @@ both_ok P Q R (Err e) y f p q = tt
 
 still_ok : {V U : Type 0} (R S : V → U → Type 0) (x : Result V NoMemory) (y : Result U NoMemory)
     → ((v : V) (u : U) → R v u → S v u) → IfOk x (λ v. IfOk y (λ u. R v u)) → IfOk x (λ v. IfOk y (λ u. S v u))
-still_ok R S x y f =
-    IfOk-weaker x (λ v. IfOk y (R v)) (λ v. IfOk y (S v)) (λ v. IfOk-weaker y (R v) (S v) (f v))
+still_ok R S x y f = IfOk-weaker x (λ v. IfOk y (R v)) (λ v. IfOk y (S v)) (λ v. IfOk-weaker y (R v) (S v) (f v))
 
 -- The jobs were done, the first caller read what is left, and the host said that all is over.
 module _ (w : WordsState) (markers : ℕ) (lists : List Jobs) (joined : Joined) (g i : HostState)

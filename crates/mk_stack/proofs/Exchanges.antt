@@ -1,16 +1,14 @@
 -- A caller exchanges the uppermost node, or frees the node that it took.
-use Rattle.mk_stack.proofs.Vocabulary.{Done, IsOneOf, NeverState, Op, Ordered, Point, Replied, Value, allocation_at}
-use Rattle.mk_stack.proofs.Vocabulary.{bit, freed_by, numbers_in, with_word, words_of}
-use Rattle.mk_laws.proofs.Vocabulary.{List, Option, Some, ℕ, ap, arith, length, length-set, subst, sym, ◌+◌, ◌<◌, ◌∙◌}
-use Rattle.mk_laws.proofs.Vocabulary.{◌≡◌, ◌≢◌, ◌≤◌, ◌⊎◌}
+use Rattle.mk_stack.proofs.Vocabulary.{Done, IsOneOf, NeverState, Op, Ordered, Point, Replied, Value, bit, freed_by}
+use Rattle.mk_stack.proofs.Vocabulary.{numbers_in, with_word, words_of}
+use Rattle.mk_laws.proofs.Vocabulary.{List, Option, Some, ℕ, ap, arith, sym, ◌+◌, ◌∙◌, ◌≡◌, ◌≢◌, ◌⊎◌}
 use Rattle.mk_stack.proofs.Assembly.{Decides, HeldBefore, IsLeft, Stepped, assemble, moved, none_freed_there}
-use Rattle.mk_stack.proofs.Heaps.{other_words, written_flag, written_size, written_type}
-use Rattle.mk_stack.proofs.Invariant.{Core, HasChain, Inv, IsHeld, Local, Work}
+use Rattle.mk_stack.proofs.Invariant.{AllHeld, Core, Fits, HasChain, Inv, Local, Work}
 use Rattle.mk_stack.proofs.Roles.{Base, Private, Role, RoleKeeps, Stacked, Taken, Unborn, is_gone, put, put_by}
 use Rattle.mk_stack.proofs.Roles.{same_role, size_of}
-use Rattle.mk_stack.proofs.Writes.{base_private, base_stacked, base_taken, granted, private_stacked, private_taken}
-use Rattle.mk_stack.proofs.Writes.{same_taken, taken_stacked, unborn_private, unborn_stacked, unborn_taken}
-use Rattle.mk_stack.proofs.Frames.{Leaves}
+use Rattle.mk_stack.proofs.Writes.{base_private, base_stacked, base_taken, private_stacked, private_taken, same_taken}
+use Rattle.mk_stack.proofs.Writes.{taken_stacked, unborn_private, unborn_stacked, unborn_taken}
+use Rattle.mk_stack.proofs.{Fitting.alike_fits, Fitting.written_fits, Frames.Leaves, Heaps.other_words}
 
 -- What another caller held before, where one role is now that of a node on the stack, or of this caller
 pub put_before : (role : ℕ → Role) (b : ℕ) (r : Role) (k a : ℕ) → (r ≡ Private k → ⊥) → (r ≡ Taken k → ⊥)
@@ -57,51 +55,35 @@ module _ {callers : ℕ} {n : NeverState} {top : Option ℕ} {role : ℕ → Rol
   before k b other = grind (arith, now, put_before, private_stacked, taken_stacked, private_taken, same_taken)
 
   -- both roles are of nodes that aren't freed
-  alike : (size_of r ≡ size_of (role a)) × (is_gone r ≡ is_gone (role a)) × (Unborn ≡ r → ⊥) × (r ≡ Base → ⊥)
-      × (Unborn ≡ role a → ⊥)
+  alike : (size_of r ≡ size_of (role a)) × (is_gone r ≡ is_gone (role a)) × (r ≢ Unborn) × (r ≢ Base)
+      × (role a ≢ Unborn)
   alike = grind (arith, size_of, is_gone, unborn_stacked, base_stacked, unborn_private, unborn_taken, base_taken)
 
   exchange_core : (nodes' : List ℕ) → ((b : ℕ) → now b ≡ Stacked → IsOneOf b nodes') → HasChain m top now nodes'
       → Core callers m top now nodes'
-  exchange_core nodes' stacked chain =
-      let core : Core callers n top role nodes = inv.core in
-      let count : length m.allocations ≡ length n.allocations = length-set n.allocations t _ in
-      let there : a < length n.allocations = granted a core alike.4 in
-      record {
-        node_type = core.node_type;
-        top_type = core.top_type;
-        registers = core.registers;
-        globals = core.globals;
-        unborn = put_by (λ (b : ℕ) (x : Role). length m.allocations ≤ b → x ≡ Unborn) role a r
-            (λ ge. absurd (omega (arith, count, there, ge)))
-            (λ b ne ge. core.unborn b (subst (λ (l : ℕ). l ≤ b) count ge));
-        born = put_by (λ (b : ℕ) (x : Role). b < length m.allocations → x ≢ Unborn) role a r (λ lt e. alike.2 (sym e))
-            (λ b ne lt. core.born b (subst (λ (l : ℕ). b < l) count lt));
-        size = put_by (λ (b : ℕ) (x : Role). length (words_of m b) ≡ size_of x) role a r
-            (written_size n t 0 a v ∙ core.size a ∙ sym alike.0) (λ b ne. written_size n t 0 b v ∙ core.size b);
-        freed = put_by (λ (b : ℕ) (x : Role). (allocation_at m b).freed ≡ is_gone x) role a r
-            (written_flag n t 0 a v ∙ core.freed a ∙ sym alike.1) (λ b ne. written_flag n t 0 b v ∙ core.freed b);
-        base = put_by (λ (b : ℕ) (x : Role). x ≡ Base → (allocation_at m b).ty ≡ 1) role a r (λ e. absurd (alike.3 e))
-            (λ b ne e. written_type n t 0 b v ∙ core.base b e);
-        stacked = stacked;
-        chain = chain;
-      }
+  exchange_core nodes' stacked chain = record {
+    shape = inv.core.shape;
+    fits = put_by (λ (b : ℕ) (x : Role). Fits m b x) role a r
+        (alike_fits r (written_fits n t 0 a v (inv.core.fits a)) alike.4 alike.2 alike.3 alike.0 alike.1)
+        (λ b ne. written_fits n t 0 b v (inv.core.fits b));
+    stacked = stacked;
+    chain = chain;
+  }
 
   pub by_exchange : (nodes' : List ℕ) (s : Point) (o : Op) (next : Point) (rest : List Replied) (u u' : Option Done)
       (d : Option Ordered) → ((b : ℕ) → now b ≡ Stacked → IsOneOf b nodes') → HasChain m top now nodes'
-      → Local m top now c next u' → ((b : ℕ) → IsHeld m (now b) c b next)
+      → Local m top now c next u' → AllHeld m now c next
       → IsLeft d (numbers_in n nodes) (numbers_in m nodes') → Decides c s u d u' → ((b : ℕ) → freed_by b n c o ≡ 0)
       → Stepped callers n role nodes W c s u o next rest m
-  by_exchange nodes' s o next rest u u' d stacked chain local held left decides frees =
-      record {
-        top_now = top;
-        role_now = now;
-        nodes_now = nodes';
-        decided = u';
-        decision = d;
-        inv = assemble inv c m top now nodes' (moved (W c) next u' rest)
-            (exchange_core nodes' stacked chain) exchange_leaves (λ k b other. before k b other) local held;
-        left = left;
-        decides = decides;
-        frees = λ b. none_freed_there role a r alike.1 b ∙ ap (λ (x : ℕ). bit (is_gone (role b)) + x) (sym (frees b));
-      }
+  by_exchange nodes' s o next rest u u' d stacked chain local held left decides frees = record {
+    top_now = top;
+    role_now = now;
+    nodes_now = nodes';
+    decided = u';
+    decision = d;
+    inv = assemble inv c m top now nodes' (moved (W c) next u' rest)
+        (exchange_core nodes' stacked chain) exchange_leaves (λ k b other. before k b other) local held;
+    left = left;
+    decides = decides;
+    frees = λ b. none_freed_there role a r alike.1 b ∙ ap (λ (x : ℕ). bit (is_gone (role b)) + x) (sym (frees b));
+  }

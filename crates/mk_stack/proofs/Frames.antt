@@ -68,19 +68,18 @@ module _ (n : NeverState) (top : Option ℕ) (role : ℕ → Role) (m : NeverSta
 
   pub local_stays : (s : Point) (u : Option Done) → Local n top role k s u → Local m top' role' k s u
   local_stays Founding u h = (h.0, leaves.none h.0 h.1)
-  local_stays Placing u h = (h.0, leaves.none h.0 h.1, base_stays h.0 h.1 h.2)
-  local_stays Founded u h = tt
-  local_stays (Starting j) u h = h
-  local_stays (Checking j) u h = checked_stays j u h
-  local_stays (Making x) u h = (h.0, top_stays h.1)
-  local_stays (Filling x) u h = (h.0, top_stays h.1, own_stays h.2)
-  local_stays (Looking x) u h = (h.0, top_stays h.1, filled_stays x h.2)
-  local_stays (Linking x) u h = (h.0, top_stays h.1, filled_stays x h.2)
-  local_stays (Publishing x) u h = (h.0, top_stays h.1, linked_stays x h.2)
-  local_stays Peeking u h = (h.0, top_stays h.1)
-  local_stays Testing u h = (top_stays h.0, tested_stays u h.1)
-  local_stays Following u h = (h.0, top_stays h.1, seen_stays h.2)
-  local_stays Taking u h = (h.0, top_stays h.1, followed_stays h.2)
-  local_stays Freeing u h = taken_stays u h
-  local_stays Reading u h = freed_stays u h
-  local_stays (Ended d) u h = h
+  local_stays _ u h =
+      grind (
+        arith,
+        top_stays,
+        own_stays,
+        filled_stays,
+        linked_stays,
+        seen_stays,
+        followed_stays,
+        taken_stays,
+        freed_stays,
+        base_stays,
+        checked_stays,
+        tested_stays,
+      )

@@ -1,11 +1,11 @@
 -- A pop frees the node that it took.
-use Rattle.mk_stack.proofs.Vocabulary.{Done, Freeing, IsOneOf, NeverState, Null, Op, Ptr, Reading, Replied, Value}
-use Rattle.mk_stack.proofs.Vocabulary.{allocation_at, bit, freed_by, register_at, with_freed, word_at, words_of}
-use Rattle.mk_laws.proofs.Vocabulary.{List, None, Option, ℕ, ap, arith, get_or, length, length-set, subst, sym, ◌+◌}
-use Rattle.mk_laws.proofs.Vocabulary.{◌<◌, ◌∙◌, ◌≡◌, ◌≢◌, ◌≤◌}
+use Rattle.mk_stack.proofs.Vocabulary.{Done, Freeing, IsOneOf, NeverState, Null, Op, Ptr, Reading, Replied, Value, bit}
+use Rattle.mk_stack.proofs.Vocabulary.{freed_by, register_at, with_freed, word_at}
+use Rattle.mk_laws.proofs.Vocabulary.{List, None, Option, ℕ, ap, arith, get_or, length, length-set, sym, ◌+◌, ◌<◌, ◌∙◌}
+use Rattle.mk_laws.proofs.Vocabulary.{◌≡◌, ◌≢◌}
 use Rattle.mk_stack.proofs.Assembly.{Stepped, assemble, moved, nothing}
 use Rattle.mk_stack.proofs.Heaps.{freed_flag, freed_type, freed_words, other_flag}
-use Rattle.mk_stack.proofs.Invariant.{Core, HasChain, HasFreed, HasTaken, Inv, IsHeld, Work}
+use Rattle.mk_stack.proofs.Invariant.{AllHeld, Core, Fits, HasChain, HasFreed, HasTaken, Inv, IsHeld, Work}
 use Rattle.mk_stack.proofs.Roles.{Base, Freed, Private, Role, Stacked, Taken, Unborn, is_gone, put, put_by, put_other}
 use Rattle.mk_stack.proofs.Roles.{put_same, same_role, size_of}
 use Rattle.mk_stack.proofs.{Chains.all_numbers_stay, Chains.has_chain_stays, Exchanges.put_before, Exchanges.roles_put}
@@ -28,7 +28,7 @@ freed_unborn e = cc
 
 module _ {callers : ℕ} {n : NeverState} {top : Option ℕ} {role : ℕ → Role} {nodes : List ℕ} {W : ℕ → Work}
     (inv : Inv callers n top role nodes W) (c : ℕ) (u : Option Done) (own : HasTaken n role c u)
-    (held : (b : ℕ) → IsHeld n (role b) c b Freeing) where
+    (held : AllHeld n role c Freeing) where
   abbrev a : ℕ
   a = own.a
 
@@ -53,43 +53,40 @@ module _ {callers : ℕ} {n : NeverState} {top : Option ℕ} {role : ℕ → Rol
   free_chain : HasChain m top now nodes
   free_chain = grind (arith, has_chain_stays, now, still_other, base_taken, word, taken_stacked)
 
+  count : length m.allocations ≡ length n.allocations
+  count = length-set n.allocations a _
+
+  freed_fits : Fits m a Freed
+  freed_fits = record {
+    unborn = λ ge. absurd (omega (arith, count, there, ge));
+    born = λ lt e. freed_unborn e;
+    size = ap length (freed_words n a a) ∙ (inv.core.fits a).size ∙ ap size_of own.has;
+    freed = freed_flag n a there;
+    base = λ e. absurd (freed_base e);
+  }
+
+  other_fits : (b : ℕ) → b ≢ a → Fits m b (role b)
+  other_fits b ne = let was = inv.core.fits b in grind (arith, count, freed_words, other_flag, freed_type)
+
   free_core : Core callers m top now nodes
-  free_core =
-      let core : Core callers n top role nodes = inv.core in
-      let count : length m.allocations ≡ length n.allocations = length-set n.allocations a _ in
-      record {
-        node_type = core.node_type;
-        top_type = core.top_type;
-        registers = core.registers;
-        globals = core.globals;
-        unborn = put_by (λ (b : ℕ) (x : Role). length m.allocations ≤ b → x ≡ Unborn) role a Freed
-            (λ ge. absurd (omega (arith, count, there, ge)))
-            (λ b ne ge. core.unborn b (subst (λ (l : ℕ). l ≤ b) count ge));
-        born = put_by (λ (b : ℕ) (x : Role). b < length m.allocations → x ≢ Unborn) role a Freed
-            (λ lt e. freed_unborn e) (λ b ne lt. core.born b (subst (λ (l : ℕ). b < l) count lt));
-        size = put_by (λ (b : ℕ) (x : Role). length (words_of m b) ≡ size_of x) role a Freed
-            (ap length (freed_words n a a) ∙ core.size a ∙ ap size_of own.has)
-            (λ b ne. ap length (freed_words n a b) ∙ core.size b);
-        freed = put_by (λ (b : ℕ) (x : Role). (allocation_at m b).freed ≡ is_gone x) role a Freed
-            (freed_flag n a there) (λ b ne. other_flag n a b ne ∙ core.freed b);
-        base = put_by (λ (b : ℕ) (x : Role). x ≡ Base → (allocation_at m b).ty ≡ 1) role a Freed
-            (λ e. absurd (freed_base e)) (λ b ne e. freed_type n a b ∙ core.base b e);
-        stacked = put_by (λ (b : ℕ) (x : Role). x ≡ Stacked → IsOneOf b nodes) role a Freed
-            (λ e. absurd (freed_stacked e)) (λ b ne e. core.stacked b e);
-        chain = free_chain;
-      }
+  free_core = record {
+    shape = inv.core.shape;
+    fits = put_by (λ (b : ℕ) (x : Role). Fits m b x) role a Freed freed_fits other_fits;
+    stacked = put_by (λ (b : ℕ) (x : Role). x ≡ Stacked → IsOneOf b nodes) role a Freed
+        (λ e. absurd (freed_stacked e)) (λ b ne e. inv.core.stacked b e);
+    chain = free_chain;
+  }
 
   freed : HasFreed m now c u
   freed = grind (arith, put_same, word)
 
   no_longer : (b : ℕ) → IsHeld m (now b) c b Reading
-  no_longer b =
-      record {
-        pushing = put_by (λ (z : ℕ) (r : Role). r ≡ Private c → ⊥ × (register_at m c 1 ≡ Ptr z 0 0)) role a Freed
-            (λ e. absurd (freed_private c e)) (λ z ne e. absurd ((held z).pushing e).0) b;
-        freeing = put_by (λ (z : ℕ) (r : Role). r ≡ Taken c → ⊥ × (register_at m c 2 ≡ Ptr z 0 0)) role a Freed
-            (λ e. absurd (freed_taken c e)) (λ z ne e. absurd (ne (same_node z ((held z).freeing e).1))) b;
-      }
+  no_longer b = record {
+    pushing = put_by (λ (z : ℕ) (r : Role). r ≡ Private c → ⊥ × (register_at m c 1 ≡ Ptr z 0 0)) role a Freed
+        (λ e. absurd (freed_private c e)) (λ z ne e. absurd ((held z).pushing e).0) b;
+    freeing = put_by (λ (z : ℕ) (r : Role). r ≡ Taken c → ⊥ × (register_at m c 2 ≡ Ptr z 0 0)) role a Freed
+        (λ e. absurd (freed_taken c e)) (λ z ne e. absurd (ne (same_node z ((held z).freeing e).1))) b;
+  }
     where
       same_node : (z : ℕ) → register_at n c 2 ≡ Ptr z 0 0 → z ≡ a
       same_node z e = let same : Ptr z 0 0 ≡ Ptr a 0 0 = sym e ∙ own.register in cc
@@ -97,20 +94,19 @@ module _ {callers : ℕ} {n : NeverState} {top : Option ℕ} {role : ℕ → Rol
   -- It is freed by this.
   pub by_free : (o : Op) (rest : List Replied) → freed_by a n c o ≡ 1 → ((b : ℕ) → b ≢ a → freed_by b n c o ≡ 0)
       → Stepped callers n role nodes W c Freeing u o Reading rest m
-  by_free o rest once others =
-      record {
-        top_now = top;
-        role_now = now;
-        nodes_now = nodes;
-        decided = u;
-        decision = None;
-        inv = assemble inv c m top now nodes (moved (W c) Reading u rest) free_core free_leaves
-            (λ k b other. put_before role a Freed k b (λ e. freed_private k e) (λ e. freed_taken k e)) freed no_longer;
-        left = all_numbers_stay n m top role nodes (λ b e. word b 0) inv.core.chain;
-        decides = nothing;
-        frees = put_by (λ (b : ℕ) (x : Role). bit (is_gone x) ≡ bit (is_gone (role b)) + freed_by b n c o) role a Freed
-            (sym (ap (λ (r : Role). bit (is_gone r) + freed_by a n c o) own.has ∙ one_more)) (λ b ne. none_more b ne);
-      }
+  by_free o rest once others = record {
+    top_now = top;
+    role_now = now;
+    nodes_now = nodes;
+    decided = u;
+    decision = None;
+    inv = assemble inv c m top now nodes (moved (W c) Reading u rest) free_core free_leaves
+        (λ k b other. put_before role a Freed k b (λ e. freed_private k e) (λ e. freed_taken k e)) freed no_longer;
+    left = all_numbers_stay n m top role nodes (λ b e. word b 0) inv.core.chain;
+    decides = nothing;
+    frees = put_by (λ (b : ℕ) (x : Role). bit (is_gone x) ≡ bit (is_gone (role b)) + freed_by b n c o) role a Freed
+        (sym (ap (λ (r : Role). bit (is_gone r) + freed_by a n c o) own.has ∙ one_more)) (λ b ne. none_more b ne);
+  }
     where
       one_more : 0 + freed_by a n c o ≡ 1
       one_more = omega (arith, once)

@@ -14,14 +14,12 @@ pub seen_then : (p q r : PassState) → q ≡ record p { seen = q.seen } → r �
 seen_then p q r is next = next ∙ ap (λ (s : PassState). record s { seen = r.seen }) is
 
 pub goes_through : {p q r : PassState} {s t u : Point} → GoesToPoint p s q t → GoesToPoint q t r u → GoesToPoint p s r u
-goes_through {p} {q} {r} {s} {t} {u} goes on =
-    record {
-      is = seen_then p q r goes.is on.is;
-      all = goes.all ++ on.all;
-      leads = leads_through s goes.all t on.all u goes.leads on.leads;
-      did =
-          on.did ∙ ap (λ (l : List Replied). l ++ on.all) goes.did ∙ append_assoc (replied_to p) goes.all on.all;
-    }
+goes_through {p} {q} {r} {s} {t} {u} goes on = record {
+  is = seen_then p q r goes.is on.is;
+  all = goes.all ++ on.all;
+  leads = leads_through s goes.all t on.all u goes.leads on.leads;
+  did = on.did ∙ ap (λ (l : List Replied). l ++ on.all) goes.did ∙ append_assoc (replied_to p) goes.all on.all;
+}
 
 goes_once : {p q : PassState} {s t : Point} → Advances p s q t → GoesToPoint p s q t
 goes_once {t} on =
@@ -38,20 +36,18 @@ goes_held {p} {q} r goes on =
 
 pub ready_on : {s t : CallerState} → IsReady s → t.home ≡ true → t.pass ≡ record s.pass { seen = t.pass.seen }
     → IsReady t
-ready_on ready home is =
-    record {
-      home = home;
-      exists = subst (λ (q : PassState). caller_of_pass q < q.table.config.callers) (sym is) ready.exists;
-      types = subst (λ (q : PassState). HasStackTypes q.table.config) (sym is) ready.types;
-    }
+ready_on ready home is = record {
+  home = home;
+  exists = subst (λ (q : PassState). caller_of_pass q < q.table.config.callers) (sym is) ready.exists;
+  types = subst (λ (q : PassState). HasStackTypes q.table.config) (sym is) ready.types;
+}
 
 pub jobs_on : {E : Type 0} {made_for : E → ℕ} {s t : CallerState} {b : E} (d : E)
     → IsReadyForJobs made_for s b
     → t.home ≡ true → t.pass ≡ record s.pass { seen = t.pass.seen } → made_for d ≡ s.pass.table.config.pages
     → IsReadyForJobs made_for t d
-jobs_on {made_for} d ready home is made =
-    record {
-      ready = ready_on ready.ready home is;
-      alone = subst (λ (q : PassState). q.seats ≡ q.seat ∷ []) (sym is) ready.alone;
-      made = subst (λ (q : PassState). made_for d ≡ q.table.config.pages) (sym is) made;
-    }
+jobs_on {made_for} d ready home is made = record {
+  ready = ready_on ready.ready home is;
+  alone = subst (λ (q : PassState). q.seats ≡ q.seat ∷ []) (sym is) ready.alone;
+  made = subst (λ (q : PassState). made_for d ≡ q.table.config.pages) (sym is) made;
+}

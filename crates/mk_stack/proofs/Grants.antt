@@ -4,10 +4,10 @@ use Rattle.mk_stack.proofs.Vocabulary.{Allocation, Done, IsOneOf, NeverState, Nu
 use Rattle.mk_stack.proofs.Vocabulary.{allocation_at, bit, freed_by, kinds_of, no_allocation, with_new, with_register}
 use Rattle.mk_stack.proofs.Vocabulary.{word_at, words_of, zero_words}
 use Rattle.mk_laws.proofs.Vocabulary.{List, None, Option, ℕ, ap, arith, false, get_or, length, length-set, refl, sym}
-use Rattle.mk_laws.proofs.Vocabulary.{[], ◌*◌, ◌+◌, ◌<◌, ◌∙◌, ◌≡◌, ◌≢◌, ◌≤◌}
+use Rattle.mk_laws.proofs.Vocabulary.{[], ◌*◌, ◌+◌, ◌<◌, ◌∙◌, ◌≡◌, ◌≢◌}
 use Rattle.mk_stack.proofs.Assembly.{Stepped, assemble, moved, none_freed_there, nothing}
 use Rattle.mk_stack.proofs.Chains.{all_numbers_stay, has_chain_stays}
-use Rattle.mk_stack.proofs.Invariant.{Core, HasChain, Inv, IsHeld, Local, Work}
+use Rattle.mk_stack.proofs.Invariant.{AllHeld, Core, Fits, HasChain, Inv, Local, Work}
 use Rattle.mk_stack.proofs.Roles.{Base, Private, Role, Stacked, Taken, Unborn, is_gone, put, put_by, put_other}
 use Rattle.mk_stack.proofs.Roles.{same_role, size_of}
 use Rattle.mk_stack.proofs.{Exchanges.put_before, Exchanges.roles_put, Frames.Leaves, Heaps.other_allocation}
@@ -35,7 +35,7 @@ module _ {callers : ℕ} {n : NeverState} {top : Option ℕ} {role : ℕ → Rol
   now = put role a r
 
   was : role a ≡ Unborn
-  was = inv.core.unborn a (omega arith)
+  was = (inv.core.fits a).unborn (omega arith)
 
   other : (b : ℕ) → b ≢ a → allocation_at m b ≡ allocation_at n b
   other b ne = other_allocation n ty b ne
@@ -70,47 +70,35 @@ module _ {callers : ℕ} {n : NeverState} {top : Option ℕ} {role : ℕ → Rol
   count : length m.allocations ≡ a + 1
   count = length_push n.allocations _
 
+  new_fits : Fits m a r
+  new_fits = grind (arith, count, made)
+
+  other_fits : (b : ℕ) → b ≢ a → Fits m b (role b)
+  other_fits b ne = let was = inv.core.fits b in grind (arith, count, other)
+
   grant_core : Core callers m top now nodes
-  grant_core =
-      let core : Core callers n top role nodes = inv.core in
-      record {
-        node_type = core.node_type;
-        top_type = core.top_type;
-        registers = length-set n.registers (8 * c + d) (Ptr a ty 0) ∙ core.registers;
-        globals = core.globals;
-        unborn = put_by (λ (b : ℕ) (x : Role). length m.allocations ≤ b → x ≡ Unborn) role a r
-            (λ ge. absurd (omega (arith, count, ge))) (λ b ne ge. core.unborn b (omega (arith, count, ge)));
-        born = put_by (λ (b : ℕ) (x : Role). b < length m.allocations → x ≢ Unborn) role a r (λ lt e. fits.born e)
-            (λ b ne lt. core.born b (omega (arith, count, lt, ne)));
-        size = put_by (λ (b : ℕ) (x : Role). length (words_of m b) ≡ size_of x) role a r
-            (ap (λ (x : Allocation). length x.words) made ∙ fits.size)
-            (λ b ne. ap (λ (x : Allocation). length x.words) (other b ne) ∙ core.size b);
-        freed = put_by (λ (b : ℕ) (x : Role). (allocation_at m b).freed ≡ is_gone x) role a r
-            (ap (λ (x : Allocation). x.freed) made ∙ sym fits.not_gone)
-            (λ b ne. ap (λ (x : Allocation). x.freed) (other b ne) ∙ core.freed b);
-        base = put_by (λ (b : ℕ) (x : Role). x ≡ Base → (allocation_at m b).ty ≡ 1) role a r
-            (λ e. ap (λ (x : Allocation). x.ty) made ∙ fits.base e)
-            (λ b ne e. ap (λ (x : Allocation). x.ty) (other b ne) ∙ core.base b e);
-        stacked = put_by (λ (b : ℕ) (x : Role). x ≡ Stacked → IsOneOf b nodes) role a r
-            (λ e. absurd (fits.not_stacked e)) (λ b ne e. core.stacked b e);
-        chain = grant_chain;
-      }
+  grant_core = record {
+    shape = rw (length-set n.registers (8 * c + d) (Ptr a ty 0)) inv.core.shape;
+    fits = put_by (λ (b : ℕ) (x : Role). Fits m b x) role a r new_fits other_fits;
+    stacked = put_by (λ (b : ℕ) (x : Role). x ≡ Stacked → IsOneOf b nodes) role a r
+        (λ e. absurd (fits.not_stacked e)) (λ b ne e. inv.core.stacked b e);
+    chain = grant_chain;
+  }
 
   pub by_grant : {s : Point} {u : Option Done} {o : Op} {next : Point} {rest : List Replied}
-      → Local m top now c next u → ((b : ℕ) → IsHeld m (now b) c b next) → ((b : ℕ) → freed_by b n c o ≡ 0)
+      → Local m top now c next u → AllHeld m now c next → ((b : ℕ) → freed_by b n c o ≡ 0)
       → Stepped callers n role nodes W c s u o next rest m
-  by_grant {u} {next} {rest} local held frees =
-      record {
-        top_now = top;
-        role_now = now;
-        nodes_now = nodes;
-        decided = u;
-        decision = None;
-        inv = assemble inv c m top now nodes (moved (W c) next u rest) grant_core grant_leaves
-            (λ k b ne. put_before role a r k b (fits.of_caller k ne) (fits.not_taken k)) local held;
-        left = all_numbers_stay n m top role nodes (λ b e. word b 0
-            (not_new b Stacked e unborn_stacked)) inv.core.chain;
-        decides = nothing;
-        frees = λ b. none_freed_there role a r (fits.not_gone ∙ sym (ap is_gone was)) b
-            ∙ ap (λ (x : ℕ). bit (is_gone (role b)) + x) (sym (frees b));
-      }
+  by_grant {u} {next} {rest} local held frees = record {
+    top_now = top;
+    role_now = now;
+    nodes_now = nodes;
+    decided = u;
+    decision = None;
+    inv = assemble inv c m top now nodes (moved (W c) next u rest) grant_core grant_leaves
+        (λ k b ne. put_before role a r k b (fits.of_caller k ne) (fits.not_taken k)) local held;
+    left = all_numbers_stay n m top role nodes (λ b e. word b 0
+        (not_new b Stacked e unborn_stacked)) inv.core.chain;
+    decides = nothing;
+    frees = λ b. none_freed_there role a r (fits.not_gone ∙ sym (ap is_gone was)) b
+        ∙ ap (λ (x : ℕ). bit (is_gone (role b)) + x) (sym (frees b));
+  }

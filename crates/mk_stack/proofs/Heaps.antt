@@ -13,9 +13,7 @@ small_is_mapped a small = and_right a.freed (is_large a.words) (le-ltb 32 (lengt
 
 pub reaches : (n : NeverState) (k q a ty offset i : ℕ) → register_at n k q ≡ Ptr a ty offset → length (words_of n a) ≤ 2
     → target_of n (register_at n k q) i ≡ WordOf a (offset + i)
-reaches n k q a ty offset i is small =
-    ap (λ (v : Value). target_of n v i) is
-    ∙ ap (λ (b : Bool). if b then Unmapped else WordOf a (offset + i)) (small_is_mapped (allocation_at n a) small)
+reaches n k q a ty offset i is small = cc (small_is_mapped (allocation_at n a) small)
 
 -- A register that is set; and the others of the caller, and those of other callers.
 

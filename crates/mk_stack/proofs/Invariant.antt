@@ -1,9 +1,9 @@
 -- What holds of a stack at every place of an interleaving.
-use Rattle.mk_stack.proofs.Vocabulary.{Checking, Done, Empty, Ended, Filling, Following, Founded, Founding, Freeing}
-use Rattle.mk_stack.proofs.Vocabulary.{IsOneOf, JobRun, Linking, Looking, Making, NeverState, Null, Peeking, Placing}
-use Rattle.mk_stack.proofs.Vocabulary.{Point, Popped, Ptr, Publishing, Reading, Replied, Starting, Taking, Testing}
-use Rattle.mk_stack.proofs.Vocabulary.{Value, allocation_at, done_without, global_at, kinds_of, node_kinds, number_of}
-use Rattle.mk_stack.proofs.Vocabulary.{register_at, top_kinds, word_at, words_of}
+use Rattle.mk_stack.proofs.Vocabulary.{Allocation, Checking, Done, Empty, Ended, Filling, Following, Founded, Founding}
+use Rattle.mk_stack.proofs.Vocabulary.{Freeing, IsOneOf, JobRun, Kind, Linking, Looking, Making, NeverState, Null}
+use Rattle.mk_stack.proofs.Vocabulary.{Peeking, Placing, Point, Popped, Ptr, Publishing, Reading, Replied, Starting}
+use Rattle.mk_stack.proofs.Vocabulary.{Taking, Testing, Value, allocation_at, done_without, global_at, kinds_of}
+use Rattle.mk_stack.proofs.Vocabulary.{node_kinds, number_of, register_at, top_kinds, word_at}
 use Rattle.mk_laws.proofs.Vocabulary.{List, None, Option, Some, ℕ, length, [], ◌*◌, ◌<◌, ◌∷◌, ◌≡◌, ◌≢◌, ◌≤◌, ◌⊎◌}
 use Rattle.mk_stack.proofs.Roles.{Base, IsPublished, Private, Role, Stacked, Taken, Unborn, is_gone, size_of}
 
@@ -22,17 +22,28 @@ abbrev pub HasChain : NeverState → Option ℕ → (ℕ → Role) → List ℕ 
 HasChain n None role nodes = (global_at n 0 ≡ Null) × (nodes ≡ [])
 HasChain n (Some t) role nodes = (global_at n 0 ≡ Ptr t 1 0) × (role t ≡ Base) × IsChain n role (word_at n t 0) nodes
 
+-- the types of the heap, and how many registers and globals it has
+pub record HasShape (callers : ℕ) (types : List (List Kind)) (register_count global_count : ℕ) : Type 0 where
+  pub node : kinds_of types 0 ≡ node_kinds
+  pub top : kinds_of types 1 ≡ top_kinds
+  pub registers : register_count ≡ 8 * callers
+  pub globals : global_count ≡ 64
+
+-- Allocation a, of so many, is as its role says: granted or not yet, of so many words, and freed or not.
+pub record IsOfRole (count a : ℕ) (x : Allocation) (r : Role) : Type 0 where
+  pub unborn : count ≤ a → r ≡ Unborn
+  pub born : a < count → r ≢ Unborn
+  pub size : length x.words ≡ size_of r
+  pub freed : x.freed ≡ is_gone r
+  pub base : r ≡ Base → x.ty ≡ 1
+
+abbrev pub Fits : NeverState → ℕ → Role → Type 0
+Fits n a r = IsOfRole (length n.allocations) a (allocation_at n a) r
+
 -- what no caller's point says
 pub record Core (callers : ℕ) (n : NeverState) (top : Option ℕ) (role : ℕ → Role) (nodes : List ℕ) : Type 0 where
-  pub node_type : kinds_of n.types 0 ≡ node_kinds
-  pub top_type : kinds_of n.types 1 ≡ top_kinds
-  pub registers : length n.registers ≡ 8 * callers
-  pub globals : length n.globals ≡ 64
-  pub unborn : (a : ℕ) → length n.allocations ≤ a → role a ≡ Unborn
-  pub born : (a : ℕ) → a < length n.allocations → role a ≢ Unborn
-  pub size : (a : ℕ) → length (words_of n a) ≡ size_of (role a)
-  pub freed : (a : ℕ) → (allocation_at n a).freed ≡ is_gone (role a)
-  pub base : (a : ℕ) → role a ≡ Base → (allocation_at n a).ty ≡ 1
+  pub shape : HasShape callers n.types (length n.registers) (length n.globals)
+  pub fits : (a : ℕ) → Fits n a (role a)
   pub stacked : (a : ℕ) → role a ≡ Stacked → IsOneOf a nodes
   pub chain : HasChain n top role nodes
 
@@ -136,6 +147,10 @@ IsFreeing _ = ⊥
 pub record IsHeld (n : NeverState) (r : Role) (k a : ℕ) (s : Point) : Type 0 where
   pub pushing : r ≡ Private k → IsPushing s × (register_at n k 1 ≡ Ptr a 0 0)
   pub freeing : r ≡ Taken k → IsFreeing s × (register_at n k 2 ≡ Ptr a 0 0)
+
+-- All that caller k has are known by it.
+abbrev pub AllHeld : NeverState → (ℕ → Role) → ℕ → Point → Type 0
+AllHeld n role k s = (a : ℕ) → IsHeld n (role a) k a s
 
 -- where a caller is: its point, what its job was decided as, what it still does until its goal, and the jobs after that
 pub record Work : Type 0 where

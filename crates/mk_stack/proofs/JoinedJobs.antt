@@ -21,8 +21,7 @@ use Rattle.mk_words.specs.Seats.{has_over}
 
 pub still_replied : (c : Config) (k : ℕ) {es fs : List Event} → Grows (Caller k ∷ []) es fs
     → replied_in c k fs ≡ replied_in c k es
-still_replied c k {es} g =
-    ap (replied_in c k) g.is ∙ same_replied c k es g.more (none_of c k es g.more g.of_others)
+still_replied c k {es} g = ap (replied_in c k) g.is ∙ same_replied c k es g.more (none_of c k es g.more g.of_others)
 
 still_done : {c : Config} {es fs : List Event} {first : List Replied} {k : ℕ} {jobs : List Job} {dones : List Done}
     → Grows (Caller k ∷ []) es fs → HasDone c es first k jobs dones → HasDone c fs first k jobs dones
@@ -141,8 +140,7 @@ one_joined {w} {first} {k} jobs {others} {worked} {joined} all one rest is own c
     record {
       table = ap (λ (x : HostState). x.pass.table) is ∙ rest.table;
       seat = ap (λ (x : HostState). x.pass.seat) is ∙ rest.seat;
-      own =
-          subst (λ (x : HostState). Has x.pass.seats Host) (sym is) (has_left h.pass.seats p.seats Host rest.own);
+      own = subst (λ (x : HostState). Has x.pass.seats Host) (sym is) (has_left h.pass.seats p.seats Host rest.own);
       count = (let n = ap (λ (x : HostState). x.callers) is in let m = rest.count in omega arith);
       seats = λ j le lt. subst (λ (x : HostState). Has x.pass.seats (Caller j)) (sym is) (has j le lt);
       before_over = overs ∙ rest.before_over;

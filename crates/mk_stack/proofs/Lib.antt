@@ -2,6 +2,7 @@ pub mod Vocabulary
 pub mod Heaps
 pub mod Roles
 pub mod Invariant
+pub mod Fitting
 pub mod Frames
 pub mod Chains
 pub mod Assembly
@@ -14,9 +15,6 @@ pub mod Popping
 pub mod Freeing
 pub mod Grants
 pub mod StepParts
-pub mod BeginSteps
-pub mod PushSteps
-pub mod PopSteps
 pub mod Stepping
 pub mod Owing
 pub mod Running

@@ -2,12 +2,11 @@
 use Rattle.std.proofs.lemmas.List.{length-replicate}
 use Rattle.mk_stack.proofs.Vocabulary.{AreDecidedOnce, Call, Founded, Founding, IsOneOf, JobRun, Kind, NeverState, Null}
 use Rattle.mk_stack.proofs.Vocabulary.{Replied, after_calls, allocation_at, bit, order_of, own_decisions}
-use Rattle.mk_laws.proofs.Vocabulary.{List, None, ℕ, arith, cases_lt, drop, length, refl, suc, take, zero, [], ◌*◌, ◌<◌}
-use Rattle.mk_laws.proofs.Vocabulary.{◌≡◌}
+use Rattle.mk_laws.proofs.Vocabulary.{List, None, ℕ, arith, drop, length, refl, suc, take, zero, [], ◌*◌, ◌<◌, ◌≡◌}
 use Rattle.mk_never.specs.NeverHeap.{start_of}
 use Rattle.mk_stack.proofs.Invariant.{Core, Inv, Local, Work}
 use Rattle.mk_stack.proofs.Roles.{Base, Freed, Private, Role, Stacked, Taken, Unborn, is_gone}
-use Rattle.mk_stack.proofs.Writes.{unborn_base, unborn_private, unborn_stacked, unborn_taken}
+use Rattle.mk_stack.proofs.Writes.{granted, unborn_base, unborn_private, unborn_stacked, unborn_taken}
 use Rattle.mk_stack.proofs.{Chains.on_stack_role, Chains.stack_is_linked, Owing.IsWork, Owing.Ran, Running.run_all}
 use Rattle.mk_stack.specs.Laws.{IsExplained, IsLinearized, LeaksNothing, StacksAreLinearizable, times_freed}
 use Rattle.mk_stack.specs.Interleavings.{IsInterleaved, jobs_of_first}
@@ -32,20 +31,23 @@ module _ (types : List (List Kind)) (callers : ℕ) (founding : List Replied) (r
 
   first_core : Core callers n None unborn []
   unfolding unborn
-  first_core =
-      record {
-        node_type = h.nodes;
-        top_type = h.tops;
-        registers = length-replicate (8 * callers) Null;
-        globals = length-replicate 64 Null;
-        unborn = λ a ge. refl;
-        born = λ a lt. absurd (omega arith);
-        size = λ a. refl;
-        freed = λ a. refl;
-        base = λ a e. absurd (unborn_base e);
-        stacked = λ a e. absurd (unborn_stacked e);
-        chain = (refl, refl);
-      }
+  first_core = record {
+    shape = record {
+      node = h.nodes;
+      top = h.tops;
+      registers = length-replicate (8 * callers) Null;
+      globals = length-replicate 64 Null;
+    };
+    fits = λ a. record {
+      unborn = λ ge. refl;
+      born = λ lt. absurd (omega arith);
+      size = refl;
+      freed = refl;
+      base = λ e. absurd (unborn_base e);
+    };
+    stacked = λ a e. absurd (unborn_stacked e);
+    chain = (refl, refl);
+  }
 
   first_local : (k : ℕ) → Local n None unborn k (first_work founding runs k).point (first_work founding runs k).decided
   unfolding first_work
@@ -76,47 +78,45 @@ module _ (types : List (List Kind)) (callers : ℕ) (founding : List Replied) (r
   founds_only ran = (ran.once zero).first
 
   linearized : (ran : Ran callers n unborn [] (first_work founding runs) calls)
-      → IsLinearized types callers founding runs calls ran.nodes_end
-  linearized ran =
-      record {
-        decisions = ran.decisions;
-        one_each = ran.one_each;
-        explained = ran.explained;
-        founds_only = founds_only ran;
-        once = once ran;
-      }
+      → IsLinearized types callers founding runs calls ran.end.nodes
+  linearized ran = record {
+    decisions = ran.decisions;
+    one_each = ran.one_each;
+    explained = ran.explained;
+    founds_only = founds_only ran;
+    once = once ran;
+  }
 
   module _ (ran : Ran callers n unborn [] (first_work founding runs) calls) where
-    times : (a : ℕ) (r : Role) → ran.role_end a ≡ r → times_freed a n calls ≡ bit (is_gone r)
+    times : (a : ℕ) (r : Role) → ran.end.role a ≡ r → times_freed a n calls ≡ bit (is_gone r)
     unfolding unborn
     times a r is = grind (arith, is_gone)
 
-    on_stack : (a : ℕ) → IsOneOf a ran.nodes_end → ran.role_end a ≡ Stacked
-    on_stack a one = on_stack_role m ran.top_end ran.role_end ran.nodes_end a ran.core.chain one
+    on_stack : (a : ℕ) → IsOneOf a ran.end.nodes → ran.end.role a ≡ Stacked
+    on_stack a one = on_stack_role m ran.end.top ran.end.role ran.end.nodes a ran.end.core.chain one
 
-    there : (a : ℕ) → (Unborn ≡ ran.role_end a → ⊥) → a < length m.allocations
-    there a born = grind (arith, cases_lt)
+    there : (a : ℕ) → (Unborn ≡ ran.end.role a → ⊥) → a < length m.allocations
+    there a born = granted a ran.end.core born
 
-    freed : (a : ℕ) → a < length m.allocations → (allocation_at m a).ty ≡ 0 → (IsOneOf a ran.nodes_end → ⊥)
-        → (r : Role) → ran.role_end a ≡ r → times_freed a n calls ≡ 1
-    freed a lt node off Unborn is = absurd (ran.core.born a lt is)
-    freed a lt node off Base is = let top : (allocation_at m a).ty ≡ 1 = ran.core.base a is in absurd (omega arith)
-    freed a lt node off (Private k) is = absurd (ran.pushed k a is)
-    freed a lt node off Stacked is = absurd (off (ran.core.stacked a is))
-    freed a lt node off (Taken k) is = absurd (ran.taken k a is)
+    freed : (a : ℕ) → a < length m.allocations → (allocation_at m a).ty ≡ 0 → (IsOneOf a ran.end.nodes → ⊥)
+        → (r : Role) → ran.end.role a ≡ r → times_freed a n calls ≡ 1
+    freed a lt node off Unborn is = absurd ((ran.end.core.fits a).born lt is)
+    freed a lt node off Base is = let top : (allocation_at m a).ty ≡ 1 = (ran.end.core.fits a).base is in absurd (omega arith)
+    freed a lt node off (Private k) is = absurd (ran.end.pushed k a is)
+    freed a lt node off Stacked is = absurd (off (ran.end.core.stacked a is))
+    freed a lt node off (Taken k) is = absurd (ran.end.taken k a is)
     freed a lt node off Freed is = times a Freed is
 
-    no_leak : LeaksNothing n m calls ran.nodes_end
+    no_leak : LeaksNothing n m calls ran.end.nodes
     no_leak = grind (arith, there, unborn_stacked, on_stack, times, freed)
 
   explained : Ran callers n unborn [] (first_work founding runs) calls → IsExplained types callers founding runs calls
-  explained ran =
-      record {
-        nodes = ran.nodes_end;
-        linked = stack_is_linked m ran.top_end ran.role_end ran.nodes_end ran.core.chain;
-        linearized = linearized ran;
-        no_leak = no_leak ran;
-      }
+  explained ran = record {
+    nodes = ran.end.nodes;
+    linked = stack_is_linked m ran.end.top ran.end.role ran.end.nodes ran.end.core.chain;
+    linearized = linearized ran;
+    no_leak = no_leak ran;
+  }
 
 pub stacks_are_linearizable : StacksAreLinearizable
 stacks_are_linearizable types callers founding runs calls h =

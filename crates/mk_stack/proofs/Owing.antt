@@ -41,21 +41,25 @@ pub record IsOnce (k : ℕ) (w : Work) (ds : List (Option Ordered)) : Type 0 whe
   pub first : order_of (take (length w.rest) ds) ≡ owed k w.point w.decided w.goal
   pub later : AreDecidedOnce k w.later (drop (length w.rest) ds)
 
+-- what is so when all have done all: no caller has a node of its own
+pub record AtEnd (callers : ℕ) (n : NeverState) : Type 0 where
+  pub top : Option ℕ
+  pub role : ℕ → Role
+  pub nodes : List ℕ
+  pub core : Core callers n top role nodes
+  pub pushed : (k a : ℕ) → role a ≢ Private k
+  pub taken : (k a : ℕ) → role a ≢ Taken k
+
 -- what all operations leave
 pub record Ran (callers : ℕ) (n : NeverState) (role : ℕ → Role) (nodes : List ℕ) (W : ℕ → Work) (calls : List Call)
     : Type 0 where
-  pub top_end : Option ℕ
-  pub role_end : ℕ → Role
-  pub nodes_end : List ℕ
-  pub core : Core callers (after_calls n calls) top_end role_end nodes_end
-  pub pushed : (k a : ℕ) → role_end a ≢ Private k
-  pub taken : (k a : ℕ) → role_end a ≢ Taken k
+  pub end : AtEnd callers (after_calls n calls)
   pub decisions : List (Option Ordered)
   pub one_each : length decisions ≡ length calls
   pub explained : left_by_all (numbers_in n nodes) (order_of decisions)
-      ≡ Some (numbers_in (after_calls n calls) nodes_end)
+      ≡ Some (numbers_in (after_calls n calls) end.nodes)
   pub once : (k : ℕ) → IsOnce k (W k) (own_decisions k calls decisions)
-  pub frees : (a : ℕ) → bit (is_gone (role_end a)) ≡ bit (is_gone (role a)) + times_freed a n calls
+  pub frees : (a : ℕ) → bit (is_gone (end.role a)) ≡ bit (is_gone (role a)) + times_freed a n calls
   pub single : NoneIsDouble (replies_of n calls)
 
 -- At its goal nothing is owed.
@@ -96,23 +100,24 @@ module _ {callers : ℕ} {n : NeverState} {top : Option ℕ} {role : ℕ → Rol
   done_once k = grind (arith, nothing_left, settles, settled, at_goal, no_jobs_left)
 
   pub all_done : Ran callers n role nodes W []
-  all_done =
-      record {
-        top_end = top;
-        role_end = role;
-        nodes_end = nodes;
-        core = inv.core;
-        pushed = λ k a e. goal_pushes_nothing (W k).goal (work k).goal
-            (subst IsPushing (at_goal k) ((inv.held k a).pushing e).0);
-        taken = λ k a e. goal_frees_nothing (W k).goal (work k).goal
-            (subst IsFreeing (at_goal k) ((inv.held k a).freeing e).0);
-        decisions = [];
-        one_each = refl;
-        explained = refl;
-        once = done_once;
-        frees = λ a. omega arith;
-        single = tt;
-      }
+  all_done = record {
+    end = record {
+      top = top;
+      role = role;
+      nodes = nodes;
+      core = inv.core;
+      pushed = λ k a e. goal_pushes_nothing (W k).goal (work k).goal
+          (subst IsPushing (at_goal k) ((inv.held k a).pushing e).0);
+      taken = λ k a e. goal_frees_nothing (W k).goal (work k).goal
+          (subst IsFreeing (at_goal k) ((inv.held k a).freeing e).0);
+    };
+    decisions = [];
+    one_each = refl;
+    explained = refl;
+    once = done_once;
+    frees = λ a. omega arith;
+    single = tt;
+  }
 
 -- A caller's own operations, and those of others
 

@@ -68,8 +68,7 @@ module _ {globals : List ℕ} {n : NeverState} {k : ℕ} (state : IsStackState g
   may_clear r lt = admitted (Op.Clear r) lt tt tt
 
   pub may_follow : (d : ℕ) → d < 8 → IsPointerTo 0 (register_at n k 2) → IsAdmitted globals n k (Op.GetPtr d 2 1)
-  may_follow d lt h =
-      admitted (Op.GetPtr d 2 1) (lt, omega arith) (node_meets IsPointer 2 1 h (omega arith) refl) tt
+  may_follow d lt h = admitted (Op.GetPtr d 2 1) (lt, omega arith) (node_meets IsPointer 2 1 h (omega arith) refl) tt
 
   may_exchange : (r : ℕ) → r < 8 → IsPointerTo 1 (register_at n k 0) → MayPointTo 0 (register_at n k 2)
       → MayPointTo 0 (register_at n k r) → IsAdmitted globals n k (Op.CasPtr 0 0 2 r)

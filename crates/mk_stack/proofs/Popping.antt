@@ -5,7 +5,7 @@ use Rattle.mk_laws.proofs.Vocabulary.{Bool, List, None, Option, Some, ℕ, ap, a
 use Rattle.mk_laws.proofs.Vocabulary.{length, refl, subst, sym, ◌∙◌, ◌∷◌, ◌≡◌, ◌≢◌}
 use Rattle.mk_stack.proofs.Chains.{chain_stays, not_one_of, numbers_stay}
 use Rattle.mk_stack.proofs.Exchanges.{by_exchange, node_is_no_top, words_stay}
-use Rattle.mk_stack.proofs.Invariant.{HasChain, HasTaken, Inv, IsHeld, Work}
+use Rattle.mk_stack.proofs.Invariant.{AllHeld, HasChain, HasTaken, Inv, IsHeld, Work}
 use Rattle.mk_stack.proofs.Roles.{Role, Stacked, Taken, put, put_by, put_other, put_same, size_of}
 use Rattle.mk_stack.proofs.Writes.{base_stacked, granted, private_taken, taken_stacked, unborn_base}
 use Rattle.mk_stack.proofs.{Assembly.Stepped, Assembly.settles, Heaps.written}
@@ -13,7 +13,7 @@ use Rattle.mk_stack.proofs.{Assembly.Stepped, Assembly.settles, Heaps.written}
 module _ {callers : ℕ} {n : NeverState} {top : Option ℕ} {role : ℕ → Role} {a : ℕ} {nodes : List ℕ} {W : ℕ → Work}
     (inv : Inv callers n top role (a ∷ nodes) W) (c t : ℕ) (v : Value) (is : top ≡ Some t)
     (register : register_at n c 2 ≡ Ptr a 0 0) (next_is : v ≡ word_at n a 1)
-    (held : (b : ℕ) → IsHeld n (role b) c b Taking) where
+    (held : AllHeld n role c Taking) where
   abbrev m : NeverState
   m = with_word n t 0 v
 
@@ -37,7 +37,7 @@ module _ {callers : ℕ} {n : NeverState} {top : Option ℕ} {role : ℕ → Rol
 
   top_word : word_at m t 0 ≡ v
   top_word =
-      let one : length (words_of n t) ≡ 1 = inv.core.size t ∙ ap size_of chain.1 in
+      let one : length (words_of n t) ≡ 1 = (inv.core.fits t).size ∙ ap size_of chain.1 in
       written n t 0 v (granted t inv.core (λ e. unborn_base (e ∙ chain.1))) (omega (arith, one))
 
   popped_chain : HasChain m top now nodes

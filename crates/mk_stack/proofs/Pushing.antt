@@ -7,14 +7,14 @@ use Rattle.mk_laws.proofs.Vocabulary.{List, None, Option, Some, ℕ, ap, arith, 
 use Rattle.mk_laws.proofs.Vocabulary.{sym, ◌∙◌, ◌∷◌, ◌≡◌, ◌≢◌}
 use Rattle.mk_stack.proofs.Chains.{chain_stays, numbers_stay, other_role}
 use Rattle.mk_stack.proofs.Exchanges.{by_exchange, node_is_no_top, words_stay}
-use Rattle.mk_stack.proofs.Invariant.{HasChain, HasLinked, Inv, IsChain, IsHeld, Work}
+use Rattle.mk_stack.proofs.Invariant.{AllHeld, HasChain, HasLinked, Inv, IsChain, IsHeld, Work}
 use Rattle.mk_stack.proofs.Roles.{Role, Stacked, put, put_by, put_other, put_same, size_of}
 use Rattle.mk_stack.proofs.Writes.{base_stacked, granted, private_stacked, taken_stacked, unborn_base}
 use Rattle.mk_stack.proofs.{Assembly.Stepped, Assembly.settles, Heaps.written}
 
 module _ {callers : ℕ} {n : NeverState} {top : Option ℕ} {role : ℕ → Role} {nodes : List ℕ} {W : ℕ → Work}
     (inv : Inv callers n top role nodes W) (c t x : ℕ) (is : top ≡ Some t) (own : HasLinked n role c x)
-    (there : word_at n t 0 ≡ register_at n c 2) (held : (b : ℕ) → IsHeld n (role b) c b (Publishing x)) where
+    (there : word_at n t 0 ≡ register_at n c 2) (held : AllHeld n role c (Publishing x)) where
   abbrev a : ℕ
   a = own.a
 
@@ -41,7 +41,7 @@ module _ {callers : ℕ} {n : NeverState} {top : Option ℕ} {role : ℕ → Rol
 
   top_word : word_at m t 0 ≡ Ptr a 0 0
   top_word =
-      let one : length (words_of n t) ≡ 1 = inv.core.size t ∙ ap size_of chain.1 in
+      let one : length (words_of n t) ≡ 1 = (inv.core.fits t).size ∙ ap size_of chain.1 in
       written n t 0 (Ptr a 0 0) (granted t inv.core (λ e. unborn_base (e ∙ chain.1))) (omega (arith, one))
 
   below : IsChain m now (word_at m a 1) nodes

@@ -28,16 +28,12 @@ reads_stack w h g s {q} r {numbers} table home walked same came =
     let own : Grows (Caller 0 ∷ []) q.seen g.pass.seen =
     subst (λ (x : PassState). Grows x.seats q.seen g.pass.seen) from.is grows in
     let did : replied_in h.pass.table.config 0 q.seen ≡ replied_in h.pass.table.config 0 h.pass.seen ++ from.all =
-    subst (λ (x : PassState). replied_in x.table.config (caller_of_pass x) q.seen
-    ≡ replied_in h.pass.table.config 0 h.pass.seen ++ from.all) from.is from.did in
+    cc (from.is, from.did) in
     record {
       all = from.all;
       leads = from.leads;
       reads = from.reads;
-      did =
-          still_replied w.config 0 own
-          ∙ subst (λ (v : WordsState). replied_in v.config 0 q.seen
-          ≡ replied_in v.config 0 h.pass.seen ++ from.all) table did;
+      did = cc (still_replied w.config 0 own, table, did);
     }
 
 pub is_reader : (h g k : HostState) (s : CallerState) (q r : PassState) → g ≡ with_caller_out h 0

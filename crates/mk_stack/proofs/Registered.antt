@@ -2,9 +2,9 @@
 use Rattle.mk_stack.proofs.Vocabulary.{Done, NeverState, Null, Op, Ordered, Point, Ptr, Replied, Value, freed_by}
 use Rattle.mk_stack.proofs.Vocabulary.{numbers_in, with_global, with_register, word_at}
 use Rattle.mk_laws.proofs.Vocabulary.{List, None, Option, Some, ℕ, arith, get_or-set_same, length, length-set, refl}
-use Rattle.mk_laws.proofs.Vocabulary.{subst, sym, [], ◌*◌, ◌+◌, ◌<◌, ◌∙◌, ◌≡◌, ◌≢◌}
+use Rattle.mk_laws.proofs.Vocabulary.{subst, sym, [], ◌*◌, ◌+◌, ◌<◌, ◌≡◌, ◌≢◌}
 use Rattle.mk_stack.proofs.Assembly.{Decides, IsLeft, Stepped, nothing, same_roles}
-use Rattle.mk_stack.proofs.Invariant.{Core, HasChain, Inv, IsChain, IsHeld, Local, Work}
+use Rattle.mk_stack.proofs.Invariant.{AllHeld, Core, HasChain, Inv, IsChain, Local, Work}
 use Rattle.mk_stack.proofs.Roles.{Base, Role, same_role}
 use Rattle.mk_stack.proofs.{Chains.all_numbers_stay, Chains.has_chain_stays, Frames.Leaves, Heaps.register_of_other}
 
@@ -18,7 +18,7 @@ module _ {callers : ℕ} {n : NeverState} {top : Option ℕ} {role : ℕ → Rol
 
   -- A step that leaves the heap as it was
   pub by_nothing : {s : Point} {u : Option Done} {o : Op} {next : Point} {rest : List Replied} (u' : Option Done)
-      (d : Option Ordered) → Local n top role c next u' → ((a : ℕ) → IsHeld n (role a) c a next)
+      (d : Option Ordered) → Local n top role c next u' → AllHeld n role c next
       → IsLeft d (numbers_in n nodes) (numbers_in n nodes) → Decides c s u d u' → ((a : ℕ) → freed_by a n c o ≡ 0)
       → Stepped callers n role nodes W c s u o next rest n
   by_nothing u' d local held left decides frees =
@@ -38,27 +38,18 @@ module _ {callers : ℕ} {n : NeverState} {top : Option ℕ} {role : ℕ → Rol
         (λ a one e. record { role_now = e; link = refl }) inv.core.chain
 
     register_core : Core callers m top role nodes
-    register_core =
-        let core : Core callers n top role nodes = inv.core in
-        record {
-          node_type = core.node_type;
-          top_type = core.top_type;
-          registers = length-set n.registers (8 * c + d) v ∙ core.registers;
-          globals = core.globals;
-          unborn = core.unborn;
-          born = core.born;
-          size = core.size;
-          freed = core.freed;
-          base = core.base;
-          stacked = core.stacked;
-          chain = register_chain;
-        }
+    register_core = record {
+      shape = rw (length-set n.registers (8 * c + d) v) inv.core.shape;
+      fits = inv.core.fits;
+      stacked = inv.core.stacked;
+      chain = register_chain;
+    }
 
     register_numbers : numbers_in m nodes ≡ numbers_in n nodes
     register_numbers = all_numbers_stay n m top role nodes (λ a e. refl) inv.core.chain
 
     pub by_register : {s : Point} {u : Option Done} {o : Op} {next : Point} {rest : List Replied} (u' : Option Done)
-        (e : Option Ordered) → Local m top role c next u' → ((a : ℕ) → IsHeld m (role a) c a next)
+        (e : Option Ordered) → Local m top role c next u' → AllHeld m role c next
         → IsLeft e (numbers_in n nodes) (numbers_in n nodes) → Decides c s u e u' → ((a : ℕ) → freed_by a n c o ≡ 0)
         → Stepped callers n role nodes W c s u o next rest m
     by_register u' e local held left decides frees =
@@ -79,29 +70,21 @@ module _ {callers : ℕ} {n : NeverState} {top : Option ℕ} {role : ℕ → Rol
 
     global_core : Core callers g (Some t) role nodes
     global_core =
-        let core : Core callers n top role nodes = inv.core in
-        let nil : nodes ≡ [] = no_nodes top none core.chain in
+        let nil : nodes ≡ [] = no_nodes top none inv.core.chain in
         record {
-          node_type = core.node_type;
-          top_type = core.top_type;
-          registers = core.registers;
-          globals = length-set n.globals 0 (Ptr t 1 0) ∙ core.globals;
-          unborn = core.unborn;
-          born = core.born;
-          size = core.size;
-          freed = core.freed;
-          base = core.base;
-          stacked = core.stacked;
+          shape = rw (length-set n.globals 0 (Ptr t 1 0)) inv.core.shape;
+          fits = inv.core.fits;
+          stacked = inv.core.stacked;
           chain = (
             get_or-set_same n.globals 0 (Ptr t 1 0) Null
-                (let all : length n.globals ≡ 64 = core.globals in omega arith),
+                (let all : length n.globals ≡ 64 = inv.core.shape.globals in omega arith),
             is_base,
             subst (IsChain g role (word_at g t 0)) (sym nil) empty,
           );
         }
 
     pub by_global : {s : Point} {u : Option Done} {o : Op} {next : Point} {rest : List Replied}
-        → Local g (Some t) role c next u → ((a : ℕ) → IsHeld g (role a) c a next) → ((a : ℕ) → freed_by a n c o ≡ 0)
+        → Local g (Some t) role c next u → AllHeld g role c next → ((a : ℕ) → freed_by a n c o ≡ 0)
         → Stepped callers n role nodes W c s u o next rest g
     by_global {u} local held frees =
         same_roles inv c g (Some t) u None global_core global_leaves local held

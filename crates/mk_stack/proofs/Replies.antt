@@ -50,9 +50,7 @@ asked_in_two xs ys = map-append (λ (x : Decided). record { caller = x.caller; o
 -- What is asked in a list that goes on
 pub asked_grown : (c : Config) (es more : List Event) {fs : List Event} → fs ≡ es ++ more
     → asked (calls c fs) ≡ asked (calls c es) ++ asked (calls_from c (left c es) more)
-asked_grown c es more is =
-    ap (λ (l : List Event). asked (calls c l)) is ∙ ap asked (calls_in_parts c es more)
-    ∙ asked_in_two (calls c es) (calls_from c (left c es) more)
+asked_grown c es more is = cc (calls_in_parts c es more, asked_in_two (calls c es) (calls_from c (left c es) more))
 
 -- Events that decide no call of the caller leave what it was replied.
 pub same_replied : (c : Config) (k : ℕ) (es more : List Event) → calls_by k (calls_from c (left c es) more) ≡ []
@@ -135,9 +133,7 @@ module _ (p : PassState) (o : Op) (a : Answer) (more : List Event) (once : flagg
   calls_before = calls_in_parts c p.seen decided.before
 
   calls_through : calls c through ≡ (calls c p.seen ++ earlier) ++ x ∷ []
-  calls_through =
-      calls_more c (first_world c) before decided.event ∙ ap (λ (l : List Decided). calls c before ++ l) decides
-      ∙ ap (λ (l : List Decided). l ++ x ∷ []) calls_before
+  calls_through = cc (calls_more c (first_world c) before decided.event, decides, calls_before)
 
   calls_all : calls c (p.seen ++ more) ≡ ((calls c p.seen ++ earlier) ++ x ∷ []) ++ later
   calls_all =
@@ -218,8 +214,7 @@ pub stays_held : {p q : PassState} {o : Op} → FindsGateHeld p o q → Stays p 
 stays_held {p} {q} {o} f =
     let more : List Event = f.finds.makes.others ++ event_of p (Step.Enter o) ∷ [] in
     let is : q ≡ record p { seen = p.seen ++ more } =
-    f.finds.makes.is ∙ ap (λ (l : List Event). record p { seen = l })
-    (append_assoc p.seen f.finds.makes.others (event_of p (Step.Enter o) ∷ [])) in
+    cc (f.finds.makes.is, append_assoc p.seen f.finds.makes.others (event_of p (Step.Enter o) ∷ [])) in
     let seen : q ≡ record p { seen = q.seen } = is ∙ ap (λ (r : PassState). record p { seen = r.seen }) (sym is) in
     record {
       is = seen;

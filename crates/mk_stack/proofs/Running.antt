@@ -103,25 +103,19 @@ module _ {callers : ℕ} {n : NeverState} {top : Option ℕ} {role : ℕ → Rol
       all_once k = grind (arith, decisions, mine_once, other_once)
 
       ran_on : Ran callers n role nodes W (x ∷ xs)
-      ran_on =
-          record {
-            top_end = ran.top_end;
-            role_end = ran.role_end;
-            nodes_end = ran.nodes_end;
-            core = ran.core;
-            pushed = ran.pushed;
-            taken = ran.taken;
-            decisions = decisions;
-            one_each = ap suc ran.one_each;
-            explained = explained_more stepped.decision (numbers_in n nodes) (numbers_in m stepped.nodes_now)
-                (numbers_in (after_calls m xs) ran.nodes_end) ran.decisions stepped.left ran.explained;
-            once = all_once;
-            frees = λ a. omega (arith, stepped.frees a, ran.frees a);
-            single = (
-              single inv c exists (W c).point o (reply_of n c o) leads.0 asks (W c).decided (inv.local c) refl,
-              ran.single,
-            );
-          }
+      ran_on = record {
+        end = ran.end;
+        decisions = decisions;
+        one_each = ap suc ran.one_each;
+        explained = explained_more stepped.decision (numbers_in n nodes) (numbers_in m stepped.nodes_now)
+            (numbers_in (after_calls m xs) ran.end.nodes) ran.decisions stepped.left ran.explained;
+        once = all_once;
+        frees = λ a. omega (arith, stepped.frees a, ran.frees a);
+        single = (
+          single inv c exists (W c).point o (reply_of n c o) leads.0 asks (W c).decided (inv.local c) refl,
+          ran.single,
+        );
+      }
 
     goes_on : RunsOn callers m xs → Ran callers n role nodes W (x ∷ xs)
     goes_on run = ran_on (run stepped.top_now stepped.role_now stepped.nodes_now (put W c w) stepped.inv works_on)
@@ -135,19 +129,18 @@ module _ {callers : ℕ} {n : NeverState} {top : Option ℕ} {role : ℕ → Rol
     at_end = subst (λ (l : List Replied). Leads (W c).point l (W c).goal) nil (works c).leads
 
     begun_inv : Inv callers n top role nodes (put W c fresh)
-    begun_inv =
-        record {
-          core = inv.core;
-          local = put_by (λ (k : ℕ) (v : Work). Local n top role k v.point v.decided) W c fresh refl
-              (λ k other. inv.local k);
-          held = λ k a. put_by (λ (j : ℕ) (v : Work). IsHeld n (role a) j a v.point) W c fresh
-              (record {
-                pushing = λ e. absurd (goal_pushes_nothing (W c).goal (works c).goal
-                    (subst IsPushing at_end ((inv.held c a).pushing e).0));
-                freeing = λ e. absurd (goal_frees_nothing (W c).goal (works c).goal
-                    (subst IsFreeing at_end ((inv.held c a).freeing e).0));
-              }) (λ j other. inv.held j a) k;
-        }
+    begun_inv = record {
+      core = inv.core;
+      local = put_by (λ (k : ℕ) (v : Work). Local n top role k v.point v.decided) W c fresh refl
+          (λ k other. inv.local k);
+      held = λ k a. put_by (λ (j : ℕ) (v : Work). IsHeld n (role a) j a v.point) W c fresh
+          (record {
+            pushing = λ e. absurd (goal_pushes_nothing (W c).goal (works c).goal
+                (subst IsPushing at_end ((inv.held c a).pushing e).0));
+            freeing = λ e. absurd (goal_frees_nothing (W c).goal (works c).goal
+                (subst IsFreeing at_end ((inv.held c a).freeing e).0));
+          }) (λ j other. inv.held j a) k;
+    }
 
     runs : AreJobRuns (r ∷ rs)
     runs = subst AreJobRuns later_is (works c).later
@@ -158,8 +151,20 @@ module _ {callers : ℕ} {n : NeverState} {top : Option ℕ} {role : ℕ → Rol
     begun_once : (ds : List (Option Ordered)) → IsOnce c fresh ds → IsOnce c (W c) ds
     begun_once ds once = grind (arith, settled, at_end)
 
+    began_once : (ran : Ran callers n role nodes (put W c fresh) (x ∷ xs)) (k : ℕ)
+        → IsOnce k (W k) (own_decisions k (x ∷ xs) ran.decisions)
+    began_once ran k = grind (arith, begun_once, put_same, fresh, put_other)
+
     began : Ran callers n role nodes (put W c fresh) (x ∷ xs) → Ran callers n role nodes W (x ∷ xs)
-    began ran = grind (arith, single, begun_once, put_same, fresh, put_other)
+    began ran = record {
+      end = ran.end;
+      decisions = ran.decisions;
+      one_each = ran.one_each;
+      explained = ran.explained;
+      once = began_once ran;
+      frees = ran.frees;
+      single = ran.single;
+    }
 
 -- A caller that is between jobs, and has none left, asks nothing.
 none_is_asked : (c : ℕ) (o : Op) (n : NeverState) (xs : List Call) (rest : List Replied) (later : List JobRun)

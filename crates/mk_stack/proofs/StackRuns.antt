@@ -69,8 +69,7 @@ module _ (c : Config) (es : List Event) where
       → replied_in c (k + i) es ≡ jobs_of_first i first ++ all_of (runs_at first k lists all h i)
   unfolding runs_at
   own_at below first k [] [] h none count zero =
-      unasked_beyond (k + 0) c.callers (never_first c) (asked (calls c es)) below (omega arith)
-      ∙ ap (λ (l : List Replied). l ++ []) (sym (none refl))
+      cc (unasked_beyond (k + 0) c.callers (never_first c) (asked (calls c es)) below (omega arith), none refl)
   own_at below first k [] [] h none count (suc i) =
       unasked_beyond (k + suc i) c.callers (never_first c) (asked (calls c es)) below (omega arith)
   own_at below first k [] (d ∷ ds) h none count i = absurd h
@@ -98,8 +97,7 @@ is_stack_run {c} es more founding lists all left_on walked is history types foun
     let later : List Call = asked (calls_from c (left c es) more) in
     let runs = runs_at c es founding 0 lists all h in
     let least : 1 ≤ c.callers = history.within_limits.callers.0 in
-    let interleaved : IsInterleaved c.types c.callers founding runs (asked (calls c es)) =
-    record {
+    let interleaved : IsInterleaved c.types c.callers founding runs (asked (calls c es)) = record {
       nodes = types.node;
       tops = types.top;
       founds = founds;
@@ -147,9 +145,7 @@ run_stands {c} {es} more {fs} is history others run =
       runs = run.runs;
       jobs = run.jobs;
       looks = run.looks;
-      all_calls =
-          split ∙ ap (λ (l : List Decided). asked (calls c es) ++ asked l) none ∙ append-nil (asked (calls c es))
-          ∙ run.all_calls;
+      all_calls = cc (split, none, append-nil (asked (calls c es)), run.all_calls);
       only_looks = run.only_looks;
       one_each = run.one_each;
       are = run.are;

@@ -5,7 +5,7 @@ use Rattle.mk_stack.proofs.Vocabulary.{reply_of, target_of, with_register, with_
 use Rattle.mk_laws.proofs.Vocabulary.{Bool, List, None, Option, Some, ℕ, arith, cond, false, false≢true, length, refl}
 use Rattle.mk_laws.proofs.Vocabulary.{subst, sym, true, [], ◌*◌, ◌+◌, ◌<◌, ◌∙◌, ◌≡◌, ◌≢◌, ◌≤◌}
 use Rattle.mk_never.proofs.Sameness.{equal_from_same, same_from_equal}
-use Rattle.mk_stack.proofs.Invariant.{HasChain, HasTop, Inv, IsFreeing, IsHeld, IsPushing, Work}
+use Rattle.mk_stack.proofs.Invariant.{AllHeld, HasChain, HasTop, Inv, IsFreeing, IsHeld, IsPushing, Work}
 use Rattle.mk_stack.proofs.Roles.{Base, Freed, Private, Role, Stacked, Taken, Unborn, put, put_by, size_of}
 use Rattle.mk_stack.proofs.{Assembly.Decides, Assembly.Stepped, Assembly.held_on, Heaps.reaches, Heaps.set_register}
 
@@ -43,14 +43,11 @@ module _ {callers : ℕ} {n : NeverState} {top : Option ℕ} {role : ℕ → Rol
   abbrev Goal : Point → Option Done → Op → Point → List Replied → NeverState → Type 0
   Goal s u o next rest m = Stepped callers n role nodes W c s u o next rest m
 
-  abbrev Held : Point → Type 0
-  Held s = (a : ℕ) → IsHeld n (role a) c a s
-
   pub all_small : (a : ℕ) → length (words_of n a) ≤ 2
-  all_small a = let bound = small (role a) in omega (arith, inv.core.size a, bound)
+  all_small a = let bound = small (role a) in omega (arith, (inv.core.fits a).size, bound)
 
   pub there : (r : ℕ) → r < 8 → 8 * c + r < length n.registers
-  there r lt = omega (arith, inv.core.registers, exists, lt)
+  there r lt = omega (arith, inv.core.shape.registers, exists, lt)
 
   -- where an access through a register gets to
   pub gets : (q a ty i : ℕ) → register_at n c q ≡ Ptr a ty 0 → target_of n (register_at n c q) i ≡ WordOf a (0 + i)
@@ -60,16 +57,15 @@ module _ {callers : ℕ} {n : NeverState} {top : Option ℕ} {role : ℕ → Rol
   register_set d v lt = set_register n c d v (there d lt)
 
   -- Where a caller has no node of its own, before and after
-  pub idle : {m : NeverState} {s next : Point} → Held s → (IsPushing s → ⊥) → (IsFreeing s → ⊥)
+  pub idle : {m : NeverState} {s next : Point} → AllHeld n role c s → (IsPushing s → ⊥) → (IsFreeing s → ⊥)
       → (a : ℕ) → IsHeld m (role a) c a next
-  idle {m} {next} held pushes frees a =
-      held_on m next (held a) (λ p. absurd (pushes p)) (λ f. absurd (frees f))
+  idle {m} {next} held pushes frees a = held_on m next (held a) (λ p. absurd (pushes p)) (λ f. absurd (frees f))
 
   pub top_role : (t : ℕ) → top ≡ Some t → HasChain n (Some t) role nodes
   top_role t is = subst (λ (x : Option ℕ). HasChain n x role nodes) is inv.core.chain
 
   pub put_held : (m : NeverState) (a : ℕ) (r : Role) (next : Point) → IsHeld m r c a next
-      → ((b : ℕ) → IsHeld m (role b) c b next) → (b : ℕ) → IsHeld m (put role a r b) c b next
+      → AllHeld m role c next → (b : ℕ) → IsHeld m (put role a r b) c b next
   put_held m a r next here others b =
       put_by (λ (x : ℕ) (y : Role). IsHeld m y c x next) role a r here (λ x ne. others x) b
 

@@ -1,60 +1,283 @@
 -- Each operation of a caller keeps the invariant, and decides its job where it should.
-use Rattle.mk_stack.proofs.Vocabulary.{Asks, Done, NeverState, Op, Point, Replied, Reply, after_op, clear, fail, fill}
-use Rattle.mk_stack.proofs.Vocabulary.{find_no_room, follow, found, free, free_again, go_pop, go_push, lack, link, look}
-use Rattle.mk_stack.proofs.Vocabulary.{make, meet, miss, peek, place, pop_again, publish, push_again, read, reply_of}
-use Rattle.mk_stack.proofs.Vocabulary.{start, unlink}
-use Rattle.mk_laws.proofs.Vocabulary.{List, None, Option, ℕ, refl, sym, ◌<◌, ◌∙◌, ◌≡◌}
-use Rattle.mk_stack.proofs.Assembly.{Stepped, nothing}
-use Rattle.mk_stack.proofs.BeginSteps.{clear_steps, found_steps, go_pop_steps, go_push_steps, lack_steps, place_steps}
-use Rattle.mk_stack.proofs.BeginSteps.{start_steps}
-use Rattle.mk_stack.proofs.Invariant.{Inv, IsHeld, Local, Work}
-use Rattle.mk_stack.proofs.PopSteps.{follow_steps, free_replies, free_steps, meet_steps, miss_steps, peek_steps}
-use Rattle.mk_stack.proofs.PopSteps.{pop_again_steps, read_steps, unlink_steps}
-use Rattle.mk_stack.proofs.PushSteps.{fail_steps, fill_steps, link_steps, look_steps, make_steps, publish_steps}
-use Rattle.mk_stack.proofs.PushSteps.{push_again_steps}
-use Rattle.mk_stack.proofs.{Registered.by_nothing, Roles.Role, StepParts.done_is_not_double, StepParts.idle}
+use Rattle.mk_stack.proofs.Vocabulary.{Allocation, Asks, Checking, Done, Empty, Ended, Filling, Following, Founded}
+use Rattle.mk_stack.proofs.Vocabulary.{Freeing, Full, Job, Kind, Linking, Looking, Making, NeverState, Null, Num, Op}
+use Rattle.mk_stack.proofs.Vocabulary.{Peeking, Placing, Point, Pop, Popped, Ptr, Publishing, Push, Pushed, Reading}
+use Rattle.mk_stack.proofs.Vocabulary.{Replied, Reply, Starting, Taking, Target, Testing, Value, after_free, after_op}
+use Rattle.mk_stack.proofs.Vocabulary.{clear, done_without, fail, fill, find_no_room, follow, found, free, free_again}
+use Rattle.mk_stack.proofs.Vocabulary.{freed_by, global_at, go_pop, go_push, lack, left_at, left_by, link, look, make}
+use Rattle.mk_stack.proofs.Vocabulary.{meet, miss, number_of, numbers_in, peek, place, pop_again, publish, push_again}
+use Rattle.mk_stack.proofs.Vocabulary.{read, register_at, reply_of, start, unlink, with_new, with_register, with_word}
+use Rattle.mk_stack.proofs.Vocabulary.{word_at, words_of, zero_words}
+use Rattle.mk_laws.proofs.Vocabulary.{Bool, List, None, Option, Some, ℕ, ap, arith, eq-eqb, get_or, if◌then◌else◌, inl}
+use Rattle.mk_laws.proofs.Vocabulary.{inr, length, ne_eqb, refl, subst, sym, [], ◌<◌, ◌∙◌, ◌∷◌, ◌≡◌, ◌≢◌, ◌⊎◌}
+use Rattle.mk_never.specs.NeverHeap.{free_reply}
+use Rattle.mk_stack.proofs.Assembly.{Stepped, held_on, nothing, settles}
+use Rattle.mk_stack.proofs.Heaps.{other_register, other_word, set_register, written}
+use Rattle.mk_stack.proofs.Invariant.{AllHeld, HasChain, HasFilled, HasLinked, HasSeen, HasTaken, HasTop, Inv, IsChain}
+use Rattle.mk_stack.proofs.Invariant.{IsFreeing, IsHeld, IsPushing, Local, Work}
+use Rattle.mk_stack.proofs.Roles.{Base, IsPublished, Private, Role, is_gone, put_same, size_of}
+use Rattle.mk_stack.proofs.StepParts.{done_is_not_double, exchanged_from, exchanges, gets, idle, keeps_top, leaves_all}
+use Rattle.mk_stack.proofs.StepParts.{null_is_null, num_is, other_is_not, ptr_is, ptr_is_not_null, put_held}
+use Rattle.mk_stack.proofs.StepParts.{register_set, there, top_role, undecided, without_left}
+use Rattle.mk_stack.proofs.Writes.{base_private, base_stacked, base_taken, by_write, granted, private_stacked}
+use Rattle.mk_stack.proofs.Writes.{private_taken, same_private, unborn_base, unborn_private}
+use Rattle.mk_stack.proofs.{Freeing.by_free, Grants.IsNewRole, Grants.by_grant, Grants.made, Popping.by_pop}
+use Rattle.mk_stack.proofs.{Pushing.by_push, Registered.by_global, Registered.by_nothing, Registered.by_register}
 
 module _ {callers : ℕ} {n : NeverState} {top : Option ℕ} {role : ℕ → Role} {nodes : List ℕ} {W : ℕ → Work}
     (inv : Inv callers n top role nodes W) (c : ℕ) (exists : c < callers) where
   abbrev Goal : Point → Option Done → Op → Point → List Replied → NeverState → Type 0
   Goal s u o next rest m = Stepped callers n role nodes W c s u o next rest m
 
-  abbrev Held : Point → Type 0
-  Held s = (a : ℕ) → IsHeld n (role a) c a s
+  base_fits : IsNewRole n c 1 Base
+  base_fits = grind (arith, unborn_base, base_stacked, base_private, base_taken)
+
+  has_top : (j : Job) (u : Option Done) → Local n top role c (Checking j) u
+      → reply_of n c (Op.IsNull 0) ≡ Reply.Num 0 → (u ≡ None) × HasTop n top c
+  has_top j u (inl h) said = absurd (other_is_not inv c exists 0 said h.0)
+  has_top j u (inr h) said = h
+
+  node_fits : IsNewRole n c 0 (Private c)
+  node_fits = grind (arith, unborn_private, private_stacked, base_private, same_private, private_taken)
+
+  -- a node of the caller's own was granted, and has two words
+  own_exists : (a : ℕ) → role a ≡ Private c → a < length n.allocations
+  own_exists a is = granted a inv.core (λ e. unborn_private c (e ∙ is))
+
+  own_size : (a : ℕ) → role a ≡ Private c → length (words_of n a) ≡ 2
+  own_size a is = (inv.core.fits a).size ∙ ap size_of is
+
+  -- where the caller still has its node after it
+  on_push : (m : NeverState) (s next : Point) → IsPushing next → (IsFreeing s → ⊥)
+      → register_at m c 1 ≡ register_at n c 1 → AllHeld n role c s → (b : ℕ) → IsHeld m (role b) c b next
+  on_push m s next pushes frees same held b = held_on m next (held b) (λ p. (pushes, same)) (λ f. absurd (frees f))
+
+  empty_left : (xs : List ℕ) → xs ≡ [] → left_by xs Pop Empty ≡ Some xs
+  empty_left xs e = without_left inv c exists Pop xs e
+
+  missed : (u : Option Done) → ((register_at n c 2 ≡ Null) × (u ≡ Some Empty)) ⊎ ((u ≡ None) × HasSeen n role c)
+      → reply_of n c (Op.IsNull 2) ≡ Reply.Num 1 → u ≡ Some Empty
+  missed u (inl h) said = h.1
+  missed u (inr h) said = absurd (ptr_is_not_null h.1.a 0 (sym h.1.register ∙ null_is_null inv c exists 2 said))
+
+  met : (u : Option Done) → ((register_at n c 2 ≡ Null) × (u ≡ Some Empty)) ⊎ ((u ≡ None) × HasSeen n role c)
+      → reply_of n c (Op.IsNull 2) ≡ Reply.Num 0 → (u ≡ None) × HasSeen n role c
+  met u (inl h) said = absurd (other_is_not inv c exists 2 said h.0)
+  met u (inr h) said = h
+
+  place_steps : (u : Option Done) (rest : List Replied) → Local n top role c Placing u → AllHeld n role c Placing
+      → Goal Placing u (Op.SetGlobal 0 0) Founded rest (after_op n c (Op.SetGlobal 0 0))
+  place_steps u rest local held = grind (arith, by_global, idle)
+
+  fill_steps : (x : ℕ) (u : Option Done) (rest : List Replied) → Local n top role c (Filling x) u
+      → AllHeld n role c (Filling x)
+      → Goal (Filling x) u (Op.SetNum 1 0 x) (Looking x) rest (after_op n c (Op.SetNum 1 0 x))
+  fill_steps x u rest local held = grind (arith, gets, by_write, keeps_top, written, own_exists, own_size, on_push)
+
+  link_steps : (x : ℕ) (u : Option Done) (rest : List Replied) → Local n top role c (Linking x) u
+      → AllHeld n role c (Linking x)
+      → Goal (Linking x) u (Op.SetPtr 1 1 2) (Publishing x) rest (after_op n c (Op.SetPtr 1 1 2))
+  link_steps x u rest local held =
+      grind (arith, gets, by_write, keeps_top, other_word, own_exists, written, own_size, on_push)
+
+  -- The Free of a node that was taken is done: no one else frees it.
+  module _ (u : Option Done) (own : HasTaken n role c u) where
+    free_replies : reply_of n c (Op.Free 2) ≡ Reply.Done
+    free_replies = cc (own.register, (inv.core.fits own.a).freed, own.has)
+
+    freed_once : freed_by own.a n c (Op.Free 2) ≡ 1
+    freed_once = grind (arith, eq-eqb, free_replies)
+
+    other_not_freed : (b : ℕ) → b ≢ own.a → freed_by b n c (Op.Free 2) ≡ 0
+    other_not_freed b ne = grind (arith, ne_eqb)
+
+  free_steps : (u : Option Done) (rest : List Replied) → Local n top role c Freeing u → AllHeld n role c Freeing
+      → Goal Freeing u (Op.Free 2) Reading rest (after_op n c (Op.Free 2))
+  free_steps u rest local held =
+      subst (Goal Freeing u (Op.Free 2) Reading rest) (sym (ap (after_free n) local.register))
+      (by_free inv c u local held (Op.Free 2) rest (freed_once u local) (other_not_freed u local))
+
+  -- a step that leaves all as it was, and decides nothing
+  stays : {s next : Point} {u : Option Done} {o : Op} {rest : List Replied} → AllHeld n role c s → (IsPushing s → ⊥)
+      → (IsFreeing s → ⊥) → Local n top role c next u → ((a : ℕ) → freed_by a n c o ≡ 0) → Goal s u o next rest n
+  stays {u} held pushes frees local none =
+      by_nothing inv c u None local (idle inv c exists held pushes frees) refl nothing none
 
   -- Each operation of a job, or of the founding
   pub steps : (s : Point) (o : Op) (r : Reply) (next : Point) → Asks s o r next → (u : Option Done)
       (rest : List Replied)
-      → Local n top role c s u → Held s → reply_of n c o ≡ r → Goal s u o next rest (after_op n c o)
-  steps s o r next found u rest local held said = found_steps inv c exists u rest local held
-  steps s o r next find_no_room u rest local held said =
-      by_nothing inv c u None tt (idle inv c exists held (λ p. p) (λ f. f)) refl nothing (λ b. refl)
-  steps s o r next place u rest local held said = place_steps inv c exists u rest local held
-  steps s o r next (start {j} {v}) u rest local held said = start_steps inv c exists j u rest local held
-  steps s o r next (lack {j}) u rest local held said = lack_steps inv c exists j u rest local held said
-  steps s o r next (go_push {n = x}) u rest local held said = go_push_steps inv c exists x u rest local held said
-  steps s o r next go_pop u rest local held said = go_pop_steps inv c exists u rest local held said
-  steps s o r next (make {n = x}) u rest local held said = make_steps inv c exists x u rest local held
-  steps s o r next (fail {n = x}) u rest local held said = fail_steps inv c exists x u rest local held
-  steps s o r next (fill {n = x}) u rest local held said = fill_steps inv c exists x u rest local held
-  steps s o r next (look {n = x} {v}) u rest local held said = look_steps inv c exists x u rest local held
-  steps s o r next (link {n = x}) u rest local held said = link_steps inv c exists x u rest local held
-  steps s o r next (publish {n = x}) u rest local held said = publish_steps inv c exists x u rest local held said
-  steps s o r next (push_again {n = x}) u rest local held said = push_again_steps inv c exists x u rest local held said
-  steps s o r next (peek {v}) u rest local held said = peek_steps inv c exists u rest local held
-  steps s o r next miss u rest local held said = miss_steps inv c exists u rest local held said
-  steps s o r next meet u rest local held said = meet_steps inv c exists u rest local held said
-  steps s o r next (follow {v}) u rest local held said = follow_steps inv c exists u rest local held
-  steps s o r next unlink u rest local held said = unlink_steps inv c exists u rest local held said
-  steps s o r next pop_again u rest local held said = pop_again_steps inv c exists u rest local held said
-  steps s o r next free u rest local held said = free_steps inv c exists u rest local held
-  steps s o r next free_again u rest local held said = free_steps inv c exists u rest local held
-  steps s o r next (read {n = x}) u rest local held said = read_steps inv c exists x u rest local held said
-  steps s o r next (clear {d = y} {r = x} lt) u rest local held said = clear_steps inv c exists y x lt u rest local held
+      → Local n top role c s u → AllHeld n role c s → reply_of n c o ≡ r → Goal s u o next rest (after_op n c o)
+  steps s o r next found u rest local held said =
+      let a = length n.allocations in
+      let m : NeverState = with_register (with_new n 1) c 0 (Ptr a 1 0) in
+      by_grant inv c 0 1 Base (omega arith) base_fits (
+        local.0,
+        local.1,
+        record {
+          t = a;
+          register = set_register (with_new n 1) c 0 (Ptr a 1 0) (there inv c exists 0 (omega arith));
+          has = put_same role a Base;
+          word = cc (made inv c 0 1 Base (omega arith) base_fits, inv.core.shape.top);
+        },
+      )
+      (put_held inv c exists m a Base Placing
+      (record { pushing = λ e. absurd (base_private c e); freeing = λ e. absurd (base_taken c e) })
+      (idle inv c exists held (λ p. p) (λ f. f))) (λ b. refl)
+  steps s o r next find_no_room u rest local held said = stays held (λ p. p) (λ f. f) tt (λ b. refl)
+  steps s o r next place u rest local held said = place_steps u rest local held
+  steps s o r next (start {j} {v}) u rest local held said = by top refl inv.core.chain
+    where
+      by : (x : Option ℕ) → top ≡ x → HasChain n x role nodes
+          → Goal (Starting j) u (Op.GetGlobal 0 0) (Checking j) rest (with_register n c 0 (global_at n 0))
+      by None is chain =
+          by_register inv c 0 (global_at n 0) (omega arith) (Some (done_without j))
+          (Some (record { caller = c; job = j; done = done_without j }))
+          (inl (register_set inv c exists 0 (global_at n 0) (omega arith) ∙ chain.0, refl))
+          (idle inv c exists held (λ p. p) (λ f. f))
+          (without_left inv c exists j (numbers_in n nodes) (ap (λ (l : List ℕ). numbers_in n l) chain.1))
+          (undecided inv c exists (Starting j) u _ (done_without j) local (settles tt)) (λ b. refl)
+      by (Some t) is chain =
+          by_register inv c 0 (global_at n 0) (omega arith) u None (inr (
+            local,
+            record { t = t; is = is; register = register_set inv c exists 0 (global_at n 0) (omega arith) ∙ chain.0 },
+          )) (idle inv c exists held (λ p. p) (λ f. f)) refl nothing (λ b. refl)
+  steps s o r next (lack {j}) u rest local held said = stays held (λ p. p) (λ f. f) (by local) (λ b. refl)
+    where
+      by : ((register_at n c 0 ≡ Null) × (u ≡ Some (done_without j))) ⊎ ((u ≡ None) × HasTop n top c)
+          → u ≡ Some (done_without j)
+      by (inl h) = h.1
+      by (inr h) = absurd (ptr_is_not_null h.1.t 1 (sym h.1.register ∙ null_is_null inv c exists 0 said))
+  steps s o r next (go_push {n = x}) u rest local held said =
+      stays held (λ p. p) (λ f. f) (has_top (Push x) u local said) (λ b. refl)
+  steps s o r next go_pop u rest local held said = stays held (λ p. p) (λ f. f) (has_top Pop u local said) (λ b. refl)
+  steps s o r next (make {n = x}) u rest local held said =
+      let a = length n.allocations in
+      let m : NeverState = with_register (with_new n 0) c 1 (Ptr a 0 0) in
+      let set : register_at m c 1 ≡ Ptr a 0 0 = set_register (with_new n 0) c 1 (Ptr a 0 0)
+      (there inv c exists 1 (omega arith)) in
+      by_grant inv c 1 0 (Private c) (omega arith) node_fits (
+        local.0,
+        keeps_top inv c exists m (other_register (with_new n 0) c 1 0 (Ptr a 0 0) (omega arith)) local.1,
+        record { a = a; register = set; has = put_same role a (Private c) },
+      )
+      (put_held inv c exists m a (Private c) (Filling x)
+      (record { pushing = λ e. (tt, set); freeing = λ e. absurd (private_taken c c e) })
+      (idle inv c exists held (λ p. p) (λ f. f))) (λ b. refl)
+  steps s o r next (fail {n = x}) u rest local held said =
+      by_nothing inv c (Some Full) (Some (record { caller = c; job = Push x; done = Full })) refl
+      (idle inv c exists held (λ p. p) (λ f. f)) refl
+      (undecided inv c exists (Making x) u _ Full local.0 (settles tt)) (λ b. refl)
+  steps s o r next (fill {n = x}) u rest local held said = fill_steps x u rest local held
+  steps s o r next (look {n = x} {v = y}) u rest local held said =
+      let h : HasTop n top c = local.1 in
+      let own : HasFilled n role c x = local.2 in
+      let v : Value = word_at n h.t 0 in
+      let m : NeverState = with_register n c 2 v in
+      subst (Goal (Looking x) u (Op.GetPtr 2 0 0) (Linking x) rest)
+      (sym (ap (λ (t : Target). left_at t (with_register n c 2 Null) (λ a w. with_register n c 2 (word_at n a w)))
+      (gets inv c exists 0 h.t 1 0 h.register))) (by_register inv c 2 v (omega arith) u None (
+        local.0,
+        keeps_top inv c exists m (other_register n c 2 0 v (omega arith)) h,
+        record {
+          a = own.a;
+          register = other_register n c 2 1 v (omega arith) ∙ own.register;
+          has = own.has;
+          number = own.number;
+        },
+      ) (on_push m (Looking x) (Linking x) tt (λ f. f) (other_register n c 2 1 v (omega arith)) held) refl nothing
+      (λ b. refl))
+  steps s o r next (link {n = x}) u rest local held said = link_steps x u rest local held
+  steps s o r next (publish {n = x}) u rest local held said =
+      let h : HasTop n top c = local.1 in
+      let own : HasLinked n role c x = local.2 in
+      subst (Goal (Publishing x) u (Op.CasPtr 0 0 2 1) (Ended Pushed) rest)
+      (sym (exchanges inv c exists h 1 said ∙ ap (with_word n h.t 0) own.register))
+      (subst
+      (λ (y : Option Done). Goal (Publishing x) y (Op.CasPtr 0 0 2 1) (Ended Pushed) rest
+      (with_word n h.t 0 (Ptr own.a 0 0))) (sym local.0)
+      (by_push inv c h.t x h.is own (exchanged_from inv c exists h 1 said) held (Op.CasPtr 0 0 2 1) rest (λ b. refl)))
+  steps s o r next (push_again {n = x}) u rest local held said =
+      let own : HasLinked n role c x = local.2 in
+      subst (Goal (Publishing x) u (Op.CasPtr 0 0 2 1) (Looking x) rest) (sym (leaves_all inv c exists local.1 1 said))
+      (by_nothing inv c u None
+      (local.0, local.1, record { a = own.a; register = own.register; has = own.has; number = own.number })
+      (on_push n (Publishing x) (Looking x) tt (λ f. f) refl held) refl nothing (λ b. refl))
+  steps s o r next (peek {v}) u rest local held said =
+      subst (Goal Peeking u (Op.GetPtr 2 0 0) Testing rest)
+      (sym (ap (λ (t : Target). left_at t (with_register n c 2 Null) (λ a w. with_register n c 2 (word_at n a w)))
+      (gets inv c exists 0 local.1.t 1 0 local.1.register)))
+      (by nodes refl (top_role inv c exists local.1.t local.1.is).2)
+    where
+      by : (l : List ℕ) → nodes ≡ l → IsChain n role (word_at n local.1.t 0) l
+          → Goal Peeking u (Op.GetPtr 2 0 0) Testing rest (with_register n c 2 (word_at n local.1.t 0))
+      by [] e chain =
+          by_register inv c 2 (word_at n local.1.t 0) (omega arith) (Some Empty)
+          (Some (record { caller = c; job = Pop; done = Empty })) (
+            keeps_top inv c exists (with_register n c 2 (word_at n local.1.t 0))
+                (other_register n c 2 0 (word_at n local.1.t 0) (omega arith)) local.1,
+            inl (register_set inv c exists 2 (word_at n local.1.t 0) (omega arith) ∙ chain, refl),
+          ) (idle inv c exists held (λ p. p) (λ f. f)) (empty_left (numbers_in n nodes) (ap (numbers_in n) e))
+          (undecided inv c exists Peeking u _ Empty local.0 (settles tt)) (λ b. refl)
+      by (a ∷ l) e chain =
+          by_register inv c 2 (word_at n local.1.t 0) (omega arith) u None (
+            keeps_top inv c exists (with_register n c 2 (word_at n local.1.t 0))
+                (other_register n c 2 0 (word_at n local.1.t 0) (omega arith)) local.1,
+            inr (
+              local.0,
+              record {
+                a = a;
+                register = register_set inv c exists 2 (word_at n local.1.t 0) (omega arith) ∙ chain.0;
+                has = subst IsPublished (sym chain.1) tt;
+              },
+            ),
+          ) (idle inv c exists held (λ p. p) (λ f. f)) refl nothing (λ b. refl)
+  steps s o r next miss u rest local held said = stays held (λ p. p) (λ f. f) (missed u local.1 said) (λ b. refl)
+  steps s o r next meet u rest local held said =
+      let seen = met u local.1 said in
+      stays held (λ p. p) (λ f. f) (seen.0, local.0, seen.1) (λ b. refl)
+  steps s o r next (follow {v = y}) u rest local held said =
+      let seen : HasSeen n role c = local.2 in
+      let v : Value = word_at n seen.a 1 in
+      let m : NeverState = with_register n c 3 v in
+      subst (Goal Following u (Op.GetPtr 3 2 1) Taking rest)
+      (sym (ap (λ (t : Target). left_at t (with_register n c 3 Null) (λ a w. with_register n c 3 (word_at n a w)))
+      (gets inv c exists 2 seen.a 0 1 seen.register))) (by_register inv c 3 v (omega arith) u None (
+        local.0,
+        keeps_top inv c exists m (other_register n c 3 0 v (omega arith)) local.1,
+        record {
+          a = seen.a;
+          register = other_register n c 3 2 v (omega arith) ∙ seen.register;
+          has = seen.has;
+          next = register_set inv c exists 3 v (omega arith);
+        },
+      ) (idle inv c exists held (λ p. p) (λ f. f)) refl nothing (λ b. refl))
+  steps s o r next unlink u rest local held said =
+      subst (Goal Taking u (Op.CasPtr 0 0 2 3) Freeing rest) (sym (exchanges inv c exists local.1 3 said))
+      (subst
+      (λ (y : Option Done). Goal Taking y (Op.CasPtr 0 0 2 3) Freeing rest
+      (with_word n local.1.t 0 (register_at n c 3)))
+      (sym local.0) (by nodes refl (top_role inv c exists local.1.t local.1.is).2))
+    where
+      uppermost_is : word_at n local.1.t 0 ≡ Ptr local.2.a 0 0
+      uppermost_is = exchanged_from inv c exists local.1 3 said ∙ local.2.register
+
+      by : (l : List ℕ) → nodes ≡ l → IsChain n role (word_at n local.1.t 0) l
+          → Goal Taking None (Op.CasPtr 0 0 2 3) Freeing rest (with_word n local.1.t 0 (register_at n c 3))
+      by [] e chain = absurd (ptr_is_not_null local.2.a 0 (sym uppermost_is ∙ chain))
+      by (b ∷ l) e chain = grind (arith, ptr_is, uppermost_is, by_pop)
+  steps s o r next pop_again u rest local held said =
+      subst (Goal Taking u (Op.CasPtr 0 0 2 3) Peeking rest) (sym (leaves_all inv c exists local.1 3 said))
+      (stays held (λ p. p) (λ f. f) (local.0, local.1) (λ b. refl))
+  steps s o r next free u rest local held said = free_steps u rest local held
+  steps s o r next free_again u rest local held said = free_steps u rest local held
+  steps s o r next (read {n = x}) u rest local held said =
+      let number : number_of (word_at n local.a 0) ≡ x = grind (arith, num_is, gets) in
+      stays held (λ p. p) (λ f. f) (local.owes ∙ ap (λ (y : ℕ). Some (Popped y)) number) (λ b. refl)
+  steps s o r next (clear {d = y} {r = x} lt) u rest local held said =
+      by_register inv c x Null lt u None local (idle inv c exists held (λ p. p) (λ f. f)) refl nothing (λ b. refl)
 
   -- No Free is answered Double.
   pub single : (s : Point) (o : Op) (r : Reply) (next : Point) → Asks s o r next → (u : Option Done)
       → Local n top role c s u → reply_of n c o ≡ r → reply_of n c o ≡ Reply.Double → ⊥
-  single s o r next free_again u local said double =
-      done_is_not_double (sym (free_replies inv c exists u local) ∙ double)
+  single s o r next free_again u local said double = done_is_not_double (sym (free_replies u local) ∙ double)
   single s o r next _ u local said double = cc

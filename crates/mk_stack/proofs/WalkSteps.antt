@@ -114,8 +114,7 @@ reads_more : (xs : List Replied) (y : Replied)
     → numbers_read (xs ++ y ∷ []) ≡ numbers_read xs ++ number_read y.op y.reply
 reads_more [] y = append-nil (number_read y.op y.reply)
 reads_more (x ∷ xs) y =
-    ap (λ (l : List ℕ). number_read x.op x.reply ++ l) (reads_more xs y)
-    ∙ sym (append_assoc (number_read x.op x.reply) (numbers_read xs) (number_read y.op y.reply))
+    cc (reads_more xs y, append_assoc (number_read x.op x.reply) (numbers_read xs) (number_read y.op y.reply))
 
 pub walked_more : {p q r : PassState} {numbers : List ℕ} {s : WalkPoint} {f : Found} → HasWalked p numbers q s
     → StepsDown q s r f → HasWalked p (numbers ++ numbers_found f) r (next_of f)

@@ -26,9 +26,7 @@ by_one k j n o xs e = grind (arith, eq-eqb)
 
 own_is_each : (k : ℕ) (n : NeverState) (xs : List Call) → AreAllBy k xs → own_replied k n xs ≡ each k n (ops_of xs)
 own_is_each k n [] all = refl
-own_is_each k n (x ∷ xs) all =
-    by_one k x.caller n x.op xs all.0 ∙ ap (λ (l : List Replied). record { op = x.op; reply = reply_of n k x.op } ∷ l)
-    (own_is_each k (after_op n k x.op) xs all.1)
+own_is_each k n (x ∷ xs) all = cc (by_one k x.caller n x.op xs all.0, own_is_each k (after_op n k x.op) xs all.1)
 
 -- What is to be shown at a point, for each answer to what is asked there
 abbrev Each : (Op → Reply → WalkPoint → Type 0) → WalkPoint → Type 0
@@ -108,9 +106,7 @@ module _ (n : NeverState) (k : ℕ) where
 
   next_register : (m : NeverState) (a : ℕ) → 8 * k + 7 < length m.registers → register_at m k 2 ≡ Ptr a 0 0
       → is_unmapped (allocation_at m a) ≡ false → after_op m k (Op.GetPtr 2 2 1) ≡ with_register m k 2 (word_at m a 1)
-  next_register m a room is there =
-      ap (λ (t : Target). left_at t (with_register m k 2 Null) (λ a w. with_register m k 2 (word_at m a w)))
-      (ap (λ (v : Value). target_of m v 1) is ∙ target m a 0 0 1 there)
+  next_register m a room is there = cc (is, target m a 0 0 1 there)
 
   -- what is known where a node is looked for, if these are the nodes from there on
   abbrev Ready : NeverState → Value → Type 0
@@ -175,8 +171,7 @@ module _ (n : NeverState) (k : ℕ) where
       let there = mapped m t ty i 0 at (Reply.Val w)
       (ap (λ (u : Value). reply_at (target_of m u 0) at) (sym top.2) ∙ said) (val_is_no_fault w) in
       let after : after_op m k (Op.GetPtr 2 0 0) ≡ with_register m k 2 (word_at m t (i + 0)) =
-      ap (λ (u : Target). left_at u (with_register m k 2 Null) (λ a w. with_register m k 2 (word_at m a w)))
-      (ap (λ (u : Value). target_of m u 0) top.2 ∙ target m t ty i 0 there) in
+      cc (top.2, target m t ty i 0 there) in
       let same : word_at m t (i + 0) ≡ word_at n t i = same_word n m t (i + 0) top.0 ∙ ap (word_at n t) (omega arith) in
       down (word_at n t i) nodes linked (after_op m k (Op.GetPtr 2 0 0)) os
       (subst (λ (s : NeverState). Ready s (word_at n t i)) (sym after) (

@@ -1,13 +1,12 @@
 -- A caller writes to a node of its own.
 use Rattle.mk_stack.proofs.Vocabulary.{Done, NeverState, Null, Op, Point, Replied, Value, freed_by, with_word, word_at}
 use Rattle.mk_stack.proofs.Vocabulary.{words_of}
-use Rattle.mk_laws.proofs.Vocabulary.{List, None, Option, ℕ, ap, cases_eq, cases_lt, get_or, inl, inr, length}
-use Rattle.mk_laws.proofs.Vocabulary.{length-set, refl, subst, sym, ◌<◌, ◌∙◌, ◌≡◌, ◌≢◌, ◌≤◌, ◌⊎◌}
-use Rattle.mk_stack.proofs.Assembly.{Stepped, nothing, same_roles}
-use Rattle.mk_stack.proofs.Heaps.{other_words, written_flag, written_size, written_type}
-use Rattle.mk_stack.proofs.Invariant.{Core, HasChain, Inv, IsHeld, Local, Work}
+use Rattle.mk_laws.proofs.Vocabulary.{List, None, Option, ℕ, ap, cases_eq, cases_lt, get_or, inl, inr, length, refl}
+use Rattle.mk_laws.proofs.Vocabulary.{subst, sym, ◌<◌, ◌∙◌, ◌≡◌, ◌≢◌, ◌≤◌, ◌⊎◌}
+use Rattle.mk_stack.proofs.Invariant.{AllHeld, Core, HasChain, Inv, Local, Work}
 use Rattle.mk_stack.proofs.Roles.{Base, Private, Role, RoleKeeps, Stacked, Taken, Unborn, same_role}
-use Rattle.mk_stack.proofs.{Chains.all_numbers_stay, Chains.has_chain_stays, Frames.Leaves}
+use Rattle.mk_stack.proofs.{Assembly.Stepped, Assembly.nothing, Assembly.same_roles, Chains.all_numbers_stay}
+use Rattle.mk_stack.proofs.{Chains.has_chain_stays, Fitting.written_fits, Frames.Leaves, Heaps.other_words}
 
 -- Roles are apart.
 
@@ -54,7 +53,7 @@ granted {n} {role} a core is = by (cases_lt a (length n.allocations))
   where
     by : (a < length n.allocations) ⊎ (length n.allocations ≤ a) → a < length n.allocations
     by (inl lt) = lt
-    by (inr ge) = absurd (is (sym (core.unborn a ge)))
+    by (inr ge) = absurd (is (sym ((core.fits a).unborn ge)))
 
 module _ {callers : ℕ} {n : NeverState} {top : Option ℕ} {role : ℕ → Role} {nodes : List ℕ} {W : ℕ → Work}
     (inv : Inv callers n top role nodes W) (c a i : ℕ) (v : Value) (own : role a ≡ Private c) where
@@ -78,14 +77,13 @@ module _ {callers : ℕ} {n : NeverState} {top : Option ℕ} {role : ℕ → Rol
       by (inr ne) = same_role k (role b) _ (other_words n a i b v ne)
 
   write_leaves : (k : ℕ) → k ≢ c → Leaves n top role m top role k
-  write_leaves k other =
-      record {
-        registers = λ r lt. refl;
-        same_top = λ t e. e;
-        none = λ first e. e;
-        base = λ first e b is. (is, apart b Base is (base_private c));
-        roles = write_role k other;
-      }
+  write_leaves k other = record {
+    registers = λ r lt. refl;
+    same_top = λ t e. e;
+    none = λ first e. e;
+    base = λ first e b is. (is, apart b Base is (base_private c));
+    roles = write_role k other;
+  }
 
   write_chain : HasChain m top role nodes
   write_chain =
@@ -93,28 +91,16 @@ module _ {callers : ℕ} {n : NeverState} {top : Option ℕ} {role : ℕ → Rol
       (λ b one e. record { role_now = e; link = word_stays b 1 Stacked e (λ same. private_stacked c (sym same)) })
       inv.core.chain
 
-  same_count : length m.allocations ≡ length n.allocations
-  same_count = length-set n.allocations a _
-
   write_core : Core callers m top role nodes
-  write_core =
-      let core : Core callers n top role nodes = inv.core in
-      record {
-        node_type = core.node_type;
-        top_type = core.top_type;
-        registers = core.registers;
-        globals = core.globals;
-        unborn = λ b ge. core.unborn b (subst (λ (l : ℕ). l ≤ b) same_count ge);
-        born = λ b lt. core.born b (subst (λ (l : ℕ). b < l) same_count lt);
-        size = λ b. written_size n a i b v ∙ core.size b;
-        freed = λ b. written_flag n a i b v ∙ core.freed b;
-        base = λ b is. written_type n a i b v ∙ core.base b is;
-        stacked = core.stacked;
-        chain = write_chain;
-      }
+  write_core = record {
+    shape = inv.core.shape;
+    fits = λ b. written_fits n a i b v (inv.core.fits b);
+    stacked = inv.core.stacked;
+    chain = write_chain;
+  }
 
   pub by_write : {s : Point} {u : Option Done} {o : Op} {next : Point} {rest : List Replied}
-      → Local m top role c next u → ((b : ℕ) → IsHeld m (role b) c b next) → ((b : ℕ) → freed_by b n c o ≡ 0)
+      → Local m top role c next u → AllHeld m role c next → ((b : ℕ) → freed_by b n c o ≡ 0)
       → Stepped callers n role nodes W c s u o next rest m
   by_write {u} local held frees =
       same_roles inv c m top u None write_core write_leaves local held

@@ -1,5 +1,5 @@
 //! Callers on threads of their own, and the host that joins them.
-ghost use Rattle.std.specs.Prelude.{◌≡◌, ◌+◌, ◌<◌, ◌∷◌, [], drop, slice_get, IfOk, IfSome, IsOk, OnOk, List, ℕ};
+ghost use Rattle.std.specs.Prelude.{◌≡◌, ◌+◌, ◌<◌, ◌∷◌, [], drop, slice_get, IfSome, List, ℕ};
 ghost use Rattle.std.specs.Thread.{IsSync};
 ghost use denote.Param.Send.{IsSend};
 ghost use Rattle.mk_caller.specs.States.{IsIdleCaller};
@@ -14,7 +14,7 @@ use mk_caller::Caller;
 use mk_cycle::Engine;
 use mk_heap::{Heap, Host};
 use mk_never::NoMemory;
-use mk_run::Pace;
+use mk_run::{Pace, with_first};
 use mk_words::Pass;
 use std::sync::Wait;
 use std::thread;
@@ -64,21 +64,6 @@ fn work_alone<E: Engine, P: Pace, R: Threads + Wait + Sync>(
         pass: caller.finish(),
         dones,
     }
-}
-
-/// One caller's before those of others, where memory suffices.
-fn with_first(
-    first: Result<Dones, NoMemory>,
-    others: Result<Vec<Dones>, NoMemory>,
-) -> Result<Vec<Dones>, NoMemory>
-    ensures first { OnOk result (IsOk first) }
-    ensures others { OnOk result (IsOk others) }
-    ensures items { IfOk result (λ all. IfOk first (λ x. IfOk others (λ xs. all.items ≡ x ∷ xs.items))) }
-{
-    let dones = first?;
-    let mut all = others?;
-    all.insert(0, dones)?;
-    Ok(all)
 }
 
 /// Joins a caller that has worked.

@@ -23,8 +23,7 @@ join-worked-requires-after_bounds g t c κs within =
     let callers : AreCallersFrom g.E.Engine.made_for w (k + 1) (record {
       pass = c.finish-next_pass.result;
       engines = record { first = c.in-Some.second; others = c.pop.new.self };
-    }) =
-    record {
+    }) = record {
       pass = ready;
       engines = record {
         count = omega (arith, c.in-Some.ensures.cases, given.engines.count);
@@ -47,8 +46,7 @@ returns g t c =
     let others : List Jobs = drop (k + 1) lists in
     let list = next_list lists k (omega (arith, c.args.run.now.one_each, c.requires.callers.engines.count)) in
     let begun : replied_to c.finish-next_pass.result ≡ [] =
-    ap replied_to c.finish-next_pass.ensures.pass
-    ∙ next_unasked c.caller.result c.requires.host c.caller.ensures.caller in
+    cc (c.finish-next_pass.ensures.pass, next_unasked c.caller.result c.requires.host c.caller.ensures.caller) in
     let markers = c.args.host.markers in
     let one : HasWorked w first k list.jobs.list.items c.join-worked.result.0 =
     subst (λ (x : Option Jobs). IfSome x (λ jobs. HasWorked w first k jobs.list.items c.join-worked.result.0))

@@ -12,8 +12,7 @@ work_beside-host-requires-clause-engines g c κs within =
     record {
       callers = record {
         count = omega (arith, made.count, callers, c.requires.callers.0);
-        first =
-            subst (λ n. g.E.Engine.made_for c.in_ok-engines.engines.callers.first ≡ n) pages made.first;
+        first = subst (λ n. g.E.Engine.made_for c.in_ok-engines.engines.callers.first ≡ n) pages made.first;
         others =
             subst
             (λ n. All (λ engine. g.E.Engine.made_for engine ≡ n) c.in_ok-engines.engines.callers.others.items)

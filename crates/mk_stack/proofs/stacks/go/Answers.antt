@@ -10,8 +10,7 @@ answer_now-answer-requires-clause-admitted g c κs within =
     c.points.invariant.holds
 
 pub returns-in_default-clause-goal : goal.returns-in_default-clause-goal
-returns-in_default-clause-goal g c =
-    is_goal c.points.point (λ o e. c.in_default.not-Some o (c.op_at.ensures ∙ e))
+returns-in_default-clause-goal g c = is_goal c.points.point (λ o e. c.in_default.not-Some o (c.op_at.ensures ∙ e))
 
 pub points-preserved-in-Ok : goal.points-preserved-in-Ok
 points-preserved-in-Ok g c =
