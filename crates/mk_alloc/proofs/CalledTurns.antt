@@ -9,15 +9,13 @@ use Rattle.mk_alloc.proofs.Vocabulary.{is_one_of, is_same_seat, is_take, left, l
 use Rattle.mk_alloc.proofs.Vocabulary.{no_more_calls, not, not-true, not_both, now_of, only_one, only_seen}
 use Rattle.mk_alloc.proofs.Vocabulary.{only_seen_by, or_cases, others_add_none, others_one, own_before, own_calls}
 use Rattle.mk_alloc.proofs.Vocabulary.{pass_before, phase_of, refl, subst, sym, true, turn_stays, waits_for, [], ⊎_elim}
-use Rattle.mk_alloc.proofs.Vocabulary.{◌&&◌, ◌++◌, ◌∙◌, ◌∷◌, ◌≡◌}
-use Rattle.mk_alloc.proofs.Decisions.{decided_in, registers_stay}
+use Rattle.mk_alloc.proofs.{Vocabulary.{◌&&◌, ◌++◌, ◌∙◌, ◌∷◌, ◌≡◌}, Decisions.{decided_in, registers_stay}}
 use Rattle.mk_alloc.proofs.OwnGives.{GivesNone, doing_gives, gives_append, others_give}
-use Rattle.mk_alloc.proofs.Parts.{in_turn_then, others_lack, seen_after, seen_by, seen_then}
-use Rattle.mk_alloc.proofs.{Going.IsCallers, ListParts.Lacks, ListParts.SomeKind, StepKinds.IsHolders}
-use Rattle.mk_alloc.specs.TurnCycles.{CallIsExact}
+use Rattle.mk_alloc.proofs.{Parts.{in_turn_then, others_lack, seen_after, seen_by, seen_then}, Going.IsCallers}
+use Rattle.mk_alloc.{proofs.{ListParts.{Lacks, SomeKind}, StepKinds.IsHolders}, specs.TurnCycles.{CallIsExact}}
 use Rattle.mk_caller.specs.States.{never_of}
-use Rattle.mk_words.proofs.{Seats.others_own, TurnSteps.takes as takes_turn, Undecided.decides_nothing}
 use Rattle.mk_words.specs.Steps.{may_decide}
+use Rattle.mk_words.proofs.{Seats.others_own, TurnSteps.takes as takes_turn, Undecided.decides_nothing}
 
 -- Waiting and taking the turn add no entry, nor does a `give`.
 

@@ -1,13 +1,12 @@
 -- Stretches of a turn in which no gate is held or opened, no cycle ends, no New is full and no object is freed.
-use Rattle.mk_laws.proofs.Vocabulary.{Marker, Progress, decided, sees_double, target}
+use Rattle.mk_laws.proofs.{Vocabulary.{Marker, Progress, decided, sees_double, target}, Basics.{Behind, tally_keeps}}
+use Rattle.mk_laws.proofs.OthersCounts.{answers_full, counts_nothing}
 use Rattle.mk_alloc.proofs.Vocabulary.{Answer, Bool, Caller, Config, CountsAreLeft, Event, Flight, Has, Holding, Host}
 use Rattle.mk_alloc.proofs.Vocabulary.{List, Moment, PassState, Seat, Step, World, ℕ, actor_of, answer_decided, ap}
 use Rattle.mk_alloc.proofs.Vocabulary.{arith, ends, event_of, false, flight_of, found, if◌then◌else◌, is_end, is_held}
 use Rattle.mk_alloc.proofs.Vocabulary.{is_placing, left, left_after, progress, refl, still, true, [], ◌++◌, ◌+◌, ◌∙◌}
-use Rattle.mk_alloc.proofs.Vocabulary.{◌∷◌, ◌≡◌, ◌≢◌}
+use Rattle.mk_alloc.proofs.{Vocabulary.{◌∷◌, ◌≡◌, ◌≢◌}, Stretches.{Here, Stretch, along, holds_none}}
 use Rattle.mk_core.specs.Effects.{holding_behind}
-use Rattle.mk_laws.proofs.{Basics.Behind, Basics.tally_keeps, OthersCounts.answers_full, OthersCounts.counts_nothing}
-use Rattle.mk_alloc.proofs.Stretches.{Here, Stretch, along, holds_none}
 use Rattle.mk_cycle.proofs.KeptInParts.{held_so}
 use Rattle.mk_objects.proofs.Counted.{counts_more}
 

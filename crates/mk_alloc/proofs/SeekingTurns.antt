@@ -7,16 +7,14 @@ use Rattle.mk_alloc.proofs.Vocabulary.{PlacedAllocation, Seeks, Some, Steady, Tu
 use Rattle.mk_alloc.proofs.Vocabulary.{call_of, false, inl, inr, is_look, is_undecided_new, looks_left, new_is_acting}
 use Rattle.mk_alloc.proofs.Vocabulary.{now_of, object_for, object_made, only_seen, own_seat, phase_of, place_after}
 use Rattle.mk_alloc.proofs.Vocabulary.{place_now_for, refl, subst, world_of, ◌==◌, ◌∙◌, ◌≡◌}
-use Rattle.mk_core.specs.Allocations.{place_among_allocations}
-use Rattle.mk_alloc.proofs.CalmStretches.{cycles_in_turn, is_of_cycles}
-use Rattle.mk_alloc.proofs.Going.{IsCallers, begun_on, finished_on, look_part, looked_on, on_then}
-use Rattle.mk_alloc.proofs.GrantParts.{calm_last, grants_none, last_behind, none_last, none_then}
-use Rattle.mk_alloc.proofs.PlacedTurns.{looked_beside, place_part, placed_on}
+use Rattle.mk_alloc.proofs.{CalmStretches.{cycles_in_turn, is_of_cycles}, Going.{IsCallers, begun_on, finished_on}}
+use Rattle.mk_alloc.proofs.{Going.{look_part, looked_on, on_then}, GrantParts.{calm_last, grants_none, last_behind}}
+use Rattle.mk_alloc.proofs.{GrantParts.{none_last, none_then}, PlacedTurns.{looked_beside, place_part, placed_on}}
 use Rattle.mk_alloc.proofs.RoomParts.{finish_room, no_place, none_behind, nowhere_then, part_begun, room_kept}
-use Rattle.mk_alloc.proofs.RoomParts.{room_lacks, room_then}
-use Rattle.mk_alloc.proofs.{CycleParts.begin_done, CycleParts.finish_done, FullLeaves.cycles_leave}
-use Rattle.mk_alloc.proofs.{FullLeaves.leaves_then, Parts.Part, QuietTurns.same_phase, Stretches.widened}
-use Rattle.mk_alloc.specs.Rooms.{MisfitsIdly}
+use Rattle.mk_alloc.proofs.{RoomParts.{room_lacks, room_then}, CycleParts.{begin_done, finish_done}}
+use Rattle.mk_alloc.proofs.{FullLeaves.{cycles_leave, leaves_then}, Parts.Part, QuietTurns.same_phase}
+use Rattle.mk_alloc.{proofs.Stretches.{widened}, specs.Rooms.{MisfitsIdly}}
+use Rattle.mk_core.specs.Allocations.{place_among_allocations}
 use Rattle.mk_objects.proofs.JoinedLooks.{looks_object, looks_unplaced}
 
 -- An undecided New is a caller's.

@@ -6,11 +6,9 @@ use Rattle.mk_laws.proofs.Vocabulary.{refl, register_word, subst, sym, true, [],
 use Rattle.mk_objects.proofs.Vocabulary.{Does, GoesTo, IsAsLeft, IsGrantedAt, IsOutOfStop, IsUnplaced, OnlyLooks}
 use Rattle.mk_objects.proofs.Vocabulary.{PassState, WordsState, call_of, does_then, held_by_allocations, is_look}
 use Rattle.mk_objects.proofs.Vocabulary.{is_placing, now_of, object_at_place, object_for, own_calls, steady_of}
-use Rattle.mk_objects.proofs.Vocabulary.{world_of}
+use Rattle.mk_objects.proofs.{Vocabulary.world_of, Reaching.{reaches_nothing, seeing}, Counted.counts_then}
+use Rattle.mk_objects.{proofs.Unchanged.{left_joined, left_same}, specs.Placing.{HeldIsExact, IsGranted}}
 use Rattle.mk_core.specs.Growing.{Finding}
-use Rattle.mk_objects.proofs.Reaching.{reaches_nothing, seeing}
-use Rattle.mk_objects.proofs.{Counted.counts_then, Unchanged.left_joined, Unchanged.left_same}
-use Rattle.mk_objects.specs.Placing.{HeldIsExact, IsGranted}
 use Rattle.mk_turns.specs.Doing.{are_of}
 
 are_wider : (narrow wide : Step → Bool) → ((s : Step) → narrow s ≡ true → wide s ≡ true) → (xs : List Finding)

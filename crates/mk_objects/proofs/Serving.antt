@@ -7,11 +7,9 @@ use Rattle.mk_laws.proofs.Vocabulary.{inl, inr, is_marked_first, is_next_header,
 use Rattle.mk_laws.proofs.Vocabulary.{length, length-set, lt-ltb, made_shows, ne_eqb, object_made, pages_made}
 use Rattle.mk_laws.proofs.Vocabulary.{part_not_free, place_by_placing, place_now, refl, set_past, slice_index_or}
 use Rattle.mk_laws.proofs.Vocabulary.{slice_set, sym, taken, takes_cell, true, used_at, world_behind, ◌+◌, ◌-◌, ◌<◌}
-use Rattle.mk_laws.proofs.Vocabulary.{◌^◌, ◌∙◌, ◌≡◌, ◌≢◌}
+use Rattle.mk_laws.proofs.{Vocabulary.{◌^◌, ◌∙◌, ◌≡◌, ◌≢◌}, Tests.{or_on, without_on}}
 use Rattle.mk_objects.proofs.Vocabulary.{Carving, IsAsLeft, IsCellReady, IsOutOfStop, Serving, all_below_from}
-use Rattle.mk_objects.proofs.Vocabulary.{steady_of}
-use Rattle.mk_laws.proofs.Tests.{or_on, without_on}
-use Rattle.mk_objects.proofs.{MayAct.off_four, Unchanged.HasCall, Unchanged.OfCaller, Unchanged.call_behind}
+use Rattle.mk_objects.proofs.{Vocabulary.steady_of, MayAct.off_four, Unchanged.{HasCall, OfCaller, call_behind}}
 
 -- What others do leaves it so.
 

@@ -3,17 +3,15 @@ use Rattle.mk_laws.proofs.Vocabulary.{Bool, Cell, Config, Header, Holds, IsHisto
 use Rattle.mk_laws.proofs.Vocabulary.{PlacedAllocation, Run, Some, Steady, Tally, ℕ, all_below-at, ap, arith, false}
 use Rattle.mk_laws.proofs.Vocabulary.{fresh_words_of, header_in, heads_run, if◌then◌else◌, in_a_word, is_held, not}
 use Rattle.mk_laws.proofs.Vocabulary.{not-true, refl, run_headed, subst, sym, true, words_under, ◌*◌, ◌+◌, ◌-◌, ◌<◌}
-use Rattle.mk_laws.proofs.Vocabulary.{◌^◌, ◌↔◌, ◌∙◌, ◌≡◌}
+use Rattle.mk_laws.proofs.{Vocabulary.{◌^◌, ◌↔◌, ◌∙◌, ◌≡◌}, Tallies.fresh_is_told}
 use Rattle.mk_objects.proofs.Vocabulary.{Changes, FreesCell, FreesOnce, HasFreed, IsAsLeft, IsFreedAt, IsOverQuarter}
 use Rattle.mk_objects.proofs.Vocabulary.{IsTrue, MayFree, OnlyLooks, PassState, SetsTally, StaysSo, held_by_allocations}
 use Rattle.mk_objects.proofs.Vocabulary.{is_following, min, none_is_held, now_of, steady_of, with_tally, words_freed}
-use Rattle.mk_objects.proofs.Vocabulary.{world_of}
-use Rattle.mk_core.specs.Counts.{TalliesAreExact}
-use Rattle.mk_laws.proofs.Tallies.{fresh_is_told}
-use Rattle.mk_objects.proofs.DecidedFrees.{Stays, decides_before, freed_decides, fresh_stays, stays_now}
-use Rattle.mk_objects.proofs.FreedObjects.{object_at, small_held}
+use Rattle.mk_objects.proofs.{Vocabulary.world_of, DecidedFrees.{Stays, decides_before, freed_decides, fresh_stays}}
+use Rattle.mk_objects.proofs.{DecidedFrees.stays_now, FreedObjects.{object_at, small_held}}
 use Rattle.mk_objects.proofs.ReachedParts.{reached_table, reached_world, reaches_after, reaches_wider}
-use Rattle.mk_objects.proofs.{FreedOnce.once_before, GoneRuns.IsGoneIn, GoneRuns.still_gone}
+use Rattle.mk_objects.proofs.{FreedOnce.once_before, GoneRuns.{IsGoneIn, still_gone}}
+use Rattle.mk_core.specs.Counts.{TalliesAreExact}
 
 -- After a `quar` the call is decided.
 pub freed_now : {p q : PassState} {cell : Cell} → HasFreed p cell q

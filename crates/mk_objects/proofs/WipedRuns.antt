@@ -2,9 +2,8 @@
 use Rattle.mk_laws.proofs.Vocabulary.{Flight, Holding, RunPages, Seat, World, ℕ, ap, eq-eqb, left, slice_index, subst}
 use Rattle.mk_laws.proofs.Vocabulary.{◌*◌, ◌+◌, ◌==◌, ◌∙◌, ◌≡◌}
 use Rattle.mk_objects.proofs.Vocabulary.{Changes, PassState, Wipes, WipesTo, all_below_from, is_clearing, now_of}
-use Rattle.mk_objects.proofs.Vocabulary.{world_of}
-use Rattle.mk_objects.proofs.ReachedParts.{reached_there, reached_world, reaches_after, reaches_so}
-use Rattle.mk_objects.proofs.UnmappedRuns.{changes_nothing, still_stopped}
+use Rattle.mk_objects.proofs.{Vocabulary.world_of, ReachedParts.{reached_there, reached_world, reaches_after}}
+use Rattle.mk_objects.proofs.{ReachedParts.reaches_so, UnmappedRuns.{changes_nothing, still_stopped}}
 use Rattle.mk_objects.proofs.{Reaching.reaches_nothing, WipedWords.still_unmapped}
 use Rattle.mk_objects.specs.Unmapping.{AreWiped, MayWipe, WipedTo}
 

@@ -1,6 +1,5 @@
-use Rattle.mk_alloc.proofs.Vocabulary.{in_turn, sweeps_then}
-use Rattle.mk_alloc.proofs.SeekingTurns.{misfits_finished, seeks_finished, seeks_then}
-use Rattle.mk_alloc.proofs.OneCycles.{finish_then_none}
+use Rattle.mk_alloc.proofs.{Vocabulary.{in_turn, sweeps_then}, SeekingTurns.{misfits_finished, seeks_finished}}
+use Rattle.mk_alloc.proofs.{SeekingTurns.seeks_then, OneCycles.finish_then_none}
 use Rattle.mk_alloc.proofs.rooms.finish_and_place.Goals as goal
 
 pub returns-clause-placed : goal.returns-clause-placed

@@ -1,6 +1,5 @@
-use Rattle.mk_alloc.proofs.BegunTurns.{none_begun, part_then_begun}
-use Rattle.mk_alloc.proofs.OneCycles.{none_runs_one, none_then_one}
-use Rattle.mk_alloc.proofs.{SeekingTurns.misfits_then, SeekingTurns.seeks_then, UnsweptTurns.part_then_sweeps}
+use Rattle.mk_alloc.proofs.{BegunTurns.{none_begun, part_then_begun}, OneCycles.{none_runs_one, none_then_one}}
+use Rattle.mk_alloc.proofs.{SeekingTurns.{misfits_then, seeks_then}, UnsweptTurns.part_then_sweeps}
 use Rattle.mk_alloc.proofs.rooms.make_room.Goals as goal
 
 pub returns-clause-placed : goal.returns-clause-placed

@@ -1,11 +1,9 @@
 use Rattle.mk_laws.proofs.Vocabulary.{Kind, List, Op, Some, arith, histories_keep_lengths, length, ltb-true}
 use Rattle.mk_laws.proofs.Vocabulary.{place_on_pages, subst, sym, undecided_new, ◌<◌, ◌∙◌, ◌≡◌}
-use Rattle.mk_objects.proofs.Vocabulary.{PassState, call_of, now_of, object_for}
-use Rattle.mk_objects.proofs.PlacedNews.{fit_found, fit_within, goes_behind, op_is, op_known, place_found, shape_asked}
-use Rattle.mk_objects.proofs.PlacedNews.{type_asked}
+use Rattle.mk_objects.proofs.{Vocabulary.{PassState, call_of, now_of, object_for}, PlacedNews.{fit_found, fit_within}}
+use Rattle.mk_objects.proofs.PlacedNews.{goes_behind, op_is, op_known, place_found, shape_asked, type_asked}
 use Rattle.mk_objects.proofs.placing.place_object.Goals.{After-shape_of-shape, In-New, In-Some-seek_cell}
-use Rattle.mk_objects.proofs.JoinedLooks.{granted_behind_looks, looks_nothing}
-use Rattle.mk_objects.specs.Shapes.{object_shaped}
+use Rattle.mk_objects.{proofs.JoinedLooks.{granted_behind_looks, looks_nothing}, specs.Shapes.{object_shaped}}
 use Rattle.mk_objects.proofs.placing.place_object.Goals as goal
 
 -- the operation is the New that was looked at
