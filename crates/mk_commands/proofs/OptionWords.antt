@@ -8,7 +8,8 @@ use Rattle.clap.specs.Walk.{with_values, without}
 use Rattle.clap.specs.declared.builder.value_parser.Reading.TheVariants.{AsWritten}
 use Rattle.clap.specs.declared.error.kind.ErrorKind.{ErrorKind}
 use Rattle.clap.specs.{Kinds.Kinds, Lexer.long_of, declared.parser.matches.ValueSource.TheVariants.CommandLine}
-use Rattle.mk_commands.proofs.Lexing.{NameView, flag_long, is_flag, is_markers, is_other, name_view, no_value, said_long}
+use Rattle.mk_commands.proofs.Lexing.{NameView, flag_long, is_flag, is_markers, is_other, name_view, no_value}
+use Rattle.mk_commands.proofs.Lexing.{said_long}
 use Rattle.mk_commands.proofs.Standing.{Id, IsAt, More, TellsAs, flag_id, flag_some, given_for, has_id, holds_set}
 use Rattle.mk_commands.proofs.Standing.{markers_id, passes_on, still_holds, text_of, waits}
 use Rattle.mk_commands.proofs.Walking.{holding, long_is, position_of, rules, standing, word_stops}

@@ -64,8 +64,10 @@ unfolding by c0 all_below pointed_cell may_turn_black one_page full_then_reused 
 full_is_tidy before e behind is give =
     at_each is_give (λ (es : List Event) (x : Event). TalliesAreTidy one_page es) [] full_then_reused
     (record { cycles = refl; released = refl; full = refl }
-    and record { cycles = refl; released = refl; full = refl } and record { cycles = refl; released = refl; full = refl }
-    and record { cycles = refl; released = refl; full = refl } and record { cycles = refl; released = refl; full = refl }
+    and record { cycles = refl; released = refl; full = refl } and record { cycles = refl; released = refl; full =
+        refl }
+    and record { cycles = refl; released = refl; full = refl } and record { cycles = refl; released = refl; full =
+        refl }
     and tt) before e behind is (ap is_give give)
 
 -- Of its two cycles the second releases an object, and one New is refused.

@@ -65,5 +65,6 @@ unfolding by c0 all_below pointed_cell three_pages large_freed left_from calls_f
 large_is_tidy before e behind is give =
     at_each is_give (λ (es : List Event) (x : Event). TalliesAreTidy three_pages es) [] large_freed
     (record { cycles = refl; released = refl; full = refl } and record { cycles = refl; released = refl; full = refl }
-    and record { cycles = refl; released = refl; full = refl } and record { cycles = refl; released = refl; full = refl }
+    and record { cycles = refl; released = refl; full = refl } and record { cycles = refl; released = refl; full =
+        refl }
     and tt) before e behind is (ap is_give give)

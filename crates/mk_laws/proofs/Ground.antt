@@ -1,5 +1,6 @@
 -- What an event may do to what stands on the pages and to the quarantine, by the conditions under which it does so.
-use Rattle.mk_laws.proofs.Vocabulary.{cases_Bool, Bool, Caller, Cell, Config, Flight, Granted, Ground, List, Moment, None, Op}
+use Rattle.mk_laws.proofs.Vocabulary.{cases_Bool, Bool, Caller, Cell, Config, Flight, Granted, Ground, List, Moment}
+use Rattle.mk_laws.proofs.Vocabulary.{None, Op}
 use Rattle.mk_laws.proofs.Vocabulary.{Option, Page, Seat, Some, Stage, Step, Tally, Unplaced, Words, World, ℕ}
 use Rattle.mk_laws.proofs.Vocabulary.{and_parts, carves, cell_freed, chosen, empties, eqb-false, eqb-true, false}
 use Rattle.mk_laws.proofs.Vocabulary.{flight_of, freed_where_it_stands, frees, gives_back, granted, ground_of}

@@ -228,7 +228,8 @@ module _ (c : Config) (w : World) (seat : Seat) (limits : IsWithinLimits c) (kno
 
   keeps_of : (x : Step) → Meets c w.now seat x → is_head x ≡ false → is_undirty x ≡ false → Keeps c w.now (After x)
   keeps_of x h no_head no_clean = keeps_by x h no_clean
-      (wells_from c w.now.words (After x).words (headers_kind c w.now seat x no_head) (marks_kind c w.now seat x early h))
+      (wells_from c w.now.words (After x).words (headers_kind c w.now seat x no_head)
+          (marks_kind c w.now seat x early h))
       (λ p. goes_equal c.pages _ _ (headers_kind c w.now seat x no_head p))
 
   head : (p n : ℕ) → Meets c w.now seat (Step.Head p n) → HeadKeeps c w.now (After (Step.Head p n))

@@ -3,7 +3,8 @@ use Rattle.std.proofs.Common.{set}
 use Rattle.mk_laws.proofs.Vocabulary.{Bool, Carries, CarriesOwn, Flight, ImageScene, IsMet, IsSound, IsTyped}
 use Rattle.mk_laws.proofs.Vocabulary.{IsTypedAllocation, List, NeverAllocation, NeverState, Null, PlacedAllocation}
 use Rattle.mk_laws.proofs.Vocabulary.{ProbedOwn, Ptr, Stage, Value, ℕ, address_of, allocation_at, ap, arith, at_rest}
-use Rattle.mk_laws.proofs.Vocabulary.{bases_of, cases_Bool, cases_eq, d_of, false, flight_among, get_or, get_or-set_other}
+use Rattle.mk_laws.proofs.Vocabulary.{bases_of, cases_Bool, cases_eq, d_of, false, flight_among, get_or}
+use Rattle.mk_laws.proofs.Vocabulary.{get_or-set_other}
 use Rattle.mk_laws.proofs.Vocabulary.{get_or-set_same, image_of, inl, inr, is_past_probe, is_put, is_unmapped, kind_in}
 use Rattle.mk_laws.proofs.Vocabulary.{kinds_of, length, length-map, p_of, placed_at, q_of, r_of, refl, register_at}
 use Rattle.mk_laws.proofs.Vocabulary.{set_by, shown, slice_index, slice_index_or, slice_set, subst, sym, true}
@@ -222,7 +223,8 @@ module _ (globals : List ℕ) (s : ImageScene) (n : NeverState) (h : AreImages s
                     ((placed_at s.allocations b).base + j) x 0
                     (λ z. let y = ap (λ y. (placed_at s.allocations y).base) e in absurd (ne2 (omega (arith, y, z))))
                     ∙ h.heap b j ub mb' lj' ∙ ap (image_of bases)
-                    (let w : word_at (with_word n a i v) b j ≡ word_at n b j = rw e (word_other n a i j v li ne2) in sym w)
+                    (let w : word_at (with_word n a i v) b j
+                        ≡ word_at n b j = rw e (word_other n a i j v li ne2) in sym w)
               ]
               | inr ne ↦
                   get_or-set_other s.heap ((placed_at s.allocations a).base + i) ((placed_at s.allocations b).base + j)

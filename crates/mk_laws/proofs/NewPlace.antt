@@ -35,7 +35,8 @@ in_fits : (c : Config) (pages : List Page) (o : Op) (placing : Placing) (place :
     → ((y : Place) → held_place placing ≡ Some y → PlaceFits c o y)
     → place_by_placing c.resident pages (object_made c o) placing ≡ Some place → PlaceFits c o place
 in_fits c pages o Unplaced place count held is = λ large. rw count at
-    (run_place_is c.resident (object_made c o).words (object_made c o).leaf pages place (leb-false _ 32 large) is).free.within
+    (run_place_is c.resident (object_made c o).words (object_made c o).leaf pages place
+        (leb-false _ 32 large) is).free.within
 in_fits c pages o Granted place count held is = cc
 in_fits c pages o _ place count held is = held place is
 

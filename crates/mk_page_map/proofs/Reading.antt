@@ -38,7 +38,8 @@ pub next_of_sorted : {known : KnownPages} {held : List Page} {sets slice : List 
     → IsNext (λ number. is_of_set set (use_of_page (page_at known.pages number))) from (length known.pages) next
 next_of_sorted {held} set from next reads is_set found =
     subst (λ (k : KnownPages). IsNext (λ number. is_of_set set (use_of_page (page_at k.pages number))) from
-    (length k.pages) next) reads.view (next_of_held set from (λ number. is_of_set set (use_of_page (page_at held number)))
+    (length k.pages) next) reads.view (next_of_held set from (λ number. is_of_set set (use_of_page
+        (page_at held number)))
     next reads is_set (λ number. refl) found)
 
 quarantined_at : (held : List Page) (sets : List ℕ) (number : ℕ) → number < length held

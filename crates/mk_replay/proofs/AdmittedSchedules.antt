@@ -107,7 +107,8 @@ module _ (program : List Item) (es : List Event) where
       let a = answer_decided c m e in
       same_asks program k (flight_of m (Caller k)) _ n _ all _ (asked (calls c es) ++ asked (entry_of j f.op a)) _
       (flight_behind e k ∙ get_or-set_other m.seats.flights j k _ at_rest (λ same. other (sym same)))
-      (more_ended es e k ∙ ap (λ (b : Bool). counted n (b && ends_call s)) (other_number k j (λ same. other (sym same))))
+      (more_ended es e k ∙ ap (λ (b : Bool). counted n (b
+          && ends_call s)) (other_number k j (λ same. other (sym same))))
       (ap (answers_among k) (calls_more c (first_world c) es e)
       ∙ (grind (arith, among_more, append-nil, other_number)))
       (asked_behind e) (others_step program k (flight_of m (Caller k)) n all (asked (calls c es)) h j f.op a other)

@@ -1,4 +1,5 @@
--- What an engine keeps to, in the steps of a seat: where it doesn't sweep it makes no sweeping mark, and after each `begin`
+-- What an engine keeps to, in the steps of a seat: where it doesn't sweep it makes no sweeping mark, and after each
+-- `begin`
 -- it does its part. Up to the whole run. Private functions alone cite these words.
 use Rattle.std.specs.Prelude.{◌≡◌, ◌≤◌, ℕ, Bool, false, List, []}
 use Rattle.mk_core.specs.declared.config.Config.{Config}

@@ -82,9 +82,11 @@ after_line old new before item types globals scripts pointers numbers scope adds
           ∙ ap (λ some. list_any is_instruction (this_script before) || some)
           (or-false (is_instruction item) false refl));
       types = names_added type_names type_names-append before item _ _ types adds.types_are scope.types types';
-      globals = names_added global_names global_names-append before item old.globals new.globals globals adds.globals_are
+      globals =
+          names_added global_names global_names-append before item old.globals new.globals globals adds.globals_are
           scope.globals globals';
-      scripts = names_added script_names script_names-append before item old.scripts new.scripts scripts adds.scripts_are
+      scripts =
+          names_added script_names script_names-append before item old.scripts new.scripts scripts adds.scripts_are
           scope.scripts scripts';
       pointers = rw lines (names_added pointer_names pointer_names-append (this_script before) item old.pointers
           new.pointers pointers adds.pointers_are scope.pointers pointers');

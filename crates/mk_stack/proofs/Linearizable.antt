@@ -101,7 +101,8 @@ module _ (types : List (List Kind)) (callers : ℕ) (founding : List Replied) (r
     freed : (a : ℕ) → a < length m.allocations → (allocation_at m a).ty ≡ 0 → (IsOneOf a ran.end.nodes → ⊥)
         → (r : Role) → ran.end.role a ≡ r → times_freed a n calls ≡ 1
     freed a lt node off Unborn is = absurd ((ran.end.core.fits a).born lt is)
-    freed a lt node off Base is = let top : (allocation_at m a).ty ≡ 1 = (ran.end.core.fits a).base is in absurd (omega arith)
+    freed a lt node off Base is = let top : (allocation_at m a).ty
+        ≡ 1 = (ran.end.core.fits a).base is in absurd (omega arith)
     freed a lt node off (Private k) is = absurd (ran.end.pushed k a is)
     freed a lt node off Stacked is = absurd (off (ran.end.core.stacked a is))
     freed a lt node off (Taken k) is = absurd (ran.end.taken k a is)

@@ -51,7 +51,8 @@ does_then kinds p q r d e =
       more = d.more ++ f.more;
       is = f.is ∙ ap (λ (es : List Event). record p { seen = es }) (append_assoc p.seen d.more f.more);
       own_or_others = own_or_others_in_parts p.seat p.seats d.more f.more d.own_or_others f.own_or_others;
-      of_kinds = rw (done_in_parts p d.more f.more) (of_kinds_in_parts kinds (done_in p d.more) _ d.of_kinds f.of_kinds);
+      of_kinds =
+          rw (done_in_parts p d.more f.more) (of_kinds_in_parts kinds (done_in p d.more) _ d.of_kinds f.of_kinds);
     }
 
 pub not_own : (seats : List Seat) (s t : Seat) → Has seats s → is_one_of seats t ≡ false → is_same_seat s t ≡ false

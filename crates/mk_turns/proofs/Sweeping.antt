@@ -71,7 +71,8 @@ nothing_sweeps p = record { more = []; is = sym (append-nil p.seen); none = tt }
 pub sweeps_then : NothingIsSweptInTurn
 sweeps_then p q r same one two =
     let c : Config = p.table.config in
-    let there : world_of q ≡ left_from c (left c p.seen) one.more = rw same (rw one.is (left_in_parts c p.seen one.more))
+    let there : world_of q ≡ left_from c (left c p.seen) one.more =
+        rw same (rw one.is (left_in_parts c p.seen one.more))
     in
     record {
       more = one.more ++ two.more;
