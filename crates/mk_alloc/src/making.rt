@@ -43,7 +43,6 @@ fn make_room_or_count<E: Engine, R: Threads + Wait + Sync>(
     requires quiet { IsQuiet turn.pass }
     requires unplaced { IsUnplaced turn.pass }
     requires nowhere { place_now_for turn.pass ≡ None }
-    ensures op { result.0.op ≡ turn.op }
     ensures made_for { E.made_for engine.new ≡ E.made_for engine.old }
     ensures seeks { Seeks (Some (answer_with result.1)) turn.pass result.0.pass }
     ensures full { IfSome result.1 (CountsFull turn.pass result.0.pass) }

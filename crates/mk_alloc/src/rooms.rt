@@ -23,7 +23,6 @@ pub(crate) fn try_place(words: &Words, turn: &mut Turn) -> bool
     requires one_table { turn.old.pass.table ≡ words.now }
     requires quiet { IsQuiet turn.old.pass }
     requires unplaced { IsUnplaced turn.old.pass }
-    ensures op { turn.new.op ≡ turn.old.op }
     ensures placed { result ≡ true → Seeks (Some answer.Done) turn.old.pass turn.new.pass }
     ensures misfits { result ≡ false → Misfits turn.old.pass turn.new.pass }
     ensures looks { result ≡ false → OnlyLooks turn.old.pass turn.new.pass }
@@ -51,7 +50,6 @@ fn finish_and_place<E: Engine, R: Threads + Wait + Sync>(
     requires unplaced { IsUnplaced turn.pass }
     requires nowhere { place_now_for turn.pass ≡ None }
     requires on { IsAtPhase turn.pass 1 }
-    ensures op { result.0.op ≡ turn.op }
     ensures made_for { E.made_for engine.new ≡ E.made_for engine.old }
     ensures placed { result.1 ≡ true → Seeks (Some answer.Done) turn.pass result.0.pass }
     ensures misfits { result.1 ≡ false → MisfitsIdly turn.pass result.0.pass }
@@ -79,7 +77,6 @@ fn place_behind_older<E: Engine, R: Threads + Wait + Sync>(
     requires quiet { IsQuiet turn.pass }
     requires unplaced { IsUnplaced turn.pass }
     requires nowhere { place_now_for turn.pass ≡ None }
-    ensures op { result.0.op ≡ turn.op }
     ensures made_for { E.made_for engine.new ≡ E.made_for engine.old }
     ensures placed { result.1 ≡ true → Seeks (Some answer.Done) turn.pass result.0.pass }
     ensures misfits { result.1 ≡ false → MisfitsIdly turn.pass result.0.pass }
@@ -111,7 +108,6 @@ fn place_behind_cycle<E: Engine, R: Threads + Wait + Sync>(
     requires unplaced { IsUnplaced turn.pass }
     requires nowhere { place_now_for turn.pass ≡ None }
     requires idle { IsAtPhase turn.pass 0 }
-    ensures op { result.0.op ≡ turn.op }
     ensures made_for { E.made_for engine.new ≡ E.made_for engine.old }
     ensures placed { result.1 ≡ true → Seeks (Some answer.Done) turn.pass result.0.pass }
     ensures misfits { result.1 ≡ false → MisfitsAtLast turn.pass result.0.pass }
@@ -141,7 +137,6 @@ pub(crate) fn make_room<E: Engine, R: Threads + Wait + Sync>(
     requires quiet { IsQuiet turn.pass }
     requires unplaced { IsUnplaced turn.pass }
     requires nowhere { place_now_for turn.pass ≡ None }
-    ensures op { result.0.op ≡ turn.op }
     ensures made_for { E.made_for engine.new ≡ E.made_for engine.old }
     ensures placed { result.1 ≡ true → Seeks (Some answer.Done) turn.pass result.0.pass }
     ensures misfits { result.1 ≡ false → MisfitsAtLast turn.pass result.0.pass }

@@ -28,7 +28,6 @@ fn look_before(turn: &mut Turn, words: &Words, pages: u64, x: Word) -> u64
     requires phase { IsAtPhase turn.old.pass 0 }
     requires in_range { is_word words.now.config x ≡ true }
     requires no_register { is_register x ≡ false }
-    ensures op { turn.new.op ≡ turn.old.op }
     ensures cleans { Cleans turn.old.pass turn.new.pass }
     ensures is { InTurn turn.new.pass }
     ensures reads { result ≡ named_word (now_of turn.new.pass).words x }
@@ -43,7 +42,6 @@ fn clear_marks(turn: &mut Turn, words: &Words, page: u64, marks: u64)
     requires phase { IsAtPhase turn.old.pass 0 }
     requires within { page < words.now.config.pages }
     requires found { marks ≡ 0 → IsUnmarked turn.old.pass page }
-    ensures op { turn.new.op ≡ turn.old.op }
     ensures cleans { Cleans turn.old.pass turn.new.pass }
     ensures unmarked { IsUnmarked turn.new.pass page }
 {
@@ -59,7 +57,6 @@ fn clear_black(turn: &mut Turn, words: &Words, page: u64, blacks: u64)
     requires phase { IsAtPhase turn.old.pass 0 }
     requires within { page < words.now.config.pages }
     requires found { blacks ≡ 0 → IsUnscanned turn.old.pass page }
-    ensures op { turn.new.op ≡ turn.old.op }
     ensures cleans { Cleans turn.old.pass turn.new.pass }
     ensures unscanned { IsUnscanned turn.new.pass page }
 {
@@ -74,7 +71,6 @@ fn clear_dirty(turn: &mut Turn, words: &Words, page: u64, dirty: u64)
     requires free { IsFreeForCycle turn.old.pass }
     requires phase { IsAtPhase turn.old.pass 0 }
     requires within { page < words.now.config.pages }
-    ensures op { turn.new.op ≡ turn.old.op }
     ensures cleans { Cleans turn.old.pass turn.new.pass }
     ensures undirty { dirty ≢ 0 → WasUndirty page turn.old.pass turn.new.pass }
 {
@@ -89,7 +85,6 @@ fn copy_freed(turn: &mut Turn, words: &Words, page: u64)
     requires free { IsFreeForCycle turn.old.pass }
     requires phase { IsAtPhase turn.old.pass 0 }
     requires within { page < words.now.config.pages }
-    ensures op { turn.new.op ≡ turn.old.op }
     ensures cleans { Cleans turn.old.pass turn.new.pass }
     ensures snapshot { HasTakenSnapshot turn.new.pass page }
 {
@@ -119,7 +114,6 @@ fn clean_words(turn: &mut Turn, words: &Words, page: u64, marks: u64, blacks: u6
     requires within { page < words.now.config.pages }
     requires marks { marks ≡ 0 → IsUnmarked turn.old.pass page }
     requires blacks { blacks ≡ 0 → IsUnscanned turn.old.pass page }
-    ensures op { turn.new.op ≡ turn.old.op }
     ensures cleans { Cleans turn.old.pass turn.new.pass }
     ensures bare { HasNoMarks (now_of turn.new.pass).words page }
     ensures undirty { dirty ≢ 0 → WasUndirty page turn.old.pass turn.new.pass }
@@ -137,7 +131,6 @@ fn clean_page(turn: &mut Turn, words: &Words, pages: u64, page: u64)
     requires free { IsFreeForCycle turn.old.pass }
     requires phase { IsAtPhase turn.old.pass 0 }
     requires within { page < words.now.config.pages }
-    ensures op { turn.new.op ≡ turn.old.op }
     ensures cleans { Cleans turn.old.pass turn.new.pass }
     ensures bare { HasNoMarks (now_of turn.new.pass).words page }
     ensures undirty { WasUndirty page turn.old.pass turn.new.pass }
@@ -157,7 +150,6 @@ fn clean_free(turn: &mut Turn, words: &Words, page: u64)
     requires free { IsFreeForCycle turn.old.pass }
     requires phase { IsAtPhase turn.old.pass 0 }
     requires within { page < words.now.config.pages }
-    ensures op { turn.new.op ≡ turn.old.op }
     ensures cleans { Cleans turn.old.pass turn.new.pass }
     ensures bare { HasNoMarks (now_of turn.new.pass).words page }
 {
@@ -175,7 +167,6 @@ fn clean_free_pages(turn: &mut Turn, words: &Words)
     requires one_table { turn.old.pass.table ≡ words.now }
     requires free { IsFreeForCycle turn.old.pass }
     requires phase { IsAtPhase turn.old.pass 0 }
-    ensures op { turn.new.op ≡ turn.old.op }
     ensures cleans { Cleans turn.old.pass turn.new.pass }
     ensures bare { (page : ℕ) → page < words.now.config.pages → header_at (now_of turn.new.pass).words page ≡ 0
         → HasNoMarks (now_of turn.new.pass).words page }
@@ -195,7 +186,6 @@ fn clean_pages_in_use(turn: &mut Turn, words: &Words)
     requires phase { IsAtPhase turn.old.pass 0 }
     requires bare { (page : ℕ) → page < words.now.config.pages → header_at (now_of turn.old.pass).words page ≡ 0
         → HasNoMarks (now_of turn.old.pass).words page }
-    ensures op { turn.new.op ≡ turn.old.op }
     ensures cleans { Cleans turn.old.pass turn.new.pass }
     ensures ready { (page : ℕ) → page < words.now.config.pages → IsCleanedPage page turn.old.pass turn.new.pass }
 {
@@ -213,7 +203,6 @@ fn take_snapshots(turn: &mut Turn, words: &Words)
     requires one_table { turn.old.pass.table ≡ words.now }
     requires free { IsFreeForCycle turn.old.pass }
     requires phase { IsAtPhase turn.old.pass 0 }
-    ensures op { turn.new.op ≡ turn.old.op }
     ensures cleans { Cleans turn.old.pass turn.new.pass }
     ensures snapshot { (page : ℕ) → page < words.now.config.pages → HasTakenSnapshot turn.new.pass page }
 {
@@ -231,7 +220,6 @@ pub(crate) fn clean_pages(turn: &mut Turn, words: &Words)
     requires one_table { turn.old.pass.table ≡ words.now }
     requires free { IsFreeForCycle turn.old.pass }
     requires phase { IsAtPhase turn.old.pass 0 }
-    ensures op { turn.new.op ≡ turn.old.op }
     ensures cleans { Cleans turn.old.pass turn.new.pass }
     ensures clean { (page : ℕ) → page < words.now.config.pages → IsClean turn.new.pass page }
     ensures undirty { (page : ℕ) → page < words.now.config.pages → WasUndirty page turn.old.pass turn.new.pass }

@@ -39,7 +39,6 @@ pub(crate) fn look_among(turn: &mut Turn, words: &Words, pages: u64, x: Word) ->
     requires free { IsFreeForCycle turn.old.pass }
     requires in_range { is_word words.now.config x ≡ true }
     requires no_register { is_register x ≡ false }
-    ensures op { turn.new.op ≡ turn.old.op }
     ensures was { InTurn turn.old.pass }
     ensures acts { Acts turn.old.pass (step.Look x) turn.new.pass }
     ensures is { InTurn turn.new.pass }
@@ -56,7 +55,6 @@ pub(crate) fn look(turn: &mut Turn, words: &Words, x: Word) -> u64
     requires free { IsFreeForCycle turn.old.pass }
     requires in_range { is_word words.now.config x ≡ true }
     requires no_register { is_register x ≡ false }
-    ensures op { turn.new.op ≡ turn.old.op }
     ensures was { InTurn turn.old.pass }
     ensures acts { Acts turn.old.pass (step.Look x) turn.new.pass }
     ensures is { InTurn turn.new.pass }
@@ -113,7 +111,6 @@ pub(crate) fn clear(turn: &mut Turn, words: &Words, page: u64)
     requires free { IsFreeForCycle turn.old.pass }
     requires phase { IsAtPhase turn.old.pass 0 }
     requires within { page < words.now.config.pages }
-    ensures op { turn.new.op ≡ turn.old.op }
     ensures was { InTurn turn.old.pass }
     ensures acts { Acts turn.old.pass (step.Clear page) turn.new.pass }
     ensures is { InTurn turn.new.pass }
@@ -128,7 +125,6 @@ pub(crate) fn unblack(turn: &mut Turn, words: &Words, page: u64)
     requires free { IsFreeForCycle turn.old.pass }
     requires phase { IsAtPhase turn.old.pass 0 }
     requires within { page < words.now.config.pages }
-    ensures op { turn.new.op ≡ turn.old.op }
     ensures was { InTurn turn.old.pass }
     ensures acts { Acts turn.old.pass (step.Unblack page) turn.new.pass }
     ensures is { InTurn turn.new.pass }
@@ -143,7 +139,6 @@ pub(crate) fn undirty(turn: &mut Turn, words: &Words, page: u64)
     requires free { IsFreeForCycle turn.old.pass }
     requires phase { IsAtPhase turn.old.pass 0 }
     requires within { page < words.now.config.pages }
-    ensures op { turn.new.op ≡ turn.old.op }
     ensures was { InTurn turn.old.pass }
     ensures acts { Acts turn.old.pass (step.Undirty page) turn.new.pass }
     ensures is { InTurn turn.new.pass }
@@ -160,7 +155,6 @@ pub(crate) fn take_snapshot(turn: &mut Turn, words: &Words, page: u64, value: u6
     requires within { page < words.now.config.pages }
     requires value { value ≡ quarantine_word (slice_index (now_of turn.old.pass).words.freed page)
         (slice_index (now_of turn.old.pass).words.freed page) }
-    ensures op { turn.new.op ≡ turn.old.op }
     ensures was { InTurn turn.old.pass }
     ensures acts { Acts turn.old.pass (step.Quar page value) turn.new.pass }
     ensures is { InTurn turn.new.pass }
@@ -173,7 +167,6 @@ pub(crate) fn take_snapshot(turn: &mut Turn, words: &Words, page: u64, value: u6
 pub(crate) fn tally(turn: &mut Turn, words: &Words, n: Tally, v: u64)
     requires one_table { turn.old.pass.table ≡ words.now }
     requires free { IsFreeForCycle turn.old.pass }
-    ensures op { turn.new.op ≡ turn.old.op }
     ensures was { InTurn turn.old.pass }
     ensures acts { Acts turn.old.pass (step.Tally n v) turn.new.pass }
     ensures is { InTurn turn.new.pass }
@@ -189,7 +182,6 @@ pub(crate) fn begin(turn: &mut Turn, words: &Words)
     requires phase { IsAtPhase turn.old.pass 0 }
     requires clean { (page : ℕ) → page < words.now.config.pages → IsClean turn.old.pass page }
     requires fresh { (now_of turn.old.pass).words.fresh ≡ 0 }
-    ensures op { turn.new.op ≡ turn.old.op }
     ensures was { InTurn turn.old.pass }
     ensures acts { Acts turn.old.pass step.Begin turn.new.pass }
     ensures is { InTurn turn.new.pass }
@@ -205,7 +197,6 @@ pub(crate) fn try_hold(turn: &mut Turn, words: &Words, caller: u64) -> bool
     requires within { caller < words.now.config.callers }
     requires another { is_number_of turn.old.pass.seat caller ≡ false }
     requires open { is_held (now_of turn.old.pass).words caller ≡ false }
-    ensures op { turn.new.op ≡ turn.old.op }
     ensures was { InTurn turn.old.pass }
     ensures acts { Acts turn.old.pass (step.Hold caller) turn.new.pass }
     ensures is { InTurn turn.new.pass }
@@ -223,7 +214,6 @@ pub(crate) fn wipe(turn: &mut Turn, words: &Words, word: u64)
     requires within { word < 64 * words.now.config.pages }
     requires released { is_some_and (is_released_cell (now_of turn.old.pass).words)
         (pointed_cell turn.old.pass.table.config.pages (now_of turn.old.pass).words.pages (address_of word)) ≡ true }
-    ensures op { turn.new.op ≡ turn.old.op }
     ensures was { InTurn turn.old.pass }
     ensures acts { Acts turn.old.pass (step.Wipe word) turn.new.pass }
     ensures is { InTurn turn.new.pass }
@@ -239,7 +229,6 @@ pub(crate) fn give_cells(turn: &mut Turn, words: &Words, page: u64, v: u64)
     requires phase { IsAtPhase turn.old.pass 4 }
     requires within { page < words.now.config.pages }
     requires gives { gives_back (now_of turn.old.pass).words page v ≡ true }
-    ensures op { turn.new.op ≡ turn.old.op }
     ensures was { InTurn turn.old.pass }
     ensures acts { Acts turn.old.pass (step.Used page v) turn.new.pass }
     ensures is { InTurn turn.new.pass }
@@ -255,7 +244,6 @@ pub(crate) fn drop_cells(turn: &mut Turn, words: &Words, page: u64, v: u64)
     requires phase { IsAtPhase turn.old.pass 4 }
     requires within { page < words.now.config.pages }
     requires drops { drops (now_of turn.old.pass).words page (v % 2 ^ 32) (v / 2 ^ 32) ≡ true }
-    ensures op { turn.new.op ≡ turn.old.op }
     ensures was { InTurn turn.old.pass }
     ensures acts { Acts turn.old.pass (step.Quar page v) turn.new.pass }
     ensures is { InTurn turn.new.pass }
@@ -271,7 +259,6 @@ pub(crate) fn free_head(turn: &mut Turn, words: &Words, page: u64)
     requires phase { IsAtPhase turn.old.pass 4 }
     requires within { page < words.now.config.pages }
     requires empty { empties (now_of turn.old.pass).words page 0 ≡ true }
-    ensures op { turn.new.op ≡ turn.old.op }
     ensures was { InTurn turn.old.pass }
     ensures acts { Acts turn.old.pass (step.Head page 0) turn.new.pass }
     ensures is { InTurn turn.new.pass }
@@ -286,7 +273,6 @@ pub(crate) fn end(turn: &mut Turn, words: &Words)
     requires free { IsFreeForCycle turn.old.pass }
     requires phase { IsAtPhase turn.old.pass 4 }
     requires settled { (page : ℕ) → page < words.now.config.pages → IsSettledPage turn.old.pass page }
-    ensures op { turn.new.op ≡ turn.old.op }
     ensures was { InTurn turn.old.pass }
     ensures acts { Acts turn.old.pass step.End turn.new.pass }
     ensures is { InTurn turn.new.pass }

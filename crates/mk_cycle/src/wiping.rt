@@ -27,7 +27,6 @@ fn look_at_heap(turn: &mut Turn, words: &Words, pages: u64, page: u64, word: u64
     requires phase { IsAtPhase turn.old.pass 4 }
     requires within { word < 64 * words.now.config.pages }
     requires page { page ≡ word / 64 }
-    ensures op { turn.new.op ≡ turn.old.op }
     ensures frees { GivesNothingBack turn.old.pass turn.new.pass }
     ensures is { InTurn turn.new.pass }
     ensures reads { result ≡ slice_index (now_of turn.new.pass).words.heap word }
@@ -45,7 +44,6 @@ fn wipe_word(turn: &mut Turn, words: &Words, pages: u64, page: u64, word: u64)
     requires phase { IsAtPhase turn.old.pass 4 }
     requires page { page ≡ word / 64 }
     requires unmapped { IsUnmappedWord turn.old.pass word }
-    ensures op { turn.new.op ≡ turn.old.op }
     ensures frees { GivesNothingBack turn.old.pass turn.new.pass }
     ensures zero { IsZero turn.new.pass word }
 {
@@ -63,7 +61,6 @@ fn wipe_pair(turn: &mut Turn, words: &Words, pages: u64, pair: u64)
     requires phase { IsAtPhase turn.old.pass 4 }
     requires first { IsUnmappedWord turn.old.pass (2 * pair) }
     requires second { IsUnmappedWord turn.old.pass (2 * pair + 1) }
-    ensures op { turn.new.op ≡ turn.old.op }
     ensures frees { GivesNothingBack turn.old.pass turn.new.pass }
     ensures first { IsZero turn.new.pass (2 * pair) }
     ensures second { IsZero turn.new.pass (2 * pair + 1) }
@@ -81,7 +78,6 @@ fn wipe_cell(turn: &mut Turn, words: &Words, pages: u64, first: u64, pairs: u64)
     requires free { IsFreeForCycle turn.old.pass }
     requires phase { IsAtPhase turn.old.pass 4 }
     requires unmapped { (i : ℕ) → i < 2 * pairs → IsUnmappedWord turn.old.pass (2 * first + i) }
-    ensures op { turn.new.op ≡ turn.old.op }
     ensures frees { GivesNothingBack turn.old.pass turn.new.pass }
     ensures zeros { (i : ℕ) → i < 2 * pairs → IsZero turn.new.pass (2 * first + i) }
 {
@@ -101,7 +97,6 @@ fn wipe_cells(turn: &mut Turn, words: &Words, pages: u64, page: u64, cells: u64,
     requires few { pairs < 2049 }
     requires unmapped { (k i : ℕ) → has_bit cells k ≡ true → i < 2 * pairs
         → IsUnmappedWord turn.old.pass (64 * page + k * (2 * pairs) + i) }
-    ensures op { turn.new.op ≡ turn.old.op }
     ensures frees { GivesNothingBack turn.old.pass turn.new.pass }
     ensures zeros { (k : ℕ) → k < 32 → (i : ℕ) → has_bit cells k ≡ true → i < 2 * pairs
         → IsZero turn.new.pass (64 * page + k * (2 * pairs) + i) }
@@ -134,7 +129,6 @@ pub(crate) fn wipe_released(
     requires released { (k : ℕ) → has_bit cells k ≡ true
         → has_bit (left_unmarked (now_of turn.old.pass).words page) k ≡ true }
     requires cells { HasFreeCells turn.old.pass page }
-    ensures op { turn.new.op ≡ turn.old.op }
     ensures frees { GivesNothingBack turn.old.pass turn.new.pass }
     ensures zeros { (k : ℕ) → k < 32 → (i : ℕ) → has_bit cells k ≡ true → i < words_under (header_of header.now)
         → IsZero turn.new.pass (64 * page + k * words_under (header_of header.now) + i) }

@@ -23,7 +23,6 @@ fn mark_first(words: &Words, turn: &mut Turn, shape: Shape, place: Place, markin
     requires goes { GoesTo turn.old.pass place }
     requires free { header_at (now_of turn.old.pass).words place.page ≡ 0 }
     requires marking { marking ≡ (phase_of (now_of turn.old.pass).words == 1) }
-    ensures op { turn.new.op ≡ turn.old.op }
     ensures carved { HasCarved turn.old.pass place 0 turn.new.pass }
     ensures reached { SweepsNothing turn.old.pass turn.new.pass }
 {
@@ -40,7 +39,6 @@ fn carve(words: &Words, turn: &mut Turn, shape: Shape, place: Place, marking: bo
     requires goes { GoesTo turn.old.pass place }
     requires free { header_at (now_of turn.old.pass).words place.page ≡ 0 }
     requires marking { marking ≡ (phase_of (now_of turn.old.pass).words == 1) }
-    ensures op { turn.new.op ≡ turn.old.op }
     ensures ready { MayTake turn.old.pass place turn.new.pass }
     ensures reached { SweepsNothing turn.old.pass turn.new.pass }
 {
@@ -60,7 +58,6 @@ fn make_ready(words: &Words, turn: &mut Turn, shape: Shape, place: Place, free: 
     requires goes { GoesTo turn.old.pass place }
     requires free { free ≡ (header_at (now_of turn.old.pass).words place.page == 0) }
     requires marking { marking ≡ (phase_of (now_of turn.old.pass).words == 1) }
-    ensures op { turn.new.op ≡ turn.old.op }
     ensures ready { MayTake turn.old.pass place turn.new.pass }
     ensures reached { SweepsNothing turn.old.pass turn.new.pass }
 {
@@ -92,7 +89,6 @@ fn serve(
     requires marking { marking ≡ (phase_of (now_of turn.old.pass).words == 1) }
     requires held { held ≡ (now_of turn.old.pass).words.held }
     requires exact { HeldIsExact turn.old.pass }
-    ensures op { turn.new.op ≡ turn.old.op }
     ensures granted { IsGranted turn.old.pass place turn.new.pass }
     ensures held { HeldIsExact turn.new.pass }
     ensures reached { SweepsNothing turn.old.pass turn.new.pass }
@@ -122,7 +118,6 @@ fn serve_now(
     requires used { used ≡ used_at (now_of turn.old.pass).words place.page }
     requires free { free ≡ (header_at (now_of turn.old.pass).words place.page == 0) }
     requires exact { HeldIsExact turn.old.pass }
-    ensures op { turn.new.op ≡ turn.old.op }
     ensures granted { IsGranted turn.old.pass place turn.new.pass }
     ensures held { HeldIsExact turn.new.pass }
     ensures reached { SweepsNothing turn.old.pass turn.new.pass }
@@ -143,7 +138,6 @@ fn place_apart(words: &Words, turn: &mut Turn, register: u8, shape: Shape) -> bo
     requires shape { object_shaped shape ≡ object_for turn.old.pass }
     requires unplaced { IsUnplaced turn.old.pass }
     requires exact { HeldIsExact turn.old.pass }
-    ensures op { turn.new.op ≡ turn.old.op }
     ensures placed { result ≡ true → IsPlaced turn.old.pass turn.new.pass }
     ensures nowhere { result ≡ false → FitsNowhere turn.old.pass turn.new.pass }
     ensures reached { SweepsNothing turn.old.pass turn.new.pass }
@@ -174,7 +168,6 @@ pub fn place_object(words: &Words, turn: &mut Turn) -> bool
     requires one_table { turn.old.pass.table ≡ words.now }
     requires unplaced { IsUnplaced turn.old.pass }
     requires exact { HeldIsExact turn.old.pass }
-    ensures op { turn.new.op ≡ turn.old.op }
     ensures placed { result ≡ true → IsPlaced turn.old.pass turn.new.pass }
     ensures nowhere { result ≡ false → FitsNowhere turn.old.pass turn.new.pass }
     ensures reached { SweepsNothing turn.old.pass turn.new.pass }

@@ -17,7 +17,6 @@ fn want(words: &Words, stop: &mut Stopped)
     requires ready { HolderIsLoaded stop.old.pass }
     requires phase { phase_of (now_of stop.old.pass).words ≡ 1 }
     ensures table { stop.new.pass.table ≡ stop.old.pass.table }
-    ensures op { stop.new.op ≡ stop.old.op }
     ensures ready { HolderIsLoaded stop.new.pass }
     ensures phase { phase_of (now_of stop.new.pass).words ≡ 2 }
     ensures traces { Counted is_waiting TracesReached is_want stop.old.pass stop.new.pass 1 }
@@ -32,7 +31,6 @@ fn look_at_phase(words: &Words, stop: &mut Stopped) -> u64
     requires ready { HolderIsLoaded stop.old.pass }
     requires phase { phase_of (now_of stop.old.pass).words ≡ 2 }
     ensures table { stop.new.pass.table ≡ stop.old.pass.table }
-    ensures op { stop.new.op ≡ stop.old.op }
     ensures ready { HolderIsLoaded stop.new.pass }
     ensures phase { phase_of (now_of stop.new.pass).words ≡ 2 }
     ensures wanted { result < 8 → IsWanted stop.new.pass }
@@ -50,7 +48,6 @@ pub fn want_and_wait<R: Wait>(rt: &R, words: &Words, stop: &mut Stopped)
     requires ready { HolderIsLoaded stop.old.pass }
     requires phase { phase_of (now_of stop.old.pass).words ≡ 1 }
     ensures table { stop.new.pass.table ≡ stop.old.pass.table }
-    ensures op { stop.new.op ≡ stop.old.op }
     ensures wanted { IsWanted stop.new.pass }
     ensures traces { Counted is_waiting TracesReached is_want stop.old.pass stop.new.pass 1 }
 {

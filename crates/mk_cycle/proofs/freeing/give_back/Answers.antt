@@ -87,10 +87,10 @@ pub drop_cells-requires-clause-drops : goal.drop_cells-requires-clause-drops
 drop_cells-requires-clause-drops c =
     cc (c.without-freed.ensures, drops_here (given (goal.at.drop_cells-requires-clause-drops c).After-give_cells))
 
-pub returns-clause-gives : goal.returns-clause-gives
-returns-clause-gives c =
+pub returns : goal.returns
+returns c =
     let q = c.drop_cells.new.turn.pass in
-    gives_all (given (goal.at.returns-clause-gives c).After-give_cells) q
+    gives_all (given (goal.at.returns c).After-give_cells) q
     (subst (λ (n : ℕ). Acts c.give_cells.new.turn.pass
     (Step.Quar c.args.page (quarantine_word n (c.args.quarantine / 2 ^ 32 - c.args.gone))) q)
     c.without-freed.ensures c.drop_cells.ensures.acts)

@@ -99,4 +99,4 @@ returns-clause-released c = counted (goal.at.returns-clause-released c).After-wi
 
 pub returns-clause-gives : goal.returns-clause-gives
 returns-clause-gives c =
-    gives_then c.args.page _ _ _ (both (goal.at.returns-clause-gives c).After-without-gone) c.give_back.ensures.gives
+    gives_then c.args.page _ _ _ (both (goal.at.returns-clause-gives c).After-without-gone) c.give_back.ensures

@@ -19,9 +19,9 @@ parts g c =
       free = c.requires.free;
       marks = c.close_marks.ensures.law;
       marked = in_turn _ _ marked.own marked.turn marked.history;
-      close = c.close_phase.ensures.acts;
+      close = c.close_phase.ensures;
       closed = in_turn _ _ closed.own closed.turn closed.history;
-      release = c.release.ensures.acts;
+      release = c.release.ensures;
     }
 
 pub returns-clause-releases : goal.returns-clause-releases
@@ -45,11 +45,11 @@ returns-clause-reached g c none =
     let b = c.close_marks.new.stop.pass in
     let d = c.close_phase.new.self.pass in
     let q = c.release.new.self.pass in
-    let close = c.close_phase.ensures.acts.makes in
+    let close = c.close_phase.ensures.makes in
     sweeps_then p b q c.close_marks.ensures.law.keeps.call.pass (c.close_marks.ensures.reached none)
     (sweeps_then b d q (only_seen_by b d Step.Close close)
     (other_step_sweeps b d Step.Close close refl)
-    (other_step_sweeps d q Step.Release c.release.ensures.acts.makes refl))
+    (other_step_sweeps d q Step.Release c.release.ensures.makes refl))
 
 pub returns-clause-told_at_close : goal.returns-clause-told_at_close
 returns-clause-told_at_close g c =
@@ -59,8 +59,8 @@ returns-clause-told_at_close g c =
     let q = c.release.new.self.pass in
     let does = c.close_marks.ensures.law.does in
     told_earlier _ p b does.more q does.is
-    (told_later _ b d q _ (ap (λ (x : PassState). x.seen) c.release.ensures.acts.makes.is ∙ append_assoc d.seen _ _)
-    (told_closing _ b d c.is_in_order-2.ensures.own c.close_phase.ensures.acts.makes c.is_in_order-3.ensures.history
+    (told_later _ b d q _ (ap (λ (x : PassState). x.seen) c.release.ensures.makes.is ∙ append_assoc d.seen _ _)
+    (told_closing _ b d c.is_in_order-2.ensures.own c.close_phase.ensures.makes c.is_in_order-3.ensures.history
     c.close_marks.ensures.told))
 
 pub returns-clause-closed : goal.returns-clause-closed
@@ -70,7 +70,7 @@ returns-clause-closed g c =
       closing = c.close_marks.new.stop.pass;
       closed = c.close_phase.new.self.pass;
       marks = c.close_marks.ensures.law;
-      close = c.close_phase.ensures.acts.makes;
-      release = c.release.ensures.acts.makes;
+      close = c.close_phase.ensures.makes;
+      release = c.release.ensures.makes;
     })
     c.close_marks.ensures.closed

@@ -21,11 +21,11 @@ mark-requires-clause-enabled c =
 pub returns-clause-on : goal.returns-clause-on
 returns-clause-on c =
     goes_mark c.args.turn.now c.mark.new.self c.requires.beside c.mark.ensures.op c.args.cell (subst (λ v. Acts
-    c.args.turn.now.pass (Step.Mark c.args.cell.page v) c.mark.new.self.pass) c.bit.ensures c.mark.ensures.acts)
+    c.args.turn.now.pass (Step.Mark c.args.cell.page v) c.mark.new.self.pass) c.bit.ensures c.mark.ensures)
     c.requires.reached
 
 pub returns-clause-marked : goal.returns-clause-marked
 returns-clause-marked c =
     marked_there c.args.turn.now c.mark.new.self c.requires.beside c.mark.ensures.op c.args.cell (subst (λ v. Acts
-    c.args.turn.now.pass (Step.Mark c.args.cell.page v) c.mark.new.self.pass) c.bit.ensures c.mark.ensures.acts)
+    c.args.turn.now.pass (Step.Mark c.args.cell.page v) c.mark.new.self.pass) c.bit.ensures c.mark.ensures)
     c.requires.reached

@@ -15,11 +15,11 @@ open_gate-requires-clause-enabled c =
 pub returns-clause-on : goal.returns-clause-on
 returns-clause-on c =
     goes_open c.args.turn.now c.open_gate.new.self c.requires.beside c.open_gate.ensures.op c.args.caller
-    c.open_gate.ensures.acts
+    c.open_gate.ensures
 
 pub returns-clause-others : goal.returns-clause-others
 returns-clause-others c =
-    open_others c.args.turn.now.pass c.args.caller c.open_gate.new.self.pass c.open_gate.ensures.acts
+    open_others c.args.turn.now.pass c.args.caller c.open_gate.new.self.pass c.open_gate.ensures
 
 pub returns-clause-opened : goal.returns-clause-opened
-returns-clause-opened c = opened c.args.turn.now.pass c.args.caller c.open_gate.new.self.pass c.open_gate.ensures.acts
+returns-clause-opened c = opened c.args.turn.now.pass c.args.caller c.open_gate.new.self.pass c.open_gate.ensures

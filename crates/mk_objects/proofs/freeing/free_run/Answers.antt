@@ -2,8 +2,8 @@ use Rattle.mk_objects.proofs.DecidedFrees.{hold_frees, holding_not}
 use Rattle.mk_objects.proofs.PreparedFrees.{frees_behind, gates_prepare}
 use Rattle.mk_objects.proofs.freeing.free_run.Goals as goal
 
-pub returns-clause-frees : goal.returns-clause-frees
-returns-clause-frees g c =
+pub returns : goal.returns
+returns g c =
     frees_behind (gates_prepare c.hold_gates.ensures.sets) hold_frees holding_not c.is_in_order-2.ensures.history
     c.is_in_order.ensures.turn.holds
-    c.free_stopped.ensures.frees
+    c.free_stopped.ensures

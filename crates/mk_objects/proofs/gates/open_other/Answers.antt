@@ -16,13 +16,13 @@ open_gate-requires-clause-enabled c =
 pub returns-then-not-is_own-clause-sets : goal.returns-then-not-is_own-clause-sets
 returns-then-not-is_own-clause-sets c =
     sets_open c.open_gate.new.self.pass c.args.caller c.is_in_order.ensures.turn
-    c.requires.acting c.open_gate.ensures.acts c.requires.within
+    c.requires.acting c.open_gate.ensures c.requires.within
 
 pub returns-then-not-is_own-clause-gone : goal.returns-then-not-is_own-clause-gone
 returns-then-not-is_own-clause-gone c =
     let sets = returns-then-not-is_own-clause-sets c in
     one_there sets (λ (x : PassState). is_run_gone (now_of x).words (now_of x).seats.holding.freed ≡ true)
-    (still_gone sets.does c.open_gate.ensures.acts.makes.pass.history c.is_in_order.ensures.turn.holds c.requires.gone)
+    (still_gone sets.does c.open_gate.ensures.makes.pass.history c.is_in_order.ensures.turn.holds c.requires.gone)
 
 pub returns-else-not-is_own-clause-sets : goal.returns-else-not-is_own-clause-sets
 returns-else-not-is_own-clause-sets c =

@@ -23,9 +23,9 @@ pub loop-group-preserved : goal.loop-group-preserved
 loop-group-preserved c =
     record {
       op = c.wipe_group.ensures.op ∙ c.loop-group.invariant.op;
-      wiped = wipes_named (wipes_then c.loop-group.invariant.wiped c.wipe_group.ensures.wipes) (omega arith);
+      wiped = wipes_named (wipes_then c.loop-group.invariant.wiped c.wipe_group.ensures) (omega arith);
     }
 
-pub returns-clause-wipes : goal.returns-clause-wipes
-returns-clause-wipes c =
+pub returns : goal.returns
+returns c =
     wipes_named c.loop-group.invariant.wiped (omega (arith, c.loop-group-test.false, c.loop-group.auto.group-end))

@@ -24,8 +24,8 @@ pub loop-part-preserved : goal.loop-part-preserved
 loop-part-preserved c =
     record {
       op = c.wipe_page.ensures.op ∙ c.loop-part.invariant.op;
-      wiped = wipes_named (wipes_then c.loop-part.invariant.wiped c.wipe_page.ensures.wipes) (omega arith);
+      wiped = wipes_named (wipes_then c.loop-part.invariant.wiped c.wipe_page.ensures) (omega arith);
     }
 
-pub returns-clause-wipes : goal.returns-clause-wipes
-returns-clause-wipes c = grind (arith, wiped_all, wipes_named)
+pub returns : goal.returns
+returns c = grind (arith, wiped_all, wipes_named)

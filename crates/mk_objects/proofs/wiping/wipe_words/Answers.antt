@@ -40,7 +40,7 @@ loop-word-preserved c =
             op = ap (λ (t : TurnState). t.op) w.turn-is ∙ w.wipe.ensures.op ∙ c.look_on_page-found.ensures.op ∙ i.op;
             wiped = subst (λ (t : TurnState). WipesTo p c.args.run (n + 1) t.pass) (sym w.turn-is)
                 (wipes_on c.args.run c.is_in_order.ensures.turn c.requires.may.decided c.requires.may.stopped seen near
-                c.requires.may.within w.wipe.ensures.acts);
+                c.requires.may.within w.wipe.ensures);
           }
       | else-found-ne0 w ↦
           record {
@@ -51,5 +51,5 @@ loop-word-preserved c =
           }
     ]
 
-pub returns-clause-wipes : goal.returns-clause-wipes
-returns-clause-wipes c = grind arith
+pub returns : goal.returns
+returns c = grind arith

@@ -19,10 +19,10 @@ returns-clause-on c =
     (c.is_in_order.ensures.turn.holds, c.is_in_order.ensures.gates) c.mark.ensures.op
     c.args.cell
     (subst (λ v. Acts c.args.stop.now.pass (Step.Mark c.args.cell.page v) c.mark.new.self.pass) c.bit.ensures
-    c.mark.ensures.acts) c.requires.reached
+    c.mark.ensures) c.requires.reached
 
 pub returns-clause-words : goal.returns-clause-words
 returns-clause-words c =
     mark_words _ _ c.requires.sweeping.wanted (c.is_in_order.ensures.turn.holds, c.is_in_order.ensures.gates) _
     (2 ^ c.args.cell.index) (subst (λ v. Acts c.args.stop.now.pass (Step.Mark c.args.cell.page v) c.mark.new.self.pass)
-    c.bit.ensures c.mark.ensures.acts)
+    c.bit.ensures c.mark.ensures)

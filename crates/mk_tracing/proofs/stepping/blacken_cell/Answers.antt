@@ -18,11 +18,11 @@ pub returns-clause-on : goal.returns-clause-on
 returns-clause-on c =
     on_black c.args.stop.now c.black_among.new.self c.requires.wanted
     (c.is_in_order.ensures.turn.holds, c.is_in_order.ensures.gates) c.is_in_order.ensures.own c.black_among.ensures.op
-    c.args.cell.page c.bit.result c.black_among.ensures.acts
+    c.args.cell.page c.bit.result c.black_among.ensures
 
 pub returns-clause-words : goal.returns-clause-words
 returns-clause-words c =
     black_words _ _ c.requires.wanted (c.is_in_order.ensures.turn.holds, c.is_in_order.ensures.gates) _
     (2 ^ c.args.cell.index)
     (subst (λ v. Acts c.args.stop.now.pass (Step.Black c.args.cell.page v) c.black_among.new.self.pass) c.bit.ensures
-    c.black_among.ensures.acts)
+    c.black_among.ensures)

@@ -12,8 +12,8 @@ pub returns-clause-on : goal.returns-clause-on
 returns-clause-on c =
     on_unblack c.args.stop.now c.unblack.new.self c.requires.wanted
     (c.is_in_order.ensures.turn.holds, c.is_in_order.ensures.gates) c.is_in_order.ensures.own c.unblack.ensures.op
-    c.args.page c.unblack.ensures.acts c.requires.part
+    c.args.page c.unblack.ensures c.requires.part
 
 pub returns-clause-words : goal.returns-clause-words
 returns-clause-words c = unblack_words c.args.stop.now.pass c.unblack.new.self.pass c.requires.wanted
-    (c.is_in_order.ensures.turn.holds, c.is_in_order.ensures.gates) c.args.page c.unblack.ensures.acts
+    (c.is_in_order.ensures.turn.holds, c.is_in_order.ensures.gates) c.args.page c.unblack.ensures

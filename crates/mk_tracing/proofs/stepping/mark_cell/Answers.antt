@@ -23,11 +23,11 @@ returns-clause-on c =
     (c.is_in_order.ensures.turn.holds, c.is_in_order.ensures.gates) c.is_in_order.ensures.own c.mark_in_use.ensures.op
     c.args.cell
     (subst (λ v. Acts c.args.stop.now.pass (Step.Mark c.args.cell.page v) c.mark_in_use.new.self.pass) c.bit.ensures
-    c.mark_in_use.ensures.acts) c.requires.reached
+    c.mark_in_use.ensures) c.requires.reached
 
 pub returns-clause-words : goal.returns-clause-words
 returns-clause-words c =
     mark_words _ _ c.requires.wanted (c.is_in_order.ensures.turn.holds, c.is_in_order.ensures.gates) _
     (2 ^ c.args.cell.index)
     (subst (λ v. Acts c.args.stop.now.pass (Step.Mark c.args.cell.page v) c.mark_in_use.new.self.pass) c.bit.ensures
-    c.mark_in_use.ensures.acts)
+    c.mark_in_use.ensures)

@@ -13,8 +13,8 @@ pub returns-clause-on : goal.returns-clause-on
 returns-clause-on c =
     on_undirty c.args.stop.now c.undirty.new.self c.requires.wanted
     (c.is_in_order.ensures.turn.holds, c.is_in_order.ensures.gates) c.is_in_order.ensures.own c.undirty.ensures.op
-    c.args.page c.undirty.ensures.acts
+    c.args.page c.undirty.ensures
 
 pub returns-clause-words : goal.returns-clause-words
 returns-clause-words c = undirty_words c.args.stop.now.pass c.undirty.new.self.pass c.requires.wanted
-    (c.is_in_order.ensures.turn.holds, c.is_in_order.ensures.gates) c.args.page c.undirty.ensures.acts
+    (c.is_in_order.ensures.turn.holds, c.is_in_order.ensures.gates) c.args.page c.undirty.ensures

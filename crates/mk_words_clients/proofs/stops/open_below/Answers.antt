@@ -12,7 +12,7 @@ loop-caller-preserved c =
     let j : ℕ = c.loop-caller.caller - 1 in
     let some = c.loop-caller-test.true in
     let within = inv.within in
-    let a = c.open_gate.ensures.acts in
+    let a = c.open_gate.ensures in
     let above : c.loop-caller.caller ≡ j + 1 = omega arith in
     record {
       one_table = ap (λ (r : PassState). r.table) a.makes.is ∙ inv.one_table;

@@ -11,9 +11,9 @@ invariant_of-self g c =
     let f = c.perform_among in
     let t = c.self.inside in
     let a = acts t.pass c.args.step f.new.self f.ensures.told.makes c.self.invariant.turn.holds in
-    turn_with_map _ _ f.new.self a _ t.carried.value.map t.carried.value.map c.requires.stays
+    turn_with_map _ _ f.new.self a t.map.value t.map.value c.requires.stays
     (c.requires.gates _ (subst (λ (v : TurnState). Acts v.pass c.args.step f.new.self) c.self.view_is a))
-    (shows_still _ _ f.new.self a t.carried.value.map c.requires.untold c.self.invariant.shows) c.self.invariant
+    (shows_still _ _ f.new.self a t.map.value c.requires.untold c.self.invariant.shows) c.self.invariant
 
 pub returns-clause-acts : goal.returns-clause-acts
 returns-clause-acts g c = acted c.self.view_is c.self.invariant c.perform_among.ensures.told.makes

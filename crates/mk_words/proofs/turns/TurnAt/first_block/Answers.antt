@@ -1,7 +1,7 @@
 use Rattle.mk_laws.proofs.Vocabulary.{subst, uses_of_pages, ◌≡◌}
 use Rattle.mk_geom.specs.PageUses.{first_where}
 use Rattle.mk_page_map.specs.Members.{has_free_cell}
-use Rattle.mk_words.{proofs.MapSteps.as_carried, specs.States.TurnState, specs.States.now_of}
+use Rattle.mk_words.{proofs.MapSteps.turn_that, specs.States.TurnState, specs.States.now_of}
 use Rattle.mk_words.proofs.turns.TurnAt.first_block.Goals as goal
 
 pub returns : goal.returns
@@ -9,4 +9,4 @@ returns g c =
     subst (λ (t : TurnState). c.first_block.result
     ≡ first_where (has_free_cell c.args.class c.args.leaf) (uses_of_pages
     (now_of t.pass).words.pages)) c.self.view_is
-    (c.first_block.ensures _ _ (as_carried _ _ _ c.deref.ensures c.self.invariant).shows.words)
+    (c.first_block.ensures _ _ (turn_that _ _ _ c.deref.ensures c.self.invariant).shows.words)

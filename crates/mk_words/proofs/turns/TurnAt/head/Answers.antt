@@ -1,5 +1,5 @@
 use Rattle.mk_laws.proofs.Vocabulary.{Step, refl}
-use Rattle.mk_words.proofs.MapSteps.{acted, as_carried, shows_head, told_page, told_turn}
+use Rattle.mk_words.proofs.MapSteps.{acted, turn_that, shows_head, told_page, told_turn}
 use Rattle.mk_words.proofs.turns.TurnAt.head.Goals as goal
 
 pub header_stored-requires : goal.header_stored-requires
@@ -13,9 +13,9 @@ invariant_of-self g c =
     let q = c.perform.new.self in
     let before = c.deref_mut.result.now in
     let map = c.header_stored.new.self in
-    let held = as_carried _ _ _ c.deref_mut.ensures.value c.self.invariant in
-    told_turn p (Step.Head c.args.page c.args.v) q before.op before.map map refl c.perform.ensures.told.makes held
-    (λ a. shows_head p c.args.page c.args.v q a before.map map
+    let held = turn_that _ _ _ c.deref_mut.ensures.value c.self.invariant in
+    told_turn p (Step.Head c.args.page c.args.v) q before map refl c.perform.ensures.told.makes held
+    (λ a. shows_head p c.args.page c.args.v q a before map
     (record {
       shows = c.header_stored.ensures.shows;
       freed = c.header_stored.ensures.freed;
@@ -24,5 +24,5 @@ invariant_of-self g c =
     (told_page (Step.Head c.args.page c.args.v) c.args.page refl c.self.view_is c.requires.enabled
     c.deref_mut.ensures.value c.self.invariant) held.shows)
 
-pub returns-clause-acts : goal.returns-clause-acts
-returns-clause-acts g c = acted c.self.view_is c.self.invariant c.perform.ensures.told.makes
+pub returns : goal.returns
+returns g c = acted c.self.view_is c.self.invariant c.perform.ensures.told.makes

@@ -7,10 +7,10 @@ pub invariant_of-self : goal.invariant_of-self
 invariant_of-self g c =
     let p = c.self.inside.pass in
     let q = c.perform_near.new.self in
-    let before = c.self.inside.carried.value in
+    let before = c.self.inside.map.value in
     let s : Step = Step.Look c.args.x in
-    told_turn p s q before.op before.map before.map refl c.perform_near.ensures.told.makes c.self.invariant
-    (λ a. shows_still p s q a before.map refl c.self.invariant.shows)
+    told_turn p s q before before refl c.perform_near.ensures.told.makes c.self.invariant
+    (λ a. shows_still p s q a before refl c.self.invariant.shows)
 
 pub returns-clause-acts : goal.returns-clause-acts
 returns-clause-acts g c = acted c.self.view_is c.self.invariant c.perform_near.ensures.told.makes

@@ -1,5 +1,5 @@
 use Rattle.mk_laws.proofs.Vocabulary.{Step, refl}
-use Rattle.mk_words.proofs.MapSteps.{acted, as_carried, shows_mark, told_page, told_turn}
+use Rattle.mk_words.proofs.MapSteps.{acted, turn_that, shows_mark, told_page, told_turn}
 use Rattle.mk_words.proofs.turns.TurnAt.mark.Goals as goal
 
 pub marked-requires : goal.marked-requires
@@ -13,11 +13,11 @@ invariant_of-self g c =
     let q = c.perform.new.self in
     let before = c.deref_mut.result.now in
     let map = c.marked.new.self in
-    let held = as_carried _ _ _ c.deref_mut.ensures.value c.self.invariant in
-    told_turn p (Step.Mark c.args.page c.args.v) q before.op before.map map refl c.perform.ensures.told.makes held
-    (λ a. shows_mark p c.args.page c.args.v q a before.map map
+    let held = turn_that _ _ _ c.deref_mut.ensures.value c.self.invariant in
+    told_turn p (Step.Mark c.args.page c.args.v) q before map refl c.perform.ensures.told.makes held
+    (λ a. shows_mark p c.args.page c.args.v q a before map
     (record { shows = c.marked.ensures.shows; marked = c.marked.ensures.marked; others = c.marked.ensures.others })
     held.shows)
 
-pub returns-clause-acts : goal.returns-clause-acts
-returns-clause-acts g c = acted c.self.view_is c.self.invariant c.perform.ensures.told.makes
+pub returns : goal.returns
+returns g c = acted c.self.view_is c.self.invariant c.perform.ensures.told.makes
