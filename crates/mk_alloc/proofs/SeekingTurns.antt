@@ -18,6 +18,7 @@ use Rattle.mk_alloc.proofs.RoomParts.{finish_room, looks_no_room, no_place, none
 use Rattle.mk_alloc.proofs.RoomParts.{places_no_room, room_kept, room_lacks, room_then}
 use Rattle.mk_alloc.proofs.{FullLeaves.cycles_leave, FullLeaves.leaves_then, Parts.Part, QuietTurns.same_phase}
 use Rattle.mk_alloc.specs.Rooms.{MisfitsIdly}
+use Rattle.mk_objects.specs.{Placing.Requests, declared.objects.Request.Request}
 use Rattle.mk_objects.proofs.JoinedLooks.{looks_object, looks_unplaced}
 
 -- An undecided New is a caller's.
@@ -30,6 +31,10 @@ same_object : (a : Option Answer) (p q : PassState) → TurnGoesOn a p q → obj
 same_object a p q on =
     ap (λ (x : PassState). object_made x.table.config (call_of q).op) on.does.is
     ∙ ap (λ (o : Op). object_made p.table.config o) on.op
+
+-- What was requested is, after a part that decided nothing.
+pub requests_then : {p q : PassState} {request : Request} → Requests p request → Seeks None p q → Requests q request
+requests_then asked seeks = record { full = asked.full; op = seeks.on.op ∙ asked.op }
 
 -- one part after another that decided nothing
 pub seeks_then : (a : Option Answer) (p q r : PassState) → Seeks None p q → Seeks a q r → Seeks a p r

@@ -118,7 +118,6 @@ beside_then p q r a b =
 pub goes_then : (t u v : TurnState) → GoesBeside t u → GoesBeside u v → GoesBeside t v
 goes_then t u v a b = record {
   table = b.table ∙ a.table;
-  op = b.op ∙ a.op;
   beside = b.beside;
   marks = beside_then t.pass u.pass v.pass a.marks b.marks;
 }
@@ -150,7 +149,6 @@ module _ (x : Word) (n : ℕ) (t u v : TurnState) (beside : IsBeside t.pass) (f 
   root_then here =
       record {
         table = b.table ∙ f.table;
-        op = b.op ∙ f.op;
         beside = b.beside;
         marks =
             subst (λ (y : PassState). Does begins_marking t.pass y → LeavesTurn unchanged t.pass y

@@ -125,13 +125,13 @@ pub still_unmapped : (p : PassState) {run : RunPages} {v : World} {n : ℕ} → 
     → is_run_unmapped (now_of p).words run ≡ true → is_run_unmapped v.now.words run ≡ true
 still_unmapped p at unmapped = grind arith
 
-module _ {p : PassState} {o : Option Op} (run : RunPages) (turn : IsTurn p o) (give : (call_of p).stage ≡ Stage.Give)
+module _ {p : PassState} (run : RunPages) (turn : IsTurn p) (give : (call_of p).stage ≡ Stage.Give)
     (stopped : others_are_held p.table.config.callers (now_of p).words p.seat ≡ true) where
   abbrev pub HasWiped : PassState → ℕ → Type 0
   HasWiped q n = WipesTo p run n q
 
   wiping : IsActing p.table.config (now_of p) p.seat
-  wiping = acting_now p o turn (give_acts (call_of p) give)
+  wiping = acting_now p turn (give_acts (call_of p) give)
 
   there_wiping : (v : World) → flight_of v.now p.seat ≡ flight_of (now_of p) p.seat
       → IsActing p.table.config v.now p.seat

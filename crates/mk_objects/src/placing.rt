@@ -5,15 +5,14 @@ ghost use Rattle.mk_core.specs.Words.{header_at, phase_of, used_at};
 ghost use Rattle.mk_words.specs.States.{call_of, now_of};
 ghost use Rattle.mk_turns.specs.Sweeping.{SweepsNothing};
 ghost use Rattle.mk_objects.specs.Placing.{GoesTo, HasCarved, HeldIsExact, MayTake, IsUnplaced, IsPlaced, FitsNowhere};
-ghost use Rattle.mk_objects.specs.Placing.{IsGranted, object_for};
+ghost use Rattle.mk_objects.specs.Placing.{IsGranted, Requests, object_for};
 ghost use Rattle.mk_objects.specs.Shapes.{object_shaped};
 
 use crate::looking::{is_marking, look_at};
-use crate::objects::{Shape, shape_of};
+use crate::objects::{Request, Shape, shape_of};
 use crate::seeking::{seek, seek_cell};
 use mk_core::{Tally, Word};
 use mk_geom::Place;
-use mk_never::Op;
 use mk_words::{Turn, Words};
 
 /// Marks the cells of the place's first page, where a cycle marks.
@@ -164,8 +163,9 @@ fn place_apart(words: &Words, turn: &mut Turn, register: u8, shape: Shape) -> bo
 /// Grants the object of a New at its place. Returns false where nothing fits. It is inlined, so that no registers are
 /// saved for it.
 #[inline(always)]
-pub fn place_object(words: &Words, turn: &mut Turn) -> bool
+pub fn place_object(words: &Words, turn: &mut Turn, request: Request) -> bool
     requires one_table { turn.old.pass.table ≡ words.now }
+    requires requested { Requests turn.old.pass request }
     requires unplaced { IsUnplaced turn.old.pass }
     requires exact { HeldIsExact turn.old.pass }
     ensures placed { result ≡ true → IsPlaced turn.old.pass turn.new.pass }
@@ -173,16 +173,13 @@ pub fn place_object(words: &Words, turn: &mut Turn) -> bool
     ensures reached { SweepsNothing turn.old.pass turn.new.pass }
 {
     turn.is_in_order();
-    let Some(op) = turn.op() else { unreachable!() };
-    let Op::New { d, ty, .. } = op else {
-        unreachable!()
-    };
+    let Request { register, ty } = request;
     let shape = shape_of(words.types(), ty);
     match seek_cell(words, turn, shape) {
-        None => place_apart(words, turn, d, shape),
+        None => place_apart(words, turn, register, shape),
         Some(place) => {
             let used = turn.page(place.page).used;
-            serve_now(words, turn, d, shape, place, used, false);
+            serve_now(words, turn, register, shape, place, used, false);
             true
         }
     }

@@ -21,7 +21,6 @@ on_from t wanted = grind (arith, traces_nothing)
 pub on_then : (t u v : TurnState) → MarksOn t u → MarksOn u v → MarksOn t v
 on_then t u v one two = record {
   table = two.table ∙ one.table;
-  op = two.op ∙ one.op;
   wanted = two.wanted;
   traces = traces_then is_marking TracesReached t.pass u.pass v.pass one.traces two.traces;
 }
@@ -56,40 +55,40 @@ reached_there : (p : PassState) (w : World) (cell : Cell) → but_phase w.now.wo
 reached_there p w cell same holding r = grind (arith, marks_by)
 
 module _ (t u : TurnState) (wanted : IsWanted t.pass) (all : HoldsAll t.pass.table.config (now_of t.pass) t.pass.seat)
-    (own : Has t.pass.seats t.pass.seat) (same : u.op ≡ t.op) where
+    (own : Has t.pass.seats t.pass.seat) where
   pub on_plain : (x : Word) → Acts t.pass (Step.Look x) u.pass → is_page_word x ≡ true → MarksOn t u
   on_plain x a plain =
-      marks_on t.pass u.pass wanted all own (Step.Look x) a (plain_quiet x plain) t.op u.op same
+      marks_on t.pass u.pass wanted all own (Step.Look x) a (plain_quiet x plain)
       (λ w e h. looks_freely t.pass.table.config w.now x plain)
 
   pub on_root : (x : Word) → Acts t.pass (Step.Look x) u.pass → is_root x ≡ true → MarksOn t u
   on_root x a root =
-      marks_on t.pass u.pass wanted all own (Step.Look x) a (root_quiet x root) t.op u.op same
+      marks_on t.pass u.pass wanted all own (Step.Look x) a (root_quiet x root)
       (λ w e h. looks_at_root t.pass.table.config w.now x root)
 
   pub on_word : (n : ℕ) → Acts t.pass (Step.Look (Word.Heap n)) u.pass
       → IsGrayWord t.pass.table.config.pages (still_words t.pass) n → MarksOn t u
   on_word n a gray =
-      marks_on t.pass u.pass wanted all own (Step.Look (Word.Heap n)) a refl t.op u.op same
+      marks_on t.pass u.pass wanted all own (Step.Look (Word.Heap n)) a refl
       (λ w e h. gray_there t.pass.table.config.pages n w.now.words (still_words t.pass) e gray)
 
   pub on_mark : (cell : Cell) → Acts t.pass (Step.Mark cell.page (2 ^ cell.index)) u.pass → HandPointsInto t.pass cell
       → MarksOn t u
   on_mark cell a reached =
-      marks_on t.pass u.pass wanted all own (Step.Mark cell.page (2 ^ cell.index)) a refl t.op u.op same
+      marks_on t.pass u.pass wanted all own (Step.Mark cell.page (2 ^ cell.index)) a refl
       (λ w e h. reached_there t.pass w cell e h reached)
 
   pub on_black : (page value : ℕ) → Acts t.pass (Step.Black page value) u.pass → MarksOn t u
-  on_black page value a = marks_on _ _ wanted all own (Step.Black page value) a refl t.op u.op same (λ w e h. tt)
+  on_black page value a = marks_on _ _ wanted all own (Step.Black page value) a refl (λ w e h. tt)
 
   pub on_unblack : (page : ℕ) → Acts t.pass (Step.Unblack page) u.pass → HasDirtyPart (still_words t.pass) page
       → MarksOn t u
   on_unblack page a part =
-      marks_on t.pass u.pass wanted all own (Step.Unblack page) a refl t.op u.op same
+      marks_on t.pass u.pass wanted all own (Step.Unblack page) a refl
       (λ w e h. dirty_there page w.now.words (still_words t.pass) e part)
 
   pub on_undirty : (page : ℕ) → Acts t.pass (Step.Undirty page) u.pass → MarksOn t u
-  on_undirty page a = marks_on t.pass u.pass wanted all own (Step.Undirty page) a refl t.op u.op same (λ w e h. tt)
+  on_undirty page a = marks_on t.pass u.pass wanted all own (Step.Undirty page) a refl (λ w e h. tt)
 
 -- A word of a gray cell of this many words.
 module _ (p : PassState) (history : IsHistory p.table.config p.seen) (t : WordsState) (table : p.table ≡ t)

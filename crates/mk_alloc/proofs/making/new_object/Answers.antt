@@ -1,12 +1,13 @@
 use Rattle.std.proofs.Common.{IfSome}
 use Rattle.mk_alloc.proofs.Vocabulary.{Answer, Bool, CalledInTurn, CallerState, EachIsBegun, IsAnsweredFull, Misfits}
-use Rattle.mk_alloc.proofs.Vocabulary.{Op, Option, PassState, Some, SweepsNothing, ℕ, begun_then, false, only_seen}
+use Rattle.mk_alloc.proofs.Vocabulary.{Flight, Op, Option, PassState, Some, SweepsNothing, ℕ, ap, begun_then, false, only_seen}
 use Rattle.mk_alloc.proofs.Vocabulary.{refl, subst, sym, turn_stays, ◌≡◌}
 use Rattle.mk_geom.specs.declared.pages.Census.{Census}
 use Rattle.mk_alloc.proofs.NewTurns.{NewGiven, census_told, given, is_answered_full, last_turn, new_called}
 use Rattle.mk_alloc.proofs.making.new_object.Goals.{After-give, After-give-2, After-take-turn}
 use Rattle.mk_alloc.proofs.{BegunTurns.none_begun, BegunTurns.turn_begun, CalledTurns.Taken, OneCycles.none_runs_one}
-use Rattle.mk_alloc.proofs.{OneCycles.none_then_one, SeekingTurns.misfits_then, SeekingTurns.seeks_then}
+use Rattle.mk_alloc.proofs.{OneCycles.none_then_one, SeekingTurns.misfits_then, SeekingTurns.requests_then}
+use Rattle.mk_alloc.proofs.SeekingTurns.{seeks_then}
 use Rattle.mk_alloc.proofs.{TakenTurns.took_by, UnsweptTurns.part_then_sweeps, UnsweptTurns.turn_sweeps}
 use Rattle.mk_alloc.specs.Rooms.{CountsFull, answer_with}
 use Rattle.mk_alloc.proofs.making.new_object.Goals as goal
@@ -15,6 +16,17 @@ use Rattle.mk_alloc.proofs.making.new_object.Goals as goal
 took : (g : _) (c : After-take-turn g)
     → Taken (Op.New c.args.d c.args.ty false) c.args.caller.now.pass c.take-turn.result.pass
 took g c = took_by c.lend-home.ensures.pass c.is_idle.ensures.idle c.is_idle.ensures.own c.take-turn.ensures.takes
+
+pub try_place-requires-clause-requested : goal.try_place-requires-clause-requested
+try_place-requires-clause-requested g c = record {
+  full = false;
+  op = ap (λ (f : Flight). f.op) c.take-turn.ensures.begins.fresh.call;
+}
+
+pub make_room_or_count-turn-requires-clause-requested : goal.make_room_or_count-turn-requires-clause-requested
+make_room_or_count-turn-requires-clause-requested g c κs within = requests_then
+    (record { full = false; op = ap (λ (f : Flight). f.op) c.take-turn.ensures.begins.fresh.call })
+    (c.try_place.ensures.misfits c.if-try_place.false).seeks
 
 -- The object is placed at once,
 at_once : (g : _) (c : After-give g) → Taken (Op.New c.args.d c.args.ty false) c.args.caller.now.pass

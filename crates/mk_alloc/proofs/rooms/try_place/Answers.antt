@@ -8,7 +8,7 @@ returns-clause-placed c =
     let t = c.args.turn.now in
     let i = c.is_in_order.ensures in
     λ placed.
-    seeks_placed t.pass c.place_object-placed.new.turn.pass (in_turn t.pass t.op i.own i.turn i.history)
+    seeks_placed t.pass c.place_object-placed.new.turn.pass (in_turn t.pass i.own i.turn i.history)
     c.requires.unplaced c.requires.quiet (c.place_object-placed.ensures.placed placed) c.is_in_order-2.ensures.history
 
 pub returns-clause-misfits : goal.returns-clause-misfits
@@ -16,7 +16,7 @@ returns-clause-misfits c =
     let t = c.args.turn.now in
     let i = c.is_in_order.ensures in
     λ misfits.
-    misfits_here t.pass c.place_object-placed.new.turn.pass (in_turn t.pass t.op i.own i.turn i.history)
+    misfits_here t.pass c.place_object-placed.new.turn.pass (in_turn t.pass i.own i.turn i.history)
     c.requires.unplaced c.requires.quiet (c.place_object-placed.ensures.nowhere misfits) c.is_in_order-2.ensures.history
 
 pub returns-clause-begins : goal.returns-clause-begins
@@ -24,7 +24,7 @@ returns-clause-begins c =
     let t = c.args.turn.now in
     let i = c.is_in_order.ensures in
     let j = c.is_in_order-2.ensures in
-    let turn = in_turn t.pass t.op i.own i.turn i.history in
+    let turn = in_turn t.pass i.own i.turn i.history in
     elim (cases_Bool c.place_object-placed.result) [
       | inl placed ↦
           placed_begins_none t.pass c.place_object-placed.new.turn.pass turn

@@ -13,7 +13,7 @@ loop-page-preserved c =
     let p = c.args.turn.now.pass in
     let q = c.loop-page.turn.pass in
     let n = c.in-Some.page in
-    let pages = cleans_past c.requires.one_table i.pages next.1 x.op x.cleans in
+    let pages = cleans_past c.requires.one_table i.pages next.1 x.cleans in
     record {
       pages = pages;
       below = ready_more p q c.clean_page.new.turn.pass n i.pages.cleans x.cleans

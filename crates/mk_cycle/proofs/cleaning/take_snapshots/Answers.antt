@@ -13,7 +13,7 @@ loop-page-preserved c =
     let q = c.loop-page.turn.pass in
     let n = c.in-Some.page in
     record {
-      pages = cleans_past c.requires.one_table i.pages next.1 x.op x.cleans;
+      pages = cleans_past c.requires.one_table i.pages next.1 x.cleans;
       below = taken_more q c.copy_freed.new.turn.pass n x.cleans
           (taken_past q c.loop-page.from n c.in-Some.ensures.is i.below next.3) x.snapshot;
     }

@@ -31,7 +31,6 @@ trying-preserved g c =
     let looked = look_holds _ _ c.look.ensures.was free c.look.ensures.is _ c.look.ensures.acts in
     let next = held_free _ _ looked free in
     record {
-      op = c.try_hold.ensures.op ∙ c.look.ensures.op ∙ c.trying.invariant.op;
       holds = holds_then _ _ _ c.trying.invariant.holds
           (holds_then _ _ _ looked
           (hold_holds _ _ c.try_hold.ensures.was next c.try_hold.ensures.is _ c.try_hold.ensures.acts));

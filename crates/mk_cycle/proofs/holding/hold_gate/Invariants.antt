@@ -4,6 +4,5 @@ use Rattle.mk_cycle.proofs.holding.hold_gate.Given as goal
 
 abbrev pub invariant-trying : goal.invariant-trying
 invariant-trying g l = record {
-  op : l.turn.op ≡ l.fn.turn.op;
   holds : HoldsGates l.fn.turn.pass l.turn.pass;
 }

@@ -15,12 +15,12 @@ parts g c =
     let marked = c.is_in_order-2.ensures in
     let closed = c.is_in_order-3.ensures in
     record {
-      begun = in_turn _ _ before.own before.turn before.history;
+      begun = in_turn _ before.own before.turn before.history;
       free = c.requires.free;
       marks = c.close_marks.ensures.law;
-      marked = in_turn _ _ marked.own marked.turn marked.history;
+      marked = in_turn _ marked.own marked.turn marked.history;
       close = c.close_phase.ensures;
-      closed = in_turn _ _ closed.own closed.turn closed.history;
+      closed = in_turn _ closed.own closed.turn closed.history;
       release = c.release.ensures;
     }
 

@@ -49,7 +49,6 @@ loop-page-preserved c =
     let furthest = c.max-end.ensures in
     let limits = c.is_within_limits.ensures in
     record {
-      op = x.op ∙ i.op;
       begun = omega (arith, within, same_pages);
       settled = settled_more p q c.settle_taken-here.new.turn.pass n pages x.frees c.in-Some.ensures.is c.loop-page.end
           c.max-end.result (omega (arith, furthest))

@@ -29,7 +29,6 @@ loop-i-preserved c =
     let now = c.wipe_pair.ensures in
     let zero : ℕ → Type 0 = λ k. IsZero c.wipe_pair.new.turn.pass (2 * c.args.first + k) in
     record {
-      op = now.op ∙ before.op;
       frees = none_then _ _ _ before.frees now.frees;
       zeros = λ k lt. below_more zero (2 * c.loop-i.i + 1)
           (below_more zero (2 * c.loop-i.i)

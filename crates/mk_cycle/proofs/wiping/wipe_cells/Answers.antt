@@ -42,7 +42,6 @@ loop-rest-preserved c =
     let left : c.without-rest.result ≡ without rest (2 ^ index) =
     c.without-rest.ensures ∙ ap (λ (n : ℕ). without rest n) c.bit.ensures in
     record {
-      op = c.wipe_cell.ensures.op ∙ before.op;
       frees = none_then _ _ _ before.frees now;
       among = λ j has. before.among j
           (left_among rest index j (subst (λ (n : ℕ). has_bit n j ≡ true) left has));

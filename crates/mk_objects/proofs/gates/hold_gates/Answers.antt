@@ -30,7 +30,6 @@ loop-caller-preserved g c =
     subst (λ (s : Seat). SetsGate is_holding q n (all_others s n) c.hold_other.new.turn.pass) seat
     c.hold_other.ensures.sets in
     record {
-      op = c.hold_other.ensures.op ∙ c.loop-caller.invariant.op;
       sets = sets_more is_holding p q c.hold_other.new.turn.pass (held_to p.seat n) (held_to p.seat (n + 1)) n
           (all_others p.seat n) c.loop-caller.invariant.sets one (λ j ne. held_next p.seat n j ne)
           (held_so_far p.seat (n + 1) n (omega arith));

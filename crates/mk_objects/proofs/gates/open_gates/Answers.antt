@@ -29,7 +29,6 @@ loop-caller-preserved c =
     let q : PassState = c.loop-caller.turn.pass in
     let n = c.loop-caller.caller in
     record {
-      op = c.open_other.ensures.op ∙ c.loop-caller.invariant.op;
       sets = sets_more is_settling p q c.open_other.new.turn.pass (held_from p.seat n) (held_from p.seat (n + 1)) n _
           c.loop-caller.invariant.sets c.open_other.ensures.sets (λ j ne. opened_next p.seat n j ne)
           (opened_so_far p.seat (n + 1) n (omega arith));

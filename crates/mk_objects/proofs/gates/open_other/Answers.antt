@@ -10,7 +10,7 @@ open_gate-requires-clause-enabled c =
     let another : is_number_of p.seat c.args.caller ≡ false =
     ap (λ (s : Seat). is_number_of s c.args.caller) (sym c.seat.ensures) ∙ sym c.is_own.ensures
     ∙ c.if-not-is_own.true in
-    may_open (acting_now p c.args.turn.now.op c.is_in_order.ensures.turn c.requires.acting) c.args.caller
+    may_open (acting_now p c.is_in_order.ensures.turn c.requires.acting) c.args.caller
     c.requires.within another (c.requires.held ∙ ap not another) c.requires.phase c.requires.gone
 
 pub returns-then-not-is_own-clause-sets : goal.returns-then-not-is_own-clause-sets

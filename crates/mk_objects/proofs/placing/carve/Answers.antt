@@ -41,7 +41,6 @@ loop-distance-preserved c =
     let a = subst (λ n. Acts q (Step.Head (c.args.place.page + d) n) r)
     (c.header_word.ensures ∙ ap (λ (o : Object). header_made o d) c.requires.shape) c.head.ensures in
     record {
-      op = c.head.ensures.op ∙ c.loop-distance.invariant.op;
       carved = heads_on c.requires.goes k c.requires.free c.loop-distance.invariant.carved near a;
       reached = head_sweeps c.loop-distance.invariant.carved c.loop-distance.invariant.reached a;
     }

@@ -24,7 +24,6 @@ loop-distance-preserved c =
     let a = subst (λ n. Acts c.loop-distance.turn.pass (Step.Head (c.args.run.page + d) n) c.head.new.self.pass)
     c.unmapped_header.ensures c.head.ensures in
     record {
-      op = c.head.ensures.op ∙ c.loop-distance.invariant.op;
       unmapped = unmaps_on c.args.run c.is_in_order.ensures.turn c.requires.decided c.requires.phase
           c.loop-distance.invariant.unmapped c.loop-distance-test.true c.requires.within a;
     }

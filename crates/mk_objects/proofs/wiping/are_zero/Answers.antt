@@ -31,7 +31,6 @@ loop-i-preserved c =
     λ n reached. looks_then c.args.run c.is_in_order.ensures.turn may.decided may.stopped word reached
     (omega (arith, group, c.loop-i-test.true)) may.few may.unmapped c.look_on_page-all.ensures.acts in
     record {
-      op = c.look_on_page-all.ensures.op ∙ i.op;
       still = seen (8 * c.args.group) i.still;
       zero = λ none.
           let before : c.loop-i.all ≡ 0 =

@@ -22,7 +22,6 @@ wipe_group-requires-clause-wiped c = wiped_now c.loop-group.invariant.wiped
 pub loop-group-preserved : goal.loop-group-preserved
 loop-group-preserved c =
     record {
-      op = c.wipe_group.ensures.op ∙ c.loop-group.invariant.op;
       wiped = wipes_named (wipes_then c.loop-group.invariant.wiped c.wipe_group.ensures) (omega arith);
     }
 

@@ -23,7 +23,6 @@ wipe_page-requires-clause-wiped c = wiped_now c.loop-part.invariant.wiped
 pub loop-part-preserved : goal.loop-part-preserved
 loop-part-preserved c =
     record {
-      op = c.wipe_page.ensures.op ∙ c.loop-part.invariant.op;
       wiped = wipes_named (wipes_then c.loop-part.invariant.wiped c.wipe_page.ensures) (omega arith);
     }
 

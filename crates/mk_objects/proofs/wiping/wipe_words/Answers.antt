@@ -37,14 +37,12 @@ loop-word-preserved c =
     elim c.if-found-ne0.branch [
       | then-found-ne0 w ↦
           record {
-            op = ap (λ (t : TurnState). t.op) w.turn-is ∙ w.wipe.ensures.op ∙ c.look_on_page-found.ensures.op ∙ i.op;
             wiped = subst (λ (t : TurnState). WipesTo p c.args.run (n + 1) t.pass) (sym w.turn-is)
                 (wipes_on c.args.run c.is_in_order.ensures.turn c.requires.may.decided c.requires.may.stopped seen near
                 c.requires.may.within w.wipe.ensures);
           }
       | else-found-ne0 w ↦
           record {
-            op = ap (λ (t : TurnState). t.op) w.turn-is ∙ c.look_on_page-found.ensures.op ∙ i.op;
             wiped = subst (λ (t : TurnState). WipesTo p c.args.run (n + 1) t.pass) (sym w.turn-is)
                 (found_wiped c.args.run c.is_in_order.ensures.turn c.requires.may.decided c.requires.may.stopped seen
                 c.look_on_page-found.ensures.finds w.if-found-ne0.false);

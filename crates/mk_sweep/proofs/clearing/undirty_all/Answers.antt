@@ -25,7 +25,7 @@ loop-page-preserved c =
     let fewer = dirty_cleared v x c.loop-page.page gone in
     record {
       on = quiet_then c.loop-page.invariant.on (on_undirty t u sweeping
-          (c.is_in_order.ensures.turn.holds, c.is_in_order.ensures.gates) c.undirty.ensures.op c.loop-page.page
+          (c.is_in_order.ensures.turn.holds, c.is_in_order.ensures.gates) c.loop-page.page
           c.undirty.ensures);
       fewer = dirty_then w v x c.loop-page.invariant.fewer fewer;
       clean = pages_then (λ p. slice_index v.dirty p ≡ 0) (λ p. slice_index x.dirty p ≡ 0) c.loop-page.page

@@ -17,7 +17,7 @@ black_among-requires-clause-enabled c =
 pub returns-clause-on : goal.returns-clause-on
 returns-clause-on c =
     on_black c.args.stop.now c.black_among.new.self c.requires.wanted
-    (c.is_in_order.ensures.turn.holds, c.is_in_order.ensures.gates) c.is_in_order.ensures.own c.black_among.ensures.op
+    (c.is_in_order.ensures.turn.holds, c.is_in_order.ensures.gates) c.is_in_order.ensures.own
     c.args.cell.page c.bit.result c.black_among.ensures
 
 pub returns-clause-words : goal.returns-clause-words

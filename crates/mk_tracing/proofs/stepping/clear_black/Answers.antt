@@ -11,7 +11,7 @@ unblack-requires-clause-enabled c =
 pub returns-clause-on : goal.returns-clause-on
 returns-clause-on c =
     on_unblack c.args.stop.now c.unblack.new.self c.requires.wanted
-    (c.is_in_order.ensures.turn.holds, c.is_in_order.ensures.gates) c.is_in_order.ensures.own c.unblack.ensures.op
+    (c.is_in_order.ensures.turn.holds, c.is_in_order.ensures.gates) c.is_in_order.ensures.own
     c.args.page c.unblack.ensures c.requires.part
 
 pub returns-clause-words : goal.returns-clause-words

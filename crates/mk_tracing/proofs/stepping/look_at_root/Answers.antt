@@ -12,7 +12,7 @@ look_among-requires-clause-enabled c =
 pub returns-clause-on : goal.returns-clause-on
 returns-clause-on c =
     on_root c.args.stop.now c.look_among.new.self c.requires.wanted
-    (c.is_in_order.ensures.turn.holds, c.is_in_order.ensures.gates) c.is_in_order.ensures.own c.look_among.ensures.op
+    (c.is_in_order.ensures.turn.holds, c.is_in_order.ensures.gates) c.is_in_order.ensures.own
     c.args.x c.look_among.ensures.acts c.requires.root
 
 pub returns-clause-hand : goal.returns-clause-hand

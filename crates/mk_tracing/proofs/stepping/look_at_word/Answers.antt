@@ -30,7 +30,7 @@ look_on_page-requires-clause-page c = grind (arith, page_of_word)
 pub returns-clause-on : goal.returns-clause-on
 returns-clause-on c =
     on_word c.args.stop.now c.look_on_page.new.self c.requires.wanted
-    (c.is_in_order.ensures.turn.holds, c.is_in_order.ensures.gates) c.is_in_order.ensures.own c.look_on_page.ensures.op
+    (c.is_in_order.ensures.turn.holds, c.is_in_order.ensures.gates) c.is_in_order.ensures.own
     (64 * c.args.cell.page + c.args.cell.index * c.args.size + c.args.i) c.look_on_page.ensures.acts
     (gray_word c.args.stop.now.pass c.is_in_order.ensures.history _ c.requires.one_table c.args.cell c.args.size
     c.args.i c.requires.due c.requires.within)

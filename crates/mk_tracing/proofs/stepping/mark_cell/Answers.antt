@@ -20,7 +20,7 @@ mark_in_use-requires-clause-enabled c =
 pub returns-clause-on : goal.returns-clause-on
 returns-clause-on c =
     on_mark c.args.stop.now c.mark_in_use.new.self c.requires.wanted
-    (c.is_in_order.ensures.turn.holds, c.is_in_order.ensures.gates) c.is_in_order.ensures.own c.mark_in_use.ensures.op
+    (c.is_in_order.ensures.turn.holds, c.is_in_order.ensures.gates) c.is_in_order.ensures.own
     c.args.cell
     (subst (λ v. Acts c.args.stop.now.pass (Step.Mark c.args.cell.page v) c.mark_in_use.new.self.pass) c.bit.ensures
     c.mark_in_use.ensures) c.requires.reached

@@ -12,7 +12,7 @@ undirty-requires-clause-enabled c =
 pub returns-clause-on : goal.returns-clause-on
 returns-clause-on c =
     on_undirty c.args.stop.now c.undirty.new.self c.requires.wanted
-    (c.is_in_order.ensures.turn.holds, c.is_in_order.ensures.gates) c.is_in_order.ensures.own c.undirty.ensures.op
+    (c.is_in_order.ensures.turn.holds, c.is_in_order.ensures.gates) c.is_in_order.ensures.own
     c.args.page c.undirty.ensures
 
 pub returns-clause-words : goal.returns-clause-words

@@ -6,7 +6,6 @@ pub loop-preserved : goal.loop-preserved
 loop-preserved g c = record {
   goes_on = (tt, tt);
   table = c.look_at_phase.ensures.table ∙ c.loop.invariant.table;
-  op = c.look_at_phase.ensures.op ∙ c.loop.invariant.op;
   ready = c.look_at_phase.ensures.ready;
   phase = c.look_at_phase.ensures.phase;
   traces = waited_then _ _ _ c.loop.invariant.traces c.look_at_phase.ensures.traces;

@@ -8,7 +8,6 @@ abbrev pub invariant-loop : goal.invariant-loop
 invariant-loop g l = record {
   goes_on : (goal.iterator-loop g).can_next l.iterator' × (goal.iterator-loop g).is_finite l.iterator';
   table : l.stop.pass.table ≡ l.fn.stop.pass.table;
-  op : l.stop.op ≡ l.fn.stop.op;
   ready : HolderIsLoaded l.stop.pass;
   phase : phase_of (now_of l.stop.pass).words ≡ 2;
   traces : Counted is_waiting TracesReached is_want l.fn.stop.pass l.stop.pass 1;

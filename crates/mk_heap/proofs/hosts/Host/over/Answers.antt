@@ -14,7 +14,7 @@ give-back-requires-clause-enabled g c =
     let o = c.is_in_order.ensures in
     let p : PassState = c.take_idle_turn-turn.result.pass in
     let q : PassState = c.over.new.self.pass in
-    let t = in_turn p c.take_idle_turn-turn.result.op o.own o.turn o.history in
+    let t = in_turn p o.own o.turn o.history in
     let u = in_turn_after c.over.ensures refl in
     give_allowed q u (over_may_give p q t c.take_idle_turn-turn.ensures.idle u c.over.ensures)
 
@@ -24,7 +24,7 @@ give-back-requires-clause-tidy g c =
     let p : PassState = c.take_idle_turn-turn.result.pass in
     let q : PassState = c.over.new.self.pass in
     let idle = c.take_idle_turn-turn.ensures.idle in
-    let t = in_turn p c.take_idle_turn-turn.result.op o.own o.turn o.history in
+    let t = in_turn p o.own o.turn o.history in
     let u = in_turn_after c.over.ensures refl in
     tidy_kept p q (over_keeps p q t idle u c.over.ensures) idle.tidy
 
