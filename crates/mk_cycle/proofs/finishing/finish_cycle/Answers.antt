@@ -32,7 +32,7 @@ returns-clause-reached g c none =
     let b = c.give_all_back-turn.result.0.pass in
     let e = c.end.new.turn.pass in
     let q = c.count_cycle.new.turn.pass in
-    let end = c.end.ensures.makes in
+    let end = c.end.ensures.acts.makes in
     sweeps_then p b q (gives_call p b c.give_all_back-turn.ensures.gives).pass
     (c.give_all_back-turn.ensures.reached none)
     (sweeps_then b e q (only_seen_by b e Step.End end) (other_step_sweeps b e Step.End end refl)
@@ -46,7 +46,7 @@ returns-clause-told g c =
     let q = c.count_cycle.new.turn.pass in
     let sets = c.count_cycle.ensures.does in
     told_later _ p e q sets.more (ap (λ (x : PassState). x.seen) sets.is)
-    (told_later _ p b e _ (ap (λ (x : PassState). x.seen) c.end.ensures.makes.is ∙ append_assoc b.seen _ _)
+    (told_later _ p b e _ (ap (λ (x : PassState). x.seen) c.end.ensures.acts.makes.is ∙ append_assoc b.seen _ _)
     c.give_all_back-turn.ensures.told_at_close)
 
 pub returns-clause-closed : goal.returns-clause-closed
@@ -57,5 +57,5 @@ returns-clause-closed g c =
     let q = c.count_cycle.new.turn.pass in
     let sets = c.count_cycle.ensures.does in
     closed_later _ p e q sets.more (ap (λ (x : PassState). x.seen) sets.is)
-    (closed_later _ p b e _ (ap (λ (x : PassState). x.seen) c.end.ensures.makes.is ∙ append_assoc b.seen _ _)
+    (closed_later _ p b e _ (ap (λ (x : PassState). x.seen) c.end.ensures.acts.makes.is ∙ append_assoc b.seen _ _)
     c.give_all_back-turn.ensures.closed)

@@ -3,7 +3,7 @@ use Rattle.mk_cycle.proofs.HoldingSteps.{held_free, hold_holds, holds_nothing, h
 use Rattle.mk_cycle.proofs.holding.hold_gate.Goals as goal
 
 pub trying-init : goal.trying-init
-trying-init g c = record { op = refl; holds = holds_nothing c.args.turn.now.pass }
+trying-init g c = record { holds = holds_nothing c.args.turn.now.pass }
 
 pub returns-then-look-eq-HELD-clause-holds : goal.returns-then-look-eq-HELD-clause-holds
 returns-then-look-eq-HELD-clause-holds g c =

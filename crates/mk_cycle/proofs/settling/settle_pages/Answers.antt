@@ -7,7 +7,6 @@ use Rattle.mk_cycle.proofs.settling.settle_pages.Goals as goal
 
 pub loop-page-init : goal.loop-page-init
 loop-page-init c = record {
-  op = refl;
   begun = omega arith;
   settled = settled_none _ _ c.requires.cells c.requires.occupied;
   count = omega arith;

@@ -3,4 +3,4 @@ use Rattle.mk_cycle.proofs.tallying.set.Goals as goal
 
 pub returns : goal.returns
 returns c = tally_sets _ _ c.tally.ensures.was c.requires.free c.tally.ensures.is c.args.n c.args.v
-    c.tally.ensures
+    c.tally.ensures.acts

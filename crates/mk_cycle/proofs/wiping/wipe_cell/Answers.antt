@@ -4,7 +4,7 @@ use Rattle.mk_cycle.proofs.GivingSteps.{none_at_once, none_then, still_unmapped_
 use Rattle.mk_cycle.proofs.wiping.wipe_cell.Goals as goal
 
 pub loop-i-init : goal.loop-i-init
-loop-i-init c = record { op = refl; frees = none_at_once c.args.turn.now.pass; zeros = λ k lt. absurd (omega arith) }
+loop-i-init c = record { frees = none_at_once c.args.turn.now.pass; zeros = λ k lt. absurd (omega arith) }
 
 -- a word of these pairs, where nothing was given back since
 unmapped_still : {p q : PassState} (first pairs : ℕ) → GivesNothingBack p q

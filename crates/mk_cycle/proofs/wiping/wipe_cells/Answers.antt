@@ -8,7 +8,6 @@ use Rattle.mk_cycle.proofs.wiping.wipe_cells.Goals as goal
 
 pub loop-rest-init : goal.loop-rest-init
 loop-rest-init c = record {
-  op = refl;
   frees = none_at_once c.args.turn.now.pass;
   among = λ j has. has;
   zeros = λ j none i has lt. absurd (true≢false (sym has ∙ none));

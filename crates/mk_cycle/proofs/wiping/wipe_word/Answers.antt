@@ -22,8 +22,8 @@ returns-then-look_at_heap-ne0-clause-frees c =
     let first = c.look_at_heap.ensures.frees in
     none_then _ _ _ first
     (wipe_frees _ _ c.wipe.ensures.was c.wipe.ensures.is (freed_free _ _ first.frees c.requires.free)
-    (freed_phase _ _ first.frees c.requires.phase) _ c.wipe.ensures)
+    (freed_phase _ _ first.frees c.requires.phase) _ c.wipe.ensures.acts)
 
 pub returns-then-look_at_heap-ne0-clause-zero : goal.returns-then-look_at_heap-ne0-clause-zero
 returns-then-look_at_heap-ne0-clause-zero c =
-    wiped _ _ c.wipe.ensures.was c.wipe.ensures.is c.args.word c.wipe.ensures
+    wiped _ _ c.wipe.ensures.was c.wipe.ensures.is c.args.word c.wipe.ensures.acts

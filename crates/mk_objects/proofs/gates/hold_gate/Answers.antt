@@ -5,7 +5,6 @@ use Rattle.mk_objects.proofs.gates.hold_gate.Goals as goal
 
 pub trying-init : goal.trying-init
 trying-init g c = record {
-  op = refl;
   sets = set_nothing is_holding c.args.turn.now.pass c.args.caller c.requires.open;
   keeps = λ r lt. refl;
 }

@@ -6,7 +6,6 @@ use Rattle.mk_objects.proofs.gates.hold_gates.Goals as goal
 
 pub loop-caller-init : goal.loop-caller-init
 loop-caller-init g c = record {
-  op = refl;
   sets = holds_none c.args.turn.now.pass c.requires.open;
   keeps = λ r lt. refl;
 }

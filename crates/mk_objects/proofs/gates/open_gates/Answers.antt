@@ -6,7 +6,6 @@ use Rattle.mk_objects.proofs.gates.open_gates.Goals as goal
 
 pub loop-caller-init : goal.loop-caller-init
 loop-caller-init c = record {
-  op = refl;
   sets = opens_none c.args.turn.now.pass c.requires.held;
   gone = c.requires.gone;
 }

@@ -15,7 +15,7 @@ knows c = knows_place c.is_in_order.ensures.turn c.is_in_order.ensures.history c
 -- its cell is taken
 taken : (c : After-used) (k : KnowsPlace c.args.turn.now.pass c.args.place)
     → HasTaken c.requires.goes k c.used.new.self.pass
-taken c k = used_on c.requires.goes k c.make_ready.ensures c.used.ensures
+taken c k = used_on c.requires.goes k c.make_ready.ensures.ready c.used.ensures
 
 -- and the object is granted
 granted : (c : After-grant) (k : KnowsPlace c.args.turn.now.pass c.args.place)
@@ -84,5 +84,5 @@ returns-clause-held c =
 
 pub returns-clause-reached : goal.returns-clause-reached
 returns-clause-reached c =
-    serving_sweeps c.make_ready.ensures c.make_ready.ensures.reached c.used.ensures
+    serving_sweeps c.make_ready.ensures.ready c.make_ready.ensures.reached c.used.ensures
     c.grant.ensures c.tally.ensures refl refl refl

@@ -6,7 +6,6 @@ use Rattle.mk_objects.proofs.unmapping.unmap_run.Goals as goal
 pub loop-distance-init : goal.loop-distance-init
 loop-distance-init c =
     record {
-      op = refl;
       unmapped = unmapped_none c.args.run c.is_in_order.ensures.turn
           c.requires.decided c.requires.phase c.requires.mapped;
     }

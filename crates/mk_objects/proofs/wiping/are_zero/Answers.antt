@@ -9,7 +9,7 @@ loop-i-init c =
     let p : PassState = c.args.turn.now.pass in
     let none = wiped_from p c.requires.wiped in
     let start : 8 * c.args.group ≡ 8 * c.args.group + 0 = omega arith in
-    record { op = refl; still = none; zero = λ zero. subst (λ n. WipesTo p c.args.run n p) start none }
+    record { still = none; zero = λ zero. subst (λ n. WipesTo p c.args.run n p) start none }
 
 pub look_on_page-all-requires-clause-enabled : goal.look_on_page-all-requires-clause-enabled
 look_on_page-all-requires-clause-enabled c = grind (arith, look_may)

@@ -8,7 +8,6 @@ pub loop-group-init : goal.loop-group-init
 loop-group-init c =
     let start : 64 * c.args.part ≡ 8 * (8 * c.args.part) = omega arith in
     record {
-      op = refl;
       wiped = wiped_from c.args.turn.now.pass
           (subst (λ n. AreWiped (now_of c.args.turn.now.pass).words c.args.run n) start c.requires.wiped);
     }

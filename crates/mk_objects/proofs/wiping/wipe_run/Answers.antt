@@ -10,7 +10,6 @@ may c = grind arith
 pub loop-part-init : goal.loop-part-init
 loop-part-init c =
     record {
-      op = refl;
       wiped = wiped_from c.args.turn.now.pass (λ i lt. absurd (omega arith));
     }
 

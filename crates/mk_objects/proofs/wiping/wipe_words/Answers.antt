@@ -8,7 +8,6 @@ use Rattle.mk_objects.proofs.wiping.wipe_words.Goals as goal
 pub loop-word-init : goal.loop-word-init
 loop-word-init c =
     record {
-      op = refl;
       wiped = wiped_from c.args.turn.now.pass c.requires.wiped;
     }
 
