@@ -39,7 +39,7 @@ returns-clause-law g c =
     (λ page lt. undirty_later _ _ _ page
     (c.clean_pages.ensures.undirty page (subst (λ (w : WordsState). page < w.config.pages) c.requires.one_table lt))
     next) (ap (λ (w : World). w.now.words.fresh) c.tally.ensures.acts.world) c.begin.ensures.acts c.begin.ensures.is
-    c.begin-2.ensures.acts.law
+    c.begin-2.ensures.law
 
 pub returns-clause-reached : goal.returns-clause-reached
 returns-clause-reached g c none =
@@ -52,7 +52,7 @@ returns-clause-reached g c none =
     sweeps_then p b q all.keeps.call.pass (does_sweep clears p b clearing_marks_nothing all.does)
     (sweeps_then b d q (only_seen_by b d Step.Begin begin)
     (other_step_sweeps b d Step.Begin begin refl)
-    (c.begin-2.ensures.acts.reached none))
+    (c.begin-2.ensures.reached none))
 
 pub returns-clause-begun : goal.returns-clause-begun
 returns-clause-begun g c =
@@ -63,7 +63,7 @@ returns-clause-begun g c =
     let begins = g.E.Engine.begins in
     begun_then begins p b q all.keeps.call.pass (does_begin_none begins clears p b clearing_begins_none all.does)
     (begin_begun begins b c.begin.new.turn.pass q c.begin.ensures.was.own c.begin.ensures.acts.makes
-    c.begin-2.ensures.acts.law.does c.begin-2.ensures.acts.begun)
+    c.begin-2.ensures.law.does c.begin-2.ensures.begun)
 
 pub returns-clause-last : goal.returns-clause-last
 returns-clause-last g c =
@@ -73,5 +73,5 @@ returns-clause-last g c =
       begun = c.begin.new.turn.pass;
       before = all.does;
       begin = c.begin.ensures.acts.makes;
-      part = c.begin-2.ensures.acts.begun;
+      part = c.begin-2.ensures.begun;
     }
