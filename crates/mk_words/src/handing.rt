@@ -25,6 +25,7 @@ use mk_core::{Seat, TableWord};
 use mk_never::Op;
 use mk_page_map::PageMap;
 use std::marker::{Brand, PhantomData};
+use std::mem;
 
 /// Exchanges the turn word, 0 for this number. Where it was 0, the token has the slot.
 #[inline(always)]
@@ -142,7 +143,9 @@ impl TurnToken {
             ..
         } = self;
         let home = MapHome { map: Some(map) };
-        let _empty = words.table.shared.exchange(&mut token, 0, home);
+        let empty = words.table.shared.exchange(&mut token, 0, home);
+        // Nothing lay in the slot, so there is nothing to drop.
+        mem::forget(empty);
         give_as::<Brand>(words, &mut token, seat);
         TokenWith {
             token,
