@@ -147,6 +147,6 @@ groups_apart pages x y hx hy ne =
     elim (cases_order (rank (line_group x)) (rank (line_group y))) as (λ _.
     (index_of pages x + 8 ≤ index_of pages y) ⊎ (index_of pages y + 8 ≤ index_of pages x)) [
       | inl same ↦ absurd (ne (same_rank (line_group x) (line_group y) sx.within sy.within same))
-      | inr (inl less) ↦ inl (in_turn pages _ _ _ sx sy less)
-      | inr (inr more) ↦ inr (in_turn pages _ _ _ sy sx more)
+      | inr (inl less) ↦ inl (in_turn pages _ _ _ _ sx sy less)
+      | inr (inr more) ↦ inr (in_turn pages _ _ _ _ sy sx more)
     ]
