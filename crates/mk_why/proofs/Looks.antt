@@ -62,10 +62,9 @@ module _ (t u : TurnState) (x : Word) (a : Acts t.pass (Step.Look x) u.pass)
   still_behind = grind (arith, free_then, keeps, wanted, phase_there, none_after)
 
   pub look_on : LooksOn t u
-  look_on same =
+  look_on =
       record {
         table = ap (λ (y : PassState). y.table) a.makes.is;
-        op = same;
         does = does_step is_look t.pass u.pass (Step.Look x) a.makes refl;
         keeps = keeps;
         view = ap view_of a.world ∙ view_left a.turn (a.stop (a.holds, gates)) still.wanted still.none;
