@@ -17,6 +17,7 @@ use Rattle.mk_alloc.proofs.RoomParts.{room_lacks, room_then}
 use Rattle.mk_alloc.proofs.{CycleParts.begin_done, CycleParts.finish_done, FullLeaves.cycles_leave}
 use Rattle.mk_alloc.proofs.{FullLeaves.leaves_then, Parts.Part, QuietTurns.same_phase, Stretches.widened}
 use Rattle.mk_alloc.specs.Rooms.{MisfitsIdly}
+use Rattle.mk_objects.specs.{Placing.Requests, declared.objects.Request.Request}
 use Rattle.mk_objects.proofs.JoinedLooks.{looks_object, looks_unplaced}
 
 -- An undecided New is a caller's.
@@ -27,6 +28,10 @@ new_callers {p} u =
 
 same_object : {a : Option Answer} {p q : PassState} → TurnGoesOn a p q → object_for q ≡ object_for p
 same_object on = cc (on.does.is, on.op)
+
+-- What was requested is, after a part that decided nothing.
+pub requests_then : {p q : PassState} {request : Request} → Requests p request → Seeks None p q → Requests q request
+requests_then asked seeks = record { full = asked.full; op = seeks.on.op ∙ asked.op }
 
 -- one part after another that decided nothing
 pub seeks_then : {a : Option Answer} {p q r : PassState} → Seeks None p q → Seeks a q r → Seeks a p r

@@ -41,7 +41,7 @@ pub use Rattle.mk_words.proofs.Seats.{not_both, only_one, others_one, same_seat,
 pub use Rattle.mk_words.specs.Seats.{Has}
 pub use Rattle.mk_words.specs.States.{PassState, call_of, event_of, now_of, world_of}
 pub use Rattle.mk_words.specs.Steps.{IsEnabledTo, Makes}
-pub use Rattle.mk_words.specs.TurnSteps.{Acts, IsFresh, IsTurn, op_for, turn_stays}
+pub use Rattle.mk_words.specs.TurnSteps.{Acts, IsFresh, IsTurn, turn_stays}
 pub use Rattle.mk_caller.proofs.OneStep.{own_seat}
 pub use Rattle.mk_caller.proofs.OwnSteps.{by_append, calls_by, others_add_none}
 pub use Rattle.mk_caller.specs.Called.{own_calls, own_steps, stages_made, step_at}

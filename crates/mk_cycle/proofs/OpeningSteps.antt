@@ -12,7 +12,7 @@ use Rattle.mk_cycle.proofs.FreeingSteps.{freed_free, freed_phase, frees_step, op
 use Rattle.mk_cycle.proofs.GivingSteps.{none_at_once, none_then, state_there}
 use Rattle.mk_cycle.proofs.{Allowed.protocol, MayAct.may_act}
 use Rattle.mk_words.proofs.{Seats.others_own, TurnSteps.acts, TurnSteps.still_turn}
-use Rattle.mk_words.specs.{Opening.OnlyOpen, Opening.Opens, Opening.OthersMayOpen, Opening.is_open, TurnSteps.op_for}
+use Rattle.mk_words.specs.{Opening.OnlyOpen, Opening.Opens, Opening.OthersMayOpen, Opening.is_open}
 
 open_is_holders : (x : Step) → is_open x ≡ true → is_holders x ≡ true
 open_is_holders (Step.Open j) h = refl
@@ -67,8 +67,8 @@ by_itself {p} j t free at h =
       pass = record { own = t.own; history = h };
     } in
     let a = acts p (Step.Open j) q makes t.holds in
-    let turn = still_turn p (Step.Open j) q makes (op_for p.seat (call_of p)) refl
-    (record { holds = t.holds; op = refl }) in
+    let turn = still_turn p (Step.Open j) q makes refl
+    (record { holds = t.holds }) in
     let next : InTurn q = record { own = t.own; holds = turn.holds; history = h } in
     record {
       none = record {

@@ -124,7 +124,7 @@ module _ (p : PassState) (cell : Cell) (value : ℕ) (v : World) (known : Known 
       (now_of p).words (flight_of (now_of p) x)) (sym e) ∙ at) clear is small in
       subst (λ (x : Seat). Frees x) (sym e) by
 
-pub quarantine_reaches : {p q : PassState} (cell : Cell) {value : ℕ} {o : Option Op} → IsTurn p o
+pub quarantine_reaches : {p q : PassState} (cell : Cell) {value : ℕ} → IsTurn p
     → is_undecided_free (call_of p) ≡ true → target p.table.config.pages (now_of p).words (call_of p) ≡ Some cell
     → is_freed (now_of p).words cell ≡ false → IsOutOfStop (now_of p) → value ≡ freed_word (now_of p).words cell
     → slice_index (now_of p).words.freed cell.page + 2 ^ cell.index < 2 ^ 32 → Acts p (Step.Quar cell.page value) q
@@ -146,7 +146,7 @@ quarantine_reaches {p} cell {value} turn free at clear low is small a =
     })
 
 -- and frees once
-pub quarantine_once : {p q : PassState} (cell : Cell) {value : ℕ} {o : Option Op} → IsTurn p o
+pub quarantine_once : {p q : PassState} (cell : Cell) {value : ℕ} → IsTurn p
     → target p.table.config.pages (now_of p).words (call_of p) ≡ Some cell → is_freed (now_of p).words cell ≡ false
     → IsOutOfStop (now_of p) → value ≡ freed_word (now_of p).words cell → Acts p (Step.Quar cell.page value) q
     → FreesOnce p q
@@ -154,13 +154,13 @@ quarantine_once {p} cell turn at clear low is a =
     frees_now (made_in p _ a) a.makes.pass.history turn.holds (λ v kept. ap (λ (x : Option Cell). is_some x) (freed_left
     p.table.config cell kept (out_of_stop (now_of p) v.now (ap (λ (x : Steady). x.phase) kept.steady) low) at clear is))
 
-pub quarantine_may : {p : PassState} (cell : Cell) {value : ℕ} {o : Option Op} → IsTurn p o
+pub quarantine_may : {p : PassState} (cell : Cell) {value : ℕ} → IsTurn p
     → is_undecided_free (call_of p) ≡ true → target p.table.config.pages (now_of p).words (call_of p) ≡ Some cell
     → is_freed (now_of p).words cell ≡ false → IsOutOfStop (now_of p) → value ≡ freed_word (now_of p).words cell
     → cell.page < p.table.config.pages → (not (heads_run (header_in (now_of p).words cell.page)) || others_are_held
     p.table.config.callers (now_of p).words p.seat) ≡ true → IsEnabledTo p (Step.Quar cell.page value)
-quarantine_may {p} cell {value} {o} turn free at clear low is within gates =
-    may_free (acting_now p o turn (free_is_acting (call_of p) free)) cell.page value within low
+quarantine_may {p} cell {value} turn free at clear low is within gates =
+    may_free (acting_now p turn (free_is_acting (call_of p) free)) cell.page value within low
     (ap (λ (x : Option Cell). not (is_run_cell (now_of p).words x) || others_are_held p.table.config.callers
     (now_of p).words p.seat) at ∙ gates) (ap (λ (x : Option Cell). frees (now_of p).words x cell.page value) at
     ∙ ap (λ n. frees (now_of p).words (Some cell) cell.page n) is ∙ frees_it (now_of p).words cell clear)

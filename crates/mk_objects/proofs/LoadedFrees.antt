@@ -65,11 +65,11 @@ module _ {p : PassState} {r : ℕ} (u : IsUnloaded p r) where
   loads_within : {s : Seat} → s ≡ Caller loading → Holds p.table.config (now_of p) s → loading < p.table.config.callers
   loads_within is holds = (subst (λ (x : Seat). Holds p.table.config (now_of p) x) is holds).0
 
-  pub load_may : {o : Option Op} → IsTurn p o → IsEnabledTo p Step.Reg
+  pub load_may : IsTurn p → IsEnabledTo p Step.Reg
   load_may turn = grind (arith, loader, loading, reg_enabled, loads_within)
 
   -- whether it decides the Free or not
-  pub load_admits : {o : Option Op} → IsTurn p o → IsHistory p.table.config p.seen → IsAdmittedTo p Step.Reg
+  pub load_admits : IsTurn p → IsHistory p.table.config p.seen → IsAdmittedTo p Step.Reg
   load_admits turn h = free_step_admits Step.Reg loader turn.holds h u refl
 
   pub load_meets : r ≡ register_met (call_of p) (call_of p).stage
@@ -152,7 +152,7 @@ module _ (p : PassState) (r n : ℕ) (v : World) (small : r < 8) (known : Known 
       (ap (λ (x : Seat). flight_of (now_of p) x) (sym e) ∙ call) small is in
       subst (λ (x : Seat). Lands x) (sym e) (to.at, to.answer)
 
-pub load_reaches : {p q : PassState} {r n : ℕ} {o : Option Op} → r < 8 → IsTurn p o → IsUnloaded p r → Acts p Step.Reg q
+pub load_reaches : {p q : PassState} {r n : ℕ} → r < 8 → IsTurn p → IsUnloaded p r → Acts p Step.Reg q
     → n ≡ register_of p r → HasLoaded p r n q
 load_reaches {p} {r} {n} small turn u a is =
     let caller = unloaded_caller p r u.call in
@@ -172,7 +172,7 @@ load_reaches {p} {r} {n} small turn u a is =
     })
 
 -- A load that finds a pointer decides nothing.
-pub load_keeps : {p q : PassState} {r n : ℕ} {o : Option Op} → r < 8 → IsTurn p o → IsUnloaded p r → Acts p Step.Reg q
+pub load_keeps : {p q : PassState} {r n : ℕ} → r < 8 → IsTurn p → IsUnloaded p r → Acts p Step.Reg q
     → n ≡ register_of p r → (n == 0) ≡ false → value_of q r ≡ value_of p r
 load_keeps {p} {r} {n} small turn u a is some =
     let caller = unloaded_caller p r u.call in

@@ -41,9 +41,9 @@ within_of : (limit : ℕ) (pages : List Page) {o : Object} (place : Place) {n : 
 within_of limit pages {o} place sized len (inl f) = let some = pages_some o sized in let w = f.within in omega arith
 within_of limit pages place sized len (inr b) = let w = b.within in omega arith
 
-pub knows_place : {p : PassState} {o : Option Op} {place : Place} → IsTurn p o → IsHistory p.table.config p.seen
+pub knows_place : {p : PassState} {place : Place} → IsTurn p → IsHistory p.table.config p.seen
     → GoesTo p place → KnowsPlace p place
-knows_place {p} {o} {place} turn h goes =
+knows_place {p} {place} turn h goes =
     let c : Config = p.table.config in
     let known = known_left c p.seen h.within_limits h.enabled in
     let new = goes.unplaced.new in
@@ -54,7 +54,7 @@ knows_place {p} {o} {place} turn h goes =
     let found = fits c.resident (now_of p).words.pages (object_for p) place sized fit in
     let order = (histories_keep_the_invariant c p.seen h).order in
     record {
-      acting = acting_now p o turn acts;
+      acting = acting_now p turn acts;
       caller = acting_caller p acts;
       sized = sized;
       serving = record {

@@ -44,11 +44,11 @@ open_behind {c} {v} gate kept (OfCaller k lt) room = record {
   others = λ j ne. ap (λ (n : ℕ). n == 2) (get_or-set_other v.now.words.gates gate j 0 0 ne) ∙ kept.gates j;
 }
 
-module _ {p : PassState} (q : PassState) {o : Option Op} (gate : ℕ) (turn : IsTurn p o)
+module _ {p : PassState} (q : PassState) (gate : ℕ) (turn : IsTurn p)
     (acts : is_acting (call_of p).stage ≡ true) where
   has_call : {v : World} → IsAsLeft p.seat (world_of p) v → length v.now.seats.flights ≡ p.table.config.callers
       → HasCall p.table.config v.now p.seat
-  has_call kept count = acting_has_call count (still_acting (acting_now p o turn acts) kept)
+  has_call kept count = acting_has_call count (still_acting (acting_now p turn acts) kept)
 
   pub sets_hold : {held : Bool} → Acts p (Step.Hold gate) q → is_held (now_of q).words gate ≡ held
       → SetsGate is_holding p gate held q

@@ -69,7 +69,7 @@ unmapped_more {c} {s} {run} {v} {n} at (OfCaller k lt) give low near room =
           (header_set v.now.words.pages p (run.page + d) _ (λ i. absurd (omega arith))) ∙ e);
     }
 
-module _ {p : PassState} {o : Option Op} (run : RunPages) (turn : IsTurn p o) (give : (call_of p).stage ≡ Stage.Give)
+module _ {p : PassState} (run : RunPages) (turn : IsTurn p) (give : (call_of p).stage ≡ Stage.Give)
     (low : IsOutOfStop (now_of p)) where
   abbrev pub HasUnmapped : PassState → ℕ → Type 0
   HasUnmapped q n = ComesTo is_clearing p (λ v. UnmappedTo p.seat run (world_of p) v n) [] q
@@ -83,7 +83,7 @@ module _ {p : PassState} {o : Option Op} (run : RunPages) (turn : IsTurn p o) (g
       })
 
   acting : IsActing p.table.config (now_of p) p.seat
-  acting = acting_now p o turn (give_acts (call_of p) give)
+  acting = acting_now p turn (give_acts (call_of p) give)
 
   there_acting : (v : World) → flight_of v.now p.seat ≡ flight_of (now_of p) p.seat
       → IsActing p.table.config v.now p.seat

@@ -3,6 +3,7 @@ use Rattle.std.specs.Prelude.{◌≡◌, ℕ, ◌%◌, ◌^◌, ◌⊎◌, Bool,
 use Rattle.mk_geom.specs.declared.pages.Page.{Page}
 use Rattle.mk_geom.specs.declared.pages.Place.{Place}
 use Rattle.mk_geom.specs.Addresses.{address_of}
+use Rattle.mk_never.specs.declared.operations.Op.TheVariants as op
 use Rattle.mk_core.specs.declared.config.Config.{Config}
 use Rattle.mk_core.specs.declared.events.Answer.{Answer}
 use Rattle.mk_core.specs.declared.events.Answer.TheVariants as answer
@@ -28,6 +29,7 @@ use Rattle.mk_words.specs.States.{PassState, call_of, now_of, world_of}
 use Rattle.mk_turns.specs.Doing.{Does}
 use Rattle.mk_core.specs.TurnConditions.{place_now}
 use Rattle.mk_objects.specs.Entries.{own_calls}
+use Rattle.mk_objects.specs.declared.objects.Request.{Request}
 use Rattle.mk_objects.specs.Serving.{Carving, IsCellReady}
 use Rattle.mk_objects.specs.Unchanged.{IsAsLeft}
 
@@ -40,6 +42,11 @@ pub record IsUnplaced (p : PassState) : Type 0 where
   pub new : is_undecided_new (call_of p) ≡ true
   pub placing : (now_of p).seats.holding.placing ≡ Unplaced
   pub phase : IsOutOfStop (now_of p)
+
+-- It is for a New that requests this.
+pub record Requests (p : PassState) (request : Request) : Type 0 where
+  pub full : Bool
+  pub op : (call_of p).op ≡ op.New request.register request.ty full
 
 -- The tally of held words is that of the allocations.
 abbrev pub HeldIsExact : PassState → Type 0

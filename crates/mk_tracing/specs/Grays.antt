@@ -64,7 +64,6 @@ TracesReached c m _ = ⊤
 -- The stop goes on, its holder marks by these rules, and all else is as it was.
 pub record MarksOn (t u : TurnState) : Type 0 where
   pub table : u.pass.table ≡ t.pass.table
-  pub op : u.op ≡ t.op
   pub wanted : IsWanted u.pass
   pub traces : Traces is_marking TracesReached t.pass u.pass
 

@@ -39,7 +39,6 @@ impl<G: Gates> TurnAt<G> {
         requires one_table { self.old.pass.table ≡ words.now }
         requires enabled { IsEnabledTo self.old.pass (step.Look x) }
         requires admitted { may_decide (step.Look x) ≡ true → IsAdmittedTo self.old.pass (step.Look x) }
-        ensures op { self.new.op ≡ self.old.op }
         ensures acts { Acts self.old.pass (step.Look x) self.new.pass }
         ensures finds { Finds self.old.pass (step.Look x) result self.new.pass }
     {
@@ -54,7 +53,6 @@ impl<G: Gates> TurnAt<G> {
         requires pages { pages ≡ words.now.config.pages }
         requires enabled { IsEnabledTo self.old.pass (step.Look x) }
         requires admitted { may_decide (step.Look x) ≡ true → IsAdmittedTo self.old.pass (step.Look x) }
-        ensures op { self.new.op ≡ self.old.op }
         ensures acts { Acts self.old.pass (step.Look x) self.new.pass }
         ensures finds { Finds self.old.pass (step.Look x) result self.new.pass }
     {
@@ -70,7 +68,6 @@ impl<G: Gates> TurnAt<G> {
         requires page { IsOnPage page (Named x) }
         requires enabled { IsEnabledTo self.old.pass (step.Look x) }
         requires admitted { may_decide (step.Look x) ≡ true → IsAdmittedTo self.old.pass (step.Look x) }
-        ensures op { self.new.op ≡ self.old.op }
         ensures acts { Acts self.old.pass (step.Look x) self.new.pass }
         ensures finds { Finds self.old.pass (step.Look x) result self.new.pass }
     {
@@ -83,12 +80,11 @@ impl<G: Gates> TurnAt<G> {
     pub fn head(&mut self, words: &Words, page: u64, v: u64)
         requires one_table { self.old.pass.table ≡ words.now }
         requires enabled { IsEnabledTo self.old.pass (step.Head page v) }
-        ensures op { self.new.op ≡ self.old.op }
-        ensures acts { Acts self.old.pass (step.Head page v) self.new.pass }
+        ensures { Acts self.old.pass (step.Head page v) self.new.pass }
     {
         let head = TableWord::Named(Word::Head(page));
         self.pass.perform(words, Step::Head { page, value: v }, head, Access::Store(v));
-        self.carried.map.header_stored(page, v);
+        self.map.header_stored(page, v);
     }
 
     /// Stores a page's quarantine word.
@@ -96,20 +92,18 @@ impl<G: Gates> TurnAt<G> {
         requires one_table { self.old.pass.table ≡ words.now }
         requires enabled { IsEnabledTo self.old.pass (step.Quar page v) }
         requires admitted { IsAdmittedTo self.old.pass (step.Quar page v) }
-        ensures op { self.new.op ≡ self.old.op }
-        ensures acts { Acts self.old.pass (step.Quar page v) self.new.pass }
+        ensures { Acts self.old.pass (step.Quar page v) self.new.pass }
     {
         let quar = TableWord::Named(Word::Quar(page));
         self.pass.perform(words, Step::Quar { page, value: v }, quar, Access::Store(v));
-        self.carried.map.quarantine_stored(page, v % (1 << 32));
+        self.map.quarantine_stored(page, v % (1 << 32));
     }
 
     /// Clears a page's marks.
     pub fn clear(&mut self, words: &Words, page: u64)
         requires one_table { self.old.pass.table ≡ words.now }
         requires enabled { IsEnabledTo self.old.pass (step.Clear page) }
-        ensures op { self.new.op ≡ self.old.op }
-        ensures acts { Acts self.old.pass (step.Clear page) self.new.pass }
+        ensures { Acts self.old.pass (step.Clear page) self.new.pass }
     {
         self.perform(
             words,
@@ -123,13 +117,12 @@ impl<G: Gates> TurnAt<G> {
     pub fn mark(&mut self, words: &Words, page: u64, v: u64)
         requires one_table { self.old.pass.table ≡ words.now }
         requires enabled { IsEnabledTo self.old.pass (step.Mark page v) }
-        ensures op { self.new.op ≡ self.old.op }
-        ensures acts { Acts self.old.pass (step.Mark page v) self.new.pass }
+        ensures { Acts self.old.pass (step.Mark page v) self.new.pass }
     {
         let mark = TableWord::Named(Word::Mark(page));
         self.pass
             .perform(words, Step::Mark { page, value: v }, mark, Access::Or(v));
-        self.carried.map.marked(page);
+        self.map.marked(page);
     }
 
     /// Marks cells of a page in use, in a table of this many pages. Since the page has a header, the map needn't be
@@ -140,8 +133,7 @@ impl<G: Gates> TurnAt<G> {
         requires pages { pages ≡ words.now.config.pages }
         requires in_use { header_at (now_of self.old.pass).words page ≢ 0 }
         requires enabled { IsEnabledTo self.old.pass (step.Mark page v) }
-        ensures op { self.new.op ≡ self.old.op }
-        ensures acts { Acts self.old.pass (step.Mark page v) self.new.pass }
+        ensures { Acts self.old.pass (step.Mark page v) self.new.pass }
     {
         let step = Step::Mark { page, value: v };
         let mark = TableWord::Named(Word::Mark(page));
@@ -153,8 +145,7 @@ impl<G: Gates> TurnAt<G> {
     pub fn wipe(&mut self, words: &Words, word: u64)
         requires one_table { self.old.pass.table ≡ words.now }
         requires enabled { IsEnabledTo self.old.pass (step.Wipe word) }
-        ensures op { self.new.op ≡ self.old.op }
-        ensures acts { Acts self.old.pass (step.Wipe word) self.new.pass }
+        ensures { Acts self.old.pass (step.Wipe word) self.new.pass }
     {
         self.perform(
             words,
@@ -168,8 +159,7 @@ impl<G: Gates> TurnAt<G> {
     pub fn end(&mut self, words: &Words)
         requires one_table { self.old.pass.table ≡ words.now }
         requires enabled { IsEnabledTo self.old.pass step.End }
-        ensures op { self.new.op ≡ self.old.op }
-        ensures acts { Acts self.old.pass step.End self.new.pass }
+        ensures { Acts self.old.pass step.End self.new.pass }
     {
         self.perform(
             words,
@@ -183,8 +173,7 @@ impl<G: Gates> TurnAt<G> {
     pub fn undirty(&mut self, words: &Words, page: u64)
         requires one_table { self.old.pass.table ≡ words.now }
         requires enabled { IsEnabledTo self.old.pass (step.Undirty page) }
-        ensures op { self.new.op ≡ self.old.op }
-        ensures acts { Acts self.old.pass (step.Undirty page) self.new.pass }
+        ensures { Acts self.old.pass (step.Undirty page) self.new.pass }
     {
         self.perform(
             words,
@@ -198,8 +187,7 @@ impl<G: Gates> TurnAt<G> {
     pub fn unblack(&mut self, words: &Words, page: u64)
         requires one_table { self.old.pass.table ≡ words.now }
         requires enabled { IsEnabledTo self.old.pass (step.Unblack page) }
-        ensures op { self.new.op ≡ self.old.op }
-        ensures acts { Acts self.old.pass (step.Unblack page) self.new.pass }
+        ensures { Acts self.old.pass (step.Unblack page) self.new.pass }
     {
         self.perform(
             words,
@@ -213,8 +201,7 @@ impl<G: Gates> TurnAt<G> {
     pub fn tally(&mut self, words: &Words, n: Tally, v: u64)
         requires one_table { self.old.pass.table ≡ words.now }
         requires enabled { IsEnabledTo self.old.pass (step.Tally n v) }
-        ensures op { self.new.op ≡ self.old.op }
-        ensures acts { Acts self.old.pass (step.Tally n v) self.new.pass }
+        ensures { Acts self.old.pass (step.Tally n v) self.new.pass }
     {
         self.perform(
             words,
@@ -229,12 +216,11 @@ impl<G: Gates> TurnAt<G> {
     pub fn used(&mut self, words: &Words, page: u64, v: u64)
         requires one_table { self.old.pass.table ≡ words.now }
         requires enabled { IsEnabledTo self.old.pass (step.Used page v) }
-        ensures op { self.new.op ≡ self.old.op }
-        ensures acts { Acts self.old.pass (step.Used page v) self.new.pass }
+        ensures { Acts self.old.pass (step.Used page v) self.new.pass }
     {
         let used = TableWord::Named(Word::Used(page));
         self.pass.perform(words, Step::Used { page, value: v }, used, Access::Store(v));
-        self.carried.map.used_stored(page, v);
+        self.map.used_stored(page, v);
     }
 }
 
@@ -246,7 +232,6 @@ impl Turn {
         requires admitted { IsAdmittedTo self.old.pass step.Reg }
         requires register { r ≡ register_met (call_of self.old.pass) (call_of self.old.pass).stage }
         requires loads { reg_access (call_of self.old.pass) (call_of self.old.pass).stage ≡ Load }
-        ensures op { self.new.op ≡ self.old.op }
         ensures acts { Acts self.old.pass step.Reg self.new.pass }
         ensures finds { Finds self.old.pass step.Reg result self.new.pass }
         ensures goes { Goes self.old.pass step.Reg
@@ -267,8 +252,7 @@ impl Turn {
         requires admitted { IsAdmittedTo self.old.pass step.Grant }
         requires register { r ≡ d_of (call_of self.old.pass).op }
         requires address { address ≡ granted_address self.old.pass }
-        ensures op { self.new.op ≡ self.old.op }
-        ensures acts { Acts self.old.pass step.Grant self.new.pass }
+        ensures { Acts self.old.pass step.Grant self.new.pass }
     {
         let register = TableWord::Named(Word::Reg {
             caller: self.pass.caller(),

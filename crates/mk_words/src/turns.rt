@@ -12,12 +12,12 @@ ghost use Rattle.mk_words.specs.Steps.{IsEnabledTo, May, Finds, Tells};
 ghost use Rattle.mk_words.specs.TurnSteps.{IsTurn, IsFresh, turn_stays, gates_stay, GatesAre, Acts};
 
 use crate::gates::{AllHeld, AnyGates, Gates};
-use crate::homes::Carried;
 use crate::passes::Pass;
 use crate::tokens::TurnToken;
 use crate::words::Words;
 use mk_core::{Access, Seat, Step, TableWord};
 use mk_never::Op;
+use mk_page_map::PageMap;
 use std::marker::{Model, PhantomData};
 
 /// The turn of a table while the gates are as `G` says, with the pass of the seat that has it, and the map of the
@@ -25,7 +25,7 @@ use std::marker::{Model, PhantomData};
 #[derive(Drop)]
 pub struct TurnAt<G: Gates> {
     pub(crate) pass: TurnToken,
-    pub(crate) carried: Box<Carried>,
+    pub(crate) map: Box<PageMap>,
     pub(crate) gates: PhantomData<G>,
 }
 
@@ -42,9 +42,9 @@ impl<G: Gates> Model for TurnAt<G> {
 
     ghost use Rattle.mk_words.specs.TurnSteps.{IsTurnWithMap};
 
-    ghost view = { λ t. record { pass = t.pass; op = t.carried.value.op } };
+    ghost view = { λ t. record { pass = t.pass } };
 
-    ghost invariant = { λ t. IsTurnWithMap G.are_held t.pass t.carried.value.op t.carried.value.map };
+    ghost invariant = { λ t. IsTurnWithMap G.are_held t.pass t.map.value };
 }
 
 /// Another seat has the turn, by its number: a caller's own, or for the host the number of callers.
@@ -60,7 +60,6 @@ impl Pass {
         requires one_table { self.table ≡ words.now }
         requires enabled { IsEnabledTo self (step.Take op) }
         ensures made { IfOk result (λ turn. Finds self (step.Take op) 0 turn.pass) }
-        ensures op { IfOk result (λ turn. turn.op ≡ op) }
         ensures fresh { IfOk result (λ turn. IsFresh turn.pass op) }
         ensures exact { IfOk result (λ turn. TalliesAreExact turn.pass.table.config turn.pass.seen) }
         ensures tidy { IfOk result (λ turn. TalliesAreTidy turn.pass.table.config turn.pass.seen) }
@@ -70,12 +69,11 @@ impl Pass {
     {
         let Pass { own } = self;
         match own.take(words, op) {
-            Ok((pass, mut carried)) => {
+            Ok((pass, map)) => {
                 pass.is_in_order();
-                carried.begin(op);
                 Ok(TurnAt {
                     pass,
-                    carried,
+                    map,
                     gates: PhantomData,
                 })
             }
@@ -92,17 +90,10 @@ impl<G: Gates> TurnAt<G> {
         self.pass.seat()
     }
 
-    /// The operation that `try_take` was given.
-    pub fn op(&self) -> Option<Op>
-        ensures { result ≡ self.now.op }
-    {
-        self.carried.op
-    }
-
     /// What holds of every turn. It does nothing.
     #[inline(always)]
     pub fn is_in_order(&self)
-        ensures turn { IsTurn self.now.pass self.now.op }
+        ensures turn { IsTurn self.now.pass }
         ensures own { Has self.now.pass.seats self.now.pass.seat }
         ensures history { IsHistory self.now.pass.table.config self.now.pass.seen }
         ensures before_over { CallersAreBeforeOver self.now.pass.table.config self.now.pass.seats self.now.pass.seen }
@@ -124,7 +115,6 @@ impl<G: Gates> TurnAt<G> {
             (event_of self.old.pass step) }
         requires access { by ≡ access self.old.pass.table.config (now_of self.old.pass) (event_of self.old.pass step) }
         ensures told { Tells self.old.pass step result self.new.pass }
-        ensures op { self.new.op ≡ self.old.op }
         ensures acts { Acts self.old.pass step self.new.pass }
     {
         self.act_among(words, words.config.pages, step, word, by)
@@ -150,7 +140,6 @@ impl<G: Gates> TurnAt<G> {
             (event_of self.old.pass step) }
         requires access { by ≡ access self.old.pass.table.config (now_of self.old.pass) (event_of self.old.pass step) }
         ensures told { Tells self.old.pass step result self.new.pass }
-        ensures op { self.new.op ≡ self.old.op }
         ensures acts { Acts self.old.pass step self.new.pass }
     {
         self.pass.perform_among(words, pages, step, word, by)
@@ -167,7 +156,6 @@ impl<G: Gates> TurnAt<G> {
             (event_of self.old.pass step) }
         requires access { by ≡ access self.old.pass.table.config (now_of self.old.pass) (event_of self.old.pass step) }
         ensures told { Tells self.old.pass step result self.new.pass }
-        ensures op { self.new.op ≡ self.old.op }
         ensures acts { Acts self.old.pass step self.new.pass }
     {
         self.perform_among(words, words.config.pages, step, word, by)
@@ -192,7 +180,6 @@ impl<G: Gates> TurnAt<G> {
             (event_of self.old.pass step) }
         requires access { by ≡ access self.old.pass.table.config (now_of self.old.pass) (event_of self.old.pass step) }
         ensures told { Tells self.old.pass step result self.new.pass }
-        ensures op { self.new.op ≡ self.old.op }
         ensures acts { Acts self.old.pass step self.new.pass }
     {
         self.is_in_order();
@@ -209,8 +196,8 @@ impl Turn {
         ensures acts { Acts self.pass step.Give result }
         ensures rests { call_of result ≡ at_rest }
     {
-        let TurnAt { pass, carried, .. } = self;
-        let own = pass.give(words, carried);
+        let TurnAt { pass, map, .. } = self;
+        let own = pass.give(words, map);
         Pass { own }
     }
 }
