@@ -21,7 +21,6 @@ fn try_hold(turn: &mut Turn, words: &Words, caller: u64) -> bool
     requires within { caller < words.now.config.callers }
     requires another { is_number_of turn.old.pass.seat caller ≡ false }
     requires open { is_held (now_of turn.old.pass).words caller ≡ false }
-    ensures op { turn.new.op ≡ turn.old.op }
     ensures holds { HoldsGates turn.old.pass turn.new.pass }
     ensures held { result ≡ true → is_held (now_of turn.new.pass).words caller ≡ true }
 {

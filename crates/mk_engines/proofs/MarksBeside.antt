@@ -23,7 +23,7 @@ pub beside_nothing : (p : PassState) → MarksBeside p p
 beside_nothing p = grind (arith, does_nothing, keeps_at_once, nothing_keeps, nothing_done)
 
 pub goes_nowhere : (t : TurnState) → IsBeside t.pass → GoesBeside t t
-goes_nowhere t b = record { table = refl; op = refl; beside = b; marks = beside_nothing t.pass }
+goes_nowhere t b = record { table = refl; beside = b; marks = beside_nothing t.pass }
 
 -- What is found points well after more marks.
 
@@ -98,7 +98,6 @@ beside_then {p} {r} a b =
 pub goes_then : {t u v : TurnState} → GoesBeside t u → GoesBeside u v → GoesBeside t v
 goes_then {t} {u} {v} a b = record {
   table = b.table ∙ a.table;
-  op = b.op ∙ a.op;
   beside = b.beside;
   marks = beside_then a.marks b.marks;
 }

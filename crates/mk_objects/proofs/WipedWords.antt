@@ -121,9 +121,9 @@ pub still_unmapped : (p : PassState) {run : RunPages} {v : World} {n : ℕ} → 
     → is_run_unmapped (now_of p).words run ≡ true → is_run_unmapped v.now.words run ≡ true
 still_unmapped p at unmapped = grind arith
 
-module _ {p : PassState} {o : Option Op} {run : RunPages} (turn : IsTurn p o) (may : MayWipe p run) where
+module _ {p : PassState} {run : RunPages} (turn : IsTurn p) (may : MayWipe p run) where
   wiping : IsActing p.table.config (now_of p) p.seat
-  wiping = acting_now p o turn (give_acts (call_of p) may.decided)
+  wiping = acting_now p turn (give_acts (call_of p) may.decided)
 
   there_wiping : (v : World) → flight_of v.now p.seat ≡ flight_of (now_of p) p.seat
       → IsActing p.table.config v.now p.seat

@@ -19,8 +19,7 @@ one_more : (n : ℕ) → n % 8 ≡ 1 → (n + 1) % 2 ^ 64 % 8 ≡ 2
 one_more n h = omega arith
 
 module _ {t u : TurnState} (a : Acts t.pass Step.Want u.pass) (own : Has t.pass.seats t.pass.seat)
-    (ready : HolderIsLoaded t.pass) (all : HoldsAll t.pass.table.config (now_of t.pass) t.pass.seat)
-    (same : u.op ≡ t.op) where
+    (ready : HolderIsLoaded t.pass) (all : HoldsAll t.pass.table.config (now_of t.pass) t.pass.seat) where
   untouched : untouched_of (world_of u.pass) ≡ untouched_of (world_of t.pass)
   untouched = step_untouched t.pass u.pass Step.Want a refl all refl
 
@@ -30,7 +29,6 @@ module _ {t u : TurnState} (a : Acts t.pass Step.Want u.pass) (own : Has t.pass.
   pub want_waits : phase_of (now_of t.pass).words ≡ 1 → WaitsForMarkers t u 1
   want_waits one = record {
     table = ap (λ (p : PassState). p.table) a.makes.is;
-    op = same;
     ready = still_ready t.pass u.pass Step.Want a.makes untouched ready;
     phase = want_phase one;
     traces = traces_step is_waiting TracesReached is_want t.pass u.pass Step.Want a.makes 1 own refl tt untouched
@@ -39,14 +37,13 @@ module _ {t u : TurnState} (a : Acts t.pass Step.Want u.pass) (own : Has t.pass.
 
 module _ {t u : TurnState} (a : Acts t.pass (Step.Look Word.Phase) u.pass) (own : Has t.pass.seats t.pass.seat)
     (ready : HolderIsLoaded t.pass) (all : HoldsAll t.pass.table.config (now_of t.pass) t.pass.seat)
-    (same : u.op ≡ t.op) (two : phase_of (now_of t.pass).words ≡ 2) where
+    (two : phase_of (now_of t.pass).words ≡ 2) where
   still : untouched_of (world_of u.pass) ≡ untouched_of (world_of t.pass)
   still = step_untouched t.pass u.pass (Step.Look Word.Phase) a refl all refl
 
   pub look_waits : WaitsForMarkers t u 0
   look_waits = record {
     table = ap (λ (p : PassState). p.table) a.makes.is;
-    op = same;
     ready = still_ready t.pass u.pass (Step.Look Word.Phase) a.makes still ready;
     phase = ap (λ (w : World). phase_of w.now.words) a.world
         ∙ phase_there t.pass u.pass (Step.Look Word.Phase) a ∙ two;

@@ -54,7 +54,6 @@ pub fn take_turn<R: Wait>(rt: &R, words: &Words, home: Pass, op: Option<Op>) -> 
     requires one_table { home.table ≡ words.now }
     requires enabled { IsEnabledTo home (step.Take op) }
     ensures takes { TakesTurn home op result.pass }
-    ensures op { result.op ≡ op }
     ensures fresh { IsFresh result.pass op }
     ensures exact { TalliesAreExact result.pass.table.config result.pass.seen }
     ensures tidy { TalliesAreTidy result.pass.table.config result.pass.seen }

@@ -16,7 +16,7 @@ module _ (c : Config) (w : World) (S : ℕ → Bool) (registers : all_into c w S
   begins_in : (root : Root) (links : List ℕ) (b : ℕ) (chain : IsChain c w root links b) → S chain.first ≡ true
   begins_in root links b chain =
       points_into c w S (word_of_root w.now.words root) chain.first (
-          grind (arith, list_all-at, is_into_members)) chain.points
+      grind (arith, list_all-at, is_into_members)) chain.points
 
 -- A register holds the first of three objects, and a word of the first points to the second.
 

@@ -58,7 +58,7 @@ module _ (t u : TurnState) (x : Word) (a : Acts t.pass (Step.Look x) u.pass)
   keeps =
       calm_keeps t.pass (Step.Look x) u.pass a (in_turn_before a) a.makes.pass.history refl still.free but_phase refl
 
-  pub look_on : u.op ≡ t.op → LooksOn t u
+  pub look_on : LooksOn t u
   look_on same = record {
     table = ap (λ (y : PassState). y.table) a.makes.is;
     op = same;
@@ -87,7 +87,7 @@ pub looks_for_cell : {value : ℕ} {t u : TurnState} → LooksForCell value t u
     → LooksOn t u
 looks_for_cell {value} {t} {u} l gates still =
     looked_for (λ (v : TurnState). LooksOn t v) l (looks_at_nothing t still)
-    (λ a. look_on t u (Word.Head (page_at_address value)) a gates still l.op)
+    (λ a. look_on t u (Word.Head (page_at_address value)) a gates still)
 
 -- Looks after an engine's marks leave its law, and what is said of the view.
 

@@ -11,10 +11,10 @@ use Rattle.mk_cycle.proofs.freeing.give_back.Goals as goal
 -- The look gives nothing back, nor does the wiping.
 
 looked : (c : After-look_among-used) → GivesNothingBack c.args.turn.now.pass c.look_among-used.new.turn.pass
-looked c = look_frees c.requires.turn c.look_among-used.ensures.acts
+looked c = look_frees c.requires.turn c.look_among-used.ensures
 
 wiped : (c : After-wipe_released) → GivesNothingBack c.args.turn.now.pass c.wipe_released.new.turn.pass
-wiped c = none_then (look_frees c.requires.turn c.look_among-used.ensures.acts) c.wipe_released.ensures.frees
+wiped c = none_then (look_frees c.requires.turn c.look_among-used.ensures) c.wipe_released.ensures.frees
 
 given : (c : After-used)
     → GivesCells c.args.words.now c.args.turn.now.pass c.wipe_released.new.turn.pass c.used.new.self.pass c.args.page
@@ -32,7 +32,7 @@ given c =
       is_gone = c.requires.gone;
       word = c.requires.quarantine;
       gives = subst (λ (n : ℕ). Acts c.wipe_released.new.turn.pass (Step.Used c.args.page n) c.used.new.self.pass)
-          c.without.ensures c.used.ensures.acts;
+          c.without.ensures c.used.ensures;
     }
 
 pub wipe_released-requires-clause-turn : goal.wipe_released-requires-clause-turn
@@ -71,17 +71,17 @@ quar-requires-clause-one_table c = (turn_d (given (goal.at.quar-requires-clause-
 pub quar-requires-clause-enabled : goal.quar-requires-clause-enabled
 quar-requires-clause-enabled c =
     let x = given (goal.at.quar-requires-clause-enabled c).After-used in
-    quar_allowed (in_turn_after c.used.ensures.acts refl) (turn_d x) _ _ c.requires.within
+    quar_allowed (in_turn_after c.used.ensures refl) (turn_d x) _ _ c.requires.within
     (cc (c.without-freed.ensures, drops_here x))
 
 pub quar-requires-clause-admitted : goal.quar-requires-clause-admitted
 quar-requires-clause-admitted c =
-    calm_admitted c.used.new.self.pass _ c.used.ensures.acts.makes.pass.history refl
+    calm_admitted c.used.new.self.pass _ c.used.ensures.makes.pass.history refl
     (turn_d (given (goal.at.quar-requires-clause-admitted c).After-used)).free.decided
 
-pub returns-clause-gives : goal.returns-clause-gives
-returns-clause-gives c =
-    gives_all (given (goal.at.returns-clause-gives c).After-used)
+pub returns : goal.returns
+returns c =
+    gives_all (given (goal.at.returns c).After-used)
     (subst (λ (n : ℕ). Acts c.used.new.self.pass
     (Step.Quar c.args.page (quarantine_word n (c.args.quarantine / 2 ^ 32 - c.args.gone))) c.quar.new.self.pass)
-    c.without-freed.ensures c.quar.ensures.acts)
+    c.without-freed.ensures c.quar.ensures)
