@@ -11,7 +11,7 @@ ghost use Rattle.mk_core.specs.declared.events.Step.TheVariants as step;
 ghost use Rattle.mk_core.specs.Counts.{TalliesAreExact, TalliesAreTidy};
 ghost use Rattle.mk_words.specs.Steps.{IsEnabledTo};
 ghost use Rattle.mk_words.specs.TurnSteps.{IsFresh};
-ghost use Rattle.mk_waiting.specs.Taking.{HasTaken, TakesTurn};
+ghost use Rattle.mk_waiting.specs.Taking.{HasTakenTurn, TakesTurn};
 ghost use Rattle.mk_waiting.specs.Unswept.{TakingSweepsNothing};
 
 use mk_never::Op;
@@ -24,7 +24,7 @@ use std::sync::Wait;
 fn wait_for_turn<R: Wait>(rt: &R, words: &Words, home: Pass, op: Option<Op>) -> Turn
     requires one_table { home.table ≡ words.now }
     requires enabled { IsEnabledTo home (step.Take op) }
-    ensures { HasTaken home op result }
+    ensures { HasTakenTurn home op result }
 {
     let mut pass = home;
     let mut patience = Patience::new();
@@ -43,7 +43,7 @@ fn wait_for_turn<R: Wait>(rt: &R, words: &Words, home: Pass, op: Option<Op>) -> 
 fn wait_apart<R: Wait>(rt: &R, words: &Words, home: Pass, op: Option<Op>) -> Turn
     requires one_table { home.table ≡ words.now }
     requires enabled { IsEnabledTo home (step.Take op) }
-    ensures { HasTaken home op result }
+    ensures { HasTakenTurn home op result }
 {
     wait_for_turn(rt, words, home, op)
 }
