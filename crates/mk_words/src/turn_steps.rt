@@ -3,7 +3,7 @@ ghost use Rattle.std.specs.Prelude.{◌≡◌, ◌≢◌, true};
 ghost use Rattle.mk_core.specs.declared.events.Step.TheVariants as step;
 ghost use Rattle.mk_core.specs.declared.accesses.Access.TheVariants.{Load};
 ghost use Rattle.mk_core.specs.declared.accesses.TableWord.TheVariants.{Named};
-ghost use Rattle.mk_core.specs.Accesses.{tally_word, register_met, reg_access};
+ghost use Rattle.mk_core.specs.Accesses.{register_met, reg_access};
 ghost use Rattle.mk_core.specs.Calls.{d_of, progress_reg};
 ghost use Rattle.mk_core.specs.Words.{header_at};
 ghost use Rattle.mk_words.specs.Indexes.{IsOnPage};
@@ -16,21 +16,7 @@ use crate::gates::Gates;
 use crate::indexes::page_of;
 use crate::turns::{Turn, TurnAt};
 use crate::words::Words;
-use mk_core::{Access, Step, TableWord, Tally, Word};
-
-/// The word of a tally.
-#[inline(always)]
-pub(crate) fn tally_word(tally: Tally) -> Word
-    ensures { result ≡ tally_word tally }
-{
-    match tally {
-        Tally::Held => Word::Held,
-        Tally::Fresh => Word::Fresh,
-        Tally::Cycles => Word::Cycles,
-        Tally::Released => Word::Released,
-        Tally::Full => Word::Full,
-    }
-}
+use mk_core::{Access, Step, TableWord, Tally, Word, tally_word};
 
 impl<G: Gates> TurnAt<G> {
     /// Looks at a word. After an undecided Free's look at its target's quarantine word the call may be decided.
