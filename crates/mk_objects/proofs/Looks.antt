@@ -1,15 +1,14 @@
 -- What a look of the turn's holder finds, and that it leaves all as it was.
 use Rattle.mk_laws.proofs.Vocabulary.{Caller, Config, Flight, Holds, Host, Marker, Moment, Op, Option, Seat, Steady}
 use Rattle.mk_laws.proofs.Vocabulary.{Step, Word, World, ℕ, ap, false, flight_of, free_page, left, lt-ltb, phase_of}
-use Rattle.mk_laws.proofs.Vocabulary.{quarantine_word, refl, seat_exists, slice_index, slice_index_or, true}
-use Rattle.mk_laws.proofs.Vocabulary.{world_behind, ◌%◌, ◌++◌, ◌∙◌, ◌≡◌}
+use Rattle.mk_laws.proofs.Vocabulary.{quarantine_word, refl, seat_exists, slice_index, slice_index_or, true, ◌%◌, ◌++◌}
+use Rattle.mk_laws.proofs.Vocabulary.{◌∙◌, ◌≡◌}
 use Rattle.mk_objects.proofs.Vocabulary.{Acts, IsAsLeft, IsTurn, OnlyLooks, PassState, call_of, is_acting, is_look}
 use Rattle.mk_objects.proofs.Vocabulary.{is_steady_word, now_of, steady_of, world_of}
 use Rattle.mk_core.specs.Words.{named_word}
-use Rattle.mk_objects.proofs.Reaching.{GoesOn, IsCallers, reaches_nothing, reaches_still}
 use Rattle.mk_objects.proofs.Unchanged.{IsPlain, OfFresh, OfHead, OfHeld, OfPhase, OfUsed, acting_has_call, left_joined}
 use Rattle.mk_objects.proofs.Unchanged.{left_same, look_leaves}
-use Rattle.mk_objects.proofs.MayAct.{IsActing}
+use Rattle.mk_objects.proofs.{MayAct.IsActing, Reaching.IsCallers, Reaching.reaches_nothing, Reaching.reaches_still}
 use Rattle.mk_words.{proofs.Made.made, specs.Steps.Finds, specs.Steps.may_decide, specs.Steps.moment_of}
 
 -- Who holds the turn exists, and is a caller where it is acting.
@@ -39,14 +38,6 @@ acts_there w v at call = record { there = at.there; acts = ap (λ (f : Flight). 
 pub still_acting : {c : Config} {s : Seat} {w v : World} → IsActing c w.now s → IsAsLeft s w v → IsActing c v.now s
 still_acting {w} {v} at kept = acts_there w v at kept.call
 
-pub looks_on : (p : PassState) {x : Word} → IsActing p.table.config (now_of p) p.seat → IsPlain x
-    → GoesOn p (IsAsLeft p.seat (world_of p)) (λ v. IsAsLeft p.seat (world_of p)
-    (world_behind p.table.config v (record { seat = p.seat; step = Step.Look x })))
-looks_on p at plain w v before kept known pages =
-    let here = left_joined before kept in
-    let call = acting_has_call known.orderly.flights (still_acting at here) in
-    left_joined here (look_leaves v call plain)
-
 -- Such a look decides nothing.
 pub plain_is_idle : {x : Word} → IsPlain x → may_decide (Step.Look x) ≡ false
 plain_is_idle (OfHead p) = refl
@@ -59,7 +50,10 @@ pub look_reaches : {p q : PassState} {o : Option Op} {x : Word} → IsTurn p o �
     → IsPlain x → Acts p (Step.Look x) q → OnlyLooks p q
 look_reaches {p} {o} turn acts plain a =
     reaches_still _ _ (reaches_nothing is_look p _ (left_same _ _)) a refl refl (acting_caller p acts) (plain_is_idle
-    plain) (looks_on p (acting_now p o turn acts) plain)
+    plain) (λ w v before kept known pages.
+    let here = left_joined before kept in
+    let call = acting_has_call known.orderly.flights (still_acting (acting_now p o turn acts) here) in
+    left_joined here (look_leaves v call plain))
 
 -- What it finds is what the word is for the holder.
 module _ (p q : PassState) (o : Option Op) (x : Word) (n : ℕ) (turn : IsTurn p o) (f : Finds p (Step.Look x) n q) where

@@ -1,7 +1,7 @@
 -- What is asked of a New, and where it goes, by what its turn says.
 use Rattle.mk_laws.proofs.Vocabulary.{Config, IsHistory, List, Op, Option, Page, Place, Some, ℕ, and_parts, arith}
-use Rattle.mk_laws.proofs.Vocabulary.{has_operands, is_undecided_new, length, object_made, place_on_pages, sym, true}
-use Rattle.mk_laws.proofs.Vocabulary.{uses_of_pages, ◌<◌, ◌∙◌, ◌≡◌}
+use Rattle.mk_laws.proofs.Vocabulary.{has_operands, is_undecided_new, length, object_made, place_on_pages, true}
+use Rattle.mk_laws.proofs.Vocabulary.{uses_of_pages, ◌<◌, ◌≡◌}
 use Rattle.mk_objects.proofs.Vocabulary.{GoesTo, IsTurn, IsUnplaced, OnlyLooks, PassState, WordsState, call_of}
 use Rattle.mk_objects.proofs.Vocabulary.{known_left, now_of, object_for}
 use Rattle.mk_geom.specs.PageUses.{place_on_uses}
@@ -50,10 +50,8 @@ goes_behind place a u fit = grind (arith, goes_to, looks_unplaced, looks_table, 
 pub place_found : {p : PassState} {x : Option Op} {found : Option Place} → IsTurn p x → IsHistory p.table.config p.seen
     → IsUnplaced p
     → place_on_pages p.table.config.resident (now_of p).words.pages (object_for p) ≡ found → place_now_for p ≡ found
-place_found {p} {x} turn h u fit =
-    let acts = new_is_acting (call_of p) u.new in
-    sym (first_fit_finds_the_place p.table.config p.seen h (object_for p)
-    (unplaced_settled p (acting_now p x turn acts) (acting_caller p acts) u h)) ∙ fit
+place_found turn h u fit =
+    grind (arith, new_is_acting, first_fit_finds_the_place, unplaced_settled, acting_now, acting_caller)
 
 pub fit_within : {p : PassState} {x : Option Op} (place : Place) → IsTurn p x → IsHistory p.table.config p.seen
     → IsUnplaced p → place_on_pages p.table.config.resident (now_of p).words.pages (object_for p) ≡ Some place
