@@ -11,7 +11,7 @@ use Rattle.mk_alloc.proofs.Vocabulary.{◌≡◌}
 use Rattle.mk_never.proofs.Parts.{admitted_join}
 use Rattle.mk_core.specs.History.{IsAdmittedBehind, never_first}
 use Rattle.mk_laws.proofs.{InvariantTheorems.first_fit_finds_the_place, LayoutHolders.seat_operands}
-use Rattle.mk_alloc.proofs.{Going.IsCallers, SeekingTurns.new_callers}
+use Rattle.mk_alloc.proofs.SeekingTurns.{new_callers}
 use Rattle.mk_objects.proofs.AdmittedNews.{new_admitted, new_in_range}
 use Rattle.mk_objects.proofs.{Looks.acting_now, Takes.unplaced_settled}
 use Rattle.mk_words.specs.Steps.{IsAdmittedTo}
@@ -55,10 +55,7 @@ full_allowed {p} t u idle ended none =
     (object_made p.table.config (flight_of (now_of p) s).op) ≡ None
     → IsEnabled p.table.config (now_of p) (record { seat = s; step = Step.Full }))
     (sym seat) (λ lt new fit. full_for p.table.config (now_of p) (caller_of_pass p) lt new idle u.placing ended fit)
-    (exists seat t) u.new fits
-  where
-    exists : IsCallers p → InTurn p → caller_of_pass p < p.table.config.callers
-    exists seat t = (subst (λ (s : Seat). Holds p.table.config (now_of p) s) seat t.holds).0
+    ((subst (λ (s : Seat). Holds p.table.config (now_of p) s) seat t.holds).0) u.new fits
 
 -- and admitted.
 

@@ -4,9 +4,9 @@ use Rattle.mk_alloc.proofs.Vocabulary.{Answer, AsksRoom, BeginsCycle, Config, Do
 use Rattle.mk_alloc.proofs.Vocabulary.{Flight, HasNoPlace, InTurn, IsAtPhase, IsHistory, IsOutOfStop, IsPlaced, IsQuiet}
 use Rattle.mk_alloc.proofs.Vocabulary.{IsUnplaced, List, Looks, Misfits, None, Object, OnlyLooks, Option, PassState}
 use Rattle.mk_alloc.proofs.Vocabulary.{PlacedAllocation, Seeks, Some, Steady, TurnGoesOn, ℕ, acting_caller, ap, arith}
-use Rattle.mk_alloc.proofs.Vocabulary.{call_of, false, inl, inr, is_look, is_undecided_new, looks_left, new_is_acting}
-use Rattle.mk_alloc.proofs.Vocabulary.{now_of, object_for, object_made, only_seen, own_seat, phase_of, place_after}
-use Rattle.mk_alloc.proofs.Vocabulary.{place_now_for, refl, subst, world_of, ◌==◌, ◌∙◌, ◌≡◌}
+use Rattle.mk_alloc.proofs.Vocabulary.{call_of, false, is_look, looks_left, new_is_acting, now_of, object_for}
+use Rattle.mk_alloc.proofs.Vocabulary.{object_made, only_seen, own_seat, phase_of, place_after, place_now_for, refl}
+use Rattle.mk_alloc.proofs.Vocabulary.{subst, world_of, ◌==◌, ◌∙◌, ◌≡◌}
 use Rattle.mk_core.specs.Allocations.{place_among_allocations}
 use Rattle.mk_alloc.proofs.CalmStretches.{cycles_in_turn, is_of_cycles}
 use Rattle.mk_alloc.proofs.Going.{IsCallers, begun_on, finished_on, look_part, looked_on, on_then}
@@ -22,9 +22,7 @@ use Rattle.mk_objects.proofs.JoinedLooks.{looks_object, looks_unplaced}
 
 -- An undecided New is a caller's.
 pub new_callers : {p : PassState} → IsUnplaced p → IsCallers p
-new_callers {p} u =
-    let x = acting_caller p (new_is_acting (call_of p) u.new) in
-    own_seat p x.number x.is
+new_callers u = grind (arith, acting_caller, new_is_acting, own_seat)
 
 same_object : {a : Option Answer} {p q : PassState} → TurnGoesOn a p q → object_for q ≡ object_for p
 same_object on = cc (on.does.is, on.op)
@@ -64,11 +62,7 @@ still_nowhere p q same config object none =
 pub unplaced_kept : {p q : PassState} → IsUnplaced p → call_of q ≡ call_of p
     → (now_of q).seats.holding.placing ≡ (now_of p).seats.holding.placing
     → phase_of (now_of q).words ≡ phase_of (now_of p).words → IsUnplaced q
-unplaced_kept {p} {q} u call placing phase = record {
-  new = ap (λ (f : Flight). is_undecided_new f) call ∙ u.new;
-  placing = placing ∙ u.placing;
-  phase = same_phase p q phase u.phase;
-}
+unplaced_kept u call placing phase = grind (arith, same_phase)
 
 -- Where the object is granted no room is asked for.
 pub seeks_placed : (p q : PassState) → InTurn p → IsUnplaced p → IsQuiet p → IsPlaced p q
@@ -166,5 +160,4 @@ pub seen_at : {p q : PassState} {n : ℕ} → Looks p q → IsAtPhase p n → Is
 seen_at k at = ap (λ (s : Steady). s.phase) k.keeps.steady ∙ at
 
 pub phase_seen : (p : PassState) → IsOutOfStop (now_of p) → (phase_of (now_of p).words == 1) ≡ false → IsAtPhase p 0
-phase_seen p (inl none) off = none
-phase_seen p (inr one) off = absurd (eqb-false (phase_of (now_of p).words) 1 off one)
+phase_seen p x1 off = grind (arith, eqb-false)

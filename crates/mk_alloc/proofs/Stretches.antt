@@ -113,11 +113,8 @@ pub first_of : (p : PassState) (kinds : SomeKinds) (es : List Event) (e : Event)
 unfolding AreOwnOrOfOthers own_from
 first_of p kinds es e rest stays own s = by (is_same_seat p.seat e.seat) refl s.of_kinds
   where
-    joint : (es ++ e ∷ []) ++ rest ≡ es ++ e ∷ rest
-    joint = append_assoc es (e ∷ []) rest
-
     whole : IsHistory p.table.config ((es ++ e ∷ []) ++ rest)
-    whole = subst (λ (l : List Event). IsHistory p.table.config l) (sym joint) s.history
+    whole = subst (λ (l : List Event). IsHistory p.table.config l) (sym (append_assoc es (e ∷ []) rest)) s.history
 
     at : Here p es e
     at = here p es e (earlier_part_is_history p.table.config (es ++ e ∷ []) rest whole) s.holds

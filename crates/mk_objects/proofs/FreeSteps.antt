@@ -5,9 +5,9 @@ use Rattle.mk_laws.proofs.Vocabulary.{Page, PlacedAllocation, Seat, Some, Stage,
 use Rattle.mk_laws.proofs.Vocabulary.{and_from, answer_decided, ap, arith, bit_or, caller_number, cell_freed, entry_of}
 use Rattle.mk_laws.proofs.Vocabulary.{eq-eqb, false, flight_of, freed_where_it_stands, frees, has_bit, header_in}
 use Rattle.mk_laws.proofs.Vocabulary.{heads_run, is_freed, is_run_cell, is_some, is_undecided_free, length, map, not}
-use Rattle.mk_laws.proofs.Vocabulary.{or_else, others_are_held, phase_of, progress_freed, quarantine_word, refl}
-use Rattle.mk_laws.proofs.Vocabulary.{run_of_cell, set-get_or, slice_index, slice_set, subst, sym, target, true}
-use Rattle.mk_laws.proofs.Vocabulary.{world_behind, ◌%◌, ◌*◌, ◌+◌, ◌-◌, ◌/◌, ◌<◌, ◌^◌, ◌||◌, ◌∙◌, ◌≡◌}
+use Rattle.mk_laws.proofs.Vocabulary.{or_else, others_are_held, progress_freed, quarantine_word, refl, run_of_cell}
+use Rattle.mk_laws.proofs.Vocabulary.{set-get_or, slice_index, slice_set, subst, sym, target, true, world_behind, ◌%◌}
+use Rattle.mk_laws.proofs.Vocabulary.{◌*◌, ◌+◌, ◌-◌, ◌/◌, ◌<◌, ◌^◌, ◌||◌, ◌∙◌, ◌≡◌}
 use Rattle.mk_objects.proofs.Vocabulary.{Acts, FreesOnce, HasFreed, IsAsLeft, IsEnabledTo, IsFreedAt, IsOutOfStop}
 use Rattle.mk_objects.proofs.Vocabulary.{IsTurn, Known, PassState, call_of, is_freeing, min, now_of, steady_of}
 use Rattle.mk_objects.proofs.Vocabulary.{words_freed, world_of}
@@ -109,9 +109,6 @@ module _ (p : PassState) (cell : Cell) (value : ℕ) (v : World) (known : Known 
       (world_behind p.table.config v (record { seat = s; step = Step.Quar cell.page value }))
       × (answer_decided p.table.config v.now (record { seat = s; step = Step.Quar cell.page value }) ≡ Some Answer.Done)
 
-  still_low : phase_of v.now.words ≡ phase_of (now_of p).words → IsOutOfStop v.now
-  still_low same = out_of_stop (now_of p) v.now same low
-
   frees_at : {s : Seat} (k : ℕ) → s ≡ Caller k → IsAsLeft s (world_of p) v → Holds p.table.config (now_of p) s
       → target p.table.config.pages (now_of p).words (flight_of (now_of p) s) ≡ Some cell
       → is_freed (now_of p).words cell ≡ false → value ≡ freed_word (now_of p).words cell
@@ -120,7 +117,8 @@ module _ (p : PassState) (cell : Cell) (value : ℕ) (v : World) (known : Known 
       let lt : k < p.table.config.callers = (subst (λ (x : Seat). Holds p.table.config (now_of p) x) e holds).0 in
       let there : k < length v.now.seats.flights = subst (λ i. k < i) (sym known.orderly.flights) lt in
       let by = quar_behind p.table.config cell there (subst (λ (x : Seat). IsAsLeft x (world_of p) v) e kept)
-      (still_low (ap (λ (x : Steady). x.phase) kept.steady)) (ap (λ (x : Seat). target p.table.config.pages
+      (out_of_stop (now_of p) v.now (ap (λ (x : Steady). x.phase) kept.steady) low)
+      (ap (λ (x : Seat). target p.table.config.pages
       (now_of p).words (flight_of (now_of p) x)) (sym e) ∙ at) clear is small in
       subst (λ (x : Seat). Frees x) (sym e) by
 
