@@ -218,7 +218,8 @@ module _ (p : PassState) (o : Option Op) (n : ℕ) (q : PassState) (t : Tells p 
         let holds : Holds c (world_of q).now p.seat =
         named_holds c (world_of q).now p.seat (protocol_now p (Step.Take o) q t.makes) e.meets.seat
         (takes_for c m p.seat o e.meets.kind e.meets.order) named in
-        record { holds = subst (λ (r : PassState). Holds r.table.config (world_of q).now r.seat) (sym t.makes.is) holds }
+        record { holds =
+            subst (λ (r : PassState). Holds r.table.config (world_of q).now r.seat) (sym t.makes.is) holds }
 
     pub takes_fresh : IsFresh q o
     takes_fresh =

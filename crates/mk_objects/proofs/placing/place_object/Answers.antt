@@ -23,7 +23,8 @@ pub shape_of-shape-requires : goal.shape_of-shape-requires
 shape_of-shape-requires c =
     let has = type_asked c.args.turn.now.pass c.requires.one_table c.is_in_order.ensures.history
     c.requires.requested.op in
-    subst (λ (ts : List (List Kind)). c.args.request.ty < length ts) (sym c.types.ensures) (ltb-true c.args.request.ty _ has)
+    subst (λ (ts : List (List Kind)). c.args.request.ty < length ts) (sym c.types.ensures)
+        (ltb-true c.args.request.ty _ has)
 
 pub page-used-requires : goal.page-used-requires
 page-used-requires c =
