@@ -1,10 +1,8 @@
 //! All that the program does.
 ghost use Rattle.std.specs.Prelude.{◌≡◌, ◌≢◌, ◌⊎◌, map, string_bytes, length, false, None, IsSomeAnd};
-ghost use Rattle.mk_io.specs.Bytes.{Appends, AppendsPart};
-ghost use Rattle.mk_io.specs.Faults.{Rose};
+ghost use Rattle.mk_io.specs.{Bytes.{Appends, AppendsPart}, Faults.Rose};
 ghost use Rattle.mk_commands.specs.Commands.{command_of};
-ghost use Rattle.mk_outputs.specs.Outputs.{HasAnswered, IsStatusOn};
-ghost use Rattle.mk_outputs.specs.Statuses.{IsBeforeWriting, IsRefusal};
+ghost use Rattle.mk_outputs.specs.{Outputs.{HasAnswered, IsStatusOn}, Statuses.{IsBeforeWriting, IsRefusal}};
 
 use mk_commands::command_in;
 use mk_io::{Failed, Sink, Source, write_all};

@@ -5,12 +5,11 @@ use Rattle.mk_alloc.proofs.Vocabulary.{IsHistory, IsTurn, List, Makes, Moment, P
 use Rattle.mk_alloc.proofs.Vocabulary.{ap, append-nil, append_assoc, are_of, comes_last, does_step, does_then}
 use Rattle.mk_alloc.proofs.Vocabulary.{does_wider, earlier_part_is_history, event_of, false, flight_of, found}
 use Rattle.mk_alloc.proofs.Vocabulary.{holds_turn, if◌then◌else◌, inl, inr, is_same_seat, known_left, left, left_after}
-use Rattle.mk_alloc.proofs.Vocabulary.{now_of, refl, same_seat, same_self, subst, sym, true, true≢false}
-use Rattle.mk_alloc.proofs.Vocabulary.{turn_stays, view_of, world_behind, [], ◌++◌, ◌∙◌, ◌∷◌, ◌≡◌, ◌≢◌, ◌⊎◌}
+use Rattle.mk_alloc.proofs.Vocabulary.{now_of, refl, same_seat, same_self, subst, sym, true, true≢false, turn_stays}
+use Rattle.mk_alloc.proofs.Vocabulary.{view_of, world_behind, [], ◌++◌, ◌∙◌, ◌∷◌, ◌≡◌, ◌≢◌, ◌⊎◌}
 use Rattle.mk_core.specs.Growing.{own_from}
 use Rattle.mk_laws.proofs.Basics.{Known, Meets, same_holder}
-use Rattle.mk_turns.proofs.Doing.{none_own, others_are_so, own_in_parts}
-use Rattle.mk_turns.specs.Doing.{AreOwnOrOfOthers}
+use Rattle.mk_turns.{proofs.Doing.{none_own, others_are_so, own_in_parts}, specs.Doing.{AreOwnOrOfOthers}}
 use Rattle.mk_words.proofs.{Seats.others_none, TurnSteps.still_turn}
 
 -- the pass, where it has seen these

@@ -2,8 +2,7 @@
 ghost use Rattle.std.specs.Prelude.{◌≡◌, false};
 ghost use Rattle.mk_turns.specs.Sweeping.{SweepsNothing};
 ghost use Rattle.mk_cycle.specs.Begun.{EachIsBegun};
-ghost use Rattle.mk_alloc.specs.DueCycles.{EndsOlder, RunsCycle, RunsIfDue};
-ghost use Rattle.mk_alloc.specs.Underway.{IsQuiet};
+ghost use Rattle.mk_alloc.specs.{DueCycles.{EndsOlder, RunsCycle, RunsIfDue}, Underway.IsQuiet};
 
 use crate::turns::is_cycle_on;
 use mk_cycle::{Engine, begin_cycle, finish_cycle};

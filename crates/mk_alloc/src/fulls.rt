@@ -5,8 +5,7 @@ ghost use Rattle.mk_words.specs.States.{now_of};
 ghost use Rattle.mk_turns.specs.Sweeping.{SweepsNothing};
 ghost use Rattle.mk_cycle.specs.EngineLaw.{IsAtPhase};
 ghost use Rattle.mk_objects.specs.Placing.{IsUnplaced, place_now_for};
-ghost use Rattle.mk_alloc.specs.Rooms.{AnswersFull, BeginsNone};
-ghost use Rattle.mk_alloc.specs.Underway.{IsQuiet};
+ghost use Rattle.mk_alloc.specs.{Rooms.{AnswersFull, BeginsNone}, Underway.IsQuiet};
 
 use mk_core::{Tally, Word};
 use mk_words::{Turn, Words};

@@ -1,14 +1,13 @@
 //! Making objects.
 ghost use Rattle.std.specs.Prelude.{◌≡◌, ◌<◌, ◌∷◌, [], OnOk, IfErr, IfSome, Some, None, true, false, length};
-ghost use Rattle.mk_never.specs.declared.operations.Op.TheVariants as op;
-ghost use Rattle.mk_core.specs.declared.events.Answer.TheVariants as answer;
 ghost use Rattle.mk_caller.specs.States.{caller_of_pass};
 ghost use Rattle.mk_turns.specs.Sweeping.{SweepsNothing};
 ghost use Rattle.mk_cycle.specs.Begun.{EachIsBegun};
 ghost use Rattle.mk_objects.specs.Placing.{IsUnplaced, Requests, place_now_for};
 ghost use Rattle.mk_alloc.specs.Rooms.{CountsFull, RunsOne, Seeks, answer_with};
-ghost use Rattle.mk_alloc.specs.TurnCalls.{CalledInTurn, IsAnsweredFull};
-ghost use Rattle.mk_alloc.specs.Underway.{IsQuiet};
+ghost use Rattle.mk_alloc.specs.{TurnCalls.{CalledInTurn, IsAnsweredFull}, Underway.IsQuiet};
+ghost use Rattle.mk_never.specs.declared.operations.Op.TheVariants as op;
+ghost use Rattle.mk_core.specs.declared.events.Answer.TheVariants as answer;
 
 use crate::fulls::answer_full;
 use crate::rooms::{make_room, try_place};

@@ -1,14 +1,13 @@
 //! Room for the object of a New: where it fits nowhere, cycles are finished and begun.
 ghost use Rattle.std.specs.Prelude.{◌≡◌, Some, None, true, false};
-ghost use Rattle.mk_core.specs.declared.events.Answer.TheVariants as answer;
 ghost use Rattle.mk_words.specs.States.{now_of};
 ghost use Rattle.mk_turns.specs.Sweeping.{SweepsNothing};
-ghost use Rattle.mk_cycle.specs.Begun.{EachIsBegun};
-ghost use Rattle.mk_cycle.specs.EngineLaw.{IsAtPhase};
+ghost use Rattle.mk_cycle.specs.{Begun.EachIsBegun, EngineLaw.IsAtPhase};
 ghost use Rattle.mk_core.specs.Effects.{cycle_ended};
 ghost use Rattle.mk_objects.specs.Placing.{IsUnplaced, OnlyLooks, Requests, place_now_for};
 ghost use Rattle.mk_alloc.specs.Rooms.{BeginsNone, EndsOnly, Misfits, MisfitsAtLast, MisfitsIdly, RunsOne, Seeks};
 ghost use Rattle.mk_alloc.specs.Underway.{IsQuiet};
+ghost use Rattle.mk_core.specs.declared.events.Answer.TheVariants as answer;
 
 use crate::turns::is_cycle_on;
 use mk_cycle::{Engine, begin_cycle, finish_cycle};

@@ -1,14 +1,12 @@
 //! Parts of a turn that every call has.
 ghost use Rattle.std.specs.Prelude.{◌≡◌, ◌==◌, ◌<◌, ◌∷◌, [], Some, true};
-ghost use Rattle.mk_core.specs.declared.events.Step.TheVariants as step;
-ghost use Rattle.mk_core.specs.declared.seats.Stage.TheVariants as stage;
-ghost use Rattle.mk_core.specs.Calls.{at_rest, has_operands, is_under_turn};
-ghost use Rattle.mk_core.specs.Words.{phase_of};
-ghost use Rattle.mk_words.specs.States.{call_of, now_of};
-ghost use Rattle.mk_words.specs.Steps.{Makes};
+ghost use Rattle.mk_core.specs.{Calls.{at_rest, has_operands, is_under_turn}, Words.phase_of};
+ghost use Rattle.mk_words.specs.{States.{call_of, now_of}, Steps.Makes};
 ghost use Rattle.mk_caller.specs.States.{IsIdleCaller, caller_of_pass};
 ghost use Rattle.mk_waiting.specs.Taking.{TakesTurn};
 ghost use Rattle.mk_alloc.specs.Underway.{BeginsTurn, IsQuiet, Looks};
+ghost use Rattle.mk_core.specs.declared.events.Step.TheVariants as step;
+ghost use Rattle.mk_core.specs.declared.seats.Stage.TheVariants as stage;
 
 use mk_core::{Phase, Word};
 use mk_never::Op;

@@ -1,18 +1,17 @@
 -- A number that a caller owns: what other callers leave of it, and what its own calls do.
 use Rattle.std.proofs.Common.{ltb-false, set}
 use Rattle.mk_laws.proofs.Vocabulary.{AreAdmitted, Call, Continues, IsAdmitted, IsNumber, IsSound, IsTyped, Kind, List}
-use Rattle.mk_laws.proofs.Vocabulary.{Meets, NeverAllocation as Allocation, NeverState, Null, Num, Number, Op, Ptr}
 use Rattle.mk_laws.proofs.Vocabulary.{Suits, To, Value, WordOf, ℕ, after_calls, allocation_at, ap, arith, cases_Bool}
 use Rattle.mk_laws.proofs.Vocabulary.{false, get_or, get_or-set_same, get_or_past, inl, inr, kinds_of, length}
-use Rattle.mk_laws.proofs.Vocabulary.{length-set, ltb-true, nat_lt, no_allocation, number_of as number_in, refl}
 use Rattle.mk_laws.proofs.Vocabulary.{register_at, set_by, subst, sym, target_of, with_word, word_at, words_of, [], ◌*◌}
 use Rattle.mk_laws.proofs.Vocabulary.{◌+◌, ◌<◌, ◌∙◌, ◌∷◌, ◌≡◌, ◌≢◌}
-use Rattle.mk_never.proofs.{Edits.exists, Fresh.new_adds, Later.op_stays, Registers.destination, Registers.op_keeps}
-use Rattle.mk_never.specs.Admitted.{IsCaller}
-use Rattle.mk_never.specs.NeverHeap.{after_op, left_at, reply_at, reply_of}
-use Rattle.mk_never.specs.{Laws.AreNotBy, Reach.LeadsTo, declared.operations.Reply.Reply, declared.values.Target.Target}
+use Rattle.mk_never.proofs.{Edits.exists, Fresh.new_adds, Later.op_stays, Registers.{destination, op_keeps}}
+use Rattle.mk_never.specs.{Admitted.IsCaller, NeverHeap.{after_op, left_at, reply_at, reply_of}, Laws.AreNotBy}
+use Rattle.mk_never.specs.{Reach.LeadsTo, declared.operations.Reply.Reply, declared.values.Target.Target}
 use Rattle.mk_alloc_clients.proofs.Alone.{op_stays_alone, push_keeps, word_alone, zeros_lead_nowhere}
 use Rattle.mk_alloc_clients.specs.Owned.{IsRegisterOf, OwnsNumberIn, number_behind}
+use Rattle.mk_laws.proofs.Vocabulary.{Meets, NeverAllocation as Allocation, NeverState, Null, Num, Number, Op, Ptr}
+use Rattle.mk_laws.proofs.Vocabulary.{length-set, ltb-true, nat_lt, no_allocation, number_of as number_in, refl}
 
 -- It is owned still, and is the same number.
 pub record KeepsNumber (n : NeverState) (k d : ℕ) (m : NeverState) : Type 0 where

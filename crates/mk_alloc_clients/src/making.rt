@@ -1,10 +1,9 @@
 //! An object of one number, made by the steps of a turn.
 ghost use Rattle.std.specs.Prelude.{◌≡◌, Bool, OnOk, IfErr, true, false};
+ghost use Rattle.mk_alloc.specs.TurnCalls.{CalledInTurn};
+ghost use Rattle.mk_alloc_clients.specs.{Making.{IsUnmade, SuitsNumber}, Owned.HasNumber};
 ghost use Rattle.mk_never.specs.declared.operations.Op.TheVariants as op;
 ghost use Rattle.mk_core.specs.declared.events.Answer.TheVariants as answer;
-ghost use Rattle.mk_alloc.specs.TurnCalls.{CalledInTurn};
-ghost use Rattle.mk_alloc_clients.specs.Making.{IsUnmade, SuitsNumber};
-ghost use Rattle.mk_alloc_clients.specs.Owned.{HasNumber};
 
 use crate::outcomes::Unmade;
 use crate::placing::place_number;

@@ -1,12 +1,10 @@
 //! A number that a caller owns: storing and loading it, whatever other threads do.
 ghost use Rattle.std.specs.Prelude.{◌≡◌, ◌<◌, ◌++◌, IfOk, OnOk, OnErr, IfErr, true};
-ghost use Rattle.mk_never.specs.declared.operations.Op.TheVariants as op;
-ghost use Rattle.mk_core.specs.declared.events.Answer.TheVariants as answer;
-ghost use Rattle.mk_caller.specs.States.{caller_of_pass};
-ghost use Rattle.mk_caller.specs.Called.{Called, own_calls};
-ghost use Rattle.mk_caller.specs.Causes.{FindsGateHeld};
+ghost use Rattle.mk_caller.specs.{States.caller_of_pass, Called.{Called, own_calls}, Causes.FindsGateHeld};
 ghost use Rattle.mk_alloc_clients.specs.Making.{EndsEarly, SuitsNumber, new_store_load, store_then_load};
 ghost use Rattle.mk_alloc_clients.specs.Owned.{HasNumber, OwnsNumber, number_owned};
+ghost use Rattle.mk_never.specs.declared.operations.Op.TheVariants as op;
+ghost use Rattle.mk_core.specs.declared.events.Answer.TheVariants as answer;
 
 use crate::making::make_number;
 use crate::outcomes::Unfinished;

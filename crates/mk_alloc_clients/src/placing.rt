@@ -1,11 +1,7 @@
 //! The steps that put an object of one number on the only page of a heap.
 ghost use Rattle.std.specs.Prelude.{◌≡◌, ◌<◌, ◌==◌, ◌%◌, ◌^◌, ◌∷◌, [], true, false};
-ghost use Rattle.mk_core.specs.Calls.{d_of};
-ghost use Rattle.mk_core.specs.NewPlaces.{base_made, header_made};
-ghost use Rattle.mk_core.specs.Words.{header_at, page_of, phase_of};
-ghost use Rattle.mk_geom.specs.Addresses.{address_of};
-ghost use Rattle.mk_geom.specs.PageUses.{small_place};
-ghost use Rattle.mk_geom.specs.PageWords.{use_of_page};
+ghost use Rattle.mk_core.specs.{Calls.d_of, NewPlaces.{base_made, header_made}, Words.{header_at, page_of, phase_of}};
+ghost use Rattle.mk_geom.specs.{Addresses.address_of, PageUses.small_place, PageWords.use_of_page};
 ghost use Rattle.mk_words.specs.States.{call_of, now_of};
 ghost use Rattle.mk_objects.specs.Placing.{FitsNowhere, GoesTo, HasCarved, HeldIsExact, IsGranted, IsPlaced};
 ghost use Rattle.mk_objects.specs.Placing.{IsUnplaced, MayTake, OnlyLooks, object_for};

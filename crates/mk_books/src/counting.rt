@@ -1,7 +1,6 @@
 //! Counts of what stands on the pages.
 ghost use Rattle.std.specs.Prelude.{◌≡◌, ◌<◌, count_by};
-ghost use Rattle.mk_geom.specs.PageUses.{is_free_page, resident_pages, longest_free_range, held_by_uses};
-ghost use Rattle.mk_geom.specs.PageUses.{census_among};
+ghost use Rattle.mk_geom.specs.PageUses.{is_free_page, resident_pages, longest_free_range, held_by_uses, census_among};
 ghost use Rattle.mk_geom.specs.PageWords.{uses_of_pages};
 ghost use Rattle.mk_books.specs.FreeCells.{free_cells_by_class, class_place};
 

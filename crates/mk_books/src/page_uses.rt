@@ -1,9 +1,7 @@
 //! What stands on one page.
 ghost use Rattle.std.specs.Prelude.{◌≡◌, ◌<◌, ◌≤◌, not, count_by, IfSome, IfNone};
-ghost use Rattle.mk_geom.specs.PageUses.{Cells, is_free_page, is_resident_page, cells_taken, first_where};
-ghost use Rattle.mk_geom.specs.PageUses.{held_by_use};
-ghost use Rattle.mk_geom.specs.PageWords.{use_of_page, bits_of};
-ghost use Rattle.mk_geom.specs.Classes.{cells_of};
+ghost use Rattle.mk_geom.specs.PageUses.{Cells, is_free_page, is_resident_page, cells_taken, first_where, held_by_use};
+ghost use Rattle.mk_geom.specs.{PageWords.{use_of_page, bits_of}, Classes.cells_of};
 ghost use Rattle.mk_books.specs.FreeCells.{HasNoCells};
 
 use mk_geom::{Header, PAGE_WORDS, Page, cells, class_words, decode};

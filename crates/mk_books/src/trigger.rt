@@ -1,6 +1,5 @@
 //! When a marking pass is due, and which cells of a block it frees.
-ghost use Rattle.std.specs.Prelude.{◌≡◌, ◌↔◌, ℕ, ◌*◌, ◌<◌, ◌≤◌, IsTrue};
-ghost use Rattle.std.specs.Int.{bit_at};
+ghost use Rattle.std.specs.{Prelude.{◌≡◌, ◌↔◌, ℕ, ◌*◌, ◌<◌, ◌≤◌, IsTrue}, Int.bit_at};
 ghost use Rattle.mk_books.specs.Quarantine.{IsFreeable};
 
 /// Whether what was freed since the last pass is more than a quarter of what is held, in the same unit.

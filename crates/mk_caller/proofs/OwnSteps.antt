@@ -5,11 +5,9 @@ use Rattle.mk_laws.proofs.Vocabulary.{Answer, Bool, Caller, Config, Decided, Eve
 use Rattle.mk_laws.proofs.Vocabulary.{Option, Seat, Some, Step, World, ℕ, answer_decided, ap, append-nil, call_decided}
 use Rattle.mk_laws.proofs.Vocabulary.{calls, cond, entry_of, eq-eqb, false, flight_of, found, if◌then◌else◌, is_one_of}
 use Rattle.mk_laws.proofs.Vocabulary.{left, map, map-append, ne_eqb, refl, sym, true, world_behind, [], ◌++◌, ◌==◌, ◌∙◌}
-use Rattle.mk_laws.proofs.Vocabulary.{◌∷◌, ◌≡◌, ◌≢◌}
+use Rattle.mk_laws.proofs.{Vocabulary.{◌∷◌, ◌≡◌, ◌≢◌}, ProtocolFrames.other_seat}
 use Rattle.mk_core.proofs.HistoryParts.{calls_in_parts}
-use Rattle.mk_core.specs.Growing.{AreOfOthers, Finding, is_same_seat, own_from}
-use Rattle.mk_core.specs.History.{calls_from, left_from}
-use Rattle.mk_laws.proofs.ProtocolFrames.{other_seat}
+use Rattle.mk_core.specs.{Growing.{AreOfOthers, Finding, is_same_seat, own_from}, History.{calls_from, left_from}}
 use Rattle.mk_words.proofs.Seats.{same_seat, same_self}
 
 own_append : (c : Config) (s : Seat) (w : World) (xs ys : List Event)

@@ -1,18 +1,14 @@
 //! A script's end of the heap.
 ghost use Rattle.std.specs.Prelude.{◌≡◌, ◌≢◌, IfOk, OnOk, OnErr, IfErr, true, false};
-ghost use Rattle.mk_never.specs.declared.operations.Op.TheVariants as op;
-ghost use Rattle.mk_never.specs.declared.values.Value.TheVariants.{Null};
-ghost use Rattle.mk_never.specs.NeverHeap.{is_same};
-ghost use Rattle.mk_core.specs.declared.events.Answer.TheVariants as answer;
-ghost use Rattle.mk_core.specs.Calls.{at_rest};
-ghost use Rattle.mk_core.specs.History.{IsHistory};
-ghost use Rattle.mk_words.specs.Seats.{Has};
-ghost use Rattle.mk_words.specs.States.{call_of};
-ghost use Rattle.mk_caller.specs.declared.refusals.Refusal.TheVariants as refusal;
+ghost use Rattle.mk_never.specs.{declared.values.Value.TheVariants.Null, NeverHeap.is_same};
+ghost use Rattle.mk_core.specs.{Calls.at_rest, History.IsHistory};
+ghost use Rattle.mk_words.specs.{Seats.Has, States.call_of};
 ghost use Rattle.mk_caller.specs.States.{at_home, lent, caller_of_pass, value_of, Admits, IsIdleCaller};
-ghost use Rattle.mk_caller.specs.Called.{Called, Says, IsAnswered};
-ghost use Rattle.mk_caller.specs.Causes.{FindsGateHeld, IsRefused, ProbesAWord};
+ghost use Rattle.mk_caller.specs.{Called.{Called, Says, IsAnswered}, Causes.{FindsGateHeld, IsRefused, ProbesAWord}};
 ghost use Rattle.mk_caller.specs.Comparing.{CallComparesValues};
+ghost use Rattle.mk_never.specs.declared.operations.Op.TheVariants as op;
+ghost use Rattle.mk_core.specs.declared.events.Answer.TheVariants as answer;
+ghost use Rattle.mk_caller.specs.declared.refusals.Refusal.TheVariants as refusal;
 
 use crate::calls;
 use crate::refusals::Refusal;

@@ -1,15 +1,12 @@
 //! The calls of a caller, over the words and its pass.
 ghost use Rattle.std.specs.Prelude.{◌≡◌, ◌≢◌, IfOk, OnOk, OnErr, IfErr};
-ghost use Rattle.mk_never.specs.declared.operations.Op.TheVariants as op;
-ghost use Rattle.mk_never.specs.declared.values.Value.TheVariants.{Null};
-ghost use Rattle.mk_core.specs.declared.events.Answer.TheVariants as answer;
-ghost use Rattle.mk_never.specs.NeverHeap.{is_same};
-ghost use Rattle.mk_caller.specs.States.{caller_of_pass, value_of};
-ghost use Rattle.mk_caller.specs.Called.{Called, Says, IsAnswered};
-ghost use Rattle.mk_caller.specs.Causes.{FindsGateHeld, IsRefused, ProbesAWord};
-ghost use Rattle.mk_caller.specs.Comparing.{CallComparesValues};
-ghost use Rattle.mk_caller.specs.declared.refusals.Refusal.TheVariants as refusal;
+ghost use Rattle.mk_never.specs.{declared.values.Value.TheVariants.Null, NeverHeap.is_same};
+ghost use Rattle.mk_caller.specs.{States.{caller_of_pass, value_of}, Called.{Called, Says, IsAnswered}};
+ghost use Rattle.mk_caller.specs.{Causes.{FindsGateHeld, IsRefused, ProbesAWord}, Comparing.CallComparesValues};
 ghost use Rattle.mk_caller.specs.Moves.{MayBeginCall};
+ghost use Rattle.mk_never.specs.declared.operations.Op.TheVariants as op;
+ghost use Rattle.mk_core.specs.declared.events.Answer.TheVariants as answer;
+ghost use Rattle.mk_caller.specs.declared.refusals.Refusal.TheVariants as refusal;
 
 use crate::accesses::{begin_access, mark_and_leave, probe_access, store_and_leave};
 use crate::refusals::Refusal;

@@ -1,22 +1,18 @@
 //! The steps of a call, each with what is known of the call after it.
 ghost use Rattle.std.specs.Prelude.{◌≡◌, ◌↔◌, OnOk, OnErr, IfSome, IfNone, Some, None, true, ◌+◌, ◌-◌, ◌*◌, ◌/◌, ◌%◌};
 ghost use Rattle.std.specs.Prelude.{◌^◌};
-ghost use Rattle.mk_never.specs.declared.values.Value.TheVariants.{Null};
-ghost use Rattle.mk_core.specs.declared.accesses.Access.TheVariants.{Store};
+ghost use Rattle.mk_never.specs.{declared.values.Value.TheVariants.Null, declared.values.Target.TheVariants.Unmapped};
+ghost use Rattle.mk_core.specs.{declared.accesses.Access.TheVariants.Store, Accesses.{register_met, reg_access}};
+ghost use Rattle.mk_core.specs.Calls.{refused, g_of, i_of, value_written, page_met, word_met};
+ghost use Rattle.mk_words.specs.States.{call_of};
+ghost use Rattle.mk_laws.specs.Images.{has_q, has_some_q};
+ghost use Rattle.mk_caller.specs.{States.{caller_of_pass, value_of}, Causes.{FindsGateHeld, Probes, ProbesAWord}};
+ghost use Rattle.mk_caller.specs.Moves.{MayBeginCall, IsUnderway, CallMoves, CallGoesOn, begins, is_access};
+ghost use Rattle.mk_caller.specs.Moves.{loads_register, stores_register, loads, loads_global, passes, faults, reads};
+ghost use Rattle.mk_caller.specs.Moves.{writes, exchanges, call_ends};
 ghost use Rattle.mk_core.specs.declared.events.Answer.TheVariants as answer;
 ghost use Rattle.mk_core.specs.declared.events.Step.TheVariants as step;
 ghost use Rattle.mk_core.specs.declared.seats.Stage.TheVariants as stage;
-ghost use Rattle.mk_core.specs.Accesses.{register_met, reg_access};
-ghost use Rattle.mk_core.specs.Calls.{refused, g_of, i_of, value_written, page_met};
-ghost use Rattle.mk_core.specs.Calls.{word_met};
-ghost use Rattle.mk_words.specs.States.{call_of};
-ghost use Rattle.mk_laws.specs.Images.{has_q, has_some_q};
-ghost use Rattle.mk_caller.specs.States.{caller_of_pass, value_of};
-ghost use Rattle.mk_never.specs.declared.values.Target.TheVariants.{Unmapped};
-ghost use Rattle.mk_caller.specs.Causes.{FindsGateHeld, Probes, ProbesAWord};
-ghost use Rattle.mk_caller.specs.Moves.{MayBeginCall, IsUnderway, CallMoves, CallGoesOn, begins, is_access};
-ghost use Rattle.mk_caller.specs.Moves.{loads_register, stores_register};
-ghost use Rattle.mk_caller.specs.Moves.{loads, loads_global, passes, faults, reads, writes, exchanges, call_ends};
 
 use mk_geom::{HEAP_START, PAGE_WORDS, WORD_BYTES, is_unmapped};
 use mk_never::Op;

@@ -2,15 +2,12 @@
 use Rattle.std.proofs.Common.{Err, IfOk, Ok, Result}
 use Rattle.mk_laws.proofs.Vocabulary.{Answer, Bool, Config, Event, List, NeverState, Op, ℕ, ap, cases_eq, eq-eqb}
 use Rattle.mk_laws.proofs.Vocabulary.{global_at, inl, inr, is_same, length, never_behind, one_if, refl, subst, sym}
-use Rattle.mk_laws.proofs.Vocabulary.{true, ◌++◌, ◌<◌, ◌∙◌, ◌≡◌, ◌≢◌}
-use Rattle.mk_never.{proofs.Sameness.same_from_equal, specs.Admitted.IsCaller}
-use Rattle.mk_laws.proofs.OtherCalls.{never_continues}
+use Rattle.mk_laws.proofs.{Vocabulary.{true, ◌++◌, ◌<◌, ◌∙◌, ◌≡◌, ◌≢◌}, OtherCalls.never_continues}
+use Rattle.mk_never.{proofs.Sameness.{same_from_equal}, specs.Admitted.{IsCaller}}
 use Rattle.mk_caller.proofs.After.{caller_there, calls_leave_other_registers, set_same, still_caller, value_left}
-use Rattle.mk_caller.specs.States.{Admits, caller_of_pass, never_of, value_of}
-use Rattle.mk_caller.specs.Called.{Called, IsAnswered}
+use Rattle.mk_caller.specs.{States.{Admits, caller_of_pass, never_of, value_of}, Called.{Called, IsAnswered}}
 use Rattle.mk_caller_clients.proofs.Between.{at_once, before, between, decided, never_later, never_there, none_between}
-use Rattle.mk_caller_clients.proofs.Between.{others, place, same_config}
-use Rattle.mk_caller_clients.proofs.Globals.{calls_keep, set_gives}
+use Rattle.mk_caller_clients.proofs.{Between.{others, place, same_config}, Globals.{calls_keep, set_gives}}
 use Rattle.mk_caller_clients.specs.Setters.{HasSeenAllOf, IsOnlySetter, TakesOut, is_set_of}
 use Rattle.mk_words.specs.{States.PassState, declared.call_steps.Held.Held}
 

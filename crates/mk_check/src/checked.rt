@@ -1,8 +1,7 @@
 //! Programs that are well typed.
 ghost use Rattle.std.specs.Prelude.{◌≡◌, ◌≤◌, length, IfOk, IfErr, OnOk};
 ghost use Rattle.mk_core.specs.Config.{IsWithinLimits};
-ghost use Rattle.mk_script.specs.Grammar.{IsOfSomeText};
-ghost use Rattle.mk_script.specs.Scopes.{script_names};
+ghost use Rattle.mk_script.specs.{Grammar.IsOfSomeText, Scopes.script_names};
 ghost use Rattle.mk_check.specs.Declarations.{pages_of, resident_of, config_of};
 ghost use Rattle.mk_check.specs.Typing.{IsWellTyped, NamesFirstFault};
 
@@ -24,8 +23,7 @@ pub struct Checked {
 
 impl Model for Checked {
     ghost use Rattle.std.specs.Prelude.{List};
-    ghost use Rattle.mk_script.specs.declared.items.Item.{Item};
-    ghost use Rattle.mk_script.specs.Grammar.{IsOfSomeText};
+    ghost use Rattle.mk_script.specs.{declared.items.Item.Item, Grammar.IsOfSomeText};
     ghost use Rattle.mk_check.specs.Typing.{IsWellTyped};
 
     ghost Value = { List Item };

@@ -1,8 +1,7 @@
 //! Checks a program line by line.
 ghost use Rattle.std.specs.Prelude.{◌≡◌, ℕ, List, IfOk, IfErr, OnOk};
 ghost use Rattle.mk_script.specs.declared.items.Item.TheVariants.{Script};
-ghost use Rattle.mk_check.specs.Lookups.{around};
-ghost use Rattle.mk_check.specs.Typing.{Around, typing_fault, IsWellTyped, NamesFirstFault};
+ghost use Rattle.mk_check.specs.{Lookups.around, Typing.{Around, typing_fault, IsWellTyped, NamesFirstFault}};
 
 use crate::lengths::{items_of_script, script_length};
 use crate::lookups::Lookups;

@@ -44,10 +44,9 @@ impl Model for Feed {
 impl Feed {
     ghost use Rattle.std.specs.Prelude.{ℕ, List, false};
     ghost use Rattle.mk_core.specs.declared.events.Answer.{Answer};
-    ghost use Rattle.mk_script.specs.declared.items.Item.{Item};
-    ghost use Rattle.mk_check.specs.Feed.{feed, has_ended};
-    ghost use Rattle.mk_script.specs.Grammar.{IsOfSomeText};
-    ghost use Rattle.mk_check.specs.Feeding.{next_op, work_left, FeedStandsFor, IsWaiting, TakesAnswer};
+    ghost use Rattle.mk_script.specs.{declared.items.Item.Item, Grammar.IsOfSomeText};
+    ghost use Rattle.mk_check.specs.{Feed.{feed, has_ended}, Feeding.{next_op, work_left, FeedStandsFor, IsWaiting}};
+    ghost use Rattle.mk_check.specs.Feeding.{TakesAnswer};
 
     /// Script `script` of a program, from 0 on, which has no answer yet.
     pub fn start(alloc: Global, program: &Checked, script: u64) -> Result<Feed, NoMemory>

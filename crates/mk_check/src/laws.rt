@@ -2,11 +2,9 @@
 ghost use Rattle.std.specs.Prelude.{ℕ, ◌≤◌, List, [], length};
 ghost use Rattle.mk_never.specs.NeverHeap.{Call};
 ghost use Rattle.mk_core.specs.declared.events.Answer.{Answer};
-ghost use Rattle.mk_script.specs.declared.items.Item.{Item};
-ghost use Rattle.mk_script.specs.Scopes.{script_names};
+ghost use Rattle.mk_script.specs.{declared.items.Item.Item, Scopes.script_names};
 ghost use Rattle.mk_check.specs.Laws.{IsChecked, IsScript, AreNotedBy, AnswersAreNoted, OthersAreIgnored};
-ghost use Rattle.mk_check.specs.Laws.{AreAdmittedFor, NextIsAdmitted, AreOfScripts};
-ghost use Rattle.mk_check.specs.Output.{EndedCallsAreAnswered};
+ghost use Rattle.mk_check.specs.{Laws.{AreAdmittedFor, NextIsAdmitted, AreOfScripts}, Output.EndedCallsAreAnswered};
 ghost use Rattle.mk_check.specs.WrittenBlocks.{ScriptsAreTheirLines};
 
 /// What a script asks for next is admitted: after any admitted calls, whatever their other callers did, if

@@ -1,8 +1,7 @@
 //! How many instructions a script executes at most.
 ghost use Rattle.std.specs.Prelude.{◌≡◌, ℕ, ◌-◌, ◌^◌, [], ◌∷◌, OnOk, IfOk, min};
+ghost use Rattle.mk_check.specs.{Blocks.{blocks_from, before_next_script}, Lengths.length_of};
 ghost use Rattle.mk_script.specs.Scopes as scopes;
-ghost use Rattle.mk_check.specs.Blocks.{blocks_from, before_next_script};
-ghost use Rattle.mk_check.specs.Lengths.{length_of};
 
 use mk_never::NoMemory;
 use mk_script::Item;

@@ -1,12 +1,9 @@
 //! What names stand for, as the lines of a program are read.
 ghost use Rattle.std.specs.Prelude.{◌≡◌, ◌+◌, ◌<◌, List, [], ◌∷◌, ◌++◌, length, map, IfOk, OnOk, OnErr};
-ghost use Rattle.std.specs.List.{list_any};
-ghost use Rattle.std.specs.Option.{option_copied};
-ghost use Rattle.std.specs.Str.{bytes_eq};
-ghost use Rattle.mk_script.specs.declared.items.Item.{Item};
-ghost use Rattle.mk_script.specs.Scopes.{number_names};
-ghost use Rattle.mk_check.specs.Typing.{type_words, global_type, pointer_at};
-ghost use Rattle.mk_check.specs.Lookups.{around, AddsFirst, KeepsValues};
+ghost use Rattle.std.specs.{List.list_any, Option.option_copied, Str.bytes_eq};
+ghost use Rattle.mk_script.specs.{declared.items.Item.Item, Scopes.number_names};
+ghost use Rattle.mk_check.specs.{Typing.{type_words, global_type, pointer_at}, Lookups.{around, AddsFirst}};
+ghost use Rattle.mk_check.specs.Lookups.{KeepsValues};
 
 use mk_never::NoMemory;
 use mk_script::{At, Item, Name, TypeWord};

@@ -21,8 +21,7 @@ pub struct TypeNumbers<'a> {
 
 impl<'a> Model for TypeNumbers<'a> {
     ghost use Rattle.std.specs.Prelude.{List};
-    ghost use Rattle.mk_script.specs.declared.items.Item.{Item};
-    ghost use Rattle.mk_script.specs.Scopes.{type_names};
+    ghost use Rattle.mk_script.specs.{declared.items.Item.Item, Scopes.type_names};
     ghost use Rattle.mk_check.specs.Numbers.{AreNumbers};
 
     ghost Value = { List Item };

@@ -1,11 +1,8 @@
 //! Rules for lines: what is wrong with each.
-ghost use Rattle.std.specs.Prelude.{◌≡◌, ℕ, false, List, Some, is_some, option_map};
-ghost use Rattle.std.specs.Option.{option_copied};
-ghost use Rattle.mk_script.specs.declared.items.Item.{Item};
-ghost use Rattle.mk_script.specs.Scopes.{is_script};
-ghost use Rattle.mk_check.specs.Lookups.{around};
-ghost use Rattle.mk_check.specs.Rules.{at_of, fault_of_sort, is_declaration, is_number_access, is_pointer_access};
-ghost use Rattle.mk_check.specs.Rules.{is_pointer_line, is_number_line};
+ghost use Rattle.std.specs.{Prelude.{◌≡◌, ℕ, false, List, Some, is_some, option_map}, Option.option_copied};
+ghost use Rattle.mk_script.specs.{declared.items.Item.Item, Scopes.is_script};
+ghost use Rattle.mk_check.specs.{Lookups.around, Rules.{at_of, fault_of_sort, is_declaration, is_number_access}};
+ghost use Rattle.mk_check.specs.Rules.{is_pointer_access, is_pointer_line, is_number_line};
 ghost use Rattle.mk_check.specs.Typing as rule;
 ghost use Rattle.mk_check.specs.declared.typing_faults.TypeKind.TheVariants as kind;
 

@@ -2,12 +2,11 @@
 use Rattle.mk_core.proofs.Vocabulary.{Bool, NeverState, Null, Ptr, Value, ℕ, all_below, and_parts, ap, calls_from}
 use Rattle.mk_core.proofs.Vocabulary.{false, false≢true, left_from, list_all, never_behind, not, pointed_cell, refl}
 use Rattle.mk_core.proofs.Vocabulary.{replicate, subst, suc, sym, true, zero, [], ◌&&◌, ◌||◌, ◌∙◌, ◌∷◌, ◌≡◌}
-use Rattle.mk_never.proofs.Reached.{reached_is_in}
-use Rattle.mk_never.specs.NeverHeap.{Allocation, allocation_at, is_unmapped, no_allocation, word_at}
-use Rattle.mk_never.specs.Reach.{IsClosedUnderPointers, IsReachable, LeadsTo, by_register, by_word}
-use Rattle.mk_never.specs.declared.values.Value.TheVariants.{Num}
 use Rattle.mk_core.proofs.ListTests.{implied, list_all-at, numbered_all, numbered_all-at}
 use Rattle.mk_core.proofs.SmallCycles.{begun_in_stop, small, three_objects}
+use Rattle.mk_never.{proofs.Reached.{reached_is_in}, specs.declared.values.Value.TheVariants.{Num}}
+use Rattle.mk_never.specs.NeverHeap.{Allocation, allocation_at, is_unmapped, no_allocation, word_at}
+use Rattle.mk_never.specs.Reach.{IsClosedUnderPointers, IsReachable, LeadsTo, by_register, by_word}
 
 -- A set is closed under pointers, as a test.
 

@@ -1,11 +1,9 @@
 //! Laws of histories: facts alone, with no code.
 ghost use Rattle.std.specs.Prelude.{ℕ, Bool, List};
-ghost use Rattle.mk_core.specs.declared.config.Config.{Config};
-ghost use Rattle.mk_core.specs.Enabled.{EnabledEventsMeetAll};
+ghost use Rattle.mk_core.specs.{declared.config.Config.Config, Enabled.EnabledEventsMeetAll};
 ghost use Rattle.mk_core.specs.HistoryLaws.{LeftInParts, EnabledInParts, CallsInParts, NeverInParts};
 ghost use Rattle.mk_core.specs.HistoryLaws.{NeverRepliesInParts, CallsAreAdmittedInParts, EarlierPartIsHistory};
-ghost use Rattle.mk_core.specs.HistoryLaws.{BitsWithout, LargeIsNotSmall};
-ghost use Rattle.mk_core.specs.Cycles.{Marking};
+ghost use Rattle.mk_core.specs.{HistoryLaws.{BitsWithout, LargeIsNotSmall}, Cycles.Marking};
 ghost use Rattle.mk_core.specs.Touched.{TouchedIsClosed, TouchedIsLeast};
 
 use crate::Event;

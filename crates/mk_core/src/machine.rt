@@ -1,7 +1,6 @@
 //! The core: one moment of a heap's history, and its step.
 ghost use Rattle.std.specs.Prelude.{◌≡◌, ◌<◌, slice_index_or};
-ghost use Rattle.mk_core.specs.Config.{IsWithinLimits};
-ghost use Rattle.mk_core.specs.Moments.{flight_of, marker_of};
+ghost use Rattle.mk_core.specs.{Config.IsWithinLimits, Moments.{flight_of, marker_of}};
 
 use crate::table::Table;
 use crate::{Config, Flight, Holding, Marker, OwnCycle, Placing, Presence, Seat, Stage};

@@ -2,8 +2,7 @@
 //! kind asks. The definitions name every kind. Here `_` stands for those of which a condition asks nothing, since the
 //! proof refuses it where it takes another.
 ghost use Rattle.std.specs.Prelude.{◌≡◌, ◌*◌, nat_lt};
-ghost use Rattle.mk_core.specs.Moments.{is_number_of, is_held, others_are_held, none_is_held};
-ghost use Rattle.mk_core.specs.NewPlaces.{target};
+ghost use Rattle.mk_core.specs.{Moments.{is_number_of, is_held, others_are_held, none_is_held}, NewPlaces.target};
 ghost use Rattle.mk_core.specs.Ranges.{is_word, is_other_caller, is_word_met, is_in_range, is_run_cell, has_gates};
 ghost use Rattle.mk_core.specs.Ranges.{has_phase, may_look_at};
 

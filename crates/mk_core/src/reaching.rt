@@ -1,16 +1,12 @@
 //! Which word each event reaches, and how.
 ghost use Rattle.std.specs.Prelude.{◌≡◌, ◌+◌, ◌%◌, ◌^◌, IsTrue};
-ghost use Rattle.mk_core.specs.declared.events.Word.TheVariants as word;
 ghost use Rattle.mk_geom.specs.Addresses.{address_of};
-ghost use Rattle.mk_core.specs.Bits.{bit_for};
-ghost use Rattle.mk_core.specs.Calls.{word_met};
-ghost use Rattle.mk_core.specs.Order.{seat_exists};
-ghost use Rattle.mk_core.specs.Ranges.{is_in_range, is_word_met};
-ghost use Rattle.mk_core.specs.NewPlaces.{object_made, base_made};
-ghost use Rattle.mk_core.specs.MarkerConditions.{cell_seen};
-ghost use Rattle.mk_core.specs.Moments.{flight_of, marker_at, holder_number};
-ghost use Rattle.mk_core.specs.Accesses.{caller_number, register_met, reg_access, tally_word, granted_base, next_word};
-ghost use Rattle.mk_core.specs.Accesses.{scan_page, scan_bit, seen_page, seen_bit, word_accessed, access};
+ghost use Rattle.mk_core.specs.{Bits.bit_for, Calls.word_met, Order.seat_exists, Ranges.{is_in_range, is_word_met}};
+ghost use Rattle.mk_core.specs.{NewPlaces.{object_made, base_made}, MarkerConditions.cell_seen};
+ghost use Rattle.mk_core.specs.{Moments.{flight_of, marker_at, holder_number}, Accesses.{caller_number, register_met}};
+ghost use Rattle.mk_core.specs.Accesses.{reg_access, tally_word, granted_base, next_word, scan_page, scan_bit};
+ghost use Rattle.mk_core.specs.Accesses.{seen_page, seen_bit, word_accessed, access};
+ghost use Rattle.mk_core.specs.declared.events.Word.TheVariants as word;
 
 use crate::calls::{
     global_of, page_met, register_d, register_p, register_q, register_r, value_for, value_written,

@@ -1,12 +1,9 @@
 //! What a marker is at after its steps, and the cell that it has seen.
 ghost use Rattle.std.specs.Prelude.{◌≡◌, ◌<◌, ◌≤◌, ◌==◌, ◌%◌, IsTrue, true, if◌then◌else◌};
 ghost use Rattle.mk_geom.specs.Addresses.{page_at_address};
-ghost use Rattle.mk_core.specs.Calls.{at_rest};
-ghost use Rattle.mk_core.specs.Effects.{scan_begun, scan_claimed, scan_onward, open_hand, hand_behind_look};
-ghost use Rattle.mk_core.specs.Effects.{behind_mlook, marker_behind};
-ghost use Rattle.mk_core.specs.Enabled.{marker_may};
-ghost use Rattle.mk_core.specs.MarkerConditions.{cell_seen, has_next_word};
-ghost use Rattle.mk_core.specs.Ranges.{is_in_range};
+ghost use Rattle.mk_core.specs.{Calls.at_rest, Effects.{scan_begun, scan_claimed, scan_onward, open_hand}};
+ghost use Rattle.mk_core.specs.{Effects.{hand_behind_look, behind_mlook, marker_behind}, Enabled.marker_may};
+ghost use Rattle.mk_core.specs.{MarkerConditions.{cell_seen, has_next_word}, Ranges.is_in_range};
 ghost use Rattle.mk_core.specs.declared.events.Seat.TheVariants.{Marker as MarkerSeat};
 
 use crate::cells::{has_bit, has_no_pointers, words_under};

@@ -6,8 +6,7 @@ ghost use Rattle.mk_core.specs.NewPlaces.{object_made, pages_made, header_made, 
 ghost use Rattle.mk_core.specs.TurnConditions.{is_marked_first, carves, unmaps, empties, may_head, takes_cell};
 ghost use Rattle.mk_core.specs.TurnConditions.{is_used_once, are_wiped, gives_back, may_use, takes_snapshot, drops};
 ghost use Rattle.mk_core.specs.TurnConditions.{may_quarantine, is_decided, may_give, may_answer_full, is_in_gone_run};
-ghost use Rattle.mk_core.specs.TurnConditions.{may_wipe};
-ghost use Rattle.mk_core.specs.TurnConditions.{place_now};
+ghost use Rattle.mk_core.specs.TurnConditions.{may_wipe, place_now};
 
 use crate::bounded::all_below;
 use crate::cells::{has_bit, without};

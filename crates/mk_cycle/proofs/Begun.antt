@@ -5,13 +5,11 @@ use Rattle.mk_laws.proofs.Vocabulary.{append_assoc, false, found, if◌then◌el
 use Rattle.mk_laws.proofs.Vocabulary.{not, not-true, or_from, refl, subst, sym, through, true, true≢false, world_behind}
 use Rattle.mk_laws.proofs.Vocabulary.{[], ◌&&◌, ◌++◌, ◌∙◌, ◌∷◌, ◌≡◌}
 use Rattle.mk_cycle.proofs.Vocabulary.{Has, Makes, PassState, does_step, event_of, holds_gates, is_giving_back}
-use Rattle.mk_cycle.proofs.Vocabulary.{only_seen_by, sets_tallies}
-use Rattle.mk_core.specs.{Cycles.is_give, Growing.AreOfOthers, Growing.Finding, Growing.is_same_seat, Growing.own_from}
-use Rattle.mk_cycle.proofs.InParts.{InFirst, InSecond, in_parts}
+use Rattle.mk_cycle.proofs.{Vocabulary.{only_seen_by, sets_tallies}, InParts.{InFirst, InSecond, in_parts}}
+use Rattle.mk_core.specs.{Cycles.is_give, Growing.{AreOfOthers, Finding, is_same_seat, own_from}}
 use Rattle.mk_cycle.specs.Begun.{AreBegunFirst, DoesNothing, EachIsBegun, IsBegun, IsBegunFirst}
-use Rattle.mk_cycle.specs.{FinishCycle.FinishesCycle, Kinds.begins_marking, Kinds.closes_marks}
-use Rattle.mk_turns.proofs.{Doing.not_own, Doing.own_in_parts, Sweeping.only_seen}
-use Rattle.mk_turns.specs.Doing.{Does, are_of}
+use Rattle.mk_cycle.specs.{FinishCycle.FinishesCycle, Kinds.{begins_marking, closes_marks}}
+use Rattle.mk_turns.{proofs.{Doing.{not_own, own_in_parts}, Sweeping.only_seen}, specs.Doing.{Does, are_of}}
 use Rattle.mk_words.proofs.Seats.{same_self}
 
 -- These kinds of step have no `begin` among them.

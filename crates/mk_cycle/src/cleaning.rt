@@ -2,13 +2,10 @@
 //! use are looked at, free pages that may be marked, and pages that have freed cells. A word that has the right value
 //! already isn't stored to.
 ghost use Rattle.std.specs.Prelude.{◌≡◌, ◌≢◌, ◌<◌, ℕ, true, false};
-ghost use Rattle.mk_core.specs.Ranges.{is_word};
-ghost use Rattle.mk_core.specs.Words.{header_at, named_word};
-ghost use Rattle.mk_words.specs.PageMaps.{HasNoMarks};
-ghost use Rattle.mk_words.specs.States.{now_of};
+ghost use Rattle.mk_core.specs.{Ranges.is_word, Words.{header_at, named_word}};
+ghost use Rattle.mk_words.specs.{PageMaps.HasNoMarks, States.now_of};
 ghost use Rattle.mk_cycle.specs.Cleaning.{Cleans, IsUnmarked, IsUnscanned, HasTakenSnapshot, IsClean, IsCleanedPage};
-ghost use Rattle.mk_cycle.specs.Cleaning.{WasUndirty};
-ghost use Rattle.mk_cycle.specs.EngineLaw.{IsTurnAt, is_register};
+ghost use Rattle.mk_cycle.specs.{Cleaning.WasUndirty, EngineLaw.{IsTurnAt, is_register}};
 
 use crate::bits::FREED_END;
 use crate::turn_steps::{in_turn, look, look_among, next_in_use, next_quarantined, next_uncleaned};

@@ -1,13 +1,10 @@
 //! Engines: how the marks of a cycle are made.
 ghost use Rattle.std.specs.Prelude.{◌≡◌, ℕ, Bool, false, IfOk, List};
-ghost use Rattle.mk_core.specs.declared.config.Config.{Config};
-ghost use Rattle.mk_core.specs.declared.events.Event.{Event};
-ghost use Rattle.mk_core.specs.declared.events.Seat.{Seat};
+ghost use Rattle.mk_core.specs.{declared.config.Config.Config, declared.events.Event.Event, declared.events.Seat.Seat};
 ghost use Rattle.mk_core.specs.History.{World};
 ghost use Rattle.mk_turns.specs.Sweeping.{SweepsNothing};
 ghost use Rattle.mk_words.specs.States.{PassState};
-ghost use Rattle.mk_cycle.specs.Begun.{IsBegun};
-ghost use Rattle.mk_cycle.specs.EngineLaw.{IsFreeForCycle, IsAtPhase, BeginsMarking, ClosesMarks};
+ghost use Rattle.mk_cycle.specs.{Begun.IsBegun, EngineLaw.{IsFreeForCycle, IsAtPhase, BeginsMarking, ClosesMarks}};
 ghost use Rattle.mk_cycle.specs.Telling.{IsToldOf};
 
 use mk_never::NoMemory;

@@ -1,10 +1,8 @@
 //! The end of a cycle.
 ghost use Rattle.std.specs.Prelude.{◌≡◌, false};
 ghost use Rattle.mk_turns.specs.Sweeping.{SweepsNothing};
-ghost use Rattle.mk_cycle.specs.Closing.{IsClosedBy};
-ghost use Rattle.mk_cycle.specs.EngineLaw.{IsFreeForCycle, IsAtPhase};
-ghost use Rattle.mk_cycle.specs.FinishCycle.{FinishesCycle, HasReleased};
-ghost use Rattle.mk_cycle.specs.Telling.{IsToldAtClose};
+ghost use Rattle.mk_cycle.specs.{Closing.IsClosedBy, EngineLaw.{IsFreeForCycle, IsAtPhase}};
+ghost use Rattle.mk_cycle.specs.{FinishCycle.{FinishesCycle, HasReleased}, Telling.IsToldAtClose};
 
 use crate::engine::Engine;
 use crate::giving::give_all_back;

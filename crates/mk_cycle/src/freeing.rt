@@ -1,10 +1,8 @@
 //! Released cells are given back page by page, and pages on which nothing is left are free again.
 ghost use Rattle.std.specs.Prelude.{◌≡◌, ◌<◌, ◌≤◌};
-ghost use Rattle.mk_core.specs.Cells.{left_unmarked};
-ghost use Rattle.mk_core.specs.Words.{header_at};
+ghost use Rattle.mk_core.specs.{Cells.left_unmarked, Words.header_at};
 ghost use Rattle.mk_words.specs.States.{now_of};
-ghost use Rattle.mk_cycle.specs.EngineLaw.{IsTurnAt};
-ghost use Rattle.mk_cycle.specs.Freeing.{GivesBack, HasFreeCells, IsQuarantineWord};
+ghost use Rattle.mk_cycle.specs.{EngineLaw.IsTurnAt, Freeing.{GivesBack, HasFreeCells, IsQuarantineWord}};
 ghost use Rattle.mk_cycle.specs.ReleasedPages.{IsOfOnePage, held_unmarked, released_on};
 
 use crate::bits::FREED_END;

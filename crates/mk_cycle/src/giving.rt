@@ -2,10 +2,8 @@
 ghost use Rattle.std.specs.Prelude.{◌≡◌, true};
 ghost use Rattle.mk_core.specs.Moments.{none_is_held};
 ghost use Rattle.mk_words.specs.States.{now_of};
-ghost use Rattle.mk_cycle.specs.Closing.{ClosesAsPromised};
-ghost use Rattle.mk_cycle.specs.EngineLaw.{IsFreeForCycle, IsAtPhase};
-ghost use Rattle.mk_cycle.specs.FinishCycle.{HasReleased, HoldsFewer};
-ghost use Rattle.mk_cycle.specs.Freeing.{GivesNothingBack};
+ghost use Rattle.mk_cycle.specs.{Closing.ClosesAsPromised, EngineLaw.{IsFreeForCycle, IsAtPhase}};
+ghost use Rattle.mk_cycle.specs.{FinishCycle.{HasReleased, HoldsFewer}, Freeing.GivesNothingBack};
 ghost use Rattle.mk_cycle.specs.GivingAll.{GivesAllBack};
 
 use crate::engine::Engine;

@@ -2,8 +2,7 @@
 ghost use Rattle.std.specs.Prelude.{◌≡◌, ◌<◌, true, false};
 ghost use Rattle.mk_core.specs.Moments.{is_held, is_number_of, others_are_held};
 ghost use Rattle.mk_words.specs.States.{now_of};
-ghost use Rattle.mk_cycle.specs.EngineLaw.{IsFreeForCycle};
-ghost use Rattle.mk_cycle.specs.Holding.{HoldsGates, IsHeldOrOwn};
+ghost use Rattle.mk_cycle.specs.{EngineLaw.IsFreeForCycle, Holding.{HoldsGates, IsHeldOrOwn}};
 
 use crate::turn_steps::{in_turn, look};
 use crossbeam_utils::Backoff;

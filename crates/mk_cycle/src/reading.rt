@@ -1,10 +1,8 @@
 //! A page's header word with what it says. The giving back needs several numbers of it, so the word is decoded once a
 //! page.
 ghost use Rattle.std.specs.Prelude.{◌≡◌, ◌+◌, ◌*◌, ◌≤◌};
-ghost use Rattle.mk_core.specs.Cells.{is_unmapped_header, words_under};
-ghost use Rattle.mk_core.specs.Counts.{in_a_word};
-ghost use Rattle.mk_geom.specs.Addresses.{head_page_under};
-ghost use Rattle.mk_geom.specs.Headers.{header_of};
+ghost use Rattle.mk_core.specs.{Cells.{is_unmapped_header, words_under}, Counts.in_a_word};
+ghost use Rattle.mk_geom.specs.{Addresses.head_page_under, Headers.header_of};
 ghost use Rattle.mk_laws.specs.LayoutScene.{run_count};
 
 use mk_geom::{Header, PAGE_WORDS, class_words, decode};

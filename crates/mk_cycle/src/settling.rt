@@ -1,14 +1,12 @@
 //! Page by page, what was released is counted and given back, and pages on which nothing is left are freed: in one
 //! pass, which looks at the pages that have freed cells, and at the later pages of their runs.
 ghost use Rattle.std.specs.Prelude.{◌≡◌, ◌<◌, ◌≤◌, ℕ};
-ghost use Rattle.mk_core.specs.Cells.{head_page, left_unmarked};
-ghost use Rattle.mk_core.specs.Words.{header_at};
+ghost use Rattle.mk_core.specs.{Cells.{head_page, left_unmarked}, Words.header_at};
 ghost use Rattle.mk_page_map.specs.Members.{IsNext};
 ghost use Rattle.mk_words.specs.States.{now_of};
-ghost use Rattle.mk_cycle.specs.EngineLaw.{IsTurnAt};
-ghost use Rattle.mk_cycle.specs.Freeing.{Frees, FreesPage, HasFreeCells, IsOccupied, IsSettledPage, may_be_unsettled};
-ghost use Rattle.mk_cycle.specs.ReleasedPages.{IsOfOnePage, held_below, held_unmarked, released_below, released_on};
-ghost use Rattle.mk_cycle.specs.TurnKeeps.{InTurn};
+ghost use Rattle.mk_cycle.specs.{EngineLaw.IsTurnAt, Freeing.{Frees, FreesPage, HasFreeCells, IsOccupied}};
+ghost use Rattle.mk_cycle.specs.{Freeing.{IsSettledPage, may_be_unsettled}, ReleasedPages.{IsOfOnePage, held_below}};
+ghost use Rattle.mk_cycle.specs.{ReleasedPages.{held_unmarked, released_below, released_on}, TurnKeeps.InTurn};
 
 use crate::finishing::Released;
 use crate::freeing::release_cells;

@@ -1,14 +1,10 @@
 //! Looks of a turn that is free for a cycle, at the words and at the page map.
 ghost use Rattle.std.specs.Prelude.{◌≡◌, ◌<◌, true, false};
-ghost use Rattle.mk_core.specs.declared.events.Step.TheVariants as step;
-ghost use Rattle.mk_core.specs.Ranges.{is_word};
-ghost use Rattle.mk_core.specs.Words.{named_word, page_of};
+ghost use Rattle.mk_core.specs.{Ranges.is_word, Words.{named_word, page_of}};
 ghost use Rattle.mk_page_map.specs.Members.{IsNext, has_freed_cells, is_in_use};
-ghost use Rattle.mk_words.specs.PageMaps.{IsNextUncleaned};
-ghost use Rattle.mk_words.specs.States.{now_of};
-ghost use Rattle.mk_words.specs.TurnSteps.{Acts};
-ghost use Rattle.mk_cycle.specs.EngineLaw.{IsFreeForCycle, is_register};
-ghost use Rattle.mk_cycle.specs.TurnKeeps.{InTurn};
+ghost use Rattle.mk_words.specs.{PageMaps.IsNextUncleaned, States.now_of, TurnSteps.Acts};
+ghost use Rattle.mk_cycle.specs.{EngineLaw.{IsFreeForCycle, is_register}, TurnKeeps.InTurn};
+ghost use Rattle.mk_core.specs.declared.events.Step.TheVariants as step;
 
 use mk_core::Word;
 use mk_geom::Page;

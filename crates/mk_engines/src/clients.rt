@@ -1,8 +1,7 @@
 //! Clients: who has a turn that is free for a cycle may begin one with an engine of this crate, and nothing more is
 //! asked.
 ghost use Rattle.std.specs.Prelude.{◌≡◌, OnOk};
-ghost use Rattle.mk_cycle.specs.BeginCycle.{BeginsCycle};
-ghost use Rattle.mk_cycle.specs.Begun.{EachIsBegun, IsBegun};
+ghost use Rattle.mk_cycle.specs.{BeginCycle.BeginsCycle, Begun.{EachIsBegun, IsBegun}};
 ghost use Rattle.mk_cycle.specs.EngineLaw.{IsFreeForCycle, IsAtPhase};
 ghost use Rattle.mk_engines.specs.Roots.{MarksRoots};
 

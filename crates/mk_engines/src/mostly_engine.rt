@@ -1,10 +1,8 @@
 //! The engine that marks beside the callers, and then in the stop what is left.
 ghost use Rattle.std.specs.Prelude.{◌≡◌, true, false, ⊤};
-ghost use Rattle.mk_cycle.specs.Begun.{IsBegun};
-ghost use Rattle.mk_cycle.specs.EngineLaw.{IsFreeForCycle, IsAtPhase, BeginsMarking, ClosesMarks};
+ghost use Rattle.mk_cycle.specs.{Begun.IsBegun, EngineLaw.{IsFreeForCycle, IsAtPhase, BeginsMarking, ClosesMarks}};
 ghost use Rattle.mk_turns.specs.Sweeping.{SweepsNothing};
-ghost use Rattle.mk_tracing.specs.Grays.{TracesReached};
-ghost use Rattle.mk_tracing.specs.Tracing.{Traces, is_tracing};
+ghost use Rattle.mk_tracing.specs.{Grays.TracesReached, Tracing.{Traces, is_tracing}};
 ghost use Rattle.mk_engines.specs.Roots.{MarksRoots};
 
 use crate::roots::mark_roots;

@@ -1,15 +1,11 @@
 //! Marks from the roots beside the callers: their registers, and the globals. What a root points into is marked before
 //! the next one is looked at.
 ghost use Rattle.std.specs.Prelude.{◌≡◌, ◌<◌, ℕ, true, false};
-ghost use Rattle.mk_core.specs.declared.events.Word.TheVariants as word;
-ghost use Rattle.mk_core.specs.Moments.{is_number_of};
-ghost use Rattle.mk_core.specs.Ranges.{is_word};
-ghost use Rattle.mk_cycle.specs.Begun.{IsBegun};
-ghost use Rattle.mk_cycle.specs.Holding.{IsHeldOrOwn};
-ghost use Rattle.mk_cycle.specs.TurnKeeps.{KeepsGates};
+ghost use Rattle.mk_core.specs.{Moments.is_number_of, Ranges.is_word};
+ghost use Rattle.mk_cycle.specs.{Begun.IsBegun, Holding.IsHeldOrOwn, TurnKeeps.KeepsGates};
 ghost use Rattle.mk_tracing.specs.Stops.{is_root};
-ghost use Rattle.mk_engines.specs.Beside.{GoesBeside, IsBeside, IsOpenToLook, LooksAt};
-ghost use Rattle.mk_engines.specs.Roots.{MarksRoots};
+ghost use Rattle.mk_engines.specs.{Beside.{GoesBeside, IsBeside, IsOpenToLook, LooksAt}, Roots.MarksRoots};
+ghost use Rattle.mk_core.specs.declared.events.Word.TheVariants as word;
 
 use crate::gates::hold_gate;
 use crate::steps::{look_at_root, open_gate};

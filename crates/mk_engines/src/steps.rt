@@ -1,13 +1,9 @@
 //! Steps of a turn while a cycle marks, beside callers and markers.
 ghost use Rattle.std.specs.Prelude.{◌≡◌, ◌<◌, true, false};
-ghost use Rattle.mk_core.specs.Cells.{is_marked};
-ghost use Rattle.mk_core.specs.Moments.{is_held, is_number_of};
-ghost use Rattle.mk_core.specs.Ranges.{is_word};
-ghost use Rattle.mk_core.specs.Words.{named_word};
+ghost use Rattle.mk_core.specs.{Cells.is_marked, Moments.{is_held, is_number_of}, Ranges.is_word, Words.named_word};
 ghost use Rattle.mk_words.specs.States.{now_of};
 ghost use Rattle.mk_cycle.specs.TurnKeeps.{KeepsGates};
-ghost use Rattle.mk_tracing.specs.Grays.{IsInHand, HandPointsInto};
-ghost use Rattle.mk_tracing.specs.Stops.{hand_of, is_root};
+ghost use Rattle.mk_tracing.specs.{Grays.{IsInHand, HandPointsInto}, Stops.{hand_of, is_root}};
 ghost use Rattle.mk_engines.specs.Beside.{FindsInRoot, GoesBeside, IsBeside, IsOpenToLook, KeepsOtherGates};
 ghost use Rattle.mk_engines.specs.Beside.{gives_no_hand};
 

@@ -1,10 +1,9 @@
 //! The engine that makes all marks in the stop.
 ghost use Rattle.std.specs.Prelude.{◌≡◌, false, ⊤};
-ghost use Rattle.mk_cycle.specs.Begun.{DoesNothing, IsBegun};
-ghost use Rattle.mk_cycle.specs.EngineLaw.{IsFreeForCycle, IsAtPhase, BeginsMarking, ClosesMarks};
+ghost use Rattle.mk_cycle.specs.{Begun.{DoesNothing, IsBegun}, EngineLaw.{IsFreeForCycle, IsAtPhase, BeginsMarking}};
+ghost use Rattle.mk_cycle.specs.EngineLaw.{ClosesMarks};
 ghost use Rattle.mk_turns.specs.Sweeping.{SweepsNothing};
-ghost use Rattle.mk_tracing.specs.Grays.{TracesReached};
-ghost use Rattle.mk_tracing.specs.Tracing.{Traces, is_tracing};
+ghost use Rattle.mk_tracing.specs.{Grays.TracesReached, Tracing.{Traces, is_tracing}};
 
 use crate::stopping::{MOST_PAGES, close_by_tracing};
 use mk_cycle::Engine;

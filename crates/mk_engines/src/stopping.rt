@@ -2,8 +2,7 @@
 ghost use Rattle.std.specs.Prelude.{◌≡◌};
 ghost use Rattle.mk_cycle.specs.EngineLaw.{IsFreeForCycle, IsAtPhase, ClosesMarks};
 ghost use Rattle.mk_turns.specs.Sweeping.{SweepsNothing};
-ghost use Rattle.mk_tracing.specs.Grays.{TracesReached};
-ghost use Rattle.mk_tracing.specs.Tracing.{Traces, is_tracing};
+ghost use Rattle.mk_tracing.specs.{Grays.TracesReached, Tracing.{Traces, is_tracing}};
 
 use mk_tracing::{Worklist, close_marks};
 use mk_words::{Stopped, Words};

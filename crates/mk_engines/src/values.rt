@@ -3,8 +3,7 @@ ghost use Rattle.std.specs.Prelude.{◌≡◌, ◌<◌, true};
 ghost use Rattle.mk_core.specs.Cells.{is_marked, points_well};
 ghost use Rattle.mk_words.specs.States.{now_of};
 ghost use Rattle.mk_cycle.specs.TurnKeeps.{KeepsGates};
-ghost use Rattle.mk_tracing.specs.Grays.{IsInHand};
-ghost use Rattle.mk_tracing.specs.Stops.{hand_of};
+ghost use Rattle.mk_tracing.specs.{Grays.IsInHand, Stops.hand_of};
 ghost use Rattle.mk_engines.specs.Beside.{GoesBeside, IsBeside};
 
 use crate::steps::{look_at, mark_cell};

@@ -2,8 +2,7 @@
 ghost use Rattle.std.specs.Prelude.{ℕ, ◌≡◌, ◌≤◌, Ok};
 ghost use Rattle.mk_script.specs.Grammar.{program_of};
 ghost use Rattle.mk_check.specs.Laws.{IsChecked, IsScript};
-ghost use Rattle.mk_gen.specs.Generated.{count_of_numbers, turns_of, generated_program};
-ghost use Rattle.mk_gen.specs.GeneratedText.{generated_text};
+ghost use Rattle.mk_gen.specs.{Generated.{count_of_numbers, turns_of, generated_program}, GeneratedText.generated_text};
 ghost use Rattle.mk_gen.specs.Laws.{DeclaresNodes, MakesTurns};
 
 /// The generated text is a text of the generated program, which is well typed.

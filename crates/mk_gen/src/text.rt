@@ -1,8 +1,7 @@
 //! The texts of the generator's programs.
-ghost use Rattle.std.specs.Prelude.{◌≡◌, ◌++◌, ◌∷◌, IfOk, OnOk};
-ghost use Rattle.std.specs.String.{string_bytes};
-ghost use lib.Chars.{codes};
+ghost use Rattle.std.specs.{Prelude.{◌≡◌, ◌++◌, ◌∷◌, IfOk, OnOk}, String.string_bytes};
 ghost use Rattle.mk_gen.specs.GeneratedText.{declaration_lines, body_lines, text_of_lines, generated_text};
+ghost use lib.Chars.{codes};
 
 use crate::draws::Draws;
 use mk_never::NoMemory;

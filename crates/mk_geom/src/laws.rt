@@ -2,10 +2,9 @@
 //! law calls its function, or cites the lemma that proves it.
 ghost use Rattle.mk_geom.specs.Laws.{PagesShowUses, PagesShowPlaces, PagesShowCensus, PagesHoldMappedWords};
 ghost use Rattle.mk_geom.specs.Laws.{StoragesHaveHeaderWords, FreePagesStandForNothing, CellPageHasWords};
-ghost use Rattle.mk_geom.specs.Laws.{RunPageHasWords};
-ghost use Rattle.mk_geom.specs.Laws.{BarePageIsFree, PointsIntoCell, CellHasPointers, PointersHitCells};
-ghost use Rattle.mk_geom.specs.Laws.{UsedCellHasStorage, CellsTellStoragesApart, AddressesOfWordsPointIn};
-ghost use Rattle.mk_geom.specs.Laws.{CellHasFirstWord, FoundCellIsPlace, FoundRunIsPlace};
+ghost use Rattle.mk_geom.specs.Laws.{RunPageHasWords, BarePageIsFree, PointsIntoCell, CellHasPointers};
+ghost use Rattle.mk_geom.specs.Laws.{PointersHitCells, UsedCellHasStorage, CellsTellStoragesApart};
+ghost use Rattle.mk_geom.specs.Laws.{AddressesOfWordsPointIn, CellHasFirstWord, FoundCellIsPlace, FoundRunIsPlace};
 
 /// Place, fits, census and the words that are held may be read off the pages as they are.
 #[tactic(auto, using(crate::proofs::Bridge::same_uses, crate::proofs::Bridge::same_census, crate::proofs::HeldWords::pages_hold_mapped_words))]

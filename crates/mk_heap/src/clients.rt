@@ -2,8 +2,7 @@
 ghost use Rattle.std.specs.Prelude.{◌≡◌, ◌<◌, ◌≤◌, IfOk, true};
 ghost use Rattle.mk_core.specs.Config.{IsWithinLimits};
 ghost use Rattle.mk_words.specs.Seats.{has_over};
-ghost use Rattle.mk_heap.specs.Clients.{IsPassOf};
-ghost use Rattle.mk_heap.specs.Reports.{history_of, config_of, IsWhole, HasCounts};
+ghost use Rattle.mk_heap.specs.{Clients.IsPassOf, Reports.{history_of, config_of, IsWhole, HasCounts}};
 
 use crate::{Heap, Report};
 use mk_caller::Caller;

@@ -1,14 +1,12 @@
 //! The host's cycles, and the end of a heap.
 ghost use Rattle.std.specs.Prelude.{◌≡◌, None, false};
-ghost use Rattle.mk_core.specs.declared.events.Seat.TheVariants as seat;
-ghost use Rattle.mk_core.specs.declared.events.Step.TheVariants as step;
-ghost use Rattle.mk_words.specs.Seats.{Has, HasCallers, has_over};
-ghost use Rattle.mk_words.specs.Steps.{IsEnabledTo};
-ghost use Rattle.mk_cycle.specs.Begun.{EachIsBegun};
-ghost use Rattle.mk_cycle.specs.EngineLaw.{IsAtPhase};
+ghost use Rattle.mk_words.specs.{Seats.{Has, HasCallers, has_over}, Steps.IsEnabledTo};
+ghost use Rattle.mk_cycle.specs.{Begun.EachIsBegun, EngineLaw.IsAtPhase};
 ghost use Rattle.mk_turns.specs.Sweeping.{SweepsNothing};
 ghost use Rattle.mk_heap.specs.Ending.{CallersAreJoined, IsIdleTurn, MakesToldCycle, SaysOver, TakesIdleTurn};
 ghost use Rattle.mk_heap.specs.Hosts.{with_seen};
+ghost use Rattle.mk_core.specs.declared.events.Seat.TheVariants as seat;
+ghost use Rattle.mk_core.specs.declared.events.Step.TheVariants as step;
 
 use crate::heaps::Heap;
 use crate::hosts::{Host, take_home};

@@ -1,17 +1,13 @@
 //! The host: it creates callers and markers, and joins them.
 ghost use Rattle.std.specs.Prelude.{◌≡◌, ◌<◌, [], ◌∷◌, Some, IsSome, true, false};
-ghost use Rattle.mk_core.specs.Counts.{IsTidy};
-ghost use Rattle.mk_core.specs.Growing.{Grows};
-ghost use Rattle.mk_core.specs.History.{IsHistory};
-ghost use Rattle.mk_core.specs.declared.events.Seat.TheVariants as seat;
+ghost use Rattle.mk_core.specs.{Counts.IsTidy, Growing.Grows, History.IsHistory, Ranges.is_word};
 ghost use Rattle.mk_words.specs.Seats.{Has, has_over};
-ghost use Rattle.mk_core.specs.Ranges.{is_word};
 ghost use Rattle.mk_caller.specs.States.{at_home, IsIdleCaller};
 ghost use Rattle.mk_marker.specs.Markers.{IsMarkers, IsOut};
 ghost use Rattle.mk_turns.specs.Sweeping.{SweepsNothing};
 ghost use Rattle.mk_heap.specs.Hosts.{pass_for, with_caller_made, with_caller_out, with_marker_made, with_joined};
-ghost use Rattle.mk_heap.specs.Hosts.{with_seen, IsDone};
-ghost use Rattle.mk_heap.specs.Turns.{is_register, TellsWord};
+ghost use Rattle.mk_heap.specs.{Hosts.{with_seen, IsDone}, Turns.{is_register, TellsWord}};
+ghost use Rattle.mk_core.specs.declared.events.Seat.TheVariants as seat;
 
 use crate::heaps::Heap;
 use mk_caller::Caller;

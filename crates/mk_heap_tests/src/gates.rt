@@ -1,11 +1,10 @@
 //! A gate that the host holds: its caller's call is refused, and that of another caller is made.
 ghost use Rattle.std.specs.Prelude.{◌≡◌, true, false};
-ghost use Rattle.mk_core.specs.Config.{IsWithinLimits};
-ghost use Rattle.mk_core.specs.Order.{host_has_turn};
-ghost use Rattle.mk_core.specs.declared.events.Seat.TheVariants as seat;
+ghost use Rattle.mk_core.specs.{Config.IsWithinLimits, Order.host_has_turn};
 ghost use Rattle.mk_words.specs.States.{now_of};
 ghost use Rattle.mk_heap.specs.Clients.{IsPassOf};
 ghost use Rattle.mk_heap_tests.specs.Passes.{IsPassFor};
+ghost use Rattle.mk_core.specs.declared.events.Seat.TheVariants as seat;
 
 use mk_caller::Caller;
 use mk_core::{Config, Seat};

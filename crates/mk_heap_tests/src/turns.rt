@@ -1,11 +1,10 @@
 //! Calls under the turn, one step at a time: objects are placed until no place is left, and who finds the turn taken,
 //! or its gate held, is told so.
 ghost use Rattle.std.specs.Prelude.{◌≡◌, ◌<◌, length, IfSome, false};
-ghost use Rattle.mk_core.specs.Config.{IsWithinLimits};
-ghost use Rattle.mk_core.specs.Order.{host_has_turn};
-ghost use Rattle.mk_core.specs.declared.events.Seat.TheVariants as seat;
+ghost use Rattle.mk_core.specs.{Config.IsWithinLimits, Order.host_has_turn};
 ghost use Rattle.mk_words.specs.States.{now_of};
 ghost use Rattle.mk_heap_tests.specs.Passes.{IsPassFor};
+ghost use Rattle.mk_core.specs.declared.events.Seat.TheVariants as seat;
 
 use mk_alloc::{Request, place_object};
 use mk_core::{Config, Seat};

@@ -1,8 +1,7 @@
 // Sources and sinks in memory, whose calls move few bytes and fail as they are told.
 ghost use Rattle.std.specs.Prelude.{◌≡◌, ℕ, ◌<◌, ◌≤◌, max, length, take, Some, true, false, IfOk, OnOk, OnErr};
 ghost use Rattle.std.specs.Result.{result_ok};
-ghost use Rattle.mk_io.specs.Bytes.{Appends, Takes, IsAtEnd, KeepsRoom};
-ghost use Rattle.mk_io.specs.Faults.{Rose, saturating_next, fails_next};
+ghost use Rattle.mk_io.specs.{Bytes.{Appends, Takes, IsAtEnd, KeepsRoom}, Faults.{Rose, saturating_next, fails_next}};
 ghost use Rattle.mk_io.specs.MemSink.{new_sink, count_written, after_write, sink_has_room};
 ghost use Rattle.mk_io.specs.MemSource.{new_source, count_read, after_read, source_never_fails};
 

@@ -1,7 +1,6 @@
 // Reading all bytes of a source.
 ghost use Rattle.std.specs.Prelude.{◌≡◌, ◌≢◌, ◌+◌, ◌≤◌, vec_len, false, IfOk};
-ghost use Rattle.mk_io.specs.Bytes.{TakesAll, TakesCount, TakesAtMost, longest_input};
-ghost use Rattle.mk_io.specs.Faults.{Rose};
+ghost use Rattle.mk_io.specs.{Bytes.{TakesAll, TakesCount, TakesAtMost, longest_input}, Faults.Rose};
 
 use crate::sources::Source;
 use std::alloc::Global;

@@ -1,8 +1,7 @@
 // Sources and sinks over the readers and writers of std, as a program's standard input and output.
 ghost use Rattle.std.specs.Prelude.{◌≡◌, ◌<◌, ◌≤◌, length, None, false, IfOk, OnErr, is_err, if◌then◌else◌};
 ghost use Rattle.std.specs.Io.KnownBytes.{ReadConsumes, WriteAppends};
-ghost use Rattle.mk_io.specs.Faults.{Rose, saturating_next};
-ghost use Rattle.mk_io.specs.Stream.{new_stream};
+ghost use Rattle.mk_io.specs.{Faults.{Rose, saturating_next}, Stream.new_stream};
 
 use crate::Failed;
 use crate::sinks::Sink;

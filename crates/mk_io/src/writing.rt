@@ -1,7 +1,6 @@
 // Writing all bytes to a sink.
 ghost use Rattle.std.specs.Prelude.{◌≡◌, ◌≤◌, length, false, OnOk, OnErr};
-ghost use Rattle.mk_io.specs.Bytes.{Appends, AppendsPart};
-ghost use Rattle.mk_io.specs.Faults.{Rose};
+ghost use Rattle.mk_io.specs.{Bytes.{Appends, AppendsPart}, Faults.Rose};
 
 use crate::Failed;
 use crate::sinks::Sink;

@@ -136,13 +136,21 @@ module _ (c : Config) (w : Words) (xs : List PlacedAllocation) (a b : PlacedAllo
       let first_b : b.base % 64 ≡ y.begins.index * k = y.begins.first ∙ rw wb in
       record {
         apart = elim (cases_order x.begins.index y.begins.index) [
-          | inl e ↦ absurd (other (page, index_is c a x.shown.sized x.begins ∙ e
-              ∙ sym (index_is c b y.shown.sized y.begins)))
+          | inl e ↦ absurd (other (
+            page,
+            index_is c a x.shown.sized x.begins ∙ e
+                ∙ sym (index_is c b y.shown.sized y.begins),
+          ))
           | inr (inl lt) ↦ let m = mul-le (suc x.begins.index) k y.begins.index k lt (le_refl k) in inl (omega arith)
           | inr (inr gt) ↦ let m = mul-le (suc y.begins.index) k x.begins.index k gt (le_refl k) in inr (omega arith)
         ];
-        alike = λ p ha hb. (small_is c a x.shown.sized ∙ small_a, small_is c b y.shown.sized ∙ small_b, wa
-            ∙ sym wb, same.1);
+        alike = λ p ha hb. (
+          small_is c a x.shown.sized ∙ small_a,
+          small_is c b y.shown.sized ∙ small_b,
+          wa
+              ∙ sym wb,
+          same.1,
+        );
       }
 
   by : (s t : Bool) → is_small_object (object_placed c a) ≡ s → is_small_object (object_placed c b) ≡ t

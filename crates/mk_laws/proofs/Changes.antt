@@ -65,7 +65,7 @@ stored c m k x s n y known lt at owes f stage same heap flights =
       | inl e ↦
           let o : Op = (flight_of m (Caller k)).op in
           let fine = subst (λ (s : Stage). is_astray (standing_at s o)
-              ≡ false) at (not_astray c m known.orderly k lt) in
+          ≡ false) at (not_astray c m known.orderly k lt) in
           let is : flight_of (Behind c m (Caller k) x) (Caller k) ≡ f = rw flights
           (get_or-set_same m.seats.flights k f at_rest (omega (arith, lt, known.orderly.flights))) in
           inr (DirtyIsOwed k (

@@ -1,12 +1,11 @@
 -- The phases of a cycle: which a step asks for and leaves, and between which steps they stand.
 use Rattle.mk_laws.proofs.Vocabulary.{AreEnabledFrom, Bool, Config, Event, List, Moment, Seat, Step, World, [], ap}
-use Rattle.mk_laws.proofs.Vocabulary.{arith}
-use Rattle.mk_laws.proofs.Vocabulary.{enabled_meets, eqb-true, false, is_begin, is_close, is_release, left_from}
+use Rattle.mk_laws.proofs.Vocabulary.{arith, enabled_meets, eqb-true, false, is_begin, is_close, is_release, left_from}
 use Rattle.mk_laws.proofs.Vocabulary.{list_any, or_from, or_parts, phase_of, refl, subst, sym, world_behind, ℕ, ◌%◌}
-use Rattle.mk_laws.proofs.Vocabulary.{◌∷◌, ◌≡◌, ◌≤◌}
-use Rattle.mk_laws.proofs.Basics.{Behind, Meets, Table, over_phase, reg_table, tally_table}
-use Rattle.mk_core.specs.declared.events.Step.TheVariants as step
+use Rattle.mk_laws.proofs.{Vocabulary.{◌∷◌, ◌≡◌, ◌≤◌}, Basics.{Behind, Meets, Table, over_phase, reg_table}}
+use Rattle.mk_laws.proofs.Basics.{tally_table}
 pub use Rattle.mk_laws.proofs.ProtocolStepKinds.{begin_is, close_is, release_is}
+use Rattle.mk_core.specs.declared.events.Step.TheVariants as step
 
 -- the phase that a step asks for
 
@@ -92,7 +91,7 @@ pub marking_goes_on : (c : Config) (w : World) (es : List Event) → AreEnabledF
     → IsMarking (phase_of w.now.words) → list_any (λ (e : Event). is_close e.step) es ≡ false → MarkingGoesOn c w es
 marking_goes_on c w es on m none =
     let begins = phases_go_on IsMarking is_close is_begin (λ x p asks here out. let s =
-        marking_step x p asks here out in
+    marking_step x p asks here out in
     (s.0, s.1)) c w es on m none in
     let releases = phases_go_on IsMarking is_close is_release (λ x p asks here out.
     let s = marking_step x p asks here out in (s.0, s.2)) c w es on m none in

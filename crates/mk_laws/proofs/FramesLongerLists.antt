@@ -8,14 +8,13 @@ use Rattle.mk_laws.proofs.Vocabulary.{header_of, if◌then◌else◌, in_a_word,
 use Rattle.mk_laws.proofs.Vocabulary.{ltb-true, never_behind, not, onward, page_met, progress, progress_freed}
 use Rattle.mk_laws.proofs.Vocabulary.{progress_read, progress_reg, q_of, refl, refused, sees_double, still, subst, sym}
 use Rattle.mk_laws.proofs.Vocabulary.{target, true, word_accessed, [], ◌&&◌, ◌++◌, ◌<◌, ◌==◌, ◌∙◌, ◌∷◌, ◌≡◌}
-use Rattle.mk_core.specs.{Counts.releases, Effects.begins_where_free, Frames.CountsAreLeft, LongerLists.LongerListsGoOn}
 use Rattle.mk_laws.proofs.Basics.{Meets, actor_of, at_its_stage, calls_stand, in_call_told, is_call_stage, is_holders}
-use Rattle.mk_laws.proofs.Basics.{not_astray, operands_of, register_small}
-use Rattle.mk_laws.proofs.LastEvents.{Stands, comes_last, goes_on_by, stands}
-use Rattle.mk_laws.proofs.{AdmittedStill.call_on, CallSorts.admitted_call, CallSorts.call_outside, EnabledStill.before}
-use Rattle.mk_laws.proofs.{EnabledStill.enabled_still, EnabledStill.left_to, FramesHolders.acts_as_holder}
-use Rattle.mk_laws.proofs.{FramesHolders.holds_is, OtherCalls.never_continues, OtherCalls.registers_are_left}
-use Rattle.mk_laws.proofs.{ProbesStill.probe_still, Reaching.events_reach_the_table, Reaching.others_leave_accesses}
+use Rattle.mk_laws.proofs.{Basics.{not_astray, operands_of, register_small}, LastEvents.{Stands, comes_last}}
+use Rattle.mk_laws.proofs.{LastEvents.{goes_on_by, stands}, AdmittedStill.call_on}
+use Rattle.mk_laws.proofs.{CallSorts.{admitted_call, call_outside}, EnabledStill.{before, enabled_still, left_to}}
+use Rattle.mk_laws.proofs.{FramesHolders.{acts_as_holder, holds_is}, OtherCalls.{never_continues, registers_are_left}}
+use Rattle.mk_laws.proofs.{ProbesStill.probe_still, Reaching.{events_reach_the_table, others_leave_accesses}}
+use Rattle.mk_core.specs.{Counts.releases, Effects.begins_where_free, Frames.CountsAreLeft, LongerLists.LongerListsGoOn}
 
 -- What a step asks of the heap that never reuses storage it asks after a longer list too: what it finds may differ,
 -- and so the answer, but not whether it decides, nor what for.

@@ -1,19 +1,17 @@
 -- What an event may do to what stands on the pages and to the quarantine, by the conditions under which it does so.
 use Rattle.mk_laws.proofs.Vocabulary.{cases_Bool, Bool, Caller, Cell, Config, Flight, Granted, Ground, List, Moment}
-use Rattle.mk_laws.proofs.Vocabulary.{None, Op}
-use Rattle.mk_laws.proofs.Vocabulary.{Option, Page, Seat, Some, Stage, Step, Tally, Unplaced, Words, World, ℕ}
+use Rattle.mk_laws.proofs.Vocabulary.{None, Op, Option, Page, Seat, Some, Stage, Step, Tally, Unplaced, Words, World, ℕ}
 use Rattle.mk_laws.proofs.Vocabulary.{and_parts, carves, cell_freed, chosen, empties, eqb-false, eqb-true, false}
 use Rattle.mk_laws.proofs.Vocabulary.{flight_of, freed_where_it_stands, frees, gives_back, granted, ground_of}
 use Rattle.mk_laws.proofs.Vocabulary.{header_at, if◌then◌else◌, inl, inr, is_phase, is_undecided_new, is_used_once, map}
 use Rattle.mk_laws.proofs.Vocabulary.{marks_place, no_longer_fresh, not, not-true, nothing_done, object_made, or_cases}
 use Rattle.mk_laws.proofs.Vocabulary.{or_else, phase_of, place_now, refl, run_of_cell, slice_set, taken, takes_cell}
 use Rattle.mk_laws.proofs.Vocabulary.{target, true, unmaps, used_at, with_released, [], ◌%◌, ◌&&◌, ◌++◌, ◌/◌, ◌==◌, ◌^◌}
-use Rattle.mk_laws.proofs.Vocabulary.{◌||◌, ◌∷◌, ◌≡◌, ◌≢◌, ◌≤◌, ◌⊎◌}
+use Rattle.mk_laws.proofs.{Vocabulary.{◌||◌, ◌∷◌, ◌≡◌, ◌≢◌, ◌≤◌, ◌⊎◌}, Actors.{Meets, grants_new}, Asked.give_phase}
+use Rattle.mk_laws.proofs.{NextSteps.{at_no_take, at_take}, OthersMoves.WorldBehind}
 use Rattle.mk_core.proofs.RegisterAccesses.{register_leaves, tally_leaves}
-pub use Rattle.mk_core.proofs.RegisterAccesses.{LeavesTable as KeepsGround}
 use Rattle.mk_core.specs.TurnConditions.{drops, may_give, may_head, may_quarantine, may_use, takes_snapshot}
-use Rattle.mk_laws.proofs.Actors.{Meets, grants_new}
-use Rattle.mk_laws.proofs.{Asked.give_phase, NextSteps.at_no_take, NextSteps.at_take, OthersMoves.WorldBehind}
+pub use Rattle.mk_core.proofs.RegisterAccesses.{LeavesTable as KeepsGround}
 
 abbrev pub with_header : Words → ℕ → ℕ → List Page
 with_header w p n = slice_set w.pages p (record { header = n; used = used_at w p })

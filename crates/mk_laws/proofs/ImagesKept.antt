@@ -4,23 +4,20 @@ use Rattle.mk_laws.proofs.Vocabulary.{Bool, Carries, CarriesOwn, Flight, ImageSc
 use Rattle.mk_laws.proofs.Vocabulary.{IsTypedAllocation, List, NeverAllocation, NeverState, Null, PlacedAllocation}
 use Rattle.mk_laws.proofs.Vocabulary.{ProbedOwn, Ptr, Stage, Value, ℕ, address_of, allocation_at, ap, arith, at_rest}
 use Rattle.mk_laws.proofs.Vocabulary.{bases_of, cases_Bool, cases_eq, d_of, false, flight_among, get_or}
-use Rattle.mk_laws.proofs.Vocabulary.{get_or-set_other}
-use Rattle.mk_laws.proofs.Vocabulary.{get_or-set_same, image_of, inl, inr, is_past_probe, is_put, is_unmapped, kind_in}
-use Rattle.mk_laws.proofs.Vocabulary.{kinds_of, length, length-map, p_of, placed_at, q_of, r_of, refl, register_at}
-use Rattle.mk_laws.proofs.Vocabulary.{set_by, shown, slice_index, slice_index_or, slice_set, subst, sym, true}
-use Rattle.mk_laws.proofs.Vocabulary.{with_freed, with_global, with_new, with_register, with_word, word_at, words_of}
-use Rattle.mk_laws.proofs.Vocabulary.{[], ◌%◌, ◌*◌, ◌++◌, ◌+◌, ◌/◌, ◌<◌, ◌∙◌, ◌∷◌, ◌≡◌, ◌≢◌}
-use Rattle.mk_never.{proofs.Edits.exists, specs.Types.zero_of, specs.Types.zero_words}
+use Rattle.mk_laws.proofs.Vocabulary.{get_or-set_other, get_or-set_same, image_of, inl, inr, is_past_probe, is_put}
+use Rattle.mk_laws.proofs.Vocabulary.{is_unmapped, kind_in, kinds_of, length, length-map, p_of, placed_at, q_of, r_of}
+use Rattle.mk_laws.proofs.Vocabulary.{refl, register_at, set_by, shown, slice_index, slice_index_or, slice_set, subst}
+use Rattle.mk_laws.proofs.Vocabulary.{sym, true, with_freed, with_global, with_new, with_register, with_word, word_at}
+use Rattle.mk_laws.proofs.Vocabulary.{words_of, [], ◌%◌, ◌*◌, ◌++◌, ◌+◌, ◌/◌, ◌<◌, ◌∙◌, ◌∷◌, ◌≡◌, ◌≢◌}
 use Rattle.mk_laws.proofs.HeapEdits.{AreAlike, freed_is, freed_was, freed_words, fresh_one, image_grown, meets_new}
-use Rattle.mk_never.proofs.Stores.{this_word}
-use Rattle.mk_core.proofs.ChangedAllocations.{granted_at}
-use Rattle.mk_laws.proofs.HeapEdits.{new_image, new_never, new_words, old_never, old_placed, same_base}
-use Rattle.mk_laws.proofs.HeapEdits.{suits_grown, word_elsewhere, word_other, written_alike, zero_image}
+use Rattle.mk_laws.proofs.HeapEdits.{new_image, new_never, new_words, old_never, old_placed, same_base, suits_grown}
+use Rattle.mk_laws.{proofs.HeapEdits.{word_elsewhere, word_other, written_alike, zero_image}, specs.Images.{AreImages}}
 use Rattle.mk_laws.proofs.ImagesMoves.{Decides, Flies, Frees, Grants, Move, Owes, Pays, Releases, Renews, Rests, Shares}
-use Rattle.mk_laws.proofs.ImagesMoves.{Stores, Wipes, Writes, is_bare}
-use Rattle.mk_laws.proofs.Pairs.{bare_carries, bare_owes_nothing, bare_unprobed, carries_same, met_same, put_carries}
-use Rattle.mk_laws.proofs.Pairs.{set_both, shows_other, shows_owed, shows_plain}
-use Rattle.mk_laws.specs.Images.{AreImages}
+use Rattle.mk_laws.proofs.{ImagesMoves.{Stores, Wipes, Writes, is_bare}, Pairs.{bare_carries, bare_owes_nothing}}
+use Rattle.mk_laws.proofs.Pairs.{bare_unprobed, carries_same, met_same, put_carries, set_both, shows_other, shows_owed}
+use Rattle.mk_laws.proofs.Pairs.{shows_plain}
+use Rattle.mk_never.{proofs.{Edits.exists, Stores.this_word}, specs.Types.{zero_of, zero_words}}
+use Rattle.mk_core.proofs.ChangedAllocations.{granted_at}
 pub use Rattle.mk_laws.proofs.HeapEdits.{base_at, exists_placed}
 
 -- the registers that calls name are of the eight
@@ -224,7 +221,7 @@ module _ (globals : List ℕ) (s : ImageScene) (n : NeverState) (h : AreImages s
                     (λ z. let y = ap (λ y. (placed_at s.allocations y).base) e in absurd (ne2 (omega (arith, y, z))))
                     ∙ h.heap b j ub mb' lj' ∙ ap (image_of bases)
                     (let w : word_at (with_word n a i v) b j
-                        ≡ word_at n b j = rw e (word_other n a i j v li ne2) in sym w)
+                    ≡ word_at n b j = rw e (word_other n a i j v li ne2) in sym w)
               ]
               | inr ne ↦
                   get_or-set_other s.heap ((placed_at s.allocations a).base + i) ((placed_at s.allocations b).base + j)

@@ -11,18 +11,17 @@ use Rattle.mk_laws.proofs.Vocabulary.{header_of, header_on, histories_keep_lengt
 use Rattle.mk_laws.proofs.Vocabulary.{ltb-true, made_shows, object_made, object_now, pages_made, placed_now}
 use Rattle.mk_laws.proofs.Vocabulary.{quarantine_step, refl, seat_exists, shows_on, slice_index, slice_set, sym, true}
 use Rattle.mk_laws.proofs.Vocabulary.{true≢false, unmapped_header, world_behind, ◌%◌, ◌-◌, ◌<◌, ◌^◌, ◌∙◌, ◌≡◌}
-use Rattle.mk_core.proofs.{EvaluatedHistories.enabled, ObjectHeaders.unmapped_shows}
 use Rattle.mk_laws.proofs.Basics.{Before, Known, Meets, WorldBehind, at_first, bit_cases, headed_other}
 use Rattle.mk_laws.proofs.Basics.{is_releasing_behind, known_left, made_sized, none_set, own_claim, page_within}
 use Rattle.mk_laws.proofs.Basics.{reg_leaves_ground, tally_ground, used_header, with_header_on}
-use Rattle.mk_laws.proofs.{Behind.layout_behind, Behind.phase_kind, Behind.releasing_marks, Known.along_enabled}
-use Rattle.mk_laws.proofs.{LayoutByKind.off_at, QuarantineByKind.quarantine_by_kind, QuarantineByKind.shown_at}
-use Rattle.mk_laws.proofs.{QuarantineSteps.none_released, QuarantineSteps.unmarked, Releasing.headed_here}
-use Rattle.mk_laws.proofs.{ResidentPages.count_none, ResidentPages.resident_few, Rooms.room_behind}
-use Rattle.mk_laws.proofs.{SnapshotKinds.snapshot_behind, Unmapping.cells_at_claim, WholeRuns.whole_behind}
+use Rattle.mk_laws.proofs.{Behind.{layout_behind, phase_kind, releasing_marks}, Known.along_enabled}
+use Rattle.mk_laws.proofs.{LayoutByKind.off_at, QuarantineByKind.{quarantine_by_kind, shown_at}}
+use Rattle.mk_laws.proofs.{QuarantineSteps.{none_released, unmarked}, Releasing.headed_here}
+use Rattle.mk_laws.proofs.{ResidentPages.{count_none, resident_few}, Rooms.room_behind, SnapshotKinds.snapshot_behind}
+use Rattle.mk_laws.proofs.{Unmapping.cells_at_claim, WholeRuns.whole_behind}
+use Rattle.mk_core.proofs.{EvaluatedHistories.enabled, ObjectHeaders.unmapped_shows}
 use Rattle.mk_laws.specs.LayoutLaws.{EventsKeepTheLayout, HistoriesAreLaidOut, LayoutHasFewResidentPages}
-use Rattle.mk_laws.specs.LayoutLaws.{LayoutHasHeaderWords}
-use Rattle.mk_laws.specs.{Quarantine.FreedCellsAreKnown, Room.HasHeaderWords}
+use Rattle.mk_laws.specs.{LayoutLaws.LayoutHasHeaderWords, Quarantine.FreedCellsAreKnown, Room.HasHeaderWords}
 
 -- Each freed bit is that of a cell of its page, after each event.
 

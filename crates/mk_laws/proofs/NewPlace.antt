@@ -6,14 +6,13 @@ use Rattle.mk_laws.proofs.Vocabulary.{World, ℕ, ap, at_rest, chosen, false, fl
 use Rattle.mk_laws.proofs.Vocabulary.{inl, inr, is_new_at, is_small_object, is_undecided_new, length, ltb-true}
 use Rattle.mk_laws.proofs.Vocabulary.{none-some, object_made, place_by_placing, place_now, refl, run_pages_of, set_by}
 use Rattle.mk_laws.proofs.Vocabulary.{slice_index_or, slice_set, sym, taken, true, ◌+◌, ◌<◌, ◌∙◌, ◌≡◌, ◌≤◌, ◌⊎◌}
-use Rattle.mk_geom.proofs.FirstFit.{run_place_is}
 use Rattle.mk_laws.proofs.Ground.{Carves, Gives, Grants, GroundStep, Places, Starts, TakesCell, Unmaps, ground_step}
-use Rattle.mk_laws.proofs.OrderlyLists.{event_moves}
+use Rattle.mk_laws.proofs.{OrderlyLists.event_moves, Standings.{InCall, UnderTurn, standing}, Views.{View, flight_at}}
+use Rattle.mk_laws.proofs.{Views.{flight_in, flights_with, view_of}, Actors.Meets, Known.Known, Orderly.same_holder}
+use Rattle.mk_laws.proofs.{OthersMoves.WorldBehind, Stages.new_stands}
+use Rattle.mk_geom.proofs.FirstFit.{run_place_is}
 use Rattle.mk_laws.proofs.ProtocolMoves.{Enters, Gives as GivesTurn, GoesOn, Leaves, Move, Takes, Works}
 use Rattle.mk_laws.proofs.Services.{Goes, Loads, Places as PlacesNew, Service}
-use Rattle.mk_laws.proofs.Standings.{InCall, UnderTurn, standing}
-use Rattle.mk_laws.proofs.Views.{View, flight_at, flight_in, flights_with, view_of}
-use Rattle.mk_laws.proofs.{Actors.Meets, Known.Known, Orderly.same_holder, OthersMoves.WorldBehind, Stages.new_stands}
 
 abbrev pub held_place : Placing → Option Place
 held_place (Chosen place) = Some place
@@ -36,7 +35,7 @@ in_fits : (c : Config) (pages : List Page) (o : Op) (placing : Placing) (place :
     → place_by_placing c.resident pages (object_made c o) placing ≡ Some place → PlaceFits c o place
 in_fits c pages o Unplaced place count held is = λ large. rw count at
     (run_place_is c.resident (object_made c o).words (object_made c o).leaf pages place
-        (leb-false _ 32 large) is).free.within
+    (leb-false _ 32 large) is).free.within
 in_fits c pages o Granted place count held is = cc
 in_fits c pages o _ place count held is = held place is
 

@@ -5,10 +5,9 @@ use Rattle.mk_laws.proofs.Vocabulary.{Option, Progress, Seat, Some, Stage, Step,
 use Rattle.mk_laws.proofs.Vocabulary.{cond, entry_of, false, flight_of, found, group_of, header_of, if◌then◌else◌}
 use Rattle.mk_laws.proofs.Vocabulary.{is_end, is_some_and, is_unmapped_header, map-append, onward, progress, progress_p}
 use Rattle.mk_laws.proofs.Vocabulary.{progress_q, progress_read, progress_reg, refl, refused, still, true, ◌++◌, ◌+◌}
-use Rattle.mk_laws.proofs.Vocabulary.{◌==◌, ◌≡◌}
-use Rattle.mk_core.specs.Counts.{is_full_answer}
-use Rattle.mk_laws.proofs.Basics.{Actor, AsHolder, AsMarker, HoldsTurn, InCallOf, view_of}
+use Rattle.mk_laws.proofs.{Vocabulary.{◌==◌, ◌≡◌}, Basics.{Actor, AsHolder, AsMarker, HoldsTurn, InCallOf, view_of}}
 use Rattle.mk_laws.proofs.Actors.{CallTakes, HostTakes}
+use Rattle.mk_core.specs.Counts.{is_full_answer}
 
 abbrev pub answers_full : Option Answer → Bool
 answers_full a = is_some_and is_full_answer a

@@ -9,12 +9,11 @@ use Rattle.mk_laws.proofs.Vocabulary.{if◌then◌else◌, inl, inr, is_released
 use Rattle.mk_laws.proofs.Vocabulary.{map, mul-le, no_longer_fresh, placed_at, quarantine_word, slice_index, slice_set}
 use Rattle.mk_laws.proofs.Vocabulary.{small, small_cells, stands_in, suc, sym, true, true≢false, with_released, [], ◌%◌}
 use Rattle.mk_laws.proofs.Vocabulary.{◌*◌, ◌++◌, ◌+◌, ◌/◌, ◌<◌, ◌^◌, ◌∙◌, ◌∷◌, ◌≡◌, ◌≤◌, ◌⊎◌}
+use Rattle.mk_laws.proofs.Basics.{IsStanding, LeavesCells, bit_cases, freeing_leaves, releasing_leaves, same_cell}
+use Rattle.mk_laws.proofs.{Granted.{pushed_at, still_at}, LayoutByKind.fresh_cells, QuarantineSteps.least_set}
+use Rattle.mk_laws.{proofs.Released.{left_is}, specs.Terrain.{IsCellOf}}
 use Rattle.mk_geom.proofs.ClassTable.{class_words_within}
 use Rattle.mk_core.proofs.WordBits.{added_here, added_other, sum_is_or}
-use Rattle.mk_laws.proofs.Basics.{IsStanding, LeavesCells, bit_cases, freeing_leaves, releasing_leaves, same_cell}
-use Rattle.mk_laws.proofs.Granted.{pushed_at, still_at}
-use Rattle.mk_laws.proofs.{LayoutByKind.fresh_cells, QuarantineSteps.least_set, Released.left_is}
-use Rattle.mk_laws.specs.Terrain.{IsCellOf}
 
 -- A freed cell after a change that leaves its allocation unreleased, and freed.
 pub freed_behind : (c : Config) (g : PlacedAllocation → PlacedAllocation) (xs : List PlacedAllocation) (p k : ℕ)

@@ -2,11 +2,10 @@
 use Rattle.mk_laws.proofs.Vocabulary.{Config, Flight, List, MarkerState, Moment, Seat, TurnIsLeft, Words, World, ℕ, ap}
 use Rattle.mk_laws.proofs.Vocabulary.{arith, false, get_or-set_other, is_attending, marker_of, outside, set_by}
 use Rattle.mk_laws.proofs.Vocabulary.{slice_index, slice_index_or, slice_set, ◌%◌, ◌+◌, ◌-◌, ◌^◌, ◌≡◌, ◌≢◌, ◌≤◌}
-use Rattle.mk_core.specs.{Frames.steady_of, Readings.NoneAttends}
 use Rattle.mk_laws.proofs.OthersMoves.{AddsBlacks, AddsMarks, Calls, CallWrite, ComesIn, GoesOut, MarkerLoads}
 use Rattle.mk_laws.proofs.OthersMoves.{MarkerWrite, Marks, OthersMove, SetsDirty, SetsGate, SetsRegister, Waits}
-use Rattle.mk_laws.proofs.OthersMoves.{with_words_seats}
-use Rattle.mk_laws.proofs.{Basics.Known, Growth.grows_joined, Growth.grows_more, Growth.grows_same}
+use Rattle.mk_laws.proofs.{OthersMoves.with_words_seats, Basics.Known, Growth.{grows_joined, grows_more, grows_same}}
+use Rattle.mk_core.specs.{Frames.steady_of, Readings.NoneAttends}
 
 -- the phase
 up : (p : ℕ) → ((p + 8) % 2 ^ 64) % 8 ≡ p % 8

@@ -1,12 +1,11 @@
 //! The theorems over all histories, joined from the groups: facts alone, with no code.
 
-ghost use Rattle.mk_core.specs.Exchanges.{ExchangesCompareValues};
-ghost use Rattle.mk_core.specs.History.{RefinesNever};
+ghost use Rattle.mk_core.specs.{Exchanges.ExchangesCompareValues, History.RefinesNever};
 ghost use Rattle.mk_laws.specs.Theorems.{AllocationsAreDisjoint, AllocationsStand, ClosesFindMarksClosed};
-ghost use Rattle.mk_laws.specs.Theorems.{EventsKeepTheInvariant, FirstFitFindsThePlace};
-ghost use Rattle.mk_laws.specs.Theorems.{FewPagesAreResident, PagesHaveHeaderWords, SnapshotIsTheCycles};
-ghost use Rattle.mk_laws.specs.Theorems.{GuardsBlackCells, InvariantAtFirst, KeepsTheInvariant, KeepsTheReach};
-ghost use Rattle.mk_laws.specs.Theorems.{MarksStayClosed, OfHistories, PagesShowTheStorage};
+ghost use Rattle.mk_laws.specs.Theorems.{EventsKeepTheInvariant, FirstFitFindsThePlace, FewPagesAreResident};
+ghost use Rattle.mk_laws.specs.Theorems.{PagesHaveHeaderWords, SnapshotIsTheCycles, GuardsBlackCells, InvariantAtFirst};
+ghost use Rattle.mk_laws.specs.Theorems.{KeepsTheInvariant, KeepsTheReach, MarksStayClosed, OfHistories};
+ghost use Rattle.mk_laws.specs.Theorems.{PagesShowTheStorage};
 
 /// The invariant holds at first, one event of a history keeps it, and so it holds after each history.
 pub fn histories_keep_the_invariant()

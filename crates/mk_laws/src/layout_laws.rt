@@ -1,9 +1,8 @@
 //! What stands on the pages, and the quarantine, at every moment: facts alone, with no code.
 
 ghost use Rattle.mk_laws.specs.LayoutLaws.{EventsKeepTheLayout, LayoutHasFewResidentPages, HistoriesAreLaidOut};
-ghost use Rattle.mk_laws.specs.LayoutLaws.{LayoutHasHeaderWords};
-ghost use Rattle.mk_laws.specs.SettledPages.{FirstFitIsThePlace, HeadersStand, UnreleasedAreApart, UnreleasedStand};
-ghost use Rattle.mk_laws.specs.Snapshots.{SnapshotsAreOfCycles};
+ghost use Rattle.mk_laws.specs.{LayoutLaws.LayoutHasHeaderWords, SettledPages.{FirstFitIsThePlace, HeadersStand}};
+ghost use Rattle.mk_laws.specs.{SettledPages.{UnreleasedAreApart, UnreleasedStand}, Snapshots.SnapshotsAreOfCycles};
 
 /// Whatever the event, what stands on the pages stays laid out, and the quarantine in order, where the other
 /// groups say what it asks.

@@ -1,10 +1,8 @@
 //! Where the objects of all histories are granted, when a New is full, and what the tallies count: facts alone, with no
 //! code.
 
-ghost use Rattle.mk_core.specs.Placement.{FullsFitNowhere, GrantsStandAtTheirPlaces};
-ghost use Rattle.mk_core.specs.Readings.{TalliesTell};
-ghost use Rattle.mk_laws.specs.Theorems.{OfHistories};
-ghost use Rattle.mk_laws.specs.ExactTallies.{TalliesAreExactAtGives};
+ghost use Rattle.mk_core.specs.{Placement.{FullsFitNowhere, GrantsStandAtTheirPlaces}, Readings.TalliesTell};
+ghost use Rattle.mk_laws.specs.{Theorems.OfHistories, ExactTallies.TalliesAreExactAtGives};
 
 /// Each object is granted at its place by first fit, before the call's first step that serves it.
 #[tactic(auto, using(crate::proofs::PlacementTheorems::grants_stand_at_their_places))]

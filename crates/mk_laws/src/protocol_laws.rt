@@ -1,8 +1,7 @@
 //! Who holds what, after every enabled list of events: facts alone, with no code.
 
 ghost use Rattle.mk_core.specs.Frames.{OthersLeave};
-ghost use Rattle.mk_laws.specs.Protocol.{ListsKeepTheProtocol};
-ghost use Rattle.mk_laws.specs.Reaching.{EventsReachTheTable, OthersLeaveAccesses};
+ghost use Rattle.mk_laws.specs.{Protocol.ListsKeepTheProtocol, Reaching.{EventsReachTheTable, OthersLeaveAccesses}};
 ghost use Rattle.mk_laws.specs.HolderReadings.{WordsTell};
 
 /// After any enabled events: who holds the turn, whose gate is held, which phase may stand, and how far

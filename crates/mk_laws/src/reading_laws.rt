@@ -2,13 +2,11 @@
 //! alone, with no code.
 
 ghost use Rattle.mk_core.specs.Readings.{SnapshotsTell};
-ghost use Rattle.mk_laws.specs.Theorems.{OfHistories};
-ghost use Rattle.mk_laws.specs.FreeWords.{FreeCellsAreZero, Leaves, UnmappedWordsAreZero, WordsBehindCellsAreZero};
-ghost use Rattle.mk_laws.specs.FreeWords.{WordsOfNoneAreZero};
+ghost use Rattle.mk_laws.specs.{Theorems.OfHistories, FreeWords.{FreeCellsAreZero, Leaves, UnmappedWordsAreZero}};
+ghost use Rattle.mk_laws.specs.FreeWords.{WordsBehindCellsAreZero, WordsOfNoneAreZero};
 ghost use Rattle.mk_laws.specs.FreePages.{DirtyPagesHaveAllocations, FreePagesHaveNothing};
-ghost use Rattle.mk_laws.specs.WordReadings.{HeadersAndQuarantineTell};
-ghost use Rattle.mk_laws.specs.Releases.{NoOthersRelease, ReleasesAreExact, ReleasesAreOfCycles};
-ghost use Rattle.mk_laws.specs.Releases.{ReleasesNoneReached};
+ghost use Rattle.mk_laws.specs.{WordReadings.HeadersAndQuarantineTell, Releases.{NoOthersRelease, ReleasesAreExact}};
+ghost use Rattle.mk_laws.specs.Releases.{ReleasesAreOfCycles, ReleasesNoneReached};
 ghost use Rattle.mk_laws.specs.UnmappedRuns.{UnmappedRunsTakeNoMemory};
 ghost use Rattle.mk_laws.specs.UnsetWords.{RegistersOfNoCallerAreZero, UnsetGlobalsAreZero};
 

@@ -1,7 +1,6 @@
 //! The theorems over all histories in one place: facts alone, with no code.
 
-ghost use Rattle.mk_laws.specs.Theorems.{OfHistories};
-ghost use Rattle.mk_laws.specs.Promises.{KeepsAllPromises};
+ghost use Rattle.mk_laws.specs.{Theorems.OfHistories, Promises.KeepsAllPromises};
 
 /// Every list of events that is within the limits, whose events are enabled and whose calls are admitted keeps
 /// all promises.

@@ -1,8 +1,7 @@
 //! A marker finds the cells that are marked and not black by looking at mark and black words, page by page.
 ghost use Rattle.std.specs.Prelude.{◌≡◌, ◌≢◌, ◌+◌, ◌<◌, ◌≤◌, true, IfSome, IfNone};
 ghost use Rattle.mk_core.specs.Bits.{has_bit, without};
-ghost use Rattle.mk_marker.specs.Markers.{IsBetweenScans};
-ghost use Rattle.mk_marker.specs.Steps.{IsOf, LooksInVain, SeesCell};
+ghost use Rattle.mk_marker.specs.{Markers.IsBetweenScans, Steps.{IsOf, LooksInVain, SeesCell}};
 
 use crate::steps::look;
 use mk_core::Word;

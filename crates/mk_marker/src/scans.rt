@@ -1,12 +1,9 @@
 //! The scan of a cell: each of its words is loaded, and what that points into is marked.
 ghost use Rattle.std.specs.Prelude.{◌≡◌, ◌+◌, ◌<◌, Some};
-ghost use Rattle.mk_geom.specs.Headers.{header_of};
-ghost use Rattle.mk_geom.specs.Addresses.{page_at_address};
+ghost use Rattle.mk_geom.specs.{Headers.header_of, Addresses.page_at_address};
 ghost use Rattle.mk_core.specs.Cells.{cells_under};
 ghost use Rattle.mk_words.specs.Markers.{marker_in};
-ghost use Rattle.mk_marker.specs.Markers.{between_scans, IsBetweenScans};
-ghost use Rattle.mk_marker.specs.Scanning.{words_scanned};
-ghost use Rattle.mk_marker.specs.Working.{IsBlackIn};
+ghost use Rattle.mk_marker.specs.{Markers.{between_scans, IsBetweenScans}, Scanning.words_scanned, Working.IsBlackIn};
 ghost use Rattle.mk_marker.specs.Steps.{IsOf, IsMarkedIn, IsScanning, IsHolding, SameScan, ScansOn, ScansCell};
 ghost use Rattle.mk_marker.specs.Steps.{words_left};
 

@@ -1,18 +1,13 @@
 //! The steps of a marker, each with what it leaves.
 ghost use Rattle.std.specs.Prelude.{◌≡◌, ◌<◌, ◌≤◌, ◌%◌, ◌&&◌, true, false, Some};
 ghost use Rattle.mk_geom.specs.Headers.{header_of};
-ghost use Rattle.mk_core.specs.declared.events.Step.TheVariants as step;
-ghost use Rattle.mk_core.specs.Words.{named_word};
-ghost use Rattle.mk_core.specs.Ranges.{is_word};
-ghost use Rattle.mk_core.specs.MarkerConditions.{is_markers_word, is_out, may_mmark, may_mblack};
-ghost use Rattle.mk_core.specs.Cells.{cells_under};
-ghost use Rattle.mk_words.specs.States.{now_of};
-ghost use Rattle.mk_words.specs.Markers.{marker_in};
-ghost use Rattle.mk_marker.specs.Markers.{IsOut, attends, between_scans};
-ghost use Rattle.mk_marker.specs.Scanning.{words_scanned};
-ghost use Rattle.mk_marker.specs.Working.{IsBlackIn};
+ghost use Rattle.mk_core.specs.{Words.named_word, Ranges.is_word, MarkerConditions.{is_markers_word, is_out}};
+ghost use Rattle.mk_core.specs.{MarkerConditions.{may_mmark, may_mblack}, Cells.cells_under};
+ghost use Rattle.mk_words.specs.{States.now_of, Markers.marker_in};
+ghost use Rattle.mk_marker.specs.{Markers.{IsOut, attends, between_scans}, Scanning.words_scanned, Working.IsBlackIn};
 ghost use Rattle.mk_marker.specs.Steps.{IsOf, MovesMarker, Moved, IsMarkedIn, IsScanning, IsScanOf, ClaimsMarked};
 ghost use Rattle.mk_marker.specs.Steps.{words_left};
+ghost use Rattle.mk_core.specs.declared.events.Step.TheVariants as step;
 
 use crate::cells::MarkedCell;
 use mk_core::Word;

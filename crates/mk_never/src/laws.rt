@@ -1,14 +1,12 @@
 //! Laws of the heap that never reuses storage: what holds of any calls, one after the other. Each is the
 //! contract of a function that does nothing.
 ghost use Rattle.std.specs.Prelude.{◌≡◌, ◌≢◌, ◌↔◌, ℕ, ◌<◌, ◌≤◌, Bool, List, length, false, IsTrue};
-ghost use Rattle.mk_never.specs.NeverHeap.{NeverState, Call, start_of, after_calls, is_same};
-ghost use Rattle.mk_never.specs.Admitted.{AreAdmitted};
+ghost use Rattle.mk_never.specs.{NeverHeap.{NeverState, Call, start_of, after_calls, is_same}, Admitted.AreAdmitted};
 ghost use Rattle.mk_never.specs.Laws.{Continues, TypeStays, FreedStays, SameTells, NewAdds, AreByOthers, AreNotBy};
 ghost use Rattle.mk_never.specs.Laws.{KeepsRegisters, UnstoredStays, StoreIsInside, StoreLeaves, LoadGivesStored};
-ghost use Rattle.mk_never.specs.Laws.{LeavesInParts, RepliesInParts, AdmittedInParts};
-ghost use Rattle.mk_never.specs.Typed.{IsTyped, KeepsTyped, StaysTyped};
-ghost use Rattle.mk_never.specs.Reach.{IsReachable, IsClosedUnderPointers, ReachIsLeast, AccessIsToReached};
-ghost use Rattle.mk_never.specs.Reach.{ReachGrowsByGrants, UnreachedStays};
+ghost use Rattle.mk_never.specs.{Laws.{LeavesInParts, RepliesInParts, AdmittedInParts}, Typed.{IsTyped, KeepsTyped}};
+ghost use Rattle.mk_never.specs.{Typed.StaysTyped, Reach.{IsReachable, IsClosedUnderPointers, ReachIsLeast}};
+ghost use Rattle.mk_never.specs.Reach.{AccessIsToReached, ReachGrowsByGrants, UnreachedStays};
 
 use crate::{Kind, Op, Value};
 

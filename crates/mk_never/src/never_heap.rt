@@ -1,9 +1,8 @@
 //! The heap that never reuses storage, as a machine of one thread.
 ghost use Rattle.std.specs.Prelude.{◌≡◌, ◌+◌, ◌*◌, ◌^◌, ◌<◌, length, if◌then◌else◌, IfOk, OnOk, OnErr};
-ghost use Rattle.mk_never.specs.Types.{kinds_of, zero_of, zero_words, is_large};
-ghost use Rattle.mk_never.specs.NeverHeap.{start_of, register_at, with_register, word_at, words_of, with_word};
-ghost use Rattle.mk_never.specs.NeverHeap.{with_new, with_freed, target_of, allocation_at, is_unmapped, number_of};
-ghost use Rattle.mk_never.specs.NeverHeap.{is_same, bit};
+ghost use Rattle.mk_never.specs.{Types.{kinds_of, zero_of, zero_words, is_large}, NeverHeap.{start_of, register_at}};
+ghost use Rattle.mk_never.specs.NeverHeap.{with_register, word_at, words_of, with_word, with_new, with_freed};
+ghost use Rattle.mk_never.specs.NeverHeap.{target_of, allocation_at, is_unmapped, number_of, is_same, bit};
 ghost use Rattle.mk_never.specs.Admitted.{IsCaller, Meets};
 
 mod applying;

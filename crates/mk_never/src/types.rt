@@ -24,8 +24,7 @@ struct TypeWords {
 
 impl Model for TypeWords {
     ghost use Rattle.std.specs.Prelude.{◌≡◌, List};
-    ghost use Rattle.mk_never.specs.declared.types.Kind.{Kind};
-    ghost use Rattle.mk_never.specs.Types.{is_leaf};
+    ghost use Rattle.mk_never.specs.{declared.types.Kind.Kind, Types.is_leaf};
 
     ghost Value = { List Kind };
 

@@ -10,11 +10,10 @@ use Rattle.mk_laws.proofs.Vocabulary.{set-get_or, slice_index, slice_set, subst,
 use Rattle.mk_laws.proofs.Vocabulary.{◌*◌, ◌+◌, ◌-◌, ◌/◌, ◌<◌, ◌^◌, ◌||◌, ◌∙◌, ◌≡◌}
 use Rattle.mk_objects.proofs.Vocabulary.{Acts, FreesOnce, HasFreed, IsAsLeft, IsEnabledTo, IsFreedAt, IsOutOfStop}
 use Rattle.mk_objects.proofs.Vocabulary.{IsTurn, Known, PassState, call_of, is_freeing, min, now_of, steady_of}
-use Rattle.mk_objects.proofs.Vocabulary.{words_freed, world_of}
-use Rattle.mk_objects.proofs.MayAct.{free_is_acting, may_free, off_four}
-use Rattle.mk_objects.proofs.Reaching.{made_in, reaches_nothing, reaches_on}
-use Rattle.mk_objects.proofs.{FreedOnce.frees_now, Looks.acting_caller, Looks.acting_now, SeenDoubles.freed_same}
-use Rattle.mk_objects.proofs.{SeenDoubles.target_same, Serves.out_of_stop, Takes.one_bit_more, Unchanged.call_behind}
+use Rattle.mk_objects.proofs.{Vocabulary.{words_freed, world_of}, MayAct.{free_is_acting, may_free, off_four}}
+use Rattle.mk_objects.proofs.{Reaching.{made_in, reaches_nothing, reaches_on}, FreedOnce.frees_now}
+use Rattle.mk_objects.proofs.{Looks.{acting_caller, acting_now}, SeenDoubles.{freed_same, target_same}}
+use Rattle.mk_objects.proofs.{Serves.out_of_stop, Takes.one_bit_more, Unchanged.call_behind}
 
 -- the word that the step stores
 abbrev pub freed_word : Words → Cell → ℕ

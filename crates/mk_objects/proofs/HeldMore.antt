@@ -3,11 +3,10 @@ use Rattle.std.proofs.lemmas.List.Sums.{sum_by-append}
 use Rattle.mk_laws.proofs.Vocabulary.{Config, Event, IsHistory, IsSettled, List, PlacedAllocation, Storage, ℕ, arith}
 use Rattle.mk_laws.proofs.Vocabulary.{false, histories_keep_lengths, if◌then◌else◌, left, storage_words}
 use Rattle.mk_laws.proofs.Vocabulary.{unreleased_storage, [], ◌*◌, ◌++◌, ◌+◌, ◌∷◌, ◌≡◌, ◌≤◌}
-use Rattle.mk_objects.proofs.Vocabulary.{held_by_allocations, sum_by-cons}
+use Rattle.mk_laws.proofs.InvariantTheorems.{pages_show_the_storage}
+use Rattle.mk_objects.proofs.{Vocabulary.{held_by_allocations, sum_by-cons}, FoundPlaces.pages_hold_few}
 use Rattle.mk_geom.proofs.HeldWords.{pages_hold_mapped_words}
 use Rattle.mk_core.proofs.UnreleasedStorage.{unreleased_more}
-use Rattle.mk_laws.proofs.InvariantTheorems.{pages_show_the_storage}
-use Rattle.mk_objects.proofs.FoundPlaces.{pages_hold_few}
 
 abbrev words_mapped : Storage → ℕ
 words_mapped s = if s.mapped then s.words else 0

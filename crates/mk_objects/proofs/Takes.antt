@@ -6,22 +6,18 @@ use Rattle.mk_laws.proofs.Vocabulary.{base_made, bit_or, caller_number, cells_ma
 use Rattle.mk_laws.proofs.Vocabulary.{entry_of, false, flight_of, granted_base_is, granted_object, has_bit}
 use Rattle.mk_laws.proofs.Vocabulary.{has_operands, is_undecided_new, left, length, ltb-true, phase_of, refl}
 use Rattle.mk_laws.proofs.Vocabulary.{storage_words, subst, sym, true, used_at, words_made, [], ◌%◌, ◌*◌, ◌+◌, ◌<◌, ◌^◌}
-use Rattle.mk_laws.proofs.Vocabulary.{◌∙◌, ◌≡◌, ◌≤◌}
+use Rattle.mk_laws.proofs.{Vocabulary.{◌∙◌, ◌≡◌, ◌≤◌}, Tracked.unplaced_settles}
 use Rattle.mk_objects.proofs.Vocabulary.{Acts, ComesTo, GoesTo, IsCellReady, IsEnabledTo, IsGrantedAt, IsOutOfStop}
 use Rattle.mk_objects.proofs.Vocabulary.{IsUnplaced, Known, MayTake, PassState, call_of, entry_for, held_by_allocations}
 use Rattle.mk_objects.proofs.Vocabulary.{is_acting, is_placing, known_left, now_of, object_at_place, object_for}
-use Rattle.mk_objects.proofs.Vocabulary.{world_of}
-use Rattle.mk_core.proofs.WordBits.{bit_for_small, bit_is_none, bit_of_power, zero_from_bits}
-use Rattle.mk_core.specs.Bits.{bit_for}
-use Rattle.mk_laws.proofs.Tracked.{unplaced_settles}
-use Rattle.mk_objects.proofs.Granting.{granted_behind, granted_left, tallied_behind}
-use Rattle.mk_objects.proofs.MayAct.{IsActing, may_grant, may_take, may_tally, off_four}
-use Rattle.mk_objects.proofs.Reaching.{IsCallers, reaches_on, reaches_still}
-use Rattle.mk_objects.proofs.Serves.{KnowsPlace, block_of, free_pages_of, out_of_stop, place_unused, served_acting}
+use Rattle.mk_objects.proofs.{Vocabulary.world_of, Granting.{granted_behind, granted_left, tallied_behind}}
+use Rattle.mk_objects.{proofs.MayAct.{IsActing, may_grant, may_take, may_tally, off_four}, specs.Placing.{HeldIsExact}}
+use Rattle.mk_objects.proofs.{Reaching.{IsCallers, reaches_on, reaches_still}, Serves.{KnowsPlace, block_of}}
+use Rattle.mk_objects.proofs.Serves.{free_pages_of, out_of_stop, place_unused, served_acting}
 use Rattle.mk_objects.proofs.Serving.{IsTakenAt, ready_left, ready_takes, taken_behind, taken_left}
-use Rattle.mk_objects.proofs.{AdmittedNews.grant_admitted, AdmittedNews.register_small, HeldMore.held_is_little}
-use Rattle.mk_objects.proofs.{HeldMore.held_one_more, Looks.acts_there, Unchanged.acting_has_call}
-use Rattle.mk_objects.specs.Placing.{HeldIsExact}
+use Rattle.mk_objects.proofs.{AdmittedNews.{grant_admitted, register_small}, HeldMore.{held_is_little, held_one_more}}
+use Rattle.mk_objects.proofs.{Looks.acts_there, Unchanged.acting_has_call}
+use Rattle.mk_core.{proofs.WordBits.{bit_for_small, bit_is_none, bit_of_power, zero_from_bits}, specs.Bits.{bit_for}}
 use Rattle.mk_words.specs.{Steps.IsAdmittedTo, TurnSteps.granted_address}
 
 -- A bit more, where it wasn't set.

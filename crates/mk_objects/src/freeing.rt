@@ -1,18 +1,13 @@
 //! Freeing the object of a Free under the turn: it is quarantined, and counted.
 ghost use Rattle.std.specs.Prelude.{◌≡◌, ℕ, ◌<◌, true, false, IfOk, OnErr, Some, option_map};
-ghost use Rattle.mk_core.specs.declared.events.Word.TheVariants as word;
 ghost use Rattle.mk_geom.specs.Headers.{header_of};
-ghost use Rattle.mk_core.specs.Cells.{header_in, heads_run, run_headed, words_under};
-ghost use Rattle.mk_core.specs.Counts.{TalliesAreExact};
-ghost use Rattle.mk_core.specs.Moments.{none_is_held, nothing_done};
-ghost use Rattle.mk_core.specs.Words.{named_word};
+ghost use Rattle.mk_core.specs.{Cells.{header_in, heads_run, run_headed, words_under}, Counts.TalliesAreExact};
+ghost use Rattle.mk_core.specs.{Moments.{none_is_held, nothing_done}, Words.named_word};
 ghost use Rattle.mk_words.specs.States.{call_of, now_of};
-ghost use Rattle.mk_objects.specs.Deciding.{FreesCell, MayFree};
-ghost use Rattle.mk_objects.specs.FreeParts.{HasRunAt, HoldsOthers, SetsTally, run_on};
-ghost use Rattle.mk_objects.specs.Looking.{is_acting};
-ghost use Rattle.mk_objects.specs.Placing.{IsOutOfStop};
-ghost use Rattle.mk_objects.specs.Retired.{FindsFreed, Retires};
+ghost use Rattle.mk_objects.specs.{Deciding.{FreesCell, MayFree}, FreeParts.{HasRunAt, HoldsOthers, SetsTally, run_on}};
+ghost use Rattle.mk_objects.specs.{Looking.is_acting, Placing.IsOutOfStop, Retired.{FindsFreed, Retires}};
 ghost use Rattle.mk_objects.specs.Retiring.{IsUnloaded};
+ghost use Rattle.mk_core.specs.declared.events.Word.TheVariants as word;
 
 use crate::gates::hold_gates;
 use crate::looking::look_at;

@@ -1,13 +1,9 @@
 //! The gates of all other callers: a large Free holds them while its run is unmapped.
 ghost use Rattle.std.specs.Prelude.{◌≡◌, ℕ, ◌<◌, true, false};
-ghost use Rattle.mk_core.specs.Moments.{is_held, is_number_of, none_is_held};
-ghost use Rattle.mk_core.specs.NewPlaces.{is_run_gone};
+ghost use Rattle.mk_core.specs.{Moments.{is_held, is_number_of, none_is_held}, NewPlaces.is_run_gone};
 ghost use Rattle.mk_words.specs.States.{call_of, now_of};
-ghost use Rattle.mk_objects.specs.FreeParts.{HoldsOthers, SetsGate, SetsGates};
-ghost use Rattle.mk_objects.specs.FreeParts.{all_others, is_holding, is_settling, no_gate};
-ghost use Rattle.mk_objects.specs.Looking.{is_acting};
-ghost use Rattle.mk_objects.specs.Placing.{IsOutOfStop};
-ghost use Rattle.mk_objects.specs.Retiring.{value_of};
+ghost use Rattle.mk_objects.specs.FreeParts.{HoldsOthers, SetsGate, SetsGates, all_others, is_holding, is_settling};
+ghost use Rattle.mk_objects.specs.{FreeParts.no_gate, Looking.is_acting, Placing.IsOutOfStop, Retiring.value_of};
 
 use crossbeam_utils::Backoff;
 use mk_core::Seat;

@@ -1,11 +1,8 @@
 //! Looks of the turn's holder, at words that none but it changes.
 ghost use Rattle.std.specs.Prelude.{◌≡◌, ℕ, ◌<◌, ◌==◌, true};
-ghost use Rattle.mk_core.specs.Ranges.{is_word};
-ghost use Rattle.mk_core.specs.Words.{named_word, phase_of};
+ghost use Rattle.mk_core.specs.{Ranges.is_word, Words.{named_word, phase_of}};
 ghost use Rattle.mk_words.specs.States.{call_of, now_of};
-ghost use Rattle.mk_objects.specs.Looking.{is_acting, is_steady_word};
-ghost use Rattle.mk_objects.specs.Placing.{OnlyLooks};
-ghost use Rattle.mk_objects.specs.Retiring.{value_of};
+ghost use Rattle.mk_objects.specs.{Looking.{is_acting, is_steady_word}, Placing.OnlyLooks, Retiring.value_of};
 
 use mk_core::{Phase, Word};
 use mk_words::{Turn, Words};

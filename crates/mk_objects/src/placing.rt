@@ -1,12 +1,10 @@
 //! Placing the object of a New.
 ghost use Rattle.std.specs.Prelude.{◌≡◌, ◌==◌, true, false};
-ghost use Rattle.mk_core.specs.Calls.{d_of};
-ghost use Rattle.mk_core.specs.Words.{header_at, phase_of, used_at};
+ghost use Rattle.mk_core.specs.{Calls.d_of, Words.{header_at, phase_of, used_at}};
 ghost use Rattle.mk_words.specs.States.{call_of, now_of};
 ghost use Rattle.mk_turns.specs.Sweeping.{SweepsNothing};
 ghost use Rattle.mk_objects.specs.Placing.{GoesTo, HasCarved, HeldIsExact, MayTake, IsUnplaced, IsPlaced, FitsNowhere};
-ghost use Rattle.mk_objects.specs.Placing.{IsGranted, Requests, object_for};
-ghost use Rattle.mk_objects.specs.Shapes.{object_shaped};
+ghost use Rattle.mk_objects.specs.{Placing.{IsGranted, Requests, object_for}, Shapes.object_shaped};
 
 use crate::looking::{is_marking, look_at};
 use crate::objects::{Request, Shape, shape_of};

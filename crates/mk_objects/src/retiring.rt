@@ -1,16 +1,12 @@
 //! Freeing the object of a Free.
 ghost use Rattle.std.specs.Prelude.{◌≡◌, ℕ, ◌<◌, ◌==◌, ◌%◌, ◌||◌, not, true, false, Some};
 ghost use Rattle.mk_never.specs.declared.values.Value.TheVariants.{Null};
-ghost use Rattle.mk_core.specs.NewPlaces.{is_undecided_free, target};
+ghost use Rattle.mk_core.specs.{NewPlaces.{is_undecided_free, target}, Bits.has_bit, Cells.{header_in, heads_run}};
+ghost use Rattle.mk_core.specs.{Cells.is_freed, Moments.others_are_held, Words.named_word};
 ghost use Rattle.mk_words.specs.States.{call_of, now_of};
-ghost use Rattle.mk_core.specs.Bits.{has_bit};
-ghost use Rattle.mk_core.specs.Cells.{header_in, heads_run, is_freed};
-ghost use Rattle.mk_core.specs.Moments.{others_are_held};
-ghost use Rattle.mk_objects.specs.Placing.{IsOutOfStop, OnlyLooks};
+ghost use Rattle.mk_objects.specs.{Placing.{IsOutOfStop, OnlyLooks}, Dues.FreesOnce, Retiring.{HasFreed, HasLoaded}};
+ghost use Rattle.mk_objects.specs.Retiring.{HasSeen, IsFreeAt, IsUnloaded, loaded_free, value_of};
 ghost use Rattle.mk_core.specs.declared.events.Word.TheVariants as word;
-ghost use Rattle.mk_core.specs.Words.{named_word};
-ghost use Rattle.mk_objects.specs.Dues.{FreesOnce};
-ghost use Rattle.mk_objects.specs.Retiring.{HasFreed, HasLoaded, HasSeen, IsFreeAt, IsUnloaded, loaded_free, value_of};
 
 use crate::looking::look_at;
 use mk_core::{Word, has_cell};

@@ -1,14 +1,12 @@
 //! The search for the place of an object, by first fit. The page map that travels with the turn answers it: no word of
 //! the table is looked at.
-ghost use Rattle.std.specs.Prelude.{◌≡◌, ◌+◌, ◌<◌, ◌≤◌, ◌^◌, nat_lt, if◌then◌else◌, not, true, None, Some};
-ghost use Rattle.std.specs.Prelude.{option_map, false, ◌==◌, IfSome};
-ghost use Rattle.mk_geom.specs.Classes.{cells_of};
-ghost use Rattle.mk_geom.specs.PageUses.{first_where, is_free_page, place_on_uses, small_place};
-ghost use Rattle.mk_geom.specs.PageUses.{large_place, carved, resident_pages};
-ghost use Rattle.mk_geom.specs.PageWords.{bits_of, use_of_page, uses_of_pages};
+ghost use Rattle.std.specs.Prelude.{◌≡◌, ◌+◌, ◌<◌, ◌≤◌, ◌^◌, nat_lt, if◌then◌else◌, not, true, None, Some, option_map};
+ghost use Rattle.std.specs.Prelude.{false, ◌==◌, IfSome};
+ghost use Rattle.mk_geom.specs.{Classes.cells_of, PageUses.{first_where, is_free_page, place_on_uses, small_place}};
+ghost use Rattle.mk_geom.specs.{PageUses.{large_place, carved, resident_pages}, PageWords.{bits_of, use_of_page}};
+ghost use Rattle.mk_geom.specs.PageWords.{uses_of_pages};
 ghost use Rattle.mk_core.specs.Words.{header_at, page_of};
-ghost use Rattle.mk_page_map.specs.Laws.{free_cell_on};
-ghost use Rattle.mk_page_map.specs.Members.{has_free_cell};
+ghost use Rattle.mk_page_map.specs.{Laws.free_cell_on, Members.has_free_cell};
 ghost use Rattle.mk_words.specs.States.{now_of};
 
 use crate::objects::{SMALL_WORDS, Shape};

@@ -1,16 +1,12 @@
 //! The run of a large object that a Free has freed: its pages are unmapped, and then its words wiped, while the gates
 //! of all other callers are held.
 ghost use Rattle.std.specs.Prelude.{◌≡◌, ℕ, ◌+◌, ◌<◌, ◌≤◌, true, false, Some};
-ghost use Rattle.mk_core.specs.declared.seats.Stage.TheVariants as stage;
 ghost use Rattle.mk_core.specs.NewPlaces.{unmapped_header};
-ghost use Rattle.mk_geom.specs.Headers.{IsInRange};
-ghost use Rattle.mk_geom.specs.Storages.{run_header};
-ghost use Rattle.mk_words.specs.States.{call_of, now_of};
-ghost use Rattle.mk_words.specs.TurnSteps.{IsStopped};
-ghost use Rattle.mk_objects.specs.Deciding.{ClearsRun};
-ghost use Rattle.mk_objects.specs.FreeParts.{HoldsOthers, Unmaps};
-ghost use Rattle.mk_objects.specs.Placing.{IsOutOfStop};
+ghost use Rattle.mk_geom.specs.{Headers.IsInRange, Storages.run_header};
+ghost use Rattle.mk_words.specs.{States.{call_of, now_of}, TurnSteps.IsStopped};
+ghost use Rattle.mk_objects.specs.{Deciding.ClearsRun, FreeParts.{HoldsOthers, Unmaps}, Placing.IsOutOfStop};
 ghost use Rattle.mk_objects.specs.Unmapping.{IsStillMapped};
+ghost use Rattle.mk_core.specs.declared.seats.Stage.TheVariants as stage;
 
 use crate::gates::open_gates;
 use crate::wiping::wipe_run;

@@ -1,12 +1,10 @@
 //! The words of the run of a large object that a Free has freed and unmapped are wiped. Most are 0 already, so those of
 //! a group are looked at together first. A word that is 0 isn't stored to.
 ghost use Rattle.std.specs.Prelude.{◌≡◌, ◌+◌, ◌*◌, ◌/◌, ◌<◌, ◌≤◌, true, Some};
-ghost use Rattle.mk_core.specs.declared.seats.Stage.TheVariants as stage;
 ghost use Rattle.mk_core.specs.NewPlaces.{is_run_unmapped};
-ghost use Rattle.mk_words.specs.States.{call_of, now_of};
-ghost use Rattle.mk_words.specs.TurnSteps.{IsStopped};
-ghost use Rattle.mk_objects.specs.FreeParts.{Wipes};
-ghost use Rattle.mk_objects.specs.Unmapping.{AreWiped, MayWipe, WipesTo};
+ghost use Rattle.mk_words.specs.{States.{call_of, now_of}, TurnSteps.IsStopped};
+ghost use Rattle.mk_objects.specs.{FreeParts.Wipes, Unmapping.{AreWiped, MayWipe, WipesTo}};
+ghost use Rattle.mk_core.specs.declared.seats.Stage.TheVariants as stage;
 
 use mk_core::{RunPages, Word};
 use mk_geom::PAGE_WORDS;

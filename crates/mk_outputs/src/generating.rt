@@ -3,9 +3,8 @@ ghost use Rattle.std.specs.Prelude.{◌≡◌, ◌≤◌, ◌++◌, length, stri
 ghost use Rattle.mk_gen.specs.Generated.{generated_program};
 ghost use Rattle.mk_run.specs.Headline.{StandsInOneHistory};
 ghost use Rattle.mk_commands.specs.Commands.{IsWithin};
+ghost use Rattle.mk_outputs.specs.{Summary.{summary, total_line}, SummedTexts.{line_of_text, summary_of_texts, AreFew}};
 ghost use Rattle.mk_commands.specs.declared.commands.Command.TheVariants as Command;
-ghost use Rattle.mk_outputs.specs.Summary.{summary, total_line};
-ghost use Rattle.mk_outputs.specs.SummedTexts.{line_of_text, summary_of_texts, AreFew};
 
 use crate::running::outcome_of;
 use mk_check::Text;

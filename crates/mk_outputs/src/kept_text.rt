@@ -1,10 +1,8 @@
 //! The lines that report what the last cycle kept, and why.
-ghost use Rattle.std.specs.Prelude.{◌≡◌, ◌++◌, [], ◌∷◌, List, OnOk};
-ghost use Rattle.std.specs.List.{flat_map};
-ghost use Rattle.std.specs.Fmt.{decimal};
-ghost use lib.Chars.{codes};
+ghost use Rattle.std.specs.{Prelude.{◌≡◌, ◌++◌, [], ◌∷◌, List, OnOk}, List.flat_map, Fmt.decimal};
 ghost use Rattle.mk_script.specs.Canonical.{line_text};
 ghost use Rattle.mk_outputs.specs.KeptText.{root_words, links_text, entry_text, kept_text};
+ghost use lib.Chars.{codes};
 
 use crate::names::{global_name, register_name, script_name};
 use itoa::Buffer;

@@ -1,6 +1,5 @@
 //! The names of scripts, globals and registers, by their numbers.
-ghost use Rattle.std.specs.Prelude.{◌≡◌, [], slice_index_or};
-ghost use Rattle.std.specs.Option.{option_copied};
+ghost use Rattle.std.specs.{Prelude.{◌≡◌, [], slice_index_or}, Option.option_copied};
 ghost use Rattle.mk_script.specs.Scopes.{script_names, global_names, pointer_names};
 ghost use Rattle.mk_check.specs.Blocks.{script_of, before_next_script};
 ghost use Rattle.mk_outputs.specs.DeclaredNames.{declared_name, names_of};

@@ -1,13 +1,10 @@
 //! What a command writes, or why it is refused.
 ghost use Rattle.std.specs.Prelude.{◌≡◌, ◌≢◌, ◌≤◌, ◌⊎◌, Ok, Err, false, IfOk, IfErr, OnOk};
-ghost use Rattle.mk_io.specs.Bytes.{TakesAll};
-ghost use Rattle.mk_io.specs.Faults.{Rose};
+ghost use Rattle.mk_io.specs.{Bytes.TakesAll, Faults.Rose};
 ghost use Rattle.mk_script.specs.Grammar.{program_of};
 ghost use Rattle.mk_commands.specs.Commands.{AreWithin, IsWithin};
 ghost use Rattle.mk_outputs.specs.Outputs.{IsOutputOfCommand, IsOutput, IsOutputOf, IsStatusOf, status_on};
-ghost use Rattle.mk_outputs.specs.Outputs.{status_of_program};
-ghost use Rattle.mk_outputs.specs.Outputs.{status_of_text};
-ghost use Rattle.mk_outputs.specs.Statuses.{IsBeforeWriting, IsOfText};
+ghost use Rattle.mk_outputs.specs.{Outputs.{status_of_program, status_of_text}, Statuses.{IsBeforeWriting, IsOfText}};
 
 use crate::generating::summed;
 use crate::replays::replayed;

@@ -4,11 +4,9 @@ ghost use Rattle.mk_check.specs.Declarations.{config_of};
 ghost use Rattle.mk_cycle.specs.Begun.{CyclesAreBegun};
 ghost use Rattle.mk_engines.specs.Roots.{CyclesMarkRootsFirst};
 ghost use Rattle.mk_heap.specs.Reports.{history_of};
-ghost use Rattle.mk_run.specs.Headline.{cycles_go_on};
-ghost use Rattle.mk_run.specs.Running.{IsRunOf};
-ghost use Rattle.mk_run.specs.Unswept.{IsUnswept};
-ghost use Rattle.mk_commands.specs.declared.commands.TextCommand.TheVariants as TextCommand;
+ghost use Rattle.mk_run.specs.{Headline.cycles_go_on, Running.IsRunOf, Unswept.IsUnswept};
 ghost use Rattle.mk_outputs.specs.Outputs.{IsOutputOf, TellsKept};
+ghost use Rattle.mk_commands.specs.declared.commands.TextCommand.TheVariants as TextCommand;
 
 use crate::kept_text::push_kept;
 use crate::texts::joined;

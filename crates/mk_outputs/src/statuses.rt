@@ -1,9 +1,8 @@
 //! How the program ends.
 ghost use Rattle.std.specs.Prelude.{◌≡◌, IfOk, string_bytes};
-ghost use Rattle.mk_outputs.specs.Statuses as spec;
 ghost use Rattle.mk_outputs.specs.Statuses.{status_number, status_line, text_words, typing_words, which_word};
-ghost use Rattle.mk_outputs.specs.Statuses.{limit_words};
-ghost use Rattle.mk_outputs.specs.Statuses.{not_enabled_words};
+ghost use Rattle.mk_outputs.specs.Statuses.{limit_words, not_enabled_words};
+ghost use Rattle.mk_outputs.specs.Statuses as spec;
 
 use mk_check::{TypeKind, TypeStop};
 use mk_io::{INPUT_LIMIT, ReadStop};

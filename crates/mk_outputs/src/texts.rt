@@ -1,6 +1,5 @@
 //! The texts of scripts.
-ghost use Rattle.std.specs.Prelude.{◌≡◌, IfOk};
-ghost use Rattle.std.specs.List.{flat_map};
+ghost use Rattle.std.specs.{Prelude.{◌≡◌, IfOk}, List.flat_map};
 
 use mk_check::Text;
 use mk_never::NoMemory;

@@ -1,7 +1,6 @@
 //! What `trace` writes.
 ghost use Rattle.std.specs.Prelude.{◌≡◌, ◌⊎◌, IfOk, IfErr, OnOk};
-ghost use Rattle.mk_outputs.specs.Outputs.{IsOutputOnTrace, TellsOfPlay, status_on};
-ghost use Rattle.mk_outputs.specs.Statuses.{IsOfText};
+ghost use Rattle.mk_outputs.specs.{Outputs.{IsOutputOnTrace, TellsOfPlay, status_on}, Statuses.IsOfText};
 
 use crate::statuses::Status;
 use mk_commands::TextCommand;

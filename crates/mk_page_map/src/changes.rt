@@ -1,8 +1,7 @@
 //! What a page map is told of: each word of a page that is stored, and which free pages may be marked.
 ghost use Rattle.std.specs.Prelude.{◌≡◌, ℕ, ◌<◌, true, List, length, slice_set};
 ghost use Rattle.mk_geom.specs.declared.pages.Page.{Page};
-ghost use Rattle.mk_page_map.specs.KnownPages.{Shows, is_uncleaned, with_header, with_used};
-ghost use Rattle.mk_page_map.specs.Members.{page_at};
+ghost use Rattle.mk_page_map.specs.{KnownPages.{Shows, is_uncleaned, with_header, with_used}, Members.page_at};
 
 use crate::kinds::kind_of;
 use crate::page_map::PageMap;

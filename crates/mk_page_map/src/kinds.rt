@@ -1,9 +1,7 @@
 //! What pages are by their header words.
 ghost use Rattle.std.specs.Prelude.{◌≡◌, ℕ, ◌<◌, is_some, not};
-ghost use Rattle.mk_geom.specs.Classes.{cells_of};
-ghost use Rattle.mk_geom.specs.Headers.{header_of};
-ghost use Rattle.mk_geom.specs.PageUses.{first_where, is_free_page, is_resident_page};
-ghost use Rattle.mk_geom.specs.PageWords.{bits_of, use_under};
+ghost use Rattle.mk_geom.specs.{Classes.cells_of, Headers.header_of, PageUses.{first_where, is_free_page}};
+ghost use Rattle.mk_geom.specs.{PageUses.is_resident_page, PageWords.{bits_of, use_under}};
 ghost use Rattle.mk_page_map.specs.PageSets.{HasClass, use_of_kind};
 
 use mk_geom::{Header, cells, decode};

@@ -1,9 +1,8 @@
 //! Sets of page numbers, as bits: 64 pages in a word, and 64 words in a set, after a summary of which of them aren't 0.
 //! So a set's next page is found by two words of it and the summary.
-ghost use Rattle.std.specs.Prelude.{◌≡◌, ℕ, ◌+◌, ◌*◌, ◌<◌, ◌==◌, nat_lt, not};
-ghost use Rattle.std.specs.Int.{bit_at};
-ghost use Rattle.mk_page_map.specs.Members.{IsNext};
-ghost use Rattle.mk_page_map.specs.PageSets.{AreSets, OtherWordsStay, OthersStay, is_member, word_in_set};
+ghost use Rattle.std.specs.{Prelude.{◌≡◌, ℕ, ◌+◌, ◌*◌, ◌<◌, ◌==◌, nat_lt, not}, Int.bit_at};
+ghost use Rattle.mk_page_map.specs.{Members.IsNext, PageSets.{AreSets, OtherWordsStay, OthersStay, is_member}};
+ghost use Rattle.mk_page_map.specs.PageSets.{word_in_set};
 
 /// A summary and 64 words.
 pub(crate) const SET_WORDS: usize = 65;

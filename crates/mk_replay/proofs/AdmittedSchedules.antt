@@ -1,26 +1,25 @@
 -- The history that a schedule makes of a checked program asks for nothing that isn't admitted, so it is a history of
 -- the program's heap, and keeps all promises.
-use Rattle.std.proofs.lemmas.List.Elements.{All-nil, All-push}
-use Rattle.std.proofs.{Common.All, lemmas.List.get_or-replicate}
+use Rattle.std.proofs.{lemmas.List.Elements.{All-nil, All-push}, Common.All, lemmas.List.get_or-replicate}
 use Rattle.mk_replay.proofs.Vocabulary.{Answer, AreEnabled, Caller, Config, Decided, Entry, Event, Flight, Item, Moment}
 use Rattle.mk_replay.proofs.Vocabulary.{Op, Stage, Step, answer_decided, answers_given, asked, at_rest, calls}
 use Rattle.mk_replay.proofs.Vocabulary.{comes_next, config_of, ends_call, entry_of, event_of_entry, first_world}
 use Rattle.mk_replay.proofs.Vocabulary.{flight_of, history_of, is_same_seat, left, length-append, progress}
+use Rattle.mk_replay.proofs.AskedCalls.{Asks, BeginsAsAsked, Waits, others_step, own_step, same_asks, waits}
 use Rattle.mk_laws.proofs.Vocabulary.{Bool, Host, IsHistory, List, Marker, None, Option, Seat, Some, World, ℕ, ap}
 use Rattle.mk_laws.proofs.Vocabulary.{append-nil, append_assoc, arith, call_decided, cases_eq, enabled_meets}
 use Rattle.mk_laws.proofs.Vocabulary.{enabled_parts, false, found, get_or, get_or-set_other, get_or-set_same, inl, inr}
 use Rattle.mk_laws.proofs.Vocabulary.{left_more, length, ltb-true, map-append, refl, subst, sym, true, [], ◌&&◌, ◌++◌}
-use Rattle.mk_laws.proofs.Vocabulary.{◌+◌, ◌<◌, ◌∙◌, ◌∷◌, ◌≡◌, ◌≢◌}
+use Rattle.mk_laws.proofs.{Vocabulary.{◌+◌, ◌<◌, ◌∙◌, ◌∷◌, ◌≡◌, ◌≢◌}, Promises.histories_keep_all_promises}
 use Rattle.mk_core.proofs.Histories.{calls_more, last_enabled}
-use Rattle.mk_core.specs.{Effects.flights_behind, History.calls_from, History.left_from, Order.is_in_order}
-use Rattle.mk_laws.{proofs.Promises.histories_keep_all_promises, specs.Promises.KeepsAllPromises}
-use Rattle.mk_check.proofs.AdmittedScripts.{first_are_noted, scripts_are_admitted}
-use Rattle.mk_check.proofs.GivenAnswers.{among_more, as_list, counted, more_ended, other_number, same_number, serves}
+use Rattle.mk_core.specs.{Effects.flights_behind, History.{calls_from, left_from}, Order.is_in_order}
+use Rattle.mk_laws.specs.Promises.{KeepsAllPromises}
+use Rattle.mk_check.proofs.{AdmittedScripts.{first_are_noted, scripts_are_admitted}, GivenAnswers.{among_more, as_list}}
+use Rattle.mk_check.proofs.GivenAnswers.{counted, more_ended, other_number, same_number, serves}
 use Rattle.mk_check.proofs.ConfigLemmas.{config_within}
-use Rattle.mk_check.specs.{Feeding.next_op, Laws.IsChecked, Laws.IsScript, Output.answers_among, Output.ended_calls}
-use Rattle.mk_replay.proofs.AskedCalls.{Asks, BeginsAsAsked, Waits, others_step, own_step, same_asks, waits}
+use Rattle.mk_check.specs.{Feeding.next_op, Laws.{IsChecked, IsScript}, Output.{answers_among, ended_calls}}
 use Rattle.mk_replay.specs.Replays.{history_from, next_op_for, step_of}
-use Rattle.mk_script.{proofs.PassedLines.is_whole, specs.Scopes.script_names}
+use Rattle.mk_script.{proofs.PassedLines.{is_whole}, specs.Scopes.{script_names}}
 
 -- What one event more makes of a caller's answers, and of the count of its calls that ended.
 
@@ -108,7 +107,7 @@ module _ (program : List Item) (es : List Event) where
       same_asks program k (flight_of m (Caller k)) _ n _ all _ (asked (calls c es) ++ asked (entry_of j f.op a)) _
       (flight_behind e k ∙ get_or-set_other m.seats.flights j k _ at_rest (λ same. other (sym same)))
       (more_ended es e k ∙ ap (λ (b : Bool). counted n (b
-          && ends_call s)) (other_number k j (λ same. other (sym same))))
+      && ends_call s)) (other_number k j (λ same. other (sym same))))
       (ap (answers_among k) (calls_more c (first_world c) es e)
       ∙ (grind (arith, among_more, append-nil, other_number)))
       (asked_behind e) (others_step program k (flight_of m (Caller k)) n all (asked (calls c es)) h j f.op a other)

@@ -19,8 +19,7 @@ pub(crate) enum LineStop {
 }
 
 impl From<AllocError> for LineStop {
-    ghost use Rattle.mk_replay.specs.declared.lines.LineStop.{LineStop};
-    ghost use Rattle.mk_replay.specs.declared.lines.LineStop.TheVariants.{NoMemory};
+    ghost use Rattle.mk_replay.specs.{declared.lines.LineStop.LineStop, declared.lines.LineStop.TheVariants.NoMemory};
 
     ghost from_gives = { λ _ stop. stop ≡ NoMemory };
 

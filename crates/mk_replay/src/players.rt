@@ -1,11 +1,8 @@
 //! A script that takes part in a run.
 ghost use Rattle.std.specs.Prelude.{◌≡◌, ◌<◌, ◌+◌, ℕ, [], ◌∷◌, length, count_by, IfOk, OnOk, None};
-ghost use Rattle.mk_check.specs.Feed.{is_refusal};
-ghost use Rattle.mk_check.specs.Laws.{IsScript};
-ghost use Rattle.mk_check.specs.Declarations.{config_of};
-ghost use Rattle.mk_replay.specs.Replays.{IsReplayedText};
-ghost use Rattle.mk_replay.specs.Players.{Served, served_to, IsPlayerOf, PlayerTakesAnswer, TakesStep, FeedsOn};
-ghost use Rattle.mk_replay.specs.Players.{PlayerHasRoom};
+ghost use Rattle.mk_check.specs.{Feed.is_refusal, Laws.IsScript, Declarations.config_of};
+ghost use Rattle.mk_replay.specs.{Replays.IsReplayedText, Players.{Served, served_to, IsPlayerOf, PlayerTakesAnswer}};
+ghost use Rattle.mk_replay.specs.Players.{TakesStep, FeedsOn, PlayerHasRoom};
 
 use mk_check::{Checked, Feed, Text, is_refusal};
 use mk_core::Answer;

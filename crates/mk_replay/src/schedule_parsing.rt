@@ -1,11 +1,9 @@
 //! The reader of a script part and a schedule.
 ghost use Rattle.std.specs.Prelude.{◌≡◌, ◌≢◌, ◌<◌, ◌≤◌, ◌+◌, ◌^◌, length, Ok, Err, IfOk, IfErr, MatchOption};
-ghost use Rattle.mk_script.specs.Grammar.{longest_text};
-ghost use Rattle.mk_script.specs.Words.{lines_of, texts_of};
+ghost use Rattle.mk_script.specs.{Grammar.longest_text, Words.{lines_of, texts_of}};
+ghost use Rattle.mk_replay.specs.{Reading.{StandsAt, HasNone}, Schedules.{replay_of, entries_of_lines}};
 ghost use Rattle.mk_replay.specs.Reading as reading;
-ghost use Rattle.mk_replay.specs.Reading.{StandsAt, HasNone};
 ghost use Rattle.mk_replay.specs.Schedules as spec;
-ghost use Rattle.mk_replay.specs.Schedules.{replay_of, entries_of_lines};
 
 use crate::lines::{LineReader, LineStop};
 use crate::schedule::{Entry, Schedule};

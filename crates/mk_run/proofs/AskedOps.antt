@@ -1,8 +1,7 @@
 -- The operation that a script asks for is one.
 use Rattle.mk_laws.proofs.Vocabulary.{Answer, List, Op, Some, ℕ, ◌∙◌, ◌≡◌}
-use Rattle.mk_run.proofs.Vocabulary.{Item, next_op}
+use Rattle.mk_run.{proofs.Vocabulary.{Item, next_op}, specs.Scripts.{AsksFor}}
 use Rattle.mk_check.specs.Feeding.{FeedStandsFor, FeedState}
-use Rattle.mk_run.specs.Scripts.{AsksFor}
 
 -- what a script is found to ask for
 pub asked_op : (s : FeedState) (o p : Op) → AsksFor s o

@@ -4,11 +4,10 @@ use Rattle.mk_laws.proofs.Vocabulary.{Bool, Caller, Config, Host, IsHistory, Lis
 use Rattle.mk_laws.proofs.Vocabulary.{marker_at, outside, subst, sym, true, [], ◌++◌, ◌+◌, ◌<◌, ◌∙◌, ◌∷◌, ◌≡◌, ◌≤◌}
 use Rattle.mk_run.proofs.Vocabulary.{AreTextsFrom, CallersAreStill, Grows, Has, HasJoined, HasMade, HostState, IfOk}
 use Rattle.mk_run.proofs.Vocabulary.{IsOver, Item, PassState, WordsState, config_of, has_first, has_left, with_joined}
-use Rattle.mk_run.proofs.Vocabulary.{⊎_elim}
+use Rattle.mk_run.proofs.{Vocabulary.⊎_elim, WholeRuns.{all_callers_home, still_joined, still_texts}}
+use Rattle.mk_run.proofs.{HostTurns.still_last, JoinedScripts.same_or_later, LaterLists.of_one}
 use Rattle.mk_core.specs.{History.left_from, MarkerConditions.is_out}
 use Rattle.mk_heap.specs.Hosts.{pass_for, with_marker_made}
-use Rattle.mk_run.proofs.WholeRuns.{all_callers_home, still_joined, still_texts}
-use Rattle.mk_run.proofs.{HostTurns.still_last, JoinedScripts.same_or_later, LaterLists.of_one}
 use Rattle.mk_run.specs.{Marking.IsMarkersPass, declared.joining.Joined.Joined}
 use Rattle.mk_words.proofs.Seats.{has_right, without_keeps}
 

@@ -20,7 +20,7 @@ ready_first made_for program c k first rest are = (
 pub one_more : {E : Type 0} (made_for : E → ℕ) (program : List Item) (pages k : ℕ) (old : List (ReadyScript E))
     (last : ReadyScript E)
     → ((i : ℕ) (ready : ReadyScript E) → slice_get old i ≡ Some ready
-        → IsReadyScript made_for program pages (k + i) ready)
+    → IsReadyScript made_for program pages (k + i) ready)
     → IsReadyScript made_for program pages (k + length old) last
     → (i : ℕ) (ready : ReadyScript E) → slice_get (old ++ last ∷ []) i ≡ Some ready
     → IsReadyScript made_for program pages (k + i) ready

@@ -2,13 +2,11 @@
 ghost use Rattle.std.specs.Prelude.{◌≡◌, ◌<◌, ◌∷◌, [], IfOk, IfErr, OnErr, IfSome, IfNone, true, false, Bool};
 ghost use Rattle.mk_core.specs.Calls.{is_under_turn};
 ghost use Rattle.mk_never.specs.declared.operations.Op.{Op};
-ghost use Rattle.mk_caller.specs.Causes.{FindsGateHeld, IsRefused};
-ghost use Rattle.mk_caller.specs.Moves.{is_access};
-ghost use Rattle.mk_caller.specs.States.{caller_of_pass, Admits};
+ghost use Rattle.mk_caller.specs.{Causes.{FindsGateHeld, IsRefused}, Moves.is_access, States.{caller_of_pass, Admits}};
 ghost use Rattle.mk_turns.specs.Sweeping.{SweepsNothing};
 ghost use Rattle.mk_cycle.specs.Begun.{EachIsBegun};
-ghost use Rattle.mk_run.specs.Scripts.{IsCalled, IsAdmittedByOwnCalls, Answers};
-ghost use Rattle.mk_run.specs.Scripts.{AsksFor, AsksBesideTurns, IsPutOff, StaysBeside};
+ghost use Rattle.mk_run.specs.Scripts.{IsCalled, IsAdmittedByOwnCalls, Answers, AsksFor, AsksBesideTurns, IsPutOff};
+ghost use Rattle.mk_run.specs.Scripts.{StaysBeside};
 
 use mk_alloc::{free_object, new_object};
 use mk_caller::{Caller, Refusal};

@@ -1,12 +1,10 @@
 //! Scripts on threads of their own, and the host that joins them.
-ghost use Rattle.std.specs.Prelude.{◌≡◌, ◌+◌, ◌∷◌, IfOk, IsOk, OnOk};
-ghost use Rattle.std.specs.Thread.{IsSync};
+ghost use Rattle.std.specs.{Prelude.{◌≡◌, ◌+◌, ◌∷◌, IfOk, IsOk, OnOk}, Thread.IsSync};
+ghost use Rattle.mk_check.specs.Laws.{IsScript};
+ghost use Rattle.mk_run.specs.{Joining.{IsFirstPass, HasMade, HasRun, AreJoined}, Keeping.{ScriptsKeep, SeatKeeps}};
+ghost use Rattle.mk_run.specs.Ready.{AreReadyFrom, IsReadyScript};
 ghost use Rattle.mk_core.specs.declared.events.Seat.TheVariants as seat;
 ghost use denote.Param.Send.{IsSend};
-ghost use Rattle.mk_check.specs.Laws.{IsScript};
-ghost use Rattle.mk_run.specs.Joining.{IsFirstPass, HasMade, HasRun, AreJoined};
-ghost use Rattle.mk_run.specs.Keeping.{ScriptsKeep, SeatKeeps};
-ghost use Rattle.mk_run.specs.Ready.{AreReadyFrom, IsReadyScript};
 
 use crate::paces::Pace;
 use crate::ready::ReadyScript;

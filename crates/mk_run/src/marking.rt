@@ -1,13 +1,9 @@
 //! Markers on threads of their own, beside the scripts.
-ghost use Rattle.std.specs.Prelude.{◌≡◌, ◌+◌, true, false};
-ghost use Rattle.std.specs.Thread.{IsSync};
-ghost use denote.Param.Send.{IsSend};
+ghost use Rattle.std.specs.{Prelude.{◌≡◌, ◌+◌, true, false}, Thread.IsSync};
 ghost use Rattle.mk_marker.specs.Markers.{attends};
-ghost use Rattle.mk_run.specs.Joining.{HasMade};
-ghost use Rattle.mk_run.specs.Keeping.{ScriptsKeep};
-ghost use Rattle.mk_run.specs.LastTurns.{TakesLastTurns};
-ghost use Rattle.mk_run.specs.Marking.{IsMarkersPass, IsOver};
-ghost use Rattle.mk_run.specs.Ready.{IsReadyRun};
+ghost use Rattle.mk_run.specs.{Joining.HasMade, Keeping.ScriptsKeep, LastTurns.TakesLastTurns};
+ghost use Rattle.mk_run.specs.{Marking.{IsMarkersPass, IsOver}, Ready.IsReadyRun};
+ghost use denote.Param.Send.{IsSend};
 
 use crate::joining::{Joined, run_from};
 use crate::last_turns::take_last_turns;

@@ -3,9 +3,7 @@ ghost use Rattle.std.specs.Prelude.{◌≡◌, ◌≤◌, IfOk, true, false};
 ghost use Rattle.mk_check.specs.Declarations.{config_of};
 ghost use Rattle.mk_cycle.specs.Begun.{CyclesAreBegun};
 ghost use Rattle.mk_heap.specs.Reports.{history_of};
-ghost use Rattle.mk_run.specs.LastCycle.{EndsWithCycle};
-ghost use Rattle.mk_run.specs.Running.{IsRunOf};
-ghost use Rattle.mk_run.specs.Unswept.{IsUnswept};
+ghost use Rattle.mk_run.specs.{LastCycle.EndsWithCycle, Running.IsRunOf, Unswept.IsUnswept};
 
 use crate::joining::Joined;
 use crate::marking::{Ended, run_beside};

@@ -2,15 +2,11 @@
 ghost use Rattle.std.specs.Prelude.{◌≡◌, ℕ, List, ◌+◌, [], ◌∷◌, count_by, IfOk, OnOk, true, false};
 ghost use Rattle.mk_core.specs.declared.events.Answer.{Answer};
 ghost use Rattle.mk_script.specs.declared.items.Item.{Item};
-ghost use Rattle.mk_check.specs.Declarations.{config_of};
-ghost use Rattle.mk_check.specs.Feed.{feed as feed_with};
-ghost use Rattle.mk_check.specs.Feeding.{IsWaiting};
-ghost use Rattle.mk_check.specs.Laws.{IsScript};
+ghost use Rattle.mk_check.specs.{Declarations.config_of, Feed.feed as feed_with, Feeding.IsWaiting, Laws.IsScript};
 ghost use Rattle.mk_caller.specs.States.{caller_of_pass};
 ghost use Rattle.mk_turns.specs.Sweeping.{SweepsNothing};
 ghost use Rattle.mk_cycle.specs.Begun.{EachIsBegun};
-ghost use Rattle.mk_run.specs.Ready.{IsReadyScript};
-ghost use Rattle.mk_run.specs.Running.{answers_in, FollowsScript, EndsScript, IsTextOf};
+ghost use Rattle.mk_run.specs.{Ready.IsReadyScript, Running.{answers_in, FollowsScript, EndsScript, IsTextOf}};
 ghost use Rattle.mk_run.specs.Scripts.{CountsHaveRoom, IsFedWith, ScriptTakesAnswer, script_of};
 
 use crate::answers::{answer_at_once, answer_put_off};

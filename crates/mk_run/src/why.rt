@@ -4,9 +4,7 @@ ghost use Rattle.mk_check.specs.Declarations.{config_of};
 ghost use Rattle.mk_cycle.specs.Begun.{CyclesAreBegun};
 ghost use Rattle.mk_heap.specs.Reports.{history_of};
 ghost use Rattle.mk_why.specs.Chains.{AreKept};
-ghost use Rattle.mk_run.specs.LastCycle.{EndsWithCycle};
-ghost use Rattle.mk_run.specs.Running.{IsRunOf};
-ghost use Rattle.mk_run.specs.Unswept.{IsUnswept};
+ghost use Rattle.mk_run.specs.{LastCycle.EndsWithCycle, Running.IsRunOf, Unswept.IsUnswept};
 
 use crate::outcomes::Outcome;
 use crate::paces::Pace;

@@ -1,12 +1,9 @@
 //! The fields of a type's line.
 ghost use Rattle.std.specs.Prelude.{◌≡◌, ◌↔◌, ◌++◌, ◌-◌, ◌^◌, min, [], ◌∷◌, length, replicate, option_map};
-ghost use Rattle.std.specs.Prelude.{option_and_then, false, IsNone, IfSome, IfOk, OnOk};
-ghost use Rattle.std.specs.Result.{result_ok};
-ghost use Rattle.mk_script.specs.Names.{number_of_word};
+ghost use Rattle.std.specs.{Prelude.{option_and_then, false, IsNone, IfSome, IfOk, OnOk}, Result.result_ok};
+ghost use Rattle.mk_script.specs.{Names.number_of_word, Operands.{field_of, are_fields, fields_of}};
+ghost use Rattle.mk_script.specs.{Fields.words_of_field, Words.texts_of};
 ghost use Rattle.mk_script.specs.Operands as spec;
-ghost use Rattle.mk_script.specs.Operands.{field_of, are_fields, fields_of};
-ghost use Rattle.mk_script.specs.Fields.{words_of_field};
-ghost use Rattle.mk_script.specs.Words.{texts_of};
 
 use crate::items::{At, TypeWord, TypeWords};
 use crate::numbers::parse_number;

@@ -1,11 +1,8 @@
 //! One line, after others.
 ghost use Rattle.std.specs.Prelude.{◌≡◌, ◌≢◌, ◌-◌, ◌^◌, List, ◌∷◌, length, min, true, Some};
+ghost use Rattle.mk_script.specs.{Lines.{checked_item, placed_item, line_of}, Operands.{fields_of, item_from}};
+ghost use Rattle.mk_script.specs.{ScopeOf.IsScopeOf, Stops.{Gives, checked_behind}, Words.texts_of};
 ghost use Rattle.mk_script.specs.Lines as spec;
-ghost use Rattle.mk_script.specs.Lines.{checked_item, placed_item, line_of};
-ghost use Rattle.mk_script.specs.Operands.{fields_of, item_from};
-ghost use Rattle.mk_script.specs.ScopeOf.{IsScopeOf};
-ghost use Rattle.mk_script.specs.Stops.{Gives, checked_behind};
-ghost use Rattle.mk_script.specs.Words.{texts_of};
 
 use crate::faults::{LineFault, LineStop, TextKind, WORD};
 use crate::fields::{type_words, word_count};

@@ -1,6 +1,5 @@
 //! Sets of names.
-ghost use Rattle.std.specs.Prelude.{◌≡◌, ◌<◌, ◌^◌, [], ◌∷◌, ◌++◌, length, false, OnOk};
-ghost use Rattle.std.specs.List.Sorted.{IsPermutation};
+ghost use Rattle.std.specs.{Prelude.{◌≡◌, ◌<◌, ◌^◌, [], ◌∷◌, ◌++◌, length, false, OnOk}, List.Sorted.IsPermutation};
 ghost use Rattle.mk_script.specs.Lines.{is_among};
 
 use crate::names::Name;

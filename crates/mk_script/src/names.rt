@@ -1,9 +1,7 @@
 //! Names of types, scripts and registers.
-ghost use Rattle.std.specs.Prelude.{◌≡◌};
+ghost use Rattle.std.specs.{Prelude.◌≡◌, List.list_all, Str.bytes_eq};
 ghost use Rattle.mk_script.specs.Names.{name_of};
 ghost use Rattle.mk_script.specs.Names as spec;
-ghost use Rattle.std.specs.List.{list_all};
-ghost use Rattle.std.specs.Str.{bytes_eq};
 
 use std::marker::Model;
 

@@ -1,8 +1,7 @@
 //! What a word says in its place on a line.
-ghost use Rattle.std.specs.Prelude.{◌≡◌, false, MatchOption, position};
-ghost use Rattle.std.specs.List.{list_any};
-ghost use Rattle.mk_script.specs.Operands as spec;
+ghost use Rattle.std.specs.{Prelude.{◌≡◌, false, MatchOption, position}, List.list_any};
 ghost use Rattle.mk_script.specs.Operands.{is_plus, IsCutAtPlus};
+ghost use Rattle.mk_script.specs.Operands as spec;
 
 use crate::faults::{LineFault, TextKind};
 use crate::items::At;

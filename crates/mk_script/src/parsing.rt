@@ -1,9 +1,8 @@
 //! The reader.
 ghost use Rattle.std.specs.Prelude.{◌≡◌, ◌≢◌, IfOk, IfErr, MatchResult, Ok, Err};
-ghost use Rattle.mk_script.specs.Grammar as spec;
-ghost use Rattle.mk_script.specs.Grammar.{program_of, items_of_lines};
-ghost use Rattle.mk_script.specs.ScopeOf.{IsScopeOf, ReadsLine, IsStopOfLine};
+ghost use Rattle.mk_script.specs.{Grammar.{program_of, items_of_lines}, ScopeOf.{IsScopeOf, ReadsLine, IsStopOfLine}};
 ghost use Rattle.mk_script.specs.Words.{lines_of, words_of_line};
+ghost use Rattle.mk_script.specs.Grammar as spec;
 
 use crate::faults::{LineStop, TEXT_LIMIT, TOO_LONG, TextKind, TextStop, Which};
 use crate::scope::Scope;

@@ -1,10 +1,8 @@
 //! The canonical text of a program.
-ghost use Rattle.std.specs.Prelude.{◌≡◌, ◌++◌, [], ◌∷◌, IfOk, map, slice_index_or};
-ghost use Rattle.std.specs.Fmt.{decimal};
-ghost use lib.Chars.{codes};
+ghost use Rattle.std.specs.{Prelude.{◌≡◌, ◌++◌, [], ◌∷◌, IfOk, map, slice_index_or}, Fmt.decimal};
 ghost use Rattle.mk_script.specs.Canonical.{at_text, numbers_before, fields_behind, words_of_item, line_text};
-ghost use Rattle.mk_script.specs.Canonical.{canonical_text};
-ghost use Rattle.mk_script.specs.Spaced.{spaced_words, joined_words, operand_text};
+ghost use Rattle.mk_script.specs.{Canonical.canonical_text, Spaced.{spaced_words, joined_words, operand_text}};
+ghost use lib.Chars.{codes};
 
 use crate::{At, Item, Name, Program, TypeWord};
 use itoa::Buffer;

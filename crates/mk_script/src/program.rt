@@ -13,8 +13,7 @@ pub struct Program {
 
 impl Model for Program {
     ghost use Rattle.std.specs.Prelude.{List};
-    ghost use Rattle.mk_script.specs.declared.items.Item.{Item};
-    ghost use Rattle.mk_script.specs.Grammar.{IsOfSomeText};
+    ghost use Rattle.mk_script.specs.{declared.items.Item.Item, Grammar.IsOfSomeText};
 
     ghost Value = { List Item };
 

@@ -1,10 +1,9 @@
 //! What the lines before a line say.
 ghost use Rattle.std.specs.Prelude.{◌≡◌, ◌<◌, ◌+◌, ◌^◌, List, [], ◌∷◌, ◌++◌, length, reverse, not, false, OnOk};
-ghost use Rattle.mk_script.specs.Lines as spec;
 ghost use Rattle.std.specs.Option.{option_or};
-ghost use Rattle.mk_script.specs.Lines.{is_among};
-ghost use Rattle.mk_script.specs.Scopes.{open_blocks, open_behind, behind_else, this_script, type_names};
-ghost use Rattle.mk_script.specs.ScopeOf.{IsScopeOf, BeginsScript, has_lines};
+ghost use Rattle.mk_script.specs.{Lines.is_among, Scopes.{open_blocks, open_behind, behind_else, this_script}};
+ghost use Rattle.mk_script.specs.{Scopes.type_names, ScopeOf.{IsScopeOf, BeginsScript, has_lines}};
+ghost use Rattle.mk_script.specs.Lines as spec;
 
 use crate::faults::{LineFault, TextKind, Which};
 use crate::items::Item;

@@ -1,6 +1,5 @@
 //! Lines and words.
-ghost use Rattle.std.specs.Prelude.{◌≡◌, ◌==◌, IfOk, OnOk};
-ghost use Rattle.std.specs.List.{slice_split};
+ghost use Rattle.std.specs.{Prelude.{◌≡◌, ◌==◌, IfOk, OnOk}, List.slice_split};
 ghost use Rattle.mk_script.specs.Words.{lines_of, words_of_line, texts_of};
 
 use std::alloc::{AllocError, Global};

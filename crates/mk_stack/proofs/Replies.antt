@@ -4,17 +4,16 @@ use Rattle.mk_stack.proofs.Vocabulary.{Answer, AreAdmitted, Call, Called, Config
 use Rattle.mk_stack.proofs.Vocabulary.{NeverState, Op, PassState, Replied, after_calls, after_op, answer_of, asked}
 use Rattle.mk_stack.proofs.Vocabulary.{caller_of_pass, calls, calls_from, flagged, left, never_behind, never_first}
 use Rattle.mk_stack.proofs.Vocabulary.{never_of, own_replied, register_at, replied_in, replied_to, reply_of, value_of}
+use Rattle.mk_stack.proofs.OwnCalls.{none_since}
 use Rattle.mk_laws.proofs.Vocabulary.{Bool, KeepsRegisters, List, Step, ℕ, ap, append-nil, append_assoc, arith}
 use Rattle.mk_laws.proofs.Vocabulary.{bases_of, call_decided, earlier_part_is_history, eq-eqb, false, first_world}
 use Rattle.mk_laws.proofs.Vocabulary.{if◌then◌else◌, length, map-append, refl, subst, sym, true, [], ◌++◌, ◌<◌, ◌==◌}
-use Rattle.mk_laws.proofs.Vocabulary.{◌∙◌, ◌∷◌, ◌≡◌}
+use Rattle.mk_laws.proofs.{Vocabulary.{◌∙◌, ◌∷◌, ◌≡◌}, LastEvents.{comes_last, stands}}
 use Rattle.mk_never.specs.Admitted.{IsCaller}
 use Rattle.mk_core.proofs.{Histories.calls_more, HistoryParts.calls_in_parts}
-use Rattle.mk_laws.proofs.LastEvents.{comes_last, stands}
 use Rattle.mk_alloc.specs.TurnCalls.{CalledInTurn}
 use Rattle.mk_caller.proofs.OwnSteps.{by_append, calls_by}
-use Rattle.mk_caller.specs.{Called.IsDecidedIn, Called.own_calls, Causes.FindsGateHeld}
-use Rattle.mk_stack.proofs.OwnCalls.{none_since}
+use Rattle.mk_caller.specs.{Called.{IsDecidedIn, own_calls}, Causes.FindsGateHeld}
 use Rattle.mk_words.specs.States.{event_of}
 
 -- A caller's operations in two parts

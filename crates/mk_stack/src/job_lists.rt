@@ -1,7 +1,6 @@
 //! Lists of jobs, each done by a caller of its own.
 ghost use Rattle.std.specs.Prelude.{◌≡◌, IfOk};
-ghost use Rattle.mk_stack.specs.JobLists.{DoesJobs};
-ghost use Rattle.mk_stack.specs.Ready.{IsReadyForJobs};
+ghost use Rattle.mk_stack.specs.{JobLists.DoesJobs, Ready.IsReadyForJobs};
 
 use crate::jobs::{Done, Job};
 use crate::stacks::do_job;

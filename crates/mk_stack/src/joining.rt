@@ -1,11 +1,9 @@
 //! Callers on threads of their own, and the host that joins them.
-ghost use Rattle.std.specs.Prelude.{◌≡◌, ◌+◌, ◌<◌, ◌∷◌, [], drop, slice_get, IfSome, List, ℕ};
-ghost use Rattle.std.specs.Thread.{IsSync};
-ghost use denote.Param.Send.{IsSend};
+ghost use Rattle.std.specs.{Prelude.{◌≡◌, ◌+◌, ◌<◌, ◌∷◌, [], drop, slice_get, IfSome, List, ℕ}, Thread.IsSync};
 ghost use Rattle.mk_caller.specs.States.{IsIdleCaller};
-ghost use Rattle.mk_stack.specs.Jobs.{Replied};
-ghost use Rattle.mk_stack.specs.Joining.{AreCallersFrom, HasHandedOut, HasWorked, HaveWorked, IsBetweenJobs};
-ghost use Rattle.mk_stack.specs.Passes.{replied_to};
+ghost use Rattle.mk_stack.specs.{Jobs.Replied, Joining.{AreCallersFrom, HasHandedOut, HasWorked, HaveWorked}};
+ghost use Rattle.mk_stack.specs.{Joining.IsBetweenJobs, Passes.replied_to};
+ghost use denote.Param.Send.{IsSend};
 
 use crate::engines::CallerEngines;
 use crate::job_lists::{Dones, Jobs, run_jobs};

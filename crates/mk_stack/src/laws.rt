@@ -1,7 +1,6 @@
 //! What holds of stacks, however the operations of their callers are interleaved. Each law is the contract of a
 //! function that does nothing.
-ghost use Rattle.mk_stack.specs.Histories.{JobsAddUp, JobsInHistoriesAreLinearizable};
-ghost use Rattle.mk_stack.specs.Laws.{StacksAreLinearizable};
+ghost use Rattle.mk_stack.specs.{Histories.{JobsAddUp, JobsInHistoriesAreLinearizable}, Laws.StacksAreLinearizable};
 
 /// Jobs are linearizable: one order of all of them, each at an operation of its own, is explained by a plain list of
 /// numbers, and leaves what is on the stack. Each node that was granted is on the stack, or was freed once.

@@ -1,12 +1,9 @@
 //! Markers on threads of their own, beside the callers.
-ghost use Rattle.std.specs.Prelude.{◌≡◌, ◌+◌, ◌∷◌, [], length, List, ℕ};
-ghost use Rattle.std.specs.Thread.{IsSync};
-ghost use denote.Param.Send.{IsSend};
+ghost use Rattle.std.specs.{Prelude.{◌≡◌, ◌+◌, ◌∷◌, [], length, List, ℕ}, Thread.IsSync};
 ghost use Rattle.mk_marker.specs.Markers.{IsMarkers, IsOut};
 ghost use Rattle.mk_run.specs.Marking.{IsMarkersPass};
-ghost use Rattle.mk_stack.specs.Engines.{AreEnginesOf};
-ghost use Rattle.mk_stack.specs.Joining.{HasHandedOut, HaveEnded};
-ghost use Rattle.mk_stack.specs.declared.job_lists.Jobs.{Jobs};
+ghost use Rattle.mk_stack.specs.{Engines.AreEnginesOf, Joining.{HasHandedOut, HaveEnded}, declared.job_lists.Jobs.Jobs};
+ghost use denote.Param.Send.{IsSend};
 
 use crate::engines::Engines;
 use crate::shared::Run;

@@ -1,8 +1,7 @@
 //! Numbers on a stack that callers share.
 ghost use Rattle.std.specs.Prelude.{◌≡◌, ◌<◌, OnOk, OnErr};
 ghost use Rattle.mk_caller.specs.States.{value_of};
-ghost use Rattle.mk_stack.specs.Advancing.{HoldsAt, IsFit, IsGoal, StaysEnded};
-ghost use Rattle.mk_stack.specs.Passes.{DoesJob, GoesToPoint, popped};
+ghost use Rattle.mk_stack.specs.{Advancing.{HoldsAt, IsFit, IsGoal, StaysEnded}, Passes.{DoesJob, GoesToPoint, popped}};
 ghost use Rattle.mk_stack.specs.Ready.{IsReady, IsReadyForJobs};
 
 use crate::advancing::{BELOW, NODE, UPPERMOST, next_point, op_at};

@@ -1,8 +1,7 @@
 //! A walk down the stack: a caller reads what is on it.
 ghost use Rattle.std.specs.Prelude.{◌≡◌, IfOk};
+ghost use Rattle.mk_stack.specs.{Ready.IsReady, Walks.{HasWalked, found_down, op_down}};
 ghost use Rattle.mk_stack.specs.declared.walking.WalkPoint.TheVariants as walk;
-ghost use Rattle.mk_stack.specs.Ready.{IsReady};
-ghost use Rattle.mk_stack.specs.Walks.{HasWalked, found_down, op_down};
 
 use crate::advancing::{
     FIRST, LINK, STACK, TOP, UPPERMOST, load, load_number, number_answered, says_yes,

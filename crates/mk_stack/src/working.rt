@@ -1,11 +1,10 @@
 //! All that happens on a stack: it is founded, callers do their jobs, and what is left is read.
-ghost use Rattle.std.specs.Prelude.{◌≡◌, ◌<◌, IfOk, false};
-ghost use Rattle.std.specs.Thread.{IsSync};
+ghost use Rattle.std.specs.{Prelude.{◌≡◌, ◌<◌, IfOk, false}, Thread.IsSync};
+ghost use Rattle.mk_words.specs.Seats.{Has, has_over};
+ghost use Rattle.mk_stack.specs.{Engines.{AreEnginesFrom, AreEnginesOf}, Joining.{HasHandedOut, HaveEnded}};
+ghost use Rattle.mk_stack.specs.Joining.{HaveFoundedAndWorked, IsReader, ReadsStack};
 ghost use denote.Param.Send.{IsSend};
 ghost use Rattle.mk_core.specs.declared.events.Seat.TheVariants as seat;
-ghost use Rattle.mk_words.specs.Seats.{Has, has_over};
-ghost use Rattle.mk_stack.specs.Engines.{AreEnginesFrom, AreEnginesOf};
-ghost use Rattle.mk_stack.specs.Joining.{HasHandedOut, HaveEnded, HaveFoundedAndWorked, IsReader, ReadsStack};
 
 use crate::engines::{CallerEngines, Engines};
 use crate::job_lists::Dones;

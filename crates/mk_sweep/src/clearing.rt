@@ -1,7 +1,6 @@
 //! Before a sweep all black words are cleared, and then all dirty words.
 ghost use Rattle.std.specs.Prelude.{◌≡◌, ℕ, ◌<◌, [], slice_index};
-ghost use Rattle.mk_tracing.specs.Grays.{BlacksFewer, DirtyFewer};
-ghost use Rattle.mk_tracing.specs.Stops.{still_words};
+ghost use Rattle.mk_tracing.specs.{Grays.{BlacksFewer, DirtyFewer}, Stops.still_words};
 ghost use Rattle.mk_sweep.specs.Sweeping.{IsSweeping, SweepsOn};
 
 use mk_words::{Stopped, Words};

@@ -3,8 +3,7 @@ ghost use Rattle.std.specs.Prelude.{◌≡◌, ℕ, ◌<◌, length, slice_index
 ghost use Rattle.mk_cycle.specs.EngineLaw.{ClosesMarks, IsAtPhase, IsFreeForCycle};
 ghost use Rattle.mk_laws.specs.Guard.{CellsAreClosed};
 ghost use Rattle.mk_tracing.specs.Stops.{still_words};
-ghost use Rattle.mk_sweep.specs.Sweeping.{IsSweeping, PageIsBlack, PointWell, SweepsOn, words_below};
-ghost use Rattle.mk_sweep.specs.Sweeps.{Sweeps};
+ghost use Rattle.mk_sweep.specs.{Sweeping.{IsSweeping, PageIsBlack, PointWell, SweepsOn, words_below}, Sweeps.Sweeps};
 
 use crate::blackening::blacken_all;
 use crate::clearing::{unblack_all, undirty_all};

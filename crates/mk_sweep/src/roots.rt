@@ -1,8 +1,6 @@
 //! Marks from the roots: the registers and the globals.
 ghost use Rattle.std.specs.Prelude.{◌≡◌, ℕ, ◌<◌, [], true};
-ghost use Rattle.mk_core.specs.Cells.{points_well};
-ghost use Rattle.mk_core.specs.Ranges.{is_word};
-ghost use Rattle.mk_core.specs.Words.{named_word};
+ghost use Rattle.mk_core.specs.{Cells.points_well, Ranges.is_word, Words.named_word};
 ghost use Rattle.mk_tracing.specs.Grays.{GlobalIsWell, RegistersAreWell, MarksMore, RootsPointWell};
 ghost use Rattle.mk_tracing.specs.Stops.{is_root, still_words};
 ghost use Rattle.mk_sweep.specs.Sweeping.{IsSweeping, SweepsOn};

@@ -1,13 +1,11 @@
 //! The sweep: page by page, each word of each used cell that may have pointers is looked at, and what it points into is
 //! marked.
-ghost use Rattle.std.specs.Prelude.{◌≡◌, ℕ, ◌+◌, ◌<◌, ◌≤◌, true, false, length};
-ghost use Rattle.std.specs.List.{range_with_len};
-ghost use Rattle.mk_core.specs.Cells.{has_no_pointers, header_in};
-ghost use Rattle.mk_core.specs.Words.{header_at, used_at};
+ghost use Rattle.std.specs.{Prelude.{◌≡◌, ℕ, ◌+◌, ◌<◌, ◌≤◌, true, false, length}, List.range_with_len};
+ghost use Rattle.mk_core.specs.{Cells.{has_no_pointers, header_in}, Words.{header_at, used_at}};
 ghost use Rattle.mk_words.specs.States.{world_of};
 ghost use Rattle.mk_tracing.specs.Stops.{still_words};
-ghost use Rattle.mk_sweep.specs.Swept.{IsScannedWord};
-ghost use Rattle.mk_sweep.specs.Sweeping.{IsSweeping, SweepsWords, words_below, words_if, words_on};
+ghost use Rattle.mk_sweep.specs.{Swept.IsScannedWord, Sweeping.{IsSweeping, SweepsWords, words_below, words_if}};
+ghost use Rattle.mk_sweep.specs.Sweeping.{words_on};
 
 use crate::stepping::{look_at, look_at_word};
 use crate::values::mark_value;

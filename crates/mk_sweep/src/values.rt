@@ -1,8 +1,7 @@
 //! What values point into, and the marks by them.
 ghost use Rattle.std.specs.Prelude.{◌≡◌, ◌<◌, [], true};
 ghost use Rattle.mk_core.specs.Cells.{is_marked, points_well};
-ghost use Rattle.mk_tracing.specs.Grays.{MarksMore};
-ghost use Rattle.mk_tracing.specs.Stops.{hand_of, still_words};
+ghost use Rattle.mk_tracing.specs.{Grays.MarksMore, Stops.{hand_of, still_words}};
 ghost use Rattle.mk_sweep.specs.Sweeping.{HasInHand, IsSweeping, SweepsOn};
 
 use crate::stepping::{look_at, mark_cell};

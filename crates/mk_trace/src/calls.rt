@@ -1,15 +1,10 @@
 //! The calls of the one caller of a heap. Between them the host has its seat, and so has seen all.
 ghost use Rattle.std.specs.Prelude.{◌≡◌, ◌+◌, ◌<◌, ◌≤◌, IfOk, false};
-ghost use Rattle.mk_core.specs.Calls.{is_under_turn};
-ghost use Rattle.mk_core.specs.Counts.{ends};
-ghost use Rattle.mk_core.specs.History.{never_behind};
+ghost use Rattle.mk_core.specs.{Calls.is_under_turn, Counts.ends, History.never_behind};
 ghost use Rattle.mk_trace.specs.Calls.{CallerIsHome, MayCome, MayBePlayed, Calls, PlaysEvent, most_held};
-ghost use Rattle.mk_trace.specs.Calls.{HoldsMostAtEnd};
-ghost use Rattle.mk_trace.specs.Ends.{EndsTell, IsBetweenCycles, LeavesAllocations};
-ghost use Rattle.mk_trace.specs.ExactPlays.{StayExact};
-ghost use Rattle.mk_trace.specs.Freeing.{FlagsBehindCall, FreesItsSlot, FreesSlot, QuarantinesMostWhereFreed};
-ghost use Rattle.mk_trace.specs.Ledgers.{Keeps};
-ghost use Rattle.mk_trace.specs.Traces.{slot_of};
+ghost use Rattle.mk_trace.specs.{Calls.HoldsMostAtEnd, Ends.{EndsTell, IsBetweenCycles, LeavesAllocations}};
+ghost use Rattle.mk_trace.specs.{ExactPlays.StayExact, Freeing.{FlagsBehindCall, FreesItsSlot, FreesSlot}};
+ghost use Rattle.mk_trace.specs.{Freeing.QuarantinesMostWhereFreed, Ledgers.Keeps, Traces.slot_of};
 
 use crate::ledger::Ledger;
 use crate::looking::{look, object_to_free};

@@ -1,11 +1,8 @@
 //! Laws of traces and peaks.
 ghost use Rattle.std.specs.Prelude.{ℕ, List};
-ghost use Rattle.mk_core.specs.declared.config.Config.{Config};
-ghost use Rattle.mk_core.specs.declared.events.Event.{Event};
+ghost use Rattle.mk_core.specs.{declared.config.Config.Config, declared.events.Event.Event};
 ghost use Rattle.mk_core.specs.Allocations.{PlacedAllocation};
-ghost use Rattle.mk_trace.specs.Laws.{IsPlayable, IsGreatest};
-ghost use Rattle.mk_trace.specs.PeakBounds.{BoundsMeetPeaks};
-ghost use Rattle.mk_trace.specs.Peaks.{greatest};
+ghost use Rattle.mk_trace.specs.{Laws.{IsPlayable, IsGreatest}, PeakBounds.BoundsMeetPeaks, Peaks.greatest};
 ghost use Rattle.mk_trace.specs.Traces.{Contents, IsOfSomeTraceText};
 
 /// A trace of some text can be played: its heap is within the limits, and its events are of its slots.

@@ -1,10 +1,8 @@
 //! Peaks of played traces, and the lines in which they are printed.
-ghost use Rattle.std.specs.Prelude.{◌≡◌, ◌++◌, [], ◌∷◌, IfOk, OnOk};
-ghost use Rattle.std.specs.Fmt.{decimal};
-ghost use Rattle.std.specs.String.{string_bytes};
-ghost use lib.Chars.{codes};
+ghost use Rattle.std.specs.{Prelude.{◌≡◌, ◌++◌, [], ◌∷◌, IfOk, OnOk}, Fmt.decimal, String.string_bytes};
 ghost use Rattle.mk_script.specs.Canonical.{line_text};
 ghost use Rattle.mk_trace.specs.Printed.{text_of_counts, text_of_ages, peaks_text};
+ghost use lib.Chars.{codes};
 
 use mk_heap::Report;
 use mk_never::NoMemory;

@@ -1,13 +1,9 @@
 //! Playing traces.
 ghost use Rattle.std.specs.Prelude.{◌≡◌, ◌+◌, ◌<◌, [], false, if◌then◌else◌, IfOk};
-ghost use Rattle.mk_core.specs.Config.{IsWithinLimits};
-ghost use Rattle.mk_core.specs.Counts.{ends};
-ghost use Rattle.mk_trace.specs.Calls.{CallerIsHome, SameCalls, HasPlayed, most_held};
-ghost use Rattle.mk_trace.specs.Ends.{IsBetweenCycles};
-ghost use Rattle.mk_trace.specs.ExactPlays.{StayExact};
-ghost use Rattle.mk_trace.specs.Ledgers.{Keeps};
+ghost use Rattle.mk_core.specs.{Config.IsWithinLimits, Counts.ends};
+ghost use Rattle.mk_trace.specs.{Calls.{CallerIsHome, SameCalls, HasPlayed, most_held}, Ends.IsBetweenCycles};
+ghost use Rattle.mk_trace.specs.{ExactPlays.StayExact, Ledgers.Keeps, Playing.{history_of, IsPlayed, ArePeaks}};
 ghost use Rattle.mk_trace.specs.Playing as spec;
-ghost use Rattle.mk_trace.specs.Playing.{history_of, IsPlayed, ArePeaks};
 
 use crate::calls::refuses;
 use crate::configs::config_of;

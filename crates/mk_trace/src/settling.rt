@@ -1,9 +1,7 @@
 //! What a call has freed and released is noted.
 ghost use Rattle.std.specs.Prelude.{◌≡◌, ◌∷◌, ◌++◌, [], fold, map, if◌then◌else◌, IfOk, OnOk};
-ghost use Rattle.mk_core.specs.Counts.{ends, in_a_word};
-ghost use Rattle.mk_core.specs.History.{left};
-ghost use Rattle.mk_trace.specs.Calls.{CallerIsHome};
-ghost use Rattle.mk_trace.specs.Ledgers.{SettlesFreed, aged, ages_let_go, still_kept, with_one};
+ghost use Rattle.mk_core.specs.{Counts.{ends, in_a_word}, History.left};
+ghost use Rattle.mk_trace.specs.{Calls.CallerIsHome, Ledgers.{SettlesFreed, aged, ages_let_go, still_kept, with_one}};
 ghost use Rattle.mk_trace.specs.Looking.{HostOnlyLooks};
 
 use crate::ledger::{Freed, FreedObject, count_age};

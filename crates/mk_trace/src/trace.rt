@@ -1,7 +1,6 @@
 //! Traces.
 ghost use Rattle.std.specs.Prelude.{◌≡◌, ◌<◌, length, get_or};
-ghost use Rattle.mk_trace.specs.Traces.{slot_of};
-ghost use Rattle.mk_trace.specs.Traces.{contents_from, IsOfSomeTraceText};
+ghost use Rattle.mk_trace.specs.Traces.{slot_of, contents_from, IsOfSomeTraceText};
 
 use std::marker::Model;
 

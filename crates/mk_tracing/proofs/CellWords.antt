@@ -1,5 +1,5 @@
 -- A word of a scanned cell lies in the heap, and a lookup finds the cell there, where the word isn't 0.
-use Rattle.std.proofs.{Math.Nat.mul_comm, lemmas.Nat.div-mul-add, lemmas.Nat.mul-add-lt}
+use Rattle.std.proofs.{Math.Nat.mul_comm, lemmas.Nat.{div-mul-add, mul-add-lt}}
 use Rattle.mk_laws.proofs.Vocabulary.{Block, Bool, Cell, Config, Event, Free, Header, Invariant, IsHistory, Later}
 use Rattle.mk_laws.proofs.Vocabulary.{LeafBlock, LeafRun, List, None, Object, OfBlock, OfLater, OfLeafBlock, OfLeafRun}
 use Rattle.mk_laws.proofs.Vocabulary.{OfRun, Option, Run, ShowsPart, Some, Words, World, ℕ, address_of, and_from, ap}
@@ -8,13 +8,12 @@ use Rattle.mk_laws.proofs.Vocabulary.{first_word, ground_of, has_no_pointers, he
 use Rattle.mk_laws.proofs.Vocabulary.{inr, is_heap_address, is_phase, le-leb, left, lt-ltb, nat_lt, ne_eqb}
 use Rattle.mk_laws.proofs.Vocabulary.{never_behind, object_now, page_at_address, phase_of, refl, shows_on, slice_index}
 use Rattle.mk_laws.proofs.Vocabulary.{subst, sym, true, true≢false, words_under, ◌%◌, ◌*◌, ◌+◌, ◌-◌, ◌/◌, ◌<◌, ◌∙◌, ◌≡◌}
-use Rattle.mk_laws.proofs.Vocabulary.{◌≢◌, ◌≤◌, ◌⊎◌}
+use Rattle.mk_laws.proofs.{Vocabulary.{◌≢◌, ◌≤◌, ◌⊎◌}, BarePages.{Unreleasing, on_allocation, shown_there}}
+use Rattle.mk_laws.proofs.{CoveredWords.covered_word, InHeap.in_heap_left}
+use Rattle.mk_laws.proofs.{InvariantHistories.histories_keep_the_invariant, LayoutReadings.{claimed, claimed_head}}
+use Rattle.mk_laws.proofs.{RunsInHeap.RunsFit, Serving.Laid, TellGuard.later_pages}
 use Rattle.mk_geom.specs.Addresses.{cell_of_block, cell_under, word_at_address}
 use Rattle.mk_core.specs.Cells.{pointed_cell}
-use Rattle.mk_laws.proofs.BarePages.{Unreleasing, on_allocation, shown_there}
-use Rattle.mk_laws.proofs.CoveredWords.{covered_word}
-use Rattle.mk_laws.proofs.{InHeap.in_heap_left, InvariantHistories.histories_keep_the_invariant, LayoutReadings.claimed}
-use Rattle.mk_laws.proofs.{LayoutReadings.claimed_head, RunsInHeap.RunsFit, Serving.Laid, TellGuard.later_pages}
 
 -- the page is after its head as its header says
 abbrev LiesBehind : Words → ℕ → ℕ → Type 0

@@ -1,13 +1,11 @@
 //! What an engine does in the stop: it wants the close, and marks until the marks may be closed.
 ghost use Rattle.std.specs.Prelude.{◌≡◌, ℕ, ◌<◌, slice_index};
-ghost use Rattle.mk_core.specs.declared.events.Step.TheVariants as step;
-ghost use Rattle.mk_core.specs.ClosedMarks.{MarksAreClosed};
-ghost use Rattle.mk_core.specs.Words.{phase_of};
-ghost use Rattle.mk_words.specs.States.{now_of, world_of};
-ghost use Rattle.mk_words.specs.Steps.{IsEnabledTo};
+ghost use Rattle.mk_core.specs.{ClosedMarks.MarksAreClosed, Words.phase_of};
+ghost use Rattle.mk_words.specs.{States.{now_of, world_of}, Steps.IsEnabledTo};
 ghost use Rattle.mk_tracing.specs.Grays.{HasNoGray, MarksOn, RootsPointWell, TracesReached};
 ghost use Rattle.mk_tracing.specs.Stops.{HolderIsLoaded, IsWanted, MayTrace, still_words};
 ghost use Rattle.mk_tracing.specs.Tracing.{Counted, is_tracing, is_want};
+ghost use Rattle.mk_core.specs.declared.events.Step.TheVariants as step;
 
 use crate::dirty::clean_dirty;
 use crate::roots::mark_roots;

@@ -2,8 +2,7 @@
 //! word that is 0 isn't stored to.
 ghost use Rattle.std.specs.Prelude.{◌≡◌, ◌≢◌, ℕ, ◌<◌, true, false, slice_index};
 ghost use Rattle.mk_tracing.specs.Grays.{BlacksFewer, HasDirtyPart, IsCleaner, DirtyIsUnscanned, MarksOn};
-ghost use Rattle.mk_tracing.specs.Grays.{without_blacks};
-ghost use Rattle.mk_tracing.specs.Stops.{MayTrace, still_words};
+ghost use Rattle.mk_tracing.specs.{Grays.without_blacks, Stops.{MayTrace, still_words}};
 
 use crate::stepping::{clear_black, look_at, next_in_use, undirty_page};
 use crate::tables::Table;

@@ -1,10 +1,8 @@
 //! The search for gray cells: marked, and not black.
 ghost use Rattle.std.specs.Prelude.{◌≡◌, ℕ, ◌<◌, ◌≤◌, true, false, IfSome, IfNone, slice_index};
 ghost use Rattle.mk_geom.specs.Headers.{header_of};
-ghost use Rattle.mk_core.specs.Bits.{has_bit, without};
-ghost use Rattle.mk_core.specs.Cells.{cells_under};
-ghost use Rattle.mk_tracing.specs.Grays.{HasNoGray, LooksOn};
-ghost use Rattle.mk_tracing.specs.Noted.{AreNoted, IsGrayNoted, IsNoted};
+ghost use Rattle.mk_core.specs.{Bits.{has_bit, without}, Cells.cells_under};
+ghost use Rattle.mk_tracing.specs.{Grays.{HasNoGray, LooksOn}, Noted.{AreNoted, IsGrayNoted, IsNoted}};
 ghost use Rattle.mk_tracing.specs.Stops.{MayTrace, still_words};
 
 use crate::noted::{Noted, words_scanned};

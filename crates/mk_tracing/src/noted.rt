@@ -1,8 +1,7 @@
 //! What is noted of a marked cell: what follows from its page's header word, which is looked at once.
 ghost use Rattle.std.specs.Prelude.{◌≡◌, ◌<◌, ◌+◌, Some, None, IfSome, IfNone};
 ghost use Rattle.mk_core.specs.Cells.{cells_under};
-ghost use Rattle.mk_geom.specs.Addresses.{cell_of_block};
-ghost use Rattle.mk_geom.specs.Headers.{header_of};
+ghost use Rattle.mk_geom.specs.{Addresses.cell_of_block, Headers.header_of};
 ghost use Rattle.mk_tracing.specs.Grays.{words_scanned};
 
 use mk_core::{cells_under, has_no_pointers, words_under};

@@ -1,12 +1,8 @@
 //! Marks by the values of words, each noted for the scan that is due then.
 ghost use Rattle.std.specs.Prelude.{◌≡◌, ◌≢◌, ◌<◌, true, IfSome};
-ghost use Rattle.mk_core.specs.Cells.{is_marked, points_well};
-ghost use Rattle.mk_core.specs.Words.{header_at};
+ghost use Rattle.mk_core.specs.{Cells.{is_marked, points_well}, Words.header_at};
 ghost use Rattle.mk_geom.specs.Addresses.{is_heap_address, page_at_address};
-ghost use Rattle.mk_tracing.specs.Grays.{IsInHand};
-ghost use Rattle.mk_tracing.specs.Noted.{IsNoted};
-ghost use Rattle.mk_tracing.specs.Scans.{MarksAndNotes};
-ghost use Rattle.mk_tracing.specs.Stops.{MayTrace, still_words};
+ghost use Rattle.mk_tracing.specs.{Grays.IsInHand, Noted.IsNoted, Scans.MarksAndNotes, Stops.{MayTrace, still_words}};
 
 use crate::noted::Noted;
 use crate::stepping::look_at;

@@ -2,9 +2,7 @@
 //! numbers, so those of a group are looked at together first.
 ghost use Rattle.std.specs.Prelude.{◌≡◌, ℕ, ◌+◌, ◌*◌, ◌/◌, ◌<◌, ◌≤◌, min, true, IfSome, slice_index};
 ghost use Rattle.mk_core.specs.Cells.{first_word, words_point_well};
-ghost use Rattle.mk_tracing.specs.Grays.{LooksOn};
-ghost use Rattle.mk_tracing.specs.Noted.{IsDue, IsNoted};
-ghost use Rattle.mk_tracing.specs.Scans.{MarksAndNotes, Scans};
+ghost use Rattle.mk_tracing.specs.{Grays.LooksOn, Noted.{IsDue, IsNoted}, Scans.{MarksAndNotes, Scans}};
 ghost use Rattle.mk_tracing.specs.Stops.{MayTrace, still_words};
 
 use crate::noted::Noted;

@@ -1,14 +1,10 @@
 //! Steps in the stop, when the close is wanted and no marker attends.
 ghost use Rattle.std.specs.Prelude.{◌≡◌, ◌/◌, ◌≢◌, ◌+◌, ◌<◌, ◌^◌, true, slice_index};
-ghost use Rattle.mk_core.specs.Cells.{first_word, head_page};
-ghost use Rattle.mk_core.specs.History.{IsHistory};
-ghost use Rattle.mk_core.specs.Ranges.{is_word};
-ghost use Rattle.mk_core.specs.StopConditions.{may_turn_black};
-ghost use Rattle.mk_core.specs.Words.{named_word};
+ghost use Rattle.mk_core.specs.{Cells.{first_word, head_page}, History.IsHistory, Ranges.is_word};
+ghost use Rattle.mk_core.specs.{StopConditions.may_turn_black, Words.named_word};
 ghost use Rattle.mk_page_map.specs.Members.{IsNext, is_in_use};
 ghost use Rattle.mk_tracing.specs.Grays.{with_marks, with_blacks, without_blacks, without_dirty, HasDirtyPart};
-ghost use Rattle.mk_tracing.specs.Grays.{IsInHand, HandPointsInto, MarksOn, LooksOn};
-ghost use Rattle.mk_tracing.specs.Noted.{IsDue};
+ghost use Rattle.mk_tracing.specs.{Grays.{IsInHand, HandPointsInto, MarksOn, LooksOn}, Noted.IsDue};
 ghost use Rattle.mk_tracing.specs.Stops.{MayTrace, hand_of, is_page_word, is_root, still_words};
 
 use crate::noted::Noted;

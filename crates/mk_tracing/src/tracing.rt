@@ -1,10 +1,8 @@
 //! Tracing: every marked cell is scanned and blackened.
 ghost use Rattle.std.specs.Prelude.{◌≡◌, ℕ, ◌<◌, true, IfSome};
 ghost use Rattle.mk_core.specs.StopConditions.{may_turn_black};
-ghost use Rattle.mk_tracing.specs.Grays.{BlackensOne, ColoursMore, HasNoGray, MarksOn};
-ghost use Rattle.mk_tracing.specs.Noted.{AreNoted, IsGrayNoted, IsNoted};
-ghost use Rattle.mk_tracing.specs.Scans.{MarksAndNotes};
-ghost use Rattle.mk_tracing.specs.Stops.{MayTrace, still_words};
+ghost use Rattle.mk_tracing.specs.{Grays.{BlackensOne, ColoursMore, HasNoGray, MarksOn}, Noted.{AreNoted, IsGrayNoted}};
+ghost use Rattle.mk_tracing.specs.{Noted.IsNoted, Scans.MarksAndNotes, Stops.{MayTrace, still_words}};
 
 use crate::grays::next_gray;
 use crate::noted::Noted;

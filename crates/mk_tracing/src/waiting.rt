@@ -2,8 +2,7 @@
 ghost use Rattle.std.specs.Prelude.{◌≡◌, ◌<◌};
 ghost use Rattle.mk_core.specs.Words.{phase_of};
 ghost use Rattle.mk_words.specs.States.{now_of};
-ghost use Rattle.mk_tracing.specs.Grays.{TracesReached, WaitsForMarkers};
-ghost use Rattle.mk_tracing.specs.Stops.{HolderIsLoaded, IsWanted};
+ghost use Rattle.mk_tracing.specs.{Grays.{TracesReached, WaitsForMarkers}, Stops.{HolderIsLoaded, IsWanted}};
 ghost use Rattle.mk_tracing.specs.Tracing.{Counted, is_waiting, is_want};
 
 use crossbeam_utils::Backoff;

@@ -7,12 +7,10 @@
 mod patience;
 
 ghost use Rattle.std.specs.Prelude.{◌≡◌};
-ghost use Rattle.mk_core.specs.declared.events.Step.TheVariants as step;
 ghost use Rattle.mk_core.specs.Counts.{TalliesAreExact, TalliesAreTidy};
-ghost use Rattle.mk_words.specs.Steps.{IsEnabledTo};
-ghost use Rattle.mk_words.specs.TurnSteps.{IsFresh};
-ghost use Rattle.mk_waiting.specs.Taking.{HasTakenTurn, TakesTurn};
-ghost use Rattle.mk_waiting.specs.Unswept.{TakingSweepsNothing};
+ghost use Rattle.mk_words.specs.{Steps.IsEnabledTo, TurnSteps.IsFresh};
+ghost use Rattle.mk_waiting.specs.{Taking.{HasTakenTurn, TakesTurn}, Unswept.TakingSweepsNothing};
+ghost use Rattle.mk_core.specs.declared.events.Step.TheVariants as step;
 
 use mk_never::Op;
 use mk_words::{Pass, Turn, Words};

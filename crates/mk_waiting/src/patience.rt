@@ -1,6 +1,5 @@
 //! How one waits for what may take long. No promise rests on it, but how long each sleep is.
-ghost use Rattle.std.specs.Prelude.{◌≡◌, ◌*◌, ◌<◌, ◌≤◌, IfSome, IfNone};
-ghost use Rattle.std.specs.Duration.{as_nanos};
+ghost use Rattle.std.specs.{Prelude.{◌≡◌, ◌*◌, ◌<◌, ◌≤◌, IfSome, IfNone}, Duration.as_nanos};
 ghost use Rattle.mk_waiting.specs.Sleeps.{first_sleep, sleep_after, PausesOnce};
 
 use crossbeam_utils::Backoff;

@@ -1,11 +1,9 @@
 //! The entries of kept allocations, with the chains that lead to them.
 ghost use Rattle.std.specs.Prelude.{◌≡◌, ◌<◌, ◌++◌, [], ◌∷◌, None, Some, IfOk, IfSome, OnOk, length, ℕ};
 ghost use Rattle.mk_core.specs.declared.config.Config.{Config};
-ghost use Rattle.mk_why.specs.declared.found.Storage.{Storage as StorageState};
-ghost use Rattle.mk_why.specs.Entries.{AreEntriesBelow, IsLed, IsMadeOf, IsOneMore, root_of, step_back};
-ghost use Rattle.mk_why.specs.Listing.{IsTold};
-ghost use Rattle.mk_why.specs.Searching.{BeginApart, AreWays, IsWay, entry_at};
-ghost use Rattle.mk_why.specs.Stops.{View};
+ghost use Rattle.mk_why.specs.{declared.found.Storage.Storage as StorageState, Entries.{AreEntriesBelow, IsLed}};
+ghost use Rattle.mk_why.specs.{Entries.{IsMadeOf, IsOneMore, root_of, step_back}, Listing.IsTold};
+ghost use Rattle.mk_why.specs.{Searching.{BeginApart, AreWays, IsWay, entry_at}, Stops.View};
 
 use crate::found::{Found, Storage, Way};
 use crate::kept::{Kept, Root};

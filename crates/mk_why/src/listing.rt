@@ -1,11 +1,8 @@
 //! The kept allocations: those of the snapshot whose cells are marked.
 ghost use Rattle.std.specs.Prelude.{◌≡◌, ◌+◌, ◌*◌, ◌<◌, ◌≤◌, ℕ, None, Some, false, true, length, slice_index};
 ghost use Rattle.std.specs.Prelude.{slice_set};
-ghost use Rattle.mk_core.specs.Allocations.{cell_of_allocation, placed_at};
-ghost use Rattle.mk_core.specs.Words.{header_at};
-ghost use Rattle.mk_why.specs.Chains.{is_kept};
-ghost use Rattle.mk_why.specs.Listing.{AreOfKept, IsListed, ListsOn};
-ghost use Rattle.mk_why.specs.Searching.{entry_at};
+ghost use Rattle.mk_core.specs.{Allocations.{cell_of_allocation, placed_at}, Words.header_at};
+ghost use Rattle.mk_why.specs.{Chains.is_kept, Listing.{AreOfKept, IsListed, ListsOn}, Searching.entry_at};
 ghost use Rattle.mk_why.specs.Stops.{IsStill, LooksOn, base_at, view_by, world_in};
 
 use crate::found::Storage;

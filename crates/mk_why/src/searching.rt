@@ -2,12 +2,10 @@
 //! were, so that each is found through the fewest links.
 ghost use Rattle.std.specs.Prelude.{◌≡◌, ◌+◌, ◌*◌, ◌<◌, ◌≤◌, ℕ, None, length, slice_index};
 ghost use Rattle.mk_core.specs.Touched.{PointsIntoAllocation};
-ghost use Rattle.mk_why.specs.declared.kept.Root.TheVariants.{Register, Global};
-ghost use Rattle.mk_why.specs.Chains.{IsRoot, word_of_root};
+ghost use Rattle.mk_why.specs.{declared.kept.Root.TheVariants.{Register, Global}, Chains.{IsRoot, word_of_root}};
 ghost use Rattle.mk_why.specs.Searching.{AreScannedFrom, AreWays, FindsMore, IsSearched, IsExplored, IsFound};
-ghost use Rattle.mk_why.specs.Searching.{IsFoundThrough};
-ghost use Rattle.mk_why.specs.Searching.{IsNoted, IsSearch, IsWay, SearchesOn, entry_at, links_in, links_of, root_word};
-ghost use Rattle.mk_why.specs.Stops.{IsStill, LooksOn, view_by, world_in};
+ghost use Rattle.mk_why.specs.Searching.{IsFoundThrough, IsNoted, IsSearch, IsWay, SearchesOn, entry_at, links_in};
+ghost use Rattle.mk_why.specs.{Searching.{links_of, root_word}, Stops.{IsStill, LooksOn, view_by, world_in}};
 
 use crate::found::{Found, Way};
 use crate::kept::Root;

@@ -1,7 +1,6 @@
 //! Looks in the stop, when the close is wanted and no marker attends.
 ghost use Rattle.std.specs.Prelude.{◌≡◌, true};
-ghost use Rattle.mk_core.specs.Ranges.{is_word};
-ghost use Rattle.mk_core.specs.Words.{named_word};
+ghost use Rattle.mk_core.specs.{Ranges.is_word, Words.named_word};
 ghost use Rattle.mk_tracing.specs.Stops.{is_still_word};
 ghost use Rattle.mk_why.specs.Stops.{IsStill, LooksOn, view_by};
 

@@ -1,14 +1,9 @@
 //! The engine that reports why.
 ghost use Rattle.std.specs.Prelude.{◌≡◌, [], IfOk, false, length};
-ghost use Rattle.mk_core.specs.declared.config.Config.{Config};
-ghost use Rattle.mk_core.specs.History.{World};
-ghost use Rattle.mk_cycle.specs.Begun.{IsBegun};
-ghost use Rattle.mk_cycle.specs.EngineLaw.{BeginsMarking, IsAtPhase, IsFreeForCycle};
+ghost use Rattle.mk_core.specs.{declared.config.Config.Config, History.World};
+ghost use Rattle.mk_cycle.specs.{Begun.IsBegun, EngineLaw.{BeginsMarking, IsAtPhase, IsFreeForCycle}};
 ghost use Rattle.mk_turns.specs.Sweeping.{SweepsNothing};
-ghost use Rattle.mk_why.specs.Chains.{AreKept};
-ghost use Rattle.mk_why.specs.Listing.{IsTold};
-ghost use Rattle.mk_why.specs.Sizes.{pages_for};
-ghost use Rattle.mk_why.specs.States.{HasKeptNothing};
+ghost use Rattle.mk_why.specs.{Chains.AreKept, Listing.IsTold, Sizes.pages_for, States.HasKeptNothing};
 ghost use Rattle.mk_why.specs.Stops.{IsClosedBefore, IsToldBefore, view_of};
 
 use crate::entries::list_entries;

@@ -4,17 +4,16 @@ use Rattle.mk_laws.proofs.Vocabulary.{Config, Event, Holding, IsHistory, IsSettl
 use Rattle.mk_laws.proofs.Vocabulary.{PlacedAllocation, Protocol, TalliesAreTidy, Words, World, ℕ, ap, arith, ends}
 use Rattle.mk_laws.proofs.Vocabulary.{first_world, fresh_words_of, has_place, held_by_pages, histories_keep_lengths}
 use Rattle.mk_laws.proofs.Vocabulary.{in_a_word, left, left_more, ne_eqb, phase_of, refl, subst, sym, world_behind, []}
-use Rattle.mk_laws.proofs.Vocabulary.{◌++◌, ◌+◌, ◌∙◌, ◌∷◌, ◌≡◌}
+use Rattle.mk_laws.proofs.{Vocabulary.{◌++◌, ◌+◌, ◌∙◌, ◌∷◌, ◌≡◌}, FreshSteps.{FreshTold, fresh_told_behind}}
+use Rattle.mk_laws.proofs.Induction.{KeptByEvents, before_it, holds_of_histories}
+use Rattle.mk_laws.proofs.{InvariantHistories.histories_keep_the_invariant, InvariantJoined.told_to_layout}
+use Rattle.mk_laws.proofs.{InvariantTheorems.pages_show_the_storage, Known.known_left, KnownWorlds.known_world}
+use Rattle.mk_laws.proofs.{LayoutBefore.Before, LayoutHistories.known_before, OthersCounts.{entry_fulls, fulls_append}}
+use Rattle.mk_laws.proofs.{OthersCounts.fulls_of, Tallies.tallies_tell, TallySteps.CountsNothing}
 use Rattle.mk_geom.proofs.HeldWords.{pages_hold_mapped_words}
-use Rattle.mk_core.{proofs.Histories.calls_more, specs.Allocations.held_by_allocations, specs.Counts.TalliesAreExact}
-use Rattle.mk_core.{specs.Counts.full_answers, specs.Counts.releases, specs.History.left_from}
-use Rattle.mk_laws.{proofs.FreshSteps.FreshTold, proofs.FreshSteps.fresh_told_behind, proofs.Induction.KeptByEvents}
-use Rattle.mk_laws.{proofs.Induction.before_it, proofs.Induction.holds_of_histories}
-use Rattle.mk_laws.{proofs.InvariantHistories.histories_keep_the_invariant, proofs.InvariantJoined.told_to_layout}
-use Rattle.mk_laws.{proofs.InvariantTheorems.pages_show_the_storage, proofs.Known.known_left}
-use Rattle.mk_laws.{proofs.KnownWorlds.known_world, proofs.LayoutBefore.Before, proofs.LayoutHistories.known_before}
-use Rattle.mk_laws.{proofs.OthersCounts.entry_fulls, proofs.OthersCounts.fulls_append, proofs.OthersCounts.fulls_of}
-use Rattle.mk_laws.{proofs.Tallies.tallies_tell, proofs.TallySteps.CountsNothing, specs.SettledPages.is_freed_unmapped}
+use Rattle.mk_core.{proofs.Histories.{calls_more}, specs.History.{left_from}}
+use Rattle.mk_core.specs.{Allocations.held_by_allocations, Counts.{TalliesAreExact, full_answers, releases}}
+use Rattle.mk_laws.specs.SettledPages.{is_freed_unmapped}
 
 -- (as in the crate that proves what the tallies count, where it is private)
 module _ (c : Config) (es : List Event) (e : Event) (nothing : CountsNothing c (left c es) e) where

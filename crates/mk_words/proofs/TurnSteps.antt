@@ -7,15 +7,13 @@ use Rattle.mk_laws.proofs.Vocabulary.{histories_keep_lengths, holder_number, if�
 use Rattle.mk_laws.proofs.Vocabulary.{is_open_to, length, ltb-true, ne_eqb, not-true, nothing_done, others_are_held}
 use Rattle.mk_laws.proofs.Vocabulary.{phase_of, progress, progress_freed, progress_p, progress_q, progress_read}
 use Rattle.mk_laws.proofs.Vocabulary.{progress_reg, refl, seat_exists, slice_index, slice_set, subst, suc, sym, true}
-use Rattle.mk_laws.proofs.Vocabulary.{zero, ◌++◌, ◌+◌, ◌<◌, ◌==◌, ◌||◌, ◌∙◌, ◌≡◌, ◌≢◌}
+use Rattle.mk_laws.proofs.{Vocabulary.{zero, ◌++◌, ◌+◌, ◌<◌, ◌==◌, ◌||◌, ◌∙◌, ◌≡◌, ◌≢◌}, SameWords.{Behind, reg_keeps}}
+use Rattle.mk_laws.proofs.{SameWords.tally_keeps, NextSteps.at_no_take, Protocols.lists_keep_the_protocol}
 use Rattle.mk_core.specs.{Bounded.all_below, Frames.HoldsAll, Moments.none_is_held, Order.is_in_order}
-use Rattle.mk_laws.proofs.SameWords.{Behind, reg_keeps, tally_keeps}
-use Rattle.mk_laws.proofs.{NextSteps.at_no_take, Protocols.lists_keep_the_protocol}
-use Rattle.mk_words.proofs.CallSteps.{begins, goes}
-use Rattle.mk_words.proofs.{FreeTurns.hands_none, FreeTurns.turn_word_stays, Made.Made, Made.made, Tallies.free_tallies}
-use Rattle.mk_words.specs.States.{PassState, TurnState, call_of, now_of, world_of}
-use Rattle.mk_words.specs.TurnSteps.{Acts, GatesAre, IsFresh, IsTurn, begun_for, gates_stay, turn_stays}
-use Rattle.mk_words.specs.Steps.{Finds, Makes, Tells, moment_of}
+use Rattle.mk_words.proofs.{CallSteps.{begins, goes}, FreeTurns.{hands_none, turn_word_stays}, Made.{Made, made}}
+use Rattle.mk_words.{proofs.Tallies.{free_tallies}, specs.Steps.{moment_of}}
+use Rattle.mk_words.specs.{States.{PassState, TurnState, call_of, now_of, world_of}, TurnSteps.{Acts, GatesAre}}
+use Rattle.mk_words.specs.{TurnSteps.{IsFresh, IsTurn, begun_for, gates_stay, turn_stays}, Steps.{Finds, Makes, Tells}}
 
 -- who holds the turn, by the turn word
 
@@ -218,8 +216,10 @@ module _ (p : PassState) (o : Option Op) (n : ℕ) (q : PassState) (t : Tells p 
         let holds : Holds c (world_of q).now p.seat =
         named_holds c (world_of q).now p.seat (protocol_now p (Step.Take o) q t.makes) e.meets.seat
         (takes_for c m p.seat o e.meets.kind e.meets.order) named in
-        record { holds =
-            subst (λ (r : PassState). Holds r.table.config (world_of q).now r.seat) (sym t.makes.is) holds }
+        record {
+          holds =
+              subst (λ (r : PassState). Holds r.table.config (world_of q).now r.seat) (sym t.makes.is) holds;
+        }
 
     pub takes_fresh : IsFresh q o
     takes_fresh =

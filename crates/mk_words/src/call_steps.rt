@@ -4,15 +4,13 @@
 //! the caller's number and the number of pages at hand, so neither is loaded again after each access.
 ghost use Rattle.std.specs.Prelude.{◌≡◌, OnOk, OnErr, Some, None};
 ghost use Rattle.mk_core.specs.declared.accesses.Access.TheVariants.{Load, Store};
+ghost use Rattle.mk_core.specs.{Accesses.{caller_number, register_met, reg_access}, Calls.{at_rest, begun, onward}};
+ghost use Rattle.mk_core.specs.Calls.{still, word_met, page_met, g_of, value_written, one_if, progress_reg};
+ghost use Rattle.mk_core.specs.{Calls.{progress_read, progress_getg}, Effects.progress_probe};
+ghost use Rattle.mk_words.specs.{States.call_of, Steps.{IsEnabledTo, IsAdmittedTo, Finds, Goes}};
+ghost use Rattle.mk_words.specs.CallSteps.{register_of, LeavesRegisters, KeepsOtherRegisters, FindsHeld};
 ghost use Rattle.mk_core.specs.declared.events.Answer.TheVariants as answer;
 ghost use Rattle.mk_core.specs.declared.events.Step.TheVariants as step;
-ghost use Rattle.mk_core.specs.Accesses.{caller_number, register_met, reg_access};
-ghost use Rattle.mk_core.specs.Calls.{at_rest, begun, onward, still, word_met, page_met, g_of, value_written, one_if};
-ghost use Rattle.mk_core.specs.Calls.{progress_reg, progress_read, progress_getg};
-ghost use Rattle.mk_core.specs.Effects.{progress_probe};
-ghost use Rattle.mk_words.specs.States.{call_of};
-ghost use Rattle.mk_words.specs.Steps.{IsEnabledTo, IsAdmittedTo, Finds, Goes};
-ghost use Rattle.mk_words.specs.CallSteps.{register_of, LeavesRegisters, KeepsOtherRegisters, FindsHeld};
 
 use crate::passes::Pass;
 use crate::words::Words;

@@ -2,17 +2,11 @@
 //! nobody has the turn.
 ghost use Rattle.std.specs.Prelude.{◌≡◌, ◌≢◌, ◌+◌, [], ◌∷◌, true, IfOk, IfErr};
 ghost use Rattle.mk_page_map.specs.KnownPages.{KnownPages};
+ghost use Rattle.mk_core.specs.{declared.accesses.Access.TheVariants.Exchange, Accesses.access, Moments.holder_number};
+ghost use Rattle.mk_core.specs.{Order.seat_exists, Readings.Holds};
+ghost use Rattle.mk_words.specs.{PageMaps.IsMapOf, States.now_of, Passes.{state_of, IsInOrder}};
+ghost use Rattle.mk_words.specs.{Rule.{takes_map, gives_map, no_step}, Steps.{IsEnabledTo, May, Makes, Tells}};
 ghost use Rattle.mk_core.specs.declared.events.Step.TheVariants as step;
-ghost use Rattle.mk_core.specs.declared.accesses.Access.TheVariants.{Exchange};
-ghost use Rattle.mk_core.specs.Accesses.{access};
-ghost use Rattle.mk_core.specs.Moments.{holder_number};
-ghost use Rattle.mk_core.specs.Order.{seat_exists};
-ghost use Rattle.mk_core.specs.Readings.{Holds};
-ghost use Rattle.mk_words.specs.PageMaps.{IsMapOf};
-ghost use Rattle.mk_words.specs.States.{now_of};
-ghost use Rattle.mk_words.specs.Passes.{state_of, IsInOrder};
-ghost use Rattle.mk_words.specs.Rule.{takes_map, gives_map, no_step};
-ghost use Rattle.mk_words.specs.Steps.{IsEnabledTo, May, Makes, Tells};
 
 use crate::homes::MapHome;
 use crate::indexes::index_of;

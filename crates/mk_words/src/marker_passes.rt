@@ -1,15 +1,9 @@
 //! A marker's pass: what a marker is at, kept beside the right to make its steps.
 ghost use Rattle.std.specs.Prelude.{◌≡◌, true, false};
-ghost use Rattle.mk_core.specs.Accesses.{word_accessed, access};
-ghost use Rattle.mk_core.specs.History.{IsHistory};
-ghost use Rattle.mk_core.specs.Counts.{IsTidy};
-ghost use Rattle.mk_core.specs.Moments.{outside};
+ghost use Rattle.mk_core.specs.{Accesses.{word_accessed, access}, History.IsHistory, Counts.IsTidy, Moments.outside};
 ghost use Rattle.mk_core.specs.Order.{group_of};
-ghost use Rattle.mk_words.specs.Seats.{CallersAreBeforeOver, Has};
-ghost use Rattle.mk_words.specs.PageMaps.{is_handing};
-ghost use Rattle.mk_words.specs.States.{now_of, event_of};
-ghost use Rattle.mk_words.specs.Markers.{is_markers, marker_in, Marks};
-ghost use Rattle.mk_words.specs.Steps.{May};
+ghost use Rattle.mk_words.specs.{Seats.{CallersAreBeforeOver, Has}, PageMaps.is_handing, States.{now_of, event_of}};
+ghost use Rattle.mk_words.specs.{Markers.{is_markers, marker_in, Marks}, Steps.May};
 
 use crate::passes::Pass;
 use crate::tokens::SeatToken;
@@ -35,8 +29,7 @@ pub struct MarkerPass {
 
 impl Model for MarkerPass {
     ghost use Rattle.std.specs.Prelude.{◌≡◌};
-    ghost use Rattle.mk_words.specs.States.{PassState};
-    ghost use Rattle.mk_words.specs.Markers.{marker_in};
+    ghost use Rattle.mk_words.specs.{States.PassState, Markers.marker_in};
 
     ghost Value = { PassState };
 

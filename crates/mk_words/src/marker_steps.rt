@@ -1,9 +1,8 @@
 //! The steps of markers. A marker's pass keeps what the marker is at, so these need no further numbers.
 ghost use Rattle.std.specs.Prelude.{◌≡◌, None};
-ghost use Rattle.mk_core.specs.declared.events.Step.TheVariants as step;
 ghost use Rattle.mk_core.specs.Moments.{outside};
-ghost use Rattle.mk_words.specs.Markers.{marker_in, Marks, Claims};
-ghost use Rattle.mk_words.specs.Steps.{IsEnabledTo, Makes};
+ghost use Rattle.mk_words.specs.{Markers.{marker_in, Marks, Claims}, Steps.{IsEnabledTo, Makes}};
+ghost use Rattle.mk_core.specs.declared.events.Step.TheVariants as step;
 
 use crate::marker_passes::MarkerPass;
 use crate::words::Words;

@@ -1,12 +1,8 @@
 //! Passes: who has one may make the steps of its seat.
 ghost use Rattle.std.specs.Prelude.{◌≡◌, true, false};
-ghost use Rattle.mk_core.specs.Accesses.{caller_number, word_accessed, access};
-ghost use Rattle.mk_core.specs.History.{IsHistory};
-ghost use Rattle.mk_core.specs.Counts.{IsTidy};
-ghost use Rattle.mk_words.specs.Seats.{CallersAreBeforeOver, Has, is_caller};
-ghost use Rattle.mk_words.specs.PageMaps.{is_handing};
-ghost use Rattle.mk_words.specs.States.{now_of, event_of};
-ghost use Rattle.mk_words.specs.Steps.{May, Tells};
+ghost use Rattle.mk_core.specs.{Accesses.{caller_number, word_accessed, access}, History.IsHistory, Counts.IsTidy};
+ghost use Rattle.mk_words.specs.{Seats.{CallersAreBeforeOver, Has, is_caller}, PageMaps.is_handing};
+ghost use Rattle.mk_words.specs.{States.{now_of, event_of}, Steps.{May, Tells}};
 
 use crate::tokens::SeatToken;
 use crate::words::Words;

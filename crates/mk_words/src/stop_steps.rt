@@ -1,11 +1,9 @@
 //! The steps by which the turn's holder holds and opens gates and begins a cycle.
 ghost use Rattle.std.specs.Prelude.{◌≡◌, true, false, OnOk, OnErr};
-ghost use Rattle.mk_core.specs.declared.events.Step.TheVariants as step;
 ghost use Rattle.mk_core.specs.Moments.{is_held, others_are_held};
-ghost use Rattle.mk_words.specs.Steps.{IsEnabledTo, IsAdmittedTo, Finds, may_decide};
-ghost use Rattle.mk_words.specs.TurnSteps.{Acts};
-ghost use Rattle.mk_words.specs.Seats.{HasCallers};
-ghost use Rattle.mk_words.specs.States.{now_of};
+ghost use Rattle.mk_words.specs.{Steps.{IsEnabledTo, IsAdmittedTo, Finds, may_decide}, TurnSteps.Acts};
+ghost use Rattle.mk_words.specs.{Seats.HasCallers, States.now_of};
+ghost use Rattle.mk_core.specs.declared.events.Step.TheVariants as step;
 
 use crate::turns::{Stopped, Turn, TurnAt};
 use crate::words::Words;

@@ -1,11 +1,8 @@
 //! The steps of the turn's holder that it takes only while the gates of all other callers are held.
 ghost use Rattle.std.specs.Prelude.{◌≡◌, true, false};
-ghost use Rattle.mk_core.specs.declared.events.Step.TheVariants as step;
 ghost use Rattle.mk_core.specs.Moments.{none_is_held, is_number_of};
-ghost use Rattle.mk_words.specs.Opening.{OthersMayOpen, Opens};
-ghost use Rattle.mk_words.specs.States.{now_of};
-ghost use Rattle.mk_words.specs.Steps.{IsEnabledTo};
-ghost use Rattle.mk_words.specs.TurnSteps.{Acts};
+ghost use Rattle.mk_words.specs.{Opening.{OthersMayOpen, Opens}, States.now_of, Steps.IsEnabledTo, TurnSteps.Acts};
+ghost use Rattle.mk_core.specs.declared.events.Step.TheVariants as step;
 
 use crate::gates::AnyGates;
 use crate::turns::{Stopped, Turn, TurnAt};

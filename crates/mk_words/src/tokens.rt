@@ -1,14 +1,8 @@
 //! A token of the table with the seat whose steps it takes: what a pass and a turn have in common.
 ghost use Rattle.std.specs.Prelude.{◌≡◌, false, true};
-ghost use Rattle.mk_core.specs.Accesses.{caller_number, word_accessed, access};
-ghost use Rattle.mk_core.specs.History.{IsHistory};
-ghost use Rattle.mk_core.specs.Counts.{IsTidy};
-ghost use Rattle.mk_words.specs.Indexes.{IsOnPage};
-ghost use Rattle.mk_words.specs.PageMaps.{is_handing};
-ghost use Rattle.mk_words.specs.Seats.{CallersAreBeforeOver, Has, is_caller};
-ghost use Rattle.mk_words.specs.States.{now_of, event_of};
-ghost use Rattle.mk_words.specs.Passes.{state_of, IsInOrder};
-ghost use Rattle.mk_words.specs.Steps.{May, Tells};
+ghost use Rattle.mk_core.specs.{Accesses.{caller_number, word_accessed, access}, History.IsHistory, Counts.IsTidy};
+ghost use Rattle.mk_words.specs.{Indexes.IsOnPage, PageMaps.is_handing, Seats.{CallersAreBeforeOver, Has, is_caller}};
+ghost use Rattle.mk_words.specs.{States.{now_of, event_of}, Passes.{state_of, IsInOrder}, Steps.{May, Tells}};
 
 use crate::homes::MapHome;
 use crate::indexes::{index_near, page_of};

@@ -1,15 +1,11 @@
 //! The turn, which one seat has at a time.
 ghost use Rattle.std.specs.Prelude.{◌≡◌, ◌+◌, IfOk, IfErr, true, false};
-ghost use Rattle.mk_core.specs.declared.events.Step.TheVariants as step;
-ghost use Rattle.mk_core.specs.Accesses.{word_accessed, access};
-ghost use Rattle.mk_core.specs.Calls.{at_rest};
-ghost use Rattle.mk_core.specs.Counts.{TalliesAreExact, TalliesAreTidy, IsTidy};
-ghost use Rattle.mk_core.specs.History.{IsHistory};
-ghost use Rattle.mk_words.specs.PageMaps.{is_told};
-ghost use Rattle.mk_words.specs.Seats.{CallersAreBeforeOver, Has};
-ghost use Rattle.mk_words.specs.States.{TurnState, now_of, call_of, event_of};
-ghost use Rattle.mk_words.specs.Steps.{IsEnabledTo, May, Finds, Tells};
+ghost use Rattle.mk_core.specs.{Accesses.{word_accessed, access}, Calls.at_rest};
+ghost use Rattle.mk_core.specs.{Counts.{TalliesAreExact, TalliesAreTidy, IsTidy}, History.IsHistory};
+ghost use Rattle.mk_words.specs.{PageMaps.is_told, Seats.{CallersAreBeforeOver, Has}, States.{TurnState, now_of}};
+ghost use Rattle.mk_words.specs.{States.{call_of, event_of}, Steps.{IsEnabledTo, May, Finds, Tells}};
 ghost use Rattle.mk_words.specs.TurnSteps.{IsTurn, IsFresh, turn_stays, gates_stay, GatesAre, Acts};
+ghost use Rattle.mk_core.specs.declared.events.Step.TheVariants as step;
 
 use crate::gates::{AllHeld, AnyGates, Gates};
 use crate::passes::Pass;

@@ -1,7 +1,6 @@
 //! A marker that scans one cell.
 ghost use Rattle.std.specs.Prelude.{◌≡◌, ◌<◌, ◌≤◌, ◌+◌, ◌*◌, true, false, Some, None, IfSome, IfNone};
-ghost use Rattle.mk_core.specs.Effects.{scan_onward};
-ghost use Rattle.mk_core.specs.MarkerConditions.{has_next_word};
+ghost use Rattle.mk_core.specs.{Effects.scan_onward, MarkerConditions.has_next_word};
 ghost use Rattle.mk_geom.specs.Classes.{class_words_of};
 ghost use Rattle.mk_words.specs.Markers.{marker_in};
 ghost use Rattle.mk_words_clients.specs.Clients.{IsOutside, IsAttending, IsAt};

@@ -1,10 +1,8 @@
 //! A script's tree, built from its last line on.
 ghost use Rattle.std.specs.Prelude.{◌≡◌, ℕ, ◌+◌, ◌<◌, ◌^◌, ◌++◌, [], ◌∷◌, length, IfOk, OnOk};
-ghost use Rattle.mk_check.specs.declared.feeding.instructions.Element.TheVariants as element;
-ghost use Rattle.mk_check.specs.Blocks.{blocks_from};
-ghost use Rattle.mk_check.specs.Steps.{Done, numbered};
-ghost use Rattle.mk_check.specs.NamesInScope.{HasFew};
+ghost use Rattle.mk_check.specs.{Blocks.blocks_from, Steps.{Done, numbered}, NamesInScope.HasFew};
 ghost use Rattle.mk_check.specs.Trees.{IsBelow, steps_at, trees};
+ghost use Rattle.mk_check.specs.declared.feeding.instructions.Element.TheVariants as element;
 
 use crate::feeding::instructions::{Element, Instruction};
 use crate::feeding::names::Names;

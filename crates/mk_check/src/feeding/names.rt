@@ -1,10 +1,7 @@
 //! Names of a program and of one of its scripts, with their numbers.
-ghost use Rattle.std.specs.Prelude.{◌≡◌, ◌+◌, ◌<◌, ◌≤◌, ◌^◌, length, map, IfOk};
-ghost use Rattle.std.specs.Option.{option_copied};
-ghost use Rattle.mk_check.specs.Declarations.{number_of_name};
-ghost use Rattle.mk_check.specs.NamesInScope.{declared_name, names_of, referred_names};
-ghost use Rattle.mk_check.specs.Feed.{scope_of};
-ghost use Rattle.mk_check.specs.Steps.{instruction_of, number_place};
+ghost use Rattle.std.specs.{Prelude.{◌≡◌, ◌+◌, ◌<◌, ◌≤◌, ◌^◌, length, map, IfOk}, Option.option_copied};
+ghost use Rattle.mk_check.specs.{Declarations.number_of_name, NamesInScope.{declared_name, names_of, referred_names}};
+ghost use Rattle.mk_check.specs.{Feed.scope_of, Steps.{instruction_of, number_place}};
 
 use crate::feeding::instructions::{Element, Instruction};
 use mk_never::NoMemory;
@@ -69,8 +66,7 @@ pub struct Names<'a> {
 }
 
 impl<'a> Model for Names<'a> {
-    ghost use Rattle.mk_check.specs.Feed.{Scope};
-    ghost use Rattle.mk_check.specs.NamesInScope.{referred_names};
+    ghost use Rattle.mk_check.specs.{Feed.Scope, NamesInScope.referred_names};
 
     ghost Value = { Scope };
 
@@ -83,9 +79,8 @@ impl<'a> Model for Names<'a> {
 }
 
 impl<'a> Names<'a> {
-    ghost use Rattle.mk_check.specs.NamesInScope.{HasFew};
-    ghost use Rattle.mk_check.specs.Feed.{pointer_place};
-    ghost use Rattle.mk_check.specs.Steps.{on_object, on_registers, load, pointer_test, arithmetic, element_of};
+    ghost use Rattle.mk_check.specs.{NamesInScope.HasFew, Feed.pointer_place, Steps.{on_object, on_registers, load}};
+    ghost use Rattle.mk_check.specs.Steps.{pointer_test, arithmetic, element_of};
 
     pub fn of(alloc: Global, program: &'a [Item], script: &'a [Item]) -> Result<Names<'a>, NoMemory>
         ensures { IfOk result (λ names. names ≡ scope_of program.now script.now) }

@@ -1,12 +1,10 @@
 //! A script that runs.
 ghost use Rattle.std.specs.Prelude.{◌≡◌, ◌+◌, ◌-◌, ◌<◌, ◌≤◌, ◌++◌, [], ◌∷◌, true, false, length, slice_index};
-ghost use Rattle.std.specs.Prelude.{slice_set, take};
-ghost use Rattle.std.specs.Prelude.{IsTrue, IfOk, OnOk, OnErr, is_some, replicate, codes};
-ghost use Rattle.mk_check.specs.Feed.{newline, answered_number};
+ghost use Rattle.std.specs.Prelude.{slice_set, take, IsTrue, IfOk, OnOk, OnErr, is_some, replicate, codes};
+ghost use Rattle.mk_check.specs.{Feed.{newline, answered_number}, Trees.{kept_in, with_kept, PlaceIsWithin}};
+ghost use Rattle.mk_check.specs.Trees.{place_in_rounds, innermost, place_in_branch, LeavesBlock, MovesOn, HasStopped};
+ghost use Rattle.mk_check.specs.Trees.{PlaceFits};
 ghost use Rattle.mk_check.specs.Steps as steps;
-ghost use Rattle.mk_check.specs.Trees.{kept_in, with_kept, PlaceIsWithin, place_in_rounds};
-ghost use Rattle.mk_check.specs.Trees.{innermost, place_in_branch};
-ghost use Rattle.mk_check.specs.Trees.{LeavesBlock, MovesOn, HasStopped, PlaceFits};
 ghost use Rattle.mk_check.specs.declared.feeding.tree.Frame.TheVariants as frame;
 
 mod at_once;

@@ -175,8 +175,7 @@ pub struct Tree {
 
 impl Model for Tree {
     ghost use Rattle.std.specs.Prelude.{List};
-    ghost use Rattle.mk_check.specs.declared.feeding.tree.Node.{Node};
-    ghost use Rattle.mk_check.specs.Spots.{nodes_of, IsMarkedTree};
+    ghost use Rattle.mk_check.specs.{declared.feeding.tree.Node.Node, Spots.{nodes_of, IsMarkedTree}};
 
     ghost Value = { List Node };
 
@@ -186,8 +185,7 @@ impl Model for Tree {
 }
 
 impl Tree {
-    ghost use Rattle.mk_check.specs.Spots.{asks_at, instruction_of_node, sequels_of};
-    ghost use Rattle.mk_check.specs.Steps.{asks_first};
+    ghost use Rattle.mk_check.specs.{Spots.{asks_at, instruction_of_node, sequels_of}, Steps.asks_first};
     ghost use Rattle.mk_check.specs.Trees.{IsTree, IsBelow, node_at, steps_at, steps_from, trees};
 
     pub fn new(alloc: Global) -> Tree

@@ -1,10 +1,8 @@
 //! A script that goes on after an answer at which nothing is printed. No memory is taken.
 ghost use Rattle.std.specs.Prelude.{◌≡◌, length, false, IsTrue};
-ghost use Rattle.mk_core.specs.declared.events.Answer.TheVariants as answer;
-ghost use Rattle.mk_check.specs.AtOnce.{BeginsRound, TakesLine};
-ghost use Rattle.mk_check.specs.Feed.{is_refusal};
-ghost use Rattle.mk_check.specs.Spots.{sequels_of};
+ghost use Rattle.mk_check.specs.{AtOnce.{BeginsRound, TakesLine}, Feed.is_refusal, Spots.sequels_of};
 ghost use Rattle.mk_check.specs.Trees.{FramesAreWithin, IsTree, PlaceFits, PlaceIsWithin, node_at};
+ghost use Rattle.mk_core.specs.declared.events.Answer.TheVariants as answer;
 
 use crate::feeding::running::Running;
 use crate::feeding::tree::{Frame, Node, Sequel, Sequels, Tree};

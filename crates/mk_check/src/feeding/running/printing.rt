@@ -1,6 +1,5 @@
 //! What a script that runs prints.
-ghost use Rattle.std.specs.Prelude.{◌≡◌, ◌++◌, OnOk, OnErr};
-ghost use Rattle.std.specs.Fmt.{decimal};
+ghost use Rattle.std.specs.{Prelude.{◌≡◌, ◌++◌, OnOk, OnErr}, Fmt.decimal};
 ghost use Rattle.mk_check.specs.Feed.{refusal_line, refusal_text};
 
 use crate::feeding::running::Running;

@@ -1,9 +1,8 @@
 //! A script that runs on to an operation that comes before anything is printed. No memory is taken.
 ghost use Rattle.std.specs.Prelude.{◌≡◌, ◌<◌, length, true, false, IsTrue};
+ghost use Rattle.mk_check.specs.{Steps.asks_first, Trees.{kept_in, with_kept, PlaceIsWithin, resumed_node, steps_at}};
+ghost use Rattle.mk_check.specs.Trees.{trees, MovesOn, MovesToOp, HasStopped, PlaceFits};
 ghost use Rattle.mk_check.specs.Steps as steps;
-ghost use Rattle.mk_check.specs.Steps.{asks_first};
-ghost use Rattle.mk_check.specs.Trees.{kept_in, with_kept, PlaceIsWithin, resumed_node, steps_at, trees};
-ghost use Rattle.mk_check.specs.Trees.{MovesOn, MovesToOp, HasStopped, PlaceFits};
 
 use crate::feeding::instructions::Instruction;
 use crate::feeding::running::{Running, answered_number};

@@ -1,11 +1,9 @@
-use Rattle.mk_laws.proofs.Vocabulary.{Kind, List, Some, arith, histories_keep_lengths, length, ltb-true}
-use Rattle.mk_laws.proofs.Vocabulary.{place_on_pages, subst, sym, ◌<◌, ◌∙◌, ◌≡◌}
-use Rattle.mk_objects.proofs.Vocabulary.{PassState, now_of, object_for}
-use Rattle.mk_objects.proofs.PlacedNews.{fit_found, fit_within, goes_behind, place_found, shape_asked}
-use Rattle.mk_objects.proofs.PlacedNews.{type_asked}
-use Rattle.mk_objects.proofs.placing.place_object.Goals.{After-shape_of-shape, In-Some}
+use Rattle.mk_laws.proofs.Vocabulary.{Kind, List, Some, arith, histories_keep_lengths, length, ltb-true, place_on_pages}
+use Rattle.mk_laws.proofs.Vocabulary.{subst, sym, ◌<◌, ◌∙◌, ◌≡◌}
+use Rattle.mk_objects.proofs.{Vocabulary.{PassState, now_of, object_for}, PlacedNews.{fit_found, fit_within}}
+use Rattle.mk_objects.proofs.PlacedNews.{goes_behind, place_found, shape_asked, type_asked}
+use Rattle.mk_objects.{proofs.placing.place_object.Goals.{After-shape_of-shape, In-Some}, specs.Shapes.{object_shaped}}
 use Rattle.mk_objects.proofs.JoinedLooks.{granted_behind_looks, looks_nothing}
-use Rattle.mk_objects.specs.Shapes.{object_shaped}
 use Rattle.mk_objects.proofs.placing.place_object.Goals as goal
 
 -- the shape is that of the object
@@ -24,7 +22,7 @@ shape_of-shape-requires c =
     let has = type_asked c.args.turn.now.pass c.requires.one_table c.is_in_order.ensures.history
     c.requires.requested.op in
     subst (λ (ts : List (List Kind)). c.args.request.ty < length ts) (sym c.types.ensures)
-        (ltb-true c.args.request.ty _ has)
+    (ltb-true c.args.request.ty _ has)
 
 pub page-used-requires : goal.page-used-requires
 page-used-requires c =

@@ -1,8 +1,7 @@
-use Rattle.mk_why.proofs.Vocabulary.{PassState}
+use Rattle.mk_why.proofs.{Vocabulary.PassState, Looks.{law_kept, looks_then, still_closed, sweepless_kept}}
+use Rattle.mk_why.proofs.{Counts.of_state, Pointed.apart, Telling.{told_by, told_of}}
 use Rattle.mk_laws.proofs.Vocabulary.{ap, arith, ◌∙◌}
 use Rattle.mk_cycle.proofs.Allowed.{in_turn}
-use Rattle.mk_why.proofs.Looks.{law_kept, looks_then, still_closed, sweepless_kept}
-use Rattle.mk_why.proofs.{Counts.of_state, Pointed.apart, Telling.told_by, Telling.told_of}
 use Rattle.mk_why.proofs.why.WhyEngine.close_marks.Goals as goal
 
 pub close_marks-requires-clause-made_for : goal.close_marks-requires-clause-made_for
