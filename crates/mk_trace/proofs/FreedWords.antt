@@ -13,7 +13,7 @@ use Rattle.mk_laws.proofs.Vocabulary.{◌+◌, ◌||◌, ◌∙◌, ◌∷◌, �
 use Rattle.mk_never.specs.Reach.{IsReachable}
 use Rattle.mk_core.specs.NewPlaces.{object_of}
 use Rattle.mk_objects.proofs.HeldFreed.{held_part, held_sum}
-use Rattle.mk_quarantine.proofs.CountedWords.{sum_filtered}
+use Rattle.mk_laws.proofs.FreshWords.{sum_filtered}
 
 -- The words of quarantined allocations, where a type says how many words one has.
 

@@ -11,10 +11,10 @@ use Rattle.mk_cycle.proofs.freeing.give_back.Goals as goal
 -- The look gives nothing back, nor does the wiping.
 
 looked : (c : After-look_among-used) → GivesNothingBack c.args.turn.now.pass c.look_among-used.new.turn.pass
-looked c = look_frees c.requires.turn c.look_among-used.ensures
+looked c = look_frees c.requires.turn c.look_among-used.ensures.acts
 
 wiped : (c : After-wipe_released) → GivesNothingBack c.args.turn.now.pass c.wipe_released.new.turn.pass
-wiped c = none_then (look_frees c.requires.turn c.look_among-used.ensures) c.wipe_released.ensures.frees
+wiped c = none_then (look_frees c.requires.turn c.look_among-used.ensures.acts) c.wipe_released.ensures.frees
 
 given : (c : After-used)
     → GivesCells c.args.words.now c.args.turn.now.pass c.wipe_released.new.turn.pass c.used.new.self.pass c.args.page
