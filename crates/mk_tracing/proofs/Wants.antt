@@ -63,7 +63,6 @@ module _ {t u : TurnState} (a : Acts t.pass (Step.Look Word.Phase) u.pass) (own 
 pub waits_then : {t u v : TurnState} → WaitsForMarkers t u 1 → WaitsForMarkers u v 0 → WaitsForMarkers t v 1
 waits_then one none = record {
   table = none.table ∙ one.table;
-  op = none.op ∙ one.op;
   ready = none.ready;
   phase = none.phase;
   traces = counted_then is_waiting TracesReached is_want _ _ _ 1 0 one.traces none.traces;

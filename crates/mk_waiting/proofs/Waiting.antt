@@ -58,5 +58,5 @@ waits_more p q r o w m =
           ∙ or_last (not (is_one_of q.seats q.seat))) refl);
     })
 
-pub takes_then : {p q r : PassState} → Waits p q → TakesTurn q o r → TakesTurn p o r
+pub takes_then : {p q r : PassState} {o : Option Op} → Waits p q → TakesTurn q o r → TakesTurn p o r
 takes_then w t = record { waited = t.waited; waits = waits_then w t.waits; takes = t.takes }
