@@ -179,7 +179,7 @@ may_look_at_headers {p} t b page lt = look_allowed p t b.free (Word.Head page) (
 module _ {value : ℕ} {t u : TurnState} (l : LooksForCell value t u) where
   pub goes_for_cell : IsBeside t.pass → GoesBeside t u
   goes_for_cell b =
-      looked_for (λ (v : TurnState). GoesBeside t v) l (goes_nowhere t b) (λ a. goes_look t u b l.op a refl)
+      looked_for (λ (v : TurnState). GoesBeside t v) l (goes_nowhere t b) (λ a. goes_look t u b a refl)
 
   pub gates_for_cell : KeepsGates t.pass u.pass
   gates_for_cell = grind (arith, looked_for, gates_at_once, gates_behind)

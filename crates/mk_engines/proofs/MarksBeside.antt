@@ -126,7 +126,6 @@ module _ {x : Word} {n : ℕ} {t u v : TurnState} (f : FindsInRoot x n t u) (b :
   pub root_then : points_well t.pass.table.config.pages (now_of v.pass).words n ≡ true → GoesBeside t v
   root_then here = record {
     table = b.table ∙ f.table;
-    op = b.op ∙ f.op;
     beside = b.beside;
     marks =
         subst (λ (y : PassState). Does begins_marking t.pass y → LeavesTurn unchanged t.pass y
