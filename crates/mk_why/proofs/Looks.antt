@@ -54,9 +54,8 @@ module _ (t u : TurnState) (x : Word) (a : Acts t.pass (Step.Look x) u.pass)
       calm_keeps t.pass (Step.Look x) u.pass a (in_turn_before a) a.makes.pass.history refl still.free but_phase refl
 
   pub look_on : LooksOn t u
-  look_on same = record {
+  look_on = record {
     table = ap (λ (y : PassState). y.table) a.makes.is;
-    op = same;
     does = does_step is_look t.pass u.pass (Step.Look x) a.makes refl;
     keeps = keeps;
     view = ap view_of a.world ∙ view_left a.turn (a.stop (a.holds, gates)) still.wanted still.none;
