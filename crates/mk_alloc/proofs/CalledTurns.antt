@@ -5,14 +5,14 @@ use Rattle.mk_alloc.proofs.Vocabulary.{Has, InTurn, IsFresh, IsHistory, KeepsReg
 use Rattle.mk_alloc.proofs.Vocabulary.{Seat, Some, Step, TakesTurn, TurnGoesOn, TurnOf, World, ℕ, and_parts, ap}
 use Rattle.mk_alloc.proofs.Vocabulary.{append-nil, append_assoc, append_cancel_left, arith, at_rest, by_append, call_of}
 use Rattle.mk_alloc.proofs.Vocabulary.{caller_of_pass, calls, calls_by, calls_in_parts, entry_of, event_of, false}
-use Rattle.mk_alloc.proofs.Vocabulary.{is_one_of, is_same_seat, is_take, left, list_all, made, never_behind}
-use Rattle.mk_alloc.proofs.Vocabulary.{no_more_calls, not, not-true, not_both, now_of, only_one, only_seen}
-use Rattle.mk_alloc.proofs.Vocabulary.{only_seen_by, or_cases, others_add_none, others_one, own_before, own_calls}
-use Rattle.mk_alloc.proofs.Vocabulary.{pass_before, phase_of, refl, subst, sym, true, turn_stays, waits_for, [], ⊎_elim}
-use Rattle.mk_alloc.proofs.{Vocabulary.{◌&&◌, ◌++◌, ◌∙◌, ◌∷◌, ◌≡◌}, Decisions.{decided_in, registers_stay}}
-use Rattle.mk_alloc.proofs.OwnGives.{GivesNone, doing_gives, gives_append, others_give}
-use Rattle.mk_alloc.proofs.{Parts.{in_turn_then, others_lack, seen_after, seen_by, seen_then}, Going.IsCallers}
-use Rattle.mk_alloc.{proofs.{ListParts.{Lacks, SomeKind}, StepKinds.IsHolders}, specs.TurnCycles.{CallIsExact}}
+use Rattle.mk_alloc.proofs.Vocabulary.{is_one_of, is_same_seat, is_take, left, list_all, made, no_more_calls, not}
+use Rattle.mk_alloc.proofs.Vocabulary.{not-true, not_both, now_of, only_one, only_seen, only_seen_by, or_cases}
+use Rattle.mk_alloc.proofs.Vocabulary.{others_add_none, others_one, own_before, own_calls, pass_before, phase_of, refl}
+use Rattle.mk_alloc.proofs.Vocabulary.{subst, sym, true, turn_stays, waits_for, [], ⊎_elim, ◌&&◌, ◌++◌, ◌∙◌, ◌∷◌, ◌≡◌}
+use Rattle.mk_alloc.proofs.{Decisions.{decided_in, registers_stay}, OwnGives.{GivesNone, doing_gives, gives_append}}
+use Rattle.mk_alloc.proofs.{OwnGives.others_give, Parts.{in_turn_then, others_lack, seen_after, seen_by, seen_then}}
+use Rattle.mk_alloc.proofs.{Going.IsCallers, ListParts.{Lacks, SomeKind}, StepKinds.IsHolders}
+use Rattle.mk_alloc.specs.TurnCycles.{CallIsExact}
 use Rattle.mk_caller.specs.States.{never_of}
 use Rattle.mk_words.specs.Steps.{may_decide}
 use Rattle.mk_words.proofs.{Seats.others_own, TurnSteps.takes as takes_turn, Undecided.decides_nothing}
@@ -37,9 +37,6 @@ step_adds_none p q s m seat own idle =
     ap (λ (x : PassState). own_calls p x.seen) m.is ∙ idle_adds p (p.seen ++ m.others) s idle ∙ others_add_none _ _ _
     m.others (of_others_alone p m.others seat own m.of_others)
 
-take_idle : (s : Step) → is_take s ≡ true → may_decide s ≡ false
-take_idle x h = grind arith
-
 waits_add : (p : PassState) (es more : List Event) → IsCallers p → Has p.seats p.seat
     → list_all (waits_for p) more ≡ true → own_calls p (es ++ more) ≡ own_calls p es
 waits_add p es [] seat own all = ap (λ (l : List Event). own_calls p l) (append-nil es)
@@ -56,7 +53,7 @@ waits_add p es (e ∷ rest) seat own all =
     (λ (take : (is_take e.step && is_same_seat e.seat p.seat) ≡ true).
     ap (λ (l : List Decided). calls_by (caller_of_pass p) l)
     (no_more_calls p.table.config es e (decides_nothing p.table.config (left p.table.config es).now e.seat e.step
-    (take_idle e.step (and_parts (is_take e.step) (is_same_seat e.seat p.seat) take).0))))
+    (grind arith))))
     (or_cases (not (is_one_of p.seats e.seat)) (is_take e.step && is_same_seat e.seat p.seat) parts.0)
 
 -- A caller took the turn for its operation.
@@ -114,18 +111,14 @@ module _ {o : Op} {p taken : PassState} (x : Taken o p taken) where
   registers_taken =
       let c : Config = p.table.config in
       let k : ℕ = caller_of_pass p in
-      let whole : IsHistory c (p.seen ++ to_taken) =
-      subst (λ (l : List Event). IsHistory c l) taken_seen
+      let whole : IsHistory c (p.seen ++ to_taken) = subst (λ (l : List Event). IsHistory c l) taken_seen
       (subst (λ (y : PassState). IsHistory y.table.config taken.seen) taken_is taking.pass.history) in
       let none : calls_by k (calls_from c (left c p.seen) to_taken) ≡ [] =
       append_cancel_left (own_calls p p.seen) (calls_by k (calls_from c (left c p.seen) to_taken)) []
       (sym (by_append k (calls c p.seen) (calls_from c (left c p.seen) to_taken))
       ∙ ap (λ (l : List Decided). calls_by k l) (sym (calls_in_parts c p.seen to_taken))
       ∙ ap (λ (l : List Event). own_calls p l) (sym taken_seen) ∙ taken_adds ∙ sym (append-nil (own_calls p p.seen))) in
-      subst (λ (y : PassState). KeepsRegisters k (never_of p) (never_of (record y { seen = taken.seen })))
-      (sym taken_is)
-      (subst (λ (l : List Event). KeepsRegisters k (never_of p) (never_behind c l)) (sym taken_seen)
-      (registers_stay c p.seen to_taken k whole none))
+      grind (arith, taken_is, taken_seen, registers_stay, to_taken, whole, KeepsRegisters)
 
 pub taken_same : (p taken : PassState) (o : Op) → IsCallers p → Has p.seats p.seat → TakesTurn p (Some o) taken
     → taken ≡ record p { seen = taken.seen }

@@ -29,9 +29,7 @@ cycles_in_turn x h = grind arith
 
 pub cycle_still : (c : Config) (m : Moment) (f : Flight) (n : ℕ) (x : Step) → is_of_cycles x ≡ true
     → is_pending_free f ≡ false → progress c m f n x ≡ still f
-cycle_still c m f n (Step.Look x) h free = calm_still c m f n (Step.Look x) refl free
-cycle_still c m f n (Step.Quar p v) h free = calm_still c m f n (Step.Quar p v) refl free
-cycle_still c m f n _ h free = cc
+cycle_still c m f n x4 h free = grind (arith, calm_still)
 
 -- The holder's call stays as it is, and none of its calls is decided.
 pub record GoesUndecided (p : PassState) (es fs : List Event) : Type 0 where
@@ -87,10 +85,7 @@ storage_in p es = unreleased_storage p.table.config (left p.table.config es).all
 storage_by : (c : Config) (m : Moment) (f : Flight) (x : Step) (xs : List PlacedAllocation) → releases_none x ≡ true
     → is_pending_free f ≡ false → unreleased_storage c (allocations_by c m f x xs) ≡ unreleased_storage c xs
 storage_by c m f (Step.Quar p v) xs h free = cc (frees_none c.pages m.words f p v free, none_freed m.words xs)
-storage_by c m f Step.Begin xs h free = fresh_storage c xs
-storage_by c m f Step.Grant xs h free = cc
-storage_by c m f Step.Release xs h free = cc
-storage_by c m f x xs h free = refl
+storage_by c m f x xs h free = grind (arith, fresh_storage)
 
 -- stays where nothing is released, at each event.
 pub record StaysReserved (p : PassState) (es fs : List Event) : Type 0 where
@@ -98,13 +93,6 @@ pub record StaysReserved (p : PassState) (es fs : List Event) : Type 0 where
   pub storage : storage_in p fs ≡ storage_in p es
 
 module _ (p : PassState) (seat : p.seat ≡ Caller (caller_of_pass p)) (own : Has p.seats p.seat) where
-  own_storage : (es : List Event) (x : Step) → Here p es (event_of p x) → releases_none x ≡ true
-      → is_pending_free (call_in p es) ≡ false → storage_in p (es ++ event_of p x ∷ []) ≡ storage_in p es
-  own_storage es x h kind free =
-      let c : Config = p.table.config in
-      let w : World = left c es in
-      cc (h.behind, storage_by c w.now (flight_of w.now p.seat) x w.allocations kind free)
-
   other_storage : (es : List Event) (e : Event) → Here p es e → e.seat ≢ p.seat → storage_in p (es ++ e ∷ [])
       ≡ storage_in p es
   other_storage es e h ne =
@@ -121,7 +109,9 @@ module _ (p : PassState) (seat : p.seat ≡ Caller (caller_of_pass p)) (own : Ha
       let pending = ap (λ (f : Flight). is_pending_free f) so_far.call ∙ free in
       record {
         call = (own_undecided p seat own fs x h (grind arith) pending).call ∙ so_far.call;
-        storage = own_storage fs x h kind pending ∙ so_far.storage;
+        storage = (let c : Config = p.table.config in
+            let w : World = left c fs in
+            cc (h.behind, storage_by c w.now (flight_of w.now p.seat) x w.allocations kind pending)) ∙ so_far.storage;
       })
       (λ fs e h ne so_far. record {
         call = (other_undecided p seat own fs e h ne).call ∙ so_far.call;

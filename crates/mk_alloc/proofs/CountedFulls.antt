@@ -58,9 +58,6 @@ module _ {p p1 p2 : PassState} {n v : ℕ} (quiet : IsQuiet p) (u : IsUnplaced p
       finds.finds ∙ ap (λ (s : Steady). s.full)
       (((made p (Step.Look Word.Full) p1 finds.makes).frame.turn look.holds).0).steady
 
-  tally_is : (now_of p2).words.full ≡ v
-  tally_is = ap (λ (w : World). w.now.words.full) tallies.world
-
   call_same : call_of p2 ≡ call_of p
   call_same = k2.call.call ∙ k1.call.call
 
@@ -68,8 +65,7 @@ module _ {p p1 p2 : PassState} {n v : ℕ} (quiet : IsQuiet p) (u : IsUnplaced p
   done_same = k2.call.done ∙ k1.call.done
 
   pub tallied_unplaced : IsUnplaced p2
-  tallied_unplaced = unplaced_kept u call_same (ap (λ (x : Done). x.placing) done_same)
-      (ap (λ (s : Steady). s.phase) steady)
+  tallied_unplaced = grind (arith, unplaced_kept, call_same, done_same, steady, Done)
 
   pub tallied_idle : IsAtPhase p 0 → IsAtPhase p2 0
   tallied_idle idle = ap (λ (s : Steady). s.phase) steady ∙ idle
@@ -119,18 +115,7 @@ module _ {p p1 p2 : PassState} {n v : ℕ} (quiet : IsQuiet p) (u : IsUnplaced p
     ends_q = grind (arith, es, sum_by_push, seen_q, k2, k1)
 
     fulls_q : full_answers p.table.config q.seen ≡ full_answers p.table.config p.seen + 1
-    fulls_q =
-        let ds : List Decided = call_decided p2.table.config (left p2.table.config es).now e in
-        let last : fulls_of ds ≡ 1 = ap (λ (xs : List Decided). fulls_of xs) decides in
-        let pushed : full_answers p2.table.config (es ++ e ∷ []) ≡ full_answers p2.table.config es + fulls_of ds =
-        ap (λ (xs : List Decided). fulls_of xs) (calls_more p2.table.config (first_world p2.table.config) es e)
-        ∙ fulls_append (calls p2.table.config es) ds in
-        let before : full_answers p2.table.config es ≡ full_answers p2.table.config p2.seen = full.counts.fulls in
-        let two : full_answers p2.table.config p2.seen ≡ full_answers p.table.config p.seen =
-        cc (same_config p1 p2 k2.call.pass, k2.counts.fulls, same_config p p1 k1.call.pass, k1.counts.fulls) in
-        let unchanged : full_answers p.table.config q.seen ≡ full_answers p2.table.config (es ++ e ∷ []) =
-        cc (config2, seen_q) in
-        omega arith
+    fulls_q = grind (arith, es, fulls_of, decides, calls_more, fulls_append, same_config, k2, k1, config2, seen_q)
 
     entry : own_calls p q.seen ≡ own_calls p p.seen ++ entry_of (caller_of_pass p) (call_of p).op (Some Answer.Full)
     entry =
@@ -187,7 +172,7 @@ module _ {p p1 p2 : PassState} {n v : ℕ} (quiet : IsQuiet p) (u : IsUnplaced p
               quiet.gates;
           exact = exact_kept p q pass_q all_steady quiet.exact;
           tidy = tidy_kept p q all_steady ends_q
-              (ap (λ (s : Steady). s.full) steady_q ∙ tally_is
+              (ap (λ (s : Steady). s.full) steady_q ∙ (ap (λ (w : World). w.now.words.full) tallies.world)
               ∙ raised_so n v (full_answers p.table.config p.seen) (full_answers p.table.config q.seen)
               (found ∙ quiet.tidy.full) raised fulls_q
               ∙ ap (λ (c : Config). in_a_word (full_answers c q.seen)) (sym config_q))

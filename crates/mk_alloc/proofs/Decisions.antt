@@ -1,7 +1,7 @@
 -- One entry more among a caller's calls is that of one event, which decides it. What the other events decide is of
 -- other callers, and leaves the caller its registers.
-use Rattle.mk_laws.proofs.Vocabulary.{NeverState, admitted_in_parts, admitted_keep, answer_of, answered, answers_of}
-use Rattle.mk_laws.proofs.{Vocabulary.{bases_of, flagged, never_in_parts, replies_of}, ImagesOneEvent.one_event}
+use Rattle.mk_laws.proofs.Vocabulary.{NeverState, admitted_in_parts, admitted_keep, answered, answers_of, bases_of}
+use Rattle.mk_laws.proofs.{Vocabulary.{flagged, never_in_parts, replies_of}, ImagesOneEvent.one_event}
 use Rattle.mk_alloc.proofs.Vocabulary.{Answer, Bool, Config, Decided, Event, IsHistory, KeepsRegisters, List, None, Op}
 use Rattle.mk_alloc.proofs.Vocabulary.{Option, PassState, Some, World, ℕ, after_calls, answer_decided, ap, append-nil}
 use Rattle.mk_alloc.proofs.Vocabulary.{append_assoc, asked, by_append, call_decided, caller_number, caller_of_pass}
@@ -9,7 +9,7 @@ use Rattle.mk_alloc.proofs.Vocabulary.{calls, calls_by, calls_in_parts, comes_la
 use Rattle.mk_alloc.proofs.Vocabulary.{eq-eqb, false, flight_of, if◌then◌else◌, left, left_in_parts, never_behind}
 use Rattle.mk_alloc.proofs.Vocabulary.{own_calls, refl, stands, subst, sym, told_to_images, true, true≢false}
 use Rattle.mk_alloc.proofs.Vocabulary.{world_behind, [], ◌++◌, ◌==◌, ◌∙◌, ◌∷◌, ◌≡◌}
-use Rattle.mk_never.specs.{Laws.AreNotBy, NeverHeap.{after_op, reply_of}}
+use Rattle.mk_never.specs.{Laws.AreNotBy, NeverHeap.after_op}
 use Rattle.mk_core.specs.History.{calls_from, left_from}
 use Rattle.mk_caller.specs.Called.{IsDecidedIn}
 
@@ -150,23 +150,6 @@ module _ (p : PassState) (o : Op) (a : Answer) (more : List Event) (history : Is
       (answer_decided c (left c es).now found.event) x
       (ap (λ (w : World). calls_by k (call_decided c w.now found.event)) there ∙ found.own)
 
-  right : (a ∷ []) ≡ answer_of (bases_of (left c (es ++ found.event ∷ [])).allocations)
-      (reply_of (never_behind c es) k (flagged o a)) ∷ []
-  right =
-      let last = comes_last c es found.event through in
-      let st = stands c es last.before in
-      let f = one_event c (left c es) (never_behind c es) found.event st.known
-      (told_to_images c (left c es) (never_behind c es) st.known st.all) st.all.mirrors last.on last.admitted in
-      sym (ap (λ (l : List Decided). answered l) decides)
-      ∙ f.right []
-      ∙ ap (λ (bs : List ℕ). answers_of bs (replies_of (never_behind c es)
-      (asked (call_decided c (left c es).now found.event))))
-      (append-nil (bases_of (world_behind c (left c es) found.event).allocations))
-      ∙ ap (λ (w : World). answers_of (bases_of w.allocations)
-      (replies_of (never_behind c es) (asked (call_decided c (left c es).now found.event)))) (sym last.leaves)
-      ∙ ap (λ (l : List Decided). answers_of (bases_of (left c (es ++ found.event ∷ [])).allocations)
-      (replies_of (never_behind c es) (asked l))) decides
-
   never : never_behind c (es ++ found.event ∷ []) ≡ after_op (never_behind c es) k (flagged o a)
   never =
       (comes_last c es found.event through).never
@@ -186,7 +169,19 @@ module _ (p : PassState) (o : Op) (a : Answer) (more : List Event) (history : Is
         behind = found.behind;
         is = found.is;
         decides = decides ∙ ap (λ (y : Op). record { caller = k; op = y; answer = a } ∷ []) (sym (flagged_once o a));
-        reply = let one = right in cc one;
+        reply = let one = let last = comes_last c es found.event through in
+            let st = stands c es last.before in
+            let f = one_event c (left c es) (never_behind c es) found.event st.known
+            (told_to_images c (left c es) (never_behind c es) st.known st.all) st.all.mirrors last.on last.admitted in
+            sym (ap (λ (l : List Decided). answered l) decides)
+            ∙ f.right []
+            ∙ ap (λ (bs : List ℕ). answers_of bs (replies_of (never_behind c es)
+            (asked (call_decided c (left c es).now found.event))))
+            (append-nil (bases_of (world_behind c (left c es) found.event).allocations))
+            ∙ ap (λ (w : World). answers_of (bases_of w.allocations)
+            (replies_of (never_behind c es) (asked (call_decided c (left c es).now found.event)))) (sym last.leaves)
+            ∙ ap (λ (l : List Decided). answers_of (bases_of (left c (es ++ found.event ∷ [])).allocations)
+            (replies_of (never_behind c es) (asked l))) decides in cc one;
         known = registers_stay c p.seen found.before k (comes_last c es found.event through).before found.none_before;
         left_so =
             subst (λ (n : NeverState). KeepsRegisters k n (never_behind c (p.seen ++ more))) never

@@ -1,9 +1,9 @@
 -- The events of the cycle that a due Free begins, after one that was on.
 use Rattle.mk_alloc.proofs.Vocabulary.{At, Bool, EndsOlder, Event, FinishesCycle, InTurn, IsAtPhase, IsHistory, IsQuiet}
-use Rattle.mk_alloc.proofs.Vocabulary.{List, None, PassState, Step, TurnGoesOn, ap, append-nil, append_assoc, arith}
+use Rattle.mk_alloc.proofs.Vocabulary.{List, None, PassState, TurnGoesOn, ap, append-nil, append_assoc, arith}
 use Rattle.mk_alloc.proofs.Vocabulary.{cases_Bool, false, finishes, has_step, inl, inr, is_begin, is_close, is_end}
 use Rattle.mk_alloc.proofs.Vocabulary.{is_look, or_from, or_parts, refl, subst, sym, true, true≢false, turn_stays, []}
-use Rattle.mk_alloc.proofs.{Vocabulary.{◌++◌, ◌∙◌, ◌∷◌, ◌≡◌, ◌⊎◌}, CycleParts.{BeginIn, EndsIn, begin_done, begin_in}}
+use Rattle.mk_alloc.proofs.{Vocabulary.{◌++◌, ◌∙◌, ◌∷◌, ◌≡◌}, CycleParts.{BeginIn, EndsIn, begin_done, begin_in}}
 use Rattle.mk_alloc.proofs.{CycleParts.{begins_held, finish_done, finish_in}, Going.{IsCallers, begun_on, callers_then}}
 use Rattle.mk_alloc.proofs.{Going.{finished_on, look_part, looked_on, on_then}, ListParts.{Lacks, SomeKind}}
 use Rattle.mk_alloc.proofs.{ListParts.lacks_append, Parts.{behind_part, history_before, in_turn_then, part_lacks}}
@@ -71,39 +71,36 @@ record OlderIn (p q : PassState) : Type 0 where
 
 older_in : {p q : PassState} → InTurn p → IsCallers p → IsQuiet p → EndsOlder p q → IsHistory q.table.config q.seen
     → OlderIn p q
-older_in {p} {q} t seat quiet e history = by quiet.phase
-  where
-    by : (IsAtPhase p 0) ⊎ (IsAtPhase p 1) → OlderIn p q
-    by (inl none) =
-        let same : q ≡ e.looked = e.none none in
-        let h = subst (λ (x : PassState). IsHistory x.table.config x.seen) same history in
-        let look = look_part t e.looks.does h in
-        subst (λ (x : PassState). OlderIn p x) (sym same)
-        (record {
-          turn = behind_part look;
-          on = looked_on t seat quiet e.looks h;
-          more = look.does.more;
-          is = seen_behind is_look p e.looked look.does;
-          begins_none = part_lacks is_begin look begins_held (λ x h. grind arith);
-          ended = λ (one : IsAtPhase p 1). absurd (omega arith);
-        })
-    by (inr one) =
-        let law : FinishesCycle e.looked q = e.on one in
-        let look = look_part t e.looks.does (history_before is_of_cycles e.looked q (finish_done law) history) in
-        let t1 = behind_part look in
-        let f = finish_in e.looked q t1.own law t1 history in
-        record {
-          turn = in_turn_then is_of_cycles e.looked q cycles_in_turn t1 (finish_done law) history;
-          on = on_then None p e.looked q (looked_on t seat quiet e.looks look.history)
-              (finished_on t1 (callers_then is_look p e.looked look.does seat)
-              (quiet_looked quiet e.looks) law history);
-          more = look.does.more ++ f.more;
-          is = seen_then p.seen e.looked.seen q.seen look.does.more f.more (seen_behind is_look p e.looked look.does)
-              f.is;
-          begins_none = lacks_append is_begin look.does.more f.more (part_lacks is_begin look begins_held
-              (λ x h. grind arith)) f.begins_none;
-          ended = λ here. at_behind is_end look.does.more f.more (end_at f.more f.ends);
-        }
+older_in {p} {q} t seat quiet e history = elim quiet.phase [
+  | inl none ↦ let same : q ≡ e.looked = e.none none in
+      let h = subst (λ (x : PassState). IsHistory x.table.config x.seen) same history in
+      let look = look_part t e.looks.does h in
+      subst (λ (x : PassState). OlderIn p x) (sym same)
+      (record {
+        turn = behind_part look;
+        on = looked_on t seat quiet e.looks h;
+        more = look.does.more;
+        is = seen_behind is_look p e.looked look.does;
+        begins_none = part_lacks is_begin look begins_held (λ x h. grind arith);
+        ended = λ (one : IsAtPhase p 1). absurd (omega arith);
+      })
+  | inr one ↦ let law : FinishesCycle e.looked q = e.on one in
+      let look = look_part t e.looks.does (history_before is_of_cycles e.looked q (finish_done law) history) in
+      let t1 = behind_part look in
+      let f = finish_in e.looked q t1.own law t1 history in
+      record {
+        turn = in_turn_then is_of_cycles e.looked q cycles_in_turn t1 (finish_done law) history;
+        on = on_then None p e.looked q (looked_on t seat quiet e.looks look.history)
+            (finished_on t1 (callers_then is_look p e.looked look.does seat)
+            (quiet_looked quiet e.looks) law history);
+        more = look.does.more ++ f.more;
+        is = seen_then p.seen e.looked.seen q.seen look.does.more f.more (seen_behind is_look p e.looked look.does)
+            f.is;
+        begins_none = lacks_append is_begin look.does.more f.more (part_lacks is_begin look begins_held
+            (λ x h. grind arith)) f.begins_none;
+        ended = λ here. at_behind is_end look.does.more f.more (end_at f.more f.ends);
+      }
+]
 
 -- One `begin`, with what stands before it and after.
 pub record RunIn (on : Bool) (p q : PassState) : Type 0 where
@@ -119,14 +116,11 @@ pub record RunIn (on : Bool) (p q : PassState) : Type 0 where
   pub goes_on : on ≡ true → Lacks finishes second
   pub older : IsAtPhase p 1 → At is_end first
 
-close_finishes : (x : Step) → finishes x ≡ false → is_close x ≡ false
-close_finishes x h = grind arith
-
 pub no_close : (es : List Event) → Lacks finishes es → Lacks is_close es
 no_close [] h = refl
 no_close (e ∷ es) h =
     let parts = or_parts (finishes e.step) (has_step finishes es) h in
-    or_from (is_close e.step) (has_step is_close es) (close_finishes e.step parts.0) (no_close es parts.1)
+    or_from (is_close e.step) (has_step is_close es) (grind arith) (no_close es parts.1)
 
 module _ {on : Bool} {p q : PassState} (t : InTurn p) (seat : IsCallers p) (quiet : IsQuiet p)
     (run : RunsCycle on p q) (history : IsHistory q.table.config q.seen) where

@@ -21,14 +21,12 @@ not_due_without c es more before e behind none is due =
     lacks_at is_quar more before e behind none is (due_is_quar c (left c es).now
     (flight_of (left c es).now e.seat) e.step due.decides)
 
-begin_of : (x : Step) → is_of_cycle x ≡ false → is_begin x ≡ false
-begin_of x h = (or_parts (is_begin x) (finishes x) h).0
-
 begins_none : (es : List Event) → Lacks is_of_cycle es → Lacks is_begin es
 begins_none [] h = refl
 begins_none (e ∷ es) h =
     let parts = or_parts (is_of_cycle e.step) (has_step is_of_cycle es) h in
-    or_from (is_begin e.step) (has_step is_begin es) (begin_of e.step parts.0) (begins_none es parts.1)
+    or_from (is_begin e.step) (has_step is_begin es) (
+    (or_parts (is_begin e.step) (finishes e.step) parts.0).0) (begins_none es parts.1)
 
 module _ (on : Bool) (c : Config) (s : Seat) (es : List Event) (t : TurnOf c s es) where
   -- A Free that isn't due does nothing with cycles.

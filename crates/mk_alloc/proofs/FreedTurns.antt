@@ -1,17 +1,17 @@
 -- What a Free is answered, and that its turn may go on and be given back.
 use Rattle.mk_laws.proofs.Vocabulary.{register_at}
-use Rattle.mk_alloc.proofs.Vocabulary.{Answer, BeginsTurn, Bool, FreeIsExact, FreesObject, Has, InTurn}
-use Rattle.mk_alloc.proofs.Vocabulary.{IsAnsweredDouble, IsDueIn, IsDueSince, IsFresh, IsHistory, Makes, Op, PassState}
-use Rattle.mk_alloc.proofs.Vocabulary.{RunsIfDue, Some, Step, TakesTurn, TurnGoesOn, Value, ℕ, ap, append_assoc}
-use Rattle.mk_alloc.proofs.Vocabulary.{append_cancel_left, arith, at_rest, call_of, caller_of_pass, cases_Bool, inl}
-use Rattle.mk_alloc.proofs.Vocabulary.{inr, is_freeing, is_loading, pass_before, refl, subst, sym, true, ◌++◌, ◌<◌, ◌∙◌}
-use Rattle.mk_alloc.proofs.{Vocabulary.{◌∷◌, ◌≡◌}, CalledTurns.{GivenBack, Taken, called, registers_taken}}
-use Rattle.mk_alloc.proofs.CalledTurns.{taken_callers, taken_is, taken_turn, turn_of}
-use Rattle.mk_alloc.proofs.RetiredTurns.{decided_on, due_in, due_since, rests_exactly, run_or_rest, runs_exactly}
-use Rattle.mk_alloc.proofs.{DueParts.{RunIn, run_in}, FreeTurns.{is_quar, not_due_without}}
-use Rattle.mk_alloc.proofs.{Going.{IsCallers, callers_then}, Parts.{Part, part_lacks, seen_by}}
+use Rattle.mk_alloc.proofs.Vocabulary.{Answer, BeginsTurn, Bool, FreesObject, Has, InTurn, IsAnsweredDouble, IsDueIn}
+use Rattle.mk_alloc.proofs.Vocabulary.{IsDueSince, IsFresh, IsHistory, Makes, Op, PassState, RunsIfDue, Some, Step}
+use Rattle.mk_alloc.proofs.Vocabulary.{TakesTurn, TurnGoesOn, Value, ℕ, ap, append_assoc, append_cancel_left, arith}
+use Rattle.mk_alloc.proofs.Vocabulary.{at_rest, call_of, caller_of_pass, cases_Bool, inl, inr, is_freeing, is_loading}
+use Rattle.mk_alloc.proofs.Vocabulary.{pass_before, refl, subst, sym, true, ◌++◌, ◌<◌, ◌∙◌, ◌∷◌, ◌≡◌}
 use Rattle.mk_never.specs.Admitted.{IsBase}
-use Rattle.mk_objects.specs.{Retired.{FindsFreed, Retires}, Retiring.IsUnloaded}
+use Rattle.mk_alloc.proofs.CalledTurns.{GivenBack, Taken, called, registers_taken, taken_callers, taken_is, taken_turn}
+use Rattle.mk_alloc.proofs.CalledTurns.{turn_of}
+use Rattle.mk_alloc.proofs.RetiredTurns.{decided_on, due_in, due_since, rests_exactly, run_or_rest, runs_exactly}
+use Rattle.mk_alloc.proofs.{DueParts.RunIn, DueParts.run_in, FreeTurns.is_quar, FreeTurns.not_due_without}
+use Rattle.mk_alloc.proofs.{Going.IsCallers, Going.callers_then, Parts.Part, Parts.part_lacks, Parts.seen_by}
+use Rattle.mk_objects.specs.{Retired.FindsFreed, Retired.Retires, Retiring.IsUnloaded}
 use Rattle.mk_caller.specs.States as caller
 
 -- The register that the turn's Free loads is null or points to a first word, as before.
@@ -73,12 +73,6 @@ module _ {flag due : Bool} {r : ℕ} {p taken retired done : PassState} (f : Fre
     abbrev pub given : GivenBack (Op.Free r) Answer.Done p taken done q
     given = record { took = f.took; fresh = f.begins.fresh; on = freed; gives = gives; rests = rests }
 
-    exact : FreeIsExact flag (turn_of given)
-    exact = elim (cases_Bool due) [
-      | inl is ↦ runs_exactly given (λ x h. h) freeing f.retires.decides.phase (runs is) (f.retires.is_due is)
-      | inr is ↦ rests_exactly given (λ x h. h) freeing flag (f.run.rests is) (f.retires.not_due is)
-    ]
-
     told : IsDueIn (turn_of given) → due ≡ true
     told is_due = elim (cases_Bool due) [
       | inl is ↦ is
@@ -91,7 +85,13 @@ module _ {flag due : Bool} {r : ℕ} {p taken retired done : PassState} (f : Fre
         due_in given (λ x h. h) freeing (x.first ++ x.begin ∷ x.second) x.is (f.retires.is_due is)
 
     pub freed_object : FreesObject flag p r due q
-    freed_object = record { called = called given flag exact; is_due = (tells, told) }
+    freed_object = record {
+      called = called given flag (elim (cases_Bool due) [
+        | inl is ↦ runs_exactly given (λ x h. h) freeing f.retires.decides.phase (runs is) (f.retires.is_due is)
+        | inr is ↦ rests_exactly given (λ x h. h) freeing flag (f.run.rests is) (f.retires.not_due is)
+      ]);
+      is_due = (tells, told);
+    }
 
 -- The turn of one whose object was freed already.
 pub record Refuses (r : ℕ) (p taken done : PassState) : Type 0 where

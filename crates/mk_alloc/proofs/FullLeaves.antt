@@ -32,26 +32,18 @@ is_of_full x = is_of_cycles x
 -- One step
 
 tally_globals : (w : Words) (n : Tally) (v : ℕ) → (accessed w (Named (tally_word n)) (Store v)).globals ≡ w.globals
-tally_globals w Tally.Held v = refl
-tally_globals w _ v = refl
+tally_globals w x1 v = grind arith
 
 tally_heap : (w : Words) (n : Tally) (v : ℕ) → (accessed w (Named (tally_word n)) (Store v)).heap ≡ w.heap
-tally_heap w Tally.Held v = refl
-tally_heap w _ v = refl
+tally_heap w x1 v = grind arith
 
 registers_stay : (c : Config) (w : World) (s : Seat) (x : Step) → is_of_full x ≡ true
     → (WorldBehind c w s x).now.words.registers ≡ w.now.words.registers
-registers_stay c w s Step.Reg h = cc
-registers_stay c w s Step.Grant h = cc
-registers_stay c w s (Step.Tally n v) h = tally_leaves_registers w.now.words n v
-registers_stay c w s _ h = refl
+registers_stay c w s x3 h = grind (arith, tally_leaves_registers)
 
 globals_stay : (c : Config) (w : World) (s : Seat) (x : Step) → is_of_full x ≡ true
     → (WorldBehind c w s x).now.words.globals ≡ w.now.words.globals
-globals_stay c w s Step.Reg h = cc
-globals_stay c w s Step.Setg h = cc
-globals_stay c w s (Step.Tally n v) h = tally_globals w.now.words n v
-globals_stay c w s _ h = refl
+globals_stay c w s x3 h = grind (arith, tally_globals)
 
 -- allocations
 
@@ -69,19 +61,12 @@ changed_each change xs a h is = subst (λ (b : PlacedAllocation). StaysOrIsRelea
 each_stays : (c : Config) (m : Moment) (f : Flight) (x : Step) (xs : List PlacedAllocation) → is_of_full x ≡ true
     → (is_quar x ≡ true → is_pending_free f ≡ false) → (a : ℕ)
     → StaysOrIsReleased (placed_at xs a) (placed_at (allocations_by c m f x xs) a)
-each_stays c m f Step.Grant xs h free a = cc
 each_stays c m f (Step.Quar p v) xs h free a =
     same_each xs (allocations_by c m f (Step.Quar p v) xs)
     (ap (λ (cell : Option Cell). map (freed_where_it_stands m.words cell) xs)
     (frees_none c.pages m.words f p v (free refl))
     ∙ none_freed m.words xs) a
-each_stays c m f Step.Begin xs h free a =
-    changed_each no_longer_fresh xs a (record { same = refl; released = λ h. h }) (changed_at no_longer_fresh xs a refl)
-each_stays c m f Step.Release xs h free a =
-    changed_each (with_released c m.words) xs a
-    (record { same = refl; released = λ h. or_left (placed_at xs a).released _ h })
-    (changed_at (with_released c m.words) xs a refl)
-each_stays c m f _ xs h free a = same_each xs xs refl a
+each_stays c m f x4 xs h free a = grind (arith, changed_each, changed_at, or_left, same_each)
 
 count_stays : (c : Config) (m : Moment) (f : Flight) (x : Step) (xs : List PlacedAllocation) → is_of_full x ≡ true
     → length (allocations_by c m f x xs) ≡ length xs
@@ -122,12 +107,7 @@ module _ (c : Config) (es : List Event) (s : Seat) (x : Step) (history : IsHisto
       by (Step.Wipe n) k may =
           get_or-set_other w.now.words.heap n ((placed_at w.allocations a).base + i) 0 0
           (wiped_apart n may a i mapped lt)
-      by (Step.Tally n v) k may =
-          ap (λ (l : List ℕ). slice_index l ((placed_at w.allocations a).base + i)) (tally_heap w.now.words n v)
-      by Step.Reg k may = cc
-      by Step.Write k may = cc
-      by Step.Cas k may = cc
-      by _ k may = refl
+      by x1 k may = grind (arith, tally_heap)
 
   pub step_leaves : is_of_full x ≡ true → (is_quar x ≡ true → is_pending_free (flight_of w.now s) ≡ false)
       → LeavesAllButReleased c w (WorldBehind c w s x)
@@ -141,14 +121,7 @@ module _ (c : Config) (es : List Event) (s : Seat) (x : Step) (history : IsHisto
 
 take_leaves : (c : Config) (w : World) (s : Seat) (x : Step) → is_take x ≡ true
     → LeavesAllButReleased c w (WorldBehind c w s x)
-take_leaves c w s (Step.Take o) h = record {
-  registers = refl;
-  globals = refl;
-  count = refl;
-  each = same_each w.allocations w.allocations refl;
-  words = λ a mapped i lt. refl;
-}
-take_leaves c w s _ h = cc
+take_leaves c w s x3 h = grind (arith, same_each)
 
 -- lists
 
@@ -195,16 +168,7 @@ last_own c s es xs e first last =
 
 pub leaves_then : {p q r : PassState} → q ≡ record p { seen = q.seen } → OwnLeaveAllButReleased p q
     → OwnLeaveAllButReleased q r → OwnLeaveAllButReleased p r
-leaves_then {p} {q} same one two =
-    let c : Config = p.table.config in
-    let there : world_of q ≡ left_from c (left c p.seen) one.more =
-    cc (same, one.is, left_in_parts c p.seen one.more) in
-    record {
-      more = one.more ++ two.more;
-      is = two.is ∙ ap (λ (l : List Event). l ++ two.more) one.is ∙ append_assoc p.seen one.more two.more;
-      each = own_append c _ _ one.more two.more one.each (subst (λ (w : World). OwnLeaveFrom c p.seat w two.more) there
-          (subst (λ (x : PassState). OwnLeaveFrom x.table.config x.seat (world_of q) two.more) same two.each));
-    }
+leaves_then same one two = grind (arith, left_in_parts, append_assoc, own_append)
 
 pub made_leaves : {p q : PassState} {x : Step} → Makes p x q → is_of_full x ≡ true → is_quar x ≡ false
     → OwnLeaveAllButReleased p q
@@ -264,9 +228,4 @@ cycles_left {p} seat own es (e ∷ rest) free s = (
 
 pub cycles_leave : {p q : PassState} → IsCallers p → is_pending_free (call_of p) ≡ false → Part is_of_cycles p q
     → OwnLeaveAllButReleased p q
-cycles_leave {p} {q} seat free x = record {
-  more = x.does.more;
-  is = seen_by x.does;
-  each = cycles_left seat x.turn.own p.seen x.does.more free
-      (does_stretch p q is_of_cycles x.does x.history x.turn.holds);
-}
+cycles_leave seat free x = grind (arith, seen_by, cycles_left, does_stretch, is_of_cycles)

@@ -6,9 +6,9 @@ use Rattle.mk_alloc.proofs.Vocabulary.{IsEnabled, IsEnabledTo, IsHistory, IsTurn
 use Rattle.mk_alloc.proofs.Vocabulary.{PassState, Seat, Some, Stage, Step, ℕ, acting_caller, ap, asked, call_of}
 use Rattle.mk_alloc.proofs.Vocabulary.{caller_of_pass, calls, calls_more, comes_next, entry_of, eq-eqb, first_world}
 use Rattle.mk_alloc.proofs.Vocabulary.{flight_of, has_operands, is_undecided_new, known_left, left, lt-ltb}
-use Rattle.mk_alloc.proofs.Vocabulary.{meets_enabled, new_is_acting, now_of, object_for, object_made, op_for, phase_of}
+use Rattle.mk_alloc.proofs.Vocabulary.{meets_enabled, new_is_acting, now_of, object_for, object_made, phase_of}
 use Rattle.mk_alloc.proofs.Vocabulary.{place_now_for, refl, subst, sym, true, undecided_new, [], ◌++◌, ◌<◌, ◌∙◌, ◌∷◌}
-use Rattle.mk_alloc.proofs.{Vocabulary.◌≡◌, Going.IsCallers, SeekingTurns.new_callers}
+use Rattle.mk_alloc.proofs.{Vocabulary.◌≡◌, SeekingTurns.new_callers}
 use Rattle.mk_never.proofs.Parts.{admitted_join}
 use Rattle.mk_core.specs.History.{IsAdmittedBehind, never_first}
 use Rattle.mk_objects.proofs.{AdmittedNews.{new_admitted, new_in_range}, Looks.acting_now, Takes.unplaced_settled}
@@ -41,10 +41,10 @@ full_for c m k lt new idle placing ended none =
 pub full_allowed : {p : PassState} → InTurn p → IsUnplaced p → IsAtPhase p 0
     → (now_of p).seats.holding.cycle ≡ Ended → place_now_for p ≡ None → IsEnabledTo p Step.Full
 full_allowed {p} t u idle ended none =
-    let turn : IsTurn p (op_for p.seat (call_of p)) = record { holds = t.holds; op = refl } in
+    let turn : IsTurn p = record { holds = t.holds } in
     let acts = new_is_acting (call_of p) u.new in
     let fits = first_fit_finds_the_place p.table.config p.seen t.history (object_for p)
-    (unplaced_settled p (acting_now p (op_for p.seat (call_of p)) turn acts) (acting_caller p acts) u t.history)
+    (unplaced_settled p (acting_now p turn acts) (acting_caller p acts) u t.history)
     ∙ none in
     let seat = new_callers u in
     subst
@@ -53,10 +53,7 @@ full_allowed {p} t u idle ended none =
     (object_made p.table.config (flight_of (now_of p) s).op) ≡ None
     → IsEnabled p.table.config (now_of p) (record { seat = s; step = Step.Full }))
     (sym seat) (λ lt new fit. full_for p.table.config (now_of p) (caller_of_pass p) lt new idle u.placing ended fit)
-    (exists seat t) u.new fits
-  where
-    exists : IsCallers p → InTurn p → caller_of_pass p < p.table.config.callers
-    exists seat t = (subst (λ (s : Seat). Holds p.table.config (now_of p) s) seat t.holds).0
+    ((subst (λ (s : Seat). Holds p.table.config (now_of p) s) seat t.holds).0) u.new fits
 
 -- and admitted.
 

@@ -27,18 +27,8 @@ look_part t d history = record { turn = t; stays = λ x h. grind arith; does = d
 -- A part of a turn that is free for a cycle, of steps of cycles alone
 pub undecided_part : {p q : PassState} → InTurn p → IsCallers p → IsQuiet p → IsQuiet q → (d : Does is_of_cycles p q)
     → IsHistory q.table.config q.seen → call_of q ≡ call_of p → TurnGoesOn None p q
-undecided_part {p} {q} t seat quiet after d history call = record {
-  does = widened cycles_in_turn d;
-  quiet = after;
-  entry =
-      ap (λ (l : List Event). own_calls p l) (seen_behind is_of_cycles p q d)
-      ∙ (goes_undecided p seat t.own p.seen d.more quiet.free.decided
-      (does_stretch p q is_of_cycles d history t.holds)).calls
-      ∙ sym (append-nil (own_calls p p.seen));
-  op = ap (λ (f : Flight). f.op) call;
-  decided = λ some. cc;
-  undecided = λ none. call;
-}
+undecided_part t seat quiet after d history call =
+    grind (arith, widened, cycles_in_turn, seen_behind, is_of_cycles, goes_undecided, does_stretch, append-nil)
 
 pub looked_on : {p q : PassState} → InTurn p → IsCallers p → IsQuiet p → Looks p q → IsHistory q.table.config q.seen
     → TurnGoesOn None p q
@@ -60,14 +50,7 @@ finished_on t seat quiet f history =
 -- one part after the other
 
 pub nothing_on : {p : PassState} → IsQuiet p → TurnGoesOn None p p
-nothing_on {p} quiet = record {
-  does = does_nothing turn_stays p;
-  quiet = quiet;
-  entry = sym (append-nil (own_calls p p.seen));
-  op = refl;
-  decided = λ some. cc;
-  undecided = λ none. refl;
-}
+nothing_on quiet = grind (arith, does_nothing, append-nil)
 
 -- nothing was decided before
 pub on_then : (a : Option Answer) (p q r : PassState) → TurnGoesOn None p q → TurnGoesOn a q r → TurnGoesOn a p r

@@ -11,9 +11,6 @@ use Rattle.mk_alloc.specs.Rooms.{EndsOnly}
 
 -- lists
 
-pub one_of_none : (es : List Event) → Lacks is_begin es → RunsOneCycle es
-one_of_none es none b = absurd (none_at is_begin es none b)
-
 pub one_behind : (xs ys : List Event) → Lacks is_begin xs → RunsOneCycle ys → RunsOneCycle (xs ++ ys)
 one_behind xs ys none one b =
     ⊎_elim
@@ -100,7 +97,7 @@ begin_then_ends {p} {q} {r} t law history y =
     }
 
 pub none_runs_one : (p q : PassState) → BeginsNone p q → RunsOne p q
-none_runs_one p q x = record { more = x.more; is = x.is; one = one_of_none x.more x.none }
+none_runs_one p q x = record { more = x.more; is = x.is; one = (λ b. absurd (none_at is_begin x.more x.none b)) }
 
 pub none_then_one : {p q r : PassState} → BeginsNone p q → RunsOne q r → RunsOne p r
 none_then_one {p} {q} {r} x y = record {

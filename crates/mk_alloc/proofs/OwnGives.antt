@@ -81,9 +81,7 @@ HaveNoGive kinds = (x : Step) → kinds x ≡ true → is_give x ≡ false
 first_gives : (kinds : Step → Bool) (b : Bool) (x : Finding) (rest : List Finding) → HaveNoGive kinds
     → are_of kinds (if b then x ∷ rest else rest) ≡ true
     → ((b && is_give x.event.step) ≡ false) × (are_of kinds rest ≡ true)
-first_gives kinds true x rest none all =
-    let parts = and_parts (kinds x.event.step) (are_of kinds rest) all in (none x.event.step parts.0, parts.1)
-first_gives kinds false x rest none all = (refl, all)
+first_gives kinds x1 x rest none all = grind (arith, and_parts)
 
 kinds_give : (kinds : Step → Bool) (c : Config) (s : Seat) (w : World) (es : List Event) → HaveNoGive kinds
     → are_of kinds (own_from c s w es) ≡ true → GivesNone s es
@@ -97,8 +95,7 @@ kinds_give kinds c s w (e ∷ es) none all =
 
 pub does_give_none : {kinds : Step → Bool} {p q : PassState} → HaveNoGive kinds → (d : Does kinds p q)
     → GivesNone p.seat d.more
-does_give_none {kinds} {p} {q} none d =
-    kinds_give kinds p.table.config p.seat (world_of p) d.more none d.of_kinds
+does_give_none none d = grind (arith, kinds_give)
 
 pub doing_gives : (p q : PassState) (d : Does turn_stays p q) → GivesNone p.seat d.more
 doing_gives p q d = does_give_none (λ x h. grind arith) d
@@ -131,8 +128,7 @@ no_give x = not (is_give x)
 
 at_no_give : (s : Stage) → no_give (step_at s) ≡ true
 unfolding no_give
-at_no_give Stage.Probe = refl
-at_no_give _ = refl
+at_no_give x0 = grind arith
 
 pub calls_give : (p : PassState) (o : Op) (a : Answer) (more : List Event) → own_steps p more ≡ steps_made o a
     → GivesNone p.seat more

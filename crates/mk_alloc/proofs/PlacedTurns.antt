@@ -26,11 +26,9 @@ module _ (p q : PassState) (t : InTurn p) (d : Does is_placing p q) (history : I
   beside : LeavesBeside p p.seen q.seen
   beside = grind (arith, seen_behind, leaves_beside, does_stretch)
 
-  same : q ≡ record p { seen = q.seen }
-  same = d.is ∙ ap (λ (l : List Event). record p { seen = l }) (sym (seen_behind is_placing p q d))
-
   world_there : world_of q ≡ left p.table.config q.seen
-  world_there = ap (λ (c : Config). left c q.seen) (same_config p q same)
+  world_there = ap (λ (c : Config). left c q.seen) (same_config p q
+      (d.is ∙ ap (λ (l : List Event). record p { seen = l }) (sym (seen_behind is_placing p q d))))
 
   pub gates_beside : KeepsGates p q
   gates_beside j lt = ap (λ (w : World). is_held w.now.words j) world_there ∙ beside.gates j
@@ -112,10 +110,6 @@ module _ (p q : PassState) (t : InTurn p) (u : IsUnplaced p) (quiet : IsQuiet p)
   decided : (call_of q).stage ≡ Stage.Give
   decided = grind arith
 
-  op_same : (call_of q).op ≡ (call_of p).op
-  op_same =
-      ap (λ (x : PassState). (call_of x).op) placed.granted.same ∙ ap (λ (f : Flight). f.op) placed.granted.world.call
-
   quiet_behind : IsQuiet q
   quiet_behind =
       record {
@@ -146,7 +140,8 @@ module _ (p q : PassState) (t : InTurn p) (u : IsUnplaced p) (quiet : IsQuiet p)
     does = widened (λ x h. grind arith) placed.granted.does;
     quiet = quiet_behind;
     entry = placed.granted.calls;
-    op = op_same;
+    op = ap (λ (x : PassState). (call_of x).op) placed.granted.same ∙ ap (λ (f : Flight). f.op)
+        placed.granted.world.call;
     decided = λ some. decided;
     undecided = λ none. cc;
   }

@@ -4,18 +4,17 @@ use Rattle.mk_alloc.proofs.Vocabulary.{InTurn, IsDue, IsDueIn, IsDueSince, IsFre
 use Rattle.mk_alloc.proofs.Vocabulary.{PassState, Placing, RunsIfDue, Some, Stage, Step, TalliesAreTidy, TurnGoesOn}
 use Rattle.mk_alloc.proofs.Vocabulary.{TurnOf, ℕ, ap, append_assoc, append_cancel_left, arith, call_of, cases_Bool}
 use Rattle.mk_alloc.proofs.Vocabulary.{does_wider, false, finishes, has_place, inl, inr, is_begin, is_end, is_freeing}
-use Rattle.mk_alloc.proofs.Vocabulary.{is_of_cycle, is_pending_free_at, none_is_held, now_of, phase_of, refl}
-use Rattle.mk_alloc.proofs.Vocabulary.{same_config, subst, sym, true, turn_stays, within_turn, ⊎_elim, ◌++◌, ◌∙◌, ◌∷◌}
-use Rattle.mk_alloc.proofs.{Vocabulary.◌≡◌, CalledTurns.{GivenBack, lacks_given, phase_taken, taken_is, turn_of}}
-use Rattle.mk_alloc.proofs.{CalledTurns.within_is, DueParts.{RunIn, at_behind, ends_before, run_in, run_list}}
-use Rattle.mk_alloc.proofs.{FreeTurns.{due_exact, is_quar, not_due_without, undue_exact}, Going.{IsCallers, then_on}}
+use Rattle.mk_alloc.proofs.Vocabulary.{is_of_cycle, is_pending_free_at, none_is_held, now_of, phase_of, same_config}
+use Rattle.mk_alloc.proofs.Vocabulary.{subst, sym, true, turn_stays, within_turn, ⊎_elim, ◌++◌, ◌∙◌, ◌∷◌, ◌≡◌}
+use Rattle.mk_alloc.proofs.CalledTurns.{GivenBack, lacks_given, phase_taken, taken_is, turn_of, within_is}
+use Rattle.mk_alloc.proofs.{DueParts.{RunIn, at_behind, ends_before, run_in, run_list}, FreeTurns.{due_exact, is_quar}}
+use Rattle.mk_alloc.proofs.{FreeTurns.{not_due_without, undue_exact}, Going.{IsCallers, then_on}}
 use Rattle.mk_alloc.proofs.ListParts.{InFirst, InSecond, Lacks, lacks_append, lacks_first, stands}
 use Rattle.mk_alloc.proofs.{Parts.{Part, part_lacks, seen_by, seen_then}, CycleParts.begins_held, QuietTurns.same_phase}
 use Rattle.mk_alloc.proofs.Stretches.{SomeKinds, Within}
 
 pub given_is_decided : (o : Op) → is_pending_free_at o Stage.Give ≡ false
-given_is_decided (Op.Free p) = refl
-given_is_decided _ = refl
+given_is_decided x0 = grind arith
 
 -- A Free that is decided goes on, quietly.
 module _ (taken : PassState) (r : ℕ) (fresh : IsFresh taken (Some (Op.Free r))) (phase : IsOutOfStop (now_of taken))

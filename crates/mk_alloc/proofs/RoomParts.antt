@@ -1,8 +1,8 @@
 -- Where a New asks for room: its cycle's begin and its end come while its object has no place.
 use Rattle.std.proofs.Common.{IsSome}
 use Rattle.mk_alloc.proofs.Vocabulary.{AsksRoom, BeginsCycle, Config, Does, Event, FinishesCycle, HasNoPlace, InTurn}
-use Rattle.mk_alloc.proofs.Vocabulary.{IsHistory, List, None, Object, Option, PassState, Place, Some, Storage, ap}
-use Rattle.mk_alloc.proofs.Vocabulary.{append-nil, append_assoc, append_cancel_left, arith, asks_room, call_of, false}
+use Rattle.mk_alloc.proofs.Vocabulary.{IsHistory, List, None, Object, Option, PassState, Place, Storage, ap, append-nil}
+use Rattle.mk_alloc.proofs.Vocabulary.{append_assoc, append_cancel_left, arith, asks_room, call_of, false}
 use Rattle.mk_alloc.proofs.Vocabulary.{is_pending_free, place_after, refl, subst, sym, [], ⊎_elim, ◌++◌, ◌∙◌, ◌∷◌, ◌≡◌}
 use Rattle.mk_geom.specs.Storages.{Fits}
 use Rattle.mk_alloc.proofs.CalmStretches.{releases_none, stays_reserved}
@@ -17,12 +17,10 @@ abbrev NoRoom : Config → Object → List Storage → Type 0
 NoRoom c o xs = Fits c.pages c.resident o.words o.leaf xs → ⊥
 
 none_fits : (x : Option Place) → x ≡ None → IsSome x → ⊥
-none_fits None is h = cc
-none_fits (Some p) is h = cc
+none_fits x0 is h = grind arith
 
 fits_none : (x : Option Place) → (IsSome x → ⊥) → x ≡ None
-fits_none None h = refl
-fits_none (Some p) h = absurd (h refl)
+fits_none x0 h = grind arith
 
 pub no_place : (c : Config) (es : List Event) (o : Object) → place_after c es o ≡ None → HasNoPlace c o es
 no_place c es o none fits = none_fits (place_after c es o) none fits

@@ -4,27 +4,29 @@ use Rattle.mk_alloc.proofs.Vocabulary.{Answer, AsksRoom, BeginsCycle, Config, Do
 use Rattle.mk_alloc.proofs.Vocabulary.{Flight, HasNoPlace, InTurn, IsAtPhase, IsHistory, IsOutOfStop, IsPlaced, IsQuiet}
 use Rattle.mk_alloc.proofs.Vocabulary.{IsUnplaced, List, Looks, Misfits, None, Object, OnlyLooks, Option, PassState}
 use Rattle.mk_alloc.proofs.Vocabulary.{PlacedAllocation, Seeks, Some, Steady, TurnGoesOn, ℕ, acting_caller, ap, arith}
-use Rattle.mk_alloc.proofs.Vocabulary.{call_of, false, inl, inr, is_look, is_undecided_new, looks_left, new_is_acting}
-use Rattle.mk_alloc.proofs.Vocabulary.{now_of, object_for, object_made, only_seen, own_seat, phase_of, place_after}
-use Rattle.mk_alloc.proofs.Vocabulary.{place_now_for, refl, subst, world_of, ◌==◌, ◌∙◌, ◌≡◌}
-use Rattle.mk_alloc.proofs.{CalmStretches.{cycles_in_turn, is_of_cycles}, Going.{IsCallers, begun_on, finished_on}}
-use Rattle.mk_alloc.proofs.{Going.{look_part, looked_on, on_then}, GrantParts.{calm_last, grants_none, last_behind}}
-use Rattle.mk_alloc.proofs.{GrantParts.{none_last, none_then}, PlacedTurns.{looked_beside, place_part, placed_on}}
-use Rattle.mk_alloc.proofs.RoomParts.{finish_room, no_place, none_behind, nowhere_then, part_begun, room_kept}
-use Rattle.mk_alloc.proofs.{RoomParts.{room_lacks, room_then}, CycleParts.{begin_done, finish_done}}
-use Rattle.mk_alloc.proofs.{FullLeaves.{cycles_leave, leaves_then}, Parts.Part, QuietTurns.same_phase}
-use Rattle.mk_alloc.{proofs.Stretches.{widened}, specs.Rooms.{MisfitsIdly}}
+use Rattle.mk_alloc.proofs.Vocabulary.{call_of, false, is_look, looks_left, new_is_acting, now_of, object_for}
+use Rattle.mk_alloc.proofs.Vocabulary.{object_made, only_seen, own_seat, phase_of, place_after, place_now_for, refl}
+use Rattle.mk_alloc.proofs.{Vocabulary.{subst, world_of, ◌==◌, ◌∙◌, ◌≡◌}, CalmStretches.{cycles_in_turn, is_of_cycles}}
+use Rattle.mk_alloc.proofs.Going.{IsCallers, begun_on, finished_on, look_part, looked_on, on_then}
+use Rattle.mk_alloc.proofs.GrantParts.{calm_last, grants_none, last_behind, none_last, none_then}
+use Rattle.mk_alloc.proofs.{PlacedTurns.{looked_beside, place_part, placed_on}, RoomParts.{finish_room, no_place}}
+use Rattle.mk_alloc.proofs.RoomParts.{none_behind, nowhere_then, part_begun, room_kept, room_lacks, room_then}
+use Rattle.mk_alloc.proofs.{CycleParts.{begin_done, finish_done}, FullLeaves.{cycles_leave, leaves_then}, Parts.Part}
+use Rattle.mk_alloc.{proofs.{QuietTurns.same_phase, Stretches.widened}, specs.Rooms.{MisfitsIdly}}
 use Rattle.mk_core.specs.Allocations.{place_among_allocations}
+use Rattle.mk_objects.specs.{Placing.Requests, declared.objects.Request.Request}
 use Rattle.mk_objects.proofs.JoinedLooks.{looks_object, looks_unplaced}
 
 -- An undecided New is a caller's.
 pub new_callers : {p : PassState} → IsUnplaced p → IsCallers p
-new_callers {p} u =
-    let x = acting_caller p (new_is_acting (call_of p) u.new) in
-    own_seat p x.number x.is
+new_callers u = grind (arith, acting_caller, new_is_acting, own_seat)
 
 same_object : {a : Option Answer} {p q : PassState} → TurnGoesOn a p q → object_for q ≡ object_for p
 same_object on = cc (on.does.is, on.op)
+
+-- What was requested is, after a part that decided nothing.
+pub requests_then : {p q : PassState} {request : Request} → Requests p request → Seeks None p q → Requests q request
+requests_then asked seeks = record { full = asked.full; op = seeks.on.op ∙ asked.op }
 
 -- one part after another that decided nothing
 pub seeks_then : {a : Option Answer} {p q r : PassState} → Seeks None p q → Seeks a q r → Seeks a p r
@@ -57,11 +59,7 @@ still_nowhere p q same config object none =
 pub unplaced_kept : {p q : PassState} → IsUnplaced p → call_of q ≡ call_of p
     → (now_of q).seats.holding.placing ≡ (now_of p).seats.holding.placing
     → phase_of (now_of q).words ≡ phase_of (now_of p).words → IsUnplaced q
-unplaced_kept {p} {q} u call placing phase = record {
-  new = ap (λ (f : Flight). is_undecided_new f) call ∙ u.new;
-  placing = placing ∙ u.placing;
-  phase = same_phase p q phase u.phase;
-}
+unplaced_kept u call placing phase = grind (arith, same_phase)
 
 -- Where the object is granted no room is asked for.
 pub seeks_placed : (p q : PassState) → InTurn p → IsUnplaced p → IsQuiet p → IsPlaced p q
@@ -159,5 +157,4 @@ pub seen_at : {p q : PassState} {n : ℕ} → Looks p q → IsAtPhase p n → Is
 seen_at k at = ap (λ (s : Steady). s.phase) k.keeps.steady ∙ at
 
 pub phase_seen : (p : PassState) → IsOutOfStop (now_of p) → (phase_of (now_of p).words == 1) ≡ false → IsAtPhase p 0
-phase_seen p (inl none) off = none
-phase_seen p (inr one) off = absurd (eqb-false (phase_of (now_of p).words) 1 off one)
+phase_seen p x1 off = grind (arith, eqb-false)

@@ -3,19 +3,8 @@
 use Rattle.mk_alloc.proofs.Vocabulary.{Event, Has, List, Moment, PassState, Step, actor_of, cases_Bool, false, has_step}
 use Rattle.mk_alloc.proofs.Vocabulary.{inl, inr, left, or_from, refl, true, [], ⊎_elim, ◌++◌, ◌∷◌, ◌≡◌, ◌≢◌}
 use Rattle.mk_laws.proofs.{Basics.is_holders, FramesHolders.acts_as_holder}
-use Rattle.mk_alloc.proofs.Stretches.{AreOfTurn, Here, IsOwn, SomeKinds, Stretch, first_of, holds_none}
+use Rattle.mk_alloc.proofs.Stretches.{AreOfTurn, IsOwn, SomeKinds, Stretch, first_of, holds_none}
 use Rattle.mk_alloc.proofs.ListParts.{Lacks, SomeKind}
-
--- No other makes a step of the turn's holder.
-pub others_kind : (p : PassState) (es : List Event) (e : Event) → Here p es e → e.seat ≢ p.seat → is_holders e.step
-    ≡ false
-others_kind p es e h ne = elim (cases_Bool (is_holders e.step)) [
-  | inr other ↦ other
-  | inl holders ↦
-      let m : Moment = (left p.table.config es).now in
-      absurd (holds_none p es e h ne (acts_as_holder p.table.config m e.seat e.step
-      (actor_of p.table.config m e.seat e.step h.known.orderly h.meets) holders))
-]
 
 -- The kind is one of the holder's, and none of the others.
 
@@ -32,5 +21,11 @@ lacks p kinds kind es (e ∷ rest) stays own holders apart s =
     let f = first_of p kinds es e rest stays own s in
     or_from (kind e.step) (has_step kind rest)
     (⊎_elim (λ (mine : IsOwn p kinds e). apart e.step mine.1)
-    (λ (ne : e.seat ≢ p.seat). holders e.step (others_kind p es e f.at ne)) f.who)
+    (λ (ne : e.seat ≢ p.seat). holders e.step (elim (cases_Bool (is_holders e.step)) [
+      | inr other ↦ other
+      | inl holders ↦
+          let m : Moment = (left p.table.config es).now in
+          absurd (holds_none p es e f.at ne (acts_as_holder p.table.config m e.seat e.step
+          (actor_of p.table.config m e.seat e.step f.at.known.orderly f.at.meets) holders))
+    ])) f.who)
     (lacks p kinds kind (es ++ e ∷ []) rest stays own holders apart f.on)

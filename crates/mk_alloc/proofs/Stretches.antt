@@ -5,8 +5,8 @@ use Rattle.mk_alloc.proofs.Vocabulary.{IsHistory, IsTurn, List, Makes, Moment, P
 use Rattle.mk_alloc.proofs.Vocabulary.{ap, append-nil, append_assoc, are_of, comes_last, does_step, does_then}
 use Rattle.mk_alloc.proofs.Vocabulary.{does_wider, earlier_part_is_history, event_of, false, flight_of, found}
 use Rattle.mk_alloc.proofs.Vocabulary.{holds_turn, if◌then◌else◌, inl, inr, is_same_seat, known_left, left, left_after}
-use Rattle.mk_alloc.proofs.Vocabulary.{now_of, op_for, refl, same_seat, same_self, subst, sym, true, true≢false}
-use Rattle.mk_alloc.proofs.Vocabulary.{turn_stays, view_of, world_behind, [], ◌++◌, ◌∙◌, ◌∷◌, ◌≡◌, ◌≢◌, ◌⊎◌}
+use Rattle.mk_alloc.proofs.Vocabulary.{now_of, refl, same_seat, same_self, subst, sym, true, true≢false, turn_stays}
+use Rattle.mk_alloc.proofs.Vocabulary.{view_of, world_behind, [], ◌++◌, ◌∙◌, ◌∷◌, ◌≡◌, ◌≢◌, ◌⊎◌}
 use Rattle.mk_core.specs.Growing.{own_from}
 use Rattle.mk_laws.proofs.Basics.{Known, Meets, same_holder}
 use Rattle.mk_turns.{proofs.Doing.{none_own, others_are_so, own_in_parts}, specs.Doing.{AreOwnOrOfOthers}}
@@ -91,9 +91,9 @@ holds_own p es x own h stays =
       is = ap (λ (l : List Event). seeing p (l ++ event_of p x ∷ [])) (sym (append-nil es));
       pass = record { own = own; history = h.whole };
     } in
-    let t : IsTurn (seeing p es) (op_for p.seat (call_in p es)) = record { holds = h.holds; op = refl } in
+    let t : IsTurn (seeing p es) = record { holds = h.holds } in
     (still_turn (seeing p es) x (seeing p (es ++ event_of p x ∷ [])) m
-    (op_for p.seat (call_in p es)) stays t).holds
+    stays t).holds
 
 holds_other : (p : PassState) (es : List Event) (e : Event) → Here p es e → e.seat ≢ p.seat
     → Holds p.table.config (left p.table.config (es ++ e ∷ [])).now p.seat
@@ -112,11 +112,8 @@ pub first_of : (p : PassState) (kinds : SomeKinds) (es : List Event) (e : Event)
 unfolding AreOwnOrOfOthers own_from
 first_of p kinds es e rest stays own s = by (is_same_seat p.seat e.seat) refl s.of_kinds
   where
-    joint : (es ++ e ∷ []) ++ rest ≡ es ++ e ∷ rest
-    joint = append_assoc es (e ∷ []) rest
-
     whole : IsHistory p.table.config ((es ++ e ∷ []) ++ rest)
-    whole = subst (λ (l : List Event). IsHistory p.table.config l) (sym joint) s.history
+    whole = subst (λ (l : List Event). IsHistory p.table.config l) (sym (append_assoc es (e ∷ []) rest)) s.history
 
     at : Here p es e
     at = here p es e (earlier_part_is_history p.table.config (es ++ e ∷ []) rest whole) s.holds

@@ -1,10 +1,9 @@
 -- A caller may take the turn for a New or a Free, and finds no stop, and not the end of all.
-use Rattle.mk_laws.proofs.{Vocabulary.{is_under_turn, suc, zero, ◌≤◌}, Asked.give_phase}
+use Rattle.mk_laws.proofs.{Vocabulary.{is_under_turn, ◌≤◌}, Asked.give_phase}
 use Rattle.mk_alloc.proofs.Vocabulary.{Caller, Config, Has, IsEnabled, IsEnabledTo, IsFresh, IsHistory, IsOutOfStop}
 use Rattle.mk_alloc.proofs.Vocabulary.{Moment, Op, PassState, Some, Step, TakesTurn, ℕ, arith, at_rest, caller_of_pass}
-use Rattle.mk_alloc.proofs.Vocabulary.{flight_of, has_operands, inl, inr, lt-ltb, meets_enabled, now_of, only_one}
-use Rattle.mk_alloc.proofs.{Vocabulary.{own_seat, refl, true, [], ◌<◌, ◌∷◌, ◌≡◌, ◌⊎◌}, CalledTurns.{Taken, taken_same}}
-use Rattle.mk_alloc.proofs.Going.{IsCallers}
+use Rattle.mk_alloc.proofs.Vocabulary.{flight_of, has_operands, lt-ltb, meets_enabled, now_of, only_one, own_seat, true}
+use Rattle.mk_alloc.proofs.{Vocabulary.{[], ◌<◌, ◌∷◌, ◌≡◌, ◌⊎◌}, CalledTurns.{Taken, taken_same}, Going.IsCallers}
 use Rattle.mk_caller.specs.States.{IsIdleCaller}
 use Rattle.mk_words.{proofs.OverPhases.{end_is_behind_over}, specs.Seats.{CallersAreBeforeOver}}
 
@@ -26,9 +25,7 @@ pub take_allowed : (p : PassState) (o : Op) → IsIdleCaller p → caller_of_pas
 take_allowed p o idle lt under operands = grind (arith, callers, take_for)
 
 at_most_one : (n : ℕ) → n ≤ 1 → (n ≡ 0) ⊎ (n ≡ 1)
-at_most_one zero le = inl refl
-at_most_one (suc zero) le = inr refl
-at_most_one (suc (suc n)) le = absurd (omega arith)
+at_most_one x0 le = grind arith
 
 -- Whose only seat is a caller's has seen no `over`.
 pub taken_phase : (p q : PassState) (o : Op) → IsCallers p → caller_of_pass p < p.table.config.callers

@@ -1,10 +1,9 @@
 -- Calls sweep nothing, and turns whose engine doesn't.
-use Rattle.mk_alloc.proofs.Vocabulary.{Acts, Answer, Bool, DecidesFree, Does, EndsOlder, IsAtPhase, IsOutOfStop, Looks}
-use Rattle.mk_alloc.proofs.Vocabulary.{Op, PassState, Some, Stage, Step, SweepsNothing, ap, arith, false, is_freeing}
-use Rattle.mk_alloc.proofs.Vocabulary.{is_loading, is_look, not, not-true, now_of, only_seen, refl, step_at, subst}
-use Rattle.mk_alloc.proofs.Vocabulary.{sweeps_then, sym, true, world_of, ⊎_elim, ◌∙◌, ◌≡◌}
-use Rattle.mk_alloc.proofs.{CalledTurns.GivenBack, CalledTurns.taken_is, OwnGives.steps_are}
-use Rattle.mk_alloc.specs.Laws.{CallsSweepNothing, SweepNothingWhereHeld}
+use Rattle.mk_alloc.proofs.Vocabulary.{Acts, Answer, Bool, DecidesFree, Does, EndsOlder, IsOutOfStop, Looks, Op}
+use Rattle.mk_alloc.proofs.Vocabulary.{PassState, Some, Stage, Step, SweepsNothing, ap, arith, false, is_freeing}
+use Rattle.mk_alloc.proofs.Vocabulary.{is_loading, is_look, not, not-true, now_of, only_seen, refl, step_at}
+use Rattle.mk_alloc.proofs.{Vocabulary.{sweeps_then, true, world_of, ◌≡◌}, CalledTurns.{GivenBack, taken_is}}
+use Rattle.mk_alloc.{proofs.OwnGives.{steps_are}, specs.Laws.{CallsSweepNothing, SweepNothingWhereHeld}}
 use Rattle.mk_turns.proofs.Sweeping.{does_sweep, kinds_sweep, other_step_sweeps, step_then_sweeps}
 use Rattle.mk_turns.specs.Sweeping.{HaveNoMark, is_mark}
 use Rattle.mk_waiting.proofs.Unswept.{taking_sweeps}
@@ -18,8 +17,7 @@ no_mark_marks : HaveNoMark no_mark
 no_mark_marks x h = not-true (is_mark x) h
 
 at_no_mark : (s : Stage) → no_mark (step_at s) ≡ true
-at_no_mark Stage.Probe = refl
-at_no_mark _ = refl
+at_no_mark x0 = grind arith
 
 pub calls_sweep_nothing : CallsSweepNothing
 calls_sweep_nothing p o a q called = record {
@@ -70,10 +68,4 @@ turn_sweeps {o} {p = p} {taken} {done} {q} g inside =
 
 -- Only the list has grown where an older cycle was ended.
 pub older_same : {p q : PassState} → IsOutOfStop (now_of p) → EndsOlder p q → q ≡ record p { seen = q.seen }
-older_same {p} {q} phase older =
-    ⊎_elim
-    (λ (none : IsAtPhase p 0).
-    subst (λ (x : PassState). x ≡ record p { seen = x.seen }) (sym (older.none none)) older.looks.keeps.call.pass)
-    (λ (on : IsAtPhase p 1).
-    (older.on on).pass ∙ ap (λ (x : PassState). record x { seen = q.seen }) older.looks.keeps.call.pass)
-    phase
+older_same phase older = grind arith

@@ -26,7 +26,7 @@ pub use Rattle.mk_laws.proofs.Vocabulary.{◌==◌, ◌||◌, ◌∙◌, ◌∷�
 pub use Rattle.mk_words.proofs.{Made.{made, own_before, pass_before}, Seats.{not_both, only_one, others_one, same_seat}}
 pub use Rattle.mk_words.proofs.Seats.{same_self}
 pub use Rattle.mk_words.specs.{Seats.Has, States.{PassState, call_of, event_of, now_of, world_of}}
-pub use Rattle.mk_words.specs.{Steps.{IsEnabledTo, Makes}, TurnSteps.{Acts, IsFresh, IsTurn, op_for, turn_stays}}
+pub use Rattle.mk_words.specs.{Steps.{IsEnabledTo, Makes}, TurnSteps.{Acts, IsFresh, IsTurn, turn_stays}}
 pub use Rattle.mk_caller.proofs.{OneStep.own_seat, OwnSteps.{by_append, calls_by, others_add_none}}
 pub use Rattle.mk_caller.specs.Called.{own_calls, own_steps, stages_made, step_at}
 pub use Rattle.mk_caller.specs.States.{CallerState, caller_of_pass}

@@ -20,7 +20,6 @@ fn finish_older<E: Engine, R: Threads + Wait + Sync>(
     requires one_table { turn.pass.table ≡ words.now }
     requires made_for { E.made_for engine.old ≡ words.now.config.pages }
     requires quiet { IsQuiet turn.pass }
-    ensures op { result.op ≡ turn.op }
     ensures made_for { E.made_for engine.new ≡ E.made_for engine.old }
     ensures ends { EndsOlder turn.pass result.pass }
     ensures reached { E.sweeps ≡ false → SweepsNothing turn.pass result.pass }
@@ -46,7 +45,6 @@ fn run_cycle<E: Engine, R: Threads + Wait + Sync>(
     requires one_table { turn.pass.table ≡ words.now }
     requires made_for { E.made_for engine.old ≡ words.now.config.pages }
     requires quiet { IsQuiet turn.pass }
-    ensures op { result.op ≡ turn.op }
     ensures made_for { E.made_for engine.new ≡ E.made_for engine.old }
     ensures runs { RunsCycle E.on turn.pass result.pass }
     ensures reached { E.sweeps ≡ false → SweepsNothing turn.pass result.pass }
@@ -73,7 +71,6 @@ fn run_apart<E: Engine, R: Threads + Wait + Sync>(
     requires one_table { turn.pass.table ≡ words.now }
     requires made_for { E.made_for engine.old ≡ words.now.config.pages }
     requires quiet { IsQuiet turn.pass }
-    ensures op { result.op ≡ turn.op }
     ensures made_for { E.made_for engine.new ≡ E.made_for engine.old }
     ensures runs { RunsCycle E.on turn.pass result.pass }
     ensures reached { E.sweeps ≡ false → SweepsNothing turn.pass result.pass }
@@ -93,7 +90,6 @@ pub(crate) fn run_if_due<E: Engine, R: Threads + Wait + Sync>(
     requires one_table { turn.pass.table ≡ words.now }
     requires made_for { E.made_for engine.old ≡ words.now.config.pages }
     requires quiet { IsQuiet turn.pass }
-    ensures op { result.op ≡ turn.op }
     ensures made_for { E.made_for engine.new ≡ E.made_for engine.old }
     ensures runs { RunsIfDue E.on due turn.pass result.pass }
     ensures reached { E.sweeps ≡ false → SweepsNothing turn.pass result.pass }

@@ -18,7 +18,6 @@ pub(crate) fn answer_full(words: &Words, turn: &mut Turn)
     requires nowhere { place_now_for turn.old.pass ≡ None }
     requires idle { IsAtPhase turn.old.pass 0 }
     requires ended { (now_of turn.old.pass).seats.holding.cycle ≡ Ended }
-    ensures op { turn.new.op ≡ turn.old.op }
     ensures full { AnswersFull turn.old.pass turn.new.pass }
     ensures begins { BeginsNone turn.old.pass turn.new.pass }
     ensures reached { SweepsNothing turn.old.pass turn.new.pass }

@@ -15,4 +15,4 @@ mod turns;
 
 pub use freeing::free_object;
 pub use making::{Full, new_object};
-pub use mk_objects::{Double, Freed, place_object, retire_object};
+pub use mk_objects::{Double, Freed, Request, place_object, retire_object};

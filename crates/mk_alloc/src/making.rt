@@ -3,7 +3,7 @@ ghost use Rattle.std.specs.Prelude.{◌≡◌, ◌<◌, ◌∷◌, [], OnOk, IfE
 ghost use Rattle.mk_caller.specs.States.{caller_of_pass};
 ghost use Rattle.mk_turns.specs.Sweeping.{SweepsNothing};
 ghost use Rattle.mk_cycle.specs.Begun.{EachIsBegun};
-ghost use Rattle.mk_objects.specs.Placing.{IsUnplaced, place_now_for};
+ghost use Rattle.mk_objects.specs.Placing.{IsUnplaced, Requests, place_now_for};
 ghost use Rattle.mk_alloc.specs.Rooms.{CountsFull, RunsOne, Seeks, answer_with};
 ghost use Rattle.mk_alloc.specs.{TurnCalls.{CalledInTurn, IsAnsweredFull}, Underway.IsQuiet};
 ghost use Rattle.mk_never.specs.declared.operations.Op.TheVariants as op;
@@ -17,6 +17,7 @@ use mk_caller::Caller;
 use mk_cycle::Engine;
 use mk_geom::Census;
 use mk_never::Op;
+use mk_objects::Request;
 use mk_words::{Turn, Words};
 use std::sync::Wait;
 use std::thread::Threads;
@@ -35,14 +36,15 @@ fn make_room_or_count<E: Engine, R: Threads + Wait + Sync>(
     rt: &R,
     words: &Words,
     turn: Turn,
+    request: Request,
     engine: &mut E,
 ) -> (Turn, Option<Census>)
     requires one_table { turn.pass.table ≡ words.now }
+    requires requested { Requests turn.pass request }
     requires made_for { E.made_for engine.old ≡ words.now.config.pages }
     requires quiet { IsQuiet turn.pass }
     requires unplaced { IsUnplaced turn.pass }
     requires nowhere { place_now_for turn.pass ≡ None }
-    ensures op { result.0.op ≡ turn.op }
     ensures made_for { E.made_for engine.new ≡ E.made_for engine.old }
     ensures seeks { Seeks (Some (answer_with result.1)) turn.pass result.0.pass }
     ensures full { IfSome result.1 (CountsFull turn.pass result.0.pass) }
@@ -50,7 +52,7 @@ fn make_room_or_count<E: Engine, R: Threads + Wait + Sync>(
     ensures reached { E.sweeps ≡ false → SweepsNothing turn.pass result.0.pass }
     ensures begun { EachIsBegun E.begins turn.pass result.0.pass }
 {
-    let (mut turn, placed) = make_room(rt, words, turn, engine);
+    let (mut turn, placed) = make_room(rt, words, turn, request, engine);
     if placed {
         return (turn, None);
     }
@@ -87,12 +89,13 @@ pub fn new_object<E: Engine, R: Threads + Wait + Sync>(
     let words = caller.words();
     let home = caller.lend();
     let op = Op::New { d, ty, full: false };
+    let request = Request { register: d, ty };
     let mut turn = take(rt, words, home, op);
-    if try_place(words, &mut turn) {
+    if try_place(words, &mut turn, request) {
         caller.back(give(words, turn));
         return Ok(());
     }
-    let (turn, refused) = make_room_or_count(rt, words, turn, engine);
+    let (turn, refused) = make_room_or_count(rt, words, turn, request, engine);
     caller.back(give(words, turn));
     match refused {
         None => Ok(()),

@@ -4,25 +4,25 @@ ghost use Rattle.mk_words.specs.States.{now_of};
 ghost use Rattle.mk_turns.specs.Sweeping.{SweepsNothing};
 ghost use Rattle.mk_cycle.specs.{Begun.EachIsBegun, EngineLaw.IsAtPhase};
 ghost use Rattle.mk_core.specs.Effects.{cycle_ended};
-ghost use Rattle.mk_objects.specs.Placing.{IsUnplaced, OnlyLooks, place_now_for};
+ghost use Rattle.mk_objects.specs.Placing.{IsUnplaced, OnlyLooks, Requests, place_now_for};
 ghost use Rattle.mk_alloc.specs.Rooms.{BeginsNone, EndsOnly, Misfits, MisfitsAtLast, MisfitsIdly, RunsOne, Seeks};
 ghost use Rattle.mk_alloc.specs.Underway.{IsQuiet};
 ghost use Rattle.mk_core.specs.declared.events.Answer.TheVariants as answer;
 
 use crate::turns::is_cycle_on;
 use mk_cycle::{Engine, begin_cycle, finish_cycle};
-use mk_objects::place_object;
+use mk_objects::{Request, place_object};
 use mk_words::{Turn, Words};
 use std::sync::Wait;
 use std::thread::Threads;
 
 /// Grants the object where it fits.
 #[inline(always)]
-pub(crate) fn try_place(words: &Words, turn: &mut Turn) -> bool
+pub(crate) fn try_place(words: &Words, turn: &mut Turn, request: Request) -> bool
     requires one_table { turn.old.pass.table ≡ words.now }
+    requires requested { Requests turn.old.pass request }
     requires quiet { IsQuiet turn.old.pass }
     requires unplaced { IsUnplaced turn.old.pass }
-    ensures op { turn.new.op ≡ turn.old.op }
     ensures placed { result ≡ true → Seeks (Some answer.Done) turn.old.pass turn.new.pass }
     ensures misfits { result ≡ false → Misfits turn.old.pass turn.new.pass }
     ensures looks { result ≡ false → OnlyLooks turn.old.pass turn.new.pass }
@@ -30,7 +30,7 @@ pub(crate) fn try_place(words: &Words, turn: &mut Turn) -> bool
     ensures reached { SweepsNothing turn.old.pass turn.new.pass }
 {
     turn.is_in_order();
-    let placed = place_object(words, turn);
+    let placed = place_object(words, turn, request);
     turn.is_in_order();
     placed
 }
@@ -42,15 +42,16 @@ fn finish_and_place<E: Engine, R: Threads + Wait + Sync>(
     rt: &R,
     words: &Words,
     turn: Turn,
+    request: Request,
     engine: &mut E,
 ) -> (Turn, bool)
     requires one_table { turn.pass.table ≡ words.now }
+    requires requested { Requests turn.pass request }
     requires made_for { E.made_for engine.old ≡ words.now.config.pages }
     requires quiet { IsQuiet turn.pass }
     requires unplaced { IsUnplaced turn.pass }
     requires nowhere { place_now_for turn.pass ≡ None }
     requires on { IsAtPhase turn.pass 1 }
-    ensures op { result.0.op ≡ turn.op }
     ensures made_for { E.made_for engine.new ≡ E.made_for engine.old }
     ensures placed { result.1 ≡ true → Seeks (Some answer.Done) turn.pass result.0.pass }
     ensures misfits { result.1 ≡ false → MisfitsIdly turn.pass result.0.pass }
@@ -62,7 +63,7 @@ fn finish_and_place<E: Engine, R: Threads + Wait + Sync>(
     turn.is_in_order();
     let (mut turn, _) = finish_cycle(rt, words, turn, engine);
     turn.is_in_order();
-    let placed = try_place(words, &mut turn);
+    let placed = try_place(words, &mut turn, request);
     (turn, placed)
 }
 
@@ -71,14 +72,15 @@ fn place_behind_older<E: Engine, R: Threads + Wait + Sync>(
     rt: &R,
     words: &Words,
     turn: Turn,
+    request: Request,
     engine: &mut E,
 ) -> (Turn, bool)
     requires one_table { turn.pass.table ≡ words.now }
+    requires requested { Requests turn.pass request }
     requires made_for { E.made_for engine.old ≡ words.now.config.pages }
     requires quiet { IsQuiet turn.pass }
     requires unplaced { IsUnplaced turn.pass }
     requires nowhere { place_now_for turn.pass ≡ None }
-    ensures op { result.0.op ≡ turn.op }
     ensures made_for { E.made_for engine.new ≡ E.made_for engine.old }
     ensures placed { result.1 ≡ true → Seeks (Some answer.Done) turn.pass result.0.pass }
     ensures misfits { result.1 ≡ false → MisfitsIdly turn.pass result.0.pass }
@@ -92,7 +94,7 @@ fn place_behind_older<E: Engine, R: Threads + Wait + Sync>(
     if !is_on {
         return (turn, false);
     }
-    finish_and_place(rt, words, turn, engine)
+    finish_and_place(rt, words, turn, request, engine)
 }
 
 /// Begins and finishes a cycle, and grants the object where it fits then.
@@ -102,15 +104,16 @@ fn place_behind_cycle<E: Engine, R: Threads + Wait + Sync>(
     rt: &R,
     words: &Words,
     turn: Turn,
+    request: Request,
     engine: &mut E,
 ) -> (Turn, bool)
     requires one_table { turn.pass.table ≡ words.now }
+    requires requested { Requests turn.pass request }
     requires made_for { E.made_for engine.old ≡ words.now.config.pages }
     requires quiet { IsQuiet turn.pass }
     requires unplaced { IsUnplaced turn.pass }
     requires nowhere { place_now_for turn.pass ≡ None }
     requires idle { IsAtPhase turn.pass 0 }
-    ensures op { result.0.op ≡ turn.op }
     ensures made_for { E.made_for engine.new ≡ E.made_for engine.old }
     ensures placed { result.1 ≡ true → Seeks (Some answer.Done) turn.pass result.0.pass }
     ensures misfits { result.1 ≡ false → MisfitsAtLast turn.pass result.0.pass }
@@ -122,7 +125,7 @@ fn place_behind_cycle<E: Engine, R: Threads + Wait + Sync>(
     turn.is_in_order();
     begin_cycle(rt, words, &mut turn, engine);
     turn.is_in_order();
-    finish_and_place(rt, words, turn, engine)
+    finish_and_place(rt, words, turn, request, engine)
 }
 
 /// Makes room for the object, which fits nowhere, and grants it if it can be made to fit. It isn't inlined, so what it
@@ -133,14 +136,15 @@ pub(crate) fn make_room<E: Engine, R: Threads + Wait + Sync>(
     rt: &R,
     words: &Words,
     turn: Turn,
+    request: Request,
     engine: &mut E,
 ) -> (Turn, bool)
     requires one_table { turn.pass.table ≡ words.now }
+    requires requested { Requests turn.pass request }
     requires made_for { E.made_for engine.old ≡ words.now.config.pages }
     requires quiet { IsQuiet turn.pass }
     requires unplaced { IsUnplaced turn.pass }
     requires nowhere { place_now_for turn.pass ≡ None }
-    ensures op { result.0.op ≡ turn.op }
     ensures made_for { E.made_for engine.new ≡ E.made_for engine.old }
     ensures placed { result.1 ≡ true → Seeks (Some answer.Done) turn.pass result.0.pass }
     ensures misfits { result.1 ≡ false → MisfitsAtLast turn.pass result.0.pass }
@@ -148,9 +152,9 @@ pub(crate) fn make_room<E: Engine, R: Threads + Wait + Sync>(
     ensures reached { E.sweeps ≡ false → SweepsNothing turn.pass result.0.pass }
     ensures begun { EachIsBegun E.begins turn.pass result.0.pass }
 {
-    let (turn, placed) = place_behind_older(rt, words, turn, engine);
+    let (turn, placed) = place_behind_older(rt, words, turn, request, engine);
     if placed {
         return (turn, placed);
     }
-    place_behind_cycle(rt, words, turn, engine)
+    place_behind_cycle(rt, words, turn, request, engine)
 }

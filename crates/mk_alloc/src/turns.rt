@@ -23,7 +23,6 @@ pub(crate) fn take<R: Wait>(rt: &R, words: &Words, home: Pass, op: Op) -> Turn
     requires alone { home.seats ≡ home.seat ∷ [] }
     requires under_turn { is_under_turn op ≡ true }
     requires operands { has_operands home.table.config op ≡ true }
-    ensures op { result.op ≡ Some op }
     ensures takes { TakesTurn home (Some op) result.pass }
     ensures begins { BeginsTurn op result.pass }
 {
@@ -36,7 +35,6 @@ pub(crate) fn take<R: Wait>(rt: &R, words: &Words, home: Pass, op: Op) -> Turn
 pub(crate) fn is_cycle_on(words: &Words, turn: &mut Turn) -> bool
     requires one_table { turn.old.pass.table ≡ words.now }
     requires quiet { IsQuiet turn.old.pass }
-    ensures op { turn.new.op ≡ turn.old.op }
     ensures looks { Looks turn.old.pass turn.new.pass }
     ensures on { result ≡ (phase_of (now_of turn.old.pass).words == 1) }
 {

@@ -8,7 +8,7 @@ use Rattle.mk_alloc_clients.{proofs.{MadeNumbers.page_kept, OnePage.{fit_on_page
 use Rattle.mk_objects.proofs.{PlacedNews.{fit_within, goes_behind, place_found}, JoinedLooks.granted_behind_looks}
 use Rattle.mk_objects.specs.Placing.{GoesTo, HeldIsExact, IsGranted}
 
-module _ (p q : PassState) (x : Option Op) (page : Page) (found : Option Place) (turn : IsTurn p x)
+module _ (p q : PassState) (page : Page) (found : Option Place) (turn : IsTurn p)
     (h : IsHistory p.table.config p.seen) (u : IsUnplaced p) (one : p.table.config.pages ≡ 1)
     (number : object_for p ≡ one_number) (looks : OnlyLooks p q) (sees : page ≡ page_of (now_of q).words 0)
     (is : found ≡ place_on page) where

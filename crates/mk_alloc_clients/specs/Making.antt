@@ -35,7 +35,6 @@ pub record MayMakeNumber (p : PassState) (d ty : ℕ) : Type 0 where
 pub record FindsNoRoom (p : PassState) (o : Op) (t : TurnState) : Type 0 where
   pub taken : PassState
   pub takes : Finds p (step.Take (Some o)) 0 taken
-  pub op : t.op ≡ Some o
   pub nowhere : FitsNowhere taken t.pass
 
 -- Another has the turn, and the caller's pass is home; or there is no room.

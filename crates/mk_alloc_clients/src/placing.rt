@@ -33,7 +33,6 @@ struct Seen {
 fn see(words: &Words, turn: &mut Turn) -> Seen
     requires one_table { turn.old.pass.table ≡ words.now }
     requires unplaced { IsUnplaced turn.old.pass }
-    ensures op { turn.new.op ≡ turn.old.op }
     ensures looks { OnlyLooks turn.old.pass turn.new.pass }
     ensures page { result.page ≡ page_of (now_of turn.new.pass).words 0 }
     ensures held { result.held ≡ (now_of turn.new.pass).words.held }
@@ -86,8 +85,7 @@ fn mark_first(words: &Words, turn: &mut Turn, place: Place, marking: bool)
     requires goes { GoesTo turn.old.pass place }
     requires free { header_at (now_of turn.old.pass).words place.page ≡ 0 }
     requires marking { marking ≡ (phase_of (now_of turn.old.pass).words == 1) }
-    ensures op { turn.new.op ≡ turn.old.op }
-    ensures carved { HasCarved turn.old.pass place 0 turn.new.pass }
+    ensures { HasCarved turn.old.pass place 0 turn.new.pass }
 {
     turn.is_in_order();
     if marking {
@@ -102,8 +100,7 @@ fn carve(words: &Words, turn: &mut Turn, place: Place, marking: bool)
     requires goes { GoesTo turn.old.pass place }
     requires free { header_at (now_of turn.old.pass).words place.page ≡ 0 }
     requires marking { marking ≡ (phase_of (now_of turn.old.pass).words == 1) }
-    ensures op { turn.new.op ≡ turn.old.op }
-    ensures ready { MayTake turn.old.pass place turn.new.pass }
+    ensures { MayTake turn.old.pass place turn.new.pass }
 {
     turn.is_in_order();
     mark_first(words, turn, place, marking);
@@ -117,8 +114,7 @@ fn make_ready(words: &Words, turn: &mut Turn, place: Place, seen: Seen)
     requires goes { GoesTo turn.old.pass place }
     requires page { seen.page ≡ page_of (now_of turn.old.pass).words place.page }
     requires marking { seen.marking ≡ (phase_of (now_of turn.old.pass).words == 1) }
-    ensures op { turn.new.op ≡ turn.old.op }
-    ensures ready { MayTake turn.old.pass place turn.new.pass }
+    ensures { MayTake turn.old.pass place turn.new.pass }
 {
     turn.is_in_order();
     if seen.page.header == 0 {
@@ -145,7 +141,6 @@ fn serve(words: &Words, turn: &mut Turn, register: u8, place: Place, seen: Seen)
     requires marking { seen.marking ≡ (phase_of (now_of turn.old.pass).words == 1) }
     requires held { seen.held ≡ (now_of turn.old.pass).words.held }
     requires exact { HeldIsExact turn.old.pass }
-    ensures op { turn.new.op ≡ turn.old.op }
     ensures granted { IsGranted turn.old.pass place turn.new.pass }
     ensures held { HeldIsExact turn.new.pass }
 {
@@ -164,7 +159,6 @@ pub(crate) fn place_number(words: &Words, turn: &mut Turn, register: u8) -> bool
     requires unplaced { IsUnplaced turn.old.pass }
     requires number { object_for turn.old.pass ≡ one_number }
     requires exact { HeldIsExact turn.old.pass }
-    ensures op { turn.new.op ≡ turn.old.op }
     ensures placed { result ≡ true → IsPlaced turn.old.pass turn.new.pass }
     ensures nowhere { result ≡ false → FitsNowhere turn.old.pass turn.new.pass }
 {

@@ -81,9 +81,9 @@ module _ {p : PassState} {w : WordsState} (t : InTurn p) (turn : IsTurnAt 0 w p)
       ∙ eq-eqb v _ is))
 
 -- what `is_in_order` says of a turn
-pub in_turn : (p : PassState) (o : Option Op) → Has p.seats p.seat → IsTurn p o → IsHistory p.table.config p.seen
+pub in_turn : (p : PassState) → Has p.seats p.seat → IsTurn p → IsHistory p.table.config p.seen
     → InTurn p
-in_turn p o own turn history = record { own = own; holds = turn.holds; history = history }
+in_turn p own turn history = record { own = own; holds = turn.holds; history = history }
 
 -- before a step of the turn
 pub in_turn_before : {p : PassState} {s : Step} {q : PassState} → Acts p s q → InTurn p

@@ -10,12 +10,11 @@ use Rattle.mk_words.specs.{PageMaps.HasNoMarks, States.TurnState}
 
 -- The pages below one are looked through, before a cycle begins.
 pub record CleansTo (pages : ℕ) (t u : TurnState) (from : ℕ) : Type 0 where
-  pub op : u.op ≡ t.op
   pub begun : from ≤ pages
   pub cleans : Cleans t.pass u.pass
 
 pub cleans_to_none : {pages : ℕ} {t : TurnState} → CleansTo pages t t 0
-cleans_to_none = record { op = refl; begun = omega arith; cleans = cleans_nothing _ }
+cleans_to_none = record { begun = omega arith; cleans = cleans_nothing _ }
 
 -- The table stays, and its pages.
 pub same_pages : {w : WordsState} {pages from : ℕ} {t u : TurnState} → t.pass.table ≡ w → CleansTo pages t u from
@@ -24,11 +23,11 @@ same_pages {w} {t = t} {u = u} is to = ap (λ (x : WordsState). x.config.pages) 
 
 -- One of the pages, from there on, is cleaned.
 pub cleans_past : {w : WordsState} {t u v : TurnState} {from n : ℕ} → t.pass.table ≡ w
-    → CleansTo w.config.pages t u from → n < u.pass.table.config.pages → v.op ≡ u.op → Cleans u.pass v.pass
+    → CleansTo w.config.pages t u from → n < u.pass.table.config.pages → Cleans u.pass v.pass
     → CleansTo w.config.pages t v (n + 1)
-cleans_past is to within op cleans =
+cleans_past is to within cleans =
     let same = same_pages is to in
-    record { op = op ∙ to.op; begun = omega arith; cleans = cleans_then to.cleans cleans }
+    record { begun = omega arith; cleans = cleans_then to.cleans cleans }
 
 pub bare_stays : {p q : PassState} {page : ℕ} → Cleans p q → HasNoMarks (now_of p).words page
     → HasNoMarks (now_of q).words page

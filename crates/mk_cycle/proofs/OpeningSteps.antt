@@ -11,7 +11,7 @@ use Rattle.mk_cycle.proofs.{FreeingSteps.{frees_step, open_gives, others_free}, 
 use Rattle.mk_cycle.proofs.{GivingSteps.state_there, Allowed.protocol, MayAct.may_act}
 use Rattle.mk_core.specs.{Growing.AreOfOthers, Words.page_of}
 use Rattle.mk_words.proofs.{Seats.others_own, TurnSteps.{acts, still_turn}}
-use Rattle.mk_words.specs.{Opening.{OnlyOpen, Opens, OthersMayOpen, is_open}, TurnSteps.op_for}
+use Rattle.mk_words.specs.Opening.{OnlyOpen, Opens, OthersMayOpen, is_open}
 
 open_is_holders : (x : Step) → is_open x ≡ true → is_holders x ≡ true
 open_is_holders (Step.Open j) h = refl
@@ -66,8 +66,8 @@ by_itself {p} j t free at h =
       pass = record { own = t.own; history = h };
     } in
     let a = acts p (Step.Open j) q makes t.holds in
-    let turn = still_turn p (Step.Open j) q makes (op_for p.seat (call_of p)) refl
-    (record { holds = t.holds; op = refl }) in
+    let turn = still_turn p (Step.Open j) q makes refl
+    (record { holds = t.holds }) in
     let next : InTurn q = record { own = t.own; holds = turn.holds; history = h } in
     record {
       none = record {

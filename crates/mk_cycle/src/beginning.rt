@@ -23,7 +23,6 @@ pub fn begin_cycle<E: Engine, R: Threads + Wait + Sync>(
     requires made_for { E.made_for engine.old ≡ words.now.config.pages }
     requires phase { IsAtPhase turn.old.pass 0 }
     requires free { IsFreeForCycle turn.old.pass }
-    ensures op { turn.new.op ≡ turn.old.op }
     ensures made_for { E.made_for engine.new ≡ E.made_for engine.old }
     ensures law { BeginsCycle turn.old.pass turn.new.pass }
     ensures reached { E.sweeps ≡ false → SweepsNothing turn.old.pass turn.new.pass }

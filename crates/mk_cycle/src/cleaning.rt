@@ -19,7 +19,6 @@ fn look_before(turn: &mut Turn, words: &Words, pages: u64, x: Word) -> u64
     requires pages { pages ≡ words.now.config.pages }
     requires in_range { is_word words.now.config x ≡ true }
     requires no_register { is_register x ≡ false }
-    ensures op { turn.new.op ≡ turn.old.op }
     ensures cleans { Cleans turn.old.pass turn.new.pass }
     ensures reads { result ≡ named_word (now_of turn.new.pass).words x }
 {
@@ -32,7 +31,6 @@ fn clear_marks(turn: &mut Turn, words: &Words, page: u64, marks: u64)
     requires turn { IsTurnAt 0 words.now turn.old.pass }
     requires within { page < words.now.config.pages }
     requires found { marks ≡ 0 → IsUnmarked turn.old.pass page }
-    ensures op { turn.new.op ≡ turn.old.op }
     ensures cleans { Cleans turn.old.pass turn.new.pass }
     ensures unmarked { IsUnmarked turn.new.pass page }
 {
@@ -48,7 +46,6 @@ fn clear_black(turn: &mut Turn, words: &Words, page: u64, blacks: u64)
     requires turn { IsTurnAt 0 words.now turn.old.pass }
     requires within { page < words.now.config.pages }
     requires found { blacks ≡ 0 → IsUnscanned turn.old.pass page }
-    ensures op { turn.new.op ≡ turn.old.op }
     ensures cleans { Cleans turn.old.pass turn.new.pass }
     ensures unscanned { IsUnscanned turn.new.pass page }
 {
@@ -63,7 +60,6 @@ fn clear_black(turn: &mut Turn, words: &Words, page: u64, blacks: u64)
 fn clear_dirty(turn: &mut Turn, words: &Words, page: u64, dirty: u64)
     requires turn { IsTurnAt 0 words.now turn.old.pass }
     requires within { page < words.now.config.pages }
-    ensures op { turn.new.op ≡ turn.old.op }
     ensures cleans { Cleans turn.old.pass turn.new.pass }
     ensures undirty { dirty ≢ 0 → WasUndirty page turn.old.pass turn.new.pass }
 {
@@ -77,7 +73,6 @@ fn clear_dirty(turn: &mut Turn, words: &Words, page: u64, dirty: u64)
 fn copy_freed(turn: &mut Turn, words: &Words, page: u64)
     requires turn { IsTurnAt 0 words.now turn.old.pass }
     requires within { page < words.now.config.pages }
-    ensures op { turn.new.op ≡ turn.old.op }
     ensures cleans { Cleans turn.old.pass turn.new.pass }
     ensures snapshot { HasTakenSnapshot turn.new.pass page }
 {
@@ -105,7 +100,6 @@ fn clean_words(turn: &mut Turn, words: &Words, page: u64, marks: u64, blacks: u6
     requires within { page < words.now.config.pages }
     requires marks { marks ≡ 0 → IsUnmarked turn.old.pass page }
     requires blacks { blacks ≡ 0 → IsUnscanned turn.old.pass page }
-    ensures op { turn.new.op ≡ turn.old.op }
     ensures cleans { Cleans turn.old.pass turn.new.pass }
     ensures bare { HasNoMarks (now_of turn.new.pass).words page }
     ensures undirty { dirty ≢ 0 → WasUndirty page turn.old.pass turn.new.pass }
@@ -121,7 +115,6 @@ fn clean_page(turn: &mut Turn, words: &Words, pages: u64, page: u64)
     requires turn { IsTurnAt 0 words.now turn.old.pass }
     requires pages { pages ≡ words.now.config.pages }
     requires within { page < words.now.config.pages }
-    ensures op { turn.new.op ≡ turn.old.op }
     ensures cleans { Cleans turn.old.pass turn.new.pass }
     ensures bare { HasNoMarks (now_of turn.new.pass).words page }
     ensures undirty { WasUndirty page turn.old.pass turn.new.pass }
@@ -139,7 +132,6 @@ fn clean_page(turn: &mut Turn, words: &Words, pages: u64, page: u64)
 fn clean_free(turn: &mut Turn, words: &Words, page: u64)
     requires turn { IsTurnAt 0 words.now turn.old.pass }
     requires within { page < words.now.config.pages }
-    ensures op { turn.new.op ≡ turn.old.op }
     ensures cleans { Cleans turn.old.pass turn.new.pass }
     ensures bare { HasNoMarks (now_of turn.new.pass).words page }
 {
@@ -155,7 +147,6 @@ fn clean_free(turn: &mut Turn, words: &Words, page: u64)
 /// cell that nobody had.
 fn clean_free_pages(turn: &mut Turn, words: &Words)
     requires turn { IsTurnAt 0 words.now turn.old.pass }
-    ensures op { turn.new.op ≡ turn.old.op }
     ensures cleans { Cleans turn.old.pass turn.new.pass }
     ensures bare { (page : ℕ) → page < words.now.config.pages → header_at (now_of turn.new.pass).words page ≡ 0
         → HasNoMarks (now_of turn.new.pass).words page }
@@ -173,7 +164,6 @@ fn clean_pages_in_use(turn: &mut Turn, words: &Words)
     requires turn { IsTurnAt 0 words.now turn.old.pass }
     requires bare { (page : ℕ) → page < words.now.config.pages → header_at (now_of turn.old.pass).words page ≡ 0
         → HasNoMarks (now_of turn.old.pass).words page }
-    ensures op { turn.new.op ≡ turn.old.op }
     ensures cleans { Cleans turn.old.pass turn.new.pass }
     ensures ready { (page : ℕ) → page < words.now.config.pages → IsCleanedPage page turn.old.pass turn.new.pass }
 {
@@ -189,7 +179,6 @@ fn clean_pages_in_use(turn: &mut Turn, words: &Words)
 /// Makes the freed cells of all pages their snapshots. A page without freed cells has none in its snapshot.
 fn take_snapshots(turn: &mut Turn, words: &Words)
     requires turn { IsTurnAt 0 words.now turn.old.pass }
-    ensures op { turn.new.op ≡ turn.old.op }
     ensures cleans { Cleans turn.old.pass turn.new.pass }
     ensures snapshot { (page : ℕ) → page < words.now.config.pages → HasTakenSnapshot turn.new.pass page }
 {
@@ -205,7 +194,6 @@ fn take_snapshots(turn: &mut Turn, words: &Words)
 #[inline(always)]
 pub(crate) fn clean_pages(turn: &mut Turn, words: &Words)
     requires turn { IsTurnAt 0 words.now turn.old.pass }
-    ensures op { turn.new.op ≡ turn.old.op }
     ensures cleans { Cleans turn.old.pass turn.new.pass }
     ensures clean { (page : ℕ) → page < words.now.config.pages → IsClean turn.new.pass page }
     ensures undirty { (page : ℕ) → page < words.now.config.pages → WasUndirty page turn.old.pass turn.new.pass }

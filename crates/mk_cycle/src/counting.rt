@@ -46,7 +46,6 @@ pub(crate) fn look(turn: &mut Turn, words: &Words, pages: u64, x: Word) -> u64
     requires pages { pages ≡ words.now.config.pages }
     requires in_range { is_word words.now.config x ≡ true }
     requires no_register { is_register x ≡ false }
-    ensures op { turn.new.op ≡ turn.old.op }
     ensures frees { GivesNothingBack turn.old.pass turn.new.pass }
     ensures is { InTurn turn.new.pass }
     ensures reads { result ≡ named_word (now_of turn.new.pass).words x }

@@ -45,7 +45,6 @@ pub trait Engine: Drop {
         requires marking { IsAtPhase turn.old.pass 1 }
         requires free { IsFreeForCycle turn.old.pass }
         ensures made_for { made_for self.new ≡ made_for self.old }
-        ensures op { turn.new.op ≡ turn.old.op }
         ensures law { BeginsMarking turn.old.pass turn.new.pass }
         ensures reached { sweeps ≡ false → SweepsNothing turn.old.pass turn.new.pass }
         ensures begun { IsBegun begins turn.old.pass turn.new.pass };
@@ -57,7 +56,6 @@ pub trait Engine: Drop {
         requires marking { IsAtPhase stop.old.pass 1 }
         requires free { IsFreeForCycle stop.old.pass }
         ensures made_for { made_for self.new ≡ made_for self.old }
-        ensures op { stop.new.op ≡ stop.old.op }
         ensures law { ClosesMarks stop.old.pass stop.new.pass }
         ensures reached { sweeps ≡ false → SweepsNothing stop.old.pass stop.new.pass }
         ensures told { IsToldOf (tells self.new) stop.new.pass }

@@ -33,7 +33,6 @@ pub fn finish_cycle<E: Engine, R: Threads + Wait + Sync>(
     requires made_for { E.made_for engine.old ≡ words.now.config.pages }
     requires phase { IsAtPhase turn.pass 1 }
     requires free { IsFreeForCycle turn.pass }
-    ensures op { result.0.op ≡ turn.op }
     ensures made_for { E.made_for engine.new ≡ E.made_for engine.old }
     ensures law { FinishesCycle turn.pass result.0.pass }
     ensures released { HasReleased turn.pass result.0.pass result.1 }

@@ -32,8 +32,7 @@ fn give_back(
     requires quarantine { IsQuarantineWord turn.old.pass page quarantine }
     requires gone { gone ≡ left_unmarked (now_of turn.old.pass).words page }
     requires cells { HasFreeCells turn.old.pass page }
-    ensures op { turn.new.op ≡ turn.old.op }
-    ensures gives { GivesBack page turn.old.pass turn.new.pass }
+    ensures { GivesBack page turn.old.pass turn.new.pass }
 {
     let used = look_among(turn, words, pages, Word::Used(page));
     wipe_released(turn, words, pages, page, header, used & gone);
@@ -59,7 +58,6 @@ pub(crate) fn release_cells(
     requires within { page < words.now.config.pages }
     requires header { header.now ≡ header_at (now_of turn.old.pass).words page }
     requires cells { HasFreeCells turn.old.pass page }
-    ensures op { turn.new.op ≡ turn.old.op }
     ensures gives { GivesBack page turn.old.pass turn.new.pass }
     ensures released { result.released ≡ released_on (now_of turn.old.pass).words page }
     ensures held { result.held ≡ held_unmarked (now_of turn.old.pass).words page }

@@ -19,7 +19,6 @@ fn open_gates(words: &Words, stop: Stopped) -> Turn
     requires one_table { stop.pass.table ≡ words.now }
     requires free { IsFreeForCycle stop.pass }
     requires phase { IsAtPhase stop.pass 4 }
-    ensures op { result.op ≡ stop.op }
     ensures opens { GivesNothingBack stop.pass result.pass }
     ensures gates { none_is_held stop.pass.table.config.callers (now_of result.pass).words ≡ true }
 {
@@ -41,7 +40,6 @@ pub(crate) fn give_all_back<E: Engine, R: Threads + Wait + Sync>(
     requires made_for { E.made_for engine.old ≡ words.now.config.pages }
     requires phase { IsAtPhase turn.pass 1 }
     requires free { IsFreeForCycle turn.pass }
-    ensures op { result.0.op ≡ turn.op }
     ensures made_for { E.made_for engine.new ≡ E.made_for engine.old }
     ensures gives { GivesAllBack turn.pass result.0.pass }
     ensures told { HasReleased turn.pass result.0.pass result.1.released }

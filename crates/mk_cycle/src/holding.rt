@@ -20,7 +20,6 @@ fn try_hold(turn: &mut Turn, words: &Words, caller: u64) -> bool
     requires within { caller < words.now.config.callers }
     requires another { is_number_of turn.old.pass.seat caller ≡ false }
     requires open { is_held (now_of turn.old.pass).words caller ≡ false }
-    ensures op { turn.new.op ≡ turn.old.op }
     ensures holds { HoldsGates turn.old.pass turn.new.pass }
     ensures held { result ≡ true → is_held (now_of turn.new.pass).words caller ≡ true }
 {
@@ -34,7 +33,6 @@ fn hold_gate<R: Wait>(rt: &R, turn: &mut Turn, words: &Words, caller: u64)
     requires free { IsFreeForCycle turn.old.pass }
     requires within { caller < words.now.config.callers }
     requires another { is_number_of turn.old.pass.seat caller ≡ false }
-    ensures op { turn.new.op ≡ turn.old.op }
     ensures holds { HoldsGates turn.old.pass turn.new.pass }
     ensures held { is_held (now_of turn.new.pass).words caller ≡ true }
 {
@@ -58,7 +56,6 @@ fn hold_other<R: Wait>(rt: &R, turn: &mut Turn, words: &Words, caller: u64)
     requires one_table { turn.old.pass.table ≡ words.now }
     requires free { IsFreeForCycle turn.old.pass }
     requires within { caller < words.now.config.callers }
-    ensures op { turn.new.op ≡ turn.old.op }
     ensures holds { HoldsGates turn.old.pass turn.new.pass }
     ensures held { IsHeldOrOwn turn.new.pass caller }
 {
@@ -76,7 +73,6 @@ fn hold_other<R: Wait>(rt: &R, turn: &mut Turn, words: &Words, caller: u64)
 pub(crate) fn hold_gates<R: Wait>(rt: &R, turn: &mut Turn, words: &Words)
     requires one_table { turn.old.pass.table ≡ words.now }
     requires free { IsFreeForCycle turn.old.pass }
-    ensures op { turn.new.op ≡ turn.old.op }
     ensures holds { HoldsGates turn.old.pass turn.new.pass }
     ensures held { others_are_held words.now.config.callers (now_of turn.new.pass).words turn.new.pass.seat ≡ true }
 {

@@ -21,7 +21,6 @@ pub(crate) fn release_unmarked<E: Engine, R: Threads + Wait + Sync>(
     requires made_for { E.made_for engine.old ≡ words.now.config.pages }
     requires phase { IsAtPhase stop.old.pass 1 }
     requires free { IsFreeForCycle stop.old.pass }
-    ensures op { stop.new.op ≡ stop.old.op }
     ensures made_for { E.made_for engine.new ≡ E.made_for engine.old }
     ensures releases { ReleasesUnmarked stop.old.pass stop.new.pass }
     ensures cells { (page : ℕ) → HasFreeCells stop.new.pass page }

@@ -29,7 +29,6 @@ fn free_unused(turn: &mut Turn, words: &Words, page: u64, head: u64)
     requires head { head ≡ head_page (now_of turn.old.pass).words page }
     requires none_left { left_unmarked (now_of turn.old.pass).words page ≡ 0 }
     requires none_at_head { left_unmarked (now_of turn.old.pass).words head ≡ 0 }
-    ensures op { turn.new.op ≡ turn.old.op }
     ensures frees { FreesPage page turn.old.pass turn.new.pass }
     ensures settled { IsSettledPage turn.new.pass page }
 {
@@ -53,7 +52,6 @@ fn settle_taken(
     requires header { header.now ≡ header_at (now_of turn.old.pass).words page }
     requires cells { HasFreeCells turn.old.pass page }
     requires settled { (r : ℕ) → r < page → IsSettledPage turn.old.pass r }
-    ensures op { turn.new.op ≡ turn.old.op }
     ensures frees { FreesPage page turn.old.pass turn.new.pass }
     ensures settled { IsSettledPage turn.new.pass page }
     ensures released { result.released ≡ released_on (now_of turn.old.pass).words page }
@@ -90,7 +88,6 @@ pub(crate) fn settle_pages(turn: &mut Turn, words: &Words) -> Settled
     requires turn { IsTurnAt 4 words.now turn.old.pass }
     requires cells { (page : ℕ) → page < words.now.config.pages → HasFreeCells turn.old.pass page }
     requires occupied { (page : ℕ) → IsOccupied turn.old.pass page }
-    ensures op { turn.new.op ≡ turn.old.op }
     ensures frees { Frees turn.old.pass turn.new.pass }
     ensures settled { (page : ℕ) → page < words.now.config.pages → IsSettledPage turn.new.pass page }
     ensures released { result.released ≡ released_below (now_of turn.old.pass).words words.now.config.pages }

@@ -16,7 +16,6 @@ fn look(turn: &mut Turn, words: &Words, x: Word) -> u64
     requires free { IsFreeForCycle turn.old.pass }
     requires in_range { is_word words.now.config x ≡ true }
     requires no_register { is_register x ≡ false }
-    ensures op { turn.new.op ≡ turn.old.op }
     ensures sets { Sets unchanged turn.old.pass turn.new.pass }
     ensures reads { result ≡ named_word (now_of turn.new.pass).words x }
 {
@@ -28,8 +27,7 @@ fn look(turn: &mut Turn, words: &Words, x: Word) -> u64
 fn set(turn: &mut Turn, words: &Words, n: Tally, v: u64)
     requires one_table { turn.old.pass.table ≡ words.now }
     requires free { IsFreeForCycle turn.old.pass }
-    ensures op { turn.new.op ≡ turn.old.op }
-    ensures sets { Sets (with_tally n v) turn.old.pass turn.new.pass }
+    ensures { Sets (with_tally n v) turn.old.pass turn.new.pass }
 {
     in_turn(turn);
     turn.tally(words, n, v);
@@ -40,8 +38,7 @@ fn raise(turn: &mut Turn, words: &Words, n: Tally, word: Word, by: u64)
     requires one_table { turn.old.pass.table ≡ words.now }
     requires free { IsFreeForCycle turn.old.pass }
     requires word { word ≡ tally_word n }
-    ensures op { turn.new.op ≡ turn.old.op }
-    ensures sets { Sets (with_tally n (in_a_word (named_word (now_of turn.old.pass).words word + by)))
+    ensures { Sets (with_tally n (in_a_word (named_word (now_of turn.old.pass).words word + by)))
         turn.old.pass turn.new.pass }
 {
     let before = look(turn, words, word);
@@ -53,8 +50,7 @@ fn lower(turn: &mut Turn, words: &Words, n: Tally, word: Word, by: u64)
     requires one_table { turn.old.pass.table ≡ words.now }
     requires free { IsFreeForCycle turn.old.pass }
     requires word { word ≡ tally_word n }
-    ensures op { turn.new.op ≡ turn.old.op }
-    ensures sets { Sets (with_tally n (named_word (now_of turn.old.pass).words word - by)) turn.old.pass turn.new.pass }
+    ensures { Sets (with_tally n (named_word (now_of turn.old.pass).words word - by)) turn.old.pass turn.new.pass }
 {
     let before = look(turn, words, word);
     set(turn, words, n, before.saturating_sub(by));
@@ -64,8 +60,7 @@ fn lower(turn: &mut Turn, words: &Words, n: Tally, word: Word, by: u64)
 pub(crate) fn count_cycle(turn: &mut Turn, words: &Words, held: u64, released: u64)
     requires one_table { turn.old.pass.table ≡ words.now }
     requires free { IsFreeForCycle turn.old.pass }
-    ensures op { turn.new.op ≡ turn.old.op }
-    ensures sets { Sets (with_cycle_counted (now_of turn.old.pass).words held released) turn.old.pass turn.new.pass }
+    ensures { Sets (with_cycle_counted (now_of turn.old.pass).words held released) turn.old.pass turn.new.pass }
 {
     lower(turn, words, Tally::Held, Word::Held, held);
     raise(turn, words, Tally::Cycles, Word::Cycles, 1);

@@ -26,7 +26,6 @@ pub(crate) fn look_among(turn: &mut Turn, words: &Words, pages: u64, x: Word) ->
     requires free { IsFreeForCycle turn.old.pass }
     requires in_range { is_word words.now.config x ≡ true }
     requires no_register { is_register x ≡ false }
-    ensures op { turn.new.op ≡ turn.old.op }
     ensures acts { Acts turn.old.pass (step.Look x) turn.new.pass }
     ensures reads { result ≡ named_word (now_of turn.new.pass).words x }
 {
@@ -41,7 +40,6 @@ pub(crate) fn look(turn: &mut Turn, words: &Words, x: Word) -> u64
     requires free { IsFreeForCycle turn.old.pass }
     requires in_range { is_word words.now.config x ≡ true }
     requires no_register { is_register x ≡ false }
-    ensures op { turn.new.op ≡ turn.old.op }
     ensures acts { Acts turn.old.pass (step.Look x) turn.new.pass }
     ensures reads { result ≡ named_word (now_of turn.new.pass).words x }
 {

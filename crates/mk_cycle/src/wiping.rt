@@ -22,7 +22,6 @@ fn look_at_heap(turn: &mut Turn, words: &Words, pages: u64, page: u64, word: u64
     requires pages { pages ≡ words.now.config.pages }
     requires within { word < 64 * words.now.config.pages }
     requires page { page ≡ word / 64 }
-    ensures op { turn.new.op ≡ turn.old.op }
     ensures frees { GivesNothingBack turn.old.pass turn.new.pass }
     ensures is { InTurn turn.new.pass }
     ensures reads { result ≡ slice_index (now_of turn.new.pass).words.heap word }
@@ -38,7 +37,6 @@ fn wipe_word(turn: &mut Turn, words: &Words, pages: u64, page: u64, word: u64)
     requires pages { pages ≡ words.now.config.pages }
     requires page { page ≡ word / 64 }
     requires unmapped { IsUnmappedWord turn.old.pass word }
-    ensures op { turn.new.op ≡ turn.old.op }
     ensures frees { GivesNothingBack turn.old.pass turn.new.pass }
     ensures zero { IsZero turn.new.pass word }
 {
@@ -54,7 +52,6 @@ fn wipe_pair(turn: &mut Turn, words: &Words, pages: u64, pair: u64)
     requires pages { pages ≡ words.now.config.pages }
     requires first { IsUnmappedWord turn.old.pass (2 * pair) }
     requires second { IsUnmappedWord turn.old.pass (2 * pair + 1) }
-    ensures op { turn.new.op ≡ turn.old.op }
     ensures frees { GivesNothingBack turn.old.pass turn.new.pass }
     ensures first { IsZero turn.new.pass (2 * pair) }
     ensures second { IsZero turn.new.pass (2 * pair + 1) }
@@ -70,7 +67,6 @@ fn wipe_cell(turn: &mut Turn, words: &Words, pages: u64, first: u64, pairs: u64)
     requires turn { IsTurnAt 4 words.now turn.old.pass }
     requires pages { pages ≡ words.now.config.pages }
     requires unmapped { (i : ℕ) → i < 2 * pairs → IsUnmappedWord turn.old.pass (2 * first + i) }
-    ensures op { turn.new.op ≡ turn.old.op }
     ensures frees { GivesNothingBack turn.old.pass turn.new.pass }
     ensures zeros { (i : ℕ) → i < 2 * pairs → IsZero turn.new.pass (2 * first + i) }
 {
@@ -88,7 +84,6 @@ fn wipe_cells(turn: &mut Turn, words: &Words, pages: u64, page: u64, cells: u64,
     requires few { pairs < 2049 }
     requires unmapped { (k i : ℕ) → has_bit cells k ≡ true → i < 2 * pairs
         → IsUnmappedWord turn.old.pass (64 * page + k * (2 * pairs) + i) }
-    ensures op { turn.new.op ≡ turn.old.op }
     ensures frees { GivesNothingBack turn.old.pass turn.new.pass }
     ensures zeros { (k : ℕ) → k < 32 → (i : ℕ) → has_bit cells k ≡ true → i < 2 * pairs
         → IsZero turn.new.pass (64 * page + k * (2 * pairs) + i) }
@@ -116,7 +111,6 @@ pub(crate) fn wipe_released(
     requires pages { pages ≡ words.now.config.pages }
     requires within { page < words.now.config.pages }
     requires cells { AreFreeCells turn.old.pass page header.now cells }
-    ensures op { turn.new.op ≡ turn.old.op }
     ensures frees { GivesNothingBack turn.old.pass turn.new.pass }
     ensures zeros { (k : ℕ) → k < 32 → (i : ℕ) → has_bit cells k ≡ true → i < words_under (header_of header.now)
         → IsZero turn.new.pass (64 * page + k * words_under (header_of header.now) + i) }

@@ -81,7 +81,7 @@ module _ {p : PassState} (t : InTurn p) (b : IsBeside p) where
       (place_now p.table.config (now_of p) (call_of p)) cell.page (2 ^ cell.index)) (hand_marks r))
 
 -- One step.
-module _ (t u : TurnState) (s : Step) (a : Acts t.pass s u.pass) (b : IsBeside t.pass) (same : u.op ≡ t.op) where
+module _ (t u : TurnState) (s : Step) (a : Acts t.pass s u.pass) (b : IsBeside t.pass) where
   abbrev c : Config
   c = t.pass.table.config
 
@@ -102,7 +102,6 @@ module _ (t u : TurnState) (s : Step) (a : Acts t.pass s u.pass) (b : IsBeside t
       → LeavesTurn unchanged t.pass u.pass → TracesReached c (world_at a.makes).now s → GoesBeside t u
   goes_step kind none plain keeps rule = record {
     table = ap (λ (x : PassState). x.table) a.makes.is;
-    op = same;
     beside = still_beside b keeps;
     marks = record {
       does = does_step begins_marking t.pass u.pass s a.makes kind;
@@ -117,21 +116,21 @@ module _ (t u : TurnState) (s : Step) (a : Acts t.pass s u.pass) (b : IsBeside t
     };
   }
 
-module _ (t u : TurnState) (b : IsBeside t.pass) (same : u.op ≡ t.op) where
+module _ (t u : TurnState) (b : IsBeside t.pass) where
   pub goes_look : {x : Word} → Acts t.pass (Step.Look x) u.pass → gives_no_hand x ≡ true → GoesBeside t u
   goes_look {x} a plain =
-      goes_step t u (Step.Look x) a b same refl refl (no_root x plain)
+      goes_step t u (Step.Look x) a b refl refl (no_root x plain)
       (calm_keeps t.pass (Step.Look x) u.pass a (in_turn_before a) a.makes.pass.history refl b.free unchanged refl)
       (no_heap_word t.pass.table.config (world_at a.makes).now x plain)
 
   pub goes_hold : {j : ℕ} → Acts t.pass (Step.Hold j) u.pass → GoesBeside t u
   goes_hold {j} a =
-      goes_step t u (Step.Hold j) a b same refl refl refl
+      goes_step t u (Step.Hold j) a b refl refl refl
       (calm_keeps t.pass (Step.Hold j) u.pass a (in_turn_before a) a.makes.pass.history refl b.free unchanged refl) tt
 
   pub goes_open : {j : ℕ} → Acts t.pass (Step.Open j) u.pass → GoesBeside t u
   goes_open {j} a =
-      goes_step t u (Step.Open j) a b same refl refl refl
+      goes_step t u (Step.Open j) a b refl refl refl
       (calm_keeps t.pass (Step.Open j) u.pass a (in_turn_before a) a.makes.pass.history refl b.free unchanged refl) tt
 
   pub finds_in_root : {x : Word} (n : ℕ) → Acts t.pass (Step.Look x) u.pass → Finds t.pass (Step.Look x) n u.pass
@@ -141,14 +140,13 @@ module _ (t u : TurnState) (b : IsBeside t.pass) (same : u.op ≡ t.op) where
       unchanged refl in
       record {
         table = ap (λ (y : PassState). y.table) a.makes.is;
-        op = same;
         beside = still_beside b keeps;
         does = does_step begins_marking t.pass u.pass (Step.Look x) a.makes refl;
         keeps = keeps;
         reached = keeps_step t.pass (Step.Look x) u.pass a.makes TracesReached (own_before a.makes)
             (root_is_no_heap_word t.pass.table.config (world_at a.makes).now x root);
         done = cc (done_step t.pass (Step.Look x) u.pass f.makes (own_before a.makes), f.finds);
-        well = stays_well t u (Step.Look x) a b same refl;
+        well = stays_well t u (Step.Look x) a b refl;
       }
 
 -- the hand after a look
@@ -181,7 +179,7 @@ may_look_at_headers {p} t b page lt = look_allowed p t b.free (Word.Head page) (
 module _ {value : ℕ} {t u : TurnState} (l : LooksForCell value t u) where
   pub goes_for_cell : IsBeside t.pass → GoesBeside t u
   goes_for_cell b =
-      looked_for (λ (v : TurnState). GoesBeside t v) l (goes_nowhere t b) (λ a. goes_look t u b l.op a refl)
+      looked_for (λ (v : TurnState). GoesBeside t v) l (goes_nowhere t b) (λ a. goes_look t u b a refl)
 
   pub gates_for_cell : KeepsGates t.pass u.pass
   gates_for_cell = grind (arith, looked_for, gates_at_once, gates_behind)
@@ -196,7 +194,7 @@ no_place : (w : Words) (o : Object) (place : Option Place) (page value : ℕ) �
 no_place w o None page value ne = refl
 no_place w o (Some x) page value ne = grind (arith, false_from_ne_true, and_parts, eqb-true)
 
-module _ (t u : TurnState) (b : IsBeside t.pass) (same : u.op ≡ t.op)
+module _ (t u : TurnState) (b : IsBeside t.pass)
     {cell : Cell} (a : Acts t.pass (Step.Mark cell.page (2 ^ cell.index)) u.pass) (r : HandPointsInto t.pass cell) where
   points_there : pointed_cell t.pass.table.config.pages (world_at a.makes).now.words.pages r.value ≡ Some cell
   points_there = ap (λ (x : Steady). pointed_cell t.pass.table.config.pages x.pages r.value) a.turn.steady ∙ r.points
@@ -244,7 +242,7 @@ module _ (t u : TurnState) (b : IsBeside t.pass) (same : u.op ≡ t.op)
   }
 
   pub goes_mark : GoesBeside t u
-  goes_mark = goes_step t u (Step.Mark cell.page (2 ^ cell.index)) a b same refl refl refl mark_keeps marks_reached
+  goes_mark = goes_step t u (Step.Mark cell.page (2 ^ cell.index)) a b refl refl refl mark_keeps marks_reached
 
   pub marked_there : is_marked (now_of u.pass).words cell ≡ true
   marked_there =

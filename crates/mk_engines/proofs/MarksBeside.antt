@@ -22,7 +22,7 @@ pub beside_nothing : (p : PassState) → MarksBeside p p
 beside_nothing p = grind (arith, does_nothing, keeps_at_once, nothing_keeps, nothing_done)
 
 pub goes_nowhere : (t : TurnState) → IsBeside t.pass → GoesBeside t t
-goes_nowhere t b = record { table = refl; op = refl; beside = b; marks = beside_nothing t.pass }
+goes_nowhere t b = record { table = refl; beside = b; marks = beside_nothing t.pass }
 
 -- What is found points well after more marks.
 
@@ -97,7 +97,6 @@ beside_then {p} {r} a b =
 pub goes_then : {t u v : TurnState} → GoesBeside t u → GoesBeside u v → GoesBeside t v
 goes_then {t} {u} {v} a b = record {
   table = b.table ∙ a.table;
-  op = b.op ∙ a.op;
   beside = b.beside;
   marks = beside_then a.marks b.marks;
 }
@@ -127,7 +126,6 @@ module _ {x : Word} {n : ℕ} {t u v : TurnState} (f : FindsInRoot x n t u) (b :
   pub root_then : points_well t.pass.table.config.pages (now_of v.pass).words n ≡ true → GoesBeside t v
   root_then here = record {
     table = b.table ∙ f.table;
-    op = b.op ∙ f.op;
     beside = b.beside;
     marks =
         subst (λ (y : PassState). Does begins_marking t.pass y → LeavesTurn unchanged t.pass y

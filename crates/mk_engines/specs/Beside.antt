@@ -72,14 +72,12 @@ pub record MarksBeside (p q : PassState) : Type 0 where
 -- The same of a turn.
 pub record GoesBeside (t u : TurnState) : Type 0 where
   pub table : u.pass.table ≡ t.pass.table
-  pub op : u.op ≡ t.op
   pub beside : IsBeside u.pass
   pub marks : MarksBeside t.pass u.pass
 
 -- Its holder made one look at a root, which found this value. It is still to be marked.
 pub record FindsInRoot (x : Word) (n : ℕ) (t u : TurnState) : Type 0 where
   pub table : u.pass.table ≡ t.pass.table
-  pub op : u.op ≡ t.op
   pub beside : IsBeside u.pass
   pub does : Does begins_marking t.pass u.pass
   pub keeps : LeavesTurn unchanged t.pass u.pass

@@ -50,7 +50,6 @@ impl Engine for MostlyEngine {
         requires marking { IsAtPhase turn.old.pass 1 }
         requires free { IsFreeForCycle turn.old.pass }
         ensures made_for { self.new.pages ≡ self.old.pages }
-        ensures op { turn.new.op ≡ turn.old.op }
         ensures law { BeginsMarking turn.old.pass turn.new.pass }
         ensures reached { SweepsNothing turn.old.pass turn.new.pass }
         ensures begun { IsBegun MarksRoots turn.old.pass turn.new.pass }
@@ -63,7 +62,6 @@ impl Engine for MostlyEngine {
         requires marking { IsAtPhase stop.old.pass 1 }
         requires free { IsFreeForCycle stop.old.pass }
         ensures made_for { self.new.pages ≡ self.old.pages }
-        ensures op { stop.new.op ≡ stop.old.op }
         ensures law { ClosesMarks stop.old.pass stop.new.pass }
         ensures reached { SweepsNothing stop.old.pass stop.new.pass }
         ensures traces { Traces is_tracing TracesReached stop.old.pass stop.new.pass }

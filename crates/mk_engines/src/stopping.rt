@@ -22,7 +22,6 @@ pub(crate) fn close_by_tracing<R: Wait>(
     requires one_table { stop.old.pass.table ≡ words.now }
     requires phase { IsAtPhase stop.old.pass 1 }
     requires free { IsFreeForCycle stop.old.pass }
-    ensures op { stop.new.op ≡ stop.old.op }
     ensures law { ClosesMarks stop.old.pass stop.new.pass }
     ensures reached { SweepsNothing stop.old.pass stop.new.pass }
     ensures traces { Traces is_tracing TracesReached stop.old.pass stop.new.pass }

@@ -6,7 +6,7 @@ ghost use Rattle.mk_words.specs.States.{now_of};
 ghost use Rattle.mk_heap_tests.specs.Passes.{IsPassFor};
 ghost use Rattle.mk_core.specs.declared.events.Seat.TheVariants as seat;
 
-use mk_alloc::place_object;
+use mk_alloc::{Request, place_object};
 use mk_core::{Config, Seat};
 use mk_heap::Heap;
 use mk_never::{NoMemory, Op};
@@ -30,7 +30,7 @@ fn place<R: Wait>(rt: &R, words: &Words, home: Pass) -> Option<Pass>
     home.is_in_order();
     let mut turn = take_turn(rt, words, home, Some(op));
     turn.is_in_order();
-    let placed = place_object(words, &mut turn);
+    let placed = place_object(words, &mut turn, Request { register: 0, ty: 0 });
     turn.is_in_order();
     if !placed {
         return None;

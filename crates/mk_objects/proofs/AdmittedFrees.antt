@@ -1,7 +1,7 @@
 -- A Free whose register is null or points to a first word is admitted, whatever its step.
 use Rattle.std.proofs.lemmas.List.{length-replicate}
 use Rattle.mk_laws.proofs.Vocabulary.{Answer, AreAdmitted, AreOfOthers, Call, Caller, Config, Event, IsAdmitted}
-use Rattle.mk_laws.proofs.Vocabulary.{IsHistory, List, None, Null, Op, Option, Some, Step, Value, ℕ, after_calls}
+use Rattle.mk_laws.proofs.Vocabulary.{IsHistory, List, None, Null, Op, Option, Step, Value, ℕ, after_calls}
 use Rattle.mk_laws.proofs.Vocabulary.{answer_decided, append-nil, arith, asked, call_decided, calls}
 use Rattle.mk_laws.proofs.Vocabulary.{earlier_part_is_history, entry_of, flight_of, left, map-append, never_behind}
 use Rattle.mk_laws.proofs.Vocabulary.{refl, register_at, [], ◌*◌, ◌++◌, ◌<◌, ◌∷◌, ◌≡◌}
@@ -26,8 +26,7 @@ free_admitted c k r xs lt small base =
 free_call : (c : Config) (k r : ℕ) (xs : List Call) (a : Option Answer) → k < c.callers → r < 8
     → IsBase (register_at (after_calls (never_first c) xs) k r)
     → AreAdmitted c.globals (after_calls (never_first c) xs) (asked (entry_of k (Op.Free r) a))
-free_call c k r xs None lt small base = tt
-free_call c k r xs (Some a) lt small base = (free_admitted c k r xs lt small base, tt)
+free_call c k r xs x4 lt small base = grind (arith, free_admitted)
 
 asked_more : (c : Config) (es : List Event) (e : Event)
     → asked (calls c (es ++ e ∷ [])) ≡ asked (calls c es) ++ asked (call_decided c (left c es).now e)

@@ -4,6 +4,5 @@ use Rattle.mk_objects.proofs.Vocabulary.{HasCarved, TurnState}
 use Rattle.mk_turns.specs.Sweeping.{SweepsNothing}
 
 pub record IsCarvedTo (was now : TurnState) (place : Place) (n : ℕ) : Type 0 where
-  pub op : now.op ≡ was.op
   pub carved : HasCarved was.pass place n now.pass
   pub reached : SweepsNothing was.pass now.pass

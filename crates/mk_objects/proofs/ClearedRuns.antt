@@ -1,6 +1,6 @@
 -- A run is unmapped and wiped, and then the gates are opened.
 use Rattle.mk_laws.proofs.Vocabulary.{Bool, RunPages, Steady, ℕ, ap, arith, false, is_held, is_number_of, is_run_gone}
-use Rattle.mk_laws.proofs.Vocabulary.{not, others_are_held, refl, subst, sym, true, ◌<◌, ◌||◌, ◌∙◌, ◌≡◌}
+use Rattle.mk_laws.proofs.Vocabulary.{not, others_are_held, subst, true, ◌<◌, ◌||◌, ◌∙◌, ◌≡◌}
 use Rattle.mk_objects.proofs.Vocabulary.{PassState, RunIsUnmapped, RunIsWiped, SetsGates, Unmaps, Wipes, WordsState}
 use Rattle.mk_objects.proofs.Vocabulary.{all_below_from, all_others, is_clearing, is_settling, now_of, world_of}
 use Rattle.mk_objects.proofs.DecidedFrees.{Stays, gates_stay, stays_then, unmaps_stay, wipes_stay}
@@ -15,8 +15,7 @@ stopped_by p held =
     (λ j lt. ap (λ b. is_number_of p.seat j || b) (held j lt) ∙ either (is_number_of p.seat j))
   where
     either : (b : Bool) → (b || not b) ≡ true
-    either true = refl
-    either false = refl
+    either x0 = grind arith
 
 -- what each part leaves
 
@@ -29,9 +28,7 @@ wiped_now a = reached_world a
 pub unmapped_held : {p q : PassState} {run : RunPages} → Unmaps p run q
     → ((j : ℕ) → j < p.table.config.callers → is_held (now_of p).words j ≡ all_others p.seat j)
     → (j : ℕ) → j < q.table.config.callers → is_held (now_of q).words j ≡ all_others q.seat j
-unmapped_held {q} a held =
-    subst (λ (x : PassState). (j : ℕ) → j < x.table.config.callers → is_held (now_of q).words j ≡ all_others x.seat j)
-    (sym a.same) (λ j lt. (unmapped_now a).changes.gates j ∙ held j lt)
+unmapped_held a held = grind (arith, unmapped_now)
 
 -- and all
 pub clears : {p a b q : PassState} {run : RunPages} → Unmaps p run a → Wipes a run b → SetsGates is_settling b no_gate q

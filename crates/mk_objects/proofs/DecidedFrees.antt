@@ -36,8 +36,7 @@ gates_stay a =
 changes_stay : {s : Seat} {w v : World} {change : Steady → Steady} → Changes s change w v
     → counted (change (steady_of w)) ≡ counted (steady_of w) → (change (steady_of w)).fresh_words
     ≡ (steady_of w).fresh_words → (change (steady_of w)).allocations ≡ (steady_of w).allocations → StaysSo s w v
-changes_stay {s} {w} {v} {change} at same fresh allocations =
-    stays_by s w v change at.call at.holding at.steady same fresh allocations
+changes_stay at same fresh allocations = grind (arith, stays_by)
 
 pub wipes_stay : {p q : PassState} {run : RunPages} → Wipes p run q → Stays is_clearing p q
 wipes_stay a = reaches_so a (λ at. changes_stay at.changes refl refl refl)
@@ -51,18 +50,15 @@ fresh_stays a = reaches_so a (λ at. changes_stay at refl refl refl)
 pub held_stays : {p q : PassState} {n : ℕ} → SetsTally p Tally.Held n q → Stays is_settling p q
 held_stays a = reaches_so a (λ at. changes_stay at refl refl refl)
 
-so_then : {s : Seat} {w u v : World} → StaysSo s w u → StaysSo s u v → StaysSo s w v
-so_then a b = record {
+pub stays_then : {one two kinds : Step → Bool} → AreAmong one kinds → AreAmong two kinds → {p q r : PassState}
+    → Stays one p q → Stays two q r → Stays kinds p r
+stays_then ones twos a b = reaches_after ones twos (λ x. StaysSo x.seat (world_of x)) a b (λ v a b. record {
   call = b.call ∙ a.call;
   holding = b.holding ∙ a.holding;
   counted = b.counted ∙ a.counted;
   fresh_words = b.fresh_words ∙ a.fresh_words;
   allocations = b.allocations ∙ a.allocations;
-}
-
-pub stays_then : {one two kinds : Step → Bool} → AreAmong one kinds → AreAmong two kinds → {p q r : PassState}
-    → Stays one p q → Stays two q r → Stays kinds p r
-stays_then ones twos a b = reaches_after ones twos (λ x. StaysSo x.seat (world_of x)) a b (λ v a b. so_then a b)
+})
 
 pub stays_now : {kinds : Step → Bool} {p q : PassState} → Stays kinds p q → StaysSo p.seat (world_of p) (world_of q)
 stays_now a = reached_world a
@@ -82,13 +78,7 @@ freed_releases w cell (a ∷ xs) =
     ∙ sym (one a xs)
 
 decided_by : {c : Config} {s : Seat} {cell : Cell} {w v : World} → IsFreedAt c s cell w v → IsDecidedAt s w v
-decided_by {cell} {w} at = record {
-  stage = ap (λ (f : Flight). f.stage) at.call;
-  op = ap (λ (f : Flight). f.op) at.call;
-  placing = ap (λ (h : Holding). h.placing) at.holding;
-  cycle = ap (λ (h : Holding). h.cycle) at.holding;
-  counted = cc (at.steady, freed_releases w.now.words cell w.allocations);
-}
+decided_by at = grind (arith, freed_releases)
 
 abbrev pub Decides : (Step → Bool) → PassState → Answer → PassState → Type 0
 Decides kinds p a q = ComesTo kinds p (IsDecidedAt p.seat (world_of p)) (entry_for p a) q
@@ -98,20 +88,17 @@ freed_decides a = reaches_so a (λ at. decided_by at)
 
 -- what follows leaves it decided,
 
-decided_then : {s : Seat} {w u v : World} → IsDecidedAt s w u → StaysSo s u v → IsDecidedAt s w v
-decided_then a b = record {
-  stage = ap (λ (f : Flight). f.stage) b.call ∙ a.stage;
-  op = ap (λ (f : Flight). f.op) b.call ∙ a.op;
-  placing = ap (λ (h : Holding). h.placing) b.holding ∙ a.placing;
-  cycle = ap (λ (h : Holding). h.cycle) b.holding ∙ a.cycle;
-  counted = b.counted ∙ a.counted;
-}
-
 pub decides_before : {p q r : PassState} {a : Answer} → Decides is_freeing p a q → Stays is_following q r
     → Decides is_freeing p a r
 decides_before d s =
     reaches_after (λ x h. h) (λ x h. grind arith) (λ x. StaysSo x.seat (world_of x)) d s
-    (λ v one two. decided_then one two)
+    (λ v one two. record {
+      stage = ap (λ (f : Flight). f.stage) two.call ∙ one.stage;
+      op = ap (λ (f : Flight). f.op) two.call ∙ one.op;
+      placing = ap (λ (h : Holding). h.placing) two.holding ∙ one.placing;
+      cycle = ap (λ (h : Holding). h.cycle) two.holding ∙ one.cycle;
+      counted = two.counted ∙ one.counted;
+    })
 
 -- and so it is after a part that leaves the call as it was, or one at this point of it.
 

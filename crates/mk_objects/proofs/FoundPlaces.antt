@@ -26,12 +26,7 @@ bit_told count used k is =
 clear_cell : (h u class index : ℕ) (leaf : Bool) (x : Option Header) → header_of h ≡ x → h ≢ 0
     → MayTakeCell class leaf index (use_under x u) → has_bit u index ≡ false
 clear_cell h u class index leaf (Some Free) is some may = absurd (some (sym (word_of-header_of h Free is).1))
-clear_cell h u class index leaf None is some may = absurd may
-clear_cell h u class index leaf (Some (Run n m)) is some may = absurd may
-clear_cell h u class index leaf (Some (LeafRun n)) is some may = absurd may
-clear_cell h u class index leaf (Some (Later d m)) is some may = absurd may
-clear_cell h u class index leaf (Some (Block k)) is some may = bit_told (cells_of k) u index may.2
-clear_cell h u class index leaf (Some (LeafBlock k)) is some may = bit_told (cells_of k) u index may.2
+clear_cell h u class index leaf x6 is some may = grind (arith, bit_told)
 
 free_is_zero : (h : ℕ) (x : Option Header) (u : ℕ) → header_of h ≡ x → is_free_page (use_under x u) ≡ true → h ≡ 0
 free_is_zero h (Some Free) u is free = sym (word_of-header_of h Free is).1

@@ -5,9 +5,9 @@ use Rattle.mk_laws.proofs.Vocabulary.{Page, PlacedAllocation, Seat, Some, Stage,
 use Rattle.mk_laws.proofs.Vocabulary.{and_from, answer_decided, ap, arith, bit_or, caller_number, cell_freed, entry_of}
 use Rattle.mk_laws.proofs.Vocabulary.{eq-eqb, false, flight_of, freed_where_it_stands, frees, has_bit, header_in}
 use Rattle.mk_laws.proofs.Vocabulary.{heads_run, is_freed, is_run_cell, is_some, is_undecided_free, length, map, not}
-use Rattle.mk_laws.proofs.Vocabulary.{or_else, others_are_held, phase_of, progress_freed, quarantine_word, refl}
-use Rattle.mk_laws.proofs.Vocabulary.{run_of_cell, set-get_or, slice_index, slice_set, subst, sym, target, true}
-use Rattle.mk_laws.proofs.Vocabulary.{world_behind, ◌%◌, ◌*◌, ◌+◌, ◌-◌, ◌/◌, ◌<◌, ◌^◌, ◌||◌, ◌∙◌, ◌≡◌}
+use Rattle.mk_laws.proofs.Vocabulary.{or_else, others_are_held, progress_freed, quarantine_word, refl, run_of_cell}
+use Rattle.mk_laws.proofs.Vocabulary.{set-get_or, slice_index, slice_set, subst, sym, target, true, world_behind, ◌%◌}
+use Rattle.mk_laws.proofs.Vocabulary.{◌*◌, ◌+◌, ◌-◌, ◌/◌, ◌<◌, ◌^◌, ◌||◌, ◌∙◌, ◌≡◌}
 use Rattle.mk_objects.proofs.Vocabulary.{Acts, FreesOnce, HasFreed, IsAsLeft, IsEnabledTo, IsFreedAt, IsOutOfStop}
 use Rattle.mk_objects.proofs.Vocabulary.{IsTurn, Known, PassState, call_of, is_freeing, min, now_of, steady_of}
 use Rattle.mk_objects.proofs.{Vocabulary.{words_freed, world_of}, MayAct.{free_is_acting, may_free, off_four}}
@@ -108,9 +108,6 @@ module _ (p : PassState) (cell : Cell) (value : ℕ) (v : World) (known : Known 
       (world_behind p.table.config v (record { seat = s; step = Step.Quar cell.page value }))
       × (answer_decided p.table.config v.now (record { seat = s; step = Step.Quar cell.page value }) ≡ Some Answer.Done)
 
-  still_low : phase_of v.now.words ≡ phase_of (now_of p).words → IsOutOfStop v.now
-  still_low same = out_of_stop (now_of p) v.now same low
-
   frees_at : {s : Seat} (k : ℕ) → s ≡ Caller k → IsAsLeft s (world_of p) v → Holds p.table.config (now_of p) s
       → target p.table.config.pages (now_of p).words (flight_of (now_of p) s) ≡ Some cell
       → is_freed (now_of p).words cell ≡ false → value ≡ freed_word (now_of p).words cell
@@ -119,11 +116,12 @@ module _ (p : PassState) (cell : Cell) (value : ℕ) (v : World) (known : Known 
       let lt : k < p.table.config.callers = (subst (λ (x : Seat). Holds p.table.config (now_of p) x) e holds).0 in
       let there : k < length v.now.seats.flights = subst (λ i. k < i) (sym known.orderly.flights) lt in
       let by = quar_behind p.table.config cell there (subst (λ (x : Seat). IsAsLeft x (world_of p) v) e kept)
-      (still_low (ap (λ (x : Steady). x.phase) kept.steady)) (ap (λ (x : Seat). target p.table.config.pages
+      (out_of_stop (now_of p) v.now (ap (λ (x : Steady). x.phase) kept.steady) low)
+      (ap (λ (x : Seat). target p.table.config.pages
       (now_of p).words (flight_of (now_of p) x)) (sym e) ∙ at) clear is small in
       subst (λ (x : Seat). Frees x) (sym e) by
 
-pub quarantine_reaches : {p q : PassState} (cell : Cell) {value : ℕ} {o : Option Op} → IsTurn p o
+pub quarantine_reaches : {p q : PassState} (cell : Cell) {value : ℕ} → IsTurn p
     → is_undecided_free (call_of p) ≡ true → target p.table.config.pages (now_of p).words (call_of p) ≡ Some cell
     → is_freed (now_of p).words cell ≡ false → IsOutOfStop (now_of p) → value ≡ freed_word (now_of p).words cell
     → slice_index (now_of p).words.freed cell.page + 2 ^ cell.index < 2 ^ 32 → Acts p (Step.Quar cell.page value) q
@@ -145,7 +143,7 @@ quarantine_reaches {p} cell {value} turn free at clear low is small a =
     })
 
 -- and frees once
-pub quarantine_once : {p q : PassState} (cell : Cell) {value : ℕ} {o : Option Op} → IsTurn p o
+pub quarantine_once : {p q : PassState} (cell : Cell) {value : ℕ} → IsTurn p
     → target p.table.config.pages (now_of p).words (call_of p) ≡ Some cell → is_freed (now_of p).words cell ≡ false
     → IsOutOfStop (now_of p) → value ≡ freed_word (now_of p).words cell → Acts p (Step.Quar cell.page value) q
     → FreesOnce p q
@@ -153,13 +151,13 @@ quarantine_once {p} cell turn at clear low is a =
     frees_now (made_in p _ a) a.makes.pass.history turn.holds (λ v kept. ap (λ (x : Option Cell). is_some x) (freed_left
     p.table.config cell kept (out_of_stop (now_of p) v.now (ap (λ (x : Steady). x.phase) kept.steady) low) at clear is))
 
-pub quarantine_may : {p : PassState} (cell : Cell) {value : ℕ} {o : Option Op} → IsTurn p o
+pub quarantine_may : {p : PassState} (cell : Cell) {value : ℕ} → IsTurn p
     → is_undecided_free (call_of p) ≡ true → target p.table.config.pages (now_of p).words (call_of p) ≡ Some cell
     → is_freed (now_of p).words cell ≡ false → IsOutOfStop (now_of p) → value ≡ freed_word (now_of p).words cell
     → cell.page < p.table.config.pages → (not (heads_run (header_in (now_of p).words cell.page)) || others_are_held
     p.table.config.callers (now_of p).words p.seat) ≡ true → IsEnabledTo p (Step.Quar cell.page value)
-quarantine_may {p} cell {value} {o} turn free at clear low is within gates =
-    may_free (acting_now p o turn (free_is_acting (call_of p) free)) cell.page value within low
+quarantine_may {p} cell {value} turn free at clear low is within gates =
+    may_free (acting_now p turn (free_is_acting (call_of p) free)) cell.page value within low
     (ap (λ (x : Option Cell). not (is_run_cell (now_of p).words x) || others_are_held p.table.config.callers
     (now_of p).words p.seat) at ∙ gates) (ap (λ (x : Option Cell). frees (now_of p).words x cell.page value) at
     ∙ ap (λ n. frees (now_of p).words (Some cell) cell.page n) is ∙ frees_it (now_of p).words cell clear)

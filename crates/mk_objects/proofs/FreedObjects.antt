@@ -79,22 +79,19 @@ module _ (p : PassState) (r : ℕ) (cell : Cell) (h : IsHistory p.table.config p
   stands : stands_in (now_of p).words cell own ≡ true
   stands = grind (arith, own, stands_in_its_cell, laid)
 
-  -- None but it stands in its cell.
-  alone : (i : ℕ) → i ≢ x.number → stands_in (now_of p).words cell (placed_at (world_of p).allocations i) ≡ false
-  alone i ne = false_from_ne_true _ (λ there.
-      let a : PlacedAllocation = placed_at (world_of p).allocations i in
-      let one = and_parts (not a.released) (a.base == first_word (now_of p).words cell) there in
-      let two = and_parts (not own.released) (own.base == first_word (now_of p).words cell) stands in
-      others.apart i x.number (not-true a.released one.0) x.unreleased ne
-      (eqb-true a.base (first_word (now_of p).words cell) one.1
-      ∙ sym (eqb-true own.base (first_word (now_of p).words cell) two.1)))
-
   pub granted : x.number < length (world_of p).allocations
   granted = grind (arith, cases_lt, get_or_past)
 
   pub it_is_freed : map (freed_where_it_stands (now_of p).words (Some cell)) (world_of p).allocations
       ≡ slice_set (world_of p).allocations x.number (freed_and_fresh own)
-  it_is_freed = freed_one (now_of p).words cell (world_of p).allocations x.number granted stands alone
+  it_is_freed = freed_one (now_of p).words cell (world_of p).allocations x.number granted stands (λ i ne.
+      false_from_ne_true _ (λ there.
+      let a : PlacedAllocation = placed_at (world_of p).allocations i in
+      let one = and_parts (not a.released) (a.base == first_word (now_of p).words cell) there in
+      let two = and_parts (not own.released) (own.base == first_word (now_of p).words cell) stands in
+      others.apart i x.number (not-true a.released one.0) x.unreleased ne
+      (eqb-true a.base (first_word (now_of p).words cell) one.1
+      ∙ sym (eqb-true own.base (first_word (now_of p).words cell) two.1))))
 
   -- what is held after it
 

@@ -2,23 +2,22 @@
 use Rattle.mk_laws.proofs.Vocabulary.{Bool, Config, Event, Flight, Holds, IsHistory, List, Moment, PlacedAllocation}
 use Rattle.mk_laws.proofs.Vocabulary.{Seat, Step, World, and_parts, ap, append-nil, append_assoc, arith, cases_Bool}
 use Rattle.mk_laws.proofs.Vocabulary.{earlier_part_is_history, false, flight_of, inl, inr, is_one_of, left, not}
-use Rattle.mk_laws.proofs.Vocabulary.{not-true, refl, subst, sym, true, true≢false, [], ◌&&◌, ◌++◌, ◌∙◌, ◌∷◌, ◌≡◌}
+use Rattle.mk_laws.proofs.Vocabulary.{not-true, subst, sym, true, true≢false, [], ◌&&◌, ◌++◌, ◌∙◌, ◌∷◌, ◌≡◌}
 use Rattle.mk_laws.proofs.{LastEvents.{comes_last, stands}, Actors.is_holders, FramesHolders.acts_as_holder}
 use Rattle.mk_laws.proofs.{Known.holds_turn, Orderly.same_holder, OrderlyLists.actor_of, ProtocolFrames.other_seat}
 use Rattle.mk_laws.proofs.Views.{view_of}
 use Rattle.mk_objects.proofs.Vocabulary.{Does, FreesOnce, IsAsLeft, IsOverQuarter, PassState, WordsState, event_of}
-use Rattle.mk_objects.proofs.{Vocabulary.{now_of, turn_stays, world_of}, TurnEvents.{Another, ComesBy, KeptInTurn, Own}}
-use Rattle.mk_objects.proofs.{TurnEvents.{along_others, along_turn}, ListParts.{in_parts, none_behind, one_behind}}
-use Rattle.mk_objects.{proofs.Reaching.{MadeIn}, specs.{Dues.{FreesOnly, event_frees}, Retired.IsDueSince}}
+use Rattle.mk_objects.proofs.{Vocabulary.{now_of, turn_stays, world_of}, TurnEvents.{ComesBy, KeptInTurn, along_others}}
+use Rattle.mk_objects.proofs.{TurnEvents.along_turn, ListParts.{in_parts, none_behind, one_behind}, Reaching.MadeIn}
 use Rattle.mk_core.specs.{Allocations.unreleased_storage, Counts.decides_freed}
+use Rattle.mk_objects.specs.{Dues.{FreesOnly, event_frees}, Retired.IsDueSince}
 
 abbrev pub is_quar : Step → Bool
 is_quar (Step.Quar p v) = true
 is_quar _ = false
 
 frees_none : (c : Config) (m : Moment) (f : Flight) (x : Step) → is_quar x ≡ false → decides_freed c m f x ≡ false
-frees_none c m f (Step.Quar p v) h = cc
-frees_none c m f _ h = refl
+frees_none c m f x3 h = grind arith
 
 -- Only the turn's holder frees.
 others_free_none : {c : Config} (s : Seat) (es : List Event) (e : Event) → IsHistory c (es ++ e ∷ [])
@@ -70,11 +69,8 @@ frees_then c seen more rest first second before x behind is frees =
 
 -- Over a part of the turn without a `quar` none frees.
 
-abbrev pub is_other_step : Step → Bool
-is_other_step x = turn_stays x && not (is_quar x)
-
 abbrev pub FreesNot : (Step → Bool) → Type 0
-FreesNot kinds = (x : Step) → kinds x ≡ true → is_other_step x ≡ true
+FreesNot kinds = (x : Step) → kinds x ≡ true → (turn_stays x && not (is_quar x)) ≡ true
 
 none_kept : (c : Config) (s : Seat) (kinds : Step → Bool) (seen : List Event) (xs : List PlacedAllocation)
     → ((x : Step) → kinds x ≡ true → is_quar x ≡ false) → KeptInTurn c s kinds (FreesOnly c seen xs)
@@ -83,8 +79,7 @@ none_kept c s kinds seen xs no_quar es e h holds comes only =
     (sym frees ∙ frees_none c (left c es).now (flight_of (left c es).now e.seat) e.step (kind comes))))
   where
     kind : ComesBy s kinds e → is_quar e.step ≡ false
-    kind (Own same of_kind) = no_quar e.step of_kind
-    kind (Another other) = others_free_none s es e h holds other
+    kind x0 = grind (arith, others_free_none)
 
 none_frees : {kinds : Step → Bool} {p q : PassState} (xs : List PlacedAllocation) → FreesNot kinds → Does kinds p q
     → IsHistory q.table.config q.seen → Holds p.table.config (now_of p) p.seat
@@ -180,16 +175,7 @@ once_before {p} {q} {r} not o table d h holds same =
 
 pub due_since : {p q : PassState} → FreesOnce p q → IsOverQuarter p.table.config (world_of q).allocations
     → IsDueSince p q
-due_since {p} o quarter = record {
-  before = o.before;
-  event = o.event;
-  behind = o.behind;
-  is = o.is;
-  due = record {
-    decides = o.frees;
-    quarter = subst (λ (xs : List PlacedAllocation). IsOverQuarter p.table.config xs) (sym o.leaves) quarter;
-  };
-}
+due_since o quarter = grind arith
 
 -- and only there.
 pub due_then : {p q : PassState} → FreesOnce p q → IsDueSince p q

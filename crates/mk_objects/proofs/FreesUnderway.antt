@@ -1,15 +1,13 @@
 -- A Free on its way: up to its `quar` it only loads, or comes to be decided.
 use Rattle.mk_laws.proofs.Vocabulary.{Answer, Bool, Cell, Flight, Holding, Seat, Stage, Steady, Step, TalliesAreTidy}
-use Rattle.mk_laws.proofs.Vocabulary.{World, ℕ, ap, arith, false, flight_of, if◌then◌else◌, in_a_word, is_freed}
-use Rattle.mk_laws.proofs.Vocabulary.{is_held, is_run_gone, not, nothing_done, refl, subst, sym, true, [], ◌<◌, ◌==◌}
-use Rattle.mk_laws.proofs.Vocabulary.{◌∙◌, ◌≡◌}
+use Rattle.mk_laws.proofs.Vocabulary.{World, ℕ, ap, arith, false, flight_of, if◌then◌else◌, is_freed, is_held}
+use Rattle.mk_laws.proofs.Vocabulary.{is_run_gone, nothing_done, refl, subst, sym, true, [], ◌<◌, ◌==◌, ◌∙◌, ◌≡◌}
 use Rattle.mk_objects.proofs.Vocabulary.{CallIsAt, ComesTo, IsAsLeft, OnlyLooks, PassState, all_below_from, call_of}
 use Rattle.mk_objects.proofs.Vocabulary.{entry_for, is_loading, loaded_free, none_is_held, now_of, world_of}
-use Rattle.mk_core.specs.Counts.{TalliesAreExact, releases}
 use Rattle.mk_objects.proofs.ReachedParts.{reached_table, reached_world, reaches_after, reaches_named, reaches_so}
-use Rattle.mk_objects.proofs.{DecidedFrees.Decides, SmallFrees.exact_still, SmallFrees.none_held}
-use Rattle.mk_objects.specs.Retiring.{HasLoaded, HasSeen, entry_seen, seen_free}
-use Rattle.mk_objects.specs.{Deciding.Counted, Deciding.IsDecidedAt, Deciding.counted, Retired.DecidesFree}
+use Rattle.mk_objects.{proofs.{DecidedFrees.Decides, SmallFrees.{exact_still, none_held}}, specs.Retired.{DecidesFree}}
+use Rattle.mk_core.specs.Counts.{TalliesAreExact}
+use Rattle.mk_objects.specs.{Retiring.{HasLoaded, HasSeen, entry_seen, seen_free}, Deciding.{IsDecidedAt, counted}}
 
 abbrev pub Comes : PassState → Flight → PassState → Type 0
 Comes p f q = ComesTo is_loading p (CallIsAt p.seat f (world_of p)) [] q
@@ -59,10 +57,7 @@ module _ {p q : PassState} {f : Flight} (a : Comes p f q) where
 pub seen_at : {p q r : PassState} {f g : Flight} (cell : Cell) {double : Bool} → Comes p f q → HasSeen q cell r
     → is_freed (now_of q).words cell ≡ double → seen_free f double ≡ g
     → ComesTo is_loading q (CallIsAt q.seat g (world_of q)) (entry_seen q double) r
-seen_at {q} cell {double} a b freed to =
-    reaches_named (ap (λ (x : Bool). entry_seen q x) freed) (reaches_so b
-    (λ at. at_named at (ap (λ (x : Bool). seen_free (call_of q) x) freed
-    ∙ ap (λ (x : Flight). seen_free x double) (come_call a) ∙ to)))
+seen_at cell a b freed to = grind (arith, reaches_named, reaches_so, at_named)
 
 pub comes_seeing : {p q r : PassState} {f : Flight} (cell : Cell) → Comes p f q → HasSeen q cell r
     → is_freed (now_of q).words cell ≡ false → Comes p f r
@@ -86,35 +81,13 @@ decided_at at give same = record {
 
 tidy_by : {kinds : Step → Bool} {p q : PassState} {a : Answer} → Decides kinds p a q
     → TalliesAreTidy p.table.config p.seen → TalliesAreTidy q.table.config q.seen
-tidy_by {q} d tidy =
-    let same = d.world.counted in
-    subst (λ (x : PassState). TalliesAreTidy x.table.config q.seen) (sym d.same) (record {
-      cycles = ap (λ (x : Counted). x.cycles) same ∙ tidy.cycles ∙ ap in_a_word (sym d.counts.ends);
-      released = ap (λ (x : Counted). x.released) same ∙ tidy.released
-          ∙ ap (λ (x : Counted). in_a_word x.releases) (sym same);
-      full = ap (λ (x : Counted). x.full) same ∙ tidy.full ∙ ap in_a_word (sym d.counts.fulls);
-    })
+tidy_by d tidy = grind arith
 
 pub decides_free : {kinds : Step → Bool} {p q : PassState} {a : Answer} → Decides kinds p a q
     → is_run_gone (now_of q).words (now_of q).seats.holding.freed ≡ true
     → ((j : ℕ) → j < p.table.config.callers → is_held (now_of q).words j ≡ false)
     → TalliesAreExact q.table.config q.seen → DecidesFree kinds a p q
-decides_free {p} {q} d gone gates exact =
-    let now = reached_world d in
-    record {
-      pass = d.same;
-      does = d.does;
-      calls = d.calls;
-      decided = ap (λ (x : PassState). (call_of x).stage) d.same ∙ d.world.stage;
-      op = ap (λ (x : PassState). (call_of x).op) d.same ∙ d.world.op;
-      placing = now.placing;
-      cycle = now.cycle;
-      phase = ap (λ (x : Counted). x.phase) now.counted;
-      gone = gone;
-      gates = all_below_from _ (λ j. not (is_held (now_of q).words j)) (λ j lt. ap not (gates j lt));
-      exact = exact;
-      tidy = tidy_by d;
-    }
+decides_free d gone gates exact = grind (arith, reached_world, all_below_from, tidy_by)
 
 -- Where the turn had done nothing, and the call only came to be decided
 module _ {kinds : Step → Bool} {p q : PassState} {f : Flight} (a : Answer)

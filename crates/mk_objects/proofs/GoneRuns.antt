@@ -12,10 +12,7 @@ IsGoneIn w = is_run_gone w.now.words w.now.seats.holding.freed ≡ true
 
 same_run : (c : Config) (w : World) (s : Seat) (x : Step) → is_settling x ≡ true
     → (world_behind c w (record { seat = s; step = x })).now.seats.holding.freed ≡ w.now.seats.holding.freed
-same_run c w s (Step.Look x) h = refl
-same_run c w s (Step.Open j) h = refl
-same_run c w s (Step.Tally n v) h = refl
-same_run c w s _ h = cc
+same_run c w s x3 h = grind arith
 
 gone_on : {c : Config} {es : List Event} {e : Event} → IsHistory c es → ComesLast c es e → is_settling e.step ≡ true
     → (freed : Option RunPages) → (left c es).now.seats.holding.freed ≡ freed → IsGoneIn (left c es)

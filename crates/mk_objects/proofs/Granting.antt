@@ -5,8 +5,8 @@ use Rattle.mk_laws.proofs.Vocabulary.{Seat, Some, Stage, Steady, Step, Tally, Wo
 use Rattle.mk_laws.proofs.Vocabulary.{arith, base_made, bit_or, d_of, eq-eqb, false, flight_of, get_or-set_same}
 use Rattle.mk_laws.proofs.Vocabulary.{granted_base, header_at, is_phase, is_undecided_new, is_used_once, length}
 use Rattle.mk_laws.proofs.Vocabulary.{marks_place, not, object_made, or_left, or_right, pages_made, phase_of, place_now}
-use Rattle.mk_laws.proofs.Vocabulary.{refl, register_word, slice_index, slice_set, sym, true, without, world_behind, []}
-use Rattle.mk_laws.proofs.{Vocabulary.{◌%◌, ◌*◌, ◌++◌, ◌+◌, ◌<◌, ◌==◌, ◌^◌, ◌∙◌, ◌∷◌, ◌≡◌, ◌≤◌}, Tests.without_on}
+use Rattle.mk_laws.proofs.Vocabulary.{refl, slice_index, slice_set, sym, true, without, world_behind, [], ◌%◌, ◌*◌}
+use Rattle.mk_laws.proofs.{Vocabulary.{◌++◌, ◌+◌, ◌<◌, ◌==◌, ◌^◌, ◌∙◌, ◌∷◌, ◌≡◌, ◌≤◌}, Tests.without_on}
 use Rattle.mk_objects.proofs.Vocabulary.{Carving, IsAsLeft, IsGrantedAt, Serving, bits_made, object_at_place, steady_of}
 use Rattle.mk_objects.proofs.{Serving.{IsTakenAt, chosen_now, new_placed}, Unchanged.{HasCall, OfCaller, call_behind}}
 use Rattle.mk_core.{proofs.WordBits.{bits_added}, specs.Allocations.{type_made}}
@@ -27,10 +27,7 @@ all_marked : (bits : ℕ) (xs : List ℕ) (p : ℕ) → p < length xs
     → (without bits (slice_index (slice_set xs p (bit_or (slice_index xs p) bits)) p) == 0) ≡ true
 all_marked bits xs p lt =
     without_on bits bits (slice_index (slice_set xs p (bit_or (slice_index xs p) bits)) p)
-    (λ k h. bits_added xs p bits k lt h) (without_itself bits)
-  where
-    without_itself : (n : ℕ) → (without n n == 0) ≡ true
-    without_itself n = eq-eqb (without n n) 0 (omega (arith, and_self n))
+    (λ k h. bits_added xs p bits k lt h) (eq-eqb (without bits bits) 0 (omega (arith, and_self bits)))
 
 pub carving_marked : {c : Config} {s : Seat} {o : Object} {place : Place} {w v : World} → Serving c s o place w v
     → HasCall c v.now s → is_undecided_new (flight_of v.now s) ≡ true → phase_of v.now.words ≡ 1
@@ -111,24 +108,17 @@ granted_behind {c} {place} {w} {v} at (OfCaller k lt) room =
             held = n;
             allocations = w.allocations ++ object_at_place c f place ∷ [];
           }) (sym (ap (λ (x : Steady). x.held) at.steady));
-      register = λ j is. granted_register j is;
+      register = λ j is. let same : k ≡ j = cc in
+          let d : d_of (flight_of v.now (Caller k)).op ≡ d_of (flight_of w.now (Caller k)).op = grind arith in
+          let value = address_of (granted_base c (flight_of v.now (Caller k)) v.now.seats.holding.placing) % 2 ^ 64 in
+          ap (λ i. slice_index (slice_set v.now.words.registers (8 * k + d_of (flight_of v.now (Caller k)).op) value)
+          (8 * i + d_of (flight_of w.now (Caller k)).op)) (sym same)
+          ∙ ap (λ i. slice_index (slice_set v.now.words.registers (8 * k + i) value)
+          (8 * k + d_of (flight_of w.now (Caller k)).op)) d ∙ get_or-set_same v.now.words.registers
+          (8 * k + d_of (flight_of w.now (Caller k)).op) value 0 (room k refl)
+          ∙ ap (λ n. address_of n % 2 ^ 64) (ap (λ (x : Placing). granted_base c (flight_of v.now (Caller k)) x)
+          at.placing ∙ ap (λ (g : Flight). base_made (object_made c g.op) place) at.call);
     }
-  where
-    granted_register : (j : ℕ) → Caller k ≡ Caller j
-        → register_word (world_behind c v (record { seat = Caller k; step = Step.Grant })).now.words j
-        (d_of (flight_of w.now (Caller k)).op)
-        ≡ address_of (base_made (object_made c (flight_of w.now (Caller k)).op) place) % 2 ^ 64
-    granted_register j is =
-        let same : k ≡ j = cc in
-        let d : d_of (flight_of v.now (Caller k)).op ≡ d_of (flight_of w.now (Caller k)).op = grind arith in
-        let value = address_of (granted_base c (flight_of v.now (Caller k)) v.now.seats.holding.placing) % 2 ^ 64 in
-        ap (λ i. slice_index (slice_set v.now.words.registers (8 * k + d_of (flight_of v.now (Caller k)).op) value)
-        (8 * i + d_of (flight_of w.now (Caller k)).op)) (sym same)
-        ∙ ap (λ i. slice_index (slice_set v.now.words.registers (8 * k + i) value)
-        (8 * k + d_of (flight_of w.now (Caller k)).op)) d ∙ get_or-set_same v.now.words.registers
-        (8 * k + d_of (flight_of w.now (Caller k)).op) value 0 (room k refl)
-        ∙ ap (λ n. address_of n % 2 ^ 64) (ap (λ (x : Placing). granted_base c (flight_of v.now (Caller k)) x)
-        at.placing ∙ ap (λ (g : Flight). base_made (object_made c g.op) place) at.call)
 
 -- The tally of held words is set.
 pub tallied_behind : {c : Config} {s : Seat} {place : Place} {w v : World} (n : ℕ) → IsGrantedAt c s place w v

@@ -1,12 +1,10 @@
 -- Looks one after the other, and a part of a turn after looks.
-use Rattle.mk_laws.proofs.Vocabulary.{Bool, Config, Flight, Holding, List, Place, Seat, Some, Stage, Steady, Step}
-use Rattle.mk_laws.proofs.Vocabulary.{World, address_of, and_from, and_parts, ap, append-nil, arith, base_made, d_of}
-use Rattle.mk_laws.proofs.Vocabulary.{flight_of, inl, inr, is_undecided_new, object_made, phase_of, place_on_pages}
-use Rattle.mk_laws.proofs.Vocabulary.{refl, register_word, subst, sym, true, [], ◌%◌, ◌++◌, ◌^◌, ◌∙◌, ◌∷◌, ◌≡◌}
+use Rattle.mk_laws.proofs.Vocabulary.{Bool, Config, Flight, Holding, List, Place, Seat, Some, Steady, Step, World}
+use Rattle.mk_laws.proofs.Vocabulary.{and_from, and_parts, ap, append-nil, arith, is_undecided_new, phase_of}
+use Rattle.mk_laws.proofs.Vocabulary.{place_on_pages, refl, subst, sym, true, [], ◌∙◌, ◌∷◌, ◌≡◌}
 use Rattle.mk_objects.proofs.Vocabulary.{Does, GoesTo, IsAsLeft, IsGrantedAt, IsOutOfStop, IsUnplaced, OnlyLooks}
-use Rattle.mk_objects.proofs.Vocabulary.{PassState, WordsState, call_of, does_then, held_by_allocations, is_look}
-use Rattle.mk_objects.proofs.Vocabulary.{is_placing, now_of, object_at_place, object_for, own_calls, steady_of}
-use Rattle.mk_objects.proofs.{Vocabulary.world_of, Reaching.{reaches_nothing, seeing}, Counted.counts_then}
+use Rattle.mk_objects.proofs.Vocabulary.{PassState, call_of, does_then, is_look, is_placing, now_of, object_for}
+use Rattle.mk_objects.proofs.{Vocabulary.{own_calls, world_of}, Reaching.{reaches_nothing, seeing}, Counted.counts_then}
 use Rattle.mk_objects.{proofs.Unchanged.{left_joined, left_same}, specs.Placing.{HeldIsExact, IsGranted}}
 use Rattle.mk_core.specs.Growing.{Finding}
 use Rattle.mk_turns.specs.Doing.{are_of}
@@ -55,21 +53,7 @@ looks_joined {p} {q} {r} a b = by (subst (λ (x : PassState). OnlyLooks x r) a.s
 -- What is granted after looks is granted.
 granted_over : {c : Config} {s : Seat} {place : Place} {w u v : World} → IsAsLeft s w u → IsGrantedAt c s place u v
     → IsGrantedAt c s place w v
-granted_over {c} {s} {place} {w} {u} {v} a b = record {
-  call = b.call ∙ ap (λ (f : Flight). record f { stage = Stage.Give }) a.call;
-  placing = b.placing;
-  steady = b.steady ∙ ap (λ (x : Steady). record x {
-    pages = v.now.words.pages;
-    held = v.now.words.held;
-    allocations = x.allocations ++ object_at_place c (flight_of u.now s) place ∷ [];
-  }) a.steady ∙ ap (λ (f : Flight). record (steady_of w) {
-    pages = v.now.words.pages;
-    held = v.now.words.held;
-    allocations = w.allocations ++ object_at_place c f place ∷ [];
-  }) a.call;
-  register = λ k is. ap (λ (f : Flight). register_word v.now.words k (d_of f.op)) (sym a.call) ∙ b.register k is
-      ∙ ap (λ (f : Flight). address_of (base_made (object_made c f.op) place) % 2 ^ 64) a.call;
-}
+granted_over a b = grind arith
 
 pub granted_behind_looks : {p q r : PassState} {place : Place} → OnlyLooks p q → IsGranted q place r
     → IsGranted p place r
@@ -96,15 +80,10 @@ looks_unplaced p q a u =
     }
   where
     phase_same : phase_of (now_of q).words ≡ phase_of (now_of p).words → IsOutOfStop (now_of p) → IsOutOfStop (now_of q)
-    phase_same e (inl none) = inl (e ∙ none)
-    phase_same e (inr one) = inr (e ∙ one)
+    phase_same e x1 = grind arith
 
 pub looks_exact : {p q : PassState} → OnlyLooks p q → HeldIsExact p → HeldIsExact q
-looks_exact {p} {q} a exact =
-    let kept = looks_left p q a in
-    ap (λ (x : Steady). x.held) kept.steady ∙ exact
-    ∙ ap (λ (x : Steady). held_by_allocations p.table.config x.allocations) (sym kept.steady)
-    ∙ ap (λ (t : WordsState). held_by_allocations t.config (world_of q).allocations) (sym (looks_table a))
+looks_exact a exact = grind (arith, looks_left, looks_table)
 
 pub looks_object : (p q : PassState) → OnlyLooks p q → object_for q ≡ object_for p
 looks_object p q a = cc (looks_table a, looks_call a)
@@ -115,7 +94,4 @@ looks_pages {p} {q} a = ap (λ (x : Steady). x.pages) (looks_left p q a).steady
 -- the first fit on the pages is where an unplaced New goes
 pub goes_to : {p : PassState} (place : Place) → IsUnplaced p → place_on_pages p.table.config.resident
     (now_of p).words.pages (object_for p) ≡ Some place → GoesTo p place
-goes_to {p} place u fit = record {
-  unplaced = u;
-  goes = cc (u.new, u.placing, fit);
-}
+goes_to place u fit = grind arith

@@ -1,14 +1,13 @@
 -- A large object is freed and counted, while all others are stopped.
-use Rattle.mk_laws.proofs.Vocabulary.{Block, Bool, Cell, Free, Header, Holds, IsHistory, Later, LeafBlock, LeafRun}
-use Rattle.mk_laws.proofs.Vocabulary.{None, Option, Run, RunPages, Some, Steady, Tally, ℕ, ap, arith, false}
-use Rattle.mk_laws.proofs.Vocabulary.{freed_where_it_stands, fresh_words_of, header_in, heads_run, if◌then◌else◌}
-use Rattle.mk_laws.proofs.Vocabulary.{in_a_word, is_held, map, refl, run_headed, subst, sym, true, words_under, ◌*◌}
-use Rattle.mk_laws.proofs.Vocabulary.{◌+◌, ◌<◌, ◌^◌, ◌↔◌, ◌∙◌, ◌≡◌}
+use Rattle.mk_laws.proofs.Vocabulary.{Bool, Cell, Header, Holds, IsHistory, None, Option, RunPages, Some, Steady, Tally}
+use Rattle.mk_laws.proofs.Vocabulary.{ℕ, ap, arith, false, freed_where_it_stands, fresh_words_of, header_in, heads_run}
+use Rattle.mk_laws.proofs.Vocabulary.{if◌then◌else◌, in_a_word, is_held, map, run_headed, subst, sym, true, words_under}
+use Rattle.mk_laws.proofs.Vocabulary.{◌*◌, ◌+◌, ◌<◌, ◌^◌, ◌↔◌, ◌∙◌, ◌≡◌}
 use Rattle.mk_objects.proofs.Vocabulary.{Changes, FreesCell, FreesOnce, HasFreed, IsFreedAt, IsTrue, MayFree, OnlyLooks}
 use Rattle.mk_objects.proofs.Vocabulary.{PassState, SetsTally, StaysSo, held_by_allocations, is_following, now_of}
-use Rattle.mk_objects.proofs.{Vocabulary.{with_tally, words_freed, world_of}, DecidedFrees.{Stays, held_stays}}
-use Rattle.mk_objects.proofs.{DecidedFrees.{stays_now, stays_then}, FreedObjects.{HasRun, IsObjectAt, its_freed}}
-use Rattle.mk_objects.proofs.{FreedObjects.{its_run, large_held, object_at, own}, GoneRuns.{IsGoneIn, still_gone}}
+use Rattle.mk_objects.proofs.{Vocabulary.{with_tally, world_of}, DecidedFrees.{Stays, held_stays, stays_now}}
+use Rattle.mk_objects.proofs.{DecidedFrees.stays_then, FreedObjects.{HasRun, IsObjectAt, its_freed, its_run}}
+use Rattle.mk_objects.proofs.{FreedObjects.{large_held, object_at, own}, GoneRuns.{IsGoneIn, still_gone}}
 use Rattle.mk_objects.proofs.SmallFrees.{freed_now, frees_counted, fresh_told_by, tally_between}
 use Rattle.mk_objects.proofs.ReachedParts.{reached_table, reached_world}
 use Rattle.mk_objects.specs.{Deciding.ClearsRun, Unmapping.IsStillMapped}
@@ -25,19 +24,11 @@ same_count page n count is = grind arith
 
 heads_by : (x : Option Header) (page count : ℕ) → run_headed x page ≡ Some (record { page = page; count = count })
     → HeadsRun x count
-heads_by (Some (Run n mapped)) page count is = grind (arith, same_count)
-heads_by (Some (LeafRun n)) page count is = grind (arith, same_count)
-heads_by (Some Free) page count is = cc
-heads_by (Some (Block class)) page count is = cc
-heads_by (Some (LeafBlock class)) page count is = cc
-heads_by (Some (Later d mapped)) page count is = cc
-heads_by None page count is = cc
+heads_by x0 page count is = grind (arith, same_count)
 
 -- and what heads none
 pub heads_none : (x : Option Header) (page : ℕ) → run_headed x page ≡ None → heads_run x ≡ false
-heads_none (Some (Run n mapped)) page is = cc
-heads_none (Some (LeafRun n)) page is = cc
-heads_none _ page is = refl
+heads_none x0 page is = grind arith
 
 module _ {p : PassState} {reg u : ℕ} {cell : Cell} (count : ℕ) (may : MayFree p reg u cell)
     (before : IsHistory p.table.config p.seen) (run : run_headed (header_in (now_of p).words cell.page) cell.page
@@ -62,9 +53,6 @@ module _ {p : PassState} {reg u : ℕ} {cell : Cell} (count : ℕ) (may : MayFre
       let words = heads.words in
       let exact = may.exact.held in
       omega arith
-
-  no_words : words_freed (now_of p).words (Some cell) ≡ 0
-  no_words = ap (λ b. if b then 0 else words_under (header_in (now_of p).words cell.page)) heads.heads
 
   module _ {q : PassState} (freed : HasFreed p cell q) where
     now : IsFreedAt p.table.config p.seat cell (world_of p) (world_of q)
@@ -104,7 +92,7 @@ module _ {p : PassState} {reg u : ℕ} {cell : Cell} (count : ℕ) (may : MayFre
         fresh_exact =
             let told = fresh_told_by p r cell before behind (sym (reached_table freed) ∙ sym (reached_table follows))
             may.exact (stays.fresh_words ∙ now.fresh) in
-            let none = no_words in
+            let none = ap (λ b. if b then 0 else words_under (header_in (now_of p).words cell.page)) heads.heads in
             let was : (now_of r).words.fresh ≡ (now_of p).words.fresh =
             ap (λ (x : Steady). x.fresh) changed.steady ∙ clears.fresh ∙ ap (λ (x : Steady). x.fresh) now.steady in
             let exact = may.exact.fresh in

@@ -1,8 +1,8 @@
 -- The register of a Free is loaded.
 use Rattle.mk_laws.proofs.Vocabulary.{Answer, AreOfOthers, Bool, Caller, Config, Event, Flight, Holds, IsEnabled}
-use Rattle.mk_laws.proofs.Vocabulary.{IsHistory, List, Load, Moment, None, Null, Num, Op, Option, Progress, Ptr, Seat}
-use Rattle.mk_laws.proofs.Vocabulary.{Some, Stage, Step, Value, Words, World, ℕ, answer_decided, ap, arith, bases_of}
-use Rattle.mk_laws.proofs.Vocabulary.{begun, caller_number, entry_of, eqb-true, false, flight_of, found, if◌then◌else◌}
+use Rattle.mk_laws.proofs.Vocabulary.{IsHistory, List, Load, Moment, None, Null, Op, Option, Progress, Seat, Some}
+use Rattle.mk_laws.proofs.Vocabulary.{Stage, Step, Value, Words, World, ℕ, answer_decided, ap, arith, bases_of, begun}
+use Rattle.mk_laws.proofs.Vocabulary.{caller_number, entry_of, eqb-true, false, flight_of, found, if◌then◌else◌}
 use Rattle.mk_laws.proofs.Vocabulary.{image_of, is_held, is_undecided_free, left, length, lt-ltb, never_behind}
 use Rattle.mk_laws.proofs.Vocabulary.{progress_reg, refl, reg_access, register_at, register_met, register_word, shown}
 use Rattle.mk_laws.proofs.Vocabulary.{subst, sym, true, world_behind, [], ◌%◌, ◌*◌, ◌++◌, ◌+◌, ◌/◌, ◌<◌, ◌==◌, ◌∙◌, ◌∷◌}
@@ -65,11 +65,11 @@ module _ {p : PassState} {r : ℕ} (u : IsUnloaded p r) where
   loads_within : {s : Seat} → s ≡ Caller loading → Holds p.table.config (now_of p) s → loading < p.table.config.callers
   loads_within is holds = (subst (λ (x : Seat). Holds p.table.config (now_of p) x) is holds).0
 
-  pub load_may : {o : Option Op} → IsTurn p o → IsEnabledTo p Step.Reg
+  pub load_may : IsTurn p → IsEnabledTo p Step.Reg
   load_may turn = grind (arith, loader, loading, reg_enabled, loads_within)
 
   -- whether it decides the Free or not
-  pub load_admits : {o : Option Op} → IsTurn p o → IsHistory p.table.config p.seen → IsAdmittedTo p Step.Reg
+  pub load_admits : IsTurn p → IsHistory p.table.config p.seen → IsAdmittedTo p Step.Reg
   load_admits turn h = free_step_admits Step.Reg loader turn.holds h u refl
 
   pub load_meets : r ≡ register_met (call_of p) (call_of p).stage
@@ -95,16 +95,10 @@ loads_answer r n = grind (arith, load_progress)
 
 loaded_entry : (k : ℕ) (o : Op) (b : Bool)
     → entry_of k o (if b then Some Answer.Done else None) ≡ (if b then entry_of k o (Some Answer.Done) else [])
-loaded_entry k o true = refl
-loaded_entry k o false = refl
+loaded_entry k o x2 = grind arith
 
 loaded_no_full : (b : Bool) → answers_full (if b then Some Answer.Done else None) ≡ false
-loaded_no_full true = refl
-loaded_no_full false = refl
-
-loaded_found : (c : Config) (m : Moment) (k r : ℕ) → flight_of m (Caller k) ≡ begun (Op.Free r)
-    → found c m (record { seat = Caller k; step = Step.Reg }) ≡ register_word m.words k r
-loaded_found c m k r call = ap (λ (f : Flight). register_word m.words k (register_met f f.stage)) call
+loaded_no_full x0 = grind arith
 
 -- A load changes no word.
 loaded_words : (c : Config) (m : Moment) (k r : ℕ) → flight_of m (Caller k) ≡ begun (Op.Free r)
@@ -122,7 +116,8 @@ load_steps : (c : Config) {k : ℕ} (r : ℕ) {n : ℕ} {w v : World} → k < le
 load_steps c {k} r {n} {v} lt kept call small is =
     let e : Event = record { seat = Caller k; step = Step.Reg } in
     let here : flight_of v.now (Caller k) ≡ begun (Op.Free r) = kept.call ∙ call in
-    let same : found c v.now e ≡ n = loaded_found c v.now k r here ∙ kept.registers k r refl small ∙ sym is in
+    let same : found c v.now e ≡ n = (ap (λ (f : Flight). register_word v.now.words k (register_met f f.stage)) here)
+    ∙ kept.registers k r refl small ∙ sym is in
     let words = loaded_words c v.now k r here in
     record {
       at = record {
@@ -152,7 +147,7 @@ module _ (p : PassState) (r n : ℕ) (v : World) (small : r < 8) (known : Known 
       (ap (λ (x : Seat). flight_of (now_of p) x) (sym e) ∙ call) small is in
       subst (λ (x : Seat). Lands x) (sym e) (to.at, to.answer)
 
-pub load_reaches : {p q : PassState} {r n : ℕ} {o : Option Op} → r < 8 → IsTurn p o → IsUnloaded p r → Acts p Step.Reg q
+pub load_reaches : {p q : PassState} {r n : ℕ} → r < 8 → IsTurn p → IsUnloaded p r → Acts p Step.Reg q
     → n ≡ register_of p r → HasLoaded p r n q
 load_reaches {p} {r} {n} small turn u a is =
     let caller = unloaded_caller p r u.call in
@@ -172,7 +167,7 @@ load_reaches {p} {r} {n} small turn u a is =
     })
 
 -- A load that finds a pointer decides nothing.
-pub load_keeps : {p q : PassState} {r n : ℕ} {o : Option Op} → r < 8 → IsTurn p o → IsUnloaded p r → Acts p Step.Reg q
+pub load_keeps : {p q : PassState} {r n : ℕ} → r < 8 → IsTurn p → IsUnloaded p r → Acts p Step.Reg q
     → n ≡ register_of p r → (n == 0) ≡ false → value_of q r ≡ value_of p r
 load_keeps {p} {r} {n} small turn u a is some =
     let caller = unloaded_caller p r u.call in
@@ -188,9 +183,7 @@ loaded_undecided u at some = grind arith
 -- A register whose word is 0 is null.
 
 null_by : (bases : List ℕ) (v : Value) → IsBase v → image_of bases v ≡ 0 → v ≡ Null
-null_by bases Null base is = refl
-null_by bases (Num n) base is = absurd base
-null_by bases (Ptr number ty offset) base is = absurd (omega arith)
+null_by bases x1 base is = grind arith
 
 null_at : {c : Config} {es : List Event} (k r : ℕ) → IsHistory c es → r < 8 → flight_of (left c es).now (Caller k)
     ≡ begun (Op.Free r) → IsBase (register_at (never_behind c es) k r) → register_word (left c es).now.words k r ≡ 0

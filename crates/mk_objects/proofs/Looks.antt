@@ -18,9 +18,9 @@ holder_exists c m (Caller k) h = lt-ltb k c.callers h.0
 holder_exists c m (Marker k) h = absurd h
 holder_exists c m Host h = refl
 
-pub acting_now : (p : PassState) (o : Option Op) → IsTurn p o → is_acting (call_of p).stage ≡ true
+pub acting_now : (p : PassState) → IsTurn p → is_acting (call_of p).stage ≡ true
     → IsActing p.table.config (now_of p) p.seat
-acting_now p o turn acts = record { there = holder_exists p.table.config (now_of p) p.seat turn.holds; acts = acts }
+acting_now p turn acts = record { there = holder_exists p.table.config (now_of p) p.seat turn.holds; acts = acts }
 
 pub acting_caller : (p : PassState) → is_acting (call_of p).stage ≡ true → IsCallers p
 acting_caller p acts = by p.seat refl acts
@@ -54,14 +54,14 @@ plain_is_idle OfHeld = refl
 plain_is_idle OfFresh = refl
 plain_is_idle OfPhase = refl
 
-pub look_reaches : {p q : PassState} {o : Option Op} {x : Word} → IsTurn p o → is_acting (call_of p).stage ≡ true
+pub look_reaches : {p q : PassState} {x : Word} → IsTurn p → is_acting (call_of p).stage ≡ true
     → IsPlain x → Acts p (Step.Look x) q → OnlyLooks p q
-look_reaches {p} {o} turn acts plain a =
+look_reaches {p} turn acts plain a =
     reaches_still _ _ (reaches_nothing is_look p _ (left_same _ _)) a refl refl (acting_caller p acts) (plain_is_idle
-    plain) (looks_on p (acting_now p o turn acts) plain)
+    plain) (looks_on p (acting_now p turn acts) plain)
 
 -- What it finds is what the word is for the holder.
-module _ (p q : PassState) (o : Option Op) (x : Word) (n : ℕ) (turn : IsTurn p o) (f : Finds p (Step.Look x) n q) where
+module _ (p q : PassState) (x : Word) (n : ℕ) (turn : IsTurn p) (f : Finds p (Step.Look x) n q) where
   same : steady_of (left p.table.config (p.seen ++ f.makes.others)) ≡ steady_of (world_of p)
   same = (((made p (Step.Look x) q f.makes).frame.turn turn.holds).0).steady
 
@@ -75,13 +75,13 @@ module _ (p q : PassState) (o : Option Op) (x : Word) (n : ℕ) (turn : IsTurn p
       by Word.Fresh h = ap (λ (t : Steady). t.fresh) same
       by _ h = cc
 
-pub found_phase : {p q : PassState} {o : Option Op} {n : ℕ} → IsTurn p o → Finds p (Step.Look Word.Phase) n q
+pub found_phase : {p q : PassState} {n : ℕ} → IsTurn p → Finds p (Step.Look Word.Phase) n q
     → n % 8 ≡ phase_of (now_of p).words
 found_phase {p} {q} turn f =
     ap (λ i. i % 8) f.finds ∙ ap (λ (t : Steady). t.phase)
     (((made p (Step.Look Word.Phase) q f.makes).frame.turn turn.holds).0).steady
 
-pub found_quarantine : {p q : PassState} {o : Option Op} {page n : ℕ} → IsTurn p o
+pub found_quarantine : {p q : PassState} {page n : ℕ} → IsTurn p
     → Finds p (Step.Look (Word.Quar page)) n q → n ≡ named_word (now_of p).words (Word.Quar page)
 found_quarantine {p} {q} {page} turn f =
     let same = (((made p (Step.Look (Word.Quar page)) q f.makes).frame.turn turn.holds).0).steady in

@@ -155,11 +155,10 @@ module _ {c : Config} {m : Moment} {s : Seat} (at : IsActing c m s) where
   may_open j lt other held low gone =
       may_by (Step.Open j) refl (order_of_acting c m s (Step.Open j) at.acts refl)
       (and_from (nat_lt j c.callers) (not (is_number_of s j)) (lt-ltb j c.callers lt) (ap not other)) held
-      (ap not (off_three low)) refl gone
-    where
-      off_three : IsOutOfStop m → (phase_of m.words == 3) ≡ false
-      off_three (inl none) = ap (λ (n : ℕ). n == 3) none
-      off_three (inr one) = ap (λ (n : ℕ). n == 3) one
+      (ap not (elim low [
+        | inl none ↦ ap (λ (n : ℕ). n == 3) none
+        | inr one ↦ ap (λ (n : ℕ). n == 3) one
+      ])) refl gone
 
   pub may_unmap : (p v : ℕ) → p < c.pages → IsOutOfStop m → others_are_held c.callers m.words s ≡ true
       → unmaps m.words m.seats.holding.freed p v ≡ true → IsEnabled c m (record { seat = s; step = Step.Head p v })

@@ -11,19 +11,10 @@ use Rattle.mk_geom.specs.PageUses.{place_on_uses}
 use Rattle.mk_core.specs.Calls.{has_type}
 use Rattle.mk_objects.specs.{Placing.place_now_for, Shapes.object_shaped, declared.objects.Shape.Shape}
 
--- the operation of a turn that is for an undecided New
-pub op_is : {p : PassState} {x : Option Op} → IsTurn p x → is_undecided_new (call_of p) ≡ true → x ≡ Some (call_of p).op
-op_is turn new = grind arith
-
 type_of : (c : Config) (o : Op) → has_operands c o ≡ true → has_type c o ≡ true
 type_of c o h = grind (arith, and_parts)
 
--- It is known where it is looked at.
-pub op_known : {p : PassState} {x y : Option Op} (o : Op) → IsTurn p x → is_undecided_new (call_of p) ≡ true → y ≡ x
-    → y ≡ Some o → (call_of p).op ≡ o
-op_known o turn new same is = grind (arith, op_is)
-
--- Its type exists,
+-- The type that is asked for exists,
 pub type_asked : (p : PassState) {w : WordsState} {o : Op} → p.table ≡ w → IsHistory p.table.config p.seen
     → (call_of p).op ≡ o → has_type w.config o ≡ true
 type_asked p table h is = grind (arith, type_of, seat_operands, known_left)
@@ -46,15 +37,15 @@ pub goes_behind : {p q : PassState} (place : Place) → OnlyLooks p q → IsUnpl
 goes_behind place a u fit = grind (arith, goes_to, looks_unplaced, looks_table, looks_pages, looks_object)
 
 -- and the place among the allocations.
-pub place_found : {p : PassState} {x : Option Op} {found : Option Place} → IsTurn p x → IsHistory p.table.config p.seen
+pub place_found : {p : PassState} {found : Option Place} → IsTurn p → IsHistory p.table.config p.seen
     → IsUnplaced p
     → place_on_pages p.table.config.resident (now_of p).words.pages (object_for p) ≡ found → place_now_for p ≡ found
-place_found {p} {x} turn h u fit =
+place_found {p} turn h u fit =
     let acts = new_is_acting (call_of p) u.new in
     sym (first_fit_finds_the_place p.table.config p.seen h (object_for p)
-    (unplaced_settled p (acting_now p x turn acts) (acting_caller p acts) u h)) ∙ fit
+    (unplaced_settled p (acting_now p turn acts) (acting_caller p acts) u h)) ∙ fit
 
-pub fit_within : {p : PassState} {x : Option Op} (place : Place) → IsTurn p x → IsHistory p.table.config p.seen
+pub fit_within : {p : PassState} (place : Place) → IsTurn p → IsHistory p.table.config p.seen
     → IsUnplaced p → place_on_pages p.table.config.resident (now_of p).words.pages (object_for p) ≡ Some place
     → place.page < length (now_of p).words.pages
 fit_within place turn h u fit =

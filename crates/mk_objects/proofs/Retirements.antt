@@ -1,17 +1,17 @@
 -- A Free's whole turn: its register was null, or its object was freed, or found freed.
-use Rattle.mk_laws.proofs.Vocabulary.{Answer, Bool, Cell, Flight, Holding, Holds, IsHistory, List, Null}
-use Rattle.mk_laws.proofs.Vocabulary.{PlacedAllocation, Ptr, Some, Stage, Steady, Value, ℕ, allocation_at, ap, arith}
-use Rattle.mk_laws.proofs.Vocabulary.{false, freed_where_it_stands, has_bit, if◌then◌else◌, is_freed, is_held, length}
-use Rattle.mk_laws.proofs.Vocabulary.{map, never_behind, nothing_done, placed_at, quarantine_word, refl, slice_index}
-use Rattle.mk_laws.proofs.Vocabulary.{subst, sym, target, true, true≢false, [], ◌%◌, ◌<◌, ◌==◌, ◌^◌, ◌∙◌, ◌≡◌}
+use Rattle.mk_laws.proofs.Vocabulary.{Answer, Bool, Cell, Flight, Holds, IsHistory, List, Null, PlacedAllocation, Ptr}
+use Rattle.mk_laws.proofs.Vocabulary.{Some, Stage, Steady, Value, ℕ, allocation_at, ap, arith, false}
+use Rattle.mk_laws.proofs.Vocabulary.{freed_where_it_stands, has_bit, if◌then◌else◌, is_freed, is_held, length, map}
+use Rattle.mk_laws.proofs.Vocabulary.{never_behind, nothing_done, quarantine_word, refl, slice_index, subst, sym}
+use Rattle.mk_laws.proofs.Vocabulary.{target, true, true≢false, [], ◌%◌, ◌<◌, ◌==◌, ◌^◌, ◌∙◌, ◌≡◌}
 use Rattle.mk_objects.proofs.Vocabulary.{CallIsAt, ComesTo, FreesCell, IsBase, IsFreeAt, IsOutOfStop, MayFree}
 use Rattle.mk_objects.proofs.Vocabulary.{OnlyLooks, PassState, WordsState, call_of, entry_for}
 use Rattle.mk_objects.proofs.Vocabulary.{histories_keep_the_invariant, is_freeing, is_loading, loaded_free}
-use Rattle.mk_objects.proofs.Vocabulary.{none_is_held, now_of, steady_of, value_of, world_of}
-use Rattle.mk_objects.proofs.FreedObjects.{IsObjectAt, granted, it_is_freed, its_freed, object_at}
-use Rattle.mk_objects.proofs.{FreedOnce.{due_since, due_then, none_due, once_behind}, FreesUnderway.{Comes, come_call}}
-use Rattle.mk_objects.proofs.FreesUnderway.{come_now, come_table, comes_loaded, comes_looking, comes_seeing}
-use Rattle.mk_objects.proofs.FreesUnderway.{decides_free, is_at_then, leaves_all, same_allocations, seen_at}
+use Rattle.mk_objects.proofs.{Vocabulary.{none_is_held, now_of, value_of, world_of}, FreedObjects.{IsObjectAt, granted}}
+use Rattle.mk_objects.proofs.{FreedObjects.{it_is_freed, its_freed, object_at}, FreedOnce.{due_since, due_then}}
+use Rattle.mk_objects.proofs.{FreedOnce.{none_due, once_behind}, FreesUnderway.{Comes, come_call, come_now, come_table}}
+use Rattle.mk_objects.proofs.FreesUnderway.{comes_loaded, comes_looking, comes_seeing, decides_free, is_at_then}
+use Rattle.mk_objects.proofs.FreesUnderway.{leaves_all, same_allocations, seen_at}
 use Rattle.mk_objects.proofs.JoinedLooks.{looks_call, looks_left, looks_table}
 use Rattle.mk_objects.proofs.ReachedParts.{reaches_answered, reaches_named, reaches_wider}
 use Rattle.mk_objects.proofs.{DecidedFrees.{Decides, decided_behind}, FreeSteps.low_half}
@@ -67,12 +67,9 @@ module _ (p q : PassState) (r : ℕ) (f : Flight) (cell : Cell) (come : Comes p 
   within : x.number < length (world_of p).allocations
   within = subst (λ (xs : List PlacedAllocation). x.number < length xs) same_list (granted q r cell hq x)
 
-  twin : (placed_at (world_of q).allocations x.number).freed ≡ (allocation_at (never_behind p.table.config p.seen)
-      x.number).freed
-  twin = cc (same_list, (histories_keep_the_invariant p.table.config p.seen hp).mirrors.twins.freed x.number within)
-
   pub never_freed : is_freed (now_of q).words cell ≡ (allocation_at (never_behind p.table.config p.seen) x.number).freed
-  never_freed = its_freed q r cell hq x low_there ∙ twin
+  never_freed = its_freed q r cell hq x low_there ∙
+      (cc (same_list, (histories_keep_the_invariant p.table.config p.seen hp).mirrors.twins.freed x.number within))
 
   pub is_never_freed : is_freed (now_of q).words cell ≡ true
       → IsFreed (never_behind p.table.config p.seen) (value_of p r)
@@ -150,28 +147,20 @@ module _ {p q : PassState} {r u : ℕ} {cell : Cell} (unloaded : IsUnloaded p r)
       ≡ false → IsOutOfStop (now_of p) → (now_of p).seats.holding ≡ nothing_done → TalliesAreExact p.table.config p.seen
       → MayFree s r u cell
   may_free {s} seen still live low nothing exact =
-      let f : Flight = loaded_free r u in
-      let there : Comes p f s = comes_seeing cell x.come seen live in
-      let was : CallIsAt p.seat f (world_of p) (world_of q) = come_now x.come in
-      let now : CallIsAt p.seat f (world_of p) (world_of s) = come_now there in
-      let same : steady_of (world_of s) ≡ steady_of (world_of q) = now.steady ∙ sym was.steady in
-      let table : q.table ≡ s.table = sym (come_table x.come) ∙ come_table there in
-      record {
-        free = record {
-          call = come_call there;
-          small = unloaded.small;
-          base = subst (λ (v : Value). IsBase v) (sym (still ∙ x.keeps)) unloaded.base;
-        };
-        some = x.some;
-        target = target_stays q s cell table (come_call there ∙ sym (come_call x.come))
-            (ap (λ (y : Steady). y.pages) same) x.at;
-        within = subst (λ (t : WordsState). cell.page < t.config.pages) table x.within;
-        index = x.index;
-        live = freed_same (now_of q).words (now_of s).words cell (ap (λ (y : Steady). y.freed) same) ∙ live;
-        phase = out_of_stop (now_of p) (now_of s) (ap (λ (y : Steady). y.phase) now.steady) low;
-        none_freed = ap (λ (h : Holding). h.freed) (now.holding ∙ nothing);
-        exact = exact_still p s (come_table there) now.steady exact;
-      }
+      grind (
+        arith,
+        comes_seeing,
+        come_now,
+        come_table,
+        free,
+        come_call,
+        target_stays,
+        within,
+        freed_same,
+        out_of_stop,
+        exact_still,
+        Comes,
+      )
 
 -- No gate is held there where none was.
 pub none_held_there : {p q : PassState} {f : Flight} → Comes p f q

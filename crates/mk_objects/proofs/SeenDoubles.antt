@@ -97,7 +97,7 @@ module _ (p : PassState) (cell : Cell) (v : World) (known : Known p.table.config
       (ap (λ (x : Seat). target p.table.config.pages (now_of p).words (flight_of (now_of p) x)) (sym e) ∙ at) in
       subst (λ (x : Seat). Sees x) (sym e) (by.at, by.answer)
 
-pub see_reaches : {p q : PassState} (cell : Cell) {o : Option Op} → IsTurn p o → is_undecided_free (call_of p) ≡ true
+pub see_reaches : {p q : PassState} (cell : Cell) → IsTurn p → is_undecided_free (call_of p) ≡ true
     → target p.table.config.pages (now_of p).words (call_of p) ≡ Some cell → Acts p (Step.Look (Word.Quar cell.page)) q
     → HasSeen p cell q
 see_reaches {p} cell turn free at a =
@@ -118,7 +118,7 @@ see_reaches {p} cell turn free at a =
     })
 
 -- A look that finds its target unfreed decides nothing.
-pub see_keeps : {p q : PassState} (r : ℕ) (cell : Cell) {o : Option Op} → r < 8 → IsTurn p o
+pub see_keeps : {p q : PassState} (r : ℕ) (cell : Cell) → r < 8 → IsTurn p
     → is_undecided_free (call_of p) ≡ true → target p.table.config.pages (now_of p).words (call_of p) ≡ Some cell
     → is_freed (now_of p).words cell ≡ false → Acts p (Step.Look (Word.Quar cell.page)) q → value_of q r ≡ value_of p r
 see_keeps {p} r cell small turn free at live a =

@@ -37,12 +37,11 @@ fit_of c m f place new at placed = grind arith
 
 within_of : (limit : ℕ) (pages : List Page) {o : Object} (place : Place) {n : ℕ} → IsSized o → length pages ≡ n
     → FitsOnFreePages limit pages o place ⊎ FitsInBlock pages o place → place.page < n
-within_of limit pages {o} place sized len (inl f) = let some = pages_some o sized in let w = f.within in omega arith
-within_of limit pages place sized len (inr b) = let w = b.within in omega arith
+within_of limit pages place sized len x5 = grind (arith, pages_some)
 
-pub knows_place : {p : PassState} {o : Option Op} {place : Place} → IsTurn p o → IsHistory p.table.config p.seen
+pub knows_place : {p : PassState} {place : Place} → IsTurn p → IsHistory p.table.config p.seen
     → GoesTo p place → KnowsPlace p place
-knows_place {p} {o} {place} turn h goes =
+knows_place {p} {place} turn h goes =
     let c : Config = p.table.config in
     let known = known_left c p.seen h.within_limits h.enabled in
     let new = goes.unplaced.new in
@@ -53,7 +52,7 @@ knows_place {p} {o} {place} turn h goes =
     let found = fits c.resident (now_of p).words.pages (object_for p) place sized fit in
     let order = (histories_keep_the_invariant c p.seen h).order in
     record {
-      acting = acting_now p o turn acts;
+      acting = acting_now p turn acts;
       caller = acting_caller p acts;
       sized = sized;
       serving = record {
@@ -97,8 +96,7 @@ phase_kept : {s : Seat} {o : Object} {place : Place} {c : Config} {w u v : World
 phase_kept at kept = ap (λ (x : Steady). x.phase) kept.steady ∙ ap (λ (x : Steady). x.phase) at.steady
 
 pub out_of_stop : (m n : Moment) → phase_of n.words ≡ phase_of m.words → IsOutOfStop m → IsOutOfStop n
-out_of_stop m n same (inl none) = inl (same ∙ none)
-out_of_stop m n same (inr one) = inr (same ∙ one)
+out_of_stop m n same x3 = grind arith
 
 pub served_acting : {p : PassState} {place : Place} {v : World} → KnowsPlace p place
     → Serving p.table.config p.seat (object_for p) place (world_of p) v → IsActing p.table.config v.now p.seat
@@ -118,10 +116,6 @@ module _ {p : PassState} {place : Place} (goes : GoesTo p place) (k : KnowsPlace
   pub mark_may : phase_of (now_of p).words ≡ 1 → IsEnabledTo p (Step.Mark place.page (bits_made (object_for p)))
   mark_may one = grind (arith, may_mark_place, serving_marks)
 
-  free_now : {v : World} → IsAsLeft p.seat (world_of p) v → (d : ℕ) → d < pages_made (object_for p)
-      → header_at v.now.words (place.page + d) ≡ 0
-  free_now kept d lt = grind (arith, frees)
-
   pub marks_first : {q : PassState} → phase_of (now_of p).words ≡ 1
       → Acts p (Step.Mark place.page (bits_made (object_for p))) q → HasCarved p place 0 q
   marks_first one a =
@@ -133,7 +127,7 @@ module _ {p : PassState} {place : Place} (goes : GoesTo p place) (k : KnowsPlace
       in
       let some = pages_some (object_for p) k.sized in
       carving_marked serving call (served_new goes serving) (ap (λ (x : Steady). x.phase) kept.steady ∙ one)
-      (free_now kept) some (let marks = pages.marks in let within = k.within in omega arith))
+      (λ d lt. grind (arith, frees)) some (let marks = pages.marks in let within = k.within in omega arith))
 
   pub marks_none : phase_of (now_of p).words ≢ 1 → HasCarved p place 0 p
   marks_none other =
@@ -141,8 +135,7 @@ module _ {p : PassState} {place : Place} (goes : GoesTo p place) (k : KnowsPlace
       (carving_unmarked k.serving (none goes.unplaced.phase) (λ d lt. frees.free d lt))
     where
       none : IsOutOfStop (now_of p) → phase_of (now_of p).words ≡ 0
-      none (inl zero) = zero
-      none (inr one) = absurd (other one)
+      none x0 = grind arith
 
   -- `head`
   pub head_may : {q : PassState} {n : ℕ} → HasCarved p place n q → n < pages_made (object_for p)

@@ -1,13 +1,13 @@
 -- A New while it is served: how far its pages are, step by step.
-use Rattle.mk_laws.proofs.Vocabulary.{Chosen, Config, Flight, Granted, IsSized, List, Moment, Object, Option, Page}
-use Rattle.mk_laws.proofs.Vocabulary.{Place, Placing, Seat, Some, Steady, Step, Unplaced, Used, Words, World, ℕ}
-use Rattle.mk_laws.proofs.Vocabulary.{and_from, ap, arith, carves, cases_eq, cases_lt, chosen, eq-eqb, false, flight_of}
-use Rattle.mk_laws.proofs.Vocabulary.{free_page, get_or-set_other, get_or-set_same, has_bit, header_at, header_made}
-use Rattle.mk_laws.proofs.Vocabulary.{inl, inr, is_marked_first, is_next_header, is_undecided_new, is_used_once, le-leb}
-use Rattle.mk_laws.proofs.Vocabulary.{length, length-set, lt-ltb, made_shows, ne_eqb, object_made, pages_made}
-use Rattle.mk_laws.proofs.Vocabulary.{part_not_free, place_by_placing, place_now, refl, set_past, slice_index_or}
-use Rattle.mk_laws.proofs.Vocabulary.{slice_set, sym, taken, takes_cell, true, used_at, world_behind, ◌+◌, ◌-◌, ◌<◌}
-use Rattle.mk_laws.proofs.{Vocabulary.{◌^◌, ◌∙◌, ◌≡◌, ◌≢◌}, Tests.{or_on, without_on}}
+use Rattle.mk_laws.proofs.Vocabulary.{Chosen, Config, Flight, IsSized, List, Moment, Object, Option, Page, Place}
+use Rattle.mk_laws.proofs.Vocabulary.{Placing, Seat, Some, Steady, Step, Used, Words, World, ℕ, and_from, ap, arith}
+use Rattle.mk_laws.proofs.Vocabulary.{carves, cases_eq, cases_lt, chosen, eq-eqb, false, flight_of, free_page}
+use Rattle.mk_laws.proofs.Vocabulary.{get_or-set_other, get_or-set_same, has_bit, header_at, header_made, inl, inr}
+use Rattle.mk_laws.proofs.Vocabulary.{is_next_header, is_undecided_new, is_used_once, le-leb, length, length-set}
+use Rattle.mk_laws.proofs.Vocabulary.{lt-ltb, made_shows, ne_eqb, object_made, pages_made, part_not_free}
+use Rattle.mk_laws.proofs.Vocabulary.{place_by_placing, place_now, refl, set_past, slice_index_or, slice_set, sym}
+use Rattle.mk_laws.proofs.Vocabulary.{taken, takes_cell, true, used_at, world_behind, ◌+◌, ◌-◌, ◌<◌, ◌^◌, ◌∙◌, ◌≡◌, ◌≢◌}
+use Rattle.mk_laws.proofs.Tests.{or_on, without_on}
 use Rattle.mk_objects.proofs.Vocabulary.{Carving, IsAsLeft, IsCellReady, IsOutOfStop, Serving, all_below_from}
 use Rattle.mk_objects.proofs.{Vocabulary.steady_of, MayAct.off_four, Unchanged.{HasCall, OfCaller, call_behind}}
 
@@ -21,10 +21,6 @@ pub serving_left : {c : Config} {s : Seat} {o : Object} {place : Place} {w u v :
     → IsAsLeft s u v → Serving c s o place w v
 serving_left at left = grind (arith, place_same)
 
-marked_left : (o : Object) (place : Place) {s : Seat} {u v : World} → IsAsLeft s u v
-    → is_marked_first u.now.words o place ≡ true → is_marked_first v.now.words o place ≡ true
-marked_left o place left h = grind (arith, or_on, without_on)
-
 pub carving_left : {c : Config} {s : Seat} {o : Object} {place : Place} {w u v : World} {n : ℕ}
     → Carving c s o place w u n → IsAsLeft s u v → Carving c s o place w v n
 carving_left {o} {place} {u} {v} at left =
@@ -34,7 +30,7 @@ carving_left {o} {place} {u} {v} at left =
       serving = serving_left at.serving left;
       stand = λ d lt. header (place.page + d) ∙ at.stand d lt;
       free = λ d le lt. header (place.page + d) ∙ at.free d le lt;
-      marked = marked_left o place left at.marked;
+      marked = grind (arith, or_on, without_on);
     }
 
 -- The first step that serves fixes the place.
@@ -42,10 +38,7 @@ carving_left {o} {place} {u} {v} at left =
 chosen_place : (resident : ℕ) (pages : List Page) (o : Object) (placing : Placing) (place : Place)
     → place_by_placing resident pages o placing ≡ Some place
     → is_used_once placing ≡ false → chosen placing (Some place) ≡ Chosen place
-chosen_place resident pages o Unplaced place h once = refl
-chosen_place resident pages o (Chosen x) place h once = cc
-chosen_place resident pages o (Used x) place h once = cc
-chosen_place resident pages o Granted place h once = cc
+chosen_place resident pages o x3 place h once = grind arith
 
 pub new_placed : (c : Config) (m : Moment) (f : Flight) (place : Place) → is_undecided_new f ≡ true
     → place_now c m f ≡ Some place

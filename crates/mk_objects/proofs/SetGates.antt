@@ -1,6 +1,5 @@
 -- Gates are held and opened, one after the other.
-use Rattle.std.proofs.Common.{OnErr, OnOk, is_ok, le-ltb}
-use Rattle.std.specs.{declared.result.Result.TheVariants.{Err, Ok}, declared.result.Result.Result}
+use Rattle.std.{proofs.Common.{OnErr, OnOk, is_ok, le-ltb}, specs.declared.result.Result.{Result}}
 use Rattle.mk_laws.proofs.Vocabulary.{Bool, Config, Op, Option, Seat, Step, World, ℕ, all_below-at, ap, arith, cases_eq}
 use Rattle.mk_laws.proofs.Vocabulary.{cases_lt, false, get_or-set_other, get_or-set_same, inl, inr, is_held}
 use Rattle.mk_laws.proofs.Vocabulary.{is_number_of, length, lt-ltb, nat_lt, not, not-true, refl, subst, sym, true}
@@ -41,11 +40,11 @@ open_behind {c} {v} gate kept (OfCaller k lt) room = record {
   others = λ j ne. ap (λ (n : ℕ). n == 2) (get_or-set_other v.now.words.gates gate j 0 0 ne) ∙ kept.gates j;
 }
 
-module _ {p : PassState} (q : PassState) {o : Option Op} (gate : ℕ) (turn : IsTurn p o)
+module _ {p : PassState} (q : PassState) (gate : ℕ) (turn : IsTurn p)
     (acts : is_acting (call_of p).stage ≡ true) where
   has_call : {v : World} → IsAsLeft p.seat (world_of p) v → length v.now.seats.flights ≡ p.table.config.callers
       → HasCall p.table.config v.now p.seat
-  has_call kept count = acting_has_call count (still_acting (acting_now p o turn acts) kept)
+  has_call kept count = acting_has_call count (still_acting (acting_now p turn acts) kept)
 
   pub sets_hold : {held : Bool} → Acts p (Step.Hold gate) q → is_held (now_of q).words gate ≡ held
       → SetsGate is_holding p gate held q
@@ -71,15 +70,11 @@ module _ {p : PassState} (q : PassState) {o : Option Op} (gate : ℕ) (turn : Is
 pub but_gates_then : {s : Seat} {w u v : World} → IsButGates s w u → IsButGates s u v → IsButGates s w v
 but_gates_then a b = grind arith
 
-set_again : {s : Seat} {gate : ℕ} {first held : Bool} {w u v : World} → GateIsSet s gate first w u
-    → GateIsSet s gate held u v → GateIsSet s gate held w v
-set_again a b = grind (arith, but_gates_then)
-
 pub sets_again : {kinds : Step → Bool} {p q r : PassState} {gate : ℕ} {first held : Bool}
     → SetsGate kinds p gate first q → SetsGate kinds q gate held r → SetsGate kinds p gate held r
 sets_again {kinds} {gate} {held} a b =
     reaches_after (λ x h. h) (λ x h. h) (λ x. GateIsSet x.seat gate held (world_of x)) a b
-    (λ v a b. set_again a b)
+    (λ v a b. grind (arith, but_gates_then))
 
 -- A gate that isn't held is set so.
 pub set_nothing : (kinds : Step → Bool) (p : PassState) (gate : ℕ) {held : Bool}
@@ -88,23 +83,18 @@ set_nothing kinds p gate {held} is =
     reaches_nothing kinds p (GateIsSet p.seat gate held (world_of p))
     (record { but_gates = record { call = refl; holding = refl; steady = refl }; set = is; others = λ j ne. refl })
 
-gates_more : (s : Seat) (callers : ℕ) (gates then : ℕ → Bool) (gate : ℕ) (held : Bool) (w u v : World)
-    → HasGates s callers gates w u → GateIsSet s gate held u v → ((j : ℕ) → j ≢ gate → then j ≡ gates j)
-    → then gate ≡ held → HasGates s callers then w v
-gates_more s callers gates then gate held w u v a b others here = record {
-  but_gates = but_gates_then a.but_gates b.but_gates;
-  held = λ j lt. elim (cases_eq j gate) [
-    | inl e ↦ ap (λ i. is_held v.now.words i) e ∙ b.set ∙ sym here ∙ ap then (sym e)
-    | inr ne ↦ b.others j ne ∙ a.held j lt ∙ sym (others j ne)
-  ];
-}
-
 pub sets_more : (kinds : Step → Bool) (p q r : PassState) (gates then : ℕ → Bool) (gate : ℕ) (held : Bool)
     → SetsGates kinds p gates q → SetsGate kinds q gate held r → ((j : ℕ) → j ≢ gate → then j ≡ gates j)
     → then gate ≡ held → SetsGates kinds p then r
 sets_more kinds p q r gates then gate held a b others here =
     reaches_after (λ x h. h) (λ x h. h) (λ x. GateIsSet x.seat gate held (world_of x)) a b
-    (λ v a b. gates_more p.seat p.table.config.callers gates then gate held (world_of p) _ v a b others here)
+    (λ v a b. record {
+      but_gates = but_gates_then a.but_gates b.but_gates;
+      held = λ j lt. elim (cases_eq j gate) [
+        | inl e ↦ ap (λ i. is_held v.now.words i) e ∙ b.set ∙ sym here ∙ ap then (sym e)
+        | inr ne ↦ b.others j ne ∙ a.held j lt ∙ sym (others j ne)
+      ];
+    })
 
 -- the gates by other names
 pub sets_named : {kinds : Step → Bool} {p q : PassState} {gates : ℕ → Bool} (then : ℕ → Bool)
@@ -120,8 +110,7 @@ sets_first kinds p gates here =
 -- The answer of a try says whether the gate is held.
 pub tried : {T E : Type 0} (x : Result T E) {held : Bool} → OnOk x (held ≡ true) → OnErr x (held ≡ false)
     → held ≡ is_ok x
-tried (Ok y) ok err = ok
-tried (Err y) ok err = err
+tried x0 ok err = grind arith
 
 -- the gates as far as they are set
 

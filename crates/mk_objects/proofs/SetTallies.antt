@@ -31,8 +31,8 @@ tally_behind {c} {w} {v} t n kept (OfCaller k lt) = by t (call_behind c v.now k 
     by Tally.Released call = changed_by (with_tally Tally.Released n) kept call refl refl refl
     by Tally.Full call = changed_by (with_tally Tally.Full n) kept call refl refl refl
 
-pub sets_tally : {p q : PassState} {o : Option Op} {t : Tally} {n : ℕ} → IsTurn p o → is_acting (call_of p).stage ≡ true
+pub sets_tally : {p q : PassState} {t : Tally} {n : ℕ} → IsTurn p → is_acting (call_of p).stage ≡ true
     → Acts p (Step.Tally t n) q → SetsTally p t n q
-sets_tally {p} {o} {t} {n} turn acts a =
+sets_tally {p} {t} {n} turn acts a =
     reaches_first _ a refl refl (acting_caller p acts) refl (λ v kept known pages. tally_behind t n kept
-    (acting_has_call known.orderly.flights (still_acting (acting_now p o turn acts) kept)))
+    (acting_has_call known.orderly.flights (still_acting (acting_now p turn acts) kept)))

@@ -1,17 +1,17 @@
 -- A small object is freed and counted.
-use Rattle.mk_laws.proofs.Vocabulary.{Bool, Cell, Config, Header, Holds, IsHistory, LeafRun, List, None, Option}
-use Rattle.mk_laws.proofs.Vocabulary.{PlacedAllocation, Run, Some, Steady, Tally, ℕ, all_below-at, ap, arith, false}
-use Rattle.mk_laws.proofs.Vocabulary.{fresh_words_of, header_in, heads_run, if◌then◌else◌, in_a_word, is_held, not}
-use Rattle.mk_laws.proofs.Vocabulary.{not-true, refl, run_headed, subst, sym, true, words_under, ◌*◌, ◌+◌, ◌-◌, ◌<◌}
-use Rattle.mk_laws.proofs.{Vocabulary.{◌^◌, ◌↔◌, ◌∙◌, ◌≡◌}, Tallies.fresh_is_told}
-use Rattle.mk_objects.proofs.Vocabulary.{Changes, FreesCell, FreesOnce, HasFreed, IsAsLeft, IsFreedAt, IsOverQuarter}
-use Rattle.mk_objects.proofs.Vocabulary.{IsTrue, MayFree, OnlyLooks, PassState, SetsTally, StaysSo, held_by_allocations}
-use Rattle.mk_objects.proofs.Vocabulary.{is_following, min, none_is_held, now_of, steady_of, with_tally, words_freed}
-use Rattle.mk_objects.proofs.{Vocabulary.world_of, DecidedFrees.{Stays, decides_before, freed_decides, fresh_stays}}
-use Rattle.mk_objects.proofs.{DecidedFrees.stays_now, FreedObjects.{object_at, small_held}}
-use Rattle.mk_objects.proofs.ReachedParts.{reached_table, reached_world, reaches_after, reaches_wider}
-use Rattle.mk_objects.proofs.{FreedOnce.once_before, GoneRuns.{IsGoneIn, still_gone}}
+use Rattle.mk_laws.proofs.Vocabulary.{Bool, Cell, Header, Holds, IsHistory, List, None, Option, PlacedAllocation, Some}
+use Rattle.mk_laws.proofs.Vocabulary.{Steady, Tally, ℕ, all_below-at, ap, arith, false, fresh_words_of, header_in}
+use Rattle.mk_laws.proofs.Vocabulary.{heads_run, if◌then◌else◌, in_a_word, is_held, not, not-true, run_headed, subst}
+use Rattle.mk_laws.proofs.Vocabulary.{sym, true, words_under, ◌*◌, ◌+◌, ◌-◌, ◌<◌, ◌^◌, ◌↔◌, ◌∙◌, ◌≡◌}
+use Rattle.mk_objects.proofs.Vocabulary.{Changes, FreesCell, FreesOnce, HasFreed, IsAsLeft, IsFreedAt, IsTrue, MayFree}
+use Rattle.mk_objects.proofs.Vocabulary.{OnlyLooks, PassState, SetsTally, StaysSo, held_by_allocations, is_following}
+use Rattle.mk_objects.proofs.Vocabulary.{min, none_is_held, now_of, steady_of, with_tally, words_freed, world_of}
 use Rattle.mk_core.specs.Counts.{TalliesAreExact}
+use Rattle.mk_laws.proofs.Tallies.{fresh_is_told}
+use Rattle.mk_objects.proofs.DecidedFrees.{Stays, decides_before, freed_decides, fresh_stays, stays_now}
+use Rattle.mk_objects.proofs.FreedObjects.{object_at, small_held}
+use Rattle.mk_objects.proofs.ReachedParts.{reached_table, reached_world, reaches_after, reaches_wider}
+use Rattle.mk_objects.proofs.{FreedOnce.once_before, GoneRuns.IsGoneIn, GoneRuns.still_gone}
 
 -- After a `quar` the call is decided.
 pub freed_now : {p q : PassState} {cell : Cell} → HasFreed p cell q
@@ -19,11 +19,6 @@ pub freed_now : {p q : PassState} {cell : Cell} → HasFreed p cell q
 freed_now a = reached_world a
 
 -- the tallies after it
-
-pub over_quarter : (c : Config) (xs : List PlacedAllocation) {held fresh : ℕ} (due : Bool) → held
-    ≡ held_by_allocations c xs → fresh ≡ in_a_word (fresh_words_of c xs) → held < 2 ^ 64
-    → IsTrue due ↔ (held < 4 * fresh) → IsTrue due ↔ IsOverQuarter c xs
-over_quarter c xs due is_held is_fresh fits is = grind arith
 
 -- The count of fresh words is as it was, and as much more as is freed.
 pub fresh_told_by : (p q : PassState) (cell : Cell) → IsHistory p.table.config p.seen → IsHistory q.table.config q.seen
@@ -49,9 +44,7 @@ small_words : (p : PassState) (cell : Cell) → heads_run (header_in (now_of p).
 small_words p cell small = ap (λ b. if b then 0 else words_under (header_in (now_of p).words cell.page)) small
 
 no_run : (x : Option Header) (page : ℕ) → heads_run x ≡ false → run_headed x page ≡ None
-no_run (Some (Run count mapped)) page h = cc
-no_run (Some (LeafRun count)) page h = cc
-no_run _ page h = refl
+no_run x0 page h = grind arith
 
 -- no gate was held
 pub none_held : (p : PassState) → none_is_held p.table.config.callers (now_of p).words ≡ true → (j : ℕ)
@@ -94,7 +87,7 @@ frees_counted {p} {q} {r} due freed follows once holds behind gone gates held fr
       gone = gone;
       gates = gates;
       exact = exact_from p r (table ∙ sym (reached_table follows)) (sym held ∙ held_exact) (sym fresh ∙ fresh_exact);
-      exactly = over_quarter p.table.config (world_of r).allocations due held_exact fresh_exact fits is_due;
+      exactly = grind arith;
     }
 
 module _ (p q a b r : PassState) (reg u : ℕ) (cell : Cell) (n : ℕ) (may : MayFree p reg u cell)
@@ -116,16 +109,10 @@ module _ (p q a b r : PassState) (reg u : ℕ) (cell : Cell) (n : ℕ) (may : Ma
   changed : Changes q.seat (with_tally Tally.Fresh n) (world_of q) (world_of r)
   changed = reached_world sets
 
-  held_same : (now_of r).words.held ≡ (now_of p).words.held
-  held_same = ap (λ (x : Steady). x.held) changed.steady ∙ ap (λ (x : Steady). x.held) freed_there.steady
-
   none_held_now : (j : ℕ) → j < p.table.config.callers → is_held (now_of r).words j ≡ false
   none_held_now j lt = changed.gates j ∙ freed_there.gates j ∙ none_held p gates j lt
 
   module _ (small : heads_run (header_in (now_of p).words cell.page) ≡ false) where
-    gone_now : IsGoneIn (world_of q)
-    gone_now = grind (arith, freed_there, no_run)
-
     module _ (due : Bool) {found held : ℕ} (once : FreesOnce p q) (holds : Holds q.table.config (now_of q) q.seat)
         (behind : IsHistory r.table.config r.seen) (is_found : found ≡ (now_of p).words.fresh)
         (is : n ≡ min (found + words_under (header_in (now_of p).words cell.page)) (2 ^ 64 - 1))
@@ -135,7 +122,7 @@ module _ (p q a b r : PassState) (reg u : ℕ) (cell : Cell) (n : ℕ) (may : Ma
 
       held_exact : (now_of r).words.held ≡ held_by_allocations p.table.config (world_of r).allocations
       held_exact =
-          held_same ∙ may.exact.held
+          (ap (λ (x : Steady). x.held) changed.steady ∙ ap (λ (x : Steady). x.held) freed_there.steady) ∙ may.exact.held
           ∙ sym (small_held p reg cell before (object_at u cell before may.free may.some may.target) small)
           ∙ ap (λ (xs : List PlacedAllocation). held_by_allocations p.table.config xs)
           (sym (stays.allocations ∙ ap (λ (x : Steady). x.allocations) freed_there.steady))
@@ -143,5 +130,6 @@ module _ (p q a b r : PassState) (reg u : ℕ) (cell : Cell) (n : ℕ) (may : Ma
       pub frees_small : FreesCell p cell due r
       frees_small =
           frees_counted due freed follows once holds behind (subst (λ (x : PassState). IsGoneIn (world_of x))
-          (sym sets.same) (still_gone sets.does behind holds gone_now)) none_held_now found_held
+          (sym sets.same) (still_gone sets.does behind holds
+          (grind (arith, freed_there, no_run)))) none_held_now found_held
           (sym (ap (λ (x : Steady). x.fresh) changed.steady)) (found_held ∙ held_exact) fresh_exact fits is_due

@@ -48,12 +48,7 @@ taken_under_other h u some = by (header_of h) refl
   where
     by : (x : Option Header) → header_of h ≡ x → is_free_page (use_under x u) ≡ false
     by (Some Free) is = absurd (some (sym (word_of-header_of h Free is).1))
-    by None is = refl
-    by (Some (Block class)) is = refl
-    by (Some (LeafBlock class)) is = refl
-    by (Some (Run n m)) is = refl
-    by (Some (LeafRun n)) is = refl
-    by (Some (Later d m)) is = refl
+    by x1 is = grind arith
 
 -- So a page with a free cell of a class and sort has the cells of its used word.
 pub cells_of_block : (page : Page) (class : ℕ) (leaf : Bool) → class < 8
@@ -67,8 +62,7 @@ pub record IsBlock (pages : List Page) (class : ℕ) (leaf : Bool) (page : ℕ) 
   pub free : has_free_cell class leaf (use_of_page (page_at pages page)) ≡ true
 
 shifted : (found : Option ℕ) (n : ℕ) → option_map (λ k. k + 1) found ≡ Some n → (k : ℕ) × (found ≡ Some k) × (k + 1 ≡ n)
-shifted None n is = absurd (none-some n is)
-shifted (Some k) n is = (k, refl, same_Some (k + 1) n is)
+shifted x0 n is = grind (arith, none-some, same_Some)
 
 pub block_found : (pages : List Page) (class : ℕ) (leaf : Bool) (page : ℕ)
     → first_where (has_free_cell class leaf) (uses_of_pages pages) ≡ Some page → IsBlock pages class leaf page
@@ -106,13 +100,11 @@ block_has_header page class leaf free = grind (arith, ne_eqb)
 -- It has one.
 
 mapped_some : {A : Type 0} (f : ℕ → A) (found : Option ℕ) → is_some (option_map f found) ≡ is_some found
-mapped_some f None = refl
-mapped_some f (Some n) = refl
+mapped_some f x1 = grind arith
 
 some_index : {A : Type 0} (f : ℕ → A) (found : Option ℕ) → is_some (option_map f found) ≡ true
     → (index : ℕ) × (found ≡ Some index)
-some_index f None some = cc
-some_index f (Some index) some = (index, refl)
+some_index f x1 some = grind arith
 
 pub cell_is_there : (pages : List Page) (page class : ℕ) (leaf : Bool) (found : Option ℕ)
     → option_map (λ index. record { page = page; index = index; carve = false }) found
@@ -127,8 +119,7 @@ cell_is_there pages page class leaf found told free =
 -- The place is in that block.
 
 or_first : (place other : Option Place) → is_some place ≡ true → or_else place other ≡ place
-or_first (Some place) other some = refl
-or_first None other some = cc
+or_first x0 other some = grind arith
 
 pub place_in_block : LowestBlockHasThePlace → (limit class page : ℕ) (leaf : Bool) (pages : List Page)
     → first_where (has_free_cell class leaf) (uses_of_pages pages) ≡ Some page

@@ -25,10 +25,8 @@ pub one_bit_more : (n k : ℕ) → k < 64 → has_bit n k ≡ false → bit_or n
 one_bit_more n k lt clear =
     ap (λ m. bit_or n m) (let e : 1 * 2 ^ k % 2 ^ 64 ≡ bit_for k = ap (λ x. x % 2 ^ 64) (omega arith) in e
     ∙ bit_for_small k lt)
-    ∙ or_disjoint n (2 ^ k) (zero_from_bits (bit_and n (2 ^ k)) none)
-  where
-    none : (i : ℕ) → has_bit (bit_and n (2 ^ k)) i ≡ false
-    none i = grind (arith, bit_of_power, bit_is_none, bit_at_and)
+    ∙ or_disjoint n (2 ^ k) (zero_from_bits (bit_and n (2 ^ k))
+    (λ i. grind (arith, bit_of_power, bit_is_none, bit_at_and)))
 
 few_cells : (o : Object) → cells_made o ≤ 64
 few_cells o = grind (arith, cond-true, div-le_self, cond-false)
@@ -95,10 +93,7 @@ module _ {p : PassState} {place : Place} (goes : GoesTo p place) (k : KnowsPlace
   grant_address reached = grind (arith, granted_base_is)
 
   operands : IsHistory c p.seen → has_operands c (call_of p).op ≡ true
-  operands h = by p.seat k.caller.number k.caller.is
-    where
-      by : (s : Seat) (j : ℕ) → s ≡ Caller j → has_operands c (flight_of (now_of p) s).op ≡ true
-      by s j is = cc (is, (known_left c p.seen h.within_limits h.enabled).operands j)
+  operands h = cc (k.caller.is, (known_left c p.seen h.within_limits h.enabled).operands k.caller.number)
 
   pub grant_admits : {q : PassState} → HasTaken q → IsHistory q.table.config q.seen → IsHistory c p.seen
       → IsAdmittedTo q Step.Grant
@@ -106,10 +101,6 @@ module _ {p : PassState} {place : Place} (goes : GoesTo p place) (k : KnowsPlace
 
   abbrev pub HasGranted : PassState → Type 0
   HasGranted q = ComesTo is_placing p (IsGrantedAt p.table.config p.seat place (world_of p)) (entry_for p Answer.Done) q
-
-  grant_decides : (v : World) {s : Seat} (j : ℕ) → s ≡ Caller j
-      → answer_decided c v.now (record { seat = s; step = Step.Grant }) ≡ Some Answer.Done
-  grant_decides v j is = ap (λ (x : Seat). answer_decided c v.now (record { seat = x; step = Step.Grant })) is
 
   pub grant_on : {q r : PassState} → HasTaken q → Acts q Step.Grant r → IsHistory c p.seen → HasGranted r
   grant_on reached a h =
@@ -120,7 +111,7 @@ module _ {p : PassState} {place : Place} (goes : GoesTo p place) (k : KnowsPlace
       record {
         world = granted_behind on call (λ j is. room v j is known pages);
         answer = Some Answer.Done;
-        decides = grant_decides v k.caller.number k.caller.is;
+        decides = ap (λ (x : Seat). answer_decided c v.now (record { seat = x; step = Step.Grant })) k.caller.is;
         no_full = refl;
         entry = λ j is. ap (λ (f : Flight). entry_of j f.op (Some Answer.Done)) on.call
             ∙ ap (λ n. entry_of n (call_of p).op (Some Answer.Done)) (sym (ap (λ (x : Seat). caller_number x) is));

@@ -8,7 +8,7 @@ use Rattle.mk_objects.proofs.Vocabulary.{Does, PassState, call_of, event_of, now
 use Rattle.mk_core.specs.Growing.{AreOfOthers, Finding, is_same_seat, own_from}
 use Rattle.mk_turns.{proofs.Doing.{none_own}, specs.Doing.{are_of}}
 use Rattle.mk_words.proofs.{Seats.{only_one, same_seat, same_self}, TurnSteps.still_turn}
-use Rattle.mk_words.specs.{Seats.Has, Steps.Makes, TurnSteps.op_for}
+use Rattle.mk_words.specs.{Seats.Has, Steps.Makes}
 
 -- An event is the seat's own, and of these kinds, or another's.
 pub data ComesBy (s : Seat) (kinds : Step → Bool) (e : Event) : Type 0 where
@@ -53,8 +53,8 @@ module _ (p : PassState) (kinds : Step → Bool) (stays : (x : Step) → kinds x
         };
       } in
       subst (λ (x : Event). Holds c (left c (es ++ x ∷ [])).now p.seat) it
-      (still_turn (seeing es) e.step (seeing (es ++ event_of p e.step ∷ [])) makes (op_for p.seat (call_of (seeing es)))
-      (stays e.step of_kind) (record { holds = holds; op = refl })).holds
+      (still_turn (seeing es) e.step (seeing (es ++ event_of p e.step ∷ [])) makes
+      (stays e.step of_kind) (record { holds = holds })).holds
 
   comes_by : (e : Event) → (is_same_seat p.seat e.seat ≡ true → kinds e.step ≡ true) → ComesBy p.seat kinds e
   comes_by e of_kind = elim (cases_Bool (is_same_seat p.seat e.seat)) [

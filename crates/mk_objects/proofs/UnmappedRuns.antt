@@ -1,10 +1,9 @@
 -- The pages of a run are unmapped one after the other.
 use Rattle.mk_laws.proofs.Vocabulary.{Config, Flight, Holding, Moment, None, Op, Option, Placing, RunPages, Seat, Some}
-use Rattle.mk_laws.proofs.Vocabulary.{Stage, Steady, Step, World, ℕ, all_below-at, ap, arith, cases_eq, chosen, eq-eqb}
-use Rattle.mk_laws.proofs.Vocabulary.{false, flight_of, header_at, if◌then◌else◌, inl, inr, is_held, is_phase}
-use Rattle.mk_laws.proofs.Vocabulary.{is_undecided_new, left, length, others_are_held, phase_of, place_now, refl, sym}
-use Rattle.mk_laws.proofs.Vocabulary.{true, unmapped_header, unmaps, world_behind, [], ◌+◌, ◌-◌, ◌<◌, ◌∙◌, ◌≡◌, ◌≤◌}
-use Rattle.mk_laws.proofs.Sorts.{chosen_none}
+use Rattle.mk_laws.proofs.Vocabulary.{Stage, Steady, Step, World, ℕ, all_below-at, ap, arith, cases_eq, eq-eqb, false}
+use Rattle.mk_laws.proofs.Vocabulary.{flight_of, header_at, inl, inr, is_held, is_undecided_new, left, length}
+use Rattle.mk_laws.proofs.Vocabulary.{others_are_held, phase_of, place_now, refl, sym, true, unmapped_header, unmaps}
+use Rattle.mk_laws.proofs.{Vocabulary.{world_behind, [], ◌+◌, ◌-◌, ◌<◌, ◌∙◌, ◌≡◌, ◌≤◌}, Sorts.chosen_none}
 use Rattle.mk_objects.proofs.Vocabulary.{Acts, Changes, ComesTo, IsAsLeft, IsEnabledTo, IsOutOfStop, IsTurn, PassState}
 use Rattle.mk_objects.proofs.Vocabulary.{Unmaps, all_below_from, call_of, is_acting, is_clearing, now_of, world_of}
 use Rattle.mk_objects.proofs.{Looks.{acting_caller, acting_now, acts_there}, Unchanged.{HasCall, OfCaller}}
@@ -20,11 +19,6 @@ no_new f is = grind arith
 
 no_place : (c : Config) (m : Moment) (f : Flight) → f.stage ≡ Stage.Give → place_now c m f ≡ None
 no_place c m f is = rw (no_new f is) refl
-
-same_holding : (c : Config) (m : Moment) (f : Flight) → f.stage ≡ Stage.Give → IsOutOfStop m
-    → (if is_phase m.words 4 then m.seats.holding.placing else chosen m.seats.holding.placing
-    (place_now c m f)) ≡ m.seats.holding.placing
-same_holding c m f is low = rw (off_four m low, no_place c m f is) (chosen_none m.seats.holding.placing)
 
 pub give_acts : (f : Flight) → f.stage ≡ Stage.Give → is_acting f.stage ≡ true
 give_acts f is = ap is_acting is
@@ -55,7 +49,8 @@ unmapped_more {c} {s} {run} {v} {n} at (OfCaller k lt) give low near room =
       changes = record {
         call = call_behind c v.now k x lt ∙ at.changes.call;
         holding = ap (λ (y : Placing). record v.now.seats.holding { placing = y })
-            (same_holding c v.now (flight_of v.now s) give low) ∙ at.changes.holding;
+            (rw (off_four v.now low, no_place c v.now (flight_of v.now s) give)
+            (chosen_none v.now.seats.holding.placing)) ∙ at.changes.holding;
         steady = ap (λ (y : Steady). record y { pages = u.now.words.pages }) at.changes.steady;
         gates = at.changes.gates;
       };
@@ -68,7 +63,7 @@ unmapped_more {c} {s} {run} {v} {n} at (OfCaller k lt) give low near room =
           (header_set v.now.words.pages p (run.page + d) _ (λ i. absurd (omega arith))) ∙ e);
     }
 
-module _ {p : PassState} {o : Option Op} (run : RunPages) (turn : IsTurn p o) (give : (call_of p).stage ≡ Stage.Give)
+module _ {p : PassState} (run : RunPages) (turn : IsTurn p) (give : (call_of p).stage ≡ Stage.Give)
     (low : IsOutOfStop (now_of p)) where
   abbrev pub HasUnmapped : PassState → ℕ → Type 0
   HasUnmapped q n = ComesTo is_clearing p (λ v. UnmappedTo p.seat run (world_of p) v n) [] q
@@ -82,7 +77,7 @@ module _ {p : PassState} {o : Option Op} (run : RunPages) (turn : IsTurn p o) (g
       })
 
   acting : IsActing p.table.config (now_of p) p.seat
-  acting = acting_now p o turn (give_acts (call_of p) give)
+  acting = acting_now p turn (give_acts (call_of p) give)
 
   there_acting : (v : World) → flight_of v.now p.seat ≡ flight_of (now_of p) p.seat
       → IsActing p.table.config v.now p.seat

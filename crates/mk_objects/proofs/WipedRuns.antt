@@ -1,11 +1,10 @@
 -- The words of a run are wiped group by group.
-use Rattle.mk_laws.proofs.Vocabulary.{Flight, Holding, RunPages, Seat, World, ℕ, ap, eq-eqb, left, slice_index, subst}
-use Rattle.mk_laws.proofs.Vocabulary.{◌*◌, ◌+◌, ◌==◌, ◌∙◌, ◌≡◌}
-use Rattle.mk_objects.proofs.Vocabulary.{Changes, PassState, Wipes, WipesTo, all_below_from, is_clearing, now_of}
-use Rattle.mk_objects.proofs.{Vocabulary.world_of, ReachedParts.{reached_there, reached_world, reaches_after}}
-use Rattle.mk_objects.proofs.{ReachedParts.reaches_so, UnmappedRuns.{changes_nothing, still_stopped}}
-use Rattle.mk_objects.proofs.{Reaching.reaches_nothing, WipedWords.still_unmapped}
-use Rattle.mk_objects.specs.Unmapping.{AreWiped, MayWipe, WipedTo}
+use Rattle.mk_laws.proofs.Vocabulary.{Flight, Holding, RunPages, ℕ, ap, eq-eqb, left, slice_index, subst, ◌*◌, ◌+◌}
+use Rattle.mk_laws.proofs.Vocabulary.{◌==◌, ◌∙◌, ◌≡◌}
+use Rattle.mk_objects.proofs.Vocabulary.{PassState, Wipes, WipesTo, all_below_from, is_clearing, now_of, world_of}
+use Rattle.mk_objects.proofs.ReachedParts.{reached_there, reached_world, reaches_after, reaches_so}
+use Rattle.mk_objects.proofs.{UnmappedRuns.{changes_nothing, still_stopped}, Reaching.reaches_nothing}
+use Rattle.mk_objects.{proofs.WipedWords.{still_unmapped}, specs.Unmapping.{AreWiped, MayWipe, WipedTo}}
 
 pub wiped_from : (p : PassState) {run : RunPages} {n : ℕ} → AreWiped (now_of p).words run n → WipesTo p run n p
 wiped_from p {run} {n} wiped =
@@ -15,20 +14,17 @@ wiped_from p {run} {n} wiped =
 pub wiped_now : {p q : PassState} {run : RunPages} {n : ℕ} → WipesTo p run n q → AreWiped (now_of q).words run n
 wiped_now a = (reached_world a).zeros
 
-changes_then : {s : Seat} {w u v : World} → Changes s (λ x. x) w u → Changes s (λ x. x) u v → Changes s (λ x. x) w v
-changes_then a b = record {
-  call = b.call ∙ a.call;
-  holding = b.holding ∙ a.holding;
-  steady = b.steady ∙ a.steady;
-  gates = λ j. b.gates j ∙ a.gates j;
-}
-
 pub wipes_then : {p q r : PassState} {run : RunPages} {n k : ℕ} → WipesTo p run n q → WipesTo q run k r
     → WipesTo p run k r
 wipes_then {run} {k} a b =
     reaches_after (λ x h. h) (λ x h. h) (λ x v. WipedTo x.seat run (world_of x) v k) a b
     (λ v one two. record {
-      changes = changes_then one.changes two.changes;
+      changes = record {
+        call = two.changes.call ∙ one.changes.call;
+        holding = two.changes.holding ∙ one.changes.holding;
+        steady = two.changes.steady ∙ one.changes.steady;
+        gates = λ j. two.changes.gates j ∙ one.changes.gates j;
+      };
       zeros = two.zeros;
     })
 

@@ -4,9 +4,8 @@ use Rattle.mk_laws.proofs.Vocabulary.{Some, Step, Word, Words, World, Written, �
 use Rattle.mk_laws.proofs.Vocabulary.{ap, arith, cases_eq, eqb-true, false, flight_of, get_or-set_other}
 use Rattle.mk_laws.proofs.Vocabulary.{get_or-set_same, has_no_pointers, header_at, header_in, header_of, if◌then◌else◌}
 use Rattle.mk_laws.proofs.Vocabulary.{inl, inr, is_heap_address, is_run_unmapped, le-leb, length, lt-ltb, or_else}
-use Rattle.mk_laws.proofs.Vocabulary.{page_at_address, refl, run_header, same_Some, slice_index, stands, subst, suc}
-use Rattle.mk_laws.proofs.Vocabulary.{sym, true, unmapped_header, world_behind, zero, [], ◌*◌, ◌+◌, ◌-◌, ◌/◌, ◌<◌, ◌∙◌}
-use Rattle.mk_laws.proofs.Vocabulary.{◌≡◌, ◌≤◌}
+use Rattle.mk_laws.proofs.Vocabulary.{page_at_address, refl, run_header, same_Some, slice_index, stands, subst, sym}
+use Rattle.mk_laws.proofs.Vocabulary.{true, unmapped_header, world_behind, [], ◌*◌, ◌+◌, ◌-◌, ◌/◌, ◌<◌, ◌∙◌, ◌≡◌, ◌≤◌}
 use Rattle.mk_objects.proofs.Vocabulary.{Acts, ComesTo, IsAsLeft, IsEnabledTo, IsTurn, PassState, WipesTo, call_of}
 use Rattle.mk_objects.proofs.Vocabulary.{is_clearing, now_of, option_and_then, world_of}
 use Rattle.mk_objects.proofs.{Looks.{acting_caller, acting_now, acts_there}, MayAct.{IsActing, may_look_heap, may_wipe}}
@@ -30,19 +29,16 @@ unmapped_at w run d unmapped few lt =
     (run_in_range run.count false false d (omega (arith, lt)) few (omega (arith, lt, few)))
 
 cell_tested : (b : Bool) (x cell : Cell) → (if b then Some x else None) ≡ Some cell → x.page ≡ cell.page
-cell_tested true x cell e = ap (λ (y : Cell). y.page) (same_Some _ _ e)
-cell_tested false x cell e = cc
+cell_tested x0 x cell e = grind (arith, same_Some)
 
 cell_tested_twice : (a b : Bool) (x cell : Cell) → (if a then (if b then Some x else None) else None) ≡ Some cell
     → x.page ≡ cell.page
-cell_tested_twice true b x cell e = cell_tested b x cell e
-cell_tested_twice false b x cell e = cc
+cell_tested_twice x0 b x cell e = grind (arith, cell_tested)
 
 -- It is the run's head.
 cell_is_head : (head : ℕ) (count pages : ℕ) {page : ℕ} (word d : ℕ) (b : Bool) (cell : Cell) → page ≡ head + d
     → (if b then cell_under (run_header count false false d) page word else None) ≡ Some cell → cell.page ≡ head
-cell_is_head head count pages word zero b cell at e = grind (arith, cell_tested)
-cell_is_head head count pages word (suc d) b cell at e = grind (arith, cell_tested_twice)
+cell_is_head head count pages word x4 b cell at e = grind (arith, cell_tested, cell_tested_twice)
 
 gone_cell : (w : Words) (run : RunPages) (pages address d : ℕ) (cell : Cell) → is_run_unmapped w run ≡ true
     → run.count ≤ 64 → d < run.count → page_at_address address ≡ run.page + d
@@ -69,8 +65,7 @@ no_hand c m s run n value unmapped few near =
     by : (x : Option Cell) → ((cell : Cell) → x ≡ Some cell → has_no_pointers (header_in m.words cell.page) ≡ true)
         → option_and_then (λ (cell : Cell). hand_of_cell m.words (is_in_stop c.callers m.words s)
         m.seats.holding.placing cell value) x ≡ None
-    by None none = refl
-    by (Some cell) none = rw (none cell refl) refl
+    by x0 none = grind arith
 
 wiped_left : {s : Seat} {run : RunPages} {w u v : World} {n : ℕ} → WipedTo s run w u n → IsAsLeft s u v
     → written_of v ≡ written_of u → WipedTo s run w v n
@@ -119,9 +114,9 @@ pub still_unmapped : (p : PassState) {run : RunPages} {v : World} {n : ℕ} → 
     → is_run_unmapped (now_of p).words run ≡ true → is_run_unmapped v.now.words run ≡ true
 still_unmapped p at unmapped = grind arith
 
-module _ {p : PassState} {o : Option Op} {run : RunPages} (turn : IsTurn p o) (may : MayWipe p run) where
+module _ {p : PassState} {run : RunPages} (turn : IsTurn p) (may : MayWipe p run) where
   wiping : IsActing p.table.config (now_of p) p.seat
-  wiping = acting_now p o turn (give_acts (call_of p) may.decided)
+  wiping = acting_now p turn (give_acts (call_of p) may.decided)
 
   there_wiping : (v : World) → flight_of v.now p.seat ≡ flight_of (now_of p) p.seat
       → IsActing p.table.config v.now p.seat

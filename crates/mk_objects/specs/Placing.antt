@@ -11,7 +11,9 @@ use Rattle.mk_core.specs.{Moments.{Moment, flight_of}, NewPlaces.{base_made, is_
 use Rattle.mk_core.specs.{Placement.place_after, Words.{phase_of, register_word}, TurnConditions.place_now}
 use Rattle.mk_words.specs.States.{PassState, call_of, now_of, world_of}
 use Rattle.mk_turns.specs.Doing.{Does}
-use Rattle.mk_objects.specs.{Entries.own_calls, Serving.{Carving, IsCellReady}, Unchanged.IsAsLeft}
+use Rattle.mk_objects.specs.{Entries.own_calls, declared.objects.Request.Request, Serving.{Carving, IsCellReady}}
+use Rattle.mk_objects.specs.Unchanged.{IsAsLeft}
+use Rattle.mk_never.specs.declared.operations.Op.TheVariants as op
 use Rattle.mk_core.specs.declared.events.Answer.TheVariants as answer
 use Rattle.mk_core.specs.declared.events.Step.TheVariants as step
 use Rattle.mk_core.specs.declared.seats.Stage.TheVariants as stage
@@ -25,6 +27,11 @@ pub record IsUnplaced (p : PassState) : Type 0 where
   pub new : is_undecided_new (call_of p) ≡ true
   pub placing : (now_of p).seats.holding.placing ≡ Unplaced
   pub phase : IsOutOfStop (now_of p)
+
+-- It is for a New that requests this.
+pub record Requests (p : PassState) (request : Request) : Type 0 where
+  pub full : Bool
+  pub op : (call_of p).op ≡ op.New request.register request.ty full
 
 -- The tally of held words is that of the allocations.
 abbrev pub HeldIsExact : PassState → Type 0

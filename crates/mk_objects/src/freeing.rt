@@ -34,8 +34,7 @@ pub struct Double;
 fn set_tally(words: &Words, turn: &mut Turn, tally: Tally, value: u64)
     requires one_table { turn.old.pass.table ≡ words.now }
     requires acting { is_acting (call_of turn.old.pass).stage ≡ true }
-    ensures op { turn.new.op ≡ turn.old.op }
-    ensures sets { SetsTally turn.old.pass tally value turn.new.pass }
+    ensures { SetsTally turn.old.pass tally value turn.new.pass }
 {
     turn.is_in_order();
     turn.tally(words, tally, value);
@@ -57,8 +56,7 @@ fn free_small(
     requires quar { quar ≡ named_word (now_of turn.old.pass).words (word.Quar cell.page) }
     requires small { heads_run (header_in (now_of turn.old.pass).words cell.page) ≡ false }
     requires size { size ≡ words_under (header_in (now_of turn.old.pass).words cell.page) }
-    ensures op { turn.new.op ≡ turn.old.op }
-    ensures frees { FreesCell turn.old.pass cell result turn.new.pass }
+    ensures { FreesCell turn.old.pass cell result turn.new.pass }
 {
     turn.is_in_order();
     quarantine(words, turn, register, value, cell, quar);
@@ -86,8 +84,7 @@ fn free_stopped(
     requires held { HoldsOthers turn.old.pass }
     requires quar { quar ≡ named_word (now_of turn.old.pass).words (word.Quar cell.page) }
     requires run { HasRunAt turn.old.pass cell.page count }
-    ensures op { turn.new.op ≡ turn.old.op }
-    ensures frees { FreesCell turn.old.pass cell result turn.new.pass }
+    ensures { FreesCell turn.old.pass cell result turn.new.pass }
 {
     turn.is_in_order();
     quarantine(words, turn, register, value, cell, quar);
@@ -126,8 +123,7 @@ fn free_run<R: Wait>(
     requires gates { none_is_held turn.old.pass.table.config.callers (now_of turn.old.pass).words ≡ true }
     requires quar { quar ≡ named_word (now_of turn.old.pass).words (word.Quar cell.page) }
     requires run { HasRunAt turn.old.pass cell.page count }
-    ensures op { turn.new.op ≡ turn.old.op }
-    ensures frees { FreesCell turn.old.pass cell result turn.new.pass }
+    ensures { FreesCell turn.old.pass cell result turn.new.pass }
 {
     turn.is_in_order();
     hold_gates(rt, words, turn);
@@ -159,8 +155,7 @@ fn free_found<R: Wait>(
     requires may { MayFree turn.old.pass register value cell }
     requires gates { none_is_held turn.old.pass.table.config.callers (now_of turn.old.pass).words ≡ true }
     requires quar { quar ≡ named_word (now_of turn.old.pass).words (word.Quar cell.page) }
-    ensures op { turn.new.op ≡ turn.old.op }
-    ensures frees { FreesCell turn.old.pass cell result turn.new.pass }
+    ensures { FreesCell turn.old.pass cell result turn.new.pass }
 {
     turn.is_in_order();
     let header = look_at(words, turn, Word::Head(cell.page));
@@ -189,7 +184,6 @@ pub fn retire_object<R: Threads + Wait + Sync>(
     requires nothing_done { (now_of turn.old.pass).seats.holding ≡ nothing_done }
     requires gates { none_is_held turn.old.pass.table.config.callers (now_of turn.old.pass).words ≡ true }
     requires exact { TalliesAreExact turn.old.pass.table.config turn.old.pass.seen }
-    ensures op { turn.new.op ≡ turn.old.op }
     ensures freed { IfOk result (λ freed. Retires turn.old.pass p freed.due turn.new.pass) }
     ensures double { OnErr result (FindsFreed turn.old.pass p turn.new.pass) }
 {

@@ -27,7 +27,6 @@ fn try_hold(words: &Words, turn: &mut Turn, caller: u64) -> bool
     requires within { caller < turn.old.pass.table.config.callers }
     requires another { is_number_of turn.old.pass.seat caller ≡ false }
     requires open { is_held (now_of turn.old.pass).words caller ≡ false }
-    ensures op { turn.new.op ≡ turn.old.op }
     ensures held { is_held (now_of turn.new.pass).words caller ≡ result }
     ensures sets { SetsGate is_holding turn.old.pass caller result turn.new.pass }
     ensures keeps { (r : ℕ) → r < 8 → value_of turn.new.pass r ≡ value_of turn.old.pass r }
@@ -43,7 +42,6 @@ fn hold_gate<R: Wait>(rt: &R, words: &Words, turn: &mut Turn, caller: u64)
     requires within { caller < turn.old.pass.table.config.callers }
     requires another { is_number_of turn.old.pass.seat caller ≡ false }
     requires open { is_held (now_of turn.old.pass).words caller ≡ false }
-    ensures op { turn.new.op ≡ turn.old.op }
     ensures sets { SetsGate is_holding turn.old.pass caller true turn.new.pass }
     ensures keeps { (r : ℕ) → r < 8 → value_of turn.new.pass r ≡ value_of turn.old.pass r }
 {
@@ -63,7 +61,6 @@ fn hold_other<R: Wait>(rt: &R, words: &Words, turn: &mut Turn, caller: u64)
     requires acting { is_acting (call_of turn.old.pass).stage ≡ true }
     requires within { caller < turn.old.pass.table.config.callers }
     requires open { is_held (now_of turn.old.pass).words caller ≡ false }
-    ensures op { turn.new.op ≡ turn.old.op }
     ensures sets { SetsGate is_holding turn.old.pass caller (all_others turn.old.pass.seat caller) turn.new.pass }
     ensures keeps { (r : ℕ) → r < 8 → value_of turn.new.pass r ≡ value_of turn.old.pass r }
 {
@@ -77,7 +74,6 @@ pub(crate) fn hold_gates<R: Wait>(rt: &R, words: &Words, turn: &mut Turn)
     requires one_table { turn.old.pass.table ≡ words.now }
     requires acting { is_acting (call_of turn.old.pass).stage ≡ true }
     requires open { none_is_held turn.old.pass.table.config.callers (now_of turn.old.pass).words ≡ true }
-    ensures op { turn.new.op ≡ turn.old.op }
     ensures sets { SetsGates is_holding turn.old.pass (all_others turn.old.pass.seat) turn.new.pass }
     ensures keeps { (r : ℕ) → r < 8 → value_of turn.new.pass r ≡ value_of turn.old.pass r }
 {
@@ -94,7 +90,6 @@ fn open_other(words: &Words, turn: &mut Turn, caller: u64)
     requires gone { is_run_gone (now_of turn.old.pass).words (now_of turn.old.pass).seats.holding.freed ≡ true }
     requires within { caller < turn.old.pass.table.config.callers }
     requires held { is_held (now_of turn.old.pass).words caller ≡ all_others turn.old.pass.seat caller }
-    ensures op { turn.new.op ≡ turn.old.op }
     ensures sets { SetsGate is_settling turn.old.pass caller false turn.new.pass }
     ensures gone { is_run_gone (now_of turn.new.pass).words (now_of turn.new.pass).seats.holding.freed ≡ true }
 {
@@ -111,7 +106,6 @@ pub(crate) fn open_gates(words: &Words, turn: &mut Turn)
     requires phase { IsOutOfStop (now_of turn.old.pass) }
     requires gone { is_run_gone (now_of turn.old.pass).words (now_of turn.old.pass).seats.holding.freed ≡ true }
     requires held { HoldsOthers turn.old.pass }
-    ensures op { turn.new.op ≡ turn.old.op }
     ensures sets { SetsGates is_settling turn.old.pass no_gate turn.new.pass }
     ensures gone { is_run_gone (now_of turn.new.pass).words (now_of turn.new.pass).seats.holding.freed ≡ true }
 {

@@ -17,4 +17,5 @@ mod wiping;
 
 pub use freeing::{Double, Freed, retire_object};
 pub use looking::{is_marking, look_at};
+pub use objects::Request;
 pub use placing::place_object;

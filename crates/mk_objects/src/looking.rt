@@ -14,7 +14,6 @@ pub fn look_at(words: &Words, turn: &mut Turn, word: Word) -> u64
     requires acting { is_acting (call_of turn.old.pass).stage ≡ true }
     requires steady { is_steady_word word ≡ true }
     requires in_range { is_word turn.old.pass.table.config word ≡ true }
-    ensures op { turn.new.op ≡ turn.old.op }
     ensures looks { OnlyLooks turn.old.pass turn.new.pass }
     ensures finds { result ≡ named_word (now_of turn.old.pass).words word }
     ensures keeps { (r : ℕ) → r < 8 → value_of turn.new.pass r ≡ value_of turn.old.pass r }
@@ -27,7 +26,6 @@ pub fn look_at(words: &Words, turn: &mut Turn, word: Word) -> u64
 pub fn is_marking(words: &Words, turn: &mut Turn) -> bool
     requires one_table { turn.old.pass.table ≡ words.now }
     requires acting { is_acting (call_of turn.old.pass).stage ≡ true }
-    ensures op { turn.new.op ≡ turn.old.op }
     ensures looks { OnlyLooks turn.old.pass turn.new.pass }
     ensures finds { result ≡ (phase_of (now_of turn.old.pass).words == 1) }
 {

@@ -16,6 +16,13 @@ use mk_never::TypeTable;
 /// The largest object that takes a cell, in words.
 pub(crate) const SMALL_WORDS: u64 = 32;
 
+/// What a New requests: an object of this type, to which this register is to point.
+#[derive(Clone, Copy)]
+pub struct Request {
+    pub register: u8,
+    pub ty: u64,
+}
+
 /// What an object is: its words, and whether none of them is a pointer.
 #[derive(Clone, Copy)]
 pub(crate) struct Shape {

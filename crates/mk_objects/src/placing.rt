@@ -4,14 +4,13 @@ ghost use Rattle.mk_core.specs.{Calls.d_of, Words.{header_at, phase_of, used_at}
 ghost use Rattle.mk_words.specs.States.{call_of, now_of};
 ghost use Rattle.mk_turns.specs.Sweeping.{SweepsNothing};
 ghost use Rattle.mk_objects.specs.Placing.{GoesTo, HasCarved, HeldIsExact, MayTake, IsUnplaced, IsPlaced, FitsNowhere};
-ghost use Rattle.mk_objects.specs.{Placing.{IsGranted, object_for}, Shapes.object_shaped};
+ghost use Rattle.mk_objects.specs.{Placing.{IsGranted, Requests, object_for}, Shapes.object_shaped};
 
 use crate::looking::{is_marking, look_at};
-use crate::objects::{Shape, shape_of};
+use crate::objects::{Request, Shape, shape_of};
 use crate::seeking::{seek, seek_cell};
 use mk_core::{Tally, Word};
 use mk_geom::Place;
-use mk_never::Op;
 use mk_words::{Turn, Words};
 
 /// Marks the cells of the place's first page, where a cycle marks.
@@ -21,7 +20,6 @@ fn mark_first(words: &Words, turn: &mut Turn, shape: Shape, place: Place, markin
     requires goes { GoesTo turn.old.pass place }
     requires free { header_at (now_of turn.old.pass).words place.page ≡ 0 }
     requires marking { marking ≡ (phase_of (now_of turn.old.pass).words == 1) }
-    ensures op { turn.new.op ≡ turn.old.op }
     ensures carved { HasCarved turn.old.pass place 0 turn.new.pass }
     ensures reached { SweepsNothing turn.old.pass turn.new.pass }
 {
@@ -38,7 +36,6 @@ fn carve(words: &Words, turn: &mut Turn, shape: Shape, place: Place, marking: bo
     requires goes { GoesTo turn.old.pass place }
     requires free { header_at (now_of turn.old.pass).words place.page ≡ 0 }
     requires marking { marking ≡ (phase_of (now_of turn.old.pass).words == 1) }
-    ensures op { turn.new.op ≡ turn.old.op }
     ensures ready { MayTake turn.old.pass place turn.new.pass }
     ensures reached { SweepsNothing turn.old.pass turn.new.pass }
 {
@@ -58,7 +55,6 @@ fn make_ready(words: &Words, turn: &mut Turn, shape: Shape, place: Place, free: 
     requires goes { GoesTo turn.old.pass place }
     requires free { free ≡ (header_at (now_of turn.old.pass).words place.page == 0) }
     requires marking { marking ≡ (phase_of (now_of turn.old.pass).words == 1) }
-    ensures op { turn.new.op ≡ turn.old.op }
     ensures ready { MayTake turn.old.pass place turn.new.pass }
     ensures reached { SweepsNothing turn.old.pass turn.new.pass }
 {
@@ -90,7 +86,6 @@ fn serve(
     requires marking { marking ≡ (phase_of (now_of turn.old.pass).words == 1) }
     requires held { held ≡ (now_of turn.old.pass).words.held }
     requires exact { HeldIsExact turn.old.pass }
-    ensures op { turn.new.op ≡ turn.old.op }
     ensures granted { IsGranted turn.old.pass place turn.new.pass }
     ensures held { HeldIsExact turn.new.pass }
     ensures reached { SweepsNothing turn.old.pass turn.new.pass }
@@ -120,7 +115,6 @@ fn serve_now(
     requires used { used ≡ used_at (now_of turn.old.pass).words place.page }
     requires free { free ≡ (header_at (now_of turn.old.pass).words place.page == 0) }
     requires exact { HeldIsExact turn.old.pass }
-    ensures op { turn.new.op ≡ turn.old.op }
     ensures granted { IsGranted turn.old.pass place turn.new.pass }
     ensures held { HeldIsExact turn.new.pass }
     ensures reached { SweepsNothing turn.old.pass turn.new.pass }
@@ -141,7 +135,6 @@ fn place_apart(words: &Words, turn: &mut Turn, register: u8, shape: Shape) -> bo
     requires shape { object_shaped shape ≡ object_for turn.old.pass }
     requires unplaced { IsUnplaced turn.old.pass }
     requires exact { HeldIsExact turn.old.pass }
-    ensures op { turn.new.op ≡ turn.old.op }
     ensures placed { result ≡ true → IsPlaced turn.old.pass turn.new.pass }
     ensures nowhere { result ≡ false → FitsNowhere turn.old.pass turn.new.pass }
     ensures reached { SweepsNothing turn.old.pass turn.new.pass }
@@ -168,26 +161,23 @@ fn place_apart(words: &Words, turn: &mut Turn, register: u8, shape: Shape) -> bo
 /// Grants the object of a New at its place. Returns false where nothing fits. It is inlined, so that no registers are
 /// saved for it.
 #[inline(always)]
-pub fn place_object(words: &Words, turn: &mut Turn) -> bool
+pub fn place_object(words: &Words, turn: &mut Turn, request: Request) -> bool
     requires one_table { turn.old.pass.table ≡ words.now }
+    requires requested { Requests turn.old.pass request }
     requires unplaced { IsUnplaced turn.old.pass }
     requires exact { HeldIsExact turn.old.pass }
-    ensures op { turn.new.op ≡ turn.old.op }
     ensures placed { result ≡ true → IsPlaced turn.old.pass turn.new.pass }
     ensures nowhere { result ≡ false → FitsNowhere turn.old.pass turn.new.pass }
     ensures reached { SweepsNothing turn.old.pass turn.new.pass }
 {
     turn.is_in_order();
-    let Some(op) = turn.op() else { unreachable!() };
-    let Op::New { d, ty, .. } = op else {
-        unreachable!()
-    };
+    let Request { register, ty } = request;
     let shape = shape_of(words.types(), ty);
     match seek_cell(words, turn, shape) {
-        None => place_apart(words, turn, d, shape),
+        None => place_apart(words, turn, register, shape),
         Some(place) => {
             let used = turn.page(place.page).used;
-            serve_now(words, turn, d, shape, place, used, false);
+            serve_now(words, turn, register, shape, place, used, false);
             true
         }
     }

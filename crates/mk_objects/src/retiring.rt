@@ -28,7 +28,6 @@ pub(crate) fn is_freed(quar: u64, cell: Cell) -> bool
 pub(crate) fn load_freed(words: &Words, turn: &mut Turn, register: u8) -> u64
     requires one_table { turn.old.pass.table ≡ words.now }
     requires unloaded { IsUnloaded turn.old.pass register }
-    ensures op { turn.new.op ≡ turn.old.op }
     ensures loaded { HasLoaded turn.old.pass register result turn.new.pass }
     ensures null { (result == 0) ≡ true → value_of turn.old.pass register ≡ Null }
     ensures keeps { (result == 0) ≡ false → value_of turn.new.pass register ≡ value_of turn.old.pass register }
@@ -42,7 +41,6 @@ pub(crate) fn find_cell(words: &Words, turn: &mut Turn, value: u64) -> Cell
     requires one_table { turn.old.pass.table ≡ words.now }
     requires undecided { is_undecided_free (call_of turn.old.pass) ≡ true }
     requires value { (call_of turn.old.pass).p ≡ value }
-    ensures op { turn.new.op ≡ turn.old.op }
     ensures looks { OnlyLooks turn.old.pass turn.new.pass }
     ensures cell { target turn.old.pass.table.config.pages (now_of turn.old.pass).words (call_of turn.old.pass)
         ≡ Some result }
@@ -74,7 +72,6 @@ pub(crate) fn look_at_quarantine(
     requires cell { target turn.old.pass.table.config.pages (now_of turn.old.pass).words (call_of turn.old.pass)
         ≡ Some cell }
     requires within { cell.page < turn.old.pass.table.config.pages }
-    ensures op { turn.new.op ≡ turn.old.op }
     ensures seen { HasSeen turn.old.pass cell turn.new.pass }
     ensures finds { result ≡ named_word (now_of turn.old.pass).words (word.Quar cell.page) }
     ensures keeps { is_freed (now_of turn.old.pass).words cell ≡ false → (r : ℕ) → r < 8
@@ -105,7 +102,6 @@ pub(crate) fn quarantine(
     requires phase { IsOutOfStop (now_of turn.old.pass) }
     requires gates { (not (heads_run (header_in (now_of turn.old.pass).words cell.page))
         || others_are_held turn.old.pass.table.config.callers (now_of turn.old.pass).words turn.old.pass.seat) ≡ true }
-    ensures op { turn.new.op ≡ turn.old.op }
     ensures freed { HasFreed turn.old.pass cell turn.new.pass }
     ensures once { FreesOnce turn.old.pass turn.new.pass }
 {

@@ -56,8 +56,7 @@ pub(crate) fn unmap_run(words: &Words, turn: &mut Turn, run: RunPages)
     requires few { run.count ≤ 64 }
     requires within { run.page + run.count ≤ turn.old.pass.table.config.pages }
     requires mapped { (d : ℕ) → d < run.count → IsStillMapped (now_of turn.old.pass).words run d }
-    ensures op { turn.new.op ≡ turn.old.op }
-    ensures unmaps { Unmaps turn.old.pass run turn.new.pass }
+    ensures { Unmaps turn.old.pass run turn.new.pass }
 {
     turn.is_in_order();
     for distance in 0..run.count {
@@ -80,8 +79,7 @@ pub(crate) fn clear_run(words: &Words, turn: &mut Turn, run: RunPages)
     requires few { run.count ≤ 64 }
     requires within { run.page + run.count ≤ turn.old.pass.table.config.pages }
     requires mapped { (d : ℕ) → d < run.count → IsStillMapped (now_of turn.old.pass).words run d }
-    ensures op { turn.new.op ≡ turn.old.op }
-    ensures clears { ClearsRun turn.old.pass turn.new.pass }
+    ensures { ClearsRun turn.old.pass turn.new.pass }
 {
     unmap_run(words, turn, run);
     wipe_run(words, turn, run);

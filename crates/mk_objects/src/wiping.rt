@@ -32,7 +32,6 @@ fn are_zero(
     requires group { 8 * group + 8 ≤ 64 * run.count }
     requires part { part ≡ group / 8 }
     requires wiped { AreWiped (now_of turn.old.pass).words run (8 * group) }
-    ensures op { turn.new.op ≡ turn.old.op }
     ensures still { WipesTo turn.old.pass run (8 * group) turn.new.pass }
     ensures zero { result ≡ true → WipesTo turn.old.pass run (8 * group + 8) turn.new.pass }
 {
@@ -59,8 +58,7 @@ fn wipe_words(words: &Words, turn: &mut Turn, pages: u64, run: RunPages, part: u
     requires group { 8 * group + 8 ≤ 64 * run.count }
     requires part { part ≡ group / 8 }
     requires wiped { AreWiped (now_of turn.old.pass).words run (8 * group) }
-    ensures op { turn.new.op ≡ turn.old.op }
-    ensures wipes { WipesTo turn.old.pass run (8 * group + 8) turn.new.pass }
+    ensures { WipesTo turn.old.pass run (8 * group + 8) turn.new.pass }
 {
     words.is_within_limits();
     turn.is_in_order();
@@ -83,8 +81,7 @@ fn wipe_group(words: &Words, turn: &mut Turn, pages: u64, run: RunPages, part: u
     requires group { 8 * group + 8 ≤ 64 * run.count }
     requires part { part ≡ group / 8 }
     requires wiped { AreWiped (now_of turn.old.pass).words run (8 * group) }
-    ensures op { turn.new.op ≡ turn.old.op }
-    ensures wipes { WipesTo turn.old.pass run (8 * group + 8) turn.new.pass }
+    ensures { WipesTo turn.old.pass run (8 * group + 8) turn.new.pass }
 {
     if are_zero(words, turn, pages, run, part, group) {
         return;
@@ -100,8 +97,7 @@ fn wipe_page(words: &Words, turn: &mut Turn, pages: u64, run: RunPages, part: u6
     requires may { MayWipe turn.old.pass run }
     requires part { part < run.count }
     requires wiped { AreWiped (now_of turn.old.pass).words run (64 * part) }
-    ensures op { turn.new.op ≡ turn.old.op }
-    ensures wipes { WipesTo turn.old.pass run (64 * part + 64) turn.new.pass }
+    ensures { WipesTo turn.old.pass run (64 * part + 64) turn.new.pass }
 {
     for group in PAGE_GROUPS * part..PAGE_GROUPS * part + PAGE_GROUPS {
         wipe_group(words, turn, pages, run, part, group);
@@ -117,8 +113,7 @@ pub(crate) fn wipe_run(words: &Words, turn: &mut Turn, run: RunPages)
     requires unmapped { is_run_unmapped (now_of turn.old.pass).words run ≡ true }
     requires few { run.count ≤ 64 }
     requires within { run.page + run.count ≤ turn.old.pass.table.config.pages }
-    ensures op { turn.new.op ≡ turn.old.op }
-    ensures wipes { Wipes turn.old.pass run turn.new.pass }
+    ensures { Wipes turn.old.pass run turn.new.pass }
 {
     let pages = words.pages();
     for part in 0..run.count {

@@ -51,7 +51,7 @@ module _ (c : Config) (v w : World) (same : untouched_of v ≡ untouched_of w) w
 pub sweeps_from : (t : TurnState) → IsSweeping t.pass → SweepsOn t t []
 sweeps_from t sweeping =
     let traces : Traces is_marking (SweepsBy (world_of t.pass)) t.pass t.pass = grind (arith, traces_nothing) in
-    record { table = refl; op = refl; sweeping = sweeping; traces = traces; looked = looks_of_nothing traces.does }
+    record { table = refl; sweeping = sweeping; traces = traces; looked = looks_of_nothing traces.does }
 
 pub sweeps_then : {t u v : TurnState} {ns ms : List ℕ} → SweepsOn t u ns → SweepsOn u v ms → SweepsOn t v (ns ++ ms)
 sweeps_then {t} {u} {v} {ns} one two =
@@ -60,7 +60,6 @@ sweeps_then {t} {u} {v} {ns} one two =
     let traces = traces_then is_marking (SweepsBy (world_of t.pass)) t.pass u.pass v.pass one.traces next in
     record {
       table = two.table ∙ one.table;
-      op = two.op ∙ one.op;
       sweeping = two.sweeping;
       traces = traces;
       looked = cc (looks_in_parts one.traces.does two.traces.does traces.does, one.looked, two.looked);
@@ -80,7 +79,7 @@ pub settled_kept : (p q : PassState) → q ≡ record p { seen = q.seen } → un
 settled_kept p q pass same two settled = grind (arith, ne_eqb, unmapped_kept)
 
 module _ (t u : TurnState) (sweeping : IsSweeping t.pass)
-    (all : HoldsAll t.pass.table.config (now_of t.pass) t.pass.seat) (same : u.op ≡ t.op) where
+    (all : HoldsAll t.pass.table.config (now_of t.pass) t.pass.seat) where
   pub sweeps_by_step : {s : Step} (a : Acts t.pass s u.pass) → is_stopped_step s ≡ true → is_marking s ≡ true
       → SweepsBy (world_of t.pass) t.pass.table.config (world_at a.makes).now s → SweepsOn t u (word_looked_at s)
   sweeps_by_step {s} a stopped kind ruled =
@@ -90,7 +89,6 @@ module _ (t u : TurnState) (sweeping : IsSweeping t.pass)
       let wanted = still_wanted t.pass u.pass s a sweeping.wanted all stopped in
       record {
         table = ap (λ (x : PassState). x.table) a.makes.is;
-        op = same;
         sweeping = record {
           wanted = wanted;
           settled = settled_kept t.pass u.pass
@@ -146,7 +144,7 @@ module _ {value : ℕ} {t u : TurnState} (l : LooksForCell value t u) (sweeping 
   pub sweeps_for_cell : SweepsOn t u []
   sweeps_for_cell =
       looked_for (λ (v : TurnState). SweepsOn t v []) l (sweeps_from t sweeping)
-      (λ a. on_plain t u sweeping all l.op (Word.Head (page_at_address value)) a refl)
+      (λ a. on_plain t u sweeping all (Word.Head (page_at_address value)) a refl)
 
   pub words_for_cell : still_words u.pass ≡ still_words t.pass
   words_for_cell = grind (arith, looked_for, look_words)

@@ -36,7 +36,6 @@ pub record IsSweeping (p : PassState) : Type 0 where
 -- The sweep goes on: its holder looks at these heap words, and marks by its rule alone.
 pub record SweepsOn (t u : TurnState) (words : List ℕ) : Type 0 where
   pub table : u.pass.table ≡ t.pass.table
-  pub op : u.op ≡ t.op
   pub sweeping : IsSweeping u.pass
   pub traces : Traces is_marking (SweepsBy (world_of t.pass)) t.pass u.pass
   pub looked : heap_looks traces.does ≡ words

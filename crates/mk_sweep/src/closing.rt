@@ -40,7 +40,6 @@ pub(crate) fn close_by_sweeping<R: Wait>(rt: &R, words: &Words, stop: &mut Stopp
     requires one_table { stop.old.pass.table ≡ words.now }
     requires marking { IsAtPhase stop.old.pass 1 }
     requires free { IsFreeForCycle stop.old.pass }
-    ensures op { stop.new.op ≡ stop.old.op }
     ensures law { ClosesMarks stop.old.pass stop.new.pass }
     ensures sweeps { Sweeps stop.old.pass stop.new.pass result }
 {

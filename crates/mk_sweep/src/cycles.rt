@@ -22,7 +22,6 @@ pub fn sweep_cycle<R: Threads + Wait + Sync>(
     requires phase { IsAtPhase turn.pass 0 }
     requires free { IsFreeForCycle turn.pass }
     requires markers { HasMarkers turn.pass.seats }
-    ensures op { result.0.op ≡ turn.op }
     ensures made_for { ⟦<SweepEngine as Engine>⟧.made_for engine.new
         ≡ ⟦<SweepEngine as Engine>⟧.made_for engine.old }
     ensures cycle { MakesWholeCycle turn.pass result.0.pass result.1 }

@@ -56,7 +56,6 @@ impl Engine for SweepEngine {
 
     fn begin<R: Threads + Wait + Sync>(&mut self, _rt: &R, _words: &Words, _turn: &mut Turn)
         ensures made_for { self.new.pages ≡ self.old.pages }
-        ensures op { _turn.new.op ≡ _turn.old.op }
         ensures law { BeginsMarking _turn.old.pass _turn.new.pass }
         ensures begun { IsBegun DoesNothing _turn.old.pass _turn.new.pass }
         ensures nothing { _turn.new ≡ _turn.old }
@@ -68,7 +67,6 @@ impl Engine for SweepEngine {
         requires marking { IsAtPhase stop.old.pass 1 }
         requires free { IsFreeForCycle stop.old.pass }
         ensures made_for { self.new.pages ≡ self.old.pages }
-        ensures op { stop.new.op ≡ stop.old.op }
         ensures law { ClosesMarks stop.old.pass stop.new.pass }
         ensures sweeps { Sweeps stop.old.pass stop.new.pass self.new.looks }
     {

@@ -118,13 +118,12 @@ module _ (p q : PassState) (wanted : IsWanted p) (all : HoldsAll p.table.config 
   pub undirty_words : (pg : ℕ) → Acts p (Step.Undirty pg) q → still_words q ≡ without_dirty pg (still_words p)
   undirty_words pg a = grind (arith, but_phase, words_there)
 
-  pub marks_on : Has p.seats p.seat → (s : Step) → Acts p s q → is_stopped_step s ≡ true → (o o' : Option Op) → o' ≡ o
+  pub marks_on : Has p.seats p.seat → (s : Step) → Acts p s q → is_stopped_step s ≡ true
       → ((w : World) → but_phase w.now.words ≡ still_words p → w.now.seats.holding ≡ (now_of p).seats.holding
       → TracesReached p.table.config w.now s)
-      → MarksOn (record { pass = p; op = o }) (record { pass = q; op = o' })
-  marks_on own s a stopped o o' same ruled = record {
+      → MarksOn (record { pass = p }) (record { pass = q })
+  marks_on own s a stopped ruled = record {
     table = ap (λ (x : PassState). x.table) a.makes.is;
-    op = same;
     wanted = still_wanted p q s a wanted all stopped;
     traces = stopped_traces p q s a wanted all stopped own TracesReached (marking s stopped)
         (ruled (world_at a.makes) (words_there p q s a wanted all) a.holding);

@@ -20,7 +20,6 @@ on_from wanted = grind (arith, traces_nothing)
 pub on_then : {t u v : TurnState} → MarksOn t u → MarksOn u v → MarksOn t v
 on_then one two = record {
   table = two.table ∙ one.table;
-  op = two.op ∙ one.op;
   wanted = two.wanted;
   traces = traces_then _ _ _ _ _ one.traces two.traces;
 }
@@ -61,13 +60,13 @@ reached_there : (p : PassState) (w : World) (cell : Cell) → but_phase w.now.wo
 reached_there p w cell same holding r = grind (arith, marks_by)
 
 module _ {t u : TurnState} (wanted : IsWanted t.pass) (all : HoldsAll t.pass.table.config (now_of t.pass) t.pass.seat)
-    (own : Has t.pass.seats t.pass.seat) (same : u.op ≡ t.op) where
+    (own : Has t.pass.seats t.pass.seat) where
   looks_on : (x : Word) → Acts t.pass (Step.Look x) u.pass → is_quiet (Step.Look x) ≡ true
       → ((w : World) → but_phase w.now.words ≡ still_words t.pass
       → TracesReached t.pass.table.config w.now (Step.Look x))
       → LooksOn t u
   looks_on x a quiet ruled = record {
-    on = marks_on t.pass u.pass wanted all own (Step.Look x) a quiet t.op u.op same (λ w e h. ruled w e);
+    on = marks_on t.pass u.pass wanted all own (Step.Look x) a quiet (λ w e h. ruled w e);
     words = look_words t.pass u.pass wanted all x a;
   }
 
@@ -86,20 +85,20 @@ module _ {t u : TurnState} (wanted : IsWanted t.pass) (all : HoldsAll t.pass.tab
   pub on_mark : (cell : Cell) → Acts t.pass (Step.Mark cell.page (2 ^ cell.index)) u.pass → HandPointsInto t.pass cell
       → MarksOn t u
   on_mark cell a reached =
-      marks_on t.pass u.pass wanted all own (Step.Mark cell.page (2 ^ cell.index)) a refl t.op u.op same
+      marks_on t.pass u.pass wanted all own (Step.Mark cell.page (2 ^ cell.index)) a refl
       (λ w e h. reached_there t.pass w cell e h reached)
 
   pub on_black : (page value : ℕ) → Acts t.pass (Step.Black page value) u.pass → MarksOn t u
-  on_black page value a = marks_on _ _ wanted all own (Step.Black page value) a refl t.op u.op same (λ w e h. tt)
+  on_black page value a = marks_on _ _ wanted all own (Step.Black page value) a refl (λ w e h. tt)
 
   pub on_unblack : (page : ℕ) → Acts t.pass (Step.Unblack page) u.pass → HasDirtyPart (still_words t.pass) page
       → MarksOn t u
   on_unblack page a part =
-      marks_on t.pass u.pass wanted all own (Step.Unblack page) a refl t.op u.op same
+      marks_on t.pass u.pass wanted all own (Step.Unblack page) a refl
       (λ w e h. dirty_there page w.now.words (still_words t.pass) e part)
 
   pub on_undirty : (page : ℕ) → Acts t.pass (Step.Undirty page) u.pass → MarksOn t u
-  on_undirty page a = marks_on t.pass u.pass wanted all own (Step.Undirty page) a refl t.op u.op same (λ w e h. tt)
+  on_undirty page a = marks_on t.pass u.pass wanted all own (Step.Undirty page) a refl (λ w e h. tt)
 
 -- A word of a gray cell.
 module _ (p : PassState) (history : IsHistory p.table.config p.seen) (pages : ℕ) (sized : pages ≡ p.table.config.pages)

@@ -18,8 +18,7 @@ one_more : (n : ℕ) → n % 8 ≡ 1 → (n + 1) % 2 ^ 64 % 8 ≡ 2
 one_more n h = omega arith
 
 module _ {t u : TurnState} (a : Acts t.pass Step.Want u.pass) (own : Has t.pass.seats t.pass.seat)
-    (ready : HolderIsLoaded t.pass) (all : HoldsAll t.pass.table.config (now_of t.pass) t.pass.seat)
-    (same : u.op ≡ t.op) where
+    (ready : HolderIsLoaded t.pass) (all : HoldsAll t.pass.table.config (now_of t.pass) t.pass.seat) where
   untouched : untouched_of (world_of u.pass) ≡ untouched_of (world_of t.pass)
   untouched = step_untouched t.pass u.pass Step.Want a refl all refl
 
@@ -29,7 +28,6 @@ module _ {t u : TurnState} (a : Acts t.pass Step.Want u.pass) (own : Has t.pass.
   pub want_waits : phase_of (now_of t.pass).words ≡ 1 → WaitsForMarkers t u 1
   want_waits one = record {
     table = ap (λ (p : PassState). p.table) a.makes.is;
-    op = same;
     ready = still_ready t.pass u.pass Step.Want a.makes untouched ready;
     phase = want_phase one;
     traces = traces_step is_waiting TracesReached is_want t.pass u.pass Step.Want a.makes 1 own refl tt untouched
@@ -38,14 +36,13 @@ module _ {t u : TurnState} (a : Acts t.pass Step.Want u.pass) (own : Has t.pass.
 
 module _ {t u : TurnState} (a : Acts t.pass (Step.Look Word.Phase) u.pass) (own : Has t.pass.seats t.pass.seat)
     (ready : HolderIsLoaded t.pass) (all : HoldsAll t.pass.table.config (now_of t.pass) t.pass.seat)
-    (same : u.op ≡ t.op) (two : phase_of (now_of t.pass).words ≡ 2) where
+    (two : phase_of (now_of t.pass).words ≡ 2) where
   still : untouched_of (world_of u.pass) ≡ untouched_of (world_of t.pass)
   still = step_untouched t.pass u.pass (Step.Look Word.Phase) a refl all refl
 
   pub look_waits : WaitsForMarkers t u 0
   look_waits = record {
     table = ap (λ (p : PassState). p.table) a.makes.is;
-    op = same;
     ready = still_ready t.pass u.pass (Step.Look Word.Phase) a.makes still ready;
     phase = ap (λ (w : World). phase_of w.now.words) a.world
         ∙ phase_there t.pass u.pass (Step.Look Word.Phase) a ∙ two;
@@ -66,7 +63,6 @@ module _ {t u : TurnState} (a : Acts t.pass (Step.Look Word.Phase) u.pass) (own 
 pub waits_then : {t u v : TurnState} → WaitsForMarkers t u 1 → WaitsForMarkers u v 0 → WaitsForMarkers t v 1
 waits_then one none = record {
   table = none.table ∙ one.table;
-  op = none.op ∙ one.op;
   ready = none.ready;
   phase = none.phase;
   traces = counted_then is_waiting TracesReached is_want _ _ _ 1 0 one.traces none.traces;

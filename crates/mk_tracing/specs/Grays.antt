@@ -56,7 +56,6 @@ TracesReached c m _ = ⊤
 -- The stop goes on, its holder marks by these rules, and all else is as it was.
 pub record MarksOn (t u : TurnState) : Type 0 where
   pub table : u.pass.table ≡ t.pass.table
-  pub op : u.op ≡ t.op
   pub wanted : IsWanted u.pass
   pub traces : Traces is_marking TracesReached t.pass u.pass
 
@@ -68,7 +67,6 @@ pub record LooksOn (t u : TurnState) : Type 0 where
 -- The close is wanted, by this many steps between, and the holder looks until no marker is in. All else is as it was.
 pub record WaitsForMarkers (t u : TurnState) (wishes : ℕ) : Type 0 where
   pub table : u.pass.table ≡ t.pass.table
-  pub op : u.op ≡ t.op
   pub ready : HolderIsLoaded u.pass
   pub phase : phase_of (now_of u.pass).words ≡ 2
   pub traces : Counted is_waiting TracesReached is_want t.pass u.pass wishes

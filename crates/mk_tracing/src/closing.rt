@@ -37,7 +37,6 @@ pub fn close_marks<R: Wait>(rt: &R, words: &Words, stop: &mut Stopped, work: &mu
     requires ready { HolderIsLoaded stop.old.pass }
     requires phase { phase_of (now_of stop.old.pass).words ≡ 1 }
     ensures table { stop.new.pass.table ≡ stop.old.pass.table }
-    ensures op { stop.new.op ≡ stop.old.op }
     ensures wanted { IsWanted stop.new.pass }
     ensures traces { Counted is_tracing TracesReached is_want stop.old.pass stop.new.pass 1 }
     ensures closes { IsEnabledTo stop.new.pass step.Close }

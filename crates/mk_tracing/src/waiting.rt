@@ -41,7 +41,6 @@ pub fn want_and_wait<R: Wait>(rt: &R, words: &Words, stop: &mut Stopped)
     requires ready { HolderIsLoaded stop.old.pass }
     requires phase { phase_of (now_of stop.old.pass).words ≡ 1 }
     ensures table { stop.new.pass.table ≡ stop.old.pass.table }
-    ensures op { stop.new.op ≡ stop.old.op }
     ensures wanted { IsWanted stop.new.pass }
     ensures traces { Counted is_waiting TracesReached is_want stop.old.pass stop.new.pass 1 }
 {

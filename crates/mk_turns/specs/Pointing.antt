@@ -13,7 +13,6 @@ MayLookAtHeaders p = (page : ℕ) → page < p.table.config.pages → IsEnabledT
 -- where the value is no address of the heap.
 pub record LooksForCell (value : ℕ) (t u : TurnState) : Type 0 where
   pub table : u.pass.table ≡ t.pass.table
-  pub op : u.op ≡ t.op
   pub outside : is_heap_address t.pass.table.config.pages value ≡ false → u ≡ t
   pub inside : is_heap_address t.pass.table.config.pages value ≡ true
       → Acts t.pass (step.Look (word.Head (page_at_address value))) u.pass

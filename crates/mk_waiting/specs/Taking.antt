@@ -27,9 +27,8 @@ pub record TakesTurn (p : PassState) (o : Option Op) (q : PassState) : Type 0 wh
   pub takes : Finds waited (step.Take o) 0 q
 
 -- So it has the turn, as one has it directly after its `take`.
-pub record HasTaken (p : PassState) (o : Option Op) (t : TurnState) : Type 0 where
+pub record HasTakenTurn (p : PassState) (o : Option Op) (t : TurnState) : Type 0 where
   pub takes : TakesTurn p o t.pass
-  pub op : t.op ≡ o
   pub fresh : IsFresh t.pass o
   pub exact : TalliesAreExact t.pass.table.config t.pass.seen
   pub tidy : TalliesAreTidy t.pass.table.config t.pass.seen

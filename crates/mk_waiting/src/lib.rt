@@ -9,7 +9,7 @@ mod patience;
 ghost use Rattle.std.specs.Prelude.{◌≡◌};
 ghost use Rattle.mk_core.specs.Counts.{TalliesAreExact, TalliesAreTidy};
 ghost use Rattle.mk_words.specs.{Steps.IsEnabledTo, TurnSteps.IsFresh};
-ghost use Rattle.mk_waiting.specs.{Taking.{HasTaken, TakesTurn}, Unswept.TakingSweepsNothing};
+ghost use Rattle.mk_waiting.specs.{Taking.{HasTakenTurn, TakesTurn}, Unswept.TakingSweepsNothing};
 ghost use Rattle.mk_core.specs.declared.events.Step.TheVariants as step;
 
 use mk_never::Op;
@@ -22,7 +22,7 @@ use std::sync::Wait;
 fn wait_for_turn<R: Wait>(rt: &R, words: &Words, home: Pass, op: Option<Op>) -> Turn
     requires one_table { home.table ≡ words.now }
     requires enabled { IsEnabledTo home (step.Take op) }
-    ensures { HasTaken home op result }
+    ensures { HasTakenTurn home op result }
 {
     let mut pass = home;
     let mut patience = Patience::new();
@@ -41,7 +41,7 @@ fn wait_for_turn<R: Wait>(rt: &R, words: &Words, home: Pass, op: Option<Op>) -> 
 fn wait_apart<R: Wait>(rt: &R, words: &Words, home: Pass, op: Option<Op>) -> Turn
     requires one_table { home.table ≡ words.now }
     requires enabled { IsEnabledTo home (step.Take op) }
-    ensures { HasTaken home op result }
+    ensures { HasTakenTurn home op result }
 {
     wait_for_turn(rt, words, home, op)
 }
@@ -52,7 +52,6 @@ pub fn take_turn<R: Wait>(rt: &R, words: &Words, home: Pass, op: Option<Op>) -> 
     requires one_table { home.table ≡ words.now }
     requires enabled { IsEnabledTo home (step.Take op) }
     ensures takes { TakesTurn home op result.pass }
-    ensures op { result.op ≡ op }
     ensures fresh { IsFresh result.pass op }
     ensures exact { TalliesAreExact result.pass.table.config result.pass.seen }
     ensures tidy { TalliesAreTidy result.pass.table.config result.pass.seen }

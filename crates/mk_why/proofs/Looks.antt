@@ -53,10 +53,9 @@ module _ (t u : TurnState) (x : Word) (a : Acts t.pass (Step.Look x) u.pass)
   keeps =
       calm_keeps t.pass (Step.Look x) u.pass a (in_turn_before a) a.makes.pass.history refl still.free but_phase refl
 
-  pub look_on : u.op ≡ t.op → LooksOn t u
-  look_on same = record {
+  pub look_on : LooksOn t u
+  look_on = record {
     table = ap (λ (y : PassState). y.table) a.makes.is;
-    op = same;
     does = does_step is_look t.pass u.pass (Step.Look x) a.makes refl;
     keeps = keeps;
     view = ap view_of a.world ∙ view_left a.turn (a.stop (a.holds, gates)) still.wanted still.none;
@@ -82,7 +81,7 @@ pub looks_for_cell : {value : ℕ} {t u : TurnState} → LooksForCell value t u
     → LooksOn t u
 looks_for_cell {value} {t} {u} l gates still =
     looked_for (λ (v : TurnState). LooksOn t v) l (looks_at_nothing t still)
-    (λ a. look_on t u (Word.Head (page_at_address value)) a gates still l.op)
+    (λ a. look_on t u (Word.Head (page_at_address value)) a gates still)
 
 -- Looks after an engine's marks leave its law, and what is said of the view.
 

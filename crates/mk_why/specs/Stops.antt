@@ -49,7 +49,6 @@ is_look _ = false
 -- The holder of the turn has looked, and all is still.
 pub record LooksOn (t u : TurnState) : Type 0 where
   pub table : u.pass.table ≡ t.pass.table
-  pub op : u.op ≡ t.op
   pub does : Does is_look t.pass u.pass
   pub keeps : LeavesTurn but_phase t.pass u.pass
   pub view : view_by u.pass ≡ view_by t.pass

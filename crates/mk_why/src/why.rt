@@ -82,7 +82,6 @@ impl<E: Engine> Engine for Why<E> {
         requires free { IsFreeForCycle turn.old.pass }
         ensures made_for { ⟦<Why<E> as Engine>⟧.made_for self.new ≡ ⟦<Why<E> as Engine>⟧.made_for self.old }
         ensures kept { self.new.kept ≡ self.old.kept }
-        ensures op { turn.new.op ≡ turn.old.op }
         ensures law { BeginsMarking turn.old.pass turn.new.pass }
         ensures reached { E.sweeps ≡ false → SweepsNothing turn.old.pass turn.new.pass }
         ensures begun { IsBegun E.begins turn.old.pass turn.new.pass }

@@ -12,7 +12,7 @@ use Rattle.mk_words.proofs.{TurnSteps.turn_stays_too, Made.own_before, Seats.oth
 use Rattle.mk_words.proofs.Unmarked.{is_mark, stays_unmarked}
 use Rattle.mk_words.specs.{PageMaps.{HasNoMarks, IsMapOf, IsNextUncleaned, is_told}, States.{PassState, TurnState}}
 use Rattle.mk_words.specs.{States.{call_of, event_of, now_of}, TurnSteps.{Acts, GatesAre, IsTurnWithMap, gates_stay}}
-use Rattle.mk_words.specs.{TurnSteps.{turn_stays, world_at}, Steps.{IsEnabledTo, Makes}, declared.homes.Carried.Carried}
+use Rattle.mk_words.specs.{TurnSteps.{turn_stays, world_at}, Steps.{IsEnabledTo, Makes}}
 
 no_mark : (s : Step) → is_told s ≡ false → is_mark s ≡ false
 no_mark (Step.Mark p v) untold = cc
@@ -209,30 +209,29 @@ untold_mark map w page some shows = grind arith
 pub shows_that : (w : Words) (map same : KnownPages) → same ≡ map → IsMapOf map w → IsMapOf same w
 shows_that w map same is shows = subst (λ (m : KnownPages). IsMapOf m w) (sym is) shows
 
--- What is carried with a turn is carried by another name too.
-pub as_carried : {held : Bool} {p : PassState} {carried same : Carried} → same ≡ carried
-    → IsTurnWithMap held p carried.op carried.map → IsTurnWithMap held p same.op same.map
-as_carried is turn = grind arith
+pub turn_that : {held : Bool} {p : PassState} {map same : KnownPages} → same ≡ map → IsTurnWithMap held p map
+    → IsTurnWithMap held p same
+turn_that {held} {p} is turn = subst (λ (m : KnownPages). IsTurnWithMap held p m) (sym is) turn
 
 -- A step leaves the turn, where its map shows what is left then, and the gates are as known.
-pub turn_with_map : {held : Bool} {p : PassState} {s : Step} {q : PassState} {o : Option Op} {old new : KnownPages}
-    → Acts p s q → turn_stays s ≡ true → GatesAre held (record { pass = q; op = o }) → IsMapOf new (now_of q).words
-    → IsTurnWithMap held p o old → IsTurnWithMap held q o new
-turn_with_map {o = o} a stays gates shows turn =
-    record { turn = still_turn _ _ _ a.makes o stays turn.turn; shows = shows; gates = gates }
+pub turn_with_map : {held : Bool} {p : PassState} {s : Step} {q : PassState} {old new : KnownPages}
+    → Acts p s q → turn_stays s ≡ true → GatesAre held (record { pass = q }) → IsMapOf new (now_of q).words
+    → IsTurnWithMap held p old → IsTurnWithMap held q new
+turn_with_map a stays gates shows turn =
+    record { turn = still_turn _ _ _ a.makes stays turn.turn; shows = shows; gates = gates }
 
 -- A step of which the map is told, and which leaves the gates.
-pub told_turn : {held : Bool} {p : PassState} {s : Step} {q : PassState} {o : Option Op} {old new : KnownPages}
-    → gates_stay s ≡ true → Makes p s q → IsTurnWithMap held p o old → (Acts p s q → IsMapOf new (now_of q).words)
-    → IsTurnWithMap held q o new
-told_turn {held} {p} {s} {q} {o} stays makes turn shows =
+pub told_turn : {held : Bool} {p : PassState} {s : Step} {q : PassState} {old new : KnownPages}
+    → gates_stay s ≡ true → Makes p s q → IsTurnWithMap held p old → (Acts p s q → IsMapOf new (now_of q).words)
+    → IsTurnWithMap held q new
+told_turn {held} {p} {s} {q} stays makes turn shows =
     let a = acts p s q makes turn.turn.holds in
     turn_with_map a (turn_stays_too s stays)
-    (gates_still held (record { pass = p; op = o }) s (record { pass = q; op = o }) a stays turn.gates) (shows a) turn
+    (gates_still held (record { pass = p }) s (record { pass = q }) a stays turn.gates) (shows a) turn
 
 -- What was done in a turn, by another name of it.
-pub acted : {held : Bool} {t v : TurnState} {s : Step} {q : PassState} {o : Option Op} {map : KnownPages} → t ≡ v
-    → IsTurnWithMap held t.pass o map → Makes t.pass s q → Acts v.pass s q
+pub acted : {held : Bool} {t v : TurnState} {s : Step} {q : PassState} {map : KnownPages} → t ≡ v
+    → IsTurnWithMap held t.pass map → Makes t.pass s q → Acts v.pass s q
 acted {t = t} {s = s} {q = q} is turn makes =
     subst (λ (x : TurnState). Acts x.pass s q) is (acts t.pass s q makes turn.turn.holds)
 
@@ -247,16 +246,16 @@ page_known p page map lt shows =
     omega arith
 
 -- So has a page that a step of the turn may name.
-pub told_page : {held : Bool} {t v : TurnState} {carried same : Carried} (s : Step) (page : ℕ)
+pub told_page : {held : Bool} {t v : TurnState} {map same : KnownPages} (s : Step) (page : ℕ)
     → is_in_range t.pass.table.config t.pass.seat (call_of t.pass) s ≡ nat_lt page t.pass.table.config.pages → t ≡ v
-    → IsEnabledTo v.pass s → same ≡ carried → IsTurnWithMap held t.pass carried.op carried.map
-    → page < length same.map.pages
+    → IsEnabledTo v.pass s → same ≡ map → IsTurnWithMap held t.pass map
+    → page < length same.pages
 told_page {t = t} s page names is on same turn =
     let here = subst (λ (x : TurnState). IsEnabledTo x.pass s) (sym is) on in
     page_known t.pass page _
     (ltb-true page t.pass.table.config.pages
     (sym names ∙ (enabled_meets t.pass.table.config (now_of t.pass) (event_of t.pass s) here).range))
-    (as_carried same turn).shows
+    (turn_that same turn).shows
 
 -- The next page of those that the map has is the next of the heap's.
 pub next_known : (p : PassState) (passes : ℕ → Bool) (from : ℕ) (next : Option ℕ)

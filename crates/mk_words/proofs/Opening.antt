@@ -207,10 +207,10 @@ one_round p q r k o may opened acts same = elim (cases_Bool (is_number_of q.seat
 ]
 
 -- at the end
-pub all_opened : (p q : PassState) (o : Option Op) → Opens p q → AreOpened q p.table.config.callers → IsTurn q o
+pub all_opened : (p q : PassState) → Opens p q → AreOpened q p.table.config.callers → IsTurn q
     → IsHistory q.table.config q.seen
     → none_is_held p.table.config.callers (now_of q).words ≡ true
-all_opened p q o opens opened t history =
+all_opened p q opens opened t history =
     all_from p.table.config.callers (λ j. not (is_held (now_of q).words j))
     (λ j lt. ap not (elim (cases_Bool (is_number_of q.seat j)) [
       | inl mine ↦ false_from_ne_true (is_held (now_of q).words j)

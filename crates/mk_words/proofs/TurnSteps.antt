@@ -11,9 +11,9 @@ use Rattle.mk_laws.proofs.{Vocabulary.{zero, ◌++◌, ◌+◌, ◌<◌, ◌==�
 use Rattle.mk_laws.proofs.{SameWords.tally_keeps, NextSteps.at_no_take, Protocols.lists_keep_the_protocol}
 use Rattle.mk_core.specs.{Bounded.all_below, Frames.HoldsAll, Moments.none_is_held, Order.is_in_order}
 use Rattle.mk_words.proofs.{CallSteps.{begins, goes}, FreeTurns.{hands_none, turn_word_stays}, Made.{Made, made}}
-use Rattle.mk_words.{proofs.Tallies.{free_tallies}, specs.Steps.{Tells, moment_of}}
+use Rattle.mk_words.{proofs.Tallies.{free_tallies}, specs.Steps.{moment_of}}
 use Rattle.mk_words.specs.{States.{PassState, TurnState, call_of, now_of, world_of}, TurnSteps.{Acts, GatesAre}}
-use Rattle.mk_words.specs.{TurnSteps.{IsFresh, IsTurn, begun_for, gates_stay, op_for, turn_stays}, Steps.{Finds, Makes}}
+use Rattle.mk_words.specs.{TurnSteps.{IsFresh, IsTurn, begun_for, gates_stay, turn_stays}, Steps.{Finds, Makes, Tells}}
 
 -- who holds the turn, by the turn word
 
@@ -50,59 +50,6 @@ gates_are_kept c m seat Step.Reg h = grind (arith, reg_keeps)
 gates_are_kept c m seat (Step.Tally n v) h = (tally_keeps m.words n v).gates
 gates_are_kept c m seat _ h = refl
 
--- A call keeps its operation up to its end.
-
-either_op : (b : Bool) (x y : Progress) (o : Op) → x.flight.op ≡ o → y.flight.op ≡ o
-    → (if b then x else y).flight.op ≡ o
-either_op true x y o a b = a
-either_op false x y o a b = b
-
-q_op : (f : Flight) (o : Op) (n : ℕ) → (progress_q f o n).flight.op ≡ f.op
-q_op f (Op.Move d q) n = refl
-q_op f (Op.Same p q) n = refl
-q_op f _ n = either_op (n == 0) _ _ f.op refl refl
-
-p_op : (f : Flight) (o : Op) (n : ℕ) → (progress_p f o n).flight.op ≡ f.op
-p_op f (Op.IsNull p) n = refl
-p_op f (Op.Free p) n = either_op (n == 0) _ _ f.op refl refl
-p_op f _ n = refl
-
-reg_op : (f : Flight) (s : Stage) (n : ℕ) → (progress_reg f s n).flight.op ≡ f.op
-reg_op f Stage.LoadQ n = q_op f f.op n
-reg_op f Stage.LoadP n = p_op f f.op n
-reg_op f _ n = refl
-
-read_op : (f : Flight) (o : Op) (n : ℕ) → (progress_read f o n).flight.op ≡ f.op
-read_op f (Op.GetPtr d q i) n = refl
-read_op f _ n = refl
-
-freed_op : (f : Flight) (x : Option Cell) → (progress_freed f x).flight.op ≡ f.op
-freed_op f (Some cell) = refl
-freed_op f None = refl
-
-op_stays : (c : Config) (m : Moment) (f : Flight) (n : ℕ) (s : Step) → turn_stays s ≡ true
-    → (progress c m f n s).flight.op ≡ f.op
-op_stays c m f n (Step.Enter o) h = cc
-op_stays c m f n (Step.Take o) h = cc
-op_stays c m f n Step.Leave h = cc
-op_stays c m f n Step.Give h = cc
-op_stays c m f n Step.Reg h = reg_op f f.stage n
-op_stays c m f n Step.Probe h = either_op _ _ _ f.op refl refl
-op_stays c m f n Step.Read h = read_op f f.op n
-op_stays c m f n (Step.Look x) h = either_op _ _ _ f.op refl refl
-op_stays c m f n (Step.Quar p v) h = freed_op f (cell_freed c.pages m.words f p v)
-op_stays c m f n _ h = refl
-
-op_behind : (c : Config) (m : Moment) (seat : Seat) (s : Step) → Protocol c m → seat_exists c seat ≡ true
-    → turn_stays s ≡ true
-    → op_for seat (flight_of (Behind c m seat s) seat) ≡ op_for seat (flight_of m seat)
-op_behind c m (Caller k) s p exists h =
-    let lt : k < length m.seats.flights = subst (λ (i : ℕ). k < i) (sym p.callers) (ltb-true k c.callers exists) in
-    ap (λ (f : Flight). Some f.op) (get_or-set_same m.seats.flights k _ at_rest lt)
-    ∙ ap (λ (o : Op). Some o) (op_stays c m (flight_of m (Caller k)) _ s h)
-op_behind c m (Marker k) s p exists h = refl
-op_behind c m Host s p exists h = refl
-
 -- the step of whoever holds the turn
 module _ (p : PassState) (s : Step) (q : PassState) (m : Makes p s q) where
   abbrev d : Made p s q m
@@ -131,25 +78,20 @@ module _ (p : PassState) (s : Step) (q : PassState) (m : Makes p s q) where
   holds_then : Holds p.table.config (now_of p) p.seat → Holds p.table.config (moment_of m) p.seat
   holds_then h = (d.frame.own.holding h).0
 
-  pub still_turn : (o : Option Op) → turn_stays s ≡ true → IsTurn p o → IsTurn q o
-  still_turn o stays t =
+  pub still_turn : turn_stays s ≡ true → IsTurn p → IsTurn q
+  still_turn stays t =
       let c : Config = p.table.config in
       let named : (world_of q).now.words.turn ≡ 1 + holder_number c p.seat =
       ap (λ (w : World). w.now.words.turn) d.world ∙ turn_word_stays c (moment_of m) p.seat s (hands_none s stays)
       ∙ holds_named c (moment_of m) p.seat d.protocol (holds_then t.holds) in
       let holds : Holds c (world_of q).now p.seat = grind (arith, named_holds, protocol_now, holder_is_no_marker) in
-      let same : op_for p.seat (call_of p) ≡ op_for p.seat (flight_of (world_of q).now p.seat) =
-      cc (d.world, op_behind c (moment_of m) p.seat s d.protocol d.meets.seat stays, d.frame.own.flight) in
-      record {
-        holds = subst (λ (r : PassState). Holds r.table.config (world_of q).now r.seat) (sym m.is) holds;
-        op = t.op ∙ same ∙ ap (λ (t : Seat). op_for t (flight_of (world_of q).now t)) (sym d.seat);
-      }
+      record { holds = subst (λ (r : PassState). Holds r.table.config (world_of q).now r.seat) (sym m.is) holds }
 
 -- After a step of the holder that isn't its last the seat still holds the turn.
 pub holds_after : {p : PassState} {s : Step} {q : PassState} → Acts p s q → turn_stays s ≡ true
     → Holds q.table.config (now_of q) q.seat
 holds_after {p} {s} {q} a stays =
-    (still_turn p s q a.makes (op_for p.seat (call_of p)) stays (record { holds = a.holds; op = refl })).holds
+    (still_turn p s q a.makes stays (record { holds = a.holds })).holds
 
 -- the gates, while they stay
 pub gates_left : (p : PassState) (s : Step) (q : PassState) → Acts p s q → gates_stay s ≡ true
@@ -228,12 +170,9 @@ all_from (suc n) test h = and_from (all_below n test) (test n) (all_from n test 
 
 takes_for : (c : Config) (m : Moment) (seat : Seat) (o : Option Op) → is_open_to seat (group_of (Step.Take o)) ≡ true
     → is_in_order c m seat (Step.Take o) ≡ true
-    → (is_marker seat ≡ false) × (op_for seat (begun_for o) ≡ o)
-takes_for c m (Caller k) (Some o) kind order = (refl, refl)
-takes_for c m (Caller k) None kind order = grind (arith, at_no_take)
+    → is_marker seat ≡ false
 takes_for c m (Marker k) o kind order = cc
-takes_for c m Host None kind order = (refl, refl)
-takes_for c m Host (Some o) kind order = grind arith
+takes_for c m _ o kind order = refl
 
 takes_call : (c : Config) (m : Moment) (seat : Seat) (o : Option Op) → Protocol c m → seat_exists c seat ≡ true
     → is_open_to seat (group_of (Step.Take o)) ≡ true
@@ -267,26 +206,19 @@ module _ (p : PassState) (o : Option Op) (n : ℕ) (q : PassState) (t : Tells p 
     free : (moment_of t.makes).words.turn ≡ 0
     free = sym t.tells ∙ none
 
-    pub takes : IsTurn q o
+    pub takes : IsTurn q
     takes =
         let c : Config = p.table.config in
         let m : Moment = moment_of t.makes in
         let named : (world_of q).now.words.turn ≡ 1 + holder_number c p.seat =
         ap (λ (w : World). w.now.words.turn) e.world
         ∙ ap (λ (b : Bool). if b then 1 + holder_number c p.seat else m.words.turn) (eq-eqb m.words.turn 0 free) in
-        let for = takes_for c m p.seat o e.meets.kind e.meets.order in
         let holds : Holds c (world_of q).now p.seat =
-        named_holds c (world_of q).now p.seat (protocol_now p (Step.Take o) q t.makes) e.meets.seat for.0
-        named in
-        let call : flight_of (world_of q).now p.seat ≡ begun_for o =
-        ap (λ (w : World). flight_of w.now p.seat) e.world
-        ∙ takes_call c m p.seat o e.protocol e.meets.seat e.meets.kind e.meets.order free in
+        named_holds c (world_of q).now p.seat (protocol_now p (Step.Take o) q t.makes) e.meets.seat
+        (takes_for c m p.seat o e.meets.kind e.meets.order) named in
         record {
-          holds = subst (λ (r : PassState). Holds r.table.config (world_of q).now r.seat) (sym t.makes.is) holds;
-          op =
-              sym for.1
-              ∙ ap (λ (f : Flight). op_for p.seat f) (sym call)
-              ∙ ap (λ (s : Seat). op_for s (flight_of (world_of q).now s)) (sym e.seat);
+          holds =
+              subst (λ (r : PassState). Holds r.table.config (world_of q).now r.seat) (sym t.makes.is) holds;
         }
 
     pub takes_fresh : IsFresh q o

@@ -24,10 +24,9 @@ pub record IsPass (p : PassState) : Type 0 where
   pub own : Has p.seats p.seat
   pub history : IsHistory p.table.config p.seen
 
--- A turn has its holder's pass, and the operation that its `take` carried.
+-- A turn has its holder's pass.
 pub record TurnState : Type 0 where
   pub pass : PassState
-  pub op : Option Op
 
 -- what is left after all that a pass has seen
 abbrev pub world_of : PassState → World

@@ -12,15 +12,9 @@ use Rattle.mk_words.specs.{PageMaps.IsMapOf, States.{PassState, TurnState, world
 use Rattle.mk_words.specs.Steps.{Makes, found_by}
 use Rattle.mk_core.specs.declared.events.Step.TheVariants as step
 
--- the operation for which a seat has the turn, whose call is this; the host has none
-abbrev pub op_for : Seat → Flight → Option Op
-op_for (Caller k) f = Some f.op
-op_for _ f = None
-
--- The pass's seat holds the turn, for this operation.
-pub record IsTurn (p : PassState) (o : Option Op) : Type 0 where
+-- The pass's seat holds the turn.
+pub record IsTurn (p : PassState) : Type 0 where
   pub holds : Holds p.table.config (now_of p) p.seat
-  pub op : o ≡ op_for p.seat (call_of p)
 
 -- the call that a `take` with this operation begins
 abbrev pub begun_for : Option Op → Flight
@@ -82,9 +76,9 @@ GatesAre false t = Unit {0}
 abbrev pub granted_address : PassState → ℕ
 granted_address p = address_of (granted_base p.table.config (call_of p) (now_of p).seats.holding.placing) % 2 ^ 64
 
--- The pass's seat holds the turn, for this operation. Its map shows what is left after all that the pass has seen, and
--- the gates are held, where that is known.
-pub record IsTurnWithMap (held : Bool) (p : PassState) (o : Option Op) (map : KnownPages) : Type 0 where
-  pub turn : IsTurn p o
+-- The pass's seat holds the turn. Its map shows what is left after all that the pass has seen, and the gates are held,
+-- where that is known.
+pub record IsTurnWithMap (held : Bool) (p : PassState) (map : KnownPages) : Type 0 where
+  pub turn : IsTurn p
   pub shows : IsMapOf map (now_of p).words
-  pub gates : GatesAre held (record { pass = p; op = o })
+  pub gates : GatesAre held (record { pass = p })

@@ -8,7 +8,7 @@ ghost use Rattle.mk_words.specs.{PageMaps.IsMapOf, States.now_of, Passes.{state_
 ghost use Rattle.mk_words.specs.{Rule.{takes_map, gives_map, no_step}, Steps.{IsEnabledTo, May, Makes, Tells}};
 ghost use Rattle.mk_core.specs.declared.events.Step.TheVariants as step;
 
-use crate::homes::{Carried, MapHome};
+use crate::homes::MapHome;
 use crate::indexes::index_of;
 use crate::rule::View;
 use crate::telling::{GiveMap, Making, TakeMap};
@@ -17,7 +17,9 @@ use crate::words::Words;
 use atomic_table::Seat as Token;
 use mk_core::{Seat, TableWord};
 use mk_never::Op;
+use mk_page_map::PageMap;
 use std::marker::{Brand, PhantomData};
+use std::mem;
 
 /// Exchanges the turn word, 0 for this number. Where it was 0, the token has the slot.
 #[inline(always)]
@@ -84,11 +86,11 @@ impl SeatToken {
         self,
         words: &Words,
         op: Option<Op>,
-    ) -> Result<(TurnToken, Box<Carried>), (SeatToken, u64)>
+    ) -> Result<(TurnToken, Box<PageMap>), (SeatToken, u64)>
         requires one_table { self.table ≡ words.now }
         requires enabled { IsEnabledTo self (step.Take op) }
         ensures taken { IfOk result (λ hand. Tells self (step.Take op) 0 hand.0) }
-        ensures map { IfOk result (λ hand. IsMapOf hand.1.value.map (now_of hand.0).words) }
+        ensures map { IfOk result (λ hand. IsMapOf hand.1.value (now_of hand.0).words) }
         ensures missed { IfErr result (λ back. Tells self (step.Take op) back.1 back.0) }
         ensures another { IfErr result (λ back. back.1 ≢ 0) }
     {
@@ -101,14 +103,14 @@ impl SeatToken {
         } = self;
         let found = take_as::<Brand>(words, &mut token, seat, op, number);
         if found == 0 {
-            let empty = MapHome { carried: None };
+            let empty = MapHome { map: None };
             let home = words.table.shared.exchange(&mut token, 0, empty);
             let taken = TokenWith {
                 token,
                 seat,
                 slots: PhantomData,
             };
-            Ok((taken, home.into_carried()))
+            Ok((taken, home.into_map()))
         } else {
             let back = TokenWith {
                 token,
@@ -122,11 +124,11 @@ impl SeatToken {
 
 impl TurnToken {
     /// Gives the turn back, with a map that shows the pages.
-    pub(crate) fn give(self, words: &Words, carried: Box<Carried>) -> SeatToken
+    pub(crate) fn give(self, words: &Words, map: Box<PageMap>) -> SeatToken
         requires one_table { self.table ≡ words.now }
         requires may { May self step.Give }
         requires holds { Holds self.table.config (now_of self) self.seat }
-        requires map { IsMapOf carried.value.map (now_of self).words }
+        requires map { IsMapOf map.value (now_of self).words }
         ensures { Makes self step.Give result }
     {
         let TokenWith {
@@ -134,10 +136,10 @@ impl TurnToken {
             seat,
             ..
         } = self;
-        let home = MapHome {
-            carried: Some(carried),
-        };
-        let _empty = words.table.shared.exchange(&mut token, 0, home);
+        let home = MapHome { map: Some(map) };
+        let empty = words.table.shared.exchange(&mut token, 0, home);
+        // Nothing lay in the slot, so there is nothing to drop.
+        mem::forget(empty);
         give_as::<Brand>(words, &mut token, seat);
         TokenWith {
             token,

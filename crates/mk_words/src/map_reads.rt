@@ -16,7 +16,7 @@ impl<G: Gates> TurnAt<G> {
     pub fn first_free(&self) -> Option<u64>
         ensures { result ≡ first_where is_free_page (uses_of_pages (now_of self.now.pass).words.pages) }
     {
-        self.carried.map.first_free()
+        self.map.first_free()
     }
 
     /// The first page of the lowest range of this many free pages.
@@ -24,7 +24,7 @@ impl<G: Gates> TurnAt<G> {
         requires { 1 ≤ count }
         ensures { result ≡ range_start count (uses_of_pages (now_of self.now.pass).words.pages) }
     {
-        self.carried.map.first_range(count)
+        self.map.first_range(count)
     }
 
     /// The lowest block of a class and sort that has a free cell.
@@ -32,14 +32,14 @@ impl<G: Gates> TurnAt<G> {
         requires { class < 8 }
         ensures { result ≡ first_where (has_free_cell class leaf) (uses_of_pages (now_of self.now.pass).words.pages) }
     {
-        self.carried.map.first_block(class, leaf)
+        self.map.first_block(class, leaf)
     }
 
     /// The lowest page that isn't free, of those from this one on.
     pub fn next_in_use(&self, from: u64) -> Option<u64>
         ensures { IsNext (is_in_use (now_of self.now.pass).words.pages) from self.now.pass.table.config.pages result }
     {
-        self.carried.map.next_in_use(from)
+        self.map.next_in_use(from)
     }
 
     /// The lowest page that has freed cells, of those from this one on.
@@ -47,14 +47,14 @@ impl<G: Gates> TurnAt<G> {
         ensures { IsNext (has_freed_cells (now_of self.now.pass).words.freed) from self.now.pass.table.config.pages
             result }
     {
-        self.carried.map.next_quarantined(from)
+        self.map.next_quarantined(from)
     }
 
     /// The next page, from this one on, that may be marked, though it has no header.
     pub fn next_uncleaned(&self, from: u64) -> Option<u64>
         ensures { IsNextUncleaned (now_of self.now.pass).words from self.now.pass.table.config.pages result }
     {
-        self.carried.map.next_uncleaned(from)
+        self.map.next_uncleaned(from)
     }
 
     /// Nothing of this page is marked or black. The map knows it from now on, so that `next_uncleaned` leaves it out.
@@ -63,14 +63,14 @@ impl<G: Gates> TurnAt<G> {
         requires none { HasNoMarks (now_of self.old.pass).words page }
         ensures same { self.new ≡ self.old }
     {
-        self.carried.map.cleaned(page);
+        self.map.cleaned(page);
     }
 
     /// How many pages are resident.
     pub fn resident(&self) -> u64
         ensures { result ≡ resident_pages (uses_of_pages (now_of self.now.pass).words.pages) }
     {
-        self.carried.map.resident()
+        self.map.resident()
     }
 
     /// The header and used word of a page.
@@ -78,13 +78,13 @@ impl<G: Gates> TurnAt<G> {
         requires { page < self.now.pass.table.config.pages }
         ensures { result ≡ page_of (now_of self.now.pass).words page }
     {
-        self.carried.map.page(page)
+        self.map.page(page)
     }
 
     /// The header and used word of each page.
     pub fn pages(&self) -> &[Page]
         ensures { result.now ≡ (now_of self.now.pass).words.pages }
     {
-        self.carried.map.pages()
+        self.map.pages()
     }
 }

@@ -1,44 +1,15 @@
 //! The steps of markers. A marker's pass keeps what the marker is at, so these need no further numbers.
 ghost use Rattle.std.specs.Prelude.{◌≡◌, None};
-ghost use Rattle.mk_core.specs.{Accesses.{seen_page, seen_bit, next_word, scan_page, scan_bit}, Moments.outside};
+ghost use Rattle.mk_core.specs.Moments.{outside};
 ghost use Rattle.mk_words.specs.{Markers.{marker_in, Marks, Claims}, Steps.{IsEnabledTo, Makes}};
 ghost use Rattle.mk_core.specs.declared.events.Step.TheVariants as step;
 
 use crate::marker_passes::MarkerPass;
 use crate::words::Words;
-use mk_core::{Access, Scan, Step, TableWord, Word, bit_for, cell_seen, has_bit};
-use mk_geom::Cell;
-
-fn next_word(scan: Option<Scan>) -> u64
-    ensures { result ≡ next_word scan }
-{
-    scan.map_or(0, |scan| scan.next)
-}
-
-fn scan_page(scan: Option<Scan>) -> u64
-    ensures { result ≡ scan_page scan }
-{
-    scan.map_or(0, |scan| scan.page)
-}
-
-/// The bit of the cell that is scanned.
-fn scan_bit(scan: Option<Scan>) -> u64
-    ensures { result ≡ scan_bit scan }
-{
-    scan.map_or(0, |scan| bit_for(scan.index))
-}
-
-fn seen_page(cell: Option<Cell>) -> u64
-    ensures { result ≡ seen_page cell }
-{
-    cell.map_or(0, |cell| cell.page)
-}
-
-fn seen_bit(cell: Option<Cell>) -> u64
-    ensures { result ≡ seen_bit cell }
-{
-    cell.map_or(0, |cell| bit_for(cell.index))
-}
+use mk_core::{
+    Access, Step, TableWord, Word, cell_seen, has_bit, next_word, scan_bit, scan_page, seen_bit,
+    seen_page,
+};
 
 impl MarkerPass {
     /// Comes in, and returns the phase word as it was: where that is marking, the marker attends.

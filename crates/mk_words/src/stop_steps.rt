@@ -19,7 +19,6 @@ impl Turn {
     pub fn try_hold(&mut self, words: &Words, caller: u64) -> Result<(), InCall>
         requires one_table { self.old.pass.table ≡ words.now }
         requires enabled { IsEnabledTo self.old.pass (step.Hold caller) }
-        ensures op { self.new.op ≡ self.old.op }
         ensures acts { Acts self.old.pass (step.Hold caller) self.new.pass }
         ensures found { OnOk result (Finds self.old.pass (step.Hold caller) 0 self.new.pass) }
         ensures held { OnOk result (is_held (now_of self.new.pass).words caller ≡ true) }
@@ -39,8 +38,7 @@ impl Turn {
     pub fn open_gate(&mut self, words: &Words, caller: u64)
         requires one_table { self.old.pass.table ≡ words.now }
         requires enabled { IsEnabledTo self.old.pass (step.Open caller) }
-        ensures op { self.new.op ≡ self.old.op }
-        ensures acts { Acts self.old.pass (step.Open caller) self.new.pass }
+        ensures { Acts self.old.pass (step.Open caller) self.new.pass }
     {
         self.act(
             words,
@@ -55,8 +53,7 @@ impl Turn {
         requires one_table { self.old.pass.table ≡ words.now }
         requires enabled { IsEnabledTo self.old.pass step.Full }
         requires admitted { IsAdmittedTo self.old.pass step.Full }
-        ensures op { self.new.op ≡ self.old.op }
-        ensures acts { Acts self.old.pass step.Full self.new.pass }
+        ensures { Acts self.old.pass step.Full self.new.pass }
     {
         self.perform(words, Step::Full, TableWord::Turn, Access::Load);
     }
@@ -65,8 +62,7 @@ impl Turn {
     pub fn begin(&mut self, words: &Words)
         requires one_table { self.old.pass.table ≡ words.now }
         requires enabled { IsEnabledTo self.old.pass step.Begin }
-        ensures op { self.new.op ≡ self.old.op }
-        ensures acts { Acts self.old.pass step.Begin self.new.pass }
+        ensures { Acts self.old.pass step.Begin self.new.pass }
     {
         self.perform(
             words,
@@ -82,8 +78,7 @@ impl Turn {
         requires one_table { self.old.pass.table ≡ words.now }
         requires enabled { IsEnabledTo self.old.pass step.Over }
         requires home { HasCallers self.old.pass.table.config self.old.pass.seats }
-        ensures op { self.new.op ≡ self.old.op }
-        ensures acts { Acts self.old.pass step.Over self.new.pass }
+        ensures { Acts self.old.pass step.Over self.new.pass }
     {
         self.perform(
             words,
@@ -99,10 +94,10 @@ impl Turn {
         requires { others_are_held self.pass.table.config.callers (now_of self.pass).words self.pass.seat ≡ true }
         ensures { result ≡ self }
     {
-        let TurnAt { pass, carried, .. } = self;
+        let TurnAt { pass, map, .. } = self;
         TurnAt {
             pass,
-            carried,
+            map,
             gates: PhantomData,
         }
     }

@@ -15,8 +15,7 @@ impl Stopped {
     pub fn want(&mut self, words: &Words)
         requires one_table { self.old.pass.table ≡ words.now }
         requires enabled { IsEnabledTo self.old.pass step.Want }
-        ensures op { self.new.op ≡ self.old.op }
-        ensures acts { Acts self.old.pass step.Want self.new.pass }
+        ensures { Acts self.old.pass step.Want self.new.pass }
     {
         self.perform(
             words,
@@ -31,8 +30,7 @@ impl Stopped {
     pub fn close_phase(&mut self, words: &Words)
         requires one_table { self.old.pass.table ≡ words.now }
         requires enabled { IsEnabledTo self.old.pass step.Close }
-        ensures op { self.new.op ≡ self.old.op }
-        ensures acts { Acts self.old.pass step.Close self.new.pass }
+        ensures { Acts self.old.pass step.Close self.new.pass }
     {
         self.perform(
             words,
@@ -46,8 +44,7 @@ impl Stopped {
     pub fn release(&mut self, words: &Words)
         requires one_table { self.old.pass.table ≡ words.now }
         requires enabled { IsEnabledTo self.old.pass step.Release }
-        ensures op { self.new.op ≡ self.old.op }
-        ensures acts { Acts self.old.pass step.Release self.new.pass }
+        ensures { Acts self.old.pass step.Release self.new.pass }
     {
         self.perform(
             words,
@@ -61,8 +58,7 @@ impl Stopped {
     pub fn black(&mut self, words: &Words, page: u64, v: u64)
         requires one_table { self.old.pass.table ≡ words.now }
         requires enabled { IsEnabledTo self.old.pass (step.Black page v) }
-        ensures op { self.new.op ≡ self.old.op }
-        ensures acts { Acts self.old.pass (step.Black page v) self.new.pass }
+        ensures { Acts self.old.pass (step.Black page v) self.new.pass }
     {
         self.black_among(words, words.pages(), page, v);
     }
@@ -73,8 +69,7 @@ impl Stopped {
         requires one_table { self.old.pass.table ≡ words.now }
         requires pages { pages ≡ words.now.config.pages }
         requires enabled { IsEnabledTo self.old.pass (step.Black page v) }
-        ensures op { self.new.op ≡ self.old.op }
-        ensures acts { Acts self.old.pass (step.Black page v) self.new.pass }
+        ensures { Acts self.old.pass (step.Black page v) self.new.pass }
     {
         self.perform_among(
             words,
@@ -89,14 +84,13 @@ impl Stopped {
     pub fn open_all(self, words: &Words) -> Turn
         requires one_table { self.pass.table ≡ words.now }
         requires enabled { OthersMayOpen self.pass 0 }
-        ensures op { result.op ≡ self.op }
         ensures opens { Opens self.pass result.pass }
         ensures gates { none_is_held self.pass.table.config.callers (now_of result.pass).words ≡ true }
     {
-        let TurnAt { pass, carried, .. } = self;
+        let TurnAt { pass, map, .. } = self;
         let mut turn = TurnAt::<AnyGates> {
             pass,
-            carried,
+            map,
             gates: PhantomData,
         };
         let callers = words.callers();
@@ -114,7 +108,6 @@ impl Stopped {
 fn open_other(turn: &mut Turn, words: &Words, caller: u64)
     requires one_table { turn.old.pass.table ≡ words.now }
     requires enabled { is_number_of turn.old.pass.seat caller ≡ false → IsEnabledTo turn.old.pass (step.Open caller) }
-    ensures op { turn.new.op ≡ turn.old.op }
     ensures opened { is_number_of turn.old.pass.seat caller ≡ false
         → Acts turn.old.pass (step.Open caller) turn.new.pass }
     ensures same { is_number_of turn.old.pass.seat caller ≡ true → turn.new.pass ≡ turn.old.pass }

@@ -1,8 +1,8 @@
 //! The steps of the turn's holder.
 ghost use Rattle.std.specs.Prelude.{◌≡◌, ◌≢◌, true};
 ghost use Rattle.mk_core.specs.declared.accesses.Access.TheVariants.{Load};
-ghost use Rattle.mk_core.specs.{declared.accesses.TableWord.TheVariants.Named, Accesses.{tally_word, register_met}};
-ghost use Rattle.mk_core.specs.{Accesses.reg_access, Calls.{d_of, progress_reg}, Words.header_at};
+ghost use Rattle.mk_core.specs.{declared.accesses.TableWord.TheVariants.Named, Accesses.{register_met, reg_access}};
+ghost use Rattle.mk_core.specs.{Calls.{d_of, progress_reg}, Words.header_at};
 ghost use Rattle.mk_words.specs.{Indexes.IsOnPage, States.{call_of, now_of}, CallSteps.register_of};
 ghost use Rattle.mk_words.specs.Steps.{IsEnabledTo, IsAdmittedTo, Finds, Goes, may_decide};
 ghost use Rattle.mk_words.specs.TurnSteps.{Acts, granted_address};
@@ -12,21 +12,7 @@ use crate::gates::Gates;
 use crate::indexes::page_of;
 use crate::turns::{Turn, TurnAt};
 use crate::words::Words;
-use mk_core::{Access, Step, TableWord, Tally, Word};
-
-/// The word of a tally.
-#[inline(always)]
-pub(crate) fn tally_word(tally: Tally) -> Word
-    ensures { result ≡ tally_word tally }
-{
-    match tally {
-        Tally::Held => Word::Held,
-        Tally::Fresh => Word::Fresh,
-        Tally::Cycles => Word::Cycles,
-        Tally::Released => Word::Released,
-        Tally::Full => Word::Full,
-    }
-}
+use mk_core::{Access, Step, TableWord, Tally, Word, tally_word};
 
 impl<G: Gates> TurnAt<G> {
     /// Looks at a word. After an undecided Free's look at its target's quarantine word the call may be decided.
@@ -35,7 +21,6 @@ impl<G: Gates> TurnAt<G> {
         requires one_table { self.old.pass.table ≡ words.now }
         requires enabled { IsEnabledTo self.old.pass (step.Look x) }
         requires admitted { may_decide (step.Look x) ≡ true → IsAdmittedTo self.old.pass (step.Look x) }
-        ensures op { self.new.op ≡ self.old.op }
         ensures acts { Acts self.old.pass (step.Look x) self.new.pass }
         ensures finds { Finds self.old.pass (step.Look x) result self.new.pass }
     {
@@ -50,7 +35,6 @@ impl<G: Gates> TurnAt<G> {
         requires pages { pages ≡ words.now.config.pages }
         requires enabled { IsEnabledTo self.old.pass (step.Look x) }
         requires admitted { may_decide (step.Look x) ≡ true → IsAdmittedTo self.old.pass (step.Look x) }
-        ensures op { self.new.op ≡ self.old.op }
         ensures acts { Acts self.old.pass (step.Look x) self.new.pass }
         ensures finds { Finds self.old.pass (step.Look x) result self.new.pass }
     {
@@ -66,7 +50,6 @@ impl<G: Gates> TurnAt<G> {
         requires page { IsOnPage page (Named x) }
         requires enabled { IsEnabledTo self.old.pass (step.Look x) }
         requires admitted { may_decide (step.Look x) ≡ true → IsAdmittedTo self.old.pass (step.Look x) }
-        ensures op { self.new.op ≡ self.old.op }
         ensures acts { Acts self.old.pass (step.Look x) self.new.pass }
         ensures finds { Finds self.old.pass (step.Look x) result self.new.pass }
     {
@@ -79,12 +62,11 @@ impl<G: Gates> TurnAt<G> {
     pub fn head(&mut self, words: &Words, page: u64, v: u64)
         requires one_table { self.old.pass.table ≡ words.now }
         requires enabled { IsEnabledTo self.old.pass (step.Head page v) }
-        ensures op { self.new.op ≡ self.old.op }
-        ensures acts { Acts self.old.pass (step.Head page v) self.new.pass }
+        ensures { Acts self.old.pass (step.Head page v) self.new.pass }
     {
         let head = TableWord::Named(Word::Head(page));
         self.pass.perform(words, Step::Head { page, value: v }, head, Access::Store(v));
-        self.carried.map.header_stored(page, v);
+        self.map.header_stored(page, v);
     }
 
     /// Stores a page's quarantine word.
@@ -92,20 +74,18 @@ impl<G: Gates> TurnAt<G> {
         requires one_table { self.old.pass.table ≡ words.now }
         requires enabled { IsEnabledTo self.old.pass (step.Quar page v) }
         requires admitted { IsAdmittedTo self.old.pass (step.Quar page v) }
-        ensures op { self.new.op ≡ self.old.op }
-        ensures acts { Acts self.old.pass (step.Quar page v) self.new.pass }
+        ensures { Acts self.old.pass (step.Quar page v) self.new.pass }
     {
         let quar = TableWord::Named(Word::Quar(page));
         self.pass.perform(words, Step::Quar { page, value: v }, quar, Access::Store(v));
-        self.carried.map.quarantine_stored(page, v % (1 << 32));
+        self.map.quarantine_stored(page, v % (1 << 32));
     }
 
     /// Clears a page's marks.
     pub fn clear(&mut self, words: &Words, page: u64)
         requires one_table { self.old.pass.table ≡ words.now }
         requires enabled { IsEnabledTo self.old.pass (step.Clear page) }
-        ensures op { self.new.op ≡ self.old.op }
-        ensures acts { Acts self.old.pass (step.Clear page) self.new.pass }
+        ensures { Acts self.old.pass (step.Clear page) self.new.pass }
     {
         self.perform(
             words,
@@ -119,13 +99,12 @@ impl<G: Gates> TurnAt<G> {
     pub fn mark(&mut self, words: &Words, page: u64, v: u64)
         requires one_table { self.old.pass.table ≡ words.now }
         requires enabled { IsEnabledTo self.old.pass (step.Mark page v) }
-        ensures op { self.new.op ≡ self.old.op }
-        ensures acts { Acts self.old.pass (step.Mark page v) self.new.pass }
+        ensures { Acts self.old.pass (step.Mark page v) self.new.pass }
     {
         let mark = TableWord::Named(Word::Mark(page));
         self.pass
             .perform(words, Step::Mark { page, value: v }, mark, Access::Or(v));
-        self.carried.map.marked(page);
+        self.map.marked(page);
     }
 
     /// Marks cells of a page in use, in a table of this many pages. Since the page has a header, the map needn't be
@@ -136,8 +115,7 @@ impl<G: Gates> TurnAt<G> {
         requires pages { pages ≡ words.now.config.pages }
         requires in_use { header_at (now_of self.old.pass).words page ≢ 0 }
         requires enabled { IsEnabledTo self.old.pass (step.Mark page v) }
-        ensures op { self.new.op ≡ self.old.op }
-        ensures acts { Acts self.old.pass (step.Mark page v) self.new.pass }
+        ensures { Acts self.old.pass (step.Mark page v) self.new.pass }
     {
         let step = Step::Mark { page, value: v };
         let mark = TableWord::Named(Word::Mark(page));
@@ -149,8 +127,7 @@ impl<G: Gates> TurnAt<G> {
     pub fn wipe(&mut self, words: &Words, word: u64)
         requires one_table { self.old.pass.table ≡ words.now }
         requires enabled { IsEnabledTo self.old.pass (step.Wipe word) }
-        ensures op { self.new.op ≡ self.old.op }
-        ensures acts { Acts self.old.pass (step.Wipe word) self.new.pass }
+        ensures { Acts self.old.pass (step.Wipe word) self.new.pass }
     {
         self.perform(
             words,
@@ -164,8 +141,7 @@ impl<G: Gates> TurnAt<G> {
     pub fn end(&mut self, words: &Words)
         requires one_table { self.old.pass.table ≡ words.now }
         requires enabled { IsEnabledTo self.old.pass step.End }
-        ensures op { self.new.op ≡ self.old.op }
-        ensures acts { Acts self.old.pass step.End self.new.pass }
+        ensures { Acts self.old.pass step.End self.new.pass }
     {
         self.perform(
             words,
@@ -179,8 +155,7 @@ impl<G: Gates> TurnAt<G> {
     pub fn undirty(&mut self, words: &Words, page: u64)
         requires one_table { self.old.pass.table ≡ words.now }
         requires enabled { IsEnabledTo self.old.pass (step.Undirty page) }
-        ensures op { self.new.op ≡ self.old.op }
-        ensures acts { Acts self.old.pass (step.Undirty page) self.new.pass }
+        ensures { Acts self.old.pass (step.Undirty page) self.new.pass }
     {
         self.perform(
             words,
@@ -194,8 +169,7 @@ impl<G: Gates> TurnAt<G> {
     pub fn unblack(&mut self, words: &Words, page: u64)
         requires one_table { self.old.pass.table ≡ words.now }
         requires enabled { IsEnabledTo self.old.pass (step.Unblack page) }
-        ensures op { self.new.op ≡ self.old.op }
-        ensures acts { Acts self.old.pass (step.Unblack page) self.new.pass }
+        ensures { Acts self.old.pass (step.Unblack page) self.new.pass }
     {
         self.perform(
             words,
@@ -209,8 +183,7 @@ impl<G: Gates> TurnAt<G> {
     pub fn tally(&mut self, words: &Words, n: Tally, v: u64)
         requires one_table { self.old.pass.table ≡ words.now }
         requires enabled { IsEnabledTo self.old.pass (step.Tally n v) }
-        ensures op { self.new.op ≡ self.old.op }
-        ensures acts { Acts self.old.pass (step.Tally n v) self.new.pass }
+        ensures { Acts self.old.pass (step.Tally n v) self.new.pass }
     {
         self.perform(
             words,
@@ -225,12 +198,11 @@ impl<G: Gates> TurnAt<G> {
     pub fn used(&mut self, words: &Words, page: u64, v: u64)
         requires one_table { self.old.pass.table ≡ words.now }
         requires enabled { IsEnabledTo self.old.pass (step.Used page v) }
-        ensures op { self.new.op ≡ self.old.op }
-        ensures acts { Acts self.old.pass (step.Used page v) self.new.pass }
+        ensures { Acts self.old.pass (step.Used page v) self.new.pass }
     {
         let used = TableWord::Named(Word::Used(page));
         self.pass.perform(words, Step::Used { page, value: v }, used, Access::Store(v));
-        self.carried.map.used_stored(page, v);
+        self.map.used_stored(page, v);
     }
 }
 
@@ -242,7 +214,6 @@ impl Turn {
         requires admitted { IsAdmittedTo self.old.pass step.Reg }
         requires register { r ≡ register_met (call_of self.old.pass) (call_of self.old.pass).stage }
         requires loads { reg_access (call_of self.old.pass) (call_of self.old.pass).stage ≡ Load }
-        ensures op { self.new.op ≡ self.old.op }
         ensures acts { Acts self.old.pass step.Reg self.new.pass }
         ensures finds { Finds self.old.pass step.Reg result self.new.pass }
         ensures goes { Goes self.old.pass step.Reg
@@ -263,8 +234,7 @@ impl Turn {
         requires admitted { IsAdmittedTo self.old.pass step.Grant }
         requires register { r ≡ d_of (call_of self.old.pass).op }
         requires address { address ≡ granted_address self.old.pass }
-        ensures op { self.new.op ≡ self.old.op }
-        ensures acts { Acts self.old.pass step.Grant self.new.pass }
+        ensures { Acts self.old.pass step.Grant self.new.pass }
     {
         let register = TableWord::Named(Word::Reg {
             caller: self.pass.caller(),

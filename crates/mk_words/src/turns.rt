@@ -8,12 +8,12 @@ ghost use Rattle.mk_words.specs.TurnSteps.{IsTurn, IsFresh, turn_stays, gates_st
 ghost use Rattle.mk_core.specs.declared.events.Step.TheVariants as step;
 
 use crate::gates::{AllHeld, AnyGates, Gates};
-use crate::homes::Carried;
 use crate::passes::Pass;
 use crate::tokens::TurnToken;
 use crate::words::Words;
 use mk_core::{Access, Seat, Step, TableWord};
 use mk_never::Op;
+use mk_page_map::PageMap;
 use std::marker::{Model, PhantomData};
 
 /// The turn of a table while the gates are as `G` says, with the pass of the seat that has it, and the map of the
@@ -21,7 +21,7 @@ use std::marker::{Model, PhantomData};
 #[derive(Drop)]
 pub struct TurnAt<G: Gates> {
     pub(crate) pass: TurnToken,
-    pub(crate) carried: Box<Carried>,
+    pub(crate) map: Box<PageMap>,
     pub(crate) gates: PhantomData<G>,
 }
 
@@ -38,9 +38,9 @@ impl<G: Gates> Model for TurnAt<G> {
 
     ghost use Rattle.mk_words.specs.TurnSteps.{IsTurnWithMap};
 
-    ghost view = { λ t. record { pass = t.pass; op = t.carried.value.op } };
+    ghost view = { λ t. record { pass = t.pass } };
 
-    ghost invariant = { λ t. IsTurnWithMap G.are_held t.pass t.carried.value.op t.carried.value.map };
+    ghost invariant = { λ t. IsTurnWithMap G.are_held t.pass t.map.value };
 }
 
 /// Another seat has the turn, by its number: a caller's own, or for the host the number of callers.
@@ -56,7 +56,6 @@ impl Pass {
         requires one_table { self.table ≡ words.now }
         requires enabled { IsEnabledTo self (step.Take op) }
         ensures made { IfOk result (λ turn. Finds self (step.Take op) 0 turn.pass) }
-        ensures op { IfOk result (λ turn. turn.op ≡ op) }
         ensures fresh { IfOk result (λ turn. IsFresh turn.pass op) }
         ensures exact { IfOk result (λ turn. TalliesAreExact turn.pass.table.config turn.pass.seen) }
         ensures tidy { IfOk result (λ turn. TalliesAreTidy turn.pass.table.config turn.pass.seen) }
@@ -66,12 +65,11 @@ impl Pass {
     {
         let Pass { own } = self;
         match own.take(words, op) {
-            Ok((pass, mut carried)) => {
+            Ok((pass, map)) => {
                 pass.is_in_order();
-                carried.begin(op);
                 Ok(TurnAt {
                     pass,
-                    carried,
+                    map,
                     gates: PhantomData,
                 })
             }
@@ -88,17 +86,10 @@ impl<G: Gates> TurnAt<G> {
         self.pass.seat()
     }
 
-    /// The operation that `try_take` was given.
-    pub fn op(&self) -> Option<Op>
-        ensures { result ≡ self.now.op }
-    {
-        self.carried.op
-    }
-
     /// What holds of every turn. It does nothing.
     #[inline(always)]
     pub fn is_in_order(&self)
-        ensures turn { IsTurn self.now.pass self.now.op }
+        ensures turn { IsTurn self.now.pass }
         ensures own { Has self.now.pass.seats self.now.pass.seat }
         ensures history { IsHistory self.now.pass.table.config self.now.pass.seen }
         ensures before_over { CallersAreBeforeOver self.now.pass.table.config self.now.pass.seats self.now.pass.seen }
@@ -120,7 +111,6 @@ impl<G: Gates> TurnAt<G> {
             (event_of self.old.pass step) }
         requires access { by ≡ access self.old.pass.table.config (now_of self.old.pass) (event_of self.old.pass step) }
         ensures told { Tells self.old.pass step result self.new.pass }
-        ensures op { self.new.op ≡ self.old.op }
         ensures acts { Acts self.old.pass step self.new.pass }
     {
         self.act_among(words, words.config.pages, step, word, by)
@@ -146,7 +136,6 @@ impl<G: Gates> TurnAt<G> {
             (event_of self.old.pass step) }
         requires access { by ≡ access self.old.pass.table.config (now_of self.old.pass) (event_of self.old.pass step) }
         ensures told { Tells self.old.pass step result self.new.pass }
-        ensures op { self.new.op ≡ self.old.op }
         ensures acts { Acts self.old.pass step self.new.pass }
     {
         self.pass.perform_among(words, pages, step, word, by)
@@ -163,7 +152,6 @@ impl<G: Gates> TurnAt<G> {
             (event_of self.old.pass step) }
         requires access { by ≡ access self.old.pass.table.config (now_of self.old.pass) (event_of self.old.pass step) }
         ensures told { Tells self.old.pass step result self.new.pass }
-        ensures op { self.new.op ≡ self.old.op }
         ensures acts { Acts self.old.pass step self.new.pass }
     {
         self.perform_among(words, words.config.pages, step, word, by)
@@ -188,7 +176,6 @@ impl<G: Gates> TurnAt<G> {
             (event_of self.old.pass step) }
         requires access { by ≡ access self.old.pass.table.config (now_of self.old.pass) (event_of self.old.pass step) }
         ensures told { Tells self.old.pass step result self.new.pass }
-        ensures op { self.new.op ≡ self.old.op }
         ensures acts { Acts self.old.pass step self.new.pass }
     {
         self.is_in_order();
@@ -205,8 +192,8 @@ impl Turn {
         ensures acts { Acts self.pass step.Give result }
         ensures rests { call_of result ≡ at_rest }
     {
-        let TurnAt { pass, carried, .. } = self;
-        let own = pass.give(words, carried);
+        let TurnAt { pass, map, .. } = self;
+        let own = pass.give(words, map);
         Pass { own }
     }
 }

@@ -8,7 +8,7 @@ ghost use Rattle.mk_words.specs.{Seats.{Has, HasAll, all_seats, without_seat, is
 ghost use Rattle.mk_words.specs.Finals.{history_of, config_of, HasTallies};
 
 use crate::finals::{Final, freed_bits, last_word};
-use crate::homes::{Carried, MapHome};
+use crate::homes::MapHome;
 use crate::indexes::{MOST_WORDS, count_of_words};
 use crate::passes::Pass;
 use crate::rule::{OneHistory, View};
@@ -65,11 +65,9 @@ fn first_slots(alloc: Global, pages: u64) -> Result<Vec<MapHome>, NoMemory>
         All (λ map. Shows map (replicate pages free_page) (replicate pages 0)) slots.items) }
 {
     let map = PageMap::new(alloc, pages)?;
-    let carried = Box::new(alloc, Carried { map, op: None })?;
+    let map = Box::new(alloc, map)?;
     let mut slots = Vec::new(alloc);
-    slots.push(MapHome {
-        carried: Some(carried),
-    })?;
+    slots.push(MapHome { map: Some(map) })?;
     Ok(slots)
 }
 

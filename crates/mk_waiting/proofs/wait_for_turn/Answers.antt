@@ -14,7 +14,6 @@ returns-in-Ok g c =
     let took = c.in-Ok.ensures in
     record {
       takes = record { waited = c.waiting.pass; waits = c.waiting.invariant.waits; takes = took.made };
-      op = took.op;
       fresh = took.fresh;
       exact = took.exact;
       tidy = took.tidy;

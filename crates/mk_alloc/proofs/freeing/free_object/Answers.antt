@@ -30,7 +30,7 @@ frees g c took =
       took = took;
       begins = c.take-turn.ensures.begins;
       retires = c.in-Ok.ensures.freed;
-      decided = in_turn c.retire_object.new.turn.pass _ i.own i.turn i.history;
+      decided = in_turn c.retire_object.new.turn.pass i.own i.turn i.history;
       run = c.run_if_due-turn.ensures.runs;
       history = j.history;
     }

@@ -9,7 +9,7 @@ full-requires-clause-enabled c =
     let quiet = c.requires.quiet in
     let u = c.requires.unplaced in
     let look = c.look-count.ensures in
-    let tallies = c.tally.ensures.acts in
+    let tallies = c.tally.ensures in
     full_allowed (in_turn_after tallies refl) (tallied_unplaced quiet u look.acts look.finds tallies)
     (tallied_idle quiet u look.acts look.finds tallies c.requires.idle)
     (tallied_ended quiet u look.acts look.finds tallies c.requires.ended)
@@ -17,20 +17,20 @@ full-requires-clause-enabled c =
 
 pub full-requires-clause-admitted : goal.full-requires-clause-admitted
 full-requires-clause-admitted c =
-    full_admitted (in_turn_after c.tally.ensures.acts refl) (tallied_unplaced c.requires.quiet c.requires.unplaced
-    c.look-count.ensures.acts c.look-count.ensures.finds c.tally.ensures.acts)
+    full_admitted (in_turn_after c.tally.ensures refl) (tallied_unplaced c.requires.quiet c.requires.unplaced
+    c.look-count.ensures.acts c.look-count.ensures.finds c.tally.ensures)
 
 pub returns-clause-full : goal.returns-clause-full
 returns-clause-full c =
     answers_full c.requires.quiet c.requires.unplaced c.look-count.ensures.acts c.look-count.ensures.finds
-    c.tally.ensures.acts c.full.ensures.acts c.saturating_add.ensures
+    c.tally.ensures c.full.ensures c.saturating_add.ensures
 
 pub returns-clause-begins : goal.returns-clause-begins
 returns-clause-begins c =
     full_begins_none c.requires.quiet c.requires.unplaced c.look-count.ensures.acts c.look-count.ensures.finds
-    c.tally.ensures.acts c.full.ensures.acts c.saturating_add.ensures
+    c.tally.ensures c.full.ensures c.saturating_add.ensures
 
 pub returns-clause-reached : goal.returns-clause-reached
 returns-clause-reached c =
     full_sweeps c.args.turn.now.pass c.look-count.new.self.pass c.tally.new.self.pass c.full.new.self.pass _ _ _
-    c.look-count.ensures.acts c.tally.ensures.acts c.full.ensures.acts refl refl refl
+    c.look-count.ensures.acts c.tally.ensures c.full.ensures refl refl refl

@@ -1,19 +1,34 @@
 use Rattle.std.proofs.Common.{IfSome}
 use Rattle.mk_alloc.proofs.Vocabulary.{Answer, Bool, CalledInTurn, CallerState, EachIsBegun, IsAnsweredFull, Misfits}
-use Rattle.mk_alloc.proofs.Vocabulary.{Op, Option, PassState, SweepsNothing, ℕ, false, refl, subst, sym, ◌≡◌}
-use Rattle.mk_alloc.proofs.{BegunTurns.{none_begun, part_then_begun, turn_begun}, NewTurns.{NewGiven, census_told}}
-use Rattle.mk_alloc.proofs.NewTurns.{given, is_answered_full, last_turn, new_called}
+use Rattle.mk_alloc.proofs.Vocabulary.{Flight, Op, Option, PassState, SweepsNothing, ℕ, ap, false, refl, subst, sym}
+use Rattle.mk_alloc.proofs.{Vocabulary.◌≡◌, BegunTurns.{none_begun, part_then_begun, turn_begun}}
+use Rattle.mk_alloc.proofs.NewTurns.{NewGiven, census_told, given, is_answered_full, last_turn, new_called}
 use Rattle.mk_alloc.proofs.{OneCycles.{none_runs_one, none_then_one}, UnsweptTurns.{part_then_sweeps, turn_sweeps}}
 use Rattle.mk_alloc.proofs.{making.new_object.Goals.{After-give, After-give-2, After-take-turn}, CalledTurns.Taken}
-use Rattle.mk_alloc.proofs.{SeekingTurns.{misfits_then, seeks_then}, TakenTurns.took_by}
+use Rattle.mk_alloc.proofs.{SeekingTurns.{misfits_then, requests_then, seeks_then}, TakenTurns.took_by}
 use Rattle.mk_geom.specs.declared.pages.Census.{Census}
 use Rattle.mk_alloc.specs.Rooms.{CountsFull, answer_with}
+use Rattle.mk_objects.specs.Placing.{Requests}
 use Rattle.mk_alloc.proofs.making.new_object.Goals as goal
 
 -- the turn of the call, as it was taken
 took : (g : _) (c : After-take-turn g)
     → Taken (Op.New c.args.d c.args.ty false) c.args.caller.now.pass c.take-turn.result.pass
 took g c = took_by c.lend-home.ensures.pass c.is_idle.ensures.idle c.is_idle.ensures.own c.take-turn.ensures.takes
+
+-- and what it requests
+requested : (g : _) (c : After-take-turn g)
+    → Requests c.take-turn.result.pass (record { register = c.args.d; ty = c.args.ty })
+requested g c = record { full = false; op = ap (λ (f : Flight). f.op) c.take-turn.ensures.begins.fresh.call }
+
+pub try_place-requires-clause-requested : goal.try_place-requires-clause-requested
+try_place-requires-clause-requested g c =
+    requested g (goal.at.try_place-requires-clause-requested g c).After-take-turn
+
+pub make_room_or_count-turn-requires-clause-requested : goal.make_room_or_count-turn-requires-clause-requested
+make_room_or_count-turn-requires-clause-requested g c κs within =
+    let x = goal.at.make_room_or_count-turn-requires-clause-requested g c in
+    requests_then (requested g x.After-take-turn) (c.try_place.ensures.misfits c.if-try_place.false).seeks
 
 -- The object is placed at once,
 at_once : (g : _) (c : After-give g) → Taken (Op.New c.args.d c.args.ty false) c.args.caller.now.pass

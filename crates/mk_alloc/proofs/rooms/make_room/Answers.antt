@@ -1,6 +1,10 @@
 use Rattle.mk_alloc.proofs.{BegunTurns.{none_begun, part_then_begun}, OneCycles.{none_runs_one, none_then_one}}
-use Rattle.mk_alloc.proofs.{SeekingTurns.{misfits_then, seeks_then}, UnsweptTurns.part_then_sweeps}
+use Rattle.mk_alloc.proofs.{SeekingTurns.{misfits_then, requests_then, seeks_then}, UnsweptTurns.part_then_sweeps}
 use Rattle.mk_alloc.proofs.rooms.make_room.Goals as goal
+
+pub place_behind_cycle-requires-clause-requested : goal.place_behind_cycle-requires-clause-requested
+place_behind_cycle-requires-clause-requested g c κs within =
+    requests_then c.requires.requested (c.place_behind_older-turn.ensures.misfits c.if-placed.false).misfits.seeks
 
 pub returns-clause-placed : goal.returns-clause-placed
 returns-clause-placed g c =

@@ -1,8 +1,21 @@
 use Rattle.mk_alloc.proofs.Vocabulary.{Done, None, PassState, Seeks, ap, begun_then, cycle_ended, in_turn, sweeps_then}
-use Rattle.mk_alloc.proofs.{Vocabulary.◌∙◌, SeekingTurns.{misfits_then, nowhere_begun, seeks_begun, seeks_then}}
-use Rattle.mk_alloc.proofs.{BegunTurns.none_begun, OneCycles.{begin_then_ends, ends_none}, QuietTurns.quiet_begun}
-use Rattle.mk_alloc.proofs.rooms.place_behind_cycle.Goals.{After-is_in_order-2}
+use Rattle.mk_alloc.proofs.{Vocabulary.◌∙◌, SeekingTurns.{misfits_then, nowhere_begun, requests_then, seeks_begun}}
+use Rattle.mk_alloc.proofs.{SeekingTurns.seeks_then, BegunTurns.none_begun, OneCycles.{begin_then_ends, ends_none}}
+use Rattle.mk_alloc.proofs.{QuietTurns.quiet_begun, rooms.place_behind_cycle.Goals.After-is_in_order-2}
 use Rattle.mk_alloc.proofs.rooms.place_behind_cycle.Goals as goal
+
+-- the cycle that begins
+sought : (g : _) (c : After-is_in_order-2 g) → Seeks None c.args.turn.pass c.begin_cycle.new.turn.pass
+sought g c =
+    let t = c.args.turn in
+    let i = c.is_in_order.ensures in
+    seeks_begun (in_turn t.pass i.own i.turn i.history) c.requires.unplaced c.requires.quiet c.requires.nowhere
+    c.begin_cycle.ensures.law c.is_in_order-2.ensures.history
+
+pub finish_and_place-requires-clause-requested : goal.finish_and_place-requires-clause-requested
+finish_and_place-requires-clause-requested g c κs within =
+    requests_then c.requires.requested
+    (sought g (goal.at.finish_and_place-requires-clause-requested g c).After-is_in_order-2)
 
 pub finish_and_place-requires-clause-quiet : goal.finish_and_place-requires-clause-quiet
 finish_and_place-requires-clause-quiet g c κs within =
@@ -12,15 +25,7 @@ pub finish_and_place-requires-clause-nowhere : goal.finish_and_place-requires-cl
 finish_and_place-requires-clause-nowhere g c κs within =
     let t = c.args.turn in
     let i = c.is_in_order.ensures in
-    nowhere_begun (in_turn t.pass t.op i.own i.turn i.history) c.requires.unplaced c.requires.quiet c.requires.nowhere
-    c.begin_cycle.ensures.law c.is_in_order-2.ensures.history
-
--- the cycle that begins
-sought : (g : _) (c : After-is_in_order-2 g) → Seeks None c.args.turn.pass c.begin_cycle.new.turn.pass
-sought g c =
-    let t = c.args.turn in
-    let i = c.is_in_order.ensures in
-    seeks_begun (in_turn t.pass t.op i.own i.turn i.history) c.requires.unplaced c.requires.quiet c.requires.nowhere
+    nowhere_begun (in_turn t.pass i.own i.turn i.history) c.requires.unplaced c.requires.quiet c.requires.nowhere
     c.begin_cycle.ensures.law c.is_in_order-2.ensures.history
 
 pub returns-clause-placed : goal.returns-clause-placed
@@ -50,7 +55,7 @@ pub returns-clause-one : goal.returns-clause-one
 returns-clause-one g c =
     let t = c.args.turn in
     let i = c.is_in_order.ensures in
-    begin_then_ends (in_turn t.pass t.op i.own i.turn i.history) c.begin_cycle.ensures.law
+    begin_then_ends (in_turn t.pass i.own i.turn i.history) c.begin_cycle.ensures.law
     c.is_in_order-2.ensures.history c.finish_and_place.ensures.ends
 
 pub returns-clause-begun : goal.returns-clause-begun

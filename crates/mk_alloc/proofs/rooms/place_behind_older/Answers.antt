@@ -1,6 +1,6 @@
 use Rattle.mk_alloc.proofs.Vocabulary.{BeginsNone, Misfits, in_turn, sym, ◌∙◌}
 use Rattle.mk_alloc.proofs.OneCycles.{ends_none, looks_begins_none, none_then_none}
-use Rattle.mk_alloc.proofs.SeekingTurns.{misfits_seen, misfits_then, phase_seen, seeks_then, seen_at}
+use Rattle.mk_alloc.proofs.SeekingTurns.{misfits_seen, misfits_then, phase_seen, requests_then, seeks_then, seen_at}
 use Rattle.mk_alloc.proofs.UnsweptTurns.{looking_sweeps, looking_then_sweeps}
 use Rattle.mk_alloc.proofs.{QuietTurns.quiet_looked, rooms.place_behind_older.Goals.After-is_in_order-2}
 use Rattle.mk_alloc.proofs.rooms.place_behind_older.Goals as goal
@@ -10,14 +10,14 @@ seen : (g : _) (c : After-is_in_order-2 g) → Misfits c.args.turn.pass c.is_cyc
 seen g c =
     let t = c.args.turn in
     let i = c.is_in_order.ensures in
-    misfits_seen (in_turn t.pass t.op i.own i.turn i.history) c.requires.unplaced c.requires.quiet c.requires.nowhere
+    misfits_seen (in_turn t.pass i.own i.turn i.history) c.requires.unplaced c.requires.quiet c.requires.nowhere
     c.is_cycle_on-is_on.ensures.looks c.is_in_order-2.ensures.history
 
 begins_none : (g : _) (c : After-is_in_order-2 g) → BeginsNone c.args.turn.pass c.is_cycle_on-is_on.new.turn.pass
 begins_none g c =
     let t = c.args.turn in
     let i = c.is_in_order.ensures in
-    looks_begins_none (in_turn t.pass t.op i.own i.turn i.history) c.is_cycle_on-is_on.ensures.looks.does
+    looks_begins_none (in_turn t.pass i.own i.turn i.history) c.is_cycle_on-is_on.ensures.looks.does
     c.is_in_order-2.ensures.history
 
 pub returns-then-not-is_on-clause-misfits : goal.returns-then-not-is_on-clause-misfits
@@ -29,6 +29,11 @@ returns-then-not-is_on-clause-misfits g c =
           (phase_seen c.args.turn.pass c.requires.quiet.phase
           (sym c.is_cycle_on-is_on.ensures.on ∙ c.if-not-is_on.true));
     }
+
+pub finish_and_place-requires-clause-requested : goal.finish_and_place-requires-clause-requested
+finish_and_place-requires-clause-requested g c κs within =
+    let x = goal.at.finish_and_place-requires-clause-requested g c in
+    requests_then c.requires.requested (seen g x.After-is_in_order-2).seeks
 
 pub finish_and_place-requires-clause-quiet : goal.finish_and_place-requires-clause-quiet
 finish_and_place-requires-clause-quiet g c κs within =

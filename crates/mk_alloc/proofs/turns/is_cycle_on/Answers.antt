@@ -4,7 +4,7 @@ use Rattle.mk_alloc.proofs.turns.is_cycle_on.Goals as goal
 pub look-found-requires-clause-enabled : goal.look-found-requires-clause-enabled
 look-found-requires-clause-enabled c =
     let t = c.args.turn.now in
-    phase_allowed (in_turn t.pass t.op c.is_in_order.ensures.own c.is_in_order.ensures.turn
+    phase_allowed (in_turn t.pass c.is_in_order.ensures.own c.is_in_order.ensures.turn
     c.is_in_order.ensures.history)
     c.requires.quiet.free
 
@@ -12,5 +12,5 @@ pub returns-clause-looks : goal.returns-clause-looks
 returns-clause-looks c =
     let t = c.args.turn.now in
     looked t.pass c.look-found.new.self.pass
-    (in_turn t.pass t.op c.is_in_order.ensures.own c.is_in_order.ensures.turn c.is_in_order.ensures.history)
+    (in_turn t.pass c.is_in_order.ensures.own c.is_in_order.ensures.turn c.is_in_order.ensures.history)
     c.requires.quiet.free c.look-found.ensures.acts.makes.pass.history c.look-found.ensures.acts

@@ -49,7 +49,7 @@ give-home-requires-clause-enabled c =
     let k = c.is_in_order-in-Ok.ensures in
     let done : PassState = c.place_number.new.turn.pass in
     let on = (seeks x.After-is_in_order-in-Ok (taken x.After-is_in_order)).on in
-    give_allowed done (in_turn done _ k.own k.turn k.history) on.quiet (on.decided refl)
+    give_allowed done (in_turn done k.own k.turn k.history) on.quiet (on.decided refl)
 
 pub give-home-requires-clause-tidy : goal.give-home-requires-clause-tidy
 give-home-requires-clause-tidy c =

@@ -22,17 +22,17 @@ head-requires-clause-enabled c =
     let first : c.args.place.page + 0 ≡ c.args.place.page = omega arith in
     subst (λ n. IsEnabledTo q (Step.Head c.args.place.page n)) (ap (λ (o : Object). header_made o 0) c.requires.number
     ∙ sym c.block_word.ensures) (subst (λ page. IsEnabledTo q (Step.Head page (header_made (object_for p) 0))) first
-    (head_may c.requires.goes k c.requires.free c.mark_first.ensures.carved (omega arith)))
+    (head_may c.requires.goes k c.requires.free c.mark_first.ensures (omega arith)))
 
-pub returns-clause-ready : goal.returns-clause-ready
-returns-clause-ready c =
+pub returns : goal.returns
+returns c =
     let p : PassState = c.args.turn.now.pass in
     let r : PassState = c.head.new.self.pass in
     let count = one_page c.requires.number in
     let first : c.args.place.page ≡ c.args.place.page + 0 = omega arith in
-    let k = knows (goal.at.returns-clause-ready c).After-is_in_order in
+    let k = knows (goal.at.returns c).After-is_in_order in
     let a = subst (λ page. Acts c.mark_first.new.turn.pass (Step.Head page (header_made (object_for p) 0)) r) first
     (subst (λ n. Acts c.mark_first.new.turn.pass (Step.Head c.args.place.page n) r)
-    (c.block_word.ensures ∙ sym (ap (λ (o : Object). header_made o 0) c.requires.number)) c.head.ensures.acts) in
+    (c.block_word.ensures ∙ sym (ap (λ (o : Object). header_made o 0) c.requires.number)) c.head.ensures) in
     carved_all c.requires.goes k c.requires.free (subst (λ n. HasCarved p c.args.place n r) (sym count)
-    (heads_on c.requires.goes k c.requires.free c.mark_first.ensures.carved (omega arith) a))
+    (heads_on c.requires.goes k c.requires.free c.mark_first.ensures (omega arith) a))

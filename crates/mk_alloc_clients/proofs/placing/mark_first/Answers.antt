@@ -13,19 +13,19 @@ mark-requires-clause-enabled c =
     subst (λ n. IsEnabledTo p (Step.Mark c.args.place.page n)) (ap (λ (o : Object). bits_made o) c.requires.number)
     (mark_may c.requires.goes k c.requires.free one)
 
-pub returns-then-marking-clause-carved : goal.returns-then-marking-clause-carved
-returns-then-marking-clause-carved c =
+pub returns-then-marking : goal.returns-then-marking
+returns-then-marking c =
     let p : PassState = c.args.turn.now.pass in
     let q : PassState = c.mark.new.self.pass in
     let i = c.is_in_order.ensures in
     let k = knows_place i.turn i.history c.requires.goes in
     let one = eqb-true (phase_of (now_of p).words) 1 (sym c.requires.marking ∙ c.if-marking.true) in
     let a = subst (λ n. Acts p (Step.Mark c.args.place.page n) q)
-    (sym (ap (λ (o : Object). bits_made o) c.requires.number)) c.mark.ensures.acts in
+    (sym (ap (λ (o : Object). bits_made o) c.requires.number)) c.mark.ensures in
     marks_first c.requires.goes k c.requires.free one a
 
-pub returns-else-marking-clause-carved : goal.returns-else-marking-clause-carved
-returns-else-marking-clause-carved c =
+pub returns-else-marking : goal.returns-else-marking
+returns-else-marking c =
     let p : PassState = c.args.turn.now.pass in
     let i = c.is_in_order.ensures in
     let k = knows_place i.turn i.history c.requires.goes in

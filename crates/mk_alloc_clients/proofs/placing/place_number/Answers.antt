@@ -17,7 +17,7 @@ pub serve-requires-clause-goes : goal.serve-requires-clause-goes
 serve-requires-clause-goes c =
     let p : PassState = c.args.turn.now.pass in
     let i = c.is_in_order.ensures in
-    goes p c.see-seen.new.turn.pass c.args.turn.now.op c.see-seen.result.page (Some c.in-Some.place) i.turn i.history
+    goes p c.see-seen.new.turn.pass c.see-seen.result.page (Some c.in-Some.place) i.turn i.history
     c.requires.unplaced (ap (λ (t : WordsState). t.config.pages) c.requires.one_table ∙ c.requires.one_page)
     c.requires.number c.see-seen.ensures.looks c.see-seen.ensures.page c.in-Some.ensures c.in-Some.place refl
 
@@ -25,7 +25,7 @@ pub serve-requires-clause-page : goal.serve-requires-clause-page
 serve-requires-clause-page c =
     let p : PassState = c.args.turn.now.pass in
     let i = c.is_in_order.ensures in
-    sees_page p c.see-seen.new.turn.pass c.args.turn.now.op c.see-seen.result.page
+    sees_page p c.see-seen.new.turn.pass c.see-seen.result.page
     (Some c.in-Some.place) i.turn i.history
     c.requires.unplaced (ap (λ (t : WordsState). t.config.pages) c.requires.one_table ∙ c.requires.one_page)
     c.requires.number c.see-seen.ensures.looks c.see-seen.ensures.page c.in-Some.ensures c.in-Some.place refl
@@ -38,7 +38,7 @@ returns-in-None-clause-nowhere c =
     let p : PassState = c.args.turn.now.pass in
     let i = c.is_in_order.ensures in
     λ h.
-    nowhere p c.see-seen.new.turn.pass c.args.turn.now.op c.see-seen.result.page None i.turn i.history
+    nowhere p c.see-seen.new.turn.pass c.see-seen.result.page None i.turn i.history
     c.requires.unplaced (ap (λ (t : WordsState). t.config.pages) c.requires.one_table ∙ c.requires.one_page)
     c.requires.number c.see-seen.ensures.looks c.see-seen.ensures.page c.in-None.ensures refl
 
@@ -47,7 +47,7 @@ returns-in-Some-clause-placed c =
     let p : PassState = c.args.turn.now.pass in
     let i = c.is_in_order.ensures in
     λ h.
-    placed p c.see-seen.new.turn.pass c.args.turn.now.op c.see-seen.result.page (Some c.in-Some.place) i.turn i.history
+    placed p c.see-seen.new.turn.pass c.see-seen.result.page (Some c.in-Some.place) i.turn i.history
     c.requires.unplaced (ap (λ (t : WordsState). t.config.pages) c.requires.one_table ∙ c.requires.one_page)
     c.requires.number c.see-seen.ensures.looks c.see-seen.ensures.page c.in-Some.ensures c.serve.new.turn.pass
     c.in-Some.place refl c.serve.ensures.granted c.serve.ensures.held

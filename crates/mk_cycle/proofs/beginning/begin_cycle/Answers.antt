@@ -17,15 +17,15 @@ cleared : (g : _) (c : After-tally g) → IsCleared c.args.words.now c.args.turn
 cleared g c =
     let first = cleaned_turn c.clean_pages.ensures.cleans
     (record { one_table = c.requires.one_table; free = c.requires.free; phase = c.requires.phase }) in
-    let next = tallied first c.tally.ensures.acts in
+    let next = tallied first c.tally.ensures in
     let turn = cleaned_turn next first in
     record {
       cleans = cleans_then c.clean_pages.ensures.cleans next;
       turn = turn;
-      holds = in_turn_after c.tally.ensures.acts refl;
+      holds = in_turn_after c.tally.ensures refl;
       clean = λ page lt. clean_stays next (c.clean_pages.ensures.clean page
           (subst (λ (w : WordsState). page < w.config.pages) turn.one_table lt));
-      fresh = ap (λ (w : World). w.now.words.fresh) c.tally.ensures.acts.world;
+      fresh = ap (λ (w : World). w.now.words.fresh) c.tally.ensures.world;
     }
 
 pub begin-requires-clause-one_table : goal.begin-requires-clause-one_table
@@ -39,7 +39,7 @@ begin-requires-clause-enabled g c =
 pub begin-requires-2-clause-free : goal.begin-requires-2-clause-free
 begin-requires-2-clause-free g c =
     let x = cleared g (goal.at.begin-requires-2-clause-free g c).After-tally in
-    begun_free x.holds x.turn.free x.turn.phase (in_turn_after c.begin.ensures.acts refl) c.begin.ensures.acts
+    begun_free x.holds x.turn.free x.turn.phase (in_turn_after c.begin.ensures refl) c.begin.ensures
 
 pub returns-clause-law : goal.returns-clause-law
 returns-clause-law g c =
@@ -50,7 +50,7 @@ returns-clause-law g c =
       one_table = c.requires.one_table;
       free = c.requires.free;
       phase = c.requires.phase;
-    })) c.tally.ensures.acts)) c.begin.ensures.acts
+    })) c.tally.ensures)) c.begin.ensures
     c.begin-2.ensures.law
 
 pub returns-clause-reached : goal.returns-clause-reached
@@ -60,7 +60,7 @@ returns-clause-reached g c none =
     let d = c.begin.new.self.pass in
     let q = c.begin-2.new.turn.pass in
     let all = (cleared g (goal.at.returns-clause-reached g c).After-tally).cleans in
-    let begin = c.begin.ensures.acts.makes in
+    let begin = c.begin.ensures.makes in
     sweeps_then p b q all.keeps.call.pass (does_sweep clears p b (marks_nothing clears (λ page v. refl)) all.does)
     (sweeps_then b d q (only_seen_by b d Step.Begin begin) (other_step_sweeps b d Step.Begin begin refl)
     (c.begin-2.ensures.reached none))
@@ -73,7 +73,7 @@ returns-clause-begun g c =
     let all = (cleared g (goal.at.returns-clause-begun g c).After-tally).cleans in
     let begins = g.E.Engine.begins in
     begun_then begins p b q all.keeps.call.pass (does_begin_none begins clears p b (begins_none clears refl) all.does)
-    (begin_begun begins b c.begin.new.self.pass q (in_turn_before c.begin.ensures.acts).own c.begin.ensures.acts.makes
+    (begin_begun begins b c.begin.new.self.pass q (in_turn_before c.begin.ensures).own c.begin.ensures.makes
     c.begin-2.ensures.law.does c.begin-2.ensures.begun)
 
 pub returns-clause-last : goal.returns-clause-last
@@ -83,6 +83,6 @@ returns-clause-last g c =
       cleared = c.tally.new.self.pass;
       begun = c.begin.new.self.pass;
       before = all.does;
-      begin = c.begin.ensures.acts.makes;
+      begin = c.begin.ensures.makes;
       part = c.begin-2.ensures.begun;
     }

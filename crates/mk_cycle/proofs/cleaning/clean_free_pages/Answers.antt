@@ -13,7 +13,7 @@ loop-page-preserved c =
     let q = c.loop-page.turn.pass in
     let n = c.in-Some.page in
     record {
-      pages = cleans_past c.requires.turn.one_table i.pages next.1 x.op x.cleans;
+      pages = cleans_past c.requires.turn.one_table i.pages next.1 x.cleans;
       below = free_bare_more x.cleans (free_bare_past q c.loop-page.from n i.below next.2) x.bare;
     }
 

@@ -11,7 +11,7 @@ loop-page-preserved c =
     let x = c.clean_page.ensures in
     let next = c.in-Some.ensures.next in
     let n = c.in-Some.page in
-    let pages = cleans_past c.requires.turn.one_table i.pages next.1 x.op x.cleans in
+    let pages = cleans_past c.requires.turn.one_table i.pages next.1 x.cleans in
     record {
       pages = pages;
       below = ready_more i.pages.cleans x.cleans

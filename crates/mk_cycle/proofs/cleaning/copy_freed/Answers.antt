@@ -29,13 +29,13 @@ quar-requires-clause-admitted c =
 pub returns-then-quarantine-freed-clause-cleans : goal.returns-then-quarantine-freed-clause-cleans
 returns-then-quarantine-freed-clause-cleans c =
     let x = (goal.at.returns-then-quarantine-freed-clause-cleans c).After-look-quarantine in
-    cleans_then (first x) (snapshot_taken (turn x) c.quar.ensures.acts c.requires.within
+    cleans_then (first x) (snapshot_taken (turn x) c.quar.ensures c.requires.within
     (ap (λ (n : ℕ). quarantine_word n n) (half x).freed))
 
 pub returns-then-quarantine-freed-clause-snapshot : goal.returns-then-quarantine-freed-clause-snapshot
 returns-then-quarantine-freed-clause-snapshot c =
     let x = (goal.at.returns-then-quarantine-freed-clause-snapshot c).After-look-quarantine in
-    has_snapshot (turn x) c.quar.ensures.acts c.requires.within (ap (λ (n : ℕ). quarantine_word n n) (half x).freed)
+    has_snapshot (turn x) c.quar.ensures c.requires.within (ap (λ (n : ℕ). quarantine_word n n) (half x).freed)
 
 pub returns-else-quarantine-freed-clause-cleans : goal.returns-else-quarantine-freed-clause-cleans
 returns-else-quarantine-freed-clause-cleans c = looked c.requires.turn c.look-quarantine.ensures.acts

@@ -12,7 +12,7 @@ loop-page-preserved c =
     let next = c.in-Some.ensures.next in
     let n = c.in-Some.page in
     record {
-      pages = cleans_past c.requires.turn.one_table i.pages next.1 x.op x.cleans;
+      pages = cleans_past c.requires.turn.one_table i.pages next.1 x.cleans;
       below = taken_more n x.cleans (taken_past c.loop-page.from n c.in-Some.ensures.is i.below next.3) x.snapshot;
     }
 

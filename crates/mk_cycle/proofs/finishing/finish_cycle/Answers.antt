@@ -14,29 +14,29 @@ end-requires-clause-enabled g c =
 
 pub count_cycle-requires-clause-free : goal.count_cycle-requires-clause-free
 count_cycle-requires-clause-free g c =
-    ended_free c.give_all_back-turn.ensures.gives.phase c.end.ensures.acts
+    ended_free c.give_all_back-turn.ensures.gives.phase c.end.ensures
     (gives_free c.give_all_back-turn.ensures.gives c.requires.free)
 
 pub returns-clause-law : goal.returns-clause-law
 returns-clause-law g c =
     let give = c.give_all_back-turn.ensures in
-    finishes_cycle give.gives c.requires.free c.end.ensures.acts _ c.count_cycle.ensures.sets give.told give.held
+    finishes_cycle give.gives c.requires.free c.end.ensures _ c.count_cycle.ensures give.told give.held
 
 pub returns-clause-released : goal.returns-clause-released
 returns-clause-released g c =
     let give = c.give_all_back-turn.ensures in
-    has_released give.gives c.requires.free c.end.ensures.acts _ c.count_cycle.ensures.sets give.told give.held
+    has_released give.gives c.requires.free c.end.ensures _ c.count_cycle.ensures give.told give.held
 
 promised : (g : _) (c : After-count_cycle g)
     → ClosesAsPromised g.E.Engine.sweeps (g.E.Engine.tells c.give_all_back-turn.new.engine)
     (g.E.Engine.closes c.give_all_back-turn.new.engine) c.args.turn.pass c.count_cycle.new.turn.pass
 promised g c =
     let same = (gives_call c.give_all_back-turn.ensures.gives).pass in
-    let end = c.end.ensures.acts.makes in
+    let end = c.end.ensures.makes in
     let e = c.end.new.self.pass in
     promised_later sets_tallies (λ page v. refl)
     (only_seen_by _ e Step.End end ∙ ap (λ (x : PassState). record x { seen = e.seen }) same)
-    c.count_cycle.ensures.sets.does
+    c.count_cycle.ensures.does
     (promised_later is_end (λ page v. refl) same (does_step is_end _ e Step.End end refl)
     c.give_all_back-turn.ensures.promised)
 

@@ -32,7 +32,7 @@ given c =
       is_gone = c.requires.gone;
       word = c.requires.quarantine;
       gives = subst (λ (n : ℕ). Acts c.wipe_released.new.turn.pass (Step.Used c.args.page n) c.used.new.self.pass)
-          c.without.ensures c.used.ensures.acts;
+          c.without.ensures c.used.ensures;
     }
 
 pub wipe_released-requires-clause-turn : goal.wipe_released-requires-clause-turn
@@ -71,17 +71,17 @@ quar-requires-clause-one_table c = (turn_d (given (goal.at.quar-requires-clause-
 pub quar-requires-clause-enabled : goal.quar-requires-clause-enabled
 quar-requires-clause-enabled c =
     let x = given (goal.at.quar-requires-clause-enabled c).After-used in
-    quar_allowed (in_turn_after c.used.ensures.acts refl) (turn_d x) _ _ c.requires.within
+    quar_allowed (in_turn_after c.used.ensures refl) (turn_d x) _ _ c.requires.within
     (cc (c.without-freed.ensures, drops_here x))
 
 pub quar-requires-clause-admitted : goal.quar-requires-clause-admitted
 quar-requires-clause-admitted c =
-    calm_admitted c.used.new.self.pass _ c.used.ensures.acts.makes.pass.history refl
+    calm_admitted c.used.new.self.pass _ c.used.ensures.makes.pass.history refl
     (turn_d (given (goal.at.quar-requires-clause-admitted c).After-used)).free.decided
 
-pub returns-clause-gives : goal.returns-clause-gives
-returns-clause-gives c =
-    gives_all (given (goal.at.returns-clause-gives c).After-used)
+pub returns : goal.returns
+returns c =
+    gives_all (given (goal.at.returns c).After-used)
     (subst (λ (n : ℕ). Acts c.used.new.self.pass
     (Step.Quar c.args.page (quarantine_word n (c.args.quarantine / 2 ^ 32 - c.args.gone))) c.quar.new.self.pass)
-    c.without-freed.ensures c.quar.ensures.acts)
+    c.without-freed.ensures c.quar.ensures)

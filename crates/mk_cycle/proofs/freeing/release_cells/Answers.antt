@@ -91,4 +91,4 @@ pub returns-clause-released : goal.returns-clause-released
 returns-clause-released c = counted (goal.at.returns-clause-released c).After-without-gone
 
 pub returns-clause-gives : goal.returns-clause-gives
-returns-clause-gives c = gives_then (both (goal.at.returns-clause-gives c).After-without-gone) c.give_back.ensures.gives
+returns-clause-gives c = gives_then (both (goal.at.returns-clause-gives c).After-without-gone) c.give_back.ensures

@@ -4,7 +4,7 @@ use Rattle.mk_cycle.proofs.holding.hold_gate.Goals.{After-look}
 use Rattle.mk_cycle.proofs.holding.hold_gate.Goals as goal
 
 pub trying-init : goal.trying-init
-trying-init g c = record { op = refl; holds = holds_nothing c.args.turn.now.pass }
+trying-init g c = record { holds = holds_nothing c.args.turn.now.pass }
 
 -- up to the look
 looked : (g : _) (c : After-look g) → HoldsGates c.args.turn.now.pass c.look.new.turn.pass
@@ -25,6 +25,5 @@ returns-then-try_hold-clause-holds g c =
 
 pub trying-preserved : goal.trying-preserved
 trying-preserved g c = record {
-  op = c.try_hold.ensures.op ∙ c.look.ensures.op ∙ c.trying.invariant.op;
   holds = holds_then (looked g (goal.at.trying-preserved g c).After-look) c.try_hold.ensures.holds;
 }

@@ -7,7 +7,6 @@ loop-caller-init g c = grind (arith, holds_nothing)
 
 pub loop-caller-preserved : goal.loop-caller-preserved
 loop-caller-preserved g c = record {
-  op = c.hold_other.ensures.op ∙ c.loop-caller.invariant.op;
   holds = holds_then c.loop-caller.invariant.holds c.hold_other.ensures.holds;
   held = below_more _ _ (λ j lt. still_held_or_own j c.hold_other.ensures.holds (c.loop-caller.invariant.held j lt))
       c.hold_other.ensures.held;

@@ -13,13 +13,13 @@ parts g c =
     let marked = c.is_in_order-2.ensures in
     let closed = c.is_in_order-3.ensures in
     record {
-      begun = in_turn _ _ before.own before.turn before.history;
+      begun = in_turn _ before.own before.turn before.history;
       free = c.requires.free;
       marks = c.close_marks.ensures.law;
-      marked = in_turn _ _ marked.own marked.turn marked.history;
-      close = c.close_phase.ensures.acts;
-      closed = in_turn _ _ closed.own closed.turn closed.history;
-      release = c.release.ensures.acts;
+      marked = in_turn _ marked.own marked.turn marked.history;
+      close = c.close_phase.ensures;
+      closed = in_turn _ closed.own closed.turn closed.history;
+      release = c.release.ensures;
     }
 
 pub returns-clause-releases : goal.returns-clause-releases
@@ -43,8 +43,8 @@ returns-clause-promised g c =
     let b = c.close_marks.new.stop.pass in
     let d = c.close_phase.new.self.pass in
     let q = c.release.new.self.pass in
-    let close = c.close_phase.ensures.acts.makes in
-    let release = c.release.ensures.acts.makes in
+    let close = c.close_phase.ensures.makes in
+    let release = c.release.ensures.makes in
     let marks = c.close_marks.ensures in
     record {
       reached = λ none. sweeps_then p b q marks.law.keeps.call.pass (marks.reached none)

@@ -13,12 +13,12 @@ head-requires-clause-enabled c =
     (sym (ap (λ (x : Page). x.used) c.known_page.ensures.page) ∙ c.if-known_page-eq0.true) c.requires.none_at_head)
 
 pub returns-then-known_page-eq0-clause-frees : goal.returns-then-known_page-eq0-clause-frees
-returns-then-known_page-eq0-clause-frees c = head_frees c.requires.turn c.requires.within c.head.ensures.acts
+returns-then-known_page-eq0-clause-frees c = head_frees c.requires.turn c.requires.within c.head.ensures
 
 pub returns-then-known_page-eq0-clause-settled : goal.returns-then-known_page-eq0-clause-settled
 returns-then-known_page-eq0-clause-settled c =
-    freed_settles _ (head_frees c.requires.turn c.requires.within c.head.ensures.acts)
-    (head_state c.requires.turn c.requires.within c.head.ensures.acts) c.requires.none_left
+    freed_settles _ (head_frees c.requires.turn c.requires.within c.head.ensures)
+    (head_state c.requires.turn c.requires.within c.head.ensures) c.requires.none_left
 
 pub returns-else-known_page-eq0-clause-frees : goal.returns-else-known_page-eq0-clause-frees
 returns-else-known_page-eq0-clause-frees c = page_at_once c.args.page (none_at_once c.args.turn.now.pass)

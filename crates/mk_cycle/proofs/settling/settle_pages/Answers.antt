@@ -6,7 +6,6 @@ use Rattle.mk_cycle.proofs.settling.settle_pages.Goals as goal
 
 pub loop-page-init : goal.loop-page-init
 loop-page-init c = record {
-  op = refl;
   begun = omega arith;
   settled = settled_none _ _ c.requires.cells c.requires.occupied;
   count = omega arith;
@@ -48,7 +47,6 @@ loop-page-preserved c =
     let furthest = c.max-end.ensures in
     let limits = c.is_within_limits.ensures in
     record {
-      op = x.op ∙ i.op;
       begun = omega (arith, within, same_pages);
       settled = settled_more p pages x.frees c.in-Some.ensures.is c.max-end.result (omega (arith, furthest))
           (λ s far lt few. omega (arith, end, furthest, far, few, limits)) c.settle_taken-here.result.released

@@ -4,7 +4,6 @@ use Rattle.mk_cycle.proofs.settling.settle_pages.Given as goal
 
 abbrev pub invariant-loop-page : goal.invariant-loop-page
 invariant-loop-page l = record {
-  op : l.turn.op ≡ l.fn.turn.op;
   begun : l.from ≤ l.words.config.pages;
   settled : AreSettledBelow l.fn.turn.pass l.turn.pass l.words.config.pages l.from l.end l.all l.held;
   count : l.all.count ≤ 64 * l.from;

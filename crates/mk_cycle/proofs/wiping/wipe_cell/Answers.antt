@@ -4,7 +4,7 @@ use Rattle.mk_cycle.proofs.GivingSteps.{none_at_once, none_then, still_unmapped_
 use Rattle.mk_cycle.proofs.wiping.wipe_cell.Goals as goal
 
 pub loop-i-init : goal.loop-i-init
-loop-i-init c = record { op = refl; frees = none_at_once c.args.turn.now.pass; zeros = λ k lt. absurd (omega arith) }
+loop-i-init c = record { frees = none_at_once c.args.turn.now.pass; zeros = λ k lt. absurd (omega arith) }
 
 -- a word of these pairs, where nothing was given back since
 unmapped_still : {p q : PassState} (first pairs : ℕ) → GivesNothingBack p q
@@ -29,7 +29,6 @@ loop-i-preserved c =
     let now = c.wipe_pair.ensures in
     let zero : ℕ → Type 0 = λ k. IsZero c.wipe_pair.new.turn.pass (2 * c.args.first + k) in
     record {
-      op = now.op ∙ before.op;
       frees = none_then before.frees now.frees;
       zeros = λ k lt. below_more zero (2 * c.loop-i.i + 1) (below_more zero (2 * c.loop-i.i)
           (λ j low. now.frees.frees.zeros (2 * c.args.first + j) (still_unmapped_word before.frees.frees

@@ -4,7 +4,6 @@ use Rattle.mk_cycle.proofs.wiping.wipe_cell.Given as goal
 
 abbrev pub invariant-loop-i : goal.invariant-loop-i
 invariant-loop-i l = record {
-  op : l.turn.op ≡ l.fn.turn.op;
   frees : GivesNothingBack l.fn.turn.pass l.turn.pass;
   zeros : (k : ℕ) → k < 2 * l.i → IsZero l.turn.pass (2 * l.first + k);
 }

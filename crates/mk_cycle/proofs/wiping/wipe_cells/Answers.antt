@@ -7,7 +7,6 @@ use Rattle.mk_cycle.proofs.wiping.wipe_cells.Goals as goal
 
 pub loop-rest-init : goal.loop-rest-init
 loop-rest-init c = record {
-  op = refl;
   frees = none_at_once c.args.turn.now.pass;
   among = λ j has. has;
   zeros = λ j none i has lt. absurd (true≢false (sym has ∙ none));
@@ -40,7 +39,6 @@ loop-rest-preserved c =
     let left : c.without-rest.result ≡ without rest (2 ^ index) =
     c.without-rest.ensures ∙ ap (λ (n : ℕ). without rest n) c.bit.ensures in
     record {
-      op = c.wipe_cell.ensures.op ∙ before.op;
       frees = none_then before.frees now;
       among = λ j has. before.among j (left_among rest index j (subst (λ (n : ℕ). has_bit n j ≡ true) left has));
       zeros = λ j gone i has lt. by j (subst (λ (n : ℕ). has_bit n j ≡ false) left gone) i has lt

@@ -4,7 +4,6 @@ use Rattle.mk_cycle.proofs.wiping.wipe_cells.Given as goal
 
 abbrev pub invariant-loop-rest : goal.invariant-loop-rest
 invariant-loop-rest l = record {
-  op : l.turn.op ≡ l.fn.turn.op;
   frees : GivesNothingBack l.fn.turn.pass l.turn.pass;
   among : (j : ℕ) → has_bit l.rest j ≡ true → has_bit l.cells j ≡ true;
   zeros : (j : ℕ) → has_bit l.rest j ≡ false → (i : ℕ) → has_bit l.cells j ≡ true → i < 2 * l.pairs

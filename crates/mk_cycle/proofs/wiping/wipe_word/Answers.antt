@@ -16,7 +16,7 @@ wipe-requires-clause-enabled c =
 pub returns-then-look_at_heap-ne0-clause-frees : goal.returns-then-look_at_heap-ne0-clause-frees
 returns-then-look_at_heap-ne0-clause-frees c =
     let first = c.look_at_heap.ensures.frees in
-    none_then first (wipe_frees (freed_turn first.frees c.requires.turn) c.wipe.ensures.acts)
+    none_then first (wipe_frees (freed_turn first.frees c.requires.turn) c.wipe.ensures)
 
 pub returns-then-look_at_heap-ne0-clause-zero : goal.returns-then-look_at_heap-ne0-clause-zero
-returns-then-look_at_heap-ne0-clause-zero c = wiped c.wipe.ensures.acts
+returns-then-look_at_heap-ne0-clause-zero c = wiped c.wipe.ensures

@@ -8,7 +8,7 @@ use Rattle.mk_engines.proofs.steps.look_at.Goals as goal
 pub look-requires-clause-enabled : goal.look-requires-clause-enabled
 look-requires-clause-enabled c =
     look_allowed c.args.turn.now.pass
-    (in_turn _ _ c.is_in_order.ensures.own c.is_in_order.ensures.turn c.is_in_order.ensures.history)
+    (in_turn _ c.is_in_order.ensures.own c.is_in_order.ensures.turn c.is_in_order.ensures.history)
     c.requires.beside.free c.args.x
     (subst (λ (w : WordsState). is_word w.config c.args.x ≡ true) (sym c.requires.one_table) c.requires.in_range)
     (no_register c.args.x c.requires.plain)
@@ -19,4 +19,4 @@ look-requires-clause-admitted c may =
 
 pub returns-clause-on : goal.returns-clause-on
 returns-clause-on c =
-    goes_look c.args.turn.now c.look.new.self c.requires.beside c.look.ensures.op c.look.ensures.acts c.requires.plain
+    goes_look c.args.turn.now c.look.new.self c.requires.beside c.look.ensures.acts c.requires.plain

@@ -7,7 +7,7 @@ use Rattle.mk_engines.proofs.steps.look_at_root.Goals as goal
 
 pub look-requires-clause-enabled : goal.look-requires-clause-enabled
 look-requires-clause-enabled c =
-    may_look_at_root (in_turn _ _ c.is_in_order.ensures.own c.is_in_order.ensures.turn c.is_in_order.ensures.history)
+    may_look_at_root (in_turn _ c.is_in_order.ensures.own c.is_in_order.ensures.turn c.is_in_order.ensures.history)
     c.requires.beside c.args.x (subst (λ (w : WordsState). is_word w.config c.args.x ≡ true)
     (sym c.requires.one_table) c.requires.in_range) c.requires.root c.requires.seen
 
@@ -17,7 +17,7 @@ look-requires-clause-admitted c may =
 
 pub returns-clause-finds : goal.returns-clause-finds
 returns-clause-finds c =
-    finds_in_root c.args.turn.now c.look.new.self c.requires.beside c.look.ensures.op c.look.result
+    finds_in_root c.args.turn.now c.look.new.self c.requires.beside c.look.result
     c.look.ensures.acts c.look.ensures.finds c.requires.root
 
 pub returns-clause-hand : goal.returns-clause-hand

@@ -14,16 +14,16 @@ bit-requires c =
 pub mark-requires-clause-enabled : goal.mark-requires-clause-enabled
 mark-requires-clause-enabled c =
     subst (λ v. IsEnabledTo c.args.turn.now.pass (Step.Mark c.args.cell.page v)) (sym c.bit.ensures)
-    (may_mark_beside (in_turn _ _ c.is_in_order.ensures.own c.is_in_order.ensures.turn c.is_in_order.ensures.history)
+    (may_mark_beside (in_turn _ c.is_in_order.ensures.own c.is_in_order.ensures.turn c.is_in_order.ensures.history)
     c.requires.beside c.requires.reached)
 
 pub returns-clause-on : goal.returns-clause-on
 returns-clause-on c =
-    goes_mark c.args.turn.now c.mark.new.self c.requires.beside c.mark.ensures.op (subst (λ v. Acts c.args.turn.now.pass
-    (Step.Mark c.args.cell.page v) c.mark.new.self.pass) c.bit.ensures c.mark.ensures.acts) c.requires.reached
+    goes_mark c.args.turn.now c.mark.new.self c.requires.beside (subst (λ v. Acts c.args.turn.now.pass
+    (Step.Mark c.args.cell.page v) c.mark.new.self.pass) c.bit.ensures c.mark.ensures) c.requires.reached
 
 pub returns-clause-marked : goal.returns-clause-marked
 returns-clause-marked c =
-    marked_there c.args.turn.now c.mark.new.self c.requires.beside c.mark.ensures.op (subst (λ v. Acts
-    c.args.turn.now.pass (Step.Mark c.args.cell.page v) c.mark.new.self.pass) c.bit.ensures c.mark.ensures.acts)
+    marked_there c.args.turn.now c.mark.new.self c.requires.beside (subst (λ v. Acts
+    c.args.turn.now.pass (Step.Mark c.args.cell.page v) c.mark.new.self.pass) c.bit.ensures c.mark.ensures)
     c.requires.reached

@@ -7,14 +7,14 @@ use Rattle.mk_engines.proofs.steps.try_hold.Goals as goal
 pub try_hold-requires-clause-enabled : goal.try_hold-requires-clause-enabled
 try_hold-requires-clause-enabled c =
     hold_allowed c.args.turn.now.pass
-    (in_turn _ _ c.is_in_order.ensures.own c.is_in_order.ensures.turn c.is_in_order.ensures.history)
+    (in_turn _ c.is_in_order.ensures.own c.is_in_order.ensures.turn c.is_in_order.ensures.history)
     c.requires.beside.free c.args.caller
     (subst (λ (w : WordsState). c.args.caller < w.config.callers) (sym c.requires.one_table) c.requires.within)
     c.requires.another c.requires.open
 
 pub returns-clause-on : goal.returns-clause-on
 returns-clause-on c =
-    goes_hold c.args.turn.now c.try_hold.new.self c.requires.beside c.try_hold.ensures.op c.try_hold.ensures.acts
+    goes_hold c.args.turn.now c.try_hold.new.self c.requires.beside c.try_hold.ensures.acts
 
 pub returns-clause-others : goal.returns-clause-others
 returns-clause-others c = hold_others c.try_hold.ensures.acts

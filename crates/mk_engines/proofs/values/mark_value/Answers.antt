@@ -9,7 +9,7 @@ use Rattle.mk_engines.proofs.values.mark_value.Goals as goal
 pub cell_pointed-requires-clause-may : goal.cell_pointed-requires-clause-may
 cell_pointed-requires-clause-may c =
     may_look_at_headers
-    (in_turn _ _ c.is_in_order.ensures.own c.is_in_order.ensures.turn c.is_in_order.ensures.history) c.requires.beside
+    (in_turn _ c.is_in_order.ensures.own c.is_in_order.ensures.turn c.is_in_order.ensures.history) c.requires.beside
 
 pub returns-in_default-clause-on : goal.returns-in_default-clause-on
 returns-in_default-clause-on c = goes_for_cell c.cell_pointed.ensures.looks c.requires.beside

@@ -22,7 +22,7 @@ hosts g c =
     let takes = c.take_turn-turn.ensures.takes in
     let own = subst (λ (s : Seat). Has c.args.home.seats s) c.requires.seat c.is_in_order.ensures.own in
     record {
-      turn = in_turn _ _ o.own o.turn o.history;
+      turn = in_turn _ o.own o.turn o.history;
       seat = ap (λ (r : PassState). r.seat) (turn_moves c.args.home _ takes).is ∙ c.requires.seat;
       before_over = taken_overs c.args.home _ takes own o.history ∙ c.requires.before_over;
     }

@@ -24,7 +24,7 @@ try_hold-requires-clause-enabled c =
     let seat : q.seat ≡ Host = ap (λ (x : PassState). x.seat) made ∙ c.requires.host in
     let some : 0 < q.table.config.callers =
     subst (λ (v : WordsState). 0 < v.config.callers) (sym table) (let two = c.requires.two in omega arith) in
-    hold_allowed q (in_turn q c.in-Ok.turn.op o.own o.turn o.history) (fresh_free q c.in-Ok.ensures.fresh) 0 some
+    hold_allowed q (in_turn q o.own o.turn o.history) (fresh_free q c.in-Ok.ensures.fresh) 0 some
     (ap (λ (s : Seat). is_number_of s 0) seat) (none_is_held_at q 0 some c.in-Ok.ensures.fresh.gates)
 
 pub clear-requires-clause-whole : goal.clear-requires-clause-whole

@@ -18,7 +18,7 @@ looked g c =
       fresh = t.ensures.fresh;
       exact = t.ensures.exact;
       tidy = t.ensures.tidy;
-      turn = in_turn t.result.pass t.result.op o.own o.turn o.history;
+      turn = in_turn t.result.pass o.own o.turn o.history;
       finds = c.look-found.ensures.finds;
       acts = c.look-found.ensures.acts;
     }

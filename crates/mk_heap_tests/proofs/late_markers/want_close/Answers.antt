@@ -12,7 +12,7 @@ pub try_hold-requires-clause-enabled : goal.try_hold-requires-clause-enabled
 try_hold-requires-clause-enabled c =
     let o = c.is_in_order.ensures in
     may_hold c.args.words.now c.args.turn.pass c.requires.turn c.requires.one
-    (in_turn c.args.turn.pass c.args.turn.op o.own o.turn o.history)
+    (in_turn c.args.turn.pass o.own o.turn o.history)
 
 held : (c : After-is_in_order-2) → HasHeld c.args.words.now c.args.turn.pass c.try_hold.new.self.pass
 held c =
@@ -22,8 +22,8 @@ held c =
     record {
       marking = c.requires.turn;
       one = c.requires.one;
-      turn = in_turn c.args.turn.pass c.args.turn.op o.own o.turn o.history;
-      after = in_turn after.pass after.op k.own k.turn k.history;
+      turn = in_turn c.args.turn.pass o.own o.turn o.history;
+      after = in_turn after.pass k.own k.turn k.history;
       acts = c.try_hold.ensures.acts;
       held = on_ok c.try_hold.result (is_held (now_of after.pass).words 0 ≡ true)
           (sym c.is_err.ensures.value ∙ c.if-is_err.false) c.try_hold.ensures.held;

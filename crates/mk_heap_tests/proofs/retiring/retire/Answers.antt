@@ -23,7 +23,7 @@ taken g c =
       fresh = t.ensures.fresh;
       exact = t.ensures.exact;
       tidy = t.ensures.tidy;
-      turn = in_turn t.result.pass t.result.op j.own j.turn j.history;
+      turn = in_turn t.result.pass j.own j.turn j.history;
       before = j.before_over;
     }
 
@@ -46,7 +46,7 @@ give-back-requires-clause-enabled g c =
     let k = c.is_in_order-in-Ok.ensures in
     freed_may_give (taken g (goal.at.give-back-requires-clause-enabled g c).After-is_in_order-2)
     (subst (λ b. Retires c.take_turn-turn.result.pass c.args.p b d.pass) c.if-freed.false c.in-Ok.ensures.freed)
-    (in_turn d.pass d.op k.own k.turn k.history)
+    (in_turn d.pass k.own k.turn k.history)
 
 pub returns-else-freed : goal.returns-else-freed
 returns-else-freed g c =
@@ -54,7 +54,7 @@ returns-else-freed g c =
     let k = c.is_in_order-in-Ok.ensures in
     freed_back (taken g (goal.at.returns-else-freed g c).After-is_in_order-2)
     (subst (λ b. Retires c.take_turn-turn.result.pass c.args.p b d.pass) c.if-freed.false c.in-Ok.ensures.freed)
-    (in_turn d.pass d.op k.own k.turn k.history) c.requires.pass.objects
+    (in_turn d.pass k.own k.turn k.history) c.requires.pass.objects
     c.give-back.result c.give-back.ensures.acts.makes c.give-back.ensures.rests
     c.is_in_order-in-Ok-2.ensures.history
 
@@ -63,13 +63,13 @@ give-back-requires-in-Err-clause-enabled g c =
     let d = c.retire_object.new.turn in
     let k = c.is_in_order-in-Err.ensures in
     double_may_give (taken g (goal.at.give-back-requires-in-Err-clause-enabled g c).After-is_in_order-2)
-    c.in-Err.ensures.double (in_turn d.pass d.op k.own k.turn k.history)
+    c.in-Err.ensures.double (in_turn d.pass k.own k.turn k.history)
 
 pub returns-in-Err : goal.returns-in-Err
 returns-in-Err g c =
     let d = c.retire_object.new.turn in
     let k = c.is_in_order-in-Err.ensures in
     double_back (taken g (goal.at.returns-in-Err g c).After-is_in_order-2) c.in-Err.ensures.double
-    (in_turn d.pass d.op k.own k.turn k.history) c.requires.pass.objects
+    (in_turn d.pass k.own k.turn k.history) c.requires.pass.objects
     c.give-back-in-Err.result c.give-back-in-Err.ensures.acts.makes c.give-back-in-Err.ensures.rests
     c.is_in_order-in-Err-2.ensures.history

@@ -21,13 +21,19 @@ taken g c =
       fresh = t.ensures.fresh;
       exact = t.ensures.exact;
       tidy = t.ensures.tidy;
-      turn = in_turn t.result.pass t.result.op j.own j.turn j.history;
+      turn = in_turn t.result.pass j.own j.turn j.history;
       before = j.before_over;
     }
 
 pub place_object-placed-requires-clause-one_table : goal.place_object-placed-requires-clause-one_table
 place_object-placed-requires-clause-one_table g c =
     taken_table (taken g (goal.at.place_object-placed-requires-clause-one_table g c).After-is_in_order-2)
+
+pub place_object-placed-requires-clause-requested : goal.place_object-placed-requires-clause-requested
+place_object-placed-requires-clause-requested g c = record {
+  full = false;
+  op = ap (λ (f : Flight). f.op) c.take_turn-turn.ensures.fresh.call;
+}
 
 pub place_object-placed-requires-clause-unplaced : goal.place_object-placed-requires-clause-unplaced
 place_object-placed-requires-clause-unplaced g c =
@@ -47,7 +53,7 @@ give-requires-clause-enabled g c =
     let r = c.place_object-placed.new.turn in
     let s = seeks (taken g (goal.at.give-requires-clause-enabled g c).After-is_in_order-2)
     (c.place_object-placed.ensures.placed c.if-not-placed.false) k.history in
-    give_allowed r.pass (in_turn r.pass r.op k.own k.turn k.history) s.on.quiet (s.on.decided refl)
+    give_allowed r.pass (in_turn r.pass k.own k.turn k.history) s.on.quiet (s.on.decided refl)
 
 pub give-requires-clause-tidy : goal.give-requires-clause-tidy
 give-requires-clause-tidy g c =

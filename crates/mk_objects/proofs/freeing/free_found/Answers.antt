@@ -23,12 +23,12 @@ free_small-requires-clause-small g c =
     ∙ heads_none (header_of c.look_at-header.result) 0
     (c.run_under.ensures 0 ∙ ap (λ (x : Option ℕ). option_map (λ n. record { page = 0; count = n }) x) c.in-None.is)
 
-pub returns-in-Some-clause-frees : goal.returns-in-Some-clause-frees
-returns-in-Some-clause-frees g c =
+pub returns-in-Some : goal.returns-in-Some
+returns-in-Some g c =
     frees_behind (looks_prepare c.look_at-header.ensures.looks) (λ x h. grind arith) (λ x h. grind arith)
-    c.is_in_order-2.ensures.history c.is_in_order.ensures.turn.holds c.free_run.ensures.frees
+    c.is_in_order-2.ensures.history c.is_in_order.ensures.turn.holds c.free_run.ensures
 
-pub returns-in-None-clause-frees : goal.returns-in-None-clause-frees
-returns-in-None-clause-frees g c =
+pub returns-in-None : goal.returns-in-None
+returns-in-None g c =
     frees_behind (looks_prepare c.look_at-header.ensures.looks) (λ x h. grind arith) (λ x h. grind arith)
-    c.is_in_order-2.ensures.history c.is_in_order.ensures.turn.holds c.free_small.ensures.frees
+    c.is_in_order-2.ensures.history c.is_in_order.ensures.turn.holds c.free_small.ensures

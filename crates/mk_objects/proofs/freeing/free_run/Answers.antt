@@ -2,7 +2,7 @@ use Rattle.mk_laws.proofs.Vocabulary.{arith}
 use Rattle.mk_objects.proofs.PreparedFrees.{frees_behind, gates_prepare}
 use Rattle.mk_objects.proofs.freeing.free_run.Goals as goal
 
-pub returns-clause-frees : goal.returns-clause-frees
-returns-clause-frees g c =
+pub returns : goal.returns
+returns g c =
     frees_behind (gates_prepare c.hold_gates.ensures.sets) (λ x h. grind arith) (λ x h. grind arith)
-    c.is_in_order-2.ensures.history c.is_in_order.ensures.turn.holds c.free_stopped.ensures.frees
+    c.is_in_order-2.ensures.history c.is_in_order.ensures.turn.holds c.free_stopped.ensures

@@ -22,16 +22,16 @@ clear_run-requires-clause-mapped c =
 pub overflow_sub-held : goal.overflow_sub-held
 overflow_sub-held c =
     let found : c.look_at.result ≡ (now_of c.args.turn.now.pass).words.held =
-    c.look_at.ensures.finds ∙ c.clear_run.ensures.clears.held ∙ ap (λ (x : Steady). x.held)
+    c.look_at.ensures.finds ∙ c.clear_run.ensures.held ∙ ap (λ (x : Steady). x.held)
     (freed_now c.quarantine.ensures.freed).steady in
     let sum = held_then c.args.count c.requires.may c.is_in_order.ensures.history c.requires.run in
     omega arith
 
-pub returns-clause-frees : goal.returns-clause-frees
-returns-clause-frees c =
+pub returns : goal.returns
+returns c =
     let p : PassState = c.args.turn.now.pass in
     let found : c.look_at.result ≡ (now_of c.args.turn.now.pass).words.held =
-    c.look_at.ensures.finds ∙ c.clear_run.ensures.clears.held ∙ ap (λ (x : Steady). x.held)
+    c.look_at.ensures.finds ∙ c.clear_run.ensures.held ∙ ap (λ (x : Steady). x.held)
     (freed_now c.quarantine.ensures.freed).steady in
     let sum = held_then c.args.count c.requires.may c.is_in_order.ensures.history c.requires.run in
     let taken : c.look_at.result - 64 * c.args.count + 64 * c.args.count ≡ (now_of p).words.held = omega arith in
@@ -40,6 +40,6 @@ returns-clause-frees c =
     c.look_at-fresh.ensures.finds ∙ sym (ap (λ (x : Steady). x.fresh)
     (looks_left c.set_tally.new.turn.pass c.look_at-fresh.new.turn.pass c.look_at-fresh.ensures.looks).steady) in
     frees_large c.args.count c.requires.may c.is_in_order.ensures.history c.requires.run c.quarantine.ensures.freed
-    c.clear_run.ensures.clears c.look_at.ensures.looks c.set_tally.ensures.sets c.look_at-fresh.ensures.looks
+    c.clear_run.ensures c.look_at.ensures.looks c.set_tally.ensures c.look_at-fresh.ensures.looks
     c.due.result c.quarantine.ensures.once c.is_in_order-2.ensures.turn.holds c.is_in_order-3.ensures.turn.holds
     c.is_in_order-4.ensures.history taken fresh fits c.due.ensures

@@ -75,5 +75,5 @@ returns-clause-freed g c =
     let bit = by_word g x.After-is_freed ∙ c.if-is_freed.false in
     retires c.requires.unloaded (comes_seeing cell found.come c.look_at_quarantine-quar.ensures.seen bit)
     (may g x.After-is_freed found bit) (c.look_at_quarantine-quar.ensures.keeps bit c.args.p c.requires.unloaded.small
-    ∙ found.keeps) c.requires.phase c.free_found-due.ensures.frees c.is_in_order.ensures.history
+    ∙ found.keeps) c.requires.phase c.free_found-due.ensures c.is_in_order.ensures.history
     c.is_in_order-4.ensures.history c.is_in_order.ensures.turn.holds

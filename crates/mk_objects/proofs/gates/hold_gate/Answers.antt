@@ -5,7 +5,6 @@ use Rattle.mk_objects.proofs.gates.hold_gate.Goals as goal
 
 pub trying-init : goal.trying-init
 trying-init g c = record {
-  op = refl;
   sets = set_nothing is_holding c.args.turn.now.pass c.args.caller c.requires.open;
   keeps = λ r lt. refl;
 }
@@ -39,7 +38,6 @@ trying-preserved g c =
     subst (λ b. SetsGate is_holding c.trying.turn.pass c.args.caller b c.try_hold.new.turn.pass) c.if-try_hold.false
     c.try_hold.ensures.sets in
     record {
-      op = c.try_hold.ensures.op ∙ c.trying.invariant.op;
       sets = sets_again c.trying.invariant.sets tried;
       keeps = λ r lt. c.try_hold.ensures.keeps r lt ∙ c.trying.invariant.keeps r lt;
     }

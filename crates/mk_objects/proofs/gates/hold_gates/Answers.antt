@@ -6,7 +6,6 @@ use Rattle.mk_objects.proofs.gates.hold_gates.Goals as goal
 
 pub loop-caller-init : goal.loop-caller-init
 loop-caller-init g c = record {
-  op = refl;
   sets = holds_none c.args.turn.now.pass c.requires.open;
   keeps = λ r lt. refl;
 }
@@ -30,7 +29,6 @@ loop-caller-preserved g c =
     subst (λ (s : Seat). SetsGate is_holding q n (all_others s n) c.hold_other.new.turn.pass) seat
     c.hold_other.ensures.sets in
     record {
-      op = c.hold_other.ensures.op ∙ c.loop-caller.invariant.op;
       sets = sets_more is_holding p q _ _ _ n _ c.loop-caller.invariant.sets one (λ j ne. held_next p.seat n j ne)
           (held_so_far _ (n + 1) n (omega arith));
       keeps = λ r lt. c.hold_other.ensures.keeps r lt ∙ c.loop-caller.invariant.keeps r lt;

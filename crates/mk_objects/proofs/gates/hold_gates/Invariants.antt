@@ -4,7 +4,6 @@ use Rattle.mk_objects.proofs.gates.hold_gates.Given as goal
 
 abbrev pub invariant-loop-caller : goal.invariant-loop-caller
 invariant-loop-caller g l = record {
-  op : l.turn.op ≡ l.fn.turn.op;
   sets : SetsGates is_holding l.fn.turn.pass (held_to l.fn.turn.pass.seat l.caller) l.turn.pass;
   keeps : (r : ℕ) → r < 8 → value_of l.turn.pass r ≡ value_of l.fn.turn.pass r;
 }

@@ -6,7 +6,6 @@ use Rattle.mk_objects.proofs.gates.open_gates.Goals as goal
 
 pub loop-caller-init : goal.loop-caller-init
 loop-caller-init c = record {
-  op = refl;
   sets = opens_none c.args.turn.now.pass c.requires.held;
   gone = c.requires.gone;
 }
@@ -29,7 +28,6 @@ loop-caller-preserved c =
     let q : PassState = c.loop-caller.turn.pass in
     let n = c.loop-caller.caller in
     record {
-      op = c.open_other.ensures.op ∙ c.loop-caller.invariant.op;
       sets = sets_more is_settling p q _ _ _ n _ c.loop-caller.invariant.sets c.open_other.ensures.sets (λ j ne.
           opened_next p.seat n j ne) (opened_so_far _ (n + 1) n (omega arith));
       gone = c.open_other.ensures.gone;

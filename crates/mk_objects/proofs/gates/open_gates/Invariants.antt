@@ -4,7 +4,6 @@ use Rattle.mk_objects.proofs.gates.open_gates.Given as goal
 
 abbrev pub invariant-loop-caller : goal.invariant-loop-caller
 invariant-loop-caller l = record {
-  op : l.turn.op ≡ l.fn.turn.op;
   sets : SetsGates is_settling l.fn.turn.pass (held_from l.fn.turn.pass.seat l.caller) l.turn.pass;
   gone : is_run_gone (now_of l.turn.pass).words (now_of l.turn.pass).seats.holding.freed ≡ true;
 }

@@ -6,7 +6,7 @@ use Rattle.mk_objects.proofs.looking.look_at.Goals as goal
 pub look-requires-clause-enabled : goal.look-requires-clause-enabled
 look-requires-clause-enabled c =
     let t = c.args.turn.now in
-    may_look (acting_now t.pass t.op c.is_in_order.ensures.turn c.requires.acting) c.args.word c.requires.steady
+    may_look (acting_now t.pass c.is_in_order.ensures.turn c.requires.acting) c.args.word c.requires.steady
     c.requires.in_range
 
 pub returns-clause-looks : goal.returns-clause-looks
@@ -17,7 +17,7 @@ returns-clause-looks c =
 pub returns-clause-finds : goal.returns-clause-finds
 returns-clause-finds c =
     let t = c.args.turn.now in
-    found_steady t.pass c.look.new.self.pass t.op c.args.word c.look.result c.is_in_order.ensures.turn
+    found_steady t.pass c.look.new.self.pass c.args.word c.look.result c.is_in_order.ensures.turn
     c.look.ensures.finds c.requires.steady
 
 pub returns-clause-keeps : goal.returns-clause-keeps

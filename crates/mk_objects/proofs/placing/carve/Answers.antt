@@ -38,9 +38,8 @@ loop-distance-preserved c =
     let k = knows_place c.is_in_order.ensures.turn c.is_in_order.ensures.history c.requires.goes in
     let near : d < pages_made (object_for p) = grind arith in
     let a = subst (λ n. Acts q (Step.Head (c.args.place.page + d) n) r)
-    (c.header_word.ensures ∙ ap (λ (o : Object). header_made o d) c.requires.shape) c.head.ensures.acts in
+    (c.header_word.ensures ∙ ap (λ (o : Object). header_made o d) c.requires.shape) c.head.ensures in
     record {
-      op = c.head.ensures.op ∙ c.loop-distance.invariant.op;
       carved = heads_on c.requires.goes k c.requires.free c.loop-distance.invariant.carved near a;
       reached = head_sweeps c.loop-distance.invariant.carved c.loop-distance.invariant.reached a;
     }

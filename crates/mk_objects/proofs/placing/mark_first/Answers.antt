@@ -22,7 +22,7 @@ marks : (c : After-mark) → c.bits.result ≡ bits_made (object_for c.args.turn
     → Acts c.args.turn.now.pass (Step.Mark c.args.place.page (bits_made (object_for c.args.turn.now.pass)))
     c.mark.new.self.pass
 marks c is = subst (λ n. Acts c.args.turn.now.pass (Step.Mark c.args.place.page n) c.mark.new.self.pass) is
-    c.mark.ensures.acts
+    c.mark.ensures
 
 pub mark-requires-clause-enabled : goal.mark-requires-clause-enabled
 mark-requires-clause-enabled c =

@@ -13,12 +13,12 @@ knows c = knows_place c.is_in_order.ensures.turn c.is_in_order.ensures.history c
 -- its cell is taken
 taken : (c : After-used) (k : KnowsPlace c.args.turn.now.pass c.args.place)
     → HasTaken c.requires.goes k c.used.new.self.pass
-taken c k = used_on c.requires.goes k c.make_ready.ensures.ready c.used.ensures.acts
+taken c k = used_on c.requires.goes k c.make_ready.ensures.ready c.used.ensures
 
 -- and the object is granted
 granted : (c : After-grant) (k : KnowsPlace c.args.turn.now.pass c.args.place)
     → HasTaken c.requires.goes k c.used.new.self.pass → HasGranted c.requires.goes k c.grant.new.self.pass
-granted c k taken = grant_on c.requires.goes k taken c.grant.ensures.acts c.is_in_order.ensures.history
+granted c k taken = grant_on c.requires.goes k taken c.grant.ensures c.is_in_order.ensures.history
 
 pub overflow_shl-place : goal.overflow_shl-place
 overflow_shl-place c = small_index (knows (goal.at.overflow_shl-place c).After-is_in_order)
@@ -34,7 +34,7 @@ grant-requires-clause-admitted c =
     let x = goal.at.grant-requires-clause-admitted c in
     let k = knows x.After-is_in_order in
     grant_admits c.requires.goes k
-    (taken x.After-used k) c.used.ensures.acts.makes.pass.history c.is_in_order.ensures.history
+    (taken x.After-used k) c.used.ensures.makes.pass.history c.is_in_order.ensures.history
 
 pub grant-requires-clause-register : goal.grant-requires-clause-register
 grant-requires-clause-register c = grind (arith, knows, grant_register, taken)
@@ -67,7 +67,7 @@ returns-clause-granted c =
     let x = goal.at.returns-clause-granted c in
     let k = knows x.After-is_in_order in
     counted c.requires.goes k (tally_on c.requires.goes k (granted x.After-grant k (taken x.After-used k))
-    c.tally.ensures.acts c.is_in_order.ensures.history)
+    c.tally.ensures c.is_in_order.ensures.history)
 
 pub returns-clause-held : goal.returns-clause-held
 returns-clause-held c =
@@ -77,10 +77,10 @@ returns-clause-held c =
     let size : c.storage.result ≡ words_made (object_for p) =
     c.storage.ensures ∙ ap (λ (o : Object). words_made o) c.requires.shape in
     counted_held c.requires.goes k (c.requires.held ∙ c.requires.exact) size
-    (tally_on c.requires.goes k (granted x.After-grant k (taken x.After-used k)) c.tally.ensures.acts
+    (tally_on c.requires.goes k (granted x.After-grant k (taken x.After-used k)) c.tally.ensures
     c.is_in_order.ensures.history)
 
 pub returns-clause-reached : goal.returns-clause-reached
 returns-clause-reached c =
-    serving_sweeps c.make_ready.ensures.ready c.make_ready.ensures.reached c.used.ensures.acts
-    c.grant.ensures.acts c.tally.ensures.acts refl refl refl
+    serving_sweeps c.make_ready.ensures.ready c.make_ready.ensures.reached c.used.ensures
+    c.grant.ensures c.tally.ensures refl refl refl

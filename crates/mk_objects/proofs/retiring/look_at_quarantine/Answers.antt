@@ -8,7 +8,7 @@ pub look-requires-clause-enabled : goal.look-requires-clause-enabled
 look-requires-clause-enabled c =
     let p : PassState = c.args.turn.now.pass in
     let free = loaded_undecided c.args.value c.requires.free c.requires.some in
-    may_look_quarantine (acting_now p c.args.turn.now.op c.is_in_order.ensures.turn (free_is_acting (call_of p) free))
+    may_look_quarantine (acting_now p c.is_in_order.ensures.turn (free_is_acting (call_of p) free))
     c.args.cell.page c.requires.within
 
 pub look-requires-clause-admitted : goal.look-requires-clause-admitted

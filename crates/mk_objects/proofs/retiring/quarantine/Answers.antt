@@ -30,7 +30,7 @@ returns-clause-freed c =
     let word = freed_word_made f (slice_index (now_of p).words.snapshot c.args.cell.page) c.args.cell.index
     small.0 c.requires.index c.requires.clear c.requires.quar in
     quarantine_reaches c.args.cell c.is_in_order.ensures.turn free c.requires.cell c.requires.clear c.requires.phase
-    word (freed_half f c.args.cell.index small.0 c.requires.index c.requires.clear) c.quar.ensures.acts
+    word (freed_half f c.args.cell.index small.0 c.requires.index c.requires.clear) c.quar.ensures
 
 pub returns-clause-once : goal.returns-clause-once
 returns-clause-once c =
@@ -41,7 +41,7 @@ returns-clause-once c =
     let word = freed_word_made f (slice_index (now_of p).words.snapshot c.args.cell.page) c.args.cell.index
     small.0 c.requires.index c.requires.clear c.requires.quar in
     quarantine_once c.args.cell c.is_in_order.ensures.turn c.requires.cell c.requires.clear c.requires.phase word
-    c.quar.ensures.acts
+    c.quar.ensures
 
 pub overflow_add-quar : goal.overflow_add-quar
 overflow_add-quar c =

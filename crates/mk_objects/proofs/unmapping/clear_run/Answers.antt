@@ -6,8 +6,8 @@ unmap_run-requires-clause-stopped c = stopped_by c.args.turn.now.pass c.requires
 
 pub wipe_run-requires-clause-stopped : goal.wipe_run-requires-clause-stopped
 wipe_run-requires-clause-stopped c =
-    stopped_by c.unmap_run.new.turn.pass (unmapped_held c.unmap_run.ensures.unmaps c.requires.held)
+    stopped_by c.unmap_run.new.turn.pass (unmapped_held c.unmap_run.ensures c.requires.held)
 
-pub returns-clause-clears : goal.returns-clause-clears
-returns-clause-clears c =
-    clears c.unmap_run.ensures.unmaps c.wipe_run.ensures.wipes c.open_gates.ensures.sets c.open_gates.ensures.gone
+pub returns : goal.returns
+returns c =
+    clears c.unmap_run.ensures c.wipe_run.ensures c.open_gates.ensures.sets c.open_gates.ensures.gone

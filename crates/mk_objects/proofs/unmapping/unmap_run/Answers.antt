@@ -6,7 +6,6 @@ use Rattle.mk_objects.proofs.unmapping.unmap_run.Goals as goal
 pub loop-distance-init : goal.loop-distance-init
 loop-distance-init c =
     record {
-      op = refl;
       unmapped = unmapped_none c.args.run c.is_in_order.ensures.turn
           c.requires.decided c.requires.phase c.requires.mapped;
     }
@@ -22,15 +21,14 @@ pub loop-distance-preserved : goal.loop-distance-preserved
 loop-distance-preserved c =
     let d = c.loop-distance.distance in
     let a = subst (λ n. Acts c.loop-distance.turn.pass (Step.Head (c.args.run.page + d) n) c.head.new.self.pass)
-    c.unmapped_header.ensures c.head.ensures.acts in
+    c.unmapped_header.ensures c.head.ensures in
     record {
-      op = c.head.ensures.op ∙ c.loop-distance.invariant.op;
       unmapped = unmaps_on c.args.run c.is_in_order.ensures.turn c.requires.decided c.requires.phase
           c.loop-distance.invariant.unmapped c.loop-distance-test.true c.requires.within a;
     }
 
-pub returns-clause-unmaps : goal.returns-clause-unmaps
-returns-clause-unmaps c =
+pub returns : goal.returns
+returns c =
     let all : c.loop-distance.distance ≡ c.args.run.count = grind arith in
     unmapped_all c.args.run c.is_in_order.ensures.turn c.requires.decided c.requires.phase
     (subst (λ n. HasUnmapped c.args.run c.is_in_order.ensures.turn c.requires.decided

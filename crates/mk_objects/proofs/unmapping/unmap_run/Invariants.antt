@@ -4,7 +4,6 @@ use Rattle.mk_objects.proofs.unmapping.unmap_run.Given as goal
 
 abbrev pub invariant-loop-distance : goal.invariant-loop-distance
 invariant-loop-distance l = record {
-  op : l.turn.op ≡ l.fn.turn.op;
   unmapped : ComesTo is_clearing l.fn.turn.pass (λ v. UnmappedTo l.fn.turn.pass.seat l.run
       (world_of l.fn.turn.pass) v l.distance) [] l.turn.pass;
 }

@@ -9,7 +9,7 @@ loop-i-init c =
     let p : PassState = c.args.turn.now.pass in
     let none = wiped_from p c.requires.wiped in
     let start : 8 * c.args.group ≡ 8 * c.args.group + 0 = omega arith in
-    record { op = refl; still = none; zero = λ zero. subst (λ n. WipesTo p c.args.run n p) start none }
+    record { still = none; zero = λ zero. subst (λ n. WipesTo p c.args.run n p) start none }
 
 pub look_on_page-all-requires-clause-enabled : goal.look_on_page-all-requires-clause-enabled
 look_on_page-all-requires-clause-enabled c = grind (arith, look_may)
@@ -30,7 +30,6 @@ loop-i-preserved c =
     λ n reached. looks_then c.is_in_order.ensures.turn c.requires.may word reached
     (omega (arith, group, c.loop-i-test.true)) c.look_on_page-all.ensures.acts in
     record {
-      op = c.look_on_page-all.ensures.op ∙ i.op;
       still = seen (8 * c.args.group) i.still;
       zero = λ none.
           let before : c.loop-i.all ≡ 0 =

@@ -4,7 +4,6 @@ use Rattle.mk_objects.proofs.wiping.are_zero.Given as goal
 
 abbrev pub invariant-loop-i : goal.invariant-loop-i
 invariant-loop-i l = record {
-  op : l.turn.op ≡ l.fn.turn.op;
   still : WipesTo l.fn.turn.pass l.run (8 * l.group) l.turn.pass;
   zero : l.all ≡ 0 → WipesTo l.fn.turn.pass l.run (8 * l.group + l.i) l.turn.pass;
 }

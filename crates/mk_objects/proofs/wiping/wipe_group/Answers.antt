@@ -1,8 +1,8 @@
 use Rattle.mk_objects.proofs.WipedRuns.{still_may, wiped_now, wipes_then}
 use Rattle.mk_objects.proofs.wiping.wipe_group.Goals as goal
 
-pub returns-then-are_zero-clause-wipes : goal.returns-then-are_zero-clause-wipes
-returns-then-are_zero-clause-wipes c = c.are_zero.ensures.zero c.if-are_zero.true
+pub returns-then-are_zero : goal.returns-then-are_zero
+returns-then-are_zero c = c.are_zero.ensures.zero c.if-are_zero.true
 
 pub wipe_words-requires-clause-may : goal.wipe_words-requires-clause-may
 wipe_words-requires-clause-may c = still_may c.are_zero.ensures.still c.requires.may
@@ -10,5 +10,5 @@ wipe_words-requires-clause-may c = still_may c.are_zero.ensures.still c.requires
 pub wipe_words-requires-clause-wiped : goal.wipe_words-requires-clause-wiped
 wipe_words-requires-clause-wiped c = wiped_now c.are_zero.ensures.still
 
-pub returns-clause-wipes : goal.returns-clause-wipes
-returns-clause-wipes c = wipes_then c.are_zero.ensures.still c.wipe_words.ensures.wipes
+pub returns : goal.returns
+returns c = wipes_then c.are_zero.ensures.still c.wipe_words.ensures

@@ -7,7 +7,6 @@ pub loop-group-init : goal.loop-group-init
 loop-group-init c =
     let start : 64 * c.args.part ≡ 8 * (8 * c.args.part) = omega arith in
     record {
-      op = refl;
       wiped = wiped_from c.args.turn.now.pass
           (subst (λ n. AreWiped (now_of c.args.turn.now.pass).words c.args.run n) start c.requires.wiped);
     }
@@ -20,10 +19,9 @@ wipe_group-requires-clause-wiped c = wiped_now c.loop-group.invariant.wiped
 
 pub loop-group-preserved : goal.loop-group-preserved
 loop-group-preserved c = record {
-  op = c.wipe_group.ensures.op ∙ c.loop-group.invariant.op;
-  wiped = wipes_named (wipes_then c.loop-group.invariant.wiped c.wipe_group.ensures.wipes) (omega arith);
+  wiped = wipes_named (wipes_then c.loop-group.invariant.wiped c.wipe_group.ensures) (omega arith);
 }
 
-pub returns-clause-wipes : goal.returns-clause-wipes
-returns-clause-wipes c =
+pub returns : goal.returns
+returns c =
     wipes_named c.loop-group.invariant.wiped (omega (arith, c.loop-group-test.false, c.loop-group.auto.group-end))

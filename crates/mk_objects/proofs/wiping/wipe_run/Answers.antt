@@ -8,7 +8,6 @@ may c = grind arith
 
 pub loop-part-init : goal.loop-part-init
 loop-part-init c = record {
-  op = refl;
   wiped = wiped_from c.args.turn.now.pass (λ i lt. absurd (omega arith));
 }
 
@@ -20,9 +19,8 @@ wipe_page-requires-clause-wiped c = wiped_now c.loop-part.invariant.wiped
 
 pub loop-part-preserved : goal.loop-part-preserved
 loop-part-preserved c = record {
-  op = c.wipe_page.ensures.op ∙ c.loop-part.invariant.op;
-  wiped = wipes_named (wipes_then c.loop-part.invariant.wiped c.wipe_page.ensures.wipes) (omega arith);
+  wiped = wipes_named (wipes_then c.loop-part.invariant.wiped c.wipe_page.ensures) (omega arith);
 }
 
-pub returns-clause-wipes : goal.returns-clause-wipes
-returns-clause-wipes c = grind (arith, wiped_all, wipes_named)
+pub returns : goal.returns
+returns c = grind (arith, wiped_all, wipes_named)

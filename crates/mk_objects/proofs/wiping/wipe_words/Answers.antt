@@ -6,7 +6,6 @@ use Rattle.mk_objects.proofs.wiping.wipe_words.Goals as goal
 
 pub loop-word-init : goal.loop-word-init
 loop-word-init c = record {
-  op = refl;
   wiped = wiped_from c.args.turn.now.pass c.requires.wiped;
 }
 
@@ -35,17 +34,15 @@ loop-word-preserved c =
     elim c.if-found-ne0.branch [
       | then-found-ne0 w ↦
           record {
-            op = ap (λ (t : TurnState). t.op) w.turn-is ∙ w.wipe.ensures.op ∙ c.look_on_page-found.ensures.op ∙ i.op;
             wiped = subst (λ (t : TurnState). WipesTo p c.args.run (n + 1) t.pass) (sym w.turn-is)
-                (wipes_on turn may seen near w.wipe.ensures.acts);
+                (wipes_on turn may seen near w.wipe.ensures);
           }
       | else-found-ne0 w ↦
           record {
-            op = ap (λ (t : TurnState). t.op) w.turn-is ∙ c.look_on_page-found.ensures.op ∙ i.op;
             wiped = subst (λ (t : TurnState). WipesTo p c.args.run (n + 1) t.pass) (sym w.turn-is)
                 (found_wiped turn may seen c.look_on_page-found.ensures.finds w.if-found-ne0.false);
           }
     ]
 
-pub returns-clause-wipes : goal.returns-clause-wipes
-returns-clause-wipes c = grind arith
+pub returns : goal.returns
+returns c = grind arith

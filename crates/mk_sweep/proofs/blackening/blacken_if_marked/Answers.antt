@@ -21,7 +21,7 @@ black-requires-clause-enabled c = grind (arith, may_black_cell, near)
 pub returns-clause-on : goal.returns-clause-on
 returns-clause-on c =
     on_black c.args.stop.now c.black.new.self c.requires.sweeping
-    (c.is_in_order.ensures.turn.holds, c.is_in_order.ensures.gates) c.black.ensures.op c.black.ensures.acts
+    (c.is_in_order.ensures.turn.holds, c.is_in_order.ensures.gates) c.black.ensures
 
 blackened : (c : After-black) → still_words c.black.new.self.pass
     ≡ with_blacks c.args.cell.page (2 ^ c.args.cell.index) (still_words c.args.stop.now.pass)

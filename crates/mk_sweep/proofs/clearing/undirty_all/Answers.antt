@@ -20,11 +20,11 @@ loop-page-preserved c =
     let x = still_words u.pass in
     let sweeping = c.loop-page.invariant.on.sweeping in
     let gone = undirty_words t.pass u.pass sweeping.wanted
-    (c.is_in_order.ensures.turn.holds, c.is_in_order.ensures.gates) c.loop-page.page c.undirty.ensures.acts in
+    (c.is_in_order.ensures.turn.holds, c.is_in_order.ensures.gates) c.loop-page.page c.undirty.ensures in
     let fewer = dirty_cleared v x c.loop-page.page gone in
     record {
       on = quiet_then c.loop-page.invariant.on (on_undirty t u sweeping
-          (c.is_in_order.ensures.turn.holds, c.is_in_order.ensures.gates) c.undirty.ensures.op c.undirty.ensures.acts);
+          (c.is_in_order.ensures.turn.holds, c.is_in_order.ensures.gates) c.undirty.ensures);
       fewer = dirty_then w v x c.loop-page.invariant.fewer fewer;
       clean = pages_then (λ p. slice_index v.dirty p ≡ 0) (λ p. slice_index x.dirty p ≡ 0) c.loop-page.page
           fewer.fewer c.loop-page.invariant.clean (dirt_cleared v x c.loop-page.page gone);

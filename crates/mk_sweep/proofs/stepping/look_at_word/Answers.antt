@@ -19,7 +19,7 @@ pub returns-clause-on : goal.returns-clause-on
 returns-clause-on c =
     let p = c.args.stop.now.pass in
     on_word c.args.stop.now c.look.new.self c.requires.sweeping
-    (c.is_in_order.ensures.turn.holds, c.is_in_order.ensures.gates) c.look.ensures.op
+    (c.is_in_order.ensures.turn.holds, c.is_in_order.ensures.gates)
     c.look.ensures.acts
     (subst (λ (t : WordsState). IsScannedWord t.config (world_of p).allocations c.args.word)
     (sym c.requires.one_table) c.requires.scanned)

@@ -16,12 +16,12 @@ mark-requires-clause-enabled c =
 pub returns-clause-on : goal.returns-clause-on
 returns-clause-on c =
     on_mark c.args.stop.now c.mark.new.self c.requires.sweeping
-    (c.is_in_order.ensures.turn.holds, c.is_in_order.ensures.gates) c.mark.ensures.op
+    (c.is_in_order.ensures.turn.holds, c.is_in_order.ensures.gates)
     (subst (λ v. Acts c.args.stop.now.pass (Step.Mark c.args.cell.page v) c.mark.new.self.pass) c.bit.ensures
-    c.mark.ensures.acts) c.requires.reached
+    c.mark.ensures) c.requires.reached
 
 pub returns-clause-words : goal.returns-clause-words
 returns-clause-words c =
     mark_words _ _ c.requires.sweeping.wanted (c.is_in_order.ensures.turn.holds, c.is_in_order.ensures.gates) _
     (2 ^ c.args.cell.index) (subst (λ v. Acts c.args.stop.now.pass (Step.Mark c.args.cell.page v) c.mark.new.self.pass)
-    c.bit.ensures c.mark.ensures.acts)
+    c.bit.ensures c.mark.ensures)

@@ -15,5 +15,5 @@ mark_in_use-requires-clause-enabled c = grind (arith, may_mark_cell, reached_wit
 pub returns-clause-on : goal.returns-clause-on
 returns-clause-on c =
     on_mark c.requires.may.wanted
-    (c.is_in_order.ensures.turn.holds, c.is_in_order.ensures.gates) c.is_in_order.ensures.own c.mark_in_use.ensures.op
-    c.args.cell (rw c.bit.ensures at c.mark_in_use.ensures.acts) c.requires.reached
+    (c.is_in_order.ensures.turn.holds, c.is_in_order.ensures.gates) c.is_in_order.ensures.own
+    c.args.cell (rw c.bit.ensures at c.mark_in_use.ensures) c.requires.reached

@@ -9,7 +9,6 @@ pub returns-in_err-page-clause-looks : goal.returns-in_err-page-clause-looks
 returns-in_err-page-clause-looks g c =
     record {
       table = refl;
-      op = refl;
       outside = λ out. refl;
       inside = λ inside. absurd (true≢false (sym inside
           ∙ ap (λ (w : WordsState). is_heap_address w.config.pages c.args.value) c.requires.one_table
@@ -36,7 +35,6 @@ pub returns-clause-looks : goal.returns-clause-looks
 returns-clause-looks g c =
     record {
       table = ap (λ (x : PassState). x.table) c.look-header.ensures.acts.makes.is;
-      op = c.look-header.ensures.op;
       outside = λ out. absurd (true≢false (sym c.in_ok-page.ensures.inside
           ∙ ap (λ n. is_heap_address n c.args.value) c.pages.ensures
           ∙ sym (ap (λ (w : WordsState). is_heap_address w.config.pages c.args.value) c.requires.one_table) ∙ out));

@@ -6,7 +6,7 @@ pub loop-caller-preserved : goal.loop-caller-preserved
 loop-caller-preserved c =
     let inv = c.loop-caller.invariant in
     let j : ℕ = c.loop-caller.caller - 1 in
-    let a = c.open_gate.ensures.acts in
+    let a = c.open_gate.ensures in
     let some = c.loop-caller-test.true in
     let within = inv.within in
     let above : c.loop-caller.caller ≡ j + 1 = omega arith in

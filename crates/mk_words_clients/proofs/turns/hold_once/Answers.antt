@@ -22,7 +22,7 @@ returns-in-Ok-clause-free c =
     let free = c.requires.free in
     let held = c.try_hold.ensures.acts in
     let looked = c.look.ensures.acts in
-    let opened = c.open_gate.ensures.acts in
+    let opened = c.open_gate.ensures in
     let only = look_leaves q r j (Word.Reg j 0) looked (hold_leaves p q j held (none_held_is p free.gates)) in
     given_back z
     (settled_kept r z (Step.Open j) opened refl
@@ -42,7 +42,7 @@ returns-in-Ok-clause-tidy c = λ tidy.
     let looked = c.look.ensures.acts in
     let at_q = settled_kept p q (Step.Hold j) held refl there in
     let at_r = settled_kept q r (Step.Look (Word.Reg j 0)) looked refl at_q in
-    tidy_kept r z (Step.Open j) c.open_gate.ensures.acts at_r.seat refl
+    tidy_kept r z (Step.Open j) c.open_gate.ensures at_r.seat refl
     (tidy_kept q r (Step.Look (Word.Reg j 0)) looked at_q.seat refl
     (tidy_kept p q (Step.Hold j) held there.seat refl tidy))
 

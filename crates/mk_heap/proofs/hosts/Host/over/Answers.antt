@@ -14,9 +14,9 @@ give-back-requires-clause-enabled g c =
     let o = c.is_in_order.ensures in
     let p : PassState = c.take_idle_turn-turn.result.pass in
     let q : PassState = c.over.new.self.pass in
-    let t = in_turn p c.take_idle_turn-turn.result.op o.own o.turn o.history in
-    let u = in_turn_after c.over.ensures.acts refl in
-    give_allowed q u (over_may_give p q t c.take_idle_turn-turn.ensures.idle u c.over.ensures.acts)
+    let t = in_turn p o.own o.turn o.history in
+    let u = in_turn_after c.over.ensures refl in
+    give_allowed q u (over_may_give p q t c.take_idle_turn-turn.ensures.idle u c.over.ensures)
 
 pub give-back-requires-clause-tidy : goal.give-back-requires-clause-tidy
 give-back-requires-clause-tidy g c =
@@ -24,13 +24,13 @@ give-back-requires-clause-tidy g c =
     let p : PassState = c.take_idle_turn-turn.result.pass in
     let q : PassState = c.over.new.self.pass in
     let idle = c.take_idle_turn-turn.ensures.idle in
-    let t = in_turn p c.take_idle_turn-turn.result.op o.own o.turn o.history in
-    let u = in_turn_after c.over.ensures.acts refl in
-    tidy_kept p q (over_keeps p q t idle u c.over.ensures.acts) idle.tidy
+    let t = in_turn p o.own o.turn o.history in
+    let u = in_turn_after c.over.ensures refl in
+    tidy_kept p q (over_keeps p q t idle u c.over.ensures) idle.tidy
 
 pub invariant_of-self : goal.invariant_of-self
 invariant_of-self g c =
-    let said = moves_more _ _ _ _ (idle_moves _ _ c.take_idle_turn-turn.ensures.takes) c.over.ensures.acts.makes in
+    let said = moves_more _ _ _ _ (idle_moves _ _ c.take_idle_turn-turn.ensures.takes) c.over.ensures.makes in
     moved_is_host _ _ (home_is c.take_home-home.ensures c.self.invariant)
     (moves_more _ _ _ _ said c.give-back.ensures.acts.makes)
     c.give-back.ensures.acts.makes.pass.history (given_no_turn _ _ c.give-back.ensures.acts)
@@ -54,7 +54,7 @@ returns-clause-over g c =
       said = c.over.new.self.pass;
       takes = turn.takes;
       ends = turn.ends;
-      says = c.over.ensures.acts.makes;
+      says = c.over.ensures.makes;
       gives = c.give-back.ensures.acts.makes;
     })
 
@@ -68,7 +68,7 @@ returns-clause-reached g c =
     subst (λ (h : HostState). SweepsNothing h.pass r) view
     (idle_then_sweeps c.take_home-home.result p r c.take_idle_turn-turn.ensures.takes
     (c.take_idle_turn-turn.ensures.reached none)
-    (given_sweeps p q r _ c.over.ensures.acts.makes c.give-back.ensures.acts.makes refl))
+    (given_sweeps p q r _ c.over.ensures.makes c.give-back.ensures.acts.makes refl))
 
 pub take_home-home-requires : goal.take_home-home-requires
 take_home-home-requires g c = is_home _ _ _ c.self.invariant

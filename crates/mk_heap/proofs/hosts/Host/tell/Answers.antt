@@ -27,7 +27,7 @@ give-back-requires-clause-enabled g c =
     let o = c.is_in_order-2.ensures in
     give_allowed q (in_turn_after c.look-found.ensures.acts refl)
     (looked_may_give p q c.args.x (host g (goal.at.give-back-requires-clause-enabled g c).After-take_turn-turn)
-    (in_turn p c.take_turn-turn.result.op o.own o.turn o.history)
+    (in_turn p o.own o.turn o.history)
     c.take_turn-turn.ensures.fresh c.look-found.ensures.acts c.take_turn-turn.ensures.exact)
 
 pub give-back-requires-clause-tidy : goal.give-back-requires-clause-tidy

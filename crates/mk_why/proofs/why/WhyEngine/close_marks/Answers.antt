@@ -19,14 +19,11 @@ search-requires-clause-size g c = grind (arith, of_state)
 pub list_kept-requires-clause-one_table : goal.list_kept-requires-clause-one_table
 list_kept-requires-clause-one_table g c = grind arith
 
-pub returns-clause-op : goal.returns-clause-op
-returns-clause-op g c = c.list_kept.ensures.looks.op ∙ c.search.ensures.on.op ∙ c.close_marks.ensures.op
-
 pub returns-clause-law : goal.returns-clause-law
 returns-clause-law g c =
     law_kept c.args.stop.now.pass c.close_marks.new.stop c.list_kept.new.stop c.close_marks.ensures.law
     (looks_then c.search.ensures.on c.list_kept.ensures.looks)
-    (in_turn _ _ c.is_in_order-2.ensures.own c.is_in_order-2.ensures.turn c.is_in_order-2.ensures.history)
+    (in_turn _ c.is_in_order-2.ensures.own c.is_in_order-2.ensures.turn c.is_in_order-2.ensures.history)
     c.is_in_order-2.ensures.gates
 
 pub returns-clause-reached : goal.returns-clause-reached
@@ -47,7 +44,7 @@ returns-clause-told g c =
     c.is_in_order.ensures.history c.close_marks.ensures.told
     (ap (λ (p : PassState). p.table) c.close_marks.ensures.law.keeps.call.pass ∙ c.requires.one_table)
     c.list_kept.new.tables.found.items c.list_kept.new.tables.kept.items tables
-    (in_turn _ _ c.is_in_order-2.ensures.own c.is_in_order-2.ensures.turn c.is_in_order-2.ensures.history)
+    (in_turn _ c.is_in_order-2.ensures.own c.is_in_order-2.ensures.turn c.is_in_order-2.ensures.history)
     c.is_in_order-2.ensures.gates
 
 pub returns-clause-closed : goal.returns-clause-closed

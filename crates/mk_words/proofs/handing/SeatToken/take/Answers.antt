@@ -52,11 +52,11 @@ invariant_of-taken c =
       );
     }
 
-pub into_carried-requires : goal.into_carried-requires
-into_carried-requires c =
+pub into_map-requires : goal.into_map-requires
+into_map-requires c =
     let x = c.exchange-home in
     let q = state_of x.new.seat.table_id x.new.seat.me c.self.inside.seat in
-    let l = learns (goal.at.into_carried-requires c).After-exchange-home in
+    let l = learns (goal.at.into_map-requires c).After-exchange-home in
     let same : q.table ≡ c.args.words.now = ap (λ (r : PassState). r.table) l.0.makes.is ∙ c.requires.one_table in
     let some = c.is_within_limits.ensures.pages.0 in
     page_known q 0 x.result (subst (λ (w : WordsState). 0 < w.config.pages) (sym same) (omega (arith, some))) l.1

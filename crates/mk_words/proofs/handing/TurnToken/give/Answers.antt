@@ -28,7 +28,7 @@ same_pass c =
     c.exchange-empty.new.seat.me c.self.inside.seat c.args.self c.exchange-empty.ensures.0
     (ap (λ (m : Mine). m.0) c.exchange-empty.ensures.3) c.self.view_is
 
-slot_then : (c : After-exchange-empty) → c.exchange-empty.new.seat.me.1 ≡ (0, c.args.carried.value.map) ∷ []
+slot_then : (c : After-exchange-empty) → c.exchange-empty.new.seat.me.1 ≡ (0, c.args.map.value) ∷ []
 slot_then c = cc (c.exchange-empty.ensures.3, c.self.invariant.slots.1)
 
 pub give_as-requires-clause-order : goal.give_as-requires-clause-order
@@ -51,9 +51,9 @@ give_as-requires-clause-holds c =
 
 pub give_as-requires-clause-slot : goal.give_as-requires-clause-slot
 give_as-requires-clause-slot c = (
-  c.args.carried.value.map,
+  c.args.map.value,
   slot_then (goal.at.give_as-requires-clause-slot c).After-exchange-empty,
-  subst (λ (r : PassState). IsMapOf c.args.carried.value.map (now_of r).words) (sym (same_pass
+  subst (λ (r : PassState). IsMapOf c.args.map.value (now_of r).words) (sym (same_pass
       (goal.at.give_as-requires-clause-slot c).After-exchange-empty))
       c.requires.map,
 )

@@ -12,7 +12,7 @@ loop-caller-preserved c =
     let lt = c.loop-caller-test.true in
     let r = one_round c.args.self.pass c.loop-caller.turn.pass c.open_other.new.turn.pass c.loop-caller.caller inv.opens
     inv.may inv.opened o.opened o.same in
-    record { within = omega arith; op = o.op ∙ inv.op; opens = r.opens; may = r.may; opened = r.opened }
+    record { within = omega arith; opens = r.opens; may = r.may; opened = r.opened }
 
 pub returns-clause-gates : goal.returns-clause-gates
 returns-clause-gates c =
@@ -20,5 +20,5 @@ returns-clause-gates c =
     let callers : c.callers-callers.result ≡ c.args.self.pass.table.config.callers = c.callers-callers.ensures
     ∙ sym (ap (λ (w : WordsState). w.config.callers) c.requires.one_table) in
     let past : c.callers-callers.result ≤ c.loop-caller.caller = c.loop-caller-test.false in
-    all_opened c.args.self.pass c.loop-caller.turn.pass c.loop-caller.turn.op inv.opens
+    all_opened c.args.self.pass c.loop-caller.turn.pass inv.opens
     (λ j lt other. inv.opened j (omega arith) other) c.is_in_order.ensures.turn c.is_in_order.ensures.history

@@ -5,7 +5,6 @@ use Rattle.mk_words.proofs.stopped.Stopped.open_all.Given as goal
 abbrev pub invariant-loop-caller : goal.invariant-loop-caller
 invariant-loop-caller l = record {
   within : l.caller ≤ l.callers;
-  op : l.turn.op ≡ l.fn.self.op;
   opens : Opens l.fn.self.pass l.turn.pass;
   may : OthersMayOpen l.turn.pass l.caller;
   opened : AreOpened l.turn.pass l.caller;

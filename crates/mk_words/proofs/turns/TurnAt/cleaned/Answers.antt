@@ -1,19 +1,19 @@
 use Rattle.mk_laws.proofs.Vocabulary.{sym}
-use Rattle.mk_words.{proofs.MapSteps.{as_carried, map_cleaned, page_known}, specs.States.{now_of}}
+use Rattle.mk_words.{proofs.MapSteps.{turn_that, map_cleaned, page_known}, specs.States.{now_of}}
 use Rattle.mk_words.proofs.turns.TurnAt.cleaned.Goals as goal
 
 pub cleaned-requires : goal.cleaned-requires
 cleaned-requires g c =
     page_known c.self.inside.pass c.args.page _ (rw (sym c.self.view_is) at c.requires.within)
-    (as_carried c.deref_mut.ensures.value c.self.invariant).shows
+    (turn_that c.deref_mut.ensures.value c.self.invariant).shows
 
 pub invariant_of-self : goal.invariant_of-self
 invariant_of-self g c =
     let t = c.self.inside in
-    let held = as_carried c.deref_mut.ensures.value c.self.invariant in
+    let held = turn_that c.deref_mut.ensures.value c.self.invariant in
     record {
       turn = held.turn;
-      shows = map_cleaned (now_of t.pass).words _ c.deref_mut.result.now.map c.cleaned.new.self c.cleaned.ensures.shows
+      shows = map_cleaned (now_of t.pass).words _ c.deref_mut.result.now c.cleaned.new.self c.cleaned.ensures.shows
           c.cleaned.ensures.others (rw (sym c.self.view_is) at c.requires.none) held.shows;
       gates = held.gates;
     }

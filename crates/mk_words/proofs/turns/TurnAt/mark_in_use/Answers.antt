@@ -8,5 +8,5 @@ invariant_of-self g c =
     told_turn refl c.perform_among.ensures.told.makes c.self.invariant
     (λ a. shows_mark a (untold_mark _ _ c.args.page (rw (sym c.self.view_is) at c.requires.in_use) shown) shown)
 
-pub returns-clause-acts : goal.returns-clause-acts
-returns-clause-acts g c = acted c.self.view_is c.self.invariant c.perform_among.ensures.told.makes
+pub returns : goal.returns
+returns g c = acted c.self.view_is c.self.invariant c.perform_among.ensures.told.makes

@@ -1,5 +1,5 @@
 use Rattle.mk_laws.proofs.Vocabulary.{Step, refl}
-use Rattle.mk_words.proofs.MapSteps.{acted, as_carried, shows_quar, told_page, told_turn}
+use Rattle.mk_words.proofs.MapSteps.{acted, turn_that, shows_quar, told_page, told_turn}
 use Rattle.mk_words.proofs.turns.TurnAt.quar.Goals as goal
 
 pub quarantine_stored-requires : goal.quarantine_stored-requires
@@ -10,9 +10,9 @@ quarantine_stored-requires g c =
 pub invariant_of-self : goal.invariant_of-self
 invariant_of-self g c =
     let told = c.quarantine_stored.ensures in
-    let held = as_carried c.deref_mut.ensures.value c.self.invariant in
+    let held = turn_that c.deref_mut.ensures.value c.self.invariant in
     told_turn refl c.perform.ensures.told.makes held
     (λ a. shows_quar a (record { shows = told.shows; uncleaned = told.uncleaned }) held.shows)
 
-pub returns-clause-acts : goal.returns-clause-acts
-returns-clause-acts g c = acted c.self.view_is c.self.invariant c.perform.ensures.told.makes
+pub returns : goal.returns
+returns g c = acted c.self.view_is c.self.invariant c.perform.ensures.told.makes
