@@ -3,7 +3,9 @@ use Rattle.mk_alloc.proofs.Vocabulary.{Answer, BeginsNone, Bool, Config, Decides
 use Rattle.mk_alloc.proofs.Vocabulary.{Event, Has, IsAtPhase, IsOutOfStop, List, Op, PassState, Seat, Some, Step, arith}
 use Rattle.mk_alloc.proofs.Vocabulary.{begun_then, finish_begins_none, is_begin, is_freeing, is_loading, is_look}
 use Rattle.mk_alloc.proofs.Vocabulary.{is_take, now_of, only_seen, own_before, refl, subst, sym, ⊎_elim}
-use Rattle.mk_alloc.proofs.{CalledTurns.GivenBack, CalledTurns.taken_is, ListParts.none_at, Parts.has_then}
+use Rattle.mk_alloc.proofs.CalledTurns.{GivenBack, taken_is}
+use Rattle.mk_alloc.proofs.ListParts.{none_at}
+use Rattle.mk_alloc.proofs.Parts.{has_then}
 use Rattle.mk_cycle.proofs.Begun.{does_begin_none, step_begins_none}
 use Rattle.mk_waiting.proofs.TakesAlone.{taking_does}
 

@@ -9,9 +9,12 @@ use Rattle.mk_alloc.proofs.Vocabulary.{is_one_of, is_same_seat, is_take, left, l
 use Rattle.mk_alloc.proofs.Vocabulary.{not-true, not_both, now_of, only_one, only_seen, only_seen_by, or_cases}
 use Rattle.mk_alloc.proofs.Vocabulary.{others_add_none, others_one, own_before, own_calls, pass_before, phase_of, refl}
 use Rattle.mk_alloc.proofs.Vocabulary.{subst, sym, true, turn_stays, waits_for, [], ⊎_elim, ◌&&◌, ◌++◌, ◌∙◌, ◌∷◌, ◌≡◌}
-use Rattle.mk_alloc.proofs.{Decisions.{decided_in, registers_stay}, OwnGives.{GivesNone, doing_gives, gives_append}}
-use Rattle.mk_alloc.proofs.{OwnGives.others_give, Parts.{in_turn_then, others_lack, seen_after, seen_by, seen_then}}
-use Rattle.mk_alloc.proofs.{Going.IsCallers, ListParts.{Lacks, SomeKind}, StepKinds.IsHolders}
+use Rattle.mk_alloc.proofs.Decisions.{decided_in, registers_stay}
+use Rattle.mk_alloc.proofs.OwnGives.{GivesNone, doing_gives, gives_append, others_give}
+use Rattle.mk_alloc.proofs.Parts.{in_turn_then, others_lack, seen_after, seen_by, seen_then}
+use Rattle.mk_alloc.proofs.Going.{IsCallers}
+use Rattle.mk_alloc.proofs.ListParts.{Lacks, SomeKind}
+use Rattle.mk_alloc.proofs.StepKinds.{IsHolders}
 use Rattle.mk_alloc.specs.TurnCycles.{CallIsExact}
 use Rattle.mk_caller.specs.States.{never_of}
 use Rattle.mk_words.specs.Steps.{may_decide}

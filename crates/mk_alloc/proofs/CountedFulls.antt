@@ -10,14 +10,22 @@ use Rattle.mk_alloc.proofs.Vocabulary.{event_of, false, first_world, free_then, 
 use Rattle.mk_alloc.proofs.Vocabulary.{gates_behind, has_place, in_a_word, is_pending_free_at, is_run_gone, left, made}
 use Rattle.mk_alloc.proofs.Vocabulary.{now_of, object_for, others_add_none, own_before, own_calls, place_now_for, refl}
 use Rattle.mk_alloc.proofs.Vocabulary.{same_config, steady_of, subst, sum_by_push, sym, true, unchanged, world_of, []}
-use Rattle.mk_alloc.proofs.{Vocabulary.{◌++◌, ◌+◌, ◌∙◌, ◌∷◌, ◌≡◌}, CalledTurns.{of_others_alone, step_adds_none}}
+use Rattle.mk_alloc.proofs.Vocabulary.{◌++◌, ◌+◌, ◌∙◌, ◌∷◌, ◌≡◌}
+use Rattle.mk_alloc.proofs.CalledTurns.{of_others_alone, step_adds_none}
 use Rattle.mk_alloc.proofs.QuietTurns.{but_full, exact_kept, none_held_kept, same_phase, tidy_kept}
-use Rattle.mk_alloc.proofs.{SeekingTurns.{new_callers, still_nowhere, unplaced_kept}, Stretches.{SomeKinds, does_both}}
-use Rattle.mk_alloc.proofs.{Stretches.{does_once, widened}, FullLeaves.{leaves_then, made_leaves}, Going.IsCallers}
-use Rattle.mk_alloc.proofs.{GrantParts.calm_last, OneCycles.begins_none_by, Parts.{Part, before_act}}
-use Rattle.mk_alloc.proofs.{PlacedTurns.none_freed_yet, RetiredTurns.given_is_decided, RoomParts.room_lacks}
+use Rattle.mk_alloc.proofs.SeekingTurns.{new_callers, still_nowhere, unplaced_kept}
+use Rattle.mk_alloc.proofs.Stretches.{SomeKinds, does_both, does_once, widened}
+use Rattle.mk_alloc.proofs.FullLeaves.{leaves_then, made_leaves}
+use Rattle.mk_alloc.proofs.Going.{IsCallers}
+use Rattle.mk_alloc.proofs.GrantParts.{calm_last}
+use Rattle.mk_alloc.proofs.OneCycles.{begins_none_by}
+use Rattle.mk_alloc.proofs.Parts.{Part, before_act}
+use Rattle.mk_alloc.proofs.PlacedTurns.{none_freed_yet}
+use Rattle.mk_alloc.proofs.RetiredTurns.{given_is_decided}
+use Rattle.mk_alloc.proofs.RoomParts.{room_lacks}
 use Rattle.mk_caller.proofs.OwnSteps.{own_entry}
-use Rattle.mk_cycle.{proofs.KeptInParts.{gates_then}, specs.TurnKeeps.{done_of}}
+use Rattle.mk_cycle.proofs.KeptInParts.{gates_then}
+use Rattle.mk_cycle.specs.TurnKeeps.{done_of}
 use Rattle.mk_words.specs.Steps.{Finds}
 
 abbrev counts_full : SomeKinds

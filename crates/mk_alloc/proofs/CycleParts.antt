@@ -5,7 +5,9 @@ use Rattle.mk_alloc.proofs.Vocabulary.{is_begin, is_close, is_end, is_giving_bac
 use Rattle.mk_alloc.proofs.Vocabulary.{sets_tallies, sym, true, [], ◌++◌, ◌∙◌, ◌∷◌, ◌≡◌}
 use Rattle.mk_alloc.proofs.Parts.{Part, behind_part, nothing_part, part_lacks, seen_behind, seen_then, step_behind}
 use Rattle.mk_alloc.proofs.Stretches.{SomeKinds, does_both, does_once, widened}
-use Rattle.mk_alloc.proofs.{CalmStretches.is_of_cycles, ListParts.Lacks, ListParts.lacks_in_parts, StepKinds.IsHolders}
+use Rattle.mk_alloc.proofs.CalmStretches.{is_of_cycles}
+use Rattle.mk_alloc.proofs.ListParts.{Lacks, lacks_in_parts}
+use Rattle.mk_alloc.proofs.StepKinds.{IsHolders}
 
 -- The kinds of the parts are of cycles. Up to a `close` nothing is released, and after it no room is asked for.
 

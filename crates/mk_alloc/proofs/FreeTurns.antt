@@ -2,9 +2,13 @@
 use Rattle.mk_alloc.proofs.Vocabulary.{At, Bool, Config, Event, Flight, FreeIsExact, FreesFirst, IsDue, IsDueIn, List}
 use Rattle.mk_alloc.proofs.Vocabulary.{Moment, Seat, Step, TurnOf, ap, false, finishes, flight_of, has_step, is_begin}
 use Rattle.mk_alloc.proofs.Vocabulary.{is_end, is_of_cycle, left, or_from, or_parts, refl, subst, sym, true, [], ◌++◌}
-use Rattle.mk_alloc.proofs.{Vocabulary.{◌∙◌, ◌∷◌, ◌≡◌}, ListParts.{IsAt, Lacks, SomeKind, cycle_in, lacks_at, none_at}}
-use Rattle.mk_alloc.{proofs.{ListParts.only_at, CycleParts.EndsIn, DueParts.end_at}, specs.TurnCycles.{CycleIsOn}}
-use Rattle.mk_core.specs.{Counts.decides_freed, Cycles.{BeginsAndEndsIn, BeginsIn}}
+use Rattle.mk_alloc.proofs.Vocabulary.{◌∙◌, ◌∷◌, ◌≡◌}
+use Rattle.mk_alloc.proofs.ListParts.{IsAt, Lacks, SomeKind, cycle_in, lacks_at, none_at, only_at}
+use Rattle.mk_alloc.proofs.CycleParts.{EndsIn}
+use Rattle.mk_alloc.proofs.DueParts.{end_at}
+use Rattle.mk_alloc.specs.TurnCycles.{CycleIsOn}
+use Rattle.mk_core.specs.Counts.{decides_freed}
+use Rattle.mk_core.specs.Cycles.{BeginsAndEndsIn, BeginsIn}
 
 abbrev pub is_quar : SomeKind
 is_quar (Step.Quar p v) = true

@@ -5,13 +5,16 @@ use Rattle.mk_alloc.proofs.Vocabulary.{IsDueSince, IsFresh, IsHistory, Makes, Op
 use Rattle.mk_alloc.proofs.Vocabulary.{TakesTurn, TurnGoesOn, Value, ℕ, ap, append_assoc, append_cancel_left, arith}
 use Rattle.mk_alloc.proofs.Vocabulary.{at_rest, call_of, caller_of_pass, cases_Bool, inl, inr, is_freeing, is_loading}
 use Rattle.mk_alloc.proofs.Vocabulary.{pass_before, refl, subst, sym, true, ◌++◌, ◌<◌, ◌∙◌, ◌∷◌, ◌≡◌}
-use Rattle.mk_never.specs.Admitted.{IsBase}
 use Rattle.mk_alloc.proofs.CalledTurns.{GivenBack, Taken, called, registers_taken, taken_callers, taken_is, taken_turn}
 use Rattle.mk_alloc.proofs.CalledTurns.{turn_of}
 use Rattle.mk_alloc.proofs.RetiredTurns.{decided_on, due_in, due_since, rests_exactly, run_or_rest, runs_exactly}
-use Rattle.mk_alloc.proofs.{DueParts.RunIn, DueParts.run_in, FreeTurns.is_quar, FreeTurns.not_due_without}
-use Rattle.mk_alloc.proofs.{Going.IsCallers, Going.callers_then, Parts.Part, Parts.part_lacks, Parts.seen_by}
-use Rattle.mk_objects.specs.{Retired.FindsFreed, Retired.Retires, Retiring.IsUnloaded}
+use Rattle.mk_alloc.proofs.DueParts.{RunIn, run_in}
+use Rattle.mk_alloc.proofs.FreeTurns.{is_quar, not_due_without}
+use Rattle.mk_alloc.proofs.Going.{IsCallers, callers_then}
+use Rattle.mk_alloc.proofs.Parts.{Part, part_lacks, seen_by}
+use Rattle.mk_never.specs.Admitted.{IsBase}
+use Rattle.mk_objects.specs.Retired.{FindsFreed, Retires}
+use Rattle.mk_objects.specs.Retiring.{IsUnloaded}
 use Rattle.mk_caller.specs.States as caller
 
 -- The register that the turn's Free loads is null or points to a first word, as before.

@@ -1,6 +1,7 @@
 -- A New is answered Full: the tally is raised, and the call decided.
 use Rattle.mk_laws.proofs.Vocabulary.{AreAdmitted, Call, Unplaced, is_new_at, map-append, place_on_pages}
-use Rattle.mk_laws.proofs.{InvariantTheorems.first_fit_finds_the_place, LayoutHolders.seat_operands}
+use Rattle.mk_laws.proofs.InvariantTheorems.{first_fit_finds_the_place}
+use Rattle.mk_laws.proofs.LayoutHolders.{seat_operands}
 use Rattle.mk_alloc.proofs.Vocabulary.{Answer, Caller, Config, Decided, Ended, Event, Flight, Holds, InTurn, IsAtPhase}
 use Rattle.mk_alloc.proofs.Vocabulary.{IsEnabled, IsEnabledTo, IsHistory, IsTurn, IsUnplaced, List, Moment, None, Op}
 use Rattle.mk_alloc.proofs.Vocabulary.{PassState, Seat, Some, Stage, Step, ℕ, acting_caller, ap, asked, call_of}
@@ -8,10 +9,13 @@ use Rattle.mk_alloc.proofs.Vocabulary.{caller_of_pass, calls, calls_more, comes_
 use Rattle.mk_alloc.proofs.Vocabulary.{flight_of, has_operands, is_undecided_new, known_left, left, lt-ltb}
 use Rattle.mk_alloc.proofs.Vocabulary.{meets_enabled, new_is_acting, now_of, object_for, object_made, phase_of}
 use Rattle.mk_alloc.proofs.Vocabulary.{place_now_for, refl, subst, sym, true, undecided_new, [], ◌++◌, ◌<◌, ◌∙◌, ◌∷◌}
-use Rattle.mk_alloc.proofs.{Vocabulary.◌≡◌, SeekingTurns.new_callers}
+use Rattle.mk_alloc.proofs.Vocabulary.{◌≡◌}
+use Rattle.mk_alloc.proofs.SeekingTurns.{new_callers}
 use Rattle.mk_never.proofs.Parts.{admitted_join}
 use Rattle.mk_core.specs.History.{IsAdmittedBehind, never_first}
-use Rattle.mk_objects.proofs.{AdmittedNews.{new_admitted, new_in_range}, Looks.acting_now, Takes.unplaced_settled}
+use Rattle.mk_objects.proofs.AdmittedNews.{new_admitted, new_in_range}
+use Rattle.mk_objects.proofs.Looks.{acting_now}
+use Rattle.mk_objects.proofs.Takes.{unplaced_settled}
 use Rattle.mk_words.specs.Steps.{IsAdmittedTo}
 
 -- It is enabled

@@ -4,8 +4,10 @@ use Rattle.mk_alloc.proofs.Vocabulary.{InTurn, IsHistory, IsQuiet, List, Looks, 
 use Rattle.mk_alloc.proofs.Vocabulary.{TurnGoesOn, ap, append-nil, arith, call_of, caller_of_pass, does_nothing}
 use Rattle.mk_alloc.proofs.Vocabulary.{entry_of, is_look, own_calls, refl, subst, sym, turn_stays, ◌++◌, ◌∙◌, ◌≡◌}
 use Rattle.mk_alloc.proofs.CalmStretches.{cycles_in_turn, goes_undecided, is_of_cycles}
-use Rattle.mk_alloc.proofs.{QuietTurns.{quiet_begun, quiet_finished, quiet_looked}, Stretches.{does_both, does_stretch}}
-use Rattle.mk_alloc.proofs.{Stretches.widened, CycleParts.{begin_done, finish_done}, Parts.{Part, seen_behind}}
+use Rattle.mk_alloc.proofs.QuietTurns.{quiet_begun, quiet_finished, quiet_looked}
+use Rattle.mk_alloc.proofs.Stretches.{does_both, does_stretch, widened}
+use Rattle.mk_alloc.proofs.CycleParts.{begin_done, finish_done}
+use Rattle.mk_alloc.proofs.Parts.{Part, seen_behind}
 
 -- the pass of a caller
 abbrev pub IsCallers : PassState → Type 0

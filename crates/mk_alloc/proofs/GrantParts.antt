@@ -1,9 +1,12 @@
 -- Parts of a New's turn: what was granted in them, and what is let go after that.
 use Rattle.mk_alloc.proofs.Vocabulary.{At, Does, Event, GrantsNone, List, PassState, ap, append_assoc}
 use Rattle.mk_alloc.proofs.Vocabulary.{append_cancel_left, arith, has_step, is_grant, lets_go, subst, sym, [], ⊎_elim}
-use Rattle.mk_alloc.proofs.{Vocabulary.{◌++◌, ◌∙◌, ◌∷◌, ◌≡◌}, ListParts.{InFirst, InSecond, Lacks, lacks_append}}
-use Rattle.mk_alloc.proofs.{ListParts.{lacks_at, lacks_second, stands}, Parts.{Part, part_lacks, seen_by, seen_by_both}}
-use Rattle.mk_alloc.{proofs.{StepKinds.AreApart, Stretches.SomeKinds}, specs.Rooms.{GrantsLast}}
+use Rattle.mk_alloc.proofs.Vocabulary.{◌++◌, ◌∙◌, ◌∷◌, ◌≡◌}
+use Rattle.mk_alloc.proofs.ListParts.{InFirst, InSecond, Lacks, lacks_append, lacks_at, lacks_second, stands}
+use Rattle.mk_alloc.proofs.Parts.{Part, part_lacks, seen_by, seen_by_both}
+use Rattle.mk_alloc.proofs.StepKinds.{AreApart}
+use Rattle.mk_alloc.proofs.Stretches.{SomeKinds}
+use Rattle.mk_alloc.specs.Rooms.{GrantsLast}
 
 -- lists
 

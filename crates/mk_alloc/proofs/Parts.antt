@@ -2,9 +2,11 @@
 use Rattle.mk_alloc.proofs.Vocabulary.{Acts, Does, Event, Has, Holds, InTurn, IsHistory, List, Makes, PassState, Step}
 use Rattle.mk_alloc.proofs.Vocabulary.{ap, append_assoc, does_nothing, does_step, earlier_part_is_history, event_of}
 use Rattle.mk_alloc.proofs.Vocabulary.{now_of, own_before, pass_before, subst, sym, true, turn_stays, [], ◌++◌, ◌∙◌}
-use Rattle.mk_alloc.proofs.{Vocabulary.{◌∷◌, ◌≡◌}, ListParts.{Lacks, SomeKind, lacks_append}}
+use Rattle.mk_alloc.proofs.Vocabulary.{◌∷◌, ◌≡◌}
+use Rattle.mk_alloc.proofs.ListParts.{Lacks, SomeKind, lacks_append}
 use Rattle.mk_alloc.proofs.Stretches.{AreOfTurn, SomeKinds, does_once, does_stretch, holds_behind, no_kinds}
-use Rattle.mk_alloc.proofs.{Stretches.others_stretch, StepKinds.{AreApart, IsHolders, lacks}}
+use Rattle.mk_alloc.proofs.Stretches.{others_stretch}
+use Rattle.mk_alloc.proofs.StepKinds.{AreApart, IsHolders, lacks}
 
 -- what a pass has seen after parts
 

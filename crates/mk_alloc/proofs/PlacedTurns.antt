@@ -6,12 +6,17 @@ use Rattle.mk_alloc.proofs.Vocabulary.{arith, call_of, fresh_words_of, full_answ
 use Rattle.mk_alloc.proofs.Vocabulary.{is_held, is_pending_free_at, is_placing, is_undecided_new, known_left, left}
 use Rattle.mk_alloc.proofs.Vocabulary.{looks_left, now_of, releases, same_config, steady_of, subst, sum_by_push, sym}
 use Rattle.mk_alloc.proofs.Vocabulary.{true, unchanged, undecided_new, world_of, [], ◌++◌, ◌+◌, ◌∙◌, ◌∷◌, ◌≡◌}
-use Rattle.mk_alloc.proofs.{Parts.{Part, seen_behind}, PlacingStretches.{LeavesBeside, leaves_beside}}
-use Rattle.mk_alloc.proofs.{QuietTurns.{none_held_kept, quiet_kept, same_phase}, RetiredTurns.given_is_decided}
+use Rattle.mk_alloc.proofs.Parts.{Part, seen_behind}
+use Rattle.mk_alloc.proofs.PlacingStretches.{LeavesBeside, leaves_beside}
+use Rattle.mk_alloc.proofs.QuietTurns.{none_held_kept, quiet_kept, same_phase}
+use Rattle.mk_alloc.proofs.RetiredTurns.{given_is_decided}
 use Rattle.mk_alloc.proofs.Stretches.{does_stretch, widened}
-use Rattle.mk_laws.proofs.{Basics.none_on_its_way, FreshWords.fresh_pushed}
+use Rattle.mk_laws.proofs.Basics.{none_on_its_way}
+use Rattle.mk_laws.proofs.FreshWords.{fresh_pushed}
 use Rattle.mk_cycle.specs.TurnKeeps.{IsGone}
-use Rattle.mk_objects.{proofs.JoinedLooks.{looks_call}, specs.{Placing.object_at_place, Unchanged.IsAsLeft}}
+use Rattle.mk_objects.proofs.JoinedLooks.{looks_call}
+use Rattle.mk_objects.specs.Placing.{object_at_place}
+use Rattle.mk_objects.specs.Unchanged.{IsAsLeft}
 
 pub place_part : {p q : PassState} → InTurn p → Does is_placing p q → IsHistory q.table.config q.seen
     → Part is_placing p q

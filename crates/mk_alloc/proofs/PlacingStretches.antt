@@ -1,12 +1,13 @@
 -- Stretches of a turn in which no gate is held or opened, no cycle ends, no New is full and no object is freed.
 use Rattle.mk_laws.proofs.Vocabulary.{Progress}
+use Rattle.mk_laws.proofs.Basics.{Behind, tally_keeps}
+use Rattle.mk_laws.proofs.OthersCounts.{answers_full, counts_nothing}
 use Rattle.mk_alloc.proofs.Vocabulary.{Bool, Config, CountsAreLeft, Event, Flight, Has, Holding, List, Moment}
 use Rattle.mk_alloc.proofs.Vocabulary.{PassState, Seat, Step, World, ℕ, actor_of, answer_decided, ap, arith, ends}
 use Rattle.mk_alloc.proofs.Vocabulary.{event_of, false, if◌then◌else◌, is_end, is_held, is_placing, left, left_after}
 use Rattle.mk_alloc.proofs.Vocabulary.{progress, refl, true, [], ◌++◌, ◌+◌, ◌∙◌, ◌∷◌, ◌≡◌}
-use Rattle.mk_core.specs.Effects.{holding_behind}
-use Rattle.mk_laws.proofs.{Basics.Behind, Basics.tally_keeps, OthersCounts.answers_full, OthersCounts.counts_nothing}
 use Rattle.mk_alloc.proofs.Stretches.{Here, Stretch, along, holds_none}
+use Rattle.mk_core.specs.Effects.{holding_behind}
 use Rattle.mk_cycle.proofs.KeptInParts.{held_so}
 use Rattle.mk_objects.proofs.Counted.{counts_more}
 

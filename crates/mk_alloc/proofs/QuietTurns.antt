@@ -7,9 +7,12 @@ use Rattle.mk_alloc.proofs.Vocabulary.{calm_keeps, ends, eq-eqb, free_then, fres
 use Rattle.mk_alloc.proofs.Vocabulary.{gone_is_unmapped, has_place, held_by_allocations, in_a_word, inl, inr, is_held}
 use Rattle.mk_alloc.proofs.Vocabulary.{is_pending_free, is_run_gone, none_is_held, not, now_of, off_four, or_left}
 use Rattle.mk_alloc.proofs.Vocabulary.{phase_of, refl, releases, same_config, steady_of, subst, sym, true, unchanged}
-use Rattle.mk_alloc.proofs.{Vocabulary.{world_of, ◌&&◌, ◌==◌, ◌||◌, ◌∙◌, ◌≡◌, ◌⊎◌}, Stretches.does_once}
+use Rattle.mk_alloc.proofs.Vocabulary.{world_of, ◌&&◌, ◌==◌, ◌||◌, ◌∙◌, ◌≡◌, ◌⊎◌}
+use Rattle.mk_alloc.proofs.Stretches.{does_once}
 use Rattle.mk_core.specs.Counts.{TalliesAreExact}
-use Rattle.mk_cycle.proofs.{Allowed.{look_allowed, protocol}, BeginSteps.all_from, MayAct.may_act}
+use Rattle.mk_cycle.proofs.Allowed.{look_allowed, protocol}
+use Rattle.mk_cycle.proofs.BeginSteps.{all_from}
+use Rattle.mk_cycle.proofs.MayAct.{may_act}
 use Rattle.mk_cycle.specs.EngineLaw.{IsFreeForCycle}
 use Rattle.mk_words.proofs.Tallies.{settled_tallies}
 

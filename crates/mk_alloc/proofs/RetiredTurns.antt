@@ -7,10 +7,13 @@ use Rattle.mk_alloc.proofs.Vocabulary.{does_wider, false, finishes, has_place, i
 use Rattle.mk_alloc.proofs.Vocabulary.{is_of_cycle, is_pending_free_at, none_is_held, now_of, phase_of, same_config}
 use Rattle.mk_alloc.proofs.Vocabulary.{subst, sym, true, turn_stays, within_turn, ⊎_elim, ◌++◌, ◌∙◌, ◌∷◌, ◌≡◌}
 use Rattle.mk_alloc.proofs.CalledTurns.{GivenBack, lacks_given, phase_taken, taken_is, turn_of, within_is}
-use Rattle.mk_alloc.proofs.{DueParts.{RunIn, at_behind, ends_before, run_in, run_list}, FreeTurns.{due_exact, is_quar}}
-use Rattle.mk_alloc.proofs.{FreeTurns.{not_due_without, undue_exact}, Going.{IsCallers, then_on}}
+use Rattle.mk_alloc.proofs.DueParts.{RunIn, at_behind, ends_before, run_in, run_list}
+use Rattle.mk_alloc.proofs.FreeTurns.{due_exact, is_quar, not_due_without, undue_exact}
+use Rattle.mk_alloc.proofs.Going.{IsCallers, then_on}
 use Rattle.mk_alloc.proofs.ListParts.{InFirst, InSecond, Lacks, lacks_append, lacks_first, stands}
-use Rattle.mk_alloc.proofs.{Parts.{Part, part_lacks, seen_by, seen_then}, CycleParts.begins_held, QuietTurns.same_phase}
+use Rattle.mk_alloc.proofs.Parts.{Part, part_lacks, seen_by, seen_then}
+use Rattle.mk_alloc.proofs.CycleParts.{begins_held}
+use Rattle.mk_alloc.proofs.QuietTurns.{same_phase}
 use Rattle.mk_alloc.proofs.Stretches.{SomeKinds, Within}
 
 pub given_is_decided : (o : Op) → is_pending_free_at o Stage.Give ≡ false

@@ -4,12 +4,14 @@ use Rattle.mk_alloc.proofs.Vocabulary.{AsksRoom, BeginsCycle, Config, Does, Even
 use Rattle.mk_alloc.proofs.Vocabulary.{IsHistory, List, None, Object, Option, PassState, Place, Storage, ap, append-nil}
 use Rattle.mk_alloc.proofs.Vocabulary.{append_assoc, append_cancel_left, arith, asks_room, call_of, false}
 use Rattle.mk_alloc.proofs.Vocabulary.{is_pending_free, place_after, refl, subst, sym, [], ⊎_elim, ◌++◌, ◌∙◌, ◌∷◌, ◌≡◌}
-use Rattle.mk_geom.specs.Storages.{Fits}
 use Rattle.mk_alloc.proofs.CalmStretches.{releases_none, stays_reserved}
 use Rattle.mk_alloc.proofs.CycleParts.{closing, gives_room_back, part_behind_closing, part_closing}
 use Rattle.mk_alloc.proofs.ListParts.{InFirst, InSecond, lacks_at, stands}
 use Rattle.mk_alloc.proofs.Stretches.{SomeKinds, Stretch, does_both, does_once, does_stretch, first_part, widened}
-use Rattle.mk_alloc.proofs.{Going.IsCallers, Parts.Part, Parts.part_lacks, Parts.seen_behind, StepKinds.AreApart}
+use Rattle.mk_alloc.proofs.Going.{IsCallers}
+use Rattle.mk_alloc.proofs.Parts.{Part, part_lacks, seen_behind}
+use Rattle.mk_alloc.proofs.StepKinds.{AreApart}
+use Rattle.mk_geom.specs.Storages.{Fits}
 
 -- What has no place among some storage
 

@@ -2,9 +2,10 @@
 -- turn's holder's.
 use Rattle.mk_alloc.proofs.Vocabulary.{Event, Has, List, Moment, PassState, Step, actor_of, cases_Bool, false, has_step}
 use Rattle.mk_alloc.proofs.Vocabulary.{inl, inr, left, or_from, refl, true, [], ⊎_elim, ◌++◌, ◌∷◌, ◌≡◌, ◌≢◌}
-use Rattle.mk_laws.proofs.{Basics.is_holders, FramesHolders.acts_as_holder}
 use Rattle.mk_alloc.proofs.Stretches.{AreOfTurn, IsOwn, SomeKinds, Stretch, first_of, holds_none}
 use Rattle.mk_alloc.proofs.ListParts.{Lacks, SomeKind}
+use Rattle.mk_laws.proofs.Basics.{is_holders}
+use Rattle.mk_laws.proofs.FramesHolders.{acts_as_holder}
 
 -- The kind is one of the holder's, and none of the others.
 

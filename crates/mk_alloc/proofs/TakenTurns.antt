@@ -1,11 +1,15 @@
 -- A caller may take the turn for a New or a Free, and finds no stop, and not the end of all.
-use Rattle.mk_laws.proofs.{Vocabulary.{is_under_turn, ◌≤◌}, Asked.give_phase}
+use Rattle.mk_laws.proofs.Vocabulary.{is_under_turn, ◌≤◌}
+use Rattle.mk_laws.proofs.Asked.{give_phase}
 use Rattle.mk_alloc.proofs.Vocabulary.{Caller, Config, Has, IsEnabled, IsEnabledTo, IsFresh, IsHistory, IsOutOfStop}
 use Rattle.mk_alloc.proofs.Vocabulary.{Moment, Op, PassState, Some, Step, TakesTurn, ℕ, arith, at_rest, caller_of_pass}
 use Rattle.mk_alloc.proofs.Vocabulary.{flight_of, has_operands, lt-ltb, meets_enabled, now_of, only_one, own_seat, true}
-use Rattle.mk_alloc.proofs.{Vocabulary.{[], ◌<◌, ◌∷◌, ◌≡◌, ◌⊎◌}, CalledTurns.{Taken, taken_same}, Going.IsCallers}
+use Rattle.mk_alloc.proofs.Vocabulary.{[], ◌<◌, ◌∷◌, ◌≡◌, ◌⊎◌}
+use Rattle.mk_alloc.proofs.CalledTurns.{Taken, taken_same}
+use Rattle.mk_alloc.proofs.Going.{IsCallers}
 use Rattle.mk_caller.specs.States.{IsIdleCaller}
-use Rattle.mk_words.{proofs.OverPhases.{end_is_behind_over}, specs.Seats.{CallersAreBeforeOver}}
+use Rattle.mk_words.proofs.OverPhases.{end_is_behind_over}
+use Rattle.mk_words.specs.Seats.{CallersAreBeforeOver}
 
 pub callers : (p : PassState) → IsIdleCaller p → IsCallers p
 callers p idle = own_seat p idle.caller idle.seat

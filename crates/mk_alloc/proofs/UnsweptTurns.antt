@@ -2,8 +2,10 @@
 use Rattle.mk_alloc.proofs.Vocabulary.{Acts, Answer, Bool, DecidesFree, Does, EndsOlder, IsOutOfStop, Looks, Op}
 use Rattle.mk_alloc.proofs.Vocabulary.{PassState, Some, Stage, Step, SweepsNothing, ap, arith, false, is_freeing}
 use Rattle.mk_alloc.proofs.Vocabulary.{is_loading, is_look, not, not-true, now_of, only_seen, refl, step_at}
-use Rattle.mk_alloc.proofs.{Vocabulary.{sweeps_then, true, world_of, ◌≡◌}, CalledTurns.{GivenBack, taken_is}}
-use Rattle.mk_alloc.{proofs.OwnGives.{steps_are}, specs.Laws.{CallsSweepNothing, SweepNothingWhereHeld}}
+use Rattle.mk_alloc.proofs.Vocabulary.{sweeps_then, true, world_of, ◌≡◌}
+use Rattle.mk_alloc.proofs.CalledTurns.{GivenBack, taken_is}
+use Rattle.mk_alloc.proofs.OwnGives.{steps_are}
+use Rattle.mk_alloc.specs.Laws.{CallsSweepNothing, SweepNothingWhereHeld}
 use Rattle.mk_turns.proofs.Sweeping.{does_sweep, kinds_sweep, other_step_sweeps, step_then_sweeps}
 use Rattle.mk_turns.specs.Sweeping.{HaveNoMark, is_mark}
 use Rattle.mk_waiting.proofs.Unswept.{taking_sweeps}

@@ -4,10 +4,13 @@ use Rattle.mk_laws.proofs.Vocabulary.{get_or_append_left, is_same, kinds_of, len
 use Rattle.mk_laws.proofs.Vocabulary.{register_at, set_by, suc, sym, target_of, with_freed, with_global, with_new}
 use Rattle.mk_laws.proofs.Vocabulary.{with_register, with_word, word_at, words_of, zero, [], ◌*◌, ◌++◌, ◌+◌, ◌<◌, ◌∷◌}
 use Rattle.mk_laws.proofs.Vocabulary.{◌≡◌, ◌≢◌}
-use Rattle.mk_never.{proofs.Edits.{if_by, left_at_by}, specs.{Reach.LeadsTo, Types.zero_of}}
-use Rattle.mk_never.specs.{NeverHeap.{after_op, moved_on}, declared.operations.Op.TheVariants.{CasPtr, Clear, Free}}
-use Rattle.mk_never.specs.declared.operations.Op.TheVariants.{GetGlobal, GetNum, GetPtr, IsNull, Lea, Move, New, Same}
-use Rattle.mk_never.specs.{declared.operations.Op.TheVariants.{SetGlobal, SetNum, SetPtr}, Admitted.OperandsAreInRange}
+use Rattle.mk_never.proofs.Edits.{if_by, left_at_by}
+use Rattle.mk_never.specs.Reach.{LeadsTo}
+use Rattle.mk_never.specs.Types.{zero_of}
+use Rattle.mk_never.specs.NeverHeap.{after_op, moved_on}
+use Rattle.mk_never.specs.declared.operations.Op.TheVariants.{CasPtr, Clear, Free, GetGlobal, GetNum, GetPtr, IsNull}
+use Rattle.mk_never.specs.declared.operations.Op.TheVariants.{Lea, Move, New, Same, SetGlobal, SetNum, SetPtr}
+use Rattle.mk_never.specs.Admitted.{OperandsAreInRange}
 use Rattle.mk_alloc_clients.specs.Owned.{IsKnownToAlone, IsRegisterOf}
 use Rattle.mk_laws.proofs.Vocabulary.{Kind, List, NeverAllocation as Allocation, NeverState, Null, Num, Number, Op, Ptr}
 

@@ -4,8 +4,11 @@ use Rattle.mk_laws.proofs.Vocabulary.{place_on_pages, sym, ◌∙◌, ◌≡◌}
 use Rattle.mk_alloc.proofs.Vocabulary.{FitsNowhere, IsPlaced, IsTurn, IsUnplaced, OnlyLooks, PassState, now_of}
 use Rattle.mk_alloc.proofs.Vocabulary.{object_for}
 use Rattle.mk_core.specs.Words.{page_of}
-use Rattle.mk_alloc_clients.{proofs.{MadeNumbers.page_kept, OnePage.{fit_on_page, place_on}}, specs.Making.{one_number}}
-use Rattle.mk_objects.proofs.{PlacedNews.{fit_within, goes_behind, place_found}, JoinedLooks.granted_behind_looks}
+use Rattle.mk_alloc_clients.proofs.MadeNumbers.{page_kept}
+use Rattle.mk_alloc_clients.proofs.OnePage.{fit_on_page, place_on}
+use Rattle.mk_alloc_clients.specs.Making.{one_number}
+use Rattle.mk_objects.proofs.PlacedNews.{fit_within, goes_behind, place_found}
+use Rattle.mk_objects.proofs.JoinedLooks.{granted_behind_looks}
 use Rattle.mk_objects.specs.Placing.{GoesTo, HeldIsExact, IsGranted}
 
 module _ (p q : PassState) (page : Page) (found : Option Place) (turn : IsTurn p)

@@ -2,13 +2,17 @@
 use Rattle.mk_laws.proofs.Vocabulary.{Answer, Bool, IsHistory, Number, Op, Some, Step, TalliesAreTidy, ℕ, false}
 use Rattle.mk_laws.proofs.Vocabulary.{kinds_of, refl, subst, sym, [], ◌<◌, ◌∷◌, ◌≡◌}
 use Rattle.mk_alloc.proofs.Vocabulary.{BeginsTurn, CalledInTurn, IsEnabledTo, IsFresh, PassState, caller_of_pass}
-use Rattle.mk_alloc.proofs.{Vocabulary.own_before, TakenTurns.{callers, take_allowed, taken_phase}, CalledTurns.Taken}
+use Rattle.mk_alloc.proofs.Vocabulary.{own_before}
+use Rattle.mk_alloc.proofs.TakenTurns.{callers, take_allowed, taken_phase}
+use Rattle.mk_alloc.proofs.CalledTurns.{Taken}
 use Rattle.mk_alloc.proofs.NewTurns.{operands_of}
 use Rattle.mk_core.specs.Counts.{TalliesAreExact}
-use Rattle.mk_alloc_clients.proofs.{MadeNumbers.{taken_at_once, type_exists}, OwnedCalls.granted}
+use Rattle.mk_alloc_clients.proofs.MadeNumbers.{taken_at_once, type_exists}
+use Rattle.mk_alloc_clients.proofs.OwnedCalls.{granted}
 use Rattle.mk_alloc_clients.specs.Owned.{HasNumber}
 use Rattle.mk_caller.specs.States.{IsIdleCaller}
-use Rattle.mk_words.specs.{Seats.CallersAreBeforeOver, Steps.Finds}
+use Rattle.mk_words.specs.Seats.{CallersAreBeforeOver}
+use Rattle.mk_words.specs.Steps.{Finds}
 
 -- The turn of the New, as it was taken.
 pub record TakenNew (p : PassState) (d ty : ℕ) (q : PassState) : Type 0 where

@@ -6,7 +6,8 @@ use Rattle.mk_laws.proofs.Vocabulary.{nat_lt, phase_of, slice_index_or, sym, tru
 use Rattle.mk_alloc.proofs.Vocabulary.{OnlyLooks, PassState, TakesTurn, looks_left, now_of}
 use Rattle.mk_core.specs.Words.{page_of}
 use Rattle.mk_objects.proofs.JoinedLooks.{looks_pages}
-use Rattle.mk_words.specs.{States.WordsState, Steps.Finds}
+use Rattle.mk_words.specs.States.{WordsState}
+use Rattle.mk_words.specs.Steps.{Finds}
 
 -- Looks leave what was seen.
 

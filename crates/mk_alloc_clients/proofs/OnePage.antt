@@ -1,11 +1,14 @@
 -- The place of a number on a heap of one page, by what its only page shows.
-use Rattle.std.{proofs.Common.{option_map, w64}, specs.{Bool.then_some, Int.trailing_ones}}
+use Rattle.std.proofs.Common.{option_map, w64}
+use Rattle.std.specs.Bool.{then_some}
+use Rattle.std.specs.Int.{trailing_ones}
 use Rattle.mk_laws.proofs.Vocabulary.{Bool, Config, IsHistory, List, None, Object, Option, Page, Place, Some, ℕ, ap}
 use Rattle.mk_laws.proofs.Vocabulary.{arith, block_header, false, free_page, header_of, histories_keep_lengths}
 use Rattle.mk_laws.proofs.Vocabulary.{if◌then◌else◌, length, nat_lt, not, or_else, place_on_pages, refl, resident_pages}
 use Rattle.mk_laws.proofs.Vocabulary.{slice_index_or, sym, true, use_under, word_of, [], ◌<◌, ◌^◌, ◌∙◌, ◌∷◌, ◌≡◌, ◌≢◌}
 use Rattle.mk_alloc.proofs.Vocabulary.{PassState, now_of, object_for}
-use Rattle.mk_geom.specs.{PageUses.{carved, cells_taken, first_where, small_place}, PageWords.use_of_page}
+use Rattle.mk_geom.specs.PageUses.{carved, cells_taken, first_where, small_place}
+use Rattle.mk_geom.specs.PageWords.{use_of_page}
 use Rattle.mk_books.proofs.UsedBitLemmas.{first_where-bits_of}
 use Rattle.mk_core.specs.Words.{page_of}
 use Rattle.mk_alloc_clients.specs.Making.{one_number}

@@ -5,9 +5,16 @@ use Rattle.mk_laws.proofs.Vocabulary.{Suits, To, Value, WordOf, ℕ, after_calls
 use Rattle.mk_laws.proofs.Vocabulary.{false, get_or, get_or-set_same, get_or_past, inl, inr, kinds_of, length}
 use Rattle.mk_laws.proofs.Vocabulary.{register_at, set_by, subst, sym, target_of, with_word, word_at, words_of, [], ◌*◌}
 use Rattle.mk_laws.proofs.Vocabulary.{◌+◌, ◌<◌, ◌∙◌, ◌∷◌, ◌≡◌, ◌≢◌}
-use Rattle.mk_never.proofs.{Edits.exists, Fresh.new_adds, Later.op_stays, Registers.{destination, op_keeps}}
-use Rattle.mk_never.specs.{Admitted.IsCaller, NeverHeap.{after_op, left_at, reply_at, reply_of}, Laws.AreNotBy}
-use Rattle.mk_never.specs.{Reach.LeadsTo, declared.operations.Reply.Reply, declared.values.Target.Target}
+use Rattle.mk_never.proofs.Edits.{exists}
+use Rattle.mk_never.proofs.Fresh.{new_adds}
+use Rattle.mk_never.proofs.Later.{op_stays}
+use Rattle.mk_never.proofs.Registers.{destination, op_keeps}
+use Rattle.mk_never.specs.Admitted.{IsCaller}
+use Rattle.mk_never.specs.NeverHeap.{after_op, left_at, reply_at, reply_of}
+use Rattle.mk_never.specs.Laws.{AreNotBy}
+use Rattle.mk_never.specs.Reach.{LeadsTo}
+use Rattle.mk_never.specs.declared.operations.Reply.{Reply}
+use Rattle.mk_never.specs.declared.values.Target.{Target}
 use Rattle.mk_alloc_clients.proofs.Alone.{op_stays_alone, push_keeps, word_alone, zeros_lead_nowhere}
 use Rattle.mk_alloc_clients.specs.Owned.{IsRegisterOf, OwnsNumberIn, number_behind}
 use Rattle.mk_laws.proofs.Vocabulary.{Meets, NeverAllocation as Allocation, NeverState, Null, Num, Number, Op, Ptr}

@@ -7,13 +7,20 @@ use Rattle.mk_laws.proofs.Vocabulary.{earlier_part_is_history, entry_of, eq-eqb,
 use Rattle.mk_laws.proofs.Vocabulary.{if◌then◌else◌, kinds_of, left, length, never_behind, never_in_parts, refl, subst}
 use Rattle.mk_laws.proofs.Vocabulary.{sym, true, true≢false, [], ◌++◌, ◌==◌, ◌∙◌, ◌∷◌, ◌≡◌}
 use Rattle.mk_alloc.proofs.Vocabulary.{PassState, by_append, caller_of_pass, calls_by, calls_in_parts, calls_more}
-use Rattle.mk_alloc.proofs.{Vocabulary.{comes_last, event_of, others_add_none, own_calls, stands}, Decisions.same_last}
-use Rattle.mk_never.specs.{Laws.AreNotBy, NeverHeap.after_op, declared.operations.Reply.Reply}
+use Rattle.mk_alloc.proofs.Vocabulary.{comes_last, event_of, others_add_none, own_calls, stands}
+use Rattle.mk_alloc.proofs.Decisions.{same_last}
+use Rattle.mk_never.specs.Laws.{AreNotBy}
+use Rattle.mk_never.specs.NeverHeap.{after_op}
+use Rattle.mk_never.specs.declared.operations.Reply.{Reply}
 use Rattle.mk_alloc_clients.proofs.Owned.{HasStored, KeepsNumber, access_admitted, keeps_by_others, load_replies}
-use Rattle.mk_alloc_clients.{proofs.Owned.{new_owns, store_leaves, store_replies}, specs.Making.{store_then_load}}
-use Rattle.mk_alloc_clients.specs.{Owned.{HasNumber, OwnsNumber, OwnsNumberIn, number_owned}, Laws.OwnedNumbersStay}
-use Rattle.mk_caller.specs.{States.{Admits, never_of, never_then}, declared.refusals.Refusal.TheVariants.{Fault, Null}}
-use Rattle.mk_caller.specs.{Called.{Called, IsDecidedIn}, Causes.{FindsGateHeld, IsRefused}}
+use Rattle.mk_alloc_clients.proofs.Owned.{new_owns, store_leaves, store_replies}
+use Rattle.mk_alloc_clients.specs.Making.{store_then_load}
+use Rattle.mk_alloc_clients.specs.Owned.{HasNumber, OwnsNumber, OwnsNumberIn, number_owned}
+use Rattle.mk_alloc_clients.specs.Laws.{OwnedNumbersStay}
+use Rattle.mk_caller.specs.States.{Admits, never_of, never_then}
+use Rattle.mk_caller.specs.declared.refusals.Refusal.TheVariants.{Fault, Null}
+use Rattle.mk_caller.specs.Called.{Called, IsDecidedIn}
+use Rattle.mk_caller.specs.Causes.{FindsGateHeld, IsRefused}
 use Rattle.mk_words.specs.declared.call_steps.Held.{Held}
 
 -- Calls among which the caller has none are of others.

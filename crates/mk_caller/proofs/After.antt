@@ -3,11 +3,14 @@ use Rattle.mk_laws.proofs.Vocabulary.{Answer, Bool, NeverState, Null, Num, Op, P
 use Rattle.mk_laws.proofs.Vocabulary.{after_free, ap, arith, false, get_or-set_other, get_or-set_same, if◌then◌else◌}
 use Rattle.mk_laws.proofs.Vocabulary.{is_same, never_behind, refl, register_at, target_of, true, with_register}
 use Rattle.mk_laws.proofs.Vocabulary.{with_word, word_at, ◌*◌, ◌++◌, ◌+◌, ◌<◌, ◌∙◌, ◌≡◌, ◌≢◌}
-use Rattle.mk_never.specs.NeverHeap.{after_op, left_at}
-use Rattle.mk_never.specs.{Admitted.IsCaller, declared.values.Target.Target, declared.values.Target.TheVariants.Nothing}
 use Rattle.mk_laws.proofs.OtherCalls.{never_continues}
+use Rattle.mk_never.specs.NeverHeap.{after_op, left_at}
+use Rattle.mk_never.specs.Admitted.{IsCaller}
+use Rattle.mk_never.specs.declared.values.Target.{Target}
+use Rattle.mk_never.specs.declared.values.Target.TheVariants.{Nothing}
 use Rattle.mk_caller.specs.States.{caller_of_pass, never_of, value_of}
-use Rattle.mk_caller.specs.{Called.Called, Laws.CallsLeaveOtherRegisters, Laws.destination}
+use Rattle.mk_caller.specs.Called.{Called}
+use Rattle.mk_caller.specs.Laws.{CallsLeaveOtherRegisters, destination}
 use Rattle.mk_words.specs.States.{PassState}
 
 set_other : (n : NeverState) (k d r : ℕ) (v : Value) → Some d ≢ Some r

@@ -2,8 +2,11 @@
 use Rattle.std.proofs.Common.{slice_set}
 use Rattle.mk_check.proofs.Vocabulary.{Frame, FrameIsWithin, FramesAreWithin, HasStopped, IsTree, List, Node, Place}
 use Rattle.mk_check.proofs.Vocabulary.{PlaceIsWithin, Some, ℕ, ap, asks_at, innermost, length, node_at, refl, subst}
-use Rattle.mk_check.proofs.{Vocabulary.{take, true, ◌-◌, ◌<◌, ◌∙◌, ◌≡◌}, AsksFirst.{round_left, split_last}}
-use Rattle.mk_check.proofs.{AtOnce.{asks_so, stopped_here}, Moves.{FramesAreWithin_pop, end_goes_on}, TreeNodes.is_at}
+use Rattle.mk_check.proofs.Vocabulary.{take, true, ◌-◌, ◌<◌, ◌∙◌, ◌≡◌}
+use Rattle.mk_check.proofs.AsksFirst.{round_left, split_last}
+use Rattle.mk_check.proofs.AtOnce.{asks_so, stopped_here}
+use Rattle.mk_check.proofs.Moves.{FramesAreWithin_pop, end_goes_on}
+use Rattle.mk_check.proofs.TreeNodes.{is_at}
 
 pub innermost_within : (count : ℕ) (frames : List Frame) (f : Frame) → FramesAreWithin count frames
     → innermost frames ≡ Some f → FrameIsWithin count f

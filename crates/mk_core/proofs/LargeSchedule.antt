@@ -1,8 +1,8 @@
 -- A schedule of an object of two pages: it is freed, so that its pages are unmapped, and its pages are taken again.
 use Rattle.mk_core.proofs.Vocabulary.{Config, Event, List, None, Op, Some, Step, Tally, Word, all_below, false}
 use Rattle.mk_core.proofs.Vocabulary.{pointed_cell, refl, replicate, [], ◌++◌, ◌∷◌, ◌≡◌}
-use Rattle.mk_never.specs.declared.types.Kind.TheVariants.{Num}
 use Rattle.mk_core.proofs.Schedules.{by, c0, cleared, fault, first_fault, heap_of}
+use Rattle.mk_never.specs.declared.types.Kind.TheVariants.{Num}
 
 -- two callers, of which the second makes no call
 unfoldable pub three_pages : Config

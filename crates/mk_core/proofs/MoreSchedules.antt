@@ -2,9 +2,9 @@
 -- a cycle marks, exchanges, a sweeping mark.
 use Rattle.mk_core.proofs.Vocabulary.{Config, Event, List, None, Op, Some, Step, Tally, Word, all_below, false}
 use Rattle.mk_core.proofs.Vocabulary.{may_turn_black, pointed_cell, refl, replicate, [], ◌++◌, ◌∷◌, ◌≡◌}
-use Rattle.mk_never.specs.declared.types.Kind.TheVariants.{Num}
 use Rattle.mk_core.proofs.Schedules.{by, c0, carved, cleared, fault, first_fault, freed, granted, heap_of, host}
 use Rattle.mk_core.proofs.Schedules.{one_page, pointer_page}
+use Rattle.mk_never.specs.declared.types.Kind.TheVariants.{Num}
 
 -- Two objects fill the page. One is freed, but a register still points to it, so a New is refused after a cycle of its
 -- own. After a `clear` of that register the next New's cycle releases it, and its cell is taken again.

@@ -5,8 +5,9 @@ use Rattle.mk_laws.proofs.Vocabulary.{is_heap_store, is_phase, not, or_else, poi
 use Rattle.mk_laws.proofs.Vocabulary.{refl, run_of_cell, sees_double, still, sym, target, true, true≢false, ◌&&◌, ◌∙◌}
 use Rattle.mk_laws.proofs.Vocabulary.{◌≡◌}
 use Rattle.mk_cycle.proofs.Vocabulary.{holding_behind, is_pending_free}
+use Rattle.mk_cycle.proofs.OwnSteps.{done_in}
 use Rattle.mk_core.specs.Effects.{progress_look}
-use Rattle.mk_cycle.{proofs.OwnSteps.done_in, specs.EngineLaw.is_pending_free_at}
+use Rattle.mk_cycle.specs.EngineLaw.{is_pending_free_at}
 
 -- these kinds
 abbrev pub is_calm : Step → Bool

@@ -3,8 +3,10 @@ use Rattle.mk_laws.proofs.Vocabulary.{Bool, Config, Event, List, Step, World, �
 use Rattle.mk_laws.proofs.Vocabulary.{refl, sym, [], ◌++◌, ◌∙◌, ◌≡◌}
 use Rattle.mk_cycle.proofs.Vocabulary.{HoldsGates, PassState, does_sweep, holds_gates, sweeps_then}
 use Rattle.mk_cycle.proofs.HoldingSteps.{holds_nothing, holds_then}
-use Rattle.mk_cycle.proofs.{Sweepless.marks_nothing, Told.told_earlier, Told.told_later}
-use Rattle.mk_cycle.specs.{Closing.ClosesAsPromised, Closing.IsClosedBy, Releasing.MakesRelease}
+use Rattle.mk_cycle.proofs.Sweepless.{marks_nothing}
+use Rattle.mk_cycle.proofs.Told.{told_earlier, told_later}
+use Rattle.mk_cycle.specs.Closing.{ClosesAsPromised, IsClosedBy}
+use Rattle.mk_cycle.specs.Releasing.{MakesRelease}
 use Rattle.mk_turns.specs.Doing.{Does}
 
 module _ (closes : PassState → PassState → Type 0) where

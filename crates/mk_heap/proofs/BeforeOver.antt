@@ -4,12 +4,18 @@ use Rattle.mk_laws.proofs.Vocabulary.{Bool, Config, Event, Host, IsHistory, List
 use Rattle.mk_laws.proofs.Vocabulary.{arith, earlier_part_is_history, enabled_in_parts, false, false_from_ne_true}
 use Rattle.mk_laws.proofs.Vocabulary.{first_world, inl, inr, is_one_of, left, list_any-append, not, not-true, or_cases}
 use Rattle.mk_laws.proofs.Vocabulary.{phase_of, refl, subst, sym, true, world_behind, [], ◌&&◌, ◌++◌, ◌||◌, ◌∙◌, ◌∷◌}
-use Rattle.mk_laws.proofs.{Vocabulary.{◌≡◌, ◌≢◌, ◌⊎◌}, CyclePhases.{AsksPhase, moves_phase, phase_behind}}
-use Rattle.mk_core.specs.{Growing.{Grows, is_same_seat}, History.{AreEnabledFrom, left_from}}
-use Rattle.mk_heap.{proofs.MovedHosts.{MovesOn}, specs.Hosts.{HostState, IsHost, with_joined}}
-use Rattle.mk_waiting.{proofs.Waiting.{waits_more}, specs.Taking.{TakesTurn, Waits, is_take, waits_for}}
+use Rattle.mk_laws.proofs.Vocabulary.{◌≡◌, ◌≢◌, ◌⊎◌}
+use Rattle.mk_laws.proofs.CyclePhases.{AsksPhase, moves_phase, phase_behind}
+use Rattle.mk_core.specs.Growing.{Grows, is_same_seat}
+use Rattle.mk_core.specs.History.{AreEnabledFrom, left_from}
+use Rattle.mk_heap.proofs.MovedHosts.{MovesOn}
+use Rattle.mk_heap.specs.Hosts.{HostState, IsHost, with_joined}
+use Rattle.mk_waiting.proofs.Waiting.{waits_more}
+use Rattle.mk_waiting.specs.Taking.{TakesTurn, Waits, is_take, waits_for}
 use Rattle.mk_words.proofs.Overs.{none_over, over_is_hosts}
-use Rattle.mk_words.specs.{Seats.{Has, has_over, is_over}, States.PassState, Steps.Makes}
+use Rattle.mk_words.specs.Seats.{Has, has_over, is_over}
+use Rattle.mk_words.specs.States.{PassState}
+use Rattle.mk_words.specs.Steps.{Makes}
 
 -- a list that goes on without one
 

@@ -2,13 +2,19 @@
 use Rattle.mk_laws.proofs.Vocabulary.{Caller, Config, Event, Flight, IsHistory, IsTidy, List, Moment, Protocol, Seat}
 use Rattle.mk_laws.proofs.Vocabulary.{ap, arith, cases_eq, eq-eqb, false, host_has_turn, inl, inr, left, lt-ltb}
 use Rattle.mk_laws.proofs.Vocabulary.{seat_exists, subst, sym, true, true≢false, ◌+◌, ◌-◌, ◌<◌, ◌∙◌, ◌≡◌, ◌≢◌, ◌⊎◌}
+use Rattle.mk_laws.proofs.Known.{known_left}
+use Rattle.mk_laws.proofs.Protocols.{protocol_of}
+use Rattle.mk_laws.proofs.Tallies.{tallies_tell}
 use Rattle.mk_core.specs.Readings.{is_in_turn}
-use Rattle.mk_laws.proofs.{Known.known_left, Protocols.protocol_of, Tallies.tallies_tell}
-use Rattle.mk_heap.proofs.{HostsKept.all_home, Quarantine.freed_cells_are_quarantined}
+use Rattle.mk_heap.proofs.HostsKept.{all_home}
+use Rattle.mk_heap.proofs.Quarantine.{freed_cells_are_quarantined}
 use Rattle.mk_heap.specs.Hosts.{AllAreJoined, HostState, IsHost, Rests}
-use Rattle.mk_heap.specs.{Reports.HasCounts, Reports.IsWhole, declared.reports.Report.Report}
+use Rattle.mk_heap.specs.Reports.{HasCounts, IsWhole}
+use Rattle.mk_heap.specs.declared.reports.Report.{Report}
 use Rattle.mk_words.specs.Seats.{Has, HasAll}
-use Rattle.mk_words.specs.{Finals.HasTallies, States.WordsState, States.now_of, declared.finals.Final.Final}
+use Rattle.mk_words.specs.Finals.{HasTallies}
+use Rattle.mk_words.specs.States.{WordsState, now_of}
+use Rattle.mk_words.specs.declared.finals.Final.{Final}
 use Rattle.mk_words.specs.Finals as final
 
 -- the report of a table that has ended

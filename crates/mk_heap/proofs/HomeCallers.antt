@@ -1,16 +1,22 @@
 -- Where all callers are home, nobody makes a step of the turn's holder while the host waits for the turn: the phase
 -- stays.
-use Rattle.std.{proofs.Common.{⊎_elim}, specs.List.{list_all}}
+use Rattle.std.proofs.Common.{⊎_elim}
+use Rattle.std.specs.List.{list_all}
 use Rattle.mk_laws.proofs.Vocabulary.{Bool, Caller, Config, Event, Host, IsHistory, List, Marker, Moment, None, Seat}
 use Rattle.mk_laws.proofs.Vocabulary.{Step, World, ℕ, and_parts, ap, arith, cases_lt, enabled_in_parts, enabled_meets}
 use Rattle.mk_laws.proofs.Vocabulary.{false, group_of, is_one_of, is_open_to, left_in_parts, list_any, ltb-true, not}
 use Rattle.mk_laws.proofs.Vocabulary.{not-true, or_cases, or_from, or_parts, phase_of, refl, seat_exists, subst, sym}
 use Rattle.mk_laws.proofs.Vocabulary.{true, true≢false, world_behind, [], ◌&&◌, ◌++◌, ◌<◌, ◌||◌, ◌∙◌, ◌∷◌, ◌≡◌, ◌≤◌}
-use Rattle.mk_laws.proofs.{Actors.{Meets, is_holders}, CyclePhases.{moves_phase, phase_behind}}
-use Rattle.mk_core.specs.{Growing.{AreOfOthers, is_same_seat}, History.{AreEnabledFrom, left_from}}
-use Rattle.mk_heap.specs.{Ending.CallersAreJoined, Hosts.{HostState, IsHost}}
-use Rattle.mk_waiting.{proofs.Waiting.{waits_more}, specs.Taking.{TakesTurn, Waits, is_take, waits_for}}
-use Rattle.mk_words.specs.{Seats.{Has, HasCallers}, States.{PassState, now_of}}
+use Rattle.mk_laws.proofs.Actors.{Meets, is_holders}
+use Rattle.mk_laws.proofs.CyclePhases.{moves_phase, phase_behind}
+use Rattle.mk_core.specs.Growing.{AreOfOthers, is_same_seat}
+use Rattle.mk_core.specs.History.{AreEnabledFrom, left_from}
+use Rattle.mk_heap.specs.Ending.{CallersAreJoined}
+use Rattle.mk_heap.specs.Hosts.{HostState, IsHost}
+use Rattle.mk_waiting.proofs.Waiting.{waits_more}
+use Rattle.mk_waiting.specs.Taking.{TakesTurn, Waits, is_take, waits_for}
+use Rattle.mk_words.specs.Seats.{Has, HasCallers}
+use Rattle.mk_words.specs.States.{PassState, now_of}
 
 -- Callers that weren't made are home, and those that were are joined.
 pub callers_home : (h : HostState) → IsHost h → CallersAreJoined h → HasCallers h.pass.table.config h.pass.seats

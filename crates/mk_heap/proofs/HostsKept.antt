@@ -1,15 +1,18 @@
 -- What always holds of the host holds of the first, and is kept where a caller or a marker is made or joined.
-use Rattle.std.proofs.{Common.{IsSome, replicate, ⊎_elim}, lemmas.List.{get_or-replicate, length-replicate}}
+use Rattle.std.proofs.Common.{IsSome, replicate, ⊎_elim}
+use Rattle.std.proofs.lemmas.List.{get_or-replicate, length-replicate}
 use Rattle.mk_laws.proofs.Vocabulary.{Caller, Config, Event, Host, IsHistory, List, Marker, None, Option, Seat, Some, ℕ}
 use Rattle.mk_laws.proofs.Vocabulary.{ap, arith, at_rest, cases_lt, first_moment, get_or, get_or_past, left, lt-ltb}
 use Rattle.mk_laws.proofs.Vocabulary.{ltb-true, ne_eqb, outside, refl, subst, sym, [], ◌+◌, ◌<◌, ◌∙◌, ◌∷◌, ◌≡◌, ◌≤◌}
-use Rattle.mk_core.specs.{Growing.Grows, History.left_from}
+use Rattle.mk_core.specs.Growing.{Grows}
+use Rattle.mk_core.specs.History.{left_from}
 use Rattle.mk_caller.specs.States.{IsIdleCaller}
 use Rattle.mk_heap.proofs.Joining.{still_no_turn, still_rests}
 use Rattle.mk_heap.specs.Hosts.{AllAreJoined, HostState, IsDone, IsHost, IsWholeHost, Rests, first_host, host_of}
 use Rattle.mk_heap.specs.Hosts.{pass_for, with_caller_made, with_caller_out, with_joined, with_marker_made}
 use Rattle.mk_words.proofs.Seats.{has_all, has_either, has_left, only_one, without_keeps, without_less}
-use Rattle.mk_words.specs.{Seats.{Has, HasAll}, States.{PassState, WordsState}}
+use Rattle.mk_words.specs.Seats.{Has, HasAll}
+use Rattle.mk_words.specs.States.{PassState, WordsState}
 
 abbrev pub home_host : PassState → ℕ → ℕ → HostState
 home_host p callers markers = record { pass = p; callers = callers; markers = markers }

@@ -1,15 +1,24 @@
 -- The host's turn before an `over`: whether a cycle is on, and that none is after the end of one.
 use Rattle.mk_laws.proofs.Vocabulary.{Config, Host, IsHistory, None, Steady, Step, TalliesAreTidy, Word, ℕ}
 use Rattle.mk_laws.proofs.Vocabulary.{all_below-at, ap, arith, false, inl, inr, is_held, not, phase_of, refl, subst}
-use Rattle.mk_laws.proofs.{Vocabulary.{suc, sym, true, zero, ◌%◌, ◌∙◌, ◌≡◌, ◌≤◌, ◌⊎◌}, Asked.give_phase}
-use Rattle.mk_core.specs.{Counts.TalliesAreExact, Moments.none_is_held}
-use Rattle.mk_cycle.proofs.{KeptInParts.{free_then, gates_behind, keeps_less, same_config}, BeginSteps.all_from}
+use Rattle.mk_laws.proofs.Vocabulary.{suc, sym, true, zero, ◌%◌, ◌∙◌, ◌≡◌, ◌≤◌, ◌⊎◌}
+use Rattle.mk_laws.proofs.Asked.{give_phase}
+use Rattle.mk_core.specs.Counts.{TalliesAreExact}
+use Rattle.mk_core.specs.Moments.{none_is_held}
+use Rattle.mk_cycle.proofs.KeptInParts.{free_then, gates_behind, keeps_less, same_config}
+use Rattle.mk_cycle.proofs.BeginSteps.{all_from}
 use Rattle.mk_cycle.proofs.CleaningSteps.{calm_keeps}
-use Rattle.mk_cycle.specs.{EngineLaw.{IsAtPhase, IsFreeForCycle}, TurnKeeps.{InTurn, KeepsGates, LeavesTurn, but_phase}}
-use Rattle.mk_cycle.specs.{TurnKeeps.unchanged, BeginCycle.BeginsCycle, FinishCycle.FinishesCycle}
+use Rattle.mk_cycle.specs.EngineLaw.{IsAtPhase, IsFreeForCycle}
+use Rattle.mk_cycle.specs.TurnKeeps.{InTurn, KeepsGates, LeavesTurn, but_phase, unchanged}
+use Rattle.mk_cycle.specs.BeginCycle.{BeginsCycle}
+use Rattle.mk_cycle.specs.FinishCycle.{FinishesCycle}
 use Rattle.mk_heap.specs.Ending.{EndsCycle, IsIdleTurn}
-use Rattle.mk_words.proofs.{Made.made, OverPhases.end_is_behind_over}
-use Rattle.mk_words.specs.{States.{PassState, now_of}, Seats.has_over, Steps.Finds, TurnSteps.{Acts, IsFresh}}
+use Rattle.mk_words.proofs.Made.{made}
+use Rattle.mk_words.proofs.OverPhases.{end_is_behind_over}
+use Rattle.mk_words.specs.States.{PassState, now_of}
+use Rattle.mk_words.specs.Seats.{has_over}
+use Rattle.mk_words.specs.Steps.{Finds}
+use Rattle.mk_words.specs.TurnSteps.{Acts, IsFresh}
 
 at_most_one : (n : ℕ) → n ≤ 1 → (n ≡ 0) ⊎ (n ≡ 1)
 at_most_one zero le = inl refl

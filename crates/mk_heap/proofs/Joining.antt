@@ -1,12 +1,18 @@
 -- What the host knows still holds after the events of others.
 use Rattle.mk_laws.proofs.Vocabulary.{Bool, Config, Event, Host, IsEnabled, IsHistory, List, Moment, None, Seat, Step}
 use Rattle.mk_laws.proofs.Vocabulary.{ap, earlier_part_is_history, enabled_meets, false, first_world, host_has_turn}
-use Rattle.mk_laws.proofs.{Vocabulary.{left, not, refl, subst, sym, true, ◌++◌, ◌∙◌, ◌≡◌}, ProtocolFrames.others_leave}
-use Rattle.mk_core.{proofs.{Conditions.meets_enabled, Histories.last_enabled}, specs.Growing.{Grows}}
+use Rattle.mk_laws.proofs.Vocabulary.{left, not, refl, subst, sym, true, ◌++◌, ◌∙◌, ◌≡◌}
+use Rattle.mk_laws.proofs.ProtocolFrames.{others_leave}
+use Rattle.mk_core.proofs.Conditions.{meets_enabled}
+use Rattle.mk_core.proofs.Histories.{last_enabled}
+use Rattle.mk_core.specs.Growing.{Grows}
 use Rattle.atomic_table.specs.Seated.{TableId}
 use Rattle.mk_heap.specs.Hosts.{Rests}
-use Rattle.mk_words.proofs.{LongerLists.longer_lists, Owed.history_more, Seats.others_own}
-use Rattle.mk_words.specs.{Seats.Has, States.PassState}
+use Rattle.mk_words.proofs.LongerLists.{longer_lists}
+use Rattle.mk_words.proofs.Owed.{history_more}
+use Rattle.mk_words.proofs.Seats.{others_own}
+use Rattle.mk_words.specs.Seats.{Has}
+use Rattle.mk_words.specs.States.{PassState}
 
 abbrev take_of_host : Event
 take_of_host = record { seat = Host; step = Step.Take None }

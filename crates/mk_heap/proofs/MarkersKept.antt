@@ -2,7 +2,8 @@
 use Rattle.mk_laws.proofs.Vocabulary.{IsHistory, IsWithinLimits, Marker, arith, marker_at, outside, refl, [], ◌<◌, ◌∷◌}
 use Rattle.mk_laws.proofs.Vocabulary.{◌≡◌}
 use Rattle.mk_heap.specs.Hosts.{HostState, IsDone, IsHost, pass_for}
-use Rattle.mk_marker.{proofs.OutMarkers.out_is_outside, specs.Markers.IsMarkers, specs.Markers.IsOut}
+use Rattle.mk_marker.proofs.OutMarkers.{out_is_outside}
+use Rattle.mk_marker.specs.Markers.{IsMarkers, IsOut}
 use Rattle.mk_words.specs.States.{PassState, WordsState, now_of}
 
 -- A marker that is out is done.

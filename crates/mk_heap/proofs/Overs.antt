@@ -1,15 +1,24 @@
 -- The host says that all is over, and gives its turn back.
 use Rattle.std.proofs.lemmas.List.Sums.{count_by-le-length}
 use Rattle.mk_laws.proofs.Vocabulary.{Host, Step, World, ℕ, and_from, ap, arith, eq-eqb, has_phase, ne_eqb, phase_of}
-use Rattle.mk_laws.proofs.{Vocabulary.{refl, true, ◌%◌, ◌+◌, ◌/◌, ◌^◌, ◌∙◌, ◌≡◌, ◌≤◌}, Asked.give_phase}
+use Rattle.mk_laws.proofs.Vocabulary.{refl, true, ◌%◌, ◌+◌, ◌/◌, ◌^◌, ◌∙◌, ◌≡◌, ◌≤◌}
+use Rattle.mk_laws.proofs.Asked.{give_phase}
 use Rattle.mk_laws.proofs.Settled.{gone_is_unmapped}
-use Rattle.mk_core.specs.{Counts.TalliesAreExact, Moments.none_is_held}
-use Rattle.mk_cycle.proofs.{OwnSteps.{keeps_call, keeps_counts, steady_behind}, Allowed.protocol}
-use Rattle.mk_cycle.proofs.{KeptInParts.{free_then, gates_behind}, MayAct.may_act}
-use Rattle.mk_cycle.specs.{TurnKeeps.{InTurn, LeavesTurn, but_phase}, EngineLaw.{IsAtPhase, IsFreeForCycle}}
-use Rattle.mk_heap.{proofs.IdleTurns.{exact_kept, none_held_kept}, specs.Ending.{IsIdleTurn}}
-use Rattle.mk_words.proofs.{Made.made, Tallies.settled_tallies}
-use Rattle.mk_words.specs.{States.{PassState, now_of}, Steps.IsEnabledTo, TurnSteps.{Acts, world_at}}
+use Rattle.mk_core.specs.Counts.{TalliesAreExact}
+use Rattle.mk_core.specs.Moments.{none_is_held}
+use Rattle.mk_cycle.proofs.OwnSteps.{keeps_call, keeps_counts, steady_behind}
+use Rattle.mk_cycle.proofs.Allowed.{protocol}
+use Rattle.mk_cycle.proofs.KeptInParts.{free_then, gates_behind}
+use Rattle.mk_cycle.proofs.MayAct.{may_act}
+use Rattle.mk_cycle.specs.TurnKeeps.{InTurn, LeavesTurn, but_phase}
+use Rattle.mk_cycle.specs.EngineLaw.{IsAtPhase, IsFreeForCycle}
+use Rattle.mk_heap.proofs.IdleTurns.{exact_kept, none_held_kept}
+use Rattle.mk_heap.specs.Ending.{IsIdleTurn}
+use Rattle.mk_words.proofs.Made.{made}
+use Rattle.mk_words.proofs.Tallies.{settled_tallies}
+use Rattle.mk_words.specs.States.{PassState, now_of}
+use Rattle.mk_words.specs.Steps.{IsEnabledTo}
+use Rattle.mk_words.specs.TurnSteps.{Acts, world_at}
 
 over_phase : (n markers : ℕ) → n % 8 ≡ 0 → n / 8 ≡ markers → markers ≤ 8 → (n + 5) % 2 ^ 64 % 8 ≡ 5
 over_phase n markers none high few = omega arith

@@ -4,7 +4,8 @@ use Rattle.mk_laws.proofs.Vocabulary.{Config, Event, IsHistory, List, PlacedAllo
 use Rattle.mk_laws.proofs.Vocabulary.{ap, arith, is_quarantined, left, not, not-true, phase_of, placed_at, refl}
 use Rattle.mk_laws.proofs.Vocabulary.{slice_index, suc, sym, zero, ◌%◌, ◌<◌, ◌^◌, ◌∙◌, ◌≡◌, ◌≢◌}
 use Rattle.mk_laws.proofs.InvariantHistories.{histories_keep_the_invariant}
-use Rattle.mk_cycle.{proofs.CellCounts.AreTheirBits, proofs.CellCounts.cells_are_as_many, specs.ReleasedPages.sum_below}
+use Rattle.mk_cycle.proofs.CellCounts.{AreTheirBits, cells_are_as_many}
+use Rattle.mk_cycle.specs.ReleasedPages.{sum_below}
 use Rattle.mk_heap.specs.Reports.{quarantined}
 use Rattle.mk_words.specs.Finals.{freed_cells}
 

@@ -1,13 +1,20 @@
 -- What the host asks where it tells a word: a look decides nothing, and the turn may be given back after it.
 use Rattle.mk_laws.proofs.Vocabulary.{Config, Event, Host, IsHistory, List, None, Steady, Step, TalliesAreTidy, Word}
 use Rattle.mk_laws.proofs.Vocabulary.{World, ap, append-nil, arith, false, has_phase, host_has_turn, left, ne_eqb}
-use Rattle.mk_laws.proofs.{Vocabulary.{phase_of, refl, ◌∙◌, ◌≡◌}, TallySteps.CountsNothing}
-use Rattle.mk_core.{proofs.Histories.{calls_more}, specs.{Counts.TalliesAreExact, Frames.{CountsAreLeft, steady_of}}}
-use Rattle.mk_cycle.proofs.{KeptInParts.{free_then, gates_behind, keeps_less}, CleaningSteps.calm_keeps}
+use Rattle.mk_laws.proofs.Vocabulary.{phase_of, refl, ◌∙◌, ◌≡◌}
+use Rattle.mk_laws.proofs.TallySteps.{CountsNothing}
+use Rattle.mk_core.proofs.Histories.{calls_more}
+use Rattle.mk_core.specs.Counts.{TalliesAreExact}
+use Rattle.mk_core.specs.Frames.{CountsAreLeft, steady_of}
+use Rattle.mk_cycle.proofs.KeptInParts.{free_then, gates_behind, keeps_less}
+use Rattle.mk_cycle.proofs.CleaningSteps.{calm_keeps}
 use Rattle.mk_cycle.specs.TurnKeeps.{InTurn, but_phase, unchanged}
-use Rattle.mk_heap.proofs.{IdleTurns.{exact_kept, fresh_free, none_held_kept}, Overs.MayGive}
+use Rattle.mk_heap.proofs.IdleTurns.{exact_kept, fresh_free, none_held_kept}
+use Rattle.mk_heap.proofs.Overs.{MayGive}
 use Rattle.mk_words.proofs.Tallies.{counts_tidy_more}
-use Rattle.mk_words.specs.{States.{PassState, now_of}, Steps.IsAdmittedTo, TurnSteps.{Acts, IsFresh}}
+use Rattle.mk_words.specs.States.{PassState, now_of}
+use Rattle.mk_words.specs.Steps.{IsAdmittedTo}
+use Rattle.mk_words.specs.TurnSteps.{Acts, IsFresh}
 
 -- No step of the host's decides a call.
 pub look_admitted : (p : PassState) (x : Word) → p.seat ≡ Host → IsHistory p.table.config p.seen

@@ -1,11 +1,15 @@
 -- The host's turns sweep nothing, where their parts don't.
 use Rattle.mk_laws.proofs.Vocabulary.{None, Step, false, refl, ◌≡◌}
 use Rattle.mk_core.specs.Growing.{Grows}
-use Rattle.mk_heap.{proofs.MovedHosts.{MovesOn, idle_moves, turn_moves}, specs.Ending.{TakesIdleTurn}}
+use Rattle.mk_heap.proofs.MovedHosts.{MovesOn, idle_moves, turn_moves}
+use Rattle.mk_heap.specs.Ending.{TakesIdleTurn}
 use Rattle.mk_turns.proofs.Sweeping.{only_seen, other_step_sweeps, others_sweep, step_then_sweeps, sweeps_then}
 use Rattle.mk_turns.specs.Sweeping.{SweepsNothing, is_mark}
-use Rattle.mk_waiting.{proofs.Unswept.{taking_sweeps}, specs.Taking.{TakesTurn}}
-use Rattle.mk_words.specs.{Seats.Has, States.{PassState, world_of}, Steps.Makes}
+use Rattle.mk_waiting.proofs.Unswept.{taking_sweeps}
+use Rattle.mk_waiting.specs.Taking.{TakesTurn}
+use Rattle.mk_words.specs.Seats.{Has}
+use Rattle.mk_words.specs.States.{PassState, world_of}
+use Rattle.mk_words.specs.Steps.{Makes}
 
 pub moved_then_sweeps : (p q r : PassState) → MovesOn p q → SweepsNothing p q → SweepsNothing q r → SweepsNothing p r
 moved_then_sweeps p q r m one two = sweeps_then p q r (only_seen p q m.more m.is) one two

@@ -2,10 +2,10 @@
 use Rattle.std.proofs.lemmas.List.{length-replicate}
 use Rattle.mk_laws.proofs.Vocabulary.{Config, Event, List, NeverState, Null, ℕ, ap, arith, asked, calls, length}
 use Rattle.mk_laws.proofs.Vocabulary.{never_behind, refl, register_at, [], ◌*◌, ◌+◌, ◌<◌, ◌∙◌, ◌≡◌}
+use Rattle.mk_laws.proofs.OrderlyLists.{at_first}
 use Rattle.mk_heap_tests.proofs.Vocabulary.{IsCaller, PassState, caller_of_pass, value_of}
 use Rattle.mk_never.proofs.Later.{calls_stay}
 use Rattle.mk_core.specs.History.{calls_from, never_first}
-use Rattle.mk_laws.proofs.OrderlyLists.{at_first}
 use Rattle.mk_caller.specs.States.{never_of}
 
 registers_are : (c : Config) (es : List Event) → length (never_behind c es).registers ≡ 8 * c.callers

@@ -2,13 +2,18 @@
 use Rattle.mk_laws.proofs.Vocabulary.{Answer, Bool, IsHistory, Op, Some, Step, ℕ, ap, at_rest, false, lt-ltb, refl}
 use Rattle.mk_laws.proofs.Vocabulary.{true, ◌&&◌, ◌<◌, ◌≡◌}
 use Rattle.mk_heap_tests.proofs.Vocabulary.{InTurn, IsEnabledTo, IsPassOfObjects, PassState, WordsState}
-use Rattle.mk_heap_tests.proofs.{NewTurns.{IsTaken, back_of, begins, exists}, HeldObjects.{double_keeps, freed_keeps}}
+use Rattle.mk_heap_tests.proofs.NewTurns.{IsTaken, back_of, begins, exists}
+use Rattle.mk_heap_tests.proofs.HeldObjects.{double_keeps, freed_keeps}
 use Rattle.mk_alloc.proofs.FreedTurns.{double_on, freed_on, frees_object, is_answered_double, unloaded}
-use Rattle.mk_alloc.proofs.{QuietTurns.give_allowed, TakenTurns.{callers, take_allowed}}
-use Rattle.mk_alloc.specs.{DueCycles.RunsIfDue, Underway.TurnGoesOn}
+use Rattle.mk_alloc.proofs.QuietTurns.{give_allowed}
+use Rattle.mk_alloc.proofs.TakenTurns.{callers, take_allowed}
+use Rattle.mk_alloc.specs.DueCycles.{RunsIfDue}
+use Rattle.mk_alloc.specs.Underway.{TurnGoesOn}
 use Rattle.mk_heap_tests.specs.HeldObjects.{HoldsObjects}
-use Rattle.mk_objects.specs.{Retired.{FindsFreed, Retires}, Retiring.IsUnloaded}
-use Rattle.mk_words.specs.{States.call_of, Steps.Makes}
+use Rattle.mk_objects.specs.Retired.{FindsFreed, Retires}
+use Rattle.mk_objects.specs.Retiring.{IsUnloaded}
+use Rattle.mk_words.specs.States.{call_of}
+use Rattle.mk_words.specs.Steps.{Makes}
 
 pub may_retire : (w : WordsState) (k r : ℕ) (p : PassState) → IsPassOfObjects w k p → k < w.config.callers → r < 8
     → IsEnabledTo p (Step.Take (Some (Op.Free r)))

@@ -2,8 +2,8 @@
 use Rattle.mk_laws.proofs.Vocabulary.{AreEnabledFrom, Bool, Config, Event, List, Moment, Seat, Step, World, [], ap}
 use Rattle.mk_laws.proofs.Vocabulary.{arith, enabled_meets, eqb-true, false, is_begin, is_close, is_release, left_from}
 use Rattle.mk_laws.proofs.Vocabulary.{list_any, or_from, or_parts, phase_of, refl, subst, sym, world_behind, ℕ, ◌%◌}
-use Rattle.mk_laws.proofs.{Vocabulary.{◌∷◌, ◌≡◌, ◌≤◌}, Basics.{Behind, Meets, Table, over_phase, reg_table}}
-use Rattle.mk_laws.proofs.Basics.{tally_table}
+use Rattle.mk_laws.proofs.Vocabulary.{◌∷◌, ◌≡◌, ◌≤◌}
+use Rattle.mk_laws.proofs.Basics.{Behind, Meets, Table, over_phase, reg_table, tally_table}
 pub use Rattle.mk_laws.proofs.ProtocolStepKinds.{begin_is, close_is, release_is}
 use Rattle.mk_core.specs.declared.events.Step.TheVariants as step
 

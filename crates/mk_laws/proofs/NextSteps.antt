@@ -1,6 +1,7 @@
 -- Which stage of a call each step comes at.
 use Rattle.mk_laws.proofs.Vocabulary.{Bool, Group, None, Op, Some, Stage, Step, comes_next, false, group_of}
-use Rattle.mk_laws.proofs.{Vocabulary.{is_under_turn, not-true, refl, true, ◌≡◌}, Stages.{is_reg_stage, is_turn_stage}}
+use Rattle.mk_laws.proofs.Vocabulary.{is_under_turn, not-true, refl, true, ◌≡◌}
+use Rattle.mk_laws.proofs.Stages.{is_reg_stage, is_turn_stage}
 use Rattle.mk_core.specs.Order.{is_of_any_holder, may_decide_new}
 
 abbrev pub is_take : Step → Bool

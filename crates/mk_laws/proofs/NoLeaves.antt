@@ -7,10 +7,11 @@ use Rattle.mk_laws.proofs.Vocabulary.{inr, is_leaf_header, is_mapped, is_unmappe
 use Rattle.mk_laws.proofs.Vocabulary.{made_is_mapped, object_made, object_placed, or_parts, pages_some}
 use Rattle.mk_laws.proofs.Vocabulary.{part_has_no_pointers, placed_at, refl, set_by, shown, storage_of, subst, sym}
 use Rattle.mk_laws.proofs.Vocabulary.{true, unmapped_is_unmapped, ◌+◌, ◌-◌, ◌/◌, ◌∙◌, ◌≡◌, ◌≢◌}
-use Rattle.mk_core.proofs.ChangedAllocations.{granted_at}
 use Rattle.mk_laws.proofs.Basics.{Came, IsNew, Meets, Stayed, WorldBehind, headers_kind, is_head}
 use Rattle.mk_laws.proofs.Precise.{HasNoLeaf, Steps, came_behind, precision_scene_of, same_leaf}
-use Rattle.mk_laws.proofs.{InvariantJoined.told_to_guard, Worlds.Told, Worlds.headers, Worlds.not_leaf, Worlds.sized}
+use Rattle.mk_laws.proofs.InvariantJoined.{told_to_guard}
+use Rattle.mk_laws.proofs.Worlds.{Told, headers, not_leaf, sized}
+use Rattle.mk_core.proofs.ChangedAllocations.{granted_at}
 
 -- What a header that is scanned shows.
 pub scanned_has_none : (c : Config) (w : World) (n : NeverState) (p : ℕ) → Told c w n

@@ -11,7 +11,9 @@ use Rattle.mk_laws.proofs.Vocabulary.{unmapped_is_unmapped, used_at, word_met, w
 use Rattle.mk_laws.proofs.Vocabulary.{◌∙◌, ◌≡◌, ◌≢◌}
 use Rattle.mk_laws.proofs.Basics.{Behind, KnownWorld, Meets, Table, WorldBehind, ends_on_pages, headers_kind, is_head}
 use Rattle.mk_laws.proofs.Basics.{mapped_stays, new_has_turn, no_run, own_claim, reg_table, tally_table}
-use Rattle.mk_laws.proofs.{ForImages.laid_out, ForImages.run_of, LayoutReadings.claimed_used, Tests.all_below_from}
+use Rattle.mk_laws.proofs.ForImages.{laid_out, run_of}
+use Rattle.mk_laws.proofs.LayoutReadings.{claimed_used}
+use Rattle.mk_laws.proofs.Tests.{all_below_from}
 
 gone_from : (v : Words) (r : RunPages) → ((d : ℕ) → d < r.count → header_at v (r.page + d) ≡ unmapped_header r.count d)
     → ((i : ℕ) → i < 64 * r.count → slice_index v.heap (64 * r.page + i) ≡ 0) → is_run_gone v (Some r) ≡ true

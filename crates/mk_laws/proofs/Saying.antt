@@ -7,12 +7,17 @@ use Rattle.mk_laws.proofs.Vocabulary.{cell_of_allocation, enabled_meets, false, 
 use Rattle.mk_laws.proofs.Vocabulary.{image_scene_of, inl, inr, is_marked, is_put, is_undecided_free, ltb-true}
 use Rattle.mk_laws.proofs.Vocabulary.{object_placed, p_of, phase_of, placed_at, pointed_cell, refl, register_at}
 use Rattle.mk_laws.proofs.Vocabulary.{run_begins, subst, sym, target, true, typed_size, word_met, ◌*◌, ◌+◌, ◌-◌, ◌/◌}
-use Rattle.mk_laws.proofs.{Vocabulary.{◌∙◌, ◌≡◌, ◌≢◌, ◌⊎◌}, Basics.{KnownWorld, Ready, Stands, at_its_stage}}
-use Rattle.mk_laws.proofs.Basics.{exists_placed, flight, is_astray, is_call_stage, not_astray, ready_of, standing_at}
-use Rattle.mk_laws.proofs.{Basics.{stands_of, unmapped_is, words_fit}, CallSorts.{admitted_call, call_outside, literal}}
-use Rattle.mk_laws.proofs.{FreeMoves.pointer_cell, FreedRuns.decided_free_gives, ImagesKept.own_plain}
-use Rattle.mk_laws.proofs.{Protocols.protocol_of, Reached.{Reaches, reaches}}
-use Rattle.mk_core.proofs.{PlacesNow.target_is, StandingAllocations.run_cell}
+use Rattle.mk_laws.proofs.Vocabulary.{◌∙◌, ◌≡◌, ◌≢◌, ◌⊎◌}
+use Rattle.mk_laws.proofs.Basics.{KnownWorld, Ready, Stands, at_its_stage, exists_placed, flight, is_astray}
+use Rattle.mk_laws.proofs.Basics.{is_call_stage, not_astray, ready_of, standing_at, stands_of, unmapped_is, words_fit}
+use Rattle.mk_laws.proofs.CallSorts.{admitted_call, call_outside, literal}
+use Rattle.mk_laws.proofs.FreeMoves.{pointer_cell}
+use Rattle.mk_laws.proofs.FreedRuns.{decided_free_gives}
+use Rattle.mk_laws.proofs.ImagesKept.{own_plain}
+use Rattle.mk_laws.proofs.Protocols.{protocol_of}
+use Rattle.mk_laws.proofs.Reached.{Reaches, reaches}
+use Rattle.mk_core.proofs.PlacesNow.{target_is}
+use Rattle.mk_core.proofs.StandingAllocations.{run_cell}
 use Rattle.mk_laws.specs.ImagesSay.{IsCellOfUnreleased, IsMappedWord}
 
 module _ (c : Config) (w : World) (n : NeverState) (known : KnownWorld c w) (others : ImagePremises c w)

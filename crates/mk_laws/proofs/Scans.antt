@@ -1,5 +1,4 @@
 -- What a marker's own step makes of its scan, its hand and the header that it has seen, in the words as they are.
-use Rattle.mk_laws.proofs.Vocabulary.{Bool, Cell, Config, HeaderGoesOn, IsGuarded, MarkerStands, MarkerState as Marker}
 use Rattle.mk_laws.proofs.Vocabulary.{Moment, None, Option, Presence, Scan, ScanStands, SeenHeader, Some, Words, ℕ}
 use Rattle.mk_laws.proofs.Vocabulary.{and_parts, ap, arith, cases_eq, cases_lt, cell_at, cell_seen, cells_under}
 use Rattle.mk_laws.proofs.Vocabulary.{eqb-true, false, has_bit, has_next_word, has_no_pointers, has_seen_cell}
@@ -7,8 +6,11 @@ use Rattle.mk_laws.proofs.Vocabulary.{header_at, header_in, header_of, if◌then
 use Rattle.mk_laws.proofs.Vocabulary.{is_marked, is_scanned, lt-ltb, ltb-true, nat_lt, none-some, not, page_at_address}
 use Rattle.mk_laws.proofs.Vocabulary.{refl, same_Some, scan_begun, scan_claimed, scan_onward, slice_index, subst, sym}
 use Rattle.mk_laws.proofs.Vocabulary.{true, true≢false, words_under, ◌*◌, ◌+◌, ◌<◌, ◌==◌, ◌∙◌, ◌≡◌, ◌≢◌, ◌≤◌, ◌⊎◌}
+use Rattle.mk_laws.proofs.KeptGuard.{goes_same}
+use Rattle.mk_laws.proofs.Wells.{IsWell, well_guarded}
 use Rattle.mk_core.specs.Effects.{hand_behind_look, open_hand}
-use Rattle.mk_laws.{proofs.KeptGuard.goes_same, proofs.Wells.IsWell, proofs.Wells.well_guarded, specs.Guard.EndsItsCell}
+use Rattle.mk_laws.specs.Guard.{EndsItsCell}
+use Rattle.mk_laws.proofs.Vocabulary.{Bool, Cell, Config, HeaderGoesOn, IsGuarded, MarkerStands, MarkerState as Marker}
 
 -- outside the heap a value points into nothing
 outside_well : (c : Config) (w : Words) (v : ℕ) → is_heap_address c.pages v ≡ false → IsWell c w v

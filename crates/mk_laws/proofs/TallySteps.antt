@@ -1,10 +1,10 @@
 -- What events leave to the tallies, and to the allocations that they count.
 use Rattle.mk_laws.proofs.Vocabulary.{Bool, Config, Event, Moment, Seat, Step, World, ℕ, answer_decided, ap, arith}
 use Rattle.mk_laws.proofs.Vocabulary.{false, group_of, is_end, is_of_turn, refl, true, world_behind, ◌≡◌, ◌≢◌}
-use Rattle.mk_core.proofs.RegisterAccesses.{LeavesTallies, register_leaves_tallies}
 use Rattle.mk_laws.proofs.Basics.{Actor, AsHolder, AsMarker, HoldsTurn, InCallOf, Known, Meets, WorldBehind, actor_of}
 use Rattle.mk_laws.proofs.Basics.{reg_leaves, tally_keeps, turn_of, view_of}
 use Rattle.mk_laws.proofs.OthersCounts.{answers_full, counts_nothing}
+use Rattle.mk_core.proofs.RegisterAccesses.{LeavesTallies, register_leaves_tallies}
 
 -- The step changes no tally, and no allocation.
 abbrev pub counts_alike : Step → Bool

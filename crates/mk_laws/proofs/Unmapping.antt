@@ -7,10 +7,10 @@ use Rattle.mk_laws.proofs.Vocabulary.{header_of, header_on, inl, inr, is_release
 use Rattle.mk_laws.proofs.Vocabulary.{length, length-set, made_shows, pages_made, pages_some, part_cells, part_head}
 use Rattle.mk_laws.proofs.Vocabulary.{refl, run_count, set_by, shown_later, shows_on, stands, sym, true}
 use Rattle.mk_laws.proofs.Vocabulary.{unmapped_header, used_on, ◌+◌, ◌-◌, ◌<◌, ◌∙◌, ◌≡◌, ◌≢◌, ◌≤◌, ◌⊎◌}
-use Rattle.mk_core.proofs.ObjectHeaders.{later_part, same_cells, unmapped_shows}
 use Rattle.mk_laws.proofs.Releasing.{head_of_other, headed_here, headed_other, headed_used, shown_beside}
 use Rattle.mk_laws.proofs.Releasing.{with_header_on}
 use Rattle.mk_laws.proofs.LayoutReadings.{claimed, claimed_head, claimed_some, none_set, one_claim}
+use Rattle.mk_core.proofs.ObjectHeaders.{later_part, same_cells, unmapped_shows}
 
 -- How many pages the run has that a header of an object heads.
 

@@ -2,7 +2,8 @@
 use Rattle.std.proofs.Common.{List, ℕ, ap, refl, [], ◌++◌, ◌∷◌}
 use Rattle.mk_never.specs.Laws.{AdmittedInParts, LeavesInParts, RepliesInParts}
 use Rattle.mk_never.specs.NeverHeap.{Call, NeverState, after_calls, after_op, reply_of}
-use Rattle.mk_never.specs.{Admitted.AreAdmitted, declared.operations.Reply.Reply}
+use Rattle.mk_never.specs.Admitted.{AreAdmitted}
+use Rattle.mk_never.specs.declared.operations.Reply.{Reply}
 
 pub after_append : (n : NeverState) (earlier later : List Call) → LeavesInParts n earlier later
 after_append n [] later = refl

@@ -5,10 +5,11 @@ use Rattle.mk_laws.proofs.Vocabulary.{IsHistory, List, None, Null, Op, Option, S
 use Rattle.mk_laws.proofs.Vocabulary.{answer_decided, append-nil, arith, asked, call_decided, calls}
 use Rattle.mk_laws.proofs.Vocabulary.{earlier_part_is_history, entry_of, flight_of, left, map-append, never_behind}
 use Rattle.mk_laws.proofs.Vocabulary.{refl, register_at, [], ◌*◌, ◌++◌, ◌<◌, ◌∷◌, ◌≡◌}
-use Rattle.mk_objects.proofs.Vocabulary.{IsAdmittedBehind, IsBase, calls_more}
-use Rattle.mk_never.proofs.{Later.calls_stay, Parts.admitted_join}
-use Rattle.mk_core.specs.History.{never_first}
 use Rattle.mk_laws.proofs.SeatFrames.{admitted_others_leave}
+use Rattle.mk_objects.proofs.Vocabulary.{IsAdmittedBehind, IsBase, calls_more}
+use Rattle.mk_never.proofs.Later.{calls_stay}
+use Rattle.mk_never.proofs.Parts.{admitted_join}
+use Rattle.mk_core.specs.History.{never_first}
 
 free_admitted : (c : Config) (k r : ℕ) (xs : List Call) → k < c.callers → r < 8
     → IsBase (register_at (after_calls (never_first c) xs) k r)

@@ -5,7 +5,8 @@ use Rattle.mk_laws.proofs.Vocabulary.{List, Null, Op, Step, Value, ℕ, after_ca
 use Rattle.mk_laws.proofs.Vocabulary.{false, flight_of, has_operands, is_undecided_new, left, length, ltb-true}
 use Rattle.mk_laws.proofs.Vocabulary.{map-append, subst, sym, true, undecided_new, [], ◌*◌, ◌++◌, ◌<◌, ◌∷◌, ◌≡◌}
 use Rattle.mk_objects.proofs.Vocabulary.{IsAdmittedBehind, calls_more}
-use Rattle.mk_never.proofs.{Later.calls_stay, Parts.admitted_join}
+use Rattle.mk_never.proofs.Later.{calls_stay}
+use Rattle.mk_never.proofs.Parts.{admitted_join}
 use Rattle.mk_core.specs.History.{never_first}
 
 pub new_in_range : (c : Config) {o : Op} (d ty : ℕ) (full : Bool) → o ≡ Op.New d ty full → has_operands c o ≡ true

@@ -4,7 +4,9 @@ use Rattle.mk_laws.proofs.Vocabulary.{not, others_are_held, subst, true, ◌<◌
 use Rattle.mk_objects.proofs.Vocabulary.{PassState, RunIsUnmapped, RunIsWiped, SetsGates, Unmaps, Wipes, WordsState}
 use Rattle.mk_objects.proofs.Vocabulary.{all_below_from, all_others, is_clearing, is_settling, now_of, world_of}
 use Rattle.mk_objects.proofs.DecidedFrees.{Stays, gates_stay, stays_then, unmaps_stay, wipes_stay}
-use Rattle.mk_objects.{proofs.ReachedParts.{reached_world}, specs.{Deciding.ClearsRun, FreeParts.no_gate}}
+use Rattle.mk_objects.proofs.ReachedParts.{reached_world}
+use Rattle.mk_objects.specs.Deciding.{ClearsRun}
+use Rattle.mk_objects.specs.FreeParts.{no_gate}
 
 -- Where the others' gates are held, all but the own one are.
 pub stopped_by : (p : PassState)

@@ -1,7 +1,8 @@
 -- What is counted of ended cycles and of Full answers, one event further and in parts.
 use Rattle.std.proofs.lemmas.List.Sums.{sum_by_push}
 use Rattle.mk_laws.proofs.Vocabulary.{Config, Event, List, answer_decided, arith, ends, false, is_end, left, [], ◌++◌}
-use Rattle.mk_laws.proofs.{Vocabulary.{◌+◌, ◌∙◌, ◌∷◌, ◌≡◌}, OthersCounts.{entry_fulls, fulls_append, fulls_of}}
+use Rattle.mk_laws.proofs.Vocabulary.{◌+◌, ◌∙◌, ◌∷◌, ◌≡◌}
+use Rattle.mk_laws.proofs.OthersCounts.{entry_fulls, fulls_append, fulls_of}
 use Rattle.mk_objects.proofs.Vocabulary.{answers_full, calls_more}
 use Rattle.mk_core.specs.Frames.{CountsAreLeft}
 

@@ -5,8 +5,8 @@ use Rattle.mk_laws.proofs.Vocabulary.{freed_released, freed_where_it_stands, map
 use Rattle.mk_objects.proofs.Vocabulary.{Changes, ComesTo, HasFreed, IsFreedAt, PassState, SetsGates, SetsTally}
 use Rattle.mk_objects.proofs.Vocabulary.{StaysSo, Unmaps, Wipes, entry_for, is_clearing, is_following, is_freeing}
 use Rattle.mk_objects.proofs.Vocabulary.{is_settling, steady_of, sum_by-cons, world_of}
-use Rattle.mk_core.specs.Counts.{releases}
 use Rattle.mk_objects.proofs.ReachedParts.{AreAmong, reached_world, reaches_after, reaches_answered, reaches_so}
+use Rattle.mk_core.specs.Counts.{releases}
 use Rattle.mk_objects.specs.Deciding.{IsDecidedAt, counted}
 
 -- What stays over each part.

@@ -6,11 +6,15 @@ use Rattle.mk_laws.proofs.Vocabulary.{cell_at, cell_of_allocation, cells_made, c
 use Rattle.mk_laws.proofs.Vocabulary.{class_words_of, cond-false, header_at, inl, inr, is_small_object}
 use Rattle.mk_laws.proofs.Vocabulary.{is_undecided_free, large_cells, leb-true, ltb-true, never_behind, object_placed}
 use Rattle.mk_laws.proofs.Vocabulary.{page_at_address, placed_at, small_cells, target, true, typed_size, words_within}
-use Rattle.mk_laws.proofs.{Vocabulary.{◌<◌, ◌≡◌, ◌≤◌}, InvariantTheorems.allocations_stand}
-use Rattle.mk_objects.proofs.{Vocabulary.{PassState, call_of, now_of, world_of}, FreedCells.{PointsAt, free_points_at}}
-use Rattle.mk_objects.proofs.{Looks.acting_caller, MayAct.free_is_acting}
+use Rattle.mk_laws.proofs.Vocabulary.{◌<◌, ◌≡◌, ◌≤◌}
+use Rattle.mk_laws.proofs.InvariantTheorems.{allocations_stand}
+use Rattle.mk_objects.proofs.Vocabulary.{PassState, call_of, now_of, world_of}
+use Rattle.mk_objects.proofs.FreedCells.{PointsAt, free_points_at}
+use Rattle.mk_objects.proofs.Looks.{acting_caller}
+use Rattle.mk_objects.proofs.MayAct.{free_is_acting}
 use Rattle.mk_geom.proofs.ClassTable.{class_words_within}
-use Rattle.mk_core.{proofs.StandingAllocations.{placed_cell}, specs.Cells.{pointed_cell}}
+use Rattle.mk_core.proofs.StandingAllocations.{placed_cell}
+use Rattle.mk_core.specs.Cells.{pointed_cell}
 use Rattle.mk_laws.specs.SettledPages.{StandsUsed}
 
 -- what points into a cell is an address of the heap

@@ -1,7 +1,9 @@
 -- What the place that first fit finds says of its pages, and how many words are held.
 use Rattle.std.proofs.lemmas.Option.{get_or_from_slice_get, slice_get_within}
-use Rattle.std.proofs.{Common.leb-false, Common.slice_get, Math.Nat.mul-div-le, Math.Nat.mul-le-mul_left}
-use Rattle.std.proofs.{lemmas.List.FromFn.get_or-map-range_with_len, lemmas.List.Sums.count_by-le-length}
+use Rattle.std.proofs.Common.{leb-false, slice_get}
+use Rattle.std.proofs.Math.Nat.{mul-div-le, mul-le-mul_left}
+use Rattle.std.proofs.lemmas.List.FromFn.{get_or-map-range_with_len}
+use Rattle.std.proofs.lemmas.List.Sums.{count_by-le-length}
 use Rattle.mk_laws.proofs.Vocabulary.{Block, Bool, Free, Header, IsSized, Later, LeafBlock, LeafRun, List, None, Object}
 use Rattle.mk_laws.proofs.Vocabulary.{Option, Page, Place, Run, Some, ℕ, ap, arith, bit_at, cases_Bool, cells_of}
 use Rattle.mk_laws.proofs.Vocabulary.{class_made, false, free_page, has_bit, header_of, header_on, inl, inr}
@@ -9,9 +11,11 @@ use Rattle.mk_laws.proofs.Vocabulary.{is_small_object, leb-true, length, pages_s
 use Rattle.mk_laws.proofs.Vocabulary.{slice_index_or, subst, sym, true, use_under, used_on, uses_of_pages, [], ◌*◌, ◌<◌}
 use Rattle.mk_laws.proofs.Vocabulary.{◌==◌, ◌∙◌, ◌∷◌, ◌≡◌, ◌≢◌, ◌≤◌}
 use Rattle.mk_objects.proofs.Vocabulary.{sum_by-cons}
-use Rattle.mk_geom.proofs.{FirstFit.cell_place_is, FirstFit.run_place_is, HeaderLemmas.word_of-header_of}
+use Rattle.mk_geom.proofs.FirstFit.{cell_place_is, run_place_is}
+use Rattle.mk_geom.proofs.HeaderLemmas.{word_of-header_of}
 use Rattle.mk_geom.specs.PageUses.{PageUse, held_by_use, held_by_uses, is_free_page}
-use Rattle.mk_geom.specs.{PageWords.bits_of, PageWords.use_of_page, Places.MayTakeCell}
+use Rattle.mk_geom.specs.PageWords.{bits_of, use_of_page}
+use Rattle.mk_geom.specs.Places.{MayTakeCell}
 use Rattle.mk_books.proofs.UsedBitLemmas.{length-bits_of}
 use Rattle.mk_core.proofs.Sizes.{class_for_small, large_pages}
 

@@ -1,5 +1,6 @@
 -- The target of a Free is quarantined.
-use Rattle.std.proofs.{Math.Pow.pow-lt, lemmas.Nat.or_lt}
+use Rattle.std.proofs.Math.Pow.{pow-lt}
+use Rattle.std.proofs.lemmas.Nat.{or_lt}
 use Rattle.mk_laws.proofs.Vocabulary.{Answer, Caller, Cell, Config, Flight, Holding, Holds, List, Moment, Op, Option}
 use Rattle.mk_laws.proofs.Vocabulary.{Page, PlacedAllocation, Seat, Some, Stage, Steady, Step, Words, World, ℕ}
 use Rattle.mk_laws.proofs.Vocabulary.{and_from, answer_decided, ap, arith, bit_or, caller_number, cell_freed, entry_of}
@@ -10,10 +11,15 @@ use Rattle.mk_laws.proofs.Vocabulary.{set-get_or, slice_index, slice_set, subst,
 use Rattle.mk_laws.proofs.Vocabulary.{◌*◌, ◌+◌, ◌-◌, ◌/◌, ◌<◌, ◌^◌, ◌||◌, ◌∙◌, ◌≡◌}
 use Rattle.mk_objects.proofs.Vocabulary.{Acts, FreesOnce, HasFreed, IsAsLeft, IsEnabledTo, IsFreedAt, IsOutOfStop}
 use Rattle.mk_objects.proofs.Vocabulary.{IsTurn, Known, PassState, call_of, is_freeing, min, now_of, steady_of}
-use Rattle.mk_objects.proofs.{Vocabulary.{words_freed, world_of}, MayAct.{free_is_acting, may_free, off_four}}
-use Rattle.mk_objects.proofs.{Reaching.{made_in, reaches_nothing, reaches_on}, FreedOnce.frees_now}
-use Rattle.mk_objects.proofs.{Looks.{acting_caller, acting_now}, SeenDoubles.{freed_same, target_same}}
-use Rattle.mk_objects.proofs.{Serves.out_of_stop, Takes.one_bit_more, Unchanged.call_behind}
+use Rattle.mk_objects.proofs.Vocabulary.{words_freed, world_of}
+use Rattle.mk_objects.proofs.MayAct.{free_is_acting, may_free, off_four}
+use Rattle.mk_objects.proofs.Reaching.{made_in, reaches_nothing, reaches_on}
+use Rattle.mk_objects.proofs.FreedOnce.{frees_now}
+use Rattle.mk_objects.proofs.Looks.{acting_caller, acting_now}
+use Rattle.mk_objects.proofs.SeenDoubles.{freed_same, target_same}
+use Rattle.mk_objects.proofs.Serves.{out_of_stop}
+use Rattle.mk_objects.proofs.Takes.{one_bit_more}
+use Rattle.mk_objects.proofs.Unchanged.{call_behind}
 
 -- the word that the step stores
 abbrev pub freed_word : Words → Cell → ℕ

@@ -4,10 +4,14 @@ use Rattle.mk_laws.proofs.Vocabulary.{IsSound, List, Mirrors, NeverState, Null, 
 use Rattle.mk_laws.proofs.Vocabulary.{ℕ, bases_of, cell_of_allocation, false, false≢true, flight_of, image_of}
 use Rattle.mk_laws.proofs.Vocabulary.{image_scene_of, is_undecided_free, left, never_behind, p_of, placed_at}
 use Rattle.mk_laws.proofs.Vocabulary.{pointed_cell, refl, register_at, true, ◌*◌, ◌+◌, ◌≡◌, ◌≢◌}
-use Rattle.mk_objects.proofs.Vocabulary.{histories_keep_the_invariant}
 use Rattle.mk_laws.proofs.ImagesStands.{Stands, stands_of}
-use Rattle.mk_laws.proofs.{FreeMoves.pointer_cell, ImagesBefore.ready_of, InvariantJoined.told_to_images}
-use Rattle.mk_laws.proofs.{KnownWorlds.KnownWorld, KnownWorlds.known_world, Ready.Ready, RegMoves.flight}
+use Rattle.mk_laws.proofs.FreeMoves.{pointer_cell}
+use Rattle.mk_laws.proofs.ImagesBefore.{ready_of}
+use Rattle.mk_laws.proofs.InvariantJoined.{told_to_images}
+use Rattle.mk_laws.proofs.KnownWorlds.{KnownWorld, known_world}
+use Rattle.mk_laws.proofs.Ready.{Ready}
+use Rattle.mk_laws.proofs.RegMoves.{flight}
+use Rattle.mk_objects.proofs.Vocabulary.{histories_keep_the_invariant}
 
 -- The register has a pointer to an unreleased allocation, and the value that the call has loaded points into its cell.
 pub record PointsAt (c : Config) (w : World) (n : NeverState) (k : ℕ) (f : Flight) : Type 0 where

@@ -9,12 +9,17 @@ use Rattle.mk_laws.proofs.Vocabulary.{made_is_mapped, map, never_behind, not, no
 use Rattle.mk_laws.proofs.Vocabulary.{placed_at, register_at, run_begins, slice_set, small_heads_none, stands_in}
 use Rattle.mk_laws.proofs.Vocabulary.{stands_in_its_cell, storage_words, sym, target, true, true≢false, typed_size}
 use Rattle.mk_laws.proofs.Vocabulary.{unmapped_header, unmapped_is_unmapped, words_under, ◌*◌, ◌+◌, ◌/◌, ◌<◌, ◌==◌, ◌∙◌}
-use Rattle.mk_laws.proofs.{Vocabulary.{◌≡◌, ◌≢◌, ◌≤◌}, InvariantJoined.told_to_images, KnownWorlds.known_world}
+use Rattle.mk_laws.proofs.Vocabulary.{◌≡◌, ◌≢◌, ◌≤◌}
+use Rattle.mk_laws.proofs.InvariantJoined.{told_to_images}
+use Rattle.mk_laws.proofs.KnownWorlds.{known_world}
 use Rattle.mk_objects.proofs.Vocabulary.{IsFreeAt, IsOutOfStop, PassState, call_of, freed_and_fresh}
 use Rattle.mk_objects.proofs.Vocabulary.{held_by_allocations, histories_keep_the_invariant, loaded_free, now_of}
-use Rattle.mk_objects.proofs.{Vocabulary.{value_of, world_of}, HeldFreed.{freed_one, held_part, held_set, large_part}}
-use Rattle.mk_objects.proofs.{HeldFreed.{live_part, small_part}, FoundCells.{points_now, target_of}}
-use Rattle.mk_objects.proofs.{FreedTold.freed_told, LoadedFrees.loaded_undecided, Looks.acting_caller}
+use Rattle.mk_objects.proofs.Vocabulary.{value_of, world_of}
+use Rattle.mk_objects.proofs.HeldFreed.{freed_one, held_part, held_set, large_part, live_part, small_part}
+use Rattle.mk_objects.proofs.FoundCells.{points_now, target_of}
+use Rattle.mk_objects.proofs.FreedTold.{freed_told}
+use Rattle.mk_objects.proofs.LoadedFrees.{loaded_undecided}
+use Rattle.mk_objects.proofs.Looks.{acting_caller}
 use Rattle.mk_objects.proofs.MayAct.{free_is_acting, off_four}
 use Rattle.mk_core.proofs.ObjectHeaders.{part_heads_run}
 use Rattle.mk_laws.specs.ImagePremises.{IsLaidOut}

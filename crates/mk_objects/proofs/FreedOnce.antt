@@ -3,14 +3,23 @@ use Rattle.mk_laws.proofs.Vocabulary.{Bool, Config, Event, Flight, Holds, IsHist
 use Rattle.mk_laws.proofs.Vocabulary.{Seat, Step, World, and_parts, ap, append-nil, append_assoc, arith, cases_Bool}
 use Rattle.mk_laws.proofs.Vocabulary.{earlier_part_is_history, false, flight_of, inl, inr, is_one_of, left, not}
 use Rattle.mk_laws.proofs.Vocabulary.{not-true, subst, sym, true, true≢false, [], ◌&&◌, ◌++◌, ◌∙◌, ◌∷◌, ◌≡◌}
-use Rattle.mk_laws.proofs.{LastEvents.{comes_last, stands}, Actors.is_holders, FramesHolders.acts_as_holder}
-use Rattle.mk_laws.proofs.{Known.holds_turn, Orderly.same_holder, OrderlyLists.actor_of, ProtocolFrames.other_seat}
+use Rattle.mk_laws.proofs.LastEvents.{comes_last, stands}
+use Rattle.mk_laws.proofs.Actors.{is_holders}
+use Rattle.mk_laws.proofs.FramesHolders.{acts_as_holder}
+use Rattle.mk_laws.proofs.Known.{holds_turn}
+use Rattle.mk_laws.proofs.Orderly.{same_holder}
+use Rattle.mk_laws.proofs.OrderlyLists.{actor_of}
+use Rattle.mk_laws.proofs.ProtocolFrames.{other_seat}
 use Rattle.mk_laws.proofs.Views.{view_of}
 use Rattle.mk_objects.proofs.Vocabulary.{Does, FreesOnce, IsAsLeft, IsOverQuarter, PassState, WordsState, event_of}
-use Rattle.mk_objects.proofs.{Vocabulary.{now_of, turn_stays, world_of}, TurnEvents.{ComesBy, KeptInTurn, along_others}}
-use Rattle.mk_objects.proofs.{TurnEvents.along_turn, ListParts.{in_parts, none_behind, one_behind}, Reaching.MadeIn}
-use Rattle.mk_core.specs.{Allocations.unreleased_storage, Counts.decides_freed}
-use Rattle.mk_objects.specs.{Dues.{FreesOnly, event_frees}, Retired.IsDueSince}
+use Rattle.mk_objects.proofs.Vocabulary.{now_of, turn_stays, world_of}
+use Rattle.mk_objects.proofs.TurnEvents.{ComesBy, KeptInTurn, along_others, along_turn}
+use Rattle.mk_objects.proofs.ListParts.{in_parts, none_behind, one_behind}
+use Rattle.mk_objects.proofs.Reaching.{MadeIn}
+use Rattle.mk_core.specs.Allocations.{unreleased_storage}
+use Rattle.mk_core.specs.Counts.{decides_freed}
+use Rattle.mk_objects.specs.Dues.{FreesOnly, event_frees}
+use Rattle.mk_objects.specs.Retired.{IsDueSince}
 
 abbrev pub is_quar : Step → Bool
 is_quar (Step.Quar p v) = true

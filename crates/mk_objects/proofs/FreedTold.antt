@@ -2,8 +2,8 @@
 use Rattle.mk_laws.proofs.Vocabulary.{Cell, Config, Event, IsHistory, List, StandsInOrder, World, ℕ, ap, cases_Bool}
 use Rattle.mk_laws.proofs.Vocabulary.{cell_of_allocation, false, false_from_ne_true, inl, inr, is_freed, is_phase}
 use Rattle.mk_laws.proofs.Vocabulary.{is_released_in, left, placed_at, sym, true, true≢false, ◌∙◌, ◌≡◌}
-use Rattle.mk_objects.proofs.Vocabulary.{histories_keep_the_invariant}
 use Rattle.mk_laws.proofs.Settled.{unreleased_are_apart}
+use Rattle.mk_objects.proofs.Vocabulary.{histories_keep_the_invariant}
 
 pub freed_told : {c : Config} {es : List Event} (i : ℕ) → IsHistory c es → is_phase (left c es).now.words 4 ≡ false
     → (placed_at (left c es).allocations i).released ≡ false → is_freed (left c es).now.words

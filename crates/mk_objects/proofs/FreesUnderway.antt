@@ -5,9 +5,12 @@ use Rattle.mk_laws.proofs.Vocabulary.{is_run_gone, nothing_done, refl, subst, sy
 use Rattle.mk_objects.proofs.Vocabulary.{CallIsAt, ComesTo, IsAsLeft, OnlyLooks, PassState, all_below_from, call_of}
 use Rattle.mk_objects.proofs.Vocabulary.{entry_for, is_loading, loaded_free, none_is_held, now_of, world_of}
 use Rattle.mk_objects.proofs.ReachedParts.{reached_table, reached_world, reaches_after, reaches_named, reaches_so}
-use Rattle.mk_objects.{proofs.{DecidedFrees.Decides, SmallFrees.{exact_still, none_held}}, specs.Retired.{DecidesFree}}
+use Rattle.mk_objects.proofs.DecidedFrees.{Decides}
+use Rattle.mk_objects.proofs.SmallFrees.{exact_still, none_held}
+use Rattle.mk_objects.specs.Retired.{DecidesFree}
+use Rattle.mk_objects.specs.Retiring.{HasLoaded, HasSeen, entry_seen, seen_free}
+use Rattle.mk_objects.specs.Deciding.{IsDecidedAt, counted}
 use Rattle.mk_core.specs.Counts.{TalliesAreExact}
-use Rattle.mk_objects.specs.{Retiring.{HasLoaded, HasSeen, entry_seen, seen_free}, Deciding.{IsDecidedAt, counted}}
 
 abbrev pub Comes : PassState → Flight → PassState → Type 0
 Comes p f q = ComesTo is_loading p (CallIsAt p.seat f (world_of p)) [] q

@@ -1,10 +1,12 @@
 -- A run that the call has unmapped and wiped stays so, while gates are opened and tallies set.
 use Rattle.mk_laws.proofs.Vocabulary.{Config, Event, Holding, Holds, IsHistory, List, None, Option, RunPages, Seat}
 use Rattle.mk_laws.proofs.Vocabulary.{Some, Step, World, ap, arith, is_run_gone, left, refl, subst, sym, true}
-use Rattle.mk_laws.proofs.{Vocabulary.{world_behind, [], ◌++◌, ◌∙◌, ◌∷◌, ◌≡◌}, LastEvents.{ComesLast, comes_last}}
-use Rattle.mk_laws.proofs.{LastEvents.stands, RunWords.gone_behind, RunsStill.holder_finds}
-use Rattle.mk_objects.proofs.{Vocabulary.{Does, PassState, is_settling, now_of}, TurnEvents.{Another, KeptInTurn, Own}}
-use Rattle.mk_objects.proofs.TurnEvents.{along_turn}
+use Rattle.mk_laws.proofs.Vocabulary.{world_behind, [], ◌++◌, ◌∙◌, ◌∷◌, ◌≡◌}
+use Rattle.mk_laws.proofs.LastEvents.{ComesLast, comes_last, stands}
+use Rattle.mk_laws.proofs.RunWords.{gone_behind}
+use Rattle.mk_laws.proofs.RunsStill.{holder_finds}
+use Rattle.mk_objects.proofs.Vocabulary.{Does, PassState, is_settling, now_of}
+use Rattle.mk_objects.proofs.TurnEvents.{Another, KeptInTurn, Own, along_turn}
 use Rattle.mk_core.specs.Growing.{AreOfOthers}
 
 abbrev pub IsGoneIn : World → Type 0

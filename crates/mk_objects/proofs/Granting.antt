@@ -6,10 +6,13 @@ use Rattle.mk_laws.proofs.Vocabulary.{arith, base_made, bit_or, d_of, eq-eqb, fa
 use Rattle.mk_laws.proofs.Vocabulary.{granted_base, header_at, is_phase, is_undecided_new, is_used_once, length}
 use Rattle.mk_laws.proofs.Vocabulary.{marks_place, not, object_made, or_left, or_right, pages_made, phase_of, place_now}
 use Rattle.mk_laws.proofs.Vocabulary.{refl, slice_index, slice_set, sym, true, without, world_behind, [], ◌%◌, ◌*◌}
-use Rattle.mk_laws.proofs.{Vocabulary.{◌++◌, ◌+◌, ◌<◌, ◌==◌, ◌^◌, ◌∙◌, ◌∷◌, ◌≡◌, ◌≤◌}, Tests.without_on}
+use Rattle.mk_laws.proofs.Vocabulary.{◌++◌, ◌+◌, ◌<◌, ◌==◌, ◌^◌, ◌∙◌, ◌∷◌, ◌≡◌, ◌≤◌}
+use Rattle.mk_laws.proofs.Tests.{without_on}
 use Rattle.mk_objects.proofs.Vocabulary.{Carving, IsAsLeft, IsGrantedAt, Serving, bits_made, object_at_place, steady_of}
-use Rattle.mk_objects.proofs.{Serving.{IsTakenAt, chosen_now, new_placed}, Unchanged.{HasCall, OfCaller, call_behind}}
-use Rattle.mk_core.{proofs.WordBits.{bits_added}, specs.Allocations.{type_made}}
+use Rattle.mk_objects.proofs.Serving.{IsTakenAt, chosen_now, new_placed}
+use Rattle.mk_objects.proofs.Unchanged.{HasCall, OfCaller, call_behind}
+use Rattle.mk_core.proofs.WordBits.{bits_added}
+use Rattle.mk_core.specs.Allocations.{type_made}
 
 -- `mark` before the first header: all cells of the place's first page get their marks.
 

@@ -4,7 +4,8 @@ use Rattle.mk_laws.proofs.Vocabulary.{Config, Event, IsHistory, IsSettled, List,
 use Rattle.mk_laws.proofs.Vocabulary.{false, histories_keep_lengths, if◌then◌else◌, left, storage_words}
 use Rattle.mk_laws.proofs.Vocabulary.{unreleased_storage, [], ◌*◌, ◌++◌, ◌+◌, ◌∷◌, ◌≡◌, ◌≤◌}
 use Rattle.mk_laws.proofs.InvariantTheorems.{pages_show_the_storage}
-use Rattle.mk_objects.proofs.{Vocabulary.{held_by_allocations, sum_by-cons}, FoundPlaces.pages_hold_few}
+use Rattle.mk_objects.proofs.Vocabulary.{held_by_allocations, sum_by-cons}
+use Rattle.mk_objects.proofs.FoundPlaces.{pages_hold_few}
 use Rattle.mk_geom.proofs.HeldWords.{pages_hold_mapped_words}
 use Rattle.mk_core.proofs.UnreleasedStorage.{unreleased_more}
 

@@ -4,8 +4,11 @@ use Rattle.mk_laws.proofs.Vocabulary.{and_from, and_parts, ap, append-nil, arith
 use Rattle.mk_laws.proofs.Vocabulary.{place_on_pages, refl, subst, sym, true, [], ◌∙◌, ◌∷◌, ◌≡◌}
 use Rattle.mk_objects.proofs.Vocabulary.{Does, GoesTo, IsAsLeft, IsGrantedAt, IsOutOfStop, IsUnplaced, OnlyLooks}
 use Rattle.mk_objects.proofs.Vocabulary.{PassState, call_of, does_then, is_look, is_placing, now_of, object_for}
-use Rattle.mk_objects.proofs.{Vocabulary.{own_calls, world_of}, Reaching.{reaches_nothing, seeing}, Counted.counts_then}
-use Rattle.mk_objects.{proofs.Unchanged.{left_joined, left_same}, specs.Placing.{HeldIsExact, IsGranted}}
+use Rattle.mk_objects.proofs.Vocabulary.{own_calls, world_of}
+use Rattle.mk_objects.proofs.Reaching.{reaches_nothing, seeing}
+use Rattle.mk_objects.proofs.Counted.{counts_then}
+use Rattle.mk_objects.proofs.Unchanged.{left_joined, left_same}
+use Rattle.mk_objects.specs.Placing.{HeldIsExact, IsGranted}
 use Rattle.mk_core.specs.Growing.{Finding}
 use Rattle.mk_turns.specs.Doing.{are_of}
 

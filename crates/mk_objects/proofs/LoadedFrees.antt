@@ -10,11 +10,14 @@ use Rattle.mk_laws.proofs.Vocabulary.{◌≡◌}
 use Rattle.mk_objects.proofs.Vocabulary.{Acts, CallIsAt, IsAsLeft, IsBase, IsEnabledTo, IsFreeAt, IsTurn, Known}
 use Rattle.mk_objects.proofs.Vocabulary.{PassState, answers_full, call_of, event_of, histories_keep_the_invariant}
 use Rattle.mk_objects.proofs.Vocabulary.{is_loading, loaded_free, now_of, steady_of, value_of, world_of}
-use Rattle.mk_core.{proofs.Conditions.meets_enabled, specs.Effects.moment_behind}
 use Rattle.mk_objects.proofs.Reaching.{IsCallers, made_in, reaches_nothing, reaches_on}
-use Rattle.mk_objects.proofs.{AdmittedFrees.free_admits, AdmittedFrees.registers_kept, Unchanged.call_behind}
+use Rattle.mk_objects.proofs.AdmittedFrees.{free_admits, registers_kept}
+use Rattle.mk_objects.proofs.Unchanged.{call_behind}
+use Rattle.mk_core.proofs.Conditions.{meets_enabled}
+use Rattle.mk_core.specs.Effects.{moment_behind}
 use Rattle.mk_objects.specs.Retiring.{HasLoaded, IsUnloaded}
-use Rattle.mk_words.specs.{CallSteps.register_of, Steps.IsAdmittedTo}
+use Rattle.mk_words.specs.CallSteps.{register_of}
+use Rattle.mk_words.specs.Steps.{IsAdmittedTo}
 
 -- Any step of a Free is admitted.
 pub free_step_admits : {p : PassState} {r : ℕ} (x : Step) {f : Flight} → IsCallers p

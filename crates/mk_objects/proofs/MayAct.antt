@@ -9,8 +9,10 @@ use Rattle.mk_laws.proofs.Vocabulary.{object_made, or_left, or_right, others_are
 use Rattle.mk_laws.proofs.Vocabulary.{seat_exists, takes_cell, target, true, undecided_free, undecided_new, unmaps, ◌*◌}
 use Rattle.mk_laws.proofs.Vocabulary.{◌<◌, ◌==◌, ◌||◌, ◌∙◌, ◌≡◌, ◌⊎◌}
 use Rattle.mk_objects.proofs.Vocabulary.{IsOutOfStop, is_acting, is_steady_word}
-use Rattle.mk_core.{proofs.Conditions.{meets_enabled}, specs.TurnConditions.{is_in_gone_run, takes_snapshot}}
-use Rattle.mk_core.specs.{Order.{is_in_order, is_of_any_holder, may_decide_new}, Ranges.is_word}
+use Rattle.mk_core.proofs.Conditions.{meets_enabled}
+use Rattle.mk_core.specs.TurnConditions.{is_in_gone_run, takes_snapshot}
+use Rattle.mk_core.specs.Order.{is_in_order, is_of_any_holder, may_decide_new}
+use Rattle.mk_core.specs.Ranges.{is_word}
 
 -- A seat that is acting is a caller's, and has the steps of any holder next.
 

@@ -2,8 +2,8 @@
 use Rattle.mk_laws.proofs.Vocabulary.{Answer, AreOfOthers, Caller, Config, Decided, Event, List, Op, Option, Step, ℕ}
 use Rattle.mk_laws.proofs.Vocabulary.{answer_decided, ap, call_decided, calls, entry_of, first_world, flight_of, left}
 use Rattle.mk_laws.proofs.Vocabulary.{[], ◌++◌, ◌∙◌, ◌∷◌, ◌≡◌}
-use Rattle.mk_objects.proofs.Vocabulary.{calls_more}
 use Rattle.mk_laws.proofs.CallsBy.{by_append, calls_by, others_add_none, own_entry}
+use Rattle.mk_objects.proofs.Vocabulary.{calls_more}
 
 pub own_step_adds : (c : Config) (k : ℕ) (es others : List Event) (x : Step) {o : Op} {a : Option Answer}
     → AreOfOthers (Caller k ∷ []) others → (flight_of (left c (es ++ others)).now (Caller k)).op ≡ o

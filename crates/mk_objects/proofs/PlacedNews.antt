@@ -1,15 +1,21 @@
 -- What is asked of a New, and where it goes, by what its turn says.
 use Rattle.mk_laws.proofs.Vocabulary.{Config, IsHistory, List, Op, Option, Page, Place, Some, ℕ, and_parts, arith}
 use Rattle.mk_laws.proofs.Vocabulary.{has_operands, is_undecided_new, length, object_made, place_on_pages, sym, true}
-use Rattle.mk_laws.proofs.{Vocabulary.{uses_of_pages, ◌<◌, ◌∙◌, ◌≡◌}, InvariantTheorems.first_fit_finds_the_place}
+use Rattle.mk_laws.proofs.Vocabulary.{uses_of_pages, ◌<◌, ◌∙◌, ◌≡◌}
+use Rattle.mk_laws.proofs.InvariantTheorems.{first_fit_finds_the_place}
 use Rattle.mk_laws.proofs.LayoutHolders.{seat_operands}
 use Rattle.mk_objects.proofs.Vocabulary.{GoesTo, IsTurn, IsUnplaced, OnlyLooks, PassState, WordsState, call_of}
-use Rattle.mk_objects.proofs.{Vocabulary.{known_left, now_of, object_for}, JoinedLooks.{goes_to, looks_object}}
-use Rattle.mk_objects.proofs.{JoinedLooks.{looks_pages, looks_table, looks_unplaced}, Looks.{acting_caller, acting_now}}
-use Rattle.mk_objects.proofs.{MayAct.new_is_acting, Serves.knows_place, Takes.unplaced_settled}
+use Rattle.mk_objects.proofs.Vocabulary.{known_left, now_of, object_for}
+use Rattle.mk_objects.proofs.JoinedLooks.{goes_to, looks_object, looks_pages, looks_table, looks_unplaced}
+use Rattle.mk_objects.proofs.Looks.{acting_caller, acting_now}
+use Rattle.mk_objects.proofs.MayAct.{new_is_acting}
+use Rattle.mk_objects.proofs.Serves.{knows_place}
+use Rattle.mk_objects.proofs.Takes.{unplaced_settled}
 use Rattle.mk_geom.specs.PageUses.{place_on_uses}
 use Rattle.mk_core.specs.Calls.{has_type}
-use Rattle.mk_objects.specs.{Placing.place_now_for, Shapes.object_shaped, declared.objects.Shape.Shape}
+use Rattle.mk_objects.specs.Placing.{place_now_for}
+use Rattle.mk_objects.specs.Shapes.{object_shaped}
+use Rattle.mk_objects.specs.declared.objects.Shape.{Shape}
 
 type_of : (c : Config) (o : Op) → has_operands c o ≡ true → has_type c o ≡ true
 type_of c o h = grind (arith, and_parts)

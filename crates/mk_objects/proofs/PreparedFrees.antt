@@ -5,8 +5,10 @@ use Rattle.mk_laws.proofs.Vocabulary.{all_below-at, ap, false, freed_where_it_st
 use Rattle.mk_laws.proofs.Vocabulary.{sym, true, [], ◌<◌, ◌↔◌, ◌∙◌, ◌≡◌}
 use Rattle.mk_objects.proofs.Vocabulary.{ComesTo, FreesCell, IsOverQuarter, IsTrue, OnlyLooks, PassState, SetsGates}
 use Rattle.mk_objects.proofs.Vocabulary.{WordsState, all_below_from, is_freeing, is_look, none_is_held, now_of}
-use Rattle.mk_objects.proofs.{Vocabulary.world_of, DecidedFrees.{Stays, decides_behind, stays_by}}
-use Rattle.mk_objects.proofs.{FreedOnce.{FreesNot, once_behind}, ReachedParts.{AreAmong, reached_world, reaches_so}}
+use Rattle.mk_objects.proofs.Vocabulary.{world_of}
+use Rattle.mk_objects.proofs.DecidedFrees.{Stays, decides_behind, stays_by}
+use Rattle.mk_objects.proofs.FreedOnce.{FreesNot, once_behind}
+use Rattle.mk_objects.proofs.ReachedParts.{AreAmong, reached_world, reaches_so}
 use Rattle.mk_objects.specs.FreeParts.{IsButGates}
 
 abbrev pub IsExactly : WordsState → Bool → List PlacedAllocation → Type 0

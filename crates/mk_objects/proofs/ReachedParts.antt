@@ -2,7 +2,9 @@
 use Rattle.mk_laws.proofs.Vocabulary.{Answer, Bool, Decided, List, Op, Some, Step, World, ap, append-nil, append_assoc}
 use Rattle.mk_laws.proofs.Vocabulary.{caller_number, entry_of, flight_of, left, subst, sym, true, [], ◌++◌, ◌≡◌}
 use Rattle.mk_objects.proofs.Vocabulary.{ComesTo, Does, PassState, call_of, does_then, entry_for, own_calls, world_of}
-use Rattle.mk_objects.proofs.{Counted.counts_then, JoinedLooks.does_wider, Reaching.seeing}
+use Rattle.mk_objects.proofs.Counted.{counts_then}
+use Rattle.mk_objects.proofs.JoinedLooks.{does_wider}
+use Rattle.mk_objects.proofs.Reaching.{seeing}
 
 -- Each kind of the one is of the other.
 abbrev pub AreAmong : (Step → Bool) → (Step → Bool) → Type 0

@@ -6,10 +6,13 @@ use Rattle.mk_laws.proofs.Vocabulary.{is_end, left, ne_eqb, refl, subst, sym, tr
 use Rattle.mk_laws.proofs.Vocabulary.{◌∷◌, ◌≡◌, ◌≢◌}
 use Rattle.mk_objects.proofs.Vocabulary.{Acts, ComesTo, Does, IsAsLeft, Known, PassState, answers_full, decides_nothing}
 use Rattle.mk_objects.proofs.Vocabulary.{does_then, event_of, own_calls, world_of}
+use Rattle.mk_objects.proofs.Counted.{counts_more, counts_then}
+use Rattle.mk_objects.proofs.OwnCalls.{own_step_adds}
 use Rattle.mk_core.specs.Frames.{CountsAreLeft, HoldsAll, written_of}
-use Rattle.mk_objects.proofs.{Counted.counts_more, Counted.counts_then, OwnCalls.own_step_adds}
 use Rattle.mk_turns.proofs.Doing.{does_nothing, does_step}
-use Rattle.mk_words.{proofs.Made.made, specs.Steps.may_decide, specs.TurnSteps.world_at}
+use Rattle.mk_words.proofs.Made.{made}
+use Rattle.mk_words.specs.Steps.{may_decide}
+use Rattle.mk_words.specs.TurnSteps.{world_at}
 
 -- the pass, where it has seen these
 abbrev pub seeing : PassState → List Event → PassState

@@ -7,19 +7,24 @@ use Rattle.mk_laws.proofs.Vocabulary.{target, true, true≢false, [], ◌%◌, �
 use Rattle.mk_objects.proofs.Vocabulary.{CallIsAt, ComesTo, FreesCell, IsBase, IsFreeAt, IsOutOfStop, MayFree}
 use Rattle.mk_objects.proofs.Vocabulary.{OnlyLooks, PassState, WordsState, call_of, entry_for}
 use Rattle.mk_objects.proofs.Vocabulary.{histories_keep_the_invariant, is_freeing, is_loading, loaded_free}
-use Rattle.mk_objects.proofs.{Vocabulary.{none_is_held, now_of, value_of, world_of}, FreedObjects.{IsObjectAt, granted}}
-use Rattle.mk_objects.proofs.{FreedObjects.{it_is_freed, its_freed, object_at}, FreedOnce.{due_since, due_then}}
-use Rattle.mk_objects.proofs.{FreedOnce.{none_due, once_behind}, FreesUnderway.{Comes, come_call, come_now, come_table}}
-use Rattle.mk_objects.proofs.FreesUnderway.{comes_loaded, comes_looking, comes_seeing, decides_free, is_at_then}
-use Rattle.mk_objects.proofs.FreesUnderway.{leaves_all, same_allocations, seen_at}
+use Rattle.mk_objects.proofs.Vocabulary.{none_is_held, now_of, value_of, world_of}
+use Rattle.mk_objects.proofs.FreedObjects.{IsObjectAt, granted, it_is_freed, its_freed, object_at}
+use Rattle.mk_objects.proofs.FreedOnce.{due_since, due_then, none_due, once_behind}
+use Rattle.mk_objects.proofs.FreesUnderway.{Comes, come_call, come_now, come_table, comes_loaded, comes_looking}
+use Rattle.mk_objects.proofs.FreesUnderway.{comes_seeing, decides_free, is_at_then, leaves_all, same_allocations}
+use Rattle.mk_objects.proofs.FreesUnderway.{seen_at}
 use Rattle.mk_objects.proofs.JoinedLooks.{looks_call, looks_left, looks_table}
 use Rattle.mk_objects.proofs.ReachedParts.{reaches_answered, reaches_named, reaches_wider}
-use Rattle.mk_objects.proofs.{DecidedFrees.{Decides, decided_behind}, FreeSteps.low_half}
-use Rattle.mk_objects.proofs.{PreparedFrees.{IsExactly, still_open}, SeenDoubles.{freed_same, target_same}}
-use Rattle.mk_objects.proofs.{Serves.out_of_stop, SmallFrees.exact_still}
+use Rattle.mk_objects.proofs.DecidedFrees.{Decides, decided_behind}
+use Rattle.mk_objects.proofs.FreeSteps.{low_half}
+use Rattle.mk_objects.proofs.PreparedFrees.{IsExactly, still_open}
+use Rattle.mk_objects.proofs.SeenDoubles.{freed_same, target_same}
+use Rattle.mk_objects.proofs.Serves.{out_of_stop}
+use Rattle.mk_objects.proofs.SmallFrees.{exact_still}
 use Rattle.mk_core.specs.Counts.{TalliesAreExact}
-use Rattle.mk_objects.specs.{Retired.{FindsFreed, IsFreed, Retires, with_freed_object}, Retiring.{HasLoaded, HasSeen}}
-use Rattle.mk_objects.specs.{Retiring.IsUnloaded, Deciding.{IsDecidedAt, counted}}
+use Rattle.mk_objects.specs.Retired.{FindsFreed, IsFreed, Retires, with_freed_object}
+use Rattle.mk_objects.specs.Retiring.{HasLoaded, HasSeen, IsUnloaded}
+use Rattle.mk_objects.specs.Deciding.{IsDecidedAt, counted}
 
 -- The register was null.
 pub retires_null : {p q : PassState} {r u : ℕ} → IsUnloaded p r → HasLoaded p r u q → (u == 0) ≡ true → value_of p r

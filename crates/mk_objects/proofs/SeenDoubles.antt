@@ -7,7 +7,10 @@ use Rattle.mk_laws.proofs.Vocabulary.{subst, sym, target, true, world_behind, []
 use Rattle.mk_objects.proofs.Vocabulary.{Acts, CallIsAt, IsAsLeft, IsTurn, Known, PassState, answers_full, call_of}
 use Rattle.mk_objects.proofs.Vocabulary.{is_loading, now_of, value_of, world_of}
 use Rattle.mk_objects.proofs.Reaching.{reaches_nothing, reaches_on}
-use Rattle.mk_objects.proofs.{LoadedFrees.value_kept, Looks.acting_caller, MayAct.free_is_acting, Unchanged.call_behind}
+use Rattle.mk_objects.proofs.LoadedFrees.{value_kept}
+use Rattle.mk_objects.proofs.Looks.{acting_caller}
+use Rattle.mk_objects.proofs.MayAct.{free_is_acting}
+use Rattle.mk_objects.proofs.Unchanged.{call_behind}
 use Rattle.mk_objects.specs.Retiring.{HasSeen, answer_seen, seen_free}
 
 pub target_same : (pages : ℕ) (w v : Words) (f : Flight) → v.pages ≡ w.pages → target pages v f ≡ target pages w f

@@ -6,16 +6,19 @@ use Rattle.mk_laws.proofs.Vocabulary.{is_phase, is_undecided_new, is_used_once, 
 use Rattle.mk_laws.proofs.Vocabulary.{made_is_mapped, made_shows, no_bit, object_made, object_now, pages_made}
 use Rattle.mk_laws.proofs.Vocabulary.{pages_some, part_not_free, phase_of, place_now, place_on_pages, refl, small_pages}
 use Rattle.mk_laws.proofs.Vocabulary.{subst, sym, true, used_at, ◌+◌, ◌<◌, ◌∙◌, ◌≡◌, ◌≢◌, ◌⊎◌}
-use Rattle.mk_laws.proofs.{Fits.{FitsInBlock, FitsOnFreePages, fits}, LayoutHolders.made_sized}
+use Rattle.mk_laws.proofs.Fits.{FitsInBlock, FitsOnFreePages, fits}
+use Rattle.mk_laws.proofs.LayoutHolders.{made_sized}
 use Rattle.mk_laws.proofs.LayoutReadings.{free_unused}
 use Rattle.mk_objects.proofs.Vocabulary.{Acts, Carving, GoesTo, HasCarved, IsAsLeft, IsCellReady, IsEnabledTo}
 use Rattle.mk_objects.proofs.Vocabulary.{IsOutOfStop, IsTurn, MayTake, PassState, Serving, bits_made, call_of}
 use Rattle.mk_objects.proofs.Vocabulary.{histories_keep_the_invariant, is_placing, known_left, now_of, object_for}
-use Rattle.mk_objects.proofs.{Vocabulary.world_of, Granting.{carving_marked, carving_unmarked, serving_marks}}
-use Rattle.mk_objects.proofs.{Looks.{acting_caller, acting_now, acts_there}, MayAct.{IsActing, may_carve}}
-use Rattle.mk_objects.proofs.{MayAct.{may_mark_place, new_is_acting}, Reaching.{IsCallers, reaches_first}}
-use Rattle.mk_objects.proofs.{Reaching.{reaches_nothing, reaches_still}, Serving.{carving_carves, carving_left}}
-use Rattle.mk_objects.proofs.{Serving.{carving_more, ready_carved, serving_left}, FoundPlaces.found_clear}
+use Rattle.mk_objects.proofs.Vocabulary.{world_of}
+use Rattle.mk_objects.proofs.Granting.{carving_marked, carving_unmarked, serving_marks}
+use Rattle.mk_objects.proofs.Looks.{acting_caller, acting_now, acts_there}
+use Rattle.mk_objects.proofs.MayAct.{IsActing, may_carve, may_mark_place, new_is_acting}
+use Rattle.mk_objects.proofs.Reaching.{IsCallers, reaches_first, reaches_nothing, reaches_still}
+use Rattle.mk_objects.proofs.Serving.{carving_carves, carving_left, carving_more, ready_carved, serving_left}
+use Rattle.mk_objects.proofs.FoundPlaces.{found_clear}
 use Rattle.mk_objects.proofs.Unchanged.{acting_has_call}
 
 -- What is known of the place before the first step that serves.

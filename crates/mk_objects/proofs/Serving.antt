@@ -9,7 +9,9 @@ use Rattle.mk_laws.proofs.Vocabulary.{place_by_placing, place_now, refl, set_pas
 use Rattle.mk_laws.proofs.Vocabulary.{taken, takes_cell, true, used_at, world_behind, ◌+◌, ◌-◌, ◌<◌, ◌^◌, ◌∙◌, ◌≡◌, ◌≢◌}
 use Rattle.mk_laws.proofs.Tests.{or_on, without_on}
 use Rattle.mk_objects.proofs.Vocabulary.{Carving, IsAsLeft, IsCellReady, IsOutOfStop, Serving, all_below_from}
-use Rattle.mk_objects.proofs.{Vocabulary.steady_of, MayAct.off_four, Unchanged.{HasCall, OfCaller, call_behind}}
+use Rattle.mk_objects.proofs.Vocabulary.{steady_of}
+use Rattle.mk_objects.proofs.MayAct.{off_four}
+use Rattle.mk_objects.proofs.Unchanged.{HasCall, OfCaller, call_behind}
 
 -- What others do leaves it so.
 

@@ -1,15 +1,19 @@
 -- Gates are held and opened, one after the other.
-use Rattle.std.{proofs.Common.{OnErr, OnOk, is_ok, le-ltb}, specs.declared.result.Result.{Result}}
+use Rattle.std.proofs.Common.{OnErr, OnOk, is_ok, le-ltb}
+use Rattle.std.specs.declared.result.Result.{Result}
 use Rattle.mk_laws.proofs.Vocabulary.{Bool, Config, Op, Option, Seat, Step, World, ℕ, all_below-at, ap, arith, cases_eq}
 use Rattle.mk_laws.proofs.Vocabulary.{cases_lt, false, get_or-set_other, get_or-set_same, inl, inr, is_held}
 use Rattle.mk_laws.proofs.Vocabulary.{is_number_of, length, lt-ltb, nat_lt, not, not-true, refl, subst, sym, true}
 use Rattle.mk_laws.proofs.Vocabulary.{world_behind, ◌&&◌, ◌+◌, ◌<◌, ◌==◌, ◌∙◌, ◌≡◌, ◌≢◌}
 use Rattle.mk_objects.proofs.Vocabulary.{Acts, HasGates, IsAsLeft, IsOutOfStop, IsTurn, PassState, SetsGate, SetsGates}
 use Rattle.mk_objects.proofs.Vocabulary.{WordsState, all_others, call_of, held_from, held_to, is_acting, is_holding}
-use Rattle.mk_objects.{proofs.Vocabulary.{is_settling, none_is_held, now_of, world_of}, proofs.Serves.{out_of_stop}}
-use Rattle.mk_objects.{proofs.Looks.{acting_caller, acting_now, still_acting}, specs.FreeParts.{GateIsSet, IsButGates}}
-use Rattle.mk_objects.proofs.{Reaching.{reaches_first, reaches_nothing, seeing}, Unchanged.{HasCall, OfCaller}}
-use Rattle.mk_objects.proofs.{Unchanged.{acting_has_call, call_behind}, ReachedParts.{reaches_after, reaches_so}}
+use Rattle.mk_objects.proofs.Vocabulary.{is_settling, none_is_held, now_of, world_of}
+use Rattle.mk_objects.proofs.Serves.{out_of_stop}
+use Rattle.mk_objects.proofs.Looks.{acting_caller, acting_now, still_acting}
+use Rattle.mk_objects.proofs.Reaching.{reaches_first, reaches_nothing, seeing}
+use Rattle.mk_objects.proofs.Unchanged.{HasCall, OfCaller, acting_has_call, call_behind}
+use Rattle.mk_objects.proofs.ReachedParts.{reaches_after, reaches_so}
+use Rattle.mk_objects.specs.FreeParts.{GateIsSet, IsButGates}
 
 -- One gate may have changed.
 record AllButOne (s : Seat) (gate : ℕ) (w v : World) : Type 0 where

@@ -4,7 +4,8 @@ use Rattle.mk_laws.proofs.Vocabulary.{flight_of, refl, slice_index, true, world_
 use Rattle.mk_objects.proofs.Vocabulary.{Acts, Changes, IsAsLeft, IsTurn, PassState, SetsTally, call_of, is_acting}
 use Rattle.mk_objects.proofs.Vocabulary.{steady_of, with_tally}
 use Rattle.mk_objects.proofs.Unchanged.{HasCall, OfCaller, acting_has_call, call_behind}
-use Rattle.mk_objects.proofs.{Looks.acting_caller, Looks.acting_now, Looks.still_acting, Reaching.reaches_first}
+use Rattle.mk_objects.proofs.Looks.{acting_caller, acting_now, still_acting}
+use Rattle.mk_objects.proofs.Reaching.{reaches_first}
 
 changed_by : {s : Seat} {w v u : World} (change : Steady → Steady) → IsAsLeft s w v
     → flight_of u.now s ≡ flight_of v.now s → u.now.seats.holding ≡ v.now.seats.holding

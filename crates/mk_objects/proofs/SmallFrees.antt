@@ -3,15 +3,16 @@ use Rattle.mk_laws.proofs.Vocabulary.{Bool, Cell, Header, Holds, IsHistory, List
 use Rattle.mk_laws.proofs.Vocabulary.{Steady, Tally, ℕ, all_below-at, ap, arith, false, fresh_words_of, header_in}
 use Rattle.mk_laws.proofs.Vocabulary.{heads_run, if◌then◌else◌, in_a_word, is_held, not, not-true, run_headed, subst}
 use Rattle.mk_laws.proofs.Vocabulary.{sym, true, words_under, ◌*◌, ◌+◌, ◌-◌, ◌<◌, ◌^◌, ◌↔◌, ◌∙◌, ◌≡◌}
+use Rattle.mk_laws.proofs.Tallies.{fresh_is_told}
 use Rattle.mk_objects.proofs.Vocabulary.{Changes, FreesCell, FreesOnce, HasFreed, IsAsLeft, IsFreedAt, IsTrue, MayFree}
 use Rattle.mk_objects.proofs.Vocabulary.{OnlyLooks, PassState, SetsTally, StaysSo, held_by_allocations, is_following}
 use Rattle.mk_objects.proofs.Vocabulary.{min, none_is_held, now_of, steady_of, with_tally, words_freed, world_of}
-use Rattle.mk_core.specs.Counts.{TalliesAreExact}
-use Rattle.mk_laws.proofs.Tallies.{fresh_is_told}
 use Rattle.mk_objects.proofs.DecidedFrees.{Stays, decides_before, freed_decides, fresh_stays, stays_now}
 use Rattle.mk_objects.proofs.FreedObjects.{object_at, small_held}
 use Rattle.mk_objects.proofs.ReachedParts.{reached_table, reached_world, reaches_after, reaches_wider}
-use Rattle.mk_objects.proofs.{FreedOnce.once_before, GoneRuns.IsGoneIn, GoneRuns.still_gone}
+use Rattle.mk_objects.proofs.FreedOnce.{once_before}
+use Rattle.mk_objects.proofs.GoneRuns.{IsGoneIn, still_gone}
+use Rattle.mk_core.specs.Counts.{TalliesAreExact}
 
 -- After a `quar` the call is decided.
 pub freed_now : {p q : PassState} {cell : Cell} → HasFreed p cell q

@@ -1,15 +1,18 @@
 -- What the answers of the page map say of an object's place.
-use Rattle.std.proofs.{Common.add-one, lemmas.List.Sums.count_by-le-length}
+use Rattle.std.proofs.Common.{add-one}
+use Rattle.std.proofs.lemmas.List.Sums.{count_by-le-length}
 use Rattle.mk_laws.proofs.Vocabulary.{Block, Bool, Free, Header, Later, LeafBlock, LeafRun, List, None, Option, Page}
 use Rattle.mk_laws.proofs.Vocabulary.{Place, Run, Some, ℕ, ap, arith, block_header, cases_Bool, cells_of, cond-false}
 use Rattle.mk_laws.proofs.Vocabulary.{cond-true, false, header_of, inl, inr, is_some, length, length-map, ne_eqb}
 use Rattle.mk_laws.proofs.Vocabulary.{none-some, not, or_else, refl, resident_pages, same_Some, sym, true, use_under}
 use Rattle.mk_laws.proofs.Vocabulary.{uses_of_pages, word_of, [], ◌+◌, ◌<◌, ◌==◌, ◌∙◌, ◌∷◌, ◌≡◌, ◌≢◌, ◌≤◌}
 use Rattle.mk_objects.proofs.Vocabulary.{option_map}
-use Rattle.mk_geom.{proofs.HeaderLemmas.{header_of-word_of, word_of-header_of}, specs.PageWords.{bits_of, use_of_page}}
+use Rattle.mk_geom.proofs.HeaderLemmas.{header_of-word_of, word_of-header_of}
+use Rattle.mk_geom.specs.PageWords.{bits_of, use_of_page}
 use Rattle.mk_geom.specs.PageUses.{Cells, cells_taken, first_where, is_free_page, small_place}
 use Rattle.mk_books.proofs.FreeCellLemmas.{cells_taken_alike}
-use Rattle.mk_page_map.specs.{Laws.{LowestBlockHasThePlace, free_cell_on}, Members.{has_free_cell, page_at}}
+use Rattle.mk_page_map.specs.Laws.{LowestBlockHasThePlace, free_cell_on}
+use Rattle.mk_page_map.specs.Members.{has_free_cell, page_at}
 
 -- The cells of a page under the header word of the blocks that are sought,
 

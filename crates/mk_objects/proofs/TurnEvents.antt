@@ -3,12 +3,16 @@ use Rattle.mk_laws.proofs.Vocabulary.{Bool, Config, Event, Holds, IsHistory, Lis
 use Rattle.mk_laws.proofs.Vocabulary.{append-nil, append_assoc, cases_Bool, earlier_part_is_history, false}
 use Rattle.mk_laws.proofs.Vocabulary.{false_from_ne_true, first_world, found, if◌then◌else◌, inl, inr, is_one_of, left}
 use Rattle.mk_laws.proofs.Vocabulary.{left_more, refl, subst, sym, true, true≢false, world_behind, [], ◌++◌, ◌||◌, ◌∙◌}
-use Rattle.mk_laws.proofs.{Vocabulary.{◌∷◌, ◌≡◌}, ProtocolFrames.others_leave}
+use Rattle.mk_laws.proofs.Vocabulary.{◌∷◌, ◌≡◌}
+use Rattle.mk_laws.proofs.ProtocolFrames.{others_leave}
 use Rattle.mk_objects.proofs.Vocabulary.{Does, PassState, call_of, event_of, now_of, turn_stays}
 use Rattle.mk_core.specs.Growing.{AreOfOthers, Finding, is_same_seat, own_from}
-use Rattle.mk_turns.{proofs.Doing.{none_own}, specs.Doing.{are_of}}
-use Rattle.mk_words.proofs.{Seats.{only_one, same_seat, same_self}, TurnSteps.still_turn}
-use Rattle.mk_words.specs.{Seats.Has, Steps.Makes}
+use Rattle.mk_turns.proofs.Doing.{none_own}
+use Rattle.mk_turns.specs.Doing.{are_of}
+use Rattle.mk_words.proofs.Seats.{only_one, same_seat, same_self}
+use Rattle.mk_words.proofs.TurnSteps.{still_turn}
+use Rattle.mk_words.specs.Seats.{Has}
+use Rattle.mk_words.specs.Steps.{Makes}
 
 -- An event is the seat's own, and of these kinds, or another's.
 pub data ComesBy (s : Seat) (kinds : Step → Bool) (e : Event) : Type 0 where

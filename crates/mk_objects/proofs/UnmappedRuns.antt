@@ -3,13 +3,17 @@ use Rattle.mk_laws.proofs.Vocabulary.{Config, Flight, Holding, Moment, None, Op,
 use Rattle.mk_laws.proofs.Vocabulary.{Stage, Steady, Step, World, ℕ, all_below-at, ap, arith, cases_eq, eq-eqb, false}
 use Rattle.mk_laws.proofs.Vocabulary.{flight_of, header_at, inl, inr, is_held, is_undecided_new, left, length}
 use Rattle.mk_laws.proofs.Vocabulary.{others_are_held, phase_of, place_now, refl, sym, true, unmapped_header, unmaps}
-use Rattle.mk_laws.proofs.{Vocabulary.{world_behind, [], ◌+◌, ◌-◌, ◌<◌, ◌∙◌, ◌≡◌, ◌≤◌}, Sorts.chosen_none}
+use Rattle.mk_laws.proofs.Vocabulary.{world_behind, [], ◌+◌, ◌-◌, ◌<◌, ◌∙◌, ◌≡◌, ◌≤◌}
+use Rattle.mk_laws.proofs.Sorts.{chosen_none}
 use Rattle.mk_objects.proofs.Vocabulary.{Acts, Changes, ComesTo, IsAsLeft, IsEnabledTo, IsOutOfStop, IsTurn, PassState}
 use Rattle.mk_objects.proofs.Vocabulary.{Unmaps, all_below_from, call_of, is_acting, is_clearing, now_of, world_of}
-use Rattle.mk_objects.proofs.{Looks.{acting_caller, acting_now, acts_there}, Unchanged.{HasCall, OfCaller}}
-use Rattle.mk_objects.proofs.{Unchanged.{acting_has_call, call_behind}, MayAct.{IsActing, may_unmap, off_four}}
-use Rattle.mk_objects.proofs.{ReachedParts.{reached_there, reaches_so}, Reaching.{reaches_nothing, reaches_still}}
-use Rattle.mk_objects.proofs.{Serves.out_of_stop, Serving.{header_here, header_set, next_is}}
+use Rattle.mk_objects.proofs.Looks.{acting_caller, acting_now, acts_there}
+use Rattle.mk_objects.proofs.Unchanged.{HasCall, OfCaller, acting_has_call, call_behind}
+use Rattle.mk_objects.proofs.MayAct.{IsActing, may_unmap, off_four}
+use Rattle.mk_objects.proofs.ReachedParts.{reached_there, reaches_so}
+use Rattle.mk_objects.proofs.Reaching.{reaches_nothing, reaches_still}
+use Rattle.mk_objects.proofs.Serves.{out_of_stop}
+use Rattle.mk_objects.proofs.Serving.{header_here, header_set, next_is}
 use Rattle.mk_objects.specs.Unmapping.{IsStillMapped, UnmappedTo}
 
 -- A call that is decided is no New on its way, so its holder's place stays.

@@ -3,7 +3,10 @@ use Rattle.mk_laws.proofs.Vocabulary.{Place, Steady, Step, ℕ, and_right, ap, a
 use Rattle.mk_laws.proofs.Vocabulary.{phase_of, refl, slice_index_or, true, ◌∙◌, ◌≡◌}
 use Rattle.mk_objects.proofs.Vocabulary.{Acts, HasCarved, MayTake, OnlyLooks, PassState, bits_made, is_look, now_of}
 use Rattle.mk_objects.proofs.Vocabulary.{object_for}
-use Rattle.mk_objects.proofs.{Granting.serving_marks, Reaching.kept_by, Serves.KnowsPlace, Serving.serving_left}
+use Rattle.mk_objects.proofs.Granting.{serving_marks}
+use Rattle.mk_objects.proofs.Reaching.{kept_by}
+use Rattle.mk_objects.proofs.Serves.{KnowsPlace}
+use Rattle.mk_objects.proofs.Serving.{serving_left}
 use Rattle.mk_turns.proofs.Sweeping.{does_sweep, other_step_sweeps, step_sweeps, step_then_sweeps, sweeps_then}
 use Rattle.mk_turns.specs.Sweeping.{SweepsNothing, is_mark}
 

@@ -3,8 +3,10 @@ use Rattle.mk_laws.proofs.Vocabulary.{Flight, Holding, RunPages, ℕ, ap, eq-eqb
 use Rattle.mk_laws.proofs.Vocabulary.{◌==◌, ◌∙◌, ◌≡◌}
 use Rattle.mk_objects.proofs.Vocabulary.{PassState, Wipes, WipesTo, all_below_from, is_clearing, now_of, world_of}
 use Rattle.mk_objects.proofs.ReachedParts.{reached_there, reached_world, reaches_after, reaches_so}
-use Rattle.mk_objects.proofs.{UnmappedRuns.{changes_nothing, still_stopped}, Reaching.reaches_nothing}
-use Rattle.mk_objects.{proofs.WipedWords.{still_unmapped}, specs.Unmapping.{AreWiped, MayWipe, WipedTo}}
+use Rattle.mk_objects.proofs.UnmappedRuns.{changes_nothing, still_stopped}
+use Rattle.mk_objects.proofs.Reaching.{reaches_nothing}
+use Rattle.mk_objects.proofs.WipedWords.{still_unmapped}
+use Rattle.mk_objects.specs.Unmapping.{AreWiped, MayWipe, WipedTo}
 
 pub wiped_from : (p : PassState) {run : RunPages} {n : ℕ} → AreWiped (now_of p).words run n → WipesTo p run n p
 wiped_from p {run} {n} wiped =

@@ -8,13 +8,18 @@ use Rattle.mk_laws.proofs.Vocabulary.{page_at_address, refl, run_header, same_So
 use Rattle.mk_laws.proofs.Vocabulary.{true, unmapped_header, world_behind, [], ◌*◌, ◌+◌, ◌-◌, ◌/◌, ◌<◌, ◌∙◌, ◌≡◌, ◌≤◌}
 use Rattle.mk_objects.proofs.Vocabulary.{Acts, ComesTo, IsAsLeft, IsEnabledTo, IsTurn, PassState, WipesTo, call_of}
 use Rattle.mk_objects.proofs.Vocabulary.{is_clearing, now_of, option_and_then, world_of}
-use Rattle.mk_objects.proofs.{Looks.{acting_caller, acting_now, acts_there}, MayAct.{IsActing, may_look_heap, may_wipe}}
-use Rattle.mk_objects.proofs.{ReachedParts.{reached_there, reaches_so}, Unchanged.{HasCall, OfCaller, acting_has_call}}
-use Rattle.mk_objects.proofs.{Unchanged.call_behind, Reaching.reaches_still_in_stop}
-use Rattle.mk_objects.{proofs.UnmappedRuns.{give_acts, still_stopped}, specs.Unmapping.{MayWipe, WipedTo}}
-use Rattle.mk_geom.proofs.{Bridge.run_in_range, HeaderLemmas.header_of-word_of}
+use Rattle.mk_objects.proofs.Looks.{acting_caller, acting_now, acts_there}
+use Rattle.mk_objects.proofs.MayAct.{IsActing, may_look_heap, may_wipe}
+use Rattle.mk_objects.proofs.ReachedParts.{reached_there, reaches_so}
+use Rattle.mk_objects.proofs.Unchanged.{HasCall, OfCaller, acting_has_call, call_behind}
+use Rattle.mk_objects.proofs.Reaching.{reaches_still_in_stop}
+use Rattle.mk_objects.proofs.UnmappedRuns.{give_acts, still_stopped}
+use Rattle.mk_objects.specs.Unmapping.{MayWipe, WipedTo}
+use Rattle.mk_geom.proofs.Bridge.{run_in_range}
+use Rattle.mk_geom.proofs.HeaderLemmas.{header_of-word_of}
 use Rattle.mk_geom.specs.Addresses.{cell_under, word_at_address}
-use Rattle.mk_core.specs.{Effects.{hand_given, hand_of_cell, is_in_stop}, Cells.pointed_cell}
+use Rattle.mk_core.specs.Effects.{hand_given, hand_of_cell, is_in_stop}
+use Rattle.mk_core.specs.Cells.{pointed_cell}
 use Rattle.mk_core.specs.Frames.{HoldsAll, written_of}
 use Rattle.mk_turns.proofs.PointedCells.{found_there}
 use Rattle.mk_words.specs.Steps.{Finds}

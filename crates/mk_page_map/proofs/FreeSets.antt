@@ -1,13 +1,16 @@
 -- The sets of a heap whose pages are all free.
-use Rattle.std.proofs.{Common.{le-ltb, lt-ltb, ne_eqb, take_at, ◌&&◌, ◌/◌}, lemmas.Bool.{and_left, and_right}}
-use Rattle.std.proofs.{lemmas.List.{get_or-replicate, get_or_past, length-replicate}, lemmas.List.Sums.sum_by-cons}
+use Rattle.std.proofs.Common.{le-ltb, lt-ltb, ne_eqb, take_at, ◌&&◌, ◌/◌}
+use Rattle.std.proofs.lemmas.Bool.{and_left, and_right}
+use Rattle.std.proofs.lemmas.List.{get_or-replicate, get_or_past, length-replicate}
+use Rattle.std.proofs.lemmas.List.Sums.{sum_by-cons}
 use Rattle.std.proofs.lemmas.Nat.Bits.{bit_at-zero}
 use Rattle.mk_page_map.proofs.Vocabulary.{AreSets, FitPages, IsInItsSets, List, Nothing, Page, PageUse, Shows, ℕ, ap}
 use Rattle.mk_page_map.proofs.Vocabulary.{arith, bit_at, cases_eq, cases_lt, cond, drop, false, free_page, get_or, inl}
 use Rattle.mk_page_map.proofs.Vocabulary.{inr, is_member, is_of_set, is_resident_page, length, nat_eq, nat_lt, not}
 use Rattle.mk_page_map.proofs.Vocabulary.{page_at, refl, replicate, resident_pages, subst, suc, sym, take, use_of_page}
 use Rattle.mk_page_map.proofs.Vocabulary.{uses_of_pages, zero, ◌%◌, ◌*◌, ◌++◌, ◌+◌, ◌-◌, ◌<◌, ◌∙◌, ◌≡◌, ◌≤◌}
-use Rattle.mk_page_map.proofs.{BlockSets.{each_set, nothing_of_set}, Showing.{known_by, member_at}}
+use Rattle.mk_page_map.proofs.BlockSets.{each_set, nothing_of_set}
+use Rattle.mk_page_map.proofs.Showing.{known_by, member_at}
 use Rattle.mk_page_map.specs.PageSets.{OtherWordsStay, word_in_set}
 
 -- the first pages are in set 16, and nothing is in another

@@ -1,12 +1,15 @@
 -- A store of a page's header or used word keeps a map in step.
-use Rattle.std.{proofs.Common.slice_index_or, proofs.lemmas.List.get_or_read, specs.Int.from_bool}
+use Rattle.std.proofs.Common.{slice_index_or}
+use Rattle.std.proofs.lemmas.List.{get_or_read}
+use Rattle.std.specs.Int.{from_bool}
 use Rattle.mk_page_map.proofs.Vocabulary.{AreSets, Bool, FitPages, IsInItsSets, KnownPages, List, OthersStay, Page}
 use Rattle.mk_page_map.proofs.Vocabulary.{PageKind, Shows, ℕ, ap, arith, cond, false, free_page, is_member}
 use Rattle.mk_page_map.proofs.Vocabulary.{is_resident_page, length, page_at, refl, resident_pages, set, subst, sym}
 use Rattle.mk_page_map.proofs.Vocabulary.{true, use_of_kind, use_of_page, uses_of_pages, ◌+◌, ◌<◌, ◌∙◌, ◌≡◌, ◌≤◌}
-use Rattle.mk_geom.specs.{Headers.header_of, PageWords.use_under}
 use Rattle.mk_page_map.proofs.Fitting.{Changes, fit_changed, resident_changed, resident_one}
 use Rattle.mk_page_map.proofs.Showing.{changed_shows, known_by}
+use Rattle.mk_geom.specs.Headers.{header_of}
+use Rattle.mk_geom.specs.PageWords.{use_under}
 use Rattle.mk_page_map.specs.declared.kinds.PageKind.TheVariants.{Block, Free, Run}
 
 -- a store: the pages and the sets before it, the sets as they were passed on and left, and the page then

@@ -2,8 +2,10 @@
 -- with what was given back.
 use Rattle.mk_quarantine.proofs.Vocabulary.{Event, List, None, Op, Some, Step, false, refl, [], ◌++◌, ◌∷◌, ◌≡◌}
 use Rattle.mk_laws.proofs.Vocabulary.{Tally}
-use Rattle.mk_core.proofs.{Schedules.{by, c0, fault, first_fault, host}, MoreSchedules.two_pages}
-use Rattle.mk_core.specs.{Bounded.all_below, Cells.pointed_cell}
+use Rattle.mk_core.proofs.Schedules.{by, c0, fault, first_fault, host}
+use Rattle.mk_core.proofs.MoreSchedules.{two_pages}
+use Rattle.mk_core.specs.Bounded.{all_below}
+use Rattle.mk_core.specs.Cells.{pointed_cell}
 
 -- Of an object of 2 words and one of 6 the larger is freed first. That is due, so it begins a cycle, which goes on.
 -- Then the smaller is freed, which isn't due. When the caller has cleared its registers the host ends the cycle, in a

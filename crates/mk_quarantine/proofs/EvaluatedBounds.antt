@@ -2,10 +2,16 @@
 use Rattle.mk_laws.proofs.Vocabulary.{take}
 use Rattle.mk_quarantine.proofs.Vocabulary.{FreshIsQuarterOfHeld, IsKeptByLastCycle, arith, fresh_after, given_back}
 use Rattle.mk_quarantine.proofs.Vocabulary.{held_after, is_begin, is_close, is_end, is_release, left, refl, ◌≡◌, ◌≤◌}
-use Rattle.mk_quarantine.{proofs.BoundSchedules.{released_later}, specs.GivenBack.{given_back_from}}
-use Rattle.mk_core.proofs.{EventsAt.{at_number, event_number}, MoreSchedules.{full_then_reused, two_pages}}
-use Rattle.mk_core.{proofs.Schedules.{by, c0, host, one_page}, specs.StopConditions.{may_turn_black}}
-use Rattle.mk_core.specs.{Allocations.unreleased_storage, Bounded.all_below, Cells.pointed_cell, History.left_from}
+use Rattle.mk_quarantine.proofs.BoundSchedules.{released_later}
+use Rattle.mk_quarantine.specs.GivenBack.{given_back_from}
+use Rattle.mk_core.proofs.EventsAt.{at_number, event_number}
+use Rattle.mk_core.proofs.MoreSchedules.{full_then_reused, two_pages}
+use Rattle.mk_core.proofs.Schedules.{by, c0, host, one_page}
+use Rattle.mk_core.specs.StopConditions.{may_turn_black}
+use Rattle.mk_core.specs.Allocations.{unreleased_storage}
+use Rattle.mk_core.specs.Bounded.{all_below}
+use Rattle.mk_core.specs.Cells.{pointed_cell}
+use Rattle.mk_core.specs.History.{left_from}
 
 -- Before the host's `release` 2 of 8 words are fresh, and nothing was given back; after it the 6 words of the larger
 -- object are.

@@ -1,5 +1,7 @@
 -- What is in quarantine where no cycle is on: what was freed since the last `begin`, or what the last cycle kept.
-use Rattle.mk_laws.proofs.{Vocabulary.{Words, not-true}, CyclePhases.phase_moves, Longer.{longer_next, next_at_end}}
+use Rattle.mk_laws.proofs.Vocabulary.{Words, not-true}
+use Rattle.mk_laws.proofs.CyclePhases.{phase_moves}
+use Rattle.mk_laws.proofs.Longer.{longer_next, next_at_end}
 use Rattle.mk_quarantine.proofs.Vocabulary.{AsksPhase, At, Cell, Config, Event, IsKeptByLastCycle, KeptByEvents, Lacks}
 use Rattle.mk_quarantine.proofs.Vocabulary.{List, Meets, Next, OfHistories, Option, PlacedAllocation, Seat, Step, World}
 use Rattle.mk_quarantine.proofs.Vocabulary.{WorldBehind, ℕ, and_parts, arith, before_it, cases_Bool, cases_eq, cases_lt}
@@ -9,7 +11,8 @@ use Rattle.mk_quarantine.proofs.Vocabulary.{is_close, is_end, is_quarantined, is
 use Rattle.mk_quarantine.proofs.Vocabulary.{left_more, length, length-append, longer_at, never_granted, not}
 use Rattle.mk_quarantine.proofs.Vocabulary.{phase_asked, phase_behind, phase_of, placed_at, refl, subst, sym, true}
 use Rattle.mk_quarantine.proofs.Vocabulary.{true≢false, world_behind, [], ◌++◌, ◌∙◌, ◌∷◌, ◌≡◌, ◌⊎◌}
-use Rattle.mk_core.{proofs.ChangedAllocations.{granted_at}, specs.History.{left_from}}
+use Rattle.mk_core.proofs.ChangedAllocations.{granted_at}
+use Rattle.mk_core.specs.History.{left_from}
 use Rattle.mk_quarantine.specs.KeptAllocations.{QuarantineIsFreshOrKept}
 
 -- the cycle of a `begin` by the events after it, and the phase

@@ -8,10 +8,10 @@ use Rattle.mk_quarantine.proofs.Vocabulary.{held_by_allocations, holds_of_histor
 use Rattle.mk_quarantine.proofs.Vocabulary.{is_of_cycle, lacks_append, lacks_at, lacks_first, lacks_one, left}
 use Rattle.mk_quarantine.proofs.Vocabulary.{left_in_parts, left_more, not, stands, subst, sym, taken, true, true≢false}
 use Rattle.mk_quarantine.proofs.Vocabulary.{world_behind, [], ⊎_elim, ◌&&◌, ◌*◌, ◌++◌, ◌+◌, ◌∙◌, ◌∷◌, ◌≡◌, ◌≤◌, ◌⊎◌}
-use Rattle.mk_core.specs.History.{left_from}
 use Rattle.mk_quarantine.proofs.CountedWords.{IsQuarter, filtered_in_parts, given_more, none_fresh_begun, quarter_stays}
 use Rattle.mk_quarantine.proofs.EndedFrees.{CallersAreExact, EndedFree, ended_free}
 use Rattle.mk_quarantine.proofs.OpenFrees.{FreesNoneFrom, frees_none_at}
+use Rattle.mk_core.specs.History.{left_from}
 use Rattle.mk_quarantine.specs.Bounds.{FreshIsQuarterWithGivenBack, QuarantineIsQuarterAndKept}
 use Rattle.mk_quarantine.specs.KeptAllocations.{kept_mapped, quarantined_mapped}
 

@@ -1,12 +1,16 @@
 -- What the last cycle kept is touched: released allocations stay so, so it was kept at the cycle's `release`.
-use Rattle.mk_laws.{proofs.Vocabulary.{Releasing, freed_released, through_release}, proofs.Stretches.{at_release}}
-use Rattle.mk_laws.proofs.{AllocationSteps.{allocation_step, goes_on}, PrecisionStopped.keeps_only_the_touched}
+use Rattle.mk_laws.proofs.Vocabulary.{Releasing, freed_released, through_release}
+use Rattle.mk_laws.proofs.Stretches.{at_release}
+use Rattle.mk_laws.proofs.AllocationSteps.{allocation_step, goes_on}
+use Rattle.mk_laws.proofs.PrecisionStopped.{keeps_only_the_touched}
 use Rattle.mk_quarantine.proofs.Vocabulary.{Config, Event, List, OfHistories, Seat, Step, World, WorldBehind, ℕ}
 use Rattle.mk_quarantine.proofs.Vocabulary.{append_assoc, arith, cases_lt, changed_at, earlier_at, false_from_ne_true}
 use Rattle.mk_quarantine.proofs.Vocabulary.{flight_of, freed_leaves, get_or_past, is_quarantined, left, left_in_parts}
 use Rattle.mk_quarantine.proofs.Vocabulary.{length, placed_at, sym, true, true≢false, world_behind, [], ◌++◌, ◌<◌, ◌∙◌}
-use Rattle.mk_quarantine.{proofs.Vocabulary.{◌∷◌, ◌≡◌}, specs.KeptAllocations.{KeptAreTouched}}
-use Rattle.mk_core.specs.{Cycles.before_begin, History.left_from}
+use Rattle.mk_quarantine.proofs.Vocabulary.{◌∷◌, ◌≡◌}
+use Rattle.mk_quarantine.specs.KeptAllocations.{KeptAreTouched}
+use Rattle.mk_core.specs.Cycles.{before_begin}
+use Rattle.mk_core.specs.History.{left_from}
 
 -- The allocation was granted.
 abbrev IsThere : World → ℕ → Type 0

@@ -1,5 +1,6 @@
 -- Where the turn is free, a freed large allocation takes no memory: no Free is unmapping a run.
-use Rattle.mk_laws.proofs.{Vocabulary.RunPages, UnmappedRuns.unmapped_runs_take_no_memory}
+use Rattle.mk_laws.proofs.Vocabulary.{RunPages}
+use Rattle.mk_laws.proofs.UnmappedRuns.{unmapped_runs_take_no_memory}
 use Rattle.mk_quarantine.proofs.Vocabulary.{Config, Event, Holding, IsHistory, List, None, Some, ap, append-nil}
 use Rattle.mk_quarantine.proofs.Vocabulary.{known_left, left, refl, sym, [], ◌∙◌, ◌≡◌}
 use Rattle.mk_quarantine.specs.Bounds.{FreedRunsTakeNoMemory}

@@ -9,7 +9,8 @@ use Rattle.mk_script.specs.declared.keywords.Keyword.TheVariants.{Add, Casp, Cle
 use Rattle.mk_script.specs.declared.keywords.Keyword.TheVariants.{Global, Heap, If, Isnull, Lea, Loadg, Move, New, Num}
 use Rattle.mk_script.specs.declared.keywords.Keyword.TheVariants.{Print, Ptr, Repeat, Same, Script, Setn, Setp, Show}
 use Rattle.mk_script.specs.declared.keywords.Keyword.TheVariants.{Storeg, Sub, TypeLine}
-use Rattle.mk_script.specs.{Names.is_name, Operands.number}
+use Rattle.mk_script.specs.Names.{is_name}
+use Rattle.mk_script.specs.Operands.{number}
 
 pub read_name : {A : Type 0} (n : List ℕ) → is_name n ≡ true
     → (f : List ℕ → Result A LineFault) {y : Result A LineFault} → f n ≡ y → (name n >>= f) ≡ y

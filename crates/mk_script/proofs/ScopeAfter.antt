@@ -8,7 +8,9 @@ use Rattle.mk_script.proofs.Pushed.{global_names-append, number_names-append, op
 use Rattle.mk_script.proofs.Pushed.{script_names-append, this_script-push, type_names-append}
 use Rattle.mk_script.specs.ScopeOf.{IsScopeOf, has_lines}
 use Rattle.mk_script.specs.declared.items.Item.TheVariants.{Global, Heap, Num, Ptr, Script, TypeLine}
-use Rattle.mk_script.specs.{Scopes.is_instruction, declared.items.TypeWord.TypeWord, declared.scope.Scope.Scope}
+use Rattle.mk_script.specs.Scopes.{is_instruction}
+use Rattle.mk_script.specs.declared.items.TypeWord.{TypeWord}
+use Rattle.mk_script.specs.declared.scope.Scope.{Scope}
 
 has_lines-push : (before : List Item) (item : Item) → true ≡ has_lines (before ++ item ∷ [])
 has_lines-push [] item = refl

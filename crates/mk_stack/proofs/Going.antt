@@ -1,8 +1,10 @@
 -- Operations one after the other, from the point of a job where its caller was.
 use Rattle.mk_stack.proofs.Vocabulary.{CallerState, GoesToPoint, HasStackTypes, Leads, PassState, Point, Replied}
 use Rattle.mk_stack.proofs.Vocabulary.{caller_of_pass, replied_to}
+use Rattle.mk_stack.proofs.Advances.{Advances}
+use Rattle.mk_stack.proofs.Replies.{Stays}
 use Rattle.mk_laws.proofs.Vocabulary.{List, ℕ, ap, append_assoc, refl, subst, sym, true, [], ◌++◌, ◌<◌, ◌∙◌, ◌∷◌, ◌≡◌}
-use Rattle.mk_stack.{proofs.Advances.Advances, proofs.Replies.Stays, specs.Ready.IsReady, specs.Ready.IsReadyForJobs}
+use Rattle.mk_stack.specs.Ready.{IsReady, IsReadyForJobs}
 
 pub leads_through : (s : Point) (xs : List Replied) (t : Point) (ys : List Replied) (u : Point) → Leads s xs t
     → Leads t ys u → Leads s (xs ++ ys) u

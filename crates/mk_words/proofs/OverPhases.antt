@@ -2,9 +2,10 @@
 use Rattle.std.proofs.lemmas.Bool.{true_from_ne_false}
 use Rattle.mk_laws.proofs.Vocabulary.{AreEnabledFrom, Config, Event, List, Step, World, ℕ, arith, false, or_parts}
 use Rattle.mk_laws.proofs.Vocabulary.{phase_of, sym, world_behind, [], ◌∙◌, ◌∷◌, ◌≡◌, ◌≢◌}
-use Rattle.mk_core.specs.History.{left_from}
 use Rattle.mk_laws.proofs.CyclePhases.{moves_phase, phase_behind}
-use Rattle.mk_words.specs.{Laws.EndIsBehindOver, Seats.has_over, Seats.is_over}
+use Rattle.mk_core.specs.History.{left_from}
+use Rattle.mk_words.specs.Laws.{EndIsBehindOver}
+use Rattle.mk_words.specs.Seats.{has_over, is_over}
 
 not_over : (x : Step) (p : ℕ) → is_over x ≡ false → p ≢ 5 → phase_behind x p ≢ 5
 not_over Step.Begin p out ne = λ h. absurd (omega arith)

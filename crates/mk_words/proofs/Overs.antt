@@ -4,10 +4,13 @@ use Rattle.mk_laws.proofs.Vocabulary.{Bool, Caller, Config, Event, Group, Host, 
 use Rattle.mk_laws.proofs.Vocabulary.{Step, World, ℕ, ap, enabled_meets, false, false_from_ne_true, group_of, inl, inr}
 use Rattle.mk_laws.proofs.Vocabulary.{is_open_to, list_any-append, or_cases, refl, subst, suc, sym, true, world_behind}
 use Rattle.mk_laws.proofs.Vocabulary.{zero, [], ◌++◌, ◌||◌, ◌∙◌, ◌∷◌, ◌≡◌, ◌≢◌, ◌⊎◌}
-use Rattle.mk_core.specs.{Growing.AreOfOthers, History.AreEnabledFrom}
+use Rattle.mk_core.specs.Growing.{AreOfOthers}
+use Rattle.mk_core.specs.History.{AreEnabledFrom}
 use Rattle.atomic_table.proofs.Lists.{at_set}
-use Rattle.mk_words.{proofs.Seats.not_both, specs.Rule.seats_of, specs.Seats.CallersAreBeforeOver, specs.Seats.Has}
-use Rattle.mk_words.{specs.Seats.HasCallers, specs.Seats.has_over, specs.Seats.is_over, specs.declared.rule.View.View}
+use Rattle.mk_words.proofs.Seats.{not_both}
+use Rattle.mk_words.specs.Rule.{seats_of}
+use Rattle.mk_words.specs.Seats.{CallersAreBeforeOver, Has, HasCallers, has_over, is_over}
+use Rattle.mk_words.specs.declared.rule.View.{View}
 use mathlib.Core.Option.{some, some-ne-none}
 use lib.ListN.{get_elem?}
 

@@ -2,21 +2,32 @@
 use Rattle.std.proofs.Common.{replicate}
 use Rattle.mk_laws.proofs.Vocabulary.{Access, Caller, Config, Event, Host, IsHistory, IsTidy, IsWithinLimits, List}
 use Rattle.mk_laws.proofs.Vocabulary.{Seat, Step, ℕ, access, ap, arith, false, subst, sym, true, word_accessed, []}
-use Rattle.mk_laws.proofs.{Vocabulary.{◌++◌, ◌<◌, ◌∙◌, ◌∷◌, ◌≡◌}, Reaching.events_reach_the_table}
+use Rattle.mk_laws.proofs.Vocabulary.{◌++◌, ◌<◌, ◌∙◌, ◌∷◌, ◌≡◌}
+use Rattle.mk_laws.proofs.Reaching.{events_reach_the_table}
 use Rattle.mk_page_map.specs.KnownPages.{KnownPages}
-use Rattle.mk_core.proofs.{Histories.enabled_more, LayoutLemmas.indexes_within, RegionLemmas.first_are_zero}
-use Rattle.mk_core.specs.{Layout.{IsOfTable, count_of_words, index_of}, Growing.{Grows, is_same_seat}}
-use Rattle.mk_core.specs.{History.{AreEnabledFrom, calls_from}, Words.{becomes, zero_words_of}}
+use Rattle.mk_core.proofs.Histories.{enabled_more}
+use Rattle.mk_core.proofs.LayoutLemmas.{indexes_within}
+use Rattle.mk_core.proofs.RegionLemmas.{first_are_zero}
+use Rattle.mk_core.specs.Layout.{IsOfTable, count_of_words, index_of}
+use Rattle.mk_core.specs.Growing.{Grows, is_same_seat}
+use Rattle.mk_core.specs.History.{AreEnabledFrom, calls_from}
+use Rattle.mk_core.specs.Words.{becomes, zero_words_of}
 use Rattle.mk_core.specs.declared.accesses.TableWord.{TableWord}
-use Rattle.atomic_table.specs.{Table.{Allows, Final, Joins, Seen, Splits, opening}, Seated.TableId}
-use Rattle.mk_words.proofs.{Cuts.{hands_over, joins, remembers, splits}, Keeps.{Ended, access_there, closes, opens}}
-use Rattle.mk_words.proofs.{Keeps.{performs_at, place_there, settles_at}, Seats.{has_all, has_first, has_left}}
-use Rattle.mk_words.proofs.{Seats.{only_one, without_keeps, without_less}, Tidy.none_tidy, Undecided.undecided_admitted}
-use Rattle.mk_words.specs.{PageMaps.{IsMapOf, is_handing}, Rule.{Adds, Kept, Mine, adds, beside, copy_of, first_view}}
-use Rattle.mk_words.specs.Rule.{goes_with, no_step, nobody, settles, stays_with, stores_word, told_by}
+use Rattle.atomic_table.specs.Table.{Allows, Final, Joins, Seen, Splits, opening}
+use Rattle.atomic_table.specs.Seated.{TableId}
+use Rattle.mk_words.proofs.Cuts.{hands_over, joins, remembers, splits}
+use Rattle.mk_words.proofs.Keeps.{Ended, access_there, closes, opens, performs_at, place_there, settles_at}
+use Rattle.mk_words.proofs.Seats.{has_all, has_first, has_left, only_one, without_keeps, without_less}
+use Rattle.mk_words.proofs.Tidy.{none_tidy}
+use Rattle.mk_words.proofs.Undecided.{undecided_admitted}
+use Rattle.mk_words.specs.PageMaps.{IsMapOf, is_handing}
+use Rattle.mk_words.specs.Rule.{Adds, Kept, Mine, adds, beside, copy_of, first_view, goes_with, no_step, nobody}
+use Rattle.mk_words.specs.Rule.{settles, stays_with, stores_word, told_by}
 use Rattle.mk_words.specs.Seats.{CallersAreBeforeOver, Has, HasAll, has_over, is_caller}
-use Rattle.mk_words.specs.{States.{PassState, WordsState, event_of, now_of}, Passes.{IsInOrder, state_of}}
-use Rattle.mk_words.specs.{Steps.{May, Tells}, declared.rule.View.View}
+use Rattle.mk_words.specs.States.{PassState, WordsState, event_of, now_of}
+use Rattle.mk_words.specs.Passes.{IsInOrder, state_of}
+use Rattle.mk_words.specs.Steps.{May, Tells}
+use Rattle.mk_words.specs.declared.rule.View.{View}
 use mathlib.Core.Option.{some}
 
 -- with the event the pass's list is a history

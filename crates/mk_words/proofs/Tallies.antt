@@ -4,15 +4,24 @@ use Rattle.mk_laws.proofs.Vocabulary.{Config, Event, Holding, IsHistory, IsSettl
 use Rattle.mk_laws.proofs.Vocabulary.{PlacedAllocation, Protocol, TalliesAreTidy, Words, World, ℕ, ap, arith, ends}
 use Rattle.mk_laws.proofs.Vocabulary.{first_world, fresh_words_of, has_place, held_by_pages, histories_keep_lengths}
 use Rattle.mk_laws.proofs.Vocabulary.{in_a_word, left, left_more, ne_eqb, phase_of, refl, subst, sym, world_behind, []}
-use Rattle.mk_laws.proofs.{Vocabulary.{◌++◌, ◌+◌, ◌∙◌, ◌∷◌, ◌≡◌}, FreshSteps.{FreshTold, fresh_told_behind}}
+use Rattle.mk_laws.proofs.Vocabulary.{◌++◌, ◌+◌, ◌∙◌, ◌∷◌, ◌≡◌}
+use Rattle.mk_laws.proofs.FreshSteps.{FreshTold, fresh_told_behind}
 use Rattle.mk_laws.proofs.Induction.{KeptByEvents, before_it, holds_of_histories}
-use Rattle.mk_laws.proofs.{InvariantHistories.histories_keep_the_invariant, InvariantJoined.told_to_layout}
-use Rattle.mk_laws.proofs.{InvariantTheorems.pages_show_the_storage, Known.known_left, KnownWorlds.known_world}
-use Rattle.mk_laws.proofs.{LayoutBefore.Before, LayoutHistories.known_before, OthersCounts.{entry_fulls, fulls_append}}
-use Rattle.mk_laws.proofs.{OthersCounts.fulls_of, Tallies.tallies_tell, TallySteps.CountsNothing}
+use Rattle.mk_laws.proofs.InvariantHistories.{histories_keep_the_invariant}
+use Rattle.mk_laws.proofs.InvariantJoined.{told_to_layout}
+use Rattle.mk_laws.proofs.InvariantTheorems.{pages_show_the_storage}
+use Rattle.mk_laws.proofs.Known.{known_left}
+use Rattle.mk_laws.proofs.KnownWorlds.{known_world}
+use Rattle.mk_laws.proofs.LayoutBefore.{Before}
+use Rattle.mk_laws.proofs.LayoutHistories.{known_before}
+use Rattle.mk_laws.proofs.OthersCounts.{entry_fulls, fulls_append, fulls_of}
+use Rattle.mk_laws.proofs.Tallies.{tallies_tell}
+use Rattle.mk_laws.proofs.TallySteps.{CountsNothing}
 use Rattle.mk_geom.proofs.HeldWords.{pages_hold_mapped_words}
-use Rattle.mk_core.{proofs.Histories.{calls_more}, specs.History.{left_from}}
-use Rattle.mk_core.specs.{Allocations.held_by_allocations, Counts.{TalliesAreExact, full_answers, releases}}
+use Rattle.mk_core.proofs.Histories.{calls_more}
+use Rattle.mk_core.specs.History.{left_from}
+use Rattle.mk_core.specs.Allocations.{held_by_allocations}
+use Rattle.mk_core.specs.Counts.{TalliesAreExact, full_answers, releases}
 use Rattle.mk_laws.specs.SettledPages.{is_freed_unmapped}
 
 -- (as in the crate that proves what the tallies count, where it is private)

@@ -7,13 +7,21 @@ use Rattle.mk_laws.proofs.Vocabulary.{histories_keep_lengths, holder_number, if�
 use Rattle.mk_laws.proofs.Vocabulary.{is_open_to, length, ltb-true, ne_eqb, not-true, nothing_done, others_are_held}
 use Rattle.mk_laws.proofs.Vocabulary.{phase_of, progress, progress_freed, progress_p, progress_q, progress_read}
 use Rattle.mk_laws.proofs.Vocabulary.{progress_reg, refl, seat_exists, slice_index, slice_set, subst, suc, sym, true}
-use Rattle.mk_laws.proofs.{Vocabulary.{zero, ◌++◌, ◌+◌, ◌<◌, ◌==◌, ◌||◌, ◌∙◌, ◌≡◌, ◌≢◌}, SameWords.{Behind, reg_keeps}}
-use Rattle.mk_laws.proofs.{SameWords.tally_keeps, NextSteps.at_no_take, Protocols.lists_keep_the_protocol}
-use Rattle.mk_core.specs.{Bounded.all_below, Frames.HoldsAll, Moments.none_is_held, Order.is_in_order}
-use Rattle.mk_words.proofs.{CallSteps.{begins, goes}, FreeTurns.{hands_none, turn_word_stays}, Made.{Made, made}}
-use Rattle.mk_words.{proofs.Tallies.{free_tallies}, specs.Steps.{moment_of}}
-use Rattle.mk_words.specs.{States.{PassState, TurnState, call_of, now_of, world_of}, TurnSteps.{Acts, GatesAre}}
-use Rattle.mk_words.specs.{TurnSteps.{IsFresh, IsTurn, begun_for, gates_stay, turn_stays}, Steps.{Finds, Makes, Tells}}
+use Rattle.mk_laws.proofs.Vocabulary.{zero, ◌++◌, ◌+◌, ◌<◌, ◌==◌, ◌||◌, ◌∙◌, ◌≡◌, ◌≢◌}
+use Rattle.mk_laws.proofs.SameWords.{Behind, reg_keeps, tally_keeps}
+use Rattle.mk_laws.proofs.NextSteps.{at_no_take}
+use Rattle.mk_laws.proofs.Protocols.{lists_keep_the_protocol}
+use Rattle.mk_core.specs.Bounded.{all_below}
+use Rattle.mk_core.specs.Frames.{HoldsAll}
+use Rattle.mk_core.specs.Moments.{none_is_held}
+use Rattle.mk_core.specs.Order.{is_in_order}
+use Rattle.mk_words.proofs.CallSteps.{begins, goes}
+use Rattle.mk_words.proofs.FreeTurns.{hands_none, turn_word_stays}
+use Rattle.mk_words.proofs.Made.{Made, made}
+use Rattle.mk_words.proofs.Tallies.{free_tallies}
+use Rattle.mk_words.specs.Steps.{moment_of, Finds, Makes, Tells}
+use Rattle.mk_words.specs.States.{PassState, TurnState, call_of, now_of, world_of}
+use Rattle.mk_words.specs.TurnSteps.{Acts, GatesAre, IsFresh, IsTurn, begun_for, gates_stay, turn_stays}
 
 -- who holds the turn, by the turn word
 

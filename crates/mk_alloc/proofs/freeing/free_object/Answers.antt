@@ -1,10 +1,12 @@
 use Rattle.mk_alloc.proofs.Vocabulary.{CallerState, EachIsBegun, FreesObject, IsAnsweredDouble, Op, PassState}
 use Rattle.mk_alloc.proofs.Vocabulary.{SweepsNothing, ap, in_turn, refl, subst, sym, ◌∙◌}
-use Rattle.mk_alloc.proofs.{BegunTurns.{freeing_then_begun, loading_begun, turn_begun}, CalledTurns.{Taken, taken_is}}
-use Rattle.mk_alloc.proofs.{CalledTurns.taken_turn, FreedTurns.{Frees, Refuses, double_answered, freed, freed_object}}
-use Rattle.mk_alloc.proofs.FreedTurns.{given, given_double, unloaded}
+use Rattle.mk_alloc.proofs.BegunTurns.{freeing_then_begun, loading_begun, turn_begun}
+use Rattle.mk_alloc.proofs.CalledTurns.{Taken, taken_is, taken_turn}
+use Rattle.mk_alloc.proofs.FreedTurns.{Frees, Refuses, double_answered, freed, freed_object, given, given_double}
+use Rattle.mk_alloc.proofs.FreedTurns.{unloaded}
 use Rattle.mk_alloc.proofs.UnsweptTurns.{freeing_then_sweeps, loading_sweeps, turn_sweeps}
-use Rattle.mk_alloc.proofs.{freeing.free_object.Goals.{After-is_in_order-in-Ok, After-take-turn}, TakenTurns.took_by}
+use Rattle.mk_alloc.proofs.freeing.free_object.Goals.{After-is_in_order-in-Ok, After-take-turn}
+use Rattle.mk_alloc.proofs.TakenTurns.{took_by}
 use Rattle.mk_objects.specs.Retired.{FindsFreed}
 use Rattle.mk_alloc.proofs.freeing.free_object.Goals as goal
 

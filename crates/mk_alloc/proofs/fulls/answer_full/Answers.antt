@@ -1,5 +1,7 @@
-use Rattle.mk_alloc.proofs.{Vocabulary.refl, CountedFulls.{answers_full, full_begins_none, tallied_ended, tallied_idle}}
-use Rattle.mk_alloc.proofs.{CountedFulls.{tallied_nowhere, tallied_unplaced}, FullTurns.{full_admitted, full_allowed}}
+use Rattle.mk_alloc.proofs.Vocabulary.{refl}
+use Rattle.mk_alloc.proofs.CountedFulls.{answers_full, full_begins_none, tallied_ended, tallied_idle, tallied_nowhere}
+use Rattle.mk_alloc.proofs.CountedFulls.{tallied_unplaced}
+use Rattle.mk_alloc.proofs.FullTurns.{full_admitted, full_allowed}
 use Rattle.mk_alloc.proofs.UnsweptTurns.{full_sweeps}
 use Rattle.mk_cycle.proofs.Allowed.{in_turn_after}
 use Rattle.mk_alloc.proofs.fulls.answer_full.Goals as goal

@@ -1,5 +1,7 @@
-use Rattle.mk_alloc.proofs.{BegunTurns.{none_begun, part_then_begun}, OneCycles.{none_runs_one, none_then_one}}
-use Rattle.mk_alloc.proofs.{SeekingTurns.{misfits_then, requests_then, seeks_then}, UnsweptTurns.part_then_sweeps}
+use Rattle.mk_alloc.proofs.BegunTurns.{none_begun, part_then_begun}
+use Rattle.mk_alloc.proofs.OneCycles.{none_runs_one, none_then_one}
+use Rattle.mk_alloc.proofs.SeekingTurns.{misfits_then, requests_then, seeks_then}
+use Rattle.mk_alloc.proofs.UnsweptTurns.{part_then_sweeps}
 use Rattle.mk_alloc.proofs.rooms.make_room.Goals as goal
 
 pub place_behind_cycle-requires-clause-requested : goal.place_behind_cycle-requires-clause-requested

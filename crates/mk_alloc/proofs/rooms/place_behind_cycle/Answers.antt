@@ -1,7 +1,10 @@
 use Rattle.mk_alloc.proofs.Vocabulary.{Done, None, PassState, Seeks, ap, begun_then, cycle_ended, in_turn, sweeps_then}
-use Rattle.mk_alloc.proofs.{Vocabulary.◌∙◌, SeekingTurns.{misfits_then, nowhere_begun, requests_then, seeks_begun}}
-use Rattle.mk_alloc.proofs.{SeekingTurns.seeks_then, BegunTurns.none_begun, OneCycles.{begin_then_ends, ends_none}}
-use Rattle.mk_alloc.proofs.{QuietTurns.quiet_begun, rooms.place_behind_cycle.Goals.After-is_in_order-2}
+use Rattle.mk_alloc.proofs.Vocabulary.{◌∙◌}
+use Rattle.mk_alloc.proofs.SeekingTurns.{misfits_then, nowhere_begun, requests_then, seeks_begun, seeks_then}
+use Rattle.mk_alloc.proofs.BegunTurns.{none_begun}
+use Rattle.mk_alloc.proofs.OneCycles.{begin_then_ends, ends_none}
+use Rattle.mk_alloc.proofs.QuietTurns.{quiet_begun}
+use Rattle.mk_alloc.proofs.rooms.place_behind_cycle.Goals.{After-is_in_order-2}
 use Rattle.mk_alloc.proofs.rooms.place_behind_cycle.Goals as goal
 
 -- the cycle that begins

@@ -1,4 +1,5 @@
-use Rattle.mk_alloc.proofs.{Vocabulary.in_turn, QuietTurns.give_allowed}
+use Rattle.mk_alloc.proofs.Vocabulary.{in_turn}
+use Rattle.mk_alloc.proofs.QuietTurns.{give_allowed}
 use Rattle.mk_alloc.proofs.turns.give.Goals as goal
 
 pub give-requires-clause-enabled : goal.give-requires-clause-enabled

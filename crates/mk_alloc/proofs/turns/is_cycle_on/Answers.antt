@@ -1,4 +1,5 @@
-use Rattle.mk_alloc.proofs.{Vocabulary.in_turn, QuietTurns.{looked, phase_allowed}}
+use Rattle.mk_alloc.proofs.Vocabulary.{in_turn}
+use Rattle.mk_alloc.proofs.QuietTurns.{looked, phase_allowed}
 use Rattle.mk_alloc.proofs.turns.is_cycle_on.Goals as goal
 
 pub look-found-requires-clause-enabled : goal.look-found-requires-clause-enabled

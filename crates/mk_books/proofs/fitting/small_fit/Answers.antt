@@ -1,5 +1,6 @@
-use Rattle.std.{proofs.Common.ap, proofs.Common.arith, proofs.Common.false, proofs.Common.sym, proofs.Common.true}
-use Rattle.std.{proofs.Common.◌+◌, proofs.Common.◌∙◌, proofs.lemmas.Grind.common_steps, specs.Option.option_or}
+use Rattle.std.proofs.Common.{ap, arith, false, sym, true, ◌+◌, ◌∙◌}
+use Rattle.std.proofs.lemmas.Grind.{common_steps}
+use Rattle.std.specs.Option.{option_or}
 use Rattle.mk_books.proofs.PlaceLemmas.{cell_from-next, free_page_from, free_page_from-here, free_page_from-next}
 use Rattle.mk_books.proofs.PlaceLemmas.{or_known, resident_from-next}
 use Rattle.mk_books.proofs.fitting.small_fit.Goals.{else-is_free, else-is_resident, then-is_free, then-is_resident}

@@ -1,8 +1,9 @@
 -- The whole of a Free: its register is loaded, its cell found, and the quarantine word of that looked at.
 use Rattle.mk_laws.proofs.Vocabulary.{Cell, ℕ, eq-eqb, false, is_freed, ne_eqb, sym, ◌∙◌, ◌≡◌}
-use Rattle.mk_objects.proofs.{Vocabulary.{MayFree, PassState, loaded_free, now_of}, Retirements.{IsFound, finds_freed}}
-use Rattle.mk_objects.proofs.Retirements.{found_so, freed_by_word, is_never_freed, may_free, none_held_there}
-use Rattle.mk_objects.{proofs.Retirements.{object_found, retires, retires_null}, proofs.FreesUnderway.{comes_seeing}}
+use Rattle.mk_objects.proofs.Vocabulary.{MayFree, PassState, loaded_free, now_of}
+use Rattle.mk_objects.proofs.Retirements.{IsFound, finds_freed, found_so, freed_by_word, is_never_freed, may_free}
+use Rattle.mk_objects.proofs.Retirements.{none_held_there, object_found, retires, retires_null}
+use Rattle.mk_objects.proofs.FreesUnderway.{comes_seeing}
 use Rattle.mk_objects.proofs.freeing.retire_object.Goals.{After-is_freed, After-is_in_order-3}
 use Rattle.mk_objects.proofs.freeing.retire_object.Goals as goal
 

@@ -1,4 +1,7 @@
-use Rattle.mk_objects.proofs.{Vocabulary.PassState, Looks.acting_now, MayAct.may_tally, SetTallies.sets_tally}
+use Rattle.mk_objects.proofs.Vocabulary.{PassState}
+use Rattle.mk_objects.proofs.Looks.{acting_now}
+use Rattle.mk_objects.proofs.MayAct.{may_tally}
+use Rattle.mk_objects.proofs.SetTallies.{sets_tally}
 use Rattle.mk_objects.proofs.freeing.set_tally.Goals as goal
 
 pub tally-requires-clause-enabled : goal.tally-requires-clause-enabled

@@ -1,7 +1,9 @@
 use Rattle.mk_laws.proofs.Vocabulary.{arith, histories_keep_lengths, place_on_pages, ◌∙◌, ◌≡◌}
-use Rattle.mk_objects.{proofs.Vocabulary.{PassState, now_of, object_for}, proofs.placing.place_apart.Goals.{After-seek}}
-use Rattle.mk_objects.proofs.{JoinedLooks.{granted_behind_looks, looks_nothing}, PlacedNews.{fit_found, fit_within}}
-use Rattle.mk_objects.proofs.{PlacedNews.{goes_behind, place_found}, UnsweptNews.looks_sweep}
+use Rattle.mk_objects.proofs.Vocabulary.{PassState, now_of, object_for}
+use Rattle.mk_objects.proofs.placing.place_apart.Goals.{After-seek}
+use Rattle.mk_objects.proofs.JoinedLooks.{granted_behind_looks, looks_nothing}
+use Rattle.mk_objects.proofs.PlacedNews.{fit_found, fit_within, goes_behind, place_found}
+use Rattle.mk_objects.proofs.UnsweptNews.{looks_sweep}
 use Rattle.mk_objects.proofs.placing.place_apart.Goals as goal
 
 -- the place that was sought is where it fits

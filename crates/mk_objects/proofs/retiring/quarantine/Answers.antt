@@ -1,8 +1,10 @@
 use Rattle.mk_laws.proofs.Vocabulary.{ℕ, arith, slice_index, ◌<◌, ◌^◌}
 use Rattle.mk_objects.proofs.Vocabulary.{PassState, histories_keep_the_invariant, now_of}
-use Rattle.mk_objects.proofs.{FreeSteps.freed_half, FreeSteps.freed_word_made, FreeSteps.quarantine_may}
-use Rattle.mk_objects.proofs.{FreeSteps.quarantine_once, FreeSteps.quarantine_reaches, LoadedFrees.free_step_admits}
-use Rattle.mk_objects.proofs.{LoadedFrees.loaded_undecided, Looks.acting_caller, MayAct.free_is_acting}
+use Rattle.mk_objects.proofs.FreeSteps.{freed_half, freed_word_made, quarantine_may, quarantine_once}
+use Rattle.mk_objects.proofs.FreeSteps.{quarantine_reaches}
+use Rattle.mk_objects.proofs.LoadedFrees.{free_step_admits, loaded_undecided}
+use Rattle.mk_objects.proofs.Looks.{acting_caller}
+use Rattle.mk_objects.proofs.MayAct.{free_is_acting}
 use Rattle.mk_objects.proofs.retiring.quarantine.Goals as goal
 
 pub quar-requires-clause-enabled : goal.quar-requires-clause-enabled

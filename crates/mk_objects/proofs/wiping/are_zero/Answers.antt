@@ -1,7 +1,8 @@
 use Rattle.std.proofs.lemmas.Nat.{le_or_l, le_or_r}
 use Rattle.mk_laws.proofs.Vocabulary.{ℕ, arith, eqb-true, refl, subst, ◌*◌, ◌+◌, ◌∙◌, ◌≡◌}
 use Rattle.mk_objects.proofs.Vocabulary.{PassState, WipesTo}
-use Rattle.mk_objects.proofs.{WipedRuns.wiped_from, WipedWords.found_wiped, WipedWords.look_may, WipedWords.looks_then}
+use Rattle.mk_objects.proofs.WipedRuns.{wiped_from}
+use Rattle.mk_objects.proofs.WipedWords.{found_wiped, look_may, looks_then}
 use Rattle.mk_objects.proofs.wiping.are_zero.Goals as goal
 
 pub loop-i-init : goal.loop-i-init

@@ -1,7 +1,8 @@
 use Rattle.mk_laws.proofs.Vocabulary.{ap, arith, refl, subst, sym, ◌*◌, ◌+◌, ◌<◌, ◌∙◌}
-use Rattle.mk_objects.proofs.{Vocabulary.{PassState, TurnState, WipesTo}, WipedWords.{found_wiped, look_may}}
-use Rattle.mk_objects.proofs.WipedWords.{looks_then, wipe_may, wipes_on}
-use Rattle.mk_objects.proofs.{wiping.wipe_words.Goals.{else-found-ne0, then-found-ne0}, WipedRuns.wiped_from}
+use Rattle.mk_objects.proofs.Vocabulary.{PassState, TurnState, WipesTo}
+use Rattle.mk_objects.proofs.WipedWords.{found_wiped, look_may, looks_then, wipe_may, wipes_on}
+use Rattle.mk_objects.proofs.wiping.wipe_words.Goals.{else-found-ne0, then-found-ne0}
+use Rattle.mk_objects.proofs.WipedRuns.{wiped_from}
 use Rattle.mk_objects.proofs.wiping.wipe_words.Goals as goal
 
 pub loop-word-init : goal.loop-word-init

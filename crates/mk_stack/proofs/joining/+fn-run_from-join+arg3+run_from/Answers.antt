@@ -1,8 +1,9 @@
-use Rattle.std.proofs.{Common.IfSome, Common.Ok, Common.length-drop, Common.rules, lemmas.List.Elements.All-pop}
+use Rattle.std.proofs.Common.{IfSome, Ok, length-drop, rules}
+use Rattle.std.proofs.lemmas.List.Elements.{All-pop}
 use Rattle.mk_stack.proofs.Vocabulary.{HasHandedOut, HaveWorked, HostState, Jobs, Joined, Replied, replied_to}
+use Rattle.mk_stack.proofs.JoinedJobs.{next_list, next_made, next_ready, next_unasked, no_lists, none_joined}
 use Rattle.mk_laws.proofs.Vocabulary.{List, Option, Some, ap, arith, drop, length, subst, sym, [], ◌+◌, ◌-◌, ◌<◌, ◌∙◌}
 use Rattle.mk_laws.proofs.Vocabulary.{◌≡◌}
-use Rattle.mk_stack.proofs.JoinedJobs.{next_list, next_made, next_ready, next_unasked, no_lists, none_joined}
 use Rattle.mk_stack.specs.Joining.{AreCallersFrom, HasWorked, IsBetweenJobs}
 use Rattle.mk_stack.proofs.joining.+fn-run_from-join+arg3+run_from.Goals as goal
 

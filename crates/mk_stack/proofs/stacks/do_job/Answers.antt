@@ -1,6 +1,7 @@
 use Rattle.mk_stack.proofs.Vocabulary.{Done, GoesToPoint, PassState, Starting}
+use Rattle.mk_stack.proofs.Going.{goes_through, jobs_on, seen_then}
+use Rattle.mk_stack.proofs.JobGoals.{fit_as, job_ends}
 use Rattle.mk_laws.proofs.Vocabulary.{subst}
-use Rattle.mk_stack.proofs.{Going.goes_through, Going.jobs_on, Going.seen_then, JobGoals.fit_as, JobGoals.job_ends}
 use Rattle.mk_stack.proofs.stacks.do_job.Goals as goal
 
 pub unreachable-requires : goal.unreachable-requires

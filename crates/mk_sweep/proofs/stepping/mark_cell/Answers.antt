@@ -1,6 +1,6 @@
 use Rattle.mk_sweep.proofs.Vocabulary.{Acts, IsEnabledTo, Step}
-use Rattle.mk_laws.proofs.Vocabulary.{subst, sym, ◌^◌}
 use Rattle.mk_sweep.proofs.SweepSteps.{may_mark_reached, on_mark, reached_within}
+use Rattle.mk_laws.proofs.Vocabulary.{subst, sym, ◌^◌}
 use Rattle.mk_tracing.proofs.Stilled.{mark_words}
 use Rattle.mk_sweep.proofs.stepping.mark_cell.Goals as goal
 

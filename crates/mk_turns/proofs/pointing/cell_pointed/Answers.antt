@@ -1,8 +1,11 @@
 use Rattle.std.proofs.Common.{ap, false, refl, subst, sym, true≢false, ◌<◌, ◌∙◌, ◌≡◌}
 use Rattle.mk_geom.specs.Addresses.{cell_at, is_heap_address}
-use Rattle.mk_core.specs.{Words.header_at, declared.events.Step.Step, declared.events.Word.Word}
+use Rattle.mk_core.specs.Words.{header_at}
+use Rattle.mk_core.specs.declared.events.Step.{Step}
+use Rattle.mk_core.specs.declared.events.Word.{Word}
 use Rattle.mk_turns.proofs.PointedCells.{found_by_header, found_there, header_hand, outside_none}
-use Rattle.mk_words.specs.{States.PassState, States.WordsState, States.now_of, TurnSteps.Acts}
+use Rattle.mk_words.specs.States.{PassState, WordsState, now_of}
+use Rattle.mk_words.specs.TurnSteps.{Acts}
 use Rattle.mk_turns.proofs.pointing.cell_pointed.Goals as goal
 
 pub returns-in_err-page-clause-looks : goal.returns-in_err-page-clause-looks

@@ -1,6 +1,6 @@
 use Rattle.mk_why.proofs.Vocabulary.{view_by}
-use Rattle.mk_laws.proofs.Vocabulary.{ℕ, arith, sym, ◌∙◌}
 use Rattle.mk_why.proofs.Lists.{cells_more, has_kept_at, kept_at, lists_cell, lists_nothing, lists_then}
+use Rattle.mk_laws.proofs.Vocabulary.{ℕ, arith, sym, ◌∙◌}
 use Rattle.mk_why.proofs.listing.list_cells.Goals as goal
 
 pub loop-index-init : goal.loop-index-init

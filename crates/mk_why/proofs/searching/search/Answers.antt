@@ -1,6 +1,8 @@
 use Rattle.mk_why.proofs.Vocabulary.{AreWays, Global, IsFound, IsNoted, IsSearched, Register, View, view_by}
-use Rattle.mk_why.proofs.{Vocabulary.word_of_root, Searches.{empty_search, noted_stays, part_noted, view_search}}
-use Rattle.mk_why.proofs.{Explored.{explored, roots_noted}, Looks.looks_then}
+use Rattle.mk_why.proofs.Vocabulary.{word_of_root}
+use Rattle.mk_why.proofs.Searches.{empty_search, noted_stays, part_noted, view_search}
+use Rattle.mk_why.proofs.Explored.{explored, roots_noted}
+use Rattle.mk_why.proofs.Looks.{looks_then}
 use Rattle.mk_laws.proofs.Vocabulary.{ℕ, subst, ◌<◌}
 use Rattle.mk_why.proofs.searching.search.Goals as goal
 

@@ -1,7 +1,7 @@
 use Rattle.std.proofs.Common.{below_more}
 use Rattle.mk_why.proofs.Vocabulary.{IsNoted, Register, view_by, word_of_root}
-use Rattle.mk_laws.proofs.Vocabulary.{ℕ, arith, ◌<◌}
 use Rattle.mk_why.proofs.Searches.{noted_stays, part_noted, searches_nothing, searches_then, view_search}
+use Rattle.mk_laws.proofs.Vocabulary.{ℕ, arith, ◌<◌}
 use Rattle.mk_why.proofs.searching.search_registers.Goals as goal
 
 pub loop-caller-init : goal.loop-caller-init

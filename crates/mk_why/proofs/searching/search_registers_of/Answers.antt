@@ -1,4 +1,5 @@
-use Rattle.mk_why.proofs.{Vocabulary.Register, Searches.{root_noted, searches_nothing, searches_then, view_search}}
+use Rattle.mk_why.proofs.Vocabulary.{Register}
+use Rattle.mk_why.proofs.Searches.{root_noted, searches_nothing, searches_then, view_search}
 use Rattle.mk_laws.proofs.Vocabulary.{arith}
 use Rattle.mk_why.proofs.searching.search_registers_of.Goals as goal
 

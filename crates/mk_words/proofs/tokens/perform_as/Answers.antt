@@ -1,9 +1,13 @@
 use Rattle.mk_laws.proofs.Vocabulary.{ℕ, ap, refl, subst, sym, ◌<◌, ◌∙◌, ◌≡◌}
-use Rattle.mk_core.specs.{Layout.IsOfTable, Layout.index_of, Words.becomes, declared.accesses.TableWord.TableWord}
+use Rattle.mk_core.specs.Layout.{IsOfTable, index_of}
+use Rattle.mk_core.specs.Words.{becomes}
+use Rattle.mk_core.specs.declared.accesses.TableWord.{TableWord}
 use Rattle.atomic_table.specs.Table.{Allows}
 use Rattle.mk_words.proofs.Owed.{names_word, perform_call, perform_keeps, perform_learns}
 use Rattle.mk_words.proofs.tokens.perform_as.Goals.{After-index_near-index}
-use Rattle.mk_words.specs.{Passes.state_of, Rule.Kept, Rule.adds, Rule.no_step, States.WordsState}
+use Rattle.mk_words.specs.Passes.{state_of}
+use Rattle.mk_words.specs.Rule.{Kept, adds, no_step}
+use Rattle.mk_words.specs.States.{WordsState}
 use Rattle.mk_words.proofs.tokens.perform_as.Goals as goal
 
 -- The number of pages at hand is the table's.

@@ -1,11 +1,19 @@
 use Rattle.mk_laws.proofs.Vocabulary.{None, Step, arith, refl, subst, sym, ◌∙◌}
-use Rattle.mk_cycle.{proofs.Allowed.{in_turn}, specs.{Begun.EachIsBegun, EngineLaw.IsAtPhase}}
-use Rattle.mk_heap.proofs.{BeforeOver.{hosts_seat, none_by_phase, step_overs}, HostsKept.{home_is, home_view, is_home}}
+use Rattle.mk_cycle.proofs.Allowed.{in_turn}
+use Rattle.mk_cycle.specs.Begun.{EachIsBegun}
+use Rattle.mk_cycle.specs.EngineLaw.{IsAtPhase}
+use Rattle.mk_heap.proofs.BeforeOver.{hosts_seat, none_by_phase, step_overs}
+use Rattle.mk_heap.proofs.HostsKept.{home_is, home_view, is_home}
 use Rattle.mk_heap.proofs.MovedHosts.{MovesOn, begin_moves, finish_moves, idle_moves, moved_is_host, moves_more}
-use Rattle.mk_heap.proofs.{Overs.{give_allowed, idle_may_give}, BegunHosts.cycle_begun, IdleTurns.cycle_idle}
-use Rattle.mk_heap.proofs.{Telling.{given_no_turn, given_phase}, UnsweptHosts.idle_then_sweeps}
-use Rattle.mk_heap.{proofs.hosts.Host.cycle.Goals.{After-finish_cycle-turn}, specs.Hosts.{HostState}}
-use Rattle.mk_turns.{proofs.Sweeping.{other_step_sweeps, sweeps_then}, specs.Sweeping.{SweepsNothing}}
+use Rattle.mk_heap.proofs.Overs.{give_allowed, idle_may_give}
+use Rattle.mk_heap.proofs.BegunHosts.{cycle_begun}
+use Rattle.mk_heap.proofs.IdleTurns.{cycle_idle}
+use Rattle.mk_heap.proofs.Telling.{given_no_turn, given_phase}
+use Rattle.mk_heap.proofs.UnsweptHosts.{idle_then_sweeps}
+use Rattle.mk_heap.proofs.hosts.Host.cycle.Goals.{After-finish_cycle-turn}
+use Rattle.mk_heap.specs.Hosts.{HostState}
+use Rattle.mk_turns.proofs.Sweeping.{other_step_sweeps, sweeps_then}
+use Rattle.mk_turns.specs.Sweeping.{SweepsNothing}
 use Rattle.mk_waiting.specs.Taking.{TakesTurn}
 use Rattle.mk_words.specs.States.{PassState}
 use Rattle.mk_heap.proofs.hosts.Host.cycle.Goals as goal

@@ -1,10 +1,15 @@
 use Rattle.mk_laws.proofs.Vocabulary.{refl, subst, sym}
-use Rattle.mk_cycle.{proofs.Allowed.in_turn, proofs.Allowed.in_turn_after, specs.EngineLaw.IsAtPhase}
+use Rattle.mk_cycle.proofs.Allowed.{in_turn, in_turn_after}
+use Rattle.mk_cycle.specs.EngineLaw.{IsAtPhase}
 use Rattle.mk_heap.proofs.MovedHosts.{idle_moves, moved_is_host, moves_more}
-use Rattle.mk_heap.proofs.{HomeCallers.callers_home, HostsKept.home_is, HostsKept.home_view, HostsKept.is_home}
-use Rattle.mk_heap.proofs.{IdleTurns.tidy_kept, Overs.give_allowed, Overs.over_keeps, Overs.over_may_give}
-use Rattle.mk_heap.proofs.{Telling.given_no_turn, UnsweptHosts.given_sweeps, UnsweptHosts.idle_then_sweeps}
-use Rattle.mk_heap.specs.{Ending.CallersAreJoined, Ending.SaysOver, Hosts.HostState}
+use Rattle.mk_heap.proofs.HomeCallers.{callers_home}
+use Rattle.mk_heap.proofs.HostsKept.{home_is, home_view, is_home}
+use Rattle.mk_heap.proofs.IdleTurns.{tidy_kept}
+use Rattle.mk_heap.proofs.Overs.{give_allowed, over_keeps, over_may_give}
+use Rattle.mk_heap.proofs.Telling.{given_no_turn}
+use Rattle.mk_heap.proofs.UnsweptHosts.{given_sweeps, idle_then_sweeps}
+use Rattle.mk_heap.specs.Ending.{CallersAreJoined, SaysOver}
+use Rattle.mk_heap.specs.Hosts.{HostState}
 use Rattle.mk_turns.specs.Sweeping.{SweepsNothing}
 use Rattle.mk_words.specs.States.{PassState}
 use Rattle.mk_heap.proofs.hosts.Host.over.Goals as goal

@@ -2,9 +2,14 @@ use Rattle.mk_laws.proofs.Vocabulary.{List, Step, â„•, ap, arith, subst, sym, â—
 use Rattle.mk_page_map.specs.KnownPages.{KnownPages}
 use Rattle.atomic_table.specs.Table.{rest}
 use Rattle.mk_words.proofs.HandingCalls.{order_of_view, take_access, take_order, take_tells, taken_learns, took}
-use Rattle.mk_words.proofs.{MapSteps.page_known, Owed.same_id, handing.SeatToken.take.Goals.After-exchange-home}
+use Rattle.mk_words.proofs.MapSteps.{page_known}
+use Rattle.mk_words.proofs.Owed.{same_id}
+use Rattle.mk_words.proofs.handing.SeatToken.take.Goals.{After-exchange-home}
 use Rattle.mk_words.specs.States.{PassState, WordsState, now_of}
-use Rattle.mk_words.specs.{PageMaps.IsMapOf, PageMaps.no_map, Passes.state_of, Rule.Mine, Steps.Tells}
+use Rattle.mk_words.specs.PageMaps.{IsMapOf, no_map}
+use Rattle.mk_words.specs.Passes.{state_of}
+use Rattle.mk_words.specs.Rule.{Mine}
+use Rattle.mk_words.specs.Steps.{Tells}
 use Rattle.mk_words.proofs.handing.SeatToken.take.Goals as goal
 
 pub take_as-found-requires-clause-one_table : goal.take_as-found-requires-clause-one_table

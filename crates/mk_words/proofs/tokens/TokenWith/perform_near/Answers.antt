@@ -1,5 +1,7 @@
 use Rattle.mk_laws.proofs.Vocabulary.{access, subst, sym, word_accessed, ◌≡◌}
-use Rattle.mk_words.specs.{Passes.state_of, States.PassState, States.event_of, States.now_of, Steps.May, Steps.Tells}
+use Rattle.mk_words.specs.Passes.{state_of}
+use Rattle.mk_words.specs.States.{PassState, event_of, now_of}
+use Rattle.mk_words.specs.Steps.{May, Tells}
 use Rattle.mk_words.proofs.tokens.TokenWith.perform_near.Goals as goal
 
 pub perform_as-requires-clause-one_table : goal.perform_as-requires-clause-one_table

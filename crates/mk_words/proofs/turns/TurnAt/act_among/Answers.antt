@@ -1,6 +1,9 @@
 use Rattle.mk_laws.proofs.Vocabulary.{subst}
-use Rattle.mk_words.{proofs.FreeTurns.hands_none, proofs.MapSteps.acted, proofs.MapSteps.shows_still}
-use Rattle.mk_words.{proofs.MapSteps.turn_with_map, proofs.TurnSteps.acts, specs.States.TurnState, specs.TurnSteps.Acts}
+use Rattle.mk_words.proofs.FreeTurns.{hands_none}
+use Rattle.mk_words.proofs.MapSteps.{acted, shows_still, turn_with_map}
+use Rattle.mk_words.proofs.TurnSteps.{acts}
+use Rattle.mk_words.specs.States.{TurnState}
+use Rattle.mk_words.specs.TurnSteps.{Acts}
 use Rattle.mk_words.proofs.turns.TurnAt.act_among.Goals as goal
 
 pub perform_among-requires-clause-hands_none : goal.perform_among-requires-clause-hands_none

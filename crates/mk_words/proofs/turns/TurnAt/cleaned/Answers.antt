@@ -1,5 +1,6 @@
 use Rattle.mk_laws.proofs.Vocabulary.{sym}
-use Rattle.mk_words.{proofs.MapSteps.{turn_that, map_cleaned, page_known}, specs.States.{now_of}}
+use Rattle.mk_words.proofs.MapSteps.{turn_that, map_cleaned, page_known}
+use Rattle.mk_words.specs.States.{now_of}
 use Rattle.mk_words.proofs.turns.TurnAt.cleaned.Goals as goal
 
 pub cleaned-requires : goal.cleaned-requires

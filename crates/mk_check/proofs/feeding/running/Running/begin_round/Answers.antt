@@ -1,5 +1,6 @@
 use Rattle.mk_check.proofs.Vocabulary.{Frame, Some, arith, innermost, length, sym, ◌∙◌, ◌≡◌}
-use Rattle.mk_check.proofs.{NextRounds.innermost_within, feeding.running.Running.begin_round.Goals.In-Some-Rounds}
+use Rattle.mk_check.proofs.NextRounds.{innermost_within}
+use Rattle.mk_check.proofs.feeding.running.Running.begin_round.Goals.{In-Some-Rounds}
 use Rattle.mk_check.proofs.feeding.running.Running.begin_round.Goals as goal
 
 last : (c : In-Some-Rounds) → innermost c.args.self.now.frames

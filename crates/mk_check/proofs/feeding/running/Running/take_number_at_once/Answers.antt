@@ -1,5 +1,6 @@
 use Rattle.mk_check.proofs.Vocabulary.{Place, ap, kept_in, with_kept, ◌∙◌}
-use Rattle.mk_check.{proofs.Sequels.number_at_line, proofs.Sequels.number_in_round, specs.Steps.with_value}
+use Rattle.mk_check.proofs.Sequels.{number_at_line, number_in_round}
+use Rattle.mk_check.specs.Steps.{with_value}
 use Rattle.mk_check.proofs.feeding.running.Running.take_number_at_once.Goals as goal
 
 pub returns-in-Asks-clause-taken : goal.returns-in-Asks-clause-taken
