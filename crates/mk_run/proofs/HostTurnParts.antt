@@ -85,7 +85,7 @@ turn_taken p taken own t history =
     subst (λ (r : PassState). Has r.seats r.seat) (sym t.waits.is) own in
     let taken_own : Has taken.seats taken.seat =
     subst (λ (r : PassState). Has r.seats r.seat) (sym (turn_moves p taken t).is) own in
-    in_turn taken None taken_own
+    in_turn taken taken_own
     (takes t.waited None 0 taken (record { makes = t.takes.makes; tells = t.takes.finds }) refl)
     history
 
