@@ -2,27 +2,35 @@
 use Rattle.mk_laws.proofs.Vocabulary.{Bool, Flight, Op, Progress, Stage, ℕ, begun, false, if◌then◌else◌, is_new_at}
 use Rattle.mk_laws.proofs.Vocabulary.{is_undecided_new, is_under_turn, progress_read, progress_reg, refl, stage_behind}
 use Rattle.mk_laws.proofs.Vocabulary.{stage_refused, steps_of, true, ◌==◌, ◌≡◌}
-use Rattle.mk_laws.proofs.Vocabulary.{List, [], ◌∷◌, list_any, not}
-use Rattle.mk_core.specs.Calls.{is_same_stage}
 use Rattle.mk_laws.proofs.Standings.{InCall, Resting, Standing, UnderTurn, is_astray, standing, standing_at}
 
 -- the stages of calls outside the turn, those of the turn's steps, and those of `reg`
 
-abbrev pub is_stage_among : List Stage → Stage → Bool
-is_stage_among stages s = list_any (is_same_stage s) stages
-
 abbrev pub is_call_stage : Stage → Bool
-is_call_stage s = not (is_stage_among (Stage.Idle ∷ Stage.LoadP ∷ Stage.Turn ∷ Stage.Give ∷ []) s)
+is_call_stage Stage.Idle = false
+is_call_stage Stage.LoadP = false
+is_call_stage Stage.Turn = false
+is_call_stage Stage.Give = false
+is_call_stage _ = true
 
 abbrev pub is_turn_stage : Stage → Bool
-is_turn_stage = is_stage_among (Stage.Turn ∷ Stage.Give ∷ [])
+is_turn_stage Stage.Turn = true
+is_turn_stage Stage.Give = true
+is_turn_stage _ = false
 
 abbrev pub is_reg_stage : Stage → Bool
-is_reg_stage = is_stage_among (Stage.LoadQ ∷ Stage.LoadP ∷ Stage.LoadR ∷ Stage.Store ∷ Stage.Put ∷ [])
+is_reg_stage Stage.LoadQ = true
+is_reg_stage Stage.LoadP = true
+is_reg_stage Stage.LoadR = true
+is_reg_stage Stage.Store = true
+is_reg_stage Stage.Put = true
+is_reg_stage _ = false
 
 -- `leave` ends a call, and `reg` at the last store goes to it at once
 abbrev pub goes_on : Stage → Bool
-goes_on s = not (is_stage_among (Stage.Leave ∷ Stage.Put ∷ []) s)
+goes_on Stage.Leave = false
+goes_on Stage.Put = false
+goes_on _ = true
 
 -- what a stage says of the standing, where the call isn't astray
 
