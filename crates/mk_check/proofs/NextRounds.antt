@@ -1,12 +1,12 @@
--- The end of a `repeat` that has a round left, whose body begins with an operation: the script stops there.
-use Rattle.std.proofs.Common.{slice_set}
+-- The end of a block after which an operation comes: the script stops there.
 use Rattle.mk_check.proofs.Vocabulary.{Frame, FrameIsWithin, FramesAreWithin, HasStopped, IsTree, List, Node, Place}
 use Rattle.mk_check.proofs.Vocabulary.{PlaceIsWithin, Some, ℕ, ap, asks_at, innermost, length, node_at, refl, subst}
-use Rattle.mk_check.proofs.Vocabulary.{take, true, ◌-◌, ◌<◌, ◌∙◌, ◌≡◌}
-use Rattle.mk_check.proofs.AsksFirst.{round_left, split_last}
+use Rattle.mk_check.proofs.Vocabulary.{take, true, ◌-◌, ◌∙◌, ◌≡◌, KeptState, arith, kept_in, sym, with_kept}
+use Rattle.mk_check.proofs.AsksFirst.{split_last}
 use Rattle.mk_check.proofs.AtOnce.{asks_so, stopped_here}
 use Rattle.mk_check.proofs.Moves.{FramesAreWithin_pop, end_goes_on}
 use Rattle.mk_check.proofs.TreeNodes.{is_at}
+use Rattle.mk_check.specs.Trees.{LeavesBlock, place_behind_block}
 
 pub innermost_within : (count : ℕ) (frames : List Frame) (f : Frame) → FramesAreWithin count frames
     → innermost frames ≡ Some f → FrameIsWithin count f
@@ -14,20 +14,37 @@ innermost_within count frames f w e =
     (FramesAreWithin_pop count (take (length frames - 1) frames) f
     (subst (λ (xs : List Frame). FramesAreWithin count xs) (split_last frames f e) w)).1
 
-pub round_begins : (nodes : List Node) (p t : Place) (rounds less body next : ℕ) → IsTree nodes
-    → PlaceIsWithin (length nodes) p → node_at nodes p.at ≡ Node.Done
-    → innermost p.frames ≡ Some (Frame.Rounds rounds body next) → 0 < rounds → less ≡ rounds - 1
-    → asks_at (node_at nodes body) ≡ true
-    → t ≡ record p { at = body; frames = slice_set p.frames (length p.frames - 1) (Frame.Rounds less body next) }
-    → HasStopped nodes p t
-round_begins nodes p t rounds less body next tree w e some one fewer asks is =
-    let moves = end_goes_on nodes (is_at tree w e) (round_left p t rounds less body next some one fewer is) in
-    let at : t.at ≡ body = ap (λ (x : Place). x.at) is in
+pub stops_behind_block : (nodes : List Node) (p t : Place) → IsTree nodes → PlaceIsWithin (length nodes) p
+    → node_at nodes p.at ≡ Node.Done → LeavesBlock p t → asks_at (node_at nodes t.at) ≡ true → HasStopped nodes p t
+stops_behind_block nodes p t tree w e leaves asks =
+    let moves = end_goes_on nodes (is_at tree w e) leaves in
     let stopped = stopped_here nodes t (node_at nodes t.at) tree moves.within refl
-    (asks_so t.numbers (node_at nodes t.at) (ap (λ (b : ℕ). asks_at (node_at nodes b)) at ∙ asks)) in
+    (asks_so t.numbers (node_at nodes t.at) asks) in
     record {
       within = stopped.within;
       at = stopped.at;
       run = stopped.run ∙ moves.run;
       fits = λ f. stopped.fits (moves.fits f);
     }
+
+-- what is kept stays where a block is left
+
+kept_behind_block : (p : Place) (f : Frame) → kept_in (place_behind_block p f) ≡ kept_in p
+kept_behind_block p x1 = grind arith
+
+pub kept_left : {p q : Place} → LeavesBlock p q → kept_in q ≡ kept_in p
+kept_left {p} l = ap kept_in l.is ∙ kept_behind_block (record p { frames = l.frames }) l.frame
+
+behind_with : (p : Place) (next : ℕ) (k : KeptState) (f : Frame)
+    → place_behind_block (with_kept (record p { at = next }) k) f ≡ with_kept (place_behind_block p f) k
+behind_with p next k x3 = grind arith
+
+-- nor does it matter to how a block is left
+pub left_with : {p q : Place} (next : ℕ) (k : KeptState) → LeavesBlock p q
+    → LeavesBlock (with_kept (record p { at = next }) k) (with_kept q k)
+left_with {p} next k l = record {
+  frame = l.frame;
+  frames = l.frames;
+  was = l.was;
+  is = ap (λ (x : Place). with_kept x k) l.is ∙ sym (behind_with (record p { frames = l.frames }) next k l.frame);
+}

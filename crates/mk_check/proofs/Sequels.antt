@@ -5,9 +5,9 @@ use Rattle.mk_check.proofs.Vocabulary.{arith, asks_at, false, if◌then◌else�
 use Rattle.mk_check.proofs.Vocabulary.{sequel_to, sequels_of, subst, sym, true, with_kept, ◌&&◌, ◌∙◌, ◌≡◌}
 use Rattle.mk_check.proofs.AtOnce.{asks_so, stopped_here}
 use Rattle.mk_check.proofs.Moves.{below_length}
-use Rattle.mk_check.proofs.NextRounds.{round_begins}
+use Rattle.mk_check.proofs.NextRounds.{kept_left, left_with, stops_behind_block}
 use Rattle.mk_check.proofs.TreeNodes.{is_at}
-use Rattle.mk_check.specs.AtOnce.{BeginsRound, TakesAtOnce}
+use Rattle.mk_check.specs.AtOnce.{LeavesToOp, TakesAtOnce}
 use Rattle.mk_check.specs.Steps.{is_show, is_silent, keeping_register, with_value}
 use Rattle.mk_check.specs.Feed.{is_refusal}
 use Rattle.mk_check.specs.Spots.{sequels_by}
@@ -91,14 +91,14 @@ module _ (nodes : List Node) (p : Place) (next : ℕ) (instruction : Instruction
         (asks_so (start a).numbers (node_at nodes next) asks));
   }
 
-  stops_in_round : (a : Answer) (q t : Place) → is_silent instruction a ≡ true → node_at nodes next ≡ Node.Done
-      → BeginsRound nodes p q → t ≡ with_kept q (after_answer instruction a (kept_in p))
+  stops_behind : (a : Answer) (q t : Place) → is_silent instruction a ≡ true → node_at nodes next ≡ Node.Done
+      → LeavesToOp nodes p q → t ≡ with_kept q (after_answer instruction a (kept_in p))
       → TakesAtOnce nodes next instruction a p t
-  stops_in_round a q t quiet ends b is = record {
+  stops_behind a q t quiet ends l is = record {
     silent = quiet;
-    stopped = round_begins nodes (start a) t b.rounds _ b.body b.behind tree
-        (record { at = w.at; frames = w.frames }) ends b.was b.left refl b.asks
-        (is ∙ ap (λ (x : Place). with_kept x (after_answer instruction a (kept_in p))) b.is);
+    stopped = subst (λ (x : Place). HasStopped nodes (start a) x) (sym is)
+        (stops_behind_block nodes (start a) (with_kept q (after_answer instruction a (kept_in p))) tree
+        (record { at = w.at; frames = w.frames }) ends (left_with next _ l.leaves) l.asks);
   }
 
 module _ (nodes : List Node) (p : Place) (tree : IsTree nodes) (w : PlaceIsWithin (length nodes) p) where
@@ -120,16 +120,16 @@ module _ (nodes : List Node) (p : Place) (tree : IsTree nodes) (w : PlaceIsWithi
         (is ∙ ap (λ (x : KeptState). with_kept (record p { at = next }) x) (sym after));
   }
 
-  in_round : (kept : Option ℕ) (next : ℕ) (a : Answer) (k : KeptState) (q t : Place) → is_refusal a ≡ false
-      → (l : IsLine nodes (node_at nodes p.at) next kept Sequel.Ends) → BeginsRound nodes p q
+  at_end : (kept : Option ℕ) (next : ℕ) (a : Answer) (k : KeptState) (q t : Place) → is_refusal a ≡ false
+      → (l : IsLine nodes (node_at nodes p.at) next kept Sequel.Ends) → LeavesToOp nodes p q
       → after_answer l.instruction a (kept_in p) ≡ k → t ≡ with_kept q k → TakesLine nodes a p t
-  in_round kept next a k q t accepted l begins after is = record {
+  at_end kept next a k q t accepted l leaves after is = record {
     line = l.line;
     instruction = l.instruction;
     next = next;
     here = l.is;
-    taken = stops_in_round nodes p next l.instruction tree (within_next l.line l.instruction next l.is) a q t
-        (silent l.instruction a accepted l.shown) (grind (arith, ends_not)) begins
+    taken = stops_behind nodes p next l.instruction tree (within_next l.line l.instruction next l.is) a q t
+        (silent l.instruction a accepted l.shown) (grind (arith, ends_not)) leaves
         (is ∙ ap (λ (x : KeptState). with_kept q x) (sym after));
   }
 
@@ -154,11 +154,11 @@ module _ (nodes : List Node) (p : Place) (tree : IsTree nodes) (w : PlaceIsWithi
         at_line (Some s.register) s.next (Answer.Num value) (with_value (kept_in p) s.register value) t refl l
         (number_kept l.instruction s.register value (kept_in p) l.keeps) is
 
-    pub number_in_round : (value : ℕ) (q t : Place) → s.kept ≡ Sequel.Ends → BeginsRound nodes p q
+    pub number_at_end : (value : ℕ) (q t : Place) → s.kept ≡ Sequel.Ends → LeavesToOp nodes p q
         → t ≡ with_kept q (with_value (kept_in p) s.register value) → TakesLine nodes (Answer.Num value) p t
-    number_in_round value q t e begins is =
+    number_at_end value q t e leaves is =
         let l = kept_here Sequel.Ends ends_is_known e in
-        in_round (Some s.register) s.next (Answer.Num value) (with_value (kept_in p) s.register value) q t refl l begins
+        at_end (Some s.register) s.next (Answer.Num value) (with_value (kept_in p) s.register value) q t refl l leaves
         (number_kept l.instruction s.register value (kept_in p) l.keeps) is
 
     pub none_at_line : (a : Answer) (t : Place) → is_refusal a ≡ false → s.unkept ≡ Sequel.Asks
@@ -167,9 +167,9 @@ module _ (nodes : List Node) (p : Place) (tree : IsTree nodes) (w : PlaceIsWithi
         let l = unkept_here Sequel.Asks asks_is_known e in
         at_line None s.next a (kept_in p) t accepted l (nothing_kept l.instruction a (kept_in p) l.shown l.keeps) is
 
-    pub none_in_round : (a : Answer) (t : Place) → is_refusal a ≡ false → s.unkept ≡ Sequel.Ends
-        → BeginsRound nodes p t → TakesLine nodes a p t
-    none_in_round a t accepted e begins =
+    pub none_at_end : (a : Answer) (t : Place) → is_refusal a ≡ false → s.unkept ≡ Sequel.Ends
+        → LeavesToOp nodes p t → TakesLine nodes a p t
+    none_at_end a t accepted e leaves =
         let l = unkept_here Sequel.Ends ends_is_known e in
-        in_round None s.next a _ t t accepted l begins (nothing_kept l.instruction a _ l.shown l.keeps) (begins.is ∙ ap
-        (λ (x : Place). with_kept x (kept_in p)) (sym begins.is))
+        at_end None s.next a _ t t accepted l leaves (nothing_kept l.instruction a _ l.shown l.keeps)
+        (ap (with_kept t) (kept_left leaves.leaves))

@@ -1,29 +1,23 @@
 -- A script that goes on at once after an answer.
 -- Private functions alone cite these words.
-use Rattle.std.specs.Prelude.{◌≡◌, ℕ, ◌<◌, ◌-◌, true, List, length, slice_set, Some}
+use Rattle.std.specs.Prelude.{◌≡◌, ℕ, ◌-◌, true, List, length, take}
 use Rattle.mk_core.specs.declared.events.Answer.{Answer}
 use Rattle.mk_check.specs.declared.feeding.instructions.Instruction.{Instruction}
 use Rattle.mk_check.specs.declared.feeding.tree.Node.{Node}
 use Rattle.mk_check.specs.Spots.{asks_at}
 use Rattle.mk_check.specs.Steps.{after_answer, is_silent}
-use Rattle.mk_check.specs.Trees.{HasStopped, Place, innermost, kept_in, node_at, with_kept}
+use Rattle.mk_check.specs.Trees.{HasStopped, LeavesBlock, Place, kept_in, node_at, with_kept}
 use Rattle.mk_check.specs.declared.feeding.tree.Node.TheVariants as node
-use Rattle.mk_check.specs.declared.feeding.tree.Frame.TheVariants as frame
 
--- The next round begins of the innermost block, a `repeat` whose body begins with an operation.
-pub record BeginsRound (nodes : List Node) (old new : Place) : Type 0 where
-  pub rounds : ℕ
-  pub body : ℕ
-  pub behind : ℕ
-  pub was : innermost old.frames ≡ Some (frame.Rounds rounds body behind)
-  pub left : 0 < rounds
-  pub asks : asks_at (node_at nodes body) ≡ true
-  pub is :
-      new
-      ≡ record old {
-        at = body;
-        frames = slice_set old.frames (length old.frames - 1) (frame.Rounds (rounds - 1) body behind);
-      }
+-- The innermost block is left, or begins its next round, and an operation comes next.
+pub record LeavesToOp (nodes : List Node) (old new : Place) : Type 0 where
+  pub leaves : LeavesBlock old new
+  pub asks : asks_at (node_at nodes new.at) ≡ true
+
+-- The innermost block is left for a node that asks for an operation.
+pub record ClosesToOp (nodes : List Node) (next : ℕ) (old new : Place) : Type 0 where
+  pub closes : new ≡ record old { at = next; frames = take (length old.frames - 1) old.frames }
+  pub asks : asks_at (node_at nodes next) ≡ true
 
 -- The instruction before node `next` takes an answer at which it prints nothing, and the script stops at the next
 -- operation.

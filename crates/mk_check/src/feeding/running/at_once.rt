@@ -1,6 +1,6 @@
 //! A script that goes on after an answer at which nothing is printed. No memory is taken.
-ghost use Rattle.std.specs.Prelude.{◌≡◌, length, false, IsTrue};
-ghost use Rattle.mk_check.specs.{AtOnce.{BeginsRound, TakesLine}, Feed.is_refusal, Spots.sequels_of};
+ghost use Rattle.std.specs.Prelude.{◌≡◌, ◌<◌, length, false, IsTrue};
+ghost use Rattle.mk_check.specs.{AtOnce.{ClosesToOp, LeavesToOp, TakesLine}, Feed.is_refusal, Spots.sequels_of};
 ghost use Rattle.mk_check.specs.Trees.{FramesAreWithin, IsTree, PlaceFits, PlaceIsWithin, node_at};
 ghost use Rattle.mk_core.specs.declared.events.Answer.TheVariants as answer;
 
@@ -9,25 +9,43 @@ use crate::feeding::tree::{Frame, Node, Sequel, Sequels, Tree};
 use mk_core::Answer;
 
 impl Running {
-    /// Begins the next round of the innermost block, where that is a `repeat` that has a round left and whose body
-    /// begins with an operation. Returns whether that is so.
+    /// Leaves the innermost block for this node, if it asks for an operation. Returns whether that is so. It isn't
+    /// inlined: most rounds aren't the last.
+    #[inline(never)]
+    fn close_to_op(&mut self, tree: &Tree, next: usize) -> bool
+        requires { next < length tree.now }
+        ensures closed { IsTrue result → ClosesToOp tree.now next self.old self.new }
+        ensures refused { result ≡ false → self.new ≡ self.old }
+    {
+        if !tree.asks(next) {
+            return false;
+        }
+        self.close(next);
+        true
+    }
+
+    /// Begins the next round of the innermost block, where that is a `repeat`, or leaves it where no round is left, if
+    /// an operation comes next. Returns whether that is so.
     #[inline(always)]
-    fn begin_round(&mut self, tree: &Tree) -> bool
+    fn leave_to_op(&mut self, tree: &Tree) -> bool
         requires { FramesAreWithin (length tree.now) self.old.frames }
-        ensures begun { IsTrue result → BeginsRound tree.now self.old self.new }
+        ensures left { IsTrue result → LeavesToOp tree.now self.old self.new }
         ensures refused { result ≡ false → self.new ≡ self.old }
     {
         let Some(Frame::Rounds { rounds, body, next }) = self.innermost() else {
             return false;
         };
-        if rounds == 0 || !tree.asks(body) {
+        if rounds == 0 {
+            return self.close_to_op(tree, next);
+        }
+        if !tree.asks(body) {
             return false;
         }
         self.go_round(rounds - 1, body, next);
         true
     }
 
-    /// Takes the number that is answered and goes on, where a register keeps it, and an operation or the end of a round
+    /// Takes the number that is answered and goes on, where a register keeps it, and an operation or the end of a block
     /// comes next. Returns whether that is so.
     #[inline(always)]
     fn take_number_at_once(&mut self, tree: &Tree, sequels: &Sequels, value: u64) -> bool
@@ -45,11 +63,11 @@ impl Running {
         let Sequel::Ends = sequels.kept else {
             return false;
         };
-        let begun = self.begin_round(tree);
-        if begun {
+        let left = self.leave_to_op(tree);
+        if left {
             self.set(sequels.register, value);
         }
-        begun
+        left
     }
 
     /// The same with an answer that no register keeps.
@@ -67,7 +85,7 @@ impl Running {
             return true;
         }
         if let Sequel::Ends = sequels.unkept {
-            return self.begin_round(tree);
+            return self.leave_to_op(tree);
         }
         false
     }
@@ -95,7 +113,7 @@ impl Running {
     }
 
     /// Takes an answer and goes on to the next operation, where that comes before anything is printed, with at most one
-    /// block left. Returns whether it does. Mostly an operation or the end of a round comes next, which `sequels` tell.
+    /// block left. Returns whether it does. Mostly an operation or the end of a block comes next, which `sequels` tell.
     #[inline(always)]
     pub fn answer_silently(&mut self, tree: &Tree, sequels: &Sequels, answer: Answer) -> bool
         requires tree { IsTree tree.now }

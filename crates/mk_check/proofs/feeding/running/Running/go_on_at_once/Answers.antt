@@ -1,5 +1,5 @@
 use Rattle.mk_check.proofs.Vocabulary.{Place, ap}
-use Rattle.mk_check.proofs.Sequels.{none_at_line, none_in_round}
+use Rattle.mk_check.proofs.Sequels.{none_at_line, none_at_end}
 use Rattle.mk_check.proofs.feeding.running.Running.go_on_at_once.Goals as goal
 
 pub returns-in-Asks-clause-taken : goal.returns-in-Asks-clause-taken
@@ -11,6 +11,6 @@ returns-in-Asks-clause-taken c =
 
 pub returns-in-Ends-clause-taken : goal.returns-in-Ends-clause-taken
 returns-in-Ends-clause-taken c = λ t.
-    none_in_round c.args.tree.now c.args.self.now c.requires.tree c.requires.within c.args.sequels.now
-    c.requires.sequels c.args.answer c.begin_round.new.self c.requires.accepted c.in-Ends.is
-    (c.begin_round.ensures.begun t)
+    none_at_end c.args.tree.now c.args.self.now c.requires.tree c.requires.within c.args.sequels.now
+    c.requires.sequels c.args.answer c.leave_to_op.new.self c.requires.accepted c.in-Ends.is
+    (c.leave_to_op.ensures.left t)
