@@ -59,10 +59,6 @@ reg_registers : (w : Words) (k : ℕ) (f : Flight) (st : Stage)
 reg_registers w k f Stage.Store = refl
 reg_registers w k f _ = cc
 
--- a begun call has loaded nothing
-begun_carries : (bs : List ℕ) (o : Op) (n : NeverState) (k : ℕ) → CarriesOwn bs n k (begun o)
-begun_carries bs x2 n k = grind arith
-
 begun_plain : (o : Op) → (is_past_probe (begun o).stage ≡ false) × (is_put (begun o).stage ≡ false)
 begun_plain (Op.New d ty full) = (refl, refl)
 begun_plain _ = (refl, refl)
@@ -90,7 +86,7 @@ module _ (c : Config) (w : World) (n : NeverState) (known : KnownWorld c w) (mir
   begins k o next x was = either_leads safe _ n k o (image_scene_of w) (x == 0) (record {
     flight = begun next;
     answer = None;
-  }) _ (λ z. flies_on safe _ n k o (begun next) was (begun_plain next).1 (begun_carries _ next n k)
+  }) _ (λ z. flies_on safe _ n k o (begun next) was (begun_plain next).1 (grind arith)
       (λ past. let y : false ≡ true = sym (begun_plain next).0 ∙ past in cc))
       (λ z. flies_on safe _ n k o (flight_of w.now (Caller k)) was was (ready.images.carried k) (ready.images.probed k))
 

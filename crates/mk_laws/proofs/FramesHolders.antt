@@ -1,4 +1,5 @@
 -- Who steps: the turn's holder, or a seat whose step no gate, phase or word of the turn's is asked for.
+use Rattle.std.proofs.Common.{arith}
 use Rattle.mk_laws.proofs.Vocabulary.{Caller, Config, Flight, Group, Holds, Marker, Moment, Seat, Step, ℕ, ap, false}
 use Rattle.mk_laws.proofs.Vocabulary.{group_of, has_gates, has_phase, holder_may, is_of_turn, refl, sym, true}
 use Rattle.mk_laws.proofs.Vocabulary.{true≢false, ◌∙◌, ◌≡◌}
@@ -35,7 +36,4 @@ pub data Asks (c : Config) (m : Moment) (s : Seat) (x : Step) : Type 0 where
   OfNone : ((n : Moment) (f : Flight) (phase : ℕ) → AsksNothing c n s f phase x) → Asks c m s x
 
 pub asks : (c : Config) (m : Moment) (s : Seat) (x : Step) → Actor c m s x → Asks c m s x
-asks c m s x (InCallOf k _ lt g) = OfNone (λ n f phase. call_asks_nothing c n (Caller k) f phase x g)
-asks c m s x (AsMarker k _ lt g) = OfNone (λ n f phase. marker_asks_nothing c n (Marker k) f phase x g)
-asks c m s x (AsHolder _ _ t n) = OfHolder t
-asks c m s x _ = OfNone (λ n f phase. record { gates = refl; phase = refl; holder = refl })
+asks c m s x actor = grind (arith, call_asks_nothing, marker_asks_nothing)

@@ -83,13 +83,11 @@ else_freed (Some r) y run e = inl e
 
 was_freed : (c : Config) (w : World) (seat : Seat) (f : Flight) (x : Step) (run : RunPages)
     → freed_behind c w seat f x ≡ Some run → WasFreed c w f run x
-was_freed c w seat f (Step.Take o) run e = Before (take_freed _ w.now.seats.holding run e) refl
-was_freed c w seat f Step.Give run e = cc
 was_freed c w seat f (Step.Quar p v) run e = elim (else_freed _ w.now.seats.holding.freed run e) [
   | inl new ↦ Now p v new
   | inr old ↦ Before old refl
 ]
-was_freed c w seat f _ run e = Before e refl
+was_freed c w seat f x run e = grind (arith, take_freed, Before)
 
 -- Who is under the turn after a step of its own was so, where somebody had the turn.
 
@@ -119,9 +117,7 @@ was_under c v seat u k _ e t h = h
 
 give_still : (c : Config) (m : Moment) (o : Op) (q p r l n : ℕ) (x : Step) → is_of_any_holder x ≡ true → gives x ≡ false
     → progress c m (flight Stage.Give o q p r l) n x ≡ still (flight Stage.Give o q p r l)
-give_still c m o q p r l n (Step.Quar y v) h g = grind arith
-give_still c m o q p r l n (Step.Look x) h g = grind (arith, flight)
-give_still c m o q p r l n _ h g = cc
+give_still c m o q p r l n x h g = grind (arith, flight)
 
 no_run : (w : Words) (b : Bool) (run : RunPages) → run_of_cell w (if b && false then None else None) ≡ Some run → ⊥
 no_run w true run e = cc
@@ -134,9 +130,7 @@ page_in None = 0
 -- what heads a run
 headed : (h : Option Header) (page : ℕ) (run : RunPages) → run_headed h page ≡ Some run
     → (run.page ≡ page) × (heads_run h ≡ true)
-headed (Some (Run count mapped)) page run e = (sym (ap page_in e), refl)
-headed (Some (LeafRun count)) page run e = (sym (ap page_in e), refl)
-headed _ page run e = cc
+headed h page run e = grind (arith, page_in)
 
 free_keeps : (n : NeverState) (v : Value) (k r : ℕ) → register_at (after_free n v) k r ≡ register_at n k r
 free_keeps n Null k r = refl

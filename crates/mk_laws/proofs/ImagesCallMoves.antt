@@ -1,4 +1,5 @@
 -- The other kinds of a caller's call lead to what the images allow.
+use Rattle.std.proofs.Common.{arith}
 use Rattle.mk_laws.proofs.Vocabulary.{AccessIsAdmitted, Answer, Bool, CarriesOwn, Done, Flight, ImageScene, IsAdmitted}
 use Rattle.mk_laws.proofs.Vocabulary.{IsNumber, IsPointer, IsSafe, IsSound, Kind, List, Meets, NeverState, Num, Op}
 use Rattle.mk_laws.proofs.Vocabulary.{ProbedOwn, Ptr, Some, Stage, Unmapped, Value, ℕ, allocation_at, answer_of, ap}
@@ -28,12 +29,7 @@ meets_some n _ i P h = tt
 
 pub access_meets : (n : NeverState) (k : ℕ) (o : Op) → accesses o ≡ true → AccessIsAdmitted n k o
     → Meets n (register_at n k (q_of o)) (i_of o) (λ kind. Unit {0})
-access_meets n k (Op.GetNum q i) a h = meets_some n _ i IsNumber h
-access_meets n k (Op.SetNum q i m) a h = meets_some n _ i IsNumber h
-access_meets n k (Op.GetPtr d q i) a h = meets_some n _ i IsPointer h
-access_meets n k (Op.SetPtr q i p) a h = meets_some n _ i IsPointer h
-access_meets n k (Op.CasPtr q i p r) a h = meets_some n _ i IsPointer h
-access_meets n k _ a h = absurd (false≢true a)
+access_meets n k o a h = grind (arith, meets_some)
 
 -- after its `probe` an access carries what it did before
 pub record BehindProbe (s : Stage) (o : Op) : Type 0 where
@@ -214,9 +210,5 @@ module _ (listed : List ℕ) (safe : ℕ → Bool) (s : ImageScene) (n : NeverSt
       → g_of o < length s.globals → g_of o < length n.globals
       → LeadsBy safe s n k o (record s { globals = slice_set s.globals (g_of o) p })
       (onward (flight Stage.Setg o q p r l) (Some Answer.Done))
-  setg_leads (Op.SetGlobal g p') q p r l is a car lg ln = (
-    Shares k g p (flight Stage.Leave (Op.SetGlobal g p') q p r l) (register_at n k p')
-        (record { there = there; registers = long; was = rw is; bare = refl }) lg ln (car.p refl) (own_safe p'),
-    λ more. refl,
-  )
+  setg_leads (Op.SetGlobal g p') q p r l is a car lg ln = grind (arith, flight, own_safe, Shares)
   setg_leads _ q p r l is a car lg ln = cc

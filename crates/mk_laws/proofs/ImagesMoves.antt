@@ -4,16 +4,12 @@ use Rattle.mk_laws.proofs.Vocabulary.{PlacedAllocation, ProbedOwn, Ptr, Stage, V
 use Rattle.mk_laws.proofs.Vocabulary.{bases_of, d_of, false, flight_among, image_of, is_past_probe, is_put, is_unmapped}
 use Rattle.mk_laws.proofs.Vocabulary.{kinds_of, length, placed_at, shown, slice_index, slice_set, true, with_freed}
 use Rattle.mk_laws.proofs.Vocabulary.{with_global, with_new, with_register, with_word, words_of, [], ◌*◌, ◌++◌, ◌+◌}
-use Rattle.mk_laws.proofs.Vocabulary.{◌<◌, ◌∷◌, ◌≡◌, ◌≢◌}
+use Rattle.mk_laws.proofs.Vocabulary.{list_any, ◌<◌, ◌∷◌, ◌≡◌, ◌≢◌}
+use Rattle.mk_core.specs.Calls.{is_same_stage}
 
 -- nothing is carried, and nothing owed
 abbrev pub is_bare : Stage → Bool
-is_bare Stage.Idle = true
-is_bare Stage.Getg = true
-is_bare Stage.Dirty = true
-is_bare Stage.Leave = true
-is_bare Stage.Give = true
-is_bare _ = false
+is_bare s = list_any (is_same_stage s) (Stage.Idle ∷ Stage.Getg ∷ Stage.Dirty ∷ Stage.Leave ∷ Stage.Give ∷ [])
 
 -- the caller's call, of which nothing is owed, is over or decided after the event
 pub record Decides (s : ImageScene) (n : NeverState) (k : ℕ) (f : Flight) : Type 0 where

@@ -1,7 +1,7 @@
 -- What each kind of event makes of the terrain.
 use Rattle.mk_laws.proofs.Vocabulary.{Bool, Cell, Config, Flight, Granted, Ground, HasLayout, HeadStep, IsSized}
 use Rattle.mk_laws.proofs.Vocabulary.{ItCarves, ItDrops, ItEmpties, ItFrees, ItGivesBack, ItTakes, ItTakesSnapshot}
-use Rattle.mk_laws.proofs.Vocabulary.{ItUnmaps, LayoutStands, List, None, Object, Option, Place, PlacedAllocation}
+use Rattle.mk_laws.proofs.Vocabulary.{ItUnmaps, LayoutStands, List, None, Object, Option, Page, Place, PlacedAllocation}
 use Rattle.mk_laws.proofs.Vocabulary.{Placing, QuarantineStep, RunPages, Seat, Some, Step, Unplaced, Used, UsedStep}
 use Rattle.mk_laws.proofs.Vocabulary.{Words, World, ℕ, and_parts, and_right, ap, arith, cases_Bool, cell_freed, chosen}
 use Rattle.mk_laws.proofs.Vocabulary.{claims_of, eqb-true, false, false_from_ne_true, flight_of, freed_cell}
@@ -79,15 +79,16 @@ module _ (c : Config) (w : World) (seat : Seat) (b : Before c w) (laid : LayoutS
   sized : is_undecided_new f ≡ true → IsSized o
   sized new = made_sized c w.now seat b.limits b.known new
 
-  -- `head`
-  abbrev HeadBehind : ℕ → ℕ → Bool → Option Place → Type 0
-  HeadBehind p n releasing place = Laid c (object_now c w.now) releasing w (record (ground_of w) {
-    pages = with_header_on w.now.words.pages p n;
-    placing = if releasing then w.now.seats.holding.placing else chosen w.now.seats.holding.placing place;
+  -- other pages, and another placing where no cycle releases
+  abbrev PagesBehind : List Page → (Placing → Option Place → Placing) → Bool → Option Place → Type 0
+  PagesBehind pages change releasing place = Laid c (object_now c w.now) releasing w (record (ground_of w) {
+    pages = pages;
+    placing = if releasing then w.now.seats.holding.placing else change w.now.seats.holding.placing place;
   })
 
+  -- `head`
   head_by : (p n : ℕ) → seat_exists c seat ≡ true → p < length w.now.words.pages → HeadStep c w.now f p n
-      → HeadBehind p n four found
+      → PagesBehind (with_header_on w.now.words.pages p n) chosen four found
   head_by p n there lt (ItCarves off x) =
       let placed = placed_now c w.now f x.place x.there in
       let same = own there placed.new in
@@ -96,7 +97,8 @@ module _ (c : Config) (w : World) (seat : Seat) (b : Before c w) (laid : LayoutS
       (head_carves c o w x.place p n (rw same at was) (sized placed.new) placed.placed x.next)))
   head_by p n there lt (ItUnmaps off x) = rw off (by found refl)
     where
-      by : (place : Option Place) → found ≡ place → HeadBehind p n false place
+      by : (place : Option Place) → found ≡ place
+          → PagesBehind (with_header_on w.now.words.pages p n) chosen false place
       by (Some place) at =
           let new = (placed_now c w.now f place at).new in
           absurd (no_run c w.now seat b.known (new_has_turn c w.now seat there new) (undecided_new f new).stage x.run
@@ -106,14 +108,8 @@ module _ (c : Config) (w : World) (seat : Seat) (b : Before c w) (laid : LayoutS
   head_by p n there lt (ItEmpties on x) = rw on (head_empties c _ w p n lt (rw on at laid) x)
 
   -- `used`
-  abbrev UsedBehind : ℕ → ℕ → Bool → Option Place → Type 0
-  UsedBehind p n releasing place = Laid c (object_now c w.now) releasing w (record (ground_of w) {
-    pages = with_used_on w.now.words.pages p n;
-    placing = if releasing then w.now.seats.holding.placing else taken w.now.seats.holding.placing place;
-  })
-
   used_by : (p n : ℕ) → seat_exists c seat ≡ true → p < length w.now.words.pages → UsedStep c w.now f p n
-      → UsedBehind p n four found
+      → PagesBehind (with_used_on w.now.words.pages p n) taken four found
   used_by p n there lt (ItTakes off once x) =
       let placed = placed_now c w.now f x.place x.there in
       let same = own there placed.new in

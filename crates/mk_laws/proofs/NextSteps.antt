@@ -1,8 +1,9 @@
 -- Which stage of a call each step comes at.
 use Rattle.mk_laws.proofs.Vocabulary.{Bool, Group, None, Op, Some, Stage, Step, comes_next, false, group_of}
-use Rattle.mk_laws.proofs.Vocabulary.{is_under_turn, not-true, refl, true, ◌≡◌}
+use Rattle.mk_laws.proofs.Vocabulary.{is_under_turn, not, not-true, refl, true, ◌≡◌}
 use Rattle.mk_laws.proofs.Stages.{is_reg_stage, is_turn_stage}
 use Rattle.mk_core.specs.Order.{is_of_any_holder, may_decide_new}
+use Rattle.mk_core.specs.Calls.{is_same_stage}
 
 abbrev pub is_take : Step → Bool
 is_take (Step.Take o) = true
@@ -43,15 +44,7 @@ stage_of Step.Dirty = Stage.Dirty
 stage_of _ = Stage.Idle
 
 abbrev pub has_stage_of_its_own : Step → Bool
-has_stage_of_its_own Step.Leave = true
-has_stage_of_its_own Step.Probe = true
-has_stage_of_its_own Step.Read = true
-has_stage_of_its_own Step.Write = true
-has_stage_of_its_own Step.Cas = true
-has_stage_of_its_own Step.Getg = true
-has_stage_of_its_own Step.Setg = true
-has_stage_of_its_own Step.Dirty = true
-has_stage_of_its_own _ = false
+has_stage_of_its_own x = not (is_same_stage (stage_of x) Stage.Idle)
 
 not_of_turn : (x : Step) → has_stage_of_its_own x ≡ true → group_of x ≡ Group.Turn → ⊥
 not_of_turn Step.Leave own turn = cc

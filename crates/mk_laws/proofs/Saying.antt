@@ -19,6 +19,15 @@ use Rattle.mk_laws.proofs.Reached.{Reaches, reaches}
 use Rattle.mk_core.proofs.PlacesNow.{target_is}
 use Rattle.mk_core.proofs.StandingAllocations.{run_cell}
 use Rattle.mk_laws.specs.ImagesSay.{IsCellOfUnreleased, IsMappedWord}
+use Rattle.mk_laws.proofs.Vocabulary.{Bool, [], is_under_turn, list_any, ◌∷◌}
+use Rattle.mk_core.specs.Calls.{is_same_stage}
+use Rattle.mk_laws.proofs.NextSteps.{has_stage_of_its_own, stage_of}
+
+abbrev is_storing : Stage → Bool
+is_storing s = list_any (is_same_stage s) (Stage.Write ∷ Stage.Cas ∷ [])
+
+storing_calls : (s : Stage) → is_storing s ≡ true → is_call_stage s ≡ true
+storing_calls s h = grind arith
 
 module _ (c : Config) (w : World) (n : NeverState) (known : KnownWorld c w) (others : ImagePremises c w)
     (mirrors : Mirrors c w n) where
@@ -100,44 +109,40 @@ module _ (c : Config) (w : World) (n : NeverState) (known : KnownWorld c w) (oth
       → IsMappedWord c w ((q - 65536) / 8 + i)
   reached_word k i q v P to = grind (arith, exists_placed, words_fit, unmapped_is)
 
-  write_word : (k : ℕ) (o : Op) (q p r l : ℕ) → is_astray (standing_at Stage.Write o) ≡ false
-      → CarriesOwn (bases_of w.allocations) n k (flight Stage.Write o q p r l)
-      → ProbedOwn n k (flight Stage.Write o q p r l)
+  -- at `write` and at `cas`
+  access_word : (k : ℕ) (s : Stage) (o : Op) (q p r l : ℕ) → is_storing s ≡ true → is_astray (standing_at s o) ≡ false
+      → CarriesOwn (bases_of w.allocations) n k (flight s o q p r l) → ProbedOwn n k (flight s o q p r l)
       → IsAdmitted c.globals n k o → IsMappedWord c w ((q - 65536) / 8 + i_of o)
-  write_word k (Op.SetNum q' i m) q p r l a car pro ad = reached_word k i q _ IsNumber (reaches _ mirrors.safe.0 _ n
-      ready _ q i IsNumber (car.q refl) (car.some_q refl) (own_sound k q') (own_safe k q') (pro refl) ad.access)
-  write_word k (Op.SetPtr q' i p') q p r l a car pro ad = reached_word k i q _ IsPointer (reaches _ mirrors.safe.0 _ n
-      ready _ q i IsPointer (car.q refl) (car.some_q refl) (own_sound k q') (own_safe k q') (pro refl) ad.access)
-  write_word k _ q p r l a car pro ad = cc
+  access_word k Stage.Write (Op.SetNum q' i m) q p r l is a car pro ad = reached_word k i q _ IsNumber
+      (reaches _ mirrors.safe.0 _ n ready _ q i IsNumber (car.q refl) (car.some_q refl) (own_sound k q')
+      (own_safe k q') (pro refl) ad.access)
+  access_word k Stage.Write (Op.SetPtr q' i p') q p r l is a car pro ad = reached_word k i q _ IsPointer
+      (reaches _ mirrors.safe.0 _ n ready _ q i IsPointer (car.q refl) (car.some_q refl) (own_sound k q')
+      (own_safe k q') (pro refl) ad.access)
+  access_word k Stage.Cas (Op.CasPtr q' i p' r') q p r l is a car pro ad = reached_word k i q _ IsPointer
+      (reaches _ mirrors.safe.0 _ n ready _ q i IsPointer (car.q refl) (car.some_q refl) (own_sound k q')
+      (own_safe k q') (pro refl) ad.access)
+  access_word k _ _ q p r l is a car pro ad = cc
 
-  cas_word : (k : ℕ) (o : Op) (q p r l : ℕ) → is_astray (standing_at Stage.Cas o) ≡ false
-      → CarriesOwn (bases_of w.allocations) n k (flight Stage.Cas o q p r l)
-      → ProbedOwn n k (flight Stage.Cas o q p r l)
-      → IsAdmitted c.globals n k o → IsMappedWord c w ((q - 65536) / 8 + i_of o)
-  cas_word k (Op.CasPtr q' i p' r') q p r l a car pro ad = reached_word k i q _ IsPointer (reaches _ mirrors.safe.0 _ n
-      ready _ q i IsPointer (car.q refl) (car.some_q refl) (own_sound k q') (own_safe k q') (pro refl) ad.access)
-  cas_word k _ q p r l a car pro ad = cc
+  stored_at : (k : ℕ) (x : Step) → has_stage_of_its_own x ≡ true → is_storing (stage_of x) ≡ true
+      → MeetsAll c w.now (record { seat = Caller k; step = x })
+      → (is_under_turn (flight_of w.now (Caller k)).op ≡ false
+      → IsAdmitted c.globals n k (flight_of w.now (Caller k)).op)
+      → IsMappedWord c w (word_met (flight_of w.now (Caller k)))
+  stored_at k x own is h admits =
+      let f = flight_of w.now (Caller k) in
+      let at = at_its_stage f.stage f.op x own h.order in
+      let a = not_astray c w.now known.now.orderly k (ltb-true k c.callers h.seat) in
+      let storing = ap is_storing at ∙ is in
+      access_word k f.stage f.op f.q f.p f.r f.loaded storing a (ready.images.carried k) (ready.images.probed k)
+      (admits (call_outside f.op f.stage (storing_calls f.stage storing) a))
 
   stored_word : (k : ℕ) (x : Step) → (x ≡ Step.Write) ⊎ (x ≡ Step.Cas)
       → MeetsAll c w.now (record { seat = Caller k; step = x })
       → AreAdmitted c.globals n (asked (call_decided c w.now (record { seat = Caller k; step = x })))
       → IsMappedWord c w (word_met (flight_of w.now (Caller k)))
-  stored_word k Step.Write is h ad =
-      let f = flight_of w.now (Caller k) in
-      let at = at_its_stage f.stage f.op Step.Write refl h.order in
-      let a = not_astray c w.now known.now.orderly k (ltb-true k c.callers h.seat) in
-      let lit = literal f Stage.Write at in
-      write_word k f.op f.q f.p f.r f.loaded (subst (λ (s : Stage). is_astray (standing_at s f.op) ≡ false) at a)
-      (rw lit at (ready.images.carried k)) (rw lit at (ready.images.probed k))
-      (admitted_call c.globals n k f.op _ (call_outside f.op f.stage (ap is_call_stage at) a) ad)
-  stored_word k Step.Cas is h ad =
-      let f = flight_of w.now (Caller k) in
-      let at = at_its_stage f.stage f.op Step.Cas refl h.order in
-      let a = not_astray c w.now known.now.orderly k (ltb-true k c.callers h.seat) in
-      let lit = literal f Stage.Cas at in
-      cas_word k f.op f.q f.p f.r f.loaded (subst (λ (s : Stage). is_astray (standing_at s f.op) ≡ false) at a)
-      (rw lit at (ready.images.carried k)) (rw lit at (ready.images.probed k))
-      (admitted_call c.globals n k f.op _ (call_outside f.op f.stage (ap is_call_stage at) a) ad)
+  stored_word k Step.Write is h ad = stored_at k Step.Write refl refl h (λ out. admitted_call _ _ k _ _ out ad)
+  stored_word k Step.Cas is h ad = stored_at k Step.Cas refl refl h (λ out. admitted_call _ _ k _ _ out ad)
   stored_word k _ (inl e) h ad = cc
   stored_word k _ (inr e) h ad = cc
 

@@ -1,36 +1,25 @@
 -- How the stages of a call follow one another.
 use Rattle.mk_laws.proofs.Vocabulary.{Bool, Flight, Op, Progress, Stage, ℕ, begun, false, if◌then◌else◌, is_new_at}
 use Rattle.mk_laws.proofs.Vocabulary.{is_undecided_new, is_under_turn, progress_read, progress_reg, refl, stage_behind}
-use Rattle.mk_laws.proofs.Vocabulary.{stage_refused, steps_of, true, ◌==◌, ◌≡◌}
+use Rattle.mk_laws.proofs.Vocabulary.{list_any, not, stage_refused, steps_of, true, [], ◌==◌, ◌∷◌, ◌≡◌}
 use Rattle.mk_laws.proofs.Standings.{InCall, Resting, Standing, UnderTurn, is_astray, standing, standing_at}
+use Rattle.mk_core.specs.Calls.{is_same_stage}
 
 -- the stages of calls outside the turn, those of the turn's steps, and those of `reg`
 
 abbrev pub is_call_stage : Stage → Bool
-is_call_stage Stage.Idle = false
-is_call_stage Stage.LoadP = false
-is_call_stage Stage.Turn = false
-is_call_stage Stage.Give = false
-is_call_stage _ = true
+is_call_stage s = not (list_any (is_same_stage s) (Stage.Idle ∷ Stage.LoadP ∷ Stage.Turn ∷ Stage.Give ∷ []))
 
 abbrev pub is_turn_stage : Stage → Bool
-is_turn_stage Stage.Turn = true
-is_turn_stage Stage.Give = true
-is_turn_stage _ = false
+is_turn_stage s = list_any (is_same_stage s) (Stage.Turn ∷ Stage.Give ∷ [])
 
 abbrev pub is_reg_stage : Stage → Bool
-is_reg_stage Stage.LoadQ = true
-is_reg_stage Stage.LoadP = true
-is_reg_stage Stage.LoadR = true
-is_reg_stage Stage.Store = true
-is_reg_stage Stage.Put = true
-is_reg_stage _ = false
+is_reg_stage s =
+    list_any (is_same_stage s) (Stage.LoadQ ∷ Stage.LoadP ∷ Stage.LoadR ∷ Stage.Store ∷ Stage.Put ∷ [])
 
 -- `leave` ends a call, and `reg` at the last store goes to it at once
 abbrev pub goes_on : Stage → Bool
-goes_on Stage.Leave = false
-goes_on Stage.Put = false
-goes_on _ = true
+goes_on s = not (list_any (is_same_stage s) (Stage.Leave ∷ Stage.Put ∷ []))
 
 -- what a stage says of the standing, where the call isn't astray
 
