@@ -1,22 +1,25 @@
 -- A call under the turn, from its parts: its caller has one entry more, which one event decides.
-use Rattle.mk_laws.proofs.Vocabulary.{calls_from}
 use Rattle.mk_alloc.proofs.Vocabulary.{Answer, AreOfOthers, Bool, CalledInTurn, Caller, Config, Decided, Event, Flight}
-use Rattle.mk_alloc.proofs.Vocabulary.{Has, InTurn, IsFresh, IsHistory, KeepsRegisters, List, Makes, Op, PassState}
-use Rattle.mk_alloc.proofs.Vocabulary.{Seat, Some, Step, TakesTurn, TurnGoesOn, TurnOf, World, ℕ, and_parts, ap}
-use Rattle.mk_alloc.proofs.Vocabulary.{append-nil, append_assoc, append_cancel_left, arith, at_rest, by_append, call_of}
-use Rattle.mk_alloc.proofs.Vocabulary.{caller_of_pass, calls, calls_by, calls_in_parts, entry_of, event_of, false}
-use Rattle.mk_alloc.proofs.Vocabulary.{is_one_of, is_same_seat, is_take, left, list_all, made, no_more_calls, not}
-use Rattle.mk_alloc.proofs.Vocabulary.{not-true, not_both, now_of, only_one, only_seen, only_seen_by, or_cases}
-use Rattle.mk_alloc.proofs.Vocabulary.{others_add_none, others_one, own_before, own_calls, pass_before, phase_of, refl}
-use Rattle.mk_alloc.proofs.Vocabulary.{subst, sym, true, turn_stays, waits_for, [], ⊎_elim, ◌&&◌, ◌++◌, ◌∙◌, ◌∷◌, ◌≡◌}
-use Rattle.mk_alloc.proofs.Decisions.{decided_in, registers_stay}
+use Rattle.mk_alloc.proofs.Vocabulary.{Has, InTurn, IsEnabled, IsEnabledTo, IsFresh, IsHistory, IsOutOfStop}
+use Rattle.mk_alloc.proofs.Vocabulary.{KeepsRegisters, List, Makes, Moment, Op, PassState, Seat, Some, Step, TakesTurn}
+use Rattle.mk_alloc.proofs.Vocabulary.{TurnGoesOn, TurnOf, World, ℕ, and_parts, ap, append-nil, append_assoc, arith}
+use Rattle.mk_alloc.proofs.Vocabulary.{at_rest, call_of, caller_of_pass, calls_by, entry_of, event_of, false, flight_of}
+use Rattle.mk_alloc.proofs.Vocabulary.{has_operands, is_one_of, is_same_seat, is_take, left, list_all, lt-ltb, made}
+use Rattle.mk_alloc.proofs.Vocabulary.{meets_enabled, no_more_calls, not, not-true, not_both, now_of, only_one}
+use Rattle.mk_alloc.proofs.Vocabulary.{only_seen, only_seen_by, or_cases, others_add_none, others_one, own_before}
+use Rattle.mk_alloc.proofs.Vocabulary.{own_calls, own_seat, pass_before, phase_of, refl, subst, sym, true, turn_stays}
+use Rattle.mk_alloc.proofs.Vocabulary.{waits_for, [], ⊎_elim, ◌&&◌, ◌++◌, ◌<◌, ◌∙◌, ◌∷◌, ◌≡◌, ◌⊎◌}
+use Rattle.mk_alloc.proofs.Decisions.{decided_in, own_more, registers_stay}
 use Rattle.mk_alloc.proofs.OwnGives.{GivesNone, doing_gives, gives_append, others_give}
-use Rattle.mk_alloc.proofs.Parts.{in_turn_then, others_lack, seen_after, seen_by, seen_then}
+use Rattle.mk_alloc.proofs.Parts.{IsHolders, in_turn_then, others_lack, seen_after, seen_by, seen_then}
 use Rattle.mk_alloc.proofs.Going.{IsCallers}
 use Rattle.mk_alloc.proofs.ListParts.{Lacks, SomeKind}
-use Rattle.mk_alloc.proofs.StepKinds.{IsHolders}
+use Rattle.mk_laws.proofs.Vocabulary.{is_under_turn, ◌≤◌}
+use Rattle.mk_laws.proofs.Asked.{give_phase}
 use Rattle.mk_alloc.specs.TurnCycles.{CallIsExact}
-use Rattle.mk_caller.specs.States.{never_of}
+use Rattle.mk_caller.specs.States.{IsIdleCaller, never_of}
+use Rattle.mk_words.proofs.OverPhases.{end_is_behind_over}
+use Rattle.mk_words.specs.Seats.{CallersAreBeforeOver}
 use Rattle.mk_words.specs.Steps.{may_decide}
 use Rattle.mk_words.proofs.{Seats.others_own, TurnSteps.takes as takes_turn, Undecided.decides_nothing}
 
@@ -30,13 +33,12 @@ of_others_alone p others seat own of_others =
 idle_adds : (p : PassState) (es : List Event) (s : Step) → may_decide s ≡ false
     → own_calls p (es ++ event_of p s ∷ []) ≡ own_calls p es
 idle_adds p es s idle =
-    ap (λ (l : List Decided). calls_by (caller_of_pass p) l)
-    (no_more_calls p.table.config es (event_of p s)
+    ap (λ (l : List Decided). calls_by (caller_of_pass p) l) (no_more_calls p.table.config es (event_of p s)
     (decides_nothing p.table.config (left p.table.config es).now p.seat s idle))
 
-pub step_adds_none : (p q : PassState) (s : Step) (m : Makes p s q) → IsCallers p → Has p.seats p.seat
+pub step_adds_none : {p q : PassState} {s : Step} (m : Makes p s q) → IsCallers p → Has p.seats p.seat
     → may_decide s ≡ false → own_calls p q.seen ≡ own_calls p p.seen
-step_adds_none p q s m seat own idle =
+step_adds_none {p} {s} m seat own idle =
     ap (λ (x : PassState). own_calls p x.seen) m.is ∙ idle_adds p (p.seen ++ m.others) s idle ∙ others_add_none _ _ _
     m.others (of_others_alone p m.others seat own m.of_others)
 
@@ -45,18 +47,13 @@ waits_add : (p : PassState) (es more : List Event) → IsCallers p → Has p.sea
 waits_add p es [] seat own all = ap (λ (l : List Event). own_calls p l) (append-nil es)
 waits_add p es (e ∷ rest) seat own all =
     let parts = and_parts (waits_for p e) (list_all (waits_for p) rest) all in
-    ap (λ (l : List Event). own_calls p l) (sym (append_assoc es (e ∷ []) rest))
-    ∙ waits_add p (es ++ e ∷ []) rest seat own parts.1
-    ∙ ⊎_elim
-    (λ (out : not (is_one_of p.seats e.seat) ≡ true).
-    others_add_none p.table.config (caller_of_pass p) es (e ∷ [])
-    (others_one (Caller (caller_of_pass p) ∷ []) e (λ has.
-    not_both p.seats e.seat (not-true (is_one_of p.seats e.seat) out)
-    (subst (λ (s : Seat). Has p.seats s) (seat ∙ sym (only_one (Caller (caller_of_pass p)) e.seat has)) own))))
-    (λ (take : (is_take e.step && is_same_seat e.seat p.seat) ≡ true).
-    ap (λ (l : List Decided). calls_by (caller_of_pass p) l)
-    (no_more_calls p.table.config es e (decides_nothing p.table.config (left p.table.config es).now e.seat e.step
-    (grind arith))))
+    ap (λ (l : List Event). own_calls p l) (sym (append_assoc es (e ∷ []) rest)) ∙ waits_add p (es ++ e ∷ []) rest seat
+    own parts.1 ∙ ⊎_elim (λ (out : not (is_one_of p.seats e.seat) ≡ true). others_add_none p.table.config
+    (caller_of_pass p) es (e ∷ []) (others_one (Caller (caller_of_pass p) ∷ []) e
+    (λ has. not_both p.seats e.seat (not-true (is_one_of p.seats e.seat) out) (subst (λ (s : Seat). Has p.seats s)
+    (seat ∙ sym (only_one (Caller (caller_of_pass p)) e.seat has)) own)))) (λ (take : (is_take e.step && is_same_seat
+    e.seat p.seat) ≡ true). ap (λ (l : List Decided). calls_by (caller_of_pass p) l) (no_more_calls p.table.config es e
+    (decides_nothing p.table.config (left p.table.config es).now e.seat e.step (grind arith))))
     (or_cases (not (is_one_of p.seats e.seat)) (is_take e.step && is_same_seat e.seat p.seat) parts.0)
 
 -- A caller took the turn for its operation.
@@ -84,20 +81,15 @@ module _ {o : Op} {p taken : PassState} (x : Taken o p taken) where
   pub taken_adds : own_calls p taken.seen ≡ own_calls p p.seen
   taken_adds =
       sym (ap (λ (y : PassState). own_calls y taken.seen) waited_same)
-      ∙ step_adds_none waited taken (Step.Take (Some o)) taking
-      (subst (λ (y : PassState). IsCallers y) (sym waited_same) x.seat) (own_before taking) refl
-      ∙ ap (λ (y : PassState). own_calls y waited.seen) waited_same
-      ∙ ap (λ (y : PassState). own_calls p y.seen) x.takes.waits.is
-      ∙ waits_add p p.seen x.takes.waits.more x.seat x.own x.takes.waits.only
+      ∙ step_adds_none taking (subst (λ (y : PassState). IsCallers y) (sym waited_same) x.seat) (own_before taking) refl
+      ∙ ap (λ (y : PassState). own_calls y waited.seen) waited_same ∙ ap (λ (y : PassState). own_calls p y.seen)
+      x.takes.waits.is ∙ waits_add p p.seen x.takes.waits.more x.seat x.own x.takes.waits.only
 
   -- It has the turn then.
   pub taken_turn : InTurn taken
   taken_turn = record {
     own = taking.pass.own;
-    holds = (takes_turn waited (Some o) 0 taken (record {
-      makes = taking;
-      tells = x.takes.takes.finds;
-    }) refl).holds;
+    holds = (takes_turn waited (Some o) 0 taken (record { makes = taking; tells = x.takes.takes.finds }) refl).holds;
     history = taking.pass.history;
   }
 
@@ -116,16 +108,13 @@ module _ {o : Op} {p taken : PassState} (x : Taken o p taken) where
       let k : ℕ = caller_of_pass p in
       let whole : IsHistory c (p.seen ++ to_taken) = subst (λ (l : List Event). IsHistory c l) taken_seen
       (subst (λ (y : PassState). IsHistory y.table.config taken.seen) taken_is taking.pass.history) in
-      let none : calls_by k (calls_from c (left c p.seen) to_taken) ≡ [] =
-      append_cancel_left (own_calls p p.seen) (calls_by k (calls_from c (left c p.seen) to_taken)) []
-      (sym (by_append k (calls c p.seen) (calls_from c (left c p.seen) to_taken))
-      ∙ ap (λ (l : List Decided). calls_by k l) (sym (calls_in_parts c p.seen to_taken))
-      ∙ ap (λ (l : List Event). own_calls p l) (sym taken_seen) ∙ taken_adds ∙ sym (append-nil (own_calls p p.seen))) in
+      let none = own_more c k p.seen to_taken [] (ap (λ (l : List Event). own_calls p l) (sym taken_seen) ∙ taken_adds
+      ∙ sym (append-nil (own_calls p p.seen))) in
       grind (arith, taken_is, taken_seen, registers_stay, to_taken, whole, KeepsRegisters)
 
-pub taken_same : (p taken : PassState) (o : Op) → IsCallers p → Has p.seats p.seat → TakesTurn p (Some o) taken
+pub taken_same : {p taken : PassState} {o : Op} → IsCallers p → Has p.seats p.seat → TakesTurn p (Some o) taken
     → taken ≡ record p { seen = taken.seen }
-taken_same p taken o seat own takes = taken_is (record { seat = seat; own = own; takes = takes })
+taken_same seat own takes = taken_is (record { seat = seat; own = own; takes = takes })
 
 -- It was answered in its turn, and gave it back.
 pub record GivenBack (o : Op) (a : Answer) (p taken done q : PassState) : Type 0 where
@@ -158,13 +147,11 @@ module _ {o : Op} {a : Answer} {p taken done q : PassState} (g : GivenBack o a p
 
   pub entry : own_calls p (p.seen ++ more) ≡ own_calls p p.seen ++ entry_of (caller_of_pass p) o (Some a)
   entry =
-      ap (λ (l : List Event). own_calls p l) (sym seen_is)
-      ∙ sym (ap (λ (y : PassState). own_calls y q.seen) done_is)
-      ∙ step_adds_none done q Step.Give g.gives
+      ap (λ (l : List Event). own_calls p l) (sym seen_is) ∙ sym (ap (λ (y : PassState). own_calls y q.seen) done_is)
+      ∙ step_adds_none g.gives
       (subst (λ (y : PassState). IsCallers y) (sym done_is) g.took.seat) (own_before g.gives) refl
       ∙ ap (λ (y : PassState). own_calls y done.seen)
-      (done_is ∙ sym (ap (λ (y : PassState). record y { seen = done.seen }) (taken_is g.took)))
-      ∙ g.on.entry
+      (done_is ∙ sym (ap (λ (y : PassState). record y { seen = done.seen }) (taken_is g.took))) ∙ g.on.entry
       ∙ ap (λ (l : List Decided). l ++ entry_of (caller_of_pass taken) (call_of taken).op (Some a))
       (ap (λ (y : PassState). own_calls y taken.seen) (taken_is g.took) ∙ taken_adds g.took)
       ∙ ap (λ (f : Flight). own_calls p p.seen ++ entry_of (caller_of_pass taken) f.op (Some a)) g.fresh.call
@@ -179,8 +166,7 @@ module _ {o : Op} {a : Answer} {p taken done q : PassState} (g : GivenBack o a p
   within_is part =
       ap (λ (y : PassState). y.seen ++ part) (taking g.took).is
       ∙ ap (λ (y : PassState). (took_at ++ record { seat = y.seat; step = Step.Take (Some o) } ∷ []) ++ part)
-      (waited_same g.took)
-      ∙ append_assoc took_at (record { seat = p.seat; step = Step.Take (Some o) } ∷ []) part
+      (waited_same g.took) ∙ append_assoc took_at (record { seat = p.seat; step = Step.Take (Some o) } ∷ []) part
 
   pub turn_is : done.seen ++ g.gives.others ≡ took_at ++ record { seat = p.seat; step = Step.Take (Some o) } ∷ in_turn
   turn_is = cc (seen_by g.on.does, append_assoc taken.seen g.on.does.more g.gives.others, within_is in_turn)
@@ -237,3 +223,32 @@ module _ {o : Op} {a : Answer} {p taken done q : PassState} (g : GivenBack o a p
     turn_part = refl;
     rest = g.rests;
   }
+
+-- A caller may take the turn for a New or a Free, and finds no stop, and not the end of all.
+
+pub callers : {p : PassState} → IsIdleCaller p → IsCallers p
+callers {p} idle = own_seat p idle.caller idle.seat
+
+-- the turn that an idle caller took, from the pass that it lent
+pub took_by : {home p taken : PassState} {o : Op} → home ≡ p → IsIdleCaller p → Has p.seats p.seat
+    → TakesTurn home (Some o) taken → Taken o p taken
+took_by {p = p} {taken = taken} {o = o} same idle own takes = grind (arith, callers)
+
+take_for : (c : Config) (m : Moment) (k : ℕ) (o : Op) → k < c.callers → flight_of m (Caller k) ≡ at_rest
+    → is_under_turn o ≡ true
+    → has_operands c o ≡ true → IsEnabled c m (record { seat = Caller k; step = Step.Take (Some o) })
+take_for c m k o lt rest under operands = grind (arith, meets_enabled, lt-ltb)
+
+pub take_allowed : {p : PassState} (o : Op) → IsIdleCaller p → caller_of_pass p < p.table.config.callers
+    → is_under_turn o ≡ true → has_operands p.table.config o ≡ true → IsEnabledTo p (Step.Take (Some o))
+take_allowed o idle lt under operands = grind (arith, callers, take_for)
+
+at_most_one : (n : ℕ) → n ≤ 1 → (n ≡ 0) ⊎ (n ≡ 1)
+at_most_one x0 le = grind arith
+
+-- Whose only seat is a caller's has seen no `over`.
+pub taken_phase : {p q : PassState} {o : Op} → IsCallers p → caller_of_pass p < p.table.config.callers
+    → p.seats ≡ p.seat ∷ [] → Has p.seats p.seat → TakesTurn p (Some o) q → IsFresh q (Some o)
+    → IsHistory q.table.config q.seen → CallersAreBeforeOver q.table.config q.seats q.seen → IsOutOfStop (now_of q)
+taken_phase seat lt alone own takes fresh history before =
+    grind (arith, give_phase, at_most_one, taken_same, end_is_behind_over, only_one)

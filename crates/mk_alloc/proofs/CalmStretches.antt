@@ -44,18 +44,18 @@ module _ (p : PassState) (seat : p.seat ≡ Caller (caller_of_pass p)) (own : Ha
       (λ has. ne (only_one (Caller (caller_of_pass p)) e.seat has ∙ sym seat))
 
   -- One event of another's decides none of the holder's calls,
-  pub other_undecided : (es : List Event) (e : Event) → Here p es e → e.seat ≢ p.seat
+  pub other_undecided : {es : List Event} {e : Event} → Here p es e → e.seat ≢ p.seat
       → GoesUndecided p es (es ++ e ∷ [])
-  other_undecided es e h ne = record {
+  other_undecided {es} {e} h ne = record {
     call = ap (λ (w : World). flight_of w.now p.seat) h.behind
         ∙ (left_after p.table.config (left p.table.config es) e.seat p.seat e.step h.known h.meets ne).own.flight;
     calls = others_add_none p.table.config (caller_of_pass p) es (e ∷ []) (not_own e ne);
   }
 
   -- nor does one of its own.
-  pub own_undecided : (es : List Event) (x : Step) → Here p es (event_of p x) → is_of_cycles x ≡ true
+  pub own_undecided : {es : List Event} (x : Step) → Here p es (event_of p x) → is_of_cycles x ≡ true
       → is_pending_free (call_in p es) ≡ false → GoesUndecided p es (es ++ event_of p x ∷ [])
-  own_undecided es x h kind free =
+  own_undecided {es} x h kind free =
       let c : Config = p.table.config in
       let m : Moment = (left c es).now in
       let st : (n : ℕ) → progress c m (flight_of m p.seat) n x ≡ still (flight_of m p.seat) = λ n.
@@ -66,18 +66,15 @@ module _ (p : PassState) (seat : p.seat ≡ Caller (caller_of_pass p)) (own : Ha
             (no_more_calls c es (event_of p x) (undecided c m p.seat x st));
       }
 
-  undecided_then : (es fs gs : List Event) → GoesUndecided p es fs → GoesUndecided p fs gs → GoesUndecided p es gs
-  undecided_then es fs gs a b = record { call = b.call ∙ a.call; calls = b.calls ∙ a.calls }
+  undecided_then : {es fs gs : List Event} → GoesUndecided p es fs → GoesUndecided p fs gs → GoesUndecided p es gs
+  undecided_then a b = record { call = b.call ∙ a.call; calls = b.calls ∙ a.calls }
 
-  pub goes_undecided : (es more : List Event) → is_pending_free (call_in p es) ≡ false
+  pub goes_undecided : {es more : List Event} → is_pending_free (call_in p es) ≡ false
       → Stretch p is_of_cycles es more → GoesUndecided p es (es ++ more)
-  goes_undecided es more free s =
-      along p is_of_cycles cycles_in_turn own (λ (l : List Event). GoesUndecided p es l)
-      (λ fs x h kind so_far.
-      undecided_then es fs (fs ++ event_of p x ∷ []) so_far
-      (own_undecided fs x h kind (ap (λ (f : Flight). is_pending_free f) so_far.call ∙ free)))
-      (λ fs e h ne so_far. undecided_then es fs (fs ++ e ∷ []) so_far (other_undecided fs e h ne))
-      es more s (record { call = refl; calls = refl })
+  goes_undecided {es} {more} free s =
+      along p is_of_cycles cycles_in_turn own (λ (l : List Event). GoesUndecided p es l) (λ fs x h kind so_far.
+      undecided_then so_far (own_undecided x h kind (ap (λ (f : Flight). is_pending_free f) so_far.call ∙ free))) (λ fs
+      e h ne so_far. undecided_then so_far (other_undecided h ne)) es more s (record { call = refl; calls = refl })
 
 -- The unreleased storage
 
@@ -95,28 +92,25 @@ pub record StaysReserved (p : PassState) (es fs : List Event) : Type 0 where
   pub storage : storage_in p fs ≡ storage_in p es
 
 module _ (p : PassState) (seat : p.seat ≡ Caller (caller_of_pass p)) (own : Has p.seats p.seat) where
-  other_storage : (es : List Event) (e : Event) → Here p es e → e.seat ≢ p.seat → storage_in p (es ++ e ∷ [])
+  other_storage : {es : List Event} {e : Event} → Here p es e → e.seat ≢ p.seat → storage_in p (es ++ e ∷ [])
       ≡ storage_in p es
-  other_storage es e h ne =
+  other_storage {es} {e} h ne =
       let c : Config = p.table.config in
       ap (λ (v : World). unreleased_storage c v.allocations) h.behind
       ∙ ap (λ (s : Steady). unreleased_storage c s.allocations)
       ((left_after c (left c es) e.seat p.seat e.step h.known h.meets ne).turn h.holds).steady
 
-  pub stays_reserved : (es more : List Event) → is_pending_free (call_in p es) ≡ false
+  pub stays_reserved : {es more : List Event} → is_pending_free (call_in p es) ≡ false
       → Stretch p releases_none es more → StaysReserved p es (es ++ more)
-  stays_reserved es more free s =
-      along p releases_none (λ x h. grind arith) own (λ (l : List Event). StaysReserved p es l)
-      (λ fs x h kind so_far.
+  stays_reserved {es} {more} free s =
+      along p releases_none (λ x h. grind arith) own (λ (l : List Event). StaysReserved p es l) (λ fs x h kind so_far.
       let pending = ap (λ (f : Flight). is_pending_free f) so_far.call ∙ free in
       record {
-        call = (own_undecided p seat own fs x h (grind arith) pending).call ∙ so_far.call;
+        call = (own_undecided p seat own x h (grind arith) pending).call ∙ so_far.call;
         storage = (let c : Config = p.table.config in
             let w : World = left c fs in
             cc (h.behind, storage_by c w.now (flight_of w.now p.seat) x w.allocations kind pending)) ∙ so_far.storage;
-      })
-      (λ fs e h ne so_far. record {
-        call = (other_undecided p seat own fs e h ne).call ∙ so_far.call;
-        storage = other_storage fs e h ne ∙ so_far.storage;
-      })
-      es more s (record { call = refl; storage = refl })
+      }) (λ fs e h ne so_far. record {
+        call = (other_undecided p seat own h ne).call ∙ so_far.call;
+        storage = other_storage h ne ∙ so_far.storage;
+      }) es more s (record { call = refl; storage = refl })

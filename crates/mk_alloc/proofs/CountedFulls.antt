@@ -1,32 +1,41 @@
 -- The three steps of a Full: the tally is looked at, raised, and the New decided.
 use Rattle.std.proofs.Common.{min}
-use Rattle.mk_laws.proofs.Vocabulary.{Tally, Word, ◌-◌, ◌^◌}
 use Rattle.mk_alloc.proofs.Vocabulary.{Acts, Answer, AnswersFull, BeginsNone, Caller, Config, Decided, Does, Done}
-use Rattle.mk_alloc.proofs.Vocabulary.{Ended, Event, Flight, Holding, IsAtPhase, IsQuiet, IsUnplaced, LeavesTurn, List}
-use Rattle.mk_alloc.proofs.Vocabulary.{Moment, None, Option, PassState, Placing, RunPages, Seat, Some, Stage, Steady}
-use Rattle.mk_alloc.proofs.Vocabulary.{Step, World, ℕ, answer_decided, ap, arith, by_append, call_decided, call_of}
-use Rattle.mk_alloc.proofs.Vocabulary.{caller_of_pass, calls, calls_by, calls_more, calm_keeps, ends, entry_of}
-use Rattle.mk_alloc.proofs.Vocabulary.{event_of, false, first_world, free_then, full_answers, fulls_append, fulls_of}
-use Rattle.mk_alloc.proofs.Vocabulary.{gates_behind, has_place, in_a_word, is_pending_free_at, is_run_gone, left, made}
-use Rattle.mk_alloc.proofs.Vocabulary.{now_of, object_for, others_add_none, own_before, own_calls, place_now_for, refl}
-use Rattle.mk_alloc.proofs.Vocabulary.{same_config, steady_of, subst, sum_by_push, sym, true, unchanged, world_of, []}
-use Rattle.mk_alloc.proofs.Vocabulary.{◌++◌, ◌+◌, ◌∙◌, ◌∷◌, ◌≡◌}
-use Rattle.mk_alloc.proofs.CalledTurns.{of_others_alone, step_adds_none}
-use Rattle.mk_alloc.proofs.QuietTurns.{but_full, exact_kept, none_held_kept, same_phase, tidy_kept}
+use Rattle.mk_alloc.proofs.Vocabulary.{Ended, Event, Flight, Holding, Holds, InTurn, IsAtPhase, IsEnabled, IsEnabledTo}
+use Rattle.mk_alloc.proofs.Vocabulary.{IsHistory, IsQuiet, IsTurn, IsUnplaced, LeavesTurn, List, Moment, None, Op}
+use Rattle.mk_alloc.proofs.Vocabulary.{Option, PassState, Placing, RunPages, Seat, Some, Stage, Steady, Step, World, ℕ}
+use Rattle.mk_alloc.proofs.Vocabulary.{acting_caller, answer_decided, ap, arith, asked, by_append, call_decided}
+use Rattle.mk_alloc.proofs.Vocabulary.{call_of, caller_of_pass, calls, calls_by, calls_more, calm_keeps, comes_next}
+use Rattle.mk_alloc.proofs.Vocabulary.{ends, entry_of, eq-eqb, event_of, false, first_world, flight_of, free_then}
+use Rattle.mk_alloc.proofs.Vocabulary.{full_answers, fulls_append, fulls_of, gates_behind, has_operands, has_place}
+use Rattle.mk_alloc.proofs.Vocabulary.{in_a_word, is_pending_free_at, is_run_gone, is_undecided_new, known_left, left}
+use Rattle.mk_alloc.proofs.Vocabulary.{lt-ltb, made, meets_enabled, new_is_acting, now_of, object_for, object_made}
+use Rattle.mk_alloc.proofs.Vocabulary.{others_add_none, own_before, own_calls, phase_of, place_now_for, refl}
+use Rattle.mk_alloc.proofs.Vocabulary.{same_config, steady_of, subst, sum_by_push, sym, true, unchanged, undecided_new}
+use Rattle.mk_alloc.proofs.Vocabulary.{world_of, [], ◌++◌, ◌+◌, ◌<◌, ◌∙◌, ◌∷◌, ◌≡◌}
+use Rattle.mk_alloc.proofs.Going.{IsCallers, but_full, exact_kept, none_held_kept, same_phase, tidy_kept}
 use Rattle.mk_alloc.proofs.SeekingTurns.{new_callers, still_nowhere, unplaced_kept}
 use Rattle.mk_alloc.proofs.Stretches.{SomeKinds, does_both, does_once, widened}
+use Rattle.mk_alloc.proofs.CalledTurns.{of_others_alone, step_adds_none}
+use Rattle.mk_alloc.proofs.FreedTurns.{given_is_decided}
 use Rattle.mk_alloc.proofs.FullLeaves.{leaves_then, made_leaves}
-use Rattle.mk_alloc.proofs.Going.{IsCallers}
-use Rattle.mk_alloc.proofs.GrantParts.{calm_last}
+use Rattle.mk_alloc.proofs.GrantParts.{calm_last, room_lacks}
 use Rattle.mk_alloc.proofs.OneCycles.{begins_none_by}
 use Rattle.mk_alloc.proofs.Parts.{Part, before_act}
 use Rattle.mk_alloc.proofs.PlacedTurns.{none_freed_yet}
-use Rattle.mk_alloc.proofs.RetiredTurns.{given_is_decided}
-use Rattle.mk_alloc.proofs.RoomParts.{room_lacks}
+use Rattle.mk_laws.proofs.Vocabulary.{AreAdmitted, Call, Tally, Unplaced, Word, is_new_at, map-append, place_on_pages}
+use Rattle.mk_laws.proofs.Vocabulary.{◌-◌, ◌^◌}
+use Rattle.mk_laws.proofs.InvariantTheorems.{first_fit_finds_the_place}
+use Rattle.mk_laws.proofs.LayoutHolders.{seat_operands}
+use Rattle.mk_never.proofs.Parts.{admitted_join}
+use Rattle.mk_core.specs.History.{IsAdmittedBehind, never_first}
 use Rattle.mk_caller.proofs.OwnSteps.{own_entry}
 use Rattle.mk_cycle.proofs.KeptInParts.{gates_then}
 use Rattle.mk_cycle.specs.TurnKeeps.{done_of}
-use Rattle.mk_words.specs.Steps.{Finds}
+use Rattle.mk_objects.proofs.Looks.{acting_now}
+use Rattle.mk_objects.proofs.MayAct.{new_admitted, new_in_range}
+use Rattle.mk_objects.proofs.Takes.{unplaced_settled}
+use Rattle.mk_words.specs.Steps.{Finds, IsAdmittedTo}
 
 abbrev counts_full : SomeKinds
 counts_full (Step.Look x) = true
@@ -145,10 +154,10 @@ module _ {p p1 p2 : PassState} {n v : ℕ} (quiet : IsQuiet p) (u : IsUnplaced p
         same_pass
         ∙ ap (λ (l : List Decided). l ++ entry_of (caller_of_pass p) (call_of p).op (Some Answer.Full))
         (sym (ap (λ (x : PassState). own_calls x p2.seen) k1.call.pass)
-        ∙ step_adds_none p1 p2 (Step.Tally Tally.Full v) tallies.makes
+        ∙ step_adds_none tallies.makes
         (subst (λ (x : PassState). IsCallers x) (sym k1.call.pass) seat) (own_before tallies.makes) refl
         ∙ ap (λ (x : PassState). own_calls x p1.seen) k1.call.pass
-        ∙ step_adds_none p p1 (Step.Look Word.Full) look.makes seat (own_before look.makes) refl)
+        ∙ step_adds_none look.makes seat (own_before look.makes) refl)
 
     all_steady : but_full (steady_of (world_of q)) ≡ but_full (steady_of (world_of p))
     all_steady = ap but_full steady_q ∙ steady
@@ -160,36 +169,31 @@ module _ {p p1 p2 : PassState} {n v : ℕ} (quiet : IsQuiet p) (u : IsUnplaced p
     config_q = ap (λ (x : PassState). x.table.config) pass_q
 
     quiet_q : IsQuiet q
-    quiet_q =
-        record {
-          free = record {
-            decided = ap (λ (f : Flight). is_pending_free_at f.op f.stage) call_q ∙ given_is_decided (call_of p).op;
-            unplaced =
-                ap (λ (h : Holding). has_place h.placing) holding_q
-                ∙ ap (λ (x : Placing). has_place x) tallied_unplaced.placing;
-            gone =
-                ap (λ (x : Option RunPages). is_run_gone (now_of q).words x)
-                (ap (λ (h : Holding). h.freed) holding_q ∙ none_freed_yet (before_act full) tallied_unplaced.new);
-          };
-          phase = same_phase p q (ap (λ (s : Steady). s.phase) all_steady) quiet.phase;
-          gates =
-              none_held_kept p q pass_q
-              (gates_then p p1 q k1.call.pass (gates_behind p (Step.Look Word.Full) p1 look refl)
-              (gates_then p1 p2 q k2.call.pass (gates_behind p1 (Step.Tally Tally.Full v) p2 tallies refl)
-              (gates_behind p2 Step.Full q full refl)))
-              quiet.gates;
-          exact = exact_kept p q pass_q all_steady quiet.exact;
-          tidy = tidy_kept p q all_steady ends_q
-              (ap (λ (s : Steady). s.full) steady_q ∙ (ap (λ (w : World). w.now.words.full) tallies.world)
-              ∙ raised_so n v (full_answers p.table.config p.seen) (full_answers p.table.config q.seen)
-              (found ∙ quiet.tidy.full) raised fulls_q
-              ∙ ap (λ (c : Config). in_a_word (full_answers c q.seen)) (sym config_q))
-              quiet.tidy;
-        }
+    quiet_q = record {
+      free = record {
+        decided = ap (λ (f : Flight). is_pending_free_at f.op f.stage) call_q ∙ given_is_decided (call_of p).op;
+        unplaced =
+            ap (λ (h : Holding). has_place h.placing) holding_q
+            ∙ ap (λ (x : Placing). has_place x) tallied_unplaced.placing;
+        gone =
+            ap (λ (x : Option RunPages). is_run_gone (now_of q).words x)
+            (ap (λ (h : Holding). h.freed) holding_q ∙ none_freed_yet (before_act full) tallied_unplaced.new);
+      };
+      phase = same_phase p q (ap (λ (s : Steady). s.phase) all_steady) quiet.phase;
+      gates =
+          none_held_kept p q pass_q (gates_then p p1 q k1.call.pass (gates_behind p (Step.Look Word.Full) p1 look refl)
+          (gates_then p1 p2 q k2.call.pass (gates_behind p1 (Step.Tally Tally.Full v) p2 tallies refl)
+          (gates_behind p2 Step.Full q full refl))) quiet.gates;
+      exact = exact_kept p q pass_q all_steady quiet.exact;
+      tidy = tidy_kept p q all_steady ends_q
+          (ap (λ (s : Steady). s.full) steady_q ∙ (ap (λ (w : World). w.now.words.full) tallies.world)
+          ∙ raised_so n v (full_answers p.table.config p.seen) (full_answers p.table.config q.seen)
+          (found ∙ quiet.tidy.full) raised fulls_q
+          ∙ ap (λ (c : Config). in_a_word (full_answers c q.seen)) (sym config_q)) quiet.tidy;
+    }
 
     does : Does counts_full p q
-    does =
-        does_both (does_once look.makes refl) (does_both (does_once tallies.makes refl) (does_once full.makes refl))
+    does = does_both (does_once look.makes refl) (does_both (does_once tallies.makes refl) (does_once full.makes refl))
 
     part : Part counts_full p q
     part = record { turn = before_act look; stays = λ x h. grind arith; does = does; history = full.makes.pass.history }
@@ -220,3 +224,74 @@ module _ {p p1 p2 : PassState} {n v : ℕ} (quiet : IsQuiet p) (u : IsUnplaced p
       leaves = leaves_then k1.call.pass (made_leaves look.makes refl refl)
           (leaves_then k2.call.pass (made_leaves tallies.makes refl refl) (made_leaves full.makes refl refl));
     }
+
+-- A New is answered Full: the tally is raised, and the call decided.
+
+-- It is enabled
+
+full_next : (s : Stage) (o : Op) → is_new_at s o ≡ true → comes_next s o Step.Full ≡ true
+full_next Stage.Turn (Op.New d ty full) h = refl
+full_next _ _ h = cc
+
+full_for : (c : Config) (m : Moment) (k : ℕ) → k < c.callers → is_undecided_new (flight_of m (Caller k)) ≡ true
+    → phase_of m.words ≡ 0 → m.seats.holding.placing ≡ Unplaced → m.seats.holding.cycle ≡ Ended
+    → place_on_pages c.resident m.words.pages (object_made c (flight_of m (Caller k)).op) ≡ None
+    → IsEnabled c m (record { seat = Caller k; step = Step.Full })
+full_for c m k lt new idle placing ended none =
+    let o = object_made c (flight_of m (Caller k)).op in
+    meets_enabled c m (record { seat = Caller k; step = Step.Full }) (record {
+      seat = lt-ltb k c.callers lt;
+      kind = refl;
+      order = full_next (flight_of m (Caller k)).stage (flight_of m (Caller k)).op new;
+      range = refl;
+      gates = refl;
+      phase = eq-eqb (phase_of m.words) 0 idle;
+      marker = refl;
+      holder = cc (placing, ended, none);
+    })
+
+pub full_allowed : {p : PassState} → InTurn p → IsUnplaced p → IsAtPhase p 0
+    → (now_of p).seats.holding.cycle ≡ Ended → place_now_for p ≡ None → IsEnabledTo p Step.Full
+full_allowed {p} t u idle ended none =
+    let turn : IsTurn p = record { holds = t.holds } in
+    let acts = new_is_acting (call_of p) u.new in
+    let fits = first_fit_finds_the_place p.table.config p.seen t.history (object_for p)
+    (unplaced_settled (acting_now turn acts) (acting_caller p acts) u t.history) ∙ none in
+    let seat = new_callers u in
+    subst (λ (s : Seat). caller_of_pass p < p.table.config.callers → is_undecided_new (flight_of (now_of p) s) ≡ true
+    → place_on_pages p.table.config.resident (now_of p).words.pages
+    (object_made p.table.config (flight_of (now_of p) s).op) ≡ None
+    → IsEnabled p.table.config (now_of p) (record { seat = s; step = Step.Full }))
+    (sym seat) (λ lt new fit. full_for p.table.config (now_of p) (caller_of_pass p) lt new idle u.placing ended fit)
+    ((subst (λ (s : Seat). Holds p.table.config (now_of p) s) seat t.holds).0) u.new fits
+
+-- and admitted.
+
+admitted_for : {c : Config} {es : List Event} (k : ℕ) → IsHistory c es → k < c.callers → is_undecided_new
+    (flight_of (left c es).now (Caller k)) ≡ true → has_operands c (flight_of (left c es).now (Caller k)).op ≡ true
+    → IsAdmittedBehind c es (record { seat = Caller k; step = Step.Full })
+admitted_for {c} {es} k h lt new operands =
+    let f : Flight = flight_of (left c es).now (Caller k) in
+    let n = undecided_new f new in
+    let ranges = new_in_range c n.d n.ty n.full n.op operands in
+    let more : asked (calls c (es ++ record { seat = Caller k; step = Step.Full } ∷ [])) ≡ asked
+    (calls c es) ++ record { caller = k; op = Op.New n.d n.ty true } ∷ [] =
+    ap (λ (ds : List Decided). asked ds) (calls_more c (first_world c) es
+    (record { seat = Caller k; step = Step.Full }))
+    ∙ map-append (λ (x : Decided). record { caller = x.caller; op = x.op }) (calls c es)
+    (entry_of k f.op (Some Answer.Full))
+    ∙ ap (λ (x : Op). asked (calls c es) ++ asked (entry_of k x (Some Answer.Full))) n.op in
+    subst (λ (xs : List Call). AreAdmitted c.globals (never_first c) xs) (sym more)
+    (admitted_join c.globals (never_first c) (asked (calls c es))
+    (record { caller = k; op = Op.New n.d n.ty true } ∷ [])
+    (h.admitted, (new_admitted c k n.d n.ty true (asked (calls c es)) lt ranges.0 ranges.1, tt)))
+
+pub full_admitted : {p : PassState} → InTurn p → IsUnplaced p → IsAdmittedTo p Step.Full
+full_admitted {p} t u =
+    let seat = new_callers u in
+    let operands = seat_operands p.table.config (now_of p) p.seat
+    (known_left p.table.config p.seen t.history.within_limits t.history.enabled) in
+    subst (λ (s : Seat). is_undecided_new (flight_of (now_of p) s) ≡ true → has_operands p.table.config
+    (flight_of (now_of p) s).op ≡ true → Holds p.table.config (now_of p) s → IsAdmittedBehind p.table.config p.seen
+    (record { seat = s; step = Step.Full })) (sym seat)
+    (λ new range holds. admitted_for (caller_of_pass p) t.history holds.0 new range) u.new operands t.holds

@@ -3,11 +3,11 @@ use Rattle.mk_alloc.proofs.Vocabulary.{BeginsCycle, Does, Event, FinishesCycle, 
 use Rattle.mk_alloc.proofs.Vocabulary.{Step, ap, append_assoc, arith, begins_marking, clears, event_of, false, finishes}
 use Rattle.mk_alloc.proofs.Vocabulary.{is_begin, is_close, is_end, is_giving_back, is_release, pass_before, refl}
 use Rattle.mk_alloc.proofs.Vocabulary.{sets_tallies, sym, true, [], ◌++◌, ◌∙◌, ◌∷◌, ◌≡◌}
-use Rattle.mk_alloc.proofs.Parts.{Part, behind_part, nothing_part, part_lacks, seen_behind, seen_then, step_behind}
+use Rattle.mk_alloc.proofs.Parts.{IsHolders, Part, behind_part, nothing_part, part_lacks, seen_behind, seen_then}
+use Rattle.mk_alloc.proofs.Parts.{step_behind}
 use Rattle.mk_alloc.proofs.Stretches.{SomeKinds, does_both, does_once, widened}
 use Rattle.mk_alloc.proofs.CalmStretches.{is_of_cycles}
 use Rattle.mk_alloc.proofs.ListParts.{Lacks, lacks_in_parts}
-use Rattle.mk_alloc.proofs.StepKinds.{IsHolders}
 
 -- The kinds of the parts are of cycles. Up to a `close` nothing is released, and after it no room is asked for.
 
@@ -106,8 +106,7 @@ finish_in p q own law t history =
     let gives : Part is_giving_back m.released m.freed =
     record { turn = y.turn; stays = λ x h. grind arith; does = m.frees; history = (pass_before m.end).history } in
     let z = step_behind gives m.end refl in
-    let more : List Event =
-    x.before ++ event_of r.closing Step.Close
+    let more : List Event = x.before ++ event_of r.closing Step.Close
     ∷ (y.before ++ event_of r.closed Step.Release ∷ (z.before ++ event_of m.freed Step.End ∷ m.behind.more)) in
     let is : q.seen ≡ p.seen ++ more =
     seen_then p.seen r.closed.seen q.seen (x.before ++ event_of r.closing Step.Close ∷ []) _ x.is

@@ -19,6 +19,14 @@ pub same_last : (xs ys zs : List Decided) → xs ++ ys ≡ xs ++ zs → ys ≡ z
 same_last [] ys zs h = h
 same_last (x ∷ xs) ys zs h = let tail : xs ++ ys ≡ xs ++ zs = cc in same_last xs ys zs tail
 
+-- What a caller's calls are more by is what it has of those since.
+pub own_more : (c : Config) (k : ℕ) (es more : List Event) (xs : List Decided)
+    → calls_by k (calls c (es ++ more)) ≡ calls_by k (calls c es) ++ xs
+    → calls_by k (calls_from c (left c es) more) ≡ xs
+own_more c k es more xs h =
+    same_last (calls_by k (calls c es)) _ xs (sym (by_append k (calls c es) (calls_from c (left c es) more))
+    ∙ ap (λ (l : List Decided). calls_by k l) (sym (calls_in_parts c es more)) ∙ h)
+
 none_left : (xs ys : List Decided) → xs ++ ys ≡ [] → (xs ≡ []) × (ys ≡ [])
 none_left [] ys h = (refl, h)
 none_left (x ∷ xs) ys h = cc
@@ -87,7 +95,7 @@ only_entry k j o (Some a) x h = by (j == k) h
     by false h = cc
 
 -- Calls among which the caller has none are of others.
-none_by : (k : ℕ) (xs : List Decided) → calls_by k xs ≡ [] → AreNotBy k (asked xs)
+pub none_by : (k : ℕ) (xs : List Decided) → calls_by k xs ≡ [] → AreNotBy k (asked xs)
 none_by k [] h = tt
 none_by k (x ∷ xs) h = by (x.caller == k) refl h (none_by k xs)
   where
@@ -97,10 +105,9 @@ none_by k (x ∷ xs) h = by (x.caller == k) refl h (none_by k xs)
     by false is none next = ((λ same. true≢false (sym (eq-eqb x.caller k same) ∙ is)), next none)
 
 -- They leave the caller its registers.
-pub registers_stay : (c : Config) (es more : List Event) (k : ℕ) → IsHistory c (es ++ more)
-    → calls_by k (calls_from c (left c es) more) ≡ []
-    → KeepsRegisters k (never_behind c es) (never_behind c (es ++ more))
-registers_stay c es more k h none =
+pub registers_stay : {c : Config} (es more : List Event) (k : ℕ) → IsHistory c (es ++ more) → calls_by k
+    (calls_from c (left c es) more) ≡ [] → KeepsRegisters k (never_behind c es) (never_behind c (es ++ more))
+registers_stay {c} es more k h none =
     subst (λ (m : NeverState). KeepsRegisters k (never_behind c es) m) (sym (never_in_parts c es more))
     (admitted_keep c.globals (never_behind c es) k (asked (calls_from c (left c es) more))
     ((admitted_in_parts c es more).0 h.admitted).1 (none_by k (calls_from c (left c es) more) none))
@@ -122,11 +129,7 @@ module _ (p : PassState) (o : Op) (a : Answer) (more : List Event) (history : Is
   x = record { caller = caller_of_pass p; op = flagged o a; answer = a }
 
   found : Decision c k (left c p.seen) more x
-  found =
-      decision c k (left c p.seen) more x
-      (same_last (own_calls p p.seen) (calls_by k (calls_from c (left c p.seen) more)) (x ∷ [])
-      (sym (by_append k (calls c p.seen) (calls_from c (left c p.seen) more))
-      ∙ ap (λ (l : List Decided). calls_by k l) (sym (calls_in_parts c p.seen more)) ∙ entry))
+  found = decision c k (left c p.seen) more x (own_more c k p.seen more (x ∷ []) entry)
 
   abbrev es : List Event
   es = p.seen ++ found.before
@@ -164,30 +167,27 @@ module _ (p : PassState) (o : Op) (a : Answer) (more : List Event) (history : Is
       ∙ found.none_behind
 
   pub decided_in : IsDecidedIn p (flagged o a) a more
-  decided_in =
-      record {
-        before = found.before;
-        event = found.event;
-        behind = found.behind;
-        is = found.is;
-        decides = decides ∙ ap (λ (y : Op). record { caller = k; op = y; answer = a } ∷ []) (sym (flagged_once o a));
-        reply = let one = let last = comes_last c es found.event through in
-            let st = stands c es last.before in
-            let f = one_event c (left c es) (never_behind c es) found.event st.known
-            (told_to_images c (left c es) (never_behind c es) st.known st.all) st.all.mirrors last.on last.admitted in
-            sym (ap (λ (l : List Decided). answered l) decides)
-            ∙ f.right []
-            ∙ ap (λ (bs : List ℕ). answers_of bs (replies_of (never_behind c es)
-            (asked (call_decided c (left c es).now found.event))))
-            (append-nil (bases_of (world_behind c (left c es) found.event).allocations))
-            ∙ ap (λ (w : World). answers_of (bases_of w.allocations)
-            (replies_of (never_behind c es) (asked (call_decided c (left c es).now found.event)))) (sym last.leaves)
-            ∙ ap (λ (l : List Decided). answers_of (bases_of (left c (es ++ found.event ∷ [])).allocations)
-            (replies_of (never_behind c es) (asked l))) decides in cc one;
-        known = registers_stay c p.seen found.before k (comes_last c es found.event through).before found.none_before;
-        left_so =
-            subst (λ (n : NeverState). KeepsRegisters k n (never_behind c (p.seen ++ more))) never
-            (subst (λ (l : List Event). KeepsRegisters k (never_behind c (es ++ found.event ∷ [])) (never_behind c l))
-            (sym cut)
-            (registers_stay c (es ++ found.event ∷ []) found.behind k whole behind_none));
-      }
+  decided_in = record {
+    before = found.before;
+    event = found.event;
+    behind = found.behind;
+    is = found.is;
+    decides = decides ∙ ap (λ (y : Op). record { caller = k; op = y; answer = a } ∷ []) (sym (flagged_once o a));
+    reply = let one = let last = comes_last c es found.event through in
+        let st = stands c es last.before in
+        let f = one_event c (left c es) (never_behind c es) found.event st.known
+        (told_to_images c (left c es) (never_behind c es) st.known st.all) st.all.mirrors last.on last.admitted in
+        sym (ap (λ (l : List Decided). answered l) decides) ∙ f.right []
+        ∙ ap (λ (bs : List ℕ). answers_of bs (replies_of (never_behind c es)
+        (asked (call_decided c (left c es).now found.event))))
+        (append-nil (bases_of (world_behind c (left c es) found.event).allocations))
+        ∙ ap (λ (w : World). answers_of (bases_of w.allocations)
+        (replies_of (never_behind c es) (asked (call_decided c (left c es).now found.event)))) (sym last.leaves)
+        ∙ ap (λ (l : List Decided). answers_of (bases_of (left c (es ++ found.event ∷ [])).allocations)
+        (replies_of (never_behind c es) (asked l))) decides in cc one;
+    known = registers_stay p.seen found.before k (comes_last c es found.event through).before found.none_before;
+    left_so =
+        subst (λ (n : NeverState). KeepsRegisters k n (never_behind c (p.seen ++ more))) never
+        (subst (λ (l : List Event). KeepsRegisters k (never_behind c (es ++ found.event ∷ [])) (never_behind c l))
+        (sym cut) (registers_stay (es ++ found.event ∷ []) found.behind k whole behind_none));
+  }

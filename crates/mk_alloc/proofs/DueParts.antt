@@ -2,19 +2,19 @@
 use Rattle.mk_alloc.proofs.Vocabulary.{At, Bool, EndsOlder, Event, FinishesCycle, InTurn, IsAtPhase, IsHistory, IsQuiet}
 use Rattle.mk_alloc.proofs.Vocabulary.{List, None, PassState, TurnGoesOn, ap, append-nil, append_assoc, arith}
 use Rattle.mk_alloc.proofs.Vocabulary.{cases_Bool, false, finishes, has_step, inl, inr, is_begin, is_close, is_end}
-use Rattle.mk_alloc.proofs.Vocabulary.{is_look, or_from, or_parts, refl, subst, sym, true, true≢false, turn_stays, []}
-use Rattle.mk_alloc.proofs.Vocabulary.{◌++◌, ◌∙◌, ◌∷◌, ◌≡◌}
+use Rattle.mk_alloc.proofs.Vocabulary.{is_look, or_from, or_parts, refl, subst, sym, true, true≢false, [], ◌++◌, ◌∙◌}
+use Rattle.mk_alloc.proofs.Vocabulary.{◌∷◌, ◌≡◌}
 use Rattle.mk_alloc.proofs.CycleParts.{BeginIn, EndsIn, begin_done, begin_in, begins_held, finish_done, finish_in}
 use Rattle.mk_alloc.proofs.Going.{IsCallers, begun_on, callers_then, finished_on, look_part, looked_on, on_then}
+use Rattle.mk_alloc.proofs.Going.{quiet_looked}
 use Rattle.mk_alloc.proofs.ListParts.{Lacks, SomeKind, lacks_append}
 use Rattle.mk_alloc.proofs.Parts.{behind_part, history_before, in_turn_then, part_lacks, seen_behind, seen_then}
 use Rattle.mk_alloc.proofs.CalmStretches.{cycles_in_turn, is_of_cycles}
-use Rattle.mk_alloc.proofs.QuietTurns.{quiet_looked}
-use Rattle.mk_alloc.specs.DueCycles.{RunsCycle}
 use Rattle.mk_laws.proofs.Longer.{longer_at}
+use Rattle.mk_alloc.specs.DueCycles.{RunsCycle}
 
-pub at_behind : (kind : SomeKind) (xs ys : List Event) → At kind ys → At kind (xs ++ ys)
-at_behind kind xs ys at = record {
+pub at_behind : {kind : SomeKind} (xs : List Event) {ys : List Event} → At kind ys → At kind (xs ++ ys)
+at_behind xs at = record {
   before = xs ++ at.before;
   event = at.event;
   behind = at.behind;
@@ -23,8 +23,8 @@ at_behind kind xs ys at = record {
 }
 
 -- An end that stands in the second of two lists stands in both.
-pub ends_behind : (xs ys : List Event) → Lacks is_close xs → EndsIn ys → EndsIn (xs ++ ys)
-ends_behind xs ys none e = record {
+pub ends_behind : (xs : List Event) {ys : List Event} → Lacks is_close xs → EndsIn ys → EndsIn (xs ++ ys)
+ends_behind xs none e = record {
   to_close = xs ++ e.to_close;
   close = e.close;
   to_release = e.to_release;
@@ -43,16 +43,15 @@ ends_behind xs ys none e = record {
 }
 
 -- or in the first
-pub ends_before : (xs ys : List Event) → EndsIn xs → EndsIn (xs ++ ys)
-ends_before xs ys e = grind (arith, append_assoc)
+pub ends_before : {xs : List Event} (ys : List Event) → EndsIn xs → EndsIn (xs ++ ys)
+ends_before ys e = grind (arith, append_assoc)
 
-pub end_at : (es : List Event) → EndsIn es → At is_end es
-end_at es e = record {
+pub end_at : {es : List Event} → EndsIn es → At is_end es
+end_at e = record {
   before = e.to_close ++ e.close ∷ (e.to_release ++ e.release ∷ e.to_end);
   event = e.end;
   behind = e.behind;
-  is = e.is
-      ∙ ap (λ (l : List Event). e.to_close ++ e.close ∷ l)
+  is = e.is ∙ ap (λ (l : List Event). e.to_close ++ e.close ∷ l)
       (sym (append_assoc e.to_release (e.release ∷ e.to_end) (e.end ∷ e.behind)))
       ∙ sym (append_assoc e.to_close (e.close ∷ (e.to_release ++ e.release ∷ e.to_end)) (e.end ∷ e.behind));
   of_kind = e.ends;
@@ -77,8 +76,7 @@ older_in {p} {q} t seat quiet e history = elim quiet.phase [
   | inl none ↦ let same : q ≡ e.looked = e.none none in
       let h = subst (λ (x : PassState). IsHistory x.table.config x.seen) same history in
       let look = look_part t e.looks.does h in
-      subst (λ (x : PassState). OlderIn p x) (sym same)
-      (record {
+      subst (λ (x : PassState). OlderIn p x) (sym same) (record {
         turn = behind_part look;
         on = looked_on t seat quiet e.looks h;
         more = look.does.more;
@@ -92,15 +90,14 @@ older_in {p} {q} t seat quiet e history = elim quiet.phase [
       let f = finish_in e.looked q t1.own law t1 history in
       record {
         turn = in_turn_then is_of_cycles e.looked q cycles_in_turn t1 (finish_done law) history;
-        on = on_then None p e.looked q (looked_on t seat quiet e.looks look.history)
-            (finished_on t1 (callers_then is_look p e.looked look.does seat)
-            (quiet_looked quiet e.looks) law history);
+        on = on_then (looked_on t seat quiet e.looks look.history)
+            (finished_on t1 (callers_then look.does seat) (quiet_looked quiet e.looks) law history);
         more = look.does.more ++ f.more;
         is = seen_then p.seen e.looked.seen q.seen look.does.more f.more (seen_behind is_look p e.looked look.does)
             f.is;
         begins_none = lacks_append is_begin look.does.more f.more (part_lacks is_begin look begins_held
             (λ x h. grind arith)) f.begins_none;
-        ended = λ here. at_behind is_end look.does.more f.more (end_at f.more f.ends);
+        ended = λ here. at_behind look.does.more (end_at f.ends);
       }
 ]
 
@@ -133,38 +130,33 @@ module _ {on : Bool} {p q : PassState} (t : InTurn p) (seat : IsCallers p) (quie
   ]
 
   old : OlderIn p run.idle
-  old = older_in t seat quiet run.older
-      (history_before is_of_cycles run.idle run.begun (begin_done run.begins) h_begun)
+  old = older_in t seat quiet run.older (history_before is_of_cycles run.idle run.begun (begin_done run.begins) h_begun)
 
   begun : BeginIn run.idle run.begun
   begun = begin_in run.idle run.begun old.turn.own run.begins old.turn h_begun
 
   on_begun : TurnGoesOn None p run.begun
-  on_begun = on_then None p run.idle run.begun old.on
-      (begun_on old.turn (callers_then turn_stays p run.idle old.on.does seat) old.on.quiet
-      run.begins h_begun)
+  on_begun = on_then old.on (begun_on old.turn (callers_then old.on.does seat) old.on.quiet run.begins h_begun)
 
   -- with what was seen after the begin of the cycle
   with_rest : (rest : List Event) → q.seen ≡ run.begun.seen ++ rest → Lacks is_begin rest → TurnGoesOn None p q
       → (on ≡ false → EndsIn rest) → (on ≡ true → Lacks finishes rest) → RunIn on p q
-  with_rest rest is none goes stopped goes_on =
-      record {
-        goes = goes;
-        first = old.more ++ begun.before;
-        begin = begun.begin;
-        second = begun.behind ++ rest;
-        is =
-            seen_then p.seen run.begun.seen q.seen _ rest
-            (seen_then p.seen run.idle.seen run.begun.seen old.more _ old.is begun.is) is
-            ∙ ap (λ (l : List Event). p.seen ++ l)
-            (run_list old.more begun.before begun.behind rest begun.begin);
-        begins = begun.begins;
-        none_first = lacks_append is_begin old.more begun.before old.begins_none begun.none_before;
-        none_second = lacks_append is_begin begun.behind rest begun.none_behind none;
-        stopped = λ off. ends_behind begun.behind rest (no_close begun.behind begun.finishes_none) (stopped off);
-        goes_on = λ keeps. lacks_append finishes begun.behind rest begun.finishes_none (goes_on keeps);
-        older = λ one. longer_at begun.before (old.ended one);
-      }
+  with_rest rest is none goes stopped goes_on = record {
+    goes = goes;
+    first = old.more ++ begun.before;
+    begin = begun.begin;
+    second = begun.behind ++ rest;
+    is =
+        seen_then p.seen run.begun.seen q.seen _ rest
+        (seen_then p.seen run.idle.seen run.begun.seen old.more _ old.is begun.is) is
+        ∙ ap (λ (l : List Event). p.seen ++ l) (run_list old.more begun.before begun.behind rest begun.begin);
+    begins = begun.begins;
+    none_first = lacks_append is_begin old.more begun.before old.begins_none begun.none_before;
+    none_second = lacks_append is_begin begun.behind rest begun.none_behind none;
+    stopped = λ off. ends_behind begun.behind (no_close begun.behind begun.finishes_none) (stopped off);
+    goes_on = λ keeps. lacks_append finishes begun.behind rest begun.finishes_none (goes_on keeps);
+    older = λ one. longer_at begun.before (old.ended one);
+  }
 
   -- where the engine keeps on, and where it doesn't
   pub run_in : RunIn on p q
@@ -181,8 +173,5 @@ module _ {on : Bool} {p q : PassState} (t : InTurn p) (seat : IsCallers p) (quie
           let there = in_turn_then is_of_cycles run.idle run.begun cycles_in_turn old.turn (begin_done run.begins)
           h_begun in
           let f = finish_in run.begun q there.own law there history in
-          with_rest f.more f.is f.begins_none
-          (on_then None p run.begun q on_begun
-          (finished_on there (callers_then turn_stays p run.begun on_begun.does seat) on_begun.quiet law
-          history))
-          (λ here. f.ends) (λ keeps. absurd (true≢false (sym keeps ∙ stops)))
+          with_rest f.more f.is f.begins_none (on_then on_begun (finished_on there (callers_then on_begun.does seat)
+          on_begun.quiet law history)) (λ here. f.ends) (λ keeps. absurd (true≢false (sym keeps ∙ stops)))

@@ -4,8 +4,8 @@ use Rattle.mk_alloc.proofs.Vocabulary.{append_assoc, arith, event_of, only_seen,
 use Rattle.mk_alloc.proofs.Vocabulary.{◌∙◌, ◌∷◌, ◌≡◌}
 use Rattle.mk_alloc.proofs.OwnGives.{GivesNone, calls_give, does_give_none, doing_gives, none_more, one_gives, one_more}
 use Rattle.mk_alloc.proofs.OwnGives.{others_give}
-use Rattle.mk_alloc.specs.Laws.{StayExactWhereHeld, OwnAreExact, StayExactBehindCalls, StayExactBehindOthers}
-use Rattle.mk_alloc.specs.Laws.{StayExactBehindTurns}
+use Rattle.mk_alloc.specs.Laws.{OwnAreExact, StayExactBehindCalls, StayExactBehindOthers, StayExactBehindTurns}
+use Rattle.mk_alloc.specs.Laws.{StayExactWhereHeld}
 use Rattle.mk_waiting.proofs.TakesAlone.{taking_does}
 
 pub stay_exact_behind_calls : StayExactBehindCalls
@@ -16,11 +16,9 @@ stay_exact_behind_calls on p o a q own called exact =
 pub stay_exact_where_held : StayExactWhereHeld
 stay_exact_where_held on p o q own held exact =
     let m = held.finds.makes in
-    subst (λ (x : PassState). OwnAreExact on x) (sym m.is)
-    (subst (λ (l : List Event). TurnsOfAreExact on p.table.config p.seat l)
-    (sym (append_assoc p.seen m.others (event_of p (Step.Enter o) ∷ [])))
-    (none_more on p.table.config p.seat p.seen (m.others ++ event_of p (Step.Enter o) ∷ [])
-    (one_gives p (Step.Enter o) q m own refl) exact))
+    subst (λ (x : PassState). OwnAreExact on x) (sym m.is) (subst (λ (l : List Event). TurnsOfAreExact on p.table.config
+    p.seat l) (sym (append_assoc p.seen m.others (event_of p (Step.Enter o) ∷ []))) (none_more on p.table.config p.seat
+    p.seen (m.others ++ event_of p (Step.Enter o) ∷ []) (one_gives m own refl) exact))
 
 -- after more that a pass has seen, in which its seat gave nothing back
 goes_on : (on : Bool) (p q : PassState) (more : List Event) → q ≡ record p { seen = p.seen ++ more }
@@ -38,8 +36,7 @@ stay_exact_behind_turns on p o a q own called exact =
     let g = called.gives in
     let before = none_more on called.done.table.config called.done.seat called.done.seen g.others
     (others_give called.done.seat called.done.seats g.others (own_before g) g.of_others) done in
-    let same : called.done ≡ record p { seen = called.done.seen } =
-    only_seen called.taken called.done acts.more acts.is
+    let same : called.done ≡ record p { seen = called.done.seen } = only_seen called.taken called.done acts.more acts.is
     ∙ ap (λ (x : PassState). record x { seen = called.done.seen }) takes.is in
     subst (λ (x : PassState). OwnAreExact on x) (sym g.is)
     (one_more on called.done.table.config called.done.seat (called.done.seen ++ g.others)

@@ -16,7 +16,7 @@ use Rattle.mk_alloc.proofs.Vocabulary.{true, true≢false, waits_for, world_behi
 use Rattle.mk_alloc.proofs.Vocabulary.{◌∷◌, ◌≡◌, ◌≢◌, ◌⊎◌}
 use Rattle.mk_alloc.proofs.CalmStretches.{cycles_in_turn, goes_undecided, is_of_cycles}
 use Rattle.mk_alloc.proofs.Stretches.{First, IsOwn, Stretch, Within, call_in, does_stretch, first_of, first_part}
-use Rattle.mk_alloc.proofs.FreeTurns.{is_quar}
+use Rattle.mk_alloc.proofs.FreedTurns.{is_quar}
 use Rattle.mk_alloc.proofs.Going.{IsCallers}
 use Rattle.mk_alloc.proofs.Parts.{Part, seen_after, seen_by}
 use Rattle.mk_core.proofs.RegisterAccesses.{tally_leaves_registers}
@@ -70,8 +70,7 @@ each_stays : (c : Config) (m : Moment) (f : Flight) (x : Step) (xs : List Placed
 each_stays c m f (Step.Quar p v) xs h free a =
     same_each xs (allocations_by c m f (Step.Quar p v) xs)
     (ap (λ (cell : Option Cell). map (freed_where_it_stands m.words cell) xs)
-    (frees_none c.pages m.words f p v (free refl))
-    ∙ none_freed m.words xs) a
+    (frees_none c.pages m.words f p v (free refl)) ∙ none_freed m.words xs) a
 each_stays c m f x4 xs h free a = grind (arith, changed_each, changed_at, or_left, same_each)
 
 count_stays : (c : Config) (m : Moment) (f : Flight) (x : Step) (xs : List PlacedAllocation) → is_of_full x ≡ true
@@ -162,10 +161,10 @@ waits_own p w (e ∷ es) has all =
     )
 
 -- one after what was seen
-last_own : (c : Config) (s : Seat) (es xs : List Event) (e : Event) → OwnLeaveFrom c s (left c es) xs
+last_own : {c : Config} (s : Seat) (es xs : List Event) (e : Event) → OwnLeaveFrom c s (left c es) xs
     → LeavesAllButReleased c (left c (es ++ xs)) (world_behind c (left c (es ++ xs)) e)
     → OwnLeaveFrom c s (left c es) (xs ++ e ∷ [])
-last_own c s es xs e first last =
+last_own {c} s es xs e first last =
     own_append c s (left c es) xs (e ∷ []) first
     (subst (λ (w : World). OwnLeaveFrom c s w (e ∷ [])) (left_in_parts c es xs)
     (one_own c s (left c (es ++ xs)) e (λ same. last)))
@@ -183,23 +182,20 @@ made_leaves {p} {q} {x} m kind other =
     record {
       more = m.others ++ event_of p x ∷ [];
       is = seen_after m;
-      each = last_own c p.seat p.seen m.others (event_of p x)
-          (others_own c p.seat p.seats (world_of p) m.others (own_before m) m.of_others)
-          (step_leaves c (p.seen ++ m.others) p.seat x (made p x q m).whole kind
-          (λ quar. absurd (true≢false (sym quar ∙ other))));
+      each = last_own p.seat p.seen m.others (event_of p x)
+          (others_own c p.seat p.seats (world_of p) m.others (own_before m) m.of_others) (step_leaves c
+          (p.seen ++ m.others) p.seat x (made p x q m).whole kind (λ quar. absurd (true≢false (sym quar ∙ other))));
     }
 
 pub taking_leaves : {p q : PassState} {o : Op} → Has p.seats p.seat → TakesTurn p (Some o) q
     → OwnLeaveAllButReleased p q
 taking_leaves {p} {q} has t =
     let w = t.waits in
-    leaves_then (only_seen p t.waited w.more w.is)
-    (record {
+    leaves_then (only_seen p t.waited w.more w.is) (record {
       more = w.more;
       is = ap (λ (x : PassState). x.seen) w.is;
       each = waits_own p (world_of p) w.more has w.only;
-    })
-    (made_leaves t.takes.makes refl refl)
+    }) (made_leaves t.takes.makes refl refl)
 
 -- a part of such steps as cycles are made of
 of_full : Within is_of_cycles is_of_full
@@ -213,17 +209,15 @@ cycles_left seat own es [] free s = tt
 cycles_left {p} seat own es (e ∷ rest) free s = (
   λ same. leaves same f.who,
   subst (λ (w : World). OwnLeaveFrom c p.seat w rest) f.at.behind
-      (cycles_left seat own (es ++ e ∷ []) rest
-      (ap (λ (x : Flight). is_pending_free x)
-      (goes_undecided p seat own es (e ∷ []) free (first_part p is_of_cycles es (e ∷ []) rest s)).call ∙ free)
-      f.on),
+      (cycles_left seat own (es ++ e ∷ []) rest (ap (λ (x : Flight). is_pending_free x)
+      (goes_undecided p seat own free (first_part p is_of_cycles es (e ∷ []) rest s)).call ∙ free) f.on),
 )
   where
     c : Config
     c = p.table.config
 
     f : First p is_of_cycles es e rest
-    f = first_of p is_of_cycles es e rest cycles_in_turn own s
+    f = first_of e rest cycles_in_turn own s
 
     leaves : is_same_seat p.seat e.seat ≡ true → IsOwn p is_of_cycles e ⊎ (e.seat ≢ p.seat)
         → LeavesAllButReleased c (left c es) (world_behind c (left c es) e)

@@ -1,27 +1,170 @@
 -- Parts of a turn in which it goes on: the parts of cycles decide nothing, and what goes on in two parts goes on.
-use Rattle.mk_alloc.proofs.Vocabulary.{Answer, BeginsCycle, Bool, Caller, Decided, Does, Event, FinishesCycle, Flight}
-use Rattle.mk_alloc.proofs.Vocabulary.{InTurn, IsHistory, IsQuiet, List, Looks, None, Op, Option, PassState, Some, Step}
-use Rattle.mk_alloc.proofs.Vocabulary.{TurnGoesOn, ap, append-nil, arith, call_of, caller_of_pass, does_nothing}
-use Rattle.mk_alloc.proofs.Vocabulary.{entry_of, is_look, own_calls, refl, subst, sym, turn_stays, ◌++◌, ◌∙◌, ◌≡◌}
+use Rattle.mk_alloc.proofs.Vocabulary.{Acts, Answer, BeginsCycle, Bool, Caller, Config, Decided, Does, Done, Event}
+use Rattle.mk_alloc.proofs.Vocabulary.{FinishesCycle, Flight, InTurn, IsEnabledTo, IsHistory, IsOutOfStop, IsQuiet}
+use Rattle.mk_alloc.proofs.Vocabulary.{KeepsGates, LeavesTurn, List, Looks, Moment, None, Op, Option, PassState}
+use Rattle.mk_alloc.proofs.Vocabulary.{PlacedAllocation, Some, Stage, Steady, Step, TalliesAreTidy, TurnGoesOn, ℕ}
+use Rattle.mk_alloc.proofs.Vocabulary.{and_from, ap, append-nil, arith, call_of, caller_of_pass, calm_keeps}
+use Rattle.mk_alloc.proofs.Vocabulary.{does_nothing, ends, entry_of, eq-eqb, free_then, fresh_words_of, full_answers}
+use Rattle.mk_alloc.proofs.Vocabulary.{gates_behind, gone_is_unmapped, has_place, held_by_allocations, in_a_word, inl}
+use Rattle.mk_alloc.proofs.Vocabulary.{inr, is_held, is_look, is_pending_free, is_run_gone, none_is_held, not, now_of}
+use Rattle.mk_alloc.proofs.Vocabulary.{off_four, or_left, own_calls, phase_of, refl, releases, same_config, steady_of}
+use Rattle.mk_alloc.proofs.Vocabulary.{subst, sym, true, turn_stays, unchanged, world_of, ◌&&◌, ◌++◌, ◌==◌, ◌||◌, ◌∙◌}
+use Rattle.mk_alloc.proofs.Vocabulary.{◌≡◌, ◌⊎◌}
 use Rattle.mk_alloc.proofs.CalmStretches.{cycles_in_turn, goes_undecided, is_of_cycles}
-use Rattle.mk_alloc.proofs.QuietTurns.{quiet_begun, quiet_finished, quiet_looked}
-use Rattle.mk_alloc.proofs.Stretches.{does_both, does_stretch, widened}
+use Rattle.mk_alloc.proofs.Stretches.{does_both, does_once, does_stretch, widened}
 use Rattle.mk_alloc.proofs.CycleParts.{begin_done, finish_done}
 use Rattle.mk_alloc.proofs.Parts.{Part, seen_behind}
+use Rattle.mk_laws.proofs.Vocabulary.{IsSettled, Word, all_below-at, held_by_pages, is_decided}
+use Rattle.mk_core.specs.Counts.{TalliesAreExact}
+use Rattle.mk_cycle.proofs.Allowed.{look_allowed, protocol}
+use Rattle.mk_cycle.proofs.BeginSteps.{all_from}
+use Rattle.mk_cycle.proofs.MayAct.{may_act}
+use Rattle.mk_cycle.specs.EngineLaw.{IsFreeForCycle}
+use Rattle.mk_words.proofs.Tallies.{settled_tallies}
+
+-- What keeps a turn quiet, and that a quiet one may look at the phase and, once its call is decided, be given back.
+
+-- the look at the phase
+
+pub phase_allowed : {p : PassState} → InTurn p → IsFreeForCycle p → IsEnabledTo p (Step.Look Word.Phase)
+phase_allowed {p} t free = look_allowed p t free Word.Phase refl refl
+
+pub looked : {p q : PassState} → InTurn p → IsFreeForCycle p → IsHistory q.table.config q.seen
+    → Acts p (Step.Look Word.Phase) q → Looks p q
+looked {p} {q} t free history a = record {
+  does = does_once a.makes refl;
+  keeps = calm_keeps p (Step.Look Word.Phase) q a t history refl free unchanged refl;
+  gates = gates_behind p (Step.Look Word.Phase) q a refl;
+}
+
+-- What is exact and tidy stays so where all that only the holder changes is kept, but for the tally of the Fulls.
+
+abbrev pub but_full : Steady → Steady
+but_full s = record s { full = 0 }
+
+pub exact_kept : (p q : PassState) → q ≡ record p { seen = q.seen }
+    → but_full (steady_of (world_of q)) ≡ but_full (steady_of (world_of p))
+    → TalliesAreExact p.table.config p.seen → TalliesAreExact q.table.config q.seen
+exact_kept p q is steady x =
+    let c : Config = p.table.config in
+    let same : q.table.config ≡ c = same_config p q is in
+    let xs : List PlacedAllocation = (world_of q).allocations in
+    let allocations : xs ≡ (world_of p).allocations = ap (λ (s : Steady). s.allocations) steady in
+    record {
+      held =
+          ap (λ (s : Steady). s.held) steady ∙ x.held ∙ sym (ap (λ (d : Config). held_by_allocations d xs) same
+          ∙ ap (λ (ys : List PlacedAllocation). held_by_allocations c ys) allocations);
+      fresh =
+          ap (λ (s : Steady). s.fresh) steady ∙ x.fresh ∙ sym (ap (λ (d : Config). in_a_word (fresh_words_of d xs)) same
+          ∙ ap (λ (ys : List PlacedAllocation). in_a_word (fresh_words_of c ys)) allocations);
+    }
+
+pub tidy_kept : (p q : PassState) → but_full (steady_of (world_of q)) ≡ but_full (steady_of (world_of p))
+    → ends q.seen ≡ ends p.seen → (now_of q).words.full ≡ in_a_word (full_answers q.table.config q.seen)
+    → TalliesAreTidy p.table.config p.seen → TalliesAreTidy q.table.config q.seen
+tidy_kept p q steady none full x = record {
+  cycles = ap (λ (s : Steady). s.cycles) steady ∙ x.cycles ∙ ap in_a_word (sym none);
+  released =
+      ap (λ (s : Steady). s.released) steady ∙ x.released
+      ∙ ap in_a_word (sym (ap (λ (s : Steady). releases s.allocations) steady));
+  full = full;
+}
+
+-- No gate is held where none was, by the same holder.
+pub none_held_kept : (p q : PassState) → q ≡ record p { seen = q.seen } → KeepsGates p q
+    → none_is_held p.table.config.callers (now_of p).words ≡ true
+    → none_is_held q.table.config.callers (now_of q).words ≡ true
+none_held_kept p q is keeps none =
+    let n : ℕ = p.table.config.callers in
+    subst (λ (c : Config). none_is_held c.callers (now_of q).words ≡ true) (sym (same_config p q is))
+    (all_from n (λ j. not (is_held (now_of q).words j))
+    (λ j lt. ap not (keeps j lt) ∙ all_below-at n j (λ i. not (is_held (now_of p).words i)) none lt))
+
+pub same_phase : (p q : PassState) → phase_of (now_of q).words ≡ phase_of (now_of p).words → IsOutOfStop (now_of p)
+    → IsOutOfStop (now_of q)
+same_phase p q e (inl none) = inl (e ∙ none)
+same_phase p q e (inr one) = inr (e ∙ one)
+
+-- So a turn stays quiet
+
+pub quiet_kept : {p q : PassState} → IsQuiet p → LeavesTurn unchanged p q → KeepsGates p q → IsQuiet q
+quiet_kept {p} {q} quiet k gates = record {
+  free = free_then p q k.call quiet.free;
+  phase = same_phase p q (ap (λ (s : Steady). s.phase) k.steady) quiet.phase;
+  gates = none_held_kept p q k.call.pass gates quiet.gates;
+  exact = exact_kept p q k.call.pass (ap but_full k.steady) quiet.exact;
+  tidy = tidy_kept p q (ap but_full k.steady) k.counts.ends
+      (ap (λ (s : Steady). s.full) k.steady ∙ quiet.tidy.full ∙ ap in_a_word (sym k.counts.fulls)
+      ∙ ap (λ (c : Config). in_a_word (full_answers c q.seen)) (sym (same_config p q k.call.pass))) quiet.tidy;
+}
+
+-- where it looks, begins a cycle, or finishes one.
+
+pub quiet_looked : {p q : PassState} → IsQuiet p → Looks p q → IsQuiet q
+quiet_looked quiet k = quiet_kept quiet k.keeps k.gates
+
+pub quiet_begun : {p q : PassState} → IsQuiet p → BeginsCycle p q → IsQuiet q
+quiet_begun {p} {q} quiet b = record {
+  free = record {
+    decided = ap is_pending_free b.call ∙ quiet.free.decided;
+    unplaced = ap (λ (x : Done). has_place x.placing) b.done ∙ quiet.free.unplaced;
+    gone = b.gone;
+  };
+  phase = inr (ap (λ (s : Steady). s.phase) b.steady);
+  gates = none_held_kept p q b.pass b.gates quiet.gates;
+  exact = b.exact quiet.exact;
+  tidy = b.tidy quiet.tidy;
+}
+
+pub quiet_finished : {p q : PassState} → IsQuiet p → FinishesCycle p q → IsQuiet q
+quiet_finished {p} {q} quiet f = record {
+  free = record {
+    decided = ap is_pending_free f.call ∙ quiet.free.decided;
+    unplaced = ap (λ (x : Done). has_place x.placing) f.done ∙ quiet.free.unplaced;
+    gone = f.gone;
+  };
+  phase = inl f.phase;
+  gates = cc (same_config p q f.pass, f.gates);
+  exact = f.exact quiet.exact;
+  tidy = f.tidy quiet.tidy;
+}
+
+-- It may be given back, once its call is decided.
+
+give_phase : (n : ℕ) → (n ≡ 0) ⊎ (n ≡ 1) → ((n == 0) || (n == 1) || (n == 5)) ≡ true
+give_phase n (inl none) = or_left ((n == 0) || (n == 1)) (n == 5) (or_left (n == 0) (n == 1) (eq-eqb n 0 none))
+give_phase n (inr one) = ap (λ (i : ℕ). (i == 0) || (i == 1) || (i == 5)) one
+
+pub give_allowed : {p : PassState} → InTurn p → IsQuiet p → (call_of p).stage ≡ Stage.Give → IsEnabledTo p Step.Give
+give_allowed {p} t quiet decided =
+    let m : Moment = now_of p in
+    let settled : IsSettled (world_of p) = record {
+      releasing = off_four m quiet.phase;
+      placing = quiet.free.unplaced;
+      unmapped = gone_is_unmapped m.words m.seats.holding.freed quiet.free.gone;
+    } in
+    let told = settled_tallies p.table.config p.seen t.history settled quiet.exact in
+    may_act p Step.Give (protocol p t quiet.free) t.holds quiet.free.decided refl refl quiet.gates
+    (give_phase _ quiet.phase) (and_from (is_decided (call_of p).stage && is_run_gone m.words m.seats.holding.freed &&
+    (m.words.held == held_by_pages m.words)) (m.words.fresh == m.fresh_words)
+    (and_from (is_decided (call_of p).stage && is_run_gone m.words m.seats.holding.freed)
+    (m.words.held == held_by_pages m.words)
+    (and_from (is_decided (call_of p).stage) _ (ap (λ (s : Stage). is_decided s) decided) quiet.free.gone)
+    (eq-eqb m.words.held _ told.0)) (eq-eqb m.words.fresh m.fresh_words told.1))
 
 -- the pass of a caller
 abbrev pub IsCallers : PassState → Type 0
 IsCallers p = p.seat ≡ Caller (caller_of_pass p)
 
-pub callers_then : (kinds : Step → Bool) (p q : PassState) → Does kinds p q → IsCallers p → IsCallers q
-callers_then kinds p q d is = subst (λ (x : PassState). IsCallers x) (sym d.is) is
+pub callers_then : {kinds : Step → Bool} {p q : PassState} → Does kinds p q → IsCallers p → IsCallers q
+callers_then d is = subst (λ (x : PassState). IsCallers x) (sym d.is) is
 
-pub same_number : (kinds : Step → Bool) (p q : PassState) → Does kinds p q → caller_of_pass q ≡ caller_of_pass p
-same_number kinds p q d = ap (λ (x : PassState). caller_of_pass x) d.is
+pub same_number : {kinds : Step → Bool} {p q : PassState} → Does kinds p q → caller_of_pass q ≡ caller_of_pass p
+same_number d = ap (λ (x : PassState). caller_of_pass x) d.is
 
-own_calls_same : (kinds : Step → Bool) (p q : PassState) → Does kinds p q → (es : List Event) → own_calls q es
+own_calls_same : {kinds : Step → Bool} {p q : PassState} → Does kinds p q → (es : List Event) → own_calls q es
     ≡ own_calls p es
-own_calls_same kinds p q d es = ap (λ (x : PassState). own_calls x es) d.is
+own_calls_same d es = ap (λ (x : PassState). own_calls x es) d.is
 
 pub look_part : {p q : PassState} → InTurn p → Does is_look p q → IsHistory q.table.config q.seen → Part is_look p q
 look_part t d history = record { turn = t; stays = λ x h. grind arith; does = d; history = history }
@@ -35,19 +178,15 @@ undecided_part t seat quiet after d history call =
 pub looked_on : {p q : PassState} → InTurn p → IsCallers p → IsQuiet p → Looks p q → IsHistory q.table.config q.seen
     → TurnGoesOn None p q
 looked_on t seat quiet k history =
-    undecided_part t seat quiet (quiet_looked quiet k)
-    (widened (λ x h. grind arith) k.does) history
-    k.keeps.call.call
+    undecided_part t seat quiet (quiet_looked quiet k) (widened (λ x h. grind arith) k.does) history k.keeps.call.call
 
 pub begun_on : {p q : PassState} → InTurn p → IsCallers p → IsQuiet p → BeginsCycle p q
     → IsHistory q.table.config q.seen → TurnGoesOn None p q
-begun_on t seat quiet b history =
-    undecided_part t seat quiet (quiet_begun quiet b) (begin_done b) history b.call
+begun_on t seat quiet b history = undecided_part t seat quiet (quiet_begun quiet b) (begin_done b) history b.call
 
 pub finished_on : {p q : PassState} → InTurn p → IsCallers p → IsQuiet p → FinishesCycle p q
     → IsHistory q.table.config q.seen → TurnGoesOn None p q
-finished_on t seat quiet f history =
-    undecided_part t seat quiet (quiet_finished quiet f) (finish_done f) history f.call
+finished_on t seat quiet f history = undecided_part t seat quiet (quiet_finished quiet f) (finish_done f) history f.call
 
 -- one part after the other
 
@@ -55,33 +194,31 @@ pub nothing_on : {p : PassState} → IsQuiet p → TurnGoesOn None p p
 nothing_on quiet = grind (arith, does_nothing, append-nil)
 
 -- nothing was decided before
-pub on_then : (a : Option Answer) (p q r : PassState) → TurnGoesOn None p q → TurnGoesOn a q r → TurnGoesOn a p r
-on_then a p q r x y =
+pub on_then : {a : Option Answer} {p q r : PassState} → TurnGoesOn None p q → TurnGoesOn a q r → TurnGoesOn a p r
+on_then {a} {p} {q} x y =
     let d : Does turn_stays p q = x.does in
     record {
       does = does_both d y.does;
       quiet = y.quiet;
       entry =
-          sym (own_calls_same turn_stays p q d _) ∙ y.entry ∙ ap
-          (λ (l : List Decided). l ++ entry_of (caller_of_pass q) (call_of q).op a)
-          (own_calls_same turn_stays p q d q.seen ∙ x.entry ∙ append-nil (own_calls p p.seen)) ∙ ap
-          (λ k. own_calls p p.seen ++ entry_of k (call_of q).op a) (same_number turn_stays p q d) ∙ ap
-          (λ (o : Op). own_calls p p.seen ++ entry_of (caller_of_pass p) o a) x.op;
+          sym (own_calls_same d _) ∙ y.entry ∙ ap (λ (l : List Decided). l ++ entry_of (caller_of_pass q)
+          (call_of q).op a) (own_calls_same d q.seen ∙ x.entry ∙ append-nil (own_calls p p.seen))
+          ∙ ap (λ k. own_calls p p.seen ++ entry_of k (call_of q).op a) (same_number d)
+          ∙ ap (λ (o : Op). own_calls p p.seen ++ entry_of (caller_of_pass p) o a) x.op;
       op = y.op ∙ x.op;
       decided = y.decided;
       undecided = λ none. y.undecided none ∙ x.undecided refl;
     }
 
 -- or nothing after
-pub then_on : (a : Answer) (p q r : PassState) → TurnGoesOn (Some a) p q → TurnGoesOn None q r → TurnGoesOn (Some a) p r
-then_on a p q r x y =
+pub then_on : {a : Answer} {p q r : PassState} → TurnGoesOn (Some a) p q → TurnGoesOn None q r → TurnGoesOn (Some a) p r
+then_on {p} {q} {r} x y =
     let d : Does turn_stays p q = x.does in
     record {
       does = does_both d y.does;
       quiet = y.quiet;
       entry =
-          sym (own_calls_same turn_stays p q d r.seen) ∙ y.entry ∙ append-nil (own_calls q q.seen)
-          ∙ own_calls_same turn_stays p q d q.seen ∙ x.entry;
+          sym (own_calls_same d r.seen) ∙ y.entry ∙ append-nil (own_calls q q.seen) ∙ own_calls_same d q.seen ∙ x.entry;
       op = y.op ∙ x.op;
       decided = λ some. ap (λ (f : Flight). f.stage) (y.undecided refl) ∙ x.decided refl;
       undecided = λ none. cc;

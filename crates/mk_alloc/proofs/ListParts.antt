@@ -73,8 +73,7 @@ pub record IsAt (xs ys before behind : List Event) : Type 0 where
 pub only_at : (kind : SomeKind) (xs : List Event) (e : Event) (ys : List Event) → Lacks kind xs → Lacks kind ys
     → (at : At kind (xs ++ e ∷ ys)) → IsAt xs ys at.before at.behind
 only_at kind xs e ys none_before none_behind at =
-    ⊎_elim
-    (λ (t : InFirst xs at.before at.event). absurd
+    ⊎_elim (λ (t : InFirst xs at.before at.event). absurd
     (lacks_at kind xs at.before at.event t.behind none_before t.is at.of_kind))
     (λ (t : InSecond xs (e ∷ ys) at.before at.event at.behind). by t.rest t.first t.is)
     (stands xs (e ∷ ys) at.before at.event at.behind at.is)
@@ -105,13 +104,7 @@ cycle_in es xs a b d ys begin close release end is begins closes releases ends n
         of_kind = begins;
       };
       close = record {
-        at = record {
-          before = a;
-          event = close;
-          behind = b ++ release ∷ (d ++ end ∷ ys);
-          is = refl;
-          of_kind = closes;
-        };
+        at = record { before = a; event = close; behind = b ++ release ∷ (d ++ end ∷ ys); is = refl; of_kind = closes };
         none_before = no_close;
       };
     };

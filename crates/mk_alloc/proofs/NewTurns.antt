@@ -20,17 +20,17 @@ use Rattle.mk_alloc.proofs.Parts.{history_before, in_turn_then, seen_after, seen
 use Rattle.mk_alloc.proofs.CycleParts.{begins_held}
 use Rattle.mk_alloc.proofs.GrantParts.{last_before}
 use Rattle.mk_alloc.proofs.OneCycles.{one_before}
-use Rattle.mk_alloc.specs.TurnCycles.{NewIsExact}
 use Rattle.mk_geom.proofs.Bridge.{same_census}
 use Rattle.mk_geom.specs.PageUses.{census_among}
 use Rattle.mk_geom.specs.Storages.{census_of}
 use Rattle.mk_geom.specs.declared.pages.Census.{Census}
 use Rattle.mk_core.specs.Allocations.{census_of_allocations}
+use Rattle.mk_alloc.specs.TurnCycles.{NewIsExact}
 
 -- Directly after its `take` the turn of a New is quiet, and its object has no place yet.
 
-pub begun_quiet : (p : PassState) (d ty : ℕ) (full : Bool) → BeginsTurn (Op.New d ty full) p → IsQuiet p
-begun_quiet p d ty full b = record {
+pub begun_quiet : {p : PassState} {d ty : ℕ} {full : Bool} → BeginsTurn (Op.New d ty full) p → IsQuiet p
+begun_quiet {p} b = record {
   free = record {
     decided = ap (λ (f : Flight). is_pending_free f) b.fresh.call;
     unplaced = ap (λ (h : Holding). has_place h.placing) b.fresh.holding;
@@ -42,8 +42,8 @@ begun_quiet p d ty full b = record {
   tidy = b.tidy;
 }
 
-pub begun_unplaced : (p : PassState) (d ty : ℕ) (full : Bool) → BeginsTurn (Op.New d ty full) p → IsUnplaced p
-begun_unplaced p d ty full b = record {
+pub begun_unplaced : {p : PassState} {d ty : ℕ} {full : Bool} → BeginsTurn (Op.New d ty full) p → IsUnplaced p
+begun_unplaced b = record {
   new = ap (λ (f : Flight). is_undecided_new f) b.fresh.call;
   placing = ap (λ (h : Holding). h.placing) b.fresh.holding;
   phase = b.phase;
@@ -79,20 +79,16 @@ module _ {d ty : ℕ} {a : Answer} {p taken done q : PassState} (m : NewGiven d 
   room_at : (kind : SomeKind) → ((x : Step) → kind x ≡ true → asks_room x ≡ true) → (at : At kind turn.behind)
       → HasNoPlace p.table.config o (within_turn turn at.before)
   room_at kind within at =
-      ⊎_elim
-      (λ (x : InFirst m.seeks.on.does.more at.before at.event).
+      ⊎_elim (λ (x : InFirst m.seeks.on.does.more at.before at.event).
       subst (λ (l : List Event). HasNoPlace p.table.config o l) (within_is given at.before)
       (subst (λ (y : Object). HasNoPlace p.table.config y (taken.seen ++ at.before)) same_object
       (subst (λ (y : PassState). HasNoPlace y.table.config (object_for taken) (taken.seen ++ at.before))
-      (taken_is m.took)
-      (m.seeks.room at.before at.event x.behind
+      (taken_is m.took) (m.seeks.room at.before at.event x.behind
       (seen_by m.seeks.on.does ∙ ap (λ (l : List Event). taken.seen ++ l) x.is
-      ∙ sym (append_assoc taken.seen at.before (at.event ∷ x.behind)))
-      (within at.event.step at.of_kind)))))
+      ∙ sym (append_assoc taken.seen at.before (at.event ∷ x.behind))) (within at.event.step at.of_kind)))))
       (λ (x : InSecond m.seeks.on.does.more m.gives.others at.before at.event at.behind).
       absurd (lacks_at asks_room m.gives.others x.rest at.event at.behind
-      (lacks_given given asks_room (λ x h. grind arith)) x.is
-      (within at.event.step at.of_kind)))
+      (lacks_given given asks_room (λ x h. grind arith)) x.is (within at.event.step at.of_kind)))
       (stands m.seeks.on.does.more m.gives.others at.before at.event at.behind at.is)
 
   one_done : RunsOneCycle m.seeks.on.does.more
@@ -106,8 +102,7 @@ module _ {d ty : ℕ} {a : Answer} {p taken done q : PassState} (m : NewGiven d 
     ends = room_at is_want (λ x h. or_right (is_begin x) (is_want x) h);
     one = one_before m.seeks.on.does.more m.gives.others one_done (lacks_given given is_begin begins_held);
     keeps =
-        last_before m.seeks.on.does.more m.gives.others (m.seeks.last m.seeks.on.does.more
-        (seen_by m.seeks.on.does))
+        last_before m.seeks.on.does.more m.gives.others (m.seeks.last m.seeks.on.does.more (seen_by m.seeks.on.does))
         (lacks_given given is_grant (λ x h. grind arith)) (lacks_given given lets_go (λ x h. grind arith));
   }
 
@@ -165,23 +160,22 @@ module _ {d ty : ℕ} {p taken last done q : PassState} (m : NewGiven d ty Answe
   pub is_answered_full : {census : Census} (flag : Bool)
       → census ≡ census_of_allocations last.table.config (world_of last).allocations
       → IsAnsweredFull flag p (Op.New d ty false) census q
-  is_answered_full flag told =
-      record {
-        called = new_called m flag;
-        before = full.before;
-        behind = behind;
-        is = seen_is;
-        full = fulls_fit_nowhere p.table.config q.seen
-            (subst (λ (x : PassState). IsHistory x.table.config q.seen) q_is m.gives.pass.history) full.before
-            (event_of p Step.Full) behind seen_is refl;
-        counts =
-            told ∙ ap (λ (x : PassState). census_of_allocations x.table.config (world_of last).allocations) last_is
-            ∙ ap (λ (xs : List PlacedAllocation). census_of_allocations p.table.config xs)
-            (sym (given_allocations (given_turn (given m)) m.gives ∙ full.allocations));
-        leaves =
-            leaves_then (taken_is m.took) (taking_leaves m.took.own m.took.takes)
-            (leaves_then (only_seen taken last misfits.seeks.on.does.more misfits.seeks.on.does.is)
-            (misfits.seeks.leaves refl)
-            (leaves_then (only_seen last done full.seeks.on.does.more full.seeks.on.does.is) full.leaves
-            (made_leaves m.gives refl refl)));
-      }
+  is_answered_full flag told = record {
+    called = new_called m flag;
+    before = full.before;
+    behind = behind;
+    is = seen_is;
+    full = fulls_fit_nowhere p.table.config q.seen
+        (subst (λ (x : PassState). IsHistory x.table.config q.seen) q_is m.gives.pass.history) full.before
+        (event_of p Step.Full) behind seen_is refl;
+    counts =
+        told ∙ ap (λ (x : PassState). census_of_allocations x.table.config (world_of last).allocations) last_is
+        ∙ ap (λ (xs : List PlacedAllocation). census_of_allocations p.table.config xs)
+        (sym (given_allocations (given_turn (given m)) m.gives ∙ full.allocations));
+    leaves =
+        leaves_then (taken_is m.took) (taking_leaves m.took.own m.took.takes)
+        (leaves_then (only_seen taken last misfits.seeks.on.does.more misfits.seeks.on.does.is)
+        (misfits.seeks.leaves refl)
+        (leaves_then (only_seen last done full.seeks.on.does.more full.seeks.on.does.is) full.leaves
+        (made_leaves m.gives refl refl)));
+  }

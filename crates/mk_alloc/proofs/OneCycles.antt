@@ -3,13 +3,12 @@ use Rattle.mk_alloc.proofs.Vocabulary.{At, BeginsCycle, BeginsNone, Does, Event,
 use Rattle.mk_alloc.proofs.Vocabulary.{IsPlaced, List, PassState, RunsOne, RunsOneCycle, ap, append_assoc, arith, false}
 use Rattle.mk_alloc.proofs.Vocabulary.{has_step, is_begin, is_end, is_look, subst, sym, ⊎_elim, ◌++◌, ◌∙◌, ◌∷◌, ◌≡◌}
 use Rattle.mk_alloc.proofs.CycleParts.{begin_in, begins_held, finish_in}
-use Rattle.mk_alloc.proofs.ListParts.{InFirst, InSecond, Lacks, lacks_append, lacks_at, none_at, only_at, stands}
-use Rattle.mk_alloc.proofs.Parts.{Part, part_lacks, seen_behind, seen_then}
 use Rattle.mk_alloc.proofs.DueParts.{at_behind, end_at}
+use Rattle.mk_alloc.proofs.ListParts.{InFirst, InSecond, Lacks, lacks_append, lacks_at, none_at, only_at, stands}
+use Rattle.mk_alloc.proofs.Parts.{AreApart, Part, part_lacks, seen_behind, seen_then}
 use Rattle.mk_alloc.proofs.Going.{look_part}
 use Rattle.mk_alloc.proofs.GrantParts.{first_behind}
 use Rattle.mk_alloc.proofs.PlacedTurns.{place_part}
-use Rattle.mk_alloc.proofs.StepKinds.{AreApart}
 use Rattle.mk_alloc.proofs.Stretches.{SomeKinds}
 use Rattle.mk_laws.proofs.Longer.{longer_at}
 use Rattle.mk_alloc.specs.Rooms.{EndsOnly}
@@ -26,9 +25,7 @@ one_behind xs ys none one b =
 
 pub one_before : (xs ys : List Event) → RunsOneCycle xs → Lacks is_begin ys → RunsOneCycle (xs ++ ys)
 one_before xs ys one none b =
-    ⊎_elim
-    (λ (x : InFirst xs b.before b.event). first x.behind x.is)
-    (λ (x : InSecond xs ys b.before b.event b.behind).
+    ⊎_elim (λ (x : InFirst xs b.before b.event). first x.behind x.is) (λ (x : InSecond xs ys b.before b.event b.behind).
     absurd (lacks_at is_begin ys x.rest b.event b.behind none x.is b.of_kind))
     (stands xs ys b.before b.event b.behind b.is)
   where
@@ -42,9 +39,9 @@ one_before xs ys one none b =
         )
 
 -- a begin and an end
-pub one_run : (xs : List Event) (e : Event) (ys : List Event) → Lacks is_begin xs → Lacks is_begin ys → At is_end ys
+pub one_run : (xs : List Event) (e : Event) {ys : List Event} → Lacks is_begin xs → Lacks is_begin ys → At is_end ys
     → RunsOneCycle (xs ++ e ∷ ys)
-one_run xs e ys none_before none_behind ended b =
+one_run xs e {ys = ys} none_before none_behind ended b =
     let there = only_at is_begin xs e ys none_before none_behind b in (
       ap (λ (l : List Event). has_step is_begin l) there.behind_is ∙ none_behind,
       subst (λ (l : List Event). At is_end l) (sym there.behind_is) ended,
@@ -59,8 +56,8 @@ begins_none_by {kinds} {p} {q} x apart = record {
   none = part_lacks is_begin x begins_held apart;
 }
 
-pub placed_begins_none : (p q : PassState) → InTurn p → IsPlaced p q → IsHistory q.table.config q.seen → BeginsNone p q
-placed_begins_none p q t placed history = begins_none_by (place_part t placed.granted.does history) (λ x h. grind arith)
+pub placed_begins_none : {p q : PassState} → InTurn p → IsPlaced p q → IsHistory q.table.config q.seen → BeginsNone p q
+placed_begins_none t placed history = begins_none_by (place_part t placed.granted.does history) (λ x h. grind arith)
 
 pub looks_begins_none : {p q : PassState} → InTurn p → Does is_look p q → IsHistory q.table.config q.seen
     → BeginsNone p q
@@ -86,7 +83,7 @@ finish_then_none {p} {q} {r} t law history y =
       more = f.more ++ y.more;
       is = seen_then p.seen q.seen r.seen f.more y.more f.is y.is;
       none = lacks_append is_begin f.more y.more f.begins_none y.none;
-      ended = longer_at y.more (end_at f.more f.ends);
+      ended = longer_at y.more (end_at f.ends);
     }
 
 pub begin_then_ends : {p q r : PassState} → InTurn p → BeginsCycle p q → IsHistory q.table.config q.seen
@@ -97,12 +94,12 @@ begin_then_ends {p} {q} {r} t law history y =
       more = b.before ++ b.begin ∷ (b.behind ++ y.more);
       is = seen_then p.seen q.seen r.seen (b.before ++ b.begin ∷ b.behind) y.more b.is y.is
           ∙ ap (λ (l : List Event). p.seen ++ l) (append_assoc b.before (b.begin ∷ b.behind) y.more);
-      one = one_run b.before b.begin (b.behind ++ y.more) b.none_before
-          (lacks_append is_begin b.behind y.more b.none_behind y.none) (at_behind is_end b.behind y.more y.ended);
+      one = one_run b.before b.begin b.none_before
+          (lacks_append is_begin b.behind y.more b.none_behind y.none) (at_behind b.behind y.ended);
     }
 
-pub none_runs_one : (p q : PassState) → BeginsNone p q → RunsOne p q
-none_runs_one p q x = record { more = x.more; is = x.is; one = (λ b. absurd (none_at is_begin x.more x.none b)) }
+pub none_runs_one : {p q : PassState} → BeginsNone p q → RunsOne p q
+none_runs_one x = record { more = x.more; is = x.is; one = (λ b. absurd (none_at is_begin x.more x.none b)) }
 
 pub none_then_one : {p q r : PassState} → BeginsNone p q → RunsOne q r → RunsOne p r
 none_then_one {p} {q} {r} x y = record {

@@ -30,8 +30,7 @@ is_own_give s e give same =
     (subst (λ (t : Seat). is_same_seat s t ≡ true) (sym same) (same_self s)) (ap (λ (x : Step). is_give x) give)
 
 gives_at : (s : Seat) (es before : List Event) (e : Event) (behind : List Event) → GivesNone s es → es
-    ≡ before ++ e ∷ behind
-    → e.step ≡ Step.Give → e.seat ≡ s → ⊥
+    ≡ before ++ e ∷ behind → e.step ≡ Step.Give → e.seat ≡ s → ⊥
 gives_at s es before e behind none is give same =
     let whole : GivesNone s (before ++ e ∷ behind) = subst (λ (l : List Event). GivesNone s l) is none in
     let parts = or_parts (list_any (own_give s) before) (list_any (own_give s) (e ∷ behind))
@@ -40,27 +39,21 @@ gives_at s es before e behind none is give same =
 
 -- Turns stay exact where none more is given back,
 pub none_more : (on : Bool) (c : Config) (s : Seat) (es more : List Event) → GivesNone s more
-    → TurnsOfAreExact on c s es
-    → TurnsOfAreExact on c s (es ++ more)
+    → TurnsOfAreExact on c s es → TurnsOfAreExact on c s (es ++ more)
 none_more on c s es more none exact before e behind is give same =
-    ⊎_elim
-    (λ (t : InFirst es before e). exact before e t.behind t.is give same)
+    ⊎_elim (λ (t : InFirst es before e). exact before e t.behind t.is give same)
     (λ (t : InSecond es more before e behind). absurd (gives_at s more t.rest e behind none t.is give same))
     (stands es more before e behind is)
 
 -- and where one is, which is exact.
 pub one_more : (on : Bool) (c : Config) (s : Seat) (es : List Event) (g : Event) → TurnsOfAreExact on c s es
-    → EndsExactly on c s es
-    → TurnsOfAreExact on c s (es ++ g ∷ [])
+    → EndsExactly on c s es → TurnsOfAreExact on c s (es ++ g ∷ [])
 one_more on c s es g exact ends before e behind is give same =
-    ⊎_elim
-    (λ (t : InFirst es before e). exact before e t.behind t.is give same)
-    (λ (t : InSecond es (g ∷ []) before e behind). by t.rest t.first t.is)
-    (stands es (g ∷ []) before e behind is)
+    ⊎_elim (λ (t : InFirst es before e). exact before e t.behind t.is give same)
+    (λ (t : InSecond es (g ∷ []) before e behind). by t.rest t.first t.is) (stands es (g ∷ []) before e behind is)
   where
     by : (rest : List Event) → before ≡ es ++ rest → g ∷ [] ≡ rest ++ e ∷ behind → EndsExactly on c s before
-    by [] first is =
-        subst (λ (l : List Event). EndsExactly on c s l) (sym (first ∙ append-nil es)) ends
+    by [] first is = subst (λ (l : List Event). EndsExactly on c s l) (sym (first ∙ append-nil es)) ends
     by (r ∷ []) first is = cc
     by (r ∷ (x ∷ xs)) first is = cc
 
@@ -69,8 +62,7 @@ pub others_give : (s : Seat) (seats : List Seat) (es : List Event) → Has seats
 unfolding AreOfOthers
 others_give s seats [] has others = refl
 others_give s seats (e ∷ es) has others =
-    or_from (own_give s e) (list_any (own_give s) es)
-    (ap (λ (b : Bool). b && is_give e.step)
+    or_from (own_give s e) (list_any (own_give s) es) (ap (λ (b : Bool). b && is_give e.step)
     (false_from_ne_true (is_same_seat s e.seat)
     (λ same. not_both seats e.seat others.0 (subst (λ (t : Seat). Has seats t) (same_seat s e.seat same) has))))
     (others_give s seats es has others.1)
@@ -140,9 +132,9 @@ calls_give p o a more steps =
     (steps_are no_give at_no_give p o a more refl steps)
 
 -- What is made by one step, which isn't a `give`.
-pub one_gives : (p : PassState) (x : Step) (q : PassState) (m : Makes p x q) → Has p.seats p.seat → is_give x ≡ false
+pub one_gives : {p : PassState} {x : Step} {q : PassState} (m : Makes p x q) → Has p.seats p.seat → is_give x ≡ false
     → GivesNone p.seat (m.others ++ event_of p x ∷ [])
-one_gives p x q m has none =
+one_gives {p} {x} m has none =
     gives_append p.seat m.others (event_of p x ∷ []) (others_give p.seat p.seats m.others has m.of_others)
     (or_from (own_give p.seat (event_of p x)) false
     (ap (λ (b : Bool). is_same_seat p.seat p.seat && b) none ∙ and-false (is_same_seat p.seat p.seat)) refl)

@@ -1,12 +1,39 @@
 -- Parts of a turn, one after the other: each pass knows whose turn it is, and what its part lacks.
-use Rattle.mk_alloc.proofs.Vocabulary.{Acts, Does, Event, Has, Holds, InTurn, IsHistory, List, Makes, PassState, Step}
-use Rattle.mk_alloc.proofs.Vocabulary.{ap, append_assoc, does_nothing, does_step, earlier_part_is_history, event_of}
-use Rattle.mk_alloc.proofs.Vocabulary.{now_of, own_before, pass_before, subst, sym, true, turn_stays, [], ◌++◌, ◌∙◌}
-use Rattle.mk_alloc.proofs.Vocabulary.{◌∷◌, ◌≡◌}
+use Rattle.mk_alloc.proofs.Vocabulary.{Acts, Does, Event, Has, Holds, InTurn, IsHistory, List, Makes, Moment, PassState}
+use Rattle.mk_alloc.proofs.Vocabulary.{Step, actor_of, ap, append_assoc, cases_Bool, does_nothing, does_step}
+use Rattle.mk_alloc.proofs.Vocabulary.{earlier_part_is_history, event_of, false, has_step, inl, inr, left, now_of}
+use Rattle.mk_alloc.proofs.Vocabulary.{or_from, own_before, pass_before, refl, subst, sym, true, turn_stays, [], ⊎_elim}
+use Rattle.mk_alloc.proofs.Vocabulary.{◌++◌, ◌∙◌, ◌∷◌, ◌≡◌, ◌≢◌}
+use Rattle.mk_alloc.proofs.Stretches.{AreOfTurn, IsOwn, SomeKinds, Stretch, does_once, does_stretch, first_of}
+use Rattle.mk_alloc.proofs.Stretches.{holds_behind, holds_none, no_kinds, others_stretch}
 use Rattle.mk_alloc.proofs.ListParts.{Lacks, SomeKind, lacks_append}
-use Rattle.mk_alloc.proofs.Stretches.{AreOfTurn, SomeKinds, does_once, does_stretch, holds_behind, no_kinds}
-use Rattle.mk_alloc.proofs.Stretches.{others_stretch}
-use Rattle.mk_alloc.proofs.StepKinds.{AreApart, IsHolders, lacks}
+use Rattle.mk_laws.proofs.Basics.{is_holders}
+use Rattle.mk_laws.proofs.FramesHolders.{acts_as_holder}
+
+-- What stretches of a turn lack, by their kinds of step: what they don't do, others don't do either, where it is the
+-- turn's holder's.
+
+-- The kind is one of the holder's, and none of the others.
+
+abbrev pub IsHolders : SomeKind → Type 0
+IsHolders kind = (x : Step) → is_holders x ≡ false → kind x ≡ false
+
+abbrev pub AreApart : SomeKinds → SomeKind → Type 0
+AreApart kinds kind = (x : Step) → kinds x ≡ true → kind x ≡ false
+
+pub lacks : (p : PassState) (kinds : SomeKinds) (kind : SomeKind) (es more : List Event) → AreOfTurn kinds
+    → Has p.seats p.seat → IsHolders kind → AreApart kinds kind → Stretch p kinds es more → Lacks kind more
+lacks p kinds kind es [] stays own holders apart s = refl
+lacks p kinds kind es (e ∷ rest) stays own holders apart s =
+    let f = first_of e rest stays own s in
+    or_from (kind e.step) (has_step kind rest) (⊎_elim (λ (mine : IsOwn p kinds e). apart e.step mine.1)
+    (λ (ne : e.seat ≢ p.seat). holders e.step (elim (cases_Bool (is_holders e.step)) [
+      | inr other ↦ other
+      | inl holders ↦
+          let m : Moment = (left p.table.config es).now in
+          absurd (holds_none f.at ne (acts_as_holder p.table.config m e.seat e.step
+          (actor_of p.table.config m e.seat e.step f.at.known.orderly f.at.meets) holders))
+    ])) f.who) (lacks p kinds kind (es ++ e ∷ []) rest stays own holders apart f.on)
 
 -- what a pass has seen after parts
 
@@ -52,7 +79,7 @@ pub in_turn_then : (kinds : SomeKinds) (p q : PassState) → AreOfTurn kinds →
 in_turn_then kinds p q stays t d history = record {
   own = has_then kinds p q d t.own;
   holds = subst (λ (x : PassState). Holds x.table.config (now_of x) x.seat) (sym d.is)
-      (holds_behind p kinds stays t.own p.seen d.more (does_stretch p q kinds d history t.holds));
+      (holds_behind p kinds stays t.own (does_stretch d history t.holds));
   history = history;
 }
 
@@ -70,8 +97,7 @@ pub behind_part : {kinds : SomeKinds} {p q : PassState} → Part kinds p q → I
 behind_part {kinds} {p} {q} x = in_turn_then kinds p q x.stays x.turn x.does x.history
 
 pub behind_step : {p : PassState} {s : Step} {q : PassState} → InTurn p → Makes p s q → turn_stays s ≡ true → InTurn q
-behind_step {p} {s} {q} t m stays =
-    in_turn_then turn_stays p q (λ x h. h) t (does_once m stays) m.pass.history
+behind_step {p} {s} {q} t m stays = in_turn_then turn_stays p q (λ x h. h) t (does_once m stays) m.pass.history
 
 -- before a step of the turn's holder
 pub before_act : {p : PassState} {s : Step} {q : PassState} → Acts p s q → InTurn p
@@ -82,17 +108,14 @@ before_act a = record { own = own_before a.makes; holds = a.holds; history = (pa
 pub part_lacks : {kinds : SomeKinds} {p q : PassState} (kind : SomeKind) (x : Part kinds p q) → IsHolders kind
     → AreApart kinds kind → Lacks kind x.does.more
 part_lacks {kinds} {p} {q} kind x holders apart =
-    lacks p kinds kind p.seen x.does.more x.stays x.turn.own holders apart
-    (does_stretch p q kinds x.does x.history x.turn.holds)
+    lacks p kinds kind p.seen x.does.more x.stays x.turn.own holders apart (does_stretch x.does x.history x.turn.holds)
 
 pub others_lack : (kind : SomeKind) (p q : PassState) (s : Step) → IsHolders kind → InTurn p → (m : Makes p s q)
     → IsHistory q.table.config q.seen → Lacks kind m.others
 others_lack kind p q s holders t m history =
-    lacks p no_kinds kind p.seen m.others (λ x h. cc) t.own holders (λ x h. cc)
-    (others_stretch p p.seen m.others t.own
+    lacks p no_kinds kind p.seen m.others (λ x h. cc) t.own holders (λ x h. cc) (others_stretch p p.seen m.others t.own
     (earlier_part_is_history p.table.config (p.seen ++ m.others) (event_of p s ∷ [])
-    (subst (λ (x : PassState). IsHistory x.table.config x.seen) m.is history))
-    t.holds m.of_others)
+    (subst (λ (x : PassState). IsHistory x.table.config x.seen) m.is history)) t.holds m.of_others)
 
 -- One step after a part, and what stands before it: the events of the part, and of others.
 pub record StepBehind (kinds : SomeKinds) (p r : PassState) (s : Step) (q : PassState) : Type 0 where
@@ -109,7 +132,6 @@ step_behind {kinds} {p} {r} {s} {q} x m stays = record {
       seen_then p.seen r.seen q.seen x.does.more _ (seen_behind kinds p r x.does) (seen_made r q s m)
       ∙ ap (λ (l : List Event). p.seen ++ l) (sym (append_assoc x.does.more m.others (event_of r s ∷ [])));
   turn = behind_step (behind_part x) m stays;
-  lacks = λ kind holders apart.
-      lacks_append kind x.does.more m.others (part_lacks kind x holders apart)
+  lacks = λ kind holders apart. lacks_append kind x.does.more m.others (part_lacks kind x holders apart)
       (others_lack kind r q s holders (behind_part x) m m.pass.history);
 }

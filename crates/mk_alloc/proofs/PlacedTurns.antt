@@ -1,22 +1,84 @@
 -- A turn stays quiet where its New's object is granted, and where it only looks.
-use Rattle.mk_alloc.proofs.Vocabulary.{Answer, Config, CountsAreLeft, Does, Event, Flight, Holding, InTurn, IsHistory}
-use Rattle.mk_alloc.proofs.Vocabulary.{IsPlaced, IsQuiet, IsUnplaced, KeepsGates, LeavesTurn, List, None, OnlyLooks}
-use Rattle.mk_alloc.proofs.Vocabulary.{PassState, PlacedAllocation, Placing, Some, Stage, Steady, TurnGoesOn, World, ap}
-use Rattle.mk_alloc.proofs.Vocabulary.{arith, call_of, fresh_words_of, full_answers, has_place, holds_turn, in_a_word}
-use Rattle.mk_alloc.proofs.Vocabulary.{is_held, is_pending_free_at, is_placing, is_undecided_new, known_left, left}
-use Rattle.mk_alloc.proofs.Vocabulary.{looks_left, now_of, releases, same_config, steady_of, subst, sum_by_push, sym}
-use Rattle.mk_alloc.proofs.Vocabulary.{true, unchanged, undecided_new, world_of, [], ◌++◌, ◌+◌, ◌∙◌, ◌∷◌, ◌≡◌}
+use Rattle.mk_alloc.proofs.Vocabulary.{Answer, Bool, Config, CountsAreLeft, Does, Event, Flight, Has, Holding, InTurn}
+use Rattle.mk_alloc.proofs.Vocabulary.{IsHistory, IsPlaced, IsQuiet, IsUnplaced, KeepsGates, LeavesTurn, List, Moment}
+use Rattle.mk_alloc.proofs.Vocabulary.{None, OnlyLooks, PassState, PlacedAllocation, Placing, Seat, Some, Stage, Steady}
+use Rattle.mk_alloc.proofs.Vocabulary.{Step, TurnGoesOn, World, ℕ, actor_of, answer_decided, ap, arith, call_of, ends}
+use Rattle.mk_alloc.proofs.Vocabulary.{event_of, false, fresh_words_of, full_answers, has_place, holds_turn}
+use Rattle.mk_alloc.proofs.Vocabulary.{if◌then◌else◌, in_a_word, is_end, is_held, is_pending_free_at, is_placing}
+use Rattle.mk_alloc.proofs.Vocabulary.{is_undecided_new, known_left, left, left_after, looks_left, now_of, progress}
+use Rattle.mk_alloc.proofs.Vocabulary.{refl, releases, same_config, steady_of, subst, sum_by_push, sym, true, unchanged}
+use Rattle.mk_alloc.proofs.Vocabulary.{undecided_new, world_of, [], ◌++◌, ◌+◌, ◌∙◌, ◌∷◌, ◌≡◌}
+use Rattle.mk_alloc.proofs.Going.{none_held_kept, quiet_kept, same_phase}
+use Rattle.mk_alloc.proofs.Stretches.{Here, Stretch, along, does_stretch, holds_none, widened}
+use Rattle.mk_alloc.proofs.FreedTurns.{given_is_decided}
 use Rattle.mk_alloc.proofs.Parts.{Part, seen_behind}
-use Rattle.mk_alloc.proofs.PlacingStretches.{LeavesBeside, leaves_beside}
-use Rattle.mk_alloc.proofs.QuietTurns.{none_held_kept, quiet_kept, same_phase}
-use Rattle.mk_alloc.proofs.RetiredTurns.{given_is_decided}
-use Rattle.mk_alloc.proofs.Stretches.{does_stretch, widened}
-use Rattle.mk_laws.proofs.Basics.{none_on_its_way}
+use Rattle.mk_laws.proofs.Vocabulary.{Progress}
+use Rattle.mk_laws.proofs.Basics.{Behind, none_on_its_way, tally_keeps}
 use Rattle.mk_laws.proofs.FreshWords.{fresh_pushed}
+use Rattle.mk_laws.proofs.OthersCounts.{answers_full, counts_nothing}
+use Rattle.mk_core.specs.Effects.{holding_behind}
+use Rattle.mk_cycle.proofs.KeptInParts.{held_so}
 use Rattle.mk_cycle.specs.TurnKeeps.{IsGone}
 use Rattle.mk_objects.proofs.JoinedLooks.{looks_call}
+use Rattle.mk_objects.proofs.Reaching.{counts_more}
 use Rattle.mk_objects.specs.Placing.{object_at_place}
 use Rattle.mk_objects.specs.Unchanged.{IsAsLeft}
+
+-- Stretches of a turn in which no gate is held or opened, no cycle ends, no New is full and no object is freed.
+
+placing_gates : (c : Config) (m : Moment) (seat : Seat) (x : Step) → is_placing x ≡ true
+    → (Behind c m seat x).words.gates ≡ m.words.gates
+placing_gates c m seat x3 h = grind (arith, tally_keeps)
+
+placing_frees_none : (c : Config) (m : Moment) (seat : Seat) (f : Flight) (n : ℕ) (x : Step) (h : Holding)
+    → is_placing x ≡ true → (holding_behind c m seat f n x h).freed ≡ h.freed
+placing_frees_none c m seat f n x5 h kind = grind arith
+
+placing_ends_none : (x : Step) → is_placing x ≡ true → is_end x ≡ false
+placing_ends_none x h = grind arith
+
+either_answer : (b : Bool) (x y : Progress) → answers_full x.answer ≡ false → answers_full y.answer ≡ false
+    → answers_full (if b then x else y).answer ≡ false
+either_answer x0 x y one two = grind arith
+
+placing_answers : (c : Config) (m : Moment) (f : Flight) (n : ℕ) (x : Step) → is_placing x ≡ true
+    → answers_full (progress c m f n x).answer ≡ false
+placing_answers c m f n x4 h = grind (arith, either_answer)
+
+placing_decides : (c : Config) (m : Moment) (seat : Seat) (x : Step) → is_placing x ≡ true
+    → answers_full (answer_decided c m (record { seat = seat; step = x })) ≡ false
+placing_decides c m x2 x h = grind (arith, placing_answers)
+
+-- Gates are held as before, the counts are as before, and so is the run that the call has freed.
+pub record LeavesBeside (p : PassState) (es fs : List Event) : Type 0 where
+  pub gates : (j : ℕ) → is_held (left p.table.config fs).now.words j ≡ is_held (left p.table.config es).now.words j
+  pub counts : CountsAreLeft p.table.config es fs
+  pub freed : (left p.table.config fs).now.seats.holding.freed ≡ (left p.table.config es).now.seats.holding.freed
+
+beside_then : {p : PassState} {es fs : List Event} (gs : List Event) → LeavesBeside p es fs → LeavesBeside p fs gs
+    → LeavesBeside p es gs
+beside_then gs a b = grind arith
+
+own_beside : {p : PassState} {es : List Event} (x : Step) → Here p es (event_of p x) → is_placing x ≡ true
+    → LeavesBeside p es (es ++ event_of p x ∷ [])
+own_beside x h kind = grind (arith, placing_gates, counts_more, placing_ends_none, placing_decides, placing_frees_none)
+
+pub leaves_beside : {p : PassState} {es more : List Event} → Has p.seats p.seat → Stretch p is_placing es more
+    → LeavesBeside p es (es ++ more)
+leaves_beside {p} {es} {more} own s =
+    along p is_placing (λ x h. grind arith) own (λ (l : List Event). LeavesBeside p es l)
+    (λ fs x h kind so_far. beside_then (fs ++ event_of p x ∷ []) so_far (own_beside x h kind))
+    (λ fs e h ne so_far. beside_then (fs ++ e ∷ []) so_far (let c : Config = p.table.config in
+    let m : Moment = (left c fs).now in
+    let l = left_after c (left c fs) e.seat p.seat e.step h.known h.meets ne in
+    let t = l.turn h.holds in
+    let none = counts_nothing c m e.seat e.step (holds_none h ne)
+    (actor_of c m e.seat e.step h.known.orderly h.meets) in
+    record {
+      gates = λ j. ap (λ (w : World). is_held w.now.words j) h.behind ∙ held_so _ _ (t.held_gates j) (t.other_gates j);
+      counts = counts_more c fs e none.0 none.1;
+      freed = cc (h.behind, (l.own.holding h.holds).1);
+    })) es more s (record { gates = λ j. refl; counts = record { ends = refl; fulls = refl }; freed = refl })
 
 pub place_part : {p q : PassState} → InTurn p → Does is_placing p q → IsHistory q.table.config q.seen
     → Part is_placing p q
@@ -27,7 +89,7 @@ pub none_freed_yet : {p : PassState} → InTurn p → is_undecided_new (call_of 
     ≡ None
 none_freed_yet t new = grind (arith, known_left, none_on_its_way, holds_turn, undecided_new)
 
-module _ (p q : PassState) (t : InTurn p) (d : Does is_placing p q) (history : IsHistory q.table.config q.seen) where
+module _ {p q : PassState} (t : InTurn p) (d : Does is_placing p q) (history : IsHistory q.table.config q.seen) where
   beside : LeavesBeside p p.seen q.seen
   beside = grind (arith, seen_behind, leaves_beside, does_stretch)
 
@@ -58,16 +120,16 @@ module _ (p q : PassState) (t : InTurn p) (u : IsUnplaced p) (quiet : IsQuiet p)
           pass = looks.same;
           call = looks_call looks;
           done = ap (λ (h : Holding). record { placing = h.placing; freed = h.freed; cycle = h.cycle }) l.holding;
-          gone = λ gone. gone_beside p q t d history (none_freed_yet t u.new);
+          gone = λ gone. gone_beside t d history (none_freed_yet t u.new);
         };
         steady = l.steady;
-        counts = counts_beside p q t d history;
+        counts = counts_beside t d history;
       }
 
   pub looked_beside : TurnGoesOn None p q
   looked_beside = record {
     does = widened (λ x h. grind arith) looks.does;
-    quiet = quiet_kept quiet kept (gates_beside p q t d history);
+    quiet = quiet_kept quiet kept (gates_beside t d history);
     entry = looks.calls;
     op = ap (λ (f : Flight). f.op) (looks_call looks);
     decided = λ some. cc;
@@ -75,7 +137,7 @@ module _ (p q : PassState) (t : InTurn p) (u : IsUnplaced p) (quiet : IsQuiet p)
   }
 
 -- where the object is granted
-module _ (p q : PassState) (t : InTurn p) (u : IsUnplaced p) (quiet : IsQuiet p) (placed : IsPlaced p q)
+module _ {p q : PassState} (t : InTurn p) (u : IsUnplaced p) (quiet : IsQuiet p) (placed : IsPlaced p q)
     (history : IsHistory q.table.config q.seen) where
   there : world_of q ≡ left p.table.config q.seen
   there = ap (λ (c : Config). left c q.seen) (same_config p q placed.granted.same)
@@ -83,19 +145,17 @@ module _ (p q : PassState) (t : InTurn p) (u : IsUnplaced p) (quiet : IsQuiet p)
   granted : PlacedAllocation
   granted = object_at_place p.table.config (call_of p) placed.place
 
-  steady : steady_of (world_of q)
-      ≡ record (steady_of (world_of p)) {
-        pages = (now_of q).words.pages;
-        held = (now_of q).words.held;
-        allocations = (world_of p).allocations ++ granted ∷ [];
-      }
+  steady : steady_of (world_of q) ≡ record (steady_of (world_of p)) {
+    pages = (now_of q).words.pages;
+    held = (now_of q).words.held;
+    allocations = (world_of p).allocations ++ granted ∷ [];
+  }
   unfolding granted
-  steady = subst (λ (w : World). steady_of w
-      ≡ record (steady_of (world_of p)) {
-        pages = w.now.words.pages;
-        held = w.now.words.held;
-        allocations = (world_of p).allocations ++ granted ∷ [];
-      }) (sym there) placed.granted.world.steady
+  steady = subst (λ (w : World). steady_of w ≡ record (steady_of (world_of p)) {
+    pages = w.now.words.pages;
+    held = w.now.words.held;
+    allocations = (world_of p).allocations ++ granted ∷ [];
+  }) (sym there) placed.granted.world.steady
 
   allocations : (world_of q).allocations ≡ (world_of p).allocations ++ granted ∷ []
   allocations = ap (λ (s : Steady). s.allocations) steady
@@ -110,35 +170,34 @@ module _ (p q : PassState) (t : InTurn p) (u : IsUnplaced p) (quiet : IsQuiet p)
   releases_same = grind (arith, allocations, granted, sum_by_push)
 
   counts : CountsAreLeft p.table.config p.seen q.seen
-  counts = counts_beside p q t placed.granted.does history
+  counts = counts_beside t placed.granted.does history
 
   decided : (call_of q).stage ≡ Stage.Give
   decided = grind arith
 
   quiet_behind : IsQuiet q
-  quiet_behind =
-      record {
-        free = record {
-          decided = ap (λ (s : Stage). is_pending_free_at (call_of q).op s) decided ∙ given_is_decided (call_of q).op;
-          unplaced =
-              ap (λ (w : World). has_place w.now.seats.holding.placing) there
-              ∙ ap (λ (x : Placing). has_place x) placed.granted.world.placing;
-          gone = gone_beside p q t placed.granted.does history (none_freed_yet t u.new);
-        };
-        phase = same_phase p q (ap (λ (s : Steady). s.phase) steady) quiet.phase;
-        gates = none_held_kept p q placed.granted.same (gates_beside p q t placed.granted.does history) quiet.gates;
-        exact = record {
-          held = placed.held;
-          fresh = ap (λ (s : Steady). s.fresh) steady ∙ quiet.exact.fresh ∙ ap in_a_word (sym fresh_same);
-        };
-        tidy = record {
-          cycles = ap (λ (s : Steady). s.cycles) steady ∙ quiet.tidy.cycles ∙ ap in_a_word (sym counts.ends);
-          released = ap (λ (s : Steady). s.released) steady ∙ quiet.tidy.released ∙ ap in_a_word (sym releases_same);
-          full =
-              ap (λ (s : Steady). s.full) steady ∙ quiet.tidy.full ∙ ap in_a_word (sym counts.fulls)
-              ∙ ap (λ (c : Config). in_a_word (full_answers c q.seen)) (sym (same_config p q placed.granted.same));
-        };
-      }
+  quiet_behind = record {
+    free = record {
+      decided = ap (λ (s : Stage). is_pending_free_at (call_of q).op s) decided ∙ given_is_decided (call_of q).op;
+      unplaced =
+          ap (λ (w : World). has_place w.now.seats.holding.placing) there
+          ∙ ap (λ (x : Placing). has_place x) placed.granted.world.placing;
+      gone = gone_beside t placed.granted.does history (none_freed_yet t u.new);
+    };
+    phase = same_phase p q (ap (λ (s : Steady). s.phase) steady) quiet.phase;
+    gates = none_held_kept p q placed.granted.same (gates_beside t placed.granted.does history) quiet.gates;
+    exact = record {
+      held = placed.held;
+      fresh = ap (λ (s : Steady). s.fresh) steady ∙ quiet.exact.fresh ∙ ap in_a_word (sym fresh_same);
+    };
+    tidy = record {
+      cycles = ap (λ (s : Steady). s.cycles) steady ∙ quiet.tidy.cycles ∙ ap in_a_word (sym counts.ends);
+      released = ap (λ (s : Steady). s.released) steady ∙ quiet.tidy.released ∙ ap in_a_word (sym releases_same);
+      full =
+          ap (λ (s : Steady). s.full) steady ∙ quiet.tidy.full ∙ ap in_a_word (sym counts.fulls)
+          ∙ ap (λ (c : Config). in_a_word (full_answers c q.seen)) (sym (same_config p q placed.granted.same));
+    };
+  }
 
   pub placed_on : TurnGoesOn (Some Answer.Done) p q
   placed_on = record {

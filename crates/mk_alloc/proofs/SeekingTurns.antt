@@ -7,22 +7,20 @@ use Rattle.mk_alloc.proofs.Vocabulary.{PlacedAllocation, Seeks, Some, Steady, Tu
 use Rattle.mk_alloc.proofs.Vocabulary.{call_of, false, is_look, looks_left, new_is_acting, now_of, object_for}
 use Rattle.mk_alloc.proofs.Vocabulary.{object_made, only_seen, own_seat, phase_of, place_after, place_now_for, refl}
 use Rattle.mk_alloc.proofs.Vocabulary.{subst, world_of, ◌==◌, ◌∙◌, ◌≡◌}
+use Rattle.mk_alloc.proofs.Going.{IsCallers, begun_on, finished_on, look_part, looked_on, on_then, same_phase}
+use Rattle.mk_alloc.proofs.GrantParts.{calm_last, finish_room, grants_none, last_behind, no_place, none_behind}
+use Rattle.mk_alloc.proofs.GrantParts.{none_last, none_then, nowhere_then, part_begun, room_kept, room_lacks, room_then}
 use Rattle.mk_alloc.proofs.CalmStretches.{cycles_in_turn, is_of_cycles}
-use Rattle.mk_alloc.proofs.Going.{IsCallers, begun_on, finished_on, look_part, looked_on, on_then}
-use Rattle.mk_alloc.proofs.GrantParts.{calm_last, grants_none, last_behind, none_last, none_then}
-use Rattle.mk_alloc.proofs.PlacedTurns.{looked_beside, place_part, placed_on}
-use Rattle.mk_alloc.proofs.RoomParts.{finish_room, no_place, none_behind, nowhere_then, part_begun, room_kept}
-use Rattle.mk_alloc.proofs.RoomParts.{room_lacks, room_then}
 use Rattle.mk_alloc.proofs.CycleParts.{begin_done, finish_done}
 use Rattle.mk_alloc.proofs.FullLeaves.{cycles_leave, leaves_then}
 use Rattle.mk_alloc.proofs.Parts.{Part}
-use Rattle.mk_alloc.proofs.QuietTurns.{same_phase}
+use Rattle.mk_alloc.proofs.PlacedTurns.{looked_beside, place_part, placed_on}
 use Rattle.mk_alloc.proofs.Stretches.{widened}
-use Rattle.mk_alloc.specs.Rooms.{MisfitsIdly}
 use Rattle.mk_core.specs.Allocations.{place_among_allocations}
+use Rattle.mk_alloc.specs.Rooms.{MisfitsIdly}
+use Rattle.mk_objects.proofs.JoinedLooks.{looks_object, looks_unplaced}
 use Rattle.mk_objects.specs.Placing.{Requests}
 use Rattle.mk_objects.specs.declared.objects.Request.{Request}
-use Rattle.mk_objects.proofs.JoinedLooks.{looks_object, looks_unplaced}
 
 -- An undecided New is a caller's.
 pub new_callers : {p : PassState} → IsUnplaced p → IsCallers p
@@ -41,9 +39,8 @@ seeks_then {a} {p} {q} {r} x y =
     let one = x.on.does in
     let two = y.on.does in
     record {
-      on = on_then a p q r x.on y.on;
-      room = room_then (object_for p) one two x.room
-          (subst (λ (o : Object). AsksRoom o q r) (same_object x.on) y.room);
+      on = on_then x.on y.on;
+      room = room_then (object_for p) one two x.room (subst (λ (o : Object). AsksRoom o q r) (same_object x.on) y.room);
       none = λ none. none_then one two (x.none refl) (y.none none);
       leaves = λ none. leaves_then (only_seen p q one.more one.is) (x.leaves refl) (y.leaves none);
       last = last_behind one two (x.none refl) y.last;
@@ -59,8 +56,7 @@ still_nowhere p q same config object none =
     ap (λ (xs : List PlacedAllocation). place_among_allocations q.table.config (object_for q).words
     (object_for q).leaf xs) same
     ∙ ap (λ (c : Config). place_among_allocations c (object_for q).words (object_for q).leaf (world_of p).allocations)
-    config
-    ∙ ap (λ (o : Object). place_among_allocations p.table.config o.words o.leaf (world_of p).allocations) object
+    config ∙ ap (λ (o : Object). place_among_allocations p.table.config o.words o.leaf (world_of p).allocations) object
     ∙ none
 
 pub unplaced_kept : {p q : PassState} → IsUnplaced p → call_of q ≡ call_of p
@@ -69,12 +65,12 @@ pub unplaced_kept : {p q : PassState} → IsUnplaced p → call_of q ≡ call_of
 unplaced_kept u call placing phase = grind (arith, same_phase)
 
 -- Where the object is granted no room is asked for.
-pub seeks_placed : (p q : PassState) → InTurn p → IsUnplaced p → IsQuiet p → IsPlaced p q
+pub seeks_placed : {p q : PassState} → InTurn p → IsUnplaced p → IsQuiet p → IsPlaced p q
     → IsHistory q.table.config q.seen → Seeks (Some Answer.Done) p q
-seeks_placed p q t u quiet placed history =
+seeks_placed {p} t u quiet placed history =
     let x = place_part t placed.granted.does history in
     record {
-      on = placed_on p q t u quiet placed history;
+      on = placed_on t u quiet placed history;
       room = room_lacks (object_for p) x (λ x h. grind arith);
       none = λ none. cc;
       leaves = λ none. cc;
@@ -106,7 +102,7 @@ module _ {p : PassState} (t : InTurn p) (u : IsUnplaced p) (quiet : IsQuiet p) w
   pub misfits_here : {q : PassState} → FitsNowhere p q → IsHistory q.table.config q.seen → Misfits p q
   misfits_here {q} f history = record {
     seeks = looked_undecided (looked_beside p q t u quiet f.looks history) f.looks.does history;
-    unplaced = looks_unplaced p q f.looks u;
+    unplaced = looks_unplaced q f.looks u;
     nowhere = still_nowhere p q (ap (λ (s : Steady). s.allocations) (looks_left p q f.looks).steady)
         (ap (λ (x : PassState). x.table.config) f.looks.same) (looks_object p q f.looks) f.nowhere;
   }

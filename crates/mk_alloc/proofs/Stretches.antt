@@ -78,9 +78,9 @@ here p es e whole holds =
     }
 
 -- Who doesn't have the seat doesn't hold the turn.
-pub holds_none : (p : PassState) (es : List Event) (e : Event) → Here p es e → e.seat ≢ p.seat
+pub holds_none : {p : PassState} {es : List Event} {e : Event} → Here p es e → e.seat ≢ p.seat
     → HoldsTurn p.table.config (view_of (left p.table.config es).now) e.seat → ⊥
-holds_none p es e h ne out =
+holds_none {p} {es} h ne out =
     let m : Moment = (left p.table.config es).now in
     ne (same_holder _ (view_of m) _ _ h.known.orderly out (holds_turn _ m _ h.known.orderly h.holds))
 
@@ -94,8 +94,7 @@ holds_own p es x own h stays =
       pass = record { own = own; history = h.whole };
     } in
     let t : IsTurn (seeing p es) = record { holds = h.holds } in
-    (still_turn (seeing p es) x (seeing p (es ++ event_of p x ∷ [])) m
-    stays t).holds
+    (still_turn (seeing p es) x (seeing p (es ++ event_of p x ∷ [])) m stays t).holds
 
 holds_other : (p : PassState) (es : List Event) (e : Event) → Here p es e → e.seat ≢ p.seat
     → Holds p.table.config (left p.table.config (es ++ e ∷ [])).now p.seat
@@ -109,10 +108,10 @@ pub record First (p : PassState) (kinds : SomeKinds) (es : List Event) (e : Even
   pub who : IsOwn p kinds e ⊎ (e.seat ≢ p.seat)
   pub on : Stretch p kinds (es ++ e ∷ []) rest
 
-pub first_of : (p : PassState) (kinds : SomeKinds) (es : List Event) (e : Event) (rest : List Event) → AreOfTurn kinds
+pub first_of : {p : PassState} {kinds : SomeKinds} {es : List Event} (e : Event) (rest : List Event) → AreOfTurn kinds
     → Has p.seats p.seat → Stretch p kinds es (e ∷ rest) → First p kinds es e rest
 unfolding AreOwnOrOfOthers own_from
-first_of p kinds es e rest stays own s = by (is_same_seat p.seat e.seat) refl s.of_kinds
+first_of {p} {kinds} {es} e rest stays own s = by (is_same_seat p.seat e.seat) refl s.of_kinds
   where
     whole : IsHistory p.table.config ((es ++ e ∷ []) ++ rest)
     whole = subst (λ (l : List Event). IsHistory p.table.config l) (sym (append_assoc es (e ∷ []) rest)) s.history
@@ -160,7 +159,7 @@ module _ (p : PassState) (kinds : SomeKinds) (stays : AreOfTurn kinds) (own : Ha
       subst R (append_assoc es (e ∷ []) rest) (along R mine others (es ++ e ∷ []) rest f.on (by f.who))
     where
       f : First p kinds es e rest
-      f = first_of p kinds es e rest stays own s
+      f = first_of e rest stays own s
 
       by : IsOwn p kinds e ⊎ (e.seat ≢ p.seat) → R (es ++ e ∷ [])
       by (inl is) =
@@ -170,9 +169,9 @@ module _ (p : PassState) (kinds : SomeKinds) (stays : AreOfTurn kinds) (own : Ha
       by (inr ne) = others es e f.at ne r
 
   -- the turn is held after it
-  pub holds_behind : (es more : List Event) → Stretch p kinds es more
+  pub holds_behind : {es more : List Event} → Stretch p kinds es more
       → Holds p.table.config (left p.table.config (es ++ more)).now p.seat
-  holds_behind es more s =
+  holds_behind {es} {more} s =
       along (λ (l : List Event). Holds p.table.config (left p.table.config l).now p.seat)
       (λ fs x h kind held. holds_own p fs x own h (stays x kind)) (λ fs e h ne held. holds_other p fs e h ne) es more s
       s.holds
@@ -201,9 +200,9 @@ first_part p kinds es xs ys s =
     }
 
 -- what a pass did
-pub does_stretch : (p q : PassState) (kinds : SomeKinds) (d : Does kinds p q) → IsHistory q.table.config q.seen
+pub does_stretch : {p q : PassState} {kinds : SomeKinds} (d : Does kinds p q) → IsHistory q.table.config q.seen
     → Holds p.table.config (now_of p) p.seat → Stretch p kinds p.seen d.more
-does_stretch p q kinds d history holds = record {
+does_stretch d history holds = record {
   history = subst (λ (x : PassState). IsHistory x.table.config x.seen) d.is history;
   holds = holds;
   own_or_others = d.own_or_others;

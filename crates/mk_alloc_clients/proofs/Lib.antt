@@ -1,7 +1,3 @@
-mod Alone
-mod FoundRoom
-pub mod MadeCalls
-mod MadeNumbers
 mod OnePage
 mod Owned
 pub mod OwnedCalls

@@ -1,18 +1,34 @@
 -- The place of a number on a heap of one page, by what its only page shows.
-use Rattle.std.proofs.Common.{option_map, w64}
+use Rattle.std.proofs.Common.{ltb-false, option_map, w64}
 use Rattle.std.specs.Bool.{then_some}
 use Rattle.std.specs.Int.{trailing_ones}
-use Rattle.mk_laws.proofs.Vocabulary.{Bool, Config, IsHistory, List, None, Object, Option, Page, Place, Some, ℕ, ap}
-use Rattle.mk_laws.proofs.Vocabulary.{arith, block_header, false, free_page, header_of, histories_keep_lengths}
-use Rattle.mk_laws.proofs.Vocabulary.{if◌then◌else◌, length, nat_lt, not, or_else, place_on_pages, refl, resident_pages}
-use Rattle.mk_laws.proofs.Vocabulary.{slice_index_or, sym, true, use_under, word_of, [], ◌<◌, ◌^◌, ◌∙◌, ◌∷◌, ◌≡◌, ◌≢◌}
-use Rattle.mk_alloc.proofs.Vocabulary.{PassState, now_of, object_for}
+use Rattle.mk_alloc.proofs.Vocabulary.{BeginsTurn, CalledInTurn, FitsNowhere, IsEnabledTo, IsFresh, IsPlaced, IsTurn}
+use Rattle.mk_alloc.proofs.Vocabulary.{IsUnplaced, OnlyLooks, PassState, TakesTurn, caller_of_pass, looks_left, now_of}
+use Rattle.mk_alloc.proofs.Vocabulary.{object_for, own_before}
+use Rattle.mk_alloc.proofs.CalledTurns.{Taken, callers, take_allowed, taken_phase}
+use Rattle.mk_alloc.proofs.NewTurns.{operands_of}
+use Rattle.mk_laws.proofs.Vocabulary.{Answer, Bool, Config, IsHistory, IsWithinLimits, Kind, List, None, Number, Object}
+use Rattle.mk_laws.proofs.Vocabulary.{Op, Option, Page, Place, Some, Steady, Step, TalliesAreTidy, ℕ, ap, append-nil}
+use Rattle.mk_laws.proofs.Vocabulary.{arith, block_header, false, free_page, get_or_past, header_of}
+use Rattle.mk_laws.proofs.Vocabulary.{histories_keep_lengths, if◌then◌else◌, kinds_of, length, lt-ltb, ltb-true, nat_lt}
+use Rattle.mk_laws.proofs.Vocabulary.{not, or_else, phase_of, place_on_pages, refl, resident_pages, slice_index_or}
+use Rattle.mk_laws.proofs.Vocabulary.{subst, sym, true, use_under, word_of, [], ◌<◌, ◌^◌, ◌∙◌, ◌∷◌, ◌≡◌, ◌≢◌}
 use Rattle.mk_geom.specs.PageUses.{carved, cells_taken, first_where, small_place}
 use Rattle.mk_geom.specs.PageWords.{use_of_page}
 use Rattle.mk_books.proofs.UsedBitLemmas.{first_where-bits_of}
+use Rattle.mk_core.specs.Counts.{TalliesAreExact}
 use Rattle.mk_core.specs.Words.{page_of}
+use Rattle.mk_alloc_clients.proofs.OwnedCalls.{granted}
 use Rattle.mk_alloc_clients.specs.Making.{one_number}
-use Rattle.mk_objects.proofs.SoughtPlaces.{cells_under_other, cells_under_wanted, taken_under_other}
+use Rattle.mk_alloc_clients.specs.Owned.{HasNumber}
+use Rattle.mk_caller.specs.States.{IsIdleCaller}
+use Rattle.mk_objects.proofs.FoundPlaces.{cells_under_other, cells_under_wanted, taken_under_other}
+use Rattle.mk_objects.proofs.PlacedNews.{fit_within, goes_behind, place_found}
+use Rattle.mk_objects.proofs.JoinedLooks.{granted_behind_looks, looks_pages}
+use Rattle.mk_objects.specs.Placing.{GoesTo, HeldIsExact, IsGranted}
+use Rattle.mk_words.specs.Seats.{CallersAreBeforeOver}
+use Rattle.mk_words.specs.States.{WordsState}
+use Rattle.mk_words.specs.Steps.{Finds}
 
 -- where a number goes on a heap of this page alone
 abbrev pub place_on : Page → Option Place
@@ -78,3 +94,95 @@ fit_on_page p page h one number is =
     ∙ ap (λ n. place_on_pages n (now_of p).words.pages one_number) resident
     ∙ ap (λ (ps : List Page). place_on_pages 1 ps one_number) (only_page (now_of p).words.pages (lengths ∙ one))
     ∙ ap (λ (x : Page). place_on x) (sym is)
+
+-- A turn that puts a number on the only page: what its looks say, and that its call is that of a New.
+
+-- Looks leave what was seen.
+
+pub page_kept : (p q : PassState) → OnlyLooks p q → page_of (now_of p).words 0 ≡ page_of (now_of q).words 0
+page_kept p q a = ap (λ (ps : List Page). slice_index_or ps 0 free_page) (sym (looks_pages a))
+
+pub held_kept : (p q : PassState) → OnlyLooks p q → (now_of p).words.held ≡ (now_of q).words.held
+held_kept p q a = sym (ap (λ (x : Steady). x.held) (looks_left p q a).steady)
+
+pub phase_kept : (p q : PassState) → OnlyLooks p q → phase_of (now_of p).words ≡ phase_of (now_of q).words
+phase_kept p q a = sym (ap (λ (x : Steady). x.phase) (looks_left p q a).steady)
+
+-- There is a first page.
+pub first_page : (p : PassState) (w : WordsState) → p.table ≡ w → IsWithinLimits w.config
+    → nat_lt 0 p.table.config.pages ≡ true
+first_page p w table limits = grind (arith, lt-ltb)
+
+-- The type of one number exists,
+pub type_exists : (types : List (List Kind)) (ty : ℕ) → kinds_of types ty ≡ Number ∷ [] → ty < length types
+type_exists types ty is = grind (arith, ltb-true, ltb-false, get_or_past)
+
+-- A turn that is taken at once is taken.
+pub taken_at_once : (p q : PassState) (o : Option Op) → Finds p (Step.Take o) 0 q → TakesTurn p o q
+taken_at_once p q o f = grind (arith, append-nil)
+
+-- The place of a number, from what a look round says, and what comes of it.
+
+module _ {p : PassState} (q : PassState) (page : Page) (found : Option Place) (turn : IsTurn p)
+    (h : IsHistory p.table.config p.seen) (u : IsUnplaced p) (one : p.table.config.pages ≡ 1) (number : object_for p
+    ≡ one_number) (looks : OnlyLooks p q) (sees : page ≡ page_of (now_of q).words 0) (is : found ≡ place_on page) where
+  fit : place_on_pages p.table.config.resident (now_of p).words.pages (object_for p) ≡ found
+  fit = fit_on_page p page h one number (sees ∙ sym (page_kept p q looks)) ∙ sym is
+
+  pub goes : (place : Place) → found ≡ Some place → GoesTo q place
+  goes place there = goes_behind place looks u (fit ∙ there)
+
+  pub sees_page : (place : Place) → found ≡ Some place → page ≡ page_of (now_of q).words place.page
+  sees_page place there =
+      let within = fit_within place turn h u (fit ∙ there) in
+      let lengths = (histories_keep_lengths p.table.config p.seen).pages in
+      let first : 0 ≡ place.page = omega arith in
+      sees ∙ ap (λ i. page_of (now_of q).words i) first
+
+  pub nowhere : found ≡ None → FitsNowhere p q
+  nowhere none = record { nowhere = place_found turn h u (fit ∙ none); looks = looks }
+
+  pub placed : (r : PassState) (place : Place) → found ≡ Some place → IsGranted q place r → HeldIsExact r → IsPlaced p r
+  placed r place there granted held = record {
+    place = place;
+    fits = place_found turn h u (fit ∙ there);
+    granted = granted_behind_looks looks granted;
+    held = held;
+  }
+
+-- The New of a number, from its turn's parts.
+
+-- The turn of the New, as it was taken.
+pub record TakenNew (p : PassState) (d ty : ℕ) (q : PassState) : Type 0 where
+  pub took : Taken (Op.New d ty false) p q
+  pub begins : BeginsTurn (Op.New d ty false) q
+
+module _ {p : PassState} (d ty : ℕ) (idle : IsIdleCaller p) (exists : caller_of_pass p < p.table.config.callers) where
+  pub may_take : d < 8 → kinds_of p.table.config.types ty ≡ Number ∷ []
+      → IsEnabledTo p (Step.Take (Some (Op.New d ty false)))
+  may_take lt kinds = take_allowed (Op.New d ty false) idle exists refl
+      (operands_of p.table.config d ty lt (type_exists p.table.config.types ty kinds))
+
+  pub taken_new : {taken : PassState} → p.seats ≡ p.seat ∷ [] → Finds p (Step.Take (Some (Op.New d ty false))) 0 taken
+      → IsFresh taken (Some (Op.New d ty false)) → TalliesAreExact taken.table.config taken.seen
+      → TalliesAreTidy taken.table.config taken.seen
+      → CallersAreBeforeOver taken.table.config taken.seats taken.seen → TakenNew p d ty taken
+  taken_new {taken} alone finds fresh exact tidy before =
+      let takes = taken_at_once p taken (Some (Op.New d ty false)) finds in
+      let own = own_before finds.makes in
+      record {
+        took = record { seat = callers idle; own = own; takes = takes };
+        begins = record {
+          fresh = fresh;
+          phase = taken_phase (callers idle) exists alone own takes fresh finds.makes.pass.history before;
+          exact = exact;
+          tidy = tidy;
+        };
+      }
+
+-- It owns its number then.
+pub made_owns : {on : Bool} {p q : PassState} (d ty : ℕ) → CalledInTurn on p (Op.New d ty false) Answer.Done q
+    → IsHistory q.table.config q.seen → kinds_of p.table.config.types ty ≡ Number ∷ [] → HasNumber q d 0
+made_owns {p = p} d ty c h kinds =
+    subst (λ (r : PassState). HasNumber r d 0) (sym c.is)
+    (granted p d ty c.more (subst (λ (r : PassState). IsHistory r.table.config r.seen) c.is h) c.entry c.decided kinds)

@@ -1,32 +1,176 @@
 -- A number that a caller owns: what other callers leave of it, and what its own calls do.
-use Rattle.std.proofs.Common.{ltb-false, set}
-use Rattle.mk_laws.proofs.Vocabulary.{AreAdmitted, Call, Continues, IsAdmitted, IsNumber, IsSound, IsTyped, Kind, List}
-use Rattle.mk_laws.proofs.Vocabulary.{Suits, To, Value, WordOf, ℕ, after_calls, allocation_at, ap, arith, cases_Bool}
-use Rattle.mk_laws.proofs.Vocabulary.{false, get_or, get_or-set_same, get_or_past, inl, inr, kinds_of, length}
-use Rattle.mk_laws.proofs.Vocabulary.{register_at, set_by, subst, sym, target_of, with_word, word_at, words_of, [], ◌*◌}
-use Rattle.mk_laws.proofs.Vocabulary.{◌+◌, ◌<◌, ◌∙◌, ◌∷◌, ◌≡◌, ◌≢◌}
-use Rattle.mk_never.proofs.Edits.{exists}
+use Rattle.mk_alloc_clients.specs.Owned.{IsKnownToAlone, IsRegisterOf, OwnsNumberIn, number_behind}
+use Rattle.mk_never.proofs.Edits.{exists, if_by, left_at_by}
 use Rattle.mk_never.proofs.Fresh.{new_adds}
 use Rattle.mk_never.proofs.Later.{op_stays}
 use Rattle.mk_never.proofs.Registers.{destination, op_keeps}
-use Rattle.mk_never.specs.Admitted.{IsCaller}
-use Rattle.mk_never.specs.NeverHeap.{after_op, left_at, reply_at, reply_of}
+use Rattle.mk_never.specs.Admitted.{IsCaller, OperandsAreInRange}
 use Rattle.mk_never.specs.Laws.{AreNotBy}
+use Rattle.mk_never.specs.NeverHeap.{after_op, left_at, moved_on, reply_at, reply_of}
 use Rattle.mk_never.specs.Reach.{LeadsTo}
+use Rattle.mk_never.specs.Types.{zero_of}
+use Rattle.mk_never.specs.declared.operations.Op.TheVariants.{CasPtr, Clear, Free, GetGlobal, GetNum, GetPtr, IsNull}
+use Rattle.mk_never.specs.declared.operations.Op.TheVariants.{Lea, Move, New, Same, SetGlobal, SetNum, SetPtr}
 use Rattle.mk_never.specs.declared.operations.Reply.{Reply}
 use Rattle.mk_never.specs.declared.values.Target.{Target}
-use Rattle.mk_alloc_clients.proofs.Alone.{op_stays_alone, push_keeps, word_alone, zeros_lead_nowhere}
-use Rattle.mk_alloc_clients.specs.Owned.{IsRegisterOf, OwnsNumberIn, number_behind}
-use Rattle.mk_laws.proofs.Vocabulary.{Meets, NeverAllocation as Allocation, NeverState, Null, Num, Number, Op, Ptr}
-use Rattle.mk_laws.proofs.Vocabulary.{length-set, ltb-true, nat_lt, no_allocation, number_of as number_in, refl}
+use Rattle.std.proofs.Common.{ltb-false, set}
+use Rattle.mk_laws.proofs.Vocabulary.{AreAdmitted, Call, Continues, IsAdmitted, IsNumber, IsSound, IsTyped, Kind, List, Meets, NeverAllocation as Allocation, NeverState, Null, Num, Number, Op, Ptr, Suits, To, Value, WordOf, [], after_calls, after_free, allocation_at, ap, arith, cases_Bool, false, get_or, get_or-set_other, get_or-set_same, get_or_append_left, get_or_past, inl, inr, is_same, kinds_of, length, length-set, ltb-true, map, nat_lt, no_allocation, number_of as number_in, refl, register_at, set_by, subst, suc, sym, target_of, with_freed, with_global, with_new, with_register, with_word, word_at, words_of, zero, ℕ, ◌*◌, ◌++◌, ◌+◌, ◌<◌, ◌∙◌, ◌∷◌, ◌≡◌, ◌≢◌}
+
+-- What other callers' operations leave of an object that one caller alone knows of: all of it.
+
+-- what holds of the appended element and of what stood at the place holds of what stands there
+pub push_keeps : {A : Type 0} (P : A → Type 0) (xs : List A) (x d : A) (k : ℕ) → P x → P (get_or xs k d)
+    → P (get_or (xs ++ x ∷ []) k d)
+push_keeps P [] x d zero new old = new
+push_keeps P [] x d (suc k) new old = old
+push_keeps P (y ∷ xs) x d zero new old = old
+push_keeps P (y ∷ xs) x d (suc k) new old = push_keeps P xs x d k new old
+
+-- zero words lead nowhere
+pub zeros_lead_nowhere : (kinds : List Kind) (place number : ℕ) → LeadsTo (get_or (map zero_of kinds) place Null) number
+    → ⊥
+zeros_lead_nowhere [] place number leads = leads
+zeros_lead_nowhere (Number ∷ kinds) zero number leads = leads
+zeros_lead_nowhere (To ty offset ∷ kinds) zero number leads = leads
+zeros_lead_nowhere (kind ∷ kinds) (suc place) number leads = zeros_lead_nowhere kinds place number leads
+
+-- an access gets to a word of the allocation that its pointer leads to
+target_leads : (n : NeverState) (v : Value) (i number place : ℕ) → target_of n v i ≡ WordOf number place
+    → LeadsTo v number
+target_leads n Null i number place reaches = absurd (cc)
+target_leads n (Num m) i number place reaches = absurd (cc)
+target_leads n (Ptr a ty offset) i number place reaches = grind (arith, if_by)
+
+-- After an operation only the caller knows of the allocation, and that is as it was.
+pub record StaysAlone (n : NeverState) (k number : ℕ) (m : NeverState) : Type 0 where
+  pub alone : IsKnownToAlone m k number
+  pub same : allocation_at m number ≡ allocation_at n number
+
+module _ {n : NeverState} {k number : ℕ} (own : IsKnownToAlone n k number) (there : number < length n.allocations) where
+  abbrev LeadsElsewhere : Value → Type 0
+  LeadsElsewhere v = LeadsTo v number → ⊥
+
+  abbrev Stays : NeverState → Type 0
+  Stays m = StaysAlone n k number m
+
+  moved_elsewhere : (v : Value) (i : ℕ) → LeadsElsewhere v → LeadsElsewhere (moved_on v i)
+  moved_elsewhere Null i none = none
+  moved_elsewhere (Num m) i none = λ leads. leads
+  moved_elsewhere (Ptr a ty offset) i none = none
+
+  pub nothing_stays : Stays n
+  nothing_stays = record { alone = own; same = refl }
+
+  pub register_stays : (c d : ℕ) (v : Value) → LeadsElsewhere v → Stays (with_register n c d v)
+  register_stays c d v none = record {
+    alone = record {
+      registers = λ j. set_by (λ x. LeadsTo x number → IsRegisterOf k j) n.registers (8 * c + d) j v Null
+          (λ e leads. absurd (none leads)) (own.registers j);
+      globals = own.globals;
+      words = own.words;
+    };
+    same = refl;
+  }
+
+  global_stays : (g : ℕ) (v : Value) → LeadsElsewhere v → Stays (with_global n g v)
+  global_stays g v none = record {
+    alone = record {
+      registers = own.registers;
+      globals = λ j. set_by (λ x. LeadsTo x number → ⊥) n.globals g j v Null (λ e. none) (own.globals j);
+      words = own.words;
+    };
+    same = refl;
+  }
+
+  -- a store to any word
+  pub word_alone : (a w : ℕ) (v : Value) → LeadsElsewhere v → IsKnownToAlone (with_word n a w v) k number
+  word_alone a w v none = record {
+    registers = own.registers;
+    globals = own.globals;
+    words = λ from place.
+        set_by (λ (x : Allocation). LeadsTo (get_or x.words place Null) number → ⊥) n.allocations a from _ no_allocation
+        (λ e. set_by (λ x. LeadsTo x number → ⊥) (words_of n a) w place v Null (λ e'. none) (own.words a place))
+        (own.words from place);
+  }
+
+  word_stays : (a w : ℕ) (v : Value) → a ≢ number → LeadsElsewhere v → Stays (with_word n a w v)
+  word_stays a w v other none = record {
+    alone = word_alone a w v none;
+    same = get_or-set_other n.allocations a number _ no_allocation (λ e. other (sym e));
+  }
+
+  freed_stays : (a : ℕ) → a ≢ number → Stays (with_freed n a)
+  freed_stays a other = record {
+    alone = record {
+      registers = own.registers;
+      globals = own.globals;
+      words = λ from place.
+          set_by (λ (x : Allocation). LeadsTo (get_or x.words place Null) number → ⊥) n.allocations a from _
+          no_allocation (λ e. own.words a place) (own.words from place);
+    };
+    same = get_or-set_other n.allocations a number _ no_allocation (λ e. other (sym e));
+  }
+
+  free_stays : (v : Value) → LeadsElsewhere v → Stays (after_free n v)
+  free_stays Null none = nothing_stays
+  free_stays (Num m) none = nothing_stays
+  free_stays (Ptr a ty offset) none = freed_stays a none
+
+  new_stays : (c d ty : ℕ) → Stays (with_register (with_new n ty) c d (Ptr (length n.allocations) ty 0))
+  new_stays c d ty = record {
+    alone = record {
+      registers = λ j. set_by (λ x. LeadsTo x number → IsRegisterOf k j) n.registers (8 * c + d) j
+          (Ptr (length n.allocations) ty 0) Null
+          (λ e leads. absurd (let same : length n.allocations ≡ number = leads in omega arith)) (own.registers j);
+      globals = own.globals;
+      words = λ from place.
+          push_keeps (λ (x : Allocation). LeadsTo (get_or x.words place Null) number → ⊥) n.allocations _
+          no_allocation from (zeros_lead_nowhere (kinds_of n.types ty) place number) (own.words from place);
+    };
+    same = get_or_append_left n.allocations _ no_allocation number there;
+  }
+
+  module _ (c : ℕ) (other : c ≢ k) where
+    register_elsewhere : (r : ℕ) → r < 8 → LeadsElsewhere (register_at n c r)
+    register_elsewhere r lt leads = let at = own.registers (8 * c + r) leads in other (omega arith)
+
+    -- An access of another caller gets to other allocations.
+    reached_other : (q i a w : ℕ) → q < 8 → target_of n (register_at n c q) i ≡ WordOf a w → a ≢ number
+    reached_other q i a w lt got same = grind (arith, register_elsewhere, target_leads)
+
+    exchange_stays : (q i p r : ℕ) → q < 8 → r < 8 → Stays (after_op n c (CasPtr q i p r))
+    exchange_stays q i p r lt lr =
+        left_at_by (λ m. Stays m) _ n _ nothing_stays (λ a w got. if_by (λ m. Stays m) (is_same (word_at n a w)
+        (register_at n c p)) _ _ (λ e. word_stays a w (register_at n c r) (reached_other q i a w lt got)
+        (register_elsewhere r lr)) (λ e. nothing_stays))
+
+    pub op_stays_alone : (o : Op) → OperandsAreInRange n o → Stays (after_op n c o)
+    op_stays_alone (New d ty full) h = if_by (λ m. Stays m) full _ _ (λ e. nothing_stays) (λ e. new_stays c d ty)
+    op_stays_alone (Free p) h = free_stays (register_at n c p) (register_elsewhere p h)
+    op_stays_alone (GetNum q i) h = nothing_stays
+    op_stays_alone (SetNum q i m) h =
+        left_at_by (λ m. Stays m) (target_of n (register_at n c q) i) n _ nothing_stays
+        (λ a w got. word_stays a w (Num m) (reached_other q i a w h got) (λ leads. leads))
+    op_stays_alone (GetPtr d q i) h = grind (arith, left_at_by, register_stays)
+    op_stays_alone (SetPtr q i p) h =
+        left_at_by (λ m. Stays m) (target_of n (register_at n c q) i) n _ nothing_stays
+        (λ a w got. word_stays a w (register_at n c p) (reached_other q i a w h.0 got) (register_elsewhere p h.1))
+    op_stays_alone (CasPtr q i p r) h = exchange_stays q i p r h.0 h.2
+    op_stays_alone (Lea d q i) h = grind (arith, register_stays, moved_elsewhere, register_elsewhere)
+    op_stays_alone (Move d q) h = register_stays c d _ (register_elsewhere q h.1)
+    op_stays_alone (Clear d) h = register_stays c d Null (λ leads. leads)
+    op_stays_alone (GetGlobal d g) h = register_stays c d _ (own.globals g)
+    op_stays_alone (SetGlobal g p) h = global_stays g _ (register_elsewhere p h.1)
+    op_stays_alone (Same p q) h = nothing_stays
+    op_stays_alone (IsNull p) h = nothing_stays
 
 -- It is owned still, and is the same number.
 pub record KeepsNumber (n : NeverState) (k d : ℕ) (m : NeverState) : Type 0 where
   pub owns : OwnsNumberIn m k d
   pub same : number_behind m (register_at m k d) ≡ number_behind n (register_at n k d)
 
-pub keeps_nothing : (n : NeverState) (k d : ℕ) → OwnsNumberIn n k d → KeepsNumber n k d n
-keeps_nothing n k d owns = record { owns = owns; same = refl }
+pub keeps_nothing : {n : NeverState} {k d : ℕ} → OwnsNumberIn n k d → KeepsNumber n k d n
+keeps_nothing owns = record { owns = owns; same = refl }
 
 -- where it stands
 pub number_is : (n : NeverState) (k d number ty : ℕ) → register_at n k d ≡ Ptr number ty 0
@@ -34,12 +178,12 @@ pub number_is : (n : NeverState) (k d number ty : ℕ) → register_at n k d ≡
 number_is n k d number ty pointer = ap (λ (v : Value). number_behind n v) pointer
 
 -- Another caller's operation keeps it,
-keeps_by_other : (globals : List ℕ) (n : NeverState) (k d c : ℕ) (o : Op) → OwnsNumberIn n k d → c ≢ k
+keeps_by_other : {globals : List ℕ} {n : NeverState} {k d c : ℕ} {o : Op} → OwnsNumberIn n k d → c ≢ k
     → IsAdmitted globals n c o → KeepsNumber n k d (after_op n c o)
-keeps_by_other globals n k d c o owns other admitted =
+keeps_by_other {n} {k} {d} {c} {o} owns other admitted =
     let m : NeverState = after_op n c o in
     let there : owns.number < length n.allocations = exists n owns.number 0 owns.some in
-    let stays = op_stays_alone n k owns.number owns.alone there c other o admitted.in_range in
+    let stays = op_stays_alone owns.alone there c other o admitted.in_range in
     let on : Continues n m = op_stays n c o in
     let pointer : register_at m k d ≡ Ptr owns.number owns.ty 0 = grind (arith, op_keeps, destination) in
     record {
@@ -62,37 +206,37 @@ keeps_by_other globals n k d c o owns other admitted =
     }
 
 -- and so do all that are of others.
-pub keeps_by_others : (globals : List ℕ) (n : NeverState) (k d : ℕ) (calls : List Call) → OwnsNumberIn n k d
+pub keeps_by_others : (globals : List ℕ) {n : NeverState} {k d : ℕ} (calls : List Call) → OwnsNumberIn n k d
     → AreAdmitted globals n calls → AreNotBy k calls → KeepsNumber n k d (after_calls n calls)
-keeps_by_others globals n k d [] owns admitted others = keeps_nothing n k d owns
-keeps_by_others globals n k d (x ∷ xs) owns admitted others =
+keeps_by_others globals {n = n} {k = k} {d = d} [] owns admitted others = keeps_nothing owns
+keeps_by_others globals {n = n} {k = k} {d = d} (x ∷ xs) owns admitted others =
     let m : NeverState = after_op n x.caller x.op in
-    let first = keeps_by_other globals n k d x.caller x.op owns others.0 admitted.0 in
-    let rest = keeps_by_others globals m k d xs first.owns admitted.1 others.1 in
+    let first = keeps_by_other owns others.0 admitted.0 in
+    let rest = keeps_by_others globals {n = m} xs first.owns admitted.1 others.1 in
     record { owns = rest.owns; same = rest.same ∙ first.same }
 
 -- An access by the register gets to the number.
-gets_to : (n : NeverState) (k d : ℕ) (owns : OwnsNumberIn n k d)
+gets_to : {n : NeverState} {k d : ℕ} (owns : OwnsNumberIn n k d)
     → target_of n (register_at n k d) 0 ≡ WordOf owns.number 0
-gets_to n k d owns = grind arith
+gets_to owns = grind arith
 
 -- So a load is answered by it,
-pub load_replies : (n : NeverState) (k d : ℕ) → OwnsNumberIn n k d
+pub load_replies : {n : NeverState} {k d : ℕ} → OwnsNumberIn n k d
     → reply_of n k (Op.GetNum d 0) ≡ Reply.Num (number_behind n (register_at n k d))
-load_replies n k d owns = grind (arith, gets_to, number_is)
+load_replies owns = grind (arith, gets_to, number_is)
 
 -- and a store is done,
-pub store_replies : (n : NeverState) (k d x : ℕ) → OwnsNumberIn n k d → reply_of n k (Op.SetNum d 0 x) ≡ Reply.Done
-store_replies n k d x owns = ap (λ (t : Target). reply_at t (λ a w. Reply.Done)) (gets_to n k d owns)
+pub store_replies : {n : NeverState} {k d : ℕ} (x : ℕ) → OwnsNumberIn n k d → reply_of n k (Op.SetNum d 0 x) ≡ Reply.Done
+store_replies {n} {k} {d} x owns = ap (λ (t : Target). reply_at t (λ a w. Reply.Done)) (gets_to owns)
 
 -- which leaves another number.
 pub record HasStored (k d x : ℕ) (m : NeverState) : Type 0 where
   pub owns : OwnsNumberIn m k d
   pub stored : number_behind m (register_at m k d) ≡ x
 
-stores_in : (n : NeverState) (k d x : ℕ) (owns : OwnsNumberIn n k d)
+stores_in : {n : NeverState} {k d : ℕ} (x : ℕ) (owns : OwnsNumberIn n k d)
     → HasStored k d x (with_word n owns.number 0 (Num x))
-stores_in n k d x owns =
+stores_in {n} {k} {d} x owns =
     let a = owns.number in
     let m : NeverState = with_word n a 0 (Num x) in
     let there : a < length n.allocations = exists n a 0 owns.some in
@@ -109,7 +253,7 @@ stores_in n k d x owns =
             (omega (arith, owns.some, length-set (words_of n a) 0 (Num x)));
         kind = subst (λ (b : Allocation). IsNumber (get_or (kinds_of n.types b.ty) 0 Number)) (sym now) owns.kind;
         unfreed = ap (λ (b : Allocation). b.freed) now ∙ owns.unfreed;
-        alone = word_alone n k a owns.alone there a 0 (Num x) (λ leads. leads);
+        alone = word_alone owns.alone there a 0 (Num x) (λ leads. leads);
       };
       stored =
           cc (number_is m k d a owns.ty owns.pointer, now, get_or-set_same (words_of n a) 0 (Num x) Null owns.some);
@@ -118,8 +262,7 @@ stores_in n k d x owns =
 pub store_leaves : (n : NeverState) (k d x : ℕ) → OwnsNumberIn n k d → HasStored k d x (after_op n k (Op.SetNum d 0 x))
 store_leaves n k d x owns =
     subst (λ (m : NeverState). HasStored k d x m)
-    (sym (ap (λ (t : Target). left_at t n (λ a w. with_word n a w (Num x))) (gets_to n k d owns)))
-    (stores_in n k d x owns)
+    (sym (ap (λ (t : Target). left_at t n (λ a w. with_word n a w (Num x))) (gets_to owns))) (stores_in x owns)
 
 -- Both are admitted.
 pub access_admitted : (n : NeverState) (k d : ℕ) → OwnsNumberIn n k d → Meets n (register_at n k d) 0 IsNumber
@@ -138,9 +281,9 @@ suited_leads n (Num m) Number number suits leads = absurd leads
 suited_leads n (Ptr a ty offset) Number number suits leads = absurd suits
 suited_leads n v (To ty offset) number suits leads = sound_leads n v number suits.0 leads
 
-word_leads : (globals : List ℕ) (n : NeverState) → IsTyped globals n → (from place number : ℕ)
+word_leads : {globals : List ℕ} {n : NeverState} → IsTyped globals n → (from place number : ℕ)
     → LeadsTo (word_at n from place) number → number < length n.allocations
-word_leads globals n typed from place number leads = elim (cases_Bool (nat_lt place (length (words_of n from)))) [
+word_leads {n} typed from place number leads = elim (cases_Bool (nat_lt place (length (words_of n from)))) [
   | inl inside ↦
       let lt = ltb-true place (length (words_of n from)) inside in
       suited_leads n (word_at n from place) _ number
@@ -151,9 +294,9 @@ word_leads globals n typed from place number leads = elim (cases_Bool (nat_lt pl
 ]
 
 -- A New of one number gives its caller one, which is 0.
-pub new_owns : (globals : List ℕ) (n : NeverState) (k d ty : ℕ) → IsTyped globals n → IsCaller n k → d < 8
+pub new_owns : {globals : List ℕ} {n : NeverState} (k d ty : ℕ) → IsTyped globals n → IsCaller n k → d < 8
     → kinds_of n.types ty ≡ Number ∷ [] → HasStored k d 0 (after_op n k (Op.New d ty false))
-new_owns globals n k d ty typed caller lt kinds =
+new_owns {globals} {n} k d ty typed caller lt kinds =
     let a = length n.allocations in
     let m : NeverState = after_op n k (Op.New d ty false) in
     let adds = new_adds n k d ty caller lt in
@@ -177,7 +320,7 @@ new_owns globals n k d ty typed caller lt kinds =
           globals = λ g leads. let old = sound_leads n _ a (typed.globals g) leads in omega arith;
           words = λ from place. push_keeps (λ (x : Allocation). LeadsTo (get_or x.words place Null) a → ⊥) n.allocations
               _ no_allocation from (zeros_lead_nowhere (kinds_of n.types ty) place a)
-              (λ leads. let old = word_leads globals n typed from place a leads in omega arith);
+              (λ leads. let old = word_leads typed from place a leads in omega arith);
         };
       };
       stored = number_is m k d a ty adds.register ∙ ap (λ (ws : List Value). number_in (get_or ws 0 Null)) words;

@@ -1,53 +1,53 @@
 -- What the engine does after each `begin` of the host's.
 use Rattle.std.proofs.Common.{⊎_elim}
-use Rattle.mk_laws.proofs.Vocabulary.{Config, Event, List, None, Seat, Step, Word, arith, refl, subst, sym, ◌≡◌}
+use Rattle.mk_laws.proofs.Vocabulary.{Config, Event, List, None, Seat, Step, Word, arith, false, refl, subst, sym, ◌≡◌}
+use Rattle.mk_core.specs.Growing.{Grows}
 use Rattle.mk_cycle.proofs.Begun.{begun_then, does_begin_none, finish_begins_none, has_on, step_begins_none}
 use Rattle.mk_cycle.specs.BeginCycle.{BeginsCycle}
 use Rattle.mk_cycle.specs.Begun.{EachIsBegun}
 use Rattle.mk_cycle.specs.EngineLaw.{IsAtPhase}
 use Rattle.mk_cycle.specs.FinishCycle.{FinishesCycle}
-use Rattle.mk_heap.proofs.MovedHosts.{idle_moves, turn_moves}
+use Rattle.mk_heap.proofs.MovedHosts.{MovesOn, idle_moves, turn_moves}
 use Rattle.mk_heap.specs.Ending.{EndsCycle, SaysOver, TakesIdleTurn}
-use Rattle.mk_turns.proofs.Sweeping.{only_seen, only_seen_by}
+use Rattle.mk_turns.proofs.Sweeping.{only_seen, only_seen_by, other_step_sweeps, others_sweep, step_then_sweeps}
+use Rattle.mk_turns.proofs.Sweeping.{sweeps_then}
+use Rattle.mk_turns.specs.Sweeping.{SweepsNothing, is_mark}
 use Rattle.mk_waiting.proofs.TakesAlone.{taking_does}
-use Rattle.mk_waiting.specs.Taking.{is_take}
+use Rattle.mk_waiting.proofs.Unswept.{taking_sweeps}
+use Rattle.mk_waiting.specs.Taking.{TakesTurn, is_take}
 use Rattle.mk_words.specs.Seats.{Has}
-use Rattle.mk_words.specs.States.{PassState}
+use Rattle.mk_words.specs.States.{PassState, world_of}
 use Rattle.mk_words.specs.Steps.{Makes}
 
 module _ (begins : Config → Seat → List Event → List Event → Type 0) where
   -- It finishes the cycle that is on, if one is.
-  ending_begun : (p q : PassState) → Has p.seats p.seat → EndsCycle p q → EachIsBegun begins p q
-  ending_begun p q own ends =
+  ending_begun : {p q : PassState} → Has p.seats p.seat → EndsCycle p q → EachIsBegun begins p q
+  ending_begun {p} {q} own ends =
       let look = step_begins_none begins p ends.looked (Step.Look Word.Phase) own ends.looks refl in
-      ⊎_elim
-      (λ (none : IsAtPhase p 0). subst (λ (x : PassState). EachIsBegun begins p x) (sym (ends.none none)) look)
+      ⊎_elim (λ (none : IsAtPhase p 0). subst (λ (x : PassState). EachIsBegun begins p x) (sym (ends.none none)) look)
       (λ (on : IsAtPhase p 1).
       begun_then begins p ends.looked q (only_seen_by p ends.looked (Step.Look Word.Phase) ends.looks) look
       (finish_begins_none begins ends.looked q
       (has_on p ends.looked (only_seen_by p ends.looked (Step.Look Word.Phase) ends.looks) own) (ends.on on)))
       ends.phase
 
-  idle_same : (p idle : PassState) → TakesIdleTurn p idle → idle ≡ record p { seen = idle.seen }
-  idle_same p idle takes = let m = idle_moves p idle takes in only_seen p idle m.more m.is
+  idle_same : {p idle : PassState} → TakesIdleTurn p idle → idle ≡ record p { seen = idle.seen }
+  idle_same {p} {idle} takes = let m = idle_moves p idle takes in only_seen p idle m.more m.is
 
-  idle_begun : (p idle : PassState) → Has p.seats p.seat → TakesIdleTurn p idle → EachIsBegun begins p idle
-  idle_begun p idle own takes =
+  idle_begun : {p idle : PassState} → Has p.seats p.seat → TakesIdleTurn p idle → EachIsBegun begins p idle
+  idle_begun {p} {idle} own takes =
       let m = turn_moves p takes.taken takes.takes in
       let same = only_seen p takes.taken m.more m.is in
-      begun_then begins p takes.taken idle same
-      (does_begin_none begins is_take p takes.taken (λ x h. grind arith)
-      (taking_does p None takes.taken own takes.takes))
-      (ending_begun takes.taken idle (has_on p takes.taken same own) takes.ends)
+      begun_then begins p takes.taken idle same (does_begin_none begins is_take p takes.taken (λ x h. grind arith)
+      (taking_does p None takes.taken own takes.takes)) (ending_begun (has_on p takes.taken same own) takes.ends)
 
   -- a whole cycle
-  pub cycle_begun : (p idle begun ended q : PassState) → Has p.seats p.seat → TakesIdleTurn p idle
+  pub cycle_begun : {p idle begun ended q : PassState} → Has p.seats p.seat → TakesIdleTurn p idle
       → BeginsCycle idle begun → EachIsBegun begins idle begun → FinishesCycle begun ended → Makes ended Step.Give q
       → EachIsBegun begins p q
-  cycle_begun p idle begun ended q own takes law part finishes gives =
-      let own_begun = has_on idle begun law.pass (has_on p idle (idle_same p idle takes) own) in
-      begun_then begins p idle q (idle_same p idle takes) (idle_begun p idle own takes)
-      (begun_then begins idle begun q law.pass part
+  cycle_begun {p} {idle} {begun} {ended} {q} own takes law part finishes gives =
+      let own_begun = has_on idle begun law.pass (has_on p idle (idle_same takes) own) in
+      begun_then begins p idle q (idle_same takes) (idle_begun own takes) (begun_then begins idle begun q law.pass part
       (begun_then begins begun ended q finishes.pass (finish_begins_none begins begun ended own_begun finishes)
       (step_begins_none begins ended q Step.Give (has_on begun ended finishes.pass own_begun) gives refl)))
 
@@ -55,10 +55,38 @@ module _ (begins : Config → Seat → List Event → List Event → Type 0) whe
   pub over_begun : (p q : PassState) → Has p.seats p.seat → SaysOver p q → EachIsBegun begins p q
   over_begun p q own over =
       let takes : TakesIdleTurn p over.idle = record { taken = over.taken; takes = over.takes; ends = over.ends } in
-      let same = idle_same p over.idle takes in
+      let same = idle_same takes in
       let same_said = only_seen_by over.idle over.said Step.Over over.says in
       let own_idle = has_on p over.idle same own in
-      begun_then begins p over.idle q same (idle_begun p over.idle own takes)
-      (begun_then begins over.idle over.said q same_said
+      begun_then begins p over.idle q same (idle_begun own takes) (begun_then begins over.idle over.said q same_said
       (step_begins_none begins over.idle over.said Step.Over own_idle over.says refl)
       (step_begins_none begins over.said q Step.Give (has_on over.idle over.said same_said own_idle) over.gives refl))
+
+-- The host's turns sweep nothing, where their parts don't.
+
+pub moved_then_sweeps : {p q r : PassState} → MovesOn p q → SweepsNothing p q → SweepsNothing q r → SweepsNothing p r
+moved_then_sweeps {p} {q} {r} m one two = sweeps_then p q r (only_seen p q m.more m.is) one two
+
+-- It takes the turn, and then its parts sweep nothing.
+pub taken_then_sweeps : {p taken q : PassState} → Has p.seats p.seat → TakesTurn p None taken → SweepsNothing taken q
+    → SweepsNothing p q
+taken_then_sweeps {p} {taken} {q} own takes rest =
+    moved_then_sweeps (turn_moves p taken takes) (taking_sweeps p None taken own takes) rest
+
+-- with no cycle on
+pub idle_then_sweeps : {p idle q : PassState} → TakesIdleTurn p idle → SweepsNothing p idle → SweepsNothing idle q
+    → SweepsNothing p q
+idle_then_sweeps {p} {idle} {q} takes one two = moved_then_sweeps (idle_moves p idle takes) one two
+
+-- a step more, and the `give`
+pub given_sweeps : {p q r : PassState} {s : Step} → Makes p s q → Makes q Step.Give r → is_mark s ≡ false
+    → SweepsNothing p r
+given_sweeps {p} {q} {r} {s} m give other = step_then_sweeps p q r s m other (other_step_sweeps q r Step.Give give refl)
+
+-- Who is joined has seen none of its steps.
+pub grown_sweeps : (p q : PassState) → Has p.seats p.seat → Grows p.seats p.seen q.seen → SweepsNothing p q
+grown_sweeps p q own g = record {
+  more = g.more;
+  is = g.is;
+  none = others_sweep p.table.config p.seat p.seats (world_of p) g.more own g.of_others;
+}

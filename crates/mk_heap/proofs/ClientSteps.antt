@@ -18,20 +18,18 @@ use Rattle.mk_words.specs.Steps.{Makes}
 registers_are : (c : Config) (es : List Event) → length (never_behind c es).registers ≡ 8 * c.callers
 registers_are c es = (calls_stay (never_first c) (asked (calls c es))).registers ∙ length-replicate (8 * c.callers) Null
 
-pub may_clear : (p : PassState) (d : ℕ) → IsPassOf p.table p → d < 8 → Admits p (Op.Clear d)
-may_clear p d of small = grind (arith, registers_are)
+pub may_clear : {p : PassState} (d : ℕ) → IsPassOf p.table p → d < 8 → Admits p (Op.Clear d)
+may_clear d of small = grind (arith, registers_are)
 
 pub pass_of_next : (h : HostState) (x : CallerState) (w : WordsState) → x ≡ at_home (pass_for h (Caller h.callers))
     → h.pass.table ≡ w → h.callers < w.config.callers → IsPassOf x.pass.table x.pass
-pass_of_next h x w is table lt =
-    subst (λ (y : CallerState). IsPassOf y.pass.table y.pass) (sym is)
-    (record {
-      number = h.callers;
-      exists = subst (λ (v : WordsState). h.callers < v.config.callers) (sym table) lt;
-      table = refl;
-      seat = refl;
-      seats = refl;
-    })
+pass_of_next h x w is table lt = subst (λ (y : CallerState). IsPassOf y.pass.table y.pass) (sym is) (record {
+  number = h.callers;
+  exists = subst (λ (v : WordsState). h.callers < v.config.callers) (sym table) lt;
+  table = refl;
+  seat = refl;
+  seats = refl;
+})
 
 -- the host after one caller
 pub behind_one : (h g : HostState) (w : WordsState) → h ≡ first_host w → g ≡ with_caller_made h
@@ -39,8 +37,8 @@ pub behind_one : (h g : HostState) (w : WordsState) → h ≡ first_host w → g
 behind_one h g w first is = grind arith
 
 -- its pass after a call
-pub pass_of_later : (p q : PassState) → q ≡ record p { seen = q.seen } → IsPassOf p.table p → IsPassOf q.table q
-pass_of_later p q is of = grind arith
+pub pass_of_later : {p : PassState} (q : PassState) → q ≡ record p { seen = q.seen } → IsPassOf p.table p → IsPassOf q.table q
+pass_of_later q is of = grind arith
 
 -- the first caller
 pub pass_of_first : (h : HostState) (x : CallerState) (w : WordsState) → h ≡ first_host w → IsWithinLimits w.config
@@ -70,11 +68,10 @@ one_is_joined w first made h joined over p seen later is_first is_made is seats 
 over_before : (xs ys : List Event) → has_over xs ≡ true → has_over (xs ++ ys) ≡ true
 over_before xs ys h = list_any-append (λ (e : Event). is_over e.step) xs ys ∙ ap (λ (b : Bool). b || has_over ys) h
 
-over_last : (p q : PassState) → Makes p Step.Over q → has_over q.seen ≡ true
-over_last p q m = grind (arith, list_any-append)
+over_last : {p q : PassState} → Makes p Step.Over q → has_over q.seen ≡ true
+over_last m = grind (arith, list_any-append)
 
-pub has_said_over : (p q : PassState) → SaysOver p q → has_over q.seen ≡ true
-has_said_over p q o =
-    ap (λ (r : PassState). has_over r.seen) o.gives.is
-    ∙ over_before (o.said.seen ++ o.gives.others) (event_of o.said Step.Give ∷ [])
-    (over_before o.said.seen o.gives.others (over_last o.idle o.said o.says))
+pub has_said_over : {p q : PassState} → SaysOver p q → has_over q.seen ≡ true
+has_said_over o =
+    ap (λ (r : PassState). has_over r.seen) o.gives.is ∙ over_before (o.said.seen ++ o.gives.others)
+    (event_of o.said Step.Give ∷ []) (over_before o.said.seen o.gives.others (over_last o.says))

@@ -1,18 +1,100 @@
 -- What always holds of the host holds of the first, and is kept where a caller or a marker is made or joined.
 use Rattle.std.proofs.Common.{IsSome, replicate, ⊎_elim}
 use Rattle.std.proofs.lemmas.List.{get_or-replicate, length-replicate}
-use Rattle.mk_laws.proofs.Vocabulary.{Caller, Config, Event, Host, IsHistory, List, Marker, None, Option, Seat, Some, ℕ}
-use Rattle.mk_laws.proofs.Vocabulary.{ap, arith, at_rest, cases_lt, first_moment, get_or, get_or_past, left, lt-ltb}
-use Rattle.mk_laws.proofs.Vocabulary.{ltb-true, ne_eqb, outside, refl, subst, sym, [], ◌+◌, ◌<◌, ◌∙◌, ◌∷◌, ◌≡◌, ◌≤◌}
+use Rattle.mk_laws.proofs.Vocabulary.{Bool, Caller, Config, Event, Host, IsEnabled, IsHistory, IsWithinLimits, List}
+use Rattle.mk_laws.proofs.Vocabulary.{Marker, Moment, None, Option, Seat, Some, Step, ℕ, ap, arith, at_rest, cases_lt}
+use Rattle.mk_laws.proofs.Vocabulary.{earlier_part_is_history, enabled_meets, false, first_moment, first_world, get_or}
+use Rattle.mk_laws.proofs.Vocabulary.{get_or_past, host_has_turn, left, lt-ltb, ltb-true, marker_at, ne_eqb, not}
+use Rattle.mk_laws.proofs.Vocabulary.{outside, refl, subst, sym, true, [], ◌++◌, ◌+◌, ◌<◌, ◌∙◌, ◌∷◌, ◌≡◌, ◌≤◌}
+use Rattle.mk_laws.proofs.ProtocolFrames.{others_leave}
+use Rattle.mk_core.proofs.Conditions.{meets_enabled}
+use Rattle.mk_core.proofs.Histories.{last_enabled}
 use Rattle.mk_core.specs.Growing.{Grows}
 use Rattle.mk_core.specs.History.{left_from}
+use Rattle.atomic_table.specs.Seated.{TableId}
 use Rattle.mk_caller.specs.States.{IsIdleCaller}
-use Rattle.mk_heap.proofs.Joining.{still_no_turn, still_rests}
 use Rattle.mk_heap.specs.Hosts.{AllAreJoined, HostState, IsDone, IsHost, IsWholeHost, Rests, first_host, host_of}
 use Rattle.mk_heap.specs.Hosts.{pass_for, with_caller_made, with_caller_out, with_joined, with_marker_made}
-use Rattle.mk_words.proofs.Seats.{has_all, has_either, has_left, only_one, without_keeps, without_less}
+use Rattle.mk_marker.proofs.OutMarkers.{out_is_outside}
+use Rattle.mk_marker.specs.Markers.{IsMarkers, IsOut}
+use Rattle.mk_words.proofs.Seats.{has_all, has_either, has_left, only_one, others_own, without_keeps, without_less}
+use Rattle.mk_words.proofs.LongerLists.{longer_lists}
+use Rattle.mk_words.proofs.Owed.{history_more}
 use Rattle.mk_words.specs.Seats.{Has, HasAll}
-use Rattle.mk_words.specs.States.{PassState, WordsState}
+use Rattle.mk_words.specs.States.{PassState, WordsState, now_of}
+
+-- A marker that is made is out, and one that is out is done.
+
+-- A marker that is out is done.
+pub out_is_done : {p : PassState} → IsHistory p.table.config p.seen → p.seats ≡ p.seat ∷ [] → IsMarkers p → IsOut p
+    → IsDone p
+out_is_done {p} h alone of out = grind (arith, out_is_outside)
+
+-- The next marker is out.
+pub next_is_out : {h : HostState} → IsHost h → h.markers < 8 → marker_at (now_of h.pass) (Marker h.markers) ≡ outside
+next_is_out {h} is lt = (is.rests (Marker h.markers) (is.markers h.markers (omega arith) lt)).out
+
+-- There are eight markers at most.
+pub few_markers : {h g : HostState} {w v : WordsState} → h ≡ g → w ≡ v → g.markers < v.config.markers
+    → IsWithinLimits w.config → h.markers < 8
+few_markers {h} {g} {w} {v} same table more limits = grind arith
+
+pub next_is_markers : (h : HostState) → h.markers < 8 → IsMarkers (pass_for h (Marker h.markers))
+next_is_markers h lt = record { number = h.markers; exists = lt; seat = refl }
+
+-- What the host knows still holds after the events of others.
+
+abbrev take_of_host : Event
+take_of_host = record { seat = Host; step = Step.Take None }
+
+-- The host may take the turn, where it hasn't it.
+pub host_may_take : (c : Config) (m : Moment) → host_has_turn c m ≡ false
+    → IsEnabled c m (record { seat = Host; step = Step.Take None })
+host_may_take c m no_turn = meets_enabled c m (record { seat = Host; step = Step.Take None }) (record {
+  seat = refl;
+  kind = refl;
+  order = ap not no_turn;
+  range = refl;
+  gates = refl;
+  phase = refl;
+  marker = refl;
+  holder = refl;
+})
+
+from_not : (b : Bool) → not b ≡ true → b ≡ false
+from_not true h = sym h
+from_not false h = refl
+
+-- a history's beginning is one
+begins : {c : Config} {seats : List Seat} {es fs : List Event} → IsHistory c fs → (g : Grows seats es fs)
+    → IsHistory c (es ++ g.more)
+begins {c} h g = subst (λ (l : List Event). IsHistory c l) g.is h
+
+-- A seat that rests still does, after the events of others,
+pub still_rests : {c : Config} (seats : List Seat) (es : List Event) {fs : List Event} {s : Seat} → IsHistory c fs → Grows seats es fs
+    → Has seats s → Rests (left c es).now s → Rests (left c fs).now s
+still_rests {c} seats es {fs = fs} {s = s} h g has rests =
+    let whole = begins h g in
+    let kept = others_leave c es g.more s whole.within_limits whole.enabled (others_own seats s g.more has g.of_others)
+    in
+    subst (λ (l : List Event). Rests (left c l).now s) (sym g.is)
+    (record { call = kept.own.flight ∙ rests.call; out = kept.own.marker ∙ rests.out })
+
+-- and the host hasn't got the turn by them.
+pub still_no_turn : (id : TableId) {c : Config} {seats : List Seat} {es fs : List Event} → IsHistory c fs
+    → Grows seats es fs → Has seats Host
+    → host_has_turn c (left c es).now ≡ false → host_has_turn c (left c fs).now ≡ false
+still_no_turn id {c = c} {seats = seats} {es = es} {fs = fs} h g has no_turn =
+    let whole = begins h g in
+    let before = earlier_part_is_history c es g.more whole in
+    let p : PassState = record { table = record { id = id; config = c }; seat = Host; seats = seats; seen = es } in
+    let short = history_more p (Step.Take None) before
+    (record { enabled = host_may_take c (left c es).now no_turn; admitted = λ e. cc; tidy = λ e. cc; home = λ e. cc })
+    in
+    let long = longer_lists c es g.more take_of_host short whole (others_own seats Host g.more has g.of_others) in
+    let on = last_enabled c (first_world c) (es ++ g.more) take_of_host long.history.enabled in
+    let meets = enabled_meets c (left c (es ++ g.more)).now take_of_host on in
+    cc (g.is, from_not (host_has_turn c (left c (es ++ g.more)).now) meets.order)
 
 abbrev pub home_host : PassState → ℕ → ℕ → HostState
 home_host p callers markers = record { pass = p; callers = callers; markers = markers }
@@ -48,8 +130,7 @@ caller_made_is_host {h} is = record {
   seat = is.seat;
   no_turn = is.no_turn;
   rests = λ s has. is.rests s (without_less (Caller h.callers) h.pass.seats s has);
-  callers = λ k le lt.
-      without_keeps (Caller h.callers) h.pass.seats (Caller k) (ne_eqb h.callers k (λ e. omega arith))
+  callers = λ k le lt. without_keeps (Caller h.callers) h.pass.seats (Caller k) (ne_eqb h.callers k (λ e. omega arith))
       (is.callers k (omega arith) lt);
   markers = λ k le lt. without_keeps (Caller h.callers) h.pass.seats (Marker k) refl (is.markers k le lt);
 }
@@ -70,8 +151,7 @@ marker_made_is_host {h} is = record {
   no_turn = is.no_turn;
   rests = λ s has. is.rests s (without_less (Marker h.markers) h.pass.seats s has);
   callers = λ k le lt. without_keeps (Marker h.markers) h.pass.seats (Caller k) refl (is.callers k le lt);
-  markers = λ k le lt.
-      without_keeps (Marker h.markers) h.pass.seats (Marker k) (ne_eqb h.markers k (λ e. omega arith))
+  markers = λ k le lt. without_keeps (Marker h.markers) h.pass.seats (Marker k) (ne_eqb h.markers k (λ e. omega arith))
       (is.markers k (omega arith) lt);
 }
 
@@ -84,12 +164,10 @@ joined_is_host {h} {p} {q} is own done table joined whole mine theirs =
     let history : IsHistory c seen = subst (λ (x : PassState). IsHistory x.table.config q.seen) joined whole in
     still_host joined (record {
       seat = is.seat;
-      no_turn = still_no_turn h.pass.table.id c h.pass.seats h.pass.seen seen history mine
+      no_turn = still_no_turn h.pass.table.id history mine
           (subst (λ (s : Seat). Has h.pass.seats s) is.seat own) is.no_turn;
-      rests = λ s has.
-          ⊎_elim (λ (t : Has h.pass.seats s). still_rests c h.pass.seats h.pass.seen seen s history mine t
-          (is.rests s t))
-          (λ (t : Has p.seats s). still_rests c p.seats p.seen seen s history theirs t (came s t))
+      rests = λ s has. ⊎_elim (λ (t : Has h.pass.seats s). still_rests h.pass.seats h.pass.seen history mine t
+          (is.rests s t)) (λ (t : Has p.seats s). still_rests p.seats p.seen history theirs t (came s t))
           (has_either h.pass.seats p.seats s has);
       callers = λ k le lt. has_left h.pass.seats p.seats (Caller k) (is.callers k le lt);
       markers = λ k le lt. has_left h.pass.seats p.seats (Marker k) (is.markers k le lt);

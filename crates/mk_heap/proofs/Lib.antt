@@ -1,14 +1,7 @@
-pub mod Joining
 pub mod HostsKept
-pub mod Quarantine
 pub mod Ended
 pub mod MovedHosts
-pub mod Telling
-pub mod MarkersKept
 pub mod ClientSteps
-pub mod BeforeOver
-pub mod IdleTurns
 pub mod Overs
 pub mod HomeCallers
-pub mod UnsweptHosts
 pub mod BegunHosts

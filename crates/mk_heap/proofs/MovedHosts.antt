@@ -8,7 +8,7 @@ use Rattle.mk_core.specs.Growing.{AreOfOthers, is_same_seat}
 use Rattle.mk_cycle.specs.Kinds.{begins_marking, clears, closes_marks, holds_gates, is_giving_back, sets_tallies}
 use Rattle.mk_cycle.specs.BeginCycle.{BeginsCycle}
 use Rattle.mk_cycle.specs.FinishCycle.{FinishesCycle}
-use Rattle.mk_heap.proofs.Joining.{still_rests}
+use Rattle.mk_heap.proofs.HostsKept.{still_rests}
 use Rattle.mk_heap.specs.Ending.{TakesIdleTurn}
 use Rattle.mk_heap.specs.Hosts.{HostState, IsHost, Rests}
 use Rattle.mk_turns.specs.Doing.{AreOwnOrOfOthers, Does}
@@ -32,11 +32,9 @@ moves_more p q r s v m =
     record {
       more = v.more ++ (m.others ++ event_of p s ∷ []);
       is = joined_lists p q r v.more s v.is m;
-      leaves = λ x has other.
-          others_append (x ∷ []) v.more (m.others ++ event_of p s ∷ []) (v.leaves x has other)
+      leaves = λ x has other. others_append (x ∷ []) v.more (m.others ++ event_of p s ∷ []) (v.leaves x has other)
           (others_append (x ∷ []) m.others (event_of p s ∷ []) (others_own p.seats x m.others has others)
-          (others_one (x ∷ []) (event_of p s)
-          (λ own. true≢false (sym
+          (others_one (x ∷ []) (event_of p s) (λ own. true≢false (sym
           (subst (λ (y : Seat). is_same_seat x y ≡ true) (sym (only_one x p.seat own)) (same_self x)) ∙ other))));
     }
 
@@ -60,11 +58,11 @@ waits_leave p x (e ∷ es) has other h =
         true≢false (sym (and_parts (is_take e.step) (is_same_seat e.seat p.seat) mine).1
         ∙ ap (λ (y : Seat). is_same_seat y p.seat) same ∙ other)
 
-pub waits_move : (p q : PassState) → Waits p q → MovesOn p q
-waits_move p q w = record { more = w.more; is = w.is; leaves = λ x has other. waits_leave p x w.more has other w.only }
+pub waits_move : {p q : PassState} → Waits p q → MovesOn p q
+waits_move {p} w = record { more = w.more; is = w.is; leaves = λ x has other. waits_leave p x w.more has other w.only }
 
 pub turn_moves : (p q : PassState) → TakesTurn p None q → MovesOn p q
-turn_moves p q t = waits_move p q (waits_more p t.waited q None t.waits t.takes.makes)
+turn_moves p q t = waits_move (waits_more p t.waited q None t.waits t.takes.makes)
 
 -- So it is over steps of its own of whatever kinds,
 
@@ -86,8 +84,7 @@ pub moves_does : (kinds : Step → Bool) (p q r : PassState) → MovesOn p q →
 moves_does kinds p q r v d = record {
   more = v.more ++ d.more;
   is = cc (d.is, v.is, append_assoc p.seen v.more d.more);
-  leaves = λ x has other.
-      others_append (x ∷ []) v.more d.more (v.leaves x has other)
+  leaves = λ x has other. others_append (x ∷ []) v.more d.more (v.leaves x has other)
       (does_leave p.seat p.seats x d.more has other
       (subst (λ (y : PassState). AreOwnOrOfOthers y.seat y.seats d.more) v.is d.own_or_others));
 }
@@ -124,11 +121,10 @@ idle_moves p q t =
     ]
 
 -- the host, after steps of its own
-pub moved_is_host : (h : HostState) (q : PassState) → IsHost h → MovesOn h.pass q → IsHistory q.table.config q.seen
+pub moved_is_host : {h : HostState} {q : PassState} → IsHost h → MovesOn h.pass q → IsHistory q.table.config q.seen
     → host_has_turn q.table.config (now_of q) ≡ false → IsHost (record h { pass = q })
-moved_is_host h q is v history no_turn =
-    subst (λ (r : PassState). IsHost (record h { pass = r })) (sym v.is)
-    (record {
+moved_is_host {h} is v history no_turn =
+    subst (λ (r : PassState). IsHost (record h { pass = r })) (sym v.is) (record {
       seat = is.seat;
       no_turn = subst (λ (r : PassState). host_has_turn r.table.config (now_of r) ≡ false) v.is no_turn;
       rests = rests;
@@ -141,15 +137,11 @@ moved_is_host h q is v history no_turn =
 
     by : (s : Seat) → Has h.pass.seats s → is_same_seat s Host ≡ false
         → Rests (left h.pass.table.config (h.pass.seen ++ v.more)).now s
-    by s has other =
-        still_rests h.pass.table.config (s ∷ []) h.pass.seen (h.pass.seen ++ v.more) s whole
-        (record {
-          more = v.more;
-          is = refl;
-          of_others = v.leaves s has (ap (λ (x : Seat). is_same_seat s x) is.seat
-              ∙ other);
-        })
-        (ap (λ (b : Bool). b || false) (same_self s)) (is.rests s has)
+    by s has other = still_rests (s ∷ []) h.pass.seen whole (record {
+      more = v.more;
+      is = refl;
+      of_others = v.leaves s has (ap (λ (x : Seat). is_same_seat s x) is.seat ∙ other);
+    }) (ap (λ (b : Bool). b || false) (same_self s)) (is.rests s has)
 
     rests : (s : Seat) → Has h.pass.seats s → Rests (left h.pass.table.config (h.pass.seen ++ v.more)).now s
     rests (Caller k) has = by (Caller k) has refl

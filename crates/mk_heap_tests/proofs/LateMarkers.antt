@@ -16,10 +16,10 @@ use Rattle.mk_cycle.proofs.MayAct.{may_act}
 use Rattle.mk_cycle.specs.BeginCycle.{BeginsCycle}
 use Rattle.mk_cycle.specs.EngineLaw.{IsFreeForCycle}
 use Rattle.mk_cycle.specs.Holding.{HoldsGates}
-use Rattle.mk_heap.proofs.BeforeOver.{taken_overs}
-use Rattle.mk_heap.proofs.IdleTurns.{begun_free, fresh_free, look_keeps, looked_idle, none_held_kept, none_is_on}
+use Rattle.mk_heap.proofs.HomeCallers.{taken_overs}
+use Rattle.mk_heap.proofs.Overs.{begun_free, fresh_free, look_keeps, looked_idle, none_held_kept, none_is_on}
 use Rattle.mk_heap.proofs.HostsKept.{first_is_host}
-use Rattle.mk_heap.proofs.Joining.{host_may_take}
+use Rattle.mk_heap.proofs.HostsKept.{host_may_take}
 use Rattle.mk_heap.proofs.MovedHosts.{turn_moves}
 use Rattle.mk_heap.specs.Ending.{IsIdleTurn}
 use Rattle.mk_heap.specs.Hosts.{IsHost, first_host, with_caller_made, with_joined, with_marker_made}
@@ -99,19 +99,19 @@ pub record HasLooked (w : WordsState) (h p : PassState) (n : ℕ) (q : PassState
 module _ {w : WordsState} {h p : PassState} {n : ℕ} {q : PassState} (l : HasLooked w h p n q) where
   pub looked_table : q.table ≡ w
   looked_table =
-      ap (λ (x : PassState). x.table) (look_keeps p q l.turn (fresh_free p l.fresh) l.acts).call.pass
+      ap (λ (x : PassState). x.table) (look_keeps l.turn (fresh_free l.fresh) l.acts).call.pass
       ∙ ap (λ (x : PassState). x.table) (turn_moves h p l.takes).is ∙ l.host.table
 
   module _ (none : n % 8 ≡ 1 → ⊥) where
     before : has_over p.seen ≡ false
     before =
-        taken_overs h p l.takes (subst (λ (s : Seat). Has h.seats s) l.host.seat l.own) l.turn.history
+        taken_overs l.takes (subst (λ (s : Seat). Has h.seats s) l.host.seat l.own) l.turn.history
         ∙ l.host.before_over
 
     pub idle : IsIdleTurn q
     idle =
-        looked_idle p q (ap (λ (x : PassState). x.seat) (turn_moves h p l.takes).is ∙ l.host.seat) l.turn l.fresh l.acts
-        (none_is_on p q n l.turn l.fresh before l.finds none) l.exact l.tidy
+        looked_idle (ap (λ (x : PassState). x.seat) (turn_moves h p l.takes).is ∙ l.host.seat) l.turn l.fresh l.acts
+        (none_is_on q n l.turn l.fresh before l.finds none) l.exact l.tidy
 
     pub marking : (r : PassState) → BeginsCycle q r → HostIsMarking w r
     marking r begins =
@@ -119,7 +119,7 @@ module _ {w : WordsState} {h p : PassState} {n : ℕ} {q : PassState} (l : HasLo
           table = ap (λ (x : PassState). x.table) begins.pass ∙ looked_table;
           seat = ap (λ (x : PassState). x.seat) begins.pass ∙ idle.seat;
           phase = ap (λ (s : Steady). s.phase) begins.steady;
-          free = begun_free q r idle.free begins;
+          free = begun_free idle.free begins;
           gates = none_held_kept q r begins.pass begins.gates idle.gates;
         }
 

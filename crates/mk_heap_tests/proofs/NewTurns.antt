@@ -5,7 +5,7 @@ use Rattle.mk_heap_tests.proofs.Vocabulary.{Has, InTurn, IsEnabledTo, IsFresh, I
 use Rattle.mk_heap_tests.proofs.Vocabulary.{TalliesAreExact, WordsState, caller_of_pass, now_of}
 use Rattle.mk_heap_tests.proofs.JoinedHosts.{alone_in}
 use Rattle.mk_alloc.proofs.NewTurns.{begun_quiet, begun_unplaced, operands_of}
-use Rattle.mk_alloc.proofs.TakenTurns.{callers, take_allowed, taken_phase}
+use Rattle.mk_alloc.proofs.CalledTurns.{callers, take_allowed, taken_phase}
 use Rattle.mk_alloc.proofs.CalledTurns.{taken_same}
 use Rattle.mk_alloc.proofs.SeekingTurns.{seeks_placed}
 use Rattle.mk_alloc.specs.Rooms.{Seeks}
@@ -28,7 +28,7 @@ module _ (w : WordsState) (k : ℕ) (p : PassState) (is : IsPassFor w k p) where
       (subst (λ (n : ℕ). n < w.config.callers) (sym number) few)
 
   pub may_free : k < w.config.callers → IsEnabledTo p (Step.Take (Some (Op.Free 0)))
-  may_free few = take_allowed p (Op.Free 0) is.idle (exists few) refl refl
+  may_free few = take_allowed (Op.Free 0) is.idle (exists few) refl refl
 
   operands : 0 < length w.config.types → has_operands p.table.config first_new ≡ true
   operands typed =
@@ -36,7 +36,7 @@ module _ (w : WordsState) (k : ℕ) (p : PassState) (is : IsPassFor w k p) where
       (subst (λ (v : WordsState). 0 < length v.config.types) (sym is.table) typed)
 
   pub may_make : k < w.config.callers → 0 < length w.config.types → IsEnabledTo p (Step.Take (Some first_new))
-  may_make few typed = take_allowed p first_new is.idle (exists few) refl (operands typed)
+  may_make few typed = take_allowed first_new is.idle (exists few) refl (operands typed)
 
 -- The turn was taken for it.
 pub record IsTaken (w : WordsState) (k : ℕ) (o : Op) (p q : PassState) : Type 0 where
@@ -52,14 +52,14 @@ pub record IsTaken (w : WordsState) (k : ℕ) (o : Op) (p q : PassState) : Type 
 
 module _ {w : WordsState} {k : ℕ} {o : Op} {p q : PassState} (t : IsTaken w k o p q) where
   taken_is : q ≡ record p { seen = q.seen }
-  taken_is = taken_same p q o (callers p t.is.idle) t.own t.takes
+  taken_is = taken_same (callers t.is.idle) t.own t.takes
 
   pub taken_table : q.table ≡ w
   taken_table = ap (λ (x : PassState). x.table) taken_is ∙ t.is.table
 
   pub phase : IsOutOfStop (now_of q)
   phase =
-      taken_phase p q o (callers p t.is.idle) (exists w k p t.is t.few) (alone_in t.is) t.own t.takes t.fresh
+      taken_phase (callers t.is.idle) (exists w k p t.is t.few) (alone_in t.is) t.own t.takes t.fresh
       t.turn.history t.before
 
   pub begins : BeginsTurn o q
@@ -87,12 +87,12 @@ module _ {w : WordsState} {k : ℕ} {o : Op} {p q : PassState} (t : IsTaken w k 
 module _ {w : WordsState} {k : ℕ} {p q : PassState} (t : IsTaken w k first_new p q) where
   -- Directly after its `take` the turn may place its object.
   pub unplaced : IsUnplaced q
-  unplaced = begun_unplaced q 0 0 false (begins t)
+  unplaced = begun_unplaced (begins t)
 
   -- Where it has placed it, it may be given back.
   module _ {r : PassState} (placed : IsPlaced q r) (history : IsHistory r.table.config r.seen) where
     pub seeks : Seeks (Some Answer.Done) q r
-    seeks = seeks_placed q r t.turn unplaced (begun_quiet q 0 0 false (begins t)) placed history
+    seeks = seeks_placed t.turn unplaced (begun_quiet (begins t)) placed history
 
     pub placed_table : r.table ≡ w
     placed_table = ap (λ (x : PassState). x.table) seeks.on.does.is ∙ taken_table t

@@ -1,12 +1,55 @@
 -- A run is unmapped and wiped, and then the gates are opened.
-use Rattle.mk_laws.proofs.Vocabulary.{Bool, RunPages, Steady, ℕ, ap, arith, false, is_held, is_number_of, is_run_gone}
-use Rattle.mk_laws.proofs.Vocabulary.{not, others_are_held, subst, true, ◌<◌, ◌||◌, ◌∙◌, ◌≡◌}
-use Rattle.mk_objects.proofs.Vocabulary.{PassState, RunIsUnmapped, RunIsWiped, SetsGates, Unmaps, Wipes, WordsState}
-use Rattle.mk_objects.proofs.Vocabulary.{all_below_from, all_others, is_clearing, is_settling, now_of, world_of}
+use Rattle.mk_laws.proofs.Vocabulary.{Bool, Config, Event, Holding, Holds, IsHistory, List, None, Option, RunPages}
+use Rattle.mk_laws.proofs.Vocabulary.{Seat, Some, Steady, Step, World, ℕ, ap, arith, false, is_held, is_number_of}
+use Rattle.mk_laws.proofs.Vocabulary.{is_run_gone, left, not, others_are_held, refl, subst, sym, true, world_behind, []}
+use Rattle.mk_laws.proofs.Vocabulary.{◌++◌, ◌<◌, ◌||◌, ◌∙◌, ◌∷◌, ◌≡◌}
+use Rattle.mk_laws.proofs.LastEvents.{ComesLast, comes_last, stands}
+use Rattle.mk_laws.proofs.RunWords.{gone_behind}
+use Rattle.mk_laws.proofs.RunsStill.{holder_finds}
+use Rattle.mk_objects.proofs.Vocabulary.{Does, PassState, RunIsUnmapped, RunIsWiped, SetsGates, Unmaps, Wipes}
+use Rattle.mk_objects.proofs.Vocabulary.{WordsState, all_below_from, all_others, is_clearing, is_settling, now_of}
+use Rattle.mk_objects.proofs.Vocabulary.{world_of}
 use Rattle.mk_objects.proofs.DecidedFrees.{Stays, gates_stay, stays_then, unmaps_stay, wipes_stay}
-use Rattle.mk_objects.proofs.ReachedParts.{reached_world}
+use Rattle.mk_objects.proofs.FreedOnce.{Another, KeptInTurn, Own, along_turn}
+use Rattle.mk_objects.proofs.JoinedLooks.{reached_world}
+use Rattle.mk_core.specs.Growing.{AreOfOthers}
 use Rattle.mk_objects.specs.Deciding.{ClearsRun}
 use Rattle.mk_objects.specs.FreeParts.{no_gate}
+
+-- A run that the call has unmapped and wiped stays so, while gates are opened and tallies set.
+
+abbrev pub IsGoneIn : World → Type 0
+IsGoneIn w = is_run_gone w.now.words w.now.seats.holding.freed ≡ true
+
+same_run : (c : Config) (w : World) (s : Seat) (x : Step) → is_settling x ≡ true
+    → (world_behind c w (record { seat = s; step = x })).now.seats.holding.freed ≡ w.now.seats.holding.freed
+same_run c w s x3 h = grind arith
+
+gone_on : {c : Config} {es : List Event} {e : Event} → IsHistory c es → ComesLast c es e → is_settling e.step ≡ true
+    → (freed : Option RunPages) → (left c es).now.seats.holding.freed ≡ freed → IsGoneIn (left c es)
+    → is_run_gone (world_behind c (left c es) e).now.words freed ≡ true
+gone_on h last kind None is gone = refl
+gone_on {c} {es} {e} h last kind (Some run) is gone =
+    let st = stands c es h in
+    gone_behind c _ st.known st.all.order.laid run is gone _ _ last.meets (λ store. grind arith)
+
+gone_kept : (c : Config) (s : Seat) → KeptInTurn c s is_settling (λ es. IsGoneIn (left c es))
+unfolding AreOfOthers
+gone_kept c s es e h holds (Own same kind) gone =
+    let last = comes_last c es e h in
+    subst (λ (w : World). IsGoneIn w) (sym last.leaves) (ap (λ (freed : Option RunPages). is_run_gone
+    (world_behind c (left c es) e).now.words freed) (same_run c (left c es) e.seat e.step kind)
+    ∙ gone_on last.before last kind (left c es).now.seats.holding.freed refl gone)
+gone_kept c s es e h holds (Another other) gone =
+    let found = holder_finds c s es (e ∷ []) h (other, tt) holds in
+    ap (λ (y : Holding). is_run_gone (left c (es ++ e ∷ [])).now.words y.freed) found.holding ∙ found.gone gone
+
+pub still_gone : {p q : PassState} → Does is_settling p q → IsHistory q.table.config q.seen
+    → Holds p.table.config (now_of p) p.seat
+    → IsGoneIn (left p.table.config p.seen) → IsGoneIn (left p.table.config q.seen)
+still_gone {p} d h holds gone =
+    along_turn p is_settling (λ x kind. grind arith) (λ es. IsGoneIn (left p.table.config es)) (gone_kept _ _) d h holds
+    gone
 
 -- Where the others' gates are held, all but the own one are.
 pub stopped_by : (p : PassState)
@@ -39,8 +82,7 @@ clears {p} {b} {q} unmaps wipes opens gone =
     let one = unmapped_now unmaps in
     let two = wiped_now wipes in
     let three = reached_world opens in
-    let cleared : Stays is_clearing p b =
-    stays_then (λ x h. h) (λ x h. h) (unmaps_stay unmaps) (wipes_stay wipes) in
+    let cleared : Stays is_clearing p b = stays_then (λ x h. h) (λ x h. h) (unmaps_stay unmaps) (wipes_stay wipes) in
     let table : b.table ≡ p.table = ap (λ (x : PassState). x.table) cleared.same in
     record {
       stays = stays_then (λ x h. grind arith) (λ x h. grind arith) cleared (gates_stay opens);

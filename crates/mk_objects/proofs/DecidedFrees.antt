@@ -1,13 +1,18 @@
 -- A Free is decided, and parts of its turn come before that and after it.
-use Rattle.mk_laws.proofs.Vocabulary.{Answer, Bool, Cell, Config, Flight, Holding, List, PlacedAllocation, RunPages}
-use Rattle.mk_laws.proofs.Vocabulary.{Seat, Some, Steady, Step, Tally, Words, World, ℕ, ap, arith, cond, flight_of}
-use Rattle.mk_laws.proofs.Vocabulary.{freed_released, freed_where_it_stands, map, refl, sym, [], ◌+◌, ◌∙◌, ◌∷◌, ◌≡◌}
-use Rattle.mk_objects.proofs.Vocabulary.{Changes, ComesTo, HasFreed, IsFreedAt, PassState, SetsGates, SetsTally}
-use Rattle.mk_objects.proofs.Vocabulary.{StaysSo, Unmaps, Wipes, entry_for, is_clearing, is_following, is_freeing}
-use Rattle.mk_objects.proofs.Vocabulary.{is_settling, steady_of, sum_by-cons, world_of}
-use Rattle.mk_objects.proofs.ReachedParts.{AreAmong, reached_world, reaches_after, reaches_answered, reaches_so}
+use Rattle.mk_laws.proofs.Vocabulary.{Answer, Bool, Cell, Config, Flight, Holding, Holds, IsHistory, List, Page}
+use Rattle.mk_laws.proofs.Vocabulary.{PlacedAllocation, RunPages, Seat, Some, Steady, Step, Tally, Words, World, ℕ}
+use Rattle.mk_laws.proofs.Vocabulary.{all_below-at, ap, arith, cond, false, flight_of, freed_released}
+use Rattle.mk_laws.proofs.Vocabulary.{freed_where_it_stands, is_held, map, not, refl, subst, sym, true, [], ◌+◌, ◌<◌}
+use Rattle.mk_laws.proofs.Vocabulary.{◌↔◌, ◌∙◌, ◌∷◌, ◌≡◌}
+use Rattle.mk_objects.proofs.Vocabulary.{Changes, ComesTo, FreesCell, HasFreed, IsFreedAt, IsOverQuarter, IsTrue}
+use Rattle.mk_objects.proofs.Vocabulary.{OnlyLooks, PassState, SetsGates, SetsTally, StaysSo, Unmaps, Wipes, WordsState}
+use Rattle.mk_objects.proofs.Vocabulary.{all_below_from, entry_for, is_clearing, is_following, is_freeing, is_look}
+use Rattle.mk_objects.proofs.Vocabulary.{is_settling, none_is_held, now_of, steady_of, sum_by-cons, world_of}
+use Rattle.mk_objects.proofs.JoinedLooks.{AreAmong, reached_world, reaches_after, reaches_answered, reaches_so}
+use Rattle.mk_objects.proofs.FreedOnce.{FreesNot, once_behind}
 use Rattle.mk_core.specs.Counts.{releases}
 use Rattle.mk_objects.specs.Deciding.{IsDecidedAt, counted}
+use Rattle.mk_objects.specs.FreeParts.{IsButGates}
 
 -- What stays over each part.
 
@@ -74,8 +79,7 @@ freed_releases w cell (a ∷ xs) =
     λ y ys. sum_by-cons (λ (x : PlacedAllocation). cond {A = ℕ} x.released 1 0) y ys in
     one (freed_where_it_stands w (Some cell) a) (map (freed_where_it_stands w (Some cell)) xs)
     ∙ ap (λ n. cond {A = ℕ} (freed_where_it_stands w (Some cell) a).released 1 0 + n) (freed_releases w cell xs)
-    ∙ ap (λ b. cond {A = ℕ} b 1 0 + releases xs) (freed_released w (Some cell) a)
-    ∙ sym (one a xs)
+    ∙ ap (λ b. cond {A = ℕ} b 1 0 + releases xs) (freed_released w (Some cell) a) ∙ sym (one a xs)
 
 decided_by : {c : Config} {s : Seat} {cell : Cell} {w v : World} → IsFreedAt c s cell w v → IsDecidedAt s w v
 decided_by at = grind (arith, freed_releases)
@@ -91,8 +95,7 @@ freed_decides a = reaches_so a (λ at. decided_by at)
 pub decides_before : {p q r : PassState} {a : Answer} → Decides is_freeing p a q → Stays is_following q r
     → Decides is_freeing p a r
 decides_before d s =
-    reaches_after (λ x h. h) (λ x h. grind arith) (λ x. StaysSo x.seat (world_of x)) d s
-    (λ v one two. record {
+    reaches_after (λ x h. h) (λ x h. grind arith) (λ x. StaysSo x.seat (world_of x)) d s (λ v one two. record {
       stage = ap (λ (f : Flight). f.stage) two.call ∙ one.stage;
       op = ap (λ (f : Flight). f.op) two.call ∙ one.op;
       placing = ap (λ (h : Holding). h.placing) two.holding ∙ one.placing;
@@ -119,3 +122,56 @@ decides_behind among {p} {a} s d =
     reaches_answered among (λ x h. h) (λ x. IsDecidedAt x.seat (world_of x)) a s
     (ap (λ (f : Flight). f.op) s.world.call) d
     (λ v one two. decided_behind (world_of p) (ap (λ (f : Flight). f.op) one.call) one.holding one.counted two)
+
+-- What comes before a Free's `quar` leaves its turn as it was, but for gates: what is asked stays so, and what is freed
+-- after it is freed.
+
+abbrev pub IsExactly : WordsState → Bool → List PlacedAllocation → Type 0
+IsExactly t due xs = IsTrue due ↔ IsOverQuarter t.config xs
+
+abbrev pub Prepares : (Step → Bool) → PassState → PassState → Type 0
+Prepares kinds p q = ComesTo kinds p (IsButGates p.seat (world_of p)) [] q
+
+pub gates_prepare : {kinds : Step → Bool} {p q : PassState} {gates : ℕ → Bool} → SetsGates kinds p gates q
+    → Prepares kinds p q
+gates_prepare a = reaches_so a (λ at. at.but_gates)
+
+pub looks_prepare : {p q : PassState} → OnlyLooks p q → Prepares is_look p q
+looks_prepare a = reaches_so a (λ at. record { call = at.call; holding = at.holding; steady = at.steady })
+
+module _ {kinds : Step → Bool} {p q : PassState} (a : Prepares kinds p q) where
+  now : IsButGates p.seat (world_of p) (world_of q)
+  now = reached_world a
+
+  pub prepared_table : p.table ≡ q.table
+  prepared_table = sym (ap (λ (x : PassState). x.table) a.same)
+
+  so : Stays kinds p q
+  so = reaches_so a (λ at. stays_by _ _ _ (λ x. x) at.call at.holding at.steady refl refl refl)
+
+  pub frees_behind : {r : PassState} {cell : Cell} {due : Bool} → AreAmong kinds is_freeing → FreesNot kinds
+      → IsHistory q.table.config q.seen
+      → Holds p.table.config (now_of p) p.seat → FreesCell q cell due r → FreesCell p cell due r
+  frees_behind {r} {cell} {due} among not h holds f = record {
+    reaches = decides_behind among so f.reaches;
+    allocations = f.allocations ∙ ap (λ (ps : List Page). map (freed_where_it_stands
+        (record (now_of q).words { pages = ps }) (Some cell)) (world_of q).allocations)
+        (ap (λ (x : Steady). x.pages) now.steady) ∙ ap (λ (xs : List PlacedAllocation). map
+        (freed_where_it_stands (now_of p).words (Some cell)) xs) (ap (λ (x : Steady). x.allocations) now.steady);
+    once = once_behind not a.does h holds f.once;
+    gone = f.gone;
+    gates = subst (λ (t : WordsState). (j : ℕ) → j < t.config.callers → is_held (now_of r).words j ≡ false)
+        (sym prepared_table) f.gates;
+    exact = f.exact;
+    exactly = subst (λ (t : WordsState). IsExactly t due (world_of r).allocations) (sym prepared_table) f.exactly;
+  }
+
+-- No gate is held after it where none was.
+pub still_open : (p q : PassState) → p.table ≡ q.table
+    → ((j : ℕ) → is_held (now_of q).words j ≡ is_held (now_of p).words j)
+    → none_is_held p.table.config.callers (now_of p).words ≡ true
+    → none_is_held q.table.config.callers (now_of q).words ≡ true
+still_open p q table gates none =
+    ap (λ (t : WordsState). none_is_held t.config.callers (now_of q).words) (sym table)
+    ∙ all_below_from p.table.config.callers (λ j. not (is_held (now_of q).words j))
+    (λ j lt. ap not (gates j) ∙ all_below-at p.table.config.callers j (λ i. not (is_held (now_of p).words i)) none lt)

@@ -1,25 +1,147 @@
 -- The target of a Free is quarantined.
 use Rattle.std.proofs.Math.Pow.{pow-lt}
 use Rattle.std.proofs.lemmas.Nat.{or_lt}
-use Rattle.mk_laws.proofs.Vocabulary.{Answer, Caller, Cell, Config, Flight, Holding, Holds, List, Moment, Op, Option}
-use Rattle.mk_laws.proofs.Vocabulary.{Page, PlacedAllocation, Seat, Some, Stage, Steady, Step, Words, World, ℕ}
-use Rattle.mk_laws.proofs.Vocabulary.{and_from, answer_decided, ap, arith, bit_or, caller_number, cell_freed, entry_of}
-use Rattle.mk_laws.proofs.Vocabulary.{eq-eqb, false, flight_of, freed_where_it_stands, frees, has_bit, header_in}
-use Rattle.mk_laws.proofs.Vocabulary.{heads_run, is_freed, is_run_cell, is_some, is_undecided_free, length, map, not}
-use Rattle.mk_laws.proofs.Vocabulary.{or_else, others_are_held, progress_freed, quarantine_word, refl, run_of_cell}
-use Rattle.mk_laws.proofs.Vocabulary.{set-get_or, slice_index, slice_set, subst, sym, target, true, world_behind, ◌%◌}
-use Rattle.mk_laws.proofs.Vocabulary.{◌*◌, ◌+◌, ◌-◌, ◌/◌, ◌<◌, ◌^◌, ◌||◌, ◌∙◌, ◌≡◌}
-use Rattle.mk_objects.proofs.Vocabulary.{Acts, FreesOnce, HasFreed, IsAsLeft, IsEnabledTo, IsFreedAt, IsOutOfStop}
-use Rattle.mk_objects.proofs.Vocabulary.{IsTurn, Known, PassState, call_of, is_freeing, min, now_of, steady_of}
-use Rattle.mk_objects.proofs.Vocabulary.{words_freed, world_of}
+use Rattle.mk_laws.proofs.Vocabulary.{Answer, Bool, Caller, Cell, Config, Flight, Holding, Holds, IsHistory, List}
+use Rattle.mk_laws.proofs.Vocabulary.{Moment, None, Op, Option, Page, PlacedAllocation, Progress, Seat, Some, Stage}
+use Rattle.mk_laws.proofs.Vocabulary.{Steady, Step, Word, Words, World, ℕ, and_from, answer_decided, ap, arith, bit_or}
+use Rattle.mk_laws.proofs.Vocabulary.{caller_number, cell_freed, entry_of, eq-eqb, false, flight_of}
+use Rattle.mk_laws.proofs.Vocabulary.{freed_where_it_stands, frees, has_bit, header_in, heads_run, if◌then◌else◌}
+use Rattle.mk_laws.proofs.Vocabulary.{is_freed, is_run_cell, is_some, is_undecided_free, length, map, not, or_else}
+use Rattle.mk_laws.proofs.Vocabulary.{others_are_held, pointed_cell, progress_freed, quarantine_word, refl, run_of_cell}
+use Rattle.mk_laws.proofs.Vocabulary.{sees_double, set-get_or, slice_index, slice_set, subst, sym, target, true}
+use Rattle.mk_laws.proofs.Vocabulary.{world_behind, [], ◌%◌, ◌&&◌, ◌*◌, ◌+◌, ◌-◌, ◌/◌, ◌<◌, ◌^◌, ◌||◌, ◌∙◌, ◌≡◌}
+use Rattle.mk_objects.proofs.Vocabulary.{Acts, CallIsAt, FreesOnce, HasFreed, IsAsLeft, IsEnabledTo, IsFreedAt}
+use Rattle.mk_objects.proofs.Vocabulary.{IsOutOfStop, IsTurn, Known, MayFree, PassState, answers_full, call_of}
+use Rattle.mk_objects.proofs.Vocabulary.{histories_keep_the_invariant, is_freeing, is_loading, min, now_of, steady_of}
+use Rattle.mk_objects.proofs.Vocabulary.{value_of, words_freed, world_of}
 use Rattle.mk_objects.proofs.MayAct.{free_is_acting, may_free, off_four}
-use Rattle.mk_objects.proofs.Reaching.{made_in, reaches_nothing, reaches_on}
 use Rattle.mk_objects.proofs.FreedOnce.{frees_now}
+use Rattle.mk_objects.proofs.LoadedFrees.{loaded_undecided, value_kept}
 use Rattle.mk_objects.proofs.Looks.{acting_caller, acting_now}
-use Rattle.mk_objects.proofs.SeenDoubles.{freed_same, target_same}
+use Rattle.mk_objects.proofs.Reaching.{made_in, reaches_nothing, reaches_on}
 use Rattle.mk_objects.proofs.Serves.{out_of_stop}
 use Rattle.mk_objects.proofs.Takes.{one_bit_more}
 use Rattle.mk_objects.proofs.Unchanged.{call_behind}
+use Rattle.mk_core.specs.Words.{named_word}
+use Rattle.mk_objects.specs.Retiring.{HasSeen, answer_seen, seen_free}
+
+-- The look at the quarantine word of a Free's target: where its freed bit is set, the Free is a double one.
+
+pub target_same : (pages : ℕ) (w v : Words) (f : Flight) → v.pages ≡ w.pages → target pages v f ≡ target pages w f
+target_same pages w v f same = ap (λ (ps : List Page). if is_undecided_free f then pointed_cell pages ps f.p
+    else None) same
+
+seen_at : (w : Words) (cell : Cell) → sees_double w (Some cell) (Word.Quar cell.page) ≡ is_freed w cell
+seen_at w cell = ap (λ b. b && is_freed w cell) (eq-eqb cell.page cell.page refl)
+
+pub freed_same : (w v : Words) (cell : Cell) → v.freed ≡ w.freed → is_freed v cell ≡ is_freed w cell
+freed_same w v cell same = ap (λ (xs : List ℕ). has_bit (slice_index xs cell.page) cell.index) same
+
+-- what is seen of the target in a world that is as it was left
+seen_now : (c : Config) {k : ℕ} (cell : Cell) {w v : World} → IsAsLeft (Caller k) w v
+    → target c.pages w.now.words (flight_of w.now (Caller k)) ≡ Some cell
+    → sees_double v.now.words (target c.pages v.now.words (flight_of v.now (Caller k))) (Word.Quar cell.page)
+    ≡ is_freed w.now.words cell
+seen_now c {k} cell {w} {v} kept at =
+    let there : target c.pages v.now.words (flight_of v.now (Caller k)) ≡ Some cell =
+    ap (λ (f : Flight). target c.pages v.now.words f) kept.call ∙ target_same c.pages w.now.words v.now.words
+    (flight_of w.now (Caller k)) (ap (λ (x : Steady). x.pages) kept.steady) ∙ at in
+    ap (λ (x : Option Cell). sees_double v.now.words x (Word.Quar cell.page)) there ∙ seen_at v.now.words cell
+    ∙ freed_same w.now.words v.now.words cell (ap (λ (x : Steady). x.freed) kept.steady)
+
+abbrev progress_seen : Flight → Bool → Progress
+progress_seen f b = if b then record { flight = record f { stage = Stage.Give }; answer = Some Answer.Double }
+    else record { flight = f; answer = None }
+
+seen_flight : (f : Flight) (b : Bool) → (progress_seen f b).flight ≡ seen_free f b
+seen_flight f true = refl
+seen_flight f false = refl
+
+seen_answer : (f : Flight) (b : Bool) → (progress_seen f b).answer ≡ answer_seen b
+seen_answer f true = refl
+seen_answer f false = refl
+
+pub record SeesBy (c : Config) (k : ℕ) (cell : Cell) (w v : World) : Type 0 where
+  pub at : CallIsAt (Caller k) (seen_free (flight_of w.now (Caller k)) (is_freed w.now.words cell)) w
+      (world_behind c v (record { seat = Caller k; step = Step.Look (Word.Quar cell.page) }))
+  pub answer : answer_decided c v.now (record { seat = Caller k; step = Step.Look (Word.Quar cell.page) })
+      ≡ answer_seen (is_freed w.now.words cell)
+
+pub sees_by : (c : Config) {k : ℕ} (cell : Cell) {w v : World} → k < length v.now.seats.flights
+    → IsAsLeft (Caller k) w v
+    → target c.pages w.now.words (flight_of w.now (Caller k)) ≡ Some cell → SeesBy c k cell w v
+sees_by c {k} cell {w} {v} lt kept at =
+    let seen = seen_now c cell kept at in
+    record {
+      at = record {
+        call = call_behind c v.now k (Step.Look (Word.Quar cell.page)) lt
+            ∙ ap (λ b. (progress_seen (flight_of v.now (Caller k)) b).flight) seen
+            ∙ ap (λ (f : Flight). (progress_seen f (is_freed w.now.words cell)).flight) kept.call
+            ∙ seen_flight (flight_of w.now (Caller k)) (is_freed w.now.words cell);
+        holding = kept.holding;
+        steady = kept.steady;
+        registers = kept.registers;
+        gates = kept.gates;
+      };
+      answer = ap (λ b. (progress_seen (flight_of v.now (Caller k)) b).answer) seen
+          ∙ seen_answer (flight_of v.now (Caller k)) (is_freed w.now.words cell);
+    }
+
+seen_no_full : (b : Bool) → answers_full (answer_seen b) ≡ false
+seen_no_full true = refl
+seen_no_full false = refl
+
+-- at the seat of a pass
+seen_entry : (k : ℕ) (o : Op) (b : Bool)
+    → entry_of k o (answer_seen b) ≡ (if b then entry_of k o (Some Answer.Double) else [])
+seen_entry k o true = refl
+seen_entry k o false = refl
+
+module _ (p : PassState) (cell : Cell) (v : World) (known : Known p.table.config v.now) where
+  abbrev Sees : Seat → Type 0
+  Sees s =
+      CallIsAt s (seen_free (flight_of (now_of p) s) (is_freed (now_of p).words cell)) (world_of p)
+      (world_behind p.table.config v (record { seat = s; step = Step.Look (Word.Quar cell.page) }))
+      × (answer_decided p.table.config v.now (record { seat = s; step = Step.Look (Word.Quar cell.page) })
+      ≡ answer_seen (is_freed (now_of p).words cell))
+
+  sees : {s : Seat} (k : ℕ) → s ≡ Caller k → IsAsLeft s (world_of p) v → Holds p.table.config (now_of p) s
+      → target p.table.config.pages (now_of p).words (flight_of (now_of p) s) ≡ Some cell → Sees s
+  sees k e kept holds at =
+      let lt : k < p.table.config.callers = (subst (λ (x : Seat). Holds p.table.config (now_of p) x) e holds).0 in
+      let there : k < length v.now.seats.flights = subst (λ i. k < i) (sym known.orderly.flights) lt in
+      let by = sees_by p.table.config cell there (subst (λ (x : Seat). IsAsLeft x (world_of p) v) e kept)
+      (ap (λ (x : Seat). target p.table.config.pages (now_of p).words (flight_of (now_of p) x)) (sym e) ∙ at) in
+      subst (λ (x : Seat). Sees x) (sym e) (by.at, by.answer)
+
+pub see_reaches : {p q : PassState} (cell : Cell) → IsTurn p → is_undecided_free (call_of p) ≡ true
+    → target p.table.config.pages (now_of p).words (call_of p) ≡ Some cell → Acts p (Step.Look (Word.Quar cell.page)) q
+    → HasSeen p cell q
+see_reaches {p} cell turn free at a =
+    let caller = acting_caller p (free_is_acting (call_of p) free) in
+    let double : Bool = is_freed (now_of p).words cell in
+    reaches_on (λ w. w ≡ world_of p) (CallIsAt p.seat (seen_free (call_of p) double) (world_of p))
+    (reaches_nothing is_loading p (λ w. w ≡ world_of p) refl) a refl refl caller (λ w v first kept known pages.
+    let kept : IsAsLeft p.seat (world_of p) v = subst (λ (x : World). IsAsLeft p.seat x v) first kept in
+    let to = sees p cell v known caller.number caller.is kept turn.holds at in
+    record {
+      world = to.0;
+      answer = answer_seen double;
+      decides = to.1;
+      no_full = seen_no_full double;
+      entry = λ k is.
+          ap (λ (f : Flight). entry_of k f.op (answer_seen double)) kept.call ∙ seen_entry k (call_of p).op double
+          ∙ ap (λ i. if double then entry_of i (call_of p).op (Some Answer.Double) else []) (sym (ap caller_number is));
+    })
+
+-- A look that finds its target unfreed decides nothing.
+pub see_keeps : {p q : PassState} (r : ℕ) (cell : Cell) → r < 8 → IsTurn p
+    → is_undecided_free (call_of p) ≡ true → target p.table.config.pages (now_of p).words (call_of p) ≡ Some cell
+    → is_freed (now_of p).words cell ≡ false → Acts p (Step.Look (Word.Quar cell.page)) q → value_of q r ≡ value_of p r
+see_keeps {p} r cell small turn free at live a =
+    let caller = acting_caller p (free_is_acting (call_of p) free) in
+    value_kept r caller small a
+    (λ v kept known. (sees p cell v known caller.number caller.is kept turn.holds at).1 ∙ ap answer_seen live)
 
 -- the word that the step stores
 abbrev pub freed_word : Words → Cell → ℕ
@@ -127,47 +249,6 @@ module _ (p : PassState) (cell : Cell) (value : ℕ) (v : World) (known : Known 
       (now_of p).words (flight_of (now_of p) x)) (sym e) ∙ at) clear is small in
       subst (λ (x : Seat). Frees x) (sym e) by
 
-pub quarantine_reaches : {p q : PassState} (cell : Cell) {value : ℕ} → IsTurn p
-    → is_undecided_free (call_of p) ≡ true → target p.table.config.pages (now_of p).words (call_of p) ≡ Some cell
-    → is_freed (now_of p).words cell ≡ false → IsOutOfStop (now_of p) → value ≡ freed_word (now_of p).words cell
-    → slice_index (now_of p).words.freed cell.page + 2 ^ cell.index < 2 ^ 32 → Acts p (Step.Quar cell.page value) q
-    → HasFreed p cell q
-quarantine_reaches {p} cell {value} turn free at clear low is small a =
-    let caller = acting_caller p (free_is_acting (call_of p) free) in
-    reaches_on (λ w. w ≡ world_of p) (IsFreedAt p.table.config p.seat cell (world_of p))
-    (reaches_nothing is_freeing p (λ w. w ≡ world_of p) refl) a refl refl caller
-    (λ w v first kept known pages.
-    let kept : IsAsLeft p.seat (world_of p) v = subst (λ (x : World). IsAsLeft p.seat x v) first kept in
-    let to = frees_at p cell value v known low caller.number caller.is kept turn.holds at clear is small in
-    record {
-      world = to.0;
-      answer = Some Answer.Done;
-      decides = to.1;
-      no_full = refl;
-      entry = λ k is. ap (λ (f : Flight). entry_of k f.op (Some Answer.Done)) kept.call
-          ∙ ap (λ i. entry_of i (call_of p).op (Some Answer.Done)) (sym (ap caller_number is));
-    })
-
--- and frees once
-pub quarantine_once : {p q : PassState} (cell : Cell) {value : ℕ} → IsTurn p
-    → target p.table.config.pages (now_of p).words (call_of p) ≡ Some cell → is_freed (now_of p).words cell ≡ false
-    → IsOutOfStop (now_of p) → value ≡ freed_word (now_of p).words cell → Acts p (Step.Quar cell.page value) q
-    → FreesOnce p q
-quarantine_once {p} cell turn at clear low is a =
-    frees_now (made_in p _ a) a.makes.pass.history turn.holds (λ v kept. ap (λ (x : Option Cell). is_some x) (freed_left
-    p.table.config cell kept (out_of_stop (now_of p) v.now (ap (λ (x : Steady). x.phase) kept.steady) low) at clear is))
-
-pub quarantine_may : {p : PassState} (cell : Cell) {value : ℕ} → IsTurn p
-    → is_undecided_free (call_of p) ≡ true → target p.table.config.pages (now_of p).words (call_of p) ≡ Some cell
-    → is_freed (now_of p).words cell ≡ false → IsOutOfStop (now_of p) → value ≡ freed_word (now_of p).words cell
-    → cell.page < p.table.config.pages → (not (heads_run (header_in (now_of p).words cell.page)) || others_are_held
-    p.table.config.callers (now_of p).words p.seat) ≡ true → IsEnabledTo p (Step.Quar cell.page value)
-quarantine_may {p} cell {value} turn free at clear low is within gates =
-    may_free (acting_now p turn (free_is_acting (call_of p) free)) cell.page value within low
-    (ap (λ (x : Option Cell). not (is_run_cell (now_of p).words x) || others_are_held p.table.config.callers
-    (now_of p).words p.seat) at ∙ gates) (ap (λ (x : Option Cell). frees (now_of p).words x cell.page value) at
-    ∙ ap (λ n. frees (now_of p).words (Some cell) cell.page n) is ∙ frees_it (now_of p).words cell clear)
-
 -- the word that is made of both halves of the one that was found
 pub freed_word_made : (f s i : ℕ) → f < 2 ^ 32 → i < 32 → has_bit f i ≡ false → {quar : ℕ} → quar ≡ quarantine_word f s
     → 4294967296 * (quar / 4294967296) + bit_or (quar % 4294967296) (1 * 2 ^ i % 2 ^ 64) ≡ quarantine_word (f + 2 ^ i) s
@@ -180,3 +261,65 @@ freed_half f i lt near clear =
     let same : 1 * 2 ^ i % 2 ^ 64 ≡ 2 ^ i = omega arith in
     let fits : bit_or f (1 * 2 ^ i % 2 ^ 64) < 2 ^ 32 = or_lt 32 f (1 * 2 ^ i % 2 ^ 64) lt (omega arith) in
     omega arith
+
+-- The holder may free what its Free has found, and stores the word that is made of both halves of the one found.
+module _ {p : PassState} {r u : ℕ} {cell : Cell} {quar : ℕ} (may : MayFree p r u cell) (turn : IsTurn p)
+    (h : IsHistory p.table.config p.seen) (is : quar ≡ named_word (now_of p).words (Word.Quar cell.page)) where
+  abbrev stored : ℕ
+  stored = 4294967296 * (quar / 4294967296) + bit_or (quar % 4294967296) (1 * 2 ^ cell.index % 2 ^ 64)
+
+  abbrev f : ℕ
+  f = slice_index (now_of p).words.freed cell.page
+
+  abbrev s : ℕ
+  s = slice_index (now_of p).words.snapshot cell.page
+
+  undecided : is_undecided_free (call_of p) ≡ true
+  undecided = loaded_undecided u may.free may.some
+
+  small : (f < 2 ^ 32) × (s < 2 ^ 32)
+  small = (histories_keep_the_invariant p.table.config p.seen h).order.quarantined.small cell.page
+
+  made : stored ≡ freed_word (now_of p).words cell
+  made = freed_word_made f s cell.index small.0 may.index may.live is
+
+  half : f + 2 ^ cell.index < 2 ^ 32
+  half = freed_half f cell.index small.0 may.index may.live
+
+  pub quarantine_fits : stored < 2 ^ 64
+  quarantine_fits = let high = small.1 in omega (arith, made, half)
+
+  pub quarantine_may : (not (heads_run (header_in (now_of p).words cell.page))
+      || others_are_held p.table.config.callers (now_of p).words p.seat) ≡ true
+      → IsEnabledTo p (Step.Quar cell.page stored)
+  quarantine_may gates =
+      may_free (acting_now turn (free_is_acting (call_of p) undecided)) cell.page stored may.within may.phase
+      (ap (λ (x : Option Cell). not (is_run_cell (now_of p).words x) || others_are_held p.table.config.callers
+      (now_of p).words p.seat) may.target ∙ gates)
+      (ap (λ (x : Option Cell). frees (now_of p).words x cell.page stored) may.target
+      ∙ ap (λ n. frees (now_of p).words (Some cell) cell.page n) made ∙ frees_it (now_of p).words cell may.live)
+
+  module _ {q : PassState} (a : Acts p (Step.Quar cell.page stored) q) where
+    pub quarantine_reaches : HasFreed p cell q
+    quarantine_reaches =
+        let caller = acting_caller p (free_is_acting (call_of p) undecided) in
+        reaches_on (λ w. w ≡ world_of p) (IsFreedAt p.table.config p.seat cell (world_of p))
+        (reaches_nothing is_freeing p (λ w. w ≡ world_of p) refl) a refl refl caller (λ w v first kept known pages.
+        let kept : IsAsLeft p.seat (world_of p) v = subst (λ (x : World). IsAsLeft p.seat x v) first kept in
+        let to = frees_at p cell stored v known may.phase caller.number caller.is kept turn.holds may.target may.live
+        made half in
+        record {
+          world = to.0;
+          answer = Some Answer.Done;
+          decides = to.1;
+          no_full = refl;
+          entry = λ k is. ap (λ (f : Flight). entry_of k f.op (Some Answer.Done)) kept.call
+              ∙ ap (λ i. entry_of i (call_of p).op (Some Answer.Done)) (sym (ap caller_number is));
+        })
+
+    -- and frees once
+    pub quarantine_once : FreesOnce p q
+    quarantine_once =
+        frees_now (made_in p _ a) a.makes.pass.history turn.holds (λ v kept. ap (λ (x : Option Cell). is_some x)
+        (freed_left p.table.config cell kept (out_of_stop (now_of p) v.now (ap (λ (x : Steady). x.phase) kept.steady)
+        may.phase) may.target may.live made))

@@ -1,28 +1,201 @@
 -- The object of a Free: the allocation that its register points into, by what the layout and the images say of it.
-use Rattle.mk_laws.proofs.Vocabulary.{Cell, Flight, ImagePremises, IsHistory, IsSized, Object, PlacedAllocation, Ptr}
-use Rattle.mk_laws.proofs.Vocabulary.{Seat, ShowsPart, Some, ℕ, and_parts, ap, arith, caller_number, cases_lt}
-use Rattle.mk_laws.proofs.Vocabulary.{cell_of_allocation, cells_begin, cond-false, eqb-true, false, false_from_ne_true}
-use Rattle.mk_laws.proofs.Vocabulary.{first_page_shows, first_word, freed_where_it_stands, get_or_past, header_at}
-use Rattle.mk_laws.proofs.Vocabulary.{header_in, header_made, header_of, heads_run, is_freed, is_large, is_small_object}
-use Rattle.mk_laws.proofs.Vocabulary.{is_unmapped_header, kinds_of, large_count, large_is_not_small, length}
-use Rattle.mk_laws.proofs.Vocabulary.{made_is_mapped, map, never_behind, not, not-true, object_placed, p_of, pages_made}
-use Rattle.mk_laws.proofs.Vocabulary.{placed_at, register_at, run_begins, slice_set, small_heads_none, stands_in}
+use Rattle.std.proofs.Math.Nat.{div-le_of_le-mul}
+use Rattle.mk_laws.proofs.Vocabulary.{Caller, CarriesOwn, Cell, Config, Event, Flight, ImagePremises, IsHistory, IsSafe}
+use Rattle.mk_laws.proofs.Vocabulary.{IsSized, IsSound, IsWithinLimits, List, Mirrors, NeverState, Null, Num, Object}
+use Rattle.mk_laws.proofs.Vocabulary.{Op, Option, PlacedAllocation, Ptr, Seat, ShowsPart, Some, Stage, StandsInOrder}
+use Rattle.mk_laws.proofs.Vocabulary.{Value, Words, World, ℕ, and_parts, ap, arith, bases_of, caller_number, cases_Bool}
+use Rattle.mk_laws.proofs.Vocabulary.{cases_lt, cell_at, cell_of_allocation, cells_begin, cells_made, cells_of}
+use Rattle.mk_laws.proofs.Vocabulary.{class_known, class_made, class_words_of, cond-false, eqb-true, false}
+use Rattle.mk_laws.proofs.Vocabulary.{false_from_ne_true, false≢true, first_page_shows, first_word, flight_of}
+use Rattle.mk_laws.proofs.Vocabulary.{freed_where_it_stands, get_or_past, header_at, header_in, header_made, header_of}
+use Rattle.mk_laws.proofs.Vocabulary.{heads_run, image_of, image_scene_of, inl, inr, is_freed, is_large, is_phase}
+use Rattle.mk_laws.proofs.Vocabulary.{is_released_in, is_small_object, is_undecided_free, is_unmapped_header, kinds_of}
+use Rattle.mk_laws.proofs.Vocabulary.{large_cells, large_count, large_is_not_small, leb-true, left, length, ltb-true}
+use Rattle.mk_laws.proofs.Vocabulary.{made_is_mapped, map, never_behind, not, not-true, object_placed, p_of}
+use Rattle.mk_laws.proofs.Vocabulary.{page_at_address, pages_made, placed_at, pointed_cell, refl, register_at}
+use Rattle.mk_laws.proofs.Vocabulary.{run_begins, slice_set, small_cells, small_heads_none, stands_in}
 use Rattle.mk_laws.proofs.Vocabulary.{stands_in_its_cell, storage_words, sym, target, true, true≢false, typed_size}
-use Rattle.mk_laws.proofs.Vocabulary.{unmapped_header, unmapped_is_unmapped, words_under, ◌*◌, ◌+◌, ◌/◌, ◌<◌, ◌==◌, ◌∙◌}
-use Rattle.mk_laws.proofs.Vocabulary.{◌≡◌, ◌≢◌, ◌≤◌}
+use Rattle.mk_laws.proofs.Vocabulary.{unmapped_header, unmapped_is_unmapped, words_under, words_within, ◌*◌, ◌+◌, ◌/◌}
+use Rattle.mk_laws.proofs.Vocabulary.{◌<◌, ◌==◌, ◌∙◌, ◌≡◌, ◌≢◌, ◌≤◌}
+use Rattle.mk_laws.proofs.FreeMoves.{pointer_cell}
+use Rattle.mk_laws.proofs.ImagesBefore.{ready_of}
+use Rattle.mk_laws.proofs.ImagesStands.{Stands, stands_of}
 use Rattle.mk_laws.proofs.InvariantJoined.{told_to_images}
-use Rattle.mk_laws.proofs.KnownWorlds.{known_world}
+use Rattle.mk_laws.proofs.InvariantTheorems.{allocations_stand}
+use Rattle.mk_laws.proofs.KnownWorlds.{KnownWorld, known_world}
+use Rattle.mk_laws.proofs.Ready.{Ready}
+use Rattle.mk_laws.proofs.RegMoves.{flight}
+use Rattle.mk_laws.proofs.Settled.{unreleased_are_apart}
 use Rattle.mk_objects.proofs.Vocabulary.{IsFreeAt, IsOutOfStop, PassState, call_of, freed_and_fresh}
 use Rattle.mk_objects.proofs.Vocabulary.{held_by_allocations, histories_keep_the_invariant, loaded_free, now_of}
 use Rattle.mk_objects.proofs.Vocabulary.{value_of, world_of}
 use Rattle.mk_objects.proofs.HeldFreed.{freed_one, held_part, held_set, large_part, live_part, small_part}
-use Rattle.mk_objects.proofs.FoundCells.{points_now, target_of}
-use Rattle.mk_objects.proofs.FreedTold.{freed_told}
 use Rattle.mk_objects.proofs.LoadedFrees.{loaded_undecided}
 use Rattle.mk_objects.proofs.Looks.{acting_caller}
 use Rattle.mk_objects.proofs.MayAct.{free_is_acting, off_four}
+use Rattle.mk_geom.proofs.ClassTable.{class_words_within}
 use Rattle.mk_core.proofs.ObjectHeaders.{part_heads_run}
+use Rattle.mk_core.proofs.StandingAllocations.{placed_cell}
 use Rattle.mk_laws.specs.ImagePremises.{IsLaidOut}
+use Rattle.mk_laws.specs.SettledPages.{StandsUsed}
+
+-- What the register of an undecided Free points into: the cell of an unreleased allocation.
+
+-- The register has a pointer to an unreleased allocation, and the value that the call has loaded points into its cell.
+pub record PointsAt (c : Config) (w : World) (n : NeverState) (k : ℕ) (f : Flight) : Type 0 where
+  pub number : ℕ
+  pub ty : ℕ
+  pub offset : ℕ
+  pub value : register_at n k (p_of f.op) ≡ Ptr number ty offset
+  pub unreleased : (placed_at w.allocations number).released ≡ false
+  pub cell : pointed_cell c.pages w.now.words.pages f.p ≡ Some (cell_of_allocation c (placed_at w.allocations number))
+
+module _ {c : Config} {w : World} {n : NeverState} (known : KnownWorld c w) (others : ImagePremises c w)
+    (mirrors : Mirrors c w n) where
+  st : Stands c w.now.words w.allocations
+  st = stands_of c w known.limits others
+
+  ready : Ready c.globals mirrors.safe.0 (image_scene_of w) n
+  ready = ready_of c w n known mirrors st mirrors.safe.0 mirrors.safe.1
+
+  by_value : (k : ℕ) (f : Flight) (v : Value) → register_at n k (p_of f.op) ≡ v → IsSound n v → IsSafe mirrors.safe.0 v
+      → f.p ≡ image_of (bases_of w.allocations) v → f.p ≢ 0 → PointsAt c w n k f
+  by_value k f Null is sound safe e ne = absurd (ne e)
+  by_value k f (Num m) is sound safe e ne = absurd sound
+  by_value k f (Ptr a t o) is sound safe e ne = record {
+    number = a;
+    ty = t;
+    offset = o;
+    value = is;
+    unreleased = mirrors.safe.1.unreleased a safe;
+    cell = pointer_cell c w n known mirrors mirrors.safe.0 ready st a t o f.p sound safe e;
+  }
+
+  points_by : {k : ℕ} (s : Stage) (o : Op) (q p r l : ℕ) → is_undecided_free (flight s o q p r l) ≡ true
+      → CarriesOwn (bases_of w.allocations) n k (flight s o q p r l) → PointsAt c w n k (flight s o q p r l)
+  points_by {k} Stage.Turn (Op.Free p') q p r l undecided car =
+      by_value k (flight Stage.Turn (Op.Free p') q p r l) (register_at n k p') refl
+      (mirrors.typed.registers (8 * k + p')) (mirrors.safe.1.registers (8 * k + p')) (car.p refl) (car.some_p refl)
+  points_by _ _ q p r l undecided car = absurd (false≢true undecided)
+
+  pub points_at : (k : ℕ) → is_undecided_free (flight_of w.now (Caller k)) ≡ true
+      → PointsAt c w n k (flight_of w.now (Caller k))
+  points_at k undecided =
+      let f = flight_of w.now (Caller k) in
+      points_by f.stage f.op f.q f.p f.r f.loaded undecided (ready.images.carried k)
+
+pub free_points_at : {c : Config} {es : List Event} (k : ℕ) → IsHistory c es
+    → is_undecided_free (flight_of (left c es).now (Caller k)) ≡ true
+    → PointsAt c (left c es) (never_behind c es) k (flight_of (left c es).now (Caller k))
+free_points_at {c} {es} k h undecided =
+    let known = known_world c es h.within_limits h.enabled in
+    let inv = histories_keep_the_invariant c es h in
+    points_at known (told_to_images c (left c es) (never_behind c es) known inv) inv.mirrors k undecided
+
+-- The cell that the register of a Free points into, by a look at its page's header.
+
+-- what points into a cell is an address of the heap
+pub record InHeap (pages u : ℕ) : Type 0 where
+  pub from : 65536 ≤ u
+  pub page : page_at_address u < pages
+
+pub pointed_in_heap : (pages header u : ℕ) (cell : Cell) → cell_at pages header u ≡ Some cell → InHeap pages u
+pointed_in_heap pages header u cell is = grind (arith, and_parts, leb-true, ltb-true, cond-false)
+
+pub points_now : (p : PassState) (k : ℕ) → p.seat ≡ Caller k → IsHistory p.table.config p.seen
+    → is_undecided_free (call_of p) ≡ true
+    → PointsAt p.table.config (world_of p) (never_behind p.table.config p.seen) k (call_of p)
+points_now p k is h undecided = grind (arith, free_points_at)
+
+-- what points into a cell by the words does so by its page's header
+pub pointed_by_header : (p : PassState) (u : ℕ) {x : Option Cell} → pointed_cell p.table.config.pages
+    (now_of p).words.pages u ≡ x → cell_at p.table.config.pages (header_at (now_of p).words (page_at_address u)) u ≡ x
+unfolding pointed_cell
+pointed_by_header p u is = is
+
+-- The value that a Free has loaded points into this cell, by its page's header.
+pub record IsPointed (p : PassState) (u : ℕ) : Type 0 where
+  pub cell : Cell
+  pub from : 65536 ≤ u
+  pub page : page_at_address u < p.table.config.pages
+  pub by_header : cell_at p.table.config.pages (header_at (now_of p).words (page_at_address u)) u ≡ Some cell
+  pub target : target p.table.config.pages (now_of p).words (call_of p) ≡ Some cell
+  pub within : cell.page < p.table.config.pages
+  pub index : cell.index < 32
+
+pub target_of : (pages : ℕ) (w : Words) (f : Flight) (cell : Cell) → is_undecided_free f ≡ true
+    → pointed_cell pages w.pages f.p ≡ Some cell → target pages w f ≡ Some cell
+target_of pages w f cell free is = rw free is
+
+cell_within : {c : Config} {w : World} {a : PlacedAllocation} → IsWithinLimits c → StandsUsed c w a
+    → (cell_of_allocation c a).page < c.pages
+cell_within limits s = grind (arith, words_within, typed_size)
+
+cells_few : (o : Object) → IsSized o → cells_made o ≤ 32
+cells_few o sized = elim (cases_Bool (is_small_object o)) [
+  | inl small ↦
+      let range = class_words_within (class_made o) (class_known o sized small).0 in
+      let is = small_cells o small in
+      let few : cells_of (class_made o) ≤ 32 = div-le_of_le-mul (class_words_of (class_made o)) (omega arith) in
+      omega arith
+  | inr large ↦ let is = large_cells o large in omega arith
+]
+
+cell_index : {c : Config} {w : World} {a : PlacedAllocation} → IsWithinLimits c → StandsUsed c w a
+    → (cell_of_allocation c a).index < 32
+cell_index {c} {a} limits s =
+    let sized = typed_size c a limits s.stands.typed in
+    let is : (cell_of_allocation c a).index ≡ s.stands.begins.index =
+    ap (λ (k : Cell). k.index) (placed_cell c a sized s.stands.begins) in
+    let known = s.stands.begins.known in
+    let few = cells_few (object_placed c a) sized in
+    omega arith
+
+pub pointed_now : (p : PassState) {u : ℕ} → IsHistory p.table.config p.seen → is_undecided_free (call_of p) ≡ true
+    → (call_of p).p ≡ u → IsPointed p u
+pointed_now p {u} h free is =
+    let caller = acting_caller p (free_is_acting (call_of p) free) in
+    let t = points_now p caller.number caller.is h free in
+    let cell : Cell = cell_of_allocation p.table.config (placed_at (world_of p).allocations t.number) in
+    let pointed : pointed_cell p.table.config.pages (now_of p).words.pages u ≡ Some cell = grind arith in
+    let by_header = pointed_by_header p u pointed in
+    let heap = pointed_in_heap p.table.config.pages (header_at (now_of p).words (page_at_address u)) u cell by_header in
+    record {
+      cell = cell;
+      from = heap.from;
+      page = heap.page;
+      by_header = by_header;
+      target = target_of p.table.config.pages (now_of p).words (call_of p) cell free t.cell;
+      within = cell_within h.within_limits (allocations_stand p.table.config p.seen h t.number t.unreleased);
+      index = cell_index h.within_limits (allocations_stand p.table.config p.seen h t.number t.unreleased);
+    }
+
+-- The freed bit of an unreleased allocation's cell says whether it is freed.
+
+pub freed_told : {c : Config} {es : List Event} (i : ℕ) → IsHistory c es → is_phase (left c es).now.words 4 ≡ false
+    → (placed_at (left c es).allocations i).released ≡ false → is_freed (left c es).now.words
+    (cell_of_allocation c (placed_at (left c es).allocations i)) ≡ (placed_at (left c es).allocations i).freed
+freed_told {c} {es} i h off u = elim (cases_Bool (placed_at (left c es).allocations i).freed) [
+  | inl freed ↦ order.quarantined.shown i u freed ∙ sym freed
+  | inr live ↦ false_from_ne_true (is_freed w.now.words k) (λ set. true≢false
+      (sym (elim (order.quarantined.owned k.page k.index set) [
+        | inl f ↦ let one = unreleased_are_apart c es order.laid f.number i f.unreleased u f.cell in
+            ap (λ j. (placed_at (left c es).allocations j).freed) (sym one) ∙ f.freed
+        | inr gone ↦ let none : false ≡ true =
+            sym (ap (λ b. is_released_in b (left c es).now.words.snapshot (left c es).now.words.marks
+            (cell_of_allocation c (placed_at (left c es).allocations i)).page
+            (cell_of_allocation c (placed_at (left c es).allocations i)).index) off) ∙ gone in cc
+      ]) ∙ live)) ∙ sym live
+]
+  where
+    w : World
+    w = left c es
+
+    k : Cell
+    k = cell_of_allocation c (placed_at (left c es).allocations i)
+
+    order : StandsInOrder c (left c es)
+    order = (histories_keep_the_invariant c es h).order
 
 -- The register of the Free has a pointer to this unreleased allocation, whose cell it is.
 pub record IsObjectAt (p : PassState) (r : ℕ) (cell : Cell) : Type 0 where
@@ -107,14 +280,12 @@ module _ (p : PassState) (r : ℕ) (cell : Cell) (h : IsHistory p.table.config p
 
   pub small_held : heads_run (header_in (now_of p).words cell.page) ≡ false
       → held_by_allocations p.table.config (map (freed_where_it_stands (now_of p).words (Some cell))
-      (world_of p).allocations)
-      ≡ held_by_allocations p.table.config (world_of p).allocations
+      (world_of p).allocations) ≡ held_by_allocations p.table.config (world_of p).allocations
   small_held small = grind (arith, small_part, own, its_size, held_behind)
 
   pub large_held : heads_run (header_in (now_of p).words cell.page) ≡ true → own.freed ≡ false
       → held_by_allocations p.table.config (map (freed_where_it_stands (now_of p).words (Some cell))
-      (world_of p).allocations)
-      + words_under (header_in (now_of p).words cell.page)
+      (world_of p).allocations) + words_under (header_in (now_of p).words cell.page)
       ≡ held_by_allocations p.table.config (world_of p).allocations
   large_held large live = grind (arith, large_part, own, its_size, live_part, its_words, held_behind)
 

@@ -1,25 +1,170 @@
 -- Of the events of a Free's turn one frees its object: a `quar` of its own.
+use Rattle.std.proofs.Common.{length-append}
+use Rattle.std.proofs.lemmas.List.{append_cancel_left}
 use Rattle.mk_laws.proofs.Vocabulary.{Bool, Config, Event, Flight, Holds, IsHistory, List, Moment, PlacedAllocation}
 use Rattle.mk_laws.proofs.Vocabulary.{Seat, Step, World, and_parts, ap, append-nil, append_assoc, arith, cases_Bool}
-use Rattle.mk_laws.proofs.Vocabulary.{earlier_part_is_history, false, flight_of, inl, inr, is_one_of, left, not}
-use Rattle.mk_laws.proofs.Vocabulary.{not-true, subst, sym, true, true≢false, [], ◌&&◌, ◌++◌, ◌∙◌, ◌∷◌, ◌≡◌}
+use Rattle.mk_laws.proofs.Vocabulary.{earlier_part_is_history, false, false_from_ne_true, first_world, flight_of, found}
+use Rattle.mk_laws.proofs.Vocabulary.{if◌then◌else◌, inl, inr, is_one_of, left, left_more, length, not, not-true, refl}
+use Rattle.mk_laws.proofs.Vocabulary.{subst, sym, true, true≢false, world_behind, [], ◌&&◌, ◌++◌, ◌||◌, ◌∙◌, ◌∷◌, ◌≡◌}
+use Rattle.mk_laws.proofs.Vocabulary.{◌⊎◌}
 use Rattle.mk_laws.proofs.LastEvents.{comes_last, stands}
 use Rattle.mk_laws.proofs.Actors.{is_holders}
 use Rattle.mk_laws.proofs.FramesHolders.{acts_as_holder}
 use Rattle.mk_laws.proofs.Known.{holds_turn}
 use Rattle.mk_laws.proofs.Orderly.{same_holder}
 use Rattle.mk_laws.proofs.OrderlyLists.{actor_of}
-use Rattle.mk_laws.proofs.ProtocolFrames.{other_seat}
+use Rattle.mk_laws.proofs.ProtocolFrames.{other_seat, others_leave}
 use Rattle.mk_laws.proofs.Views.{view_of}
 use Rattle.mk_objects.proofs.Vocabulary.{Does, FreesOnce, IsAsLeft, IsOverQuarter, PassState, WordsState, event_of}
 use Rattle.mk_objects.proofs.Vocabulary.{now_of, turn_stays, world_of}
-use Rattle.mk_objects.proofs.TurnEvents.{ComesBy, KeptInTurn, along_others, along_turn}
-use Rattle.mk_objects.proofs.ListParts.{in_parts, none_behind, one_behind}
 use Rattle.mk_objects.proofs.Reaching.{MadeIn}
+use Rattle.mk_core.specs.Growing.{AreOfOthers, Finding, is_same_seat, own_from}
 use Rattle.mk_core.specs.Allocations.{unreleased_storage}
 use Rattle.mk_core.specs.Counts.{decides_freed}
 use Rattle.mk_objects.specs.Dues.{FreesOnly, event_frees}
 use Rattle.mk_objects.specs.Retired.{IsDueSince}
+use Rattle.mk_turns.proofs.Doing.{none_own}
+use Rattle.mk_turns.specs.Doing.{are_of}
+use Rattle.mk_words.proofs.Seats.{only_one, same_seat, same_self}
+use Rattle.mk_words.proofs.TurnSteps.{still_turn}
+use Rattle.mk_words.specs.Seats.{Has}
+use Rattle.mk_words.specs.Steps.{Makes}
+
+-- Two ways to part one list.
+
+-- The element stands in the first part, or the first part stands before it.
+
+pub record StandsIn {A : Type 0} (xs : List A) (ys : List A) (x : A) : Type 0 where
+  pub rest : List A
+  pub is : xs ≡ ys ++ x ∷ rest
+
+pub record StandsBefore {A : Type 0} (xs : List A) (ys : List A) : Type 0 where
+  pub rest : List A
+  pub is : ys ≡ xs ++ rest
+
+pub in_parts : {A : Type 0} (xs more ys : List A) (x : A) (zs : List A) → xs ++ more ≡ ys ++ x ∷ zs
+    → StandsIn xs ys x ⊎ StandsBefore xs ys
+in_parts [] more ys x zs is = inr (record { rest = ys; is = refl })
+in_parts (a ∷ xs) more [] x zs is = grind arith
+in_parts (a ∷ xs) more (y ∷ ys) x zs is =
+    let first : a ≡ y = cc in
+    let rest : xs ++ more ≡ ys ++ x ∷ zs = cc in
+    elim (in_parts xs more ys x zs rest) [
+      | inl l ↦
+          let front : a ∷ xs ≡ y ∷ (ys ++ x ∷ l.rest) = ap (λ c. c ∷ xs) first ∙ ap (λ l. y ∷ l) l.is in
+          inl (record { rest = l.rest; is = front })
+      | inr b ↦
+          let front : y ∷ ys ≡ a ∷ (xs ++ b.rest) = ap (λ c. c ∷ ys) (sym first) ∙ ap (λ l. a ∷ l) b.is in
+          inr (record { rest = b.rest; is = front })
+    ]
+
+-- No element stands after a whole list,
+pub none_behind : {A : Type 0} {xs : List A} (ys : List A) (x : A) (zs : List A) → xs ≡ xs ++ ys ++ x ∷ zs → ⊥
+none_behind {xs} ys x zs is =
+    let all : length xs ≡ length (xs ++ ys ++ x ∷ zs) = ap length is in
+    let outer = length-append (xs ++ ys) (x ∷ zs) in
+    let inner = length-append xs ys in
+    omega arith
+
+-- and after a list with one element more, that one.
+alone : {A : Type 0} (e : A) (ys : List A) (x : A) (zs : List A) → e ∷ [] ≡ ys ++ x ∷ zs → (ys ≡ []) × (e ≡ x)
+alone e [] x zs is = let it : e ≡ x = cc in (refl, it)
+alone e (y ∷ ys) x zs is =
+    let n : length (e ∷ []) ≡ length (y ∷ (ys ++ x ∷ zs)) = ap length is in
+    let inner = length-append ys (x ∷ zs) in
+    absurd (omega arith)
+
+pub one_behind : {A : Type 0} (xs : List A) (e : A) (ys : List A) (x : A) (zs : List A)
+    → xs ++ e ∷ [] ≡ xs ++ ys ++ x ∷ zs → (ys ≡ []) × (e ≡ x)
+one_behind xs e ys x zs is = grind (arith, alone, append_cancel_left, append_assoc)
+
+-- What each event keeps stands along all that a turn's holder has seen since: the events of others, and its own.
+
+-- An event is the seat's own, and of these kinds, or another's.
+pub data ComesBy (s : Seat) (kinds : Step → Bool) (e : Event) : Type 0 where
+  Own : e.seat ≡ s → kinds e.step ≡ true → ComesBy s kinds e
+  Another : is_one_of (s ∷ []) e.seat ≡ false → ComesBy s kinds e
+
+-- Each event keeps the claim, where the seat holds the turn.
+abbrev pub KeptInTurn : Config → Seat → (Step → Bool) → (List Event → Type 0) → Type 0
+KeptInTurn c s kinds claim =
+    (es : List Event) (e : Event) → IsHistory c (es ++ e ∷ []) → Holds c (left c es).now s → ComesBy s kinds e
+    → claim es → claim (es ++ e ∷ [])
+
+comes_first : (b : Bool) (x : Finding) (xs : List Finding) (kinds : Step → Bool)
+    → are_of kinds (if b then x ∷ xs else xs) ≡ true → (b ≡ true → kinds x.event.step ≡ true) × (are_of kinds xs ≡ true)
+comes_first true x xs kinds h = let both = and_parts (kinds x.event.step) (are_of kinds xs) h in (λ is. both.0, both.1)
+comes_first false x xs kinds h = (λ is. absurd (true≢false (sym is)), h)
+
+module _ (p : PassState) (kinds : Step → Bool) (stays : (x : Step) → kinds x ≡ true → turn_stays x ≡ true)
+    (claim : List Event → Type 0) (kept : KeptInTurn p.table.config p.seat kinds claim) where
+  abbrev c : Config
+  c = p.table.config
+
+  -- the pass, where it has seen these, and has no seat but its own
+  abbrev seeing : List Event → PassState
+  seeing es = record p { seats = p.seat ∷ []; seen = es }
+
+  holds_more : (es : List Event) {e : Event} → IsHistory c (es ++ e ∷ []) → Holds c (left c es).now p.seat
+      → ComesBy p.seat kinds e → Holds c (left c (es ++ e ∷ [])).now p.seat
+  unfolding AreOfOthers
+  holds_more es {e} h holds (Another other) =
+      let before = earlier_part_is_history c es (e ∷ []) h in
+      ((others_leave c es (e ∷ []) p.seat before.within_limits h.enabled (other, tt)).own.holding holds).0
+  holds_more es {e} h holds (Own same of_kind) =
+      let it : event_of p e.step ≡ e = ap (λ (s : Seat). record { seat = s; step = e.step }) (sym same) in
+      let makes : Makes (seeing es) e.step (seeing (es ++ event_of p e.step ∷ [])) = record {
+        others = [];
+        of_others = tt;
+        is = ap (λ (xs : List Event). seeing (xs ++ event_of p e.step ∷ [])) (sym (append-nil es));
+        pass = record {
+          own = ap (λ b. b || false) (same_self p.seat);
+          history = subst (λ (x : Event). IsHistory c (es ++ x ∷ [])) (sym it) h;
+        };
+      } in
+      subst (λ (x : Event). Holds c (left c (es ++ x ∷ [])).now p.seat) it
+      (still_turn (seeing es) e.step (seeing (es ++ event_of p e.step ∷ [])) makes
+      (stays e.step of_kind) (record { holds = holds })).holds
+
+  comes_by : (e : Event) → (is_same_seat p.seat e.seat ≡ true → kinds e.step ≡ true) → ComesBy p.seat kinds e
+  comes_by e of_kind = elim (cases_Bool (is_same_seat p.seat e.seat)) [
+    | inl same ↦ Own (sym (same_seat p.seat e.seat same)) (of_kind same)
+    | inr other ↦ Another (false_from_ne_true (is_one_of (p.seat ∷ []) e.seat) (λ is. true≢false (sym (same_self p.seat)
+        ∙ ap (λ (s : Seat). is_same_seat p.seat s) (sym (only_one p.seat e.seat is)) ∙ other)))
+  ]
+
+  along : (es more : List Event) → IsHistory c (es ++ more) → Holds c (left c es).now p.seat
+      → are_of kinds (own_from c p.seat (left c es) more) ≡ true → claim es → claim (es ++ more)
+  unfolding own_from
+  along es [] h holds of_kinds there = subst (λ (xs : List Event). claim xs) (sym (append-nil es)) there
+  along es (e ∷ more) h holds of_kinds there =
+      let split : (es ++ e ∷ []) ++ more ≡ es ++ e ∷ more = append_assoc es (e ∷ []) more in
+      let whole : IsHistory c ((es ++ e ∷ []) ++ more) = subst (λ (xs : List Event). IsHistory c xs) (sym split) h in
+      let first : IsHistory c (es ++ e ∷ []) = earlier_part_is_history c (es ++ e ∷ []) more whole in
+      let on : World = world_behind c (left c es) e in
+      let kinds_of = comes_first (is_same_seat p.seat e.seat) (record { event = e; found = found c (left c es).now e })
+      (own_from c p.seat on more) kinds of_kinds in
+      let comes = comes_by e kinds_of.0 in
+      let rest : are_of kinds (own_from c p.seat (left c (es ++ e ∷ [])) more) ≡ true =
+      ap (λ (w : World). are_of kinds (own_from c p.seat w more)) (left_more c (first_world c) es e) ∙ kinds_of.1 in
+      subst (λ (xs : List Event). claim xs) split
+      (along (es ++ e ∷ []) more whole (holds_more es first holds comes) rest (kept es e first holds comes there))
+
+  -- from what the pass had seen to what it has seen now
+  pub along_turn : {q : PassState} → Does kinds p q → IsHistory q.table.config q.seen → Holds c (now_of p) p.seat
+      → claim p.seen → claim q.seen
+  along_turn d h holds there =
+      subst (λ (x : PassState). claim x.seen) (sym d.is)
+      (along p.seen d.more (subst (λ (x : PassState). IsHistory x.table.config x.seen) d.is h) holds d.of_kinds there)
+
+  -- and over events of others alone
+  pub along_others : (others : List Event) → IsHistory c (p.seen ++ others) → Holds c (now_of p) p.seat
+      → AreOfOthers (p.seat ∷ []) others → claim p.seen → claim (p.seen ++ others)
+  along_others others h holds of_others there =
+      let own : Has (p.seat ∷ []) p.seat = ap (λ b. b || false) (same_self p.seat) in
+      along p.seen others h holds
+      (ap (λ (xs : List Finding). are_of kinds xs) (none_own c (p.seat ∷ []) p.seat (left c p.seen) others own
+      of_others)) there
 
 abbrev pub is_quar : Step → Bool
 is_quar (Step.Quar p v) = true
@@ -51,18 +196,17 @@ frees_at_once c seen xs before e behind is frees = absurd (none_behind before e 
 frees_more : (c : Config) (seen : List Event) {es : List Event} {xs : List PlacedAllocation} (e : Event)
     → FreesOnly c seen xs es
     → (event_frees c es e ≡ true → (left c (es ++ e ∷ [])).allocations ≡ xs) → FreesOnly c seen xs (es ++ e ∷ [])
-frees_more c seen {es} e only last before x behind is frees =
-    elim (in_parts es (e ∷ []) (seen ++ before) x behind is) [
-      | inl here ↦ only before x here.rest here.is frees
-      | inr there ↦
-          let one = one_behind es e there.rest x behind (is ∙ ap (λ (l : List Event). l ++ x ∷ behind) there.is) in
-          let front : seen ++ before ≡ es = there.is ∙ ap (λ (l : List Event). es ++ l) one.0 ∙ append-nil es in
-          let it : x ≡ e = sym one.1 in
-          ap (λ (l : List Event). (left c (l ++ x ∷ [])).allocations) front
-          ∙ ap (λ (y : Event). (left c (es ++ y ∷ [])).allocations) it
-          ∙ last (ap (λ (y : Event). event_frees c es y) one.1 ∙ ap (λ (l : List Event). event_frees c l x) (sym front)
-          ∙ frees)
-    ]
+frees_more c seen {es} e only last before x behind is frees = elim (in_parts es (e ∷ []) (seen ++ before) x behind is) [
+  | inl here ↦ only before x here.rest here.is frees
+  | inr there ↦
+      let one = one_behind es e there.rest x behind (is ∙ ap (λ (l : List Event). l ++ x ∷ behind) there.is) in
+      let front : seen ++ before ≡ es = there.is ∙ ap (λ (l : List Event). es ++ l) one.0 ∙ append-nil es in
+      let it : x ≡ e = sym one.1 in
+      ap (λ (l : List Event). (left c (l ++ x ∷ [])).allocations) front
+      ∙ ap (λ (y : Event). (left c (es ++ y ∷ [])).allocations) it
+      ∙ last (ap (λ (y : Event). event_frees c es y) one.1 ∙ ap (λ (l : List Event). event_frees c l x) (sym front)
+      ∙ frees)
+]
 
 -- and a list after another
 frees_then : (c : Config) (seen more rest : List Event) {xs : List PlacedAllocation}

@@ -6,11 +6,11 @@ use Rattle.mk_laws.proofs.Vocabulary.{◌*◌, ◌+◌, ◌<◌, ◌^◌, ◌↔
 use Rattle.mk_objects.proofs.Vocabulary.{Changes, FreesCell, FreesOnce, HasFreed, IsFreedAt, IsTrue, MayFree, OnlyLooks}
 use Rattle.mk_objects.proofs.Vocabulary.{PassState, SetsTally, StaysSo, held_by_allocations, is_following, now_of}
 use Rattle.mk_objects.proofs.Vocabulary.{with_tally, world_of}
+use Rattle.mk_objects.proofs.ClearedRuns.{IsGoneIn, still_gone}
 use Rattle.mk_objects.proofs.DecidedFrees.{Stays, held_stays, stays_now, stays_then}
 use Rattle.mk_objects.proofs.FreedObjects.{HasRun, IsObjectAt, its_freed, its_run, large_held, object_at, own}
-use Rattle.mk_objects.proofs.GoneRuns.{IsGoneIn, still_gone}
 use Rattle.mk_objects.proofs.SmallFrees.{freed_now, frees_counted, fresh_told_by, tally_between}
-use Rattle.mk_objects.proofs.ReachedParts.{reached_table, reached_world}
+use Rattle.mk_objects.proofs.JoinedLooks.{reached_table, reached_world}
 use Rattle.mk_objects.specs.Deciding.{ClearsRun}
 use Rattle.mk_objects.specs.Unmapping.{IsStillMapped}
 
@@ -19,8 +19,7 @@ pub record HeadsRun (x : Option Header) (count : ℕ) : Type 0 where
   pub heads : heads_run x ≡ true
   pub words : words_under x ≡ 64 * count
 
-same_count : (page n count : ℕ)
-    → ◌≡◌ {A = Option RunPages} (Some (record { page = page; count = n }))
+same_count : (page n count : ℕ) → ◌≡◌ {A = Option RunPages} (Some (record { page = page; count = n }))
     (Some (record { page = page; count = count })) → n ≡ count
 same_count page n count is = grind arith
 
@@ -48,8 +47,7 @@ module _ {p : PassState} {reg u : ℕ} {cell : Cell} (count : ℕ) (may : MayFre
   run_is = its_run p reg cell before object count heads.heads live (sym heads.words)
 
   pub held_then : held_by_allocations p.table.config (map (freed_where_it_stands (now_of p).words (Some cell))
-      (world_of p).allocations) + 64 * count
-      ≡ (now_of p).words.held
+      (world_of p).allocations) + 64 * count ≡ (now_of p).words.held
   held_then =
       let sum = large_held p reg cell before object heads.heads live in
       let words = heads.words in

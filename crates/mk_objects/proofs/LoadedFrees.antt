@@ -1,23 +1,72 @@
 -- The register of a Free is loaded.
-use Rattle.mk_laws.proofs.Vocabulary.{Answer, AreOfOthers, Bool, Caller, Config, Event, Flight, Holds, IsEnabled}
-use Rattle.mk_laws.proofs.Vocabulary.{IsHistory, List, Load, Moment, None, Null, Op, Option, Progress, Seat, Some}
-use Rattle.mk_laws.proofs.Vocabulary.{Stage, Step, Value, Words, World, ℕ, answer_decided, ap, arith, bases_of, begun}
-use Rattle.mk_laws.proofs.Vocabulary.{caller_number, entry_of, eqb-true, false, flight_of, found, if◌then◌else◌}
-use Rattle.mk_laws.proofs.Vocabulary.{image_of, is_held, is_undecided_free, left, length, lt-ltb, never_behind}
-use Rattle.mk_laws.proofs.Vocabulary.{progress_reg, refl, reg_access, register_at, register_met, register_word, shown}
-use Rattle.mk_laws.proofs.Vocabulary.{subst, sym, true, world_behind, [], ◌%◌, ◌*◌, ◌++◌, ◌+◌, ◌/◌, ◌<◌, ◌==◌, ◌∙◌, ◌∷◌}
-use Rattle.mk_laws.proofs.Vocabulary.{◌≡◌}
-use Rattle.mk_objects.proofs.Vocabulary.{Acts, CallIsAt, IsAsLeft, IsBase, IsEnabledTo, IsFreeAt, IsTurn, Known}
-use Rattle.mk_objects.proofs.Vocabulary.{PassState, answers_full, call_of, event_of, histories_keep_the_invariant}
-use Rattle.mk_objects.proofs.Vocabulary.{is_loading, loaded_free, now_of, steady_of, value_of, world_of}
+use Rattle.std.proofs.lemmas.List.{length-replicate}
+use Rattle.mk_laws.proofs.Vocabulary.{Answer, AreAdmitted, AreOfOthers, Bool, Call, Caller, Config, Event, Flight}
+use Rattle.mk_laws.proofs.Vocabulary.{Holds, IsAdmitted, IsEnabled, IsHistory, List, Load, Moment, None, Null, Op}
+use Rattle.mk_laws.proofs.Vocabulary.{Option, Progress, Seat, Some, Stage, Step, Value, Words, World, ℕ, after_calls}
+use Rattle.mk_laws.proofs.Vocabulary.{answer_decided, ap, append-nil, arith, asked, bases_of, begun, call_decided}
+use Rattle.mk_laws.proofs.Vocabulary.{caller_number, calls, earlier_part_is_history, entry_of, eqb-true, false}
+use Rattle.mk_laws.proofs.Vocabulary.{flight_of, found, if◌then◌else◌, image_of, is_held, is_undecided_free, left}
+use Rattle.mk_laws.proofs.Vocabulary.{length, lt-ltb, map-append, never_behind, progress_reg, refl, reg_access}
+use Rattle.mk_laws.proofs.Vocabulary.{register_at, register_met, register_word, shown, subst, sym, true, world_behind}
+use Rattle.mk_laws.proofs.Vocabulary.{[], ◌%◌, ◌*◌, ◌++◌, ◌+◌, ◌/◌, ◌<◌, ◌==◌, ◌∙◌, ◌∷◌, ◌≡◌}
+use Rattle.mk_laws.proofs.SeatFrames.{admitted_others_leave}
+use Rattle.mk_objects.proofs.Vocabulary.{Acts, CallIsAt, IsAdmittedBehind, IsAsLeft, IsBase, IsEnabledTo, IsFreeAt}
+use Rattle.mk_objects.proofs.Vocabulary.{IsTurn, Known, PassState, answers_full, call_of, calls_more, event_of}
+use Rattle.mk_objects.proofs.Vocabulary.{histories_keep_the_invariant, is_loading, loaded_free, now_of, steady_of}
+use Rattle.mk_objects.proofs.Vocabulary.{value_of, world_of}
 use Rattle.mk_objects.proofs.Reaching.{IsCallers, made_in, reaches_nothing, reaches_on}
-use Rattle.mk_objects.proofs.AdmittedFrees.{free_admits, registers_kept}
 use Rattle.mk_objects.proofs.Unchanged.{call_behind}
+use Rattle.mk_never.proofs.Later.{calls_stay}
+use Rattle.mk_never.proofs.Parts.{admitted_join}
 use Rattle.mk_core.proofs.Conditions.{meets_enabled}
 use Rattle.mk_core.specs.Effects.{moment_behind}
+use Rattle.mk_core.specs.History.{never_first}
 use Rattle.mk_objects.specs.Retiring.{HasLoaded, IsUnloaded}
 use Rattle.mk_words.specs.CallSteps.{register_of}
 use Rattle.mk_words.specs.Steps.{IsAdmittedTo}
+
+-- A Free whose register is null or points to a first word is admitted, whatever its step.
+
+free_admitted : (c : Config) (k r : ℕ) (xs : List Call) → k < c.callers → r < 8
+    → IsBase (register_at (after_calls (never_first c) xs) k r)
+    → IsAdmitted c.globals (after_calls (never_first c) xs) k (Op.Free r)
+free_admitted c k r xs lt small base =
+    let stays = calls_stay (never_first c) xs in
+    record {
+      of_a_caller = let many = length-replicate {A = Value} (8 * c.callers) Null in let same =
+          stays.registers in omega arith;
+      in_range = small;
+      access = tt;
+      store = base;
+    }
+
+free_call : (c : Config) (k r : ℕ) (xs : List Call) (a : Option Answer) → k < c.callers → r < 8
+    → IsBase (register_at (after_calls (never_first c) xs) k r)
+    → AreAdmitted c.globals (after_calls (never_first c) xs) (asked (entry_of k (Op.Free r) a))
+free_call c k r xs x4 lt small base = grind (arith, free_admitted)
+
+asked_more : (c : Config) (es : List Event) (e : Event)
+    → asked (calls c (es ++ e ∷ [])) ≡ asked (calls c es) ++ asked (call_decided c (left c es).now e)
+asked_more c es e = grind (arith, calls_more, map-append)
+
+pub free_admits : {c : Config} {es : List Event} (k r : ℕ) (x : Step) → IsHistory c es → k < c.callers → r < 8
+    → (flight_of (left c es).now (Caller k)).op ≡ Op.Free r → IsBase (register_at (never_behind c es) k r)
+    → IsAdmittedBehind c es (record { seat = Caller k; step = x })
+free_admits k r x h lt small is base = grind (arith, asked_more, admitted_join, free_call)
+
+-- A caller keeps its registers in the heap that never reuses storage over events of others and a step of its own that
+-- decides nothing.
+pub registers_kept : {c : Config} (es others : List Event) (k : ℕ) (x : Step)
+    → IsHistory c (es ++ others ++ record { seat = Caller k; step = x } ∷ []) → AreOfOthers (Caller k ∷ []) others
+    → answer_decided c (left c (es ++ others)).now (record { seat = Caller k; step = x }) ≡ None → (r : ℕ) → r < 8
+    → register_at (never_behind c (es ++ others ++ record { seat = Caller k; step = x } ∷ [])) k r
+    ≡ register_at (never_behind c es) k r
+registers_kept {c} es others k x whole of_others none r lt =
+    let e : Event = record { seat = Caller k; step = x } in
+    let before = earlier_part_is_history c (es ++ others) (e ∷ []) whole in
+    let same : asked (calls c (es ++ others ++ e ∷ [])) ≡ asked (calls c (es ++ others)) =
+    grind (arith, asked_more, append-nil) in
+    cc (same, (admitted_others_leave c es others (Caller k) before of_others).registers k r refl lt)
 
 -- Any step of a Free is admitted.
 pub free_step_admits : {p : PassState} {r : ℕ} (x : Step) {f : Flight} → IsCallers p
@@ -37,11 +86,9 @@ value_kept {p} r {x} caller small a none =
   where
     by : (others : List Event) (s : Seat) → s ≡ Caller caller.number → AreOfOthers (s ∷ []) others
         → answer_decided p.table.config (left p.table.config (p.seen ++ others)).now (record { seat = s; step = x })
-        ≡ None
-        → IsHistory p.table.config (p.seen ++ others ++ record { seat = s; step = x } ∷ [])
+        ≡ None → IsHistory p.table.config (p.seen ++ others ++ record { seat = s; step = x } ∷ [])
         → register_at (never_behind p.table.config (p.seen ++ others ++ record { seat = s; step = x } ∷ []))
-        (caller_number s) r
-        ≡ register_at (never_behind p.table.config p.seen) (caller_number s) r
+        (caller_number s) r ≡ register_at (never_behind p.table.config p.seen) (caller_number s) r
     by others s e of_others answer whole =
         subst (λ (y : Seat). AreOfOthers (y ∷ []) others → answer_decided p.table.config
         (left p.table.config (p.seen ++ others)).now (record { seat = y; step = x }) ≡ None
@@ -85,8 +132,7 @@ module _ {p : PassState} {r : ℕ} (u : IsUnloaded p r) where
 
 abbrev load_progress : ℕ → ℕ → Bool → Progress
 load_progress r n b =
-    if b
-    then record { flight = record (begun (Op.Free r)) { stage = Stage.Give; p = n }; answer = Some Answer.Done }
+    if b then record { flight = record (begun (Op.Free r)) { stage = Stage.Give; p = n }; answer = Some Answer.Done }
     else record { flight = record (begun (Op.Free r)) { stage = Stage.Turn; p = n }; answer = None }
 
 loads_to : (r n : ℕ) → (progress_reg (begun (Op.Free r)) Stage.LoadP n).flight ≡ loaded_free r n

@@ -1,6 +1,6 @@
 -- What a look of the turn's holder finds, and that it leaves all as it was.
-use Rattle.mk_laws.proofs.Vocabulary.{Caller, Config, Flight, Holds, Host, Marker, Moment, Op, Option, Seat, Steady}
-use Rattle.mk_laws.proofs.Vocabulary.{Step, Word, World, ℕ, ap, false, flight_of, free_page, left, lt-ltb, phase_of}
+use Rattle.mk_laws.proofs.Vocabulary.{Caller, Config, Flight, Holds, Host, Marker, Moment, Seat, Steady, Step, Word}
+use Rattle.mk_laws.proofs.Vocabulary.{World, ℕ, ap, false, flight_of, free_page, left, lt-ltb, phase_of}
 use Rattle.mk_laws.proofs.Vocabulary.{quarantine_word, refl, seat_exists, slice_index, slice_index_or, true}
 use Rattle.mk_laws.proofs.Vocabulary.{world_behind, ◌%◌, ◌++◌, ◌∙◌, ◌≡◌}
 use Rattle.mk_objects.proofs.Vocabulary.{Acts, IsAsLeft, IsTurn, OnlyLooks, PassState, call_of, is_acting, is_look}
@@ -20,9 +20,9 @@ holder_exists c m (Caller k) h = lt-ltb k c.callers h.0
 holder_exists c m (Marker k) h = absurd h
 holder_exists c m Host h = refl
 
-pub acting_now : (p : PassState) → IsTurn p → is_acting (call_of p).stage ≡ true
+pub acting_now : {p : PassState} → IsTurn p → is_acting (call_of p).stage ≡ true
     → IsActing p.table.config (now_of p) p.seat
-acting_now p turn acts = record { there = holder_exists p.table.config (now_of p) p.seat turn.holds; acts = acts }
+acting_now {p} turn acts = record { there = holder_exists p.table.config (now_of p) p.seat turn.holds; acts = acts }
 
 pub acting_caller : (p : PassState) → is_acting (call_of p).stage ≡ true → IsCallers p
 acting_caller p acts = by p.seat refl acts
@@ -60,7 +60,7 @@ pub look_reaches : {p q : PassState} {x : Word} → IsTurn p → is_acting (call
     → IsPlain x → Acts p (Step.Look x) q → OnlyLooks p q
 look_reaches {p} turn acts plain a =
     reaches_still _ _ (reaches_nothing is_look p _ (left_same _ _)) a refl refl (acting_caller p acts) (plain_is_idle
-    plain) (looks_on p (acting_now p turn acts) plain)
+    plain) (looks_on p (acting_now turn acts) plain)
 
 -- What it finds is what the word is for the holder.
 module _ (p q : PassState) (x : Word) (n : ℕ) (turn : IsTurn p) (f : Finds p (Step.Look x) n q) where

@@ -1,18 +1,24 @@
 -- What the turn's holder may do, whatever the moment.
-use Rattle.mk_laws.proofs.Vocabulary.{Caller, Config, Flight, Group, Host, IsEnabled, Marker, Moment, Op, Seat, Stage}
-use Rattle.mk_laws.proofs.Vocabulary.{Step, Tally, Word, ℕ, and_from, ap, carves, comes_next, eq-eqb, false, flight_of}
-use Rattle.mk_laws.proofs.Vocabulary.{frees, group_of, has_gates, has_phase, header_of, holder_may, inl, inr, is_held}
-use Rattle.mk_laws.proofs.Vocabulary.{is_in_range, is_new_at, is_number_of, is_open_to, is_phase, is_run_cell}
-use Rattle.mk_laws.proofs.Vocabulary.{is_run_gone, is_undecided_free, is_undecided_new, is_unmapped_header}
-use Rattle.mk_laws.proofs.Vocabulary.{is_used_once, lt-ltb, marker_at, marker_may, marks_place, nat_lt, not}
-use Rattle.mk_laws.proofs.Vocabulary.{object_made, or_left, or_right, others_are_held, phase_of, place_now, refl}
-use Rattle.mk_laws.proofs.Vocabulary.{seat_exists, takes_cell, target, true, undecided_free, undecided_new, unmaps, ◌*◌}
-use Rattle.mk_laws.proofs.Vocabulary.{◌<◌, ◌==◌, ◌||◌, ◌∙◌, ◌≡◌, ◌⊎◌}
-use Rattle.mk_objects.proofs.Vocabulary.{IsOutOfStop, is_acting, is_steady_word}
+use Rattle.std.proofs.lemmas.List.{length-replicate}
+use Rattle.mk_laws.proofs.Vocabulary.{AreAdmitted, Bool, Call, Caller, Config, Event, Flight, Group, Host, IsAdmitted}
+use Rattle.mk_laws.proofs.Vocabulary.{IsEnabled, IsHistory, List, Marker, Moment, Null, Op, Seat, Stage, Step, Tally}
+use Rattle.mk_laws.proofs.Vocabulary.{Value, Word, ℕ, after_calls, and_from, and_parts, ap, arith, asked, calls, carves}
+use Rattle.mk_laws.proofs.Vocabulary.{comes_next, d_of, eq-eqb, false, flight_of, frees, group_of, has_gates}
+use Rattle.mk_laws.proofs.Vocabulary.{has_operands, has_phase, header_of, holder_may, inl, inr, is_held, is_in_range}
+use Rattle.mk_laws.proofs.Vocabulary.{is_new_at, is_number_of, is_open_to, is_phase, is_run_cell, is_run_gone}
+use Rattle.mk_laws.proofs.Vocabulary.{is_undecided_free, is_undecided_new, is_unmapped_header, is_used_once, left}
+use Rattle.mk_laws.proofs.Vocabulary.{length, lt-ltb, ltb-true, map-append, marker_at, marker_may, marks_place, nat_lt}
+use Rattle.mk_laws.proofs.Vocabulary.{not, object_made, or_left, or_right, others_are_held, phase_of, place_now, refl}
+use Rattle.mk_laws.proofs.Vocabulary.{seat_exists, subst, sym, takes_cell, target, true, undecided_free, undecided_new}
+use Rattle.mk_laws.proofs.Vocabulary.{unmaps, [], ◌*◌, ◌++◌, ◌<◌, ◌==◌, ◌||◌, ◌∙◌, ◌∷◌, ◌≡◌, ◌⊎◌}
+use Rattle.mk_objects.proofs.Vocabulary.{IsAdmittedBehind, IsOutOfStop, calls_more, is_acting, is_steady_word}
+use Rattle.mk_never.proofs.Later.{calls_stay}
+use Rattle.mk_never.proofs.Parts.{admitted_join}
 use Rattle.mk_core.proofs.Conditions.{meets_enabled}
-use Rattle.mk_core.specs.TurnConditions.{is_in_gone_run, takes_snapshot}
+use Rattle.mk_core.specs.History.{never_first}
 use Rattle.mk_core.specs.Order.{is_in_order, is_of_any_holder, may_decide_new}
 use Rattle.mk_core.specs.Ranges.{is_word}
+use Rattle.mk_core.specs.TurnConditions.{is_in_gone_run, takes_snapshot}
 
 -- A seat that is acting is a caller's, and has the steps of any holder next.
 
@@ -77,17 +83,16 @@ module _ {c : Config} {m : Moment} {s : Seat} (at : IsActing c m s) where
       → has_gates c m.words s (flight_of m s) x ≡ true → has_phase (phase_of m.words) x ≡ true
       → marker_may c (marker_at m s) x ≡ true
       → holder_may c m (flight_of m s) x ≡ true → IsEnabled c m (record { seat = s; step = x })
-  may_by x turn order range gates phase marker own =
-      meets_enabled c m (record { seat = s; step = x }) (record {
-        seat = at.there;
-        kind = ap (λ g. is_open_to s g) turn ∙ open_to_acting m s at.acts;
-        order = order;
-        range = range;
-        gates = gates;
-        phase = phase;
-        marker = marker;
-        holder = own;
-      })
+  may_by x turn order range gates phase marker own = meets_enabled c m (record { seat = s; step = x }) (record {
+    seat = at.there;
+    kind = ap (λ g. is_open_to s g) turn ∙ open_to_acting m s at.acts;
+    order = order;
+    range = range;
+    gates = gates;
+    phase = phase;
+    marker = marker;
+    holder = own;
+  })
 
   pub may_look : (x : Word) → is_steady_word x ≡ true → is_word c x ≡ true
       → IsEnabled c m (record { seat = s; step = Step.Look x })
@@ -179,3 +184,39 @@ module _ {c : Config} {m : Moment} {s : Seat} (at : IsActing c m s) where
   may_wipe n within gone =
       may_by (Step.Wipe n) refl (order_of_acting c m s (Step.Wipe n) at.acts refl) (lt-ltb n (64 * c.pages) within) refl
       refl refl (or_right _ _ gone)
+
+-- A New is admitted wherever its call is.
+
+pub new_in_range : (c : Config) {o : Op} (d ty : ℕ) (full : Bool) → o ≡ Op.New d ty full → has_operands c o ≡ true
+    → (d < 8) × (ty < length c.types)
+new_in_range c d ty full is h = grind (arith, and_parts, ltb-true)
+
+pub register_small : (c : Config) (f : Flight) → is_undecided_new f ≡ true → has_operands c f.op ≡ true → d_of f.op < 8
+register_small c f new h = grind (arith, undecided_new, new_in_range)
+
+pub new_admitted : (c : Config) (k d ty : ℕ) (full : Bool) (xs : List Call) → k < c.callers → d < 8
+    → ty < length c.types → IsAdmitted c.globals (after_calls (never_first c) xs) k (Op.New d ty full)
+new_admitted c k d ty full xs lt small typed =
+    let stays = calls_stay (never_first c) xs in
+    record {
+      of_a_caller = let many = length-replicate {A = Value} (8 * c.callers) Null in let same =
+          stays.registers in omega arith;
+      in_range = (small, subst (λ (ts : _). ty < length ts) (sym stays.types) typed);
+      access = tt;
+      store = tt;
+    }
+
+-- So its `grant` is.
+pub grant_admitted : {c : Config} {es : List Event} (k : ℕ) → IsHistory c es → k < c.callers
+    → is_undecided_new (flight_of (left c es).now (Caller k)) ≡ true
+    → has_operands c (flight_of (left c es).now (Caller k)).op ≡ true
+    → IsAdmittedBehind c es (record { seat = Caller k; step = Step.Grant })
+grant_admitted {c} {es} k h lt new operands =
+    let f = flight_of (left c es).now (Caller k) in
+    let n = undecided_new f new in
+    let ranges = new_in_range c n.d n.ty n.full n.op operands in
+    let more : asked (calls c (es ++ record { seat = Caller k; step = Step.Grant } ∷ [])) ≡ asked
+    (calls c es) ++ record { caller = k; op = Op.New n.d n.ty false } ∷ [] = grind (arith, calls_more, map-append) in
+    subst (λ (xs : List Call). AreAdmitted c.globals (never_first c) xs) (sym more)
+    (admitted_join c.globals (never_first c) (asked (calls c es)) (record { caller = k; op = Op.New n.d n.ty false }
+    ∷ []) (h.admitted, (new_admitted c k n.d n.ty false (asked (calls c es)) lt ranges.0 ranges.1, tt)))

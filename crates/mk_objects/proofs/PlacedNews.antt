@@ -1,21 +1,62 @@
 -- What is asked of a New, and where it goes, by what its turn says.
-use Rattle.mk_laws.proofs.Vocabulary.{Config, IsHistory, List, Op, Option, Page, Place, Some, ℕ, and_parts, arith}
-use Rattle.mk_laws.proofs.Vocabulary.{has_operands, is_undecided_new, length, object_made, place_on_pages, sym, true}
-use Rattle.mk_laws.proofs.Vocabulary.{uses_of_pages, ◌<◌, ◌∙◌, ◌≡◌}
+use Rattle.mk_laws.proofs.Vocabulary.{Config, IsHistory, List, Op, Option, Page, Place, Some, Steady, Step, ℕ}
+use Rattle.mk_laws.proofs.Vocabulary.{and_parts, and_right, ap, arith, false, free_page, has_operands, header_at}
+use Rattle.mk_laws.proofs.Vocabulary.{length, not, object_made, phase_of, place_on_pages, refl, slice_index_or, sym}
+use Rattle.mk_laws.proofs.Vocabulary.{true, uses_of_pages, ◌<◌, ◌∙◌, ◌≡◌}
 use Rattle.mk_laws.proofs.InvariantTheorems.{first_fit_finds_the_place}
 use Rattle.mk_laws.proofs.LayoutHolders.{seat_operands}
-use Rattle.mk_objects.proofs.Vocabulary.{GoesTo, IsTurn, IsUnplaced, OnlyLooks, PassState, WordsState, call_of}
-use Rattle.mk_objects.proofs.Vocabulary.{known_left, now_of, object_for}
+use Rattle.mk_objects.proofs.Vocabulary.{Acts, GoesTo, HasCarved, IsTurn, IsUnplaced, MayTake, OnlyLooks, PassState}
+use Rattle.mk_objects.proofs.Vocabulary.{WordsState, bits_made, call_of, is_look, known_left, now_of, object_for}
 use Rattle.mk_objects.proofs.JoinedLooks.{goes_to, looks_object, looks_pages, looks_table, looks_unplaced}
 use Rattle.mk_objects.proofs.Looks.{acting_caller, acting_now}
 use Rattle.mk_objects.proofs.MayAct.{new_is_acting}
-use Rattle.mk_objects.proofs.Serves.{knows_place}
+use Rattle.mk_objects.proofs.Reaching.{kept_by}
+use Rattle.mk_objects.proofs.Serves.{KnowsPlace, knows_place}
+use Rattle.mk_objects.proofs.Serving.{serving_left, serving_marks}
 use Rattle.mk_objects.proofs.Takes.{unplaced_settled}
 use Rattle.mk_geom.specs.PageUses.{place_on_uses}
 use Rattle.mk_core.specs.Calls.{has_type}
 use Rattle.mk_objects.specs.Placing.{place_now_for}
 use Rattle.mk_objects.specs.Shapes.{object_shaped}
 use Rattle.mk_objects.specs.declared.objects.Shape.{Shape}
+use Rattle.mk_turns.proofs.Sweeping.{does_sweep, other_step_sweeps, step_sweeps, step_then_sweeps, sweeps_then}
+use Rattle.mk_turns.specs.Sweeping.{SweepsNothing, is_mark}
+
+-- Serving a New sweeps nothing: it marks no cells but those of its place.
+
+pub look_is_no_mark : (x : Step) → is_look x ≡ true → is_mark x ≡ false
+look_is_no_mark x h = grind arith
+
+pub looks_sweep : {p q : PassState} → OnlyLooks p q → SweepsNothing p q
+looks_sweep {p} {q} looks = does_sweep is_look p q look_is_no_mark looks.does
+
+pub looks_then_sweep : {p q r : PassState} → OnlyLooks p q → SweepsNothing q r → SweepsNothing p r
+looks_then_sweep {p} {q} {r} looks rest = sweeps_then p q r looks.same (looks_sweep looks) rest
+
+-- the mark of the place's first page
+pub first_mark_sweeps : {p : PassState} {place : Place} (k : KnowsPlace p place) {q : PassState}
+    → header_at (now_of p).words place.page ≡ 0
+    → phase_of (now_of p).words ≡ 1 → Acts p (Step.Mark place.page (bits_made (object_for p))) q → SweepsNothing p q
+first_mark_sweeps {p} {place} k {q} free one a =
+    let kept = kept_by a in
+    let serving = serving_left k.serving kept in
+    let marks = serving_marks serving (ap (λ (x : Steady). x.phase) kept.steady ∙ one)
+    (ap (λ (x : Steady). (slice_index_or x.pages place.page free_page).header) kept.steady ∙ free) in
+    step_sweeps p q (Step.Mark place.page (bits_made (object_for p))) a.makes (and_right _ _ (ap not marks))
+
+-- a header more
+pub head_sweeps : {p q r : PassState} {place : Place} {n page value : ℕ} → HasCarved p place n q → SweepsNothing p q
+    → Acts q (Step.Head page value) r → SweepsNothing p r
+head_sweeps {p} {q} {r} {page} {value} reached before a =
+    sweeps_then p q r reached.same before (other_step_sweeps q r (Step.Head page value) a.makes refl)
+
+-- the cell taken, the object granted, and the tally of held words set
+pub serving_sweeps : {p q r s t : PassState} {place : Place} {x y z : Step} → MayTake p place q → SweepsNothing p q
+    → Acts q x r → Acts r y s → Acts s z t
+    → is_mark x ≡ false → is_mark y ≡ false → is_mark z ≡ false → SweepsNothing p t
+serving_sweeps {p} {q} {r} {s} {t} {x} {y} {z} ready before a b d first second third =
+    sweeps_then p q t ready.same before (step_then_sweeps q r t x a.makes first
+    (step_then_sweeps r s t y b.makes second (other_step_sweeps s t z d.makes third)))
 
 type_of : (c : Config) (o : Op) → has_operands c o ≡ true → has_type c o ≡ true
 type_of c o h = grind (arith, and_parts)
@@ -43,13 +84,12 @@ pub goes_behind : {p q : PassState} (place : Place) → OnlyLooks p q → IsUnpl
 goes_behind place a u fit = grind (arith, goes_to, looks_unplaced, looks_table, looks_pages, looks_object)
 
 -- and the place among the allocations.
-pub place_found : {p : PassState} {found : Option Place} → IsTurn p → IsHistory p.table.config p.seen
-    → IsUnplaced p
+pub place_found : {p : PassState} {found : Option Place} → IsTurn p → IsHistory p.table.config p.seen → IsUnplaced p
     → place_on_pages p.table.config.resident (now_of p).words.pages (object_for p) ≡ found → place_now_for p ≡ found
 place_found {p} turn h u fit =
     let acts = new_is_acting (call_of p) u.new in
     sym (first_fit_finds_the_place p.table.config p.seen h (object_for p)
-    (unplaced_settled p (acting_now p turn acts) (acting_caller p acts) u h)) ∙ fit
+    (unplaced_settled (acting_now turn acts) (acting_caller p acts) u h)) ∙ fit
 
 pub fit_within : {p : PassState} (place : Place) → IsTurn p → IsHistory p.table.config p.seen
     → IsUnplaced p → place_on_pages p.table.config.resident (now_of p).words.pages (object_for p) ≡ Some place

@@ -1,18 +1,48 @@
 -- The turn's holder goes on by a step.
+use Rattle.std.proofs.lemmas.List.Sums.{sum_by_push}
 use Rattle.mk_laws.proofs.Vocabulary.{Answer, AreOfOthers, AreOfPages, Bool, Caller, Config, Decided, Event, List, None}
-use Rattle.mk_laws.proofs.Vocabulary.{Option, Seat, Step, World, ℕ, answer_decided, ap, append-nil, append_assoc}
-use Rattle.mk_laws.proofs.Vocabulary.{cases_eq, entry_of, eq-eqb, false, flight_of, histories_keep_lengths, inl, inr}
-use Rattle.mk_laws.proofs.Vocabulary.{is_end, left, ne_eqb, refl, subst, sym, true, world_behind, [], ◌++◌, ◌==◌, ◌∙◌}
-use Rattle.mk_laws.proofs.Vocabulary.{◌∷◌, ◌≡◌, ◌≢◌}
-use Rattle.mk_objects.proofs.Vocabulary.{Acts, ComesTo, Does, IsAsLeft, Known, PassState, answers_full, decides_nothing}
-use Rattle.mk_objects.proofs.Vocabulary.{does_then, event_of, own_calls, world_of}
-use Rattle.mk_objects.proofs.Counted.{counts_more, counts_then}
-use Rattle.mk_objects.proofs.OwnCalls.{own_step_adds}
+use Rattle.mk_laws.proofs.Vocabulary.{Op, Option, Seat, Step, World, ℕ, answer_decided, ap, append-nil, append_assoc}
+use Rattle.mk_laws.proofs.Vocabulary.{arith, call_decided, calls, cases_eq, ends, entry_of, eq-eqb, false, first_world}
+use Rattle.mk_laws.proofs.Vocabulary.{flight_of, histories_keep_lengths, inl, inr, is_end, left, ne_eqb, refl, subst}
+use Rattle.mk_laws.proofs.Vocabulary.{sym, true, world_behind, [], ◌++◌, ◌+◌, ◌==◌, ◌∙◌, ◌∷◌, ◌≡◌, ◌≢◌}
+use Rattle.mk_laws.proofs.CallsBy.{by_append, calls_by, others_add_none, own_entry}
+use Rattle.mk_laws.proofs.OthersCounts.{entry_fulls, fulls_append, fulls_of}
+use Rattle.mk_objects.proofs.Vocabulary.{Acts, ComesTo, Does, IsAsLeft, Known, PassState, answers_full, calls_more}
+use Rattle.mk_objects.proofs.Vocabulary.{decides_nothing, does_then, event_of, own_calls, world_of}
 use Rattle.mk_core.specs.Frames.{CountsAreLeft, HoldsAll, written_of}
 use Rattle.mk_turns.proofs.Doing.{does_nothing, does_step}
 use Rattle.mk_words.proofs.Made.{made}
 use Rattle.mk_words.specs.Steps.{may_decide}
 use Rattle.mk_words.specs.TurnSteps.{world_at}
+
+-- What is counted of ended cycles and of Full answers, one event further and in parts.
+
+pub counts_then : {c : Config} {es fs gs : List Event} → CountsAreLeft c es fs → CountsAreLeft c fs gs
+    → CountsAreLeft c es gs
+counts_then a b = record { ends = b.ends ∙ a.ends; fulls = b.fulls ∙ a.fulls }
+
+pub counts_more : (c : Config) (es : List Event) (e : Event) → is_end e.step ≡ false
+    → answers_full (answer_decided c (left c es).now e) ≡ false → CountsAreLeft c es (es ++ e ∷ [])
+counts_more c es e no_end no_full = grind (arith, sum_by_push, fulls_of, entry_fulls, calls_more, fulls_append)
+
+-- A caller's step after events of others adds the entry that it decides, if it decides one.
+
+pub own_step_adds : (c : Config) (k : ℕ) (es others : List Event) (x : Step) {o : Op} {a : Option Answer}
+    → AreOfOthers (Caller k ∷ []) others → (flight_of (left c (es ++ others)).now (Caller k)).op ≡ o
+    → answer_decided c (left c (es ++ others)).now (record { seat = Caller k; step = x }) ≡ a
+    → calls_by k (calls c (es ++ others ++ record { seat = Caller k; step = x } ∷ []))
+    ≡ calls_by k (calls c es) ++ entry_of k o a
+own_step_adds c k es others x {o} {a} of_others same decides =
+    ap (λ (l : List Decided). calls_by k l) (calls_more c (first_world c) (es ++ others) e)
+    ∙ by_append k (calls c (es ++ others)) (call_decided c (left c (es ++ others)).now e)
+    ∙ ap (λ (l : List Decided). l ++ calls_by k (call_decided c (left c (es ++ others)).now e))
+    (others_add_none c k es others of_others) ∙ ap (λ (y : Op). calls_by k (calls c es) ++ calls_by k
+    (entry_of k y (answer_decided c (left c (es ++ others)).now e))) same
+    ∙ ap (λ (y : Option Answer). calls_by k (calls c es) ++ calls_by k (entry_of k o y)) decides
+    ∙ ap (λ (l : List Decided). calls_by k (calls c es) ++ l) (own_entry k o a)
+  where
+    e : Event
+    e = record { seat = Caller k; step = x }
 
 -- the pass, where it has seen these
 abbrev pub seeing : PassState → List Event → PassState

@@ -1,11 +1,11 @@
 -- The turn's holder serves its New, step by step.
-use Rattle.mk_laws.proofs.Vocabulary.{Config, Flight, IsHistory, IsSized, List, Moment, Object, Op, Option, Page, Place}
-use Rattle.mk_laws.proofs.Vocabulary.{Seat, Some, Steady, Step, Unplaced, World, ℕ, ap, arith, false, flight_of}
-use Rattle.mk_laws.proofs.Vocabulary.{ground_of, has_bit, header_at, header_made, histories_keep_lengths, inl, inr}
-use Rattle.mk_laws.proofs.Vocabulary.{is_phase, is_undecided_new, is_used_once, layout_scene_of, left, length}
-use Rattle.mk_laws.proofs.Vocabulary.{made_is_mapped, made_shows, no_bit, object_made, object_now, pages_made}
-use Rattle.mk_laws.proofs.Vocabulary.{pages_some, part_not_free, phase_of, place_now, place_on_pages, refl, small_pages}
-use Rattle.mk_laws.proofs.Vocabulary.{subst, sym, true, used_at, ◌+◌, ◌<◌, ◌∙◌, ◌≡◌, ◌≢◌, ◌⊎◌}
+use Rattle.mk_laws.proofs.Vocabulary.{Config, Flight, IsHistory, IsSized, List, Moment, Object, Page, Place, Seat, Some}
+use Rattle.mk_laws.proofs.Vocabulary.{Steady, Step, Unplaced, World, ℕ, ap, arith, false, flight_of, ground_of, has_bit}
+use Rattle.mk_laws.proofs.Vocabulary.{header_at, header_made, histories_keep_lengths, inl, inr, is_phase}
+use Rattle.mk_laws.proofs.Vocabulary.{is_undecided_new, is_used_once, layout_scene_of, left, length, made_is_mapped}
+use Rattle.mk_laws.proofs.Vocabulary.{made_shows, no_bit, object_made, object_now, pages_made, pages_some}
+use Rattle.mk_laws.proofs.Vocabulary.{part_not_free, phase_of, place_now, place_on_pages, refl, small_pages, subst, sym}
+use Rattle.mk_laws.proofs.Vocabulary.{true, used_at, ◌+◌, ◌<◌, ◌∙◌, ◌≡◌, ◌≢◌, ◌⊎◌}
 use Rattle.mk_laws.proofs.Fits.{FitsInBlock, FitsOnFreePages, fits}
 use Rattle.mk_laws.proofs.LayoutHolders.{made_sized}
 use Rattle.mk_laws.proofs.LayoutReadings.{free_unused}
@@ -13,11 +13,11 @@ use Rattle.mk_objects.proofs.Vocabulary.{Acts, Carving, GoesTo, HasCarved, IsAsL
 use Rattle.mk_objects.proofs.Vocabulary.{IsOutOfStop, IsTurn, MayTake, PassState, Serving, bits_made, call_of}
 use Rattle.mk_objects.proofs.Vocabulary.{histories_keep_the_invariant, is_placing, known_left, now_of, object_for}
 use Rattle.mk_objects.proofs.Vocabulary.{world_of}
-use Rattle.mk_objects.proofs.Granting.{carving_marked, carving_unmarked, serving_marks}
 use Rattle.mk_objects.proofs.Looks.{acting_caller, acting_now, acts_there}
 use Rattle.mk_objects.proofs.MayAct.{IsActing, may_carve, may_mark_place, new_is_acting}
 use Rattle.mk_objects.proofs.Reaching.{IsCallers, reaches_first, reaches_nothing, reaches_still}
-use Rattle.mk_objects.proofs.Serving.{carving_carves, carving_left, carving_more, ready_carved, serving_left}
+use Rattle.mk_objects.proofs.Serving.{carving_carves, carving_left, carving_marked, carving_more, carving_unmarked}
+use Rattle.mk_objects.proofs.Serving.{ready_carved, serving_left, serving_marks}
 use Rattle.mk_objects.proofs.FoundPlaces.{found_clear}
 use Rattle.mk_objects.proofs.Unchanged.{acting_has_call}
 
@@ -55,7 +55,7 @@ knows_place {p} {place} turn h goes =
     let found = fits c.resident (now_of p).words.pages (object_for p) place sized fit in
     let order = (histories_keep_the_invariant c p.seen h).order in
     record {
-      acting = acting_now p turn acts;
+      acting = acting_now turn acts;
       caller = acting_caller p acts;
       sized = sized;
       serving = record {
@@ -124,10 +124,8 @@ module _ {p : PassState} {place : Place} (goes : GoesTo p place) (k : KnowsPlace
   marks_first one a =
       reaches_first (λ w. Carving p.table.config p.seat (object_for p) place (world_of p) w 0) a refl refl k.caller refl
       (λ v kept known pages.
-      let serving = serving_left k.serving kept
-      in
-      let call = acting_has_call known.orderly.flights (served_acting k serving)
-      in
+      let serving = serving_left k.serving kept in
+      let call = acting_has_call known.orderly.flights (served_acting k serving) in
       let some = pages_some (object_for p) k.sized in
       carving_marked serving call (served_new goes serving) (ap (λ (x : Steady). x.phase) kept.steady ∙ one)
       (λ d lt. grind (arith, frees)) some (let marks = pages.marks in let within = k.within in omega arith))

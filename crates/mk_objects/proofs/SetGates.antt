@@ -1,19 +1,53 @@
 -- Gates are held and opened, one after the other.
 use Rattle.std.proofs.Common.{OnErr, OnOk, is_ok, le-ltb}
 use Rattle.std.specs.declared.result.Result.{Result}
-use Rattle.mk_laws.proofs.Vocabulary.{Bool, Config, Op, Option, Seat, Step, World, ℕ, all_below-at, ap, arith, cases_eq}
-use Rattle.mk_laws.proofs.Vocabulary.{cases_lt, false, get_or-set_other, get_or-set_same, inl, inr, is_held}
-use Rattle.mk_laws.proofs.Vocabulary.{is_number_of, length, lt-ltb, nat_lt, not, not-true, refl, subst, sym, true}
-use Rattle.mk_laws.proofs.Vocabulary.{world_behind, ◌&&◌, ◌+◌, ◌<◌, ◌==◌, ◌∙◌, ◌≡◌, ◌≢◌}
-use Rattle.mk_objects.proofs.Vocabulary.{Acts, HasGates, IsAsLeft, IsOutOfStop, IsTurn, PassState, SetsGate, SetsGates}
-use Rattle.mk_objects.proofs.Vocabulary.{WordsState, all_others, call_of, held_from, held_to, is_acting, is_holding}
-use Rattle.mk_objects.proofs.Vocabulary.{is_settling, none_is_held, now_of, world_of}
-use Rattle.mk_objects.proofs.Serves.{out_of_stop}
+use Rattle.mk_laws.proofs.Vocabulary.{Bool, Caller, Config, List, Seat, Steady, Step, Tally, World, ℕ, all_below-at, ap}
+use Rattle.mk_laws.proofs.Vocabulary.{arith, cases_eq, cases_lt, false, flight_of, get_or-set_other, get_or-set_same}
+use Rattle.mk_laws.proofs.Vocabulary.{inl, inr, is_held, is_number_of, length, lt-ltb, nat_lt, not, not-true, refl}
+use Rattle.mk_laws.proofs.Vocabulary.{slice_index, subst, sym, true, world_behind, ◌&&◌, ◌+◌, ◌<◌, ◌==◌, ◌∙◌, ◌≡◌, ◌≢◌}
+use Rattle.mk_objects.proofs.Vocabulary.{Acts, Changes, HasGates, IsAsLeft, IsOutOfStop, IsTurn, PassState, SetsGate}
+use Rattle.mk_objects.proofs.Vocabulary.{SetsGates, SetsTally, WordsState, all_others, call_of, held_from, held_to}
+use Rattle.mk_objects.proofs.Vocabulary.{is_acting, is_holding, is_settling, none_is_held, now_of, steady_of}
+use Rattle.mk_objects.proofs.Vocabulary.{with_tally, world_of}
 use Rattle.mk_objects.proofs.Looks.{acting_caller, acting_now, still_acting}
 use Rattle.mk_objects.proofs.Reaching.{reaches_first, reaches_nothing, seeing}
 use Rattle.mk_objects.proofs.Unchanged.{HasCall, OfCaller, acting_has_call, call_behind}
-use Rattle.mk_objects.proofs.ReachedParts.{reaches_after, reaches_so}
+use Rattle.mk_objects.proofs.JoinedLooks.{reaches_after, reaches_so}
+use Rattle.mk_objects.proofs.Serves.{out_of_stop}
 use Rattle.mk_objects.specs.FreeParts.{GateIsSet, IsButGates}
+
+-- A tally is set.
+
+changed_by : {s : Seat} {w v u : World} (change : Steady → Steady) → IsAsLeft s w v
+    → flight_of u.now s ≡ flight_of v.now s → u.now.seats.holding ≡ v.now.seats.holding
+    → steady_of u ≡ change (steady_of v) → u.now.words.gates ≡ v.now.words.gates → Changes s change w u
+changed_by change kept call holding steady gates = record {
+  call = call ∙ kept.call;
+  holding = holding ∙ kept.holding;
+  steady = steady ∙ ap change kept.steady;
+  gates = λ j. ap (λ (xs : List ℕ). slice_index xs j == 2) gates ∙ kept.gates j;
+}
+
+tally_behind : {c : Config} {s : Seat} {w v : World} (t : Tally) (n : ℕ) → IsAsLeft s w v → HasCall c v.now s
+    → Changes s (with_tally t n) w (world_behind c v (record { seat = s; step = Step.Tally t n }))
+tally_behind {c} {w} {v} t n kept (OfCaller k lt) = by t (call_behind c v.now k (Step.Tally t n) lt)
+  where
+    after : Tally → World
+    after t = world_behind c v (record { seat = Caller k; step = Step.Tally t n })
+
+    by : (t : Tally) → flight_of (after t).now (Caller k) ≡ flight_of v.now (Caller k)
+        → Changes (Caller k) (with_tally t n) w (after t)
+    by Tally.Held call = changed_by (with_tally Tally.Held n) kept call refl refl refl
+    by Tally.Fresh call = changed_by (with_tally Tally.Fresh n) kept call refl refl refl
+    by Tally.Cycles call = changed_by (with_tally Tally.Cycles n) kept call refl refl refl
+    by Tally.Released call = changed_by (with_tally Tally.Released n) kept call refl refl refl
+    by Tally.Full call = changed_by (with_tally Tally.Full n) kept call refl refl refl
+
+pub sets_tally : {p q : PassState} {t : Tally} {n : ℕ} → IsTurn p → is_acting (call_of p).stage ≡ true
+    → Acts p (Step.Tally t n) q → SetsTally p t n q
+sets_tally {p} {t} {n} turn acts a =
+    reaches_first _ a refl refl (acting_caller p acts) refl (λ v kept known pages. tally_behind t n kept
+    (acting_has_call known.orderly.flights (still_acting (acting_now turn acts) kept)))
 
 -- One gate may have changed.
 record AllButOne (s : Seat) (gate : ℕ) (w v : World) : Type 0 where
@@ -44,11 +78,10 @@ open_behind {c} {v} gate kept (OfCaller k lt) room = record {
   others = λ j ne. ap (λ (n : ℕ). n == 2) (get_or-set_other v.now.words.gates gate j 0 0 ne) ∙ kept.gates j;
 }
 
-module _ {p : PassState} (q : PassState) (gate : ℕ) (turn : IsTurn p)
-    (acts : is_acting (call_of p).stage ≡ true) where
+module _ {p : PassState} (q : PassState) (gate : ℕ) (turn : IsTurn p) (acts : is_acting (call_of p).stage ≡ true) where
   has_call : {v : World} → IsAsLeft p.seat (world_of p) v → length v.now.seats.flights ≡ p.table.config.callers
       → HasCall p.table.config v.now p.seat
-  has_call kept count = acting_has_call count (still_acting (acting_now p turn acts) kept)
+  has_call kept count = acting_has_call count (still_acting (acting_now turn acts) kept)
 
   pub sets_hold : {held : Bool} → Acts p (Step.Hold gate) q → is_held (now_of q).words gate ≡ held
       → SetsGate is_holding p gate held q
@@ -91,8 +124,7 @@ pub sets_more : (kinds : Step → Bool) (p q r : PassState) (gates then : ℕ �
     → SetsGates kinds p gates q → SetsGate kinds q gate held r → ((j : ℕ) → j ≢ gate → then j ≡ gates j)
     → then gate ≡ held → SetsGates kinds p then r
 sets_more kinds p q r gates then gate held a b others here =
-    reaches_after (λ x h. h) (λ x h. h) (λ x. GateIsSet x.seat gate held (world_of x)) a b
-    (λ v a b. record {
+    reaches_after (λ x h. h) (λ x h. h) (λ x. GateIsSet x.seat gate held (world_of x)) a b (λ v a b. record {
       but_gates = but_gates_then a.but_gates b.but_gates;
       held = λ j lt. elim (cases_eq j gate) [
         | inl e ↦ ap (λ i. is_held v.now.words i) e ∙ b.set ∙ sym here ∙ ap then (sym e)

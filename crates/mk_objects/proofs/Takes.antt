@@ -15,18 +15,17 @@ use Rattle.mk_objects.proofs.Vocabulary.{Acts, ComesTo, GoesTo, IsCellReady, IsE
 use Rattle.mk_objects.proofs.Vocabulary.{IsUnplaced, Known, MayTake, PassState, call_of, entry_for, held_by_allocations}
 use Rattle.mk_objects.proofs.Vocabulary.{is_acting, is_placing, known_left, now_of, object_at_place, object_for}
 use Rattle.mk_objects.proofs.Vocabulary.{world_of}
-use Rattle.mk_objects.proofs.Granting.{granted_behind, granted_left, tallied_behind}
-use Rattle.mk_objects.proofs.MayAct.{IsActing, may_grant, may_take, may_tally, off_four}
+use Rattle.mk_objects.proofs.FoundPlaces.{held_is_little, held_one_more}
+use Rattle.mk_objects.proofs.MayAct.{IsActing, grant_admitted, may_grant, may_take, may_tally, off_four, register_small}
 use Rattle.mk_objects.proofs.Reaching.{IsCallers, reaches_on, reaches_still}
 use Rattle.mk_objects.proofs.Serves.{KnowsPlace, block_of, free_pages_of, out_of_stop, place_unused, served_acting}
-use Rattle.mk_objects.proofs.Serving.{IsTakenAt, ready_left, ready_takes, taken_behind, taken_left}
-use Rattle.mk_objects.proofs.AdmittedNews.{grant_admitted, register_small}
-use Rattle.mk_objects.proofs.HeldMore.{held_is_little, held_one_more}
+use Rattle.mk_objects.proofs.Serving.{IsTakenAt, granted_behind, granted_left, ready_left, ready_takes, taken_behind}
+use Rattle.mk_objects.proofs.Serving.{taken_left, tallied_behind}
 use Rattle.mk_objects.proofs.Looks.{acts_there}
 use Rattle.mk_objects.proofs.Unchanged.{acting_has_call}
-use Rattle.mk_objects.specs.Placing.{HeldIsExact}
 use Rattle.mk_core.proofs.WordBits.{bit_for_small, bit_is_none, bit_of_power, zero_from_bits}
 use Rattle.mk_core.specs.Bits.{bit_for}
+use Rattle.mk_objects.specs.Placing.{HeldIsExact}
 use Rattle.mk_words.specs.Steps.{IsAdmittedTo}
 use Rattle.mk_words.specs.TurnSteps.{granted_address}
 
@@ -34,8 +33,7 @@ use Rattle.mk_words.specs.TurnSteps.{granted_address}
 pub one_bit_more : (n k : ℕ) → k < 64 → has_bit n k ≡ false → bit_or n (1 * 2 ^ k % 2 ^ 64) ≡ n + 2 ^ k
 one_bit_more n k lt clear =
     ap (λ m. bit_or n m) (let e : 1 * 2 ^ k % 2 ^ 64 ≡ bit_for k = ap (λ x. x % 2 ^ 64) (omega arith) in e
-    ∙ bit_for_small k lt)
-    ∙ or_disjoint n (2 ^ k) (zero_from_bits (bit_and n (2 ^ k))
+    ∙ bit_for_small k lt) ∙ or_disjoint n (2 ^ k) (zero_from_bits (bit_and n (2 ^ k))
     (λ i. grind (arith, bit_of_power, bit_is_none, bit_at_and)))
 
 few_cells : (o : Object) → cells_made o ≤ 64
@@ -45,13 +43,13 @@ pub small_index : {p : PassState} {place : Place} → KnowsPlace p place → pla
 small_index k = grind (arith, free_pages_of, block_of, few_cells)
 
 -- The call is settled before it is served, so few words are held.
-pub unplaced_settled : (p : PassState) → IsActing p.table.config (now_of p) p.seat → IsCallers p → IsUnplaced p
+pub unplaced_settled : {p : PassState} → IsActing p.table.config (now_of p) p.seat → IsCallers p → IsUnplaced p
     → IsHistory p.table.config p.seen → IsSettled (world_of p)
-unplaced_settled p at caller unplaced h = grind (arith, unplaced_settles, ltb-true, off_four)
+unplaced_settled at caller unplaced h = grind (arith, unplaced_settles, ltb-true, off_four)
 
 pub few_held : {p : PassState} {place : Place} → KnowsPlace p place → GoesTo p place → IsHistory p.table.config p.seen
     → held_by_allocations p.table.config (world_of p).allocations ≤ 64 * p.table.config.pages
-few_held {p} k goes h = held_is_little p.table.config p.seen h (unplaced_settled p k.acting k.caller goes.unplaced h)
+few_held {p} k goes h = held_is_little h (unplaced_settled k.acting k.caller goes.unplaced h)
 
 module _ {p : PassState} {place : Place} (goes : GoesTo p place) (k : KnowsPlace p place) where
   abbrev pub c : Config

@@ -1,12 +1,285 @@
 -- The words of a run are wiped group by group.
-use Rattle.mk_laws.proofs.Vocabulary.{Flight, Holding, RunPages, ℕ, ap, eq-eqb, left, slice_index, subst, ◌*◌, ◌+◌}
-use Rattle.mk_laws.proofs.Vocabulary.{◌==◌, ◌∙◌, ◌≡◌}
-use Rattle.mk_objects.proofs.Vocabulary.{PassState, Wipes, WipesTo, all_below_from, is_clearing, now_of, world_of}
-use Rattle.mk_objects.proofs.ReachedParts.{reached_there, reached_world, reaches_after, reaches_so}
-use Rattle.mk_objects.proofs.UnmappedRuns.{changes_nothing, still_stopped}
-use Rattle.mk_objects.proofs.Reaching.{reaches_nothing}
-use Rattle.mk_objects.proofs.WipedWords.{still_unmapped}
-use Rattle.mk_objects.specs.Unmapping.{AreWiped, MayWipe, WipedTo}
+use Rattle.mk_laws.proofs.Vocabulary.{Bool, Cell, Config, Flight, Hand, Holding, Holds, List, Moment, None, Option}
+use Rattle.mk_laws.proofs.Vocabulary.{Placing, RunPages, Seat, Some, Stage, Steady, Step, Word, Words, World, Written}
+use Rattle.mk_laws.proofs.Vocabulary.{ℕ, address_of, all_below-at, and_from, ap, arith, cases_eq, eq-eqb, eqb-true}
+use Rattle.mk_laws.proofs.Vocabulary.{false, flight_of, get_or-set_other, get_or-set_same, has_no_pointers, header_at}
+use Rattle.mk_laws.proofs.Vocabulary.{header_in, header_of, if◌then◌else◌, inl, inr, is_heap_address, is_held}
+use Rattle.mk_laws.proofs.Vocabulary.{is_run_unmapped, is_undecided_new, le-leb, left, length, lt-ltb, or_else}
+use Rattle.mk_laws.proofs.Vocabulary.{others_are_held, page_at_address, phase_of, place_now, refl, run_header}
+use Rattle.mk_laws.proofs.Vocabulary.{same_Some, slice_index, stands, subst, sym, true, unmapped_header, unmaps}
+use Rattle.mk_laws.proofs.Vocabulary.{world_behind, [], ◌*◌, ◌+◌, ◌-◌, ◌/◌, ◌<◌, ◌==◌, ◌∙◌, ◌≡◌, ◌≤◌}
+use Rattle.mk_laws.proofs.Sorts.{chosen_none}
+use Rattle.mk_objects.proofs.Vocabulary.{Acts, Changes, ComesTo, IsAsLeft, IsEnabledTo, IsOutOfStop, IsTurn, PassState}
+use Rattle.mk_objects.proofs.Vocabulary.{Unmaps, Wipes, WipesTo, all_below_from, call_of, is_acting, is_clearing}
+use Rattle.mk_objects.proofs.Vocabulary.{now_of, option_and_then, world_of}
+use Rattle.mk_objects.proofs.JoinedLooks.{reached_there, reached_world, reaches_after, reaches_so}
+use Rattle.mk_objects.proofs.Looks.{acting_caller, acting_now, acts_there}
+use Rattle.mk_objects.proofs.MayAct.{IsActing, may_look_heap, may_unmap, may_wipe, off_four}
+use Rattle.mk_objects.proofs.Reaching.{reaches_nothing, reaches_still, reaches_still_in_stop}
+use Rattle.mk_objects.proofs.Unchanged.{HasCall, OfCaller, acting_has_call, call_behind}
+use Rattle.mk_objects.proofs.Serves.{out_of_stop}
+use Rattle.mk_objects.proofs.Serving.{header_here, header_set, next_is}
+use Rattle.mk_geom.proofs.Bridge.{run_in_range}
+use Rattle.mk_geom.proofs.HeaderLemmas.{header_of-word_of}
+use Rattle.mk_geom.specs.Addresses.{cell_under, word_at_address}
+use Rattle.mk_core.specs.Effects.{hand_given, hand_of_cell, is_in_stop}
+use Rattle.mk_core.specs.Cells.{pointed_cell}
+use Rattle.mk_core.specs.Frames.{HoldsAll, written_of}
+use Rattle.mk_objects.specs.Unmapping.{AreWiped, IsStillMapped, MayWipe, UnmappedTo, WipedTo}
+use Rattle.mk_turns.proofs.PointedCells.{found_there}
+use Rattle.mk_words.specs.Steps.{Finds}
+
+-- The pages of a run are unmapped one after the other.
+
+-- A call that is decided is no New on its way, so its holder's place stays.
+
+no_new : (f : Flight) → f.stage ≡ Stage.Give → is_undecided_new f ≡ false
+no_new f is = grind arith
+
+no_place : (c : Config) (m : Moment) (f : Flight) → f.stage ≡ Stage.Give → place_now c m f ≡ None
+no_place c m f is = rw (no_new f is) refl
+
+pub give_acts : (f : Flight) → f.stage ≡ Stage.Give → is_acting f.stage ≡ true
+give_acts f is = ap is_acting is
+
+pub changes_nothing : (s : Seat) (w : World) → Changes s (λ x. x) w w
+changes_nothing s w = record { call = refl; holding = refl; steady = refl; gates = λ j. refl }
+
+pub still_stopped : (p : PassState) (v : World) → ((j : ℕ) → is_held v.now.words j ≡ is_held (now_of p).words j)
+    → others_are_held p.table.config.callers (now_of p).words p.seat ≡ true
+    → others_are_held p.table.config.callers v.now.words p.seat ≡ true
+still_stopped p v gates stopped = grind (arith, all_below_from, all_below-at)
+
+unmapped_left : {s : Seat} {run : RunPages} {w u v : World} {n : ℕ} → UnmappedTo s run w u n → IsAsLeft s u v
+    → UnmappedTo s run w v n
+unmapped_left at kept = grind arith
+
+unmapped_more : {c : Config} {s : Seat} {run : RunPages} {w v : World} {n : ℕ} → UnmappedTo s run w v n
+    → HasCall c v.now s → (flight_of v.now s).stage ≡ Stage.Give → IsOutOfStop v.now → n < run.count
+    → run.page + n < length v.now.words.pages → UnmappedTo s run w (world_behind c v (record {
+      seat = s;
+      step = Step.Head (run.page + n) (unmapped_header run.count n);
+    })) (n + 1)
+unmapped_more {c} {s} {run} {v} {n} at (OfCaller k lt) give low near room =
+    let p = run.page + n in
+    let x = Step.Head p (unmapped_header run.count n) in
+    let u : World = world_behind c v (record { seat = s; step = x }) in
+    record {
+      changes = record {
+        call = call_behind c v.now k x lt ∙ at.changes.call;
+        holding = ap (λ (y : Placing). record v.now.seats.holding { placing = y })
+            (rw (off_four v.now low, no_place c v.now (flight_of v.now s) give)
+            (chosen_none v.now.seats.holding.placing)) ∙ at.changes.holding;
+        steady = ap (λ (y : Steady). record y { pages = u.now.words.pages }) at.changes.steady;
+        gates = at.changes.gates;
+      };
+      done = λ d le. elim (cases_eq d n) [
+        | inl e ↦ ap (λ i. header_at u.now.words (run.page + i)) e ∙ header_here v.now.words.pages p _ room
+            ∙ ap (λ i. unmapped_header run.count i) (sym e)
+        | inr ne ↦ header_set v.now.words.pages p (run.page + d) _ (λ e. ne (omega arith)) ∙ at.done d (omega arith)
+      ];
+      rest = λ d le lt e. at.rest d (omega arith) lt (sym
+          (header_set v.now.words.pages p (run.page + d) _ (λ i. absurd (omega arith))) ∙ e);
+    }
+
+module _ {p : PassState} (run : RunPages) (turn : IsTurn p) (give : (call_of p).stage ≡ Stage.Give)
+    (low : IsOutOfStop (now_of p)) where
+  abbrev pub HasUnmapped : PassState → ℕ → Type 0
+  HasUnmapped q n = ComesTo is_clearing p (λ v. UnmappedTo p.seat run (world_of p) v n) [] q
+
+  pub unmapped_none : ((d : ℕ) → d < run.count → IsStillMapped (now_of p).words run d) → HasUnmapped p 0
+  unmapped_none mapped = reaches_nothing is_clearing p (λ v. UnmappedTo p.seat run (world_of p) v 0) (record {
+    changes = record { call = refl; holding = refl; steady = refl; gates = λ j. refl };
+    done = λ d lt. absurd (omega arith);
+    rest = λ d le lt. mapped d lt;
+  })
+
+  acting : IsActing p.table.config (now_of p) p.seat
+  acting = acting_now turn (give_acts (call_of p) give)
+
+  there_acting : (v : World) → flight_of v.now p.seat ≡ flight_of (now_of p) p.seat
+      → IsActing p.table.config v.now p.seat
+  there_acting v same = acts_there (world_of p) v acting same
+
+  there_low : (v : World) → phase_of v.now.words ≡ phase_of (now_of p).words → IsOutOfStop v.now
+  there_low v same = out_of_stop (now_of p) v.now same low
+
+  pub unmap_may : {q : PassState} {n : ℕ} → HasUnmapped q n
+      → others_are_held p.table.config.callers (now_of p).words p.seat ≡ true
+      → (now_of p).seats.holding.freed ≡ Some run → n < run.count → run.page + run.count ≤ p.table.config.pages
+      → IsEnabledTo q (Step.Head (run.page + n) (unmapped_header run.count n))
+  unmap_may {q} {n} reached stopped freed near within =
+      let v : World = left p.table.config q.seen in
+      let at = reached.world in
+      let here : v.now.seats.holding.freed ≡ Some run = ap (λ (h : Holding). h.freed) at.changes.holding ∙ freed in
+      reached_there reached (λ (x : PassState). IsEnabledTo x (Step.Head (run.page + n) (unmapped_header run.count n)))
+      (may_unmap (there_acting v at.changes.call) (run.page + n) (unmapped_header run.count n) (omega arith)
+      (there_low v (ap (λ (x : Steady). x.phase) at.changes.steady)) (still_stopped p v at.changes.gates stopped)
+      (ap (λ (x : Option RunPages). unmaps v.now.words x (run.page + n) (unmapped_header run.count n)) here
+      ∙ next_is v.now.words run.page run.count (unmapped_header run.count) n near (at.rest n (omega arith) near)
+      at.done))
+
+  pub unmaps_on : {q r : PassState} {n : ℕ} → HasUnmapped q n → n < run.count
+      → run.page + run.count ≤ p.table.config.pages
+      → Acts q (Step.Head (run.page + n) (unmapped_header run.count n)) r → HasUnmapped r (n + 1)
+  unmaps_on {n} reached near within a =
+      reaches_still (λ v. UnmappedTo p.seat run (world_of p) v n) (λ v. UnmappedTo p.seat run (world_of p) v (n + 1))
+      reached a refl refl (acting_caller p (give_acts (call_of p) give)) refl (λ w v here kept known pages.
+      let on = unmapped_left here kept in
+      let call = acting_has_call known.orderly.flights (there_acting v on.changes.call) in
+      let room = pages.pages in
+      unmapped_more on call (ap (λ (f : Flight). f.stage) on.changes.call ∙ give)
+      (there_low v (ap (λ (x : Steady). x.phase) on.changes.steady)) near (omega arith))
+
+  pub unmapped_all : {q : PassState} → HasUnmapped q run.count → Unmaps p run q
+  unmapped_all reached = grind (arith, reaches_so, all_below_from, eq-eqb)
+
+-- The words of a run that is unmapped are wiped one after the other.
+
+-- What the address of a word of an unmapped run points into has no pointers.
+
+unmapped_at : (w : Words) (run : RunPages) (d : ℕ) → is_run_unmapped w run ≡ true → run.count ≤ 64 → d < run.count
+    → header_of (header_at w (run.page + d)) ≡ Some (run_header run.count false false d)
+unmapped_at w run d unmapped few lt =
+    ap header_of (eqb-true _ _ (all_below-at run.count d (stands w run.page (unmapped_header run.count)) unmapped lt))
+    ∙ header_of-word_of (run_header run.count false false d)
+    (run_in_range run.count false false d (omega (arith, lt)) few (omega (arith, lt, few)))
+
+cell_tested : (b : Bool) (x cell : Cell) → (if b then Some x else None) ≡ Some cell → x.page ≡ cell.page
+cell_tested x0 x cell e = grind (arith, same_Some)
+
+cell_tested_twice : (a b : Bool) (x cell : Cell) → (if a then (if b then Some x else None) else None) ≡ Some cell
+    → x.page ≡ cell.page
+cell_tested_twice x0 b x cell e = grind (arith, cell_tested)
+
+-- It is the run's head.
+cell_is_head : (head : ℕ) (count pages : ℕ) {page : ℕ} (word d : ℕ) (b : Bool) (cell : Cell) → page ≡ head + d
+    → (if b then cell_under (run_header count false false d) page word else None) ≡ Some cell → cell.page ≡ head
+cell_is_head head count pages word x4 b cell at e = grind (arith, cell_tested, cell_tested_twice)
+
+gone_cell : (w : Words) (run : RunPages) (pages address d : ℕ) (cell : Cell) → is_run_unmapped w run ≡ true
+    → run.count ≤ 64 → d < run.count → page_at_address address ≡ run.page + d
+    → pointed_cell pages w.pages address ≡ Some cell → has_no_pointers (header_in w cell.page) ≡ true
+unfolding pointed_cell
+gone_cell w run pages address d cell unmapped few near at is =
+    let header : Some (run_header run.count false false d) ≡ header_of (header_at w (page_at_address address)) =
+    sym (unmapped_at w run d unmapped few near) ∙ ap (λ (i : ℕ). header_of (header_at w i)) (sym at) in
+    let under : (if is_heap_address pages address then cell_under (run_header run.count false false d)
+    (page_at_address address) (word_at_address address) else None) ≡ Some cell = grind arith in
+    let head = cell_is_head run.page run.count pages (word_at_address address) d
+    (is_heap_address pages address) cell at under in
+    let first : cell.page ≡ run.page + 0 = omega (arith, head) in
+    cc (first, unmapped_at w run 0 unmapped few (omega (arith, near)))
+
+-- A look at such a word gives no hand.
+no_hand : (c : Config) (m : Moment) (s : Seat) (run : RunPages) (n value : ℕ) → is_run_unmapped m.words run ≡ true
+    → run.count ≤ 64 → n < 64 * run.count → hand_given c m s (Word.Heap (64 * run.page + n)) value ≡ None
+no_hand c m s run n value unmapped few near =
+    by (pointed_cell c.pages m.words.pages (address_of (64 * run.page + n)))
+    (λ cell is. gone_cell m.words run c.pages (address_of (64 * run.page + n)) (n / 64) cell unmapped few
+    (omega (arith, near)) (omega arith) is)
+  where
+    by : (x : Option Cell) → ((cell : Cell) → x ≡ Some cell → has_no_pointers (header_in m.words cell.page) ≡ true)
+        → option_and_then (λ (cell : Cell). hand_of_cell m.words (is_in_stop c.callers m.words s)
+        m.seats.holding.placing cell value) x ≡ None
+    by x0 none = grind arith
+
+wiped_left : {s : Seat} {run : RunPages} {w u v : World} {n : ℕ} → WipedTo s run w u n → IsAsLeft s u v
+    → written_of v ≡ written_of u → WipedTo s run w v n
+wiped_left at kept stop = grind arith
+
+wiped_seen : {c : Config} {s : Seat} {run : RunPages} {w v : World} {n : ℕ} (k : ℕ) → WipedTo s run w v n
+    → HasCall c v.now s → ((value : ℕ) → hand_given c v.now s (Word.Heap k) value ≡ None)
+    → WipedTo s run w (world_behind c v (record { seat = s; step = Step.Look (Word.Heap k) })) n
+wiped_seen {c} {v} k at (OfCaller j lt) none = record {
+  changes = record {
+    call = call_behind c v.now j (Step.Look (Word.Heap k)) lt ∙ at.changes.call;
+    holding = ap (λ (x : Option Hand). record v.now.seats.holding { hand = or_else x v.now.seats.holding.hand })
+        (none _) ∙ at.changes.holding;
+    steady = at.changes.steady;
+    gates = at.changes.gates;
+  };
+  zeros = at.zeros;
+}
+
+-- A word that is 0 already is wiped.
+wiped_already : {s : Seat} {run : RunPages} {w v : World} {n : ℕ} → WipedTo s run w v n
+    → slice_index v.now.words.heap (64 * run.page + n) ≡ 0 → WipedTo s run w v (n + 1)
+wiped_already at zero_there = grind arith
+
+wiped_more : {c : Config} {s : Seat} {run : RunPages} {w u v : World} {n : ℕ} → WipedTo s run w u n → IsAsLeft s u v
+    → HasCall c v.now s → written_of v ≡ written_of u → 64 * run.page + n < length v.now.words.heap
+    → WipedTo s run w (world_behind c v (record { seat = s; step = Step.Wipe (64 * run.page + n) })) (n + 1)
+wiped_more {c} {run} {u} {v} {n} at kept (OfCaller k lt) stop room =
+    let heap : v.now.words.heap ≡ u.now.words.heap = ap (λ (x : Written). x.heap) stop in
+    let p = 64 * run.page + n in
+    record {
+      changes = record {
+        call = call_behind c v.now k (Step.Wipe p) lt ∙ kept.call ∙ at.changes.call;
+        holding = kept.holding ∙ at.changes.holding;
+        steady = kept.steady ∙ at.changes.steady;
+        gates = λ j. kept.gates j ∙ at.changes.gates j;
+      };
+      zeros = λ i le. elim (cases_eq i n) [
+        | inl e ↦ cc (e, get_or-set_same v.now.words.heap p 0 0 room)
+        | inr ne ↦ get_or-set_other v.now.words.heap p (64 * run.page + i) 0 0 (λ e. ne (omega arith))
+            ∙ ap (λ (xs : List ℕ). slice_index xs (64 * run.page + i)) heap ∙ at.zeros i (omega arith)
+      ];
+    }
+
+pub still_unmapped : (p : PassState) {run : RunPages} {v : World} {n : ℕ} → WipedTo p.seat run (world_of p) v n
+    → is_run_unmapped (now_of p).words run ≡ true → is_run_unmapped v.now.words run ≡ true
+still_unmapped p at unmapped = grind arith
+
+module _ {p : PassState} {run : RunPages} (turn : IsTurn p) (may : MayWipe p run) where
+  wiping : IsActing p.table.config (now_of p) p.seat
+  wiping = acting_now turn (give_acts (call_of p) may.decided)
+
+  there_wiping : (v : World) → flight_of v.now p.seat ≡ flight_of (now_of p) p.seat
+      → IsActing p.table.config v.now p.seat
+  there_wiping v same = acts_there (world_of p) v wiping same
+
+  pub look_may : {q : PassState} {n : ℕ} (k : ℕ) → WipesTo p run n q → k < 64 * run.count
+      → IsEnabledTo q (Step.Look (Word.Heap (64 * run.page + k)))
+  look_may k reached near = grind (arith, reached_there, may_look_heap, there_wiping)
+
+  -- with the turn held, and all other gates
+  with_turn : {q : PassState} {n : ℕ} → WipesTo p run n q → Holds q.table.config (now_of q) q.seat
+      → ComesTo is_clearing p (λ v. WipedTo p.seat run (world_of p) v n × HoldsAll p.table.config v.now p.seat) [] q
+  with_turn reached holds = grind (arith, reaches_so, still_stopped)
+
+  pub looks_then : {q r : PassState} {n : ℕ} (k : ℕ) → WipesTo p run n q → k < 64 * run.count
+      → Acts q (Step.Look (Word.Heap (64 * run.page + k))) r → WipesTo p run n r
+  looks_then {n} k reached near a =
+      reaches_still_in_stop (λ v. WipedTo p.seat run (world_of p) v n × HoldsAll p.table.config v.now p.seat)
+      (λ v. WipedTo p.seat run (world_of p) v n) (with_turn reached a.holds) a refl refl
+      (acting_caller p (give_acts (call_of p) may.decided)) refl (λ w v here kept stop known pages.
+      let on = wiped_left here.0 kept (stop here.1) in
+      let call = acting_has_call known.orderly.flights (there_wiping v on.changes.call) in
+      wiped_seen (64 * run.page + k) on call
+      (λ value. no_hand p.table.config v.now p.seat run k value (still_unmapped p on may.unmapped) may.few near))
+
+  -- The word was found to be 0.
+  pub found_wiped : {q r : PassState} {n value : ℕ} → WipesTo p run n r
+      → Finds q (Step.Look (Word.Heap (64 * run.page + n))) value r → value ≡ 0 → WipesTo p run (n + 1) r
+  found_wiped {q} {r} {n} {value} reached f none =
+      reaches_so reached (λ at. wiped_already at (subst (λ (x : PassState). slice_index (now_of x).words.heap
+      (64 * run.page + n) ≡ 0) reached.same (found_there q r (Word.Heap (64 * run.page + n)) value f ∙ none)))
+
+  pub wipe_may : {q : PassState} {n : ℕ} → WipesTo p run n q → n < 64 * run.count
+      → IsEnabledTo q (Step.Wipe (64 * run.page + n))
+  wipe_may reached near = grind (arith, still_unmapped, and_from, le-leb, lt-ltb, reached_there, may_wipe, there_wiping)
+
+  pub wipes_on : {q r : PassState} {n : ℕ} → WipesTo p run n q → n < 64 * run.count
+      → Acts q (Step.Wipe (64 * run.page + n)) r → WipesTo p run (n + 1) r
+  wipes_on {n} reached near a =
+      let within = may.within in
+      reaches_still_in_stop (λ v. WipedTo p.seat run (world_of p) v n × HoldsAll p.table.config v.now p.seat)
+      (λ v. WipedTo p.seat run (world_of p) v (n + 1)) (with_turn reached a.holds) a refl refl
+      (acting_caller p (give_acts (call_of p) may.decided)) refl (λ w v here kept stop known pages.
+      let call = acting_has_call known.orderly.flights (there_wiping v (kept.call ∙ here.0.changes.call)) in
+      let room = pages.heap in
+      wiped_more here.0 kept call (stop here.1) (omega arith))
 
 pub wiped_from : (p : PassState) {run : RunPages} {n : ℕ} → AreWiped (now_of p).words run n → WipesTo p run n p
 wiped_from p {run} {n} wiped =
@@ -19,8 +292,7 @@ wiped_now a = (reached_world a).zeros
 pub wipes_then : {p q r : PassState} {run : RunPages} {n k : ℕ} → WipesTo p run n q → WipesTo q run k r
     → WipesTo p run k r
 wipes_then {run} {k} a b =
-    reaches_after (λ x h. h) (λ x h. h) (λ x v. WipedTo x.seat run (world_of x) v k) a b
-    (λ v one two. record {
+    reaches_after (λ x h. h) (λ x h. h) (λ x v. WipedTo x.seat run (world_of x) v k) a b (λ v one two. record {
       changes = record {
         call = two.changes.call ∙ one.changes.call;
         holding = two.changes.holding ∙ one.changes.holding;
@@ -34,12 +306,11 @@ pub wipes_named : {p q : PassState} {run : RunPages} {n k : ℕ} → WipesTo p r
 wipes_named {p} {q} {run} wipes same = subst (λ i. WipesTo p run i q) same wipes
 
 pub wiped_all : {p q : PassState} {run : RunPages} → WipesTo p run (64 * run.count) q → Wipes p run q
-wiped_all {run} reached =
-    reaches_so reached (λ at. record {
-      changes = at.changes;
-      wiped = all_below_from (64 * run.count) (λ i. slice_index _ (64 * run.page + i) == 0)
-          (λ i lt. eq-eqb _ 0 (at.zeros i lt));
-    })
+wiped_all {run} reached = reaches_so reached (λ at. record {
+  changes = at.changes;
+  wiped = all_below_from (64 * run.count) (λ i. slice_index _ (64 * run.page + i) == 0)
+      (λ i lt. eq-eqb _ 0 (at.zeros i lt));
+})
 
 pub still_may : {p q : PassState} {run : RunPages} {n : ℕ} → WipesTo p run n q → MayWipe p run → MayWipe q run
 still_may {p} {q} {run} a may =

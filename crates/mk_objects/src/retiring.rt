@@ -4,7 +4,7 @@ ghost use Rattle.mk_never.specs.declared.values.Value.TheVariants.{Null};
 ghost use Rattle.mk_core.specs.{NewPlaces.{is_undecided_free, target}, Bits.has_bit, Cells.{header_in, heads_run}};
 ghost use Rattle.mk_core.specs.{Cells.is_freed, Moments.others_are_held, Words.named_word};
 ghost use Rattle.mk_words.specs.States.{call_of, now_of};
-ghost use Rattle.mk_objects.specs.{Placing.{IsOutOfStop, OnlyLooks}, Dues.FreesOnce, Retiring.{HasFreed, HasLoaded}};
+ghost use Rattle.mk_objects.specs.{Deciding.MayFree, Placing.OnlyLooks, Dues.FreesOnce, Retiring.{HasFreed, HasLoaded}};
 ghost use Rattle.mk_objects.specs.Retiring.{HasSeen, IsFreeAt, IsUnloaded, loaded_free, value_of};
 ghost use Rattle.mk_core.specs.declared.events.Word.TheVariants as word;
 
@@ -91,15 +91,8 @@ pub(crate) fn quarantine(
     quar: u64,
 )
     requires one_table { turn.old.pass.table ≡ words.now }
-    requires free { IsFreeAt turn.old.pass register (loaded_free register value) }
-    requires some { (value == 0) ≡ false }
-    requires cell { target turn.old.pass.table.config.pages (now_of turn.old.pass).words (call_of turn.old.pass)
-        ≡ Some cell }
-    requires within { cell.page < turn.old.pass.table.config.pages }
-    requires index { cell.index < 32 }
-    requires clear { is_freed (now_of turn.old.pass).words cell ≡ false }
+    requires may { MayFree turn.old.pass register value cell }
     requires quar { quar ≡ named_word (now_of turn.old.pass).words (word.Quar cell.page) }
-    requires phase { IsOutOfStop (now_of turn.old.pass) }
     requires gates { (not (heads_run (header_in (now_of turn.old.pass).words cell.page))
         || others_are_held turn.old.pass.table.config.callers (now_of turn.old.pass).words turn.old.pass.seat) ≡ true }
     ensures freed { HasFreed turn.old.pass cell turn.new.pass }

@@ -9,9 +9,8 @@ use Rattle.mk_quarantine.proofs.Quarters.{begin_is_of_cycle, fresh_is_quarter, q
 use Rattle.mk_quarantine.proofs.CountedWords.{IsQuarter}
 use Rattle.mk_quarantine.proofs.EndedCycles.{fresh_is_quarter_of_held}
 use Rattle.mk_quarantine.proofs.EndedFrees.{CallersAreExact}
+use Rattle.mk_quarantine.proofs.KeptAllocations.{freed_runs_take_no_memory, kept_are_touched}
 use Rattle.mk_quarantine.proofs.KeptAllocations.{quarantine_is_fresh_or_kept}
-use Rattle.mk_quarantine.proofs.TouchedAllocations.{kept_are_touched}
-use Rattle.mk_quarantine.proofs.UnmappedRuns.{freed_runs_take_no_memory}
 use Rattle.mk_core.specs.Growing.{AreOfOthers}
 use Rattle.mk_quarantine.specs.Bounds.{FreshIsQuarterWhereReleasedInTurn, QuarantineIsBounded, QuarantinesAreBounded}
 
@@ -39,13 +38,11 @@ module _ (c : Config) (es front more : List Event) (is : es ≡ front ++ more) w
       others_first (Caller k ∷ []) behind more
       (last before e (behind ++ more) (split before e behind at) begins host k lt)
 
-quarter_in_turn : (on : Bool) (c : Config) (es : List Event) → IsHistory c es → CallersAreExact on c es
+quarter_in_turn : (on : Bool) {c : Config} {es : List Event} → IsHistory c es → CallersAreExact on c es
     → (left c es).now.words.turn ≡ 0 → FreshIsQuarterWhereReleasedInTurn c es
-quarter_in_turn on c es h exact free in_turn =
-    ⊎_elim
-    (λ (quarter : IsQuarter c (left c es) 0). omega arith)
-    (λ (l : IsLate es). absurd (true≢false (sym l.later ∙ in_turn l.begin l.last l.release)))
-    (quarter_or_late on c es h exact free)
+quarter_in_turn on {c = c} {es = es} h exact free in_turn =
+    ⊎_elim (λ (quarter : IsQuarter c (left c es) 0). omega arith) (λ (l : IsLate es). absurd
+    (true≢false (sym l.later ∙ in_turn l.begin l.last l.release))) (quarter_or_late on h exact free)
 
 -- A host that does nothing with cycles begins none.
 
@@ -56,26 +53,20 @@ none_at test xs e ys none = grind (arith, or_parts, list_any-append)
 abbrev is_hosts_cycle : Event → Bool
 is_hosts_cycle e = is_same_seat Host e.seat && is_of_cycle e.step
 
-pub idle_host_begins_last : (c : Config) (es : List Event) → list_any is_hosts_cycle es ≡ false → HostBeginsLast c es
-idle_host_begins_last c es none before e behind is begins host k lt =
-    grind (arith, none_at, is_hosts_cycle, and_from, begin_is_of_cycle)
-
 pub quarantines_are_bounded : QuarantinesAreBounded
 quarantines_are_bounded on c es h exact last = record {
   with_given_back = λ front more is free.
-      fresh_is_quarter on c front (earlier c es front more is h) (exact_before c es front more is on exact) free;
+      fresh_is_quarter on (earlier c es front more is h) (exact_before c es front more is on exact) free;
   released_in_turn = λ front more is free.
-      quarter_in_turn on c front (earlier c es front more is h) (exact_before c es front more is on exact) free;
-  of_held = λ off front more is free.
-      fresh_is_quarter_of_held c front (earlier c es front more is h)
+      quarter_in_turn on (earlier c es front more is h) (exact_before c es front more is on exact) free;
+  of_held = λ off front more is free. fresh_is_quarter_of_held (earlier c es front more is h)
       (exact_before c es front more is false (subst (λ (b : Bool). CallersAreExact b c es) off exact))
       (host_before c es front more is last) free;
   quarantined = λ front more is. quarantine_is_fresh_or_kept c front (earlier c es front more is h);
   kept = λ front more is. kept_are_touched c front (earlier c es front more is h);
-  in_memory = λ front more is free.
-      quarantine_is_quarter_and_kept on c front (earlier c es front more is h)
+  in_memory = λ front more is free. quarantine_is_quarter_and_kept on (earlier c es front more is h)
       (exact_before c es front more is on exact) free;
-  large = λ front more is free. freed_runs_take_no_memory c front (earlier c es front more is h) free;
+  large = λ front more is free. freed_runs_take_no_memory (earlier c es front more is h) free;
 }
 
 -- a heap of one caller, with such a host
@@ -84,4 +75,4 @@ pub quarantine_of_one_is_bounded : (on : Bool) (c : Config) (es : List Event) �
 quarantine_of_one_is_bounded on c es one h exact idle =
     quarantines_are_bounded on c es h
     (λ k lt. subst (λ (j : ℕ). TurnsOfAreExact on c (Caller j) es) (let first : 0 ≡ k = omega arith in first) exact)
-    (idle_host_begins_last c es idle)
+    (λ before e behind is begins host k lt. grind (arith, none_at, is_hosts_cycle, and_from, begin_is_of_cycle))

@@ -20,8 +20,7 @@ pub filtered_in_parts : (f : PlacedAllocation → ℕ) (p q r : PlacedAllocation
 filtered_in_parts f p q r each xs =
     omega (arith, in_parts xs, sum_filtered f p xs, sum_filtered f q xs, sum_filtered f r xs)
   where
-    in_parts : (xs : List PlacedAllocation)
-        → sum_by (λ (a : PlacedAllocation). if p a then f a else 0) xs
+    in_parts : (xs : List PlacedAllocation) → sum_by (λ (a : PlacedAllocation). if p a then f a else 0) xs
         ≤ sum_by (λ (a : PlacedAllocation). if q a then f a else 0) xs
         + sum_by (λ (a : PlacedAllocation). if r a then f a else 0) xs
     in_parts [] = omega arith
@@ -38,10 +37,8 @@ given_part c w a = if is_given_back c w a then storage_words c a else 0
 
 -- A `release` gives back what is held no more, and makes nothing fresh.
 
-released_part : (n : ℕ) (released more mapped : Bool)
-    → (if not (released || more) && mapped then n else 0)
-    + (if (not released && mapped) && (released || more) then n else 0)
-    ≡ (if not released && mapped then n else 0)
+released_part : (n : ℕ) (released more mapped : Bool) → (if not (released || more) && mapped then n else 0)
+    + (if (not released && mapped) && (released || more) then n else 0) ≡ (if not released && mapped then n else 0)
 released_part n released more mapped = grind arith
 
 stays_stale : (n : ℕ) (released more mapped fresh : Bool)
@@ -118,8 +115,7 @@ none_fresh_stays c w seat _ none stale = stale
 
 -- What was given back, with one event more.
 
-given_more_from : (c : Config) (w : World) (n : ℕ) (es : List Event) (e : Event)
-    → given_back_from c w n (es ++ e ∷ [])
+given_more_from : (c : Config) (w : World) (n : ℕ) (es : List Event) (e : Event) → given_back_from c w n (es ++ e ∷ [])
     ≡ given_back_behind c (left_from c w es) e.step (given_back_from c w n es)
 unfolding given_back_from left_from
 given_more_from c w n [] e = refl

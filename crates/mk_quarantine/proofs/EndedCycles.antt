@@ -26,9 +26,9 @@ use Rattle.mk_core.specs.Growing.{AreOfOthers}
 abbrev Rests : ℕ → Type 0
 Rests p = (p ≡ 0) ⊎ (p ≡ 5)
 
-rest_step : (x : Step) (p : ℕ) → AsksPhase x p → Rests p → is_begin x ≡ false
+rest_step : (x : Step) {p : ℕ} → AsksPhase x p → Rests p → is_begin x ≡ false
     → Rests (phase_behind x p) × (is_release x ≡ false)
-rest_step x p asks rests none = grind arith
+rest_step x asks rests none = grind arith
 
 end_is : (x : Step) → is_end x ≡ true → x ≡ Step.End
 end_is x1 is = grind arith
@@ -56,14 +56,13 @@ others_behind seats (x ∷ xs) e ys others = others_behind seats xs e ys others.
 
 -- A caller's turn that is given back has one cycle, and its end, where cycles don't go on.
 
-is_for : (o : Op) → is_under_turn o ≡ true → (c : Config) (s : Seat) (es : List Event) (t : TurnOf c s es)
+is_for : (o : Op) → is_under_turn o ≡ true → {c : Config} {s : Seat} {es : List Event} (t : TurnOf c s es)
     → CallIsExact false t (Some o) → RunsOneCycle t.behind
-is_for (Op.Free p) under c s es t exact = exact.one refl
-is_for x0 under c s es t exact = grind arith
+is_for x0 under t exact = grind arith
 
-runs_one : (c : Config) (k : ℕ) (es : List Event) → IsHistory c es → (ends : EndsExactly false c (Caller k) es)
+runs_one : {c : Config} {k : ℕ} {es : List Event} → IsHistory c es → (ends : EndsExactly false c (Caller k) es)
     → RunsOneCycle ends.turn.behind
-runs_one c k es h ends = by ends.turn.op refl
+runs_one {c} {k} {es} h ends = by ends.turn.op refl
   where
     by : (o : Option Op) → ends.turn.op ≡ o → RunsOneCycle ends.turn.behind
     by (Some o) is =
@@ -71,14 +70,14 @@ runs_one c k es h ends = by ends.turn.op refl
         let f = flight_of (left c ends.turn.before).now (Caller k) in
         let under = (at_take f.stage f.op o
         (subst (λ (x : Option Op). comes_next f.stage f.op (Step.Take x) ≡ true) is meets.order)).1 in
-        is_for o under c _ es ends.turn (subst (λ (x : Option Op). CallIsExact false ends.turn x) is ends.exact)
+        is_for o under ends.turn (subst (λ (x : Option Op). CallIsExact false ends.turn x) is ends.exact)
     by None is =
         let meets = (before_it c es ends.turn.before (taken ends.turn) ends.turn.behind h ends.turn.is).1 in
         let f = flight_of (left c ends.turn.before).now (Caller k) in
         absurd (at_no_take f.stage f.op
         (subst (λ (x : Option Op). comes_next f.stage f.op (Step.Take x) ≡ true) is meets.order))
 
-module _ (c : Config) (es : List Event) (h : IsHistory c es) (exact : CallersAreExact false c es) (l : IsLate es) where
+module _ {c : Config} {es : List Event} (h : IsHistory c es) (exact : CallersAreExact false c es) (l : IsLate es) where
   abbrev b : At is_begin es
   b = l.begin
 
@@ -92,18 +91,6 @@ module _ (c : Config) (es : List Event) (h : IsHistory c es) (exact : CallersAre
 
   parts : b.behind ≡ given.at.before ++ given.at.event ∷ later
   parts = grind (arith, given, append_assoc)
-
-  abbrev next : Next is_give b.behind
-  next = record {
-    at = record {
-      before = given.at.before;
-      event = given.at.event;
-      behind = later;
-      is = parts;
-      of_kind = given.at.of_kind;
-    };
-    none_before = given.none_before;
-  }
 
   whole : es ≡ through b ++ b.behind
   whole = b.is ∙ sym (append_assoc b.before (b.event ∷ []) b.behind)
@@ -126,31 +113,37 @@ module _ (c : Config) (es : List Event) (h : IsHistory c es) (exact : CallersAre
   by_caller k seat =
       let here = before_it c es b.before b.event b.behind h b.is in
       let holds : HoldsTurn c (view_of (left c b.before).now) (Caller k) =
-      subst (λ (s : Seat). HoldsTurn c (view_of (left c b.before).now) s) seat (beginner_holds c es b h) in
+      subst (λ (s : Seat). HoldsTurn c (view_of (left c b.before).now) s) seat (beginner_holds b h) in
       let turn = turn_of c (view_of (left c b.before).now) (Caller k)
       (known_left c b.before here.0.within_limits here.0.enabled).orderly holds in
       let kept = turn_stays_taken c b.before (b.event ∷ []) (λ z. omega arith)
       (or_from (is_give b.event.step) false (begin_gives_none b.event.step b.of_kind) refl) in
-      let giver = first_giver c (through b) b.behind k (subst (λ (xs : List Event). IsHistory c xs) whole h) holds.0
-      (kept ∙ turn) next in
+      let giver = first_giver c (through b) k (subst (λ (xs : List Event). IsHistory c xs) whole h) holds.0
+      (kept ∙ turn) (record {
+        at = record {
+          before = given.at.before;
+          event = given.at.event;
+          behind = later;
+          is = parts;
+          of_kind = given.at.of_kind;
+        };
+        none_before = given.none_before;
+      }) in
       let front : List Event = b.before ++ b.event ∷ given.at.before in
       let split : es ≡ front ++ given.at.event ∷ later = grind (arith, parts, append_assoc, given, later) in
       let ends = exact k holds.0 front given.at.event later split giver.0 giver.1 in
       let at_front = (before_it c es front given.at.event later h split).0 in
-      let i = begun_in_turn c k front
+      let i = begun_in_turn
       (record { before = b.before; event = b.event; behind = given.at.before; is = refl; of_kind = b.of_kind })
       at_front given.none_before ends.turn in
-      no_release
-      (runs_one c k front at_front ends
+      no_release (runs_one at_front ends
       (record { before = i.before; event = b.event; behind = given.at.before; is = i.is; of_kind = b.of_kind })).1
 
   -- After one of the host no caller frees anything.
   by_host : HostBeginsLast c es → b.event.seat ≡ Host → fresh_after c es ≡ 0
   by_host last seat =
-      ⊎_elim
-      (λ (stale : fresh_after c es ≡ 0). stale)
-      (λ (f : FreesIn c (left c (through b)) b.behind). absurd (none_frees f))
-      (since_begin c es b)
+      ⊎_elim (λ (stale : fresh_after c es ≡ 0). stale)
+      (λ (f : FreesIn c (left c (through b)) b.behind). absurd (none_frees f)) (since_begin c b)
     where
       none_frees : FreesIn c (left c (through b)) b.behind → ⊥
       none_frees f =
@@ -162,8 +155,7 @@ module _ (c : Config) (es : List Event) (h : IsHistory c es) (exact : CallersAre
           let others = subst (λ (xs : List Event). AreOfOthers (Caller caller.0 ∷ []) xs) f.is
           (last b.before b.event b.behind b.is b.of_kind seat caller.0 lt) in
           let other = others_at (Caller caller.0 ∷ []) f.before f.event f.behind others in
-          true≢false
-          (sym (eq-eqb caller.0 caller.0 refl)
+          true≢false (sym (eq-eqb caller.0 caller.0 refl)
           ∙ (or_parts (is_same_seat (Caller caller.0) (Caller caller.0)) false
           (subst (λ (s : Seat). is_one_of (Caller caller.0 ∷ []) s ≡ false) caller.1 other)).0)
 
@@ -173,13 +165,12 @@ module _ (c : Config) (es : List Event) (h : IsHistory c es) (exact : CallersAre
       by : (s : Seat) → b.event.seat ≡ s → fresh_after c es ≡ 0
       by (Caller k) is = absurd (by_caller k is)
       by (Marker k) is =
-          absurd (subst (λ (s : Seat). HoldsTurn c (view_of (left c b.before).now) s) is (beginner_holds c es b h))
+          absurd (subst (λ (s : Seat). HoldsTurn c (view_of (left c b.before).now) s) is (beginner_holds b h))
       by Host is = by_host last is
 
-pub fresh_is_quarter_of_held : (c : Config) (es : List Event) → IsHistory c es → CallersAreExact false c es
+pub fresh_is_quarter_of_held : {c : Config} {es : List Event} → IsHistory c es → CallersAreExact false c es
     → HostBeginsLast c es → (left c es).now.words.turn ≡ 0 → FreshIsQuarterOfHeld c es
-fresh_is_quarter_of_held c es h exact last free =
-    ⊎_elim
-    (λ (quarter : IsQuarter c (left c es) 0). omega arith)
-    (λ (l : IsLate es). (let stale = stale_where_late c es h exact l last in omega arith))
-    (quarter_or_late false c es h exact free)
+fresh_is_quarter_of_held {c} {es} h exact last free =
+    ⊎_elim (λ (quarter : IsQuarter c (left c es) 0). omega arith)
+    (λ (l : IsLate es). (let stale = stale_where_late h exact l last in omega arith))
+    (quarter_or_late false h exact free)

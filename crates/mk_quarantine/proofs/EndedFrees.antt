@@ -35,7 +35,7 @@ pub caller_of : (m : Moment) (s : Seat) → is_undecided_free (flight_of m s) �
 caller_of m x2 h = grind arith
 
 -- the turn of an open Free, longer
-module _ (c : Config) (before : List Event) (k : ℕ) (o : OpenFree c before (left c before) k) (e : Event)
+module _ {c : Config} {before : List Event} {k : ℕ} (o : OpenFree c before (left c before) k) (e : Event)
     (more : List Event) (none : GivesNone (Caller k) (e ∷ more)) where
   abbrev longer : TurnOf c (Caller k) (before ++ e ∷ more)
   longer = record {
@@ -48,12 +48,11 @@ module _ (c : Config) (before : List Event) (k : ℕ) (o : OpenFree c before (le
   }
 
   -- whatever turn it is after these
-  ends_free : (on : Bool) (behind rest : List Event) → behind ≡ more ++ rest → IsHistory c (before ++ e ∷ more)
+  ends_free : {on : Bool} (behind rest : List Event) → behind ≡ more ++ rest → IsHistory c (before ++ e ∷ more)
       → is_undecided_free (flight_of (left c before).now (Caller k)) ≡ true
       → EndsExactly on c (Caller k) (before ++ e ∷ more) → EndedFree on c before e behind
-  ends_free on behind rest is h undecided ends =
-      let same : IsSameTurn c k (before ++ e ∷ more) longer ends.turn =
-      one_turn c k (before ++ e ∷ more) longer ends.turn h in
+  ends_free {on} behind rest is h undecided ends =
+      let same : IsSameTurn c k (before ++ e ∷ more) longer ends.turn = one_turn longer ends.turn h in
       let free = undecided_free (flight_of (left c before).now (Caller k)) undecided in
       let op : ends.turn.op ≡ Some (Op.Free free.p) = same.op ∙ o.op ∙ ap Some free.op in
       let take : taken ends.turn ≡ taken o.turn =
@@ -89,12 +88,6 @@ module _ (on : Bool) (c : Config) (es before : List Event) (e : Event) (behind :
     undecided : is_undecided_free (flight_of (left c before).now (Caller k)) ≡ true
     undecided = cc (seat, freer_has_free c (left c before) e.seat e.step frees)
 
-    turn_before : (left c before).now.words.turn ≡ 1 + k
-    turn_before =
-        turn_of c (view_of (left c before).now) (Caller k)
-        (known_left c before here.0.within_limits here.0.enabled).orderly
-        (free_has_turn c (left c before).now (Caller k) exists undecided)
-
     not_given : own_give (Caller k) e ≡ false
     not_given = grind (arith, and-false)
 
@@ -106,26 +99,36 @@ module _ (on : Bool) (c : Config) (es before : List Event) (e : Event) (behind :
 
     turn_behind : (left c (before ++ e ∷ [])).now.words.turn ≡ 1 + k
     turn_behind =
-        search (turn_stays_held, earlier_part_is_history, whole, lt, turn_before, or_from, own_give, not_given)
+        search (
+          turn_stays_held,
+          earlier_part_is_history,
+          whole,
+          lt,
+          turn_of c (view_of (left c before).now) (Caller k)
+              (known_left c before here.0.within_limits here.0.enabled).orderly
+              (free_has_turn c (left c before).now (Caller k) exists undecided),
+          or_from,
+          own_give,
+          not_given,
+        )
 
     -- the next `give` is its own
     given : Next is_give behind
     given =
         next_of is_give behind (λ lacks.
-        let kept = turn_stays_held c (before ++ e ∷ []) behind k whole lt turn_behind
+        let kept = turn_stays_held (before ++ e ∷ []) behind k whole lt turn_behind
         (lacks_own (Caller k) behind lacks) in
         grind (arith, parts))
 
     by_caller : EndedFree on c before e behind
     by_caller =
-        let giver = first_giver c (before ++ e ∷ []) behind k whole lt turn_behind given in
+        let giver = first_giver c (before ++ e ∷ []) k whole lt turn_behind given in
         let split : es ≡ (before ++ e ∷ given.at.before) ++ given.at.event ∷ given.at.behind =
         grind (arith, given, append_assoc) in
         let f = flight_of (left c before).now (Caller k) in
         let open_free = open_frees_have_turns c before here.0 k lt (undecided_is_open f.stage f.op undecided) in
-        ends_free c before k open_free e given.at.before
-        (grind (arith, or_from, own_give, given, not_given, lacks_own))
-        on behind (given.at.event ∷ given.at.behind) given.at.is
+        ends_free open_free e given.at.before (grind (arith, or_from, own_give, given, not_given, lacks_own)) behind
+        (given.at.event ∷ given.at.behind) given.at.is
         (before_it c es (before ++ e ∷ given.at.before) given.at.event given.at.behind h split).0 undecided
         (exact k lt (before ++ e ∷ given.at.before) given.at.event given.at.behind split giver.0 giver.1)
 

@@ -54,23 +54,20 @@ frees_or_stale c w [] stale = inl stale
 frees_or_stale c w (e ∷ es) stale = elim (cases_Bool (decides_freed c w.now (flight_of w.now e.seat) e.step)) [
   | inl frees ↦ inr (record { before = []; event = e; behind = es; is = refl; frees = frees })
   | inr none ↦
-      ⊎_elim
-      (λ (z : fresh_words_of c (left_from c (world_behind c w e) es).allocations ≡ 0). inl z)
-      (λ (f : FreesIn c (world_behind c w e) es).
-      inr (record {
+      ⊎_elim (λ (z : fresh_words_of c (left_from c (world_behind c w e) es).allocations ≡ 0). inl z)
+      (λ (f : FreesIn c (world_behind c w e) es). inr (record {
         before = e ∷ f.before;
         event = f.event;
         behind = f.behind;
         is = ap (λ (l : List Event). e ∷ l) f.is;
         frees = f.frees;
-      }))
-      (frees_or_stale c (world_behind c w e) es (none_fresh_stays c w e.seat e.step none stale))
+      })) (frees_or_stale c (world_behind c w e) es (none_fresh_stays c w e.seat e.step none stale))
 ]
 
 -- so it is after a `begin`
-pub since_begin : (c : Config) (es : List Event) (b : At is_begin es)
+pub since_begin : (c : Config) {es : List Event} (b : At is_begin es)
     → (fresh_after c es ≡ 0) ⊎ FreesIn c (left c (through b)) b.behind
-since_begin c es b =
+since_begin c {es = es} b =
     let start = left_more c (first_world c) b.before b.event in
     let stale : fresh_words_of c (left c (through b)).allocations ≡ 0 = grind (arith, none_fresh_begun) in
     let whole : left_from c (left c (through b)) b.behind ≡ left c es =
@@ -91,14 +88,6 @@ pub record IsEarly (c : Config) (es : List Event) : Type 0 where
   pub begin : At is_begin es
   pub free : FreesIn c (left c (through begin)) begin.behind
   pub in_turn : Lacks is_give free.before
-
-late_longer : (es : List Event) (e : Event) → is_begin e.step ≡ false → IsLate es → IsLate (es ++ e ∷ [])
-late_longer es e none l = record {
-  begin = longer_at (e ∷ []) l.begin;
-  last = lacks_append is_begin l.begin.behind (e ∷ []) l.last (lacks_one is_begin e none);
-  release = longer_at (e ∷ []) l.release;
-  later = l.later;
-}
 
 early_longer : (c : Config) (es : List Event) (e : Event) → IsEarly c es → IsEarly c (es ++ e ∷ [])
 early_longer c es e l = record {
@@ -139,9 +128,9 @@ released_none : (c : Config) (w : World) (seat : Seat) (x : Step) → is_release
     → decides_freed c w.now (flight_of w.now seat) x ≡ false
 released_none c w seat x4 is = grind arith
 
-released : (c : Config) (es : List Event) (e : Event) → IsHistory c es → Meets c (left c es).now e.seat e.step
+released : {c : Config} {es : List Event} (e : Event) → IsHistory c es → Meets c (left c es).now e.seat e.step
     → is_release e.step ≡ true → HeldQuarters c (es ++ e ∷ [])
-released c es e h meets is =
+released {c} {es} e h meets is =
     let asked = subst (λ (x : Step). Meets c (left c es).now e.seat x) (release_is e.step is) meets in
     let closed : HasClosed es =
     (cycle_so_far c es h).closed (phase_asked c (left c es).now e.seat Step.Release asked) in
@@ -155,14 +144,10 @@ released c es e h meets is =
             later = later;
           })
       | inr none ↦
-          ⊎_elim
-          (λ (stale : fresh_after c es ≡ 0).
-          (let none_freed = released_none c (left c es) e.seat e.step is in
+          ⊎_elim (λ (stale : fresh_after c es ≡ 0). (let none_freed = released_none c (left c es) e.seat e.step is in
           let now = none_fresh_stays c (left c es) e.seat e.step none_freed stale in
-          to_longer c es e (omega arith)))
-          (λ (f : FreesIn c (left c (through b.at)) b.at.behind).
-          Early (early_longer c es e (record { begin = b.at; free = f; in_turn = in_front f none })))
-          (since_begin c es b.at)
+          to_longer c es e (omega arith))) (λ (f : FreesIn c (left c (through b.at)) b.at.behind). Early
+          (early_longer c es e (record { begin = b.at; free = f; in_turn = in_front f none }))) (since_begin c b.at)
     ]
   where
     no_begin : (x : Step) → is_release x ≡ true → is_begin x ≡ false
@@ -178,7 +163,7 @@ held_kept c es e h (Quarter quarter) = elim
       | inr none ↦ elim (cases_Bool (is_release e.step)) [
         | inl is ↦
             let here = before_it c (es ++ e ∷ []) es e [] h refl in
-            released c es e here.0 here.1 is
+            released e here.0 here.1 is
         | inr off ↦
             to_longer c es e
             (subst (λ n. IsQuarter c (world_behind c (left c es) e) n) (given_at c (left c es) e.step off)
@@ -187,11 +172,16 @@ held_kept c es e h (Quarter quarter) = elim
     ]
 held_kept c es e h (Pending p) = elim (cases_Bool (is_begin e.step)) [
   | inl begins ↦ begun c es e begins
-  | inr none ↦ Pending (pending_longer c es e none p)
+  | inr none ↦ Pending (pending_longer e none p)
 ]
 held_kept c es e h (Late l) = elim (cases_Bool (is_begin e.step)) [
   | inl begins ↦ begun c es e begins
-  | inr none ↦ Late (late_longer es e none l)
+  | inr none ↦ Late (record {
+    begin = longer_at (e ∷ []) l.begin;
+    last = lacks_append is_begin l.begin.behind (e ∷ []) l.last (lacks_one is_begin e none);
+    release = longer_at (e ∷ []) l.release;
+    later = l.later;
+  })
 ]
 held_kept c es e h (Early l) = Early (early_longer c es e l)
 
@@ -203,9 +193,9 @@ held_quarters : OfHistories HeldQuarters
 held_quarters = holds_of_histories HeldQuarters held_first held_kept
 
 -- In an ended turn no `begin` stands before the free.
-begun_before : (on : Bool) (c : Config) (before : List Event) (e : Event) (behind : List Event)
+begun_before : {on : Bool} {c : Config} {before : List Event} {e : Event} {behind : List Event}
     (f : EndedFree on c before e behind) → IsHistory c before → (b : At is_begin before) → Lacks is_give b.behind → ⊥
-begun_before on c before e behind f h b none =
+begun_before {on} {c} {before} {e} {behind} f h b none =
     let k : ℕ = f.caller in
     let so_far : TurnOf c (Caller k) before = record {
       before = f.turn.before;
@@ -217,7 +207,7 @@ begun_before on c before e behind f h b none =
           (sym (list_any-append (own_give (Caller k)) f.done (e ∷ f.more))
           ∙ ap (λ (l : List Event). list_any (own_give (Caller k)) l) (sym f.parts) ∙ f.turn.goes_on)).0;
     } in
-    let i : BeginsInTurn so_far b.event b.behind = begun_in_turn c k before b h none so_far in
+    let i : BeginsInTurn so_far b.event b.behind = begun_in_turn b h none so_far in
     let in_turn : BeginsIn f.turn = record {
       before = i.before;
       event = b.event;
@@ -226,12 +216,12 @@ begun_before on c before e behind f h b none =
       of_kind = b.of_kind;
     } in
     lacks_at is_of_cycle f.done i.before b.event b.behind
-    (cycles_later on c before e behind f (f.exact.begins.0 in_turn)) i.is (begin_is_of_cycle b.event.step b.of_kind)
+    (cycles_later f (f.exact.begins.0 in_turn)) i.is (begin_is_of_cycle b.event.step b.of_kind)
 
 -- Where the turn is free, no object was freed after a `begin` of its turn.
-none_early : (on : Bool) (c : Config) (es : List Event) → IsHistory c es → CallersAreExact on c es
+none_early : (on : Bool) {c : Config} {es : List Event} → IsHistory c es → CallersAreExact on c es
     → (left c es).now.words.turn ≡ 0 → IsEarly c es → ⊥
-none_early on c es h exact free l =
+none_early on {c = c} {es = es} h exact free l =
     let before : List Event = through l.begin ++ l.free.before in
     let split : es ≡ before ++ l.free.event ∷ l.free.behind =
     l.begin.is ∙ ap (λ (xs : List Event). l.begin.before ++ l.begin.event ∷ xs) l.free.is
@@ -242,24 +232,21 @@ none_early on c es h exact free l =
     (left_in_parts c (through l.begin) l.free.before) ∙ l.free.frees in
     let f : EndedFree on c before l.free.event l.free.behind =
     ended_free on c es before l.free.event l.free.behind h exact free split frees in
-    begun_before on c before l.free.event l.free.behind f
-    (before_it c es before l.free.event l.free.behind h split).0
-    (record {
+    begun_before f (before_it c es before l.free.event l.free.behind h split).0 (record {
       before = l.begin.before;
       event = l.begin.event;
       behind = l.free.before;
       is = append_assoc l.begin.before (l.begin.event ∷ []) l.free.before;
       of_kind = l.begin.of_kind;
-    })
-    l.in_turn
+    }) l.in_turn
 
 -- What was freed since is a quarter, unless a `release` is late.
-pub quarter_or_late : (on : Bool) (c : Config) (es : List Event) → IsHistory c es → CallersAreExact on c es
+pub quarter_or_late : (on : Bool) {c : Config} {es : List Event} → IsHistory c es → CallersAreExact on c es
     → (left c es).now.words.turn ≡ 0 → IsQuarter c (left c es) 0 ⊎ IsLate es
-quarter_or_late on c es h exact free = by (held_quarters c es h)
+quarter_or_late on {c = c} {es = es} h exact free = by (held_quarters c es h)
   where
     by : HeldQuarters c es → IsQuarter c (left c es) 0 ⊎ IsLate es
     by (Quarter quarter) = inl quarter
-    by (Pending p) = absurd (none_pending on c es h exact free p)
+    by (Pending p) = absurd (none_pending on h exact free p)
     by (Late l) = inr l
-    by (Early l) = absurd (none_early on c es h exact free l)
+    by (Early l) = absurd (none_early on h exact free l)

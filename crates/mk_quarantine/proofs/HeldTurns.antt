@@ -64,9 +64,9 @@ pub turn_stays_taken : (c : Config) (es more : List Event) → (left c es).now.w
 turn_stays_taken c es more held none = grind (arith, left_in_parts, kept_from)
 
 -- A caller is the one that gives its turn back.
-giver_is : (c : Config) (w : World) (seat : Seat) (k : ℕ) → Known c w.now → k < c.callers → w.now.words.turn ≡ 1 + k
+giver_is : {c : Config} (w : World) (seat : Seat) (k : ℕ) → Known c w.now → k < c.callers → w.now.words.turn ≡ 1 + k
     → Meets c w.now seat Step.Give → seat ≡ Caller k
-giver_is c w seat k known lt turn meets = by seat (giver_has_turn c w.now seat known meets)
+giver_is {c} w seat k known lt turn meets = by seat (giver_has_turn c w.now seat known meets)
   where
     by : (seat : Seat) → HoldsTurn c (view_of w.now) seat → seat ≡ Caller k
     by x1 holds = grind (arith, turn_of, view_of)
@@ -77,27 +77,27 @@ give_is x1 h = grind arith
 same_caller : (k : ℕ) → is_same_seat (Caller k) (Caller k) ≡ true
 same_caller k = eq-eqb k k refl
 
-held_by_one : (c : Config) (w : World) (e : Event) (k : ℕ) → Known c w.now → k < c.callers → w.now.words.turn ≡ 1 + k
+held_by_one : {c : Config} (w : World) (e : Event) (k : ℕ) → Known c w.now → k < c.callers → w.now.words.turn ≡ 1 + k
     → Meets c w.now e.seat e.step → own_give (Caller k) e ≡ false → (world_behind c w e).now.words.turn ≡ 1 + k
-held_by_one c w e k known lt turn meets none =
+held_by_one {c} w e k known lt turn meets none =
     ⊎_elim (λ (gives : is_give e.step ≡ true). absurd (true≢false (sym (and_from (is_same_seat (Caller k) e.seat)
-    (is_give e.step) (subst (λ (s : Seat). is_same_seat (Caller k) s ≡ true) (sym (giver_is c w e.seat k known lt turn
+    (is_give e.step) (subst (λ (s : Seat). is_same_seat (Caller k) s ≡ true) (sym (giver_is w e.seat k known lt turn
     (subst (λ (x : Step). Meets c w.now e.seat x) (give_is e.step gives) meets))) (same_caller k)) gives) ∙ none))) (λ
     (off : is_give e.step ≡ false). turn_kept c w e.seat e.step (λ z. omega arith) off ∙ turn) (cases_Bool _)
 
-held_from : (c : Config) (w : World) (k : ℕ) (es : List Event) → Known c w.now → AreEnabledFrom c w es → k < c.callers
+held_from : {c : Config} (w : World) (k : ℕ) (es : List Event) → Known c w.now → AreEnabledFrom c w es → k < c.callers
     → w.now.words.turn ≡ 1 + k → GivesNone (Caller k) es → (left_from c w es).now.words.turn ≡ 1 + k
 unfolding AreEnabledFrom left_from
-held_from c w k [] known on lt turn none = turn
-held_from c w k (e ∷ es) known on lt turn none =
+held_from w k [] known on lt turn none = turn
+held_from {c} w k (e ∷ es) known on lt turn none =
     let parts = or_parts (own_give (Caller k) e) (list_any (own_give (Caller k)) es) none in
-    held_from c (world_behind c w e) k es (known_behind c w.now e known on.0) on.1 lt
-    (held_by_one c w e k known lt turn (enabled_meets c w.now e on.0) parts.0) parts.1
+    held_from (world_behind c w e) k es (known_behind c w.now e known on.0) on.1 lt
+    (held_by_one w e k known lt turn (enabled_meets c w.now e on.0) parts.0) parts.1
 
 -- In a history the caller's turn word stays where it gives no turn back.
-pub turn_stays_held : (c : Config) (es more : List Event) (k : ℕ) → IsHistory c (es ++ more) → k < c.callers
+pub turn_stays_held : {c : Config} (es more : List Event) (k : ℕ) → IsHistory c (es ++ more) → k < c.callers
     → (left c es).now.words.turn ≡ 1 + k → GivesNone (Caller k) more → (left c (es ++ more)).now.words.turn ≡ 1 + k
-turn_stays_held c es more k h lt turn none =
+turn_stays_held es more k h lt turn none =
     grind (arith, earlier_part_is_history, left_in_parts, held_from, known_left, enabled_in_parts)
 
 -- Where nobody gives a turn back, this caller doesn't.
@@ -108,23 +108,23 @@ lacks_own s (e ∷ es) none =
     or_from (own_give s e) (list_any (own_give s) es) (grind (arith, and-false)) (lacks_own s es parts.1)
 
 -- The first `give` is the holder's.
-pub first_giver : (c : Config) (es more : List Event) (k : ℕ) → IsHistory c (es ++ more) → k < c.callers
+pub first_giver : (c : Config) (es : List Event) {more : List Event} (k : ℕ) → IsHistory c (es ++ more) → k < c.callers
     → (left c es).now.words.turn ≡ 1 + k → (g : Next is_give more)
     → (g.at.event.step ≡ Step.Give) × (g.at.event.seat ≡ Caller k)
-first_giver c es more k h lt turn g =
+first_giver c es {more = more} k h lt turn g =
     let split : es ++ more ≡ (es ++ g.at.before) ++ g.at.event ∷ g.at.behind = grind (arith, append_assoc) in
     let here = before_it c (es ++ more) (es ++ g.at.before) g.at.event g.at.behind h split in
     let gives = give_is g.at.event.step g.at.of_kind in
-    let held = turn_stays_held c es g.at.before k here.0 lt turn (lacks_own (Caller k) g.at.before g.none_before) in (
+    let held = turn_stays_held es g.at.before k here.0 lt turn (lacks_own (Caller k) g.at.before g.none_before) in (
       gives,
-      giver_is c (left c (es ++ g.at.before)) g.at.event.seat k
+      giver_is (left c (es ++ g.at.before)) g.at.event.seat k
           (known_left c (es ++ g.at.before) here.0.within_limits here.0.enabled) lt held
           (subst (λ (x : Step). Meets c (left c (es ++ g.at.before)).now g.at.event.seat x) gives here.1),
     )
 
 -- After a list a caller is in one turn: where it took it, for what, and what came then.
 
-module _ (c : Config) (k : ℕ) (es : List Event) (h : IsHistory c es) (t : TurnOf c (Caller k) es) where
+module _ {c : Config} {k : ℕ} {es : List Event} (h : IsHistory c es) (t : TurnOf c (Caller k) es) where
   pub taker_exists : k < c.callers
   taker_exists = ltb-true k c.callers (before_it c es t.before (taken t) t.behind h t.is).1.seat
 
@@ -154,14 +154,13 @@ apart c k es t u h part is =
     cc (u.is, t.is, is, append_assoc u.before (taken u ∷ part) (taken t ∷ t.behind)) in
     let same : taken u ∷ u.behind ≡ taken u ∷ (part ++ taken t ∷ t.behind) = grind (arith, append_cancel_left, taken) in
     let parts : u.behind ≡ part ++ taken t ∷ t.behind = cc in
-    let held = turn_held_in c k es h u part (taken t ∷ t.behind) parts in
+    let held = turn_held_in h u part (taken t ∷ t.behind) parts in
     grind (arith, taken)
 
-pub one_turn : (c : Config) (k : ℕ) (es : List Event) (t u : TurnOf c (Caller k) es) → IsHistory c es
+pub one_turn : {c : Config} {k : ℕ} {es : List Event} (t u : TurnOf c (Caller k) es) → IsHistory c es
     → IsSameTurn c k es t u
-one_turn c k es t u h =
-    ⊎_elim
-    (λ (f : InFirst t.before u.before (taken u)). absurd (apart c k es t u h f.behind f.is))
+one_turn {c} {k} {es} t u h =
+    ⊎_elim (λ (f : InFirst t.before u.before (taken u)). absurd (apart c k es t u h f.behind f.is))
     (λ (s : InSecond t.before (taken t ∷ t.behind) u.before (taken u) u.behind). by s.rest s.first s.is)
     (stands t.before (taken t ∷ t.behind) u.before (taken u) u.behind (sym t.is ∙ u.is))
   where
@@ -174,20 +173,20 @@ one_turn c k es t u h =
 
 -- Who begins a cycle holds the turn, so a turn that was taken before goes on over the `begin`.
 
-pub beginner_holds : (c : Config) (es : List Event) (b : At is_begin es) → IsHistory c es
+pub beginner_holds : {c : Config} {es : List Event} (b : At is_begin es) → IsHistory c es
     → HoldsTurn c (view_of (left c b.before).now) b.event.seat
-beginner_holds c es b h =
+beginner_holds {c} {es} b h =
     let here = before_it c es b.before b.event b.behind h b.is in
     let known = known_left c b.before here.0.within_limits here.0.enabled in
     acts_as_holder c (left c b.before).now _ _ (actor_of c (left c b.before).now _ _ known.orderly here.1)
     (ap is_holders (begin_is _ b.of_kind))
 
-pub begun_under_turn : (c : Config) (es : List Event) (b : At is_begin es) → IsHistory c es
+pub begun_under_turn : {c : Config} {es : List Event} (b : At is_begin es) → IsHistory c es
     → (left c b.before).now.words.turn ≢ 0
-begun_under_turn c es b h none =
+begun_under_turn {c} {es} b h none =
     let here = before_it c es b.before b.event b.behind h b.is in
     let known = known_left c b.before here.0.within_limits here.0.enabled in
-    let held = turn_of c (view_of (left c b.before).now) b.event.seat known.orderly (beginner_holds c es b h) in
+    let held = turn_of c (view_of (left c b.before).now) b.event.seat known.orderly (beginner_holds b h) in
     omega arith
 
 pub begin_gives_none : (x : Step) → is_begin x ≡ true → is_give x ≡ false
@@ -199,28 +198,23 @@ pub record BeginsInTurn {c : Config} {k : ℕ} {es : List Event} (t : TurnOf c (
   pub before : List Event
   pub is : t.behind ≡ before ++ b ∷ behind
 
-pub begun_in_turn : (c : Config) (k : ℕ) (es : List Event) (b : At is_begin es) → IsHistory c es
+pub begun_in_turn : {c : Config} {k : ℕ} {es : List Event} (b : At is_begin es) → IsHistory c es
     → Lacks is_give b.behind → (t : TurnOf c (Caller k) es) → BeginsInTurn t b.event b.behind
-begun_in_turn c k es b h none t =
-    ⊎_elim
-    (λ (f : InFirst t.before b.before b.event). absurd (earlier f.behind f.is))
+begun_in_turn b h none t =
+    ⊎_elim (λ (f : InFirst t.before b.before b.event). absurd (grind (
+      arith,
+      taken,
+      append_assoc,
+      append_cancel_left,
+      lacks_first,
+      begun_under_turn,
+      turn_stays_taken,
+      or_from,
+      begin_gives_none,
+    )))
     (λ (s : InSecond t.before (taken t ∷ t.behind) b.before b.event b.behind). by s.rest s.is)
     (stands t.before (taken t ∷ t.behind) b.before b.event b.behind (sym t.is ∙ b.is))
   where
-    earlier : (part : List Event) → t.before ≡ b.before ++ b.event ∷ part → ⊥
-    earlier part is =
-        grind (
-          arith,
-          taken,
-          append_assoc,
-          append_cancel_left,
-          lacks_first,
-          begun_under_turn,
-          turn_stays_taken,
-          or_from,
-          begin_gives_none,
-        )
-
     by : (rest : List Event) → taken t ∷ t.behind ≡ rest ++ b.event ∷ b.behind → BeginsInTurn t b.event b.behind
     by [] is = grind (arith, taken)
     by (y ∷ ys) is = grind arith

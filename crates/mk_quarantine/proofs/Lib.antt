@@ -1,5 +1,4 @@
 pub mod Vocabulary
-pub mod BoundSchedules
 pub mod Bounds
 pub mod CountedWords
 pub mod EndedCycles
@@ -11,5 +10,3 @@ pub mod KeptAllocations
 pub mod LittleHeld
 pub mod OpenFrees
 pub mod Quarters
-pub mod TouchedAllocations
-pub mod UnmappedRuns

@@ -1,7 +1,7 @@
 -- A Free that isn't decided yet: its turn, in which nothing was freed so far.
 use Rattle.std.specs.Prelude.{⊤}
 use Rattle.mk_laws.proofs.Vocabulary.{Stage, at_rest, begun, eqb-true, found, freed_cell, get_or-set_other}
-use Rattle.mk_laws.proofs.Vocabulary.{get_or-set_same, is_free_at, progress_freed, progress_p, progress_reg, set_past}
+use Rattle.mk_laws.proofs.Vocabulary.{get_or-set_same, is_free_at, progress_freed, progress_reg, set_past}
 use Rattle.mk_laws.proofs.Vocabulary.{slice_index_or, slice_set, still, ◌==◌}
 use Rattle.mk_laws.proofs.Basics.{InCall, View, at_first, flight_in, same_holder, standing, standing_at}
 use Rattle.mk_laws.proofs.Longer.{gives_turn, left_in_turn, longer_turn}
@@ -107,11 +107,7 @@ load_is_open : (o : Op) → standing_at Stage.LoadP o ≡ UnderTurn → is_open_
 load_is_open x1 h = grind arith
 
 load_by_reg : (o : Op) (x : Step) → comes_next Stage.LoadP o x ≡ true → x ≡ Step.Reg
-load_by_reg o Step.Reg h = refl
-load_by_reg o _ h = cc
-
-op_of_load : (f : Flight) (o : Op) (n : ℕ) → (progress_p f o n).flight.op ≡ f.op
-op_of_load f x2 n = grind arith
+load_by_reg o x1 h = grind arith
 
 module _ (c : Config) (w : World) (k : ℕ) (known : Known c w.now) (lt : k < c.callers) where
   abbrev f : Flight
@@ -120,26 +116,20 @@ module _ (c : Config) (w : World) (k : ℕ) (known : Known c w.now) (lt : k < c.
   within : k < length w.now.seats.flights
   within = omega (arith, known.orderly.flights)
 
-  took_it : (o : Op) → w.now.words.turn ≡ 0
-      → (flight_of (WorldBehind c w (Caller k) (Step.Take (Some o))).now (Caller k)).op ≡ o
-  took_it o free =
-      ap (λ (g : Flight). g.op) (get_or-set_same w.now.seats.flights k _ at_rest within)
-      ∙ ap (λ (b : Bool). (if b then record { flight = begun o; answer = None } else still f).flight.op)
-      (eq-eqb w.now.words.turn 0 free)
-
   taken_free : (o : Option Op) → w.now.words.turn ≡ 0 → Meets c w.now (Caller k) (Step.Take o)
       → FreeCame c w (Caller k) (Step.Take o) k
-  taken_free (Some o) free meets = IsTaken o refl refl free (took_it o free)
+  taken_free (Some o) free meets = IsTaken o refl refl free (
+      ap (λ (g : Flight). g.op) (get_or-set_same w.now.seats.flights k _ at_rest within)
+      ∙ ap (λ (b : Bool). (if b then record { flight = begun o; answer = None } else still f).flight.op)
+      (eq-eqb w.now.words.turn 0 free))
   taken_free None free meets = absurd (at_no_take f.stage f.op meets.order)
 
   loaded : f.stage ≡ Stage.LoadP → standing f ≡ UnderTurn → FreeCame c w (Caller k) Step.Reg k
   loaded at stands =
-      WasOpen
-      (grind (arith, is_open_at, load_is_open, standing_at))
+      WasOpen (grind (arith, is_open_at, load_is_open, standing_at))
       (ap (λ (g : Flight). g.op) (get_or-set_same w.now.seats.flights k _ at_rest within)
       ∙ ap (λ (s : Stage). (progress_reg f s (found c w.now (record { seat = Caller k; step = Step.Reg }))).flight.op)
-      at
-      ∙ op_of_load f f.op (found c w.now (record { seat = Caller k; step = Step.Reg })))
+      at ∙ (grind arith))
 
   own_came : (x : Step) → Meets c w.now (Caller k) x → HasOpen (WorldBehind c w (Caller k) x) k
       → FreeCame c w (Caller k) x k
@@ -155,11 +145,11 @@ module _ (c : Config) (w : World) (k : ℕ) (known : Known c w.now) (lt : k < c.
           (taken_free take.op free (subst (λ (y : Step). Meets c w.now (Caller k) y) take.is meets))
       by (Loaded at stands) = grind (arith, load_by_reg, loaded)
 
-free_came : (c : Config) (w : World) (seat : Seat) (x : Step) (k : ℕ) → Known c w.now → Meets c w.now seat x
+free_came : {c : Config} (w : World) (seat : Seat) (x : Step) (k : ℕ) → Known c w.now → Meets c w.now seat x
     → k < c.callers → HasOpen (WorldBehind c w seat x) k → FreeCame c w seat x k
-free_came c w (Marker j) x k known meets lt waits = WasOpen waits refl
-free_came c w Host x k known meets lt waits = WasOpen waits refl
-free_came c w (Caller j) x k known meets lt waits = elim (cases_eq k j) [
+free_came w (Marker j) x k known meets lt waits = WasOpen waits refl
+free_came w Host x k known meets lt waits = WasOpen waits refl
+free_came {c} w (Caller j) x k known meets lt waits = elim (cases_eq k j) [
   | inr ne ↦
       let same = get_or-set_other w.now.seats.flights j k _ at_rest ne in
       WasOpen (ap (λ (g : Flight). is_open_free g) (sym same) ∙ waits) (ap (λ (g : Flight). g.op) same)
@@ -186,19 +176,19 @@ decided_gives c w k (Step.Quar p v) within h waits =
 decided_gives c w k _ within h waits = cc
 
 -- Where the Free is open after it, the event has freed nothing,
-frees_off : (c : Config) (w : World) (seat : Seat) (x : Step) (k : ℕ) → Known c w.now → Meets c w.now seat x
+frees_off : {c : Config} (w : World) (seat : Seat) (x : Step) (k : ℕ) → Known c w.now → Meets c w.now seat x
     → k < c.callers → HasOpen w k → HasOpen (WorldBehind c w seat x) k
     → decides_freed c w.now (flight_of w.now seat) x ≡ false
-frees_off c w seat x k known meets lt was waits =
+frees_off {c} w seat x k known meets lt was waits =
     false_from_ne_true (decides_freed c w.now (flight_of w.now seat) x) (λ frees.
     let holds = free_has_turn c w.now seat meets.seat (freer_has_free c w seat x frees) in
     let same : seat ≡ Caller k = grind (arith, same_holder, view_of, open_stands) in
     grind (arith, decided_gives))
 
 -- and given no turn of its caller back.
-gives_off : (c : Config) (w : World) (seat : Seat) (x : Step) (k : ℕ) → Known c w.now → k < c.callers
+gives_off : {c : Config} (w : World) (seat : Seat) (x : Step) (k : ℕ) → Known c w.now → k < c.callers
     → HasOpen (WorldBehind c w seat x) k → gives_turn (Caller k) (record { seat = seat; step = x }) ≡ false
-gives_off c w (Caller j) x k known lt waits =
+gives_off {c} w (Caller j) x k known lt waits =
     false_from_ne_true ((k == j) && is_give x)
     (λ is. let both = and_parts (k == j) (is_give x) is in by j x (eqb-true k j both.0) both.1 waits)
   where
@@ -208,7 +198,7 @@ gives_off c w (Caller j) x k known lt waits =
         let mine : HasOpen (WorldBehind c w (Caller k) Step.Give) k = grind arith in
         true≢false (sym mine ∙ ap (λ (g : Flight). is_open_free g) rests)
     by j _ own is waits = cc
-gives_off c w _ x k known lt waits = refl
+gives_off w _ x k known lt waits = refl
 
 -- No event of the list frees an object.
 unfoldable pub FreesNoneFrom : Config → World → List Event → Type 0
@@ -239,28 +229,21 @@ pub record OpenFree (c : Config) (es : List Event) (w : World) (k : ℕ) : Type 
 abbrev pub OpenFreesHaveTurns : Config → List Event → Type 0
 OpenFreesHaveTurns c es = (k : ℕ) → k < c.callers → HasOpen (left c es) k → OpenFree c es (left c es) k
 
-one_behind : (c : Config) (es : List Event) (seat : Seat) (x : Step) (k : ℕ) → FreeCame c (left c es) seat x k
+one_behind : {c : Config} {es : List Event} {seat : Seat} {x : Step} {k : ℕ} → FreeCame c (left c es) seat x k
     → OpenFreesHaveTurns c es → IsHistory c es → Meets c (left c es).now seat x → k < c.callers
     → HasOpen (WorldBehind c (left c es) seat x) k
     → OpenFree c (es ++ record { seat = seat; step = x } ∷ []) (WorldBehind c (left c es) seat x) k
 unfolding FreesNoneFrom
-one_behind c es seat x k (IsTaken o own take free same) all h meets lt waits = record {
-  turn = record {
-    before = es;
-    op = Some o;
-    behind = [];
-    is = cc (own, take);
-    took = free;
-    goes_on = refl;
-  };
+one_behind {es} (IsTaken o own take free same) all h meets lt waits = record {
+  turn = record { before = es; op = Some o; behind = []; is = cc (own, take); took = free; goes_on = refl };
   op = ap Some (sym same);
   none = tt;
 }
-one_behind c es seat x k (WasOpen was same) all h meets lt waits =
+one_behind {c} {es} {seat} {x} {k} (WasOpen was same) all h meets lt waits =
     let e : Event = record { seat = seat; step = x } in
     let known = known_left c es h.within_limits h.enabled in
     let t : OpenFree c es (left c es) k = all k lt was in
-    let on = gives_off c (left c es) seat x k known lt waits in
+    let on = gives_off (left c es) seat x k known lt waits in
     let here = left_in_turn c (Caller k) es t.turn in
     record {
       turn = longer_turn t.turn e on;
@@ -268,7 +251,7 @@ one_behind c es seat x k (WasOpen was same) all h meets lt waits =
       none =
           frees_none_more c (left c (t.turn.before ++ taken t.turn ∷ [])) t.turn.behind e t.none
           (ap (λ (w : World). decides_freed c w.now (flight_of w.now seat) x) here
-          ∙ frees_off c (left c es) seat x k known meets lt was waits);
+          ∙ frees_off (left c es) seat x k known meets lt was waits);
     }
 
 one_more : KeptByEvents OpenFreesHaveTurns
@@ -277,9 +260,8 @@ one_more c es e h all k lt waits =
     let more : left c (es ++ e ∷ []) ≡ world_behind c (left c es) e = left_more c (first_world c) es e in
     let behind : HasOpen (world_behind c (left c es) e) k = subst (λ (w : World). HasOpen w k) more waits in
     let known = known_left c es here.0.within_limits here.0.enabled in
-    let came = free_came c (left c es) e.seat e.step k known here.1 lt behind in
-    subst (λ (w : World). OpenFree c (es ++ e ∷ []) w k) (sym more)
-    (one_behind c es e.seat e.step k came all here.0 here.1 lt behind)
+    let came = free_came (left c es) e.seat e.step k known here.1 lt behind in
+    subst (λ (w : World). OpenFree c (es ++ e ∷ []) w k) (sym more) (one_behind came all here.0 here.1 lt behind)
 
 at_the_first : (c : Config) → OpenFreesHaveTurns c []
 unfolding left_from

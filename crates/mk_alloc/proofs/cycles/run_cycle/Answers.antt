@@ -1,7 +1,6 @@
 use Rattle.mk_alloc.proofs.Vocabulary.{EachIsBegun, Has, PassState, begun_then, finish_begins_none, own_before, subst}
 use Rattle.mk_alloc.proofs.Vocabulary.{sweeps_then, ◌≡◌}
-use Rattle.mk_alloc.proofs.BegunTurns.{older_begun}
-use Rattle.mk_alloc.proofs.UnsweptTurns.{older_same}
+use Rattle.mk_alloc.proofs.UnsweptTurns.{older_begun, older_same}
 use Rattle.mk_alloc.proofs.cycles.run_cycle.Goals.{After-begin_cycle}
 use Rattle.mk_cycle.proofs.Begun.{has_on}
 use Rattle.mk_alloc.proofs.cycles.run_cycle.Goals as goal
@@ -26,8 +25,7 @@ older g c =
 pub returns-then-keeps_on-clause-reached : goal.returns-then-keeps_on-clause-reached
 returns-then-keeps_on-clause-reached g c =
     let x = goal.at.returns-then-keeps_on-clause-reached g c in
-    λ none.
-    sweeps_then c.args.turn.pass c.finish_older-turn.result.pass c.begin_cycle.new.turn.pass
+    λ none. sweeps_then c.args.turn.pass c.finish_older-turn.result.pass c.begin_cycle.new.turn.pass
     (idle g x.After-begin_cycle) (c.finish_older-turn.ensures.reached none) (c.begin_cycle.ensures.reached none)
 
 pub returns-else-keeps_on-clause-reached : goal.returns-else-keeps_on-clause-reached

@@ -1,12 +1,11 @@
 use Rattle.mk_alloc.proofs.Vocabulary.{CallerState, EachIsBegun, FreesObject, IsAnsweredDouble, Op, PassState}
 use Rattle.mk_alloc.proofs.Vocabulary.{SweepsNothing, ap, in_turn, refl, subst, sym, ◌∙◌}
-use Rattle.mk_alloc.proofs.BegunTurns.{freeing_then_begun, loading_begun, turn_begun}
-use Rattle.mk_alloc.proofs.CalledTurns.{Taken, taken_is, taken_turn}
+use Rattle.mk_alloc.proofs.CalledTurns.{Taken, taken_is, taken_turn, took_by}
 use Rattle.mk_alloc.proofs.FreedTurns.{Frees, Refuses, double_answered, freed, freed_object, given, given_double}
 use Rattle.mk_alloc.proofs.FreedTurns.{unloaded}
-use Rattle.mk_alloc.proofs.UnsweptTurns.{freeing_then_sweeps, loading_sweeps, turn_sweeps}
+use Rattle.mk_alloc.proofs.UnsweptTurns.{freeing_then_begun, freeing_then_sweeps, loading_begun, loading_sweeps}
+use Rattle.mk_alloc.proofs.UnsweptTurns.{turn_begun, turn_sweeps}
 use Rattle.mk_alloc.proofs.freeing.free_object.Goals.{After-is_in_order-in-Ok, After-take-turn}
-use Rattle.mk_alloc.proofs.TakenTurns.{took_by}
 use Rattle.mk_objects.specs.Retired.{FindsFreed}
 use Rattle.mk_alloc.proofs.freeing.free_object.Goals as goal
 
@@ -17,7 +16,7 @@ took g c = took_by c.lend-home.ensures.pass c.is_idle.ensures.idle c.is_idle.ens
 pub retire_object-requires-clause-unloaded : goal.retire_object-requires-clause-unloaded
 retire_object-requires-clause-unloaded g c κs within =
     let x = took g (goal.at.retire_object-requires-clause-unloaded g c).After-take-turn in
-    unloaded c.args.caller.now.pass c.take-turn.result.pass c.args.p x.seat x.own x.takes
+    unloaded x.seat x.own x.takes
     c.take-turn.ensures.begins.fresh (taken_turn x).history c.requires.register c.requires.base
 
 -- The object was freed: the turn goes on to the end of a cycle that is due.
@@ -74,9 +73,7 @@ returns-in-Ok-clause-freed g c =
 pub returns-in-Ok-clause-reached : goal.returns-in-Ok-clause-reached
 returns-in-Ok-clause-reached g c =
     let x = goal.at.returns-in-Ok-clause-reached g c in
-    λ none.
-    subst (λ (x : CallerState). SweepsNothing c.args.caller.now.pass x.pass) (sym c.back.ensures)
-    (turn_sweeps
+    λ none. subst (λ (x : CallerState). SweepsNothing c.args.caller.now.pass x.pass) (sym c.back.ensures) (turn_sweeps
     (given (frees g x.After-is_in_order-in-Ok (took g x.After-take-turn)) c.give.ensures.gives c.give.ensures.rests)
     (freeing_then_sweeps c.in-Ok.ensures.freed.decides (c.run_if_due-turn.ensures.reached none)))
 
@@ -84,8 +81,7 @@ pub returns-in-Ok-clause-begun : goal.returns-in-Ok-clause-begun
 returns-in-Ok-clause-begun g c =
     let x = goal.at.returns-in-Ok-clause-begun g c in
     let begins = g.E.Engine.begins in
-    subst (λ (x : CallerState). EachIsBegun begins c.args.caller.now.pass x.pass) (sym c.back.ensures)
-    (turn_begun
+    subst (λ (x : CallerState). EachIsBegun begins c.args.caller.now.pass x.pass) (sym c.back.ensures) (turn_begun
     (given (frees g x.After-is_in_order-in-Ok (took g x.After-take-turn)) c.give.ensures.gives c.give.ensures.rests)
     (freeing_then_begun c.in-Ok.ensures.freed.decides c.run_if_due-turn.ensures.begun))
 
@@ -105,19 +101,14 @@ returns-in-Err-clause-double g c =
 pub returns-in-Err-clause-reached : goal.returns-in-Err-clause-reached
 returns-in-Err-clause-reached g c =
     let x = goal.at.returns-in-Err-clause-reached g c in
-    λ none.
-    subst (λ (x : CallerState). SweepsNothing c.args.caller.now.pass x.pass) (sym c.back-in-Err.ensures)
-    (turn_sweeps
-    (given_double (refuses g x.After-take-turn c.in-Err.ensures.double) c.give-in-Err.ensures.gives
-    c.give-in-Err.ensures.rests)
-    (loading_sweeps c.in-Err.ensures.double.decides))
+    λ none. subst (λ (x : CallerState). SweepsNothing c.args.caller.now.pass x.pass) (sym c.back-in-Err.ensures)
+    (turn_sweeps (given_double (refuses g x.After-take-turn c.in-Err.ensures.double) c.give-in-Err.ensures.gives
+    c.give-in-Err.ensures.rests) (loading_sweeps c.in-Err.ensures.double.decides))
 
 pub returns-in-Err-clause-begun : goal.returns-in-Err-clause-begun
 returns-in-Err-clause-begun g c =
     let x = goal.at.returns-in-Err-clause-begun g c in
     let begins = g.E.Engine.begins in
     subst (λ (x : CallerState). EachIsBegun begins c.args.caller.now.pass x.pass) (sym c.back-in-Err.ensures)
-    (turn_begun
-    (given_double (refuses g x.After-take-turn c.in-Err.ensures.double) c.give-in-Err.ensures.gives
-    c.give-in-Err.ensures.rests)
-    (loading_begun c.in-Err.ensures.double.decides))
+    (turn_begun (given_double (refuses g x.After-take-turn c.in-Err.ensures.double) c.give-in-Err.ensures.gives
+    c.give-in-Err.ensures.rests) (loading_begun c.in-Err.ensures.double.decides))

@@ -1,7 +1,6 @@
 use Rattle.mk_alloc.proofs.Vocabulary.{refl}
-use Rattle.mk_alloc.proofs.CountedFulls.{answers_full, full_begins_none, tallied_ended, tallied_idle, tallied_nowhere}
-use Rattle.mk_alloc.proofs.CountedFulls.{tallied_unplaced}
-use Rattle.mk_alloc.proofs.FullTurns.{full_admitted, full_allowed}
+use Rattle.mk_alloc.proofs.CountedFulls.{answers_full, full_admitted, full_allowed, full_begins_none, tallied_ended}
+use Rattle.mk_alloc.proofs.CountedFulls.{tallied_idle, tallied_nowhere, tallied_unplaced}
 use Rattle.mk_alloc.proofs.UnsweptTurns.{full_sweeps}
 use Rattle.mk_cycle.proofs.Allowed.{in_turn_after}
 use Rattle.mk_alloc.proofs.fulls.answer_full.Goals as goal
@@ -33,6 +32,4 @@ returns-clause-begins c =
     c.tally.ensures c.full.ensures c.saturating_add.ensures
 
 pub returns-clause-reached : goal.returns-clause-reached
-returns-clause-reached c =
-    full_sweeps c.args.turn.now.pass c.look-count.new.self.pass c.tally.new.self.pass c.full.new.self.pass _ _ _
-    c.look-count.ensures.acts c.tally.ensures c.full.ensures refl refl refl
+returns-clause-reached c = full_sweeps c.look-count.ensures.acts c.tally.ensures c.full.ensures refl refl refl

@@ -1,7 +1,6 @@
-use Rattle.mk_alloc.proofs.BegunTurns.{none_begun, part_then_begun}
+use Rattle.mk_alloc.proofs.UnsweptTurns.{none_begun, part_then_begun, part_then_sweeps}
 use Rattle.mk_alloc.proofs.OneCycles.{one_then_none}
 use Rattle.mk_alloc.proofs.SeekingTurns.{seeks_then}
-use Rattle.mk_alloc.proofs.UnsweptTurns.{part_then_sweeps}
 use Rattle.mk_alloc.proofs.making.make_room_or_count.Goals as goal
 
 -- The object is placed, or it isn't.
@@ -14,10 +13,8 @@ returns-clause-one g c = one_then_none c.make_room-turn.ensures.one c.answer_ful
 
 pub returns-clause-reached : goal.returns-clause-reached
 returns-clause-reached g c =
-    λ none.
-    part_then_sweeps (c.make_room-turn.ensures.misfits c.if-placed.false).misfits.seeks.on.does
-    (c.make_room-turn.ensures.reached none)
-    c.answer_full.ensures.reached
+    λ none. part_then_sweeps (c.make_room-turn.ensures.misfits c.if-placed.false).misfits.seeks.on.does
+    (c.make_room-turn.ensures.reached none) c.answer_full.ensures.reached
 
 pub returns-clause-begun : goal.returns-clause-begun
 returns-clause-begun g c =

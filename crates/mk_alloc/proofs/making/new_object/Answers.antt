@@ -1,15 +1,13 @@
 use Rattle.std.proofs.Common.{IfSome}
-use Rattle.mk_alloc.proofs.Vocabulary.{Answer, Bool, CalledInTurn, CallerState, EachIsBegun, IsAnsweredFull, Misfits}
-use Rattle.mk_alloc.proofs.Vocabulary.{Flight, Op, Option, PassState, SweepsNothing, ℕ, ap, false, refl, subst, sym}
+use Rattle.mk_alloc.proofs.Vocabulary.{Answer, Bool, CalledInTurn, CallerState, EachIsBegun, Flight, IsAnsweredFull}
+use Rattle.mk_alloc.proofs.Vocabulary.{Misfits, Op, Option, PassState, SweepsNothing, ℕ, ap, false, refl, subst, sym}
 use Rattle.mk_alloc.proofs.Vocabulary.{◌≡◌}
-use Rattle.mk_alloc.proofs.BegunTurns.{none_begun, part_then_begun, turn_begun}
 use Rattle.mk_alloc.proofs.NewTurns.{NewGiven, census_told, given, is_answered_full, last_turn, new_called}
-use Rattle.mk_alloc.proofs.OneCycles.{none_runs_one, none_then_one}
-use Rattle.mk_alloc.proofs.UnsweptTurns.{part_then_sweeps, turn_sweeps}
-use Rattle.mk_alloc.proofs.making.new_object.Goals.{After-give, After-give-2, After-take-turn}
-use Rattle.mk_alloc.proofs.CalledTurns.{Taken}
 use Rattle.mk_alloc.proofs.SeekingTurns.{misfits_then, requests_then, seeks_then}
-use Rattle.mk_alloc.proofs.TakenTurns.{took_by}
+use Rattle.mk_alloc.proofs.UnsweptTurns.{none_begun, part_then_begun, part_then_sweeps, turn_begun, turn_sweeps}
+use Rattle.mk_alloc.proofs.making.new_object.Goals.{After-give, After-give-2, After-take-turn}
+use Rattle.mk_alloc.proofs.CalledTurns.{Taken, took_by}
+use Rattle.mk_alloc.proofs.OneCycles.{none_runs_one, none_then_one}
 use Rattle.mk_geom.specs.declared.pages.Census.{Census}
 use Rattle.mk_alloc.specs.Rooms.{CountsFull, answer_with}
 use Rattle.mk_objects.specs.Placing.{Requests}
@@ -26,8 +24,7 @@ requested : (g : _) (c : After-take-turn g)
 requested g c = record { full = false; op = ap (λ (f : Flight). f.op) c.take-turn.ensures.begins.fresh.call }
 
 pub try_place-requires-clause-requested : goal.try_place-requires-clause-requested
-try_place-requires-clause-requested g c =
-    requested g (goal.at.try_place-requires-clause-requested g c).After-take-turn
+try_place-requires-clause-requested g c = requested g (goal.at.try_place-requires-clause-requested g c).After-take-turn
 
 pub make_room_or_count-turn-requires-clause-requested : goal.make_room_or_count-turn-requires-clause-requested
 make_room_or_count-turn-requires-clause-requested g c κs within =
@@ -43,7 +40,7 @@ at_once g c took = record {
   took = took;
   begins = c.take-turn.ensures.begins;
   seeks = c.try_place.ensures.placed c.if-try_place.true;
-  runs = none_runs_one _ _ c.try_place.ensures.begins;
+  runs = none_runs_one c.try_place.ensures.begins;
   gives = c.give.ensures.gives;
   rests = c.give.ensures.rests;
 }
@@ -58,8 +55,7 @@ returns-then-try_place-clause-made g c =
 pub returns-then-try_place-clause-reached : goal.returns-then-try_place-clause-reached
 returns-then-try_place-clause-reached g c =
     let x = goal.at.returns-then-try_place-clause-reached g c in
-    λ none.
-    subst (λ (x : CallerState). SweepsNothing c.args.caller.now.pass x.pass) (sym c.back.ensures)
+    λ none. subst (λ (x : CallerState). SweepsNothing c.args.caller.now.pass x.pass) (sym c.back.ensures)
     (turn_sweeps (given (at_once g x.After-give (took g x.After-take-turn))) c.try_place.ensures.reached)
 
 pub returns-then-try_place-clause-begun : goal.returns-then-try_place-clause-begun
@@ -73,8 +69,7 @@ returns-then-try_place-clause-begun g c =
 later : (g : _) (c : After-give-2 g) → Taken (Op.New c.args.d c.args.ty false) c.args.caller.now.pass
     c.take-turn.result.pass
     → NewGiven c.args.d c.args.ty (answer_with c.make_room_or_count-turn.result.1) c.args.caller.now.pass
-    c.take-turn.result.pass
-    c.make_room_or_count-turn.result.0.pass c.give-2.result
+    c.take-turn.result.pass c.make_room_or_count-turn.result.0.pass c.give-2.result
 later g c took = record {
   took = took;
   begins = c.take-turn.ensures.begins;
@@ -86,8 +81,7 @@ later g c took = record {
 
 -- nothing is swept in its turn,
 later_sweeps : (g : _) (c : After-give-2 g) → Taken (Op.New c.args.d c.args.ty false) c.args.caller.now.pass
-    c.take-turn.result.pass
-    → g.E.Engine.sweeps ≡ false → SweepsNothing c.args.caller.now.pass c.give-2.result
+    c.take-turn.result.pass → g.E.Engine.sweeps ≡ false → SweepsNothing c.args.caller.now.pass c.give-2.result
 later_sweeps g c took none =
     turn_sweeps (given (later g c took))
     (part_then_sweeps (c.try_place.ensures.misfits c.if-try_place.false).seeks.on.does c.try_place.ensures.reached
@@ -95,8 +89,7 @@ later_sweeps g c took none =
 
 -- and after each begin the engine does its part.
 later_begun : (g : _) (c : After-give-2 g) → Taken (Op.New c.args.d c.args.ty false) c.args.caller.now.pass
-    c.take-turn.result.pass
-    → EachIsBegun g.E.Engine.begins c.args.caller.now.pass c.give-2.result
+    c.take-turn.result.pass → EachIsBegun g.E.Engine.begins c.args.caller.now.pass c.give-2.result
 later_begun g c took =
     turn_begun (given (later g c took))
     (part_then_begun (c.try_place.ensures.misfits c.if-try_place.false).seeks.on.does
@@ -114,8 +107,7 @@ returns-in-None-clause-made g c =
 pub returns-in-None-clause-reached : goal.returns-in-None-clause-reached
 returns-in-None-clause-reached g c =
     let x = goal.at.returns-in-None-clause-reached g c in
-    λ none.
-    subst (λ (x : CallerState). SweepsNothing c.args.caller.now.pass x.pass) (sym c.back-2.ensures)
+    λ none. subst (λ (x : CallerState). SweepsNothing c.args.caller.now.pass x.pass) (sym c.back-2.ensures)
     (later_sweeps g x.After-give-2 (took g x.After-take-turn) none)
 
 pub returns-in-None-clause-begun : goal.returns-in-None-clause-begun
@@ -127,8 +119,7 @@ returns-in-None-clause-begun g c =
 pub returns-in-Some-clause-reached : goal.returns-in-Some-clause-reached
 returns-in-Some-clause-reached g c =
     let x = goal.at.returns-in-Some-clause-reached g c in
-    λ none.
-    subst (λ (x : CallerState). SweepsNothing c.args.caller.now.pass x.pass) (sym c.back-2.ensures)
+    λ none. subst (λ (x : CallerState). SweepsNothing c.args.caller.now.pass x.pass) (sym c.back-2.ensures)
     (later_sweeps g x.After-give-2 (took g x.After-take-turn) none)
 
 pub returns-in-Some-clause-begun : goal.returns-in-Some-clause-begun

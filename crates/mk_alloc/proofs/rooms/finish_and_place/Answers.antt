@@ -26,15 +26,13 @@ pub returns-clause-misfits : goal.returns-clause-misfits
 returns-clause-misfits g c =
     let t = c.args.turn in
     let i = c.is_in_order.ensures in
-    λ misfits.
-    misfits_finished (in_turn t.pass i.own i.turn i.history) c.requires.unplaced c.requires.quiet
+    λ misfits. misfits_finished (in_turn t.pass i.own i.turn i.history) c.requires.unplaced c.requires.quiet
     c.requires.nowhere c.finish_cycle-turn.ensures.law c.is_in_order-2.ensures.history
     (c.try_place-placed.ensures.misfits misfits) (c.try_place-placed.ensures.looks misfits)
 
 pub returns-clause-reached : goal.returns-clause-reached
 returns-clause-reached g c =
-    λ none.
-    sweeps_then c.args.turn.pass c.finish_cycle-turn.result.0.pass c.try_place-placed.new.turn.pass
+    λ none. sweeps_then c.args.turn.pass c.finish_cycle-turn.result.0.pass c.try_place-placed.new.turn.pass
     c.finish_cycle-turn.ensures.law.pass (c.finish_cycle-turn.ensures.reached none) c.try_place-placed.ensures.reached
 
 pub returns-clause-ends : goal.returns-clause-ends

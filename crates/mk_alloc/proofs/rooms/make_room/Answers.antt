@@ -1,7 +1,6 @@
-use Rattle.mk_alloc.proofs.BegunTurns.{none_begun, part_then_begun}
-use Rattle.mk_alloc.proofs.OneCycles.{none_runs_one, none_then_one}
 use Rattle.mk_alloc.proofs.SeekingTurns.{misfits_then, requests_then, seeks_then}
-use Rattle.mk_alloc.proofs.UnsweptTurns.{part_then_sweeps}
+use Rattle.mk_alloc.proofs.UnsweptTurns.{none_begun, part_then_begun, part_then_sweeps}
+use Rattle.mk_alloc.proofs.OneCycles.{none_runs_one, none_then_one}
 use Rattle.mk_alloc.proofs.rooms.make_room.Goals as goal
 
 pub place_behind_cycle-requires-clause-requested : goal.place_behind_cycle-requires-clause-requested
@@ -23,12 +22,11 @@ returns-clause-misfits g c =
 pub returns-clause-reached : goal.returns-clause-reached
 returns-clause-reached g c =
     let m = c.place_behind_older-turn.ensures.misfits c.if-placed.false in
-    λ none.
-    part_then_sweeps m.misfits.seeks.on.does (c.place_behind_older-turn.ensures.reached none)
+    λ none. part_then_sweeps m.misfits.seeks.on.does (c.place_behind_older-turn.ensures.reached none)
     (c.place_behind_cycle.ensures.reached none)
 
 pub returns-then-placed-clause-one : goal.returns-then-placed-clause-one
-returns-then-placed-clause-one g c = none_runs_one _ _ c.place_behind_older-turn.ensures.begins
+returns-then-placed-clause-one g c = none_runs_one c.place_behind_older-turn.ensures.begins
 
 pub returns-clause-one : goal.returns-clause-one
 returns-clause-one g c = none_then_one c.place_behind_older-turn.ensures.begins c.place_behind_cycle.ensures.one

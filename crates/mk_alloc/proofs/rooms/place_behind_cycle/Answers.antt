@@ -1,10 +1,10 @@
 use Rattle.mk_alloc.proofs.Vocabulary.{Done, None, PassState, Seeks, ap, begun_then, cycle_ended, in_turn, sweeps_then}
 use Rattle.mk_alloc.proofs.Vocabulary.{◌∙◌}
 use Rattle.mk_alloc.proofs.SeekingTurns.{misfits_then, nowhere_begun, requests_then, seeks_begun, seeks_then}
-use Rattle.mk_alloc.proofs.BegunTurns.{none_begun}
-use Rattle.mk_alloc.proofs.OneCycles.{begin_then_ends, ends_none}
-use Rattle.mk_alloc.proofs.QuietTurns.{quiet_begun}
 use Rattle.mk_alloc.proofs.rooms.place_behind_cycle.Goals.{After-is_in_order-2}
+use Rattle.mk_alloc.proofs.Going.{quiet_begun}
+use Rattle.mk_alloc.proofs.OneCycles.{begin_then_ends, ends_none}
+use Rattle.mk_alloc.proofs.UnsweptTurns.{none_begun}
 use Rattle.mk_alloc.proofs.rooms.place_behind_cycle.Goals as goal
 
 -- the cycle that begins
@@ -21,8 +21,7 @@ finish_and_place-requires-clause-requested g c κs within =
     (sought g (goal.at.finish_and_place-requires-clause-requested g c).After-is_in_order-2)
 
 pub finish_and_place-requires-clause-quiet : goal.finish_and_place-requires-clause-quiet
-finish_and_place-requires-clause-quiet g c κs within =
-    quiet_begun c.requires.quiet c.begin_cycle.ensures.law
+finish_and_place-requires-clause-quiet g c κs within = quiet_begun c.requires.quiet c.begin_cycle.ensures.law
 
 pub finish_and_place-requires-clause-nowhere : goal.finish_and_place-requires-clause-nowhere
 finish_and_place-requires-clause-nowhere g c κs within =
@@ -50,8 +49,7 @@ returns-clause-misfits g c =
 
 pub returns-clause-reached : goal.returns-clause-reached
 returns-clause-reached g c =
-    λ none.
-    sweeps_then c.args.turn.pass c.begin_cycle.new.turn.pass c.finish_and_place.result.0.pass
+    λ none. sweeps_then c.args.turn.pass c.begin_cycle.new.turn.pass c.finish_and_place.result.0.pass
     c.begin_cycle.ensures.law.pass (c.begin_cycle.ensures.reached none) (c.finish_and_place.ensures.reached none)
 
 pub returns-clause-one : goal.returns-clause-one

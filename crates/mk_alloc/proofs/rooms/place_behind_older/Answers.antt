@@ -2,7 +2,7 @@ use Rattle.mk_alloc.proofs.Vocabulary.{BeginsNone, Misfits, in_turn, sym, ◌∙
 use Rattle.mk_alloc.proofs.OneCycles.{ends_none, looks_begins_none, none_then_none}
 use Rattle.mk_alloc.proofs.SeekingTurns.{misfits_seen, misfits_then, phase_seen, requests_then, seeks_then, seen_at}
 use Rattle.mk_alloc.proofs.UnsweptTurns.{looking_sweeps, looking_then_sweeps}
-use Rattle.mk_alloc.proofs.QuietTurns.{quiet_looked}
+use Rattle.mk_alloc.proofs.Going.{quiet_looked}
 use Rattle.mk_alloc.proofs.rooms.place_behind_older.Goals.{After-is_in_order-2}
 use Rattle.mk_alloc.proofs.rooms.place_behind_older.Goals as goal
 
@@ -26,8 +26,7 @@ returns-then-not-is_on-clause-misfits g c =
     let x = goal.at.returns-then-not-is_on-clause-misfits g c in
     λ same. record {
       misfits = seen g x.After-is_in_order-2;
-      idle = seen_at c.is_cycle_on-is_on.ensures.looks
-          (phase_seen c.args.turn.pass c.requires.quiet.phase
+      idle = seen_at c.is_cycle_on-is_on.ensures.looks (phase_seen c.args.turn.pass c.requires.quiet.phase
           (sym c.is_cycle_on-is_on.ensures.on ∙ c.if-not-is_on.true));
     }
 
@@ -37,8 +36,7 @@ finish_and_place-requires-clause-requested g c κs within =
     requests_then c.requires.requested (seen g x.After-is_in_order-2).seeks
 
 pub finish_and_place-requires-clause-quiet : goal.finish_and_place-requires-clause-quiet
-finish_and_place-requires-clause-quiet g c κs within =
-    quiet_looked c.requires.quiet c.is_cycle_on-is_on.ensures.looks
+finish_and_place-requires-clause-quiet g c κs within = quiet_looked c.requires.quiet c.is_cycle_on-is_on.ensures.looks
 
 pub finish_and_place-requires-clause-nowhere : goal.finish_and_place-requires-clause-nowhere
 finish_and_place-requires-clause-nowhere g c κs within =

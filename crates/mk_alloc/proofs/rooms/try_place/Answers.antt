@@ -7,17 +7,14 @@ pub returns-clause-placed : goal.returns-clause-placed
 returns-clause-placed c =
     let t = c.args.turn.now in
     let i = c.is_in_order.ensures in
-    λ placed.
-    seeks_placed t.pass c.place_object-placed.new.turn.pass
-    (in_turn t.pass i.own i.turn i.history) c.requires.unplaced c.requires.quiet
+    λ placed. seeks_placed (in_turn t.pass i.own i.turn i.history) c.requires.unplaced c.requires.quiet
     (c.place_object-placed.ensures.placed placed) c.is_in_order-2.ensures.history
 
 pub returns-clause-misfits : goal.returns-clause-misfits
 returns-clause-misfits c =
     let t = c.args.turn.now in
     let i = c.is_in_order.ensures in
-    λ misfits.
-    misfits_here (in_turn t.pass i.own i.turn i.history) c.requires.unplaced c.requires.quiet
+    λ misfits. misfits_here (in_turn t.pass i.own i.turn i.history) c.requires.unplaced c.requires.quiet
     (c.place_object-placed.ensures.nowhere misfits) c.is_in_order-2.ensures.history
 
 pub returns-clause-begins : goal.returns-clause-begins
@@ -27,6 +24,6 @@ returns-clause-begins c =
     let j = c.is_in_order-2.ensures in
     let turn = in_turn t.pass i.own i.turn i.history in
     elim (cases_Bool c.place_object-placed.result) [
-      | inl placed ↦ placed_begins_none _ _ turn (c.place_object-placed.ensures.placed placed) j.history
+      | inl placed ↦ placed_begins_none turn (c.place_object-placed.ensures.placed placed) j.history
       | inr misfits ↦ looks_begins_none turn (c.place_object-placed.ensures.nowhere misfits).looks.does j.history
     ]

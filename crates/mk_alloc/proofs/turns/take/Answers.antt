@@ -1,10 +1,10 @@
 use Rattle.mk_alloc.proofs.Vocabulary.{Has, PassState, own_before, subst}
-use Rattle.mk_alloc.proofs.TakenTurns.{callers, take_allowed, taken_phase}
+use Rattle.mk_alloc.proofs.CalledTurns.{callers, take_allowed, taken_phase}
 use Rattle.mk_alloc.proofs.turns.take.Goals as goal
 
 pub take_turn-turn-requires-clause-enabled : goal.take_turn-turn-requires-clause-enabled
 take_turn-turn-requires-clause-enabled g c =
-    take_allowed c.args.home c.args.op c.requires.idle c.requires.exists c.requires.under_turn c.requires.operands
+    take_allowed c.args.op c.requires.idle c.requires.exists c.requires.under_turn c.requires.operands
 
 pub returns-clause-begins : goal.returns-clause-begins
 returns-clause-begins g c =
@@ -13,7 +13,7 @@ returns-clause-begins g c =
     let e = c.take_turn-turn.ensures in
     record {
       fresh = e.fresh;
-      phase = taken_phase p q c.args.op (callers p c.requires.idle) c.requires.exists c.requires.alone
+      phase = taken_phase (callers c.requires.idle) c.requires.exists c.requires.alone
           (subst (λ (x : PassState). Has x.seats x.seat) e.takes.waits.is (own_before e.takes.takes.makes))
           e.takes e.fresh c.is_in_order.ensures.history c.is_in_order.ensures.before_over;
       exact = e.exact;

@@ -2,10 +2,10 @@ use Rattle.mk_alloc.proofs.Vocabulary.{CalledInTurn, CallerState, IsEnabledTo, P
 use Rattle.mk_alloc.proofs.NewTurns.{begun_quiet, begun_unplaced, new_called}
 use Rattle.mk_alloc.proofs.OneCycles.{none_runs_one, placed_begins_none}
 use Rattle.mk_alloc.proofs.CalledTurns.{taken_turn}
-use Rattle.mk_alloc.proofs.QuietTurns.{give_allowed}
+use Rattle.mk_alloc.proofs.Going.{give_allowed}
 use Rattle.mk_alloc.proofs.SeekingTurns.{seeks_placed}
 use Rattle.mk_laws.proofs.Vocabulary.{Answer, Bool, Flight, Op, Some, Step, ap, d_of, false, refl, subst, sym, true}
-use Rattle.mk_alloc_clients.proofs.MadeCalls.{TakenNew, made_owns, may_take, taken_new}
+use Rattle.mk_alloc_clients.proofs.OnePage.{TakenNew, made_owns, may_take, taken_new}
 use Rattle.mk_alloc_clients.proofs.making.make_number.Goals.{After-give-home, After-is_in_order}
 use Rattle.mk_alloc_clients.proofs.making.make_number.Goals.{After-is_in_order-in-Ok}
 use Rattle.mk_alloc_clients.specs.Owned.{HasNumber}
@@ -16,7 +16,7 @@ pub try_take-requires-clause-enabled : goal.try_take-requires-clause-enabled
 try_take-requires-clause-enabled c =
     let p : PassState = c.args.caller.now.pass in
     subst (λ (x : PassState). IsEnabledTo x (Step.Take (Some (Op.New c.args.d c.args.ty false)))) (sym
-    c.lend-home.ensures.pass) (may_take p c.args.d _ c.is_idle.ensures.idle c.requires.suits.exists
+    c.lend-home.ensures.pass) (may_take c.args.d _ c.is_idle.ensures.idle c.requires.suits.exists
     c.requires.suits.register c.requires.suits.number)
 
 -- the turn, as it was taken
@@ -25,14 +25,14 @@ taken c =
     let p : PassState = c.args.caller.now.pass in
     let e = c.in-Ok.ensures in
     let i = c.is_in_order.ensures in
-    taken_new p c.args.d _ c.is_idle.ensures.idle c.requires.suits.exists c.in-Ok.turn.pass c.requires.suits.alone
+    taken_new c.args.d _ c.is_idle.ensures.idle c.requires.suits.exists c.requires.suits.alone
     (subst (λ (x : PassState). Finds x (Step.Take (Some (Op.New c.args.d c.args.ty false))) 0 c.in-Ok.turn.pass)
     c.lend-home.ensures.pass e.made) e.fresh e.exact e.tidy i.before_over
 
 pub place_number-requires-clause-unplaced : goal.place_number-requires-clause-unplaced
 place_number-requires-clause-unplaced c =
     let x = goal.at.place_number-requires-clause-unplaced c in
-    begun_unplaced c.in-Ok.turn.pass c.args.d c.args.ty false (taken x.After-is_in_order).begins
+    begun_unplaced (taken x.After-is_in_order).begins
 
 pub place_number-requires-clause-register : goal.place_number-requires-clause-register
 place_number-requires-clause-register c = sym (ap (λ (f : Flight). d_of f.op) (c.in-Ok.ensures.fresh).call)
@@ -42,8 +42,7 @@ seeks : (c : After-is_in_order-in-Ok) → TakenNew c.args.caller.now.pass c.args
     → Seeks (Some Answer.Done) c.in-Ok.turn.pass c.place_number.new.turn.pass
 seeks c t =
     let taken : PassState = c.in-Ok.turn.pass in
-    seeks_placed taken c.place_number.new.turn.pass (taken_turn t.took)
-    (begun_unplaced taken c.args.d c.args.ty false t.begins) (begun_quiet taken c.args.d c.args.ty false t.begins)
+    seeks_placed (taken_turn t.took) (begun_unplaced t.begins) (begun_quiet t.begins)
     (c.place_number.ensures.placed c.if-not-place_number.false) c.is_in_order-in-Ok.ensures.history
 
 pub give-home-requires-clause-enabled : goal.give-home-requires-clause-enabled
@@ -52,7 +51,7 @@ give-home-requires-clause-enabled c =
     let k = c.is_in_order-in-Ok.ensures in
     let done : PassState = c.place_number.new.turn.pass in
     let on = (seeks x.After-is_in_order-in-Ok (taken x.After-is_in_order)).on in
-    give_allowed done (in_turn done k.own k.turn k.history) on.quiet (on.decided refl)
+    give_allowed (in_turn done k.own k.turn k.history) on.quiet (on.decided refl)
 
 pub give-home-requires-clause-tidy : goal.give-home-requires-clause-tidy
 give-home-requires-clause-tidy c =
@@ -65,26 +64,22 @@ called : (c : After-give-home) → TakenNew c.args.caller.now.pass c.args.d c.ar
 called c t seeks on =
     let taken : PassState = c.in-Ok.turn.pass in
     let done : PassState = c.place_number.new.turn.pass in
-    new_called
-    (record {
+    new_called (record {
       took = t.took;
       begins = t.begins;
       seeks = seeks;
-      runs = none_runs_one taken done
-          (placed_begins_none taken done (taken_turn t.took)
+      runs = none_runs_one (placed_begins_none (taken_turn t.took)
           (c.place_number.ensures.placed c.if-not-place_number.false) c.is_in_order-in-Ok.ensures.history);
       gives = c.give-home.ensures.acts.makes;
       rests = c.give-home.ensures.rests;
-    })
-    on
+    }) on
 
 pub returns-else-not-place_number-clause-made : goal.returns-else-not-place_number-clause-made
 returns-else-not-place_number-clause-made c =
     let x = goal.at.returns-else-not-place_number-clause-made c in
     let o = Op.New c.args.d c.args.ty false in
     let t = taken x.After-is_in_order in
-    λ on.
-    subst (λ (x : CallerState). CalledInTurn on c.args.caller.now.pass o Answer.Done x.pass)
+    λ on. subst (λ (x : CallerState). CalledInTurn on c.args.caller.now.pass o Answer.Done x.pass)
     (sym c.back-in-Ok.ensures) (called x.After-give-home t (seeks x.After-is_in_order-in-Ok t) on)
 
 pub returns-else-not-place_number-clause-owned : goal.returns-else-not-place_number-clause-owned

@@ -23,8 +23,7 @@ unreachable-requires-in-Null c =
     (subst (λ (e : Refusal). IsRefused p (Op.SetNum c.args.d 0 c.args.n) e q) c.in-Null.is c.in-Err.ensures.refused)
 
 pub returns-in-Ok-clause-stored : goal.returns-in-Ok-clause-stored
-returns-in-Ok-clause-stored c =
-    (stored c.args.d c.requires.owned c.is_idle.ensures.history c.args.n c.in-Ok.ensures.called).has
+returns-in-Ok-clause-stored c = (stored c.args.d c.requires.owned c.is_idle.ensures.history c.in-Ok.ensures.called).has
 
 pub returns-in-Held-clause-still : goal.returns-in-Held-clause-still
 returns-in-Held-clause-still c =

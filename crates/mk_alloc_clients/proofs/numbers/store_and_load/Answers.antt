@@ -3,14 +3,10 @@ use Rattle.mk_alloc_clients.proofs.OwnedCalls.{both_done, loads_stored}
 use Rattle.mk_alloc_clients.proofs.numbers.store_and_load.Goals as goal
 
 pub returns-clause-loaded : goal.returns-clause-loaded
-returns-clause-loaded c =
-    loads_stored c.store.new.caller.pass c.args.d c.args.n c.load.result c.in_ok-store.ensures.stored
-    c.load.ensures.loaded
+returns-clause-loaded c = loads_stored c.load.result c.in_ok-store.ensures.stored c.load.ensures.loaded
 
 pub returns-clause-did : goal.returns-clause-did
 returns-clause-did c =
     let b : PassState = c.store.new.caller.pass in
-    both_done c.args.caller.now.pass b c.load.new.caller.pass c.args.d c.args.n c.load.result
-    c.in_ok-store.ensures.called (loads_stored b c.args.d c.args.n c.load.result c.in_ok-store.ensures.stored
-    c.load.ensures.loaded)
-    c.load.ensures.called
+    both_done c.load.new.caller.pass c.load.result c.in_ok-store.ensures.called
+    (loads_stored c.load.result c.in_ok-store.ensures.stored c.load.ensures.loaded) c.load.ensures.called

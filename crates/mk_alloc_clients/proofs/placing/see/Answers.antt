@@ -1,6 +1,6 @@
 use Rattle.mk_laws.proofs.Vocabulary.{ap, ltb-true, ◌==◌, ◌∙◌}
 use Rattle.mk_alloc.proofs.Vocabulary.{PassState, call_of, new_is_acting}
-use Rattle.mk_alloc_clients.proofs.MadeNumbers.{first_page, held_kept, page_kept, phase_kept}
+use Rattle.mk_alloc_clients.proofs.OnePage.{first_page, held_kept, page_kept, phase_kept}
 use Rattle.mk_objects.proofs.JoinedLooks.{looks_joined, looks_unplaced}
 use Rattle.mk_alloc_clients.proofs.placing.see.Goals as goal
 
@@ -14,7 +14,7 @@ look_at-held-requires-clause-acting c = new_is_acting (call_of c.args.turn.now.p
 
 pub is_marking-marking-requires-clause-acting : goal.is_marking-marking-requires-clause-acting
 is_marking-marking-requires-clause-acting c =
-    new_is_acting (call_of c.look_at-held.new.turn.pass) (looks_unplaced c.args.turn.now.pass
+    new_is_acting (call_of c.look_at-held.new.turn.pass) (looks_unplaced
     c.look_at-held.new.turn.pass c.look_at-held.ensures.looks c.requires.unplaced).new
 
 pub returns-clause-looks : goal.returns-clause-looks

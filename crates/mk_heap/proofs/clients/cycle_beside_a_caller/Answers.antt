@@ -8,7 +8,7 @@ use Rattle.mk_heap.proofs.clients.cycle_beside_a_caller.Goals as goal
 pub clear-requires-2-clause-whole : goal.clear-requires-2-clause-whole
 clear-requires-2-clause-whole g c =
     let x = c.caller-caller in
-    pass_of_later x.result.pass c.clear.new.caller.pass c.clear.ensures.pass
+    pass_of_later c.clear.new.caller.pass c.clear.ensures.pass
     (pass_of_first c.in_ok-heap.host x.result c.in_ok-heap.heap c.in_ok-heap.ensures.host
     (subst (λ (d : Config). IsWithinLimits d) (sym c.in_ok-heap.ensures.config) c.requires.limits) x.ensures.caller)
 
@@ -22,9 +22,7 @@ close-requires-clause-joined g c =
     ∙ ap (λ (x : CallerState). x.pass.seats) c.caller-caller.ensures.caller in
     one_is_joined c.in_ok-heap.heap first c.caller-caller.new.self c.cycle.new.self c.join_caller.new.self
     c.over.new.self p c.join_caller.new.self.pass.seen c.over.new.self.pass.seen c.in_ok-heap.ensures.host
-    c.caller-caller.ensures.host
-    c.cycle.ensures.host seats c.join_caller.ensures.host c.over.ensures.host
+    c.caller-caller.ensures.host c.cycle.ensures.host seats c.join_caller.ensures.host c.over.ensures.host
 
 pub returns-clause-over : goal.returns-clause-over
-returns-clause-over g c =
-    cc (c.close.ensures.history, has_said_over c.join_caller.new.self.pass c.over.new.self.pass c.over.ensures.over)
+returns-clause-over g c = cc (c.close.ensures.history, has_said_over c.over.ensures.over)

@@ -3,4 +3,4 @@ use Rattle.mk_heap.proofs.ClientSteps.{may_clear}
 use Rattle.mk_heap_tests.proofs.gates.clear.Goals as goal
 
 pub clear-requires-clause-admitted : goal.clear-requires-clause-admitted
-clear-requires-clause-admitted c = may_clear c.args.caller.now.pass 0 c.requires.whole (omega arith)
+clear-requires-clause-admitted c = may_clear 0 c.requires.whole (omega arith)

@@ -3,7 +3,7 @@ use Rattle.mk_heap_tests.proofs.Vocabulary.{PassState, WordsState, in_turn}
 use Rattle.mk_heap_tests.proofs.JoinedHosts.{none_is_held_at, pass_of}
 use Rattle.mk_cycle.proofs.HoldingSteps.{hold_allowed}
 use Rattle.mk_heap.proofs.ClientSteps.{pass_of_later}
-use Rattle.mk_heap.proofs.IdleTurns.{fresh_free}
+use Rattle.mk_heap.proofs.Overs.{fresh_free}
 use Rattle.mk_heap_tests.proofs.gates.hold_first.Goals as goal
 
 pub new-first-requires-clause-idle : goal.new-first-requires-clause-idle
@@ -26,12 +26,12 @@ try_hold-requires-clause-enabled c =
     let seat : q.seat ≡ Host = ap (λ (x : PassState). x.seat) made ∙ c.requires.host in
     let some : 0 < q.table.config.callers =
     subst (λ (v : WordsState). 0 < v.config.callers) (sym table) (let two = c.requires.two in omega arith) in
-    hold_allowed q (in_turn q o.own o.turn o.history) (fresh_free q c.in-Ok.ensures.fresh) 0 some
+    hold_allowed q (in_turn q o.own o.turn o.history) (fresh_free c.in-Ok.ensures.fresh) 0 some
     (ap (λ (s : Seat). is_number_of s 0) seat) (none_is_held_at q 0 some c.in-Ok.ensures.fresh.gates)
 
 pub clear-requires-clause-whole : goal.clear-requires-clause-whole
 clear-requires-clause-whole c =
-    pass_of_later c.new-first.result.pass c.clear-before.new.caller.pass c.clear-before.ensures.pass
+    pass_of_later c.clear-before.new.caller.pass c.clear-before.ensures.pass
     (pass_of c.args.words.now 0 c.args.first c.new-first.result c.requires.first (omega arith) c.new-first.ensures)
 
 pub clear-requires-2-clause-whole : goal.clear-requires-2-clause-whole

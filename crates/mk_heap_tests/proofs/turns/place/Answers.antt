@@ -1,9 +1,9 @@
-use Rattle.mk_laws.proofs.Vocabulary.{refl}
+use Rattle.mk_laws.proofs.Vocabulary.{Flight, ap, false, refl}
 use Rattle.mk_heap_tests.proofs.Vocabulary.{in_turn}
 use Rattle.mk_heap_tests.proofs.NewTurns.{IsTaken, first_new, may_make, passed_back, placed_table, seeks, taken_table}
 use Rattle.mk_heap_tests.proofs.NewTurns.{unplaced}
 use Rattle.mk_heap_tests.proofs.turns.place.Goals.{After-is_in_order-2}
-use Rattle.mk_alloc.proofs.QuietTurns.{give_allowed}
+use Rattle.mk_alloc.proofs.Going.{give_allowed}
 use Rattle.mk_heap_tests.proofs.turns.place.Goals as goal
 
 pub take_turn-turn-requires-clause-enabled : goal.take_turn-turn-requires-clause-enabled
@@ -55,7 +55,7 @@ give-requires-clause-enabled g c =
     let r = c.place_object-placed.new.turn in
     let s = seeks (taken g (goal.at.give-requires-clause-enabled g c).After-is_in_order-2)
     (c.place_object-placed.ensures.placed c.if-not-placed.false) k.history in
-    give_allowed r.pass (in_turn r.pass k.own k.turn k.history) s.on.quiet (s.on.decided refl)
+    give_allowed (in_turn r.pass k.own k.turn k.history) s.on.quiet (s.on.decided refl)
 
 pub give-requires-clause-tidy : goal.give-requires-clause-tidy
 give-requires-clause-tidy g c =

@@ -1,7 +1,7 @@
 use Rattle.mk_laws.proofs.Vocabulary.{Option, Steady, ℕ, ap, arith, free_page, header_at, header_of, heads_run}
 use Rattle.mk_laws.proofs.Vocabulary.{slice_index_or, sym, ◌∙◌, ◌≡◌}
 use Rattle.mk_objects.proofs.Vocabulary.{PassState, now_of, option_map}
-use Rattle.mk_objects.proofs.PreparedFrees.{frees_behind, looks_prepare, still_open}
+use Rattle.mk_objects.proofs.DecidedFrees.{frees_behind, looks_prepare, still_open}
 use Rattle.mk_objects.proofs.JoinedLooks.{looks_left, looks_table}
 use Rattle.mk_objects.proofs.LargeFrees.{heads_none}
 use Rattle.mk_objects.proofs.freeing.free_found.Goals as goal
@@ -19,10 +19,8 @@ free_small-requires-clause-small g c =
     let q : PassState = c.look_at-header.new.turn.pass in
     let found : header_at (now_of q).words c.args.cell.page ≡ c.look_at-header.result =
     ap (λ (x : Steady). (slice_index_or x.pages c.args.cell.page free_page).header)
-    (looks_left p q c.look_at-header.ensures.looks).steady
-    ∙ sym c.look_at-header.ensures.finds in
-    ap (λ (n : ℕ). heads_run (header_of n)) found
-    ∙ heads_none (header_of c.look_at-header.result) 0
+    (looks_left p q c.look_at-header.ensures.looks).steady ∙ sym c.look_at-header.ensures.finds in
+    ap (λ (n : ℕ). heads_run (header_of n)) found ∙ heads_none (header_of c.look_at-header.result) 0
     (c.run_under.ensures 0 ∙ ap (λ (x : Option ℕ). option_map (λ n. record { page = 0; count = n }) x) c.in-None.is)
 
 pub returns-in-Some : goal.returns-in-Some

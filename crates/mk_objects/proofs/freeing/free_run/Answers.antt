@@ -1,5 +1,5 @@
 use Rattle.mk_laws.proofs.Vocabulary.{arith}
-use Rattle.mk_objects.proofs.PreparedFrees.{frees_behind, gates_prepare}
+use Rattle.mk_objects.proofs.DecidedFrees.{frees_behind, gates_prepare}
 use Rattle.mk_objects.proofs.freeing.free_run.Goals as goal
 
 pub returns : goal.returns

@@ -1,9 +1,8 @@
 -- The whole of a Free: its register is loaded, its cell found, and the quarantine word of that looked at.
 use Rattle.mk_laws.proofs.Vocabulary.{Cell, ℕ, eq-eqb, false, is_freed, ne_eqb, sym, ◌∙◌, ◌≡◌}
 use Rattle.mk_objects.proofs.Vocabulary.{MayFree, PassState, loaded_free, now_of}
-use Rattle.mk_objects.proofs.Retirements.{IsFound, finds_freed, found_so, freed_by_word, is_never_freed, may_free}
-use Rattle.mk_objects.proofs.Retirements.{none_held_there, object_found, retires, retires_null}
-use Rattle.mk_objects.proofs.FreesUnderway.{comes_seeing}
+use Rattle.mk_objects.proofs.Retirements.{IsFound, comes_seeing, finds_freed, found_so, freed_by_word, is_never_freed}
+use Rattle.mk_objects.proofs.Retirements.{may_free, none_held_there, object_found, retires, retires_null}
 use Rattle.mk_objects.proofs.freeing.retire_object.Goals.{After-is_freed, After-is_in_order-3}
 use Rattle.mk_objects.proofs.freeing.retire_object.Goals as goal
 
@@ -49,8 +48,7 @@ returns-then-is_freed-clause-double g c =
 -- It isn't.
 may : (g : _) (c : After-is_freed g)
     → IsFound c.args.turn.now.pass c.find_cell-cell.new.turn.pass c.args.p c.load_freed-value.result
-    c.find_cell-cell.result
-    → is_freed (now_of c.find_cell-cell.new.turn.pass).words c.find_cell-cell.result ≡ false
+    c.find_cell-cell.result → is_freed (now_of c.find_cell-cell.new.turn.pass).words c.find_cell-cell.result ≡ false
     → MayFree c.look_at_quarantine-quar.new.turn.pass c.args.p c.load_freed-value.result c.find_cell-cell.result
 may g c found bit =
     may_free c.requires.unloaded found c.look_at_quarantine-quar.ensures.seen

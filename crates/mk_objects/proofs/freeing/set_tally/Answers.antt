@@ -1,13 +1,13 @@
 use Rattle.mk_objects.proofs.Vocabulary.{PassState}
 use Rattle.mk_objects.proofs.Looks.{acting_now}
 use Rattle.mk_objects.proofs.MayAct.{may_tally}
-use Rattle.mk_objects.proofs.SetTallies.{sets_tally}
+use Rattle.mk_objects.proofs.SetGates.{sets_tally}
 use Rattle.mk_objects.proofs.freeing.set_tally.Goals as goal
 
 pub tally-requires-clause-enabled : goal.tally-requires-clause-enabled
 tally-requires-clause-enabled c =
     let p : PassState = c.args.turn.now.pass in
-    may_tally (acting_now p c.is_in_order.ensures.turn c.requires.acting) c.args.tally c.args.value
+    may_tally (acting_now c.is_in_order.ensures.turn c.requires.acting) c.args.tally c.args.value
 
 pub returns : goal.returns
 returns c = sets_tally c.is_in_order.ensures.turn c.requires.acting c.tally.ensures

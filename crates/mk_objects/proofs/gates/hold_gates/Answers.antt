@@ -5,10 +5,7 @@ use Rattle.mk_objects.proofs.SetGates.{set_held, set_seat, set_there, sets_more,
 use Rattle.mk_objects.proofs.gates.hold_gates.Goals as goal
 
 pub loop-caller-init : goal.loop-caller-init
-loop-caller-init g c = record {
-  sets = holds_none c.args.turn.now.pass c.requires.open;
-  keeps = λ r lt. refl;
-}
+loop-caller-init g c = record { sets = holds_none c.args.turn.now.pass c.requires.open; keeps = λ r lt. refl }
 
 pub hold_other-requires-clause-acting : goal.hold_other-requires-clause-acting
 hold_other-requires-clause-acting g c = set_acting c.loop-caller.invariant.sets c.requires.acting

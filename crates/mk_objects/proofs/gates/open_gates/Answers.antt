@@ -1,14 +1,11 @@
-use Rattle.mk_laws.proofs.Vocabulary.{arith, refl, ◌+◌, ◌∙◌}
+use Rattle.mk_laws.proofs.Vocabulary.{arith, ◌+◌}
 use Rattle.mk_objects.proofs.Vocabulary.{PassState, is_settling}
 use Rattle.mk_objects.proofs.SetGates.{all_yet_held, caller_within, opened_next, opened_so_far, opens_none, set_acting}
 use Rattle.mk_objects.proofs.SetGates.{set_held, set_phase, set_seat, set_there, sets_more, sets_named}
 use Rattle.mk_objects.proofs.gates.open_gates.Goals as goal
 
 pub loop-caller-init : goal.loop-caller-init
-loop-caller-init c = record {
-  sets = opens_none c.args.turn.now.pass c.requires.held;
-  gone = c.requires.gone;
-}
+loop-caller-init c = record { sets = opens_none c.args.turn.now.pass c.requires.held; gone = c.requires.gone }
 
 pub open_other-requires-clause-acting : goal.open_other-requires-clause-acting
 open_other-requires-clause-acting c = set_acting c.loop-caller.invariant.sets c.requires.acting

@@ -1,7 +1,7 @@
 use Rattle.mk_laws.proofs.Vocabulary.{ap, false, is_number_of, is_run_gone, not, true, ◌∙◌, ◌≡◌}
 use Rattle.mk_objects.proofs.Vocabulary.{PassState, is_settling, now_of}
 use Rattle.mk_objects.proofs.SetGates.{one_there, set_nothing, sets_open}
-use Rattle.mk_objects.proofs.GoneRuns.{still_gone}
+use Rattle.mk_objects.proofs.ClearedRuns.{still_gone}
 use Rattle.mk_objects.proofs.Looks.{acting_now}
 use Rattle.mk_objects.proofs.MayAct.{may_open}
 use Rattle.mk_objects.proofs.gates.open_other.Goals as goal
@@ -11,7 +11,7 @@ open_gate-requires-clause-enabled c =
     let p : PassState = c.args.turn.now.pass in
     let another : is_number_of p.seat c.args.caller ≡ false =
     cc (c.seat.ensures, c.is_own.ensures, c.if-not-is_own.true) in
-    may_open (acting_now p c.is_in_order.ensures.turn c.requires.acting) c.args.caller
+    may_open (acting_now c.is_in_order.ensures.turn c.requires.acting) c.args.caller
     c.requires.within another (c.requires.held ∙ ap not another) c.requires.phase c.requires.gone
 
 pub returns-then-not-is_own-clause-sets : goal.returns-then-not-is_own-clause-sets

@@ -9,7 +9,7 @@ use Rattle.mk_objects.proofs.gates.try_hold.Goals as goal
 pub try_hold-requires-clause-enabled : goal.try_hold-requires-clause-enabled
 try_hold-requires-clause-enabled c =
     let p : PassState = c.args.turn.now.pass in
-    may_hold (acting_now p c.is_in_order.ensures.turn c.requires.acting) c.args.caller
+    may_hold (acting_now c.is_in_order.ensures.turn c.requires.acting) c.args.caller
     c.requires.within c.requires.another c.requires.open
 
 pub returns-clause-held : goal.returns-clause-held

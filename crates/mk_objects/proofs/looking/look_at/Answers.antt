@@ -9,8 +9,7 @@ use Rattle.mk_objects.proofs.looking.look_at.Goals as goal
 pub look-requires-clause-enabled : goal.look-requires-clause-enabled
 look-requires-clause-enabled c =
     let t = c.args.turn.now in
-    may_look (acting_now t.pass c.is_in_order.ensures.turn c.requires.acting) c.args.word c.requires.steady
-    c.requires.in_range
+    may_look (acting_now c.is_in_order.ensures.turn c.requires.acting) c.args.word c.requires.steady c.requires.in_range
 
 pub returns-clause-looks : goal.returns-clause-looks
 returns-clause-looks c =

@@ -1,4 +1,4 @@
-use Rattle.mk_objects.proofs.CarvedPages.{IsCarvedTo}
+use Rattle.mk_objects.proofs.Serving.{IsCarvedTo}
 use Rattle.mk_objects.proofs.placing.carve.Given as goal
 
 abbrev pub invariant-loop-distance : goal.invariant-loop-distance

@@ -2,7 +2,7 @@ use Rattle.mk_laws.proofs.Vocabulary.{Object, Step, ap, eqb-false, eqb-true, pha
 use Rattle.mk_objects.proofs.Vocabulary.{Acts, IsEnabledTo, bits_made, now_of, object_for}
 use Rattle.mk_objects.proofs.Serves.{KnowsPlace, knows_place, mark_may, marks_first, marks_none}
 use Rattle.mk_objects.proofs.placing.mark_first.Goals.{After-bits, After-is_in_order, After-mark}
-use Rattle.mk_objects.proofs.UnsweptNews.{first_mark_sweeps}
+use Rattle.mk_objects.proofs.PlacedNews.{first_mark_sweeps}
 use Rattle.mk_turns.proofs.Sweeping.{nothing_sweeps}
 use Rattle.mk_objects.proofs.placing.mark_first.Goals as goal
 

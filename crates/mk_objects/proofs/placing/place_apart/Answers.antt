@@ -1,16 +1,14 @@
 use Rattle.mk_laws.proofs.Vocabulary.{arith, histories_keep_lengths, place_on_pages, ◌∙◌, ◌≡◌}
 use Rattle.mk_objects.proofs.Vocabulary.{PassState, now_of, object_for}
-use Rattle.mk_objects.proofs.placing.place_apart.Goals.{After-seek}
 use Rattle.mk_objects.proofs.JoinedLooks.{granted_behind_looks, looks_nothing}
-use Rattle.mk_objects.proofs.PlacedNews.{fit_found, fit_within, goes_behind, place_found}
-use Rattle.mk_objects.proofs.UnsweptNews.{looks_sweep}
+use Rattle.mk_objects.proofs.PlacedNews.{fit_found, fit_within, goes_behind, looks_sweep, place_found}
+use Rattle.mk_objects.proofs.placing.place_apart.Goals.{After-seek}
 use Rattle.mk_objects.proofs.placing.place_apart.Goals as goal
 
 -- the place that was sought is where it fits
 fit : (c : After-seek)
     → place_on_pages c.args.turn.now.pass.table.config.resident (now_of c.args.turn.now.pass).words.pages
-    (object_for c.args.turn.now.pass)
-    ≡ c.seek.result
+    (object_for c.args.turn.now.pass) ≡ c.seek.result
 fit c = grind (arith, fit_found)
 
 pub page-page-requires : goal.page-page-requires

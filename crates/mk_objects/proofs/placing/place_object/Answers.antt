@@ -1,9 +1,9 @@
 use Rattle.mk_laws.proofs.Vocabulary.{Kind, List, Some, arith, histories_keep_lengths, length, ltb-true, place_on_pages}
-use Rattle.mk_laws.proofs.Vocabulary.{subst, sym, ◌<◌, ◌∙◌, ◌≡◌}
+use Rattle.mk_laws.proofs.Vocabulary.{subst, sym, ◌<◌, ◌≡◌}
 use Rattle.mk_objects.proofs.Vocabulary.{PassState, now_of, object_for}
+use Rattle.mk_objects.proofs.JoinedLooks.{granted_behind_looks, looks_nothing}
 use Rattle.mk_objects.proofs.PlacedNews.{fit_found, fit_within, goes_behind, place_found, shape_asked, type_asked}
 use Rattle.mk_objects.proofs.placing.place_object.Goals.{After-shape_of-shape, In-Some}
-use Rattle.mk_objects.proofs.JoinedLooks.{granted_behind_looks, looks_nothing}
 use Rattle.mk_objects.specs.Shapes.{object_shaped}
 use Rattle.mk_objects.proofs.placing.place_object.Goals as goal
 
@@ -14,8 +14,7 @@ shape_is c = let is = c.requires.requested.op in grind (arith, shape_asked)
 -- the cell that was found is where it fits
 fit : (c : In-Some) → object_shaped c.shape_of-shape.result ≡ object_for c.args.turn.now.pass
     → place_on_pages c.args.turn.now.pass.table.config.resident (now_of c.args.turn.now.pass).words.pages
-    (object_for c.args.turn.now.pass)
-    ≡ Some c.in-Some.place
+    (object_for c.args.turn.now.pass) ≡ Some c.in-Some.place
 fit c is = grind (arith, fit_found)
 
 pub shape_of-shape-requires : goal.shape_of-shape-requires

@@ -5,7 +5,7 @@ use Rattle.mk_objects.proofs.Takes.{HasGranted, HasTaken, counted, counted_held,
 use Rattle.mk_objects.proofs.Takes.{grant_may, grant_on, grant_register, one_bit_more, small_index, tally_may, tally_on}
 use Rattle.mk_objects.proofs.Takes.{used_may, used_on}
 use Rattle.mk_objects.proofs.placing.serve.Goals.{After-grant, After-is_in_order, After-used}
-use Rattle.mk_objects.proofs.UnsweptNews.{serving_sweeps}
+use Rattle.mk_objects.proofs.PlacedNews.{serving_sweeps}
 use Rattle.mk_objects.proofs.placing.serve.Goals as goal
 
 -- what is known of the place

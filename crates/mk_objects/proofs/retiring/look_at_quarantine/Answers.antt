@@ -1,16 +1,16 @@
 use Rattle.mk_laws.proofs.Vocabulary.{Step, Word, refl}
 use Rattle.mk_objects.proofs.Vocabulary.{PassState, call_of}
 use Rattle.mk_objects.proofs.Looks.{acting_caller, acting_now, found_quarantine}
+use Rattle.mk_objects.proofs.FreeSteps.{see_keeps, see_reaches}
 use Rattle.mk_objects.proofs.LoadedFrees.{free_step_admits, loaded_undecided}
 use Rattle.mk_objects.proofs.MayAct.{free_is_acting, may_look_quarantine}
-use Rattle.mk_objects.proofs.SeenDoubles.{see_keeps, see_reaches}
 use Rattle.mk_objects.proofs.retiring.look_at_quarantine.Goals as goal
 
 pub look-requires-clause-enabled : goal.look-requires-clause-enabled
 look-requires-clause-enabled c =
     let p : PassState = c.args.turn.now.pass in
     let free = loaded_undecided c.args.value c.requires.free c.requires.some in
-    may_look_quarantine (acting_now p c.is_in_order.ensures.turn (free_is_acting (call_of p) free))
+    may_look_quarantine (acting_now c.is_in_order.ensures.turn (free_is_acting (call_of p) free))
     c.args.cell.page c.requires.within
 
 pub look-requires-clause-admitted : goal.look-requires-clause-admitted

@@ -9,5 +9,4 @@ wipe_run-requires-clause-stopped c =
     stopped_by c.unmap_run.new.turn.pass (unmapped_held c.unmap_run.ensures c.requires.held)
 
 pub returns : goal.returns
-returns c =
-    clears c.unmap_run.ensures c.wipe_run.ensures c.open_gates.ensures.sets c.open_gates.ensures.gone
+returns c = clears c.unmap_run.ensures c.wipe_run.ensures c.open_gates.ensures.sets c.open_gates.ensures.gone

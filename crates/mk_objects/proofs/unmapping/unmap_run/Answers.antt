@@ -1,14 +1,12 @@
-use Rattle.mk_laws.proofs.Vocabulary.{Step, arith, refl, subst, sym, ◌+◌, ◌∙◌, ◌≡◌}
+use Rattle.mk_laws.proofs.Vocabulary.{Step, arith, subst, sym, ◌+◌, ◌≡◌}
 use Rattle.mk_objects.proofs.Vocabulary.{Acts, IsEnabledTo}
-use Rattle.mk_objects.proofs.UnmappedRuns.{HasUnmapped, unmap_may, unmapped_all, unmapped_none, unmaps_on}
+use Rattle.mk_objects.proofs.WipedRuns.{HasUnmapped, unmap_may, unmapped_all, unmapped_none, unmaps_on}
 use Rattle.mk_objects.proofs.unmapping.unmap_run.Goals as goal
 
 pub loop-distance-init : goal.loop-distance-init
-loop-distance-init c =
-    record {
-      unmapped = unmapped_none c.args.run c.is_in_order.ensures.turn
-          c.requires.decided c.requires.phase c.requires.mapped;
-    }
+loop-distance-init c = record {
+  unmapped = unmapped_none c.args.run c.is_in_order.ensures.turn c.requires.decided c.requires.phase c.requires.mapped;
+}
 
 pub head-requires-clause-enabled : goal.head-requires-clause-enabled
 head-requires-clause-enabled c =

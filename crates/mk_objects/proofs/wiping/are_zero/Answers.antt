@@ -1,8 +1,7 @@
 use Rattle.std.proofs.lemmas.Nat.{le_or_l, le_or_r}
-use Rattle.mk_laws.proofs.Vocabulary.{ℕ, arith, eqb-true, refl, subst, ◌*◌, ◌+◌, ◌∙◌, ◌≡◌}
+use Rattle.mk_laws.proofs.Vocabulary.{ℕ, arith, eqb-true, subst, ◌*◌, ◌+◌, ◌≡◌}
 use Rattle.mk_objects.proofs.Vocabulary.{PassState, WipesTo}
-use Rattle.mk_objects.proofs.WipedRuns.{wiped_from}
-use Rattle.mk_objects.proofs.WipedWords.{found_wiped, look_may, looks_then}
+use Rattle.mk_objects.proofs.WipedRuns.{found_wiped, look_may, looks_then, wiped_from}
 use Rattle.mk_objects.proofs.wiping.are_zero.Goals as goal
 
 pub loop-i-init : goal.loop-i-init

@@ -1,4 +1,4 @@
-use Rattle.mk_laws.proofs.Vocabulary.{arith, refl, ◌∙◌}
+use Rattle.mk_laws.proofs.Vocabulary.{arith}
 use Rattle.mk_objects.proofs.WipedRuns.{still_may, wiped_all, wiped_from, wiped_now, wipes_named, wipes_then}
 use Rattle.mk_objects.proofs.wiping.wipe_run.Goals.{Start}
 use Rattle.mk_objects.specs.Unmapping.{MayWipe}
@@ -8,9 +8,7 @@ may : (c : Start) → MayWipe c.args.turn.now.pass c.args.run
 may c = grind arith
 
 pub loop-part-init : goal.loop-part-init
-loop-part-init c = record {
-  wiped = wiped_from c.args.turn.now.pass (λ i lt. absurd (omega arith));
-}
+loop-part-init c = record { wiped = wiped_from c.args.turn.now.pass (λ i lt. absurd (omega arith)) }
 
 pub wipe_page-requires-clause-may : goal.wipe_page-requires-clause-may
 wipe_page-requires-clause-may c = grind (arith, still_may, may)

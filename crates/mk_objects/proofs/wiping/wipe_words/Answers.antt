@@ -1,14 +1,11 @@
-use Rattle.mk_laws.proofs.Vocabulary.{ap, arith, refl, subst, sym, ◌*◌, ◌+◌, ◌<◌, ◌∙◌}
+use Rattle.mk_laws.proofs.Vocabulary.{arith, subst, sym, ◌*◌, ◌+◌, ◌<◌}
 use Rattle.mk_objects.proofs.Vocabulary.{PassState, TurnState, WipesTo}
-use Rattle.mk_objects.proofs.WipedWords.{found_wiped, look_may, looks_then, wipe_may, wipes_on}
+use Rattle.mk_objects.proofs.WipedRuns.{found_wiped, look_may, looks_then, wipe_may, wiped_from, wipes_on}
 use Rattle.mk_objects.proofs.wiping.wipe_words.Goals.{else-found-ne0, then-found-ne0}
-use Rattle.mk_objects.proofs.WipedRuns.{wiped_from}
 use Rattle.mk_objects.proofs.wiping.wipe_words.Goals as goal
 
 pub loop-word-init : goal.loop-word-init
-loop-word-init c = record {
-  wiped = wiped_from c.args.turn.now.pass c.requires.wiped;
-}
+loop-word-init c = record { wiped = wiped_from c.args.turn.now.pass c.requires.wiped }
 
 pub look_on_page-found-requires-clause-enabled : goal.look_on_page-found-requires-clause-enabled
 look_on_page-found-requires-clause-enabled c = grind (arith, look_may)

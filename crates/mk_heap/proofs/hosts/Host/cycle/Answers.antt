@@ -2,14 +2,11 @@ use Rattle.mk_laws.proofs.Vocabulary.{None, Step, arith, refl, subst, sym, ◌�
 use Rattle.mk_cycle.proofs.Allowed.{in_turn}
 use Rattle.mk_cycle.specs.Begun.{EachIsBegun}
 use Rattle.mk_cycle.specs.EngineLaw.{IsAtPhase}
-use Rattle.mk_heap.proofs.BeforeOver.{hosts_seat, none_by_phase, step_overs}
-use Rattle.mk_heap.proofs.HostsKept.{home_is, home_view, is_home}
+use Rattle.mk_heap.proofs.HomeCallers.{hosts_seat, none_by_phase, step_overs}
 use Rattle.mk_heap.proofs.MovedHosts.{MovesOn, begin_moves, finish_moves, idle_moves, moved_is_host, moves_more}
-use Rattle.mk_heap.proofs.Overs.{give_allowed, idle_may_give}
-use Rattle.mk_heap.proofs.BegunHosts.{cycle_begun}
-use Rattle.mk_heap.proofs.IdleTurns.{cycle_idle}
-use Rattle.mk_heap.proofs.Telling.{given_no_turn, given_phase}
-use Rattle.mk_heap.proofs.UnsweptHosts.{idle_then_sweeps}
+use Rattle.mk_heap.proofs.Overs.{cycle_idle, give_allowed, given_no_turn, given_phase, idle_may_give}
+use Rattle.mk_heap.proofs.BegunHosts.{cycle_begun, idle_then_sweeps}
+use Rattle.mk_heap.proofs.HostsKept.{home_is, home_view, is_home}
 use Rattle.mk_heap.proofs.hosts.Host.cycle.Goals.{After-finish_cycle-turn}
 use Rattle.mk_heap.specs.Hosts.{HostState}
 use Rattle.mk_turns.proofs.Sweeping.{other_step_sweeps, sweeps_then}
@@ -30,10 +27,9 @@ ended g c =
 
 pub invariant_of-self : goal.invariant_of-self
 invariant_of-self g c =
-    moved_is_host _ _ (home_is c.take_home-home.ensures c.self.invariant)
-    (moves_more _ _ _ _ (ended g (goal.at.invariant_of-self g c).After-finish_cycle-turn)
-    c.give-back.ensures.acts.makes)
-    c.give-back.ensures.acts.makes.pass.history (given_no_turn _ _ c.give-back.ensures.acts)
+    moved_is_host (home_is c.take_home-home.ensures c.self.invariant) (moves_more _ _ _ _
+    (ended g (goal.at.invariant_of-self g c).After-finish_cycle-turn) c.give-back.ensures.acts.makes)
+    c.give-back.ensures.acts.makes.pass.history (given_no_turn c.give-back.ensures.acts)
 
 pub returns-clause-own : goal.returns-clause-own
 returns-clause-own g c = grind (arith, hosts_seat, home_is, moves_more, ended)
@@ -64,10 +60,9 @@ pub returns-clause-overs : goal.returns-clause-overs
 returns-clause-overs g c =
     let r : PassState = c.finish_cycle-turn.result.0.pass in
     let none : IsAtPhase r 0 = c.finish_cycle-turn.ensures.law.phase in
-    step_overs r c.give-back.result Step.Give c.give-back.ensures.acts.makes (hosts_seat (home_is
-    c.take_home-home.ensures c.self.invariant) c.is_in_order.ensures.own (ended g (goal.at.returns-clause-overs g
-    c).After-finish_cycle-turn)) refl ∙ none_by_phase _ _ c.is_in_order-2.ensures.history (λ (five : IsAtPhase r 5).
-    absurd (omega arith)) ∙ sym c.requires.before_over
+    step_overs c.give-back.ensures.acts.makes (hosts_seat (home_is c.take_home-home.ensures c.self.invariant)
+    c.is_in_order.ensures.own (ended g (goal.at.returns-clause-overs g c).After-finish_cycle-turn)) refl ∙ none_by_phase
+    c.is_in_order-2.ensures.history (λ (five : IsAtPhase r 5). absurd (omega arith)) ∙ sym c.requires.before_over
 
 pub returns-clause-reached : goal.returns-clause-reached
 returns-clause-reached g c =
@@ -76,20 +71,16 @@ returns-clause-reached g c =
     let b : PassState = c.begin_cycle.new.turn.pass in
     let r : PassState = c.finish_cycle-turn.result.0.pass in
     let q : PassState = c.give-back.result in
-    λ none.
-    subst (λ (h : HostState). SweepsNothing h.pass q) view
-    (idle_then_sweeps c.take_home-home.result p q c.take_idle_turn-turn.ensures.takes
-    (c.take_idle_turn-turn.ensures.reached none)
-    (sweeps_then p b q c.begin_cycle.ensures.law.pass (c.begin_cycle.ensures.reached none)
-    (sweeps_then b r q c.finish_cycle-turn.ensures.law.pass (c.finish_cycle-turn.ensures.reached none)
-    (other_step_sweeps r q _ c.give-back.ensures.acts.makes refl))))
+    λ none. subst (λ (h : HostState). SweepsNothing h.pass q) view (idle_then_sweeps c.take_idle_turn-turn.ensures.takes
+    (c.take_idle_turn-turn.ensures.reached none) (sweeps_then p b q c.begin_cycle.ensures.law.pass
+    (c.begin_cycle.ensures.reached none) (sweeps_then b r q c.finish_cycle-turn.ensures.law.pass
+    (c.finish_cycle-turn.ensures.reached none) (other_step_sweeps r q _ c.give-back.ensures.acts.makes refl))))
 
 pub returns-clause-begun : goal.returns-clause-begun
 returns-clause-begun g c =
     let view = home_view c.take_home-home.ensures c.self.view_is in
     let q : PassState = c.give-back.result in
     subst (λ (h : HostState). EachIsBegun g.E.Engine.begins h.pass q) view (cycle_begun g.E.Engine.begins
-    c.take_home-home.result c.take_idle_turn-turn.result.pass _ c.finish_cycle-turn.result.0.pass q
     c.is_in_order.ensures.own c.take_idle_turn-turn.ensures.takes c.begin_cycle.ensures.law c.begin_cycle.ensures.begun
     c.finish_cycle-turn.ensures.law c.give-back.ensures.acts.makes)
 

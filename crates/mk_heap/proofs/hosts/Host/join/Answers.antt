@@ -1,7 +1,7 @@
 use Rattle.mk_laws.proofs.Vocabulary.{ap, subst, sym, ◌∙◌}
 use Rattle.mk_heap.proofs.HostsKept.{home_is, home_view, is_home, joined_is_host}
-use Rattle.mk_heap.proofs.BeforeOver.{joined_overs}
-use Rattle.mk_heap.proofs.UnsweptHosts.{grown_sweeps}
+use Rattle.mk_heap.proofs.BegunHosts.{grown_sweeps}
+use Rattle.mk_heap.proofs.HomeCallers.{joined_overs}
 use Rattle.mk_heap.specs.Hosts.{HostState}
 use Rattle.mk_turns.specs.Sweeping.{SweepsNothing}
 use Rattle.mk_words.specs.Seats.{has_over}
@@ -22,8 +22,7 @@ returns-clause-overs c =
 
 pub returns-clause-reached : goal.returns-clause-reached
 returns-clause-reached c =
-    subst (λ (h : HostState). SweepsNothing h.pass c.join.new.into)
-    (home_view c.take_home-home.ensures c.self.view_is)
+    subst (λ (h : HostState). SweepsNothing h.pass c.join.new.into) (home_view c.take_home-home.ensures c.self.view_is)
     (grown_sweeps c.take_home-home.result c.join.new.into c.is_in_order.ensures.own c.join.ensures.own)
 
 pub take_home-home-requires : goal.take_home-home-requires

@@ -1,4 +1,4 @@
-use Rattle.mk_heap.proofs.MarkersKept.{out_is_done}
+use Rattle.mk_heap.proofs.HostsKept.{out_is_done}
 use Rattle.mk_heap.proofs.hosts.Host.join_marker.Goals as goal
 
 pub join-requires-clause-done : goal.join-requires-clause-done

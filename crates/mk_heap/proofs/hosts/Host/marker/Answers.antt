@@ -1,6 +1,6 @@
 use Rattle.mk_laws.proofs.Vocabulary.{subst, sym}
-use Rattle.mk_heap.proofs.HostsKept.{home_host, home_is, home_view, is_home, marker_made_is_host, still_host}
-use Rattle.mk_heap.proofs.MarkersKept.{few_markers, next_is_markers, next_is_out}
+use Rattle.mk_heap.proofs.HostsKept.{few_markers, home_host, home_is, home_view, is_home, marker_made_is_host}
+use Rattle.mk_heap.proofs.HostsKept.{next_is_markers, next_is_out, still_host}
 use Rattle.mk_marker.specs.Markers.{IsMarkers}
 use Rattle.mk_words.specs.States.{PassState}
 use Rattle.mk_heap.proofs.hosts.Host.marker.Goals as goal

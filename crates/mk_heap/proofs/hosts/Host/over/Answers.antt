@@ -1,13 +1,11 @@
 use Rattle.mk_laws.proofs.Vocabulary.{refl, subst, sym}
 use Rattle.mk_cycle.proofs.Allowed.{in_turn, in_turn_after}
 use Rattle.mk_cycle.specs.EngineLaw.{IsAtPhase}
-use Rattle.mk_heap.proofs.MovedHosts.{idle_moves, moved_is_host, moves_more}
-use Rattle.mk_heap.proofs.HomeCallers.{callers_home}
 use Rattle.mk_heap.proofs.HostsKept.{home_is, home_view, is_home}
-use Rattle.mk_heap.proofs.IdleTurns.{tidy_kept}
-use Rattle.mk_heap.proofs.Overs.{give_allowed, over_keeps, over_may_give}
-use Rattle.mk_heap.proofs.Telling.{given_no_turn}
-use Rattle.mk_heap.proofs.UnsweptHosts.{given_sweeps, idle_then_sweeps}
+use Rattle.mk_heap.proofs.MovedHosts.{idle_moves, moved_is_host, moves_more}
+use Rattle.mk_heap.proofs.Overs.{give_allowed, given_no_turn, over_keeps, over_may_give, tidy_kept}
+use Rattle.mk_heap.proofs.BegunHosts.{given_sweeps, idle_then_sweeps}
+use Rattle.mk_heap.proofs.HomeCallers.{callers_home}
 use Rattle.mk_heap.specs.Ending.{CallersAreJoined, SaysOver}
 use Rattle.mk_heap.specs.Hosts.{HostState}
 use Rattle.mk_turns.specs.Sweeping.{SweepsNothing}
@@ -21,7 +19,7 @@ give-back-requires-clause-enabled g c =
     let q : PassState = c.over.new.self.pass in
     let t = in_turn p o.own o.turn o.history in
     let u = in_turn_after c.over.ensures refl in
-    give_allowed q u (over_may_give p q t c.take_idle_turn-turn.ensures.idle u c.over.ensures)
+    give_allowed u (over_may_give t c.take_idle_turn-turn.ensures.idle u c.over.ensures)
 
 pub give-back-requires-clause-tidy : goal.give-back-requires-clause-tidy
 give-back-requires-clause-tidy g c =
@@ -31,20 +29,18 @@ give-back-requires-clause-tidy g c =
     let idle = c.take_idle_turn-turn.ensures.idle in
     let t = in_turn p o.own o.turn o.history in
     let u = in_turn_after c.over.ensures refl in
-    tidy_kept p q (over_keeps p q t idle u c.over.ensures) idle.tidy
+    tidy_kept (over_keeps p q t idle u c.over.ensures) idle.tidy
 
 pub invariant_of-self : goal.invariant_of-self
 invariant_of-self g c =
     let said = moves_more _ _ _ _ (idle_moves _ _ c.take_idle_turn-turn.ensures.takes) c.over.ensures.makes in
-    moved_is_host _ _ (home_is c.take_home-home.ensures c.self.invariant)
-    (moves_more _ _ _ _ said c.give-back.ensures.acts.makes)
-    c.give-back.ensures.acts.makes.pass.history (given_no_turn _ _ c.give-back.ensures.acts)
+    moved_is_host (home_is c.take_home-home.ensures c.self.invariant) (moves_more _ _ _ _ said
+    c.give-back.ensures.acts.makes) c.give-back.ensures.acts.makes.pass.history (given_no_turn c.give-back.ensures.acts)
 
 pub returns-clause-engine : goal.returns-clause-engine
 returns-clause-engine g c none =
     let view = home_view c.take_home-home.ensures c.self.view_is in
-    c.take_idle_turn-turn.ensures.engine
-    (callers_home _ (home_is c.take_home-home.ensures c.self.invariant)
+    c.take_idle_turn-turn.ensures.engine (callers_home (home_is c.take_home-home.ensures c.self.invariant)
     (subst (λ (h : HostState). CallersAreJoined h) (sym view) c.requires.joined))
     (subst (λ (h : HostState). IsAtPhase h.pass 0) (sym view) none)
 
@@ -69,11 +65,9 @@ returns-clause-reached g c =
     let p : PassState = c.take_idle_turn-turn.result.pass in
     let q : PassState = c.over.new.self.pass in
     let r : PassState = c.give-back.result in
-    λ none.
-    subst (λ (h : HostState). SweepsNothing h.pass r) view
-    (idle_then_sweeps c.take_home-home.result p r c.take_idle_turn-turn.ensures.takes
-    (c.take_idle_turn-turn.ensures.reached none)
-    (given_sweeps p q r _ c.over.ensures.makes c.give-back.ensures.acts.makes refl))
+    λ none. subst (λ (h : HostState). SweepsNothing h.pass r) view
+    (idle_then_sweeps c.take_idle_turn-turn.ensures.takes (c.take_idle_turn-turn.ensures.reached none)
+    (given_sweeps c.over.ensures.makes c.give-back.ensures.acts.makes refl))
 
 pub take_home-home-requires : goal.take_home-home-requires
 take_home-home-requires g c = is_home _ _ _ c.self.invariant

@@ -1,11 +1,10 @@
 use Rattle.mk_laws.proofs.Vocabulary.{Host, Seat, ap, refl, subst, ◌∙◌, ◌≡◌}
 use Rattle.mk_cycle.proofs.Allowed.{in_turn, in_turn_after}
-use Rattle.mk_heap.proofs.BeforeOver.{hosts_seat, step_overs, taken_overs}
-use Rattle.mk_heap.proofs.Telling.{given_no_turn, look_admitted, look_tidy, looked_may_give}
+use Rattle.mk_heap.proofs.HomeCallers.{hosts_seat, step_overs, taken_overs}
 use Rattle.mk_heap.proofs.HostsKept.{home_is, home_view, is_home}
+use Rattle.mk_heap.proofs.Overs.{give_allowed, given_no_turn, look_admitted, look_tidy, looked_may_give}
+use Rattle.mk_heap.proofs.BegunHosts.{given_sweeps, taken_then_sweeps}
 use Rattle.mk_heap.proofs.MovedHosts.{moved_is_host, moves_more, turn_moves}
-use Rattle.mk_heap.proofs.Overs.{give_allowed}
-use Rattle.mk_heap.proofs.UnsweptHosts.{given_sweeps, taken_then_sweeps}
 use Rattle.mk_heap.proofs.hosts.Host.tell.Goals.{After-take_turn-turn}
 use Rattle.mk_heap.specs.Hosts.{HostState}
 use Rattle.mk_turns.specs.Sweeping.{SweepsNothing}
@@ -20,8 +19,7 @@ host g c =
     ∙ (home_is c.take_home-home.ensures c.self.invariant).seat
 
 pub look-found-requires-clause-admitted : goal.look-found-requires-clause-admitted
-look-found-requires-clause-admitted g c = λ decides.
-    look_admitted c.take_turn-turn.result.pass c.args.x
+look-found-requires-clause-admitted g c = λ decides. look_admitted c.take_turn-turn.result.pass c.args.x
     (host g (goal.at.look-found-requires-clause-admitted g c).After-take_turn-turn) c.is_in_order-2.ensures.history
 
 pub give-back-requires-clause-enabled : goal.give-back-requires-clause-enabled
@@ -29,22 +27,20 @@ give-back-requires-clause-enabled g c =
     let p : PassState = c.take_turn-turn.result.pass in
     let q : PassState = c.look-found.new.self.pass in
     let o = c.is_in_order-2.ensures in
-    give_allowed q (in_turn_after c.look-found.ensures.acts refl)
-    (looked_may_give p q c.args.x (host g (goal.at.give-back-requires-clause-enabled g c).After-take_turn-turn)
-    (in_turn p o.own o.turn o.history)
+    give_allowed (in_turn_after c.look-found.ensures.acts refl) (looked_may_give
+    (host g (goal.at.give-back-requires-clause-enabled g c).After-take_turn-turn) (in_turn p o.own o.turn o.history)
     c.take_turn-turn.ensures.fresh c.look-found.ensures.acts c.take_turn-turn.ensures.exact)
 
 pub give-back-requires-clause-tidy : goal.give-back-requires-clause-tidy
 give-back-requires-clause-tidy g c =
-    look_tidy _ _ c.args.x c.look-found.ensures.acts
+    look_tidy c.look-found.ensures.acts
     (host g (goal.at.give-back-requires-clause-tidy g c).After-take_turn-turn) c.take_turn-turn.ensures.tidy
 
 pub invariant_of-self : goal.invariant_of-self
 invariant_of-self g c =
     let looked = moves_more _ _ _ _ (turn_moves _ _ c.take_turn-turn.ensures.takes) c.look-found.ensures.acts.makes in
-    moved_is_host _ _ (home_is c.take_home-home.ensures c.self.invariant)
-    (moves_more _ _ _ _ looked c.give-back.ensures.acts.makes)
-    c.give-back.ensures.acts.makes.pass.history (given_no_turn _ _ c.give-back.ensures.acts)
+    moved_is_host (home_is c.take_home-home.ensures c.self.invariant) (moves_more _ _ _ _ looked
+    c.give-back.ensures.acts.makes) c.give-back.ensures.acts.makes.pass.history (given_no_turn c.give-back.ensures.acts)
 
 pub returns-clause-overs : goal.returns-clause-overs
 returns-clause-overs g c =
@@ -52,9 +48,8 @@ returns-clause-overs g c =
     let own = c.is_in_order.ensures.own in
     let taken = turn_moves _ _ c.take_turn-turn.ensures.takes in
     let looked = moves_more _ _ _ _ taken c.look-found.ensures.acts.makes in
-    step_overs _ _ _ c.give-back.ensures.acts.makes (hosts_seat is own looked) refl
-    ∙ step_overs _ _ _ c.look-found.ensures.acts.makes (hosts_seat is own taken) refl
-    ∙ taken_overs c.take_home-home.result _ c.take_turn-turn.ensures.takes
+    step_overs c.give-back.ensures.acts.makes (hosts_seat is own looked) refl ∙ step_overs
+    c.look-found.ensures.acts.makes (hosts_seat is own taken) refl ∙ taken_overs c.take_turn-turn.ensures.takes
     (subst (λ (x : Seat). Has c.take_home-home.result.seats x) is.seat own) c.is_in_order-2.ensures.history
     ∙ ap (λ (g : HostState). has_over g.pass.seen) (home_view c.take_home-home.ensures c.self.view_is)
 
@@ -64,9 +59,8 @@ returns-clause-reached g c =
     let p : PassState = c.take_turn-turn.result.pass in
     let q : PassState = c.look-found.new.self.pass in
     let r : PassState = c.give-back.result in
-    subst (λ (h : HostState). SweepsNothing h.pass r) view
-    (taken_then_sweeps c.take_home-home.result p r c.is_in_order.ensures.own c.take_turn-turn.ensures.takes
-    (given_sweeps p q r _ c.look-found.ensures.acts.makes c.give-back.ensures.acts.makes refl))
+    subst (λ (h : HostState). SweepsNothing h.pass r) view (taken_then_sweeps c.is_in_order.ensures.own
+    c.take_turn-turn.ensures.takes (given_sweeps c.look-found.ensures.acts.makes c.give-back.ensures.acts.makes refl))
 
 pub take_home-home-requires : goal.take_home-home-requires
 take_home-home-requires g c = is_home _ _ _ c.self.invariant
