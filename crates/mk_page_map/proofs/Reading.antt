@@ -6,7 +6,7 @@ use Rattle.mk_page_map.proofs.Vocabulary.{length, length-map, page_at, refl, sub
 use Rattle.mk_page_map.proofs.Vocabulary.{◌<◌, ◌∙◌, ◌≡◌, ◌≤◌}
 use Rattle.mk_page_map.proofs.NextPages.{first_is_next, same_next}
 use Rattle.mk_page_map.proofs.Showing.{known_by, member_at}
-use Rattle.mk_page_map.specs.KnownPages.{is_quarantined}
+use Rattle.mk_page_map.specs.KnownPages.{is_quarantined_page}
 
 -- a look at the sets of a map, and at how many pages it has
 pub record Reads (known : KnownPages) (held : List Page) (sets slice : List ℕ) (resident count : ℕ) : Type 0 where
@@ -44,12 +44,12 @@ next_of_sorted {held} set from next reads is_set found =
     next reads is_set (λ number. refl) found)
 
 quarantined_at : (held : List Page) (sets : List ℕ) (number : ℕ) → number < length held
-    → is_quarantined (known_by held sets) number ≡ is_member sets 18 number
+    → is_quarantined_page (known_by held sets) number ≡ is_member sets 18 number
 quarantined_at held sets number within = member_at sets 18 (length held) number within
 
 pub next_of_quarantined : {known : KnownPages} {held : List Page} {sets slice : List ℕ} {resident count : ℕ}
     (from : ℕ) (next : Option ℕ) → Reads known held sets slice resident count
-    → IsNext (is_member slice 18) from count next → IsNext (is_quarantined known) from (length known.pages) next
+    → IsNext (is_member slice 18) from count next → IsNext (is_quarantined_page known) from (length known.pages) next
 next_of_quarantined from next reads found = grind (arith, same_next, known_by, quarantined_at)
 
 -- the first page of a set, among those that the map shows

@@ -218,20 +218,22 @@ pub turn_that : {held : Bool} {p : PassState} {map same : KnownPages} → same �
 turn_that {held} {p} is turn = subst (λ (m : KnownPages). IsTurnWithMap held p m) (sym is) turn
 
 -- A step leaves the turn, where its map shows what is left then, and the gates are as known.
-pub turn_with_map : {held : Bool} {p : PassState} {s : Step} {q : PassState} {old new : KnownPages}
-    → Acts p s q → turn_stays s ≡ true → GatesAre held (record { pass = q }) → IsMapOf new (now_of q).words
-    → IsTurnWithMap held p old → IsTurnWithMap held q new
-turn_with_map a stays gates shows turn =
-    record { turn = still_turn _ _ _ a.makes stays turn.turn; shows = shows; gates = gates }
+pub turn_goes_on : {held : Bool} {p : PassState} {s : Step} {q : PassState} {old new : KnownPages}
+    → turn_stays s ≡ true → (held ≡ true → gates_stay s ≡ true) → Makes p s q → IsTurnWithMap held p old
+    → (Acts p s q → IsMapOf new (now_of q).words) → IsTurnWithMap held q new
+turn_goes_on {held} {p} {s} {q} stays gates makes turn shows =
+    let a = acts p s q makes turn.turn.holds in
+    record {
+      turn = still_turn _ _ _ makes stays turn.turn;
+      shows = shows a;
+      gates = gates_still held (record { pass = p }) s (record { pass = q }) a gates turn.gates;
+    }
 
 -- A step of which the map is told, and which leaves the gates.
 pub told_turn : {held : Bool} {p : PassState} {s : Step} {q : PassState} {old new : KnownPages}
     → gates_stay s ≡ true → Makes p s q → IsTurnWithMap held p old → (Acts p s q → IsMapOf new (now_of q).words)
     → IsTurnWithMap held q new
-told_turn {held} {p} {s} {q} stays makes turn shows =
-    let a = acts p s q makes turn.turn.holds in
-    turn_with_map a (turn_stays_too s stays)
-    (gates_still held (record { pass = p }) s (record { pass = q }) a stays turn.gates) (shows a) turn
+told_turn {s = s} stays makes turn shows = turn_goes_on (turn_stays_too s stays) (λ held. stays) makes turn shows
 
 -- What was done in a turn, by another name of it.
 pub acted : {held : Bool} {t v : TurnState} {s : Step} {q : PassState} {map : KnownPages} → t ≡ v

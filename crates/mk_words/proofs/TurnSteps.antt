@@ -117,8 +117,8 @@ still_stopped p s q a stays all =
 
 -- So what is known of the gates stays known.
 pub gates_still : (held : Bool) (t : TurnState) (s : Step) (u : TurnState) → Acts t.pass s u.pass
-    → gates_stay s ≡ true → GatesAre held t → GatesAre held u
-gates_still true t s u a stays all = still_stopped t.pass s u.pass a stays all
+    → (held ≡ true → gates_stay s ≡ true) → GatesAre held t → GatesAre held u
+gates_still true t s u a stays all = still_stopped t.pass s u.pass a (stays refl) all
 gates_still false t s u a stays any = any
 
 pub turn_stays_too : (s : Step) → gates_stay s ≡ true → turn_stays s ≡ true
@@ -127,44 +127,39 @@ turn_stays_too (Step.Open j) h = cc
 turn_stays_too s h = h
 
 -- `hold` finds the gate open, or its caller in a call
-pub hold_finds : (p : PassState) (j n : ℕ) (q : PassState) → Tells p (Step.Hold j) n q → n ≢ 0 → n ≡ 1
-hold_finds p j n q t some =
-    let d = made p (Step.Hold j) q t.makes in
-    let lt : j < p.table.config.callers = grind (arith, ltb-true, and_parts) in
-    let least = d.protocol.gate j lt in
-    let two : slice_index (moment_of t.makes).words.gates j ≢ 2 = grind (arith, eqb-false, not-true) in
-    let is : n ≡ slice_index (moment_of t.makes).words.gates j = t.tells in
-    omega arith
+module _ (p : PassState) (j n : ℕ) (q : PassState) (t : Tells p (Step.Hold j) n q) where
+  abbrev gs : List ℕ
+  gs = (moment_of t.makes).words.gates
 
-pub hold_holds : (p : PassState) (j n : ℕ) (q : PassState) → Tells p (Step.Hold j) n q → n ≡ 0
-    → is_held (now_of q).words j ≡ true
-hold_holds p j n q t none =
-    let d = made p (Step.Hold j) q t.makes in
-    let c : Config = p.table.config in
-    let lt : j < c.callers = grind (arith, ltb-true, and_parts) in
-    let long = (histories_keep_lengths c (p.seen ++ t.makes.others)).gates in
-    let few = d.known.small in
-    let gs : List ℕ = (moment_of t.makes).words.gates in
-    ap (λ (w : World). is_held w.now.words j) d.world
-    ∙ eq-eqb (slice_index (slice_set gs j (if slice_index gs j == 0 then 2 else slice_index gs j)) j) 2
-    (get_or-set_same gs j (if slice_index gs j == 0 then 2 else slice_index gs j) 0 (omega arith)
-    ∙ ap (λ (b : Bool). if b then 2 else slice_index gs j) (eq-eqb (slice_index gs j) 0 (sym t.tells ∙ none)))
+  h : Made p (Step.Hold j) q t.makes
+  h = made p (Step.Hold j) q t.makes
 
-pub hold_misses : (p : PassState) (j n : ℕ) (q : PassState) → Tells p (Step.Hold j) n q → n ≢ 0
-    → is_held (now_of q).words j ≡ false
-hold_misses p j n q t some =
-    let d = made p (Step.Hold j) q t.makes in
-    let c : Config = p.table.config in
-    let lt : j < c.callers = grind (arith, ltb-true, and_parts) in
-    let long = (histories_keep_lengths c (p.seen ++ t.makes.others)).gates in
-    let few = d.known.small in
-    let gs : List ℕ = (moment_of t.makes).words.gates in
-    let least = d.protocol.gate j lt in
-    let two : slice_index gs j ≢ 2 = eqb-false (slice_index gs j) 2 (not-true (slice_index gs j == 2) d.meets.gates) in
-    let zero_not : slice_index gs j ≢ 0 = λ z. some (t.tells ∙ z) in
-    ap (λ (w : World). is_held w.now.words j) d.world ∙ ap (λ (x : ℕ). x == 2)
-    (get_or-set_same gs j (if slice_index gs j == 0 then 2 else slice_index gs j) 0 (omega arith)
-    ∙ ap (λ (b : Bool). if b then 2 else slice_index gs j) (ne_eqb (slice_index gs j) 0 zero_not)) ∙ ne_eqb _ 2 two
+  caller_is : j < p.table.config.callers
+  caller_is = grind (arith, ltb-true, and_parts, h)
+
+  not_two : slice_index gs j ≢ 2
+  not_two = eqb-false (slice_index gs j) 2 (not-true (slice_index gs j == 2) h.meets.gates)
+
+  gate_then : slice_index (now_of q).words.gates j ≡ (if slice_index gs j == 0 then 2 else slice_index gs j)
+  gate_then =
+      let long = (histories_keep_lengths p.table.config (p.seen ++ t.makes.others)).gates in
+      let few = h.known.small in
+      ap (λ (w : World). slice_index w.now.words.gates j) h.world
+      ∙ get_or-set_same gs j _ 0 (omega (arith, caller_is))
+
+  pub hold_finds : n ≢ 0 → n ≡ 1
+  hold_finds some =
+      let least = h.protocol.gate j caller_is in let is : n ≡ slice_index gs j = t.tells in omega (arith, not_two)
+
+  pub hold_holds : n ≡ 0 → is_held (now_of q).words j ≡ true
+  hold_holds none =
+      eq-eqb _ 2
+      (gate_then ∙ ap (λ (b : Bool). if b then 2 else slice_index gs j) (eq-eqb (slice_index gs j) 0 (sym t.tells ∙ none)))
+
+  pub hold_misses : n ≢ 0 → is_held (now_of q).words j ≡ false
+  hold_misses some =
+      ne_eqb _ 2 (λ two. not_two (sym (gate_then ∙ ap (λ (b : Bool). if b then 2 else slice_index gs j)
+      (ne_eqb (slice_index gs j) 0 (λ z. some (t.tells ∙ z)))) ∙ two))
 
 -- `take`
 

@@ -11,7 +11,7 @@ marker_behind-self-inside-requires-clause-own c =
     let same = ap (λ (r : PassState). r.table.config) c.self.view_is
     ∙ ap (λ (w : WordsState). w.config) (c.requires.one_table ∙ sym c.words.view_is) in
     let met = own_met p.own c.args.step
-    (subst (λ (r : PassState). IsEnabledTo r c.args.step) (sym c.self.view_is) c.requires.may.enabled) in
+    (subst (λ (r : PassState). IsEnabledTo r c.args.step) (sym c.self.view_is) c.requires.may.may.enabled) in
     subst (λ (d : Config). marker_may d p.marker c.args.step ≡ true) same
     (subst (λ (x : MarkerState). marker_may p.own.table.config x c.args.step ≡ true) (sym c.self.invariant) met)
 
