@@ -1,6 +1,5 @@
 -- The sets and the count stay fit for the pages where a page changes.
-use Rattle.std.proofs.lemmas.List.{get_or-map, map-set}
-use Rattle.std.proofs.lemmas.List.Sums.{sum_by-set}
+use Rattle.std.proofs.{lemmas.List.get_or-map, lemmas.List.map-set, lemmas.List.Sums.sum_by-set}
 use Rattle.mk_page_map.proofs.Vocabulary.{AreSets, FitPages, IsInItsSets, List, Nothing, OthersStay, Page, PageUse, ℕ}
 use Rattle.mk_page_map.proofs.Vocabulary.{ap, arith, cases_eq, cond, free_page, get_or, get_or-set_other}
 use Rattle.mk_page_map.proofs.Vocabulary.{get_or-set_same, inl, inr, is_member, is_resident_page, length, length-map}

@@ -2,23 +2,17 @@
 use Rattle.std.proofs.Common.{◌/◌}
 use Rattle.mk_page_map.proofs.Vocabulary.{AreSets, Bool, List, OthersStay, ℕ, ap, arith, bit_at, cases_eq, false}
 use Rattle.mk_page_map.proofs.Vocabulary.{get_or, get_or-set_other, get_or-set_same, inl, inr, is_member, length-set}
-use Rattle.mk_page_map.proofs.Vocabulary.{nat_eq, not, refl, set, sym, true, ◌%◌, ◌*◌, ◌+◌, ◌<◌, ◌∙◌, ◌≡◌}
+use Rattle.mk_page_map.proofs.Vocabulary.{nat_eq, not, set, sym, true, ◌%◌, ◌*◌, ◌+◌, ◌<◌, ◌∙◌, ◌≡◌}
 use Rattle.mk_page_map.specs.PageSets.{OtherWordsStay, summary_of, word_in_set}
 use mathlib.Core.Bool.{beq}
 
 -- two Booleans that don't differ
 pub same : (a b : Bool) → not (beq a b) ≡ false → a ≡ b
-same true true h = refl
-same true false h = cc
-same false true h = cc
-same false false h = refl
+same a b h = grind arith
 
 -- and of two that differ one is the other turned
 pub turned : (a b : Bool) → not (beq a b) ≡ true → not a ≡ b
-turned true true h = cc
-turned true false h = refl
-turned false true h = refl
-turned false false h = cc
+turned a b h = grind arith
 
 abbrev pub after_store : List ℕ → ℕ → ℕ → ℕ → ℕ → List ℕ
 after_store sets s word bits summary = set (set sets (65 * s + 1 + word) bits) (65 * s) summary

@@ -1,7 +1,5 @@
 use Rattle.mk_page_map.proofs.Vocabulary.{IsNext, List, Page, length, refl, subst}
-use Rattle.mk_page_map.proofs.NextPages.{same_next}
-use Rattle.mk_page_map.specs.KnownPages.{is_quarantined_page}
-use Rattle.mk_page_map.specs.Members.{has_freed_cells}
+use Rattle.mk_page_map.{proofs.NextPages.same_next, specs.KnownPages.is_quarantined_page, specs.Members.has_freed_cells}
 use Rattle.mk_page_map.proofs.page_map.PageMap.next_quarantined.Goals as goal
 
 pub returns : goal.returns

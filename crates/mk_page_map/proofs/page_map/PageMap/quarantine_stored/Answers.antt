@@ -2,10 +2,7 @@ use Rattle.mk_page_map.proofs.Vocabulary.{FitPages, KnownPages, List, OthersStay
 use Rattle.mk_page_map.proofs.Vocabulary.{length, set, subst, sym, take, ◌++◌, ◌<◌, ◌∙◌, ◌≡◌}
 use Rattle.mk_page_map.proofs.Showing.{known_by, quarantine_shows}
 use Rattle.mk_page_map.proofs.page_map.PageMap.quarantine_stored.Goals.{After-sort_by_quarantine}
-use Rattle.mk_page_map.proofs.Fitting.{fit_again}
-use Rattle.mk_page_map.proofs.FreeSets.{written}
-use Rattle.mk_page_map.proofs.Storing.{page_within}
-use Rattle.mk_page_map.proofs.Uncleaned.{all_kept}
+use Rattle.mk_page_map.proofs.{Fitting.fit_again, FreeSets.written, Storing.page_within, Uncleaned.all_kept}
 use Rattle.mk_page_map.proofs.page_map.PageMap.quarantine_stored.Goals as goal
 
 within : (c : After-sort_by_quarantine) → c.args.page < length c.self.inside.pages.items
