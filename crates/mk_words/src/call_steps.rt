@@ -12,7 +12,6 @@ ghost use Rattle.mk_words.specs.CallSteps.{register_of, LeavesRegisters, KeepsOt
 ghost use Rattle.mk_core.specs.declared.events.Answer.TheVariants as answer;
 ghost use Rattle.mk_core.specs.declared.events.Step.TheVariants as step;
 
-use crate::indexes::page_of;
 use crate::passes::Pass;
 use crate::words::Words;
 use mk_core::{Access, Step, TableWord, Word};
@@ -35,7 +34,7 @@ impl Pass {
         ensures registers { LeavesRegisters self.old self.new }
     {
         let gate = TableWord::Named(Word::Gate(caller));
-        let found = self.own.perform(
+        let found = self.perform(
             words,
             Step::Enter(op),
             gate,
@@ -53,7 +52,7 @@ impl Pass {
         ensures registers { LeavesRegisters self.old self.new }
     {
         let gate = TableWord::Named(Word::Gate(caller));
-        self.own.perform(words, Step::Leave, gate, Access::Store(0));
+        self.perform(words, Step::Leave, gate, Access::Store(0));
     }
 
     /// Loads a register of its own, which is as the pass knows it.
@@ -74,7 +73,7 @@ impl Pass {
             caller,
             register: r as u64,
         });
-        self.own.perform(words, Step::Reg, register, Access::Load)
+        self.perform(words, Step::Reg, register, Access::Load)
     }
 
     /// Stores to a register of its own.
@@ -93,7 +92,7 @@ impl Pass {
             caller,
             register: r as u64,
         });
-        self.own.perform(words, Step::Reg, register, Access::Store(v));
+        self.perform(words, Step::Reg, register, Access::Store(v));
     }
 
     /// Loads the header of the page of the word that the call accesses.
@@ -107,7 +106,7 @@ impl Pass {
         ensures registers { LeavesRegisters self.old self.new }
     {
         let header = TableWord::Named(Word::Head(page));
-        self.own.perform(words, Step::Probe, header, Access::Load)
+        self.perform(words, Step::Probe, header, Access::Load)
     }
 
     /// Loads the word that the call accesses.
@@ -123,8 +122,7 @@ impl Pass {
         ensures registers { LeavesRegisters self.old self.new }
     {
         let heap = TableWord::Named(Word::Heap(word));
-        self.own
-            .perform_near(words, pages, page_of(heap), Step::Read, heap, Access::Load)
+        self.perform_among(words, pages, Step::Read, heap, Access::Load)
     }
 
     /// Stores to the word that the call accesses.
@@ -139,8 +137,7 @@ impl Pass {
         ensures registers { LeavesRegisters self.old self.new }
     {
         let heap = TableWord::Named(Word::Heap(word));
-        self.own
-            .perform_near(words, pages, page_of(heap), Step::Write, heap, Access::Store(v));
+        self.perform_among(words, pages, Step::Write, heap, Access::Store(v));
     }
 
     /// Stores to the word that the call accesses where it finds the expected value, and returns whether it did.
@@ -156,10 +153,9 @@ impl Pass {
         ensures registers { LeavesRegisters self.old self.new }
     {
         let heap = TableWord::Named(Word::Heap(word));
-        let found = self.own.perform_near(
+        let found = self.perform_among(
             words,
             pages,
-            page_of(heap),
             Step::Cas,
             heap,
             Access::Exchange { old: expected, new },
@@ -178,7 +174,7 @@ impl Pass {
         ensures registers { LeavesRegisters self.old self.new }
     {
         let global = TableWord::Named(Word::Global(g as u64));
-        self.own.perform(words, Step::Getg, global, Access::Load)
+        self.perform(words, Step::Getg, global, Access::Load)
     }
 
     /// Stores to the global of the call.
@@ -192,7 +188,7 @@ impl Pass {
         ensures registers { LeavesRegisters self.old self.new }
     {
         let global = TableWord::Named(Word::Global(g as u64));
-        self.own.perform(words, Step::Setg, global, Access::Store(v));
+        self.perform(words, Step::Setg, global, Access::Store(v));
     }
 
     /// Marks the page of the word that the call wrote.
@@ -205,7 +201,6 @@ impl Pass {
         ensures registers { LeavesRegisters self.old self.new }
     {
         let dirty = TableWord::Named(Word::Dirty(page));
-        self.own
-            .perform_near(words, pages, page, Step::Dirty, dirty, Access::Store(1));
+        self.perform_among(words, pages, Step::Dirty, dirty, Access::Store(1));
     }
 }

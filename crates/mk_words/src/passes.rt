@@ -1,10 +1,13 @@
 //! Passes: who has one may make the steps of its seat.
 ghost use Rattle.std.specs.Prelude.{◌≡◌, true, false};
 ghost use Rattle.mk_core.specs.{Accesses.caller_number, History.IsHistory, Counts.IsTidy};
-ghost use Rattle.mk_words.specs.{Seats.{CallersAreBeforeOver, Has, is_caller}};
+ghost use Rattle.mk_words.specs.{Seats.{CallersAreBeforeOver, Has, is_caller}, PageMaps.is_handing};
+ghost use Rattle.mk_words.specs.{Steps.{MayPerform, Tells}};
 
+use crate::indexes::page_of;
 use crate::tokens::SeatToken;
-use mk_core::Seat;
+use crate::words::Words;
+use mk_core::{Access, Seat, Step, TableWord};
 use std::marker::Model;
 
 /// The right to make the steps of one seat, of no use for another table than its own. It knows a list of the events
@@ -48,5 +51,36 @@ impl Pass {
         ensures { result ≡ caller_number self.now.seat }
     {
         self.own.caller()
+    }
+
+    /// Takes a step of any kind but the two that hand over the turn, in a table of this many pages.
+    #[inline(always)]
+    pub(crate) fn perform_among(
+        &mut self,
+        words: &Words,
+        pages: u64,
+        step: Step,
+        word: TableWord,
+        by: Access,
+    ) -> u64
+        requires one_table { self.old.table ≡ words.now }
+        requires pages { pages ≡ words.now.config.pages }
+        requires hands_none { is_handing step ≡ false }
+        requires may { MayPerform self.old step word by }
+        ensures told { Tells self.old step result self.new }
+    {
+        let page = page_of(word);
+        self.own.perform_near(words, pages, page, step, word, by)
+    }
+
+    /// Takes a step of any kind but the two that hand over the turn.
+    #[inline(always)]
+    pub(crate) fn perform(&mut self, words: &Words, step: Step, word: TableWord, by: Access) -> u64
+        requires one_table { self.old.table ≡ words.now }
+        requires hands_none { is_handing step ≡ false }
+        requires may { MayPerform self.old step word by }
+        ensures told { Tells self.old step result self.new }
+    {
+        self.own.perform(words, step, word, by)
     }
 }

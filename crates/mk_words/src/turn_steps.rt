@@ -53,14 +53,8 @@ impl<G: Gates> TurnAt<G> {
         ensures acts { Acts self.old.pass (step.Look x) self.new.pass }
         ensures finds { Finds self.old.pass (step.Look x) result self.new.pass }
     {
-        self.perform_near(
-            words,
-            pages,
-            page,
-            Step::Look(x),
-            TableWord::Named(x),
-            Access::Load,
-        )
+        let at = TableWord::Named(x);
+        self.perform_near(words, pages, page, Step::Look(x), at, Access::Load)
     }
 
     /// Stores a page's header.

@@ -1,5 +1,5 @@
 //! The turn, which one seat has at a time.
-ghost use Rattle.std.specs.Prelude.{◌≡◌, ◌+◌, IfOk, IfErr, true, false};
+ghost use Rattle.std.specs.Prelude.{◌≡◌, ◌+◌, IfOk, IfErr};
 ghost use Rattle.mk_core.specs.{Calls.at_rest};
 ghost use Rattle.mk_core.specs.{Counts.{TalliesAreExact, TalliesAreTidy, IsTidy}, History.IsHistory};
 ghost use Rattle.mk_words.specs.{Indexes.IsOnPage, Seats.{CallersAreBeforeOver, Has}, States.call_of};

@@ -4,8 +4,7 @@ use Rattle.mk_laws.proofs.Vocabulary.{comes_next, flight_of, group_of, has_gates
 use Rattle.mk_laws.proofs.Vocabulary.{is_open_to, lt-ltb, marker_at, marker_may, phase_of, refl, seat_exists, sym, true}
 use Rattle.mk_laws.proofs.Vocabulary.{◌<◌, ◌∙◌, ◌≡◌}
 use Rattle.mk_core.proofs.Conditions.{meets_enabled}
-use Rattle.mk_words.specs.States.{PassState, call_of, event_of, now_of}
-use Rattle.mk_words.specs.Steps.{IsEnabledTo}
+use Rattle.mk_words.specs.{States.PassState, States.call_of, States.event_of, States.now_of, Steps.IsEnabledTo}
 
 -- a caller's kinds ask nothing of gates, phase and marks
 

@@ -5,9 +5,9 @@ use Rattle.mk_words.proofs.passes.Pass.read.Goals as goal
 
 pub returns-clause-goes : goal.returns-clause-goes
 returns-clause-goes c =
-    let told = c.perform_near.ensures.told in
+    let told = c.perform_among.ensures.told in
     goes_on told refl _ (ap (λ (i : ℕ). progress_read (call_of c.args.self.now) (call_of c.args.self.now).op i)
     (sym told.tells))
 
 pub returns-clause-registers : goal.returns-clause-registers
-returns-clause-registers c = keeps c.perform_near.ensures.told refl refl
+returns-clause-registers c = keeps c.perform_among.ensures.told refl refl

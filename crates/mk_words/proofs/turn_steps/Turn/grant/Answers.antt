@@ -1,4 +1,4 @@
-use Rattle.mk_laws.proofs.Vocabulary.{Step, Store, ℕ, ap, subst, sym}
+use Rattle.mk_laws.proofs.Vocabulary.{Step, Store, ℕ, ap, arith, subst, sym}
 use Rattle.mk_words.proofs.CallSteps.{grants_to}
 use Rattle.mk_words.specs.States.{TurnState}
 use Rattle.mk_words.specs.Steps.{IsEnabledTo}
@@ -9,5 +9,9 @@ caller-requires c =
     grants_to c.self.inside.pass
     (subst (λ (t : TurnState). IsEnabledTo t.pass Step.Grant) (sym c.self.view_is) c.requires.enabled)
 
-pub perform-requires-clause-access : goal.perform-requires-clause-access
-perform-requires-clause-access c = ap (λ (n : ℕ). Store n) c.requires.address
+pub perform-requires-clause-may : goal.perform-requires-clause-may
+perform-requires-clause-may c = record {
+  may = grind arith;
+  reaches = grind arith;
+  does = ap (λ (n : ℕ). Store n) c.requires.address;
+}
