@@ -1,7 +1,8 @@
 -- What a caller's call needs at each of its steps.
 use Rattle.mk_laws.proofs.Vocabulary.{Answer, Caller, Config, Event, Flight, Group, IsAdmitted, IsHistory, List, None}
 use Rattle.mk_laws.proofs.Vocabulary.{Op, Progress, Step, ℕ, ap, append-nil, append_assoc, at_rest, begun}
-use Rattle.mk_laws.proofs.Vocabulary.{caller_number, comes_next, flagged, group_of, is_in_range, never_behind, subst}
+use Rattle.mk_laws.proofs.Vocabulary.{caller_number, comes_next, flagged, group_of, is_in_range, never_behind, refl}
+use Rattle.mk_laws.proofs.Vocabulary.{subst}
 use Rattle.mk_laws.proofs.Vocabulary.{sym, true, [], ◌++◌, ◌<◌, ◌∙◌, ◌∷◌, ◌≡◌}
 use Rattle.mk_words.specs.Steps.{Goes, IsAdmittedTo, IsEnabledTo, Makes}
 use Rattle.mk_words.specs.States.{PassState, WordsState, event_of}
@@ -51,21 +52,12 @@ goes_on p q s x o f g i goes is = record {
 
 pub enters : (p q : PassState) (o : Op) → IsCallers p → StaysAdmitted p o
     → Goes p (Step.Enter o) (record { flight = begun o; answer = None }) q → IsMidCall q o (begun o)
-enters p q o i stays goes = record {
-  number = i.number;
-  seat = ap (λ (r : PassState). r.seat) goes.makes.is ∙ i.seat;
-  within = subst (λ (t : WordsState). i.number < t.config.callers)
-      (sym (ap (λ (r : PassState). r.table) goes.makes.is)) i.within;
-  call = goes.call;
-  admitted = stays_on p q (Step.Enter o) o goes.makes stays;
-}
+enters p q o i stays goes =
+    goes_on p q (Step.Enter o) _ o at_rest (begun o)
+    (record { number = i.number; seat = i.seat; within = i.within; call = i.rests; admitted = stays }) goes refl
 
 pub ends : (p q : PassState) (o : Op) (f : Flight) → IsMidCall p o f
     → Goes p Step.Leave (record { flight = at_rest; answer = None }) q → IsCallers q
-ends p q o f i goes = record {
-  number = i.number;
-  seat = ap (λ (r : PassState). r.seat) goes.makes.is ∙ i.seat;
-  within = subst (λ (t : WordsState). i.number < t.config.callers)
-      (sym (ap (λ (r : PassState). r.table) goes.makes.is)) i.within;
-  rests = goes.call;
-}
+ends p q o f i goes =
+    let at = goes_on p q Step.Leave _ o f at_rest i goes refl in
+    record { number = at.number; seat = at.seat; within = at.within; rests = at.call }

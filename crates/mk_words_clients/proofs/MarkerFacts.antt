@@ -14,33 +14,15 @@ use Rattle.mk_words_clients.specs.Clients.{IsAttending, IsOutside}
 markers_gates : (c : Config) (w : Words) (seat : Seat) (f : Flight) (s : Step) → group_of s ≡ Group.Markers
     → has_gates c w seat f s ≡ true
 markers_gates c w seat f Step.Attend h = refl
-markers_gates c w seat f Step.Quit h = refl
-markers_gates c w seat f (Step.Mlook x) h = refl
-markers_gates c w seat f (Step.Claim p k) h = refl
-markers_gates c w seat f Step.Mload h = refl
-markers_gates c w seat f Step.Mmark h = refl
-markers_gates c w seat f Step.Mblack h = refl
 markers_gates c w seat f _ h = cc
 
 markers_phase : (n : ℕ) (s : Step) → group_of s ≡ Group.Markers → has_phase n s ≡ true
 markers_phase n Step.Attend h = refl
-markers_phase n Step.Quit h = refl
-markers_phase n (Step.Mlook x) h = refl
-markers_phase n (Step.Claim p k) h = refl
-markers_phase n Step.Mload h = refl
-markers_phase n Step.Mmark h = refl
-markers_phase n Step.Mblack h = refl
 markers_phase n _ h = cc
 
 markers_holder : (c : Config) (m : Moment) (f : Flight) (s : Step) → group_of s ≡ Group.Markers
     → holder_may c m f s ≡ true
 markers_holder c m f Step.Attend h = refl
-markers_holder c m f Step.Quit h = refl
-markers_holder c m f (Step.Mlook x) h = refl
-markers_holder c m f (Step.Claim p k) h = refl
-markers_holder c m f Step.Mload h = refl
-markers_holder c m f Step.Mmark h = refl
-markers_holder c m f Step.Mblack h = refl
 markers_holder c m f _ h = cc
 
 -- A marker's step is enabled, where its operands are in range and the marker may make it.

@@ -34,23 +34,15 @@ leaves_steady (Step.Black p v) = true
 leaves_steady (Step.Unblack p) = true
 leaves_steady _ = false
 
-left_alone : (c : Config) (w : World) (seat : Seat) (s : Step) → leaves_steady s ≡ true
-    → (steady_of (world_behind c w (record { seat = seat; step = s })) ≡ steady_of w)
-    × ((world_behind c w (record { seat = seat; step = s })).now.seats.holding.freed ≡ w.now.seats.holding.freed)
-left_alone c w seat (Step.Look x) h = (refl, refl)
-left_alone c w seat (Step.Hold j) h = (refl, refl)
-left_alone c w seat (Step.Open j) h = (refl, refl)
-left_alone c w seat (Step.Clear p) h = (refl, refl)
-left_alone c w seat (Step.Mark p v) h = (refl, refl)
-left_alone c w seat (Step.Wipe n) h = (refl, refl)
-left_alone c w seat (Step.Undirty p) h = (refl, refl)
-left_alone c w seat (Step.Black p v) h = (refl, refl)
-left_alone c w seat (Step.Unblack p) h = (refl, refl)
-left_alone c w seat _ h = absurd (true≢false (sym h))
-
 steady_behind : (c : Config) (w : World) (seat : Seat) (s : Step) → leaves_steady s ≡ true
     → steady_of (world_behind c w (record { seat = seat; step = s })) ≡ steady_of w
-steady_behind c w seat s h = (left_alone c w seat s h).0
+steady_behind c w seat (Step.Look x) h = refl
+steady_behind c w seat _ h = cc
+
+freed_behind : (c : Config) (w : World) (seat : Seat) (s : Step) → leaves_steady s ≡ true
+    → (world_behind c w (record { seat = seat; step = s })).now.seats.holding.freed ≡ w.now.seats.holding.freed
+freed_behind c w seat (Step.Look x) h = refl
+freed_behind c w seat _ h = cc
 
 pub steady_kept : (p q : PassState) (s : Step) → Acts p s q → leaves_steady s ≡ true
     → steady_of (world_of q) ≡ steady_of (world_of p)
@@ -60,7 +52,7 @@ pub freed_kept : (p q : PassState) (s : Step) → Acts p s q → leaves_steady s
     → (now_of q).seats.holding.freed ≡ (now_of p).seats.holding.freed
 freed_kept p q s a h =
     ap (λ (w : World). w.now.seats.holding.freed) a.world
-    ∙ (left_alone p.table.config (world_at a.makes) p.seat s h).1
+    ∙ freed_behind p.table.config (world_at a.makes) p.seat s h
     ∙ ap (λ (x : Holding). x.freed) a.holding
 
 pub settled_kept : (p q : PassState) (s : Step) → Acts p s q → leaves_steady s ≡ true → Settled p → Settled q
