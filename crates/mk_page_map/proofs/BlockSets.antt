@@ -90,8 +90,7 @@ same_elsewhere : (set class : ℕ) (leaf : Bool) (earlier used : ℕ) → set < 
     → is_of_set set (use_of_kind (Block class leaf) earlier) ≡ is_of_set set (use_of_kind (Block class leaf) used)
 same_elsewhere set class leaf earlier used is_set other = each_set (λ s. (s ≡ class_place class leaf → ⊥)
     → is_of_set s (use_of_kind (Block class leaf) earlier) ≡ is_of_set s (use_of_kind (Block class leaf) used))
-    (λ s block differ.
-    of_other_set s class leaf (bits_of (cells_of class) earlier) block differ
+    (λ s block differ. of_other_set s class leaf (bits_of (cells_of class) earlier) block differ
     ∙ sym (of_other_set s class leaf (bits_of (cells_of class) used) block differ))
     (λ _. refl) (λ _. refl) set is_set other
 

@@ -59,31 +59,30 @@ summary_stays sets s word bits = get_or-set_other sets (65 * s + 1 + word) (65 *
 
 pub stored_are_sets : {sets : List ℕ} {s word bits summary : ℕ} → StoresWord sets s word bits summary
     → AreSets (after_store sets s word bits summary)
-stored_are_sets {sets} {s} {word} {bits} {summary} stores =
-    record {
-      long = length-set (set sets (65 * s + 1 + word) bits) (65 * s) summary ∙ length-set sets (65 * s + 1 + word) bits
-          ∙ stores.are_sets.long;
-      summaries = λ other w is_set within. elim (cases_eq other s) [
-        | inl same ↦ elim (cases_eq w word) [
-          | inl here ↦ ap (λ t. nat_eq (bit_at (summary_of (after_store sets s word bits summary) t) w) 1) same
-              ∙ ap (λ n. nat_eq (bit_at n w) 1) (stored_summary stores) ∙ ap (λ k. nat_eq (bit_at summary k) 1) here
-              ∙ stores.mark ∙ sym (ap (λ t. not (nat_eq (word_in_set (after_store sets s word bits summary) t w) 0))
-              same ∙ ap (λ k. not (nat_eq (word_in_set (after_store sets s word bits summary) s k) 0)) here
-              ∙ ap (λ n. not (nat_eq n 0)) (stored_word stores))
-          | inr there ↦ ap (λ t. nat_eq (bit_at (summary_of (after_store sets s word bits summary) t) w) 1) same
-              ∙ ap (λ n. nat_eq (bit_at n w) 1) (stored_summary stores)
-              ∙ ap (λ b. nat_eq b 1) (stores.other_marks w within there)
-              ∙ stores.are_sets.summaries s w stores.is_set within
-              ∙ sym (ap (λ t. not (nat_eq (word_in_set (after_store sets s word bits summary) t w) 0)) same
-              ∙ ap (λ n. not (nat_eq n 0)) (other_word sets s word bits summary stores.is_word s w within
-              (λ _ here. there here)))
-        ]
-        | inr differ ↦ ap (λ n. nat_eq (bit_at n w) 1) (other_summary sets s word bits summary other stores.is_word
-            differ) ∙ stores.are_sets.summaries other w is_set within
-            ∙ sym (ap (λ n. not (nat_eq n 0)) (other_word sets s word bits summary stores.is_word other w within
-            (λ same _. differ same)))
-      ];
-    }
+stored_are_sets {sets} {s} {word} {bits} {summary} stores = record {
+  long = length-set (set sets (65 * s + 1 + word) bits) (65 * s) summary ∙ length-set sets (65 * s + 1 + word) bits
+      ∙ stores.are_sets.long;
+  summaries = λ other w is_set within. elim (cases_eq other s) [
+    | inl same ↦ elim (cases_eq w word) [
+      | inl here ↦ ap (λ t. nat_eq (bit_at (summary_of (after_store sets s word bits summary) t) w) 1) same
+          ∙ ap (λ n. nat_eq (bit_at n w) 1) (stored_summary stores) ∙ ap (λ k. nat_eq (bit_at summary k) 1) here
+          ∙ stores.mark ∙ sym (ap (λ t. not (nat_eq (word_in_set (after_store sets s word bits summary) t w) 0))
+          same ∙ ap (λ k. not (nat_eq (word_in_set (after_store sets s word bits summary) s k) 0)) here
+          ∙ ap (λ n. not (nat_eq n 0)) (stored_word stores))
+      | inr there ↦ ap (λ t. nat_eq (bit_at (summary_of (after_store sets s word bits summary) t) w) 1) same
+          ∙ ap (λ n. nat_eq (bit_at n w) 1) (stored_summary stores)
+          ∙ ap (λ b. nat_eq b 1) (stores.other_marks w within there)
+          ∙ stores.are_sets.summaries s w stores.is_set within
+          ∙ sym (ap (λ t. not (nat_eq (word_in_set (after_store sets s word bits summary) t w) 0)) same
+          ∙ ap (λ n. not (nat_eq n 0)) (other_word sets s word bits summary stores.is_word s w within
+          (λ _ here. there here)))
+    ]
+    | inr differ ↦ ap (λ n. nat_eq (bit_at n w) 1) (other_summary sets s word bits summary other stores.is_word
+        differ) ∙ stores.are_sets.summaries other w is_set within
+        ∙ sym (ap (λ n. not (nat_eq n 0)) (other_word sets s word bits summary stores.is_word other w within
+        (λ same _. differ same)))
+  ];
+}
 
 -- a page is put, by its word
 

@@ -7,11 +7,7 @@ use Rattle.mk_page_map.specs.{Members.has_freed_cells, PageSets.members}
 
 abbrev pub known_by : List Page → List ℕ → KnownPages
 known_by pages sets =
-    record {
-      pages = pages;
-      quarantined = members sets 18 (length pages);
-      uncleaned = members sets 19 (length pages);
-    }
+    record { pages = pages; quarantined = members sets 18 (length pages); uncleaned = members sets 19 (length pages) }
 
 pub member_at : (sets : List ℕ) (s count number : ℕ) → number < count
     → get_or (members sets s count) number false ≡ is_member sets s number

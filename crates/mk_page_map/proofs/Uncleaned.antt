@@ -43,13 +43,12 @@ pub record ChangesUncleaned (held : List Page) (sets slice after : List ℕ) (re
 same_sets : {held : List Page} {sets slice after : List ℕ} {resident page : ℕ}
     → ChangesUncleaned held sets slice after resident page
     → (s number : ℕ) → s < 19 → number < length held → is_member after s number ≡ is_member sets s number
-same_sets {sets} {after} {page} r s number is_set within =
-    elim (cases_eq number page) [
-      | inl same ↦ ap (is_member after s) same ∙ r.other_sets s (omega arith) (λ e. absurd (omega arith))
-          ∙ ap (λ xs. is_member xs s page) r.is_slice ∙ ap (is_member sets s) (sym same)
-      | inr differ ↦ r.others s number (omega arith) (omega (arith, r.fit.few)) differ
-          ∙ ap (λ xs. is_member xs s number) r.is_slice
-    ]
+same_sets {sets} {after} {page} r s number is_set within = elim (cases_eq number page) [
+  | inl same ↦ ap (is_member after s) same ∙ r.other_sets s (omega arith) (λ e. absurd (omega arith))
+      ∙ ap (λ xs. is_member xs s page) r.is_slice ∙ ap (is_member sets s) (sym same)
+  | inr differ ↦ r.others s number (omega arith) (omega (arith, r.fit.few)) differ
+      ∙ ap (λ xs. is_member xs s number) r.is_slice
+]
 
 pub still_fits : {held : List Page} {sets slice after : List ℕ} (vec : List ℕ) {resident page : ℕ}
     → ChangesUncleaned held sets slice after resident page → vec ≡ after → FitPages held vec resident

@@ -26,8 +26,7 @@ own_in_parts c s w (e ∷ es) ys =
 
 pub done_in_parts : (p : PassState) (xs ys : List Event)
     → done_in p (xs ++ ys) ≡ done_in p xs ++ done_in (record p { seen = p.seen ++ xs }) ys
-done_in_parts p xs ys =
-    own_in_parts p.table.config p.seat _ xs ys ∙ rw (left_in_parts p.table.config p.seen xs)
+done_in_parts p xs ys = own_in_parts p.table.config p.seat _ xs ys ∙ rw (left_in_parts p.table.config p.seen xs)
 
 pub of_kinds_in_parts : (kinds : Step → Bool) (xs ys : List Finding)
     → are_of kinds xs ≡ true → are_of kinds ys ≡ true → are_of kinds (xs ++ ys) ≡ true
@@ -62,8 +61,7 @@ not_own seats s t has out =
 
 -- events of others are none of a seat's own
 pub none_own : (c : Config) (seats : List Seat) (s : Seat) (w : World) (xs : List Event) → Has seats s
-    → AreOfOthers seats xs
-    → own_from c s w xs ≡ []
+    → AreOfOthers seats xs → own_from c s w xs ≡ []
 unfolding own_from AreOfOthers
 none_own c seats s w [] has others = refl
 none_own c seats s w (e ∷ es) has others =

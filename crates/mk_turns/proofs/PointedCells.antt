@@ -16,14 +16,12 @@ pub found_there : (p q : PassState) (x : Word) (n : ℕ) → Finds p (Step.Look 
 found_there p q x n f =
     ap (λ (r : PassState). named_word (now_of r).words x) f.makes.is
     ∙ ap (λ (w : World). named_word w.now.words x) (left_more p.table.config (first_world p.table.config)
-    (p.seen ++ f.makes.others) (event_of p (Step.Look x)))
-    ∙ sym f.finds
+    (p.seen ++ f.makes.others) (event_of p (Step.Look x))) ∙ sym f.finds
 
 -- A look at a header gives no hand.
 pub header_hand : (p q : PassState) (page : ℕ) → Acts p (Step.Look (Word.Head page)) q
     → (now_of q).seats.holding.hand ≡ (now_of p).seats.holding.hand
-header_hand p q page a =
-    ap (λ (w : World). w.now.seats.holding.hand) a.world ∙ ap (λ (h : Holding). h.hand) a.holding
+header_hand p q page a = ap (λ (w : World). w.now.seats.holding.hand) a.world ∙ ap (λ (h : Holding). h.hand) a.holding
 
 -- what lies outside the heap points into nothing
 pub outside_none : (pages : ℕ) (ps : List Page) (u : ℕ) → is_heap_address pages u ≡ false

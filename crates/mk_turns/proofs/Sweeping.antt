@@ -72,8 +72,7 @@ pub sweeps_then : NothingIsSweptInTurn
 sweeps_then p q r same one two =
     let c : Config = p.table.config in
     let there : world_of q ≡ left_from c (left c p.seen) one.more =
-    rw same (rw one.is (left_in_parts c p.seen one.more))
-    in
+    rw same (rw one.is (left_in_parts c p.seen one.more)) in
     record {
       more = one.more ++ two.more;
       is = two.is ∙ rw one.is (append_assoc p.seen one.more two.more);
@@ -108,12 +107,10 @@ pub only_seen_by : (p q : PassState) (s : Step) → Makes p s q → q ≡ record
 only_seen_by p q s m = cc
 
 -- a step that isn't a mark, before others
-pub other_step_sweeps : (p q : PassState) (s : Step) → Makes p s q → is_mark s ≡ false
-    → SweepsNothing p q
+pub other_step_sweeps : (p q : PassState) (s : Step) → Makes p s q → is_mark s ≡ false → SweepsNothing p q
 other_step_sweeps p q s m other =
     step_sweeps p q s m (other_steps_sweep p.table.config (moment_of m) (flight_of (moment_of m) p.seat) s other)
 
 pub step_then_sweeps : (p q r : PassState) (s : Step) → Makes p s q → is_mark s ≡ false
     → SweepsNothing q r → SweepsNothing p r
-step_then_sweeps p q r s m other rest =
-    sweeps_then p q r (only_seen_by p q s m) (other_step_sweeps p q s m other) rest
+step_then_sweeps p q r s m other rest = sweeps_then p q r (only_seen_by p q s m) (other_step_sweeps p q s m other) rest

@@ -2,21 +2,15 @@
 use Rattle.mk_laws.proofs.Vocabulary.{Config, Event, Holds, IsHistory, IsTidy, List, Op, Option, Seat, Step, Store, ℕ}
 use Rattle.mk_laws.proofs.Vocabulary.{access, ap, holder_number, left, refl, subst, sym, [], ◌+◌, ◌<◌, ◌∙◌, ◌∷◌, ◌≡◌}
 use Rattle.mk_page_map.specs.KnownPages.{KnownPages}
-use Rattle.mk_core.specs.Layout.{count_of_words, index_of}
-use Rattle.mk_core.specs.Words.{becomes}
-use Rattle.mk_core.specs.declared.accesses.Access.TheVariants.{Exchange}
-use Rattle.mk_core.specs.declared.accesses.TableWord.TheVariants.{Turn}
-use Rattle.atomic_table.specs.Seated.{TableId}
-use Rattle.atomic_table.specs.Table.{Allows, rest}
+use Rattle.mk_core.specs.{Layout.count_of_words, Layout.index_of, Words.becomes}
+use Rattle.mk_core.specs.{declared.accesses.Access.TheVariants.Exchange, declared.accesses.TableWord.TheVariants.Turn}
+use Rattle.atomic_table.specs.{Seated.TableId, Table.Allows, Table.rest}
 use Rattle.mk_words.proofs.Owed.{history_more, in_order_still, made_of, owed_call, perform_learns}
 use Rattle.mk_words.proofs.HandedMaps.{give_event, gives_at, take_event, takes_at}
 use Rattle.mk_words.specs.Rule.{Kept, Mine, gives_map, no_part, no_step, takes_map}
 use Rattle.mk_words.specs.States.{PassState, WordsState, event_of, now_of}
-use Rattle.mk_words.specs.PageMaps.{IsMapOf}
-use Rattle.mk_words.specs.Passes.{IsInOrder, state_of}
-use Rattle.mk_words.specs.Seats.{CallersAreBeforeOver, Has}
-use Rattle.mk_words.specs.Steps.{Makes, May, Tells}
-use Rattle.mk_words.specs.declared.rule.View.{View}
+use Rattle.mk_words.specs.{PageMaps.IsMapOf, Passes.IsInOrder, Passes.state_of, Seats.CallersAreBeforeOver, Seats.Has}
+use Rattle.mk_words.specs.{Steps.Makes, Steps.May, Steps.Tells, declared.rule.View.View}
 
 module _ (w : WordsState) (tid pid : TableId) (config key : Config) (me : Mine) (seat : Seat)
     (w_is : made_of tid config ≡ w) (one_table : (state_of pid me seat).table ≡ w) where
@@ -24,10 +18,8 @@ module _ (w : WordsState) (tid pid : TableId) (config key : Config) (me : Mine) 
   p = state_of pid me seat
 
   pub take_call : (words slots id : ℕ) (o : Option Op) (i number : ℕ) (picked : Event) → IsInOrder me seat → key
-      ≡ config
-      → words ≡ count_of_words config.pages → picked ≡ take_event seat o → May p (Step.Take o)
-      → Exchange 0 number ≡ access p.table.config (now_of p) (take_event seat o)
-      → i ≡ index_of config.pages Turn
+      ≡ config → words ≡ count_of_words config.pages → picked ≡ take_event seat o → May p (Step.Take o)
+      → Exchange 0 number ≡ access p.table.config (now_of p) (take_event seat o) → i ≡ index_of config.pages Turn
       → (i < words)
       × Allows (Kept key) slots id me i (becomes (Exchange 0 number)) (λ n m. takes_map picked no_step me n m)
   take_call words slots id o i number picked order key_is words_are picked_is may a_is i_is =
@@ -98,8 +90,7 @@ order_of_view me n seat same order = record {
   own = subst (λ (v : View). Has v.own.seats seat) (sym same) order.own;
   history = subst (λ (v : View). IsHistory v.config v.own.seen) (sym same) order.history;
   tidy = subst (λ (v : View). IsTidy v.config v.own.seen) (sym same) order.tidy;
-  before_over = subst (λ (v : View). CallersAreBeforeOver v.config v.own.seats v.own.seen) (sym same)
-      order.before_over;
+  before_over = subst (λ (v : View). CallersAreBeforeOver v.config v.own.seats v.own.seen) (sym same) order.before_over;
 }
 
 -- the slot that a token took, with a map

@@ -1,33 +1,26 @@
 -- What the calls owe the table for a step, a split, a join and the end, and what they learn.
 use Rattle.std.proofs.Common.{replicate}
 use Rattle.mk_laws.proofs.Vocabulary.{Access, Caller, Config, Event, Host, IsHistory, IsTidy, IsWithinLimits, List}
-use Rattle.mk_laws.proofs.Vocabulary.{Seat, Step, ℕ, access, ap, arith, false, refl, subst, sym, true, word_accessed, []}
-use Rattle.mk_laws.proofs.Vocabulary.{◌++◌, ◌<◌, ◌∙◌, ◌∷◌, ◌≡◌}
-use Rattle.mk_laws.proofs.Reaching.{events_reach_the_table}
+use Rattle.mk_laws.proofs.Vocabulary.{Seat, Step, ℕ, access, ap, arith, false, refl, subst, sym, true, word_accessed}
+use Rattle.mk_laws.proofs.Vocabulary.{[], ◌++◌, ◌<◌, ◌∙◌, ◌∷◌, ◌≡◌}
 use Rattle.mk_page_map.specs.KnownPages.{KnownPages}
-use Rattle.mk_core.proofs.Histories.{enabled_more}
-use Rattle.mk_core.proofs.LayoutLemmas.{indexes_within}
-use Rattle.mk_core.proofs.RegionLemmas.{first_are_zero}
+use Rattle.mk_core.proofs.{Histories.enabled_more, LayoutLemmas.indexes_within, RegionLemmas.first_are_zero}
 use Rattle.mk_core.specs.Layout.{IsOfTable, count_of_words, index_of}
-use Rattle.mk_core.specs.Growing.{Grows, is_same_seat}
-use Rattle.mk_core.specs.History.{AreEnabledFrom, calls_from}
-use Rattle.mk_core.specs.Words.{becomes, zero_words_of}
-use Rattle.mk_core.specs.declared.accesses.TableWord.{TableWord}
+use Rattle.mk_core.specs.{Growing.Grows, Growing.is_same_seat, History.AreEnabledFrom, History.calls_from}
+use Rattle.mk_core.specs.{Words.becomes, Words.zero_words_of, declared.accesses.TableWord.TableWord}
+use Rattle.mk_laws.proofs.Reaching.{events_reach_the_table}
 use Rattle.atomic_table.specs.Table.{Allows, Final, Joins, Seen, Splits, opening}
 use Rattle.atomic_table.specs.Seated.{TableId}
 use Rattle.mk_words.proofs.Cuts.{hands_over, joins, remembers, splits}
 use Rattle.mk_words.proofs.Keeps.{Ended, access_there, closes, opens, performs_at, place_there, settles_at}
 use Rattle.mk_words.proofs.Seats.{has_all, has_first, has_left, only_one, without_keeps, without_less}
-use Rattle.mk_words.proofs.Tidy.{none_tidy}
-use Rattle.mk_words.proofs.Undecided.{undecided_admitted}
-use Rattle.mk_words.specs.PageMaps.{IsMapOf, is_handing}
+use Rattle.mk_words.proofs.{Tidy.none_tidy, Undecided.undecided_admitted}
 use Rattle.mk_words.specs.Rule.{Adds, Kept, Mine, adds, beside, copy_of, first_view, goes_with, no_step, nobody}
 use Rattle.mk_words.specs.Rule.{settles, stays_with, stores_word, told_by}
 use Rattle.mk_words.specs.Seats.{CallersAreBeforeOver, Has, HasAll, has_over, is_caller}
 use Rattle.mk_words.specs.States.{PassState, WordsState, event_of, now_of}
-use Rattle.mk_words.specs.Passes.{IsInOrder, state_of}
-use Rattle.mk_words.specs.Steps.{May, MayPerform, Tells}
-use Rattle.mk_words.specs.declared.rule.View.{View}
+use Rattle.mk_words.specs.{PageMaps.IsMapOf, PageMaps.is_handing, Passes.IsInOrder, Passes.state_of, Steps.May}
+use Rattle.mk_words.specs.{Steps.MayPerform, Steps.Tells, declared.rule.View.View}
 use mathlib.Core.Option.{some}
 
 -- with the event the pass's list is a history
@@ -55,8 +48,7 @@ some_words words pages e = omega arith
 pub split_call : (config key : Config) (words id : ℕ) (me : Mine) (seat x picked : Seat) → IsInOrder me seat
     → me.0.config ≡ config → key ≡ config
     → words ≡ count_of_words config.pages → picked ≡ x → Has me.0.own.seats x → Has me.0.own.seats Host
-    → is_same_seat x Host ≡ false
-    → (is_caller x ≡ true → has_over me.0.own.seen ≡ false)
+    → is_same_seat x Host ≡ false → (is_caller x ≡ true → has_over me.0.own.seen ≡ false)
     → (0 < words) × Splits (Kept key) id me.0 (stays_with picked me.0) (goes_with picked me.0)
 split_call config key words id me seat x picked order config_is key_is words_are picked_is has host another early = (
   some_words words config.pages words_are,
@@ -77,14 +69,12 @@ copy_call config key words id me key_is words_are = (
 -- a join, and the look after it
 
 pub join_call : (config key : Config) (words id : ℕ) (me : Mine) (other : ℕ) (from : Mine) (seat there : Seat)
-    → IsInOrder me seat → IsInOrder from there → key ≡ config
-    → words ≡ count_of_words config.pages
+    → IsInOrder me seat → IsInOrder from there → key ≡ config → words ≡ count_of_words config.pages
     → (0 < words) × Joins (Kept key) id me.0 other from.0 (beside me.0 from.0) nobody
 join_call config key words id me other from seat there mine theirs key_is words_are = grind (arith, some_words, joins)
 
 pub settle_call : (config key : Config) (words slots id : ℕ) (me : Mine) → me.0.config ≡ config → key ≡ config
-    → words ≡ count_of_words config.pages
-    → (0 < words) × Allows (Kept key) slots id me 0 (λ n. n) (settles no_step me)
+    → words ≡ count_of_words config.pages → (0 < words) × Allows (Kept key) slots id me 0 (λ n. n) (settles no_step me)
 settle_call config key words slots id me config_is key_is words_are = (
   some_words words config.pages words_are,
   subst (λ (d : Config). Allows (Kept d) slots id me 0 (λ n. n) (settles no_step me)) (sym (key_is ∙ sym config_is))
@@ -93,8 +83,7 @@ settle_call config key words slots id me config_is key_is words_are = (
 
 -- the end
 pub close_call : (config key : Config) (id : ℕ) (me : Mine) (ws : List ℕ) (xs : List KnownPages) → key ≡ config
-    → HasAll config me.0.own.seats
-    → Final (Seen (Kept key) id me.0) ws xs → Ended config me.0.own.seen ws
+    → HasAll config me.0.own.seats → Final (Seen (Kept key) id me.0) ws xs → Ended config me.0.own.seen ws
 close_call config key id me ws xs key_is all f =
     closes config id me ws xs all (subst (λ (d : Config). Final (Seen (Kept d) id me.0) ws xs) key_is f)
 
@@ -125,12 +114,10 @@ module _ (w : WordsState) (tid pid : TableId) (config key : Config) (me : Mine) 
 
   -- What is owed for the step's own event, word and access is owed by a call that has other names for them.
   pub owed_call : (words slots id : ℕ) (s : Step) (i : ℕ) (x : TableWord) (a : Access) (picked : Event)
-      (then : Event → ℕ → Mine → Type 0)
-      → IsInOrder me seat → key ≡ config
+      (then : Event → ℕ → Mine → Type 0) → IsInOrder me seat → key ≡ config
       → words ≡ count_of_words config.pages → picked ≡ event_of p s → MayPerform p s x a → i ≡ index_of config.pages x
       → Allows (Kept me.0.config) slots id me (place_there me (event_of p s)) (becomes (access_there me (event_of p s)))
-      (then (event_of p s))
-      → (i < words) × Allows (Kept key) slots id me i (becomes a) (then picked)
+      (then (event_of p s)) → (i < words) × Allows (Kept key) slots id me i (becomes a) (then picked)
   owed_call words slots id s i x a picked then order key_is words_are picked_is may i_is owed =
       let c : Config = me.0.config in
       let config_is : c ≡ config = same_config me seat w_is refl one_table in
@@ -198,8 +185,7 @@ first_in_order c me limits is = grind (arith, has_all, none_is_history, none_tid
 pub kept_by_split : (me n : Mine) (seat x picked : Seat) → IsInOrder me seat → picked ≡ x → is_same_seat x seat ≡ false
     → is_same_seat x Host ≡ false → n ≡ (stays_with picked me.0, me.1) → IsInOrder n seat
 kept_by_split me n seat x picked order picked_is other another is =
-    subst (λ (m : Mine). IsInOrder m seat) (sym (is ∙ ap (λ (y : Seat). (stays_with y me.0, me.1)) picked_is))
-    (record {
+    subst (λ (m : Mine). IsInOrder m seat) (sym (is ∙ ap (λ (y : Seat). (stays_with y me.0, me.1)) picked_is)) (record {
       settled = order.settled;
       own = without_keeps x me.0.own.seats seat other order.own;
       history = order.history;
@@ -224,8 +210,7 @@ pub record Joined (tid : TableId) (me from n : Mine) (seat : Seat) : Type 0 wher
   pub order : IsInOrder n seat
 
 joined_as : (tid : TableId) (me from n : Mine) (seat : Seat) (slots : List (ℕ × KnownPages)) → (answer : ℕ)
-    → IsInOrder me seat
-    → settles no_step (beside me.0 from.0, slots) answer n → Joined tid me from n seat
+    → IsInOrder me seat → settles no_step (beside me.0 from.0, slots) answer n → Joined tid me from n seat
 joined_as tid me from n seat slots answer order on =
     let s = on.1 in
     record {
@@ -243,8 +228,6 @@ joined_as tid me from n seat slots answer order on =
     }
 
 pub joined : (tid : TableId) (me from m n : Mine) (seat : Seat) (answer : ℕ) → IsInOrder me seat
-    → m ≡ (beside me.0 from.0, me.1)
-    → settles no_step m answer n → Joined tid me from n seat
+    → m ≡ (beside me.0 from.0, me.1) → settles no_step m answer n → Joined tid me from n seat
 joined tid me from m n seat answer order is on =
-    joined_as tid me from n seat me.1 answer order
-    (subst (λ (x : Mine). settles no_step x answer n) is on)
+    joined_as tid me from n seat me.1 answer order (subst (λ (x : Mine). settles no_step x answer n) is on)

@@ -1,27 +1,19 @@
 -- What the steps of the turn's holder leave.
-use Rattle.mk_laws.proofs.Vocabulary.{Bool, Caller, Cell, Config, Flight, Holds, Host, List, Marker, Moment, None, Op}
-use Rattle.mk_laws.proofs.Vocabulary.{Option, Progress, Protocol, Seat, Some, Stage, Step, World, ℕ, and_from}
-use Rattle.mk_laws.proofs.Vocabulary.{and_parts, ap, arith, at_rest, cell_freed, eq-eqb, eqb-false, false, flight_of}
-use Rattle.mk_laws.proofs.Vocabulary.{found, get_or-set_same, group_of, has_phase, held_by_pages}
-use Rattle.mk_laws.proofs.Vocabulary.{histories_keep_lengths, holder_number, if◌then◌else◌, is_held, is_number_of}
-use Rattle.mk_laws.proofs.Vocabulary.{is_open_to, length, ltb-true, ne_eqb, not-true, nothing_done, others_are_held}
-use Rattle.mk_laws.proofs.Vocabulary.{phase_of, progress, progress_freed, progress_p, progress_q, progress_read}
-use Rattle.mk_laws.proofs.Vocabulary.{progress_reg, refl, seat_exists, slice_index, slice_set, subst, suc, sym, true}
-use Rattle.mk_laws.proofs.Vocabulary.{zero, ◌++◌, ◌+◌, ◌<◌, ◌==◌, ◌||◌, ◌∙◌, ◌≡◌, ◌≢◌}
+use Rattle.mk_laws.proofs.Vocabulary.{Bool, Caller, Config, Holds, Host, List, Marker, Moment, None, Op, Option}
+use Rattle.mk_laws.proofs.Vocabulary.{Progress, Protocol, Seat, Some, Step, World, ℕ, and_from, and_parts, ap, arith}
+use Rattle.mk_laws.proofs.Vocabulary.{at_rest, eq-eqb, eqb-false, false, flight_of, found, get_or-set_same, group_of}
+use Rattle.mk_laws.proofs.Vocabulary.{has_phase, held_by_pages, histories_keep_lengths, holder_number, if◌then◌else◌}
+use Rattle.mk_laws.proofs.Vocabulary.{is_held, is_number_of, is_open_to, length, ltb-true, ne_eqb, not-true}
+use Rattle.mk_laws.proofs.Vocabulary.{nothing_done, others_are_held, phase_of, refl, seat_exists, slice_index, subst}
+use Rattle.mk_laws.proofs.Vocabulary.{suc, sym, true, zero, ◌++◌, ◌+◌, ◌<◌, ◌==◌, ◌||◌, ◌∙◌, ◌≡◌, ◌≢◌}
+use Rattle.mk_core.specs.{Bounded.all_below, Frames.HoldsAll, Moments.none_is_held, Order.is_in_order}
 use Rattle.mk_laws.proofs.SameWords.{Behind, reg_keeps, tally_keeps}
-use Rattle.mk_laws.proofs.NextSteps.{at_no_take}
-use Rattle.mk_laws.proofs.Protocols.{lists_keep_the_protocol}
-use Rattle.mk_core.specs.Bounded.{all_below}
-use Rattle.mk_core.specs.Frames.{HoldsAll}
-use Rattle.mk_core.specs.Moments.{none_is_held}
-use Rattle.mk_core.specs.Order.{is_in_order}
+use Rattle.mk_laws.proofs.{NextSteps.at_no_take, Protocols.lists_keep_the_protocol}
 use Rattle.mk_words.proofs.CallSteps.{begins, goes}
-use Rattle.mk_words.proofs.FreeTurns.{hands_none, turn_word_stays}
-use Rattle.mk_words.proofs.Made.{Made, made}
-use Rattle.mk_words.proofs.Tallies.{free_tallies}
-use Rattle.mk_words.specs.Steps.{moment_of, Finds, Makes, Tells}
+use Rattle.mk_words.proofs.{FreeTurns.hands_none, FreeTurns.turn_word_stays, Made.Made, Made.made, Tallies.free_tallies}
 use Rattle.mk_words.specs.States.{PassState, TurnState, call_of, now_of, world_of}
 use Rattle.mk_words.specs.TurnSteps.{Acts, GatesAre, IsFresh, IsTurn, begun_for, gates_stay, turn_stays}
+use Rattle.mk_words.specs.Steps.{Finds, Makes, Tells, moment_of}
 
 -- who holds the turn, by the turn word
 
@@ -36,8 +28,7 @@ is_marker (Marker k) = true
 is_marker _ = false
 
 named_holds : (c : Config) (m : Moment) (seat : Seat) → Protocol c m → seat_exists c seat ≡ true
-    → is_marker seat ≡ false
-    → m.words.turn ≡ 1 + holder_number c seat → Holds c m seat
+    → is_marker seat ≡ false → m.words.turn ≡ 1 + holder_number c seat → Holds c m seat
 named_holds c m (Caller k) p exists one named = let lt = ltb-true k c.callers exists in (lt, (p.holder k lt).0 named)
 named_holds c m (Marker k) p exists one named = cc
 named_holds c m Host p exists one named = named
@@ -98,8 +89,7 @@ module _ (p : PassState) (s : Step) (q : PassState) (m : Makes p s q) where
 -- After a step of the holder that isn't its last the seat still holds the turn.
 pub holds_after : {p : PassState} {s : Step} {q : PassState} → Acts p s q → turn_stays s ≡ true
     → Holds q.table.config (now_of q) q.seat
-holds_after {p} {s} {q} a stays =
-    (still_turn p s q a.makes stays (record { holds = a.holds })).holds
+holds_after {p} {s} {q} a stays = (still_turn p s q a.makes stays (record { holds = a.holds })).holds
 
 -- the gates, while they stay
 pub gates_left : (p : PassState) (s : Step) (q : PassState) → Acts p s q → gates_stay s ≡ true
@@ -112,8 +102,7 @@ pub still_stopped : (p : PassState) (s : Step) (q : PassState) → Acts p s q �
 still_stopped p s q a stays all =
     ap (λ (r : PassState). others_are_held r.table.config.callers (now_of q).words r.seat) a.makes.is
     ∙ ap (λ (gs : List ℕ). all_below p.table.config.callers (λ j. is_number_of p.seat j || (slice_index gs j == 2)))
-    (gates_left p s q a stays (a.holds, all))
-    ∙ all
+    (gates_left p s q a stays (a.holds, all)) ∙ all
 
 -- So what is known of the gates stays known.
 pub gates_still : (held : Bool) (t : TurnState) (s : Step) (u : TurnState) → Acts t.pass s u.pass
@@ -144,8 +133,7 @@ module _ (p : PassState) (j n : ℕ) (q : PassState) (t : Tells p (Step.Hold j) 
   gate_then =
       let long = (histories_keep_lengths p.table.config (p.seen ++ t.makes.others)).gates in
       let few = h.known.small in
-      ap (λ (w : World). slice_index w.now.words.gates j) h.world
-      ∙ get_or-set_same gs j _ 0 (omega (arith, caller_is))
+      ap (λ (w : World). slice_index w.now.words.gates j) h.world ∙ get_or-set_same gs j _ 0 (omega (arith, caller_is))
 
   pub hold_finds : n ≢ 0 → n ≡ 1
   hold_finds some =
@@ -172,14 +160,12 @@ all_from (suc n) test h = and_from (all_below n test) (test n) (all_from n test 
 -- a seat that takes the turn where it finds it free
 
 takes_for : (c : Config) (m : Moment) (seat : Seat) (o : Option Op) → is_open_to seat (group_of (Step.Take o)) ≡ true
-    → is_in_order c m seat (Step.Take o) ≡ true
-    → is_marker seat ≡ false
+    → is_in_order c m seat (Step.Take o) ≡ true → is_marker seat ≡ false
 takes_for c m (Marker k) o kind order = cc
 takes_for c m _ o kind order = refl
 
 takes_call : (c : Config) (m : Moment) (seat : Seat) (o : Option Op) → Protocol c m → seat_exists c seat ≡ true
-    → is_open_to seat (group_of (Step.Take o)) ≡ true
-    → is_in_order c m seat (Step.Take o) ≡ true → m.words.turn ≡ 0
+    → is_open_to seat (group_of (Step.Take o)) ≡ true → is_in_order c m seat (Step.Take o) ≡ true → m.words.turn ≡ 0
     → flight_of (Behind c m seat (Step.Take o)) seat ≡ begun_for o
 takes_call c m (Caller k) (Some o) p exists kind order free =
     let lt : k < length m.seats.flights = subst (λ (i : ℕ). k < i) (sym p.callers) (ltb-true k c.callers exists) in
@@ -238,8 +224,7 @@ module _ (p : PassState) (o : Option Op) (n : ℕ) (q : PassState) (t : Tells p 
               ∙ ap (λ (b : Bool). if b then nothing_done else m.seats.holding) (eq-eqb m.words.turn 0 free);
           gates =
               ap (λ (r : PassState). none_is_held r.table.config.callers (world_of q).now.words) t.makes.is
-              ∙ ap (λ (w : World). none_is_held c.callers w.now.words) e.world
-              ∙ none_held_free c m e.protocol free;
+              ∙ ap (λ (w : World). none_is_held c.callers w.now.words) e.world ∙ none_held_free c m e.protocol free;
           phase = ap (λ (w : World). has_phase (phase_of w.now.words) Step.Give) e.world
               ∙ free_phase c m e.protocol free;
           held = ap (λ (w : World). w.now.words.held) e.world

@@ -1,13 +1,9 @@
 use Rattle.mk_laws.proofs.Vocabulary.{ℕ, ap, refl, subst, sym, ◌<◌, ◌∙◌, ◌≡◌}
-use Rattle.mk_core.specs.Layout.{IsOfTable, index_of}
-use Rattle.mk_core.specs.Words.{becomes}
-use Rattle.mk_core.specs.declared.accesses.TableWord.{TableWord}
+use Rattle.mk_core.specs.{Layout.IsOfTable, Layout.index_of, Words.becomes, declared.accesses.TableWord.TableWord}
 use Rattle.atomic_table.specs.Table.{Allows}
 use Rattle.mk_words.proofs.Owed.{in_order_still, names_word, perform_call, perform_learns}
 use Rattle.mk_words.proofs.tokens.perform_as.Goals.{After-index_near-index}
-use Rattle.mk_words.specs.Passes.{state_of}
-use Rattle.mk_words.specs.Rule.{Kept, adds, no_step}
-use Rattle.mk_words.specs.States.{WordsState}
+use Rattle.mk_words.specs.{Rule.Kept, Rule.adds, Rule.no_step, States.WordsState}
 use Rattle.mk_words.proofs.tokens.perform_as.Goals as goal
 
 -- The number of pages at hand is the table's.
@@ -28,8 +24,7 @@ index_near-index-requires-clause-names g c =
     c.args.step c.args.word c.requires.order c.requires.may)
 
 -- what the access is owed
-owed : (g : _) (c : After-index_near-index g)
-    → (c.index_near-index.result < c.words.inside.table.shared.table_id.words)
+owed : (g : _) (c : After-index_near-index g) → (c.index_near-index.result < c.words.inside.table.shared.table_id.words)
     × Allows (Kept c.words.inside.table.shared.key) c.words.inside.table.shared.table_id.slots c.args.token.now.id
     c.args.token.now.me c.index_near-index.result (becomes c.args.by) (λ n m. adds g.J.Making.event no_step
     c.args.token.now.me n m)

@@ -31,8 +31,7 @@ returns-clause-shows c pages freed_words shows =
     subst (λ (xs : List ℕ). Shows (known_by c.self.inside.pages.items xs) pages
     (set freed_words c.args.page c.args.freed)) (sym (same_sets x))
     (quarantine_shows c.self.inside.pages.items c.self.inside.sets.items c.sort_by_quarantine.new.sets c.args.freed
-    c.self.invariant.few (within x) (others x)
-    c.sort_by_quarantine.ensures.quarantined before)
+    c.self.invariant.few (within x) (others x) c.sort_by_quarantine.ensures.quarantined before)
 
 pub returns-clause-uncleaned : goal.returns-clause-uncleaned
 returns-clause-uncleaned c number = grind (arith, all_kept, same_sets)

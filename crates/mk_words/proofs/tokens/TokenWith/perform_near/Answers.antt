@@ -1,7 +1,5 @@
 use Rattle.mk_laws.proofs.Vocabulary.{subst, sym, ◌≡◌}
-use Rattle.mk_words.specs.Passes.{state_of}
-use Rattle.mk_words.specs.States.{PassState}
-use Rattle.mk_words.specs.Steps.{MayPerform, Tells}
+use Rattle.mk_words.specs.{Passes.state_of, States.PassState, Steps.MayPerform, Steps.Tells}
 use Rattle.mk_words.proofs.tokens.TokenWith.perform_near.Goals as goal
 
 pub perform_as-requires-clause-one_table : goal.perform_as-requires-clause-one_table

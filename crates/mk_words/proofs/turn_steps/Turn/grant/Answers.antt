@@ -1,7 +1,5 @@
 use Rattle.mk_laws.proofs.Vocabulary.{Step, Store, ℕ, ap, arith, subst, sym}
-use Rattle.mk_words.proofs.CallSteps.{grants_to}
-use Rattle.mk_words.specs.States.{TurnState}
-use Rattle.mk_words.specs.Steps.{IsEnabledTo}
+use Rattle.mk_words.{proofs.CallSteps.grants_to, specs.States.TurnState, specs.Steps.IsEnabledTo}
 use Rattle.mk_words.proofs.turn_steps.Turn.grant.Goals as goal
 
 pub caller-requires : goal.caller-requires

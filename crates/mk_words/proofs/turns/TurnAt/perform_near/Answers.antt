@@ -1,5 +1,4 @@
-use Rattle.mk_words.proofs.FreeTurns.{hands_none}
-use Rattle.mk_words.proofs.MapSteps.{acted, shows_still, turn_goes_on}
+use Rattle.mk_words.proofs.{FreeTurns.hands_none, MapSteps.acted, MapSteps.shows_still, MapSteps.turn_goes_on}
 use Rattle.mk_words.proofs.turns.TurnAt.perform_near.Goals as goal
 
 pub perform_near-requires-clause-hands_none : goal.perform_near-requires-clause-hands_none
