@@ -1,15 +1,15 @@
 -- How often a number stands in the words of cells and pages.
 use Rattle.std.proofs.Common.{count_by, filter, length-append, sum_by}
 use Rattle.std.proofs.lemmas.List.Sums.{sum_by-append, sum_by-cons}
+use Rattle.std.proofs.lemmas.Bool.{cases_order}
 use Rattle.std.proofs.lemmas.List.FromFn.{length-range_with_len}
 use Rattle.std.specs.List.{Contains, range_with_len}
 use Rattle.mk_sweep.proofs.Vocabulary.{Words, cells_under, has_bit, has_no_pointers, header_in, used_at, words_below}
 use Rattle.mk_sweep.proofs.Vocabulary.{words_if, words_of_cells, words_on, words_under}
 use Rattle.mk_laws.proofs.Vocabulary.{Bool, List, ℕ, and_from, and_parts, ap, arith, cases_eq, cases_lt, cond, eq-eqb}
 use Rattle.mk_laws.proofs.Vocabulary.{false, get_or, if◌then◌else◌, inl, inr, le-leb, leb-true, length, lt-ltb}
-use Rattle.mk_laws.proofs.Vocabulary.{ltb-true, nat_le, nat_lt, ne_eqb, refl, subst, suc, sym, true, true≢false}
+use Rattle.mk_laws.proofs.Vocabulary.{ltb-true, mul-le, nat_le, nat_lt, ne_eqb, refl, subst, suc, sym, true, true≢false}
 use Rattle.mk_laws.proofs.Vocabulary.{zero, [], ◌&&◌, ◌*◌, ◌++◌, ◌+◌, ◌-◌, ◌<◌, ◌==◌, ◌∙◌, ◌∷◌, ◌≡◌, ◌≢◌, ◌≤◌, ◌⊎◌}
-use Rattle.mk_laws.proofs.CoveredWords.{one_part}
 use Rattle.mk_cycle.proofs.SumsBelow.{counted_by_key, sum_same}
 use Rattle.mk_cycle.specs.ReleasedPages.{sum_below}
 
@@ -85,6 +85,10 @@ range_found a len n some = elim (cases_lt n a) [
 if_found : (used : Bool) (a len n : ℕ) → times n (words_if used a len) ≢ 0 → (used ≡ true) × (a ≤ n) × (n < a + len)
 if_found true a len n some = let h = range_found a len n some in (refl, h.0, h.1)
 if_found false a len n some = absurd (some refl)
+
+-- A number is in one of equal parts alone.
+one_part : (size i j n : ℕ) → i * size ≤ n → n < i * size + size → j * size ≤ n → n < j * size + size → i ≡ j
+one_part size i j n from to low high = grind (arith, cases_order, mul-le)
 
 -- a used cell of a page, of this many words, that has the word
 pub record HasInCell (page size used cells n : ℕ) : Type 0 where
