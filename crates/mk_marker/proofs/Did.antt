@@ -8,18 +8,16 @@ use Rattle.mk_turns.specs.Doing.{AreOwnOrOfOthers, done_in}
 use Rattle.mk_words.specs.States.{PassState, WordsState}
 
 then_at : (p : PassState) (more : List Event) (xs ys : List Finding) → AreOwnOrOfOthers p.seat p.seats more
-    → done_in p more ≡ xs
-    → (r : PassState) → Did (record p { seen = p.seen ++ more }) ys r → Did p (xs ++ ys) r
-then_at p more xs ys own done r d =
-    record {
-      more = more ++ d.more;
-      is = d.is ∙ ap (λ (es : List Event). record p { seen = es }) (append_assoc p.seen more d.more);
-      own_or_others = own_or_others_in_parts p.seat p.seats more d.more own d.own_or_others;
-      done =
-          done_in_parts p more d.more
-          ∙ ap (λ (zs : List Finding). zs ++ done_in (record p { seen = p.seen ++ more }) d.more) done
-          ∙ ap (λ (zs : List Finding). xs ++ zs) d.done;
-    }
+    → done_in p more ≡ xs → (r : PassState) → Did (record p { seen = p.seen ++ more }) ys r → Did p (xs ++ ys) r
+then_at p more xs ys own done r d = record {
+  more = more ++ d.more;
+  is = d.is ∙ ap (λ (es : List Event). record p { seen = es }) (append_assoc p.seen more d.more);
+  own_or_others = own_or_others_in_parts p.seat p.seats more d.more own d.own_or_others;
+  done =
+      done_in_parts p more d.more
+      ∙ ap (λ (zs : List Finding). zs ++ done_in (record p { seen = p.seen ++ more }) d.more) done
+      ∙ ap (λ (zs : List Finding). xs ++ zs) d.done;
+}
 
 pub did_then : (p : PassState) (xs : List Finding) (q : PassState) (ys : List Finding) (r : PassState) → Did p xs q
     → Did q ys r → Did p (xs ++ ys) r
@@ -33,18 +31,16 @@ pub table_kept : (p : PassState) (xs : List Finding) (q : PassState) → Did p x
 table_kept p xs q d = ap (λ (x : PassState). x.table) d.is
 
 pub still_of : (w : WordsState) (p : PassState) (xs : List Finding) (q : PassState) → IsOf w p → Did p xs q → IsOf w q
-still_of w p xs q o d =
-    record {
-      one_table = table_kept p xs q d ∙ o.one_table;
-      marker = record { number = o.marker.number; exists = o.marker.exists; seat = seat_kept p xs q d ∙ o.marker.seat };
-    }
+still_of w p xs q o d = record {
+  one_table = table_kept p xs q d ∙ o.one_table;
+  marker = record { number = o.marker.number; exists = o.marker.exists; seat = seat_kept p xs q d ∙ o.marker.seat };
+}
 
 pub did_nothing : (p : PassState) → Did p [] p
 unfolding AreOwnOrOfOthers own_from
 did_nothing p = record {
   more = [];
-  is = sym
-      (ap (λ (es : List Event). record p { seen = es }) (append-nil p.seen));
+  is = sym (ap (λ (es : List Event). record p { seen = es }) (append-nil p.seen));
   own_or_others = tt;
   done = refl;
 }

@@ -21,8 +21,7 @@ use Rattle.mk_words.specs.States.{PassState, now_of}
 
 -- one more step
 pub did_more : (p : PassState) (xs : List Finding) (q : PassState) (s : Step) (n : ℕ) (r : PassState) → Did p xs q
-    → MovesMarker q s n r
-    → Did p (xs ++ finding p.seat s n ∷ []) r
+    → MovesMarker q s n r → Did p (xs ++ finding p.seat s n ∷ []) r
 did_more p xs q s n r d m = grind (arith, did_then, seat_kept)
 
 -- what was seen of a page in some of the steps
@@ -31,18 +30,17 @@ seen_before : (s : Seat) (page : ℕ) (xs ys : List Finding) → SeesNoWork s pa
 seen_before s page xs ys h = grind (arith, append_assoc)
 
 seen_behind : (s : Seat) (page : ℕ) (xs ys : List Finding) → SeesNoWork s page ys → SeesNoWork s page (xs ++ ys)
-seen_behind s page xs ys h =
-    record {
-      before = xs ++ h.before;
-      behind = h.behind;
-      marks = h.marks;
-      blacks = h.blacks;
-      is =
-          ap (λ (zs : List Finding). xs ++ zs) h.is
-          ∙ sym (append_assoc xs h.before (looking s (Word.Mark page) h.marks ∷ looking s
-          (Word.Black page) h.blacks ∷ h.behind));
-      no_work = h.no_work;
-    }
+seen_behind s page xs ys h = record {
+  before = xs ++ h.before;
+  behind = h.behind;
+  marks = h.marks;
+  blacks = h.blacks;
+  is =
+      ap (λ (zs : List Finding). xs ++ zs) h.is
+      ∙ sym (append_assoc xs h.before (looking s (Word.Mark page) h.marks ∷ looking s
+      (Word.Black page) h.blacks ∷ h.behind));
+  no_work = h.no_work;
+}
 
 pub looked_at_none : (p : PassState) (first : ℕ) → IsBetweenScans p → LooksInVain p first first p
 looked_at_none p first between = grind (arith, did_nothing)
@@ -51,19 +49,18 @@ pub looked_on : (p : PassState) (a b : ℕ) (q : PassState) (d e : ℕ) (r : Pas
     → LooksInVain p a b q → LooksInVain q d e r
     → ((page : ℕ) → first ≤ page → page < end → ((a ≤ page) × (page < b)) ⊎ ((d ≤ page) × (page < e)))
     → LooksInVain p first end r
-looked_on p a b q d e r first end one two all =
-    record {
-      steps = one.steps ++ two.steps;
-      did = did_then p one.steps q two.steps r one.did two.did;
-      looks = of_kinds_in_parts is_markers_look one.steps two.steps one.looks two.looks;
-      pages = λ page le lt. elim (all page le lt) [
-        | inl there ↦ seen_before p.seat page one.steps two.steps (one.pages page there.0 there.1)
-        | inr there ↦ seen_behind p.seat page one.steps two.steps
-            (subst (λ (s : Seat). SeesNoWork s page two.steps) (seat_kept p one.steps q one.did)
-            (two.pages page there.0 there.1))
-      ];
-      between = two.between;
-    }
+looked_on p a b q d e r first end one two all = record {
+  steps = one.steps ++ two.steps;
+  did = did_then p one.steps q two.steps r one.did two.did;
+  looks = of_kinds_in_parts is_markers_look one.steps two.steps one.looks two.looks;
+  pages = λ page le lt. elim (all page le lt) [
+    | inl there ↦ seen_before p.seat page one.steps two.steps (one.pages page there.0 there.1)
+    | inr there ↦ seen_behind p.seat page one.steps two.steps
+        (subst (λ (s : Seat). SeesNoWork s page two.steps) (seat_kept p one.steps q one.did)
+        (two.pages page there.0 there.1))
+  ];
+  between = two.between;
+}
 
 pub sees_then : (p : PassState) (a b : ℕ) (q : PassState) (cell : MarkedCell) (r : PassState) → LooksInVain p a b q
     → SeesCell q cell r → SeesCell p cell r
@@ -77,8 +74,7 @@ sees_then p a b q cell r one two =
         marks = sees.marks;
         blacks = sees.blacks;
         is =
-            ap (λ (zs : List Finding). one.steps ++ zs) sees.is
-            ∙ sym (append_assoc one.steps sees.looks
+            ap (λ (zs : List Finding). one.steps ++ zs) sees.is ∙ sym (append_assoc one.steps sees.looks
             (looking p.seat (Word.Mark cell.page) sees.marks ∷ looking p.seat
             (Word.Black cell.page) sees.blacks ∷ looking p.seat (Word.Head cell.page) cell.header ∷ []));
         are_looks = of_kinds_in_parts is_markers_look one.steps sees.looks one.looks sees.are_looks;
@@ -115,18 +111,17 @@ two_looks p page n a m b between one two =
 
 pub nothing_to_scan : (p : PassState) (page n m : ℕ) (b : PassState) → TwoLooks p page n m b → without n m ≡ 0
     → LooksInVain p page (page + 1) b
-nothing_to_scan p page n m b two none =
-    record {
-      steps = looking p.seat (Word.Mark page) n ∷ looking p.seat (Word.Black page) m ∷ [];
-      did = two.did;
-      looks = refl;
-      pages = λ other le lt.
-          let same : page ≡ other = omega arith in
-          subst (λ (i : ℕ). SeesNoWork p.seat i (looking p.seat (Word.Mark page) n ∷ looking p.seat
-          (Word.Black page) m ∷ [])) same
-          (record { before = []; behind = []; marks = n; blacks = m; is = refl; no_work = inl none });
-      between = (None, two.marker);
-    }
+nothing_to_scan p page n m b two none = record {
+  steps = looking p.seat (Word.Mark page) n ∷ looking p.seat (Word.Black page) m ∷ [];
+  did = two.did;
+  looks = refl;
+  pages = λ other le lt.
+      let same : page ≡ other = omega arith in
+      subst (λ (i : ℕ). SeesNoWork p.seat i (looking p.seat (Word.Mark page) n ∷ looking p.seat
+      (Word.Black page) m ∷ [])) same
+      (record { before = []; behind = []; marks = n; blacks = m; is = refl; no_work = inl none });
+  between = (None, two.marker);
+}
 
 pub no_cell_yet : (p : PassState) (page n m : ℕ) (b : PassState) (h : ℕ) (d : PassState) → TwoLooks p page n m b
     → MovesMarker b (Step.Mlook (Word.Head page)) h d → h ≡ 0 → LooksInVain p page (page + 1) d
@@ -145,11 +140,9 @@ no_cell_yet p page n m b h d two head free =
       pages = λ other le lt.
           let same : page ≡ other = omega arith in
           subst (λ (i : ℕ). SeesNoWork p.seat i (looking p.seat (Word.Mark page) n ∷ looking p.seat
-          (Word.Black page) m ∷ looking p.seat (Word.Head page) 0 ∷ [])) same
-          (record {
+          (Word.Black page) m ∷ looking p.seat (Word.Head page) 0 ∷ [])) same (record {
             before = [];
-            behind = looking p.seat
-                (Word.Head page) 0 ∷ [];
+            behind = looking p.seat (Word.Head page) 0 ∷ [];
             marks = n;
             blacks = m;
             is = refl;
@@ -157,8 +150,7 @@ no_cell_yet p page n m b h d two head free =
           });
       between = (
         Some (record { page = page; header = h }),
-        head.marker
-            ∙ behind_look b.table.config h page (marker_in b) None two.marker,
+        head.marker ∙ behind_look b.table.config h page (marker_in b) None two.marker,
       );
     }
 
@@ -174,8 +166,7 @@ pub a_cell : (p : PassState) (page n : ℕ) (a : PassState) (m : ℕ) (b : PassS
     → MovesMarker p (Step.Mlook (Word.Mark page)) n a → n ≡ named_word (now_of a).words (Word.Mark page)
     → MovesMarker a (Step.Mlook (Word.Black page)) m b
     → MovesMarker b (Step.Mlook (Word.Head page)) h d → h ≡ named_word (now_of d).words (Word.Head page)
-    → h ≢ 0 → has_bit (without n m) k ≡ true
-    → SeesCell p (record { page = page; index = k; header = h }) d
+    → h ≢ 0 → has_bit (without n m) k ≡ true → SeesCell p (record { page = page; index = k; header = h }) d
 a_cell p page n a m b h d k between one marks two head shows some bit =
     let history = head.pass.history in
     let looks = two_looks p page n a m b between one two in
@@ -189,8 +180,7 @@ a_cell p page n a m b h d k between one marks two head shows some bit =
     let still : IsMarkedIn d page k = head.marks
     (ap (λ (x : MarkerState). is_attending x.presence) looks.marker) page k there in
     let on : attends d ≡ true = ap (λ (x : MarkerState). is_attending x.presence) now in
-    let early : IsMarking (now_of d).words =
-    marking_for d.table.config (now_of d) d.seat
+    let early : IsMarking (now_of d).words = marking_for d.table.config (now_of d) d.seat
     (known_left d.table.config d.seen history.within_limits history.enabled) on in
     let cell : k < cells_under (header_of (header_at (now_of d).words page)) =
     marks_are_of_cells d.table.config d.seen history early page k still (λ z. some (shows ∙ z)) in

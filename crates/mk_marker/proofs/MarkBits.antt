@@ -70,8 +70,7 @@ StaysChosen c w seat place x =
     ⊎ ((header_at w.now.words place.page ≡ header_made (object_now c w.now) 0) × IsSized (object_now c w.now))
 
 module _ (c : Config) (w : World) (seat : Seat) (limits : IsWithinLimits c) (known : Known c w.now)
-    (early : IsMarking w.now.words) (place : Place)
-    (is : w.now.seats.holding.placing ≡ Chosen place) where
+    (early : IsMarking w.now.words) (place : Place) (is : w.now.seats.holding.placing ≡ Chosen place) where
   gives_not : Meets c w.now seat Step.Give → ⊥
   gives_not h =
       let t = giver_has_turn c w.now seat known h in
@@ -135,8 +134,7 @@ still_a_cell c w seat x p k limits known early h goes is = elim is [
           place = t.place;
           chosen = still;
           page = t.page;
-          cell = subst (λ (o : Object). k < cells_made o)
-              (sym same) t.cell;
+          cell = subst (λ (o : Object). k < cells_made o) (sym same) t.cell;
         })
     | inr stands ↦
         inl (onward (subst (λ (q : ℕ). k < cells_under (header_in w.now.words q)) t.page

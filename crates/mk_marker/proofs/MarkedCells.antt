@@ -24,8 +24,7 @@ use Rattle.mk_marker.proofs.NewMarks.{new_mark}
 
 -- headers go on while a cycle marks
 headers_go_on : (c : Config) (w : World) (seat : Seat) (x : Step) → IsWithinLimits c → Known c w.now
-    → AreOfPages c.pages w.now.words → IsMarking w.now.words
-    → GuardPremises c w → Meets c w.now seat x → (p : ℕ)
+    → AreOfPages c.pages w.now.words → IsMarking w.now.words → GuardPremises c w → Meets c w.now seat x → (p : ℕ)
     → HeaderGoesOn c.pages (header_at w.now.words p) (header_at (WorldBehind c w seat x).now.words p)
 headers_go_on c w seat (Step.Head q n) limits known len early say h p =
     (head_keeps c w.now seat q n len h (head_finds c w seat q n limits known early say h)).headers p
@@ -38,8 +37,7 @@ headers_go_on c w seat x limits known len early say h p = rest x refl
 
 -- after a `begin` nothing is marked
 nothing_marked : (c : Config) (w : World) (seat : Seat) → AreOfPages c.pages w.now.words
-    → Meets c w.now seat Step.Begin → (p k : ℕ)
-    → has_bit (slice_index w.now.words.marks p) k ≡ true → ⊥
+    → Meets c w.now seat Step.Begin → (p k : ℕ) → has_bit (slice_index w.now.words.marks p) k ≡ true → ⊥
 nothing_marked c w seat len h p k is = true≢false (sym is ∙ no_bit (slice_index w.now.words.marks p) k none)
   where
     own : all_below c.pages (has_clean_page w.now.words) ≡ true

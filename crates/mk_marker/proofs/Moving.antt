@@ -43,8 +43,7 @@ itself : (s : Seat) (seats : List Seat) (x : Step) → Has seats s
 unfolding AreOwnOrOfOthers
 itself s seats x has = (has ∙ sym (same_self s), tt)
 
-pub did_step : (p : PassState) (s : Step) (n : ℕ) (q : PassState) → Finds p s n q
-    → Did p (finding p.seat s n ∷ []) q
+pub did_step : (p : PassState) (s : Step) (n : ℕ) (q : PassState) → Finds p s n q → Did p (finding p.seat s n ∷ []) q
 did_step p s n q f =
     grind (
       arith,
@@ -64,8 +63,7 @@ attends_there m (Marker k) h = h
 attends_there m (Caller k) h = cc
 attends_there m Host h = cc
 
-pub marks_grow : (p : PassState) (s : Step) (q : PassState)
-    → Makes p s q → MarksGrow p q
+pub marks_grow : (p : PassState) (s : Step) (q : PassState) → Makes p s q → MarksGrow p q
 marks_grow p s q makes on page k is =
     let d = made p s q makes in
     let scan : ScanIsLeft (left p.table.config p.seen) (left p.table.config (p.seen ++ makes.others)) = d.frame.scan
@@ -74,19 +72,16 @@ marks_grow p s q makes on page k is =
     (marks_kind p.table.config (left p.table.config (p.seen ++ makes.others)).now p.seat s scan.phase d.meets page k
     (scan.marks page k is))
 
-pub moves : (p : PassState) (s : Step) (n : ℕ) (q : PassState)
-    → Marks p s n q → MovesMarker p s n q
-moves p s n q m =
-    record {
-      pass = m.finds.makes.pass;
-      did = did_step p s n q m.finds;
-      marker = m.marker;
-      marks = marks_grow p s q m.finds.makes;
-    }
+pub moves : (p : PassState) (s : Step) (n : ℕ) (q : PassState) → Marks p s n q → MovesMarker p s n q
+moves p s n q m = record {
+  pass = m.finds.makes.pass;
+  did = did_step p s n q m.finds;
+  marker = m.marker;
+  marks = marks_grow p s q m.finds.makes;
+}
 
 -- Who comes in finds one of the six phases.
-pub known_phase : (p : PassState) (n : ℕ) (q : PassState)
-    → Finds p Step.Attend n q → n % 8 ≤ 5
+pub known_phase : (p : PassState) (n : ℕ) (q : PassState) → Finds p Step.Attend n q → n % 8 ≤ 5
 known_phase p n q f =
     let d = made p Step.Attend q f.makes in
     subst (λ (i : ℕ). i % 8 ≤ 5) (sym f.finds) d.protocol.low
@@ -99,13 +94,11 @@ look_shows p x n q f =
     f.finds ∙ sym (ap (λ (w : World). named_word w.now.words x) d.world)
 
 -- a step of which the number that it found isn't said
-pub moved : (p : PassState) (s : Step) (q : PassState)
-    → (m : Makes p s q)
+pub moved : (p : PassState) (s : Step) (q : PassState) → (m : Makes p s q)
     → marker_in q ≡ marker_behind p.table.config (found_by m) s (marker_in p) → Moved p s q
 moved p s q m behind = (
   found_by m,
-  moves p s (found_by m) q
-      (record { finds = record { makes = m; finds = refl }; marker = behind }),
+  moves p s (found_by m) q (record { finds = record { makes = m; finds = refl }; marker = behind }),
 )
 
 -- A claim of a cell that was marked finds it marked.
@@ -117,20 +110,14 @@ still_marked p page k n q on is f =
     ap (λ (i : ℕ). has_bit i k) f.finds ∙ scan.marks page k is
 
 scan_of : (c : Config) (page k header n : ℕ) → has_bit n k ≡ true
-    → marker_behind c n (Step.Claim page k) (between_scans (Some (record { page = page; header = header })))
-    ≡ record {
-      presence = Attending;
-      scan = Some (scan_begun page k header);
-      hand = None;
-      seen = Some
-          (record { page = page; header = header });
-    }
+    → marker_behind c n (Step.Claim page k) (between_scans (Some (record { page = page; header = header }))) ≡ record {
+      presence = Attending; scan = Some (scan_begun page k header); hand = None; seen = Some
+          (record { page = page; header = header }); }
 scan_of c page k header n is = grind arith
 
 pub claimed : (p : PassState) (cell : MarkedCell) (n : ℕ) (q : PassState)
     → marker_in p ≡ between_scans (Some (record { page = cell.page; header = cell.header }))
-    → IsMarkedIn p cell.page cell.index
-    → Marks p (Step.Claim cell.page cell.index) n q
+    → IsMarkedIn p cell.page cell.index → Marks p (Step.Claim cell.page cell.index) n q
     → ClaimsMarked p cell q × IsScanning (marker_in q) × IsScanOf (marker_in q) cell.page cell.index ×
     (words_left (marker_in q) ≡ words_scanned cell.header)
 claimed p cell n q at is m =
@@ -138,11 +125,9 @@ claimed p cell n q at is m =
     let marked = still_marked p cell.page cell.index n q on is m.finds in
     let x : MarkerState = record {
       presence = Attending;
-      scan = Some
-          (scan_begun cell.page cell.index cell.header);
+      scan = Some (scan_begun cell.page cell.index cell.header);
       hand = None;
-      seen = Some
-          (record { page = cell.page; header = cell.header });
+      seen = Some (record { page = cell.page; header = cell.header });
     } in
     let now : marker_in q ≡ x =
     m.marker ∙ ap (λ (y : MarkerState). marker_behind p.table.config n (Step.Claim cell.page cell.index) y) at
@@ -150,15 +135,13 @@ claimed p cell n q at is m =
       record { found = n; moves = moves p (Step.Claim cell.page cell.index) n q m; marked = marked },
       record {
         scan = scan_begun cell.page cell.index cell.header;
-        seen = Some
-            (record { page = cell.page; header = cell.header });
+        seen = Some (record { page = cell.page; header = cell.header });
         is = now;
         next = omega arith;
       },
       record {
         on_page = ap (λ (y : MarkerState). scan_page y.scan) now;
-        bit = ap
-            (λ (y : MarkerState). scan_bit y.scan) now;
+        bit = ap (λ (y : MarkerState). scan_bit y.scan) now;
       },
       ap (λ (y : MarkerState). words_left y) now
           ∙ begun_left (64 * cell.page + cell.index * words_under (header_of cell.header)) (words_scanned cell.header),
@@ -174,8 +157,7 @@ pub may_claim_seen : (w : WordsState) (p : PassState) (cell : MarkedCell) → Is
 may_claim_seen w p cell of at page index few = grind (arith, lt-ltb, eq-eqb, meets_enabled)
 
 -- after its `mblack` the cell is black
-pub blackened : (p : PassState) (page k : ℕ) (q : PassState)
-    → Makes p Step.Mblack q
+pub blackened : (p : PassState) (page k : ℕ) (q : PassState) → Makes p Step.Mblack q
     → IsScanOf (marker_in p) page k → page < p.table.config.pages → k < 64 → IsBlackIn q page k
 blackened p page k q makes of lt few =
     let d = made p Step.Mblack q makes in

@@ -135,8 +135,7 @@ module _ (c : Config) (w : World) (seat : Seat) (limits : IsWithinLimits c) (kno
           ∙ ap (λ (y : Option Place). chosen placing y) m.there ∙ is
 
       carved : (placing : Placing) → w.now.seats.holding.placing ≡ placing
-          → chosen placing (Some m.place) ≡ Chosen m.place
-          → IsCell c (WorldBehind c w seat (Step.Mark p n)).now p k
+          → chosen placing (Some m.place) ≡ Chosen m.place → IsCell c (WorldBehind c w seat (Step.Mark p n)).now p k
       carved placing e is =
           let there = placed placing e is in
           let kept = object_kind c w seat (Step.Mark p n) known h (ap (λ (y : Placing). has_place y) there) in
@@ -144,8 +143,7 @@ module _ (c : Config) (w : World) (seat : Seat) (limits : IsWithinLimits c) (kno
             place = m.place;
             chosen = there;
             page = sym m.marked.at;
-            cell = subst
-                (λ (o : Object). k < cells_made o) (sym kept) cell;
+            cell = subst (λ (o : Object). k < cells_made o) (sym kept) cell;
           })
 
       used : w.now.seats.holding.placing ≡ Used m.place → ⊥
@@ -173,8 +171,7 @@ module _ (c : Config) (w : World) (seat : Seat) (limits : IsWithinLimits c) (kno
   seen_is : (seen : Option SeenHeader) (hand : Option ℕ)
       → ((s : SeenHeader) → seen ≡ Some s → HeaderGoesOn c.pages s.header (header_at w.now.words s.page)) → (p k : ℕ)
       → is_some (cell_seen c seen hand) ≡ true → p ≡ seen_page (cell_seen c seen hand)
-      → has_bit (seen_bit (cell_seen c seen hand)) k ≡ true
-      → k < cells_under (header_in w.now.words p)
+      → has_bit (seen_bit (cell_seen c seen hand)) k ≡ true → k < cells_under (header_in w.now.words p)
   seen_is None hand goes p k some page bit = cc
   seen_is (Some s) None goes p k some page bit = cc
   seen_is (Some s) (Some value) goes p k some page bit = by (s.page == page_at_address value) refl
@@ -183,8 +180,7 @@ module _ (c : Config) (w : World) (seat : Seat) (limits : IsWithinLimits c) (kno
       by : (b : Bool) → (s.page == page_at_address value) ≡ b → (cell : Option Cell)
           → cell_at c.pages s.header value ≡ cell
           → is_some (if b then cell else None) ≡ true → p ≡ seen_page (if b then cell else None)
-          → has_bit (seen_bit (if b then cell else None)) k ≡ true
-          → k < cells_under (header_in w.now.words p)
+          → has_bit (seen_bit (if b then cell else None)) k ≡ true → k < cells_under (header_in w.now.words p)
       by false here cell is some page bit = cc
       by true here None is some page bit = cc
       by true here (Some cell) is some page bit =
@@ -211,8 +207,7 @@ module _ (c : Config) (w : World) (seat : Seat) (limits : IsWithinLimits c) (kno
         (marks_place w.now.words (object_made c (flight_of w.now seat).op)
         (place_now c w.now (flight_of w.now seat)) q n) h.holder in
         subst (λ (i : ℕ). (has_bit (slice_index w.now.words.marks p) k ≡ true) ⊎ IsCell c
-        (WorldBehind c w seat (Step.Mark q n)).now i k) (sym new.0)
-        (elim may [
+        (WorldBehind c w seat (Step.Mark q n)).now i k) (sym new.0) (elim may [
           | inl hand ↦ inr (inl (by_hand w.now.seats.holding.hand q n k hand new.1))
           | inr place ↦ inr (by_place q n k h place new.1)
         ])

@@ -28,6 +28,5 @@ out_is_outside p h of out =
     let c : Config = p.table.config in
     let protocol = protocol_of c (left c p.seen).now (known_left c p.seen h.within_limits h.enabled) in
     let same : marker_in p ≡ marker_of (now_of p) of.number = ap (λ (s : Seat). marker_at (now_of p) s) of.seat in
-    same
-    ∙ nothing_is (marker_of (now_of p) of.number) (subst (λ (x : MarkerState). is_out x.presence ≡ true) same out)
+    same ∙ nothing_is (marker_of (now_of p) of.number) (subst (λ (x : MarkerState). is_out x.presence ≡ true) same out)
     (protocol.idle of.number)

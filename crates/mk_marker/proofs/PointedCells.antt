@@ -24,25 +24,21 @@ later_index false h page cell is = cc
 module _ (c : Config) (w : World) (laid : LayoutStands c w) (on : is_phase w.now.words 4 ≡ false) where
   -- the cell lies on its own page, which has cells
   near : (h : Header) (page : ℕ) (cell : Cell) → header_in w.now.words page ≡ Some h → 0 < cells_under (Some h)
-      → cell.page ≡ page
-      → (l : LiesUnder h page cell) → cell.index < cells_under (header_in w.now.words cell.page)
+      → cell.page ≡ page → (l : LiesUnder h page cell) → cell.index < cells_under (header_in w.now.words cell.page)
   near h page cell shown some at l = grind arith
 
   far : (d : ℕ) (mapped : Bool) (page : ℕ) (cell : Cell) → header_in w.now.words page ≡ Some (Later d mapped)
-      → cell.page ≡ page - d → cell.index ≡ 0
-      → cell.index < cells_under (header_in w.now.words cell.page)
-  far d mapped page cell shown at zero =
-      elim (laid.scene.later page d mapped shown).1 [
-        | inl lt ↦
-            let one = heads_one (header_in w.now.words (page - d)) d lt in
-            subst (λ (q : ℕ). cell.index < cells_under (header_in w.now.words q)) (sym at)
-            (subst (λ (i : ℕ). i < cells_under (header_in w.now.words (page - d))) (sym zero) one)
-        | inr gone ↦ absurd (true≢false (sym gone.0 ∙ on))
-      ]
+      → cell.page ≡ page - d → cell.index ≡ 0 → cell.index < cells_under (header_in w.now.words cell.page)
+  far d mapped page cell shown at zero = elim (laid.scene.later page d mapped shown).1 [
+    | inl lt ↦
+        let one = heads_one (header_in w.now.words (page - d)) d lt in
+        subst (λ (q : ℕ). cell.index < cells_under (header_in w.now.words q)) (sym at)
+        (subst (λ (i : ℕ). i < cells_under (header_in w.now.words (page - d))) (sym zero) one)
+    | inr gone ↦ absurd (true≢false (sym gone.0 ∙ on))
+  ]
 
   by_header : (h : Header) (page word : ℕ) (cell : Cell) → IsInRange h → header_in w.now.words page ≡ Some h
-      → cell_under h page word ≡ Some cell
-      → cell.index < cells_under (header_in w.now.words cell.page)
+      → cell_under h page word ≡ Some cell → cell.index < cells_under (header_in w.now.words cell.page)
   by_header Free page word cell range shown is = cc
   by_header (Block class) page word cell range shown is =
       let l = lies_under (Block class) page word cell is in near (Block class) page cell shown

@@ -19,24 +19,22 @@ goes_nowhere p = record { steps = []; did = did_nothing p; of_scan = refl; has_l
 
 pub goes_then : (p : PassState) (i : ℕ) (q : PassState) (j : ℕ) (r : PassState) → ScansOn p i q → ScansOn q j r
     → ScansOn p (i + j) r
-goes_then p i q j r a b =
-    record {
-      steps = a.steps ++ b.steps;
-      did = did_then p a.steps q b.steps r a.did b.did;
-      of_scan = of_kinds_in_parts is_of_scan a.steps b.steps a.of_scan b.of_scan;
-      has_loads = count_in_parts a.steps b.steps ∙ ap (λ (n : ℕ). n + count_loads b.steps) a.has_loads
-          ∙ ap (λ (n : ℕ). i + n) b.has_loads;
-    }
+goes_then p i q j r a b = record {
+  steps = a.steps ++ b.steps;
+  did = did_then p a.steps q b.steps r a.did b.did;
+  of_scan = of_kinds_in_parts is_of_scan a.steps b.steps a.of_scan b.of_scan;
+  has_loads = count_in_parts a.steps b.steps ∙ ap (λ (n : ℕ). n + count_loads b.steps) a.has_loads
+      ∙ ap (λ (n : ℕ). i + n) b.has_loads;
+}
 
 pub goes_once : (p : PassState) (s : Step) (n : ℕ) (q : PassState) → is_of_scan s ≡ true → is_markers_load s ≡ false
     → MovesMarker p s n q → ScansOn p 0 q
-goes_once p s n q allowed silent m =
-    record {
-      steps = finding p.seat s n ∷ [];
-      did = m.did;
-      of_scan = ap (λ (b : Bool). b && true) allowed;
-      has_loads = ap (λ (b : Bool). 0 + cond {A = ℕ} b 1 0) silent;
-    }
+goes_once p s n q allowed silent m = record {
+  steps = finding p.seat s n ∷ [];
+  did = m.did;
+  of_scan = ap (λ (b : Bool). b && true) allowed;
+  has_loads = ap (λ (b : Bool). 0 + cond {A = ℕ} b 1 0) silent;
+}
 
 pub loads_once : (p : PassState) (n : ℕ) (q : PassState) → MovesMarker p Step.Mload n q → ScansOn p 1 q
 loads_once p n q m = record { steps = finding p.seat Step.Mload n ∷ []; did = m.did; of_scan = refl; has_loads = refl }

@@ -15,31 +15,26 @@ use Rattle.mk_words.specs.States.{PassState}
 
 pub finds_phase : (p : PassState) (n : ℕ) (phase : Phase) (a q : PassState) → MovesMarker p Step.Attend n a
     → Moved a Step.Quit q → phase_number phase ≡ n % 8 → n % 8 ≢ 1 → FindsPhase p phase q
-finds_phase p n phase a q comes goes is other =
-    record {
-      found = n;
-      left = goes.0;
-      did = did_more p (finding p.seat Step.Attend n ∷ []) a Step.Quit goes.0 q comes.did goes.1;
-      low_bits = is;
-      other = λ one. other (sym is ∙ one);
-      out = ap (λ (x : MarkerState). is_out x.presence) goes.1.marker;
-    }
+finds_phase p n phase a q comes goes is other = record {
+  found = n;
+  left = goes.0;
+  did = did_more p (finding p.seat Step.Attend n ∷ []) a Step.Quit goes.0 q comes.did goes.1;
+  low_bits = is;
+  other = λ one. other (sym is ∙ one);
+  out = ap (λ (x : MarkerState). is_out x.presence) goes.1.marker;
+}
 
 pub finds_no_work : (p : PassState) (n : ℕ) (a q : PassState) (pages : ℕ) → MovesMarker p (Step.Mlook Word.Phase) n a
-    → n % 8 ≢ 2 → pages ≡ p.table.config.pages
-    → LooksInVain a 0 pages q → FindsNoWork p q
-finds_no_work p n a q pages looks unwanted is vain =
-    record {
-      phase = n;
-      steps = vain.steps;
-      did = did_then p (looking p.seat Word.Phase n ∷ []) a vain.steps q looks.did vain.did;
-      not_wanted = unwanted;
-      looks = vain.looks;
-      pages = λ page lt.
-          subst (λ (s : Seat). SeesNoWork s page vain.steps)
-          (seat_kept p (looking p.seat Word.Phase n ∷ []) a looks.did)
-          (vain.pages page (omega arith) (omega arith));
-    }
+    → n % 8 ≢ 2 → pages ≡ p.table.config.pages → LooksInVain a 0 pages q → FindsNoWork p q
+finds_no_work p n a q pages looks unwanted is vain = record {
+  phase = n;
+  steps = vain.steps;
+  did = did_then p (looking p.seat Word.Phase n ∷ []) a vain.steps q looks.did vain.did;
+  not_wanted = unwanted;
+  looks = vain.looks;
+  pages = λ page lt. subst (λ (s : Seat). SeesNoWork s page vain.steps)
+      (seat_kept p (looking p.seat Word.Phase n ∷ []) a looks.did) (vain.pages page (omega arith) (omega arith));
+}
 
 pub scans_a_cell : (p : PassState) (n : ℕ) (a b q : PassState) (cell : MarkedCell)
     → MovesMarker p (Step.Mlook Word.Phase) n a → n % 8 ≢ 2

@@ -1,15 +1,12 @@
 -- The sets of blocks, by class and sort.
 use Rattle.std.proofs.lemmas.Bool.{and_parts, cond-false, cond-true, lt-leb, not-true}
-use Rattle.std.proofs.Common.{eqb-true, le-leb, lt-ltb, nat_le}
-use Rattle.std.proofs.Math.Nat.{div-le_self}
+use Rattle.std.proofs.{Common.eqb-true, Common.le-leb, Common.lt-ltb, Common.nat_le, Math.Nat.div-le_self}
 use Rattle.mk_page_map.proofs.Vocabulary.{Bool, IsInItsSets, List, Nothing, PageUse, ℕ, ap, arith, cases_eq, cases_lt}
 use Rattle.mk_page_map.proofs.Vocabulary.{false, first_where, has_free_cell, inl, inr, is_member, is_of_set, is_some}
-use Rattle.mk_page_map.proofs.Vocabulary.{nat_lt, not, refl, sym, true, use_of_kind, ◌%◌, ◌+◌, ◌<◌, ◌∙◌, ◌≡◌, ◌≤◌}
+use Rattle.mk_page_map.proofs.Vocabulary.{nat_lt, not, refl, sym, true, use_of_kind, ◌%◌, ◌<◌, ◌∙◌, ◌≡◌, ◌≤◌}
 use Rattle.mk_geom.specs.Classes.{cells_of, class_words_of}
-use Rattle.mk_geom.specs.PageUses.{Cells, is_same_sort}
-use Rattle.mk_geom.specs.PageWords.{bits_of}
-use Rattle.mk_books.proofs.FreeCellLemmas.{cells_taken_alike}
-use Rattle.mk_books.specs.FreeCells.{class_place}
+use Rattle.mk_geom.specs.{PageUses.Cells, PageUses.is_same_sort, PageWords.bits_of}
+use Rattle.mk_books.{proofs.FreeCellLemmas.cells_taken_alike, specs.FreeCells.class_place}
 use Rattle.mk_page_map.specs.declared.kinds.PageKind.TheVariants.{Block}
 
 pub of_block_set : (set : ℕ) (use' : PageUse) → set < 16
@@ -17,16 +14,13 @@ pub of_block_set : (set : ℕ) (use' : PageUse) → set < 16
 of_block_set set use' block = cond-true (nat_lt set 16) _ _ (lt-ltb set 16 block)
 
 class_of_place : (class : ℕ) (leaf : Bool) → class < 8 → class_place class leaf % 8 ≡ class
-class_of_place class true known = let same : (8 + class) % 8 ≡ class = omega arith in same
-class_of_place class false known = omega arith
+class_of_place class _ known = grind arith
 
 sort_of_place : (class : ℕ) (leaf : Bool) → class < 8 → nat_le 8 (class_place class leaf) ≡ leaf
-sort_of_place class true known = le-leb 8 (8 + class) (omega arith)
-sort_of_place class false known = lt-leb 8 class known
+sort_of_place class _ known = grind (arith, le-leb, lt-leb)
 
 place_within : (class : ℕ) (leaf : Bool) → class < 8 → class_place class leaf < 16
-place_within class true known = omega arith
-place_within class false known = omega arith
+place_within class _ known = grind arith
 
 place_of_set : (set : ℕ) → set < 16 → class_place (set % 8) (nat_le 8 set) ≡ set
 place_of_set set block = grind (arith, cases_lt, lt-leb, le-leb)
@@ -44,8 +38,7 @@ free_in_own_set class leaf used known = of_own_set class leaf (Cells class leaf 
     (cells_taken_alike (Cells class leaf (bits_of (cells_of class) used)) class class leaf leaf used refl refl refl)
 
 same_sorts : (a b : Bool) → is_same_sort a b ≡ true → a ≡ b
-same_sorts true b same = sym same
-same_sorts false b same = sym (not-true b same)
+same_sorts a b same = grind (arith, not-true)
 
 -- no other set of blocks is its own
 pub of_other_set : (set class : ℕ) (leaf : Bool) (taken : List Bool) → set < 16 → (set ≡ class_place class leaf → ⊥)
@@ -97,8 +90,7 @@ same_elsewhere : (set class : ℕ) (leaf : Bool) (earlier used : ℕ) → set < 
     → is_of_set set (use_of_kind (Block class leaf) earlier) ≡ is_of_set set (use_of_kind (Block class leaf) used)
 same_elsewhere set class leaf earlier used is_set other = each_set (λ s. (s ≡ class_place class leaf → ⊥)
     → is_of_set s (use_of_kind (Block class leaf) earlier) ≡ is_of_set s (use_of_kind (Block class leaf) used))
-    (λ s block differ.
-    of_other_set s class leaf (bits_of (cells_of class) earlier) block differ
+    (λ s block differ. of_other_set s class leaf (bits_of (cells_of class) earlier) block differ
     ∙ sym (of_other_set s class leaf (bits_of (cells_of class) used) block differ))
     (λ _. refl) (λ _. refl) set is_set other
 

@@ -1,6 +1,6 @@
 -- The place of a small object is in the lowest block that has a free cell.
 use Rattle.std.proofs.Common.{add-one, if◌then◌else◌, option_and_then, option_map, ◌∷◌}
-use Rattle.mk_page_map.proofs.Vocabulary.{Bool, List, None, Option, Page, Some, ℕ, ap, false, first_where}
+use Rattle.mk_page_map.proofs.Vocabulary.{Bool, List, None, Option, Page, Some, ℕ, ap, arith, false, first_where}
 use Rattle.mk_page_map.proofs.Vocabulary.{has_free_cell, is_free_page, is_some, nat_lt, not, page_at, refl}
 use Rattle.mk_page_map.proofs.Vocabulary.{resident_pages, sym, use_of_page, uses_of_pages, [], ◌+◌, ◌∙◌, ◌≡◌}
 use Rattle.mk_geom.specs.PageUses.{carved, cell_place, cells_taken, or_else, page_behind}
@@ -21,8 +21,7 @@ one_on class number leaf page pages =
   where
     moved : (index : Option ℕ)
         → option_map page_behind (option_map (cell_here number) index) ≡ option_map (cell_here (number + 1)) index
-    moved None = refl
-    moved (Some index) = refl
+    moved _ = grind arith
 
 -- the page, where it has a free cell, and the others
 by_page : (class : ℕ) (leaf : Bool) (page : Page) (pages : List Page) (index later : Option ℕ)
@@ -30,9 +29,7 @@ by_page : (class : ℕ) (leaf : Bool) (page : Page) (pages : List Page) (index l
     (option_map page_behind (option_and_then (free_cell_on class leaf pages) later))
     ≡ option_and_then (free_cell_on class leaf (page ∷ pages))
     (if is_some index then Some 0 else option_map (λ n. n + 1) later)
-by_page class leaf page pages (Some index) later here = ap (option_map (cell_here 0)) (sym here)
-by_page class leaf page pages None None here = refl
-by_page class leaf page pages None (Some number) here = one_on class number leaf page pages
+by_page class leaf page pages _ later here = grind (arith, cell_here, one_on)
 
 cell_is_on : (class : ℕ) (leaf : Bool) (pages : List Page) → cell_place class leaf (uses_of_pages pages)
     ≡ option_and_then (free_cell_on class leaf pages) (first_where (has_free_cell class leaf) (uses_of_pages pages))

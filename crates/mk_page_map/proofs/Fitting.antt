@@ -1,6 +1,5 @@
 -- The sets and the count stay fit for the pages where a page changes.
-use Rattle.std.proofs.lemmas.List.{get_or-map, map-set}
-use Rattle.std.proofs.lemmas.List.Sums.{sum_by-set}
+use Rattle.std.proofs.{lemmas.List.get_or-map, lemmas.List.map-set, lemmas.List.Sums.sum_by-set}
 use Rattle.mk_page_map.proofs.Vocabulary.{AreSets, FitPages, IsInItsSets, List, Nothing, OthersStay, Page, PageUse, ℕ}
 use Rattle.mk_page_map.proofs.Vocabulary.{ap, arith, cases_eq, cond, free_page, get_or, get_or-set_other}
 use Rattle.mk_page_map.proofs.Vocabulary.{get_or-set_same, inl, inr, is_member, is_resident_page, length, length-map}
@@ -54,16 +53,15 @@ fit_changed {pages} {sets} {after} {page} {now} count fit changes counted =
 pub fit_again : {pages : List Page} {sets after : List ℕ} {page resident : ℕ} → FitPages pages sets resident
     → AreSets after → page < length pages → ((s : ℕ) → s < 18 → is_member after s page ≡ is_member sets s page)
     → OthersStay sets after page → FitPages pages after resident
-fit_again {sets} {after} {page} fit are_sets within stays others =
-    record {
-      few = fit.few;
-      are_sets = λ some. are_sets;
-      sorted = λ number inside s is_set. elim (cases_eq number page) [
-        | inl same ↦ ap (is_member after s) same ∙ stays s is_set ∙ ap (is_member sets s) (sym same)
-            ∙ fit.sorted number inside s is_set
-        | inr differ ↦ others s number (omega arith) (omega (arith, fit.few)) differ ∙ fit.sorted number inside s is_set
-      ];
-      no_others = λ s number is_set past few.
-          others s number is_set few (λ same. absurd (omega arith)) ∙ fit.no_others s number is_set past few;
-      counted = fit.counted;
-    }
+fit_again {sets} {after} {page} fit are_sets within stays others = record {
+  few = fit.few;
+  are_sets = λ some. are_sets;
+  sorted = λ number inside s is_set. elim (cases_eq number page) [
+    | inl same ↦ ap (is_member after s) same ∙ stays s is_set ∙ ap (is_member sets s) (sym same)
+        ∙ fit.sorted number inside s is_set
+    | inr differ ↦ others s number (omega arith) (omega (arith, fit.few)) differ ∙ fit.sorted number inside s is_set
+  ];
+  no_others = λ s number is_set past few.
+      others s number is_set few (λ same. absurd (omega arith)) ∙ fit.no_others s number is_set past few;
+  counted = fit.counted;
+}

@@ -1,7 +1,6 @@
 -- The lowest range of free pages, from one range to the next.
 use Rattle.std.proofs.Common.{if◌then◌else◌, le-leb, nat_le, option_map, ◌∷◌}
-use Rattle.std.proofs.lemmas.Bool.{both_ways, not-false, not-true}
-use Rattle.std.proofs.lemmas.List.{at_drop_all}
+use Rattle.std.proofs.{lemmas.Bool.both_ways, lemmas.Bool.not-false, lemmas.Bool.not-true, lemmas.List.at_drop_all}
 use Rattle.std.specs.Option.{unwrap_or}
 use Rattle.mk_page_map.proofs.Vocabulary.{Bool, IsNext, List, None, Option, Page, PageUse, Some, ℕ, ap, arith, cases_lt}
 use Rattle.mk_page_map.proofs.Vocabulary.{false, first_where, free_page, inl, inr, is_free_page, is_in_use, length}
@@ -19,8 +18,7 @@ is_free_at pages number = is_free_page (use_of_page (page_at pages number))
 one_page : (free : Bool) (range : ℕ) (rest other : Option ℕ) → rest ≡ other
     → (if free then Some 0 else option_map (λ n. n + 1) rest)
     ≡ (if nat_le 1 (if free then range + 1 else 0) then Some 0 else option_map (λ n. n + 1) other)
-one_page true range rest other same = rw (le-leb 1 (range + 1) (omega arith)) refl
-one_page false range rest other same = ap (option_map (λ n. n + 1)) same
+one_page _ range rest other same = grind (arith, le-leb)
 
 pub lowest_page_is_range : (uses : List PageUse) → first_where is_free_page uses ≡ range_start 1 uses
 lowest_page_is_range [] = refl
@@ -99,8 +97,7 @@ range_is_short {start} {end} count {pages} some range short =
 -- the range that begins at a free page
 pub range_from : (pages : List Page) {start : ℕ} (next : Option ℕ) → start < length pages → is_free_at pages start
     ≡ true → IsNext (is_in_use pages) start (length pages) next → IsRange pages start (unwrap_or next (length pages))
-range_from pages None within free next = grind (arith, not-false, is_free_at)
-range_from pages (Some end) within free next = grind (arith, cases_lt, both_ways, is_free_at, not-true, not-false)
+range_from pages next_one within free next = grind (arith, not-false, is_free_at, cases_lt, both_ways, not-true)
 
 pub no_range : {from : ℕ} (count : ℕ) (pages : List Page) → 1 ≤ count → from ≤ length pages
     → IsNext (is_free_at pages) from (length pages) None → range_start_from from count pages ≡ None

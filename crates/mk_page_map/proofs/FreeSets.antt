@@ -2,15 +2,13 @@
 use Rattle.std.proofs.Common.{le-ltb, lt-ltb, ne_eqb, take_at, ◌&&◌, ◌/◌}
 use Rattle.std.proofs.lemmas.Bool.{and_left, and_right}
 use Rattle.std.proofs.lemmas.List.{get_or-replicate, get_or_past, length-replicate}
-use Rattle.std.proofs.lemmas.List.Sums.{sum_by-cons}
-use Rattle.std.proofs.lemmas.Nat.Bits.{bit_at-zero}
-use Rattle.mk_page_map.proofs.Vocabulary.{AreSets, FitPages, IsInItsSets, List, Nothing, Page, PageUse, Shows, ℕ, ap}
-use Rattle.mk_page_map.proofs.Vocabulary.{arith, bit_at, cases_eq, cases_lt, cond, drop, false, free_page, get_or, inl}
-use Rattle.mk_page_map.proofs.Vocabulary.{inr, is_member, is_of_set, is_resident_page, length, nat_eq, nat_lt, not}
-use Rattle.mk_page_map.proofs.Vocabulary.{page_at, refl, replicate, resident_pages, subst, suc, sym, take, use_of_page}
-use Rattle.mk_page_map.proofs.Vocabulary.{uses_of_pages, zero, ◌%◌, ◌*◌, ◌++◌, ◌+◌, ◌-◌, ◌<◌, ◌∙◌, ◌≡◌, ◌≤◌}
-use Rattle.mk_page_map.proofs.BlockSets.{each_set, nothing_of_set}
-use Rattle.mk_page_map.proofs.Showing.{known_by, member_at}
+use Rattle.std.proofs.{lemmas.List.Sums.sum_by-cons, lemmas.Nat.Bits.bit_at-zero}
+use Rattle.mk_page_map.proofs.Vocabulary.{AreSets, FitPages, List, Nothing, PageUse, Shows, ℕ, ap, arith, bit_at}
+use Rattle.mk_page_map.proofs.Vocabulary.{cases_eq, cases_lt, cond, drop, false, free_page, get_or, inl, inr, is_member}
+use Rattle.mk_page_map.proofs.Vocabulary.{is_resident_page, length, nat_eq, nat_lt, not, page_at, refl, replicate}
+use Rattle.mk_page_map.proofs.Vocabulary.{resident_pages, suc, sym, take, uses_of_pages, zero, ◌%◌, ◌*◌, ◌++◌, ◌+◌, ◌-◌}
+use Rattle.mk_page_map.proofs.Vocabulary.{◌<◌, ◌∙◌, ◌≡◌, ◌≤◌}
+use Rattle.mk_page_map.proofs.{BlockSets.each_set, BlockSets.nothing_of_set, Showing.known_by, Showing.member_at}
 use Rattle.mk_page_map.specs.PageSets.{OtherWordsStay, word_in_set}
 
 -- the first pages are in set 16, and nothing is in another
@@ -34,17 +32,13 @@ zero_sets = record {
       ∙ sym (ap (λ n. not (nat_eq n 0)) (zero_at 1300 (65 * set + 1 + word)));
 }
 
--- no page is in a set of words that are 0
-pub none_in_zeros : (n set number : ℕ) → is_member (replicate n 0) set number ≡ false
-none_in_zeros n set number = zero_bit n (65 * set + 1 + number / 64) (number % 64)
-
 -- The first words of set 16 have those of this many pages that they have a bit for, and nothing else is in a set.
 abbrev pub HaveFreeBelow : List ℕ → ℕ → ℕ → Type 0
 HaveFreeBelow sets words pages = (set number : ℕ) → set < 20 → number < 4096
     → is_member sets set number ≡ (nat_eq set 16 && (nat_lt (number / 64) words && nat_lt number pages))
 
 pub none_free : (pages : ℕ) → HaveFreeBelow (replicate 1300 0) 0 pages
-none_free pages set number is_set few = none_in_zeros 1300 set number
+none_free pages set number is_set few = (zero_bit 1300 (65 * set + 1 + number / 64) (number % 64))
     ∙ sym (and_right (nat_eq set 16) (nat_lt (number / 64) 0 && nat_lt number pages)
     (and_left (nat_lt (number / 64) 0) (nat_lt number pages) (le-ltb (number / 64) 0 (omega arith))))
 
@@ -73,13 +67,10 @@ one_word_more before after {words} pages word free is stay bits set number is_se
       ]
       | inr differ ↦ ap (λ n. nat_eq (bit_at n (number % 64)) 1) (stay set (number / 64) (omega arith)
           (λ _ same. differ same)) ∙ free set number is_set few ∙ ap (λ t. nat_eq set 16 && (t && nat_lt number pages))
-          (later (number / 64) words differ)
-    ]
-  where
-    later : (n m : ℕ) → (n ≡ m → ⊥) → nat_lt n m ≡ nat_lt n (m + 1)
-    later n m differ = elim (cases_lt n m) [
-      | inl low ↦ lt-ltb n m low ∙ sym (lt-ltb n (m + 1) (omega arith))
-      | inr high ↦ le-ltb n m high ∙ sym (le-ltb n (m + 1) (omega arith))
+          (elim (cases_lt (number / 64) words) [
+            | inl low ↦ lt-ltb (number / 64) words low ∙ sym (lt-ltb (number / 64) (words + 1) (omega arith))
+            | inr high ↦ le-ltb (number / 64) words high ∙ sym (le-ltb (number / 64) (words + 1) (omega arith))
+          ])
     ]
 
 -- all words that have a page
@@ -112,12 +103,7 @@ free_fits {n} {sets} few are_sets free =
     record {
       few = omega arith;
       are_sets = λ some. are_sets;
-      sorted = λ number within. subst (λ (p : Page). IsInItsSets sets number (use_of_page p))
-          (sym (free_at n number (omega arith))) (each_set (λ s. is_member sets s number ≡ is_of_set s Nothing)
-          (λ s block. free s number (omega arith) (omega arith) ∙ and_left (nat_eq s 16) (nat_lt number n)
-          (ne_eqb s 16 (λ same. absurd (omega arith))) ∙ sym (nothing_of_set s block))
-          (free 16 number (omega arith) (omega arith) ∙ lt-ltb number n (omega arith))
-          (free 17 number (omega arith) (omega arith)));
+      sorted = grind (arith, free_at, each_set, and_left, ne_eqb, nothing_of_set, lt-ltb, Nothing);
       no_others = λ s number is_set past short.
           free s number is_set short ∙ and_right (nat_eq s 16) (nat_lt number n) (le-ltb number n (omega arith));
       counted = none_resident n;

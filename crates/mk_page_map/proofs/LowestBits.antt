@@ -5,10 +5,9 @@ use Rattle.std.proofs.lemmas.Nat.Bits.{bit_at_clear_other, bit_at_clear_same, bi
 use Rattle.std.proofs.lemmas.Nat.Bits.{bit_at_ones, bit_at_ones_above, bit_at_set_other, bit_at_set_same, bit_at_xor}
 use Rattle.std.proofs.lemmas.Nat.Bits.{ones_shl}
 use Rattle.std.proofs.Math.Pow.{pow-lt}
-use Rattle.std.specs.Int.{bit_not}
-use Rattle.std.specs.Int.Bits.{bit_xor}
+use Rattle.std.specs.{Int.bit_not, Int.Bits.bit_xor}
 use Rattle.mk_page_map.proofs.Vocabulary.{IsNext, None, Some, ℕ, ap, arith, bit_at, cases_lt, false, nat_eq, nat_lt}
-use Rattle.mk_page_map.proofs.Vocabulary.{not, refl, suc, sym, true, w64, zero, ◌%◌, ◌*◌, ◌+◌, ◌-◌, ◌<◌, ◌∙◌, ◌≡◌, ◌≤◌}
+use Rattle.mk_page_map.proofs.Vocabulary.{not, sym, true, w64, ◌%◌, ◌*◌, ◌+◌, ◌-◌, ◌<◌, ◌∙◌, ◌≡◌, ◌≤◌}
 
 -- the word without its bits below a place, as the code computes it
 abbrev pub rest_from : ℕ → ℕ → ℕ
@@ -70,9 +69,7 @@ turned : (word place k : ℕ) → place < 64 → bit_at (with_other word place) 
 turned word place k within = grind (arith, bit_at_xor, one_at)
 
 other_bit : (bit : ℕ) → bit < 2 → nat_eq ((bit + 1) % 2) 1 ≡ not (nat_eq bit 1)
-other_bit zero few = refl
-other_bit (suc zero) few = refl
-other_bit (suc (suc bit)) few = absurd (omega arith)
+other_bit bit few = grind arith
 
 pub turned_bit_is : (word place : ℕ) → place < 64
     → nat_eq (bit_at (with_other word place) place) 1 ≡ not (nat_eq (bit_at word place) 1)

@@ -7,8 +7,7 @@ use Rattle.mk_books.proofs.FirstWhereLemmas.{first_where_at, first_where_nowhere
 pub same_next : {passes : ℕ → Bool} (others : ℕ → Bool) (from : ℕ) {count : ℕ} (next : Option ℕ)
     → ((number : ℕ) → number < count → passes number ≡ others number)
     → IsNext passes from count next → IsNext others from count next
-same_next others from (Some number) same next = grind arith
-same_next others from None same next = λ k low high. sym (same k high) ∙ next k low high
+same_next others from _ same next = grind arith
 
 -- the first of a list is the next one from its start
 pub first_is_next : {A : Type 0} (p : A → Bool) (xs : List A) (d : A) {passes : ℕ → Bool} (next : Option ℕ)

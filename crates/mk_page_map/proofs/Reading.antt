@@ -2,11 +2,10 @@
 use Rattle.std.proofs.lemmas.List.{get_or-map}
 use Rattle.mk_page_map.proofs.Vocabulary.{Bool, FitPages, IsNext, KnownPages, List, Nothing, Option, Page, PageUse}
 use Rattle.mk_page_map.proofs.Vocabulary.{Shows, ℕ, ap, arith, false, first_where, free_page, is_member, is_of_set}
-use Rattle.mk_page_map.proofs.Vocabulary.{length, length-map, page_at, refl, subst, sym, use_of_page, uses_of_pages}
-use Rattle.mk_page_map.proofs.Vocabulary.{◌<◌, ◌∙◌, ◌≡◌, ◌≤◌}
-use Rattle.mk_page_map.proofs.NextPages.{first_is_next, same_next}
-use Rattle.mk_page_map.proofs.Showing.{known_by, member_at}
-use Rattle.mk_page_map.specs.KnownPages.{is_quarantined}
+use Rattle.mk_page_map.proofs.Vocabulary.{length, length-map, page_at, subst, sym, use_of_page, uses_of_pages, ◌<◌, ◌∙◌}
+use Rattle.mk_page_map.proofs.Vocabulary.{◌≡◌, ◌≤◌}
+use Rattle.mk_page_map.proofs.{NextPages.first_is_next, NextPages.same_next, Showing.known_by, Showing.member_at}
+use Rattle.mk_page_map.specs.KnownPages.{is_quarantined_page}
 
 -- a look at the sets of a map, and at how many pages it has
 pub record Reads (known : KnownPages) (held : List Page) (sets slice : List ℕ) (resident count : ℕ) : Type 0 where
@@ -25,13 +24,6 @@ pub no_others_there : {known : KnownPages} {held : List Page} {sets slice : List
     → is_member slice set number ≡ false
 no_others_there set reads is_set number past few = grind arith
 
--- the next page of a set, by the pages as they are held
-next_of_held : {known : KnownPages} {held : List Page} {sets slice : List ℕ} {resident count : ℕ} (set from : ℕ)
-    (passes : ℕ → Bool) (next : Option ℕ) → Reads known held sets slice resident count → set < 18
-    → ((number : ℕ) → is_of_set set (use_of_page (page_at held number)) ≡ passes number)
-    → IsNext (is_member slice set) from count next → IsNext passes from (length held) next
-next_of_held set from passes next reads is_set same found = grind (arith, same_next)
-
 -- and by what the map knows: of the first 18 sets, and of the two of quarantined and of uncleaned pages
 pub next_of_sorted : {known : KnownPages} {held : List Page} {sets slice : List ℕ} {resident count : ℕ} (set from : ℕ)
     (next : Option ℕ) → Reads known held sets slice resident count → set < 18
@@ -39,17 +31,15 @@ pub next_of_sorted : {known : KnownPages} {held : List Page} {sets slice : List 
     → IsNext (λ number. is_of_set set (use_of_page (page_at known.pages number))) from (length known.pages) next
 next_of_sorted {held} set from next reads is_set found =
     subst (λ (k : KnownPages). IsNext (λ number. is_of_set set (use_of_page (page_at k.pages number))) from
-    (length k.pages) next) reads.view (next_of_held set from (λ number. is_of_set set (use_of_page
-    (page_at held number)))
-    next reads is_set (λ number. refl) found)
+    (length k.pages) next) reads.view (grind (arith, same_next))
 
 quarantined_at : (held : List Page) (sets : List ℕ) (number : ℕ) → number < length held
-    → is_quarantined (known_by held sets) number ≡ is_member sets 18 number
+    → is_quarantined_page (known_by held sets) number ≡ is_member sets 18 number
 quarantined_at held sets number within = member_at sets 18 (length held) number within
 
 pub next_of_quarantined : {known : KnownPages} {held : List Page} {sets slice : List ℕ} {resident count : ℕ}
     (from : ℕ) (next : Option ℕ) → Reads known held sets slice resident count
-    → IsNext (is_member slice 18) from count next → IsNext (is_quarantined known) from (length known.pages) next
+    → IsNext (is_member slice 18) from count next → IsNext (is_quarantined_page known) from (length known.pages) next
 next_of_quarantined from next reads found = grind (arith, same_next, known_by, quarantined_at)
 
 -- the first page of a set, among those that the map shows

@@ -2,23 +2,17 @@
 use Rattle.std.proofs.Common.{◌/◌}
 use Rattle.mk_page_map.proofs.Vocabulary.{AreSets, Bool, List, OthersStay, ℕ, ap, arith, bit_at, cases_eq, false}
 use Rattle.mk_page_map.proofs.Vocabulary.{get_or, get_or-set_other, get_or-set_same, inl, inr, is_member, length-set}
-use Rattle.mk_page_map.proofs.Vocabulary.{nat_eq, not, refl, set, sym, true, ◌%◌, ◌*◌, ◌+◌, ◌<◌, ◌∙◌, ◌≡◌}
+use Rattle.mk_page_map.proofs.Vocabulary.{nat_eq, not, set, sym, true, ◌%◌, ◌*◌, ◌+◌, ◌<◌, ◌∙◌, ◌≡◌}
 use Rattle.mk_page_map.specs.PageSets.{OtherWordsStay, summary_of, word_in_set}
 use mathlib.Core.Bool.{beq}
 
 -- two Booleans that don't differ
 pub same : (a b : Bool) → not (beq a b) ≡ false → a ≡ b
-same true true h = refl
-same true false h = cc
-same false true h = cc
-same false false h = refl
+same a b h = grind arith
 
 -- and of two that differ one is the other turned
 pub turned : (a b : Bool) → not (beq a b) ≡ true → not a ≡ b
-turned true true h = cc
-turned true false h = refl
-turned false true h = refl
-turned false false h = cc
+turned a b h = grind arith
 
 abbrev pub after_store : List ℕ → ℕ → ℕ → ℕ → ℕ → List ℕ
 after_store sets s word bits summary = set (set sets (65 * s + 1 + word) bits) (65 * s) summary
@@ -65,31 +59,30 @@ summary_stays sets s word bits = get_or-set_other sets (65 * s + 1 + word) (65 *
 
 pub stored_are_sets : {sets : List ℕ} {s word bits summary : ℕ} → StoresWord sets s word bits summary
     → AreSets (after_store sets s word bits summary)
-stored_are_sets {sets} {s} {word} {bits} {summary} stores =
-    record {
-      long = length-set (set sets (65 * s + 1 + word) bits) (65 * s) summary ∙ length-set sets (65 * s + 1 + word) bits
-          ∙ stores.are_sets.long;
-      summaries = λ other w is_set within. elim (cases_eq other s) [
-        | inl same ↦ elim (cases_eq w word) [
-          | inl here ↦ ap (λ t. nat_eq (bit_at (summary_of (after_store sets s word bits summary) t) w) 1) same
-              ∙ ap (λ n. nat_eq (bit_at n w) 1) (stored_summary stores) ∙ ap (λ k. nat_eq (bit_at summary k) 1) here
-              ∙ stores.mark ∙ sym (ap (λ t. not (nat_eq (word_in_set (after_store sets s word bits summary) t w) 0))
-              same ∙ ap (λ k. not (nat_eq (word_in_set (after_store sets s word bits summary) s k) 0)) here
-              ∙ ap (λ n. not (nat_eq n 0)) (stored_word stores))
-          | inr there ↦ ap (λ t. nat_eq (bit_at (summary_of (after_store sets s word bits summary) t) w) 1) same
-              ∙ ap (λ n. nat_eq (bit_at n w) 1) (stored_summary stores)
-              ∙ ap (λ b. nat_eq b 1) (stores.other_marks w within there)
-              ∙ stores.are_sets.summaries s w stores.is_set within
-              ∙ sym (ap (λ t. not (nat_eq (word_in_set (after_store sets s word bits summary) t w) 0)) same
-              ∙ ap (λ n. not (nat_eq n 0)) (other_word sets s word bits summary stores.is_word s w within
-              (λ _ here. there here)))
-        ]
-        | inr differ ↦ ap (λ n. nat_eq (bit_at n w) 1) (other_summary sets s word bits summary other stores.is_word
-            differ) ∙ stores.are_sets.summaries other w is_set within
-            ∙ sym (ap (λ n. not (nat_eq n 0)) (other_word sets s word bits summary stores.is_word other w within
-            (λ same _. differ same)))
-      ];
-    }
+stored_are_sets {sets} {s} {word} {bits} {summary} stores = record {
+  long = length-set (set sets (65 * s + 1 + word) bits) (65 * s) summary ∙ length-set sets (65 * s + 1 + word) bits
+      ∙ stores.are_sets.long;
+  summaries = λ other w is_set within. elim (cases_eq other s) [
+    | inl same ↦ elim (cases_eq w word) [
+      | inl here ↦ ap (λ t. nat_eq (bit_at (summary_of (after_store sets s word bits summary) t) w) 1) same
+          ∙ ap (λ n. nat_eq (bit_at n w) 1) (stored_summary stores) ∙ ap (λ k. nat_eq (bit_at summary k) 1) here
+          ∙ stores.mark ∙ sym (ap (λ t. not (nat_eq (word_in_set (after_store sets s word bits summary) t w) 0))
+          same ∙ ap (λ k. not (nat_eq (word_in_set (after_store sets s word bits summary) s k) 0)) here
+          ∙ ap (λ n. not (nat_eq n 0)) (stored_word stores))
+      | inr there ↦ ap (λ t. nat_eq (bit_at (summary_of (after_store sets s word bits summary) t) w) 1) same
+          ∙ ap (λ n. nat_eq (bit_at n w) 1) (stored_summary stores)
+          ∙ ap (λ b. nat_eq b 1) (stores.other_marks w within there)
+          ∙ stores.are_sets.summaries s w stores.is_set within
+          ∙ sym (ap (λ t. not (nat_eq (word_in_set (after_store sets s word bits summary) t w) 0)) same
+          ∙ ap (λ n. not (nat_eq n 0)) (other_word sets s word bits summary stores.is_word s w within
+          (λ _ here. there here)))
+    ]
+    | inr differ ↦ ap (λ n. nat_eq (bit_at n w) 1) (other_summary sets s word bits summary other stores.is_word
+        differ) ∙ stores.are_sets.summaries other w is_set within
+        ∙ sym (ap (λ n. not (nat_eq n 0)) (other_word sets s word bits summary stores.is_word other w within
+        (λ same _. differ same)))
+  ];
+}
 
 -- a page is put, by its word
 

@@ -3,16 +3,11 @@ use Rattle.std.proofs.lemmas.List.FromFn.{get_or-map-range_with_len}
 use Rattle.mk_page_map.proofs.Vocabulary.{KnownPages, List, OthersStay, Page, Shows, ℕ, ap, arith, cases_eq, false}
 use Rattle.mk_page_map.proofs.Vocabulary.{get_or, get_or-set_other, get_or-set_same, inl, inr, is_member, length}
 use Rattle.mk_page_map.proofs.Vocabulary.{length-set, nat_eq, not, set, sym, ◌<◌, ◌∙◌, ◌≡◌, ◌≤◌}
-use Rattle.mk_page_map.specs.Members.{has_freed_cells}
-use Rattle.mk_page_map.specs.PageSets.{members}
+use Rattle.mk_page_map.specs.{Members.has_freed_cells, PageSets.members}
 
 abbrev pub known_by : List Page → List ℕ → KnownPages
 known_by pages sets =
-    record {
-      pages = pages;
-      quarantined = members sets 18 (length pages);
-      uncleaned = members sets 19 (length pages);
-    }
+    record { pages = pages; quarantined = members sets 18 (length pages); uncleaned = members sets 19 (length pages) }
 
 pub member_at : (sets : List ℕ) (s count number : ℕ) → number < count
     → get_or (members sets s count) number false ≡ is_member sets s number

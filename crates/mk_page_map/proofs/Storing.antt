@@ -1,16 +1,12 @@
 -- A store of a page's header or used word keeps a map in step.
-use Rattle.std.proofs.Common.{slice_index_or}
-use Rattle.std.proofs.lemmas.List.{get_or_read}
-use Rattle.std.specs.Int.{from_bool}
+use Rattle.std.{proofs.Common.slice_index_or, proofs.lemmas.List.get_or_read, specs.Int.from_bool}
 use Rattle.mk_page_map.proofs.Vocabulary.{AreSets, Bool, FitPages, IsInItsSets, KnownPages, List, OthersStay, Page}
-use Rattle.mk_page_map.proofs.Vocabulary.{PageKind, Shows, ℕ, ap, arith, cond, false, free_page, is_member}
-use Rattle.mk_page_map.proofs.Vocabulary.{is_resident_page, length, page_at, refl, resident_pages, set, subst, sym}
-use Rattle.mk_page_map.proofs.Vocabulary.{true, use_of_kind, use_of_page, uses_of_pages, ◌+◌, ◌<◌, ◌∙◌, ◌≡◌, ◌≤◌}
+use Rattle.mk_page_map.proofs.Vocabulary.{PageKind, Shows, ℕ, ap, arith, cond, free_page, is_member, is_resident_page}
+use Rattle.mk_page_map.proofs.Vocabulary.{length, page_at, resident_pages, set, subst, sym, use_of_kind, use_of_page}
+use Rattle.mk_page_map.proofs.Vocabulary.{uses_of_pages, ◌+◌, ◌<◌, ◌∙◌, ◌≡◌, ◌≤◌}
+use Rattle.mk_geom.specs.{Headers.header_of, PageWords.use_under}
 use Rattle.mk_page_map.proofs.Fitting.{Changes, fit_changed, resident_changed, resident_one}
 use Rattle.mk_page_map.proofs.Showing.{changed_shows, known_by}
-use Rattle.mk_geom.specs.Headers.{header_of}
-use Rattle.mk_geom.specs.PageWords.{use_under}
-use Rattle.mk_page_map.specs.declared.kinds.PageKind.TheVariants.{Block, Free, Run}
 
 -- a store: the pages and the sets before it, the sets as they were passed on and left, and the page then
 pub record Stores (held : List Page) (sets slice after : List ℕ) (resident page : ℕ) (now : Page) : Type 0 where
@@ -57,8 +53,7 @@ pub page_read : (held : List Page) (page : ℕ) (found : Page) → page < length
 page_read held page found within is = get_or_read held page found within is free_page
 
 byte_is : (b : Bool) → from_bool b ≡ cond b 1 0
-byte_is true = refl
-byte_is false = refl
+byte_is _ = grind arith
 
 -- the byte that the code counts a page by
 pub resident_byte : (page : Page) (is_resident : Bool) (byte : ℕ)
@@ -75,9 +70,7 @@ counted_anew held page resident was is now within old new counted = omega (arith
 -- a used word makes no page resident
 resident_by_kind : (kind : PageKind) (used other : ℕ)
     → is_resident_page (use_of_kind kind used) ≡ is_resident_page (use_of_kind kind other)
-resident_by_kind Free used other = refl
-resident_by_kind (Block class leaf) used other = refl
-resident_by_kind (Run mapped) used other = refl
+resident_by_kind _ used other = grind arith
 
 pub same_count : (held : List Page) (resident page : ℕ) (found : Page) (used : ℕ) (kind : PageKind)
     → found ≡ page_at held page → ((n : ℕ) → use_under (header_of found.header) n ≡ use_of_kind kind n)

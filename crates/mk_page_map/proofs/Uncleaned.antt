@@ -1,16 +1,12 @@
 -- Which pages a map has as uncleaned, by its sets.
-use Rattle.std.proofs.lemmas.List.{get_or_past}
-use Rattle.std.proofs.lemmas.List.FromFn.{length-range_with_len}
+use Rattle.std.proofs.{lemmas.List.get_or_past, lemmas.List.FromFn.length-range_with_len}
 use Rattle.std.specs.List.{range_with_len}
 use Rattle.mk_page_map.proofs.Vocabulary.{AreSets, Bool, FitPages, IsNext, KnownPages, List, Option, OthersStay, Page}
 use Rattle.mk_page_map.proofs.Vocabulary.{Shows, ℕ, ap, arith, cases_eq, cases_lt, false, inl, inr, is_member, length}
 use Rattle.mk_page_map.proofs.Vocabulary.{length-map, refl, subst, sym, ◌<◌, ◌∙◌, ◌≡◌, ◌≤◌}
-use Rattle.mk_page_map.proofs.Reading.{Reads}
 use Rattle.mk_page_map.proofs.Showing.{known_by, member_at, member_of_freed}
-use Rattle.mk_page_map.proofs.Fitting.{fit_again}
-use Rattle.mk_page_map.proofs.NextPages.{same_next}
-use Rattle.mk_page_map.specs.KnownPages.{is_uncleaned}
-use Rattle.mk_page_map.specs.PageSets.{members}
+use Rattle.mk_page_map.proofs.{Fitting.fit_again, NextPages.same_next, Reading.Reads}
+use Rattle.mk_page_map.specs.{KnownPages.is_uncleaned, PageSets.members}
 
 pub uncleaned_at : (held : List Page) (sets : List ℕ) (number : ℕ) → number < length held
     → is_uncleaned (known_by held sets) number ≡ is_member sets 19 number
@@ -47,13 +43,12 @@ pub record ChangesUncleaned (held : List Page) (sets slice after : List ℕ) (re
 same_sets : {held : List Page} {sets slice after : List ℕ} {resident page : ℕ}
     → ChangesUncleaned held sets slice after resident page
     → (s number : ℕ) → s < 19 → number < length held → is_member after s number ≡ is_member sets s number
-same_sets {sets} {after} {page} r s number is_set within =
-    elim (cases_eq number page) [
-      | inl same ↦ ap (is_member after s) same ∙ r.other_sets s (omega arith) (λ e. absurd (omega arith))
-          ∙ ap (λ xs. is_member xs s page) r.is_slice ∙ ap (is_member sets s) (sym same)
-      | inr differ ↦ r.others s number (omega arith) (omega (arith, r.fit.few)) differ
-          ∙ ap (λ xs. is_member xs s number) r.is_slice
-    ]
+same_sets {sets} {after} {page} r s number is_set within = elim (cases_eq number page) [
+  | inl same ↦ ap (is_member after s) same ∙ r.other_sets s (omega arith) (λ e. absurd (omega arith))
+      ∙ ap (λ xs. is_member xs s page) r.is_slice ∙ ap (is_member sets s) (sym same)
+  | inr differ ↦ r.others s number (omega arith) (omega (arith, r.fit.few)) differ
+      ∙ ap (λ xs. is_member xs s number) r.is_slice
+]
 
 pub still_fits : {held : List Page} {sets slice after : List ℕ} (vec : List ℕ) {resident page : ℕ}
     → ChangesUncleaned held sets slice after resident page → vec ≡ after → FitPages held vec resident

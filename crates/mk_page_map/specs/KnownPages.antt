@@ -11,8 +11,8 @@ pub record KnownPages : Type 0 where
   pub uncleaned : List Bool
 
 -- It has freed cells.
-abbrev pub is_quarantined : KnownPages → ℕ → Bool
-is_quarantined known number = slice_index_or known.quarantined number false
+abbrev pub is_quarantined_page : KnownPages → ℕ → Bool
+is_quarantined_page known number = slice_index_or known.quarantined number false
 
 -- Since it was freed, or marked as a free page, nobody has said that no mark is left on it.
 abbrev pub is_uncleaned : KnownPages → ℕ → Bool
@@ -22,7 +22,7 @@ is_uncleaned known number = slice_index_or known.uncleaned number false
 pub record Shows (known : KnownPages) (pages : List Page) (freed : List ℕ) : Type 0 where
   pub page_by_page : known.pages ≡ pages
   pub freed_words : length freed ≡ length pages
-  pub quarantined : (number : ℕ) → number < length pages → is_quarantined known number ≡ has_freed_cells freed number
+  pub quarantined : (number : ℕ) → number < length pages → is_quarantined_page known number ≡ has_freed_cells freed number
 
 -- the pages after a store of a header word, and of a used word
 abbrev pub with_header : List Page → ℕ → ℕ → List Page

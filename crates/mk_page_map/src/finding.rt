@@ -2,7 +2,7 @@
 ghost use Rattle.std.specs.Prelude.{◌≡◌, ℕ, ◌<◌, ◌≤◌, List, length, false};
 ghost use Rattle.mk_geom.specs.{declared.pages.Page.Page, PageUses.{first_where, is_free_page, range_start}};
 ghost use Rattle.mk_geom.specs.{PageUses.resident_pages, PageWords.{use_of_page, uses_of_pages}};
-ghost use Rattle.mk_page_map.specs.{KnownPages.{Shows, is_quarantined, is_uncleaned}, Members.{IsNext, has_free_cell}};
+ghost use Rattle.mk_page_map.specs.{KnownPages.{Shows, is_quarantined_page, is_uncleaned}, Members.{IsNext, has_free_cell}};
 ghost use Rattle.mk_page_map.specs.{Members.{has_freed_cells, is_in_use, page_at}, PageSets.{AreSets, is_member}};
 ghost use Rattle.mk_page_map.specs.PageSets.{is_of_set};
 
@@ -31,7 +31,7 @@ impl PageMap {
         requires { set < 20 }
         ensures sorted { set < 18 → IsNext (λ number. is_of_set set (use_of_page (page_at self.now.pages number))) from
             (length self.now.pages) result }
-        ensures quarantined { set ≡ 18 → IsNext (is_quarantined self.now) from (length self.now.pages) result }
+        ensures quarantined { set ≡ 18 → IsNext (is_quarantined_page self.now) from (length self.now.pages) result }
         ensures uncleaned { set ≡ 19 → IsNext (is_uncleaned self.now) from (length self.now.pages) result }
     {
         next_page(self.pages.len(), &self.sets, set, from)

@@ -1,21 +1,15 @@
 -- What is done in parts, and by one step.
 use Rattle.std.proofs.Common.{Bool, List, ap, append-nil, append_assoc, false, if◌then◌else◌, refl, subst, sym, true}
 use Rattle.std.proofs.Common.{[], ◌++◌, ◌∙◌, ◌∷◌, ◌≡◌}
-use Rattle.std.proofs.lemmas.Bool.{and_from, false_from_ne_true}
-use Rattle.std.proofs.lemmas.List.Folds.{list_all-append}
+use Rattle.std.proofs.{lemmas.Bool.and_from, lemmas.Bool.false_from_ne_true, lemmas.List.Folds.list_all-append}
 use Rattle.mk_core.proofs.HistoryParts.{left_in_parts}
 use Rattle.mk_core.specs.Growing.{AreOfOthers, Finding, is_one_of, is_same_seat, own_from}
 use Rattle.mk_core.specs.History.{World, left, left_from, world_behind}
-use Rattle.mk_core.specs.Accesses.{found}
-use Rattle.mk_core.specs.declared.config.Config.{Config}
-use Rattle.mk_core.specs.declared.events.Event.{Event}
-use Rattle.mk_core.specs.declared.events.Seat.{Seat}
-use Rattle.mk_core.specs.declared.events.Step.{Step}
+use Rattle.mk_core.specs.{Accesses.found, declared.config.Config.Config, declared.events.Event.Event}
+use Rattle.mk_core.specs.{declared.events.Seat.Seat, declared.events.Step.Step}
 use Rattle.mk_turns.specs.Doing.{AreOwnOrOfOthers, Does, DoneInTurn, NothingIsDone, StepsAreDone, are_of, done_in}
-use Rattle.mk_words.proofs.Made.{own_before}
-use Rattle.mk_words.proofs.Seats.{not_both, same_seat, same_self}
-use Rattle.mk_words.specs.Seats.{Has}
-use Rattle.mk_words.specs.States.{PassState, event_of}
+use Rattle.mk_words.proofs.{Made.own_before, Seats.not_both, Seats.same_seat, Seats.same_self}
+use Rattle.mk_words.specs.{Seats.Has, States.PassState, States.event_of}
 
 chosen_first : (b : Bool) (x : Finding) (xs ys : List Finding)
     → (if b then x ∷ xs else xs) ++ ys ≡ (if b then x ∷ (xs ++ ys) else xs ++ ys)
@@ -32,8 +26,7 @@ own_in_parts c s w (e ∷ es) ys =
 
 pub done_in_parts : (p : PassState) (xs ys : List Event)
     → done_in p (xs ++ ys) ≡ done_in p xs ++ done_in (record p { seen = p.seen ++ xs }) ys
-done_in_parts p xs ys =
-    own_in_parts p.table.config p.seat _ xs ys ∙ rw (left_in_parts p.table.config p.seen xs)
+done_in_parts p xs ys = own_in_parts p.table.config p.seat _ xs ys ∙ rw (left_in_parts p.table.config p.seen xs)
 
 pub of_kinds_in_parts : (kinds : Step → Bool) (xs ys : List Finding)
     → are_of kinds xs ≡ true → are_of kinds ys ≡ true → are_of kinds (xs ++ ys) ≡ true
@@ -68,8 +61,7 @@ not_own seats s t has out =
 
 -- events of others are none of a seat's own
 pub none_own : (c : Config) (seats : List Seat) (s : Seat) (w : World) (xs : List Event) → Has seats s
-    → AreOfOthers seats xs
-    → own_from c s w xs ≡ []
+    → AreOfOthers seats xs → own_from c s w xs ≡ []
 unfolding own_from AreOfOthers
 none_own c seats s w [] has others = refl
 none_own c seats s w (e ∷ es) has others =

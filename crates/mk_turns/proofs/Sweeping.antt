@@ -3,24 +3,16 @@ use Rattle.std.proofs.Common.{Bool, List, ap, append-nil, append_assoc, false, i
 use Rattle.std.proofs.Common.{true≢false, [], ◌++◌, ◌∙◌, ◌∷◌, ◌≡◌}
 use Rattle.std.proofs.lemmas.Bool.{and_parts}
 use Rattle.mk_core.proofs.HistoryParts.{left_in_parts}
-use Rattle.mk_core.specs.Accesses.{found}
-use Rattle.mk_core.specs.Cycles.{sweeps}
-use Rattle.mk_core.specs.Growing.{AreOfOthers, Finding, is_same_seat, own_from}
-use Rattle.mk_core.specs.History.{World, left, left_from, world_behind}
-use Rattle.mk_core.specs.Moments.{Moment, flight_of}
-use Rattle.mk_core.specs.declared.config.Config.{Config}
-use Rattle.mk_core.specs.declared.events.Event.{Event}
-use Rattle.mk_core.specs.declared.events.Seat.{Seat}
-use Rattle.mk_core.specs.declared.events.Step.{Step}
-use Rattle.mk_core.specs.declared.seats.Flight.{Flight}
+use Rattle.mk_core.specs.{Accesses.found, Cycles.sweeps, Growing.AreOfOthers, Growing.Finding, Growing.is_same_seat}
+use Rattle.mk_core.specs.{Growing.own_from, History.World, History.left, History.left_from, History.world_behind}
+use Rattle.mk_core.specs.{Moments.Moment, Moments.flight_of, declared.config.Config.Config, declared.events.Event.Event}
+use Rattle.mk_core.specs.{declared.events.Seat.Seat, declared.events.Step.Step, declared.seats.Flight.Flight}
 use Rattle.mk_turns.proofs.Doing.{not_own}
 use Rattle.mk_turns.specs.Sweeping.{HaveNoMark, NothingIsSweptInTurn, NothingSweepsNothing, OtherKindsSweepNothing}
 use Rattle.mk_turns.specs.Sweeping.{StepsMaySweepNothing, SweepsNothing, SweepsNothingFrom, is_mark}
 use Rattle.mk_turns.specs.Doing.{are_of}
 use Rattle.mk_words.proofs.Made.{own_before}
-use Rattle.mk_words.specs.Seats.{Has}
-use Rattle.mk_words.specs.States.{PassState, event_of, world_of}
-use Rattle.mk_words.specs.Steps.{Makes, moment_of}
+use Rattle.mk_words.specs.{Seats.Has, States.PassState, States.event_of, States.world_of, Steps.Makes, Steps.moment_of}
 
 -- lists in parts, and lists of others
 
@@ -80,8 +72,7 @@ pub sweeps_then : NothingIsSweptInTurn
 sweeps_then p q r same one two =
     let c : Config = p.table.config in
     let there : world_of q ≡ left_from c (left c p.seen) one.more =
-    rw same (rw one.is (left_in_parts c p.seen one.more))
-    in
+    rw same (rw one.is (left_in_parts c p.seen one.more)) in
     record {
       more = one.more ++ two.more;
       is = two.is ∙ rw one.is (append_assoc p.seen one.more two.more);
@@ -116,12 +107,10 @@ pub only_seen_by : (p q : PassState) (s : Step) → Makes p s q → q ≡ record
 only_seen_by p q s m = cc
 
 -- a step that isn't a mark, before others
-pub other_step_sweeps : (p q : PassState) (s : Step) → Makes p s q → is_mark s ≡ false
-    → SweepsNothing p q
+pub other_step_sweeps : (p q : PassState) (s : Step) → Makes p s q → is_mark s ≡ false → SweepsNothing p q
 other_step_sweeps p q s m other =
     step_sweeps p q s m (other_steps_sweep p.table.config (moment_of m) (flight_of (moment_of m) p.seat) s other)
 
 pub step_then_sweeps : (p q r : PassState) (s : Step) → Makes p s q → is_mark s ≡ false
     → SweepsNothing q r → SweepsNothing p r
-step_then_sweeps p q r s m other rest =
-    sweeps_then p q r (only_seen_by p q s m) (other_step_sweeps p q s m other) rest
+step_then_sweeps p q r s m other rest = sweeps_then p q r (only_seen_by p q s m) (other_step_sweeps p q s m other) rest

@@ -21,8 +21,7 @@ use Rattle.mk_words.specs.States.{PassState, world_of}
 pub own_take : (p : PassState) (e : Event) → Has p.seats p.seat → waits_for p e ≡ true
     → is_same_seat p.seat e.seat ≡ true → is_take e.step ≡ true
 own_take p e own waits same =
-    ⊎_elim
-    (λ (out : not (is_one_of p.seats e.seat) ≡ true).
+    ⊎_elim (λ (out : not (is_one_of p.seats e.seat) ≡ true).
     absurd (not_both p.seats e.seat (not-true (is_one_of p.seats e.seat) out)
     (subst (λ (s : Seat). Has p.seats s) (same_seat p.seat e.seat same) own)))
     (λ (take : (is_take e.step && is_same_seat e.seat p.seat) ≡ true).
@@ -32,8 +31,7 @@ own_take p e own waits same =
 own_or_other : (p : PassState) (e : Event) → Has p.seats p.seat → waits_for p e ≡ true
     → is_one_of p.seats e.seat ≡ is_same_seat p.seat e.seat
 own_or_other p e own waits =
-    ⊎_elim
-    (λ (out : not (is_one_of p.seats e.seat) ≡ true).
+    ⊎_elim (λ (out : not (is_one_of p.seats e.seat) ≡ true).
     let none = not-true (is_one_of p.seats e.seat) out in
     none ∙ sym (not_own p.seats p.seat e.seat own none))
     (λ (take : (is_take e.step && is_same_seat e.seat p.seat) ≡ true).
@@ -70,12 +68,9 @@ pub taking_does : (p : PassState) (o : Option Op) (q : PassState) → Has p.seat
     → Does is_take p q
 taking_does p o q own t =
     let w = t.waits in
-    does_then is_take p t.waited q
-    (record {
+    does_then is_take p t.waited q (record {
       more = w.more;
       is = w.is;
       own_or_others = all_own_or_others p w.more own w.only;
       of_kinds = all_take p (world_of p) w.more own w.only;
-    })
-    (does_step is_take t.waited q (Step.Take o)
-    t.takes.makes refl)
+    }) (does_step is_take t.waited q (Step.Take o) t.takes.makes refl)

@@ -23,8 +23,7 @@ take_is_no_mark _ h = cc
 waiting : (p : PassState) (e : Event) → Has p.seats p.seat → waits_for p e ≡ true → is_same_seat p.seat e.seat ≡ true
     → is_mark e.step ≡ false
 waiting p e has waits same =
-    ⊎_elim
-    (λ (out : not (is_one_of p.seats e.seat) ≡ true).
+    ⊎_elim (λ (out : not (is_one_of p.seats e.seat) ≡ true).
     absurd (not_both p.seats e.seat (not-true (is_one_of p.seats e.seat) out)
     (subst (λ (t : Seat). Has p.seats t) (same_seat p.seat e.seat same) has)))
     (λ (take : (is_take e.step && is_same_seat e.seat p.seat) ≡ true).
@@ -44,10 +43,8 @@ waits_sweep p w (e ∷ es) has all =
 pub taking_sweeps : TakingSweepsNothing
 taking_sweeps p o q has t =
     let w = t.waits in
-    sweeps_then p t.waited q (only_seen p t.waited w.more w.is)
-    (record {
+    sweeps_then p t.waited q (only_seen p t.waited w.more w.is) (record {
       more = w.more;
       is = ap (λ (x : PassState). x.seen) w.is;
       none = waits_sweep p (world_of p) w.more has w.only;
-    })
-    (other_step_sweeps t.waited q (Step.Take o) t.takes.makes refl)
+    }) (other_step_sweeps t.waited q (Step.Take o) t.takes.makes refl)

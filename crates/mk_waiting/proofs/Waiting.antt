@@ -15,12 +15,10 @@ use Rattle.mk_words.specs.Steps.{Makes}
 
 -- the list of a pass that made a step
 pub joined_lists : (p q r : PassState) (first : List Event) (s : Step) → q ≡ record p { seen = p.seen ++ first }
-    → (m : Makes q s r)
-    → r ≡ record p { seen = p.seen ++ (first ++ (m.others ++ event_of p s ∷ [])) }
+    → (m : Makes q s r) → r ≡ record p { seen = p.seen ++ (first ++ (m.others ++ event_of p s ∷ [])) }
 joined_lists p q r first s is m =
     m.is ∙ ap (λ (x : PassState). record x { seen = x.seen ++ m.others ++ event_of x s ∷ [] }) is
-    ∙ ap (λ (l : List Event). record p { seen = l })
-    (append_assoc (p.seen ++ first) m.others (event_of p s ∷ [])
+    ∙ ap (λ (l : List Event). record p { seen = l }) (append_assoc (p.seen ++ first) m.others (event_of p s ∷ [])
     ∙ append_assoc p.seen first (m.others ++ event_of p s ∷ []))
 
 others_wait : (p : PassState) (es : List Event) → AreOfOthers p.seats es → list_all (waits_for p) es ≡ true
@@ -57,8 +55,7 @@ waits_more p q r o w m =
       is = m.is ∙ ap (λ (l : List Event). record q { seen = l }) (append_assoc q.seen m.others (e ∷ []));
       only = list_all-append (waits_for q) m.others (e ∷ [])
           ∙ and_from (list_all (waits_for q) m.others) (list_all (waits_for q) (e ∷ []))
-          (others_wait q m.others m.of_others)
-          (and_from (waits_for q e) true
+          (others_wait q m.others m.of_others) (and_from (waits_for q e) true
           (ap (λ (b : Bool). not (is_one_of q.seats q.seat) || b) (same_self q.seat)
           ∙ or_last (not (is_one_of q.seats q.seat))) refl);
     })

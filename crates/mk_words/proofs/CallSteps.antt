@@ -7,20 +7,14 @@ use Rattle.mk_laws.proofs.Vocabulary.{histories_keep_lengths, is_open_to, length
 use Rattle.mk_laws.proofs.Vocabulary.{progress, progress_reg, refl, reg_access, register_met, register_word}
 use Rattle.mk_laws.proofs.Vocabulary.{seat_exists, slice_index, slice_set, still, subst, sym, true, word_accessed, ◌*◌}
 use Rattle.mk_laws.proofs.Vocabulary.{◌++◌, ◌+◌, ◌<◌, ◌==◌, ◌∙◌, ◌≡◌, ◌≢◌, ◌≤◌}
-use Rattle.mk_laws.proofs.NextSteps.{at_enter}
-use Rattle.mk_laws.proofs.ProtocolHeldGates.{gates_tell_holds}
-use Rattle.mk_core.specs.Calls.{progress_cas}
-use Rattle.mk_core.specs.Effects.{begins_where_free, moment_behind}
-use Rattle.mk_core.specs.Layout.{IsOfTable}
-use Rattle.mk_core.specs.Order.{is_in_order}
-use Rattle.mk_core.specs.Words.{with_named}
-use Rattle.mk_core.specs.declared.accesses.TableWord.{TableWord}
+use Rattle.mk_core.specs.{Calls.progress_cas, Effects.begins_where_free, Effects.moment_behind, Layout.IsOfTable}
+use Rattle.mk_core.specs.{Order.is_in_order, Words.with_named, declared.accesses.TableWord.TableWord}
+use Rattle.mk_laws.proofs.{NextSteps.at_enter, ProtocolHeldGates.gates_tell_holds}
 use Rattle.mk_words.proofs.Made.{made}
 use Rattle.mk_words.specs.CallSteps.{FindsHeld, KeepsOtherRegisters, LeavesRegisters, register_of}
 use Rattle.mk_words.specs.States.{PassState, call_of, event_of, now_of}
 use Rattle.mk_words.specs.Steps.{Finds, Goes, IsEnabledTo, Makes, Tells, found_by, moment_of}
-use Rattle.mk_words.specs.Rule.{told_by}
-use Rattle.mk_words.specs.Seats.{is_caller}
+use Rattle.mk_words.specs.{Rule.told_by, Seats.is_caller}
 
 -- a step of a call is its caller's
 pub is_callers : (s : Seat) → is_open_to s Group.Callers ≡ true → (k : ℕ) × (s ≡ Caller k)
@@ -161,8 +155,7 @@ module _ {p : PassState} {n : ℕ} {q : PassState} (t : Tells p Step.Reg n q) (r
   reaches = reg_reaches p q t.makes r same met
 
   small : r < 8
-  small = (subst (λ (x : TableWord). IsOfTable p.table.config.pages x) reaches
-      (made p Step.Reg q t.makes).of_table).1
+  small = (subst (λ (x : TableWord). IsOfTable p.table.config.pages x) reaches (made p Step.Reg q t.makes).of_table).1
 
   module _ (loads : reg_access (call_of p) (call_of p).stage ≡ Load) where
     found_is : n ≡ found_by t.makes
@@ -198,15 +191,12 @@ module _ {p : PassState} {n : ℕ} {q : PassState} (t : Tells p Step.Reg n q) (r
 
     pub store_keeps : KeepsOtherRegisters r p q
     store_keeps x lt ne =
-        register_set x
-        ∙ get_or-set_other (moment_of t.makes).words.registers (8 * caller_number p.seat + r)
-        (8 * caller_number p.seat + x) v 0 (λ e. ne (omega arith))
-        ∙ same_register t refl x lt
+        register_set x ∙ get_or-set_other (moment_of t.makes).words.registers (8 * caller_number p.seat + r)
+        (8 * caller_number p.seat + x) v 0 (λ e. ne (omega arith)) ∙ same_register t refl x lt
 
     pub store_stored : register_of q r ≡ v
     store_stored =
-        register_set r
-        ∙ get_or-set_same (moment_of t.makes).words.registers (8 * caller_number p.seat + r) v 0
+        register_set r ∙ get_or-set_same (moment_of t.makes).words.registers (8 * caller_number p.seat + r) v 0
         (let long = (histories_keep_lengths p.table.config (p.seen ++ t.makes.others)).registers in
         let k = caller_is t refl in
         let number : caller_number p.seat ≡ k.0 = number_is p.seat k.0 k.1 in

@@ -1,15 +1,12 @@
 -- What is known of a table that has ended.
-use Rattle.std.proofs.Common.{count_ones}
-use Rattle.std.proofs.Math.Nat.{add-mul-mod_self_left}
+use Rattle.std.proofs.{Common.count_ones, Math.Nat.add-mul-mod_self_left}
 use Rattle.mk_laws.proofs.Vocabulary.{AreOfPages, Config, Event, List, Named, Word, Words, ℕ, ap, arith}
 use Rattle.mk_laws.proofs.Vocabulary.{histories_keep_lengths, left, refl, slice_index, subst, suc, sym, zero, [], ◌%◌}
 use Rattle.mk_laws.proofs.Vocabulary.{◌+◌, ◌<◌, ◌^◌, ◌∙◌, ◌∷◌, ◌≡◌, ◌≤◌}
 use Rattle.mk_core.proofs.RegionLemmas.{words_stand}
-use Rattle.mk_core.specs.declared.accesses.TableWord.{TableWord}
 use Rattle.mk_core.specs.Layout.{IsOfTable, in_order, index_of, index_of_named}
-use Rattle.mk_core.specs.Words.{word_in}
-use Rattle.mk_words.specs.Finals.{HasTallies, freed_bits_in, freed_cells}
-use Rattle.mk_words.specs.declared.finals.Final.{Final}
+use Rattle.mk_core.specs.{Words.word_in, declared.accesses.TableWord.TableWord}
+use Rattle.mk_words.specs.{Finals.HasTallies, Finals.freed_bits_in, Finals.freed_cells, declared.finals.Final.Final}
 use mathlib.Core.Option.{some, some-injective, some-ne-none}
 use lib.ListN.{get_elem?}
 
@@ -32,14 +29,12 @@ freed_are pages w (suc n) of le =
     let lt : n < pages = omega arith in
     let at = words_stand pages w (Named (Word.Quar n)) of lt in
     ap (λ (k : ℕ). k + count_ones (slice_index (in_order w) (index_of_named pages (Word.Quar n)) % 2 ^ 32))
-    (freed_are pages w n of (omega arith))
-    ∙ ap (λ (k : ℕ). freed_cells w n + count_ones (k % 2 ^ 32)) at
+    (freed_are pages w n of (omega arith)) ∙ ap (λ (k : ℕ). freed_cells w n + count_ones (k % 2 ^ 32)) at
     ∙ ap (λ (k : ℕ). freed_cells w n + count_ones k)
     (add-mul-mod_self_left (slice_index w.freed n) (2 ^ 32) (slice_index w.snapshot n))
 
 tally_at : (pages : ℕ) (w : Words) (ws : List ℕ) (x : TableWord) (n : ℕ) → AreOfPages pages w → IsOfTable pages x
-    → ws ≡ in_order w
-    → n ≡ slice_index ws (index_of pages x) → n ≡ word_in w x
+    → ws ≡ in_order w → n ≡ slice_index ws (index_of pages x) → n ≡ word_in w x
 tally_at pages w ws x n of table is at = grind (arith, words_stand)
 
 -- a tally, of which every table has one at the same index

@@ -4,15 +4,13 @@ use Rattle.mk_laws.proofs.Vocabulary.{AreEnabled, Caller, Config, Event, Host, I
 use Rattle.mk_laws.proofs.Vocabulary.{enabled_parts, false, first_world, inl, inr, left, length, refl, subst, suc, sym}
 use Rattle.mk_laws.proofs.Vocabulary.{true, zero, [], ◌++◌, ◌∙◌, ◌∷◌, ◌≡◌, ◌≢◌, ◌⊎◌}
 use Rattle.mk_core.specs.Growing.{is_same_seat}
-use Rattle.atomic_table.proofs.Lists.{at_set, set_else}
-use Rattle.atomic_table.specs.Table.{Joins, Splits}
+use Rattle.atomic_table.{proofs.Lists.at_set, proofs.Lists.set_else, specs.Table.Joins, specs.Table.Splits}
 use Rattle.mk_words.proofs.Keeps.{Apart, Both, apart_stays, sees_fewer, sees_none}
 use Rattle.mk_words.proofs.Seats.{has_either, has_left, has_right, only_one, without_it, without_keeps, without_less}
 use Rattle.mk_words.proofs.Overs.{none_in_parts, none_over, overs_with}
 use Rattle.mk_words.specs.Rule.{Kept, Sees, beside, copy_of, goes_with, no_part, nobody, seats_of, stays_with}
 use Rattle.mk_words.specs.Seats.{CallersAreBeforeOver, Has, has_over, is_caller, without_seat}
-use Rattle.mk_words.specs.declared.rule.Part.{Part}
-use Rattle.mk_words.specs.declared.rule.View.{View}
+use Rattle.mk_words.specs.{declared.rule.Part.Part, declared.rule.View.View}
 use mathlib.Core.Option.{some, some-injective, some-ne-none}
 use lib.ListN.{get_elem?}
 
@@ -55,30 +53,21 @@ splits c id v left_v right_v cut s k at =
       tidy = k.tidy;
       words = k.words;
       home = k.home;
-      sees = λ j d p. ⊎_elim
-          (λ (u : get_elem? vs j ≡ some d). ⊎_elim
+      sees = λ j d p. ⊎_elim (λ (u : get_elem? vs j ≡ some d). ⊎_elim
           (λ (t : (j ≡ id) × (left_v ≡ d)). subst (Both k.events) t.1 sees.0)
-          (λ (t : (j ≢ id) × (get_elem? s.views j ≡ some d)). k.sees j d t.1)
-          (at_set s.views id j left_v d u))
-          (λ (u : (j ≡ length vs) × (right_v ≡ d)). subst (Both k.events) u.1 sees.1)
-          (snoc_at vs right_v d j p);
-      apart = λ i j d e x p q hd he. ⊎_elim
-          (λ (a : get_elem? vs i ≡ some d). ⊎_elim
-          (λ (b : get_elem? vs j ≡ some e). apart i j d e x a b hd he)
-          (λ (b : (j ≡ length vs) × (right_v ≡ e)). absurd
-          (nobody_has i d x a hd (subst (λ (z : View). Has (seats_of z) x) (sym b.1) he)))
-          (snoc_at vs right_v e j q))
-          (λ (a : (i ≡ length vs) × (right_v ≡ d)). ⊎_elim
-          (λ (b : get_elem? vs j ≡ some e). absurd
+          (λ (t : (j ≢ id) × (get_elem? s.views j ≡ some d)). k.sees j d t.1) (at_set s.views id j left_v d u))
+          (λ (u : (j ≡ length vs) × (right_v ≡ d)). subst (Both k.events) u.1 sees.1) (snoc_at vs right_v d j p);
+      apart = λ i j d e x p q hd he. ⊎_elim (λ (a : get_elem? vs i ≡ some d). ⊎_elim
+          (λ (b : get_elem? vs j ≡ some e). apart i j d e x a b hd he) (λ (b : (j ≡ length vs) × (right_v ≡ e)). absurd
+          (nobody_has i d x a hd (subst (λ (z : View). Has (seats_of z) x) (sym b.1) he))) (snoc_at vs right_v e j q))
+          (λ (a : (i ≡ length vs) × (right_v ≡ d)). ⊎_elim (λ (b : get_elem? vs j ≡ some e). absurd
           (nobody_has j e x b he (subst (λ (z : View). Has (seats_of z) x) (sym a.1) hd)))
-          (λ (b : (j ≡ length vs) × (right_v ≡ e)). a.0 ∙ sym b.0)
-          (snoc_at vs right_v e j q))
+          (λ (b : (j ≡ length vs) × (right_v ≡ e)). a.0 ∙ sym b.0) (snoc_at vs right_v e j q))
           (snoc_at vs right_v d i p);
       before_over = λ j d p. ⊎_elim
           (λ (u : get_elem? vs j ≡ some d). overs_with c s.views id left_v k.events k.before_over overs.0 j d u)
           (λ (u : (j ≡ length vs) × (right_v ≡ d)). subst (λ (z : View). CallersAreBeforeOver c (seats_of z) k.events)
-          u.1 overs.1)
-          (snoc_at vs right_v d j p);
+          u.1 overs.1) (snoc_at vs right_v d j p);
     }
 
 -- a seat is handed over, or none is
@@ -93,16 +82,12 @@ hands_over x v alone has host another early =
     → ⊥ = λ y h. (let n : Has [] y = subst (λ (p : Part). Has p.seats y) alone h in cc) in
     let only : (y : Seat) → Has (seats_of right_v) y → y ≡ x = λ y h. only_one x y h in
     record {
-      stays = λ y h. ⊎_elim
-          (λ (t : Has (without_seat x v.own.seats) y). has_left v.own.seats v.came.seats y
-          (without_less x v.own.seats y t))
-          (λ (t : Has v.came.seats y). has_right v.own.seats v.came.seats y t)
+      stays = λ y h. ⊎_elim (λ (t : Has (without_seat x v.own.seats) y). has_left v.own.seats v.came.seats y
+          (without_less x v.own.seats y t)) (λ (t : Has v.came.seats y). has_right v.own.seats v.came.seats y t)
           (has_either (without_seat x v.own.seats) v.came.seats y h);
       goes = λ y h. subst (λ (z : Seat). Has (seats_of v) z) (sym (only y h)) (has_left v.own.seats v.came.seats x has);
-      alone = λ y h r. ⊎_elim
-          (λ (t : Has (without_seat x v.own.seats) x). without_it x v.own.seats t)
-          (λ (t : Has v.came.seats x). out x t)
-          (has_either (without_seat x v.own.seats) v.came.seats x
+      alone = λ y h r. ⊎_elim (λ (t : Has (without_seat x v.own.seats) x). without_it x v.own.seats t)
+          (λ (t : Has v.came.seats x). out x t) (has_either (without_seat x v.own.seats) v.came.seats x
           (subst (λ (z : Seat). Has (seats_of left_v) z) (only y r) h));
       sees = λ es mine. (
         (sees_fewer es v.own (without_seat x v.own.seats) (λ y h. without_less x v.own.seats y h) mine.0, mine.1),
@@ -153,24 +138,18 @@ joins c id v other w v_alone w_alone s k at ne there_set =
     let from : (i : ℕ) (d : View) (x : Seat) → get_elem? (set vs other nobody) i ≡ some d → Has (seats_of d) x
     → (i ≢ other) × (((b : View) × (get_elem? s.views i ≡ some b) × Has (seats_of b) x)
     ⊎ ((i ≡ id) × Has (seats_of w) x)) =
-    λ i d x p h. ⊎_elim
-    (λ (t : (i ≡ other) × (nobody ≡ d)).
+    λ i d x p h. ⊎_elim (λ (t : (i ≡ other) × (nobody ≡ d)).
     (let n : Has [] x = subst (λ (z : View). Has (seats_of z) x) (sym t.1) h in cc))
     (λ (t : (i ≢ other) × (get_elem? vs i ≡ some d)). (
       t.0,
-      ⊎_elim
-          (λ (u : (i ≡ id) × (both ≡ d)). ⊎_elim
-          (λ (a : Has v.own.seats x). inl (
-            v,
-            subst (λ (z : ℕ). get_elem? s.views z ≡ some v) (sym u.0) at,
-            has_left v.own.seats v.came.seats x a,
-          ))
-          (λ (b : Has w.own.seats x). inr (u.0, has_left w.own.seats w.came.seats x b))
+      ⊎_elim (λ (u : (i ≡ id) × (both ≡ d)). ⊎_elim (λ (a : Has v.own.seats x). inl (
+        v,
+        subst (λ (z : ℕ). get_elem? s.views z ≡ some v) (sym u.0) at,
+        has_left v.own.seats v.came.seats x a,
+      )) (λ (b : Has w.own.seats x). inr (u.0, has_left w.own.seats w.came.seats x b))
           (has_either v.own.seats w.own.seats x (subst (λ (z : View). Has (seats_of z) x) (sym u.1) h)))
-          (λ (u : (i ≢ id) × (get_elem? s.views i ≡ some d)). inl (d, u.1, h))
-          (at_set s.views id i both d t.1),
-    ))
-    (at_set vs other i nobody d p) in
+          (λ (u : (i ≢ id) × (get_elem? s.views i ≡ some d)). inl (d, u.1, h)) (at_set s.views id i both d t.1),
+    )) (at_set vs other i nobody d p) in
     record {
       events = k.events;
       history = k.history;
@@ -181,32 +160,22 @@ joins c id v other w v_alone w_alone s k at ne there_set =
           (λ (t : (j ≡ other) × (nobody ≡ d)). subst (Both k.events) t.1 (sees_none k.events, sees_none k.events))
           (λ (t : (j ≢ other) × (get_elem? vs j ≡ some d)). ⊎_elim
           (λ (u : (j ≡ id) × (both ≡ d)). subst (Both k.events) u.1 (mine.0, theirs.0))
-          (λ (u : (j ≢ id) × (get_elem? s.views j ≡ some d)). k.sees j d u.1)
-          (at_set s.views id j both d t.1))
+          (λ (u : (j ≢ id) × (get_elem? s.views j ≡ some d)). k.sees j d u.1) (at_set s.views id j both d t.1))
           (at_set vs other j nobody d p);
       apart = λ i j d e x p q hd he.
           let a = from i d x p hd in
           let b = from j e x q he in
-          ⊎_elim
-          (λ (l : (g : View) × (get_elem? s.views i ≡ some g) × Has (seats_of g) x). ⊎_elim
+          ⊎_elim (λ (l : (g : View) × (get_elem? s.views i ≡ some g) × Has (seats_of g) x). ⊎_elim
           (λ (r : (g : View) × (get_elem? s.views j ≡ some g) × Has (seats_of g) x). k.apart i j l.0 r.0 x l.1 r.1 l.2
-          r.2)
-          (λ (r : (j ≡ id) × Has (seats_of w) x). absurd (a.0 (k.apart i other l.0 w x l.1 there l.2 r.1)))
-          b.1)
+          r.2) (λ (r : (j ≡ id) × Has (seats_of w) x). absurd (a.0 (k.apart i other l.0 w x l.1 there l.2 r.1))) b.1)
           (λ (l : (i ≡ id) × Has (seats_of w) x). ⊎_elim
           (λ (r : (g : View) × (get_elem? s.views j ≡ some g) × Has (seats_of g) x). absurd
-          (b.0 (k.apart j other r.0 w x r.1 there r.2 l.1)))
-          (λ (r : (j ≡ id) × Has (seats_of w) x). l.0 ∙ sym r.0)
-          b.1)
+          (b.0 (k.apart j other r.0 w x r.1 there r.2 l.1))) (λ (r : (j ≡ id) × Has (seats_of w) x). l.0 ∙ sym r.0) b.1)
           a.1;
-      before_over = overs_with c vs other nobody k.events
-          (overs_with c s.views id both k.events k.before_over
-          (λ i lt h over. ⊎_elim
-          (λ (a : Has v.own.seats (Caller i)). has_left v.own.seats w.own.seats Host
+      before_over = overs_with c vs other nobody k.events (overs_with c s.views id both k.events k.before_over
+          (λ i lt h over. ⊎_elim (λ (a : Has v.own.seats (Caller i)). has_left v.own.seats w.own.seats Host
           (own_only v v_alone Host (k.before_over id v at i lt (has_left v.own.seats v.came.seats (Caller i) a) over)))
-          (λ (b : Has w.own.seats (Caller i)). has_right v.own.seats w.own.seats Host
-          (own_only w w_alone Host
+          (λ (b : Has w.own.seats (Caller i)). has_right v.own.seats w.own.seats Host (own_only w w_alone Host
           (k.before_over other w there i lt (has_left w.own.seats w.came.seats (Caller i) b) over)))
-          (has_either v.own.seats w.own.seats (Caller i) h)))
-          (λ i lt h over. cc);
+          (has_either v.own.seats w.own.seats (Caller i) h))) (λ i lt h over. cc);
     }

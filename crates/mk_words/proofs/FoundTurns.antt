@@ -5,18 +5,11 @@ use Rattle.mk_laws.proofs.Vocabulary.{Marker, Moment, None, Op, Option, Seat, So
 use Rattle.mk_laws.proofs.Vocabulary.{at_rest, flight_of, group_of, holder_number, if◌then◌else◌, is_open_to, left}
 use Rattle.mk_laws.proofs.Vocabulary.{ne_eqb, nothing_done, refl, set-get_or, slice_set, subst, sym, true, [], ◌++◌}
 use Rattle.mk_laws.proofs.Vocabulary.{◌+◌, ◌∙◌, ◌∷◌, ◌≡◌, ◌≢◌}
-use Rattle.mk_laws.proofs.NextSteps.{at_no_take}
-use Rattle.mk_laws.proofs.SameWords.{Behind}
-use Rattle.mk_laws.proofs.Tallies.{tallies_tell}
-use Rattle.mk_laws.proofs.TallySteps.{others_count_nothing}
 use Rattle.mk_core.proofs.Conditions.{meets_enabled}
-use Rattle.mk_core.specs.Counts.{TalliesAreExact}
-use Rattle.mk_core.specs.Effects.{begins_where_free}
-use Rattle.mk_core.specs.Order.{is_in_order}
-use Rattle.mk_words.proofs.CallSteps.{waits}
-use Rattle.mk_words.proofs.Made.{made}
-use Rattle.mk_words.proofs.Tallies.{counts_tidy_more, exact_more}
-use Rattle.mk_words.proofs.Tidy.{tidy_part}
+use Rattle.mk_core.specs.{Counts.TalliesAreExact, Effects.begins_where_free, Order.is_in_order}
+use Rattle.mk_laws.proofs.NextSteps.{at_no_take}
+use Rattle.mk_laws.proofs.{SameWords.Behind, Tallies.tallies_tell, TallySteps.others_count_nothing}
+use Rattle.mk_words.proofs.{CallSteps.waits, Made.made, Tallies.counts_tidy_more, Tallies.exact_more, Tidy.tidy_part}
 use Rattle.mk_words.specs.States.{PassState, call_of, event_of, now_of}
 use Rattle.mk_words.specs.Steps.{IsEnabledTo, Tells, moment_of}
 
@@ -27,36 +20,31 @@ same_flights : (c : Config) (m : Moment) (k : ℕ) (o : Op) (n : ℕ) → n ≢ 
 same_flights c m k o n some = cc (waits (flight_of m (Caller k)) o n n refl some, set-get_or m.seats.flights k at_rest)
 
 missed : (c : Config) (m : Moment) (seat : Seat) (o : Option Op) → is_open_to seat (group_of (Step.Take o)) ≡ true
-    → is_in_order c m seat (Step.Take o) ≡ true
-    → m.words.turn ≢ 0 → Behind c m seat (Step.Take o) ≡ m
+    → is_in_order c m seat (Step.Take o) ≡ true → m.words.turn ≢ 0 → Behind c m seat (Step.Take o) ≡ m
 missed c m seat o kind order some =
     ap (λ (t : ℕ). record {
       words = record m.words { turn = t };
       seats = (Behind c m seat (Step.Take o)).seats;
       fresh_words = m.fresh_words;
-    })
-    (ap (λ (b : Bool). if b then 1 + holder_number c seat else m.words.turn) (ne_eqb m.words.turn 0 some))
+    }) (ap (λ (b : Bool). if b then 1 + holder_number c seat else m.words.turn) (ne_eqb m.words.turn 0 some))
     ∙ ap (λ (h : Holding). record {
       words = m.words;
       seats = record (Behind c m seat (Step.Take o)).seats { holding = h };
       fresh_words = m.fresh_words;
-    })
-    (ap (λ (b : Bool). if b then nothing_done else m.seats.holding) (ne_eqb m.words.turn 0 some))
+    }) (ap (λ (b : Bool). if b then nothing_done else m.seats.holding) (ne_eqb m.words.turn 0 some))
     ∙ by seat o kind order
   where
     by : (seat : Seat) (o : Option Op) → is_open_to seat (group_of (Step.Take o)) ≡ true
-        → is_in_order c m seat (Step.Take o) ≡ true
-        → record {
+        → is_in_order c m seat (Step.Take o) ≡ true → record {
           words = m.words;
           seats = record (Behind c m seat (Step.Take o)).seats { holding = m.seats.holding };
           fresh_words = m.fresh_words;
         } ≡ m
-    by (Caller k) (Some o) kind order =
-        ap (λ (fs : List Flight). record {
-          words = m.words;
-          seats = record m.seats { flights = fs };
-          fresh_words = m.fresh_words;
-        }) (same_flights c m k o m.words.turn some)
+    by (Caller k) (Some o) kind order = ap (λ (fs : List Flight). record {
+      words = m.words;
+      seats = record m.seats { flights = fs };
+      fresh_words = m.fresh_words;
+    }) (same_flights c m k o m.words.turn some)
     by (Caller k) None kind order = absurd (at_no_take (flight_of m (Caller k)).stage (flight_of m (Caller k)).op order)
     by (Marker k) o kind order = cc
     by Host o kind order = refl

@@ -3,21 +3,14 @@ use Rattle.mk_laws.proofs.Vocabulary.{Config, Event, Holds, IsHistory, List, Mom
 use Rattle.mk_laws.proofs.Vocabulary.{World, ℕ, ap, append-nil, append_assoc, arith, earlier_part_is_history}
 use Rattle.mk_laws.proofs.Vocabulary.{enabled_meets, enabled_parts, false, first_world, header_at, left, left_more}
 use Rattle.mk_laws.proofs.Vocabulary.{refl, subst, sym, true, world_behind, [], ◌++◌, ◌∙◌, ◌∷◌, ◌≡◌}
+use Rattle.mk_page_map.specs.{KnownPages.KnownPages, KnownPages.Shows, Members.page_at}
+use Rattle.mk_core.{proofs.Histories.last_enabled, specs.Growing.AreOfOthers}
 use Rattle.mk_laws.proofs.Known.{holds_turn, known_left}
 use Rattle.mk_laws.proofs.SameWords.{Behind, reg_keeps, tally_keeps}
-use Rattle.mk_laws.proofs.NextSteps.{is_take}
-use Rattle.mk_laws.proofs.Orderly.{same_holder, turn_of}
-use Rattle.mk_laws.proofs.OthersMoves.{free_move}
-use Rattle.mk_laws.proofs.ProtocolFrames.{left_after, other_seat}
-use Rattle.mk_laws.proofs.TurnFrame.{steady_out}
-use Rattle.mk_laws.proofs.Views.{view_of}
-use Rattle.mk_page_map.specs.KnownPages.{KnownPages, Shows}
-use Rattle.mk_page_map.specs.Members.{page_at}
-use Rattle.mk_core.proofs.Histories.{last_enabled}
-use Rattle.mk_core.specs.Growing.{AreOfOthers}
+use Rattle.mk_laws.proofs.{NextSteps.is_take, Orderly.same_holder, Orderly.turn_of, OthersMoves.free_move}
+use Rattle.mk_laws.proofs.{ProtocolFrames.left_after, ProtocolFrames.other_seat, TurnFrame.steady_out, Views.view_of}
 use Rattle.mk_words.proofs.Unmarked.{is_mark, others_unmark, stays_bare}
-use Rattle.mk_words.specs.PageMaps.{IsMapOf, is_handing}
-use Rattle.mk_words.specs.TurnSteps.{turn_stays}
+use Rattle.mk_words.specs.{PageMaps.IsMapOf, PageMaps.is_handing, TurnSteps.turn_stays}
 
 -- the words that a page map shows
 
@@ -48,8 +41,7 @@ map_stays c es e map h unmarks pages m = record {
 }
 
 pub map_there : (c : Config) (es : List Event) (e : Event) (map : KnownPages) → IsHistory c (es ++ e ∷ [])
-    → is_mark e.step ≡ false
-    → page_words (left c (es ++ e ∷ [])).now.words ≡ page_words (left c es).now.words
+    → is_mark e.step ≡ false → page_words (left c (es ++ e ∷ [])).now.words ≡ page_words (left c es).now.words
     → IsMapOf map (left c es).now.words → IsMapOf map (left c (es ++ e ∷ [])).now.words
 map_there c es e map h unmarks pages m =
     let is : left c (es ++ e ∷ []) ≡ world_behind c (left c es) e = left_more c (first_world c) es e in

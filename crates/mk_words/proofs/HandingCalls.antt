@@ -2,21 +2,15 @@
 use Rattle.mk_laws.proofs.Vocabulary.{Config, Event, Holds, IsHistory, IsTidy, List, Op, Option, Seat, Step, Store, ℕ}
 use Rattle.mk_laws.proofs.Vocabulary.{access, ap, holder_number, left, refl, subst, sym, [], ◌+◌, ◌<◌, ◌∙◌, ◌∷◌, ◌≡◌}
 use Rattle.mk_page_map.specs.KnownPages.{KnownPages}
-use Rattle.mk_core.specs.Layout.{count_of_words, index_of}
-use Rattle.mk_core.specs.Words.{becomes}
-use Rattle.mk_core.specs.declared.accesses.Access.TheVariants.{Exchange}
-use Rattle.mk_core.specs.declared.accesses.TableWord.TheVariants.{Turn}
-use Rattle.atomic_table.specs.Seated.{TableId}
-use Rattle.atomic_table.specs.Table.{Allows, rest}
+use Rattle.mk_core.specs.{Layout.count_of_words, Layout.index_of, Words.becomes}
+use Rattle.mk_core.specs.{declared.accesses.Access.TheVariants.Exchange, declared.accesses.TableWord.TheVariants.Turn}
+use Rattle.atomic_table.specs.{Seated.TableId, Table.Allows, Table.rest}
 use Rattle.mk_words.proofs.Owed.{history_more, in_order_still, made_of, owed_call, perform_learns}
 use Rattle.mk_words.proofs.HandedMaps.{give_event, gives_at, take_event, takes_at}
 use Rattle.mk_words.specs.Rule.{Kept, Mine, gives_map, no_part, no_step, takes_map}
 use Rattle.mk_words.specs.States.{PassState, WordsState, event_of, now_of}
-use Rattle.mk_words.specs.PageMaps.{IsMapOf}
-use Rattle.mk_words.specs.Passes.{IsInOrder, state_of}
-use Rattle.mk_words.specs.Seats.{CallersAreBeforeOver, Has}
-use Rattle.mk_words.specs.Steps.{Makes, May, Tells}
-use Rattle.mk_words.specs.declared.rule.View.{View}
+use Rattle.mk_words.specs.{PageMaps.IsMapOf, Passes.IsInOrder, Passes.state_of, Seats.CallersAreBeforeOver, Seats.Has}
+use Rattle.mk_words.specs.{Steps.Makes, Steps.May, Steps.Tells, declared.rule.View.View}
 
 module _ (w : WordsState) (tid pid : TableId) (config key : Config) (me : Mine) (seat : Seat)
     (w_is : made_of tid config ≡ w) (one_table : (state_of pid me seat).table ≡ w) where
@@ -24,18 +18,15 @@ module _ (w : WordsState) (tid pid : TableId) (config key : Config) (me : Mine) 
   p = state_of pid me seat
 
   pub take_call : (words slots id : ℕ) (o : Option Op) (i number : ℕ) (picked : Event) → IsInOrder me seat → key
-      ≡ config
-      → words ≡ count_of_words config.pages → picked ≡ take_event seat o → May p (Step.Take o)
-      → Exchange 0 number ≡ access p.table.config (now_of p) (take_event seat o)
-      → i ≡ index_of config.pages Turn
+      ≡ config → words ≡ count_of_words config.pages → picked ≡ take_event seat o → May p (Step.Take o)
+      → Exchange 0 number ≡ access p.table.config (now_of p) (take_event seat o) → i ≡ index_of config.pages Turn
       → (i < words)
       × Allows (Kept key) slots id me i (becomes (Exchange 0 number)) (λ n m. takes_map picked no_step me n m)
   take_call words slots id o i number picked order key_is words_are picked_is may a_is i_is =
-      owed_call w p tid pid config key me seat w_is refl one_table words slots id (Step.Take o) i Turn
-      (Exchange 0 number) picked (λ e n m. takes_map e no_step me n m) order key_is words_are picked_is may refl a_is
-      i_is
-      (λ mine. takes_at slots id me seat o no_step order.settled order.own
-      (history_more p (Step.Take o) order.history mine))
+      owed_call w tid pid config key me seat w_is one_table words slots id (Step.Take o) i Turn
+      (Exchange 0 number) picked (λ e n m. takes_map e no_step me n m) order key_is words_are picked_is
+      (record { may = may; reaches = refl; does = a_is }) i_is
+      (takes_at slots id me seat o no_step order.settled order.own (history_more p (Step.Take o) order.history may))
 
   pub give_call : (words slots id i : ℕ) (map : KnownPages) (picked : Event) → IsInOrder me seat → key ≡ config
       → words ≡ count_of_words config.pages → slots ≡ 1 → picked ≡ give_event seat → May p Step.Give
@@ -44,10 +35,10 @@ module _ (w : WordsState) (tid pid : TableId) (config key : Config) (me : Mine) 
       → (i < words) × Allows (Kept key) slots id me i (becomes (Store 0)) (λ n m. gives_map picked no_step me 0 m)
   give_call words slots id i map picked order key_is words_are slots_are picked_is may holds carried shows i_is =
       subst (λ (k : ℕ). (i < words) × Allows (Kept key) k id me i (becomes (Store 0))
-      (λ n m. gives_map picked no_step me 0 m)) (sym slots_are) (owed_call w p tid pid config key me seat w_is refl
+      (λ n m. gives_map picked no_step me 0 m)) (sym slots_are) (owed_call w tid pid config key me seat w_is
       one_table words 1 id Step.Give i Turn _ picked (λ e n m. gives_map e no_step me 0 m) order key_is words_are
-      picked_is may refl refl i_is (λ mine. gives_at id me seat map no_step order.settled order.own
-      (history_more p Step.Give order.history mine) (mine.tidy refl) holds carried shows 0))
+      picked_is (record { may = may; reaches = refl; does = refl }) i_is (gives_at id me seat map no_step order.settled
+      order.own (history_more p Step.Give order.history may) (may.tidy refl) holds carried shows 0))
 
 -- the number that a `take` stores is the seat's
 pub take_access : (tid : TableId) (me : Mine) (seat : Seat) (o : Option Op) (number : ℕ) (p : PassState)
@@ -74,8 +65,8 @@ pub take_tells : (tid qid : TableId) (me n : Mine) (seat : Seat) (o : Option Op)
     → takes_map (take_event seat o) no_step me found n
     → Tells (state_of tid me seat) (Step.Take o) found (state_of qid n seat)
 take_tells tid qid me n seat o number found q_is a_is order on =
-    perform_learns (state_of tid me seat) tid qid me (n.0, me.1) seat (Step.Take o) (Exchange 0 number) found
-    (take_event seat o) refl q_is refl a_is order (found, (refl, on.0), refl)
+    perform_learns tid qid me (n.0, me.1) seat (Step.Take o) (Exchange 0 number) found
+    (take_event seat o) q_is refl a_is order (found, (refl, on.0), refl)
 
 pub take_order : (me n : Mine) (seat : Seat) (o : Option Op) (found : ℕ) → IsInOrder me seat
     → takes_map (take_event seat o) no_step me found n → IsInOrder n seat
@@ -86,8 +77,7 @@ take_order me n seat o found order on = in_order_still me n seat (take_event sea
 pub give_makes : (tid qid : TableId) (me n : Mine) (seat : Seat) → qid ≡ tid → IsInOrder me seat
     → gives_map (give_event seat) no_step me 0 n → Makes (state_of tid me seat) Step.Give (state_of qid n seat)
 give_makes tid qid me n seat q_is order on =
-    (perform_learns (state_of tid me seat) tid qid me (n.0, me.1) seat Step.Give (Store 0) 0
-    (give_event seat) refl q_is refl refl order (on.1.0, (refl, on.1.1), refl)).makes
+    (perform_learns tid qid me (n.0, me.1) seat Step.Give (Store 0) 0 (give_event seat) q_is refl refl order (on.1.0, (refl, on.1.1), refl)).makes
 
 pub give_order : (me n : Mine) (seat : Seat) → IsInOrder me seat → gives_map (give_event seat) no_step me 0 n
     → IsInOrder n seat
@@ -100,8 +90,7 @@ order_of_view me n seat same order = record {
   own = subst (λ (v : View). Has v.own.seats seat) (sym same) order.own;
   history = subst (λ (v : View). IsHistory v.config v.own.seen) (sym same) order.history;
   tidy = subst (λ (v : View). IsTidy v.config v.own.seen) (sym same) order.tidy;
-  before_over = subst (λ (v : View). CallersAreBeforeOver v.config v.own.seats v.own.seen) (sym same)
-      order.before_over;
+  before_over = subst (λ (v : View). CallersAreBeforeOver v.config v.own.seats v.own.seen) (sym same) order.before_over;
 }
 
 -- the slot that a token took, with a map

@@ -6,28 +6,20 @@ use Rattle.mk_laws.proofs.Vocabulary.{append-nil, append_assoc, enabled_meets, e
 use Rattle.mk_laws.proofs.Vocabulary.{histories_keep_lengths, left, left_more, refl, set-get_or, slice_index, slice_set}
 use Rattle.mk_laws.proofs.Vocabulary.{subst, suc, sym, true, word_accessed, zero, [], ◌++◌, ◌∙◌, ◌∷◌, ◌≡◌, ◌≢◌}
 use Rattle.mk_page_map.specs.KnownPages.{KnownPages}
-use Rattle.mk_core.proofs.Histories.{last_enabled}
-use Rattle.mk_core.proofs.RegionLemmas.{accesses_change, words_stand}
+use Rattle.mk_core.proofs.{Histories.last_enabled, RegionLemmas.accesses_change, RegionLemmas.words_stand}
 use Rattle.mk_core.specs.History.{AreEnabledFrom, calls_from, left_from}
-use Rattle.mk_core.specs.Cycles.{is_give}
-use Rattle.mk_core.specs.Growing.{AreOfOthers}
-use Rattle.mk_core.specs.Layout.{IsOfTable, in_order, index_of}
-use Rattle.mk_core.specs.Words.{becomes, word_in, zero_words_of}
-use Rattle.mk_core.specs.declared.accesses.TableWord.{TableWord}
+use Rattle.mk_core.specs.{Cycles.is_give, Growing.AreOfOthers, Layout.IsOfTable, Layout.in_order, Layout.index_of}
+use Rattle.mk_core.specs.{Words.becomes, Words.word_in, Words.zero_words_of, declared.accesses.TableWord.TableWord}
 use Rattle.atomic_table.proofs.Lists.{at_set}
+use Rattle.atomic_table.specs.Table.{Allows, Final, Seen, State, Step as TableStep, keeps}
 use Rattle.mk_words.proofs.Seats.{has_either, has_left, has_right, not_both, others_append, others_fewer, others_nobody}
 use Rattle.mk_words.proofs.Seats.{others_none, others_one, others_own}
-use Rattle.mk_words.proofs.FreeTurns.{free_stays, map_there}
-use Rattle.mk_words.proofs.LongerLists.{longer_lists}
-use Rattle.mk_words.proofs.Overs.{overs_later, overs_with, set_there}
-use Rattle.mk_words.proofs.Tidy.{none_tidy, tidy_more, tidy_part}
-use Rattle.mk_words.specs.declared.rule.View.{View}
+use Rattle.mk_words.proofs.{FreeTurns.free_stays, FreeTurns.map_there, LongerLists.longer_lists, Overs.overs_later}
+use Rattle.mk_words.proofs.{Overs.overs_with, Overs.set_there, Tidy.none_tidy, Tidy.tidy_more, Tidy.tidy_part}
 use Rattle.mk_words.specs.Seats.{CallersAreBeforeOver, Has, HasAll, HasCallers, all_seats, is_over}
-use Rattle.mk_words.specs.PageMaps.{IsMapOf, is_handing}
-use Rattle.mk_words.specs.Rule.{Adds, IsHome, Kept, Mine, Sees, adds, first_view, no_part, part, seats_of, settles}
-use Rattle.mk_words.specs.Rule.{view}
-use Rattle.mk_words.specs.declared.rule.Part.{Part}
-use Rattle.atomic_table.specs.Table.{Allows, Final, Seen, State, Step as TableStep, keeps}
+use Rattle.mk_words.specs.{PageMaps.IsMapOf, PageMaps.is_handing, Rule.Adds, Rule.IsHome, Rule.Kept, Rule.Mine}
+use Rattle.mk_words.specs.{Rule.Sees, Rule.adds, Rule.first_view, Rule.no_part, Rule.part, Rule.seats_of, Rule.settles}
+use Rattle.mk_words.specs.{Rule.view, declared.rule.Part.Part, declared.rule.View.View}
 use mathlib.Core.Option.{Option as Maybe, some, some-injective, some-ne-none}
 use lib.ListN.{get_elem?}
 
@@ -66,14 +58,11 @@ origin : (vs : List View) (id : ℕ) (v w : View) → get_elem? vs id ≡ some v
     → (i : ℕ) (x : Seat) (d : View) → get_elem? (set vs id w) i ≡ some d → Has (seats_of d) x
     → (b : View) × (get_elem? vs i ≡ some b) × Has (seats_of b) x
 origin vs id v w at sub i x d p h =
-    ⊎_elim
-    (λ (t : (i ≡ id) × (w ≡ d)). (
+    ⊎_elim (λ (t : (i ≡ id) × (w ≡ d)). (
       v,
       subst (λ (k : ℕ). get_elem? vs k ≡ some v) (sym t.0) at,
       sub x (subst (λ (z : View). Has (seats_of z) x) (sym t.1) h),
-    ))
-    (λ (t : (i ≢ id) × (get_elem? vs i ≡ some d)). (d, t.1, h))
-    (at_set vs id i w d p)
+    )) (λ (t : (i ≢ id) × (get_elem? vs i ≡ some d)). (d, t.1, h)) (at_set vs id i w d p)
 
 pub apart_stays : (vs : List View) (id : ℕ) (v w : View) → get_elem? vs id ≡ some v
     → ((x : Seat) → Has (seats_of w) x → Has (seats_of v) x) → Apart vs → Apart (set vs id w)
@@ -90,8 +79,7 @@ changed : (pages : ℕ) (w : Words) (x y : TableWord) (a b : Access) (ws : List 
 changed pages w x y a b ws of table yx ba is = cc (is, accesses_change pages w x a of table, yx, ba)
 
 finds : (pages : ℕ) (w : Words) (x y : TableWord) (ws : List ℕ) → AreOfPages pages w → IsOfTable pages x → y ≡ x
-    → ws ≡ in_order w
-    → slice_index ws (index_of pages x) ≡ word_in w y
+    → ws ≡ in_order w → slice_index ws (index_of pages x) ≡ word_in w y
 finds pages w x y ws of table yx is = cc (words_stand pages w x of table)
 
 -- Where the event leaves the turn free, the slot has the map.
@@ -107,16 +95,12 @@ abbrev pub access_there : Mine → Event → Access
 access_there me e = access me.0.config (left me.0.config me.0.own.seen).now e
 
 -- The step of an event, whatever its kind, and whatever the slot has after it.
-pub steps_at : (id : ℕ) (me : Mine) (e : Event) → me.0.came ≡ no_part
-    → Has me.0.own.seats e.seat
+pub steps_at : (id : ℕ) (me : Mine) (e : Event) → me.0.came ≡ no_part → Has me.0.own.seats e.seat
     → IsHistory me.0.config (me.0.own.seen ++ e ∷ [])
     → (is_give e.step ≡ true → TalliesAreTidy me.0.config me.0.own.seen)
     → (is_over e.step ≡ true → HasCallers me.0.config me.0.own.seats)
-    → (s : Table) (k : Kept me.0.config s) → get_elem? s.views id ≡ some me.0
-    → (homes : List (Maybe KnownPages))
-    → ((es : List Event) → k.events ≡ es → HomesThen me.0.config e homes es)
-    → (w : View)
-    × Kept me.0.config (record {
+    → (s : Table) (k : Kept me.0.config s) → get_elem? s.views id ≡ some me.0 → (homes : List (Maybe KnownPages))
+    → ((es : List Event) → k.events ≡ es → HomesThen me.0.config e homes es) → (w : View) × Kept me.0.config (record {
       words = slice_set s.words (place_there me e)
           (becomes (access_there me e) (slice_index s.words (place_there me e)));
       homes = homes;
@@ -159,8 +143,7 @@ steps_at id me e alone has may give home s k at homes there =
             changed _ (left c es).now.words (word_accessed c (left c v.own.seen).now e) (word_accessed c (left c es).now
             e) (access c (left c v.own.seen).now e) (access c (left c es).now e) _ of go.same.of_the_table go.same.word
             go.same.access words ∙ sym (ap (λ (x : World). in_order x.now.words) (left_more c (first_world c) es e));
-        sees = λ j d p. ⊎_elim
-            (λ (t : (j ≡ id) × (w ≡ d)). subst (Both (es ++ e ∷ [])) t.1
+        sees = λ j d p. ⊎_elim (λ (t : (j ≡ id) × (w ≡ d)). subst (Both (es ++ e ∷ [])) t.1
             (sees_all v.own.seats (es ++ e ∷ []), behind v.came out mine.1))
             (λ (t : (j ≢ id) × (get_elem? s.views j ≡ some d)).
             let old = k.sees j d t.1 in
@@ -168,8 +151,7 @@ steps_at id me e alone has may give home s k at homes there =
             → ⊥ = λ h. t.0 (k.apart j id d v e.seat t.1 at h (has_left v.own.seats v.came.seats e.seat has)) in (
               behind d.own (λ h. none (has_left d.own.seats d.came.seats e.seat h)) old.0,
               behind d.came (λ h. none (has_right d.own.seats d.came.seats e.seat h)) old.1,
-            ))
-            (at_set s.views id j w d p);
+            )) (at_set s.views id j w d p);
         apart = apart_stays s.views id v w at (λ x h. h) k.apart;
         before_over = overs;
         home = there es mine.0.is go.history;
@@ -192,22 +174,18 @@ steps_at id me e alone has may give home s k at homes there =
 
 -- a step that leaves the map where it is
 pub performs_at : (slots id : ℕ) (me : Mine) (e : Event) (st : TableStep KnownPages) → me.0.came ≡ no_part
-    → Has me.0.own.seats e.seat
-    → IsHistory me.0.config (me.0.own.seen ++ e ∷ [])
+    → Has me.0.own.seats e.seat → IsHistory me.0.config (me.0.own.seen ++ e ∷ [])
     → (is_give e.step ≡ true → TalliesAreTidy me.0.config me.0.own.seen)
-    → (is_over e.step ≡ true → HasCallers me.0.config me.0.own.seats)
-    → is_handing e.step ≡ false
+    → (is_over e.step ≡ true → HasCallers me.0.config me.0.own.seats) → is_handing e.step ≡ false
     → Allows (Kept me.0.config) slots id me (place_there me e) (becomes (access_there me e)) (λ n m. adds e st me n m)
 performs_at slots id me e st alone has may give home kind s k long at small =
     let c : Config = me.0.config in
-    let t = steps_at id me e alone has may give home s k at s.homes
-    (λ es is h free.
+    let t = steps_at id me e alone has may give home s k at s.homes (λ es is h free.
     let f = free_stays c es e h kind free in
     let m = k.home (ap (λ (l : List Event). (left c l).now.words.turn) is ∙ f.free) in (
       m.0,
       m.1,
-      map_there c es e m.0 h f.unmarks f.pages
-          (subst (λ (l : List Event). IsMapOf m.0 (left c l).now.words) is m.2),
+      map_there c es e m.0 h f.unmarks f.pages (subst (λ (l : List Event). IsMapOf m.0 (left c l).now.words) is m.2),
     )) in
     (t.0, keeps, tt, t.1, (refl, t.2.0))
 
@@ -228,15 +206,13 @@ settles_at slots id me st s k long at small =
         words = set-get_or s.words 0 0 ∙ k.words;
         sees = λ j d p. ⊎_elim
             (λ (t : (j ≡ id) × (w ≡ d)). subst (Both k.events) t.1 (sees_all (seats_of v) k.events, sees_none k.events))
-            (λ (t : (j ≢ id) × (get_elem? s.views j ≡ some d)). k.sees j d t.1)
-            (at_set s.views id j w d p);
+            (λ (t : (j ≢ id) × (get_elem? s.views j ≡ some d)). k.sees j d t.1) (at_set s.views id j w d p);
         home = k.home;
         apart = apart_stays s.views id v w at
             (λ x h. ⊎_elim (λ (u : Has (seats_of v) x). u) (λ (u : Has [] x). cc) (has_either (seats_of v) [] x h))
             k.apart;
         before_over = overs_with v.config s.views id w k.events k.before_over
-            (λ i lt h over. has_left (seats_of v) [] Host
-            (k.before_over id v at i lt
+            (λ i lt h over. has_left (seats_of v) [] Host (k.before_over id v at i lt
             (⊎_elim (λ (u : Has (seats_of v) (Caller i)). u) (λ (u : Has [] (Caller i)). cc)
             (has_either (seats_of v) [] (Caller i) h)) over));
       },
@@ -292,8 +268,7 @@ none_left c w seats (e ∷ es) all on others =
     absurd (not_both seats e.seat others.0 (all e.seat (enabled_meets c w.now e on.0).seat))
 
 pub closes : (c : Config) (id : ℕ) (me : Mine) (ws : List ℕ) (xs : List KnownPages) → HasAll c me.0.own.seats
-    → Final (Seen (Kept c) id me.0) ws xs
-    → Ended c me.0.own.seen ws
+    → Final (Seen (Kept c) id me.0) ws xs → Ended c me.0.own.seen ws
 closes c id me ws xs all f =
     let k = f.1.0 in
     let v : View = me.0 in

@@ -2,18 +2,11 @@
 use Rattle.mk_laws.proofs.Vocabulary.{AreOfOthers, Config, Event, IsHistory, IsLeft, List, MeetsAll, Protocol, Step, ap}
 use Rattle.mk_laws.proofs.Vocabulary.{earlier_part_is_history, enabled_meets, first_world, left, left_more, subst}
 use Rattle.mk_laws.proofs.Vocabulary.{word_accessed, world_behind, [], ◌++◌, ◌∙◌, ◌∷◌, ◌≡◌}
-use Rattle.mk_laws.proofs.Known.{Known, known_left}
-use Rattle.mk_laws.proofs.ProtocolFrames.{others_leave}
-use Rattle.mk_laws.proofs.Protocols.{protocol_of}
-use Rattle.mk_laws.proofs.Reaching.{events_reach_the_table}
-use Rattle.mk_laws.proofs.SeatFrames.{admitted_others_leave}
-use Rattle.mk_core.proofs.Histories.{last_enabled}
-use Rattle.mk_core.specs.Layout.{IsOfTable}
-use Rattle.mk_words.proofs.Seats.{others_own}
-use Rattle.mk_words.specs.Laws.{StepsStandBehindOthers}
-use Rattle.mk_words.specs.Seats.{Has}
-use Rattle.mk_words.specs.States.{IsPass, PassState, event_of, world_of}
-use Rattle.mk_words.specs.Steps.{Makes}
+use Rattle.mk_core.{proofs.Histories.last_enabled, specs.Layout.IsOfTable}
+use Rattle.mk_laws.proofs.{Known.Known, Known.known_left, ProtocolFrames.others_leave, Protocols.protocol_of}
+use Rattle.mk_laws.proofs.{Reaching.events_reach_the_table, SeatFrames.admitted_others_leave}
+use Rattle.mk_words.{proofs.Seats.others_own, specs.Laws.StepsStandBehindOthers, specs.Seats.Has, specs.States.IsPass}
+use Rattle.mk_words.{specs.States.PassState, specs.States.event_of, specs.States.world_of, specs.Steps.Makes}
 
 -- The events of others leave the seat its own; the event met its conditions after them, and the new list leaves what
 -- it leaves there.

@@ -1,21 +1,19 @@
 -- The page map of a turn is kept in step with what its holder stores.
-use Rattle.mk_laws.proofs.Vocabulary.{Access, Bool, Config, IsHistory, List, Load, Moment, Named, None, Op, Option}
-use Rattle.mk_laws.proofs.Vocabulary.{Page, Seat, Some, Step, Store, Tally, Word, Words, World, ℕ, accessed, ap, arith}
+use Rattle.mk_laws.proofs.Vocabulary.{Access, Bool, Config, IsHistory, List, Load, Moment, Named, None, Option, Page}
+use Rattle.mk_laws.proofs.Vocabulary.{Seat, Some, Step, Store, Tally, Word, Words, World, ℕ, accessed, ap, arith}
 use Rattle.mk_laws.proofs.Vocabulary.{cases_eq, earlier_part_is_history, enabled_meets, false, free_page}
 use Rattle.mk_laws.proofs.Vocabulary.{get_or-set_other, get_or-set_same, header_at, histories_keep_lengths, inl, inr}
 use Rattle.mk_laws.proofs.Vocabulary.{is_in_range, length, ltb-true, nat_lt, refl, slice_set, subst, sym, tally_word}
 use Rattle.mk_laws.proofs.Vocabulary.{true, [], ◌%◌, ◌++◌, ◌<◌, ◌^◌, ◌∙◌, ◌∷◌, ◌≡◌, ◌≢◌}
-use Rattle.mk_laws.proofs.SameWords.{Behind}
 use Rattle.mk_page_map.specs.KnownPages.{KnownPages, Shows, is_uncleaned, with_header, with_used}
 use Rattle.mk_page_map.specs.Members.{IsNext, page_at}
+use Rattle.mk_laws.proofs.SameWords.{Behind}
 use Rattle.mk_words.proofs.FreeTurns.{map_left, map_stays, page_words}
 use Rattle.mk_words.proofs.TurnSteps.{acts, gates_still, still_turn, turn_stays_too}
-use Rattle.mk_words.proofs.Made.{own_before}
-use Rattle.mk_words.proofs.Seats.{others_own}
-use Rattle.mk_words.proofs.Unmarked.{is_mark, stays_unmarked}
+use Rattle.mk_words.proofs.{Made.own_before, Seats.others_own, Unmarked.is_mark, Unmarked.stays_unmarked}
 use Rattle.mk_words.specs.PageMaps.{HasNoMarks, IsMapOf, IsNextUncleaned, is_told}
 use Rattle.mk_words.specs.States.{PassState, TurnState, call_of, event_of, now_of}
-use Rattle.mk_words.specs.TurnSteps.{Acts, GatesAre, IsTurnWithMap, gates_stay, turn_stays, world_at}
+use Rattle.mk_words.specs.TurnSteps.{Acts, IsTurnWithMap, gates_stay, turn_stays, world_at}
 use Rattle.mk_words.specs.Steps.{IsEnabledTo, Makes}
 
 no_mark : (s : Step) → is_told s ≡ false → is_mark s ≡ false
@@ -59,11 +57,9 @@ module _ (p : PassState) (s : Step) (q : PassState) (a : Acts p s q) where
   map_now : (map : KnownPages) → IsMapOf map after → IsMapOf map (now_of q).words
   map_now map m = subst (λ (w : World). IsMapOf map w.now.words) (sym a.world) m
 
-  pub shows_still : (map : KnownPages) → is_told s ≡ false → IsMapOf map (now_of p).words
-      → IsMapOf map (now_of q).words
+  pub shows_still : (map : KnownPages) → is_told s ≡ false → IsMapOf map (now_of p).words → IsMapOf map (now_of q).words
   shows_still map untold m =
-      map_now map
-      (map_stays p.table.config (p.seen ++ a.makes.others) (event_of p s) map history (no_mark s untold)
+      map_now map (map_stays p.table.config (p.seen ++ a.makes.others) (event_of p s) map history (no_mark s untold)
       (pages_stay p.table.config (world_at a.makes).now p.seat s untold) (map_then map m))
 
 -- What a map shows after the four steps, by what it is told of each.
@@ -101,45 +97,41 @@ same_marks w v page marks blacks h = grind arith
 
 told_header : (w : Words) (page v : ℕ) (old new : KnownPages) → HeaderIsTold old page v new → page < length old.pages
     → IsMapOf old w → IsMapOf new (record w { pages = with_header w.pages page v })
-told_header w page v old new told within m =
-    record {
-      words = told.shows w.pages w.freed m.words;
-      unmarked = λ number bare cleaned. elim (cases_eq number page) [
-        | inl here ↦
-            let lt : page < length w.pages = grind arith in
-            let now : Page = record { header = v; used = (page_at w.pages page).used } in
-            let free : v ≡ 0 =
-            sym (ap (λ (x : Page). x.header) (get_or-set_same w.pages page now free_page lt))
-            ∙ ap (λ i. (page_at (with_header w.pages page v) i).header) (sym here) ∙ bare in
-            both (is_uncleaned new page) (told.freed free) (ap (is_uncleaned new) (sym here) ∙ cleaned)
-        | inr ne ↦
-            let now : Page = record { header = v; used = (page_at w.pages page).used } in
-            same_marks w (record w { pages = with_header w.pages page v }) number refl refl
-            (m.unmarked number
-            (sym (ap (λ (x : Page). x.header) (get_or-set_other w.pages page number now free_page ne)) ∙ bare)
-            (sym (told.others number ne) ∙ cleaned))
-      ];
-    }
+told_header w page v old new told within m = record {
+  words = told.shows w.pages w.freed m.words;
+  unmarked = λ number bare cleaned. elim (cases_eq number page) [
+    | inl here ↦
+        let lt : page < length w.pages = grind arith in
+        let now : Page = record { header = v; used = (page_at w.pages page).used } in
+        let free : v ≡ 0 = sym (ap (λ (x : Page). x.header) (get_or-set_same w.pages page now free_page lt))
+        ∙ ap (λ i. (page_at (with_header w.pages page v) i).header) (sym here) ∙ bare in
+        both (is_uncleaned new page) (told.freed free) (ap (is_uncleaned new) (sym here) ∙ cleaned)
+    | inr ne ↦
+        let now : Page = record { header = v; used = (page_at w.pages page).used } in
+        same_marks w (record w { pages = with_header w.pages page v }) number refl refl (m.unmarked number
+        (sym (ap (λ (x : Page). x.header) (get_or-set_other w.pages page number now free_page ne)) ∙ bare)
+        (sym (told.others number ne) ∙ cleaned))
+  ];
+}
 
 told_used : (w : Words) (page v : ℕ) (old new : KnownPages) → UsedIsTold old page v new → page < length old.pages
     → IsMapOf old w → IsMapOf new (record w { pages = with_used w.pages page v })
-told_used w page v old new told within m =
-    record {
-      words = told.shows w.pages w.freed m.words;
-      unmarked = λ number bare cleaned.
-          let lt : page < length w.pages = grind arith in
-          let now : Page = record { header = (page_at w.pages page).header; used = v } in
-          let same : (page_at (with_used w.pages page v) number).header ≡ (page_at w.pages number).header =
-          elim (cases_eq number page) [
-            | inl here ↦
-                ap (λ i. (page_at (with_used w.pages page v) i).header) here
-                ∙ ap (λ (x : Page). x.header) (get_or-set_same w.pages page now free_page lt)
-                ∙ ap (λ i. (page_at w.pages i).header) (sym here)
-            | inr ne ↦ ap (λ (x : Page). x.header) (get_or-set_other w.pages page number now free_page ne)
-          ] in
-          same_marks w (record w { pages = with_used w.pages page v }) number refl refl
-          (m.unmarked number (sym same ∙ bare) (sym (told.uncleaned number) ∙ cleaned));
-    }
+told_used w page v old new told within m = record {
+  words = told.shows w.pages w.freed m.words;
+  unmarked = λ number bare cleaned.
+      let lt : page < length w.pages = grind arith in
+      let now : Page = record { header = (page_at w.pages page).header; used = v } in
+      let same : (page_at (with_used w.pages page v) number).header ≡ (page_at w.pages number).header =
+      elim (cases_eq number page) [
+        | inl here ↦
+            ap (λ i. (page_at (with_used w.pages page v) i).header) here
+            ∙ ap (λ (x : Page). x.header) (get_or-set_same w.pages page now free_page lt)
+            ∙ ap (λ i. (page_at w.pages i).header) (sym here)
+        | inr ne ↦ ap (λ (x : Page). x.header) (get_or-set_other w.pages page number now free_page ne)
+      ] in
+      same_marks w (record w { pages = with_used w.pages page v }) number refl refl
+      (m.unmarked number (sym same ∙ bare) (sym (told.uncleaned number) ∙ cleaned));
+}
 
 told_mark : (c : Config) (m : Moment) (seat : Seat) (page v : ℕ) (old new : KnownPages) → MarkIsTold old page new
     → IsMapOf old m.words → IsMapOf new (Behind c m seat (Step.Mark page v)).words
@@ -150,8 +142,7 @@ told_mark c m seat page v old new told shows = record {
         let free : (page_at old.pages page).header ≡ 0 = grind arith in
         both (is_uncleaned new page) (told.marked free) (ap (is_uncleaned new) (sym here) ∙ cleaned)
     | inr ne ↦
-        stays_unmarked c m seat (Step.Mark page v) number
-        (λ p is same. (let e : page ≡ p = cc in ne (same ∙ sym e)))
+        stays_unmarked c m seat (Step.Mark page v) number (λ p is same. (let e : page ≡ p = cc in ne (same ∙ sym e)))
         (shows.unmarked number bare (sym (told.others number ne) ∙ cleaned))
   ];
 }
@@ -174,31 +165,25 @@ shows_head {p} {q} {page} {v} {old} {new} a told within shows =
     (told_header (world_at a.makes).now.words page v old new told within (map_then p s q a old shows))
 
 pub shows_used : {p q : PassState} {page v : ℕ} {old new : KnownPages} → Acts p (Step.Used page v) q
-    → UsedIsTold old page v new → page < length old.pages → IsMapOf old (now_of p).words
-    → IsMapOf new (now_of q).words
+    → UsedIsTold old page v new → page < length old.pages → IsMapOf old (now_of p).words → IsMapOf new (now_of q).words
 shows_used {p} {q} {page} {v} {old} {new} a told within shows =
     let s : Step = Step.Used page v in
-    map_now p s q a new
-    (told_used (world_at a.makes).now.words page v old new told within (map_then p s q a old shows))
+    map_now p s q a new (told_used (world_at a.makes).now.words page v old new told within (map_then p s q a old shows))
 
 pub shows_quar : {p q : PassState} {page v : ℕ} {old new : KnownPages} → Acts p (Step.Quar page v) q
-    → QuarantineIsTold old page (v % 2 ^ 32) new → IsMapOf old (now_of p).words
-    → IsMapOf new (now_of q).words
+    → QuarantineIsTold old page (v % 2 ^ 32) new → IsMapOf old (now_of p).words → IsMapOf new (now_of q).words
 shows_quar {p} {q} {page} {v} {old} {new} a told shows =
     let s : Step = Step.Quar page v in
     let w : Words = (world_at a.makes).now.words in
     let m = map_then p s q a old shows in
-    map_now p s q a new
-    (record {
+    map_now p s q a new (record {
       words = told.shows w.pages w.freed m.words;
-      unmarked = λ number bare cleaned.
-          same_marks w (after p s q a) number refl refl
+      unmarked = λ number bare cleaned. same_marks w (after p s q a) number refl refl
           (m.unmarked number bare (sym (told.uncleaned number) ∙ cleaned));
     })
 
 pub shows_mark : {p q : PassState} {page v : ℕ} {old new : KnownPages} → Acts p (Step.Mark page v) q
-    → MarkIsTold old page new → IsMapOf old (now_of p).words
-    → IsMapOf new (now_of q).words
+    → MarkIsTold old page new → IsMapOf old (now_of p).words → IsMapOf new (now_of q).words
 shows_mark {p} {q} {page} {v} {old} {new} a told shows =
     let s : Step = Step.Mark page v in
     map_now p s q a new
@@ -218,20 +203,22 @@ pub turn_that : {held : Bool} {p : PassState} {map same : KnownPages} → same �
 turn_that {held} {p} is turn = subst (λ (m : KnownPages). IsTurnWithMap held p m) (sym is) turn
 
 -- A step leaves the turn, where its map shows what is left then, and the gates are as known.
-pub turn_with_map : {held : Bool} {p : PassState} {s : Step} {q : PassState} {old new : KnownPages}
-    → Acts p s q → turn_stays s ≡ true → GatesAre held (record { pass = q }) → IsMapOf new (now_of q).words
-    → IsTurnWithMap held p old → IsTurnWithMap held q new
-turn_with_map a stays gates shows turn =
-    record { turn = still_turn _ _ _ a.makes stays turn.turn; shows = shows; gates = gates }
+pub turn_goes_on : {held : Bool} {p : PassState} {s : Step} {q : PassState} {old new : KnownPages}
+    → turn_stays s ≡ true → (held ≡ true → gates_stay s ≡ true) → Makes p s q → IsTurnWithMap held p old
+    → (Acts p s q → IsMapOf new (now_of q).words) → IsTurnWithMap held q new
+turn_goes_on {held} {p} {s} {q} stays gates makes turn shows =
+    let a = acts p s q makes turn.turn.holds in
+    record {
+      turn = still_turn _ _ _ makes stays turn.turn;
+      shows = shows a;
+      gates = gates_still held (record { pass = p }) s (record { pass = q }) a gates turn.gates;
+    }
 
 -- A step of which the map is told, and which leaves the gates.
 pub told_turn : {held : Bool} {p : PassState} {s : Step} {q : PassState} {old new : KnownPages}
     → gates_stay s ≡ true → Makes p s q → IsTurnWithMap held p old → (Acts p s q → IsMapOf new (now_of q).words)
     → IsTurnWithMap held q new
-told_turn {held} {p} {s} {q} stays makes turn shows =
-    let a = acts p s q makes turn.turn.holds in
-    turn_with_map a (turn_stays_too s stays)
-    (gates_still held (record { pass = p }) s (record { pass = q }) a stays turn.gates) (shows a) turn
+told_turn {s = s} stays makes turn shows = turn_goes_on (turn_stays_too s stays) (λ held. stays) makes turn shows
 
 -- What was done in a turn, by another name of it.
 pub acted : {held : Bool} {t v : TurnState} {s : Step} {q : PassState} {map : KnownPages} → t ≡ v
@@ -252,12 +239,10 @@ page_known p page map lt shows =
 -- So has a page that a step of the turn may name.
 pub told_page : {held : Bool} {t v : TurnState} {map same : KnownPages} (s : Step) (page : ℕ)
     → is_in_range t.pass.table.config t.pass.seat (call_of t.pass) s ≡ nat_lt page t.pass.table.config.pages → t ≡ v
-    → IsEnabledTo v.pass s → same ≡ map → IsTurnWithMap held t.pass map
-    → page < length same.pages
+    → IsEnabledTo v.pass s → same ≡ map → IsTurnWithMap held t.pass map → page < length same.pages
 told_page {t = t} s page names is on same turn =
     let here = subst (λ (x : TurnState). IsEnabledTo x.pass s) (sym is) on in
-    page_known t.pass page _
-    (ltb-true page t.pass.table.config.pages
+    page_known t.pass page _ (ltb-true page t.pass.table.config.pages
     (sym names ∙ (enabled_meets t.pass.table.config (now_of t.pass) (event_of t.pass s) here).range))
     (turn_that same turn).shows
 
@@ -271,8 +256,7 @@ pub next_is_uncleaned : (p : PassState) (map : KnownPages) (from : ℕ) (next : 
     → IsNext (is_uncleaned map) from (length map.pages) next
     → IsNextUncleaned (now_of p).words from p.table.config.pages next
 next_is_uncleaned p map from next m is =
-    by next
-    (subst (λ (count : ℕ). IsNext (is_uncleaned map) from count next)
+    by next (subst (λ (count : ℕ). IsNext (is_uncleaned map) from count next)
     (ap (λ (l : List Page). length l) m.words.page_by_page ∙ (histories_keep_lengths p.table.config p.seen).pages) is)
   where
     by : (next : Option ℕ) → IsNext (is_uncleaned map) from p.table.config.pages next

@@ -3,13 +3,11 @@ use Rattle.mk_laws.proofs.Vocabulary.{Caller, Config, Flight, Group, Host, Marke
 use Rattle.mk_laws.proofs.Vocabulary.{Step, World, ℕ, ap, arith, enabled_meets, found, get_or-set_same, group_of}
 use Rattle.mk_laws.proofs.Vocabulary.{is_open_to, length, ltb-true, marker_at, marker_behind, marker_may, outside, refl}
 use Rattle.mk_laws.proofs.Vocabulary.{seat_exists, subst, sym, true, ◌<◌, ◌∙◌, ◌≡◌}
-use Rattle.mk_core.specs.Accesses.{access_by}
-use Rattle.mk_core.specs.Effects.{moment_behind}
+use Rattle.mk_core.specs.{Accesses.access_by, Effects.moment_behind}
 use Rattle.mk_words.proofs.Made.{Made, made}
-use Rattle.mk_words.specs.Rule.{told_by}
-use Rattle.mk_words.specs.States.{PassState, event_of, now_of}
 use Rattle.mk_words.specs.Markers.{Marks, is_markers, marker_in}
 use Rattle.mk_words.specs.Steps.{IsEnabledTo, Tells, found_by, moment_of}
+use Rattle.mk_words.specs.{Rule.told_by, States.PassState, States.event_of, States.now_of}
 
 -- no access of a marker's is a store
 told_found : (c : Config) (n : ℕ) (f : Flight) (placing : Placing) (x : MarkerState) (s : Step) (k : ℕ)
@@ -51,8 +49,7 @@ module _ (p : PassState) (s : Step) (n : ℕ) (q : PassState) (t : Tells p s n q
       record {
         finds = record { makes = t.makes; finds = found_is };
         marker =
-            ap (λ (x : Seat). marker_at (now_of q) x) d.seat
-            ∙ ap (λ (w : World). marker_at w.now p.seat) d.world
+            ap (λ (x : Seat). marker_at (now_of q) x) d.seat ∙ ap (λ (w : World). marker_at w.now p.seat) d.world
             ∙ behind_own c (moment_of t.makes) p.seat k.0 s k.1 (subst (λ (i : ℕ). k.0 < i) (sym d.protocol.markers) lt)
             ∙ ap (λ (x : MarkerState). marker_behind c (found_by t.makes) s x) d.frame.own.marker
             ∙ ap (λ (i : ℕ). marker_behind c i s (marker_in p)) (sym found_is);

@@ -1,57 +1,42 @@
 -- All gates are opened, one after the other.
 use Rattle.std.proofs.Common.{⊎_elim}
 use Rattle.mk_laws.proofs.Vocabulary.{Caller, Config, Event, Flight, Holds, Host, IsEnabled, IsHistory, List, Marker}
-use Rattle.mk_laws.proofs.Vocabulary.{MarkerState, MeetsAll, Moment, Op, Option, Protocol, Seat, Step, World, ℕ}
-use Rattle.mk_laws.proofs.Vocabulary.{answer_decided, ap, append-nil, append_assoc, arith, at_rest, cases_Bool}
-use Rattle.mk_laws.proofs.Vocabulary.{cases_eq, cases_lt, enabled_meets, ends, eqb-false, eqb-true, false}
-use Rattle.mk_laws.proofs.Vocabulary.{false_from_ne_true, first_world, flight_of, get_or-set_other, get_or-set_same}
-use Rattle.mk_laws.proofs.Vocabulary.{get_or_past, inl, inr, is_held, is_number_of, left, length, length-set, ne_eqb}
-use Rattle.mk_laws.proofs.Vocabulary.{not, outside, refl, set-get_or, slice_index, slice_set, subst, sym, true, []}
-use Rattle.mk_laws.proofs.Vocabulary.{◌++◌, ◌+◌, ◌<◌, ◌==◌, ◌∙◌, ◌∷◌, ◌≡◌, ◌≢◌, ◌≤◌, ◌⊎◌}
-use Rattle.mk_laws.proofs.OthersCounts.{answers_full}
-use Rattle.mk_laws.proofs.Protocols.{lists_keep_the_protocol}
-use Rattle.mk_laws.proofs.TallySteps.{CountsNothing}
-use Rattle.mk_core.proofs.Conditions.{meets_enabled}
-use Rattle.mk_core.proofs.Histories.{last_enabled}
+use Rattle.mk_laws.proofs.Vocabulary.{MarkerState, MeetsAll, Moment, Protocol, Seat, Step, World, ℕ, answer_decided, ap}
+use Rattle.mk_laws.proofs.Vocabulary.{append-nil, append_assoc, arith, at_rest, cases_Bool, cases_eq, cases_lt}
+use Rattle.mk_laws.proofs.Vocabulary.{enabled_meets, ends, eqb-false, eqb-true, false, false_from_ne_true, first_world}
+use Rattle.mk_laws.proofs.Vocabulary.{flight_of, get_or-set_other, get_or-set_same, get_or_past, inl, inr, is_held}
+use Rattle.mk_laws.proofs.Vocabulary.{is_number_of, left, length, length-set, ne_eqb, not, outside, refl, set-get_or}
+use Rattle.mk_laws.proofs.Vocabulary.{slice_index, slice_set, subst, sym, true, [], ◌++◌, ◌+◌, ◌<◌, ◌==◌, ◌∙◌, ◌∷◌, ◌≡◌}
+use Rattle.mk_laws.proofs.Vocabulary.{◌≢◌, ◌≤◌, ◌⊎◌}
+use Rattle.mk_core.proofs.{Conditions.meets_enabled, Histories.last_enabled}
 use Rattle.mk_core.specs.Frames.{CountsAreLeft, steady_of}
-use Rattle.mk_core.specs.Counts.{full_answers}
-use Rattle.mk_core.specs.Effects.{moment_behind}
-use Rattle.mk_core.specs.Growing.{AreOfOthers}
-use Rattle.mk_core.specs.Moments.{none_is_held}
-use Rattle.mk_words.proofs.LongerLists.{longer_lists}
-use Rattle.mk_words.proofs.Made.{made, pass_before}
-use Rattle.mk_words.proofs.Owed.{history_more}
-use Rattle.mk_words.proofs.Tallies.{same_ends, same_fulls}
-use Rattle.mk_words.proofs.TurnSteps.{all_from}
+use Rattle.mk_core.specs.{Counts.full_answers, Effects.moment_behind, Growing.AreOfOthers, Moments.none_is_held}
+use Rattle.mk_laws.proofs.{OthersCounts.answers_full, Protocols.lists_keep_the_protocol, TallySteps.CountsNothing}
+use Rattle.mk_words.proofs.{LongerLists.longer_lists, Made.made, Made.pass_before, Owed.history_more, Tallies.same_ends}
+use Rattle.mk_words.proofs.{Tallies.same_fulls, TurnSteps.all_from}
 use Rattle.mk_words.specs.Opening.{AreOpened, OnlyOpen, Opens, OthersMayOpen}
 use Rattle.mk_words.specs.States.{PassState, event_of, now_of}
-use Rattle.mk_words.specs.Steps.{IsEnabledTo}
-use Rattle.mk_words.specs.TurnSteps.{Acts, IsTurn, world_at}
+use Rattle.mk_words.specs.{Steps.IsEnabledTo, TurnSteps.Acts, TurnSteps.IsTurn, TurnSteps.world_at}
 
 -- one gate that is opened leaves the others to be opened
 
 behind_open : (c : Config) (m : Moment) (seat : Seat) (k : ℕ)
     → moment_behind c m (record { seat = seat; step = Step.Open k })
     ≡ record m { words = record m.words { gates = slice_set m.words.gates k 0 } }
-behind_open c m (Caller i) k =
-    ap (λ (fs : List Flight). record {
-      words = record m.words { gates = slice_set m.words.gates k 0 };
-      seats = record m.seats { flights = fs };
-      fresh_words = m.fresh_words;
-    })
-    (set-get_or m.seats.flights i at_rest)
-behind_open c m (Marker i) k =
-    ap (λ (xs : List MarkerState). record {
-      words = record m.words { gates = slice_set m.words.gates k 0 };
-      seats = record m.seats { markers = xs };
-      fresh_words = m.fresh_words;
-    })
-    (set-get_or m.seats.markers i outside)
+behind_open c m (Caller i) k = ap (λ (fs : List Flight). record {
+  words = record m.words { gates = slice_set m.words.gates k 0 };
+  seats = record m.seats { flights = fs };
+  fresh_words = m.fresh_words;
+}) (set-get_or m.seats.flights i at_rest)
+behind_open c m (Marker i) k = ap (λ (xs : List MarkerState). record {
+  words = record m.words { gates = slice_set m.words.gates k 0 };
+  seats = record m.seats { markers = xs };
+  fresh_words = m.fresh_words;
+}) (set-get_or m.seats.markers i outside)
 behind_open c m Host k = refl
 
 open_elsewhere : (c : Config) (m : Moment) (seat : Seat) (j : ℕ) (gs : List ℕ)
-    → slice_index gs j ≡ slice_index m.words.gates j
-    → MeetsAll c m (record { seat = seat; step = Step.Open j })
+    → slice_index gs j ≡ slice_index m.words.gates j → MeetsAll c m (record { seat = seat; step = Step.Open j })
     → MeetsAll c (record m { words = record m.words { gates = gs } }) (record { seat = seat; step = Step.Open j })
 open_elsewhere c m (Caller i) j gs same h = grind arith
 open_elsewhere c m (Marker i) j gs same h = (let kind = h.kind in cc)
@@ -116,20 +101,17 @@ opens_more p q r k o a =
       counts = record {
         ends = ap ends seen_then ∙ sym (same_ends c fs last nothing) ∙ counts.ends ∙ o.counts.ends;
         fulls = ap (λ (es : List Event). full_answers c es) seen_then ∙ sym (same_fulls c fs last nothing)
-            ∙ counts.fulls
-            ∙ o.counts.fulls;
+            ∙ counts.fulls ∙ o.counts.fulls;
       };
       more = more;
       is =
-          a.makes.is
-          ∙ ap (λ (x : PassState). record x { seen = q.seen ++ a.makes.others ++ last ∷ [] }) o.is
+          a.makes.is ∙ ap (λ (x : PassState). record x { seen = q.seen ++ a.makes.others ++ last ∷ [] }) o.is
           ∙ ap (λ (es : List Event). record p { seen = es })
           (ap (λ (es : List Event). es ++ a.makes.others ++ last ∷ []) seen_is
           ∙ append_assoc (p.seen ++ o.more) a.makes.others (last ∷ [])
           ∙ append_assoc p.seen o.more (a.makes.others ++ last ∷ []));
       only = only_append p.seats o.more (a.makes.others ++ last ∷ []) o.only
-          (only_append p.seats a.makes.others (last ∷ [])
-          (only_others p.seats a.makes.others
+          (only_append p.seats a.makes.others (last ∷ []) (only_others p.seats a.makes.others
           (subst (λ (seats : List Seat). AreOfOthers seats a.makes.others) seats_are a.makes.of_others))
           (only_one p.seats q.seat k));
     }
@@ -190,8 +172,7 @@ pub record Round (p q r : PassState) (k : ℕ) : Type 0 where
   pub opened : AreOpened r (k + 1)
 
 pub one_round : (p q r : PassState) (k : ℕ) → Opens p q → OthersMayOpen q k → AreOpened q k
-    → (is_number_of q.seat k ≡ false → Acts q (Step.Open k) r)
-    → (is_number_of q.seat k ≡ true → r ≡ q) → Round p q r k
+    → (is_number_of q.seat k ≡ false → Acts q (Step.Open k) r) → (is_number_of q.seat k ≡ true → r ≡ q) → Round p q r k
 one_round p q r k o may opened acts same = elim (cases_Bool (is_number_of q.seat k)) [
   | inl mine ↦ subst (λ (x : PassState). Round p q x k) (sym (same mine)) (record {
     opens = o;
@@ -219,8 +200,7 @@ one_round p q r k o may opened acts same = elim (cases_Bool (is_number_of q.seat
 
 -- at the end
 pub all_opened : (p q : PassState) → Opens p q → AreOpened q p.table.config.callers → IsTurn q
-    → IsHistory q.table.config q.seen
-    → none_is_held p.table.config.callers (now_of q).words ≡ true
+    → IsHistory q.table.config q.seen → none_is_held p.table.config.callers (now_of q).words ≡ true
 all_opened p q opens opened t history =
     all_from p.table.config.callers (λ j. not (is_held (now_of q).words j))
     (λ j lt. ap not (elim (cases_Bool (is_number_of q.seat j)) [

@@ -2,10 +2,9 @@
 use Rattle.std.proofs.lemmas.Bool.{true_from_ne_false}
 use Rattle.mk_laws.proofs.Vocabulary.{AreEnabledFrom, Config, Event, List, Step, World, ℕ, arith, false, or_parts}
 use Rattle.mk_laws.proofs.Vocabulary.{phase_of, sym, world_behind, [], ◌∙◌, ◌∷◌, ◌≡◌, ◌≢◌}
-use Rattle.mk_laws.proofs.CyclePhases.{moves_phase, phase_behind}
 use Rattle.mk_core.specs.History.{left_from}
-use Rattle.mk_words.specs.Laws.{EndIsBehindOver}
-use Rattle.mk_words.specs.Seats.{has_over, is_over}
+use Rattle.mk_laws.proofs.CyclePhases.{moves_phase, phase_behind}
+use Rattle.mk_words.specs.{Laws.EndIsBehindOver, Seats.has_over, Seats.is_over}
 
 not_over : (x : Step) (p : ℕ) → is_over x ≡ false → p ≢ 5 → phase_behind x p ≢ 5
 not_over Step.Begin p out ne = λ h. absurd (omega arith)
@@ -17,8 +16,7 @@ not_over Step.Over p out ne = cc
 not_over _ p out ne = ne
 
 never_over : (c : Config) (w : World) (es : List Event) → AreEnabledFrom c w es → has_over es ≡ false
-    → phase_of w.now.words ≢ 5
-    → phase_of (left_from c w es).now.words ≢ 5
+    → phase_of w.now.words ≢ 5 → phase_of (left_from c w es).now.words ≢ 5
 unfolding left_from
 never_over c w [] on none ne = ne
 never_over c w (e ∷ es) on none ne =

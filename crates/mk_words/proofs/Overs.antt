@@ -4,13 +4,10 @@ use Rattle.mk_laws.proofs.Vocabulary.{Bool, Caller, Config, Event, Group, Host, 
 use Rattle.mk_laws.proofs.Vocabulary.{Step, World, ℕ, ap, enabled_meets, false, false_from_ne_true, group_of, inl, inr}
 use Rattle.mk_laws.proofs.Vocabulary.{is_open_to, list_any-append, or_cases, refl, subst, suc, sym, true, world_behind}
 use Rattle.mk_laws.proofs.Vocabulary.{zero, [], ◌++◌, ◌||◌, ◌∙◌, ◌∷◌, ◌≡◌, ◌≢◌, ◌⊎◌}
-use Rattle.mk_core.specs.Growing.{AreOfOthers}
-use Rattle.mk_core.specs.History.{AreEnabledFrom}
+use Rattle.mk_core.specs.{Growing.AreOfOthers, History.AreEnabledFrom}
 use Rattle.atomic_table.proofs.Lists.{at_set}
-use Rattle.mk_words.proofs.Seats.{not_both}
-use Rattle.mk_words.specs.Rule.{seats_of}
-use Rattle.mk_words.specs.Seats.{CallersAreBeforeOver, Has, HasCallers, has_over, is_over}
-use Rattle.mk_words.specs.declared.rule.View.{View}
+use Rattle.mk_words.{proofs.Seats.not_both, specs.Rule.seats_of, specs.Seats.CallersAreBeforeOver, specs.Seats.Has}
+use Rattle.mk_words.{specs.Seats.HasCallers, specs.Seats.has_over, specs.Seats.is_over, specs.declared.rule.View.View}
 use mathlib.Core.Option.{some, some-ne-none}
 use lib.ListN.{get_elem?}
 
@@ -33,13 +30,11 @@ neither a b one two = ap (λ (x : Bool). x || b) one ∙ two
 
 -- no `over` is among the events of others than the host
 pub none_over : (c : Config) (w : World) (seats : List Seat) (es : List Event) → Has seats Host → AreOfOthers seats es
-    → AreEnabledFrom c w es
-    → has_over es ≡ false
+    → AreEnabledFrom c w es → has_over es ≡ false
 unfolding AreOfOthers AreEnabledFrom
 none_over c w seats [] has others on = refl
 none_over c w seats (e ∷ es) has others on =
-    neither (is_over e.step) (has_over es)
-    (false_from_ne_true (is_over e.step) (λ (h : is_over e.step ≡ true).
+    neither (is_over e.step) (has_over es) (false_from_ne_true (is_over e.step) (λ (h : is_over e.step ≡ true).
     not_both seats e.seat others.0 (subst (λ (s : Seat). Has seats s) (sym (over_is_hosts c w.now e on.0 h)) has)))
     (none_over c (world_behind c w e) seats es has others.1 on.1)
 
@@ -54,8 +49,7 @@ later : (es : List Event) (e : Event) → has_over (es ++ e ∷ []) ≡ true →
 later es e h =
     ⊎_elim (λ (t : has_over es ≡ true). inl t)
     (λ (t : has_over (e ∷ []) ≡ true). ⊎_elim (λ (u : is_over e.step ≡ true). inr u) (λ (u : false ≡ true). cc)
-    (or_cases (is_over e.step) false t))
-    (or_cases (has_over es) (has_over (e ∷ [])) (sym (in_parts es (e ∷ [])) ∙ h))
+    (or_cases (is_over e.step) false t)) (or_cases (has_over es) (has_over (e ∷ [])) (sym (in_parts es (e ∷ [])) ∙ h))
 
 -- So it is with all of these views.
 abbrev pub AllBeforeOver : Config → List View → List Event → Type 0
@@ -78,19 +72,13 @@ overs_later c m vs id v w es e at same apart before on has home j d p k lt h ove
     let forth : (x : Seat) → w ≡ d → Has (seats_of v) x → Has (seats_of d) x =
     λ x is there. subst (λ (z : View). Has (seats_of z) x) is
     (subst (λ (seats : List Seat). Has seats x) (sym same) there) in
-    ⊎_elim
-    (λ (old : has_over es ≡ true).
-    ⊎_elim
+    ⊎_elim (λ (old : has_over es ≡ true). ⊎_elim
     (λ (t : (j ≡ id) × (w ≡ d)). forth Host t.1 (before id v at k lt (back (Caller k) t.1 h) old))
-    (λ (t : (j ≢ id) × (get_elem? vs j ≡ some d)). before j d t.1 k lt h old)
-    (at_set vs id j w d p))
-    (λ (new : is_over e.step ≡ true).
-    ⊎_elim
-    (λ (t : (j ≡ id) × (w ≡ d)). forth Host t.1
+    (λ (t : (j ≢ id) × (get_elem? vs j ≡ some d)). before j d t.1 k lt h old) (at_set vs id j w d p))
+    (λ (new : is_over e.step ≡ true). ⊎_elim (λ (t : (j ≡ id) × (w ≡ d)). forth Host t.1
     (subst (λ (s : Seat). Has (seats_of v) s) (over_is_hosts c m e on new) has))
     (λ (t : (j ≢ id) × (get_elem? vs j ≡ some d)). absurd (t.0 (apart j id d v (Caller k) t.1 at h (home new k lt))))
-    (at_set vs id j w d p))
-    (later es e over)
+    (at_set vs id j w d p)) (later es e over)
 
 -- the view that was set is there
 pub set_there : (vs : List View) (id : ℕ) (v w : View) → get_elem? vs id ≡ some v → get_elem? (set vs id w) id ≡ some w
@@ -102,7 +90,5 @@ set_there (x ∷ xs) (suc id) v w e = set_there xs id v w e
 pub overs_with : (c : Config) (vs : List View) (id : ℕ) (w : View) (es : List Event) → AllBeforeOver c vs es
     → CallersAreBeforeOver c (seats_of w) es → AllBeforeOver c (set vs id w) es
 overs_with c vs id w es before of j d p =
-    ⊎_elim
-    (λ (t : (j ≡ id) × (w ≡ d)). subst (λ (z : View). CallersAreBeforeOver c (seats_of z) es) t.1 of)
-    (λ (t : (j ≢ id) × (get_elem? vs j ≡ some d)). before j d t.1)
-    (at_set vs id j w d p)
+    ⊎_elim (λ (t : (j ≡ id) × (w ≡ d)). subst (λ (z : View). CallersAreBeforeOver c (seats_of z) es) t.1 of)
+    (λ (t : (j ≢ id) × (get_elem? vs j ≡ some d)). before j d t.1) (at_set vs id j w d p)

@@ -1,33 +1,26 @@
 -- What the calls owe the table for a step, a split, a join and the end, and what they learn.
 use Rattle.std.proofs.Common.{replicate}
 use Rattle.mk_laws.proofs.Vocabulary.{Access, Caller, Config, Event, Host, IsHistory, IsTidy, IsWithinLimits, List}
-use Rattle.mk_laws.proofs.Vocabulary.{Seat, Step, ℕ, access, ap, arith, false, subst, sym, true, word_accessed, []}
-use Rattle.mk_laws.proofs.Vocabulary.{◌++◌, ◌<◌, ◌∙◌, ◌∷◌, ◌≡◌}
-use Rattle.mk_laws.proofs.Reaching.{events_reach_the_table}
+use Rattle.mk_laws.proofs.Vocabulary.{Seat, Step, ℕ, access, ap, arith, false, refl, subst, sym, true, word_accessed}
+use Rattle.mk_laws.proofs.Vocabulary.{[], ◌++◌, ◌<◌, ◌∙◌, ◌∷◌, ◌≡◌}
 use Rattle.mk_page_map.specs.KnownPages.{KnownPages}
-use Rattle.mk_core.proofs.Histories.{enabled_more}
-use Rattle.mk_core.proofs.LayoutLemmas.{indexes_within}
-use Rattle.mk_core.proofs.RegionLemmas.{first_are_zero}
+use Rattle.mk_core.proofs.{Histories.enabled_more, LayoutLemmas.indexes_within, RegionLemmas.first_are_zero}
 use Rattle.mk_core.specs.Layout.{IsOfTable, count_of_words, index_of}
-use Rattle.mk_core.specs.Growing.{Grows, is_same_seat}
-use Rattle.mk_core.specs.History.{AreEnabledFrom, calls_from}
-use Rattle.mk_core.specs.Words.{becomes, zero_words_of}
-use Rattle.mk_core.specs.declared.accesses.TableWord.{TableWord}
+use Rattle.mk_core.specs.{Growing.Grows, Growing.is_same_seat, History.AreEnabledFrom, History.calls_from}
+use Rattle.mk_core.specs.{Words.becomes, Words.zero_words_of, declared.accesses.TableWord.TableWord}
+use Rattle.mk_laws.proofs.Reaching.{events_reach_the_table}
 use Rattle.atomic_table.specs.Table.{Allows, Final, Joins, Seen, Splits, opening}
 use Rattle.atomic_table.specs.Seated.{TableId}
 use Rattle.mk_words.proofs.Cuts.{hands_over, joins, remembers, splits}
 use Rattle.mk_words.proofs.Keeps.{Ended, access_there, closes, opens, performs_at, place_there, settles_at}
 use Rattle.mk_words.proofs.Seats.{has_all, has_first, has_left, only_one, without_keeps, without_less}
-use Rattle.mk_words.proofs.Tidy.{none_tidy}
-use Rattle.mk_words.proofs.Undecided.{undecided_admitted}
-use Rattle.mk_words.specs.PageMaps.{IsMapOf, is_handing}
+use Rattle.mk_words.proofs.{Tidy.none_tidy, Undecided.undecided_admitted}
 use Rattle.mk_words.specs.Rule.{Adds, Kept, Mine, adds, beside, copy_of, first_view, goes_with, no_step, nobody}
 use Rattle.mk_words.specs.Rule.{settles, stays_with, stores_word, told_by}
 use Rattle.mk_words.specs.Seats.{CallersAreBeforeOver, Has, HasAll, has_over, is_caller}
 use Rattle.mk_words.specs.States.{PassState, WordsState, event_of, now_of}
-use Rattle.mk_words.specs.Passes.{IsInOrder, state_of}
-use Rattle.mk_words.specs.Steps.{May, Tells}
-use Rattle.mk_words.specs.declared.rule.View.{View}
+use Rattle.mk_words.specs.{PageMaps.IsMapOf, PageMaps.is_handing, Passes.IsInOrder, Passes.state_of, Steps.May}
+use Rattle.mk_words.specs.{Steps.MayPerform, Steps.Tells, declared.rule.View.View}
 use mathlib.Core.Option.{some}
 
 -- with the event the pass's list is a history
@@ -41,67 +34,11 @@ pub word_of_table : (p : PassState) (s : Step) → IsHistory p.table.config p.se
 word_of_table p s h may =
     events_reach_the_table p.table.config p.seen (event_of p s) h.within_limits h.enabled may.enabled
 
--- What is owed for the step's own event, word and access is owed by a call that has other names for them.
-pub owed_as : (config key : Config) (tid : TableId) (words slots id : ℕ) (me : Mine) (seat : Seat) (s : Step) (i : ℕ)
-    (x : TableWord) (a : Access) (picked : Event) (then : Event → ℕ → Mine → Type 0)
-    → IsInOrder me seat → me.0.config ≡ config → key ≡ config → words ≡ count_of_words config.pages
-    → picked ≡ event_of (state_of tid me seat) s
-    → May (state_of tid me seat) s
-    → x ≡ word_accessed me.0.config (now_of (state_of tid me seat)) (event_of (state_of tid me seat) s)
-    → a ≡ access me.0.config (now_of (state_of tid me seat)) (event_of (state_of tid me seat) s)
-    → i ≡ index_of config.pages x
-    → Allows (Kept me.0.config) slots id me (place_there me (event_of (state_of tid me seat) s))
-    (becomes (access_there me (event_of (state_of tid me seat) s))) (then (event_of (state_of tid me seat) s))
-    → (i < words) × Allows (Kept key) slots id me i (becomes a) (then picked)
-owed_as config key tid words slots id me seat s i x a picked then order config_is key_is words_are picked_is may x_is
-    a_is i_is owed =
-    let c : Config = me.0.config in
-    let p : PassState = state_of tid me seat in
-    let y : TableWord = word_accessed c (now_of p) (event_of p s) in
-    let j : ℕ = index_of c.pages y in
-    let at : i ≡ j = grind arith in
-    let within : j < count_of_words c.pages = indexes_within c.pages y (word_of_table p s order.history may) in
-    let as_many : words ≡ count_of_words c.pages = grind arith in
-    let same_key : key ≡ c = key_is ∙ sym config_is in
-    let at_access : Allows (Kept c) slots id me j (becomes a) (then (event_of p s)) = grind arith in
-    let at_index : Allows (Kept c) slots id me i (becomes a) (then (event_of p s)) = grind arith in
-    let at_event : Allows (Kept c) slots id me i (becomes a) (then picked) =
-    subst (λ (e : Event). Allows (Kept c) slots id me i (becomes a) (then e)) (sym picked_is) at_index in (
-      omega arith,
-      subst (λ (d : Config). Allows (Kept d) slots id me i (becomes a) (then picked)) (sym same_key) at_event,
-    )
-
 -- what a step says, and that the pass is in order after it
 
 pub in_order_still : (me n : Mine) (seat : Seat) (e : Event) (found : ℕ) → IsInOrder me seat → Adds e me.0 found n.0
     → IsInOrder n seat
 in_order_still me n seat e found order add = grind arith
-
-pub record Learnt (tid : TableId) (me n : Mine) (seat : Seat) (s : Step) (a : Access) (answer : ℕ) : Type 0 where
-  pub tells : Tells (state_of tid me seat) s answer (state_of tid n seat)
-  pub order : IsInOrder n seat
-
-pub event_learnt : (tid : TableId) (me n : Mine) (seat : Seat) (s : Step) (a : Access) (answer : ℕ) (picked : Event)
-    → picked ≡ event_of (state_of tid me seat) s
-    → a ≡ access me.0.config (now_of (state_of tid me seat)) (event_of (state_of tid me seat) s)
-    → IsInOrder me seat → (found : ℕ) → adds picked no_step me found n → answer ≡ told_by a found
-    → Learnt tid me n seat s a answer
-event_learnt tid me n seat s a answer picked picked_is a_is order found on_picked answer_is =
-    let e : Event = event_of (state_of tid me seat) s in
-    let on : adds e no_step me found n = subst (λ (d : Event). adds d no_step me found n) picked_is on_picked in
-    let then = in_order_still me n seat e found order on.1 in
-    record {
-      tells = record {
-        makes = record {
-          others = on.1.others;
-          of_others = on.1.of_others;
-          is = ap (λ (w : View). state_of tid (w, []) seat) on.1.is;
-          pass = record { own = then.own; history = then.history };
-        };
-        tells = cc (answer_is, a_is, on.1.finds);
-      };
-      order = then;
-    }
 
 -- a split
 
@@ -111,8 +48,7 @@ some_words words pages e = omega arith
 pub split_call : (config key : Config) (words id : ℕ) (me : Mine) (seat x picked : Seat) → IsInOrder me seat
     → me.0.config ≡ config → key ≡ config
     → words ≡ count_of_words config.pages → picked ≡ x → Has me.0.own.seats x → Has me.0.own.seats Host
-    → is_same_seat x Host ≡ false
-    → (is_caller x ≡ true → has_over me.0.own.seen ≡ false)
+    → is_same_seat x Host ≡ false → (is_caller x ≡ true → has_over me.0.own.seen ≡ false)
     → (0 < words) × Splits (Kept key) id me.0 (stays_with picked me.0) (goes_with picked me.0)
 split_call config key words id me seat x picked order config_is key_is words_are picked_is has host another early = (
   some_words words config.pages words_are,
@@ -133,14 +69,12 @@ copy_call config key words id me key_is words_are = (
 -- a join, and the look after it
 
 pub join_call : (config key : Config) (words id : ℕ) (me : Mine) (other : ℕ) (from : Mine) (seat there : Seat)
-    → IsInOrder me seat → IsInOrder from there → key ≡ config
-    → words ≡ count_of_words config.pages
+    → IsInOrder me seat → IsInOrder from there → key ≡ config → words ≡ count_of_words config.pages
     → (0 < words) × Joins (Kept key) id me.0 other from.0 (beside me.0 from.0) nobody
 join_call config key words id me other from seat there mine theirs key_is words_are = grind (arith, some_words, joins)
 
 pub settle_call : (config key : Config) (words slots id : ℕ) (me : Mine) → me.0.config ≡ config → key ≡ config
-    → words ≡ count_of_words config.pages
-    → (0 < words) × Allows (Kept key) slots id me 0 (λ n. n) (settles no_step me)
+    → words ≡ count_of_words config.pages → (0 < words) × Allows (Kept key) slots id me 0 (λ n. n) (settles no_step me)
 settle_call config key words slots id me config_is key_is words_are = (
   some_words words config.pages words_are,
   subst (λ (d : Config). Allows (Kept d) slots id me 0 (λ n. n) (settles no_step me)) (sym (key_is ∙ sym config_is))
@@ -149,8 +83,7 @@ settle_call config key words slots id me config_is key_is words_are = (
 
 -- the end
 pub close_call : (config key : Config) (id : ℕ) (me : Mine) (ws : List ℕ) (xs : List KnownPages) → key ≡ config
-    → HasAll config me.0.own.seats
-    → Final (Seen (Kept key) id me.0) ws xs → Ended config me.0.own.seen ws
+    → HasAll config me.0.own.seats → Final (Seen (Kept key) id me.0) ws xs → Ended config me.0.own.seen ws
 close_call config key id me ws xs key_is all f =
     closes config id me ws xs all (subst (λ (d : Config). Final (Seen (Kept d) id me.0) ws xs) key_is f)
 
@@ -169,59 +102,63 @@ module _ {w : WordsState} {p : PassState} {tid pid : TableId} {config : Config} 
   pub same_config : me.0.config ≡ config
   same_config = ap (λ (x : WordsState). x.config) same_table
 
-  pub names_word : (s : Step) (x : TableWord) → IsInOrder me seat → May p s
-      → x ≡ word_accessed p.table.config (now_of p) (event_of p s) → IsOfTable config.pages x
-  names_word s x order may x_is = grind (arith, word_of_table, same_config)
+  pub names_word : (s : Step) (x : TableWord) {a : Access} → IsInOrder me seat → MayPerform p s x a
+      → IsOfTable config.pages x
+  names_word s x order may = grind (arith, word_of_table, same_config)
 
-module _ (w : WordsState) (p : PassState) (tid pid : TableId) (config key : Config) (me : Mine) (seat : Seat)
-    (w_is : made_of tid config ≡ w) (p_is : state_of pid me seat ≡ p) (one_table : p.table ≡ w) where
+-- the same, where the pass is the token's
+module _ (w : WordsState) (tid pid : TableId) (config key : Config) (me : Mine) (seat : Seat)
+    (w_is : made_of tid config ≡ w) (one_table : (state_of pid me seat).table ≡ w) where
+  abbrev p : PassState
+  p = state_of pid me seat
+
+  -- What is owed for the step's own event, word and access is owed by a call that has other names for them.
   pub owed_call : (words slots id : ℕ) (s : Step) (i : ℕ) (x : TableWord) (a : Access) (picked : Event)
-      (then : Event → ℕ → Mine → Type 0)
-      → IsInOrder me seat → key ≡ config
-      → words ≡ count_of_words config.pages → picked ≡ event_of p s → May p s
-      → x ≡ word_accessed p.table.config (now_of p) (event_of p s)
-      → a ≡ access p.table.config (now_of p) (event_of p s) → i ≡ index_of config.pages x
-      → (May (state_of pid me seat) s
-      → Allows (Kept me.0.config) slots id me (place_there me (event_of (state_of pid me seat) s))
-      (becomes (access_there me (event_of (state_of pid me seat) s))) (then (event_of (state_of pid me seat) s)))
-      → (i < words) × Allows (Kept key) slots id me i (becomes a) (then picked)
-  owed_call words slots id s i x a picked then order key_is words_are picked_is may x_is a_is i_is owed =
-      let back : p ≡ state_of pid me seat = sym p_is in
-      let mine : May (state_of pid me seat) s = subst (λ (r : PassState). May r s) back may in
-      owed_as config key pid words slots id me seat s i x a picked then order
-      (same_config me seat w_is p_is one_table) key_is words_are
-      (picked_is ∙ ap (λ (r : PassState). event_of r s) back)
-      mine
-      (x_is ∙ ap (λ (r : PassState). word_accessed r.table.config (now_of r) (event_of r s)) back)
-      (a_is ∙ ap (λ (r : PassState). access r.table.config (now_of r) (event_of r s)) back)
-      i_is (owed mine)
+      (then : Event → ℕ → Mine → Type 0) → IsInOrder me seat → key ≡ config
+      → words ≡ count_of_words config.pages → picked ≡ event_of p s → MayPerform p s x a → i ≡ index_of config.pages x
+      → Allows (Kept me.0.config) slots id me (place_there me (event_of p s)) (becomes (access_there me (event_of p s)))
+      (then (event_of p s)) → (i < words) × Allows (Kept key) slots id me i (becomes a) (then picked)
+  owed_call words slots id s i x a picked then order key_is words_are picked_is may i_is owed =
+      let c : Config = me.0.config in
+      let config_is : c ≡ config = same_config me seat w_is refl one_table in
+      let at : i ≡ place_there me (event_of p s) = cc (i_is, config_is, may.reaches) in
+      let within : place_there me (event_of p s) < count_of_words c.pages =
+      indexes_within c.pages _ (word_of_table p s order.history may.may) in
+      let at_index : Allows (Kept c) slots id me i (becomes a) (then (event_of p s)) = grind arith in
+      let at_event : Allows (Kept c) slots id me i (becomes a) (then picked) =
+      subst (λ (e : Event). Allows (Kept c) slots id me i (becomes a) (then e)) (sym picked_is) at_index in (
+        grind arith,
+        subst (λ (d : Config). Allows (Kept d) slots id me i (becomes a) (then picked)) (config_is ∙ sym key_is) at_event,
+      )
 
   pub perform_call : (words slots id : ℕ) (s : Step) (i : ℕ) (x : TableWord) (a : Access) (picked : Event)
       → IsInOrder me seat → key ≡ config
-      → words ≡ count_of_words config.pages → picked ≡ event_of p s → May p s
-      → x ≡ word_accessed p.table.config (now_of p) (event_of p s)
-      → a ≡ access p.table.config (now_of p) (event_of p s) → i ≡ index_of config.pages x → is_handing s ≡ false
+      → words ≡ count_of_words config.pages → picked ≡ event_of p s → MayPerform p s x a → i ≡ index_of config.pages x
+      → is_handing s ≡ false
       → (i < words) × Allows (Kept key) slots id me i (becomes a) (λ n m. adds picked no_step me n m)
-  perform_call words slots id s i x a picked order key_is words_are picked_is may x_is a_is i_is kind =
-      owed_call words slots id s i x a picked (λ e n m. adds e no_step me n m) order key_is words_are picked_is may x_is
-      a_is i_is
-      (λ mine. performs_at slots id me (event_of (state_of pid me seat) s) no_step order.settled order.own
-      (history_more (state_of pid me seat) s order.history mine) mine.tidy mine.home kind)
+  perform_call words slots id s i x a picked order key_is words_are picked_is may i_is kind =
+      owed_call words slots id s i x a picked (λ e n m. adds e no_step me n m) order key_is words_are picked_is may i_is
+      (performs_at slots id me (event_of p s) no_step order.settled order.own
+      (history_more p s order.history may.may) may.may.tidy may.may.home kind)
 
-pub perform_learns : (p : PassState) (pid qid : TableId) (me n : Mine) (seat : Seat) (s : Step) (a : Access)
-    (answer : ℕ) (picked : Event) → state_of pid me seat ≡ p → qid ≡ pid
-    → picked ≡ event_of p s → a ≡ access p.table.config (now_of p) (event_of p s) → IsInOrder me seat
-    → (found : ℕ) × adds picked no_step me found n × (answer ≡ told_by a found) → Tells p s answer (state_of qid n seat)
-perform_learns p pid qid me n seat s a answer picked p_is q_is picked_is a_is order on =
-    let back : p ≡ state_of pid me seat = sym p_is in
-    let learnt = event_learnt pid me n seat s a answer picked (picked_is ∙ ap (λ (r : PassState). event_of r s) back)
-    (a_is ∙ ap (λ (r : PassState). access r.table.config (now_of r) (event_of r s)) back) order on.0 on.1 on.2 in
-    subst (λ (z : TableId). Tells p s answer (state_of z n seat)) (sym q_is)
-    (subst (λ (r : PassState). Tells r s answer (state_of pid n seat)) p_is learnt.tells)
-
-pub perform_keeps : (me n : Mine) (seat : Seat) (found : ℕ) (picked : Event) → IsInOrder me seat
-    → adds picked no_step me found n → IsInOrder n seat
-perform_keeps me n seat found picked order on = in_order_still me n seat picked found order on.1
+pub perform_learns : (pid qid : TableId) (me n : Mine) (seat : Seat) (s : Step) (a : Access) (answer : ℕ)
+    (picked : Event) → qid ≡ pid → picked ≡ event_of (state_of pid me seat) s
+    → a ≡ access me.0.config (now_of (state_of pid me seat)) (event_of (state_of pid me seat) s) → IsInOrder me seat
+    → (found : ℕ) × adds picked no_step me found n × (answer ≡ told_by a found)
+    → Tells (state_of pid me seat) s answer (state_of qid n seat)
+perform_learns pid qid me n seat s a answer picked q_is picked_is a_is order on =
+    let e : Event = event_of (state_of pid me seat) s in
+    let added : adds e no_step me on.0 n = subst (λ (d : Event). adds d no_step me on.0 n) picked_is on.1 in
+    let then = in_order_still me n seat e on.0 order added.1 in
+    record {
+      makes = record {
+        others = added.1.others;
+        of_others = added.1.of_others;
+        is = ap (λ (id : TableId). state_of id n seat) q_is ∙ ap (λ (w : View). state_of pid (w, []) seat) added.1.is;
+        pass = record { own = then.own; history = then.history };
+      };
+      tells = cc (on.2, a_is, added.1.finds);
+    }
 
 -- a store
 pub allows_store : (key : Config) (slots id : ℕ) (me : Mine) (i : ℕ) (e : Event) (value : ℕ)
@@ -248,8 +185,7 @@ first_in_order c me limits is = grind (arith, has_all, none_is_history, none_tid
 pub kept_by_split : (me n : Mine) (seat x picked : Seat) → IsInOrder me seat → picked ≡ x → is_same_seat x seat ≡ false
     → is_same_seat x Host ≡ false → n ≡ (stays_with picked me.0, me.1) → IsInOrder n seat
 kept_by_split me n seat x picked order picked_is other another is =
-    subst (λ (m : Mine). IsInOrder m seat) (sym (is ∙ ap (λ (y : Seat). (stays_with y me.0, me.1)) picked_is))
-    (record {
+    subst (λ (m : Mine). IsInOrder m seat) (sym (is ∙ ap (λ (y : Seat). (stays_with y me.0, me.1)) picked_is)) (record {
       settled = order.settled;
       own = without_keeps x me.0.own.seats seat other order.own;
       history = order.history;
@@ -274,8 +210,7 @@ pub record Joined (tid : TableId) (me from n : Mine) (seat : Seat) : Type 0 wher
   pub order : IsInOrder n seat
 
 joined_as : (tid : TableId) (me from n : Mine) (seat : Seat) (slots : List (ℕ × KnownPages)) → (answer : ℕ)
-    → IsInOrder me seat
-    → settles no_step (beside me.0 from.0, slots) answer n → Joined tid me from n seat
+    → IsInOrder me seat → settles no_step (beside me.0 from.0, slots) answer n → Joined tid me from n seat
 joined_as tid me from n seat slots answer order on =
     let s = on.1 in
     record {
@@ -293,8 +228,6 @@ joined_as tid me from n seat slots answer order on =
     }
 
 pub joined : (tid : TableId) (me from m n : Mine) (seat : Seat) (answer : ℕ) → IsInOrder me seat
-    → m ≡ (beside me.0 from.0, me.1)
-    → settles no_step m answer n → Joined tid me from n seat
+    → m ≡ (beside me.0 from.0, me.1) → settles no_step m answer n → Joined tid me from n seat
 joined tid me from m n seat answer order is on =
-    joined_as tid me from n seat me.1 answer order
-    (subst (λ (x : Mine). settles no_step x answer n) is on)
+    joined_as tid me from n seat me.1 answer order (subst (λ (x : Mine). settles no_step x answer n) is on)

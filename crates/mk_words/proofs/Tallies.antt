@@ -1,28 +1,15 @@
 -- An event that counts nothing leaves the tallies what they count.
 use Rattle.std.proofs.lemmas.List.Sums.{sum_by_push}
-use Rattle.mk_laws.proofs.Vocabulary.{Config, Event, Holding, IsHistory, IsSettled, List, Moment, OfHistories}
-use Rattle.mk_laws.proofs.Vocabulary.{PlacedAllocation, Protocol, TalliesAreTidy, Words, World, ℕ, ap, arith, ends}
-use Rattle.mk_laws.proofs.Vocabulary.{first_world, fresh_words_of, has_place, held_by_pages, histories_keep_lengths}
-use Rattle.mk_laws.proofs.Vocabulary.{in_a_word, left, left_more, ne_eqb, phase_of, refl, subst, sym, world_behind, []}
-use Rattle.mk_laws.proofs.Vocabulary.{◌++◌, ◌+◌, ◌∙◌, ◌∷◌, ◌≡◌}
-use Rattle.mk_laws.proofs.FreshSteps.{FreshTold, fresh_told_behind}
-use Rattle.mk_laws.proofs.Induction.{KeptByEvents, before_it, holds_of_histories}
-use Rattle.mk_laws.proofs.InvariantHistories.{histories_keep_the_invariant}
-use Rattle.mk_laws.proofs.InvariantJoined.{told_to_layout}
-use Rattle.mk_laws.proofs.InvariantTheorems.{pages_show_the_storage}
-use Rattle.mk_laws.proofs.Known.{known_left}
-use Rattle.mk_laws.proofs.KnownWorlds.{known_world}
-use Rattle.mk_laws.proofs.LayoutBefore.{Before}
-use Rattle.mk_laws.proofs.LayoutHistories.{known_before}
-use Rattle.mk_laws.proofs.OthersCounts.{entry_fulls, fulls_append, fulls_of}
-use Rattle.mk_laws.proofs.Tallies.{tallies_tell}
-use Rattle.mk_laws.proofs.TallySteps.{CountsNothing}
+use Rattle.mk_laws.proofs.Vocabulary.{Config, Event, Holding, IsHistory, IsSettled, List, Moment, PlacedAllocation}
+use Rattle.mk_laws.proofs.Vocabulary.{Protocol, TalliesAreTidy, Words, World, ℕ, ap, arith, ends, first_world}
+use Rattle.mk_laws.proofs.Vocabulary.{fresh_words_of, has_place, held_by_pages, in_a_word, left, left_more, ne_eqb}
+use Rattle.mk_laws.proofs.Vocabulary.{phase_of, sym, world_behind, [], ◌++◌, ◌+◌, ◌∙◌, ◌∷◌, ◌≡◌}
 use Rattle.mk_geom.proofs.HeldWords.{pages_hold_mapped_words}
 use Rattle.mk_core.proofs.Histories.{calls_more}
-use Rattle.mk_core.specs.History.{left_from}
-use Rattle.mk_core.specs.Allocations.{held_by_allocations}
-use Rattle.mk_core.specs.Counts.{TalliesAreExact, full_answers, releases}
-use Rattle.mk_laws.specs.SettledPages.{is_freed_unmapped}
+use Rattle.mk_core.specs.{Allocations.held_by_allocations, Counts.TalliesAreExact, Counts.full_answers, Counts.releases}
+use Rattle.mk_laws.{proofs.InvariantTheorems.pages_show_the_storage, proofs.OthersCounts.entry_fulls}
+use Rattle.mk_laws.{proofs.OthersCounts.fulls_append, proofs.OthersCounts.fulls_of, proofs.Tallies.fresh_is_told}
+use Rattle.mk_laws.{proofs.Tallies.tallies_tell, proofs.TallySteps.CountsNothing, specs.SettledPages.is_freed_unmapped}
 
 -- (as in the crate that proves what the tallies count, where it is private)
 module _ (c : Config) (es : List Event) (e : Event) (nothing : CountsNothing c (left c es) e) where
@@ -58,32 +45,6 @@ module _ (c : Config) (es : List Event) (e : Event) (nothing : CountsNothing c (
     full = tally (λ (w : Words). w.full) _ nothing.alike.tallies.full tidy.full ∙ ap in_a_word same_fulls;
   }
 
--- The fresh count of the moment is that of the allocations (as there, too).
-
-abbrev FreshIsTold : Config → List Event → Type 0
-FreshIsTold c es = FreshTold c (left c es)
-
-world_before : (c : Config) (es : List Event) → IsHistory c es → Before c (left c es)
-world_before c es h =
-    let all = histories_keep_the_invariant c es h in
-    let others = told_to_layout c (left c es) _ (known_world c es h.within_limits h.enabled) all in
-    let known = known_left c es h.within_limits h.enabled in
-    known_before c (left c es) h.within_limits (histories_keep_lengths c es) known others all.order.quarantined
-
-fresh_kept : KeptByEvents FreshIsTold
-fresh_kept c es e h told =
-    let here = before_it c (es ++ e ∷ []) es e [] h refl in
-    let order = (histories_keep_the_invariant c es here.0).order in
-    subst (λ (w : World). FreshTold c w) (sym (left_more c (first_world c) es e))
-    (fresh_told_behind c (left c es) e.seat e.step (world_before c es here.0) here.1 order told)
-
-fresh_at_first : (c : Config) → FreshIsTold c []
-unfolding left_from
-fresh_at_first c = refl
-
-fresh_is_told : OfHistories FreshIsTold
-fresh_is_told = holds_of_histories FreshIsTold fresh_at_first fresh_kept
-
 -- Where nothing is under way, exact tallies are those of the words;
 pub settled_tallies : (c : Config) (es : List Event) → IsHistory c es → IsSettled (left c es) → TalliesAreExact c es
     → ((left c es).now.words.held ≡ held_by_pages (left c es).now.words)
@@ -92,8 +53,7 @@ settled_tallies c es h settled exact = grind (arith, pages_show_the_storage, pag
 
 -- so they are where nobody holds the turn.
 pub free_tallies : (c : Config) (es : List Event) → IsHistory c es → Protocol c (left c es).now
-    → (left c es).now.words.turn ≡ 0
-    → ((left c es).now.words.held ≡ held_by_pages (left c es).now.words)
+    → (left c es).now.words.turn ≡ 0 → ((left c es).now.words.held ≡ held_by_pages (left c es).now.words)
     × ((left c es).now.words.fresh ≡ (left c es).now.fresh_words)
 free_tallies c es h protocol free =
     let m : Moment = (left c es).now in

@@ -1,27 +1,19 @@
 -- What the steps of the turn's holder leave.
-use Rattle.mk_laws.proofs.Vocabulary.{Bool, Caller, Cell, Config, Flight, Holds, Host, List, Marker, Moment, None, Op}
-use Rattle.mk_laws.proofs.Vocabulary.{Option, Progress, Protocol, Seat, Some, Stage, Step, World, ℕ, and_from}
-use Rattle.mk_laws.proofs.Vocabulary.{and_parts, ap, arith, at_rest, cell_freed, eq-eqb, eqb-false, false, flight_of}
-use Rattle.mk_laws.proofs.Vocabulary.{found, get_or-set_same, group_of, has_phase, held_by_pages}
-use Rattle.mk_laws.proofs.Vocabulary.{histories_keep_lengths, holder_number, if◌then◌else◌, is_held, is_number_of}
-use Rattle.mk_laws.proofs.Vocabulary.{is_open_to, length, ltb-true, ne_eqb, not-true, nothing_done, others_are_held}
-use Rattle.mk_laws.proofs.Vocabulary.{phase_of, progress, progress_freed, progress_p, progress_q, progress_read}
-use Rattle.mk_laws.proofs.Vocabulary.{progress_reg, refl, seat_exists, slice_index, slice_set, subst, suc, sym, true}
-use Rattle.mk_laws.proofs.Vocabulary.{zero, ◌++◌, ◌+◌, ◌<◌, ◌==◌, ◌||◌, ◌∙◌, ◌≡◌, ◌≢◌}
+use Rattle.mk_laws.proofs.Vocabulary.{Bool, Caller, Config, Holds, Host, List, Marker, Moment, None, Op, Option}
+use Rattle.mk_laws.proofs.Vocabulary.{Progress, Protocol, Seat, Some, Step, World, ℕ, and_from, and_parts, ap, arith}
+use Rattle.mk_laws.proofs.Vocabulary.{at_rest, eq-eqb, eqb-false, false, flight_of, found, get_or-set_same, group_of}
+use Rattle.mk_laws.proofs.Vocabulary.{has_phase, held_by_pages, histories_keep_lengths, holder_number, if◌then◌else◌}
+use Rattle.mk_laws.proofs.Vocabulary.{is_held, is_number_of, is_open_to, length, ltb-true, ne_eqb, not-true}
+use Rattle.mk_laws.proofs.Vocabulary.{nothing_done, others_are_held, phase_of, refl, seat_exists, slice_index, subst}
+use Rattle.mk_laws.proofs.Vocabulary.{suc, sym, true, zero, ◌++◌, ◌+◌, ◌<◌, ◌==◌, ◌||◌, ◌∙◌, ◌≡◌, ◌≢◌}
+use Rattle.mk_core.specs.{Bounded.all_below, Frames.HoldsAll, Moments.none_is_held, Order.is_in_order}
 use Rattle.mk_laws.proofs.SameWords.{Behind, reg_keeps, tally_keeps}
-use Rattle.mk_laws.proofs.NextSteps.{at_no_take}
-use Rattle.mk_laws.proofs.Protocols.{lists_keep_the_protocol}
-use Rattle.mk_core.specs.Bounded.{all_below}
-use Rattle.mk_core.specs.Frames.{HoldsAll}
-use Rattle.mk_core.specs.Moments.{none_is_held}
-use Rattle.mk_core.specs.Order.{is_in_order}
+use Rattle.mk_laws.proofs.{NextSteps.at_no_take, Protocols.lists_keep_the_protocol}
 use Rattle.mk_words.proofs.CallSteps.{begins, goes}
-use Rattle.mk_words.proofs.FreeTurns.{hands_none, turn_word_stays}
-use Rattle.mk_words.proofs.Made.{Made, made}
-use Rattle.mk_words.proofs.Tallies.{free_tallies}
-use Rattle.mk_words.specs.Steps.{moment_of, Finds, Makes, Tells}
+use Rattle.mk_words.proofs.{FreeTurns.hands_none, FreeTurns.turn_word_stays, Made.Made, Made.made, Tallies.free_tallies}
 use Rattle.mk_words.specs.States.{PassState, TurnState, call_of, now_of, world_of}
 use Rattle.mk_words.specs.TurnSteps.{Acts, GatesAre, IsFresh, IsTurn, begun_for, gates_stay, turn_stays}
+use Rattle.mk_words.specs.Steps.{Finds, Makes, Tells, moment_of}
 
 -- who holds the turn, by the turn word
 
@@ -36,8 +28,7 @@ is_marker (Marker k) = true
 is_marker _ = false
 
 named_holds : (c : Config) (m : Moment) (seat : Seat) → Protocol c m → seat_exists c seat ≡ true
-    → is_marker seat ≡ false
-    → m.words.turn ≡ 1 + holder_number c seat → Holds c m seat
+    → is_marker seat ≡ false → m.words.turn ≡ 1 + holder_number c seat → Holds c m seat
 named_holds c m (Caller k) p exists one named = let lt = ltb-true k c.callers exists in (lt, (p.holder k lt).0 named)
 named_holds c m (Marker k) p exists one named = cc
 named_holds c m Host p exists one named = named
@@ -98,8 +89,7 @@ module _ (p : PassState) (s : Step) (q : PassState) (m : Makes p s q) where
 -- After a step of the holder that isn't its last the seat still holds the turn.
 pub holds_after : {p : PassState} {s : Step} {q : PassState} → Acts p s q → turn_stays s ≡ true
     → Holds q.table.config (now_of q) q.seat
-holds_after {p} {s} {q} a stays =
-    (still_turn p s q a.makes stays (record { holds = a.holds })).holds
+holds_after {p} {s} {q} a stays = (still_turn p s q a.makes stays (record { holds = a.holds })).holds
 
 -- the gates, while they stay
 pub gates_left : (p : PassState) (s : Step) (q : PassState) → Acts p s q → gates_stay s ≡ true
@@ -112,13 +102,12 @@ pub still_stopped : (p : PassState) (s : Step) (q : PassState) → Acts p s q �
 still_stopped p s q a stays all =
     ap (λ (r : PassState). others_are_held r.table.config.callers (now_of q).words r.seat) a.makes.is
     ∙ ap (λ (gs : List ℕ). all_below p.table.config.callers (λ j. is_number_of p.seat j || (slice_index gs j == 2)))
-    (gates_left p s q a stays (a.holds, all))
-    ∙ all
+    (gates_left p s q a stays (a.holds, all)) ∙ all
 
 -- So what is known of the gates stays known.
 pub gates_still : (held : Bool) (t : TurnState) (s : Step) (u : TurnState) → Acts t.pass s u.pass
-    → gates_stay s ≡ true → GatesAre held t → GatesAre held u
-gates_still true t s u a stays all = still_stopped t.pass s u.pass a stays all
+    → (held ≡ true → gates_stay s ≡ true) → GatesAre held t → GatesAre held u
+gates_still true t s u a stays all = still_stopped t.pass s u.pass a (stays refl) all
 gates_still false t s u a stays any = any
 
 pub turn_stays_too : (s : Step) → gates_stay s ≡ true → turn_stays s ≡ true
@@ -127,44 +116,38 @@ turn_stays_too (Step.Open j) h = cc
 turn_stays_too s h = h
 
 -- `hold` finds the gate open, or its caller in a call
-pub hold_finds : (p : PassState) (j n : ℕ) (q : PassState) → Tells p (Step.Hold j) n q → n ≢ 0 → n ≡ 1
-hold_finds p j n q t some =
-    let d = made p (Step.Hold j) q t.makes in
-    let lt : j < p.table.config.callers = grind (arith, ltb-true, and_parts) in
-    let least = d.protocol.gate j lt in
-    let two : slice_index (moment_of t.makes).words.gates j ≢ 2 = grind (arith, eqb-false, not-true) in
-    let is : n ≡ slice_index (moment_of t.makes).words.gates j = t.tells in
-    omega arith
+module _ (p : PassState) (j n : ℕ) (q : PassState) (t : Tells p (Step.Hold j) n q) where
+  abbrev gs : List ℕ
+  gs = (moment_of t.makes).words.gates
 
-pub hold_holds : (p : PassState) (j n : ℕ) (q : PassState) → Tells p (Step.Hold j) n q → n ≡ 0
-    → is_held (now_of q).words j ≡ true
-hold_holds p j n q t none =
-    let d = made p (Step.Hold j) q t.makes in
-    let c : Config = p.table.config in
-    let lt : j < c.callers = grind (arith, ltb-true, and_parts) in
-    let long = (histories_keep_lengths c (p.seen ++ t.makes.others)).gates in
-    let few = d.known.small in
-    let gs : List ℕ = (moment_of t.makes).words.gates in
-    ap (λ (w : World). is_held w.now.words j) d.world
-    ∙ eq-eqb (slice_index (slice_set gs j (if slice_index gs j == 0 then 2 else slice_index gs j)) j) 2
-    (get_or-set_same gs j (if slice_index gs j == 0 then 2 else slice_index gs j) 0 (omega arith)
-    ∙ ap (λ (b : Bool). if b then 2 else slice_index gs j) (eq-eqb (slice_index gs j) 0 (sym t.tells ∙ none)))
+  h : Made p (Step.Hold j) q t.makes
+  h = made p (Step.Hold j) q t.makes
 
-pub hold_misses : (p : PassState) (j n : ℕ) (q : PassState) → Tells p (Step.Hold j) n q → n ≢ 0
-    → is_held (now_of q).words j ≡ false
-hold_misses p j n q t some =
-    let d = made p (Step.Hold j) q t.makes in
-    let c : Config = p.table.config in
-    let lt : j < c.callers = grind (arith, ltb-true, and_parts) in
-    let long = (histories_keep_lengths c (p.seen ++ t.makes.others)).gates in
-    let few = d.known.small in
-    let gs : List ℕ = (moment_of t.makes).words.gates in
-    let least = d.protocol.gate j lt in
-    let two : slice_index gs j ≢ 2 = eqb-false (slice_index gs j) 2 (not-true (slice_index gs j == 2) d.meets.gates) in
-    let zero_not : slice_index gs j ≢ 0 = λ z. some (t.tells ∙ z) in
-    ap (λ (w : World). is_held w.now.words j) d.world ∙ ap (λ (x : ℕ). x == 2)
-    (get_or-set_same gs j (if slice_index gs j == 0 then 2 else slice_index gs j) 0 (omega arith)
-    ∙ ap (λ (b : Bool). if b then 2 else slice_index gs j) (ne_eqb (slice_index gs j) 0 zero_not)) ∙ ne_eqb _ 2 two
+  caller_is : j < p.table.config.callers
+  caller_is = grind (arith, ltb-true, and_parts, h)
+
+  not_two : slice_index gs j ≢ 2
+  not_two = eqb-false (slice_index gs j) 2 (not-true (slice_index gs j == 2) h.meets.gates)
+
+  gate_then : slice_index (now_of q).words.gates j ≡ (if slice_index gs j == 0 then 2 else slice_index gs j)
+  gate_then =
+      let long = (histories_keep_lengths p.table.config (p.seen ++ t.makes.others)).gates in
+      let few = h.known.small in
+      ap (λ (w : World). slice_index w.now.words.gates j) h.world ∙ get_or-set_same gs j _ 0 (omega (arith, caller_is))
+
+  pub hold_finds : n ≢ 0 → n ≡ 1
+  hold_finds some =
+      let least = h.protocol.gate j caller_is in let is : n ≡ slice_index gs j = t.tells in omega (arith, not_two)
+
+  pub hold_holds : n ≡ 0 → is_held (now_of q).words j ≡ true
+  hold_holds none =
+      eq-eqb _ 2
+      (gate_then ∙ ap (λ (b : Bool). if b then 2 else slice_index gs j) (eq-eqb (slice_index gs j) 0 (sym t.tells ∙ none)))
+
+  pub hold_misses : n ≢ 0 → is_held (now_of q).words j ≡ false
+  hold_misses some =
+      ne_eqb _ 2 (λ two. not_two (sym (gate_then ∙ ap (λ (b : Bool). if b then 2 else slice_index gs j)
+      (ne_eqb (slice_index gs j) 0 (λ z. some (t.tells ∙ z)))) ∙ two))
 
 -- `take`
 
@@ -177,14 +160,12 @@ all_from (suc n) test h = and_from (all_below n test) (test n) (all_from n test 
 -- a seat that takes the turn where it finds it free
 
 takes_for : (c : Config) (m : Moment) (seat : Seat) (o : Option Op) → is_open_to seat (group_of (Step.Take o)) ≡ true
-    → is_in_order c m seat (Step.Take o) ≡ true
-    → is_marker seat ≡ false
+    → is_in_order c m seat (Step.Take o) ≡ true → is_marker seat ≡ false
 takes_for c m (Marker k) o kind order = cc
 takes_for c m _ o kind order = refl
 
 takes_call : (c : Config) (m : Moment) (seat : Seat) (o : Option Op) → Protocol c m → seat_exists c seat ≡ true
-    → is_open_to seat (group_of (Step.Take o)) ≡ true
-    → is_in_order c m seat (Step.Take o) ≡ true → m.words.turn ≡ 0
+    → is_open_to seat (group_of (Step.Take o)) ≡ true → is_in_order c m seat (Step.Take o) ≡ true → m.words.turn ≡ 0
     → flight_of (Behind c m seat (Step.Take o)) seat ≡ begun_for o
 takes_call c m (Caller k) (Some o) p exists kind order free =
     let lt : k < length m.seats.flights = subst (λ (i : ℕ). k < i) (sym p.callers) (ltb-true k c.callers exists) in
@@ -243,8 +224,7 @@ module _ (p : PassState) (o : Option Op) (n : ℕ) (q : PassState) (t : Tells p 
               ∙ ap (λ (b : Bool). if b then nothing_done else m.seats.holding) (eq-eqb m.words.turn 0 free);
           gates =
               ap (λ (r : PassState). none_is_held r.table.config.callers (world_of q).now.words) t.makes.is
-              ∙ ap (λ (w : World). none_is_held c.callers w.now.words) e.world
-              ∙ none_held_free c m e.protocol free;
+              ∙ ap (λ (w : World). none_is_held c.callers w.now.words) e.world ∙ none_held_free c m e.protocol free;
           phase = ap (λ (w : World). has_phase (phase_of w.now.words) Step.Give) e.world
               ∙ free_phase c m e.protocol free;
           held = ap (λ (w : World). w.now.words.held) e.world

@@ -4,11 +4,8 @@ use Rattle.mk_laws.proofs.Vocabulary.{Moment, None, Op, Option, Seat, Some, Step
 use Rattle.mk_laws.proofs.Vocabulary.{append-nil, asked, caller_number, calls, cases_Bool, entry_of, false, flight_of}
 use Rattle.mk_laws.proofs.Vocabulary.{if◌then◌else◌, inl, inr, left, progress, refl, subst, sym, true, [], ◌++◌, ◌==◌}
 use Rattle.mk_laws.proofs.Vocabulary.{◌∙◌, ◌∷◌, ◌≡◌}
-use Rattle.mk_core.proofs.Histories.{calls_more}
-use Rattle.mk_core.specs.Effects.{begins_where_free}
-use Rattle.mk_core.specs.History.{never_first}
-use Rattle.mk_words.specs.States.{PassState, event_of}
-use Rattle.mk_words.specs.Steps.{IsAdmittedTo, may_decide}
+use Rattle.mk_core.{proofs.Histories.calls_more, specs.Effects.begins_where_free, specs.History.never_first}
+use Rattle.mk_words.specs.{States.PassState, States.event_of, Steps.IsAdmittedTo, Steps.may_decide}
 
 begins_undecided : (f : Flight) (o : Op) (n : ℕ) → (begins_where_free f o n).answer ≡ None
 begins_undecided f o n = by (n == 0)

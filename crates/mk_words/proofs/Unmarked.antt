@@ -9,22 +9,15 @@ use Rattle.mk_laws.proofs.Vocabulary.{if◌then◌else◌, inl, inr, is_attendin
 use Rattle.mk_laws.proofs.Vocabulary.{ltb-true, marker_at, marker_of, not, page_at_address, phase_of, refl, run_headed}
 use Rattle.mk_laws.proofs.Vocabulary.{scan_page, seen_page, set_past, slice_index, slice_set, subst, suc, sym, true}
 use Rattle.mk_laws.proofs.Vocabulary.{zero, [], ◌&&◌, ◌++◌, ◌-◌, ◌==◌, ◌∙◌, ◌∷◌, ◌≡◌, ◌≢◌}
+use Rattle.mk_geom.specs.Addresses.{cell_under, word_at_address}
+use Rattle.mk_core.proofs.{Histories.last_enabled, PointedPages.found_under, PointedPages.lies_under}
+use Rattle.mk_core.specs.StopConditions.{blackens, may_black, may_turn_black}
+use Rattle.mk_core.specs.{Bounded.all_below, Cells.pointed_cell, Readings.WordsTellWhatStands}
 use Rattle.mk_laws.proofs.Actors.{Actor, AsHolder, AsMarker, CallTakes, HostTakes, InCallOf, Meets}
 use Rattle.mk_laws.proofs.Changes.{reg_table, tally_table}
 use Rattle.mk_laws.proofs.InvariantHistories.{histories_keep_the_invariant}
-use Rattle.mk_laws.proofs.IdleMarkers.{work_attends}
-use Rattle.mk_laws.proofs.Known.{Known, known_left}
-use Rattle.mk_laws.proofs.OrderlyLists.{actor_of}
-use Rattle.mk_laws.proofs.ReadingsStands.{headers_and_quarantine_tell}
-use Rattle.mk_laws.proofs.SameWords.{Behind}
-use Rattle.mk_laws.proofs.Views.{HoldsTurn, view_of}
-use Rattle.mk_geom.specs.Addresses.{cell_under, word_at_address}
-use Rattle.mk_core.proofs.Histories.{last_enabled}
-use Rattle.mk_core.proofs.PointedPages.{found_under, lies_under}
-use Rattle.mk_core.specs.StopConditions.{blackens, may_black, may_turn_black}
-use Rattle.mk_core.specs.Bounded.{all_below}
-use Rattle.mk_core.specs.Cells.{pointed_cell}
-use Rattle.mk_core.specs.Readings.{WordsTellWhatStands}
+use Rattle.mk_laws.proofs.{IdleMarkers.work_attends, Known.Known, Known.known_left, OrderlyLists.actor_of}
+use Rattle.mk_laws.proofs.{ReadingsStands.headers_and_quarantine_tell, SameWords.Behind, Views.HoldsTurn, Views.view_of}
 use Rattle.mk_words.specs.PageMaps.{HasNoMarks}
 
 -- a `mark` of the turn's holder
@@ -88,8 +81,7 @@ black_has_header c m p v may bare = grind (arith, and_parts, none_below, black_n
 
 -- the page of the cell that a header shows
 free_there : (w : Words) (page : ℕ) (cell : Cell) (h : Header) → header_in w page ≡ Some h → cell.page ≡ page
-    → header_at w cell.page ≡ 0
-    → Some Free ≡ Some h
+    → header_at w cell.page ≡ 0 → Some Free ≡ Some h
 free_there w page cell h shown same bare = grind arith
 
 cell_has_header : (w : Words) (page word : ℕ) (cell : Cell) (h : Header)
@@ -165,8 +157,7 @@ module _ (c : Config) (es : List Event) (h : IsHistory c es) where
       let under = found_under c.pages (header_at m.words page) value cell shown in
       let tell : WordsTellWhatStands (left c es) = headers_and_quarantine_tell c es h in
       cell_has_header m.words page (word_at_address value) cell under.0
-      (λ distance mapped later. (let run = tell.later quiet page distance mapped later in (run.0, run.1)))
-      under.1
+      (λ distance mapped later. (let run = tell.later quiet page distance mapped later in (run.0, run.1))) under.1
       (subst (λ (q : ℕ). cell_under under.0 q (word_at_address value) ≡ Some cell) (sym at) under.2)
 
   mark_has_header : (k : ℕ) → Meets c m (Marker k) Step.Mmark

@@ -3,7 +3,9 @@ use Rattle.std.specs.Prelude.{◌≡◌, ℕ, Bool, true, false, List, [], ◌�
 use Rattle.mk_core.specs.declared.events.Step.{Step}
 use Rattle.mk_core.specs.declared.events.Event.{Event}
 use Rattle.mk_core.specs.declared.seats.Progress.{Progress}
-use Rattle.mk_core.specs.Accesses.{access, found}
+use Rattle.mk_core.specs.declared.accesses.Access.{Access}
+use Rattle.mk_core.specs.declared.accesses.TableWord.{TableWord}
+use Rattle.mk_core.specs.Accesses.{access, found, word_accessed}
 use Rattle.mk_core.specs.Moments.{Moment}
 use Rattle.mk_core.specs.Effects.{answer_decided}
 use Rattle.mk_core.specs.History.{left, IsEnabledBehind, IsAdmittedBehind}
@@ -46,6 +48,12 @@ pub record May (p : PassState) (s : Step) : Type 0 where
   pub admitted : may_decide s ≡ true → IsAdmittedTo p s
   pub tidy : is_give s ≡ true → TalliesAreTidy p.table.config p.seen
   pub home : is_over s ≡ true → HasCallers p.table.config p.seats
+
+-- The pass may make the step, and this word and this access are those of the event, after what the pass has seen.
+pub record MayPerform (p : PassState) (s : Step) (x : TableWord) (a : Access) : Type 0 where
+  pub may : May p s
+  pub reaches : x ≡ word_accessed p.table.config (now_of p) (event_of p s)
+  pub does : a ≡ access p.table.config (now_of p) (event_of p s)
 
 -- The pass made the step, after all that it had seen and events of others.
 pub record Makes (p : PassState) (s : Step) (q : PassState) : Type 0 where

@@ -17,7 +17,7 @@ use Rattle.mk_core.specs.History.{World, world_behind, left}
 use Rattle.mk_core.specs.Frames.{OwnIsLeft, HoldsAll, TurnIsLeft, CountsAreLeft, written_of}
 use Rattle.mk_core.specs.Effects.{progress}
 use Rattle.mk_page_map.specs.KnownPages.{KnownPages}
-use Rattle.mk_words.specs.PageMaps.{IsMapOf}
+use Rattle.mk_words.specs.PageMaps.{IsMapOf, is_told}
 use Rattle.mk_words.specs.States.{PassState, TurnState, world_of, now_of, call_of, event_of}
 use Rattle.mk_words.specs.Steps.{Makes, found_by}
 use Rattle.mk_core.specs.declared.events.Step.TheVariants as step
@@ -72,6 +72,13 @@ abbrev pub gates_stay : Step → Bool
 gates_stay (step.Hold j) = false
 gates_stay (step.Open j) = false
 gates_stay s = turn_stays s
+
+-- After the step the turn goes on as it is: with its gates, where they are known to be held, and with a page map that
+-- isn't told of it.
+pub record StaysTurn (held : Bool) (s : Step) : Type 0 where
+  pub turn : turn_stays s ≡ true
+  pub gates : held ≡ true → gates_stay s ≡ true
+  pub map : is_told s ≡ false
 
 -- all gates but that of the turn's holder are held
 abbrev pub IsStopped : TurnState → Type 0

@@ -1,9 +1,9 @@
 //! A marker's pass: what a marker is at, kept beside the right to make its steps.
 ghost use Rattle.std.specs.Prelude.{◌≡◌, true, false};
-ghost use Rattle.mk_core.specs.{Accesses.{word_accessed, access}, History.IsHistory, Counts.IsTidy, Moments.outside};
+ghost use Rattle.mk_core.specs.{History.IsHistory, Counts.IsTidy, Moments.outside};
 ghost use Rattle.mk_core.specs.Order.{group_of};
-ghost use Rattle.mk_words.specs.{Seats.{CallersAreBeforeOver, Has}, PageMaps.is_handing, States.{now_of, event_of}};
-ghost use Rattle.mk_words.specs.{Markers.{is_markers, marker_in, Marks}, Steps.May};
+ghost use Rattle.mk_words.specs.{Seats.{CallersAreBeforeOver, Has}, PageMaps.is_handing};
+ghost use Rattle.mk_words.specs.{Markers.{is_markers, marker_in, Marks}, Steps.MayPerform};
 
 use crate::passes::Pass;
 use crate::tokens::SeatToken;
@@ -90,9 +90,7 @@ impl MarkerPass {
         requires one_table { self.old.table ≡ words.now }
         requires kind { is_markers (group_of step) ≡ true }
         requires hands_none { is_handing step ≡ false }
-        requires may { May self.old step }
-        requires word { word ≡ word_accessed self.old.table.config (now_of self.old) (event_of self.old step) }
-        requires access { by ≡ access self.old.table.config (now_of self.old) (event_of self.old step) }
+        requires may { MayPerform self.old step word by }
         ensures { Marks self.old step result self.new }
     {
         words.is_within_limits();

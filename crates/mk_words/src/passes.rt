@@ -1,9 +1,10 @@
 //! Passes: who has one may make the steps of its seat.
 ghost use Rattle.std.specs.Prelude.{◌≡◌, true, false};
-ghost use Rattle.mk_core.specs.{Accesses.{caller_number, word_accessed, access}, History.IsHistory, Counts.IsTidy};
+ghost use Rattle.mk_core.specs.{Accesses.caller_number, History.IsHistory, Counts.IsTidy};
 ghost use Rattle.mk_words.specs.{Seats.{CallersAreBeforeOver, Has, is_caller}, PageMaps.is_handing};
-ghost use Rattle.mk_words.specs.{States.{now_of, event_of}, Steps.{May, Tells}};
+ghost use Rattle.mk_words.specs.{Steps.{MayPerform, Tells}};
 
+use crate::indexes::page_of;
 use crate::tokens::SeatToken;
 use crate::words::Words;
 use mk_core::{Access, Seat, Step, TableWord};
@@ -65,12 +66,11 @@ impl Pass {
         requires one_table { self.old.table ≡ words.now }
         requires pages { pages ≡ words.now.config.pages }
         requires hands_none { is_handing step ≡ false }
-        requires may { May self.old step }
-        requires word { word ≡ word_accessed self.old.table.config (now_of self.old) (event_of self.old step) }
-        requires access { by ≡ access self.old.table.config (now_of self.old) (event_of self.old step) }
+        requires may { MayPerform self.old step word by }
         ensures told { Tells self.old step result self.new }
     {
-        self.own.perform_among(words, pages, step, word, by)
+        let page = page_of(word);
+        self.own.perform_near(words, pages, page, step, word, by)
     }
 
     /// Takes a step of any kind but the two that hand over the turn.
@@ -78,9 +78,7 @@ impl Pass {
     pub(crate) fn perform(&mut self, words: &Words, step: Step, word: TableWord, by: Access) -> u64
         requires one_table { self.old.table ≡ words.now }
         requires hands_none { is_handing step ≡ false }
-        requires may { May self.old step }
-        requires word { word ≡ word_accessed self.old.table.config (now_of self.old) (event_of self.old step) }
-        requires access { by ≡ access self.old.table.config (now_of self.old) (event_of self.old step) }
+        requires may { MayPerform self.old step word by }
         ensures told { Tells self.old step result self.new }
     {
         self.own.perform(words, step, word, by)

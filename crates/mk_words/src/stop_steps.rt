@@ -25,7 +25,7 @@ impl Turn {
         ensures in_call { OnErr result (Finds self.old.pass (step.Hold caller) 1 self.new.pass) }
         ensures not_held { OnErr result (is_held (now_of self.new.pass).words caller ≡ false) }
     {
-        let found = self.act(
+        let found = self.perform(
             words,
             Step::Hold(caller),
             TableWord::Named(Word::Gate(caller)),
@@ -40,7 +40,7 @@ impl Turn {
         requires enabled { IsEnabledTo self.old.pass (step.Open caller) }
         ensures { Acts self.old.pass (step.Open caller) self.new.pass }
     {
-        self.act(
+        self.perform(
             words,
             Step::Open(caller),
             TableWord::Named(Word::Gate(caller)),

@@ -71,9 +71,10 @@ impl Stopped {
         requires enabled { IsEnabledTo self.old.pass (step.Black page v) }
         ensures { Acts self.old.pass (step.Black page v) self.new.pass }
     {
-        self.perform_among(
+        self.perform_near(
             words,
             pages,
+            page,
             Step::Black { page, value: v },
             TableWord::Named(Word::Black(page)),
             Access::Or(v),

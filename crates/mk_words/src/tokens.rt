@@ -1,8 +1,8 @@
 //! A token of the table with the seat whose steps it takes: what a pass and a turn have in common.
 ghost use Rattle.std.specs.Prelude.{◌≡◌, false, true};
-ghost use Rattle.mk_core.specs.{Accesses.{caller_number, word_accessed, access}, History.IsHistory, Counts.IsTidy};
+ghost use Rattle.mk_core.specs.{Accesses.caller_number, History.IsHistory, Counts.IsTidy};
 ghost use Rattle.mk_words.specs.{Indexes.IsOnPage, PageMaps.is_handing, Seats.{CallersAreBeforeOver, Has, is_caller}};
-ghost use Rattle.mk_words.specs.{States.{now_of, event_of}, Passes.{state_of, IsInOrder}, Steps.{May, Tells}};
+ghost use Rattle.mk_words.specs.{Passes.{state_of, IsInOrder}, Steps.{MayPerform, Tells}};
 
 use crate::homes::MapHome;
 use crate::indexes::{index_near, page_of};
@@ -85,11 +85,7 @@ fn perform_as<J: Making>(
     requires pages { pages ≡ words.now.config.pages }
     requires page { IsOnPage page word }
     requires hands_none { is_handing step ≡ false }
-    requires may { May (state_of token.old.table_id token.old.me seat) step }
-    requires word { word ≡ word_accessed token.old.me.0.config (now_of (state_of token.old.table_id token.old.me seat))
-        (record { seat = seat; step = step }) }
-    requires access { by ≡ access token.old.me.0.config (now_of (state_of token.old.table_id token.old.me seat))
-        (record { seat = seat; step = step }) }
+    requires may { MayPerform (state_of token.old.table_id token.old.me seat) step word by }
     ensures told { Tells (state_of token.old.table_id token.old.me seat) step result
         (state_of token.new.table_id token.new.me seat) }
     ensures order { IsInOrder token.new.me seat }
@@ -149,34 +145,11 @@ impl<S: Slots> TokenWith<S> {
         requires pages { pages ≡ words.now.config.pages }
         requires page { IsOnPage page word }
         requires hands_none { is_handing step ≡ false }
-        requires may { May self.old step }
-        requires word { word ≡ word_accessed self.old.table.config (now_of self.old) (event_of self.old step) }
-        requires access { by ≡ access self.old.table.config (now_of self.old) (event_of self.old step) }
+        requires may { MayPerform self.old step word by }
         ensures told { Tells self.old step result self.new }
     {
         let seat = self.seat;
         perform_as::<Brand>(words, pages, page, &mut self.token, seat, step, word, by)
-    }
-
-    /// Takes a step of any kind but the two that hand over the turn, in a table of this many pages.
-    #[inline(always)]
-    pub(crate) fn perform_among(
-        &mut self,
-        words: &Words,
-        pages: u64,
-        step: Step,
-        word: TableWord,
-        by: Access,
-    ) -> u64
-        requires one_table { self.old.table ≡ words.now }
-        requires pages { pages ≡ words.now.config.pages }
-        requires hands_none { is_handing step ≡ false }
-        requires may { May self.old step }
-        requires word { word ≡ word_accessed self.old.table.config (now_of self.old) (event_of self.old step) }
-        requires access { by ≡ access self.old.table.config (now_of self.old) (event_of self.old step) }
-        ensures told { Tells self.old step result self.new }
-    {
-        self.perform_near(words, pages, page_of(word), step, word, by)
     }
 
     /// Takes a step of any kind but the two that hand over the turn.
@@ -184,11 +157,9 @@ impl<S: Slots> TokenWith<S> {
     pub(crate) fn perform(&mut self, words: &Words, step: Step, word: TableWord, by: Access) -> u64
         requires one_table { self.old.table ≡ words.now }
         requires hands_none { is_handing step ≡ false }
-        requires may { May self.old step }
-        requires word { word ≡ word_accessed self.old.table.config (now_of self.old) (event_of self.old step) }
-        requires access { by ≡ access self.old.table.config (now_of self.old) (event_of self.old step) }
+        requires may { MayPerform self.old step word by }
         ensures told { Tells self.old step result self.new }
     {
-        self.perform_among(words, words.config.pages, step, word, by)
+        self.perform_near(words, words.config.pages, page_of(word), step, word, by)
     }
 }

@@ -54,8 +54,7 @@ impl<G: Gates> TurnAt<G> {
         ensures finds { Finds self.old.pass (step.Look x) result self.new.pass }
     {
         let at = TableWord::Named(x);
-        self.pass
-            .perform_near(words, pages, page, Step::Look(x), at, Access::Load)
+        self.perform_near(words, pages, page, Step::Look(x), at, Access::Load)
     }
 
     /// Stores a page's header.
@@ -120,7 +119,7 @@ impl<G: Gates> TurnAt<G> {
         let step = Step::Mark { page, value: v };
         let mark = TableWord::Named(Word::Mark(page));
         self.pass
-            .perform_among(words, pages, step, mark, Access::Or(v));
+            .perform_near(words, pages, page, step, mark, Access::Or(v));
     }
 
     /// Wipes a heap word.

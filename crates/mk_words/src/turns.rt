@@ -1,13 +1,14 @@
 //! The turn, which one seat has at a time.
-ghost use Rattle.std.specs.Prelude.{◌≡◌, ◌+◌, IfOk, IfErr, true, false};
-ghost use Rattle.mk_core.specs.{Accesses.{word_accessed, access}, Calls.at_rest};
+ghost use Rattle.std.specs.Prelude.{◌≡◌, ◌+◌, IfOk, IfErr};
+ghost use Rattle.mk_core.specs.{Calls.at_rest};
 ghost use Rattle.mk_core.specs.{Counts.{TalliesAreExact, TalliesAreTidy, IsTidy}, History.IsHistory};
-ghost use Rattle.mk_words.specs.{PageMaps.is_told, Seats.{CallersAreBeforeOver, Has}, States.{TurnState, now_of}};
-ghost use Rattle.mk_words.specs.{States.{call_of, event_of}, Steps.{IsEnabledTo, May, Finds, Tells}};
-ghost use Rattle.mk_words.specs.TurnSteps.{IsTurn, IsFresh, turn_stays, gates_stay, GatesAre, Acts};
+ghost use Rattle.mk_words.specs.{Indexes.IsOnPage, Seats.{CallersAreBeforeOver, Has}, States.call_of};
+ghost use Rattle.mk_words.specs.{Steps.{IsEnabledTo, MayPerform, Finds, Tells}};
+ghost use Rattle.mk_words.specs.TurnSteps.{IsTurn, IsFresh, StaysTurn, GatesAre, Acts};
 ghost use Rattle.mk_core.specs.declared.events.Step.TheVariants as step;
 
 use crate::gates::{AllHeld, AnyGates, Gates};
+use crate::indexes::page_of;
 use crate::passes::Pass;
 use crate::tokens::TurnToken;
 use crate::words::Words;
@@ -99,87 +100,40 @@ impl<G: Gates> TurnAt<G> {
         self.pass.is_in_order();
     }
 
-    /// Takes a step after which the turn goes on with its gates, and of which the map isn't told.
-    #[inline(always)]
-    pub(crate) fn act(&mut self, words: &Words, step: Step, word: TableWord, by: Access) -> u64
-        requires one_table { self.old.pass.table ≡ words.now }
-        requires stays { turn_stays step ≡ true }
-        requires untold { is_told step ≡ false }
-        requires gates { (t : TurnState) → Acts self.old.pass step t.pass → GatesAre G.are_held t }
-        requires may { May self.old.pass step }
-        requires word { word ≡ word_accessed self.old.pass.table.config (now_of self.old.pass)
-            (event_of self.old.pass step) }
-        requires access { by ≡ access self.old.pass.table.config (now_of self.old.pass) (event_of self.old.pass step) }
-        ensures told { Tells self.old.pass step result self.new.pass }
-        ensures acts { Acts self.old.pass step self.new.pass }
-    {
-        self.act_among(words, words.config.pages, step, word, by)
-    }
-
-    /// The same, in a table of this many pages.
-    #[inline(always)]
-    fn act_among(
-        &mut self,
-        words: &Words,
-        pages: u64,
-        step: Step,
-        word: TableWord,
-        by: Access,
-    ) -> u64
-        requires one_table { self.old.pass.table ≡ words.now }
-        requires pages { pages ≡ words.now.config.pages }
-        requires stays { turn_stays step ≡ true }
-        requires untold { is_told step ≡ false }
-        requires gates { (t : TurnState) → Acts self.old.pass step t.pass → GatesAre G.are_held t }
-        requires may { May self.old.pass step }
-        requires word { word ≡ word_accessed self.old.pass.table.config (now_of self.old.pass)
-            (event_of self.old.pass step) }
-        requires access { by ≡ access self.old.pass.table.config (now_of self.old.pass) (event_of self.old.pass step) }
-        ensures told { Tells self.old.pass step result self.new.pass }
-        ensures acts { Acts self.old.pass step self.new.pass }
-    {
-        self.pass.perform_among(words, pages, step, word, by)
-    }
-
-    /// Takes a step that leaves the gates, and of which the map isn't told.
+    /// Takes a step after which the turn goes on, and of which the map isn't told. It leaves the gates where they are
+    /// known.
     #[inline(always)]
     pub(crate) fn perform(&mut self, words: &Words, step: Step, word: TableWord, by: Access) -> u64
         requires one_table { self.old.pass.table ≡ words.now }
-        requires stays { gates_stay step ≡ true }
-        requires untold { is_told step ≡ false }
-        requires may { May self.old.pass step }
-        requires word { word ≡ word_accessed self.old.pass.table.config (now_of self.old.pass)
-            (event_of self.old.pass step) }
-        requires access { by ≡ access self.old.pass.table.config (now_of self.old.pass) (event_of self.old.pass step) }
+        requires stays { StaysTurn G.are_held step }
+        requires may { MayPerform self.old.pass step word by }
         ensures told { Tells self.old.pass step result self.new.pass }
         ensures acts { Acts self.old.pass step self.new.pass }
     {
-        self.perform_among(words, words.config.pages, step, word, by)
+        let page = page_of(word);
+        self.perform_near(words, words.config.pages, page, step, word, by)
     }
 
-    /// The same, in a table of this many pages.
+    /// The same, in a table of this many pages. A word of the heap is on this page.
     #[inline(always)]
-    pub(crate) fn perform_among(
+    pub(crate) fn perform_near(
         &mut self,
         words: &Words,
         pages: u64,
+        page: u64,
         step: Step,
         word: TableWord,
         by: Access,
     ) -> u64
         requires one_table { self.old.pass.table ≡ words.now }
         requires pages { pages ≡ words.now.config.pages }
-        requires stays { gates_stay step ≡ true }
-        requires untold { is_told step ≡ false }
-        requires may { May self.old.pass step }
-        requires word { word ≡ word_accessed self.old.pass.table.config (now_of self.old.pass)
-            (event_of self.old.pass step) }
-        requires access { by ≡ access self.old.pass.table.config (now_of self.old.pass) (event_of self.old.pass step) }
+        requires page { IsOnPage page word }
+        requires stays { StaysTurn G.are_held step }
+        requires may { MayPerform self.old.pass step word by }
         ensures told { Tells self.old.pass step result self.new.pass }
         ensures acts { Acts self.old.pass step self.new.pass }
     {
-        self.is_in_order();
-        self.act_among(words, pages, step, word, by)
+        self.pass.perform_near(words, pages, page, step, word, by)
     }
 }
 

@@ -25,16 +25,14 @@ op_step p s h admitted =
           (sym (one_call c p.seen e)) (by (answer_decided c (now_of p) e)),
     )
   where
-    by : (a : Option Answer)
-        → AreAdmitted p.table.config.globals (never_behind p.table.config p.seen)
+    by : (a : Option Answer) → AreAdmitted p.table.config.globals (never_behind p.table.config p.seen)
         (asked (entry_of (caller_number p.seat) (call_of p).op a))
     by (Some a) = (admitted a, tt)
     by None = tt
 
 -- after a step of its own, where the call has that operation and the answer's flag doesn't matter
 pub own_step : (p : PassState) (t : Step) (q : PassState) (s : Step) (o : Op) → StaysAdmitted p o → Makes p t q
-    → IsHistory q.table.config q.seen → (call_of q).op ≡ o
-    → ((a : Answer) → flagged o a ≡ o) → IsAdmittedTo q s
+    → IsHistory q.table.config q.seen → (call_of q).op ≡ o → ((a : Answer) → flagged o a ≡ o) → IsAdmittedTo q s
 own_step p t q s o stays m h op_is plain =
     let c : Config = p.table.config in
     let more : List Event = m.others ++ event_of p t ∷ [] in
@@ -42,8 +40,7 @@ own_step p t q s o stays m h op_is plain =
     let config_is : q.table.config ≡ c = ap (λ (r : PassState). r.table.config) m.is in
     let seat_is : q.seat ≡ p.seat = ap (λ (r : PassState). r.seat) m.is in
     let there = stays more
-    (subst (λ (es : List Event). IsHistory c es) seen_is (subst (λ (d : Config). IsHistory d q.seen) config_is h))
-    in
+    (subst (λ (es : List Event). IsHistory c es) seen_is (subst (λ (d : Config). IsHistory d q.seen) config_is h)) in
     let here : IsAdmitted q.table.config.globals (never_behind q.table.config q.seen) (caller_number q.seat) o =
     subst (λ (x : Seat). IsAdmitted q.table.config.globals (never_behind q.table.config q.seen) (caller_number x) o)
     (sym seat_is)

@@ -1,12 +1,11 @@
 -- What a caller's call needs at each of its steps.
 use Rattle.mk_laws.proofs.Vocabulary.{Answer, Caller, Config, Event, Flight, Group, IsAdmitted, IsHistory, List, None}
 use Rattle.mk_laws.proofs.Vocabulary.{Op, Progress, Step, ℕ, ap, append-nil, append_assoc, at_rest, begun}
-use Rattle.mk_laws.proofs.Vocabulary.{caller_number, comes_next, flagged, group_of, is_in_range, never_behind, subst}
-use Rattle.mk_laws.proofs.Vocabulary.{sym, true, [], ◌++◌, ◌<◌, ◌∙◌, ◌∷◌, ◌≡◌}
+use Rattle.mk_laws.proofs.Vocabulary.{caller_number, comes_next, flagged, group_of, is_in_range, never_behind, refl}
+use Rattle.mk_laws.proofs.Vocabulary.{subst, sym, true, [], ◌++◌, ◌<◌, ◌∙◌, ◌∷◌, ◌≡◌}
 use Rattle.mk_words.specs.Steps.{Goes, IsAdmittedTo, IsEnabledTo, Makes}
 use Rattle.mk_words.specs.States.{PassState, WordsState, event_of}
-use Rattle.mk_words_clients.proofs.Admitting.{op_step}
-use Rattle.mk_words_clients.proofs.Enabling.{call_step}
+use Rattle.mk_words_clients.proofs.{Admitting.op_step, Enabling.call_step}
 use Rattle.mk_words_clients.specs.Clients.{IsCallers, IsMidCall, StaysAdmitted}
 
 behind : (p : PassState) (others : List Event) (e : Event) (o : Op) → StaysAdmitted p o
@@ -34,8 +33,7 @@ admitted_now p o f s i op_is h plain =
     (sym (ap (λ (y : Op). flagged y a) (ap (λ (y : Flight). y.op) i.call ∙ op_is) ∙ plain a)) here)
 
 pub next_may : (p : PassState) (o : Op) (f : Flight) (s : Step) → IsMidCall p o f → group_of s ≡ Group.Callers
-    → comes_next f.stage f.op s ≡ true
-    → ((k : ℕ) → is_in_range p.table.config (Caller k) f s ≡ true) → IsEnabledTo p s
+    → comes_next f.stage f.op s ≡ true → ((k : ℕ) → is_in_range p.table.config (Caller k) f s ≡ true) → IsEnabledTo p s
 next_may p o f s i kind next range = call_step p s i.number f i.seat i.within i.call kind next (range i.number)
 
 pub goes_on : (p q : PassState) (s : Step) (x : Progress) (o : Op) (f g : Flight) → IsMidCall p o f → Goes p s x q
@@ -51,21 +49,12 @@ goes_on p q s x o f g i goes is = record {
 
 pub enters : (p q : PassState) (o : Op) → IsCallers p → StaysAdmitted p o
     → Goes p (Step.Enter o) (record { flight = begun o; answer = None }) q → IsMidCall q o (begun o)
-enters p q o i stays goes = record {
-  number = i.number;
-  seat = ap (λ (r : PassState). r.seat) goes.makes.is ∙ i.seat;
-  within = subst (λ (t : WordsState). i.number < t.config.callers)
-      (sym (ap (λ (r : PassState). r.table) goes.makes.is)) i.within;
-  call = goes.call;
-  admitted = stays_on p q (Step.Enter o) o goes.makes stays;
-}
+enters p q o i stays goes =
+    goes_on p q (Step.Enter o) _ o at_rest (begun o)
+    (record { number = i.number; seat = i.seat; within = i.within; call = i.rests; admitted = stays }) goes refl
 
 pub ends : (p q : PassState) (o : Op) (f : Flight) → IsMidCall p o f
     → Goes p Step.Leave (record { flight = at_rest; answer = None }) q → IsCallers q
-ends p q o f i goes = record {
-  number = i.number;
-  seat = ap (λ (r : PassState). r.seat) goes.makes.is ∙ i.seat;
-  within = subst (λ (t : WordsState). i.number < t.config.callers)
-      (sym (ap (λ (r : PassState). r.table) goes.makes.is)) i.within;
-  rests = goes.call;
-}
+ends p q o f i goes =
+    let at = goes_on p q Step.Leave _ o f at_rest i goes refl in
+    record { number = at.number; seat = at.seat; within = at.within; rests = at.call }

@@ -4,63 +4,26 @@ use Rattle.mk_laws.proofs.Vocabulary.{comes_next, flight_of, group_of, has_gates
 use Rattle.mk_laws.proofs.Vocabulary.{is_open_to, lt-ltb, marker_at, marker_may, phase_of, refl, seat_exists, sym, true}
 use Rattle.mk_laws.proofs.Vocabulary.{◌<◌, ◌∙◌, ◌≡◌}
 use Rattle.mk_core.proofs.Conditions.{meets_enabled}
-use Rattle.mk_words.specs.States.{PassState, call_of, event_of, now_of}
-use Rattle.mk_words.specs.Steps.{IsEnabledTo}
+use Rattle.mk_words.specs.{States.PassState, States.call_of, States.event_of, States.now_of, Steps.IsEnabledTo}
 
 -- a caller's kinds ask nothing of gates, phase and marks
 
 calls_gates : (c : Config) (w : Words) (seat : Seat) (f : Flight) (s : Step) → group_of s ≡ Group.Callers
     → has_gates c w seat f s ≡ true
 calls_gates c w seat f (Step.Enter o) h = refl
-calls_gates c w seat f Step.Leave h = refl
-calls_gates c w seat f Step.Reg h = refl
-calls_gates c w seat f Step.Probe h = refl
-calls_gates c w seat f Step.Read h = refl
-calls_gates c w seat f Step.Write h = refl
-calls_gates c w seat f Step.Cas h = refl
-calls_gates c w seat f Step.Getg h = refl
-calls_gates c w seat f Step.Setg h = refl
-calls_gates c w seat f Step.Dirty h = refl
 calls_gates c w seat f _ h = cc
 
 calls_phase : (n : ℕ) (s : Step) → group_of s ≡ Group.Callers → has_phase n s ≡ true
 calls_phase n (Step.Enter o) h = refl
-calls_phase n Step.Leave h = refl
-calls_phase n Step.Reg h = refl
-calls_phase n Step.Probe h = refl
-calls_phase n Step.Read h = refl
-calls_phase n Step.Write h = refl
-calls_phase n Step.Cas h = refl
-calls_phase n Step.Getg h = refl
-calls_phase n Step.Setg h = refl
-calls_phase n Step.Dirty h = refl
 calls_phase n _ h = cc
 
 calls_marker : (c : Config) (x : MarkerState) (s : Step) → group_of s ≡ Group.Callers → marker_may c x s ≡ true
 calls_marker c x (Step.Enter o) h = refl
-calls_marker c x Step.Leave h = refl
-calls_marker c x Step.Reg h = refl
-calls_marker c x Step.Probe h = refl
-calls_marker c x Step.Read h = refl
-calls_marker c x Step.Write h = refl
-calls_marker c x Step.Cas h = refl
-calls_marker c x Step.Getg h = refl
-calls_marker c x Step.Setg h = refl
-calls_marker c x Step.Dirty h = refl
 calls_marker c x _ h = cc
 
 calls_holder : (c : Config) (m : Moment) (f : Flight) (s : Step) → group_of s ≡ Group.Callers
     → holder_may c m f s ≡ true
 calls_holder c m f (Step.Enter o) h = refl
-calls_holder c m f Step.Leave h = refl
-calls_holder c m f Step.Reg h = refl
-calls_holder c m f Step.Probe h = refl
-calls_holder c m f Step.Read h = refl
-calls_holder c m f Step.Write h = refl
-calls_holder c m f Step.Cas h = refl
-calls_holder c m f Step.Getg h = refl
-calls_holder c m f Step.Setg h = refl
-calls_holder c m f Step.Dirty h = refl
 calls_holder c m f _ h = cc
 
 -- The next step of a caller's call is enabled, where its operands are in range.

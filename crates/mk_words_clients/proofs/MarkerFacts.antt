@@ -7,40 +7,21 @@ use Rattle.mk_laws.proofs.Vocabulary.{is_open_to, is_some, lt-ltb, marker_at, ma
 use Rattle.mk_laws.proofs.Vocabulary.{subst, sym, true, ◌%◌, ◌<◌, ◌==◌, ◌∙◌, ◌≡◌}
 use Rattle.mk_core.proofs.Conditions.{meets_enabled}
 use Rattle.mk_words.specs.Markers.{Marks, marker_in}
-use Rattle.mk_words.specs.States.{PassState, now_of}
-use Rattle.mk_words.specs.Steps.{IsEnabledTo, Makes}
+use Rattle.mk_words.specs.{States.PassState, States.now_of, Steps.IsEnabledTo, Steps.Makes}
 use Rattle.mk_words_clients.specs.Clients.{IsAttending, IsOutside}
 
 markers_gates : (c : Config) (w : Words) (seat : Seat) (f : Flight) (s : Step) → group_of s ≡ Group.Markers
     → has_gates c w seat f s ≡ true
 markers_gates c w seat f Step.Attend h = refl
-markers_gates c w seat f Step.Quit h = refl
-markers_gates c w seat f (Step.Mlook x) h = refl
-markers_gates c w seat f (Step.Claim p k) h = refl
-markers_gates c w seat f Step.Mload h = refl
-markers_gates c w seat f Step.Mmark h = refl
-markers_gates c w seat f Step.Mblack h = refl
 markers_gates c w seat f _ h = cc
 
 markers_phase : (n : ℕ) (s : Step) → group_of s ≡ Group.Markers → has_phase n s ≡ true
 markers_phase n Step.Attend h = refl
-markers_phase n Step.Quit h = refl
-markers_phase n (Step.Mlook x) h = refl
-markers_phase n (Step.Claim p k) h = refl
-markers_phase n Step.Mload h = refl
-markers_phase n Step.Mmark h = refl
-markers_phase n Step.Mblack h = refl
 markers_phase n _ h = cc
 
 markers_holder : (c : Config) (m : Moment) (f : Flight) (s : Step) → group_of s ≡ Group.Markers
     → holder_may c m f s ≡ true
 markers_holder c m f Step.Attend h = refl
-markers_holder c m f Step.Quit h = refl
-markers_holder c m f (Step.Mlook x) h = refl
-markers_holder c m f (Step.Claim p k) h = refl
-markers_holder c m f Step.Mload h = refl
-markers_holder c m f Step.Mmark h = refl
-markers_holder c m f Step.Mblack h = refl
 markers_holder c m f _ h = cc
 
 -- A marker's step is enabled, where its operands are in range and the marker may make it.
@@ -77,8 +58,7 @@ load_may p a next =
     (ap (λ (h : Option ℕ). is_none h) a.hand))
 
 pub look_may : (p : PassState) (k page : ℕ) → p.seat ≡ Marker k → k < 8 → is_attending (marker_in p).presence ≡ true
-    → page < p.table.config.pages
-    → IsEnabledTo p (Step.Mlook (Word.Head page))
+    → page < p.table.config.pages → IsEnabledTo p (Step.Mlook (Word.Head page))
 look_may p k page seat few attends lt =
     marker_step p (Step.Mlook (Word.Head page)) k seat few refl (lt-ltb page p.table.config.pages lt)
     (and_from (is_attending (marker_in p).presence) true attends refl)
@@ -102,8 +82,7 @@ is_outside p q s k seat few m out = record { number = k; seat = seat_kept p q s 
 
 -- A look at a page's header shows a cell of its block.
 pub seen_cell : (p q : PassState) (page n class k : ℕ) → IsAttending p → Marks p (Step.Mlook (Word.Head page)) n q
-    → header_of n ≡ Some (Block class) → k < cells_of class
-    → has_seen_cell (marker_in q).seen page k ≡ true
+    → header_of n ≡ Some (Block class) → k < cells_of class → has_seen_cell (marker_in q).seen page k ≡ true
 seen_cell p q page n class k a m is lt =
     ap (λ (y : MarkerState). has_seen_cell y.seen page k) m.marker ∙ and_from (page == page) _ (eq-eqb page page refl)
     (lt-ltb k _ (subst (λ (h : Option Header). k < cells_under h) (sym is) lt))

@@ -7,18 +7,12 @@ use Rattle.mk_laws.proofs.Vocabulary.{is_open_to, left, length, length-set, lt-l
 use Rattle.mk_laws.proofs.Vocabulary.{others_are_held, outside, phase_of, refl, slice_index, slice_set, subst, sym}
 use Rattle.mk_laws.proofs.Vocabulary.{true, true≢false, world_behind, [], ◌++◌, ◌+◌, ◌<◌, ◌==◌, ◌∙◌, ◌∷◌, ◌≡◌, ◌≢◌, ◌≤◌}
 use Rattle.mk_laws.proofs.Vocabulary.{◌⊎◌}
-use Rattle.mk_laws.proofs.Asked.{none_held}
-use Rattle.mk_laws.proofs.TallySteps.{CountsNothing}
 use Rattle.mk_core.proofs.Conditions.{meets_enabled}
-use Rattle.mk_core.specs.Frames.{CountsAreLeft, steady_of}
-use Rattle.mk_core.specs.Moments.{none_is_held}
-use Rattle.mk_core.specs.Order.{comes_next_to_host}
-use Rattle.mk_words.proofs.Tallies.{counts_tidy_more}
-use Rattle.mk_words.proofs.TurnSteps.{all_from}
-use Rattle.mk_words.specs.TurnSteps.{Acts, world_at}
+use Rattle.mk_core.specs.{Frames.CountsAreLeft, Frames.steady_of, Moments.none_is_held, Order.comes_next_to_host}
+use Rattle.mk_laws.proofs.{Asked.none_held, TallySteps.CountsNothing}
+use Rattle.mk_words.proofs.{Tallies.counts_tidy_more, TurnSteps.all_from}
 use Rattle.mk_words.specs.States.{PassState, WordsState, now_of, world_of}
-use Rattle.mk_words.specs.Opening.{OthersMayOpen}
-use Rattle.mk_words.specs.Steps.{IsEnabledTo}
+use Rattle.mk_words.specs.{Opening.OthersMayOpen, Steps.IsEnabledTo, TurnSteps.Acts, TurnSteps.world_at}
 use Rattle.mk_words_clients.specs.Clients.{HoldsBelow, MayGiveBack, Settled, StaysTidy}
 
 -- kinds that leave the steady words, the allocations and the freed run alone
@@ -34,23 +28,15 @@ leaves_steady (Step.Black p v) = true
 leaves_steady (Step.Unblack p) = true
 leaves_steady _ = false
 
-left_alone : (c : Config) (w : World) (seat : Seat) (s : Step) → leaves_steady s ≡ true
-    → (steady_of (world_behind c w (record { seat = seat; step = s })) ≡ steady_of w)
-    × ((world_behind c w (record { seat = seat; step = s })).now.seats.holding.freed ≡ w.now.seats.holding.freed)
-left_alone c w seat (Step.Look x) h = (refl, refl)
-left_alone c w seat (Step.Hold j) h = (refl, refl)
-left_alone c w seat (Step.Open j) h = (refl, refl)
-left_alone c w seat (Step.Clear p) h = (refl, refl)
-left_alone c w seat (Step.Mark p v) h = (refl, refl)
-left_alone c w seat (Step.Wipe n) h = (refl, refl)
-left_alone c w seat (Step.Undirty p) h = (refl, refl)
-left_alone c w seat (Step.Black p v) h = (refl, refl)
-left_alone c w seat (Step.Unblack p) h = (refl, refl)
-left_alone c w seat _ h = absurd (true≢false (sym h))
-
 steady_behind : (c : Config) (w : World) (seat : Seat) (s : Step) → leaves_steady s ≡ true
     → steady_of (world_behind c w (record { seat = seat; step = s })) ≡ steady_of w
-steady_behind c w seat s h = (left_alone c w seat s h).0
+steady_behind c w seat (Step.Look x) h = refl
+steady_behind c w seat _ h = cc
+
+freed_behind : (c : Config) (w : World) (seat : Seat) (s : Step) → leaves_steady s ≡ true
+    → (world_behind c w (record { seat = seat; step = s })).now.seats.holding.freed ≡ w.now.seats.holding.freed
+freed_behind c w seat (Step.Look x) h = refl
+freed_behind c w seat _ h = cc
 
 pub steady_kept : (p q : PassState) (s : Step) → Acts p s q → leaves_steady s ≡ true
     → steady_of (world_of q) ≡ steady_of (world_of p)
@@ -59,8 +45,7 @@ steady_kept p q s a h = grind (arith, steady_behind)
 pub freed_kept : (p q : PassState) (s : Step) → Acts p s q → leaves_steady s ≡ true
     → (now_of q).seats.holding.freed ≡ (now_of p).seats.holding.freed
 freed_kept p q s a h =
-    ap (λ (w : World). w.now.seats.holding.freed) a.world
-    ∙ (left_alone p.table.config (world_at a.makes) p.seat s h).1
+    ap (λ (w : World). w.now.seats.holding.freed) a.world ∙ freed_behind p.table.config (world_at a.makes) p.seat s h
     ∙ ap (λ (x : Holding). x.freed) a.holding
 
 pub settled_kept : (p q : PassState) (s : Step) → Acts p s q → leaves_steady s ≡ true → Settled p → Settled q
@@ -188,8 +173,7 @@ pub hold_may : (p : PassState) (j : ℕ) → p.seat ≡ Host → Holds p.table.c
 hold_may p j host holds lt none = grind (arith, host_step, and_from, lt-ltb, ne_eqb)
 
 pub look_may : (p : PassState) (j r : ℕ) → p.seat ≡ Host → Holds p.table.config (now_of p) p.seat
-    → j < p.table.config.callers → r < 8
-    → is_held (now_of p).words j ≡ true → IsEnabledTo p (Step.Look (Word.Reg j r))
+    → j < p.table.config.callers → r < 8 → is_held (now_of p).words j ≡ true → IsEnabledTo p (Step.Look (Word.Reg j r))
 look_may p j r host holds lt few held = grind (arith, host_step, and_from, lt-ltb)
 
 not_closed : (n : ℕ) → has_phase n Step.Give ≡ true → not (n == 3) ≡ true
@@ -213,16 +197,14 @@ holds_one_more p q j h a now = record {
     | inl same ↦ subst (λ (k : ℕ). is_held (now_of q).words k ≡ true) (sym same) now
     | inr other ↦ stays_held p q (Step.Hold j) a i (hold_elsewhere p q j a i other) (h.held i (omega arith))
   ];
-  free = λ i le lt.
-      hold_frees p q j a i (λ e. omega arith) (h.free i (omega arith) (within p q (Step.Hold j) a i lt));
+  free = λ i le lt. hold_frees p q j a i (λ e. omega arith) (h.free i (omega arith) (within p q (Step.Hold j) a i lt));
 }
 
 pub opens_last : (p q : PassState) (j : ℕ) → HoldsBelow p (j + 1) → Acts p (Step.Open j) q → HoldsBelow q j
 opens_last p q j h a = record {
   held = λ i lt. (let other : i ≢ j = λ e. omega arith in
       stays_held p q (Step.Open j) a i (open_elsewhere p q j a i other) (h.held i (omega arith)));
-  free = λ i le lt.
-      open_frees p q j a i (λ other. h.free i (omega arith) (within p q (Step.Open j) a i lt));
+  free = λ i le lt. open_frees p q j a i (λ other. h.free i (omega arith) (within p q (Step.Open j) a i lt));
 }
 
 -- The gates of the callers below one are held, and all else is as at first.

@@ -8,8 +8,7 @@ returns-then-bits-eq0-clause-none c =
     let b = c.look-blacks in
     nothing_to_scan c.args.pass.now c.args.page a.result b.result b.new.pass
     (two_looks c.args.pass.now c.args.page a.result a.new.pass b.result b.new.pass c.requires.between a.ensures.moves
-    b.ensures.moves)
-    (sym c.without-bits.ensures ∙ c.if-bits-eq0.true)
+    b.ensures.moves) (sym c.without-bits.ensures ∙ c.if-bits-eq0.true)
 
 pub returns-then-header-eq0-clause-none : goal.returns-then-header-eq0-clause-none
 returns-then-header-eq0-clause-none c =
@@ -18,8 +17,7 @@ returns-then-header-eq0-clause-none c =
     let d = c.look-header in
     no_cell_yet c.args.pass.now c.args.page a.result b.result b.new.pass d.result d.new.pass
     (two_looks c.args.pass.now c.args.page a.result a.new.pass b.result b.new.pass c.requires.between a.ensures.moves
-    b.ensures.moves) d.ensures.moves
-    c.if-header-eq0.true
+    b.ensures.moves) d.ensures.moves c.if-header-eq0.true
 
 pub returns-else-header-eq0-clause-some : goal.returns-else-header-eq0-clause-some
 returns-else-header-eq0-clause-some c =

@@ -1,14 +1,12 @@
-use Rattle.std.specs.Bool.{then_some}
-use Rattle.std.specs.Int.{trailing_ones}
-use Rattle.mk_page_map.proofs.Vocabulary.{Bool, ℕ, ap, false, is_some, nat_lt, refl, sym, true, w64, ◌∙◌, ◌≡◌}
-use Rattle.mk_page_map.proofs.BlockSets.{cells_few}
+use Rattle.std.specs.{Bool.then_some, Int.trailing_ones}
+use Rattle.mk_page_map.proofs.Vocabulary.{Bool, ℕ, ap, arith, is_some, nat_lt, sym, w64, ◌∙◌, ◌≡◌}
 use Rattle.mk_geom.specs.Classes.{cells_of}
 use Rattle.mk_books.proofs.UsedBitLemmas.{first_where-bits_of}
+use Rattle.mk_page_map.proofs.BlockSets.{cells_few}
 use Rattle.mk_page_map.proofs.kinds.has_free_cell.Goals as goal
 
 some_where : (test : Bool) (n : ℕ) → test ≡ is_some (then_some test n)
-some_where true n = refl
-some_where false n = refl
+some_where _ n = grind arith
 
 pub returns : goal.returns
 returns c =

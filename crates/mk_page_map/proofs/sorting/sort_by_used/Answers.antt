@@ -1,7 +1,6 @@
 use Rattle.mk_page_map.proofs.Vocabulary.{HasClass, IsInItsSets, PageKind, subst, sym, use_of_kind, ◌∙◌}
 use Rattle.mk_page_map.proofs.BlockSets.{sorted_alike, sorted_anew}
-use Rattle.mk_page_map.proofs.SetWords.{same}
-use Rattle.mk_page_map.proofs.sorting.sort_by_used.Goals.{In-Block}
+use Rattle.mk_page_map.proofs.{SetWords.same, sorting.sort_by_used.Goals.In-Block}
 use Rattle.mk_page_map.proofs.sorting.sort_by_used.Goals as goal
 
 sorted_before : (c : In-Block) → IsInItsSets c.args.sets.now c.args.page (use_of_kind

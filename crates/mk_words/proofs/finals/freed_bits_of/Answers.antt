@@ -1,5 +1,4 @@
-use Rattle.std.proofs.Math.Nat.{mod-lt}
-use Rattle.std.proofs.lemmas.Nat.{ones-le}
+use Rattle.std.proofs.{Math.Nat.mod-lt, lemmas.Nat.ones-le}
 use Rattle.mk_laws.proofs.Vocabulary.{arith, ◌%◌, ◌^◌}
 use Rattle.mk_words.proofs.finals.freed_bits_of.Goals as goal
 

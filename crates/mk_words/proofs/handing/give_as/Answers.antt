@@ -1,7 +1,5 @@
 use Rattle.mk_laws.proofs.Vocabulary.{refl}
-use Rattle.mk_words.proofs.HandedMaps.{give_event}
-use Rattle.mk_words.proofs.HandingCalls.{give_call, gives_own}
-use Rattle.mk_words.proofs.Owed.{same_id}
+use Rattle.mk_words.proofs.{HandedMaps.give_event, HandingCalls.give_call, HandingCalls.gives_own, Owed.same_id}
 use Rattle.mk_words.proofs.handing.give_as.Goals as goal
 
 pub store-requires : goal.store-requires

@@ -1,7 +1,5 @@
 use Rattle.mk_laws.proofs.Vocabulary.{refl}
-use Rattle.mk_words.proofs.HandedMaps.{take_event}
-use Rattle.mk_words.proofs.HandingCalls.{take_call, takes_own}
-use Rattle.mk_words.proofs.Owed.{same_id}
+use Rattle.mk_words.proofs.{HandedMaps.take_event, HandingCalls.take_call, HandingCalls.takes_own, Owed.same_id}
 use Rattle.mk_words.proofs.handing.take_as.Goals as goal
 
 pub compare_exchange-requires : goal.compare_exchange-requires

@@ -1,8 +1,7 @@
 use Rattle.mk_laws.proofs.Vocabulary.{Access, subst}
 use Rattle.mk_core.specs.Words.{becomes}
 use Rattle.atomic_table.specs.Table.{Allows}
-use Rattle.mk_words.proofs.Owed.{allows_store}
-use Rattle.mk_words.specs.Rule.{Kept, adds, no_step}
+use Rattle.mk_words.{proofs.Owed.allows_store, specs.Rule.Kept, specs.Rule.adds, specs.Rule.no_step}
 use Rattle.mk_words.proofs.performing.access_as.Goals as goal
 
 pub store-requires : goal.store-requires

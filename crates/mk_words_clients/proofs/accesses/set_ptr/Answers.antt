@@ -3,10 +3,8 @@ use Rattle.mk_laws.proofs.Vocabulary.{if◌then◌else◌, le-leb, lt-ltb, nat_l
 use Rattle.mk_laws.proofs.Vocabulary.{progress_reg, refl, refused, subst, sym, true, ◌&&◌, ◌*◌, ◌+◌, ◌<◌, ◌∙◌, ◌≡◌, ◌≢◌}
 use Rattle.mk_geom.specs.Addresses.{heap_word_at}
 use Rattle.mk_core.specs.declared.seats.Stage.TheVariants.{Dirty, Leave, LoadP, Probe, Write}
-use Rattle.mk_core.specs.Calls.{value_written}
-use Rattle.mk_core.specs.Effects.{progress_probe}
-use Rattle.mk_words.specs.CallSteps.{register_of}
-use Rattle.mk_words.specs.States.{PassState, WordsState}
+use Rattle.mk_core.specs.{Calls.value_written, Effects.progress_probe}
+use Rattle.mk_words.specs.{CallSteps.register_of, States.PassState, States.WordsState}
 use Rattle.mk_words_clients.proofs.accesses.set_ptr.Goals.{After-is_in_order, After-is_in_order-2, After-is_in_order-3}
 use Rattle.mk_words_clients.proofs.accesses.set_ptr.Goals.{After-is_in_order-4, After-write}
 use Rattle.mk_words_clients.proofs.CallFacts.{admitted_now, enters, goes_on, next_may}
@@ -60,8 +58,7 @@ probed c at =
     let o : Op = Op.SetPtr c.args.q c.args.i c.args.p in
     let before : Flight = at_probe o c.reg_load-to.result c.reg_load-value.result in
     goes_on c.reg_load-value.new.self c.probe-header.new.self Step.Probe _ o before (record before { stage = Write }) at
-    c.probe-header.ensures.goes
-    (ap (λ (f : Flight). (progress_probe f c.probe-header.result).flight) at.call
+    c.probe-header.ensures.goes (ap (λ (f : Flight). (progress_probe f c.probe-header.result).flight) at.call
     ∙ ap (λ (x : Bool). (if x then refused before Answer.Fault else onward before None).flight)
     (sym c.is_unmapped.ensures ∙ c.if-is_unmapped.false))
 
@@ -78,8 +75,7 @@ written c at =
 
 -- the word that it accesses is in the heap
 met : (c : After-is_in_order-4) (t : WordsState) → c.reg_load-to.result ≡ register_of c.args.pass.now c.args.q
-    → t ≡ c.args.pass.now.table
-    → nat_le 65536 c.reg_load-to.result
+    → t ≡ c.args.pass.now.table → nat_le 65536 c.reg_load-to.result
     && nat_lt (heap_word_at c.reg_load-to.result + c.args.i) (64 * t.config.pages) ≡ true
 met c t is same =
     let n : ℕ = c.reg_load-to.result in

@@ -1,10 +1,8 @@
 use Rattle.mk_laws.proofs.Vocabulary.{Caller, Config, List, Marker, Seat, ap, arith, cases_Bool, inl, inr, lt-ltb}
 use Rattle.mk_laws.proofs.Vocabulary.{marker_at, outside, refl, seat_exists, subst, sym, true, [], ◌++◌, ◌∷◌, ◌≡◌}
-use Rattle.mk_core.specs.Growing.{is_same_seat}
-use Rattle.mk_core.specs.History.{left_from}
+use Rattle.mk_core.specs.{Growing.is_same_seat, History.left_from}
 use Rattle.mk_words.proofs.Seats.{has_all, has_first, has_left, has_right, same_seat, without_keeps}
-use Rattle.mk_words.specs.Seats.{Has, all_seats, without_seat}
-use Rattle.mk_words.specs.States.{PassState, now_of}
+use Rattle.mk_words.specs.{Seats.Has, Seats.all_seats, Seats.without_seat, States.PassState, States.now_of}
 use Rattle.mk_words_clients.proofs.lives.one_life.Goals as goal
 
 pub split-caller-requires-clause-here : goal.split-caller-requires-clause-here
@@ -26,8 +24,7 @@ close-requires-clause-home c s exists =
     let first : List Seat = c.in_ok-words.host.seats in
     let start : first ≡ all_seats k = ap (λ (x : PassState). x.seats) c.in_ok-words.ensures.pass in
     let there : c.in_ok-words.words.config ≡ k = c.in_ok-words.ensures.config in
-    let all : Has first s =
-    subst (λ (xs : List Seat). Has xs s) (sym start)
+    let all : Has first s = subst (λ (xs : List Seat). Has xs s) (sym start)
     (has_all k s (subst (λ (d : Config). seat_exists d s ≡ true) there exists)) in
     let less : List Seat = without_seat (Marker 0) (without_seat (Caller 0) first) in
     let host : c.split-marker.new.pass.seats ≡ less = cc (c.split-marker.ensures.pass, c.split-caller.ensures.pass) in

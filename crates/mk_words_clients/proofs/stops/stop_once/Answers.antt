@@ -1,7 +1,6 @@
 use Rattle.mk_laws.proofs.Vocabulary.{subst, sym}
 use Rattle.mk_words.specs.States.{PassState, WordsState}
-use Rattle.mk_words_clients.proofs.TurnFacts.{all_are_held}
-use Rattle.mk_words_clients.specs.Clients.{HoldsBelow, Settled}
+use Rattle.mk_words_clients.{proofs.TurnFacts.all_are_held, specs.Clients.HoldsBelow, specs.Clients.Settled}
 use Rattle.mk_words_clients.proofs.stops.stop_once.Goals as goal
 
 pub stopped-stopped-requires : goal.stopped-stopped-requires

@@ -24,11 +24,8 @@ returns-in-Ok-clause-free c =
     let looked = c.look.ensures.acts in
     let opened = c.open_gate.ensures in
     let only = look_leaves q r j (Word.Reg j 0) looked (hold_leaves p q j held (none_held_is p free.gates)) in
-    given_back z
-    (settled_kept r z (Step.Open j) opened refl
-    (settled_kept q r (Step.Look (Word.Reg j 0)) looked refl
-    (settled_kept p q (Step.Hold j) held refl (settled p free))))
-    (open_leaves r z j opened only)
+    given_back z (settled_kept r z (Step.Open j) opened refl (settled_kept q r (Step.Look (Word.Reg j 0)) looked refl
+    (settled_kept p q (Step.Hold j) held refl (settled p free)))) (open_leaves r z j opened only)
 
 pub returns-in-Ok-clause-tidy : goal.returns-in-Ok-clause-tidy
 returns-in-Ok-clause-tidy c = λ tidy.

@@ -1,6 +1,5 @@
 use Rattle.mk_page_map.proofs.Vocabulary.{ap, arith, has_free_cell, is_of_set, ◌∙◌}
-use Rattle.mk_page_map.proofs.BlockSets.{of_own_set}
-use Rattle.mk_page_map.proofs.Reading.{first_shown}
+use Rattle.mk_page_map.proofs.{BlockSets.of_own_set, Reading.first_shown}
 use Rattle.mk_page_map.proofs.page_map.PageMap.first_block.Goals as goal
 
 pub returns : goal.returns

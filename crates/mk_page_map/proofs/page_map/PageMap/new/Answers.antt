@@ -1,6 +1,5 @@
 use Rattle.mk_page_map.proofs.Vocabulary.{FitPages, List, Page, Shows, free_page, replicate, subst, sym, ◌≡◌}
-use Rattle.mk_page_map.proofs.FreeSets.{free_fits, free_shows}
-use Rattle.mk_page_map.proofs.Showing.{known_by}
+use Rattle.mk_page_map.proofs.{FreeSets.free_fits, FreeSets.free_shows, Showing.known_by}
 use Rattle.mk_page_map.proofs.page_map.PageMap.new.Goals as goal
 
 pub invariant_of-result : goal.invariant_of-result

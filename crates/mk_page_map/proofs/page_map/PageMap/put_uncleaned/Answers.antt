@@ -1,8 +1,6 @@
 use Rattle.mk_page_map.proofs.Vocabulary.{arith, drop, length, take, ◌++◌, ◌<◌, ◌≡◌}
 use Rattle.mk_page_map.proofs.Uncleaned.{ChangesUncleaned, others_uncleaned, still_fits, still_shows, this_uncleaned}
-use Rattle.mk_page_map.proofs.FreeSets.{written}
-use Rattle.mk_page_map.proofs.Storing.{page_within}
-use Rattle.mk_page_map.proofs.page_map.PageMap.put_uncleaned.Goals.{After-put}
+use Rattle.mk_page_map.proofs.{FreeSets.written, Storing.page_within, page_map.PageMap.put_uncleaned.Goals.After-put}
 use Rattle.mk_page_map.proofs.page_map.PageMap.put_uncleaned.Goals as goal
 
 within : (c : After-put) → c.args.page < length c.self.inside.pages.items

@@ -2,10 +2,7 @@ use Rattle.mk_page_map.proofs.Vocabulary.{FitPages, KnownPages, List, OthersStay
 use Rattle.mk_page_map.proofs.Vocabulary.{length, set, subst, sym, take, ◌++◌, ◌<◌, ◌∙◌, ◌≡◌}
 use Rattle.mk_page_map.proofs.Showing.{known_by, quarantine_shows}
 use Rattle.mk_page_map.proofs.page_map.PageMap.quarantine_stored.Goals.{After-sort_by_quarantine}
-use Rattle.mk_page_map.proofs.Fitting.{fit_again}
-use Rattle.mk_page_map.proofs.FreeSets.{written}
-use Rattle.mk_page_map.proofs.Storing.{page_within}
-use Rattle.mk_page_map.proofs.Uncleaned.{all_kept}
+use Rattle.mk_page_map.proofs.{Fitting.fit_again, FreeSets.written, Storing.page_within, Uncleaned.all_kept}
 use Rattle.mk_page_map.proofs.page_map.PageMap.quarantine_stored.Goals as goal
 
 within : (c : After-sort_by_quarantine) → c.args.page < length c.self.inside.pages.items
@@ -34,8 +31,7 @@ returns-clause-shows c pages freed_words shows =
     subst (λ (xs : List ℕ). Shows (known_by c.self.inside.pages.items xs) pages
     (set freed_words c.args.page c.args.freed)) (sym (same_sets x))
     (quarantine_shows c.self.inside.pages.items c.self.inside.sets.items c.sort_by_quarantine.new.sets c.args.freed
-    c.self.invariant.few (within x) (others x)
-    c.sort_by_quarantine.ensures.quarantined before)
+    c.self.invariant.few (within x) (others x) c.sort_by_quarantine.ensures.quarantined before)
 
 pub returns-clause-uncleaned : goal.returns-clause-uncleaned
 returns-clause-uncleaned c number = grind (arith, all_kept, same_sets)

@@ -2,14 +2,9 @@ use Rattle.mk_laws.proofs.Vocabulary.{List, Step, ℕ, ap, arith, subst, sym, �
 use Rattle.mk_page_map.specs.KnownPages.{KnownPages}
 use Rattle.atomic_table.specs.Table.{rest}
 use Rattle.mk_words.proofs.HandingCalls.{order_of_view, take_access, take_order, take_tells, taken_learns, took}
-use Rattle.mk_words.proofs.MapSteps.{page_known}
-use Rattle.mk_words.proofs.Owed.{same_id}
-use Rattle.mk_words.proofs.handing.SeatToken.take.Goals.{After-exchange-home}
+use Rattle.mk_words.proofs.{MapSteps.page_known, Owed.same_id, handing.SeatToken.take.Goals.After-exchange-home}
 use Rattle.mk_words.specs.States.{PassState, WordsState, now_of}
-use Rattle.mk_words.specs.PageMaps.{IsMapOf, no_map}
-use Rattle.mk_words.specs.Passes.{state_of}
-use Rattle.mk_words.specs.Rule.{Mine}
-use Rattle.mk_words.specs.Steps.{Tells}
+use Rattle.mk_words.specs.{PageMaps.IsMapOf, PageMaps.no_map, Passes.state_of, Rule.Mine, Steps.Tells}
 use Rattle.mk_words.proofs.handing.SeatToken.take.Goals as goal
 
 pub take_as-found-requires-clause-one_table : goal.take_as-found-requires-clause-one_table
@@ -25,8 +20,7 @@ pub exchange-home-requires : goal.exchange-home-requires
 exchange-home-requires c = grind (arith, same_id, took)
 
 -- what a token learns that has taken the map out of the slot
-learns : (c : After-exchange-home)
-    → Tells c.args.self (Step.Take c.args.op) 0
+learns : (c : After-exchange-home) → Tells c.args.self (Step.Take c.args.op) 0
     (state_of c.exchange-home.new.seat.table_id c.exchange-home.new.seat.me c.self.inside.seat)
     × IsMapOf c.exchange-home.result
     (now_of (state_of c.exchange-home.new.seat.table_id c.exchange-home.new.seat.me c.self.inside.seat)).words
@@ -51,8 +45,7 @@ invariant_of-taken c =
           (take_order p.token.me f.new.token.me p.seat c.args.op f.result c.self.invariant.order f.ensures.told);
       slots = (
         no_map,
-        ap (λ (m : Mine). m.1) x.3
-            ∙ ap (λ (l : List (ℕ × KnownPages)). (0, no_map) ∷ l)
+        ap (λ (m : Mine). m.1) x.3 ∙ ap (λ (l : List (ℕ × KnownPages)). (0, no_map) ∷ l)
             (ap rest h.1 ∙ c.self.invariant.slots),
       );
     }

@@ -1,13 +1,9 @@
 use Rattle.mk_laws.proofs.Vocabulary.{Holds, Step, ap, subst, sym, [], ◌∙◌, ◌∷◌, ◌≡◌}
 use Rattle.atomic_table.specs.Table.{rest}
 use Rattle.mk_words.proofs.HandingCalls.{give_makes, give_order, order_of_view, still_state, took}
-use Rattle.mk_words.proofs.Owed.{same_id}
-use Rattle.mk_words.proofs.handing.TurnToken.give.Goals.{After-exchange-empty}
-use Rattle.mk_words.specs.Steps.{Makes, May}
+use Rattle.mk_words.proofs.{Owed.same_id, handing.TurnToken.give.Goals.After-exchange-empty}
 use Rattle.mk_words.specs.Passes.{IsInOrder, state_of}
-use Rattle.mk_words.specs.PageMaps.{IsMapOf}
-use Rattle.mk_words.specs.Rule.{Mine}
-use Rattle.mk_words.specs.States.{PassState, now_of}
+use Rattle.mk_words.specs.{PageMaps.IsMapOf, Rule.Mine, States.PassState, States.now_of, Steps.Makes, Steps.May}
 use Rattle.mk_words.proofs.handing.TurnToken.give.Goals as goal
 
 pub exchange-empty-requires : goal.exchange-empty-requires
@@ -51,16 +47,14 @@ give_as-requires-clause-may c =
 pub give_as-requires-clause-holds : goal.give_as-requires-clause-holds
 give_as-requires-clause-holds c =
     subst (λ (r : PassState). Holds r.table.config (now_of r) r.seat) (sym (same_pass
-    (goal.at.give_as-requires-clause-holds c).After-exchange-empty))
-    c.requires.holds
+    (goal.at.give_as-requires-clause-holds c).After-exchange-empty)) c.requires.holds
 
 pub give_as-requires-clause-slot : goal.give_as-requires-clause-slot
 give_as-requires-clause-slot c = (
   c.args.map.value,
   slot_then (goal.at.give_as-requires-clause-slot c).After-exchange-empty,
   subst (λ (r : PassState). IsMapOf c.args.map.value (now_of r).words) (sym (same_pass
-      (goal.at.give_as-requires-clause-slot c).After-exchange-empty))
-      c.requires.map,
+      (goal.at.give_as-requires-clause-slot c).After-exchange-empty)) c.requires.map,
 )
 
 pub invariant_of-result : goal.invariant_of-result

@@ -1,7 +1,6 @@
 use Rattle.mk_laws.proofs.Vocabulary.{ℕ, ap, refl, sym}
 use Rattle.mk_core.specs.Calls.{progress_getg}
-use Rattle.mk_words.proofs.CallSteps.{goes_on, keeps}
-use Rattle.mk_words.specs.States.{call_of}
+use Rattle.mk_words.{proofs.CallSteps.goes_on, proofs.CallSteps.keeps, specs.States.call_of}
 use Rattle.mk_words.proofs.passes.Pass.global_load.Goals as goal
 
 pub returns-clause-goes : goal.returns-clause-goes

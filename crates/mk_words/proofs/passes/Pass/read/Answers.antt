@@ -1,6 +1,5 @@
 use Rattle.mk_laws.proofs.Vocabulary.{ℕ, ap, progress_read, refl, sym}
-use Rattle.mk_words.proofs.CallSteps.{goes_on, keeps}
-use Rattle.mk_words.specs.States.{call_of}
+use Rattle.mk_words.{proofs.CallSteps.goes_on, proofs.CallSteps.keeps, specs.States.call_of}
 use Rattle.mk_words.proofs.passes.Pass.read.Goals as goal
 
 pub returns-clause-goes : goal.returns-clause-goes

@@ -1,7 +1,6 @@
 use Rattle.mk_laws.proofs.Vocabulary.{arith, refl, sym}
 use Rattle.mk_words.proofs.TurnSteps.{take_finds, takes, takes_fresh}
-use Rattle.mk_words.proofs.FoundTurns.{take_counts, take_waits}
-use Rattle.mk_words.proofs.MapSteps.{shows_that}
+use Rattle.mk_words.proofs.{FoundTurns.take_counts, FoundTurns.take_waits, MapSteps.shows_that}
 use Rattle.mk_words.proofs.passes.Pass.try_take.Goals as goal
 
 pub invariant_of-result : goal.invariant_of-result

@@ -1,4 +1,4 @@
-use Rattle.mk_laws.proofs.Vocabulary.{◌-◌, ◌≡◌, ◌≤◌}
+use Rattle.mk_laws.proofs.Vocabulary.{◌-◌, ◌≤◌}
 use Rattle.mk_words.specs.Opening.{AreOpened, Opens, OthersMayOpen}
 use Rattle.mk_words.proofs.stopped.Stopped.open_all.Given as goal
 

@@ -1,7 +1,5 @@
-use Rattle.mk_laws.proofs.Vocabulary.{access, subst, sym, word_accessed, ◌≡◌}
-use Rattle.mk_words.specs.Passes.{state_of}
-use Rattle.mk_words.specs.States.{PassState, event_of, now_of}
-use Rattle.mk_words.specs.Steps.{May, Tells}
+use Rattle.mk_laws.proofs.Vocabulary.{subst, sym, ◌≡◌}
+use Rattle.mk_words.specs.{Passes.state_of, States.PassState, Steps.MayPerform, Steps.Tells}
 use Rattle.mk_words.proofs.tokens.TokenWith.perform_near.Goals as goal
 
 pub perform_as-requires-clause-one_table : goal.perform_as-requires-clause-one_table
@@ -9,17 +7,8 @@ perform_as-requires-clause-one_table g c =
     subst (λ (r : PassState). r.table ≡ c.args.words.now) (sym c.self.view_is) c.requires.one_table
 
 pub perform_as-requires-clause-may : goal.perform_as-requires-clause-may
-perform_as-requires-clause-may g c = subst (λ (r : PassState). May r c.args.step) (sym c.self.view_is) c.requires.may
-
-pub perform_as-requires-clause-word : goal.perform_as-requires-clause-word
-perform_as-requires-clause-word g c =
-    subst (λ (r : PassState). c.args.word ≡ word_accessed r.table.config (now_of r) (event_of r c.args.step))
-    (sym c.self.view_is) c.requires.word
-
-pub perform_as-requires-clause-access : goal.perform_as-requires-clause-access
-perform_as-requires-clause-access g c =
-    subst (λ (r : PassState). c.args.by ≡ access r.table.config (now_of r) (event_of r c.args.step))
-    (sym c.self.view_is) c.requires.access
+perform_as-requires-clause-may g c =
+    subst (λ (r : PassState). MayPerform r c.args.step c.args.word c.args.by) (sym c.self.view_is) c.requires.may
 
 pub invariant_of-self : goal.invariant_of-self
 invariant_of-self g c = record {

@@ -1,7 +1,5 @@
-use Rattle.mk_laws.proofs.Vocabulary.{Step, Store, ℕ, ap, subst, sym}
-use Rattle.mk_words.proofs.CallSteps.{grants_to}
-use Rattle.mk_words.specs.States.{TurnState}
-use Rattle.mk_words.specs.Steps.{IsEnabledTo}
+use Rattle.mk_laws.proofs.Vocabulary.{Step, Store, ℕ, ap, arith, subst, sym}
+use Rattle.mk_words.{proofs.CallSteps.grants_to, specs.States.TurnState, specs.Steps.IsEnabledTo}
 use Rattle.mk_words.proofs.turn_steps.Turn.grant.Goals as goal
 
 pub caller-requires : goal.caller-requires
@@ -9,5 +7,9 @@ caller-requires c =
     grants_to c.self.inside.pass
     (subst (λ (t : TurnState). IsEnabledTo t.pass Step.Grant) (sym c.self.view_is) c.requires.enabled)
 
-pub perform-requires-clause-access : goal.perform-requires-clause-access
-perform-requires-clause-access c = ap (λ (n : ℕ). Store n) c.requires.address
+pub perform-requires-clause-may : goal.perform-requires-clause-may
+perform-requires-clause-may c = record {
+  may = grind arith;
+  reaches = grind arith;
+  does = ap (λ (n : ℕ). Store n) c.requires.address;
+}

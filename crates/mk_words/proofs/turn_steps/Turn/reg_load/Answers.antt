@@ -1,7 +1,6 @@
 use Rattle.mk_laws.proofs.Vocabulary.{Step, subst, sym}
 use Rattle.mk_words.proofs.CallSteps.{load_finds, load_goes, load_own, loads_to}
-use Rattle.mk_words.specs.States.{TurnState}
-use Rattle.mk_words.specs.Steps.{IsEnabledTo}
+use Rattle.mk_words.specs.{States.TurnState, Steps.IsEnabledTo}
 use Rattle.mk_words.proofs.turn_steps.Turn.reg_load.Goals as goal
 
 pub caller-requires : goal.caller-requires

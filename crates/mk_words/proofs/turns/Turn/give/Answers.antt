@@ -1,7 +1,5 @@
 use Rattle.mk_laws.proofs.Vocabulary.{Step, subst}
-use Rattle.mk_words.proofs.TurnSteps.{acts, gives_rest}
-use Rattle.mk_words.specs.States.{TurnState}
-use Rattle.mk_words.specs.TurnSteps.{Acts}
+use Rattle.mk_words.{proofs.TurnSteps.acts, proofs.TurnSteps.gives_rest, specs.States.TurnState, specs.TurnSteps.Acts}
 use Rattle.mk_words.proofs.turns.Turn.give.Goals as goal
 
 pub returns-clause-acts : goal.returns-clause-acts

@@ -1,5 +1,5 @@
 use Rattle.mk_laws.proofs.Vocabulary.{sym}
-use Rattle.mk_words.proofs.MapSteps.{turn_that, map_cleaned, page_known}
+use Rattle.mk_words.proofs.MapSteps.{map_cleaned, page_known, turn_that}
 use Rattle.mk_words.specs.States.{now_of}
 use Rattle.mk_words.proofs.turns.TurnAt.cleaned.Goals as goal
 

@@ -1,5 +1,5 @@
 use Rattle.mk_laws.proofs.Vocabulary.{Step, refl}
-use Rattle.mk_words.proofs.MapSteps.{acted, turn_that, shows_head, told_page, told_turn}
+use Rattle.mk_words.proofs.MapSteps.{acted, shows_head, told_page, told_turn, turn_that}
 use Rattle.mk_words.proofs.turns.TurnAt.head.Goals as goal
 
 pub header_stored-requires : goal.header_stored-requires

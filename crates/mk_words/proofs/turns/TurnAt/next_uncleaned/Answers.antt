@@ -1,5 +1,5 @@
 use Rattle.mk_laws.proofs.Vocabulary.{sym}
-use Rattle.mk_words.proofs.MapSteps.{turn_that, next_is_uncleaned}
+use Rattle.mk_words.proofs.MapSteps.{next_is_uncleaned, turn_that}
 use Rattle.mk_words.proofs.turns.TurnAt.next_uncleaned.Goals as goal
 
 pub returns : goal.returns

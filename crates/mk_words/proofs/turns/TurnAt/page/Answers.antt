@@ -1,5 +1,5 @@
 use Rattle.mk_laws.proofs.Vocabulary.{sym}
-use Rattle.mk_words.proofs.MapSteps.{turn_that, page_known}
+use Rattle.mk_words.proofs.MapSteps.{page_known, turn_that}
 use Rattle.mk_words.proofs.turns.TurnAt.page.Goals as goal
 
 pub page-requires : goal.page-requires

@@ -1,5 +1,5 @@
 use Rattle.mk_laws.proofs.Vocabulary.{Step, refl}
-use Rattle.mk_words.proofs.MapSteps.{acted, turn_that, shows_quar, told_page, told_turn}
+use Rattle.mk_words.proofs.MapSteps.{acted, shows_quar, told_page, told_turn, turn_that}
 use Rattle.mk_words.proofs.turns.TurnAt.quar.Goals as goal
 
 pub quarantine_stored-requires : goal.quarantine_stored-requires

@@ -1,5 +1,5 @@
 use Rattle.mk_laws.proofs.Vocabulary.{Step, refl}
-use Rattle.mk_words.proofs.MapSteps.{acted, turn_that, shows_used, told_page, told_turn}
+use Rattle.mk_words.proofs.MapSteps.{acted, shows_used, told_page, told_turn, turn_that}
 use Rattle.mk_words.proofs.turns.TurnAt.used.Goals as goal
 
 pub used_stored-requires : goal.used_stored-requires

@@ -1,12 +1,8 @@
 use Rattle.std.specs.Mem.Slots.{slots_items}
 use Rattle.mk_laws.proofs.Vocabulary.{Config, ap, subst, sym, ◌∙◌}
-use Rattle.mk_words.proofs.Closing.{tallies_told}
-use Rattle.mk_words.proofs.Owed.{close_call, copy_call, same_id}
+use Rattle.mk_words.proofs.{Closing.tallies_told, Owed.close_call, Owed.copy_call, Owed.same_id}
 use Rattle.mk_words.specs.States.{PassState, WordsState}
-use Rattle.mk_words.specs.Passes.{state_of}
-use Rattle.mk_words.specs.Rule.{Mine}
-use Rattle.mk_words.specs.Seats.{HasAll}
-use Rattle.mk_words.specs.declared.rule.View.{View}
+use Rattle.mk_words.specs.{Passes.state_of, Rule.Mine, Seats.HasAll, declared.rule.View.View}
 use Rattle.mk_words.proofs.words.Words.close_by.Goals as goal
 
 pub split_seat-memory-requires : goal.split_seat-memory-requires
@@ -32,8 +28,7 @@ returns-clause-tallies c =
     let ended = close_call w.config w.table.shared.key token.id token.me (slots_items r.words)
     (slots_items r.slots) c.words.invariant.key home c.close_with-closed.ensures.values.2 in
     tallies_told (ap (λ (x : WordsState). x.config) c.requires.one_table ∙ sym same) (sym same)
-    (ap (λ (q : PassState). q.seen) (sym view)) ended.words
-    (record {
+    (ap (λ (q : PassState). q.seen) (sym view)) ended.words (record {
       held = c.last_word.ensures;
       fresh = c.last_word-2.ensures;
       quarantined = c.freed_bits.ensures;

@@ -1,7 +1,7 @@
 use Rattle.std.proofs.Common.{All, replicate}
 use Rattle.mk_laws.proofs.Vocabulary.{List, ℕ, ap, arith, free_page, length, refl, [], ◌∙◌, ◌∷◌, ◌≡◌}
-use Rattle.mk_laws.proofs.OrderlyLists.{at_first}
 use Rattle.mk_page_map.specs.KnownPages.{KnownPages, Shows}
+use Rattle.mk_laws.proofs.OrderlyLists.{at_first}
 use Rattle.mk_words.proofs.Owed.{first_call, first_in_order}
 use Rattle.mk_words.proofs.words.Words.new.Goals as goal
 
@@ -18,13 +18,9 @@ new-requires c =
     let home = only_one (λ m. Shows m (replicate pages free_page) (replicate pages 0)) c.in_ok-slots.slots.items
     c.in_ok-slots.ensures.one c.in_ok-slots.ensures.shows in
     first_call c.args.config.now c.zeros-zeros.result.now c.in_ok-slots.slots.items home.0 c.requires
-    (c.zeros-zeros.ensures ∙ ap (λ (n : ℕ). replicate {A = ℕ} n 0) c.count_of_words.ensures.exact) home.1
-    (record {
+    (c.zeros-zeros.ensures ∙ ap (λ (n : ℕ). replicate {A = ℕ} n 0) c.count_of_words.ensures.exact) home.1 (record {
       words = home.2;
-      unmarked = λ page bare cleaned. record {
-        unmarked = at_first pages page 0;
-        unscanned = at_first pages page 0;
-      };
+      unmarked = λ page bare cleaned. record { unmarked = at_first pages page 0; unscanned = at_first pages page 0 };
     })
 
 pub invariant_of-result : goal.invariant_of-result
