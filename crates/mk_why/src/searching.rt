@@ -5,7 +5,8 @@ ghost use Rattle.mk_core.specs.Touched.{PointsIntoAllocation};
 ghost use Rattle.mk_why.specs.{declared.kept.Root.Root, Chains.{IsRoot, word_of_root}};
 ghost use Rattle.mk_why.specs.Searching.{AreScannedFrom, AreWays, FindsMore, IsSearched, IsExplored, IsFound};
 ghost use Rattle.mk_why.specs.Searching.{IsFoundThrough, IsNoted, IsSearch, IsWay, SearchesOn, entry_at, links_in};
-ghost use Rattle.mk_why.specs.{Searching.{links_of, root_numbered, root_word}, Stops.{IsStill, LooksWhileStill, view_by, world_in}};
+ghost use Rattle.mk_why.specs.Searching.{links_of, root_numbered, root_word};
+ghost use Rattle.mk_why.specs.Stops.{IsStill, LooksWhileStill, view_by, world_in};
 
 use crate::found::{Found, Way};
 use crate::kept::Root;
