@@ -8,7 +8,7 @@ use Rattle.mk_why.proofs.Vocabulary.{world_in}
 use Rattle.mk_why.proofs.Searches.{Stays, links_stay, noted_stays, same_links}
 use Rattle.mk_laws.proofs.Vocabulary.{IsWordOf, List, Option, ℕ, and_from, ap, arith, length, lt-ltb, refl, slice_index}
 use Rattle.mk_laws.proofs.Vocabulary.{subst, sym, true, [], ◌*◌, ◌+◌, ◌<◌, ◌∷◌, ◌≡◌, ◌≤◌}
-use Rattle.mk_why.specs.Searching.{IsExplored, IsFoundAt, IsFoundWithin, IsOnward, PointsAtBase, root_word}
+use Rattle.mk_why.specs.Searching.{IsExplored, IsFoundAt, IsFoundWithin, IsOnward, PointsAtBase, root_numbered, root_word}
 use Rattle.mk_why.specs.Chains.{IsRoot}
 
 -- Ways to what values point into.
@@ -40,6 +40,15 @@ noted_by {v} {found} {limit} x within b points = grind arith
 
 pub root_is_word : (c : Config) (root : Root) → IsRoot c root → is_word c (root_word root) ≡ true
 root_is_word c x1 is = grind (arith, and_from, lt-ltb)
+
+-- each root has a number
+pub root_at : (c : Config) (root : Root) → IsRoot c root
+    → (n : ℕ) × (n < 8 * c.callers + 64) × (root_numbered c.callers n ≡ root)
+root_at c (Register caller register) is = (8 * caller + register, omega arith, grind arith)
+root_at c (Global global) is = (8 * c.callers + global, omega arith, grind arith)
+
+pub numbered_root : (c : Config) (n : ℕ) → n < 8 * c.callers + 64 → IsRoot c (root_numbered c.callers n)
+numbered_root c n low = grind arith
 
 pub root_is_still : (root : Root) → is_still_word (root_word root) ≡ true
 root_is_still x0 = grind arith
@@ -108,10 +117,3 @@ module _ (c : Config) (v : View) (found : List (Option Found))
         let x = leads_within links chain.first b 0 first chain.leads in
         record { entry = x.entry; there = x.there; near = let low = x.near in omega arith };
   }
-
-pub roots_noted : (c : Config) (v : View) (found : List (Option Found))
-    → ((caller : ℕ) → caller < c.callers → (register : ℕ) → register < 8
-    → IsNoted c v found (word_of_root v.words (Register caller register)) 0)
-    → ((global : ℕ) → global < 64 → IsNoted c v found (word_of_root v.words (Global global)) 0)
-    → (root : Root) → IsRoot c root → IsNoted c v found (word_of_root v.words root) 0
-roots_noted c v found registers globals x5 is = grind arith

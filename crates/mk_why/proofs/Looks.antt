@@ -2,7 +2,7 @@
 use Rattle.std.proofs.lemmas.List.Sums.{sum_by-append, sum_by-cons}
 use Rattle.std.proofs.Common.{count_by}
 use Rattle.std.proofs.lemmas.List.{append_cancel_left}
-use Rattle.mk_why.proofs.Vocabulary.{Config, Event, IsHistory, IsStill, LooksOn, PassState, PlacedAllocation, TurnState}
+use Rattle.mk_why.proofs.Vocabulary.{Config, Event, IsHistory, IsStill, LooksWhileStill, PassState, PlacedAllocation, TurnState}
 use Rattle.mk_why.proofs.Vocabulary.{View, Words, World, is_word, left, now_of, others_are_held, phase_of, view_by}
 use Rattle.mk_why.proofs.Vocabulary.{view_of}
 use Rattle.mk_why.specs.Stops.{is_look}
@@ -71,7 +71,7 @@ module _ (t u : TurnState) (x : Word) (a : Acts t.pass (Step.Look x) u.pass)
   keeps =
       calm_keeps t.pass (Step.Look x) u.pass a (in_turn_before a) a.makes.pass.history refl still.free but_phase refl
 
-  pub look_on : LooksOn t u
+  pub look_on : LooksWhileStill t u
   look_on = record {
     table = ap (λ (y : PassState). y.table) a.makes.is;
     does = does_step is_look t.pass u.pass (Step.Look x) a.makes refl;
@@ -82,10 +82,10 @@ module _ (t u : TurnState) (x : Word) (a : Acts t.pass (Step.Look x) u.pass)
 
 -- Nothing is looked at, and one part is after the other.
 
-pub looks_at_nothing : (t : TurnState) → IsStill t.pass → LooksOn t t
+pub looks_at_nothing : (t : TurnState) → IsStill t.pass → LooksWhileStill t t
 looks_at_nothing t still = grind (arith, does_nothing, keeps_at_once)
 
-pub looks_then : {t u v : TurnState} → LooksOn t u → LooksOn u v → LooksOn t v
+pub looks_then : {t u v : TurnState} → LooksWhileStill t u → LooksWhileStill u v → LooksWhileStill t v
 looks_then {t} {u} {v} one two = grind (arith, does_then, keeps_then)
 
 -- The cell into which a value points is looked for.
@@ -96,9 +96,9 @@ may_look_at_headers {p} turn gates still page lt = look_enabled p turn gates sti
 
 pub looks_for_cell : {value : ℕ} {t u : TurnState} → LooksForCell value t u
     → others_are_held t.pass.table.config.callers (now_of t.pass).words t.pass.seat ≡ true → IsStill t.pass
-    → LooksOn t u
+    → LooksWhileStill t u
 looks_for_cell {value} {t} {u} l gates still =
-    looked_for (λ (v : TurnState). LooksOn t v) l (looks_at_nothing t still)
+    looked_for (λ (v : TurnState). LooksWhileStill t v) l (looks_at_nothing t still)
     (λ a. look_on t u (Word.Head (page_at_address value)) a gates still)
 
 -- Looks after an engine's marks leave its law, and what is said of the view.
@@ -176,7 +176,7 @@ counts_then : (kind : Step → Bool) {kinds more both : Step → Bool} {p q r : 
     (e : Does more q r) (f : Does both p r) → count_done kind f ≡ count_done kind d + count_done kind e
 counts_then kind {p} {r} d e f = grind (arith, done_in_parts, sum_by-append, append_assoc, append_cancel_left)
 
-module _ (p : PassState) (t u : TurnState) (law : ClosesMarks p t.pass) (on : LooksOn t u) (turn : InTurn u.pass)
+module _ (p : PassState) (t u : TurnState) (law : ClosesMarks p t.pass) (on : LooksWhileStill t u) (turn : InTurn u.pass)
     (gates : others_are_held u.pass.table.config.callers (now_of u.pass).words u.pass.seat ≡ true) where
   close_now : IsEnabledTo u.pass Step.Close
   close_now = grind (arith, closes_by, may_close_by, pages_close, roots_close)
@@ -199,7 +199,7 @@ module _ (p : PassState) (t u : TurnState) (law : ClosesMarks p t.pass) (on : Lo
 look_marks : HaveNoMark is_look
 look_marks s h = grind arith
 
-pub sweepless_kept : {p : PassState} {t u : TurnState} → ClosesMarks p t.pass → LooksOn t u
+pub sweepless_kept : {p : PassState} {t u : TurnState} → ClosesMarks p t.pass → LooksWhileStill t u
     → SweepsNothing p t.pass → SweepsNothing p u.pass
 sweepless_kept {p} {t} {u} law on one =
     sweeps_then p t.pass u.pass law.keeps.call.pass one (does_sweep is_look t.pass u.pass look_marks on.does)

@@ -1,7 +1,7 @@
 -- The search, one note after the other: what was found stays, and the queue rises.
 use Rattle.std.proofs.Common.{below_more}
 use Rattle.mk_why.proofs.Vocabulary.{AreWays, Config, FindsMore, Found, IsFound, IsFoundThrough, IsNoted, IsSearch}
-use Rattle.mk_why.proofs.Vocabulary.{IsStill, IsWay, LooksOn, Root, SearchesOn, Tables, TurnState, View, entry_at}
+use Rattle.mk_why.proofs.Vocabulary.{IsStill, IsWay, LooksWhileStill, Root, SearchesOn, Tables, TurnState, View, entry_at}
 use Rattle.mk_why.proofs.Vocabulary.{links_in, links_of, view_by, word_of_root}
 use Rattle.mk_why.proofs.Looks.{looks_at_nothing, looks_then}
 use Rattle.mk_laws.proofs.Vocabulary.{List, None, Option, Some, ℕ, ap, arith, cases_Bool, cases_eq, cases_lt, false}
@@ -61,16 +61,16 @@ pub searches_then : {c : Config} {t u v : TurnState} {r s x : Tables} {limit : �
 searches_then one two = grind (arith, looks_then, grows_then)
 
 -- Looks before a part leave it.
-pub looks_search : {c : Config} {t u v : TurnState} {r s : Tables} {limit : ℕ} → LooksOn t u
+pub looks_search : {c : Config} {t u v : TurnState} {r s : Tables} {limit : ℕ} → LooksWhileStill t u
     → SearchesOn c u v r s limit → SearchesOn c t v r s limit
 looks_search {c} {s} {limit} on two = grind (arith, looks_then)
 
-pub view_search : {c : Config} {t u : TurnState} {r : Tables} {limit : ℕ} → LooksOn t u
+pub view_search : {c : Config} {t u : TurnState} {r : Tables} {limit : ℕ} → LooksWhileStill t u
     → IsSearch c (view_by t.pass) r limit → IsSearch c (view_by u.pass) r limit
 view_search {c} {r} {limit} on search = subst (λ (y : View). IsSearch c y r limit) (sym on.view) search
 
 pub part_noted : (c : Config) {t u : TurnState} (found : List (Option Found)) (value : View → ℕ) (limit : ℕ)
-    → LooksOn t u → IsNoted c (view_by u.pass) found (value (view_by u.pass)) limit
+    → LooksWhileStill t u → IsNoted c (view_by u.pass) found (value (view_by u.pass)) limit
     → IsNoted c (view_by t.pass) found (value (view_by t.pass)) limit
 part_noted c found value limit on noted = subst (λ (y : View). IsNoted c y found (value y) limit) on.view noted
 

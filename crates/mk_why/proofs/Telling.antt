@@ -1,6 +1,6 @@
 -- What is told after the looks, whatever others do.
 use Rattle.mk_why.proofs.Vocabulary.{AreOfKept, BeginApart, Config, Event, Found, IsHistory, IsListed, IsTold, ListsOn}
-use Rattle.mk_why.proofs.Vocabulary.{LooksOn, PassState, Storage, Tables, TurnState, View, WordsState, World, base_at}
+use Rattle.mk_why.proofs.Vocabulary.{LooksWhileStill, PassState, Storage, Tables, TurnState, View, WordsState, World, base_at}
 use Rattle.mk_why.proofs.Vocabulary.{is_kept, left, now_of, others_are_held, view_by, view_of, world_in, world_of}
 use Rattle.mk_why.proofs.Looks.{others_still}
 use Rattle.mk_laws.proofs.Vocabulary.{List, Option, ℕ, ap, append-nil, subst, sym, true, [], ◌++◌, ◌∙◌, ◌≡◌}
@@ -11,7 +11,7 @@ use Rattle.mk_why.specs.Searching.{IsExplored}
 use Rattle.mk_why.specs.Stops.{IsToldBefore}
 
 -- the two tables, of the view after the engine's marks
-pub told_by : {k : Config} {t u : TurnState} (a : Tables) {b d : Tables} → LooksOn t u
+pub told_by : {k : Config} {t u : TurnState} (a : Tables) {b d : Tables} → LooksWhileStill t u
     → IsExplored k (view_by t.pass) a.found.items → BeginApart (view_by t.pass) → b.found ≡ a.found
     → ListsOn k (view_by u.pass) b d
     → ((n : ℕ) → is_kept k (world_in (view_by u.pass)) n ≡ true → IsListed d.kept.items (base_at (view_by u.pass) n))
@@ -35,7 +35,7 @@ told_now tells p history told =
     subst (λ (es : List Event). tells p.table.config (left p.table.config es)) (append-nil p.seen)
     (told [] (nothing_of_others p) (subst (IsHistory p.table.config) (sym (append-nil p.seen)) history))
 
-module _ (tells : Config → World → Type 0) (k : WordsState) (t u : TurnState) (on : LooksOn t u)
+module _ (tells : Config → World → Type 0) (k : WordsState) (t u : TurnState) (on : LooksWhileStill t u)
     (history : IsHistory t.pass.table.config t.pass.seen) (told : IsToldOf tells t.pass) (same : t.pass.table ≡ k)
     (found : List (Option Found)) (kept : List (Option Storage))
     (tables : IsTold k.config found kept (view_by t.pass)) (turn : InTurn u.pass)

@@ -13,7 +13,7 @@ pub use Rattle.mk_why.specs.Entries.{AreEntriesBelow, IsLedBack}
 pub use Rattle.mk_why.specs.Listing.{AreOfKept, IsListed, IsTold, ListsOn}
 pub use Rattle.mk_why.specs.Searching.{AreWays, BeginApart, FindsMore, IsFirstWord, IsFound, IsFoundThrough, IsNoted}
 pub use Rattle.mk_why.specs.Searching.{IsSearch, IsSearched, IsWay, SearchesOn, entry_at, links_in, links_of}
-pub use Rattle.mk_why.specs.Stops.{IsStill, LooksOn, View, base_at, view_by, view_of, world_in}
+pub use Rattle.mk_why.specs.Stops.{IsStill, LooksWhileStill, View, base_at, view_by, view_of, world_in}
 pub use Rattle.mk_why.specs.declared.found.Found.{Found}
 pub use Rattle.mk_why.specs.declared.found.Storage.{Storage}
 pub use Rattle.mk_why.specs.declared.found.Way.TheVariants.{Link, Start}

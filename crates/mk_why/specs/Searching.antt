@@ -1,5 +1,5 @@
 -- The search for chains, breadth first: what its tables say of a view. Private functions alone cite these words.
-use Rattle.std.specs.Prelude.{◌≡◌, ℕ, ◌+◌, ◌*◌, ◌<◌, ◌≤◌, true, false, List, length, slice_index, slice_index_or}
+use Rattle.std.specs.Prelude.{◌≡◌, ℕ, ◌+◌, ◌-◌, ◌*◌, ◌/◌, ◌%◌, ◌<◌, ◌≤◌, nat_lt, if◌then◌else◌, true, false, List, length, slice_index, slice_index_or}
 use Rattle.std.specs.Prelude.{Option, Some, None}
 use Rattle.mk_geom.specs.StorageWords.{IsWordOf}
 use Rattle.mk_core.specs.declared.config.Config.{Config}
@@ -10,7 +10,7 @@ use Rattle.mk_core.specs.Touched.{PointsIntoAllocation}
 use Rattle.mk_words.specs.States.{TurnState}
 use Rattle.mk_why.specs.declared.found.Found.{Found}
 use Rattle.mk_why.specs.declared.found.Way.{Way}
-use Rattle.mk_why.specs.Stops.{world_in, LooksOn, View, base_at, view_by}
+use Rattle.mk_why.specs.Stops.{world_in, LooksWhileStill, View, base_at, view_by}
 use Rattle.mk_why.specs.declared.found.Way.TheVariants.{Start, Link}
 use Rattle.mk_why.specs.declared.kept.Root.{Root}
 use Rattle.mk_why.specs.declared.kept.Root.TheVariants.{Global, Register}
@@ -30,6 +30,11 @@ links_in None = 0
 abbrev pub root_word : Root → Word
 root_word (Register caller register) = word.Reg caller register
 root_word (Global global) = word.Global global
+
+-- the roots, by the numbers in whose order they are looked at: the registers, caller by caller, and then the globals
+abbrev pub root_numbered : ℕ → ℕ → Root
+root_numbered callers number =
+    if nat_lt number (8 * callers) then Register (number / 8) (number % 8) else Global (number - 8 * callers)
 
 -- An unreleased allocation begins at the heap word.
 pub record IsFirstWord (v : View) (base : ℕ) : Type 0 where
@@ -136,7 +141,7 @@ pub record FindsMore (r s : Tables) : Type 0 where
 
 -- Looks went on with the search, from one set of tables to another.
 pub record SearchesOn (c : Config) (t u : TurnState) (r s : Tables) (limit : ℕ) : Type 0 where
-  pub on : LooksOn t u
+  pub on : LooksWhileStill t u
   pub search : IsSearch c (view_by t.pass) s limit
   pub grows : FindsMore r s
 

@@ -52,7 +52,7 @@ is_look (step.Look x) = true
 is_look _ = false
 
 -- The holder of the turn has looked, and all is still.
-pub record LooksOn (t u : TurnState) : Type 0 where
+pub record LooksWhileStill (t u : TurnState) : Type 0 where
   pub table : u.pass.table ≡ t.pass.table
   pub does : Does is_look t.pass u.pass
   pub keeps : LeavesTurn but_phase t.pass u.pass

@@ -3,7 +3,7 @@ ghost use Rattle.std.specs.Prelude.{◌≡◌, ◌+◌, ◌*◌, ◌<◌, ◌≤
 ghost use Rattle.std.specs.Prelude.{slice_set};
 ghost use Rattle.mk_core.specs.{Allocations.{cell_of_allocation, placed_at}, Words.header_at};
 ghost use Rattle.mk_why.specs.{Chains.is_kept, Listing.{AreOfKept, IsListed, ListsOn}, Searching.entry_at};
-ghost use Rattle.mk_why.specs.Stops.{IsStill, LooksOn, base_at, view_by, world_in};
+ghost use Rattle.mk_why.specs.Stops.{IsStill, LooksWhileStill, base_at, view_by, world_in};
 
 use crate::found::Storage;
 use crate::stepping::look_at;
@@ -86,7 +86,7 @@ fn list_page(words: &Words, stop: &mut Stopped, tables: &mut Tables, page: u64)
     requires page { page < words.now.config.pages }
     requires size { length tables.old.kept.items ≡ 64 * words.now.config.pages }
     requires of_kept { AreOfKept words.now.config (view_by stop.old.pass) tables.old.kept.items }
-    ensures looks { LooksOn stop.old stop.new }
+    ensures looks { LooksWhileStill stop.old stop.new }
     ensures on { ListsOn words.now.config (view_by stop.old.pass) tables.old tables.new }
     ensures listed { (b : ℕ) → is_kept words.now.config (world_in (view_by stop.old.pass)) b ≡ true
         → (cell_of_allocation words.now.config (placed_at (view_by stop.old.pass).allocations b)).page ≡ page
@@ -113,7 +113,7 @@ pub(crate) fn list_kept(words: &Words, stop: &mut Stopped, tables: &mut Tables)
     requires still { IsStill stop.old.pass }
     requires size { length tables.old.kept.items ≡ 64 * words.now.config.pages }
     requires none { (base : ℕ) → entry_at tables.old.kept.items base ≡ None }
-    ensures looks { LooksOn stop.old stop.new }
+    ensures looks { LooksWhileStill stop.old stop.new }
     ensures on { ListsOn words.now.config (view_by stop.old.pass) tables.old tables.new }
     ensures each { (b : ℕ) → is_kept words.now.config (world_in (view_by stop.old.pass)) b ≡ true
         → IsListed tables.new.kept.items (base_at (view_by stop.old.pass) b) }

@@ -2,10 +2,11 @@
 //! were, so that each is found through the fewest links.
 ghost use Rattle.std.specs.Prelude.{◌≡◌, ◌+◌, ◌*◌, ◌<◌, ◌≤◌, ℕ, None, length, slice_index};
 ghost use Rattle.mk_core.specs.Touched.{PointsIntoAllocation};
-ghost use Rattle.mk_why.specs.{declared.kept.Root.TheVariants.{Register, Global}, Chains.{IsRoot, word_of_root}};
+ghost use Rattle.mk_why.specs.{declared.kept.Root.Root, Chains.{IsRoot, word_of_root}};
 ghost use Rattle.mk_why.specs.Searching.{AreScannedFrom, AreWays, FindsMore, IsSearched, IsExplored, IsFound};
 ghost use Rattle.mk_why.specs.Searching.{IsFoundThrough, IsNoted, IsSearch, IsWay, SearchesOn, entry_at, links_in};
-ghost use Rattle.mk_why.specs.{Searching.{links_of, root_word}, Stops.{IsStill, LooksOn, view_by, world_in}};
+ghost use Rattle.mk_why.specs.Searching.{links_of, root_numbered, root_word};
+ghost use Rattle.mk_why.specs.Stops.{IsStill, LooksWhileStill, view_by, world_in};
 
 use crate::found::{Found, Way};
 use crate::kept::Root;
@@ -65,48 +66,36 @@ fn search_root(words: &Words, stop: &mut Stopped, tables: &mut Tables, root: Roo
     note_value(words, stop, tables, value, Found { way, links: 0 });
 }
 
-/// Looks at a caller's registers.
-fn search_registers_of(words: &Words, stop: &mut Stopped, tables: &mut Tables, caller: u64)
-    requires one_table { stop.old.pass.table ≡ words.now }
-    requires still { IsStill stop.old.pass }
-    requires search { IsSearch words.now.config (view_by stop.old.pass) tables.old 0 }
-    requires caller { caller < words.now.config.callers }
-    ensures on { SearchesOn words.now.config stop.old stop.new tables.old tables.new 0 }
-    ensures noted { (register : ℕ) → register < 8
-        → IsNoted words.now.config (view_by stop.old.pass) tables.new.found.items
-        (word_of_root (view_by stop.old.pass).words (Register caller register)) 0 }
+/// The root of this number, where this many callers' registers come before the globals.
+fn root_numbered(callers: u64, number: u64) -> Root
+    requires { callers ≤ 16 }
+    ensures { result ≡ root_numbered callers number }
 {
-    for register in 0..REGISTERS {
-        search_root(words, stop, tables, Root::Register { caller, register });
+    let registers = REGISTERS * callers;
+    if number < registers {
+        Root::Register {
+            caller: number / REGISTERS,
+            register: number % REGISTERS,
+        }
+    } else {
+        Root::Global(number - registers)
     }
 }
 
-/// Looks at the registers of all callers.
-fn search_registers(words: &Words, stop: &mut Stopped, tables: &mut Tables)
+/// Looks at all roots.
+fn search_roots(words: &Words, stop: &mut Stopped, tables: &mut Tables)
     requires one_table { stop.old.pass.table ≡ words.now }
     requires still { IsStill stop.old.pass }
     requires search { IsSearch words.now.config (view_by stop.old.pass) tables.old 0 }
     ensures on { SearchesOn words.now.config stop.old stop.new tables.old tables.new 0 }
-    ensures noted { (caller : ℕ) → caller < words.now.config.callers → (register : ℕ) → register < 8
+    ensures noted { (root : Root) → IsRoot words.now.config root
         → IsNoted words.now.config (view_by stop.old.pass) tables.new.found.items
-        (word_of_root (view_by stop.old.pass).words (Register caller register)) 0 }
+        (word_of_root (view_by stop.old.pass).words root) 0 }
 {
-    for caller in 0..words.callers() {
-        search_registers_of(words, stop, tables, caller);
-    }
-}
-
-/// Looks at the globals.
-fn search_globals(words: &Words, stop: &mut Stopped, tables: &mut Tables)
-    requires one_table { stop.old.pass.table ≡ words.now }
-    requires still { IsStill stop.old.pass }
-    requires search { IsSearch words.now.config (view_by stop.old.pass) tables.old 0 }
-    ensures on { SearchesOn words.now.config stop.old stop.new tables.old tables.new 0 }
-    ensures noted { (global : ℕ) → global < 64 → IsNoted words.now.config (view_by stop.old.pass)
-        tables.new.found.items (word_of_root (view_by stop.old.pass).words (Global global)) 0 }
-{
-    for global in 0..GLOBALS {
-        search_root(words, stop, tables, Root::Global(global));
+    words.is_within_limits();
+    let callers = words.callers();
+    for number in 0..REGISTERS * callers + GLOBALS {
+        search_root(words, stop, tables, root_numbered(callers, number));
     }
 }
 
@@ -170,7 +159,7 @@ fn search_queue(words: &Words, stop: &mut Stopped, tables: &mut Tables)
     requires one_table { stop.old.pass.table ≡ words.now }
     requires still { IsStill stop.old.pass }
     requires search { IsSearch words.now.config (view_by stop.old.pass) tables.old 0 }
-    ensures on { LooksOn stop.old stop.new }
+    ensures on { LooksWhileStill stop.old stop.new }
     ensures size { length tables.new.found.items ≡ 64 * words.now.config.pages }
     ensures grows { FindsMore tables.old tables.new }
     ensures ways { AreWays words.now.config (view_by stop.old.pass) tables.new.found.items }
@@ -191,11 +180,10 @@ pub(crate) fn search(words: &Words, stop: &mut Stopped, tables: &mut Tables)
     requires size { length tables.old.found.items ≡ 64 * words.now.config.pages }
     requires none { (base : ℕ) → entry_at tables.old.found.items base ≡ None }
     requires empty { tables.old.count ≡ 0 }
-    ensures on { LooksOn stop.old stop.new }
+    ensures on { LooksWhileStill stop.old stop.new }
     ensures size { length tables.new.found.items ≡ 64 * words.now.config.pages }
     ensures explored { IsExplored words.now.config (view_by stop.old.pass) tables.new.found.items }
 {
-    search_registers(words, stop, tables);
-    search_globals(words, stop, tables);
+    search_roots(words, stop, tables);
     search_queue(words, stop, tables);
 }

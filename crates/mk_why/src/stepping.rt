@@ -2,7 +2,7 @@
 ghost use Rattle.std.specs.Prelude.{◌≡◌, true};
 ghost use Rattle.mk_core.specs.{Ranges.is_word, Words.named_word};
 ghost use Rattle.mk_tracing.specs.Stops.{is_still_word};
-ghost use Rattle.mk_why.specs.Stops.{IsStill, LooksOn, view_by};
+ghost use Rattle.mk_why.specs.Stops.{IsStill, LooksWhileStill, view_by};
 
 use mk_core::Word;
 use mk_words::{Stopped, Words};
@@ -13,7 +13,7 @@ pub(crate) fn look_at(words: &Words, stop: &mut Stopped, x: Word) -> u64
     requires still { IsStill stop.old.pass }
     requires word { is_word words.now.config x ≡ true }
     requires name { is_still_word x ≡ true }
-    ensures on { LooksOn stop.old stop.new }
+    ensures on { LooksWhileStill stop.old stop.new }
     ensures found { result ≡ named_word (view_by stop.old.pass).words x }
 {
     stop.is_in_order();

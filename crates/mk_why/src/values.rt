@@ -1,7 +1,7 @@
 //! What values point into, and which words of an allocation are scanned.
 ghost use Rattle.std.specs.Prelude.{◌≡◌, ◌+◌, ◌*◌, ◌≤◌, ℕ, true};
 ghost use Rattle.mk_core.specs.{Allocations.{placed_at, storage_words}, ClosedMarks.is_scanned_allocation};
-ghost use Rattle.mk_why.specs.{Searching.{AreScannedFrom, IsFirstWord, IsBasePointed}, Stops.{IsStill, LooksOn}};
+ghost use Rattle.mk_why.specs.{Searching.{AreScannedFrom, IsFirstWord, IsBasePointed}, Stops.{IsStill, LooksWhileStill}};
 ghost use Rattle.mk_why.specs.Stops.{base_at, view_by};
 
 use crate::stepping::look_at;
@@ -14,7 +14,7 @@ use mk_words::{Stopped, Words};
 pub(crate) fn base_pointed(words: &Words, stop: &mut Stopped, value: u64) -> Option<u64>
     requires one_table { stop.old.pass.table ≡ words.now }
     requires still { IsStill stop.old.pass }
-    ensures on { LooksOn stop.old stop.new }
+    ensures on { LooksWhileStill stop.old stop.new }
     ensures points { IsBasePointed words.now.config (view_by stop.old.pass) value result }
 {
     words.is_within_limits();
@@ -35,7 +35,7 @@ pub(crate) fn scanned_size(words: &Words, stop: &mut Stopped, base: u64) -> u64
     requires one_table { stop.old.pass.table ≡ words.now }
     requires still { IsStill stop.old.pass }
     requires base { IsFirstWord (view_by stop.old.pass) base }
-    ensures on { LooksOn stop.old stop.new }
+    ensures on { LooksWhileStill stop.old stop.new }
     ensures scanned { AreScannedFrom words.now.config (view_by stop.old.pass) base result }
     ensures whole { (b : ℕ) → base_at (view_by stop.old.pass) b ≡ base
         → is_scanned_allocation words.now.config (placed_at (view_by stop.old.pass).allocations b) ≡ true

@@ -1,10 +1,10 @@
-use Rattle.mk_why.proofs.Vocabulary.{FindsMore, IsSearch, IsSearched, LooksOn, links_of, view_by}
+use Rattle.mk_why.proofs.Vocabulary.{FindsMore, IsSearch, IsSearched, LooksWhileStill, links_of, view_by}
 use Rattle.mk_laws.proofs.Vocabulary.{ℕ, slice_index, ◌*◌, ◌+◌, ◌-◌, ◌<◌, ◌≤◌}
 use Rattle.mk_why.proofs.searching.search_queue.Given as goal
 
 abbrev pub invariant-loop-place : goal.invariant-loop-place
 invariant-loop-place l = record {
-  on : LooksOn l.fn.stop l.stop;
+  on : LooksWhileStill l.fn.stop l.stop;
   limit : ℕ;
   search : IsSearch l.words.config (view_by l.fn.stop.pass) l.tables limit;
   grows : FindsMore l.fn.tables l.tables;

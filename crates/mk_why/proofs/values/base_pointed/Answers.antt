@@ -1,5 +1,5 @@
 use Rattle.std.proofs.Math.Nat.{mul-le-mul}
-use Rattle.mk_why.proofs.Vocabulary.{Cell, LooksOn, now_of, view_by}
+use Rattle.mk_why.proofs.Vocabulary.{Cell, LooksWhileStill, now_of, view_by}
 use Rattle.mk_why.proofs.Looks.{looks_for_cell, looks_then, may_look_at_headers}
 use Rattle.mk_why.proofs.Pointed.{none_at, none_at_unused, some_at_used}
 use Rattle.mk_why.proofs.values.base_pointed.Goals.{After-cell_pointed, In-Some}
@@ -13,7 +13,7 @@ cell_pointed-requires-clause-may c = grind (arith, may_look_at_headers, in_turn)
 
 -- what looking for the cell leaves, and what the value points into by the view as it was
 
-looks : (c : After-cell_pointed) → LooksOn c.args.stop.now c.cell_pointed.new.turn
+looks : (c : After-cell_pointed) → LooksWhileStill c.args.stop.now c.cell_pointed.new.turn
 looks c = looks_for_cell c.cell_pointed.ensures.looks c.is_in_order.ensures.gates c.requires.still
 
 here : (c : After-cell_pointed) (cell : Option Cell)
