@@ -39,7 +39,7 @@ ready_state {s} ready history =
     }
 
 -- What holds of the operation that is asked
-pub of_asked : (P : Op → Type 0) {o : Op} → x ≡ Some o → IfSome x P → P o
+pub of_asked : (P : Op → Type 0) {x : Option Op} {o : Op} → x ≡ Some o → IfSome x P → P o
 of_asked P is h = subst (λ (y : Option Op). IfSome y P) is h
 
 pub may_ask : {s : CallerState} (t : Point) {o : Op} → IsReady s → IsHistory s.pass.table.config s.pass.seen
