@@ -11,7 +11,7 @@ use Rattle.mk_core.specs.History.{IsHistory}
 use Rattle.mk_core.specs.Order.{group_of}
 use Rattle.mk_turns.specs.Doing.{are_of, done_in}
 use Rattle.mk_words.specs.States.{PassState}
-use Rattle.mk_caller.specs.States.{CallerState, caller_of_pass, Admits}
+use Rattle.mk_caller.specs.States.{caller_of_pass, Admits}
 use Rattle.mk_caller.specs.Called.{own_calls, Called}
 use Rattle.mk_caller.specs.Causes.{FindsGateHeld}
 use Rattle.mk_alloc.specs.Laws.{OwnAreExact}
@@ -41,13 +41,6 @@ abbrev pub IsAdmittedByOwnCalls : PassState → Op → Type 0
 IsAdmittedByOwnCalls p o =
     (es : List Event) → IsHistory p.table.config es → own_calls p es ≡ own_calls p p.seen
     → Admits (record p { seen = es }) o
-
--- The caller may take the turn, with an engine for a heap of this many pages.
-pub record MayTakeTurn (pages : ℕ) (s : CallerState) : Type 0 where
-  pub home : s.home ≡ true
-  pub exists : caller_of_pass s.pass < s.pass.table.config.callers
-  pub alone : s.pass.seats ≡ s.pass.seat ∷ []
-  pub made_for : pages ≡ s.pass.table.config.pages
 
 -- the steps of calls that need no turn
 abbrev pub is_of_callers : Group → Bool

@@ -6,7 +6,7 @@ ghost use Rattle.mk_caller.specs.{Causes.{FindsGateHeld, IsRefused}, Moves.is_ac
 ghost use Rattle.mk_turns.specs.Sweeping.{SweepsNothing};
 ghost use Rattle.mk_cycle.specs.Begun.{EachIsBegun};
 ghost use Rattle.mk_run.specs.Scripts.{IsCalled, IsAdmittedByOwnCalls, Answers, AsksFor, AsksBesideTurns, IsPutOff};
-ghost use Rattle.mk_run.specs.Scripts.{MayTakeTurn, StaysBeside};
+ghost use Rattle.mk_run.specs.Scripts.{StaysBeside};
 
 use mk_alloc::{free_object, new_object};
 use mk_caller::{Caller, Refusal};
@@ -117,37 +117,6 @@ fn call_until_open<R: Wait>(rt: &R, caller: &mut Caller, op: Op) -> Answer
     unreachable!()
 }
 
-/// A New or a Free, in one turn.
-#[inline(always)]
-fn answer_in_turn<E: Engine, R: Threads + Wait + Sync>(
-    rt: &R,
-    caller: &mut Caller,
-    engine: &mut E,
-    op: Op,
-) -> Answer
-    requires may { MayTakeTurn (E.made_for engine.old) caller.old }
-    requires turn { is_under_turn op ≡ true }
-    requires admitted { Admits caller.old.pass op }
-    ensures home { caller.new.home ≡ true }
-    ensures made_for { E.made_for engine.new ≡ E.made_for engine.old }
-    ensures answers { Answers E.on caller.old.pass op result caller.new.pass }
-    ensures reached { E.sweeps ≡ false → SweepsNothing caller.old.pass caller.new.pass }
-    ensures begun { EachIsBegun E.begins caller.old.pass caller.new.pass }
-{
-    caller.is_idle();
-    match op {
-        Op::New { d, ty, .. } => match new_object(rt, caller, engine, d, ty) {
-            Ok(()) => Answer::Done,
-            Err(_) => Answer::Full,
-        },
-        Op::Free { p } => match free_object(rt, caller, engine, p) {
-            Ok(_) => Answer::Done,
-            Err(_) => Answer::Double,
-        },
-        _ => unreachable!(),
-    }
-}
-
 /// Carries out an operation, and returns its answer; none where its gate is held. Which pointer was loaded isn't
 /// reported.
 #[inline(always)]
@@ -173,7 +142,14 @@ pub fn answer_now<E: Engine, R: Threads + Wait + Sync>(
 {
     caller.is_idle();
     match op {
-        Op::New { .. } | Op::Free { .. } => Ok(answer_in_turn(rt, caller, engine, op)),
+        Op::New { d, ty, .. } => match new_object(rt, caller, engine, d, ty) {
+            Ok(()) => Ok(Answer::Done),
+            Err(_) => Ok(Answer::Full),
+        },
+        Op::Free { p } => match free_object(rt, caller, engine, p) {
+            Ok(_) => Ok(Answer::Done),
+            Err(_) => Ok(Answer::Double),
+        },
         _ => match call(caller, op) {
             Ok(told) => Ok(told),
             Err(held) => Err(held),
@@ -256,18 +232,33 @@ pub(crate) fn answer_put_off<E: Engine, R: Threads + Wait + Sync>(
     feed: &Feed,
     op: Op,
 ) -> Answer
-    requires may { MayTakeTurn (E.made_for engine.old) caller.old }
+    requires home { caller.old.home ≡ true }
+    requires exists { caller_of_pass caller.old.pass < caller.old.pass.table.config.callers }
+    requires alone { caller.old.pass.seats ≡ caller.old.pass.seat ∷ [] }
     requires asks { AsksFor feed.now op }
     requires admitted { IsAdmittedByOwnCalls caller.old.pass op }
+    requires made_for { E.made_for engine.old ≡ caller.old.pass.table.config.pages }
     ensures home { caller.new.home ≡ true }
     ensures made_for { E.made_for engine.new ≡ E.made_for engine.old }
     ensures answers { Answers E.on caller.old.pass op result caller.new.pass }
     ensures reached { E.sweeps ≡ false → SweepsNothing caller.old.pass caller.new.pass }
     ensures begun { EachIsBegun E.begins caller.old.pass caller.new.pass }
 {
-    caller.is_idle();
     match op {
-        Op::New { .. } | Op::Free { .. } => answer_in_turn(rt, caller, engine, op),
+        Op::New { d, ty, .. } => {
+            caller.is_idle();
+            match new_object(rt, caller, engine, d, ty) {
+                Ok(()) => Answer::Done,
+                Err(_) => Answer::Full,
+            }
+        }
+        Op::Free { p } => {
+            caller.is_idle();
+            match free_object(rt, caller, engine, p) {
+                Ok(_) => Answer::Done,
+                Err(_) => Answer::Double,
+            }
+        }
         _ => answer_when_open(rt, caller, feed),
     }
 }

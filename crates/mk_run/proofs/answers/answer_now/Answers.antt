@@ -1,24 +1,41 @@
 use Rattle.mk_laws.proofs.Vocabulary.{Answer, false, is_under_turn, refl, ◌≡◌}
 use Rattle.mk_run.proofs.Vocabulary.{calls_sweep_nothing, rules, sweep_nothing_where_held}
-use Rattle.mk_run.proofs.ScriptCalls.{answered_by_call, makes_none}
+use Rattle.mk_run.proofs.ScriptCalls.{answered_by_call, answered_free, answered_new, makes_none, type_exists}
 use Rattle.mk_run.proofs.KeptScripts.{beside_begun}
 use Rattle.mk_run.proofs.answers.answer_now.Goals as goal
 
-pub answer_in_turn-requires-clause-may : goal.answer_in_turn-requires-clause-may
-answer_in_turn-requires-clause-may g c κs within = record {
-  home = c.requires.home;
-  exists = c.requires.exists;
-  alone = c.requires.alone;
-  made_for = c.requires.made_for;
-}
+pub new_object-requires-clause-ty : goal.new_object-requires-clause-ty
+new_object-requires-clause-ty g c κs within =
+    type_exists c.args.caller.now.pass c.args.op c.in-New.d c.in-New.ty c.in-New.full c.in-New.is c.requires.admitted
 
-pub returns-in-Ok : goal.returns-in-Ok
-returns-in-Ok g c =
+pub returns-in-Ok-clause-answers : goal.returns-in-Ok-clause-answers
+returns-in-Ok-clause-answers g c =
+    answered_new g.E.Engine.on c.args.caller.now.pass c.args.op c.in-New.d c.in-New.ty c.in-New.full Answer.Done
+    c.new_object.new.caller.pass c.is_idle.ensures.own c.in-New.is c.in-Ok.ensures.made
+
+pub returns-in-Err-clause-answers : goal.returns-in-Err-clause-answers
+returns-in-Err-clause-answers g c =
+    answered_new g.E.Engine.on c.args.caller.now.pass c.args.op c.in-New.d c.in-New.ty c.in-New.full Answer.Full
+    c.new_object.new.caller.pass c.is_idle.ensures.own c.in-New.is c.in-Err.ensures.full.called
+
+pub returns-in-Ok-free_object-clause-answers : goal.returns-in-Ok-free_object-clause-answers
+returns-in-Ok-free_object-clause-answers g c =
+    answered_free g.E.Engine.on c.args.caller.now.pass c.args.op c.in-Free.p Answer.Done
+    c.free_object.new.caller.pass c.is_idle.ensures.own c.in-Free.is c.in-Ok-free_object.ensures.freed.called
+
+pub returns-in-Err-free_object-clause-answers : goal.returns-in-Err-free_object-clause-answers
+returns-in-Err-free_object-clause-answers g c =
+    answered_free g.E.Engine.on c.args.caller.now.pass c.args.op c.in-Free.p Answer.Double
+    c.free_object.new.caller.pass c.is_idle.ensures.own c.in-Free.is c.in-Err-free_object.ensures.double.called
+
+pub returns-in-Ok-call : goal.returns-in-Ok-call
+returns-in-Ok-call g c =
     let p = c.args.caller.now.pass in
     let q = c.call.new.caller.pass in
-    let called = c.in-Ok.ensures.called in
+    let called = c.in-Ok-call.ensures.called in
     let entered : is_under_turn c.args.op ≡ false = search rules in
-    let answers = answered_by_call g.E.Engine.on p c.args.op _ q c.is_idle.ensures.own entered called in
+    let answers =
+    answered_by_call g.E.Engine.on p c.args.op _ q c.is_idle.ensures.own entered called in
     record {
       home = c.call.ensures.home;
       made_for = refl;
@@ -30,11 +47,11 @@ returns-in-Ok g c =
       begun = beside_begun g.E.Engine.begins p q (answers.beside entered);
     }
 
-pub returns-in-Err : goal.returns-in-Err
-returns-in-Err g c =
+pub returns-in-Err-call : goal.returns-in-Err-call
+returns-in-Err-call g c =
     let p = c.args.caller.now.pass in
     let q = c.call.new.caller.pass in
-    let held = c.in-Err.ensures.held in
+    let held = c.in-Err-call.ensures.held in
     let entered : is_under_turn c.args.op ≡ false = search rules in
     let none = makes_none g.E.Engine.on p c.args.op q held in
     record {

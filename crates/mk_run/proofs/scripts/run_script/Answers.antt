@@ -70,17 +70,20 @@ answer_put_off-answer-requires-clause-asks g c κs within = record {
   next = λ program k answers fed. sym (c.in-Some.ensures.next program k answers fed);
 }
 
-pub answer_put_off-answer-requires-clause-may : goal.answer_put_off-answer-requires-clause-may
-answer_put_off-answer-requires-clause-may g c κs within =
-    let is = put_off g (goal.at.answer_put_off-answer-requires-clause-may g c).In-None in
-    record {
-      home = c.answer_at_once.ensures.home;
-      exists = exists_on c.args.caller.now.pass c.answer_at_once.new.caller.pass c.args.k c.args.program.now is
-          c.requires.number c.requires.script c.requires.config;
-      alone = subst (λ (q : PassState). q.seats ≡ q.seat ∷ []) (sym is) c.requires.alone;
-      made_for = c.instructions.invariant.made_for ∙ c.requires.ready.engine
-          ∙ ap (λ (q : PassState). q.table.config.pages) (sym is);
-    }
+pub answer_put_off-answer-requires-clause-exists : goal.answer_put_off-answer-requires-clause-exists
+answer_put_off-answer-requires-clause-exists g c κs within =
+    let x = goal.at.answer_put_off-answer-requires-clause-exists g c in
+    exists_on c.args.caller.now.pass c.answer_at_once.new.caller.pass c.args.k c.args.program.now
+    (put_off g x.In-None) c.requires.number c.requires.script c.requires.config
+
+pub answer_put_off-answer-requires-clause-alone : goal.answer_put_off-answer-requires-clause-alone
+answer_put_off-answer-requires-clause-alone g c κs within = grind (arith, put_off)
+
+pub answer_put_off-answer-requires-clause-made_for : goal.answer_put_off-answer-requires-clause-made_for
+answer_put_off-answer-requires-clause-made_for g c κs within =
+    let x = goal.at.answer_put_off-answer-requires-clause-made_for g c in
+    c.instructions.invariant.made_for ∙ c.requires.ready.engine
+    ∙ ap (λ (q : PassState). q.table.config.pages) (sym (put_off g x.In-None))
 
 pub instructions-smaller : goal.instructions-smaller
 instructions-smaller g c = omega (arith, c.in_ok-take_answer.ensures.ops, c.instructions-test.true)
