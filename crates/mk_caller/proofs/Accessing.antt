@@ -37,19 +37,14 @@ pub refuses : {p q r : PassState} (d : ℕ) → (call_of p).stage ≡ stage_refu
 refuses {p} {r} d at is a b =
     let put : stage_refused (call_of p).op ≡ Stage.Put = (refused_puts (call_of p).op d is).0 in
     let here : (call_of p).stage ≡ Stage.Put = at ∙ put in
-    subst (λ (s : Stage). IsAtFlight p (call_of p).op (map step_at (refused_from s)) None at_rest r) (sym put)
-    (subst (λ (s : Stage). IsAtFlight p (call_of p).op (Step.Reg ∷ Step.Leave ∷ [])
-    (progress_reg (call_of p) s 0).answer at_rest r) here (stores_and_leaves 0
-    (ap (λ (s : Stage). stores_register s) here) a b))
+    rw put (rw here at (stores_and_leaves 0 (rw here refl) a b))
 
 loaded : {p q r : PassState} {o : Op} (u : ℕ) (x : Progress) → progress_reg (begun o) (begun o).stage u ≡ x
     → IsAtFlight p o (Step.Enter o ∷ []) None (begun o) q
     → IsAtFlight q (call_of q).op (Step.Reg ∷ []) (progress_reg (call_of q) (call_of q).stage u).answer
     (progress_reg (call_of q) (call_of q).stage u).flight r
     → IsAtFlight p o (Step.Enter o ∷ Step.Reg ∷ []) x.answer x.flight r
-loaded {p} {r} {o} u x is a b =
-    subst (λ (y : Progress). IsAtFlight p o (Step.Enter o ∷ Step.Reg ∷ []) y.answer y.flight r) is
-    (go a (λ (f : Flight). progress_reg f f.stage u) refl b)
+loaded {p} {r} {o} u x is a b = rw is at (go a (λ (f : Flight). progress_reg f f.stage u) refl b)
 
 pub begins : {p q r : PassState} {o : Op} (u : ℕ) → is_access o ≡ true → u ≢ 0
     → IsAtFlight p o (Step.Enter o ∷ []) None (begun o) q
@@ -67,21 +62,17 @@ pub null_ends : {p q r s : PassState} {o : Op} (u : ℕ) → is_access o ≡ tru
 null_ends {q} {r} {s} {o} u access zero a b e =
     let x = loaded u (refused (record (begun o) { q = 0 }) Answer.Null)
     (ap (λ n. progress_reg (begun o) (begun o).stage n) zero ∙ access_finds_null o access) a b in
-    let same : (call_of r).op ≡ o = ap (λ (f : Flight). f.op) x.call in
-    called (on_to x (subst (λ (y : Op). IsAtFlight r y (refused_steps y) None at_rest s) same e)) (null_steps o access)
+    called (on_to x (rw (ap (λ (f : Flight). f.op) x.call) at e)) (null_steps o access)
 
 pub null_value : {p q : PassState} {o : Op} {ss : List Step} {f : Flight} (r : ℕ) → MayBeginCall p o
     → is_access o ≡ true
     → r ≡ q_of o → IsAtFlight p o ss None f q
     → value_of q r ≡ NullValue → value_of p (q_of o) ≡ NullValue
 null_value {p} {q} {o} r ready access is a null =
-    sym (value_kept a.makes (q_of o) (access_is_small (never_of p) o access ready.admits.in_range))
-    ∙ ap (λ x. value_of q x) (sym is) ∙ null
+    cc (value_kept a.makes (q_of o) (access_is_small (never_of p) o access ready.admits.in_range))
 
 pub fault_ends : {p q r : PassState} → IsAtFlight p (call_of p).op (Step.Probe ∷ []) (Some Answer.Fault)
     (refused (call_of p) Answer.Fault).flight q
     → IsAtFlight q (call_of q).op (refused_steps (call_of q).op) None at_rest r
     → IsAtFlight p (call_of p).op (Step.Probe ∷ refused_steps (call_of p).op) (Some Answer.Fault) at_rest r
-fault_ends {p} {q} {r} a e =
-    let same : (call_of q).op ≡ (call_of p).op = ap (λ (f : Flight). f.op) a.call in
-    on_to a (subst (λ (y : Op). IsAtFlight q y (refused_steps y) None at_rest r) same e)
+fault_ends a e = on_to a (rw (ap (λ (f : Flight). f.op) a.call) at e)

@@ -20,14 +20,12 @@ pub go : {p q r : PassState} {o : Op} {ss ts : List Step} {f : Flight} → IsAtF
     → f.op ≡ o
     → IsAtFlight q (call_of q).op ts (X (call_of q)).answer (X (call_of q)).flight r
     → IsAtFlight p o (ss ++ ts) (X f).answer (X f).flight r
-go {q} {r} {o} {ts} {f} a X same b =
-    let makes : MakesSteps q o ts (X f).answer r = subst (λ (y : Op). MakesSteps q y ts (X f).answer r) same
-    (subst (λ (g : Flight). MakesSteps q g.op ts (X g).answer r) a.call b.makes) in
-    record {
-      makes = joined a.makes makes;
-      call = b.call ∙ ap (λ (g : Flight). (X g).flight) a.call;
-      underway = b.underway;
-    }
+go {q} {r} {ts} {f} a X same b = record {
+  makes =
+      joined a.makes (subst (λ (y : Op). MakesSteps q y ts (X f).answer r) same (rw a.call at b.makes));
+  call = b.call ∙ ap (λ (g : Flight). (X g).flight) a.call;
+  underway = b.underway;
+}
 
 -- and of one that is
 -- a probe that finds the page mapped
@@ -40,11 +38,10 @@ pub go_on : {p q r : PassState} {o : Op} {ss ts : List Step} {a : Answer} {f : F
     → (X f).answer ≡ None → IsAtFlight q (call_of q).op ts (X (call_of q)).answer (X (call_of q)).flight r
     → IsAtFlight p o (ss ++ ts) (Some a) (X f).flight r
 go_on {q} {r} {o} {ts} {f} before X same none b =
-    let makes : MakesSteps q o ts None r =
-    subst (λ (y : Option Answer). MakesSteps q o ts y r) none (subst (λ (y : Op). MakesSteps q y ts (X f).answer r) same
-    (subst (λ (g : Flight). MakesSteps q g.op ts (X g).answer r) before.call b.makes)) in
+    let makes : MakesSteps q o ts (X f).answer r =
+    subst (λ (y : Op). MakesSteps q y ts (X f).answer r) same (rw before.call at b.makes) in
     record {
-      makes = joined_on before.makes makes;
+      makes = joined_on before.makes (rw none at makes);
       call = b.call ∙ ap (λ (g : Flight). (X g).flight) before.call;
       underway = b.underway;
     }
@@ -87,27 +84,23 @@ stores v f = record { flight = at_rest; answer = (loads v f).answer }
 
 pub called : {p r : PassState} {o : Op} {ss : List Step} {a : Answer} → IsAtFlight p o ss (Some a) at_rest r
     → ss ≡ steps_made o a → Called p o a r
-called at steps =
-    record {
-      more = at.makes.more;
-      is = at.makes.is;
-      steps = at.makes.steps ∙ steps;
-      entry = at.makes.entry;
-      decided = at.makes.decided;
-      rest = at.call;
-    }
+called at steps = record {
+  more = at.makes.more;
+  is = at.makes.is;
+  steps = at.makes.steps ∙ steps;
+  entry = at.makes.entry;
+  decided = at.makes.decided;
+  rest = at.call;
+}
 
 -- While nothing is decided the caller's registers keep their values.
 pub keeps : {p q : PassState} {o : Op} {ss : List Step} → MakesSteps p o ss None q
     → KeepsRegisters (caller_of_pass p) (never_of p) (never_of q)
-keeps {p} m =
-    subst (λ (x : PassState). KeepsRegisters (caller_of_pass p) (never_of p) (never_of x)) (sym m.is) m.decided
+keeps m = rw m.is m.decided
 
 pub value_kept : {p q : PassState} {o : Op} {ss : List Step} → MakesSteps p o ss None q → (r : ℕ) → r < 8
     → value_of q r ≡ value_of p r
-value_kept {q} m r lt =
-    ap (λ (x : PassState). Rattle.mk_never.specs.NeverHeap.register_at (never_of q) (caller_of_pass x) r) m.is
-    ∙ keeps m r lt
+value_kept {q} m r lt = cc (m.is, keeps m r lt)
 
 -- a probe of the later steps
 pub probes_from : {p q r : PassState} {o : Op} {ss : List Step} {t : Target} → MakesSteps p o ss None q → q_of o < 8
@@ -124,11 +117,7 @@ probes_from {p} {r} {o} {t} m lt probes =
           before = m1 ++ x.before;
           behind = x.behind;
           is = x.is ∙ ap (λ (l : List Event). l ++ event_of p Step.Probe ∷ x.behind) join;
-          gets_to =
-              subst (λ (v : Value). target_of (never_behind p.table.config (p.seen ++ (m1 ++ x.before))) v
-              (i_of o) ≡ t) (keeps (q_of o) lt)
-              (subst (λ (l : List Event). target_of (never_behind p.table.config l)
-              (value_of (record p { seen = p.seen ++ m1 }) (q_of o)) (i_of o) ≡ t) join x.gets_to);
+          gets_to = cc (keeps (q_of o) lt, join, x.gets_to);
         }
 
 -- facts of operations
@@ -154,9 +143,7 @@ refused_puts _ e h = cc
 some_for : (o : Op) (u : ℕ) → u ≢ 0
     → (if u == 0 then refused (record (begun o) { q = u }) Answer.Null else onward (record (begun o) { q = u }) None)
     ≡ onward (record (begun o) { q = u }) None
-some_for o u ne =
-    ap (λ (b : Bool). if b then refused (record (begun o) { q = u }) Answer.Null else onward
-    (record (begun o) { q = u }) None) (ne_eqb u 0 ne)
+some_for o u ne = rw (ne_eqb u 0 ne) refl
 
 pub access_finds_some : (o : Op) (u : ℕ) → is_access o ≡ true → u ≢ 0
     → progress_reg (begun o) (begun o).stage u ≡ onward (record (begun o) { q = u }) None
@@ -174,30 +161,26 @@ sees_more x = record { more = x.makes.more; is = ap (λ (s : PassState). s.seen)
 
 pub sees_further : {q r s : PassState} {o : Op} {ts : List Step} {a : Option Answer} {f : Flight} → SeesMore q r
     → IsAtFlight r o ts a f s → SeesMore q s
-sees_further {q} g x =
-    record {
-      more = g.more ++ x.makes.more;
-      is = ap (λ (s : PassState). s.seen) x.makes.is ∙ ap (λ (l : List Event). l ++ x.makes.more) g.is
-          ∙ append_assoc q.seen g.more x.makes.more;
-    }
+sees_further {q} g x = record {
+  more = g.more ++ x.makes.more;
+  is = cc (x.makes.is, g.is, append_assoc q.seen g.more x.makes.more);
+}
 
 -- a probe of earlier steps
 pub probes_on : {p q r : PassState} {o : Op} {t : Target} → Probes p o q t → SeesMore q r → Probes p o r t
-probes_on {p} x g =
-    record {
-      before = x.before;
-      behind = x.behind ++ g.more;
-      is = g.is ∙ ap (λ (l : List Event). l ++ g.more) x.is
-          ∙ append_assoc (p.seen ++ x.before) (event_of p Step.Probe ∷ x.behind) g.more;
-      gets_to = x.gets_to;
-    }
+probes_on {p} x g = record {
+  before = x.before;
+  behind = x.behind ++ g.more;
+  is = cc (g.is, x.is, append_assoc (p.seen ++ x.before) (event_of p Step.Probe ∷ x.behind) g.more);
+  gets_to = x.gets_to;
+}
 
 -- The call's access got to a word at its probe.
 pub reached : {p q s r : PassState} {o : Op} {ss : List Step} {f : Flight} → MayBeginCall p o → is_access o ≡ true
     → IsAtFlight p o ss None f q → f.op ≡ o
     → ProbesAWord q (call_of q).op s → SeesMore s r → ProbesAWord p o r
 reached {p} {q} {s} {o} ready access a same x g =
-    let y : ProbesAWord q o s = subst (λ (y : Op). ProbesAWord q y s) (ap (λ (f : Flight). f.op) a.call ∙ same) x in
+    let y : ProbesAWord q o s = rw (ap (λ (f : Flight). f.op) a.call ∙ same) at x in
     record {
       number = y.number;
       place = y.place;
@@ -213,9 +196,6 @@ pub faults : {p q r : PassState} {o : Op} {ss : List Step} {f : Flight} → MayB
     → Called p o Answer.Fault r × Probes p o r Unmapped
 faults {p} {q} {r} {o} ready access a same steps b x =
     let is : (call_of q).op ≡ o = ap (λ (f : Flight). f.op) a.call ∙ same in (
-      called (to a (subst (λ (y : Op). IsAtFlight q y (Step.Probe ∷ refused_steps y) (Some Answer.Fault) at_rest r) is
-          b))
-          steps,
-      probes_from a.makes (access_is_small (never_of p) o access ready.admits.in_range)
-          (subst (λ (y : Op). Probes q y r Unmapped) is x),
+      called (to a (rw is at b)) steps,
+      probes_from a.makes (access_is_small (never_of p) o access ready.admits.in_range) (rw is at x),
     )

@@ -62,8 +62,7 @@ pub idly_admitted : (p : PassState) (s : Step) → IsHistory p.table.config p.se
     → answer_decided p.table.config (now_of p) (event_of p s) ≡ None → IsAdmittedTo p s
 idly_admitted p s h on none =
     (goes_on_by p.table.config p.seen (event_of p s) h on
-    (subst (λ (a : Option Answer). AreAdmitted p.table.config.globals (never_of p)
-    (asked (entry_of (caller_of_pass p) (call_of p).op a))) (sym none) tt)).admitted
+    (rw none tt)).admitted
 
 pub put_decides_nothing : (p : PassState) (k : ℕ) → p.seat ≡ Caller k → (call_of p).stage ≡ Stage.Put
     → answer_decided p.table.config (now_of p) (event_of p Step.Reg) ≡ None
@@ -107,8 +106,7 @@ pub enter_enabled : {p : PassState} {o : Op} → IsHistory p.table.config p.seen
 enter_enabled {p} {o} h ready =
     let st = stands p.table.config p.seen h in
     enabled p (Step.Enter o) ready.caller ready.seat (caller_exists p ready.caller h ready.seat ready.admits) refl
-    (subst (λ (f : Flight). comes_next f.stage f.op (Step.Enter o) ≡ true) (sym ready.rest)
-    (ap Rattle.std.specs.Prelude.not ready.entered))
+    (rw ready.rest (ap Rattle.std.specs.Prelude.not ready.entered))
     (operands p.table.config (never_of p) o st.all.mirrors.global_count ready.entered ready.admits.in_range)
 
 -- A register of the call in flight is one of the eight.

@@ -26,7 +26,6 @@ held {p} {o} q (Err e) ready finds stays =
     record {
       finds = finds;
       entries = ap (λ (r : PassState). own_calls p r.seen) m.is ∙ m.entry ∙ append-nil (own_calls p p.seen);
-      registers = subst (λ (r : PassState). Rattle.mk_never.specs.Laws.KeepsRegisters (caller_of_pass p) (never_of p)
-          (never_of r)) (sym m.is) m.decided;
+      registers = rw m.is m.decided;
       rest = stays.call ∙ ready.rest;
     }

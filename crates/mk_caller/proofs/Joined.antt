@@ -37,18 +37,11 @@ decided_later p {o} {a} m1 {m2} keeps d =
       event = d.event;
       behind = d.behind;
       is = ap (λ (l : List Event). m1 ++ l) d.is ∙ sym (append_assoc m1 d.before (d.event ∷ d.behind));
-      decides = subst (λ (l : List Event). call_decided c (left c l).now d.event
-          ≡ entry_of (caller_of_pass p) o (Some a)) join d.decides;
-      reply = subst (λ (l : List Event). a ≡ answer_of (bases_of (left c (l ++ d.event ∷ [])).allocations)
-          (reply_of (never_behind c l) (caller_of_pass p) o)) join d.reply;
+      decides = cc (join, d.decides);
+      reply = cc (join, d.reply);
       known = keeps_both (caller_of_pass p) (never_of p) (never_behind c (p.seen ++ m1))
-          (never_behind c (p.seen ++ (m1 ++ d.before))) keeps (subst (λ (l : List Event). KeepsRegisters
-          (caller_of_pass p) (never_behind c (p.seen ++ m1)) (never_behind c l)) join d.known);
-      left_so =
-          subst (λ (l : List Event). KeepsRegisters (caller_of_pass p)
-          (after_op (never_behind c (p.seen ++ (m1 ++ d.before))) (caller_of_pass p) o) (never_behind c l))
-          (append_assoc p.seen m1 m2) (subst (λ (l : List Event). KeepsRegisters (caller_of_pass p)
-          (after_op (never_behind c l) (caller_of_pass p) o) (never_behind c ((p.seen ++ m1) ++ m2))) join d.left_so);
+          (never_behind c (p.seen ++ (m1 ++ d.before))) keeps (rw join at d.known);
+      left_so = rw (append_assoc p.seen m1 m2) at (rw join at d.left_so);
     }
 
 -- or of the earlier ones
@@ -65,22 +58,17 @@ decided_before {p} {o} {m1} m2 d keeps =
       decides = d.decides;
       reply = d.reply;
       known = d.known;
-      left_so =
-          subst (λ (l : List Event). KeepsRegisters (caller_of_pass p)
-          (after_op (never_behind c (p.seen ++ d.before)) (caller_of_pass p) o) (never_behind c l))
-          (append_assoc p.seen m1 m2)
-          (keeps_both (caller_of_pass p) (after_op (never_behind c (p.seen ++ d.before)) (caller_of_pass p) o)
-          (never_behind c (p.seen ++ m1)) (never_behind c ((p.seen ++ m1) ++ m2)) d.left_so keeps);
+      left_so = rw (append_assoc p.seen m1 m2) at (keeps_both (caller_of_pass p)
+          (after_op (never_behind c (p.seen ++ d.before)) (caller_of_pass p) o) (never_behind c (p.seen ++ m1))
+          (never_behind c ((p.seen ++ m1) ++ m2)) d.left_so keeps);
     }
 
 decided_as_later : (p : PassState) (o : Op) (a : Option Answer) (m1 m2 : List Event)
     → KeepsRegisters (caller_of_pass p) (never_of p) (never_behind p.table.config (p.seen ++ m1))
     → IsDecidedAs (seen_more p m1) o a m2 → IsDecidedAs p o a (m1 ++ m2)
 decided_as_later p o None m1 m2 keeps d =
-    subst (λ (l : List Event). KeepsRegisters (caller_of_pass p) (never_of p) (never_behind p.table.config l))
-    (append_assoc p.seen m1 m2)
-    (keeps_both (caller_of_pass p) (never_of p) (never_behind p.table.config (p.seen ++ m1))
-    (never_behind p.table.config ((p.seen ++ m1) ++ m2)) keeps d)
+    rw (append_assoc p.seen m1 m2) at (keeps_both (caller_of_pass p) (never_of p)
+    (never_behind p.table.config (p.seen ++ m1)) (never_behind p.table.config ((p.seen ++ m1) ++ m2)) keeps d)
 decided_as_later p o (Some a) m1 m2 keeps d = decided_later p m1 keeps d
 
 is_joined : (p r : PassState) (m1 m2 : List Event) → r ≡ record p { seen = (p.seen ++ m1) ++ m2 }
@@ -93,37 +81,29 @@ steps_then : {p : PassState} {o : Op} {ss ts : List Step} {a b : Option Answer} 
     → own_calls p (p.seen ++ m1) ++ entry_of (caller_of_pass p) o b
     ≡ own_calls p p.seen ++ entry_of (caller_of_pass p) o a
     → IsDecidedAs p o a (m1 ++ second.more) → MakesSteps p o (ss ++ ts) a r
-steps_then {p} {ss = ss} {ts = ts} {r = r} m1 steps second entry decided =
-    record {
-      more = m1 ++ second.more;
-      is = is_joined p r m1 second.more second.is;
-      steps = steps_joined p m1 second.more ss ts steps second.steps;
-      entry = ap (λ (l : List Event). own_calls p l) (sym (append_assoc p.seen m1 second.more)) ∙ second.entry ∙ entry;
-      decided = decided;
-    }
+steps_then {p} {ss = ss} {ts = ts} {r = r} m1 steps second entry decided = record {
+  more = m1 ++ second.more;
+  is = is_joined p r m1 second.more second.is;
+  steps = steps_joined p m1 second.more ss ts steps second.steps;
+  entry = ap (λ (l : List Event). own_calls p l) (sym (append_assoc p.seen m1 second.more)) ∙ second.entry ∙ entry;
+  decided = decided;
+}
 
 -- steps that decide nothing, and then others
 pub joined : {p : PassState} {o : Op} {ss ts : List Step} {a : Option Answer} {q r : PassState}
     → MakesSteps p o ss None q → MakesSteps q o ts a r → MakesSteps p o (ss ++ ts) a r
-joined {p} {o} {ss} {ts} {a} {r} first second = by first.more first.steps first.entry first.decided
-    (subst (λ (x : PassState). MakesSteps x o ts a r) first.is second)
-  where
-    by : (m1 : List Event) → own_steps p m1 ≡ ss → own_calls p (p.seen ++ m1) ≡ own_calls p p.seen ++ []
-        → KeepsRegisters (caller_of_pass p) (never_of p) (never_behind p.table.config (p.seen ++ m1))
-        → MakesSteps (seen_more p m1) o ts a r → MakesSteps p o (ss ++ ts) a r
-    by m1 steps entry keeps second =
-        steps_then m1 steps second (ap (λ (l : List Decided). l ++ entry_of (caller_of_pass p) o a)
-        (entry ∙ append-nil (own_calls p p.seen))) (decided_as_later p o a m1 second.more keeps second.decided)
+joined {p} {o} {ts = ts} {a = a} {r = r} first second =
+    let later : MakesSteps (seen_more p first.more) o ts a r =
+    subst (λ (x : PassState). MakesSteps x o ts a r) first.is second in
+    steps_then first.more first.steps later (ap (λ (l : List Decided). l ++ entry_of (caller_of_pass p) o a)
+    (first.entry ∙ append-nil (own_calls p p.seen)))
+    (decided_as_later p o a first.more later.more first.decided later.decided)
 
 -- steps that decide the call, and then others
 pub joined_on : {p : PassState} {o : Op} {ss ts : List Step} {a : Answer} {q r : PassState}
     → MakesSteps p o ss (Some a) q → MakesSteps q o ts None r → MakesSteps p o (ss ++ ts) (Some a) r
-joined_on {p} {o} {ss} {ts} {a} {r} first second = by first.more first.steps first.entry first.decided
-    (subst (λ (x : PassState). MakesSteps x o ts None r) first.is second)
-  where
-    by : (m1 : List Event) → own_steps p m1 ≡ ss → own_calls p (p.seen ++ m1) ≡ own_calls p p.seen ++ entry_of
-        (caller_of_pass p) o (Some a)
-        → IsDecidedIn p o a m1 → MakesSteps (seen_more p m1) o ts None r → MakesSteps p o (ss ++ ts) (Some a) r
-    by m1 steps entry decided second =
-        steps_then m1 steps second (append-nil (own_calls p (p.seen ++ m1)) ∙ entry)
-        (decided_before second.more decided second.decided)
+joined_on {p} {o} {ts = ts} {r = r} first second =
+    let later : MakesSteps (seen_more p first.more) o ts None r =
+    subst (λ (x : PassState). MakesSteps x o ts None r) first.is second in
+    steps_then first.more first.steps later (append-nil (own_calls p (p.seen ++ first.more)) ∙ first.entry)
+    (decided_before later.more first.decided later.decided)

@@ -56,20 +56,14 @@ module _ (p : PassState) (o : Op) (s : Step) (x : Progress) (q : PassState) (k :
   of_others = subst (λ (t : Seat). AreOfOthers (t ∷ []) others) (own_seat p k seat) d.others
 
   decides : call_decided c (left c es).now e ≡ entry_of (caller_of_pass p) o x.answer
-  decides =
-      ap (λ (f : Flight). entry_of (caller_of_pass p) f.op (answer_decided c (left c es).now e)) d.frame.own.flight
-      ∙ ap (λ (a : Option Answer). entry_of (caller_of_pass p) (call_of p).op a) g.answer
-      ∙ same_op
+  decides = cc (d.frame.own.flight, g.answer, same_op)
 
   joint : p.seen ++ (others ++ e ∷ []) ≡ es ++ e ∷ []
   joint = sym (append_assoc p.seen others (e ∷ []))
 
   never : never_behind c (p.seen ++ (others ++ e ∷ [])) ≡ after_calls (never_behind c es)
       (asked (entry_of (caller_of_pass p) o x.answer))
-  never =
-      ap (λ (l : List Event). never_behind c l) joint
-      ∙ (comes_last c es e d.whole).never
-      ∙ ap (λ (l : List Decided). after_calls (never_behind c es) (asked l)) decides
+  never = cc (joint, (comes_last c es e d.whole).never, decides)
 
   before : KeepsRegisters (caller_of_pass p) (never_of p) (never_behind c es)
   before = registers_are_left c p.seen others (caller_of_pass p) d.history of_others
@@ -81,22 +75,11 @@ module _ (p : PassState) (o : Op) (s : Step) (x : Progress) (q : PassState) (k :
       let st = stands c es d.history in
       let f = one_event c (left c es) (never_behind c es) e st.known
       (told_to_images c (left c es) (never_behind c es) st.known st.all) st.all.mirrors last.on last.admitted in
-      sym (ap (λ (l : List Decided). answered l) decides)
-      ∙ f.right []
-      ∙ ap (λ (bs : List ℕ). answers_of bs (replies_of (never_behind c es)
-      (asked (call_decided c (left c es).now e))))
-      (append-nil (bases_of (world_behind c (left c es) e).allocations))
-      ∙ ap (λ (w : World). answers_of (bases_of w.allocations)
-      (replies_of (never_behind c es) (asked (call_decided c (left c es).now e)))) (sym last.leaves)
-      ∙ ap (λ (l : List Decided). answers_of (bases_of (left c (es ++ e ∷ [])).allocations)
-      (replies_of (never_behind c es) (asked l))) decides
+      cc (decides, f.right [], append-nil (bases_of (world_behind c (left c es) e).allocations), last.leaves)
 
   decided_as : (a : Option Answer) → x.answer ≡ a → IsDecidedAs p o a (others ++ e ∷ [])
-  decided_as None is =
-      subst (λ (n : NeverState). KeepsRegisters (caller_of_pass p) (never_of p) n)
-      (sym (never ∙ ap (λ (a : Option Answer). after_calls (never_behind c es) (asked (entry_of
-      (caller_of_pass p) o a)))
-      is)) before
+  decided_as None is = rw (never ∙ ap (λ (a : Option Answer). after_calls (never_behind c es)
+      (asked (entry_of (caller_of_pass p) o a))) is) before
   decided_as (Some a) is =
       let flag = flagged_same o a entered in
       let one : (a ∷ []) ≡ answer_of (bases_of (left c (es ++ e ∷ [])).allocations)
@@ -110,8 +93,7 @@ module _ (p : PassState) (o : Op) (s : Step) (x : Progress) (q : PassState) (k :
         behind = [];
         is = refl;
         decides = decides ∙ ap (λ (b : Option Answer). entry_of (caller_of_pass p) o b) is;
-        reply = subst (λ (y : Op). a ≡ answer_of (bases_of (left c (es ++ e ∷ [])).allocations)
-            (reply_of (never_behind c es) (caller_of_pass p) y)) flag (cc one);
+        reply = cc (one, flag);
         known = before;
         left_so =
             let after : never_behind c (p.seen ++ (others ++ e ∷ []))
@@ -126,31 +108,27 @@ module _ (p : PassState) (o : Op) (s : Step) (x : Progress) (q : PassState) (k :
   is_more = g.makes.is ∙ ap (λ (l : List Event). record p { seen = l }) (sym joint)
 
   pub one_step : MakesSteps p o (s ∷ []) x.answer q
-  one_step =
-      record {
-        more = others ++ e ∷ [];
-        is = is_more;
-        steps = own_step c p.seat (left c p.seen) others s d.others;
-        entry =
-            ap (λ (l : List Event). own_calls p l) joint
-            ∙ ap (λ (l : List Decided). calls_by (caller_of_pass p) l) (calls_more c (first_world c) es e)
-            ∙ by_append (caller_of_pass p) (calls c es) (call_decided c (left c es).now e)
-            ∙ ap (λ (l : List Decided). l ++ calls_by (caller_of_pass p) (call_decided c (left c es).now e))
-            (others_add_none c (caller_of_pass p) p.seen others of_others)
-            ∙ ap (λ (l : List Decided). own_calls p p.seen ++ calls_by (caller_of_pass p) l) decides
-            ∙ ap (λ (l : List Decided). own_calls p p.seen ++ l) (own_entry (caller_of_pass p) o x.answer);
-        decided = decided_as x.answer refl;
-      }
+  one_step = record {
+    more = others ++ e ∷ [];
+    is = is_more;
+    steps = own_step c p.seat (left c p.seen) others s d.others;
+    entry =
+        ap (λ (l : List Event). own_calls p l) joint
+        ∙ ap (λ (l : List Decided). calls_by (caller_of_pass p) l) (calls_more c (first_world c) es e)
+        ∙ by_append (caller_of_pass p) (calls c es) (call_decided c (left c es).now e)
+        ∙ ap (λ (l : List Decided). l ++ calls_by (caller_of_pass p) (call_decided c (left c es).now e))
+        (others_add_none c (caller_of_pass p) p.seen others of_others)
+        ∙ ap (λ (l : List Decided). own_calls p p.seen ++ calls_by (caller_of_pass p) l) decides
+        ∙ ap (λ (l : List Decided). own_calls p p.seen ++ l) (own_entry (caller_of_pass p) o x.answer);
+    decided = decided_as x.answer refl;
+  }
 
   -- and that the call may go on
   pub goes_underway : k < p.table.config.callers → is_under_turn x.flight.op ≡ false
       → (is_past_decision x.flight.stage ≡ false → (x.answer ≡ None) × Admits p x.flight.op)
       → (x.flight.stage ≡ Stage.Dirty → is_word_met p.table.config x.flight ≡ true) → IsUnderway q
   goes_underway exists goes_on next page =
-      let back : (P : PassState → Type 0) → P (record p { seen = p.seen ++ (others ++ e ∷ []) }) → P q =
-      λ P h. subst P (sym is_more) h in
-      let whole : IsHistory c (p.seen ++ (others ++ e ∷ [])) = subst (λ (l : List Event). IsHistory c l) (sym joint)
-      d.whole in
+      let whole : IsHistory c (p.seen ++ (others ++ e ∷ [])) = rw joint d.whole in
       let at_last : (h : (x.answer ≡ None) × Admits p x.flight.op)
       → Admits (record p { seen = p.seen ++ (others ++ e ∷ []) }) x.flight.op =
       λ h.
@@ -158,22 +136,17 @@ module _ (p : PassState) (o : Op) (s : Step) (x : Progress) (q : PassState) (k :
       decided_as None h.0 in
       let st = stands c p.seen (pass_before g.makes).history in
       let flag = flagged_same x.flight.op Answer.Done goes_on in
-      subst (λ (y : Op). Admits (record p { seen = p.seen ++ (others ++ e ∷ []) }) y) flag
-      (call_on c.globals (never_of p) (never_behind c (p.seen ++ (others ++ e ∷ []))) (caller_of_pass p)
+      rw flag at (call_on c.globals (never_of p) (never_behind c (p.seen ++ (others ++ e ∷ []))) (caller_of_pass p)
       (never_continues c p.seen (others ++ e ∷ [])) keeps
       st.all.mirrors.typed x.flight.op (Some Answer.Done) (subst (λ (y : Op). Admits p y) (sym flag) h.1, tt)).0 in
       record {
         pass = g.makes.pass;
         caller = k;
-        seat = back (λ r. r.seat ≡ Caller k) seat;
-        exists = back (λ r. k < r.table.config.callers) exists;
+        seat = rw is_more seat;
+        exists = rw is_more exists;
         entered = ap (λ (f : Flight). is_under_turn f.op) g.call ∙ goes_on;
         admits = λ undecided.
-            subst (λ (f : Flight). Admits q f.op) (sym g.call)
-            (back (λ r. Admits r x.flight.op) (at_last
-            (next (ap (λ (f : Flight). is_past_decision f.stage) (sym g.call) ∙ undecided))));
-        page = λ dirty.
-            subst (λ (f : Flight). is_word_met q.table.config f ≡ true) (sym g.call)
-            (back (λ r. is_word_met r.table.config x.flight ≡ true)
-            (page (ap (λ (f : Flight). f.stage) (sym g.call) ∙ dirty)));
+            rw (g.call, is_more)
+            (at_last (next (ap (λ (f : Flight). is_past_decision f.stage) (sym g.call) ∙ undecided)));
+        page = λ dirty. rw (g.call, is_more) (page (ap (λ (f : Flight). f.stage) (sym g.call) ∙ dirty));
       }

@@ -24,15 +24,14 @@ pub record Next (c : Config) (f : Flight) (x : Progress) : Type 0 where
 pub moves : {p : PassState} {s : Step} {x : Progress} {q : PassState} → IsUnderway p → Goes p s x q
     → Next p.table.config (call_of p) x
     → CallMoves p (call_of p).op s x q
-moves {p} {s} {x} {q} u g next =
-    record {
-      makes = one_step p (call_of p).op s x q u.caller u.seat g u.entered refl;
-      call = g.call;
-      underway = goes_underway p (call_of p).op s x q u.caller u.seat g u.entered refl u.exists
-          (ap (λ (o : Op). is_under_turn o) next.op ∙ u.entered)
-          (λ h. let n = next.undecided h in (n.0, subst (λ (o : Op). Admits p o) (sym next.op) (u.admits n.1)))
-          next.page;
-    }
+moves {p} {s} {x} {q} u g next = record {
+  makes = one_step p (call_of p).op s x q u.caller u.seat g u.entered refl;
+  call = g.call;
+  underway = goes_underway p (call_of p).op s x q u.caller u.seat g u.entered refl u.exists
+      (ap (λ (o : Op). is_under_turn o) next.op ∙ u.entered)
+      (λ h. let n = next.undecided h in (n.0, subst (λ (o : Op). Admits p o) (sym next.op) (u.admits n.1)))
+      next.page;
+}
 
 abbrev flight : Stage → Op → ℕ → ℕ → ℕ → ℕ → Flight
 flight s o q p r l = record { stage = s; op = o; q = q; p = p; r = r; loaded = l }
@@ -144,41 +143,32 @@ probe_next c f header e =
     Answer.Fault) (probe_on c f.op f.q f.p f.r f.loaded))
 
 pub read_next : (c : Config) (f : Flight) (found : ℕ) → f.stage ≡ Stage.Read → Next c f (progress_read f f.op found)
-read_next c f found e =
-    subst (λ (g : Flight). Next c g (progress_read g g.op found)) (sym (at_stage f Stage.Read e))
-    (read_on c f.op f.q f.p f.r f.loaded found)
+read_next c f found e = rw (at_stage f Stage.Read e) (read_on c f.op f.q f.p f.r f.loaded found)
 
 pub write_next : (c : Config) (f : Flight) (a : Answer) → is_written f.stage ≡ true → is_word_met c f ≡ true
     → Next c f (onward f (Some a))
 write_next c f a h met = written c f.stage f.op f.q f.p f.r f.loaded a h met
 
 pub getg_next : (c : Config) (f : Flight) (found : ℕ) → f.stage ≡ Stage.Getg → Next c f (progress_getg f found)
-getg_next c f found e =
-    subst (λ (g : Flight). Next c g (progress_getg g found)) (sym (at_stage f Stage.Getg e))
-    (getg_on c f.op f.q f.p f.r f.loaded found)
+getg_next c f found e = rw (at_stage f Stage.Getg e) (getg_on c f.op f.q f.p f.r f.loaded found)
 
 pub setg_next : (c : Config) (f : Flight) → f.stage ≡ Stage.Setg → Next c f (onward f (Some Answer.Done))
-setg_next c f e =
-    subst (λ (g : Flight). Next c g (onward g (Some Answer.Done))) (sym (at_stage f Stage.Setg e))
-    (setg_on c f.op f.q f.p f.r f.loaded)
+setg_next c f e = rw (at_stage f Stage.Setg e) (setg_on c f.op f.q f.p f.r f.loaded)
 
 pub dirty_next : (c : Config) (f : Flight) → f.stage ≡ Stage.Dirty → Next c f (onward f None)
-dirty_next c f e =
-    subst (λ (g : Flight). Next c g (onward g None)) (sym (at_stage f Stage.Dirty e))
-    (dirty_on c f.op f.q f.p f.r f.loaded)
+dirty_next c f e = rw (at_stage f Stage.Dirty e) (dirty_on c f.op f.q f.p f.r f.loaded)
 
 -- the last step
 pub leaves : {p : PassState} {q : PassState} → IsUnderway p
     → Goes p Step.Leave (record { flight = at_rest; answer = None }) q
     → CallMoves p (call_of p).op Step.Leave (record { flight = at_rest; answer = None }) q
-leaves {p} {q} u g =
-    record {
-      makes = one_step p (call_of p).op Step.Leave (record { flight = at_rest; answer = None }) q u.caller u.seat
-          g u.entered refl;
-      call = g.call;
-      underway = goes_underway p (call_of p).op Step.Leave (record { flight = at_rest; answer = None }) q u.caller
-          u.seat g u.entered refl u.exists refl (λ h. cc) (λ h. cc);
-    }
+leaves {p} {q} u g = record {
+  makes = one_step p (call_of p).op Step.Leave (record { flight = at_rest; answer = None }) q u.caller u.seat
+      g u.entered refl;
+  call = g.call;
+  underway = goes_underway p (call_of p).op Step.Leave (record { flight = at_rest; answer = None }) q u.caller
+      u.seat g u.entered refl u.exists refl (λ h. cc) (λ h. cc);
+}
 
 begins : (o : Op) → (begun o).stage ≡ Stage.Dirty → ⊥
 begins (Op.Clear d) h = cc
@@ -188,12 +178,11 @@ begins _ h = cc
 pub enters : {p : PassState} {o : Op} {q : PassState} → MayBeginCall p o
     → Goes p (Step.Enter o) (record { flight = begun o; answer = None }) q
     → CallMoves p o (Step.Enter o) (record { flight = begun o; answer = None }) q
-enters {p} {o} {q} ready g =
-    record {
-      makes = one_step p o (Step.Enter o) (record { flight = begun o; answer = None }) q ready.caller ready.seat
-          g ready.entered refl;
-      call = g.call;
-      underway = goes_underway p o (Step.Enter o) (record { flight = begun o; answer = None }) q ready.caller ready.seat
-          g ready.entered refl (caller_exists p ready.caller (pass_before g.makes).history ready.seat ready.admits)
-          ready.entered (λ h. (refl, ready.admits)) (λ h. absurd (begins o h));
-    }
+enters {p} {o} {q} ready g = record {
+  makes = one_step p o (Step.Enter o) (record { flight = begun o; answer = None }) q ready.caller ready.seat
+      g ready.entered refl;
+  call = g.call;
+  underway = goes_underway p o (Step.Enter o) (record { flight = begun o; answer = None }) q ready.caller ready.seat
+      g ready.entered refl (caller_exists p ready.caller (pass_before g.makes).history ready.seat ready.admits)
+      ready.entered (λ h. (refl, ready.admits)) (λ h. absurd (begins o h));
+}

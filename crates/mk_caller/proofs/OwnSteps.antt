@@ -56,11 +56,7 @@ steps_append c s w xs ys =
 one_own : (c : Config) (s : Seat) (w : World) (x : Step)
     → steps_from c s w (record { seat = s; step = x } ∷ []) ≡ x ∷ []
 unfolding own_from
-one_own c s w x =
-    let e : Event = record { seat = s; step = x } in
-    ap (λ (b : Bool). map (λ (f : Finding). f.event.step)
-    (if b then record { event = e; found = found c w.now e } ∷ [] else []))
-    (same_self s)
+one_own c s w x = rw (same_self s) refl
 
 -- one own step after what others did
 pub own_step : (c : Config) (s : Seat) (w : World) (others : List Event) (x : Step) → AreOfOthers (s ∷ []) others

@@ -65,8 +65,7 @@ module _ (c : Config) (es : List Event) (k : ℕ) (h : IsHistory c es) (lt : k <
   car = st.all.mirrors.images.carried k
 
   in_call : standing f ≡ InCall
-  in_call = calls_stand f.stage f.op (ap (λ (s : Stage). is_call_stage s) at)
-      (not_astray c w.now st.known.now.orderly k lt)
+  in_call = calls_stand _ f.op (ap (λ (s : Stage). is_call_stage s) at) (not_astray c w.now st.known.now.orderly k lt)
 
   has : has_q f.stage f.op ≡ true
   has = ap (λ (s : Stage). has_q s f.op) at
@@ -87,9 +86,9 @@ module _ (c : Config) (es : List Event) (k : ℕ) (h : IsHistory c es) (lt : k <
       (st.all.mirrors.safe.1.registers (8 * k + q_of f.op)) meets u
   gets_to false u =
       mapped_word v not_null (st.all.mirrors.typed.registers (8 * k + q_of f.op)) meets
-      (mapped_met c.globals st.all.mirrors.safe.0 (image_scene_of w) n (ready c w n st.known st.all)
-      (header_at w.now.words) (pages_tell c w n st.known st.all k lt in_call) v f.q (i_of f.op) (car.q has)
-      (car.some_q some) (st.all.mirrors.typed.registers (8 * k + q_of f.op))
+      (mapped_met _ st.all.mirrors.safe.0 _ n (ready c w n st.known st.all) (header_at w.now.words)
+      (pages_tell c w n st.known st.all k lt in_call) v f.q _ (car.q has) (car.some_q some)
+      (st.all.mirrors.typed.registers (8 * k + q_of f.op))
       (st.all.mirrors.safe.1.registers (8 * k + q_of f.op)) u)
 
 -- a seat's, after what others did
@@ -151,12 +150,8 @@ module _ (p : PassState) (q : PassState) (n : ℕ) (u : IsUnderway p)
       → GetsTo b (never_behind p.table.config es) (value_of p (q_of o)) (i_of o)
   gets b is =
       subst (λ (x : Value). GetsTo b (never_behind p.table.config es) x (i_of o)) (keeps (q_of o) small)
-      (subst (λ (f : Flight). GetsTo b (never_behind p.table.config es)
-      (register_at (never_behind p.table.config es) (caller_of_pass p) (q_of f.op)) (i_of f.op)) same
-      (gets_to_for p.seat u.caller u.seat d.history u.exists (ap (λ (f : Flight). f.stage) same ∙ at)
-      (subst (λ (f : Flight). Meets (never_behind p.table.config es)
-      (register_at (never_behind p.table.config es) (caller_of_pass p) (q_of f.op)) (i_of f.op) (λ kind. Unit {0}))
-      (sym same) meets) b (sym finds_header ∙ is)))
+      (rw same at (gets_to_for p.seat u.caller u.seat d.history u.exists (ap (λ (f : Flight). f.stage) same ∙ at)
+      (rw same meets) b (sym finds_header ∙ is)))
 
   seen : q.seen ≡ p.seen ++ finds.makes.others ++ event_of p Step.Probe ∷ []
   seen = ap (λ (r : PassState). r.seen) finds.makes.is

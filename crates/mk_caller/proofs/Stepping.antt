@@ -69,12 +69,10 @@ module _ {p : PassState} (u : IsUnderway p) where
       → is_access (call_of p).op ≡ true → IsEnabledTo p x × IsAdmittedTo p x
   may_access Stage.Probe Step.Probe at h through =
       may_reach Stage.Probe at through refl refl refl Step.Probe refl refl refl
-  may_access Stage.Read Step.Read at h through =
-      may_reach Stage.Read at through refl refl refl Step.Read refl refl refl
+  may_access Stage.Read Step.Read at h through = may_reach Stage.Read at through refl refl refl Step.Read refl refl refl
   may_access Stage.Write Step.Write at h through =
       may_reach Stage.Write at through refl refl refl Step.Write refl refl refl
-  may_access Stage.Cas Step.Cas at h through =
-      may_reach Stage.Cas at through refl refl refl Step.Cas refl refl refl
+  may_access Stage.Cas Step.Cas at h through = may_reach Stage.Cas at through refl refl refl Step.Cas refl refl refl
   may_access _ _ at h through = cc
 
   pub access_admitted : (s : Stage) (x : Step) → (call_of p).stage ≡ s → accesses_at s x ≡ true

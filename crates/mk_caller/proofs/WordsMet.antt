@@ -42,10 +42,7 @@ own_image {c} {es} k r h lt plain =
     let at : (8 * k + r) / 8 ≡ k = omega arith in
     let in_it : (8 * k + r) % 8 ≡ r = omega arith in
     let f : Flight = flight_of (left c es).now (Caller k) in
-    sym (shows_plain f r (register_word (left c es).now.words k r) plain)
-    ∙ ap (λ j. shown f j (register_word (left c es).now.words k r)) (sym in_it)
-    ∙ ap (λ j. shown (flight_among (left c es).now.seats.flights j) ((8 * k + r) % 8)
-    (register_word (left c es).now.words k r)) (sym at) ∙ m
+    cc (shows_plain f r (register_word (left c es).now.words k r) plain, in_it, at, m)
 
 null_for : {c : Config} {es : List Event} (k r : ℕ) → IsHistory c es → r < 8
     → is_put (flight_of (left c es).now (Caller k)).stage ≡ false
@@ -99,8 +96,7 @@ word_for {c} {es} k h has some meets = by (register_at n k (q_of f.op)) (car.q h
         let inside = r.bound a (o + i_of f.op) (r.set.unreleased a safe) meets.0 in
         let base = base_at w.allocations a in
         let long = (histories_keep_lengths c es).heap in
-        and_from (nat_le 65536 f.q) (nat_lt (word_met f) (64 * c.pages)) (le-leb 65536 f.q (omega arith))
-        (lt-ltb (word_met f) (64 * c.pages) (omega arith))
+        and_from _ _ (le-leb 65536 f.q (omega arith)) (lt-ltb _ (64 * c.pages) (omega arith))
 
 pub word_is_met : (p : PassState) (k : ℕ) → p.seat ≡ Caller k → IsHistory p.table.config p.seen
     → has_q (call_of p).stage (call_of p).op ≡ true

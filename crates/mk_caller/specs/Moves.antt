@@ -1,5 +1,6 @@
 -- A call on its way, from one of its steps to the next.
 use Rattle.std.specs.Prelude.{◌≡◌, ℕ, ◌<◌, Bool, true, false, List, [], ◌∷◌, ◌++◌, map, Option, Some, None}
+use Rattle.std.specs.List.{list_any}
 use Rattle.mk_never.specs.declared.operations.Op.{Op}
 use Rattle.mk_never.specs.Laws.{KeepsRegisters}
 use Rattle.mk_core.specs.declared.events.Answer.{Answer}
@@ -10,8 +11,8 @@ use Rattle.mk_core.specs.declared.events.Step.{Step}
 use Rattle.mk_core.specs.declared.seats.Stage.{Stage}
 use Rattle.mk_core.specs.declared.seats.Flight.{Flight}
 use Rattle.mk_core.specs.declared.seats.Progress.{Progress}
-use Rattle.mk_core.specs.Calls.{at_rest, begun, onward, refused, is_under_turn, stage_refused, one_if, progress_reg}
-use Rattle.mk_core.specs.Calls.{progress_read, progress_getg}
+use Rattle.mk_core.specs.Calls.{at_rest, begun, onward, refused, is_same_stage, is_under_turn, stage_refused, one_if}
+use Rattle.mk_core.specs.Calls.{progress_reg, progress_read, progress_getg}
 use Rattle.mk_core.specs.Decided.{entry_of}
 use Rattle.mk_core.specs.History.{never_behind}
 use Rattle.mk_words.specs.States.{PassState, IsPass, call_of}
@@ -22,32 +23,25 @@ use Rattle.mk_core.specs.declared.events.Answer.TheVariants as answer
 use Rattle.mk_core.specs.declared.events.Step.TheVariants as step
 use Rattle.mk_core.specs.declared.seats.Stage.TheVariants as stage
 
+-- whether a stage is one of these
+abbrev pub is_stage_of : List Stage → Stage → Bool
+is_stage_of stages s = list_any (is_same_stage s) stages
+
 -- what is after the deciding step
 abbrev pub is_past_decision : Stage → Bool
-is_past_decision stage.Put = true
-is_past_decision stage.Dirty = true
-is_past_decision stage.Leave = true
-is_past_decision stage.Idle = true
-is_past_decision _ = false
+is_past_decision s = is_stage_of (stage.Put ∷ stage.Dirty ∷ stage.Leave ∷ stage.Idle ∷ []) s
 
 -- a stage at which a register is loaded
 abbrev pub loads_register : Stage → Bool
-loads_register stage.LoadQ = true
-loads_register stage.LoadP = true
-loads_register stage.LoadR = true
-loads_register _ = false
+loads_register s = is_stage_of (stage.LoadQ ∷ stage.LoadP ∷ stage.LoadR ∷ []) s
 
 -- or stored
 abbrev pub stores_register : Stage → Bool
-stores_register stage.Store = true
-stores_register stage.Put = true
-stores_register _ = false
+stores_register s = is_stage_of (stage.Store ∷ stage.Put ∷ []) s
 
 -- a stage at which a heap word is written
 abbrev pub is_written : Stage → Bool
-is_written stage.Write = true
-is_written stage.Cas = true
-is_written _ = false
+is_written s = is_stage_of (stage.Write ∷ stage.Cas ∷ []) s
 
 -- the operations that access through q
 abbrev pub is_access : Op → Bool

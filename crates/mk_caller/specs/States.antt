@@ -47,6 +47,10 @@ pub record IsIdleCaller (p : PassState) : Type 0 where
   pub seat : p.seat ≡ Caller caller
   pub rest : call_of p ≡ at_rest
 
+-- The pass is that of this caller of these words.
+abbrev pub IsPassOf : WordsState → ℕ → PassState → Type 0
+IsPassOf w k p = (p.table ≡ w) × (k ≡ caller_of_pass p)
+
 -- What a caller is made of: its words, its number and its pass, if that is home.
 
 abbrev pub caller_of : WordsState → ℕ → Option PassState → CallerState

@@ -5,7 +5,7 @@ ghost use Rattle.mk_core.specs.{declared.accesses.Access.TheVariants.Store, Acce
 ghost use Rattle.mk_core.specs.Calls.{at_rest, onward, stage_refused, stage_behind, steps_of, q_of, i_of, d_of};
 ghost use Rattle.mk_core.specs.Calls.{word_met, progress_reg};
 ghost use Rattle.mk_words.specs.States.{call_of};
-ghost use Rattle.mk_caller.specs.{States.{caller_of_pass, value_of}, Causes.{Probes, ProbesAWord, IsRefused}};
+ghost use Rattle.mk_caller.specs.{States.{IsPassOf, value_of}, Causes.{Probes, ProbesAWord, IsRefused}};
 ghost use Rattle.mk_caller.specs.Moves.{MayBeginCall, IsUnderway, IsAtFlight, Ends, CallGoesOn, is_access};
 ghost use Rattle.mk_caller.specs.Moves.{stores_register, refused_register, refused_steps, fault_steps, behind_q, loads};
 ghost use Rattle.mk_caller.specs.Moves.{passes};
@@ -15,13 +15,13 @@ ghost use Rattle.mk_core.specs.declared.seats.Stage.TheVariants as stage;
 
 use crate::refusals::Refusal;
 use crate::steps::{dirty, enter, leave, load, probe, store};
+use crate::tables::CallerTable;
 use mk_never::Op;
-use mk_words::{Pass, Words};
+use mk_words::Pass;
 
 /// Ends a call that is refused: the register that it would have loaded becomes null.
-pub(crate) fn refuse(words: &Words, caller: u64, pass: &mut Pass, d: Option<u8>)
-    requires one_table { pass.old.table ≡ words.now }
-    requires caller { caller ≡ caller_of_pass pass.old }
+pub(crate) fn refuse(table: CallerTable, pass: &mut Pass, d: Option<u8>)
+    requires own { IsPassOf table.words.now table.caller pass.old }
     requires underway { IsUnderway pass.old }
     requires stage { (call_of pass.old).stage ≡ stage_refused (call_of pass.old).op }
     requires loaded { (call_of pass.old).loaded ≡ 0 }
@@ -30,18 +30,17 @@ pub(crate) fn refuse(words: &Words, caller: u64, pass: &mut Pass, d: Option<u8>)
 {
     match d {
         Some(d) => {
-            store(words, caller, pass, d, 0);
-            leave(words, caller, pass);
+            store(table, pass, d, 0);
+            leave(table, pass);
         }
-        None => leave(words, caller, pass),
+        None => leave(table, pass),
     }
 }
 
 /// Stores the last register of a call, and ends it.
 #[inline(always)]
-pub(crate) fn store_and_leave(words: &Words, caller: u64, pass: &mut Pass, d: u8, v: u64)
-    requires one_table { pass.old.table ≡ words.now }
-    requires caller { caller ≡ caller_of_pass pass.old }
+pub(crate) fn store_and_leave(table: CallerTable, pass: &mut Pass, d: u8, v: u64)
+    requires own { IsPassOf table.words.now table.caller pass.old }
     requires underway { IsUnderway pass.old }
     requires stage { stores_register (call_of pass.old).stage ≡ true }
     requires register { d ≡ d_of (call_of pass.old).op }
@@ -49,38 +48,34 @@ pub(crate) fn store_and_leave(words: &Words, caller: u64, pass: &mut Pass, d: u8
     requires last { (loads v (call_of pass.old)).flight.stage ≡ stage.Leave }
     ensures { Ends pass.old (step.Reg ∷ step.Leave ∷ []) (loads v (call_of pass.old)).answer pass.new }
 {
-    store(words, caller, pass, d, v);
-    leave(words, caller, pass);
+    store(table, pass, d, v);
+    leave(table, pass);
 }
 
 /// Marks the page of the word that a call wrote, and ends it.
 #[inline(always)]
-pub(crate) fn mark_and_leave(words: &Words, caller: u64, pages: u64, pass: &mut Pass, word: u64)
-    requires one_table { pass.old.table ≡ words.now }
-    requires caller { caller ≡ caller_of_pass pass.old }
-    requires pages { pages ≡ words.now.config.pages }
+pub(crate) fn mark_and_leave(table: CallerTable, pass: &mut Pass, word: u64)
+    requires own { IsPassOf table.words.now table.caller pass.old }
     requires underway { IsUnderway pass.old }
     requires stage { (call_of pass.old).stage ≡ stage.Dirty }
     requires word { word ≡ word_met (call_of pass.old) }
     requires last { stage_behind stage.Dirty (steps_of (call_of pass.old).op) ≡ stage.Leave }
     ensures { Ends pass.old (step.Dirty ∷ step.Leave ∷ []) None pass.new }
 {
-    dirty(words, pages, pass, word / 64);
-    leave(words, caller, pass);
+    dirty(table, pass, word / 64);
+    leave(table, pass);
 }
 
 /// Begins a call that accesses through register q, and loads that. A call through null is refused, and ends.
 #[inline(always)]
 pub(crate) fn begin_access(
-    words: &Words,
-    caller: u64,
+    table: CallerTable,
     pass: &mut Pass,
     op: Op,
     d: Option<u8>,
     q: u8,
 ) -> Result<u64, Refusal>
-    requires one_table { pass.old.table ≡ words.now }
-    requires caller { caller ≡ caller_of_pass pass.old }
+    requires own { IsPassOf table.words.now table.caller pass.old }
     requires ready { MayBeginCall pass.old op }
     requires access { is_access op ≡ true }
     requires from { q ≡ q_of op }
@@ -90,12 +85,12 @@ pub(crate) fn begin_access(
     ensures some { IfOk result (λ u. value_of pass.old q ≢ Null) }
     ensures refused { IfErr result (λ e. IsRefused pass.old op e pass.new) }
 {
-    match enter(words, caller, pass, op) {
+    match enter(table, pass, op) {
         Err(_) => Err(Refusal::Held),
         Ok(()) => {
-            let u = load(words, caller, pass, q);
+            let u = load(table, pass, q);
             if u == 0 {
-                refuse(words, caller, pass, d);
+                refuse(table, pass, d);
                 Err(Refusal::Null)
             } else {
                 Ok(u)
@@ -108,15 +103,13 @@ pub(crate) fn begin_access(
 /// ends.
 #[inline(always)]
 pub(crate) fn probe_access(
-    words: &Words,
-    caller: u64,
+    table: CallerTable,
     pass: &mut Pass,
     d: Option<u8>,
     u: u64,
     i: u64,
 ) -> Option<u64>
-    requires one_table { pass.old.table ≡ words.now }
-    requires caller { caller ≡ caller_of_pass pass.old }
+    requires own { IsPassOf table.words.now table.caller pass.old }
     requires underway { IsUnderway pass.old }
     requires stage { (call_of pass.old).stage ≡ stage.Probe }
     requires access { is_access (call_of pass.old).op ≡ true }
@@ -129,9 +122,9 @@ pub(crate) fn probe_access(
     ensures refused { IfNone result (Ends pass.old (fault_steps (call_of pass.old).op) (Some answer.Fault) pass.new) }
     ensures unmapped { IfNone result (Probes pass.old (call_of pass.old).op pass.new Unmapped) }
 {
-    match probe(words, pass, u, i) {
+    match probe(table, pass, u, i) {
         None => {
-            refuse(words, caller, pass, d);
+            refuse(table, pass, d);
             None
         }
         Some(word) => Some(word),

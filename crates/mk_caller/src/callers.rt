@@ -12,6 +12,7 @@ ghost use Rattle.mk_caller.specs.declared.refusals.Refusal.TheVariants as refusa
 
 use crate::calls;
 use crate::refusals::Refusal;
+use crate::tables::CallerTable;
 use mk_core::Seat;
 use mk_words::{Held, Pass, Words};
 use std::marker::Model;
@@ -19,8 +20,7 @@ use std::marker::Model;
 /// One script's end of the heap: its pass, which may be lent, and the words.
 #[derive(Drop)]
 pub struct Caller<'h> {
-    words: &'h Words,
-    number: u64,
+    table: CallerTable<'h>,
     pass: Option<Pass>,
 }
 
@@ -29,9 +29,9 @@ impl<'h> Model for Caller<'h> {
 
     ghost Value = { CallerState };
 
-    ghost view = { λ c. caller_of c.words.now c.number c.pass };
+    ghost view = { λ c. caller_of c.table.words.now c.table.caller c.pass };
 
-    ghost invariant = { λ c. IsPassAtRest c.words.now c.number c.pass };
+    ghost invariant = { λ c. IsPassAtRest c.table.words.now c.table.caller c.pass };
 }
 
 /// Does something with a caller's pass, which is home.
@@ -56,8 +56,7 @@ impl<'h> Caller<'h> {
             Seat::Marker(_) | Seat::Host => unreachable!(),
         };
         Caller {
-            words,
-            number,
+            table: CallerTable::of(words, number),
             pass: Some(pass),
         }
     }
@@ -66,14 +65,14 @@ impl<'h> Caller<'h> {
     pub fn number(&self) -> u64
         ensures { result ≡ caller_of_pass self.now.pass }
     {
-        self.number
+        self.table.caller
     }
 
     /// The words of its heap.
     pub fn words(&self) -> &'h Words
         ensures { result.now ≡ self.now.pass.table }
     {
-        self.words
+        self.table.words
     }
 
     /// What holds of every caller whose pass is home. It does nothing.
@@ -127,7 +126,7 @@ impl<'h> Caller<'h> {
         ensures reached { OnOk result (ProbesAWord self.old.pass (op.GetNum q i) self.new.pass) }
         ensures refused { IfErr result (λ e. IsRefused self.old.pass (op.GetNum q i) e self.new.pass) }
     {
-        at_home!(&mut self.pass, pass => calls::get_num(self.words, self.number, self.words.pages(), pass, q, i))
+        at_home!(&mut self.pass, pass => calls::get_num(self.table, pass, q, i))
     }
 
     /// Writes a number to the word `i` words after the pointer in `q`.
@@ -140,7 +139,7 @@ impl<'h> Caller<'h> {
         ensures reached { OnOk result (ProbesAWord self.old.pass (op.SetNum q i n) self.new.pass) }
         ensures refused { IfErr result (λ e. IsRefused self.old.pass (op.SetNum q i n) e self.new.pass) }
     {
-        at_home!(&mut self.pass, pass => calls::set_num(self.words, self.number, self.words.pages(), pass, q, i, n))
+        at_home!(&mut self.pass, pass => calls::set_num(self.table, pass, q, i, n))
     }
 
     /// Sets `d` to the pointer in the word `i` words after the pointer in `q`, or to null where it is refused.
@@ -153,7 +152,7 @@ impl<'h> Caller<'h> {
         ensures reached { OnOk result (ProbesAWord self.old.pass (op.GetPtr d q i) self.new.pass) }
         ensures refused { IfErr result (λ e. IsRefused self.old.pass (op.GetPtr d q i) e self.new.pass) }
     {
-        at_home!(&mut self.pass, pass => calls::get_ptr(self.words, self.number, self.words.pages(), pass, d, q, i))
+        at_home!(&mut self.pass, pass => calls::get_ptr(self.table, pass, d, q, i))
     }
 
     /// Writes the pointer in `p`, or null, to the word `i` words after the pointer in `q`.
@@ -166,7 +165,7 @@ impl<'h> Caller<'h> {
         ensures reached { OnOk result (ProbesAWord self.old.pass (op.SetPtr q i p) self.new.pass) }
         ensures refused { IfErr result (λ e. IsRefused self.old.pass (op.SetPtr q i p) e self.new.pass) }
     {
-        at_home!(&mut self.pass, pass => calls::set_ptr(self.words, self.number, self.words.pages(), pass, q, i, p))
+        at_home!(&mut self.pass, pass => calls::set_ptr(self.table, pass, q, i, p))
     }
 
     /// Writes the pointer in `r` to the word `i` words after the pointer in `q`, where that is the pointer in `p`, and
@@ -181,7 +180,7 @@ impl<'h> Caller<'h> {
         ensures reached { OnOk result (ProbesAWord self.old.pass (op.CasPtr q i p r) self.new.pass) }
         ensures refused { IfErr result (λ e. IsRefused self.old.pass (op.CasPtr q i p r) e self.new.pass) }
     {
-        at_home!(&mut self.pass, pass => calls::cas_ptr(self.words, self.number, self.words.pages(), pass, q, i, p, r))
+        at_home!(&mut self.pass, pass => calls::cas_ptr(self.table, pass, q, i, p, r))
     }
 
     /// Sets `d` to the pointer `i` words after that in `q`, or to null where it is refused.
@@ -195,7 +194,7 @@ impl<'h> Caller<'h> {
         ensures refused { IfErr result (λ e. IsRefused self.old.pass (op.Lea d q i) e self.new.pass) }
         ensures no_fault { IfErr result (λ e. e ≢ refusal.Fault) }
     {
-        at_home!(&mut self.pass, pass => calls::lea(self.words, self.number, pass, d, q, i))
+        at_home!(&mut self.pass, pass => calls::lea(self.table, pass, d, q, i))
     }
 
     /// Sets `d` to what is in `q`.
@@ -207,7 +206,7 @@ impl<'h> Caller<'h> {
         ensures called { OnOk result (Called self.old.pass (op.Move d q) answer.Done self.new.pass) }
         ensures held { OnErr result (FindsGateHeld self.old.pass (op.Move d q) self.new.pass) }
     {
-        at_home!(&mut self.pass, pass => calls::move_ptr(self.words, self.number, pass, d, q))
+        at_home!(&mut self.pass, pass => calls::move_ptr(self.table, pass, d, q))
     }
 
     /// Sets `d` to null.
@@ -219,7 +218,7 @@ impl<'h> Caller<'h> {
         ensures called { OnOk result (Called self.old.pass (op.Clear d) answer.Done self.new.pass) }
         ensures held { OnErr result (FindsGateHeld self.old.pass (op.Clear d) self.new.pass) }
     {
-        at_home!(&mut self.pass, pass => calls::clear(self.words, self.number, pass, d))
+        at_home!(&mut self.pass, pass => calls::clear(self.table, pass, d))
     }
 
     /// Sets `d` to what is in the global.
@@ -231,7 +230,7 @@ impl<'h> Caller<'h> {
         ensures called { OnOk result (IsAnswered self.old.pass (op.GetGlobal d g) self.new.pass) }
         ensures held { OnErr result (FindsGateHeld self.old.pass (op.GetGlobal d g) self.new.pass) }
     {
-        at_home!(&mut self.pass, pass => calls::get_global(self.words, self.number, pass, d, g))
+        at_home!(&mut self.pass, pass => calls::get_global(self.table, pass, d, g))
     }
 
     /// Sets the global to what is in `p`.
@@ -243,7 +242,7 @@ impl<'h> Caller<'h> {
         ensures called { OnOk result (Called self.old.pass (op.SetGlobal g p) answer.Done self.new.pass) }
         ensures held { OnErr result (FindsGateHeld self.old.pass (op.SetGlobal g p) self.new.pass) }
     {
-        at_home!(&mut self.pass, pass => calls::set_global(self.words, self.number, pass, g, p))
+        at_home!(&mut self.pass, pass => calls::set_global(self.table, pass, g, p))
     }
 
     /// Whether the two registers hold one value.
@@ -256,7 +255,7 @@ impl<'h> Caller<'h> {
         ensures tells { IfOk result (λ same. same ≡ is_same (value_of self.old.pass p) (value_of self.old.pass q)) }
         ensures held { OnErr result (FindsGateHeld self.old.pass (op.Same p q) self.new.pass) }
     {
-        at_home!(&mut self.pass, pass => calls::same(self.words, self.number, pass, p, q))
+        at_home!(&mut self.pass, pass => calls::same(self.table, pass, p, q))
     }
 
     /// Whether the register is null.
@@ -269,6 +268,6 @@ impl<'h> Caller<'h> {
         ensures tells { IfOk result (λ null. null ≡ is_same (value_of self.old.pass p) Null) }
         ensures held { OnErr result (FindsGateHeld self.old.pass (op.IsNull p) self.new.pass) }
     {
-        at_home!(&mut self.pass, pass => calls::is_null(self.words, self.number, pass, p))
+        at_home!(&mut self.pass, pass => calls::is_null(self.table, pass, p))
     }
 }

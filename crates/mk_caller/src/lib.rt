@@ -10,6 +10,7 @@ mod calls;
 mod laws;
 mod refusals;
 mod steps;
+mod tables;
 
 pub use callers::Caller;
 pub use laws::calls_leave_other_registers;

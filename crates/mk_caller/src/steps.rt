@@ -6,7 +6,7 @@ ghost use Rattle.mk_core.specs.{declared.accesses.Access.TheVariants.Store, Acce
 ghost use Rattle.mk_core.specs.Calls.{refused, g_of, i_of, value_written, page_met, word_met};
 ghost use Rattle.mk_words.specs.States.{call_of};
 ghost use Rattle.mk_laws.specs.Images.{has_q, has_some_q};
-ghost use Rattle.mk_caller.specs.{States.{caller_of_pass, value_of}, Causes.{FindsGateHeld, Probes, ProbesAWord}};
+ghost use Rattle.mk_caller.specs.{States.{IsPassOf, value_of}, Causes.{FindsGateHeld, Probes, ProbesAWord}};
 ghost use Rattle.mk_caller.specs.Moves.{MayBeginCall, IsUnderway, CallMoves, CallGoesOn, begins, is_access};
 ghost use Rattle.mk_caller.specs.Moves.{loads_register, stores_register, loads, loads_global, passes, faults, reads};
 ghost use Rattle.mk_caller.specs.Moves.{writes, exchanges, call_ends};
@@ -14,84 +14,79 @@ ghost use Rattle.mk_core.specs.declared.events.Answer.TheVariants as answer;
 ghost use Rattle.mk_core.specs.declared.events.Step.TheVariants as step;
 ghost use Rattle.mk_core.specs.declared.seats.Stage.TheVariants as stage;
 
+use crate::tables::CallerTable;
 use mk_geom::{HEAP_START, PAGE_WORDS, WORD_BYTES, is_unmapped};
 use mk_never::Op;
-use mk_words::{Held, Pass, Words};
+use mk_words::{Held, Pass};
 
 /// Begins a call, unless the gate is held.
 #[inline(always)]
-pub(crate) fn enter(words: &Words, caller: u64, pass: &mut Pass, op: Op) -> Result<(), Held>
-    requires one_table { pass.old.table ≡ words.now }
-    requires caller { caller ≡ caller_of_pass pass.old }
+pub(crate) fn enter(table: CallerTable, pass: &mut Pass, op: Op) -> Result<(), Held>
+    requires own { IsPassOf table.words.now table.caller pass.old }
     requires ready { MayBeginCall pass.old op }
     ensures moves { OnOk result (CallMoves pass.old op (step.Enter op) (begins op) pass.new) }
     ensures held { OnErr result (FindsGateHeld pass.old op pass.new) }
 {
     pass.is_in_order();
-    pass.enter(words, caller, op)
+    pass.enter(table.words, table.caller, op)
 }
 
 /// Ends a call.
 #[inline(always)]
-pub(crate) fn leave(words: &Words, caller: u64, pass: &mut Pass)
-    requires one_table { pass.old.table ≡ words.now }
-    requires caller { caller ≡ caller_of_pass pass.old }
+pub(crate) fn leave(table: CallerTable, pass: &mut Pass)
+    requires own { IsPassOf table.words.now table.caller pass.old }
     requires underway { IsUnderway pass.old }
     requires stage { (call_of pass.old).stage ≡ stage.Leave }
     ensures moves { CallGoesOn pass.old step.Leave call_ends pass.new }
 {
-    pass.leave(words, caller);
+    pass.leave(table.words, table.caller);
 }
 
 /// Loads a register, which is 0 exactly where its value is null.
 #[inline(always)]
-pub(crate) fn load(words: &Words, caller: u64, pass: &mut Pass, r: u8) -> u64
-    requires one_table { pass.old.table ≡ words.now }
-    requires caller { caller ≡ caller_of_pass pass.old }
+pub(crate) fn load(table: CallerTable, pass: &mut Pass, r: u8) -> u64
+    requires own { IsPassOf table.words.now table.caller pass.old }
     requires underway { IsUnderway pass.old }
     requires stage { loads_register (call_of pass.old).stage ≡ true }
     requires register { r ≡ register_met (call_of pass.old) (call_of pass.old).stage }
     ensures moves { CallGoesOn pass.old step.Reg (loads result) pass.new }
     ensures null { (result ≡ 0) ↔ (value_of pass.old r ≡ Null) }
 {
-    pass.reg_load(words, caller, r)
+    pass.reg_load(table.words, table.caller, r)
 }
 
 /// Stores to a register.
 #[inline(always)]
-pub(crate) fn store(words: &Words, caller: u64, pass: &mut Pass, r: u8, v: u64)
-    requires one_table { pass.old.table ≡ words.now }
-    requires caller { caller ≡ caller_of_pass pass.old }
+pub(crate) fn store(table: CallerTable, pass: &mut Pass, r: u8, v: u64)
+    requires own { IsPassOf table.words.now table.caller pass.old }
     requires underway { IsUnderway pass.old }
     requires stage { stores_register (call_of pass.old).stage ≡ true }
     requires register { r ≡ register_met (call_of pass.old) (call_of pass.old).stage }
     requires stores { reg_access (call_of pass.old) (call_of pass.old).stage ≡ Store v }
     ensures moves { CallGoesOn pass.old step.Reg (loads v) pass.new }
 {
-    pass.reg_store(words, caller, r, v);
+    pass.reg_store(table.words, table.caller, r, v);
 }
 
 /// Loads the word that the call accesses.
 #[tactic(auto, using(crate::proofs::Stepping::access_admitted))]
 #[inline(always)]
-pub(crate) fn read(words: &Words, pages: u64, pass: &mut Pass, word: u64) -> u64
-    requires one_table { pass.old.table ≡ words.now }
-    requires pages { pages ≡ words.now.config.pages }
+pub(crate) fn read(table: CallerTable, pass: &mut Pass, word: u64) -> u64
+    requires own { IsPassOf table.words.now table.caller pass.old }
     requires underway { IsUnderway pass.old }
     requires stage { (call_of pass.old).stage ≡ stage.Read }
     requires access { is_access (call_of pass.old).op ≡ true }
     requires word { word ≡ word_met (call_of pass.old) }
     ensures moves { CallGoesOn pass.old step.Read (reads result) pass.new }
 {
-    pass.read(words, pages, word)
+    pass.read(table.words, table.pages, word)
 }
 
 /// Stores to the word that the call accesses.
 #[tactic(auto, using(crate::proofs::Stepping::access_admitted))]
 #[inline(always)]
-pub(crate) fn write(words: &Words, pages: u64, pass: &mut Pass, word: u64, v: u64)
-    requires one_table { pass.old.table ≡ words.now }
-    requires pages { pages ≡ words.now.config.pages }
+pub(crate) fn write(table: CallerTable, pass: &mut Pass, word: u64, v: u64)
+    requires own { IsPassOf table.words.now table.caller pass.old }
     requires underway { IsUnderway pass.old }
     requires stage { (call_of pass.old).stage ≡ stage.Write }
     requires access { is_access (call_of pass.old).op ≡ true }
@@ -99,22 +94,14 @@ pub(crate) fn write(words: &Words, pages: u64, pass: &mut Pass, word: u64, v: u6
     requires value { v ≡ value_written (call_of pass.old) (call_of pass.old).op }
     ensures moves { CallGoesOn pass.old step.Write writes pass.new }
 {
-    pass.write(words, pages, word, v);
+    pass.write(table.words, table.pages, word, v);
 }
 
 /// Exchanges the word that the call accesses, where it is as expected.
 #[tactic(auto, using(crate::proofs::Stepping::access_admitted))]
 #[inline(always)]
-pub(crate) fn cas(
-    words: &Words,
-    pages: u64,
-    pass: &mut Pass,
-    word: u64,
-    expected: u64,
-    new: u64,
-) -> bool
-    requires one_table { pass.old.table ≡ words.now }
-    requires pages { pages ≡ words.now.config.pages }
+pub(crate) fn cas(table: CallerTable, pass: &mut Pass, word: u64, expected: u64, new: u64) -> bool
+    requires own { IsPassOf table.words.now table.caller pass.old }
     requires underway { IsUnderway pass.old }
     requires stage { (call_of pass.old).stage ≡ stage.Cas }
     requires access { is_access (call_of pass.old).op ≡ true }
@@ -123,53 +110,52 @@ pub(crate) fn cas(
     requires new { new ≡ (call_of pass.old).r }
     ensures moves { CallGoesOn pass.old step.Cas (exchanges result) pass.new }
 {
-    pass.cas(words, pages, word, expected, new)
+    pass.cas(table.words, table.pages, word, expected, new)
 }
 
 /// Marks the page of the word that the call wrote.
 #[inline(always)]
-pub(crate) fn dirty(words: &Words, pages: u64, pass: &mut Pass, page: u64)
-    requires one_table { pass.old.table ≡ words.now }
-    requires pages { pages ≡ words.now.config.pages }
+pub(crate) fn dirty(table: CallerTable, pass: &mut Pass, page: u64)
+    requires own { IsPassOf table.words.now table.caller pass.old }
     requires underway { IsUnderway pass.old }
     requires stage { (call_of pass.old).stage ≡ stage.Dirty }
     requires page { page ≡ page_met (call_of pass.old) }
     ensures moves { CallGoesOn pass.old step.Dirty passes pass.new }
 {
-    pass.dirty(words, pages, page);
+    pass.dirty(table.words, table.pages, page);
 }
 
 /// Loads the global of the call.
 #[inline(always)]
-pub(crate) fn global_load(words: &Words, pass: &mut Pass, g: u8) -> u64
-    requires one_table { pass.old.table ≡ words.now }
+pub(crate) fn global_load(table: CallerTable, pass: &mut Pass, g: u8) -> u64
+    requires own { IsPassOf table.words.now table.caller pass.old }
     requires underway { IsUnderway pass.old }
     requires stage { (call_of pass.old).stage ≡ stage.Getg }
     requires global { g ≡ g_of (call_of pass.old).op }
     ensures moves { CallGoesOn pass.old step.Getg (loads_global result) pass.new }
 {
-    pass.global_load(words, g)
+    pass.global_load(table.words, g)
 }
 
 /// Stores to the global of the call.
 #[inline(always)]
-pub(crate) fn global_store(words: &Words, pass: &mut Pass, g: u8, v: u64)
-    requires one_table { pass.old.table ≡ words.now }
+pub(crate) fn global_store(table: CallerTable, pass: &mut Pass, g: u8, v: u64)
+    requires own { IsPassOf table.words.now table.caller pass.old }
     requires underway { IsUnderway pass.old }
     requires stage { (call_of pass.old).stage ≡ stage.Setg }
     requires global { g ≡ g_of (call_of pass.old).op }
     requires value { v ≡ (call_of pass.old).p }
     ensures moves { CallGoesOn pass.old step.Setg writes pass.new }
 {
-    pass.global_store(words, g, v);
+    pass.global_store(table.words, g, v);
 }
 
 /// Loads the header of the page of the word that the call accesses, through the value `u` and `i` words on. Answers the
 /// word, and none where its page is unmapped.
 #[tactic(auto, using(crate::proofs::Stepping::access_admitted))]
 #[inline(always)]
-pub(crate) fn probe(words: &Words, pass: &mut Pass, u: u64, i: u64) -> Option<u64>
-    requires one_table { pass.old.table ≡ words.now }
+pub(crate) fn probe(table: CallerTable, pass: &mut Pass, u: u64, i: u64) -> Option<u64>
+    requires own { IsPassOf table.words.now table.caller pass.old }
     requires underway { IsUnderway pass.old }
     requires stage { (call_of pass.old).stage ≡ stage.Probe }
     requires access { is_access (call_of pass.old).op ≡ true }
@@ -184,7 +170,7 @@ pub(crate) fn probe(words: &Words, pass: &mut Pass, u: u64, i: u64) -> Option<u6
     let word = (u - HEAP_START) / WORD_BYTES + i;
     // The number of a word fits 32 bits, in which its page is a single shift away.
     let page = u64::from(word as u32 / PAGE_WORDS as u32);
-    let header = pass.probe(words, page);
+    let header = pass.probe(table.words, page);
     if is_unmapped(header) {
         None
     } else {
@@ -194,8 +180,8 @@ pub(crate) fn probe(words: &Words, pass: &mut Pass, u: u64, i: u64) -> Option<u6
 
 /// The value `i` words after the value that the call has loaded.
 #[inline(always)]
-pub(crate) fn moved_on(words: &Words, pass: &Pass, u: u64, i: u64) -> u64
-    requires one_table { pass.now.table ≡ words.now }
+pub(crate) fn moved_on(table: CallerTable, pass: &Pass, u: u64, i: u64) -> u64
+    requires own { IsPassOf table.words.now table.caller pass.now }
     requires underway { IsUnderway pass.now }
     requires stage { (call_of pass.now).stage ≡ stage.Store }
     requires access { is_access (call_of pass.now).op ≡ true }

@@ -21,24 +21,20 @@ abbrev pub first_pass : WordsState → PassState
 first_pass w = record { table = w; seat = Caller 0; seats = Caller 0 ∷ []; seen = [] }
 
 idle_at_first : (w : WordsState) → IsIdleCaller (first_pass w)
-idle_at_first w =
-    record {
-      caller = 0;
-      seat = refl;
-      rest = ap (λ (x : World). flight_of x.now (Caller 0)) (none_left w.config) ∙ at_first w.config.callers 0 at_rest;
-    }
+idle_at_first w = record {
+  caller = 0;
+  seat = refl;
+  rest = ap (λ (x : World). flight_of x.now (Caller 0)) (none_left w.config) ∙ at_first w.config.callers 0 at_rest;
+}
 
 admits_at_first : (w : WordsState) → 1 ≤ w.config.callers → Admits (first_pass w) (Op.IsNull 0)
 admits_at_first w some =
     let count : length (never_behind w.config []).registers ≡ 8 * w.config.callers =
-    ap (λ (n : Rattle.mk_never.specs.NeverHeap.NeverState). length n.registers) (none_called w.config)
-    ∙ length-replicate (8 * w.config.callers) Null in
+    cc (none_called w.config, length-replicate (8 * w.config.callers) Null) in
     record { of_a_caller = omega arith; in_range = omega arith; access = tt; store = tt }
 
 null_at_first : (w : WordsState) → value_of (first_pass w) 0 ≡ Null
-null_at_first w =
-    ap (λ (n : Rattle.mk_never.specs.NeverHeap.NeverState). slice_index_or n.registers 0 Null) (none_called w.config)
-    ∙ at_first (8 * w.config.callers) 0 Null
+null_at_first w = cc (none_called w.config, at_first (8 * w.config.callers) 0 Null)
 
 -- The same for a pass that is this one.
 
@@ -49,11 +45,8 @@ pub admits : (p : PassState) (w : WordsState) → p ≡ first_pass w → 1 ≤ w
 admits p w is some = subst (λ (x : PassState). Admits x (Op.IsNull 0)) (sym is) (admits_at_first w some)
 
 pub tells_null : (p : PassState) (w : WordsState) → p ≡ first_pass w → is_same (value_of p 0) Null ≡ true
-tells_null p w is = ap (λ (x : PassState). is_same (value_of x 0) Null) is
-    ∙ ap (λ (v : Value). is_same v Null) (null_at_first w)
+tells_null p w is = cc (null_at_first w)
 
 pub given : (h p : PassState) (w : WordsState) → h.table ≡ w → h.seen ≡ []
     → p ≡ record h { seat = Caller 0; seats = Caller 0 ∷ [] } → p ≡ first_pass w
-given h p w table first is =
-    is ∙ ap (λ (t : WordsState). record { table = t; seat = Caller 0; seats = Caller 0 ∷ []; seen = h.seen }) table
-    ∙ ap (λ (l : List Event). record { table = w; seat = Caller 0; seats = Caller 0 ∷ []; seen = l }) first
+given h p w table first is = cc

@@ -76,9 +76,7 @@ module _ {p0 p1 r1 p2 : PassState} {o1 o2 : Op} {a1 a2 : Answer} (first : Called
       ∙ append_assoc decided first.decided.behind came
 
   calls_there : calls c decided ≡ calls c before ++ entry ∷ []
-  calls_there =
-      calls_more c (first_world c) before first.decided.event
-      ∙ ap (λ (l : List Decided). calls c before ++ l) first.decided.decides
+  calls_there = cc (calls_more c (first_world c) before first.decided.event, first.decided.decides)
 
   pub never_there : never_behind c decided ≡ after_op (never_behind c before) (caller_of_pass p0) (flagged o1 a1)
   never_there =

@@ -40,12 +40,9 @@ op_keeps : (n : NeverState) (k : ℕ) (o : Op) (g : ℕ) → is_set_of g o ≡ f
 op_keeps n k (Op.New d ty full) g h = new_keeps n _ g full refl
 op_keeps n k (Op.Free p) g h = free_keeps n g (register_at n k p)
 op_keeps n k (Op.GetNum q i) g h = refl
-op_keeps n k (Op.SetNum q i m) g h = left_keeps n n g (target_of n (register_at n k q) i)
-    (λ a w. with_word n a w (Num m)) refl (λ a w. refl)
-op_keeps n k (Op.GetPtr d q i) g h = left_keeps n (with_register n k d Null) g (target_of n (register_at n k q) i)
-    (λ a w. with_register n k d (word_at n a w)) refl (λ a w. refl)
-op_keeps n k (Op.SetPtr q i p) g h = left_keeps n n g (target_of n (register_at n k q) i)
-    (λ a w. with_word n a w (register_at n k p)) refl (λ a w. refl)
+op_keeps n k (Op.SetNum q i m) g h = left_keeps n n g _ (λ a w. with_word n a w (Num m)) refl (λ a w. refl)
+op_keeps n k (Op.GetPtr d q i) g h = left_keeps n _ g _ (λ a w. with_register n k d (word_at n a w)) refl (λ a w. refl)
+op_keeps n k (Op.SetPtr q i p) g h = left_keeps n n g _ (λ a w. with_word n a w (register_at n k p)) refl (λ a w. refl)
 op_keeps n k (Op.CasPtr q i p r) g h =
     left_keeps n n g (target_of n (register_at n k q) i)
     (λ a w. if is_same (word_at n a w) (register_at n k p) then with_word n a w (register_at n k r) else n) refl

@@ -90,13 +90,11 @@ admitted_there {p} {q} {o} {a} c h =
     ap (λ (x : PassState). x.seen) c.is ∙ ap (λ (l : List Event). p.seen ++ l) c.decided.is
     ∙ sym (append_assoc p.seen c.decided.before (c.decided.event ∷ c.decided.behind))
     ∙ sym (append_assoc es (c.decided.event ∷ []) c.decided.behind) in
-    let all : IsHistory p.table.config q.seen = subst (λ (k : Config). IsHistory k q.seen)
-    (ap (λ (x : PassState). x.table.config) c.is) h in
+    let all : IsHistory p.table.config q.seen = rw (ap (λ (x : PassState). x.table.config) c.is) at h in
     let last = comes_last p.table.config es c.decided.event
     (earlier_part_is_history p.table.config (es ++ c.decided.event ∷ []) c.decided.behind
     (subst (λ (l : List Event). IsHistory p.table.config l) whole all)) in
-    subst (λ (l : List Decided). AreAdmitted p.table.config.globals (never_behind p.table.config es) (asked l))
-    c.decided.decides last.admitted
+    rw c.decided.decides at last.admitted
 
 module _ {p0 p1 p2 : PassState} (x i n loaded : ℕ) (lt : x < 8) (h : IsHistory p1.table.config p1.seen)
     (set : Called p0 (Op.SetNum x i n) Answer.Done p1) (get : Called p1 (Op.GetNum x i) (Answer.Num loaded) p2) where
@@ -134,18 +132,10 @@ module _ {p0 p1 p2 : PassState} (x i n loaded : ℕ) (lt : x < 8) (h : IsHistory
 
   answered : Answer.Num loaded ≡ answer_of (bases_of (left p1.table.config
       (p1.seen ++ get.decided.before ++ get.decided.event ∷ [])).allocations) (reply_of n2 k (Op.GetNum x i))
-  answered =
-      get.decided.reply
-      ∙ ap (λ (m : NeverState). answer_of (bases_of (left p1.table.config
-      (p1.seen ++ get.decided.before ++ get.decided.event ∷ [])).allocations)
-      (reply_of m (caller_of_pass p1) (Op.GetNum x i))) there
-      ∙ ap (λ j. answer_of (bases_of (left p1.table.config
-      (p1.seen ++ get.decided.before ++ get.decided.event ∷ [])).allocations) (reply_of n2 j (Op.GetNum x i)))
-      (same_number set (at_once p1) get)
+  answered = cc (get.decided.reply, there, same_number set (at_once p1) get)
 
   loaded_from : Word n2 (register_at n2 k x) i
-  loaded_from = number_gets _ n2 (register_at n2 k x) i loaded (λ a w. number_in (word_at n2 a w))
-      (target_of n2 (register_at n2 k x) i) refl answered
+  loaded_from = number_gets _ n2 _ i loaded (λ a w. number_in (word_at n2 a w)) _ refl answered
 
   reaches : target_of n2 (register_at n2 k x) i ≡ WordOf stored_to.number stored_to.at
   reaches =
@@ -183,9 +173,7 @@ may_load {p} {q} x i n ad h c =
     whole)).all.mirrors.typed in
     let meets : Meets (never_behind p.table.config (p.seen ++ c.more))
     (register_at (never_behind p.table.config (p.seen ++ c.more)) (caller_of_pass p) x) i IsNumber =
-    meets_register p.table.config.globals (never_of p) (never_behind p.table.config (p.seen
-    ++ c.more)) (caller_of_pass p)
-    (never_continues p.table.config p.seen c.more) keeps typed x i IsNumber ad.in_range ad.access in
+    meets_register _ _ _ _ (never_continues _ _ c.more) keeps typed x i IsNumber ad.in_range ad.access in
     record {
       of_a_caller = still_caller c ad.of_a_caller;
       in_range = ad.in_range;

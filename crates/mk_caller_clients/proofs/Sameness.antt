@@ -50,9 +50,7 @@ pub may_get : {p q : PassState} (d g r : ℕ) → Admits p (Op.SetGlobal g r) �
     → Called p (Op.SetGlobal g r) Answer.Done q → Admits q (Op.GetGlobal d g)
 may_get {p} {q} d g r ad lt c =
     let on = never_continues p.table.config p.seen c.more in
-    let there : g < length (never_of q).globals =
-    subst (λ (x : PassState). g < length (never_of x).globals) (sym c.is)
-    (subst (λ count. g < count) (sym on.globals) ad.in_range.0) in
+    let there : g < length (never_of q).globals = rw c.is (subst (λ count. g < count) (sym on.globals) ad.in_range.0) in
     record { of_a_caller = still_caller c ad.of_a_caller; in_range = (lt, there); access = tt; store = tt }
 
 module _ {p0 p1 r1 p2 p3 : PassState} (d g r : ℕ) (word : ℕ) (a : Answer) (o : Op) (ad : Admits p0 (Op.SetGlobal g r))

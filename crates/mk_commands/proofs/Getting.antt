@@ -39,6 +39,4 @@ gen_reads f t answer reads h =
     let markers = first_value-rows f (codes "markers") ∙ h.markers in
     let start = first_value-rows f (codes "start") ∙ h.start in
     let count = first_value-rows f (codes "count") ∙ h.count in
-    reads ∙ ap (λ (o : Option Text). gen_said o (first_value f (codes "start")) (first_value f (codes "count"))) markers
-    ∙ ap (λ (o : Option Text). gen_said t.markers o (first_value f (codes "count"))) start
-    ∙ ap (gen_said t.markers (start_of t.numbers)) count
+    cc (reads, markers, start, count)

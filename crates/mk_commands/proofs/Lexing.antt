@@ -44,10 +44,7 @@ long_shape word p e = first (strip_byte 45 word) refl e
         → word ≡ 45 ∷ 45 ∷ (p.0 ++ tail_of p.1)
     second r a None b e = cc
     second r a (Some []) b e = cc
-    second r a (Some (x ∷ xs)) b e =
-        stripped 45 word r a ∙ ap (λ l. 45 ∷ l) (stripped 45 r (x ∷ xs) b)
-        ∙ ap (λ l. 45 ∷ 45 ∷ l) (sym (joined (x ∷ xs)))
-        ∙ ap (λ (o : Option (Text × Option Text)). 45 ∷ 45 ∷ ((unwrap_or o p).0 ++ tail_of (unwrap_or o p).1)) e
+    second r a (Some (x ∷ xs)) b e = cc (stripped 45 word r a, stripped 45 r (x ∷ xs) b, joined (x ∷ xs))
 
     first : (o : Option Text) → strip_byte 45 word ≡ o
         → option_and_then long_of_rest (option_and_then (strip_byte 45) o) ≡ Some p
@@ -125,8 +122,7 @@ says_long word id v e l = by (name_view id)
 
     named : (name : Text) → id ≡ name → said (45 ∷ 45 ∷ (name ++ tail_of v)) ≡ said_long name v
         → said word ≡ said_long id v
-    named name same says = ap said (shape ∙ ap (λ (n : Text). 45 ∷ 45 ∷ (n ++ tail_of v)) same) ∙ says
-        ∙ ap (λ (n : Text). said_long n v) (sym same)
+    named name same says = cc (shape)
 
     markers_says : (u : Option Text) → said (45 ∷ 45 ∷ (codes "markers" ++ tail_of u)) ≡ markers_said u
     markers_says None = refl

@@ -239,8 +239,7 @@ module _ (form : Form) (name word : Text) (words : List Text) (rows : List Row) 
         named : (name : Text) → id ≡ name
             → (long_of word ≡ Some (name, v) → Free (given_said form (said_long name v) word t))
             → Free (given_said form (said_long id v) word t)
-        named name same go = subst (λ (n : Text). Free (given_said form (said_long n v) word t)) (sym same)
-            (go (subst (λ (n : Text). long_of word ≡ Some (n, v)) same l))
+        named name same go = rw same (go (subst (λ (n : Text). long_of word ≡ Some (n, v)) same l))
 
         by : NameView id → Free (given_said form (said_long id v) word t)
         by (is_markers same) = named (codes "markers") same (markers_go (takes_markers form) refl v)

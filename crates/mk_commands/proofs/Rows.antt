@@ -68,23 +68,18 @@ entry_same id r (x ∷ rows) e none = by_test (bytes_eq x.id id) refl none (entr
     by_test true t was more = let bad : Some (x.values, x.reading) ≡ None = rw t at was in cc
     by_test false t was more = let left : entry id rows ≡ None = rw t at was in rw t (more left)
 
+-- what is found of a row's values and how they are read
+of_found : {C : Type 0} (f : List Text × Reading → Option C) (o : Option Row)
+    → option_and_then (λ (r : Row). f (r.values, r.reading)) o
+    ≡ option_and_then f (option_map (λ (r : Row). (r.values, r.reading)) o)
+of_found f None = refl
+of_found f (Some r) = refl
+
 pub first_of_entry : (id : Text) (rows : List Row)
     → first_of id rows ≡ option_and_then (λ (p : List Text × Reading). slice_get p.0 0) (entry id rows)
-first_of_entry id rows = by_found (find (λ r. bytes_eq r.id id) rows)
-  where
-    by_found : (o : Option Row) → option_and_then (λ (r : Row). slice_get r.values 0) o
-        ≡ option_and_then (λ (p : List Text × Reading). slice_get p.0 0)
-        (option_map (λ (r : Row). (r.values, r.reading)) o)
-    by_found None = refl
-    by_found (Some r) = refl
+first_of_entry id rows = of_found (λ p. slice_get p.0 0) (find (λ r. bytes_eq r.id id) rows)
 
 pub one_of_entry : (id : Text) (rows : List Row)
     → one_of id rows ≡ option_and_then (λ (p : List Text × Reading). option_map (read_as p.1) (slice_get p.0 0))
     (entry id rows)
-one_of_entry id rows = by_found (find (λ r. bytes_eq r.id id) rows)
-  where
-    by_found : (o : Option Row) → option_and_then (λ (r : Row). option_map (read_as r.reading) (slice_get r.values 0)) o
-        ≡ option_and_then (λ (p : List Text × Reading). option_map (read_as p.1) (slice_get p.0 0))
-        (option_map (λ (r : Row). (r.values, r.reading)) o)
-    by_found None = refl
-    by_found (Some r) = refl
+one_of_entry id rows = of_found (λ p. option_map (read_as p.1) (slice_get p.0 0)) (find (λ r. bytes_eq r.id id) rows)

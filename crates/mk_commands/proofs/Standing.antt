@@ -8,7 +8,8 @@ use Rattle.clap.specs.Walk.{settled_rows, value, with_values, without, word_met}
 use Rattle.clap.specs.declared.builder.value_parser.Reading.{Reading}
 use Rattle.clap.specs.declared.builder.value_parser.Reading.TheVariants.{AsWritten}
 use Rattle.clap.specs.declared.parser.matches.ValueSource.TheVariants.{CommandLine}
-use Rattle.mk_commands.proofs.Walking.{and_false, count_filled, goes_on, holding, position_of, rest_fault, rest_rows}
+use Rattle.std.proofs.Math.Bool.{and-false, or-false}
+use Rattle.mk_commands.proofs.Walking.{count_filled, goes_on, holding, position_of, rest_fault, rest_rows}
 use Rattle.mk_commands.proofs.Walking.{rules, shape, standing, start_filled, step_stops}
 use Rattle.mk_commands.proofs.Rows.{entry, entry_other, entry_same, has_entry, row, values_set}
 use Rattle.mk_commands.specs.Given.{Flag, Form, Given, Numbers, bare, gens, given_awaited, given_said, given_with_word}
@@ -129,31 +130,19 @@ passes_on form name w word words h step (Some t) s met passes fits tells =
     (sym on.0 ∙ tells.0, subst (λ (rows : List Row). Holds rows t) on.1 tells.1)
 
 -- the next word is told so
-pub if_true : (b : Bool) (x y : Option Given) → b ≡ true → (if b then x else y) ≡ x
-if_true true x y e = refl
-if_true false x y e = cc
-
-pub if_false : (b : Bool) (x y : Option Given) → b ≡ false → (if b then x else y) ≡ y
-if_false true x y e = cc
-if_false false x y e = refl
-
 pub told_awaiting : (form : Form) (t : Given) (word : Text) → t.awaits ≡ true
     → given_with_word form t word ≡ given_awaited (said word) word t
-told_awaiting form t word a = if_true t.awaits _ _ a
+told_awaiting form t word a = rw a refl
 
 pub told_ended : (form : Form) (t : Given) (word : Text) → t.awaits ≡ false → t.ended ≡ true
     → given_with_word form t word ≡ with_number form t word
-told_ended form t word a e = if_false t.awaits _ _ a ∙ if_true t.ended _ _ e
+told_ended form t word a e = rw (a, e) refl
 
 pub told_free : (form : Form) (t : Given) (word : Text) → t.awaits ≡ false → t.ended ≡ false
     → given_with_word form t word ≡ given_said form (said word) word t
-told_free form t word a e = if_false t.awaits _ _ a ∙ if_false t.ended _ _ e
+told_free form t word a e = rw (a, e) refl
 
 -- ---- a word that is a number
-
-or_off : (b : Bool) → (b || false) ≡ b
-or_off true = refl
-or_off false = refl
 
 start_alone : (t : Given) (v : Text) → t.numbers ≡ no_number → (j : Id)
     → bytes_eq (codes "start") (text_of j) ≡ false → given_for j (record t { numbers = one_number v }) ≡ given_for j t
@@ -188,8 +177,7 @@ module _ (form : Form) (name word : Text) (words : List Text) (t : Given) (rows 
       (with_words form words (record t { numbers = now }))
   holds_number k now after fits at =
       passes_on form name (standing rows p idle (position_of ns) tr) word words (holding rows p) value _ refl met passes
-      fits (subst (λ (w : Walk). TellsAs form name w words (with_words form words (record t { numbers = now })))
-      (sym after) (more false _ left (Some (text_of k, word ∷ [])) now tr refl en at))
+      fits (rw after (more false _ left (Some (text_of k, word ∷ [])) now tr refl en at))
 
   refuses_number : (step_fault (shape form name) (position_of ns) (holding rows p) value ≡ [] → ⊥)
       → rest_fault form name (standing rows p idle (position_of ns) tr) (word ∷ words) ≡ [] → ⊥
@@ -212,22 +200,22 @@ number_tells gens name word words t rows p (two_numbers a b) tr is en i met pass
     rw is (refuses_number gens name word words t rows p (two_numbers a b) tr is en i met passes more (λ e. cc))
 number_tells gens name word words t rows p no_number tr is en i met passes more =
     let left = settled_rows (rules gens) p rows in
-    let pends = and_false (is_pending start_filled p) in
+    let pends = and-false (is_pending start_filled p) in
     let fresh : has_row (codes "start") left ≡ false =
     has_id left t i.1 start_id ∙ ap (λ ns. is_some (start_of ns)) is in
     rw is (holds_number gens name word words t rows p no_number tr is en i met passes more start_id (one_number word)
-    (rw (pends, or_off tr) refl) (rw pends i.0) (
+    (rw (pends, or-false tr) refl) (rw pends i.0) (
       rw fresh refl,
       holds_set left t i.1 start_id word _ (ap start_of is) refl (start_alone t word is),
       i.2,
     ))
 number_tells gens name word words t rows p (one_number a) tr is en i met passes more =
     let left = settled_rows (rules gens) p rows in
-    let pends = and_false (is_pending count_filled p) in
+    let pends = and-false (is_pending count_filled p) in
     let fresh : has_row (codes "count") left ≡ false =
     has_id left t i.1 count_id ∙ ap (λ ns. is_some (count_of ns)) is in
     rw is (holds_number gens name word words t rows p (one_number a) tr is en i met passes more count_id
-    (two_numbers a word) (rw (pends, or_off tr) refl) (rw pends i.0) (
+    (two_numbers a word) (rw (pends, or-false tr) refl) (rw pends i.0) (
       rw fresh refl,
       holds_set left t i.1 count_id word _ (ap count_of is) refl (count_alone t a word is),
       i.2,

@@ -73,15 +73,12 @@ defaulted_is bare rows = refl
 -- ---- what the getters find
 
 first_found : (id : Text) (rows : List Row) (m : Option Text) → entry id rows ≡ as_entry m → first_of id rows ≡ m
-first_found id rows None e = first_of_entry id rows
-    ∙ ap (option_and_then (λ (p : List Text × Reading). slice_get p.0 0)) e
-first_found id rows (Some v) e = first_of_entry id rows
-    ∙ ap (option_and_then (λ (p : List Text × Reading). slice_get p.0 0)) e
+first_found id rows None e = cc (first_of_entry id rows)
+first_found id rows (Some v) e = cc (first_of_entry id rows)
 
 flag_found : (id : Text) (rows : List Row) (b : Bool) → entry id rows ≡ Some (bool_text b ∷ [], AsWritten)
     → one_of id rows ≡ Some (bool_text b)
-flag_found id rows b e = one_of_entry id rows
-    ∙ ap (option_and_then (λ (p : List Text × Reading). option_map (read_as p.1) (slice_get p.0 0))) e
+flag_found id rows b e = cc (one_of_entry id rows)
 
 -- what the words gave stands where the flags have their values
 stays : (form : Form) (rows : List Row) (t : Given) → Holds rows t → (k : Id)

@@ -9,7 +9,7 @@ use Rattle.clap.specs.Walk.{with_values, without}
 use Rattle.clap.specs.declared.parser.matches.ValueSource.TheVariants.{CommandLine}
 use Rattle.mk_commands.proofs.Lexing.{NameView, flag_long, is_flag, is_markers, is_other, name_view, said_long}
 use Rattle.mk_commands.proofs.Lexing.{says_dashed, says_long}
-use Rattle.mk_commands.proofs.Standing.{Holds, IsAt, More, TellsAs, has_id, holds_set, if_false, if_true, markers_id}
+use Rattle.mk_commands.proofs.Standing.{Holds, IsAt, More, TellsAs, has_id, holds_set, markers_id}
 use Rattle.mk_commands.proofs.Standing.{number_tells, passes_on, still_holds, told_awaiting, told_ended, told_free}
 use Rattle.mk_commands.proofs.Walking.{PassesBy, View, bundle_is, bundle_stops, holding, is_bundle, is_ends, is_long}
 use Rattle.mk_commands.proofs.Walking.{is_odd, is_plain, long_is, long_stops, lost, odd_passes, plain_passes}
@@ -27,9 +27,7 @@ free_tells : (form : Form) (name word : Text) (words : List Text) (t : Given) (r
     → TellsAs form name (standing rows p idle (position_of ns) tr) (word ∷ words)
     (option_and_then (with_words form words) (given_with_word form t word))
 free_tells form name word words t rows p ns true is en i more =
-    subst (λ (o : Option Given). TellsAs form name (standing rows p idle (position_of ns) true) (word ∷ words)
-    (option_and_then (with_words form words) o))
-    (sym (told_ended form t word i.2 en)) (number_tells form name word words t rows p ns true is en i refl refl more)
+    rw (told_ended form t word i.2 en) (number_tells form name word words t rows p ns true is en i refl refl more)
 free_tells form name word words t rows p ns false is en i more = on_view (view word)
   where
     by_said : (x : Said) → said word ≡ x → Free form name word words rows p ns (given_said form x word t)
@@ -167,13 +165,10 @@ awaiting_tells form name word words t rows ns is h a en k more = on_view (view w
 no_words : (form : Form) (name : Text) → More form name []
 unfolding walk_fault
 no_words form name false t rows p ns tr is en i =
-    subst (TellsAs form name (standing rows p idle (position_of ns) tr) []) (sym (if_false t.awaits None (Some t) i.2))
-    (i.0, i.1)
+    let told : with_words form [] t ≡ Some t = rw i.2 refl in
+    subst (TellsAs form name (standing rows p idle (position_of ns) tr) []) (sym told) (i.0, i.1)
 no_words form name true t rows p ns tr is en i =
-    subst (TellsAs form name (standing rows p (option (codes "markers")) (position_of ns) tr) [])
-    (sym (if_true t.awaits None (Some t) i.2))
-    (λ e. none_awaited form i.4 rows
-    (subst (λ (q : Option (Text × List Text)). settle_fault (rules form) false (holding rows q) ≡ []) i.0 e))
+    rw i.2 (λ e. none_awaited form i.4 rows (rw i.0 at e))
 
 pub tells : (form : Form) (name : Text) (words : List Text) → More form name words
 tells form name [] = no_words form name
@@ -182,10 +177,7 @@ tells form name (word ∷ words) = one_more (tells form name words)
     one_more : More form name words → More form name (word ∷ words)
     one_more more false t rows p ns tr is en i = free_tells form name word words t rows p ns tr is en i more
     one_more more true t rows p ns tr is en i =
-        subst (λ (q : Option (Text × List Text)). TellsAs form name
-        (standing rows q (option (codes "markers")) (position_of ns) tr) (word ∷ words)
-        (with_words form (word ∷ words) t)) (sym i.0)
-        (subst (λ (r : Bool). TellsAs form name
+        rw i.0 (subst (λ (r : Bool). TellsAs form name
         (standing rows (Some (codes "markers", [])) (option (codes "markers")) (position_of ns) r) (word ∷ words)
         (with_words form (word ∷ words) t)) (sym i.3 ∙ en)
         (awaiting_tells form name word words t rows ns is i.1 i.2 i.3 i.4 more))

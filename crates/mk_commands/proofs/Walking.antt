@@ -1,6 +1,7 @@
 -- The walk of clap over the words, word by word.
 use Rattle.std.proofs.Common.{Bool, List, None, Option, Some, ℕ, ap, codes, drop, encode_utf8, false, fold, inl, inr}
 use Rattle.std.proofs.Common.{length, refl, slice_get, subst, sym, true, [], ◌&&◌, ◌∙◌, ◌∷◌, ◌≡◌, ◌⊎◌}
+use Rattle.std.proofs.Math.Bool.{and-false}
 use Rattle.std.specs.Str.{bytes_eq, chars}
 use Rattle.clap.proofs.FaultLemmas.{fault_ends}
 use Rattle.clap.proofs.WalkLemmas.{bundle_ends}
@@ -120,10 +121,6 @@ step_stops form name w word words h step s met bad = stops form name w word word
 
 -- ---- faults
 
-pub and_false : (b : Bool) → (b && false) ≡ false
-and_false true = refl
-and_false false = refl
-
 abbrev pub position_of : Numbers → ℕ
 position_of no_number = 1
 position_of (one_number a) = 2
@@ -145,8 +142,8 @@ long_stops c (Some a) v h bad e = by_takes (takes_values a) refl v e
 number_stops : (form : Form) (name : Text) (ns : Numbers) (rows : List Row) (p : Option (Text × List Text))
     → (settle_fault (rules form) false (holding rows p) ≡ [] → ⊥)
     → step_fault (shape form name) (position_of ns) (holding rows p) value ≡ [] → ⊥
-number_stops gens name no_number rows p bad e = bad (rw (and_false (is_pending start_filled p)) at e)
-number_stops gens name (one_number a) rows p bad e = bad (rw (and_false (is_pending count_filled p)) at e)
+number_stops gens name no_number rows p bad e = bad (rw (and-false (is_pending start_filled p)) at e)
+number_stops gens name (one_number a) rows p bad e = bad (rw (and-false (is_pending count_filled p)) at e)
 number_stops _ name ns rows p bad e = cc
 
 -- short flags are unknown

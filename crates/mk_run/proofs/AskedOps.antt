@@ -12,6 +12,5 @@ pub asked_op : (s : FeedState) (o p : Op) → AsksFor s o
 asked_op s o p asks next =
     let some = asks.some in
     let e : Some p ≡ Some o =
-    next some.program some.k some.answers some.stands
-    ∙ asks.next some.program some.k some.answers some.stands in
+    cc (next some.program some.k some.answers some.stands, asks.next some.program some.k some.answers some.stands) in
     cc

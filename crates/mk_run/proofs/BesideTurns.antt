@@ -18,17 +18,15 @@ stays_still p = record { more = []; is = sym (append-nil p.seen); steps = nothin
 
 pub beside_then : (p q r : PassState) → q ≡ record p { seen = q.seen } → StaysBeside p q → StaysBeside q r
     → StaysBeside p r
-beside_then p q r same x y =
-    record {
-      more = x.more ++ y.more;
-      is = seen_then p.seen q.seen r.seen x.more y.more x.is y.is;
-      steps =
-          ap (λ (l : List Finding). are_of is_beside_turns l) (done_in_parts p x.more y.more)
-          ∙ of_kinds_in_parts is_beside_turns (done_in p x.more) (done_in (record p { seen = p.seen ++ x.more }) y.more)
-          x.steps
-          (subst (λ (z : PassState). are_of is_beside_turns (done_in z y.more) ≡ true)
-          (same ∙ ap (λ (l : List Event). record p { seen = l }) x.is) y.steps);
-    }
+beside_then p q r same x y = record {
+  more = x.more ++ y.more;
+  is = seen_then p.seen q.seen r.seen x.more y.more x.is y.is;
+  steps =
+      ap (λ (l : List Finding). are_of is_beside_turns l) (done_in_parts p x.more y.more)
+      ∙ of_kinds_in_parts is_beside_turns (done_in p x.more) (done_in (record p { seen = p.seen ++ x.more }) y.more)
+      x.steps
+      (rw (same ∙ ap (λ (l : List Event). record p { seen = l }) x.is) at y.steps);
+}
 
 steps_of_all : (xs : List Finding)
     → list_all is_beside_turns (map (λ (x : Finding). x.event.step) xs) ≡ are_of is_beside_turns xs
@@ -41,9 +39,7 @@ stage_beside _ = refl
 
 stages_beside : (xs : List Stage) → list_all is_beside_turns (map step_at xs) ≡ true
 stages_beside [] = refl
-stages_beside (x ∷ xs) =
-    and_from (is_beside_turns (step_at x)) (list_all is_beside_turns (map step_at xs)) (stage_beside x)
-    (stages_beside xs)
+stages_beside (x ∷ xs) = and_from _ _ (stage_beside x) (stages_beside xs)
 
 pub called_beside : (p : PassState) (o : Op) (a : Answer) (q : PassState) → Called p o a q → StaysBeside p q
 called_beside p o a q called =

@@ -75,8 +75,7 @@ same_feed program k s xs ys same long h = record {
 same_refused : (answers : List Answer) (a b : Answer) → is_refusal a ≡ is_refusal b
     → count_by is_refusal (answers ++ a ∷ []) ≡ count_by is_refusal (answers ++ b ∷ [])
 same_refused answers a b same =
-    sum_by_push weight answers a ∙ ap (λ (t : Bool). count_by is_refusal answers + cond t 1 0) same
-    ∙ sym (sum_by_push weight answers b)
+    cc (sum_by_push weight answers a, same, sum_by_push weight answers b)
   where
     weight : Answer → ℕ
     weight x = cond (is_refusal x) 1 0

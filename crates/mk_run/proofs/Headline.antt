@@ -85,5 +85,4 @@ runs_print_their_texts on with_cycle program markers outcome runs =
     let texts = outcome.texts.items in
     let piece : (k : ℕ) (text : Text) → slice_get texts k ≡ Some text
     → text.bytes.items ≡ text_of (0 + k) = grind (arith, slice_get_within, all_given) in
-    pieces (λ (text : Text). text.bytes.items) text_of 0 texts piece
-    ∙ ap (λ (n : ℕ). flat_map text_of (range_with_len 0 n)) runs.count
+    cc (pieces (λ (text : Text). text.bytes.items) text_of 0 texts piece, runs.count)

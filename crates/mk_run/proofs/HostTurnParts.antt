@@ -4,8 +4,8 @@ use Rattle.mk_laws.proofs.Vocabulary.{arith, earlier_part_is_history, enabled_in
 use Rattle.mk_laws.proofs.Vocabulary.{is_close, left, or_from, or_parts, phase_of, refl, subst, sym, true, world_behind}
 use Rattle.mk_laws.proofs.Vocabulary.{[], ◌++◌, ◌∙◌, ◌∷◌, ◌≡◌, ◌≤◌}
 use Rattle.mk_laws.proofs.CyclePhases.{AsksPhase, close_is, moves_phase, phase_behind}
-use Rattle.mk_run.proofs.Vocabulary.{Has, Lacks, PassState, finish_does, has_step, has_then, is_of_cycles, turn_moves}
-use Rattle.mk_run.proofs.Vocabulary.{turn_stays}
+use Rattle.mk_run.proofs.Vocabulary.{Has, Lacks, PassState, finish_does, has_step, has_then, history_before}
+use Rattle.mk_run.proofs.Vocabulary.{in_turn_then, is_of_cycles, turn_moves, turn_stays}
 use Rattle.mk_alloc.proofs.CalmStretches.{cycles_in_turn}
 use Rattle.mk_alloc.proofs.ListParts.{SomeKind}
 use Rattle.mk_alloc.proofs.Parts.{made_as}
@@ -42,7 +42,7 @@ closes_none c w (e ∷ es) on out none =
     let parts = or_parts (is_begin e.step) (has_step is_begin es) none in
     let moves = moves_phase c w e es on in
     let one = beside_step e.step (phase_of w.now.words) moves.0 out parts.0 in
-    or_from (is_close e.step) (has_step is_close es) one.1
+    or_from _ _ one.1
     (closes_none c (world_behind c w e) es moves.2 (subst IsBeside (sym moves.1) one.0) parts.1)
 
 -- Directly after a `close` it is so.
@@ -106,3 +106,24 @@ ends_does taken idle own ends =
           (finish_stays ends.looked idle
           (finish_does ends.looked idle (has_then turn_stays taken ends.looked look own) (ends.on on)))
     ]
+
+module _ {p taken idle : PassState} (own : Has p.seats p.seat) (takes : TakesTurn p None taken)
+    (ends : EndsCycle taken idle) where
+  taken_own : Has taken.seats taken.seat
+  taken_own = subst (λ (r : PassState). Has r.seats r.seat) (sym (turn_moves p taken takes).is) own
+
+  pub to_idle : Does turn_stays taken idle
+  to_idle = ends_does taken idle taken_own ends
+
+  pub idle_own : Has idle.seats idle.seat
+  idle_own = has_then turn_stays taken idle to_idle taken_own
+
+  module _ (history : IsHistory idle.table.config idle.seen) where
+    pub taken_history : IsHistory taken.table.config taken.seen
+    taken_history = history_before turn_stays taken idle to_idle history
+
+    pub taken_turn : InTurn taken
+    taken_turn = turn_taken p taken own takes taken_history
+
+    pub idle_turn : InTurn idle
+    idle_turn = in_turn_then turn_stays taken idle stays taken_turn to_idle history

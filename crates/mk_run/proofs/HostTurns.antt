@@ -8,9 +8,8 @@ use Rattle.mk_run.proofs.Vocabulary.{CallersAreStill, Grows, Has, HasCallers, Ho
 use Rattle.mk_run.proofs.Vocabulary.{PassState, SaysOver, append_cancel_left, finish_does, finish_in, has_step}
 use Rattle.mk_run.proofs.Vocabulary.{has_then, history_before, in_turn_then, is_of_cycles, others_append, others_none}
 use Rattle.mk_run.proofs.Vocabulary.{others_own, seen_then, turn_moves, turn_stays}
-use Rattle.mk_run.proofs.LastOvers.{Unbegun, ends_unbegun, over_unbegun, stays, unbegun_made, unheld_unbegun}
-use Rattle.mk_run.proofs.LastOvers.{wait_unbegun}
-use Rattle.mk_run.proofs.HostTurnParts.{before_made, ends_does, turn_taken}
+use Rattle.mk_run.proofs.LastOvers.{Unbegun, idle_unbegun, over_unbegun, unbegun_made, unheld_unbegun}
+use Rattle.mk_run.proofs.LastCycles.{begins as begins_in, ends, h_idle, t_ended}
 use Rattle.mk_alloc.proofs.CycleParts.{BeginIn, begin_does, begin_in}
 use Rattle.mk_alloc.proofs.CalmStretches.{cycles_in_turn}
 use Rattle.mk_heap.proofs.HomeCallers.{others_hold_none}
@@ -51,8 +50,7 @@ none_begun (e ∷ es) h =
     sum_by-cons begins e es ∙ by_none (is_begin e.step) (cycles_begun es) parts.0 (none_begun es parts.1)
 
 one_begun : (e : Event) (es : List Event) → is_begin e.step ≡ true → Lacks is_begin es → cycles_begun (e ∷ es) ≡ 1
-one_begun e es is none =
-    sum_by-cons begins e es ∙ by_one (is_begin e.step) (cycles_begun es) is (none_begun es none)
+one_begun e es is none = sum_by-cons begins e es ∙ by_one (is_begin e.step) (cycles_begun es) is (none_begun es none)
 
 -- From what the one pass had seen to what the other has seen this many cycles are begun.
 record Begins (n : ℕ) (p q : PassState) : Type 0 where
@@ -87,29 +85,13 @@ begins_one p q b =
 cycle_begins : (p q : PassState) → Has p.seats p.seat → Has p.seats Host → HasCallers p.table.config p.seats
     → MakesCycle p q → IsHistory q.table.config q.seen → Begins 1 p q
 cycle_begins p q own host callers m history =
-    let taken_own : Has m.taken.seats m.taken.seat =
-    subst (λ (r : PassState). Has r.seats r.seat) (sym (turn_moves p m.taken m.takes).is) own in
-    let to_idle = ends_does m.taken m.idle taken_own m.ends in
-    let idle_own = has_then turn_stays m.taken m.idle to_idle taken_own in
-    let to_begun = begin_does m.idle m.begun idle_own m.begins in
-    let begun_own = has_then is_of_cycles m.idle m.begun to_begun idle_own in
-    let to_ended = finish_does m.begun m.ended begun_own m.finishes in
-    let ended = before_made m.ended q Step.Give m.gives history in
-    let begun = history_before is_of_cycles m.begun m.ended to_ended ended in
-    let idle = history_before is_of_cycles m.idle m.begun to_begun begun in
-    let taken = history_before turn_stays m.taken m.idle to_idle idle in
-    let t_taken = turn_taken p m.taken own m.takes taken in
-    let t_idle = in_turn_then turn_stays m.taken m.idle stays t_taken to_idle idle in
-    let t_begun = in_turn_then is_of_cycles m.idle m.begun cycles_in_turn t_idle to_begun begun in
-    let t_ended = in_turn_then is_of_cycles m.begun m.ended cycles_in_turn t_begun to_ended ended in
-    let finish = finish_in m.begun m.ended begun_own m.finishes t_begun ended in
-    begins_then 0 1 p m.taken q (begins_none p m.taken (wait_unbegun p m.taken host callers m.takes taken))
-    (begins_then 0 1 m.taken m.idle q (begins_none m.taken m.idle (ends_unbegun m.taken m.idle t_taken m.ends idle))
-    (begins_then 1 0 m.idle m.begun q
-    (begins_one m.idle m.begun (begin_in m.idle m.begun idle_own m.begins t_idle begun))
+    let finish = ends p q m own history in
+    begins_then 0 1 p m.idle q
+    (begins_none p m.idle (idle_unbegun own host callers m.takes m.ends (h_idle p q m own history)))
+    (begins_then 1 0 m.idle m.begun q (begins_one m.idle m.begun (begins_in p q m own history))
     (begins_then 0 0 m.begun m.ended q
     (begins_none m.begun m.ended (record { more = finish.more; is = finish.is; none = finish.begins_none }))
-    (begins_none m.ended q (unbegun_made m.ended q Step.Give t_ended refl m.gives history)))))
+    (begins_none m.ended q (unbegun_made m.ended q Step.Give (t_ended p q m own history) refl m.gives history))))
 
 -- The host's last turns, without a cycle of its own and with one.
 
@@ -150,8 +132,7 @@ comes_last c with_cycle p fs callers before still begins = record {
   without_host = before;
   without_callers = λ k lt.
       let s = still k (callers k lt) in
-      subst (λ (l : List Event). AreOfOthers (Caller k ∷ []) l)
-      (append_cancel_left p.seen s.more begins.more (sym s.is ∙ begins.is)) s.of_others;
+      rw (append_cancel_left p.seen s.more begins.more (sym s.is ∙ begins.is)) at s.of_others;
   cycles = begins.cycles;
 }
 

@@ -65,14 +65,12 @@ module _ (on : Bool) (program : List Item) (w : WordsState) (k : ℕ) (h : HostS
     seats = λ j le is.
         ⊎_elim
         (λ (e : j ≡ k). has_right h.pass.seats p.seats (Caller j)
-        (subst (λ (seats : List Seat). Has seats (Caller j)) (sym alone)
-        (subst (λ (i : ℕ). Has (Caller i ∷ []) (Caller j)) e (has_first (Caller j) []))))
+        (rw alone (subst (λ (i : ℕ). Has (Caller i ∷ []) (Caller j)) e (has_first (Caller j) []))))
         (λ (later : k + 1 ≤ j). has_left h.pass.seats p.seats (Caller j) (joined.seats j later is))
         (same_or_later k j le);
     follow = λ j le is.
         ⊎_elim
-        (λ (e : j ≡ k). subst (λ (i : ℕ). FollowsScript on program i w.config fs) (sym e)
-        (still_follows program k w.config p.seen fs mine on follows))
+        (λ (e : j ≡ k). rw e (still_follows program k w.config p.seen fs mine on follows))
         (λ (later : k + 1 ≤ j). still_follows program j w.config h.pass.seen fs (theirs j later is) on
         (joined.follow j later is))
         (same_or_later k j le);
@@ -85,8 +83,7 @@ module _ (on : Bool) (program : List Item) (w : WordsState) (k : ℕ) (h : HostS
     count = (let n = others.count in let m = ap (λ (l : List Text). length l) is in omega arith);
     ends = λ j le is'.
         ⊎_elim
-        (λ (e : j ≡ k). subst (λ (i : ℕ). EndsScript program i w.config fs) (sym e)
-        (still_ends program k w.config p.seen fs mine ends))
+        (λ (e : j ≡ k). rw e (still_ends program k w.config p.seen fs mine ends))
         (λ (later : k + 1 ≤ j). still_ends program j w.config h.pass.seen fs (theirs j later is')
         (others.ends j later is'))
         (same_or_later k j le);
@@ -98,16 +95,14 @@ module _ (on : Bool) (program : List Item) (w : WordsState) (k : ℕ) (h : HostS
       here zero text' at =
           let same : text ≡ text' = cc in
           subst (λ (j : ℕ). IsTextOf program j w.config fs text') (omega arith)
-          (subst (λ (t : Text). IsTextOf program k w.config fs t) same
-          (still_text program k w.config p.seen fs mine text first))
+          (rw same at (still_text program k w.config p.seen fs mine text first))
       here (suc i) text' at =
           let within = slice_get_within texts i text' at in
           let n = others.count in
           let is_script : IsScript program (k + 1 + i) = omega arith in
           let le : k + 1 ≤ k + 1 + i = omega arith in
-          subst (λ (j : ℕ). IsTextOf program j w.config fs text') (omega arith)
-          (still_text program (k + 1 + i) w.config h.pass.seen fs (theirs (k + 1 + i) le is_script) text'
-          (others.each i text' at))
+          subst (λ (j : ℕ). IsTextOf program j w.config fs text') (omega arith) (still_text program (k + 1 + i) _ _ fs
+          (theirs (k + 1 + i) le is_script) text' (others.each i text' at))
 
   pub texts_joined : {V : Type 0} (items : V → List Text)
       (first : Result Text NoMemory) (others all : Result V NoMemory)

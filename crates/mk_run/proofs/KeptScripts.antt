@@ -102,8 +102,7 @@ module _ {sweeps : Bool} {begins : Config → Seat → List Event → List Event
   script_joined program k c seats es fs alone came mine others = record {
     callers = λ j le is.
         ⊎_elim
-        (λ (same : j ≡ k). subst (λ (i : ℕ). SeatKeeps sweeps begins c (Caller i) fs) (sym same)
-        (others_on c (Caller k) (Caller k ∷ []) es fs (has_first (Caller k) [])
+        (λ (same : j ≡ k). rw same (others_on c (Caller k) (Caller k ∷ []) es fs (has_first (Caller k) [])
         (subst (λ (l : List Seat). Grows l es fs) alone came) mine))
         (λ (later : k + 1 ≤ j). others.callers j later is)
         (same_or_later k j le);

@@ -6,8 +6,8 @@ use Rattle.mk_laws.proofs.Vocabulary.{is_close, left, refl, subst, sym, [], ◌+
 use Rattle.mk_run.proofs.Vocabulary.{Has, HasCallers, Lacks, PassState, append_cancel_left, finish_does, finish_in}
 use Rattle.mk_run.proofs.Vocabulary.{has_then, history_before, in_turn_then, others_append, others_none, turn_moves}
 use Rattle.mk_run.proofs.Vocabulary.{turn_stays}
-use Rattle.mk_run.proofs.HostTurnParts.{before_made, behind_first, closes_no_more, ends_does, finish_stays, stays}
-use Rattle.mk_run.proofs.HostTurnParts.{turn_taken, unfinished_unclosed}
+use Rattle.mk_run.proofs.HostTurnParts.{before_made, behind_first, closes_no_more, finish_stays, idle_own, idle_turn}
+use Rattle.mk_run.proofs.HostTurnParts.{stays, to_idle, unfinished_unclosed}
 use Rattle.mk_core.specs.Growing.{is_same_seat}
 use Rattle.mk_alloc.proofs.CycleParts.{BeginIn, FinishIn, begin_does, begin_in, begins_held}
 use Rattle.mk_alloc.proofs.ListParts.{IsAt, lacks_append, lacks_first, lacks_second, only_at}
@@ -16,347 +16,334 @@ use Rattle.mk_alloc.proofs.Parts.{others_lack, seen_behind}
 use Rattle.mk_alloc.specs.TurnCycles.{finishes, within_turn}
 use Rattle.mk_cycle.specs.TurnKeeps.{InTurn}
 use Rattle.mk_heap.proofs.MovedHosts.{MovesOn, moves_does, moves_more}
-use Rattle.mk_heap.specs.Ending.{MakesToldCycle}
+use Rattle.mk_cycle.specs.Telling.{IsToldAtClose}
+use Rattle.mk_heap.specs.Ending.{MakesCycle}
 use Rattle.mk_run.specs.LastCycle.{MakesLastCycle, give_of}
 use Rattle.mk_turns.proofs.Doing.{does_then}
 use Rattle.mk_turns.specs.Doing.{Does}
 use Rattle.mk_words.proofs.TurnSteps.{takes}
 use Rattle.mk_words.specs.States.{event_of}
 
-module _ (tells : Config → World → Type 0) (p q : PassState) (m : MakesToldCycle tells p q) (own : Has p.seats p.seat)
-    (history : IsHistory q.table.config q.seen) where
-  abbrev taken : PassState
-  taken = m.makes.taken
+module _ (p q : PassState) (m : MakesCycle p q) (own : Has p.seats p.seat) (history : IsHistory q.table.config q.seen)
+  where
+    abbrev taken : PassState
+    taken = m.taken
 
-  abbrev idle : PassState
-  idle = m.makes.idle
+    abbrev idle : PassState
+    idle = m.idle
 
-  abbrev begun : PassState
-  begun = m.makes.begun
+    abbrev begun : PassState
+    begun = m.begun
 
-  abbrev ended : PassState
-  ended = m.makes.ended
+    abbrev ended : PassState
+    ended = m.ended
 
-  taken_moves : MovesOn p taken
-  taken_moves = turn_moves p taken m.makes.takes
+    taken_moves : MovesOn p taken
+    taken_moves = turn_moves p taken m.takes
 
-  own_taken : Has taken.seats taken.seat
-  own_taken = subst (λ (r : PassState). Has r.seats r.seat) (sym taken_moves.is) own
+    d_idle : Does turn_stays taken idle
+    d_idle = to_idle own m.takes m.ends
 
-  d_idle : Does turn_stays taken idle
-  d_idle = ends_does taken idle own_taken m.makes.ends
+    own_idle : Has idle.seats idle.seat
+    own_idle = idle_own own m.takes m.ends
 
-  own_idle : Has idle.seats idle.seat
-  own_idle = has_then turn_stays taken idle d_idle own_taken
+    d_begun : Does turn_stays idle begun
+    d_begun = finish_stays idle begun (begin_does idle begun own_idle m.begins)
 
-  d_begun : Does turn_stays idle begun
-  d_begun = finish_stays idle begun (begin_does idle begun own_idle m.makes.begins)
+    own_begun : Has begun.seats begun.seat
+    own_begun = has_then turn_stays idle begun d_begun own_idle
 
-  own_begun : Has begun.seats begun.seat
-  own_begun = has_then turn_stays idle begun d_begun own_idle
+    d_ended : Does turn_stays begun ended
+    d_ended = finish_stays begun ended (finish_does begun ended own_begun m.finishes)
 
-  d_ended : Does turn_stays begun ended
-  d_ended = finish_stays begun ended (finish_does begun ended own_begun m.makes.finishes)
+    own_ended : Has ended.seats ended.seat
+    own_ended = has_then turn_stays begun ended d_ended own_begun
 
-  own_ended : Has ended.seats ended.seat
-  own_ended = has_then turn_stays begun ended d_ended own_begun
+    d_turn : Does turn_stays taken ended
+    d_turn = does_then turn_stays taken idle ended d_idle (does_then turn_stays idle begun ended d_begun d_ended)
 
-  d_turn : Does turn_stays taken ended
-  d_turn = does_then turn_stays taken idle ended d_idle (does_then turn_stays idle begun ended d_begun d_ended)
+    h_ended : IsHistory ended.table.config ended.seen
+    h_ended = before_made ended q Step.Give m.gives history
 
-  h_ended : IsHistory ended.table.config ended.seen
-  h_ended = before_made ended q Step.Give m.makes.gives history
+    h_begun : IsHistory begun.table.config begun.seen
+    h_begun = history_before turn_stays begun ended d_ended h_ended
 
-  h_begun : IsHistory begun.table.config begun.seen
-  h_begun = history_before turn_stays begun ended d_ended h_ended
+    pub h_idle : IsHistory idle.table.config idle.seen
+    h_idle = history_before turn_stays idle begun d_begun h_begun
 
-  h_idle : IsHistory idle.table.config idle.seen
-  h_idle = history_before turn_stays idle begun d_begun h_begun
+    t_idle : InTurn idle
+    t_idle = idle_turn own m.takes m.ends h_idle
 
-  h_taken : IsHistory taken.table.config taken.seen
-  h_taken = history_before turn_stays taken idle d_idle h_idle
+    t_begun : InTurn begun
+    t_begun = in_turn_then turn_stays idle begun stays t_idle d_begun h_begun
 
-  t_taken : InTurn taken
-  t_taken = turn_taken p taken own m.makes.takes h_taken
+    pub t_ended : InTurn ended
+    t_ended = in_turn_then turn_stays begun ended stays t_begun d_ended h_ended
 
-  t_idle : InTurn idle
-  t_idle = in_turn_then turn_stays taken idle stays t_taken d_idle h_idle
+    pub begins : BeginIn idle begun
+    begins = begin_in idle begun own_idle m.begins t_idle h_begun
 
-  t_begun : InTurn begun
-  t_begun = in_turn_then turn_stays idle begun stays t_idle d_begun h_begun
+    pub ends : FinishIn begun ended
+    ends = finish_in begun ended own_begun m.finishes t_begun h_ended
 
-  t_ended : InTurn ended
-  t_ended = in_turn_then turn_stays begun ended stays t_begun d_ended h_ended
+    -- the turn's events up to its `give`, and what the cycle's `close` is followed by in them
 
-  begins : BeginIn idle begun
-  begins = begin_in idle begun own_idle m.makes.begins t_idle h_begun
+    abbrev to_end : List Event
+    to_end = d_idle.more ++ ((begins.before ++ begins.begin ∷ begins.behind) ++ ends.more)
 
-  ends : FinishIn begun ended
-  ends = finish_in begun ended own_begun m.makes.finishes t_begun h_ended
+    abbrev given : List Event
+    given = m.gives.others
 
-  -- the turn's events up to its `give`, and what the cycle's `close` is followed by in them
+    abbrev inside : List Event
+    inside = to_end ++ given
 
-  abbrev to_end : List Event
-  to_end = d_idle.more ++ ((begins.before ++ begins.begin ∷ begins.behind) ++ ends.more)
+    abbrev behind_close : List Event
+    behind_close =
+        ends.ends.to_release ++ ends.ends.release ∷ (ends.ends.to_end ++ ends.ends.end ∷ (ends.ends.behind ++ given))
 
-  abbrev given : List Event
-  given = m.makes.gives.others
+    ended_is : ended.seen ≡ taken.seen ++ to_end
+    ended_is =
+        ends.is ∙ ap (λ (l : List Event). l ++ ends.more) begins.is
+        ∙ ap (λ (l : List Event). (l ++ (begins.before ++ begins.begin ∷ begins.behind)) ++ ends.more)
+        (seen_behind turn_stays taken idle d_idle)
+        ∙ append_assoc (taken.seen ++ d_idle.more) (begins.before ++ begins.begin ∷ begins.behind) ends.more
+        ∙ append_assoc taken.seen d_idle.more ((begins.before ++ begins.begin ∷ begins.behind) ++ ends.more)
 
-  abbrev inside : List Event
-  inside = to_end ++ given
+    turn_is : d_turn.more ≡ to_end
+    turn_is =
+        append_cancel_left taken.seen d_turn.more to_end (sym (seen_behind turn_stays taken ended d_turn) ∙ ended_is)
 
-  abbrev behind_close : List Event
-  behind_close =
-      ends.ends.to_release ++ ends.ends.release ∷ (ends.ends.to_end ++ ends.ends.end ∷ (ends.ends.behind ++ given))
+    -- the turn
 
-  ended_is : ended.seen ≡ taken.seen ++ to_end
-  ended_is =
-      ends.is ∙ ap (λ (l : List Event). l ++ ends.more) begins.is
-      ∙ ap (λ (l : List Event). (l ++ (begins.before ++ begins.begin ∷ begins.behind)) ++ ends.more)
-      (seen_behind turn_stays taken idle d_idle)
-      ∙ append_assoc (taken.seen ++ d_idle.more) (begins.before ++ begins.begin ∷ begins.behind) ends.more
-      ∙ append_assoc taken.seen d_idle.more ((begins.before ++ begins.begin ∷ begins.behind) ++ ends.more)
+    abbrev before_take : List Event
+    before_take = m.takes.waited.seen ++ m.takes.takes.makes.others
 
-  turn_is : d_turn.more ≡ to_end
-  turn_is =
-      append_cancel_left taken.seen d_turn.more to_end (sym (seen_behind turn_stays taken ended d_turn) ∙ ended_is)
+    abbrev take_event : Event
+    take_event = record { seat = p.seat; step = Step.Take None }
 
-  -- the turn
+    waited_seat : m.takes.waited.seat ≡ p.seat
+    waited_seat = ap (λ (r : PassState). r.seat) m.takes.waits.is
 
-  abbrev before_take : List Event
-  before_take = m.makes.takes.waited.seen ++ m.makes.takes.takes.makes.others
+    taken_is : taken.seen ≡ before_take ++ take_event ∷ []
+    taken_is = cc (m.takes.takes.makes.is, waited_seat)
 
-  abbrev take_event : Event
-  take_event = record { seat = p.seat; step = Step.Take None }
+    goes_on : GivesNone p.seat inside
+    goes_on =
+        gives_append p.seat to_end given
+        (subst (λ (s : Seat). GivesNone s to_end) (ap (λ (r : PassState). r.seat) taken_moves.is)
+        (subst (λ (l : List Event). GivesNone taken.seat l) turn_is (doing_gives taken ended d_turn)))
+        (subst (λ (s : Seat). GivesNone s given) ended_seat (others_give ended.seat ended.seats given own_ended
+        m.gives.of_others))
+      where
+        ended_seat : ended.seat ≡ p.seat
+        ended_seat = ap (λ (r : PassState). r.seat) d_turn.is ∙ ap (λ (r : PassState). r.seat) taken_moves.is
 
-  waited_seat : m.makes.takes.waited.seat ≡ p.seat
-  waited_seat = ap (λ (r : PassState). r.seat) m.makes.takes.waits.is
+    abbrev the_turn : TurnOf p.table.config p.seat (ended.seen ++ given)
+    the_turn = record {
+      before = before_take;
+      op = None;
+      behind = inside;
+      is =
+          ap (λ (l : List Event). l ++ given) ended_is ∙ ap (λ (l : List Event). (l ++ to_end) ++ given) taken_is
+          ∙ append_assoc (before_take ++ take_event ∷ []) to_end given
+          ∙ append_assoc before_take (take_event ∷ []) inside;
+      took =
+          sym (ap (λ (r : PassState). (left r.table.config before_take).now.words.turn) m.takes.waits.is)
+          ∙ sym m.takes.takes.finds;
+      goes_on = goes_on;
+    }
 
-  taken_is : taken.seen ≡ before_take ++ take_event ∷ []
-  taken_is =
-      ap (λ (r : PassState). r.seen) m.makes.takes.takes.makes.is
-      ∙ ap (λ (s : Seat). before_take ++ record { seat = s; step = Step.Take None } ∷ []) waited_seat
+    -- the cycle
 
-  goes_on : GivesNone p.seat inside
-  goes_on =
-      gives_append p.seat to_end given
-      (subst (λ (s : Seat). GivesNone s to_end) (ap (λ (r : PassState). r.seat) taken_moves.is)
-      (subst (λ (l : List Event). GivesNone taken.seat l) turn_is (doing_gives taken ended d_turn)))
-      (subst (λ (s : Seat). GivesNone s given) ended_seat (others_give ended.seat ended.seats given own_ended
-      m.makes.gives.of_others))
-    where
-      ended_seat : ended.seat ≡ p.seat
-      ended_seat = ap (λ (r : PassState). r.seat) d_turn.is ∙ ap (λ (r : PassState). r.seat) taken_moves.is
-
-  abbrev the_turn : TurnOf p.table.config p.seat (ended.seen ++ given)
-  the_turn = record {
-    before = before_take;
-    op = None;
-    behind = inside;
-    is =
-        ap (λ (l : List Event). l ++ given) ended_is ∙ ap (λ (l : List Event). (l ++ to_end) ++ given) taken_is
-        ∙ append_assoc (before_take ++ take_event ∷ []) to_end given
-        ∙ append_assoc before_take (take_event ∷ []) inside;
-    took =
-        sym (ap (λ (r : PassState). (left r.table.config before_take).now.words.turn) m.makes.takes.waits.is)
-        ∙ sym m.makes.takes.takes.finds;
-    goes_on = goes_on;
-  }
-
-  -- the cycle
-
-  abbrev the_cycle : Cycle inside
-  the_cycle = record {
-    releasing = record {
-      marking = record {
-        begin = record {
-          before = d_idle.more ++ begins.before;
-          event = begins.begin;
-          behind = (begins.behind ++ ends.ends.to_close) ++ ends.ends.close ∷ behind_close;
-          is =
-              ap (λ (l : List Event).
-              (d_idle.more ++ ((begins.before ++ begins.begin ∷ begins.behind) ++ l)) ++ given) ends.ends.is
-              ∙ simp append_assoc;
-          of_kind = begins.begins;
-        };
-        close = record {
-          at = record {
-            before = begins.behind ++ ends.ends.to_close;
-            event = ends.ends.close;
-            behind = behind_close;
-            is = refl;
-            of_kind = ends.ends.closes;
+    abbrev the_cycle : Cycle inside
+    the_cycle = record {
+      releasing = record {
+        marking = record {
+          begin = record {
+            before = d_idle.more ++ begins.before;
+            event = begins.begin;
+            behind = (begins.behind ++ ends.ends.to_close) ++ ends.ends.close ∷ behind_close;
+            is =
+                ap (λ (l : List Event).
+                (d_idle.more ++ ((begins.before ++ begins.begin ∷ begins.behind) ++ l)) ++ given) ends.ends.is
+                ∙ simp append_assoc;
+            of_kind = begins.begins;
           };
-          none_before =
-              lacks_append is_close begins.behind ends.ends.to_close
-              (unfinished_unclosed begins.behind begins.finishes_none) ends.ends.none_closed;
+          close = record {
+            at = record {
+              before = begins.behind ++ ends.ends.to_close;
+              event = ends.ends.close;
+              behind = behind_close;
+              is = refl;
+              of_kind = ends.ends.closes;
+            };
+            none_before =
+                lacks_append is_close begins.behind ends.ends.to_close
+                (unfinished_unclosed begins.behind begins.finishes_none) ends.ends.none_closed;
+          };
+        };
+        release = record {
+          at = record {
+            before = ends.ends.to_release;
+            event = ends.ends.release;
+            behind = ends.ends.to_end ++ ends.ends.end ∷ (ends.ends.behind ++ given);
+            is = refl;
+            of_kind = ends.ends.releases;
+          };
+          none_before = ends.ends.none_released;
         };
       };
-      release = record {
+      end = record {
         at = record {
-          before = ends.ends.to_release;
-          event = ends.ends.release;
-          behind = ends.ends.to_end ++ ends.ends.end ∷ (ends.ends.behind ++ given);
+          before = ends.ends.to_end;
+          event = ends.ends.end;
+          behind = ends.ends.behind ++ given;
           is = refl;
-          of_kind = ends.ends.releases;
+          of_kind = ends.ends.ends;
         };
-        none_before = ends.ends.none_released;
+        none_before = ends.ends.none_ended;
       };
-    };
-    end = record {
-      at = record {
-        before = ends.ends.to_end;
-        event = ends.ends.end;
-        behind = ends.ends.behind ++ given;
-        is = refl;
-        of_kind = ends.ends.ends;
-      };
-      none_before = ends.ends.none_ended;
-    };
-  }
+    }
 
-  -- No cycle is begun in the turn after this one's `close`.
+    -- No cycle is begun in the turn after this one's `close`.
 
-  abbrev finished : List Event
-  finished = ends.ends.to_release ++ ends.ends.release ∷ (ends.ends.to_end ++ ends.ends.end ∷ ends.ends.behind)
+    abbrev finished : List Event
+    finished = ends.ends.to_release ++ ends.ends.release ∷ (ends.ends.to_end ++ ends.ends.end ∷ ends.ends.behind)
 
-  finished_begins_none : Lacks is_begin finished
-  finished_begins_none =
-      behind_first is_begin ends.ends.close finished
-      (lacks_second is_begin ends.ends.to_close (ends.ends.close ∷ finished)
-      (subst (λ (l : List Event). Lacks is_begin l) ends.ends.is ends.begins_none))
+    finished_begins_none : Lacks is_begin finished
+    finished_begins_none =
+        behind_first is_begin ends.ends.close finished
+        (lacks_second is_begin ends.ends.to_close (ends.ends.close ∷ finished)
+        (subst (λ (l : List Event). Lacks is_begin l) ends.ends.is ends.begins_none))
 
-  given_begins_none : Lacks is_begin given
-  given_begins_none = others_lack is_begin ended q Step.Give begins_held t_ended m.makes.gives history
+    given_begins_none : Lacks is_begin given
+    given_begins_none = others_lack is_begin ended q Step.Give begins_held t_ended m.gives history
 
-  behind_is : finished ++ given ≡ behind_close
-  behind_is = simp append_assoc
+    behind_is : finished ++ given ≡ behind_close
+    behind_is = simp append_assoc
 
-  behind_begins_none : Lacks is_begin behind_close
-  behind_begins_none =
-      subst (λ (l : List Event). Lacks is_begin l) behind_is
-      (lacks_append is_begin finished given finished_begins_none given_begins_none)
+    behind_begins_none : Lacks is_begin behind_close
+    behind_begins_none = rw behind_is at (lacks_append is_begin finished given finished_begins_none given_begins_none)
 
-  -- The world before the `close` is that of which the engine says.
-
-  ended_config : begun.table.config ≡ p.table.config
-  ended_config =
+    ended_config : begun.table.config ≡ p.table.config
+    ended_config =
       ap (λ (r : PassState). r.table.config) d_begun.is ∙ ap (λ (r : PassState). r.table.config) d_idle.is
       ∙ ap (λ (r : PassState). r.table.config) taken_moves.is
 
-  finished_closes_none : Lacks is_close finished
-  finished_closes_none =
-      closes_no_more ended.table.config (begun.seen ++ ends.ends.to_close) ends.ends.close finished
-      (subst (λ (l : List Event). IsHistory ended.table.config l)
-      (ends.is ∙ ap (λ (l : List Event). begun.seen ++ l) ends.ends.is
-      ∙ sym (append_assoc begun.seen ends.ends.to_close (ends.ends.close ∷ finished)))
-      h_ended) ends.ends.closes finished_begins_none
+    finished_closes_none : Lacks is_close finished
+    finished_closes_none =
+        closes_no_more ended.table.config (begun.seen ++ ends.ends.to_close) ends.ends.close finished
+        (subst (λ (l : List Event). IsHistory ended.table.config l)
+        (ends.is ∙ ap (λ (l : List Event). begun.seen ++ l) ends.ends.is
+        ∙ sym (append_assoc begun.seen ends.ends.to_close (ends.ends.close ∷ finished)))
+        h_ended) ends.ends.closes finished_begins_none
 
-  told_there : IsAt ends.ends.to_close finished m.at_close.before m.at_close.behind
-  told_there =
-      only_at is_close ends.ends.to_close ends.ends.close finished ends.ends.none_closed finished_closes_none
-      (record {
-        before = m.at_close.before;
-        event = event_of begun Step.Close;
-        behind = m.at_close.behind;
-        is =
-            sym ends.ends.is
-            ∙ append_cancel_left begun.seen ends.more
-            (m.at_close.before ++ event_of begun Step.Close ∷ m.at_close.behind)
-            (sym ends.is ∙ m.at_close.is
-            ∙ append_assoc begun.seen m.at_close.before (event_of begun Step.Close ∷ m.at_close.behind));
-        of_kind = refl;
-      })
+    -- No caller whose seat is home steps in the turn.
 
-  abbrev through_begin : List Event
-  through_begin = (d_idle.more ++ begins.before) ++ begins.begin ∷ []
+    ended_moves : MovesOn taken q
+    ended_moves =
+        moves_more taken ended q Step.Give
+        (moves_does turn_stays taken taken ended
+        (record {
+          more = [];
+          is = ap (λ (l : List Event). record taken { seen = l }) (sym (append-nil taken.seen));
+          leaves = λ s has other. others_none (s ∷ []);
+        }) d_turn) m.gives
 
-  close_is_there : begun.seen ++ m.at_close.before
-      ≡ before_take ++ take_event ∷ (through_begin ++ (begins.behind ++ ends.ends.to_close))
-  close_is_there =
-      ap (λ (l : List Event). begun.seen ++ l) told_there.before_is
-      ∙ ap (λ (l : List Event). l ++ ends.ends.to_close)
-      (begins.is ∙ ap (λ (l : List Event). l ++ (begins.before ++ begins.begin ∷ begins.behind))
-      (seen_behind turn_stays taken idle d_idle ∙ ap (λ (l : List Event). l ++ d_idle.more) taken_is))
-      ∙ simp append_assoc
+    give_is : event_of ended Step.Give ≡ give_of p.seat
+    give_is = cc (d_turn.is, taken_moves.is)
 
-  told_then : tells p.table.config
-      (left p.table.config (within_turn the_turn (before_close the_cycle.releasing.marking)))
-  told_then =
-      subst (λ (l : List Event). tells p.table.config (left p.table.config l)) close_is_there
-      (subst (λ (c : Config). tells c (left c (begun.seen ++ m.at_close.before))) ended_config m.at_close.told)
+    q_is : q.seen ≡ (ended.seen ++ given) ++ give_of p.seat ∷ []
+    q_is = ap (λ (r : PassState). r.seen) m.gives.is ∙ ap (λ (e : Event). (ended.seen ++ given) ++ e ∷ []) give_is
 
-  -- No caller whose seat is home steps in the turn.
+    turn_moves_is : ended_moves.more ≡ inside ++ give_of p.seat ∷ []
+    turn_moves_is =
+        append_cancel_left taken.seen ended_moves.more (inside ++ give_of p.seat ∷ [])
+        (sym (ap (λ (r : PassState). r.seen) ended_moves.is) ∙ q_is
+        ∙ ap (λ (l : List Event). (l ++ given) ++ give_of p.seat ∷ []) ended_is ∙ simp append_assoc)
 
-  ended_moves : MovesOn taken q
-  ended_moves =
-      moves_more taken ended q Step.Give
-      (moves_does turn_stays taken taken ended
-      (record {
-        more = [];
-        is = ap (λ (l : List Event). record taken { seen = l }) (sym (append-nil taken.seen));
-        leaves = λ s has other. others_none (s ∷ []);
-      }) d_turn) m.makes.gives
+    module _ (tells : Config → World → Type 0) (told : IsToldAtClose tells begun ended) where
+      -- The world before the `close` is that of which the engine says.
 
-  give_is : event_of ended Step.Give ≡ give_of p.seat
-  give_is = ap (λ (s : Seat). record { seat = s; step = Step.Give })
-      (ap (λ (r : PassState). r.seat) d_turn.is ∙ ap (λ (r : PassState). r.seat) taken_moves.is)
+      told_there : IsAt ends.ends.to_close finished told.before told.behind
+      told_there =
+          only_at is_close ends.ends.to_close ends.ends.close finished ends.ends.none_closed finished_closes_none
+          (record {
+            before = told.before;
+            event = event_of begun Step.Close;
+            behind = told.behind;
+            is =
+                sym ends.ends.is
+                ∙ append_cancel_left begun.seen ends.more
+                (told.before ++ event_of begun Step.Close ∷ told.behind)
+                (sym ends.is ∙ told.is
+                ∙ append_assoc begun.seen told.before (event_of begun Step.Close ∷ told.behind));
+            of_kind = refl;
+          })
 
-  q_is : q.seen ≡ (ended.seen ++ given) ++ give_of p.seat ∷ []
-  q_is =
-      ap (λ (r : PassState). r.seen) m.makes.gives.is ∙ ap (λ (e : Event). (ended.seen ++ given) ++ e ∷ []) give_is
+      abbrev through_begin : List Event
+      through_begin = (d_idle.more ++ begins.before) ++ begins.begin ∷ []
 
-  turn_moves_is : ended_moves.more ≡ inside ++ give_of p.seat ∷ []
-  turn_moves_is =
-      append_cancel_left taken.seen ended_moves.more (inside ++ give_of p.seat ∷ [])
-      (sym (ap (λ (r : PassState). r.seen) ended_moves.is) ∙ q_is
-      ∙ ap (λ (l : List Event). (l ++ given) ++ give_of p.seat ∷ []) ended_is ∙ simp append_assoc)
+      close_is_there : begun.seen ++ told.before
+          ≡ before_take ++ take_event ∷ (through_begin ++ (begins.behind ++ ends.ends.to_close))
+      close_is_there =
+          ap (λ (l : List Event). begun.seen ++ l) told_there.before_is
+          ∙ ap (λ (l : List Event). l ++ ends.ends.to_close)
+          (begins.is ∙ ap (λ (l : List Event). l ++ (begins.before ++ begins.begin ∷ begins.behind))
+          (seen_behind turn_stays taken idle d_idle ∙ ap (λ (l : List Event). l ++ d_idle.more) taken_is))
+          ∙ simp append_assoc
 
-  -- So it is in a longer list, in which nobody begins a cycle and no caller steps after the turn.
-  module _ (host : p.seat ≡ Host) (home : HasCallers p.table.config p.seats) (tail : List Event)
-      (whole : IsHistory p.table.config (q.seen ++ tail)) (begins_no_more : Lacks is_begin tail)
-      (still : (k : ℕ) → k < p.table.config.callers → AreOfOthers (Caller k ∷ []) tail) where
-    callers_still : (k : ℕ) → k < p.table.config.callers → AreOfOthers (Caller k ∷ []) (inside ++ give_of p.seat ∷ tail)
-    callers_still k lt =
-        subst (λ (l : List Event). AreOfOthers (Caller k ∷ []) l) (append_assoc inside (give_of p.seat ∷ []) tail)
-        (others_append (Caller k ∷ []) (inside ++ give_of p.seat ∷ []) tail
-        (subst (λ (l : List Event). AreOfOthers (Caller k ∷ []) l) turn_moves_is
-        (ended_moves.leaves (Caller k)
-        (subst (λ (r : PassState). Has r.seats (Caller k)) (sym taken_moves.is) (home k lt))
-        (ap (λ (s : Seat). is_same_seat (Caller k) s) (ap (λ (r : PassState). r.seat) taken_moves.is ∙ host))))
-        (still k lt))
+      told_then : tells p.table.config
+          (left p.table.config (within_turn the_turn (before_close the_cycle.releasing.marking)))
+      told_then =
+          subst (λ (l : List Event). tells p.table.config (left p.table.config l)) close_is_there
+          (subst (λ (c : Config). tells c (left c (begun.seen ++ told.before))) ended_config told.told)
 
-    list_is : q.seen ++ tail ≡ (ended.seen ++ given) ++ give_of p.seat ∷ tail
-    list_is =
-        ap (λ (l : List Event). l ++ tail) q_is ∙ append_assoc (ended.seen ++ given) (give_of p.seat ∷ []) tail
+      -- So it is in a longer list, in which nobody begins a cycle and no caller steps after the turn.
+      module _ (host : p.seat ≡ Host) (home : HasCallers p.table.config p.seats) (tail : List Event)
+          (whole : IsHistory p.table.config (q.seen ++ tail)) (begins_no_more : Lacks is_begin tail)
+          (still : (k : ℕ) → k < p.table.config.callers → AreOfOthers (Caller k ∷ []) tail) where
+        callers_still : (k : ℕ) → k < p.table.config.callers
+            → AreOfOthers (Caller k ∷ []) (inside ++ give_of p.seat ∷ tail)
+        callers_still k lt =
+            subst (λ (l : List Event). AreOfOthers (Caller k ∷ []) l) (append_assoc inside (give_of p.seat ∷ []) tail)
+            (others_append (Caller k ∷ []) (inside ++ give_of p.seat ∷ []) tail
+            (rw turn_moves_is at (ended_moves.leaves (Caller k)
+            (subst (λ (r : PassState). Has r.seats (Caller k)) (sym taken_moves.is) (home k lt))
+            (ap (λ (s : Seat). is_same_seat (Caller k) s) (ap (λ (r : PassState). r.seat) taken_moves.is ∙ host))))
+            (still k lt))
 
-    abbrev behind_all : List Event
-    behind_all = behind_close ++ give_of p.seat ∷ tail
+        list_is : q.seen ++ tail ≡ (ended.seen ++ given) ++ give_of p.seat ∷ tail
+        list_is =
+            ap (λ (l : List Event). l ++ tail) q_is ∙ append_assoc (ended.seen ++ given) (give_of p.seat ∷ []) tail
 
-    close_is_before : q.seen ++ tail ≡ (begun.seen ++ ends.ends.to_close) ++ ends.ends.close ∷ behind_all
-    close_is_before =
-        list_is
-        ∙ ap (λ (l : List Event). (l ++ given) ++ give_of p.seat ∷ tail)
-        (ends.is ∙ ap (λ (l : List Event). begun.seen ++ l) ends.ends.is)
-        ∙ simp append_assoc
+        abbrev behind_all : List Event
+        behind_all = behind_close ++ give_of p.seat ∷ tail
 
-    closes_no_other : Lacks is_close behind_all
-    closes_no_other =
-        closes_no_more p.table.config (begun.seen ++ ends.ends.to_close) ends.ends.close behind_all
-        (subst (λ (l : List Event). IsHistory p.table.config l) close_is_before whole) ends.ends.closes
-        (lacks_append is_begin behind_close (give_of p.seat ∷ tail) behind_begins_none begins_no_more)
+        close_is_before : q.seen ++ tail ≡ (begun.seen ++ ends.ends.to_close) ++ ends.ends.close ∷ behind_all
+        close_is_before =
+            list_is
+            ∙ ap (λ (l : List Event). (l ++ given) ++ give_of p.seat ∷ tail)
+            (ends.is ∙ ap (λ (l : List Event). begun.seen ++ l) ends.ends.is)
+            ∙ simp append_assoc
 
-    pub last_cycle : MakesLastCycle p.seat tells p.table.config (q.seen ++ tail)
-    last_cycle = record {
-      before = ended.seen ++ given;
-      behind = tail;
-      is = list_is;
-      turn = the_turn;
-      callers = callers_still;
-      cycle = the_cycle;
-      last =
-          lacks_append is_close behind_close tail
-          (lacks_first is_close behind_close (give_of p.seat ∷ tail) closes_no_other)
-          (lacks_second is_close behind_close (give_of p.seat ∷ tail) closes_no_other);
-      told = told_then;
-    }
+        closes_no_other : Lacks is_close behind_all
+        closes_no_other =
+            closes_no_more p.table.config (begun.seen ++ ends.ends.to_close) ends.ends.close behind_all
+            (subst (λ (l : List Event). IsHistory p.table.config l) close_is_before whole) ends.ends.closes
+            (lacks_append is_begin behind_close (give_of p.seat ∷ tail) behind_begins_none begins_no_more)
+
+        pub last_cycle : MakesLastCycle p.seat tells p.table.config (q.seen ++ tail)
+        last_cycle = record {
+          before = ended.seen ++ given;
+          behind = tail;
+          is = list_is;
+          turn = the_turn;
+          callers = callers_still;
+          cycle = the_cycle;
+          last =
+              lacks_append is_close behind_close tail
+              (lacks_first is_close behind_close (give_of p.seat ∷ tail) closes_no_other)
+              (lacks_second is_close behind_close (give_of p.seat ∷ tail) closes_no_other);
+          told = told_then;
+        }

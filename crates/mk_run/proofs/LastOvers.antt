@@ -8,7 +8,7 @@ use Rattle.mk_run.proofs.Vocabulary.{Has, HasCallers, IsWhole, Lacks, PassState,
 use Rattle.mk_run.proofs.Vocabulary.{append_cancel_left, finish_does, finish_in, has_step, has_then, history_before}
 use Rattle.mk_run.proofs.Vocabulary.{in_turn_then, is_of_cycles, others_append, others_own, seen_then, turn_moves}
 use Rattle.mk_run.proofs.Vocabulary.{turn_stays}
-use Rattle.mk_run.proofs.HostTurnParts.{before_made, ends_does, turn_taken}
+use Rattle.mk_run.proofs.HostTurnParts.{before_made, idle_turn, stays, taken_history, taken_turn}
 use Rattle.mk_run.proofs.LastCycles.{last_cycle}
 use Rattle.mk_run.proofs.LastTurns.{cycle_moves, over_moves, still_behind_over}
 use Rattle.mk_alloc.proofs.Parts.{made_as, others_lack, seen_made}
@@ -57,9 +57,6 @@ unheld_unbegun (e ∷ es) h =
     let parts = or_parts (is_holders e.step) (list_any (λ (x : Event). is_holders x.step) es) h in
     or_from (is_begin e.step) (has_step is_begin es) (begins_held e.step parts.0) (unheld_unbegun es parts.1)
 
-pub stays : (x : Step) → turn_stays x ≡ true → turn_stays x ≡ true
-stays x h = h
-
 -- A cycle that is on may be finished.
 pub ends_unbegun : (taken idle : PassState) → InTurn taken → EndsCycle taken idle
     → IsHistory idle.table.config idle.seen
@@ -67,8 +64,7 @@ pub ends_unbegun : (taken idle : PassState) → InTurn taken → EndsCycle taken
 ends_unbegun taken idle t ends history = elim ends.phase [
   | inl none ↦
       let is : idle ≡ ends.looked = ends.none none in
-      subst (λ (r : PassState). Unbegun taken r) (sym is)
-      (look (subst (λ (r : PassState). IsHistory r.table.config r.seen) is history))
+      rw is (look (subst (λ (r : PassState). IsHistory r.table.config r.seen) is history))
   | inr on ↦
       let does : Does is_of_cycles ends.looked idle = finish_does ends.looked idle looked_own (ends.on on) in
       let there = history_before is_of_cycles ends.looked idle does history in
@@ -102,24 +98,26 @@ wait_unbegun p taken host callers takes history =
       none = unheld_unbegun w.more (waiting_holds_none p c host callers (left c p.seen) w.more w.only on);
     }
 
+-- So up to where no cycle is on.
+pub idle_unbegun : {p taken idle : PassState} → Has p.seats p.seat → Has p.seats Host
+    → HasCallers p.table.config p.seats → TakesTurn p None taken → EndsCycle taken idle
+    → IsHistory idle.table.config idle.seen → Unbegun p idle
+idle_unbegun {p} {taken} {idle} own host callers takes ends history =
+    unbegun_then p taken idle (wait_unbegun p taken host callers takes (taken_history own takes ends history))
+    (ends_unbegun taken idle (taken_turn own takes ends history) ends history)
+
 -- The host says that all is over.
 pub over_unbegun : (p q : PassState) → Has p.seats p.seat → Has p.seats Host → HasCallers p.table.config p.seats
     → SaysOver p q → IsHistory q.table.config q.seen → Unbegun p q
 over_unbegun p q own host callers o history =
     let said = before_made o.said q Step.Give o.gives history in
     let idle = before_made o.idle o.said Step.Over o.says said in
-    let taken_own : Has o.taken.seats o.taken.seat =
-    subst (λ (r : PassState). Has r.seats r.seat) (sym (turn_moves p o.taken o.takes).is) own in
-    let ends = ends_does o.taken o.idle taken_own o.ends in
-    let taken = history_before turn_stays o.taken o.idle ends idle in
-    let t_taken = turn_taken p o.taken own o.takes taken in
-    let t_idle = in_turn_then turn_stays o.taken o.idle stays t_taken ends idle in
+    let t_idle = idle_turn own o.takes o.ends idle in
     let t_said = in_turn_then turn_stays o.idle o.said stays t_idle
     (made_as turn_stays o.idle o.said Step.Over t_idle.own o.says refl) said in
-    unbegun_then p o.taken q (wait_unbegun p o.taken host callers o.takes taken)
-    (unbegun_then o.taken o.idle q (ends_unbegun o.taken o.idle t_taken o.ends idle)
+    unbegun_then p o.idle q (idle_unbegun own host callers o.takes o.ends idle)
     (unbegun_then o.idle o.said q (unbegun_made o.idle o.said Step.Over t_idle refl o.says said)
-    (unbegun_made o.said q Step.Give t_said refl o.gives history)))
+    (unbegun_made o.said q Step.Give t_said refl o.gives history))
 
 -- So the host's last turns end the list with their cycle.
 pub ends_with_cycle : (tells : Config → World → Type 0) (w : WordsState) (p : PassState) → TakesLastTurns tells w p
@@ -151,24 +149,21 @@ ends_with_cycle tells w p t history =
     t.behind.is ∙ ap (λ (l : List Event). l ++ more) over.is ∙ append_assoc b.seen over.more more in
     let ends : IsHistory c (b.seen ++ tail) = subst (λ (l : List Event). IsHistory c l) is whole in
     let b_history : IsHistory b.table.config b.seen =
-    subst (λ (d : Config). IsHistory d b.seen) (sym (ap (λ (r : PassState). r.table.config) made))
-    (earlier_part_is_history c b.seen tail ends) in
+    rw (ap (λ (r : PassState). r.table.config) made) (earlier_part_is_history c b.seen tail ends) in
     let none : Lacks is_begin tail =
-    lacks_append is_begin over.more more over.none
-    (unheld_unbegun more (others_hold_none a c t.own callers (left c s.seen) more t.behind.of_others
-    ((enabled_in_parts c s.seen more).0 long.enabled).1)) in
+    lacks_append is_begin over.more more over.none (unheld_unbegun more (others_hold_none a c t.own callers _ more
+    t.behind.of_others ((enabled_in_parts c s.seen more).0 long.enabled).1)) in
     let still : (k : ℕ) → k < c.callers → AreOfOthers (Caller k ∷ []) tail =
     λ k lt.
     let said_still = still_behind_over b s b_seat t.over k
     (subst (λ (r : PassState). Has r.seats (Caller k)) (sym made) (callers k lt)) in
     others_append (Caller k ∷ []) over.more more
-    (subst (λ (l : List Event). AreOfOthers (Caller k ∷ []) l)
-    (append_cancel_left b.seen said_still.more over.more (sym said_still.is ∙ over.is)) said_still.of_others)
+    (rw (append_cancel_left b.seen said_still.more over.more (sym said_still.is ∙ over.is)) at said_still.of_others)
     (others_own a.seats (Caller k) more (callers k lt) t.behind.of_others) in
     subst (λ (x : WordsState). EndsWithCycle tells x.config p.seen) t.table
     (subst (λ (l : List Event). EndsWithCycle tells c l) (sym is)
     (subst (λ (x : Seat). MakesLastCycle x tells c (b.seen ++ tail)) t.seat
-    (last_cycle tells a b t.cycle own b_history t.seat callers tail ends none still)))
+    (last_cycle a b t.cycle.makes own b_history tells t.cycle.at_close t.seat callers tail ends none still)))
 
 -- and that of the whole run, when the heap is closed.
 pub run_ends_with_cycle : (tells : Config → World → Type 0) (c : Config) (w : WordsState) (p : PassState) (r : Report)
@@ -177,8 +172,7 @@ pub run_ends_with_cycle : (tells : Config → World → Type 0) (c : Config) (w 
 run_ends_with_cycle tells c w p r made t history config whole =
     let es : List Event = report.history_of r in
     let seen : IsHistory w.config p.seen =
-    subst (λ (l : List Event). IsHistory w.config l) history
-    (subst (λ (d : Config). IsHistory d es) config whole.history) in
+    rw history at (subst (λ (d : Config). IsHistory d es) config whole.history) in
     subst (λ (d : Config). EndsWithCycle tells d es) made
     (subst (λ (l : List Event). EndsWithCycle tells w.config l) (sym history) (ends_with_cycle tells w p t seen))
 

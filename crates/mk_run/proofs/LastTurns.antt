@@ -47,8 +47,7 @@ module _ (tells : Config → World → Type 0) (w : WordsState) (h g i : HostSta
       (subst (λ (x : HostState). Has x.pass.seats (Caller k)) (sym is) has) in
       record {
         more = first.more ++ second.more;
-        is = second.is ∙ ap (λ (l : List Event). l ++ second.more) first.is
-            ∙ append_assoc h.pass.seen first.more second.more;
+        is = cc (second.is, first.is, append_assoc h.pass.seen first.more second.more);
         of_others = others_append (Caller k ∷ []) first.more second.more first.of_others second.of_others;
       }
 
@@ -65,8 +64,7 @@ module _ (tells : Config → World → Type 0) (w : WordsState) (h g i : HostSta
     cycle = cycle;
     over = over;
     home = λ s has.
-        subst (λ (x : HostState). Has x.pass.seats s) (sym is')
-        (subst (λ (x : HostState). Has x.pass.seats s) (sym is) has);
+        rw is' (subst (λ (x : HostState). Has x.pass.seats s) (sym is) has);
     behind = record { more = []; is = sym (append-nil i.pass.seen); of_others = others_none h.pass.seats };
   }
 
@@ -88,10 +86,8 @@ last_turns_joined tells w h g p is own t = record {
       subst (λ (x : HostState). Has x.pass.seats s) (sym is) (has_left h.pass.seats p.seats s (t.home s has));
   behind = record {
     more = t.behind.more ++ own.more;
-    is = own.is ∙ ap (λ (l : List Event). l ++ own.more) t.behind.is
-        ∙ append_assoc t.said.seen t.behind.more own.more;
+    is = cc (own.is, t.behind.is, append_assoc t.said.seen t.behind.more own.more);
     of_others =
-        others_append t.joined.seats t.behind.more own.more t.behind.of_others
-        (others_fewer h.pass.seats t.joined.seats own.more t.home own.of_others);
+        others_append _ t.behind.more own.more t.behind.of_others (others_fewer _ _ own.more t.home own.of_others);
   };
 }

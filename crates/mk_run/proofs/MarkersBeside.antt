@@ -49,26 +49,22 @@ marker_joined on with_cycle program markers w j p before after made over is own 
     let count : after.host.markers ≡ h.markers = ap (λ (x : HostState). x.markers) is in
     let table : after.host.pass.table ≡ w = ap (λ (x : HostState). x.pass.table) is ∙ over.is_host.table in
     record {
-      own =
-          subst (λ (l : List Seat). Has l Host) (sym seats) (has_left h.pass.seats p.seats Host over.own);
+      own = subst (λ (l : List Seat). Has l Host) (sym seats) (has_left h.pass.seats p.seats Host over.own);
       last =
           still_last w.config with_cycle h.pass fs over.own
           (all_callers_home on program markers w h made over.is_host) own
           (subst (λ (t : WordsState). IsHistory t.config fs) table history) over.last;
       is_host =
-          subst (λ (x : HostState). HasJoined on program w 0 x) (sym is)
-          (still_joined on program w h fs over.is_host still (h.pass.seats ++ p.seats)
+          rw is (still_joined on program w h fs over.is_host still (h.pass.seats ++ p.seats)
           (λ k has. has_left h.pass.seats p.seats (Caller k) has));
       markers = λ i le lt.
-          subst (λ (l : List Seat). Has l (Marker i)) (sym seats)
-          (⊎_elim
+          rw seats (⊎_elim
           (λ (e : i ≡ j). has_right h.pass.seats p.seats (Marker i)
           (subst (λ (n : ℕ). Has p.seats (Marker n)) (sym e) mine))
           (λ (later : j + 1 ≤ i). has_left h.pass.seats p.seats (Marker i) (over.markers i later (omega arith)))
           (same_or_later j i le));
       texts =
-          subst (λ r. IfOk r (λ texts. AreTextsFrom program 0 w.config fs texts.items)) (sym same)
-          (IfOk-weaker before.texts (λ texts. AreTextsFrom program 0 w.config h.pass.seen texts.items)
+          rw same (IfOk-weaker before.texts (λ texts. AreTextsFrom program 0 w.config h.pass.seen texts.items)
           (λ texts. AreTextsFrom program 0 w.config fs texts.items)
           (λ texts t. still_texts on program w h fs over.is_host still texts.items t) over.texts);
     }

@@ -30,7 +30,6 @@ one_more made_for program pages k [] last each is (suc i) ready at = absurd cc
 one_more made_for program pages k (first ∷ old) last each is zero ready at = each 0 ready at
 one_more made_for program pages k (first ∷ old) last each is (suc i) ready at =
     let shift : (n : ℕ) → (k + 1) + n ≡ k + suc n = λ n. omega arith in
-    subst (λ n. IsReadyScript made_for program pages n ready) (shift i)
-    (one_more made_for program pages (k + 1) old last
+    rw (shift i) at (one_more made_for program pages (k + 1) old last
     (λ j x e. subst (λ n. IsReadyScript made_for program pages n x) (sym (shift j)) (each (suc j) x e))
     (subst (λ n. IsReadyScript made_for program pages n last) (sym (shift (length old))) is) i ready at)

@@ -85,10 +85,7 @@ none_then_answers on p q o told r h entered g = record {
   answer = g.answer;
   is_told = g.is_told;
   is = then_seen p q r h.is g.is;
-  entry = sym (same_own p q r.seen h.is) ∙ g.entry
-      ∙ ap (λ (l : List Decided). l ++ entry_of (caller_of_pass q) o (Some g.answer)) (same_own p q q.seen h.is
-      ∙ h.entries)
-      ∙ ap (λ (s : PassState). own_calls p p.seen ++ entry_of (caller_of_pass s) o (Some g.answer)) h.is;
+  entry = cc (same_own p q r.seen h.is, g.entry, same_own p q q.seen h.is, h.entries, h.is);
   exact = λ e. g.exact (h.exact e);
   in_turn = λ under. absurd (true≢false (sym under ∙ entered));
   beside = λ besides. beside_then p q r h.is h.beside (g.beside entered);
@@ -121,9 +118,7 @@ answered_new on p o d ty full a q own is h =
       answer = a;
       is_told = refl;
       is = made.is;
-      entry = made.entry
-          ∙ ap (λ (x : Op). own_calls p p.seen ++ record { caller = caller_of_pass p; op = x; answer = a } ∷ [])
-          (flagged_alike d ty full a);
+      entry = cc (made.entry, flagged_alike d ty full a);
       exact = made.exact;
       in_turn = λ under. h;
       beside = λ besides. absurd (true≢false besides);
@@ -161,30 +156,24 @@ module _ (on : Bool) (program : List Item) (k : ℕ) (p : PassState) (seat : p.s
       let mine : calls_by k (calls c fs) ≡ calls_by k (calls c es) =
       subst (λ (j : ℕ). calls_by j (calls c fs) ≡ calls_by j (calls c es)) number same in
       let noted : AreNotedBy program k answers (asked (calls c fs)) = grind (arith, same_answers, still_noted) in
-      subst (λ (j : ℕ). IsAdmitted c.globals (never_behind c fs) j o) (sym number)
-      (next_admitted program c k fs answers o checked is_script config history noted next)
+      rw number (next_admitted program c k fs answers o checked is_script config history noted next)
 
   module _ (o : Op) (told : Answer) (q : PassState) (next : next_op program k answers ≡ Some o)
       (h : Answers on now o told q) where
     one_more : calls_by k (calls c q.seen) ≡ calls_by k (calls c es) ++ entry_of k o (Some h.answer)
-    one_more =
-        subst (λ (j : ℕ). calls_by j (calls c q.seen) ≡ calls_by j (calls c es) ++ entry_of j o (Some h.answer))
-        number h.entry
+    one_more = rw number at h.entry
 
     pub follows_on : FollowsScript on program k c es → FollowsScript on program k c q.seen
     follows_on follows = record {
       noted = one_more_noted program k (calls c es) (calls c q.seen) o h.answer one_more next follows.noted;
       exact =
-          subst (λ (s : Seat). TurnsOfAreExact on c s q.seen) seat
-          (subst (λ (r : PassState). OwnAreExact on r) h.is
-          (h.exact (subst (λ (s : Seat). TurnsOfAreExact on c s es) (sym seat) follows.exact)));
+          rw seat at (rw h.is at (h.exact (subst (λ (s : Seat). TurnsOfAreExact on c s es) (sym seat) follows.exact)));
     }
 
     pub fed_on : (s t : Script) → IsFedWith program k answers s → ScriptTakesAnswer told s t
         → IsFedWith program k (answers_in c k q.seen) t
     fed_on s t fed takes =
-        subst (λ (given : List Answer). IsFedWith program k given t)
-        (sym (one_answer_more k (calls c es) (calls c q.seen) o h.answer one_more))
+        rw (one_answer_more k (calls c es) (calls c q.seen) o h.answer one_more)
         (fed_as_told program k answers h.answer t
         (subst (λ (a : Answer). IsFedWith program k (answers ++ a ∷ []) t) h.is_told (takes program k answers fed)))
 
@@ -206,14 +195,12 @@ module _ (on : Bool) (program : List Item) (k : ℕ) (p q : PassState) (s : Scri
       → p.table.config ≡ config_of program p.table.config.markers
       → IsAdmittedByOwnCalls q o
   asked_stays_admitted checked is_script config =
-      subst (λ (r : PassState). IsAdmittedByOwnCalls r o) (sym run.is)
-      (next_stays_admitted on program k p seat q.seen checked is_script config run.follows o next)
+      rw run.is (next_stays_admitted on program k p seat q.seen checked is_script config run.follows o next)
 
   pub follows_now : (told : Answer) (r : PassState) → Answers on q o told r
       → FollowsScript on program k r.table.config r.seen
   follows_now told r h =
-      subst (λ (w : WordsState). FollowsScript on program k w.config r.seen)
-      (sym (ap (λ (x : PassState). x.table) (then_seen p q r run.is h.is)))
+      rw (ap (λ (x : PassState). x.table) (then_seen p q r run.is h.is))
       (follows_on on program k p seat q.seen o told r next (subst (λ (x : PassState). Answers on x o told r) run.is h)
       run.follows)
 

@@ -25,8 +25,7 @@ markers_sweep c j w [] enabled = tt
 markers_sweep c j w (e ∷ es) enabled =
     let meets = (enabled_events_meet_all c w.now e).0 enabled.0 in (
       λ same. other_steps_sweep c w.now (flight_of w.now e.seat) e.step (markers_kind j e.step
-          (subst (λ (s : Seat). is_open_to s (group_of e.step) ≡ true) (sym (same_seat (Marker j) e.seat same))
-          meets.kind)),
+          (rw (same_seat (Marker j) e.seat same) meets.kind)),
       markers_sweep c j (world_behind c w e) es enabled.1,
     )
 
@@ -58,16 +57,14 @@ pub cycle_is_unswept : (c : Config) (es : List Event) (k : Marking es) → IsUns
 cycle_is_unswept c es k none =
     let at = k.close.at in
     let whole : IsUnswept c (through k.begin ++ k.begin.behind) =
-    subst (λ (l : List Event). IsUnswept c l)
-    (k.begin.is ∙ sym (append_assoc k.begin.before (k.begin.event ∷ []) k.begin.behind)) none in
+    rw (k.begin.is ∙ sym (append_assoc k.begin.before (k.begin.event ∷ []) k.begin.behind)) at none in
     let behind = none_second c (first_world c) (through k.begin) k.begin.behind whole in
     none_first c (left c (through k.begin)) at.before (at.event ∷ at.behind)
     (subst (λ (l : List Event). NoneSweepsFrom c (left c (through k.begin)) l) at.is behind)
 
 pub unswept_is_precise : (c : Config) (es : List Event) → KeepsAllPromises c es → IsUnswept c es
     → CyclesArePrecise c es
-unswept_is_precise c es kept none =
-    record {
-      releases = λ k. kept.precise k (cycle_is_unswept c es k.marking none);
-      frees = λ k. kept.freed k (cycle_is_unswept c es k.releasing.marking none);
-    }
+unswept_is_precise c es kept none = record {
+  releases = λ k. kept.precise k (cycle_is_unswept c es k.marking none);
+  frees = λ k. kept.freed k (cycle_is_unswept c es k.releasing.marking none);
+}

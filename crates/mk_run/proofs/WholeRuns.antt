@@ -54,11 +54,10 @@ module _ (on : Bool) (program : List Item) (w : WordsState) (h : HostState) (fs 
 
 pub all_joined : (on with_cycle : Bool) (program : List Item) (w : WordsState) (joined : Joined)
     → IsOver on with_cycle program w 0 joined → AllAreJoined joined.host
-all_joined on with_cycle program w joined over =
-    record {
-      callers = all_callers_joined on program w joined.host over.is_host;
-      markers = λ i lt. over.markers i (omega arith) lt;
-    }
+all_joined on with_cycle program w joined over = record {
+  callers = all_callers_joined on program w joined.host over.is_host;
+  markers = λ i lt. over.markers i (omega arith) lt;
+}
 
 pub is_run : (on with_cycle : Bool) (program : List Item) (markers : ℕ) (w : WordsState) (h : HostState)
     (outcome : Outcome)
@@ -82,14 +81,10 @@ is_run on with_cycle program markers w h outcome made joined last texts history 
           subst (λ (l : List Event). FollowsScript on program k c l) (sym history)
           (subst (λ (d : Config). FollowsScript on program k d h.pass.seen) made (joined.follow k (omega arith) is));
       ends = λ k is.
-          subst (λ (l : List Event). EndsScript program k c l) (sym history)
-          (subst (λ (d : Config). EndsScript program k d h.pass.seen) made (texts.ends k (omega arith) is));
-      host =
-          subst (λ (l : List Event). HostComesLast c.callers with_cycle l) (sym history)
-          (subst (λ (d : Config). HostComesLast d.callers with_cycle h.pass.seen) made last);
+          rw history (subst (λ (d : Config). EndsScript program k d h.pass.seen) made (texts.ends k (omega arith) is));
+      host = rw history (subst (λ (d : Config). HostComesLast d.callers with_cycle h.pass.seen) made last);
       count = omega arith;
       texts = λ k text at.
-          subst (λ (l : List Event). IsTextOf program k c l text) (sym history)
-          (subst (λ (d : Config). IsTextOf program k d h.pass.seen text) made
+          rw history (subst (λ (d : Config). IsTextOf program k d h.pass.seen text) made
           (subst (λ (j : ℕ). IsTextOf program j w.config h.pass.seen text) (omega arith) (texts.each k text at)));
     }

@@ -85,16 +85,14 @@ told_so {p} {q} {o} {told} history answers called = by (is_under_turn o) refl
     by true e = record {
       answer = answers.answer;
       is_told = answers.is_told;
-      happens = subst (λ (x : Op). Happens p x answers.answer q) (flagged_alike o answers.answer)
-          (from_turn (answers.in_turn e) history);
+      happens = rw (flagged_alike o answers.answer) at (from_turn (answers.in_turn e) history);
     }
     by false e =
         let c = called e in
         record {
           answer = c.answer;
           is_told = c.is_told;
-          happens = subst (λ (x : Op). Happens p x c.answer q) (sym (flag_is o c.answer e))
-              (from_called c.called (flag_is o c.answer e) history);
+          happens = rw (flag_is o c.answer e) (from_called c.called (flag_is o c.answer e) history);
         }
 
 pub advances : {on : Bool} {p q : PassState} (s : Point) {t : Point} {o : Op} {told : Answer} → t

@@ -32,8 +32,7 @@ chain_stays n m role role' v (a ∷ nodes) stays chain =
       chain.0,
       here.role_now,
       chain.2,
-      subst (λ (x : Value). IsChain m role' x nodes) (sym here.link)
-          (chain_stays n m role role' (word_at n a 1) nodes (λ b one. stays b (inr one)) chain.3),
+      rw here.link (chain_stays n m role role' (word_at n a 1) nodes (λ b one. stays b (inr one)) chain.3),
     )
 
 pub numbers_stay : (n m : NeverState) (role : ℕ → Role) (v : Value) (nodes : List ℕ)
@@ -61,8 +60,7 @@ has_chain_stays n m (Some t) role role' nodes global base stays chain =
     let tops = base t chain.1 in (
       global ∙ chain.0,
       tops.0,
-      subst (λ (x : Value). IsChain m role' x nodes) (sym tops.1)
-          (chain_stays n m role role' (word_at n t 0) nodes stays chain.2),
+      rw tops.1 (chain_stays n m role role' (word_at n t 0) nodes stays chain.2),
     )
 
 -- A chain is linked.

@@ -55,9 +55,7 @@ module _ (w : WordsState) (markers : ℕ) (lists : List Jobs) (joined : Joined) 
   table = same_table h g reads ∙ did.worked.table
 
   last_history : IsHistory w.config i.pass.seen
-  last_history =
-      subst (λ (v : WordsState). IsHistory v.config i.pass.seen)
-      (ap (λ (x : HostState). x.pass.table) is ∙ table) history
+  last_history = rw (ap (λ (x : HostState). x.pass.table) is ∙ table) at history
 
   moves : MovesOn g.pass i.pass
   moves = over_moves g.pass i.pass over
@@ -91,8 +89,7 @@ module _ (w : WordsState) (markers : ℕ) (lists : List Jobs) (joined : Joined) 
         count =
             (let now = ap (λ (x : HostState). x.callers) is ∙ same_callers h g reads in
             let then = did.worked.count in omega (arith, now, then));
-        callers = λ k lt. subst (λ (x : HostState). Has x.pass.seats (Caller k)) (sym is)
-            (callers_home h g reads k (home k (omega (arith, lt, count))));
+        callers = λ k lt. rw is (callers_home h g reads k (home k (omega (arith, lt, count))));
         markers = λ j le lt.
             (let now = ap (λ (x : HostState). x.markers) is ∙ same_markers h g reads ∙ did.worked.same_markers in
             absurd (omega (arith, now, le, lt)));
@@ -101,8 +98,7 @@ module _ (w : WordsState) (markers : ℕ) (lists : List Jobs) (joined : Joined) 
             (λ left. ReadsStack w.config h left.items g)
             (λ all left. IsStackRun w.config i.pass.seen lists all.items left.items) ended.dones ended.left
             (λ all left done read. runs all.items left.items done read)
-            (subst (λ x. IfOk x (λ all. HaveDone w.config h.pass.seen did.founding 0 lists all.items)) (sym dones)
-            did.worked.done) left;
+            (rw dones did.worked.done) left;
       })
 
 -- What the operations of the first caller lead to, before its jobs
@@ -110,8 +106,7 @@ pub founds_stack : {w : WordsState} {markers : ℕ} {h : HostState} (s : CallerS
     → HasHandedOut w markers 0 h → s ≡ at_home (pass_for h (Caller h.callers)) → GoesToPoint s.pass Founding q Founded
     → r ≡ q → Leads Founding (replied_to r) Founded
 founds_stack s r made is goes same =
-    subst (λ (l : List Replied). Leads Founding l Founded)
-    (sym (ap replied_to same ∙ goes.did ∙ ap (λ (l : List Replied). l ++ goes.all) (next_unasked s made is))) goes.leads
+    rw (ap replied_to same ∙ goes.did ∙ ap (λ (l : List Replied). l ++ goes.all) (next_unasked s made is)) goes.leads
 
 -- After the reading all callers are joined.
 pub callers_are_joined : {w : WordsState} {markers : ℕ} {lists : List Jobs} {joined : Joined} {g : HostState}
@@ -160,20 +155,14 @@ marker_joined {w} j {lists} p {before} after all alone ended is grows history do
       table = table;
       own = subst (λ (l : List Seat). Has l Host) (sym seats) (has_left h.pass.seats p.seats Host ended.own);
       count = ap (λ (x : HostState). x.callers) is ∙ ended.count;
-      callers = λ k lt. subst (λ (l : List Seat). Has l (Caller k)) (sym seats)
-          (has_left h.pass.seats p.seats (Caller k) (ended.callers k lt));
-      markers = λ i le lt. subst (λ (l : List Seat). Has l (Marker i)) (sym seats)
-          (⊎_elim
+      callers = λ k lt. rw seats (has_left h.pass.seats p.seats (Caller k) (ended.callers k lt));
+      markers = λ i le lt. rw seats (⊎_elim
           (λ (e : i ≡ j). has_right h.pass.seats p.seats (Marker i)
           (subst (λ (n : ℕ). Has p.seats (Marker n)) (sym e) mine))
           (λ (later : j + 1 ≤ i). has_left h.pass.seats p.seats (Marker i)
           (ended.markers i later (omega (arith, lt, count)))) (same_or_later j i le));
       run =
-          subst (λ x. IfOk x (λ all. IfOk after.left (λ left. IsStackRun w.config fs lists all.items left.items)))
-          (sym dones)
-          (subst (λ y. IfOk before.dones (λ all. IfOk y (λ left. IsStackRun w.config fs lists all.items left.items)))
-          (sym left)
-          (still_ok (λ all left. IsStackRun w.config h.pass.seen lists all.items left.items)
+          rw dones (rw left (still_ok (λ all left. IsStackRun w.config h.pass.seen lists all.items left.items)
           (λ all left. IsStackRun w.config fs lists all.items left.items) before.dones before.left
           (λ all left run. run_stands grows.more grows.is last others run) ended.run));
     }

@@ -47,5 +47,4 @@ pub does_next : {p q : PassState} (r : PassState) (jobs : List Job) (i : ℕ) {d
     → i < length jobs → DoesJobs p (take i jobs) dones q → DoesJob q (get_or jobs i d) done r
     → DoesJobs p (take (i + 1) jobs) (dones ++ done ∷ []) r
 does_next {p} r jobs i {dones} d done within before does =
-    subst (λ (js : List Job). DoesJobs p js (dones ++ done ∷ []) r) (sym (take_more jobs i d within))
-    (does_more r (get_or jobs i d) done before does)
+    rw (take_more jobs i d within) (does_more r (get_or jobs i d) done before does)

@@ -35,12 +35,11 @@ pub still_have : (c : Config) (es fs : List Event) (first : List Replied) (k : �
     → ((j : ℕ) → k ≤ j → j < k + length lists → Grows (Caller j ∷ []) es fs) → HaveDone c es first k lists all
     → HaveDone c fs first k lists all
 still_have c es fs first k [] [] g h = tt
-still_have c es fs first k [] (d ∷ ds) g h = absurd h
-still_have c es fs first k (x ∷ xs) [] g h = absurd h
 still_have c es fs first k (x ∷ xs) (d ∷ ds) g h = (
   still_done (g k (omega arith) (omega arith)) h.0,
   still_have c es fs [] (k + 1) xs ds (λ j le lt. g j (omega arith) (omega arith)) h.1,
 )
+still_have c es fs first k _ _ g h = absurd h
 
 -- Before a caller's first operation
 

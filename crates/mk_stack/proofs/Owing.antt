@@ -126,25 +126,19 @@ module _ {callers : ℕ} {n : NeverState} {top : Option ℕ} {role : ℕ → Rol
 
 pub mine : (c : ℕ) (o : Op) (n : NeverState) (xs : List Call) → own_replied c n (record { caller = c; op = o } ∷ xs)
     ≡ record { op = o; reply = reply_of n c o } ∷ own_replied c (after_op n c o) xs
-mine c o n xs =
-    ap (λ (b : Bool). if b then record { op = o; reply = reply_of n c o } ∷ own_replied c (after_op n c o) xs
-    else own_replied c (after_op n c o) xs) (eq-eqb c c refl)
+mine c o n xs = rw (eq-eqb c c refl) refl
 
 pub of_other : (k c : ℕ) (o : Op) (n : NeverState) (xs : List Call) → k ≢ c
     → own_replied k n (record { caller = c; op = o } ∷ xs) ≡ own_replied k (after_op n c o) xs
-of_other k c o n xs other =
-    ap (λ (b : Bool). if b then record { op = o; reply = reply_of n c o } ∷ own_replied k (after_op n c o) xs
-    else own_replied k (after_op n c o) xs) (ne_eqb c k (λ e. other (sym e)))
+of_other k c o n xs other = rw (ne_eqb c k (λ e. other (sym e))) refl
 
 pub my_decision : (c : ℕ) (o : Op) (xs : List Call) (d : Option Ordered) (ds : List (Option Ordered))
     → own_decisions c (record { caller = c; op = o } ∷ xs) (d ∷ ds) ≡ d ∷ own_decisions c xs ds
-my_decision c o xs d ds =
-    ap (λ (b : Bool). if b then d ∷ own_decisions c xs ds else own_decisions c xs ds) (eq-eqb c c refl)
+my_decision c o xs d ds = rw (eq-eqb c c refl) refl
 
 pub decision_of_other : (k c : ℕ) (o : Op) (xs : List Call) (d : Option Ordered) (ds : List (Option Ordered)) → k ≢ c
     → own_decisions k (record { caller = c; op = o } ∷ xs) (d ∷ ds) ≡ own_decisions k xs ds
-decision_of_other k c o xs d ds other =
-    ap (λ (b : Bool). if b then d ∷ own_decisions k xs ds else own_decisions k xs ds) (ne_eqb c k (λ e. other (sym e)))
+decision_of_other k c o xs d ds other = rw (ne_eqb c k (λ e. other (sym e))) refl
 
 -- One decision before others
 pub explained_more : (d : Option Ordered) (xs ys : List ℕ) (zs : List ℕ) (ds : List (Option Ordered)) → IsLeft d xs ys

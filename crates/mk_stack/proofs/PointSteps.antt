@@ -153,8 +153,7 @@ module _ {globals : List ℕ} {n : NeverState} {k : ℕ} (state : IsStackState g
       → (a : Answer) (bases : List ℕ) → Step s (flagged (Op.New d ty false) a) a bases
       (reply_of n k (flagged (Op.New d ty false) a)) (after_op n k (flagged (Op.New d ty false) a))
   made s d ty so not_so next done none holds else_holds Answer.Full bases image =
-      subst (λ (t : Point). Asks s (Op.New d ty true) Reply.Full t × HoldsAt (register_at n k) t)
-      (sym (next Answer.Full)) (none, else_holds)
+      rw (next Answer.Full) (none, else_holds)
   made s d ty so not_so next done none holds else_holds Answer.Done bases image = grind arith
   made s d ty so not_so next done none holds else_holds _ bases image = absurd (cc)
 
@@ -259,8 +258,7 @@ module _ {globals : List ℕ} {n : NeverState} {k : ℕ} (state : IsStackState g
   ))
   asks Taking h = λ a bases. exchanged Taking 3 a bases h.0 unlink pop_again h.1 h.0
   asks Freeing h = λ a bases.
-      subst (λ (v : Value). Step Freeing (Op.Free 2) a bases (free_reply n v) (after_free n v)) (sym h.is)
-      (λ image. (by (allocation_at n h.number).freed, h))
+      rw h.is (λ image. (by (allocation_at n h.number).freed, h))
     where
       by : (b : Bool) → Asks Freeing (Op.Free 2) (if b then Reply.Double else Reply.Done) Reading
       by true = free_again
@@ -268,7 +266,5 @@ module _ {globals : List ℕ} {n : NeverState} {k : ℕ} (state : IsStackState g
   asks Reading h = λ a bases.
       loads_number (λ r. a ≡ answer_of bases r → Asks Reading (Op.GetNum 2 0) r (next_point Reading (as_told a))
       × Unit {0}) h
-      (λ x image. subst (λ (y : Answer). Asks Reading (Op.GetNum 2 0) (Reply.Num x) (next_point Reading
-      (as_told y)) × Unit {0})
-      (sym image) (read, tt))
+      (λ x image. rw image (read, tt))
   asks (Ended d) h = tt

@@ -77,8 +77,7 @@ module _ (h g : HostState) (reader : IsReader h g) where
 
   pub host_home : Has h.pass.seats Host → Has g.pass.seats Host
   host_home has =
-      subst (λ (l : List Seat). Has l Host) (sym seats)
-      (has_left (without_seat (Caller 0) h.pass.seats) (Caller 0 ∷ []) Host
+      rw seats (has_left (without_seat (Caller 0) h.pass.seats) (Caller 0 ∷ []) Host
       (without_keeps (Caller 0) h.pass.seats Host refl has))
 
   other_home : (k : ℕ) → k ≢ 0 → Has h.pass.seats (Caller k) → Has (without_seat (Caller 0) h.pass.seats) (Caller k)
@@ -86,8 +85,7 @@ module _ (h g : HostState) (reader : IsReader h g) where
 
   pub callers_home : (k : ℕ) → Has h.pass.seats (Caller k) → Has g.pass.seats (Caller k)
   callers_home k has =
-      subst (λ (l : List Seat). Has l (Caller k)) (sym seats)
-      (⊎_elim
+      rw seats (⊎_elim
       (λ (e : k ≡ 0). has_right (without_seat (Caller 0) h.pass.seats) (Caller 0 ∷ []) (Caller k)
       (subst (λ (j : ℕ). Has (Caller 0 ∷ []) (Caller j)) (sym e) (has_first (Caller 0) [])))
       (λ (ne : k ≢ 0). has_left (without_seat (Caller 0) h.pass.seats) (Caller 0 ∷ []) (Caller k) (other_home k ne has))

@@ -127,9 +127,7 @@ module _ (p : PassState) (o : Op) (a : Answer) (more : List Event) (once : flagg
   decides = decided.decides ∙ ap (λ (y : Op). record { caller = k; op = y; answer = a } ∷ []) once
 
   admitted : AreAdmitted c.globals (never_behind c before) (asked (x ∷ []))
-  admitted =
-      subst (λ (l : List Decided). AreAdmitted c.globals (never_behind c before) (asked l)) decides
-      (comes_last c before decided.event through_history).admitted
+  admitted = rw decides at (comes_last c before decided.event through_history).admitted
 
   calls_before : calls c before ≡ calls c p.seen ++ earlier
   calls_before = calls_in_parts c p.seen decided.before
@@ -220,8 +218,7 @@ stays_held {p} {q} {o} f =
     let seen : q ≡ record p { seen = q.seen } = is ∙ ap (λ (r : PassState). record p { seen = r.seen }) (sym is) in
     record {
       is = seen;
-      did = subst (λ (r : PassState). replied_to r ≡ replied_to p) (sym is)
-          (same_replied p.table.config (caller_of_pass p) p.seen more
+      did = rw is (same_replied p.table.config (caller_of_pass p) p.seen more
           (none_since p.table.config (caller_of_pass p) p.seen more
           (ap (λ (r : PassState). own_calls p r.seen) (sym is) ∙ f.entries)));
       registers = λ r lt. ap (λ (s : PassState). register_at (never_of q) (caller_of_pass s) r) seen ∙ f.registers r lt;

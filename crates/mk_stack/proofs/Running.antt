@@ -62,9 +62,7 @@ module _ {callers : ℕ} {n : NeverState} {top : Option ℕ} {role : ℕ → Rol
     works_on = grind (arith, put_by, cons_tail, own_is, leads, of_other)
 
     local_now : Local m stepped.top_now stepped.role_now c leads.0 stepped.decided
-    local_now =
-        subst (λ (v : Work). Local m stepped.top_now stepped.role_now c v.point v.decided) (put_same W c w)
-        (stepped.inv.local c)
+    local_now = rw (put_same W c w) at (stepped.inv.local c)
 
     no_founder : IsOfJob (W c).point → (W c).goal ≢ Founded
     no_founder job is = no_founding (W c).point (W c).rest job (subst (Leads (W c).point (W c).rest) is (works c).leads)

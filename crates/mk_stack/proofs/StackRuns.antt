@@ -35,36 +35,30 @@ module _ (c : Config) (es : List Event) where
   -- the runs of the callers, counted from the first of the lists
   runs_at : (first : List Replied) (k : ℕ) (lists : List Jobs) (all : List Dones) → HaveDone c es first k lists all
       → ℕ → List JobRun
-  runs_at first k [] [] h i = []
-  runs_at first k [] (d ∷ ds) h i = []
-  runs_at first k (x ∷ xs) [] h i = []
   runs_at first k (x ∷ xs) (d ∷ ds) h zero = h.0.runs
   runs_at first k (x ∷ xs) (d ∷ ds) h (suc i) = runs_at [] (k + 1) xs ds h.1 i
+  runs_at first k _ _ h i = []
 
   are_runs_at : (first : List Replied) (k : ℕ) (lists : List Jobs) (all : List Dones)
       (h : HaveDone c es first k lists all) (i : ℕ) → AreJobRuns (runs_at first k lists all h i)
   unfolding runs_at
-  are_runs_at first k [] [] h i = tt
-  are_runs_at first k [] (d ∷ ds) h i = tt
-  are_runs_at first k (x ∷ xs) [] h i = tt
   are_runs_at first k (x ∷ xs) (d ∷ ds) h zero = h.0.are_runs
   are_runs_at first k (x ∷ xs) (d ∷ ds) h (suc i) = are_runs_at [] (k + 1) xs ds h.1 i
+  are_runs_at first k _ _ h i = tt
 
   same_at : (first : List Replied) (k : ℕ) (lists : List Jobs) (all : List Dones) (h : HaveDone c es first k lists all)
       → AreRunsOf lists all (runs_at first k lists all h)
   unfolding runs_at
   same_at first k [] [] h i jobs dones at at' = grind arith
-  same_at first k [] (d ∷ ds) h i jobs dones at at' = absurd h
-  same_at first k (x ∷ xs) [] h i jobs dones at at' = absurd h
   same_at first k (x ∷ xs) (d ∷ ds) h zero jobs dones at at' = grind arith
   same_at first k (x ∷ xs) (d ∷ ds) h (suc i) jobs dones at at' = same_at [] (k + 1) xs ds h.1 i jobs dones at at'
+  same_at first k _ _ h i jobs dones at at' = absurd h
 
   as_many : (first : List Replied) (k : ℕ) (lists : List Jobs) (all : List Dones) → HaveDone c es first k lists all
       → length all ≡ length lists
   as_many first k [] [] h = refl
-  as_many first k [] (d ∷ ds) h = absurd h
-  as_many first k (x ∷ xs) [] h = absurd h
   as_many first k (x ∷ xs) (d ∷ ds) h = ap suc (as_many [] (k + 1) xs ds h.1)
+  as_many first k _ _ h = absurd h
 
   -- Behind the last list no caller asks for anything.
   own_at : (below : AreBelow c.callers (asked (calls c es))) (first : List Replied) (k : ℕ) (lists : List Jobs)
@@ -116,8 +110,7 @@ is_stack_run {c} es more founding lists all left_on walked is history types foun
     let registers : length (never_behind c es).registers ≡ 8 * c.callers =
     (stands c es jobs_history).all.mirrors.register_count in
     let read = walks_read_the_stack (never_behind c es) 0 later explained.nodes (omega (arith, least, registers))
-    by_first explained.linked (subst (λ (l : List Replied). LeadsDown WalkPoint.Starting l WalkPoint.Ended)
-    (sym own) leads) in
+    by_first explained.linked (rw own leads) in
     record {
       founding = founding;
       runs = runs;

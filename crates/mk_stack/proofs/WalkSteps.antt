@@ -83,8 +83,7 @@ module _ {globals : List ℕ} {n : NeverState} {k : ℕ} (state : IsStackState g
       ((stop, refl), tt) (λ p. ((meet, refl), (h.0, p)))
   goes_down WalkPoint.Reading h = λ a bases.
       loads_number state (λ r. Step WalkPoint.Reading (Op.GetNum 2 0) a bases r n) h.1
-      (λ x image. subst (λ (y : Answer). Down WalkPoint.Reading (Op.GetNum 2 0) (Reply.Num x)
-      (found_down WalkPoint.Reading (as_told y)) × At WalkPoint.Reading) (sym image) ((read, refl), h))
+      (λ x image. rw image ((read, refl), h))
   goes_down WalkPoint.Descending h = λ a bases.
       loads_link state 2 (Step WalkPoint.Descending (Op.GetPtr 2 2 1) a bases) h.1
       (λ v may image. ((descend, refl), (kept state 2 0 v (omega arith) h.0, now_may state 0 2 v (omega arith) may)))

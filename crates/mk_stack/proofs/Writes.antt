@@ -74,9 +74,7 @@ module _ {callers : ℕ} {n : NeverState} {top : Option ℕ} {role : ℕ → Rol
   write_role k other b = by (cases_eq b a)
     where
       by : (b ≡ a) ⊎ (b ≡ a → ⊥) → RoleKeeps k (role b) (role b) (words_of m b ≡ words_of n b)
-      by (inl e) =
-          subst (λ (r : Role). RoleKeeps k r (role b) (words_of m b ≡ words_of n b)) (sym (ap role e ∙ own))
-          (λ same. absurd (other (sym same)))
+      by (inl e) = rw (ap role e ∙ own) (λ same. absurd (other (sym same)))
       by (inr ne) = same_role k (role b) _ (other_words n a i b v ne)
 
   write_leaves : (k : ℕ) → k ≢ c → Leaves n top role m top role k

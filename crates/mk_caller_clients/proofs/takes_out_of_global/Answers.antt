@@ -9,6 +9,5 @@ same-requires-clause-admitted c =
 
 pub returns : goal.returns
 returns c =
-    told_of_other c.args.caller.now.pass c.get_global.new.self.pass c.same.new.self.pass c.same.result c.args.d c.args.g
-    c.args.x c.requires.admitted c.requires.register c.requires.another c.in_ok-get_global.ensures.called
-    c.same.ensures.called c.same.ensures.tells
+    told_of_other _ _ _ c.same.result c.args.d c.args.g c.args.x c.requires.admitted c.requires.register
+    c.requires.another c.in_ok-get_global.ensures.called c.same.ensures.called c.same.ensures.tells

@@ -3,5 +3,4 @@ use Rattle.mk_caller.proofs.Chains.{called, go, stores}
 use Rattle.mk_caller.proofs.calls.clear.Goals as goal
 
 pub returns-clause-called : goal.returns-clause-called
-returns-clause-called c =
-    called (go c.in_ok-enter.ensures.moves (stores 0) refl c.store_and_leave.ensures) refl
+returns-clause-called c = called (go c.in_ok-enter.ensures.moves (stores 0) refl c.store_and_leave.ensures) refl

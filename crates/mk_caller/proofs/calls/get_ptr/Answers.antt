@@ -5,8 +5,8 @@ use Rattle.mk_caller.proofs.calls.get_ptr.Goals as goal
 
 pub returns-in_default-clause-refused : goal.returns-in_default-clause-refused
 returns-in_default-clause-refused c =
-    faults c.requires.ready refl c.in_ok-u.ensures.begun refl refl c.in_default.ensures.refused
-    c.in_default.ensures.unmapped
+    let d = c.in_default.ensures in
+    faults c.requires.ready refl c.in_ok-u.ensures.begun refl refl d.refused d.unmapped
 
 pub returns-clause-called : goal.returns-clause-called
 returns-clause-called c =

@@ -5,8 +5,7 @@ use Rattle.mk_caller.specs.Moves.{is_written}
 use Rattle.mk_caller.proofs.steps.cas.Goals as goal
 
 pub cas-requires-clause-enabled : goal.cas-requires-clause-enabled
-cas-requires-clause-enabled c =
-    (may_access c.requires.underway _ Step.Cas c.requires.stage refl c.requires.access).0
+cas-requires-clause-enabled c = (may_access c.requires.underway _ Step.Cas c.requires.stage refl c.requires.access).0
 
 pub returns : goal.returns
 returns c = record {

@@ -6,5 +6,4 @@ pub global_load-requires-clause-admitted : goal.global_load-requires-clause-admi
 global_load-requires-clause-admitted c = may_getg c.requires.underway c.requires.stage
 
 pub returns : goal.returns
-returns c =
-    record { moves = moves c.requires.underway c.global_load.ensures.goes (getg_next _ _ _ c.requires.stage) }
+returns c = record { moves = moves c.requires.underway c.global_load.ensures.goes (getg_next _ _ _ c.requires.stage) }

@@ -6,5 +6,4 @@ pub global_store-requires-clause-admitted : goal.global_store-requires-clause-ad
 global_store-requires-clause-admitted c = may_setg c.requires.underway c.requires.stage
 
 pub returns : goal.returns
-returns c =
-    record { moves = moves c.requires.underway c.global_store.ensures.goes (setg_next _ _ c.requires.stage) }
+returns c = record { moves = moves c.requires.underway c.global_store.ensures.goes (setg_next _ _ c.requires.stage) }

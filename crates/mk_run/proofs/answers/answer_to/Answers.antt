@@ -20,23 +20,18 @@ call_until_open-requires g c =
       admitted = stays_admitted_after true p c.args.op c.answer_now.new.caller.pass c.requires.admitted none;
     }
 
-pub returns-in-Err-clause-answers : goal.returns-in-Err-clause-answers
-returns-in-Err-clause-answers g c =
+pub returns-in-Err : goal.returns-in-Err
+returns-in-Err g c =
     let p = c.args.caller.now.pass in
     let q = c.answer_now.new.caller.pass in
-    none_then_answers g.E.Engine.on p q c.args.op c.call_until_open.result c.call_until_open.new.caller.pass
-    (makes_none g.E.Engine.on p c.args.op q c.in-Err.ensures.held) c.in-Err.ensures.beside
-    (c.call_until_open.ensures.answers g.E.Engine.on)
-
-pub returns-in-Err-clause-reached : goal.returns-in-Err-clause-reached
-returns-in-Err-clause-reached g c =
-    let p = c.args.caller.now.pass in
-    let q = c.answer_now.new.caller.pass in
-    λ off. sweeps_then p q c.call_until_open.new.caller.pass
-    (makes_none g.E.Engine.on p c.args.op q c.in-Err.ensures.held).is
-    (c.answer_now.ensures.reached off) c.call_until_open.ensures.reached
-
-pub returns-in-Err-clause-begun : goal.returns-in-Err-clause-begun
-returns-in-Err-clause-begun g c =
-    beside_begun g.E.Engine.begins c.args.caller.now.pass c.call_until_open.new.caller.pass
-    ((returns-in-Err-clause-answers g c).beside c.in-Err.ensures.beside)
+    let r = c.call_until_open.new.caller.pass in
+    let none = makes_none g.E.Engine.on p c.args.op q c.in-Err.ensures.held in
+    let answers = none_then_answers g.E.Engine.on p q c.args.op c.call_until_open.result r none c.in-Err.ensures.beside
+    (c.call_until_open.ensures.answers g.E.Engine.on) in
+    record {
+      home = c.call_until_open.ensures.home;
+      made_for = c.answer_now.ensures.made_for;
+      answers = answers;
+      reached = λ off. sweeps_then p q r none.is (c.answer_now.ensures.reached off) c.call_until_open.ensures.reached;
+      begun = beside_begun g.E.Engine.begins p r (answers.beside c.in-Err.ensures.beside);
+    }

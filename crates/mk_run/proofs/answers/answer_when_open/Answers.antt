@@ -23,5 +23,4 @@ call_until_open-requires g c =
 pub returns-clause-answers : goal.returns-clause-answers
 returns-clause-answers g c = λ o on asks.
     let e = asked_op c.args.feed.now o c.in-Some.op asks c.in-Some.ensures.next in
-    subst (λ (x : Op). Answers on c.args.caller.now.pass x c.call_until_open.result c.call_until_open.new.caller.pass) e
-    (c.call_until_open.ensures.answers on)
+    rw e at (c.call_until_open.ensures.answers on)

@@ -6,9 +6,7 @@ use Rattle.mk_run.proofs.answers.call_until_open.Goals as goal
 
 pub call-requires-clause-admitted : goal.call-requires-clause-admitted
 call-requires-clause-admitted g c =
-    still_admitted true c.args.caller.now.pass c.args.op c.held.caller.pass c.requires.admitted
-    (c.held.invariant.none true)
-    c.is_idle.ensures.history
+    still_admitted true _ _ _ c.requires.admitted (c.held.invariant.none true) c.is_idle.ensures.history
 
 pub returns-in-Ok-clause-answers : goal.returns-in-Ok-clause-answers
 returns-in-Ok-clause-answers g c = λ on.
@@ -24,28 +22,24 @@ held-preserved g c = record {
       none_then_none on c.args.caller.now.pass c.held.caller.pass c.call.new.caller.pass (c.held.invariant.none on)
       (makes_none on c.held.caller.pass c.args.op c.call.new.caller.pass c.in-Err.ensures.held);
   reached =
-      sweeps_then c.args.caller.now.pass c.held.caller.pass c.call.new.caller.pass (c.held.invariant.none true).is
-      c.held.invariant.reached
-      (sweep_nothing_where_held c.held.caller.pass c.args.op c.call.new.caller.pass c.is_idle.ensures.own
-      c.in-Err.ensures.held);
+      sweeps_then _ _ _ (c.held.invariant.none true).is c.held.invariant.reached (sweep_nothing_where_held _ _ _
+      c.is_idle.ensures.own c.in-Err.ensures.held);
 }
 
 pub returns-in-Ok-clause-reached : goal.returns-in-Ok-clause-reached
 returns-in-Ok-clause-reached g c =
     let called = c.in-Ok.ensures.called in
-    sweeps_then c.args.caller.now.pass c.held.caller.pass c.call.new.caller.pass (c.held.invariant.none true).is
-    c.held.invariant.reached
-    (calls_sweep_nothing c.held.caller.pass c.args.op called.answer c.call.new.caller.pass called.called)
+    sweeps_then _ _ _ (c.held.invariant.none true).is c.held.invariant.reached (calls_sweep_nothing _ _ called.answer _
+    called.called)
 
 pub held-init : goal.held-init
-held-init g c =
-    record {
-      home = c.requires.home;
-      none = λ on. record {
-        is = refl;
-        entries = refl;
-        exact = λ e. e;
-        beside = stays_still c.args.caller.now.pass;
-      };
-      reached = nothing_sweeps c.args.caller.now.pass;
-    }
+held-init g c = record {
+  home = c.requires.home;
+  none = λ on. record {
+    is = refl;
+    entries = refl;
+    exact = λ e. e;
+    beside = stays_still c.args.caller.now.pass;
+  };
+  reached = nothing_sweeps c.args.caller.now.pass;
+}

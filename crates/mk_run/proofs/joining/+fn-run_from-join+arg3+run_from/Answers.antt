@@ -78,8 +78,8 @@ join-ran-requires-after_bounds g t c κs within =
       ),
     )
 
-pub returns-clause-joined : goal.returns-clause-joined
-returns-clause-joined g t c =
+pub returns : goal.returns
+returns g t c =
     let on = g.E.Engine.on in
     let program = c.args.run.now.program.now in
     let w = c.args.run.now.heap.now in
@@ -97,22 +97,24 @@ returns-clause-joined g t c =
     let few : IsScript program k =
     omega (arith, c.in-Some.ensures.cases, c.args.scripts.ok, c.requires.scripts.count, scripts) in
     record {
-      is_host =
-          subst (λ (h : HostState). HasJoined on program w k h) (sym is)
-          (one_joined on program w k old pass new.pass.seen joined.is_host own ran.alone came ran.follows);
-      own =
-          subst (λ (h : HostState). Has h.pass.seats Host) (sym is)
-          (has_left old.pass.seats pass.seats Host joined.own);
-      without_host = host_is_still old.pass.seats old.pass.seen new.pass.seen joined.own own joined.without_host;
-      before_over = c.join_caller.ensures.overs ∙ joined.before_over;
-      same_markers =
-          ap (λ (h : HostState). h.markers) is ∙ joined.same_markers ∙ ap (λ (h : HostState). h.markers)
-          c.caller.ensures.host;
-      texts =
-          texts_joined on program w k old pass new.pass.seen joined.is_host own ran.alone came (λ texts. texts.items)
-          c.join-ran.result.0.text c.join-ran.result.1.texts c.with_first.result
-          c.with_first.ensures.first c.with_first.ensures.others c.with_first.ensures.items
-          ran.ends ran.is_text joined.texts few;
+      joined = record {
+        is_host =
+            rw is (one_joined on program w k old pass new.pass.seen joined.is_host own ran.alone came ran.follows);
+        own = rw is (has_left old.pass.seats pass.seats Host joined.own);
+        without_host = host_is_still old.pass.seats old.pass.seen new.pass.seen joined.own own joined.without_host;
+        before_over = c.join_caller.ensures.overs ∙ joined.before_over;
+        same_markers =
+            ap (λ (h : HostState). h.markers) is ∙ joined.same_markers ∙ ap (λ (h : HostState). h.markers)
+            c.caller.ensures.host;
+        texts =
+            texts_joined on program w k old pass _ joined.is_host own ran.alone came (λ texts. texts.items)
+            c.join-ran.result.0.text c.join-ran.result.1.texts c.with_first.result c.with_first.ensures.first
+            c.with_first.ensures.others c.with_first.ensures.items ran.ends ran.is_text joined.texts few;
+      };
+      keep =
+          script_joined program k _ pass.seats pass.seen _ ran.alone came c.join-ran.ensures.first.1 (scripts_on program
+          (k + 1) _ _ _ (others_on _ Host _ _ _ joined.own own) (λ j le is. of_one old.pass.seats (Caller j)
+          old.pass.seen new.pass.seen (joined.is_host.seats j le is) own) c.join-ran.ensures.second.1);
     }
 
 pub returns-in_default-clause-joined : goal.returns-in_default-clause-joined
@@ -125,22 +127,3 @@ returns-in_default-clause-keep g t c =
     omega (arith, c.in_default.ensures.cases, c.args.scripts.ok, c.requires.scripts.count, scripts) in
     none_joined c.args.run.now.program.now c.args.k c.args.run.now.heap.now.config c.args.host.pass.seen
     c.requires.host.seen all
-
-pub returns-clause-keep : goal.returns-clause-keep
-returns-clause-keep g t c =
-    let program = c.args.run.now.program.now in
-    let w = c.args.run.now.heap.now in
-    let k = c.args.k in
-    let ran : HasRun g.E.Engine.on program w k c.join-ran.result.0 = c.join-ran.ensures.first.0 in
-    let joined : AreJoined g.E.Engine.on program w (k + 1) c.caller.new.self.markers c.join-ran.result.1 =
-    c.join-ran.ensures.second.0 in
-    let pass = c.join-ran.result.0.pass in
-    let old = c.join-ran.result.1.host in
-    let new = c.join_caller.new.self in
-    let own : Grows old.pass.seats old.pass.seen new.pass.seen = c.join_caller.ensures.own in
-    script_joined program k w.config pass.seats pass.seen new.pass.seen ran.alone c.join_caller.ensures.came
-    c.join-ran.ensures.first.1
-    (scripts_on program (k + 1) w.config old.pass.seen new.pass.seen
-    (others_on w.config Host old.pass.seats old.pass.seen new.pass.seen joined.own own)
-    (λ j le is. of_one old.pass.seats (Caller j) old.pass.seen new.pass.seen (joined.is_host.seats j le is) own)
-    c.join-ran.ensures.second.1)

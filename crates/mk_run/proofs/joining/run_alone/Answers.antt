@@ -16,14 +16,12 @@ run_script-text-requires-clause-follows g c κs within =
 pub run_script-text-requires-clause-no_call : goal.run_script-text-requires-clause-no_call
 run_script-text-requires-clause-no_call g c κs within =
     let p = c.new-caller.result.pass in
-    no_answers p.table.config c.args.k p.seen
-    (ap (λ (s : CallerState). s.pass.seen) c.new-caller.ensures ∙ c.requires.pass.seen)
+    no_answers _ c.args.k _ (ap (λ (s : CallerState). s.pass.seen) c.new-caller.ensures ∙ c.requires.pass.seen)
 
 pub run_script-text-requires-clause-alone : goal.run_script-text-requires-clause-alone
 run_script-text-requires-clause-alone g c κs within =
     let is = ap (λ (s : CallerState). s.pass) c.new-caller.ensures in
-    subst (λ (p : PassState). p.seats ≡ p.seat ∷ []) (sym is)
-    (c.requires.pass.alone ∙ ap (λ (s : Seat). s ∷ []) (sym c.requires.pass.seat))
+    rw is (c.requires.pass.alone ∙ ap (λ (s : Seat). s ∷ []) (sym c.requires.pass.seat))
 
 pub returns-clause-keeps : goal.returns-clause-keeps
 returns-clause-keeps g c =

@@ -24,7 +24,6 @@ pub returns-else-with_cycle-clause-cycles : goal.returns-else-with_cycle-clause-
 returns-else-with_cycle-clause-cycles g c =
     let at = c.requires.all_home in
     let unasked : c.args.with_cycle ≡ false = search rules in
-    subst (λ (asked : Bool). BeginsAsAsked asked c.args.host.now.pass.seen c.over.new.self.pass.seen) (sym unasked)
-    (over_begins c.args.host.now.pass c.over.new.self.pass at.seat at.own
+    rw unasked (over_begins c.args.host.now.pass c.over.new.self.pass at.seat at.own
     (subst (λ (w : WordsState). HasCallers w.config c.args.host.now.pass.seats) (sym at.table) at.callers)
     c.over.ensures.over c.is_in_order.ensures.history)

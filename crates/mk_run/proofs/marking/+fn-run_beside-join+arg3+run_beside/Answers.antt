@@ -23,35 +23,28 @@ join-pass-requires-after_bounds g t c κs within =
     let fewer : c.args.run.now.markers - (number + 1) < t = omega (arith, c.decreases) in
     search rules
 
-pub returns-clause-over : goal.returns-clause-over
-returns-clause-over g t c =
+pub returns : goal.returns
+returns g t c =
     let w = c.args.run.now.heap.now in
+    let with_cycle = c.args.run.now.with_cycle in
+    let program = c.args.run.now.program.now in
     let number = c.args.number in
     let pass : IsMarkersPass w number c.join-pass.result.0 = c.join-pass.ensures.first in
-    let before : IsOver g.E.Engine.on c.args.run.now.with_cycle c.args.run.now.program.now w (number + 1)
-    c.join-pass.result.1.joined = c.join-pass.ensures.second.0 in
-    marker_joined g.E.Engine.on c.args.run.now.with_cycle c.args.run.now.program.now c.args.run.now.markers w number
-    c.join-pass.result.0
-    c.join-pass.result.1.joined
-    (record { host = c.join_marker.new.self; texts = c.join-pass.result.1.joined.texts }) c.args.run.now.made_for before
-    c.join_marker.ensures.host
-    c.join_marker.ensures.own pass.alone c.is_in_order.ensures.history refl
-
-pub returns-clause-turns : goal.returns-clause-turns
-returns-clause-turns g t c asked =
-    last_turns_joined (g.E.Engine.tells c.join-pass.result.1.engine) c.args.run.now.heap.now
-    c.join-pass.result.1.joined.host c.join_marker.new.self c.join-pass.result.0 c.join_marker.ensures.host
-    c.join_marker.ensures.own (c.join-pass.ensures.second.1.0 asked)
-
-pub returns-clause-keep : goal.returns-clause-keep
-returns-clause-keep g t c =
-    let w = c.args.run.now.heap.now in
-    let before : IsOver g.E.Engine.on c.args.run.now.with_cycle c.args.run.now.program.now w (c.args.number + 1)
-    c.join-pass.result.1.joined = c.join-pass.ensures.second.0 in
-    let old = c.join-pass.result.1.joined.host in
+    let joined = c.join-pass.result.1.joined in
+    let before : IsOver g.E.Engine.on with_cycle program w (number + 1) joined = c.join-pass.ensures.second.0 in
+    let old = joined.host in
     let new = c.join_marker.new.self in
     let own = c.join_marker.ensures.own in
-    scripts_on c.args.run.now.program.now 0 w.config old.pass.seen new.pass.seen
-    (others_on w.config Host old.pass.seats old.pass.seen new.pass.seen before.own own)
-    (λ j le is. of_one old.pass.seats (Caller j) old.pass.seen new.pass.seen (before.is_host.seats j le is) own)
-    c.join-pass.ensures.second.1.1
+    record {
+      over =
+          marker_joined g.E.Engine.on with_cycle program c.args.run.now.markers w number c.join-pass.result.0 joined
+          (record { host = new; texts = joined.texts }) c.args.run.now.made_for before c.join_marker.ensures.host own
+          pass.alone c.is_in_order.ensures.history refl;
+      turns = λ asked. last_turns_joined (g.E.Engine.tells c.join-pass.result.1.engine) w old new c.join-pass.result.0
+          c.join_marker.ensures.host own (c.join-pass.ensures.second.1.0 asked);
+      keep =
+          scripts_on program 0 w.config old.pass.seen new.pass.seen
+          (others_on w.config Host old.pass.seats old.pass.seen new.pass.seen before.own own)
+          (λ j le is. of_one old.pass.seats (Caller j) old.pass.seen new.pass.seen (before.is_host.seats j le is) own)
+          c.join-pass.ensures.second.1.1;
+    }

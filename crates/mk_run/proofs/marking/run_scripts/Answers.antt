@@ -18,41 +18,37 @@ take_last_turns-requires-clause-all_home g c κs within =
       before_over = joined.before_over;
     }
 
-pub returns-clause-over : goal.returns-clause-over
-returns-clause-over g c =
+pub returns : goal.returns
+returns g c =
     let on = g.E.Engine.on in
     let program = c.args.run.now.program.now in
     let w = c.args.run.now.heap.now in
     let joined = c.run_from-host.ensures.joined in
     let h = c.run_from-host.result.host in
     let new = c.take_last_turns.new.host in
-    let is = c.take_last_turns.ensures.host.is in
-    let still = c.take_last_turns.ensures.host.still in
-    let count : new.markers ≡ c.args.host.markers = ap (λ (x : HostState). x.markers) is ∙ joined.same_markers in
+    let last = c.take_last_turns.ensures in
+    let count : new.markers ≡ c.args.host.markers =
+    ap (λ (x : HostState). x.markers) last.host.is ∙ joined.same_markers in
     record {
-      is_host =
-          subst (λ (x : HostState). HasJoined on program w 0 x) (sym is)
-          (still_joined on program w h new.pass.seen joined.is_host still h.pass.seats (λ k has. has));
-      own = subst (λ (x : HostState). Has x.pass.seats Host) (sym is) joined.own;
-      last =
-          comes_last w.config c.args.run.now.with_cycle h.pass new.pass.seen
-          (all_callers_home on program c.args.run.now.markers w h c.args.run.now.made_for joined.is_host)
-          joined.without_host still
-          c.take_last_turns.ensures.cycles;
-      markers = λ i le lt. absurd (omega arith);
-      texts =
-          IfOk-weaker c.run_from-host.result.texts (λ texts. AreTextsFrom program 0 w.config h.pass.seen texts.items)
-          (λ texts. AreTextsFrom program 0 w.config new.pass.seen texts.items)
-          (λ texts t. still_texts on program w h new.pass.seen joined.is_host still texts.items t) joined.texts;
+      over = record {
+        is_host =
+            subst (λ (x : HostState). HasJoined on program w 0 x) (sym last.host.is)
+            (still_joined on program w h new.pass.seen joined.is_host last.host.still h.pass.seats (λ k has. has));
+        own = subst (λ (x : HostState). Has x.pass.seats Host) (sym last.host.is) joined.own;
+        last =
+            comes_last w.config c.args.run.now.with_cycle h.pass new.pass.seen
+            (all_callers_home on program c.args.run.now.markers w h c.args.run.now.made_for joined.is_host)
+            joined.without_host last.host.still last.cycles;
+        markers = λ i le lt. absurd (omega arith);
+        texts =
+            IfOk-weaker c.run_from-host.result.texts (λ texts. AreTextsFrom program 0 w.config h.pass.seen texts.items)
+            (λ texts. AreTextsFrom program 0 w.config new.pass.seen texts.items)
+            (λ texts t. still_texts on program w h new.pass.seen joined.is_host last.host.still texts.items t)
+            joined.texts;
+      };
+      turns = last.turns;
+      keep =
+          scripts_on program 0 w.config h.pass.seen new.pass.seen
+          (host_on w h.pass new.pass joined.is_host.table joined.is_host.seat last.host.keeps)
+          (λ j le is. last.host.still j (joined.is_host.seats j le is)) c.run_from-host.ensures.keep;
     }
-
-pub returns-clause-keep : goal.returns-clause-keep
-returns-clause-keep g c =
-    let w = c.args.run.now.heap.now in
-    let joined = c.run_from-host.ensures.joined in
-    let h = c.run_from-host.result.host in
-    let new = c.take_last_turns.new.host in
-    let on = c.take_last_turns.ensures.host in
-    scripts_on c.args.run.now.program.now 0 w.config h.pass.seen new.pass.seen
-    (host_on w h.pass new.pass joined.is_host.table joined.is_host.seat on.keeps)
-    (λ j le is. on.still j (joined.is_host.seats j le is)) c.run_from-host.ensures.keep

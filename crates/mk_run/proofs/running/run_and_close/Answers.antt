@@ -12,44 +12,27 @@ close-report-requires-clause-joined g c =
     all_joined g.E.Engine.on c.args.with_cycle c.args.program.now c.in_ok-heap.heap c.run_beside-joined.result.joined
     c.run_beside-joined.ensures.over
 
-pub returns-clause-runs : goal.returns-clause-runs
-returns-clause-runs g c =
+pub returns : goal.returns
+returns g c =
     let program = c.args.program.now in
+    let markers = c.args.markers in
     let w = c.in_ok-heap.heap in
+    let beside = c.run_beside-joined.ensures in
     let h = c.run_beside-joined.result.joined.host in
-    let made : w.config ≡ config_of program c.args.markers =
-    c.in_ok-heap.ensures.config ∙ c.in_ok-config.ensures.config in
+    let end = c.close-report.ensures in
+    let made : w.config ≡ config_of program markers = c.in_ok-heap.ensures.config ∙ c.in_ok-config.ensures.config in
     let texts : AreTextsFrom program 0 w.config h.pass.seen c.in_ok-texts.field-0.items = grind arith in
-    is_run g.E.Engine.on c.args.with_cycle program c.args.markers w h (record {
-      texts =
-          c.in_ok-texts.field-0;
-      report = c.close-report.result;
-    })
-    made c.run_beside-joined.ensures.over.is_host c.run_beside-joined.ensures.over.last texts
-    c.close-report.ensures.history c.close-report.ensures.config c.close-report.ensures.whole
-    c.close-report.ensures.counts
-
-pub returns-clause-cycle : goal.returns-clause-cycle
-returns-clause-cycle g c asked =
-    run_ends_with_cycle (g.E.Engine.tells c.run_beside-joined.result.engine)
-    (config_of c.args.program.now c.args.markers) c.in_ok-heap.heap c.run_beside-joined.result.joined.host.pass
-    c.close-report.result (c.in_ok-heap.ensures.config ∙ c.in_ok-config.ensures.config)
-    (c.run_beside-joined.ensures.turns asked) c.close-report.ensures.history c.close-report.ensures.config
-    c.close-report.ensures.whole
-
-pub returns-clause-reached : goal.returns-clause-reached
-returns-clause-reached g c =
-    run_is_unswept c.args.program.now c.args.markers (c.in_ok-heap.ensures.config ∙ c.in_ok-config.ensures.config)
-    c.close-report.ensures.config c.close-report.ensures.history c.close-report.ensures.whole
-    c.run_beside-joined.ensures.keep
-
-pub returns-clause-begun : goal.returns-clause-begun
-returns-clause-begun g c =
-    run_is_begun c.args.program.now c.args.markers (c.in_ok-heap.ensures.config ∙ c.in_ok-config.ensures.config)
-    c.close-report.ensures.config c.close-report.ensures.history c.close-report.ensures.whole
-    c.run_beside-joined.ensures.keep
+    record {
+      runs =
+          is_run g.E.Engine.on c.args.with_cycle program markers w h
+          (record { texts = c.in_ok-texts.field-0; report = c.close-report.result }) made beside.over.is_host
+          beside.over.last texts end.history end.config end.whole end.counts;
+      cycle = λ asked. run_ends_with_cycle (g.E.Engine.tells c.run_beside-joined.result.engine)
+          (config_of program markers) w h.pass c.close-report.result made (beside.turns asked) end.history end.config
+          end.whole;
+      reached = run_is_unswept program markers made end.config end.history end.whole beside.keep;
+      begun = run_is_begun program markers made end.config end.history end.whole beside.keep;
+    }
 
 pub run_beside-joined-requires-clause-ready : goal.run_beside-joined-requires-clause-ready
-run_beside-joined-requires-clause-ready g c κs within =
-    subst (λ (x : Config). IsReadyRun g.E.Engine.made_for c.args.program.now x c.in_ok-ready.ready)
-    (sym c.in_ok-heap.ensures.config) c.in_ok-ready.ensures.ready
+run_beside-joined-requires-clause-ready g c κs within = rw c.in_ok-heap.ensures.config c.in_ok-ready.ensures.ready

@@ -1,6 +1,6 @@
-use Rattle.mk_laws.proofs.Vocabulary.{ap, arith, sym, ◌∙◌, ◌≡◌}
+use Rattle.mk_laws.proofs.Vocabulary.{ap, arith, subst, sym, [], ◌∙◌, ◌∷◌, ◌≡◌}
 use Rattle.mk_run.proofs.Vocabulary.{IsAdmittedByOwnCalls, IsChecked, PassState, answers_in, begun_then, nothing_sweeps}
-use Rattle.mk_run.proofs.Vocabulary.{sweeps_then}
+use Rattle.mk_run.proofs.Vocabulary.{rules, sweeps_then}
 use Rattle.mk_run.proofs.PutOff.{IsAnsweredAs, answered_at_once, answered_later, put_off_admitted, put_off_is}
 use Rattle.mk_run.proofs.ScriptCalls.{asked_stays_admitted, exists_on, follows_now, refused_within, runs_on, seat_is}
 use Rattle.mk_run.proofs.ScriptCalls.{then_seen}
@@ -20,10 +20,9 @@ next_admitted g c =
     let run = c.instructions.invariant.running in
     let known = c.program-well_typed.ensures in
     let checked : IsChecked program = record { well_typed = known.well_typed; of_some_text = known.of_some_text } in
-    asked_stays_admitted g.E.Engine.on program k p q (script_of c.instructions.feed c.instructions.counts) run
-    (seat_is p q k run.is c.is_idle.ensures.idle c.requires.number) c.in-Some.op
-    (sym (c.in-Some.ensures.next program k (answers_in p.table.config k q.seen) run.fed.feed))
-    checked c.requires.script c.requires.config
+    asked_stays_admitted g.E.Engine.on program k p q _ run (seat_is p q k run.is c.is_idle.ensures.idle
+    c.requires.number) c.in-Some.op (sym (c.in-Some.ensures.next program k _ run.fed.feed)) checked c.requires.script
+    c.requires.config
 
 pub answer_at_once-requires-clause-admitted : goal.answer_at_once-requires-clause-admitted
 answer_at_once-requires-clause-admitted g c =
@@ -57,21 +56,19 @@ put_off g c = grind (arith, then_seen, put_off_is)
 
 pub answer_put_off-answer-requires-clause-admitted : goal.answer_put_off-answer-requires-clause-admitted
 answer_put_off-answer-requires-clause-admitted g c κs within =
-    put_off_admitted c.instructions.caller.pass c.in-Some.op c.answer_at_once.new.caller.pass
-    c.in-None.ensures.put_off
-    (next_admitted g (goal.at.answer_put_off-answer-requires-clause-admitted g c).In-Some)
+    put_off_admitted _ c.in-Some.op _ c.in-None.ensures.put_off (next_admitted g
+    (goal.at.answer_put_off-answer-requires-clause-admitted g c).In-Some)
 
 pub answer_put_off-answer-requires-clause-asks : goal.answer_put_off-answer-requires-clause-asks
-answer_put_off-answer-requires-clause-asks g c κs within =
-    record {
-      some = record {
-        program = c.args.program.now;
-        k = c.args.k;
-        answers = answers_in c.args.caller.now.pass.table.config c.args.k c.instructions.caller.pass.seen;
-        stands = c.instructions.invariant.running.fed.feed;
-      };
-      next = λ program k answers fed. sym (c.in-Some.ensures.next program k answers fed);
-    }
+answer_put_off-answer-requires-clause-asks g c κs within = record {
+  some = record {
+    program = c.args.program.now;
+    k = c.args.k;
+    answers = answers_in c.args.caller.now.pass.table.config c.args.k c.instructions.caller.pass.seen;
+    stands = c.instructions.invariant.running.fed.feed;
+  };
+  next = λ program k answers fed. sym (c.in-Some.ensures.next program k answers fed);
+}
 
 pub answer_put_off-answer-requires-clause-exists : goal.answer_put_off-answer-requires-clause-exists
 answer_put_off-answer-requires-clause-exists g c κs within =
@@ -110,44 +107,33 @@ instructions-preserved g c =
       running = on;
       made_for = elim c.match-answer_at_once.branch [
         | in-Some-answer_at_once w ↦ rw w.engine-is c.instructions.invariant.made_for
-        | in-None w ↦ rw w.engine-is (w.answer_put_off-answer.ensures.made_for
-            ∙ c.instructions.invariant.made_for)
+        | in-None w ↦ cc (w.engine-is, w.answer_put_off-answer.ensures.made_for, c.instructions.invariant.made_for)
       ];
       refused = refused_within program k (answers_in p.table.config k r.seen) after on.fed;
       reached = λ none. sweeps_then p q r run.is (c.instructions.invariant.reached none) (j.reached none);
       begun = begun_then g.E.Engine.begins p q r run.is c.instructions.invariant.begun j.begun;
     }
 
-pub returns-in_err-take_answer-clause-pass : goal.returns-in_err-take_answer-clause-pass
-returns-in_err-take_answer-clause-pass g c =
-    let j = joined g (goal.at.returns-in_err-take_answer-clause-pass g c).Joined-answer_at_once in
-    then_seen c.args.caller.now.pass c.instructions.caller.pass c.match-answer_at_once.caller.pass
-    c.instructions.invariant.running.is j.answers.is
-
-pub returns-in_err-take_answer-clause-follows : goal.returns-in_err-take_answer-clause-follows
-returns-in_err-take_answer-clause-follows g c =
+pub returns-in_err-take_answer : goal.returns-in_err-take_answer
+returns-in_err-take_answer g c =
     let p = c.args.caller.now.pass in
     let q = c.instructions.caller.pass in
     let program = c.args.program.now in
     let k = c.args.k in
     let run = c.instructions.invariant.running in
-    let j = joined g (goal.at.returns-in_err-take_answer-clause-follows g c).Joined-answer_at_once in
-    follows_now g.E.Engine.on program k p q (script_of c.instructions.feed c.instructions.counts) run
-    (seat_is p q k run.is c.is_idle.ensures.idle c.requires.number) c.in-Some.op
-    (sym (c.in-Some.ensures.next program k (answers_in p.table.config k q.seen) run.fed.feed))
-    c.match-answer_at_once.answer c.match-answer_at_once.caller.pass j.answers
-
-pub returns-in_err-take_answer-clause-reached : goal.returns-in_err-take_answer-clause-reached
-returns-in_err-take_answer-clause-reached g c =
-    let j = joined g (goal.at.returns-in_err-take_answer-clause-reached g c).Joined-answer_at_once in
-    λ none. sweeps_then c.args.caller.now.pass c.instructions.caller.pass c.match-answer_at_once.caller.pass
-    c.instructions.invariant.running.is (c.instructions.invariant.reached none) (j.reached none)
-
-pub returns-in_err-take_answer-clause-begun : goal.returns-in_err-take_answer-clause-begun
-returns-in_err-take_answer-clause-begun g c =
-    let j = joined g (goal.at.returns-in_err-take_answer-clause-begun g c).Joined-answer_at_once in
-    begun_then g.E.Engine.begins c.args.caller.now.pass c.instructions.caller.pass
-    c.match-answer_at_once.caller.pass c.instructions.invariant.running.is c.instructions.invariant.begun j.begun
+    let j = joined g (goal.at.returns-in_err-take_answer g c).Joined-answer_at_once in
+    let r = c.match-answer_at_once.caller.pass in
+    record {
+      home = j.home;
+      pass = then_seen p q r run.is j.answers.is;
+      follows = follows_now g.E.Engine.on program k p q _ run (seat_is p q k run.is c.is_idle.ensures.idle
+          c.requires.number) c.in-Some.op (sym (c.in-Some.ensures.next program k _ run.fed.feed))
+          c.match-answer_at_once.answer r j.answers;
+      ends = search rules;
+      text = search rules;
+      reached = λ none. sweeps_then p q r run.is (c.instructions.invariant.reached none) (j.reached none);
+      begun = begun_then g.E.Engine.begins p q r run.is c.instructions.invariant.begun j.begun;
+    }
 
 pub instructions-init : goal.instructions-init
 instructions-init g c = grind (arith, refused_within, nothing_sweeps, nothing_begun)

@@ -6,5 +6,4 @@ use Rattle.mk_run.proofs.why.run_why.Goals as goal
 pub returns-clause-kept : goal.returns-clause-kept
 returns-clause-kept g c =
     let config = config_of c.args.program.now c.args.markers in
-    ends_weaker _ _ config (history_of c.in_ok-ran.ran.0.report) (λ w told. c.in_ok-kept.ensures.kept config w told)
-    c.in_ok-ran.ensures.cycle
+    ends_weaker _ _ config _ (λ w told. c.in_ok-kept.ensures.kept config w told) c.in_ok-ran.ensures.cycle

@@ -10,8 +10,6 @@ loop-index-preserved g c =
     record {
       ready = c.do_job-done.ensures.ready;
       does =
-          subst (λ (dones : List Done). DoesJobs c.args.caller.now.pass (take (old.index + 1) c.args.jobs.now) dones
-          new) (sym c.in_ok-push.ensures.items)
-          (does_next new c.args.jobs.now old.index _
+          rw c.in_ok-push.ensures.items (does_next new c.args.jobs.now old.index _
           c.do_job-done.result c.loop-index-test.true old.invariant.does c.do_job-done.ensures.does);
     }

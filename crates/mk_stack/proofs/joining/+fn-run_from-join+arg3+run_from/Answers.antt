@@ -50,17 +50,13 @@ returns g t c =
     cc (c.finish-next_pass.ensures.pass, next_unasked c.caller.result c.requires.host c.caller.ensures.caller) in
     let markers = c.args.host.markers in
     let one : HasWorked w first k list.jobs.list.items c.join-worked.result.0 =
-    subst (λ (x : Option Jobs). IfSome x (λ jobs. HasWorked w first k jobs.list.items c.join-worked.result.0))
-    list.there c.join-worked.ensures.first in
+    rw list.there at c.join-worked.ensures.first in
     let joined : HaveWorked w markers (replied_to c.finish-next_pass.result) (k + 1) others c.join-worked.result.1 =
-    subst (λ (h : HostState). HaveWorked w h.markers (replied_to c.finish-next_pass.result) (k + 1) others
-    c.join-worked.result.1) c.caller.ensures.host c.join-worked.ensures.second in
+    rw c.caller.ensures.host at c.join-worked.ensures.second in
     record {
       joined =
-          subst (λ (all : List Jobs). HaveWorked w markers first k all c.join_worked-2.result) (sym list.rest)
-          (c.join_worked-2.ensures markers first k list.jobs others one
-          (subst (λ (before : List Replied). HaveWorked w markers before (k + 1) others c.join-worked.result.1) begun
-          joined));
+          rw list.rest (c.join_worked-2.ensures markers first k list.jobs others one
+          (rw begun at joined));
     }
 
 -- the last caller
@@ -79,13 +75,9 @@ returns-in_default g t c =
     no_lists others (omega (arith, left, c.args.run.now.one_each, count, c.in_default.ensures.cases)) in
     let joined : Joined = record { host = c.args.host; dones = Ok c.new.result } in
     let alone : HaveWorked w markers [] (k + 1) others joined =
-    subst (λ (l : List Jobs). HaveWorked w markers [] (k + 1) l joined) (sym none)
-    (none_joined joined c.requires.host c.new.ensures.items) in
+    rw none (none_joined joined c.requires.host c.new.ensures.items) in
     let one : HasWorked w first k list.jobs.list.items c.work_alone-worked.result =
-    subst (λ (x : Option Jobs). IfSome x (λ jobs. HasWorked w first k jobs.list.items c.work_alone-worked.result))
-    list.there c.work_alone-worked.ensures.worked in
+    rw list.there at c.work_alone-worked.ensures.worked in
     record {
-      joined =
-          subst (λ (all : List Jobs). HaveWorked w markers first k all c.join_worked.result) (sym list.rest)
-          (c.join_worked.ensures markers first k list.jobs others one alone);
+      joined = rw list.rest (c.join_worked.ensures markers first k list.jobs others one alone);
     }

@@ -21,12 +21,9 @@ returns g c =
     slice_get-get_or lists c.args.k c.index-run-k.result (omega (arith, c.args.run.now.one_each, c.requires.exists)) in
     record {
       worked =
-          subst (λ (x : Option Jobs). IfSome x (λ jobs. HasWorked w (replied_to c.args.pass) c.args.k jobs.list.items
-          (record { pass = c.finish.result; dones = c.run_jobs-dones.result }))) (sym there)
-          (has_worked c.new-caller.result
+          rw there (has_worked c.new-caller.result
           c.finish.result jobs.list.items c.run_jobs-dones.result c.requires.pass c.new-caller.ensures
           c.run_jobs-dones.ensures.pass
-          (subst (λ (jobs : List Job). IfOk c.run_jobs-dones.result (λ ds. DoesJobs c.new-caller.result.pass jobs
-          ds.list.items c.run_jobs-dones.new.caller.pass)) c.deref.ensures.value c.run_jobs-dones.ensures.does)
+          (rw c.deref.ensures.value at c.run_jobs-dones.ensures.does)
           c.finish.ensures.pass c.finish.ensures.idle);
     }

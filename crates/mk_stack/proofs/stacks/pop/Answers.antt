@@ -6,5 +6,4 @@ use Rattle.mk_stack.proofs.stacks.pop.Goals as goal
 
 pub returns-in_default-clause-does : goal.returns-in_default-clause-does
 returns-in_default-clause-does g c =
-    subst (λ (d : Done). DoesJob c.args.caller.now.pass Pop d c.do_job.new.caller.pass)
-    (empty_unless_popped c.do_job.result c.do_job.ensures.fit c.in_default.not-Popped) c.do_job.ensures.does
+    rw (empty_unless_popped c.do_job.result c.do_job.ensures.fit c.in_default.not-Popped) at c.do_job.ensures.does

@@ -25,8 +25,7 @@ points-preserved-in-To g c =
     c.in-Ok.ensures.called in
     record {
       ready = ready_on before.ready c.call-answer.ensures.home steps.is;
-      walked = subst (λ (l : List ℕ). HasWalked c.args.caller.now.pass l c.call-answer.new.caller.pass c.in-To.next)
-          (append-nil c.points.left.items) (walked_more before.walked steps);
+      walked = rw (append-nil c.points.left.items) at (walked_more before.walked steps);
       holds = steps.holds;
     }
 
@@ -39,8 +38,7 @@ points-preserved-in-Number g c =
     c.in-Ok.ensures.called in
     record {
       ready = ready_on before.ready c.call-answer.ensures.home steps.is;
-      walked = subst (λ (l : List ℕ). HasWalked c.args.caller.now.pass l c.call-answer.new.caller.pass
-          WalkPoint.Descending) (sym c.in_ok-push-in-Number.ensures.items) (walked_more before.walked steps);
+      walked = rw c.in_ok-push-in-Number.ensures.items (walked_more before.walked steps);
       holds = steps.holds;
     }
 

@@ -11,9 +11,7 @@ pub run_from-requires-clause-callers : goal.run_from-requires-clause-callers
 run_from-requires-clause-callers g c κs within = grind (arith, is_ready, next_ready)
 
 pub run_from-requires-clause-host : goal.run_from-requires-clause-host
-run_from-requires-clause-host g c κs within =
-    subst (λ (h : HostState). HasHandedOut c.args.run.now.heap.now h.markers 1 h) (sym c.caller-first.ensures.host)
-    (next_made c.requires.host)
+run_from-requires-clause-host g c κs within = rw c.caller-first.ensures.host (next_made c.requires.host)
 
 pub returns : goal.returns
 returns g c = record {
@@ -22,8 +20,6 @@ returns g c = record {
     founds =
         founds_stack c.caller-first.result c.finish-pass.result c.requires.host c.caller-first.ensures.caller
         c.found_stack.ensures.founds c.finish-pass.ensures.pass;
-    worked =
-        subst (λ (h : HostState). HaveWorked c.args.run.now.heap.now h.markers (replied_to c.finish-pass.result) 0
-        c.args.run.now.lists.now c.run_from.result) c.caller-first.ensures.host c.run_from.ensures.joined;
+    worked = rw c.caller-first.ensures.host at c.run_from.ensures.joined;
   };
 }
