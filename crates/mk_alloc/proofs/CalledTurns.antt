@@ -9,18 +9,13 @@ use Rattle.mk_alloc.proofs.Vocabulary.{meets_enabled, no_more_calls, not, not-tr
 use Rattle.mk_alloc.proofs.Vocabulary.{only_seen, only_seen_by, or_cases, others_add_none, others_one, own_before}
 use Rattle.mk_alloc.proofs.Vocabulary.{own_calls, own_seat, pass_before, phase_of, refl, subst, sym, true, turn_stays}
 use Rattle.mk_alloc.proofs.Vocabulary.{waits_for, [], ⊎_elim, ◌&&◌, ◌++◌, ◌<◌, ◌∙◌, ◌∷◌, ◌≡◌, ◌⊎◌}
-use Rattle.mk_alloc.proofs.Decisions.{decided_in, own_more, registers_stay}
-use Rattle.mk_alloc.proofs.OwnGives.{GivesNone, doing_gives, gives_append, others_give}
-use Rattle.mk_alloc.proofs.Parts.{IsHolders, in_turn_then, others_lack, seen_after, seen_by, seen_then}
-use Rattle.mk_alloc.proofs.Going.{IsCallers}
-use Rattle.mk_alloc.proofs.ListParts.{Lacks, SomeKind}
-use Rattle.mk_laws.proofs.Vocabulary.{is_under_turn, ◌≤◌}
-use Rattle.mk_laws.proofs.Asked.{give_phase}
+use Rattle.mk_alloc.proofs.{Decisions.{decided_in, own_more, registers_stay}, OwnGives.{GivesNone, doing_gives}}
+use Rattle.mk_alloc.proofs.{OwnGives.{gives_append, others_give}, Parts.{IsHolders, in_turn_then, others_lack}}
+use Rattle.mk_alloc.proofs.{Parts.{seen_after, seen_by, seen_then}, Going.IsCallers, ListParts.{Lacks, SomeKind}}
+use Rattle.mk_laws.proofs.{Vocabulary.{is_under_turn, ◌≤◌}, Asked.give_phase}
 use Rattle.mk_alloc.specs.TurnCycles.{CallIsExact}
 use Rattle.mk_caller.specs.States.{IsIdleCaller, never_of}
-use Rattle.mk_words.proofs.OverPhases.{end_is_behind_over}
-use Rattle.mk_words.specs.Seats.{CallersAreBeforeOver}
-use Rattle.mk_words.specs.Steps.{may_decide}
+use Rattle.mk_words.{proofs.OverPhases.{end_is_behind_over}, specs.{Seats.CallersAreBeforeOver, Steps.may_decide}}
 use Rattle.mk_words.proofs.{Seats.others_own, TurnSteps.takes as takes_turn, Undecided.decides_nothing}
 
 -- Waiting and taking the turn add no entry, nor does a `give`.

@@ -1,17 +1,15 @@
 -- Stretches of a turn that isn't for an undecided Free, in which nothing is granted and no New is full: no call of the
 -- holder's is decided, and up to a `release` the unreleased storage stays as it is.
-use Rattle.mk_laws.proofs.Vocabulary.{group_of, is_of_turn}
-use Rattle.mk_laws.proofs.Protocols.{protocol_of}
+use Rattle.mk_laws.proofs.{Vocabulary.{group_of, is_of_turn}, Protocols.protocol_of}
 use Rattle.mk_alloc.proofs.Vocabulary.{AreOfOthers, Caller, Config, Decided, Event, Flight, Has, List, Moment}
 use Rattle.mk_alloc.proofs.Vocabulary.{PassState, PlacedAllocation, Steady, Step, Storage, World, ℕ, allocations_by, ap}
 use Rattle.mk_alloc.proofs.Vocabulary.{arith, caller_of_pass, calls_by, event_of, false, flight_of, frees_none}
 use Rattle.mk_alloc.proofs.Vocabulary.{is_pending_free, left, left_after, no_more_calls, none_freed, only_one}
 use Rattle.mk_alloc.proofs.Vocabulary.{others_add_none, others_one, own_calls, progress, refl, still, sym, true}
-use Rattle.mk_alloc.proofs.Vocabulary.{unreleased_storage, [], ◌++◌, ◌∙◌, ◌∷◌, ◌≡◌, ◌≢◌}
-use Rattle.mk_alloc.proofs.Stretches.{AreOfTurn, Here, SomeKinds, Stretch, along, call_in}
+use Rattle.mk_alloc.proofs.{Vocabulary.{unreleased_storage, [], ◌++◌, ◌∙◌, ◌∷◌, ◌≡◌, ◌≢◌}, Stretches.{AreOfTurn, Here}}
+use Rattle.mk_alloc.proofs.Stretches.{SomeKinds, Stretch, along, call_in}
 use Rattle.mk_core.proofs.ChangedAllocations.{fresh_storage}
-use Rattle.mk_cycle.proofs.Calm.{calm_still}
-use Rattle.mk_cycle.proofs.OwnSteps.{flight_behind, undecided}
+use Rattle.mk_cycle.proofs.{Calm.calm_still, OwnSteps.{flight_behind, undecided}}
 
 -- the steps of cycles, and those that leave the unreleased storage
 

@@ -12,29 +12,21 @@ use Rattle.mk_alloc.proofs.Vocabulary.{in_a_word, is_pending_free_at, is_run_gon
 use Rattle.mk_alloc.proofs.Vocabulary.{lt-ltb, made, meets_enabled, new_is_acting, now_of, object_for, object_made}
 use Rattle.mk_alloc.proofs.Vocabulary.{others_add_none, own_before, own_calls, phase_of, place_now_for, refl}
 use Rattle.mk_alloc.proofs.Vocabulary.{same_config, steady_of, subst, sum_by_push, sym, true, unchanged, undecided_new}
-use Rattle.mk_alloc.proofs.Vocabulary.{world_of, [], ◌++◌, ◌+◌, ◌<◌, ◌∙◌, ◌∷◌, ◌≡◌}
-use Rattle.mk_alloc.proofs.Going.{IsCallers, but_full, exact_kept, none_held_kept, same_phase, tidy_kept}
-use Rattle.mk_alloc.proofs.SeekingTurns.{new_callers, still_nowhere, unplaced_kept}
-use Rattle.mk_alloc.proofs.Stretches.{SomeKinds, does_both, does_once, widened}
-use Rattle.mk_alloc.proofs.CalledTurns.{of_others_alone, step_adds_none}
-use Rattle.mk_alloc.proofs.FreedTurns.{given_is_decided}
-use Rattle.mk_alloc.proofs.FullLeaves.{leaves_then, made_leaves}
-use Rattle.mk_alloc.proofs.GrantParts.{calm_last, room_lacks}
-use Rattle.mk_alloc.proofs.OneCycles.{begins_none_by}
-use Rattle.mk_alloc.proofs.Parts.{Part, before_act}
+use Rattle.mk_alloc.proofs.{Vocabulary.{world_of, [], ◌++◌, ◌+◌, ◌<◌, ◌∙◌, ◌∷◌, ◌≡◌}, Going.{IsCallers, but_full}}
+use Rattle.mk_alloc.proofs.Going.{exact_kept, none_held_kept, same_phase, tidy_kept}
+use Rattle.mk_alloc.proofs.{SeekingTurns.{new_callers, still_nowhere, unplaced_kept}, Stretches.{SomeKinds, does_both}}
+use Rattle.mk_alloc.proofs.{Stretches.{does_once, widened}, CalledTurns.{of_others_alone, step_adds_none}}
+use Rattle.mk_alloc.proofs.{FreedTurns.given_is_decided, FullLeaves.{leaves_then, made_leaves}}
+use Rattle.mk_alloc.proofs.{GrantParts.{calm_last, room_lacks}, OneCycles.begins_none_by, Parts.{Part, before_act}}
 use Rattle.mk_alloc.proofs.PlacedTurns.{none_freed_yet}
 use Rattle.mk_laws.proofs.Vocabulary.{AreAdmitted, Call, Tally, Unplaced, Word, is_new_at, map-append, place_on_pages}
-use Rattle.mk_laws.proofs.Vocabulary.{◌-◌, ◌^◌}
-use Rattle.mk_laws.proofs.InvariantTheorems.{first_fit_finds_the_place}
+use Rattle.mk_laws.proofs.{Vocabulary.{◌-◌, ◌^◌}, InvariantTheorems.first_fit_finds_the_place}
 use Rattle.mk_laws.proofs.LayoutHolders.{seat_operands}
 use Rattle.mk_never.proofs.Parts.{admitted_join}
 use Rattle.mk_core.specs.History.{IsAdmittedBehind, never_first}
 use Rattle.mk_caller.proofs.OwnSteps.{own_entry}
-use Rattle.mk_cycle.proofs.KeptInParts.{gates_then}
-use Rattle.mk_cycle.specs.TurnKeeps.{done_of}
-use Rattle.mk_objects.proofs.Looks.{acting_now}
-use Rattle.mk_objects.proofs.MayAct.{new_admitted, new_in_range}
-use Rattle.mk_objects.proofs.Takes.{unplaced_settled}
+use Rattle.mk_cycle.{proofs.KeptInParts.{gates_then}, specs.TurnKeeps.{done_of}}
+use Rattle.mk_objects.proofs.{Looks.acting_now, MayAct.{new_admitted, new_in_range}, Takes.unplaced_settled}
 use Rattle.mk_words.specs.Steps.{Finds, IsAdmittedTo}
 
 abbrev counts_full : SomeKinds

@@ -2,11 +2,9 @@
 use Rattle.mk_alloc.proofs.Vocabulary.{BeginsCycle, Does, Event, FinishesCycle, Has, InTurn, IsHistory, List, PassState}
 use Rattle.mk_alloc.proofs.Vocabulary.{Step, ap, append_assoc, arith, begins_marking, clears, event_of, false, finishes}
 use Rattle.mk_alloc.proofs.Vocabulary.{is_begin, is_close, is_end, is_giving_back, is_release, pass_before, refl}
-use Rattle.mk_alloc.proofs.Vocabulary.{sets_tallies, sym, true, [], ◌++◌, ◌∙◌, ◌∷◌, ◌≡◌}
-use Rattle.mk_alloc.proofs.Parts.{IsHolders, Part, behind_part, nothing_part, part_lacks, seen_behind, seen_then}
-use Rattle.mk_alloc.proofs.Parts.{step_behind}
-use Rattle.mk_alloc.proofs.Stretches.{SomeKinds, does_both, does_once, widened}
-use Rattle.mk_alloc.proofs.CalmStretches.{is_of_cycles}
+use Rattle.mk_alloc.proofs.{Vocabulary.{sets_tallies, sym, true, [], ◌++◌, ◌∙◌, ◌∷◌, ◌≡◌}, Parts.{IsHolders, Part}}
+use Rattle.mk_alloc.proofs.Parts.{behind_part, nothing_part, part_lacks, seen_behind, seen_then, step_behind}
+use Rattle.mk_alloc.proofs.{Stretches.{SomeKinds, does_both, does_once, widened}, CalmStretches.is_of_cycles}
 use Rattle.mk_alloc.proofs.ListParts.{Lacks, lacks_in_parts}
 
 -- The kinds of the parts are of cycles. Up to a `close` nothing is released, and after it no room is asked for.

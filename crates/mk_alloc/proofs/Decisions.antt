@@ -1,8 +1,7 @@
 -- One entry more among a caller's calls is that of one event, which decides it. What the other events decide is of
 -- other callers, and leaves the caller its registers.
 use Rattle.mk_laws.proofs.Vocabulary.{NeverState, admitted_in_parts, admitted_keep, answered, answers_of, bases_of}
-use Rattle.mk_laws.proofs.Vocabulary.{flagged, never_in_parts, replies_of}
-use Rattle.mk_laws.proofs.ImagesOneEvent.{one_event}
+use Rattle.mk_laws.proofs.{Vocabulary.{flagged, never_in_parts, replies_of}, ImagesOneEvent.one_event}
 use Rattle.mk_alloc.proofs.Vocabulary.{Answer, Bool, Config, Decided, Event, IsHistory, KeepsRegisters, List, None, Op}
 use Rattle.mk_alloc.proofs.Vocabulary.{Option, PassState, Some, World, ℕ, after_calls, answer_decided, ap, append-nil}
 use Rattle.mk_alloc.proofs.Vocabulary.{append_assoc, asked, by_append, call_decided, caller_number, caller_of_pass}
@@ -10,8 +9,7 @@ use Rattle.mk_alloc.proofs.Vocabulary.{calls, calls_by, calls_in_parts, comes_la
 use Rattle.mk_alloc.proofs.Vocabulary.{eq-eqb, false, flight_of, if◌then◌else◌, left, left_in_parts, never_behind}
 use Rattle.mk_alloc.proofs.Vocabulary.{own_calls, refl, stands, subst, sym, told_to_images, true, true≢false}
 use Rattle.mk_alloc.proofs.Vocabulary.{world_behind, [], ◌++◌, ◌==◌, ◌∙◌, ◌∷◌, ◌≡◌}
-use Rattle.mk_never.specs.Laws.{AreNotBy}
-use Rattle.mk_never.specs.NeverHeap.{after_op}
+use Rattle.mk_never.specs.{Laws.AreNotBy, NeverHeap.after_op}
 use Rattle.mk_core.specs.History.{calls_from, left_from}
 use Rattle.mk_caller.specs.Called.{IsDecidedIn}
 

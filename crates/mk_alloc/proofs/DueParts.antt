@@ -3,13 +3,11 @@ use Rattle.mk_alloc.proofs.Vocabulary.{At, Bool, EndsOlder, Event, FinishesCycle
 use Rattle.mk_alloc.proofs.Vocabulary.{List, None, PassState, TurnGoesOn, ap, append-nil, append_assoc, arith}
 use Rattle.mk_alloc.proofs.Vocabulary.{cases_Bool, false, finishes, has_step, inl, inr, is_begin, is_close, is_end}
 use Rattle.mk_alloc.proofs.Vocabulary.{is_look, or_from, or_parts, refl, subst, sym, true, true≢false, [], ◌++◌, ◌∙◌}
-use Rattle.mk_alloc.proofs.Vocabulary.{◌∷◌, ◌≡◌}
-use Rattle.mk_alloc.proofs.CycleParts.{BeginIn, EndsIn, begin_done, begin_in, begins_held, finish_done, finish_in}
-use Rattle.mk_alloc.proofs.Going.{IsCallers, begun_on, callers_then, finished_on, look_part, looked_on, on_then}
-use Rattle.mk_alloc.proofs.Going.{quiet_looked}
-use Rattle.mk_alloc.proofs.ListParts.{Lacks, SomeKind, lacks_append}
-use Rattle.mk_alloc.proofs.Parts.{behind_part, history_before, in_turn_then, part_lacks, seen_behind, seen_then}
-use Rattle.mk_alloc.proofs.CalmStretches.{cycles_in_turn, is_of_cycles}
+use Rattle.mk_alloc.proofs.{Vocabulary.{◌∷◌, ◌≡◌}, CycleParts.{BeginIn, EndsIn, begin_done, begin_in, begins_held}}
+use Rattle.mk_alloc.proofs.{CycleParts.{finish_done, finish_in}, Going.{IsCallers, begun_on, callers_then, finished_on}}
+use Rattle.mk_alloc.proofs.{Going.{look_part, looked_on, on_then, quiet_looked}, ListParts.{Lacks, SomeKind}}
+use Rattle.mk_alloc.proofs.{ListParts.lacks_append, Parts.{behind_part, history_before, in_turn_then, part_lacks}}
+use Rattle.mk_alloc.proofs.{Parts.{seen_behind, seen_then}, CalmStretches.{cycles_in_turn, is_of_cycles}}
 use Rattle.mk_laws.proofs.Longer.{longer_at}
 use Rattle.mk_alloc.specs.DueCycles.{RunsCycle}
 

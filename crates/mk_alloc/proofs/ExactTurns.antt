@@ -1,11 +1,9 @@
 -- The turns of a caller stay exact, whatever its next call is.
 use Rattle.mk_alloc.proofs.Vocabulary.{Bool, EndsExactly, Event, List, PassState, Some, Step, TurnsOfAreExact, ap}
 use Rattle.mk_alloc.proofs.Vocabulary.{append_assoc, arith, event_of, only_seen, own_before, refl, subst, sym, [], ◌++◌}
-use Rattle.mk_alloc.proofs.Vocabulary.{◌∙◌, ◌∷◌, ◌≡◌}
-use Rattle.mk_alloc.proofs.OwnGives.{GivesNone, calls_give, does_give_none, doing_gives, none_more, one_gives, one_more}
-use Rattle.mk_alloc.proofs.OwnGives.{others_give}
+use Rattle.mk_alloc.proofs.{Vocabulary.{◌∙◌, ◌∷◌, ◌≡◌}, OwnGives.{GivesNone, calls_give, does_give_none, doing_gives}}
+use Rattle.mk_alloc.{proofs.OwnGives.{none_more, one_gives, one_more, others_give}, specs.Laws.{StayExactWhereHeld}}
 use Rattle.mk_alloc.specs.Laws.{OwnAreExact, StayExactBehindCalls, StayExactBehindOthers, StayExactBehindTurns}
-use Rattle.mk_alloc.specs.Laws.{StayExactWhereHeld}
 use Rattle.mk_waiting.proofs.TakesAlone.{taking_does}
 
 pub stay_exact_behind_calls : StayExactBehindCalls

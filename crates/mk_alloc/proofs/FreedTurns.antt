@@ -8,23 +8,18 @@ use Rattle.mk_alloc.proofs.Vocabulary.{at_rest, call_of, caller_of_pass, cases_B
 use Rattle.mk_alloc.proofs.Vocabulary.{flight_of, has_place, has_step, inl, inr, is_begin, is_end, is_freeing}
 use Rattle.mk_alloc.proofs.Vocabulary.{is_loading, is_of_cycle, is_pending_free_at, left, none_is_held, now_of, or_from}
 use Rattle.mk_alloc.proofs.Vocabulary.{or_parts, pass_before, phase_of, refl, same_config, subst, sym, true, turn_stays}
-use Rattle.mk_alloc.proofs.Vocabulary.{[], ⊎_elim, ◌++◌, ◌<◌, ◌∙◌, ◌∷◌, ◌≡◌}
-use Rattle.mk_alloc.proofs.CalledTurns.{GivenBack, Taken, called, lacks_given, phase_taken, registers_taken}
-use Rattle.mk_alloc.proofs.CalledTurns.{taken_callers, taken_is, taken_turn, turn_of, within_is}
-use Rattle.mk_alloc.proofs.DueParts.{RunIn, at_behind, end_at, ends_before, run_in, run_list}
-use Rattle.mk_alloc.proofs.Going.{IsCallers, callers_then, same_phase, then_on}
+use Rattle.mk_alloc.proofs.{Vocabulary.{[], ⊎_elim, ◌++◌, ◌<◌, ◌∙◌, ◌∷◌, ◌≡◌}, CalledTurns.{GivenBack, Taken, called}}
+use Rattle.mk_alloc.proofs.CalledTurns.{lacks_given, phase_taken, registers_taken, taken_callers, taken_is, taken_turn}
+use Rattle.mk_alloc.proofs.{CalledTurns.{turn_of, within_is}, DueParts.{RunIn, at_behind, end_at, ends_before, run_in}}
+use Rattle.mk_alloc.proofs.{DueParts.run_list, Going.{IsCallers, callers_then, same_phase, then_on}}
 use Rattle.mk_alloc.proofs.ListParts.{InFirst, InSecond, IsAt, Lacks, SomeKind, cycle_in, lacks_append, lacks_at}
-use Rattle.mk_alloc.proofs.ListParts.{lacks_first, none_at, only_at, stands}
-use Rattle.mk_alloc.proofs.Parts.{Part, part_lacks, seen_by, seen_then}
-use Rattle.mk_alloc.proofs.CycleParts.{EndsIn, begins_held}
-use Rattle.mk_alloc.proofs.Stretches.{SomeKinds, Within}
+use Rattle.mk_alloc.proofs.{ListParts.{lacks_first, none_at, only_at, stands}, Parts.{Part, part_lacks, seen_by}}
+use Rattle.mk_alloc.proofs.{Parts.seen_then, CycleParts.{EndsIn, begins_held}, Stretches.{SomeKinds, Within}}
 use Rattle.mk_laws.proofs.Vocabulary.{register_at}
 use Rattle.mk_never.specs.Admitted.{IsBase}
-use Rattle.mk_core.specs.Counts.{decides_freed}
-use Rattle.mk_core.specs.Cycles.{BeginsAndEndsIn, BeginsIn}
+use Rattle.mk_core.specs.{Counts.decides_freed, Cycles.{BeginsAndEndsIn, BeginsIn}}
 use Rattle.mk_alloc.specs.TurnCycles.{CycleIsOn}
-use Rattle.mk_objects.specs.Retired.{FindsFreed, Retires}
-use Rattle.mk_objects.specs.Retiring.{IsUnloaded}
+use Rattle.mk_objects.specs.{Retired.{FindsFreed, Retires}, Retiring.IsUnloaded}
 use Rattle.mk_caller.specs.States as caller
 
 -- What the turn of a Free does with cycles, by the events after its `take`.

@@ -1,10 +1,8 @@
 -- Each own event of a call that is answered Full leaves all but what is released.
 use Rattle.mk_laws.proofs.Vocabulary.{Named, Store, Tally, Words, accessed, changed_at, get_or-set_other, holder_may}
 use Rattle.mk_laws.proofs.Vocabulary.{is_mapped, kinds_of, length-map, no_longer_fresh, placed_at, tally_word}
-use Rattle.mk_laws.proofs.Vocabulary.{with_released}
-use Rattle.mk_laws.proofs.Basics.{WorldBehind, exists_placed, stands_of, unmapped_is}
-use Rattle.mk_laws.proofs.GrantMoves.{wiped_outside}
-use Rattle.mk_laws.proofs.ImagesBefore.{words_are}
+use Rattle.mk_laws.proofs.{Vocabulary.with_released, Basics.{WorldBehind, exists_placed, stands_of, unmapped_is}}
+use Rattle.mk_laws.proofs.{GrantMoves.wiped_outside, ImagesBefore.words_are}
 use Rattle.mk_alloc.proofs.Vocabulary.{Bool, Cell, Config, Event, Flight, Has, IsHistory, List, Makes, Moment, Op}
 use Rattle.mk_alloc.proofs.Vocabulary.{Option, OwnLeaveAllButReleased, PassState, PlacedAllocation, Seat, Some, Step}
 use Rattle.mk_alloc.proofs.Vocabulary.{TakesTurn, World, ℕ, allocations_by, and_parts, ap, append_assoc, arith, call_of}
@@ -13,16 +11,12 @@ use Rattle.mk_alloc.proofs.Vocabulary.{inr, is_pending_free, is_same_seat, is_ta
 use Rattle.mk_alloc.proofs.Vocabulary.{list_all, made, map, never_behind, none_freed, not, not-true, only_seen, or_left}
 use Rattle.mk_alloc.proofs.Vocabulary.{own_before, refl, same_seat, slice_index, stands, subst, sym, told_to_images}
 use Rattle.mk_alloc.proofs.Vocabulary.{true, true≢false, waits_for, world_behind, world_of, [], ◌++◌, ◌+◌, ◌<◌, ◌∙◌}
-use Rattle.mk_alloc.proofs.Vocabulary.{◌∷◌, ◌≡◌, ◌≢◌, ◌⊎◌}
-use Rattle.mk_alloc.proofs.CalmStretches.{cycles_in_turn, goes_undecided, is_of_cycles}
-use Rattle.mk_alloc.proofs.Stretches.{First, IsOwn, Stretch, Within, call_in, does_stretch, first_of, first_part}
-use Rattle.mk_alloc.proofs.FreedTurns.{is_quar}
-use Rattle.mk_alloc.proofs.Going.{IsCallers}
+use Rattle.mk_alloc.proofs.{Vocabulary.{◌∷◌, ◌≡◌, ◌≢◌, ◌⊎◌}, CalmStretches.{cycles_in_turn, goes_undecided}}
+use Rattle.mk_alloc.proofs.{CalmStretches.is_of_cycles, Stretches.{First, IsOwn, Stretch, Within, call_in}}
+use Rattle.mk_alloc.proofs.{Stretches.{does_stretch, first_of, first_part}, FreedTurns.is_quar, Going.IsCallers}
 use Rattle.mk_alloc.proofs.Parts.{Part, seen_after, seen_by}
 use Rattle.mk_core.proofs.RegisterAccesses.{tally_leaves_registers}
-use Rattle.mk_core.specs.Growing.{AreOfOthers}
-use Rattle.mk_core.specs.History.{left_from}
-use Rattle.mk_core.specs.TurnConditions.{may_wipe}
+use Rattle.mk_core.specs.{Growing.AreOfOthers, History.left_from, TurnConditions.may_wipe}
 use Rattle.mk_alloc.specs.Leaving.{KeepsItsWords, LeavesAllButReleased, OwnLeaveFrom, StaysOrIsReleased}
 use Rattle.mk_turns.proofs.Doing.{not_own}
 use Rattle.mk_waiting.proofs.TakesAlone.{own_take}

@@ -9,16 +9,12 @@ use Rattle.mk_alloc.proofs.Vocabulary.{gates_behind, gone_is_unmapped, has_place
 use Rattle.mk_alloc.proofs.Vocabulary.{inr, is_held, is_look, is_pending_free, is_run_gone, none_is_held, not, now_of}
 use Rattle.mk_alloc.proofs.Vocabulary.{off_four, or_left, own_calls, phase_of, refl, releases, same_config, steady_of}
 use Rattle.mk_alloc.proofs.Vocabulary.{subst, sym, true, turn_stays, unchanged, world_of, ◌&&◌, ◌++◌, ◌==◌, ◌||◌, ◌∙◌}
-use Rattle.mk_alloc.proofs.Vocabulary.{◌≡◌, ◌⊎◌}
-use Rattle.mk_alloc.proofs.CalmStretches.{cycles_in_turn, goes_undecided, is_of_cycles}
+use Rattle.mk_alloc.proofs.{Vocabulary.{◌≡◌, ◌⊎◌}, CalmStretches.{cycles_in_turn, goes_undecided, is_of_cycles}}
 use Rattle.mk_alloc.proofs.Stretches.{does_both, does_once, does_stretch, widened}
-use Rattle.mk_alloc.proofs.CycleParts.{begin_done, finish_done}
-use Rattle.mk_alloc.proofs.Parts.{Part, seen_behind}
+use Rattle.mk_alloc.proofs.{CycleParts.{begin_done, finish_done}, Parts.{Part, seen_behind}}
 use Rattle.mk_laws.proofs.Vocabulary.{IsSettled, Word, all_below-at, held_by_pages, is_decided}
 use Rattle.mk_core.specs.Counts.{TalliesAreExact}
-use Rattle.mk_cycle.proofs.Allowed.{look_allowed, protocol}
-use Rattle.mk_cycle.proofs.BeginSteps.{all_from}
-use Rattle.mk_cycle.proofs.MayAct.{may_act}
+use Rattle.mk_cycle.proofs.{Allowed.{look_allowed, protocol}, BeginSteps.all_from, MayAct.may_act}
 use Rattle.mk_cycle.specs.EngineLaw.{IsFreeForCycle}
 use Rattle.mk_words.proofs.Tallies.{settled_tallies}
 

@@ -4,15 +4,13 @@ use Rattle.mk_alloc.proofs.Vocabulary.{AsksRoom, At, BeginsCycle, Config, Does, 
 use Rattle.mk_alloc.proofs.Vocabulary.{HasNoPlace, InTurn, IsHistory, List, None, Object, Option, PassState, Place}
 use Rattle.mk_alloc.proofs.Vocabulary.{Storage, ap, append-nil, append_assoc, append_cancel_left, arith, asks_room}
 use Rattle.mk_alloc.proofs.Vocabulary.{call_of, false, has_step, is_grant, is_pending_free, lets_go, place_after, refl}
-use Rattle.mk_alloc.proofs.Vocabulary.{subst, sym, [], ⊎_elim, ◌++◌, ◌∙◌, ◌∷◌, ◌≡◌}
+use Rattle.mk_alloc.{proofs.Vocabulary.{subst, sym, [], ⊎_elim, ◌++◌, ◌∙◌, ◌∷◌, ◌≡◌}, specs.Rooms.{GrantsLast}}
 use Rattle.mk_alloc.proofs.CycleParts.{closing, gives_room_back, part_behind_closing, part_closing}
 use Rattle.mk_alloc.proofs.ListParts.{InFirst, InSecond, Lacks, lacks_append, lacks_at, lacks_second, stands}
 use Rattle.mk_alloc.proofs.Parts.{AreApart, Part, part_lacks, seen_behind, seen_by, seen_by_both}
 use Rattle.mk_alloc.proofs.Stretches.{SomeKinds, Stretch, does_both, does_once, does_stretch, first_part, widened}
-use Rattle.mk_alloc.proofs.CalmStretches.{releases_none, stays_reserved}
-use Rattle.mk_alloc.proofs.Going.{IsCallers}
+use Rattle.mk_alloc.proofs.{CalmStretches.{releases_none, stays_reserved}, Going.IsCallers}
 use Rattle.mk_geom.specs.Storages.{Fits}
-use Rattle.mk_alloc.specs.Rooms.{GrantsLast}
 
 -- lists
 

@@ -1,7 +1,6 @@
 -- What the turn of a New does with cycles, and what it is answered.
 use Rattle.mk_laws.proofs.Vocabulary.{Page, histories_keep_lengths, or_right, uses_of_pages}
-use Rattle.mk_laws.proofs.InvariantTheorems.{pages_show_the_storage}
-use Rattle.mk_laws.proofs.PlacementTheorems.{fulls_fit_nowhere}
+use Rattle.mk_laws.proofs.{InvariantTheorems.pages_show_the_storage, PlacementTheorems.fulls_fit_nowhere}
 use Rattle.mk_alloc.proofs.Vocabulary.{Answer, AnswersFull, At, BeginsTurn, Bool, CalledInTurn, Config, Event, Flight}
 use Rattle.mk_alloc.proofs.Vocabulary.{HasNoPlace, Holding, InTurn, IsAnsweredFull, IsHistory, IsQuiet, IsUnplaced}
 use Rattle.mk_alloc.proofs.Vocabulary.{List, Makes, Misfits, Object, Op, PassState, PlacedAllocation, RunsOne}
@@ -13,19 +12,13 @@ use Rattle.mk_alloc.proofs.Vocabulary.{made, now_of, object_for, object_made, of
 use Rattle.mk_alloc.proofs.Vocabulary.{or_left, pass_before, refl, subst, sym, true, turn_stays, unreleased_storage}
 use Rattle.mk_alloc.proofs.Vocabulary.{within_turn, world_of, [], ⊎_elim, ◌&&◌, ◌++◌, ◌<◌, ◌∙◌, ◌∷◌, ◌≡◌}
 use Rattle.mk_alloc.proofs.CalledTurns.{GivenBack, Taken, called, done_is, given_turn, lacks_given, taken_is}
-use Rattle.mk_alloc.proofs.CalledTurns.{taken_turn, turn_of, within_is}
-use Rattle.mk_alloc.proofs.FullLeaves.{leaves_then, made_leaves, taking_leaves}
-use Rattle.mk_alloc.proofs.ListParts.{InFirst, InSecond, SomeKind, lacks_at, stands}
-use Rattle.mk_alloc.proofs.Parts.{history_before, in_turn_then, seen_after, seen_by}
-use Rattle.mk_alloc.proofs.CycleParts.{begins_held}
-use Rattle.mk_alloc.proofs.GrantParts.{last_before}
-use Rattle.mk_alloc.proofs.OneCycles.{one_before}
+use Rattle.mk_alloc.proofs.{CalledTurns.{taken_turn, turn_of, within_is}, FullLeaves.{leaves_then, made_leaves}}
+use Rattle.mk_alloc.proofs.{FullLeaves.taking_leaves, ListParts.{InFirst, InSecond, SomeKind, lacks_at, stands}}
+use Rattle.mk_alloc.proofs.{Parts.{history_before, in_turn_then, seen_after, seen_by}, CycleParts.begins_held}
+use Rattle.mk_alloc.{proofs.{GrantParts.last_before, OneCycles.one_before}, specs.TurnCycles.{NewIsExact}}
 use Rattle.mk_geom.proofs.Bridge.{same_census}
-use Rattle.mk_geom.specs.PageUses.{census_among}
-use Rattle.mk_geom.specs.Storages.{census_of}
-use Rattle.mk_geom.specs.declared.pages.Census.{Census}
+use Rattle.mk_geom.specs.{PageUses.census_among, Storages.census_of, declared.pages.Census.Census}
 use Rattle.mk_core.specs.Allocations.{census_of_allocations}
-use Rattle.mk_alloc.specs.TurnCycles.{NewIsExact}
 
 -- Directly after its `take` the turn of a New is quiet, and its object has no place yet.
 

@@ -2,14 +2,10 @@
 use Rattle.mk_alloc.proofs.Vocabulary.{At, BeginsCycle, BeginsNone, Does, Event, FinishesCycle, InTurn, IsHistory}
 use Rattle.mk_alloc.proofs.Vocabulary.{IsPlaced, List, PassState, RunsOne, RunsOneCycle, ap, append_assoc, arith, false}
 use Rattle.mk_alloc.proofs.Vocabulary.{has_step, is_begin, is_end, is_look, subst, sym, ⊎_elim, ◌++◌, ◌∙◌, ◌∷◌, ◌≡◌}
-use Rattle.mk_alloc.proofs.CycleParts.{begin_in, begins_held, finish_in}
-use Rattle.mk_alloc.proofs.DueParts.{at_behind, end_at}
+use Rattle.mk_alloc.proofs.{CycleParts.{begin_in, begins_held, finish_in}, DueParts.{at_behind, end_at}}
 use Rattle.mk_alloc.proofs.ListParts.{InFirst, InSecond, Lacks, lacks_append, lacks_at, none_at, only_at, stands}
-use Rattle.mk_alloc.proofs.Parts.{AreApart, Part, part_lacks, seen_behind, seen_then}
-use Rattle.mk_alloc.proofs.Going.{look_part}
-use Rattle.mk_alloc.proofs.GrantParts.{first_behind}
-use Rattle.mk_alloc.proofs.PlacedTurns.{place_part}
-use Rattle.mk_alloc.proofs.Stretches.{SomeKinds}
+use Rattle.mk_alloc.proofs.{Parts.{AreApart, Part, part_lacks, seen_behind, seen_then}, Going.look_part}
+use Rattle.mk_alloc.proofs.{GrantParts.first_behind, PlacedTurns.place_part, Stretches.SomeKinds}
 use Rattle.mk_laws.proofs.Longer.{longer_at}
 use Rattle.mk_alloc.specs.Rooms.{EndsOnly}
 

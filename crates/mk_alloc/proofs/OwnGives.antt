@@ -7,10 +7,8 @@ use Rattle.mk_alloc.proofs.Vocabulary.{append-nil, are_of, arith, event_of, fals
 use Rattle.mk_alloc.proofs.Vocabulary.{list_all, list_any-append, map, not, not-true, not_both, or_from, or_parts}
 use Rattle.mk_alloc.proofs.Vocabulary.{own_steps, refl, same_seat, same_self, stages_made, step_at, subst, sym, true}
 use Rattle.mk_alloc.proofs.Vocabulary.{true≢false, turn_stays, world_behind, world_of, [], ⊎_elim, ◌&&◌, ◌++◌, ◌∙◌, ◌∷◌}
-use Rattle.mk_alloc.proofs.Vocabulary.{◌≡◌}
-use Rattle.mk_alloc.proofs.ListParts.{InFirst, InSecond, stands}
-use Rattle.mk_core.specs.Cycles.{is_give}
-use Rattle.mk_core.specs.Growing.{AreOfOthers, own_from}
+use Rattle.mk_alloc.proofs.{Vocabulary.◌≡◌, ListParts.{InFirst, InSecond, stands}}
+use Rattle.mk_core.specs.{Cycles.is_give, Growing.{AreOfOthers, own_from}}
 use Rattle.mk_caller.specs.Called.{steps_made}
 use Rattle.mk_turns.specs.Doing.{done_in}
 

@@ -3,12 +3,10 @@ use Rattle.mk_alloc.proofs.Vocabulary.{Acts, Does, Event, Has, Holds, InTurn, Is
 use Rattle.mk_alloc.proofs.Vocabulary.{Step, actor_of, ap, append_assoc, cases_Bool, does_nothing, does_step}
 use Rattle.mk_alloc.proofs.Vocabulary.{earlier_part_is_history, event_of, false, has_step, inl, inr, left, now_of}
 use Rattle.mk_alloc.proofs.Vocabulary.{or_from, own_before, pass_before, refl, subst, sym, true, turn_stays, [], ⊎_elim}
-use Rattle.mk_alloc.proofs.Vocabulary.{◌++◌, ◌∙◌, ◌∷◌, ◌≡◌, ◌≢◌}
-use Rattle.mk_alloc.proofs.Stretches.{AreOfTurn, IsOwn, SomeKinds, Stretch, does_once, does_stretch, first_of}
-use Rattle.mk_alloc.proofs.Stretches.{holds_behind, holds_none, no_kinds, others_stretch}
-use Rattle.mk_alloc.proofs.ListParts.{Lacks, SomeKind, lacks_append}
-use Rattle.mk_laws.proofs.Basics.{is_holders}
-use Rattle.mk_laws.proofs.FramesHolders.{acts_as_holder}
+use Rattle.mk_alloc.proofs.{Vocabulary.{◌++◌, ◌∙◌, ◌∷◌, ◌≡◌, ◌≢◌}, Stretches.{AreOfTurn, IsOwn, SomeKinds, Stretch}}
+use Rattle.mk_alloc.proofs.Stretches.{does_once, does_stretch, first_of, holds_behind, holds_none, no_kinds}
+use Rattle.mk_alloc.proofs.{Stretches.others_stretch, ListParts.{Lacks, SomeKind, lacks_append}}
+use Rattle.mk_laws.proofs.{Basics.is_holders, FramesHolders.acts_as_holder}
 
 -- What stretches of a turn lack, by their kinds of step: what they don't do, others don't do either, where it is the
 -- turn's holder's.

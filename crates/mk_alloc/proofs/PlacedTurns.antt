@@ -8,21 +8,15 @@ use Rattle.mk_alloc.proofs.Vocabulary.{if◌then◌else◌, in_a_word, is_end, i
 use Rattle.mk_alloc.proofs.Vocabulary.{is_undecided_new, known_left, left, left_after, looks_left, now_of, progress}
 use Rattle.mk_alloc.proofs.Vocabulary.{refl, releases, same_config, steady_of, subst, sum_by_push, sym, true, unchanged}
 use Rattle.mk_alloc.proofs.Vocabulary.{undecided_new, world_of, [], ◌++◌, ◌+◌, ◌∙◌, ◌∷◌, ◌≡◌}
-use Rattle.mk_alloc.proofs.Going.{none_held_kept, quiet_kept, same_phase}
-use Rattle.mk_alloc.proofs.Stretches.{Here, Stretch, along, does_stretch, holds_none, widened}
-use Rattle.mk_alloc.proofs.FreedTurns.{given_is_decided}
+use Rattle.mk_alloc.proofs.{Going.{none_held_kept, quiet_kept, same_phase}, Stretches.{Here, Stretch, along}}
+use Rattle.mk_alloc.proofs.{Stretches.{does_stretch, holds_none, widened}, FreedTurns.given_is_decided}
 use Rattle.mk_alloc.proofs.Parts.{Part, seen_behind}
-use Rattle.mk_laws.proofs.Vocabulary.{Progress}
-use Rattle.mk_laws.proofs.Basics.{Behind, none_on_its_way, tally_keeps}
-use Rattle.mk_laws.proofs.FreshWords.{fresh_pushed}
+use Rattle.mk_laws.proofs.{Vocabulary.Progress, Basics.{Behind, none_on_its_way, tally_keeps}, FreshWords.fresh_pushed}
 use Rattle.mk_laws.proofs.OthersCounts.{answers_full, counts_nothing}
 use Rattle.mk_core.specs.Effects.{holding_behind}
-use Rattle.mk_cycle.proofs.KeptInParts.{held_so}
-use Rattle.mk_cycle.specs.TurnKeeps.{IsGone}
-use Rattle.mk_objects.proofs.JoinedLooks.{looks_call}
-use Rattle.mk_objects.proofs.Reaching.{counts_more}
-use Rattle.mk_objects.specs.Placing.{object_at_place}
-use Rattle.mk_objects.specs.Unchanged.{IsAsLeft}
+use Rattle.mk_cycle.{proofs.KeptInParts.{held_so}, specs.TurnKeeps.{IsGone}}
+use Rattle.mk_objects.proofs.{JoinedLooks.looks_call, Reaching.counts_more}
+use Rattle.mk_objects.specs.{Placing.object_at_place, Unchanged.IsAsLeft}
 
 -- Stretches of a turn in which no gate is held or opened, no cycle ends, no New is full and no object is freed.
 

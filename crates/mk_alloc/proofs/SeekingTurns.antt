@@ -6,21 +6,16 @@ use Rattle.mk_alloc.proofs.Vocabulary.{IsUnplaced, List, Looks, Misfits, None, O
 use Rattle.mk_alloc.proofs.Vocabulary.{PlacedAllocation, Seeks, Some, Steady, TurnGoesOn, ℕ, acting_caller, ap, arith}
 use Rattle.mk_alloc.proofs.Vocabulary.{call_of, false, is_look, looks_left, new_is_acting, now_of, object_for}
 use Rattle.mk_alloc.proofs.Vocabulary.{object_made, only_seen, own_seat, phase_of, place_after, place_now_for, refl}
-use Rattle.mk_alloc.proofs.Vocabulary.{subst, world_of, ◌==◌, ◌∙◌, ◌≡◌}
-use Rattle.mk_alloc.proofs.Going.{IsCallers, begun_on, finished_on, look_part, looked_on, on_then, same_phase}
-use Rattle.mk_alloc.proofs.GrantParts.{calm_last, finish_room, grants_none, last_behind, no_place, none_behind}
-use Rattle.mk_alloc.proofs.GrantParts.{none_last, none_then, nowhere_then, part_begun, room_kept, room_lacks, room_then}
-use Rattle.mk_alloc.proofs.CalmStretches.{cycles_in_turn, is_of_cycles}
-use Rattle.mk_alloc.proofs.CycleParts.{begin_done, finish_done}
-use Rattle.mk_alloc.proofs.FullLeaves.{cycles_leave, leaves_then}
-use Rattle.mk_alloc.proofs.Parts.{Part}
-use Rattle.mk_alloc.proofs.PlacedTurns.{looked_beside, place_part, placed_on}
-use Rattle.mk_alloc.proofs.Stretches.{widened}
+use Rattle.mk_alloc.proofs.{Vocabulary.{subst, world_of, ◌==◌, ◌∙◌, ◌≡◌}, Going.{IsCallers, begun_on, finished_on}}
+use Rattle.mk_alloc.proofs.{Going.{look_part, looked_on, on_then, same_phase}, GrantParts.{calm_last, finish_room}}
+use Rattle.mk_alloc.proofs.GrantParts.{grants_none, last_behind, no_place, none_behind, none_last, none_then}
+use Rattle.mk_alloc.proofs.GrantParts.{nowhere_then, part_begun, room_kept, room_lacks, room_then}
+use Rattle.mk_alloc.proofs.{CalmStretches.{cycles_in_turn, is_of_cycles}, CycleParts.{begin_done, finish_done}}
+use Rattle.mk_alloc.proofs.{FullLeaves.{cycles_leave, leaves_then}, Parts.Part, PlacedTurns.{looked_beside, place_part}}
+use Rattle.mk_alloc.{proofs.{PlacedTurns.placed_on, Stretches.widened}, specs.Rooms.{MisfitsIdly}}
 use Rattle.mk_core.specs.Allocations.{place_among_allocations}
-use Rattle.mk_alloc.specs.Rooms.{MisfitsIdly}
 use Rattle.mk_objects.proofs.JoinedLooks.{looks_object, looks_unplaced}
-use Rattle.mk_objects.specs.Placing.{Requests}
-use Rattle.mk_objects.specs.declared.objects.Request.{Request}
+use Rattle.mk_objects.specs.{Placing.Requests, declared.objects.Request.Request}
 
 -- An undecided New is a caller's.
 pub new_callers : {p : PassState} → IsUnplaced p → IsCallers p

@@ -9,10 +9,8 @@ use Rattle.mk_alloc.proofs.Vocabulary.{now_of, refl, same_seat, same_self, subst
 use Rattle.mk_alloc.proofs.Vocabulary.{view_of, world_behind, [], ◌++◌, ◌∙◌, ◌∷◌, ◌≡◌, ◌≢◌, ◌⊎◌}
 use Rattle.mk_core.specs.Growing.{own_from}
 use Rattle.mk_laws.proofs.Basics.{Known, Meets, same_holder}
-use Rattle.mk_turns.proofs.Doing.{none_own, others_are_so, own_in_parts}
-use Rattle.mk_turns.specs.Doing.{AreOwnOrOfOthers}
-use Rattle.mk_words.proofs.Seats.{others_none}
-use Rattle.mk_words.proofs.TurnSteps.{still_turn}
+use Rattle.mk_turns.{proofs.Doing.{none_own, others_are_so, own_in_parts}, specs.Doing.{AreOwnOrOfOthers}}
+use Rattle.mk_words.proofs.{Seats.others_none, TurnSteps.still_turn}
 
 -- the pass, where it has seen these
 abbrev pub seeing : PassState → List Event → PassState

@@ -4,17 +4,13 @@ use Rattle.mk_alloc.proofs.Vocabulary.{EndsOlder, Event, Has, IsAtPhase, IsOutOf
 use Rattle.mk_alloc.proofs.Vocabulary.{Some, Stage, Step, SweepsNothing, ap, arith, begun_then, false}
 use Rattle.mk_alloc.proofs.Vocabulary.{finish_begins_none, is_begin, is_freeing, is_loading, is_look, is_take, not}
 use Rattle.mk_alloc.proofs.Vocabulary.{not-true, now_of, only_seen, own_before, refl, step_at, subst, sweeps_then, sym}
-use Rattle.mk_alloc.proofs.Vocabulary.{true, world_of, ⊎_elim, ◌≡◌}
-use Rattle.mk_alloc.proofs.CalledTurns.{GivenBack, taken_is}
-use Rattle.mk_alloc.proofs.ListParts.{none_at}
-use Rattle.mk_alloc.proofs.OwnGives.{steps_are}
-use Rattle.mk_alloc.proofs.Parts.{has_then}
+use Rattle.mk_alloc.proofs.{Vocabulary.{true, world_of, ⊎_elim, ◌≡◌}, CalledTurns.{GivenBack, taken_is}}
+use Rattle.mk_alloc.proofs.{ListParts.none_at, OwnGives.steps_are, Parts.has_then}
 use Rattle.mk_alloc.specs.Laws.{CallsSweepNothing, SweepNothingWhereHeld}
 use Rattle.mk_cycle.proofs.Begun.{does_begin_none, step_begins_none}
 use Rattle.mk_turns.proofs.Sweeping.{does_sweep, kinds_sweep, other_step_sweeps, step_then_sweeps}
 use Rattle.mk_turns.specs.Sweeping.{HaveNoMark, is_mark}
-use Rattle.mk_waiting.proofs.TakesAlone.{taking_does}
-use Rattle.mk_waiting.proofs.Unswept.{taking_sweeps}
+use Rattle.mk_waiting.proofs.{TakesAlone.taking_does, Unswept.taking_sweeps}
 
 -- A call with `enter` and `leave` marks nothing.
 

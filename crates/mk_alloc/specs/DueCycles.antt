@@ -1,9 +1,7 @@
 -- The cycle that a due Free begins.
 use Rattle.std.specs.Prelude.{◌≡◌, Bool, true, false}
 use Rattle.mk_words.specs.States.{PassState}
-use Rattle.mk_cycle.specs.BeginCycle.{BeginsCycle}
-use Rattle.mk_cycle.specs.EngineLaw.{IsAtPhase}
-use Rattle.mk_cycle.specs.FinishCycle.{FinishesCycle}
+use Rattle.mk_cycle.specs.{BeginCycle.BeginsCycle, EngineLaw.IsAtPhase, FinishCycle.FinishesCycle}
 use Rattle.mk_alloc.specs.Underway.{Looks}
 
 -- A cycle that was on is finished.

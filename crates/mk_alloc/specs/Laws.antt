@@ -1,18 +1,12 @@
 -- The turns of a caller stay exact, whatever its next call is, and its calls sweep nothing.
 use Rattle.std.specs.Prelude.{Bool, List}
 use Rattle.mk_never.specs.declared.operations.Op.{Op}
-use Rattle.mk_core.specs.declared.config.Config.{Config}
-use Rattle.mk_core.specs.declared.events.Answer.{Answer}
-use Rattle.mk_core.specs.declared.events.Seat.{Seat}
-use Rattle.mk_core.specs.declared.events.Event.{Event}
-use Rattle.mk_core.specs.Growing.{Grows}
-use Rattle.mk_words.specs.States.{PassState}
-use Rattle.mk_words.specs.Seats.{Has}
-use Rattle.mk_caller.specs.Called.{Called}
-use Rattle.mk_caller.specs.Causes.{FindsGateHeld}
+use Rattle.mk_core.specs.{declared.config.Config.Config, declared.events.Answer.Answer, declared.events.Seat.Seat}
+use Rattle.mk_core.specs.{declared.events.Event.Event, Growing.Grows}
+use Rattle.mk_words.specs.{States.PassState, Seats.Has}
+use Rattle.mk_caller.specs.{Called.Called, Causes.FindsGateHeld}
 use Rattle.mk_turns.specs.Sweeping.{SweepsNothing}
-use Rattle.mk_alloc.specs.TurnCalls.{CalledInTurn}
-use Rattle.mk_alloc.specs.TurnCycles.{TurnsOfAreExact}
+use Rattle.mk_alloc.specs.{TurnCalls.CalledInTurn, TurnCycles.TurnsOfAreExact}
 
 -- the turns of the pass's seat
 abbrev pub OwnAreExact : Bool → PassState → Type 0

@@ -1,11 +1,8 @@
 -- What its own events leave in a call that is answered Full: all but what is released.
 use Rattle.std.specs.Prelude.{◌≡◌, ℕ, ◌+◌, ◌<◌, true, List, [], ◌∷◌, ◌++◌, length, slice_index, ⊤}
 use Rattle.mk_never.specs.Types.{kinds_of}
-use Rattle.mk_core.specs.declared.config.Config.{Config}
-use Rattle.mk_core.specs.declared.events.Event.{Event}
-use Rattle.mk_core.specs.declared.events.Seat.{Seat}
-use Rattle.mk_core.specs.Allocations.{PlacedAllocation, is_mapped, placed_at}
-use Rattle.mk_core.specs.Growing.{is_same_seat}
+use Rattle.mk_core.specs.{declared.config.Config.Config, declared.events.Event.Event, declared.events.Seat.Seat}
+use Rattle.mk_core.specs.{Allocations.{PlacedAllocation, is_mapped, placed_at}, Growing.is_same_seat}
 use Rattle.mk_core.specs.History.{World, world_behind}
 use Rattle.mk_words.specs.States.{PassState, world_of}
 

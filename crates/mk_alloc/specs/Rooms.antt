@@ -1,20 +1,14 @@
 -- A New asks for room: it begins and ends cycles only where its object has no place.
 use Rattle.std.specs.Prelude.{◌≡◌, Bool, true, false, ◌||◌, List, ◌∷◌, ◌++◌, Option, Some, None}
-use Rattle.mk_core.specs.declared.events.Answer.{Answer}
-use Rattle.mk_core.specs.declared.events.Event.{Event}
-use Rattle.mk_core.specs.declared.events.Step.{Step}
-use Rattle.mk_core.specs.declared.seats.Object.{Object}
-use Rattle.mk_core.specs.declared.seats.OwnCycle.TheVariants.{Ended}
+use Rattle.mk_core.specs.{declared.events.Answer.Answer, declared.events.Event.Event, declared.events.Step.Step}
+use Rattle.mk_core.specs.{declared.seats.Object.Object, declared.seats.OwnCycle.TheVariants.Ended}
 use Rattle.mk_core.specs.Cycles.{At, is_begin, is_end}
-use Rattle.mk_geom.specs.declared.pages.Census.{Census}
-use Rattle.mk_geom.specs.PageUses.{census_among}
-use Rattle.mk_geom.specs.PageWords.{uses_of_pages}
+use Rattle.mk_geom.specs.{declared.pages.Census.Census, PageUses.census_among, PageWords.uses_of_pages}
 use Rattle.mk_words.specs.States.{PassState, event_of, now_of, world_of}
 use Rattle.mk_cycle.specs.EngineLaw.{IsAtPhase}
 use Rattle.mk_objects.specs.Placing.{IsUnplaced, object_for, place_now_for}
-use Rattle.mk_alloc.specs.Leaving.{OwnLeaveAllButReleased}
-use Rattle.mk_alloc.specs.TurnCycles.{HasNoPlace, RunsOneCycle, has_step, is_grant, is_want, lets_go}
-use Rattle.mk_alloc.specs.Underway.{TurnGoesOn}
+use Rattle.mk_alloc.specs.{Leaving.OwnLeaveAllButReleased, TurnCycles.{HasNoPlace, RunsOneCycle, has_step, is_grant}}
+use Rattle.mk_alloc.specs.{TurnCycles.{is_want, lets_go}, Underway.TurnGoesOn}
 use Rattle.mk_core.specs.declared.events.Answer.TheVariants as answer
 use Rattle.mk_core.specs.declared.events.Step.TheVariants as step
 

@@ -1,22 +1,14 @@
 -- A call under the turn, in the history: a New, or a Free.
 use Rattle.std.specs.Prelude.{◌≡◌, ◌↔◌, ℕ, Bool, true, List, ◌∷◌, ◌++◌, Some}
 use Rattle.mk_never.specs.declared.operations.Op.{Op}
-use Rattle.mk_core.specs.declared.events.Answer.{Answer}
-use Rattle.mk_core.specs.declared.events.Event.{Event}
-use Rattle.mk_core.specs.Allocations.{census_of_allocations}
-use Rattle.mk_core.specs.Calls.{at_rest}
-use Rattle.mk_core.specs.Decided.{entry_of, flagged}
-use Rattle.mk_core.specs.Placement.{FindsNoPlace}
+use Rattle.mk_core.specs.{declared.events.Answer.Answer, declared.events.Event.Event, Allocations.census_of_allocations}
+use Rattle.mk_core.specs.{Calls.at_rest, Decided.{entry_of, flagged}, Placement.FindsNoPlace}
 use Rattle.mk_geom.specs.declared.pages.Census.{Census}
-use Rattle.mk_words.specs.States.{PassState, world_of, call_of, event_of}
-use Rattle.mk_words.specs.Steps.{Makes}
-use Rattle.mk_words.specs.TurnSteps.{turn_stays}
-use Rattle.mk_caller.specs.States.{caller_of_pass}
-use Rattle.mk_caller.specs.Called.{own_calls, IsDecidedIn}
+use Rattle.mk_words.specs.{States.{PassState, world_of, call_of, event_of}, Steps.Makes, TurnSteps.turn_stays}
+use Rattle.mk_caller.specs.{States.caller_of_pass, Called.{own_calls, IsDecidedIn}}
 use Rattle.mk_turns.specs.Doing.{Does}
 use Rattle.mk_waiting.specs.Taking.{TakesTurn}
-use Rattle.mk_alloc.specs.Leaving.{OwnLeaveAllButReleased}
-use Rattle.mk_alloc.specs.TurnCycles.{EndsExactly, IsDueIn}
+use Rattle.mk_alloc.specs.{Leaving.OwnLeaveAllButReleased, TurnCycles.{EndsExactly, IsDueIn}}
 use Rattle.mk_objects.specs.Retiring.{is_loading}
 use Rattle.mk_never.specs.declared.operations.Op.TheVariants as op
 use Rattle.mk_core.specs.declared.events.Answer.TheVariants as answer

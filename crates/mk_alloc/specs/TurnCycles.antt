@@ -1,18 +1,10 @@
 -- What calls under the turn do with cycles, told of each turn where it is given back.
-use Rattle.std.specs.Prelude.{◌≡◌, ◌↔◌, Bool, true, false, ◌||◌, List, ◌∷◌, ◌++◌, Option, Some, ⊤}
-use Rattle.std.specs.List.{list_any}
+use Rattle.std.specs.{Prelude.{◌≡◌, ◌↔◌, Bool, true, false, ◌||◌, List, ◌∷◌, ◌++◌, Option, Some, ⊤}, List.list_any}
 use Rattle.mk_never.specs.declared.operations.Op.{Op}
-use Rattle.mk_core.specs.declared.config.Config.{Config}
-use Rattle.mk_core.specs.declared.events.Seat.{Seat}
-use Rattle.mk_core.specs.declared.events.Step.{Step}
-use Rattle.mk_core.specs.declared.events.Event.{Event}
-use Rattle.mk_core.specs.declared.seats.Object.{Object}
-use Rattle.mk_core.specs.Allocations.{FitsAmongAllocations}
-use Rattle.mk_core.specs.Counts.{IsDue}
-use Rattle.mk_core.specs.Cycles.{At, TurnOf, BeginsIn, BeginsAndEndsIn, is_begin, is_end}
-use Rattle.mk_core.specs.History.{left}
-use Rattle.mk_core.specs.NewPlaces.{object_made}
-use Rattle.mk_core.specs.Words.{phase_of}
+use Rattle.mk_core.specs.{declared.config.Config.Config, declared.events.Seat.Seat, declared.events.Step.Step}
+use Rattle.mk_core.specs.{declared.events.Event.Event, declared.seats.Object.Object, Allocations.FitsAmongAllocations}
+use Rattle.mk_core.specs.{Counts.IsDue, Cycles.{At, TurnOf, BeginsIn, BeginsAndEndsIn, is_begin, is_end}, History.left}
+use Rattle.mk_core.specs.{NewPlaces.object_made, Words.phase_of}
 use Rattle.mk_never.specs.declared.operations.Op.TheVariants as op
 use Rattle.mk_core.specs.declared.events.Step.TheVariants as step
 

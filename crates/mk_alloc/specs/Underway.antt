@@ -1,17 +1,12 @@
 -- A turn on its way, from one part of its call to the next.
 use Rattle.std.specs.Prelude.{◌≡◌, true, ◌++◌, Option, Some, None, is_some}
 use Rattle.mk_never.specs.declared.operations.Op.{Op}
-use Rattle.mk_core.specs.declared.events.Answer.{Answer}
-use Rattle.mk_core.specs.Counts.{TalliesAreExact, TalliesAreTidy}
-use Rattle.mk_core.specs.Decided.{entry_of}
+use Rattle.mk_core.specs.{declared.events.Answer.Answer, Counts.{TalliesAreExact, TalliesAreTidy}, Decided.entry_of}
 use Rattle.mk_core.specs.Moments.{none_is_held}
-use Rattle.mk_words.specs.States.{PassState, call_of, now_of}
-use Rattle.mk_words.specs.TurnSteps.{IsFresh, turn_stays}
-use Rattle.mk_caller.specs.States.{caller_of_pass}
-use Rattle.mk_caller.specs.Called.{own_calls}
+use Rattle.mk_words.specs.{States.{PassState, call_of, now_of}, TurnSteps.{IsFresh, turn_stays}}
+use Rattle.mk_caller.specs.{States.caller_of_pass, Called.own_calls}
 use Rattle.mk_turns.specs.Doing.{Does}
-use Rattle.mk_cycle.specs.EngineLaw.{IsFreeForCycle}
-use Rattle.mk_cycle.specs.TurnKeeps.{KeepsGates, LeavesTurn, unchanged}
+use Rattle.mk_cycle.specs.{EngineLaw.IsFreeForCycle, TurnKeeps.{KeepsGates, LeavesTurn, unchanged}}
 use Rattle.mk_objects.specs.Placing.{IsOutOfStop, is_look}
 use Rattle.mk_core.specs.declared.seats.Stage.TheVariants as stage
 

@@ -1,34 +1,25 @@
 -- The place of a number on a heap of one page, by what its only page shows.
-use Rattle.std.proofs.Common.{ltb-false, option_map, w64}
-use Rattle.std.specs.Bool.{then_some}
-use Rattle.std.specs.Int.{trailing_ones}
+use Rattle.std.{proofs.Common.{ltb-false, option_map, w64}, specs.{Bool.then_some, Int.trailing_ones}}
 use Rattle.mk_alloc.proofs.Vocabulary.{BeginsTurn, CalledInTurn, FitsNowhere, IsEnabledTo, IsFresh, IsPlaced, IsTurn}
 use Rattle.mk_alloc.proofs.Vocabulary.{IsUnplaced, OnlyLooks, PassState, TakesTurn, caller_of_pass, looks_left, now_of}
-use Rattle.mk_alloc.proofs.Vocabulary.{object_for, own_before}
-use Rattle.mk_alloc.proofs.CalledTurns.{Taken, callers, take_allowed, taken_phase}
-use Rattle.mk_alloc.proofs.NewTurns.{operands_of}
+use Rattle.mk_alloc.proofs.{Vocabulary.{object_for, own_before}, CalledTurns.{Taken, callers, take_allowed}}
+use Rattle.mk_alloc.proofs.{CalledTurns.taken_phase, NewTurns.operands_of}
 use Rattle.mk_laws.proofs.Vocabulary.{Answer, Bool, Config, IsHistory, IsWithinLimits, Kind, List, None, Number, Object}
 use Rattle.mk_laws.proofs.Vocabulary.{Op, Option, Page, Place, Some, Steady, Step, TalliesAreTidy, ℕ, ap, append-nil}
 use Rattle.mk_laws.proofs.Vocabulary.{arith, block_header, false, free_page, get_or_past, header_of}
 use Rattle.mk_laws.proofs.Vocabulary.{histories_keep_lengths, if◌then◌else◌, kinds_of, length, lt-ltb, ltb-true, nat_lt}
 use Rattle.mk_laws.proofs.Vocabulary.{not, or_else, phase_of, place_on_pages, refl, resident_pages, slice_index_or}
 use Rattle.mk_laws.proofs.Vocabulary.{subst, sym, true, use_under, word_of, [], ◌<◌, ◌^◌, ◌∙◌, ◌∷◌, ◌≡◌, ◌≢◌}
-use Rattle.mk_geom.specs.PageUses.{carved, cells_taken, first_where, small_place}
-use Rattle.mk_geom.specs.PageWords.{use_of_page}
+use Rattle.mk_geom.specs.{PageUses.{carved, cells_taken, first_where, small_place}, PageWords.use_of_page}
 use Rattle.mk_books.proofs.UsedBitLemmas.{first_where-bits_of}
-use Rattle.mk_core.specs.Counts.{TalliesAreExact}
-use Rattle.mk_core.specs.Words.{page_of}
-use Rattle.mk_alloc_clients.proofs.OwnedCalls.{granted}
-use Rattle.mk_alloc_clients.specs.Making.{one_number}
-use Rattle.mk_alloc_clients.specs.Owned.{HasNumber}
+use Rattle.mk_core.specs.{Counts.TalliesAreExact, Words.page_of}
+use Rattle.mk_alloc_clients.{proofs.OwnedCalls.{granted}, specs.{Making.one_number, Owned.HasNumber}}
 use Rattle.mk_caller.specs.States.{IsIdleCaller}
 use Rattle.mk_objects.proofs.FoundPlaces.{cells_under_other, cells_under_wanted, taken_under_other}
 use Rattle.mk_objects.proofs.PlacedNews.{fit_within, goes_behind, place_found}
 use Rattle.mk_objects.proofs.JoinedLooks.{granted_behind_looks, looks_pages}
 use Rattle.mk_objects.specs.Placing.{GoesTo, HeldIsExact, IsGranted}
-use Rattle.mk_words.specs.Seats.{CallersAreBeforeOver}
-use Rattle.mk_words.specs.States.{WordsState}
-use Rattle.mk_words.specs.Steps.{Finds}
+use Rattle.mk_words.specs.{Seats.CallersAreBeforeOver, States.WordsState, Steps.Finds}
 
 -- where a number goes on a heap of this page alone
 abbrev pub place_on : Page → Option Place

@@ -1,18 +1,12 @@
 -- A number that a caller owns: what other callers leave of it, and what its own calls do.
 use Rattle.mk_alloc_clients.specs.Owned.{IsKnownToAlone, IsRegisterOf, OwnsNumberIn, number_behind}
-use Rattle.mk_never.proofs.Edits.{exists, if_by, left_at_by}
-use Rattle.mk_never.proofs.Fresh.{new_adds}
-use Rattle.mk_never.proofs.Later.{op_stays}
+use Rattle.mk_never.proofs.{Edits.{exists, if_by, left_at_by}, Fresh.new_adds, Later.op_stays}
 use Rattle.mk_never.proofs.Registers.{destination, op_keeps}
-use Rattle.mk_never.specs.Admitted.{IsCaller, OperandsAreInRange}
-use Rattle.mk_never.specs.Laws.{AreNotBy}
-use Rattle.mk_never.specs.NeverHeap.{after_op, left_at, moved_on, reply_at, reply_of}
-use Rattle.mk_never.specs.Reach.{LeadsTo}
-use Rattle.mk_never.specs.Types.{zero_of}
+use Rattle.mk_never.specs.{Admitted.{IsCaller, OperandsAreInRange}, Laws.AreNotBy, NeverHeap.{after_op, left_at}}
+use Rattle.mk_never.specs.{NeverHeap.{moved_on, reply_at, reply_of}, Reach.LeadsTo, Types.zero_of}
 use Rattle.mk_never.specs.declared.operations.Op.TheVariants.{CasPtr, Clear, Free, GetGlobal, GetNum, GetPtr, IsNull}
 use Rattle.mk_never.specs.declared.operations.Op.TheVariants.{Lea, Move, New, Same, SetGlobal, SetNum, SetPtr}
-use Rattle.mk_never.specs.declared.operations.Reply.{Reply}
-use Rattle.mk_never.specs.declared.values.Target.{Target}
+use Rattle.mk_never.specs.{declared.operations.Reply.Reply, declared.values.Target.Target}
 use Rattle.std.proofs.Common.{ltb-false, set}
 use Rattle.mk_laws.proofs.Vocabulary.{AreAdmitted, Call, Continues, IsAdmitted, IsNumber, IsSound, IsTyped, Kind, List, Meets, NeverAllocation as Allocation, NeverState, Null, Num, Number, Op, Ptr, Suits, To, Value, WordOf, [], after_calls, after_free, allocation_at, ap, arith, cases_Bool, false, get_or, get_or-set_other, get_or-set_same, get_or_append_left, get_or_past, inl, inr, is_same, kinds_of, length, length-set, ltb-true, map, nat_lt, no_allocation, number_of as number_in, refl, register_at, set_by, subst, suc, sym, target_of, with_freed, with_global, with_new, with_register, with_word, word_at, words_of, zero, ℕ, ◌*◌, ◌++◌, ◌+◌, ◌<◌, ◌∙◌, ◌∷◌, ◌≡◌, ◌≢◌}
 

@@ -6,21 +6,14 @@ use Rattle.mk_laws.proofs.Vocabulary.{append_assoc, arith, asked, bases_of, call
 use Rattle.mk_laws.proofs.Vocabulary.{kinds_of, left, never_behind, never_in_parts, refl, subst, sym, [], ◌++◌, ◌∙◌}
 use Rattle.mk_laws.proofs.Vocabulary.{◌∷◌, ◌≡◌}
 use Rattle.mk_alloc.proofs.Vocabulary.{PassState, caller_of_pass, calls_by, comes_last, event_of, others_add_none}
-use Rattle.mk_alloc.proofs.Vocabulary.{own_calls, stands}
-use Rattle.mk_alloc.proofs.Vocabulary.{after_calls}
-use Rattle.mk_alloc.proofs.OneCalls.{OneCall, before_call, one_call, through_call}
-use Rattle.mk_alloc.proofs.Decisions.{none_by, own_more}
-use Rattle.mk_never.specs.NeverHeap.{after_op}
-use Rattle.mk_never.specs.declared.operations.Reply.{Reply}
+use Rattle.mk_alloc.proofs.{Vocabulary.{own_calls, stands, after_calls}, OneCalls.{OneCall, before_call, one_call}}
+use Rattle.mk_alloc.proofs.{OneCalls.through_call, Decisions.{none_by, own_more}}
+use Rattle.mk_never.specs.{NeverHeap.after_op, declared.operations.Reply.Reply}
 use Rattle.mk_alloc_clients.proofs.Owned.{HasStored, KeepsNumber, access_admitted, keeps_by_others, load_replies}
-use Rattle.mk_alloc_clients.proofs.Owned.{new_owns, store_leaves, store_replies}
-use Rattle.mk_alloc_clients.specs.Owned.{HasNumber, OwnsNumber, OwnsNumberIn, number_owned}
-use Rattle.mk_alloc_clients.specs.Laws.{OwnedNumbersStay}
-use Rattle.mk_alloc_clients.specs.Making.{store_then_load}
-use Rattle.mk_caller.specs.Called.{Called, IsDecidedIn}
-use Rattle.mk_caller.specs.declared.refusals.Refusal.TheVariants.{Fault, Null}
-use Rattle.mk_caller.specs.Causes.{FindsGateHeld, IsRefused}
-use Rattle.mk_caller.specs.States.{Admits, never_of}
+use Rattle.mk_alloc_clients.{proofs.Owned.{new_owns, store_leaves, store_replies}, specs.Making.{store_then_load}}
+use Rattle.mk_alloc_clients.specs.{Owned.{HasNumber, OwnsNumber, OwnsNumberIn, number_owned}, Laws.OwnedNumbersStay}
+use Rattle.mk_caller.specs.{Called.{Called, IsDecidedIn}, declared.refusals.Refusal.TheVariants.{Fault, Null}}
+use Rattle.mk_caller.specs.{Causes.{FindsGateHeld, IsRefused}, States.{Admits, never_of}}
 use Rattle.mk_words.specs.declared.call_steps.Held.{Held}
 
 -- Events among whose calls the caller has none keep its number.

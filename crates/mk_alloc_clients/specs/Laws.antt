@@ -1,8 +1,6 @@
 -- Whatever other seats do, a number that is owned stays so, and stays the same.
 use Rattle.std.specs.Prelude.{ℕ, List, [], ◌∷◌, ◌++◌}
-use Rattle.mk_core.specs.declared.events.Event.{Event}
-use Rattle.mk_core.specs.declared.events.Seat.TheVariants.{Caller}
-use Rattle.mk_core.specs.Growing.{AreOfOthers}
+use Rattle.mk_core.specs.{declared.events.Event.Event, declared.events.Seat.TheVariants.Caller, Growing.AreOfOthers}
 use Rattle.mk_core.specs.History.{IsHistory}
 use Rattle.mk_words.specs.States.{PassState}
 use Rattle.mk_caller.specs.States.{caller_of_pass}

@@ -1,17 +1,13 @@
 -- An object of one number: what makes it, and what is known where that, or a later call, is given up.
 use Rattle.std.specs.Prelude.{◌≡◌, ℕ, ◌+◌, ◌<◌, true, false, List, [], ◌∷◌, Some}
-use Rattle.mk_never.specs.declared.operations.Op.{Op}
-use Rattle.mk_never.specs.Types.{kinds_of}
-use Rattle.mk_core.specs.declared.seats.Object.{Object}
-use Rattle.mk_core.specs.Decided.{Decided}
-use Rattle.mk_words.specs.States.{PassState, TurnState}
-use Rattle.mk_words.specs.Steps.{Finds}
+use Rattle.mk_never.specs.{declared.operations.Op.Op, Types.kinds_of}
+use Rattle.mk_core.specs.{declared.seats.Object.Object, Decided.Decided}
+use Rattle.mk_words.specs.{States.{PassState, TurnState}, Steps.Finds}
 use Rattle.mk_caller.specs.States.{CallerState, IsIdleCaller, caller_of_pass}
 use Rattle.mk_objects.specs.Placing.{FitsNowhere}
 use Rattle.mk_alloc_clients.specs.declared.outcomes.Unmade.{Unmade}
 use Rattle.mk_alloc_clients.specs.declared.outcomes.Unmade.TheVariants.{NoRoom, TurnTaken}
-use Rattle.mk_alloc_clients.specs.declared.outcomes.Unfinished.{Unfinished}
-use Rattle.mk_alloc_clients.specs.Owned.{OwnsNumber}
+use Rattle.mk_alloc_clients.specs.{declared.outcomes.Unfinished.Unfinished, Owned.OwnsNumber}
 use Rattle.mk_never.specs.declared.operations.Op.TheVariants as op
 use Rattle.mk_never.specs.declared.types.Kind.TheVariants.{Num as Number}
 use Rattle.mk_core.specs.declared.events.Answer.TheVariants as answer

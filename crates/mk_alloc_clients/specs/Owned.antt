@@ -1,11 +1,7 @@
 -- A number that is a caller's own: no other caller can get to its object.
 use Rattle.std.specs.Prelude.{◌≡◌, ℕ, ◌+◌, ◌*◌, ◌<◌, ◌≤◌, false, length, slice_index_or}
-use Rattle.mk_never.specs.declared.values.Value.{Value}
-use Rattle.mk_never.specs.declared.values.Value.TheVariants.{Null, Ptr}
-use Rattle.mk_never.specs.Admitted.{IsCaller, IsNumber}
-use Rattle.mk_never.specs.NeverHeap.{words_of}
-use Rattle.mk_never.specs.Reach.{LeadsTo}
-use Rattle.mk_never.specs.Types.{kinds_of}
+use Rattle.mk_never.specs.{declared.values.Value.Value, declared.values.Value.TheVariants.{Null, Ptr}}
+use Rattle.mk_never.specs.{Admitted.{IsCaller, IsNumber}, NeverHeap.words_of, Reach.LeadsTo, Types.kinds_of}
 use Rattle.mk_words.specs.States.{PassState}
 use Rattle.mk_caller.specs.States.{never_of, caller_of_pass, value_of}
 use Rattle.mk_never.specs.declared.types.Kind.TheVariants.{Num as Number}

@@ -2,21 +2,15 @@
 use Rattle.std.proofs.Common.{Bool, List, None, Option, Some, ℕ, ap, arith, count_by, eq-eqb, false, get_or}
 use Rattle.std.proofs.Common.{get_or-set_other, get_or-set_same, if◌then◌else◌, inl, inr, length, length-set}
 use Rattle.std.proofs.Common.{length-take-le, map, nat_eq, ne_eqb, not, refl, set, suc, sym, take, true, zero, [], ◌*◌}
-use Rattle.std.proofs.Common.{◌++◌, ◌+◌, ◌-◌, ◌<◌, ◌^◌, ◌∙◌, ◌∷◌, ◌≡◌, ◌≢◌, ◌≤◌}
+use Rattle.std.{proofs.Common.{◌++◌, ◌+◌, ◌-◌, ◌<◌, ◌^◌, ◌∙◌, ◌∷◌, ◌≡◌, ◌≢◌, ◌≤◌}, specs.List.{range_with_len}}
 use Rattle.std.proofs.lemmas.List.{get_or-append_right, get_or_append_left, map_more, same_lists, set-append_left}
-use Rattle.std.proofs.lemmas.List.{set-append_right}
-use Rattle.std.proofs.lemmas.Bool.{and_right, cases_eq}
+use Rattle.std.proofs.{lemmas.List.set-append_right, lemmas.Bool.{and_right, cases_eq}}
 use Rattle.std.proofs.lemmas.List.FromFn.{get_or-map-range_with_len, length-map-range_with_len}
-use Rattle.std.proofs.lemmas.List.Sums.{count_by-le-length, sum_by-cons, sum_by_push}
-use Rattle.std.proofs.Math.Bool.{beq}
-use Rattle.std.specs.List.{range_with_len}
+use Rattle.std.proofs.{lemmas.List.Sums.{count_by-le-length, sum_by-cons, sum_by_push}, Math.Bool.beq}
 use Rattle.mk_geom.specs.PageUses.{Cells, PageUse, cells_taken, free_cells_among, is_same_sort}
 use Rattle.mk_geom.specs.PageWords.{bits_of, use_of_page, use_under, uses_of_pages}
 use Rattle.mk_geom.specs.declared.headers.Header.TheVariants.{Block, Free, Later, LeafBlock, LeafRun, Run}
-use Rattle.mk_geom.specs.Classes.{cells_of}
-use Rattle.mk_geom.specs.Headers.{header_of}
-use Rattle.mk_geom.specs.declared.headers.Header.{Header}
-use Rattle.mk_geom.specs.declared.pages.Page.{Page}
+use Rattle.mk_geom.specs.{Classes.cells_of, Headers.header_of, declared.headers.Header.Header, declared.pages.Page.Page}
 use Rattle.mk_books.proofs.UsedBitLemmas.{length-bits_of}
 use Rattle.mk_books.specs.FreeCells.{HasNoCells, class_place, free_cells_by_class, free_cells_of_sort}
 

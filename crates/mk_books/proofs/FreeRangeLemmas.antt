@@ -1,13 +1,10 @@
 -- Ranges of free pages, page by page.
 use Rattle.std.proofs.Common.{Bool, List, None, Option, Some, ℕ, ap, arith, drop, drop-drop, false, get_or}
 use Rattle.std.proofs.Common.{if◌then◌else◌, le-leb, length, length-drop, max, option_map, refl, suc, true, zero, []}
-use Rattle.std.proofs.Common.{◌+◌, ◌-◌, ◌<◌, ◌∙◌, ◌∷◌, ◌≡◌, ◌≤◌}
-use Rattle.std.proofs.lemmas.Bool.{lt-leb}
+use Rattle.std.{proofs.{Common.{◌+◌, ◌-◌, ◌<◌, ◌∙◌, ◌∷◌, ◌≡◌, ◌≤◌}, lemmas.Bool.lt-leb}, specs.Option.{option_or}}
 use Rattle.std.proofs.lemmas.List.{at_drop_more, drop-map, length-map}
-use Rattle.std.specs.Option.{option_or}
 use Rattle.mk_geom.specs.PageUses.{PageUse, free_range, is_free_page, longest_free_range, range_start}
-use Rattle.mk_geom.specs.PageWords.{use_of_page, uses_of_pages}
-use Rattle.mk_geom.specs.declared.pages.Page.{Page}
+use Rattle.mk_geom.specs.{PageWords.{use_of_page, uses_of_pages}, declared.pages.Page.Page}
 
 -- the longest range, where this many free pages stand before these and the longest of before is known
 abbrev pub longest_with : ℕ → ℕ → List PageUse → ℕ

@@ -1,6 +1,5 @@
 -- The cells of pages, by class and sort.
-use Rattle.std.specs.Prelude.{◌≡◌, ℕ, ◌+◌, Bool, true, false, List, [], map, ◌++◌, if◌then◌else◌}
-use Rattle.std.specs.List.{range_with_len}
+use Rattle.std.specs.{Prelude.{◌≡◌, ℕ, ◌+◌, Bool, true, false, List, [], map, ◌++◌, if◌then◌else◌}, List.range_with_len}
 use Rattle.mk_geom.specs.PageUses.{PageUse, cells_taken, free_cells_among}
 
 -- the free cells of each class in pages of one sort

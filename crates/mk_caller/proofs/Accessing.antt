@@ -2,12 +2,9 @@
 use Rattle.mk_laws.proofs.Vocabulary.{ap, at_rest, begun, map, onward, progress_reg, q_of, refl, refused, stage_refused}
 use Rattle.mk_laws.proofs.Vocabulary.{subst, sym, true, [], ◌∙◌, ◌∷◌, ◌≡◌, ◌≢◌}
 use Rattle.mk_caller.proofs.Chains.{access_finds_null, access_finds_some, access_is_small, called, either_to, go}
-use Rattle.mk_caller.proofs.Chains.{null_steps, of_same, on_to, refused_puts, to, value_kept}
-use Rattle.mk_caller.proofs.Onward.{store_goes_on}
+use Rattle.mk_caller.proofs.{Chains.{null_steps, of_same, on_to, refused_puts, to, value_kept}, Onward.store_goes_on}
 use Rattle.mk_caller.specs.Moves.{IsAtFlight, MayBeginCall, behind_q, is_access, refused_register, refused_steps}
-use Rattle.mk_caller.specs.Moves.{stores_register}
-use Rattle.mk_caller.specs.Called.{Called, refused_from, step_at}
-use Rattle.mk_caller.specs.States.{never_of, value_of}
+use Rattle.mk_caller.specs.{Moves.stores_register, Called.{Called, refused_from, step_at}, States.{never_of, value_of}}
 use Rattle.mk_words.specs.States.{PassState, call_of}
 use Rattle.mk_laws.proofs.Vocabulary.{Answer, Flight, List, None, Null as NullValue, Op, Progress, Some, Stage, Step, ℕ}
 

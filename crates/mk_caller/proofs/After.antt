@@ -4,12 +4,9 @@ use Rattle.mk_laws.proofs.Vocabulary.{after_free, ap, arith, false, get_or-set_o
 use Rattle.mk_laws.proofs.Vocabulary.{is_same, never_behind, refl, register_at, target_of, true, with_register}
 use Rattle.mk_laws.proofs.Vocabulary.{with_word, word_at, ◌*◌, ◌++◌, ◌+◌, ◌<◌, ◌∙◌, ◌≡◌, ◌≢◌}
 use Rattle.mk_laws.proofs.OtherCalls.{never_continues}
-use Rattle.mk_never.specs.NeverHeap.{after_op, left_at}
-use Rattle.mk_never.specs.Admitted.{IsCaller}
-use Rattle.mk_never.specs.declared.values.Target.{Target}
+use Rattle.mk_never.specs.{NeverHeap.{after_op, left_at}, Admitted.IsCaller, declared.values.Target.Target}
 use Rattle.mk_never.specs.declared.values.Target.TheVariants.{Nothing}
-use Rattle.mk_caller.specs.States.{caller_of_pass, never_of, value_of}
-use Rattle.mk_caller.specs.Called.{Called}
+use Rattle.mk_caller.specs.{States.{caller_of_pass, never_of, value_of}, Called.Called}
 use Rattle.mk_caller.specs.Laws.{CallsLeaveOtherRegisters, destination}
 use Rattle.mk_words.specs.States.{PassState}
 

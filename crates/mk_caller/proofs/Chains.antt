@@ -4,14 +4,11 @@ use Rattle.mk_laws.proofs.Vocabulary.{Progress, Some, Stage, Step, Unmapped, Val
 use Rattle.mk_laws.proofs.Vocabulary.{d_of, i_of, if◌then◌else◌, ne_eqb, never_behind, onward, progress_reg, q_of, refl}
 use Rattle.mk_laws.proofs.Vocabulary.{refused, stage_refused, subst, sym, target_of, true, [], ◌++◌, ◌<◌, ◌==◌, ◌∙◌}
 use Rattle.mk_laws.proofs.Vocabulary.{arith, ◌∷◌, ◌≡◌, ◌≢◌}
-use Rattle.mk_never.specs.Admitted.{OperandsAreInRange}
-use Rattle.mk_never.specs.declared.values.Target.{Target}
+use Rattle.mk_never.specs.{Admitted.OperandsAreInRange, declared.values.Target.Target}
 use Rattle.mk_caller.proofs.Joined.{joined, joined_on}
 use Rattle.mk_caller.specs.Moves.{CallGoesOn, IsAtFlight, MakesSteps, MayBeginCall, is_access, loads, passes}
-use Rattle.mk_caller.specs.Moves.{refused_register, refused_steps}
-use Rattle.mk_caller.specs.States.{caller_of_pass, never_of, value_of}
-use Rattle.mk_caller.specs.Called.{Called, steps_made}
-use Rattle.mk_caller.specs.Causes.{Probes, ProbesAWord}
+use Rattle.mk_caller.specs.{Moves.{refused_register, refused_steps}, States.{caller_of_pass, never_of, value_of}}
+use Rattle.mk_caller.specs.{Called.{Called, steps_made}, Causes.{Probes, ProbesAWord}}
 use Rattle.mk_words.specs.States.{PassState, call_of, event_of}
 
 -- Further steps of a call that isn't decided; how they go on is said by the call before them.

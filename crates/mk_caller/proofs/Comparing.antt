@@ -3,12 +3,9 @@ use Rattle.mk_laws.proofs.Vocabulary.{Answer, Bool, List, NeverState, Op, Unmapp
 use Rattle.mk_laws.proofs.Vocabulary.{bit, false, is_same, one_if, refl, register_at, sym, target_of, true, word_at}
 use Rattle.mk_laws.proofs.Vocabulary.{◌↔◌, ◌∙◌, ◌≡◌}
 use Rattle.mk_never.proofs.Sameness.{equal_from_same, same_from_equal}
-use Rattle.mk_never.specs.declared.values.Target.TheVariants.{Nothing}
-use Rattle.mk_never.specs.NeverHeap.{reply_at}
-use Rattle.mk_never.specs.declared.operations.Reply.{Reply}
-use Rattle.mk_never.specs.declared.values.Target.{Target}
-use Rattle.mk_caller.specs.States.{Admits, caller_of_pass, never_then, value_of}
-use Rattle.mk_caller.specs.Called.{Says}
+use Rattle.mk_never.specs.{declared.values.Target.TheVariants.Nothing, NeverHeap.reply_at}
+use Rattle.mk_never.specs.{declared.operations.Reply.Reply, declared.values.Target.Target}
+use Rattle.mk_caller.specs.{States.{Admits, caller_of_pass, never_then, value_of}, Called.Says}
 use Rattle.mk_caller.specs.Comparing.{CallComparesValues}
 use Rattle.mk_words.specs.States.{PassState}
 

@@ -5,15 +5,12 @@ use Rattle.mk_laws.proofs.Vocabulary.{and_from, and_parts, answer_decided, ap, a
 use Rattle.mk_laws.proofs.Vocabulary.{false, flight_of, group_of, has_gates, has_operands, has_phase, holder_may}
 use Rattle.mk_laws.proofs.Vocabulary.{is_in_range, is_under_turn, length, lt-ltb, ltb-true, marker_may, nat_lt, outside}
 use Rattle.mk_laws.proofs.Vocabulary.{phase_of, refl, register_met, subst, sym, true, ◌&&◌, ◌<◌, ◌≡◌}
-use Rattle.mk_laws.proofs.LastEvents.{goes_on_by, stands}
-use Rattle.mk_laws.proofs.LayoutHolders.{seat_operands}
+use Rattle.mk_laws.proofs.{LastEvents.{goes_on_by, stands}, LayoutHolders.seat_operands}
 use Rattle.mk_never.specs.Admitted.{IsCaller, OperandsAreInRange}
 use Rattle.mk_core.proofs.Conditions.{meets_enabled}
 use Rattle.mk_caller.proofs.OneStep.{flagged_same}
-use Rattle.mk_caller.specs.Moves.{MayBeginCall}
-use Rattle.mk_caller.specs.States.{Admits, caller_of_pass, never_of}
-use Rattle.mk_words.specs.States.{PassState, call_of, event_of, now_of}
-use Rattle.mk_words.specs.Steps.{IsAdmittedTo, IsEnabledTo}
+use Rattle.mk_caller.specs.{Moves.MayBeginCall, States.{Admits, caller_of_pass, never_of}}
+use Rattle.mk_words.specs.{States.{PassState, call_of, event_of, now_of}, Steps.{IsAdmittedTo, IsEnabledTo}}
 
 -- Callers' kinds have no conditions 5 to 7.
 record IsFree (c : Config) (m : Moment) (seat : Seat) (f : Flight) (s : Step) : Type 0 where

@@ -1,16 +1,9 @@
 -- The first step: it begins the call, or finds the gate held.
 use Rattle.std.proofs.Common.{Err, Ok, OnErr, OnOk, Result}
 use Rattle.mk_laws.proofs.Vocabulary.{None, Op, Step, ap, append-nil, begun, refl, still, subst, sym, ◌∙◌}
-use Rattle.mk_caller.proofs.OneStep.{one_step}
-use Rattle.mk_caller.proofs.Onward.{enters}
-use Rattle.mk_caller.specs.States.{caller_of_pass, never_of}
-use Rattle.mk_caller.specs.Moves.{CallMoves, MayBeginCall}
-use Rattle.mk_caller.specs.Called.{own_calls}
-use Rattle.mk_caller.specs.Causes.{FindsGateHeld}
-use Rattle.mk_words.specs.States.{PassState, call_of}
-use Rattle.mk_words.specs.CallSteps.{FindsHeld}
-use Rattle.mk_words.specs.Steps.{Goes}
-use Rattle.mk_words.specs.declared.call_steps.Held.{Held}
+use Rattle.mk_caller.{proofs.{OneStep.one_step, Onward.enters}, specs.Causes.{FindsGateHeld}}
+use Rattle.mk_caller.specs.{States.{caller_of_pass, never_of}, Moves.{CallMoves, MayBeginCall}, Called.own_calls}
+use Rattle.mk_words.specs.{States.{PassState, call_of}, CallSteps.FindsHeld, Steps.Goes, declared.call_steps.Held.Held}
 
 pub entered : {p : PassState} {o : Op} (q : PassState) (r : Result (Unit {0}) Held) → MayBeginCall p o
     → OnOk r (Goes p (Step.Enter o) (record { flight = begun o; answer = None }) q)

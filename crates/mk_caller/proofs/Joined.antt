@@ -4,10 +4,8 @@ use Rattle.mk_laws.proofs.Vocabulary.{Step, World, answer_of, ap, append-nil, ap
 use Rattle.mk_laws.proofs.Vocabulary.{entry_of, left, left_from, left_in_parts, never_behind, subst, sym, [], ◌++◌, ◌∙◌}
 use Rattle.mk_laws.proofs.Vocabulary.{◌∷◌, ◌≡◌}
 use Rattle.mk_never.specs.NeverHeap.{after_op, reply_of}
-use Rattle.mk_caller.proofs.OneStep.{keeps_both}
-use Rattle.mk_caller.proofs.OwnSteps.{steps_append, steps_from}
-use Rattle.mk_caller.specs.Called.{IsDecidedIn, own_calls, own_steps}
-use Rattle.mk_caller.specs.Moves.{IsDecidedAs, MakesSteps}
+use Rattle.mk_caller.proofs.{OneStep.keeps_both, OwnSteps.{steps_append, steps_from}}
+use Rattle.mk_caller.specs.{Called.{IsDecidedIn, own_calls, own_steps}, Moves.{IsDecidedAs, MakesSteps}}
 use Rattle.mk_caller.specs.States.{caller_of_pass, never_of}
 use Rattle.mk_words.specs.States.{PassState}
 

@@ -5,22 +5,15 @@ use Rattle.mk_laws.proofs.Vocabulary.{Step, World, ℕ, after_calls, answer_deci
 use Rattle.mk_laws.proofs.Vocabulary.{append-nil, append_assoc, asked, bases_of, call_decided, caller_number, calls}
 use Rattle.mk_laws.proofs.Vocabulary.{entry_of, false, first_world, flagged, is_under_turn, left, never_behind, refl}
 use Rattle.mk_laws.proofs.Vocabulary.{register_at, replies_of, subst, sym, true, world_behind, [], ◌++◌, ◌<◌, ◌∙◌, ◌∷◌}
-use Rattle.mk_laws.proofs.Vocabulary.{◌≡◌}
-use Rattle.mk_laws.proofs.LastEvents.{comes_last, stands}
-use Rattle.mk_laws.proofs.OtherCalls.{never_continues, registers_are_left}
-use Rattle.mk_laws.proofs.AdmittedStill.{call_on}
-use Rattle.mk_laws.proofs.ImagesOneEvent.{one_event}
-use Rattle.mk_laws.proofs.InvariantJoined.{told_to_images}
+use Rattle.mk_laws.proofs.{Vocabulary.◌≡◌, LastEvents.{comes_last, stands}}
+use Rattle.mk_laws.proofs.{OtherCalls.{never_continues, registers_are_left}, AdmittedStill.call_on}
+use Rattle.mk_laws.proofs.{ImagesOneEvent.one_event, InvariantJoined.told_to_images}
 use Rattle.mk_never.specs.NeverHeap.{after_op, reply_of}
-use Rattle.mk_core.proofs.Histories.{calls_more}
-use Rattle.mk_core.specs.Ranges.{is_word_met}
+use Rattle.mk_core.{proofs.Histories.{calls_more}, specs.Ranges.{is_word_met}}
 use Rattle.mk_caller.proofs.OwnSteps.{by_append, calls_by, others_add_none, own_entry, own_step}
-use Rattle.mk_caller.specs.Moves.{IsDecidedAs, IsUnderway, MakesSteps, is_past_decision}
-use Rattle.mk_caller.specs.Called.{own_calls}
+use Rattle.mk_caller.specs.{Moves.{IsDecidedAs, IsUnderway, MakesSteps, is_past_decision}, Called.own_calls}
 use Rattle.mk_caller.specs.States.{Admits, caller_of_pass, never_of}
-use Rattle.mk_words.proofs.Made.{Made, made, pass_before}
-use Rattle.mk_words.specs.States.{PassState, call_of, event_of}
-use Rattle.mk_words.specs.Steps.{Goes}
+use Rattle.mk_words.{proofs.Made.{Made, made, pass_before}, specs.{States.{PassState, call_of, event_of}, Steps.Goes}}
 
 -- An operation that isn't a New has no flag.
 pub flagged_same : (o : Op) (a : Answer) → is_under_turn o ≡ false → flagged o a ≡ o

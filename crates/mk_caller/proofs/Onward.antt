@@ -3,17 +3,11 @@ use Rattle.mk_laws.proofs.Vocabulary.{Answer, Bool, Config, Flight, None, Op, Pr
 use Rattle.mk_laws.proofs.Vocabulary.{at_rest, begun, false, header_of, if◌then◌else◌, is_under_turn}
 use Rattle.mk_laws.proofs.Vocabulary.{is_unmapped_header, onward, progress_p, progress_q, progress_read, progress_reg}
 use Rattle.mk_laws.proofs.Vocabulary.{refl, refused, stage_behind, steps_of, subst, sym, true, ◌==◌, ◌∙◌, ◌≡◌}
-use Rattle.mk_core.specs.Calls.{progress_getg}
-use Rattle.mk_core.specs.Effects.{progress_probe}
-use Rattle.mk_core.specs.Ranges.{is_word_met}
-use Rattle.mk_caller.proofs.Enabling.{caller_exists}
-use Rattle.mk_caller.proofs.OneStep.{goes_underway, one_step}
+use Rattle.mk_core.specs.{Calls.progress_getg, Effects.progress_probe, Ranges.is_word_met}
+use Rattle.mk_caller.proofs.{Enabling.caller_exists, OneStep.{goes_underway, one_step}}
 use Rattle.mk_caller.specs.Moves.{CallMoves, IsUnderway, MayBeginCall, is_past_decision, is_written, loads_register}
-use Rattle.mk_caller.specs.Moves.{stores_register}
-use Rattle.mk_caller.specs.States.{Admits}
-use Rattle.mk_words.proofs.Made.{pass_before}
-use Rattle.mk_words.specs.States.{PassState, call_of}
-use Rattle.mk_words.specs.Steps.{Goes}
+use Rattle.mk_caller.specs.{Moves.stores_register, States.Admits}
+use Rattle.mk_words.{proofs.Made.{pass_before}, specs.{States.{PassState, call_of}, Steps.Goes}}
 
 pub record Next (c : Config) (f : Flight) (x : Progress) : Type 0 where
   pub op : x.flight.op ≡ f.op

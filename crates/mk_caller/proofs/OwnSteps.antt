@@ -1,16 +1,13 @@
 -- The own steps of a list in parts: events of others have none of them. Its own calls are those of mk_laws.
 pub use Rattle.mk_laws.proofs.CallsBy.{by_append, calls_by, others_add_none, own_entry}
-use Rattle.std.proofs.Common.{filter}
-use Rattle.std.proofs.lemmas.List.Elements.{filter-append}
+use Rattle.std.proofs.{Common.filter, lemmas.List.Elements.filter-append}
 use Rattle.mk_laws.proofs.Vocabulary.{Answer, Bool, Caller, Config, Decided, Event, Host, List, Marker, None, Op}
 use Rattle.mk_laws.proofs.Vocabulary.{Option, Seat, Some, Step, World, ℕ, answer_decided, ap, append-nil, call_decided}
 use Rattle.mk_laws.proofs.Vocabulary.{calls, cond, entry_of, eq-eqb, false, flight_of, found, if◌then◌else◌, is_one_of}
 use Rattle.mk_laws.proofs.Vocabulary.{left, map, map-append, ne_eqb, refl, sym, true, world_behind, [], ◌++◌, ◌==◌, ◌∙◌}
-use Rattle.mk_laws.proofs.Vocabulary.{◌∷◌, ◌≡◌, ◌≢◌}
-use Rattle.mk_laws.proofs.ProtocolFrames.{other_seat}
+use Rattle.mk_laws.proofs.{Vocabulary.{◌∷◌, ◌≡◌, ◌≢◌}, ProtocolFrames.other_seat}
 use Rattle.mk_core.proofs.HistoryParts.{calls_in_parts}
-use Rattle.mk_core.specs.Growing.{AreOfOthers, Finding, is_same_seat, own_from}
-use Rattle.mk_core.specs.History.{calls_from, left_from}
+use Rattle.mk_core.specs.{Growing.{AreOfOthers, Finding, is_same_seat, own_from}, History.{calls_from, left_from}}
 use Rattle.mk_words.proofs.Seats.{same_seat, same_self}
 
 own_append : (c : Config) (s : Seat) (w : World) (xs ys : List Event)

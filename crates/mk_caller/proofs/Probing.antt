@@ -5,24 +5,14 @@ use Rattle.mk_laws.proofs.Vocabulary.{Value, WordOf, World, ℕ, ap, bases_of, c
 use Rattle.mk_laws.proofs.Vocabulary.{header_in, header_of, i_of, if◌then◌else◌, image_scene_of, is_unmapped_header}
 use Rattle.mk_laws.proofs.Vocabulary.{left, never_behind, page_met, q_of, refl, register_at, subst, sym, target_of}
 use Rattle.mk_laws.proofs.Vocabulary.{true, [], ◌*◌, ◌++◌, ◌+◌, ◌<◌, ◌∙◌, ◌∷◌, ◌≡◌, ◌≢◌}
-use Rattle.mk_laws.proofs.OtherCalls.{never_continues, registers_are_left}
-use Rattle.mk_laws.proofs.AdmittedStill.{meets_register}
-use Rattle.mk_laws.proofs.LastEvents.{Stands, stands}
-use Rattle.mk_laws.proofs.OrderlyLists.{not_astray}
-use Rattle.mk_laws.proofs.ProbesStill.{pages_tell, ready}
-use Rattle.mk_laws.proofs.Reached.{mapped_met, unmapped_target}
-use Rattle.mk_laws.proofs.Stages.{calls_stand, is_call_stage}
-use Rattle.mk_laws.proofs.Standings.{InCall, standing}
-use Rattle.mk_laws.specs.Images.{has_q, has_some_q}
-use Rattle.mk_caller.proofs.Enabling.{met_is_small}
-use Rattle.mk_caller.proofs.OneStep.{own_seat}
-use Rattle.mk_caller.proofs.WordsMet.{access_meets}
-use Rattle.mk_caller.specs.States.{caller_of_pass, never_of, value_of}
-use Rattle.mk_caller.specs.Causes.{Probes, ProbesAWord}
+use Rattle.mk_laws.proofs.{OtherCalls.{never_continues, registers_are_left}, AdmittedStill.meets_register}
+use Rattle.mk_laws.proofs.{LastEvents.{Stands, stands}, OrderlyLists.not_astray, ProbesStill.{pages_tell, ready}}
+use Rattle.mk_laws.proofs.{Reached.{mapped_met, unmapped_target}, Stages.{calls_stand, is_call_stage}}
+use Rattle.mk_laws.{proofs.Standings.{InCall, standing}, specs.Images.{has_q, has_some_q}}
+use Rattle.mk_caller.proofs.{Enabling.met_is_small, OneStep.own_seat, WordsMet.access_meets}
+use Rattle.mk_caller.specs.{States.{caller_of_pass, never_of, value_of}, Causes.{Probes, ProbesAWord}}
 use Rattle.mk_caller.specs.Moves.{IsUnderway, is_access}
-use Rattle.mk_words.proofs.Made.{Made, made}
-use Rattle.mk_words.specs.States.{PassState, call_of, event_of}
-use Rattle.mk_words.specs.Steps.{Finds}
+use Rattle.mk_words.{proofs.Made.{Made, made}, specs.{States.{PassState, call_of, event_of}, Steps.Finds}}
 
 -- the word that is got to
 pub record GetsToWord (n : NeverState) (v : Value) (i : ℕ) : Type 0 where

@@ -3,16 +3,12 @@ use Rattle.mk_laws.proofs.Vocabulary.{Answer, Bool, Group, None, Null, Op, Stage
 use Rattle.mk_laws.proofs.Vocabulary.{false, group_of, header_of, i_of, if◌then◌else◌, is_in_range, is_put}
 use Rattle.mk_laws.proofs.Vocabulary.{is_unmapped_header, leb-true, ltb-true, onward, refl, refused, register_met, true}
 use Rattle.mk_laws.proofs.Vocabulary.{word_met, ◌*◌, ◌+◌, ◌-◌, ◌/◌, ◌<◌, ◌^◌, ◌↔◌, ◌≡◌, ◌≤◌}
-use Rattle.mk_core.specs.Effects.{progress_probe}
-use Rattle.mk_core.specs.Ranges.{is_word_met}
+use Rattle.mk_core.specs.{Effects.progress_probe, Ranges.is_word_met}
 use Rattle.mk_laws.specs.Images.{has_q, has_some_q}
 use Rattle.mk_caller.proofs.Enabling.{admitted, enabled, idly_admitted, met_is_small, put_decides_nothing}
-use Rattle.mk_caller.proofs.WordsMet.{null_tells, word_is_met}
-use Rattle.mk_caller.specs.States.{value_of}
-use Rattle.mk_caller.specs.Moves.{CallMoves, IsUnderway, is_access, is_past_decision, loads_register, stores_register}
-use Rattle.mk_words.specs.States.{PassState, call_of}
-use Rattle.mk_words.specs.CallSteps.{register_of}
-use Rattle.mk_words.specs.Steps.{IsAdmittedTo, IsEnabledTo}
+use Rattle.mk_caller.{proofs.WordsMet.{null_tells, word_is_met}, specs.Moves.{stores_register}}
+use Rattle.mk_caller.specs.{States.value_of, Moves.{CallMoves, IsUnderway, is_access, is_past_decision, loads_register}}
+use Rattle.mk_words.specs.{States.{PassState, call_of}, CallSteps.register_of, Steps.{IsAdmittedTo, IsEnabledTo}}
 
 load_comes : (s : Stage) (o : Op) → loads_register s ≡ true → comes_next s o Step.Reg ≡ true
 load_comes Stage.LoadQ o h = refl

@@ -4,18 +4,12 @@ use Rattle.mk_laws.proofs.Vocabulary.{IsPointer, IsSafe, IsSound, Kind, List, Me
 use Rattle.mk_laws.proofs.Vocabulary.{Value, World, ℕ, and_from, ap, arith, bases_of, false, flight_among, flight_of}
 use Rattle.mk_laws.proofs.Vocabulary.{histories_keep_lengths, i_of, image_of, is_put, le-leb, left, lt-ltb, nat_le}
 use Rattle.mk_laws.proofs.Vocabulary.{nat_lt, never_behind, q_of, register_at, register_word, shown, sym, true}
-use Rattle.mk_laws.proofs.Vocabulary.{word_met, ◌%◌, ◌*◌, ◌+◌, ◌/◌, ◌<◌, ◌↔◌, ◌∙◌, ◌≡◌}
-use Rattle.mk_laws.proofs.ImagesKept.{base_at}
-use Rattle.mk_laws.proofs.LastEvents.{stands}
-use Rattle.mk_laws.proofs.Pairs.{shows_plain}
-use Rattle.mk_laws.proofs.ProbesStill.{ready}
-use Rattle.mk_laws.proofs.Ready.{image_zero}
+use Rattle.mk_laws.proofs.{Vocabulary.{word_met, ◌%◌, ◌*◌, ◌+◌, ◌/◌, ◌<◌, ◌↔◌, ◌∙◌, ◌≡◌}, ImagesKept.base_at}
+use Rattle.mk_laws.proofs.{LastEvents.stands, Pairs.shows_plain, ProbesStill.ready, Ready.image_zero}
 use Rattle.mk_core.specs.Ranges.{is_word_met}
 use Rattle.mk_laws.specs.Images.{has_q, has_some_q}
-use Rattle.mk_caller.specs.Moves.{is_access}
-use Rattle.mk_caller.specs.States.{Admits, value_of}
-use Rattle.mk_words.specs.CallSteps.{register_of}
-use Rattle.mk_words.specs.States.{PassState, call_of}
+use Rattle.mk_caller.specs.{Moves.is_access, States.{Admits, value_of}}
+use Rattle.mk_words.specs.{CallSteps.register_of, States.{PassState, call_of}}
 
 meets_some : (n : NeverState) (v : Value) (i : ℕ) (P : Kind → Type 0) → Meets n v i P → Meets n v i (λ kind. Unit {0})
 meets_some n Null i P h = tt

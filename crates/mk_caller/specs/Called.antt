@@ -1,17 +1,10 @@
 -- A call of a caller, in the history: the one clause of all calls.
 use Rattle.std.specs.Prelude.{◌≡◌, ℕ, Bool, ◌==◌, List, [], ◌∷◌, ◌++◌, map, filter, Some, if◌then◌else◌}
-use Rattle.mk_never.specs.declared.operations.Op.{Op}
-use Rattle.mk_never.specs.NeverHeap.{reply_of, after_op}
-use Rattle.mk_never.specs.Laws.{KeepsRegisters}
-use Rattle.mk_core.specs.declared.events.Answer.{Answer}
-use Rattle.mk_core.specs.declared.events.Event.{Event}
-use Rattle.mk_core.specs.declared.events.Step.{Step}
-use Rattle.mk_core.specs.declared.seats.Stage.{Stage}
-use Rattle.mk_core.specs.Calls.{at_rest, one_if, steps_of, is_same_stage, stage_refused}
-use Rattle.mk_core.specs.Decided.{Decided, entry_of}
-use Rattle.mk_core.specs.Growing.{Finding, in_this_call}
-use Rattle.mk_core.specs.History.{left, calls, call_decided, bases_of}
-use Rattle.mk_core.specs.Image.{answer_of}
+use Rattle.mk_never.specs.{declared.operations.Op.Op, NeverHeap.{reply_of, after_op}, Laws.KeepsRegisters}
+use Rattle.mk_core.specs.{declared.events.Answer.Answer, declared.events.Event.Event, declared.events.Step.Step}
+use Rattle.mk_core.specs.{declared.seats.Stage.Stage, Calls.{at_rest, one_if, steps_of, is_same_stage, stage_refused}}
+use Rattle.mk_core.specs.{Decided.{Decided, entry_of}, Growing.{Finding, in_this_call}, History.{left, calls}}
+use Rattle.mk_core.specs.{History.{call_decided, bases_of}, Image.answer_of}
 use Rattle.mk_words.specs.States.{PassState, call_of}
 use Rattle.mk_caller.specs.States.{caller_of_pass, never_of, never_then}
 use Rattle.mk_core.specs.declared.events.Answer.TheVariants as answer

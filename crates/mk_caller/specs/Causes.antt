@@ -1,18 +1,12 @@
 -- Why a call is refused.
 use Rattle.std.specs.Prelude.{◌≡◌, ℕ, List, ◌∷◌, ◌++◌}
-use Rattle.mk_never.specs.declared.operations.Op.{Op}
-use Rattle.mk_never.specs.declared.values.Target.{Target}
-use Rattle.mk_never.specs.Laws.{KeepsRegisters}
-use Rattle.mk_never.specs.declared.values.Target.TheVariants.{Unmapped, WordOf}
-use Rattle.mk_never.specs.NeverHeap.{target_of}
-use Rattle.mk_core.specs.declared.events.Event.{Event}
-use Rattle.mk_core.specs.Calls.{at_rest, q_of, i_of}
-use Rattle.mk_words.specs.States.{PassState, call_of, event_of}
-use Rattle.mk_words.specs.CallSteps.{FindsHeld}
-use Rattle.mk_caller.specs.declared.refusals.Refusal.{Refusal}
-use Rattle.mk_caller.specs.declared.refusals.Refusal.TheVariants.{Fault, Null, Held}
-use Rattle.mk_caller.specs.States.{caller_of_pass, never_of, never_then, value_of}
-use Rattle.mk_caller.specs.Called.{own_calls, Called}
+use Rattle.mk_never.specs.{declared.operations.Op.Op, declared.values.Target.Target, Laws.KeepsRegisters}
+use Rattle.mk_never.specs.{declared.values.Target.TheVariants.{Unmapped, WordOf}, NeverHeap.target_of}
+use Rattle.mk_core.specs.{declared.events.Event.Event, Calls.{at_rest, q_of, i_of}}
+use Rattle.mk_words.specs.{States.{PassState, call_of, event_of}, CallSteps.FindsHeld}
+use Rattle.mk_caller.specs.{declared.refusals.Refusal.Refusal, declared.refusals.Refusal.TheVariants.{Fault, Null}}
+use Rattle.mk_caller.specs.{declared.refusals.Refusal.TheVariants.Held, States.{caller_of_pass, never_of, never_then}}
+use Rattle.mk_caller.specs.{States.value_of, Called.{own_calls, Called}}
 use Rattle.mk_never.specs.declared.values.Value.TheVariants.{Null as NullValue}
 use Rattle.mk_core.specs.declared.events.Answer.TheVariants as answer
 use Rattle.mk_core.specs.declared.events.Step.TheVariants as step

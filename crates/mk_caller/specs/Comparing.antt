@@ -1,10 +1,8 @@
 -- What a compare and exchange compares: values of the heap that never reuses storage.
 use Rattle.std.specs.Prelude.{◌≡◌, ◌↔◌, ℕ, Bool, true}
-use Rattle.mk_never.specs.declared.values.Target.TheVariants.{WordOf}
-use Rattle.mk_never.specs.NeverHeap.{word_at, target_of}
+use Rattle.mk_never.specs.{declared.values.Target.TheVariants.WordOf, NeverHeap.{word_at, target_of}}
 use Rattle.mk_words.specs.States.{PassState}
-use Rattle.mk_caller.specs.States.{never_then, value_of}
-use Rattle.mk_caller.specs.Called.{Says}
+use Rattle.mk_caller.specs.{States.{never_then, value_of}, Called.Says}
 use Rattle.mk_never.specs.declared.operations.Op.TheVariants as op
 
 -- At the event that decides the call, its access gets to a word of an allocation, and the call says yes exactly where

@@ -3,8 +3,7 @@ use Rattle.std.specs.Prelude.{◌≡◌, ◌≢◌, ℕ, ◌<◌, Option, Some, 
 use Rattle.mk_never.specs.declared.operations.Op.{Op}
 use Rattle.mk_core.specs.declared.events.Answer.{Answer}
 use Rattle.mk_words.specs.States.{PassState}
-use Rattle.mk_caller.specs.States.{value_of}
-use Rattle.mk_caller.specs.Called.{Called}
+use Rattle.mk_caller.specs.{States.value_of, Called.Called}
 use Rattle.mk_never.specs.declared.operations.Op.TheVariants as op
 
 -- the register that an operation sets

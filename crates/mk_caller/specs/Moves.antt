@@ -1,23 +1,15 @@
 -- A call on its way, from one of its steps to the next.
 use Rattle.std.specs.Prelude.{◌≡◌, ℕ, ◌<◌, Bool, true, false, List, [], ◌∷◌, ◌++◌, map, Option, Some, None}
 use Rattle.std.specs.List.{list_any}
-use Rattle.mk_never.specs.declared.operations.Op.{Op}
-use Rattle.mk_never.specs.Laws.{KeepsRegisters}
-use Rattle.mk_core.specs.declared.events.Answer.{Answer}
-use Rattle.mk_core.specs.declared.events.Event.{Event}
-use Rattle.mk_core.specs.Ranges.{is_word_met}
-use Rattle.mk_core.specs.declared.events.Seat.TheVariants.{Caller}
-use Rattle.mk_core.specs.declared.events.Step.{Step}
-use Rattle.mk_core.specs.declared.seats.Stage.{Stage}
-use Rattle.mk_core.specs.declared.seats.Flight.{Flight}
-use Rattle.mk_core.specs.declared.seats.Progress.{Progress}
+use Rattle.mk_never.specs.{declared.operations.Op.Op, Laws.KeepsRegisters}
+use Rattle.mk_core.specs.{declared.events.Answer.Answer, declared.events.Event.Event, Ranges.is_word_met}
+use Rattle.mk_core.specs.{declared.events.Seat.TheVariants.Caller, declared.events.Step.Step}
+use Rattle.mk_core.specs.{declared.seats.Stage.Stage, declared.seats.Flight.Flight, declared.seats.Progress.Progress}
 use Rattle.mk_core.specs.Calls.{at_rest, begun, onward, refused, is_same_stage, is_under_turn, stage_refused, one_if}
-use Rattle.mk_core.specs.Calls.{progress_reg, progress_read, progress_getg}
-use Rattle.mk_core.specs.Decided.{entry_of}
-use Rattle.mk_core.specs.History.{never_behind}
+use Rattle.mk_core.specs.{Calls.{progress_reg, progress_read, progress_getg}, Decided.entry_of, History.never_behind}
 use Rattle.mk_words.specs.States.{PassState, IsPass, call_of}
-use Rattle.mk_caller.specs.States.{caller_of_pass, never_of, Admits}
-use Rattle.mk_caller.specs.Called.{step_at, refused_from, own_steps, own_calls, IsDecidedIn}
+use Rattle.mk_caller.specs.{States.{caller_of_pass, never_of, Admits}, Called.{step_at, refused_from, own_steps}}
+use Rattle.mk_caller.specs.Called.{own_calls, IsDecidedIn}
 use Rattle.mk_never.specs.declared.operations.Op.TheVariants as op
 use Rattle.mk_core.specs.declared.events.Answer.TheVariants as answer
 use Rattle.mk_core.specs.declared.events.Step.TheVariants as step

@@ -1,13 +1,8 @@
 -- What contracts see of a caller.
 use Rattle.std.specs.Prelude.{◌≡◌, ℕ, Bool, true, false, List, [], ◌++◌, Option, Some, None}
-use Rattle.mk_never.specs.declared.operations.Op.{Op}
-use Rattle.mk_never.specs.declared.values.Value.{Value}
-use Rattle.mk_never.specs.NeverHeap.{NeverState, register_at}
+use Rattle.mk_never.specs.{declared.operations.Op.Op, declared.values.Value.Value, NeverHeap.{NeverState, register_at}}
 use Rattle.mk_never.specs.Admitted.{IsAdmitted}
-use Rattle.mk_core.specs.Accesses.{caller_number}
-use Rattle.mk_core.specs.History.{never_behind}
-use Rattle.mk_core.specs.Calls.{at_rest}
-use Rattle.mk_core.specs.declared.events.Event.{Event}
+use Rattle.mk_core.specs.{Accesses.caller_number, History.never_behind, Calls.at_rest, declared.events.Event.Event}
 use Rattle.mk_core.specs.declared.events.Seat.TheVariants.{Caller}
 use Rattle.mk_words.specs.States.{WordsState, PassState, call_of}
 

@@ -4,8 +4,7 @@ use Rattle.mk_laws.proofs.Vocabulary.{Bool, Decided, List, NeverState, Null, Num
 use Rattle.mk_laws.proofs.Vocabulary.{after_calls, after_free, asked, cond, eq-eqb, false, get_or-set_other}
 use Rattle.mk_laws.proofs.Vocabulary.{get_or-set_same, global_at, if◌then◌else◌, is_same, length, refl, register_at}
 use Rattle.mk_laws.proofs.Vocabulary.{sym, target_of, true, with_register, with_word, word_at, [], ◌<◌, ◌∙◌, ◌∷◌, ◌≡◌}
-use Rattle.mk_never.specs.NeverHeap.{after_op, left_at}
-use Rattle.mk_never.specs.declared.values.Target.{Target}
+use Rattle.mk_never.specs.{NeverHeap.{after_op, left_at}, declared.values.Target.Target}
 use Rattle.mk_never.specs.declared.values.Target.TheVariants.{Nothing}
 use Rattle.mk_caller_clients.specs.Setters.{is_set_of}
 

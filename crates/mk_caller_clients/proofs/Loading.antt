@@ -4,21 +4,15 @@ use Rattle.mk_laws.proofs.Vocabulary.{KeepsRegisters, List, Meets, NeverState, N
 use Rattle.mk_laws.proofs.Vocabulary.{WordOf, ℕ, after_calls, allocation_at, answer_of, ap, append-nil, append_assoc}
 use Rattle.mk_laws.proofs.Vocabulary.{asked, bases_of, cond, earlier_part_is_history, false, if◌then◌else◌, is_unmapped}
 use Rattle.mk_laws.proofs.Vocabulary.{target_of, true, word_at, [], ◌++◌, ◌+◌, ◌<◌, ◌∙◌, ◌∷◌, ◌≡◌}
-use Rattle.mk_laws.proofs.LastEvents.{comes_last, stands}
-use Rattle.mk_laws.proofs.AdmittedStill.{meets_register}
-use Rattle.mk_laws.proofs.OtherCalls.{never_continues}
+use Rattle.mk_laws.proofs.{LastEvents.{comes_last, stands}, AdmittedStill.meets_register, OtherCalls.never_continues}
 use Rattle.mk_never.proofs.Stores.{load_gives_stored, store_is_inside}
-use Rattle.mk_never.specs.NeverHeap.{after_op, reply_at, reply_of}
-use Rattle.mk_never.specs.Laws.{NoneStoresTo, StoresTo}
-use Rattle.mk_never.specs.declared.operations.Reply.{Reply}
-use Rattle.mk_never.specs.declared.values.Target.{Target}
+use Rattle.mk_never.specs.{NeverHeap.{after_op, reply_at, reply_of}, Laws.{NoneStoresTo, StoresTo}}
+use Rattle.mk_never.specs.{declared.operations.Reply.Reply, declared.values.Target.Target}
 use Rattle.mk_never.specs.declared.values.Target.TheVariants.{Nothing}
 use Rattle.mk_caller.proofs.After.{calls_leave_other_registers, still_caller}
-use Rattle.mk_caller.specs.Called.{Called}
-use Rattle.mk_caller.specs.States.{Admits, caller_of_pass, never_of, value_of}
+use Rattle.mk_caller.specs.{Called.Called, States.{Admits, caller_of_pass, never_of, value_of}}
 use Rattle.mk_caller_clients.proofs.Between.{at_once, before, between, never_later, never_there, none_between, picked}
-use Rattle.mk_caller_clients.proofs.Between.{place, same_config, same_number}
-use Rattle.mk_caller_clients.specs.Setters.{IsOnlyStore, is_store}
+use Rattle.mk_caller_clients.{proofs.Between.{place, same_config, same_number}, specs.Setters.{IsOnlyStore, is_store}}
 use Rattle.mk_words.specs.States.{PassState}
 use Rattle.mk_laws.proofs.Vocabulary.{left, never_behind, number_of as number_in, refl, register_at, subst, sym}
 

@@ -2,19 +2,14 @@
 use Rattle.std.proofs.Common.{Err, IfOk, Ok, Result}
 use Rattle.mk_laws.proofs.Vocabulary.{Answer, Bool, Config, Event, List, NeverState, Op, ℕ, ap, cases_eq, eq-eqb}
 use Rattle.mk_laws.proofs.Vocabulary.{global_at, inl, inr, is_same, length, never_behind, one_if, refl, subst, sym}
-use Rattle.mk_laws.proofs.Vocabulary.{true, ◌++◌, ◌<◌, ◌∙◌, ◌≡◌, ◌≢◌}
-use Rattle.mk_laws.proofs.OtherCalls.{never_continues}
-use Rattle.mk_never.proofs.Sameness.{same_from_equal}
-use Rattle.mk_never.specs.Admitted.{IsCaller}
+use Rattle.mk_laws.proofs.{Vocabulary.{true, ◌++◌, ◌<◌, ◌∙◌, ◌≡◌, ◌≢◌}, OtherCalls.never_continues}
+use Rattle.mk_never.{proofs.Sameness.{same_from_equal}, specs.Admitted.{IsCaller}}
 use Rattle.mk_caller.proofs.After.{caller_there, calls_leave_other_registers, set_same, still_caller, value_left}
-use Rattle.mk_caller.specs.States.{Admits, caller_of_pass, never_of, value_of}
-use Rattle.mk_caller.specs.Called.{Called, IsAnswered}
+use Rattle.mk_caller.specs.{States.{Admits, caller_of_pass, never_of, value_of}, Called.{Called, IsAnswered}}
 use Rattle.mk_caller_clients.proofs.Between.{at_once, before, between, decided, never_later, never_there, none_between}
-use Rattle.mk_caller_clients.proofs.Between.{others, place, same_config}
-use Rattle.mk_caller_clients.proofs.Globals.{calls_keep, set_gives}
+use Rattle.mk_caller_clients.proofs.{Between.{others, place, same_config}, Globals.{calls_keep, set_gives}}
 use Rattle.mk_caller_clients.specs.Setters.{HasSeenAllOf, IsOnlySetter, TakesOut, is_set_of}
-use Rattle.mk_words.specs.States.{PassState}
-use Rattle.mk_words.specs.declared.call_steps.Held.{Held}
+use Rattle.mk_words.specs.{States.PassState, declared.call_steps.Held.Held}
 
 pub same_is : (p : PassState) (x y : ℕ) → value_of p x ≡ value_of p y → is_same (value_of p x) (value_of p y) ≡ true
 same_is p x y e = same_from_equal (value_of p x) (value_of p y) e

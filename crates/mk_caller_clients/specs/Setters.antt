@@ -1,13 +1,10 @@
 -- The calls that set a global, and those that store.
 use Rattle.std.specs.Prelude.{◌≡◌, ℕ, Bool, true, false, ◌==◌, List, [], ◌∷◌, ◌++◌, filter}
 use Rattle.mk_never.specs.declared.operations.Op.{Op}
-use Rattle.mk_core.specs.declared.events.Answer.TheVariants.{Done}
-use Rattle.mk_core.specs.declared.events.Event.{Event}
-use Rattle.mk_core.specs.Decided.{Decided}
+use Rattle.mk_core.specs.{declared.events.Answer.TheVariants.Done, declared.events.Event.Event, Decided.Decided}
 use Rattle.mk_core.specs.History.{calls}
 use Rattle.mk_words.specs.States.{PassState}
-use Rattle.mk_caller.specs.States.{caller_of_pass, value_of, Admits}
-use Rattle.mk_caller.specs.Called.{Called}
+use Rattle.mk_caller.specs.{States.{caller_of_pass, value_of, Admits}, Called.Called}
 use Rattle.mk_never.specs.declared.operations.Op.TheVariants as op
 
 abbrev pub is_set_of : ℕ → Op → Bool

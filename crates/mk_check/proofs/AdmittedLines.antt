@@ -3,16 +3,15 @@ use Rattle.mk_check.proofs.Vocabulary.{Answer, At, Bool, Fed, HasFew, IfSome, Is
 use Rattle.mk_check.proofs.Vocabulary.{Op, Option, Some, Value, ℕ, arith, base_of, false, flagged, global_names}
 use Rattle.mk_check.proofs.Vocabulary.{global_type, globals_of, kind_of, length, moved_by, number_of_name, op_of}
 use Rattle.mk_check.proofs.Vocabulary.{pointer_at, pointer_names, refl, scope_of, slice_get, subst, sym, type_names}
-use Rattle.mk_check.proofs.Vocabulary.{◌<◌, ◌≡◌}
-use Rattle.mk_check.proofs.DeclaredPlaces.{global_place, global_within, pointer_within, type_place}
-use Rattle.mk_check.proofs.DeclaredRegisters.{AreAsDeclared, FitsScript, global_word, kind_at, loaded_word}
-use Rattle.mk_check.proofs.DeclaredRegisters.{meets_before, meets_weaker, moved_word, register_of, set_register}
-use Rattle.mk_check.proofs.TypedLines.{PointsBefore, PointsBeforeOne, PointsToGlobal, Says}
+use Rattle.mk_check.proofs.{Vocabulary.{◌<◌, ◌≡◌}, DeclaredPlaces.{global_place, global_within, pointer_within}}
+use Rattle.mk_check.proofs.{DeclaredPlaces.type_place, DeclaredRegisters.{AreAsDeclared, FitsScript, global_word}}
+use Rattle.mk_check.proofs.DeclaredRegisters.{kind_at, loaded_word, meets_before, meets_weaker, moved_word, register_of}
+use Rattle.mk_check.proofs.{DeclaredRegisters.set_register, TypedLines.{PointsBefore, PointsBeforeOne, PointsToGlobal}}
+use Rattle.mk_check.proofs.TypedLines.{Says}
 use Rattle.mk_never.proofs.Edits.{if_by, left_at_by}
 use Rattle.mk_never.specs.Admitted.{AccessIsAdmitted, IsAdmitted, IsBase, IsNumber, IsPointer, Meets}
-use Rattle.mk_never.specs.Admitted.{OperandsAreInRange, StoreIsAdmitted}
-use Rattle.mk_never.specs.NeverHeap.{after_op, target_of, with_new, with_register, word_at}
-use Rattle.mk_never.specs.declared.values.Value.TheVariants.{Null}
+use Rattle.mk_never.specs.{Admitted.{OperandsAreInRange, StoreIsAdmitted}, NeverHeap.{after_op, target_of, with_new}}
+use Rattle.mk_never.specs.{NeverHeap.{with_register, word_at}, declared.values.Value.TheVariants.Null}
 use Rattle.mk_script.specs.declared.items.Item.TheVariants.{Casp, Clear, Free, Getn, Getp, Isnull, Lea, Loadg, Move}
 use Rattle.mk_script.specs.declared.items.Item.TheVariants.{New, Same, Setn, Setp, Show, Storeg}
 use Rattle.mk_script.specs.declared.items.TypeWord.TheVariants.{Number, Pointer}

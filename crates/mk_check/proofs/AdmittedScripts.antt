@@ -1,6 +1,5 @@
 -- The operations of a well-typed program's scripts are admitted.
-use Rattle.std.proofs.lemmas.List.Elements.{All-head, All-nil, All-push, All-tail}
-use Rattle.std.proofs.Common.{eq-eqb, eqb-true, ◌≢◌}
+use Rattle.std.proofs.{lemmas.List.Elements.{All-head, All-nil, All-push, All-tail}, Common.{eq-eqb, eqb-true, ◌≢◌}}
 use Rattle.std.proofs.lemmas.List.{get_or-replicate}
 use Rattle.mk_check.proofs.Vocabulary.{All, Answer, Blocks, Bool, Done, Fed, HasFew, IfSome, IsOfKind, Item, Line, List}
 use Rattle.mk_check.proofs.Vocabulary.{NeverState, None, Op, Option, Scope, Some, Value, ℕ, ap, append-nil, arith}
@@ -9,23 +8,16 @@ use Rattle.mk_check.proofs.Vocabulary.{flagged, globals_of, if◌then◌else◌,
 use Rattle.mk_check.proofs.Vocabulary.{number_of_name, op_of, option_map, pointer_names, refl, run, scope_of}
 use Rattle.mk_check.proofs.Vocabulary.{script_names, script_of, script_scope, subst, sym, take_answer, take_answers}
 use Rattle.mk_check.proofs.Vocabulary.{true, types_of, with_answer, [], ◌*◌, ◌++◌, ◌+◌, ◌<◌, ◌==◌, ◌∙◌, ◌∷◌, ◌≡◌, ◌≤◌}
-use Rattle.mk_check.proofs.AdmittedLines.{admitted, line_keeps}
-use Rattle.mk_check.proofs.DeclaredRegisters.{AreAsDeclared, FitsScript, kind_at}
-use Rattle.mk_check.proofs.LinesLeft.{AllPlaced-run, AllPlaced-take_answers, next_placed, next_stands, placed_of_script}
-use Rattle.mk_check.proofs.DeclaredPlaces.{pointer_within}
-use Rattle.mk_check.proofs.FeedLaws.{ops-feed_push}
-use Rattle.mk_check.proofs.FewNames.{text_has_few}
-use Rattle.mk_check.proofs.Numbered.{ops-with_answer, run_agrees}
-use Rattle.mk_check.proofs.TypedLines.{Says}
-use Rattle.mk_check.proofs.TypedScripts.{script_says}
+use Rattle.mk_check.proofs.{AdmittedLines.{admitted, line_keeps}, DeclaredRegisters.{AreAsDeclared, FitsScript}}
+use Rattle.mk_check.proofs.{DeclaredRegisters.kind_at, LinesLeft.{AllPlaced-run, AllPlaced-take_answers, next_placed}}
+use Rattle.mk_check.proofs.{LinesLeft.{next_stands, placed_of_script}, DeclaredPlaces.pointer_within}
+use Rattle.mk_check.proofs.{FeedLaws.ops-feed_push, FewNames.text_has_few, Numbered.{ops-with_answer, run_agrees}}
+use Rattle.mk_check.proofs.{TypedLines.Says, TypedScripts.script_says}
 use Rattle.mk_never.proofs.Later.{op_stays}
-use Rattle.mk_never.specs.Admitted.{AreAdmitted, IsAdmitted}
-use Rattle.mk_never.specs.Laws.{Continues, KeepsRegisters}
-use Rattle.mk_never.specs.NeverHeap.{Call, after_calls, after_op}
-use Rattle.mk_never.specs.declared.values.Value.TheVariants.{Null}
+use Rattle.mk_never.specs.{Admitted.{AreAdmitted, IsAdmitted}, Laws.{Continues, KeepsRegisters}}
+use Rattle.mk_never.specs.{NeverHeap.{Call, after_calls, after_op}, declared.values.Value.TheVariants.Null}
 use Rattle.mk_check.specs.Laws.{AnswersAreNoted, AreAdmittedFor, AreNotedBy, AreOfScripts, IsChecked, IsScript}
-use Rattle.mk_check.specs.Laws.{NextIsAdmitted, OthersAreIgnored, heap_of, ops_of_caller}
-use Rattle.mk_check.specs.Blocks.{AllPlaced}
+use Rattle.mk_check.specs.{Laws.{NextIsAdmitted, OthersAreIgnored, heap_of, ops_of_caller}, Blocks.AllPlaced}
 use Rattle.mk_never.proofs.Registers as registers
 use Rattle.mk_never.proofs.TypedCalls as typed_calls
 

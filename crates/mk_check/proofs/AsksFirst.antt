@@ -1,6 +1,5 @@
 -- Steps that come to an operation before anything is printed, and before a block ends.
-use Rattle.std.proofs.lemmas.Option.{get_or_from_slice_get, slice_get-get_or}
-use Rattle.std.proofs.Common.{IsTrue, slice_set, ◌||◌}
+use Rattle.std.proofs.{lemmas.Option.{get_or_from_slice_get, slice_get-get_or}, Common.{IsTrue, slice_set, ◌||◌}}
 use Rattle.std.proofs.lemmas.List.{drop_all, set_split}
 use Rattle.mk_check.proofs.Vocabulary.{Bool, Frame, FrameIsWithin, FramesAreWithin, HasStopped, Instruction, List}
 use Rattle.mk_check.proofs.Vocabulary.{MovesOn, Node, None, Option, Place, PlaceIsWithin, Some, ℕ, after_line}
@@ -8,11 +7,9 @@ use Rattle.mk_check.proofs.Vocabulary.{and_parts, ap, arith, asks_first, false, 
 use Rattle.mk_check.proofs.Vocabulary.{kept_in, length, length_push, node_at, not, op_asked, refl, slice_get}
 use Rattle.mk_check.proofs.Vocabulary.{slice_get_within, steps_at, steps_from, subst, suc, sym, take, take_all}
 use Rattle.mk_check.proofs.Vocabulary.{take_more, trees, true, with_kept, zero, [], ◌&&◌, ◌++◌, ◌+◌, ◌-◌, ◌<◌, ◌∙◌, ◌∷◌}
-use Rattle.mk_check.proofs.Vocabulary.{◌≡◌}
-use Rattle.mk_check.proofs.Moves.{FramesAreWithin_pop, asks_at, end_goes_on, line_goes_on}
-use Rattle.mk_check.proofs.TreeNodes.{IsAt, steps_at-trees}
+use Rattle.mk_check.proofs.{Vocabulary.◌≡◌, Moves.{FramesAreWithin_pop, asks_at, end_goes_on, line_goes_on}}
+use Rattle.mk_check.{proofs.TreeNodes.{IsAt, steps_at-trees}, specs.Trees.{place_behind_block, place_in_branch}}
 use Rattle.mk_check.specs.Trees.{place_in_rounds, resumed_node, LeavesBlock, MovesToOp, node_after, node_to_go_on}
-use Rattle.mk_check.specs.Trees.{place_behind_block, place_in_branch}
 
 pub asked_so : (numbers : List ℕ) (instruction : Instruction)
     → is_some (op_asked numbers instruction) ≡ is_asking instruction

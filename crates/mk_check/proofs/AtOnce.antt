@@ -4,14 +4,9 @@ use Rattle.mk_check.proofs.Vocabulary.{KeptState, List, Node, Place, PlaceFits, 
 use Rattle.mk_check.proofs.Vocabulary.{after_answer, and_parts, ap, append-nil, arith, asks_at, false, is_some, kept_in}
 use Rattle.mk_check.proofs.Vocabulary.{left_in, length, node_at, not, op_asked, op_of_node, refusal_line, refusal_text}
 use Rattle.mk_check.proofs.Vocabulary.{stop_on_answer, stopped_in, true, with_kept, with_text, work_left, [], ◌++◌, ◌<◌}
-use Rattle.mk_check.proofs.Vocabulary.{◌∙◌, ◌∷◌, ◌≡◌}
-use Rattle.mk_check.proofs.AsksFirst.{asked_so}
-use Rattle.mk_check.proofs.Moves.{line_fits, unfolded_line}
-use Rattle.mk_check.proofs.Stands.{answer_stands, waits_for_answer}
-use Rattle.mk_check.proofs.TreeNodes.{IsAt, is_at}
-use Rattle.mk_check.proofs.WorkLaws.{answer_nearer}
-use Rattle.mk_check.specs.Feed.{is_refusal}
-use Rattle.mk_check.specs.Steps.{is_show, is_silent}
+use Rattle.mk_check.proofs.{Vocabulary.{◌∙◌, ◌∷◌, ◌≡◌}, AsksFirst.asked_so, Moves.{line_fits, unfolded_line}}
+use Rattle.mk_check.proofs.{Stands.{answer_stands, waits_for_answer}, TreeNodes.{IsAt, is_at}, WorkLaws.answer_nearer}
+use Rattle.mk_check.specs.{Feed.is_refusal, Steps.{is_show, is_silent}}
 use Rattle.mk_check.proofs.Moves as moves
 
 no_text : (a : Answer) → not (is_refusal a) ≡ true → refusal_text a ≡ []

@@ -3,12 +3,9 @@ use Rattle.std.proofs.Common.{fold}
 use Rattle.mk_check.proofs.Vocabulary.{AddsLine, Built, Element, Instruction, List, Node, Steps, ℕ, ap, arith}
 use Rattle.mk_check.proofs.Vocabulary.{fold_push, get_or_append_left, get_or_at, length, length_push, parts_in, refl}
 use Rattle.mk_check.proofs.Vocabulary.{steps_at, steps_from, subst, sym, trees, with_element, with_node_and_part}
-use Rattle.mk_check.proofs.Vocabulary.{with_part, [], ◌++◌, ◌+◌, ◌<◌, ◌∙◌, ◌∷◌, ◌≡◌, ◌≤◌}
-use Rattle.mk_check.proofs.TreeNodes.{trees_push}
-use Rattle.mk_check.specs.Building.{IsSoundlyBuilt, PartsAreWithin, StepPart, part_at, parts_at}
-use Rattle.mk_check.specs.Steps.{Done}
-use Rattle.mk_check.specs.Trees.{with_node}
-use Rattle.mk_check.specs.declared.feeding.building.Part.{Part}
+use Rattle.mk_check.proofs.{Vocabulary.{with_part, [], ◌++◌, ◌+◌, ◌<◌, ◌∙◌, ◌∷◌, ◌≡◌, ◌≤◌}, TreeNodes.trees_push}
+use Rattle.mk_check.specs.{Building.{IsSoundlyBuilt, PartsAreWithin, StepPart, part_at, parts_at}, Steps.Done}
+use Rattle.mk_check.specs.{Trees.with_node, declared.feeding.building.Part.Part}
 
 length-fold_with_node : (built : List Steps) (nodes : List Node)
     → length (fold with_node built nodes) ≡ length built + length nodes

@@ -1,24 +1,19 @@
 -- The configuration of a well typed program of some text is within its limits.
-use Rattle.std.proofs.Common.{add-one}
-use Rattle.std.proofs.lemmas.List.Elements.{All-cons, All-nil}
+use Rattle.std.proofs.{Common.add-one, lemmas.List.Elements.{All-cons, All-nil}}
 use Rattle.mk_check.proofs.Vocabulary.{All, ArePassed, Around, At, Bool, Config, Item, Kind, List, None, Option, Some}
 use Rattle.mk_check.proofs.Vocabulary.{TypeWord, Which, ℕ, ap, arith, bytes_eq, false≢true, fault_from, globals_among}
 use Rattle.mk_check.proofs.Vocabulary.{globals_of, if◌then◌else◌, is_some, kind_of, kinds_among, kinds_of, length}
 use Rattle.mk_check.proofs.Vocabulary.{length-map, map, number_of_name, pages_of, refl, resident_of, script_names}
 use Rattle.mk_check.proofs.Vocabulary.{slice_get, slice_get_within, this_script, true, type_names, type_words, types_of}
 use Rattle.mk_check.proofs.Vocabulary.{typing_fault, word_among, [], ◌++◌, ◌+◌, ◌<◌, ◌or◌, ◌∷◌, ◌≡◌, ◌≤◌}
-use Rattle.mk_check.proofs.FaultLemmas.{at_line-None, has_value, or-None, unless-None}
+use Rattle.mk_check.{proofs.FaultLemmas.{at_line-None, has_value, or-None, unless-None}, specs.Typing.{type_fault}}
 use Rattle.mk_check.proofs.GrammarLemmas.{at_most-None, heap_within, length-global_names, length-script_names}
-use Rattle.mk_check.proofs.GrammarLemmas.{length-type_names}
-use Rattle.mk_check.proofs.NumberLemmas.{length-globals_among, length-kinds_among}
+use Rattle.mk_check.proofs.{GrammarLemmas.length-type_names, NumberLemmas.{length-globals_among, length-kinds_among}}
 use Rattle.mk_check.proofs.FormLemmas.{line_item-word}
-use Rattle.mk_check.specs.Declarations.{config_of}
-use Rattle.mk_check.specs.Typing.{IsWellTyped, inside_fault, offsets_fault, pointers_fault, type_fault}
+use Rattle.mk_check.specs.{Declarations.config_of, Typing.{IsWellTyped, inside_fault, offsets_fault, pointers_fault}}
 use Rattle.mk_core.specs.Config.{IsAmong, IsTypeAmong, IsWithinLimits}
-use Rattle.mk_script.proofs.PassedLines.{IsWhole}
-use Rattle.mk_script.specs.declared.items.TypeWord.TheVariants.{Number, Pointer}
-use Rattle.mk_script.specs.Lines.{at_most}
-use Rattle.mk_script.specs.declared.items.Item.TheVariants.{Global, TypeLine}
+use Rattle.mk_script.{proofs.PassedLines.{IsWhole}, specs.declared.items.Item.TheVariants.{Global, TypeLine}}
+use Rattle.mk_script.specs.{declared.items.TypeWord.TheVariants.{Number, Pointer}, Lines.at_most}
 
 -- A type that is found has a number, and its kinds stand there.
 pub record IsAt (types : List (List Kind)) (place : ℕ) (found : List Kind) : Type 0 where

@@ -1,16 +1,13 @@
 -- Counts of parts, as a script is read from its end.
-use Rattle.std.proofs.lemmas.List.{length-reverse, reverse-append, reverse-reverse, set_at}
-use Rattle.std.proofs.Common.{set}
+use Rattle.std.proofs.{lemmas.List.{length-reverse, reverse-append, reverse-reverse, set_at}, Common.set}
 use Rattle.std.proofs.lemmas.Grind.{reverse_onto}
 use Rattle.mk_check.proofs.Vocabulary.{Bool, Item, List, Part, PartCount, ℕ, ap, append_assoc, arith}
 use Rattle.mk_check.proofs.Vocabulary.{before_next_script, branch, cases_lt, counts_of, drop, drop_more, false, get_or}
 use Rattle.mk_check.proofs.Vocabulary.{get_or_at, if◌then◌else◌, is_script, length, length-append, max}
 use Rattle.mk_check.proofs.Vocabulary.{outermost_blocks, refl, reverse, suc, take, take_more, true, with_item, zero, []}
-use Rattle.mk_check.proofs.Vocabulary.{◌*◌, ◌++◌, ◌+◌, ◌-◌, ◌<◌, ◌∙◌, ◌∷◌, ◌≡◌}
-use Rattle.mk_check.specs.Lengths.{length_of}
-use Rattle.mk_check.specs.Counts.{counts_with, innermost_count, saturated_count, with_count, with_innermost}
-use Rattle.mk_script.specs.declared.items.Item.TheVariants.{Else, End, If, Repeat}
-use Rattle.mk_script.specs.Scopes.{is_instruction}
+use Rattle.mk_check.{proofs.Vocabulary.{◌*◌, ◌++◌, ◌+◌, ◌-◌, ◌<◌, ◌∙◌, ◌∷◌, ◌≡◌}, specs.Counts.{with_innermost}}
+use Rattle.mk_check.specs.{Lengths.length_of, Counts.{counts_with, innermost_count, saturated_count, with_count}}
+use Rattle.mk_script.specs.{declared.items.Item.TheVariants.{Else, End, If, Repeat}, Scopes.is_instruction}
 
 saturated_count-rounds : (rounds body : ℕ)
     → saturated_count (1 + rounds * (1 + body)) ≡ saturated_count (1 + rounds * (1 + saturated_count body))

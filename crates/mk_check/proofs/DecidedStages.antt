@@ -2,22 +2,13 @@
 use Rattle.std.specs.List.{list_any}
 use Rattle.mk_check.proofs.Vocabulary.{Answer, Bool, Config, None, Op, Option, Some, ℕ, and_parts, arith, false}
 use Rattle.mk_check.proofs.Vocabulary.{if◌then◌else◌, refl, subst, sym, true, ◌+◌, ◌==◌, ◌≡◌}
-use Rattle.mk_geom.specs.Headers.{header_of}
-use Rattle.mk_geom.specs.declared.addresses.Cell.{Cell}
+use Rattle.mk_geom.specs.{Headers.header_of, declared.addresses.Cell.Cell}
 use Rattle.mk_core.specs.Calls.{begun, is_same_stage, onward, progress_p, progress_q, progress_reg, refused}
-use Rattle.mk_core.specs.Calls.{stage_behind, stage_refused, steps_of, still}
-use Rattle.mk_core.specs.Effects.{decided, progress, progress_freed, sees_double}
-use Rattle.mk_core.specs.Order.{comes_next, is_of_any_holder, may_decide_new}
-use Rattle.mk_core.specs.Cells.{is_unmapped_header}
-use Rattle.mk_core.specs.Enabled.{holder_may}
-use Rattle.mk_core.specs.Moments.{Moment}
-use Rattle.mk_core.specs.TurnConditions.{is_decided}
-use Rattle.mk_core.specs.Words.{Words}
-use Rattle.mk_core.specs.declared.events.Step.{Step}
-use Rattle.mk_core.specs.declared.events.Word.{Word}
-use Rattle.mk_core.specs.declared.seats.Flight.{Flight}
-use Rattle.mk_core.specs.declared.seats.Progress.{Progress}
-use Rattle.mk_core.specs.declared.seats.Stage.{Stage}
+use Rattle.mk_core.specs.{Calls.{stage_behind, stage_refused, steps_of, still}, Effects.{decided, progress}}
+use Rattle.mk_core.specs.{Effects.{progress_freed, sees_double}, Order.{comes_next, is_of_any_holder, may_decide_new}}
+use Rattle.mk_core.specs.{Cells.is_unmapped_header, Enabled.holder_may, Moments.Moment, TurnConditions.is_decided}
+use Rattle.mk_core.specs.{Words.Words, declared.events.Step.Step, declared.events.Word.Word}
+use Rattle.mk_core.specs.{declared.seats.Flight.Flight, declared.seats.Progress.Progress, declared.seats.Stage.Stage}
 use Rattle.mk_check.specs.Output.{ends_call}
 
 -- The operation has a stage. A refused Lea stores null, at a stage that it hasn't else.

@@ -7,13 +7,10 @@ use Rattle.mk_check.proofs.Vocabulary.{pointer_at, pointer_names, same_Some, sli
 use Rattle.mk_check.proofs.Vocabulary.{type_names, type_words, types_of, word_among, ◌*◌, ◌+◌, ◌<◌, ◌∙◌, ◌≡◌}
 use Rattle.mk_check.proofs.DeclaredPlaces.{global_place, pointer_within, same_place, type_place}
 use Rattle.mk_check.proofs.TypedLines.{PointsBefore}
-use Rattle.mk_never.proofs.Edits.{exists, if_by, set_by}
-use Rattle.mk_never.specs.declared.values.Target.TheVariants.{WordOf}
-use Rattle.mk_never.specs.NeverHeap.{allocation_at, global_at, moved_on, register_at, target_of, with_register, word_at}
-use Rattle.mk_never.specs.NeverHeap.{words_of}
-use Rattle.mk_never.specs.Typed.{IsSound, IsTyped, kind_in}
-use Rattle.mk_never.specs.declared.values.Value.TheVariants.{Null, Ptr}
-use Rattle.mk_never.specs.Admitted.{IsCaller, Meets}
+use Rattle.mk_never.{proofs.Edits.{exists, if_by, set_by}, specs.Admitted.{IsCaller, Meets}}
+use Rattle.mk_never.specs.{declared.values.Target.TheVariants.WordOf, NeverHeap.{allocation_at, global_at, moved_on}}
+use Rattle.mk_never.specs.NeverHeap.{register_at, target_of, with_register, word_at, words_of}
+use Rattle.mk_never.specs.{Typed.{IsSound, IsTyped, kind_in}, declared.values.Value.TheVariants.{Null, Ptr}}
 use Rattle.mk_script.specs.declared.items.TypeWord.TheVariants.{Pointer}
 use Rattle.mk_never.specs.declared.types.Kind.TheVariants.{Num as NumKind, To}
 

@@ -4,8 +4,7 @@ use Rattle.mk_check.proofs.Vocabulary.{Answer, Blocks, Fed, FeedStandsFor, FeedS
 use Rattle.mk_check.proofs.Vocabulary.{Option, Scope, Some, ℕ, ap, arith, fed_before_answers, feed, first_op, flagged}
 use Rattle.mk_check.proofs.Vocabulary.{is_some, next_op, note, op_of, refl, script_of, script_scope, take_answer}
 use Rattle.mk_check.proofs.Vocabulary.{take_answers, true, with_answer, [], ◌++◌, ◌∙◌, ◌∷◌, ◌≡◌}
-use Rattle.mk_check.proofs.Numbered.{ops-with_answer, run_agrees}
-use Rattle.mk_check.specs.Feed.{has_ended}
+use Rattle.mk_check.{proofs.Numbered.{ops-with_answer, run_agrees}, specs.Feed.{has_ended}}
 
 pub take_answers_push : (scope : Scope) (fed : Fed) (answers : List Answer) (a : Answer)
     → take_answers scope fed (answers ++ a ∷ [])

@@ -3,13 +3,10 @@ use Rattle.mk_check.proofs.Vocabulary.{ArePassed, Blocks, Choice, Done, Item, Li
 use Rattle.mk_check.proofs.Vocabulary.{ap, arith, before_next_script, blocks_from, branch, depth_of, fold_push}
 use Rattle.mk_check.proofs.Vocabulary.{is_whole, length, limit_fault, max, numbered, outermost_blocks, parts_from, refl}
 use Rattle.mk_check.proofs.Vocabulary.{script_from, script_of, subst, suc, with_line, zero, [], ◌++◌, ◌+◌, ◌-◌, ◌∷◌}
-use Rattle.mk_check.proofs.Vocabulary.{◌≡◌, ◌≤◌}
-use Rattle.mk_check.proofs.GrammarLemmas.{at_most-None}
+use Rattle.mk_check.proofs.{Vocabulary.{◌≡◌, ◌≤◌}, GrammarLemmas.at_most-None}
 use Rattle.mk_check.specs.Blocks.{with_else, with_if, with_repeat}
-use Rattle.mk_script.specs.Grammar.{IsOfSomeText}
-use Rattle.mk_script.specs.Scopes.{behind_else, behind_end, open_behind, open_blocks}
-use Rattle.mk_script.specs.declared.items.Item.TheVariants.{Script}
-use Rattle.mk_script.specs.declared.scope.OpenBlock.{OpenBlock}
+use Rattle.mk_script.specs.{Grammar.IsOfSomeText, Scopes.{behind_else, behind_end, open_behind, open_blocks}}
+use Rattle.mk_script.specs.{declared.items.Item.TheVariants.Script, declared.scope.OpenBlock.OpenBlock}
 
 abbrev depth : Blocks → ℕ
 depth Done = 0

@@ -5,8 +5,7 @@ use Rattle.mk_check.proofs.Vocabulary.{number_names-append, pointer_names, refl,
 use Rattle.mk_check.proofs.Vocabulary.{this_script, zero, [], ◌++◌, ◌+◌, ◌∙◌, ◌∷◌, ◌≡◌, ◌≤◌}
 use Rattle.mk_check.proofs.GrammarLemmas.{at_most-None, length-global_names}
 use Rattle.mk_script.proofs.Pushed.{pointer_names-append, this_script-push}
-use Rattle.mk_script.specs.Grammar.{IsOfSomeText}
-use Rattle.mk_script.specs.declared.items.Item.TheVariants.{Script}
+use Rattle.mk_script.specs.{Grammar.IsOfSomeText, declared.items.Item.TheVariants.Script}
 
 -- Registers of one kind that lines of a script declare, of which there may be this many.
 record AreLimited (names : List Item → List (List ℕ)) (greatest : ℕ) : Type 0 where

@@ -1,18 +1,14 @@
 -- A type has a word.
-use Rattle.std.proofs.Common.{leb-true, nat_le, option_and_then}
-use Rattle.std.specs.List.{list_all}
+use Rattle.std.{proofs.Common.{leb-true, nat_le, option_and_then}, specs.List.{list_all}}
 use Rattle.mk_check.proofs.Vocabulary.{At, Bool, Item, List, None, Ok, Option, Result, Some, TypeWord, ℕ, and_parts, ap}
 use Rattle.mk_check.proofs.Vocabulary.{arith, false, false≢true, if◌then◌else◌, is_some, length, length-append}
 use Rattle.mk_check.proofs.Vocabulary.{option_map, refl, replicate, suc, sym, true, unwrap_or, [], ◌&&◌, ◌∙◌, ◌∷◌, ◌≡◌}
-use Rattle.mk_check.proofs.Vocabulary.{◌≤◌}
-use Rattle.mk_check.proofs.GrammarLemmas.{heap_line-item, passed_then}
-use Rattle.mk_script.specs.Keywords.{has_word_count}
-use Rattle.mk_script.specs.Operands.{field_of, fields_of, have_form, item_from, name, number, number_field, numbers}
-use Rattle.mk_script.specs.Operands.{pointer_field, ◌>>=◌}
+use Rattle.mk_check.proofs.{Vocabulary.◌≤◌, GrammarLemmas.{heap_line-item, passed_then}}
+use Rattle.mk_script.specs.{Keywords.has_word_count, Operands.{field_of, fields_of, have_form, item_from, name, number}}
+use Rattle.mk_script.specs.Operands.{number_field, numbers, pointer_field, ◌>>=◌}
 use Rattle.mk_script.specs.declared.items.TypeWord.TheVariants.{Number, Pointer}
-use Rattle.mk_script.specs.declared.keywords.Keyword.TheVariants.{Casp, TypeLine}
-use Rattle.mk_script.specs.Lines.{is_placed, line_item, placed_item}
-use Rattle.mk_script.specs.declared.faults.LineFault.{LineFault}
+use Rattle.mk_script.specs.{declared.keywords.Keyword.TheVariants.{Casp, TypeLine}, Lines.{is_placed, line_item}}
+use Rattle.mk_script.specs.{Lines.placed_item, declared.faults.LineFault.LineFault}
 use Rattle.mk_script.specs.{declared.items.Item.TheVariants.TypeLine as TypeItem, declared.keywords.Keyword.Keyword}
 
 -- The words of a field, where it has a form.

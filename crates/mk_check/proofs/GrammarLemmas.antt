@@ -3,16 +3,12 @@ use Rattle.std.proofs.Common.{leb-true}
 use Rattle.mk_check.proofs.Vocabulary.{ArePassed, Bool, Err, Item, List, None, Ok, Result, Some, Which, ℕ, and_parts}
 use Rattle.mk_check.proofs.Vocabulary.{ap, append-nil, append_assoc, arith, false≢true, global_names, if◌then◌else◌}
 use Rattle.mk_check.proofs.Vocabulary.{length, length-append, limit_fault, pages_of, resident_of, script_names, subst}
-use Rattle.mk_check.proofs.Vocabulary.{sym, true, type_names, [], ◌++◌, ◌+◌, ◌-◌, ◌∷◌, ◌≡◌, ◌≤◌}
-use Rattle.mk_check.proofs.FaultLemmas.{or-None}
+use Rattle.mk_check.proofs.{Vocabulary.{sym, true, type_names, [], ◌++◌, ◌+◌, ◌-◌, ◌∷◌, ◌≡◌, ◌≤◌}, FaultLemmas.or-None}
 use Rattle.mk_core.specs.Config.{IsBetween}
-use Rattle.mk_script.proofs.Pushed.{global_names-append, script_names-append, type_names-append}
-use Rattle.mk_script.proofs.PassedLines.{IsWhole}
-use Rattle.mk_script.specs.Lines.{at_most, has_script, heap_line, within}
-use Rattle.mk_script.specs.Operands.{item_from, number, ◌>>=◌}
+use Rattle.mk_script.proofs.{Pushed.{global_names-append, script_names-append, type_names-append}, PassedLines.IsWhole}
+use Rattle.mk_script.specs.{Lines.{at_most, has_script, heap_line, within}, Operands.{item_from, number, ◌>>=◌}}
 use Rattle.mk_script.specs.declared.items.Item.TheVariants.{Global, Heap, Script, TypeLine}
-use Rattle.mk_script.specs.declared.faults.LineFault.{LineFault}
-use Rattle.mk_script.specs.declared.keywords.Keyword.{Keyword}
+use Rattle.mk_script.specs.{declared.faults.LineFault.LineFault, declared.keywords.Keyword.Keyword}
 
 -- a test that an Ok has passed
 pub passed_then : {X Fault : Type 0} (test : Bool) (fault : Fault) (found : Result X Fault) (x : X)

@@ -6,9 +6,8 @@ use Rattle.mk_check.proofs.Vocabulary.{fed_before_answers, fed_before_lines, fee
 use Rattle.mk_check.proofs.Vocabulary.{is_end_of_block, is_some, length, length_push, next_op, note, op_of}
 use Rattle.mk_check.proofs.Vocabulary.{outermost_blocks, parts_from, refl, run, script_of, script_scope, suc, sym}
 use Rattle.mk_check.proofs.Vocabulary.{take_answer, take_answers, true, with_answer, with_item, with_line, zero, []}
-use Rattle.mk_check.proofs.Vocabulary.{◌++◌, ◌+◌, ◌==◌, ◌∙◌, ◌∷◌, ◌≡◌}
-use Rattle.mk_check.specs.Feed.{then_run, number_in, run_line, run_rounds}
-use Rattle.mk_check.specs.Blocks.{AllFrom, AllLines, AllPlaced, followed_by}
+use Rattle.mk_check.{proofs.Vocabulary.{◌++◌, ◌+◌, ◌==◌, ◌∙◌, ◌∷◌, ◌≡◌}, specs.Blocks.{followed_by}}
+use Rattle.mk_check.specs.{Feed.{then_run, number_in, run_line, run_rounds}, Blocks.{AllFrom, AllLines, AllPlaced}}
 
 module _ (P : ℕ → Item → Type 0) where
   -- The blocks of a script.

@@ -1,8 +1,6 @@
 -- What names stand for with one more line.
-use Rattle.std.proofs.Common.{Bor, cond}
-use Rattle.std.proofs.lemmas.Bool.{cases_Bool}
-use Rattle.std.specs.Cmp.Lexicographic.{nat_list_eq_equiv}
-use Rattle.std.specs.Option.{option_copied}
+use Rattle.std.proofs.{Common.{Bor, cond}, lemmas.Bool.cases_Bool}
+use Rattle.std.specs.{Cmp.Lexicographic.nat_list_eq_equiv, Option.option_copied}
 use Rattle.mk_check.proofs.Vocabulary.{At, Bool, Item, List, None, OnOk, Option, Result, Some, TypeWord, ℕ, ap}
 use Rattle.mk_check.proofs.Vocabulary.{append-nil, arith, bytes_eq, bytes_eq-Decides, false, first_at, global_type}
 use Rattle.mk_check.proofs.Vocabulary.{if◌then◌else◌, is_script, is_some, number_names, number_names-append, option_or}

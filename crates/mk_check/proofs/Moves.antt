@@ -8,8 +8,7 @@ use Rattle.mk_check.proofs.Vocabulary.{with_kept, work_in, zero, [], ◌*◌, �
 use Rattle.mk_check.proofs.StepLaws.{stop_of-choice_other, stop_of-choice_zero, stop_of-round}
 use Rattle.mk_check.proofs.TreeNodes.{IsAt, steps_at-trees}
 use Rattle.mk_check.specs.Trees.{FrameFits, FramesFit, LeavesBlock, behind_frames, frame_steps, place_behind_block}
-use Rattle.mk_check.specs.Trees.{place_in_branch, place_in_rounds, work_of}
-use Rattle.mk_check.specs.Steps.{Choice, Done, Line, Rounds}
+use Rattle.mk_check.specs.{Trees.{place_in_branch, place_in_rounds, work_of}, Steps.{Choice, Done, Line, Rounds}}
 
 pub behind_frames_push : (built : List Steps) (frames : List Frame) (f : Frame)
     → behind_frames built (frames ++ f ∷ []) ≡ frame_steps built (behind_frames built frames) f

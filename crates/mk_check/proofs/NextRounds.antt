@@ -2,10 +2,8 @@
 use Rattle.mk_check.proofs.Vocabulary.{Frame, FrameIsWithin, FramesAreWithin, HasStopped, IsTree, List, Node, Place}
 use Rattle.mk_check.proofs.Vocabulary.{PlaceIsWithin, Some, ℕ, ap, asks_at, innermost, length, node_at, refl, subst}
 use Rattle.mk_check.proofs.Vocabulary.{take, true, ◌-◌, ◌∙◌, ◌≡◌, KeptState, arith, kept_in, sym, with_kept}
-use Rattle.mk_check.proofs.AsksFirst.{split_last}
-use Rattle.mk_check.proofs.AtOnce.{asks_so, stopped_here}
-use Rattle.mk_check.proofs.Moves.{FramesAreWithin_pop, end_goes_on}
-use Rattle.mk_check.proofs.TreeNodes.{is_at}
+use Rattle.mk_check.proofs.{AsksFirst.split_last, AtOnce.{asks_so, stopped_here}}
+use Rattle.mk_check.proofs.{Moves.{FramesAreWithin_pop, end_goes_on}, TreeNodes.is_at}
 use Rattle.mk_check.specs.Trees.{LeavesBlock, place_behind_block}
 
 pub innermost_within : (count : ℕ) (frames : List Frame) (f : Frame) → FramesAreWithin count frames

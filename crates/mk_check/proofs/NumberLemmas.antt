@@ -1,16 +1,11 @@
 -- Numbers of types, and tables of types and globals, as lines are read.
-use Rattle.std.proofs.Common.{take-append-drop}
-use Rattle.std.specs.Borrow.{Bor}
-use Rattle.std.specs.HashMap.{HashMap}
+use Rattle.std.{proofs.Common.{take-append-drop}, specs.{Borrow.Bor, HashMap.HashMap}}
 use Rattle.mk_check.proofs.Vocabulary.{Bool, Item, List, None, Option, Some, TypeWord, ℕ, ap, arith, bytes_eq, drop}
 use Rattle.mk_check.proofs.Vocabulary.{drop_more, get_or, global_names, globals_among, if◌then◌else◌, kind_of}
 use Rattle.mk_check.proofs.Vocabulary.{kinds_among, length, length-append, map, number_of_name, option_map, option_or}
 use Rattle.mk_check.proofs.Vocabulary.{refl, suc, sym, take, take_more, type_names, unwrap_or, [], ◌++◌, ◌+◌, ◌<◌, ◌∙◌}
-use Rattle.mk_check.proofs.Vocabulary.{◌∷◌, ◌≡◌}
-use Rattle.mk_check.specs.Lookups.{AddsFirst}
-use Rattle.mk_check.specs.Numbers.{AreNumbers, number_among}
-use Rattle.mk_script.proofs.Pushed.{global_names-append}
-use Rattle.mk_script.specs.declared.items.Item.TheVariants.{Global, TypeLine}
+use Rattle.mk_check.{proofs.Vocabulary.{◌∷◌, ◌≡◌}, specs.{Lookups.AddsFirst, Numbers.{AreNumbers, number_among}}}
+use Rattle.mk_script.{proofs.Pushed.{global_names-append}, specs.declared.items.Item.TheVariants.{Global, TypeLine}}
 
 place-step : (b : Bool) (o : Option ℕ) (n : ℕ)
     → (if b then 0 else unwrap_or o n + 1) ≡ unwrap_or (if b then Some 0 else option_map (λ place. place + 1) o) (suc n)

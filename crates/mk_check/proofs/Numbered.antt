@@ -4,8 +4,7 @@ use Rattle.mk_check.proofs.Vocabulary.{Rounds, Scope, Stopped, ℕ, after_answer
 use Rattle.mk_check.proofs.Vocabulary.{instruction_of, is_some, number_of_name, numbered, op_asked, op_of, refl, run}
 use Rattle.mk_check.proofs.Vocabulary.{stop_behind, stop_of, stop_of_rounds, suc, then_steps, with_answer, zero, ◌==◌}
 use Rattle.mk_check.proofs.Vocabulary.{◌∙◌, ◌≡◌}
-use Rattle.mk_check.specs.Blocks.{followed_by}
-use Rattle.mk_check.specs.Feed.{number_in, run_line, run_rounds, then_run}
+use Rattle.mk_check.specs.{Blocks.followed_by, Feed.{number_in, run_line, run_rounds, then_run}}
 use Rattle.mk_check.specs.Steps as steps
 
 abbrev pub kept_of : Fed → KeptState

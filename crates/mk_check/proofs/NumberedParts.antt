@@ -2,8 +2,7 @@
 use Rattle.std.proofs.Common.{slice_index_or}
 use Rattle.mk_check.proofs.Vocabulary.{Element, Item, List, Part, Scope, ℕ, arith, drop, drop_more, element_of}
 use Rattle.mk_check.proofs.Vocabulary.{instruction_of, length, map, parts_from, with_element, with_item, with_line, ◌+◌}
-use Rattle.mk_check.proofs.Vocabulary.{◌<◌, ◌≡◌}
-use Rattle.mk_check.specs.Building.{part_of}
+use Rattle.mk_check.{proofs.Vocabulary.{◌<◌, ◌≡◌}, specs.Building.{part_of}}
 
 line_of_parts : (scope : Scope) (line : ℕ) (item : Item) (parts : List Part)
     → map (part_of scope) (with_line line item parts)

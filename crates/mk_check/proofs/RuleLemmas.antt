@@ -1,7 +1,6 @@
 -- A line is of one sort.
 use Rattle.mk_check.proofs.Vocabulary.{Around, Item, List, None, Option, TypeKind, ℕ, arith, false, is_script}
-use Rattle.mk_check.proofs.Vocabulary.{option_or, typing_fault, ◌or◌, ◌∙◌, ◌≡◌}
-use Rattle.mk_check.proofs.LookupLemmas.{option_or-none}
+use Rattle.mk_check.proofs.{Vocabulary.{option_or, typing_fault, ◌or◌, ◌∙◌, ◌≡◌}, LookupLemmas.option_or-none}
 use Rattle.mk_check.specs.Rules.{fault_of_sort, is_declaration, is_number_access, is_number_line, is_pointer_access}
 use Rattle.mk_check.specs.Rules.{is_pointer_line}
 

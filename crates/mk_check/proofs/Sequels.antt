@@ -3,15 +3,10 @@ use Rattle.mk_check.proofs.Vocabulary.{Answer, Bool, HasStopped, Instruction, Is
 use Rattle.mk_check.proofs.Vocabulary.{Option, Place, PlaceIsWithin, Sequel, Some, TakesLine, ℕ, after_answer, ap}
 use Rattle.mk_check.proofs.Vocabulary.{arith, asks_at, false, if◌then◌else◌, kept_in, length, node_at, not, refl}
 use Rattle.mk_check.proofs.Vocabulary.{sequel_to, sequels_of, subst, sym, true, with_kept, ◌&&◌, ◌∙◌, ◌≡◌}
-use Rattle.mk_check.proofs.AtOnce.{asks_so, stopped_here}
-use Rattle.mk_check.proofs.Moves.{below_length}
-use Rattle.mk_check.proofs.NextRounds.{kept_left, left_with, stops_behind_block}
-use Rattle.mk_check.proofs.TreeNodes.{is_at}
-use Rattle.mk_check.specs.AtOnce.{LeavesToOp, TakesAtOnce}
-use Rattle.mk_check.specs.Steps.{is_show, is_silent, keeping_register, with_value}
-use Rattle.mk_check.specs.Feed.{is_refusal}
-use Rattle.mk_check.specs.Spots.{sequels_by}
-use Rattle.mk_check.specs.declared.feeding.tree.Sequels.{Sequels}
+use Rattle.mk_check.proofs.{AtOnce.{asks_so, stopped_here}, Moves.below_length, NextRounds.{kept_left, left_with}}
+use Rattle.mk_check.proofs.{NextRounds.stops_behind_block, TreeNodes.is_at}
+use Rattle.mk_check.specs.{AtOnce.{LeavesToOp, TakesAtOnce}, Steps.{is_show, is_silent, keeping_register, with_value}}
+use Rattle.mk_check.specs.{Feed.is_refusal, Spots.sequels_by, declared.feeding.tree.Sequels.Sequels}
 
 -- what is next, where that is told
 

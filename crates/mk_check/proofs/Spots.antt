@@ -5,9 +5,8 @@ use Rattle.mk_check.proofs.Vocabulary.{get_or_append_left, get_or_at, inl, inr, 
 use Rattle.mk_check.proofs.Vocabulary.{length-map, length_push, map-append, node_at, op_asked, op_of_node, refl}
 use Rattle.mk_check.proofs.Vocabulary.{sequels_of, steps_at, steps_from, subst, sym, trees, [], ◌++◌, ◌<◌, ◌∷◌, ◌≡◌}
 use Rattle.mk_check.proofs.TreeNodes.{IsBelow-more, IsTree_push, steps_at-trees, steps_from_same}
-use Rattle.mk_check.proofs.Builds.{steps_at_push}
-use Rattle.mk_check.specs.declared.feeding.tree.Spot.{Spot}
-use Rattle.mk_check.specs.Spots.{IsMarked, IsMarkedTree, end_spot, nodes_of, sequels_before, spot_at}
+use Rattle.mk_check.{proofs.Builds.{steps_at_push}, specs.Spots.{sequels_before, spot_at}}
+use Rattle.mk_check.specs.{declared.feeding.tree.Spot.Spot, Spots.{IsMarked, IsMarkedTree, end_spot, nodes_of}}
 
 -- whether a node asks for an operation, by its instruction
 pub asks_by_instruction : (n : Node) → is_asking (instruction_of_node n) ≡ asks_at n

@@ -9,11 +9,8 @@ use Rattle.mk_check.proofs.Vocabulary.{op_of, op_of_node, refl, refusal_line, re
 use Rattle.mk_check.proofs.Vocabulary.{steps_at, stop_of, stop_on_answer, stopped_in, sym, take_answer, then_steps}
 use Rattle.mk_check.proofs.Vocabulary.{trees, true, with_answer, with_kept, with_text, [], ◌++◌, ◌+◌, ◌∙◌, ◌∷◌, ◌≡◌}
 use Rattle.mk_check.proofs.Numbered.{kept_of, kept_of-with_answer, op_of-asked, ops-with_answer, run_agrees, stopped_of}
-use Rattle.mk_check.proofs.StepLaws.{behind_text, stop_of-text, stopped_behind_text}
-use Rattle.mk_check.proofs.FeedLaws.{feed_push}
-use Rattle.mk_check.proofs.Moves.{unfolded_done, unfolded_line}
-use Rattle.mk_check.proofs.TreeNodes.{is_at}
-use Rattle.mk_check.specs.Feed.{has_ended}
+use Rattle.mk_check.proofs.{StepLaws.{behind_text, stop_of-text, stopped_behind_text}, FeedLaws.feed_push}
+use Rattle.mk_check.{proofs.{Moves.{unfolded_done, unfolded_line}, TreeNodes.is_at}, specs.Feed.{has_ended}}
 use Rattle.mk_check.specs.Steps as steps
 
 -- blocks that begin with a line

@@ -3,9 +3,7 @@ use Rattle.std.proofs.Common.{fold}
 use Rattle.mk_check.proofs.Vocabulary.{IsBelow, IsTree, List, Node, Place, PlaceIsWithin, Steps, ℕ, ap, arith, cases_lt}
 use Rattle.mk_check.proofs.Vocabulary.{fold_push, get_or_append_left, get_or_at, inl, inr, length, length_push, node_at}
 use Rattle.mk_check.proofs.Vocabulary.{refl, steps_at, steps_from, subst, suc, sym, trees, zero, [], ◌++◌, ◌+◌, ◌<◌}
-use Rattle.mk_check.proofs.Vocabulary.{◌∙◌, ◌∷◌, ◌≡◌, ◌≤◌}
-use Rattle.mk_check.specs.Steps.{Done}
-use Rattle.mk_check.specs.Trees.{with_node}
+use Rattle.mk_check.{proofs.Vocabulary.{◌∙◌, ◌∷◌, ◌≡◌, ◌≤◌}, specs.{Steps.Done, Trees.with_node}}
 
 -- The steps from a node are those that it names.
 

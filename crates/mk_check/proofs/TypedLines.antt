@@ -3,8 +3,7 @@ use Rattle.std.proofs.Common.{eqb-true}
 use Rattle.mk_check.proofs.Vocabulary.{Around, At, Item, List, None, Option, Some, TypeKind, TypeWord, ℕ, and_parts, ap}
 use Rattle.mk_check.proofs.Vocabulary.{arith, base_of, bytes_eq-Decides, global_type, moved_by, option_map, pointer_at}
 use Rattle.mk_check.proofs.Vocabulary.{refl, same_Some, sym, true, type_words, typing_fault, word_among, ◌+◌, ◌or◌, ◌∙◌}
-use Rattle.mk_check.proofs.Vocabulary.{◌≡◌}
-use Rattle.mk_check.proofs.FaultLemmas.{HasValue, has_value, or-None, unless-None}
+use Rattle.mk_check.proofs.{Vocabulary.◌≡◌, FaultLemmas.{HasValue, has_value, or-None, unless-None}}
 use Rattle.mk_check.specs.Typing.{base_of_global, inside_fault, is_base, kind_fault, number_word_fault, place_behind}
 use Rattle.mk_check.specs.Typing.{pointed_place, pointer_fault, pointer_word_fault, same_at, type_fault, type_word_at}
 use Rattle.mk_check.specs.Typing.{unless}

@@ -4,10 +4,8 @@ use Rattle.mk_check.proofs.Vocabulary.{Steps, Stopped, ℕ, after_answer, after_
 use Rattle.mk_check.proofs.Vocabulary.{kept_in, left_in, length, max, node_at, op_asked, refusal_line, refusal_text}
 use Rattle.mk_check.proofs.Vocabulary.{slice_index, stop_behind, stop_of, stop_of_rounds, stop_on_answer, stopped_in}
 use Rattle.mk_check.proofs.Vocabulary.{subst, suc, sym, then_steps, with_text, zero, ◌*◌, ◌+◌, ◌<◌, ◌==◌, ◌≡◌, ◌≤◌}
-use Rattle.mk_check.proofs.Moves.{unfolded_line, work_of-then_steps}
-use Rattle.mk_check.proofs.TreeNodes.{is_at}
-use Rattle.mk_check.specs.Steps.{Choice, Done, Line, Rounds, none_left}
-use Rattle.mk_check.specs.Trees.{work_of}
+use Rattle.mk_check.proofs.{Moves.{unfolded_line, work_of-then_steps}, TreeNodes.is_at}
+use Rattle.mk_check.specs.{Steps.{Choice, Done, Line, Rounds, none_left}, Trees.work_of}
 
 work_of-stop_behind : (stopped : Stopped) (go : KeptState → Stopped) (rest : Steps)
     → ((k : KeptState) → work_of (go k).left ≤ work_of rest)

@@ -2,11 +2,9 @@
 -- Private functions alone cite these words.
 use Rattle.std.specs.Prelude.{◌≡◌, ℕ, ◌-◌, true, List, length, take}
 use Rattle.mk_core.specs.declared.events.Answer.{Answer}
-use Rattle.mk_check.specs.declared.feeding.instructions.Instruction.{Instruction}
-use Rattle.mk_check.specs.declared.feeding.tree.Node.{Node}
-use Rattle.mk_check.specs.Spots.{asks_at}
-use Rattle.mk_check.specs.Steps.{after_answer, is_silent}
-use Rattle.mk_check.specs.Trees.{HasStopped, LeavesBlock, Place, kept_in, node_at, with_kept}
+use Rattle.mk_check.specs.{declared.feeding.instructions.Instruction.Instruction, declared.feeding.tree.Node.Node}
+use Rattle.mk_check.specs.{Spots.asks_at, Steps.{after_answer, is_silent}, Trees.{HasStopped, LeavesBlock, Place}}
+use Rattle.mk_check.specs.Trees.{kept_in, node_at, with_kept}
 use Rattle.mk_check.specs.declared.feeding.tree.Node.TheVariants as node
 
 -- The innermost block is left, or begins its next round, and an operation comes next.

@@ -1,7 +1,6 @@
 -- A script as a tree of blocks.
 use Rattle.std.specs.Prelude.{⊤, ℕ, zero, suc, ◌+◌, Bool, true, false, List, [], ◌∷◌, Option, Some, None}
-use Rattle.mk_script.specs.declared.items.Item.{Item}
-use Rattle.mk_script.specs.declared.items.Item.TheVariants.{Script, Repeat, If, Else, End}
+use Rattle.mk_script.specs.{declared.items.Item.Item, declared.items.Item.TheVariants.{Script, Repeat, If, Else, End}}
 
 -- Lines to run: a plain line, a `repeat` of a body, or an `if` on a number register with its two branches, each
 -- with the lines after it.

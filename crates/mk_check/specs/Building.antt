@@ -1,13 +1,9 @@
 -- A script's tree, built from its last line on.
 -- Private functions alone cite these words.
 use Rattle.std.specs.Prelude.{◌≡◌, ℕ, ◌<◌, ◌++◌, List, [], ◌∷◌, length, fold}
-use Rattle.mk_check.specs.declared.feeding.instructions.Element.{Element}
-use Rattle.mk_check.specs.declared.feeding.tree.Node.{Node}
-use Rattle.mk_check.specs.declared.feeding.building.Part.{Part}
-use Rattle.mk_check.specs.Blocks.{branch}
-use Rattle.mk_check.specs.Feed.{Scope}
-use Rattle.mk_check.specs.Steps.{Steps, Done, Line, Rounds, Choice, numbered}
-use Rattle.mk_check.specs.Trees.{steps_at, trees}
+use Rattle.mk_check.specs.{declared.feeding.instructions.Element.Element, declared.feeding.tree.Node.Node}
+use Rattle.mk_check.specs.{declared.feeding.building.Part.Part, Blocks.branch, Feed.Scope, Steps.{Steps, Done, Line}}
+use Rattle.mk_check.specs.{Steps.{Rounds, Choice, numbered}, Trees.{steps_at, trees}}
 use Rattle.mk_check.specs.declared.feeding.instructions.Element.TheVariants as element
 use Rattle.mk_check.specs.Blocks as blocks
 

@@ -2,12 +2,9 @@
 -- 2^64 - 1 stays there.
 -- Private functions alone cite these words.
 use Rattle.std.specs.Prelude.{ℕ, ◌+◌, ◌*◌, ◌-◌, ◌^◌, min, max, if◌then◌else◌, List, [], ◌∷◌, map}
-use Rattle.mk_script.specs.declared.items.Item.{Item}
-use Rattle.mk_script.specs.declared.items.Item.TheVariants.{Repeat, If, Else, End}
+use Rattle.mk_script.specs.{declared.items.Item.Item, declared.items.Item.TheVariants.{Repeat, If, Else, End}}
 use Rattle.mk_script.specs.Scopes.{is_instruction}
-use Rattle.mk_check.specs.declared.lengths.PartCount.{PartCount}
-use Rattle.mk_check.specs.Blocks.{Part, branch}
-use Rattle.mk_check.specs.Lengths.{length_of}
+use Rattle.mk_check.specs.{declared.lengths.PartCount.PartCount, Blocks.{Part, branch}, Lengths.length_of}
 
 abbrev pub saturated_count : ℕ → ℕ
 saturated_count n = min n (2 ^ 64 - 1)

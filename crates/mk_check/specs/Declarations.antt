@@ -1,11 +1,8 @@
 -- What a program declares: a name's place among the names of its sort is its number.
-use Rattle.std.specs.Prelude.{ℕ, ◌+◌, List, [], ◌∷◌, length, map, if◌then◌else◌}
-use Rattle.std.specs.Str.{bytes_eq}
+use Rattle.std.specs.{Prelude.{ℕ, ◌+◌, List, [], ◌∷◌, length, map, if◌then◌else◌}, Str.bytes_eq}
 use Rattle.mk_never.specs.declared.types.Kind.{Kind}
-use Rattle.mk_script.specs.declared.items.TypeWord.{TypeWord}
-use Rattle.mk_script.specs.declared.items.TypeWord.TheVariants.{Number, Pointer}
-use Rattle.mk_script.specs.declared.items.Item.{Item}
-use Rattle.mk_script.specs.declared.items.Item.TheVariants.{Heap, TypeLine, Global}
+use Rattle.mk_script.specs.{declared.items.TypeWord.TypeWord, declared.items.TypeWord.TheVariants.{Number, Pointer}}
+use Rattle.mk_script.specs.{declared.items.Item.Item, declared.items.Item.TheVariants.{Heap, TypeLine, Global}}
 use Rattle.mk_script.specs.Scopes.{type_names, script_names}
 use Rattle.mk_core.specs.declared.config.Config.{Config}
 use Rattle.mk_never.specs.declared.types.Kind.TheVariants.{Num as NumKind, To}

@@ -4,17 +4,14 @@ use Rattle.std.specs.Prelude.{replicate, slice_index, slice_set, ◌==◌, if◌
 use Rattle.std.specs.Fmt.{decimal}
 use lib.Chars.{codes}
 use Rattle.mk_never.specs.declared.operations.Op.{Op}
-use Rattle.mk_core.specs.declared.events.Answer.{Answer}
-use Rattle.mk_core.specs.Decided.{flagged}
-use Rattle.mk_script.specs.declared.items.Item.{Item}
-use Rattle.mk_script.specs.declared.items.Item.TheVariants.{Heap, TypeLine, Global, Script, Ptr, Num, New, Free, Getn}
-use Rattle.mk_script.specs.declared.items.Item.TheVariants.{Setn, Getp, Setp, Casp, Lea, Move, Clear, Loadg, Storeg}
-use Rattle.mk_script.specs.declared.items.Item.TheVariants.{Same, Isnull, Show, Const, Add, Sub, Print, Repeat, If}
-use Rattle.mk_script.specs.declared.items.Item.TheVariants.{Else, End}
+use Rattle.mk_core.specs.{declared.events.Answer.Answer, Decided.flagged}
+use Rattle.mk_script.specs.{declared.items.Item.Item, declared.items.Item.TheVariants.{Heap, TypeLine, Global, Script}}
+use Rattle.mk_script.specs.declared.items.Item.TheVariants.{Ptr, Num, New, Free, Getn, Setn, Getp, Setp, Casp, Lea}
+use Rattle.mk_script.specs.declared.items.Item.TheVariants.{Move, Clear, Loadg, Storeg, Same, Isnull, Show, Const, Add}
+use Rattle.mk_script.specs.declared.items.Item.TheVariants.{Sub, Print, Repeat, If, Else, End}
 use Rattle.mk_script.specs.Scopes.{type_names, global_names, pointer_names, number_names}
-use Rattle.mk_check.specs.Declarations.{number_of_name}
-use Rattle.mk_check.specs.Blocks.{Blocks, Done, Line, Rounds, Choice, followed_by, is_end_of_block, blocks_from}
-use Rattle.mk_check.specs.Blocks.{ScriptText, script_of}
+use Rattle.mk_check.specs.{Declarations.number_of_name, Blocks.{Blocks, Done, Line, Rounds, Choice, followed_by}}
+use Rattle.mk_check.specs.Blocks.{is_end_of_block, blocks_from, ScriptText, script_of}
 use Rattle.mk_never.specs.declared.operations.Op.TheVariants as op
 use Rattle.mk_core.specs.declared.events.Answer.TheVariants as answer
 

@@ -1,17 +1,10 @@
 -- Laws of scripts: the operations that they ask for, one after the other, in any order of their turns.
 use Rattle.std.specs.Prelude.{◌≡◌, ◌≢◌, ℕ, ◌<◌, List, [], ◌∷◌, ◌++◌, length, ◌==◌, if◌then◌else◌, Some, All}
-use Rattle.mk_never.specs.declared.operations.Op.{Op}
-use Rattle.mk_never.specs.NeverHeap.{NeverState, Call, start_of, after_calls}
+use Rattle.mk_never.specs.{declared.operations.Op.Op, NeverHeap.{NeverState, Call, start_of, after_calls}}
 use Rattle.mk_never.specs.Admitted.{IsAdmitted, AreAdmitted}
-use Rattle.mk_core.specs.declared.events.Answer.{Answer}
-use Rattle.mk_core.specs.Decided.{flagged}
-use Rattle.mk_script.specs.declared.items.Item.{Item}
-use Rattle.mk_script.specs.Scopes.{script_names}
-use Rattle.mk_script.specs.Grammar.{IsOfSomeText}
-use Rattle.mk_check.specs.Typing.{IsWellTyped}
-use Rattle.mk_check.specs.Declarations.{types_of, globals_of}
-use Rattle.mk_check.specs.Feed.{feed}
-use Rattle.mk_check.specs.Feeding.{next_op}
+use Rattle.mk_core.specs.{declared.events.Answer.Answer, Decided.flagged}
+use Rattle.mk_script.specs.{declared.items.Item.Item, Scopes.script_names, Grammar.IsOfSomeText}
+use Rattle.mk_check.specs.{Typing.IsWellTyped, Declarations.{types_of, globals_of}, Feed.feed, Feeding.next_op}
 
 -- a program that is well typed, and the program of some text
 pub record IsChecked (program : List Item) : Type 0 where

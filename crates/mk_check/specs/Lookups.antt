@@ -1,17 +1,11 @@
 -- What look-ups by name know of a program.
 -- Private functions alone cite these words.
-use Rattle.std.specs.Prelude.{◌≡◌, ℕ, if◌then◌else◌, List, [], ◌∷◌, ◌++◌, map, take, Option, Some, None}
-use Rattle.std.specs.Borrow.{Bor}
-use Rattle.std.specs.HashMap.{HashMap, get_by}
-use Rattle.std.specs.Option.{option_copied, option_or}
-use Rattle.std.specs.Str.{bytes_eq}
-use Rattle.mk_script.specs.declared.items.At.{At}
-use Rattle.mk_script.specs.declared.items.Item.{Item}
-use Rattle.mk_script.specs.Scopes.{is_script, number_names, this_script}
-use Rattle.mk_check.specs.declared.lookups.Declarations.{Declarations}
-use Rattle.mk_check.specs.declared.lookups.PointerRegister.{PointerRegister}
-use Rattle.mk_check.specs.declared.lookups.Registers.{Registers}
-use Rattle.mk_check.specs.Typing.{Around, type_words, global_type, pointer_at}
+use Rattle.std.specs.{Prelude.{◌≡◌, ℕ, if◌then◌else◌, List, [], ◌∷◌, ◌++◌, map, take, Option, Some, None}, Borrow.Bor}
+use Rattle.std.specs.{HashMap.{HashMap, get_by}, Option.{option_copied, option_or}, Str.bytes_eq}
+use Rattle.mk_script.specs.{declared.items.At.At, declared.items.Item.Item, Scopes.{is_script, number_names}}
+use Rattle.mk_script.specs.Scopes.{this_script}
+use Rattle.mk_check.specs.{declared.lookups.Declarations.Declarations, declared.lookups.PointerRegister.PointerRegister}
+use Rattle.mk_check.specs.{declared.lookups.Registers.Registers, Typing.{Around, type_words, global_type, pointer_at}}
 
 -- A program, and how many of its lines were read.
 pub record Reading : Type 0 where

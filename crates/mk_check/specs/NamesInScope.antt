@@ -1,12 +1,9 @@
 -- Names that items declare.
 -- Private functions alone cite these words.
-use Rattle.std.specs.Prelude.{ℕ, ◌≤◌, length, List, map, Option, Some, None}
-use Rattle.std.specs.Borrow.{Bor}
-use Rattle.mk_script.specs.declared.items.Item.{Item}
-use Rattle.mk_script.specs.declared.items.Item.TheVariants.{TypeLine, Global, Ptr, Num}
+use Rattle.std.specs.{Prelude.{ℕ, ◌≤◌, length, List, map, Option, Some, None}, Borrow.Bor}
+use Rattle.mk_script.specs.{declared.items.Item.Item, declared.items.Item.TheVariants.{TypeLine, Global, Ptr, Num}}
 use Rattle.mk_script.specs.Scopes.{type_names, global_names, pointer_names, number_names}
-use Rattle.mk_check.specs.Feed.{Scope}
-use Rattle.mk_check.specs.declared.feeding.names.Sort.{Sort}
+use Rattle.mk_check.specs.{Feed.Scope, declared.feeding.names.Sort.Sort}
 use Rattle.mk_check.specs.declared.feeding.names.Sort.TheVariants as sort
 
 -- the name that a line declares, of this sort

@@ -1,9 +1,7 @@
 -- The numbers of types, by name.
 -- Private functions alone cite these words.
 use Rattle.std.specs.Prelude.{◌≡◌, ℕ, ◌+◌, if◌then◌else◌, List, [], ◌∷◌, length, option_map, Option, Some, None}
-use Rattle.std.specs.Borrow.{Bor}
-use Rattle.std.specs.HashMap.{HashMap}
-use Rattle.std.specs.Str.{bytes_eq}
+use Rattle.std.specs.{Borrow.Bor, HashMap.HashMap, Str.bytes_eq}
 use Rattle.mk_check.specs.Lookups.{value_for_name}
 
 -- a name's place among these, if it is one of them

@@ -1,17 +1,10 @@
 -- What a program's scripts print of a history: each is fed with the answers of its calls that ended.
 use Rattle.std.specs.Prelude.{◌≡◌, ℕ, Bool, true, false, ◌&&◌, ◌==◌, List, length, map, filter, take, count_by}
-use Rattle.std.specs.Prelude.{slice_get, Option}
-use Rattle.std.specs.List.{flat_map, range_with_len}
-use Rattle.mk_core.specs.declared.config.Config.{Config}
-use Rattle.mk_core.specs.declared.events.Seat.TheVariants.{Caller}
-use Rattle.mk_core.specs.declared.events.Step.{Step}
-use Rattle.mk_core.specs.declared.events.Event.{Event}
-use Rattle.mk_core.specs.declared.events.Answer.{Answer}
-use Rattle.mk_core.specs.Decided.{Decided}
-use Rattle.mk_core.specs.Growing.{is_same_seat}
-use Rattle.mk_core.specs.History.{calls, AreEnabled}
-use Rattle.mk_script.specs.declared.items.Item.{Item}
-use Rattle.mk_script.specs.Scopes.{script_names}
+use Rattle.std.specs.{Prelude.{slice_get, Option}, List.{flat_map, range_with_len}}
+use Rattle.mk_core.specs.{declared.config.Config.Config, declared.events.Seat.TheVariants.Caller}
+use Rattle.mk_core.specs.{declared.events.Step.Step, declared.events.Event.Event, declared.events.Answer.Answer}
+use Rattle.mk_core.specs.{Decided.Decided, Growing.is_same_seat, History.{calls, AreEnabled}}
+use Rattle.mk_script.specs.{declared.items.Item.Item, Scopes.script_names}
 use Rattle.mk_check.specs.Feed.{feed}
 use Rattle.mk_core.specs.declared.events.Step.TheVariants as step
 

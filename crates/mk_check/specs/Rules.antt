@@ -1,13 +1,11 @@
 -- Rules for the lines of each sort.
 -- Private functions alone cite these words.
 use Rattle.std.specs.Prelude.{Bool, true, false, if◌then◌else◌, [], Option, None}
-use Rattle.mk_script.specs.declared.items.At.{At}
-use Rattle.mk_script.specs.declared.items.Item.{Item}
+use Rattle.mk_script.specs.{declared.items.At.At, declared.items.Item.Item}
 use Rattle.mk_script.specs.declared.items.Item.TheVariants.{TypeLine, Global, Ptr, New, Free, Getn, Setn, Getp, Setp}
 use Rattle.mk_script.specs.declared.items.Item.TheVariants.{Casp, Lea, Move, Clear, Loadg, Storeg, Same, Isnull, Show}
 use Rattle.mk_script.specs.declared.items.Item.TheVariants.{Const, Add, Sub, Print, If}
-use Rattle.mk_check.specs.declared.places.Place.{Place}
-use Rattle.mk_check.specs.declared.typing_faults.TypeKind.{TypeKind}
+use Rattle.mk_check.specs.{declared.places.Place.Place, declared.typing_faults.TypeKind.TypeKind}
 use Rattle.mk_check.specs.Typing.{Around, typing_fault}
 
 abbrev pub at_of : Place → At

@@ -2,13 +2,10 @@
 -- Private functions alone cite these words.
 use Rattle.std.specs.Prelude.{◌≡◌, ℕ, ◌<◌, Bool, true, false, if◌then◌else◌, List, length, map, slice_index_or, Option}
 use Rattle.std.specs.Prelude.{Some, None}
-use Rattle.mk_check.specs.declared.feeding.instructions.Instruction.{Instruction}
-use Rattle.mk_check.specs.Trees.{steps_from, trees, IsTree, node_at}
-use Rattle.mk_check.specs.declared.feeding.instructions.Instruction.TheVariants.{Nothing}
-use Rattle.mk_check.specs.declared.feeding.tree.Node.{Node}
-use Rattle.mk_check.specs.declared.feeding.tree.Sequel.{Sequel}
-use Rattle.mk_check.specs.declared.feeding.tree.Sequels.{Sequels}
-use Rattle.mk_check.specs.declared.feeding.tree.Spot.{Spot}
+use Rattle.mk_check.specs.{declared.feeding.instructions.Instruction.Instruction, Trees.{steps_from, trees, IsTree}}
+use Rattle.mk_check.specs.{Trees.node_at, declared.feeding.instructions.Instruction.TheVariants.Nothing}
+use Rattle.mk_check.specs.{declared.feeding.tree.Node.Node, declared.feeding.tree.Sequel.Sequel}
+use Rattle.mk_check.specs.{declared.feeding.tree.Sequels.Sequels, declared.feeding.tree.Spot.Spot}
 use Rattle.mk_check.specs.Steps.{asks_first, is_asking, is_show, keeping_register}
 use Rattle.mk_check.specs.declared.feeding.tree.Node.TheVariants as node
 use Rattle.mk_check.specs.declared.feeding.tree.Sequel.TheVariants as sequel

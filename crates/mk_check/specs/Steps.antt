@@ -3,21 +3,17 @@
 -- Private functions cite these words, and public clauses only by what a `Feed` stands for.
 use Rattle.std.specs.Prelude.{ℕ, zero, suc, ◌+◌, ◌-◌, ◌%◌, ◌^◌, Bool, true, false, List, ◌++◌, slice_index, slice_set}
 use Rattle.std.specs.Prelude.{◌==◌, ◌&&◌, ◌||◌, if◌then◌else◌, not, Option, Some, None, is_some, unwrap_or}
-use Rattle.std.specs.Option.{option_or}
-use Rattle.std.specs.Fmt.{decimal}
+use Rattle.std.specs.{Option.option_or, Fmt.decimal}
 use Rattle.mk_never.specs.declared.operations.Op.{Op}
 use Rattle.mk_core.specs.declared.events.Answer.{Answer}
 use Rattle.mk_script.specs.declared.items.Item.{Item}
-use Rattle.mk_check.specs.declared.feeding.instructions.Instruction.{Instruction}
-use Rattle.mk_check.specs.Feed.{show_text, Scope, pointer_place, newline, refusal_line, refusal_text, is_refusal}
-use Rattle.mk_check.specs.Feed.{answered_number}
+use Rattle.mk_check.specs.{declared.feeding.instructions.Instruction.Instruction, Feed.{show_text, Scope}}
+use Rattle.mk_check.specs.Feed.{pointer_place, newline, refusal_line, refusal_text, is_refusal, answered_number}
 use Rattle.mk_check.specs.declared.feeding.instructions.Instruction.TheVariants.{Nothing, Const, Add, Sub, Print, New}
 use Rattle.mk_check.specs.declared.feeding.instructions.Instruction.TheVariants.{Free, GetPtr, SetPtr, Lea, Move, Clear}
 use Rattle.mk_check.specs.declared.feeding.instructions.Instruction.TheVariants.{GetGlobal, SetGlobal, SetNum, GetNum}
 use Rattle.mk_check.specs.declared.feeding.instructions.Instruction.TheVariants.{CasPtr, Same, IsNull, Show}
-use Rattle.mk_check.specs.declared.feeding.instructions.Element.{Element}
-use Rattle.mk_check.specs.Declarations.{number_of_name}
-use Rattle.mk_check.specs.Blocks.{Blocks}
+use Rattle.mk_check.specs.{declared.feeding.instructions.Element.Element, Declarations.number_of_name, Blocks.Blocks}
 use Rattle.mk_never.specs.declared.operations.Op.TheVariants as op
 use Rattle.mk_script.specs.declared.items.Item.TheVariants as item
 use Rattle.mk_check.specs.declared.feeding.instructions.Element.TheVariants as element

@@ -2,10 +2,8 @@
 -- Private functions cite these words, and public clauses only by what a `Feed` stands for.
 use Rattle.std.specs.Prelude.{◌≡◌, ℕ, zero, suc, ◌+◌, ◌*◌, ◌<◌, ◌≤◌, ◌++◌, ◌==◌, max, true, List, [], ◌∷◌, length, fold}
 use Rattle.std.specs.Prelude.{slice_index, slice_index_or, slice_get, ◌-◌, if◌then◌else◌, Option, Some, None, is_some}
-use Rattle.mk_check.specs.declared.feeding.tree.Node.{Node}
-use Rattle.mk_check.specs.declared.feeding.tree.Frame.{Frame}
-use Rattle.mk_check.specs.Steps.{Steps, Done, Line, Rounds, Choice, then_steps, KeptState, Stopped, op_asked}
-use Rattle.mk_check.specs.Steps.{asks_first, stop_of}
+use Rattle.mk_check.specs.{declared.feeding.tree.Node.Node, declared.feeding.tree.Frame.Frame, Steps.{Steps, Done}}
+use Rattle.mk_check.specs.Steps.{Line, Rounds, Choice, then_steps, KeptState, Stopped, op_asked, asks_first, stop_of}
 use Rattle.mk_check.specs.declared.feeding.tree.Node.TheVariants as node
 use Rattle.mk_check.specs.declared.feeding.tree.Frame.TheVariants as frame
 

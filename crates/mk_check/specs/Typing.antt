@@ -1,22 +1,15 @@
 -- Which programs are well typed, line by line.
 use Rattle.std.specs.Prelude.{◌≡◌, ⊤, ℕ, ◌+◌, ◌-◌, ◌^◌, min, Bool, true, false, ◌&&◌, ◌==◌, nat_le, if◌then◌else◌, List}
-use Rattle.std.specs.Prelude.{[], ◌∷◌, ◌++◌, Option, Some, None, is_some, option_map, slice_get}
-use Rattle.std.specs.List.{list_any}
-use Rattle.std.specs.Option.{option_or}
-use Rattle.std.specs.Str.{bytes_eq}
-use Rattle.mk_script.specs.declared.items.At.{At}
-use Rattle.mk_script.specs.declared.items.TypeWord.{TypeWord}
-use Rattle.mk_script.specs.declared.items.TypeWord.TheVariants.{Number, Pointer}
-use Rattle.mk_script.specs.declared.items.Item.{Item}
+use Rattle.std.specs.{Prelude.{[], ◌∷◌, ◌++◌, Option, Some, None, is_some, option_map, slice_get}, List.list_any}
+use Rattle.std.specs.{Option.option_or, Str.bytes_eq}
+use Rattle.mk_script.specs.{declared.items.At.At, declared.items.TypeWord.TypeWord}
+use Rattle.mk_script.specs.{declared.items.TypeWord.TheVariants.{Number, Pointer}, declared.items.Item.Item}
 use Rattle.mk_script.specs.declared.items.Item.TheVariants.{Heap, TypeLine, Global, Script, Ptr, Num, New, Free, Getn}
 use Rattle.mk_script.specs.declared.items.Item.TheVariants.{Setn, Getp, Setp, Casp, Lea, Move, Clear, Loadg, Storeg}
 use Rattle.mk_script.specs.declared.items.Item.TheVariants.{Same, Isnull, Show, Const, Add, Sub, Print, Repeat, If}
-use Rattle.mk_script.specs.declared.items.Item.TheVariants.{Else, End}
-use Rattle.mk_script.specs.Scopes.{this_script, number_names}
-use Rattle.mk_check.specs.declared.typing_faults.TypeKind.{TypeKind}
-use Rattle.mk_check.specs.declared.typing_faults.TypeStop.{TypeStop}
-use Rattle.mk_check.specs.Blocks.{before_next_script}
-use Rattle.mk_check.specs.Lengths.{script_length}
+use Rattle.mk_script.specs.{declared.items.Item.TheVariants.{Else, End}, Scopes.{this_script, number_names}}
+use Rattle.mk_check.specs.{declared.typing_faults.TypeKind.TypeKind, declared.typing_faults.TypeStop.TypeStop}
+use Rattle.mk_check.specs.{Blocks.before_next_script, Lengths.script_length}
 use Rattle.mk_check.specs.declared.typing_faults.TypeKind.TheVariants as kind
 use Rattle.mk_check.specs.declared.typing_faults.TypeStop.TheVariants as stop
 

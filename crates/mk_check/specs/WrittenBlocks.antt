@@ -1,7 +1,6 @@
 -- The lines that a script's blocks stand for.
 use Rattle.std.specs.Prelude.{◌≡◌, ◌⊎◌, ℕ, ◌+◌, Bool, true, false, List, [], ◌∷◌, ◌++◌, length}
-use Rattle.mk_script.specs.declared.items.Item.{Item}
-use Rattle.mk_script.specs.declared.items.Item.TheVariants.{Repeat, If, Else, End}
+use Rattle.mk_script.specs.{declared.items.Item.Item, declared.items.Item.TheVariants.{Repeat, If, Else, End}}
 use Rattle.mk_script.specs.Grammar.{IsOfSomeText}
 use Rattle.mk_check.specs.Blocks.{Blocks, Done, Line, Rounds, Choice, blocks_from, script_of}
 

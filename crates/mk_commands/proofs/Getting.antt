@@ -1,14 +1,9 @@
 -- The command that the getters read is the one of what was given.
 use Rattle.std.proofs.Common.{Bool, Option, Some, ap, codes, false, option_and_then, true, ◌∙◌, ◌≡◌}
-use Rattle.clap.proofs.WalkLemmas.{first_value-rows, one_text-rows}
-use Rattle.clap.specs.declared.parser.matches.Found.{Found}
-use Rattle.clap.specs.Matches.{first_value, one_text}
-use Rattle.clap.specs.Values.{bool_text}
-use Rattle.clap.specs.Walk.{Text, rows_of}
-use Rattle.mk_commands.specs.Commands.{gen_from, gen_of, markers_of, run_of, run_with, start_of}
-use Rattle.mk_commands.specs.Given.{Given, gens, runs}
-use Rattle.mk_commands.specs.Told.{HasGiven}
-use Rattle.mk_commands.specs.declared.commands.Command.{Command}
+use Rattle.clap.{proofs.WalkLemmas.{first_value-rows, one_text-rows}, specs.Walk.{Text, rows_of}}
+use Rattle.clap.specs.{declared.parser.matches.Found.Found, Matches.{first_value, one_text}, Values.bool_text}
+use Rattle.mk_commands.specs.{Commands.{gen_from, gen_of, markers_of, run_of, run_with, start_of}, Given.{Given, gens}}
+use Rattle.mk_commands.specs.{Given.runs, Told.HasGiven, declared.commands.Command.Command}
 use Rattle.mk_script.specs.Names.{number_of_word}
 
 pub flag_is : (b r : Bool) (o : Option Text) → o ≡ Some (bool_text b) → (o ≡ Some (codes "true") → r ≡ true)

@@ -1,14 +1,10 @@
 -- What a word says is what clap reads in it.
 use Rattle.std.proofs.Common.{Bool, None, Option, Some, ℕ, ap, arith, codes, drop, false, if◌then◌else◌}
 use Rattle.std.proofs.Common.{option_and_then, refl, sym, take, true, unwrap_or, [], ◌++◌, ◌+◌, ◌==◌, ◌∙◌, ◌∷◌, ◌≡◌}
-use Rattle.std.proofs.lemmas.Bool.Decides.{nat_tests}
-use Rattle.std.proofs.lemmas.Slice.Eq.{bytes_eq-Decides}
-use Rattle.std.specs.Str.{bytes_eq, chars}
-use Rattle.clap.specs.Lexer.{long_of, long_of_rest, name_and_value, short_of, strip_byte}
-use Rattle.clap.specs.Walk.{Text}
+use Rattle.std.{proofs.{lemmas.Bool.Decides.nat_tests, lemmas.Slice.Eq.bytes_eq-Decides}, specs.Str.{bytes_eq, chars}}
+use Rattle.clap.specs.{Lexer.{long_of, long_of_rest, name_and_value, short_of, strip_byte}, Walk.Text}
 use Rattle.mk_commands.specs.Given.{Flag, Said, behind, flag_said, markers_said, said, said_dashed, sweep_flag, unknown}
-use Rattle.mk_commands.specs.Given.{why_flag}
-use Rattle.mk_commands.specs.Told.{flag_name}
+use Rattle.mk_commands.specs.{Given.why_flag, Told.flag_name}
 
 -- ---- the parts of `--name=value`
 

@@ -1,24 +1,18 @@
 -- A word more that is an option.
 use Rattle.std.proofs.Common.{Bool, List, None, Option, Some, ap, codes, false, if◌then◌else◌, is_some, option_and_then}
-use Rattle.std.proofs.Common.{refl, subst, sym, true, [], ◌++◌, ◌∙◌, ◌∷◌, ◌≡◌}
-use Rattle.std.specs.Str.{bytes_eq}
-use Rattle.clap.specs.Faults.{long_fault, settle_fault}
-use Rattle.clap.specs.Walk.{Held, Row, Text, Walk, arg_by_long, has_row, idle, long_word, next, option, settled_rows}
-use Rattle.clap.specs.Walk.{with_values, without}
+use Rattle.std.{proofs.Common.{refl, subst, sym, true, [], ◌++◌, ◌∙◌, ◌∷◌, ◌≡◌}, specs.Str.{bytes_eq}}
+use Rattle.clap.specs.{Faults.{long_fault, settle_fault}, Walk.{Held, Row, Text, Walk, arg_by_long, has_row, idle}}
+use Rattle.clap.specs.Walk.{long_word, next, option, settled_rows, with_values, without}
 use Rattle.clap.specs.declared.builder.value_parser.Reading.TheVariants.{AsWritten}
-use Rattle.clap.specs.declared.error.kind.ErrorKind.{ErrorKind}
-use Rattle.clap.specs.Kinds.{Kinds}
-use Rattle.clap.specs.Lexer.{long_of}
+use Rattle.clap.specs.{declared.error.kind.ErrorKind.ErrorKind, Kinds.Kinds, Lexer.long_of}
 use Rattle.clap.specs.declared.parser.matches.ValueSource.TheVariants.{CommandLine}
 use Rattle.mk_commands.proofs.Lexing.{NameView, flag_long, is_flag, is_markers, is_other, name_view, no_value}
-use Rattle.mk_commands.proofs.Lexing.{said_long}
-use Rattle.mk_commands.proofs.Standing.{Id, IsAt, More, TellsAs, flag_id, flag_some, given_for, has_id, holds_set}
-use Rattle.mk_commands.proofs.Standing.{markers_id, passes_on, still_holds, text_of, waits}
+use Rattle.mk_commands.proofs.{Lexing.said_long, Standing.{Id, IsAt, More, TellsAs, flag_id, flag_some, given_for}}
+use Rattle.mk_commands.proofs.Standing.{has_id, holds_set, markers_id, passes_on, still_holds, text_of, waits}
 use Rattle.mk_commands.proofs.Walking.{holding, long_is, position_of, rules, standing, word_stops}
 use Rattle.mk_commands.specs.Given.{Flag, Form, Given, Numbers, bare, flag_said, gens, given_said, has_flag, markers_by}
 use Rattle.mk_commands.specs.Given.{runs, set_flag, sweep_flag, takes_flags, takes_markers, unknown, why_flag}
-use Rattle.mk_commands.specs.Given.{with_markers, with_words}
-use Rattle.mk_commands.specs.Told.{flag_name}
+use Rattle.mk_commands.specs.{Given.{with_markers, with_words}, Told.flag_name}
 
 -- ---- a word with a name
 

@@ -1,10 +1,8 @@
 -- What the matches of clap hold, row by row.
 use Rattle.std.proofs.Common.{Bool, List, None, Option, Some, ap, append-nil, false, find, is_some, option_and_then}
-use Rattle.std.proofs.Common.{option_map, refl, slice_get, true, [], ◌++◌, ◌∙◌, ◌∷◌, ◌≡◌}
-use Rattle.std.specs.Str.{bytes_eq}
-use Rattle.clap.specs.Values.{read_as}
-use Rattle.clap.specs.Walk.{Row, Text, at_row, first_of, has_row, more_values, one_of, with_values, without}
-use Rattle.clap.specs.declared.builder.value_parser.Reading.{Reading}
+use Rattle.std.{proofs.Common.{option_map, refl, slice_get, true, [], ◌++◌, ◌∙◌, ◌∷◌, ◌≡◌}, specs.Str.{bytes_eq}}
+use Rattle.clap.specs.{Values.read_as, Walk.{Row, Text, at_row, first_of, has_row, more_values, one_of, with_values}}
+use Rattle.clap.specs.{Walk.without, declared.builder.value_parser.Reading.Reading}
 use Rattle.clap.specs.declared.parser.matches.ValueSource.{ValueSource}
 
 -- the values of an id, and how they are read

@@ -1,22 +1,18 @@
 -- Where the walk of clap stands, with what its rows hold, and a word more that is a number.
 use Rattle.std.proofs.Common.{Bool, List, None, Option, Some, ap, codes, false, if◌then◌else◌, is_some, option_and_then}
-use Rattle.std.proofs.Common.{refl, subst, sym, true, [], ◌++◌, ◌||◌, ◌∙◌, ◌∷◌, ◌≡◌}
+use Rattle.std.proofs.{Common.{refl, subst, sym, true, [], ◌++◌, ◌||◌, ◌∙◌, ◌∷◌, ◌≡◌}, Math.Bool.{and-false, or-false}}
 use Rattle.std.specs.Str.{bytes_eq}
-use Rattle.clap.specs.Faults.{settle_fault, step_fault, word_fault}
-use Rattle.clap.specs.Walk.{Held, Row, Step, Text, Waiting, Walk, after_step, has_row, idle, is_pending, option}
-use Rattle.clap.specs.Walk.{settled_rows, value, with_values, without, word_met}
-use Rattle.clap.specs.declared.builder.value_parser.Reading.{Reading}
+use Rattle.clap.specs.{Faults.{settle_fault, step_fault, word_fault}, Walk.{Held, Row, Step, Text, Waiting, Walk}}
+use Rattle.clap.specs.Walk.{after_step, has_row, idle, is_pending, option, settled_rows, value, with_values, without}
+use Rattle.clap.specs.{Walk.word_met, declared.builder.value_parser.Reading.Reading}
 use Rattle.clap.specs.declared.builder.value_parser.Reading.TheVariants.{AsWritten}
 use Rattle.clap.specs.declared.parser.matches.ValueSource.TheVariants.{CommandLine}
-use Rattle.std.proofs.Math.Bool.{and-false, or-false}
-use Rattle.mk_commands.proofs.Walking.{count_filled, goes_on, holding, position_of, rest_fault, rest_rows}
-use Rattle.mk_commands.proofs.Walking.{rules, shape, standing, start_filled, step_stops}
-use Rattle.mk_commands.proofs.Rows.{entry, entry_other, entry_same, has_entry, row, values_set}
+use Rattle.mk_commands.proofs.Walking.{count_filled, goes_on, holding, position_of, rest_fault, rest_rows, rules, shape}
+use Rattle.mk_commands.proofs.{Walking.{standing, start_filled, step_stops}, Rows.{entry, entry_other, entry_same}}
+use Rattle.mk_commands.proofs.Rows.{has_entry, row, values_set}
 use Rattle.mk_commands.specs.Given.{Flag, Form, Given, Numbers, bare, gens, given_awaited, given_said, given_with_word}
 use Rattle.mk_commands.specs.Given.{has_flag, no_number, one_number, runs, said, sweep_flag, takes_markers, two_numbers}
-use Rattle.mk_commands.specs.Given.{why_flag, with_number, with_words}
-use Rattle.mk_commands.specs.Commands.{count_of, start_of}
-use Rattle.mk_commands.specs.Told.{flag_name}
+use Rattle.mk_commands.specs.{Given.{why_flag, with_number, with_words}, Commands.{count_of, start_of}, Told.flag_name}
 
 -- ---- what the rows hold
 

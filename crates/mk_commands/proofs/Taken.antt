@@ -1,31 +1,21 @@
 -- What clap takes and finds, of a whole command line.
 use Rattle.std.proofs.Common.{Bool, List, MatchOption, None, Option, Some, ap, codes, drop, false, fold, if◌then◌else◌}
 use Rattle.std.proofs.Common.{is_some, option_and_then, option_map, refl, slice_get, subst, sym, true, [], ◌||◌, ◌∙◌}
-use Rattle.std.proofs.Common.{◌∷◌, ◌≡◌, ◌≢◌}
-use Rattle.std.specs.Str.{bytes_eq}
-use Rattle.clap.proofs.FaultLemmas.{leaf_fault}
-use Rattle.clap.specs.declared.parser.matches.ArgMatches.{ArgMatches}
-use Rattle.clap.specs.Faults.{check_fault, default_fault, defaults_fault, fault_of, given_default_fault, settle_fault}
-use Rattle.clap.specs.Simple.{App, built, matches_of}
-use Rattle.clap.specs.declared.builder.value_parser.Reading.TheVariants.{AsWritten}
-use Rattle.clap.specs.declared.parser.matches.ValueSource.TheVariants.{DefaultValue}
-use Rattle.clap.specs.Kinds.{Kinds, or_else}
-use Rattle.clap.specs.Matches.{found_of}
-use Rattle.clap.specs.Values.{bool_text, read_as}
-use Rattle.clap.specs.Walk.{Row, Rule, Text, first_of, has_row, idle, nothing_held, one_of, rows_of, with_default}
-use Rattle.clap.specs.Walk.{with_values}
+use Rattle.std.{proofs.Common.{◌∷◌, ◌≡◌, ◌≢◌}, specs.Str.{bytes_eq}}
+use Rattle.clap.{proofs.FaultLemmas.{leaf_fault}, specs.Walk.{nothing_held, one_of, rows_of, with_default, with_values}}
+use Rattle.clap.specs.{declared.parser.matches.ArgMatches.ArgMatches, Faults.{check_fault, default_fault}}
+use Rattle.clap.specs.{Faults.{defaults_fault, fault_of, given_default_fault, settle_fault}, Simple.{App, built}}
+use Rattle.clap.specs.{Simple.matches_of, declared.builder.value_parser.Reading.TheVariants.AsWritten}
+use Rattle.clap.specs.{declared.parser.matches.ValueSource.TheVariants.DefaultValue, Kinds.{Kinds, or_else}}
+use Rattle.clap.specs.{Matches.found_of, Values.{bool_text, read_as}, Walk.{Row, Rule, Text, first_of, has_row, idle}}
 use Rattle.clap.specs.declared.builder.value_parser.Reading.{Reading}
 use Rattle.mk_commands.proofs.Standing.{Holds, Id, TellsAs, as_entry, count_id, flag_id, given_for, markers_id}
-use Rattle.mk_commands.proofs.Standing.{start_id, text_of}
-use Rattle.mk_commands.proofs.Walking.{count_filled, flag_filled, markers_filled, rest_fault, rest_rows, rules, shape}
-use Rattle.mk_commands.proofs.Walking.{standing, start_filled}
+use Rattle.mk_commands.proofs.{Standing.{start_id, text_of}, Walking.{count_filled, flag_filled, markers_filled}}
+use Rattle.mk_commands.proofs.Walking.{rest_fault, rest_rows, rules, shape, standing, start_filled}
 use Rattle.mk_commands.proofs.Rows.{entry, entry_other, entry_same, first_of_entry, has_entry, one_of_entry, row}
-use Rattle.mk_commands.proofs.Rows.{values_added}
-use Rattle.mk_commands.proofs.Tells.{tells}
+use Rattle.mk_commands.proofs.{Rows.values_added, Tells.tells}
 use Rattle.mk_commands.specs.Given.{Form, Given, bare, gens, given_by, no_number, nothing_given, runs, sweep_flag}
-use Rattle.mk_commands.specs.Given.{why_flag}
-use Rattle.mk_commands.specs.Told.{HasFlags, HasGiven, app_named}
-use Rattle.mk_commands.specs.declared.commands.Command.{Command}
+use Rattle.mk_commands.specs.{Given.why_flag, Told.{HasFlags, HasGiven, app_named}, declared.commands.Command.Command}
 
 -- ---- the values that stand where a flag wasn't given
 

@@ -2,18 +2,15 @@
 use Rattle.std.proofs.Common.{Bool, List, None, Option, Some, ap, codes, false, inl, inr, is_some, option_and_then}
 use Rattle.std.proofs.Common.{refl, subst, sym, true, [], ◌∙◌, ◌∷◌, ◌≡◌}
 use Rattle.clap.specs.declared.builder.value_parser.Reading.TheVariants.{AsWritten}
-use Rattle.clap.specs.declared.error.kind.ErrorKind.{ErrorKind}
-use Rattle.clap.specs.Faults.{settle_fault, walk_fault}
-use Rattle.clap.specs.Walk.{Row, Text, arg_by_long, has_row, idle, next, option, plain_word, settled_rows, trailing}
-use Rattle.clap.specs.Walk.{with_values, without}
-use Rattle.clap.specs.declared.parser.matches.ValueSource.TheVariants.{CommandLine}
+use Rattle.clap.specs.{declared.error.kind.ErrorKind.ErrorKind, Faults.{settle_fault, walk_fault}, Walk.{Row, Text}}
+use Rattle.clap.specs.Walk.{arg_by_long, has_row, idle, next, option, plain_word, settled_rows, trailing, with_values}
+use Rattle.clap.specs.{Walk.without, declared.parser.matches.ValueSource.TheVariants.CommandLine}
 use Rattle.mk_commands.proofs.Lexing.{NameView, flag_long, is_flag, is_markers, is_other, name_view, said_long}
-use Rattle.mk_commands.proofs.Lexing.{says_dashed, says_long}
-use Rattle.mk_commands.proofs.Standing.{Holds, IsAt, More, TellsAs, has_id, holds_set, markers_id}
-use Rattle.mk_commands.proofs.Standing.{number_tells, passes_on, still_holds, told_awaiting, told_ended, told_free}
-use Rattle.mk_commands.proofs.Walking.{PassesBy, View, bundle_is, bundle_stops, holding, is_bundle, is_ends, is_long}
-use Rattle.mk_commands.proofs.Walking.{is_odd, is_plain, long_is, long_stops, lost, odd_passes, plain_passes}
-use Rattle.mk_commands.proofs.Walking.{position_of, rules, standing, view, word_stops}
+use Rattle.mk_commands.proofs.{Lexing.{says_dashed, says_long}, Standing.{Holds, IsAt, More, TellsAs, has_id}}
+use Rattle.mk_commands.proofs.Standing.{holds_set, markers_id, number_tells, passes_on, still_holds, told_awaiting}
+use Rattle.mk_commands.proofs.{Standing.{told_ended, told_free}, Walking.{PassesBy, View, bundle_is, bundle_stops}}
+use Rattle.mk_commands.proofs.Walking.{holding, is_bundle, is_ends, is_long, is_odd, is_plain, long_is, long_stops}
+use Rattle.mk_commands.proofs.Walking.{lost, odd_passes, plain_passes, position_of, rules, standing, view, word_stops}
 use Rattle.mk_commands.proofs.OptionWords.{Awaiting, Free, at_value, conflict_if, is_none, long_go, markers_alone}
 use Rattle.mk_commands.proofs.OptionWords.{some_markers}
 use Rattle.mk_commands.specs.Given.{Form, Given, Numbers, Said, bare, ends, given_awaited, given_said, given_with_word}

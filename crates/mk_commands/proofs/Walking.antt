@@ -1,18 +1,13 @@
 -- The walk of clap over the words, word by word.
 use Rattle.std.proofs.Common.{Bool, List, None, Option, Some, ℕ, ap, codes, drop, encode_utf8, false, fold, inl, inr}
 use Rattle.std.proofs.Common.{length, refl, slice_get, subst, sym, true, [], ◌&&◌, ◌∙◌, ◌∷◌, ◌≡◌, ◌⊎◌}
-use Rattle.std.proofs.Math.Bool.{and-false}
-use Rattle.std.specs.Str.{bytes_eq, chars}
-use Rattle.clap.proofs.FaultLemmas.{fault_ends}
-use Rattle.clap.proofs.WalkLemmas.{bundle_ends}
+use Rattle.std.{proofs.Math.Bool.{and-false}, specs.Str.{bytes_eq, chars}}
+use Rattle.clap.proofs.{FaultLemmas.fault_ends, WalkLemmas.bundle_ends}
 use Rattle.clap.specs.Faults.{bundle_fault, flags_fault, long_fault, settle_fault, short_fault, step_fault, turn_fault}
-use Rattle.clap.specs.Faults.{walk_fault, word_fault}
-use Rattle.clap.specs.Walk.{Held, Row, Rule, Step, Text, Waiting, Walk, after_step, arg_by_long, arg_by_short, idle}
-use Rattle.clap.specs.Walk.{takes_values, trailing, value, walked, word_met}
-use Rattle.clap.specs.Kinds.{Kinds, or_else}
-use Rattle.clap.specs.Lexer.{long_of, short_of}
-use Rattle.clap.specs.Simple.{Shape, built, filled, filled_from, with_index}
-use Rattle.clap.specs.declared.error.kind.ErrorKind.{ErrorKind}
+use Rattle.clap.specs.{Faults.{walk_fault, word_fault}, Walk.{Held, Row, Rule, Step, Text, Waiting, Walk, after_step}}
+use Rattle.clap.specs.Walk.{arg_by_long, arg_by_short, idle, takes_values, trailing, value, walked, word_met}
+use Rattle.clap.specs.{Kinds.{Kinds, or_else}, Lexer.{long_of, short_of}, Simple.{Shape, built, filled, filled_from}}
+use Rattle.clap.specs.{Simple.with_index, declared.error.kind.ErrorKind.ErrorKind}
 use Rattle.mk_commands.proofs.Lexing.{says_dashed}
 use Rattle.mk_commands.specs.Given.{Form, Numbers, bare, gens, no_number, one_number, plain, said, two_numbers}
 use Rattle.mk_commands.specs.Told.{app_named, flag_rule, markers_rule, positional_rule, rules_of}

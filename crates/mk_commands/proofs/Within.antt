@@ -1,9 +1,7 @@
 -- The numbers of each command are in their bounds.
 use Rattle.std.proofs.Common.{Bool, IfSome, List, None, Option, Some, ℕ, arith, false, if◌then◌else◌, nat_le, nat_lt}
-use Rattle.std.proofs.Common.{option_and_then, true, [], ◌∷◌, ◌≡◌, ◌≤◌}
-use Rattle.std.proofs.lemmas.Bool.Decides.{nat_tests}
-use Rattle.mk_commands.specs.Commands.{IsWithin, command_of, gen_of, gen_with, markers_of, run_of}
-use Rattle.mk_commands.specs.Given.{Given}
+use Rattle.std.proofs.{Common.{option_and_then, true, [], ◌∷◌, ◌≡◌, ◌≤◌}, lemmas.Bool.Decides.nat_tests}
+use Rattle.mk_commands.specs.{Commands.{IsWithin, command_of, gen_of, gen_with, markers_of, run_of}, Given.Given}
 use Rattle.mk_commands.specs.declared.commands.Command.{Command}
 
 few_if : (n : ℕ) (b : Bool) → nat_le n 8 ≡ b → IfSome (if b then Some n else None) (λ m. m ≤ 8)

@@ -1,11 +1,9 @@
 -- The commands of the words.
 use Rattle.std.specs.Prelude.{ℕ, Bool, ◌≤◌, ◌&&◌, ◌||◌, nat_lt, nat_le, List, [], ◌∷◌, Option, Some, None}
-use Rattle.std.specs.Prelude.{option_and_then, if◌then◌else◌}
-use Rattle.std.specs.Str.{bytes_eq}
+use Rattle.std.specs.{Prelude.{option_and_then, if◌then◌else◌}, Str.bytes_eq}
 use lib.Chars.{codes}
 use Rattle.mk_script.specs.Names.{number_of_word}
-use Rattle.mk_commands.specs.declared.commands.Command.{Command}
-use Rattle.mk_commands.specs.declared.commands.Command.TheVariants.{OnText, Gen}
+use Rattle.mk_commands.specs.{declared.commands.Command.Command, declared.commands.Command.TheVariants.{OnText, Gen}}
 use Rattle.mk_commands.specs.declared.commands.TextCommand.{TextCommand}
 use Rattle.mk_commands.specs.declared.commands.TextCommand.TheVariants.{Run, Check, Print, Replay, Trace}
 use Rattle.mk_commands.specs.Given.{Given, Numbers, no_number, one_number, two_numbers, runs, gens, bare, given_by}

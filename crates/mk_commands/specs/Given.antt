@@ -1,7 +1,6 @@
 -- The words after a command's name, by what the command takes.
 use Rattle.std.specs.Prelude.{ℕ, Bool, true, false, List, [], ◌∷◌, ◌==◌, if◌then◌else◌, slice_get, Option, Some, None}
-use Rattle.std.specs.Prelude.{is_some, option_and_then, option_map}
-use Rattle.std.specs.Str.{bytes_eq, chars}
+use Rattle.std.specs.{Prelude.{is_some, option_and_then, option_map}, Str.{bytes_eq, chars}}
 use lib.Chars.{codes}
 
 -- what a command takes: options, numbers, or nothing

@@ -1,9 +1,7 @@
 -- What each command takes, and makes of what is given. Private functions alone cite these.
 use Rattle.std.specs.Prelude.{Option}
-use Rattle.mk_commands.specs.declared.commands.Command.{Command}
-use Rattle.mk_commands.specs.declared.words.Named.{Named}
-use Rattle.mk_commands.specs.declared.words.Named.TheVariants.{Run, Gen, Alone}
-use Rattle.mk_commands.specs.Commands.{run_of, gen_of, alone_of}
+use Rattle.mk_commands.specs.{declared.commands.Command.Command, declared.words.Named.Named}
+use Rattle.mk_commands.specs.{declared.words.Named.TheVariants.{Run, Gen, Alone}, Commands.{run_of, gen_of, alone_of}}
 use Rattle.mk_commands.specs.Given.{Form, Given, runs, gens, bare}
 
 abbrev pub form_of : Named → Form

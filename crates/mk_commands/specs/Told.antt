@@ -1,12 +1,10 @@
 -- What clap is told of the commands, and what its matches hold of the words. Private functions alone cite these.
 use Rattle.std.specs.Prelude.{◌≡◌, true, List, [], ◌∷◌, Some}
 use lib.Chars.{codes}
-use Rattle.clap.specs.Values.{bool_text}
-use Rattle.clap.specs.Walk.{Row, Rule, Text, first_of, one_of}
-use Rattle.clap.specs.Simple.{App, Shape, new_rule, new_shape}
-use Rattle.clap.specs.declared.builder.action.ArgAction.TheVariants.{Set, SetTrue}
-use Rattle.mk_commands.specs.Commands.{start_of, count_of}
-use Rattle.mk_commands.specs.Given.{Form, runs, gens, bare, Flag, sweep_flag, why_flag, Given}
+use Rattle.clap.specs.{Values.bool_text, Walk.{Row, Rule, Text, first_of, one_of}, Simple.{App, Shape, new_rule}}
+use Rattle.clap.specs.{Simple.new_shape, declared.builder.action.ArgAction.TheVariants.{Set, SetTrue}}
+use Rattle.mk_commands.specs.{Commands.{start_of, count_of}, Given.{Form, runs, gens, bare, Flag, sweep_flag, why_flag}}
+use Rattle.mk_commands.specs.Given.{Given}
 
 abbrev pub markers_rule : Rule
 markers_rule = record (new_rule (codes "markers")) { long = Some (codes "markers"); action = Some Set }

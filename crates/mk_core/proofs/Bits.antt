@@ -1,6 +1,5 @@
 -- Bits of words.
-use Rattle.std.proofs.Math.Pow.{pow_mono}
-use Rattle.std.proofs.lemmas.Nat.Bits.{bit_at_above}
+use Rattle.std.proofs.{Math.Pow.pow_mono, lemmas.Nat.Bits.bit_at_above}
 use Rattle.mk_core.proofs.Vocabulary.{ℕ, ap, arith, false, has_bit, ne_eqb, ◌+◌, ◌<◌, ◌==◌, ◌^◌, ◌≡◌, ◌≤◌}
 
 -- a word has no bit after its last

@@ -1,11 +1,8 @@
 -- The bits that a word has and another hasn't.
-use Rattle.std.proofs.lemmas.Nat.Bits.{bit_at-lt, bit_at-suc, bit_at_and, bit_at_lowest, same_from_bits}
-use Rattle.std.proofs.Common.{min}
-use Rattle.std.proofs.lemmas.Nat.{and_le_l}
-use Rattle.std.specs.Int.{bit_at}
+use Rattle.std.proofs.{lemmas.Nat.Bits.{bit_at-lt, bit_at-suc, bit_at_and, bit_at_lowest, same_from_bits}, Common.min}
+use Rattle.std.{proofs.lemmas.Nat.{and_le_l}, specs.Int.{bit_at}}
 use Rattle.mk_core.proofs.Vocabulary.{ℕ, ap, arith, bit_and, not, refl, suc, sym, zero, ◌%◌, ◌&&◌, ◌-◌, ◌/◌, ◌<◌, ◌==◌}
-use Rattle.mk_core.proofs.Vocabulary.{◌∙◌, ◌≡◌, ◌≤◌}
-use Rattle.mk_core.specs.HistoryLaws.{BitsWithout}
+use Rattle.mk_core.{proofs.Vocabulary.{◌∙◌, ◌≡◌, ◌≤◌}, specs.HistoryLaws.{BitsWithout}}
 
 half_and : (a b : ℕ) → bit_and a b / 2 ≡ bit_and (a / 2) (b / 2)
 half_and a b = same_from_bits (bit_and a b / 2) (bit_and (a / 2) (b / 2))

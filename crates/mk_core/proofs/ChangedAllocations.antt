@@ -4,11 +4,9 @@ use Rattle.mk_core.proofs.Vocabulary.{PlacedAllocation, Some, Words, ℕ, and-fa
 use Rattle.mk_core.proofs.Vocabulary.{header_at, is_small_object, kinds_of, length, map, never_granted, not}
 use Rattle.mk_core.proofs.Vocabulary.{object_placed, pages_made, placed_at, refl, stands_in, storage_of, subst, sym}
 use Rattle.mk_core.proofs.Vocabulary.{true, unreleased_storage, [], ◌&&◌, ◌++◌, ◌+◌, ◌/◌, ◌<◌, ◌∙◌, ◌∷◌, ◌≡◌}
-use Rattle.mk_core.proofs.Sizes.{large_is_not_small}
-use Rattle.mk_core.proofs.UnreleasedStorage.{unreleased_kept}
+use Rattle.mk_core.proofs.{Sizes.large_is_not_small, UnreleasedStorage.unreleased_kept}
 use Rattle.mk_never.specs.Types.{is_large}
-use Rattle.mk_core.specs.Allocations.{freed_where_it_stands, no_longer_fresh, with_released}
-use Rattle.mk_core.specs.NewPlaces.{object_of}
+use Rattle.mk_core.specs.{Allocations.{freed_where_it_stands, no_longer_fresh, with_released}, NewPlaces.object_of}
 use Rattle.std.proofs.{Math.ListN.get_or-map as get_or-map-default, Math.Seq.get_or-append_seam, lemmas.Bool.cond_both}
 
 -- what a change leaves alone

@@ -2,12 +2,9 @@
 use Rattle.mk_core.proofs.Vocabulary.{Answer, Ptr, all_below, answered, asked, calls, calls_from, left_from}
 use Rattle.mk_core.proofs.Vocabulary.{may_turn_black, never_first, pointed_cell, refl, replicate, [], ◌++◌, ◌∷◌, ◌≡◌}
 use Rattle.mk_core.proofs.Schedules.{blackened_before_the_move, by, c0, freed_after_begin, host, m0, one_page}
-use Rattle.mk_core.proofs.Schedules.{pointer_page}
-use Rattle.mk_core.proofs.MoreSchedules.{a_quarter_and_all, exchanged, full_then_reused, granted_while_marking}
-use Rattle.mk_core.proofs.MoreSchedules.{two_pages}
-use Rattle.mk_core.specs.History.{RefinesNever}
-use Rattle.mk_never.specs.NeverHeap.{replies_of}
-use Rattle.mk_never.specs.declared.operations.Reply.{Reply}
+use Rattle.mk_core.proofs.{Schedules.pointer_page, MoreSchedules.{a_quarter_and_all, exchanged, full_then_reused}}
+use Rattle.mk_core.{proofs.MoreSchedules.{granted_while_marking, two_pages}, specs.History.{RefinesNever}}
+use Rattle.mk_never.specs.{NeverHeap.replies_of, declared.operations.Reply.Reply}
 
 -- Two News, two Frees, two clears and a New, and then the register of the last New isn't null.
 pub freed_answers : (replies_of (never_first one_page) (asked (calls one_page freed_after_begin))

@@ -1,10 +1,9 @@
 -- What the schedules leave, counted: allocations, held and fresh words, tallies, and frees that are due.
 use Rattle.mk_core.proofs.Vocabulary.{Config, Event, List, Step, ℕ, all_below, ap, arith, calls_from, drop, false}
 use Rattle.mk_core.proofs.Vocabulary.{false≢true, is_give, left, left_from, may_turn_black, pointed_cell, refl, take}
-use Rattle.mk_core.proofs.Vocabulary.{true, unreleased_storage, [], ◌<◌, ◌∷◌, ◌≡◌}
-use Rattle.mk_core.proofs.EventsAt.{Also, AtEach, at_each, event_number, ◌and◌}
-use Rattle.mk_core.proofs.Schedules.{blackened_before_the_move, by, c0, freed_after_begin, host, m0, one_page}
-use Rattle.mk_core.proofs.Schedules.{pointer_page}
+use Rattle.mk_core.proofs.{Vocabulary.{true, unreleased_storage, [], ◌<◌, ◌∷◌, ◌≡◌}, EventsAt.{Also, AtEach, at_each}}
+use Rattle.mk_core.proofs.{EventsAt.{event_number, ◌and◌}, Schedules.{blackened_before_the_move, by, c0}}
+use Rattle.mk_core.proofs.Schedules.{freed_after_begin, host, m0, one_page, pointer_page}
 use Rattle.mk_core.proofs.MoreSchedules.{a_quarter_and_all, full_then_reused, two_pages}
 use Rattle.mk_core.specs.Counts.{IsDue, IsTidy, TalliesAreExact, TalliesAreTidy, ends, full_answers, releases}
 use Rattle.mk_core.specs.Allocations.{fresh_words_of, held_by_allocations}

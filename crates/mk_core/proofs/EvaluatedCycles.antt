@@ -4,8 +4,7 @@ use Rattle.mk_core.proofs.Vocabulary.{is_begin, is_close, is_end, is_release, le
 use Rattle.mk_core.proofs.Vocabulary.{placed_at, pointed_cell, refl, sym, true, world_behind, [], ◌||◌, ◌∷◌, ◌≡◌}
 use Rattle.mk_core.proofs.EventsAt.{at_number, cycle_of, event_number, next_of}
 use Rattle.mk_core.proofs.Schedules.{blackened_before_the_move, by, c0, freed_after_begin, host, m0, one_page}
-use Rattle.mk_core.proofs.Schedules.{pointer_page}
-use Rattle.mk_core.proofs.MoreSchedules.{before_the_sweep, exchanged, sweeping_mark}
+use Rattle.mk_core.proofs.{Schedules.pointer_page, MoreSchedules.{before_the_sweep, exchanged, sweeping_mark}}
 use Rattle.mk_core.specs.Cycles.{Cycle, IsInSnapshot, NoneSweeps, NoneSweepsFrom, sweeps}
 
 -- The first cycle is begun in a caller's turn and ended in the host's.

@@ -2,16 +2,10 @@
 use Rattle.mk_core.proofs.Vocabulary.{Answer, Bool, Config, Event, List, Null, Op, Ptr, Some, Step, Value, ℕ, all_below}
 use Rattle.mk_core.proofs.Vocabulary.{ap, arith, calls_from, false, false≢true, flight_of, left, left_from}
 use Rattle.mk_core.proofs.Vocabulary.{never_behind, pointed_cell, refl, subst, sym, take, true, [], ◌↔◌, ◌∙◌, ◌≡◌}
-use Rattle.mk_core.proofs.EventsAt.{Also, AtEach, at_each}
-use Rattle.mk_core.proofs.MoreSchedules.{exchanged}
-use Rattle.mk_core.proofs.Schedules.{by, c0, pointer_page}
-use Rattle.mk_never.specs.NeverHeap.{register_at, target_of, word_at}
-use Rattle.mk_never.specs.declared.values.Target.TheVariants.{WordOf}
-use Rattle.mk_core.specs.Calls.{i_of, p_of, q_of}
-use Rattle.mk_core.specs.Exchanges.{ComparesValues, ExchangesCompareValues}
-use Rattle.mk_core.specs.Accesses.{caller_number}
-use Rattle.mk_core.specs.Effects.{answer_decided}
-use Rattle.mk_core.specs.declared.events.Seat.TheVariants.{Caller}
+use Rattle.mk_core.proofs.{EventsAt.{Also, AtEach, at_each}, MoreSchedules.exchanged, Schedules.{by, c0, pointer_page}}
+use Rattle.mk_never.specs.{NeverHeap.{register_at, target_of, word_at}, declared.values.Target.TheVariants.WordOf}
+use Rattle.mk_core.specs.{Calls.{i_of, p_of, q_of}, Exchanges.{ComparesValues, ExchangesCompareValues}}
+use Rattle.mk_core.specs.{Accesses.caller_number, Effects.answer_decided, declared.events.Seat.TheVariants.Caller}
 
 abbrev pub is_cas : Step → Bool
 is_cas Step.Cas = true

@@ -2,10 +2,9 @@
 -- the host in its turn, while a caller tries to enter and a marker visits. An event of its own may leave less.
 use Rattle.mk_core.proofs.Vocabulary.{AreOfOthers, Event, List, None, Op, Seat, Step, all_below, ap, calls_from}
 use Rattle.mk_core.proofs.Vocabulary.{eqb-false, false≢true, left, left_from, ltb-true, pointed_cell, refl, [], ◌++◌}
-use Rattle.mk_core.proofs.Vocabulary.{◌∷◌}
-use Rattle.mk_core.proofs.SmallCycles.{begun_in_stop, by_caller, by_host, by_marker, small, three_objects}
-use Rattle.mk_core.specs.Frames.{CallIsLeft, IsLeft, OwnIsLeft, Steady, TurnIsLeft}
-use Rattle.mk_core.specs.LongerLists.{IsStillTheSame}
+use Rattle.mk_core.proofs.{Vocabulary.◌∷◌, SmallCycles.{begun_in_stop, by_caller, by_host, by_marker, small}}
+use Rattle.mk_core.proofs.SmallCycles.{three_objects}
+use Rattle.mk_core.specs.{Frames.{CallIsLeft, IsLeft, OwnIsLeft, Steady, TurnIsLeft}, LongerLists.IsStillTheSame}
 
 -- The caller has loaded the registers of a SetPtr. The host takes the turn, and finds the caller's gate taken.
 

@@ -1,15 +1,12 @@
 -- What headers and freed bits tell after a small history: the one freed bit is that of the third object.
-use Rattle.std.proofs.Common.{ap₂}
-use Rattle.std.proofs.lemmas.Nat.Bits.{bit_at-pow_other, bit_at-zero}
+use Rattle.std.proofs.{Common.ap₂, lemmas.Nat.Bits.{bit_at-pow_other, bit_at-zero}}
 use Rattle.mk_core.proofs.Vocabulary.{Bool, Cell, Later, Some, World, ℕ, all_below, ap, arith, cases_eq, cells_under}
 use Rattle.mk_core.proofs.Vocabulary.{eqb-false, eqb-true, false, false≢true, first_moment, has_bit, header_at}
 use Rattle.mk_core.proofs.Vocabulary.{header_in, inl, inr, left, left_from, ltb-true, placed_at, pointed_cell, refl}
 use Rattle.mk_core.proofs.Vocabulary.{stands_in, subst, suc, sym, true, zero, zero_words_of, [], ◌*◌, ◌+◌, ◌<◌, ◌==◌}
-use Rattle.mk_core.proofs.Vocabulary.{◌∙◌, ◌∷◌, ◌≡◌}
-use Rattle.mk_core.proofs.SmallCycles.{small, three_objects}
+use Rattle.mk_core.proofs.{Vocabulary.{◌∙◌, ◌∷◌, ◌≡◌}, SmallCycles.{small, three_objects}}
 use Rattle.mk_geom.specs.Headers.{IsHeaderWord}
-use Rattle.mk_core.specs.Cells.{is_freed}
-use Rattle.mk_core.specs.Readings.{IsTaken, WordsTellWhatStands}
+use Rattle.mk_core.specs.{Cells.is_freed, Readings.{IsTaken, WordsTellWhatStands}}
 
 abbrev pub second_cell : Cell
 second_cell = record { page = 0; index = 1 }

@@ -3,9 +3,8 @@
 use Rattle.mk_core.proofs.Vocabulary.{Moment, ℕ, all_below, arith, false, false≢true, first_moment, inl, left}
 use Rattle.mk_core.proofs.Vocabulary.{left_from, ltb-true, pointed_cell, points_well, refl, replicate, slice_index, suc}
 use Rattle.mk_core.proofs.Vocabulary.{true, word_points_well, zero, zero_words_of, [], ◌*◌, ◌++◌, ◌+◌, ◌/◌, ◌<◌, ◌∷◌}
-use Rattle.mk_core.proofs.Vocabulary.{◌≡◌}
-use Rattle.mk_core.proofs.SmallCycles.{marked_beside, page_dirtied, small, three_objects, written_beside}
-use Rattle.mk_core.proofs.ListTests.{list_all-at}
+use Rattle.mk_core.proofs.{Vocabulary.◌≡◌, SmallCycles.{marked_beside, page_dirtied, small, three_objects}}
+use Rattle.mk_core.proofs.{SmallCycles.written_beside, ListTests.list_all-at}
 use Rattle.mk_geom.specs.Addresses.{address_of}
 use Rattle.mk_core.specs.ClosedMarks.{DirtyIsOwed, IsGuarded, MarkingIsGuarded, OwesDirty, PageIsDirty, PointsWell}
 

@@ -1,6 +1,5 @@
 -- Each of the schedules is a history.
-use Rattle.std.proofs.lemmas.List.Elements.{All-cons, All-nil, All-replicate}
-use Rattle.std.proofs.Common.{All, le_refl}
+use Rattle.std.proofs.{lemmas.List.Elements.{All-cons, All-nil, All-replicate}, Common.{All, le_refl}}
 use Rattle.mk_core.proofs.Vocabulary.{AreEnabledFrom, Bool, Config, Event, IsHistory, IsWithinLimits, List, NeverState}
 use Rattle.mk_core.proofs.Vocabulary.{None, Op, Option, Some, To, World, ℕ, all_below, arith, calls_from, drop}
 use Rattle.mk_core.proofs.Vocabulary.{eqb-true, failing, false, first_world, if◌then◌else◌, left_from, length}
@@ -11,13 +10,10 @@ use Rattle.mk_core.proofs.MoreSchedules.{granted_while_marking, no_fault_full, n
 use Rattle.mk_core.proofs.MoreSchedules.{no_fault_swept, sweeping_mark, two_pages}
 use Rattle.mk_core.proofs.Schedules.{blackened_before_the_move, by, c0, fault, first_fault, freed_after_begin, heap_of}
 use Rattle.mk_core.proofs.Schedules.{host, m0, no_fault_blackened, no_fault_freed, one_page, pointer_page}
-use Rattle.mk_core.proofs.EventsAt.{◌and◌}
-use Rattle.mk_core.proofs.HistoryParts.{earlier_part_is_history}
+use Rattle.mk_core.proofs.{EventsAt.◌and◌, HistoryParts.earlier_part_is_history}
 use Rattle.mk_never.specs.Admitted.{AccessIsAdmitted, IsAdmitted, IsCaller, OperandsAreInRange, StoreIsAdmitted}
-use Rattle.mk_never.specs.declared.types.Kind.{Kind}
-use Rattle.mk_never.specs.declared.types.Kind.TheVariants.{Num}
-use Rattle.mk_core.specs.Config.{IsAmong, IsBetween, IsTypeAmong}
-use Rattle.mk_core.specs.History.{AreEnabled, CallsAreAdmitted}
+use Rattle.mk_never.specs.{declared.types.Kind.Kind, declared.types.Kind.TheVariants.Num}
+use Rattle.mk_core.specs.{Config.{IsAmong, IsBetween, IsTypeAmong}, History.{AreEnabled, CallsAreAdmitted}}
 
 -- Where no fault is found, each event is enabled.
 

@@ -2,15 +2,12 @@
 use Rattle.mk_core.proofs.Vocabulary.{Answer, Event, IsHistory, IsWithinLimits, List, NoneServesFrom, Op, Some}
 use Rattle.mk_core.proofs.Vocabulary.{StandsAtItsPlace, Step, all_below, answered, ap, arith, calls, calls_from, false}
 use Rattle.mk_core.proofs.Vocabulary.{false≢true, is_give, left, left_from, pointed_cell, refl, replicate, take, true}
-use Rattle.mk_core.proofs.Vocabulary.{unreleased_storage, [], ◌<◌, ◌∷◌, ◌≡◌}
-use Rattle.mk_core.proofs.EvaluatedHistories.{admitted, history, numbers, one_type, small_limits}
-use Rattle.mk_core.proofs.EventsAt.{Also, AtEach, at_each, event_number, served, stands_at, turn_number, ◌and◌}
-use Rattle.mk_core.proofs.LargeSchedule.{large_freed, no_fault_large, three_pages}
-use Rattle.mk_core.proofs.Schedules.{by, c0}
-use Rattle.mk_core.specs.History.{RefinesNever}
-use Rattle.mk_core.specs.Allocations.{FitsAmongAllocations, fresh_words_of, held_by_allocations}
-use Rattle.mk_core.specs.Allocations.{place_among_allocations}
-use Rattle.mk_core.specs.Counts.{IsDue, IsTidy, TalliesAreTidy}
+use Rattle.mk_core.proofs.{Vocabulary.{unreleased_storage, [], ◌<◌, ◌∷◌, ◌≡◌}, EvaluatedHistories.{admitted, history}}
+use Rattle.mk_core.proofs.{EvaluatedHistories.{numbers, one_type, small_limits}, EventsAt.{Also, AtEach, at_each}}
+use Rattle.mk_core.proofs.EventsAt.{event_number, served, stands_at, turn_number, ◌and◌}
+use Rattle.mk_core.proofs.{LargeSchedule.{large_freed, no_fault_large, three_pages}, Schedules.{by, c0}}
+use Rattle.mk_core.specs.{History.RefinesNever, Allocations.{FitsAmongAllocations, fresh_words_of, held_by_allocations}}
+use Rattle.mk_core.specs.{Allocations.place_among_allocations, Counts.{IsDue, IsTidy, TalliesAreTidy}}
 use Rattle.mk_never.specs.declared.types.Kind.TheVariants.{Num}
 
 three_pages_limits : IsWithinLimits three_pages

@@ -1,12 +1,9 @@
 -- Closed marks along two small cycles: open after a `begin` and beside a caller that writes, and closed before a
 -- `close`.
 use Rattle.mk_core.proofs.Vocabulary.{Step, all_below, false≢true, leb-true, left, left_from, ltb-true, pointed_cell}
-use Rattle.mk_core.proofs.Vocabulary.{refl, [], ◌++◌, ◌∷◌}
-use Rattle.mk_core.proofs.SmallCycles.{begun_in_stop, by_host, marked_beside, marked_in_stop, small, three_objects}
-use Rattle.mk_core.proofs.SmallCycles.{written_beside}
-use Rattle.mk_core.proofs.ListTests.{numbered_all}
-use Rattle.mk_core.proofs.MarkTests.{marks_closed_by_test}
-use Rattle.mk_core.specs.ClosedMarks.{MarksAreClosed}
+use Rattle.mk_core.proofs.{Vocabulary.{refl, [], ◌++◌, ◌∷◌}, SmallCycles.{begun_in_stop, by_host, marked_beside}}
+use Rattle.mk_core.proofs.{SmallCycles.{marked_in_stop, small, three_objects, written_beside}, ListTests.numbered_all}
+use Rattle.mk_core.{proofs.MarkTests.{marks_closed_by_test}, specs.ClosedMarks.{MarksAreClosed}}
 
 -- closed marks
 

@@ -3,9 +3,8 @@ use Rattle.mk_core.proofs.Vocabulary.{Bool, Event, List, NoneServesFrom, Op, Som
 use Rattle.mk_core.proofs.Vocabulary.{ap, false, false≢true, is_begin, is_close, is_end, is_release, left, left_from}
 use Rattle.mk_core.proofs.Vocabulary.{may_turn_black, pointed_cell, refl, take, true, unreleased_storage, [], ◌≡◌}
 use Rattle.mk_core.proofs.EventsAt.{Also, AtEach, at_each, at_number, cycle_of, event_number, next_of, served}
-use Rattle.mk_core.proofs.EventsAt.{stands_at, turn_number, ◌and◌}
-use Rattle.mk_core.proofs.Schedules.{by, c0, freed_after_begin, host, one_page}
-use Rattle.mk_core.proofs.MoreSchedules.{full_then_reused, granted_while_marking, two_pages}
+use Rattle.mk_core.proofs.{EventsAt.{stands_at, turn_number, ◌and◌}, Schedules.{by, c0, freed_after_begin, host}}
+use Rattle.mk_core.proofs.{Schedules.one_page, MoreSchedules.{full_then_reused, granted_while_marking, two_pages}}
 use Rattle.mk_core.specs.Placement.{FindsNoPlace, FullsFitNowhere, GrantsStandAtTheirPlaces}
 use Rattle.mk_core.specs.Allocations.{FitsAmongAllocations, place_among_allocations}
 

@@ -5,14 +5,10 @@ use Rattle.mk_core.proofs.Vocabulary.{false≢true, first_moment, flight_of, leb
 use Rattle.mk_core.proofs.Vocabulary.{not-true, pointed_cell, refl, slice_index, suc, sym, true, zero, zero_words_of}
 use Rattle.mk_core.proofs.Vocabulary.{[], ◌++◌, ◌+◌, ◌<◌, ◌↔◌, ◌∙◌, ◌∷◌, ◌≡◌, ◌≤◌}
 use Rattle.mk_core.proofs.SmallCycles.{begun_in_stop, by_caller, by_host, first_marked, marked_in_stop, marker_in}
-use Rattle.mk_core.proofs.SmallCycles.{small, three_objects, written_beside}
-use Rattle.mk_core.proofs.ListTests.{list_all-at}
+use Rattle.mk_core.proofs.{SmallCycles.{small, three_objects, written_beside}, ListTests.list_all-at}
 use Rattle.mk_core.specs.Readings.{GateTells, Holds, NoneAttends, PhaseTells, TurnTells, WordsTellWhoHoldsWhat}
-use Rattle.mk_core.specs.Readings.{is_in_turn}
-use Rattle.mk_core.specs.StopConditions.{is_attending, none_attends}
-use Rattle.mk_core.specs.HeldGates.{is_gate_held_from}
-use Rattle.mk_core.specs.Moments.{outside}
-use Rattle.mk_core.specs.declared.seats.Marker.{Marker}
+use Rattle.mk_core.specs.{Readings.is_in_turn, StopConditions.{is_attending, none_attends}, HeldGates.is_gate_held_from}
+use Rattle.mk_core.specs.{Moments.outside, declared.seats.Marker.Marker}
 
 -- with one caller
 

@@ -3,16 +3,12 @@
 use Rattle.mk_core.proofs.Vocabulary.{AreOfOthers, Event, IsWordOf, List, Null, Seat, Step, ℕ, all_below, calls_from}
 use Rattle.mk_core.proofs.Vocabulary.{false, false≢true, inl, leb-true, left, left_from, ltb-true, never_behind}
 use Rattle.mk_core.proofs.Vocabulary.{placed_at, pointed_cell, refl, slice_index, storage_of, subst, suc, true, zero}
-use Rattle.mk_core.proofs.Vocabulary.{[], ◌*◌, ◌++◌, ◌+◌, ◌∷◌, ◌≡◌}
-use Rattle.mk_core.proofs.EvaluatedReach.{below_two, leads_into, led_into}
+use Rattle.mk_core.proofs.{Vocabulary.{[], ◌*◌, ◌++◌, ◌+◌, ◌∷◌, ◌≡◌}, EvaluatedReach.{below_two, leads_into, led_into}}
 use Rattle.mk_core.proofs.SmallCycles.{by_marker, first_marked, pointer_written, small, three_objects}
-use Rattle.mk_core.proofs.EvaluatedFrames.{before_probe, turn_taken}
-use Rattle.mk_core.proofs.ListTests.{list_all-at}
-use Rattle.mk_core.specs.Readings.{Holds}
-use Rattle.mk_core.specs.Frames.{HeapIsLeft, IsLeft, IsLeftByAdmitted, TargetsAreLeft}
+use Rattle.mk_core.proofs.{EvaluatedFrames.{before_probe, turn_taken}, ListTests.list_all-at}
+use Rattle.mk_core.specs.{Readings.Holds, Frames.{HeapIsLeft, IsLeft, IsLeftByAdmitted, TargetsAreLeft}}
 use Rattle.mk_core.specs.Allocations.{is_mapped}
-use Rattle.mk_never.specs.NeverHeap.{register_at}
-use Rattle.mk_never.specs.Reach.{LeadsTo}
+use Rattle.mk_never.specs.{NeverHeap.register_at, Reach.LeadsTo}
 
 -- A caller in a call, while the host takes the turn: its registers point to the first two objects.
 

@@ -3,14 +3,10 @@
 use Rattle.mk_core.proofs.Vocabulary.{Event, IsClosedAlong, Marking, Seat, Step, Tally, all_below, append-nil}
 use Rattle.mk_core.proofs.Vocabulary.{calls_from, false, false≢true, is_close, leb-true, left_from, list_any, ltb-true}
 use Rattle.mk_core.proofs.Vocabulary.{pointed_cell, refl, sym, true, [], ◌++◌, ◌∷◌, ◌≡◌}
-use Rattle.mk_core.proofs.ListTests.{all_fronts, numbered_all}
-use Rattle.mk_core.proofs.SmallCycles.{begun_in_stop, by_host, marked_in_stop, small, stopped_cycle, third_released}
-use Rattle.mk_core.proofs.SmallCycles.{three_objects}
-use Rattle.mk_core.proofs.EvaluatedReach.{below_two}
-use Rattle.mk_core.proofs.Touched.{touched_is_least}
-use Rattle.mk_core.proofs.TouchedTests.{closed_along_by_test}
-use Rattle.mk_core.specs.Touched.{IsTouched, LeadsToMoment, by_register, by_word}
-use Rattle.mk_core.specs.Cycles.{IsInSnapshot, through}
+use Rattle.mk_core.proofs.{ListTests.{all_fronts, numbered_all}, SmallCycles.{begun_in_stop, by_host, marked_in_stop}}
+use Rattle.mk_core.proofs.{SmallCycles.{small, stopped_cycle, third_released, three_objects}, EvaluatedReach.below_two}
+use Rattle.mk_core.proofs.{Touched.touched_is_least, TouchedTests.closed_along_by_test}
+use Rattle.mk_core.specs.{Touched.{IsTouched, LeadsToMoment, by_register, by_word}, Cycles.{IsInSnapshot, through}}
 
 pub none_closes : list_any (λ (e : Event). is_close e.step) marked_in_stop ≡ false
 unfolding marked_in_stop

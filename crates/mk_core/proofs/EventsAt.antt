@@ -1,14 +1,11 @@
 -- What is to be shown at each event of a kind in a list, as a product of one part for each of them.
-use Rattle.std.proofs.Common.{append_assoc}
-use Rattle.std.specs.Prelude.{⊤}
+use Rattle.std.{proofs.Common.{append_assoc}, specs.Prelude.{⊤}}
 use Rattle.mk_core.proofs.Vocabulary.{Bool, Config, Event, List, NoneServesFrom, Op, Option, Place, Seat, Some}
 use Rattle.mk_core.proofs.Vocabulary.{StandsAtItsPlace, Step, ℕ, append-nil, base_made, drop, false, flight_of}
 use Rattle.mk_core.proofs.Vocabulary.{is_begin, is_close, is_end, is_give, is_release, left, list_any, slice_index_or}
 use Rattle.mk_core.proofs.Vocabulary.{subst, sym, take, true, [], ◌&&◌, ◌++◌, ◌+◌, ◌∷◌, ◌≡◌}
-use Rattle.mk_core.specs.Cycles.{At, Cycle, Next, TurnOf}
-use Rattle.mk_core.specs.Placement.{FirstServed, before_served, event_serves, object_at, place_after}
-use Rattle.mk_core.specs.Accesses.{granted_base}
-use Rattle.mk_core.specs.Growing.{is_same_seat}
+use Rattle.mk_core.specs.{Cycles.{At, Cycle, Next, TurnOf}, Placement.{FirstServed, before_served, event_serves}}
+use Rattle.mk_core.specs.{Placement.{object_at, place_after}, Accesses.granted_base, Growing.is_same_seat}
 
 -- a proof of the first, and one of the others
 infixr 10 ◌and◌

@@ -4,16 +4,10 @@ use Rattle.mk_core.proofs.Vocabulary.{Moment, Object, Op, Place, PlacedAllocatio
 use Rattle.mk_core.proofs.Vocabulary.{ap, arith, base_made, cell_ends, cells_made, cond-false, cond-true, eqb-true}
 use Rattle.mk_core.proofs.Vocabulary.{false, header_at, header_made, inl, kinds_of, length, ltb-true, object_made}
 use Rattle.mk_core.proofs.Vocabulary.{object_placed, pages_made, subst, sym, true, words_made, [], ◌*◌, ◌+◌, ◌/◌, ◌<◌}
-use Rattle.mk_core.proofs.Vocabulary.{◌∙◌, ◌≡◌, ◌≤◌}
-use Rattle.mk_core.proofs.Sizes.{large_words, small_cells, small_pages, small_words}
-use Rattle.mk_core.proofs.AllBelow.{all_below-at}
-use Rattle.mk_core.proofs.PlacesNow.{undecided_new}
-use Rattle.mk_core.proofs.StandingAllocations.{made_begins}
-use Rattle.mk_core.specs.NewPlaces.{is_undecided_new, object_of, place_stands}
-use Rattle.mk_core.specs.Accesses.{granted_base}
-use Rattle.mk_core.specs.Allocations.{granted, type_made}
-use Rattle.mk_core.specs.Calls.{has_operands}
-use Rattle.mk_core.specs.declared.seats.Placing.{Placing}
+use Rattle.mk_core.proofs.{Vocabulary.{◌∙◌, ◌≡◌, ◌≤◌}, Sizes.{large_words, small_cells, small_pages, small_words}}
+use Rattle.mk_core.proofs.{AllBelow.all_below-at, PlacesNow.undecided_new, StandingAllocations.made_begins}
+use Rattle.mk_core.specs.{NewPlaces.{is_undecided_new, object_of, place_stands}, Accesses.granted_base}
+use Rattle.mk_core.specs.{Allocations.{granted, type_made}, Calls.has_operands, declared.seats.Placing.Placing}
 use Rattle.mk_core.specs.declared.seats.Placing.TheVariants.{Used}
 
 -- Its object is the one that the New makes,

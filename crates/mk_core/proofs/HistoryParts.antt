@@ -1,14 +1,12 @@
 -- Histories in two parts: their calls, and what these leave in the heap that never reuses storage.
 use Rattle.std.proofs.lemmas.List.{map-append}
 use Rattle.mk_core.proofs.Vocabulary.{Config, Event, List, ap, asked, calls, calls_from, first_world, left, never_first}
-use Rattle.mk_core.proofs.Vocabulary.{subst, sym, ◌++◌, ◌∙◌, ◌≡◌}
-use Rattle.mk_core.proofs.Histories.{calls_append, enabled_append, enabled_parts, left_append}
+use Rattle.mk_core.proofs.{Vocabulary.{subst, sym, ◌++◌, ◌∙◌, ◌≡◌}, Histories.{calls_append, enabled_append}}
+use Rattle.mk_core.proofs.Histories.{enabled_parts, left_append}
 use Rattle.mk_never.proofs.Parts.{admitted_append, after_append, replies_append}
-use Rattle.mk_never.specs.Admitted.{AreAdmitted}
-use Rattle.mk_never.specs.NeverHeap.{Call, after_calls, replies_of}
+use Rattle.mk_never.specs.{Admitted.AreAdmitted, NeverHeap.{Call, after_calls, replies_of}}
 use Rattle.mk_core.specs.HistoryLaws.{CallsAreAdmittedInParts, CallsInParts, EarlierPartIsHistory, EnabledInParts}
-use Rattle.mk_core.specs.HistoryLaws.{LeftInParts, NeverInParts, NeverRepliesInParts}
-use Rattle.mk_core.specs.Decided.{Decided}
+use Rattle.mk_core.specs.{HistoryLaws.{LeftInParts, NeverInParts, NeverRepliesInParts}, Decided.Decided}
 
 pub left_in_parts : (c : Config) (es more : List Event) → LeftInParts c es more
 left_in_parts c es more = left_append c (first_world c) es more

@@ -1,6 +1,5 @@
 -- Each word of the table has an index of its own, and words of two line groups stand eight words apart.
-use Rattle.std.proofs.lemmas.Bool.{cases_order}
-use Rattle.std.specs.Prelude.{⊤}
+use Rattle.std.{proofs.lemmas.Bool.{cases_order}, specs.Prelude.{⊤}}
 use Rattle.mk_core.proofs.Vocabulary.{Named, TableWord, Turn, Word, ℕ, ap, arith, inl, inr, refl, sym, ◌*◌, ◌+◌, ◌<◌}
 use Rattle.mk_core.proofs.Vocabulary.{◌∙◌, ◌≡◌, ◌≤◌, ◌⊎◌}
 use Rattle.mk_core.specs.Layout.{IsOfTable, LineGroup, LineGroupsAreApart, NamesWord, OfGate, OfGlobals, OfHeaders}

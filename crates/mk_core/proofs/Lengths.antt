@@ -6,8 +6,7 @@ use Rattle.mk_core.proofs.Vocabulary.{world_behind, zero_words_of, [], ◌*◌, 
 use Rattle.mk_geom.specs.Storages.{free_page}
 use Rattle.mk_core.specs.Words.{accessed, becomes, with_named, with_word_in, word_in}
 use Rattle.mk_core.specs.declared.accesses.Access.TheVariants.{Add, Exchange, Or, Sub}
-use Rattle.mk_core.specs.Accesses.{access, word_accessed}
-use Rattle.mk_core.specs.Layout.{AreOfPages}
+use Rattle.mk_core.specs.{Accesses.{access, word_accessed}, Layout.AreOfPages}
 
 pub zero_lengths : (count : ℕ) → AreOfPages count (zero_words_of count)
 zero_lengths count = record {

@@ -1,6 +1,5 @@
 -- Closed marks as a test that computes.
-use Rattle.std.proofs.Common.{lt-ltb}
-use Rattle.std.proofs.Math.Bool.{or-true}
+use Rattle.std.proofs.{Common.lt-ltb, Math.Bool.or-true}
 use Rattle.mk_core.proofs.Vocabulary.{Bool, Config, IsWordOf, PlacedAllocation, Storage, Words, World, ℕ, and_from}
 use Rattle.mk_core.proofs.Vocabulary.{and_parts, ap, le-leb, list_all, nat_le, nat_lt, never_granted, not, placed_at}
 use Rattle.mk_core.proofs.Vocabulary.{pointed_cell, points_well, refl, storage_of, true, ◌&&◌, ◌+◌, ◌||◌, ◌∙◌, ◌≡◌}

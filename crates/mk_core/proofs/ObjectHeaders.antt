@@ -7,9 +7,7 @@ use Rattle.mk_core.proofs.Vocabulary.{zero, ◌&&◌, ◌+◌, ◌<◌, ◌||◌
 use Rattle.mk_core.proofs.Sizes.{class_known, large_cells, large_count, large_pages, large_words, small_cells}
 use Rattle.mk_core.proofs.Sizes.{small_pages, small_words}
 use Rattle.mk_geom.proofs.HeaderLemmas.{header_of-word_of}
-use Rattle.mk_geom.specs.Addresses.{head_page_under}
-use Rattle.mk_geom.specs.Headers.{header_of, word_of}
-use Rattle.mk_geom.specs.Storages.{block_header, run_header}
+use Rattle.mk_geom.specs.{Addresses.head_page_under, Headers.{header_of, word_of}, Storages.{block_header, run_header}}
 use Rattle.mk_core.specs.ObjectHeaders.{FirstPartsHaveCells, OfBlock, OfLater, OfLeafBlock, OfLeafRun, OfRun, ShowsPart}
 use Rattle.mk_core.specs.Cells.{has_no_pointers, heads_run, is_unmapped_header}
 

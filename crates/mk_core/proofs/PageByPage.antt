@@ -1,14 +1,10 @@
 -- The words of the heap and the dirty words, page by page: their length, where each stands, and a change of one.
 use Rattle.std.proofs.lemmas.List.{drop-replicate, drop-set-add, replicate-append-replicate, set-append_left}
-use Rattle.std.proofs.lemmas.List.{take-replicate, take-set-le}
-use Rattle.std.proofs.Common.{drop-set-lt, get_or-append-add, get_or-drop, get_or-take, length-append, length-drop}
-use Rattle.std.proofs.Common.{length-take-le}
-use Rattle.std.proofs.Math.Seq.{take-set-lt}
+use Rattle.std.proofs.{lemmas.List.{take-replicate, take-set-le}, Common.{drop-set-lt, get_or-append-add, get_or-drop}}
+use Rattle.std.proofs.{Common.{get_or-take, length-append, length-drop, length-take-le}, Math.Seq.take-set-lt}
 use Rattle.mk_core.proofs.Vocabulary.{List, ℕ, ap, arith, drop, get_or_append_left, length, length-replicate, refl}
 use Rattle.mk_core.proofs.Vocabulary.{slice_index, slice_set, suc, sym, take, zero, [], ◌*◌, ◌++◌, ◌+◌, ◌<◌, ◌∙◌, ◌∷◌}
-use Rattle.mk_core.proofs.Vocabulary.{◌≡◌}
-use Rattle.mk_core.proofs.Spread.{set_later}
-use Rattle.mk_core.specs.Layout.{gap, page_by_page}
+use Rattle.mk_core.{proofs.{Vocabulary.◌≡◌, Spread.set_later}, specs.Layout.{gap, page_by_page}}
 
 pub length_pages : (ds heap : List ℕ) → length heap ≡ 64 * length ds → length (page_by_page ds heap) ≡ 72 * length ds
 unfolding page_by_page

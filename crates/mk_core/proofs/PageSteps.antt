@@ -5,16 +5,11 @@ use Rattle.mk_core.proofs.Vocabulary.{if◌then◌else◌, inl, inr, is_phase, n
 use Rattle.mk_core.proofs.Vocabulary.{quarantine_word, refl, slice_index, sym, true, true≢false, unmapped_header}
 use Rattle.mk_core.proofs.Vocabulary.{words_are_zero, ◌%◌, ◌-◌, ◌/◌, ◌<◌, ◌^◌, ◌||◌, ◌∙◌, ◌≡◌, ◌⊎◌}
 use Rattle.mk_core.proofs.ServingSteps.{Carves, IsNextHeader, TakesCell, carves_is, four_hold, next_header, takes_is}
-use Rattle.mk_core.proofs.WordBits.{fewer_bits, no_common, rest_bits, without_none}
-use Rattle.mk_core.proofs.AllBelow.{all_below-at}
-use Rattle.mk_core.proofs.BitsWithout.{has_bit_without}
-use Rattle.mk_core.specs.Words.{used_at}
-use Rattle.mk_core.specs.declared.seats.RunPages.{RunPages}
-use Rattle.mk_core.specs.Cells.{are_left_unmarked, head_page, left_unmarked}
-use Rattle.mk_core.specs.TurnConditions.{are_wiped, carves, drops, empties, frees, gives_back, is_used_once, may_head}
-use Rattle.mk_core.specs.TurnConditions.{may_quarantine, may_use, takes_snapshot, unmaps}
-use Rattle.mk_core.specs.Bits.{without}
-use Rattle.mk_core.specs.NewPlaces.{target}
+use Rattle.mk_core.proofs.{WordBits.{fewer_bits, no_common, rest_bits, without_none}, AllBelow.all_below-at}
+use Rattle.mk_core.{proofs.BitsWithout.{has_bit_without}, specs.{Bits.without, NewPlaces.target}}
+use Rattle.mk_core.specs.{Words.used_at, declared.seats.RunPages.RunPages, Cells.{are_left_unmarked, head_page}}
+use Rattle.mk_core.specs.{Cells.left_unmarked, TurnConditions.{are_wiped, carves, drops, empties, frees, gives_back}}
+use Rattle.mk_core.specs.TurnConditions.{is_used_once, may_head, may_quarantine, may_use, takes_snapshot, unmaps}
 
 -- one of two tests holds
 either_holds : (a b : Bool) → (a || b) ≡ true → (a ≡ true) ⊎ (b ≡ true)

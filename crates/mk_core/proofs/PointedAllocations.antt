@@ -6,19 +6,14 @@ use Rattle.mk_core.proofs.Vocabulary.{cell_of_storage, cell_words, class_words_o
 use Rattle.mk_core.proofs.Vocabulary.{inr, object_placed, page_at_address, placed_at, pointed_cell, points_well}
 use Rattle.mk_core.proofs.Vocabulary.{storage_of, sym, true, ◌%◌, ◌*◌, ◌+◌, ◌/◌, ◌<◌, ◌∙◌, ◌≡◌}
 use Rattle.mk_core.proofs.StandingAllocations.{cells_begin, headers_show_storage, pointers_hit, standing_has_storage}
-use Rattle.mk_core.proofs.StandingAllocations.{typed_size}
-use Rattle.mk_core.proofs.CellsOfAllocations.{stands_in_no_other}
-use Rattle.mk_core.proofs.Sizes.{words_within}
+use Rattle.mk_core.proofs.{StandingAllocations.typed_size, CellsOfAllocations.stands_in_no_other, Sizes.words_within}
 use Rattle.mk_geom.proofs.PointedCells.{address_points_into, cell_index, class_has_words, small_cell_of, small_lookup}
 use Rattle.mk_geom.proofs.Standing.{cell_stands_at, has_words, large_is_run, small_is_cell, stands_parts}
 use Rattle.mk_geom.proofs.CellsOnPages.{is_address}
-use Rattle.mk_geom.specs.Storages.{IsStorage, class_of_storage, is_small, stands_on}
-use Rattle.mk_geom.specs.Addresses.{address_of, cell_at, cell_of_block, word_at_address}
-use Rattle.mk_geom.specs.StorageWords.{PointsInto, ShowsStorage}
-use Rattle.mk_core.specs.Cells.{is_left_unmarked, is_marked}
-use Rattle.mk_core.specs.Allocations.{with_released}
-use Rattle.mk_core.specs.ClosedMarks.{is_marked_allocation}
-use Rattle.mk_core.specs.Readings.{IsTaken}
+use Rattle.mk_geom.specs.{Storages.{IsStorage, class_of_storage, is_small, stands_on}, Addresses.{address_of, cell_at}}
+use Rattle.mk_geom.specs.{Addresses.{cell_of_block, word_at_address}, StorageWords.{PointsInto, ShowsStorage}}
+use Rattle.mk_core.specs.{Cells.{is_left_unmarked, is_marked}, Allocations.with_released}
+use Rattle.mk_core.specs.{ClosedMarks.is_marked_allocation, Readings.IsTaken}
 
 -- a word of a block is in the cell that it points into
 block_index : (class page word : ℕ) (cell : Cell) → cell_of_block class page word ≡ Some cell

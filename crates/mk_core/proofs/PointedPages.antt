@@ -1,15 +1,12 @@
 -- Where the cell lies into which a value points.
-use Rattle.std.proofs.Common.{option_and_then}
-use Rattle.std.proofs.Math.Nat.{div-le_self, div-lt_iff_lt-mul}
+use Rattle.std.proofs.{Common.option_and_then, Math.Nat.{div-le_self, div-lt_iff_lt-mul}}
 use Rattle.mk_core.proofs.Vocabulary.{Block, Bool, Cell, Free, Header, Later, LeafBlock, LeafRun, None, Option, Run}
 use Rattle.mk_core.proofs.Vocabulary.{Some, Words, ℕ, ap, arith, cells_of, cells_under, false, header_at, header_in}
 use Rattle.mk_core.proofs.Vocabulary.{if◌then◌else◌, inl, inr, ltb-true, nat_le, page_at_address, pointed_cell, refl}
-use Rattle.mk_core.proofs.Vocabulary.{sym, true, ◌<◌, ◌∙◌, ◌≡◌, ◌≤◌, ◌⊎◌}
-use Rattle.mk_core.specs.Cells.{head_page}
+use Rattle.mk_core.{proofs.Vocabulary.{sym, true, ◌<◌, ◌∙◌, ◌≡◌, ◌≤◌, ◌⊎◌}, specs.Cells.{head_page}}
 use Rattle.mk_geom.proofs.CellsOnPages.{is_address}
 use Rattle.mk_geom.specs.Addresses.{word_at_address, cell_at, cell_of_block, cell_under, head_page_under}
-use Rattle.mk_geom.specs.Addresses.{is_heap_address, run_of_page}
-use Rattle.mk_geom.specs.Headers.{header_of}
+use Rattle.mk_geom.specs.{Addresses.{is_heap_address, run_of_page}, Headers.header_of}
 
 -- It lies on the head page of the value's page, and is one of the 64 that a page has at most, and of those that the
 -- value's page has, if it has cells.

@@ -1,19 +1,17 @@
 -- The table's words as one list: each stands at its index, and a change of one, or an access to it, is a change there.
 use Rattle.std.proofs.lemmas.List.{get_or-map, length-map, map-set, replicate-append-replicate, set-append_left}
-use Rattle.std.proofs.lemmas.List.{set-get_or}
-use Rattle.std.proofs.Common.{get_or-append-add, length-append}
-use Rattle.std.proofs.Math.Nat.{mod-add-div}
+use Rattle.std.proofs.{lemmas.List.set-get_or, Common.{get_or-append-add, length-append}, Math.Nat.mod-add-div}
 use Rattle.std.proofs.Math.Seq.{map-set_same}
 use Rattle.mk_core.proofs.Vocabulary.{Access, List, Load, Named, Page, Store, TableWord, Turn, Word, Words, ℕ, ap}
 use Rattle.mk_core.proofs.Vocabulary.{arith, get_or_append_left, length, map, quarantine_word, refl, replicate}
 use Rattle.mk_core.proofs.Vocabulary.{slice_index, slice_index_or, slice_set, suc, sym, zero, zero_words_of, [], ◌%◌}
-use Rattle.mk_core.proofs.Vocabulary.{◌*◌, ◌++◌, ◌+◌, ◌/◌, ◌<◌, ◌^◌, ◌∙◌, ◌∷◌, ◌≡◌}
-use Rattle.mk_core.proofs.PageByPage.{dirty_at, dirty_set, heap_at, heap_set, length_pages, zeros}
-use Rattle.mk_core.proofs.Spread.{length_spread, set_later, spread_at, spread_set, word_at, word_set}
-use Rattle.mk_core.specs.Words.{word_in, becomes, with_word_in}
-use Rattle.mk_core.specs.Layout.{AccessesStandAtTheirIndexes, AreOfPages, ChangesStandAtTheirIndexes, FirstWordsAreZero}
-use Rattle.mk_core.specs.Layout.{IsOfTable, ListHasAllWords, WordsStandAtTheirIndexes, gap, in_order, index_of, joined}
-use Rattle.mk_core.specs.Layout.{page_by_page, quarantine_words, regions, spread}
+use Rattle.mk_core.proofs.{Vocabulary.{◌*◌, ◌++◌, ◌+◌, ◌/◌, ◌<◌, ◌^◌, ◌∙◌, ◌∷◌, ◌≡◌}, PageByPage.{dirty_at, dirty_set}}
+use Rattle.mk_core.proofs.{PageByPage.{heap_at, heap_set, length_pages, zeros}, Spread.{length_spread, set_later}}
+use Rattle.mk_core.proofs.Spread.{spread_at, spread_set, word_at, word_set}
+use Rattle.mk_core.specs.{Words.{word_in, becomes, with_word_in}, Layout.{AccessesStandAtTheirIndexes, AreOfPages}}
+use Rattle.mk_core.specs.Layout.{ChangesStandAtTheirIndexes, FirstWordsAreZero, IsOfTable, ListHasAllWords}
+use Rattle.mk_core.specs.Layout.{WordsStandAtTheirIndexes, gap, in_order, index_of, joined, page_by_page}
+use Rattle.mk_core.specs.Layout.{quarantine_words, regions, spread}
 use Rattle.mk_core.specs.declared.accesses.Access.TheVariants.{Add, Exchange, Or, Sub}
 use Rattle.mk_geom.specs.Storages.{free_page}
 

@@ -3,8 +3,7 @@ use Rattle.mk_core.proofs.Vocabulary.{Answer, Config, Event, List, None, Op, Opt
 use Rattle.mk_core.proofs.Vocabulary.{World, ℕ, all_below, answered, calls, calls_from, failing, false, first_world}
 use Rattle.mk_core.proofs.Vocabulary.{if◌then◌else◌, left_from, map, may_turn_black, pointed_cell, refl, replicate}
 use Rattle.mk_core.proofs.Vocabulary.{world_behind, [], ◌++◌, ◌+◌, ◌==◌, ◌∷◌, ◌≡◌}
-use Rattle.mk_never.specs.declared.types.Kind.{Kind}
-use Rattle.mk_never.specs.declared.types.Kind.TheVariants.{Num}
+use Rattle.mk_never.specs.{declared.types.Kind.Kind, declared.types.Kind.TheVariants.Num}
 
 unfoldable pub by : Seat → List Step → List Event
 by s steps = map (λ (x : Step). record { seat = s; step = x }) steps

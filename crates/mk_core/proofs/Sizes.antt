@@ -1,14 +1,11 @@
 -- Small and large objects: their classes, cells, pages and words.
-use Rattle.std.proofs.Common.{cond, le-ltb, lt-ltb, unwrap_or}
-use Rattle.std.proofs.lemmas.Bool.{lt-leb, or_left, or_right}
-use Rattle.std.proofs.lemmas.Bool.Decides.{leb_tells}
-use Rattle.std.specs.List.{position_or_len}
+use Rattle.std.proofs.{Common.{cond, le-ltb, lt-ltb, unwrap_or}, lemmas.Bool.{lt-leb, or_left, or_right}}
+use Rattle.std.{proofs.lemmas.Bool.Decides.{leb_tells}, specs.List.{position_or_len}}
 use Rattle.mk_core.proofs.Vocabulary.{Bool, IsSized, List, Object, Some, ℕ, ap, arith, cases_Bool, cells_made, cells_of}
 use Rattle.mk_core.proofs.Vocabulary.{class_made, class_words_of, cond-false, cond-true, false, inl, inr}
 use Rattle.mk_core.proofs.Vocabulary.{is_small_object, le-leb, leb-true, length, list_any, nat_le, nat_lt, ne_eqb, not}
 use Rattle.mk_core.proofs.Vocabulary.{pages_made, subst, sym, true, words_made, [], ◌*◌, ◌+◌, ◌<◌, ◌||◌, ◌∙◌, ◌∷◌, ◌≡◌}
-use Rattle.mk_core.proofs.Vocabulary.{◌≤◌}
-use Rattle.mk_core.specs.HistoryLaws.{LargeIsNotSmall}
+use Rattle.mk_core.{proofs.Vocabulary.{◌≤◌}, specs.HistoryLaws.{LargeIsNotSmall}}
 use Rattle.mk_geom.proofs.ClassTable.{class_for-some, class_words_within, some_cells}
 use Rattle.mk_geom.specs.Classes.{class_for, run_pages_of}
 

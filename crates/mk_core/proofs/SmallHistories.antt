@@ -1,18 +1,13 @@
 -- The two lists of a small heap are histories: within limits, enabled, and of admitted calls.
-use Rattle.std.proofs.Common.{All}
-use Rattle.std.proofs.lemmas.List.Elements.{All-cons, All-nil}
+use Rattle.std.proofs.{Common.All, lemmas.List.Elements.{All-cons, All-nil}}
 use Rattle.mk_core.proofs.Vocabulary.{AreEnabledFrom, Config, Event, IsHistory, IsWithinLimits, List, Op, To, World, ℕ}
 use Rattle.mk_core.proofs.Vocabulary.{all_below, and_parts, arith, asked, calls, calls_from, eqb-true, false}
 use Rattle.mk_core.proofs.Vocabulary.{first_world, leb-true, left_from, ltb-true, never_first, pointed_cell, refl}
 use Rattle.mk_core.proofs.Vocabulary.{subst, sym, true, world_behind, [], ◌++◌, ◌<◌, ◌∷◌, ◌≡◌}
 use Rattle.mk_core.proofs.SmallCycles.{all_enabled, begun_in_stop, beside_are_enabled, marked_beside, marked_in_stop}
 use Rattle.mk_core.proofs.SmallCycles.{small, stopped_are_enabled, stopped_cycle, third_released, three_objects}
-use Rattle.mk_core.proofs.SmallCycles.{written_beside}
-use Rattle.mk_core.proofs.EvaluatedHistories.{admitted}
-use Rattle.mk_core.proofs.EventsAt.{◌and◌}
-use Rattle.mk_never.specs.Admitted.{AreAdmitted}
-use Rattle.mk_never.specs.NeverHeap.{Call}
-use Rattle.mk_never.specs.declared.types.Kind.TheVariants.{Num}
+use Rattle.mk_core.proofs.{SmallCycles.written_beside, EvaluatedHistories.admitted, EventsAt.◌and◌}
+use Rattle.mk_never.specs.{Admitted.AreAdmitted, NeverHeap.Call, declared.types.Kind.TheVariants.Num}
 use Rattle.mk_core.specs.Config.{IsAmong, IsTypeAmong}
 
 pub enabled_by_test : (c : Config) (w : World) (es : List Event) → all_enabled c w es ≡ true → AreEnabledFrom c w es

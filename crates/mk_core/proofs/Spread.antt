@@ -1,8 +1,7 @@
 -- Groups of words with gaps between them: their length, the word r of group i, and a change of it.
 use Rattle.std.proofs.Common.{drop-set-lt, get_or-append-add, get_or-drop, get_or-take, length-append, length-drop}
-use Rattle.std.proofs.Common.{length-take-le}
-use Rattle.std.proofs.lemmas.List.{drop-set-add, set-append_left, set-append_right, take-set-le}
-use Rattle.std.proofs.Math.Seq.{take-set-lt}
+use Rattle.std.proofs.{Common.length-take-le, lemmas.List.{drop-set-add, set-append_left, set-append_right}}
+use Rattle.std.proofs.{lemmas.List.take-set-le, Math.Seq.take-set-lt}
 use Rattle.mk_core.proofs.Vocabulary.{List, ℕ, ap, arith, drop, get_or_append_left, length, length-replicate, refl}
 use Rattle.mk_core.proofs.Vocabulary.{slice_index, slice_set, suc, sym, take, zero, ◌*◌, ◌++◌, ◌+◌, ◌<◌, ◌∙◌, ◌≡◌}
 use Rattle.mk_core.specs.Layout.{gap, spread}

@@ -6,21 +6,17 @@ use Rattle.mk_core.proofs.Vocabulary.{cells_under, class_made, class_words_of, c
 use Rattle.mk_core.proofs.Vocabulary.{header_in, inl, inr, is_small_object, length, object_placed, page_at_address}
 use Rattle.mk_core.proofs.Vocabulary.{pages_made, pointed_cell, refl, storage_of, subst, suc, sym, true, true≢false}
 use Rattle.mk_core.proofs.Vocabulary.{unmapped_header, words_made, words_under, zero, [], ◌%◌, ◌*◌, ◌+◌, ◌-◌, ◌/◌, ◌<◌}
-use Rattle.mk_core.proofs.Vocabulary.{◌∙◌, ◌≡◌, ◌≤◌, ◌⊎◌}
-use Rattle.mk_core.proofs.Sizes.{class_known, large_cells, large_count, large_is_not_small, large_words, pages_some}
-use Rattle.mk_core.proofs.Sizes.{small_cells, small_pages, small_words, words_are_small, words_hold, words_within}
+use Rattle.mk_core.proofs.{Vocabulary.{◌∙◌, ◌≡◌, ◌≤◌, ◌⊎◌}, Sizes.{class_known, large_cells, large_count}}
+use Rattle.mk_core.proofs.Sizes.{large_is_not_small, large_words, pages_some, small_cells, small_pages, small_words}
+use Rattle.mk_core.proofs.Sizes.{words_are_small, words_hold, words_within}
 use Rattle.mk_core.proofs.ObjectHeaders.{header_shows, large_header, part_cells, part_words, small_header}
 use Rattle.mk_geom.proofs.PointedCells.{cell_first, cell_from_first, large_cell_of, points_into_cell, shows_cell}
-use Rattle.mk_geom.proofs.PointedCells.{shows_run, stands_at_address}
-use Rattle.mk_geom.proofs.ClassTable.{class_words_within}
-use Rattle.mk_geom.proofs.Standing.{stands_parts}
-use Rattle.mk_geom.specs.StorageWords.{ShowsStorage}
-use Rattle.mk_geom.specs.Storages.{IsCell, IsRun, IsStorage, run_header, stands_on}
-use Rattle.mk_geom.specs.Headers.{word_of}
+use Rattle.mk_geom.proofs.{PointedCells.{shows_run, stands_at_address}, ClassTable.class_words_within}
+use Rattle.mk_geom.{proofs.Standing.{stands_parts}, specs.Headers.{word_of}}
+use Rattle.mk_geom.specs.{StorageWords.ShowsStorage, Storages.{IsCell, IsRun, IsStorage, run_header, stands_on}}
 use Rattle.mk_core.specs.StandingAllocations.{CellsBeginAtBases, HeadersShowStorage, PointersHitAllocations}
 use Rattle.mk_core.specs.StandingAllocations.{StandingHasStorage, StorageHoldsObjects}
-use Rattle.mk_core.specs.Allocations.{is_mapped, storage_words}
-use Rattle.mk_core.specs.ObjectHeaders.{ShowsPart}
+use Rattle.mk_core.specs.{Allocations.{is_mapped, storage_words}, ObjectHeaders.ShowsPart}
 
 -- a type that there is has 1 to 4,096 words
 pub typed_size : (c : Config) (a : PlacedAllocation) → IsWithinLimits c → a.ty < length c.types

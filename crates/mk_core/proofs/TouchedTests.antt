@@ -1,16 +1,12 @@
 -- A set is closed under pointers along a cycle: as a test of each of its moments.
-use Rattle.std.proofs.Math.Bool.{or-true}
-use Rattle.std.proofs.lemmas.Bool.{not_from_false}
+use Rattle.std.proofs.{Math.Bool.or-true, lemmas.Bool.not_from_false}
 use Rattle.mk_core.proofs.Vocabulary.{Bool, Config, Event, IsClosedAlong, List, Marking, NeverState, Null}
 use Rattle.mk_core.proofs.Vocabulary.{PlacedAllocation, Value, World, ℕ, and_from, and_parts, le-leb, left, list_all}
 use Rattle.mk_core.proofs.Vocabulary.{nat_le, never_behind, never_granted, not, placed_at, refl, slice_index}
 use Rattle.mk_core.proofs.Vocabulary.{storage_of, subst, sym, true, ◌&&◌, ◌++◌, ◌||◌, ◌≡◌}
 use Rattle.mk_core.proofs.ListTests.{all_fronts, all_fronts-at, implied, list_all-at, numbered_all, numbered_all-at}
-use Rattle.mk_core.proofs.MarkTests.{is_word_of, is_word_of_by}
-use Rattle.mk_core.specs.History.{bases_of}
-use Rattle.mk_core.specs.Image.{image_of}
-use Rattle.mk_core.specs.Touched.{IsWordOfAllocation, LeadsToMoment, PointsIntoAllocation}
-use Rattle.mk_core.specs.Cycles.{through}
+use Rattle.mk_core.{proofs.MarkTests.{is_word_of, is_word_of_by}, specs.{Touched.PointsIntoAllocation, Cycles.through}}
+use Rattle.mk_core.specs.{History.bases_of, Image.image_of, Touched.{IsWordOfAllocation, LeadsToMoment}}
 use Rattle.mk_geom.specs.Addresses.{heap_word_at}
 
 -- an address that points into the allocation points into a member

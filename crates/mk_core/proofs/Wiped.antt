@@ -1,7 +1,6 @@
 -- Runs whose words are 0.
 use Rattle.mk_core.proofs.Vocabulary.{Words, ℕ, all_below, ap, arith, slice_index, suc, sym, words_are_zero, zero, ◌&&◌}
-use Rattle.mk_core.proofs.Vocabulary.{◌*◌, ◌+◌, ◌==◌, ◌∙◌, ◌≡◌}
-use Rattle.mk_core.proofs.AllBelow.{all_below_suc, all_below_zero_is}
+use Rattle.mk_core.proofs.{Vocabulary.{◌*◌, ◌+◌, ◌==◌, ◌∙◌, ◌≡◌}, AllBelow.{all_below_suc, all_below_zero_is}}
 use Rattle.mk_core.proofs.AllBelowParts.{all_below-add, all_below_same}
 
 -- one more page of the run

@@ -1,29 +1,17 @@
 -- Which word each event reaches, and how.
 use Rattle.std.specs.Prelude.{ℕ, ◌+◌, ◌^◌, Option, Some, None, ◌%◌}
-use Rattle.mk_geom.specs.declared.addresses.Cell.{Cell}
-use Rattle.mk_geom.specs.Addresses.{address_of}
-use Rattle.mk_core.specs.declared.config.Config.{Config}
-use Rattle.mk_core.specs.declared.events.Seat.{Seat}
-use Rattle.mk_core.specs.declared.events.Word.{Word}
-use Rattle.mk_core.specs.declared.events.Tally.{Tally}
-use Rattle.mk_core.specs.declared.events.Step.{Step}
-use Rattle.mk_core.specs.declared.events.Event.{Event}
-use Rattle.mk_core.specs.declared.accesses.TableWord.{TableWord}
-use Rattle.mk_core.specs.declared.accesses.TableWord.TheVariants.{Turn, Named}
-use Rattle.mk_core.specs.declared.accesses.Access.{Access}
-use Rattle.mk_core.specs.declared.accesses.Access.TheVariants.{Load, Store, Exchange, Or, Add, Sub}
-use Rattle.mk_core.specs.declared.seats.Stage.{Stage}
-use Rattle.mk_core.specs.declared.seats.Flight.{Flight}
-use Rattle.mk_core.specs.declared.seats.Placing.{Placing}
-use Rattle.mk_core.specs.declared.seats.Placing.TheVariants.{Used}
-use Rattle.mk_core.specs.declared.seats.Scan.{Scan}
-use Rattle.mk_core.specs.declared.seats.Marker.{Marker}
-use Rattle.mk_core.specs.Words.{word_in}
-use Rattle.mk_core.specs.Bits.{bit_for}
-use Rattle.mk_core.specs.Calls.{q_of, p_of, r_of, d_of, g_of, word_met, page_met, value_for, value_written}
-use Rattle.mk_core.specs.NewPlaces.{object_made, base_made}
-use Rattle.mk_core.specs.MarkerConditions.{cell_seen}
-use Rattle.mk_core.specs.Moments.{Moment, flight_of, marker_at, holder_number}
+use Rattle.mk_geom.specs.{declared.addresses.Cell.Cell, Addresses.address_of}
+use Rattle.mk_core.specs.{declared.config.Config.Config, declared.events.Seat.Seat, declared.events.Word.Word}
+use Rattle.mk_core.specs.{declared.events.Tally.Tally, declared.events.Step.Step, declared.events.Event.Event}
+use Rattle.mk_core.specs.{declared.accesses.TableWord.TableWord, declared.accesses.TableWord.TheVariants.{Turn, Named}}
+use Rattle.mk_core.specs.{declared.accesses.Access.Access, declared.accesses.Access.TheVariants.{Load, Store, Exchange}}
+use Rattle.mk_core.specs.{declared.accesses.Access.TheVariants.{Or, Add, Sub}, declared.seats.Stage.Stage}
+use Rattle.mk_core.specs.{declared.seats.Flight.Flight, declared.seats.Placing.Placing}
+use Rattle.mk_core.specs.{declared.seats.Placing.TheVariants.Used, declared.seats.Scan.Scan}
+use Rattle.mk_core.specs.{declared.seats.Marker.Marker, Words.word_in, Bits.bit_for, Calls.{q_of, p_of, r_of, d_of}}
+use Rattle.mk_core.specs.Calls.{g_of, word_met, page_met, value_for, value_written}
+use Rattle.mk_core.specs.{NewPlaces.{object_made, base_made}, MarkerConditions.cell_seen, Moments.{Moment, flight_of}}
+use Rattle.mk_core.specs.Moments.{marker_at, holder_number}
 use Rattle.mk_core.specs.declared.events.Seat.TheVariants as seat
 use Rattle.mk_core.specs.declared.events.Word.TheVariants as word
 use Rattle.mk_core.specs.declared.events.Tally.TheVariants as tally

@@ -1,25 +1,14 @@
 -- The allocations of a history, in the order of their grants: an allocation's number is its place.
 use Rattle.std.specs.Prelude.{ℕ, Bool, true, false, ◌&&◌, ◌||◌, not, ◌==◌, List, [], ◌∷◌, ◌++◌, map, filter, sum_by}
 use Rattle.std.specs.Prelude.{slice_index_or, Option, if◌then◌else◌}
-use Rattle.mk_never.specs.declared.operations.Op.{Op}
-use Rattle.mk_never.specs.Types.{kinds_of, is_large}
-use Rattle.mk_geom.specs.declared.addresses.Cell.{Cell}
-use Rattle.mk_geom.specs.declared.pages.Place.{Place}
-use Rattle.mk_geom.specs.declared.pages.Census.{Census}
-use Rattle.mk_geom.specs.StorageWords.{held_by_storages, cell_of_storage}
-use Rattle.mk_geom.specs.Storages.{Storage, place_among_storages, census_of, Fits}
-use Rattle.mk_geom.specs.Addresses.{address_of}
-use Rattle.mk_core.specs.declared.config.Config.{Config}
-use Rattle.mk_core.specs.declared.events.Step.{Step}
-use Rattle.mk_core.specs.declared.events.Event.{Event}
-use Rattle.mk_core.specs.declared.seats.Flight.{Flight}
-use Rattle.mk_core.specs.Words.{Words}
-use Rattle.mk_core.specs.Bounded.{is_some_and}
-use Rattle.mk_core.specs.Cells.{pointed_cell, first_word, is_left_unmarked}
-use Rattle.mk_core.specs.NewPlaces.{object_of}
-use Rattle.mk_core.specs.ObjectHeaders.{words_made}
-use Rattle.mk_core.specs.TurnConditions.{cell_freed}
-use Rattle.mk_core.specs.Accesses.{granted_base}
+use Rattle.mk_never.specs.{declared.operations.Op.Op, Types.{kinds_of, is_large}}
+use Rattle.mk_geom.specs.{declared.addresses.Cell.Cell, declared.pages.Place.Place, declared.pages.Census.Census}
+use Rattle.mk_geom.specs.{StorageWords.{held_by_storages, cell_of_storage}, Storages.{Storage, place_among_storages}}
+use Rattle.mk_geom.specs.{Storages.{census_of, Fits}, Addresses.address_of}
+use Rattle.mk_core.specs.{declared.config.Config.Config, declared.events.Step.Step, declared.events.Event.Event}
+use Rattle.mk_core.specs.{declared.seats.Flight.Flight, Words.Words, Bounded.is_some_and}
+use Rattle.mk_core.specs.{Cells.{pointed_cell, first_word, is_left_unmarked}, NewPlaces.object_of}
+use Rattle.mk_core.specs.{ObjectHeaders.words_made, TurnConditions.cell_freed, Accesses.granted_base}
 use Rattle.mk_core.specs.Moments.{Moment, flight_of}
 use Rattle.mk_never.specs.declared.operations.Op.TheVariants as op
 use Rattle.mk_core.specs.declared.events.Step.TheVariants as step

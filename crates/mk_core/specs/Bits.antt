@@ -1,6 +1,5 @@
 -- The bits of words.
-use Rattle.std.specs.Prelude.{ℕ, ◌-◌, ◌%◌, ◌^◌, Bool, ◌==◌, bit_and}
-use Rattle.std.specs.Int.{bit_at}
+use Rattle.std.specs.{Prelude.{ℕ, ◌-◌, ◌%◌, ◌^◌, Bool, ◌==◌, bit_and}, Int.bit_at}
 
 abbrev pub has_bit : ℕ → ℕ → Bool
 has_bit word k = bit_at word k == 1

@@ -1,20 +1,13 @@
 -- Cells and runs as the words show them.
 use Rattle.std.specs.Prelude.{ℕ, ◌+◌, ◌-◌, ◌*◌, ◌/◌, ◌^◌, Bool, true, false, ◌&&◌, ◌||◌, not, ◌==◌, nat_le, nat_lt}
 use Rattle.std.specs.Prelude.{List, Option, Some, None, slice_index, slice_index_or}
-use Rattle.mk_geom.specs.declared.addresses.Cell.{Cell}
-use Rattle.mk_geom.specs.declared.headers.Header.{Header}
+use Rattle.mk_geom.specs.{declared.addresses.Cell.Cell, declared.headers.Header.Header}
 use Rattle.mk_geom.specs.declared.headers.Header.TheVariants.{Block, Run, Later, LeafBlock, LeafRun}
-use Rattle.mk_geom.specs.declared.pages.Page.{Page}
-use Rattle.mk_geom.specs.Storages.{free_page}
-use Rattle.mk_geom.specs.Classes.{cells_of, class_words_of}
-use Rattle.mk_geom.specs.Headers.{header_of}
-use Rattle.mk_geom.specs.Addresses.{cell_at, page_at_address, head_page_under}
+use Rattle.mk_geom.specs.{declared.pages.Page.Page, Storages.free_page, Classes.{cells_of, class_words_of}}
+use Rattle.mk_geom.specs.{Headers.header_of, Addresses.{cell_at, page_at_address, head_page_under}}
 pub use Rattle.mk_geom.specs.Headers.{is_unmapped_header}
-use Rattle.mk_core.specs.declared.seats.RunPages.{RunPages}
-use Rattle.mk_core.specs.Words.{Words, header_at, used_at}
-use Rattle.mk_core.specs.Bits.{has_bit, without}
-use Rattle.mk_core.specs.Bounded.{all_below, is_none_or}
-use Rattle.mk_core.specs.Moments.{is_phase}
+use Rattle.mk_core.specs.{declared.seats.RunPages.RunPages, Words.{Words, header_at, used_at}, Bits.{has_bit, without}}
+use Rattle.mk_core.specs.{Bounded.{all_below, is_none_or}, Moments.is_phase}
 
 -- how many cells there are under a header; a run is one, at its head page
 abbrev pub cells_under : Option Header → ℕ

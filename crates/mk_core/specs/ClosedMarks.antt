@@ -1,19 +1,12 @@
 -- Closed marks, and what guards them while callers write: the mostly parallel marking of Boehm, Demers and Shenker
 -- (1991).
 use Rattle.std.specs.Prelude.{◌≡◌, ◌⊎◌, ℕ, ◌+◌, ◌*◌, ◌/◌, ◌<◌, Bool, true, false, ◌&&◌, not, slice_index}
-use Rattle.mk_geom.specs.Addresses.{address_of}
-use Rattle.mk_geom.specs.StorageWords.{IsWordOf}
-use Rattle.mk_core.specs.declared.config.Config.{Config}
-use Rattle.mk_core.specs.declared.events.Seat.TheVariants.{Caller}
-use Rattle.mk_core.specs.Bits.{has_bit}
-use Rattle.mk_core.specs.Bounded.{is_some_and}
-use Rattle.mk_core.specs.Words.{Words}
-use Rattle.mk_core.specs.Calls.{page_met}
-use Rattle.mk_core.specs.Cells.{header_in, cells_under, words_under, has_no_pointers, pointed_cell, is_marked}
-use Rattle.mk_core.specs.Cells.{points_well, word_points_well}
-use Rattle.mk_core.specs.Moments.{Moment, flight_of, is_phase}
-use Rattle.mk_core.specs.Allocations.{PlacedAllocation, placed_at, is_mapped, storage_of}
-use Rattle.mk_core.specs.History.{World}
+use Rattle.mk_geom.specs.{Addresses.address_of, StorageWords.IsWordOf}
+use Rattle.mk_core.specs.{declared.config.Config.Config, declared.events.Seat.TheVariants.Caller, Bits.has_bit}
+use Rattle.mk_core.specs.{Bounded.is_some_and, Words.Words, Calls.page_met, Cells.{header_in, cells_under, words_under}}
+use Rattle.mk_core.specs.Cells.{has_no_pointers, pointed_cell, is_marked, points_well, word_points_well}
+use Rattle.mk_core.specs.{Moments.{Moment, flight_of, is_phase}, Allocations.{PlacedAllocation, placed_at, is_mapped}}
+use Rattle.mk_core.specs.{Allocations.storage_of, History.World}
 use Rattle.mk_core.specs.declared.seats.Stage.TheVariants as stage
 
 -- the cell at the allocation's first word is marked

@@ -1,8 +1,6 @@
 -- Which configurations a heap can be started with.
 use Rattle.std.specs.Prelude.{ℕ, ◌≤◌, ◌<◌, List, length, All, ⊤}
-use Rattle.mk_never.specs.declared.types.Kind.{Kind}
-use Rattle.mk_never.specs.declared.types.Kind.TheVariants.{Num, To}
-use Rattle.mk_never.specs.Types.{kinds_of}
+use Rattle.mk_never.specs.{declared.types.Kind.Kind, declared.types.Kind.TheVariants.{Num, To}, Types.kinds_of}
 use Rattle.mk_core.specs.declared.config.Config.{Config}
 
 abbrev pub IsBetween : ℕ → ℕ → ℕ → Type 0

@@ -1,17 +1,10 @@
 -- What the tallies count, and when a free is due.
 use Rattle.std.specs.Prelude.{◌≡◌, ℕ, ◌-◌, ◌*◌, ◌^◌, ◌<◌, Bool, true, false, min, List, [], ◌∷◌, ◌++◌, count_by}
 use Rattle.std.specs.Prelude.{is_some}
-use Rattle.mk_core.specs.declared.config.Config.{Config}
-use Rattle.mk_core.specs.declared.events.Answer.{Answer}
-use Rattle.mk_core.specs.declared.events.Step.{Step}
-use Rattle.mk_core.specs.declared.events.Event.{Event}
-use Rattle.mk_core.specs.declared.seats.Flight.{Flight}
-use Rattle.mk_core.specs.Moments.{Moment, flight_of}
-use Rattle.mk_core.specs.TurnConditions.{cell_freed}
-use Rattle.mk_core.specs.Allocations.{PlacedAllocation, held_by_allocations, fresh_words_of}
-use Rattle.mk_core.specs.Decided.{answered}
-use Rattle.mk_core.specs.History.{left, calls}
-use Rattle.mk_core.specs.Cycles.{is_end}
+use Rattle.mk_core.specs.{declared.config.Config.Config, declared.events.Answer.Answer, declared.events.Step.Step}
+use Rattle.mk_core.specs.{declared.events.Event.Event, declared.seats.Flight.Flight, Moments.{Moment, flight_of}}
+use Rattle.mk_core.specs.{TurnConditions.cell_freed, Allocations.{PlacedAllocation, held_by_allocations}}
+use Rattle.mk_core.specs.{Allocations.fresh_words_of, Decided.answered, History.{left, calls}, Cycles.is_end}
 use Rattle.mk_core.specs.declared.events.Answer.TheVariants as answer
 use Rattle.mk_core.specs.declared.events.Step.TheVariants as step
 

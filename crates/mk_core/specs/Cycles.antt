@@ -1,24 +1,13 @@
 -- Cycles and turns as parts of a list of events (Ainsworth and Jones, "MarkUs", 2020: a marking pass over a snapshot of
 -- the quarantine).
-use Rattle.std.specs.Prelude.{◌≡◌, ℕ, Bool, true, false, ◌&&◌, not, List, [], ◌∷◌, ◌++◌, Option, ⊤}
-use Rattle.std.specs.List.{list_any}
+use Rattle.std.specs.{Prelude.{◌≡◌, ℕ, Bool, true, false, ◌&&◌, not, List, [], ◌∷◌, ◌++◌, Option, ⊤}, List.list_any}
 use Rattle.mk_never.specs.declared.operations.Op.{Op}
-use Rattle.mk_core.specs.declared.config.Config.{Config}
-use Rattle.mk_core.specs.declared.events.Seat.{Seat}
-use Rattle.mk_core.specs.declared.events.Step.{Step}
-use Rattle.mk_core.specs.declared.events.Event.{Event}
-use Rattle.mk_core.specs.declared.seats.Flight.{Flight}
-use Rattle.mk_core.specs.declared.seats.Source.{Source}
-use Rattle.mk_core.specs.declared.seats.Source.TheVariants.{Unmarked}
-use Rattle.mk_core.specs.declared.seats.Hand.{Hand}
-use Rattle.mk_core.specs.Bounded.{is_some_and}
-use Rattle.mk_core.specs.Moments.{Moment, flight_of}
-use Rattle.mk_core.specs.NewPlaces.{object_made}
-use Rattle.mk_core.specs.TurnConditions.{place_now}
-use Rattle.mk_core.specs.StopConditions.{marks_place}
-use Rattle.mk_core.specs.Allocations.{PlacedAllocation, placed_at}
-use Rattle.mk_core.specs.History.{World, world_behind, left}
-use Rattle.mk_core.specs.Growing.{is_same_seat}
+use Rattle.mk_core.specs.{declared.config.Config.Config, declared.events.Seat.Seat, declared.events.Step.Step}
+use Rattle.mk_core.specs.{declared.events.Event.Event, declared.seats.Flight.Flight, declared.seats.Source.Source}
+use Rattle.mk_core.specs.{declared.seats.Source.TheVariants.Unmarked, declared.seats.Hand.Hand, Bounded.is_some_and}
+use Rattle.mk_core.specs.{Moments.{Moment, flight_of}, NewPlaces.object_made, TurnConditions.place_now}
+use Rattle.mk_core.specs.{StopConditions.marks_place, Allocations.{PlacedAllocation, placed_at}}
+use Rattle.mk_core.specs.{History.{World, world_behind, left}, Growing.is_same_seat}
 use Rattle.mk_core.specs.declared.events.Step.TheVariants as step
 
 -- kinds of step

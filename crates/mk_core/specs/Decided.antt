@@ -1,7 +1,6 @@
 -- The calls that events decide: who called, what for, and how it was answered.
 use Rattle.std.specs.Prelude.{ℕ, true, false, List, [], ◌∷◌, map, Option, Some, None}
-use Rattle.mk_never.specs.declared.operations.Op.{Op}
-use Rattle.mk_never.specs.NeverHeap.{Call}
+use Rattle.mk_never.specs.{declared.operations.Op.Op, NeverHeap.Call}
 use Rattle.mk_core.specs.declared.events.Answer.{Answer}
 use Rattle.mk_never.specs.declared.operations.Op.TheVariants as op
 use Rattle.mk_core.specs.declared.events.Answer.TheVariants as answer

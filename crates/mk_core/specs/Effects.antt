@@ -2,43 +2,24 @@
 use Rattle.std.specs.Prelude.{ℕ, ◌+◌, ◌-◌, ◌*◌, ◌%◌, ◌^◌, Bool, false, ◌&&◌, not, min, ◌==◌, List, slice_set, Option}
 use Rattle.std.specs.Prelude.{Some, None, is_none, option_map, option_and_then, unwrap_or, if◌then◌else◌}
 use Rattle.mk_never.specs.declared.operations.Op.{Op}
-use Rattle.mk_geom.specs.declared.addresses.Cell.{Cell}
-use Rattle.mk_geom.specs.declared.pages.Place.{Place}
-use Rattle.mk_geom.specs.Headers.{header_of}
-use Rattle.mk_geom.specs.PageUses.{or_else}
+use Rattle.mk_geom.specs.{declared.addresses.Cell.Cell, declared.pages.Place.Place, Headers.header_of, PageUses.or_else}
 use Rattle.mk_geom.specs.Addresses.{is_heap_address, cell_at, page_at_address, address_of}
-use Rattle.mk_core.specs.declared.config.Config.{Config}
-use Rattle.mk_core.specs.declared.events.Seat.{Seat}
-use Rattle.mk_core.specs.declared.events.Word.{Word}
-use Rattle.mk_core.specs.declared.events.Step.{Step}
-use Rattle.mk_core.specs.declared.events.Event.{Event}
-use Rattle.mk_core.specs.declared.events.Answer.{Answer}
-use Rattle.mk_core.specs.declared.seats.Flight.{Flight}
-use Rattle.mk_core.specs.declared.seats.Progress.{Progress}
-use Rattle.mk_core.specs.declared.seats.Source.TheVariants.{Root, Marked, Unmarked}
-use Rattle.mk_core.specs.declared.seats.Hand.{Hand}
-use Rattle.mk_core.specs.declared.seats.Placing.{Placing}
-use Rattle.mk_core.specs.declared.seats.Placing.TheVariants.{Unplaced, Chosen, Used, Granted}
-use Rattle.mk_core.specs.declared.seats.OwnCycle.{OwnCycle}
-use Rattle.mk_core.specs.declared.seats.OwnCycle.TheVariants.{Begun, Ended}
-use Rattle.mk_core.specs.declared.seats.Holding.{Holding}
-use Rattle.mk_core.specs.declared.seats.RunPages.{RunPages}
-use Rattle.mk_core.specs.declared.seats.Scan.{Scan}
-use Rattle.mk_core.specs.declared.seats.SeenHeader.{SeenHeader}
-use Rattle.mk_core.specs.Accesses.{word_accessed, access, found}
-use Rattle.mk_core.specs.declared.seats.Presence.TheVariants.{Visiting, Attending}
-use Rattle.mk_core.specs.declared.seats.Marker.{Marker}
-use Rattle.mk_core.specs.Words.{Words, accessed}
-use Rattle.mk_core.specs.Bits.{has_bit}
-use Rattle.mk_core.specs.Calls.{at_rest, begun, onward, still, refused, progress_reg, progress_read, progress_cas}
-use Rattle.mk_core.specs.Calls.{progress_getg}
-use Rattle.mk_core.specs.Bounded.{is_some_and}
+use Rattle.mk_core.specs.{declared.config.Config.Config, declared.events.Seat.Seat, declared.events.Word.Word}
+use Rattle.mk_core.specs.{declared.events.Step.Step, declared.events.Event.Event, declared.events.Answer.Answer}
+use Rattle.mk_core.specs.{declared.seats.Flight.Flight, declared.seats.Progress.Progress}
+use Rattle.mk_core.specs.{declared.seats.Source.TheVariants.{Root, Marked, Unmarked}, declared.seats.Hand.Hand}
+use Rattle.mk_core.specs.{declared.seats.Placing.Placing, declared.seats.Placing.TheVariants.{Unplaced, Chosen, Used}}
+use Rattle.mk_core.specs.{declared.seats.Placing.TheVariants.Granted, declared.seats.OwnCycle.OwnCycle}
+use Rattle.mk_core.specs.{declared.seats.OwnCycle.TheVariants.{Begun, Ended}, declared.seats.Holding.Holding}
+use Rattle.mk_core.specs.{declared.seats.RunPages.RunPages, declared.seats.Scan.Scan}
+use Rattle.mk_core.specs.{declared.seats.SeenHeader.SeenHeader, Accesses.{word_accessed, access, found}}
+use Rattle.mk_core.specs.{declared.seats.Presence.TheVariants.{Visiting, Attending}, declared.seats.Marker.Marker}
+use Rattle.mk_core.specs.{Words.{Words, accessed}, Bits.has_bit, Calls.{at_rest, begun, onward, still, refused}}
+use Rattle.mk_core.specs.{Calls.{progress_reg, progress_read, progress_cas, progress_getg}, Bounded.is_some_and}
 use Rattle.mk_core.specs.Cells.{header_in, run_headed, heads_run, has_no_pointers, is_unmapped_header, pointed_cell}
-use Rattle.mk_core.specs.Cells.{is_used, is_freed, is_marked, words_under}
-use Rattle.mk_core.specs.NewPlaces.{object_made, target}
-use Rattle.mk_core.specs.TurnConditions.{place_now, cell_freed}
-use Rattle.mk_core.specs.StopConditions.{marks_place}
-use Rattle.mk_core.specs.Moments.{Moment, Seats, nothing_done, outside, flight_of, marker_of, others_are_held, is_phase}
+use Rattle.mk_core.specs.{Cells.{is_used, is_freed, is_marked, words_under}, NewPlaces.{object_made, target}}
+use Rattle.mk_core.specs.{TurnConditions.{place_now, cell_freed}, StopConditions.marks_place, Moments.{Moment, Seats}}
+use Rattle.mk_core.specs.Moments.{nothing_done, outside, flight_of, marker_of, others_are_held, is_phase}
 use Rattle.mk_core.specs.declared.events.Seat.TheVariants as seat
 use Rattle.mk_core.specs.declared.events.Word.TheVariants as word
 use Rattle.mk_core.specs.declared.events.Step.TheVariants as step

@@ -1,17 +1,11 @@
 -- Which event may come next: the first of the seven conditions that fails, or 0.
 use Rattle.std.specs.Prelude.{◌≡◌, ◌↔◌, ℕ, Bool, true, ◌&&◌, not, if◌then◌else◌}
-use Rattle.mk_core.specs.declared.config.Config.{Config}
-use Rattle.mk_core.specs.declared.events.Seat.{Seat}
-use Rattle.mk_core.specs.declared.events.Step.{Step}
-use Rattle.mk_core.specs.declared.events.Event.{Event}
-use Rattle.mk_core.specs.declared.seats.Flight.{Flight}
-use Rattle.mk_core.specs.Words.{phase_of}
-use Rattle.mk_core.specs.Moments.{Moment, flight_of, marker_at}
-use Rattle.mk_core.specs.Order.{seat_exists, group_of, is_open_to, is_in_order}
-use Rattle.mk_core.specs.Ranges.{is_in_range, has_gates, has_phase}
-use Rattle.mk_core.specs.NewPlaces.{object_made, is_run_gone}
-use Rattle.mk_core.specs.TurnConditions.{may_head, may_use, may_quarantine, may_give, may_wipe, may_answer_full}
-use Rattle.mk_core.specs.TurnConditions.{is_used_once}
+use Rattle.mk_core.specs.{declared.config.Config.Config, declared.events.Seat.Seat, declared.events.Step.Step}
+use Rattle.mk_core.specs.{declared.events.Event.Event, declared.seats.Flight.Flight, Words.phase_of}
+use Rattle.mk_core.specs.{Moments.{Moment, flight_of, marker_at}, Order.{seat_exists, group_of, is_open_to}}
+use Rattle.mk_core.specs.{Order.is_in_order, Ranges.{is_in_range, has_gates, has_phase}}
+use Rattle.mk_core.specs.{NewPlaces.{object_made, is_run_gone}, TurnConditions.{may_head, may_use, may_quarantine}}
+use Rattle.mk_core.specs.TurnConditions.{may_give, may_wipe, may_answer_full, is_used_once}
 use Rattle.mk_core.specs.StopConditions.{may_mark, may_begin, may_close, may_end, may_undirty, may_black, may_unblack}
 use Rattle.mk_core.specs.MarkerConditions.{is_out, may_mlook, may_claim, may_mload, may_mmark, may_mblack, may_end_all}
 use Rattle.mk_core.specs.declared.events.Step.TheVariants as step

@@ -1,12 +1,8 @@
 -- No ABA: a compare and exchange compares what it would compare in the heap that never reuses storage.
 use Rattle.std.specs.Prelude.{◌≡◌, ◌↔◌, ℕ, List, ◌∷◌, ◌++◌, Some}
-use Rattle.mk_never.specs.declared.values.Target.TheVariants.{WordOf}
-use Rattle.mk_never.specs.NeverHeap.{register_at, word_at, target_of}
-use Rattle.mk_core.specs.declared.config.Config.{Config}
-use Rattle.mk_core.specs.declared.events.Seat.TheVariants.{Caller}
-use Rattle.mk_core.specs.declared.events.Event.{Event}
-use Rattle.mk_core.specs.Moments.{flight_of}
-use Rattle.mk_core.specs.Effects.{answer_decided}
+use Rattle.mk_never.specs.{declared.values.Target.TheVariants.WordOf, NeverHeap.{register_at, word_at, target_of}}
+use Rattle.mk_core.specs.{declared.config.Config.Config, declared.events.Seat.TheVariants.Caller}
+use Rattle.mk_core.specs.{declared.events.Event.Event, Moments.flight_of, Effects.answer_decided}
 use Rattle.mk_core.specs.History.{left, never_behind}
 use Rattle.mk_never.specs.declared.operations.Op.TheVariants as op
 use Rattle.mk_core.specs.declared.events.Answer.TheVariants as answer

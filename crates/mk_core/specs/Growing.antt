@@ -1,12 +1,8 @@
 -- Lists that go on: what a seat has seen, what others did since, and what a call has done itself.
-use Rattle.std.specs.Prelude.{◌≡◌, ℕ, Bool, true, false, ◌==◌, if◌then◌else◌, List, [], ◌∷◌, ◌++◌, ⊤}
-use Rattle.std.specs.List.{list_any}
-use Rattle.mk_core.specs.declared.config.Config.{Config}
-use Rattle.mk_core.specs.declared.events.Seat.{Seat}
-use Rattle.mk_core.specs.declared.events.Seat.TheVariants.{Caller, Marker, Host}
-use Rattle.mk_core.specs.declared.events.Event.{Event}
-use Rattle.mk_core.specs.Accesses.{found}
-use Rattle.mk_core.specs.History.{World, world_behind, left}
+use Rattle.std.specs.{Prelude.{◌≡◌, ℕ, Bool, true, false, ◌==◌, if◌then◌else◌, List, [], ◌∷◌, ◌++◌, ⊤}, List.list_any}
+use Rattle.mk_core.specs.{declared.config.Config.Config, declared.events.Seat.Seat}
+use Rattle.mk_core.specs.{declared.events.Seat.TheVariants.{Caller, Marker, Host}, declared.events.Event.Event}
+use Rattle.mk_core.specs.{Accesses.found, History.{World, world_behind, left}}
 
 abbrev pub is_same_seat : Seat → Seat → Bool
 is_same_seat (Caller j) (Caller k) = j == k

@@ -1,8 +1,6 @@
 -- Which gates are held, by the events alone: what the causes of refusals speak of.
 use Rattle.std.specs.Prelude.{ℕ, Bool, false, not, ◌==◌, if◌then◌else◌, List, [], ◌∷◌, slice_index}
-use Rattle.mk_core.specs.declared.config.Config.{Config}
-use Rattle.mk_core.specs.declared.events.Step.{Step}
-use Rattle.mk_core.specs.declared.events.Event.{Event}
+use Rattle.mk_core.specs.{declared.config.Config.Config, declared.events.Step.Step, declared.events.Event.Event}
 use Rattle.mk_core.specs.History.{World, first_world, world_behind}
 use Rattle.mk_core.specs.declared.events.Step.TheVariants as step
 

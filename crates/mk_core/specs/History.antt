@@ -1,17 +1,10 @@
 -- Histories: lists of events, oldest first. What they leave, which are enabled, and the calls that they decide.
 use Rattle.std.specs.Prelude.{◌≡◌, ℕ, List, [], ◌∷◌, ◌++◌, map, ⊤}
-use Rattle.mk_never.specs.NeverHeap.{NeverState, start_of, after_calls, replies_of}
-use Rattle.mk_never.specs.Admitted.{AreAdmitted}
-use Rattle.mk_core.specs.declared.config.Config.{Config}
-use Rattle.mk_core.specs.declared.events.Event.{Event}
-use Rattle.mk_core.specs.Config.{IsWithinLimits}
-use Rattle.mk_core.specs.Image.{answers_of}
-use Rattle.mk_core.specs.Moments.{Moment, first_moment, flight_of}
-use Rattle.mk_core.specs.Enabled.{IsEnabled}
-use Rattle.mk_core.specs.Accesses.{caller_number}
-use Rattle.mk_core.specs.Effects.{moment_behind, answer_decided}
-use Rattle.mk_core.specs.Decided.{answered, Decided, entry_of, asked}
-use Rattle.mk_core.specs.Allocations.{PlacedAllocation, allocations_behind}
+use Rattle.mk_never.specs.{NeverHeap.{NeverState, start_of, after_calls, replies_of}, Admitted.AreAdmitted}
+use Rattle.mk_core.specs.{declared.config.Config.Config, declared.events.Event.Event, Config.IsWithinLimits}
+use Rattle.mk_core.specs.{Image.answers_of, Moments.{Moment, first_moment, flight_of}, Enabled.IsEnabled}
+use Rattle.mk_core.specs.{Accesses.caller_number, Effects.{moment_behind, answer_decided}, Decided.{answered, Decided}}
+use Rattle.mk_core.specs.{Decided.{entry_of, asked}, Allocations.{PlacedAllocation, allocations_behind}}
 
 -- All that events leave: the moment after them, and the allocations.
 pub record World : Type 0 where

@@ -1,16 +1,11 @@
 -- Laws of histories: of lists of events in two parts, and of what their definitions share.
 use Rattle.std.specs.Prelude.{◌≡◌, ◌↔◌, ℕ, ◌&&◌, not, List, ◌++◌}
-use Rattle.mk_never.specs.declared.types.Kind.{Kind}
-use Rattle.mk_never.specs.Types.{is_large}
-use Rattle.mk_never.specs.NeverHeap.{after_calls, replies_of}
+use Rattle.mk_never.specs.{declared.types.Kind.Kind, Types.is_large, NeverHeap.{after_calls, replies_of}}
 use Rattle.mk_never.specs.Admitted.{AreAdmitted}
-use Rattle.mk_core.specs.declared.config.Config.{Config}
-use Rattle.mk_core.specs.declared.events.Event.{Event}
-use Rattle.mk_core.specs.Bits.{has_bit, without}
-use Rattle.mk_core.specs.NewPlaces.{object_of, is_small_object}
-use Rattle.mk_core.specs.Decided.{asked}
-use Rattle.mk_core.specs.History.{left_from, left, AreEnabledFrom, AreEnabled, calls_from, calls, never_first}
-use Rattle.mk_core.specs.History.{never_behind, CallsAreAdmitted, IsHistory}
+use Rattle.mk_core.specs.{declared.config.Config.Config, declared.events.Event.Event, Bits.{has_bit, without}}
+use Rattle.mk_core.specs.{NewPlaces.{object_of, is_small_object}, Decided.asked, History.{left_from, left}}
+use Rattle.mk_core.specs.History.{AreEnabledFrom, AreEnabled, calls_from, calls, never_first, never_behind}
+use Rattle.mk_core.specs.History.{CallsAreAdmitted, IsHistory}
 
 -- What a list leaves is what its later part leaves after its earlier one.
 abbrev pub LeftInParts : Config → List Event → List Event → Type 0

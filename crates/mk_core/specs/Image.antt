@@ -1,10 +1,8 @@
 -- The image of a reply of the heap that never reuses storage: the same reply in words.
 use Rattle.std.specs.Prelude.{ℕ, ◌+◌, List, map, slice_index}
 use Rattle.mk_geom.specs.Addresses.{address_of}
-use Rattle.mk_never.specs.declared.values.Value.{Value}
-use Rattle.mk_never.specs.declared.values.Value.TheVariants.{Null, Num, Ptr}
-use Rattle.mk_never.specs.declared.operations.Reply.{Reply}
-use Rattle.mk_never.specs.declared.operations.Reply.TheVariants.{Double}
+use Rattle.mk_never.specs.{declared.values.Value.Value, declared.values.Value.TheVariants.{Null, Num, Ptr}}
+use Rattle.mk_never.specs.{declared.operations.Reply.Reply, declared.operations.Reply.TheVariants.Double}
 use Rattle.mk_core.specs.declared.events.Answer.{Answer}
 use Rattle.mk_never.specs.declared.operations.Reply.TheVariants.{Done, Num as Number, Val, Full, Fault, Null as WasNull}
 use Rattle.mk_core.specs.declared.events.Answer.TheVariants.{Done as IsDone, Num as IsNumber, Word, Full as IsFull}

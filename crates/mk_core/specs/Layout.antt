@@ -7,13 +7,9 @@
 use Rattle.std.specs.Prelude.{◌≡◌, ◌≢◌, ℕ, zero, suc, ◌+◌, ◌*◌, ◌/◌, ◌<◌, ◌≤◌, ◌⊎◌, List, [], ◌∷◌, ◌++◌, length, map}
 use Rattle.std.specs.Prelude.{take, drop, replicate, slice_index, slice_set, ⊤}
 use Rattle.mk_geom.specs.declared.pages.Page.{Page}
-use Rattle.mk_core.specs.declared.events.Word.{Word}
-use Rattle.mk_core.specs.declared.accesses.TableWord.{TableWord}
-use Rattle.mk_core.specs.declared.accesses.TableWord.TheVariants.{Turn, Named}
-use Rattle.mk_core.specs.declared.accesses.Access.{Access}
-use Rattle.mk_core.specs.declared.config.Config.{Config}
-use Rattle.mk_core.specs.declared.events.Event.{Event}
-use Rattle.mk_core.specs.History.{left}
+use Rattle.mk_core.specs.{declared.events.Word.Word, declared.accesses.TableWord.TableWord}
+use Rattle.mk_core.specs.{declared.accesses.TableWord.TheVariants.{Turn, Named}, declared.accesses.Access.Access}
+use Rattle.mk_core.specs.{declared.config.Config.Config, declared.events.Event.Event, History.left}
 use Rattle.mk_core.specs.Words.{Words, zero_words_of, quarantine_word, word_in, with_word_in, becomes, accessed}
 use Rattle.mk_core.specs.declared.events.Word.TheVariants as word
 

@@ -1,12 +1,7 @@
 -- The law on longer lists: what a seat may do after what it has seen, it may do after what others did since.
 use Rattle.std.specs.Prelude.{◌≡◌, List, [], ◌∷◌, ◌++◌, is_some}
-use Rattle.mk_core.specs.declared.config.Config.{Config}
-use Rattle.mk_core.specs.declared.events.Event.{Event}
-use Rattle.mk_core.specs.Accesses.{word_accessed, access}
-use Rattle.mk_core.specs.Layout.{IsOfTable}
-use Rattle.mk_core.specs.Effects.{answer_decided}
-use Rattle.mk_core.specs.History.{left, IsHistory}
-use Rattle.mk_core.specs.Counts.{IsTidy}
+use Rattle.mk_core.specs.{declared.config.Config.Config, declared.events.Event.Event, Accesses.{word_accessed, access}}
+use Rattle.mk_core.specs.{Layout.IsOfTable, Effects.answer_decided, History.{left, IsHistory}, Counts.IsTidy}
 use Rattle.mk_core.specs.Growing.{AreOfOthers}
 use Rattle.mk_core.specs.declared.events.Step.TheVariants as step
 

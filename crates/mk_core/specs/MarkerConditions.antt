@@ -1,20 +1,11 @@
 -- Condition 7 for the markers' kinds and `over`, and the cells that a marker has seen.
 use Rattle.std.specs.Prelude.{ℕ, Bool, true, false, ◌&&◌, not, nat_lt, ◌==◌, Option, Some, None, is_some, is_none}
 use Rattle.std.specs.Prelude.{if◌then◌else◌}
-use Rattle.mk_geom.specs.declared.addresses.Cell.{Cell}
-use Rattle.mk_geom.specs.Headers.{header_of}
-use Rattle.mk_geom.specs.Addresses.{cell_at, page_at_address}
-use Rattle.mk_core.specs.declared.config.Config.{Config}
-use Rattle.mk_core.specs.declared.events.Word.{Word}
-use Rattle.mk_core.specs.declared.seats.Marker.{Marker}
-use Rattle.mk_core.specs.declared.seats.Presence.{Presence}
-use Rattle.mk_core.specs.declared.seats.Presence.TheVariants.{Out}
-use Rattle.mk_core.specs.declared.seats.Scan.{Scan}
-use Rattle.mk_core.specs.declared.seats.SeenHeader.{SeenHeader}
-use Rattle.mk_core.specs.Cells.{cells_under}
-use Rattle.mk_core.specs.StopConditions.{is_attending}
-use Rattle.mk_core.specs.Order.{host_has_turn}
-use Rattle.mk_core.specs.Moments.{Moment, is_phase}
+use Rattle.mk_geom.specs.{declared.addresses.Cell.Cell, Headers.header_of, Addresses.{cell_at, page_at_address}}
+use Rattle.mk_core.specs.{declared.config.Config.Config, declared.events.Word.Word, declared.seats.Marker.Marker}
+use Rattle.mk_core.specs.{declared.seats.Presence.Presence, declared.seats.Presence.TheVariants.Out}
+use Rattle.mk_core.specs.{declared.seats.Scan.Scan, declared.seats.SeenHeader.SeenHeader, Cells.cells_under}
+use Rattle.mk_core.specs.{StopConditions.is_attending, Order.host_has_turn, Moments.{Moment, is_phase}}
 use Rattle.mk_core.specs.declared.events.Word.TheVariants as word
 
 abbrev pub is_out : Presence → Bool

@@ -1,28 +1,15 @@
 -- The place of a New and what its pages become, and the object of a Free, over the words as they are.
 use Rattle.std.specs.Prelude.{ℕ, ◌+◌, ◌-◌, ◌*◌, ◌^◌, Bool, true, false, ◌&&◌, ◌==◌, nat_le, nat_lt, not, List, []}
 use Rattle.std.specs.Prelude.{length, Option, Some, None, unwrap_or, if◌then◌else◌}
-use Rattle.mk_never.specs.declared.types.Kind.{Kind}
-use Rattle.mk_never.specs.declared.operations.Op.{Op}
-use Rattle.mk_never.specs.Types.{kinds_of, is_leaf}
-use Rattle.mk_geom.specs.declared.addresses.Cell.{Cell}
-use Rattle.mk_geom.specs.declared.pages.Page.{Page}
-use Rattle.mk_geom.specs.declared.pages.Place.{Place}
-use Rattle.mk_geom.specs.Classes.{class_for, class_words_of, cells_of, is_small_size, run_pages_of}
-use Rattle.mk_geom.specs.Headers.{word_of}
-use Rattle.mk_geom.specs.PageUses.{place_on_uses}
-use Rattle.mk_geom.specs.PageWords.{uses_of_pages}
-use Rattle.mk_geom.specs.Storages.{block_header, run_header}
-use Rattle.mk_core.specs.declared.config.Config.{Config}
-use Rattle.mk_core.specs.declared.seats.Flight.{Flight}
-use Rattle.mk_core.specs.declared.seats.Stage.{Stage}
-use Rattle.mk_core.specs.declared.seats.Stage.TheVariants.{Turn}
-use Rattle.mk_core.specs.declared.seats.Placing.{Placing}
+use Rattle.mk_never.specs.{declared.types.Kind.Kind, declared.operations.Op.Op, Types.{kinds_of, is_leaf}}
+use Rattle.mk_geom.specs.{declared.addresses.Cell.Cell, declared.pages.Page.Page, declared.pages.Place.Place}
+use Rattle.mk_geom.specs.{Classes.{class_for, class_words_of, cells_of, is_small_size, run_pages_of}, Headers.word_of}
+use Rattle.mk_geom.specs.{PageUses.place_on_uses, PageWords.uses_of_pages, Storages.{block_header, run_header}}
+use Rattle.mk_core.specs.{declared.config.Config.Config, declared.seats.Flight.Flight, declared.seats.Stage.Stage}
+use Rattle.mk_core.specs.{declared.seats.Stage.TheVariants.Turn, declared.seats.Placing.Placing}
 use Rattle.mk_core.specs.declared.seats.Placing.TheVariants.{Unplaced, Chosen, Used, Granted}
-use Rattle.mk_core.specs.declared.seats.RunPages.{RunPages}
-use Rattle.mk_core.specs.declared.seats.Object.{Object}
-use Rattle.mk_core.specs.Words.{Words, header_at}
-use Rattle.mk_core.specs.Bounded.{all_below, is_none_or}
-use Rattle.mk_core.specs.Cells.{pointed_cell, words_are_zero}
+use Rattle.mk_core.specs.{declared.seats.RunPages.RunPages, declared.seats.Object.Object, Words.{Words, header_at}}
+use Rattle.mk_core.specs.{Bounded.{all_below, is_none_or}, Cells.{pointed_cell, words_are_zero}}
 use Rattle.mk_never.specs.declared.operations.Op.TheVariants as op
 
 -- an object of these words

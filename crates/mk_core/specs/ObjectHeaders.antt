@@ -1,15 +1,12 @@
 -- What the header of each page of an object shows, and how much storage the object takes.
 use Rattle.std.specs.Prelude.{◌≡◌, ℕ, ◌+◌, ◌*◌, ◌<◌, ◌≤◌, Bool, true, false, ◌&&◌, ◌||◌, Option, Some, ◌⊎◌}
 use Rattle.std.specs.Prelude.{if◌then◌else◌}
-use Rattle.mk_geom.specs.declared.headers.Header.{Header}
-use Rattle.mk_geom.specs.declared.headers.Header.TheVariants.{Block, Run, Later, LeafBlock, LeafRun}
-use Rattle.mk_geom.specs.Classes.{class_words_of, cells_of}
-use Rattle.mk_geom.specs.Headers.{header_of}
-use Rattle.mk_geom.specs.Addresses.{head_page_under}
-use Rattle.mk_core.specs.declared.seats.Object.{Object}
-use Rattle.mk_core.specs.Config.{IsBetween}
-use Rattle.mk_core.specs.Cells.{cells_under, words_under, is_unmapped_header, has_no_pointers}
-use Rattle.mk_core.specs.NewPlaces.{is_small_object, class_made, pages_made, header_made, unmapped_header}
+use Rattle.mk_geom.specs.{declared.headers.Header.Header, declared.headers.Header.TheVariants.{Block, Run, Later}}
+use Rattle.mk_geom.specs.{declared.headers.Header.TheVariants.{LeafBlock, LeafRun}, Classes.{class_words_of, cells_of}}
+use Rattle.mk_geom.specs.{Headers.header_of, Addresses.head_page_under}
+use Rattle.mk_core.specs.{declared.seats.Object.Object, Config.IsBetween, Cells.{cells_under, words_under}}
+use Rattle.mk_core.specs.{Cells.{is_unmapped_header, has_no_pointers}, NewPlaces.{is_small_object, class_made}}
+use Rattle.mk_core.specs.NewPlaces.{pages_made, header_made, unmapped_header}
 
 -- The object has as many words as a type may have.
 abbrev pub IsSized : Object → Type 0

@@ -1,14 +1,9 @@
 -- Conditions 1, 2 and 3: the seat exists, the kind is open to it, and the step comes next in its order.
 use Rattle.std.specs.Prelude.{◌+◌, Bool, true, false, ◌&&◌, not, nat_lt, ◌==◌, Some, None}
 use Rattle.mk_never.specs.declared.operations.Op.{Op}
-use Rattle.mk_core.specs.declared.config.Config.{Config}
-use Rattle.mk_core.specs.declared.events.Seat.{Seat}
-use Rattle.mk_core.specs.Moments.{Moment, flight_of}
-use Rattle.mk_core.specs.declared.events.Seat.TheVariants.{Caller, Marker, Host}
-use Rattle.mk_core.specs.declared.events.Step.{Step}
-use Rattle.mk_core.specs.declared.events.Group.{Group}
-use Rattle.mk_core.specs.declared.seats.Stage.{Stage}
-use Rattle.mk_core.specs.Calls.{is_under_turn}
+use Rattle.mk_core.specs.{declared.config.Config.Config, declared.events.Seat.Seat, Moments.{Moment, flight_of}}
+use Rattle.mk_core.specs.{declared.events.Seat.TheVariants.{Caller, Marker, Host}, declared.events.Step.Step}
+use Rattle.mk_core.specs.{declared.events.Group.Group, declared.seats.Stage.Stage, Calls.is_under_turn}
 use Rattle.mk_never.specs.declared.operations.Op.TheVariants as op
 use Rattle.mk_core.specs.declared.events.Step.TheVariants as step
 use Rattle.mk_core.specs.declared.events.Group.TheVariants as group

@@ -1,7 +1,6 @@
 -- The header words that neighbouring pages are to get.
 use Rattle.std.specs.Prelude.{ℕ}
-use Rattle.mk_core.specs.declared.placing.PageHeaders.{PageHeaders}
-use Rattle.mk_core.specs.NewPlaces.{header_made, unmapped_header}
+use Rattle.mk_core.specs.{declared.placing.PageHeaders.PageHeaders, NewPlaces.{header_made, unmapped_header}}
 use Rattle.mk_core.specs.declared.placing.PageHeaders.TheVariants.{Made, Unmapped}
 
 -- that of the page so far after the first

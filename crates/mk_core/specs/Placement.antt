@@ -1,20 +1,12 @@
 -- Where the objects of a history are granted: the place of a New is the first fit before the first step that serves it.
 use Rattle.std.specs.Prelude.{◌≡◌, Bool, true, false, ◌&&◌, not, List, [], ◌∷◌, ◌++◌, ⊤, Option, Some}
 use Rattle.mk_geom.specs.declared.pages.Place.{Place}
-use Rattle.mk_core.specs.declared.config.Config.{Config}
-use Rattle.mk_core.specs.declared.events.Seat.{Seat}
-use Rattle.mk_core.specs.declared.events.Step.{Step}
-use Rattle.mk_core.specs.declared.events.Event.{Event}
-use Rattle.mk_core.specs.declared.seats.Flight.{Flight}
-use Rattle.mk_core.specs.declared.seats.Object.{Object}
-use Rattle.mk_core.specs.Moments.{Moment, flight_of, is_phase}
-use Rattle.mk_core.specs.NewPlaces.{object_made, base_made}
-use Rattle.mk_core.specs.TurnConditions.{place_now, carves, takes_cell}
-use Rattle.mk_core.specs.StopConditions.{marks_place}
-use Rattle.mk_core.specs.Accesses.{granted_base}
-use Rattle.mk_core.specs.Allocations.{place_among_allocations, FitsAmongAllocations}
-use Rattle.mk_core.specs.History.{World, world_behind, left}
-use Rattle.mk_core.specs.Cycles.{TurnOf, BeginsAndEndsIn}
+use Rattle.mk_core.specs.{declared.config.Config.Config, declared.events.Seat.Seat, declared.events.Step.Step}
+use Rattle.mk_core.specs.{declared.events.Event.Event, declared.seats.Flight.Flight, declared.seats.Object.Object}
+use Rattle.mk_core.specs.{Moments.{Moment, flight_of, is_phase}, NewPlaces.{object_made, base_made}}
+use Rattle.mk_core.specs.{TurnConditions.{place_now, carves, takes_cell}, StopConditions.marks_place}
+use Rattle.mk_core.specs.{Accesses.granted_base, Allocations.{place_among_allocations, FitsAmongAllocations}}
+use Rattle.mk_core.specs.{History.{World, world_behind, left}, Cycles.{TurnOf, BeginsAndEndsIn}}
 use Rattle.mk_core.specs.declared.events.Step.TheVariants as step
 
 -- The step serves the object of an undecided New: it marks or carves pages of its place, or takes its cell.

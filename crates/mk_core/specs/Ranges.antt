@@ -1,18 +1,10 @@
 -- Conditions 4, 5 and 6: the arguments are in range, and the gates and the phase are as the kind asks.
 use Rattle.std.specs.Prelude.{ℕ, ◌*◌, Bool, true, ◌&&◌, ◌||◌, not, nat_lt, nat_le, ◌==◌, Option, Some, None}
-use Rattle.mk_geom.specs.declared.addresses.Cell.{Cell}
-use Rattle.mk_geom.specs.Headers.{header_of}
-use Rattle.mk_core.specs.declared.config.Config.{Config}
-use Rattle.mk_core.specs.declared.events.Seat.{Seat}
-use Rattle.mk_core.specs.declared.events.Word.{Word}
-use Rattle.mk_core.specs.declared.events.Step.{Step}
-use Rattle.mk_core.specs.declared.seats.Flight.{Flight}
-use Rattle.mk_core.specs.Words.{Words}
-use Rattle.mk_core.specs.Bounded.{is_some_and}
-use Rattle.mk_core.specs.Calls.{has_operands, word_met}
-use Rattle.mk_core.specs.Cells.{header_in, heads_run, is_unmapped_header}
-use Rattle.mk_core.specs.NewPlaces.{target}
-use Rattle.mk_core.specs.Moments.{is_number_of, is_held, others_are_held, none_is_held, is_phase}
+use Rattle.mk_geom.specs.{declared.addresses.Cell.Cell, Headers.header_of}
+use Rattle.mk_core.specs.{declared.config.Config.Config, declared.events.Seat.Seat, declared.events.Word.Word}
+use Rattle.mk_core.specs.{declared.events.Step.Step, declared.seats.Flight.Flight, Words.Words, Bounded.is_some_and}
+use Rattle.mk_core.specs.{Calls.{has_operands, word_met}, Cells.{header_in, heads_run, is_unmapped_header}}
+use Rattle.mk_core.specs.{NewPlaces.target, Moments.{is_number_of, is_held, others_are_held, none_is_held, is_phase}}
 use Rattle.mk_core.specs.declared.events.Word.TheVariants as word
 use Rattle.mk_core.specs.declared.events.Step.TheVariants as step
 

@@ -1,8 +1,6 @@
 -- What a core is: a configuration, and a moment of it. It stands for the histories that leave that moment.
 use Rattle.std.specs.Prelude.{◌≡◌, List}
-use Rattle.mk_core.specs.declared.config.Config.{Config}
-use Rattle.mk_core.specs.declared.events.Event.{Event}
-use Rattle.mk_core.specs.Moments.{Moment}
+use Rattle.mk_core.specs.{declared.config.Config.Config, declared.events.Event.Event, Moments.Moment}
 use Rattle.mk_core.specs.History.{left, AreEnabled}
 
 pub record CoreState : Type 0 where

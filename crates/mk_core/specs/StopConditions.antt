@@ -1,24 +1,14 @@
 -- Condition 7 for the kinds of the turn's holder that mark, begin, close and end a cycle.
 use Rattle.std.specs.Prelude.{ℕ, ◌^◌, Bool, true, false, ◌&&◌, ◌||◌, not, nat_lt, ◌==◌, List, Option, slice_index}
-use Rattle.std.specs.Prelude.{bit_and}
-use Rattle.std.specs.List.{list_all}
-use Rattle.mk_geom.specs.declared.addresses.Cell.{Cell}
-use Rattle.mk_geom.specs.declared.pages.Place.{Place}
-use Rattle.mk_core.specs.declared.config.Config.{Config}
-use Rattle.mk_core.specs.declared.seats.Flight.{Flight}
-use Rattle.mk_core.specs.declared.seats.Hand.{Hand}
-use Rattle.mk_core.specs.declared.seats.Marker.{Marker}
-use Rattle.mk_core.specs.declared.seats.Presence.{Presence}
-use Rattle.mk_core.specs.declared.seats.Presence.TheVariants.{Attending}
-use Rattle.mk_core.specs.Words.{Words, header_at, used_at}
-use Rattle.mk_core.specs.Bits.{without}
-use Rattle.mk_core.specs.Bounded.{all_below, is_some_and}
-use Rattle.mk_core.specs.Cells.{header_in, head_page, cells_under, cell_bits, has_no_pointers, pointed_cell, is_marked}
-use Rattle.mk_core.specs.Cells.{points_well, words_point_well, none_is_left_unmarked}
-use Rattle.mk_core.specs.declared.seats.Object.{Object}
-use Rattle.mk_core.specs.NewPlaces.{object_made, bits_made}
-use Rattle.mk_core.specs.TurnConditions.{place_now}
-use Rattle.mk_core.specs.Moments.{Moment, is_phase}
+use Rattle.std.specs.{Prelude.bit_and, List.list_all}
+use Rattle.mk_geom.specs.{declared.addresses.Cell.Cell, declared.pages.Place.Place}
+use Rattle.mk_core.specs.{declared.config.Config.Config, declared.seats.Flight.Flight, declared.seats.Hand.Hand}
+use Rattle.mk_core.specs.{declared.seats.Marker.Marker, declared.seats.Presence.Presence}
+use Rattle.mk_core.specs.{declared.seats.Presence.TheVariants.Attending, Words.{Words, header_at, used_at}}
+use Rattle.mk_core.specs.{Bits.without, Bounded.{all_below, is_some_and}, Cells.{header_in, head_page, cells_under}}
+use Rattle.mk_core.specs.Cells.{cell_bits, has_no_pointers, pointed_cell, is_marked, points_well, words_point_well}
+use Rattle.mk_core.specs.{Cells.none_is_left_unmarked, declared.seats.Object.Object, NewPlaces.{object_made, bits_made}}
+use Rattle.mk_core.specs.{TurnConditions.place_now, Moments.{Moment, is_phase}}
 
 abbrev pub is_attending : Presence → Bool
 is_attending Attending = true

@@ -2,11 +2,8 @@
 use Rattle.std.specs.Prelude.{◌≡◌, ℕ, Bool, false, IsTrue, List, ◌++◌, slice_index, slice_index_or}
 use Rattle.mk_never.specs.declared.values.Value.TheVariants.{Null}
 use Rattle.mk_geom.specs.StorageWords.{IsWordOf, PointsInto}
-use Rattle.mk_core.specs.declared.config.Config.{Config}
-use Rattle.mk_core.specs.declared.events.Event.{Event}
-use Rattle.mk_core.specs.Image.{image_of}
-use Rattle.mk_core.specs.Allocations.{placed_at, storage_of}
-use Rattle.mk_core.specs.History.{World, left, never_behind, bases_of}
+use Rattle.mk_core.specs.{declared.config.Config.Config, declared.events.Event.Event, Image.image_of}
+use Rattle.mk_core.specs.{Allocations.{placed_at, storage_of}, History.{World, left, never_behind, bases_of}}
 use Rattle.mk_core.specs.Cycles.{Marking, through}
 
 -- The list leads to a moment of the cycle, from after its `begin` up to before its `close`.

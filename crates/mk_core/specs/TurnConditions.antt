@@ -1,30 +1,18 @@
 -- Condition 7 for the kinds of the turn's holder that change objects: each kind's own condition.
 use Rattle.std.specs.Prelude.{ℕ, ◌+◌, ◌-◌, ◌/◌, ◌%◌, ◌^◌, Bool, true, false, ◌&&◌, ◌||◌, not, ◌==◌, List, Option, None}
 use Rattle.std.specs.Prelude.{if◌then◌else◌, slice_index, bit_and, is_none}
-use Rattle.mk_core.specs.declared.seats.Object.{Object}
-use Rattle.mk_core.specs.declared.config.Config.{Config}
-use Rattle.mk_core.specs.declared.seats.Flight.{Flight}
-use Rattle.mk_core.specs.declared.seats.Stage.{Stage}
-use Rattle.mk_core.specs.declared.seats.Placing.{Placing}
-use Rattle.mk_core.specs.declared.seats.Placing.TheVariants.{Unplaced, Used}
-use Rattle.mk_core.specs.declared.seats.OwnCycle.{OwnCycle}
-use Rattle.mk_core.specs.declared.seats.OwnCycle.TheVariants.{Ended}
-use Rattle.mk_core.specs.declared.seats.RunPages.{RunPages}
-use Rattle.mk_core.specs.Words.{Words, used_at, quarantine_word}
-use Rattle.mk_core.specs.Bits.{has_bit, without}
-use Rattle.mk_core.specs.Bounded.{all_below, is_some_and}
-use Rattle.mk_core.specs.Cells.{head_page, pointed_cell, is_freed, are_left_unmarked, is_released_cell, words_are_zero}
-use Rattle.mk_core.specs.Cells.{first_word, cell_words, is_in_run}
+use Rattle.mk_core.specs.{declared.seats.Object.Object, declared.config.Config.Config, declared.seats.Flight.Flight}
+use Rattle.mk_core.specs.{declared.seats.Stage.Stage, declared.seats.Placing.Placing}
+use Rattle.mk_core.specs.{declared.seats.Placing.TheVariants.{Unplaced, Used}, declared.seats.OwnCycle.OwnCycle}
+use Rattle.mk_core.specs.{declared.seats.OwnCycle.TheVariants.Ended, declared.seats.RunPages.RunPages}
+use Rattle.mk_core.specs.{Words.{Words, used_at, quarantine_word}, Bits.{has_bit, without}}
+use Rattle.mk_core.specs.{Bounded.{all_below, is_some_and}, Cells.{head_page, pointed_cell, is_freed}}
+use Rattle.mk_core.specs.Cells.{are_left_unmarked, is_released_cell, words_are_zero, first_word, cell_words, is_in_run}
 use Rattle.mk_core.specs.NewPlaces.{object_made, place_on_pages, place_by_placing, pages_made, header_made, bits_made}
 use Rattle.mk_core.specs.NewPlaces.{is_next_header, place_stands, unmapped_header, is_run_unmapped, is_run_gone}
-use Rattle.mk_core.specs.NewPlaces.{is_undecided_new, target}
-use Rattle.mk_core.specs.Moments.{Moment, is_phase}
-use Rattle.mk_geom.specs.declared.addresses.Cell.{Cell}
-use Rattle.mk_geom.specs.declared.pages.Page.{Page}
-use Rattle.mk_geom.specs.declared.pages.Place.{Place}
-use Rattle.mk_geom.specs.PageUses.{held_by_uses}
-use Rattle.mk_geom.specs.PageWords.{uses_of_pages}
-use Rattle.mk_geom.specs.Addresses.{address_of}
+use Rattle.mk_core.specs.{NewPlaces.{is_undecided_new, target}, Moments.{Moment, is_phase}}
+use Rattle.mk_geom.specs.{declared.addresses.Cell.Cell, declared.pages.Page.Page, declared.pages.Place.Place}
+use Rattle.mk_geom.specs.{PageUses.held_by_uses, PageWords.uses_of_pages, Addresses.address_of}
 use Rattle.mk_core.specs.declared.seats.Stage.TheVariants as stage
 
 -- the place of an undecided New

@@ -2,12 +2,9 @@
 use Rattle.std.specs.Prelude.{ℕ, ◌+◌, ◌-◌, ◌*◌, ◌/◌, ◌%◌, ◌^◌, ◌==◌, List, replicate, slice_index, slice_index_or}
 use Rattle.std.specs.Prelude.{slice_set, bit_or}
 use prog.Atomic.{either}
-use Rattle.mk_geom.specs.declared.pages.Page.{Page}
-use Rattle.mk_geom.specs.Storages.{free_page}
-use Rattle.mk_core.specs.declared.events.Word.{Word}
-use Rattle.mk_core.specs.declared.accesses.TableWord.{TableWord}
-use Rattle.mk_core.specs.declared.accesses.TableWord.TheVariants.{Turn, Named}
-use Rattle.mk_core.specs.declared.accesses.Access.{Access}
+use Rattle.mk_geom.specs.{declared.pages.Page.Page, Storages.free_page}
+use Rattle.mk_core.specs.{declared.events.Word.Word, declared.accesses.TableWord.TableWord}
+use Rattle.mk_core.specs.{declared.accesses.TableWord.TheVariants.{Turn, Named}, declared.accesses.Access.Access}
 use Rattle.mk_core.specs.declared.accesses.Access.TheVariants.{Load, Store, Exchange, Or, Add, Sub}
 use Rattle.mk_core.specs.declared.events.Word.TheVariants as word
 

@@ -3,17 +3,12 @@ use Rattle.mk_laws.proofs.Vocabulary.{Bool, Cell, Config, Flight, IsHistory, Non
 use Rattle.mk_laws.proofs.Vocabulary.{Tally, Word, Words, ℕ, ap, eq-eqb, false, frees, has_gates, if◌then◌else◌}
 use Rattle.mk_laws.proofs.Vocabulary.{is_phase, is_run_cell, lt-ltb, nat_lt, not, others_are_held, phase_of}
 use Rattle.mk_laws.proofs.Vocabulary.{quarantine_word, refl, slice_index, subst, sym, target, true, ◌%◌, ◌&&◌, ◌/◌, ◌<◌}
-use Rattle.mk_laws.proofs.Vocabulary.{◌==◌, ◌^◌, ◌||◌, ◌∙◌, ◌≡◌}
-use Rattle.mk_laws.proofs.Protocols.{lists_keep_the_protocol}
+use Rattle.mk_laws.proofs.{Vocabulary.{◌==◌, ◌^◌, ◌||◌, ◌∙◌, ◌≡◌}, Protocols.lists_keep_the_protocol}
 use Rattle.mk_cycle.proofs.Vocabulary.{Acts, Has, InTurn, IsEnabledTo, IsFreeForCycle, IsTurnAt, PassState, WordsState}
-use Rattle.mk_cycle.proofs.Vocabulary.{call_of, drops, now_of}
-use Rattle.mk_cycle.proofs.Calm.{no_target}
-use Rattle.mk_cycle.proofs.MayAct.{may_act}
-use Rattle.mk_core.specs.Ranges.{is_word}
-use Rattle.mk_core.specs.TurnConditions.{takes_snapshot}
+use Rattle.mk_cycle.proofs.{Vocabulary.{call_of, drops, now_of}, Calm.no_target, MayAct.may_act}
+use Rattle.mk_core.specs.{Ranges.is_word, TurnConditions.takes_snapshot}
 use Rattle.mk_cycle.specs.EngineLaw.{is_register}
-use Rattle.mk_words.proofs.Made.{own_before, pass_before}
-use Rattle.mk_words.proofs.TurnSteps.{holds_after}
+use Rattle.mk_words.proofs.{Made.{own_before, pass_before}, TurnSteps.holds_after}
 use Rattle.mk_words.specs.TurnSteps.{IsTurn, turn_stays}
 
 look_gates : (c : Config) (w : Words) (seat : Seat) (f : Flight) (x : Word) → is_register x ≡ false

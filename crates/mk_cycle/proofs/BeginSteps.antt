@@ -8,18 +8,14 @@ use Rattle.mk_laws.proofs.Vocabulary.{◌/◌, ◌<◌, ◌==◌, ◌^◌, ◌�
 use Rattle.mk_cycle.proofs.Vocabulary.{Acts, Cleans, CountsAreLeft, InTurn, IsAtPhase, IsClean, IsEnabledTo}
 use Rattle.mk_cycle.proofs.Vocabulary.{IsFreeForCycle, IsGone, IsTurnAt, KeepsGates, PassState, WasUndirty, WordsState}
 use Rattle.mk_cycle.proofs.Vocabulary.{call_of, count_by-le-length, done_of, held_by_allocations, made, now_of}
-use Rattle.mk_cycle.proofs.Vocabulary.{releases, stands, steady_of, world_at, world_of}
-use Rattle.mk_cycle.proofs.MayAct.{may_act}
-use Rattle.mk_cycle.proofs.KeptInParts.{gates_behind, gates_then, same_config}
-use Rattle.mk_cycle.proofs.OwnSteps.{done_in, keeps_counts, same_call, same_pass, still_gone}
-use Rattle.mk_cycle.proofs.Allowed.{in_turn_after, protocol}
+use Rattle.mk_cycle.proofs.{Vocabulary.{releases, stands, steady_of, world_at, world_of}, MayAct.may_act}
+use Rattle.mk_cycle.proofs.{KeptInParts.{gates_behind, gates_then, same_config}, OwnSteps.{done_in, keeps_counts}}
+use Rattle.mk_cycle.proofs.{OwnSteps.{same_call, same_pass, still_gone}, Allowed.{in_turn_after, protocol}}
 use Rattle.mk_geom.specs.StorageWords.{held_by_storages}
 use Rattle.mk_books.proofs.PlaceLemmas.{count_by-map}
-use Rattle.mk_core.specs.Allocations.{unreleased_storage}
-use Rattle.mk_core.specs.Counts.{TalliesAreExact}
+use Rattle.mk_core.specs.{Allocations.unreleased_storage, Counts.TalliesAreExact}
 use Rattle.mk_core.specs.declared.seats.OwnCycle.TheVariants.{Begun}
-use Rattle.mk_cycle.specs.BeginCycle.{BeginsCycle, with_cycle_begun}
-use Rattle.mk_cycle.specs.EngineLaw.{BeginsMarking}
+use Rattle.mk_cycle.specs.{BeginCycle.{BeginsCycle, with_cycle_begun}, EngineLaw.BeginsMarking}
 
 pub all_from : (n : ℕ) (test : ℕ → Bool) → ((k : ℕ) → k < n → test k ≡ true) → all_below n test ≡ true
 all_from zero test h = all_below_zero_is test

@@ -4,8 +4,7 @@ use Rattle.mk_laws.proofs.Vocabulary.{Word, Words, ℕ, ap, cell_freed, false, i
 use Rattle.mk_laws.proofs.Vocabulary.{is_heap_store, is_phase, not, or_else, pointed_cell, progress, progress_freed}
 use Rattle.mk_laws.proofs.Vocabulary.{refl, run_of_cell, sees_double, still, sym, target, true, true≢false, ◌&&◌, ◌∙◌}
 use Rattle.mk_laws.proofs.Vocabulary.{◌≡◌}
-use Rattle.mk_cycle.proofs.Vocabulary.{holding_behind, is_pending_free}
-use Rattle.mk_cycle.proofs.OwnSteps.{done_in}
+use Rattle.mk_cycle.proofs.{Vocabulary.{holding_behind, is_pending_free}, OwnSteps.done_in}
 use Rattle.mk_core.specs.Effects.{progress_look}
 use Rattle.mk_cycle.specs.EngineLaw.{is_pending_free_at}
 

@@ -1,6 +1,5 @@
 -- Bits of cells that are given back.
-use Rattle.std.proofs.lemmas.Nat.Bits.{bit_at-lt, bit_at_and, same_from_bits}
-use Rattle.std.proofs.Common.{min}
+use Rattle.std.proofs.{lemmas.Nat.Bits.{bit_at-lt, bit_at_and, same_from_bits}, Common.min}
 use Rattle.mk_laws.proofs.Vocabulary.{Bool, ℕ, ap, arith, bit_at, cases_Bool, false, has_bit, has_bit_without, inl, inr}
 use Rattle.mk_laws.proofs.Vocabulary.{not, quarantine_word, refl, suc, sym, true, without, zero, ◌%◌, ◌&&◌, ◌-◌, ◌/◌}
 use Rattle.mk_laws.proofs.Vocabulary.{◌<◌, ◌==◌, ◌^◌, ◌∙◌, ◌≡◌, ◌⊎◌}

@@ -1,19 +1,15 @@
 -- Bits of the pages' cells are as many as the allocations in these cells, and weigh as much.
-use Rattle.std.proofs.Common.{count_ones, nat_eq}
-use Rattle.std.proofs.lemmas.List.FromFn.{get_or-map-range_with_len}
-use Rattle.std.proofs.lemmas.Nat.{and_mask}
+use Rattle.std.proofs.{Common.{count_ones, nat_eq}, lemmas.List.FromFn.get_or-map-range_with_len, lemmas.Nat.and_mask}
 use Rattle.std.proofs.lemmas.Nat.Bits.{bit_at_above}
 use Rattle.mk_laws.proofs.Vocabulary.{Bool, Cell, Config, Event, IsHistory, List, PlacedAllocation, ℕ, and_from}
 use Rattle.mk_laws.proofs.Vocabulary.{and_parts, ap, arith, bit_at, cases_lt, cell_of_allocation, cond, eq-eqb}
 use Rattle.mk_laws.proofs.Vocabulary.{eqb-true, false, get_or, get_or_past, has_bit, histories_keep_lengths, inl, inr}
 use Rattle.mk_laws.proofs.Vocabulary.{left, never_behind, never_granted, phase_of, placed_at, slice_index, subst, sym}
 use Rattle.mk_laws.proofs.Vocabulary.{true, ◌%◌, ◌&&◌, ◌*◌, ◌<◌, ◌==◌, ◌^◌, ◌∙◌, ◌≡◌, ◌≢◌, ◌≤◌, ◌⊎◌}
-use Rattle.mk_laws.proofs.InvariantHistories.{histories_keep_the_invariant}
-use Rattle.mk_laws.proofs.KnownWorlds.{known_world}
-use Rattle.mk_laws.proofs.ReadingsStands.{freed_cell}
-use Rattle.mk_laws.proofs.Settled.{unreleased_are_apart}
-use Rattle.mk_cycle.proofs.Vocabulary.{count_by, sum_below, sum_by}
-use Rattle.mk_cycle.proofs.SumsBelow.{counted_by_key, counted_by_place, one_if_any, sum_same, weighed_by_key}
+use Rattle.mk_laws.proofs.{InvariantHistories.histories_keep_the_invariant, KnownWorlds.known_world}
+use Rattle.mk_laws.proofs.{ReadingsStands.freed_cell, Settled.unreleased_are_apart}
+use Rattle.mk_cycle.proofs.{Vocabulary.{count_by, sum_below, sum_by}, SumsBelow.{counted_by_key, counted_by_place}}
+use Rattle.mk_cycle.proofs.SumsBelow.{one_if_any, sum_same, weighed_by_key}
 use Rattle.mk_geom.specs.PageWords.{bits_of}
 use Rattle.mk_books.proofs.UsedBitLemmas.{count_ones-masked, length-bits_of}
 

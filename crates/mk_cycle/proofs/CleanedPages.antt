@@ -1,16 +1,12 @@
 -- Pages are cleaned one by one, and others are passed over: what is known of those before goes on.
 use Rattle.mk_laws.proofs.Vocabulary.{Steady, ℕ, ap, arith, cases_lt, false, header_at, refl, sym, ◌+◌, ◌<◌, ◌∙◌, ◌≡◌}
-use Rattle.mk_laws.proofs.Vocabulary.{◌≤◌}
-use Rattle.mk_laws.proofs.FreePages.{free_pages_have_nothing}
+use Rattle.mk_laws.proofs.{Vocabulary.◌≤◌, FreePages.free_pages_have_nothing}
 use Rattle.mk_cycle.proofs.Vocabulary.{Cleans, InTurn, IsClean, PassState, WasUndirty, WordsState, below_more, now_of}
 use Rattle.mk_cycle.proofs.CleaningSteps.{cleaned_table, cleans_nothing, cleans_then}
-use Rattle.mk_cycle.proofs.Undirty.{undirty_earlier, undirty_later, undirty_now}
-use Rattle.mk_cycle.proofs.PageByPage.{no_header}
-use Rattle.mk_cycle.proofs.SettledPages.{no_cells, no_snapshot}
-use Rattle.mk_cycle.specs.Cleaning.{HasTakenSnapshot, IsCleanedPage}
+use Rattle.mk_cycle.proofs.{Undirty.{undirty_earlier, undirty_later, undirty_now}, PageByPage.no_header}
+use Rattle.mk_cycle.{proofs.SettledPages.{no_cells, no_snapshot}, specs.Cleaning.{HasTakenSnapshot, IsCleanedPage}}
 use Rattle.mk_page_map.specs.Members.{has_freed_cells, is_in_use, page_at}
-use Rattle.mk_words.specs.PageMaps.{HasNoMarks}
-use Rattle.mk_words.specs.States.{TurnState}
+use Rattle.mk_words.specs.{PageMaps.HasNoMarks, States.TurnState}
 
 -- The pages below one are looked through, before a cycle begins.
 pub record CleansTo (pages : ℕ) (t u : TurnState) (from : ℕ) : Type 0 where

@@ -2,11 +2,9 @@
 use Rattle.mk_laws.proofs.Vocabulary.{Bool, Config, Event, List, Step, World, ℕ, ap, append-nil, append_assoc, false}
 use Rattle.mk_laws.proofs.Vocabulary.{refl, sym, [], ◌++◌, ◌∙◌, ◌≡◌}
 use Rattle.mk_cycle.proofs.Vocabulary.{HoldsGates, PassState, does_sweep, holds_gates, sweeps_then}
-use Rattle.mk_cycle.proofs.HoldingSteps.{holds_nothing, holds_then}
-use Rattle.mk_cycle.proofs.Sweepless.{marks_nothing}
+use Rattle.mk_cycle.proofs.{HoldingSteps.{holds_nothing, holds_then}, Sweepless.marks_nothing}
 use Rattle.mk_cycle.proofs.Told.{told_earlier, told_later}
-use Rattle.mk_cycle.specs.Closing.{ClosesAsPromised, IsClosedBy}
-use Rattle.mk_cycle.specs.Releasing.{MakesRelease}
+use Rattle.mk_cycle.specs.{Closing.{ClosesAsPromised, IsClosedBy}, Releasing.MakesRelease}
 use Rattle.mk_turns.specs.Doing.{Does}
 
 module _ (closes : PassState → PassState → Type 0) where

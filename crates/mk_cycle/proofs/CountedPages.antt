@@ -1,15 +1,11 @@
 -- What was released is counted page by page.
-use Rattle.std.proofs.Common.{count_ones}
-use Rattle.std.proofs.lemmas.Nat.{ones_le_self}
+use Rattle.std.proofs.{Common.count_ones, lemmas.Nat.ones_le_self}
 use Rattle.mk_laws.proofs.Vocabulary.{Bool, Words, ℕ, ap, arith, false, header_at, header_in, header_of, if◌then◌else◌}
 use Rattle.mk_laws.proofs.Vocabulary.{is_unmapped_header, quarantine_word, refl, slice_index, suc, true, without}
 use Rattle.mk_laws.proofs.Vocabulary.{words_under, zero, ◌*◌, ◌+◌, ◌/◌, ◌^◌, ◌∙◌, ◌≡◌}
 use Rattle.mk_cycle.proofs.Vocabulary.{GivesNothingBack, InTurn, PassState, Released, SamePage, bit_and, held_below}
 use Rattle.mk_cycle.proofs.Vocabulary.{held_unmarked, now_of, released_below, released_on, words_unmarked}
-use Rattle.mk_cycle.proofs.CleaningSteps.{halves}
-use Rattle.mk_cycle.proofs.GivingSteps.{none_then}
-use Rattle.mk_cycle.proofs.PageSteps.{same_header}
-use Rattle.mk_cycle.proofs.SumsBelow.{sum_same}
+use Rattle.mk_cycle.proofs.{CleaningSteps.halves, GivingSteps.none_then, PageSteps.same_header, SumsBelow.sum_same}
 
 pub same_released : (a b : Released) → a.count ≡ b.count → a.words ≡ b.words → a.kept ≡ b.kept → a ≡ b
 same_released a b count words kept = grind arith

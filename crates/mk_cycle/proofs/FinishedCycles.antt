@@ -5,22 +5,13 @@ use Rattle.mk_laws.proofs.Vocabulary.{subst, sym, true, with_released, [], ◌+�
 use Rattle.mk_cycle.proofs.Vocabulary.{Acts, CountsAreLeft, Done, HasReleased, HoldsFewer, InTurn, IsAtPhase}
 use Rattle.mk_cycle.proofs.Vocabulary.{IsFreeForCycle, KeepsCall, KeepsGates, PassState, Released, done_of}
 use Rattle.mk_cycle.proofs.Vocabulary.{full_answers, is_pending_free, now_of, releases, steady_of, world_of}
-use Rattle.mk_cycle.proofs.Allowed.{in_turn_after, in_turn_before}
-use Rattle.mk_cycle.proofs.EndSteps.{as_many_fulls, ended_call, ended_done, ended_gates, ended_gone, one_more_end}
-use Rattle.mk_cycle.proofs.EndSteps.{steady_ended}
+use Rattle.mk_cycle.proofs.{Allowed.{in_turn_after, in_turn_before}, EndSteps.{as_many_fulls, ended_call, ended_done}}
+use Rattle.mk_cycle.proofs.EndSteps.{ended_gates, ended_gone, one_more_end, steady_ended}
 use Rattle.mk_cycle.proofs.KeptInParts.{calls_then, free_then, gates_then, same_config}
-use Rattle.mk_cycle.proofs.BeginSteps.{all_from, counts_then}
-use Rattle.mk_cycle.proofs.HeldReleased.{held_alike}
-use Rattle.mk_cycle.proofs.NewlyReleased.{newly_added}
-use Rattle.mk_cycle.proofs.OwnSteps.{same_pass}
-use Rattle.mk_cycle.proofs.ReleasedCounts.{told_to}
-use Rattle.mk_cycle.specs.Releasing.{words_released}
-use Rattle.mk_cycle.specs.Tallying.{Sets, with_cycle_counted}
-use Rattle.mk_cycle.specs.FinishCycle.{FinishesCycle}
-use Rattle.mk_cycle.specs.GivingAll.{GivesAllBack}
-use Rattle.mk_core.specs.Counts.{TalliesAreExact}
-use Rattle.mk_core.specs.Effects.{cycle_ended}
-use Rattle.mk_core.specs.Moments.{none_is_held}
+use Rattle.mk_cycle.proofs.{BeginSteps.{all_from, counts_then}, HeldReleased.held_alike, NewlyReleased.newly_added}
+use Rattle.mk_cycle.{proofs.{OwnSteps.same_pass, ReleasedCounts.told_to}, specs.GivingAll.{GivesAllBack}}
+use Rattle.mk_cycle.specs.{Releasing.words_released, Tallying.{Sets, with_cycle_counted}, FinishCycle.FinishesCycle}
+use Rattle.mk_core.specs.{Counts.TalliesAreExact, Effects.cycle_ended, Moments.none_is_held}
 
 pub gives_call : {p g : PassState} → GivesAllBack p g → KeepsCall p g
 gives_call x = grind (arith, calls_then)

@@ -4,21 +4,17 @@ use Rattle.mk_laws.proofs.Vocabulary.{PlacedAllocation, Seat, Steady, Step, Worl
 use Rattle.mk_laws.proofs.Vocabulary.{earlier_part_is_history, eq-eqb, eqb-false, false, flight_of, get_or-set_other}
 use Rattle.mk_laws.proofs.Vocabulary.{get_or-set_same, inl, inr, is_held, is_phase, is_run_gone, length, ne_eqb}
 use Rattle.mk_laws.proofs.Vocabulary.{progress, refl, set_past, slice_index, slice_set, still, subst, sym, true}
-use Rattle.mk_laws.proofs.Vocabulary.{world_behind, ◌++◌, ◌∙◌, ◌≡◌, ◌≢◌}
-use Rattle.mk_laws.proofs.ProtocolFrames.{others_leave}
+use Rattle.mk_laws.proofs.{Vocabulary.{world_behind, ◌++◌, ◌∙◌, ◌≡◌, ◌≢◌}, ProtocolFrames.others_leave}
 use Rattle.mk_laws.proofs.RunsStill.{HolderFinds}
 use Rattle.mk_cycle.proofs.Vocabulary.{Acts, Frees, InTurn, IsAtPhase, IsFreeForCycle, IsTurnAt, LeavesTurn, PassState}
 use Rattle.mk_cycle.proofs.Vocabulary.{WordsState, does_nothing, does_step, does_then, event_of, holder_finds}
 use Rattle.mk_cycle.proofs.Vocabulary.{holding_behind, is_giving_back, is_pending_free, made, now_of, steady_of}
-use Rattle.mk_cycle.proofs.Vocabulary.{world_at, world_of}
-use Rattle.mk_cycle.proofs.Calm.{calm_done, calm_still, ends_none, is_calm, stores_none}
-use Rattle.mk_cycle.proofs.KeptInParts.{free_then, keeps_at_once, keeps_then, same_config}
-use Rattle.mk_cycle.proofs.OwnSteps.{done_in, keeps_call, keeps_counts}
-use Rattle.mk_cycle.proofs.CleaningSteps.{quar_frees_none, zero_stays}
+use Rattle.mk_cycle.proofs.{Vocabulary.{world_at, world_of}, Calm.{calm_done, calm_still, ends_none, is_calm}}
+use Rattle.mk_cycle.proofs.{Calm.stores_none, KeptInParts.{free_then, keeps_at_once, keeps_then, same_config}}
+use Rattle.mk_cycle.proofs.{OwnSteps.{done_in, keeps_call, keeps_counts}, CleaningSteps.{quar_frees_none, zero_stays}}
 use Rattle.mk_core.specs.Growing.{Finding}
 use Rattle.mk_cycle.specs.Freeing.{IsUnmapped, but_pages}
-use Rattle.mk_turns.proofs.Doing.{none_own, others_are_so}
-use Rattle.mk_turns.specs.Doing.{are_of}
+use Rattle.mk_turns.{proofs.Doing.{none_own, others_are_so}, specs.Doing.{are_of}}
 use Rattle.mk_words.proofs.Seats.{others_own}
 
 pub frees_nothing : (p : PassState) → Frees p p

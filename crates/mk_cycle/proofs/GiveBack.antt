@@ -4,13 +4,10 @@ use Rattle.mk_laws.proofs.Vocabulary.{quarantine_word, slice_index, sym, true, u
 use Rattle.mk_laws.proofs.Vocabulary.{◌+◌, ◌-◌, ◌/◌, ◌<◌, ◌^◌, ◌∙◌, ◌≡◌}
 use Rattle.mk_cycle.proofs.Vocabulary.{Acts, FreesPage, GivesNothingBack, InTurn, IsTurnAt, IsZero, PageState}
 use Rattle.mk_cycle.proofs.Vocabulary.{PassState, WordsState, and_le_l, bit_and, drops, left_unmarked, now_of}
-use Rattle.mk_cycle.proofs.Vocabulary.{page_state}
-use Rattle.mk_cycle.proofs.CellBits.{has_bit_and, high_part, low_part, none_in_both}
+use Rattle.mk_cycle.proofs.{Vocabulary.page_state, CellBits.{has_bit_and, high_part, low_part, none_in_both}}
 use Rattle.mk_cycle.proofs.GivingSteps.{quar_frees, quar_state, used_frees, used_state}
 use Rattle.mk_cycle.proofs.PageSteps.{drops_ok, gives_ok, none_is_left, page_at_once, page_then, same_header, same_left}
-use Rattle.mk_cycle.proofs.PageSteps.{same_used}
-use Rattle.mk_cycle.proofs.CleaningSteps.{Halves, halves}
-use Rattle.mk_cycle.proofs.FreeingSteps.{freed_turn}
+use Rattle.mk_cycle.proofs.{PageSteps.same_used, CleaningSteps.{Halves, halves}, FreeingSteps.freed_turn}
 use Rattle.mk_cycle.specs.Freeing.{GivesBack, IsQuarantineWord}
 
 -- Of the cells that are used and gone each is gone.

@@ -3,14 +3,11 @@ use Rattle.mk_laws.proofs.Vocabulary.{Config, Steady, ℕ, all_below-at, ap, ari
 use Rattle.mk_laws.proofs.Vocabulary.{◌<◌, ◌∙◌, ◌≡◌}
 use Rattle.mk_cycle.proofs.Vocabulary.{Frees, GivesNothingBack, HasReleased, HoldsFewer, HoldsGates, IsAtPhase}
 use Rattle.mk_cycle.proofs.Vocabulary.{IsSettledPage, PassState, Released, held_below, now_of, released_below}
-use Rattle.mk_cycle.proofs.CountedPages.{held_alike_below, told_alike_below}
-use Rattle.mk_cycle.proofs.BeginSteps.{all_from}
-use Rattle.mk_cycle.proofs.FreeingSteps.{freed_phase, frees_then}
-use Rattle.mk_cycle.proofs.HeldReleased.{held_alike}
+use Rattle.mk_cycle.proofs.{CountedPages.{held_alike_below, told_alike_below}, BeginSteps.all_from}
+use Rattle.mk_cycle.proofs.{FreeingSteps.{freed_phase, frees_then}, HeldReleased.held_alike}
 use Rattle.mk_cycle.proofs.ReleasedCounts.{told_from, told_to}
 use Rattle.mk_core.specs.Moments.{none_is_held}
-use Rattle.mk_cycle.specs.GivingAll.{GivesAllBack}
-use Rattle.mk_cycle.specs.Releasing.{ReleasesUnmarked}
+use Rattle.mk_cycle.specs.{GivingAll.GivesAllBack, Releasing.ReleasesUnmarked}
 
 pub held_phase : (p q : PassState) (n : ℕ) → HoldsGates p q → IsAtPhase p n → IsAtPhase q n
 held_phase p q n k at = ap (λ (s : Steady). s.phase) k.keeps.steady ∙ at

@@ -2,14 +2,10 @@
 use Rattle.mk_cycle.proofs.Vocabulary.{Acts, Frees, FreesPage, GivesNothingBack, InTurn, IsEnabledTo, IsTurnAt}
 use Rattle.mk_cycle.proofs.Vocabulary.{IsUnmappedWord, IsZero, PageState, PassState, WordsState, call_of, drops}
 use Rattle.mk_cycle.proofs.Vocabulary.{event_of, is_giving_back, is_pending_free, made, now_of, page_state, stands}
-use Rattle.mk_cycle.proofs.Vocabulary.{world_at, world_of}
-use Rattle.mk_cycle.proofs.Allowed.{in_turn_after, in_turn_before, on_table, or_true, protocol}
-use Rattle.mk_cycle.proofs.FreeingSteps.{FreesAt, frees_calmly, frees_nothing, frees_step, frees_then, leaves_words}
-use Rattle.mk_cycle.proofs.FreeingSteps.{quar_gives, still_unmapped, wipe_gives}
-use Rattle.mk_cycle.proofs.Calm.{no_target}
-use Rattle.mk_cycle.proofs.KeptInParts.{same_config}
-use Rattle.mk_cycle.proofs.MayAct.{may_act}
-use Rattle.mk_cycle.specs.Freeing.{IsUnmapped}
+use Rattle.mk_cycle.proofs.{Vocabulary.{world_at, world_of}, Allowed.{in_turn_after, in_turn_before, on_table, or_true}}
+use Rattle.mk_cycle.proofs.{Allowed.protocol, FreeingSteps.{FreesAt, frees_calmly, frees_nothing, frees_step}}
+use Rattle.mk_cycle.proofs.FreeingSteps.{frees_then, leaves_words, quar_gives, still_unmapped, wipe_gives}
+use Rattle.mk_cycle.{proofs.{Calm.no_target, KeptInParts.same_config, MayAct.may_act}, specs.Freeing.{IsUnmapped}}
 use Rattle.mk_laws.proofs.Vocabulary.{AreOfPages, Bool, Cell, Config, Flight, List, MayHold, None, OfFreedRun, OfMapped}
 use Rattle.mk_laws.proofs.Vocabulary.{OfReleased, Option, Page, RunPages, Some, Steady, Step, Word, Words, World, ℕ}
 use Rattle.mk_laws.proofs.Vocabulary.{address_of, all_below-at, and_parts, ap, arith, carves, cases_lt, empties, eq-eqb}
@@ -21,9 +17,7 @@ use Rattle.mk_laws.proofs.Vocabulary.{pointed_cell, refl, set_past, slice_index,
 use Rattle.mk_laws.proofs.Vocabulary.{takes_cell, target, true, unmaps, used_at, words_are_zero, world_behind}
 use Rattle.mk_laws.proofs.Vocabulary.{zero_scene_of, ◌%◌, ◌&&◌, ◌*◌, ◌++◌, ◌+◌, ◌-◌, ◌/◌, ◌<◌, ◌==◌, ◌^◌, ◌||◌, ◌∙◌}
 use Rattle.mk_laws.proofs.Vocabulary.{◌≡◌, ◌≢◌}
-use Rattle.mk_core.specs.Cells.{is_in_run}
-use Rattle.mk_core.specs.TurnConditions.{is_in_gone_run, takes_snapshot}
-use Rattle.mk_core.specs.Words.{page_of}
+use Rattle.mk_core.specs.{Cells.is_in_run, TurnConditions.{is_in_gone_run, takes_snapshot}, Words.page_of}
 use Rattle.mk_words.specs.TurnSteps.{turn_stays}
 
 -- where the step is made, a page's words are as the holder knows them

@@ -1,6 +1,5 @@
 -- What a `release` releases is held no longer: of that, the small allocations were held.
-use Rattle.std.proofs.Common.{zero-add}
-use Rattle.std.proofs.Math.Bool.{and-false}
+use Rattle.std.proofs.{Common.zero-add, Math.Bool.and-false}
 use Rattle.mk_laws.proofs.Vocabulary.{Bool, Config, Event, Header, IsHistory, List, Object, OfBlock, OfLater}
 use Rattle.mk_laws.proofs.Vocabulary.{OfLeafBlock, OfLeafRun, OfRun, Option, PlacedAllocation, ShowsPart, Step, Storage}
 use Rattle.mk_laws.proofs.Vocabulary.{Words, ℕ, address_of, ap, append-nil, arith, cases_Bool, cell_of_allocation}
@@ -11,21 +10,16 @@ use Rattle.mk_laws.proofs.Vocabulary.{kinds_of, left, map, never_granted, not, o
 use Rattle.mk_laws.proofs.Vocabulary.{placed_at, pointed_cell, refl, run_begins, storage_of, storage_words, subst, suc}
 use Rattle.mk_laws.proofs.Vocabulary.{sym, true, true≢false, typed_size, use_under, used_at, with_released, words_under}
 use Rattle.mk_laws.proofs.Vocabulary.{words_within, zero, [], ◌&&◌, ◌*◌, ◌+◌, ◌/◌, ◌||◌, ◌∙◌, ◌∷◌, ◌≡◌}
-use Rattle.mk_laws.proofs.ForImages.{gone_is}
-use Rattle.mk_laws.proofs.Settled.{gone_is_unmapped, unmapped_run}
-use Rattle.mk_laws.proofs.UnmappedRuns.{unmapped_runs_take_no_memory}
+use Rattle.mk_laws.proofs.{ForImages.gone_is, Settled.{gone_is_unmapped, unmapped_run}}
+use Rattle.mk_laws.{proofs.UnmappedRuns.{unmapped_runs_take_no_memory}, specs.UnmappedRuns.{is_resident_in}}
 use Rattle.mk_cycle.proofs.Vocabulary.{Acts, HoldsFewer, InTurn, IsAtPhase, IsGone, PassState, allocations_stand}
 use Rattle.mk_cycle.proofs.Vocabulary.{cells_unmarked, held_below, held_by_allocations, made, now_of, sum_below, sum_by}
-use Rattle.mk_cycle.proofs.Vocabulary.{sum_by-cons, world_of, left_unmarked}
-use Rattle.mk_cycle.proofs.ReleasedCells.{gone_there, plus_zero, unmapped_is_large}
-use Rattle.mk_cycle.proofs.ReleasedCounts.{phase_there, quiet, same_before, unmarked_are}
-use Rattle.mk_cycle.proofs.CellCounts.{cells_weigh_as_much}
-use Rattle.mk_cycle.proofs.NewlyReleased.{is_new}
+use Rattle.mk_cycle.proofs.{Vocabulary.{sum_by-cons, world_of, left_unmarked}, ReleasedCells.{gone_there, plus_zero}}
+use Rattle.mk_cycle.proofs.{ReleasedCells.unmapped_is_large, ReleasedCounts.{phase_there, quiet, same_before}}
+use Rattle.mk_cycle.proofs.{ReleasedCounts.unmarked_are, CellCounts.cells_weigh_as_much, NewlyReleased.is_new}
 use Rattle.mk_cycle.proofs.SumsBelow.{sum_same}
 use Rattle.mk_geom.specs.StorageWords.{held_by_storages}
-use Rattle.mk_core.proofs.StandingAllocations.{placed_cell}
-use Rattle.mk_core.specs.Allocations.{unreleased_storage}
-use Rattle.mk_laws.specs.UnmappedRuns.{is_resident_in}
+use Rattle.mk_core.{proofs.StandingAllocations.{placed_cell}, specs.Allocations.{unreleased_storage}}
 
 -- what one allocation holds
 abbrev held_part : Config → PlacedAllocation → ℕ

@@ -5,13 +5,9 @@ use Rattle.mk_laws.proofs.Vocabulary.{is_held, is_number_of, length, lt-ltb, ne_
 use Rattle.mk_laws.proofs.Vocabulary.{set_past, slice_index, slice_set, sym, true, ◌<◌, ◌==◌, ◌||◌, ◌∙◌, ◌≡◌}
 use Rattle.mk_cycle.proofs.Vocabulary.{Acts, HoldsGates, InTurn, IsEnabledTo, IsFreeForCycle, PassState, WordsState}
 use Rattle.mk_cycle.proofs.Vocabulary.{does_nothing, does_step, does_then, holds_gates, now_of, world_at}
-use Rattle.mk_cycle.proofs.Allowed.{in_turn_before, protocol}
-use Rattle.mk_cycle.proofs.BeginSteps.{all_from}
-use Rattle.mk_cycle.proofs.CleaningSteps.{calm_keeps}
-use Rattle.mk_cycle.proofs.KeptInParts.{free_then, keeps_at_once, keeps_then}
-use Rattle.mk_cycle.proofs.MayAct.{may_act}
-use Rattle.mk_cycle.specs.Holding.{IsHeldOrOwn}
-use Rattle.mk_cycle.specs.TurnKeeps.{unchanged}
+use Rattle.mk_cycle.proofs.{Allowed.{in_turn_before, protocol}, BeginSteps.all_from, CleaningSteps.calm_keeps}
+use Rattle.mk_cycle.proofs.{KeptInParts.{free_then, keeps_at_once, keeps_then}, MayAct.may_act}
+use Rattle.mk_cycle.specs.{Holding.IsHeldOrOwn, TurnKeeps.unchanged}
 
 pub holds_nothing : (p : PassState) → HoldsGates p p
 holds_nothing p = record { does = does_nothing holds_gates p; keeps = keeps_at_once unchanged p; held = λ j h. h }

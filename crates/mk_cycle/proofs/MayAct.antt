@@ -4,15 +4,11 @@ use Rattle.mk_laws.proofs.Vocabulary.{Marker, MarkerState, Moment, Op, Protocol,
 use Rattle.mk_laws.proofs.Vocabulary.{comes_next, eq-eqb, false, flight_of, group_of, has_gates, has_phase, holder_may}
 use Rattle.mk_laws.proofs.Vocabulary.{host_has_turn, is_in_range, is_of_turn, is_open_to, is_under_turn, lt-ltb}
 use Rattle.mk_laws.proofs.Vocabulary.{marker_at, marker_may, not, phase_of, refl, seat_exists, subst, sym, true, ◌&&◌}
-use Rattle.mk_laws.proofs.Vocabulary.{◌+◌, ◌∙◌, ◌≡◌}
-use Rattle.mk_laws.specs.Protocol.{has_stage}
+use Rattle.mk_laws.{proofs.Vocabulary.{◌+◌, ◌∙◌, ◌≡◌}, specs.Protocol.{has_stage}}
 use Rattle.mk_cycle.proofs.Vocabulary.{IsEnabledTo, PassState, call_of, event_of, is_pending_free, now_of}
-use Rattle.mk_cycle.proofs.Calm.{calm_still, is_calm}
-use Rattle.mk_cycle.proofs.OwnSteps.{no_more_calls, undecided}
-use Rattle.mk_core.proofs.Conditions.{meets_enabled}
-use Rattle.mk_core.specs.History.{never_first}
-use Rattle.mk_core.specs.Readings.{is_idle}
-use Rattle.mk_core.specs.Order.{comes_next_to_host, is_in_order, is_of_any_holder, may_decide_new}
+use Rattle.mk_cycle.proofs.{Calm.{calm_still, is_calm}, OwnSteps.{no_more_calls, undecided}}
+use Rattle.mk_core.{proofs.Conditions.{meets_enabled}, specs.Order.{is_of_any_holder, may_decide_new}}
+use Rattle.mk_core.specs.{History.never_first, Readings.is_idle, Order.{comes_next_to_host, is_in_order}}
 use Rattle.mk_cycle.specs.EngineLaw.{is_pending_free_at}
 use Rattle.mk_words.specs.Steps.{IsAdmittedTo}
 

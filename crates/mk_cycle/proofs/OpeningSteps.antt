@@ -2,25 +2,15 @@
 use Rattle.mk_laws.proofs.Vocabulary.{Bool, Config, Event, IsHistory, List, Seat, Step, Words, World, ℕ, all_below-at}
 use Rattle.mk_laws.proofs.Vocabulary.{and_from, ap, append-nil, append_assoc, earlier_part_is_history, false, inl, inr}
 use Rattle.mk_laws.proofs.Vocabulary.{is_held, is_number_of, is_one_of, lt-ltb, not, others_are_held, refl, slice_index}
-use Rattle.mk_laws.proofs.Vocabulary.{subst, sym, true, [], ◌++◌, ◌==◌, ◌||◌, ◌∙◌, ◌∷◌, ◌≡◌}
-use Rattle.mk_laws.proofs.Actors.{is_holders}
-use Rattle.mk_laws.proofs.FramesHolders.{acts_as_holder}
-use Rattle.mk_laws.proofs.Known.{holds_turn}
-use Rattle.mk_laws.proofs.LastEvents.{comes_last}
-use Rattle.mk_laws.proofs.Orderly.{same_holder}
-use Rattle.mk_laws.proofs.OrderlyLists.{actor_of}
-use Rattle.mk_laws.proofs.ProtocolFrames.{others_leave}
-use Rattle.mk_laws.proofs.Views.{view_of}
+use Rattle.mk_laws.proofs.{Vocabulary.{subst, sym, true, [], ◌++◌, ◌==◌, ◌||◌, ◌∙◌, ◌∷◌, ◌≡◌}, Actors.is_holders}
+use Rattle.mk_laws.proofs.{FramesHolders.acts_as_holder, Known.holds_turn, LastEvents.comes_last, Orderly.same_holder}
+use Rattle.mk_laws.proofs.{OrderlyLists.actor_of, ProtocolFrames.others_leave, Views.view_of}
 use Rattle.mk_cycle.proofs.Vocabulary.{GivesNothingBack, InTurn, IsAtPhase, IsFreeForCycle, Makes, PassState, call_of}
-use Rattle.mk_cycle.proofs.Vocabulary.{event_of, now_of, stands, world_at}
-use Rattle.mk_cycle.proofs.FreeingSteps.{freed_free, freed_phase, frees_step, open_gives, others_free}
-use Rattle.mk_cycle.proofs.GivingSteps.{none_at_once, none_then, state_there}
-use Rattle.mk_cycle.proofs.Allowed.{protocol}
-use Rattle.mk_cycle.proofs.MayAct.{may_act}
-use Rattle.mk_core.specs.Growing.{AreOfOthers}
-use Rattle.mk_core.specs.Words.{page_of}
-use Rattle.mk_words.proofs.Seats.{others_own}
-use Rattle.mk_words.proofs.TurnSteps.{acts, still_turn}
+use Rattle.mk_cycle.proofs.{Vocabulary.{event_of, now_of, stands, world_at}, FreeingSteps.{freed_free, freed_phase}}
+use Rattle.mk_cycle.proofs.{FreeingSteps.{frees_step, open_gives, others_free}, GivingSteps.{none_at_once, none_then}}
+use Rattle.mk_cycle.proofs.{GivingSteps.state_there, Allowed.protocol, MayAct.may_act}
+use Rattle.mk_core.specs.{Growing.AreOfOthers, Words.page_of}
+use Rattle.mk_words.proofs.{Seats.others_own, TurnSteps.{acts, still_turn}}
 use Rattle.mk_words.specs.Opening.{OnlyOpen, Opens, OthersMayOpen, is_open}
 
 open_is_holders : (x : Step) → is_open x ≡ true → is_holders x ≡ true

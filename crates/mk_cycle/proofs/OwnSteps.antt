@@ -5,13 +5,11 @@ use Rattle.mk_laws.proofs.Vocabulary.{None, Option, Progress, Protocol, RunPages
 use Rattle.mk_laws.proofs.Vocabulary.{answer_decided, ap, append-nil, arith, at_rest, calls, ends, false, flight_of}
 use Rattle.mk_laws.proofs.Vocabulary.{get_or-set_same, is_end, is_heap_store, is_run_gone, left, length, progress, refl}
 use Rattle.mk_laws.proofs.Vocabulary.{still, subst, sym, true, true≢false, world_behind, [], ◌++◌, ◌+◌, ◌<◌, ◌∙◌, ◌∷◌}
-use Rattle.mk_laws.proofs.Vocabulary.{◌≡◌}
-use Rattle.mk_laws.proofs.RunWords.{gone_behind}
+use Rattle.mk_laws.proofs.{Vocabulary.◌≡◌, RunWords.gone_behind}
 use Rattle.mk_cycle.proofs.Vocabulary.{Acts, CountsAreLeft, Done, Has, IsGone, KeepsCall, PassState, call_of, done_of}
 use Rattle.mk_cycle.proofs.Vocabulary.{event_of, holder_finds, holding_behind, made, now_of, stands, steady_of}
 use Rattle.mk_cycle.proofs.Vocabulary.{world_at, world_of}
-use Rattle.mk_core.proofs.Histories.{calls_more}
-use Rattle.mk_core.specs.Effects.{moment_behind}
+use Rattle.mk_core.{proofs.Histories.{calls_more}, specs.Effects.{moment_behind}}
 use Rattle.mk_words.proofs.Made.{Made}
 
 -- what a holding shows of what was done

@@ -6,15 +6,11 @@ use Rattle.mk_laws.proofs.Vocabulary.{false, header_at, header_in, header_of, in
 use Rattle.mk_laws.proofs.Vocabulary.{refl, run_count, slice_index, sym, use_under, used_at, ◌+◌, ◌<◌, ◌∙◌, ◌≡◌, ◌≤◌}
 use Rattle.mk_cycle.proofs.Vocabulary.{Frees, FreesPage, HasFreeCells, InTurn, IsOccupied, IsSettledPage, PassState}
 use Rattle.mk_cycle.proofs.Vocabulary.{Released, SamePage, below_more, held_below, held_unmarked, now_of}
-use Rattle.mk_cycle.proofs.Vocabulary.{released_below, released_on}
-use Rattle.mk_cycle.proofs.CountedPages.{counted_more, held_more, held_same, none_held, nothing_on, same_released}
-use Rattle.mk_cycle.proofs.CountedPages.{told_same}
-use Rattle.mk_cycle.proofs.SumsBelow.{sum_past}
+use Rattle.mk_cycle.proofs.{Vocabulary.{released_below, released_on}, CountedPages.{counted_more, held_more, held_same}}
+use Rattle.mk_cycle.proofs.{CountedPages.{none_held, nothing_on, same_released, told_same}, SumsBelow.sum_past}
 use Rattle.mk_cycle.proofs.SettledPages.{free_cells_stay, head_elsewhere, no_cells, no_snapshot, none_left}
-use Rattle.mk_cycle.proofs.SettledPages.{same_occupied, still_settled}
-use Rattle.mk_cycle.proofs.FreeingSteps.{frees_nothing, frees_then}
-use Rattle.mk_geom.proofs.HeaderLemmas.{word_of-header_of}
-use Rattle.mk_geom.specs.PageUses.{is_free_page}
+use Rattle.mk_cycle.proofs.{SettledPages.{same_occupied, still_settled}, FreeingSteps.{frees_nothing, frees_then}}
+use Rattle.mk_geom.{proofs.HeaderLemmas.{word_of-header_of}, specs.PageUses.{is_free_page}}
 use Rattle.mk_page_map.specs.Members.{IsNext, has_freed_cells, is_in_use}
 use Rattle.mk_cycle.specs.Freeing.{may_be_unsettled}
 

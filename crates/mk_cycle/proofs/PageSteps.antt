@@ -3,12 +3,9 @@ use Rattle.mk_laws.proofs.Vocabulary.{Bool, List, Words, ℕ, and_from, ap, cell
 use Rattle.mk_laws.proofs.Vocabulary.{has_bit, header_at, header_in, not, refl, slice_index, subst, sym, true, used_at}
 use Rattle.mk_laws.proofs.Vocabulary.{without, words_under, ◌*◌, ◌+◌, ◌-◌, ◌<◌, ◌||◌, ◌∙◌, ◌≡◌}
 use Rattle.mk_cycle.proofs.Vocabulary.{FreesPage, GivesNothingBack, PageState, PassState, SamePage, bit_and, drops}
-use Rattle.mk_cycle.proofs.Vocabulary.{left_unmarked, now_of}
-use Rattle.mk_cycle.proofs.CellBits.{left_within, none_beyond, none_of_itself, part_within, rest_away, taken_away}
-use Rattle.mk_cycle.proofs.BeginSteps.{all_from}
-use Rattle.mk_cycle.proofs.FreeingSteps.{frees_then}
-use Rattle.mk_core.specs.Cells.{are_left_unmarked}
-use Rattle.mk_core.specs.TurnConditions.{are_wiped}
+use Rattle.mk_cycle.proofs.{Vocabulary.{left_unmarked, now_of}, CellBits.{left_within, none_beyond, none_of_itself}}
+use Rattle.mk_cycle.proofs.{CellBits.{part_within, rest_away, taken_away}, BeginSteps.all_from, FreeingSteps.frees_then}
+use Rattle.mk_core.specs.{Cells.are_left_unmarked, TurnConditions.are_wiped}
 
 pub page_at_once : (page : ℕ) {p q : PassState} → GivesNothingBack p q → FreesPage page p q
 page_at_once page a = record { frees = a.frees; others = λ r ne. a.same r }

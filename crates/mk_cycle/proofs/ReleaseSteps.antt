@@ -2,15 +2,10 @@
 use Rattle.mk_laws.proofs.Vocabulary.{Config, Steady, Step, Words, World, ℕ, ap, arith, fresh_words_of, map, phase_of}
 use Rattle.mk_laws.proofs.Vocabulary.{refl, subst, with_released, [], ◌%◌, ◌+◌, ◌/◌, ◌<◌, ◌^◌, ◌∙◌, ◌≡◌, ◌≤◌}
 use Rattle.mk_cycle.proofs.Vocabulary.{Acts, InTurn, IsAtPhase, IsFreeForCycle, LeavesTurn, PassState}
-use Rattle.mk_cycle.proofs.Vocabulary.{count_by-le-length, made, steady_of, world_at, world_of}
-use Rattle.mk_cycle.proofs.Allowed.{protocol}
-use Rattle.mk_cycle.proofs.BeginSteps.{counts_then}
-use Rattle.mk_cycle.proofs.CleaningSteps.{calm_keeps}
-use Rattle.mk_cycle.proofs.KeptInParts.{calls_then, free_then, same_config}
-use Rattle.mk_cycle.proofs.ReleasedCounts.{fresh_words_stay}
-use Rattle.mk_cycle.specs.EngineLaw.{ClosesMarks}
-use Rattle.mk_cycle.specs.Releasing.{ReleasesUnmarked}
-use Rattle.mk_cycle.specs.TurnKeeps.{but_phase}
+use Rattle.mk_cycle.proofs.{Vocabulary.{count_by-le-length, made, steady_of, world_at, world_of}, Allowed.protocol}
+use Rattle.mk_cycle.proofs.{BeginSteps.counts_then, CleaningSteps.calm_keeps, KeptInParts.{calls_then, free_then}}
+use Rattle.mk_cycle.proofs.{KeptInParts.same_config, ReleasedCounts.fresh_words_stay}
+use Rattle.mk_cycle.specs.{EngineLaw.ClosesMarks, Releasing.ReleasesUnmarked, TurnKeeps.but_phase}
 use Rattle.mk_words.specs.Steps.{moment_of}
 
 -- One is added to the phase.

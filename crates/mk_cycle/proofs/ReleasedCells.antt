@@ -14,11 +14,9 @@ use Rattle.mk_laws.proofs.Vocabulary.{map, ne_eqb, not, object_placed, or_right,
 use Rattle.mk_laws.proofs.Vocabulary.{placed_at, plot_of, refl, released_where_left, slice_index, storage_of, subst}
 use Rattle.mk_laws.proofs.Vocabulary.{sym, true, true≢false, typed_size, used_at, with_released, words_under, ◌&&◌, ◌*◌}
 use Rattle.mk_laws.proofs.Vocabulary.{◌++◌, ◌+◌, ◌/◌, ◌<◌, ◌==◌, ◌||◌, ◌∙◌, ◌≡◌, ◌⊎◌}
-use Rattle.mk_laws.proofs.FreeWords.{unmapped_words_are_zero}
-use Rattle.mk_laws.proofs.InvariantTheorems.{allocations_are_disjoint}
-use Rattle.mk_laws.proofs.MappedWords.{mapped_stays}
+use Rattle.mk_laws.proofs.{FreeWords.unmapped_words_are_zero, InvariantTheorems.allocations_are_disjoint}
+use Rattle.mk_laws.{proofs.MappedWords.{mapped_stays}, specs.FreeWords.{IsOfNoneMapped}}
 use Rattle.mk_core.proofs.StandingAllocations.{placed_cell}
-use Rattle.mk_laws.specs.FreeWords.{IsOfNoneMapped}
 use Rattle.mk_cycle.specs.Freeing.{is_occupied_page}
 
 pub plus_zero : (n : ℕ) → n + 0 ≡ n

@@ -11,10 +11,8 @@ use Rattle.mk_cycle.proofs.Vocabulary.{and_le_l, cells_unmarked, count_by, left_
 use Rattle.mk_cycle.proofs.Vocabulary.{released_below, stands, sum_below, sum_by, words_unmarked, world_at, world_of}
 use Rattle.mk_cycle.proofs.CellCounts.{AreTheirBits, cells_are_as_many, cells_weigh_as_much}
 use Rattle.mk_cycle.proofs.NewlyReleased.{is_new, left_filtered, newly_counted, newly_weighed, parts_at_each}
-use Rattle.mk_cycle.proofs.NewlyReleased.{same_at_each}
-use Rattle.mk_cycle.proofs.CellBits.{has_bit_and}
-use Rattle.mk_cycle.specs.FinishCycle.{is_in_snapshot_of_cycle}
-use Rattle.mk_cycle.specs.ReleasedPages.{cells_marked, left_marked}
+use Rattle.mk_cycle.proofs.{NewlyReleased.same_at_each, CellBits.has_bit_and}
+use Rattle.mk_cycle.specs.{FinishCycle.is_in_snapshot_of_cycle, ReleasedPages.{cells_marked, left_marked}}
 
 -- what is left of a bit of the snapshot that isn't left unmarked is marked
 marked_rest : (s m : Bool) → (s && not (s && not m)) ≡ (s && m)

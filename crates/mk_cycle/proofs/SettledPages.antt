@@ -3,16 +3,14 @@ use Rattle.mk_cycle.proofs.Vocabulary.{AreFreeCells, Frees, FreesPage, GivesNoth
 use Rattle.mk_cycle.proofs.Vocabulary.{IsAtPhase, IsOccupied, IsSettledPage, PassState, SamePage, allocations_stand}
 use Rattle.mk_cycle.proofs.Vocabulary.{left_unmarked, now_of, page_state, stands, world_of}
 use Rattle.mk_cycle.proofs.PageSteps.{page_at_once, page_then, same_header, same_left, same_used}
-use Rattle.mk_cycle.proofs.CleaningSteps.{halves}
-use Rattle.mk_cycle.proofs.GivingSteps.{still_unmapped_word}
+use Rattle.mk_cycle.proofs.{CleaningSteps.halves, GivingSteps.still_unmapped_word}
 use Rattle.mk_laws.proofs.Vocabulary.{Bool, Header, IsFreedCell, Option, Some, Words, ℕ, and_from, and_parts, ap, arith}
 use Rattle.mk_laws.proofs.Vocabulary.{cases_eq, empties, eq-eqb, eqb-false, eqb-true, false, false_from_ne_true}
 use Rattle.mk_laws.proofs.Vocabulary.{has_bit, has_bit_without, head_page, head_page_under, header_at, header_in}
 use Rattle.mk_laws.proofs.Vocabulary.{header_of, inl, inr, is_phase, is_released_in, ne_eqb, no_bit, not, not-true}
 use Rattle.mk_laws.proofs.Vocabulary.{or_cases, quarantine_word, refl, run_count, slice_index, subst, sym, true}
 use Rattle.mk_laws.proofs.Vocabulary.{true≢false, used_at, without, ◌&&◌, ◌+◌, ◌-◌, ◌/◌, ◌<◌, ◌==◌, ◌^◌, ◌||◌, ◌∙◌, ◌≡◌}
-use Rattle.mk_laws.proofs.Vocabulary.{◌≢◌, ◌≤◌, ◌⊎◌}
-use Rattle.mk_laws.proofs.FreePages.{free_pages_have_nothing}
+use Rattle.mk_laws.proofs.{Vocabulary.{◌≢◌, ◌≤◌, ◌⊎◌}, FreePages.free_pages_have_nothing}
 use Rattle.mk_core.proofs.WordBits.{zero_from_bits}
 use Rattle.mk_cycle.specs.Freeing.{GivesBack, is_occupied_page}
 

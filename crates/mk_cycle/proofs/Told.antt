@@ -1,8 +1,7 @@
 -- What is said of the world in which marks are closed, from wider parts of a turn.
 use Rattle.mk_laws.proofs.Vocabulary.{Config, Event, IsHistory, List, Step, World, ap, append_assoc, left, subst, []}
 use Rattle.mk_laws.proofs.Vocabulary.{◌++◌, ◌∙◌, ◌∷◌, ◌≡◌}
-use Rattle.mk_cycle.proofs.Vocabulary.{Has, Makes, PassState, event_of, made}
-use Rattle.mk_cycle.specs.Telling.{IsToldAtClose, IsToldOf}
+use Rattle.mk_cycle.{proofs.Vocabulary.{Has, Makes, PassState, event_of, made}, specs.Telling.{IsToldAtClose, IsToldOf}}
 
 -- at the step that closes them
 pub told_closing : (tells : Config → World → Type 0) {p q : PassState} → Has p.seats p.seat → Makes p Step.Close q

@@ -1,15 +1,10 @@
 -- What `begin_cycle` makes and leaves.
 use Rattle.std.specs.Prelude.{◌≡◌, ◌<◌, ℕ, map}
-use Rattle.mk_core.specs.declared.seats.OwnCycle.TheVariants.{Begun}
-use Rattle.mk_core.specs.Allocations.{no_longer_fresh}
-use Rattle.mk_core.specs.Counts.{TalliesAreExact, TalliesAreTidy}
-use Rattle.mk_core.specs.Frames.{Steady, steady_of, CountsAreLeft}
-use Rattle.mk_words.specs.States.{PassState, world_of, now_of, call_of}
-use Rattle.mk_words.specs.Steps.{Makes}
+use Rattle.mk_core.specs.{declared.seats.OwnCycle.TheVariants.Begun, Allocations.no_longer_fresh}
+use Rattle.mk_core.specs.{Counts.{TalliesAreExact, TalliesAreTidy}, Frames.{Steady, steady_of, CountsAreLeft}}
+use Rattle.mk_words.specs.{States.{PassState, world_of, now_of, call_of}, Steps.Makes}
 use Rattle.mk_turns.specs.Doing.{Does}
-use Rattle.mk_cycle.specs.Cleaning.{WasUndirty}
-use Rattle.mk_cycle.specs.Kinds.{clears, begins_marking}
-use Rattle.mk_cycle.specs.TurnKeeps.{done_of, IsGone, KeepsGates}
+use Rattle.mk_cycle.specs.{Cleaning.WasUndirty, Kinds.{clears, begins_marking}, TurnKeeps.{done_of, IsGone, KeepsGates}}
 use Rattle.mk_core.specs.declared.events.Step.TheVariants as step
 
 -- One `begin`: what is cleared before it, and what the engine does after it. Each page's dirty word was 0 at a moment

@@ -1,14 +1,9 @@
 -- What an engine does directly after a `begin`, and that it does so after each one. It is said of a seat, of the
 -- events up to the `begin`, and of those after it in which the engine does its part.
-use Rattle.std.specs.Prelude.{◌≡◌, false, ◌&&◌, List, [], ◌++◌}
-use Rattle.std.specs.List.{list_any}
-use Rattle.mk_core.specs.declared.config.Config.{Config}
-use Rattle.mk_core.specs.declared.events.Event.{Event}
-use Rattle.mk_core.specs.declared.events.Seat.{Seat}
-use Rattle.mk_core.specs.Cycles.{At, is_begin, is_give, through}
-use Rattle.mk_core.specs.Growing.{is_same_seat}
-use Rattle.mk_words.specs.States.{PassState}
-use Rattle.mk_words.specs.Steps.{Makes}
+use Rattle.std.specs.{Prelude.{◌≡◌, false, ◌&&◌, List, [], ◌++◌}, List.list_any}
+use Rattle.mk_core.specs.{declared.config.Config.Config, declared.events.Event.Event, declared.events.Seat.Seat}
+use Rattle.mk_core.specs.{Cycles.{At, is_begin, is_give, through}, Growing.is_same_seat}
+use Rattle.mk_words.specs.{States.PassState, Steps.Makes}
 use Rattle.mk_turns.specs.Doing.{Does}
 use Rattle.mk_cycle.specs.Kinds.{clears}
 use Rattle.mk_core.specs.declared.events.Step.TheVariants as step

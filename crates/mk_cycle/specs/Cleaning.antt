@@ -1,12 +1,9 @@
 -- What is made ready for a `begin`: no mark is left of the cycle before, and the freed cells are the snapshot.
 use Rattle.std.specs.Prelude.{◌≡◌, ℕ, List, ◌++◌, slice_index}
-use Rattle.mk_core.specs.declared.events.Event.{Event}
-use Rattle.mk_core.specs.History.{left}
-use Rattle.mk_words.specs.PageMaps.{HasNoMarks}
-use Rattle.mk_words.specs.States.{PassState, now_of}
+use Rattle.mk_core.specs.{declared.events.Event.Event, History.left}
+use Rattle.mk_words.specs.{PageMaps.HasNoMarks, States.{PassState, now_of}}
 use Rattle.mk_turns.specs.Doing.{Does}
-use Rattle.mk_cycle.specs.Kinds.{clears}
-use Rattle.mk_cycle.specs.TurnKeeps.{LeavesTurn, KeepsGates, but_cleaned}
+use Rattle.mk_cycle.specs.{Kinds.clears, TurnKeeps.{LeavesTurn, KeepsGates, but_cleaned}}
 
 abbrev pub IsUnmarked : PassState → ℕ → Type 0
 IsUnmarked p page = slice_index (now_of p).words.marks page ≡ 0

@@ -1,14 +1,10 @@
 -- What an engine does in the stop, up to the `close`: it is said of the pass that held the gates, and of the one that
 -- may close.
 use Rattle.std.specs.Prelude.{◌≡◌, List, ◌++◌, Bool, false}
-use Rattle.mk_core.specs.declared.config.Config.{Config}
-use Rattle.mk_core.specs.declared.events.Event.{Event}
-use Rattle.mk_core.specs.History.{World}
+use Rattle.mk_core.specs.{declared.config.Config.Config, declared.events.Event.Event, History.World}
 use Rattle.mk_words.specs.States.{PassState}
 use Rattle.mk_turns.specs.Sweeping.{SweepsNothing}
-use Rattle.mk_cycle.specs.Holding.{HoldsGates}
-use Rattle.mk_cycle.specs.Releasing.{MakesRelease}
-use Rattle.mk_cycle.specs.Telling.{IsToldAtClose}
+use Rattle.mk_cycle.specs.{Holding.HoldsGates, Releasing.MakesRelease, Telling.IsToldAtClose}
 
 -- From what the one pass had seen to what the other has seen gates were held, then the engine did this, and then came
 -- the `close` and the `release`.

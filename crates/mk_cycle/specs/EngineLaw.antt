@@ -1,17 +1,13 @@
 -- The law of an engine: what it makes of a cycle, and what it leaves alone.
 use Rattle.std.specs.Prelude.{◌≡◌, ℕ, Bool, true, false}
 use Rattle.mk_never.specs.declared.operations.Op.{Op}
-use Rattle.mk_core.specs.declared.events.Word.{Word}
-use Rattle.mk_core.specs.declared.seats.Flight.{Flight}
-use Rattle.mk_core.specs.declared.seats.Stage.{Stage}
-use Rattle.mk_core.specs.Words.{phase_of}
-use Rattle.mk_core.specs.ClosedMarks.{MarksAreClosed}
+use Rattle.mk_core.specs.{declared.events.Word.Word, declared.seats.Flight.Flight, declared.seats.Stage.Stage}
+use Rattle.mk_core.specs.{Words.phase_of, ClosedMarks.MarksAreClosed}
 use Rattle.mk_laws.specs.Protocol.{has_place}
-use Rattle.mk_words.specs.States.{PassState, WordsState, world_of, now_of, call_of}
-use Rattle.mk_words.specs.Steps.{IsEnabledTo}
+use Rattle.mk_words.specs.{States.{PassState, WordsState, world_of, now_of, call_of}, Steps.IsEnabledTo}
 use Rattle.mk_turns.specs.Doing.{Does, count_done}
-use Rattle.mk_cycle.specs.Kinds.{is_want, begins_marking, closes_marks}
-use Rattle.mk_cycle.specs.TurnKeeps.{LeavesTurn, KeepsGates, IsGone, unchanged, but_phase}
+use Rattle.mk_cycle.specs.{Kinds.{is_want, begins_marking, closes_marks}, TurnKeeps.{LeavesTurn, KeepsGates, IsGone}}
+use Rattle.mk_cycle.specs.TurnKeeps.{unchanged, but_phase}
 use Rattle.mk_never.specs.declared.operations.Op.TheVariants as op
 use Rattle.mk_core.specs.declared.events.Word.TheVariants as word
 use Rattle.mk_core.specs.declared.events.Step.TheVariants as step

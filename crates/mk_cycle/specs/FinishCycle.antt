@@ -2,17 +2,12 @@
 use Rattle.std.specs.Prelude.{◌≡◌, ℕ, ◌+◌, Bool, true, ◌&&◌, not, List, [], ◌∷◌, length, map, count_by, sum_by}
 use Rattle.std.specs.Prelude.{if◌then◌else◌}
 use Rattle.mk_core.specs.Allocations.{PlacedAllocation, held_by_allocations, storage_words, with_released}
-use Rattle.mk_core.specs.Counts.{TalliesAreExact, TalliesAreTidy}
-use Rattle.mk_core.specs.Cycles.{is_quarantined}
-use Rattle.mk_core.specs.Effects.{cycle_ended}
+use Rattle.mk_core.specs.{Counts.{TalliesAreExact, TalliesAreTidy}, Cycles.is_quarantined, Effects.cycle_ended}
 use Rattle.mk_core.specs.Moments.{none_is_held}
-use Rattle.mk_words.specs.States.{PassState, world_of, now_of, call_of}
-use Rattle.mk_words.specs.Steps.{Makes}
+use Rattle.mk_words.specs.{States.{PassState, world_of, now_of, call_of}, Steps.Makes}
 use Rattle.mk_turns.specs.Doing.{Does}
-use Rattle.mk_cycle.specs.declared.finishing.Released.{Released}
-use Rattle.mk_cycle.specs.EngineLaw.{IsAtPhase}
-use Rattle.mk_cycle.specs.Kinds.{holds_gates, is_giving_back, sets_tallies}
-use Rattle.mk_cycle.specs.Releasing.{MakesRelease, words_released}
+use Rattle.mk_cycle.specs.{declared.finishing.Released.Released, EngineLaw.IsAtPhase}
+use Rattle.mk_cycle.specs.{Kinds.{holds_gates, is_giving_back, sets_tallies}, Releasing.{MakesRelease, words_released}}
 use Rattle.mk_cycle.specs.TurnKeeps.{done_of, IsGone}
 use Rattle.mk_core.specs.declared.events.Step.TheVariants as step
 

@@ -1,19 +1,14 @@
 -- After a `release` what was released is wiped and given back, page by page.
 use Rattle.std.specs.Prelude.{◌≡◌, ◌≢◌, ℕ, ◌+◌, ◌*◌, ◌<◌, Bool, true, false, ◌==◌, ◌||◌, nat_lt, not, [], slice_index}
-use Rattle.mk_geom.specs.declared.pages.Page.{Page}
-use Rattle.mk_geom.specs.Headers.{header_of}
-use Rattle.mk_core.specs.Bits.{has_bit}
-use Rattle.mk_core.specs.Cells.{head_page, is_unmapped_header, left_unmarked, words_under}
-use Rattle.mk_core.specs.Frames.{Steady}
-use Rattle.mk_core.specs.Moments.{is_held}
-use Rattle.mk_core.specs.StopConditions.{has_settled_page}
-use Rattle.mk_core.specs.Words.{Words, page_of, header_at, quarantine_word, used_at}
+use Rattle.mk_geom.specs.{declared.pages.Page.Page, Headers.header_of}
+use Rattle.mk_core.specs.{Bits.has_bit, Cells.{head_page, is_unmapped_header, left_unmarked, words_under}}
+use Rattle.mk_core.specs.{Frames.Steady, Moments.is_held, StopConditions.has_settled_page, Words.{Words, page_of}}
+use Rattle.mk_core.specs.Words.{header_at, quarantine_word, used_at}
 use Rattle.mk_page_map.specs.Members.{has_freed_cells}
 use Rattle.mk_laws.specs.Zeros.{IsWordOfMapped}
 use Rattle.mk_words.specs.States.{PassState, world_of, now_of}
 use Rattle.mk_turns.specs.Doing.{Does}
-use Rattle.mk_cycle.specs.Kinds.{is_giving_back}
-use Rattle.mk_cycle.specs.TurnKeeps.{LeavesTurn}
+use Rattle.mk_cycle.specs.{Kinds.is_giving_back, TurnKeeps.LeavesTurn}
 
 -- without what is given back, and the count of fresh words
 abbrev pub but_pages : Steady → Steady

@@ -2,9 +2,7 @@
 use Rattle.std.specs.Prelude.{◌≡◌, ℕ, ◌<◌, true}
 use Rattle.mk_core.specs.Moments.{none_is_held}
 use Rattle.mk_words.specs.States.{PassState, now_of}
-use Rattle.mk_cycle.specs.EngineLaw.{IsAtPhase}
-use Rattle.mk_cycle.specs.Freeing.{Frees, IsSettledPage}
-use Rattle.mk_cycle.specs.Holding.{HoldsGates}
+use Rattle.mk_cycle.specs.{EngineLaw.IsAtPhase, Freeing.{Frees, IsSettledPage}, Holding.HoldsGates}
 use Rattle.mk_cycle.specs.Releasing.{ReleasesUnmarked}
 
 pub record GivesAllBack (p q : PassState) : Type 0 where

@@ -1,8 +1,6 @@
 -- What a header word says of a page, in the numbers that the giving back works with.
 use Rattle.std.specs.Prelude.{◌≡◌, ℕ, ◌≤◌, Bool, Option, Some}
-use Rattle.mk_geom.specs.declared.headers.Header.{Header}
-use Rattle.mk_geom.specs.declared.headers.Header.TheVariants.{Later}
-use Rattle.mk_geom.specs.Headers.{header_of}
+use Rattle.mk_geom.specs.{declared.headers.Header.Header, declared.headers.Header.TheVariants.Later, Headers.header_of}
 use Rattle.mk_core.specs.Cells.{is_unmapped_header, words_under}
 use Rattle.mk_laws.specs.LayoutScene.{run_count}
 

@@ -1,7 +1,6 @@
 -- What the words of the pages say of a `release`, up to when its cells are given back.
 use Rattle.std.specs.Prelude.{ℕ, zero, suc, ◌+◌, ◌*◌, ◌≤◌, bit_and, count_ones, if◌then◌else◌, slice_index}
-use Rattle.mk_core.specs.Cells.{left_unmarked, header_in, is_unmapped_header, words_under}
-use Rattle.mk_core.specs.Words.{Words}
+use Rattle.mk_core.specs.{Cells.{left_unmarked, header_in, is_unmapped_header, words_under}, Words.Words}
 use Rattle.mk_cycle.specs.declared.finishing.Released.{Released}
 
 -- the sum of the values below a bound

@@ -1,12 +1,8 @@
 -- What is made in the stop: the marks are closed, and what is unmarked is released.
 use Rattle.std.specs.Prelude.{◌≡◌, map}
-use Rattle.mk_core.specs.Allocations.{fresh_words_of, with_released}
-use Rattle.mk_core.specs.Frames.{steady_of, CountsAreLeft}
-use Rattle.mk_core.specs.Words.{Words}
-use Rattle.mk_words.specs.States.{PassState, world_of}
-use Rattle.mk_words.specs.Steps.{Makes, moment_of}
-use Rattle.mk_cycle.specs.EngineLaw.{ClosesMarks}
-use Rattle.mk_cycle.specs.TurnKeeps.{KeepsCall}
+use Rattle.mk_core.specs.{Allocations.{fresh_words_of, with_released}, Frames.{steady_of, CountsAreLeft}, Words.Words}
+use Rattle.mk_words.specs.{States.{PassState, world_of}, Steps.{Makes, moment_of}}
+use Rattle.mk_cycle.specs.{EngineLaw.ClosesMarks, TurnKeeps.KeepsCall}
 use Rattle.mk_core.specs.declared.events.Step.TheVariants as step
 
 -- One `want`, one `close` and one `release`, in this order.

@@ -1,8 +1,6 @@
 -- What an engine says of the world in which it closed the marks of a cycle.
 use Rattle.std.specs.Prelude.{◌≡◌, List, ◌∷◌, ◌++◌}
-use Rattle.mk_core.specs.declared.config.Config.{Config}
-use Rattle.mk_core.specs.declared.events.Event.{Event}
-use Rattle.mk_core.specs.Growing.{AreOfOthers}
+use Rattle.mk_core.specs.{declared.config.Config.Config, declared.events.Event.Event, Growing.AreOfOthers}
 use Rattle.mk_core.specs.History.{World, IsHistory, left}
 use Rattle.mk_words.specs.States.{PassState, event_of}
 use Rattle.mk_core.specs.declared.events.Step.TheVariants as step

@@ -1,15 +1,9 @@
 -- What the turn's holder finds unchanged over a part of its turn.
 use Rattle.std.specs.Prelude.{◌≡◌, ℕ, ◌<◌, true, [], Option}
-use Rattle.mk_core.specs.declared.seats.Placing.{Placing}
-use Rattle.mk_core.specs.declared.seats.OwnCycle.{OwnCycle}
-use Rattle.mk_core.specs.declared.seats.RunPages.{RunPages}
-use Rattle.mk_core.specs.Frames.{Steady, steady_of, CountsAreLeft}
-use Rattle.mk_core.specs.Moments.{Moment, is_held}
-use Rattle.mk_core.specs.NewPlaces.{is_run_gone}
-use Rattle.mk_core.specs.Readings.{Holds}
-use Rattle.mk_core.specs.History.{IsHistory}
-use Rattle.mk_words.specs.Seats.{Has}
-use Rattle.mk_words.specs.States.{PassState, world_of, now_of, call_of}
+use Rattle.mk_core.specs.{declared.seats.Placing.Placing, declared.seats.OwnCycle.OwnCycle}
+use Rattle.mk_core.specs.{declared.seats.RunPages.RunPages, Frames.{Steady, steady_of, CountsAreLeft}}
+use Rattle.mk_core.specs.{Moments.{Moment, is_held}, NewPlaces.is_run_gone, Readings.Holds, History.IsHistory}
+use Rattle.mk_words.specs.{Seats.Has, States.{PassState, world_of, now_of, call_of}}
 
 -- what was done in the turn, but for the last look: the place of a New, the run that a Free freed, and the own cycle
 pub record Done : Type 0 where

@@ -9,40 +9,25 @@ use Rattle.mk_laws.proofs.Vocabulary.{if◌then◌else◌, inl, inr, is_held, is
 use Rattle.mk_laws.proofs.Vocabulary.{marks_place, not, object_made, or_else, phase_of, place_now, pointed_cell}
 use Rattle.mk_laws.proofs.Vocabulary.{points_well, refl, set_past, slice_index, slice_set, subst, sym, true}
 use Rattle.mk_laws.proofs.Vocabulary.{world_behind, ◌++◌, ◌<◌, ◌==◌, ◌^◌, ◌||◌, ◌∙◌, ◌≡◌, ◌≢◌}
-use Rattle.mk_laws.proofs.Changes.{headers_kind, is_head, marks_kind}
-use Rattle.mk_laws.proofs.LastEvents.{stands}
-use Rattle.mk_laws.proofs.Wells.{is_well, well_is, wells_from}
+use Rattle.mk_laws.proofs.{Changes.{headers_kind, is_head, marks_kind}, LastEvents.stands, Wells.{is_well, well_is}}
+use Rattle.mk_laws.proofs.Wells.{wells_from}
 use Rattle.mk_core.proofs.PointedPages.{pointed_within}
-use Rattle.mk_core.specs.Effects.{hand_given}
-use Rattle.mk_core.specs.Frames.{steady_of}
-use Rattle.mk_core.specs.Growing.{Finding}
-use Rattle.mk_core.specs.Ranges.{is_word}
-use Rattle.mk_core.specs.StopConditions.{marks_by_hand}
-use Rattle.mk_core.specs.Words.{named_word}
-use Rattle.mk_core.specs.declared.seats.Source.TheVariants.{Root}
-use Rattle.mk_cycle.proofs.Allowed.{in_turn_before, look_allowed, protocol}
-use Rattle.mk_cycle.proofs.OwnSteps.{done_in, keeps_call, keeps_counts}
-use Rattle.mk_cycle.proofs.CleaningSteps.{calm_keeps}
-use Rattle.mk_cycle.proofs.KeptInParts.{gates_behind, held_so}
-use Rattle.mk_cycle.proofs.MayAct.{may_act}
-use Rattle.mk_cycle.specs.Kinds.{begins_marking}
-use Rattle.mk_cycle.specs.TurnKeeps.{InTurn, KeepsGates, LeavesTurn, unchanged}
-use Rattle.mk_cycle.specs.EngineLaw.{is_register}
-use Rattle.mk_engines.proofs.MarksBeside.{gates_at_once, goes_nowhere, still_beside}
-use Rattle.mk_engines.proofs.Since.{done_step, keeps_step}
+use Rattle.mk_core.specs.{Effects.hand_given, Frames.steady_of, Growing.Finding, Ranges.is_word}
+use Rattle.mk_core.specs.{StopConditions.marks_by_hand, Words.named_word, declared.seats.Source.TheVariants.Root}
+use Rattle.mk_cycle.proofs.{Allowed.{in_turn_before, look_allowed, protocol}, OwnSteps.{done_in, keeps_call}}
+use Rattle.mk_cycle.proofs.{OwnSteps.keeps_counts, CleaningSteps.calm_keeps, KeptInParts.{gates_behind, held_so}}
+use Rattle.mk_cycle.{proofs.MayAct.{may_act}, specs.EngineLaw.{is_register}}
+use Rattle.mk_cycle.specs.{Kinds.begins_marking, TurnKeeps.{InTurn, KeepsGates, LeavesTurn, unchanged}}
+use Rattle.mk_engines.proofs.{MarksBeside.{gates_at_once, goes_nowhere, still_beside}, Since.{done_step, keeps_step}}
 use Rattle.mk_engines.specs.Beside.{FindsInRoot, GoesBeside, IsBeside, IsOpenToLook, KeepsOtherGates, StaysWell}
 use Rattle.mk_engines.specs.Beside.{found_well, gives_no_hand, looks_at_root}
 use Rattle.mk_marker.proofs.PointedCells.{pointed_is_cell}
-use Rattle.mk_tracing.proofs.MaySteps.{marks_by}
-use Rattle.mk_tracing.proofs.MoreMarks.{marked_now}
-use Rattle.mk_tracing.specs.Grays.{HandPointsInto, IsInHand, MarksReached, TracesReached}
-use Rattle.mk_tracing.specs.Stops.{hand_of, is_root}
-use Rattle.mk_turns.proofs.Doing.{does_step}
-use Rattle.mk_turns.proofs.PointedCells.{found_there, looked_for}
+use Rattle.mk_tracing.proofs.{MaySteps.marks_by, MoreMarks.marked_now}
+use Rattle.mk_tracing.specs.{Grays.{HandPointsInto, IsInHand, MarksReached, TracesReached}, Stops.{hand_of, is_root}}
+use Rattle.mk_turns.proofs.{Doing.does_step, PointedCells.{found_there, looked_for}}
 use Rattle.mk_turns.specs.Pointing.{LooksForCell, MayLookAtHeaders}
 use Rattle.mk_words.proofs.Made.{own_before, stands_behind_others}
-use Rattle.mk_words.specs.Steps.{found_by, Finds, IsEnabledTo}
-use Rattle.mk_words.specs.TurnSteps.{Acts, world_at}
+use Rattle.mk_words.specs.{Steps.{found_by, Finds, IsEnabledTo}, TurnSteps.{Acts, world_at}}
 use Rattle.mk_words.specs.States.{PassState, TurnState, call_of, event_of, now_of}
 
 -- words that give no hand

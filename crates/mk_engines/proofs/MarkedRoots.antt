@@ -1,14 +1,9 @@
 -- All roots are marked in what was seen since.
 use Rattle.mk_laws.proofs.Vocabulary.{Event, List, Word, ap, list_any, subst, true, ◌≡◌}
-use Rattle.mk_core.specs.Growing.{Finding}
-use Rattle.mk_core.specs.Ranges.{is_word}
+use Rattle.mk_core.specs.{Growing.Finding, Ranges.is_word}
 use Rattle.mk_cycle.specs.Begun.{IsBegun}
-use Rattle.mk_engines.proofs.Since.{since_is}
-use Rattle.mk_engines.specs.Beside.{LooksAt, MarksBeside, looks_at}
-use Rattle.mk_engines.specs.Roots.{MarksRoots}
-use Rattle.mk_tracing.specs.Grays.{TracesReached}
-use Rattle.mk_tracing.specs.Stops.{is_root}
-use Rattle.mk_tracing.specs.Tracing.{OwnStepsKeep}
+use Rattle.mk_engines.{proofs.Since.{since_is}, specs.{Beside.{LooksAt, MarksBeside, looks_at}, Roots.MarksRoots}}
+use Rattle.mk_tracing.specs.{Grays.TracesReached, Stops.is_root, Tracing.OwnStepsKeep}
 use Rattle.mk_turns.specs.Doing.{done_in}
 use Rattle.mk_words.specs.States.{PassState, world_of}
 

@@ -1,24 +1,17 @@
 -- What is marked beside others, in parts.
-use Rattle.std.proofs.Common.{below_more}
-use Rattle.std.proofs.lemmas.List.Folds.{list_all-append}
-use Rattle.std.specs.List.{list_all}
+use Rattle.std.{proofs.{Common.below_more, lemmas.List.Folds.list_all-append}, specs.List.{list_all}}
 use Rattle.mk_laws.proofs.Vocabulary.{Bool, Event, List, Step, Word, Words, ℕ, and_from, and_parts, ap, arith, eq-eqb}
 use Rattle.mk_laws.proofs.Vocabulary.{false, is_held, is_number_of, list_any, list_any-append, ltb-true, not, or_right}
 use Rattle.mk_laws.proofs.Vocabulary.{points_well, refl, subst, sym, true, [], ◌++◌, ◌+◌, ◌<◌, ◌==◌, ◌||◌, ◌∙◌, ◌∷◌}
 use Rattle.mk_laws.proofs.Vocabulary.{◌≡◌}
-use Rattle.mk_core.specs.Growing.{Finding}
-use Rattle.mk_core.specs.Ranges.{is_word}
+use Rattle.mk_core.specs.{Growing.Finding, Ranges.is_word}
 use Rattle.mk_cycle.proofs.KeptInParts.{free_then, gates_then, keeps_at_once, keeps_then, same_config}
-use Rattle.mk_cycle.specs.TurnKeeps.{KeepsGates, LeavesTurn, unchanged}
-use Rattle.mk_cycle.specs.Holding.{IsHeldOrOwn}
-use Rattle.mk_cycle.specs.Kinds.{begins_marking}
+use Rattle.mk_cycle.specs.{TurnKeeps.{KeepsGates, LeavesTurn, unchanged}, Holding.IsHeldOrOwn, Kinds.begins_marking}
 use Rattle.mk_engines.proofs.Since.{done_then, nothing_done, nothing_keeps, rule_then}
 use Rattle.mk_engines.specs.Beside.{FindsInRoot, GoesBeside, IsBeside, KeepsOtherGates, LooksAt, MarksBeside}
 use Rattle.mk_engines.specs.Beside.{MarksReachedAlone, StaysWell, done_since, found_well, is_same_root, looks_at}
-use Rattle.mk_tracing.specs.Grays.{TracesReached}
-use Rattle.mk_tracing.specs.Stops.{is_root}
-use Rattle.mk_turns.proofs.Doing.{does_nothing, does_then}
-use Rattle.mk_turns.specs.Doing.{Does}
+use Rattle.mk_tracing.specs.{Grays.TracesReached, Stops.is_root}
+use Rattle.mk_turns.{proofs.Doing.{does_nothing, does_then}, specs.Doing.{Does}}
 use Rattle.mk_words.specs.States.{PassState, TurnState, event_of, now_of}
 
 -- The turn goes on being free, and the cycle marking.

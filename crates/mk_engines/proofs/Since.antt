@@ -4,15 +4,10 @@ use Rattle.mk_laws.proofs.Vocabulary.{Config, Event, List, Moment, Step, World, 
 use Rattle.mk_laws.proofs.Vocabulary.{subst, sym, [], ◌++◌, ◌∙◌, ◌∷◌, ◌≡◌}
 use Rattle.mk_core.specs.Growing.{Finding, own_from}
 use Rattle.mk_engines.specs.Beside.{done_since, seen_since}
-use Rattle.mk_tracing.proofs.Parts.{keep_in_parts, one_keeps, one_own, others_keep}
-use Rattle.mk_tracing.specs.Tracing.{OwnStepsKeep}
-use Rattle.mk_turns.proofs.Doing.{done_in_parts, none_own}
-use Rattle.mk_turns.specs.Doing.{done_in}
-use Rattle.mk_words.proofs.Seats.{same_self}
-use Rattle.mk_words.specs.TurnSteps.{world_at}
-use Rattle.mk_words.specs.Seats.{Has}
-use Rattle.mk_words.specs.States.{PassState, event_of, world_of}
-use Rattle.mk_words.specs.Steps.{Makes, found_by}
+use Rattle.mk_tracing.{proofs.Parts.{keep_in_parts, one_keeps, one_own, others_keep}, specs.Tracing.{OwnStepsKeep}}
+use Rattle.mk_turns.{proofs.Doing.{done_in_parts, none_own}, specs.Doing.{done_in}}
+use Rattle.mk_words.{proofs.Seats.{same_self}, specs.Steps.{Makes, found_by}}
+use Rattle.mk_words.specs.{TurnSteps.world_at, Seats.Has, States.{PassState, event_of, world_of}}
 
 -- what was seen after a list
 pub since_behind : (p : PassState) (xs : List Event) → seen_since p (record p { seen = p.seen ++ xs }) ≡ xs

@@ -1,13 +1,10 @@
 -- Marks of what was reached are no sweeping marks.
 use Rattle.mk_laws.proofs.Vocabulary.{Bool, Config, Event, List, Seat, Step, World, ap, flight_of, subst, world_behind}
 use Rattle.mk_laws.proofs.Vocabulary.{[], ◌++◌, ◌∷◌, ◌≡◌}
-use Rattle.mk_engines.proofs.Since.{since_is}
-use Rattle.mk_engines.specs.Beside.{MarksReachedAlone}
+use Rattle.mk_engines.{proofs.Since.{since_is}, specs.Beside.{MarksReachedAlone}}
 use Rattle.mk_tracing.proofs.StopSteps.{reached_marks_sweep_nothing}
-use Rattle.mk_tracing.specs.Grays.{TracesReached}
-use Rattle.mk_tracing.specs.Tracing.{OwnStepsKeep}
-use Rattle.mk_turns.specs.Doing.{Does}
-use Rattle.mk_turns.specs.Sweeping.{SweepsNothing, SweepsNothingFrom}
+use Rattle.mk_tracing.specs.{Grays.TracesReached, Tracing.OwnStepsKeep}
+use Rattle.mk_turns.specs.{Doing.Does, Sweeping.{SweepsNothing, SweepsNothingFrom}}
 use Rattle.mk_words.specs.States.{PassState, world_of}
 
 sweepless_from : (c : Config) (s : Seat) (w : World) (es : List Event) → OwnStepsKeep TracesReached c s w es

@@ -1,25 +1,18 @@
 -- Tracing in the stop meets the law of engines. Most of it holds of each engine that marks in the stop alone.
-use Rattle.std.proofs.Common.{count_by}
-use Rattle.std.proofs.lemmas.List.Sums.{sum_by-cons}
+use Rattle.std.proofs.{Common.count_by, lemmas.List.Sums.sum_by-cons}
 use Rattle.mk_laws.proofs.Vocabulary.{Bool, Caller, Config, Flight, Holds, Host, IsHistory, List, Marker}
 use Rattle.mk_laws.proofs.Vocabulary.{MarksAreClosed, Moment, Op, Protocol, Seat, Stage, Steady, Step, Words, ℕ, ap}
 use Rattle.mk_laws.proofs.Vocabulary.{at_rest, cond, false, flight_of, is_run_gone, is_under_turn, not, refl}
 use Rattle.mk_laws.proofs.Vocabulary.{slice_index_or, sym, true, [], ◌&&◌, ◌+◌, ◌∙◌, ◌∷◌, ◌≡◌}
-use Rattle.mk_laws.proofs.Protocols.{lists_keep_the_protocol}
-use Rattle.mk_laws.specs.Protocol.{has_stage}
-use Rattle.mk_core.specs.Frames.{CountsAreLeft}
-use Rattle.mk_core.specs.Growing.{Finding}
-use Rattle.mk_core.specs.Readings.{is_idle}
+use Rattle.mk_laws.{proofs.Protocols.{lists_keep_the_protocol}, specs.Protocol.{has_stage}}
+use Rattle.mk_core.specs.{Frames.CountsAreLeft, Growing.Finding, Readings.is_idle}
 use Rattle.mk_cycle.proofs.KeptInParts.{keeps_at_once}
 use Rattle.mk_cycle.specs.EngineLaw.{BeginsMarking, ClosesMarks, IsFreeForCycle, is_pending_free, is_pending_free_at}
 use Rattle.mk_cycle.specs.TurnKeeps.{Done, KeepsCall, LeavesTurn, but_phase, unchanged}
-use Rattle.mk_tracing.specs.Stops.{HolderIsLoaded, IsWanted, is_loaded, is_loaded_at}
-use Rattle.mk_tracing.specs.Tracing.{Counted, Traces, Untouched, is_tracing, is_want, untouched_of}
-use Rattle.mk_tracing.specs.Grays.{TracesReached}
-use Rattle.mk_turns.proofs.Doing.{does_nothing}
-use Rattle.mk_turns.specs.Doing.{Does, are_of, done_in}
-use Rattle.mk_words.specs.States.{PassState, now_of, world_of}
-use Rattle.mk_words.specs.Steps.{IsEnabledTo}
+use Rattle.mk_tracing.specs.{Stops.{HolderIsLoaded, IsWanted, is_loaded, is_loaded_at}, Tracing.{Counted, Traces}}
+use Rattle.mk_tracing.specs.{Tracing.{Untouched, is_tracing, is_want, untouched_of}, Grays.TracesReached}
+use Rattle.mk_turns.{proofs.Doing.{does_nothing}, specs.Doing.{Does, are_of, done_in}}
+use Rattle.mk_words.specs.{States.{PassState, now_of, world_of}, Steps.IsEnabledTo}
 use Rattle.mk_cycle.specs.Kinds.{begins_marking, closes_marks, is_want as is_wish}
 
 -- A call that is free for a cycle has loaded what it loads.

@@ -1,21 +1,12 @@
 -- What the turn's holder marks beside callers and markers, while a cycle marks.
 use Rattle.std.specs.Prelude.{◌≡◌, ◌≢◌, ℕ, ◌<◌, Bool, true, false, ◌&&◌, ◌||◌, ◌==◌, not, List, [], ◌∷◌, length, drop}
 use Rattle.std.specs.List.{list_all, list_any}
-use Rattle.mk_core.specs.declared.events.Event.{Event}
-use Rattle.mk_core.specs.declared.events.Step.{Step}
-use Rattle.mk_core.specs.declared.events.Word.{Word}
-use Rattle.mk_core.specs.Cells.{points_well}
-use Rattle.mk_core.specs.Growing.{Finding}
-use Rattle.mk_core.specs.Moments.{is_held}
-use Rattle.mk_core.specs.Words.{Words}
+use Rattle.mk_core.specs.{declared.events.Event.Event, declared.events.Step.Step, declared.events.Word.Word}
+use Rattle.mk_core.specs.{Cells.points_well, Growing.Finding, Moments.is_held, Words.Words}
 use Rattle.mk_words.specs.States.{PassState, TurnState, world_of, now_of, event_of}
 use Rattle.mk_turns.specs.Doing.{Does, done_in}
-use Rattle.mk_tracing.specs.Grays.{TracesReached}
-use Rattle.mk_tracing.specs.Stops.{is_root}
-use Rattle.mk_tracing.specs.Tracing.{OwnStepsKeep}
-use Rattle.mk_cycle.specs.EngineLaw.{IsFreeForCycle, IsAtPhase}
-use Rattle.mk_cycle.specs.Holding.{IsHeldOrOwn}
-use Rattle.mk_cycle.specs.Kinds.{begins_marking}
+use Rattle.mk_tracing.specs.{Grays.TracesReached, Stops.is_root, Tracing.OwnStepsKeep}
+use Rattle.mk_cycle.specs.{EngineLaw.{IsFreeForCycle, IsAtPhase}, Holding.IsHeldOrOwn, Kinds.begins_marking}
 use Rattle.mk_cycle.specs.TurnKeeps.{LeavesTurn, unchanged}
 use Rattle.mk_core.specs.declared.events.Step.TheVariants as step
 use Rattle.mk_core.specs.declared.events.Word.TheVariants as word

@@ -1,17 +1,9 @@
 -- What `begin` of an engine does that marks beside the callers.
-use Rattle.std.specs.Prelude.{◌≡◌, true, List, ◌++◌}
-use Rattle.std.specs.List.{list_all, list_any}
-use Rattle.mk_core.specs.declared.config.Config.{Config}
-use Rattle.mk_core.specs.declared.events.Event.{Event}
-use Rattle.mk_core.specs.declared.events.Seat.{Seat}
-use Rattle.mk_core.specs.declared.events.Word.{Word}
-use Rattle.mk_core.specs.Growing.{Finding, in_this_call}
-use Rattle.mk_core.specs.History.{left}
-use Rattle.mk_core.specs.Ranges.{is_word}
+use Rattle.std.specs.{Prelude.{◌≡◌, true, List, ◌++◌}, List.{list_all, list_any}}
+use Rattle.mk_core.specs.{declared.config.Config.Config, declared.events.Event.Event, declared.events.Seat.Seat}
+use Rattle.mk_core.specs.{declared.events.Word.Word, Growing.{Finding, in_this_call}, History.left, Ranges.is_word}
 use Rattle.mk_cycle.specs.Begun.{CyclesAreBegun}
-use Rattle.mk_tracing.specs.Grays.{TracesReached}
-use Rattle.mk_tracing.specs.Stops.{is_root}
-use Rattle.mk_tracing.specs.Tracing.{OwnStepsKeep}
+use Rattle.mk_tracing.specs.{Grays.TracesReached, Stops.is_root, Tracing.OwnStepsKeep}
 use Rattle.mk_engines.specs.Beside.{found_well, looks_at}
 
 -- After a list, the seat looked in these events at each register of each caller and at each global, what it found

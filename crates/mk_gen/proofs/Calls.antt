@@ -1,7 +1,5 @@
 -- How many operations a script without `if` asks for, whatever it is answered.
-use Rattle.std.proofs.Common.{if◌then◌else◌, is_some}
-use Rattle.std.proofs.lemmas.List.{length_push}
-use Rattle.std.specs.Prelude.{⊤}
+use Rattle.std.{proofs.{Common.{if◌then◌else◌, is_some}, lemmas.List.length_push}, specs.Prelude.{⊤}}
 use Rattle.mk_gen.proofs.Vocabulary.{Bool, Item, List, Option, ℕ, ap, arith, blocks_from, false, length, refl, subst}
 use Rattle.mk_gen.proofs.Vocabulary.{suc, sym, true, zero, [], ◌*◌, ◌+◌, ◌∙◌, ◌∷◌, ◌≡◌}
 use Rattle.mk_never.specs.declared.operations.Op.{Op}

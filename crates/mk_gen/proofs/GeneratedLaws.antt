@@ -2,17 +2,11 @@
 use Rattle.std.proofs.Common.{map}
 use Rattle.mk_gen.proofs.Vocabulary.{Item, List, Number, Ok, ℕ, ap, arith, blocks_from, count_of_numbers}
 use Rattle.mk_gen.proofs.Vocabulary.{generated_text, program_of, refl, replicate, script_body, suc, turns_of, zero, []}
-use Rattle.mk_gen.proofs.Vocabulary.{◌*◌, ◌+◌, ◌∷◌, ◌≡◌, ◌≤◌}
-use Rattle.mk_gen.proofs.Calls.{HasNoIf, calls_of, ended_calls}
-use Rattle.mk_gen.proofs.ReadText.{program_of-generated_text}
-use Rattle.mk_gen.proofs.TypedProgram.{generated_is_well_typed}
+use Rattle.mk_gen.proofs.{Vocabulary.{◌*◌, ◌+◌, ◌∷◌, ◌≡◌, ◌≤◌}, Calls.{HasNoIf, calls_of, ended_calls}}
+use Rattle.mk_gen.proofs.{ReadText.program_of-generated_text, TypedProgram.generated_is_well_typed}
 use Rattle.mk_never.specs.declared.types.Kind.TheVariants.{Num, To}
-use Rattle.mk_check.specs.Blocks.{script_of}
-use Rattle.mk_check.specs.Declarations.{kind_of}
-use Rattle.mk_check.specs.Laws.{IsChecked, IsScript}
-use Rattle.mk_check.specs.Lengths.{length_of}
-use Rattle.mk_gen.specs.Generated.{buf, generated_program, node}
-use Rattle.mk_gen.specs.Laws.{DeclaresNodes, MakesTurns}
+use Rattle.mk_check.specs.{Blocks.script_of, Declarations.kind_of, Laws.{IsChecked, IsScript}, Lengths.length_of}
+use Rattle.mk_gen.specs.{Generated.{buf, generated_program, node}, Laws.{DeclaresNodes, MakesTurns}}
 
 pub generated_is_of_its_text : (start count : ℕ) → count ≤ 3000000
     → program_of (generated_text start count) ≡ Ok (generated_program start count)

@@ -1,20 +1,15 @@
 -- The lines of a script are read by what stands after its first line alone.
-use Rattle.std.proofs.lemmas.Bool.{or_right}
-use Rattle.std.proofs.lemmas.List.Folds.{list_any-append}
-use Rattle.std.specs.List.{list_all}
+use Rattle.std.{proofs.{lemmas.Bool.or_right, lemmas.List.Folds.list_any-append}, specs.List.{list_all}}
 use Rattle.mk_gen.proofs.Vocabulary.{Bool, Item, List, None, Option, Script, Some, ℕ, and_parts, ap, false, false≢true}
 use Rattle.mk_gen.proofs.Vocabulary.{length, line_item, refl, sym, this_script, this_script-push, true, words_of_line}
-use Rattle.mk_gen.proofs.Vocabulary.{[], ◌++◌, ◌+◌, ◌∙◌, ◌∷◌, ◌≡◌}
-use Rattle.mk_gen.proofs.ReadLines.{AreRead, IsRead}
+use Rattle.mk_gen.proofs.{Vocabulary.{[], ◌++◌, ◌+◌, ◌∙◌, ◌∷◌, ◌≡◌}, ReadLines.{AreRead, IsRead}}
 use Rattle.mk_check.specs.Lookups.{lines_behind}
 use Rattle.mk_script.proofs.Pushed.{open_blocks-push}
 use Rattle.mk_script.specs.Lines.{at_most, has_script, is_among, is_placed, is_twice, limit_fault, other_line}
-use Rattle.mk_script.specs.Lines.{placed_item, register_names}
-use Rattle.mk_script.specs.Scopes.{is_script, number_names, open_behind, open_blocks, pointer_names}
-use Rattle.mk_script.specs.declared.items.Item.TheVariants.{Global, If, Num, Ptr, Repeat, TypeLine}
-use Rattle.mk_script.specs.Keywords.{keyword_of}
-use Rattle.mk_script.specs.declared.faults.Which.{Which}
-use Rattle.mk_script.specs.declared.keywords.Keyword.{Keyword}
+use Rattle.mk_script.specs.{Lines.{placed_item, register_names}, Scopes.{is_script, number_names, open_behind}}
+use Rattle.mk_script.specs.{Scopes.{open_blocks, pointer_names}, declared.items.Item.TheVariants.{Global, If, Num, Ptr}}
+use Rattle.mk_script.specs.{declared.items.Item.TheVariants.{Repeat, TypeLine}, Keywords.keyword_of}
+use Rattle.mk_script.specs.{declared.faults.Which.Which, declared.keywords.Keyword.Keyword}
 
 -- the same script is open after both, at the same line and with the same open blocks
 pub record AreAlike (a b : List Item) : Type 0 where

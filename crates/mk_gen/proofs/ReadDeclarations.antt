@@ -1,17 +1,12 @@
 -- The lines before the first script are read.
-use Rattle.std.proofs.lemmas.Bool.{cond-true}
-use Rattle.std.proofs.lemmas.List.{length-replicate}
+use Rattle.std.proofs.{lemmas.Bool.cond-true, lemmas.List.length-replicate}
 use Rattle.mk_gen.proofs.Vocabulary.{Number, Some, ℕ, ap, append-nil, arith, codes, decimal, declaration_lines}
 use Rattle.mk_gen.proofs.Vocabulary.{declarations, le-leb, length, nat_le, refl, replicate, sym, true, [], ◌++◌, ◌<◌}
-use Rattle.mk_gen.proofs.Vocabulary.{◌^◌, ◌and◌, ◌∷◌, ◌≡◌, ◌≤◌}
-use Rattle.mk_gen.proofs.ReadBody.{by_words, length-decimal, plain}
-use Rattle.mk_gen.proofs.ReadLines.{AreRead}
-use Rattle.mk_gen.specs.Generated.{node}
+use Rattle.mk_gen.proofs.{Vocabulary.{◌^◌, ◌and◌, ◌∷◌, ◌≡◌, ◌≤◌}, ReadBody.{by_words, length-decimal, plain}}
+use Rattle.mk_gen.{proofs.ReadLines.{AreRead}, specs.Generated.{node}}
 use Rattle.mk_check.specs.Typing.{base_of}
-use Rattle.mk_script.proofs.LineWords.{is_solid-decimal, is_word-append}
-use Rattle.mk_script.proofs.PrintedNumbers.{number_of_word-decimal}
-use Rattle.mk_script.specs.declared.items.Item.TheVariants.{Heap, TypeLine}
-use Rattle.mk_script.specs.Operands.{field_of, item_from}
+use Rattle.mk_script.proofs.{LineWords.{is_solid-decimal, is_word-append}, PrintedNumbers.number_of_word-decimal}
+use Rattle.mk_script.specs.{declared.items.Item.TheVariants.{Heap, TypeLine}, Operands.{field_of, item_from}}
 use Rattle.mk_script.specs.declared.items.TypeWord.TheVariants.{Pointer}
 
 -- `n*K` for K from 1 on, with K = 1 too

@@ -1,16 +1,11 @@
 -- A text is read as these items, where each line is, after those before it.
-use Rattle.std.proofs.Common.{length-append, nat_eq, nat_lt}
-use Rattle.std.proofs.lemmas.Bool.{cond-true}
-use Rattle.std.proofs.lemmas.List.Splits.{slice_split_at}
+use Rattle.std.proofs.{Common.{length-append, nat_eq, nat_lt}, lemmas.Bool.cond-true, lemmas.List.Splits.slice_split_at}
 use Rattle.std.specs.List.{All, slice_split}
 use Rattle.mk_gen.proofs.Vocabulary.{Item, List, Ok, ℕ, ap, append-nil, append_assoc, arith, checked_item, false}
 use Rattle.mk_gen.proofs.Vocabulary.{le-leb, leb-true, length, line_item, nat_le, program_of, refl, subst, sym}
 use Rattle.mk_gen.proofs.Vocabulary.{text_of_lines, true, words_of_line, [], ◌*◌, ◌++◌, ◌+◌, ◌∙◌, ◌∷◌, ◌≡◌, ◌≤◌}
-use Rattle.mk_script.proofs.CanonicalLines.{without_last}
-use Rattle.mk_script.proofs.Said.{then_again}
-use Rattle.mk_script.specs.Grammar.{at_end, go_on, items_behind}
-use Rattle.mk_script.specs.Lines.{line_of}
-use Rattle.mk_script.specs.Words.{lines_of, without_empty_last}
+use Rattle.mk_script.proofs.{CanonicalLines.without_last, Said.then_again}
+use Rattle.mk_script.specs.{Grammar.{at_end, go_on, items_behind}, Lines.line_of, Words.{lines_of, without_empty_last}}
 
 -- a line of at most 40 bytes, without a newline, which is read as the item
 pub record IsRead (before : List Item) (line : List ℕ) (item : Item) : Type 0 where

@@ -1,22 +1,12 @@
 -- The scripts are read, each after those before it.
-use Rattle.std.proofs.Common.{not, ◌&&◌, ◌/◌}
-use Rattle.std.proofs.Math.Nat.{mod-lt}
-use Rattle.std.proofs.lemmas.Bool.{not-true}
-use Rattle.std.proofs.lemmas.List.Sums.{fold-append}
+use Rattle.std.proofs.{Common.{not, ◌&&◌, ◌/◌}, Math.Nat.mod-lt, lemmas.Bool.not-true, lemmas.List.Sums.fold-append}
 use Rattle.mk_gen.proofs.Vocabulary.{Bool, Item, List, Ok, Script, ℕ, and_parts, ap, append-nil, arith, body_lines}
 use Rattle.mk_gen.proofs.Vocabulary.{codes, draw, leb-true, length, line_item, lines_of_scripts, nat_le, next_state}
 use Rattle.mk_gen.proofs.Vocabulary.{refl, script_body, scripts, sym, true, [], ◌++◌, ◌+◌, ◌<◌, ◌^◌, ◌and◌, ◌∷◌, ◌≡◌}
-use Rattle.mk_gen.proofs.Vocabulary.{◌≤◌}
-use Rattle.mk_gen.proofs.ReadLines.{AreRead, AreRead-append, IsRead}
-use Rattle.mk_gen.proofs.InScript.{AreRead-alike, alike_at_first}
-use Rattle.mk_gen.proofs.ReadBody.{body_is_read, by_words}
-use Rattle.mk_script.proofs.PrintedForms.{read_name}
-use Rattle.mk_script.proofs.Pushed.{script_names-append}
-use Rattle.mk_script.proofs.Said.{is_word-name}
-use Rattle.mk_script.specs.Scopes.{open_blocks, script_names}
-use Rattle.mk_script.specs.Lines.{is_among}
-use Rattle.mk_script.specs.Names.{is_name}
-use Rattle.mk_script.specs.Operands.{item_from}
+use Rattle.mk_gen.proofs.{Vocabulary.◌≤◌, ReadLines.{AreRead, AreRead-append, IsRead}}
+use Rattle.mk_gen.proofs.{InScript.{AreRead-alike, alike_at_first}, ReadBody.{body_is_read, by_words}}
+use Rattle.mk_script.proofs.{PrintedForms.read_name, Pushed.script_names-append, Said.is_word-name}
+use Rattle.mk_script.specs.{Scopes.{open_blocks, script_names}, Lines.is_among, Names.is_name, Operands.item_from}
 use Rattle.mk_script.specs.ScopeOf.{has_lines}
 
 -- lines with these scripts, after which another may begin

@@ -1,10 +1,7 @@
 -- The lines of a script after its name line are well typed.
-use Rattle.std.proofs.lemmas.List.{get_or-replicate, length-replicate}
-use Rattle.std.proofs.Common.{slice_get}
-use Rattle.std.proofs.lemmas.Option.{slice_get_read}
+use Rattle.std.proofs.{lemmas.List.{get_or-replicate, length-replicate}, Common.slice_get, lemmas.Option.slice_get_read}
 use Rattle.mk_gen.proofs.Vocabulary.{Item, List, Some, ℕ, arith, declarations, replicate, script_body, sym, [], ◌++◌}
-use Rattle.mk_gen.proofs.Vocabulary.{◌+◌, ◌<◌, ◌≡◌}
-use Rattle.mk_gen.proofs.TypedLines.{AreTyped, typed}
+use Rattle.mk_gen.proofs.{Vocabulary.{◌+◌, ◌<◌, ◌≡◌}, TypedLines.{AreTyped, typed}}
 
 slice_get-replicate : {A : Type 0} (n i : ℕ) (x : A) → i < n → slice_get (replicate n x) i ≡ Some x
 slice_get-replicate n i x inside =

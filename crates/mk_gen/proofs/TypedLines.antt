@@ -1,10 +1,8 @@
 -- Lines of a script that are well typed after others.
 use Rattle.mk_gen.proofs.Vocabulary.{Item, List, None, Option, Script, ℕ, ap, append-nil, append_assoc, false≢true}
 use Rattle.mk_gen.proofs.Vocabulary.{refl, subst, sym, this_script, this_script-push, true, [], ◌++◌, ◌+◌, ◌∙◌, ◌∷◌}
-use Rattle.mk_gen.proofs.Vocabulary.{◌≡◌}
-use Rattle.mk_gen.proofs.InScript.{is_inside}
-use Rattle.mk_check.specs.Typing.{Around, TypingFault, at_line, fault_from, typing_fault}
-use Rattle.mk_check.specs.Lookups.{lines_behind}
+use Rattle.mk_gen.proofs.{Vocabulary.◌≡◌, InScript.is_inside}
+use Rattle.mk_check.specs.{Typing.{Around, TypingFault, at_line, fault_from, typing_fault}, Lookups.lines_behind}
 use Rattle.mk_check.specs.declared.typing_faults.TypeKind.{TypeKind}
 
 -- a line of a script that is well typed, after these lines of it

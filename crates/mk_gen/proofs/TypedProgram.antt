@@ -2,15 +2,10 @@
 use Rattle.mk_gen.proofs.Vocabulary.{Item, List, None, Number, Script, ℕ, all_names, arith, blocks_from}
 use Rattle.mk_gen.proofs.Vocabulary.{count_of_numbers, declarations, draw, le-leb, next_state, refl, replicate}
 use Rattle.mk_gen.proofs.Vocabulary.{script_body, scripts, suc, this_script, this_script-push, turns_of, zero, [], ◌++◌}
-use Rattle.mk_gen.proofs.Vocabulary.{◌+◌, ◌<◌, ◌∷◌, ◌≡◌, ◌≤◌}
-use Rattle.mk_gen.proofs.ReadScripts.{draw-lt}
-use Rattle.mk_gen.proofs.ReadText.{numbers_some}
-use Rattle.mk_gen.proofs.TypedBody.{body_is_typed}
-use Rattle.mk_gen.proofs.TypedLines.{go_on, typed_then}
+use Rattle.mk_gen.proofs.{Vocabulary.{◌+◌, ◌<◌, ◌∷◌, ◌≡◌, ◌≤◌}, ReadScripts.draw-lt, ReadText.numbers_some}
+use Rattle.mk_gen.proofs.{TypedBody.body_is_typed, TypedLines.{go_on, typed_then}}
 use Rattle.mk_check.specs.Typing.{Around, IsWellTyped, fault_from, length_fault, offsets_fault, pointers_fault}
-use Rattle.mk_check.specs.Typing.{typing_fault}
-use Rattle.mk_check.specs.Blocks.{before_next_script}
-use Rattle.mk_check.specs.Lengths.{length_of}
+use Rattle.mk_check.specs.{Typing.typing_fault, Blocks.before_next_script, Lengths.length_of}
 use Rattle.mk_gen.specs.Generated.{generated_program}
 
 -- A turn is 14 instructions with its own, so 62,500 turns are 875,000.

@@ -1,9 +1,7 @@
 -- The texts of the generator's programs, with `n*1` where a Buf has one number.
-use Rattle.std.specs.Prelude.{ℕ, List, [], ◌∷◌, ◌++◌}
-use Rattle.std.specs.Fmt.{decimal}
+use Rattle.std.specs.{Prelude.{ℕ, List, [], ◌∷◌, ◌++◌}, Fmt.decimal}
 use lib.Chars.{codes}
-use Rattle.mk_gen.specs.Draws.{next_state, draw}
-use Rattle.mk_gen.specs.Generated.{all_names, count_of_numbers, turns_of}
+use Rattle.mk_gen.specs.{Draws.{next_state, draw}, Generated.{all_names, count_of_numbers, turns_of}}
 
 abbrev pub declaration_lines : ℕ → List (List ℕ)
 declaration_lines numbers =

@@ -2,12 +2,9 @@
 use Rattle.std.specs.Prelude.{◌≡◌, ℕ, ◌+◌, ◌*◌, true, List, [], ◌∷◌, replicate, length}
 use Rattle.mk_never.specs.declared.types.Kind.TheVariants.{Num, To}
 use Rattle.mk_core.specs.declared.events.Answer.{Answer}
-use Rattle.mk_script.specs.declared.items.Item.{Item}
-use Rattle.mk_script.specs.Scopes.{script_names}
-use Rattle.mk_check.specs.Blocks.{script_of}
-use Rattle.mk_check.specs.Lengths.{script_length}
-use Rattle.mk_check.specs.Declarations.{pages_of, resident_of, types_of, globals_of}
-use Rattle.mk_check.specs.Feed.{feed, has_ended}
+use Rattle.mk_script.specs.{declared.items.Item.Item, Scopes.script_names}
+use Rattle.mk_check.specs.{Blocks.script_of, Lengths.script_length, Declarations.{pages_of, resident_of, types_of}}
+use Rattle.mk_check.specs.{Declarations.globals_of, Feed.{feed, has_ended}}
 use Rattle.mk_gen.specs.Generated.{all_names}
 
 -- A heap of 256 pages, all of which may be resident; a type of a number and a link to its like, and one of this many

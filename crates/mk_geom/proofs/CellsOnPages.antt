@@ -1,28 +1,21 @@
 -- What values point into on pages that stand for storages: their cells, and nothing else that is taken.
 use Rattle.std.proofs.Common.{Contains, List, None, Some, ℕ, ap, arith, false, find, inl, inr, leb-true, length}
 use Rattle.std.proofs.Common.{ltb-true, nat_lt, refl, subst, sym, true, ◌%◌, ◌*◌, ◌+◌, ◌/◌, ◌<◌, ◌==◌, ◌↔◌, ◌∙◌, ◌≡◌}
-use Rattle.std.proofs.Common.{◌≤◌, ◌⊎◌}
-use Rattle.std.proofs.lemmas.Bool.{and_parts, cases_Bool, cond-false, cond-true}
-use Rattle.std.proofs.lemmas.Option.{cond_some, none-some, same_Some}
-use Rattle.std.proofs.lemmas.Nat.{div_below, mod_below}
+use Rattle.std.proofs.{Common.{◌≤◌, ◌⊎◌}, lemmas.Bool.{and_parts, cases_Bool, cond-false, cond-true}}
+use Rattle.std.proofs.{lemmas.Option.{cond_some, none-some, same_Some}, lemmas.Nat.{div_below, mod_below}}
 use Rattle.std.specs.Int.{bit_at}
-use Rattle.mk_geom.proofs.ClassTable.{cell_ends, class_words_within}
-use Rattle.mk_geom.proofs.PointedCells.{cell_first, cell_from_first, cell_index, class_has_words, large_cell_of}
-use Rattle.mk_geom.proofs.PointedCells.{large_lookup, looked_up, points_into_cell, small_cell_of, small_lookup}
-use Rattle.mk_geom.proofs.PointedCells.{stands_at_address}
+use Rattle.mk_geom.proofs.{ClassTable.{cell_ends, class_words_within}, PointedCells.{cell_first, cell_from_first}}
+use Rattle.mk_geom.proofs.PointedCells.{cell_index, class_has_words, large_cell_of, large_lookup, looked_up}
+use Rattle.mk_geom.proofs.PointedCells.{points_into_cell, small_cell_of, small_lookup, stands_at_address}
 use Rattle.mk_geom.proofs.Standing.{AreAlike, class_of_cell, has_words, large_is_run, same_or_alike, same_or_apart}
 use Rattle.mk_geom.proofs.Standing.{small_is_cell, stands_at_first, stands_parts, storage_in}
-use Rattle.mk_geom.proofs.StoredWords.{words_at, words_by_large, words_by_small}
-use Rattle.mk_geom.proofs.UsedWords.{bit_at-used_word}
-use Rattle.mk_geom.proofs.TakenCells.{cell_taken_by, get_or-taken_cells, length-taken_cells}
-use Rattle.mk_geom.proofs.ListSearch.{find_cases}
+use Rattle.mk_geom.proofs.{StoredWords.{words_at, words_by_large, words_by_small}, UsedWords.bit_at-used_word}
+use Rattle.mk_geom.proofs.{TakenCells.{cell_taken_by, get_or-taken_cells, length-taken_cells}, ListSearch.find_cases}
 use Rattle.mk_geom.specs.StorageWords.{PointsInto, ShowsStorage, cell_of_storage, cell_on, header_shown, page_in}
 use Rattle.mk_geom.specs.Storages.{AreLaidOut, IsStorage, PagesStandFor, Storage, class_of_storage, first_page}
 use Rattle.mk_geom.specs.Storages.{free_page, is_cell_taken, is_small, stands_on, taken_cells, used_word, words_by}
-use Rattle.mk_geom.specs.Addresses.{cell_at, page_at_address, word_at_address}
-use Rattle.mk_geom.specs.Classes.{cells_of, class_words_of}
-use Rattle.mk_geom.specs.declared.addresses.Cell.{Cell}
-use Rattle.mk_geom.specs.declared.pages.Page.{Page}
+use Rattle.mk_geom.specs.{Addresses.{cell_at, page_at_address, word_at_address}, Classes.{cells_of, class_words_of}}
+use Rattle.mk_geom.specs.{declared.addresses.Cell.Cell, declared.pages.Page.Page}
 
 -- a storage's page has the header that it shows
 header_by : (xs : List Storage) (page : ℕ) (s : Storage)

@@ -1,12 +1,8 @@
 -- The classes, one by one, and the cells of a page.
 use Rattle.std.proofs.Common.{List, None, Option, Some, ℕ, ap, arith, get_or, leb-true, map, refl, slice_index, suc}
-use Rattle.std.proofs.Common.{sym, zero, [], ◌*◌, ◌+◌, ◌-◌, ◌/◌, ◌<◌, ◌∙◌, ◌∷◌, ◌≡◌, ◌≤◌}
-use Rattle.std.proofs.lemmas.Bool.{cond-false, cond-true}
-use Rattle.std.proofs.lemmas.List.FromFn.{get_or-map-range_with_len}
-use Rattle.std.proofs.lemmas.List.Quantifiers.{position-Some}
-use Rattle.std.proofs.lemmas.Nat.{le-div, mul-le}
-use Rattle.std.proofs.lemmas.Option.{none-some}
-use Rattle.std.specs.List.{range_with_len}
+use Rattle.std.{proofs.Common.{sym, zero, [], ◌*◌, ◌+◌, ◌-◌, ◌/◌, ◌<◌, ◌∙◌, ◌∷◌, ◌≡◌, ◌≤◌}, specs.List.{range_with_len}}
+use Rattle.std.proofs.{lemmas.Bool.{cond-false, cond-true}, lemmas.List.FromFn.get_or-map-range_with_len}
+use Rattle.std.proofs.{lemmas.List.Quantifiers.position-Some, lemmas.Nat.{le-div, mul-le}, lemmas.Option.none-some}
 use Rattle.mk_geom.specs.Classes.{cells_of, class_for, class_words_of}
 
 pub class_for-class_words_of : (class : ℕ) → class < 8 → class_for (class_words_of class) ≡ Some class

@@ -2,23 +2,16 @@
 use Rattle.std.proofs.Common.{Bool, List, None, Option, Some, ℕ, add-one, ap, arith, eqb-true, false, get_or}
 use Rattle.std.proofs.Common.{if◌then◌else◌, inl, inr, le-leb, leb-true, length, ltb-true, nat_le, nat_lt, not}
 use Rattle.std.proofs.Common.{option_map, refl, slice_get, subst, suc, sym, true, zero, [], ◌+◌, ◌<◌, ◌∙◌, ◌∷◌, ◌≡◌}
-use Rattle.std.proofs.Common.{◌≤◌, ◌⊎◌}
-use Rattle.std.proofs.lemmas.Bool.{and_parts, cases_Bool, cond-false, cond-true, cond_both, false≢true, lt-leb}
-use Rattle.std.proofs.lemmas.Bool.{not-true}
-use Rattle.std.proofs.lemmas.Option.{none-some, same_Some, slice_get-map}
-use Rattle.std.proofs.lemmas.List.{get_or-map, length-map}
-use Rattle.std.specs.List.{AllWithin}
-use Rattle.mk_geom.proofs.ClassTable.{class_for-some, class_words_within, some_cells}
-use Rattle.mk_geom.proofs.Bridge.{same_places}
-use Rattle.mk_geom.specs.Classes.{cells_of, class_for, run_pages_of}
-use Rattle.mk_geom.specs.PageUses.{Cells, Nothing, PageUse, PartOfRun, carved, cell_place, cells_taken, first_where}
-use Rattle.mk_geom.specs.PageUses.{free_range, is_free_page, is_same_sort, large_place, or_else, page_behind}
-use Rattle.mk_geom.specs.PageUses.{place_on_uses, range_start, resident_pages, small_place}
-use Rattle.mk_geom.specs.Places.{AreFree, IsCellPlace, IsRunPlace, MayTakeCell}
-use Rattle.mk_geom.specs.PageWords.{use_of_page, uses_of_pages}
-use Rattle.mk_geom.specs.Storages.{PagesStandFor, Storage, place_among_storages}
-use Rattle.mk_geom.specs.declared.pages.Page.{Page}
-use Rattle.mk_geom.specs.declared.pages.Place.{Place}
+use Rattle.std.proofs.{Common.{◌≤◌, ◌⊎◌}, lemmas.Bool.{and_parts, cases_Bool, cond-false, cond-true, cond_both}}
+use Rattle.std.proofs.{lemmas.Bool.{false≢true, lt-leb, not-true}, lemmas.Option.{none-some, same_Some, slice_get-map}}
+use Rattle.std.{proofs.lemmas.List.{get_or-map, length-map}, specs.List.{AllWithin}}
+use Rattle.mk_geom.proofs.{ClassTable.{class_for-some, class_words_within, some_cells}, Bridge.same_places}
+use Rattle.mk_geom.specs.{Classes.{cells_of, class_for, run_pages_of}, PageUses.{Cells, Nothing, PageUse, PartOfRun}}
+use Rattle.mk_geom.specs.PageUses.{carved, cell_place, cells_taken, first_where, free_range, is_free_page, is_same_sort}
+use Rattle.mk_geom.specs.PageUses.{large_place, or_else, page_behind, place_on_uses, range_start, resident_pages}
+use Rattle.mk_geom.specs.{PageUses.small_place, Places.{AreFree, IsCellPlace, IsRunPlace, MayTakeCell}}
+use Rattle.mk_geom.specs.{PageWords.{use_of_page, uses_of_pages}, Storages.{PagesStandFor, Storage}}
+use Rattle.mk_geom.specs.{Storages.place_among_storages, declared.pages.Page.Page, declared.pages.Place.Place}
 
 or_else_cases : {A : Type 0} (o p : Option A) (x : A) → or_else o p ≡ Some x → (o ≡ Some x) ⊎ (p ≡ Some x)
 or_else_cases (Some y) p x is = inl is

@@ -1,28 +1,21 @@
 -- The words that pages hold are those of the mapped storages that stand on them.
 use Rattle.std.proofs.Common.{Bool, Contains, List, Option, Some, ℕ, ap, arith, cond, false, find, get_or}
 use Rattle.std.proofs.Common.{if◌then◌else◌, inl, inr, length, ne_eqb, refl, set, subst, suc, sym, true, [], ◌*◌, ◌+◌}
-use Rattle.std.proofs.Common.{◌<◌, ◌∙◌, ◌∷◌, ◌≡◌, ◌≢◌, ◌≤◌}
-use Rattle.std.proofs.lemmas.Bool.{cases_Bool, cond-false, cond-true, false_from_ne_true, false≢true}
-use Rattle.std.proofs.lemmas.List.Elements.{All-head, All-tail}
-use Rattle.std.proofs.lemmas.List.Sums.{sum_by-cons, sum_by-set}
-use Rattle.std.specs.List.{count_by}
-use Rattle.mk_geom.proofs.ListSearch.{Contains-head, Contains-tail, find_cases}
-use Rattle.mk_geom.proofs.PageSums.{sum_below, sum_below-add, sum_below-block, sum_below-zero, sum_by-range}
-use Rattle.mk_geom.proofs.PointedCells.{class_has_words, first_in_page}
-use Rattle.mk_geom.proofs.Standing.{cell_stands_at, cell_within, class_of_cell, has_words, large_is_run, small_is_cell}
-use Rattle.mk_geom.proofs.Standing.{stands_from, stands_parts, storage_in}
-use Rattle.mk_geom.proofs.TakenCells.{cell_taken_by, cell_taken_from, get_or-taken_cells, length-taken_cells}
-use Rattle.mk_geom.proofs.TakenCells.{none_taken, same_index, taken_cells-set, taken_same}
-use Rattle.mk_geom.proofs.Bridge.{same_uses}
-use Rattle.mk_geom.proofs.ClassTable.{class_words_within}
-use Rattle.mk_geom.specs.Classes.{cells_of, class_words_of}
-use Rattle.mk_geom.specs.PageUses.{Cells, PageUse, PartOfRun, held_by_use, held_by_uses}
-use Rattle.mk_geom.specs.Storages.{AreLaidOut, IsCell, IsStorage, LieApart, PagesStandFor, Storage, class_of_storage}
-use Rattle.mk_geom.specs.Storages.{first_page, is_cell_taken, is_small, last_page, stands_on, taken_cells, use_by}
-use Rattle.mk_geom.specs.Storages.{use_of_storages}
-use Rattle.mk_geom.specs.PageWords.{uses_of_pages}
-use Rattle.mk_geom.specs.StorageWords.{held_by_storages}
-use Rattle.mk_geom.specs.declared.pages.Page.{Page}
+use Rattle.std.proofs.{Common.{◌<◌, ◌∙◌, ◌∷◌, ◌≡◌, ◌≢◌, ◌≤◌}, lemmas.Bool.{cases_Bool, cond-false, cond-true}}
+use Rattle.std.proofs.{lemmas.Bool.{false_from_ne_true, false≢true}, lemmas.List.Elements.{All-head, All-tail}}
+use Rattle.std.{proofs.lemmas.List.Sums.{sum_by-cons, sum_by-set}, specs.List.{count_by}}
+use Rattle.mk_geom.proofs.{ListSearch.{Contains-head, Contains-tail, find_cases}, PageSums.{sum_below, sum_below-add}}
+use Rattle.mk_geom.proofs.PageSums.{sum_below-block, sum_below-zero, sum_by-range}
+use Rattle.mk_geom.proofs.{PointedCells.{class_has_words, first_in_page}, Standing.{cell_stands_at, cell_within}}
+use Rattle.mk_geom.proofs.Standing.{class_of_cell, has_words, large_is_run, small_is_cell, stands_from, stands_parts}
+use Rattle.mk_geom.proofs.{Standing.storage_in, TakenCells.{cell_taken_by, cell_taken_from, get_or-taken_cells}}
+use Rattle.mk_geom.proofs.TakenCells.{length-taken_cells, none_taken, same_index, taken_cells-set, taken_same}
+use Rattle.mk_geom.proofs.{Bridge.same_uses, ClassTable.class_words_within}
+use Rattle.mk_geom.specs.{Classes.{cells_of, class_words_of}, PageUses.{Cells, PageUse, PartOfRun, held_by_use}}
+use Rattle.mk_geom.specs.{PageUses.held_by_uses, Storages.{AreLaidOut, IsCell, IsStorage, LieApart, PagesStandFor}}
+use Rattle.mk_geom.specs.Storages.{Storage, class_of_storage, first_page, is_cell_taken, is_small, last_page, stands_on}
+use Rattle.mk_geom.specs.{Storages.{taken_cells, use_by, use_of_storages}, PageWords.uses_of_pages}
+use Rattle.mk_geom.specs.{StorageWords.held_by_storages, declared.pages.Page.Page}
 
 -- the words of a storage that are on one page, where it is mapped
 abbrev pub words_there : Storage → ℕ

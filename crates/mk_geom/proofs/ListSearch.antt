@@ -1,7 +1,6 @@
 -- What `find` and `list_any` say of the elements of a list.
 use Rattle.std.proofs.Common.{Bool, Contains, List, None, Some, arith, false, find, inl, inr, refl, subst, suc, sym}
-use Rattle.std.proofs.Common.{true, zero, [], ◌∙◌, ◌∷◌, ◌≡◌, ◌⊎◌}
-use Rattle.std.proofs.lemmas.Bool.{cases_Bool, false≢true, or_cases}
+use Rattle.std.proofs.{Common.{true, zero, [], ◌∙◌, ◌∷◌, ◌≡◌, ◌⊎◌}, lemmas.Bool.{cases_Bool, false≢true, or_cases}}
 use Rattle.std.specs.List.{list_any}
 
 pub Contains-head : {X : Type 0} (x : X) (xs : List X) → Contains (x ∷ xs) x

@@ -1,7 +1,6 @@
 -- Sums of a number that each page has.
 use Rattle.std.proofs.Common.{ℕ, add-one, arith, inl, inr, map, refl, suc, zero, ◌*◌, ◌+◌, ◌<◌, ◌≡◌, ◌≤◌}
-use Rattle.std.proofs.lemmas.Bool.{cases_lt}
-use Rattle.std.proofs.lemmas.List.FromFn.{sum_by-map-range_with_len_more}
+use Rattle.std.proofs.{lemmas.Bool.cases_lt, lemmas.List.FromFn.sum_by-map-range_with_len_more}
 use Rattle.std.specs.List.{range_with_len, sum_by}
 
 -- the sum over the pages below n

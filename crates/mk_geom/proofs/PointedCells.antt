@@ -3,20 +3,14 @@ use Rattle.std.proofs.Common.{Bool, Option, Some, ℕ, ap, arith, false, inl, in
 use Rattle.std.proofs.Common.{zero, ◌%◌, ◌*◌, ◌+◌, ◌-◌, ◌/◌, ◌<◌, ◌↔◌, ◌∙◌, ◌≡◌, ◌≤◌}
 use Rattle.std.proofs.lemmas.Bool.{and_from, cases_Bool, cond-false, cond-true, lt-leb}
 use Rattle.std.proofs.lemmas.Nat.{div-mul-add, mul-le}
-use Rattle.mk_geom.proofs.Bridge.{block_in_range, run_in_range, run_near}
-use Rattle.mk_geom.proofs.Standing.{cell_stands_at, class_of_cell, class_of_words, has_words, large_is_run}
-use Rattle.mk_geom.proofs.Standing.{small_is_cell, stands_from, stands_parts}
-use Rattle.mk_geom.proofs.ClassTable.{cell_ends, class_words_within}
-use Rattle.mk_geom.proofs.HeaderLemmas.{header_of-word_of}
+use Rattle.mk_geom.proofs.{Bridge.{block_in_range, run_in_range, run_near}, Standing.{cell_stands_at, class_of_cell}}
+use Rattle.mk_geom.proofs.Standing.{class_of_words, has_words, large_is_run, small_is_cell, stands_from, stands_parts}
+use Rattle.mk_geom.proofs.{ClassTable.{cell_ends, class_words_within}, HeaderLemmas.header_of-word_of}
 use Rattle.mk_geom.specs.Addresses.{address_of, cell_at, cell_of_block, cell_under, heap_word_at, page_at_address}
-use Rattle.mk_geom.specs.Addresses.{word_at_address}
-use Rattle.mk_geom.specs.StorageWords.{IsWordOf, PointsInto, ShowsStorage, cell_of_storage}
+use Rattle.mk_geom.specs.{Addresses.word_at_address, StorageWords.{IsWordOf, PointsInto, ShowsStorage, cell_of_storage}}
 use Rattle.mk_geom.specs.Storages.{IsCell, IsStorage, Storage, block_header, class_of_storage, first_page, is_small}
-use Rattle.mk_geom.specs.Storages.{run_header, stands_on}
-use Rattle.mk_geom.specs.Classes.{cells_of, class_words_of}
-use Rattle.mk_geom.specs.Headers.{header_of, word_of}
-use Rattle.mk_geom.specs.declared.addresses.Cell.{Cell}
-use Rattle.mk_geom.specs.declared.headers.Header.{Header}
+use Rattle.mk_geom.specs.{Storages.{run_header, stands_on}, Classes.{cells_of, class_words_of}}
+use Rattle.mk_geom.specs.{Headers.{header_of, word_of}, declared.addresses.Cell.Cell, declared.headers.Header.Header}
 
 -- a heap address whose page has this header
 pub looked_up : (pages header u : ℕ) (h : Header) → 65536 ≤ u → page_at_address u < pages → header_of header ≡ Some h

@@ -1,6 +1,5 @@
 -- Free pages, on which nothing stands.
-use Rattle.std.proofs.Common.{ℕ, arith, replicate, []}
-use Rattle.std.proofs.lemmas.List.{get_or-replicate, length-replicate}
+use Rattle.std.proofs.{Common.{ℕ, arith, replicate, []}, lemmas.List.{get_or-replicate, length-replicate}}
 use Rattle.mk_geom.specs.Storages.{PagesStandFor, free_page}
 
 pub free_pages : (n : ℕ) → PagesStandFor (replicate n free_page) []

@@ -1,10 +1,8 @@
 -- The words of a page, by any storage that stands on it.
 use Rattle.std.proofs.Common.{Contains, List, Some, ℕ, ap, arith, false, inl, inr, le-leb, sym, true, ◌*◌, ◌+◌, ◌-◌}
-use Rattle.std.proofs.Common.{◌/◌, ◌<◌, ◌∙◌, ◌≡◌}
-use Rattle.std.proofs.lemmas.Bool.{cond-false, cond-true, false≢true, lt-leb}
+use Rattle.std.proofs.{Common.{◌/◌, ◌<◌, ◌∙◌, ◌≡◌}, lemmas.Bool.{cond-false, cond-true, false≢true, lt-leb}}
 use Rattle.mk_geom.proofs.Standing.{AreAlike, class_of_words, same_or_alike, stands_at_first, stands_from, storage_in}
-use Rattle.mk_geom.proofs.ClassTable.{cell_ends, class_words_within}
-use Rattle.mk_geom.proofs.ListSearch.{find_cases}
+use Rattle.mk_geom.proofs.{ClassTable.{cell_ends, class_words_within}, ListSearch.find_cases}
 use Rattle.mk_geom.specs.Storages.{AreLaidOut, Storage, block_page, class_of_storage, first_page, free_page, is_small}
 use Rattle.mk_geom.specs.Storages.{run_page, stands_on, taken_cells, used_word, words_by, words_of_storages}
 use Rattle.mk_geom.specs.Classes.{cells_of, class_words_of}

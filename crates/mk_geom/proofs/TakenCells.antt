@@ -1,17 +1,12 @@
 -- The cells of a page that storages take.
 use Rattle.std.proofs.Common.{All, Bool, Contains, List, ℕ, arith, eq-eqb, eqb-true, false, get_or, get_or-set_other}
 use Rattle.std.proofs.Common.{get_or-set_same, inl, inr, length, length-set, refl, set, sym, true, ◌*◌, ◌+◌, ◌<◌, ◌==◌}
-use Rattle.std.proofs.Common.{◌∙◌, ◌≡◌, ◌≢◌, ◌≤◌}
-use Rattle.std.proofs.lemmas.Bool.{cases_eq, cases_order, false_from_ne_true, false≢true}
+use Rattle.std.proofs.{Common.{◌∙◌, ◌≡◌, ◌≢◌, ◌≤◌}, lemmas.Bool.{cases_eq, cases_order, false_from_ne_true, false≢true}}
 use Rattle.std.proofs.lemmas.List.FromFn.{get_or-map-range_with_len, length-map-range_with_len}
-use Rattle.std.proofs.lemmas.List.{same_lists}
-use Rattle.std.proofs.lemmas.List.Elements.{All-contains}
-use Rattle.std.proofs.lemmas.Nat.{mul-le}
-use Rattle.mk_geom.proofs.ClassTable.{cell_ends, class_words_within}
-use Rattle.mk_geom.proofs.ListSearch.{list_any_found, list_any_from}
-use Rattle.mk_geom.proofs.Standing.{stands_at_first}
-use Rattle.mk_geom.specs.Classes.{cells_of, class_words_of}
-use Rattle.mk_geom.specs.Storages.{IsStorage, Storage, is_cell_taken, stands_on, taken_cells}
+use Rattle.std.proofs.{lemmas.List.same_lists, lemmas.List.Elements.All-contains, lemmas.Nat.mul-le}
+use Rattle.mk_geom.proofs.{ClassTable.{cell_ends, class_words_within}, ListSearch.{list_any_found, list_any_from}}
+use Rattle.mk_geom.{proofs.Standing.{stands_at_first}, specs.Storages.{taken_cells}}
+use Rattle.mk_geom.specs.{Classes.{cells_of, class_words_of}, Storages.{IsStorage, Storage, is_cell_taken, stands_on}}
 
 -- each of these storages that stands on the page is one of those
 abbrev pub Carries : ℕ → List Storage → List Storage → Type 0

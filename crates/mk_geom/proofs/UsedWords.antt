@@ -1,12 +1,9 @@
 -- Used words and the bits that they are made of.
 use Rattle.std.proofs.Common.{Bool, List, ℕ, ap, arith, false, get_or, length, suc, true, zero, [], ◌*◌, ◌+◌, ◌/◌, ◌<◌}
-use Rattle.std.proofs.Common.{◌==◌, ◌∙◌, ◌∷◌, ◌≡◌}
+use Rattle.std.{proofs.Common.{◌==◌, ◌∙◌, ◌∷◌, ◌≡◌}, specs.Int.{bit_at}}
 use Rattle.std.proofs.lemmas.List.FromFn.{get_or-map-range_with_len, length-map-range_with_len}
-use Rattle.std.proofs.lemmas.List.{same_lists}
-use Rattle.std.proofs.lemmas.Nat.Bits.{bit_at-suc, bit_at_lowest}
-use Rattle.std.specs.Int.{bit_at}
-use Rattle.mk_geom.specs.PageWords.{bits_of}
-use Rattle.mk_geom.specs.Storages.{used_word}
+use Rattle.std.proofs.{lemmas.List.same_lists, lemmas.Nat.Bits.{bit_at-suc, bit_at_lowest}}
+use Rattle.mk_geom.specs.{PageWords.bits_of, Storages.used_word}
 
 pub bit_at-used_word : (bits : List Bool) (k : ℕ) (d : Bool) → k < length bits
     → (bit_at (used_word bits) k == 1) ≡ get_or bits k d

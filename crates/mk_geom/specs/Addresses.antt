@@ -1,11 +1,9 @@
 -- Addresses: the heap's word w has address 65536 + 8 * w, and a page has 64 words.
 use Rattle.std.specs.Prelude.{ℕ, ◌+◌, ◌-◌, ◌*◌, ◌/◌, ◌%◌, Bool, ◌&&◌, nat_le, nat_lt, Option, Some, None}
 use Rattle.std.specs.Prelude.{option_and_then, if◌then◌else◌}
-use Rattle.mk_geom.specs.declared.addresses.Cell.{Cell}
-use Rattle.mk_geom.specs.declared.headers.Header.{Header}
+use Rattle.mk_geom.specs.{declared.addresses.Cell.Cell, declared.headers.Header.Header}
 use Rattle.mk_geom.specs.declared.headers.Header.TheVariants.{Free, Block, Run, Later, LeafBlock, LeafRun}
-use Rattle.mk_geom.specs.Classes.{class_words_of, cells_of}
-use Rattle.mk_geom.specs.Headers.{header_of}
+use Rattle.mk_geom.specs.{Classes.{class_words_of, cells_of}, Headers.header_of}
 
 -- the address of a heap word
 abbrev pub address_of : ℕ → ℕ

@@ -2,9 +2,8 @@
 use Rattle.std.specs.Prelude.{ℕ, ◌+◌, ◌*◌, max, Bool, true, false, not, ◌&&◌, ◌==◌, nat_le, nat_lt, if◌then◌else◌, List}
 use Rattle.std.specs.Prelude.{[], ◌∷◌, ◌++◌, map, sum_by, count_by, Option, Some, None, option_map, option_and_then}
 use Rattle.std.specs.List.{range_with_len}
-use Rattle.mk_geom.specs.declared.pages.Place.{Place}
-use Rattle.mk_geom.specs.declared.pages.Census.{Census}
-use Rattle.mk_geom.specs.Classes.{class_for, class_words_of, is_small_size, run_pages_of}
+use Rattle.mk_geom.specs.{declared.pages.Place.Place, declared.pages.Census.Census, Classes.{class_for, class_words_of}}
+use Rattle.mk_geom.specs.Classes.{is_small_size, run_pages_of}
 
 -- What stands on a page: nothing, cells of one class and sort, of which these are taken, or a part of a run.
 pub data PageUse : Type 0 where

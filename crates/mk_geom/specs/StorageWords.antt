@@ -1,10 +1,8 @@
 -- The words of a storage, the addresses in them, and the cell that an address in it points into.
 use Rattle.std.specs.Prelude.{◌≡◌, ℕ, ◌+◌, ◌-◌, ◌/◌, ◌%◌, ◌<◌, ◌≤◌, Bool, if◌then◌else◌, List, slice_index_or, sum_by}
 use Rattle.std.specs.Prelude.{Option, length}
-use Rattle.mk_geom.specs.declared.addresses.Cell.{Cell}
-use Rattle.mk_geom.specs.declared.pages.Page.{Page}
-use Rattle.mk_geom.specs.Addresses.{heap_word_at, page_at_address, cell_at}
-use Rattle.mk_geom.specs.Headers.{word_of}
+use Rattle.mk_geom.specs.{declared.addresses.Cell.Cell, declared.pages.Page.Page}
+use Rattle.mk_geom.specs.{Addresses.{heap_word_at, page_at_address, cell_at}, Headers.word_of}
 use Rattle.mk_geom.specs.Storages.{Storage, is_small, first_page, class_of_storage, block_header, run_header, free_page}
 
 -- Heap word n is one of the storage's words.

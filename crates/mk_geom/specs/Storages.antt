@@ -1,16 +1,12 @@
 -- The storage of objects: what stands on the pages of a heap, read off a plain list.
 use Rattle.std.specs.Prelude.{◌≡◌, ◌≢◌, ℕ, zero, suc, ◌+◌, ◌-◌, ◌*◌, ◌/◌, ◌%◌, ◌<◌, ◌≤◌, Bool, true, false, ◌&&◌, ◌==◌}
 use Rattle.std.specs.Prelude.{nat_le, if◌then◌else◌, List, [], ◌∷◌, length, map, find, slice_index_or, All, Option}
-use Rattle.std.specs.Prelude.{Some, None, IsSome, unwrap_or, ◌⊎◌}
-use Rattle.std.specs.List.{range_with_len, list_any}
-use Rattle.mk_geom.specs.declared.pages.Page.{Page}
-use Rattle.mk_geom.specs.declared.pages.Place.{Place}
-use Rattle.mk_geom.specs.declared.pages.Census.{Census}
-use Rattle.mk_geom.specs.declared.headers.Header.{Header}
-use Rattle.mk_geom.specs.declared.headers.Header.TheVariants.{Block, Run, Later, LeafBlock, LeafRun}
-use Rattle.mk_geom.specs.Classes.{class_for, class_words_of, cells_of, is_small_size}
-use Rattle.mk_geom.specs.Headers.{word_of}
-use Rattle.mk_geom.specs.PageUses.{PageUse, Nothing, Cells, PartOfRun, place_on_uses, census_among}
+use Rattle.std.specs.{Prelude.{Some, None, IsSome, unwrap_or, ◌⊎◌}, List.{range_with_len, list_any}}
+use Rattle.mk_geom.specs.{declared.pages.Page.Page, declared.pages.Place.Place, declared.pages.Census.Census}
+use Rattle.mk_geom.specs.{declared.headers.Header.Header, declared.headers.Header.TheVariants.{Block, Run, Later}}
+use Rattle.mk_geom.specs.{declared.headers.Header.TheVariants.{LeafBlock, LeafRun}, Classes.{class_for, class_words_of}}
+use Rattle.mk_geom.specs.{Classes.{cells_of, is_small_size}, Headers.word_of, PageUses.{PageUse, Nothing, Cells}}
+use Rattle.mk_geom.specs.PageUses.{PartOfRun, place_on_uses, census_among}
 
 -- An object's storage: its first heap word, how many words it takes, whether its pages are mapped, and whether it is
 -- leaf. A small object takes a cell, and a large one all the words of its pages.

@@ -7,12 +7,9 @@ use Rattle.mk_never.proofs.Later.{calls_stay}
 use Rattle.mk_core.specs.History.{never_first}
 use Rattle.mk_caller.specs.States.{Admits, CallerState, at_home}
 use Rattle.mk_heap.specs.Hosts.{AllAreJoined, HostState, first_host, pass_for, with_caller_made, with_joined, with_seen}
-use Rattle.mk_heap.specs.Clients.{IsPassOf}
-use Rattle.mk_heap.specs.Ending.{SaysOver}
+use Rattle.mk_heap.specs.{Clients.IsPassOf, Ending.SaysOver}
 use Rattle.mk_words.proofs.Seats.{has_right}
-use Rattle.mk_words.specs.Seats.{Has, has_over, is_over}
-use Rattle.mk_words.specs.States.{PassState, WordsState, event_of}
-use Rattle.mk_words.specs.Steps.{Makes}
+use Rattle.mk_words.specs.{Seats.{Has, has_over, is_over}, States.{PassState, WordsState, event_of}, Steps.Makes}
 
 -- Each caller has eight registers, whatever happened.
 registers_are : (c : Config) (es : List Event) → length (never_behind c es).registers ≡ 8 * c.callers

@@ -5,20 +5,13 @@ use Rattle.mk_laws.proofs.Vocabulary.{Protocol, Seat, Words, ℕ, and_from, and_
 use Rattle.mk_laws.proofs.Vocabulary.{host_has_turn, inl, inr, is_quarantined, left, lt-ltb, not, not-true, phase_of}
 use Rattle.mk_laws.proofs.Vocabulary.{placed_at, refl, seat_exists, slice_index, subst, suc, sym, true, true≢false}
 use Rattle.mk_laws.proofs.Vocabulary.{zero, ◌%◌, ◌+◌, ◌-◌, ◌<◌, ◌^◌, ◌∙◌, ◌≡◌, ◌≢◌, ◌⊎◌}
-use Rattle.mk_laws.proofs.InvariantHistories.{histories_keep_the_invariant}
-use Rattle.mk_laws.proofs.Known.{known_left}
-use Rattle.mk_laws.proofs.Protocols.{protocol_of}
+use Rattle.mk_laws.proofs.{InvariantHistories.histories_keep_the_invariant, Known.known_left, Protocols.protocol_of}
 use Rattle.mk_laws.proofs.Tallies.{tallies_tell}
 use Rattle.mk_core.specs.Readings.{is_in_turn}
-use Rattle.mk_cycle.proofs.CellCounts.{AreTheirBits, cells_are_as_many}
-use Rattle.mk_cycle.specs.ReleasedPages.{sum_below}
-use Rattle.mk_heap.proofs.HostsKept.{all_home}
-use Rattle.mk_heap.specs.Hosts.{AllAreJoined, HostState, IsHost, Rests}
-use Rattle.mk_heap.specs.Reports.{HasCounts, IsWhole, quarantined}
-use Rattle.mk_heap.specs.declared.reports.Report.{Report}
-use Rattle.mk_words.specs.Finals.{HasTallies, freed_cells}
-use Rattle.mk_words.specs.Seats.{Has, HasAll}
-use Rattle.mk_words.specs.States.{WordsState, now_of}
+use Rattle.mk_cycle.{proofs.CellCounts.{AreTheirBits, cells_are_as_many}, specs.ReleasedPages.{sum_below}}
+use Rattle.mk_heap.{proofs.HostsKept.{all_home}, specs.declared.reports.Report.{Report}}
+use Rattle.mk_heap.specs.{Hosts.{AllAreJoined, HostState, IsHost, Rests}, Reports.{HasCounts, IsWhole, quarantined}}
+use Rattle.mk_words.specs.{Finals.{HasTallies, freed_cells}, Seats.{Has, HasAll}, States.{WordsState, now_of}}
 use Rattle.mk_words.specs.declared.finals.Final.{Final}
 use Rattle.mk_words.specs.Finals as final
 

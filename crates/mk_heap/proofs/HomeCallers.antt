@@ -1,12 +1,9 @@
 -- Where all callers are home, nobody makes a step of the turn's holder while the host waits for the turn: the phase
 -- stays.
-use Rattle.mk_core.specs.Growing.{AreOfOthers, Grows, is_same_seat}
-use Rattle.mk_core.specs.History.{AreEnabledFrom, left_from}
+use Rattle.mk_core.specs.{Growing.{AreOfOthers, Grows, is_same_seat}, History.{AreEnabledFrom, left_from}}
 use Rattle.mk_heap.proofs.MovedHosts.{MovesOn}
-use Rattle.mk_heap.specs.Ending.{CallersAreJoined}
-use Rattle.mk_heap.specs.Hosts.{HostState, IsHost, with_joined}
-use Rattle.mk_laws.proofs.Actors.{Meets, is_holders}
-use Rattle.mk_laws.proofs.CyclePhases.{AsksPhase, moves_phase, phase_behind}
+use Rattle.mk_heap.specs.{Ending.CallersAreJoined, Hosts.{HostState, IsHost, with_joined}}
+use Rattle.mk_laws.proofs.{Actors.{Meets, is_holders}, CyclePhases.{AsksPhase, moves_phase, phase_behind}}
 use Rattle.mk_laws.proofs.Vocabulary.{Bool, Caller, Config, Event, Host, IsHistory, List, Marker, Moment, None, Seat}
 use Rattle.mk_laws.proofs.Vocabulary.{Step, World, [], and_parts, ap, arith, cases_lt, earlier_part_is_history}
 use Rattle.mk_laws.proofs.Vocabulary.{enabled_in_parts, enabled_meets, false, false_from_ne_true, first_world, group_of}
@@ -14,14 +11,10 @@ use Rattle.mk_laws.proofs.Vocabulary.{inl, inr, is_one_of, is_open_to, left, lef
 use Rattle.mk_laws.proofs.Vocabulary.{ltb-true, not, not-true, or_cases, or_from, or_parts, phase_of, refl, seat_exists}
 use Rattle.mk_laws.proofs.Vocabulary.{subst, sym, true, true≢false, world_behind, ℕ, ◌&&◌, ◌++◌, ◌<◌, ◌||◌, ◌∙◌, ◌∷◌}
 use Rattle.mk_laws.proofs.Vocabulary.{◌≡◌, ◌≢◌, ◌≤◌, ◌⊎◌}
-use Rattle.mk_waiting.proofs.Waiting.{waits_more}
-use Rattle.mk_waiting.specs.Taking.{TakesTurn, Waits, is_take, waits_for}
+use Rattle.mk_waiting.{proofs.Waiting.{waits_more}, specs.Taking.{TakesTurn, Waits, is_take, waits_for}}
 use Rattle.mk_words.proofs.Overs.{none_over, over_is_hosts}
-use Rattle.mk_words.specs.Seats.{Has, HasCallers, has_over, is_over}
-use Rattle.mk_words.specs.States.{PassState, now_of}
-use Rattle.mk_words.specs.Steps.{Makes}
-use Rattle.std.proofs.Common.{⊎_elim}
-use Rattle.std.specs.List.{list_all}
+use Rattle.mk_words.specs.{Seats.{Has, HasCallers, has_over, is_over}, States.{PassState, now_of}, Steps.Makes}
+use Rattle.std.{proofs.Common.{⊎_elim}, specs.List.{list_all}}
 
 -- Whether an `over` stands among what the host has seen. It comes by the host's own step alone.
 

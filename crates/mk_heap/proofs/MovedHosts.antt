@@ -6,18 +6,12 @@ use Rattle.mk_laws.proofs.Vocabulary.{not-true, or_cases, refl, subst, sym, true
 use Rattle.mk_laws.proofs.Vocabulary.{◌∷◌, ◌≡◌, ◌⊎◌}
 use Rattle.mk_core.specs.Growing.{AreOfOthers, is_same_seat}
 use Rattle.mk_cycle.specs.Kinds.{begins_marking, clears, closes_marks, holds_gates, is_giving_back, sets_tallies}
-use Rattle.mk_cycle.specs.BeginCycle.{BeginsCycle}
-use Rattle.mk_cycle.specs.FinishCycle.{FinishesCycle}
-use Rattle.mk_heap.proofs.HostsKept.{still_rests}
-use Rattle.mk_heap.specs.Ending.{TakesIdleTurn}
-use Rattle.mk_heap.specs.Hosts.{HostState, IsHost, Rests}
+use Rattle.mk_cycle.specs.{BeginCycle.BeginsCycle, FinishCycle.FinishesCycle}
+use Rattle.mk_heap.{proofs.HostsKept.{still_rests}, specs.{Ending.TakesIdleTurn, Hosts.{HostState, IsHost, Rests}}}
 use Rattle.mk_turns.specs.Doing.{AreOwnOrOfOthers, Does}
-use Rattle.mk_waiting.proofs.Waiting.{joined_lists, waits_more}
-use Rattle.mk_waiting.specs.Taking.{TakesTurn, Waits, is_take, waits_for}
+use Rattle.mk_waiting.{proofs.Waiting.{joined_lists, waits_more}, specs.Taking.{TakesTurn, Waits, is_take, waits_for}}
 use Rattle.mk_words.proofs.Seats.{has_not, only_one, others_append, others_one, others_own, same_seat, same_self}
-use Rattle.mk_words.specs.Seats.{Has}
-use Rattle.mk_words.specs.States.{PassState, event_of, now_of}
-use Rattle.mk_words.specs.Steps.{Makes}
+use Rattle.mk_words.specs.{Seats.Has, States.{PassState, event_of, now_of}, Steps.Makes}
 
 -- The host's pass has seen more: no event of a seat that is home, but for its own.
 pub record MovesOn (p q : PassState) : Type 0 where

@@ -3,31 +3,18 @@ use Rattle.std.proofs.lemmas.List.Sums.{count_by-le-length}
 use Rattle.mk_laws.proofs.Vocabulary.{Config, Event, Host, IsHistory, List, None, Steady, Step, TalliesAreTidy, Word}
 use Rattle.mk_laws.proofs.Vocabulary.{World, ℕ, all_below-at, and_from, ap, append-nil, arith, eq-eqb, false, has_phase}
 use Rattle.mk_laws.proofs.Vocabulary.{host_has_turn, inl, inr, is_held, left, ne_eqb, not, phase_of, refl, subst, suc}
-use Rattle.mk_laws.proofs.Vocabulary.{sym, true, zero, ◌%◌, ◌+◌, ◌/◌, ◌^◌, ◌∙◌, ◌≡◌, ◌≤◌, ◌⊎◌}
-use Rattle.mk_laws.proofs.Asked.{give_phase}
-use Rattle.mk_laws.proofs.Settled.{gone_is_unmapped}
-use Rattle.mk_laws.proofs.TallySteps.{CountsNothing}
+use Rattle.mk_laws.proofs.{Vocabulary.{sym, true, zero, ◌%◌, ◌+◌, ◌/◌, ◌^◌, ◌∙◌, ◌≡◌, ◌≤◌, ◌⊎◌}, Asked.give_phase}
+use Rattle.mk_laws.proofs.{Settled.gone_is_unmapped, TallySteps.CountsNothing}
 use Rattle.mk_core.proofs.Histories.{calls_more}
-use Rattle.mk_core.specs.Counts.{TalliesAreExact}
-use Rattle.mk_core.specs.Frames.{CountsAreLeft, steady_of}
-use Rattle.mk_core.specs.Moments.{none_is_held}
+use Rattle.mk_core.specs.{Counts.TalliesAreExact, Frames.{CountsAreLeft, steady_of}, Moments.none_is_held}
 use Rattle.mk_cycle.proofs.KeptInParts.{free_then, gates_behind, keeps_less, same_config}
-use Rattle.mk_cycle.proofs.OwnSteps.{keeps_call, keeps_counts, steady_behind}
-use Rattle.mk_cycle.proofs.Allowed.{protocol}
-use Rattle.mk_cycle.proofs.BeginSteps.{all_from}
-use Rattle.mk_cycle.proofs.CleaningSteps.{calm_keeps}
-use Rattle.mk_cycle.proofs.MayAct.{may_act}
-use Rattle.mk_cycle.specs.EngineLaw.{IsAtPhase, IsFreeForCycle}
-use Rattle.mk_cycle.specs.TurnKeeps.{InTurn, KeepsGates, LeavesTurn, but_phase, unchanged}
-use Rattle.mk_cycle.specs.BeginCycle.{BeginsCycle}
-use Rattle.mk_cycle.specs.FinishCycle.{FinishesCycle}
+use Rattle.mk_cycle.proofs.{OwnSteps.{keeps_call, keeps_counts, steady_behind}, Allowed.protocol, BeginSteps.all_from}
+use Rattle.mk_cycle.proofs.{CleaningSteps.calm_keeps, MayAct.may_act}
+use Rattle.mk_cycle.specs.{EngineLaw.{IsAtPhase, IsFreeForCycle}, TurnKeeps.{InTurn, KeepsGates, LeavesTurn, but_phase}}
+use Rattle.mk_cycle.specs.{TurnKeeps.unchanged, BeginCycle.BeginsCycle, FinishCycle.FinishesCycle}
 use Rattle.mk_heap.specs.Ending.{EndsCycle, IsIdleTurn}
-use Rattle.mk_words.proofs.Made.{made}
-use Rattle.mk_words.proofs.OverPhases.{end_is_behind_over}
-use Rattle.mk_words.proofs.Tallies.{counts_tidy_more, settled_tallies}
-use Rattle.mk_words.specs.Seats.{has_over}
-use Rattle.mk_words.specs.States.{PassState, now_of}
-use Rattle.mk_words.specs.Steps.{Finds, IsAdmittedTo, IsEnabledTo}
+use Rattle.mk_words.proofs.{Made.made, OverPhases.end_is_behind_over, Tallies.{counts_tidy_more, settled_tallies}}
+use Rattle.mk_words.specs.{Seats.has_over, States.{PassState, now_of}, Steps.{Finds, IsAdmittedTo, IsEnabledTo}}
 use Rattle.mk_words.specs.TurnSteps.{Acts, IsFresh, world_at}
 
 -- The host's turn before an `over`: whether a cycle is on, and that none is after the end of one.

@@ -1,17 +1,10 @@
 -- What the host does with cycles: it ends the one that is on, says that all is over, or makes a whole one.
 use Rattle.std.specs.Prelude.{◌≡◌, ◌⊎◌, ℕ, ◌<◌, true, None}
-use Rattle.mk_core.specs.declared.events.Seat.TheVariants.{Caller, Host}
-use Rattle.mk_core.specs.declared.config.Config.{Config}
-use Rattle.mk_core.specs.Counts.{TalliesAreExact, TalliesAreTidy}
-use Rattle.mk_core.specs.History.{World}
-use Rattle.mk_core.specs.Moments.{none_is_held}
-use Rattle.mk_words.specs.Seats.{Has}
-use Rattle.mk_words.specs.States.{PassState, now_of}
-use Rattle.mk_words.specs.Steps.{Makes}
+use Rattle.mk_core.specs.{declared.events.Seat.TheVariants.{Caller, Host}, declared.config.Config.Config}
+use Rattle.mk_core.specs.{Counts.{TalliesAreExact, TalliesAreTidy}, History.World, Moments.none_is_held}
+use Rattle.mk_words.specs.{Seats.Has, States.{PassState, now_of}, Steps.Makes}
 use Rattle.mk_waiting.specs.Taking.{TakesTurn}
-use Rattle.mk_cycle.specs.EngineLaw.{IsAtPhase, IsFreeForCycle}
-use Rattle.mk_cycle.specs.BeginCycle.{BeginsCycle}
-use Rattle.mk_cycle.specs.FinishCycle.{FinishesCycle}
+use Rattle.mk_cycle.specs.{EngineLaw.{IsAtPhase, IsFreeForCycle}, BeginCycle.BeginsCycle, FinishCycle.FinishesCycle}
 use Rattle.mk_cycle.specs.Telling.{IsToldAtClose}
 use Rattle.mk_heap.specs.Hosts.{HostState}
 use Rattle.mk_core.specs.declared.events.Step.TheVariants as step

@@ -1,14 +1,9 @@
 -- What contracts see of the host, and what always holds of it.
 use Rattle.std.specs.Prelude.{◌≡◌, ℕ, ◌+◌, ◌<◌, ◌≤◌, false, List, [], ◌∷◌, ◌++◌, Option, Some, None}
-use Rattle.mk_core.specs.declared.events.Event.{Event}
-use Rattle.mk_core.specs.declared.events.Seat.{Seat}
-use Rattle.mk_core.specs.declared.events.Seat.TheVariants.{Caller, Marker, Host}
-use Rattle.mk_core.specs.Calls.{at_rest}
-use Rattle.mk_core.specs.Moments.{Moment, flight_of, marker_at, outside}
-use Rattle.mk_core.specs.Order.{host_has_turn}
-use Rattle.mk_words.specs.Seats.{Has, all_seats, without_seat}
-use Rattle.mk_words.specs.Rule.{no_config}
-use Rattle.mk_words.specs.States.{WordsState, PassState, now_of}
+use Rattle.mk_core.specs.{declared.events.Event.Event, declared.events.Seat.Seat}
+use Rattle.mk_core.specs.{declared.events.Seat.TheVariants.{Caller, Marker, Host}, Calls.at_rest}
+use Rattle.mk_core.specs.{Moments.{Moment, flight_of, marker_at, outside}, Order.host_has_turn}
+use Rattle.mk_words.specs.{Seats.{Has, all_seats, without_seat}, Rule.no_config, States.{WordsState, PassState, now_of}}
 
 -- Its pass, and how many callers and markers were made.
 pub record HostState : Type 0 where

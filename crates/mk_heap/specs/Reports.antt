@@ -1,15 +1,10 @@
 -- What a report says of the history of a heap that is closed.
 use Rattle.std.specs.Prelude.{◌≡◌, ℕ, true, List, count_by}
-use Rattle.mk_core.specs.declared.config.Config.{Config}
-use Rattle.mk_core.specs.declared.events.Event.{Event}
-use Rattle.mk_core.specs.declared.events.Seat.{Seat}
-use Rattle.mk_core.specs.Order.{seat_exists}
-use Rattle.mk_core.specs.Allocations.{PlacedAllocation, held_by_allocations, fresh_words_of}
-use Rattle.mk_core.specs.Counts.{IsTidy, ends, releases, full_answers, in_a_word}
-use Rattle.mk_core.specs.Cycles.{is_quarantined}
+use Rattle.mk_core.specs.{declared.config.Config.Config, declared.events.Event.Event, declared.events.Seat.Seat}
+use Rattle.mk_core.specs.{Order.seat_exists, Allocations.{PlacedAllocation, held_by_allocations, fresh_words_of}}
+use Rattle.mk_core.specs.{Counts.{IsTidy, ends, releases, full_answers, in_a_word}, Cycles.is_quarantined}
 use Rattle.mk_core.specs.History.{left, IsHistory}
-use Rattle.mk_heap.specs.declared.reports.Report.{Report}
-use Rattle.mk_heap.specs.Hosts.{Rests}
+use Rattle.mk_heap.specs.{declared.reports.Report.Report, Hosts.Rests}
 use Rattle.mk_words.specs.Finals as final
 
 -- the history of the heap, and what it was made for

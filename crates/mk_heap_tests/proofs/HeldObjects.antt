@@ -3,23 +3,17 @@ use Rattle.std.proofs.Common.{IfErr, IfOk, OnErr}
 use Rattle.mk_laws.proofs.Vocabulary.{Answer, Bool, Caller, Config, Event, List, NeverState, Null, Num, Op, Ptr, Seat}
 use Rattle.mk_laws.proofs.Vocabulary.{Value, ℕ, after_free, ap, arith, caller_number, cases_eq, false, flagged}
 use Rattle.mk_laws.proofs.Vocabulary.{get_or-set_other, inl, inr, length, refl, register_at, subst, sym, true, with_new}
-use Rattle.mk_laws.proofs.Vocabulary.{[], ◌*◌, ◌+◌, ◌<◌, ◌∙◌, ◌∷◌, ◌≡◌, ◌≢◌}
-use Rattle.mk_laws.proofs.OtherCalls.{never_continues}
+use Rattle.mk_laws.proofs.{Vocabulary.{[], ◌*◌, ◌+◌, ◌<◌, ◌∙◌, ◌∷◌, ◌≡◌, ◌≢◌}, OtherCalls.never_continues}
 use Rattle.mk_heap_tests.proofs.Vocabulary.{CallerState, Err, HostState, IsCaller, IsIdleCaller, IsPassOfObjects}
 use Rattle.mk_heap_tests.proofs.Vocabulary.{MayAllocate, Ok, OnOk, PassState, Result, WordsState, at_home}
-use Rattle.mk_heap_tests.proofs.Vocabulary.{caller_of_pass, pass_for, value_of}
-use Rattle.mk_heap_tests.proofs.JoinedHosts.{still_for}
+use Rattle.mk_heap_tests.proofs.{Vocabulary.{caller_of_pass, pass_for, value_of}, JoinedHosts.still_for}
 use Rattle.mk_heap_tests.proofs.Registers.{has_registers, null_at_first}
-use Rattle.mk_never.specs.Admitted.{IsBase}
-use Rattle.mk_never.specs.NeverHeap.{after_op}
+use Rattle.mk_never.specs.{Admitted.IsBase, NeverHeap.after_op}
 use Rattle.mk_alloc.specs.TurnCalls.{CalledInTurn, FreesObject, IsAnsweredDouble, IsAnsweredFull}
 use Rattle.mk_alloc.specs.declared.making.Full.{Full}
-use Rattle.mk_caller.proofs.After.{set_same}
-use Rattle.mk_caller.specs.States.{never_then}
-use Rattle.mk_heap_tests.specs.HeldObjects.{HoldsObjects, MayMakeObjects}
-use Rattle.mk_heap_tests.specs.Passes.{IsFirstPass}
-use Rattle.mk_objects.specs.declared.freeing.Double.{Double}
-use Rattle.mk_objects.specs.declared.freeing.Freed.{Freed}
+use Rattle.mk_caller.{proofs.After.{set_same}, specs.States.{never_then}}
+use Rattle.mk_heap_tests.specs.{HeldObjects.{HoldsObjects, MayMakeObjects}, Passes.IsFirstPass}
+use Rattle.mk_objects.specs.{declared.freeing.Double.Double, declared.freeing.Freed.Freed}
 
 -- what calls ask of such a caller
 

@@ -3,16 +3,12 @@ use Rattle.mk_laws.proofs.Vocabulary.{Caller, Config, Event, Host, List, Seat, �
 use Rattle.mk_laws.proofs.Vocabulary.{host_has_turn, inl, inr, is_held, left, lt-ltb, not, not-true, refl, subst, suc}
 use Rattle.mk_laws.proofs.Vocabulary.{sym, true, zero, [], ◌++◌, ◌<◌, ◌∙◌, ◌∷◌, ◌≡◌, ◌⊎◌}
 use Rattle.mk_heap_tests.proofs.Vocabulary.{CallerState, Has, HoldsNull, HostState, IsIdleCaller, IsPassFor, PassState}
-use Rattle.mk_heap_tests.proofs.Vocabulary.{WordsState, at_home, has_all, now_of, pass_for}
-use Rattle.mk_heap_tests.proofs.Registers.{null_at_first}
+use Rattle.mk_heap_tests.proofs.{Vocabulary.{WordsState, at_home, has_all, now_of, pass_for}, Registers.null_at_first}
 use Rattle.mk_core.specs.Moments.{none_is_held}
-use Rattle.mk_heap.proofs.HostsKept.{first_is_host}
-use Rattle.mk_heap.specs.Ending.{CallersAreJoined}
-use Rattle.mk_heap.specs.Hosts.{AllAreJoined, IsHost, first_host, with_caller_made, with_joined}
-use Rattle.mk_heap.specs.Clients.{IsPassOf}
+use Rattle.mk_heap.{proofs.HostsKept.{first_is_host}, specs.{Hosts.with_joined, Clients.IsPassOf}}
+use Rattle.mk_heap.specs.{Ending.CallersAreJoined, Hosts.{AllAreJoined, IsHost, first_host, with_caller_made}}
 use Rattle.mk_heap_tests.specs.Passes.{HasJoinedOne, IsFirstPass}
-use Rattle.mk_words.proofs.Seats.{has_first, has_left, has_right}
-use Rattle.mk_words.specs.Seats.{all_seats}
+use Rattle.mk_words.{proofs.Seats.{has_first, has_left, has_right}, specs.Seats.{all_seats}}
 
 pub holds_null : (w : WordsState) (k : ℕ) (p : PassState) → IsFirstPass w k p → k < w.config.callers → HoldsNull p
 holds_null w k p first lt =

@@ -6,30 +6,20 @@ use Rattle.mk_laws.proofs.Vocabulary.{is_held, is_number_of, marker_at, others_a
 use Rattle.mk_laws.proofs.Vocabulary.{sym, true, [], ◌%◌, ◌<◌, ◌∙◌, ◌∷◌, ◌≡◌}
 use Rattle.mk_heap_tests.proofs.Vocabulary.{CallerState, Err, Has, HostState, InTurn, IsEnabledTo, IsFresh, Ok, OnOk}
 use Rattle.mk_heap_tests.proofs.Vocabulary.{PassState, Result, TakesTurn, TalliesAreExact, WordsState, at_home, has_all}
-use Rattle.mk_heap_tests.proofs.Vocabulary.{now_of, pass_for}
-use Rattle.mk_heap_tests.proofs.JoinedHosts.{IsUnused, free_at_first, has_joined, none_is_held_at, only_zero, split_is}
-use Rattle.mk_core.specs.History.{left_from}
-use Rattle.mk_core.specs.MarkerConditions.{is_out}
+use Rattle.mk_heap_tests.proofs.{Vocabulary.{now_of, pass_for}, JoinedHosts.{IsUnused, free_at_first, has_joined}}
+use Rattle.mk_heap_tests.proofs.JoinedHosts.{none_is_held_at, only_zero, split_is}
+use Rattle.mk_core.specs.{History.left_from, MarkerConditions.is_out}
 use Rattle.mk_cycle.proofs.HoldingSteps.{all_held_below, held_free, held_table, hold_allowed, hold_holds}
-use Rattle.mk_cycle.proofs.Allowed.{or_true, protocol}
-use Rattle.mk_cycle.proofs.MayAct.{may_act}
-use Rattle.mk_cycle.specs.BeginCycle.{BeginsCycle}
-use Rattle.mk_cycle.specs.EngineLaw.{IsFreeForCycle}
-use Rattle.mk_cycle.specs.Holding.{HoldsGates}
-use Rattle.mk_heap.proofs.HomeCallers.{taken_overs}
-use Rattle.mk_heap.proofs.Overs.{begun_free, fresh_free, look_keeps, looked_idle, none_held_kept, none_is_on}
-use Rattle.mk_heap.proofs.HostsKept.{first_is_host}
-use Rattle.mk_heap.proofs.HostsKept.{host_may_take}
-use Rattle.mk_heap.proofs.MovedHosts.{turn_moves}
-use Rattle.mk_heap.specs.Ending.{IsIdleTurn}
-use Rattle.mk_heap.specs.Hosts.{IsHost, first_host, with_caller_made, with_joined, with_marker_made}
+use Rattle.mk_cycle.proofs.{Allowed.{or_true, protocol}, MayAct.may_act}
+use Rattle.mk_cycle.specs.{BeginCycle.BeginsCycle, EngineLaw.IsFreeForCycle, Holding.HoldsGates}
+use Rattle.mk_heap.proofs.{HomeCallers.taken_overs, Overs.{begun_free, fresh_free, look_keeps, looked_idle}}
+use Rattle.mk_heap.proofs.{Overs.{none_held_kept, none_is_on}, HostsKept.{first_is_host, host_may_take}}
+use Rattle.mk_heap.{proofs.MovedHosts.{turn_moves}, specs.Hosts.{with_marker_made}}
+use Rattle.mk_heap.specs.{Ending.IsIdleTurn, Hosts.{IsHost, first_host, with_caller_made, with_joined}}
 use Rattle.mk_heap_tests.specs.Passes.{HasJoinedOne, HostIsMarking, IsHostsPass, IsMarkerOut}
 use Rattle.mk_marker.specs.Markers.{IsOut, attends}
 use Rattle.mk_words.proofs.Seats.{without_keeps}
-use Rattle.mk_words.specs.Markers.{marker_in}
-use Rattle.mk_words.specs.Seats.{all_seats, has_over, without_seat}
-use Rattle.mk_words.specs.Steps.{Finds}
-use Rattle.mk_words.specs.TurnSteps.{Acts}
+use Rattle.mk_words.specs.{Markers.marker_in, Seats.{all_seats, has_over, without_seat}, Steps.Finds, TurnSteps.Acts}
 
 out_attends_not : (x : Presence) → is_out x ≡ true → is_attending x ≡ false
 out_attends_not Presence.Out h = refl

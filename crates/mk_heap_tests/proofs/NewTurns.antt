@@ -2,18 +2,12 @@
 use Rattle.mk_laws.proofs.Vocabulary.{Answer, IsHistory, Op, Some, Step, TalliesAreTidy, ℕ, ap, arith, at_rest}
 use Rattle.mk_laws.proofs.Vocabulary.{caller_number, false, has_operands, length, refl, subst, sym, true, ◌<◌, ◌∙◌, ◌≡◌}
 use Rattle.mk_heap_tests.proofs.Vocabulary.{Has, InTurn, IsEnabledTo, IsFresh, IsPassFor, PassState, TakesTurn}
-use Rattle.mk_heap_tests.proofs.Vocabulary.{TalliesAreExact, WordsState, caller_of_pass, now_of}
-use Rattle.mk_heap_tests.proofs.JoinedHosts.{alone_in}
-use Rattle.mk_alloc.proofs.NewTurns.{begun_quiet, begun_unplaced, operands_of}
-use Rattle.mk_alloc.proofs.CalledTurns.{callers, take_allowed, taken_phase}
-use Rattle.mk_alloc.proofs.CalledTurns.{taken_same}
-use Rattle.mk_alloc.proofs.SeekingTurns.{seeks_placed}
-use Rattle.mk_alloc.specs.Rooms.{Seeks}
-use Rattle.mk_alloc.specs.Underway.{BeginsTurn, TurnGoesOn}
+use Rattle.mk_heap_tests.proofs.{Vocabulary.{TalliesAreExact, WordsState, caller_of_pass, now_of}, JoinedHosts.alone_in}
+use Rattle.mk_alloc.proofs.{NewTurns.{begun_quiet, begun_unplaced, operands_of}, CalledTurns.{callers, take_allowed}}
+use Rattle.mk_alloc.proofs.{CalledTurns.{taken_phase, taken_same}, SeekingTurns.seeks_placed}
+use Rattle.mk_alloc.specs.{Rooms.Seeks, Underway.{BeginsTurn, TurnGoesOn}}
 use Rattle.mk_objects.specs.Placing.{IsOutOfStop, IsPlaced, IsUnplaced}
-use Rattle.mk_words.specs.Seats.{CallersAreBeforeOver}
-use Rattle.mk_words.specs.States.{call_of}
-use Rattle.mk_words.specs.Steps.{Makes}
+use Rattle.mk_words.specs.{Seats.CallersAreBeforeOver, States.call_of, Steps.Makes}
 
 abbrev pub first_new : Op
 first_new = Op.New 0 0 false

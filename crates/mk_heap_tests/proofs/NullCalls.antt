@@ -4,15 +4,11 @@ use Rattle.mk_laws.proofs.Vocabulary.{Answer, Bool, Event, IsNumber, List, Meets
 use Rattle.mk_laws.proofs.Vocabulary.{Value, ℕ, ap, arith, caller_number, length, refl, register_at, subst, sym, ◌<◌}
 use Rattle.mk_laws.proofs.Vocabulary.{◌∙◌, ◌≡◌, ◌≢◌}
 use Rattle.mk_heap_tests.proofs.Vocabulary.{Err, HoldsNull, IsCaller, Ok, OnOk, PassState, Result, caller_of_pass}
-use Rattle.mk_heap_tests.proofs.Vocabulary.{value_of}
-use Rattle.mk_heap_tests.proofs.Registers.{globals_are, has_registers}
+use Rattle.mk_heap_tests.proofs.{Vocabulary.value_of, Registers.{globals_are, has_registers}}
 use Rattle.mk_never.specs.Admitted.{IsOfKind}
 use Rattle.mk_caller.proofs.After.{calls_leave_other_registers}
-use Rattle.mk_caller.specs.Called.{Called, IsAnswered, Says}
-use Rattle.mk_caller.specs.Causes.{FindsGateHeld, IsRefused}
-use Rattle.mk_caller.specs.Laws.{destination}
-use Rattle.mk_caller.specs.States.{Admits, never_of}
-use Rattle.mk_caller.specs.declared.refusals.Refusal.{Refusal}
+use Rattle.mk_caller.specs.{Called.{Called, IsAnswered, Says}, Causes.{FindsGateHeld, IsRefused}, Laws.destination}
+use Rattle.mk_caller.specs.{States.{Admits, never_of}, declared.refusals.Refusal.Refusal}
 use Rattle.mk_heap_tests.specs.Passes.{StaysNull}
 
 of_a_caller : (p : PassState) → HoldsNull p → IsCaller (never_of p) (caller_of_pass p)

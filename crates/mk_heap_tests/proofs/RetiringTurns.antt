@@ -2,16 +2,12 @@
 use Rattle.mk_laws.proofs.Vocabulary.{Answer, Bool, IsHistory, Op, Some, Step, ℕ, ap, at_rest, false, lt-ltb, refl}
 use Rattle.mk_laws.proofs.Vocabulary.{true, ◌&&◌, ◌<◌, ◌≡◌}
 use Rattle.mk_heap_tests.proofs.Vocabulary.{InTurn, IsEnabledTo, IsPassOfObjects, PassState, WordsState}
-use Rattle.mk_heap_tests.proofs.NewTurns.{IsTaken, back_of, begins, exists}
-use Rattle.mk_heap_tests.proofs.HeldObjects.{double_keeps, freed_keeps}
+use Rattle.mk_heap_tests.proofs.{NewTurns.{IsTaken, back_of, begins, exists}, HeldObjects.{double_keeps, freed_keeps}}
 use Rattle.mk_alloc.proofs.FreedTurns.{Frees, Refuses, double_answered, freed, freed_object, refused, unloaded}
-use Rattle.mk_alloc.proofs.Going.{give_allowed}
-use Rattle.mk_alloc.proofs.CalledTurns.{Taken, callers, take_allowed}
+use Rattle.mk_alloc.proofs.{Going.give_allowed, CalledTurns.{Taken, callers, take_allowed}}
 use Rattle.mk_heap_tests.specs.HeldObjects.{HoldsObjects}
-use Rattle.mk_objects.specs.Retired.{FindsFreed, Retires}
-use Rattle.mk_objects.specs.Retiring.{IsUnloaded}
-use Rattle.mk_words.specs.States.{call_of}
-use Rattle.mk_words.specs.Steps.{Makes}
+use Rattle.mk_objects.specs.{Retired.{FindsFreed, Retires}, Retiring.IsUnloaded}
+use Rattle.mk_words.specs.{States.call_of, Steps.Makes}
 
 pub may_retire : (w : WordsState) (k r : ℕ) (p : PassState) → IsPassOfObjects w k p → k < w.config.callers → r < 8
     → IsEnabledTo p (Step.Take (Some (Op.Free r)))

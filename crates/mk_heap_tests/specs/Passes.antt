@@ -2,11 +2,9 @@
 -- Private functions alone cite these words.
 use Rattle.std.specs.Prelude.{◌≡◌, ℕ, ◌<◌, true, false, [], ◌∷◌}
 use Rattle.mk_never.specs.declared.values.Value.TheVariants.{Null}
-use Rattle.mk_core.specs.declared.events.Seat.TheVariants.{Caller, Marker, Host}
-use Rattle.mk_core.specs.Moments.{none_is_held}
+use Rattle.mk_core.specs.{declared.events.Seat.TheVariants.{Caller, Marker, Host}, Moments.none_is_held}
 use Rattle.mk_core.specs.Order.{host_has_turn}
-use Rattle.mk_words.specs.Seats.{Has, has_over}
-use Rattle.mk_words.specs.States.{WordsState, PassState, now_of}
+use Rattle.mk_words.specs.{Seats.{Has, has_over}, States.{WordsState, PassState, now_of}}
 use Rattle.mk_caller.specs.States.{value_of, IsIdleCaller}
 use Rattle.mk_marker.specs.Markers.{IsOut}
 use Rattle.mk_cycle.specs.EngineLaw.{IsAtPhase, IsFreeForCycle}

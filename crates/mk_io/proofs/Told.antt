@@ -1,9 +1,7 @@
 -- Calls one after another, at what a source or a sink says.
 use Rattle.std.proofs.Common.{List, None, Some, ℕ, ap, append_assoc, arith, drop, drop-drop, length, length-append}
-use Rattle.std.proofs.Common.{length-take, refl, subst, take, ◌++◌, ◌+◌, ◌-◌, ◌∙◌, ◌≡◌}
-use Rattle.std.proofs.Math.Seq.{take-add}
-use Rattle.std.proofs.lemmas.List.{take_rest}
-use Rattle.std.specs.declared.option.Option.{Option}
+use Rattle.std.proofs.{Common.{length-take, refl, subst, take, ◌++◌, ◌+◌, ◌-◌, ◌∙◌, ◌≡◌}, Math.Seq.take-add}
+use Rattle.std.{proofs.lemmas.List.{take_rest}, specs.declared.option.Option.{Option}}
 use Rattle.mk_io.specs.Bytes.{Appends, Takes, TakesCount}
 
 -- the bytes of a take, and then those of the next

@@ -1,6 +1,5 @@
 -- Counts of calls and of faults. They are kept in a `u64`, stand still at its end and never fall.
-use Rattle.std.specs.Prelude.{ℕ, ◌+◌, ◌-◌, ◌^◌, ◌<◌, ◌==◌, min, Bool, List}
-use Rattle.std.specs.List.{list_any}
+use Rattle.std.specs.{Prelude.{ℕ, ◌+◌, ◌-◌, ◌^◌, ◌<◌, ◌==◌, min, Bool, List}, List.list_any}
 
 -- The count rose. It stands still at 2^64 - 1, the end of a `u64`: there this claims nothing.
 abbrev pub Rose : ℕ → ℕ → Type 0

@@ -1,7 +1,6 @@
 -- What a `MemSink` takes.
 use Rattle.std.specs.Prelude.{ℕ, nat_le, ◌-◌, ◌==◌, ◌&&◌, ◌||◌, not, Bool, min, List, [], ◌++◌, length, take, Some}
-use Rattle.std.specs.Prelude.{None, if◌then◌else◌}
-use Rattle.std.specs.declared.option.Option.{Option}
+use Rattle.std.specs.{Prelude.{None, if◌then◌else◌}, declared.option.Option.Option}
 use Rattle.mk_io.specs.Faults.{saturating_next, fails_next}
 
 -- The bytes that were taken, for how many more there is room, how many a call takes at most, the

@@ -1,6 +1,5 @@
 -- What a clause sees of a `StdinSource` or a `StdoutSink`.
-use Rattle.std.specs.Prelude.{ℕ, List}
-use Rattle.std.specs.declared.option.Option.{Option}
+use Rattle.std.specs.{Prelude.{ℕ, List}, declared.option.Option.Option}
 
 -- The bytes that the reader has left or that the writer holds, where it says, and how many calls
 -- failed, which stops at 2^64 - 1.

@@ -5,8 +5,7 @@ use Rattle.mk_laws.proofs.Vocabulary.{cases_lt, cell_freed, changed_at, false, f
 use Rattle.mk_laws.proofs.Vocabulary.{freed_where_it_stands, fresh_leaves, get_or_past, granted, inl, inr, is_release}
 use Rattle.mk_laws.proofs.Vocabulary.{length, length-map, map, no_longer_fresh, or_parts, placed_at, refl}
 use Rattle.mk_laws.proofs.Vocabulary.{released_leaves, sym, with_released, [], ◌++◌, ◌<◌, ◌∙◌, ◌∷◌, ◌≡◌}
-use Rattle.mk_core.proofs.ChangedAllocations.{earlier_at}
-use Rattle.mk_core.specs.Allocations.{allocations_by}
+use Rattle.mk_core.{proofs.ChangedAllocations.{earlier_at}, specs.Allocations.{allocations_by}}
 
 -- An unreleased allocation is one of the list.
 pub is_there : (xs : List PlacedAllocation) (i : ℕ) → (placed_at xs i).released ≡ false → i < length xs

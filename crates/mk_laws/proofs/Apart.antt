@@ -1,7 +1,5 @@
 -- The storages of unreleased allocations lie apart, where nothing is on its way.
-use Rattle.std.proofs.Common.{le_refl}
-use Rattle.std.proofs.lemmas.Bool.{cases_order}
-use Rattle.std.proofs.lemmas.List.Elements.{Contains-get_or}
+use Rattle.std.proofs.{Common.le_refl, lemmas.Bool.cases_order, lemmas.List.Elements.Contains-get_or}
 use Rattle.mk_laws.proofs.Vocabulary.{Among, AreApart, BeginsAtCell, Bool, Cell, Claim, Config, Header, IsAtCell}
 use Rattle.mk_laws.proofs.Vocabulary.{IsLaidOn, IsOfOneCell, IsShown, IsSized, IsWithinLimits, LayoutScene, List, None}
 use Rattle.mk_laws.proofs.Vocabulary.{NoPlot, Object, OfBlock, OfLater, OfLeafBlock, OfLeafRun, OfRun, Option}
@@ -12,14 +10,10 @@ use Rattle.mk_laws.proofs.Vocabulary.{is_small, is_small_object, length, mul-le,
 use Rattle.mk_laws.proofs.Vocabulary.{placed_at, refl, small_pages, small_words, stands_on, storage_is_of, storage_of}
 use Rattle.mk_laws.proofs.Vocabulary.{storage_words, suc, sym, true, true≢false, unreleased_storage, words_within, []}
 use Rattle.mk_laws.proofs.Vocabulary.{◌%◌, ◌*◌, ◌+◌, ◌-◌, ◌/◌, ◌<◌, ◌∙◌, ◌∷◌, ◌≡◌, ◌≢◌, ◌≤◌}
-use Rattle.mk_laws.proofs.Basics.{claim_among, ends_on_pages}
-use Rattle.mk_laws.proofs.Claims.{first_apart, rest_apart}
-use Rattle.mk_laws.proofs.Released.{stands_there}
+use Rattle.mk_laws.proofs.{Basics.{claim_among, ends_on_pages}, Claims.{first_apart, rest_apart}, Released.stands_there}
 use Rattle.mk_laws.proofs.Unmapping.{shares_run}
-use Rattle.mk_geom.proofs.Standing.{stands_parts}
-use Rattle.mk_geom.specs.Storages.{LieApart}
-use Rattle.mk_core.proofs.UnreleasedStorage.{released_front, unreleased_front}
-use Rattle.mk_core.proofs.Sizes.{words_are_small}
+use Rattle.mk_geom.{proofs.Standing.{stands_parts}, specs.Storages.{LieApart}}
+use Rattle.mk_core.proofs.{UnreleasedStorage.{released_front, unreleased_front}, Sizes.words_are_small}
 use Rattle.mk_core.proofs.StandingAllocations.{placed_cell}
 
 -- a scene in which nothing is on its way: no place, no run, no released cell

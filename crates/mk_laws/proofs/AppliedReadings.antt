@@ -7,25 +7,19 @@ use Rattle.mk_laws.proofs.Vocabulary.{large_freed, large_is_history, leb-true, l
 use Rattle.mk_laws.proofs.Vocabulary.{list_any-append, ltb-true, marked_in_stop, may_turn_black, one_page, or_parts}
 use Rattle.mk_laws.proofs.Vocabulary.{placed_at, pointed_cell, refl, register_word, run_headed, slice_index, small}
 use Rattle.mk_laws.proofs.Vocabulary.{stopped_cycle, stopped_is_history, sym, take, three_objects, three_pages, true}
-use Rattle.mk_laws.proofs.Vocabulary.{words_are_zero, ◌<◌, ◌≡◌, ◌≤◌}
-use Rattle.mk_laws.proofs.AppliedTheorems.{large_front, stopped_front, unmapped_is_settled}
-use Rattle.mk_laws.proofs.Releases.{no_others_release, releases_are_exact, releases_none_reached}
-use Rattle.mk_laws.proofs.FreeWords.{unmapped_words_are_zero}
-use Rattle.mk_laws.proofs.ReadingsStands.{headers_and_quarantine_tell}
-use Rattle.mk_laws.proofs.ReleasedCycles.{releases_are_of_cycles}
-use Rattle.mk_laws.proofs.Settled.{unmapped_run}
-use Rattle.mk_laws.specs.UnsetWords.{IsNeverSet}
-use Rattle.mk_laws.specs.UnmappedRuns.{IsOfUnmappedRun, is_resident_in}
-use Rattle.mk_laws.specs.Releases.{allocation_behind}
+use Rattle.mk_laws.proofs.{Vocabulary.{words_are_zero, ◌<◌, ◌≡◌, ◌≤◌}, AppliedTheorems.{large_front, stopped_front}}
+use Rattle.mk_laws.proofs.{AppliedTheorems.unmapped_is_settled, Releases.{no_others_release, releases_are_exact}}
+use Rattle.mk_laws.proofs.{Releases.releases_none_reached, FreeWords.unmapped_words_are_zero}
+use Rattle.mk_laws.proofs.{ReadingsStands.headers_and_quarantine_tell, ReleasedCycles.releases_are_of_cycles}
+use Rattle.mk_laws.{proofs.Settled.{unmapped_run}, specs.Releases.{allocation_behind}}
+use Rattle.mk_laws.specs.{UnsetWords.IsNeverSet, UnmappedRuns.{IsOfUnmappedRun, is_resident_in}}
 use Rattle.mk_never.specs.Reach.{by_register, by_word}
 use Rattle.mk_core.proofs.EvaluatedCycles.{cycle_of_blackened, first_cycle, in_first_snapshot, not_in_first_snapshot}
 use Rattle.mk_core.proofs.EvaluatedHistories.{blackened_is_history, freed_is_history, marking_is_history}
 use Rattle.mk_core.proofs.Schedules.{blackened_before_the_move, freed_after_begin, host, m0, pointer_page}
-use Rattle.mk_core.proofs.EvaluatedFreed.{third_cell, third_is_freed}
-use Rattle.mk_core.proofs.EventsAt.{at_number, events_from}
+use Rattle.mk_core.proofs.{EvaluatedFreed.{third_cell, third_is_freed}, EventsAt.{at_number, events_from}}
 use Rattle.mk_core.proofs.MoreSchedules.{granted_while_marking, two_pages}
-use Rattle.mk_core.specs.Cells.{is_in_snapshot}
-use Rattle.mk_core.specs.Readings.{SnapshotTells}
+use Rattle.mk_core.specs.{Cells.is_in_snapshot, Readings.SnapshotTells}
 use Rattle.mk_laws.proofs.FreeCells as cells
 use Rattle.mk_laws.proofs.Snapshots as snapshots
 use Rattle.mk_laws.proofs.FreePages as pages

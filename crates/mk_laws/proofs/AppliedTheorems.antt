@@ -11,8 +11,7 @@ use Rattle.mk_laws.proofs.Vocabulary.{marked_in_stop, may_turn_black, never_behi
 use Rattle.mk_laws.proofs.Vocabulary.{points_well, refl, register_at, replies_of, resident_pages, slice_index, small}
 use Rattle.mk_laws.proofs.Vocabulary.{stopped_cycle, stopped_is_history, storage_of, subst, sym, take, three_objects}
 use Rattle.mk_laws.proofs.Vocabulary.{three_pages, true, unreleased_storage, uses_of_pages, word_at, word_points_well}
-use Rattle.mk_laws.proofs.Vocabulary.{[], ◌++◌, ◌∙◌, ◌∷◌, ◌≡◌, ◌≤◌}
-use Rattle.mk_laws.proofs.Promises.{histories_keep_all_promises}
+use Rattle.mk_laws.proofs.{Vocabulary.{[], ◌++◌, ◌∙◌, ◌∷◌, ◌≡◌, ◌≤◌}, Promises.histories_keep_all_promises}
 use Rattle.mk_laws.proofs.InvariantHistories.{events_keep_the_invariant, histories_keep_the_invariant}
 use Rattle.mk_geom.specs.Storages.{words_of_storages}
 use Rattle.mk_never.specs.declared.values.Target.{Target}
@@ -22,15 +21,10 @@ use Rattle.mk_core.proofs.EvaluatedReach.{first_is_reached, second_is_reached}
 use Rattle.mk_core.proofs.MoreSchedules.{before_the_sweep, exchanged, full_then_reused, sweeping_mark}
 use Rattle.mk_core.proofs.Schedules.{answers_freed, freed_after_begin, host, pointer_page}
 use Rattle.mk_core.proofs.SmallCycles.{marked_beside, page_dirtied, scanned_again, second_cleared, third_released}
-use Rattle.mk_core.proofs.SmallCycles.{written_beside}
-use Rattle.mk_core.proofs.EventsAt.{at_number}
-use Rattle.mk_core.proofs.SmallHistories.{beside_is_history}
+use Rattle.mk_core.proofs.{SmallCycles.written_beside, EventsAt.at_number, SmallHistories.beside_is_history}
 use Rattle.mk_core.specs.Allocations.{FitsAmongAllocations, held_by_allocations, place_among_allocations}
 use Rattle.mk_core.specs.Placement.{FindsNoPlace, StandsAtItsPlace, before_served, object_at, place_after}
-use Rattle.mk_core.specs.Cells.{is_used}
-use Rattle.mk_core.specs.Counts.{TalliesAreExact}
-use Rattle.mk_core.specs.Cycles.{BeginsAndEndsIn}
-use Rattle.mk_core.specs.History.{never_first}
+use Rattle.mk_core.specs.{Cells.is_used, Counts.TalliesAreExact, Cycles.BeginsAndEndsIn, History.never_first}
 use Rattle.mk_laws.specs.Promises.{KeepsAllPromises}
 use Rattle.mk_laws.proofs.Quarantines as quarantines
 use Rattle.mk_laws.proofs.InvariantTheorems as theorems

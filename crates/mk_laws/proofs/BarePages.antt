@@ -7,8 +7,7 @@ use Rattle.mk_laws.proofs.Vocabulary.{made_shows, object_now, object_placed, pag
 use Rattle.mk_laws.proofs.Vocabulary.{placed_at, refl, shows_on, slice_index, storage_words, subst, sym, used_on}
 use Rattle.mk_laws.proofs.Vocabulary.{words_made, zero_scene_of, ◌+◌, ◌-◌, ◌/◌, ◌<◌, ◌∙◌, ◌≡◌, ◌≢◌, ◌≤◌}
 use Rattle.mk_laws.proofs.Basics.{Laid, claim_among, claimed_some, ends_on_pages, mapped_stays, none_released, none_set}
-use Rattle.mk_laws.proofs.Basics.{own_claim, zero_unless}
-use Rattle.mk_laws.proofs.LayoutReadings.{claimed_head}
+use Rattle.mk_laws.proofs.{Basics.{own_claim, zero_unless}, LayoutReadings.claimed_head}
 
 -- a world in order, whose phase isn't releasing
 pub record Unreleasing (c : Config) (w : World) : Type 0 where

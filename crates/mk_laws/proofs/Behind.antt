@@ -2,15 +2,10 @@
 use Rattle.mk_laws.proofs.Vocabulary.{Bool, Chosen, Config, HasLayout, LayoutStands, Marker, Moment, None, Placing}
 use Rattle.mk_laws.proofs.Vocabulary.{Seat, Some, Step, World, arith, cases_Bool, cell_seen, eqb-true, false, ground_of}
 use Rattle.mk_laws.proofs.Vocabulary.{has_place, inl, inr, is_phase, is_some, marker_at, object_now, phase_of, refl}
-use Rattle.mk_laws.proofs.Vocabulary.{true, ◌-◌, ◌≡◌, ◌⊎◌}
-use Rattle.mk_laws.proofs.Basics.{Before, Known, Meets, WorldBehind, actor_of, held_place, is_releasing_behind}
-use Rattle.mk_laws.proofs.Basics.{not_astray, reg_leaves, tally_keeps, view_of}
-use Rattle.mk_laws.proofs.CyclePhases.{phase_asked, phase_moves}
-use Rattle.mk_laws.proofs.Colours.{colour_step}
-use Rattle.mk_laws.proofs.Dropped.{unreleasing}
-use Rattle.mk_laws.proofs.LayoutByKind.{by_kind, placeless}
-use Rattle.mk_laws.proofs.NewPlace.{new_was}
-use Rattle.mk_laws.proofs.OrderlyLists.{orderly_behind}
+use Rattle.mk_laws.proofs.{Vocabulary.{true, ◌-◌, ◌≡◌, ◌⊎◌}, Basics.{Before, Known, Meets, WorldBehind, actor_of}}
+use Rattle.mk_laws.proofs.Basics.{held_place, is_releasing_behind, not_astray, reg_leaves, tally_keeps, view_of}
+use Rattle.mk_laws.proofs.{CyclePhases.{phase_asked, phase_moves}, Colours.colour_step, Dropped.unreleasing}
+use Rattle.mk_laws.proofs.{LayoutByKind.{by_kind, placeless}, NewPlace.new_was, OrderlyLists.orderly_behind}
 use Rattle.mk_laws.proofs.Sorts.{moves}
 
 -- whether the phase is releasing

@@ -6,18 +6,13 @@ use Rattle.mk_laws.proofs.Vocabulary.{call_decided, d_of, entry_of, false, flagg
 use Rattle.mk_laws.proofs.Vocabulary.{if◌then◌else◌, image_scene_of, is_past_probe, is_put, is_under_turn, length}
 use Rattle.mk_laws.proofs.Vocabulary.{ltb-true, onward, page_met, progress_read, refl, refused, reg_access}
 use Rattle.mk_laws.proofs.Vocabulary.{register_met, register_word, slice_index, slice_set, subst, sym, true, word_met}
-use Rattle.mk_laws.proofs.Vocabulary.{world_behind, ◌*◌, ◌+◌, ◌<◌, ◌==◌, ◌∙◌, ◌≡◌}
-use Rattle.mk_laws.proofs.Basics.{KnownWorld, Leads, PagesShow, Ready, at_its_stage, at_reg, either_leads, flight}
-use Rattle.mk_laws.proofs.Basics.{goes_bare, is_astray, is_call_stage, not_astray, operands_of, register_small}
-use Rattle.mk_laws.proofs.Basics.{standing, standing_at}
+use Rattle.mk_laws.proofs.{Vocabulary.{world_behind, ◌*◌, ◌+◌, ◌<◌, ◌==◌, ◌∙◌, ◌≡◌}, Basics.{KnownWorld, Leads}}
+use Rattle.mk_laws.proofs.Basics.{PagesShow, Ready, at_its_stage, at_reg, either_leads, flight, goes_bare, is_astray}
+use Rattle.mk_laws.proofs.Basics.{is_call_stage, not_astray, operands_of, register_small, standing, standing_at}
 use Rattle.mk_laws.proofs.ImagesCallMoves.{cas_leads, getg_leads, probe_leads, read_leads, setg_leads, write_leads}
-use Rattle.mk_laws.proofs.ImagesKept.{own_plain}
-use Rattle.mk_laws.proofs.ImagesMoves.{Flies, is_bare}
-use Rattle.mk_laws.proofs.NextSteps.{at_enter}
-use Rattle.mk_laws.proofs.Ready.{LeadsBy}
+use Rattle.mk_laws.proofs.{ImagesKept.own_plain, ImagesMoves.{Flies, is_bare}, NextSteps.at_enter, Ready.LeadsBy}
 use Rattle.mk_laws.proofs.RegMoves.{flies_on, reg_leads, registers_behind}
-use Rattle.mk_core.proofs.RegisterAccesses.{register_leaves}
-use Rattle.mk_core.specs.Effects.{begins_where_free, progress_probe}
+use Rattle.mk_core.{proofs.RegisterAccesses.{register_leaves}, specs.Effects.{begins_where_free, progress_probe}}
 
 abbrev pub LeadsAt : Config → World → NeverState → (ℕ → Bool) → ℕ → Step → Type 0
 LeadsAt c w n safe k x = Leads safe (image_scene_of w) n k (flight_of w.now (Caller k)).op

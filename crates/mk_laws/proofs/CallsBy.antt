@@ -1,14 +1,10 @@
 -- The calls of one caller: events of others have none of them.
-use Rattle.std.proofs.Common.{filter}
-use Rattle.std.proofs.lemmas.List.Elements.{filter-append}
+use Rattle.std.proofs.{Common.filter, lemmas.List.Elements.filter-append}
 use Rattle.mk_laws.proofs.Vocabulary.{Answer, Bool, Caller, Config, Decided, Event, Host, List, Marker, None, Op}
 use Rattle.mk_laws.proofs.Vocabulary.{Option, Seat, Some, Step, World, ℕ, answer_decided, ap, append-nil, call_decided}
 use Rattle.mk_laws.proofs.Vocabulary.{calls, cond, entry_of, eq-eqb, flight_of, left, ne_eqb, refl, world_behind, []}
-use Rattle.mk_laws.proofs.Vocabulary.{◌++◌, ◌==◌, ◌∙◌, ◌∷◌, ◌≡◌, ◌≢◌}
-use Rattle.mk_laws.proofs.ProtocolFrames.{other_seat}
-use Rattle.mk_core.proofs.HistoryParts.{calls_in_parts}
-use Rattle.mk_core.specs.Growing.{AreOfOthers}
-use Rattle.mk_core.specs.History.{calls_from}
+use Rattle.mk_laws.proofs.{Vocabulary.{◌++◌, ◌==◌, ◌∙◌, ◌∷◌, ◌≡◌, ◌≢◌}, ProtocolFrames.other_seat}
+use Rattle.mk_core.{proofs.HistoryParts.{calls_in_parts}, specs.{Growing.AreOfOthers, History.calls_from}}
 
 -- the calls of one caller among these
 abbrev pub calls_by : ℕ → List Decided → List Decided

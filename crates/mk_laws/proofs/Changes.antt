@@ -6,15 +6,9 @@ use Rattle.mk_laws.proofs.Vocabulary.{flight_of, found, free_page, get_or-set_ot
 use Rattle.mk_laws.proofs.Vocabulary.{header_at, inl, inr, ltb-true, nat_le, nat_lt, no_bit, page_met, progress, refl}
 use Rattle.mk_laws.proofs.Vocabulary.{set_by, slice_index, slice_index_or, slice_set, stage_behind, steps_of, subst}
 use Rattle.mk_laws.proofs.Vocabulary.{sym, tally_word, true, true≢false, word_met, ◌*◌, ◌<◌, ◌∙◌, ◌≡◌, ◌⊎◌}
-use Rattle.mk_laws.proofs.Actors.{Meets}
-use Rattle.mk_laws.proofs.Colours.{Colours, ColourStep, colour_step}
-use Rattle.mk_laws.proofs.Growth.{grows_more, grows_same}
-use Rattle.mk_laws.proofs.Known.{Known}
-use Rattle.mk_laws.proofs.NextSteps.{at_its_stage}
-use Rattle.mk_laws.proofs.OrderlyLists.{not_astray}
-use Rattle.mk_laws.proofs.SameWords.{Behind}
-use Rattle.mk_laws.proofs.Standings.{is_astray, standing_at}
-use Rattle.mk_laws.proofs.Wells.{bare_guarded}
+use Rattle.mk_laws.proofs.{Actors.Meets, Colours.{Colours, ColourStep, colour_step}, Growth.{grows_more, grows_same}}
+use Rattle.mk_laws.proofs.{Known.Known, NextSteps.at_its_stage, OrderlyLists.not_astray, SameWords.Behind}
+use Rattle.mk_laws.proofs.{Standings.{is_astray, standing_at}, Wells.bare_guarded}
 use Rattle.mk_core.proofs.RegisterAccesses.{register_leaves, tally_leaves}
 
 -- the words that only a few kinds change

@@ -4,15 +4,10 @@ use Rattle.mk_laws.proofs.Vocabulary.{Words, ℕ, and_parts, arith, bit_or, cell
 use Rattle.mk_laws.proofs.Vocabulary.{head_page, if◌then◌else◌, inl, inr, is_attending, is_phase, is_some, marker_at}
 use Rattle.mk_laws.proofs.Vocabulary.{marker_of, none_attends, not, not-true, nothing_done, or_cases, or_else, page_met}
 use Rattle.mk_laws.proofs.Vocabulary.{phase_of, refl, scan_page, seen_bit, seen_page, slice_index, slice_set, sym, true}
-use Rattle.mk_laws.proofs.Vocabulary.{◌&&◌, ◌==◌, ◌||◌, ◌∙◌, ◌≡◌, ◌⊎◌}
-use Rattle.mk_laws.proofs.Actors.{Meets}
-use Rattle.mk_laws.proofs.Asked.{none_at}
-use Rattle.mk_laws.proofs.Growth.{grows_more, grows_same}
-use Rattle.mk_laws.proofs.SameWords.{Behind}
+use Rattle.mk_laws.proofs.{Vocabulary.{◌&&◌, ◌==◌, ◌||◌, ◌∙◌, ◌≡◌, ◌⊎◌}, Actors.Meets, Asked.none_at}
+use Rattle.mk_laws.proofs.{Growth.{grows_more, grows_same}, SameWords.Behind}
 use Rattle.mk_core.proofs.RegisterAccesses.{LeavesTable, register_leaves, tally_leaves}
-use Rattle.mk_core.specs.StopConditions.{may_black, may_mark, may_undirty}
-use Rattle.mk_core.specs.Accesses.{scan_bit}
-use Rattle.mk_core.specs.Effects.{hand_given}
+use Rattle.mk_core.specs.{StopConditions.{may_black, may_mark, may_undirty}, Accesses.scan_bit, Effects.hand_given}
 use Rattle.mk_core.specs.MarkerConditions.{may_mblack}
 
 pub record Colours : Type 0 where

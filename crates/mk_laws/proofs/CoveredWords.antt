@@ -7,10 +7,8 @@ use Rattle.mk_laws.proofs.Vocabulary.{cells_under, false, has_no_pointers, head_
 use Rattle.mk_laws.proofs.Vocabulary.{header_in, heads_run, inl, inr, mul-le, page_at_address, pointed_cell, refl}
 use Rattle.mk_laws.proofs.Vocabulary.{run_count, slice_index, storage_of, storage_words, sym, true, word_points}
 use Rattle.mk_laws.proofs.Vocabulary.{words_under, ◌*◌, ◌+◌, ◌-◌, ◌/◌, ◌<◌, ◌∙◌, ◌≡◌, ◌≢◌, ◌≤◌, ◌⊎◌}
-use Rattle.mk_laws.proofs.Headers.{free_shows}
+use Rattle.mk_laws.{proofs.Headers.{free_shows}, specs.{Kept.LaterPagesAreKnown, WholeRuns.RunsAreWhole}}
 use Rattle.mk_core.proofs.PointedPages.{pointed_head}
-use Rattle.mk_laws.specs.Kept.{LaterPagesAreKnown}
-use Rattle.mk_laws.specs.WholeRuns.{RunsAreWhole}
 
 -- A number is in one of equal parts alone.
 pub one_part : (size i j n : ℕ) → i * size ≤ n → n < i * size + size → j * size ≤ n → n < j * size + size → i ≡ j

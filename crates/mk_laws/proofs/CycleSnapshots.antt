@@ -7,14 +7,10 @@ use Rattle.mk_laws.proofs.Vocabulary.{freed_cell, freed_where_it_stands, get_or_
 use Rattle.mk_laws.proofs.Vocabulary.{is_quarantined, left, left_from, length, length-map, list_any, map, never_granted}
 use Rattle.mk_laws.proofs.Vocabulary.{no_longer_fresh, none_freed, not, or_parts, placed_at, refl, stands_in, subst}
 use Rattle.mk_laws.proofs.Vocabulary.{sym, true, true≢false, with_released, world_behind, [], ◌&&◌, ◌++◌, ◌∙◌, ◌∷◌, ◌≡◌}
-use Rattle.mk_laws.proofs.Vocabulary.{◌≤◌}
-use Rattle.mk_laws.proofs.Basics.{Before, Meets, WorldBehind, begin_is, freeing_leaves, releasing_leaves}
-use Rattle.mk_laws.proofs.LayoutHistories.{in_order_at_first, known_before, order_behind}
-use Rattle.mk_laws.proofs.Granted.{pushed_new}
-use Rattle.mk_laws.proofs.Known.{along_enabled}
-use Rattle.mk_laws.proofs.LayoutByKind.{fresh_cells}
-use Rattle.mk_laws.proofs.QuarantineByKind.{frees_here}
-use Rattle.mk_laws.proofs.QuarantineChanges.{FreesHere, before_change}
+use Rattle.mk_laws.proofs.{Vocabulary.◌≤◌, Basics.{Before, Meets, WorldBehind, begin_is, freeing_leaves}}
+use Rattle.mk_laws.proofs.{Basics.releasing_leaves, LayoutHistories.{in_order_at_first, known_before, order_behind}}
+use Rattle.mk_laws.proofs.{Granted.pushed_new, Known.along_enabled, LayoutByKind.fresh_cells}
+use Rattle.mk_laws.proofs.{QuarantineByKind.frees_here, QuarantineChanges.{FreesHere, before_change}}
 use Rattle.mk_laws.specs.Snapshots.{SnapshotsAreOfCycles}
 
 -- freed, and not after the last `begin`

@@ -4,9 +4,7 @@ use Rattle.mk_laws.proofs.Vocabulary.{all_below-at, and_parts, arith, cases_Bool
 use Rattle.mk_laws.proofs.Vocabulary.{ground_of, has_bit, has_bit_without, head_page, header_at, inl, inr}
 use Rattle.mk_laws.proofs.Vocabulary.{is_released_in, length, may_end, no_bit, not, not-true, or_cases, set_by}
 use Rattle.mk_laws.proofs.Vocabulary.{slice_index, slice_set, sym, true, true≢false, used_at, ◌<◌, ◌==◌, ◌||◌, ◌∙◌, ◌≡◌}
-use Rattle.mk_laws.proofs.Vocabulary.{◌≢◌, ◌⊎◌}
-use Rattle.mk_laws.proofs.Releasing.{layout_ended}
-use Rattle.mk_laws.proofs.Serving.{Laid}
+use Rattle.mk_laws.proofs.{Vocabulary.{◌≢◌, ◌⊎◌}, Releasing.layout_ended, Serving.Laid}
 
 -- While the phase isn't releasing, no cell is released, whatever the snapshot, the freed cells and the marks.
 pub unreleasing : (c : Config) (o : Object) (marks other : List ℕ) (t : Ground) (freed snapshot : List ℕ)

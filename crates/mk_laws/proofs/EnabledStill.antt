@@ -15,24 +15,15 @@ use Rattle.mk_laws.proofs.Vocabulary.{others_are_held, pages_made, phase_of, pla
 use Rattle.mk_laws.proofs.Vocabulary.{sym, takes_cell, target, true, true≢false, unmaps, used_at, words_are_zero, []}
 use Rattle.mk_laws.proofs.Vocabulary.{◌&&◌, ◌++◌, ◌+◌, ◌-◌, ◌<◌, ◌==◌, ◌||◌, ◌∙◌, ◌∷◌, ◌≡◌, ◌≢◌}
 use Rattle.mk_laws.proofs.Basics.{Behind, KnownWorld, Meets, actor_of, along_others, mapped_stays, reg_keeps}
-use Rattle.mk_laws.proofs.Basics.{tally_keeps}
-use Rattle.mk_laws.proofs.FramesHolders.{Asks, OfHolder, OfNone, asks, holds_is}
-use Rattle.mk_laws.proofs.LastEvents.{comes_last, stands}
-use Rattle.mk_laws.proofs.Tests.{all_below_on, and_on, if_on, none_from, or_on, some_on, without_on}
-use Rattle.mk_laws.proofs.Asked.{none_at}
-use Rattle.mk_laws.proofs.CoveredWords.{has_cell}
-use Rattle.mk_laws.proofs.ForImages.{laid_out}
-use Rattle.mk_laws.proofs.InvariantJoined.{told_to_images}
-use Rattle.mk_laws.proofs.ProtocolFrames.{other_seat, others_leave}
+use Rattle.mk_laws.proofs.{Basics.tally_keeps, FramesHolders.{Asks, OfHolder, OfNone, asks, holds_is}}
+use Rattle.mk_laws.proofs.{LastEvents.{comes_last, stands}, Tests.{all_below_on, and_on, if_on, none_from, or_on}}
+use Rattle.mk_laws.proofs.{Tests.{some_on, without_on}, Asked.none_at, CoveredWords.has_cell, ForImages.laid_out}
+use Rattle.mk_laws.proofs.{InvariantJoined.told_to_images, ProtocolFrames.{other_seat, others_leave}}
 use Rattle.mk_laws.proofs.RunsStill.{holder_finds}
-use Rattle.mk_core.proofs.Conditions.{meets_enabled}
-use Rattle.mk_core.proofs.PageSteps.{gives_back_is, left_bits}
-use Rattle.mk_core.specs.StopConditions.{blackens, may_black, may_close}
-use Rattle.mk_core.specs.TurnConditions.{are_wiped, is_in_gone_run, may_use, takes_snapshot}
-use Rattle.mk_core.specs.Cells.{are_left_unmarked}
-use Rattle.mk_core.specs.Frames.{written_of}
-use Rattle.mk_core.specs.NewPlaces.{bits_made}
-use Rattle.mk_core.specs.Order.{is_in_order}
+use Rattle.mk_core.proofs.{Conditions.meets_enabled, PageSteps.{gives_back_is, left_bits}}
+use Rattle.mk_core.specs.{StopConditions.{blackens, may_black, may_close}, TurnConditions.{are_wiped, is_in_gone_run}}
+use Rattle.mk_core.specs.{TurnConditions.{may_use, takes_snapshot}, Cells.are_left_unmarked, Frames.written_of}
+use Rattle.mk_core.specs.{NewPlaces.bits_made, Order.is_in_order}
 
 -- The gates that a step of the turn's holder asks for are as it asks, whatever others did since.
 

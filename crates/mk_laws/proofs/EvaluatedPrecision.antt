@@ -2,14 +2,10 @@
 use Rattle.mk_laws.proofs.Vocabulary.{Cycle, Releasing, Seat, Step, Tally, all_below, begun_in_stop, left, left_from}
 use Rattle.mk_laws.proofs.Vocabulary.{marked_in_stop, placed_at, pointed_cell, refl, small, stopped_cycle}
 use Rattle.mk_laws.proofs.Vocabulary.{stopped_is_history, storage_of, three_objects, through, through_release, true}
-use Rattle.mk_laws.proofs.Vocabulary.{unreleased_storage, [], ◌∷◌, ◌≡◌}
-use Rattle.mk_laws.proofs.PrecisionFreeing.{frees_the_untouched}
-use Rattle.mk_laws.proofs.PrecisionStopped.{releases_the_untouched}
-use Rattle.mk_laws.specs.Precision.{CountsAsFree, through_end}
+use Rattle.mk_laws.proofs.{Vocabulary.{unreleased_storage, [], ◌∷◌, ◌≡◌}, PrecisionFreeing.frees_the_untouched}
+use Rattle.mk_laws.{proofs.PrecisionStopped.{releases_the_untouched}, specs.Precision.{CountsAsFree, through_end}}
 use Rattle.mk_core.proofs.EvaluatedTouched.{marking, third_is_in_snapshot, third_is_untouched}
-use Rattle.mk_core.proofs.EvaluatedCycles.{any_sweeps, none_sweeps}
-use Rattle.mk_core.proofs.SmallCycles.{by_host}
-use Rattle.mk_core.specs.Cycles.{NoneSweeps}
+use Rattle.mk_core.{proofs.{EvaluatedCycles.{any_sweeps, none_sweeps}, SmallCycles.by_host}, specs.Cycles.{NoneSweeps}}
 
 abbrev releasing : Releasing stopped_cycle
 releasing = record {

@@ -13,25 +13,18 @@ use Rattle.mk_laws.proofs.Vocabulary.{ltb-true, map, no_longer_fresh, none_freed
 use Rattle.mk_laws.proofs.Vocabulary.{others_are_held, placed_at, pointed_cell, points_well, refl, released_leaves}
 use Rattle.mk_laws.proofs.Vocabulary.{set-get_or, slice_index, slice_index_or, slice_set, storage_holds, storage_words}
 use Rattle.mk_laws.proofs.Vocabulary.{sym, target, true, with_released, word_at, words_of, world_behind, ◌%◌, ◌&&◌, ◌+◌}
-use Rattle.mk_laws.proofs.Vocabulary.{◌/◌, ◌<◌, ◌==◌, ◌||◌, ◌∙◌, ◌≡◌, ◌≢◌}
-use Rattle.mk_laws.proofs.Basics.{KnownWorld, Leads, Move, Ready, Releases, Renews, Stands, at_its_stage, at_no_take}
-use Rattle.mk_laws.proofs.Basics.{base_at, calls_stand, exists_placed, grants_new, is_call_stage, not_astray}
-use Rattle.mk_laws.proofs.Basics.{others_held, pointed_word, unmapped_is, view_of, words_fit}
-use Rattle.mk_laws.proofs.CallSorts.{bare_on, begins, cas_leads_at, dirty_leads, enter_leads, getg_leads_at}
-use Rattle.mk_laws.proofs.CallSorts.{leave_leads, probe_leads_at, read_leads_at, reg_leads_at, setg_leads_at}
-use Rattle.mk_laws.proofs.CallSorts.{write_leads_at}
-use Rattle.mk_laws.proofs.ImagesBefore.{shown_in_call, type_is}
-use Rattle.mk_laws.proofs.TurnMoves.{full_by, grant_by, look_by, quar_by}
-use Rattle.mk_laws.proofs.FreeMoves.{same_places}
-use Rattle.mk_laws.proofs.GrantMoves.{wiped_outside}
-use Rattle.mk_laws.proofs.ImagesHeldGates.{others_idle}
-use Rattle.mk_laws.proofs.ImagesMoves.{Rests, Wipes}
-use Rattle.mk_laws.proofs.NextSteps.{at_take, of_turn}
-use Rattle.mk_laws.proofs.Pairs.{shows_plain}
+use Rattle.mk_laws.proofs.{Vocabulary.{◌/◌, ◌<◌, ◌==◌, ◌||◌, ◌∙◌, ◌≡◌, ◌≢◌}, Basics.{KnownWorld, Leads, Move, Ready}}
+use Rattle.mk_laws.proofs.Basics.{Releases, Renews, Stands, at_its_stage, at_no_take, base_at, calls_stand}
+use Rattle.mk_laws.proofs.Basics.{exists_placed, grants_new, is_call_stage, not_astray, others_held, pointed_word}
+use Rattle.mk_laws.proofs.{Basics.{unmapped_is, view_of, words_fit}, CallSorts.{bare_on, begins, cas_leads_at}}
+use Rattle.mk_laws.proofs.CallSorts.{dirty_leads, enter_leads, getg_leads_at, leave_leads, probe_leads_at}
+use Rattle.mk_laws.proofs.CallSorts.{read_leads_at, reg_leads_at, setg_leads_at, write_leads_at}
+use Rattle.mk_laws.proofs.{ImagesBefore.{shown_in_call, type_is}, TurnMoves.{full_by, grant_by, look_by, quar_by}}
+use Rattle.mk_laws.proofs.{FreeMoves.same_places, GrantMoves.wiped_outside, ImagesHeldGates.others_idle}
+use Rattle.mk_laws.proofs.{ImagesMoves.{Rests, Wipes}, NextSteps.{at_take, of_turn}, Pairs.shows_plain}
 use Rattle.mk_laws.proofs.Stages.{is_turn_stage, new_stands}
 use Rattle.mk_never.specs.Types.{is_leaf, is_number}
-use Rattle.mk_core.proofs.RegisterAccesses.{tally_leaves, tally_leaves_registers}
-use Rattle.mk_core.proofs.ListTests.{list_all-at}
+use Rattle.mk_core.proofs.{RegisterAccesses.{tally_leaves, tally_leaves_registers}, ListTests.list_all-at}
 use Rattle.mk_core.specs.ClosedMarks.{is_marked_allocation, is_scanned_allocation}
 
 -- A release cuts the safe set to the marked allocations.

@@ -6,10 +6,8 @@ use Rattle.mk_laws.proofs.Vocabulary.{ap, calls_from, earlier_part_is_history, e
 use Rattle.mk_laws.proofs.Vocabulary.{flight_of, is_same, is_under_turn, left, ltb-true, never_behind, one_if, refl}
 use Rattle.mk_laws.proofs.Vocabulary.{register_at, slice_index, sym, true, word_met, ◌++◌, ◌==◌, ◌↔◌, ◌∙◌, ◌∷◌, ◌≡◌}
 use Rattle.mk_laws.proofs.Basics.{at_its_stage, flight, known_world, ready_of, stands_of}
-use Rattle.mk_laws.proofs.CallSorts.{admitted_call, own_registers, there_is}
-use Rattle.mk_laws.proofs.ImagesCallMoves.{cas_compares}
-use Rattle.mk_laws.proofs.ImagesHistories.{histories_mirror, say_along}
-use Rattle.mk_laws.specs.Laws.{HistoriesCompareValues}
+use Rattle.mk_laws.proofs.{CallSorts.{admitted_call, own_registers, there_is}, ImagesCallMoves.cas_compares}
+use Rattle.mk_laws.{proofs.ImagesHistories.{histories_mirror, say_along}, specs.Laws.{HistoriesCompareValues}}
 use Rattle.mk_never.proofs.Sameness.{equal_from_same, same_from_equal}
 
 told : (b : Bool) (u v : Value) → b ≡ is_same u v → (Some (Answer.Num (one_if b)) ≡ Some (Answer.Num 1)) ↔ (u ≡ v)

@@ -13,18 +13,13 @@ use Rattle.mk_laws.proofs.Vocabulary.{length, lt-ltb, mode_of, not, object_made,
 use Rattle.mk_laws.proofs.Vocabulary.{pages_some, phase_of, place_claim, placed_at, pointed_cell, refl}
 use Rattle.mk_laws.proofs.Vocabulary.{run_of_allocation, stands, subst, suc, sym, true, true≢false, typed_size}
 use Rattle.mk_laws.proofs.Vocabulary.{unmapped_header, zero, [], ◌&&◌, ◌+◌, ◌/◌, ◌<◌, ◌==◌, ◌∙◌, ◌∷◌, ◌≡◌, ◌≢◌, ◌≤◌}
-use Rattle.mk_laws.proofs.Claims.{claim_among, claim_is, first_apart, rest_apart}
-use Rattle.mk_laws.proofs.Unmapping.{shares_run}
+use Rattle.mk_laws.proofs.{Claims.{claim_among, claim_is, first_apart, rest_apart}, Unmapping.shares_run}
 use Rattle.mk_laws.proofs.LayoutHolders.{holding_object, new_has_turn, seat_operands}
-use Rattle.mk_laws.proofs.Released.{IsStanding, all_stand, place_index}
-use Rattle.mk_laws.proofs.Serving.{apart_across, apart_left, own_claim, placed_claim}
-use Rattle.mk_laws.proofs.KnownWorlds.{KnownWorld}
-use Rattle.mk_laws.proofs.TellImages.{zeros_tell_the_images}
-use Rattle.mk_core.proofs.GrantedAllocations.{placed_headers, placed_stands}
-use Rattle.mk_core.proofs.PointedAllocations.{base_points}
+use Rattle.mk_laws.proofs.{Released.{IsStanding, all_stand, place_index}, Serving.{apart_across, apart_left, own_claim}}
+use Rattle.mk_laws.proofs.{Serving.placed_claim, KnownWorlds.KnownWorld, TellImages.zeros_tell_the_images}
+use Rattle.mk_core.proofs.{GrantedAllocations.{placed_headers, placed_stands}, PointedAllocations.base_points}
 use Rattle.mk_core.specs.NewPlaces.{place_stands}
-use Rattle.mk_laws.specs.ImagePremises.{IsFreedRun}
-use Rattle.mk_laws.specs.RunGates.{HoldsRunGates}
+use Rattle.mk_laws.specs.{ImagePremises.IsFreedRun, RunGates.HoldsRunGates}
 use Rattle.mk_laws.specs.ImagePremises as images
 
 -- Unreleased allocations of one cell are one.

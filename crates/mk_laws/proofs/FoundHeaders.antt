@@ -1,7 +1,5 @@
 -- What a `head` finds while a cycle marks, from what the layout says.
-use Rattle.std.proofs.Common.{option_and_then}
-use Rattle.std.proofs.Math.Bool.{or-true}
-use Rattle.std.proofs.lemmas.Nat.Bits.{bit_at_ones}
+use Rattle.std.proofs.{Common.option_and_then, Math.Bool.or-true, lemmas.Nat.Bits.bit_at_ones}
 use Rattle.mk_laws.proofs.Vocabulary.{Bool, Cell, Config, Flight, GuardPremises, Header, HeaderGoesOn, HeadStep}
 use Rattle.mk_laws.proofs.Vocabulary.{IsMarking, IsSized, IsWithinLimits, ItCarves, ItEmpties, ItUnmaps, None, Object}
 use Rattle.mk_laws.proofs.Vocabulary.{OfBlock, OfLater, OfLeafBlock, OfLeafRun, OfRun, Option, Place, RunPages, Seat}
@@ -16,18 +14,11 @@ use Rattle.mk_laws.proofs.Vocabulary.{object_made, or_cases, page_at_address, pa
 use Rattle.mk_laws.proofs.Vocabulary.{part_not_free, part_words, phase_of, placed_now, refl, slice_index, small_cells}
 use Rattle.mk_laws.proofs.Vocabulary.{small_pages, small_words, subst, sym, true, true≢false, undecided_new}
 use Rattle.mk_laws.proofs.Vocabulary.{unmapped_header, unmapped_is_unmapped, words_made, words_under, ◌*◌, ◌+◌, ◌-◌}
-use Rattle.mk_laws.proofs.Vocabulary.{◌<◌, ◌==◌, ◌||◌, ◌∙◌, ◌≡◌, ◌⊎◌}
-use Rattle.mk_laws.proofs.Basics.{Known, Meets, either_phase, new_holds}
-use Rattle.mk_laws.proofs.Headers.{Carved, HeadFinds, Unmapped}
-use Rattle.mk_laws.specs.Kept.{PlaceIsBare, RunHasObject}
-use Rattle.mk_geom.proofs.ClassTable.{some_cells}
-use Rattle.mk_geom.specs.Addresses.{cell_under, word_at_address}
-use Rattle.mk_core.proofs.ObjectHeaders.{same_cells, same_words}
-use Rattle.mk_core.proofs.PageSteps.{Unmaps}
-use Rattle.mk_core.proofs.PointedPages.{found_under, lies_under}
-use Rattle.mk_core.proofs.ServingSteps.{Carves}
-use Rattle.mk_core.proofs.WordBits.{without_none}
-use Rattle.mk_core.specs.NewPlaces.{bits_made}
+use Rattle.mk_laws.proofs.{Vocabulary.{◌<◌, ◌==◌, ◌||◌, ◌∙◌, ◌≡◌, ◌⊎◌}, Basics.{Known, Meets, either_phase, new_holds}}
+use Rattle.mk_laws.{proofs.Headers.{Carved, HeadFinds, Unmapped}, specs.Kept.{PlaceIsBare, RunHasObject}}
+use Rattle.mk_geom.{proofs.ClassTable.{some_cells}, specs.Addresses.{cell_under, word_at_address}}
+use Rattle.mk_core.{proofs.{ObjectHeaders.{same_cells, same_words}, PageSteps.Unmaps}, specs.NewPlaces.{bits_made}}
+use Rattle.mk_core.proofs.{PointedPages.{found_under, lies_under}, ServingSteps.Carves, WordBits.without_none}
 
 -- What an address on a page of a run points into: cell 0 of its first page.
 

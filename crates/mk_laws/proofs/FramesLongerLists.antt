@@ -9,19 +9,12 @@ use Rattle.mk_laws.proofs.Vocabulary.{ltb-true, never_behind, not, onward, page_
 use Rattle.mk_laws.proofs.Vocabulary.{progress_read, progress_reg, q_of, refl, refused, sees_double, still, subst, sym}
 use Rattle.mk_laws.proofs.Vocabulary.{target, true, word_accessed, [], ◌&&◌, ◌++◌, ◌<◌, ◌==◌, ◌∙◌, ◌∷◌, ◌≡◌}
 use Rattle.mk_laws.proofs.Basics.{Meets, actor_of, at_its_stage, calls_stand, in_call_told, is_call_stage, is_holders}
-use Rattle.mk_laws.proofs.Basics.{not_astray, operands_of, register_small}
-use Rattle.mk_laws.proofs.LastEvents.{Stands, comes_last, goes_on_by, stands}
-use Rattle.mk_laws.proofs.AdmittedStill.{call_on}
-use Rattle.mk_laws.proofs.CallSorts.{admitted_call, call_outside}
-use Rattle.mk_laws.proofs.EnabledStill.{before, enabled_still, left_to}
-use Rattle.mk_laws.proofs.FramesHolders.{acts_as_holder, holds_is}
-use Rattle.mk_laws.proofs.OtherCalls.{never_continues, registers_are_left}
-use Rattle.mk_laws.proofs.ProbesStill.{probe_still}
-use Rattle.mk_laws.proofs.Reaching.{events_reach_the_table, others_leave_accesses}
-use Rattle.mk_core.specs.Counts.{releases}
-use Rattle.mk_core.specs.Effects.{begins_where_free}
-use Rattle.mk_core.specs.Frames.{CountsAreLeft}
-use Rattle.mk_core.specs.LongerLists.{LongerListsGoOn}
+use Rattle.mk_laws.proofs.{Basics.{not_astray, operands_of, register_small}, LastEvents.{Stands, comes_last}}
+use Rattle.mk_laws.proofs.{LastEvents.{goes_on_by, stands}, AdmittedStill.call_on}
+use Rattle.mk_laws.proofs.{CallSorts.{admitted_call, call_outside}, EnabledStill.{before, enabled_still, left_to}}
+use Rattle.mk_laws.proofs.{FramesHolders.{acts_as_holder, holds_is}, OtherCalls.{never_continues, registers_are_left}}
+use Rattle.mk_laws.proofs.{ProbesStill.probe_still, Reaching.{events_reach_the_table, others_leave_accesses}}
+use Rattle.mk_core.specs.{Counts.releases, Effects.begins_where_free, Frames.CountsAreLeft, LongerLists.LongerListsGoOn}
 
 -- What a step asks of the heap that never reuses storage it asks after a longer list too: what it finds may differ,
 -- and so the answer, but not whether it decides, nor what for.

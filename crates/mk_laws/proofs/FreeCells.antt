@@ -8,9 +8,7 @@ use Rattle.mk_laws.proofs.Vocabulary.{eq-eqb, first_word, header_in, header_show
 use Rattle.mk_laws.proofs.Vocabulary.{object_placed, pages_made, phase_of, placed_at, slice_index, small_cells}
 use Rattle.mk_laws.proofs.Vocabulary.{small_words, subst, suc, sym, true, typed_size, words_are_zero, words_made, zero}
 use Rattle.mk_laws.proofs.Vocabulary.{◌%◌, ◌*◌, ◌+◌, ◌-◌, ◌/◌, ◌<◌, ◌==◌, ◌∙◌, ◌≡◌, ◌≢◌, ◌≤◌}
-use Rattle.mk_laws.proofs.Basics.{KnownWorld, ends_on_pages, zero_unless}
-use Rattle.mk_laws.proofs.CoveredWords.{has_cell}
-use Rattle.mk_laws.proofs.ForImages.{standing}
+use Rattle.mk_laws.proofs.{Basics.{KnownWorld, ends_on_pages, zero_unless}, CoveredWords.has_cell, ForImages.standing}
 use Rattle.mk_laws.proofs.FreeWords.{IsOfOne, of_one, of_worlds}
 use Rattle.mk_laws.specs.FreeWords.{FreeCellsAreZero, WordsBehindCellsAreZero, words_in_cells}
 

@@ -9,11 +9,9 @@ use Rattle.mk_laws.proofs.Vocabulary.{image_of, image_scene_of, inl, inr, is_fre
 use Rattle.mk_laws.proofs.Vocabulary.{is_released_cell, is_run_cell, length-map, map, nat_lt, no_allocation, not}
 use Rattle.mk_laws.proofs.Vocabulary.{not-true, placed_at, pointed_cell, refl, set-get_or, slice_set, stands_in, subst}
 use Rattle.mk_laws.proofs.Basics.{Frees, KnownWorld, Move, Ready, Stands, base_at, exists_placed, goes_bare}
-use Rattle.mk_laws.proofs.Basics.{pointed_word, words_fit}
-use Rattle.mk_laws.proofs.ImagesMoves.{Decides, SamePlaces, is_bare}
+use Rattle.mk_laws.proofs.{Basics.{pointed_word, words_fit}, ImagesMoves.{Decides, SamePlaces, is_bare}}
 use Rattle.mk_laws.proofs.ImagesBefore.{first_in, words_are}
-use Rattle.mk_never.specs.NeverHeap.{free_reply}
-use Rattle.mk_never.specs.declared.operations.Reply.{Reply}
+use Rattle.mk_never.specs.{NeverHeap.free_reply, declared.operations.Reply.Reply}
 use Rattle.mk_laws.proofs.Vocabulary.{sym, true, with_freed as never_freed, [], ◌+◌, ◌==◌, ◌∙◌, ◌∷◌, ◌≡◌, ◌≢◌}
 
 -- Allocations that change one by one, and stay at their places.

@@ -9,20 +9,15 @@ use Rattle.mk_laws.proofs.Vocabulary.{header_in, header_of, inl, inr, is_heap_st
 use Rattle.mk_laws.proofs.Vocabulary.{ltb-true, never_behind, object_placed, page_met, phase_of, placed_at, progress}
 use Rattle.mk_laws.proofs.Vocabulary.{refl, set_by, slice_index, stage_behind, steps_of, storage_words, subst, sym}
 use Rattle.mk_laws.proofs.Vocabulary.{true, true≢false, word_met, words_made, [], ◌++◌, ◌+◌, ◌-◌, ◌/◌, ◌==◌, ◌∙◌, ◌∷◌}
-use Rattle.mk_laws.proofs.Vocabulary.{◌≡◌, ◌≢◌, ◌⊎◌}
-use Rattle.mk_laws.proofs.Basics.{Behind, InCall, KeptByEvents, Known, KnownWorld, Meets, Table, WorldBehind, at_first}
-use Rattle.mk_laws.proofs.Basics.{at_its_stage, claimed_some, ends_on_pages, holds_of_histories, known_world}
-use Rattle.mk_laws.proofs.Basics.{mapped_stays, reg_table, shows_at, tally_table, view_of, zero_unless, zero_where_none}
-use Rattle.mk_laws.proofs.CyclePhases.{phase_asked, phase_behind, phase_moves}
-use Rattle.mk_laws.proofs.ForImages.{shown_claim, standing}
-use Rattle.mk_laws.proofs.InvariantHistories.{comes_last, histories_keep_the_invariant}
-use Rattle.mk_laws.proofs.Known.{Begins, CallStep, Comes, Ends, GoesOn, Refused, Stays, Stores, call_step}
-use Rattle.mk_laws.proofs.Changes.{is_dirty}
-use Rattle.mk_laws.proofs.GuardStopped.{owes_in_call}
-use Rattle.mk_laws.proofs.InvariantJoined.{told_to_zeros}
-use Rattle.mk_laws.proofs.LayoutReadings.{free_unused}
-use Rattle.mk_laws.proofs.Protocols.{protocol_of}
-use Rattle.mk_laws.proofs.ReadingsKeptPlaces.{put_step}
+use Rattle.mk_laws.proofs.{Vocabulary.{◌≡◌, ◌≢◌, ◌⊎◌}, Basics.{Behind, InCall, KeptByEvents, Known, KnownWorld, Meets}}
+use Rattle.mk_laws.proofs.Basics.{Table, WorldBehind, at_first, at_its_stage, claimed_some, ends_on_pages}
+use Rattle.mk_laws.proofs.Basics.{holds_of_histories, known_world, mapped_stays, reg_table, shows_at, tally_table}
+use Rattle.mk_laws.proofs.{Basics.{view_of, zero_unless, zero_where_none}, CyclePhases.{phase_asked, phase_behind}}
+use Rattle.mk_laws.proofs.{CyclePhases.phase_moves, ForImages.{shown_claim, standing}}
+use Rattle.mk_laws.proofs.{InvariantHistories.{comes_last, histories_keep_the_invariant}, Known.{Begins, CallStep}}
+use Rattle.mk_laws.proofs.{Known.{Comes, Ends, GoesOn, Refused, Stays, Stores, call_step}, Changes.is_dirty}
+use Rattle.mk_laws.proofs.{GuardStopped.owes_in_call, InvariantJoined.told_to_zeros, LayoutReadings.free_unused}
+use Rattle.mk_laws.proofs.{Protocols.protocol_of, ReadingsKeptPlaces.put_step}
 use Rattle.mk_laws.specs.FreePages.{DirtyPagesHaveAllocations, FreePagesHaveNothing, HasNothing}
 
 -- Which steps bring a call to where it owes a dirty mark: a store and an exchange.

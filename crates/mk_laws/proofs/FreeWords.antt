@@ -5,12 +5,9 @@ use Rattle.mk_laws.proofs.Vocabulary.{Words, World, ℕ, all_below-at, and_parts
 use Rattle.mk_laws.proofs.Vocabulary.{is_run_unmapped, large_words, leb-true, left, ltb-true, object_placed, pages_made}
 use Rattle.mk_laws.proofs.Vocabulary.{phase_of, placed_at, run_begins, run_of_allocation, slice_index, storage_of, sym}
 use Rattle.mk_laws.proofs.Vocabulary.{true, words_are_zero, zero_scene_of, ◌%◌, ◌*◌, ◌+◌, ◌-◌, ◌/◌, ◌<◌, ◌==◌, ◌∙◌, ◌≡◌}
-use Rattle.mk_laws.proofs.Vocabulary.{◌≢◌, ◌≤◌}
-use Rattle.mk_laws.proofs.Basics.{KnownWorld, known_world, mapped_stays, none_released, zero_unless}
-use Rattle.mk_laws.proofs.InvariantHistories.{histories_keep_the_invariant}
-use Rattle.mk_laws.proofs.ForImages.{standing}
-use Rattle.mk_laws.proofs.InvariantJoined.{told_to_images}
-use Rattle.mk_laws.proofs.ReadingsStands.{not_releasing}
+use Rattle.mk_laws.proofs.{Vocabulary.{◌≢◌, ◌≤◌}, Basics.{KnownWorld, known_world, mapped_stays, none_released}}
+use Rattle.mk_laws.proofs.{Basics.zero_unless, InvariantHistories.histories_keep_the_invariant, ForImages.standing}
+use Rattle.mk_laws.proofs.{InvariantJoined.told_to_images, ReadingsStands.not_releasing}
 use Rattle.mk_core.specs.Cells.{is_in_run}
 use Rattle.mk_laws.specs.FreeWords.{UnmappedWordsAreZero, WordsOfNoneAreZero}
 

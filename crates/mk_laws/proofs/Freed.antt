@@ -11,17 +11,13 @@ use Rattle.mk_laws.proofs.Vocabulary.{inl, inr, is_run_unmapped, is_small_object
 use Rattle.mk_laws.proofs.Vocabulary.{map, mode_of, not, not-true, object_placed, pages_made, pages_some, part_cells}
 use Rattle.mk_laws.proofs.Vocabulary.{placed_at, refl, run_headed, run_of_cell, small, stands, stands_in}
 use Rattle.mk_laws.proofs.Vocabulary.{stands_in_its_cell, subst, sym, true, true≢false, unmapped_header, ◌&&◌, ◌+◌, ◌/◌}
-use Rattle.mk_laws.proofs.Vocabulary.{◌<◌, ◌==◌, ◌∙◌, ◌≡◌, ◌⊎◌}
-use Rattle.mk_laws.proofs.Serving.{Laid, among_back, among_front, among_parts, apart_across, apart_joined, apart_left}
-use Rattle.mk_laws.proofs.Serving.{apart_right, own_claim, placed_claim}
+use Rattle.mk_laws.proofs.{Vocabulary.{◌<◌, ◌==◌, ◌∙◌, ◌≡◌, ◌⊎◌}, Serving.{Laid, among_back, among_front, among_parts}}
+use Rattle.mk_laws.proofs.Serving.{apart_across, apart_joined, apart_left, apart_right, own_claim, placed_claim}
 use Rattle.mk_laws.proofs.Claims.{LeavesCells, apart_behind, cells_behind, changed_among, claim_among, claim_is}
-use Rattle.mk_laws.proofs.Claims.{was_claim}
-use Rattle.mk_laws.proofs.LayoutReadings.{one_claim}
-use Rattle.mk_laws.proofs.Released.{IsStanding, all_stand}
+use Rattle.mk_laws.proofs.{Claims.was_claim, LayoutReadings.one_claim, Released.{IsStanding, all_stand}}
 use Rattle.mk_laws.proofs.Unmapping.{layout_changed, shares_run}
 use Rattle.mk_core.proofs.CellsOfAllocations.{stands_in_no_other}
-use Rattle.mk_laws.specs.LayoutScene.{IsUnmappedHeaderOf}
-use Rattle.mk_laws.specs.Terrain.{IsCellOf}
+use Rattle.mk_laws.specs.{LayoutScene.IsUnmappedHeaderOf, Terrain.IsCellOf}
 
 -- Allocations whose claims change at most how far they are unmapped.
 

@@ -13,21 +13,14 @@ use Rattle.mk_laws.proofs.Vocabulary.{length-map, ltb-true, nothing_done, object
 use Rattle.mk_laws.proofs.Vocabulary.{pointed_cell, progress, progress_freed, refl, register_at, run_begins, run_headed}
 use Rattle.mk_laws.proofs.Vocabulary.{run_of_cell, set_by, slice_index_or, slice_set, small_heads_none, still, subst}
 use Rattle.mk_laws.proofs.Vocabulary.{sym, true, typed_size, world_behind, ◌%◌, ◌&&◌, ◌*◌, ◌+◌, ◌-◌, ◌/◌, ◌<◌, ◌∙◌, ◌≡◌}
-use Rattle.mk_laws.proofs.Vocabulary.{◌≢◌, ◌⊎◌}
-use Rattle.mk_laws.proofs.Basics.{HoldsTurn, InCall, KnownWorld, Meets, Orderly, Ready, Stands, View, actor_of, base_at}
-use Rattle.mk_laws.proofs.Basics.{flight, flight_in, not_astray, ready_of, standing, standing_at, stands_of, view_of}
-use Rattle.mk_laws.proofs.ProtocolMoves.{Takes, Works}
-use Rattle.mk_laws.proofs.Standings.{Resting, Standing, UnderTurn}
-use Rattle.mk_laws.proofs.Bases.{IsLonger}
-use Rattle.mk_laws.proofs.CallSorts.{literal}
-use Rattle.mk_laws.proofs.FramesHolders.{acts_as_holder}
-use Rattle.mk_laws.proofs.FreeMoves.{pointer_cell}
-use Rattle.mk_laws.proofs.Orderly.{holders_flight, same_holder}
-use Rattle.mk_laws.proofs.Sorts.{moves}
-use Rattle.mk_laws.specs.Mirrors.{OwnsFreedRun, PointsAtRun}
+use Rattle.mk_laws.proofs.{Vocabulary.{◌≢◌, ◌⊎◌}, Basics.{HoldsTurn, InCall, KnownWorld, Meets, Orderly, Ready, Stands}}
+use Rattle.mk_laws.proofs.Basics.{View, actor_of, base_at, flight, flight_in, not_astray, ready_of, standing}
+use Rattle.mk_laws.proofs.{Basics.{standing_at, stands_of, view_of}, ProtocolMoves.{Takes, Works}}
+use Rattle.mk_laws.proofs.{Standings.{Resting, Standing, UnderTurn}, Bases.IsLonger, CallSorts.literal}
+use Rattle.mk_laws.proofs.{FramesHolders.acts_as_holder, FreeMoves.pointer_cell, Orderly.{holders_flight, same_holder}}
+use Rattle.mk_laws.{proofs.Sorts.{moves}, specs.Mirrors.{OwnsFreedRun, PointsAtRun}}
 use Rattle.mk_never.specs.Laws.{AreNotBy}
-use Rattle.mk_core.specs.Effects.{holding_behind}
-use Rattle.mk_core.specs.Order.{is_of_any_holder}
+use Rattle.mk_core.specs.{Effects.holding_behind, Order.is_of_any_holder}
 use Rattle.mk_laws.proofs.ProtocolMoves.{Enters, Gives, GoesOn, Holds, Leaves, Move as ProtocolMove, Opens, Phases}
 
 -- Only a Free that is decided unmaps a run, and that call holds the turn.

@@ -9,16 +9,11 @@ use Rattle.mk_laws.proofs.Vocabulary.{is_phase, is_small_object, kinds_of, large
 use Rattle.mk_laws.proofs.Vocabulary.{not, not-true, object_now, object_placed, part_words, placed_at, refl}
 use Rattle.mk_laws.proofs.Vocabulary.{released_leaves, small_heads_none, stands_in, subst, sym, true, true≢false}
 use Rattle.mk_laws.proofs.Vocabulary.{with_released, words_made, words_under, ◌&&◌, ◌+◌, ◌-◌, ◌<◌, ◌^◌, ◌||◌, ◌∙◌, ◌≡◌}
-use Rattle.mk_laws.proofs.Vocabulary.{◌≢◌}
-use Rattle.mk_laws.proofs.Basics.{Before, Laid, Meets, WorldBehind, all_stand, apart_left}
+use Rattle.mk_laws.proofs.{Vocabulary.◌≢◌, Basics.{Before, Laid, Meets, WorldBehind, all_stand, apart_left}}
 use Rattle.mk_laws.proofs.FreshWords.{CountsAsBefore, fresh_kept, fresh_more, fresh_part, fresh_pushed, no_part}
-use Rattle.mk_laws.proofs.FreshWords.{none_fresh, stale_part}
-use Rattle.mk_laws.proofs.QuarantineByKind.{frees_here, shown_at}
-use Rattle.mk_laws.proofs.ForImages.{numbers_apart}
-use Rattle.mk_laws.proofs.QuarantineChanges.{FreesHere}
-use Rattle.mk_laws.proofs.SnapshotKinds.{snapshot_behind}
-use Rattle.mk_core.proofs.ObjectHeaders.{part_heads_run}
-use Rattle.mk_core.specs.Effects.{words_freed}
+use Rattle.mk_laws.proofs.{FreshWords.{none_fresh, stale_part}, QuarantineByKind.{frees_here, shown_at}}
+use Rattle.mk_laws.proofs.{ForImages.numbers_apart, QuarantineChanges.FreesHere, SnapshotKinds.snapshot_behind}
+use Rattle.mk_core.{proofs.ObjectHeaders.{part_heads_run}, specs.Effects.{words_freed}}
 
 -- The count is that of the allocations, as it stands in a word.
 abbrev pub FreshTold : Config → World → Type 0

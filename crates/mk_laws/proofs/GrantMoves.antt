@@ -9,13 +9,10 @@ use Rattle.mk_laws.proofs.Vocabulary.{leb-true, length, ltb-true, nat_le, nat_lt
 use Rattle.mk_laws.proofs.Vocabulary.{pages_made, phase_of, placed_at, pointed_cell, refl, slice_index, stands}
 use Rattle.mk_laws.proofs.Vocabulary.{storage_words, sym, true, true≢false, typed_size, unmapped_header}
 use Rattle.mk_laws.proofs.Vocabulary.{unmapped_is_unmapped, word_points, words_of, ◌&&◌, ◌*◌, ◌+◌, ◌-◌, ◌/◌, ◌<◌, ◌∙◌}
-use Rattle.mk_laws.proofs.Vocabulary.{◌≡◌, ◌≢◌, ◌≤◌}
-use Rattle.mk_laws.proofs.Basics.{KnownWorld, Stands, exists_placed, unmapped_is, words_fit, zero_unless}
-use Rattle.mk_laws.proofs.ImagesBefore.{first_in}
-use Rattle.mk_laws.proofs.ImagesStands.{is_gone}
+use Rattle.mk_laws.proofs.{Vocabulary.{◌≡◌, ◌≢◌, ◌≤◌}, Basics.{KnownWorld, Stands, exists_placed, unmapped_is}}
+use Rattle.mk_laws.proofs.{Basics.{words_fit, zero_unless}, ImagesBefore.first_in, ImagesStands.is_gone}
 use Rattle.mk_core.proofs.GrantedAllocations.{placed_headers, placed_stands}
-use Rattle.mk_core.specs.Cells.{is_in_run}
-use Rattle.mk_core.specs.TurnConditions.{is_in_gone_run, may_wipe}
+use Rattle.mk_core.specs.{Cells.is_in_run, TurnConditions.{is_in_gone_run, may_wipe}}
 use Rattle.mk_laws.specs.ImagePremises.{OfFreedRun, OfMapped, OfReleased}
 
 -- the cell of a place, by the allocation that is granted there

@@ -4,9 +4,7 @@ use Rattle.mk_laws.proofs.Vocabulary.{NoPlot, Option, Place, PlacedAllocation, R
 use Rattle.mk_laws.proofs.Vocabulary.{arith, base_made, cell_of_allocation, claim_of, claims_of, cond-false, false}
 use Rattle.mk_laws.proofs.Vocabulary.{if◌then◌else◌, inl, inr, layout_scene_of, length, object_placed, place_claim}
 use Rattle.mk_laws.proofs.Vocabulary.{placed_at, refl, suc, sym, true, zero, [], ◌++◌, ◌/◌, ◌<◌, ◌∙◌, ◌∷◌, ◌≡◌, ◌≤◌}
-use Rattle.mk_laws.proofs.Vocabulary.{◌⊎◌}
-use Rattle.mk_laws.proofs.Released.{place_index}
-use Rattle.mk_laws.proofs.Serving.{among_back, among_front}
+use Rattle.mk_laws.proofs.{Vocabulary.◌⊎◌, Released.place_index, Serving.{among_back, among_front}}
 use Rattle.mk_core.proofs.StandingAllocations.{made_begins}
 
 -- An allocation after a `grant` is one from before, or the new one.

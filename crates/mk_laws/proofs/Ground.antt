@@ -7,11 +7,8 @@ use Rattle.mk_laws.proofs.Vocabulary.{header_at, if◌then◌else◌, inl, inr, 
 use Rattle.mk_laws.proofs.Vocabulary.{marks_place, no_longer_fresh, not, not-true, nothing_done, object_made, or_cases}
 use Rattle.mk_laws.proofs.Vocabulary.{or_else, phase_of, place_now, refl, run_of_cell, slice_set, taken, takes_cell}
 use Rattle.mk_laws.proofs.Vocabulary.{target, true, unmaps, used_at, with_released, [], ◌%◌, ◌&&◌, ◌++◌, ◌/◌, ◌==◌, ◌^◌}
-use Rattle.mk_laws.proofs.Vocabulary.{◌||◌, ◌∷◌, ◌≡◌, ◌≢◌, ◌≤◌, ◌⊎◌}
-use Rattle.mk_laws.proofs.Actors.{Meets, grants_new}
-use Rattle.mk_laws.proofs.Asked.{give_phase}
-use Rattle.mk_laws.proofs.NextSteps.{at_no_take, at_take}
-use Rattle.mk_laws.proofs.OthersMoves.{WorldBehind}
+use Rattle.mk_laws.proofs.{Vocabulary.{◌||◌, ◌∷◌, ◌≡◌, ◌≢◌, ◌≤◌, ◌⊎◌}, Actors.{Meets, grants_new}, Asked.give_phase}
+use Rattle.mk_laws.proofs.{NextSteps.{at_no_take, at_take}, OthersMoves.WorldBehind}
 use Rattle.mk_core.proofs.RegisterAccesses.{register_leaves, tally_leaves}
 use Rattle.mk_core.specs.TurnConditions.{drops, may_give, may_head, may_quarantine, may_use, takes_snapshot}
 pub use Rattle.mk_core.proofs.RegisterAccesses.{LeavesTable as KeepsGround}

@@ -6,17 +6,12 @@ use Rattle.mk_laws.proofs.Vocabulary.{first_page_shows, first_word, has_no_point
 use Rattle.mk_laws.proofs.Vocabulary.{histories_keep_lengths, inl, inr, is_mapped, left, made_is_mapped, not-true}
 use Rattle.mk_laws.proofs.Vocabulary.{object_placed, pages_some, part_has_no_pointers, placed_at, storage_of, subst}
 use Rattle.mk_laws.proofs.Vocabulary.{sym, true, typed_size, word_points_well, ◌+◌, ◌-◌, ◌/◌, ◌∙◌, ◌≡◌}
-use Rattle.mk_laws.proofs.Basics.{known_left}
-use Rattle.mk_laws.proofs.GuardOneEvent.{marks_behind}
-use Rattle.mk_laws.proofs.GuardStopped.{closed}
-use Rattle.mk_laws.proofs.Known.{along_enabled}
+use Rattle.mk_laws.proofs.{Basics.known_left, GuardOneEvent.marks_behind, GuardStopped.closed, Known.along_enabled}
 use Rattle.mk_geom.specs.StorageWords.{cell_of_storage}
-use Rattle.mk_core.proofs.PointedAllocations.{marked_where_its_cell_is}
-use Rattle.mk_core.proofs.StandingAllocations.{cell_is_known}
+use Rattle.mk_core.proofs.{PointedAllocations.marked_where_its_cell_is, StandingAllocations.cell_is_known}
 use Rattle.mk_core.specs.ClosedMarks.{is_marked_allocation}
 use Rattle.mk_laws.specs.Kept.{CloseFindsMarksClosed, EventsKeepTheMarks, GuardPremisesAtFirst, MarkingGuards}
-use Rattle.mk_laws.specs.Kept.{MarksStandBehindLists, StandsMapped, StoppedMarksAreClosed}
-use Rattle.mk_laws.specs.Guard.{MarksStand}
+use Rattle.mk_laws.specs.{Kept.{MarksStandBehindLists, StandsMapped, StoppedMarksAreClosed}, Guard.MarksStand}
 
 -- Where cells are closed, so are the allocations that stand there.
 

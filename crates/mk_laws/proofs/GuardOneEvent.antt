@@ -12,26 +12,18 @@ use Rattle.mk_laws.proofs.Vocabulary.{none_attends, not, not-true, or_cases, pag
 use Rattle.mk_laws.proofs.Vocabulary.{slice_index, slice_set, subst, suc, sym, true, true≢false, word_points_well}
 use Rattle.mk_laws.proofs.Vocabulary.{words_under, zero, ◌&&◌, ◌*◌, ◌+◌, ◌/◌, ◌<◌, ◌==◌, ◌^◌, ◌∙◌, ◌≡◌, ◌≢◌, ◌≤◌, ◌⊎◌}
 use Rattle.mk_laws.proofs.Basics.{Behind, Keeps, Known, Meets, either_phase, headers_kind, is_head, marker_set}
-use Rattle.mk_laws.proofs.Basics.{over_phase, wells_from}
-use Rattle.mk_laws.proofs.Changes.{blacks_kind, dirty_kind, heap_kind, is_blackening, is_undirty, marks_kind, owed_kind}
-use Rattle.mk_laws.proofs.GuardStopped.{closed, leaves_closed, stays_closed}
-use Rattle.mk_laws.proofs.Headers.{HeadKeeps, head_keeps, no_new_cells}
+use Rattle.mk_laws.proofs.{Basics.{over_phase, wells_from}, Changes.{blacks_kind, dirty_kind, heap_kind, is_blackening}}
+use Rattle.mk_laws.proofs.{Changes.{is_undirty, marks_kind, owed_kind}, GuardStopped.{closed, leaves_closed}}
+use Rattle.mk_laws.proofs.{GuardStopped.stays_closed, Headers.{HeadKeeps, head_keeps, no_new_cells}}
 use Rattle.mk_laws.proofs.KeptGuard.{NewCellsAreGuarded, black_kept, goes_equal, marker_kept}
 use Rattle.mk_laws.proofs.Scans.{claim_stands, idle_stands, load_stands, look_stands, mark_stands, scanned_guarded}
-use Rattle.mk_laws.proofs.Scans.{seen_well, unscanning_stands, unseen_stands}
-use Rattle.mk_laws.proofs.Asked.{none_at}
-use Rattle.mk_laws.proofs.CoveredWords.{covered_word}
-use Rattle.mk_laws.proofs.FoundHeaders.{head_finds}
-use Rattle.mk_laws.proofs.IdleMarkers.{work_attends}
-use Rattle.mk_laws.proofs.Phases.{is_phase_step, phase_stays}
-use Rattle.mk_laws.proofs.Wells.{IsWell, bare_guarded}
+use Rattle.mk_laws.proofs.{Scans.{seen_well, unscanning_stands, unseen_stands}, Asked.none_at}
+use Rattle.mk_laws.proofs.{CoveredWords.covered_word, FoundHeaders.head_finds, IdleMarkers.work_attends}
+use Rattle.mk_laws.proofs.{Phases.{is_phase_step, phase_stays}, Wells.{IsWell, bare_guarded}}
 use Rattle.mk_core.proofs.WordBits.{bit_for_has, bit_of_cell, bit_of_power, bits_added, more_bits}
 use Rattle.mk_core.proofs.PointedPages.{cell_within}
-use Rattle.mk_core.specs.Accesses.{scan_bit}
-use Rattle.mk_core.specs.Cells.{words_point_well}
-use Rattle.mk_core.specs.MarkerConditions.{is_markers_word}
-use Rattle.mk_core.specs.StopConditions.{blackens}
-use Rattle.mk_core.specs.declared.seats.Presence.TheVariants.{Out}
+use Rattle.mk_core.specs.{Accesses.scan_bit, Cells.words_point_well, MarkerConditions.is_markers_word}
+use Rattle.mk_core.specs.{StopConditions.blackens, declared.seats.Presence.TheVariants.Out}
 use Rattle.mk_laws.specs.Guard.{Guard, MarksStand}
 
 -- What the markers are in the middle of stands after an event that keeps what is guarded.

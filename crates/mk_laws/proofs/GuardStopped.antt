@@ -1,26 +1,19 @@
 -- From `close` to `release` the marks stay closed: nothing changes but words that are wiped.
-use Rattle.std.proofs.Common.{bit_and}
-use Rattle.std.proofs.lemmas.Nat.Bits.{bit_at_and, bit_at_ones}
-use Rattle.std.specs.List.{list_all}
+use Rattle.std.{proofs.{Common.bit_and, lemmas.Nat.Bits.{bit_at_and, bit_at_ones}}, specs.List.{list_all}}
 use Rattle.mk_laws.proofs.Vocabulary.{AreOfPages, BlackIsGuarded, Caller, CellsAreClosed, Config, IsGuarded, Moment}
 use Rattle.mk_laws.proofs.Vocabulary.{Seat, Stage, Step, Words, ℕ, all_below, all_below-at, and_parts, ap, arith}
 use Rattle.mk_laws.proofs.Vocabulary.{cases_eq, cases_lt, cells_under, eq-eqb, eqb-true, fewer_bits, first_word}
 use Rattle.mk_laws.proofs.Vocabulary.{flight_of, get_or_past, has_bit, has_closed_page, header_at, header_in}
 use Rattle.mk_laws.proofs.Vocabulary.{holder_number, inl, inr, ltb-true, or_cases, phase_of, points_well}
 use Rattle.mk_laws.proofs.Vocabulary.{roots_point_well, slice_index, subst, sym, true, without, word_points_well, ◌<◌}
-use Rattle.mk_laws.proofs.Vocabulary.{◌==◌, ◌||◌, ◌≡◌, ◌⊎◌}
-use Rattle.mk_laws.proofs.Basics.{Behind, InCall, Known, Meets, Table, at_its_stage, at_reg, calls_stand, either_phase}
-use Rattle.mk_laws.proofs.Basics.{headers_kind, is_astray, is_call_stage, is_head, not_astray, others_held, reg_table}
-use Rattle.mk_laws.proofs.Basics.{shows_at, standing, standing_at, tally_table, view_of, wells_from}
-use Rattle.mk_laws.proofs.Changes.{at_owed, wiped}
-use Rattle.mk_laws.proofs.IdleMarkers.{work_attends}
-use Rattle.mk_laws.proofs.NextSteps.{has_stage_of_its_own, stage_of}
+use Rattle.mk_laws.proofs.{Vocabulary.{◌==◌, ◌||◌, ◌≡◌, ◌⊎◌}, Basics.{Behind, InCall, Known, Meets, Table}}
+use Rattle.mk_laws.proofs.Basics.{at_its_stage, at_reg, calls_stand, either_phase, headers_kind, is_astray}
+use Rattle.mk_laws.proofs.Basics.{is_call_stage, is_head, not_astray, others_held, reg_table, shows_at, standing}
+use Rattle.mk_laws.proofs.{Basics.{standing_at, tally_table, view_of, wells_from}, Changes.{at_owed, wiped}}
+use Rattle.mk_laws.proofs.{IdleMarkers.work_attends, NextSteps.{has_stage_of_its_own, stage_of}}
 use Rattle.mk_laws.proofs.Wells.{bare_word_well, is_well, well_is}
-use Rattle.mk_core.proofs.ListTests.{list_all-at}
-use Rattle.mk_core.proofs.MarkTests.{null_points_well}
-use Rattle.mk_core.proofs.RegisterAccesses.{tally_leaves_registers}
-use Rattle.mk_core.proofs.WordBits.{without_none}
-use Rattle.mk_core.specs.Cells.{cell_bits}
+use Rattle.mk_core.proofs.{ListTests.list_all-at, MarkTests.null_points_well, RegisterAccesses.tally_leaves_registers}
+use Rattle.mk_core.{proofs.WordBits.{without_none}, specs.Cells.{cell_bits}}
 
 -- what leaves closed marks closed
 pub record LeavesClosed (w v : Words) : Type 0 where

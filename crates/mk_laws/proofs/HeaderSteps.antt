@@ -4,8 +4,7 @@ use Rattle.mk_laws.proofs.Vocabulary.{arith, cases_eq, cases_lt, eqb-true, false
 use Rattle.mk_laws.proofs.Vocabulary.{get_or-set_same, header_at, header_in, header_of, inl, inr, is_held, is_number_of}
 use Rattle.mk_laws.proofs.Vocabulary.{is_unmapped_header, length, not, not-true, or_cases, others_are_held, set_by}
 use Rattle.mk_laws.proofs.Vocabulary.{set_past, slice_index, slice_index_or, slice_set, true, used_at, ◌<◌, ◌||◌, ◌∙◌}
-use Rattle.mk_laws.proofs.Vocabulary.{◌≡◌, ◌≢◌}
-use Rattle.mk_laws.proofs.Basics.{Behind, Meets}
+use Rattle.mk_laws.proofs.{Vocabulary.{◌≡◌, ◌≢◌}, Basics.{Behind, Meets}}
 use Rattle.mk_core.proofs.RegisterAccesses.{register_leaves, tally_leaves}
 
 -- what becomes of the pages

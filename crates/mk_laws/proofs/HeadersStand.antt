@@ -1,8 +1,6 @@
 -- Where nothing is on its way, the headers and used words are those of the unreleased storage.
-use Rattle.std.proofs.Common.{Contains, pow-suc}
-use Rattle.std.proofs.lemmas.Nat.Bits.{bit_at_above, bit_at_lowest, same_from_bits}
-use Rattle.std.proofs.lemmas.List.{get_or_default}
-use Rattle.std.proofs.lemmas.List.Elements.{Contains-get_or}
+use Rattle.std.proofs.{Common.{Contains, pow-suc}, lemmas.Nat.Bits.{bit_at_above, bit_at_lowest, same_from_bits}}
+use Rattle.std.proofs.{lemmas.List.get_or_default, lemmas.List.Elements.Contains-get_or}
 use Rattle.mk_laws.proofs.Vocabulary.{Bool, Claim, Config, HasHeader, IsClaimed, IsLaidOn, List, None, Object}
 use Rattle.mk_laws.proofs.Vocabulary.{PlacedAllocation, ShowsPart, Storage, Words, ℕ, ap, arith, bit_at, block_header}
 use Rattle.mk_laws.proofs.Vocabulary.{cases_Bool, cases_eq, cases_lt, cell_ends, cell_of_allocation, cells_of}
@@ -16,23 +14,16 @@ use Rattle.mk_laws.proofs.Vocabulary.{stands_on, storage_is_of, storage_of, stor
 use Rattle.mk_laws.proofs.Vocabulary.{true≢false, unreleased_storage, used_at, word_of, words_within, zero, [], ◌%◌}
 use Rattle.mk_laws.proofs.Vocabulary.{◌&&◌, ◌*◌, ◌+◌, ◌-◌, ◌/◌, ◌<◌, ◌^◌, ◌∙◌, ◌∷◌, ◌≡◌, ◌≤◌, ◌⊎◌}
 use Rattle.mk_laws.proofs.Apart.{Lies, Rests, index_is, lie_apart, lie_in_pairs, lies, on_its_pages, quiet_scene}
-use Rattle.mk_laws.proofs.Apart.{same_block, small_is}
-use Rattle.mk_laws.proofs.LayoutReadings.{cellless_unused, free_unused}
-use Rattle.mk_laws.proofs.Basics.{claimed, claimed_some}
-use Rattle.mk_laws.proofs.Claims.{claim_is}
-use Rattle.mk_laws.proofs.Released.{large_index}
-use Rattle.mk_laws.proofs.Unmapping.{cells_at_claim, shares_run}
-use Rattle.mk_laws.proofs.WholeRuns.{IsOn, on_claim}
-use Rattle.mk_geom.proofs.Standing.{class_of_words, stands_from}
-use Rattle.mk_geom.proofs.StoredWords.{words_at, words_by_large, words_by_small, words_free}
-use Rattle.mk_geom.proofs.TakenCells.{cell_taken_by, cell_taken_from, get_or-taken_cells, length-taken_cells}
-use Rattle.mk_geom.proofs.TakenCells.{same_from_both, same_index}
-use Rattle.mk_geom.proofs.ClassTable.{class_words_within}
-use Rattle.mk_geom.proofs.UsedWords.{bit_at-used_word}
+use Rattle.mk_laws.proofs.{Apart.{same_block, small_is}, LayoutReadings.{cellless_unused, free_unused}}
+use Rattle.mk_laws.proofs.{Basics.{claimed, claimed_some}, Claims.claim_is, Released.large_index}
+use Rattle.mk_laws.proofs.{Unmapping.{cells_at_claim, shares_run}, WholeRuns.{IsOn, on_claim}}
+use Rattle.mk_geom.proofs.{Standing.{class_of_words, stands_from}, StoredWords.{words_at, words_by_large}}
+use Rattle.mk_geom.proofs.{StoredWords.{words_by_small, words_free}, TakenCells.{cell_taken_by, cell_taken_from}}
+use Rattle.mk_geom.proofs.TakenCells.{get_or-taken_cells, length-taken_cells, same_from_both, same_index}
+use Rattle.mk_geom.proofs.{ClassTable.class_words_within, UsedWords.bit_at-used_word}
 use Rattle.mk_geom.specs.Storages.{AreLaidOut, PagesStandFor, block_page, first_page, is_cell_taken, run_page, run_used}
 use Rattle.mk_geom.specs.Storages.{taken_cells, used_word, words_of_storages}
-use Rattle.mk_core.proofs.ObjectHeaders.{large_header, small_header}
-use Rattle.mk_core.proofs.UnreleasedStorage.{has_its_storage}
+use Rattle.mk_core.proofs.{ObjectHeaders.{large_header, small_header}, UnreleasedStorage.has_its_storage}
 use Rattle.mk_core.proofs.WordBits.{bit_is_none, bit_is_one}
 
 pub laid_out : (c : Config) (w : Words) (xs : List PlacedAllocation) → Rests c w xs

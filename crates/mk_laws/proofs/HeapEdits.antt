@@ -6,10 +6,8 @@ use Rattle.mk_laws.proofs.Vocabulary.{get_or_append_left, get_or_past, image_of,
 use Rattle.mk_laws.proofs.Vocabulary.{kinds_of, length, length-map, length-set, map, map-append, never_granted}
 use Rattle.mk_laws.proofs.Vocabulary.{no_allocation, placed_at, refl, set_by, slice_index, slice_index_or, slice_set}
 use Rattle.mk_laws.proofs.Vocabulary.{suc, sym, true, with_freed, with_new, with_word, word_at, words_of, zero, []}
-use Rattle.mk_laws.proofs.Vocabulary.{◌++◌, ◌+◌, ◌<◌, ◌∙◌, ◌∷◌, ◌≡◌, ◌≢◌}
-use Rattle.mk_laws.proofs.Pairs.{image_more}
-use Rattle.mk_never.proofs.Edits.{exists}
-use Rattle.mk_never.specs.Types.{zero_of, zero_words}
+use Rattle.mk_laws.proofs.{Vocabulary.{◌++◌, ◌+◌, ◌<◌, ◌∙◌, ◌∷◌, ◌≡◌, ◌≢◌}, Pairs.image_more}
+use Rattle.mk_never.{proofs.Edits.{exists}, specs.Types.{zero_of, zero_words}}
 use Rattle.std.proofs.{Common.length-append, Math.ListN.get_or-map as get_or-map-default, lemmas.List.get_or_at}
 
 -- of each allocation the length and whether it is unmapped are the same

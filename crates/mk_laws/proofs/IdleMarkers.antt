@@ -1,8 +1,7 @@
 -- A marker that doesn't attend is in the middle of nothing, and stays so.
 use Rattle.mk_laws.proofs.Vocabulary.{Word, ℕ, and_parts, ap, behind_mlook, cases_Bool, cell_seen, false, has_next_word}
 use Rattle.mk_laws.proofs.Vocabulary.{inl, inr, is_attending, is_scanned, is_some, marker_behind, marker_may, refl, sym}
-use Rattle.mk_laws.proofs.Vocabulary.{true, ◌∙◌, ◌≡◌}
-use Rattle.mk_laws.proofs.ProtocolMoves.{IdlesOutside}
+use Rattle.mk_laws.proofs.{Vocabulary.{true, ◌∙◌, ◌≡◌}, ProtocolMoves.IdlesOutside}
 use Rattle.mk_laws.proofs.Vocabulary.{Bool, Config, IsIdle, MarkerState as Marker, None, Option, SeenHeader, Some, Step}
 
 -- what a marker has only while it attends

@@ -5,15 +5,9 @@ use Rattle.mk_laws.proofs.Vocabulary.{allocation_at, ap, arith, cases_Bool, cell
 use Rattle.mk_laws.proofs.Vocabulary.{flight_among, flight_of, header_at, image_scene_of, inl, inr, is_run_gone}
 use Rattle.mk_laws.proofs.Vocabulary.{is_unmapped, kinds_of, length, placed_at, pointed_cell, storage_holds}
 use Rattle.mk_laws.proofs.Vocabulary.{storage_words, subst, sym, true, words_of, [], ◌<◌, ◌∙◌, ◌≡◌, ◌≤◌}
-use Rattle.mk_laws.proofs.ImagesStands.{Stands, gone_shows, is_gone}
-use Rattle.mk_laws.proofs.HeapEdits.{exists_placed}
-use Rattle.mk_laws.proofs.Known.{operands_of}
-use Rattle.mk_laws.proofs.KnownWorlds.{KnownWorld}
-use Rattle.mk_laws.proofs.Orderly.{shows_at}
-use Rattle.mk_laws.proofs.Reached.{PagesShow}
-use Rattle.mk_laws.proofs.Ready.{Ready}
-use Rattle.mk_laws.proofs.Standings.{InCall, standing}
-use Rattle.mk_laws.proofs.Views.{view_of}
+use Rattle.mk_laws.proofs.{ImagesStands.{Stands, gone_shows, is_gone}, HeapEdits.exists_placed, Known.operands_of}
+use Rattle.mk_laws.proofs.{KnownWorlds.KnownWorld, Orderly.shows_at, Reached.PagesShow, Ready.Ready}
+use Rattle.mk_laws.proofs.{Standings.{InCall, standing}, Views.view_of}
 
 abbrev pub first_in : Words → Option Cell → ℕ
 first_in w (Some cell) = first_word w cell

@@ -10,16 +10,12 @@ use Rattle.mk_laws.proofs.Vocabulary.{progress_read, q_of, refl, register_at, se
 use Rattle.mk_laws.proofs.Vocabulary.{stage_behind, steps_of, subst, sym, true, true≢false, with_word, word_at}
 use Rattle.mk_laws.proofs.Vocabulary.{words_of, ◌*◌, ◌++◌, ◌+◌, ◌-◌, ◌/◌, ◌<◌, ◌==◌, ◌∙◌, ◌≡◌}
 use Rattle.mk_laws.proofs.Basics.{Move, PagesShow, Ready, Writes, either_leads, flight, goes_bare, is_astray}
-use Rattle.mk_laws.proofs.Basics.{standing_at}
-use Rattle.mk_laws.proofs.ImagesMoves.{Decides, Owes, Shares}
-use Rattle.mk_laws.proofs.Reached.{Reaches, mapped_met, of_number, reaches, sound_more, suits, unmapped_target}
-use Rattle.mk_laws.proofs.Ready.{LeadsBy, bit_is, image_test, one_right}
-use Rattle.mk_laws.proofs.Refusals.{accesses, decides_nothing, refuses}
+use Rattle.mk_laws.proofs.{Basics.standing_at, ImagesMoves.{Decides, Owes, Shares}, Reached.{Reaches, mapped_met}}
+use Rattle.mk_laws.proofs.{Reached.{of_number, reaches, sound_more, suits, unmapped_target}, Ready.{LeadsBy, bit_is}}
+use Rattle.mk_laws.proofs.{Ready.{image_test, one_right}, Refusals.{accesses, decides_nothing, refuses}}
 use Rattle.mk_laws.proofs.RegMoves.{flies_on}
-use Rattle.mk_never.proofs.Soundness.{suited_is_sound}
-use Rattle.mk_never.specs.NeverHeap.{reply_at}
-use Rattle.mk_core.specs.Calls.{progress_cas, progress_getg, value_written}
-use Rattle.mk_core.specs.Effects.{progress_probe}
+use Rattle.mk_never.{proofs.Soundness.{suited_is_sound}, specs.NeverHeap.{reply_at}}
+use Rattle.mk_core.specs.{Calls.{progress_cas, progress_getg, value_written}, Effects.progress_probe}
 use Rattle.mk_never.specs.declared.operations.Reply.TheVariants.{Num as Number, Val}
 
 -- the access of an operation, at whatever kind of word

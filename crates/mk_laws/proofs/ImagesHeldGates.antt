@@ -1,7 +1,6 @@
 -- A caller whose gate is held is between calls.
 use Rattle.mk_laws.proofs.Vocabulary.{Config, Op, Stage, ℕ, arith, at_rest, cases_lt, get_or_past, inl, inr, refl, sym}
-use Rattle.mk_laws.proofs.Vocabulary.{◌<◌, ◌≡◌, ◌≢◌}
-use Rattle.mk_laws.proofs.Basics.{Orderly, View, flight_in, gate_in, standing_at}
+use Rattle.mk_laws.proofs.{Vocabulary.{◌<◌, ◌≡◌, ◌≢◌}, Basics.{Orderly, View, flight_in, gate_in, standing_at}}
 use Rattle.mk_laws.proofs.Standings.{Resting, Shows, Standing}
 
 pub resting_idle : (o : Op) (s : Stage) → standing_at s o ≡ Resting → s ≡ Stage.Idle

@@ -6,18 +6,11 @@ use Rattle.mk_laws.proofs.Vocabulary.{Mirrors, NeverState, Null, Ptr, Value, Wor
 use Rattle.mk_laws.proofs.Vocabulary.{answers_of, ap, append-nil, append_assoc, arith, asked, at_rest, bases_of}
 use Rattle.mk_laws.proofs.Vocabulary.{call_decided, calls_from, false, first_world, image_of, left, left_from}
 use Rattle.mk_laws.proofs.Vocabulary.{left_more, map-append, refl, replies_of, sym, true, world_behind, [], ◌*◌, ◌++◌}
-use Rattle.mk_laws.proofs.Vocabulary.{◌/◌, ◌∙◌, ◌∷◌, ◌≡◌}
-use Rattle.mk_laws.proofs.Bases.{IsLonger}
-use Rattle.mk_laws.proofs.Basics.{KnownWorld, at_first, known_world}
-use Rattle.mk_laws.proofs.ImagesOneEvent.{Follows, one_event}
-use Rattle.mk_laws.proofs.Pairs.{bare_carries}
-use Rattle.mk_laws.proofs.Saying.{images_say}
-use Rattle.mk_never.proofs.Parts.{admitted_split, after_append, replies_append}
-use Rattle.mk_never.proofs.Reached.{reached_is_in}
-use Rattle.mk_never.proofs.TypedCalls.{start_is_typed}
-use Rattle.mk_never.specs.Reach.{LeadsTo}
-use Rattle.mk_core.proofs.Histories.{enabled_more}
-use Rattle.mk_core.specs.History.{never_first}
+use Rattle.mk_laws.proofs.{Vocabulary.{◌/◌, ◌∙◌, ◌∷◌, ◌≡◌}, Bases.IsLonger, Basics.{KnownWorld, at_first, known_world}}
+use Rattle.mk_laws.proofs.{ImagesOneEvent.{Follows, one_event}, Pairs.bare_carries, Saying.images_say}
+use Rattle.mk_never.proofs.{Parts.{admitted_split, after_append, replies_append}, Reached.reached_is_in}
+use Rattle.mk_never.{proofs.TypedCalls.{start_is_typed}, specs.Reach.{LeadsTo}}
+use Rattle.mk_core.{proofs.Histories.{enabled_more}, specs.History.{never_first}}
 use Rattle.mk_laws.specs.Laws.{HistoriesMirrorNever, HistoriesRefineNever, HistoriesTellOthers, ReachedIsUnreleased}
 
 -- what events leave and decide, from a world on

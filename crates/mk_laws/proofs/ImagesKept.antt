@@ -11,15 +11,12 @@ use Rattle.mk_laws.proofs.Vocabulary.{sym, true, with_freed, with_global, with_n
 use Rattle.mk_laws.proofs.Vocabulary.{words_of, [], ◌%◌, ◌*◌, ◌++◌, ◌+◌, ◌/◌, ◌<◌, ◌∙◌, ◌∷◌, ◌≡◌, ◌≢◌}
 use Rattle.mk_laws.proofs.HeapEdits.{AreAlike, freed_is, freed_was, freed_words, fresh_one, image_grown, meets_new}
 use Rattle.mk_laws.proofs.HeapEdits.{new_image, new_never, new_words, old_never, old_placed, same_base, suits_grown}
-use Rattle.mk_laws.proofs.HeapEdits.{word_elsewhere, word_other, written_alike, zero_image}
+use Rattle.mk_laws.{proofs.HeapEdits.{word_elsewhere, word_other, written_alike, zero_image}, specs.Images.{AreImages}}
 use Rattle.mk_laws.proofs.ImagesMoves.{Decides, Flies, Frees, Grants, Move, Owes, Pays, Releases, Renews, Rests, Shares}
-use Rattle.mk_laws.proofs.ImagesMoves.{Stores, Wipes, Writes, is_bare}
-use Rattle.mk_laws.proofs.Pairs.{bare_carries, bare_owes_nothing, bare_unprobed, carries_same, met_same, put_carries}
-use Rattle.mk_laws.proofs.Pairs.{set_both, shows_other, shows_owed, shows_plain}
-use Rattle.mk_laws.specs.Images.{AreImages}
-use Rattle.mk_never.proofs.Edits.{exists}
-use Rattle.mk_never.proofs.Stores.{this_word}
-use Rattle.mk_never.specs.Types.{zero_of, zero_words}
+use Rattle.mk_laws.proofs.{ImagesMoves.{Stores, Wipes, Writes, is_bare}, Pairs.{bare_carries, bare_owes_nothing}}
+use Rattle.mk_laws.proofs.Pairs.{bare_unprobed, carries_same, met_same, put_carries, set_both, shows_other, shows_owed}
+use Rattle.mk_laws.proofs.Pairs.{shows_plain}
+use Rattle.mk_never.{proofs.{Edits.exists, Stores.this_word}, specs.Types.{zero_of, zero_words}}
 use Rattle.mk_core.proofs.ChangedAllocations.{granted_at}
 pub use Rattle.mk_laws.proofs.HeapEdits.{base_at, exists_placed}
 

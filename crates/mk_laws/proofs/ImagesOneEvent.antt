@@ -9,20 +9,14 @@ use Rattle.mk_laws.proofs.Vocabulary.{kinds_of, length, length-set, map, no_allo
 use Rattle.mk_laws.proofs.Vocabulary.{placed_at, refl, replies_of, set_by, slice_index_or, slice_set, subst, suc, sym}
 use Rattle.mk_laws.proofs.Vocabulary.{true, with_freed, with_global, with_new, with_register, with_word, words_of}
 use Rattle.mk_laws.proofs.Vocabulary.{world_behind, zero, [], ◌*◌, ◌++◌, ◌+◌, ◌==◌, ◌||◌, ◌∙◌, ◌∷◌, ◌≡◌, ◌≢◌}
-use Rattle.mk_laws.proofs.Bases.{IsLonger, bases_grow}
-use Rattle.mk_laws.proofs.Basics.{Frees, Grants, KnownWorld, Move, Releases, Renews, Writes, ready_of, stands_of}
-use Rattle.mk_laws.proofs.HeapEdits.{freed_was, freed_words, fresh_one, new_never, new_words, old_never, old_placed}
-use Rattle.mk_laws.proofs.HeapEdits.{written_alike}
-use Rattle.mk_laws.proofs.ImagesMoves.{Owes, SamePlaces, Shares, Stores}
-use Rattle.mk_laws.proofs.EventSorts.{goes}
-use Rattle.mk_laws.proofs.FreedRuns.{never_after, owns}
-use Rattle.mk_laws.proofs.ImagesKept.{images_kept}
-use Rattle.mk_never.proofs.Later.{calls_stay}
-use Rattle.mk_never.proofs.TypedCalls.{calls_keep}
-use Rattle.mk_never.specs.Types.{zero_of}
+use Rattle.mk_laws.proofs.{Bases.{IsLonger, bases_grow}, Basics.{Frees, Grants, KnownWorld, Move, Releases, Renews}}
+use Rattle.mk_laws.proofs.{Basics.{Writes, ready_of, stands_of}, HeapEdits.{freed_was, freed_words, fresh_one}}
+use Rattle.mk_laws.proofs.HeapEdits.{new_never, new_words, old_never, old_placed, written_alike}
+use Rattle.mk_laws.proofs.{ImagesMoves.{Owes, SamePlaces, Shares, Stores}, EventSorts.goes}
+use Rattle.mk_laws.proofs.{FreedRuns.{never_after, owns}, ImagesKept.images_kept}
+use Rattle.mk_never.{proofs.{Later.calls_stay, TypedCalls.calls_keep}, specs.Types.{zero_of}}
 use Rattle.mk_core.proofs.ChangedAllocations.{granted_at}
-use Rattle.mk_laws.specs.Images.{AreTwins}
-use Rattle.mk_laws.specs.SafeSets.{HasSafeSet}
+use Rattle.mk_laws.specs.{Images.AreTwins, SafeSets.HasSafeSet}
 
 -- There is a safe set after each move, and the two lists of allocations still go together.
 

@@ -9,8 +9,7 @@ use Rattle.mk_laws.proofs.Vocabulary.{large_words, made_is_mapped, not, not-true
 use Rattle.mk_laws.proofs.Vocabulary.{pointed_cell, run_begins, run_of_allocation, small_pages, stands, storage_words}
 use Rattle.mk_laws.proofs.Vocabulary.{sym, true, true≢false, typed_size, unmapped_header, unmapped_is_unmapped}
 use Rattle.mk_laws.proofs.Vocabulary.{word_points, ◌&&◌, ◌*◌, ◌+◌, ◌/◌, ◌<◌, ◌==◌, ◌∙◌, ◌≡◌, ◌≢◌, ◌≤◌}
-use Rattle.mk_core.proofs.ObjectHeaders.{part_heads_run}
-use Rattle.mk_core.proofs.StandingAllocations.{cell_ends_within}
+use Rattle.mk_core.proofs.{ObjectHeaders.part_heads_run, StandingAllocations.cell_ends_within}
 use Rattle.mk_laws.specs.ImagePremises.{IsLaidOut}
 
 -- A large allocation that was freed is unmapped.

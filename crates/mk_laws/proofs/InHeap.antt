@@ -2,13 +2,10 @@
 use Rattle.mk_laws.proofs.Vocabulary.{AreEnabled, AreOfPages, Config, Event, IsWithinLimits, List, Marker, Moment, Seat}
 use Rattle.mk_laws.proofs.Vocabulary.{Step, World, ℕ, access, accessed_lengths, and_parts, enabled_meets, first_moment}
 use Rattle.mk_laws.proofs.Vocabulary.{free_page, ground_of, left, ltb-true, marker_of, nat_lt, outside, refl}
-use Rattle.mk_laws.proofs.Vocabulary.{word_accessed, zero_lengths}
-use Rattle.mk_laws.proofs.Basics.{Known, Meets, WorldBehind, at_first, marker_set}
-use Rattle.mk_laws.proofs.NewPlace.{PlacesFit, place_fits_now, places_behind}
-use Rattle.mk_laws.proofs.ScansInHeap.{MarkerFits, marker_fits_behind, nothing_fits}
-use Rattle.mk_laws.proofs.Ground.{ground_step}
-use Rattle.mk_laws.proofs.Known.{along_enabled}
-use Rattle.mk_laws.proofs.RunsInHeap.{RunsFit, runs_behind}
+use Rattle.mk_laws.proofs.{Vocabulary.{word_accessed, zero_lengths}, Basics.{Known, Meets, WorldBehind, at_first}}
+use Rattle.mk_laws.proofs.{Basics.marker_set, NewPlace.{PlacesFit, place_fits_now, places_behind}}
+use Rattle.mk_laws.proofs.{ScansInHeap.{MarkerFits, marker_fits_behind, nothing_fits}, Ground.ground_step}
+use Rattle.mk_laws.proofs.{Known.along_enabled, RunsInHeap.{RunsFit, runs_behind}}
 
 pub record InHeap (c : Config) (m : Moment) : Type 0 where
   pub lengths : AreOfPages c.pages m.words

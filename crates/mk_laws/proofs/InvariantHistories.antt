@@ -4,13 +4,9 @@ use Rattle.mk_laws.proofs.Vocabulary.{KeepsTheInvariant, List, MeetsAll, OfHisto
 use Rattle.mk_laws.proofs.Vocabulary.{asked, call_decided, calls_from, earlier_part_is_history, enabled_in_parts}
 use Rattle.mk_laws.proofs.Vocabulary.{enabled_meets, left, left_from, left_in_parts, never_behind, never_in_parts}
 use Rattle.mk_laws.proofs.Vocabulary.{true≢false, world_behind, [], ◌++◌, ◌∙◌, ◌∷◌, ◌≡◌}
-use Rattle.mk_laws.proofs.Basics.{holds_of_histories, known_world}
-use Rattle.mk_laws.proofs.GuardHistories.{marks_at_first}
-use Rattle.mk_laws.proofs.FreedRuns.{never_after}
-use Rattle.mk_laws.proofs.ImagesHistories.{first_mirrors}
-use Rattle.mk_laws.proofs.InvariantJoined.{invariant_behind}
-use Rattle.mk_laws.proofs.LayoutHistories.{in_order_at_first}
-use Rattle.mk_laws.proofs.ZerosHistories.{zeros_at_first}
+use Rattle.mk_laws.proofs.{Basics.{holds_of_histories, known_world}, GuardHistories.marks_at_first}
+use Rattle.mk_laws.proofs.{FreedRuns.never_after, ImagesHistories.first_mirrors, InvariantJoined.invariant_behind}
+use Rattle.mk_laws.proofs.{LayoutHistories.in_order_at_first, ZerosHistories.zeros_at_first}
 use Rattle.mk_laws.specs.Theorems.{EventsKeepTheInvariant, InvariantAtFirst}
 
 pub invariant_at_first : InvariantAtFirst

@@ -1,17 +1,10 @@
 -- The groups joined: what each is told in one world, and one event.
 use Rattle.mk_laws.proofs.Vocabulary.{AreAdmitted, Config, Event, ImagesSay, Invariant, IsEnabled, LayoutPremises}
 use Rattle.mk_laws.proofs.Vocabulary.{NeverState, World, asked, call_decided, enabled_meets, eqb-true, world_behind}
-use Rattle.mk_laws.proofs.Basics.{KnownWorld}
-use Rattle.mk_laws.proofs.ForImages.{say_to_images}
-use Rattle.mk_laws.proofs.FreedRuns.{never_after}
-use Rattle.mk_laws.proofs.GuardHistories.{stopped_marks_are_closed}
-use Rattle.mk_laws.proofs.GuardOneEvent.{marks_behind}
-use Rattle.mk_laws.proofs.ImagesOneEvent.{one_event}
-use Rattle.mk_laws.proofs.LayoutHistories.{order_behind}
-use Rattle.mk_laws.proofs.RunGates.{run_gates_behind}
-use Rattle.mk_laws.proofs.Saying.{images_say}
-use Rattle.mk_laws.proofs.TellGuard.{guard_in}
-use Rattle.mk_laws.proofs.TellImages.{images_tell_the_zeros}
+use Rattle.mk_laws.proofs.{Basics.KnownWorld, ForImages.say_to_images, FreedRuns.never_after}
+use Rattle.mk_laws.proofs.{GuardHistories.stopped_marks_are_closed, GuardOneEvent.marks_behind}
+use Rattle.mk_laws.proofs.{ImagesOneEvent.one_event, LayoutHistories.order_behind, RunGates.run_gates_behind}
+use Rattle.mk_laws.proofs.{Saying.images_say, TellGuard.guard_in, TellImages.images_tell_the_zeros}
 use Rattle.mk_laws.proofs.ZerosHistories.{zeros_behind}
 use Rattle.mk_laws.specs.ImagePremises as images
 use Rattle.mk_laws.specs.Kept as guard

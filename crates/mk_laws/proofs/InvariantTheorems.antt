@@ -2,17 +2,15 @@
 use Rattle.mk_laws.proofs.Vocabulary.{AreEnabledFrom, Config, Event, ImagePremisesAlong, IsHistory, List, OfHistories}
 use Rattle.mk_laws.proofs.Vocabulary.{Some, Step, cell_of_allocation, earlier_part_is_history, enabled_in_parts, left}
 use Rattle.mk_laws.proofs.Vocabulary.{placed_at, subst, sym, word_points, ◌++◌, ◌∙◌, ◌∷◌, ◌≡◌}
-use Rattle.mk_laws.proofs.Basics.{KnownWorld, known_world}
-use Rattle.mk_laws.proofs.GuardHistories.{close_finds_marks_closed, marking_guards, stopped_marks_are_closed}
+use Rattle.mk_laws.proofs.{Basics.{KnownWorld, known_world}, GuardHistories.{close_finds_marks_closed, marking_guards}}
+use Rattle.mk_laws.proofs.GuardHistories.{stopped_marks_are_closed}
 use Rattle.mk_laws.proofs.ImagesHistories.{histories_refine, reached_is_unreleased}
 use Rattle.mk_laws.proofs.InvariantJoined.{told_to_guard, told_to_images}
 use Rattle.mk_laws.proofs.Settled.{first_fit_is_the_place, headers_stand, unreleased_are_apart, unreleased_stand}
-use Rattle.mk_laws.proofs.Exchanges.{histories_compare}
-use Rattle.mk_laws.proofs.InvariantHistories.{histories_keep_the_invariant}
+use Rattle.mk_laws.proofs.{Exchanges.histories_compare, InvariantHistories.histories_keep_the_invariant}
 use Rattle.mk_laws.specs.Theorems.{PagesShowTheStorage, AllocationsAreDisjoint, AllocationsStand, ClosesFindMarksClosed}
 use Rattle.mk_laws.specs.Theorems.{FirstFitFindsThePlace, GuardsBlackCells, KeepsTheReach, MarksStayClosed}
-use Rattle.mk_core.specs.Exchanges.{ExchangesCompareValues}
-use Rattle.mk_core.specs.History.{RefinesNever}
+use Rattle.mk_core.specs.{Exchanges.ExchangesCompareValues, History.RefinesNever}
 
 world_is_known : (c : Config) (es : List Event) → IsHistory c es → KnownWorld c (left c es)
 world_is_known c es h = known_world c es h.within_limits h.enabled

@@ -3,8 +3,7 @@ use Rattle.mk_laws.proofs.Vocabulary.{BlackIsGuarded, Config, DirtyIsOwed, Heade
 use Rattle.mk_laws.proofs.Vocabulary.{PointsWell, Scan, ScanStands, Some, ℕ, arith, cases_eq, cells_under, false}
 use Rattle.mk_laws.proofs.Vocabulary.{false_from_ne_true, first_word, has_bit, has_no_pointers, header_at, header_in}
 use Rattle.mk_laws.proofs.Vocabulary.{header_of, inl, inr, refl, slice_index, sym, true, true≢false, words_under, ◌*◌}
-use Rattle.mk_laws.proofs.Vocabulary.{◌+◌, ◌/◌, ◌<◌, ◌∙◌, ◌≡◌, ◌≢◌, ◌⊎◌}
-use Rattle.mk_laws.proofs.Wells.{IsWell, is_well, well_guarded}
+use Rattle.mk_laws.proofs.{Vocabulary.{◌+◌, ◌/◌, ◌<◌, ◌∙◌, ◌≡◌, ◌≢◌, ◌⊎◌}, Wells.{IsWell, is_well, well_guarded}}
 use Rattle.mk_laws.specs.Guard.{cell_scanned}
 use Rattle.mk_laws.proofs.Vocabulary.{MarkerState as Marker, Moment, OnlyGrow, Option, OwesDirty, PageIsDirty}
 

@@ -7,15 +7,10 @@ use Rattle.mk_laws.proofs.Vocabulary.{found, g_of, has_operands, if◌then◌els
 use Rattle.mk_laws.proofs.Vocabulary.{left, left_from, ltb-true, onward, p_of, progress, progress_freed, progress_p}
 use Rattle.mk_laws.proofs.Vocabulary.{progress_q, progress_read, progress_reg, q_of, r_of, refl, refused, register_met}
 use Rattle.mk_laws.proofs.Vocabulary.{set_by, slice_index_or, true, word_accessed, world_behind, zero_lengths, [], ◌<◌}
-use Rattle.mk_laws.proofs.Vocabulary.{◌==◌, ◌∙◌, ◌∷◌, ◌≡◌, ◌≢◌, ◌≤◌, ◌⊎◌}
-use Rattle.mk_laws.proofs.OrderlyLists.{at_first, not_astray, orderly_at_first, orderly_behind}
-use Rattle.mk_laws.proofs.Standings.{in_turn_told, under_turn_is}
-use Rattle.mk_laws.proofs.Actors.{Meets}
-use Rattle.mk_laws.proofs.Orderly.{Orderly}
-use Rattle.mk_laws.proofs.SameWords.{Behind}
-use Rattle.mk_laws.proofs.Views.{HoldsTurn, view_of}
-use Rattle.mk_core.specs.Calls.{has_type}
-use Rattle.mk_core.specs.Effects.{moment_behind}
+use Rattle.mk_laws.proofs.{Vocabulary.{◌==◌, ◌∙◌, ◌∷◌, ◌≡◌, ◌≢◌, ◌≤◌, ◌⊎◌}, OrderlyLists.{at_first, not_astray}}
+use Rattle.mk_laws.proofs.{OrderlyLists.{orderly_at_first, orderly_behind}, Standings.{in_turn_told, under_turn_is}}
+use Rattle.mk_laws.proofs.{Actors.Meets, Orderly.Orderly, SameWords.Behind, Views.{HoldsTurn, view_of}}
+use Rattle.mk_core.specs.{Calls.has_type, Effects.moment_behind}
 
 -- The operands of each call in flight are in range.
 

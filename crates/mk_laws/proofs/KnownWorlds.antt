@@ -1,7 +1,6 @@
 -- All that is known of a world after an enabled list, of whatever calls.
 use Rattle.mk_laws.proofs.Vocabulary.{AreEnabled, AreOfPages, Config, Event, IsWithinLimits, List, World}
-use Rattle.mk_laws.proofs.Vocabulary.{histories_keep_lengths, left}
-use Rattle.mk_laws.proofs.Known.{Known, known_left}
+use Rattle.mk_laws.proofs.{Vocabulary.{histories_keep_lengths, left}, Known.{Known, known_left}}
 
 pub record KnownWorld (c : Config) (w : World) : Type 0 where
   pub limits : IsWithinLimits c

@@ -2,10 +2,7 @@
 use Rattle.mk_laws.proofs.Vocabulary.{Among, AreOfPages, Bool, Claim, Config, Ground, IsWithinLimits, LayoutPremises}
 use Rattle.mk_laws.proofs.Vocabulary.{Seat, Step, World, ℕ, arith, claims_on, false, ground_of, is_phase}
 use Rattle.mk_laws.proofs.Vocabulary.{is_released_in, length, ltb-true, nat_lt, object_now, true, ◌<◌, ◌≡◌}
-use Rattle.mk_laws.proofs.Known.{Known}
-use Rattle.mk_laws.proofs.OthersMoves.{WorldBehind}
-use Rattle.mk_laws.proofs.SameWords.{Keeps, reg_keeps}
-use Rattle.mk_laws.proofs.Serving.{Laid}
+use Rattle.mk_laws.proofs.{Known.Known, OthersMoves.WorldBehind, SameWords.{Keeps, reg_keeps}, Serving.Laid}
 use Rattle.mk_core.proofs.RegisterAccesses.{LeavesTable, register_leaves}
 
 -- all that is known of the world before

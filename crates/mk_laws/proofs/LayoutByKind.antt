@@ -12,21 +12,14 @@ use Rattle.mk_laws.proofs.Vocabulary.{is_used_once, length, map, marks_is, marks
 use Rattle.mk_laws.proofs.Vocabulary.{none_freed, not, object_made, object_now, or_else, place_now, placed_now}
 use Rattle.mk_laws.proofs.Vocabulary.{quarantine_step, refl, run_of_cell, seat_exists, slice_set, sym, taken, true}
 use Rattle.mk_laws.proofs.Vocabulary.{true≢false, undecided_free, undecided_new, used_step, [], ◌%◌, ◌++◌, ◌/◌, ◌<◌}
-use Rattle.mk_laws.proofs.Vocabulary.{◌==◌, ◌^◌, ◌∙◌, ◌∷◌, ◌≡◌, ◌≢◌}
-use Rattle.mk_laws.proofs.Basics.{Before, Laid, LeavesCells, Meets, WorldBehind, first_header, free_has_turn}
-use Rattle.mk_laws.proofs.Basics.{gone_terrain, grants_new, holding_object, made_sized, new_has_turn, no_run}
-use Rattle.mk_laws.proofs.Basics.{none_on_its_way, page_within, placed_undecided, reg_leaves_ground, tally_ground}
-use Rattle.mk_laws.proofs.Basics.{with_header_on, with_used_on}
-use Rattle.mk_laws.proofs.Dropped.{dropped, ended, unreleasing}
-use Rattle.mk_laws.proofs.LayoutHolders.{giver_has_turn, seat_operands}
+use Rattle.mk_laws.proofs.{Vocabulary.{◌==◌, ◌^◌, ◌∙◌, ◌∷◌, ◌≡◌, ◌≢◌}, Basics.{Before, Laid, LeavesCells, Meets}}
+use Rattle.mk_laws.proofs.Basics.{WorldBehind, first_header, free_has_turn, gone_terrain, grants_new, holding_object}
+use Rattle.mk_laws.proofs.Basics.{made_sized, new_has_turn, no_run, none_on_its_way, page_within, placed_undecided}
+use Rattle.mk_laws.proofs.Basics.{reg_leaves_ground, tally_ground, with_header_on, with_used_on}
+use Rattle.mk_laws.proofs.{Dropped.{dropped, ended, unreleasing}, LayoutHolders.{giver_has_turn, seat_operands}}
 use Rattle.mk_laws.proofs.Serving.{head_carves, head_empties, head_unmaps, mark_places, used_gives_back, used_takes}
-use Rattle.mk_laws.proofs.Claims.{cells_behind}
-use Rattle.mk_laws.proofs.Freed.{freed_terrain}
-use Rattle.mk_laws.proofs.Granted.{granted_terrain}
-use Rattle.mk_laws.proofs.Ground.{with_quarantine}
-use Rattle.mk_laws.proofs.LayoutBefore.{LaidBehind, LaidNow}
-use Rattle.mk_laws.proofs.Released.{released_terrain}
-use Rattle.mk_laws.proofs.Sorts.{chosen_none}
+use Rattle.mk_laws.proofs.{Claims.cells_behind, Freed.freed_terrain, Granted.granted_terrain, Ground.with_quarantine}
+use Rattle.mk_laws.proofs.{LayoutBefore.{LaidBehind, LaidNow}, Released.released_terrain, Sorts.chosen_none}
 use Rattle.mk_core.proofs.RegisterAccesses.{LeavesTable}
 
 -- with another quarantine word of a page

@@ -14,23 +14,14 @@ use Rattle.mk_laws.proofs.Vocabulary.{true≢false, unmapped_header, world_behin
 use Rattle.mk_laws.proofs.Basics.{Before, Known, Meets, WorldBehind, at_first, bit_cases, headed_other}
 use Rattle.mk_laws.proofs.Basics.{is_releasing_behind, known_left, made_sized, none_set, own_claim, page_within}
 use Rattle.mk_laws.proofs.Basics.{reg_leaves_ground, tally_ground, used_header, with_header_on}
-use Rattle.mk_laws.proofs.Behind.{layout_behind, phase_kind, releasing_marks}
-use Rattle.mk_laws.proofs.Known.{along_enabled}
-use Rattle.mk_laws.proofs.LayoutByKind.{off_at}
-use Rattle.mk_laws.proofs.QuarantineByKind.{quarantine_by_kind, shown_at}
-use Rattle.mk_laws.proofs.QuarantineSteps.{none_released, unmarked}
-use Rattle.mk_laws.proofs.Releasing.{headed_here}
-use Rattle.mk_laws.proofs.ResidentPages.{count_none, resident_few}
-use Rattle.mk_laws.proofs.Rooms.{room_behind}
-use Rattle.mk_laws.proofs.SnapshotKinds.{snapshot_behind}
-use Rattle.mk_laws.proofs.Unmapping.{cells_at_claim}
-use Rattle.mk_laws.proofs.WholeRuns.{whole_behind}
-use Rattle.mk_core.proofs.EvaluatedHistories.{enabled}
-use Rattle.mk_core.proofs.ObjectHeaders.{unmapped_shows}
+use Rattle.mk_laws.proofs.{Behind.{layout_behind, phase_kind, releasing_marks}, Known.along_enabled}
+use Rattle.mk_laws.proofs.{LayoutByKind.off_at, QuarantineByKind.{quarantine_by_kind, shown_at}}
+use Rattle.mk_laws.proofs.{QuarantineSteps.{none_released, unmarked}, Releasing.headed_here}
+use Rattle.mk_laws.proofs.{ResidentPages.{count_none, resident_few}, Rooms.room_behind, SnapshotKinds.snapshot_behind}
+use Rattle.mk_laws.proofs.{Unmapping.cells_at_claim, WholeRuns.whole_behind}
+use Rattle.mk_core.proofs.{EvaluatedHistories.enabled, ObjectHeaders.unmapped_shows}
 use Rattle.mk_laws.specs.LayoutLaws.{EventsKeepTheLayout, HistoriesAreLaidOut, LayoutHasFewResidentPages}
-use Rattle.mk_laws.specs.LayoutLaws.{LayoutHasHeaderWords}
-use Rattle.mk_laws.specs.Quarantine.{FreedCellsAreKnown}
-use Rattle.mk_laws.specs.Room.{HasHeaderWords}
+use Rattle.mk_laws.specs.{LayoutLaws.LayoutHasHeaderWords, Quarantine.FreedCellsAreKnown, Room.HasHeaderWords}
 
 -- Each freed bit is that of a cell of its page, after each event.
 

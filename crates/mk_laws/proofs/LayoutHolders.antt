@@ -3,13 +3,9 @@ use Rattle.mk_laws.proofs.Vocabulary.{Caller, Config, IsSized, IsWithinLimits, M
 use Rattle.mk_laws.proofs.Vocabulary.{Some, Stage, Step, arith, flight_of, has_operands, has_place, header_made}
 use Rattle.mk_laws.proofs.Vocabulary.{is_undecided_free, is_undecided_new, ltb-true, made_shows, object_made}
 use Rattle.mk_laws.proofs.Vocabulary.{object_now, pages_some, part_not_free, refl, seat_exists, sym, true, ◌-◌, ◌∙◌}
-use Rattle.mk_laws.proofs.Vocabulary.{◌≡◌, ◌≢◌}
-use Rattle.mk_laws.proofs.Actors.{Actor, AsHolder, AsMarker, InCallOf, Meets, is_holders}
-use Rattle.mk_laws.proofs.Views.{HoldsTurn, flight_is, view_of}
-use Rattle.mk_laws.proofs.Known.{Known}
-use Rattle.mk_laws.proofs.Orderly.{holders_flight}
-use Rattle.mk_laws.proofs.OrderlyLists.{actor_of}
-use Rattle.mk_laws.proofs.Stages.{new_stands}
+use Rattle.mk_laws.proofs.{Vocabulary.{◌≡◌, ◌≢◌}, Actors.{Actor, AsHolder, AsMarker, InCallOf, Meets, is_holders}}
+use Rattle.mk_laws.proofs.{Views.{HoldsTurn, flight_is, view_of}, Known.Known, Orderly.holders_flight}
+use Rattle.mk_laws.proofs.{OrderlyLists.actor_of, Stages.new_stands}
 use Rattle.mk_core.proofs.GrantedAllocations.{new_sized}
 
 pub new_has_turn : (c : Config) (m : Moment) (seat : Seat) → seat_exists c seat ≡ true

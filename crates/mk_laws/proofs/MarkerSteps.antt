@@ -8,14 +8,10 @@ use Rattle.mk_laws.proofs.Vocabulary.{if◌then◌else◌, inl, inr, is_heap_add
 use Rattle.mk_laws.proofs.Vocabulary.{marker_behind, marker_of, nat_lt, next_word, none-some, page_at_address}
 use Rattle.mk_laws.proofs.Vocabulary.{placed_at, refl, same_Some, scan_begun, scan_claimed, scan_onward, slice_index}
 use Rattle.mk_laws.proofs.Vocabulary.{storage_of, subst, sym, true, ◌&&◌, ◌+◌, ◌-◌, ◌<◌, ◌==◌, ◌∙◌, ◌≡◌, ◌≢◌, ◌≤◌}
-use Rattle.mk_laws.proofs.NoLeaves.{no_leaf_behind, scanned_has_none}
-use Rattle.mk_laws.proofs.Precise.{HasNoLeaf, IsPrecise, MarkerIsPrecise, PointsOnlyInto, PrecisionScene, Steps}
-use Rattle.mk_laws.proofs.Precise.{precision_scene_of}
-use Rattle.mk_laws.proofs.Worlds.{IsHeld, Told, headers, held, stands}
-use Rattle.mk_laws.proofs.Basics.{WorldBehind, marker_set}
-use Rattle.mk_laws.proofs.CoveredWords.{has_cell}
-use Rattle.mk_laws.proofs.MarkSteps.{points_behind}
-use Rattle.mk_laws.specs.Guard.{EndsItsCell, cell_scanned}
+use Rattle.mk_laws.proofs.{NoLeaves.{no_leaf_behind, scanned_has_none}, Precise.{HasNoLeaf, IsPrecise, MarkerIsPrecise}}
+use Rattle.mk_laws.proofs.{Precise.{PointsOnlyInto, PrecisionScene, Steps, precision_scene_of}, Worlds.{IsHeld, Told}}
+use Rattle.mk_laws.proofs.{Worlds.{headers, held, stands}, Basics.{WorldBehind, marker_set}, CoveredWords.has_cell}
+use Rattle.mk_laws.{proofs.MarkSteps.{points_behind}, specs.Guard.{EndsItsCell, cell_scanned}}
 use Rattle.mk_core.specs.Effects.{hand_behind_look, open_hand}
 
 -- A marker that is in the middle of nothing holds and has seen nothing.

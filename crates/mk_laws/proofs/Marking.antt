@@ -4,12 +4,9 @@ use Rattle.mk_laws.proofs.Vocabulary.{ℕ, ap, append-nil, append_assoc, arith, 
 use Rattle.mk_laws.proofs.Vocabulary.{enabled_in_parts, enabled_meets, eqb-true, false, flight_of, inl, is_begin}
 use Rattle.mk_laws.proofs.Vocabulary.{is_close, is_release, left, left_more, list_any, never_behind, or_from, or_parts}
 use Rattle.mk_laws.proofs.Vocabulary.{refl, subst, sym, through, world_behind, [], ◌++◌, ◌∙◌, ◌∷◌, ◌≡◌}
-use Rattle.mk_laws.proofs.Basics.{Meets, WorldBehind, begin_is, known_world}
-use Rattle.mk_laws.proofs.OneStep.{precise_begun, precise_behind}
-use Rattle.mk_laws.proofs.Precise.{IsClosedIn, IsPrecise, Steps}
-use Rattle.mk_laws.proofs.InvariantHistories.{histories_keep_the_invariant}
-use Rattle.mk_laws.proofs.PhaseSteps.{marking_goes_on}
-use Rattle.mk_laws.proofs.Worlds.{Told}
+use Rattle.mk_laws.proofs.{Basics.{Meets, WorldBehind, begin_is, known_world}, OneStep.{precise_begun, precise_behind}}
+use Rattle.mk_laws.proofs.{Precise.{IsClosedIn, IsPrecise, Steps}, InvariantHistories.histories_keep_the_invariant}
+use Rattle.mk_laws.proofs.{PhaseSteps.marking_goes_on, Worlds.Told}
 use Rattle.mk_core.specs.Touched.{IsTouched, LeadsToMoment, by_global, by_register, by_word}
 use Rattle.mk_core.specs.Cycles.{NoneSweepsFrom, sweeps}
 

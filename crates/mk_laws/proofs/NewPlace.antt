@@ -7,14 +7,9 @@ use Rattle.mk_laws.proofs.Vocabulary.{inl, inr, is_new_at, is_small_object, is_u
 use Rattle.mk_laws.proofs.Vocabulary.{none-some, object_made, place_by_placing, place_now, refl, run_pages_of, set_by}
 use Rattle.mk_laws.proofs.Vocabulary.{slice_index_or, slice_set, sym, taken, true, ◌+◌, ◌<◌, ◌∙◌, ◌≡◌, ◌≤◌, ◌⊎◌}
 use Rattle.mk_laws.proofs.Ground.{Carves, Gives, Grants, GroundStep, Places, Starts, TakesCell, Unmaps, ground_step}
-use Rattle.mk_laws.proofs.OrderlyLists.{event_moves}
-use Rattle.mk_laws.proofs.Standings.{InCall, UnderTurn, standing}
-use Rattle.mk_laws.proofs.Views.{View, flight_at, flight_in, flights_with, view_of}
-use Rattle.mk_laws.proofs.Actors.{Meets}
-use Rattle.mk_laws.proofs.Known.{Known}
-use Rattle.mk_laws.proofs.Orderly.{same_holder}
-use Rattle.mk_laws.proofs.OthersMoves.{WorldBehind}
-use Rattle.mk_laws.proofs.Stages.{new_stands}
+use Rattle.mk_laws.proofs.{OrderlyLists.event_moves, Standings.{InCall, UnderTurn, standing}, Views.{View, flight_at}}
+use Rattle.mk_laws.proofs.{Views.{flight_in, flights_with, view_of}, Actors.Meets, Known.Known, Orderly.same_holder}
+use Rattle.mk_laws.proofs.{OthersMoves.WorldBehind, Stages.new_stands}
 use Rattle.mk_geom.proofs.FirstFit.{run_place_is}
 use Rattle.mk_laws.proofs.ProtocolMoves.{Enters, Gives as GivesTurn, GoesOn, Leaves, Move, Takes, Works}
 use Rattle.mk_laws.proofs.Services.{Goes, Loads, Places as PlacesNew, Service}

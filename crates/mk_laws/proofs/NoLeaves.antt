@@ -6,10 +6,9 @@ use Rattle.mk_laws.proofs.Vocabulary.{has_no_pointers, head_step, header_at, hea
 use Rattle.mk_laws.proofs.Vocabulary.{inr, is_leaf_header, is_mapped, is_unmapped_header, large_count, length}
 use Rattle.mk_laws.proofs.Vocabulary.{made_is_mapped, object_made, object_placed, or_parts, pages_some}
 use Rattle.mk_laws.proofs.Vocabulary.{part_has_no_pointers, placed_at, refl, set_by, shown, storage_of, subst, sym}
-use Rattle.mk_laws.proofs.Vocabulary.{true, unmapped_is_unmapped, ◌+◌, ◌-◌, ◌/◌, ◌∙◌, ◌≡◌, ◌≢◌}
-use Rattle.mk_laws.proofs.Basics.{Came, IsNew, Meets, Stayed, WorldBehind, headers_kind, is_head}
-use Rattle.mk_laws.proofs.Precise.{HasNoLeaf, Steps, came_behind, precision_scene_of, same_leaf}
-use Rattle.mk_laws.proofs.InvariantJoined.{told_to_guard}
+use Rattle.mk_laws.proofs.{Vocabulary.{true, unmapped_is_unmapped, ◌+◌, ◌-◌, ◌/◌, ◌∙◌, ◌≡◌, ◌≢◌}, Basics.{Came, IsNew}}
+use Rattle.mk_laws.proofs.{Basics.{Meets, Stayed, WorldBehind, headers_kind, is_head}, Precise.{HasNoLeaf, Steps}}
+use Rattle.mk_laws.proofs.{Precise.{came_behind, precision_scene_of, same_leaf}, InvariantJoined.told_to_guard}
 use Rattle.mk_laws.proofs.Worlds.{Told, headers, not_leaf, sized}
 use Rattle.mk_core.proofs.ChangedAllocations.{granted_at}
 

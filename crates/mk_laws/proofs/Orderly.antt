@@ -1,15 +1,13 @@
 -- All is in order: what each move keeps, by what the protocol reads.
-use Rattle.std.proofs.Common.{count_by}
-use Rattle.std.proofs.lemmas.List.Sums.{count_by-le-length, sum_by-set}
+use Rattle.std.proofs.{Common.count_by, lemmas.List.Sums.{count_by-le-length, sum_by-set}}
 use Rattle.mk_laws.proofs.Vocabulary.{Caller, Config, Flight, List, MarkerState, Seat, ℕ, arith, at_rest, cases_eq}
 use Rattle.mk_laws.proofs.Vocabulary.{cases_lt, cond, false, get_or-set_other, get_or-set_same, get_or_past}
 use Rattle.mk_laws.proofs.Vocabulary.{holder_number, inl, inr, is_attending, is_in, length, length-set, nothing_done}
 use Rattle.mk_laws.proofs.Vocabulary.{outside, refl, set_by, set_past, slice_index, slice_index_or, slice_set, sym}
 use Rattle.mk_laws.proofs.Vocabulary.{true, ◌%◌, ◌*◌, ◌+◌, ◌-◌, ◌<◌, ◌^◌, ◌≡◌, ◌≢◌, ◌≤◌, ◌⊎◌}
-use Rattle.mk_laws.proofs.Standings.{Resting, Shows, Standing, UnderTurn, standing}
-use Rattle.mk_laws.proofs.Views.{HoldsTurn, View, flight_at, flight_in, flights_with, gate_in, marker_in}
-use Rattle.mk_laws.proofs.ProtocolMoves.{IdlesOutside, MayTake}
-use Rattle.mk_laws.proofs.Services.{Served}
+use Rattle.mk_laws.proofs.{Standings.{Resting, Shows, Standing, UnderTurn, standing}, Views.{HoldsTurn, View}}
+use Rattle.mk_laws.proofs.Views.{flight_at, flight_in, flights_with, gate_in, marker_in}
+use Rattle.mk_laws.proofs.{ProtocolMoves.{IdlesOutside, MayTake}, Services.Served}
 
 -- The markers that are in, and the numbers of the phase word.
 

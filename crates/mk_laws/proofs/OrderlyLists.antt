@@ -1,17 +1,10 @@
 -- All is in order after every enabled list.
-use Rattle.std.proofs.Common.{replicate}
-use Rattle.std.proofs.lemmas.List.{get_or-replicate, length-replicate}
+use Rattle.std.proofs.{Common.replicate, lemmas.List.{get_or-replicate, length-replicate}}
 use Rattle.mk_laws.proofs.Vocabulary.{cases_lt, false, first_moment, flight_of, get_or_past, inl, inr, is_attending}
 use Rattle.mk_laws.proofs.Vocabulary.{outside, refl, slice_index_or, sym, true, ◌<◌, ◌∙◌, ◌≡◌, ◌≤◌}
-use Rattle.mk_laws.proofs.Standings.{is_astray, shown_not_astray, standing}
-use Rattle.mk_laws.proofs.Actors.{Actor, Meets, acts}
-use Rattle.mk_laws.proofs.Orderly.{Orderly}
-use Rattle.mk_laws.proofs.ProtocolKept.{kept}
-use Rattle.mk_laws.proofs.ProtocolMoves.{Move}
-use Rattle.mk_laws.proofs.SameWords.{Behind}
-use Rattle.mk_laws.proofs.Services.{nothing_served}
-use Rattle.mk_laws.proofs.Sorts.{moves}
-use Rattle.mk_laws.proofs.Views.{view_of}
+use Rattle.mk_laws.proofs.{Standings.{is_astray, shown_not_astray, standing}, Actors.{Actor, Meets, acts}}
+use Rattle.mk_laws.proofs.{Orderly.Orderly, ProtocolKept.kept, ProtocolMoves.Move, SameWords.Behind}
+use Rattle.mk_laws.proofs.{Services.nothing_served, Sorts.moves, Views.view_of}
 use Rattle.mk_laws.proofs.Vocabulary.{Caller, Config, MarkerState as Marker, Moment, Seat, Step, ℕ, ap, arith, at_rest}
 
 -- no call is astray, so each event is someone's

@@ -1,13 +1,11 @@
 -- While a seat holds the turn, no other ends a cycle, and none is answered Full.
-use Rattle.std.proofs.Common.{count_by}
-use Rattle.std.proofs.lemmas.List.Sums.{sum_by-append}
+use Rattle.std.proofs.{Common.count_by, lemmas.List.Sums.sum_by-append}
 use Rattle.mk_laws.proofs.Vocabulary.{Answer, Bool, Caller, Config, Decided, Flight, Group, List, Moment, None, Op}
 use Rattle.mk_laws.proofs.Vocabulary.{Option, Progress, Seat, Some, Stage, Step, ℕ, answer_decided, answered, begun}
 use Rattle.mk_laws.proofs.Vocabulary.{cond, entry_of, false, flight_of, found, group_of, header_of, if◌then◌else◌}
 use Rattle.mk_laws.proofs.Vocabulary.{is_end, is_some_and, is_unmapped_header, map-append, onward, progress, progress_p}
 use Rattle.mk_laws.proofs.Vocabulary.{progress_q, progress_read, progress_reg, refl, refused, still, true, ◌++◌, ◌+◌}
-use Rattle.mk_laws.proofs.Vocabulary.{◌==◌, ◌≡◌}
-use Rattle.mk_laws.proofs.Basics.{Actor, AsHolder, AsMarker, HoldsTurn, InCallOf, view_of}
+use Rattle.mk_laws.proofs.{Vocabulary.{◌==◌, ◌≡◌}, Basics.{Actor, AsHolder, AsMarker, HoldsTurn, InCallOf, view_of}}
 use Rattle.mk_laws.proofs.Actors.{CallTakes, HostTakes}
 use Rattle.mk_core.specs.Counts.{is_full_answer}
 

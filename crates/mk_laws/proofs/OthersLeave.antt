@@ -4,14 +4,10 @@ use Rattle.mk_laws.proofs.Vocabulary.{GuardPremisesFrom, IsMarking, IsWithinLimi
 use Rattle.mk_laws.proofs.Vocabulary.{Steady, Step, World, access, accessed_lengths, ap, enabled_meets, enabled_parts}
 use Rattle.mk_laws.proofs.Vocabulary.{false, first_world, free_page, histories_keep_lengths, left, left_append}
 use Rattle.mk_laws.proofs.Vocabulary.{left_from, refl, slice_index_or, sym, word_accessed, world_behind, [], ◌++◌, ◌∙◌}
-use Rattle.mk_laws.proofs.Vocabulary.{◌∷◌, ◌≡◌}
-use Rattle.mk_laws.proofs.Basics.{Known, Meets, WorldBehind, headers_kind, is_head, known_behind, known_left}
-use Rattle.mk_laws.proofs.Basics.{wells_from}
-use Rattle.mk_laws.proofs.ProtocolFrames.{left_after, other_seat, others_leave, still_attends}
-use Rattle.mk_laws.proofs.Wells.{is_well, well_is}
-use Rattle.mk_laws.proofs.Changes.{marks_kind}
-use Rattle.mk_laws.proofs.FoundHeaders.{head_finds}
-use Rattle.mk_laws.proofs.Headers.{head_keeps}
+use Rattle.mk_laws.proofs.{Vocabulary.{◌∷◌, ◌≡◌}, Basics.{Known, Meets, WorldBehind, headers_kind, is_head}}
+use Rattle.mk_laws.proofs.{Basics.{known_behind, known_left, wells_from}, ProtocolFrames.{left_after, other_seat}}
+use Rattle.mk_laws.proofs.{ProtocolFrames.{others_leave, still_attends}, Wells.{is_well, well_is}, Changes.marks_kind}
+use Rattle.mk_laws.proofs.{FoundHeaders.head_finds, Headers.head_keeps}
 use Rattle.mk_core.specs.Frames.{Attends, HeadersAreLeft}
 use Rattle.mk_laws.specs.Left.{OthersLeaveHeaders, OthersLeaveWells}
 

@@ -6,15 +6,11 @@ use Rattle.mk_laws.proofs.Vocabulary.{if◌then◌else◌, inl, inr, is_attendin
 use Rattle.mk_laws.proofs.Vocabulary.{reg_access, register_met, set-get_or, slice_index, slice_set, still, sym, true}
 use Rattle.mk_laws.proofs.Vocabulary.{true≢false, world_behind, ◌%◌, ◌*◌, ◌+◌, ◌-◌, ◌<◌, ◌^◌, ◌∙◌, ◌≡◌, ◌≢◌, ◌≤◌}
 use Rattle.mk_laws.proofs.Actors.{Actor, AsHolder, AsMarker, CallTakes, HostTakes, InCallOf, Meets}
-use Rattle.mk_laws.proofs.Known.{Known, Operands, operands_of, register_small}
-use Rattle.mk_laws.proofs.NextSteps.{at_its_stage, at_reg, has_stage_of_its_own, is_take, stage_of}
-use Rattle.mk_laws.proofs.Stages.{calls_stand, is_call_stage, is_reg_stage, regs_work}
-use Rattle.mk_laws.proofs.IdleMarkers.{look_stays, work_attends}
-use Rattle.mk_laws.proofs.Orderly.{count_in-at, shows_at, turn_of}
-use Rattle.mk_laws.proofs.OrderlyLists.{actor_of, not_astray}
-use Rattle.mk_laws.proofs.Sorts.{attends_at}
-use Rattle.mk_laws.proofs.Standings.{InCall, is_astray, standing}
-use Rattle.mk_laws.proofs.Views.{HoldsTurn, view_of}
+use Rattle.mk_laws.proofs.{Known.{Known, Operands, operands_of, register_small}, NextSteps.{at_its_stage, at_reg}}
+use Rattle.mk_laws.proofs.{NextSteps.{has_stage_of_its_own, is_take, stage_of}, Stages.{calls_stand, is_call_stage}}
+use Rattle.mk_laws.proofs.{Stages.{is_reg_stage, regs_work}, IdleMarkers.{look_stays, work_attends}}
+use Rattle.mk_laws.proofs.{Orderly.{count_in-at, shows_at, turn_of}, OrderlyLists.{actor_of, not_astray}}
+use Rattle.mk_laws.proofs.{Sorts.attends_at, Standings.{InCall, is_astray, standing}, Views.{HoldsTurn, view_of}}
 use Rattle.mk_core.specs.Moments.{Seats}
 
 -- the words and the seats of a world are others

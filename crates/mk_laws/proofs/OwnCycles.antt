@@ -3,12 +3,10 @@ use Rattle.std.specs.Prelude.{⊤}
 use Rattle.mk_laws.proofs.Vocabulary.{At, Bool, Config, Cycle, Event, Holding, List, Marking, OwnCycle, Releasing, Seat}
 use Rattle.mk_laws.proofs.Vocabulary.{Step, World, ℕ, arith, eqb-true, false, if◌then◌else◌, inl, inr, is_begin}
 use Rattle.mk_laws.proofs.Vocabulary.{is_close, is_end, is_release, list_any, nothing_done, phase_of, refl, subst, sym}
-use Rattle.mk_laws.proofs.Vocabulary.{true, [], ◌++◌, ◌∙◌, ◌∷◌, ◌≡◌, ◌⊎◌}
-use Rattle.mk_laws.proofs.Longer.{longer_at, longer_cycle, longer_marking, longer_releasing, next_at_end, none_more}
-use Rattle.mk_laws.proofs.Basics.{Meets, WorldBehind, reg_leaves, tally_keeps}
-use Rattle.mk_laws.proofs.Phases.{over_phase}
-use Rattle.mk_core.specs.declared.seats.OwnCycle.TheVariants.{Begun, Ended, NotBegun}
-use Rattle.mk_core.specs.Effects.{cycle_ended}
+use Rattle.mk_laws.proofs.{Vocabulary.{true, [], ◌++◌, ◌∙◌, ◌∷◌, ◌≡◌, ◌⊎◌}, Longer.{longer_at, longer_cycle}}
+use Rattle.mk_laws.proofs.Longer.{longer_marking, longer_releasing, next_at_end, none_more}
+use Rattle.mk_laws.proofs.{Basics.{Meets, WorldBehind, reg_leaves, tally_keeps}, Phases.over_phase}
+use Rattle.mk_core.specs.{declared.seats.OwnCycle.TheVariants.{Begun, Ended, NotBegun}, Effects.cycle_ended}
 
 -- some event of the kind
 abbrev pub some_of : (Step → Bool) → List Event → Bool

@@ -4,8 +4,7 @@ use Rattle.mk_laws.proofs.Vocabulary.{Carries, Flight, IsMet, IsSound, List, Nev
 use Rattle.mk_laws.proofs.Vocabulary.{address_of, allocation_at, ap, arith, cases_eq, d_of, eq-eqb, false, get_or}
 use Rattle.mk_laws.proofs.Vocabulary.{get_or-set_other, get_or-set_same, get_or_append_left, image_of, inl, inr}
 use Rattle.mk_laws.proofs.Vocabulary.{is_past_probe, is_put, is_unmapped, length, ne_eqb, refl, shown, true, words_of}
-use Rattle.mk_laws.proofs.Vocabulary.{◌++◌, ◌+◌, ◌<◌, ◌≡◌, ◌≢◌}
-use Rattle.mk_laws.proofs.ImagesMoves.{is_bare}
+use Rattle.mk_laws.proofs.{Vocabulary.{◌++◌, ◌+◌, ◌<◌, ◌≡◌, ◌≢◌}, ImagesMoves.is_bare}
 
 pub set_both : {A B : Type 0} (P : A → B → Type 0) (xs : List A) (ys : List B) (k i : ℕ) (x dx : A) (y dy : B)
     → k < length xs → k < length ys → (i ≡ k → P x y) → (i ≢ k → P (get_or xs i dx) (get_or ys i dy))

@@ -5,15 +5,11 @@ use Rattle.mk_laws.proofs.Vocabulary.{Option, OwnCycle, Page, Place, Placing, Se
 use Rattle.mk_laws.proofs.Vocabulary.{ℕ, ap, arith, eqb-true, false, flight_of, granted_base, is_none, is_phase}
 use Rattle.mk_laws.proofs.Vocabulary.{is_undecided_new, is_used_once, left, may_answer_full, ne_eqb, phase_of}
 use Rattle.mk_laws.proofs.Vocabulary.{place_on_pages, refl, subst, sym, true, ◌++◌, ◌<◌, ◌∙◌, ◌∷◌, ◌≡◌}
-use Rattle.mk_laws.proofs.Basics.{Meets, before_it, grants_new, held_place, new_holds}
-use Rattle.mk_laws.proofs.Actors.{fills_new}
-use Rattle.mk_laws.proofs.InvariantTheorems.{first_fit_finds_the_place}
-use Rattle.mk_laws.proofs.OwnCycles.{HasCycle}
-use Rattle.mk_laws.proofs.Tracked.{HasPlace, news_are_tracked, unplaced_settles}
-use Rattle.mk_laws.proofs.Undecided.{HasNew}
+use Rattle.mk_laws.proofs.{Basics.{Meets, before_it, grants_new, held_place, new_holds}, Actors.fills_new}
+use Rattle.mk_laws.proofs.{InvariantTheorems.first_fit_finds_the_place, OwnCycles.HasCycle}
+use Rattle.mk_laws.proofs.{Tracked.{HasPlace, news_are_tracked, unplaced_settles}, Undecided.HasNew}
 use Rattle.mk_core.specs.Placement.{FindsNoPlace, FullsFitNowhere, GrantsStandAtTheirPlaces, StandsAtItsPlace}
-use Rattle.mk_core.specs.Placement.{object_at}
-use Rattle.mk_core.specs.declared.seats.OwnCycle.TheVariants.{Ended}
+use Rattle.mk_core.specs.{Placement.object_at, declared.seats.OwnCycle.TheVariants.Ended}
 
 -- What holds where a caller with an undecided New makes a step of this kind holds where any seat makes it.
 at_each : (c : Config) (x : Step) (claim : List Event → Seat → Type 0)

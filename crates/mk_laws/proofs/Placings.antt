@@ -8,16 +8,11 @@ use Rattle.mk_laws.proofs.Vocabulary.{get_or-set_same, if◌then◌else◌, inl,
 use Rattle.mk_laws.proofs.Vocabulary.{is_used_once, marks_is, marks_place, ne_eqb, not, object_made, or_cases, phase_of}
 use Rattle.mk_laws.proofs.Vocabulary.{place_now, place_on_pages, placed_now, progress, refl, subst, sym, taken}
 use Rattle.mk_laws.proofs.Vocabulary.{takes_cell, true, true≢false, undecided_new, unmaps, ◌&&◌, ◌<◌, ◌==◌, ◌||◌, ◌∙◌}
-use Rattle.mk_laws.proofs.Vocabulary.{◌≡◌, ◌≢◌}
-use Rattle.mk_laws.proofs.Basics.{HoldsTurn, Known, Meets, WorldBehind, at_no_take, held_place, new_has_turn}
-use Rattle.mk_laws.proofs.Basics.{none_on_its_way, same_holder, turn_of, view_of}
-use Rattle.mk_laws.proofs.Undecided.{HasNew, new_holds_turn, new_object}
-use Rattle.mk_laws.proofs.NewPlace.{give_no_new}
-use Rattle.mk_laws.proofs.NextSteps.{at_take}
-use Rattle.mk_laws.proofs.OthersMoves.{others_move}
-use Rattle.mk_laws.proofs.TurnFrame.{holding_out}
-use Rattle.mk_core.proofs.ServingSteps.{carves_is, takes_is}
-use Rattle.mk_core.specs.Placement.{serves}
+use Rattle.mk_laws.proofs.{Vocabulary.{◌≡◌, ◌≢◌}, Basics.{HoldsTurn, Known, Meets, WorldBehind, at_no_take, held_place}}
+use Rattle.mk_laws.proofs.Basics.{new_has_turn, none_on_its_way, same_holder, turn_of, view_of}
+use Rattle.mk_laws.proofs.{Undecided.{HasNew, new_holds_turn, new_object}, NewPlace.give_no_new, NextSteps.at_take}
+use Rattle.mk_laws.proofs.{OthersMoves.others_move, TurnFrame.holding_out}
+use Rattle.mk_core.{proofs.ServingSteps.{carves_is, takes_is}, specs.Placement.{serves}}
 
 -- the tests of a step that serves, where the place of now is this one
 

@@ -6,20 +6,14 @@ use Rattle.mk_laws.proofs.Vocabulary.{arith, before_release, cases_lt, earlier_p
 use Rattle.mk_laws.proofs.Vocabulary.{inr, is_end, is_small, left, not, not-true, or_from, phase_of, placed_at, refl}
 use Rattle.mk_laws.proofs.Vocabulary.{standing_has_storage, stands_on, storage_is_of, storage_of, storage_words, subst}
 use Rattle.mk_laws.proofs.Vocabulary.{sym, through_release, true, unreleased_storage, [], ◌%◌, ◌*◌, ◌++◌, ◌+◌, ◌==◌}
-use Rattle.mk_laws.proofs.Vocabulary.{◌∙◌, ◌∷◌, ◌≡◌, ◌≤◌}
-use Rattle.mk_laws.proofs.Basics.{WorldBehind, begin_is, is_grant, release_is}
+use Rattle.mk_laws.proofs.{Vocabulary.{◌∙◌, ◌∷◌, ◌≡◌, ◌≤◌}, Basics.{WorldBehind, begin_is, is_grant, release_is}}
 use Rattle.mk_laws.proofs.OlderAllocations.{AreOlder, IsKept, kept_along, older_behind, older_joined, older_same}
-use Rattle.mk_laws.proofs.Precise.{same_word, same_words}
-use Rattle.mk_laws.proofs.PrecisionStopped.{AtRelease, at_the_release, last_begin, releases_the_untouched}
-use Rattle.mk_laws.proofs.Stretches.{along_without, at_end, at_release, history_through}
-use Rattle.mk_laws.proofs.AllocationSteps.{is_there}
-use Rattle.mk_laws.proofs.InvariantTheorems.{allocations_are_disjoint}
-use Rattle.mk_laws.proofs.Marking.{one_more, told}
-use Rattle.mk_laws.proofs.PhaseSteps.{releasing_waits}
-use Rattle.mk_laws.proofs.ProtocolStepKinds.{end_is}
-use Rattle.mk_laws.proofs.Worlds.{stands}
-use Rattle.mk_geom.proofs.Standing.{has_words, large_is_run, stands_parts}
-use Rattle.mk_geom.proofs.ListSearch.{find_cases, list_any_found}
+use Rattle.mk_laws.proofs.{Precise.{same_word, same_words}, PrecisionStopped.{AtRelease, at_the_release, last_begin}}
+use Rattle.mk_laws.proofs.{PrecisionStopped.releases_the_untouched, Stretches.{along_without, at_end, at_release}}
+use Rattle.mk_laws.proofs.{Stretches.history_through, AllocationSteps.is_there}
+use Rattle.mk_laws.proofs.{InvariantTheorems.allocations_are_disjoint, Marking.{one_more, told}}
+use Rattle.mk_laws.proofs.{PhaseSteps.releasing_waits, ProtocolStepKinds.end_is, Worlds.stands}
+use Rattle.mk_geom.proofs.{Standing.{has_words, large_is_run, stands_parts}, ListSearch.{find_cases, list_any_found}}
 use Rattle.mk_geom.specs.Storages.{IsRun, is_cell_taken}
 use Rattle.mk_core.specs.Cycles.{before_begin, before_end}
 use Rattle.mk_laws.specs.Precision.{CountsAsFree, FreesTheUntouched, through_end}

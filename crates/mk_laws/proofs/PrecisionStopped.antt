@@ -7,19 +7,12 @@ use Rattle.mk_laws.proofs.Vocabulary.{enabled_in_parts, eqb-true, false, has_bit
 use Rattle.mk_laws.proofs.Vocabulary.{is_close, is_cycling, is_left_unmarked, is_marked, is_release, left, list_any}
 use Rattle.mk_laws.proofs.Vocabulary.{not, or_from, or_parts, phase_of, placed_at, refl, released_where_left, sym}
 use Rattle.mk_laws.proofs.Vocabulary.{through, through_release, true, true≢false, with_released, [], ◌&&◌, ◌++◌, ◌∙◌}
-use Rattle.mk_laws.proofs.Vocabulary.{◌∷◌, ◌≡◌}
-use Rattle.mk_laws.proofs.Basics.{Known, Meets, WorldBehind, is_grant, release_is, same_cell}
-use Rattle.mk_laws.proofs.Marking.{marked_at_close, one_more, told}
-use Rattle.mk_laws.proofs.Stretches.{None_of, along_without, at_close, at_release, history_through, none_joined}
-use Rattle.mk_laws.proofs.Worlds.{headers, stands}
-use Rattle.mk_laws.proofs.CyclePhases.{none_is_released}
-use Rattle.mk_laws.proofs.GuardStopped.{leaves_closed}
-use Rattle.mk_laws.proofs.PhaseSteps.{stopped_waits}
-use Rattle.mk_laws.proofs.Precise.{came_behind}
-use Rattle.mk_laws.proofs.ProtocolStepKinds.{close_is}
-use Rattle.mk_laws.proofs.Quarantines.{snapshot_is_the_cycles}
-use Rattle.mk_core.specs.Cycles.{NoneSweeps}
-use Rattle.mk_core.specs.Touched.{IsTouched}
+use Rattle.mk_laws.proofs.{Vocabulary.{◌∷◌, ◌≡◌}, Basics.{Known, Meets, WorldBehind, is_grant, release_is, same_cell}}
+use Rattle.mk_laws.proofs.{Marking.{marked_at_close, one_more, told}, Stretches.{None_of, along_without, at_close}}
+use Rattle.mk_laws.proofs.{Stretches.{at_release, history_through, none_joined}, Worlds.{headers, stands}}
+use Rattle.mk_laws.proofs.{CyclePhases.none_is_released, GuardStopped.leaves_closed, PhaseSteps.stopped_waits}
+use Rattle.mk_laws.proofs.{Precise.came_behind, ProtocolStepKinds.close_is, Quarantines.snapshot_is_the_cycles}
+use Rattle.mk_core.specs.{Cycles.NoneSweeps, Touched.IsTouched}
 use Rattle.mk_laws.specs.Precision.{KeepsOnlyTheTouched, ReleasesTheUntouched}
 
 -- All that is marked is of the set.

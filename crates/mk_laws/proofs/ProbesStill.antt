@@ -5,13 +5,10 @@ use Rattle.mk_laws.proofs.Vocabulary.{Stage, Unmapped, Value, WordOf, World, ℕ
 use Rattle.mk_laws.proofs.Vocabulary.{bases_of, cases_Bool, false, flight_of, header_at, header_in, i_of, if◌then◌else◌}
 use Rattle.mk_laws.proofs.Vocabulary.{image_scene_of, inl, inr, is_large, is_unmapped, is_unmapped_header, page_met}
 use Rattle.mk_laws.proofs.Vocabulary.{q_of, refl, register_at, subst, sym, target_of, true, true≢false, words_of, ◌*◌}
-use Rattle.mk_laws.proofs.Vocabulary.{◌+◌, ◌<◌, ◌∙◌, ◌≡◌}
-use Rattle.mk_laws.proofs.Basics.{InCall, KnownWorld, PagesShow, Ready, Stands, calls_stand, flight, is_astray}
-use Rattle.mk_laws.proofs.Basics.{is_call_stage, not_astray, ready_of, standing, standing_at, stands_of}
-use Rattle.mk_laws.proofs.ImagesCallMoves.{access_meets, at_probe}
-use Rattle.mk_laws.proofs.Reached.{mapped_met, unmapped_target}
-use Rattle.mk_laws.proofs.CallSorts.{literal}
-use Rattle.mk_laws.proofs.ImagesBefore.{shown_in_call}
+use Rattle.mk_laws.proofs.{Vocabulary.{◌+◌, ◌<◌, ◌∙◌, ◌≡◌}, Basics.{InCall, KnownWorld, PagesShow, Ready, Stands}}
+use Rattle.mk_laws.proofs.Basics.{calls_stand, flight, is_astray, is_call_stage, not_astray, ready_of, standing}
+use Rattle.mk_laws.proofs.{Basics.{standing_at, stands_of}, ImagesCallMoves.{access_meets, at_probe}}
+use Rattle.mk_laws.proofs.{Reached.{mapped_met, unmapped_target}, CallSorts.literal, ImagesBefore.shown_in_call}
 use Rattle.mk_laws.proofs.InvariantJoined.{told_to_images}
 
 target_unmapped : (n : NeverState) (a t o i : ℕ) → target_of n (Ptr a t o) i ≡ Unmapped

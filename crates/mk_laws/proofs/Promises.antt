@@ -5,14 +5,10 @@ use Rattle.mk_laws.proofs.FreePages.{dirty_pages_have_allocations, free_pages_ha
 use Rattle.mk_laws.proofs.PlacementTheorems.{fulls_fit_nowhere, grants_stand_at_their_places}
 use Rattle.mk_laws.proofs.Releases.{no_others_release, releases_are_exact, releases_none_reached}
 use Rattle.mk_laws.proofs.UnsetWords.{registers_of_no_caller_are_zero, unset_globals_are_zero}
-use Rattle.mk_laws.proofs.PrecisionFreeing.{frees_the_untouched}
-use Rattle.mk_laws.proofs.PrecisionStopped.{releases_the_untouched}
-use Rattle.mk_laws.proofs.Quarantines.{few_pages_are_resident}
-use Rattle.mk_laws.proofs.ReadingsStands.{headers_and_quarantine_tell}
-use Rattle.mk_laws.proofs.ReleasedCycles.{releases_are_of_cycles}
-use Rattle.mk_laws.proofs.Snapshots.{snapshots_tell}
-use Rattle.mk_laws.proofs.Tallies.{tallies_are_exact_at_gives}
-use Rattle.mk_laws.proofs.UnmappedRuns.{unmapped_runs_take_no_memory}
+use Rattle.mk_laws.proofs.{PrecisionFreeing.frees_the_untouched, PrecisionStopped.releases_the_untouched}
+use Rattle.mk_laws.proofs.{Quarantines.few_pages_are_resident, ReadingsStands.headers_and_quarantine_tell}
+use Rattle.mk_laws.proofs.{ReleasedCycles.releases_are_of_cycles, Snapshots.snapshots_tell}
+use Rattle.mk_laws.proofs.{Tallies.tallies_are_exact_at_gives, UnmappedRuns.unmapped_runs_take_no_memory}
 use Rattle.mk_laws.specs.Promises.{AtEachMoment, KeepsAllPromises}
 use Rattle.mk_laws.proofs.InvariantTheorems as invariant
 

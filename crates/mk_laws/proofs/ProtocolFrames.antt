@@ -10,22 +10,16 @@ use Rattle.mk_laws.proofs.Vocabulary.{others_are_held, outside, refl, reg_access
 use Rattle.mk_laws.proofs.Vocabulary.{sym, true, world_behind, [], ◌*◌, ◌++◌, ◌+◌, ◌/◌, ◌<◌, ◌∙◌, ◌∷◌, ◌≡◌, ◌≢◌, ◌≤◌}
 use Rattle.mk_laws.proofs.Basics.{Behind, Known, Meets, WorldBehind, actor_of, grants_new, in_call_told, known_behind}
 use Rattle.mk_laws.proofs.Basics.{known_left, not_astray, operands_of, others_held, register_small, same_holder}
-use Rattle.mk_laws.proofs.Basics.{standing, turn_of, view_of}
-use Rattle.mk_laws.proofs.Colours.{attending_grows, colour_step}
-use Rattle.mk_laws.proofs.Known.{HaveOperands, Operands, holds_turn}
-use Rattle.mk_laws.proofs.OthersCounts.{counts_nothing, entry_fulls, fulls_append, fulls_of}
-use Rattle.mk_laws.proofs.OthersMoves.{MarkerWrite, OthersMove, gate_one, others_move, with_words_seats}
-use Rattle.mk_laws.proofs.TurnFrame.{holding_out, turn_after, turn_joined, turn_same}
-use Rattle.mk_laws.proofs.Growth.{grows_joined, grows_same}
-use Rattle.mk_laws.proofs.HeaderSteps.{header_step, stays_mapped}
-use Rattle.mk_laws.proofs.ProtocolReadings.{in_counts}
-use Rattle.mk_laws.proofs.Protocols.{protocol_of}
+use Rattle.mk_laws.proofs.{Basics.{standing, turn_of, view_of}, Colours.{attending_grows, colour_step}}
+use Rattle.mk_laws.proofs.{Known.{HaveOperands, Operands, holds_turn}, OthersCounts.{counts_nothing, entry_fulls}}
+use Rattle.mk_laws.proofs.{OthersCounts.{fulls_append, fulls_of}, OthersMoves.{MarkerWrite, OthersMove, gate_one}}
+use Rattle.mk_laws.proofs.{OthersMoves.{others_move, with_words_seats}, TurnFrame.{holding_out, turn_after}}
+use Rattle.mk_laws.proofs.{TurnFrame.{turn_joined, turn_same}, Growth.{grows_joined, grows_same}}
+use Rattle.mk_laws.proofs.{HeaderSteps.{header_step, stays_mapped}, ProtocolReadings.in_counts, Protocols.protocol_of}
 use Rattle.mk_laws.proofs.Standings.{InCall, in_call_is}
-use Rattle.mk_core.proofs.Histories.{calls_append}
-use Rattle.mk_core.proofs.RegisterAccesses.{tally_leaves_registers}
+use Rattle.mk_core.proofs.{Histories.calls_append, RegisterAccesses.tally_leaves_registers}
 use Rattle.mk_core.specs.Frames.{Attends, CountsAreLeft, HoldsAll, IsIn, OthersLeave, OwnIsLeft, written_of}
-use Rattle.mk_core.specs.Growing.{is_same_seat}
-use Rattle.mk_core.specs.Readings.{is_in_call}
+use Rattle.mk_core.specs.{Growing.is_same_seat, Readings.is_in_call}
 
 -- What an event may do to registers: each caller's are its own.
 

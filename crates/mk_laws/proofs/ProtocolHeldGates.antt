@@ -4,8 +4,7 @@ use Rattle.mk_laws.proofs.Vocabulary.{cases_eq, cases_lt, eq-eqb, eqb-false, eqb
 use Rattle.mk_laws.proofs.Vocabulary.{get_or-set_other, get_or-set_same, if◌then◌else◌, inl, inr, left, left_from}
 use Rattle.mk_laws.proofs.Vocabulary.{length, ne_eqb, not, not-true, refl, reg_access, register_met, set_past}
 use Rattle.mk_laws.proofs.Vocabulary.{slice_index, slice_set, sym, true, world_behind, [], ◌==◌, ◌↔◌, ◌∙◌, ◌∷◌, ◌≡◌}
-use Rattle.mk_laws.proofs.Vocabulary.{◌≢◌}
-use Rattle.mk_laws.proofs.Basics.{Behind, at_first, reg_keeps, tally_keeps}
+use Rattle.mk_laws.proofs.{Vocabulary.◌≢◌, Basics.{Behind, at_first, reg_keeps, tally_keeps}}
 use Rattle.mk_core.specs.HeldGates.{changes_gate, is_gate_held, is_gate_held_from, is_hold_of}
 
 -- a gate that changes has the value that was set

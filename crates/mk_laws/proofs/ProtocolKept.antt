@@ -3,18 +3,16 @@ use Rattle.mk_laws.proofs.Vocabulary.{Caller, Config, Flight, Holding, Host, Lis
 use Rattle.mk_laws.proofs.Vocabulary.{arith, at_rest, cases_eq, get_or-set_other, get_or-set_same, holder_number, inl}
 use Rattle.mk_laws.proofs.Vocabulary.{inr, is_attending, length, length-set, nothing_done, outside, refl, slice_index}
 use Rattle.mk_laws.proofs.Vocabulary.{slice_index_or, slice_set, sym, true, ◌%◌, ◌*◌, ◌+◌, ◌-◌, ◌<◌, ◌∙◌, ◌≡◌, ◌≢◌, ◌≤◌}
-use Rattle.mk_laws.proofs.Vocabulary.{◌⊎◌}
-use Rattle.mk_laws.proofs.Orderly.{AllShow, Orderly, all_but_both, all_but_flight, all_but_gate, all_but_seat, count_in}
-use Rattle.mk_laws.proofs.Orderly.{counted_less, counted_more, counted_same, down_eight, down_four, few_in, giver_shows}
-use Rattle.mk_laws.proofs.Orderly.{holder_shows, holders_flight, length_with, marker_set, shows_at, taker_number}
-use Rattle.mk_laws.proofs.Orderly.{taker_shows, turn_of, up_eight, up_five, up_one}
+use Rattle.mk_laws.proofs.{Vocabulary.◌⊎◌, Orderly.{AllShow, Orderly, all_but_both, all_but_flight, all_but_gate}}
+use Rattle.mk_laws.proofs.Orderly.{all_but_seat, count_in, counted_less, counted_more, counted_same, down_eight}
+use Rattle.mk_laws.proofs.Orderly.{down_four, few_in, giver_shows, holder_shows, holders_flight, length_with}
+use Rattle.mk_laws.proofs.Orderly.{marker_set, shows_at, taker_number, taker_shows, turn_of, up_eight, up_five, up_one}
 use Rattle.mk_laws.proofs.ProtocolMoves.{Attends, Begins, Closes, Ends, Enters, Gives, GoesOn, Holds, IdlesOutside}
 use Rattle.mk_laws.proofs.ProtocolMoves.{Leaves, Move, Opens, Phases, PhaseStep, Quits, Releases, Scans, Stays, Stops}
-use Rattle.mk_laws.proofs.ProtocolMoves.{Takes, Wants, Works}
-use Rattle.mk_laws.proofs.Standings.{InCall, Resting, Shows, shows_given, shows_held, shows_opened, shows_taken}
-use Rattle.mk_laws.proofs.Standings.{standing}
-use Rattle.mk_laws.proofs.Views.{HoldsTurn, View, flight_at, flight_in, flights_with, gate_in, marker_in}
-use Rattle.mk_laws.proofs.Services.{Served, Service, nothing_served, served_on, service_rests, service_stands}
+use Rattle.mk_laws.proofs.{ProtocolMoves.{Takes, Wants, Works}, Standings.{InCall, Resting, Shows, shows_given}}
+use Rattle.mk_laws.proofs.{Standings.{shows_held, shows_opened, shows_taken, standing}, Views.{HoldsTurn, View}}
+use Rattle.mk_laws.proofs.{Views.{flight_at, flight_in, flights_with, gate_in, marker_in}, Services.{Served, Service}}
+use Rattle.mk_laws.proofs.Services.{nothing_served, served_on, service_rests, service_stands}
 
 -- What a step of the phase leaves.
 

@@ -2,9 +2,8 @@
 use Rattle.mk_laws.proofs.Vocabulary.{Caller, Config, Flight, Holding, Host, IsIdle, Marker, MarkerState, Seat, ℕ}
 use Rattle.mk_laws.proofs.Vocabulary.{at_rest, false, holder_number, is_attending, is_in, nothing_done, outside}
 use Rattle.mk_laws.proofs.Vocabulary.{slice_set, true, ◌%◌, ◌+◌, ◌-◌, ◌<◌, ◌^◌, ◌≡◌, ◌≢◌, ◌≤◌, ◌⊎◌}
-use Rattle.mk_laws.proofs.Standings.{InCall, Resting, UnderTurn, standing}
-use Rattle.mk_laws.proofs.Views.{HoldsTurn, View, flight_at, flight_in, flights_with, gate_in, marker_in}
-use Rattle.mk_laws.proofs.Services.{Service}
+use Rattle.mk_laws.proofs.{Standings.{InCall, Resting, UnderTurn, standing}, Views.{HoldsTurn, View, flight_at}}
+use Rattle.mk_laws.proofs.{Views.{flight_in, flights_with, gate_in, marker_in}, Services.Service}
 
 -- the seat may take the turn, with this call
 abbrev pub MayTake : Config → View → Seat → Flight → Type 0

@@ -1,12 +1,9 @@
 -- What a look at the turn, at a gate and at the phase says.
 use Rattle.mk_laws.proofs.Vocabulary.{Caller, Config, Event, Holds, Host, List, Moment, Presence, Protocol, Seat, ℕ}
 use Rattle.mk_laws.proofs.Vocabulary.{arith, cases_Bool, cases_eq, cases_lt, false, get_or_past, inl, inr, is_attending}
-use Rattle.mk_laws.proofs.Vocabulary.{is_in, left, marker_of, not, true, ◌-◌, ◌/◌, ◌<◌, ◌≡◌, ◌≤◌}
-use Rattle.mk_laws.proofs.Orderly.{count_in-at}
-use Rattle.mk_laws.proofs.ProtocolHeldGates.{gates_tell_holds}
-use Rattle.mk_laws.proofs.Protocols.{lists_keep_the_protocol}
-use Rattle.mk_core.specs.MarkerConditions.{is_out}
-use Rattle.mk_core.specs.Readings.{GateTells, PhaseTells, TurnTells}
+use Rattle.mk_laws.proofs.{Vocabulary.{is_in, left, marker_of, not, true, ◌-◌, ◌/◌, ◌<◌, ◌≡◌, ◌≤◌}, Orderly.count_in-at}
+use Rattle.mk_laws.proofs.{ProtocolHeldGates.gates_tell_holds, Protocols.lists_keep_the_protocol}
+use Rattle.mk_core.specs.{MarkerConditions.is_out, Readings.{GateTells, PhaseTells, TurnTells}}
 use Rattle.mk_laws.specs.HolderReadings.{WordsTell}
 
 turn_tells : (c : Config) (m : Moment) → Protocol c m → TurnTells c m

@@ -1,12 +1,10 @@
 -- The protocol holds after every enabled list.
 use Rattle.mk_laws.proofs.Vocabulary.{Bool, Caller, Config, Flight, Moment, Protocol, ℕ, arith, at_rest, cases_lt}
 use Rattle.mk_laws.proofs.Vocabulary.{false, flight_of, get_or_past, is_decided_free, is_undecided_new, left, refl, sym}
-use Rattle.mk_laws.proofs.Vocabulary.{true, ◌+◌, ◌-◌, ◌<◌, ◌↔◌, ◌∙◌, ◌≡◌, ◌≢◌, ◌≤◌}
-use Rattle.mk_laws.proofs.Basics.{Known, Orderly, flight_in, gate_in, in_call_told, known_left, not_astray, standing}
-use Rattle.mk_laws.proofs.Basics.{view_of}
+use Rattle.mk_laws.proofs.{Vocabulary.{true, ◌+◌, ◌-◌, ◌<◌, ◌↔◌, ◌∙◌, ◌≡◌, ◌≢◌, ◌≤◌}, Basics.{Known, Orderly}}
+use Rattle.mk_laws.proofs.Basics.{flight_in, gate_in, in_call_told, known_left, not_astray, standing, view_of}
 use Rattle.mk_laws.proofs.Standings.{in_turn_told, is_standing_in_call, shows_gate, shows_turn, stage_told}
-use Rattle.mk_laws.proofs.Known.{HaveOperands}
-use Rattle.mk_laws.specs.Protocol.{ListsKeepTheProtocol, SomeCaller, is_decided_new}
+use Rattle.mk_laws.{proofs.Known.{HaveOperands}, specs.Protocol.{ListsKeepTheProtocol, SomeCaller, is_decided_new}}
 
 -- what is in order is as the protocol says
 

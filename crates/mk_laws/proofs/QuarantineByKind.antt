@@ -10,18 +10,13 @@ use Rattle.mk_laws.proofs.Vocabulary.{is_undecided_new, length, ltb-true, may_en
 use Rattle.mk_laws.proofs.Vocabulary.{object_placed, or_cases, phase_of, place_now, placed_at, quarantine_step, refl}
 use Rattle.mk_laws.proofs.Vocabulary.{set-get_or, slice_index, slice_set, stands_in_its_cell, taken, target, true}
 use Rattle.mk_laws.proofs.Vocabulary.{undecided_free, undecided_new, used_step, ◌%◌, ◌/◌, ◌<◌, ◌==◌, ◌^◌, ◌||◌, ◌∙◌}
-use Rattle.mk_laws.proofs.Vocabulary.{◌≡◌}
-use Rattle.mk_laws.proofs.Basics.{Before, Laid, Meets, WorldBehind, all_stand, claim_among, free_has_turn}
-use Rattle.mk_laws.proofs.Basics.{is_releasing_behind, none_set, own_claim, placed_undecided, reg_leaves_ground}
-use Rattle.mk_laws.proofs.Basics.{tally_ground}
-use Rattle.mk_laws.proofs.Ground.{KeepsGround, with_quarantine}
+use Rattle.mk_laws.proofs.{Vocabulary.◌≡◌, Basics.{Before, Laid, Meets, WorldBehind, all_stand, claim_among}}
+use Rattle.mk_laws.proofs.Basics.{free_has_turn, is_releasing_behind, none_set, own_claim, placed_undecided}
+use Rattle.mk_laws.proofs.{Basics.{reg_leaves_ground, tally_ground}, Ground.{KeepsGround, with_quarantine}}
 use Rattle.mk_laws.proofs.QuarantineChanges.{FreesHere, begin_kept, free_kept, grant_kept, index_small, release_kept}
 use Rattle.mk_laws.proofs.QuarantineSteps.{drop_kept, end_kept, released_bits, replaced, snapshot_kept, take_kept}
-use Rattle.mk_laws.proofs.Dropped.{settled_page}
-use Rattle.mk_laws.proofs.Freed.{standing_cell}
-use Rattle.mk_laws.proofs.LayoutByKind.{off_at, with_halves}
-use Rattle.mk_core.proofs.EvaluatedPlaces.{full}
-use Rattle.mk_core.proofs.PlacesNow.{FreesCell, chosen_used}
+use Rattle.mk_laws.proofs.{Dropped.settled_page, Freed.standing_cell, LayoutByKind.{off_at, with_halves}}
+use Rattle.mk_core.proofs.{EvaluatedPlaces.full, PlacesNow.{FreesCell, chosen_used}}
 
 abbrev pub QuarantinedAs : Config → Bool → World → Ground → Type 0
 QuarantinedAs c releasing w t = HasQuarantine c releasing w.now.words.marks t

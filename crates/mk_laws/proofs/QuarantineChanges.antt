@@ -1,7 +1,5 @@
 -- The quarantine after the steps that change allocations: `release`, `quar` (a), `grant`, `begin`.
-use Rattle.std.proofs.Common.{pow-suc}
-use Rattle.std.proofs.Math.Pow.{pow_mono}
-use Rattle.std.proofs.lemmas.Nat.{or_lt}
+use Rattle.std.proofs.{Common.pow-suc, Math.Pow.pow_mono, lemmas.Nat.or_lt}
 use Rattle.mk_laws.proofs.Vocabulary.{Bool, Cell, Config, Granted, Ground, HasQuarantine, IsFreedCell, IsSized}
 use Rattle.mk_laws.proofs.Vocabulary.{IsWithinLimits, List, Object, Option, PlacedAllocation, Placing, RunPages, Some}
 use Rattle.mk_laws.proofs.Vocabulary.{Words, World, ℕ, ap, arith, cases_Bool, cell_ends, cell_of_allocation, cells_made}
@@ -12,11 +10,8 @@ use Rattle.mk_laws.proofs.Vocabulary.{map, mul-le, no_longer_fresh, placed_at, q
 use Rattle.mk_laws.proofs.Vocabulary.{small, small_cells, stands_in, suc, sym, true, true≢false, with_released, [], ◌%◌}
 use Rattle.mk_laws.proofs.Vocabulary.{◌*◌, ◌++◌, ◌+◌, ◌/◌, ◌<◌, ◌^◌, ◌∙◌, ◌∷◌, ◌≡◌, ◌≤◌, ◌⊎◌}
 use Rattle.mk_laws.proofs.Basics.{IsStanding, LeavesCells, bit_cases, freeing_leaves, releasing_leaves, same_cell}
-use Rattle.mk_laws.proofs.Granted.{pushed_at, still_at}
-use Rattle.mk_laws.proofs.LayoutByKind.{fresh_cells}
-use Rattle.mk_laws.proofs.QuarantineSteps.{least_set}
-use Rattle.mk_laws.proofs.Released.{left_is}
-use Rattle.mk_laws.specs.Terrain.{IsCellOf}
+use Rattle.mk_laws.proofs.{Granted.{pushed_at, still_at}, LayoutByKind.fresh_cells, QuarantineSteps.least_set}
+use Rattle.mk_laws.{proofs.Released.{left_is}, specs.Terrain.{IsCellOf}}
 use Rattle.mk_geom.proofs.ClassTable.{class_words_within}
 use Rattle.mk_core.proofs.WordBits.{added_here, added_other, sum_is_or}
 

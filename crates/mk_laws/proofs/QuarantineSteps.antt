@@ -1,18 +1,13 @@
 -- The quarantine after each kind of step.
-use Rattle.std.proofs.Common.{bit_and}
-use Rattle.std.proofs.lemmas.Nat.{and_le_r}
-use Rattle.std.proofs.lemmas.Nat.Bits.{bit_at_and, same_from_bits}
+use Rattle.std.proofs.{Common.bit_and, lemmas.Nat.and_le_r, lemmas.Nat.Bits.{bit_at_and, same_from_bits}}
 use Rattle.mk_laws.proofs.Vocabulary.{Among, Bool, Claim, Config, Drops, Ground, HasQuarantine, List, Object, Option}
 use Rattle.mk_laws.proofs.Vocabulary.{Page, Place, Placing, RunPages, Used, World, ℕ, and_parts, and_right, ap, arith}
 use Rattle.mk_laws.proofs.Vocabulary.{cases_eq, cell_of_allocation, claims_on, claims_placed, false, false_from_ne_true}
 use Rattle.mk_laws.proofs.Vocabulary.{fewer_bits, get_or-set_other, get_or-set_same, ground_of, has_bit}
 use Rattle.mk_laws.proofs.Vocabulary.{has_bit_without, inl, inr, is_released_in, length, not, not-true, placed_at, refl}
 use Rattle.mk_laws.proofs.Vocabulary.{slice_index, slice_set, sym, true, used_on, without, ◌&&◌, ◌-◌, ◌<◌, ◌^◌, ◌∙◌}
-use Rattle.mk_laws.proofs.Vocabulary.{◌≡◌, ◌≢◌, ◌⊎◌}
-use Rattle.mk_laws.proofs.Claims.{claim_is}
-use Rattle.mk_laws.proofs.Serving.{among_parts}
-use Rattle.mk_core.proofs.PageSteps.{left_bits}
-use Rattle.mk_core.proofs.WordBits.{rest_bits}
+use Rattle.mk_laws.proofs.{Vocabulary.{◌≡◌, ◌≢◌, ◌⊎◌}, Claims.claim_is, Serving.among_parts}
+use Rattle.mk_core.proofs.{PageSteps.left_bits, WordBits.rest_bits}
 
 -- the bits of a word that another hasn't, where the other's are all its own
 rest_bit : (n m k : ℕ) → bit_and n m ≡ n → has_bit (m - n) k ≡ (has_bit m k && not (has_bit n k))

@@ -4,13 +4,9 @@ use Rattle.mk_laws.proofs.Vocabulary.{Null, Op, Option, Progress, Ptr, Some, Val
 use Rattle.mk_laws.proofs.Vocabulary.{answers_of, ap, arith, asked, bases_of, bit, cases_Bool, cases_eq, entry_of}
 use Rattle.mk_laws.proofs.Vocabulary.{eq-eqb, false, flagged, if◌then◌else◌, image_of, inl, inr, is_same, kinds_of}
 use Rattle.mk_laws.proofs.Vocabulary.{length, ne_eqb, one_if, placed_at, refl, replies_of, slice_set, sym, true}
-use Rattle.mk_laws.proofs.Vocabulary.{words_of, [], ◌++◌, ◌+◌, ◌<◌, ◌==◌, ◌^◌, ◌∙◌, ◌∷◌, ◌≡◌}
-use Rattle.mk_laws.proofs.HeapEdits.{base_at}
-use Rattle.mk_laws.proofs.ImagesKept.{AreApart, AreSmall}
-use Rattle.mk_laws.proofs.ImagesMoves.{Move}
-use Rattle.mk_laws.specs.Images.{AreImages}
-use Rattle.mk_never.proofs.Sameness.{equal_from_same, same_from_equal}
-use Rattle.mk_never.proofs.Soundness.{place_is_inside}
+use Rattle.mk_laws.proofs.{Vocabulary.{words_of, [], ◌++◌, ◌+◌, ◌<◌, ◌==◌, ◌^◌, ◌∙◌, ◌∷◌, ◌≡◌}, HeapEdits.base_at}
+use Rattle.mk_laws.{proofs.{ImagesKept.{AreApart, AreSmall}, ImagesMoves.Move}, specs.Images.{AreImages}}
+use Rattle.mk_never.proofs.{Sameness.{equal_from_same, same_from_equal}, Soundness.place_is_inside}
 use Rattle.mk_never.specs.NeverHeap.{reply_of}
 
 pub record Ready (listed : List ℕ) (safe : ℕ → Bool) (s : ImageScene) (n : NeverState) : Type 0 where

@@ -8,14 +8,10 @@ use Rattle.mk_laws.proofs.Vocabulary.{length, one_if, onward, p_of, progress_p, 
 use Rattle.mk_laws.proofs.Vocabulary.{refl, refused, register_at, register_met, slice_set, stage_behind, steps_of, sym}
 use Rattle.mk_laws.proofs.Vocabulary.{true, ◌%◌, ◌*◌, ◌++◌, ◌+◌, ◌<◌, ◌==◌, ◌^◌, ◌∙◌, ◌≡◌, ◌≢◌}
 use Rattle.mk_laws.proofs.Ready.{Leads, LeadsBy, Ready, bit_is, either_leads, image_test, image_zero, one_right}
-use Rattle.mk_laws.proofs.Refusals.{accesses, decides_nothing, owes_null, refuses}
-use Rattle.mk_laws.proofs.HeapEdits.{base_at}
-use Rattle.mk_laws.proofs.ImagesMoves.{Flies, Move, Pays, Stores}
-use Rattle.mk_laws.proofs.Pairs.{shows_plain}
-use Rattle.mk_laws.proofs.Stages.{is_reg_stage}
+use Rattle.mk_laws.proofs.{Refusals.{accesses, decides_nothing, owes_null, refuses}, HeapEdits.base_at}
+use Rattle.mk_laws.proofs.{ImagesMoves.{Flies, Move, Pays, Stores}, Pairs.shows_plain, Stages.is_reg_stage}
 use Rattle.mk_laws.proofs.Standings.{is_astray, standing_at}
-use Rattle.mk_never.specs.NeverHeap.{free_reply, lea_reply, moved_on}
-use Rattle.mk_never.specs.declared.values.Target.TheVariants.{Nothing}
+use Rattle.mk_never.specs.{NeverHeap.{free_reply, lea_reply, moved_on}, declared.values.Target.TheVariants.Nothing}
 use Rattle.mk_core.specs.Calls.{value_for}
 
 abbrev pub flight : Stage → Op → ℕ → ℕ → ℕ → ℕ → Flight

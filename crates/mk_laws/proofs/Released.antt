@@ -7,13 +7,10 @@ use Rattle.mk_laws.proofs.Vocabulary.{false, ground_of, has_bit_without, inl, in
 use Rattle.mk_laws.proofs.Vocabulary.{large_cells, large_words, length, map, object_placed, or_parts, pages_made}
 use Rattle.mk_laws.proofs.Vocabulary.{placed_at, refl, released_leaves, released_where_left, run_begins, small}
 use Rattle.mk_laws.proofs.Vocabulary.{small_pages, sym, true, true≢false, with_released, words_made, ◌*◌, ◌+◌, ◌/◌, ◌<◌}
-use Rattle.mk_laws.proofs.Vocabulary.{◌∙◌, ◌≡◌, ◌≤◌, ◌⊎◌}
-use Rattle.mk_laws.proofs.Claims.{LeavesCells, apart_behind, cells_behind, changed_among, claim_among, claim_is}
-use Rattle.mk_laws.proofs.Claims.{was_claim}
-use Rattle.mk_laws.proofs.Serving.{Laid, among_back, among_front, among_parts, apart_across, apart_joined, apart_left}
-use Rattle.mk_laws.proofs.Serving.{apart_right, own_claim, placed_claim}
-use Rattle.mk_laws.proofs.LayoutReadings.{header_of_mode}
-use Rattle.mk_laws.proofs.Releasing.{layout_released}
+use Rattle.mk_laws.proofs.{Vocabulary.{◌∙◌, ◌≡◌, ◌≤◌, ◌⊎◌}, Claims.{LeavesCells, apart_behind, cells_behind}}
+use Rattle.mk_laws.proofs.{Claims.{changed_among, claim_among, claim_is, was_claim}, Serving.{Laid, among_back}}
+use Rattle.mk_laws.proofs.Serving.{among_front, among_parts, apart_across, apart_joined, apart_left, apart_right}
+use Rattle.mk_laws.proofs.{Serving.{own_claim, placed_claim}, LayoutReadings.header_of_mode, Releasing.layout_released}
 use Rattle.mk_core.proofs.StandingAllocations.{cell_ends_within, made_begins, placed_cell, run_cell}
 
 -- An unreleased allocation whose claim is shown stands on the heap with its headers.

@@ -2,12 +2,10 @@
 use Rattle.mk_laws.proofs.Vocabulary.{Config, Event, IsHistory, List, Marking, OfHistories, Releasing, Seat, Step, ℕ}
 use Rattle.mk_laws.proofs.Vocabulary.{arith, before_release, earlier_part_is_history, enabled_in_parts, false}
 use Rattle.mk_laws.proofs.Vocabulary.{first_world, inl, inr, is_release, left, left_from, left_more, list_any, phase_of}
-use Rattle.mk_laws.proofs.Vocabulary.{refl, subst, sym, [], ◌++◌, ◌∷◌, ◌≡◌}
-use Rattle.mk_laws.proofs.Basics.{KeptByEvents, before_it, holds_of_histories}
-use Rattle.mk_laws.proofs.CyclePhases.{AsksPhase, IsUnreleased, moves_phase, phase_asked, phase_behind, phase_moves}
-use Rattle.mk_laws.proofs.OwnCycles.{Marks, Releases, Stops, UnderWay, closes, on_way, wants}
-use Rattle.mk_laws.proofs.Longer.{at_end, longer_marking}
-use Rattle.mk_laws.proofs.Stretches.{at_close}
+use Rattle.mk_laws.proofs.{Vocabulary.{refl, subst, sym, [], ◌++◌, ◌∷◌, ◌≡◌}, Basics.{KeptByEvents, before_it}}
+use Rattle.mk_laws.proofs.{Basics.holds_of_histories, CyclePhases.{AsksPhase, IsUnreleased, moves_phase, phase_asked}}
+use Rattle.mk_laws.proofs.{CyclePhases.{phase_behind, phase_moves}, OwnCycles.{Marks, Releases, Stops, UnderWay}}
+use Rattle.mk_laws.proofs.{OwnCycles.{closes, on_way, wants}, Longer.{at_end, longer_marking}, Stretches.at_close}
 use Rattle.mk_laws.specs.Releases.{ReleasesAreOfCycles}
 
 -- From a `begin` up to its `release` a cycle is under way.

@@ -7,14 +7,11 @@ use Rattle.mk_laws.proofs.Vocabulary.{flight_of, has_bit_of, has_bit_without, is
 use Rattle.mk_laws.proofs.Vocabulary.{is_quarantined, is_release, left, left_from, left_in_parts, list_any}
 use Rattle.mk_laws.proofs.Vocabulary.{list_any-append, map, never_behind, never_in_parts, not, not-true, phase_of}
 use Rattle.mk_laws.proofs.Vocabulary.{placed_at, released_leaves, released_where_left, subst, sym, true, with_released}
-use Rattle.mk_laws.proofs.Vocabulary.{[], ◌&&◌, ◌++◌, ◌↔◌, ◌∙◌, ◌∷◌, ◌≡◌}
-use Rattle.mk_laws.proofs.CyclePhases.{AsksPhase, IsUnreleased, begin_is, close_is, marking_goes_on, moves_phase}
-use Rattle.mk_laws.proofs.CyclePhases.{none_is_released, phase_behind, release_is}
-use Rattle.mk_laws.proofs.InvariantTheorems.{allocations_stand, reach_is_kept}
-use Rattle.mk_laws.proofs.Quarantines.{snapshot_is_the_cycles}
-use Rattle.mk_laws.proofs.ReadingsKeptPlaces.{stays_put}
-use Rattle.mk_laws.proofs.Snapshots.{enabled_at, unreleased_cycles}
-use Rattle.mk_laws.proofs.Stretches.{at_release, history_through}
+use Rattle.mk_laws.proofs.{Vocabulary.{[], ◌&&◌, ◌++◌, ◌↔◌, ◌∙◌, ◌∷◌, ◌≡◌}, CyclePhases.{AsksPhase, IsUnreleased}}
+use Rattle.mk_laws.proofs.CyclePhases.{begin_is, close_is, marking_goes_on, moves_phase, none_is_released, phase_behind}
+use Rattle.mk_laws.proofs.{CyclePhases.release_is, InvariantTheorems.{allocations_stand, reach_is_kept}}
+use Rattle.mk_laws.proofs.{Quarantines.snapshot_is_the_cycles, ReadingsKeptPlaces.stays_put}
+use Rattle.mk_laws.proofs.{Snapshots.{enabled_at, unreleased_cycles}, Stretches.{at_release, history_through}}
 use Rattle.mk_never.specs.Reach.{IsReachable}
 use Rattle.mk_core.specs.Allocations.{allocations_by}
 use Rattle.mk_laws.specs.Releases.{NoOthersRelease, ReleasesAreExact, ReleasesNoneReached, allocation_before}

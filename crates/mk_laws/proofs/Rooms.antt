@@ -11,13 +11,10 @@ use Rattle.mk_laws.proofs.Vocabulary.{plot_of, refl, seat_exists, subst, sym, ta
 use Rattle.mk_laws.proofs.Vocabulary.{unmapped_is_unmapped, use_under, used_on, ◌-◌, ◌<◌, ◌∙◌, ◌≡◌}
 use Rattle.mk_laws.proofs.Basics.{Before, Laid, Meets, WorldBehind, first_header, holding_object, made_sized}
 use Rattle.mk_laws.proofs.Basics.{new_has_turn, no_run, own_claim, page_within, reg_leaves_ground, tally_ground}
-use Rattle.mk_laws.proofs.Basics.{with_header_on, with_used_on}
-use Rattle.mk_laws.proofs.ResidentPages.{RoomOn, count_range, is_resident, resident_count, resident_gone}
-use Rattle.mk_laws.proofs.ResidentPages.{resident_other, resident_used, room_same, room_unplaced, unmapped_use}
-use Rattle.mk_laws.proofs.Serving.{OnChosen, OnFree, Stands, not_again, placed_for}
-use Rattle.mk_laws.proofs.Behind.{object_kind}
-use Rattle.mk_laws.proofs.Fits.{FitsOnFreePages, fits}
-use Rattle.mk_laws.proofs.Sorts.{chosen_none}
+use Rattle.mk_laws.proofs.{Basics.{with_header_on, with_used_on}, ResidentPages.{RoomOn, count_range, is_resident}}
+use Rattle.mk_laws.proofs.ResidentPages.{resident_count, resident_gone, resident_other, resident_used, room_same}
+use Rattle.mk_laws.proofs.{ResidentPages.{room_unplaced, unmapped_use}, Serving.{OnChosen, OnFree, Stands, not_again}}
+use Rattle.mk_laws.proofs.{Serving.placed_for, Behind.object_kind, Fits.{FitsOnFreePages, fits}, Sorts.chosen_none}
 use Rattle.mk_laws.specs.Room.{HasRoom}
 
 -- The place is chosen, where this many pages are free.

@@ -5,12 +5,9 @@ use Rattle.mk_laws.proofs.Vocabulary.{World, ℕ, ap, cases_Bool, cell_freed, fa
 use Rattle.mk_laws.proofs.Vocabulary.{holder_number, if◌then◌else◌, inl, inr, is_heap_store, is_run_cell, is_run_gone}
 use Rattle.mk_laws.proofs.Vocabulary.{nothing_done, or_else, refl, run_headed, run_of_cell, set_by, slice_index}
 use Rattle.mk_laws.proofs.Vocabulary.{slice_set, subst, sym, target, true, true≢false, word_met, ◌+◌, ◌<◌, ◌==◌, ◌∙◌}
-use Rattle.mk_laws.proofs.Vocabulary.{◌≡◌, ◌≢◌}
-use Rattle.mk_laws.proofs.Basics.{Behind, Known, KnownWorld, Meets, at_its_stage, free_has_turn, others_held, reg_keeps}
-use Rattle.mk_laws.proofs.Basics.{tally_keeps, turn_of, view_of}
-use Rattle.mk_laws.proofs.ImagesHeldGates.{held_idle}
-use Rattle.mk_laws.proofs.RunWords.{gone_behind}
-use Rattle.mk_laws.specs.RunGates.{HoldsRunGates}
+use Rattle.mk_laws.proofs.{Vocabulary.{◌≡◌, ◌≢◌}, Basics.{Behind, Known, KnownWorld, Meets, at_its_stage}}
+use Rattle.mk_laws.proofs.Basics.{free_has_turn, others_held, reg_keeps, tally_keeps, turn_of, view_of}
+use Rattle.mk_laws.{proofs.{ImagesHeldGates.held_idle, RunWords.gone_behind}, specs.RunGates.{HoldsRunGates}}
 use Rattle.mk_core.proofs.ListTests.{implied}
 
 -- Gates that are held stay so after any step but `open`.

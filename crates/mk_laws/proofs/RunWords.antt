@@ -8,11 +8,9 @@ use Rattle.mk_laws.proofs.Vocabulary.{is_unmapped_header, large_count, made_is_m
 use Rattle.mk_laws.proofs.Vocabulary.{pages_made, placed_at, placed_now, refl, set_by, slice_index, stands, subst, sym}
 use Rattle.mk_laws.proofs.Vocabulary.{true, true≢false, typed_size, undecided_new, unmapped_header}
 use Rattle.mk_laws.proofs.Vocabulary.{unmapped_is_unmapped, used_at, word_met, words_are_zero, ◌*◌, ◌+◌, ◌-◌, ◌/◌, ◌<◌}
-use Rattle.mk_laws.proofs.Vocabulary.{◌∙◌, ◌≡◌, ◌≢◌}
-use Rattle.mk_laws.proofs.Basics.{Behind, KnownWorld, Meets, Table, WorldBehind, ends_on_pages, headers_kind, is_head}
-use Rattle.mk_laws.proofs.Basics.{mapped_stays, new_has_turn, no_run, own_claim, reg_table, tally_table}
-use Rattle.mk_laws.proofs.ForImages.{laid_out, run_of}
-use Rattle.mk_laws.proofs.LayoutReadings.{claimed_used}
+use Rattle.mk_laws.proofs.{Vocabulary.{◌∙◌, ◌≡◌, ◌≢◌}, Basics.{Behind, KnownWorld, Meets, Table, WorldBehind}}
+use Rattle.mk_laws.proofs.Basics.{ends_on_pages, headers_kind, is_head, mapped_stays, new_has_turn, no_run, own_claim}
+use Rattle.mk_laws.proofs.{Basics.{reg_table, tally_table}, ForImages.{laid_out, run_of}, LayoutReadings.claimed_used}
 use Rattle.mk_laws.proofs.Tests.{all_below_from}
 
 gone_from : (v : Words) (r : RunPages) → ((d : ℕ) → d < r.count → header_at v (r.page + d) ≡ unmapped_header r.count d)

@@ -5,13 +5,9 @@ use Rattle.mk_laws.proofs.Vocabulary.{RunPages, Some, Words, World, ℕ, and_par
 use Rattle.mk_laws.proofs.Vocabulary.{free_page, header_made, header_of, is_next_header, is_small_object, leb-true}
 use Rattle.mk_laws.proofs.Vocabulary.{object_made, pages_made, place_now, refl, run_header, run_pages_of, set_by}
 use Rattle.mk_laws.proofs.Vocabulary.{slice_index_or, slice_set, true, unmapped_header, unmaps, word_of, ◌*◌, ◌+◌, ◌-◌}
-use Rattle.mk_laws.proofs.Vocabulary.{◌<◌, ◌∙◌, ◌≡◌, ◌≤◌}
-use Rattle.mk_laws.proofs.Ground.{Carves, Empties, GivesBack, GroundStep, TakesCell, Unmaps}
-use Rattle.mk_laws.proofs.HeaderSteps.{used_set}
-use Rattle.mk_laws.proofs.NewPlace.{PlaceFits}
-use Rattle.mk_geom.proofs.ClassTable.{class_for-some}
-use Rattle.mk_geom.proofs.HeaderLemmas.{word_of-header_of}
-use Rattle.mk_geom.specs.Classes.{class_for}
+use Rattle.mk_laws.proofs.{Vocabulary.{◌<◌, ◌∙◌, ◌≡◌, ◌≤◌}, Ground.{Carves, Empties, GivesBack, GroundStep, TakesCell}}
+use Rattle.mk_laws.proofs.{Ground.Unmaps, HeaderSteps.used_set, NewPlace.PlaceFits}
+use Rattle.mk_geom.{proofs.{ClassTable.class_for-some, HeaderLemmas.word_of-header_of}, specs.Classes.{class_for}}
 
 -- what a header word at a page shows ends in the heap
 abbrev pub RunFits : Config → ℕ → ℕ → Type 0

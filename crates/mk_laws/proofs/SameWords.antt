@@ -1,8 +1,7 @@
 -- The moment after an event, and steps that leave the words of the protocol as they are.
 use Rattle.mk_laws.proofs.Vocabulary.{Access, Config, Flight, Holding, List, Load, MarkerState, Moment, Named, Seat}
 use Rattle.mk_laws.proofs.Vocabulary.{Step, Store, Tally, Word, Words, ℕ, accessed, found, refl, tally_word, ◌≡◌}
-use Rattle.mk_laws.proofs.ProtocolMoves.{Move}
-use Rattle.mk_laws.proofs.Views.{View, view_of}
+use Rattle.mk_laws.proofs.{ProtocolMoves.Move, Views.{View, view_of}}
 use Rattle.mk_core.specs.Effects.{moment_behind}
 
 abbrev pub Behind : Config → Moment → Seat → Step → Moment

@@ -7,21 +7,14 @@ use Rattle.mk_laws.proofs.Vocabulary.{cell_of_allocation, enabled_meets, false, 
 use Rattle.mk_laws.proofs.Vocabulary.{image_scene_of, inl, inr, is_marked, is_put, is_undecided_free, ltb-true}
 use Rattle.mk_laws.proofs.Vocabulary.{object_placed, p_of, phase_of, placed_at, pointed_cell, refl, register_at}
 use Rattle.mk_laws.proofs.Vocabulary.{run_begins, subst, sym, target, true, typed_size, word_met, ◌*◌, ◌+◌, ◌-◌, ◌/◌}
-use Rattle.mk_laws.proofs.Vocabulary.{◌∙◌, ◌≡◌, ◌≢◌, ◌⊎◌}
+use Rattle.mk_laws.proofs.Vocabulary.{◌∙◌, ◌≡◌, ◌≢◌, ◌⊎◌, Bool, [], is_under_turn, list_any, ◌∷◌}
 use Rattle.mk_laws.proofs.Basics.{KnownWorld, Ready, Stands, at_its_stage, exists_placed, flight, is_astray}
 use Rattle.mk_laws.proofs.Basics.{is_call_stage, not_astray, ready_of, standing_at, stands_of, unmapped_is, words_fit}
-use Rattle.mk_laws.proofs.CallSorts.{admitted_call, call_outside, literal}
-use Rattle.mk_laws.proofs.FreeMoves.{pointer_cell}
-use Rattle.mk_laws.proofs.FreedRuns.{decided_free_gives}
-use Rattle.mk_laws.proofs.ImagesKept.{own_plain}
-use Rattle.mk_laws.proofs.Protocols.{protocol_of}
-use Rattle.mk_laws.proofs.Reached.{Reaches, reaches}
-use Rattle.mk_core.proofs.PlacesNow.{target_is}
-use Rattle.mk_core.proofs.StandingAllocations.{run_cell}
+use Rattle.mk_laws.proofs.{CallSorts.{admitted_call, call_outside, literal}, FreeMoves.pointer_cell}
+use Rattle.mk_laws.proofs.{FreedRuns.decided_free_gives, ImagesKept.own_plain, Protocols.protocol_of}
+use Rattle.mk_laws.proofs.{Reached.{Reaches, reaches}, NextSteps.{has_stage_of_its_own, stage_of}}
+use Rattle.mk_core.{proofs.{PlacesNow.target_is, StandingAllocations.run_cell}, specs.Calls.{is_same_stage}}
 use Rattle.mk_laws.specs.ImagesSay.{IsCellOfUnreleased, IsMappedWord}
-use Rattle.mk_laws.proofs.Vocabulary.{Bool, [], is_under_turn, list_any, ◌∷◌}
-use Rattle.mk_core.specs.Calls.{is_same_stage}
-use Rattle.mk_laws.proofs.NextSteps.{has_stage_of_its_own, stage_of}
 
 abbrev is_storing : Stage → Bool
 is_storing s = list_any (is_same_stage s) (Stage.Write ∷ Stage.Cas ∷ [])

@@ -6,10 +6,8 @@ use Rattle.mk_laws.proofs.Vocabulary.{header_at, header_in, header_of, if◌then
 use Rattle.mk_laws.proofs.Vocabulary.{is_marked, is_scanned, lt-ltb, ltb-true, nat_lt, none-some, not, page_at_address}
 use Rattle.mk_laws.proofs.Vocabulary.{refl, same_Some, scan_begun, scan_claimed, scan_onward, slice_index, subst, sym}
 use Rattle.mk_laws.proofs.Vocabulary.{true, true≢false, words_under, ◌*◌, ◌+◌, ◌<◌, ◌==◌, ◌∙◌, ◌≡◌, ◌≢◌, ◌≤◌, ◌⊎◌}
-use Rattle.mk_laws.proofs.KeptGuard.{goes_same}
-use Rattle.mk_laws.proofs.Wells.{IsWell, well_guarded}
+use Rattle.mk_laws.{proofs.{KeptGuard.goes_same, Wells.{IsWell, well_guarded}}, specs.Guard.{EndsItsCell}}
 use Rattle.mk_core.specs.Effects.{hand_behind_look, open_hand}
-use Rattle.mk_laws.specs.Guard.{EndsItsCell}
 use Rattle.mk_laws.proofs.Vocabulary.{Bool, Cell, Config, HeaderGoesOn, IsGuarded, MarkerStands, MarkerState as Marker}
 
 -- outside the heap a value points into nothing

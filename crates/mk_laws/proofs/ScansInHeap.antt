@@ -4,8 +4,7 @@ use Rattle.mk_laws.proofs.Vocabulary.{cell_ends, cell_seen, cells_under, eqb-tru
 use Rattle.mk_laws.proofs.Vocabulary.{has_no_pointers, has_seen_cell, header_of, if◌then◌else◌, is_scanned, is_some}
 use Rattle.mk_laws.proofs.Vocabulary.{ltb-true, marker_behind, marker_may, next_word, page_at_address, refl, same_Some}
 use Rattle.mk_laws.proofs.Vocabulary.{scan_begun, scan_claimed, scan_onward, scan_page, seen_page, subst, true}
-use Rattle.mk_laws.proofs.Vocabulary.{words_under, ◌*◌, ◌+◌, ◌<◌, ◌==◌, ◌≡◌, ◌≤◌}
-use Rattle.mk_laws.proofs.RunsInHeap.{RunFits}
+use Rattle.mk_laws.proofs.{Vocabulary.{words_under, ◌*◌, ◌+◌, ◌<◌, ◌==◌, ◌≡◌, ◌≤◌}, RunsInHeap.RunFits}
 use Rattle.mk_core.proofs.PointedPages.{cell_within}
 use Rattle.mk_laws.proofs.Vocabulary.{Bool, Cell, Config, Header, MarkerState as Marker, None, Option, Run, Scan}
 

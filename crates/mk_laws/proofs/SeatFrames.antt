@@ -9,23 +9,14 @@ use Rattle.mk_laws.proofs.Vocabulary.{is_mapped, is_one_of, is_unmapped_header, 
 use Rattle.mk_laws.proofs.Vocabulary.{never_behind, not, not-true, placed_at, progress, refl, register_at, slice_index}
 use Rattle.mk_laws.proofs.Vocabulary.{sym, true, [], ◌*◌, ◌++◌, ◌+◌, ◌/◌, ◌<◌, ◌∙◌, ◌∷◌, ◌≡◌, ◌≢◌}
 use Rattle.mk_laws.proofs.Basics.{Known, Meets, along_others, base_at, exists_placed, others_held, pointed_word}
-use Rattle.mk_laws.proofs.Basics.{unmapped_is, view_of}
-use Rattle.mk_laws.proofs.InvariantJoined.{told_to_guard, told_to_images}
-use Rattle.mk_laws.proofs.LastEvents.{Stands, comes_last, stands}
-use Rattle.mk_laws.proofs.OtherCalls.{call_not_by, registers_are_left}
-use Rattle.mk_laws.proofs.OthersLeave.{others_leave_headers, others_leave_wells}
-use Rattle.mk_laws.proofs.RunsStill.{holder_finds}
-use Rattle.mk_laws.proofs.ProtocolFrames.{in_call_stands, left_after, other_seat, others_leave}
-use Rattle.mk_laws.proofs.Bases.{IsLonger}
-use Rattle.mk_laws.proofs.FramesLongerLists.{begins_nothing}
-use Rattle.mk_laws.proofs.FreedRuns.{never_after}
-use Rattle.mk_laws.proofs.ImagesHeldGates.{held_idle}
-use Rattle.mk_laws.proofs.ImagesOneEvent.{one_event}
-use Rattle.mk_laws.proofs.InvariantTheorems.{reach_is_kept}
-use Rattle.mk_laws.proofs.ProbesStill.{pages_tell, ready}
+use Rattle.mk_laws.proofs.{Basics.{unmapped_is, view_of}, InvariantJoined.{told_to_guard, told_to_images}}
+use Rattle.mk_laws.proofs.{LastEvents.{Stands, comes_last, stands}, OtherCalls.{call_not_by, registers_are_left}}
+use Rattle.mk_laws.proofs.{OthersLeave.{others_leave_headers, others_leave_wells}, RunsStill.holder_finds}
+use Rattle.mk_laws.proofs.{ProtocolFrames.{in_call_stands, left_after, other_seat, others_leave}, Bases.IsLonger}
+use Rattle.mk_laws.proofs.{FramesLongerLists.begins_nothing, FreedRuns.never_after, ImagesHeldGates.held_idle}
+use Rattle.mk_laws.proofs.{ImagesOneEvent.one_event, InvariantTheorems.reach_is_kept, ProbesStill.{pages_tell, ready}}
 use Rattle.mk_never.specs.Reach.{LeadsTo, by_register}
-use Rattle.mk_core.specs.Frames.{AdmittedOthersLeave, HeapIsLeft, HoldsAll, TargetsAreLeft}
-use Rattle.mk_core.specs.Readings.{is_in_call}
+use Rattle.mk_core.specs.{Frames.{AdmittedOthersLeave, HeapIsLeft, HoldsAll, TargetsAreLeft}, Readings.is_in_call}
 
 -- An allocation to which a caller's register leads stays unreleased, where it is, and in a call of the caller mapped.
 

@@ -2,8 +2,7 @@
 use Rattle.mk_laws.proofs.Vocabulary.{Flight, Granted, Holding, None, Op, Option, Placing, RunPages, Stage, Unplaced}
 use Rattle.mk_laws.proofs.Vocabulary.{ap, false, has_place, is_decided_free_at, is_free_at, is_new_at, is_some}
 use Rattle.mk_laws.proofs.Vocabulary.{is_undecided_free, is_undecided_new, refl, sym, true, ◌∙◌, ◌≡◌}
-use Rattle.mk_laws.proofs.Stages.{gives_stand}
-use Rattle.mk_laws.proofs.Standings.{UnderTurn, standing}
+use Rattle.mk_laws.proofs.{Stages.gives_stand, Standings.{UnderTurn, standing}}
 use Rattle.mk_laws.specs.Protocol.{is_decided_new_at, is_granted}
 
 -- what is done is done for a call at this stage

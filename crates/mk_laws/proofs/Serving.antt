@@ -7,14 +7,10 @@ use Rattle.mk_laws.proofs.Vocabulary.{arith, cells_made, chosen, claims_of, clai
 use Rattle.mk_laws.proofs.Vocabulary.{ground_of, header_at, header_made, inl, inr, is_released_in, is_used_once}
 use Rattle.mk_laws.proofs.Vocabulary.{layout_scene_of, length, not, pages_made, pages_some, place_claim, plot_of, refl}
 use Rattle.mk_laws.proofs.Vocabulary.{small_pages, subst, sym, true, unmapped_header, [], ◌++◌, ◌+◌, ◌-◌, ◌<◌, ◌∙◌, ◌∷◌}
-use Rattle.mk_laws.proofs.Vocabulary.{◌≡◌, ◌≢◌, ◌≤◌, ◌⊎◌}
-use Rattle.mk_laws.proofs.Placing.{layout_carved, layout_chosen, layout_taken}
+use Rattle.mk_laws.proofs.{Vocabulary.{◌≡◌, ◌≢◌, ◌≤◌, ◌⊎◌}, Placing.{layout_carved, layout_chosen, layout_taken}}
 use Rattle.mk_laws.proofs.Releasing.{layout_emptied, layout_given_back, with_header_on, with_used_on}
-use Rattle.mk_laws.proofs.Fits.{FitsInBlock, FitsOnFreePages, fits}
-use Rattle.mk_laws.proofs.Unmapping.{layout_page_unmapped}
-use Rattle.mk_core.proofs.PageSteps.{Unmaps}
-use Rattle.mk_core.proofs.ServingSteps.{IsCellTaken}
-use Rattle.mk_core.proofs.Sizes.{cells_some}
+use Rattle.mk_laws.proofs.{Fits.{FitsInBlock, FitsOnFreePages, fits}, Unmapping.layout_page_unmapped}
+use Rattle.mk_core.proofs.{PageSteps.Unmaps, ServingSteps.IsCellTaken, Sizes.cells_some}
 pub use Rattle.mk_laws.proofs.Placing.{among_back, among_front, among_parts, apart_across, apart_joined, apart_left}
 pub use Rattle.mk_laws.proofs.Placing.{apart_right}
 

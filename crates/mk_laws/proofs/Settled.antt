@@ -4,13 +4,10 @@ use Rattle.mk_laws.proofs.Vocabulary.{Cell, Claim, Config, Granted, IsSettled, I
 use Rattle.mk_laws.proofs.Vocabulary.{NoPlot, Option, Placing, RunPages, Some, Unplaced, Words, World, and_parts, ap}
 use Rattle.mk_laws.proofs.Vocabulary.{append-nil, claim_of, claims_of, claims_placed, false, ground_of, has_place}
 use Rattle.mk_laws.proofs.Vocabulary.{histories_keep_lengths, is_run_gone, is_run_unmapped, left, length, object_now}
-use Rattle.mk_laws.proofs.Vocabulary.{placed_at, plot_of, refl, sym, true, ◌++◌, ◌∙◌, ◌≡◌}
-use Rattle.mk_laws.proofs.Basics.{Laid, all_stand, apart_left, claim_among, gone_terrain, own_claim}
-use Rattle.mk_laws.proofs.Apart.{Rests}
-use Rattle.mk_laws.proofs.ForImages.{numbers_apart}
-use Rattle.mk_laws.proofs.HeadersStand.{pages_stand}
+use Rattle.mk_laws.proofs.{Vocabulary.{placed_at, plot_of, refl, sym, true, ◌++◌, ◌∙◌, ◌≡◌}, Basics.{Laid, all_stand}}
+use Rattle.mk_laws.proofs.{Basics.{apart_left, claim_among, gone_terrain, own_claim}, Apart.Rests}
+use Rattle.mk_laws.{proofs.{ForImages.numbers_apart, HeadersStand.pages_stand}, specs.SettledPages.{UnreleasedStand}}
 use Rattle.mk_laws.specs.SettledPages.{is_freed_unmapped, FirstFitIsThePlace, HeadersStand, UnreleasedAreApart}
-use Rattle.mk_laws.specs.SettledPages.{UnreleasedStand}
 use Rattle.mk_geom.proofs.Bridge.{same_places}
 
 pub unreleased_stand : UnreleasedStand

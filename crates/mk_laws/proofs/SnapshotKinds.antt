@@ -11,19 +11,13 @@ use Rattle.mk_laws.proofs.Vocabulary.{length, ltb-true, map, no_longer_fresh, no
 use Rattle.mk_laws.proofs.Vocabulary.{object_placed, pages_some, phase_of, place_claim, placed_at, quarantine_step}
 use Rattle.mk_laws.proofs.Vocabulary.{refl, released_leaves, set-get_or, slice_index, slice_set, stands_in, sym, true}
 use Rattle.mk_laws.proofs.Vocabulary.{true≢false, with_released, [], ◌&&◌, ◌++◌, ◌+◌, ◌-◌, ◌/◌, ◌<◌, ◌==◌, ◌^◌, ◌∙◌}
-use Rattle.mk_laws.proofs.Vocabulary.{◌∷◌, ◌≡◌, ◌⊎◌}
-use Rattle.mk_laws.proofs.Basics.{Before, LeavesCells, Meets, WorldBehind, all_stand, apart_left, bit_cases}
-use Rattle.mk_laws.proofs.Basics.{freeing_leaves, grants_new, holding_object, new_has_turn, placed_claim}
-use Rattle.mk_laws.proofs.Basics.{reg_leaves_ground, releasing_leaves, tally_ground}
-use Rattle.mk_laws.proofs.CyclePhases.{phase_asked, phase_moves}
-use Rattle.mk_laws.proofs.QuarantineByKind.{frees_here, frees_some, shown_at}
-use Rattle.mk_laws.proofs.QuarantineChanges.{FreesHere, before_change, free_halves}
-use Rattle.mk_laws.proofs.ForImages.{numbers_apart}
-use Rattle.mk_laws.proofs.Granted.{pushed_any, pushed_at}
-use Rattle.mk_laws.proofs.LayoutByKind.{fresh_cells, off_at}
-use Rattle.mk_laws.proofs.QuarantineSteps.{and_both}
-use Rattle.mk_laws.proofs.Released.{left_is, place_index}
-use Rattle.mk_laws.specs.Quarantine.{HasSnapshot}
+use Rattle.mk_laws.proofs.{Vocabulary.{◌∷◌, ◌≡◌, ◌⊎◌}, Basics.{Before, LeavesCells, Meets, WorldBehind, all_stand}}
+use Rattle.mk_laws.proofs.Basics.{apart_left, bit_cases, freeing_leaves, grants_new, holding_object, new_has_turn}
+use Rattle.mk_laws.proofs.Basics.{placed_claim, reg_leaves_ground, releasing_leaves, tally_ground}
+use Rattle.mk_laws.proofs.{CyclePhases.{phase_asked, phase_moves}, QuarantineByKind.{frees_here, frees_some, shown_at}}
+use Rattle.mk_laws.proofs.{QuarantineChanges.{FreesHere, before_change, free_halves}, ForImages.numbers_apart}
+use Rattle.mk_laws.proofs.{Granted.{pushed_any, pushed_at}, LayoutByKind.{fresh_cells, off_at}}
+use Rattle.mk_laws.{proofs.{QuarantineSteps.and_both, Released.{left_is, place_index}}, specs.Quarantine.{HasSnapshot}}
 use Rattle.mk_core.specs.StopConditions.{may_begin}
 
 -- What is fresh and what is in the snapshot, after a `quar`.

@@ -6,14 +6,10 @@ use Rattle.mk_laws.proofs.Vocabulary.{is_begin, is_cycling, is_quarantined, is_r
 use Rattle.mk_laws.proofs.Vocabulary.{left_in_parts, list_any, never_behind, not-true, or_parts, phase_of, placed_at}
 use Rattle.mk_laws.proofs.Vocabulary.{refl, sym, true, world_behind, [], ◌||◌, ◌∙◌, ◌∷◌, ◌≡◌, ◌≢◌}
 use Rattle.mk_laws.proofs.CyclePhases.{IsUnreleased, NoneIsReleased, begin_is, moves_phase, none_is_released}
-use Rattle.mk_laws.proofs.CyclePhases.{phase_behind}
-use Rattle.mk_laws.proofs.InvariantHistories.{histories_keep_the_invariant}
-use Rattle.mk_laws.proofs.ReadingsKeptPlaces.{StaysPut, keeps_cell, stays_put}
-use Rattle.mk_laws.proofs.Basics.{known_world}
-use Rattle.mk_laws.proofs.Quarantines.{snapshot_is_the_cycles}
-use Rattle.mk_laws.proofs.ReadingsStands.{freed_cell}
-use Rattle.mk_core.specs.Cells.{is_in_snapshot}
-use Rattle.mk_core.specs.Readings.{SnapshotsTell, SnapshotTells}
+use Rattle.mk_laws.proofs.{CyclePhases.phase_behind, InvariantHistories.histories_keep_the_invariant}
+use Rattle.mk_laws.proofs.{ReadingsKeptPlaces.{StaysPut, keeps_cell, stays_put}, Basics.known_world}
+use Rattle.mk_laws.proofs.{Quarantines.snapshot_is_the_cycles, ReadingsStands.freed_cell}
+use Rattle.mk_core.specs.{Cells.is_in_snapshot, Readings.{SnapshotsTell, SnapshotTells}}
 
 -- the events from a `begin` on, as a part of the list
 

@@ -11,22 +11,19 @@ use Rattle.mk_laws.proofs.Vocabulary.{may_answer_full, ne_eqb, not-true, nothing
 use Rattle.mk_laws.proofs.Vocabulary.{phase_of, place_now, placed_now, progress, progress_freed, progress_reg, refl}
 use Rattle.mk_laws.proofs.Vocabulary.{run_of_cell, sees_double, set-get_or, slice_index, slice_set, stage_behind}
 use Rattle.mk_laws.proofs.Vocabulary.{steps_of, still, subst, sym, taken, tally_word, target, true, ◌%◌, ◌+◌, ◌<◌, ◌==◌}
-use Rattle.mk_laws.proofs.Vocabulary.{◌∙◌, ◌≡◌}
-use Rattle.mk_laws.proofs.Actors.{Actor, AsHolder, AsMarker, CallTakes, HostTakes, InCallOf, Meets, fills_new}
-use Rattle.mk_laws.proofs.Actors.{grants_new, is_holders}
-use Rattle.mk_laws.proofs.Asked.{closing_alone, give_phase, none_at, none_held, other_caller, others_held}
-use Rattle.mk_laws.proofs.NextSteps.{at_enter, at_its_stage, at_reg, has_stage_of_its_own, stage_of}
-use Rattle.mk_laws.proofs.ProtocolMoves.{Attends, Begins, Closes, Ends, Enters, Gives, GoesOn, Holds, Leaves, Move}
-use Rattle.mk_laws.proofs.ProtocolMoves.{Opens, Phases, Quits, Releases, Scans, Stays, Stops, Takes, Wants, Works}
+use Rattle.mk_laws.proofs.{Vocabulary.{◌∙◌, ◌≡◌}, Actors.{Actor, AsHolder, AsMarker, CallTakes, HostTakes, InCallOf}}
+use Rattle.mk_laws.proofs.{Actors.{Meets, fills_new, grants_new, is_holders}, Asked.{closing_alone, give_phase}}
+use Rattle.mk_laws.proofs.{Asked.{none_at, none_held, other_caller, others_held}, NextSteps.{at_enter, at_its_stage}}
+use Rattle.mk_laws.proofs.{NextSteps.{at_reg, has_stage_of_its_own, stage_of}, ProtocolMoves.{Attends, Begins, Closes}}
+use Rattle.mk_laws.proofs.ProtocolMoves.{Ends, Enters, Gives, GoesOn, Holds, Leaves, Move, Opens, Phases, Quits}
+use Rattle.mk_laws.proofs.ProtocolMoves.{Releases, Scans, Stays, Stops, Takes, Wants, Works}
 use Rattle.mk_laws.proofs.SameWords.{Behind, Moves, finds, reg_keeps, tally_keeps, with_words}
-use Rattle.mk_laws.proofs.Services.{Fills, Frees, Goes, Grants, Loads, Places, Service}
+use Rattle.mk_laws.{proofs.Services.{Fills, Frees, Goes, Grants, Loads, Places, Service}, specs.Protocol.{is_granted}}
 use Rattle.mk_laws.proofs.Stages.{begun_in_call, begun_under_turn, calls_stand, either_stands, goes_on, is_call_stage}
 use Rattle.mk_laws.proofs.Stages.{is_reg_stage, loads_under_turn, onward_stands, read_stands, refused_stands}
-use Rattle.mk_laws.proofs.Stages.{reg_no_new, reg_stands, regs_work}
-use Rattle.mk_laws.proofs.Standings.{Astray, InCall, Resting, Standing, UnderTurn, is_astray, standing, standing_at}
-use Rattle.mk_laws.proofs.Views.{HoldsTurn, View, flight_in, flight_is, flights_with, gate_in, view_of}
-use Rattle.mk_laws.proofs.IdleMarkers.{work_idles, work_stays}
-use Rattle.mk_laws.specs.Protocol.{is_granted}
+use Rattle.mk_laws.proofs.{Stages.{reg_no_new, reg_stands, regs_work}, Standings.{Astray, InCall, Resting, Standing}}
+use Rattle.mk_laws.proofs.{Standings.{UnderTurn, is_astray, standing, standing_at}, Views.{HoldsTurn, View, flight_in}}
+use Rattle.mk_laws.proofs.{Views.{flight_is, flights_with, gate_in, view_of}, IdleMarkers.{work_idles, work_stays}}
 use Rattle.mk_core.specs.declared.seats.Presence.TheVariants.{Attending, Visiting}
 
 -- How a step of the turn's holder serves its call.

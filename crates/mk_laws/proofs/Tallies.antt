@@ -7,25 +7,16 @@ use Rattle.mk_laws.proofs.Vocabulary.{false_from_ne_true, first_world, flight_of
 use Rattle.mk_laws.proofs.Vocabulary.{histories_keep_lengths, in_a_word, is_decided, is_run_gone, is_undecided_new}
 use Rattle.mk_laws.proofs.Vocabulary.{left, left_from, left_more, ne_eqb, refl, subst, sym, true, true≢false}
 use Rattle.mk_laws.proofs.Vocabulary.{undecided_new, unreleased_storage, world_behind, [], ◌++◌, ◌+◌, ◌==◌, ◌∙◌, ◌∷◌}
-use Rattle.mk_laws.proofs.Vocabulary.{◌≡◌, ◌≤◌, ◌⊎◌}
-use Rattle.mk_laws.proofs.Basics.{Before, KeptByEvents, Known, Meets, before_it, holds_of_histories, known_left}
-use Rattle.mk_laws.proofs.Basics.{known_world, placed_undecided}
-use Rattle.mk_laws.proofs.FreshSteps.{FreshTold, fresh_told_behind}
-use Rattle.mk_laws.proofs.InvariantHistories.{histories_keep_the_invariant}
-use Rattle.mk_laws.proofs.OthersCounts.{entry_fulls, fulls_append, fulls_of}
-use Rattle.mk_laws.proofs.TallySteps.{CountsNothing, Gives, Leaves, Takes, TurnStep, give_counts_nothing}
-use Rattle.mk_laws.proofs.TallySteps.{others_count_nothing, turn_step}
-use Rattle.mk_laws.proofs.Asked.{give_phase}
-use Rattle.mk_laws.proofs.InvariantJoined.{told_to_layout}
-use Rattle.mk_laws.proofs.InvariantTheorems.{pages_show_the_storage}
-use Rattle.mk_laws.proofs.LayoutHistories.{known_before}
-use Rattle.mk_laws.proofs.LayoutHolders.{giver_has_turn}
-use Rattle.mk_laws.proofs.Settled.{gone_is_unmapped}
+use Rattle.mk_laws.proofs.{Vocabulary.{◌≡◌, ◌≤◌, ◌⊎◌}, Basics.{Before, KeptByEvents, Known, Meets, before_it}}
+use Rattle.mk_laws.proofs.Basics.{holds_of_histories, known_left, known_world, placed_undecided}
+use Rattle.mk_laws.proofs.{FreshSteps.{FreshTold, fresh_told_behind}, InvariantHistories.histories_keep_the_invariant}
+use Rattle.mk_laws.proofs.{OthersCounts.{entry_fulls, fulls_append, fulls_of}, TallySteps.{CountsNothing, Gives}}
+use Rattle.mk_laws.proofs.TallySteps.{Leaves, Takes, TurnStep, give_counts_nothing, others_count_nothing, turn_step}
+use Rattle.mk_laws.proofs.{Asked.give_phase, InvariantJoined.told_to_layout, InvariantTheorems.pages_show_the_storage}
+use Rattle.mk_laws.proofs.{LayoutHistories.known_before, LayoutHolders.giver_has_turn, Settled.gone_is_unmapped}
 use Rattle.mk_geom.proofs.HeldWords.{pages_hold_mapped_words}
-use Rattle.mk_core.proofs.Histories.{calls_more}
-use Rattle.mk_core.specs.Readings.{TalliesTell}
-use Rattle.mk_core.specs.Allocations.{held_by_allocations}
-use Rattle.mk_core.specs.Counts.{TalliesAreExact, full_answers, releases}
+use Rattle.mk_core.{proofs.Histories.{calls_more}, specs.Counts.{releases}}
+use Rattle.mk_core.specs.{Readings.TalliesTell, Allocations.held_by_allocations, Counts.{TalliesAreExact, full_answers}}
 use Rattle.mk_laws.specs.ExactTallies.{TalliesAreExactAtGives}
 
 -- The fresh count of the moment is that of the allocations, after every history.

@@ -8,13 +8,10 @@ use Rattle.mk_laws.proofs.Vocabulary.{is_mapped, is_small_object, is_undecided_n
 use Rattle.mk_laws.proofs.Vocabulary.{large_is_not_small, left, lt-ltb, mode_of, ne_eqb, not, not-true, object_placed}
 use Rattle.mk_laws.proofs.Vocabulary.{pages_some, placed_at, placed_now, plot_of, refl, seat_exists, subst, sym, true}
 use Rattle.mk_laws.proofs.Vocabulary.{◌&&◌, ◌*◌, ◌+◌, ◌-◌, ◌/◌, ◌==◌, ◌∙◌, ◌≡◌, ◌⊎◌}
-use Rattle.mk_laws.proofs.BarePages.{Unreleasing, bare_page, plot_page, shown_there}
-use Rattle.mk_laws.proofs.Basics.{Known, KnownWorld, Laid, all_stand, first_header, holding_object, known_world}
-use Rattle.mk_laws.proofs.Basics.{made_sized, mapped_stays, new_has_turn}
-use Rattle.mk_laws.proofs.Serving.{OnChosen, OnFree, Stands, placed_for}
-use Rattle.mk_laws.proofs.LayoutReadings.{header_of_mode}
-use Rattle.mk_laws.proofs.QuarantineByKind.{shown_at}
-use Rattle.mk_laws.proofs.WholeRuns.{whole_quiet}
+use Rattle.mk_laws.proofs.{BarePages.{Unreleasing, bare_page, plot_page, shown_there}, Basics.{Known, KnownWorld, Laid}}
+use Rattle.mk_laws.proofs.Basics.{all_stand, first_header, holding_object, known_world, made_sized, mapped_stays}
+use Rattle.mk_laws.proofs.{Basics.new_has_turn, Serving.{OnChosen, OnFree, Stands, placed_for}}
+use Rattle.mk_laws.proofs.{LayoutReadings.header_of_mode, QuarantineByKind.shown_at, WholeRuns.whole_quiet}
 use Rattle.mk_laws.specs.Kept.{LaterPagesAreKnown, PlaceIsBare, RunHasObject, StandsMapped}
 use Rattle.mk_laws.specs.ZerosTell.{ZerosTellTheGuard}
 

@@ -6,15 +6,13 @@ use Rattle.mk_laws.proofs.Vocabulary.{get_or-set_same, is_phase, is_undecided_ne
 use Rattle.mk_laws.proofs.Vocabulary.{object_made, phase_of, place_on_pages, refl, subst, sym, true, true≢false}
 use Rattle.mk_laws.proofs.Vocabulary.{undecided_new, world_behind, [], ◌++◌, ◌<◌, ◌==◌, ◌∙◌, ◌∷◌, ◌≡◌}
 use Rattle.mk_laws.proofs.Basics.{KeptByEvents, Known, Meets, WorldBehind, at_first, before_it, held_place}
-use Rattle.mk_laws.proofs.Basics.{holds_of_histories, known_left, none_on_its_way}
-use Rattle.mk_laws.proofs.Longer.{gives_turn, left_in_turn, longer_first, longer_turn, none_serves_more, taken}
-use Rattle.mk_laws.proofs.OwnCycles.{HasCycle, cycle_more, cycle_step}
-use Rattle.mk_laws.proofs.Undecided.{HasNew, IsTaken, NewCame, WasNew, new_came, new_holds_turn, new_object}
-use Rattle.mk_laws.proofs.InvariantTheorems.{first_fit_finds_the_place}
-use Rattle.mk_laws.proofs.Placings.{PlacingStep, places_at}
+use Rattle.mk_laws.proofs.{Basics.{holds_of_histories, known_left, none_on_its_way}, Longer.{gives_turn, left_in_turn}}
+use Rattle.mk_laws.proofs.Longer.{longer_first, longer_turn, none_serves_more, taken}
+use Rattle.mk_laws.proofs.{OwnCycles.{HasCycle, cycle_more, cycle_step}, Undecided.{HasNew, IsTaken, NewCame, WasNew}}
+use Rattle.mk_laws.proofs.Undecided.{new_came, new_holds_turn, new_object}
+use Rattle.mk_laws.proofs.{InvariantTheorems.first_fit_finds_the_place, Placings.{PlacingStep, places_at}}
 use Rattle.mk_core.specs.Placement.{FirstServed, NoneServesFrom, before_served, event_serves, place_after}
-use Rattle.mk_core.specs.Allocations.{place_among_allocations}
-use Rattle.mk_core.specs.Cycles.{is_give}
+use Rattle.mk_core.specs.{Allocations.place_among_allocations, Cycles.is_give}
 
 -- A step of the turn has served its New first, where the place was this one.
 pub record ServedFirst (c : Config) (s : Seat) {es : List Event} (t : TurnOf c s es) (o : Object) (place : Place)

@@ -4,11 +4,8 @@ use Rattle.mk_laws.proofs.Vocabulary.{arith, false, get_or-set_other, is_attendi
 use Rattle.mk_laws.proofs.Vocabulary.{slice_index, slice_index_or, slice_set, ◌%◌, ◌+◌, ◌-◌, ◌^◌, ◌≡◌, ◌≢◌, ◌≤◌}
 use Rattle.mk_laws.proofs.OthersMoves.{AddsBlacks, AddsMarks, Calls, CallWrite, ComesIn, GoesOut, MarkerLoads}
 use Rattle.mk_laws.proofs.OthersMoves.{MarkerWrite, Marks, OthersMove, SetsDirty, SetsGate, SetsRegister, Waits}
-use Rattle.mk_laws.proofs.OthersMoves.{with_words_seats}
-use Rattle.mk_laws.proofs.Basics.{Known}
-use Rattle.mk_laws.proofs.Growth.{grows_joined, grows_more, grows_same}
-use Rattle.mk_core.specs.Frames.{steady_of}
-use Rattle.mk_core.specs.Readings.{NoneAttends}
+use Rattle.mk_laws.proofs.{OthersMoves.with_words_seats, Basics.Known, Growth.{grows_joined, grows_more, grows_same}}
+use Rattle.mk_core.specs.{Frames.steady_of, Readings.NoneAttends}
 
 -- the phase
 up : (p : ℕ) → ((p + 8) % 2 ^ 64) % 8 ≡ p % 8

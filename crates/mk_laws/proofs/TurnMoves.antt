@@ -9,18 +9,12 @@ use Rattle.mk_laws.proofs.Vocabulary.{is_freed, is_past_probe, is_put, is_run_ce
 use Rattle.mk_laws.proofs.Vocabulary.{is_used_once, kinds_of, length, map, none_freed, object_made, phase_of}
 use Rattle.mk_laws.proofs.Vocabulary.{pointed_cell, progress_freed, refl, register_at, sees_double, slice_set, still}
 use Rattle.mk_laws.proofs.Vocabulary.{storage_holds, subst, sym, target, true, with_new, with_register, [], ◌%◌, ◌*◌}
-use Rattle.mk_laws.proofs.Vocabulary.{◌++◌, ◌+◌, ◌<◌, ◌^◌, ◌∙◌, ◌∷◌, ◌≡◌, ◌≢◌}
-use Rattle.mk_laws.proofs.Basics.{Grants, HoldsTurn, KnownWorld, Leads, Move, Ready, Stands, either_leads, flight}
-use Rattle.mk_laws.proofs.Basics.{goes_bare, operands_of, view_of}
-use Rattle.mk_laws.proofs.CallSorts.{own_registers, own_words, stays, there_is}
-use Rattle.mk_laws.proofs.FreeMoves.{double_by, free_by}
-use Rattle.mk_laws.proofs.FreedRuns.{new_frees_none}
-use Rattle.mk_laws.proofs.GrantMoves.{fills_cell, place_is_zero}
-use Rattle.mk_laws.proofs.HeapEdits.{fresh_one}
+use Rattle.mk_laws.proofs.{Vocabulary.{◌++◌, ◌+◌, ◌<◌, ◌^◌, ◌∙◌, ◌∷◌, ◌≡◌, ◌≢◌}, Basics.{Grants, HoldsTurn, KnownWorld}}
+use Rattle.mk_laws.proofs.Basics.{Leads, Move, Ready, Stands, either_leads, flight, goes_bare, operands_of, view_of}
+use Rattle.mk_laws.proofs.{CallSorts.{own_registers, own_words, stays, there_is}, FreeMoves.{double_by, free_by}}
+use Rattle.mk_laws.proofs.{FreedRuns.new_frees_none, GrantMoves.{fills_cell, place_is_zero}, HeapEdits.fresh_one}
 use Rattle.mk_laws.proofs.Ready.{one_right}
-use Rattle.mk_core.proofs.PlacesNow.{target_is}
-use Rattle.mk_core.specs.Allocations.{type_made}
-use Rattle.mk_core.specs.Effects.{progress_look}
+use Rattle.mk_core.{proofs.PlacesNow.{target_is}, specs.{Allocations.type_made, Effects.progress_look}}
 
 -- what a look at a cell that is freed already shows
 record SeesFreed (w : Words) (t : Option Cell) : Type 0 where

@@ -2,10 +2,8 @@
 use Rattle.mk_laws.proofs.Vocabulary.{Bool, Caller, Config, None, Object, Op, Option, Seat, Some, Step, World, ℕ, ap}
 use Rattle.mk_laws.proofs.Vocabulary.{arith, at_rest, cases_eq, eq-eqb, flight_of, get_or-set_other, if◌then◌else◌, inl}
 use Rattle.mk_laws.proofs.Vocabulary.{inr, is_undecided_new, nothing_done, object_made, refl, subst, sym, true, ◌+◌}
-use Rattle.mk_laws.proofs.Vocabulary.{◌<◌, ◌≡◌}
-use Rattle.mk_laws.proofs.Basics.{HoldsTurn, Known, Meets, WorldBehind, at_no_take, reg_leaves, tally_keeps, view_of}
-use Rattle.mk_laws.proofs.NewPlace.{new_from}
-use Rattle.mk_laws.proofs.OrderlyLists.{event_moves}
+use Rattle.mk_laws.proofs.{Vocabulary.{◌<◌, ◌≡◌}, Basics.{HoldsTurn, Known, Meets, WorldBehind, at_no_take, reg_leaves}}
+use Rattle.mk_laws.proofs.{Basics.{tally_keeps, view_of}, NewPlace.new_from, OrderlyLists.event_moves}
 use Rattle.mk_laws.proofs.Stages.{new_stands}
 
 -- The caller has an undecided New,

@@ -8,11 +8,10 @@ use Rattle.mk_laws.proofs.Vocabulary.{is_unmapped_header, is_unmapping, large_co
 use Rattle.mk_laws.proofs.Vocabulary.{left_from, list_any, ne_eqb, not, not-true, object_now, object_placed, or_parts}
 use Rattle.mk_laws.proofs.Vocabulary.{pages_made, placed_at, refl, run_begins, set_past, storage_words, subst, sym}
 use Rattle.mk_laws.proofs.Vocabulary.{true, true≢false, unmapped_header, unmapped_is_unmapped, world_behind, [], ◌&&◌}
-use Rattle.mk_laws.proofs.Vocabulary.{◌*◌, ◌+◌, ◌-◌, ◌/◌, ◌<◌, ◌∙◌, ◌∷◌, ◌≡◌}
-use Rattle.mk_laws.proofs.Basics.{Behind, KnownWorld, Laid, Table, claim_among, gone_terrain, known_world, own_claim}
-use Rattle.mk_laws.proofs.Basics.{reg_table, tally_table}
-use Rattle.mk_laws.proofs.ForImages.{gone_is, shown_claim, standing}
-use Rattle.mk_laws.proofs.ResidentPages.{is_resident, resident_gone, resident_other, resident_used, unmapped_use}
+use Rattle.mk_laws.proofs.{Vocabulary.{◌*◌, ◌+◌, ◌-◌, ◌/◌, ◌<◌, ◌∙◌, ◌∷◌, ◌≡◌}, Basics.{Behind, KnownWorld, Laid}}
+use Rattle.mk_laws.proofs.Basics.{Table, claim_among, gone_terrain, known_world, own_claim, reg_table, tally_table}
+use Rattle.mk_laws.proofs.{ForImages.{gone_is, shown_claim, standing}, ResidentPages.{is_resident, resident_gone}}
+use Rattle.mk_laws.proofs.ResidentPages.{resident_other, resident_used, unmapped_use}
 use Rattle.mk_laws.proofs.InvariantHistories.{histories_keep_the_invariant}
 use Rattle.mk_laws.specs.UnmappedRuns.{IsOfUnmappedRun, UnmappedRunsTakeNoMemory, gives_header, is_resident_in}
 

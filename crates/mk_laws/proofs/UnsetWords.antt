@@ -4,8 +4,7 @@ use Rattle.mk_laws.proofs.Vocabulary.{OfHistories, Seat, Step, World, ℕ, ap, a
 use Rattle.mk_laws.proofs.Vocabulary.{flight_of, g_of, get_or-set_other, get_or_past, left, left_from, left_more, refl}
 use Rattle.mk_laws.proofs.Vocabulary.{shown, slice_index, sym, true, [], ◌%◌, ◌*◌, ◌++◌, ◌+◌, ◌/◌, ◌∙◌, ◌∷◌, ◌≡◌}
 use Rattle.mk_laws.proofs.Basics.{Behind, KeptByEvents, KnownWorld, at_first, holds_of_histories, reg_table}
-use Rattle.mk_laws.proofs.Basics.{tally_table}
-use Rattle.mk_laws.proofs.FreeWords.{of_worlds}
+use Rattle.mk_laws.proofs.{Basics.tally_table, FreeWords.of_worlds}
 use Rattle.mk_laws.specs.UnsetWords.{IsNeverSet, RegistersOfNoCallerAreZero, UnsetGlobalsAreZero}
 
 no_caller : (c : Config) (w : World) (n : NeverState) → KnownWorld c w → Invariant c w n

@@ -1,8 +1,7 @@
 -- What the protocol reads of a moment, and who holds the turn by it.
 use Rattle.mk_laws.proofs.Vocabulary.{Caller, Config, Flight, Holding, Host, List, Marker, MarkerState, Moment, Seat, ℕ}
 use Rattle.mk_laws.proofs.Vocabulary.{at_rest, flight_of, outside, refl, slice_index, slice_index_or, slice_set, ◌+◌}
-use Rattle.mk_laws.proofs.Vocabulary.{◌<◌, ◌≡◌}
-use Rattle.mk_laws.proofs.Standings.{UnderTurn, standing}
+use Rattle.mk_laws.proofs.{Vocabulary.{◌<◌, ◌≡◌}, Standings.{UnderTurn, standing}}
 
 pub record View : Type 0 where
   pub turn : ℕ

@@ -1,84 +1,56 @@
 -- The words of the heap and of its steps, and the lemmas of std and of the crates below that several proofs name.
 pub use Rattle.std.proofs.Common.{Bool, List, [], ap, append-nil, append_assoc, arith, drop, false, get_or, inl, inr}
 pub use Rattle.std.proofs.Common.{length, length-set, map, refl, subst, suc, sym, take, true, zero, ℕ, ◌%◌, ◌*◌, ◌++◌}
-pub use Rattle.std.proofs.Common.{◌+◌, ◌-◌, ◌/◌, ◌<◌, ◌^◌, ◌↔◌, ◌∙◌, ◌∷◌, ◌≡◌, ◌≢◌, ◌≤◌, ◌⊎◌}
+pub use Rattle.std.{proofs.Common.{◌+◌, ◌-◌, ◌/◌, ◌<◌, ◌^◌, ◌↔◌, ◌∙◌, ◌∷◌, ◌≡◌, ◌≢◌, ◌≤◌, ◌⊎◌}, specs.List.{list_any}}
 pub use Rattle.std.proofs.lemmas.Bool.{and_from, and_parts, and_right, cases_Bool, cases_eq, cases_lt, cond-false}
 pub use Rattle.std.proofs.lemmas.Bool.{cond-true, eq-eqb, eqb-false, eqb-true, false_from_ne_true, false≢true, le-leb}
 pub use Rattle.std.proofs.lemmas.Bool.{leb-true, lt-ltb, ltb-true, ne_eqb, not-true, or_cases, or_from, or_left}
 pub use Rattle.std.proofs.lemmas.Bool.{or_parts, or_right, true≢false}
 pub use Rattle.std.proofs.lemmas.List.{get_or-set_other, get_or-set_same, get_or_append_left, get_or_past, length-map}
-pub use Rattle.std.proofs.lemmas.List.{map-append, set-get_or, set_past}
-pub use Rattle.std.proofs.lemmas.List.Folds.{list_any-append}
-pub use Rattle.std.proofs.lemmas.Nat.{mul-le}
-pub use Rattle.std.proofs.lemmas.Option.{none-some, same_Some}
+pub use Rattle.std.proofs.{lemmas.List.{map-append, set-get_or, set_past}, lemmas.List.Folds.list_any-append}
+pub use Rattle.std.proofs.{lemmas.Nat.mul-le, lemmas.Option.{none-some, same_Some}}
 pub use Rattle.std.specs.Prelude.{◌||◌, None, Option, Some, bit_or, cond, if◌then◌else◌, is_none, is_some, nat_le}
-pub use Rattle.std.specs.Prelude.{nat_lt, not, slice_index, slice_index_or, slice_set, ◌&&◌, ◌==◌}
-pub use Rattle.std.specs.Int.{bit_at}
-pub use Rattle.std.specs.List.{list_any}
-pub use Rattle.mk_geom.specs.declared.addresses.Cell.{Cell}
-pub use Rattle.mk_geom.specs.declared.headers.Header.{Header}
+pub use Rattle.std.specs.{Prelude.{nat_lt, not, slice_index, slice_index_or, slice_set, ◌&&◌, ◌==◌}, Int.bit_at}
+pub use Rattle.mk_geom.specs.{declared.addresses.Cell.Cell, declared.headers.Header.Header}
 pub use Rattle.mk_geom.specs.declared.headers.Header.TheVariants.{Block, Free, Later, LeafBlock, LeafRun, Run}
-pub use Rattle.mk_geom.specs.declared.pages.Page.{Page}
-pub use Rattle.mk_geom.specs.declared.pages.Place.{Place}
-pub use Rattle.mk_geom.specs.Addresses.{address_of, cell_at, head_page_under, is_heap_address, page_at_address}
-pub use Rattle.mk_geom.specs.Classes.{cells_of, class_words_of, run_pages_of}
-pub use Rattle.mk_geom.specs.Headers.{IsHeaderWord, header_of, word_of}
-pub use Rattle.mk_geom.specs.PageUses.{is_resident_page, or_else, resident_pages}
-pub use Rattle.mk_geom.specs.PageWords.{use_under, uses_of_pages}
-pub use Rattle.mk_geom.specs.StorageWords.{IsWordOf, PointsInto}
+pub use Rattle.mk_geom.specs.{declared.pages.Page.Page, declared.pages.Place.Place, Addresses.{address_of, cell_at}}
+pub use Rattle.mk_geom.specs.Addresses.{head_page_under, is_heap_address, page_at_address}
+pub use Rattle.mk_geom.specs.{Classes.{cells_of, class_words_of, run_pages_of}, Headers.{IsHeaderWord, header_of}}
+pub use Rattle.mk_geom.specs.{Headers.word_of, PageUses.{is_resident_page, or_else, resident_pages}}
+pub use Rattle.mk_geom.specs.{PageWords.{use_under, uses_of_pages}, StorageWords.{IsWordOf, PointsInto}}
 pub use Rattle.mk_geom.specs.Storages.{IsStorage, Storage, block_header, free_page, is_small, run_header, stands_on}
 pub use Rattle.mk_geom.proofs.ClassTable.{cell_ends}
-pub use Rattle.mk_never.specs.declared.operations.Op.{Op}
-pub use Rattle.mk_never.specs.declared.operations.Reply.TheVariants.{Done}
-pub use Rattle.mk_never.specs.declared.types.Kind.{Kind}
-pub use Rattle.mk_never.specs.declared.values.Target.TheVariants.{Unmapped, WordOf}
-pub use Rattle.mk_never.specs.declared.values.Value.{Value}
-pub use Rattle.mk_never.specs.declared.values.Value.TheVariants.{Null, Num, Ptr}
+pub use Rattle.mk_never.specs.{declared.operations.Op.Op, declared.operations.Reply.TheVariants.Done}
+pub use Rattle.mk_never.specs.{declared.types.Kind.Kind, declared.values.Target.TheVariants.{Unmapped, WordOf}}
+pub use Rattle.mk_never.specs.{declared.values.Value.Value, declared.values.Value.TheVariants.{Null, Num, Ptr}}
 pub use Rattle.mk_never.specs.Admitted.{AccessIsAdmitted, AreAdmitted, IsAdmitted, IsNumber, IsPointer, Meets}
-pub use Rattle.mk_never.specs.Laws.{Continues, KeepsRegisters}
-pub use Rattle.mk_never.specs.NeverHeap.{allocation_at, bit, global_at, is_same, is_unmapped, no_allocation, number_of}
-pub use Rattle.mk_never.specs.NeverHeap.{register_at, replies_of, target_of, with_freed, with_global, with_new}
-pub use Rattle.mk_never.specs.NeverHeap.{with_register, with_word, word_at, words_of}
-pub use Rattle.mk_never.specs.Typed.{IsSound, IsTyped, IsTypedAllocation, Suits, kind_in}
-pub use Rattle.mk_never.specs.Types.{is_large, kinds_of}
-pub use Rattle.mk_never.proofs.Edits.{set_by}
-pub use Rattle.mk_never.proofs.Registers.{admitted_keep}
-pub use Rattle.mk_core.specs.declared.accesses.Access.{Access}
-pub use Rattle.mk_core.specs.declared.accesses.Access.TheVariants.{Load, Store}
-pub use Rattle.mk_core.specs.declared.accesses.TableWord.TheVariants.{Named}
-pub use Rattle.mk_core.specs.declared.config.Config.{Config}
-pub use Rattle.mk_core.specs.declared.events.Answer.{Answer}
-pub use Rattle.mk_core.specs.declared.events.Event.{Event}
-pub use Rattle.mk_core.specs.declared.events.Group.{Group}
-pub use Rattle.mk_core.specs.declared.events.Seat.{Seat}
-pub use Rattle.mk_core.specs.declared.events.Seat.TheVariants.{Caller, Host, Marker}
-pub use Rattle.mk_core.specs.declared.events.Step.{Step}
-pub use Rattle.mk_core.specs.declared.events.Tally.{Tally}
-pub use Rattle.mk_core.specs.declared.events.Word.{Word}
-pub use Rattle.mk_core.specs.declared.seats.Flight.{Flight}
-pub use Rattle.mk_core.specs.declared.seats.Hand.{Hand}
-pub use Rattle.mk_core.specs.declared.seats.Holding.{Holding}
-pub use Rattle.mk_core.specs.declared.seats.Object.{Object}
-pub use Rattle.mk_core.specs.declared.seats.OwnCycle.{OwnCycle}
-pub use Rattle.mk_core.specs.declared.seats.Placing.{Placing}
-pub use Rattle.mk_core.specs.declared.seats.Placing.TheVariants.{Chosen, Granted, Unplaced, Used}
-pub use Rattle.mk_core.specs.declared.seats.Presence.{Presence}
-pub use Rattle.mk_core.specs.declared.seats.Progress.{Progress}
-pub use Rattle.mk_core.specs.declared.seats.RunPages.{RunPages}
-pub use Rattle.mk_core.specs.declared.seats.Scan.{Scan}
-pub use Rattle.mk_core.specs.declared.seats.SeenHeader.{SeenHeader}
-pub use Rattle.mk_core.specs.declared.seats.Stage.{Stage}
-pub use Rattle.mk_core.specs.Accesses.{access, caller_number, found, granted_base, next_word, reg_access, register_met}
-pub use Rattle.mk_core.specs.Accesses.{scan_page, seen_bit, seen_page, tally_word, word_accessed}
-pub use Rattle.mk_core.specs.Allocations.{PlacedAllocation, cell_of_allocation, freed_where_it_stands, fresh_words_of}
-pub use Rattle.mk_core.specs.Allocations.{granted, is_mapped, never_granted, no_longer_fresh, placed_at, stands_in}
-pub use Rattle.mk_core.specs.Allocations.{storage_of, storage_words, with_released}
+pub use Rattle.mk_never.specs.{Laws.{Continues, KeepsRegisters}, NeverHeap.{allocation_at, bit, global_at, is_same}}
+pub use Rattle.mk_never.specs.NeverHeap.{is_unmapped, no_allocation, number_of, register_at, replies_of, target_of}
+pub use Rattle.mk_never.specs.NeverHeap.{with_freed, with_global, with_new, with_register, with_word, word_at, words_of}
+pub use Rattle.mk_never.specs.{Typed.{IsSound, IsTyped, IsTypedAllocation, Suits, kind_in}, Types.{is_large, kinds_of}}
+pub use Rattle.mk_never.proofs.{Edits.set_by, Registers.admitted_keep}
+pub use Rattle.mk_core.specs.{declared.accesses.Access.Access, declared.accesses.Access.TheVariants.{Load, Store}}
+pub use Rattle.mk_core.specs.{declared.accesses.TableWord.TheVariants.Named, declared.config.Config.Config}
+pub use Rattle.mk_core.specs.{declared.events.Answer.Answer, declared.events.Event.Event, declared.events.Group.Group}
+pub use Rattle.mk_core.specs.{declared.events.Seat.Seat, declared.events.Seat.TheVariants.{Caller, Host, Marker}}
+pub use Rattle.mk_core.specs.{declared.events.Step.Step, declared.events.Tally.Tally, declared.events.Word.Word}
+pub use Rattle.mk_core.specs.{declared.seats.Flight.Flight, declared.seats.Hand.Hand, declared.seats.Holding.Holding}
+pub use Rattle.mk_core.specs.{declared.seats.Object.Object, declared.seats.OwnCycle.OwnCycle}
+pub use Rattle.mk_core.specs.{declared.seats.Placing.Placing, declared.seats.Placing.TheVariants.{Chosen, Granted}}
+pub use Rattle.mk_core.specs.{declared.seats.Placing.TheVariants.{Unplaced, Used}, declared.seats.Presence.Presence}
+pub use Rattle.mk_core.specs.{declared.seats.Progress.Progress, declared.seats.RunPages.RunPages}
+pub use Rattle.mk_core.specs.{declared.seats.Scan.Scan, declared.seats.SeenHeader.SeenHeader}
+pub use Rattle.mk_core.specs.{declared.seats.Stage.Stage, Accesses.{access, caller_number, found, granted_base}}
+pub use Rattle.mk_core.specs.Accesses.{next_word, reg_access, register_met, scan_page, seen_bit, seen_page, tally_word}
+pub use Rattle.mk_core.specs.{Accesses.word_accessed, Allocations.{PlacedAllocation, cell_of_allocation}}
+pub use Rattle.mk_core.specs.Allocations.{freed_where_it_stands, fresh_words_of, granted, is_mapped, never_granted}
+pub use Rattle.mk_core.specs.Allocations.{no_longer_fresh, placed_at, stands_in, storage_of, storage_words}
+pub use Rattle.mk_core.specs.Allocations.{with_released}
 pub use Rattle.mk_never.specs.declared.types.Kind.TheVariants.{Num as Number, To}
 pub use Rattle.mk_never.specs.NeverHeap.{Allocation as NeverAllocation, Call, NeverState, after_calls, after_free}
 pub use Rattle.mk_core.specs.declared.seats.Marker.{Marker as MarkerState}
 unfoldable pub use Rattle.mk_core.specs.Allocations.{unreleased_storage}
-pub use Rattle.mk_core.specs.Bits.{has_bit, without}
-pub use Rattle.mk_core.specs.Bounded.{is_none_or, is_some_and}
+pub use Rattle.mk_core.specs.{Bits.{has_bit, without}, Bounded.{is_none_or, is_some_and}}
 unfoldable pub use Rattle.mk_core.specs.Bounded.{all_below}
 pub use Rattle.mk_core.specs.Calls.{at_rest, begun, d_of, g_of, has_operands, i_of, is_under_turn, one_if, onward, p_of}
 pub use Rattle.mk_core.specs.Calls.{page_met, progress_p, progress_q, progress_read, progress_reg, q_of, r_of, refused}
@@ -89,51 +61,42 @@ pub use Rattle.mk_core.specs.Cells.{is_released_cell, is_unmapped_header, points
 pub use Rattle.mk_core.specs.Cells.{words_are_zero}
 unfoldable pub use Rattle.mk_core.specs.Cells.{pointed_cell}
 pub use Rattle.mk_core.specs.ClosedMarks.{BlackIsGuarded, DirtyIsOwed, IsGuarded, MarksAreClosed, OwesDirty}
-pub use Rattle.mk_core.specs.ClosedMarks.{PageIsDirty, PointsWell}
-pub use Rattle.mk_core.specs.Config.{IsWithinLimits}
-pub use Rattle.mk_core.specs.Counts.{IsTidy, TalliesAreTidy, ends, in_a_word}
-pub use Rattle.mk_core.specs.Cycles.{At, Cycle, Marking, Releasing, TurnOf, before_close, before_release, is_begin}
-pub use Rattle.mk_core.specs.Cycles.{is_close, is_end, is_quarantined, is_release, is_unmarked, through}
-pub use Rattle.mk_core.specs.Decided.{Decided, answered, asked, entry_of, flagged}
-pub use Rattle.mk_core.specs.Effects.{answer_decided, behind_mlook, chosen, decided, marker_behind, progress}
-pub use Rattle.mk_core.specs.Effects.{progress_freed, run_of_cell, scan_begun, scan_claimed, scan_onward, sees_double}
-pub use Rattle.mk_core.specs.Effects.{taken}
-pub use Rattle.mk_core.specs.Enabled.{IsEnabled, MeetsAll, holder_may, marker_may}
-pub use Rattle.mk_core.specs.Frames.{IsInCall, IsLeft, OnlyGrow, Steady, TurnIsLeft, Written}
-pub use Rattle.mk_core.specs.Growing.{is_one_of}
+pub use Rattle.mk_core.specs.{ClosedMarks.{PageIsDirty, PointsWell}, Config.IsWithinLimits}
+pub use Rattle.mk_core.specs.{Counts.{IsTidy, TalliesAreTidy, ends, in_a_word}, Cycles.{At, Cycle, Marking, Releasing}}
+pub use Rattle.mk_core.specs.Cycles.{TurnOf, before_close, before_release, is_begin, is_close, is_end, is_quarantined}
+pub use Rattle.mk_core.specs.{Cycles.{is_release, is_unmarked, through}, Decided.{Decided, answered, asked, entry_of}}
+pub use Rattle.mk_core.specs.{Decided.flagged, Effects.{answer_decided, behind_mlook, chosen, decided, marker_behind}}
+pub use Rattle.mk_core.specs.Effects.{progress, progress_freed, run_of_cell, scan_begun, scan_claimed, scan_onward}
+pub use Rattle.mk_core.specs.{Effects.{sees_double, taken}, Enabled.{IsEnabled, MeetsAll, holder_may, marker_may}}
+pub use Rattle.mk_core.specs.{Frames.{IsInCall, IsLeft, OnlyGrow, Steady, TurnIsLeft, Written}, Growing.is_one_of}
 unfoldable pub use Rattle.mk_core.specs.Growing.{AreOfOthers}
 pub use Rattle.mk_core.specs.History.{AreEnabled, IsHistory, World, bases_of, call_decided, calls, first_world, left}
 pub use Rattle.mk_core.specs.History.{never_behind, world_behind}
 unfoldable pub use Rattle.mk_core.specs.History.{AreEnabledFrom, calls_from, left_from}
-pub use Rattle.mk_core.specs.Image.{answer_of, answers_of, image_of}
-pub use Rattle.mk_core.specs.Layout.{AreOfPages}
+pub use Rattle.mk_core.specs.{Image.{answer_of, answers_of, image_of}, Layout.AreOfPages}
 pub use Rattle.mk_core.specs.MarkerConditions.{cell_seen, has_next_word, has_seen_cell, is_scanned}
 pub use Rattle.mk_core.specs.Moments.{Moment, first_moment, flight_of, holder_number, is_held, is_number_of, is_phase}
 pub use Rattle.mk_core.specs.Moments.{marker_at, marker_of, nothing_done, others_are_held, outside}
 pub use Rattle.mk_core.specs.NewPlaces.{base_made, class_made, header_made, is_free_at, is_new_at, is_next_header}
 pub use Rattle.mk_core.specs.NewPlaces.{is_run_gone, is_run_unmapped, is_small_object, is_undecided_free}
 pub use Rattle.mk_core.specs.NewPlaces.{is_undecided_new, object_made, pages_made, place_by_placing, place_on_pages}
-pub use Rattle.mk_core.specs.NewPlaces.{stands, target, unmapped_header}
-pub use Rattle.mk_core.specs.ObjectHeaders.{IsHeaderOf, IsSized, OfBlock, OfLater, OfLeafBlock, OfLeafRun, OfRun}
-pub use Rattle.mk_core.specs.ObjectHeaders.{ShowsPart, cells_made, words_made}
+pub use Rattle.mk_core.specs.{NewPlaces.{stands, target, unmapped_header}, ObjectHeaders.{IsHeaderOf, IsSized, OfBlock}}
+pub use Rattle.mk_core.specs.ObjectHeaders.{OfLater, OfLeafBlock, OfLeafRun, OfRun, ShowsPart, cells_made, words_made}
 pub use Rattle.mk_core.specs.Order.{comes_next, group_of, host_has_turn, is_of_turn, is_open_to, seat_exists}
-pub use Rattle.mk_core.specs.Ranges.{has_gates, has_phase, is_in_range, is_run_cell}
-pub use Rattle.mk_core.specs.Readings.{Holds, IsTaken, is_in}
+pub use Rattle.mk_core.specs.{Ranges.{has_gates, has_phase, is_in_range, is_run_cell}, Readings.{Holds, IsTaken, is_in}}
 pub use Rattle.mk_core.specs.StandingAllocations.{BeginsAtCell, HasItsHeaders, StandsOnHeap, object_placed}
 pub use Rattle.mk_core.specs.StopConditions.{has_clean_page, has_closed_page, is_attending, marks_place, may_end}
 pub use Rattle.mk_core.specs.StopConditions.{none_attends, roots_point_well}
 unfoldable pub use Rattle.mk_core.specs.StopConditions.{may_turn_black}
 pub use Rattle.mk_core.specs.TurnConditions.{carves, cell_freed, empties, frees, gives_back, held_by_pages, is_decided}
 pub use Rattle.mk_core.specs.TurnConditions.{is_marked_first, is_used_once, may_answer_full, place_now, takes_cell}
-pub use Rattle.mk_core.specs.TurnConditions.{unmaps}
-pub use Rattle.mk_core.specs.Words.{Words, accessed, header_at, phase_of, quarantine_word, register_word, used_at}
-pub use Rattle.mk_core.proofs.EvaluatedLarge.{large_is_history}
-pub use Rattle.mk_core.proofs.AllBelow.{all_below-at, all_below_more_is, all_below_zero_is}
-pub use Rattle.mk_core.proofs.BitsWithout.{has_bit_without}
-pub use Rattle.mk_core.proofs.CellsOfAllocations.{stands_in_its_cell}
-pub use Rattle.mk_core.proofs.ChangedAllocations.{LeavesPlaces, changed_at, freed_leaves, freed_released, fresh_leaves}
-pub use Rattle.mk_core.proofs.ChangedAllocations.{none_freed, released_leaves}
-pub use Rattle.mk_core.proofs.Conditions.{enabled_meets}
+pub use Rattle.mk_core.specs.{TurnConditions.unmaps, Words.{Words, accessed, header_at, phase_of, quarantine_word}}
+pub use Rattle.mk_core.specs.Words.{register_word, used_at}
+pub use Rattle.mk_core.proofs.{EvaluatedLarge.large_is_history, AllBelow.{all_below-at, all_below_more_is}}
+pub use Rattle.mk_core.proofs.{AllBelow.all_below_zero_is, BitsWithout.has_bit_without}
+pub use Rattle.mk_core.proofs.{CellsOfAllocations.stands_in_its_cell, ChangedAllocations.{LeavesPlaces, changed_at}}
+pub use Rattle.mk_core.proofs.ChangedAllocations.{freed_leaves, freed_released, fresh_leaves, none_freed}
+pub use Rattle.mk_core.proofs.{ChangedAllocations.released_leaves, Conditions.enabled_meets}
 unfoldable pub use Rattle.mk_core.proofs.EventsAt.{event_number}
 pub use Rattle.mk_core.proofs.GrantedAllocations.{granted_base_is, granted_object, granted_type}
 pub use Rattle.mk_core.proofs.Histories.{enabled_parts, left_append, left_more}
@@ -143,55 +106,41 @@ unfoldable pub use Rattle.mk_core.proofs.LargeSchedule.{large_freed, three_pages
 pub use Rattle.mk_core.proofs.Lengths.{accessed_lengths, histories_keep_lengths, zero_lengths}
 pub use Rattle.mk_core.proofs.ObjectHeaders.{header_shows, later_cells, made_is_mapped, made_shows, part_cells}
 pub use Rattle.mk_core.proofs.ObjectHeaders.{part_has_no_pointers, part_head, part_not_free, part_words, shown_later}
-pub use Rattle.mk_core.proofs.ObjectHeaders.{small_heads_none, unmapped_is_unmapped}
-pub use Rattle.mk_core.proofs.PageSteps.{Drops, Empties, GivesBack, HeadStep, ItCarves, ItDrops, ItEmpties, ItFrees}
-pub use Rattle.mk_core.proofs.PageSteps.{ItGivesBack, ItTakes, ItTakesSnapshot, ItUnmaps, QuarantineStep, UsedStep}
-pub use Rattle.mk_core.proofs.PageSteps.{head_step, quarantine_step, used_step}
-pub use Rattle.mk_core.proofs.PlacesNow.{AsChosen, AsUsed, ByFit, IsPlaced, freed_cell, placed_now, undecided_free}
-pub use Rattle.mk_core.proofs.PlacesNow.{undecided_new}
+pub use Rattle.mk_core.proofs.{ObjectHeaders.{small_heads_none, unmapped_is_unmapped}, PageSteps.{Drops, Empties}}
+pub use Rattle.mk_core.proofs.PageSteps.{GivesBack, HeadStep, ItCarves, ItDrops, ItEmpties, ItFrees, ItGivesBack}
+pub use Rattle.mk_core.proofs.PageSteps.{ItTakes, ItTakesSnapshot, ItUnmaps, QuarantineStep, UsedStep, head_step}
+pub use Rattle.mk_core.proofs.{PageSteps.{quarantine_step, used_step}, PlacesNow.{AsChosen, AsUsed, ByFit, IsPlaced}}
+pub use Rattle.mk_core.proofs.PlacesNow.{freed_cell, placed_now, undecided_free, undecided_new}
 pub use Rattle.mk_core.proofs.PointedAllocations.{released_where_left, word_points}
 unfoldable pub use Rattle.mk_core.proofs.Schedules.{by, c0, one_page}
-pub use Rattle.mk_core.proofs.ServingSteps.{IsNextHeader, marks_is}
-pub use Rattle.mk_core.proofs.Sizes.{class_known, large_cells, large_count, large_is_not_small, large_words, pages_some}
-pub use Rattle.mk_core.proofs.Sizes.{small_cells, small_pages, small_words, words_within}
-pub use Rattle.mk_core.proofs.SmallCycles.{small, stopped_cycle}
+pub use Rattle.mk_core.proofs.{ServingSteps.{IsNextHeader, marks_is}, Sizes.{class_known, large_cells, large_count}}
+pub use Rattle.mk_core.proofs.Sizes.{large_is_not_small, large_words, pages_some, small_cells, small_pages, small_words}
+pub use Rattle.mk_core.proofs.{Sizes.words_within, SmallCycles.{small, stopped_cycle}}
 unfoldable pub use Rattle.mk_core.proofs.SmallCycles.{begun_in_stop, marked_in_stop, three_objects}
-pub use Rattle.mk_core.proofs.SmallHistories.{stopped_is_history}
-pub use Rattle.mk_core.proofs.StandingAllocations.{cells_begin, first_page_shows, run_begins, standing_has_storage}
-pub use Rattle.mk_core.proofs.StandingAllocations.{storage_holds, typed_size}
-pub use Rattle.mk_core.proofs.UnreleasedStorage.{storage_is_of}
-pub use Rattle.mk_core.proofs.WordBits.{fewer_bits, no_bit}
-pub use Rattle.mk_laws.specs.FreePages.{HasAllocation}
-pub use Rattle.mk_laws.specs.FreeWords.{Leaves}
-pub use Rattle.mk_laws.specs.Ground.{Ground, ground_of}
+pub use Rattle.mk_core.proofs.{SmallHistories.stopped_is_history, StandingAllocations.{cells_begin, first_page_shows}}
+pub use Rattle.mk_core.proofs.StandingAllocations.{run_begins, standing_has_storage, storage_holds, typed_size}
+pub use Rattle.mk_core.proofs.{UnreleasedStorage.storage_is_of, WordBits.{fewer_bits, no_bit}}
+pub use Rattle.mk_laws.specs.{FreePages.HasAllocation, FreeWords.Leaves, Ground.{Ground, ground_of}}
 pub use Rattle.mk_laws.specs.Guard.{CellsAreClosed, HeaderGoesOn, IsMarking, MarkerStands, ScanStands}
 pub use Rattle.mk_laws.specs.ImagePremises.{ImagePremises, IsPlaceOfNone, MayHoldWords, run_of_allocation}
 pub use Rattle.mk_laws.specs.Images.{Carries, CarriesOwn, ImageScene, IsMet, ProbedOwn, flight_among, has_p, has_r}
-pub use Rattle.mk_laws.specs.Images.{has_some_p, image_scene_of, is_past_probe, is_put, shown}
-pub use Rattle.mk_laws.specs.ImagesSay.{ImagesSay}
-pub use Rattle.mk_laws.specs.Invariant.{Invariant}
-pub use Rattle.mk_laws.specs.Kept.{GuardPremises}
+pub use Rattle.mk_laws.specs.{Images.{has_some_p, image_scene_of, is_past_probe, is_put, shown}, ImagesSay.ImagesSay}
+pub use Rattle.mk_laws.specs.{Invariant.Invariant, Kept.GuardPremises}
 unfoldable pub use Rattle.mk_laws.specs.Kept.{GuardPremisesFrom}
-pub use Rattle.mk_laws.specs.Laws.{ImagePremisesAlong}
-pub use Rattle.mk_laws.specs.LayoutLaws.{LayoutPremises, StandsInOrder}
+pub use Rattle.mk_laws.specs.{Laws.ImagePremisesAlong, LayoutLaws.{LayoutPremises, StandsInOrder}}
 unfoldable pub use Rattle.mk_laws.specs.LayoutLaws.{LayoutPremisesFrom}
 pub use Rattle.mk_laws.specs.LayoutScene.{Among, AreApart, Claim, HasHeader, HasItsHead, InPlot, IsClaimed, IsLaidOn}
 pub use Rattle.mk_laws.specs.LayoutScene.{IsOfOneCell, IsPlotShown, IsShown, LayoutScene, Mapped, Mode, NoPlot, Plot}
 pub use Rattle.mk_laws.specs.LayoutScene.{PlotStands, Plotted, Unmapping, head_on, header_on, is_released_in}
-pub use Rattle.mk_laws.specs.LayoutScene.{is_released_on, run_count, shows_on, used_on}
-pub use Rattle.mk_laws.specs.Mirrors.{Mirrors}
-pub use Rattle.mk_laws.specs.Precision.{through_release}
-pub use Rattle.mk_laws.specs.Protocol.{IsIdle, Protocol, has_place, is_decided_free, is_decided_free_at}
-pub use Rattle.mk_laws.specs.Quarantine.{HasQuarantine, IsFreedCell, IsQuarantined, KeepsSnapshot, has_bit_of}
-pub use Rattle.mk_laws.specs.Quarantine.{is_cycling}
+pub use Rattle.mk_laws.specs.{LayoutScene.{is_released_on, run_count, shows_on, used_on}, Mirrors.Mirrors}
+pub use Rattle.mk_laws.specs.{Precision.through_release, Protocol.{IsIdle, Protocol, has_place, is_decided_free}}
+pub use Rattle.mk_laws.specs.{Protocol.is_decided_free_at, Quarantine.{HasQuarantine, IsFreedCell, IsQuarantined}}
+pub use Rattle.mk_laws.specs.Quarantine.{KeepsSnapshot, has_bit_of, is_cycling}
 unfoldable pub use Rattle.mk_laws.specs.Room.{count_below}
-pub use Rattle.mk_laws.specs.SafeSets.{IsSafe, IsSafeSet}
-pub use Rattle.mk_laws.specs.SettledPages.{IsSettled}
-pub use Rattle.mk_laws.specs.Terrain.{HasLayout, IsAtCell, IsClaimedRun, LayoutStands, RunStands, claim_of, claims_of}
-pub use Rattle.mk_laws.specs.Terrain.{claims_on, claims_placed, is_unmapping, layout_scene_of, mode_of, object_now}
-pub use Rattle.mk_laws.specs.Terrain.{place_claim, plot_of}
-pub use Rattle.mk_laws.specs.Theorems.{KeepsTheInvariant, OfHistories}
-pub use Rattle.mk_laws.specs.ZeroLaws.{is_heap_store}
+pub use Rattle.mk_laws.specs.{SafeSets.{IsSafe, IsSafeSet}, SettledPages.IsSettled, Terrain.{HasLayout, IsAtCell}}
+pub use Rattle.mk_laws.specs.Terrain.{IsClaimedRun, LayoutStands, RunStands, claim_of, claims_of, claims_on}
+pub use Rattle.mk_laws.specs.Terrain.{claims_placed, is_unmapping, layout_scene_of, mode_of, object_now, place_claim}
+pub use Rattle.mk_laws.specs.{Terrain.plot_of, Theorems.{KeepsTheInvariant, OfHistories}, ZeroLaws.is_heap_store}
 pub use Rattle.mk_laws.specs.Zeros.{HasZeros, IsFreedWord, IsReleasedWord, IsWordOfMapped, MayHold, OfFreedRun}
 pub use Rattle.mk_laws.specs.Zeros.{OfMapped, OfReleased, OthersAreZero, ZeroScene, is_released_there, zero_scene_of}
 pub use Rattle.mk_laws.specs.Zeros.{zero_scene_with}

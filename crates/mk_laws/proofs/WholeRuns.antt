@@ -8,13 +8,10 @@ use Rattle.mk_laws.proofs.Vocabulary.{head_page, head_page_under, head_step, hea
 use Rattle.mk_laws.proofs.Vocabulary.{heads_run, inl, inr, is_phase, is_small_object, length, length-set, made_shows}
 use Rattle.mk_laws.proofs.Vocabulary.{object_now, pages_made, pages_some, plot_of, refl, run_count, set_by, shows_on}
 use Rattle.mk_laws.proofs.Vocabulary.{small_heads_none, stands, subst, suc, sym, true, true≢false, used_on, used_step}
-use Rattle.mk_laws.proofs.Vocabulary.{zero, ◌+◌, ◌-◌, ◌<◌, ◌∙◌, ◌≡◌, ◌≢◌, ◌⊎◌}
-use Rattle.mk_laws.proofs.Basics.{Before, Meets, WorldBehind, claimed, headed_other, is_releasing_behind, none_set}
-use Rattle.mk_laws.proofs.Basics.{page_within, reg_leaves_ground, tally_ground, used_header, with_header_on}
-use Rattle.mk_laws.proofs.Basics.{with_used_on, zero_where_none}
-use Rattle.mk_laws.proofs.Releasing.{headed_here, headed_used}
-use Rattle.mk_laws.proofs.Behind.{phase_kind}
-use Rattle.mk_laws.proofs.Unmapping.{part_count, small_count}
+use Rattle.mk_laws.proofs.{Vocabulary.{zero, ◌+◌, ◌-◌, ◌<◌, ◌∙◌, ◌≡◌, ◌≢◌, ◌⊎◌}, Basics.{Before, Meets, WorldBehind}}
+use Rattle.mk_laws.proofs.Basics.{claimed, headed_other, is_releasing_behind, none_set, page_within, reg_leaves_ground}
+use Rattle.mk_laws.proofs.Basics.{tally_ground, used_header, with_header_on, with_used_on, zero_where_none}
+use Rattle.mk_laws.proofs.{Releasing.{headed_here, headed_used}, Behind.phase_kind, Unmapping.{part_count, small_count}}
 use Rattle.mk_core.proofs.ObjectHeaders.{later_part}
 use Rattle.mk_laws.specs.WholeRuns.{HasLaterPage, HaveWholeRuns, RunIsWhole, RunsAreWhole}
 

@@ -7,14 +7,10 @@ use Rattle.mk_laws.proofs.Vocabulary.{is_small_object, large_words, object_place
 use Rattle.mk_laws.proofs.Vocabulary.{pages_made, part_has_no_pointers, phase_of, placed_at, pointed_cell, run_begins}
 use Rattle.mk_laws.proofs.Vocabulary.{run_count, shown, slice_index, standing_has_storage, stands_on, storage_of}
 use Rattle.mk_laws.proofs.Vocabulary.{storage_words, subst, sym, true, typed_size, ◌*◌, ◌-◌, ◌/◌, ◌<◌, ◌∙◌, ◌≡◌, ◌≢◌}
-use Rattle.mk_laws.proofs.Vocabulary.{◌⊎◌}
-use Rattle.mk_laws.proofs.Unmapping.{part_count, small_count}
-use Rattle.mk_laws.proofs.Basics.{KnownWorld}
-use Rattle.mk_laws.proofs.FreeWords.{of_one}
+use Rattle.mk_laws.proofs.{Vocabulary.◌⊎◌, Unmapping.{part_count, small_count}, Basics.KnownWorld, FreeWords.of_one}
 use Rattle.mk_laws.proofs.InvariantJoined.{told_to_images}
 use Rattle.mk_geom.proofs.Standing.{stands_at_first, stands_from}
-use Rattle.mk_core.proofs.PointedPages.{PointsTo, points_to}
-use Rattle.mk_core.proofs.PointedAllocations.{pointers_come_back}
+use Rattle.mk_core.proofs.{PointedPages.{PointsTo, points_to}, PointedAllocations.pointers_come_back}
 use Rattle.mk_core.proofs.StandingAllocations.{pointers_hit}
 use Rattle.mk_laws.specs.ImagePremises as images
 pub use Rattle.mk_laws.proofs.FreeWords.{IsOfOne as IsHeld}

@@ -10,20 +10,15 @@ use Rattle.mk_laws.proofs.Vocabulary.{is_left_unmarked, is_phase, is_released_th
 use Rattle.mk_laws.proofs.Vocabulary.{may_end, nothing_done, object_placed, placed_at, quarantine_step, refl}
 use Rattle.mk_laws.proofs.Vocabulary.{reg_access, register_met, subst, sym, true, true≢false, used_step, with_released}
 use Rattle.mk_laws.proofs.Vocabulary.{word_accessed, word_met, word_points, world_behind, zero_lengths, zero_scene_with}
-use Rattle.mk_laws.proofs.Vocabulary.{[], ◌*◌, ◌++◌, ◌==◌, ◌∙◌, ◌∷◌, ◌≡◌}
-use Rattle.mk_laws.proofs.Basics.{Known, Meets, WorldBehind, at_first, changed_words, is_releasing_behind}
-use Rattle.mk_laws.proofs.Basics.{known_at_first, known_behind, known_left, mapped_stays, none_released}
-use Rattle.mk_laws.proofs.Behind.{phase_kind, releasing_marks}
+use Rattle.mk_laws.proofs.{Vocabulary.{[], ◌*◌, ◌++◌, ◌==◌, ◌∙◌, ◌∷◌, ◌≡◌}, Basics.{Known, Meets, WorldBehind}}
+use Rattle.mk_laws.proofs.Basics.{at_first, changed_words, is_releasing_behind, known_at_first, known_behind}
+use Rattle.mk_laws.proofs.{Basics.{known_left, mapped_stays, none_released}, Behind.{phase_kind, releasing_marks}}
 use Rattle.mk_laws.proofs.ChangedScenes.{Before, early_words, here, kept_heap, standing, stored_words, wiped_words}
 use Rattle.mk_laws.proofs.MappedWords.{word_of_fresh, word_of_longer, word_of_unreleased}
-use Rattle.mk_laws.proofs.ZerosPageKinds.{gone_word, head_kind, quar_kind, used_kind}
-use Rattle.mk_laws.proofs.Dropped.{settled_page}
-use Rattle.mk_laws.proofs.LayoutByKind.{off_at}
-use Rattle.mk_laws.proofs.LayoutHistories.{histories_are_laid_out}
-use Rattle.mk_laws.proofs.QuarantineByKind.{shown_at}
+use Rattle.mk_laws.proofs.{ZerosPageKinds.{gone_word, head_kind, quar_kind, used_kind}, Dropped.settled_page}
+use Rattle.mk_laws.proofs.{LayoutByKind.off_at, LayoutHistories.histories_are_laid_out, QuarantineByKind.shown_at}
 use Rattle.mk_laws.proofs.QuarantineChanges.{index_small}
-use Rattle.mk_core.proofs.PointedPages.{pointed_within}
-use Rattle.mk_core.proofs.RegisterAccesses.{register_leaves, tally_leaves}
+use Rattle.mk_core.proofs.{PointedPages.pointed_within, RegisterAccesses.{register_leaves, tally_leaves}}
 use Rattle.mk_laws.specs.ZeroLaws.{EventsKeepTheZeros, ZeroPremises, ZeroPremisesFrom, ZerosStandBehindLists}
 use Rattle.mk_laws.specs.LayoutLaws as layout
 

@@ -16,17 +16,11 @@ use Rattle.mk_laws.proofs.Vocabulary.{placed_at, pointed_cell, refl, run_begins,
 use Rattle.mk_laws.proofs.Vocabulary.{slice_index, slice_set, stands_in, storage_words, subst, sym, target, true}
 use Rattle.mk_laws.proofs.Vocabulary.{typed_size, undecided_free, used_at, used_on, without, words_are_zero}
 use Rattle.mk_laws.proofs.Vocabulary.{words_under, zero_scene_with, ◌%◌, ◌&&◌, ◌*◌, ◌+◌, ◌-◌, ◌/◌, ◌<◌, ◌==◌, ◌^◌, ◌∙◌}
-use Rattle.mk_laws.proofs.Vocabulary.{◌≡◌, ◌≢◌, ◌≤◌, ◌⊎◌}
-use Rattle.mk_laws.proofs.Basics.{IsStanding, Laid, Meets, changed_words, free_has_turn, mapped_stays, none_on_its_way}
-use Rattle.mk_laws.proofs.Basics.{none_set}
-use Rattle.mk_laws.proofs.ChangedScenes.{Before, early_words, here, standing}
-use Rattle.mk_laws.proofs.Freed.{run_large, standing_cell}
-use Rattle.mk_laws.proofs.LayoutByKind.{off_at}
-use Rattle.mk_laws.proofs.MappedWords.{word_of_changed}
-use Rattle.mk_laws.specs.Zeros.{first_word_on}
-use Rattle.mk_core.proofs.ChangedAllocations.{freed_storage}
-use Rattle.mk_core.proofs.PageSteps.{wiped_cell}
-use Rattle.mk_core.proofs.PointedPages.{pointed_head}
+use Rattle.mk_laws.proofs.{Vocabulary.{◌≡◌, ◌≢◌, ◌≤◌, ◌⊎◌}, Basics.{IsStanding, Laid, Meets, changed_words}}
+use Rattle.mk_laws.{proofs.Basics.{free_has_turn, mapped_stays, none_on_its_way, none_set}, specs.Zeros.{first_word_on}}
+use Rattle.mk_laws.proofs.{ChangedScenes.{Before, early_words, here, standing}, Freed.{run_large, standing_cell}}
+use Rattle.mk_laws.proofs.{LayoutByKind.off_at, MappedWords.word_of_changed}
+use Rattle.mk_core.proofs.{ChangedAllocations.freed_storage, PageSteps.wiped_cell, PointedPages.pointed_head}
 use Rattle.mk_core.proofs.WordBits.{rest_bits}
 
 -- Words of released cells, after the steps of releasing.

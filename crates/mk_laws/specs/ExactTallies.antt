@@ -1,8 +1,6 @@
 -- When the tallies of held and fresh words are those of the allocations.
 use Rattle.std.specs.Prelude.{◌≡◌, List, ◌∷◌, ◌++◌}
-use Rattle.mk_core.specs.declared.config.Config.{Config}
-use Rattle.mk_core.specs.declared.events.Event.{Event}
-use Rattle.mk_core.specs.Counts.{TalliesAreExact}
+use Rattle.mk_core.specs.{declared.config.Config.Config, declared.events.Event.Event, Counts.TalliesAreExact}
 use Rattle.mk_core.specs.declared.events.Step.TheVariants as step
 
 -- They are so before each `give`.

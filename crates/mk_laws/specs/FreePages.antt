@@ -1,9 +1,7 @@
 -- Pages without a header have nothing: their used word, quarantine word and dirty word are 0.
 use Rattle.std.specs.Prelude.{◌≡◌, ◌≢◌, ℕ, ◌/◌, false, slice_index}
 use Rattle.mk_geom.specs.StorageWords.{IsWordOf}
-use Rattle.mk_core.specs.declared.config.Config.{Config}
-use Rattle.mk_core.specs.Allocations.{placed_at, storage_of}
-use Rattle.mk_core.specs.History.{World}
+use Rattle.mk_core.specs.{declared.config.Config.Config, Allocations.{placed_at, storage_of}, History.World}
 use Rattle.mk_core.specs.Words.{Words, header_at, used_at}
 
 -- No cell of the page is used or freed, in the snapshot or not, and the page isn't dirty.

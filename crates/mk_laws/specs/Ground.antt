@@ -1,10 +1,8 @@
 -- What the turn's steps change of a world, but for the phase and the marks.
 use Rattle.std.specs.Prelude.{ℕ, List, Option}
 use Rattle.mk_geom.specs.declared.pages.Page.{Page}
-use Rattle.mk_core.specs.declared.seats.Placing.{Placing}
-use Rattle.mk_core.specs.declared.seats.RunPages.{RunPages}
-use Rattle.mk_core.specs.Allocations.{PlacedAllocation}
-use Rattle.mk_core.specs.History.{World}
+use Rattle.mk_core.specs.{declared.seats.Placing.Placing, declared.seats.RunPages.RunPages}
+use Rattle.mk_core.specs.{Allocations.PlacedAllocation, History.World}
 
 -- The pages and the quarantine words, how far the turn's holder is, and the allocations.
 pub record Ground : Type 0 where

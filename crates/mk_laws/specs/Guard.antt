@@ -1,19 +1,12 @@
 -- What stands while a cycle marks: the words of black cells are guarded, and what markers have scanned and seen goes
 -- on. And what stands from `close` to `release`: the marks are closed.
 use Rattle.std.specs.Prelude.{◌≡◌, ◌≢◌, ◌⊎◌, ℕ, ◌+◌, ◌<◌, ◌≤◌, true, false, slice_index, Option, Some}
-use Rattle.mk_geom.specs.declared.addresses.Cell.{Cell}
-use Rattle.mk_geom.specs.Headers.{header_of}
-use Rattle.mk_geom.specs.Addresses.{cell_at}
-use Rattle.mk_core.specs.declared.config.Config.{Config}
-use Rattle.mk_core.specs.declared.seats.Scan.{Scan}
-use Rattle.mk_core.specs.declared.seats.SeenHeader.{SeenHeader}
-use Rattle.mk_core.specs.declared.seats.Marker.{Marker}
-use Rattle.mk_core.specs.Words.{Words, phase_of, header_at}
+use Rattle.mk_geom.specs.{declared.addresses.Cell.Cell, Headers.header_of, Addresses.cell_at}
+use Rattle.mk_core.specs.{declared.config.Config.Config, declared.seats.Scan.Scan, declared.seats.SeenHeader.SeenHeader}
+use Rattle.mk_core.specs.{declared.seats.Marker.Marker, Words.{Words, phase_of, header_at}}
 use Rattle.mk_core.specs.Cells.{header_in, cells_under, words_under, has_no_pointers, is_marked, first_word, cell_words}
-use Rattle.mk_core.specs.Cells.{points_well, word_points_well}
-use Rattle.mk_core.specs.Moments.{Moment, marker_of}
-use Rattle.mk_core.specs.StopConditions.{is_attending}
-use Rattle.mk_core.specs.ClosedMarks.{IsGuarded, BlackIsGuarded}
+use Rattle.mk_core.specs.{Cells.{points_well, word_points_well}, Moments.{Moment, marker_of}}
+use Rattle.mk_core.specs.{StopConditions.is_attending, ClosedMarks.{IsGuarded, BlackIsGuarded}}
 
 -- One header word goes on as another: what the one shows of cells, the other shows too.
 pub record HeaderGoesOn (pages before after : ℕ) : Type 0 where

@@ -1,10 +1,7 @@
 -- What a look at the turn, at a gate and at the phase says.
 use Rattle.std.specs.Prelude.{List}
-use Rattle.mk_core.specs.declared.config.Config.{Config}
-use Rattle.mk_core.specs.declared.events.Event.{Event}
-use Rattle.mk_core.specs.Config.{IsWithinLimits}
-use Rattle.mk_core.specs.History.{AreEnabled}
-use Rattle.mk_core.specs.Readings.{WordsTellWhoHoldsWhat}
+use Rattle.mk_core.specs.{declared.config.Config.Config, declared.events.Event.Event, Config.IsWithinLimits}
+use Rattle.mk_core.specs.{History.AreEnabled, Readings.WordsTellWhoHoldsWhat}
 
 -- So it is after every enabled list within limits, whether its calls are admitted or not.
 abbrev pub WordsTell : Type 0

@@ -1,15 +1,11 @@
 -- What the words that callers read and write show of the heap that never reuses storage.
 use Rattle.std.specs.Prelude.{◌≡◌, ◌≢◌, ℕ, ◌+◌, ◌/◌, ◌%◌, ◌<◌, Bool, true, false, ◌==◌, List, length, slice_index}
 use Rattle.std.specs.Prelude.{slice_index_or, if◌then◌else◌}
-use Rattle.mk_never.specs.declared.operations.Op.{Op}
-use Rattle.mk_never.specs.declared.values.Value.{Value}
-use Rattle.mk_never.specs.declared.values.Value.TheVariants.{Null, Num, Ptr}
-use Rattle.mk_never.specs.NeverHeap.{NeverState, register_at, global_at, allocation_at, words_of, word_at, is_unmapped}
-use Rattle.mk_core.specs.declared.seats.Stage.{Stage}
-use Rattle.mk_core.specs.declared.seats.Flight.{Flight}
-use Rattle.mk_core.specs.Calls.{at_rest, q_of, p_of, r_of, d_of, i_of}
-use Rattle.mk_core.specs.Image.{image_of}
-use Rattle.mk_core.specs.Allocations.{PlacedAllocation, placed_at}
+use Rattle.mk_never.specs.{declared.operations.Op.Op, declared.values.Value.Value}
+use Rattle.mk_never.specs.{declared.values.Value.TheVariants.{Null, Num, Ptr}, NeverHeap.{NeverState, register_at}}
+use Rattle.mk_never.specs.NeverHeap.{global_at, allocation_at, words_of, word_at, is_unmapped}
+use Rattle.mk_core.specs.{declared.seats.Stage.Stage, declared.seats.Flight.Flight, Calls.{at_rest, q_of, p_of, r_of}}
+use Rattle.mk_core.specs.{Calls.{d_of, i_of}, Image.image_of, Allocations.{PlacedAllocation, placed_at}}
 use Rattle.mk_core.specs.History.{World, bases_of}
 use Rattle.mk_never.specs.declared.operations.Op.TheVariants as op
 use Rattle.mk_core.specs.declared.seats.Stage.TheVariants as stage

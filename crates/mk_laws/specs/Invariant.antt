@@ -1,11 +1,7 @@
 -- The invariant: all groups of facts that each event keeps together.
 use Rattle.mk_never.specs.NeverHeap.{NeverState}
-use Rattle.mk_core.specs.declared.config.Config.{Config}
-use Rattle.mk_core.specs.History.{World}
-use Rattle.mk_laws.specs.LayoutLaws.{StandsInOrder}
-use Rattle.mk_laws.specs.Mirrors.{Mirrors}
-use Rattle.mk_laws.specs.Guard.{MarksStand}
-use Rattle.mk_laws.specs.Zeros.{HasZeros}
+use Rattle.mk_core.specs.{declared.config.Config.Config, History.World}
+use Rattle.mk_laws.specs.{LayoutLaws.StandsInOrder, Mirrors.Mirrors, Guard.MarksStand, Zeros.HasZeros}
 use Rattle.mk_laws.specs.RunGates.{HoldsRunGates}
 
 pub record Invariant (c : Config) (w : World) (n : NeverState) : Type 0 where

@@ -1,23 +1,15 @@
 -- What the guard asks of the layout and of zero words before each event, and what is proved of it.
 use Rattle.std.specs.Prelude.{⊤, ◌≡◌, ◌⊎◌, ℕ, ◌+◌, ◌*◌, ◌/◌, ◌<◌, ◌≤◌, true, false, List, [], ◌∷◌, slice_index, Some}
-use Rattle.mk_geom.specs.declared.headers.Header.TheVariants.{Run}
-use Rattle.mk_geom.specs.declared.pages.Place.{Place}
-use Rattle.mk_core.specs.declared.config.Config.{Config}
-use Rattle.mk_core.specs.declared.events.Event.{Event}
-use Rattle.mk_core.specs.declared.events.Seat.{Seat}
-use Rattle.mk_core.specs.declared.seats.RunPages.{RunPages}
-use Rattle.mk_core.specs.declared.seats.Object.{Object}
-use Rattle.mk_core.specs.Config.{IsWithinLimits}
-use Rattle.mk_core.specs.Words.{Words, header_at, phase_of}
-use Rattle.mk_core.specs.Cells.{header_in, head_page}
-use Rattle.mk_core.specs.Moments.{Moment, flight_of}
+use Rattle.mk_geom.specs.{declared.headers.Header.TheVariants.Run, declared.pages.Place.Place}
+use Rattle.mk_core.specs.{declared.config.Config.Config, declared.events.Event.Event, declared.events.Seat.Seat}
+use Rattle.mk_core.specs.{declared.seats.RunPages.RunPages, declared.seats.Object.Object, Config.IsWithinLimits}
+use Rattle.mk_core.specs.{Words.{Words, header_at, phase_of}, Cells.{header_in, head_page}, Moments.{Moment, flight_of}}
 use Rattle.mk_core.specs.NewPlaces.{object_made, is_small_object, pages_made, header_made}
-use Rattle.mk_core.specs.ObjectHeaders.{IsSized, IsHeaderOf}
-use Rattle.mk_core.specs.TurnConditions.{place_now}
+use Rattle.mk_core.specs.{ObjectHeaders.{IsSized, IsHeaderOf}, TurnConditions.place_now}
 use Rattle.mk_core.specs.Allocations.{PlacedAllocation, placed_at, is_mapped}
 use Rattle.mk_core.specs.StandingAllocations.{object_placed, StandsOnHeap}
-use Rattle.mk_core.specs.ClosedMarks.{MarksAreClosed, MarkingIsGuarded}
-use Rattle.mk_core.specs.History.{World, world_behind, first_world, left, AreEnabled, IsEnabledBehind}
+use Rattle.mk_core.specs.{ClosedMarks.{MarksAreClosed, MarkingIsGuarded}, History.{World, world_behind, first_world}}
+use Rattle.mk_core.specs.History.{left, AreEnabled, IsEnabledBehind}
 use Rattle.mk_laws.specs.Guard.{IsMarking, MarksStand}
 use Rattle.mk_core.specs.declared.events.Step.TheVariants as step
 

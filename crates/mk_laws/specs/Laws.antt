@@ -1,14 +1,9 @@
 -- What holds of all histories, where the rest of the invariant holds after each front of them.
 use Rattle.std.specs.Prelude.{◌≡◌, ℕ, false, List, ◌++◌}
 use Rattle.mk_never.specs.Reach.{IsReachable}
-use Rattle.mk_core.specs.declared.config.Config.{Config}
-use Rattle.mk_core.specs.declared.events.Event.{Event}
-use Rattle.mk_core.specs.Allocations.{placed_at}
-use Rattle.mk_core.specs.History.{left, never_behind, IsHistory, RefinesNever}
-use Rattle.mk_core.specs.Exchanges.{ExchangesCompareValues}
-use Rattle.mk_laws.specs.ImagePremises.{ImagePremises}
-use Rattle.mk_laws.specs.Mirrors.{Mirrors}
-use Rattle.mk_laws.specs.ImagesSay.{ImagesSay}
+use Rattle.mk_core.specs.{declared.config.Config.Config, declared.events.Event.Event, Allocations.placed_at}
+use Rattle.mk_core.specs.{History.{left, never_behind, IsHistory, RefinesNever}, Exchanges.ExchangesCompareValues}
+use Rattle.mk_laws.specs.{ImagePremises.ImagePremises, Mirrors.Mirrors, ImagesSay.ImagesSay}
 
 -- The layout, the quarantine, the zero words and the marks are as they should be after each front.
 abbrev pub ImagePremisesAlong : Config → List Event → Type 0

@@ -1,21 +1,12 @@
 -- What stands on the pages stays laid out after each event, and the quarantine with it.
 use Rattle.std.specs.Prelude.{List, Some, [], slice_index, true, ⊤, ◌∷◌, ◌≡◌, ◌≤◌}
-use Rattle.mk_geom.specs.PageUses.{resident_pages}
-use Rattle.mk_geom.specs.PageWords.{uses_of_pages}
-use Rattle.mk_geom.specs.declared.addresses.Cell.{Cell}
-use Rattle.mk_core.specs.Bits.{has_bit}
-use Rattle.mk_core.specs.Config.{IsWithinLimits}
-use Rattle.mk_core.specs.History.{AreEnabled, IsEnabledBehind, World, first_world, left, world_behind}
-use Rattle.mk_core.specs.Moments.{flight_of, is_phase}
-use Rattle.mk_core.specs.NewPlaces.{target}
-use Rattle.mk_core.specs.declared.config.Config.{Config}
-use Rattle.mk_core.specs.declared.events.Event.{Event}
-use Rattle.mk_core.specs.declared.events.Seat.{Seat}
+use Rattle.mk_geom.specs.{PageUses.resident_pages, PageWords.uses_of_pages, declared.addresses.Cell.Cell}
+use Rattle.mk_core.specs.{Bits.has_bit, Config.IsWithinLimits, History.{AreEnabled, IsEnabledBehind, World}}
+use Rattle.mk_core.specs.{History.{first_world, left, world_behind}, Moments.{flight_of, is_phase}, NewPlaces.target}
+use Rattle.mk_core.specs.{declared.config.Config.Config, declared.events.Event.Event, declared.events.Seat.Seat}
 use Rattle.mk_core.specs.declared.seats.RunPages.{RunPages}
-use Rattle.mk_laws.specs.Quarantine.{FreedCellsAreKnown, IsQuarantined, KeepsSnapshot}
-use Rattle.mk_laws.specs.Room.{HasHeaderWords, HasRoom}
-use Rattle.mk_laws.specs.Terrain.{IsCellOf, LayoutStands}
-use Rattle.mk_laws.specs.WholeRuns.{RunsAreWhole}
+use Rattle.mk_laws.specs.{Quarantine.{FreedCellsAreKnown, IsQuarantined, KeepsSnapshot}, Room.{HasHeaderWords, HasRoom}}
+use Rattle.mk_laws.specs.{Terrain.{IsCellOf, LayoutStands}, WholeRuns.RunsAreWhole}
 
 -- what other groups say of a world, where a step asks for it
 pub record LayoutPremises (c : Config) (w : World) : Type 0 where

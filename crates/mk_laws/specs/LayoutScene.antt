@@ -1,15 +1,10 @@
 -- What stands on the pages, at every moment: the claims of the allocations and of a New's place, and what is left over.
 use Rattle.std.specs.Prelude.{◌≡◌, ◌≢◌, ◌⊎◌, ℕ, ◌+◌, ◌-◌, ◌<◌, ◌≤◌, Bool, true, false, ◌&&◌, not, List, [], ◌∷◌, length}
 use Rattle.std.specs.Prelude.{slice_index, slice_index_or, Option, Some}
-use Rattle.mk_geom.specs.declared.pages.Page.{Page}
-use Rattle.mk_geom.specs.declared.headers.Header.{Header}
-use Rattle.mk_geom.specs.declared.headers.Header.TheVariants.{Run, LeafRun, Later}
-use Rattle.mk_geom.specs.Addresses.{head_page_under}
-use Rattle.mk_geom.specs.Headers.{header_of}
-use Rattle.mk_geom.specs.Storages.{free_page}
-use Rattle.mk_core.specs.declared.seats.Object.{Object}
-use Rattle.mk_core.specs.Bits.{has_bit}
-use Rattle.mk_core.specs.Cells.{cells_under}
+use Rattle.mk_geom.specs.{declared.pages.Page.Page, declared.headers.Header.Header}
+use Rattle.mk_geom.specs.{declared.headers.Header.TheVariants.{Run, LeafRun, Later}, Addresses.head_page_under}
+use Rattle.mk_geom.specs.{Headers.header_of, Storages.free_page}
+use Rattle.mk_core.specs.{declared.seats.Object.Object, Bits.has_bit, Cells.cells_under}
 use Rattle.mk_core.specs.NewPlaces.{is_small_object, pages_made, header_made, unmapped_header}
 use Rattle.mk_core.specs.ObjectHeaders.{IsSized, cells_made, IsHeaderOf}
 

@@ -1,14 +1,8 @@
 -- What the events of others leave to a marker that attends, and to the turn's holder, while a cycle marks.
 use Rattle.std.specs.Prelude.{◌≡◌, ℕ, true, List, [], ◌∷◌, ◌++◌}
-use Rattle.mk_core.specs.declared.config.Config.{Config}
-use Rattle.mk_core.specs.declared.events.Event.{Event}
-use Rattle.mk_core.specs.declared.events.Seat.{Seat}
-use Rattle.mk_core.specs.Config.{IsWithinLimits}
-use Rattle.mk_core.specs.Cells.{points_well}
-use Rattle.mk_core.specs.Readings.{Holds}
-use Rattle.mk_core.specs.Growing.{AreOfOthers}
-use Rattle.mk_core.specs.Frames.{Attends, HeadersAreLeft}
-use Rattle.mk_core.specs.History.{left, AreEnabled}
+use Rattle.mk_core.specs.{declared.config.Config.Config, declared.events.Event.Event, declared.events.Seat.Seat}
+use Rattle.mk_core.specs.{Config.IsWithinLimits, Cells.points_well, Readings.Holds, Growing.AreOfOthers}
+use Rattle.mk_core.specs.{Frames.{Attends, HeadersAreLeft}, History.{left, AreEnabled}}
 use Rattle.mk_laws.specs.Kept.{GuardPremisesFrom}
 
 -- A marker that attends finds no header taken back, each cell that a header showed, and what points well still does.

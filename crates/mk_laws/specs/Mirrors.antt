@@ -1,18 +1,10 @@
 -- A world mirrors the heap that never reuses storage: the group of facts that each admitted event keeps.
 use Rattle.std.specs.Prelude.{◌≡◌, ℕ, ◌*◌, true, length, Some}
-use Rattle.mk_never.specs.declared.values.Value.TheVariants.{Ptr}
-use Rattle.mk_never.specs.NeverHeap.{NeverState, register_at}
-use Rattle.mk_never.specs.Typed.{IsTyped}
-use Rattle.mk_core.specs.declared.config.Config.{Config}
-use Rattle.mk_core.specs.declared.events.Seat.TheVariants.{Caller}
-use Rattle.mk_core.specs.declared.seats.RunPages.{RunPages}
-use Rattle.mk_core.specs.Calls.{p_of}
-use Rattle.mk_core.specs.Moments.{flight_of}
-use Rattle.mk_core.specs.Allocations.{placed_at}
+use Rattle.mk_never.specs.{declared.values.Value.TheVariants.Ptr, NeverHeap.{NeverState, register_at}, Typed.IsTyped}
+use Rattle.mk_core.specs.{declared.config.Config.Config, declared.events.Seat.TheVariants.Caller}
+use Rattle.mk_core.specs.{declared.seats.RunPages.RunPages, Calls.p_of, Moments.flight_of, Allocations.placed_at}
 use Rattle.mk_core.specs.History.{World}
-use Rattle.mk_laws.specs.Protocol.{is_decided_free}
-use Rattle.mk_laws.specs.Images.{image_scene_of, AreImages, AreTwins}
-use Rattle.mk_laws.specs.SafeSets.{HasSafeSet}
+use Rattle.mk_laws.specs.{Protocol.is_decided_free, Images.{image_scene_of, AreImages, AreTwins}, SafeSets.HasSafeSet}
 
 -- The register points into the allocation of the run.
 pub record PointsAtRun (w : World) (n : NeverState) (k r : ℕ) (run : RunPages) : Type 0 where

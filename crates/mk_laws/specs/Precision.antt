@@ -1,14 +1,10 @@
 -- Precision: a cycle without a sweeping mark releases what it doesn't reach by pointers.
 use Rattle.std.specs.Prelude.{◌≡◌, ℕ, ◌+◌, ◌*◌, true, false, List, [], ◌∷◌, ◌++◌, Contains}
-use Rattle.mk_geom.specs.PageUses.{Nothing}
-use Rattle.mk_geom.specs.Storages.{Storage, is_small, is_cell_taken, stands_on, use_of_storages}
+use Rattle.mk_geom.specs.{PageUses.Nothing, Storages.{Storage, is_small, is_cell_taken, stands_on, use_of_storages}}
 use Rattle.mk_geom.specs.StorageWords.{IsWordOf}
-use Rattle.mk_core.specs.declared.config.Config.{Config}
-use Rattle.mk_core.specs.declared.events.Event.{Event}
-use Rattle.mk_core.specs.Allocations.{placed_at, storage_of, unreleased_storage}
-use Rattle.mk_core.specs.Cycles.{Cycle, IsInSnapshot, NoneSweeps, Releasing, before_end, before_release}
-use Rattle.mk_core.specs.History.{left}
-use Rattle.mk_core.specs.Touched.{IsTouched}
+use Rattle.mk_core.specs.{declared.config.Config.Config, declared.events.Event.Event}
+use Rattle.mk_core.specs.{Allocations.{placed_at, storage_of, unreleased_storage}, Cycles.{Cycle, IsInSnapshot}}
+use Rattle.mk_core.specs.{Cycles.{NoneSweeps, Releasing, before_end, before_release}, History.left, Touched.IsTouched}
 
 -- the events through a cycle's `release`, and through its `end`, from the first of all on
 abbrev pub through_release : {es : List Event} → Releasing es → List Event

@@ -1,25 +1,14 @@
 -- Who holds what: the turn, the gates, the phase and the markers, after every enabled list of events.
 use Rattle.std.specs.Prelude.{◌≡◌, ◌≢◌, ◌⊎◌, ◌↔◌, ℕ, ◌+◌, ◌/◌, ◌<◌, ◌≤◌, Bool, true, false, List, length, slice_index}
-use Rattle.std.specs.Prelude.{Some, None, count_by}
-use Rattle.std.specs.List.{list_any}
+use Rattle.std.specs.{Prelude.{Some, None, count_by}, List.list_any}
 use Rattle.mk_never.specs.declared.operations.Op.{Op}
-use Rattle.mk_core.specs.declared.config.Config.{Config}
-use Rattle.mk_core.specs.declared.events.Seat.TheVariants.{Caller}
-use Rattle.mk_core.specs.declared.events.Event.{Event}
-use Rattle.mk_core.specs.declared.seats.Stage.{Stage}
-use Rattle.mk_core.specs.declared.seats.Flight.{Flight}
-use Rattle.mk_core.specs.declared.seats.Placing.{Placing}
-use Rattle.mk_core.specs.declared.seats.Placing.TheVariants.{Chosen, Used, Granted}
-use Rattle.mk_core.specs.declared.seats.Marker.{Marker}
-use Rattle.mk_core.specs.declared.seats.RunPages.{RunPages}
-use Rattle.mk_core.specs.Config.{IsWithinLimits}
-use Rattle.mk_core.specs.Words.{phase_of}
-use Rattle.mk_core.specs.Calls.{has_operands, steps_of, is_same_stage}
-use Rattle.mk_core.specs.NewPlaces.{is_undecided_new}
-use Rattle.mk_core.specs.Moments.{Moment, flight_of, marker_of, nothing_done}
-use Rattle.mk_core.specs.StopConditions.{is_attending}
-use Rattle.mk_core.specs.History.{left, AreEnabled}
-use Rattle.mk_core.specs.Readings.{is_in_call, is_in_turn, is_in}
+use Rattle.mk_core.specs.{declared.config.Config.Config, declared.events.Seat.TheVariants.Caller}
+use Rattle.mk_core.specs.{declared.events.Event.Event, declared.seats.Stage.Stage, declared.seats.Flight.Flight}
+use Rattle.mk_core.specs.{declared.seats.Placing.Placing, declared.seats.Placing.TheVariants.{Chosen, Used, Granted}}
+use Rattle.mk_core.specs.{declared.seats.Marker.Marker, declared.seats.RunPages.RunPages, Config.IsWithinLimits}
+use Rattle.mk_core.specs.{Words.phase_of, Calls.{has_operands, steps_of, is_same_stage}, NewPlaces.is_undecided_new}
+use Rattle.mk_core.specs.{Moments.{Moment, flight_of, marker_of, nothing_done}, StopConditions.is_attending}
+use Rattle.mk_core.specs.{History.{left, AreEnabled}, Readings.{is_in_call, is_in_turn, is_in}}
 use Rattle.mk_never.specs.declared.operations.Op.TheVariants as op
 use Rattle.mk_core.specs.declared.seats.Stage.TheVariants as stage
 

@@ -1,12 +1,8 @@
 -- Which word an enabled event reaches, and how.
 use Rattle.std.specs.Prelude.{◌≡◌, List, [], ◌∷◌, ◌++◌}
-use Rattle.mk_core.specs.declared.config.Config.{Config}
-use Rattle.mk_core.specs.declared.events.Event.{Event}
-use Rattle.mk_core.specs.Config.{IsWithinLimits}
-use Rattle.mk_core.specs.Layout.{IsOfTable}
-use Rattle.mk_core.specs.Accesses.{word_accessed, access}
-use Rattle.mk_core.specs.History.{left, AreEnabled, IsEnabledBehind}
-use Rattle.mk_core.specs.Growing.{AreOfOthers}
+use Rattle.mk_core.specs.{declared.config.Config.Config, declared.events.Event.Event, Config.IsWithinLimits}
+use Rattle.mk_core.specs.{Layout.IsOfTable, Accesses.{word_accessed, access}, History.{left, AreEnabled}}
+use Rattle.mk_core.specs.{History.IsEnabledBehind, Growing.AreOfOthers}
 
 -- The word is one of the table,
 abbrev pub EventsReachTheTable : Type 0

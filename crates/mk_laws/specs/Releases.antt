@@ -1,13 +1,9 @@
 -- What a cycle's `release` releases: the allocations of its snapshot whose cells have no mark, and no others.
 use Rattle.std.specs.Prelude.{◌≡◌, ◌↔◌, ℕ, true, false, List, [], ◌∷◌, ◌++◌}
 use Rattle.mk_never.specs.Reach.{IsReachable}
-use Rattle.mk_core.specs.declared.config.Config.{Config}
-use Rattle.mk_core.specs.declared.events.Event.{Event}
-use Rattle.mk_core.specs.declared.events.Seat.{Seat}
-use Rattle.mk_core.specs.Cells.{is_marked}
-use Rattle.mk_core.specs.Allocations.{PlacedAllocation, placed_at, cell_of_allocation}
-use Rattle.mk_core.specs.Cycles.{Releasing, IsInSnapshot, before_release, is_release}
-use Rattle.mk_core.specs.History.{left, never_behind}
+use Rattle.mk_core.specs.{declared.config.Config.Config, declared.events.Event.Event, declared.events.Seat.Seat}
+use Rattle.mk_core.specs.{Cells.is_marked, Allocations.{PlacedAllocation, placed_at, cell_of_allocation}}
+use Rattle.mk_core.specs.{Cycles.{Releasing, IsInSnapshot, before_release, is_release}, History.{left, never_behind}}
 use Rattle.mk_core.specs.declared.events.Step.TheVariants as step
 
 -- an allocation before a cycle's `release`, and after it

@@ -1,16 +1,9 @@
 -- Header words, and how many pages are resident.
 use Rattle.std.specs.Prelude.{ℕ, zero, suc, ◌+◌, ◌≤◌, Bool, false, ◌&&◌, ◌||◌, nat_le, nat_lt, List, if◌then◌else◌}
-use Rattle.mk_geom.specs.declared.pages.Page.{Page}
-use Rattle.mk_geom.specs.Headers.{IsHeaderWord}
-use Rattle.mk_geom.specs.PageUses.{is_resident_page}
-use Rattle.mk_geom.specs.PageWords.{use_of_page}
-use Rattle.mk_geom.specs.StorageWords.{page_in}
-use Rattle.mk_core.specs.declared.config.Config.{Config}
-use Rattle.mk_core.specs.Words.{header_at}
-use Rattle.mk_core.specs.NewPlaces.{pages_made}
-use Rattle.mk_core.specs.History.{World}
-use Rattle.mk_laws.specs.LayoutScene.{Plot, NoPlot, Plotted}
-use Rattle.mk_laws.specs.Terrain.{plot_of, object_now}
+use Rattle.mk_geom.specs.{declared.pages.Page.Page, Headers.IsHeaderWord, PageUses.is_resident_page}
+use Rattle.mk_geom.specs.{PageWords.use_of_page, StorageWords.page_in}
+use Rattle.mk_core.specs.{declared.config.Config.Config, Words.header_at, NewPlaces.pages_made, History.World}
+use Rattle.mk_laws.specs.{LayoutScene.{Plot, NoPlot, Plotted}, Terrain.{plot_of, object_now}}
 
 -- how many numbers below n pass
 unfoldable pub count_below : ℕ → (ℕ → Bool) → ℕ

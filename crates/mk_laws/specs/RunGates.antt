@@ -1,8 +1,6 @@
 -- While a Free's run isn't unmapped and wiped, the gates of all others are held.
 use Rattle.std.specs.Prelude.{false, slice_index, ℕ, ◌+◌, ◌<◌, ◌≡◌, ◌≢◌}
-use Rattle.mk_core.specs.declared.config.Config.{Config}
-use Rattle.mk_core.specs.History.{World}
-use Rattle.mk_core.specs.NewPlaces.{is_run_gone}
+use Rattle.mk_core.specs.{declared.config.Config.Config, History.World, NewPlaces.is_run_gone}
 
 abbrev pub HoldsRunGates : Config → World → Type 0
 HoldsRunGates c w =

@@ -1,7 +1,6 @@
 -- Sets of allocations that have all that a program can get to, and none that is released.
 use Rattle.std.specs.Prelude.{◌≡◌, ℕ, Bool, true, false, List, slice_index_or}
-use Rattle.mk_never.specs.declared.values.Value.{Value}
-use Rattle.mk_never.specs.declared.values.Value.TheVariants.{Null, Num, Ptr}
+use Rattle.mk_never.specs.{declared.values.Value.Value, declared.values.Value.TheVariants.{Null, Num, Ptr}}
 use Rattle.mk_never.specs.NeverHeap.{NeverState, global_at, allocation_at, word_at, is_unmapped}
 use Rattle.mk_core.specs.Allocations.{PlacedAllocation, placed_at}
 

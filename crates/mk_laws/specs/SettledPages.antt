@@ -1,22 +1,13 @@
 -- What a laid out world says of its allocations, and of its pages where nothing is on its way.
 use Rattle.std.specs.Prelude.{◌≡◌, ℕ, Bool, true, false, List, Option}
 use Rattle.mk_geom.specs.Storages.{PagesStandFor}
-use Rattle.mk_core.specs.declared.config.Config.{Config}
-use Rattle.mk_core.specs.declared.events.Event.{Event}
-use Rattle.mk_core.specs.declared.seats.Object.{Object}
-use Rattle.mk_core.specs.declared.seats.RunPages.{RunPages}
-use Rattle.mk_core.specs.Bounded.{is_none_or}
-use Rattle.mk_core.specs.Config.{IsWithinLimits}
-use Rattle.mk_core.specs.Cells.{is_used}
-use Rattle.mk_core.specs.Moments.{is_phase}
-use Rattle.mk_core.specs.NewPlaces.{place_on_pages, is_run_unmapped}
-use Rattle.mk_core.specs.Words.{Words}
+use Rattle.mk_core.specs.{declared.config.Config.Config, declared.events.Event.Event, declared.seats.Object.Object}
+use Rattle.mk_core.specs.{declared.seats.RunPages.RunPages, Bounded.is_none_or, Config.IsWithinLimits, Cells.is_used}
+use Rattle.mk_core.specs.{Moments.is_phase, NewPlaces.{place_on_pages, is_run_unmapped}, Words.Words}
 use Rattle.mk_core.specs.Allocations.{PlacedAllocation, placed_at, cell_of_allocation, unreleased_storage}
-use Rattle.mk_core.specs.Allocations.{place_among_allocations}
-use Rattle.mk_core.specs.StandingAllocations.{StandsOnHeap, HasItsHeaders}
+use Rattle.mk_core.specs.{Allocations.place_among_allocations, StandingAllocations.{StandsOnHeap, HasItsHeaders}}
 use Rattle.mk_core.specs.History.{World, left}
-use Rattle.mk_laws.specs.Protocol.{has_place}
-use Rattle.mk_laws.specs.Terrain.{LayoutStands}
+use Rattle.mk_laws.specs.{Protocol.has_place, Terrain.LayoutStands}
 
 -- An allocation stands on the heap, with its headers and its used bit.
 pub record StandsUsed (c : Config) (w : World) (a : PlacedAllocation) : Type 0 where

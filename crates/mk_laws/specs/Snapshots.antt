@@ -1,16 +1,10 @@
 -- The snapshot's bits are those of the cycle's snapshot: the allocations that were freed and unreleased before its
 -- `begin`.
-use Rattle.std.specs.Prelude.{◌≡◌, ℕ, true, false, List}
-use Rattle.std.specs.List.{list_any}
-use Rattle.mk_core.specs.declared.config.Config.{Config}
-use Rattle.mk_core.specs.declared.events.Event.{Event}
-use Rattle.mk_core.specs.Config.{IsWithinLimits}
-use Rattle.mk_core.specs.Words.{phase_of}
-use Rattle.mk_core.specs.Allocations.{placed_at}
-use Rattle.mk_core.specs.Cycles.{At, is_begin, is_quarantined}
+use Rattle.std.specs.{Prelude.{◌≡◌, ℕ, true, false, List}, List.list_any}
+use Rattle.mk_core.specs.{declared.config.Config.Config, declared.events.Event.Event, Config.IsWithinLimits}
+use Rattle.mk_core.specs.{Words.phase_of, Allocations.placed_at, Cycles.{At, is_begin, is_quarantined}}
 use Rattle.mk_core.specs.History.{first_world, left, AreEnabled}
-use Rattle.mk_laws.specs.Quarantine.{is_cycling, has_bit_of}
-use Rattle.mk_laws.specs.LayoutLaws.{LayoutPremisesFrom}
+use Rattle.mk_laws.specs.{Quarantine.{is_cycling, has_bit_of}, LayoutLaws.LayoutPremisesFrom}
 
 -- So it is up to the cycle's `end`, for each allocation that isn't released yet.
 abbrev pub SnapshotsAreOfCycles : Type 0

@@ -1,25 +1,15 @@
 -- What holds of all histories.
-use Rattle.std.specs.Prelude.{◌≡◌, ℕ, false, List, [], ◌∷◌, ◌++◌, ◌≤◌, true}
-use Rattle.std.specs.List.{list_any}
+use Rattle.std.specs.{Prelude.{◌≡◌, ℕ, false, List, [], ◌∷◌, ◌++◌, ◌≤◌, true}, List.list_any}
 use Rattle.mk_never.specs.Reach.{IsReachable}
-use Rattle.mk_geom.specs.StorageWords.{IsWordOf}
-use Rattle.mk_geom.specs.Storages.{PagesStandFor}
-use Rattle.mk_geom.specs.PageUses.{resident_pages}
+use Rattle.mk_geom.specs.{StorageWords.IsWordOf, Storages.PagesStandFor, PageUses.resident_pages}
 use Rattle.mk_geom.specs.PageWords.{uses_of_pages}
-use Rattle.mk_core.specs.declared.config.Config.{Config}
-use Rattle.mk_core.specs.declared.events.Event.{Event}
-use Rattle.mk_core.specs.declared.events.Seat.{Seat}
-use Rattle.mk_core.specs.declared.seats.Object.{Object}
-use Rattle.mk_core.specs.Allocations.{place_among_allocations, placed_at, storage_of, unreleased_storage}
-use Rattle.mk_core.specs.ClosedMarks.{MarkingIsGuarded, MarksAreClosed}
-use Rattle.mk_core.specs.History.{IsHistory, first_world, left, never_behind, never_first}
-use Rattle.mk_core.specs.NewPlaces.{place_on_pages}
-use Rattle.mk_core.specs.Words.{phase_of}
-use Rattle.mk_core.specs.Cycles.{At, is_begin, is_quarantined}
-use Rattle.mk_laws.specs.Quarantine.{has_bit_of, is_cycling}
-use Rattle.mk_laws.specs.Room.{HasHeaderWords}
-use Rattle.mk_laws.specs.SettledPages.{IsSettled, StandsUsed}
-use Rattle.mk_laws.specs.Invariant.{Invariant}
+use Rattle.mk_core.specs.{declared.config.Config.Config, declared.events.Event.Event, declared.events.Seat.Seat}
+use Rattle.mk_core.specs.{declared.seats.Object.Object, Allocations.{place_among_allocations, placed_at, storage_of}}
+use Rattle.mk_core.specs.{Allocations.unreleased_storage, ClosedMarks.{MarkingIsGuarded, MarksAreClosed}}
+use Rattle.mk_core.specs.{History.{IsHistory, first_world, left, never_behind, never_first}, NewPlaces.place_on_pages}
+use Rattle.mk_core.specs.{Words.phase_of, Cycles.{At, is_begin, is_quarantined}}
+use Rattle.mk_laws.specs.{Quarantine.{has_bit_of, is_cycling}, Room.HasHeaderWords}
+use Rattle.mk_laws.specs.{SettledPages.{IsSettled, StandsUsed}, Invariant.Invariant}
 use Rattle.mk_core.specs.declared.events.Step.TheVariants as step
 
 -- It holds of each history.

@@ -1,17 +1,9 @@
 -- The pages of a freed large allocation take no memory, from the last `head` that unmaps them on.
-use Rattle.std.specs.Prelude.{◌≡◌, ℕ, ◌*◌, ◌/◌, Bool, true, false, ◌&&◌, not, ◌==◌, List, ◌++◌, Some}
-use Rattle.std.specs.List.{list_any}
-use Rattle.mk_geom.specs.PageUses.{is_resident_page}
-use Rattle.mk_geom.specs.PageWords.{use_of_page}
-use Rattle.mk_geom.specs.StorageWords.{IsWordOf}
-use Rattle.mk_core.specs.declared.config.Config.{Config}
-use Rattle.mk_core.specs.declared.events.Event.{Event}
-use Rattle.mk_core.specs.declared.events.Step.{Step}
-use Rattle.mk_core.specs.declared.seats.RunPages.{RunPages}
-use Rattle.mk_core.specs.Allocations.{is_mapped, placed_at, storage_of}
-use Rattle.mk_core.specs.History.{World, left}
-use Rattle.mk_core.specs.NewPlaces.{is_run_unmapped}
-use Rattle.mk_core.specs.Words.{page_of}
+use Rattle.std.specs.{Prelude.{◌≡◌, ℕ, ◌*◌, ◌/◌, Bool, true, false, ◌&&◌, not, ◌==◌, List, ◌++◌, Some}, List.list_any}
+use Rattle.mk_geom.specs.{PageUses.is_resident_page, PageWords.use_of_page, StorageWords.IsWordOf}
+use Rattle.mk_core.specs.{declared.config.Config.Config, declared.events.Event.Event, declared.events.Step.Step}
+use Rattle.mk_core.specs.{declared.seats.RunPages.RunPages, Allocations.{is_mapped, placed_at, storage_of}}
+use Rattle.mk_core.specs.{History.{World, left}, NewPlaces.is_run_unmapped, Words.page_of}
 use Rattle.mk_core.specs.declared.events.Step.TheVariants as step
 
 -- whether the page takes memory, as `first_fit` counts it

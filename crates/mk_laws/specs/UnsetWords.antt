@@ -1,12 +1,7 @@
 -- Registers of callers that the configuration doesn't have, and globals that nobody has stored to: they hold 0.
 use Rattle.std.specs.Prelude.{◌≡◌, ◌≢◌, ℕ, ◌≤◌, List, ◌∷◌, ◌++◌, slice_index}
-use Rattle.mk_core.specs.declared.config.Config.{Config}
-use Rattle.mk_core.specs.declared.events.Event.{Event}
-use Rattle.mk_core.specs.declared.events.Seat.{Seat}
-use Rattle.mk_core.specs.Calls.{g_of}
-use Rattle.mk_core.specs.History.{World, left}
-use Rattle.mk_core.specs.Moments.{flight_of}
-use Rattle.mk_core.specs.Words.{register_word}
+use Rattle.mk_core.specs.{declared.config.Config.Config, declared.events.Event.Event, declared.events.Seat.Seat}
+use Rattle.mk_core.specs.{Calls.g_of, History.{World, left}, Moments.flight_of, Words.register_word}
 use Rattle.mk_core.specs.declared.events.Step.TheVariants as step
 
 abbrev pub RegistersOfNoCallerAreZero : Config → World → Type 0

@@ -1,11 +1,7 @@
 -- The pages of a run: its head, and the later pages after it.
 use Rattle.std.specs.Prelude.{◌≡◌, ◌⊎◌, ℕ, ◌+◌, ◌<◌, ◌≤◌, Bool, true, List, length, Some}
-use Rattle.mk_geom.specs.declared.pages.Page.{Page}
-use Rattle.mk_geom.specs.declared.headers.Header.TheVariants.{Later}
-use Rattle.mk_core.specs.declared.config.Config.{Config}
-use Rattle.mk_core.specs.Cells.{heads_run}
-use Rattle.mk_core.specs.Moments.{is_phase}
-use Rattle.mk_core.specs.History.{World}
+use Rattle.mk_geom.specs.{declared.pages.Page.Page, declared.headers.Header.TheVariants.Later}
+use Rattle.mk_core.specs.{declared.config.Config.Config, Cells.heads_run, Moments.is_phase, History.World}
 use Rattle.mk_laws.specs.LayoutScene.{Plot, InPlot, header_on, used_on, shows_on, run_count}
 use Rattle.mk_laws.specs.Terrain.{plot_of, object_now}
 

@@ -1,8 +1,6 @@
 -- What looks at headers and quarantine words say of what a list of events leaves: mk_core states it of a world.
 use Rattle.std.specs.Prelude.{List}
-use Rattle.mk_core.specs.declared.config.Config.{Config}
-use Rattle.mk_core.specs.declared.events.Event.{Event}
-use Rattle.mk_core.specs.History.{left}
+use Rattle.mk_core.specs.{declared.config.Config.Config, declared.events.Event.Event, History.left}
 use Rattle.mk_core.specs.Readings.{WordsTellWhatStands}
 
 abbrev pub HeadersAndQuarantineTell : Config → List Event → Type 0

@@ -1,16 +1,10 @@
 -- The words of the heap that may not hold values are 0 after each event.
 use Rattle.std.specs.Prelude.{◌≡◌, Bool, true, false, List, [], ◌∷◌, ⊤, Some}
 use Rattle.mk_geom.specs.declared.addresses.Cell.{Cell}
-use Rattle.mk_core.specs.declared.config.Config.{Config}
-use Rattle.mk_core.specs.declared.events.Step.{Step}
-use Rattle.mk_core.specs.declared.events.Event.{Event}
-use Rattle.mk_core.specs.Config.{IsWithinLimits}
-use Rattle.mk_core.specs.Calls.{word_met}
-use Rattle.mk_core.specs.Moments.{flight_of}
-use Rattle.mk_core.specs.NewPlaces.{target}
+use Rattle.mk_core.specs.{declared.config.Config.Config, declared.events.Step.Step, declared.events.Event.Event}
+use Rattle.mk_core.specs.{Config.IsWithinLimits, Calls.word_met, Moments.flight_of, NewPlaces.target}
 use Rattle.mk_core.specs.History.{World, first_world, world_behind, left, AreEnabled, IsEnabledBehind}
-use Rattle.mk_laws.specs.Terrain.{IsCellOf, LayoutStands}
-use Rattle.mk_laws.specs.Zeros.{IsWordOfMapped, HasZeros}
+use Rattle.mk_laws.specs.{Terrain.{IsCellOf, LayoutStands}, Zeros.{IsWordOfMapped, HasZeros}}
 use Rattle.mk_core.specs.declared.events.Step.TheVariants as step
 
 -- the step of a caller that stores to the heap

@@ -1,16 +1,10 @@
 -- Which words of the heap may hold values: all others are 0.
 use Rattle.std.specs.Prelude.{◌≡◌, ◌≢◌, ℕ, ◌+◌, ◌*◌, ◌<◌, ◌≤◌, Bool, true, ◌&&◌, List, slice_index, Option, Some}
-use Rattle.mk_geom.specs.declared.addresses.Cell.{Cell}
-use Rattle.mk_geom.specs.declared.pages.Page.{Page}
-use Rattle.mk_geom.specs.Addresses.{address_of}
+use Rattle.mk_geom.specs.{declared.addresses.Cell.Cell, declared.pages.Page.Page, Addresses.address_of}
 use Rattle.mk_geom.specs.StorageWords.{IsWordOf}
-use Rattle.mk_core.specs.declared.config.Config.{Config}
-use Rattle.mk_core.specs.declared.seats.RunPages.{RunPages}
-use Rattle.mk_core.specs.Bits.{has_bit, without}
-use Rattle.mk_core.specs.Cells.{pointed_cell, words_under, is_in_run}
-use Rattle.mk_core.specs.Moments.{is_phase}
-use Rattle.mk_core.specs.Allocations.{PlacedAllocation, placed_at, is_mapped, storage_of}
-use Rattle.mk_core.specs.History.{World}
+use Rattle.mk_core.specs.{declared.config.Config.Config, declared.seats.RunPages.RunPages, Bits.{has_bit, without}}
+use Rattle.mk_core.specs.{Cells.{pointed_cell, words_under, is_in_run}, Moments.is_phase}
+use Rattle.mk_core.specs.{Allocations.{PlacedAllocation, placed_at, is_mapped, storage_of}, History.World}
 use Rattle.mk_laws.specs.LayoutScene.{shows_on, used_on}
 
 -- what the zero words read of a world

@@ -1,17 +1,9 @@
 -- What the zero words tell the images and the guard, and what the images tell the zero words, each in its own terms.
 use Rattle.std.specs.Prelude.{◌≢◌, ℕ, slice_index, List}
-use Rattle.mk_never.specs.NeverHeap.{NeverState}
-use Rattle.mk_never.specs.Admitted.{AreAdmitted}
-use Rattle.mk_core.specs.declared.config.Config.{Config}
-use Rattle.mk_core.specs.declared.events.Event.{Event}
-use Rattle.mk_core.specs.Config.{IsWithinLimits}
-use Rattle.mk_core.specs.Enabled.{IsEnabled}
-use Rattle.mk_core.specs.Decided.{asked}
-use Rattle.mk_core.specs.History.{World, left, AreEnabled, call_decided}
-use Rattle.mk_laws.specs.Terrain.{LayoutStands}
-use Rattle.mk_laws.specs.ImagePremises.{MayHoldWords}
-use Rattle.mk_laws.specs.ImagesSay.{ImagesSay}
-use Rattle.mk_laws.specs.Zeros.{HasZeros}
+use Rattle.mk_never.specs.{NeverHeap.NeverState, Admitted.AreAdmitted}
+use Rattle.mk_core.specs.{declared.config.Config.Config, declared.events.Event.Event, Config.IsWithinLimits}
+use Rattle.mk_core.specs.{Enabled.IsEnabled, Decided.asked, History.{World, left, AreEnabled, call_decided}}
+use Rattle.mk_laws.specs.{Terrain.LayoutStands, ImagePremises.MayHoldWords, ImagesSay.ImagesSay, Zeros.HasZeros}
 use Rattle.mk_laws.specs.ZeroLaws.{ZeroPremises}
 use Rattle.mk_laws.specs.Kept as guard
 

@@ -1,9 +1,7 @@
 -- A page has at most 32 cells.
 use Rattle.mk_laws.proofs.Vocabulary.{Block, Free, Header, Later, LeafBlock, LeafRun, None, Option, Run, Some, ℕ, arith}
 use Rattle.mk_laws.proofs.Vocabulary.{cell_ends, cells_of, cells_under, header_of, mul-le, refl, ◌<◌, ◌≡◌}
-use Rattle.mk_geom.proofs.ClassTable.{class_words_within}
-use Rattle.mk_geom.proofs.HeaderLemmas.{word_of-header_of}
-use Rattle.mk_geom.specs.Headers.{IsInRange}
+use Rattle.mk_geom.{proofs.{ClassTable.class_words_within, HeaderLemmas.word_of-header_of}, specs.Headers.{IsInRange}}
 
 few_of_class : (class k : ℕ) → class < 8 → k < cells_of class → k < 32
 few_of_class class k known lt = grind (arith, class_words_within, cell_ends, mul-le)

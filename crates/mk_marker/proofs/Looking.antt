@@ -6,18 +6,13 @@ use Rattle.mk_laws.proofs.Vocabulary.{cells_under, has_bit, has_bit_without, hea
 use Rattle.mk_laws.proofs.Vocabulary.{is_attending, marker_at, marker_behind, not, not-true, refl, subst, sym, true}
 use Rattle.mk_laws.proofs.Vocabulary.{without, [], ◌++◌, ◌+◌, ◌<◌, ◌∙◌, ◌∷◌, ◌≡◌, ◌≢◌, ◌≤◌, ◌⊎◌}
 use Rattle.mk_laws.proofs.Known.{Known, known_left}
-use Rattle.mk_core.specs.Growing.{Finding}
-use Rattle.mk_core.specs.Words.{named_word}
-use Rattle.mk_marker.proofs.Did.{did_nothing, did_then, seat_kept}
-use Rattle.mk_marker.proofs.MarkedCells.{marks_are_of_cells}
-use Rattle.mk_marker.specs.Doing.{Did, finding, is_markers_look, looking}
-use Rattle.mk_marker.specs.Markers.{IsBetweenScans, attends, between_scans}
-use Rattle.mk_marker.specs.Steps.{IsMarkedIn, LooksInVain, MovesMarker, SeesCell}
-use Rattle.mk_marker.specs.Working.{SeesACell, SeesNoWork}
-use Rattle.mk_marker.specs.declared.cells.MarkedCell.{MarkedCell}
+use Rattle.mk_core.specs.{Growing.Finding, Words.named_word}
+use Rattle.mk_marker.proofs.{Did.{did_nothing, did_then, seat_kept}, MarkedCells.marks_are_of_cells}
+use Rattle.mk_marker.specs.{Doing.{Did, finding, is_markers_look, looking}, Markers.{IsBetweenScans, attends}}
+use Rattle.mk_marker.specs.{Markers.between_scans, Steps.{IsMarkedIn, LooksInVain, MovesMarker, SeesCell}}
+use Rattle.mk_marker.specs.{Working.{SeesACell, SeesNoWork}, declared.cells.MarkedCell.MarkedCell}
 use Rattle.mk_turns.proofs.Doing.{of_kinds_in_parts}
-use Rattle.mk_words.specs.Markers.{marker_in}
-use Rattle.mk_words.specs.States.{PassState, now_of}
+use Rattle.mk_words.specs.{Markers.marker_in, States.{PassState, now_of}}
 
 -- one more step
 pub did_more : (p : PassState) (xs : List Finding) (q : PassState) (s : Step) (n : ℕ) (r : PassState) → Did p xs q

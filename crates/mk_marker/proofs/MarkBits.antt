@@ -9,10 +9,7 @@ use Rattle.mk_laws.proofs.Vocabulary.{is_used_once, made_shows, ne_eqb, nothing_
 use Rattle.mk_laws.proofs.Vocabulary.{pages_some, part_cells, phase_of, place_now, placed_now, slice_index, subst, sym}
 use Rattle.mk_laws.proofs.Vocabulary.{true, true≢false, undecided_new, used_step, ◌&&◌, ◌+◌, ◌<◌, ◌==◌, ◌∙◌, ◌≡◌, ◌⊎◌}
 use Rattle.mk_laws.proofs.LayoutHolders.{giver_has_turn, holding_object, made_sized, new_has_turn, placed_undecided}
-use Rattle.mk_laws.proofs.Actors.{Meets}
-use Rattle.mk_laws.proofs.Behind.{object_kind}
-use Rattle.mk_laws.proofs.Known.{Known}
-use Rattle.mk_laws.proofs.OthersMoves.{WorldBehind}
+use Rattle.mk_laws.proofs.{Actors.Meets, Behind.object_kind, Known.Known, OthersMoves.WorldBehind}
 
 -- the cell of a place whose first page is to be carved
 pub record IsToCarve (c : Config) (m : Moment) (p k : ℕ) : Type 0 where

@@ -6,18 +6,10 @@ use Rattle.mk_laws.proofs.Vocabulary.{cases_lt, cells_under, earlier_part_is_his
 use Rattle.mk_laws.proofs.Vocabulary.{has_bit, has_clean_page, header_at, header_in, header_made, inl, inr, left}
 use Rattle.mk_laws.proofs.Vocabulary.{never_behind, no_bit, object_now, pages_some, phase_of, plot_of, refl}
 use Rattle.mk_laws.proofs.Vocabulary.{slice_index, subst, sym, true, true≢false, [], ◌&&◌, ◌++◌, ◌+◌, ◌<◌, ◌==◌, ◌∙◌}
-use Rattle.mk_laws.proofs.Vocabulary.{◌∷◌, ◌≡◌, ◌≢◌, ◌⊎◌}
-use Rattle.mk_laws.proofs.Phases.{is_phase_step, over_phase, phase_stays}
-use Rattle.mk_laws.proofs.Actors.{Meets}
-use Rattle.mk_laws.proofs.Changes.{headers_kind, is_head}
-use Rattle.mk_laws.proofs.FoundHeaders.{head_finds}
-use Rattle.mk_laws.proofs.Headers.{head_keeps}
-use Rattle.mk_laws.proofs.InvariantJoined.{told_to_guard}
-use Rattle.mk_laws.proofs.KeptGuard.{goes_equal}
-use Rattle.mk_laws.proofs.Known.{Known}
-use Rattle.mk_laws.proofs.LastEvents.{comes_last, stands}
-use Rattle.mk_laws.proofs.OthersMoves.{WorldBehind}
-use Rattle.mk_laws.specs.Guard.{Guard, MarksStand}
+use Rattle.mk_laws.proofs.{Vocabulary.{◌∷◌, ◌≡◌, ◌≢◌, ◌⊎◌}, Phases.{is_phase_step, over_phase, phase_stays}}
+use Rattle.mk_laws.proofs.{Actors.Meets, Changes.{headers_kind, is_head}, FoundHeaders.head_finds, Headers.head_keeps}
+use Rattle.mk_laws.proofs.{InvariantJoined.told_to_guard, KeptGuard.goes_equal, Known.Known}
+use Rattle.mk_laws.{proofs.{LastEvents.{comes_last, stands}, OthersMoves.WorldBehind}, specs.Guard.{Guard, MarksStand}}
 use Rattle.mk_core.specs.History.{left_from}
 use Rattle.mk_marker.proofs.MarkBits.{IsCell, IsToCarve, MarksAreOfCells, made_has, marking_not_four, still_a_cell}
 use Rattle.mk_marker.proofs.NewMarks.{new_mark}

@@ -4,30 +4,17 @@ use Rattle.mk_laws.proofs.Vocabulary.{Step, Word, World, ℕ, ap, append_assoc, 
 use Rattle.mk_laws.proofs.Vocabulary.{has_bit, header_of, histories_keep_lengths, if◌then◌else◌, is_attending, left}
 use Rattle.mk_laws.proofs.Vocabulary.{lt-ltb, marker_at, marker_behind, refl, scan_begun, scan_page, slice_index}
 use Rattle.mk_laws.proofs.Vocabulary.{slice_set, subst, sym, true, words_under, world_behind, [], ◌%◌, ◌*◌, ◌++◌, ◌+◌}
-use Rattle.mk_laws.proofs.Vocabulary.{◌-◌, ◌<◌, ◌∙◌, ◌∷◌, ◌≡◌, ◌≤◌}
-use Rattle.mk_laws.proofs.Changes.{marks_kind}
-use Rattle.mk_core.proofs.Conditions.{meets_enabled}
-use Rattle.mk_core.proofs.WordBits.{bit_for_has, bits_added}
-use Rattle.mk_core.specs.Accesses.{scan_bit}
-use Rattle.mk_core.specs.Bits.{bit_for}
-use Rattle.mk_core.specs.Frames.{Attends, ScanIsLeft}
-use Rattle.mk_core.specs.Growing.{own_from}
-use Rattle.mk_core.specs.Words.{named_word}
-use Rattle.mk_core.specs.declared.seats.Presence.TheVariants.{Attending}
+use Rattle.mk_laws.proofs.{Vocabulary.{◌-◌, ◌<◌, ◌∙◌, ◌∷◌, ◌≡◌, ◌≤◌}, Changes.marks_kind}
+use Rattle.mk_core.proofs.{Conditions.meets_enabled, WordBits.{bit_for_has, bits_added}}
+use Rattle.mk_core.specs.{Accesses.scan_bit, Bits.bit_for, Frames.{Attends, ScanIsLeft}, Growing.own_from}
+use Rattle.mk_core.specs.{Words.named_word, declared.seats.Presence.TheVariants.Attending}
 use Rattle.mk_marker.specs.Steps.{ClaimsMarked, IsMarkedIn, IsOf, IsScanning, IsScanOf, MarksGrow, Moved, MovesMarker}
-use Rattle.mk_marker.specs.Steps.{words_left}
-use Rattle.mk_marker.specs.Doing.{Did, finding}
-use Rattle.mk_marker.specs.Markers.{attends, between_scans}
-use Rattle.mk_marker.specs.Scanning.{words_scanned}
-use Rattle.mk_marker.specs.Working.{IsBlackIn}
-use Rattle.mk_marker.specs.declared.cells.MarkedCell.{MarkedCell}
+use Rattle.mk_marker.specs.{Steps.words_left, Doing.{Did, finding}, Markers.{attends, between_scans}}
+use Rattle.mk_marker.specs.{Scanning.words_scanned, Working.IsBlackIn, declared.cells.MarkedCell.MarkedCell}
 use Rattle.mk_turns.proofs.Doing.{done_in_parts, none_own, others_are_so, own_or_others_in_parts}
 use Rattle.mk_turns.specs.Doing.{AreOwnOrOfOthers}
-use Rattle.mk_words.proofs.Made.{made, own_before}
-use Rattle.mk_words.proofs.Seats.{same_self}
-use Rattle.mk_words.specs.Markers.{Marks, marker_in}
-use Rattle.mk_words.specs.Seats.{Has}
-use Rattle.mk_words.specs.States.{PassState, WordsState, event_of, now_of}
+use Rattle.mk_words.proofs.{Made.{made, own_before}, Seats.same_self}
+use Rattle.mk_words.specs.{Markers.{Marks, marker_in}, Seats.Has, States.{PassState, WordsState, event_of, now_of}}
 use Rattle.mk_words.specs.Steps.{Finds, IsEnabledTo, Makes, found_by}
 
 -- one own event
@@ -111,8 +98,12 @@ still_marked p page k n q on is f =
 
 scan_of : (c : Config) (page k header n : ℕ) → has_bit n k ≡ true
     → marker_behind c n (Step.Claim page k) (between_scans (Some (record { page = page; header = header }))) ≡ record {
-      presence = Attending; scan = Some (scan_begun page k header); hand = None; seen = Some
-          (record { page = page; header = header }); }
+      presence = Attending;
+      scan = Some (scan_begun page k header);
+      hand = None;
+      seen = Some
+          (record { page = page; header = header });
+    }
 scan_of c page k header n is = grind arith
 
 pub claimed : (p : PassState) (cell : MarkedCell) (n : ℕ) (q : PassState)

@@ -11,21 +11,13 @@ use Rattle.mk_laws.proofs.Vocabulary.{is_attending, is_phase, is_small_object, i
 use Rattle.mk_laws.proofs.Vocabulary.{marks_place, object_made, object_now, or_cases, page_at_address, pages_some}
 use Rattle.mk_laws.proofs.Vocabulary.{place_claim, place_now, placed_now, pointed_cell, refl, seen_bit, seen_page}
 use Rattle.mk_laws.proofs.Vocabulary.{slice_index, subst, sym, true, true≢false, ◌+◌, ◌-◌, ◌<◌, ◌==◌, ◌^◌, ◌∙◌, ◌≡◌}
-use Rattle.mk_laws.proofs.Vocabulary.{◌⊎◌}
-use Rattle.mk_laws.proofs.LayoutHolders.{first_header, holding_object, new_has_turn}
-use Rattle.mk_laws.proofs.Actors.{Meets}
-use Rattle.mk_laws.proofs.Behind.{object_kind}
-use Rattle.mk_laws.proofs.Changes.{Table, reg_table, tally_table}
-use Rattle.mk_laws.proofs.Known.{Known}
-use Rattle.mk_laws.proofs.OthersMoves.{WorldBehind}
-use Rattle.mk_laws.proofs.Serving.{placed_claim}
-use Rattle.mk_core.proofs.WordBits.{bit_is_one, bit_of_cell, bit_of_power, more_bits}
-use Rattle.mk_core.proofs.PlacesNow.{PlacedNow}
+use Rattle.mk_laws.proofs.{Vocabulary.◌⊎◌, LayoutHolders.{first_header, holding_object, new_has_turn}, Actors.Meets}
+use Rattle.mk_laws.proofs.{Behind.object_kind, Changes.{Table, reg_table, tally_table}, Known.Known}
+use Rattle.mk_laws.proofs.{OthersMoves.WorldBehind, Serving.placed_claim}
+use Rattle.mk_core.proofs.{WordBits.{bit_is_one, bit_of_cell, bit_of_power, more_bits}, PlacesNow.PlacedNow}
 use Rattle.mk_core.proofs.ServingSteps.{MarksPlace}
-use Rattle.mk_core.specs.NewPlaces.{bits_made}
-use Rattle.mk_core.specs.StopConditions.{is_bit_of, marks_by_hand}
-use Rattle.mk_marker.proofs.MarkBits.{IsCell}
-use Rattle.mk_marker.proofs.PointedCells.{found_is_cell, pointed_is_cell}
+use Rattle.mk_core.specs.{NewPlaces.bits_made, StopConditions.{is_bit_of, marks_by_hand}}
+use Rattle.mk_marker.proofs.{MarkBits.IsCell, PointedCells.{found_is_cell, pointed_is_cell}}
 
 -- no other kind changes the marks while a cycle marks
 abbrev pub is_marking_step : Step → Bool

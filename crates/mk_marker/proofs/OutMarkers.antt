@@ -1,14 +1,10 @@
 -- A marker that is out is in the middle of nothing.
 use Rattle.mk_laws.proofs.Vocabulary.{Config, IsHistory, IsIdle, MarkerState, None, Option, Presence, Scan, Seat}
 use Rattle.mk_laws.proofs.Vocabulary.{SeenHeader, ℕ, ap, false, is_attending, left, marker_at, marker_of, outside, refl}
-use Rattle.mk_laws.proofs.Vocabulary.{subst, true, ◌∙◌, ◌≡◌}
-use Rattle.mk_laws.proofs.Known.{known_left}
-use Rattle.mk_laws.proofs.Protocols.{protocol_of}
-use Rattle.mk_core.specs.MarkerConditions.{is_out}
-use Rattle.mk_core.specs.declared.seats.Presence.TheVariants.{Out}
+use Rattle.mk_laws.proofs.{Vocabulary.{subst, true, ◌∙◌, ◌≡◌}, Known.known_left, Protocols.protocol_of}
+use Rattle.mk_core.specs.{MarkerConditions.is_out, declared.seats.Presence.TheVariants.Out}
 use Rattle.mk_marker.specs.Markers.{IsMarkers, IsOut}
-use Rattle.mk_words.specs.Markers.{marker_in}
-use Rattle.mk_words.specs.States.{PassState, now_of}
+use Rattle.mk_words.specs.{Markers.marker_in, States.{PassState, now_of}}
 
 out_is : (x : Presence) → is_out x ≡ true → x ≡ Out
 out_is Out h = refl

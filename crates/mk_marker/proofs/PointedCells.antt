@@ -3,12 +3,9 @@ use Rattle.mk_laws.proofs.Vocabulary.{Block, Bool, Cell, Config, Free, Header, L
 use Rattle.mk_laws.proofs.Vocabulary.{None, Option, Run, Some, World, ℕ, ap, arith, cell_at, cells_under, false}
 use Rattle.mk_laws.proofs.Vocabulary.{header_at, header_in, if◌then◌else◌, inl, inr, is_phase, nat_le, page_at_address}
 use Rattle.mk_laws.proofs.Vocabulary.{run_count, subst, sym, true, true≢false, ◌-◌, ◌<◌, ◌∙◌, ◌≡◌}
-use Rattle.mk_geom.proofs.ClassTable.{some_cells}
-use Rattle.mk_geom.proofs.HeaderLemmas.{word_of-header_of}
-use Rattle.mk_geom.specs.Addresses.{cell_under, run_of_page, word_at_address}
-use Rattle.mk_geom.specs.Headers.{IsInRange}
-use Rattle.mk_core.proofs.PointedPages.{LiesUnder, found_under, lies_under}
-use Rattle.mk_core.specs.Cells.{pointed_cell}
+use Rattle.mk_geom.proofs.{ClassTable.some_cells, HeaderLemmas.word_of-header_of}
+use Rattle.mk_geom.specs.{Addresses.{cell_under, run_of_page, word_at_address}, Headers.IsInRange}
+use Rattle.mk_core.{proofs.PointedPages.{LiesUnder, found_under, lies_under}, specs.Cells.{pointed_cell}}
 
 -- a header that heads a run has one cell
 heads_one : (h : Option Header) (d : ℕ) → d < run_count h → 0 < cells_under h

@@ -3,11 +3,9 @@ use Rattle.std.proofs.lemmas.List.Sums.{sum_by-append}
 use Rattle.mk_laws.proofs.Vocabulary.{Bool, List, Seat, Step, ℕ, ap, cond, false, refl, subst, true, [], ◌&&◌, ◌++◌}
 use Rattle.mk_laws.proofs.Vocabulary.{◌+◌, ◌∙◌, ◌∷◌, ◌≡◌}
 use Rattle.mk_core.specs.Growing.{Finding}
-use Rattle.mk_marker.proofs.Did.{did_nothing, did_then, seat_kept}
-use Rattle.mk_marker.specs.declared.cells.MarkedCell.{MarkedCell}
-use Rattle.mk_marker.specs.Doing.{Did, count_loads, finding, is_markers_load, is_of_scan}
-use Rattle.mk_marker.specs.Steps.{ClaimsMarked, Moved, MovesMarker, ScansCell, ScansOn}
-use Rattle.mk_marker.specs.Scanning.{words_scanned}
+use Rattle.mk_marker.{proofs.Did.{did_nothing, did_then, seat_kept}, specs.Scanning.{words_scanned}}
+use Rattle.mk_marker.specs.{declared.cells.MarkedCell.MarkedCell, Doing.{Did, count_loads, finding, is_markers_load}}
+use Rattle.mk_marker.specs.{Doing.is_of_scan, Steps.{ClaimsMarked, Moved, MovesMarker, ScansCell, ScansOn}}
 use Rattle.mk_turns.proofs.Doing.{of_kinds_in_parts}
 use Rattle.mk_words.specs.States.{PassState}
 

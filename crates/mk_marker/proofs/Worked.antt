@@ -1,16 +1,11 @@
 -- What a call did, from its parts.
 use Rattle.mk_laws.proofs.Vocabulary.{MarkerState, Seat, Step, Word, ℕ, ap, arith, subst, sym, [], ◌%◌, ◌++◌, ◌∙◌, ◌∷◌}
 use Rattle.mk_laws.proofs.Vocabulary.{◌≡◌, ◌≢◌}
-use Rattle.mk_core.specs.MarkerConditions.{is_out}
-use Rattle.mk_core.specs.Phases.{phase_number}
-use Rattle.mk_core.specs.declared.phases.Phase.{Phase}
-use Rattle.mk_marker.proofs.Did.{did_then, seat_kept}
-use Rattle.mk_marker.proofs.Looking.{did_more}
+use Rattle.mk_core.specs.{MarkerConditions.is_out, Phases.phase_number, declared.phases.Phase.Phase}
+use Rattle.mk_marker.proofs.{Did.{did_then, seat_kept}, Looking.did_more}
 use Rattle.mk_marker.specs.Steps.{LooksInVain, Moved, MovesMarker, ScansCell, SeesCell}
 use Rattle.mk_marker.specs.Working.{FindsNoWork, FindsPhase, IsBlackIn, ScansACell, SeesACell, SeesNoWork}
-use Rattle.mk_marker.specs.Doing.{finding, looking}
-use Rattle.mk_marker.specs.Scanning.{Scans}
-use Rattle.mk_marker.specs.declared.cells.MarkedCell.{MarkedCell}
+use Rattle.mk_marker.specs.{Doing.{finding, looking}, Scanning.Scans, declared.cells.MarkedCell.MarkedCell}
 use Rattle.mk_words.specs.States.{PassState}
 
 pub finds_phase : (p : PassState) (n : ℕ) (phase : Phase) (a q : PassState) → MovesMarker p Step.Attend n a

@@ -1,10 +1,7 @@
 -- What a marker did in a call: all its own steps, in their order, and what each of them found.
 use Rattle.std.specs.Prelude.{◌≡◌, ℕ, Bool, true, false, List, ◌++◌, count_by}
-use Rattle.mk_core.specs.declared.events.Seat.{Seat}
-use Rattle.mk_core.specs.declared.events.Word.{Word}
-use Rattle.mk_core.specs.declared.events.Step.{Step}
-use Rattle.mk_core.specs.declared.events.Event.{Event}
-use Rattle.mk_core.specs.Growing.{Finding}
+use Rattle.mk_core.specs.{declared.events.Seat.Seat, declared.events.Word.Word, declared.events.Step.Step}
+use Rattle.mk_core.specs.{declared.events.Event.Event, Growing.Finding}
 use Rattle.mk_words.specs.States.{PassState}
 use Rattle.mk_turns.specs.Doing.{AreOwnOrOfOthers, done_in}
 use Rattle.mk_core.specs.declared.events.Word.TheVariants as word

@@ -1,12 +1,8 @@
 -- What contracts see of a marker: its pass. Between two calls it is out, or attends and scans nothing.
 use Rattle.std.specs.Prelude.{◌≡◌, ◌⊎◌, ℕ, ◌<◌, Bool, true, None, Option}
-use Rattle.mk_core.specs.declared.events.Seat.TheVariants.{Marker}
-use Rattle.mk_core.specs.declared.seats.Presence.TheVariants.{Attending}
-use Rattle.mk_core.specs.declared.seats.SeenHeader.{SeenHeader}
-use Rattle.mk_core.specs.StopConditions.{is_attending}
-use Rattle.mk_core.specs.MarkerConditions.{is_out}
-use Rattle.mk_words.specs.States.{WordsState, PassState}
-use Rattle.mk_words.specs.Markers.{marker_in}
+use Rattle.mk_core.specs.{declared.events.Seat.TheVariants.Marker, declared.seats.Presence.TheVariants.Attending}
+use Rattle.mk_core.specs.{declared.seats.SeenHeader.SeenHeader, StopConditions.is_attending, MarkerConditions.is_out}
+use Rattle.mk_words.specs.{States.{WordsState, PassState}, Markers.marker_in}
 use Rattle.mk_core.specs.declared.seats.Marker.{Marker as MarkerState}
 
 abbrev pub attends : PassState → Bool

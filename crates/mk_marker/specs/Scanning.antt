@@ -2,9 +2,7 @@
 -- black.
 use Rattle.std.specs.Prelude.{◌≡◌, ℕ, true, List, [], ◌∷◌, ◌++◌, if◌then◌else◌}
 use Rattle.mk_geom.specs.Headers.{header_of}
-use Rattle.mk_core.specs.declared.events.Seat.{Seat}
-use Rattle.mk_core.specs.Bits.{has_bit}
-use Rattle.mk_core.specs.Cells.{words_under, has_no_pointers}
+use Rattle.mk_core.specs.{declared.events.Seat.Seat, Bits.has_bit, Cells.{words_under, has_no_pointers}}
 use Rattle.mk_core.specs.Growing.{Finding}
 use Rattle.mk_turns.specs.Doing.{are_of}
 use Rattle.mk_marker.specs.Doing.{finding, is_of_scan, count_loads}

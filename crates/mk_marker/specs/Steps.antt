@@ -1,22 +1,14 @@
 -- A marker's pass on its way through a call: what one step leaves, and what a marker is at.
 use Rattle.std.specs.Prelude.{◌≡◌, ℕ, ◌-◌, ◌<◌, ◌≤◌, true, List, [], ◌∷◌, Option, Some, None, slice_index}
-use Rattle.mk_core.specs.declared.events.Step.{Step}
-use Rattle.mk_core.specs.declared.seats.Presence.TheVariants.{Attending}
-use Rattle.mk_core.specs.declared.seats.Scan.{Scan}
-use Rattle.mk_core.specs.declared.seats.SeenHeader.{SeenHeader}
-use Rattle.mk_core.specs.Accesses.{scan_page, scan_bit}
-use Rattle.mk_core.specs.Bits.{has_bit, bit_for}
-use Rattle.mk_core.specs.Effects.{marker_behind}
-use Rattle.mk_core.specs.Frames.{OnlyGrow}
-use Rattle.mk_core.specs.Growing.{Finding}
-use Rattle.mk_words.specs.States.{WordsState, PassState, IsPass, now_of}
-use Rattle.mk_words.specs.Markers.{marker_in}
+use Rattle.mk_core.specs.{declared.events.Step.Step, declared.seats.Presence.TheVariants.Attending}
+use Rattle.mk_core.specs.{declared.seats.Scan.Scan, declared.seats.SeenHeader.SeenHeader}
+use Rattle.mk_core.specs.{Accesses.{scan_page, scan_bit}, Bits.{has_bit, bit_for}, Effects.marker_behind}
+use Rattle.mk_core.specs.{Frames.OnlyGrow, Growing.Finding}
+use Rattle.mk_words.specs.{States.{WordsState, PassState, IsPass, now_of}, Markers.marker_in}
 use Rattle.mk_turns.specs.Doing.{are_of}
-use Rattle.mk_marker.specs.declared.cells.MarkedCell.{MarkedCell}
-use Rattle.mk_marker.specs.Markers.{IsMarkers, IsBetweenScans, between_scans, attends}
-use Rattle.mk_marker.specs.Doing.{Did, finding, is_markers_look, is_of_scan, count_loads}
-use Rattle.mk_marker.specs.Scanning.{Scans}
-use Rattle.mk_marker.specs.Working.{SeesNoWork, SeesACell}
+use Rattle.mk_marker.specs.{declared.cells.MarkedCell.MarkedCell, Markers.{IsMarkers, IsBetweenScans, between_scans}}
+use Rattle.mk_marker.specs.{Markers.attends, Doing.{Did, finding, is_markers_look, is_of_scan, count_loads}}
+use Rattle.mk_marker.specs.{Scanning.Scans, Working.{SeesNoWork, SeesACell}}
 use Rattle.mk_core.specs.declared.events.Step.TheVariants as step
 use Rattle.mk_core.specs.declared.seats.Marker.{Marker as MarkerState}
 

@@ -1,19 +1,12 @@
 -- Why `attend` and `work` answer so: what the marker did in the call, and what its steps found.
 use Rattle.std.specs.Prelude.{◌≡◌, ◌≢◌, ◌⊎◌, ℕ, ◌<◌, ◌%◌, true, false, List, [], ◌∷◌, ◌++◌, slice_index}
 use Rattle.mk_geom.specs.Headers.{header_of}
-use Rattle.mk_core.specs.declared.events.Seat.{Seat}
-use Rattle.mk_core.specs.declared.phases.Phase.{Phase}
-use Rattle.mk_core.specs.Phases.{phase_number}
-use Rattle.mk_core.specs.Bits.{has_bit, without}
-use Rattle.mk_core.specs.Cells.{cells_under}
-use Rattle.mk_core.specs.Growing.{Finding}
+use Rattle.mk_core.specs.{declared.events.Seat.Seat, declared.phases.Phase.Phase, Phases.phase_number}
+use Rattle.mk_core.specs.{Bits.{has_bit, without}, Cells.cells_under, Growing.Finding}
 use Rattle.mk_words.specs.States.{PassState, now_of}
 use Rattle.mk_turns.specs.Doing.{are_of}
-use Rattle.mk_marker.specs.declared.markers.Work.{Work}
-use Rattle.mk_marker.specs.declared.markers.Work.TheVariants.{Worked, Idle, Wanted}
-use Rattle.mk_marker.specs.Markers.{attends, IsOut}
-use Rattle.mk_marker.specs.Doing.{Did, finding, looking, is_markers_look}
-use Rattle.mk_marker.specs.Scanning.{Scans}
+use Rattle.mk_marker.specs.{declared.markers.Work.Work, declared.markers.Work.TheVariants.{Worked, Idle, Wanted}}
+use Rattle.mk_marker.specs.{Markers.{attends, IsOut}, Doing.{Did, finding, looking, is_markers_look}, Scanning.Scans}
 use Rattle.mk_core.specs.declared.events.Word.TheVariants as word
 use Rattle.mk_core.specs.declared.events.Step.TheVariants as step
 

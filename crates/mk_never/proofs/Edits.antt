@@ -1,7 +1,6 @@
 -- A fact about what is chosen, edited or reached, from the cases; and which allocations there are.
 use Rattle.std.proofs.Common.{Bool, List, ℕ, ap, arith, false, get_or, if◌then◌else◌, length, refl, set, suc, true}
-use Rattle.std.proofs.Common.{zero, [], ◌++◌, ◌<◌, ◌∷◌, ◌≡◌}
-use Rattle.std.proofs.lemmas.Bool.{false≢true}
+use Rattle.std.proofs.{Common.{zero, [], ◌++◌, ◌<◌, ◌∷◌, ◌≡◌}, lemmas.Bool.false≢true}
 use Rattle.mk_never.specs.NeverHeap.{Allocation, NeverState, allocation_at, left_at, no_allocation, words_of}
 use Rattle.mk_never.specs.declared.values.Target.TheVariants.{Nothing, Unmapped, WordOf}
 use Rattle.mk_never.specs.declared.values.Target.{Target}

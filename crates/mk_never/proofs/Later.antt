@@ -1,18 +1,14 @@
 -- Allocations stay: their types, their sizes, and that they are freed.
 use Rattle.std.proofs.Common.{List, ℕ, ap, arith, length, length-append, length-set, refl, set, subst, true, [], ◌<◌}
-use Rattle.std.proofs.Common.{◌∙◌, ◌∷◌, ◌≡◌}
-use Rattle.std.proofs.lemmas.List.{get_or_append_left}
+use Rattle.std.proofs.{Common.{◌∙◌, ◌∷◌, ◌≡◌}, lemmas.List.get_or_append_left}
 use Rattle.mk_never.proofs.Edits.{freed_exists, if_by, left_at_by, set_by}
-use Rattle.mk_never.specs.Laws.{Continues, FreedStays, TypeStays}
-use Rattle.mk_never.specs.NeverHeap.{Allocation, Call, NeverState, after_calls, after_free, after_op, allocation_at}
-use Rattle.mk_never.specs.NeverHeap.{is_same, left_at, no_allocation, register_at, with_freed, with_global, with_new}
-use Rattle.mk_never.specs.NeverHeap.{with_register, with_word, word_at, words_of}
-use Rattle.mk_never.specs.declared.operations.Op.TheVariants.{CasPtr, Clear, Free, GetGlobal, GetPtr, Lea, Move, New}
-use Rattle.mk_never.specs.declared.operations.Op.TheVariants.{SetGlobal, SetNum, SetPtr}
-use Rattle.mk_never.specs.declared.values.Value.TheVariants.{Null, Num, Ptr}
-use Rattle.mk_never.specs.declared.operations.Op.{Op}
-use Rattle.mk_never.specs.declared.values.Target.{Target}
-use Rattle.mk_never.specs.declared.values.Value.{Value}
+use Rattle.mk_never.specs.{Laws.{Continues, FreedStays, TypeStays}, NeverHeap.{Allocation, Call, NeverState}}
+use Rattle.mk_never.specs.NeverHeap.{after_calls, after_free, after_op, allocation_at, is_same, left_at, no_allocation}
+use Rattle.mk_never.specs.NeverHeap.{register_at, with_freed, with_global, with_new, with_register, with_word, word_at}
+use Rattle.mk_never.specs.{NeverHeap.words_of, declared.operations.Op.TheVariants.{CasPtr, Clear, Free, GetGlobal}}
+use Rattle.mk_never.specs.declared.operations.Op.TheVariants.{GetPtr, Lea, Move, New, SetGlobal, SetNum, SetPtr}
+use Rattle.mk_never.specs.{declared.values.Value.TheVariants.{Null, Num, Ptr}, declared.operations.Op.Op}
+use Rattle.mk_never.specs.{declared.values.Target.Target, declared.values.Value.Value}
 
 -- the same allocations, with other registers or globals
 same_allocations : (n m : NeverState) → m.types ≡ n.types → m.allocations ≡ n.allocations

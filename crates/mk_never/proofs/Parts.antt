@@ -1,8 +1,7 @@
 -- Calls in two parts: what they leave, what they are replied, and where they are admitted.
 use Rattle.std.proofs.Common.{List, ℕ, ap, refl, [], ◌++◌, ◌∷◌}
-use Rattle.mk_never.specs.Laws.{AdmittedInParts, LeavesInParts, RepliesInParts}
-use Rattle.mk_never.specs.NeverHeap.{Call, NeverState, after_calls, after_op, reply_of}
-use Rattle.mk_never.specs.Admitted.{AreAdmitted}
+use Rattle.mk_never.specs.{Laws.{AdmittedInParts, LeavesInParts, RepliesInParts}, NeverHeap.{Call, NeverState}}
+use Rattle.mk_never.specs.{NeverHeap.{after_calls, after_op, reply_of}, Admitted.AreAdmitted}
 use Rattle.mk_never.specs.declared.operations.Reply.{Reply}
 
 pub after_append : (n : NeverState) (earlier later : List Call) → LeavesInParts n earlier later

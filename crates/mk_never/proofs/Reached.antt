@@ -3,8 +3,7 @@
 use Rattle.std.proofs.Common.{Bool, ℕ, false, get_or, refl, replicate, subst, suc, sym, true, zero, [], ◌∷◌, ◌≡◌}
 use Rattle.std.proofs.lemmas.Bool.{false≢true}
 use Rattle.mk_never.specs.Reach.{IsClosedUnderPointers, IsReachable, LeadsTo, ReachIsLeast, WordLeadsTo, by_global}
-use Rattle.mk_never.specs.Reach.{by_register, by_word}
-use Rattle.mk_never.specs.declared.values.Value.TheVariants.{Null, Num, Ptr}
+use Rattle.mk_never.specs.{Reach.{by_register, by_word}, declared.values.Value.TheVariants.{Null, Num, Ptr}}
 use Rattle.mk_never.specs.NeverHeap.{NeverState}
 
 pub reach_is_closed : (n : NeverState) → IsClosedUnderPointers n (IsReachable n)

@@ -1,10 +1,8 @@
 -- `is_same` says whether two values are equal.
 use Rattle.std.proofs.Common.{Bool, ℕ, ap, arith, eq-eqb, eqb-true, false, refl, true, ◌↔◌, ◌≡◌, ◌≢◌}
 use Rattle.std.proofs.lemmas.Bool.{and_from, and_parts, false_from_ne_true, false≢true}
-use Rattle.mk_never.specs.NeverHeap.{NeverState, bit, is_same}
-use Rattle.mk_never.specs.declared.values.Value.TheVariants.{Null, Num, Ptr}
-use Rattle.mk_never.specs.Laws.{SameTells}
-use Rattle.mk_never.specs.declared.values.Value.{Value}
+use Rattle.mk_never.specs.{NeverHeap.{NeverState, bit, is_same}, declared.values.Value.TheVariants.{Null, Num, Ptr}}
+use Rattle.mk_never.specs.{Laws.SameTells, declared.values.Value.Value}
 
 pub equal_from_same : (v w : Value) → is_same v w ≡ true → v ≡ w
 equal_from_same Null Null h = refl

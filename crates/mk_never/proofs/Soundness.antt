@@ -1,14 +1,10 @@
 -- Sound values stay sound, and suit the kinds that they are of.
 use Rattle.std.proofs.Common.{List, ℕ, arith, get_or, inl, inr, length, map, suc, sym, zero, [], ◌<◌, ◌∷◌}
 use Rattle.std.proofs.lemmas.Bool.{false≢true}
-use Rattle.mk_never.specs.Admitted.{IsNumber, IsOfKind, IsPointer, Meets}
-use Rattle.mk_never.specs.NeverHeap.{Allocation, NeverState, allocation_at, moved_on}
-use Rattle.mk_never.specs.Typed.{IsPlaceIn, IsSound, IsTypedAllocation, Suits}
-use Rattle.mk_never.specs.declared.values.Value.TheVariants.{Null, Num, Ptr}
-use Rattle.mk_never.specs.Laws.{Continues}
-use Rattle.mk_never.specs.Types.{zero_of}
-use Rattle.mk_never.specs.declared.types.Kind.{Kind}
-use Rattle.mk_never.specs.declared.values.Value.{Value}
+use Rattle.mk_never.specs.{Admitted.{IsNumber, IsOfKind, IsPointer, Meets}, NeverHeap.{Allocation, NeverState}}
+use Rattle.mk_never.specs.{NeverHeap.{allocation_at, moved_on}, Typed.{IsPlaceIn, IsSound, IsTypedAllocation, Suits}}
+use Rattle.mk_never.specs.{declared.values.Value.TheVariants.{Null, Num, Ptr}, Laws.Continues, Types.zero_of}
+use Rattle.mk_never.specs.{declared.types.Kind.Kind, declared.values.Value.Value}
 use Rattle.mk_never.specs.declared.types.Kind.TheVariants.{Num as Number, To}
 
 -- In a type that has words, a place is one of them.

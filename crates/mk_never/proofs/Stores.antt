@@ -1,23 +1,16 @@
 -- Words change by stores alone, and a load gives what was last stored.
 use Rattle.std.proofs.Common.{List, ℕ, ap, arith, get_or, get_or-set_other, get_or-set_same, length, refl, sym, [], ◌*◌}
-use Rattle.std.proofs.Common.{◌+◌, ◌<◌, ◌∙◌, ◌∷◌, ◌≡◌, ◌≢◌}
-use Rattle.std.proofs.lemmas.List.{get_or_append_left}
-use Rattle.mk_never.proofs.Edits.{exists, if_by, left_at_by, set_by}
-use Rattle.mk_never.proofs.Later.{op_stays}
+use Rattle.std.proofs.{Common.{◌+◌, ◌<◌, ◌∙◌, ◌∷◌, ◌≡◌, ◌≢◌}, lemmas.List.get_or_append_left}
+use Rattle.mk_never.proofs.{Edits.{exists, if_by, left_at_by, set_by}, Later.op_stays}
 use Rattle.mk_never.proofs.Sameness.{equal_from_same, same_from_equal}
-use Rattle.mk_never.specs.declared.values.Value.{Value}
-use Rattle.mk_never.specs.Laws.{Continues, LoadGivesStored, LoadsGive, Reaches, StoreIsInside, StoreLeaves, StoresTo}
-use Rattle.mk_never.specs.Laws.{UnstoredStays}
-use Rattle.mk_never.specs.NeverHeap.{Call, NeverState, after_free, after_op, left_at, no_allocation, number_of}
-use Rattle.mk_never.specs.NeverHeap.{register_at, reply_at, with_freed, with_register, with_word, word_at, words_of}
+use Rattle.mk_never.specs.{declared.values.Value.Value, Laws.{Continues, LoadGivesStored, LoadsGive, Reaches}}
+use Rattle.mk_never.specs.{Laws.{StoreIsInside, StoreLeaves, StoresTo, UnstoredStays}, NeverHeap.{Call, NeverState}}
+use Rattle.mk_never.specs.NeverHeap.{after_free, after_op, left_at, no_allocation, number_of, register_at, reply_at}
+use Rattle.mk_never.specs.NeverHeap.{with_freed, with_register, with_word, word_at, words_of}
 use Rattle.mk_never.specs.declared.operations.Op.TheVariants.{CasPtr, Free, GetPtr, New, SetNum, SetPtr}
-use Rattle.mk_never.specs.declared.values.Target.TheVariants.{WordOf}
-use Rattle.mk_never.specs.declared.values.Value.TheVariants.{Null, Num, Ptr}
-use Rattle.mk_never.specs.Admitted.{Meets}
-use Rattle.mk_never.specs.declared.operations.Op.{Op}
-use Rattle.mk_never.specs.declared.operations.Reply.{Reply}
-use Rattle.mk_never.specs.declared.types.Kind.{Kind}
-use Rattle.mk_never.specs.declared.values.Target.{Target}
+use Rattle.mk_never.specs.{declared.values.Target.TheVariants.WordOf, declared.values.Value.TheVariants.{Null, Num}}
+use Rattle.mk_never.specs.{declared.values.Value.TheVariants.Ptr, Admitted.Meets, declared.operations.Op.Op}
+use Rattle.mk_never.specs.{declared.operations.Reply.Reply, declared.types.Kind.Kind, declared.values.Target.Target}
 use Rattle.mk_never.specs.declared.operations.Reply.TheVariants.{Num as Number, Val}
 
 -- The word is as it was.

@@ -1,18 +1,14 @@
 -- Admitted calls leave a typed state.
 use Rattle.std.proofs.Common.{Bool, IfSome, List, None, Option, Some, ℕ, arith, get_or, refl, replicate, slice_get}
 use Rattle.std.proofs.Common.{subst, suc, sym, zero, [], ◌*◌, ◌+◌, ◌∷◌, ◌≡◌}
-use Rattle.mk_never.proofs.Soundness.{moved_is_sound, number_suits, pointer_suits, suited_is_sound}
-use Rattle.mk_never.proofs.Edits.{if_by}
+use Rattle.mk_never.proofs.{Soundness.{moved_is_sound, number_suits, pointer_suits, suited_is_sound}, Edits.if_by}
 use Rattle.mk_never.proofs.Typing.{new_is_sound, typed_access, typed_free, typed_global, typed_new, typed_register}
-use Rattle.mk_never.proofs.Typing.{typed_word}
-use Rattle.mk_never.specs.Typed.{IsSound, IsTyped, KeepsTyped, StaysTyped}
-use Rattle.mk_never.specs.Admitted.{AccessIsAdmitted, IsAdmitted, IsOfKind, OperandsAreInRange, StoreIsAdmitted}
-use Rattle.mk_never.specs.NeverHeap.{Call, NeverState, after_op, is_same, register_at, start_of, with_new, word_at}
+use Rattle.mk_never.{proofs.Typing.{typed_word}, specs.declared.operations.Op.TheVariants.{SetGlobal, SetNum, SetPtr}}
+use Rattle.mk_never.specs.{Typed.{IsSound, IsTyped, KeepsTyped, StaysTyped}, Admitted.{AccessIsAdmitted, IsAdmitted}}
+use Rattle.mk_never.specs.{Admitted.{IsOfKind, OperandsAreInRange, StoreIsAdmitted}, NeverHeap.{Call, NeverState}}
+use Rattle.mk_never.specs.NeverHeap.{after_op, is_same, register_at, start_of, with_new, word_at}
 use Rattle.mk_never.specs.declared.operations.Op.TheVariants.{CasPtr, Clear, Free, GetGlobal, GetPtr, Lea, Move, New}
-use Rattle.mk_never.specs.declared.operations.Op.TheVariants.{SetGlobal, SetNum, SetPtr}
-use Rattle.mk_never.specs.declared.types.Kind.TheVariants.{To}
-use Rattle.mk_never.specs.declared.operations.Op.{Op}
-use Rattle.mk_never.specs.declared.types.Kind.{Kind}
+use Rattle.mk_never.specs.{declared.types.Kind.TheVariants.To, declared.operations.Op.Op, declared.types.Kind.Kind}
 use Rattle.mk_never.specs.declared.values.Value.TheVariants.{Null}
 
 module _ (listed : List ℕ) (n : NeverState) (c : ℕ) (typed : IsTyped listed n) where

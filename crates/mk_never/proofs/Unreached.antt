@@ -2,23 +2,17 @@
 use Rattle.std.proofs.Common.{Bool, IsTrue, List, ℕ, arith, false, get_or, inl, inr, length, length-set, map, nat_lt}
 use Rattle.std.proofs.Common.{refl, set, subst, suc, sym, true, zero, [], ◌&&◌, ◌*◌, ◌++◌, ◌+◌, ◌<◌, ◌∷◌, ◌≡◌, ◌⊎◌}
 use Rattle.std.proofs.lemmas.List.{get_or_past}
-use Rattle.mk_never.proofs.Edits.{if_by, left_at_by, set_by}
-use Rattle.mk_never.proofs.Later.{op_stays}
-use Rattle.mk_never.proofs.Reached.{reached_is_in}
+use Rattle.mk_never.proofs.{Edits.{if_by, left_at_by, set_by}, Later.op_stays, Reached.reached_is_in}
 use Rattle.mk_never.specs.NeverHeap.{Allocation, Call, NeverState, after_free, after_op, allocation_at, grants_object}
 use Rattle.mk_never.specs.NeverHeap.{is_unmapped, left_at, moved_on, no_allocation, register_at, with_freed}
 use Rattle.mk_never.specs.NeverHeap.{with_global, with_new, with_register, with_word, word_at, words_of}
 use Rattle.mk_never.specs.Reach.{AccessIsToReached, IsReachable, LeadsTo, ReachGrowsByGrants, UnreachedStays}
-use Rattle.mk_never.specs.Reach.{WordLeadsTo, by_global, by_register, by_word}
-use Rattle.mk_never.specs.Types.{kinds_of, zero_of, zero_words}
-use Rattle.mk_never.specs.declared.operations.Op.{Op}
-use Rattle.mk_never.specs.declared.operations.Op.TheVariants.{CasPtr, Clear, Free, GetGlobal, GetPtr, Lea, Move, New}
-use Rattle.mk_never.specs.declared.operations.Op.TheVariants.{SetGlobal, SetNum, SetPtr}
-use Rattle.mk_never.specs.declared.values.Value.TheVariants.{Null, Num, Ptr}
-use Rattle.mk_never.specs.Laws.{Continues, Reaches}
-use Rattle.mk_never.specs.declared.types.Kind.{Kind}
-use Rattle.mk_never.specs.declared.values.Target.{Target}
-use Rattle.mk_never.specs.declared.values.Target.TheVariants.{WordOf}
+use Rattle.mk_never.specs.{Reach.{WordLeadsTo, by_global, by_register, by_word}, Types.{kinds_of, zero_of, zero_words}}
+use Rattle.mk_never.specs.{declared.operations.Op.Op, declared.operations.Op.TheVariants.{CasPtr, Clear, Free}}
+use Rattle.mk_never.specs.declared.operations.Op.TheVariants.{GetGlobal, GetPtr, Lea, Move, New, SetGlobal, SetNum}
+use Rattle.mk_never.specs.{declared.operations.Op.TheVariants.SetPtr, declared.values.Value.TheVariants.{Null, Num}}
+use Rattle.mk_never.specs.{declared.values.Value.TheVariants.Ptr, Laws.{Continues, Reaches}, declared.types.Kind.Kind}
+use Rattle.mk_never.specs.{declared.values.Target.Target, declared.values.Target.TheVariants.WordOf}
 use Rattle.mk_never.specs.declared.values.Value.{Value}
 use Rattle.mk_never.specs.declared.types.Kind.TheVariants.{Num as Number, To}
 

@@ -1,14 +1,12 @@
 -- Which operations the heap that never reuses storage is asked: what a checked program keeps to.
 use Rattle.std.specs.Prelude.{◌≡◌, ℕ, ◌+◌, ◌*◌, ◌<◌, false, List, [], ◌∷◌, length, slice_index_or, slice_get, IfSome}
 use Rattle.std.specs.Prelude.{IsTrue}
-use Rattle.mk_never.specs.declared.types.Kind.{Kind}
-use Rattle.mk_never.specs.declared.values.Value.{Value}
-use Rattle.mk_never.specs.declared.values.Value.TheVariants.{Null, Num, Ptr}
-use Rattle.mk_never.specs.declared.operations.Op.{Op}
+use Rattle.mk_never.specs.{declared.types.Kind.Kind, declared.values.Value.Value}
+use Rattle.mk_never.specs.{declared.values.Value.TheVariants.{Null, Num, Ptr}, declared.operations.Op.Op}
 use Rattle.mk_never.specs.declared.operations.Op.TheVariants.{New, Free, GetNum, SetNum, GetPtr, SetPtr, CasPtr, Lea}
 use Rattle.mk_never.specs.declared.operations.Op.TheVariants.{Move, Clear, GetGlobal, SetGlobal, Same, IsNull}
-use Rattle.mk_never.specs.Types.{kinds_of, is_number}
-use Rattle.mk_never.specs.NeverHeap.{NeverState, Call, register_at, allocation_at, words_of, after_op}
+use Rattle.mk_never.specs.{Types.{kinds_of, is_number}, NeverHeap.{NeverState, Call, register_at, allocation_at}}
+use Rattle.mk_never.specs.NeverHeap.{words_of, after_op}
 use Rattle.mk_never.specs.declared.types.Kind.TheVariants.{Num as Number, To}
 
 -- The operation's registers, global and type are in range.

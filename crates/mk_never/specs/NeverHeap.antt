@@ -1,16 +1,12 @@
 -- The heap that never reuses storage: what each operation replies and leaves.
 use Rattle.std.specs.Prelude.{ℕ, ◌+◌, ◌*◌, Bool, true, false, ◌&&◌, if◌then◌else◌, List, [], ◌∷◌, ◌++◌, length}
 use Rattle.std.specs.Prelude.{replicate, slice_index_or, slice_set, ◌==◌}
-use Rattle.mk_never.specs.declared.types.Kind.{Kind}
-use Rattle.mk_never.specs.declared.values.Value.{Value}
-use Rattle.mk_never.specs.declared.values.Value.TheVariants.{Null, Num, Ptr}
-use Rattle.mk_never.specs.declared.values.Target.{Target}
-use Rattle.mk_never.specs.declared.values.Target.TheVariants.{Nothing, Unmapped, WordOf}
-use Rattle.mk_never.specs.declared.operations.Op.{Op}
+use Rattle.mk_never.specs.{declared.types.Kind.Kind, declared.values.Value.Value}
+use Rattle.mk_never.specs.{declared.values.Value.TheVariants.{Null, Num, Ptr}, declared.values.Target.Target}
+use Rattle.mk_never.specs.{declared.values.Target.TheVariants.{Nothing, Unmapped, WordOf}, declared.operations.Op.Op}
 use Rattle.mk_never.specs.declared.operations.Op.TheVariants.{New, Free, GetNum, SetNum, GetPtr, SetPtr, CasPtr, Lea}
 use Rattle.mk_never.specs.declared.operations.Op.TheVariants.{Move, Clear, GetGlobal, SetGlobal, Same, IsNull}
-use Rattle.mk_never.specs.declared.operations.Reply.{Reply}
-use Rattle.mk_never.specs.declared.operations.Reply.TheVariants.{Double}
+use Rattle.mk_never.specs.{declared.operations.Reply.Reply, declared.operations.Reply.TheVariants.Double}
 use Rattle.mk_never.specs.Types.{kinds_of, is_large, zero_words}
 use Rattle.mk_never.specs.declared.operations.Reply.TheVariants.{Done, Num as Number, Val, Full, Fault, Null as WasNull}
 

@@ -1,9 +1,7 @@
 -- The types of a state's values: along admitted calls, words, registers and globals hold what their types say.
 use Rattle.std.specs.Prelude.{◌≡◌, ◌⊎◌, ℕ, ◌<◌, List, length, slice_index_or, slice_get, IfSome}
-use Rattle.mk_never.specs.declared.types.Kind.{Kind}
-use Rattle.mk_never.specs.declared.values.Value.{Value}
-use Rattle.mk_never.specs.declared.values.Value.TheVariants.{Null, Num, Ptr}
-use Rattle.mk_never.specs.Types.{kinds_of}
+use Rattle.mk_never.specs.{declared.types.Kind.Kind, declared.values.Value.Value}
+use Rattle.mk_never.specs.{declared.values.Value.TheVariants.{Null, Num, Ptr}, Types.kinds_of}
 use Rattle.mk_never.specs.NeverHeap.{NeverState, Allocation, Call, allocation_at, global_at, start_of, after_calls}
 use Rattle.mk_never.specs.Admitted.{IsOfKind, AreAdmitted}
 use Rattle.mk_never.specs.declared.types.Kind.TheVariants.{Num as Number, To}

@@ -2,19 +2,14 @@
 use Rattle.mk_laws.proofs.Vocabulary.{Bool, Config, Event, Holding, Holds, IsHistory, List, None, Option, RunPages}
 use Rattle.mk_laws.proofs.Vocabulary.{Seat, Some, Steady, Step, World, ℕ, ap, arith, false, is_held, is_number_of}
 use Rattle.mk_laws.proofs.Vocabulary.{is_run_gone, left, not, others_are_held, refl, subst, sym, true, world_behind, []}
-use Rattle.mk_laws.proofs.Vocabulary.{◌++◌, ◌<◌, ◌||◌, ◌∙◌, ◌∷◌, ◌≡◌}
-use Rattle.mk_laws.proofs.LastEvents.{ComesLast, comes_last, stands}
-use Rattle.mk_laws.proofs.RunWords.{gone_behind}
-use Rattle.mk_laws.proofs.RunsStill.{holder_finds}
+use Rattle.mk_laws.proofs.{Vocabulary.{◌++◌, ◌<◌, ◌||◌, ◌∙◌, ◌∷◌, ◌≡◌}, LastEvents.{ComesLast, comes_last, stands}}
+use Rattle.mk_laws.proofs.{RunWords.gone_behind, RunsStill.holder_finds}
 use Rattle.mk_objects.proofs.Vocabulary.{Does, PassState, RunIsUnmapped, RunIsWiped, SetsGates, Unmaps, Wipes}
 use Rattle.mk_objects.proofs.Vocabulary.{WordsState, all_below_from, all_others, is_clearing, is_settling, now_of}
-use Rattle.mk_objects.proofs.Vocabulary.{world_of}
-use Rattle.mk_objects.proofs.DecidedFrees.{Stays, gates_stay, stays_then, unmaps_stay, wipes_stay}
-use Rattle.mk_objects.proofs.FreedOnce.{Another, KeptInTurn, Own, along_turn}
-use Rattle.mk_objects.proofs.JoinedLooks.{reached_world}
+use Rattle.mk_objects.proofs.{Vocabulary.world_of, DecidedFrees.{Stays, gates_stay, stays_then, unmaps_stay}}
+use Rattle.mk_objects.proofs.{DecidedFrees.wipes_stay, FreedOnce.{Another, KeptInTurn, Own, along_turn}}
+use Rattle.mk_objects.{proofs.JoinedLooks.{reached_world}, specs.{Deciding.ClearsRun, FreeParts.no_gate}}
 use Rattle.mk_core.specs.Growing.{AreOfOthers}
-use Rattle.mk_objects.specs.Deciding.{ClearsRun}
-use Rattle.mk_objects.specs.FreeParts.{no_gate}
 
 -- A run that the call has unmapped and wiped stays so, while gates are opened and tallies set.
 

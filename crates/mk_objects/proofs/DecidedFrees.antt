@@ -11,8 +11,7 @@ use Rattle.mk_objects.proofs.Vocabulary.{is_settling, none_is_held, now_of, stea
 use Rattle.mk_objects.proofs.JoinedLooks.{AreAmong, reached_world, reaches_after, reaches_answered, reaches_so}
 use Rattle.mk_objects.proofs.FreedOnce.{FreesNot, once_behind}
 use Rattle.mk_core.specs.Counts.{releases}
-use Rattle.mk_objects.specs.Deciding.{IsDecidedAt, counted}
-use Rattle.mk_objects.specs.FreeParts.{IsButGates}
+use Rattle.mk_objects.specs.{Deciding.{IsDecidedAt, counted}, FreeParts.IsButGates}
 
 -- What stays over each part.
 

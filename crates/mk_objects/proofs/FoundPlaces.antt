@@ -1,8 +1,6 @@
 -- What the place that first fit finds says of its pages, and how many words are held.
-use Rattle.std.proofs.Common.{add-one, leb-false, slice_get}
-use Rattle.std.proofs.lemmas.List.Sums.{count_by-le-length, sum_by-append}
-use Rattle.std.proofs.lemmas.Option.{get_or_from_slice_get, slice_get_within}
-use Rattle.std.proofs.Math.Nat.{mul-div-le, mul-le-mul_left}
+use Rattle.std.proofs.{Common.{add-one, leb-false, slice_get}, lemmas.List.Sums.{count_by-le-length, sum_by-append}}
+use Rattle.std.proofs.{lemmas.Option.{get_or_from_slice_get, slice_get_within}, Math.Nat.{mul-div-le, mul-le-mul_left}}
 use Rattle.std.proofs.lemmas.List.FromFn.{get_or-map-range_with_len}
 use Rattle.mk_laws.proofs.Vocabulary.{Block, Bool, Config, Event, Free, Header, IsHistory, IsSettled, IsSized, Later}
 use Rattle.mk_laws.proofs.Vocabulary.{LeafBlock, LeafRun, List, None, Object, Option, Page, Place, PlacedAllocation}
@@ -15,19 +13,13 @@ use Rattle.mk_laws.proofs.Vocabulary.{storage_words, subst, sym, true, unrelease
 use Rattle.mk_laws.proofs.Vocabulary.{uses_of_pages, word_of, [], ◌*◌, ◌++◌, ◌+◌, ◌<◌, ◌==◌, ◌∙◌, ◌∷◌, ◌≡◌, ◌≢◌, ◌≤◌}
 use Rattle.mk_laws.proofs.InvariantTheorems.{pages_show_the_storage}
 use Rattle.mk_objects.proofs.Vocabulary.{held_by_allocations, option_map, sum_by-cons}
-use Rattle.mk_geom.proofs.HeaderLemmas.{header_of-word_of, word_of-header_of}
-use Rattle.mk_geom.proofs.FirstFit.{cell_place_is, run_place_is}
+use Rattle.mk_geom.proofs.{HeaderLemmas.{header_of-word_of, word_of-header_of}, FirstFit.{cell_place_is, run_place_is}}
 use Rattle.mk_geom.proofs.HeldWords.{pages_hold_mapped_words}
 use Rattle.mk_geom.specs.PageUses.{Cells, PageUse, cells_taken, first_where, held_by_use, held_by_uses, is_free_page}
-use Rattle.mk_geom.specs.PageUses.{small_place}
-use Rattle.mk_geom.specs.PageWords.{bits_of, use_of_page}
-use Rattle.mk_geom.specs.Places.{MayTakeCell}
-use Rattle.mk_books.proofs.FreeCellLemmas.{cells_taken_alike}
-use Rattle.mk_books.proofs.UsedBitLemmas.{length-bits_of}
-use Rattle.mk_page_map.specs.Laws.{LowestBlockHasThePlace, free_cell_on}
-use Rattle.mk_page_map.specs.Members.{has_free_cell, page_at}
-use Rattle.mk_core.proofs.Sizes.{class_for_small, large_pages}
-use Rattle.mk_core.proofs.UnreleasedStorage.{unreleased_more}
+use Rattle.mk_geom.specs.{PageUses.small_place, PageWords.{bits_of, use_of_page}, Places.MayTakeCell}
+use Rattle.mk_books.proofs.{FreeCellLemmas.cells_taken_alike, UsedBitLemmas.length-bits_of}
+use Rattle.mk_page_map.specs.{Laws.{LowestBlockHasThePlace, free_cell_on}, Members.{has_free_cell, page_at}}
+use Rattle.mk_core.proofs.{Sizes.{class_for_small, large_pages}, UnreleasedStorage.unreleased_more}
 
 -- What the answers of the page map say of an object's place.
 

@@ -1,6 +1,5 @@
 -- The target of a Free is quarantined.
-use Rattle.std.proofs.Math.Pow.{pow-lt}
-use Rattle.std.proofs.lemmas.Nat.{or_lt}
+use Rattle.std.proofs.{Math.Pow.pow-lt, lemmas.Nat.or_lt}
 use Rattle.mk_laws.proofs.Vocabulary.{Answer, Bool, Caller, Cell, Config, Flight, Holding, Holds, IsHistory, List}
 use Rattle.mk_laws.proofs.Vocabulary.{Moment, None, Op, Option, Page, PlacedAllocation, Progress, Seat, Some, Stage}
 use Rattle.mk_laws.proofs.Vocabulary.{Steady, Step, Word, Words, World, ℕ, and_from, answer_decided, ap, arith, bit_or}
@@ -13,15 +12,10 @@ use Rattle.mk_laws.proofs.Vocabulary.{world_behind, [], ◌%◌, ◌&&◌, ◌*�
 use Rattle.mk_objects.proofs.Vocabulary.{Acts, CallIsAt, FreesOnce, HasFreed, IsAsLeft, IsEnabledTo, IsFreedAt}
 use Rattle.mk_objects.proofs.Vocabulary.{IsOutOfStop, IsTurn, Known, MayFree, PassState, answers_full, call_of}
 use Rattle.mk_objects.proofs.Vocabulary.{histories_keep_the_invariant, is_freeing, is_loading, min, now_of, steady_of}
-use Rattle.mk_objects.proofs.Vocabulary.{value_of, words_freed, world_of}
-use Rattle.mk_objects.proofs.MayAct.{free_is_acting, may_free, off_four}
-use Rattle.mk_objects.proofs.FreedOnce.{frees_now}
-use Rattle.mk_objects.proofs.LoadedFrees.{loaded_undecided, value_kept}
-use Rattle.mk_objects.proofs.Looks.{acting_caller, acting_now}
-use Rattle.mk_objects.proofs.Reaching.{made_in, reaches_nothing, reaches_on}
-use Rattle.mk_objects.proofs.Serves.{out_of_stop}
-use Rattle.mk_objects.proofs.Takes.{one_bit_more}
-use Rattle.mk_objects.proofs.Unchanged.{call_behind}
+use Rattle.mk_objects.proofs.{Vocabulary.{value_of, words_freed, world_of}, MayAct.{free_is_acting, may_free, off_four}}
+use Rattle.mk_objects.proofs.{FreedOnce.frees_now, LoadedFrees.{loaded_undecided, value_kept}}
+use Rattle.mk_objects.proofs.{Looks.{acting_caller, acting_now}, Reaching.{made_in, reaches_nothing, reaches_on}}
+use Rattle.mk_objects.proofs.{Serves.out_of_stop, Takes.one_bit_more, Unchanged.call_behind}
 use Rattle.mk_core.specs.Words.{named_word}
 use Rattle.mk_objects.specs.Retiring.{HasSeen, answer_seen, seen_free}
 

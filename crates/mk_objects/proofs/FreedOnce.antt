@@ -1,34 +1,21 @@
 -- Of the events of a Free's turn one frees its object: a `quar` of its own.
-use Rattle.std.proofs.Common.{length-append}
-use Rattle.std.proofs.lemmas.List.{append_cancel_left}
+use Rattle.std.proofs.{Common.length-append, lemmas.List.append_cancel_left}
 use Rattle.mk_laws.proofs.Vocabulary.{Bool, Config, Event, Flight, Holds, IsHistory, List, Moment, PlacedAllocation}
 use Rattle.mk_laws.proofs.Vocabulary.{Seat, Step, World, and_parts, ap, append-nil, append_assoc, arith, cases_Bool}
 use Rattle.mk_laws.proofs.Vocabulary.{earlier_part_is_history, false, false_from_ne_true, first_world, flight_of, found}
 use Rattle.mk_laws.proofs.Vocabulary.{if◌then◌else◌, inl, inr, is_one_of, left, left_more, length, not, not-true, refl}
 use Rattle.mk_laws.proofs.Vocabulary.{subst, sym, true, true≢false, world_behind, [], ◌&&◌, ◌++◌, ◌||◌, ◌∙◌, ◌∷◌, ◌≡◌}
-use Rattle.mk_laws.proofs.Vocabulary.{◌⊎◌}
-use Rattle.mk_laws.proofs.LastEvents.{comes_last, stands}
-use Rattle.mk_laws.proofs.Actors.{is_holders}
-use Rattle.mk_laws.proofs.FramesHolders.{acts_as_holder}
-use Rattle.mk_laws.proofs.Known.{holds_turn}
-use Rattle.mk_laws.proofs.Orderly.{same_holder}
-use Rattle.mk_laws.proofs.OrderlyLists.{actor_of}
-use Rattle.mk_laws.proofs.ProtocolFrames.{other_seat, others_leave}
-use Rattle.mk_laws.proofs.Views.{view_of}
+use Rattle.mk_laws.proofs.{Vocabulary.◌⊎◌, LastEvents.{comes_last, stands}, Actors.is_holders}
+use Rattle.mk_laws.proofs.{FramesHolders.acts_as_holder, Known.holds_turn, Orderly.same_holder, OrderlyLists.actor_of}
+use Rattle.mk_laws.proofs.{ProtocolFrames.{other_seat, others_leave}, Views.view_of}
 use Rattle.mk_objects.proofs.Vocabulary.{Does, FreesOnce, IsAsLeft, IsOverQuarter, PassState, WordsState, event_of}
-use Rattle.mk_objects.proofs.Vocabulary.{now_of, turn_stays, world_of}
-use Rattle.mk_objects.proofs.Reaching.{MadeIn}
-use Rattle.mk_core.specs.Growing.{AreOfOthers, Finding, is_same_seat, own_from}
-use Rattle.mk_core.specs.Allocations.{unreleased_storage}
+use Rattle.mk_objects.proofs.{Vocabulary.{now_of, turn_stays, world_of}, Reaching.MadeIn}
+use Rattle.mk_core.specs.{Growing.{AreOfOthers, Finding, is_same_seat, own_from}, Allocations.unreleased_storage}
 use Rattle.mk_core.specs.Counts.{decides_freed}
-use Rattle.mk_objects.specs.Dues.{FreesOnly, event_frees}
-use Rattle.mk_objects.specs.Retired.{IsDueSince}
-use Rattle.mk_turns.proofs.Doing.{none_own}
-use Rattle.mk_turns.specs.Doing.{are_of}
-use Rattle.mk_words.proofs.Seats.{only_one, same_seat, same_self}
-use Rattle.mk_words.proofs.TurnSteps.{still_turn}
-use Rattle.mk_words.specs.Seats.{Has}
-use Rattle.mk_words.specs.Steps.{Makes}
+use Rattle.mk_objects.specs.{Dues.{FreesOnly, event_frees}, Retired.IsDueSince}
+use Rattle.mk_turns.{proofs.Doing.{none_own}, specs.Doing.{are_of}}
+use Rattle.mk_words.proofs.{Seats.{only_one, same_seat, same_self}, TurnSteps.still_turn}
+use Rattle.mk_words.specs.{Seats.Has, Steps.Makes}
 
 -- Two ways to part one list.
 

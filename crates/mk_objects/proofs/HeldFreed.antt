@@ -1,6 +1,5 @@
 -- What one freed object changes among the allocations, and of the held words.
-use Rattle.std.proofs.Common.{ext_get_or, sum_by}
-use Rattle.std.proofs.lemmas.List.Sums.{sum_by-set}
+use Rattle.std.proofs.{Common.{ext_get_or, sum_by}, lemmas.List.Sums.sum_by-set}
 use Rattle.mk_laws.proofs.Vocabulary.{Bool, Cell, Config, List, PlacedAllocation, Some, Storage, Words, ℕ, ap, arith}
 use Rattle.mk_laws.proofs.Vocabulary.{cases_eq, changed_at, cond-false, cond-true, false, freed_leaves}
 use Rattle.mk_laws.proofs.Vocabulary.{freed_where_it_stands, get_or-set_other, get_or-set_same, if◌then◌else◌, inl, inr}

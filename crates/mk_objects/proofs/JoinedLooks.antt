@@ -6,8 +6,7 @@ use Rattle.mk_laws.proofs.Vocabulary.{place_on_pages, refl, subst, sym, true, []
 use Rattle.mk_objects.proofs.Vocabulary.{ComesTo, Does, GoesTo, IsAsLeft, IsGrantedAt, IsOutOfStop, IsUnplaced}
 use Rattle.mk_objects.proofs.Vocabulary.{OnlyLooks, PassState, call_of, does_then, entry_for, is_look, is_placing}
 use Rattle.mk_objects.proofs.Vocabulary.{now_of, object_for, own_calls, world_of}
-use Rattle.mk_objects.proofs.Reaching.{counts_then, reaches_nothing, seeing}
-use Rattle.mk_objects.proofs.Unchanged.{left_joined, left_same}
+use Rattle.mk_objects.proofs.{Reaching.{counts_then, reaches_nothing, seeing}, Unchanged.{left_joined, left_same}}
 use Rattle.mk_core.specs.Growing.{Finding}
 use Rattle.mk_objects.specs.Placing.{HeldIsExact, IsGranted}
 use Rattle.mk_turns.specs.Doing.{are_of}

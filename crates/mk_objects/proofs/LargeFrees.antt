@@ -5,14 +5,12 @@ use Rattle.mk_laws.proofs.Vocabulary.{if◌then◌else◌, in_a_word, is_held, m
 use Rattle.mk_laws.proofs.Vocabulary.{◌*◌, ◌+◌, ◌<◌, ◌^◌, ◌↔◌, ◌∙◌, ◌≡◌}
 use Rattle.mk_objects.proofs.Vocabulary.{Changes, FreesCell, FreesOnce, HasFreed, IsFreedAt, IsTrue, MayFree, OnlyLooks}
 use Rattle.mk_objects.proofs.Vocabulary.{PassState, SetsTally, StaysSo, held_by_allocations, is_following, now_of}
-use Rattle.mk_objects.proofs.Vocabulary.{with_tally, world_of}
-use Rattle.mk_objects.proofs.ClearedRuns.{IsGoneIn, still_gone}
+use Rattle.mk_objects.proofs.{Vocabulary.{with_tally, world_of}, ClearedRuns.{IsGoneIn, still_gone}}
 use Rattle.mk_objects.proofs.DecidedFrees.{Stays, held_stays, stays_now, stays_then}
 use Rattle.mk_objects.proofs.FreedObjects.{HasRun, IsObjectAt, its_freed, its_run, large_held, object_at, own}
 use Rattle.mk_objects.proofs.SmallFrees.{freed_now, frees_counted, fresh_told_by, tally_between}
 use Rattle.mk_objects.proofs.JoinedLooks.{reached_table, reached_world}
-use Rattle.mk_objects.specs.Deciding.{ClearsRun}
-use Rattle.mk_objects.specs.Unmapping.{IsStillMapped}
+use Rattle.mk_objects.specs.{Deciding.ClearsRun, Unmapping.IsStillMapped}
 
 -- what heads a run
 pub record HeadsRun (x : Option Header) (count : ℕ) : Type 0 where

@@ -13,17 +13,11 @@ use Rattle.mk_laws.proofs.SeatFrames.{admitted_others_leave}
 use Rattle.mk_objects.proofs.Vocabulary.{Acts, CallIsAt, IsAdmittedBehind, IsAsLeft, IsBase, IsEnabledTo, IsFreeAt}
 use Rattle.mk_objects.proofs.Vocabulary.{IsTurn, Known, PassState, answers_full, call_of, calls_more, event_of}
 use Rattle.mk_objects.proofs.Vocabulary.{histories_keep_the_invariant, is_loading, loaded_free, now_of, steady_of}
-use Rattle.mk_objects.proofs.Vocabulary.{value_of, world_of}
-use Rattle.mk_objects.proofs.Reaching.{IsCallers, made_in, reaches_nothing, reaches_on}
-use Rattle.mk_objects.proofs.Unchanged.{call_behind}
-use Rattle.mk_never.proofs.Later.{calls_stay}
-use Rattle.mk_never.proofs.Parts.{admitted_join}
-use Rattle.mk_core.proofs.Conditions.{meets_enabled}
-use Rattle.mk_core.specs.Effects.{moment_behind}
-use Rattle.mk_core.specs.History.{never_first}
-use Rattle.mk_objects.specs.Retiring.{HasLoaded, IsUnloaded}
-use Rattle.mk_words.specs.CallSteps.{register_of}
-use Rattle.mk_words.specs.Steps.{IsAdmittedTo}
+use Rattle.mk_objects.proofs.{Vocabulary.{value_of, world_of}, Reaching.{IsCallers, made_in, reaches_nothing}}
+use Rattle.mk_objects.{proofs.{Reaching.reaches_on, Unchanged.call_behind}, specs.Retiring.{HasLoaded, IsUnloaded}}
+use Rattle.mk_never.proofs.{Later.calls_stay, Parts.admitted_join}
+use Rattle.mk_core.{proofs.Conditions.{meets_enabled}, specs.{Effects.moment_behind, History.never_first}}
+use Rattle.mk_words.specs.{CallSteps.register_of, Steps.IsAdmittedTo}
 
 -- A Free whose register is null or points to a first word is admitted, whatever its step.
 

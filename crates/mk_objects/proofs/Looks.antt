@@ -4,14 +4,12 @@ use Rattle.mk_laws.proofs.Vocabulary.{World, ℕ, ap, false, flight_of, free_pag
 use Rattle.mk_laws.proofs.Vocabulary.{quarantine_word, refl, seat_exists, slice_index, slice_index_or, true}
 use Rattle.mk_laws.proofs.Vocabulary.{world_behind, ◌%◌, ◌++◌, ◌∙◌, ◌≡◌}
 use Rattle.mk_objects.proofs.Vocabulary.{Acts, IsAsLeft, IsTurn, OnlyLooks, PassState, call_of, is_acting, is_look}
-use Rattle.mk_objects.proofs.Vocabulary.{is_steady_word, now_of, steady_of, world_of}
-use Rattle.mk_objects.proofs.Reaching.{GoesOn, IsCallers, reaches_nothing, reaches_still}
-use Rattle.mk_objects.proofs.Unchanged.{IsPlain, OfFresh, OfHead, OfHeld, OfPhase, OfUsed, acting_has_call, left_joined}
-use Rattle.mk_objects.proofs.Unchanged.{left_same, look_leaves}
+use Rattle.mk_objects.proofs.{Vocabulary.{is_steady_word, now_of, steady_of, world_of}, Reaching.{GoesOn, IsCallers}}
+use Rattle.mk_objects.proofs.{Reaching.{reaches_nothing, reaches_still}, Unchanged.{IsPlain, OfFresh, OfHead, OfHeld}}
+use Rattle.mk_objects.proofs.Unchanged.{OfPhase, OfUsed, acting_has_call, left_joined, left_same, look_leaves}
 use Rattle.mk_objects.proofs.MayAct.{IsActing}
 use Rattle.mk_core.specs.Words.{named_word}
-use Rattle.mk_words.proofs.Made.{made}
-use Rattle.mk_words.specs.Steps.{Finds, may_decide, moment_of}
+use Rattle.mk_words.{proofs.Made.{made}, specs.Steps.{Finds, may_decide, moment_of}}
 
 -- Who holds the turn exists, and is a caller where it is acting.
 

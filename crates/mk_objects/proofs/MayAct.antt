@@ -12,13 +12,9 @@ use Rattle.mk_laws.proofs.Vocabulary.{not, object_made, or_left, or_right, other
 use Rattle.mk_laws.proofs.Vocabulary.{seat_exists, subst, sym, takes_cell, target, true, undecided_free, undecided_new}
 use Rattle.mk_laws.proofs.Vocabulary.{unmaps, [], ◌*◌, ◌++◌, ◌<◌, ◌==◌, ◌||◌, ◌∙◌, ◌∷◌, ◌≡◌, ◌⊎◌}
 use Rattle.mk_objects.proofs.Vocabulary.{IsAdmittedBehind, IsOutOfStop, calls_more, is_acting, is_steady_word}
-use Rattle.mk_never.proofs.Later.{calls_stay}
-use Rattle.mk_never.proofs.Parts.{admitted_join}
-use Rattle.mk_core.proofs.Conditions.{meets_enabled}
-use Rattle.mk_core.specs.History.{never_first}
-use Rattle.mk_core.specs.Order.{is_in_order, is_of_any_holder, may_decide_new}
-use Rattle.mk_core.specs.Ranges.{is_word}
-use Rattle.mk_core.specs.TurnConditions.{is_in_gone_run, takes_snapshot}
+use Rattle.mk_never.proofs.{Later.calls_stay, Parts.admitted_join}
+use Rattle.mk_core.{proofs.Conditions.{meets_enabled}, specs.TurnConditions.{is_in_gone_run, takes_snapshot}}
+use Rattle.mk_core.specs.{History.never_first, Order.{is_in_order, is_of_any_holder, may_decide_new}, Ranges.is_word}
 
 -- A seat that is acting is a caller's, and has the steps of any holder next.
 

@@ -11,9 +11,7 @@ use Rattle.mk_objects.proofs.Vocabulary.{Acts, ComesTo, Does, IsAsLeft, Known, P
 use Rattle.mk_objects.proofs.Vocabulary.{decides_nothing, does_then, event_of, own_calls, world_of}
 use Rattle.mk_core.specs.Frames.{CountsAreLeft, HoldsAll, written_of}
 use Rattle.mk_turns.proofs.Doing.{does_nothing, does_step}
-use Rattle.mk_words.proofs.Made.{made}
-use Rattle.mk_words.specs.Steps.{may_decide}
-use Rattle.mk_words.specs.TurnSteps.{world_at}
+use Rattle.mk_words.{proofs.Made.{made}, specs.{Steps.may_decide, TurnSteps.world_at}}
 
 -- What is counted of ended cycles and of Full answers, one event further and in parts.
 

@@ -8,15 +8,13 @@ use Rattle.mk_laws.proofs.Vocabulary.{true≢false, [], ◌%◌, ◌<◌, ◌==�
 use Rattle.mk_objects.proofs.Vocabulary.{CallIsAt, ComesTo, FreesCell, IsAsLeft, IsBase, IsFreeAt, IsOutOfStop, MayFree}
 use Rattle.mk_objects.proofs.Vocabulary.{OnlyLooks, PassState, WordsState, all_below_from, call_of, entry_for}
 use Rattle.mk_objects.proofs.Vocabulary.{histories_keep_the_invariant, is_freeing, is_loading, loaded_free}
-use Rattle.mk_objects.proofs.Vocabulary.{none_is_held, now_of, value_of, world_of}
-use Rattle.mk_objects.proofs.DecidedFrees.{Decides, IsExactly, decided_behind, still_open}
-use Rattle.mk_objects.proofs.FreeSteps.{freed_same, low_half, target_same}
+use Rattle.mk_objects.proofs.{Vocabulary.{none_is_held, now_of, value_of, world_of}, DecidedFrees.{Decides, IsExactly}}
+use Rattle.mk_objects.proofs.{DecidedFrees.{decided_behind, still_open}, FreeSteps.{freed_same, low_half, target_same}}
 use Rattle.mk_objects.proofs.FreedObjects.{IsObjectAt, granted, it_is_freed, its_freed, object_at}
 use Rattle.mk_objects.proofs.FreedOnce.{due_since, due_then, none_due, once_behind}
 use Rattle.mk_objects.proofs.JoinedLooks.{looks_call, looks_left, looks_table, reached_table, reached_world}
 use Rattle.mk_objects.proofs.JoinedLooks.{reaches_after, reaches_answered, reaches_named, reaches_so, reaches_wider}
-use Rattle.mk_objects.proofs.Serves.{out_of_stop}
-use Rattle.mk_objects.proofs.SmallFrees.{exact_still, none_held}
+use Rattle.mk_objects.proofs.{Serves.out_of_stop, SmallFrees.{exact_still, none_held}}
 use Rattle.mk_core.specs.Counts.{TalliesAreExact}
 use Rattle.mk_objects.specs.Retired.{DecidesFree, FindsFreed, IsFreed, Retires, with_freed_object}
 use Rattle.mk_objects.specs.Retiring.{HasLoaded, HasSeen, IsUnloaded, entry_seen, seen_free}

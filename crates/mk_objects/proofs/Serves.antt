@@ -6,19 +6,16 @@ use Rattle.mk_laws.proofs.Vocabulary.{is_undecided_new, is_used_once, layout_sce
 use Rattle.mk_laws.proofs.Vocabulary.{made_shows, no_bit, object_made, object_now, pages_made, pages_some}
 use Rattle.mk_laws.proofs.Vocabulary.{part_not_free, phase_of, place_now, place_on_pages, refl, small_pages, subst, sym}
 use Rattle.mk_laws.proofs.Vocabulary.{true, used_at, ◌+◌, ◌<◌, ◌∙◌, ◌≡◌, ◌≢◌, ◌⊎◌}
-use Rattle.mk_laws.proofs.Fits.{FitsInBlock, FitsOnFreePages, fits}
-use Rattle.mk_laws.proofs.LayoutHolders.{made_sized}
+use Rattle.mk_laws.proofs.{Fits.{FitsInBlock, FitsOnFreePages, fits}, LayoutHolders.made_sized}
 use Rattle.mk_laws.proofs.LayoutReadings.{free_unused}
 use Rattle.mk_objects.proofs.Vocabulary.{Acts, Carving, GoesTo, HasCarved, IsAsLeft, IsCellReady, IsEnabledTo}
 use Rattle.mk_objects.proofs.Vocabulary.{IsOutOfStop, IsTurn, MayTake, PassState, Serving, bits_made, call_of}
 use Rattle.mk_objects.proofs.Vocabulary.{histories_keep_the_invariant, is_placing, known_left, now_of, object_for}
-use Rattle.mk_objects.proofs.Vocabulary.{world_of}
-use Rattle.mk_objects.proofs.Looks.{acting_caller, acting_now, acts_there}
+use Rattle.mk_objects.proofs.{Vocabulary.world_of, Looks.{acting_caller, acting_now, acts_there}}
 use Rattle.mk_objects.proofs.MayAct.{IsActing, may_carve, may_mark_place, new_is_acting}
 use Rattle.mk_objects.proofs.Reaching.{IsCallers, reaches_first, reaches_nothing, reaches_still}
 use Rattle.mk_objects.proofs.Serving.{carving_carves, carving_left, carving_marked, carving_more, carving_unmarked}
-use Rattle.mk_objects.proofs.Serving.{ready_carved, serving_left, serving_marks}
-use Rattle.mk_objects.proofs.FoundPlaces.{found_clear}
+use Rattle.mk_objects.proofs.{Serving.{ready_carved, serving_left, serving_marks}, FoundPlaces.found_clear}
 use Rattle.mk_objects.proofs.Unchanged.{acting_has_call}
 
 -- What is known of the place before the first step that serves.

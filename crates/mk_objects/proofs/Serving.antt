@@ -10,14 +10,11 @@ use Rattle.mk_laws.proofs.Vocabulary.{length, length-set, lt-ltb, made_shows, ma
 use Rattle.mk_laws.proofs.Vocabulary.{or_left, or_right, pages_made, part_not_free, phase_of, place_by_placing}
 use Rattle.mk_laws.proofs.Vocabulary.{place_now, refl, set_past, slice_index, slice_index_or, slice_set, sym, taken}
 use Rattle.mk_laws.proofs.Vocabulary.{takes_cell, true, used_at, without, world_behind, [], ◌%◌, ◌*◌, ◌++◌, ◌+◌, ◌-◌}
-use Rattle.mk_laws.proofs.Vocabulary.{◌<◌, ◌==◌, ◌^◌, ◌∙◌, ◌∷◌, ◌≡◌, ◌≢◌, ◌≤◌}
-use Rattle.mk_laws.proofs.Tests.{or_on, without_on}
+use Rattle.mk_laws.proofs.{Vocabulary.{◌<◌, ◌==◌, ◌^◌, ◌∙◌, ◌∷◌, ◌≡◌, ◌≢◌, ◌≤◌}, Tests.{or_on, without_on}}
 use Rattle.mk_objects.proofs.Vocabulary.{Carving, HasCarved, IsAsLeft, IsCellReady, IsGrantedAt, IsOutOfStop, Serving}
 use Rattle.mk_objects.proofs.Vocabulary.{TurnState, all_below_from, bits_made, object_at_place, steady_of}
-use Rattle.mk_objects.proofs.MayAct.{off_four}
-use Rattle.mk_objects.proofs.Unchanged.{HasCall, OfCaller, call_behind}
-use Rattle.mk_core.proofs.WordBits.{bits_added}
-use Rattle.mk_core.specs.Allocations.{type_made}
+use Rattle.mk_objects.proofs.{MayAct.off_four, Unchanged.{HasCall, OfCaller, call_behind}}
+use Rattle.mk_core.{proofs.WordBits.{bits_added}, specs.Allocations.{type_made}}
 use Rattle.mk_turns.specs.Sweeping.{SweepsNothing}
 
 -- The pages of a place on their way.

@@ -1,6 +1,5 @@
 -- Gates are held and opened, one after the other.
-use Rattle.std.proofs.Common.{OnErr, OnOk, is_ok, le-ltb}
-use Rattle.std.specs.declared.result.Result.{Result}
+use Rattle.std.{proofs.Common.{OnErr, OnOk, is_ok, le-ltb}, specs.declared.result.Result.{Result}}
 use Rattle.mk_laws.proofs.Vocabulary.{Bool, Caller, Config, List, Seat, Steady, Step, Tally, World, ℕ, all_below-at, ap}
 use Rattle.mk_laws.proofs.Vocabulary.{arith, cases_eq, cases_lt, false, flight_of, get_or-set_other, get_or-set_same}
 use Rattle.mk_laws.proofs.Vocabulary.{inl, inr, is_held, is_number_of, length, lt-ltb, nat_lt, not, not-true, refl}
@@ -8,13 +7,10 @@ use Rattle.mk_laws.proofs.Vocabulary.{slice_index, subst, sym, true, world_behin
 use Rattle.mk_objects.proofs.Vocabulary.{Acts, Changes, HasGates, IsAsLeft, IsOutOfStop, IsTurn, PassState, SetsGate}
 use Rattle.mk_objects.proofs.Vocabulary.{SetsGates, SetsTally, WordsState, all_others, call_of, held_from, held_to}
 use Rattle.mk_objects.proofs.Vocabulary.{is_acting, is_holding, is_settling, none_is_held, now_of, steady_of}
-use Rattle.mk_objects.proofs.Vocabulary.{with_tally, world_of}
-use Rattle.mk_objects.proofs.Looks.{acting_caller, acting_now, still_acting}
-use Rattle.mk_objects.proofs.Reaching.{reaches_first, reaches_nothing, seeing}
-use Rattle.mk_objects.proofs.Unchanged.{HasCall, OfCaller, acting_has_call, call_behind}
-use Rattle.mk_objects.proofs.JoinedLooks.{reaches_after, reaches_so}
-use Rattle.mk_objects.proofs.Serves.{out_of_stop}
-use Rattle.mk_objects.specs.FreeParts.{GateIsSet, IsButGates}
+use Rattle.mk_objects.proofs.{Vocabulary.{with_tally, world_of}, Looks.{acting_caller, acting_now, still_acting}}
+use Rattle.mk_objects.proofs.{Reaching.{reaches_first, reaches_nothing, seeing}, Unchanged.{HasCall, OfCaller}}
+use Rattle.mk_objects.proofs.{Unchanged.{acting_has_call, call_behind}, JoinedLooks.{reaches_after, reaches_so}}
+use Rattle.mk_objects.{proofs.Serves.{out_of_stop}, specs.FreeParts.{GateIsSet, IsButGates}}
 
 -- A tally is set.
 

@@ -7,10 +7,9 @@ use Rattle.mk_laws.proofs.Tallies.{fresh_is_told}
 use Rattle.mk_objects.proofs.Vocabulary.{Changes, FreesCell, FreesOnce, HasFreed, IsAsLeft, IsFreedAt, IsTrue, MayFree}
 use Rattle.mk_objects.proofs.Vocabulary.{OnlyLooks, PassState, SetsTally, StaysSo, held_by_allocations, is_following}
 use Rattle.mk_objects.proofs.Vocabulary.{min, none_is_held, now_of, steady_of, with_tally, words_freed, world_of}
-use Rattle.mk_objects.proofs.ClearedRuns.{IsGoneIn, still_gone}
-use Rattle.mk_objects.proofs.DecidedFrees.{Stays, decides_before, freed_decides, fresh_stays, stays_now}
-use Rattle.mk_objects.proofs.JoinedLooks.{reached_table, reached_world, reaches_after, reaches_wider}
-use Rattle.mk_objects.proofs.FreedObjects.{object_at, small_held}
+use Rattle.mk_objects.proofs.{ClearedRuns.{IsGoneIn, still_gone}, DecidedFrees.{Stays, decides_before, freed_decides}}
+use Rattle.mk_objects.proofs.{DecidedFrees.{fresh_stays, stays_now}, JoinedLooks.{reached_table, reached_world}}
+use Rattle.mk_objects.proofs.{JoinedLooks.{reaches_after, reaches_wider}, FreedObjects.{object_at, small_held}}
 use Rattle.mk_objects.proofs.FreedOnce.{once_before}
 use Rattle.mk_core.specs.Counts.{TalliesAreExact}
 

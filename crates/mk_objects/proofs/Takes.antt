@@ -1,33 +1,24 @@
 -- The turn's holder takes the cell of its New's place, grants the object and counts it.
-use Rattle.std.proofs.Common.{bit_and}
-use Rattle.std.proofs.Math.Nat.{div-le_self}
-use Rattle.std.proofs.lemmas.Nat.{or_disjoint}
-use Rattle.std.proofs.lemmas.Nat.Bits.{bit_at_and}
+use Rattle.std.proofs.{Common.bit_and, Math.Nat.div-le_self, lemmas.Nat.or_disjoint, lemmas.Nat.Bits.bit_at_and}
 use Rattle.mk_laws.proofs.Vocabulary.{Answer, AreOfPages, Caller, Config, Flight, IsHistory, IsSettled, Object, Place}
 use Rattle.mk_laws.proofs.Vocabulary.{Seat, Some, Steady, Step, Tally, World, ℕ, address_of, answer_decided, ap, arith}
 use Rattle.mk_laws.proofs.Vocabulary.{base_made, bit_or, caller_number, cells_made, cond-false, cond-true, d_of}
 use Rattle.mk_laws.proofs.Vocabulary.{entry_of, false, flight_of, granted_base_is, granted_object, has_bit}
 use Rattle.mk_laws.proofs.Vocabulary.{has_operands, is_undecided_new, left, length, ltb-true, phase_of, refl}
 use Rattle.mk_laws.proofs.Vocabulary.{storage_words, subst, sym, true, used_at, words_made, [], ◌%◌, ◌*◌, ◌+◌, ◌<◌, ◌^◌}
-use Rattle.mk_laws.proofs.Vocabulary.{◌∙◌, ◌≡◌, ◌≤◌}
-use Rattle.mk_laws.proofs.Tracked.{unplaced_settles}
+use Rattle.mk_laws.proofs.{Vocabulary.{◌∙◌, ◌≡◌, ◌≤◌}, Tracked.unplaced_settles}
 use Rattle.mk_objects.proofs.Vocabulary.{Acts, ComesTo, GoesTo, IsCellReady, IsEnabledTo, IsGrantedAt, IsOutOfStop}
 use Rattle.mk_objects.proofs.Vocabulary.{IsUnplaced, Known, MayTake, PassState, call_of, entry_for, held_by_allocations}
 use Rattle.mk_objects.proofs.Vocabulary.{is_acting, is_placing, known_left, now_of, object_at_place, object_for}
-use Rattle.mk_objects.proofs.Vocabulary.{world_of}
-use Rattle.mk_objects.proofs.FoundPlaces.{held_is_little, held_one_more}
+use Rattle.mk_objects.proofs.{Vocabulary.world_of, FoundPlaces.{held_is_little, held_one_more}}
 use Rattle.mk_objects.proofs.MayAct.{IsActing, grant_admitted, may_grant, may_take, may_tally, off_four, register_small}
-use Rattle.mk_objects.proofs.Reaching.{IsCallers, reaches_on, reaches_still}
-use Rattle.mk_objects.proofs.Serves.{KnowsPlace, block_of, free_pages_of, out_of_stop, place_unused, served_acting}
+use Rattle.mk_objects.proofs.{Reaching.{IsCallers, reaches_on, reaches_still}, Serves.{KnowsPlace, block_of}}
+use Rattle.mk_objects.proofs.Serves.{free_pages_of, out_of_stop, place_unused, served_acting}
 use Rattle.mk_objects.proofs.Serving.{IsTakenAt, granted_behind, granted_left, ready_left, ready_takes, taken_behind}
-use Rattle.mk_objects.proofs.Serving.{taken_left, tallied_behind}
-use Rattle.mk_objects.proofs.Looks.{acts_there}
-use Rattle.mk_objects.proofs.Unchanged.{acting_has_call}
-use Rattle.mk_core.proofs.WordBits.{bit_for_small, bit_is_none, bit_of_power, zero_from_bits}
-use Rattle.mk_core.specs.Bits.{bit_for}
+use Rattle.mk_objects.proofs.{Serving.{taken_left, tallied_behind}, Looks.acts_there, Unchanged.acting_has_call}
+use Rattle.mk_core.{proofs.WordBits.{bit_for_small, bit_is_none, bit_of_power, zero_from_bits}, specs.Bits.{bit_for}}
 use Rattle.mk_objects.specs.Placing.{HeldIsExact}
-use Rattle.mk_words.specs.Steps.{IsAdmittedTo}
-use Rattle.mk_words.specs.TurnSteps.{granted_address}
+use Rattle.mk_words.specs.{Steps.IsAdmittedTo, TurnSteps.granted_address}
 
 -- A bit more, where it wasn't set.
 pub one_bit_more : (n k : ℕ) → k < 64 → has_bit n k ≡ false → bit_or n (1 * 2 ^ k % 2 ^ 64) ≡ n + 2 ^ k

@@ -2,10 +2,8 @@
 use Rattle.mk_laws.proofs.Vocabulary.{Caller, Config, Host, Marker, Moment, OnlyGrow, Seat, Step, Word, Words, World, ℕ}
 use Rattle.mk_laws.proofs.Vocabulary.{ap, at_rest, flight_of, found, get_or-set_same, is_held, length, ltb-true}
 use Rattle.mk_laws.proofs.Vocabulary.{progress, refl, register_word, seat_exists, subst, sym, true, world_behind, ◌<◌}
-use Rattle.mk_laws.proofs.Vocabulary.{◌∙◌, ◌≡◌}
-use Rattle.mk_laws.proofs.Growth.{grows_joined, grows_same}
-use Rattle.mk_objects.proofs.Vocabulary.{IsAsLeft, is_acting, is_steady_word, steady_of}
-use Rattle.mk_objects.proofs.MayAct.{IsActing}
+use Rattle.mk_laws.proofs.{Vocabulary.{◌∙◌, ◌≡◌}, Growth.{grows_joined, grows_same}}
+use Rattle.mk_objects.proofs.{Vocabulary.{IsAsLeft, is_acting, is_steady_word, steady_of}, MayAct.IsActing}
 use Rattle.mk_core.specs.Effects.{moment_behind}
 
 pub left_same : (s : Seat) (w : World) → IsAsLeft s w w

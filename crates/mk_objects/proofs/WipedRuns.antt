@@ -13,17 +13,13 @@ use Rattle.mk_objects.proofs.Vocabulary.{Acts, Changes, ComesTo, IsAsLeft, IsEna
 use Rattle.mk_objects.proofs.Vocabulary.{Unmaps, Wipes, WipesTo, all_below_from, call_of, is_acting, is_clearing}
 use Rattle.mk_objects.proofs.Vocabulary.{now_of, option_and_then, world_of}
 use Rattle.mk_objects.proofs.JoinedLooks.{reached_there, reached_world, reaches_after, reaches_so}
-use Rattle.mk_objects.proofs.Looks.{acting_caller, acting_now, acts_there}
-use Rattle.mk_objects.proofs.MayAct.{IsActing, may_look_heap, may_unmap, may_wipe, off_four}
-use Rattle.mk_objects.proofs.Reaching.{reaches_nothing, reaches_still, reaches_still_in_stop}
-use Rattle.mk_objects.proofs.Unchanged.{HasCall, OfCaller, acting_has_call, call_behind}
-use Rattle.mk_objects.proofs.Serves.{out_of_stop}
-use Rattle.mk_objects.proofs.Serving.{header_here, header_set, next_is}
-use Rattle.mk_geom.proofs.Bridge.{run_in_range}
-use Rattle.mk_geom.proofs.HeaderLemmas.{header_of-word_of}
+use Rattle.mk_objects.proofs.{Looks.{acting_caller, acting_now, acts_there}, MayAct.{IsActing, may_look_heap}}
+use Rattle.mk_objects.proofs.{MayAct.{may_unmap, may_wipe, off_four}, Reaching.{reaches_nothing, reaches_still}}
+use Rattle.mk_objects.proofs.{Reaching.reaches_still_in_stop, Unchanged.{HasCall, OfCaller, acting_has_call}}
+use Rattle.mk_objects.proofs.{Unchanged.call_behind, Serves.out_of_stop, Serving.{header_here, header_set, next_is}}
+use Rattle.mk_geom.proofs.{Bridge.run_in_range, HeaderLemmas.header_of-word_of}
 use Rattle.mk_geom.specs.Addresses.{cell_under, word_at_address}
-use Rattle.mk_core.specs.Effects.{hand_given, hand_of_cell, is_in_stop}
-use Rattle.mk_core.specs.Cells.{pointed_cell}
+use Rattle.mk_core.specs.{Effects.{hand_given, hand_of_cell, is_in_stop}, Cells.pointed_cell}
 use Rattle.mk_core.specs.Frames.{HoldsAll, written_of}
 use Rattle.mk_objects.specs.Unmapping.{AreWiped, IsStillMapped, MayWipe, UnmappedTo, WipedTo}
 use Rattle.mk_turns.proofs.PointedCells.{found_there}

@@ -1,18 +1,11 @@
 -- How a Free's call comes to be decided, and what stays so after that.
 use Rattle.std.specs.Prelude.{◌≡◌, ◌↔◌, ◌==◌, ℕ, ◌<◌, Bool, true, false, IsTrue, [], map, Some, None}
 use Rattle.mk_geom.specs.declared.addresses.Cell.{Cell}
-use Rattle.mk_core.specs.declared.events.Seat.{Seat}
-use Rattle.mk_core.specs.declared.events.Step.{Step}
-use Rattle.mk_core.specs.Allocations.{freed_where_it_stands}
-use Rattle.mk_core.specs.Counts.{TalliesAreExact, releases}
-use Rattle.mk_core.specs.Frames.{Steady, steady_of}
-use Rattle.mk_core.specs.History.{World}
-use Rattle.mk_core.specs.Cells.{is_freed}
-use Rattle.mk_core.specs.Moments.{flight_of, is_held}
-use Rattle.mk_core.specs.NewPlaces.{is_run_gone, target}
+use Rattle.mk_core.specs.{declared.events.Seat.Seat, declared.events.Step.Step, Allocations.freed_where_it_stands}
+use Rattle.mk_core.specs.{Counts.{TalliesAreExact, releases}, Frames.{Steady, steady_of}, History.World, Cells.is_freed}
+use Rattle.mk_core.specs.{Moments.{flight_of, is_held}, NewPlaces.{is_run_gone, target}}
 use Rattle.mk_words.specs.States.{PassState, call_of, now_of, world_of}
-use Rattle.mk_objects.specs.Dues.{FreesOnce, IsOverQuarter}
-use Rattle.mk_objects.specs.Placing.{IsOutOfStop, ComesTo, entry_for}
+use Rattle.mk_objects.specs.{Dues.{FreesOnce, IsOverQuarter}, Placing.{IsOutOfStop, ComesTo, entry_for}}
 use Rattle.mk_objects.specs.Retiring.{IsFreeAt, is_freeing, loaded_free}
 use Rattle.mk_core.specs.declared.events.Answer.TheVariants as answer
 use Rattle.mk_core.specs.declared.events.Step.TheVariants as step

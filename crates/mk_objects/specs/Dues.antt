@@ -1,11 +1,8 @@
 -- The event by which a Free frees its object, and whether it is due.
 use Rattle.std.specs.Prelude.{◌≡◌, ◌*◌, ◌<◌, Bool, true, List, [], ◌∷◌, ◌++◌}
-use Rattle.mk_core.specs.declared.config.Config.{Config}
-use Rattle.mk_core.specs.declared.events.Event.{Event}
-use Rattle.mk_core.specs.Allocations.{PlacedAllocation, fresh_words_of, held_by_allocations}
-use Rattle.mk_core.specs.Counts.{decides_freed}
-use Rattle.mk_core.specs.History.{left}
-use Rattle.mk_core.specs.Moments.{flight_of}
+use Rattle.mk_core.specs.{declared.config.Config.Config, declared.events.Event.Event}
+use Rattle.mk_core.specs.{Allocations.{PlacedAllocation, fresh_words_of, held_by_allocations}, Counts.decides_freed}
+use Rattle.mk_core.specs.{History.left, Moments.flight_of}
 use Rattle.mk_words.specs.States.{PassState, world_of}
 
 -- More than a quarter of the held words is fresh.

@@ -1,9 +1,6 @@
 -- The calls of a history that are a pass's own: those of its caller.
 use Rattle.std.specs.Prelude.{◌==◌, List, filter}
-use Rattle.mk_core.specs.declared.events.Event.{Event}
-use Rattle.mk_core.specs.Accesses.{caller_number}
-use Rattle.mk_core.specs.Decided.{Decided}
-use Rattle.mk_core.specs.History.{calls}
+use Rattle.mk_core.specs.{declared.events.Event.Event, Accesses.caller_number, Decided.Decided, History.calls}
 use Rattle.mk_words.specs.States.{PassState}
 
 abbrev pub own_calls : PassState → List Event → List Decided

@@ -1,14 +1,9 @@
 -- The parts of a Free's turn round its `quar`: gates are held and opened, a run is unmapped and wiped, tallies are set.
 use Rattle.std.specs.Prelude.{◌≡◌, ◌≢◌, ℕ, ◌*◌, ◌<◌, ◌&&◌, not, nat_lt, Bool, true, false, List, [], Some}
 use Rattle.mk_geom.specs.declared.pages.Page.{Page}
-use Rattle.mk_core.specs.declared.events.Seat.{Seat}
-use Rattle.mk_core.specs.declared.events.Step.{Step}
-use Rattle.mk_core.specs.declared.events.Tally.{Tally}
-use Rattle.mk_core.specs.declared.seats.RunPages.{RunPages}
-use Rattle.mk_core.specs.Cells.{header_in, run_headed, words_are_zero}
-use Rattle.mk_core.specs.Frames.{Steady, steady_of}
-use Rattle.mk_core.specs.History.{World}
-use Rattle.mk_core.specs.Moments.{flight_of, is_held, is_number_of}
+use Rattle.mk_core.specs.{declared.events.Seat.Seat, declared.events.Step.Step, declared.events.Tally.Tally}
+use Rattle.mk_core.specs.{declared.seats.RunPages.RunPages, Cells.{header_in, run_headed, words_are_zero}}
+use Rattle.mk_core.specs.{Frames.{Steady, steady_of}, History.World, Moments.{flight_of, is_held, is_number_of}}
 use Rattle.mk_core.specs.NewPlaces.{is_run_unmapped}
 use Rattle.mk_words.specs.States.{PassState, now_of, world_of}
 use Rattle.mk_objects.specs.Placing.{ComesTo}

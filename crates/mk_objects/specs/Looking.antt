@@ -1,7 +1,6 @@
 -- Words that none but the turn's holder changes, and calls of which one holds the turn.
 use Rattle.std.specs.Prelude.{Bool, true, false}
-use Rattle.mk_core.specs.declared.events.Word.{Word}
-use Rattle.mk_core.specs.declared.seats.Stage.{Stage}
+use Rattle.mk_core.specs.{declared.events.Word.Word, declared.seats.Stage.Stage}
 use Rattle.mk_core.specs.declared.events.Word.TheVariants as word
 use Rattle.mk_core.specs.declared.seats.Stage.TheVariants as stage
 

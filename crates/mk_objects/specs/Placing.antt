@@ -1,32 +1,17 @@
 -- Placing the object of a New: what is asked, and what comes of it.
 use Rattle.std.specs.Prelude.{◌≡◌, ℕ, ◌%◌, ◌^◌, ◌⊎◌, Bool, true, false, List, [], ◌∷◌, ◌++◌, Option, Some, None}
-use Rattle.mk_geom.specs.declared.pages.Page.{Page}
-use Rattle.mk_geom.specs.declared.pages.Place.{Place}
-use Rattle.mk_geom.specs.Addresses.{address_of}
-use Rattle.mk_core.specs.declared.config.Config.{Config}
-use Rattle.mk_core.specs.declared.events.Answer.{Answer}
-use Rattle.mk_core.specs.declared.events.Seat.{Seat}
-use Rattle.mk_core.specs.declared.events.Seat.TheVariants.{Caller}
-use Rattle.mk_core.specs.declared.events.Step.{Step}
-use Rattle.mk_core.specs.declared.seats.Flight.{Flight}
-use Rattle.mk_core.specs.declared.seats.Object.{Object}
-use Rattle.mk_core.specs.declared.seats.Placing.TheVariants.{Unplaced, Granted}
-use Rattle.mk_core.specs.Accesses.{caller_number}
-use Rattle.mk_core.specs.Allocations.{PlacedAllocation, held_by_allocations, type_made}
-use Rattle.mk_core.specs.Calls.{d_of}
-use Rattle.mk_core.specs.Decided.{Decided, entry_of}
-use Rattle.mk_core.specs.Frames.{CountsAreLeft, Steady, steady_of}
-use Rattle.mk_core.specs.History.{World, left}
-use Rattle.mk_core.specs.Moments.{Moment, flight_of}
-use Rattle.mk_core.specs.NewPlaces.{base_made, is_undecided_new, object_made}
-use Rattle.mk_core.specs.Placement.{place_after}
-use Rattle.mk_core.specs.Words.{phase_of, register_word}
-use Rattle.mk_core.specs.TurnConditions.{place_now}
+use Rattle.mk_geom.specs.{declared.pages.Page.Page, declared.pages.Place.Place, Addresses.address_of}
+use Rattle.mk_core.specs.{declared.config.Config.Config, declared.events.Answer.Answer, declared.events.Seat.Seat}
+use Rattle.mk_core.specs.{declared.events.Seat.TheVariants.Caller, declared.events.Step.Step}
+use Rattle.mk_core.specs.{declared.seats.Flight.Flight, declared.seats.Object.Object}
+use Rattle.mk_core.specs.{declared.seats.Placing.TheVariants.{Unplaced, Granted}, Accesses.caller_number}
+use Rattle.mk_core.specs.{Allocations.{PlacedAllocation, held_by_allocations, type_made}, Calls.d_of}
+use Rattle.mk_core.specs.{Decided.{Decided, entry_of}, Frames.{CountsAreLeft, Steady, steady_of}, History.{World, left}}
+use Rattle.mk_core.specs.{Moments.{Moment, flight_of}, NewPlaces.{base_made, is_undecided_new, object_made}}
+use Rattle.mk_core.specs.{Placement.place_after, Words.{phase_of, register_word}, TurnConditions.place_now}
 use Rattle.mk_words.specs.States.{PassState, call_of, now_of, world_of}
 use Rattle.mk_turns.specs.Doing.{Does}
-use Rattle.mk_objects.specs.Entries.{own_calls}
-use Rattle.mk_objects.specs.declared.objects.Request.{Request}
-use Rattle.mk_objects.specs.Serving.{Carving, IsCellReady}
+use Rattle.mk_objects.specs.{Entries.own_calls, declared.objects.Request.Request, Serving.{Carving, IsCellReady}}
 use Rattle.mk_objects.specs.Unchanged.{IsAsLeft}
 use Rattle.mk_never.specs.declared.operations.Op.TheVariants as op
 use Rattle.mk_core.specs.declared.events.Answer.TheVariants as answer

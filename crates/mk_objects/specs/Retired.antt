@@ -1,22 +1,13 @@
 -- What comes of a Free's turn: its object is freed, or it is found freed already.
 use Rattle.std.specs.Prelude.{◌≡◌, ℕ, Bool, true, false, List, ◌∷◌, ◌++◌, slice_set}
-use Rattle.mk_never.specs.declared.values.Value.{Value}
-use Rattle.mk_never.specs.declared.values.Value.TheVariants.{Null, Num, Ptr}
+use Rattle.mk_never.specs.{declared.values.Value.Value, declared.values.Value.TheVariants.{Null, Num, Ptr}}
 use Rattle.mk_never.specs.NeverHeap.{NeverState, allocation_at}
-use Rattle.mk_core.specs.declared.events.Answer.{Answer}
-use Rattle.mk_core.specs.declared.events.Event.{Event}
-use Rattle.mk_core.specs.declared.events.Step.{Step}
-use Rattle.mk_core.specs.Allocations.{PlacedAllocation, placed_at}
-use Rattle.mk_core.specs.Counts.{IsDue, TalliesAreExact, TalliesAreTidy}
-use Rattle.mk_core.specs.History.{never_behind}
-use Rattle.mk_core.specs.Moments.{none_is_held}
-use Rattle.mk_core.specs.NewPlaces.{is_run_gone}
-use Rattle.mk_core.specs.Words.{phase_of}
+use Rattle.mk_core.specs.{declared.events.Answer.Answer, declared.events.Event.Event, declared.events.Step.Step}
+use Rattle.mk_core.specs.{Allocations.{PlacedAllocation, placed_at}, Counts.{IsDue, TalliesAreExact, TalliesAreTidy}}
+use Rattle.mk_core.specs.{History.never_behind, Moments.none_is_held, NewPlaces.is_run_gone, Words.phase_of}
 use Rattle.mk_words.specs.States.{PassState, call_of, now_of, world_of}
 use Rattle.mk_turns.specs.Doing.{Does}
-use Rattle.mk_objects.specs.Entries.{own_calls}
-use Rattle.mk_objects.specs.Placing.{entry_for}
-use Rattle.mk_objects.specs.Retiring.{is_freeing, is_loading, value_of}
+use Rattle.mk_objects.specs.{Entries.own_calls, Placing.entry_for, Retiring.{is_freeing, is_loading, value_of}}
 use Rattle.mk_core.specs.declared.events.Answer.TheVariants as answer
 use Rattle.mk_core.specs.declared.seats.Stage.TheVariants as stage
 

@@ -1,27 +1,14 @@
 -- Freeing an object: what is asked, and how far the call is.
 use Rattle.std.specs.Prelude.{◌≡◌, ℕ, ◌+◌, ◌-◌, ◌^◌, min, map, slice_index, slice_set, ◌==◌, ◌<◌, Bool, true, false}
 use Rattle.std.specs.Prelude.{List, [], Option, Some, None, if◌then◌else◌}
-use Rattle.mk_never.specs.declared.values.Value.{Value}
-use Rattle.mk_never.specs.Admitted.{IsBase}
-use Rattle.mk_never.specs.NeverHeap.{register_at}
-use Rattle.mk_geom.specs.declared.addresses.Cell.{Cell}
-use Rattle.mk_geom.specs.PageUses.{or_else}
-use Rattle.mk_core.specs.declared.events.Answer.{Answer}
-use Rattle.mk_core.specs.declared.events.Seat.{Seat}
-use Rattle.mk_core.specs.declared.events.Seat.TheVariants.{Caller}
-use Rattle.mk_core.specs.declared.events.Step.{Step}
-use Rattle.mk_core.specs.declared.seats.Flight.{Flight}
-use Rattle.mk_core.specs.declared.config.Config.{Config}
-use Rattle.mk_core.specs.Accesses.{caller_number}
-use Rattle.mk_core.specs.Allocations.{freed_where_it_stands}
-use Rattle.mk_core.specs.Effects.{run_of_cell, words_freed}
-use Rattle.mk_core.specs.Calls.{begun}
-use Rattle.mk_core.specs.Cells.{is_freed}
-use Rattle.mk_core.specs.Decided.{Decided}
-use Rattle.mk_core.specs.Frames.{steady_of}
-use Rattle.mk_core.specs.History.{World, never_behind}
-use Rattle.mk_core.specs.Moments.{flight_of, is_held}
-use Rattle.mk_core.specs.Words.{register_word}
+use Rattle.mk_never.specs.{declared.values.Value.Value, Admitted.IsBase, NeverHeap.register_at}
+use Rattle.mk_geom.specs.{declared.addresses.Cell.Cell, PageUses.or_else}
+use Rattle.mk_core.specs.{declared.events.Answer.Answer, declared.events.Seat.Seat}
+use Rattle.mk_core.specs.{declared.events.Seat.TheVariants.Caller, declared.events.Step.Step}
+use Rattle.mk_core.specs.{declared.seats.Flight.Flight, declared.config.Config.Config, Accesses.caller_number}
+use Rattle.mk_core.specs.{Allocations.freed_where_it_stands, Effects.{run_of_cell, words_freed}, Calls.begun}
+use Rattle.mk_core.specs.{Cells.is_freed, Decided.Decided, Frames.steady_of, History.{World, never_behind}}
+use Rattle.mk_core.specs.{Moments.{flight_of, is_held}, Words.register_word}
 use Rattle.mk_words.specs.States.{PassState, call_of, now_of, world_of}
 use Rattle.mk_objects.specs.Placing.{ComesTo, entry_for}
 use Rattle.mk_never.specs.declared.operations.Op.TheVariants as op

@@ -1,14 +1,9 @@
 -- A New while it is served: how far its pages are.
 use Rattle.std.specs.Prelude.{◌≡◌, ℕ, ◌+◌, ◌<◌, ◌≤◌, true, false, length, Some}
 use Rattle.mk_geom.specs.declared.pages.Place.{Place}
-use Rattle.mk_core.specs.declared.config.Config.{Config}
-use Rattle.mk_core.specs.declared.events.Seat.{Seat}
-use Rattle.mk_core.specs.declared.seats.Object.{Object}
-use Rattle.mk_core.specs.Frames.{steady_of}
-use Rattle.mk_core.specs.History.{World}
-use Rattle.mk_core.specs.Moments.{flight_of}
-use Rattle.mk_core.specs.NewPlaces.{header_made, object_made, pages_made}
-use Rattle.mk_core.specs.TurnConditions.{is_marked_first, is_used_once, place_now}
+use Rattle.mk_core.specs.{declared.config.Config.Config, declared.events.Seat.Seat, declared.seats.Object.Object}
+use Rattle.mk_core.specs.{Frames.steady_of, History.World, Moments.flight_of, NewPlaces.{header_made, object_made}}
+use Rattle.mk_core.specs.{NewPlaces.pages_made, TurnConditions.{is_marked_first, is_used_once, place_now}}
 use Rattle.mk_core.specs.Words.{header_at, used_at}
 
 -- Between the first world and this one the New was served up to its cell: its call, and all but the pages, is as it

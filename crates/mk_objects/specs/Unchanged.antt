@@ -1,12 +1,8 @@
 -- What stays as it was for the turn's holder: its call, what it has done in its turn, its registers, the gates that it
 -- holds, and all words that none but it changes.
 use Rattle.std.specs.Prelude.{◌≡◌, ℕ, ◌<◌}
-use Rattle.mk_core.specs.declared.events.Seat.{Seat}
-use Rattle.mk_core.specs.declared.events.Seat.TheVariants.{Caller}
-use Rattle.mk_core.specs.Words.{register_word}
-use Rattle.mk_core.specs.Frames.{OnlyGrow, steady_of}
-use Rattle.mk_core.specs.History.{World}
-use Rattle.mk_core.specs.Moments.{flight_of, is_held}
+use Rattle.mk_core.specs.{declared.events.Seat.Seat, declared.events.Seat.TheVariants.Caller, Words.register_word}
+use Rattle.mk_core.specs.{Frames.{OnlyGrow, steady_of}, History.World, Moments.{flight_of, is_held}}
 
 pub record IsAsLeft (s : Seat) (w v : World) : Type 0 where
   pub call : flight_of v.now s ≡ flight_of w.now s

@@ -1,14 +1,10 @@
 -- A run while it is unmapped, and while it is wiped.
 use Rattle.std.specs.Prelude.{◌≡◌, ◌≢◌, ℕ, ◌+◌, ◌*◌, ◌<◌, ◌≤◌, true, [], Some, slice_index}
-use Rattle.mk_core.specs.declared.events.Seat.{Seat}
-use Rattle.mk_core.specs.declared.seats.RunPages.{RunPages}
-use Rattle.mk_core.specs.History.{World}
-use Rattle.mk_core.specs.Moments.{others_are_held}
-use Rattle.mk_core.specs.NewPlaces.{is_run_unmapped, unmapped_header}
+use Rattle.mk_core.specs.{declared.events.Seat.Seat, declared.seats.RunPages.RunPages, History.World}
+use Rattle.mk_core.specs.{Moments.others_are_held, NewPlaces.{is_run_unmapped, unmapped_header}}
 use Rattle.mk_core.specs.Words.{Words, header_at}
 use Rattle.mk_words.specs.States.{PassState, call_of, now_of, world_of}
-use Rattle.mk_objects.specs.FreeParts.{Changes, is_clearing, with_pages}
-use Rattle.mk_objects.specs.Placing.{ComesTo}
+use Rattle.mk_objects.specs.{FreeParts.{Changes, is_clearing, with_pages}, Placing.ComesTo}
 use Rattle.mk_core.specs.declared.seats.Stage.TheVariants as stage
 
 -- The page so far after the run's head isn't unmapped.

@@ -2,22 +2,15 @@
 use Rattle.std.specs.List.{flat_map, range_with_len}
 use Rattle.mk_laws.proofs.Vocabulary.{Bool, Event, List, ℕ, ap, arith, false, length, refl, slice_index_or, subst, suc}
 use Rattle.mk_laws.proofs.Vocabulary.{sym, true, [], ◌++◌, ◌+◌, ◌<◌, ◌∙◌, ◌∷◌, ◌≡◌}
-use Rattle.mk_check.specs.Declarations.{config_of}
-use Rattle.mk_check.specs.Output.{output, text_behind}
-use Rattle.mk_check.specs.declared.text.Text.{Text}
+use Rattle.mk_check.specs.{Declarations.config_of, Output.{output, text_behind}, declared.text.Text.Text}
 use Rattle.mk_engines.specs.Roots.{CyclesMarkRootsFirst}
-use Rattle.mk_outputs.specs.KeptText.{kept_text}
-use Rattle.mk_outputs.specs.Outputs.{IsOutputOfRun, TellsWhatIsKept}
+use Rattle.mk_outputs.specs.{KeptText.kept_text, Outputs.{IsOutputOfRun, TellsWhatIsKept}}
 use Rattle.mk_replay.specs.Replays.{AreTextsOf}
 use Rattle.mk_run.proofs.Headline.{runs_print_their_texts, runs_stand_in_one_history}
-use Rattle.mk_run.specs.Headline.{StandsInOneHistory, cycles_go_on}
-use Rattle.mk_run.specs.LastCycle.{EndsWithCycle}
-use Rattle.mk_run.specs.Running.{IsRunOf}
-use Rattle.mk_run.specs.Unswept.{IsUnswept}
-use Rattle.mk_run.specs.declared.outcomes.Outcome.{Outcome}
+use Rattle.mk_run.specs.{Headline.{StandsInOneHistory, cycles_go_on}, LastCycle.EndsWithCycle, Running.IsRunOf}
+use Rattle.mk_run.specs.{Unswept.IsUnswept, declared.outcomes.Outcome.Outcome}
 use Rattle.mk_script.specs.declared.items.Item.{Item}
-use Rattle.mk_why.specs.Chains.{AreKept}
-use Rattle.mk_why.specs.declared.kept.Kept.{Kept}
+use Rattle.mk_why.specs.{Chains.AreKept, declared.kept.Kept.Kept}
 use Rattle.mk_heap.specs.Reports as report
 
 -- pieces that are those of their places

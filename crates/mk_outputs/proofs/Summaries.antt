@@ -1,30 +1,20 @@
 -- The summary of a run of a generated program is that of its history.
-use Rattle.std.proofs.Common.{codes, slice_get, sum_by}
-use Rattle.std.proofs.lemmas.Fmt.{decimal_digit}
-use Rattle.std.proofs.lemmas.List.{drop_all}
-use Rattle.std.proofs.lemmas.List.Sums.{sum_by-cons}
-use Rattle.std.proofs.lemmas.Option.{slice_get_within}
-use Rattle.std.specs.Fmt.{decimal}
-use Rattle.std.specs.List.{flat_map, range_with_len}
+use Rattle.std.proofs.{Common.{codes, slice_get, sum_by}, lemmas.Fmt.decimal_digit, lemmas.List.drop_all}
+use Rattle.std.proofs.{lemmas.List.Sums.sum_by-cons, lemmas.Option.slice_get_within}
+use Rattle.std.specs.{Fmt.decimal, List.{flat_map, range_with_len}}
 use Rattle.mk_laws.proofs.Vocabulary.{Config, Event, List, Some, ℕ, ap, append-nil, append_assoc, arith, drop, false}
 use Rattle.mk_laws.proofs.Vocabulary.{get_or, length, refl, slice_index_or, suc, sym, true, zero, [], ◌++◌, ◌+◌, ◌<◌}
 use Rattle.mk_laws.proofs.Vocabulary.{◌∙◌, ◌∷◌, ◌≡◌, ◌≤◌}
-use Rattle.mk_check.specs.Declarations.{config_of}
-use Rattle.mk_check.specs.Laws.{IsScript}
-use Rattle.mk_check.specs.declared.text.Text.{Text}
+use Rattle.mk_check.specs.{Declarations.config_of, Laws.IsScript, declared.text.Text.Text}
 use Rattle.mk_engines.specs.Roots.{CyclesMarkRootsFirst}
 use Rattle.mk_gen.proofs.GeneratedLaws.{generated_declares_nodes, generated_makes_turns}
 use Rattle.mk_gen.specs.Generated.{all_names, generated_program}
 use Rattle.mk_outputs.specs.Summary.{calls_made, line_of_script, script_line, summary, total_line}
 use Rattle.mk_outputs.specs.SummedTexts.{AreFew, all_ops, line_of_text, lines_from, summary_of_texts}
 use Rattle.mk_run.proofs.Headline.{runs_stand_in_one_history, runs_to_its_end}
-use Rattle.mk_run.specs.Headline.{StandsInOneHistory, cycles_go_on}
-use Rattle.mk_run.specs.Running.{IsRunOf, answers_in}
-use Rattle.mk_run.specs.Unswept.{IsUnswept}
+use Rattle.mk_run.specs.{Headline.{StandsInOneHistory, cycles_go_on}, Running.{IsRunOf, answers_in}, Unswept.IsUnswept}
 use Rattle.mk_run.specs.declared.outcomes.Outcome.{Outcome}
-use Rattle.mk_script.proofs.Spacing.{drop_next}
-use Rattle.mk_script.specs.Scopes.{script_names}
-use Rattle.mk_script.specs.declared.items.Item.{Item}
+use Rattle.mk_script.{proofs.Spacing.{drop_next}, specs.{Scopes.script_names, declared.items.Item.Item}}
 use Rattle.mk_heap.specs.Reports as report
 
 -- Lines and sums, place by place.

@@ -1,8 +1,7 @@
 -- Names that lines declare.
 -- Private functions alone cite these words.
 use Rattle.std.specs.Prelude.{ℕ, List, Option, Some, None}
-use Rattle.mk_script.specs.declared.items.Item.{Item}
-use Rattle.mk_script.specs.declared.items.Item.TheVariants.{Script, Global, Ptr}
+use Rattle.mk_script.specs.{declared.items.Item.Item, declared.items.Item.TheVariants.{Script, Global, Ptr}}
 use Rattle.mk_script.specs.Scopes.{script_names, global_names, pointer_names}
 use Rattle.mk_outputs.specs.declared.names.Sort.{Sort}
 use Rattle.mk_outputs.specs.declared.names.Sort.TheVariants as sort

@@ -1,15 +1,11 @@
 -- The lines that report what the last cycle kept, and why: an object's address in bytes and its storage in words, the
 -- register or the global from which it is reached, and the addresses of the words through which.
-use Rattle.std.specs.Prelude.{ℕ, List, [], ◌∷◌, ◌++◌, slice_index_or, Option, Some, None}
-use Rattle.std.specs.List.{flat_map}
-use Rattle.std.specs.Fmt.{decimal}
+use Rattle.std.specs.{Prelude.{ℕ, List, [], ◌∷◌, ◌++◌, slice_index_or, Option, Some, None}, List.flat_map, Fmt.decimal}
 use lib.Chars.{codes}
-use Rattle.mk_script.specs.declared.items.Item.{Item}
-use Rattle.mk_script.specs.Canonical.{line_text}
-use Rattle.mk_script.specs.Scopes.{script_names, global_names, pointer_names}
+use Rattle.mk_script.specs.{declared.items.Item.Item, Canonical.line_text, Scopes.{script_names, global_names}}
+use Rattle.mk_script.specs.Scopes.{pointer_names}
 use Rattle.mk_check.specs.Blocks.{script_of}
-use Rattle.mk_why.specs.declared.kept.Kept.{Kept}
-use Rattle.mk_why.specs.declared.kept.Root.{Root}
+use Rattle.mk_why.specs.{declared.kept.Kept.Kept, declared.kept.Root.Root}
 use Rattle.mk_why.specs.declared.kept.Root.TheVariants.{Register, Global}
 
 -- The words of the line that names a root. What isn't reached floats. No root is without a name, since a register that

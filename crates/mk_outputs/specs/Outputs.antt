@@ -4,42 +4,25 @@ use Rattle.std.specs.Prelude.{◌≡◌, ℕ, Bool, true, false, List, [], ◌++
 use Rattle.std.specs.Prelude.{Err as Refused, ◌⊎◌}
 use lib.Chars.{codes}
 use Rattle.mk_io.specs.declared.reading.ReadStop.{ReadStop}
-use Rattle.mk_script.specs.declared.faults.Which.TheVariants.{Bytes}
-use Rattle.mk_script.specs.declared.items.Item.{Item}
-use Rattle.mk_script.specs.declared.faults.TextStop.{TextStop}
-use Rattle.mk_script.specs.Grammar.{program_of}
-use Rattle.mk_script.specs.Canonical.{canonical_text}
-use Rattle.mk_check.specs.declared.typing_faults.TypeStop.{TypeStop}
-use Rattle.mk_check.specs.Typing.{TypingFault, first_typing_fault}
+use Rattle.mk_script.specs.{declared.faults.Which.TheVariants.Bytes, declared.items.Item.Item}
+use Rattle.mk_script.specs.{declared.faults.TextStop.TextStop, Grammar.program_of, Canonical.canonical_text}
+use Rattle.mk_check.specs.{declared.typing_faults.TypeStop.TypeStop, Typing.{TypingFault, first_typing_fault}}
 use Rattle.mk_check.specs.Declarations.{config_of}
-use Rattle.mk_core.specs.declared.config.Config.{Config}
-use Rattle.mk_core.specs.declared.events.Event.{Event}
-use Rattle.mk_core.specs.History.{AreEnabled}
+use Rattle.mk_core.specs.{declared.config.Config.Config, declared.events.Event.Event, History.AreEnabled}
 use Rattle.mk_laws.specs.Promises.{KeepsAllPromises}
-use Rattle.mk_run.specs.Headline.{StandsInOneHistory}
-use Rattle.mk_run.specs.LastCycle.{EndsWithCycle}
-use Rattle.mk_why.specs.declared.kept.Kept.{Kept}
-use Rattle.mk_why.specs.Chains.{AreKept}
-use Rattle.mk_replay.specs.declared.schedule.Entry.{Entry}
-use Rattle.mk_replay.specs.declared.replaying.ReplayStop.{ReplayStop}
-use Rattle.mk_replay.specs.Schedules.{replay_of}
-use Rattle.mk_replay.specs.Replays.{history_of, refusal_of}
+use Rattle.mk_run.specs.{Headline.StandsInOneHistory, LastCycle.EndsWithCycle}
+use Rattle.mk_why.specs.{declared.kept.Kept.Kept, Chains.AreKept}
+use Rattle.mk_replay.specs.{declared.schedule.Entry.Entry, declared.replaying.ReplayStop.ReplayStop}
+use Rattle.mk_replay.specs.{Schedules.replay_of, Replays.{history_of, refusal_of}}
 use Rattle.mk_gen.specs.Generated.{generated_program}
-use Rattle.mk_trace.specs.declared.faults.TraceStop.{TraceStop}
-use Rattle.mk_trace.specs.declared.peaks.Peaks.{Peaks}
-use Rattle.mk_trace.specs.Traces.{Contents, trace_of}
-use Rattle.mk_trace.specs.Playing.{IsPlayed, ArePeaks}
-use Rattle.mk_trace.specs.Printed.{peaks_text}
-use Rattle.mk_commands.specs.declared.commands.Command.{Command}
-use Rattle.mk_commands.specs.declared.commands.TextCommand.{TextCommand}
+use Rattle.mk_trace.specs.{declared.faults.TraceStop.TraceStop, declared.peaks.Peaks.Peaks, Traces.{Contents, trace_of}}
+use Rattle.mk_trace.specs.{Playing.{IsPlayed, ArePeaks}, Printed.peaks_text}
+use Rattle.mk_commands.specs.{declared.commands.Command.Command, declared.commands.TextCommand.TextCommand}
 use Rattle.mk_commands.specs.declared.commands.TextCommand.TheVariants.{Run, Check, Print, Replay, Trace}
-use Rattle.mk_commands.specs.declared.commands.Request.{Request}
-use Rattle.mk_commands.specs.Commands.{command_of}
-use Rattle.mk_outputs.specs.declared.statuses.Status.{Status}
-use Rattle.mk_outputs.specs.declared.statuses.Status.TheVariants.{Ok, NoMemory, ReadFault, Text, IllTyped, Limit}
-use Rattle.mk_outputs.specs.declared.statuses.Status.TheVariants.{NotEnabled}
-use Rattle.mk_outputs.specs.KeptText.{kept_text}
-use Rattle.mk_outputs.specs.Summary.{summary}
+use Rattle.mk_commands.specs.{declared.commands.Request.Request, Commands.command_of}
+use Rattle.mk_outputs.specs.{declared.statuses.Status.Status, declared.statuses.Status.TheVariants.{Ok, NoMemory}}
+use Rattle.mk_outputs.specs.declared.statuses.Status.TheVariants.{ReadFault, Text, IllTyped, Limit, NotEnabled}
+use Rattle.mk_outputs.specs.{KeptText.kept_text, Summary.summary}
 use Rattle.mk_io.specs.declared.reading.ReadStop.TheVariants as reading
 use Rattle.mk_script.specs.declared.faults.TextStop.TheVariants as stop
 use Rattle.mk_check.specs.declared.typing_faults.TypeStop.TheVariants as typing

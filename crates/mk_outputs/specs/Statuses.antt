@@ -1,15 +1,13 @@
 -- How the program ends.
-use Rattle.std.specs.Prelude.{ℕ, List, [], ◌++◌}
-use Rattle.std.specs.Fmt.{decimal}
+use Rattle.std.specs.{Prelude.{ℕ, List, [], ◌++◌}, Fmt.decimal}
 use lib.Chars.{codes}
-use Rattle.mk_script.specs.declared.faults.TextKind.{TextKind}
-use Rattle.mk_script.specs.declared.faults.Which.{Which}
+use Rattle.mk_script.specs.{declared.faults.TextKind.TextKind, declared.faults.Which.Which}
 use Rattle.mk_script.specs.declared.faults.Which.TheVariants.{Bytes, Pages, Resident, Scripts, Globals, Types, Words}
 use Rattle.mk_script.specs.declared.faults.Which.TheVariants.{Pointers, Numbers, Depth}
 use Rattle.mk_check.specs.declared.typing_faults.TypeKind.{TypeKind}
-use Rattle.mk_outputs.specs.declared.statuses.Status.{Status}
-use Rattle.mk_outputs.specs.declared.statuses.Status.TheVariants.{Ok, NoMemory, Usage, ReadFault, WriteFault, Text}
-use Rattle.mk_outputs.specs.declared.statuses.Status.TheVariants.{IllTyped, Limit, NotEnabled}
+use Rattle.mk_outputs.specs.{declared.statuses.Status.Status, declared.statuses.Status.TheVariants.{Ok, NoMemory}}
+use Rattle.mk_outputs.specs.declared.statuses.Status.TheVariants.{Usage, ReadFault, WriteFault, Text, IllTyped, Limit}
+use Rattle.mk_outputs.specs.declared.statuses.Status.TheVariants.{NotEnabled}
 use Rattle.mk_script.specs.declared.faults.TextKind.TheVariants as text
 use Rattle.mk_check.specs.declared.typing_faults.TypeKind.TheVariants as typing
 

@@ -1,13 +1,10 @@
 -- What `gen` prints of the history of its program.
 use Rattle.std.specs.Prelude.{ℕ, List, [], ◌++◌, length, count_by, sum_by, slice_index_or}
-use Rattle.std.specs.List.{flat_map, range_with_len}
-use Rattle.std.specs.Fmt.{decimal}
+use Rattle.std.specs.{List.{flat_map, range_with_len}, Fmt.decimal}
 use lib.Chars.{codes}
 use Rattle.mk_check.specs.Feed.{is_refusal}
-use Rattle.mk_core.specs.declared.config.Config.{Config}
-use Rattle.mk_core.specs.declared.events.Event.{Event}
-use Rattle.mk_script.specs.declared.items.Item.{Item}
-use Rattle.mk_script.specs.Scopes.{script_names}
+use Rattle.mk_core.specs.{declared.config.Config.Config, declared.events.Event.Event}
+use Rattle.mk_script.specs.{declared.items.Item.Item, Scopes.script_names}
 use Rattle.mk_run.specs.Running.{answers_in}
 
 -- a script's line: how many calls it made, and how many of them were refused

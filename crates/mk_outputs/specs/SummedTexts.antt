@@ -1,7 +1,6 @@
 -- The summary of scripts of which the k-th is named sK.
 -- Private functions alone cite these words.
-use Rattle.std.specs.Prelude.{◌≡◌, ℕ, ◌+◌, ◌≤◌, List, [], ◌∷◌, ◌++◌, sum_by, slice_get, Some}
-use Rattle.std.specs.Fmt.{decimal}
+use Rattle.std.specs.{Prelude.{◌≡◌, ℕ, ◌+◌, ◌≤◌, List, [], ◌∷◌, ◌++◌, sum_by, slice_get, Some}, Fmt.decimal}
 use lib.Chars.{codes}
 use Rattle.mk_check.specs.declared.text.Text.{Text}
 use Rattle.mk_outputs.specs.Summary.{script_line, total_line}

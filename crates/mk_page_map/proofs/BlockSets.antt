@@ -1,12 +1,11 @@
 -- The sets of blocks, by class and sort.
-use Rattle.std.proofs.lemmas.Bool.{and_parts, cond-false, cond-true, lt-leb, not-true}
-use Rattle.std.proofs.{Common.eqb-true, Common.le-leb, Common.lt-ltb, Common.nat_le, Math.Nat.div-le_self}
+use Rattle.std.proofs.{lemmas.Bool.{and_parts, cond-false, cond-true, lt-leb, not-true}, Common.{eqb-true, le-leb}}
+use Rattle.std.proofs.{Common.{lt-ltb, nat_le}, Math.Nat.div-le_self}
 use Rattle.mk_page_map.proofs.Vocabulary.{Bool, IsInItsSets, List, Nothing, PageUse, ℕ, ap, arith, cases_eq, cases_lt}
 use Rattle.mk_page_map.proofs.Vocabulary.{false, first_where, has_free_cell, inl, inr, is_member, is_of_set, is_some}
 use Rattle.mk_page_map.proofs.Vocabulary.{nat_lt, not, refl, sym, true, use_of_kind, ◌%◌, ◌<◌, ◌∙◌, ◌≡◌, ◌≤◌}
-use Rattle.mk_geom.specs.Classes.{cells_of, class_words_of}
-use Rattle.mk_geom.specs.{PageUses.Cells, PageUses.is_same_sort, PageWords.bits_of}
-use Rattle.mk_books.{proofs.FreeCellLemmas.cells_taken_alike, specs.FreeCells.class_place}
+use Rattle.mk_geom.specs.{Classes.{cells_of, class_words_of}, PageUses.{Cells, is_same_sort}, PageWords.bits_of}
+use Rattle.mk_books.{proofs.FreeCellLemmas.{cells_taken_alike}, specs.FreeCells.{class_place}}
 use Rattle.mk_page_map.specs.declared.kinds.PageKind.TheVariants.{Block}
 
 pub of_block_set : (set : ℕ) (use' : PageUse) → set < 16

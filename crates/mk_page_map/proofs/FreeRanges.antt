@@ -1,7 +1,6 @@
 -- The lowest range of free pages, from one range to the next.
-use Rattle.std.proofs.Common.{if◌then◌else◌, le-leb, nat_le, option_map, ◌∷◌}
-use Rattle.std.proofs.{lemmas.Bool.both_ways, lemmas.Bool.not-false, lemmas.Bool.not-true, lemmas.List.at_drop_all}
-use Rattle.std.specs.Option.{unwrap_or}
+use Rattle.std.proofs.{Common.{if◌then◌else◌, le-leb, nat_le, option_map, ◌∷◌}, lemmas.Bool.{both_ways, not-false}}
+use Rattle.std.{proofs.{lemmas.Bool.not-true, lemmas.List.at_drop_all}, specs.Option.{unwrap_or}}
 use Rattle.mk_page_map.proofs.Vocabulary.{Bool, IsNext, List, None, Option, Page, PageUse, Some, ℕ, ap, arith, cases_lt}
 use Rattle.mk_page_map.proofs.Vocabulary.{false, first_where, free_page, inl, inr, is_free_page, is_in_use, length}
 use Rattle.mk_page_map.proofs.Vocabulary.{page_at, range_start, range_start_from, refl, suc, sym, true, use_of_page}

@@ -1,15 +1,13 @@
 -- The sets of a heap whose pages are all free.
-use Rattle.std.proofs.Common.{le-ltb, lt-ltb, ne_eqb, take_at, ◌&&◌, ◌/◌}
-use Rattle.std.proofs.lemmas.Bool.{and_left, and_right}
-use Rattle.std.proofs.lemmas.List.{get_or-replicate, get_or_past, length-replicate}
-use Rattle.std.proofs.{lemmas.List.Sums.sum_by-cons, lemmas.Nat.Bits.bit_at-zero}
+use Rattle.std.proofs.{Common.{le-ltb, lt-ltb, ne_eqb, take_at, ◌&&◌, ◌/◌}, lemmas.Bool.{and_left, and_right}}
+use Rattle.std.proofs.{lemmas.List.{get_or-replicate, get_or_past, length-replicate}, lemmas.List.Sums.sum_by-cons}
+use Rattle.std.proofs.lemmas.Nat.Bits.{bit_at-zero}
 use Rattle.mk_page_map.proofs.Vocabulary.{AreSets, FitPages, List, Nothing, PageUse, Shows, ℕ, ap, arith, bit_at}
 use Rattle.mk_page_map.proofs.Vocabulary.{cases_eq, cases_lt, cond, drop, false, free_page, get_or, inl, inr, is_member}
 use Rattle.mk_page_map.proofs.Vocabulary.{is_resident_page, length, nat_eq, nat_lt, not, page_at, refl, replicate}
 use Rattle.mk_page_map.proofs.Vocabulary.{resident_pages, suc, sym, take, uses_of_pages, zero, ◌%◌, ◌*◌, ◌++◌, ◌+◌, ◌-◌}
-use Rattle.mk_page_map.proofs.Vocabulary.{◌<◌, ◌∙◌, ◌≡◌, ◌≤◌}
-use Rattle.mk_page_map.proofs.{BlockSets.each_set, BlockSets.nothing_of_set, Showing.known_by, Showing.member_at}
-use Rattle.mk_page_map.specs.PageSets.{OtherWordsStay, word_in_set}
+use Rattle.mk_page_map.proofs.{Vocabulary.{◌<◌, ◌∙◌, ◌≡◌, ◌≤◌}, BlockSets.{each_set, nothing_of_set}}
+use Rattle.mk_page_map.{proofs.Showing.{known_by, member_at}, specs.PageSets.{OtherWordsStay, word_in_set}}
 
 -- the first pages are in set 16, and nothing is in another
 abbrev pub HaveFree : List ℕ → ℕ → Type 0

@@ -3,9 +3,7 @@ use Rattle.std.proofs.Common.{bit_and, bit_or, eq-eqb, le-ltb, lt-ltb, min, ◌^
 use Rattle.std.proofs.lemmas.Nat.Bits.{bit_at-lt, bit_at-pow_other, bit_at-pow_same, bit_at-zero, bit_at_and}
 use Rattle.std.proofs.lemmas.Nat.Bits.{bit_at_clear_other, bit_at_clear_same, bit_at_mask_below, bit_at_mask_inside}
 use Rattle.std.proofs.lemmas.Nat.Bits.{bit_at_ones, bit_at_ones_above, bit_at_set_other, bit_at_set_same, bit_at_xor}
-use Rattle.std.proofs.lemmas.Nat.Bits.{ones_shl}
-use Rattle.std.proofs.Math.Pow.{pow-lt}
-use Rattle.std.specs.{Int.bit_not, Int.Bits.bit_xor}
+use Rattle.std.{proofs.{lemmas.Nat.Bits.ones_shl, Math.Pow.pow-lt}, specs.{Int.bit_not, Int.Bits.bit_xor}}
 use Rattle.mk_page_map.proofs.Vocabulary.{IsNext, None, Some, ℕ, ap, arith, bit_at, cases_lt, false, nat_eq, nat_lt}
 use Rattle.mk_page_map.proofs.Vocabulary.{not, sym, true, w64, ◌%◌, ◌*◌, ◌+◌, ◌-◌, ◌<◌, ◌∙◌, ◌≡◌, ◌≤◌}
 

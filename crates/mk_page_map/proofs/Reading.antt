@@ -3,9 +3,8 @@ use Rattle.std.proofs.lemmas.List.{get_or-map}
 use Rattle.mk_page_map.proofs.Vocabulary.{Bool, FitPages, IsNext, KnownPages, List, Nothing, Option, Page, PageUse}
 use Rattle.mk_page_map.proofs.Vocabulary.{Shows, ℕ, ap, arith, false, first_where, free_page, is_member, is_of_set}
 use Rattle.mk_page_map.proofs.Vocabulary.{length, length-map, page_at, subst, sym, use_of_page, uses_of_pages, ◌<◌, ◌∙◌}
-use Rattle.mk_page_map.proofs.Vocabulary.{◌≡◌, ◌≤◌}
-use Rattle.mk_page_map.proofs.{NextPages.first_is_next, NextPages.same_next, Showing.known_by, Showing.member_at}
-use Rattle.mk_page_map.specs.KnownPages.{is_quarantined_page}
+use Rattle.mk_page_map.proofs.{Vocabulary.{◌≡◌, ◌≤◌}, NextPages.{first_is_next, same_next}}
+use Rattle.mk_page_map.{proofs.Showing.{known_by, member_at}, specs.KnownPages.{is_quarantined_page}}
 
 -- a look at the sets of a map, and at how many pages it has
 pub record Reads (known : KnownPages) (held : List Page) (sets slice : List ℕ) (resident count : ℕ) : Type 0 where

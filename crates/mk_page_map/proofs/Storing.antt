@@ -1,12 +1,11 @@
 -- A store of a page's header or used word keeps a map in step.
-use Rattle.std.{proofs.Common.slice_index_or, proofs.lemmas.List.get_or_read, specs.Int.from_bool}
+use Rattle.std.{proofs.{Common.slice_index_or, lemmas.List.get_or_read}, specs.Int.{from_bool}}
 use Rattle.mk_page_map.proofs.Vocabulary.{AreSets, Bool, FitPages, IsInItsSets, KnownPages, List, OthersStay, Page}
 use Rattle.mk_page_map.proofs.Vocabulary.{PageKind, Shows, ℕ, ap, arith, cond, free_page, is_member, is_resident_page}
 use Rattle.mk_page_map.proofs.Vocabulary.{length, page_at, resident_pages, set, subst, sym, use_of_kind, use_of_page}
-use Rattle.mk_page_map.proofs.Vocabulary.{uses_of_pages, ◌+◌, ◌<◌, ◌∙◌, ◌≡◌, ◌≤◌}
+use Rattle.mk_page_map.proofs.{Vocabulary.{uses_of_pages, ◌+◌, ◌<◌, ◌∙◌, ◌≡◌, ◌≤◌}, Fitting.{Changes, fit_changed}}
+use Rattle.mk_page_map.proofs.{Fitting.{resident_changed, resident_one}, Showing.{changed_shows, known_by}}
 use Rattle.mk_geom.specs.{Headers.header_of, PageWords.use_under}
-use Rattle.mk_page_map.proofs.Fitting.{Changes, fit_changed, resident_changed, resident_one}
-use Rattle.mk_page_map.proofs.Showing.{changed_shows, known_by}
 
 -- a store: the pages and the sets before it, the sets as they were passed on and left, and the page then
 pub record Stores (held : List Page) (sets slice after : List ℕ) (resident page : ℕ) (now : Page) : Type 0 where

@@ -1,11 +1,9 @@
 -- Which pages a map has as uncleaned, by its sets.
-use Rattle.std.proofs.{lemmas.List.get_or_past, lemmas.List.FromFn.length-range_with_len}
-use Rattle.std.specs.List.{range_with_len}
+use Rattle.std.{proofs.{lemmas.List.get_or_past, lemmas.List.FromFn.length-range_with_len}, specs.List.{range_with_len}}
 use Rattle.mk_page_map.proofs.Vocabulary.{AreSets, Bool, FitPages, IsNext, KnownPages, List, Option, OthersStay, Page}
 use Rattle.mk_page_map.proofs.Vocabulary.{Shows, ℕ, ap, arith, cases_eq, cases_lt, false, inl, inr, is_member, length}
-use Rattle.mk_page_map.proofs.Vocabulary.{length-map, refl, subst, sym, ◌<◌, ◌∙◌, ◌≡◌, ◌≤◌}
-use Rattle.mk_page_map.proofs.Showing.{known_by, member_at, member_of_freed}
-use Rattle.mk_page_map.proofs.{Fitting.fit_again, NextPages.same_next, Reading.Reads}
+use Rattle.mk_page_map.{proofs.Vocabulary.{length-map, refl, subst, sym, ◌<◌, ◌∙◌, ◌≡◌, ◌≤◌}, proofs.Reading.{Reads}}
+use Rattle.mk_page_map.proofs.{Showing.{known_by, member_at, member_of_freed}, Fitting.fit_again, NextPages.same_next}
 use Rattle.mk_page_map.specs.{KnownPages.is_uncleaned, PageSets.members}
 
 pub uncleaned_at : (held : List Page) (sets : List ℕ) (number : ℕ) → number < length held

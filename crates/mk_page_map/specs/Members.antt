@@ -1,10 +1,8 @@
 -- Which pages pass a test, and the next page that does.
 use Rattle.std.specs.Prelude.{◌≡◌, ℕ, ◌<◌, ◌≤◌, Bool, true, false, not, ◌==◌, List, slice_index, slice_index_or, Option}
 use Rattle.std.specs.Prelude.{Some, None, is_some}
-use Rattle.mk_geom.specs.declared.pages.Page.{Page}
-use Rattle.mk_geom.specs.PageUses.{PageUse, is_free_page, cells_taken, first_where}
-use Rattle.mk_geom.specs.PageWords.{use_of_page}
-use Rattle.mk_geom.specs.Storages.{free_page}
+use Rattle.mk_geom.specs.{declared.pages.Page.Page, PageUses.{PageUse, is_free_page, cells_taken, first_where}}
+use Rattle.mk_geom.specs.{PageWords.use_of_page, Storages.free_page}
 
 abbrev pub page_at : List Page → ℕ → Page
 page_at pages number = slice_index_or pages number free_page

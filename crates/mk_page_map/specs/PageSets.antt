@@ -1,15 +1,10 @@
 -- How a page map keeps its sets of pages: as bits, 64 pages in a word. A set has a summary, whose bit k is 1 where its
 -- word k isn't 0, and then 64 words.
 use Rattle.std.specs.Prelude.{◌≡◌, ℕ, ◌+◌, ◌*◌, ◌/◌, ◌%◌, ◌<◌, ◌≤◌, Bool, false, not, ◌==◌, nat_le, nat_lt, List}
-use Rattle.std.specs.Prelude.{length, slice_index, if◌then◌else◌, map}
-use Rattle.std.specs.Int.{bit_at}
-use Rattle.std.specs.List.{range_with_len}
-use Rattle.mk_geom.specs.declared.pages.Page.{Page}
-use Rattle.mk_geom.specs.PageUses.{PageUse, Nothing, Cells, PartOfRun, is_free_page, resident_pages}
-use Rattle.mk_geom.specs.PageWords.{use_of_page, uses_of_pages, bits_of}
-use Rattle.mk_geom.specs.Classes.{cells_of}
-use Rattle.mk_page_map.specs.Members.{page_at, has_free_cell}
-use Rattle.mk_page_map.specs.declared.kinds.PageKind.{PageKind}
+use Rattle.std.specs.{Prelude.{length, slice_index, if◌then◌else◌, map}, Int.bit_at, List.range_with_len}
+use Rattle.mk_geom.specs.{declared.pages.Page.Page, PageUses.{PageUse, Nothing, Cells, PartOfRun, is_free_page}}
+use Rattle.mk_geom.specs.{PageUses.resident_pages, PageWords.{use_of_page, uses_of_pages, bits_of}, Classes.cells_of}
+use Rattle.mk_page_map.specs.{Members.{page_at, has_free_cell}, declared.kinds.PageKind.PageKind}
 use Rattle.mk_page_map.specs.declared.kinds.PageKind.TheVariants.{Free, Block, Run}
 
 abbrev pub word_in_set : List ℕ → ℕ → ℕ → ℕ

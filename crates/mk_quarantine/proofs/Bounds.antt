@@ -3,14 +3,11 @@ use Rattle.mk_quarantine.proofs.Vocabulary.{Bool, Caller, Config, Event, Host, H
 use Rattle.mk_quarantine.proofs.Vocabulary.{TurnsOfAreExact, ℕ, and_from, ap, append_assoc, arith}
 use Rattle.mk_quarantine.proofs.Vocabulary.{earlier_part_is_history, false, is_of_cycle, is_same_seat, left, list_any}
 use Rattle.mk_quarantine.proofs.Vocabulary.{list_any-append, or_parts, subst, sym, true≢false, [], ⊎_elim, ◌&&◌, ◌++◌}
-use Rattle.mk_quarantine.proofs.Vocabulary.{◌∙◌, ◌∷◌, ◌≡◌}
-use Rattle.mk_quarantine.proofs.HeldQuarters.{IsLate, quarter_or_late}
+use Rattle.mk_quarantine.proofs.{Vocabulary.{◌∙◌, ◌∷◌, ◌≡◌}, HeldQuarters.{IsLate, quarter_or_late}}
 use Rattle.mk_quarantine.proofs.Quarters.{begin_is_of_cycle, fresh_is_quarter, quarantine_is_quarter_and_kept}
-use Rattle.mk_quarantine.proofs.CountedWords.{IsQuarter}
-use Rattle.mk_quarantine.proofs.EndedCycles.{fresh_is_quarter_of_held}
-use Rattle.mk_quarantine.proofs.EndedFrees.{CallersAreExact}
+use Rattle.mk_quarantine.proofs.{CountedWords.IsQuarter, EndedCycles.fresh_is_quarter_of_held}
+use Rattle.mk_quarantine.{proofs.EndedFrees.{CallersAreExact}, proofs.KeptAllocations.{quarantine_is_fresh_or_kept}}
 use Rattle.mk_quarantine.proofs.KeptAllocations.{freed_runs_take_no_memory, kept_are_touched}
-use Rattle.mk_quarantine.proofs.KeptAllocations.{quarantine_is_fresh_or_kept}
 use Rattle.mk_core.specs.Growing.{AreOfOthers}
 use Rattle.mk_quarantine.specs.Bounds.{FreshIsQuarterWhereReleasedInTurn, QuarantineIsBounded, QuarantinesAreBounded}
 

@@ -1,6 +1,5 @@
 -- What one event makes of the words that are held, fresh and given back.
-use Rattle.std.proofs.Common.{filter, sum_by}
-use Rattle.std.proofs.lemmas.List.Sums.{sum_by-append, sum_by-cons}
+use Rattle.std.proofs.{Common.{filter, sum_by}, lemmas.List.Sums.{sum_by-append, sum_by-cons}}
 use Rattle.mk_laws.proofs.Vocabulary.{address_of, is_large, is_left_unmarked, kinds_of, map, none_freed, pointed_cell}
 use Rattle.mk_laws.proofs.FreshWords.{fresh_part, fresh_pushed, fresh_sum, none_fresh, sum_filtered}
 use Rattle.mk_quarantine.proofs.Vocabulary.{Bool, Cell, Config, Event, List, Option, PlacedAllocation, Seat, Step}

@@ -1,9 +1,7 @@
 -- Where calls end the cycles that they begin, no `release` stands in a later turn than its `begin`.
-use Rattle.mk_laws.proofs.Vocabulary.{is_one_of, is_under_turn, left_from}
-use Rattle.mk_laws.proofs.CyclePhases.{moves_phase, phases_go_on}
+use Rattle.mk_laws.proofs.{Vocabulary.{is_one_of, is_under_turn, left_from}, CyclePhases.{moves_phase, phases_go_on}}
 use Rattle.mk_laws.proofs.NextSteps.{at_take}
-use Rattle.mk_alloc.proofs.Vocabulary.{RunsOneCycle}
-use Rattle.mk_alloc.proofs.ListParts.{lacks_second}
+use Rattle.mk_alloc.proofs.{Vocabulary.RunsOneCycle, ListParts.lacks_second}
 use Rattle.mk_quarantine.proofs.Vocabulary.{AsksPhase, At, Caller, CallIsExact, Config, EndsExactly, Event}
 use Rattle.mk_quarantine.proofs.Vocabulary.{FreshIsQuarterOfHeld, HoldsTurn, Host, HostBeginsLast, IsHistory, Lacks}
 use Rattle.mk_quarantine.proofs.Vocabulary.{List, Marker, Next, None, Op, Option, Seat, Some, Step, TurnOf, World, ℕ}
@@ -12,13 +10,10 @@ use Rattle.mk_quarantine.proofs.Vocabulary.{eq-eqb, false, flight_of, fresh_afte
 use Rattle.mk_quarantine.proofs.Vocabulary.{is_give, is_release, is_same_seat, known_left, lacks_at, left, ltb-true}
 use Rattle.mk_quarantine.proofs.Vocabulary.{or_from, or_parts, phase_behind, phase_of, refl, subst, sym, taken, through}
 use Rattle.mk_quarantine.proofs.Vocabulary.{true, true≢false, turn_of, view_of, world_behind, [], ⊎_elim, ◌++◌, ◌<◌}
-use Rattle.mk_quarantine.proofs.Vocabulary.{◌∙◌, ◌∷◌, ◌≡◌, ◌⊎◌}
-use Rattle.mk_quarantine.proofs.EndedFrees.{CallersAreExact, caller_of}
+use Rattle.mk_quarantine.proofs.{Vocabulary.{◌∙◌, ◌∷◌, ◌≡◌, ◌⊎◌}, EndedFrees.{CallersAreExact, caller_of}}
 use Rattle.mk_quarantine.proofs.HeldQuarters.{FreesIn, IsLate, quarter_or_late, since_begin}
 use Rattle.mk_quarantine.proofs.HeldTurns.{begin_gives_none, beginner_holds, begun_in_turn, first_giver, next_of}
-use Rattle.mk_quarantine.proofs.HeldTurns.{turn_stays_taken}
-use Rattle.mk_quarantine.proofs.CountedWords.{IsQuarter}
-use Rattle.mk_quarantine.proofs.OpenFrees.{freer_has_free}
+use Rattle.mk_quarantine.proofs.{HeldTurns.turn_stays_taken, CountedWords.IsQuarter, OpenFrees.freer_has_free}
 use Rattle.mk_core.specs.Growing.{AreOfOthers}
 
 -- After an `end` no `release` comes before the next `begin`.

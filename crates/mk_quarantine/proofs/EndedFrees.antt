@@ -1,17 +1,15 @@
 -- A Free that has freed its object, and whose turn was given back: what that turn did.
 use Rattle.mk_laws.proofs.Vocabulary.{undecided_free}
-use Rattle.mk_alloc.proofs.Vocabulary.{FreeIsExact}
-use Rattle.mk_alloc.proofs.OwnGives.{gives_append}
+use Rattle.mk_alloc.proofs.{Vocabulary.FreeIsExact, OwnGives.gives_append}
 use Rattle.mk_quarantine.proofs.Vocabulary.{Bool, Caller, CallIsExact, Config, EndsExactly, Event, GivesNone, IsHistory}
 use Rattle.mk_quarantine.proofs.Vocabulary.{List, Meets, Moment, Next, Op, Option, Seat, Some, Step, TurnOf}
 use Rattle.mk_quarantine.proofs.Vocabulary.{TurnsOfAreExact, ℕ, and-false, ap, append_assoc, arith, before_it}
 use Rattle.mk_quarantine.proofs.Vocabulary.{decides_freed, earlier_part_is_history, false, flight_of, free_has_turn}
 use Rattle.mk_quarantine.proofs.Vocabulary.{is_give, is_undecided_free, known_left, left, ltb-true, or_from, own_give}
 use Rattle.mk_quarantine.proofs.Vocabulary.{seat_exists, subst, sym, taken, true, turn_of, view_of, [], ◌++◌, ◌+◌, ◌<◌}
-use Rattle.mk_quarantine.proofs.Vocabulary.{◌∙◌, ◌∷◌, ◌≡◌}
-use Rattle.mk_quarantine.proofs.HeldTurns.{IsSameTurn, first_giver, lacks_own, next_of, one_turn, turn_stays_held}
-use Rattle.mk_quarantine.proofs.OpenFrees.{FreesNoneFrom, OpenFree, freer_has_free, open_frees_have_turns}
-use Rattle.mk_quarantine.proofs.OpenFrees.{undecided_is_open}
+use Rattle.mk_quarantine.proofs.{Vocabulary.{◌∙◌, ◌∷◌, ◌≡◌}, HeldTurns.{IsSameTurn, first_giver, lacks_own, next_of}}
+use Rattle.mk_quarantine.proofs.{HeldTurns.{one_turn, turn_stays_held}, OpenFrees.{FreesNoneFrom, OpenFree}}
+use Rattle.mk_quarantine.proofs.OpenFrees.{freer_has_free, open_frees_have_turns, undecided_is_open}
 
 -- the callers' turns are exact
 abbrev pub CallersAreExact : Bool → Config → List Event → Type 0

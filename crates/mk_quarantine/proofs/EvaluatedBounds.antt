@@ -3,14 +3,9 @@ use Rattle.mk_laws.proofs.Vocabulary.{Tally, take}
 use Rattle.mk_quarantine.proofs.Vocabulary.{Event, FreshIsQuarterOfHeld, IsKeptByLastCycle, List, None, Op, Some, Step}
 use Rattle.mk_quarantine.proofs.Vocabulary.{arith, false, fresh_after, given_back, held_after, is_begin, is_close}
 use Rattle.mk_quarantine.proofs.Vocabulary.{is_end, is_release, left, refl, [], ◌++◌, ◌∷◌, ◌≡◌, ◌≤◌}
-use Rattle.mk_core.proofs.EventsAt.{at_number, event_number}
-use Rattle.mk_core.proofs.Schedules.{by, c0, fault, first_fault, host, one_page}
-use Rattle.mk_core.proofs.MoreSchedules.{full_then_reused, two_pages}
-use Rattle.mk_core.specs.Allocations.{unreleased_storage}
-use Rattle.mk_core.specs.Bounded.{all_below}
-use Rattle.mk_core.specs.Cells.{pointed_cell}
-use Rattle.mk_core.specs.History.{left_from}
-use Rattle.mk_core.specs.StopConditions.{may_turn_black}
+use Rattle.mk_core.proofs.{EventsAt.{at_number, event_number}, Schedules.{by, c0, fault, first_fault, host, one_page}}
+use Rattle.mk_core.{proofs.MoreSchedules.{full_then_reused, two_pages}, specs.StopConditions.{may_turn_black}}
+use Rattle.mk_core.specs.{Allocations.unreleased_storage, Bounded.all_below, Cells.pointed_cell, History.left_from}
 use Rattle.mk_quarantine.specs.GivenBack.{given_back_from}
 
 -- A schedule in which what was freed since the last `begin` is more than a quarter of what is held, and just a quarter

@@ -7,16 +7,13 @@ use Rattle.mk_quarantine.proofs.Vocabulary.{is_begin, is_give, is_of_cycle, is_r
 use Rattle.mk_quarantine.proofs.Vocabulary.{lacks_first, lacks_one, left, left_in_parts, left_more, list_any}
 use Rattle.mk_quarantine.proofs.Vocabulary.{list_any-append, longer_at, or_from, or_parts, own_give, phase_asked, refl}
 use Rattle.mk_quarantine.proofs.Vocabulary.{subst, sym, through, true, true≢false, world_behind, [], ⊎_elim, ◌++◌, ◌∙◌}
-use Rattle.mk_quarantine.proofs.Vocabulary.{◌∷◌, ◌≡◌, ◌⊎◌}
-use Rattle.mk_quarantine.proofs.CountedWords.{IsQuarter, given_at, none_fresh_begun, none_fresh_stays, quarter_stays}
+use Rattle.mk_quarantine.proofs.{Vocabulary.{◌∷◌, ◌≡◌, ◌⊎◌}, CountedWords.{IsQuarter, given_at, none_fresh_begun}}
+use Rattle.mk_quarantine.proofs.CountedWords.{none_fresh_stays, quarter_stays}
 use Rattle.mk_quarantine.proofs.EndedFrees.{CallersAreExact, EndedFree, ended_free}
 use Rattle.mk_quarantine.proofs.Quarters.{IsPending, begin_is_of_cycle, cycles_later, freed_or_due, none_pending}
-use Rattle.mk_quarantine.proofs.Quarters.{pending_longer}
-use Rattle.mk_quarantine.proofs.HeldTurns.{BeginsInTurn, begun_in_turn, one_later}
-use Rattle.mk_core.specs.Cycles.{BeginsIn}
-use Rattle.mk_core.specs.History.{left_from}
-use Rattle.mk_laws.proofs.CyclePhases.{release_is}
-use Rattle.mk_laws.proofs.ReleasedCycles.{HasClosed, cycle_so_far}
+use Rattle.mk_quarantine.proofs.{Quarters.pending_longer, HeldTurns.{BeginsInTurn, begun_in_turn, one_later}}
+use Rattle.mk_core.specs.{Cycles.BeginsIn, History.left_from}
+use Rattle.mk_laws.proofs.{CyclePhases.release_is, ReleasedCycles.{HasClosed, cycle_so_far}}
 use Rattle.mk_alloc.proofs.ListParts.{none_at}
 
 -- the last event of a kind, if there is one

@@ -1,11 +1,7 @@
 -- Turns that are held: the turn word meanwhile, that a turn of a seat is one, and who begins a cycle in one.
 use Rattle.std.proofs.lemmas.List.{append_cancel_left}
-use Rattle.mk_laws.proofs.Vocabulary.{enabled_meets, ◌≢◌}
-use Rattle.mk_laws.proofs.Actors.{is_holders}
-use Rattle.mk_laws.proofs.Basics.{actor_of, known_behind}
-use Rattle.mk_laws.proofs.CyclePhases.{begin_is}
-use Rattle.mk_laws.proofs.FramesHolders.{acts_as_holder}
-use Rattle.mk_laws.proofs.LayoutHolders.{giver_has_turn}
+use Rattle.mk_laws.proofs.{Vocabulary.{enabled_meets, ◌≢◌}, Actors.is_holders, Basics.{actor_of, known_behind}}
+use Rattle.mk_laws.proofs.{CyclePhases.begin_is, FramesHolders.acts_as_holder, LayoutHolders.giver_has_turn}
 use Rattle.mk_quarantine.proofs.Vocabulary.{At, Bool, Caller, Config, Event, GivesNone, HoldsTurn, InFirst, InSecond}
 use Rattle.mk_quarantine.proofs.Vocabulary.{IsHistory, Known, Lacks, List, Meets, Next, Seat, Step, TurnOf, World}
 use Rattle.mk_quarantine.proofs.Vocabulary.{WorldBehind, ℕ, and-false, and_from, ap, append-nil, append_assoc, arith}

@@ -1,11 +1,8 @@
 -- What is in quarantine where no cycle is on: what was freed since the last `begin`, or what the last cycle kept.
 use Rattle.mk_laws.proofs.Vocabulary.{Releasing, Words, freed_released, not-true, through_release}
-use Rattle.mk_laws.proofs.AllocationSteps.{allocation_step, goes_on}
-use Rattle.mk_laws.proofs.CyclePhases.{phase_moves}
-use Rattle.mk_laws.proofs.Longer.{longer_next, next_at_end}
-use Rattle.mk_laws.proofs.PrecisionStopped.{keeps_only_the_touched}
-use Rattle.mk_laws.proofs.Stretches.{at_release}
-use Rattle.mk_laws.proofs.UnmappedRuns.{unmapped_runs_take_no_memory}
+use Rattle.mk_laws.proofs.{AllocationSteps.{allocation_step, goes_on}, CyclePhases.phase_moves}
+use Rattle.mk_laws.proofs.{Longer.{longer_next, next_at_end}, PrecisionStopped.keeps_only_the_touched}
+use Rattle.mk_laws.proofs.{Stretches.at_release, UnmappedRuns.unmapped_runs_take_no_memory}
 use Rattle.mk_quarantine.proofs.Vocabulary.{AsksPhase, At, Cell, Config, Event, IsHistory, IsKeptByLastCycle, Lacks}
 use Rattle.mk_quarantine.proofs.Vocabulary.{List, Meets, Next, OfHistories, Option, PlacedAllocation, Seat, Step, World}
 use Rattle.mk_quarantine.proofs.Vocabulary.{WorldBehind, ℕ, and_parts, append-nil, append_assoc, arith, before_it}
@@ -17,11 +14,8 @@ use Rattle.mk_quarantine.proofs.Vocabulary.{lacks_one, left, left_in_parts, left
 use Rattle.mk_quarantine.proofs.Vocabulary.{never_granted, not, phase_asked, phase_behind, phase_of, placed_at, refl}
 use Rattle.mk_quarantine.proofs.Vocabulary.{subst, sym, true, true≢false, world_behind, [], ◌++◌, ◌<◌, ◌∙◌, ◌∷◌, ◌≡◌}
 use Rattle.mk_quarantine.proofs.Vocabulary.{◌⊎◌}
-use Rattle.mk_core.proofs.ChangedAllocations.{granted_at}
-use Rattle.mk_core.specs.Cycles.{before_begin}
-use Rattle.mk_core.specs.History.{left_from}
-use Rattle.mk_quarantine.specs.KeptAllocations.{KeptAreTouched, QuarantineIsFreshOrKept}
-use Rattle.mk_quarantine.specs.Bounds.{FreedRunsTakeNoMemory}
+use Rattle.mk_core.{proofs.ChangedAllocations.{granted_at}, specs.{Cycles.before_begin, History.left_from}}
+use Rattle.mk_quarantine.specs.{KeptAllocations.{KeptAreTouched, QuarantineIsFreshOrKept}, Bounds.FreedRunsTakeNoMemory}
 
 -- Where the turn is free, a freed large allocation takes no memory: no Free is unmapping a run.
 

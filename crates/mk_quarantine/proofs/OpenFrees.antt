@@ -2,12 +2,10 @@
 use Rattle.std.specs.Prelude.{⊤}
 use Rattle.mk_laws.proofs.Vocabulary.{Stage, at_rest, begun, eqb-true, found, freed_cell, get_or-set_other}
 use Rattle.mk_laws.proofs.Vocabulary.{get_or-set_same, is_free_at, progress_freed, progress_reg, set_past}
-use Rattle.mk_laws.proofs.Vocabulary.{slice_index_or, slice_set, still, ◌==◌}
-use Rattle.mk_laws.proofs.Basics.{InCall, View, at_first, flight_in, same_holder, standing, standing_at}
-use Rattle.mk_laws.proofs.Longer.{gives_turn, left_in_turn, longer_turn}
-use Rattle.mk_laws.proofs.ProtocolMoves.{Enters, Gives, GoesOn, Leaves, Move, Stays, Takes, Works}
-use Rattle.mk_laws.proofs.Services.{Fills, Frees, Goes, Grants, Loads, Places, Service}
-use Rattle.mk_laws.proofs.OrderlyLists.{event_moves}
+use Rattle.mk_laws.proofs.{Vocabulary.{slice_index_or, slice_set, still, ◌==◌}, Basics.{InCall, View, at_first}}
+use Rattle.mk_laws.proofs.{Basics.{flight_in, same_holder, standing, standing_at}, Longer.{gives_turn, left_in_turn}}
+use Rattle.mk_laws.proofs.{Longer.longer_turn, ProtocolMoves.{Enters, Gives, GoesOn, Leaves, Move, Stays, Takes, Works}}
+use Rattle.mk_laws.proofs.{Services.{Fills, Frees, Goes, Grants, Loads, Places, Service}, OrderlyLists.event_moves}
 use Rattle.mk_laws.proofs.Standings.{UnderTurn}
 use Rattle.mk_quarantine.proofs.Vocabulary.{Bool, Caller, Cell, Config, Event, Flight, Holding, Host, IsHistory}
 use Rattle.mk_quarantine.proofs.Vocabulary.{KeptByEvents, Known, List, Marker, Meets, None, OfHistories, Op, Option}

@@ -1,19 +1,14 @@
 -- How much memory quarantine takes, at each moment at which nobody holds the turn.
 use Rattle.std.specs.Prelude.{◌≡◌, ℕ, ◌+◌, ◌*◌, ◌<◌, ◌≤◌, Bool, true, false, List, [], ◌∷◌, ◌++◌}
 use Rattle.mk_geom.specs.StorageWords.{IsWordOf}
-use Rattle.mk_core.specs.declared.config.Config.{Config}
-use Rattle.mk_core.specs.declared.events.Event.{Event}
+use Rattle.mk_core.specs.{declared.config.Config.Config, declared.events.Event.Event}
 use Rattle.mk_core.specs.declared.events.Seat.TheVariants.{Caller, Host}
 use Rattle.mk_core.specs.Allocations.{fresh_words_of, held_by_allocations, is_mapped, placed_at, storage_of}
-use Rattle.mk_core.specs.Cycles.{At, is_begin, is_give, is_release}
-use Rattle.mk_core.specs.Growing.{AreOfOthers}
-use Rattle.mk_core.specs.History.{IsHistory, left}
-use Rattle.mk_laws.specs.UnmappedRuns.{is_resident_in}
-use Rattle.mk_laws.specs.Promises.{AtEachMoment}
+use Rattle.mk_core.specs.{Cycles.{At, is_begin, is_give, is_release}, Growing.AreOfOthers, History.{IsHistory, left}}
+use Rattle.mk_laws.specs.{UnmappedRuns.is_resident_in, Promises.AtEachMoment}
 use Rattle.mk_alloc.specs.TurnCycles.{TurnsOfAreExact, has_step}
-use Rattle.mk_quarantine.specs.GivenBack.{given_back}
-use Rattle.mk_quarantine.specs.KeptAllocations.{KeptAreTouched, QuarantineIsFreshOrKept, kept_mapped}
-use Rattle.mk_quarantine.specs.KeptAllocations.{quarantined_mapped}
+use Rattle.mk_quarantine.specs.{GivenBack.given_back, KeptAllocations.{KeptAreTouched, QuarantineIsFreshOrKept}}
+use Rattle.mk_quarantine.specs.KeptAllocations.{kept_mapped, quarantined_mapped}
 
 -- the words that are held after a list of events, and those of objects that were freed since the last `begin`
 

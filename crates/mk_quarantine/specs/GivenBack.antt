@@ -1,8 +1,6 @@
 -- How much cycles give back: the storage that a `release` releases, counted from the last `begin` on.
 use Rattle.std.specs.Prelude.{ℕ, ◌+◌, Bool, ◌&&◌, List, [], ◌∷◌, filter, sum_by}
-use Rattle.mk_core.specs.declared.config.Config.{Config}
-use Rattle.mk_core.specs.declared.events.Event.{Event}
-use Rattle.mk_core.specs.declared.events.Step.{Step}
+use Rattle.mk_core.specs.{declared.config.Config.Config, declared.events.Event.Event, declared.events.Step.Step}
 use Rattle.mk_core.specs.Allocations.{PlacedAllocation, is_mapped, storage_words, with_released}
 use Rattle.mk_core.specs.History.{World, first_world, world_behind}
 use Rattle.mk_core.specs.declared.events.Step.TheVariants as step

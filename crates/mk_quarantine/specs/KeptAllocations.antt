@@ -1,12 +1,9 @@
 -- What the last cycle kept: the allocations of its snapshot that it didn't release.
 use Rattle.std.specs.Prelude.{◌≡◌, ◌⊎◌, ℕ, true, false, ◌&&◌, not, List, filter, sum_by}
-use Rattle.mk_core.specs.declared.config.Config.{Config}
-use Rattle.mk_core.specs.declared.events.Event.{Event}
+use Rattle.mk_core.specs.{declared.config.Config.Config, declared.events.Event.Event}
 use Rattle.mk_core.specs.Allocations.{PlacedAllocation, is_mapped, placed_at, storage_words}
-use Rattle.mk_core.specs.Cycles.{Cycle, IsInSnapshot, NoneSweeps, is_end, is_quarantined}
-use Rattle.mk_core.specs.History.{World, left}
-use Rattle.mk_core.specs.Touched.{IsTouched}
-use Rattle.mk_core.specs.Words.{phase_of}
+use Rattle.mk_core.specs.{Cycles.{Cycle, IsInSnapshot, NoneSweeps, is_end, is_quarantined}, History.{World, left}}
+use Rattle.mk_core.specs.{Touched.IsTouched, Words.phase_of}
 use Rattle.mk_alloc.specs.TurnCycles.{has_step}
 
 -- The allocation was in the snapshot of the last cycle that ended, and is unreleased.

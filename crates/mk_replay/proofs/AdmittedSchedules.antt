@@ -1,8 +1,6 @@
 -- The history that a schedule makes of a checked program asks for nothing that isn't admitted, so it is a history of
 -- the program's heap, and keeps all promises.
-use Rattle.std.proofs.lemmas.List.Elements.{All-nil, All-push}
-use Rattle.std.proofs.Common.{All}
-use Rattle.std.proofs.lemmas.List.{get_or-replicate}
+use Rattle.std.proofs.{lemmas.List.Elements.{All-nil, All-push}, Common.All, lemmas.List.get_or-replicate}
 use Rattle.mk_replay.proofs.Vocabulary.{Answer, AreEnabled, Caller, Config, Decided, Entry, Event, Flight, Item, Moment}
 use Rattle.mk_replay.proofs.Vocabulary.{Op, Stage, Step, answer_decided, answers_given, asked, at_rest, calls}
 use Rattle.mk_replay.proofs.Vocabulary.{comes_next, config_of, ends_call, entry_of, event_of_entry, first_world}
@@ -12,22 +10,16 @@ use Rattle.mk_laws.proofs.Vocabulary.{Bool, Host, IsHistory, List, Marker, None,
 use Rattle.mk_laws.proofs.Vocabulary.{append-nil, append_assoc, arith, call_decided, cases_eq, enabled_meets}
 use Rattle.mk_laws.proofs.Vocabulary.{enabled_parts, false, found, get_or, get_or-set_other, get_or-set_same, inl, inr}
 use Rattle.mk_laws.proofs.Vocabulary.{left_more, length, ltb-true, map-append, refl, subst, sym, true, [], ◌&&◌, ◌++◌}
-use Rattle.mk_laws.proofs.Vocabulary.{◌+◌, ◌<◌, ◌∙◌, ◌∷◌, ◌≡◌, ◌≢◌}
-use Rattle.mk_laws.proofs.Promises.{histories_keep_all_promises}
+use Rattle.mk_laws.proofs.{Vocabulary.{◌+◌, ◌<◌, ◌∙◌, ◌∷◌, ◌≡◌, ◌≢◌}, Promises.histories_keep_all_promises}
 use Rattle.mk_core.proofs.Histories.{calls_more, last_enabled}
-use Rattle.mk_core.specs.Effects.{flights_behind}
-use Rattle.mk_core.specs.History.{calls_from, left_from}
-use Rattle.mk_core.specs.Order.{is_in_order}
+use Rattle.mk_core.specs.{Effects.flights_behind, History.{calls_from, left_from}, Order.is_in_order}
 use Rattle.mk_laws.specs.Promises.{KeepsAllPromises}
-use Rattle.mk_check.proofs.AdmittedScripts.{first_are_noted, scripts_are_admitted}
-use Rattle.mk_check.proofs.GivenAnswers.{among_more, as_list, counted, more_ended, other_number, same_number, serves}
+use Rattle.mk_check.proofs.{AdmittedScripts.{first_are_noted, scripts_are_admitted}, GivenAnswers.{among_more, as_list}}
+use Rattle.mk_check.proofs.GivenAnswers.{counted, more_ended, other_number, same_number, serves}
 use Rattle.mk_check.proofs.ConfigLemmas.{config_within}
-use Rattle.mk_check.specs.Feeding.{next_op}
-use Rattle.mk_check.specs.Laws.{IsChecked, IsScript}
-use Rattle.mk_check.specs.Output.{answers_among, ended_calls}
+use Rattle.mk_check.specs.{Feeding.next_op, Laws.{IsChecked, IsScript}, Output.{answers_among, ended_calls}}
 use Rattle.mk_replay.specs.Replays.{history_from, next_op_for, step_of}
-use Rattle.mk_script.proofs.PassedLines.{is_whole}
-use Rattle.mk_script.specs.Scopes.{script_names}
+use Rattle.mk_script.{proofs.PassedLines.{is_whole}, specs.Scopes.{script_names}}
 
 -- What one event more makes of a caller's answers, and of the count of its calls that ended.
 

@@ -9,9 +9,7 @@ use Rattle.mk_laws.proofs.Vocabulary.{progress_read, progress_reg, refl, still, 
 use Rattle.mk_laws.proofs.Vocabulary.{◌==◌, ◌∙◌, ◌∷◌, ◌≡◌, ◌≢◌, ◌≤◌}
 use Rattle.mk_check.proofs.GivenAnswers.{Serves, as_list, counted, serves}
 use Rattle.mk_check.proofs.AdmittedScripts.{answers_are_noted, others_are_ignored}
-use Rattle.mk_check.specs.Feeding.{next_op}
-use Rattle.mk_check.specs.Laws.{AreNotedBy}
-use Rattle.mk_check.specs.Output.{answers_among, ended_calls}
+use Rattle.mk_check.specs.{Feeding.next_op, Laws.AreNotedBy, Output.{answers_among, ended_calls}}
 
 -- the first step of a call
 abbrev pub begins_call : Step → Bool

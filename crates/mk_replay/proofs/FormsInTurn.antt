@@ -1,14 +1,10 @@
 -- The forms of a line's pieces and its entries, one piece after another.
-use Rattle.std.proofs.lemmas.List.{take_more}
-use Rattle.std.specs.declared.result.Result.{Result}
+use Rattle.std.{proofs.lemmas.List.{take_more}, specs.declared.result.Result.{Result}}
 use Rattle.mk_replay.proofs.Vocabulary.{Bor, Ok, Step, form_of, texts_of}
 use Rattle.mk_laws.proofs.Vocabulary.{List, ℕ, ap, arith, get_or, length, map, map-append, sym, take, [], ◌++◌, ◌+◌}
 use Rattle.mk_laws.proofs.Vocabulary.{◌<◌, ◌∙◌, ◌∷◌, ◌≡◌}
-use Rattle.mk_replay.specs.Entries.{forms_with, with_form}
-use Rattle.mk_replay.specs.Forms.{both, worse_fault}
-use Rattle.mk_replay.specs.Schedules.{forms_of}
-use Rattle.mk_script.specs.Words.{words_of_line}
-use Rattle.mk_script.specs.declared.faults.TextKind.{TextKind}
+use Rattle.mk_replay.specs.{Entries.{forms_with, with_form}, Forms.{both, worse_fault}, Schedules.forms_of}
+use Rattle.mk_script.specs.{Words.words_of_line, declared.faults.TextKind.TextKind}
 
 worse_fault-in_turn : (a b c : TextKind) → worse_fault a (worse_fault b c) ≡ worse_fault (worse_fault a b) c
 worse_fault-in_turn a b c = grind arith

@@ -1,18 +1,13 @@
 -- A form that is listed by its name, with words after it that aren't numbers.
 use Rattle.std.proofs.Common.{codes, ok_or}
-use Rattle.std.specs.Option.{option_map}
-use Rattle.std.specs.Result.{IsErrAnd}
-use Rattle.std.specs.Str.{bytes_eq}
-use Rattle.std.specs.declared.result.Result.{Result}
+use Rattle.std.specs.{Option.option_map, Result.IsErrAnd, Str.bytes_eq, declared.result.Result.Result}
 use Rattle.mk_replay.proofs.Vocabulary.{Err, Ok, Step, value_among}
 use Rattle.mk_laws.proofs.Vocabulary.{Bool, List, None, Option, Some, ℕ, ap, false, if◌then◌else◌, map, refl, true, []}
 use Rattle.mk_laws.proofs.Vocabulary.{◌∙◌, ◌∷◌, ◌≡◌}
 use Rattle.mk_replay.specs.Forms.{both, forms_of_numbers, number, two_operands}
 use Rattle.mk_replay.specs.declared.forms.FormOfNumbers.TheVariants.{Black, Claim, Head, Mark, Quar, Used}
-use Rattle.mk_replay.specs.Numbered.{form_of_numbers}
-use Rattle.mk_replay.specs.declared.forms.FormOfNumbers.{FormOfNumbers}
-use Rattle.mk_script.specs.Names.{number_of_word}
-use Rattle.mk_script.specs.declared.faults.TextKind.{TextKind}
+use Rattle.mk_replay.specs.{Numbered.form_of_numbers, declared.forms.FormOfNumbers.FormOfNumbers}
+use Rattle.mk_script.specs.{Names.number_of_word, declared.faults.TextKind.TextKind}
 
 by_test : {A B : Type 0} (b : Bool) (f : A → B) (x : A) (rest : Option A) (others : Option B)
     → others ≡ option_map f rest → (if b then Some (f x) else others) ≡ option_map f (if b then Some x else rest)

@@ -1,14 +1,11 @@
 -- The pieces of a line, found from left to right.
-use Rattle.std.proofs.lemmas.List.{at_drop_more, drop_all, take_more}
-use Rattle.std.proofs.Common.{drop-drop, nat_eq}
-use Rattle.std.specs.Cmp.Lexicographic.{pointwise}
-use Rattle.std.specs.List.{starts_with}
+use Rattle.std.proofs.{lemmas.List.{at_drop_more, drop_all, take_more}, Common.{drop-drop, nat_eq}}
+use Rattle.std.specs.{Cmp.Lexicographic.pointwise, List.starts_with}
 use Rattle.mk_laws.proofs.Vocabulary.{Bool, List, ℕ, ap, append-nil, append_assoc, arith, drop, false, get_or}
 use Rattle.mk_laws.proofs.Vocabulary.{if◌then◌else◌, length, sym, take, true, [], ◌&&◌, ◌++◌, ◌+◌, ◌-◌, ◌<◌, ◌==◌, ◌∙◌}
 use Rattle.mk_laws.proofs.Vocabulary.{◌∷◌, ◌≡◌, ◌≤◌}
 use Rattle.mk_replay.proofs.Vocabulary.{length-drop, nat_tests, take_all}
-use Rattle.mk_replay.specs.Entries.{IsEndOfPiece}
-use Rattle.mk_replay.specs.Schedules.{in_front, pieces_of}
+use Rattle.mk_replay.specs.{Entries.IsEndOfPiece, Schedules.{in_front, pieces_of}}
 
 -- a text in front of the first piece
 abbrev pub glue : List ℕ → List (List ℕ) → List (List ℕ)

@@ -1,27 +1,20 @@
 -- What a run's steps say of the histories that it stands for.
-use Rattle.std.proofs.Common.{IsTrue, set}
-use Rattle.std.proofs.lemmas.List.{append_cancel_left, get_or_default, get_or_push}
+use Rattle.std.proofs.{Common.{IsTrue, set}, lemmas.List.{append_cancel_left, get_or_default, get_or_push}}
 use Rattle.std.specs.Option.{option_or}
 use Rattle.mk_replay.proofs.Vocabulary.{Answer, AreEnabled, AreFirstTexts, ArePlayersOf, Config, Decided, Entry, Event}
 use Rattle.mk_replay.proofs.Vocabulary.{IsPlayerOf, Item, Op, TakesStep, answer_decided, calls, config_of, ends_call}
 use Rattle.mk_replay.proofs.Vocabulary.{entry_of, event_of_entry, first_world, flight_of, is_same_seat, left}
-use Rattle.mk_replay.proofs.Vocabulary.{length-append, nat_tests, served_to}
-use Rattle.mk_replay.proofs.ServedMore.{served_first, served_more}
+use Rattle.mk_replay.proofs.{Vocabulary.{length-append, nat_tests, served_to}, ServedMore.{served_first, served_more}}
 use Rattle.mk_laws.proofs.Vocabulary.{IsEnabled, List, None, Option, Seat, Some, ℕ, ap, arith, caller_number, cases_eq}
 use Rattle.mk_laws.proofs.Vocabulary.{enabled_meets, false, get_or, get_or-set_other, get_or-set_same}
 use Rattle.mk_laws.proofs.Vocabulary.{get_or_append_left, inl, inr, length, refl, seat_exists, slice_index_or}
 use Rattle.mk_laws.proofs.Vocabulary.{slice_set, subst, sym, true, [], ◌++◌, ◌<◌, ◌==◌, ◌∙◌, ◌∷◌, ◌≡◌, ◌≢◌}
 use Rattle.mk_core.proofs.Histories.{calls_more, last_enabled}
-use Rattle.mk_core.specs.Enabled.{failing}
-use Rattle.mk_core.specs.Standing.{CoreStandsFor, CoreState}
-use Rattle.mk_check.proofs.FeedLaws.{feed_push, feed_push-ended}
-use Rattle.mk_check.proofs.GivenAnswers.{same_number}
-use Rattle.mk_check.specs.Feed.{feed, has_ended}
-use Rattle.mk_check.specs.declared.text.Text.{Text}
+use Rattle.mk_core.specs.{Enabled.failing, Standing.{CoreStandsFor, CoreState}}
+use Rattle.mk_check.proofs.{FeedLaws.{feed_push, feed_push-ended}, GivenAnswers.same_number}
+use Rattle.mk_check.specs.{Feed.{feed, has_ended}, declared.text.Text.Text}
 use Rattle.mk_replay.specs.Players.{IsFed, IsRunAfter, PlayerTakesAnswer, Served, TakeEvent, TakesEntry, served_by}
-use Rattle.mk_replay.specs.Replays.{IsReplayedText}
-use Rattle.mk_replay.specs.declared.players.Player.{Player}
-use Rattle.mk_replay.specs.declared.replaying.Run.{Run}
+use Rattle.mk_replay.specs.{Replays.IsReplayedText, declared.players.Player.Player, declared.replaying.Run.Run}
 use Rattle.mk_check.specs.Feeding.{FeedStandsFor, FeedState, TakesAnswer as FeedTakesAnswer}
 
 -- A feed that waits takes the answer.

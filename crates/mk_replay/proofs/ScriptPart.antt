@@ -1,8 +1,7 @@
 -- The bytes before a line of a text: their lines are those before it.
 use Rattle.std.proofs.lemmas.List.Splits.{length-slice_split, slice_split_at, slice_split_none}
 use Rattle.std.proofs.lemmas.List.Sums.{fails_before_first, passes_at_first, split_at_first}
-use Rattle.std.proofs.lemmas.Grind.{common_steps}
-use Rattle.std.specs.List.{All, after_first, before_first, position_or_len}
+use Rattle.std.{proofs.lemmas.Grind.{common_steps}, specs.List.{All, after_first, before_first, position_or_len}}
 use Rattle.mk_replay.proofs.Vocabulary.{length-append, text_length}
 use Rattle.mk_laws.proofs.Vocabulary.{Bool, List, ℕ, ap, arith, cases_lt, false, get_or, if◌then◌else◌, inl, inr}
 use Rattle.mk_laws.proofs.Vocabulary.{length, refl, subst, suc, sym, take, true, zero, [], ◌++◌, ◌+◌, ◌<◌, ◌==◌, ◌∙◌}

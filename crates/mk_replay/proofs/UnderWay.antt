@@ -1,18 +1,14 @@
 -- A run after the first entries of a schedule.
-use Rattle.std.proofs.Common.{add-one, drop-cons}
-use Rattle.std.proofs.Math.ListN.{drop_of_length-le}
-use Rattle.std.proofs.lemmas.List.Sums.{count_by-le-length}
+use Rattle.std.proofs.{Common.{add-one, drop-cons}, Math.ListN.drop_of_length-le, lemmas.List.Sums.count_by-le-length}
 use Rattle.mk_replay.proofs.Vocabulary.{AreEnabled, Entry, Event, Item, answers_given, config_of, event_of_entry}
 use Rattle.mk_replay.proofs.Vocabulary.{history_of, length-append, nat_tests}
 use Rattle.mk_laws.proofs.Vocabulary.{List, None, Some, ℕ, ap, arith, drop, false, get_or, length, refl, subst, sym, []}
 use Rattle.mk_laws.proofs.Vocabulary.{◌++◌, ◌+◌, ◌<◌, ◌==◌, ◌∙◌, ◌∷◌, ◌≡◌, ◌≤◌}
-use Rattle.mk_check.proofs.GivenAnswers.{few_answers}
-use Rattle.mk_check.specs.Feed.{is_refusal}
+use Rattle.mk_check.{proofs.GivenAnswers.{few_answers}, specs.Feed.{is_refusal}}
 use Rattle.mk_replay.specs.Players.{EachHasRoom, IsNotEnabled, IsRunAfter, IsUnderWay, TakesEntry}
 use Rattle.mk_replay.specs.Replays.{failing_entry, history_from, refusal_from, refusal_of}
 use Rattle.mk_replay.specs.declared.replaying.ReplayStop.{ReplayStop}
-use Rattle.mk_replay.specs.declared.replaying.ReplayStop.TheVariants.{NotEnabled}
-use Rattle.mk_replay.specs.declared.replaying.Run.{Run}
+use Rattle.mk_replay.specs.{declared.replaying.ReplayStop.TheVariants.NotEnabled, declared.replaying.Run.Run}
 
 -- There are fewer answers than the counts can hold.
 pub room_of : {program : List Item} {schedule : List Entry} {n : ℕ} {run : Run} → IsUnderWay program schedule n run

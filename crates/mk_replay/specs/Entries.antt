@@ -1,15 +1,11 @@
 -- What reading a line gives, unless memory runs out.
 -- Private functions alone cite these words.
 use Rattle.std.specs.Prelude.{◌≡◌, ℕ, ◌+◌, ◌≤◌, List, [], ◌∷◌, ◌++◌, length, map, take, drop, Option, Some, None, Ok}
-use Rattle.std.specs.Prelude.{Err}
-use Rattle.std.specs.declared.result.Result.{Result}
-use Rattle.mk_script.specs.declared.faults.TextKind.{TextKind}
-use Rattle.mk_script.specs.Words.{words_of_line}
+use Rattle.std.specs.{Prelude.Err, declared.result.Result.Result}
+use Rattle.mk_script.specs.{declared.faults.TextKind.TextKind, Words.words_of_line}
 use Rattle.mk_core.specs.declared.events.Step.{Step}
-use Rattle.mk_replay.specs.declared.schedule.Entry.{Entry}
-use Rattle.mk_replay.specs.declared.lines.LineStop.{LineStop}
-use Rattle.mk_replay.specs.declared.lines.LineStop.TheVariants.{Text, NoMemory}
-use Rattle.mk_replay.specs.Forms.{both}
+use Rattle.mk_replay.specs.{declared.schedule.Entry.Entry, declared.lines.LineStop.LineStop}
+use Rattle.mk_replay.specs.{declared.lines.LineStop.TheVariants.{Text, NoMemory}, Forms.both}
 use Rattle.mk_replay.specs.Schedules.{forms_of, pieces_of}
 
 -- the expected entries stand after the old ones

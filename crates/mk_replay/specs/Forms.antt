@@ -1,14 +1,10 @@
 -- The words of an event and of a seat.
 use Rattle.std.specs.Prelude.{ℕ, ◌==◌, if◌then◌else◌, false, List, [], ◌∷◌, Option, Some, None, ok_or, Ok, Err}
-use Rattle.std.specs.declared.result.Result.{Result}
-use Rattle.std.specs.Str.{bytes_eq}
+use Rattle.std.specs.{declared.result.Result.Result, Str.bytes_eq}
 use lib.Chars.{codes}
-use Rattle.mk_script.specs.declared.faults.TextKind.{TextKind}
-use Rattle.mk_script.specs.Names.{number_of_word}
+use Rattle.mk_script.specs.{declared.faults.TextKind.TextKind, Names.number_of_word}
 use Rattle.mk_never.specs.declared.operations.Op.{Op}
-use Rattle.mk_core.specs.declared.events.Seat.{Seat}
-use Rattle.mk_core.specs.declared.events.Word.{Word}
-use Rattle.mk_core.specs.declared.events.Tally.{Tally}
+use Rattle.mk_core.specs.{declared.events.Seat.Seat, declared.events.Word.Word, declared.events.Tally.Tally}
 use Rattle.mk_core.specs.declared.events.Step.{Step}
 use Rattle.mk_script.specs.declared.faults.TextKind.TheVariants as kind
 use Rattle.mk_never.specs.declared.operations.Op.TheVariants as op

@@ -1,11 +1,9 @@
 -- Forms, and words of the table, with their numbers. Private functions alone cite these words.
 use Rattle.std.specs.Prelude.{ℕ}
-use Rattle.mk_core.specs.declared.events.Word.{Word}
-use Rattle.mk_core.specs.declared.events.Step.{Step}
+use Rattle.mk_core.specs.{declared.events.Word.Word, declared.events.Step.Step}
 use Rattle.mk_replay.specs.declared.forms.FormOfNumber.{FormOfNumber}
 use Rattle.mk_replay.specs.declared.forms.FormOfNumber.TheVariants.{Hold, Open, Clear, Wipe, Undirty, Unblack}
-use Rattle.mk_replay.specs.declared.forms.FormOfNumbers.{FormOfNumbers}
-use Rattle.mk_replay.specs.declared.forms.WordOfNumber.{WordOfNumber}
+use Rattle.mk_replay.specs.{declared.forms.FormOfNumbers.FormOfNumbers, declared.forms.WordOfNumber.WordOfNumber}
 use Rattle.mk_core.specs.declared.events.Word.TheVariants as word
 use Rattle.mk_replay.specs.declared.forms.FormOfNumbers.TheVariants as two
 use Rattle.mk_replay.specs.declared.forms.WordOfNumber.TheVariants as numbered

@@ -1,26 +1,15 @@
 -- What a run keeps for each script, and what it stands for.
 -- Private functions alone cite these words.
 use Rattle.std.specs.Prelude.{◌≡◌, ◌<◌, ◌≤◌, ℕ, Bool, true, false, List, [], ◌∷◌, ◌++◌, length, count_by}
-use Rattle.std.specs.Prelude.{slice_index_or, drop, Option, None, if◌then◌else◌}
-use Rattle.std.specs.List.{cons_option}
-use Rattle.std.specs.Option.{option_or}
-use Rattle.mk_script.specs.declared.items.Item.{Item}
-use Rattle.mk_script.specs.Scopes.{script_names}
-use Rattle.mk_check.specs.Feed.{is_refusal, feed}
-use Rattle.mk_check.specs.Declarations.{config_of}
-use Rattle.mk_check.specs.Output.{ends_call, answers_given, answer_waiting}
-use Rattle.mk_check.specs.Feeding.{FeedState, FeedStandsFor}
-use Rattle.mk_core.specs.declared.config.Config.{Config}
-use Rattle.mk_core.specs.declared.events.Event.{Event}
-use Rattle.mk_core.specs.declared.events.Answer.{Answer}
-use Rattle.mk_core.specs.declared.events.Seat.TheVariants.{Caller}
-use Rattle.mk_core.specs.Growing.{is_same_seat}
-use Rattle.mk_core.specs.Standing.{CoreStandsFor}
-use Rattle.mk_replay.specs.declared.players.Player.{Player}
-use Rattle.mk_replay.specs.declared.replaying.Run.{Run}
+use Rattle.std.specs.{Prelude.{slice_index_or, drop, Option, None, if◌then◌else◌}, List.cons_option, Option.option_or}
+use Rattle.mk_script.specs.{declared.items.Item.Item, Scopes.script_names}
+use Rattle.mk_check.specs.{Feed.{is_refusal, feed}, Declarations.config_of, Output.{ends_call, answers_given}}
+use Rattle.mk_check.specs.{Output.answer_waiting, Feeding.{FeedState, FeedStandsFor}}
+use Rattle.mk_core.specs.{declared.config.Config.Config, declared.events.Event.Event, declared.events.Answer.Answer}
+use Rattle.mk_core.specs.{declared.events.Seat.TheVariants.Caller, Growing.is_same_seat, Standing.CoreStandsFor}
+use Rattle.mk_replay.specs.{declared.players.Player.Player, declared.replaying.Run.Run}
 use Rattle.mk_replay.specs.declared.replaying.ReplayStop.{ReplayStop}
-use Rattle.mk_replay.specs.declared.replaying.ReplayStop.TheVariants.{NotEnabled}
-use Rattle.mk_replay.specs.declared.schedule.Entry.{Entry}
+use Rattle.mk_replay.specs.{declared.replaying.ReplayStop.TheVariants.NotEnabled, declared.schedule.Entry.Entry}
 use Rattle.mk_replay.specs.Replays.{event_of_entry, failing_entry, refusal_from, refusal_of, history_from, history_of}
 
 -- The answers of a caller's calls that ended, and the one that was decided in the call in flight.

@@ -2,8 +2,7 @@
 -- Private functions alone cite these words.
 use Rattle.std.specs.Prelude.{◌≡◌, ℕ, ◌+◌, ◌<◌, List, [], ◌∷◌, length, take, drop, Some, None}
 use Rattle.mk_script.specs.declared.faults.TextStop.{TextStop}
-use Rattle.mk_replay.specs.declared.lines.LineStop.{LineStop}
-use Rattle.mk_replay.specs.declared.lines.LineStop.TheVariants.{Text, NoMemory}
+use Rattle.mk_replay.specs.{declared.lines.LineStop.LineStop, declared.lines.LineStop.TheVariants.{Text, NoMemory}}
 use Rattle.mk_replay.specs.Schedules.{script_lines, schedule_lines}
 use Rattle.mk_script.specs.declared.faults.TextStop.TheVariants as stop
 

@@ -3,20 +3,12 @@
 use Rattle.std.specs.Prelude.{◌≡◌, ◌<◌, ℕ, List, [], ◌∷◌, ◌++◌, length, count_by, slice_index_or, Option, Some, None}
 use Rattle.std.specs.Prelude.{◌==◌, if◌then◌else◌}
 use Rattle.mk_never.specs.declared.operations.Op.{Op}
-use Rattle.mk_script.specs.declared.items.Item.{Item}
-use Rattle.mk_script.specs.Scopes.{script_names}
-use Rattle.mk_check.specs.Declarations.{config_of}
-use Rattle.mk_check.specs.declared.text.Text.{Text}
-use Rattle.mk_check.specs.Feed.{is_refusal}
-use Rattle.mk_check.specs.Feeding.{next_op}
+use Rattle.mk_script.specs.{declared.items.Item.Item, Scopes.script_names}
+use Rattle.mk_check.specs.{Declarations.config_of, declared.text.Text.Text, Feed.is_refusal, Feeding.next_op}
 use Rattle.mk_check.specs.Output.{answers_given, text_behind}
-use Rattle.mk_core.specs.declared.events.Seat.{Seat}
-use Rattle.mk_core.specs.declared.events.Step.{Step}
-use Rattle.mk_core.specs.declared.events.Event.{Event}
-use Rattle.mk_core.specs.Enabled.{failing}
-use Rattle.mk_core.specs.History.{left}
-use Rattle.mk_replay.specs.declared.schedule.Entry.{Entry}
-use Rattle.mk_replay.specs.Forms.{nothing_to_enter}
+use Rattle.mk_core.specs.{declared.events.Seat.Seat, declared.events.Step.Step, declared.events.Event.Event}
+use Rattle.mk_core.specs.{Enabled.failing, History.left}
+use Rattle.mk_replay.specs.{declared.schedule.Entry.Entry, Forms.nothing_to_enter}
 use Rattle.mk_replay.specs.declared.replaying.ReplayStop.{ReplayStop}
 use Rattle.mk_replay.specs.declared.replaying.ReplayStop.TheVariants.{NotEnabled}
 use Rattle.mk_core.specs.declared.events.Seat.TheVariants as seat

@@ -1,18 +1,12 @@
 -- A text of a script part and a schedule: its program and the events, or its first fault.
 use Rattle.std.specs.Prelude.{ℕ, ◌+◌, Bool, false, ◌&&◌, nat_le, ◌==◌, if◌then◌else◌, List, [], ◌∷◌, ◌++◌, length, map}
-use Rattle.std.specs.Prelude.{Option, Some, None, Ok, Err}
-use Rattle.std.specs.declared.result.Result.{Result}
-use Rattle.std.specs.Str.{bytes_eq}
+use Rattle.std.specs.{Prelude.{Option, Some, None, Ok, Err}, declared.result.Result.Result, Str.bytes_eq}
 use lib.Chars.{codes}
-use Rattle.mk_script.specs.declared.items.Item.{Item}
-use Rattle.mk_script.specs.declared.faults.TextKind.{TextKind}
-use Rattle.mk_script.specs.declared.faults.TextStop.{TextStop}
-use Rattle.mk_script.specs.Words.{lines_of, words_of_line}
+use Rattle.mk_script.specs.{declared.items.Item.Item, declared.faults.TextKind.TextKind}
+use Rattle.mk_script.specs.{declared.faults.TextStop.TextStop, Words.{lines_of, words_of_line}}
 use Rattle.mk_script.specs.Grammar.{fault_at, longest_text, too_long, items_of_lines}
-use Rattle.mk_core.specs.declared.events.Seat.{Seat}
-use Rattle.mk_core.specs.declared.events.Step.{Step}
-use Rattle.mk_replay.specs.declared.schedule.Entry.{Entry}
-use Rattle.mk_replay.specs.Forms.{both, form_of, seat_of}
+use Rattle.mk_core.specs.{declared.events.Seat.Seat, declared.events.Step.Step}
+use Rattle.mk_replay.specs.{declared.schedule.Entry.Entry, Forms.{both, form_of, seat_of}}
 use Rattle.mk_script.specs.declared.faults.TextKind.TheVariants as kind
 use Rattle.mk_script.specs.declared.faults.TextStop.TheVariants as stop
 

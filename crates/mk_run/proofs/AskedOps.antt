@@ -1,7 +1,6 @@
 -- The operation that a script asks for is one.
 use Rattle.mk_laws.proofs.Vocabulary.{Answer, List, Op, Some, ℕ, ◌∙◌, ◌≡◌}
-use Rattle.mk_run.proofs.Vocabulary.{Item, next_op}
-use Rattle.mk_run.specs.Scripts.{AsksFor}
+use Rattle.mk_run.{proofs.Vocabulary.{Item, next_op}, specs.Scripts.{AsksFor}}
 use Rattle.mk_check.specs.Feeding.{FeedStandsFor, FeedState}
 
 -- what a script is found to ask for

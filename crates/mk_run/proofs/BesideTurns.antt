@@ -6,8 +6,7 @@ use Rattle.mk_run.proofs.Vocabulary.{FindsGateHeld, PassState, StaysBeside, seen
 use Rattle.mk_core.specs.Growing.{Finding, own_from}
 use Rattle.mk_caller.specs.Called.{Called, own_steps, stages_made, step_at}
 use Rattle.mk_run.specs.Scripts.{is_beside_turns}
-use Rattle.mk_turns.proofs.Doing.{does_step, done_in_parts, of_kinds_in_parts}
-use Rattle.mk_turns.specs.Doing.{are_of, done_in}
+use Rattle.mk_turns.{proofs.Doing.{does_step, done_in_parts, of_kinds_in_parts}, specs.Doing.{are_of, done_in}}
 
 nothing_done : (p : PassState) → are_of is_beside_turns (done_in p []) ≡ true
 unfolding own_from

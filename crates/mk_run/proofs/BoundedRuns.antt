@@ -3,8 +3,7 @@ use Rattle.mk_laws.proofs.Vocabulary.{AreOfOthers, Bool, Caller, Config, Event, 
 use Rattle.mk_laws.proofs.Vocabulary.{subst, sym, true, true≢false, [], ◌∙◌, ◌∷◌, ◌≡◌}
 use Rattle.mk_run.proofs.Vocabulary.{HostComesLast, IsRunOf, Item, Outcome, config_of, ⊎_elim}
 use Rattle.mk_alloc.proofs.ListParts.{InFirst, InSecond, stands}
-use Rattle.mk_quarantine.proofs.Bounds.{quarantines_are_bounded}
-use Rattle.mk_quarantine.proofs.EndedCycles.{others_at, others_behind}
+use Rattle.mk_quarantine.proofs.{Bounds.quarantines_are_bounded, EndedCycles.{others_at, others_behind}}
 use Rattle.mk_quarantine.specs.Bounds.{HostBeginsLast, QuarantineIsBounded}
 use Rattle.mk_heap.specs.Reports as report
 

@@ -1,15 +1,11 @@
 -- A script that is fed with what its caller is told of the answers.
-use Rattle.std.proofs.Common.{count_by, length-append}
-use Rattle.std.proofs.lemmas.List.Sums.{sum_by_push}
+use Rattle.std.proofs.{Common.{count_by, length-append}, lemmas.List.Sums.sum_by_push}
 use Rattle.mk_laws.proofs.Vocabulary.{Answer, Bool, List, None, Op, Option, Some, ℕ, ap, cond, flagged, length, refl}
 use Rattle.mk_laws.proofs.Vocabulary.{sym, [], ◌++◌, ◌+◌, ◌∙◌, ◌∷◌, ◌≡◌}
-use Rattle.mk_run.proofs.Vocabulary.{IsFedWith, Item, feed, is_refusal}
-use Rattle.mk_run.specs.Scripts.{Script, as_told}
+use Rattle.mk_run.{proofs.Vocabulary.{IsFedWith, Item, feed, is_refusal}, specs.Scripts.{Script, as_told}}
 use Rattle.mk_check.proofs.FeedLaws.{feed_push}
-use Rattle.mk_check.specs.Steps.{numbered}
-use Rattle.mk_check.specs.Blocks.{Blocks, Choice, Done, Line, Rounds}
-use Rattle.mk_check.specs.Feed.{Fed, Scope, note, op_of, run, take_answer, with_answer}
-use Rattle.mk_check.specs.Feeding.{FeedStandsFor, FeedState, script_scope}
+use Rattle.mk_check.specs.{Steps.numbered, Blocks.{Blocks, Choice, Done, Line, Rounds}, Feed.{Fed, Scope, note, op_of}}
+use Rattle.mk_check.specs.{Feed.{run, take_answer, with_answer}, Feeding.{FeedStandsFor, FeedState, script_scope}}
 use Rattle.mk_script.specs.declared.items.Item.TheVariants.{Casp, Getn, Isnull, Same, Show}
 
 -- What is said of an answer does to a script what the answer does.

@@ -1,18 +1,14 @@
 -- The history of a run keeps all promises, and its texts are all that is printed of it.
-use Rattle.std.proofs.Common.{slice_get, take_all}
-use Rattle.std.proofs.lemmas.Bool.Decides.{nat_tests}
+use Rattle.std.proofs.{Common.{slice_get, take_all}, lemmas.Bool.Decides.nat_tests}
 use Rattle.std.specs.List.{flat_map, range_with_len}
 use Rattle.mk_laws.proofs.Vocabulary.{Bool, Caller, Config, Decided, Event, List, Some, ℕ, ap, arith, asked, calls}
 use Rattle.mk_laws.proofs.Vocabulary.{false, length, refl, seat_exists, suc, true, [], ◌++◌, ◌+◌, ◌<◌, ◌==◌, ◌∙◌, ◌∷◌}
-use Rattle.mk_laws.proofs.Vocabulary.{◌≡◌}
-use Rattle.mk_laws.proofs.Promises.{histories_keep_all_promises}
+use Rattle.mk_laws.proofs.{Vocabulary.◌≡◌, Promises.histories_keep_all_promises}
 use Rattle.mk_run.proofs.Vocabulary.{IsRunOf, IsScript, IsWhole, Item, Outcome, Text, answers_in, config_of}
-use Rattle.mk_run.proofs.Vocabulary.{slice_get_within}
-use Rattle.mk_run.proofs.BoundedRuns.{quarantine_of_run_is_bounded}
+use Rattle.mk_run.proofs.{Vocabulary.slice_get_within, BoundedRuns.quarantine_of_run_is_bounded}
 use Rattle.mk_run.proofs.UnsweptHistories.{unswept_is_precise}
 use Rattle.mk_check.proofs.GivenAnswers.{serves}
-use Rattle.mk_check.specs.Laws.{ops_of_caller}
-use Rattle.mk_check.specs.Output.{answers_among, answers_given, ended_calls, text_behind}
+use Rattle.mk_check.specs.{Laws.ops_of_caller, Output.{answers_among, answers_given, ended_calls, text_behind}}
 use Rattle.mk_run.specs.Headline.{RunsPrintTheirTexts, RunsStandInOneHistory, RunsToItsEnd, cycles_go_on}
 use Rattle.mk_heap.specs.Reports as report
 

@@ -2,23 +2,18 @@
 use Rattle.mk_laws.proofs.Vocabulary.{AreEnabledFrom, Config, Event, IsHistory, List, None, Step, Word, World, ℕ, ap}
 use Rattle.mk_laws.proofs.Vocabulary.{arith, earlier_part_is_history, enabled_in_parts, false, inl, inr, is_begin}
 use Rattle.mk_laws.proofs.Vocabulary.{is_close, left, or_from, or_parts, phase_of, refl, subst, sym, true, world_behind}
-use Rattle.mk_laws.proofs.Vocabulary.{[], ◌++◌, ◌∙◌, ◌∷◌, ◌≡◌, ◌≤◌}
-use Rattle.mk_laws.proofs.CyclePhases.{AsksPhase, close_is, moves_phase, phase_behind}
+use Rattle.mk_laws.proofs.{Vocabulary.{[], ◌++◌, ◌∙◌, ◌∷◌, ◌≡◌, ◌≤◌}, CyclePhases.{AsksPhase, close_is, moves_phase}}
+use Rattle.mk_laws.proofs.CyclePhases.{phase_behind}
 use Rattle.mk_run.proofs.Vocabulary.{Has, Lacks, PassState, finish_does, has_step, has_then, history_before}
 use Rattle.mk_run.proofs.Vocabulary.{in_turn_then, is_of_cycles, turn_moves, turn_stays}
-use Rattle.mk_alloc.proofs.CalmStretches.{cycles_in_turn}
-use Rattle.mk_alloc.proofs.ListParts.{SomeKind}
-use Rattle.mk_alloc.proofs.Parts.{made_as}
+use Rattle.mk_alloc.proofs.{CalmStretches.cycles_in_turn, ListParts.SomeKind, Parts.made_as}
 use Rattle.mk_alloc.specs.TurnCycles.{finishes}
-use Rattle.mk_cycle.proofs.Allowed.{in_turn}
-use Rattle.mk_cycle.specs.TurnKeeps.{InTurn}
+use Rattle.mk_cycle.{proofs.Allowed.{in_turn}, specs.TurnKeeps.{InTurn}}
 use Rattle.mk_heap.specs.Ending.{EndsCycle}
 use Rattle.mk_objects.proofs.JoinedLooks.{does_wider}
-use Rattle.mk_turns.proofs.Doing.{does_then}
-use Rattle.mk_turns.specs.Doing.{Does}
+use Rattle.mk_turns.{proofs.Doing.{does_then}, specs.Doing.{Does}}
 use Rattle.mk_waiting.specs.Taking.{TakesTurn}
-use Rattle.mk_words.proofs.TurnSteps.{takes}
-use Rattle.mk_words.specs.Steps.{Makes}
+use Rattle.mk_words.{proofs.TurnSteps.{takes}, specs.Steps.{Makes}}
 
 -- Outside of phases 1 and 2 no cycle is closed before another is begun.
 

@@ -1,22 +1,17 @@
 -- What the host does in a run: it makes no step before the scripts are joined, and then begins the last cycle alone.
-use Rattle.std.proofs.Math.Bool.{cond}
-use Rattle.std.proofs.lemmas.List.Sums.{sum_by-append, sum_by-cons}
+use Rattle.std.proofs.{Math.Bool.cond, lemmas.List.Sums.{sum_by-append, sum_by-cons}}
 use Rattle.mk_laws.proofs.Vocabulary.{AreOfOthers, Bool, Caller, Config, Event, Host, IsHistory, List, Seat, Step, ℕ}
 use Rattle.mk_laws.proofs.Vocabulary.{ap, append_assoc, arith, earlier_part_is_history, enabled_in_parts, false}
 use Rattle.mk_laws.proofs.Vocabulary.{is_begin, left, or_parts, refl, subst, sym, true, [], ◌++◌, ◌+◌, ◌∙◌, ◌∷◌, ◌≡◌}
 use Rattle.mk_run.proofs.Vocabulary.{CallersAreStill, Grows, Has, HasCallers, HostComesLast, HostState, Lacks}
 use Rattle.mk_run.proofs.Vocabulary.{PassState, SaysOver, append_cancel_left, finish_does, finish_in, has_step}
 use Rattle.mk_run.proofs.Vocabulary.{has_then, history_before, in_turn_then, is_of_cycles, others_append, others_none}
-use Rattle.mk_run.proofs.Vocabulary.{others_own, seen_then, turn_moves, turn_stays}
-use Rattle.mk_run.proofs.LastOvers.{Unbegun, idle_unbegun, over_unbegun, unbegun_made, unheld_unbegun}
+use Rattle.mk_run.proofs.{Vocabulary.{others_own, seen_then, turn_moves, turn_stays}, LastOvers.{Unbegun, idle_unbegun}}
+use Rattle.mk_run.proofs.LastOvers.{over_unbegun, unbegun_made, unheld_unbegun}
+use Rattle.mk_alloc.proofs.{CycleParts.{BeginIn, begin_does, begin_in}, CalmStretches.cycles_in_turn}
+use Rattle.mk_heap.{proofs.HomeCallers.{others_hold_none}, specs.{Ending.MakesCycle, Hosts.with_seen}}
+use Rattle.mk_run.specs.{HostTurns.cycles_begun, LastTurns.BeginsAsAsked}
 use Rattle.mk_run.proofs.LastCycles.{begins as begins_in, ends, h_idle, t_ended}
-use Rattle.mk_alloc.proofs.CycleParts.{BeginIn, begin_does, begin_in}
-use Rattle.mk_alloc.proofs.CalmStretches.{cycles_in_turn}
-use Rattle.mk_heap.proofs.HomeCallers.{others_hold_none}
-use Rattle.mk_heap.specs.Ending.{MakesCycle}
-use Rattle.mk_heap.specs.Hosts.{with_seen}
-use Rattle.mk_run.specs.HostTurns.{cycles_begun}
-use Rattle.mk_run.specs.LastTurns.{BeginsAsAsked}
 
 -- Before the scripts are joined the host makes no step.
 

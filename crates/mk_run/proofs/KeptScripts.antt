@@ -5,15 +5,11 @@ use Rattle.mk_laws.proofs.Vocabulary.{is_open_to, left, length, ltb-true, refl, 
 use Rattle.mk_laws.proofs.Vocabulary.{true≢false, [], ◌++◌, ◌+◌, ◌∙◌, ◌∷◌, ◌≡◌, ◌≤◌}
 use Rattle.mk_run.proofs.Vocabulary.{CallerState, EachIsBegun, Grows, Has, IsFirstPass, IsScript, IsWhole, Item}
 use Rattle.mk_run.proofs.Vocabulary.{PassState, StaysBeside, WordsState, at_home, config_of, has_first, script_names}
-use Rattle.mk_run.proofs.Vocabulary.{⊎_elim}
-use Rattle.mk_run.proofs.JoinedScripts.{same_or_later}
-use Rattle.mk_run.proofs.UnsweptHistories.{markers_sweep, none_sweeps}
+use Rattle.mk_run.proofs.{Vocabulary.⊎_elim, JoinedScripts.same_or_later, UnsweptHistories.{markers_sweep, none_sweeps}}
 use Rattle.mk_core.specs.History.{AreEnabledFrom}
 use Rattle.mk_cycle.proofs.Begun.{HaveNoBegin, begun_append, kinds_begin_none, others_begin_none}
 use Rattle.mk_cycle.specs.Begun.{AreBegunFirst, CyclesAreBegun, IsBegunFirst}
-use Rattle.mk_run.specs.Keeping.{PassKeeps, ScriptsKeep, SeatKeeps}
-use Rattle.mk_run.specs.Scripts.{is_beside_turns}
-use Rattle.mk_run.specs.Unswept.{IsUnswept}
+use Rattle.mk_run.specs.{Keeping.{PassKeeps, ScriptsKeep, SeatKeeps}, Scripts.is_beside_turns, Unswept.IsUnswept}
 use Rattle.mk_turns.specs.Sweeping.{SweepsNothingFrom}
 use Rattle.mk_run.proofs.UnsweptScripts.{first_sweeps, others_on as others_sweep_on, seat_on as seat_sweeps_on}
 

@@ -5,24 +5,18 @@ use Rattle.mk_laws.proofs.Vocabulary.{Step, TurnOf, World, ℕ, ap, append-nil, 
 use Rattle.mk_laws.proofs.Vocabulary.{is_close, left, refl, subst, sym, [], ◌++◌, ◌<◌, ◌∙◌, ◌∷◌, ◌≡◌}
 use Rattle.mk_run.proofs.Vocabulary.{Has, HasCallers, Lacks, PassState, append_cancel_left, finish_does, finish_in}
 use Rattle.mk_run.proofs.Vocabulary.{has_then, history_before, in_turn_then, others_append, others_none, turn_moves}
-use Rattle.mk_run.proofs.Vocabulary.{turn_stays}
-use Rattle.mk_run.proofs.HostTurnParts.{before_made, behind_first, closes_no_more, finish_stays, idle_own, idle_turn}
-use Rattle.mk_run.proofs.HostTurnParts.{stays, to_idle, unfinished_unclosed}
+use Rattle.mk_run.proofs.{Vocabulary.turn_stays, HostTurnParts.{before_made, behind_first, closes_no_more}}
+use Rattle.mk_run.proofs.HostTurnParts.{finish_stays, idle_own, idle_turn, stays, to_idle, unfinished_unclosed}
 use Rattle.mk_core.specs.Growing.{is_same_seat}
 use Rattle.mk_alloc.proofs.CycleParts.{BeginIn, FinishIn, begin_does, begin_in, begins_held}
 use Rattle.mk_alloc.proofs.ListParts.{IsAt, lacks_append, lacks_first, lacks_second, only_at}
 use Rattle.mk_alloc.proofs.OwnGives.{GivesNone, doing_gives, gives_append, others_give}
-use Rattle.mk_alloc.proofs.Parts.{others_lack, seen_behind}
-use Rattle.mk_alloc.specs.TurnCycles.{finishes, within_turn}
-use Rattle.mk_cycle.specs.TurnKeeps.{InTurn}
-use Rattle.mk_heap.proofs.MovedHosts.{MovesOn, moves_does, moves_more}
-use Rattle.mk_cycle.specs.Telling.{IsToldAtClose}
-use Rattle.mk_heap.specs.Ending.{MakesCycle}
+use Rattle.mk_alloc.{proofs.Parts.{others_lack, seen_behind}, specs.TurnCycles.{finishes, within_turn}}
+use Rattle.mk_cycle.specs.{TurnKeeps.InTurn, Telling.IsToldAtClose}
+use Rattle.mk_heap.{proofs.MovedHosts.{MovesOn, moves_does, moves_more}, specs.Ending.{MakesCycle}}
 use Rattle.mk_run.specs.LastCycle.{MakesLastCycle, give_of}
-use Rattle.mk_turns.proofs.Doing.{does_then}
-use Rattle.mk_turns.specs.Doing.{Does}
-use Rattle.mk_words.proofs.TurnSteps.{takes}
-use Rattle.mk_words.specs.States.{event_of}
+use Rattle.mk_turns.{proofs.Doing.{does_then}, specs.Doing.{Does}}
+use Rattle.mk_words.{proofs.TurnSteps.{takes}, specs.States.{event_of}}
 
 module _ (p q : PassState) (m : MakesCycle p q) (own : Has p.seats p.seat) (history : IsHistory q.table.config q.seen)
   where
@@ -227,8 +221,8 @@ module _ (p q : PassState) (m : MakesCycle p q) (own : Has p.seats p.seat) (hist
 
     ended_config : begun.table.config ≡ p.table.config
     ended_config =
-      ap (λ (r : PassState). r.table.config) d_begun.is ∙ ap (λ (r : PassState). r.table.config) d_idle.is
-      ∙ ap (λ (r : PassState). r.table.config) taken_moves.is
+        ap (λ (r : PassState). r.table.config) d_begun.is ∙ ap (λ (r : PassState). r.table.config) d_idle.is
+        ∙ ap (λ (r : PassState). r.table.config) taken_moves.is
 
     finished_closes_none : Lacks is_close finished
     finished_closes_none =

@@ -2,29 +2,21 @@
 use Rattle.mk_laws.proofs.Vocabulary.{AreOfOthers, Caller, Config, Event, Host, IsHistory, List, None, Seat, Step, Word}
 use Rattle.mk_laws.proofs.Vocabulary.{World, ℕ, ap, append_assoc, before_close, earlier_part_is_history}
 use Rattle.mk_laws.proofs.Vocabulary.{enabled_in_parts, false, inl, inr, is_begin, left, list_any, or_from, or_parts}
-use Rattle.mk_laws.proofs.Vocabulary.{refl, subst, sym, true, [], ◌++◌, ◌<◌, ◌∙◌, ◌∷◌, ◌≡◌}
-use Rattle.mk_laws.proofs.Actors.{is_holders}
+use Rattle.mk_laws.proofs.{Vocabulary.{refl, subst, sym, true, [], ◌++◌, ◌<◌, ◌∙◌, ◌∷◌, ◌≡◌}, Actors.is_holders}
 use Rattle.mk_run.proofs.Vocabulary.{Has, HasCallers, IsWhole, Lacks, PassState, SaysOver, TakesLastTurns, WordsState}
 use Rattle.mk_run.proofs.Vocabulary.{append_cancel_left, finish_does, finish_in, has_step, has_then, history_before}
 use Rattle.mk_run.proofs.Vocabulary.{in_turn_then, is_of_cycles, others_append, others_own, seen_then, turn_moves}
-use Rattle.mk_run.proofs.Vocabulary.{turn_stays}
-use Rattle.mk_run.proofs.HostTurnParts.{before_made, idle_turn, stays, taken_history, taken_turn}
-use Rattle.mk_run.proofs.LastCycles.{last_cycle}
-use Rattle.mk_run.proofs.LastTurns.{cycle_moves, over_moves, still_behind_over}
-use Rattle.mk_alloc.proofs.Parts.{made_as, others_lack, seen_made}
-use Rattle.mk_alloc.proofs.CycleParts.{begins_held}
-use Rattle.mk_alloc.proofs.ListParts.{lacks_append, lacks_one}
-use Rattle.mk_alloc.specs.TurnCycles.{within_turn}
+use Rattle.mk_run.proofs.{Vocabulary.turn_stays, HostTurnParts.{before_made, idle_turn, stays, taken_history}}
+use Rattle.mk_run.proofs.{HostTurnParts.taken_turn, LastCycles.last_cycle, LastTurns.{cycle_moves, over_moves}}
+use Rattle.mk_run.{proofs.LastTurns.{still_behind_over}, specs.LastCycle.{EndsWithCycle, MakesLastCycle}}
+use Rattle.mk_alloc.proofs.{Parts.{made_as, others_lack, seen_made}, CycleParts.begins_held}
+use Rattle.mk_alloc.{proofs.ListParts.{lacks_append, lacks_one}, specs.TurnCycles.{within_turn}}
 use Rattle.mk_cycle.specs.TurnKeeps.{InTurn}
 use Rattle.mk_heap.proofs.HomeCallers.{HoldersStepNone, others_hold_none, waiting_holds_none}
-use Rattle.mk_heap.specs.Ending.{EndsCycle}
-use Rattle.mk_heap.specs.declared.reports.Report.{Report}
-use Rattle.mk_run.specs.LastCycle.{EndsWithCycle, MakesLastCycle}
+use Rattle.mk_heap.specs.{Ending.EndsCycle, declared.reports.Report.Report}
 use Rattle.mk_turns.specs.Doing.{Does}
-use Rattle.mk_waiting.proofs.Waiting.{waits_more}
-use Rattle.mk_waiting.specs.Taking.{TakesTurn, Waits}
-use Rattle.mk_words.specs.States.{event_of}
-use Rattle.mk_words.specs.Steps.{Makes}
+use Rattle.mk_waiting.{proofs.Waiting.{waits_more}, specs.Taking.{TakesTurn, Waits}}
+use Rattle.mk_words.specs.{States.event_of, Steps.Makes}
 use Rattle.mk_heap.specs.Reports as report
 
 -- From what the one pass had seen to what the other has seen no cycle is begun.

@@ -5,8 +5,7 @@ use Rattle.mk_run.proofs.Vocabulary.{CallersAreStill, Grows, Has, HasCallers, Ho
 use Rattle.mk_run.proofs.Vocabulary.{TakesLastTurns, WordsState, has_left, others_append, others_none, with_joined}
 use Rattle.mk_core.specs.Growing.{is_same_seat}
 use Rattle.mk_heap.proofs.MovedHosts.{MovesOn, begin_moves, finish_moves, idle_moves, moves_more}
-use Rattle.mk_heap.specs.Ending.{MakesCycle, MakesToldCycle}
-use Rattle.mk_heap.specs.Hosts.{with_seen}
+use Rattle.mk_heap.specs.{Ending.{MakesCycle, MakesToldCycle}, Hosts.with_seen}
 use Rattle.mk_words.proofs.Seats.{others_fewer}
 
 -- The host's own seat is home.

@@ -1,20 +1,14 @@
 -- Markers beside the scripts: their passes, and the host that joins them.
-use Rattle.std.proofs.lemmas.List.{get_or-replicate}
-use Rattle.std.proofs.lemmas.Result.{IfOk-weaker}
+use Rattle.std.proofs.{lemmas.List.get_or-replicate, lemmas.Result.IfOk-weaker}
 use Rattle.mk_laws.proofs.Vocabulary.{Bool, Caller, Config, Host, IsHistory, List, Marker, Seat, ℕ, ap, arith, left}
 use Rattle.mk_laws.proofs.Vocabulary.{marker_at, outside, subst, sym, true, [], ◌++◌, ◌+◌, ◌<◌, ◌∙◌, ◌∷◌, ◌≡◌, ◌≤◌}
 use Rattle.mk_run.proofs.Vocabulary.{AreTextsFrom, CallersAreStill, Grows, Has, HasJoined, HasMade, HostState, IfOk}
 use Rattle.mk_run.proofs.Vocabulary.{IsOver, Item, PassState, WordsState, config_of, has_first, has_left, with_joined}
-use Rattle.mk_run.proofs.Vocabulary.{⊎_elim}
-use Rattle.mk_run.proofs.WholeRuns.{all_callers_home, still_joined, still_texts}
-use Rattle.mk_run.proofs.HostTurns.{still_last}
-use Rattle.mk_run.proofs.JoinedScripts.{same_or_later}
-use Rattle.mk_run.proofs.LaterLists.{of_one}
-use Rattle.mk_core.specs.History.{left_from}
-use Rattle.mk_core.specs.MarkerConditions.{is_out}
+use Rattle.mk_run.proofs.{Vocabulary.⊎_elim, WholeRuns.{all_callers_home, still_joined, still_texts}}
+use Rattle.mk_run.proofs.{HostTurns.still_last, JoinedScripts.same_or_later, LaterLists.of_one}
+use Rattle.mk_core.specs.{History.left_from, MarkerConditions.is_out}
 use Rattle.mk_heap.specs.Hosts.{pass_for, with_marker_made}
-use Rattle.mk_run.specs.Marking.{IsMarkersPass}
-use Rattle.mk_run.specs.declared.joining.Joined.{Joined}
+use Rattle.mk_run.specs.{Marking.IsMarkersPass, declared.joining.Joined.Joined}
 use Rattle.mk_words.proofs.Seats.{has_right, without_keeps}
 
 -- A marker that has done nothing is out.

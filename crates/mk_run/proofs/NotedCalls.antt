@@ -3,11 +3,8 @@ use Rattle.mk_laws.proofs.Vocabulary.{Answer, Bool, Config, Decided, Event, IsAd
 use Rattle.mk_laws.proofs.Vocabulary.{ap, arith, asked, calls, entry_of, false, if◌then◌else◌, length, map, map-append}
 use Rattle.mk_laws.proofs.Vocabulary.{never_behind, refl, subst, sym, true, [], ◌++◌, ◌==◌, ◌∙◌, ◌∷◌, ◌≡◌, ◌≤◌}
 use Rattle.mk_run.proofs.Vocabulary.{IsChecked, IsScript, Item, calls_by, config_of, next_op, script_names}
-use Rattle.mk_check.proofs.AdmittedScripts.{next_is_admitted}
-use Rattle.mk_check.proofs.FeedLaws.{ops-feed_push}
-use Rattle.mk_check.specs.Declarations.{globals_of}
-use Rattle.mk_check.specs.Laws.{AreNotedBy, ops_of_caller}
-use Rattle.mk_check.specs.Output.{answers_among}
+use Rattle.mk_check.proofs.{AdmittedScripts.next_is_admitted, FeedLaws.ops-feed_push}
+use Rattle.mk_check.specs.{Declarations.globals_of, Laws.{AreNotedBy, ops_of_caller}, Output.answers_among}
 
 abbrev answers_to : List Decided → List Answer
 answers_to xs = map (λ (x : Decided). x.answer) xs

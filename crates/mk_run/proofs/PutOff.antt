@@ -2,10 +2,8 @@
 use Rattle.mk_laws.proofs.Vocabulary.{Answer, Bool, Config, Event, List, Op, Seat, false, is_under_turn, refl, subst}
 use Rattle.mk_laws.proofs.Vocabulary.{sym, true, true≢false, ◌∙◌, ◌≡◌}
 use Rattle.mk_run.proofs.Vocabulary.{Answers, CallerState, EachIsBegun, FindsGateHeld, IsAdmittedByOwnCalls, PassState}
-use Rattle.mk_run.proofs.Vocabulary.{StaysBeside, SweepsNothing, begun_then, sweeps_then}
-use Rattle.mk_run.proofs.KeptScripts.{beside_begun}
-use Rattle.mk_run.proofs.ScriptCalls.{makes_none, none_then_answers, stays_admitted_after}
-use Rattle.mk_run.specs.Scripts.{IsPutOff}
+use Rattle.mk_run.proofs.{Vocabulary.{StaysBeside, SweepsNothing, begun_then, sweeps_then}, KeptScripts.beside_begun}
+use Rattle.mk_run.{proofs.ScriptCalls.{makes_none, none_then_answers, stays_admitted_after}, specs.Scripts.{IsPutOff}}
 
 pub turn_put_off : (p : PassState) (o : Op) → is_under_turn o ≡ true → IsPutOff p o p
 turn_put_off p o under = record {

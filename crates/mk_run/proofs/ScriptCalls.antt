@@ -1,23 +1,18 @@
 -- A script's caller makes one call more, or finds its gate held, and what is known then.
-use Rattle.std.proofs.Common.{length-append}
-use Rattle.std.proofs.lemmas.List.Sums.{count_by-le-length}
+use Rattle.std.proofs.{Common.length-append, lemmas.List.Sums.count_by-le-length}
 use Rattle.mk_laws.proofs.Vocabulary.{Answer, Bool, Caller, Config, Decided, Event, IsAdmitted, IsHistory, List, Op}
 use Rattle.mk_laws.proofs.Vocabulary.{Seat, Some, ℕ, ap, arith, asked, caller_number, calls, entry_of, false, flagged}
 use Rattle.mk_laws.proofs.Vocabulary.{is_under_turn, length, never_behind, refl, subst, sym, true, true≢false, [], ◌++◌}
 use Rattle.mk_laws.proofs.Vocabulary.{◌+◌, ◌<◌, ◌∙◌, ◌∷◌, ◌≡◌, ◌≤◌}
 use Rattle.mk_run.proofs.Vocabulary.{Answers, FindsGateHeld, FollowsScript, Has, IsAdmittedByOwnCalls, IsChecked}
 use Rattle.mk_run.proofs.Vocabulary.{IsFedWith, IsScript, Item, PassState, WordsState, answers_in, calls_by, config_of}
-use Rattle.mk_run.proofs.Vocabulary.{is_refusal, next_op}
-use Rattle.mk_run.proofs.BesideTurns.{beside_then, called_beside, held_beside}
+use Rattle.mk_run.proofs.{Vocabulary.{is_refusal, next_op}, BesideTurns.{beside_then, called_beside, held_beside}}
 use Rattle.mk_run.proofs.NotedCalls.{next_admitted, one_answer_more, one_more_noted, same_answers, still_noted}
 use Rattle.mk_run.proofs.FedScripts.{fed_as_told}
 use Rattle.mk_never.proofs.Later.{calls_stay}
 use Rattle.mk_alloc.proofs.ExactTurns.{stay_exact_behind_calls, stay_exact_behind_turns, stay_exact_where_held}
-use Rattle.mk_alloc.specs.Laws.{OwnAreExact}
-use Rattle.mk_alloc.specs.TurnCalls.{CalledInTurn}
-use Rattle.mk_alloc.specs.TurnCycles.{TurnsOfAreExact}
-use Rattle.mk_caller.specs.Called.{own_calls}
-use Rattle.mk_caller.specs.States.{Admits, IsIdleCaller, caller_of_pass}
+use Rattle.mk_alloc.specs.{Laws.OwnAreExact, TurnCalls.CalledInTurn, TurnCycles.TurnsOfAreExact}
+use Rattle.mk_caller.specs.{Called.own_calls, States.{Admits, IsIdleCaller, caller_of_pass}}
 use Rattle.mk_check.specs.Laws.{AreNotedBy}
 use Rattle.mk_run.specs.Scripts.{IsCalled, IsRunning, MakesNoCall, Script, ScriptTakesAnswer, as_told, unflagged}
 use Rattle.mk_words.proofs.Made.{own_before}

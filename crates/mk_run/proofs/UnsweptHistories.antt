@@ -3,13 +3,10 @@ use Rattle.mk_laws.proofs.Vocabulary.{Config, Event, List, Marker, Marking, Seat
 use Rattle.mk_laws.proofs.Vocabulary.{first_world, flight_of, group_of, is_open_to, left, refl, seat_exists, subst, sym}
 use Rattle.mk_laws.proofs.Vocabulary.{through, true, world_behind, [], ◌++◌, ◌∙◌, ◌∷◌, ◌≡◌}
 use Rattle.mk_core.proofs.Conditions.{enabled_events_meet_all}
-use Rattle.mk_core.specs.Cycles.{NoneSweeps, NoneSweepsFrom}
-use Rattle.mk_core.specs.History.{AreEnabledFrom, left_from}
-use Rattle.mk_laws.specs.Precision.{CyclesArePrecise}
-use Rattle.mk_laws.specs.Promises.{KeepsAllPromises}
+use Rattle.mk_core.specs.{Cycles.{NoneSweeps, NoneSweepsFrom}, History.{AreEnabledFrom, left_from}}
+use Rattle.mk_laws.specs.{Precision.CyclesArePrecise, Promises.KeepsAllPromises}
 use Rattle.mk_run.specs.Unswept.{IsUnswept}
-use Rattle.mk_turns.proofs.Sweeping.{other_steps_sweep}
-use Rattle.mk_turns.specs.Sweeping.{SweepsNothingFrom, is_mark}
+use Rattle.mk_turns.{proofs.Sweeping.{other_steps_sweep}, specs.Sweeping.{SweepsNothingFrom, is_mark}}
 use Rattle.mk_words.proofs.Seats.{same_seat, same_self}
 
 -- A marker makes none: its marks are of a kind of their own.

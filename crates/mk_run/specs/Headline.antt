@@ -1,27 +1,16 @@
 -- What is promised of the scripts of a program that ran.
-use Rattle.std.specs.Prelude.{◌≡◌, ℕ, Bool, true, false, List, length, nat_lt}
-use Rattle.std.specs.List.{flat_map}
-use Rattle.mk_core.specs.declared.config.Config.{Config}
-use Rattle.mk_core.specs.declared.events.Answer.{Answer}
-use Rattle.mk_core.specs.declared.events.Event.{Event}
-use Rattle.mk_core.specs.declared.events.Seat.TheVariants.{Caller}
-use Rattle.mk_core.specs.Decided.{asked}
-use Rattle.mk_core.specs.History.{calls}
+use Rattle.std.specs.{Prelude.{◌≡◌, ℕ, Bool, true, false, List, length, nat_lt}, List.flat_map}
+use Rattle.mk_core.specs.{declared.config.Config.Config, declared.events.Answer.Answer, declared.events.Event.Event}
+use Rattle.mk_core.specs.{declared.events.Seat.TheVariants.Caller, Decided.asked, History.calls}
 use Rattle.mk_script.specs.declared.items.Item.{Item}
-use Rattle.mk_check.specs.Declarations.{config_of}
-use Rattle.mk_check.specs.Feed.{feed, has_ended}
-use Rattle.mk_check.specs.Laws.{AreNotedBy, IsScript}
-use Rattle.mk_check.specs.Output.{output}
+use Rattle.mk_check.specs.{Declarations.config_of, Feed.{feed, has_ended}, Laws.{AreNotedBy, IsScript}, Output.output}
 use Rattle.mk_check.specs.declared.text.Text.{Text}
 use Rattle.mk_heap.specs.Reports.{IsWhole}
 use Rattle.mk_engines.specs.Roots.{CyclesMarkRootsFirst}
 use Rattle.mk_alloc.specs.TurnCycles.{TurnsOfAreExact}
-use Rattle.mk_laws.specs.Precision.{CyclesArePrecise}
-use Rattle.mk_laws.specs.Promises.{KeepsAllPromises}
+use Rattle.mk_laws.specs.{Precision.CyclesArePrecise, Promises.KeepsAllPromises}
 use Rattle.mk_quarantine.specs.Bounds.{QuarantineIsBounded}
-use Rattle.mk_run.specs.declared.outcomes.Outcome.{Outcome}
-use Rattle.mk_run.specs.HostTurns.{HostComesLast}
-use Rattle.mk_run.specs.Running.{answers_in, IsRunOf}
+use Rattle.mk_run.specs.{declared.outcomes.Outcome.Outcome, HostTurns.HostComesLast, Running.{answers_in, IsRunOf}}
 use Rattle.mk_run.specs.Unswept.{IsUnswept}
 use Rattle.mk_heap.specs.Reports as report
 

@@ -1,9 +1,7 @@
 -- What the host does in the history of a run: nothing before the last step of every script, and then one cycle of its
 -- own where it is asked for, and else none.
 use Rattle.std.specs.Prelude.{◌≡◌, ℕ, ◌<◌, Bool, true, false, List, [], ◌∷◌, ◌++◌, count_by}
-use Rattle.mk_core.specs.declared.events.Event.{Event}
-use Rattle.mk_core.specs.declared.events.Seat.TheVariants.{Caller, Host}
-use Rattle.mk_core.specs.Cycles.{is_begin}
+use Rattle.mk_core.specs.{declared.events.Event.Event, declared.events.Seat.TheVariants.{Caller, Host}, Cycles.is_begin}
 use Rattle.mk_core.specs.Growing.{AreOfOthers}
 
 -- how many cycles are begun in a list

@@ -1,20 +1,14 @@
 -- Scripts on threads of their own: what each hands back, and the host that has joined some of them.
 -- Private functions alone cite these words.
 use Rattle.std.specs.Prelude.{◌≡◌, ℕ, ◌+◌, ◌≤◌, Bool, false, List, [], ◌∷◌, length, slice_get, Some, IfOk}
-use Rattle.mk_core.specs.declared.events.Event.{Event}
-use Rattle.mk_core.specs.declared.events.Seat.TheVariants.{Caller, Host}
-use Rattle.mk_core.specs.declared.config.Config.{Config}
-use Rattle.mk_core.specs.Growing.{AreOfOthers}
-use Rattle.mk_words.specs.Seats.{Has, has_over}
-use Rattle.mk_words.specs.States.{WordsState, PassState}
+use Rattle.mk_core.specs.{declared.events.Event.Event, declared.events.Seat.TheVariants.{Caller, Host}}
+use Rattle.mk_core.specs.{declared.config.Config.Config, Growing.AreOfOthers}
+use Rattle.mk_words.specs.{Seats.{Has, has_over}, States.{WordsState, PassState}}
 use Rattle.mk_caller.specs.States.{IsIdleCaller}
 use Rattle.mk_heap.specs.Hosts.{HostState}
-use Rattle.mk_script.specs.declared.items.Item.{Item}
-use Rattle.mk_script.specs.Scopes.{script_names}
-use Rattle.mk_check.specs.Laws.{IsScript}
-use Rattle.mk_check.specs.declared.text.Text.{Text}
-use Rattle.mk_run.specs.Running.{FollowsScript, EndsScript, IsTextOf}
-use Rattle.mk_run.specs.declared.joining.Ran.{Ran}
+use Rattle.mk_script.specs.{declared.items.Item.Item, Scopes.script_names}
+use Rattle.mk_check.specs.{Laws.IsScript, declared.text.Text.Text}
+use Rattle.mk_run.specs.{Running.{FollowsScript, EndsScript, IsTextOf}, declared.joining.Ran.Ran}
 use Rattle.mk_run.specs.declared.joining.Joined.{Joined}
 
 -- The pass of script k's caller, before its first call.

@@ -1,9 +1,7 @@
 -- What an engine keeps to, in the steps of a seat: where it doesn't sweep it makes no sweeping mark, and after each
 -- `begin` it does its part. Up to the whole run. Private functions alone cite these words.
 use Rattle.std.specs.Prelude.{◌≡◌, ◌≤◌, ℕ, Bool, false, List, []}
-use Rattle.mk_core.specs.declared.config.Config.{Config}
-use Rattle.mk_core.specs.declared.events.Event.{Event}
-use Rattle.mk_core.specs.declared.events.Seat.{Seat}
+use Rattle.mk_core.specs.{declared.config.Config.Config, declared.events.Event.Event, declared.events.Seat.Seat}
 use Rattle.mk_core.specs.declared.events.Seat.TheVariants.{Caller, Host}
 use Rattle.mk_words.specs.States.{PassState}
 use Rattle.mk_turns.specs.Sweeping.{SweepsNothing}

@@ -1,12 +1,8 @@
 -- The last cycle of a run: the host makes it in one turn of its own, when all scripts have ended.
 use Rattle.std.specs.Prelude.{◌≡◌, ℕ, ◌<◌, false, List, [], ◌∷◌, ◌++◌}
-use Rattle.mk_core.specs.declared.config.Config.{Config}
-use Rattle.mk_core.specs.declared.events.Event.{Event}
-use Rattle.mk_core.specs.declared.events.Seat.{Seat}
-use Rattle.mk_core.specs.declared.events.Seat.TheVariants.{Caller, Host}
-use Rattle.mk_core.specs.Cycles.{TurnOf, BeginsAndEndsIn, before_close, is_close}
-use Rattle.mk_core.specs.Growing.{AreOfOthers}
-use Rattle.mk_core.specs.History.{World, left}
+use Rattle.mk_core.specs.{declared.config.Config.Config, declared.events.Event.Event, declared.events.Seat.Seat}
+use Rattle.mk_core.specs.{declared.events.Seat.TheVariants.{Caller, Host}, Cycles.{TurnOf, BeginsAndEndsIn}}
+use Rattle.mk_core.specs.{Cycles.{before_close, is_close}, Growing.AreOfOthers, History.{World, left}}
 use Rattle.mk_alloc.specs.TurnCycles.{has_step, within_turn}
 use Rattle.mk_core.specs.declared.events.Step.TheVariants as step
 

@@ -1,17 +1,10 @@
 -- The host's last turns, when the scripts are joined. Private functions alone cite these words.
 use Rattle.std.specs.Prelude.{◌≡◌, ℕ, Bool, false, List, [], ◌∷◌, ◌++◌}
-use Rattle.mk_core.specs.declared.config.Config.{Config}
-use Rattle.mk_core.specs.declared.events.Event.{Event}
-use Rattle.mk_core.specs.declared.events.Seat.{Seat}
-use Rattle.mk_core.specs.declared.events.Seat.TheVariants.{Caller, Host}
-use Rattle.mk_core.specs.Growing.{Grows}
-use Rattle.mk_core.specs.History.{World}
-use Rattle.mk_words.specs.Seats.{Has, HasCallers, has_over}
-use Rattle.mk_words.specs.States.{WordsState, PassState}
-use Rattle.mk_heap.specs.Ending.{CallersAreJoined, MakesToldCycle, SaysOver}
-use Rattle.mk_heap.specs.Hosts.{HostState, with_seen}
-use Rattle.mk_run.specs.HostTurns.{cycles_begun, cycles_asked}
-use Rattle.mk_run.specs.Keeping.{PassKeeps}
+use Rattle.mk_core.specs.{declared.config.Config.Config, declared.events.Event.Event, declared.events.Seat.Seat}
+use Rattle.mk_core.specs.{declared.events.Seat.TheVariants.{Caller, Host}, Growing.Grows, History.World}
+use Rattle.mk_words.specs.{Seats.{Has, HasCallers, has_over}, States.{WordsState, PassState}}
+use Rattle.mk_heap.specs.{Ending.{CallersAreJoined, MakesToldCycle, SaysOver}, Hosts.{HostState, with_seen}}
+use Rattle.mk_run.specs.{HostTurns.{cycles_begun, cycles_asked}, Keeping.PassKeeps}
 
 -- The host's seat is home and so are those of all callers, and it has not said that all is over.
 pub record HasAllHome (w : WordsState) (h : HostState) : Type 0 where

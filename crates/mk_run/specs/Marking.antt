@@ -1,13 +1,10 @@
 -- Markers on threads of their own, beside the scripts.
 use Rattle.std.specs.Prelude.{◌≡◌, ℕ, ◌<◌, ◌≤◌, Bool, List, [], ◌∷◌, IfOk}
 use Rattle.mk_core.specs.declared.events.Seat.TheVariants.{Marker, Host}
-use Rattle.mk_words.specs.Seats.{Has}
-use Rattle.mk_words.specs.States.{WordsState, PassState}
+use Rattle.mk_words.specs.{Seats.Has, States.{WordsState, PassState}}
 use Rattle.mk_marker.specs.Markers.{IsOut}
 use Rattle.mk_script.specs.declared.items.Item.{Item}
-use Rattle.mk_run.specs.HostTurns.{HostComesLast}
-use Rattle.mk_run.specs.Joining.{HasJoined, AreTextsFrom}
-use Rattle.mk_run.specs.declared.joining.Joined.{Joined}
+use Rattle.mk_run.specs.{HostTurns.HostComesLast, Joining.{HasJoined, AreTextsFrom}, declared.joining.Joined.Joined}
 
 -- The pass of a marker that is out.
 pub record IsMarkersPass (w : WordsState) (j : ℕ) (p : PassState) : Type 0 where

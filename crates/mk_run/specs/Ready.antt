@@ -3,8 +3,7 @@ use Rattle.std.specs.Prelude.{◌≡◌, ℕ, ◌+◌, List, [], length, slice_g
 use Rattle.mk_core.specs.declared.config.Config.{Config}
 use Rattle.mk_script.specs.declared.items.Item.{Item}
 use Rattle.mk_check.specs.Feeding.{FeedStandsFor}
-use Rattle.mk_run.specs.declared.ready.ReadyScript.{ReadyScript}
-use Rattle.mk_run.specs.declared.ready.ReadyRun.{ReadyRun}
+use Rattle.mk_run.specs.{declared.ready.ReadyScript.ReadyScript, declared.ready.ReadyRun.ReadyRun}
 
 -- It is script k, which has no answer yet, with an engine made for so many pages.
 pub record IsReadyScript {E : Type 0} (made_for : E → ℕ) (program : List Item) (pages k : ℕ) (ready : ReadyScript E)

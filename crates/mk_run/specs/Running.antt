@@ -1,22 +1,13 @@
 -- What a run of a program's scripts is, in the history of its heap.
 use Rattle.std.specs.Prelude.{◌≡◌, ℕ, Bool, true, List, length, count_by, slice_get, Some}
-use Rattle.mk_core.specs.declared.config.Config.{Config}
-use Rattle.mk_core.specs.declared.events.Answer.{Answer}
-use Rattle.mk_core.specs.declared.events.Event.{Event}
-use Rattle.mk_core.specs.declared.events.Seat.TheVariants.{Caller}
-use Rattle.mk_core.specs.Decided.{asked}
-use Rattle.mk_core.specs.History.{calls}
-use Rattle.mk_script.specs.declared.items.Item.{Item}
-use Rattle.mk_script.specs.Scopes.{script_names}
-use Rattle.mk_check.specs.Declarations.{config_of}
-use Rattle.mk_check.specs.Feed.{feed, has_ended, is_refusal}
-use Rattle.mk_check.specs.Laws.{AreNotedBy, IsScript}
-use Rattle.mk_check.specs.Output.{answers_among}
-use Rattle.mk_check.specs.declared.text.Text.{Text}
+use Rattle.mk_core.specs.{declared.config.Config.Config, declared.events.Answer.Answer, declared.events.Event.Event}
+use Rattle.mk_core.specs.{declared.events.Seat.TheVariants.Caller, Decided.asked, History.calls}
+use Rattle.mk_script.specs.{declared.items.Item.Item, Scopes.script_names}
+use Rattle.mk_check.specs.{Declarations.config_of, Feed.{feed, has_ended, is_refusal}, Laws.{AreNotedBy, IsScript}}
+use Rattle.mk_check.specs.{Output.answers_among, declared.text.Text.Text}
 use Rattle.mk_heap.specs.Reports.{IsWhole, HasCounts}
 use Rattle.mk_alloc.specs.TurnCycles.{TurnsOfAreExact}
-use Rattle.mk_run.specs.declared.outcomes.Outcome.{Outcome}
-use Rattle.mk_run.specs.HostTurns.{HostComesLast}
+use Rattle.mk_run.specs.{declared.outcomes.Outcome.Outcome, HostTurns.HostComesLast}
 use Rattle.mk_heap.specs.Reports as report
 
 -- the answers of caller k's calls of a history

@@ -1,26 +1,16 @@
 -- A script under way: the calls that it has its caller make, and what it keeps of them.
 use Rattle.std.specs.Prelude.{◌≡◌, ℕ, ◌<◌, ◌≤◌, Bool, true, false, List, [], ◌∷◌, ◌++◌, length, count_by, Some}
 use Rattle.mk_never.specs.declared.operations.Op.{Op}
-use Rattle.mk_core.specs.declared.events.Answer.{Answer}
-use Rattle.mk_core.specs.declared.events.Event.{Event}
-use Rattle.mk_core.specs.declared.events.Group.{Group}
-use Rattle.mk_core.specs.declared.events.Step.{Step}
-use Rattle.mk_core.specs.Calls.{is_under_turn}
-use Rattle.mk_core.specs.Decided.{entry_of}
-use Rattle.mk_core.specs.History.{IsHistory}
+use Rattle.mk_core.specs.{declared.events.Answer.Answer, declared.events.Event.Event, declared.events.Group.Group}
+use Rattle.mk_core.specs.{declared.events.Step.Step, Calls.is_under_turn, Decided.entry_of, History.IsHistory}
 use Rattle.mk_core.specs.Order.{group_of}
 use Rattle.mk_turns.specs.Doing.{are_of, done_in}
 use Rattle.mk_words.specs.States.{PassState}
-use Rattle.mk_caller.specs.States.{caller_of_pass, Admits}
-use Rattle.mk_caller.specs.Called.{own_calls, Called}
-use Rattle.mk_caller.specs.Causes.{FindsGateHeld}
-use Rattle.mk_alloc.specs.Laws.{OwnAreExact}
-use Rattle.mk_alloc.specs.TurnCalls.{CalledInTurn}
+use Rattle.mk_caller.specs.{States.{caller_of_pass, Admits}, Called.{own_calls, Called}, Causes.FindsGateHeld}
+use Rattle.mk_alloc.specs.{Laws.OwnAreExact, TurnCalls.CalledInTurn}
 use Rattle.mk_script.specs.declared.items.Item.{Item}
-use Rattle.mk_check.specs.Feed.{is_refusal}
-use Rattle.mk_check.specs.Feeding.{FeedState, FeedStandsFor, StandsForSome, next_op}
-use Rattle.mk_run.specs.declared.scripts.Counts.{Counts}
-use Rattle.mk_run.specs.Running.{answers_in, FollowsScript}
+use Rattle.mk_check.specs.{Feed.is_refusal, Feeding.{FeedState, FeedStandsFor, StandsForSome, next_op}}
+use Rattle.mk_run.specs.{declared.scripts.Counts.Counts, Running.{answers_in, FollowsScript}}
 use Rattle.mk_never.specs.declared.operations.Op.TheVariants as op
 use Rattle.mk_core.specs.declared.events.Answer.TheVariants as answer
 use Rattle.mk_core.specs.declared.events.Group.TheVariants as group

@@ -1,8 +1,6 @@
 -- Seats that make no sweeping mark. Private functions alone cite these words.
 use Rattle.std.specs.Prelude.{List}
-use Rattle.mk_core.specs.declared.config.Config.{Config}
-use Rattle.mk_core.specs.declared.events.Event.{Event}
-use Rattle.mk_core.specs.declared.events.Seat.{Seat}
+use Rattle.mk_core.specs.{declared.config.Config.Config, declared.events.Event.Event, declared.events.Seat.Seat}
 use Rattle.mk_core.specs.History.{first_world}
 use Rattle.mk_turns.specs.Sweeping.{SweepsNothingFrom}
 

@@ -3,10 +3,9 @@
 use Rattle.std.proofs.lemmas.List.Sums.{fold_push}
 use Rattle.mk_script.proofs.Vocabulary.{Bool, IsOfSomeText, Item, List, ap, append-nil, append_assoc, arith}
 use Rattle.mk_script.proofs.Vocabulary.{ends_rightly, false, has_none, map, open_behind, open_blocks, subst, sym, true}
-use Rattle.mk_script.proofs.Vocabulary.{[], ◌++◌, ◌∙◌, ◌∷◌, ◌≡◌}
-use Rattle.mk_script.proofs.PassedLines.{ArePassed, is_whole}
-use Rattle.mk_script.specs.declared.items.Item.TheVariants.{Else, End, If, Repeat, Script}
-use Rattle.mk_script.specs.Scopes.{InFirst, InRepeat, InSecond, OpenBlock}
+use Rattle.mk_script.proofs.{Vocabulary.{[], ◌++◌, ◌∙◌, ◌∷◌, ◌≡◌}, PassedLines.{ArePassed, is_whole}}
+use Rattle.mk_script.specs.{declared.items.Item.TheVariants.{Else, End, If, Repeat, Script}, Scopes.{InFirst, InRepeat}}
+use Rattle.mk_script.specs.Scopes.{InSecond, OpenBlock}
 
 -- After these open blocks no line ends one that isn't open, and at the end none is.
 abbrev pub Closes : List Bool → List Item → Type 0

@@ -1,10 +1,7 @@
 -- A fault of a line that a `?` hands on.
-use Rattle.std.proofs.Common.{Result}
-use Rattle.std.specs.Result.{IsErrAnd}
+use Rattle.std.{proofs.Common.{Result}, specs.Result.{IsErrAnd}}
 use Rattle.mk_script.proofs.Vocabulary.{Err, LineFault, arith, ◌≡◌}
-use Rattle.mk_script.specs.Stops.{Gives}
-use Rattle.mk_script.specs.declared.faults.LineStop.{LineStop}
-use Rattle.mk_script.specs.declared.faults.LineStop.TheVariants.{Fault}
+use Rattle.mk_script.specs.{Stops.Gives, declared.faults.LineStop.LineStop, declared.faults.LineStop.TheVariants.Fault}
 
 pub gives_fault : {A : Type 0} (expected : Result A LineFault) (found : Result A LineStop) (fault : LineFault)
     → expected ≡ Err fault → IsErrAnd found (λ stop. stop ≡ Fault fault) → Gives expected found

@@ -1,7 +1,5 @@
 -- The number that digits stand for, digit by digit.
-use Rattle.std.proofs.Common.{le-ltb, ltb, ◌*◌}
-use Rattle.std.proofs.Math.Bool.{and-false}
-use Rattle.std.proofs.lemmas.List.{at_drop_all, at_drop_more}
+use Rattle.std.proofs.{Common.{le-ltb, ltb, ◌*◌}, Math.Bool.and-false, lemmas.List.{at_drop_all, at_drop_more}}
 use Rattle.mk_script.proofs.Vocabulary.{List, None, Some, ℕ, all_ascii_digits, arith, drop, get_or, length, lt-ltb}
 use Rattle.mk_script.proofs.Vocabulary.{refl, true, value_from, [], ◌+◌, ◌-◌, ◌<◌, ◌^◌, ◌∙◌, ◌∷◌, ◌≡◌, ◌≤◌}
 use Rattle.mk_script.specs.Names.{value_of_digits}

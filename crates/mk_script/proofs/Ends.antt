@@ -2,8 +2,7 @@
 use Rattle.mk_script.proofs.Vocabulary.{Bool, Err, Item, List, Ok, ℕ, arith, at_end, false, has_none, has_script}
 use Rattle.mk_script.proofs.Vocabulary.{length, not, open_blocks, refl, sym, true, ◌∙◌, ◌≡◌}
 use Rattle.mk_script.specs.declared.faults.TextStop.TheVariants.{Limit, Text}
-use Rattle.mk_script.specs.declared.faults.TextKind.TheVariants.{End}
-use Rattle.mk_script.specs.declared.faults.Which.TheVariants.{Scripts}
+use Rattle.mk_script.specs.{declared.faults.TextKind.TheVariants.End, declared.faults.Which.TheVariants.Scripts}
 
 closed_is : (b closed : Bool) → b ≡ not closed → b ≡ false → closed ≡ true
 closed_is b x1 e f = grind arith

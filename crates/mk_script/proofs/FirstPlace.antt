@@ -1,10 +1,8 @@
 -- What stands around the first `+` of a word.
-use Rattle.std.proofs.Common.{length-drop, ltb, position}
-use Rattle.std.specs.List.{position_or_len}
+use Rattle.std.{proofs.Common.{length-drop, ltb, position}, specs.List.{position_or_len}}
 use Rattle.mk_script.proofs.Vocabulary.{Bool, List, None, Some, ℕ, ap, arith, cond, drop, false, length, list_any}
 use Rattle.mk_script.proofs.Vocabulary.{lt-ltb, nat_tests, not, refl, suc, take, take_all, true, [], ◌+◌, ◌-◌, ◌||◌}
-use Rattle.mk_script.proofs.Vocabulary.{◌∙◌, ◌∷◌, ◌≡◌}
-use Rattle.mk_script.specs.Operands.{IsCutAtPlus, is_plus}
+use Rattle.mk_script.{proofs.Vocabulary.{◌∙◌, ◌∷◌, ◌≡◌}, specs.Operands.{IsCutAtPlus, is_plus}}
 
 behind : (here : Bool) (rest : Bool) (place count : ℕ) → rest ≡ ltb place count
     → (here || rest) ≡ ltb (cond (not here) (1 + place) 0) (suc count)

@@ -1,7 +1,5 @@
 -- A word is looked for among the keywords of its length alone.
-use Rattle.std.proofs.Common.{eq-eqb, ⊎_elim}
-use Rattle.std.proofs.lemmas.Bool.{cases_Bool, false≢true}
-use Rattle.std.proofs.lemmas.Slice.Eq.{bytes_eq-Decides}
+use Rattle.std.proofs.{Common.{eq-eqb, ⊎_elim}, lemmas.Bool.{cases_Bool, false≢true}, lemmas.Slice.Eq.bytes_eq-Decides}
 use Rattle.mk_script.proofs.Vocabulary.{Bool, Keyword, List, ℕ, ap, arith, bytes_eq, false, filter, if◌then◌else◌}
 use Rattle.mk_script.proofs.Vocabulary.{keyword_of, length, refl, sym, true, [], ◌==◌, ◌∙◌, ◌∷◌, ◌≡◌, ◌≢◌}
 use Rattle.mk_script.specs.Keywords.{keyword_among, keywords}

@@ -1,6 +1,5 @@
 -- The lines of a text are the pieces between its newlines, without an empty last piece.
-use Rattle.std.proofs.Common.{Bor}
-use Rattle.std.proofs.lemmas.List.{map-append, take_more}
+use Rattle.std.proofs.{Common.Bor, lemmas.List.{map-append, take_more}}
 use Rattle.mk_script.proofs.Vocabulary.{List, ℕ, ap, arith, false, get_or, length, refl, take, take_all, texts_of, true}
 use Rattle.mk_script.proofs.Vocabulary.{without_empty_last, [], ◌++◌, ◌+◌, ◌-◌, ◌<◌, ◌==◌, ◌∙◌, ◌∷◌, ◌≡◌}
 

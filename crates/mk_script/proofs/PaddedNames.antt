@@ -1,7 +1,5 @@
 -- Names of one length that are padded with zeros are the same where all their bytes are.
-use Rattle.std.proofs.Common.{drop_at, take-append-drop}
-use Rattle.std.proofs.lemmas.List.{drop-replicate}
-use Rattle.std.proofs.lemmas.Slice.Eq.{bytes_eq-Decides}
+use Rattle.std.proofs.{Common.{drop_at, take-append-drop}, lemmas.List.drop-replicate, lemmas.Slice.Eq.bytes_eq-Decides}
 use Rattle.mk_script.proofs.Vocabulary.{Bool, List, ℕ, ap, arith, bytes_eq, drop, length, replicate, sym, take, true}
 use Rattle.mk_script.proofs.Vocabulary.{◌++◌, ◌-◌, ◌∙◌, ◌≡◌, ◌≤◌}
 

@@ -4,8 +4,7 @@ use Rattle.mk_script.proofs.Vocabulary.{append-nil, append_assoc, arith, ends_ri
 use Rattle.mk_script.proofs.Vocabulary.{has_script, if◌then◌else◌, is_twice, items_behind, items_of_lines, length}
 use Rattle.mk_script.proofs.Vocabulary.{line_of, lines_of, nat_le, open_blocks, refl, subst, sym, true, words_of_line}
 use Rattle.mk_script.proofs.Vocabulary.{[], ◌++◌, ◌+◌, ◌>>=◌, ◌∙◌, ◌∷◌, ◌≡◌}
-use Rattle.mk_script.specs.Lines.{checked_item, limit_fault, line_item, or_item}
-use Rattle.mk_script.specs.declared.faults.TextStop.{TextStop}
+use Rattle.mk_script.specs.{Lines.{checked_item, limit_fault, line_item, or_item}, declared.faults.TextStop.TextStop}
 
 -- A line after these: what its words say; it declares no name twice, passes no limit, and ends no block that isn't
 -- open.

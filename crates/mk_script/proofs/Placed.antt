@@ -4,13 +4,11 @@ use Rattle.mk_script.proofs.Vocabulary.{Bool, Err, Item, Keyword, LineFault, Lis
 use Rattle.mk_script.proofs.Vocabulary.{arith, false, fields_of, has_word_count, have_form, if◌then◌else◌, is_placed}
 use Rattle.mk_script.proofs.Vocabulary.{item_from, le-leb, length, name, refl, true, [], ◌&&◌, ◌<◌, ◌>>=◌, ◌∷◌, ◌≡◌}
 use Rattle.mk_script.proofs.Vocabulary.{◌≢◌}
-use Rattle.mk_script.specs.Lines.{placed_item}
-use Rattle.mk_script.specs.declared.keywords.Keyword.TheVariants.{Add, Casp, Clear, Const, Else, End, Free, Getn, Getp}
-use Rattle.mk_script.specs.declared.keywords.Keyword.TheVariants.{Global, Heap, If, Isnull, Lea, Loadg, Move, New, Num}
-use Rattle.mk_script.specs.declared.keywords.Keyword.TheVariants.{Print, Ptr, Repeat, Same, Script, Setn, Setp, Show}
-use Rattle.mk_script.specs.declared.keywords.Keyword.TheVariants.{Storeg, Sub, TypeLine}
-use Rattle.mk_script.specs.declared.faults.LineFault.TheVariants.{Text}
-use Rattle.mk_script.specs.declared.faults.TextKind.TheVariants.{Word}
+use Rattle.mk_script.specs.{Lines.placed_item, declared.keywords.Keyword.TheVariants.{Add, Casp, Clear, Const, Else}}
+use Rattle.mk_script.specs.declared.keywords.Keyword.TheVariants.{End, Free, Getn, Getp, Global, Heap, If, Isnull, Lea}
+use Rattle.mk_script.specs.declared.keywords.Keyword.TheVariants.{Loadg, Move, New, Num, Print, Ptr, Repeat, Same}
+use Rattle.mk_script.specs.declared.keywords.Keyword.TheVariants.{Script, Setn, Setp, Show, Storeg, Sub, TypeLine}
+use Rattle.mk_script.specs.{declared.faults.LineFault.TheVariants.Text, declared.faults.TextKind.TheVariants.Word}
 
 -- a line with a number of words that its form hasn't
 miscounted : (keyword : Keyword) (words : List (List ℕ)) → keyword ≢ TypeLine

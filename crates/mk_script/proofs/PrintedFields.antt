@@ -1,23 +1,18 @@
 -- The fields of a type's line: what they say, they say again as they are printed.
 use Rattle.std.proofs.lemmas.List.Elements.{All-append, All-cons, All-head, All-nil, All-replicate, All-tail}
-use Rattle.std.proofs.Common.{eqb-true, inl, inr, leb-true}
-use Rattle.std.proofs.lemmas.Bool.{cases_cond, cond_both}
+use Rattle.std.proofs.{Common.{eqb-true, inl, inr, leb-true}, lemmas.Bool.{cases_cond, cond_both}}
 use Rattle.std.proofs.lemmas.List.{length-replicate, replicate_more}
-use Rattle.std.specs.Option.{is_some, option_and_then, option_map, unwrap_or}
-use Rattle.std.specs.List.{All}
-use Rattle.std.specs.Result.{result_ok}
+use Rattle.std.specs.{Option.{is_some, option_and_then, option_map, unwrap_or}, List.All, Result.result_ok}
 use Rattle.mk_script.proofs.Vocabulary.{At, Bool, LineFault, List, None, Ok, Option, Result, Some, ℕ, and_from}
 use Rattle.mk_script.proofs.Vocabulary.{and_parts, append_assoc, arith, at, at_text, codes, cond, cond-true, decimal}
 use Rattle.mk_script.proofs.Vocabulary.{fields_behind, fields_of, le-leb, length, length-append, list_all, nat_eq}
 use Rattle.mk_script.proofs.Vocabulary.{nat_le, number_of_word, refl, replicate, subst, suc, sym, true, zero, [], ◌++◌}
-use Rattle.mk_script.proofs.Vocabulary.{◌+◌, ◌<◌, ◌^◌, ◌∷◌, ◌≡◌}
-use Rattle.mk_script.proofs.LineWords.{AreWords, is_solid-decimal, is_word, is_word-append}
-use Rattle.mk_script.proofs.Said.{IsPlace, at_again, at_was, is_solid-at}
+use Rattle.mk_script.proofs.{Vocabulary.{◌+◌, ◌<◌, ◌^◌, ◌∷◌, ◌≡◌}, LineWords.{AreWords, is_solid-decimal, is_word}}
+use Rattle.mk_script.proofs.{LineWords.is_word-append, Said.{IsPlace, at_again, at_was, is_solid-at}}
 use Rattle.mk_script.proofs.PrintedNumbers.{number_of_word-decimal}
 use Rattle.mk_script.specs.Operands.{field_of, number_field, numbers, pointer_field}
 use Rattle.mk_script.specs.declared.items.TypeWord.TheVariants.{Number, Pointer}
-use Rattle.mk_script.specs.Canonical.{numbers_before, numbers_text}
-use Rattle.mk_script.specs.declared.items.TypeWord.{TypeWord}
+use Rattle.mk_script.specs.{Canonical.{numbers_before, numbers_text}, declared.items.TypeWord.TypeWord}
 
 -- a word of a type whose place is one
 abbrev pub IsTypeWord : TypeWord → Type 0

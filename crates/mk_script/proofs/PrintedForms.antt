@@ -8,8 +8,7 @@ use Rattle.mk_script.proofs.PrintedFields.{fields_again, fields_behind_some, fie
 use Rattle.mk_script.specs.declared.keywords.Keyword.TheVariants.{Add, Casp, Clear, Const, Else, End, Free, Getn, Getp}
 use Rattle.mk_script.specs.declared.keywords.Keyword.TheVariants.{Global, Heap, If, Isnull, Lea, Loadg, Move, New, Num}
 use Rattle.mk_script.specs.declared.keywords.Keyword.TheVariants.{Print, Ptr, Repeat, Same, Script, Setn, Setp, Show}
-use Rattle.mk_script.specs.declared.keywords.Keyword.TheVariants.{Storeg, Sub, TypeLine}
-use Rattle.mk_script.specs.Names.{is_name}
+use Rattle.mk_script.specs.{declared.keywords.Keyword.TheVariants.{Storeg, Sub, TypeLine}, Names.is_name}
 use Rattle.mk_script.specs.Operands.{number}
 
 pub read_name : {A : Type 0} (n : List ℕ) → is_name n ≡ true

@@ -2,12 +2,10 @@
 use Rattle.mk_script.proofs.Vocabulary.{At, Err, Item, Keyword, LineFault, List, Ok, Result, Some, ℕ, ap, append-nil}
 use Rattle.mk_script.proofs.Vocabulary.{append_assoc, at, at_text, decimal, has_word_count, have_form, item_from}
 use Rattle.mk_script.proofs.Vocabulary.{keyword_of, length, name, refl, subst, suc, sym, true, words_of_item, [], ◌++◌}
-use Rattle.mk_script.proofs.Vocabulary.{◌>>=◌, ◌∙◌, ◌∷◌, ◌≡◌}
-use Rattle.mk_script.proofs.Said.{at_again, is_this, is_word-at, is_word-name, name_again, number_again, with_at}
-use Rattle.mk_script.proofs.Said.{with_name, with_number}
+use Rattle.mk_script.proofs.{Vocabulary.{◌>>=◌, ◌∙◌, ◌∷◌, ◌≡◌}, Said.{at_again, is_this, is_word-at, is_word-name}}
+use Rattle.mk_script.proofs.Said.{name_again, number_again, with_at, with_name, with_number}
 use Rattle.mk_script.proofs.LineWords.{AreWords, is_word, is_word-decimal}
-use Rattle.mk_script.specs.declared.faults.TextKind.{TextKind}
-use Rattle.mk_script.specs.Operands.{number}
+use Rattle.mk_script.specs.{declared.faults.TextKind.TextKind, Operands.number}
 use Rattle.mk_script.specs.declared.faults.LineFault.TheVariants.{Text}
 
 -- its words are those of a line of the form, and say it

@@ -1,14 +1,12 @@
 -- What lines say, with others behind them.
-use Rattle.std.proofs.lemmas.List.{reverse-append, take_more}
-use Rattle.std.proofs.Common.{set}
-use Rattle.std.proofs.Math.Seq.{set-append_seam}
+use Rattle.std.proofs.{lemmas.List.{reverse-append, take_more}, Common.set, Math.Seq.set-append_seam}
 use Rattle.std.proofs.lemmas.List.Sums.{fold-append}
 use Rattle.mk_script.proofs.Vocabulary.{Item, List, ℕ, ap, arith, get_or, global_names, if◌then◌else◌, is_script}
 use Rattle.mk_script.proofs.Vocabulary.{length, length-append, number_names, open_behind, open_blocks, pointer_names}
 use Rattle.mk_script.proofs.Vocabulary.{refl, reverse, script_names, take, take_all, this_script, type_names, [], ◌++◌}
 use Rattle.mk_script.proofs.Vocabulary.{◌+◌, ◌-◌, ◌<◌, ◌∙◌, ◌∷◌, ◌≡◌}
-use Rattle.mk_script.specs.Scopes.{InSecond, OpenBlock, behind_else}
-use Rattle.mk_script.specs.declared.items.Item.TheVariants.{Global, Num, Ptr, Script, TypeLine}
+use Rattle.mk_script.specs.{Scopes.{InSecond, OpenBlock, behind_else}, declared.items.Item.TheVariants.{Global, Num}}
+use Rattle.mk_script.specs.declared.items.Item.TheVariants.{Ptr, Script, TypeLine}
 
 pub type_names-append : (items behind : List Item)
     → type_names (items ++ behind) ≡ type_names items ++ type_names behind

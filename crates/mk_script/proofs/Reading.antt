@@ -1,16 +1,10 @@
 -- Lines, one after the others.
-use Rattle.std.proofs.Common.{Bor, Result}
-use Rattle.std.proofs.lemmas.List.{at_drop_more}
-use Rattle.std.specs.Result.{IfErr, IfOk, MatchResult}
+use Rattle.std.{proofs.{Common.{Bor, Result}, lemmas.List.at_drop_more}, specs.Result.{IfErr, IfOk, MatchResult}}
 use Rattle.mk_script.proofs.Vocabulary.{Err, Item, List, Ok, ℕ, ap, arith, drop, get_or, go_on, items_behind}
 use Rattle.mk_script.proofs.Vocabulary.{items_of_lines, length, length-map, line_of, sym, texts_of, words_of_line, []}
-use Rattle.mk_script.proofs.Vocabulary.{◌++◌, ◌+◌, ◌<◌, ◌∙◌, ◌∷◌, ◌≡◌, ◌≢◌}
-use Rattle.mk_script.specs.declared.scope.Scope.{Scope}
-use Rattle.mk_script.specs.declared.faults.LineStop.TheVariants.{NoMemory}
-use Rattle.mk_script.specs.ScopeOf.{IsStopOfLine, ReadsLine}
-use Rattle.mk_script.specs.Stops.{stop_at}
-use Rattle.mk_script.specs.declared.faults.LineStop.{LineStop}
-use Rattle.mk_script.specs.declared.faults.TextStop.{TextStop}
+use Rattle.mk_script.{proofs.Vocabulary.{◌++◌, ◌+◌, ◌<◌, ◌∙◌, ◌∷◌, ◌≡◌, ◌≢◌}, specs.declared.faults.TextStop.{TextStop}}
+use Rattle.mk_script.specs.{declared.scope.Scope.Scope, declared.faults.LineStop.TheVariants.NoMemory}
+use Rattle.mk_script.specs.{ScopeOf.{IsStopOfLine, ReadsLine}, Stops.stop_at, declared.faults.LineStop.LineStop}
 
 -- what a text is read as whose next line has an item, or hasn't
 pub goes_on : (before : List Item) (line : List ℕ) (lines : List (List ℕ)) (item : Item)

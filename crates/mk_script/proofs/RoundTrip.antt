@@ -2,12 +2,9 @@
 use Rattle.mk_script.proofs.Vocabulary.{IsOfSomeText, Item, List, Ok, ap, append-nil, append_assoc, at_end}
 use Rattle.mk_script.proofs.Vocabulary.{canonical_text, cond-true, items_behind, items_of_lines, joined_words, le-leb}
 use Rattle.mk_script.proofs.Vocabulary.{length, line_of, refl, subst, sym, words_of_item, words_of_line, [], ◌++◌, ◌+◌}
-use Rattle.mk_script.proofs.Vocabulary.{◌∙◌, ◌∷◌, ◌≡◌, ◌≤◌}
-use Rattle.mk_script.proofs.CanonicalLines.{HaveWords, lines_of-canonical_text, lines_of_items}
-use Rattle.mk_script.proofs.PassedLines.{ArePassed, IsWhole, is_whole}
-use Rattle.mk_script.proofs.LineWords.{AreWords, words_of-joined}
-use Rattle.mk_script.proofs.LinesAgain.{line_again}
-use Rattle.mk_script.specs.Grammar.{program_of}
+use Rattle.mk_script.proofs.{Vocabulary.{◌∙◌, ◌∷◌, ◌≡◌, ◌≤◌}, CanonicalLines.{HaveWords, lines_of-canonical_text}}
+use Rattle.mk_script.proofs.{CanonicalLines.lines_of_items, PassedLines.{ArePassed, IsWhole, is_whole}}
+use Rattle.mk_script.{proofs.{LineWords.{AreWords, words_of-joined}, LinesAgain.line_again}, specs.Grammar.{program_of}}
 
 -- each item is said again by its own words, after the ones before it
 pub record IsSaidAgain (before : List Item) (line : Item) : Type 0 where

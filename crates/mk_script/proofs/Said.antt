@@ -7,12 +7,9 @@ use Rattle.mk_script.proofs.Vocabulary.{and_parts, ap, arith, at, at_text, codes
 use Rattle.mk_script.proofs.Vocabulary.{length, list_all, list_any, list_any-append, name, nat_tests, number_of_word}
 use Rattle.mk_script.proofs.Vocabulary.{refl, subst, sym, true, [], ◌++◌, ◌+◌, ◌<◌, ◌>>=◌, ◌^◌, ◌∙◌, ◌∷◌, ◌≡◌}
 use Rattle.mk_script.proofs.LineWords.{is_solid, is_solid-append, is_solid-decimal, is_solid-names, is_word}
-use Rattle.mk_script.proofs.LineWords.{is_word-append}
-use Rattle.mk_script.proofs.PrintedNumbers.{number_of_word-below, number_of_word-decimal}
-use Rattle.mk_script.specs.Names.{is_name, is_name_byte, name_of}
-use Rattle.mk_script.specs.Operands.{is_plus, number}
-use Rattle.mk_script.specs.declared.faults.LineFault.TheVariants.{Text}
-use Rattle.mk_script.specs.declared.faults.TextKind.{TextKind}
+use Rattle.mk_script.proofs.{LineWords.is_word-append, PrintedNumbers.{number_of_word-below, number_of_word-decimal}}
+use Rattle.mk_script.specs.{Names.{is_name, is_name_byte, name_of}, Operands.{is_plus, number}}
+use Rattle.mk_script.specs.{declared.faults.LineFault.TheVariants.Text, declared.faults.TextKind.TextKind}
 
 -- a step that went well, and what comes of it
 

@@ -6,11 +6,9 @@ use Rattle.mk_script.proofs.Vocabulary.{open_behind, pointer_names, refl, revers
 use Rattle.mk_script.proofs.Vocabulary.{type_names, [], ◌++◌, ◌||◌, ◌∙◌, ◌∷◌, ◌≡◌}
 use Rattle.mk_script.proofs.Pushed.{global_names-append, number_names-append, open_blocks-push, pointer_names-append}
 use Rattle.mk_script.proofs.Pushed.{script_names-append, this_script-push, type_names-append}
-use Rattle.mk_script.specs.ScopeOf.{IsScopeOf, has_lines}
-use Rattle.mk_script.specs.declared.items.Item.TheVariants.{Global, Heap, Num, Ptr, Script, TypeLine}
-use Rattle.mk_script.specs.Scopes.{is_instruction}
-use Rattle.mk_script.specs.declared.items.TypeWord.{TypeWord}
-use Rattle.mk_script.specs.declared.scope.Scope.{Scope}
+use Rattle.mk_script.specs.{ScopeOf.{IsScopeOf, has_lines}, declared.items.Item.TheVariants.{Global, Heap, Num, Ptr}}
+use Rattle.mk_script.specs.{declared.items.Item.TheVariants.{Script, TypeLine}, Scopes.is_instruction}
+use Rattle.mk_script.specs.{declared.items.TypeWord.TypeWord, declared.scope.Scope.Scope}
 
 has_lines-push : (before : List Item) (item : Item) → true ≡ has_lines (before ++ item ∷ [])
 has_lines-push [] item = refl

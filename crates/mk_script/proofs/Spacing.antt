@@ -2,8 +2,7 @@
 use Rattle.std.proofs.Common.{IfOk, add-one, drop-cons}
 use Rattle.mk_script.proofs.Vocabulary.{At, List, Result, ℕ, ap, append-nil, append_assoc, arith, at_text, codes, drop}
 use Rattle.mk_script.proofs.Vocabulary.{get_or, joined_words, length, refl, spaced_words, suc, sym, [], ◌++◌, ◌+◌, ◌<◌}
-use Rattle.mk_script.proofs.Vocabulary.{◌∙◌, ◌∷◌, ◌≡◌}
-use Rattle.mk_script.specs.Canonical.{line_text, numbers_before}
+use Rattle.mk_script.{proofs.Vocabulary.{◌∙◌, ◌∷◌, ◌≡◌}, specs.Canonical.{line_text, numbers_before}}
 
 pub spaced_words-append : (xs ys : List (List ℕ)) → spaced_words (xs ++ ys) ≡ spaced_words xs ++ spaced_words ys
 spaced_words-append [] ys = refl

@@ -1,12 +1,8 @@
 -- The canonical text of a program.
-use Rattle.std.specs.Prelude.{ℕ, zero, suc, ◌+◌, ◌==◌, if◌then◌else◌, List, [], ◌∷◌, ◌++◌}
-use Rattle.std.specs.List.{flat_map}
-use Rattle.std.specs.Fmt.{decimal}
+use Rattle.std.specs.{Prelude.{ℕ, zero, suc, ◌+◌, ◌==◌, if◌then◌else◌, List, [], ◌∷◌, ◌++◌}, List.flat_map, Fmt.decimal}
 use lib.Chars.{codes}
-use Rattle.mk_script.specs.declared.items.At.{At}
-use Rattle.mk_script.specs.declared.items.TypeWord.{TypeWord}
-use Rattle.mk_script.specs.declared.items.TypeWord.TheVariants.{Number, Pointer}
-use Rattle.mk_script.specs.declared.items.Item.{Item}
+use Rattle.mk_script.specs.{declared.items.At.At, declared.items.TypeWord.TypeWord}
+use Rattle.mk_script.specs.{declared.items.TypeWord.TheVariants.{Number, Pointer}, declared.items.Item.Item}
 use Rattle.mk_script.specs.declared.items.Item.TheVariants.{Heap, TypeLine, Global, Script, Ptr, Num, New, Free, Getn}
 use Rattle.mk_script.specs.declared.items.Item.TheVariants.{Setn, Getp, Setp, Casp, Lea, Move, Clear, Loadg, Storeg}
 use Rattle.mk_script.specs.declared.items.Item.TheVariants.{Same, Isnull, Show, Const, Add, Sub, Print, Repeat, If}

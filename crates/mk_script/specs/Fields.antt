@@ -1,8 +1,7 @@
 -- The words of a field.
 -- Private functions alone cite these words.
 use Rattle.std.specs.Prelude.{List, [], ◌∷◌, replicate}
-use Rattle.mk_script.specs.declared.items.TypeWord.{TypeWord}
-use Rattle.mk_script.specs.declared.fields.Field.{Field}
+use Rattle.mk_script.specs.{declared.items.TypeWord.TypeWord, declared.fields.Field.Field}
 use Rattle.mk_script.specs.declared.fields.Field.TheVariants.{Numbers, Pointer}
 use Rattle.mk_script.specs.declared.items.TypeWord.TheVariants as word
 

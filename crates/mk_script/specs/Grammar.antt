@@ -1,13 +1,9 @@
 -- A text and its program, or its first fault.
 use Rattle.std.specs.Prelude.{◌≡◌, ℕ, ◌+◌, List, [], ◌∷◌, ◌++◌, length, nat_le, if◌then◌else◌, Ok, Err}
 use Rattle.std.specs.declared.result.Result.{Result}
-use Rattle.mk_script.specs.declared.items.Item.{Item}
-use Rattle.mk_script.specs.declared.faults.TextStop.{TextStop}
-use Rattle.mk_script.specs.declared.faults.LineFault.{LineFault}
-use Rattle.mk_script.specs.declared.faults.LineFault.TheVariants.{Text, Limit}
-use Rattle.mk_script.specs.Words.{lines_of, words_of_line}
-use Rattle.mk_script.specs.Scopes.{open_blocks}
-use Rattle.mk_script.specs.Lines.{line_of, has_script, has_none}
+use Rattle.mk_script.specs.{declared.items.Item.Item, declared.faults.TextStop.TextStop}
+use Rattle.mk_script.specs.{declared.faults.LineFault.LineFault, declared.faults.LineFault.TheVariants.{Text, Limit}}
+use Rattle.mk_script.specs.{Words.{lines_of, words_of_line}, Scopes.open_blocks, Lines.{line_of, has_script, has_none}}
 use Rattle.mk_script.specs.declared.faults.TextStop.TheVariants as stop
 use Rattle.mk_script.specs.declared.faults.TextKind.TheVariants as kind
 use Rattle.mk_script.specs.declared.faults.Which.TheVariants as which

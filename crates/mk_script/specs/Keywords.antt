@@ -1,6 +1,5 @@
 -- The first words of lines, and where lines of each form stand.
-use Rattle.std.specs.Prelude.{ℕ, Bool, ◌==◌, nat_le, if◌then◌else◌, List, [], ◌∷◌, Option, Some, None}
-use Rattle.std.specs.Str.{bytes_eq}
+use Rattle.std.specs.{Prelude.{ℕ, Bool, ◌==◌, nat_le, if◌then◌else◌, List, [], ◌∷◌, Option, Some, None}, Str.bytes_eq}
 use lib.Chars.{codes}
 use Rattle.mk_script.specs.declared.keywords.Keyword.{Keyword}
 use Rattle.mk_script.specs.declared.keywords.Keyword.TheVariants.{Heap, TypeLine, Global, Script, Ptr, Num, New, Free}

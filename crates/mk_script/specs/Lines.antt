@@ -1,20 +1,13 @@
 -- What a line is, after the lines before it: its item, or the first fault by the order of the six steps.
 use Rattle.std.specs.Prelude.{ℕ, ◌+◌, ◌-◌, ◌^◌, min, Bool, true, false, not, ◌&&◌, nat_le, if◌then◌else◌, List, [], ◌∷◌}
-use Rattle.std.specs.Prelude.{◌++◌, length, Option, Some, None, Ok, Err}
-use Rattle.std.specs.declared.result.Result.{Result}
-use Rattle.std.specs.List.{list_any}
-use Rattle.std.specs.Option.{option_or}
-use Rattle.std.specs.Str.{bytes_eq}
+use Rattle.std.specs.{Prelude.{◌++◌, length, Option, Some, None, Ok, Err}, declared.result.Result.Result, List.list_any}
+use Rattle.std.specs.{Option.option_or, Str.bytes_eq}
 use lib.Chars.{codes}
-use Rattle.mk_script.specs.declared.items.Item.{Item}
-use Rattle.mk_script.specs.declared.items.Item.TheVariants.{Heap, TypeLine, Global, Script, Ptr, Num, Repeat, If, Else}
-use Rattle.mk_script.specs.declared.items.Item.TheVariants.{End}
-use Rattle.mk_script.specs.declared.keywords.Keyword.{Keyword}
-use Rattle.mk_script.specs.declared.faults.LineFault.{LineFault}
-use Rattle.mk_script.specs.declared.faults.LineFault.TheVariants.{Text, Limit}
-use Rattle.mk_script.specs.declared.faults.Which.{Which}
-use Rattle.mk_script.specs.Keywords.{keyword_of, has_word_count}
-use Rattle.mk_script.specs.Operands.{◌>>=◌, have_form, item_from}
+use Rattle.mk_script.specs.{declared.items.Item.Item, declared.items.Item.TheVariants.{Heap, TypeLine, Global, Script}}
+use Rattle.mk_script.specs.declared.items.Item.TheVariants.{Ptr, Num, Repeat, If, Else, End}
+use Rattle.mk_script.specs.{declared.keywords.Keyword.Keyword, declared.faults.LineFault.LineFault}
+use Rattle.mk_script.specs.{declared.faults.LineFault.TheVariants.{Text, Limit}, declared.faults.Which.Which}
+use Rattle.mk_script.specs.{Keywords.{keyword_of, has_word_count}, Operands.{◌>>=◌, have_form, item_from}}
 use Rattle.mk_script.specs.Scopes.{type_names, global_names, script_names, pointer_names, number_names, is_script}
 use Rattle.mk_script.specs.Scopes.{is_instruction, this_script, OpenBlock, InRepeat, InFirst, InSecond, open_blocks}
 use Rattle.mk_script.specs.declared.keywords.Keyword.TheVariants as keyword

@@ -1,9 +1,7 @@
 -- Names and numbers: what a word can say.
 use Rattle.std.specs.Prelude.{ℕ, ◌+◌, ◌-◌, ◌*◌, ◌^◌, Bool, not, ◌&&◌, ◌||◌, List, [], ◌∷◌, length, nat_lt, nat_le, ◌==◌}
-use Rattle.std.specs.Prelude.{if◌then◌else◌, slice_index, Option, Some, None}
-use Rattle.std.specs.List.{list_all}
-use Rattle.std.specs.Char.{is_ascii_alphabetic, is_ascii_alphanumeric}
-use Rattle.std.specs.Str.{all_ascii_digits}
+use Rattle.std.specs.{Prelude.{if◌then◌else◌, slice_index, Option, Some, None}, List.list_all}
+use Rattle.std.specs.{Char.{is_ascii_alphabetic, is_ascii_alphanumeric}, Str.all_ascii_digits}
 
 -- a letter, a digit or `_`
 abbrev pub is_name_byte : ℕ → Bool

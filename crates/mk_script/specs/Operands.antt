@@ -1,21 +1,16 @@
 -- What the words of a line say, given its form.
 use Rattle.std.specs.Prelude.{◌≡◌, ℕ, Bool, true, ◌==◌, nat_le, if◌then◌else◌, List, [], ◌∷◌, replicate, Option, Some}
 use Rattle.std.specs.Prelude.{None, is_some, option_map, option_and_then, unwrap_or, ok_or, Ok, Err}
-use Rattle.std.specs.declared.result.Result.{Result}
-use Rattle.std.specs.Result.{result_ok}
-use Rattle.std.specs.List.{list_all, list_any, flat_map, before_first, after_first}
-use Rattle.mk_script.specs.declared.items.At.{At}
-use Rattle.mk_script.specs.declared.items.TypeWord.{TypeWord}
-use Rattle.mk_script.specs.declared.items.TypeWord.TheVariants.{Number, Pointer}
-use Rattle.mk_script.specs.declared.items.Item.{Item}
-use Rattle.mk_script.specs.declared.keywords.Keyword.{Keyword}
-use Rattle.mk_script.specs.declared.keywords.Keyword.TheVariants.{Heap, TypeLine, Global, Script, Ptr, Num, New, Free}
-use Rattle.mk_script.specs.declared.keywords.Keyword.TheVariants.{Getn, Setn, Getp, Setp, Casp, Lea, Move, Clear, Loadg}
-use Rattle.mk_script.specs.declared.keywords.Keyword.TheVariants.{Storeg, Same, Isnull, Show, Const, Add, Sub, Print}
-use Rattle.mk_script.specs.declared.keywords.Keyword.TheVariants.{Repeat, If, Else, End}
-use Rattle.mk_script.specs.declared.faults.LineFault.{LineFault}
-use Rattle.mk_script.specs.declared.faults.LineFault.TheVariants.{Text}
-use Rattle.mk_script.specs.Names.{name_of, number_of_word}
+use Rattle.std.specs.{declared.result.Result.Result, Result.result_ok, List.{list_all, list_any, flat_map}}
+use Rattle.std.specs.List.{before_first, after_first}
+use Rattle.mk_script.specs.{declared.items.At.At, declared.items.TypeWord.TypeWord}
+use Rattle.mk_script.specs.{declared.items.TypeWord.TheVariants.{Number, Pointer}, declared.items.Item.Item}
+use Rattle.mk_script.specs.{declared.keywords.Keyword.Keyword, declared.keywords.Keyword.TheVariants.{Heap, TypeLine}}
+use Rattle.mk_script.specs.declared.keywords.Keyword.TheVariants.{Global, Script, Ptr, Num, New, Free, Getn, Setn, Getp}
+use Rattle.mk_script.specs.declared.keywords.Keyword.TheVariants.{Setp, Casp, Lea, Move, Clear, Loadg, Storeg, Same}
+use Rattle.mk_script.specs.declared.keywords.Keyword.TheVariants.{Isnull, Show, Const, Add, Sub, Print, Repeat, If}
+use Rattle.mk_script.specs.{declared.keywords.Keyword.TheVariants.{Else, End}, declared.faults.LineFault.LineFault}
+use Rattle.mk_script.specs.{declared.faults.LineFault.TheVariants.Text, Names.{name_of, number_of_word}}
 use Rattle.mk_script.specs.declared.items.Item.TheVariants as item
 use Rattle.mk_script.specs.declared.faults.TextKind.TheVariants as kind
 

@@ -1,13 +1,9 @@
 -- What it means that a scope says what the lines so far say.
 -- Private functions alone cite these words.
-use Rattle.std.specs.Prelude.{◌≡◌, ℕ, Bool, true, false, List, [], ◌∷◌, ◌++◌, reverse, Ok, Err}
-use Rattle.std.specs.List.{list_any}
+use Rattle.std.specs.{Prelude.{◌≡◌, ℕ, Bool, true, false, List, [], ◌∷◌, ◌++◌, reverse, Ok, Err}, List.list_any}
 use Rattle.std.specs.List.Sorted.{IsPermutation}
-use Rattle.mk_script.specs.declared.items.Item.{Item}
-use Rattle.mk_script.specs.declared.scope.Scope.{Scope}
-use Rattle.mk_script.specs.declared.faults.LineStop.{LineStop}
-use Rattle.mk_script.specs.declared.faults.LineStop.TheVariants.{Fault, NoMemory}
-use Rattle.mk_script.specs.Lines.{has_script, line_of}
+use Rattle.mk_script.specs.{declared.items.Item.Item, declared.scope.Scope.Scope, declared.faults.LineStop.LineStop}
+use Rattle.mk_script.specs.{declared.faults.LineStop.TheVariants.{Fault, NoMemory}, Lines.{has_script, line_of}}
 use Rattle.mk_script.specs.Scopes.{type_names, global_names, script_names, pointer_names, number_names, this_script}
 use Rattle.mk_script.specs.Scopes.{is_instruction, open_blocks}
 

@@ -1,8 +1,7 @@
 -- What the lines before a line say: what is declared, which blocks are open.
 use Rattle.std.specs.Prelude.{ℕ, Bool, if◌then◌else◌, fold, true, false, List, [], ◌∷◌, ◌++◌}
-use Rattle.mk_script.specs.declared.items.Item.{Item}
-use Rattle.mk_script.specs.declared.items.Item.TheVariants.{Heap, TypeLine, Global, Script, Ptr, Num, Repeat, If, Else}
-use Rattle.mk_script.specs.declared.items.Item.TheVariants.{End}
+use Rattle.mk_script.specs.{declared.items.Item.Item, declared.items.Item.TheVariants.{Heap, TypeLine, Global, Script}}
+use Rattle.mk_script.specs.declared.items.Item.TheVariants.{Ptr, Num, Repeat, If, Else, End}
 pub use Rattle.mk_script.specs.declared.scope.OpenBlock.{OpenBlock}
 pub use Rattle.mk_script.specs.declared.scope.OpenBlock.TheVariants.{InRepeat, InFirst, InSecond}
 

@@ -1,9 +1,7 @@
 -- A line's words as a text. Private functions alone cite these.
-use Rattle.std.specs.Prelude.{ℕ, List, [], ◌∷◌, ◌++◌}
-use Rattle.std.specs.Fmt.{decimal}
+use Rattle.std.specs.{Prelude.{ℕ, List, [], ◌∷◌, ◌++◌}, Fmt.decimal}
 use lib.Chars.{codes}
-use Rattle.mk_script.specs.Canonical.{at_text}
-use Rattle.mk_script.specs.declared.printing.Operand.{Operand}
+use Rattle.mk_script.specs.{Canonical.at_text, declared.printing.Operand.Operand}
 use Rattle.mk_script.specs.declared.printing.Operand.TheVariants.{Name, Number, At}
 
 -- words after another, each with a space before it

@@ -1,15 +1,9 @@
 -- What a call gives, unless memory runs out.
 -- Private functions alone cite these words.
-use Rattle.std.specs.Prelude.{◌≡◌, ℕ, List, Ok, Err}
-use Rattle.std.specs.declared.result.Result.{Result}
-use Rattle.mk_script.specs.declared.faults.LineFault.{LineFault}
-use Rattle.mk_script.specs.declared.faults.LineStop.{LineStop}
-use Rattle.mk_script.specs.declared.faults.LineStop.TheVariants.{Fault, NoMemory}
-use Rattle.mk_script.specs.declared.faults.TextStop.{TextStop}
-use Rattle.mk_script.specs.Grammar.{fault_at}
-use Rattle.mk_script.specs.declared.items.Item.{Item}
-use Rattle.mk_script.specs.Lines.{checked_item}
-use Rattle.mk_script.specs.Operands.{◌>>=◌}
+use Rattle.std.specs.{Prelude.{◌≡◌, ℕ, List, Ok, Err}, declared.result.Result.Result}
+use Rattle.mk_script.specs.{declared.faults.LineFault.LineFault, declared.faults.LineStop.LineStop}
+use Rattle.mk_script.specs.{declared.faults.LineStop.TheVariants.{Fault, NoMemory}, declared.faults.TextStop.TextStop}
+use Rattle.mk_script.specs.{Grammar.fault_at, declared.items.Item.Item, Lines.checked_item, Operands.◌>>=◌}
 use Rattle.mk_script.specs.declared.faults.TextStop.TheVariants as stop
 
 -- what was expected, or no memory

@@ -3,19 +3,14 @@ use Rattle.std.proofs.Common.{IfSome}
 use Rattle.mk_stack.proofs.Vocabulary.{Answer, Asks, Called, CallerState, Ended, HasStackTypes, HoldsAt, IsHistory}
 use Rattle.mk_stack.proofs.Vocabulary.{Kind, Op, PassState, Point, Reply, after_op, caller_of_pass, clear, flagged}
 use Rattle.mk_stack.proofs.Vocabulary.{kinds_of, never_of, next_point, op_at, register_at, replied_to, reply_of}
-use Rattle.mk_stack.proofs.Vocabulary.{value_of}
-use Rattle.mk_stack.proofs.Replies.{Happens, from_called, from_turn}
-use Rattle.mk_stack.proofs.AtPoints.{holds_still}
-use Rattle.mk_stack.proofs.NodeKinds.{IsStackState}
-use Rattle.mk_stack.proofs.PointSteps.{admits, asks}
+use Rattle.mk_stack.proofs.{Vocabulary.value_of, Replies.{Happens, from_called, from_turn}, AtPoints.holds_still}
+use Rattle.mk_stack.proofs.{NodeKinds.IsStackState, PointSteps.{admits, asks}}
 use Rattle.mk_laws.proofs.Vocabulary.{Bool, List, Option, Some, ℕ, ap, arith, false, is_under_turn, length, refl, subst}
-use Rattle.mk_laws.proofs.Vocabulary.{sym, true, [], ◌*◌, ◌++◌, ◌+◌, ◌<◌, ◌∙◌, ◌∷◌, ◌≡◌}
-use Rattle.mk_laws.proofs.CallSorts.{flag_is}
+use Rattle.mk_laws.proofs.{Vocabulary.{sym, true, [], ◌*◌, ◌++◌, ◌+◌, ◌<◌, ◌∙◌, ◌∷◌, ◌≡◌}, CallSorts.flag_is}
 use Rattle.mk_laws.proofs.LastEvents.{stands}
 use Rattle.mk_caller.specs.States.{Admits}
 use Rattle.mk_run.specs.Scripts.{Answers, IsCalled, as_told, unflagged}
-use Rattle.mk_stack.specs.Advancing.{StaysEnded}
-use Rattle.mk_stack.specs.Ready.{IsReady}
+use Rattle.mk_stack.specs.{Advancing.StaysEnded, Ready.IsReady}
 
 -- The state at which an operation was decided
 pub place_state : {p q : PassState} {o : Op} {a : Answer} → HasStackTypes p.table.config → (h : Happens p o a q)

@@ -3,9 +3,8 @@ use Rattle.std.proofs.Common.{◌≡◌, ◌≢◌, ℕ, ◌+◌, ◌<◌, List,
 use Rattle.mk_stack.proofs.Vocabulary.{Checking, Done, Filling, Founded, Founding, Job, Linking, Looking, Making}
 use Rattle.mk_stack.proofs.Vocabulary.{NeverState, Op, Ordered, Placing, Point, Pop, Publishing, Push, Replied}
 use Rattle.mk_stack.proofs.Vocabulary.{Starting, bit, freed_by, left_by, numbers_in, register_at}
-use Rattle.mk_stack.proofs.Roles.{Role, Private, Taken, is_gone, put, put_by}
-use Rattle.mk_stack.proofs.Invariant.{AllHeld, Core, Inv, IsFreeing, IsHeld, IsPushing, Local, Work}
-use Rattle.mk_stack.proofs.Frames.{Leaves, local_stays}
+use Rattle.mk_stack.proofs.{Roles.{Role, Private, Taken, is_gone, put, put_by}, Invariant.{AllHeld, Core, Inv}}
+use Rattle.mk_stack.proofs.{Invariant.{IsFreeing, IsHeld, IsPushing, Local, Work}, Frames.{Leaves, local_stays}}
 
 -- the job that a caller is at
 abbrev pub job_at : Point → Job

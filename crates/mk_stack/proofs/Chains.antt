@@ -1,8 +1,7 @@
 -- Chains of nodes: where their words stay, they stay, and have the same numbers.
 use Rattle.std.proofs.Common.{◌≡◌, ◌≢◌, ℕ, List, [], ◌∷◌, refl, sym, ◌∙◌, ap, ap₂, subst, inl, inr, Some, None, Option}
 use Rattle.mk_stack.proofs.Vocabulary.{IsOneOf, NeverState, Null, Value, global_at, number_of, numbers_in, word_at}
-use Rattle.mk_stack.proofs.Roles.{Role, Base, Stacked}
-use Rattle.mk_stack.proofs.Invariant.{IsNotAmong, IsChain, HasChain}
+use Rattle.mk_stack.proofs.{Roles.{Role, Base, Stacked}, Invariant.{IsNotAmong, IsChain, HasChain}}
 use Rattle.mk_stack.specs.Laws.{AreLinked, uppermost}
 
 -- An allocation of another role isn't in the chain.

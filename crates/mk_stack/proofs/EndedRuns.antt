@@ -1,29 +1,22 @@
 -- All that happened on a stack: the founding, the jobs, the reading, and the end, with markers beside them.
-use Rattle.std.proofs.Common.{Err, IfOk, Ok, Result, ⊎_elim}
-use Rattle.std.proofs.lemmas.Result.{IfOk-weaker}
+use Rattle.std.proofs.{Common.{Err, IfOk, Ok, Result, ⊎_elim}, lemmas.Result.IfOk-weaker}
 use Rattle.mk_stack.proofs.Vocabulary.{AreOfOthers, Caller, CallerState, Dones, Founded, Founding, GoesToPoint, Grows}
 use Rattle.mk_stack.proofs.Vocabulary.{Has, HasHandedOut, HasStackTypes, HaveDone, Host, HostState, IsHistory, Jobs}
 use Rattle.mk_stack.proofs.Vocabulary.{Joined, Leads, PassState, ReadsStack, Replied, Seat, WordsState, at_home}
-use Rattle.mk_stack.proofs.Vocabulary.{pass_for, replied_to, with_joined}
-use Rattle.mk_stack.proofs.JoinedJobs.{next_unasked, same_or_later}
+use Rattle.mk_stack.proofs.{Vocabulary.{pass_for, replied_to, with_joined}, JoinedJobs.{next_unasked, same_or_later}}
 use Rattle.mk_stack.proofs.Readers.{by_reader, callers_home, host_home, its_replies, same_callers, same_markers}
-use Rattle.mk_stack.proofs.Readers.{same_seat, same_table}
-use Rattle.mk_stack.proofs.StackRuns.{is_stack_run, run_stands}
+use Rattle.mk_stack.proofs.{Readers.{same_seat, same_table}, StackRuns.{is_stack_run, run_stands}}
 use Rattle.mk_laws.proofs.Vocabulary.{List, Marker, Presence, ℕ, ap, arith, earlier_part_is_history, false}
 use Rattle.mk_laws.proofs.Vocabulary.{is_attending, length, refl, subst, sym, true, [], ◌++◌, ◌+◌, ◌<◌, ◌∙◌, ◌∷◌, ◌≡◌}
 use Rattle.mk_laws.proofs.Vocabulary.{◌≤◌}
 use Rattle.mk_never.specs.declared.never_heap.NoMemory.{NoMemory}
-use Rattle.mk_core.specs.declared.seats.Presence.TheVariants.{Attending, Out, Visiting}
-use Rattle.mk_core.specs.Growing.{is_same_seat}
+use Rattle.mk_core.specs.{declared.seats.Presence.TheVariants.{Attending, Out, Visiting}, Growing.is_same_seat}
 use Rattle.mk_core.specs.MarkerConditions.{is_out}
 use Rattle.mk_heap.proofs.MovedHosts.{MovesOn}
-use Rattle.mk_heap.specs.Ending.{CallersAreJoined, SaysOver}
-use Rattle.mk_heap.specs.Hosts.{with_marker_made, with_seen}
+use Rattle.mk_heap.specs.{Ending.{CallersAreJoined, SaysOver}, Hosts.{with_marker_made, with_seen}}
 use Rattle.mk_marker.specs.Markers.{attends}
-use Rattle.mk_run.proofs.LastTurns.{over_moves}
-use Rattle.mk_run.proofs.MarkersBeside.{first_marker}
-use Rattle.mk_stack.specs.Joining.{HaveEnded, HaveFoundedAndWorked, IsReader}
-use Rattle.mk_stack.specs.StackRuns.{IsStackRun}
+use Rattle.mk_run.proofs.{LastTurns.over_moves, MarkersBeside.first_marker}
+use Rattle.mk_stack.specs.{Joining.{HaveEnded, HaveFoundedAndWorked, IsReader}, StackRuns.IsStackRun}
 use Rattle.mk_stack.specs.declared.working.Ended.{Ended}
 use Rattle.mk_words.proofs.Seats.{has_first, has_left, has_right, others_own, without_keeps}
 use Rattle.mk_words.specs.Markers.{marker_in}

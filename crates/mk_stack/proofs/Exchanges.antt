@@ -1,15 +1,12 @@
 -- A caller exchanges the uppermost node, or frees the node that it took.
 use Rattle.mk_stack.proofs.Vocabulary.{Done, IsOneOf, NeverState, Op, Ordered, Point, Replied, Value, bit, freed_by}
-use Rattle.mk_stack.proofs.Vocabulary.{numbers_in, with_word, words_of}
-use Rattle.mk_stack.proofs.Assembly.{Decides, HeldBefore, IsLeft, Stepped, assemble, moved, none_freed_there}
-use Rattle.mk_stack.proofs.Invariant.{AllHeld, Core, Fits, HasChain, Inv, Local, Work}
-use Rattle.mk_stack.proofs.Roles.{Base, Private, Role, RoleKeeps, Stacked, Taken, Unborn, is_gone, put, put_by}
-use Rattle.mk_stack.proofs.Roles.{same_role, size_of}
+use Rattle.mk_stack.proofs.{Vocabulary.{numbers_in, with_word, words_of}, Assembly.{Decides, HeldBefore, IsLeft}}
+use Rattle.mk_stack.proofs.{Assembly.{Stepped, assemble, moved, none_freed_there}, Invariant.{AllHeld, Core, Fits}}
+use Rattle.mk_stack.proofs.{Invariant.{HasChain, Inv, Local, Work}, Roles.{Base, Private, Role, RoleKeeps, Stacked}}
+use Rattle.mk_stack.proofs.Roles.{Taken, Unborn, is_gone, put, put_by, same_role, size_of}
 use Rattle.mk_stack.proofs.Writes.{base_private, base_stacked, base_taken, private_stacked, private_taken, same_taken}
 use Rattle.mk_stack.proofs.Writes.{taken_stacked, unborn_private, unborn_stacked, unborn_taken}
-use Rattle.mk_stack.proofs.Fitting.{alike_fits, written_fits}
-use Rattle.mk_stack.proofs.Frames.{Leaves}
-use Rattle.mk_stack.proofs.Heaps.{other_words}
+use Rattle.mk_stack.proofs.{Fitting.{alike_fits, written_fits}, Frames.Leaves, Heaps.other_words}
 use Rattle.mk_laws.proofs.Vocabulary.{List, Option, Some, ℕ, ap, arith, sym, ◌+◌, ◌∙◌, ◌≡◌, ◌≢◌, ◌⊎◌}
 
 -- What another caller held before, where one role is now that of a node on the stack, or of this caller

@@ -1,8 +1,7 @@
 -- An allocation is as its role says, and stays so.
-use Rattle.mk_stack.proofs.Vocabulary.{Allocation, NeverState, Value, with_word}
-use Rattle.mk_stack.proofs.Heaps.{written_flag, written_size, written_type}
-use Rattle.mk_stack.proofs.Invariant.{Fits, IsOfRole}
-use Rattle.mk_stack.proofs.Roles.{Base, Role, Unborn, is_gone, size_of}
+use Rattle.mk_stack.proofs.{Vocabulary.{Allocation, NeverState, Value, with_word}, Heaps.{written_flag, written_size}}
+use Rattle.mk_stack.proofs.{Heaps.written_type, Invariant.{Fits, IsOfRole}, Roles.{Base, Role, Unborn, is_gone}}
+use Rattle.mk_stack.proofs.Roles.{size_of}
 use Rattle.mk_laws.proofs.Vocabulary.{ℕ, arith, length-set, sym, ◌∙◌, ◌≡◌, ◌≢◌}
 
 -- where a word is written,

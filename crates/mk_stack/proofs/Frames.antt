@@ -2,10 +2,9 @@
 use Rattle.mk_stack.proofs.Vocabulary.{Checking, Done, Empty, Ended, Filling, Following, Founded, Founding, Freeing}
 use Rattle.mk_stack.proofs.Vocabulary.{Job, Linking, Looking, Making, NeverState, Null, Peeking, Placing, Point}
 use Rattle.mk_stack.proofs.Vocabulary.{Publishing, Reading, Starting, Taking, Testing, Value, done_without, register_at}
-use Rattle.mk_stack.proofs.Vocabulary.{word_at, words_of}
-use Rattle.mk_stack.proofs.Invariant.{HasBase, HasFilled, HasFollowed, HasFreed, HasLinked, HasOwn, HasSeen, HasTaken}
-use Rattle.mk_stack.proofs.Invariant.{HasTop, Local}
-use Rattle.mk_stack.proofs.Roles.{Base, Role, RoleKeeps, private_keeps, published_keeps, taken_keeps}
+use Rattle.mk_stack.proofs.{Vocabulary.{word_at, words_of}, Invariant.{HasBase, HasFilled, HasFollowed, HasFreed}}
+use Rattle.mk_stack.proofs.{Invariant.{HasLinked, HasOwn, HasSeen, HasTaken, HasTop, Local}, Roles.{Base, Role}}
+use Rattle.mk_stack.proofs.Roles.{RoleKeeps, private_keeps, published_keeps, taken_keeps}
 use Rattle.mk_laws.proofs.Vocabulary.{List, None, Option, Some, ℕ, ap, arith, get_or, inl, inr, ◌<◌, ◌∙◌, ◌≡◌, ◌⊎◌}
 
 -- What a step leaves as it was for caller k. The caller that founds the stack is the first, so no other relies on the

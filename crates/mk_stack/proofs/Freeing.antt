@@ -1,15 +1,12 @@
 -- A pop frees the node that it took.
 use Rattle.mk_stack.proofs.Vocabulary.{Done, Freeing, IsOneOf, NeverState, Null, Op, Ptr, Reading, Replied, Value, bit}
-use Rattle.mk_stack.proofs.Vocabulary.{freed_by, register_at, with_freed, word_at}
-use Rattle.mk_stack.proofs.Assembly.{Stepped, assemble, moved, nothing}
-use Rattle.mk_stack.proofs.Heaps.{freed_flag, freed_type, freed_words, other_flag}
+use Rattle.mk_stack.proofs.{Vocabulary.{freed_by, register_at, with_freed, word_at}, Assembly.{Stepped, assemble}}
+use Rattle.mk_stack.proofs.{Assembly.{moved, nothing}, Heaps.{freed_flag, freed_type, freed_words, other_flag}}
 use Rattle.mk_stack.proofs.Invariant.{AllHeld, Core, Fits, HasChain, HasFreed, HasTaken, Inv, IsHeld, Work}
 use Rattle.mk_stack.proofs.Roles.{Base, Freed, Private, Role, Stacked, Taken, Unborn, is_gone, put, put_by, put_other}
-use Rattle.mk_stack.proofs.Roles.{put_same, same_role, size_of}
-use Rattle.mk_stack.proofs.Chains.{all_numbers_stay, has_chain_stays}
-use Rattle.mk_stack.proofs.Exchanges.{put_before, roles_put}
-use Rattle.mk_stack.proofs.Frames.{Leaves}
-use Rattle.mk_stack.proofs.Writes.{base_taken, granted, taken_stacked, unborn_taken}
+use Rattle.mk_stack.proofs.{Roles.{put_same, same_role, size_of}, Chains.{all_numbers_stay, has_chain_stays}}
+use Rattle.mk_stack.proofs.{Exchanges.{put_before, roles_put}, Frames.Leaves, Writes.{base_taken, granted}}
+use Rattle.mk_stack.proofs.Writes.{taken_stacked, unborn_taken}
 use Rattle.mk_laws.proofs.Vocabulary.{List, None, Option, ℕ, ap, arith, get_or, length, length-set, sym, ◌+◌, ◌<◌, ◌∙◌}
 use Rattle.mk_laws.proofs.Vocabulary.{◌≡◌, ◌≢◌}
 

@@ -1,8 +1,6 @@
 -- Operations one after the other, from the point of a job where its caller was.
 use Rattle.mk_stack.proofs.Vocabulary.{CallerState, GoesToPoint, HasStackTypes, Leads, PassState, Point, Replied}
-use Rattle.mk_stack.proofs.Vocabulary.{caller_of_pass, replied_to}
-use Rattle.mk_stack.proofs.Advances.{Advances}
-use Rattle.mk_stack.proofs.Replies.{Stays}
+use Rattle.mk_stack.proofs.{Vocabulary.{caller_of_pass, replied_to}, Advances.Advances, Replies.Stays}
 use Rattle.mk_laws.proofs.Vocabulary.{List, ℕ, ap, append_assoc, refl, subst, sym, true, [], ◌++◌, ◌<◌, ◌∙◌, ◌∷◌, ◌≡◌}
 use Rattle.mk_stack.specs.Ready.{IsReady, IsReadyForJobs}
 

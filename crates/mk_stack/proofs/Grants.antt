@@ -2,16 +2,12 @@
 use Rattle.std.proofs.lemmas.List.{get_or_at, length_push}
 use Rattle.mk_stack.proofs.Vocabulary.{Allocation, Done, IsOneOf, NeverState, Null, Op, Point, Ptr, Replied, Value}
 use Rattle.mk_stack.proofs.Vocabulary.{allocation_at, bit, freed_by, kinds_of, no_allocation, with_new, with_register}
-use Rattle.mk_stack.proofs.Vocabulary.{word_at, words_of, zero_words}
-use Rattle.mk_stack.proofs.Assembly.{Stepped, assemble, moved, none_freed_there, nothing}
-use Rattle.mk_stack.proofs.Chains.{all_numbers_stay, has_chain_stays}
-use Rattle.mk_stack.proofs.Invariant.{AllHeld, Core, Fits, HasChain, Inv, Local, Work}
-use Rattle.mk_stack.proofs.Roles.{Base, Private, Role, Stacked, Taken, Unborn, is_gone, put, put_by, put_other}
-use Rattle.mk_stack.proofs.Roles.{same_role, size_of}
-use Rattle.mk_stack.proofs.Exchanges.{put_before, roles_put}
-use Rattle.mk_stack.proofs.Frames.{Leaves}
-use Rattle.mk_stack.proofs.Heaps.{other_allocation, register_of_other}
-use Rattle.mk_stack.proofs.Writes.{unborn_base, unborn_stacked}
+use Rattle.mk_stack.proofs.{Vocabulary.{word_at, words_of, zero_words}, Assembly.{Stepped, assemble, moved}}
+use Rattle.mk_stack.proofs.{Assembly.{none_freed_there, nothing}, Chains.{all_numbers_stay, has_chain_stays}}
+use Rattle.mk_stack.proofs.{Invariant.{AllHeld, Core, Fits, HasChain, Inv, Local, Work}, Roles.{Base, Private, Role}}
+use Rattle.mk_stack.proofs.Roles.{Stacked, Taken, Unborn, is_gone, put, put_by, put_other, same_role, size_of}
+use Rattle.mk_stack.proofs.{Exchanges.{put_before, roles_put}, Frames.Leaves}
+use Rattle.mk_stack.proofs.{Heaps.{other_allocation, register_of_other}, Writes.{unborn_base, unborn_stacked}}
 use Rattle.mk_laws.proofs.Vocabulary.{List, None, Option, ℕ, ap, arith, false, get_or, length, length-set, refl, sym}
 use Rattle.mk_laws.proofs.Vocabulary.{[], ◌*◌, ◌+◌, ◌<◌, ◌∙◌, ◌≡◌, ◌≢◌}
 

@@ -2,9 +2,7 @@
 use Rattle.mk_stack.proofs.Vocabulary.{Asks, Done, Empty, Ended, Founded, Founding, Full, Job, Leads, NeverState, Op}
 use Rattle.mk_stack.proofs.Vocabulary.{Placing, Point, Pop, Popped, Push, Pushed, Replied, Reply, Starting}
 use Rattle.mk_stack.proofs.Vocabulary.{done_without, fail, find_no_room, found, lack, miss, op_at, place, publish, read}
-use Rattle.mk_stack.proofs.Invariant.{IsFreeing, IsPushing, Local}
-use Rattle.mk_stack.proofs.Assembly.{IsOfJob, job_at}
-use Rattle.mk_stack.proofs.Roles.{Role}
+use Rattle.mk_stack.proofs.{Invariant.{IsFreeing, IsPushing, Local}, Assembly.{IsOfJob, job_at}, Roles.Role}
 use Rattle.mk_laws.proofs.Vocabulary.{List, None, Option, Some, ℕ, refl, subst, sym, [], ◌∙◌, ◌∷◌, ◌≡◌}
 use Rattle.mk_stack.specs.Advancing.{IsFit, IsGoal}
 

@@ -4,10 +4,7 @@ use Rattle.mk_stack.proofs.Vocabulary.{AreJobRuns, DoesJobs, Done, Job, JobRun, 
 use Rattle.mk_stack.proofs.StackHistories.{jobs_add_up}
 use Rattle.mk_laws.proofs.Vocabulary.{List, ℕ, ap, get_or, length, refl, subst, sym, take, [], ◌++◌, ◌+◌, ◌<◌, ◌∙◌, ◌∷◌}
 use Rattle.mk_laws.proofs.Vocabulary.{◌≡◌}
-use Rattle.mk_stack.specs.Histories.{AddsJob}
-use Rattle.mk_stack.specs.JobLists.{dones_of, jobs_of}
-use Rattle.mk_stack.specs.Jobs.{IsJobRun}
-use Rattle.mk_stack.specs.Passes.{DoesJob}
+use Rattle.mk_stack.specs.{Histories.AddsJob, JobLists.{dones_of, jobs_of}, Jobs.IsJobRun, Passes.DoesJob}
 
 one_run_more : (rs : List JobRun) (r : JobRun) → AreJobRuns rs → IsJobRun r → AreJobRuns (rs ++ r ∷ [])
 one_run_more [] r are is = (is, tt)

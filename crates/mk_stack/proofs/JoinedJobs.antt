@@ -1,25 +1,19 @@
 -- Callers that did their jobs, as the host joins them.
-use Rattle.std.proofs.Common.{Err, IfOk, IsOk, Ok, OnOk, Result, slice_get}
-use Rattle.std.proofs.lemmas.List.{drop_more}
+use Rattle.std.proofs.{Common.{Err, IfOk, IsOk, Ok, OnOk, Result, slice_get}, lemmas.List.drop_more}
 use Rattle.std.proofs.lemmas.Option.{slice_get-get_or}
 use Rattle.mk_stack.proofs.Vocabulary.{Caller, CallerState, Config, DoesJobs, Done, Dones, Event, Grows, Has}
 use Rattle.mk_stack.proofs.Vocabulary.{HasHandedOut, HasStackTypes, HaveDone, HaveWorked, Host, HostState, Job, Jobs}
 use Rattle.mk_stack.proofs.Vocabulary.{Joined, PassState, Replied, Seat, WordsState, at_home, caller_of_pass, pass_for}
-use Rattle.mk_stack.proofs.Vocabulary.{replied_in, replied_to, with_joined}
-use Rattle.mk_stack.proofs.OwnCalls.{none_of}
-use Rattle.mk_stack.proofs.Replies.{same_replied}
+use Rattle.mk_stack.proofs.{Vocabulary.{replied_in, replied_to, with_joined}, OwnCalls.none_of, Replies.same_replied}
 use Rattle.mk_laws.proofs.Vocabulary.{List, Some, ℕ, ap, arith, drop, get_or, length, refl, subst, sym, true, [], ◌++◌}
 use Rattle.mk_laws.proofs.Vocabulary.{◌+◌, ◌<◌, ◌∙◌, ◌∷◌, ◌≡◌, ◌≤◌, ◌⊎◌}
 use Rattle.mk_never.specs.declared.never_heap.NoMemory.{NoMemory}
 use Rattle.mk_core.specs.History.{calls_from}
 use Rattle.mk_caller.specs.States.{IsIdleCaller}
 use Rattle.mk_heap.specs.Hosts.{with_caller_made}
-use Rattle.mk_stack.specs.Joining.{HasWorked, IsBetweenJobs}
-use Rattle.mk_stack.specs.JobLists.{HasDone}
-use Rattle.mk_stack.specs.Ready.{IsReadyForJobs}
+use Rattle.mk_stack.specs.{Joining.{HasWorked, IsBetweenJobs}, JobLists.HasDone, Ready.IsReadyForJobs}
 use Rattle.mk_stack.specs.declared.joining.Worked.{Worked}
-use Rattle.mk_words.proofs.Seats.{has_first, has_left, has_right, others_own, without_keeps}
-use Rattle.mk_words.specs.Seats.{has_over}
+use Rattle.mk_words.{proofs.Seats.{has_first, has_left, has_right, others_own, without_keeps}, specs.Seats.{has_over}}
 
 -- What a caller did stands where the list goes on by events of others.
 

@@ -2,14 +2,11 @@
 use Rattle.std.proofs.lemmas.List.{length-replicate}
 use Rattle.mk_stack.proofs.Vocabulary.{AreDecidedOnce, Call, Founded, Founding, IsOneOf, JobRun, Kind, NeverState, Null}
 use Rattle.mk_stack.proofs.Vocabulary.{Replied, after_calls, allocation_at, bit, order_of, own_decisions}
-use Rattle.mk_stack.proofs.Invariant.{Core, Inv, Local, Work}
-use Rattle.mk_stack.proofs.Roles.{Base, Freed, Private, Role, Stacked, Taken, Unborn, is_gone}
-use Rattle.mk_stack.proofs.Writes.{granted, unborn_base, unborn_private, unborn_stacked, unborn_taken}
-use Rattle.mk_stack.proofs.Chains.{on_stack_role, stack_is_linked}
-use Rattle.mk_stack.proofs.Owing.{IsWork, Ran}
-use Rattle.mk_stack.proofs.Running.{run_all}
-use Rattle.mk_stack.specs.Interleavings.{IsInterleaved, jobs_of_first}
-use Rattle.mk_stack.specs.Laws.{IsExplained, IsLinearized, LeaksNothing, StacksAreLinearizable, times_freed}
+use Rattle.mk_stack.proofs.{Invariant.{Core, Inv, Local, Work}, Roles.{Base, Freed, Private, Role, Stacked, Taken}}
+use Rattle.mk_stack.proofs.{Roles.{Unborn, is_gone}, Writes.{granted, unborn_base, unborn_private, unborn_stacked}}
+use Rattle.mk_stack.proofs.{Writes.unborn_taken, Chains.{on_stack_role, stack_is_linked}, Owing.{IsWork, Ran}}
+use Rattle.mk_stack.{proofs.Running.{run_all}, specs.Laws.{StacksAreLinearizable, times_freed}}
+use Rattle.mk_stack.specs.{Interleavings.{IsInterleaved, jobs_of_first}, Laws.{IsExplained, IsLinearized, LeaksNothing}}
 use Rattle.mk_laws.proofs.Vocabulary.{List, None, ℕ, arith, drop, length, refl, suc, take, zero, [], ◌*◌, ◌<◌, ◌≡◌}
 use Rattle.mk_never.specs.NeverHeap.{start_of}
 

@@ -2,8 +2,7 @@
 use Rattle.std.proofs.Common.{IfSome, slice_get}
 use Rattle.mk_stack.proofs.Vocabulary.{IsPointerTo, IsTyped, Kind, MayPointTo, NeverState, Null, Num, Number, Ptr, To}
 use Rattle.mk_stack.proofs.Vocabulary.{Value, WordOf, allocation_at, global_at, kinds_of, node_kinds, register_at}
-use Rattle.mk_stack.proofs.Vocabulary.{target_of, top_kinds, word_at, words_of}
-use Rattle.mk_stack.proofs.Heaps.{reaches}
+use Rattle.mk_stack.proofs.{Vocabulary.{target_of, top_kinds, word_at, words_of}, Heaps.reaches}
 use Rattle.mk_laws.proofs.Vocabulary.{List, Meets, Option, Some, Suits, ℕ, ap, arith, get_or, length, refl, subst, sym}
 use Rattle.mk_laws.proofs.Vocabulary.{◌+◌, ◌<◌, ◌∙◌, ◌≡◌, ◌≤◌}
 use Rattle.mk_never.specs.Admitted.{IsCaller, IsOfKind}

@@ -3,16 +3,12 @@ use Rattle.std.proofs.Common.{option_and_then}
 use Rattle.mk_stack.proofs.Vocabulary.{AreDecidedOnce, AreJobRuns, Call, Done, Ended, Founded, Job, JobRun, Leads}
 use Rattle.mk_stack.proofs.Vocabulary.{NeverState, Op, Ordered, Point, Replied, after_calls, after_op, all_of, bit}
 use Rattle.mk_stack.proofs.Vocabulary.{numbers_in, order_of, own_decisions, own_replied, reply_of}
-use Rattle.mk_stack.proofs.Assembly.{Decides, IsLeft, IsOfJob, job_at, nothing, settles}
-use Rattle.mk_stack.proofs.Invariant.{Core, Inv, IsFreeing, IsPushing, Local, Work}
-use Rattle.mk_stack.proofs.Roles.{Private, Role, Taken, is_gone}
+use Rattle.mk_stack.proofs.{Assembly.{Decides, IsLeft, IsOfJob, job_at, nothing, settles}, Invariant.{Core, Inv}}
+use Rattle.mk_stack.proofs.{Invariant.{IsFreeing, IsPushing, Local, Work}, Roles.{Private, Role, Taken, is_gone}}
 use Rattle.mk_stack.proofs.JobGoals.{goal_frees_nothing, goal_pushes_nothing}
 use Rattle.mk_laws.proofs.Vocabulary.{Bool, List, None, Option, Some, ℕ, ap, arith, drop, eq-eqb, if◌then◌else◌, length}
 use Rattle.mk_laws.proofs.Vocabulary.{ne_eqb, refl, replies_of, subst, sym, take, [], ◌++◌, ◌+◌, ◌∙◌, ◌∷◌, ◌≡◌, ◌≢◌}
-use Rattle.mk_stack.specs.Advancing.{IsGoal}
-use Rattle.mk_stack.specs.Jobs.{IsJobRun}
-use Rattle.mk_stack.specs.Laws.{NoneIsDouble, times_freed}
-use Rattle.mk_stack.specs.Orders.{left_by_all}
+use Rattle.mk_stack.specs.{Advancing.IsGoal, Jobs.IsJobRun, Laws.{NoneIsDouble, times_freed}, Orders.left_by_all}
 
 -- what a caller still has to do
 pub record IsWork (n : NeverState) (calls : List Call) (k : ℕ) (w : Work) : Type 0 where

@@ -9,16 +9,13 @@ use Rattle.mk_stack.proofs.Vocabulary.{flagged, follow, found, free, free_again,
 use Rattle.mk_stack.proofs.Vocabulary.{kinds_of, lack, left_at, link, look, make, meet, miss, next_point, node_kinds}
 use Rattle.mk_stack.proofs.Vocabulary.{number_of, op_at, peek, place, pop_again, publish, push_again, read, register_at}
 use Rattle.mk_stack.proofs.Vocabulary.{reply_at, reply_of, start, target_of, top_kinds, unlink, with_new, with_register}
-use Rattle.mk_stack.proofs.Vocabulary.{with_word, word_at}
-use Rattle.mk_stack.proofs.AtPoints.{holds_still, may_on, points_on}
+use Rattle.mk_stack.proofs.{Vocabulary.{with_word, word_at}, AtPoints.{holds_still, may_on, points_on}}
 use Rattle.mk_stack.proofs.NodeKinds.{IsStackState, gets_to, global_kind, may_point, meets, node_link, not_null_points}
-use Rattle.mk_stack.proofs.NodeKinds.{top_word}
-use Rattle.mk_stack.proofs.Heaps.{other_register, set_register}
+use Rattle.mk_stack.proofs.{NodeKinds.top_word, Heaps.{other_register, set_register}}
 use Rattle.mk_laws.proofs.Vocabulary.{AccessIsAdmitted, Bool, IsAdmitted, IsNumber, IsPointer, List, Meets, ℕ, ap}
 use Rattle.mk_laws.proofs.Vocabulary.{arith, false, false≢true, get_or, if◌then◌else◌, length, refl, subst, suc, sym}
 use Rattle.mk_laws.proofs.Vocabulary.{true, zero, [], ◌*◌, ◌+◌, ◌<◌, ◌∙◌, ◌∷◌, ◌≡◌, ◌≢◌}
-use Rattle.mk_never.specs.Admitted.{IsBase, IsOfKind, OperandsAreInRange, StoreIsAdmitted}
-use Rattle.mk_never.specs.NeverHeap.{free_reply}
+use Rattle.mk_never.specs.{Admitted.{IsBase, IsOfKind, OperandsAreInRange, StoreIsAdmitted}, NeverHeap.free_reply}
 use Rattle.mk_run.specs.Scripts.{as_told}
 use Rattle.mk_stack.specs.Advancing.{says_full, says_yes}
 

@@ -1,13 +1,11 @@
 -- A pop takes the uppermost node off the stack.
 use Rattle.mk_stack.proofs.Vocabulary.{Freeing, IsOneOf, NeverState, Null, Op, Pop, Popped, Ptr, Replied, Taking, Value}
 use Rattle.mk_stack.proofs.Vocabulary.{freed_by, number_of, numbers_in, register_at, with_word, word_at, words_of}
-use Rattle.mk_stack.proofs.Chains.{chain_stays, not_one_of, numbers_stay}
-use Rattle.mk_stack.proofs.Exchanges.{by_exchange, node_is_no_top, words_stay}
-use Rattle.mk_stack.proofs.Invariant.{AllHeld, HasChain, HasTaken, Inv, IsHeld, Work}
+use Rattle.mk_stack.proofs.{Chains.{chain_stays, not_one_of, numbers_stay}, Exchanges.{by_exchange, node_is_no_top}}
+use Rattle.mk_stack.proofs.{Exchanges.words_stay, Invariant.{AllHeld, HasChain, HasTaken, Inv, IsHeld, Work}}
 use Rattle.mk_stack.proofs.Roles.{Role, Stacked, Taken, put, put_by, put_other, put_same, size_of}
 use Rattle.mk_stack.proofs.Writes.{base_stacked, granted, private_taken, taken_stacked, unborn_base}
-use Rattle.mk_stack.proofs.Assembly.{Stepped, settles}
-use Rattle.mk_stack.proofs.Heaps.{written}
+use Rattle.mk_stack.proofs.{Assembly.{Stepped, settles}, Heaps.written}
 use Rattle.mk_laws.proofs.Vocabulary.{Bool, List, None, Option, Some, ℕ, ap, arith, cond, eq-eqb, get_or, inl, inr}
 use Rattle.mk_laws.proofs.Vocabulary.{length, refl, subst, sym, ◌∙◌, ◌∷◌, ◌≡◌, ◌≢◌}
 

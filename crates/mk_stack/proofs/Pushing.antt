@@ -2,14 +2,11 @@
 use Rattle.std.proofs.Common.{ap₂}
 use Rattle.mk_stack.proofs.Vocabulary.{Ended, IsOneOf, NeverState, Null, Op, Ptr, Publishing, Push, Pushed, Replied}
 use Rattle.mk_stack.proofs.Vocabulary.{Value, freed_by, number_of, numbers_in, register_at, with_word, word_at}
-use Rattle.mk_stack.proofs.Vocabulary.{words_of}
-use Rattle.mk_stack.proofs.Chains.{chain_stays, numbers_stay, other_role}
-use Rattle.mk_stack.proofs.Exchanges.{by_exchange, node_is_no_top, words_stay}
-use Rattle.mk_stack.proofs.Invariant.{AllHeld, HasChain, HasLinked, Inv, IsChain, IsHeld, Work}
-use Rattle.mk_stack.proofs.Roles.{Role, Stacked, put, put_by, put_other, put_same, size_of}
-use Rattle.mk_stack.proofs.Writes.{base_stacked, granted, private_stacked, taken_stacked, unborn_base}
-use Rattle.mk_stack.proofs.Assembly.{Stepped, settles}
-use Rattle.mk_stack.proofs.Heaps.{written}
+use Rattle.mk_stack.proofs.{Vocabulary.words_of, Chains.{chain_stays, numbers_stay, other_role}}
+use Rattle.mk_stack.proofs.{Exchanges.{by_exchange, node_is_no_top, words_stay}, Invariant.{AllHeld, HasChain}}
+use Rattle.mk_stack.proofs.{Invariant.{HasLinked, Inv, IsChain, IsHeld, Work}, Roles.{Role, Stacked, put, put_by}}
+use Rattle.mk_stack.proofs.{Roles.{put_other, put_same, size_of}, Writes.{base_stacked, granted, private_stacked}}
+use Rattle.mk_stack.proofs.{Writes.{taken_stacked, unborn_base}, Assembly.{Stepped, settles}, Heaps.written}
 use Rattle.mk_laws.proofs.Vocabulary.{List, None, Option, Some, ℕ, ap, arith, get_or, inl, inr, length, refl, subst}
 use Rattle.mk_laws.proofs.Vocabulary.{sym, ◌∙◌, ◌∷◌, ◌≡◌, ◌≢◌}
 

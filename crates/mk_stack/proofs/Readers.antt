@@ -1,19 +1,15 @@
 -- The first caller reads what is left on the stack, when all callers are joined, and is joined again.
-use Rattle.std.proofs.Common.{⊎_elim}
-use Rattle.std.proofs.lemmas.List.{append_cancel_left}
+use Rattle.std.proofs.{Common.⊎_elim, lemmas.List.append_cancel_left}
 use Rattle.mk_stack.proofs.Vocabulary.{AreAllBy, AreBelow, Caller, CallerState, Config, Decided, Grows, Has, HasWalked}
 use Rattle.mk_stack.proofs.Vocabulary.{Host, HostState, IsHistory, PassState, ReadsStack, Seat, WordsState, asked}
 use Rattle.mk_stack.proofs.Vocabulary.{at_home, caller_of_pass, calls, calls_from, left, never_behind, never_first}
-use Rattle.mk_stack.proofs.Vocabulary.{own_replied, pass_for, replied_in, with_joined}
-use Rattle.mk_stack.proofs.JoinedJobs.{still_replied}
-use Rattle.mk_stack.proofs.OwnCalls.{all_by, below_later, none_of}
-use Rattle.mk_stack.proofs.Replies.{asked_grown, own_in_parts}
+use Rattle.mk_stack.proofs.{Vocabulary.{own_replied, pass_for, replied_in, with_joined}, JoinedJobs.still_replied}
+use Rattle.mk_stack.proofs.{OwnCalls.{all_by, below_later, none_of}, Replies.{asked_grown, own_in_parts}}
 use Rattle.mk_stack.proofs.StackHistories.{callers_are_below}
 use Rattle.mk_laws.proofs.Vocabulary.{List, ℕ, ap, cases_eq, ne_eqb, refl, subst, sym, [], ◌++◌, ◌<◌, ◌∙◌, ◌∷◌, ◌≡◌}
 use Rattle.mk_laws.proofs.Vocabulary.{◌≢◌}
 use Rattle.mk_heap.specs.Hosts.{with_caller_out}
-use Rattle.mk_stack.specs.Joining.{IsReader}
-use Rattle.mk_stack.specs.declared.walking.WalkPoint.{WalkPoint}
+use Rattle.mk_stack.specs.{Joining.IsReader, declared.walking.WalkPoint.WalkPoint}
 use Rattle.mk_words.proofs.Seats.{has_first, has_left, has_right, others_own, without_keeps}
 use Rattle.mk_words.specs.Seats.{has_over, without_seat}
 

@@ -1,12 +1,9 @@
 -- Steps that leave all allocations: a register that is set, a global, or nothing.
 use Rattle.mk_stack.proofs.Vocabulary.{Done, NeverState, Null, Op, Ordered, Point, Ptr, Replied, Value, freed_by}
-use Rattle.mk_stack.proofs.Vocabulary.{numbers_in, with_global, with_register, word_at}
-use Rattle.mk_stack.proofs.Assembly.{Decides, IsLeft, Stepped, nothing, same_roles}
-use Rattle.mk_stack.proofs.Invariant.{AllHeld, Core, HasChain, Inv, IsChain, Local, Work}
-use Rattle.mk_stack.proofs.Roles.{Base, Role, same_role}
-use Rattle.mk_stack.proofs.Chains.{all_numbers_stay, has_chain_stays}
-use Rattle.mk_stack.proofs.Frames.{Leaves}
-use Rattle.mk_stack.proofs.Heaps.{register_of_other}
+use Rattle.mk_stack.proofs.{Vocabulary.{numbers_in, with_global, with_register, word_at}, Assembly.{Decides, IsLeft}}
+use Rattle.mk_stack.proofs.{Assembly.{Stepped, nothing, same_roles}, Invariant.{AllHeld, Core, HasChain, Inv, IsChain}}
+use Rattle.mk_stack.proofs.{Invariant.{Local, Work}, Roles.{Base, Role, same_role}}
+use Rattle.mk_stack.proofs.{Chains.{all_numbers_stay, has_chain_stays}, Frames.Leaves, Heaps.register_of_other}
 use Rattle.mk_laws.proofs.Vocabulary.{List, None, Option, Some, ℕ, arith, get_or-set_same, length, length-set, refl}
 use Rattle.mk_laws.proofs.Vocabulary.{subst, sym, [], ◌*◌, ◌+◌, ◌<◌, ◌≡◌, ◌≢◌}
 

@@ -8,15 +8,12 @@ use Rattle.mk_stack.proofs.OwnCalls.{none_since}
 use Rattle.mk_laws.proofs.Vocabulary.{Bool, KeepsRegisters, List, Step, ℕ, ap, append-nil, append_assoc, arith}
 use Rattle.mk_laws.proofs.Vocabulary.{bases_of, call_decided, earlier_part_is_history, eq-eqb, false, first_world}
 use Rattle.mk_laws.proofs.Vocabulary.{if◌then◌else◌, length, map-append, refl, subst, sym, true, [], ◌++◌, ◌<◌, ◌==◌}
-use Rattle.mk_laws.proofs.Vocabulary.{◌∙◌, ◌∷◌, ◌≡◌}
-use Rattle.mk_laws.proofs.LastEvents.{comes_last, stands}
+use Rattle.mk_laws.proofs.{Vocabulary.{◌∙◌, ◌∷◌, ◌≡◌}, LastEvents.{comes_last, stands}}
 use Rattle.mk_never.specs.Admitted.{IsCaller}
-use Rattle.mk_core.proofs.Histories.{calls_more}
-use Rattle.mk_core.proofs.HistoryParts.{calls_in_parts}
+use Rattle.mk_core.proofs.{Histories.calls_more, HistoryParts.calls_in_parts}
 use Rattle.mk_alloc.specs.TurnCalls.{CalledInTurn}
 use Rattle.mk_caller.proofs.OwnSteps.{by_append, calls_by}
-use Rattle.mk_caller.specs.Called.{IsDecidedIn, own_calls}
-use Rattle.mk_caller.specs.Causes.{FindsGateHeld}
+use Rattle.mk_caller.specs.{Called.{IsDecidedIn, own_calls}, Causes.FindsGateHeld}
 use Rattle.mk_words.specs.States.{event_of}
 
 -- A caller's operations in two parts

@@ -5,10 +5,8 @@ use Rattle.mk_stack.proofs.Vocabulary.{numbers_in, order_of, own_decisions, own_
 use Rattle.mk_stack.proofs.Invariant.{Inv, IsFreeing, IsHeld, IsPushing, Local, Work}
 use Rattle.mk_stack.proofs.JobGoals.{goal_frees_nothing, goal_pushes_nothing, no_founding, same_job}
 use Rattle.mk_stack.proofs.Owing.{IsOnce, IsWork, Ran, all_done, begins, decision_of_other, explained_more, mine}
-use Rattle.mk_stack.proofs.Owing.{my_decision, of_other, once_more, owed, settled}
-use Rattle.mk_stack.proofs.Assembly.{IsOfJob, Stepped, moved}
-use Rattle.mk_stack.proofs.Roles.{Role, put, put_by, put_other, put_same}
-use Rattle.mk_stack.proofs.Stepping.{single, steps}
+use Rattle.mk_stack.proofs.{Owing.{my_decision, of_other, once_more, owed, settled}, Assembly.{IsOfJob, Stepped, moved}}
+use Rattle.mk_stack.proofs.{Roles.{Role, put, put_by, put_other, put_same}, Stepping.{single, steps}}
 use Rattle.mk_laws.proofs.Vocabulary.{List, None, Option, ℕ, ap, arith, drop, length, refl, subst, suc, sym, take, []}
 use Rattle.mk_laws.proofs.Vocabulary.{◌++◌, ◌<◌, ◌∙◌, ◌∷◌, ◌≡◌, ◌≢◌}
 

@@ -1,6 +1,5 @@
 -- The heap of a stack is within the limits, and has the types of a stack.
-use Rattle.mk_stack.proofs.Vocabulary.{Kind, node_kinds, top_kinds}
-use Rattle.mk_stack.specs.StackRuns.{stack_config}
+use Rattle.mk_stack.{proofs.Vocabulary.{Kind, node_kinds, top_kinds}, specs.StackRuns.{stack_config}}
 use Rattle.mk_laws.proofs.Vocabulary.{IsWithinLimits, List, ℕ, arith, [], ◌∷◌, ◌≤◌}
 use Rattle.mk_core.specs.Config.{IsBetween}
 

@@ -3,20 +3,14 @@ use Rattle.mk_stack.proofs.Vocabulary.{AreAllBy, AreBelow, AreJobRuns, AreOfOthe
 use Rattle.mk_stack.proofs.Vocabulary.{Dones, Event, Founded, Founding, HasStackTypes, HaveDone, IsHistory, JobRun}
 use Rattle.mk_stack.proofs.Vocabulary.{Jobs, Leads, LeadsDown, NeverState, Replied, after_op, all_of, asked, calls}
 use Rattle.mk_stack.proofs.Vocabulary.{calls_from, left, never_behind, never_first, numbers_read, own_replied}
-use Rattle.mk_stack.proofs.Vocabulary.{replied_in, reply_of}
-use Rattle.mk_stack.proofs.Linearizable.{stacks_are_linearizable}
-use Rattle.mk_stack.proofs.OwnCalls.{below_later, no_calls, none_of}
-use Rattle.mk_stack.proofs.Replies.{asked_grown}
-use Rattle.mk_stack.proofs.StackHistories.{callers_are_below}
-use Rattle.mk_stack.proofs.Walks.{walks_read_the_stack}
+use Rattle.mk_stack.proofs.{Vocabulary.{replied_in, reply_of}, Linearizable.stacks_are_linearizable}
+use Rattle.mk_stack.proofs.{OwnCalls.{below_later, no_calls, none_of}, Replies.asked_grown}
+use Rattle.mk_stack.proofs.{StackHistories.callers_are_below, Walks.walks_read_the_stack}
 use Rattle.mk_laws.proofs.Vocabulary.{Bool, List, ℕ, ap, append-nil, arith, earlier_part_is_history, false}
 use Rattle.mk_laws.proofs.Vocabulary.{if◌then◌else◌, length, ne_eqb, refl, subst, suc, sym, true, zero, [], ◌*◌, ◌++◌}
-use Rattle.mk_laws.proofs.Vocabulary.{◌+◌, ◌<◌, ◌==◌, ◌∙◌, ◌∷◌, ◌≡◌, ◌≤◌}
-use Rattle.mk_laws.proofs.LastEvents.{stands}
-use Rattle.mk_stack.specs.Interleavings.{IsInterleaved, jobs_of_first}
-use Rattle.mk_stack.specs.Laws.{IsExplained}
-use Rattle.mk_stack.specs.StackRuns.{AreRunsOf, IsStackRun}
-use Rattle.mk_stack.specs.declared.walking.WalkPoint.{WalkPoint}
+use Rattle.mk_laws.proofs.{Vocabulary.{◌+◌, ◌<◌, ◌==◌, ◌∙◌, ◌∷◌, ◌≡◌, ◌≤◌}, LastEvents.stands}
+use Rattle.mk_stack.specs.{Interleavings.{IsInterleaved, jobs_of_first}, Laws.IsExplained}
+use Rattle.mk_stack.specs.{StackRuns.{AreRunsOf, IsStackRun}, declared.walking.WalkPoint.WalkPoint}
 
 -- A caller that isn't there asks for nothing.
 unasked_beyond : (k callers : ℕ) (n : NeverState) (xs : List Call) → AreBelow callers xs → callers ≤ k

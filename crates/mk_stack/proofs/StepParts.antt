@@ -4,8 +4,7 @@ use Rattle.mk_stack.proofs.Vocabulary.{Reply, Value, WordOf, after_op, bit, done
 use Rattle.mk_stack.proofs.Vocabulary.{reply_of, target_of, with_register, with_word, word_at, words_of}
 use Rattle.mk_stack.proofs.Invariant.{AllHeld, HasChain, HasTop, Inv, IsFreeing, IsHeld, IsPushing, Work}
 use Rattle.mk_stack.proofs.Roles.{Base, Freed, Private, Role, Stacked, Taken, Unborn, put, put_by, size_of}
-use Rattle.mk_stack.proofs.Assembly.{Decides, Stepped, held_on}
-use Rattle.mk_stack.proofs.Heaps.{reaches, set_register}
+use Rattle.mk_stack.proofs.{Assembly.{Decides, Stepped, held_on}, Heaps.{reaches, set_register}}
 use Rattle.mk_laws.proofs.Vocabulary.{Bool, List, None, Option, Some, ℕ, arith, cond, false, false≢true, length, refl}
 use Rattle.mk_laws.proofs.Vocabulary.{subst, sym, true, [], ◌*◌, ◌+◌, ◌<◌, ◌∙◌, ◌≡◌, ◌≢◌, ◌≤◌}
 use Rattle.mk_never.proofs.Sameness.{equal_from_same, same_from_equal}

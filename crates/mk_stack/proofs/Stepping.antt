@@ -7,21 +7,16 @@ use Rattle.mk_stack.proofs.Vocabulary.{clear, done_without, fail, fill, find_no_
 use Rattle.mk_stack.proofs.Vocabulary.{freed_by, global_at, go_pop, go_push, lack, left_at, left_by, link, look, make}
 use Rattle.mk_stack.proofs.Vocabulary.{meet, miss, number_of, numbers_in, peek, place, pop_again, publish, push_again}
 use Rattle.mk_stack.proofs.Vocabulary.{read, register_at, reply_of, start, unlink, with_new, with_register, with_word}
-use Rattle.mk_stack.proofs.Vocabulary.{word_at, words_of, zero_words}
-use Rattle.mk_stack.proofs.Assembly.{Stepped, held_on, nothing, settles}
-use Rattle.mk_stack.proofs.Heaps.{other_register, other_word, set_register, written}
-use Rattle.mk_stack.proofs.Invariant.{AllHeld, HasChain, HasFilled, HasLinked, HasSeen, HasTaken, HasTop, Inv, IsChain}
-use Rattle.mk_stack.proofs.Invariant.{IsFreeing, IsHeld, IsPushing, Local, Work}
-use Rattle.mk_stack.proofs.Roles.{Base, IsPublished, Private, Role, is_gone, put_same, size_of}
-use Rattle.mk_stack.proofs.StepParts.{done_is_not_double, exchanged_from, exchanges, gets, idle, keeps_top, leaves_all}
-use Rattle.mk_stack.proofs.StepParts.{null_is_null, num_is, other_is_not, ptr_is, ptr_is_not_null, put_held}
-use Rattle.mk_stack.proofs.StepParts.{register_set, there, top_role, undecided, without_left}
+use Rattle.mk_stack.proofs.{Vocabulary.{word_at, words_of, zero_words}, Assembly.{Stepped, held_on, nothing, settles}}
+use Rattle.mk_stack.proofs.{Heaps.{other_register, other_word, set_register, written}, Invariant.{AllHeld, HasChain}}
+use Rattle.mk_stack.proofs.Invariant.{HasFilled, HasLinked, HasSeen, HasTaken, HasTop, Inv, IsChain, IsFreeing, IsHeld}
+use Rattle.mk_stack.proofs.{Invariant.{IsPushing, Local, Work}, Roles.{Base, IsPublished, Private, Role, is_gone}}
+use Rattle.mk_stack.proofs.{Roles.{put_same, size_of}, StepParts.{done_is_not_double, exchanged_from, exchanges, gets}}
+use Rattle.mk_stack.proofs.StepParts.{idle, keeps_top, leaves_all, null_is_null, num_is, other_is_not, ptr_is}
+use Rattle.mk_stack.proofs.StepParts.{ptr_is_not_null, put_held, register_set, there, top_role, undecided, without_left}
 use Rattle.mk_stack.proofs.Writes.{base_private, base_stacked, base_taken, by_write, granted, private_stacked}
-use Rattle.mk_stack.proofs.Writes.{private_taken, same_private, unborn_base, unborn_private}
-use Rattle.mk_stack.proofs.Freeing.{by_free}
-use Rattle.mk_stack.proofs.Grants.{IsNewRole, by_grant, made}
-use Rattle.mk_stack.proofs.Popping.{by_pop}
-use Rattle.mk_stack.proofs.Pushing.{by_push}
+use Rattle.mk_stack.proofs.{Writes.{private_taken, same_private, unborn_base, unborn_private}, Freeing.by_free}
+use Rattle.mk_stack.proofs.{Grants.{IsNewRole, by_grant, made}, Popping.by_pop, Pushing.by_push}
 use Rattle.mk_stack.proofs.Registered.{by_global, by_nothing, by_register}
 use Rattle.mk_laws.proofs.Vocabulary.{Bool, List, None, Option, Some, ℕ, ap, arith, eq-eqb, get_or, if◌then◌else◌, inl}
 use Rattle.mk_laws.proofs.Vocabulary.{inr, length, ne_eqb, refl, subst, sym, [], ◌<◌, ◌∙◌, ◌∷◌, ◌≡◌, ◌≢◌, ◌⊎◌}

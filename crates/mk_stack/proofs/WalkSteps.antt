@@ -4,19 +4,13 @@ use Rattle.mk_stack.proofs.Vocabulary.{Answer, CallerState, HasStackTypes, HasWa
 use Rattle.mk_stack.proofs.Vocabulary.{NeverState, Op, PassState, Point, Pop, Replied, Reply, after_op, answer_of}
 use Rattle.mk_stack.proofs.Vocabulary.{global_at, numbers_read, register_at, reply_of, value_of}
 use Rattle.mk_stack.proofs.Advances.{Steps, of_asked, place_state, ready_state, steps_so}
-use Rattle.mk_stack.proofs.NodeKinds.{IsStackState, global_kind}
-use Rattle.mk_stack.proofs.PointSteps.{admits, kept, loads_link, loads_number, loads_top, may_follow, now_may, tested}
-use Rattle.mk_stack.proofs.AtPoints.{holds_still}
-use Rattle.mk_stack.proofs.Going.{seen_then}
-use Rattle.mk_stack.proofs.Replies.{Stays, from_called}
-use Rattle.mk_stack.specs.declared.walking.WalkPoint.{WalkPoint}
-use Rattle.mk_stack.specs.Walks.{Walks, descend, found_down, go, lack, meet, number_read, op_down, peek, read, start}
-use Rattle.mk_stack.specs.Walks.{stop}
-use Rattle.mk_stack.specs.Ready.{IsReady}
-use Rattle.mk_stack.specs.declared.walking.Found.{Found}
+use Rattle.mk_stack.proofs.{NodeKinds.{IsStackState, global_kind}, PointSteps.{admits, kept, loads_link, loads_number}}
+use Rattle.mk_stack.proofs.{PointSteps.{loads_top, may_follow, now_may, tested}, AtPoints.holds_still, Going.seen_then}
+use Rattle.mk_stack.{proofs.Replies.{Stays, from_called}, specs.declared.walking.Found.{Found}}
+use Rattle.mk_stack.specs.{declared.walking.WalkPoint.WalkPoint, Walks.{Walks, descend, found_down, go, lack, meet}}
+use Rattle.mk_stack.specs.{Walks.{number_read, op_down, peek, read, start, stop}, Ready.IsReady}
 use Rattle.mk_laws.proofs.Vocabulary.{IsAdmitted, List, Some, ℕ, ap, append-nil, append_assoc, arith, false}
-use Rattle.mk_laws.proofs.Vocabulary.{is_under_turn, refl, subst, sym, [], ◌++◌, ◌∙◌, ◌∷◌, ◌≡◌}
-use Rattle.mk_laws.proofs.CallSorts.{flag_is}
+use Rattle.mk_laws.proofs.{Vocabulary.{is_under_turn, refl, subst, sym, [], ◌++◌, ◌∙◌, ◌∷◌, ◌≡◌}, CallSorts.flag_is}
 use Rattle.mk_caller.specs.States.{Admits}
 use Rattle.mk_run.specs.Scripts.{IsCalled, as_told}
 

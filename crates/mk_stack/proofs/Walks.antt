@@ -3,12 +3,9 @@ use Rattle.mk_stack.proofs.Vocabulary.{Allocation, AreAllBy, Call, LeadsDown, Ne
 use Rattle.mk_stack.proofs.Vocabulary.{Reply, Target, Unmapped, Value, WordOf, after_op, allocation_at, bit, global_at}
 use Rattle.mk_stack.proofs.Vocabulary.{is_same, is_unmapped, left_at, number_of, numbers_in, numbers_read, own_replied}
 use Rattle.mk_stack.proofs.Vocabulary.{register_at, reply_at, reply_of, target_of, with_register, word_at}
-use Rattle.mk_stack.proofs.Heaps.{set_register}
-use Rattle.mk_stack.specs.declared.walking.WalkPoint.{WalkPoint}
-use Rattle.mk_stack.specs.Laws.{AreLinked, uppermost}
+use Rattle.mk_stack.{proofs.Heaps.{set_register}, specs.{Walks.{read, start, stop}, Looks.{AreLooks, IsLook}}}
+use Rattle.mk_stack.specs.{declared.walking.WalkPoint.WalkPoint, Laws.{AreLinked, uppermost}}
 use Rattle.mk_stack.specs.Walks.{Walks, WalksReadTheStack, descend, go, lack, meet, number_read, number_told, peek}
-use Rattle.mk_stack.specs.Walks.{read, start, stop}
-use Rattle.mk_stack.specs.Looks.{AreLooks, IsLook}
 use Rattle.mk_laws.proofs.Vocabulary.{Bool, List, ℕ, ap, arith, eq-eqb, false, if◌then◌else◌, length, length-set, map}
 use Rattle.mk_laws.proofs.Vocabulary.{refl, subst, sym, [], ◌*◌, ◌++◌, ◌+◌, ◌<◌, ◌∙◌, ◌∷◌, ◌≡◌, ◌≢◌}
 

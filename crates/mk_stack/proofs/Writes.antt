@@ -1,13 +1,9 @@
 -- A caller writes to a node of its own.
 use Rattle.mk_stack.proofs.Vocabulary.{Done, NeverState, Null, Op, Point, Replied, Value, freed_by, with_word, word_at}
-use Rattle.mk_stack.proofs.Vocabulary.{words_of}
-use Rattle.mk_stack.proofs.Invariant.{AllHeld, Core, HasChain, Inv, Local, Work}
+use Rattle.mk_stack.proofs.{Vocabulary.words_of, Invariant.{AllHeld, Core, HasChain, Inv, Local, Work}}
 use Rattle.mk_stack.proofs.Roles.{Base, Private, Role, RoleKeeps, Stacked, Taken, Unborn, same_role}
-use Rattle.mk_stack.proofs.Assembly.{Stepped, nothing, same_roles}
-use Rattle.mk_stack.proofs.Chains.{all_numbers_stay, has_chain_stays}
-use Rattle.mk_stack.proofs.Fitting.{written_fits}
-use Rattle.mk_stack.proofs.Frames.{Leaves}
-use Rattle.mk_stack.proofs.Heaps.{other_words}
+use Rattle.mk_stack.proofs.{Assembly.{Stepped, nothing, same_roles}, Chains.{all_numbers_stay, has_chain_stays}}
+use Rattle.mk_stack.proofs.{Fitting.written_fits, Frames.Leaves, Heaps.other_words}
 use Rattle.mk_laws.proofs.Vocabulary.{List, None, Option, ℕ, ap, cases_eq, cases_lt, get_or, inl, inr, length, refl}
 use Rattle.mk_laws.proofs.Vocabulary.{subst, sym, ◌<◌, ◌∙◌, ◌≡◌, ◌≢◌, ◌≤◌, ◌⊎◌}
 

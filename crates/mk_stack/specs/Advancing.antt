@@ -1,23 +1,16 @@
 -- The operations of a job: which one a point asks, where its answer leads, and what its caller's registers hold there.
 -- Private functions alone cite this.
 use Rattle.std.specs.Prelude.{◌≡◌, ℕ, ◌==◌, Bool, true, false, Option, Some, None, if◌then◌else◌}
-use Rattle.mk_never.specs.declared.operations.Op.{Op}
-use Rattle.mk_never.specs.declared.types.Kind.TheVariants.{To}
-use Rattle.mk_never.specs.declared.values.Value.{Value}
-use Rattle.mk_never.specs.declared.values.Value.TheVariants.{Ptr}
-use Rattle.mk_never.specs.Admitted.{IsOfKind}
+use Rattle.mk_never.specs.{declared.operations.Op.Op, declared.types.Kind.TheVariants.To, declared.values.Value.Value}
+use Rattle.mk_never.specs.{declared.values.Value.TheVariants.Ptr, Admitted.IsOfKind}
 use Rattle.mk_core.specs.declared.events.Answer.{Answer}
 use Rattle.mk_words.specs.States.{PassState}
-use Rattle.mk_stack.specs.declared.jobs.Job.{Job}
-use Rattle.mk_stack.specs.declared.jobs.Job.TheVariants.{Push, Pop}
-use Rattle.mk_stack.specs.declared.jobs.Done.{Done}
-use Rattle.mk_stack.specs.declared.jobs.Done.TheVariants.{Pushed, Full, Popped, Empty}
-use Rattle.mk_stack.specs.declared.points.Point.{Point}
+use Rattle.mk_stack.specs.{declared.jobs.Job.Job, declared.jobs.Job.TheVariants.{Push, Pop}, declared.jobs.Done.Done}
+use Rattle.mk_stack.specs.{declared.jobs.Done.TheVariants.{Pushed, Full, Popped, Empty}, declared.points.Point.Point}
 use Rattle.mk_stack.specs.declared.points.Point.TheVariants.{Founding, Placing, Founded, Starting, Checking, Making}
 use Rattle.mk_stack.specs.declared.points.Point.TheVariants.{Filling, Looking, Linking, Publishing, Peeking, Testing}
 use Rattle.mk_stack.specs.declared.points.Point.TheVariants.{Following, Taking, Freeing, Reading, Ended}
-use Rattle.mk_stack.specs.Jobs.{done_without}
-use Rattle.mk_stack.specs.Passes.{GoesToPoint}
+use Rattle.mk_stack.specs.{Jobs.done_without, Passes.GoesToPoint}
 use Rattle.mk_never.specs.declared.operations.Op.TheVariants as op
 use Rattle.mk_core.specs.declared.events.Answer.TheVariants as answer
 

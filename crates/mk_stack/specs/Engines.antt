@@ -1,8 +1,7 @@
 -- The engines of a run. Private functions alone cite these words.
 use Rattle.std.specs.Prelude.{◌≡◌, ℕ, ◌+◌, length, All}
 use Rattle.mk_words.specs.States.{WordsState}
-use Rattle.mk_stack.specs.declared.engines.Engines.{Engines}
-use Rattle.mk_stack.specs.declared.engines.CallerEngines.{CallerEngines}
+use Rattle.mk_stack.specs.{declared.engines.Engines.Engines, declared.engines.CallerEngines.CallerEngines}
 
 -- There is an engine for each caller from k on, made for the pages of the heap.
 pub record AreEnginesFrom {E : Type 0} (made_for : E → ℕ) (w : WordsState) (k : ℕ) (engines : CallerEngines E)

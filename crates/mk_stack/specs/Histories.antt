@@ -1,17 +1,12 @@
 -- Jobs in the history of a running heap: what all callers together made of the stack.
 use Rattle.std.specs.Prelude.{◌≡◌, ℕ, List, [], ◌∷◌, ◌++◌}
-use Rattle.mk_core.specs.declared.config.Config.{Config}
-use Rattle.mk_core.specs.declared.events.Event.{Event}
-use Rattle.mk_core.specs.Decided.{asked}
+use Rattle.mk_core.specs.{declared.config.Config.Config, declared.events.Event.Event, Decided.asked}
 use Rattle.mk_core.specs.History.{IsHistory, calls}
 use Rattle.mk_words.specs.States.{PassState}
-use Rattle.mk_stack.specs.declared.jobs.Job.{Job}
-use Rattle.mk_stack.specs.declared.jobs.Done.{Done}
+use Rattle.mk_stack.specs.{declared.jobs.Job.Job, declared.jobs.Done.Done}
 use Rattle.mk_stack.specs.declared.points.Point.TheVariants.{Founding, Founded}
-use Rattle.mk_stack.specs.Interleavings.{AreJobRuns, jobs_of_first}
-use Rattle.mk_stack.specs.Jobs.{JobRun, IsJobRun, Leads, Replied, all_of}
-use Rattle.mk_stack.specs.Laws.{IsExplained}
-use Rattle.mk_stack.specs.Passes.{DoesJob, HasStackTypes, replied_in, replied_to}
+use Rattle.mk_stack.specs.{Interleavings.{AreJobRuns, jobs_of_first}, Jobs.{JobRun, IsJobRun, Leads, Replied, all_of}}
+use Rattle.mk_stack.specs.{Laws.IsExplained, Passes.{DoesJob, HasStackTypes, replied_in, replied_to}}
 
 -- In this history the first caller founded the stack, and each caller did these jobs, one after the other.
 pub record AreJobsOf (c : Config) (es : List Event) (founding : List Replied) (runs : ℕ → List JobRun) : Type 0 where

@@ -1,12 +1,10 @@
 -- The operations of all callers, in the one order in which the heap took them, and where in it each job is decided.
 use Rattle.std.specs.Prelude.{◌≡◌, ℕ, zero, suc, ◌<◌, ◌==◌, List, [], ◌∷◌, ◌++◌, length, take, drop, Option, Some, None}
 use Rattle.std.specs.Prelude.{if◌then◌else◌}
-use Rattle.mk_never.specs.declared.types.Kind.{Kind}
-use Rattle.mk_never.specs.Types.{kinds_of}
-use Rattle.mk_never.specs.NeverHeap.{NeverState, Call, start_of, reply_of, after_op}
+use Rattle.mk_never.specs.{declared.types.Kind.Kind, Types.kinds_of, NeverHeap.{NeverState, Call, start_of, reply_of}}
+use Rattle.mk_never.specs.NeverHeap.{after_op}
 use Rattle.mk_stack.specs.Jobs.{Replied, JobRun, Leads, IsJobRun, all_of, node_kinds, top_kinds}
-use Rattle.mk_stack.specs.declared.points.Point.TheVariants.{Founding, Founded}
-use Rattle.mk_stack.specs.Orders.{Ordered}
+use Rattle.mk_stack.specs.{declared.points.Point.TheVariants.{Founding, Founded}, Orders.Ordered}
 
 -- a caller's own operations among those of all, with their replies
 abbrev pub own_replied : ℕ → NeverState → List Call → List Replied

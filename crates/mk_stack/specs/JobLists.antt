@@ -1,14 +1,9 @@
 -- Lists of jobs, each list done by a caller of its own.
 use Rattle.std.specs.Prelude.{◌≡◌, ℕ, ◌+◌, List, [], ◌∷◌, ◌++◌, map}
-use Rattle.mk_core.specs.declared.config.Config.{Config}
-use Rattle.mk_core.specs.declared.events.Event.{Event}
+use Rattle.mk_core.specs.{declared.config.Config.Config, declared.events.Event.Event}
 use Rattle.mk_words.specs.States.{PassState}
-use Rattle.mk_stack.specs.declared.jobs.Job.{Job}
-use Rattle.mk_stack.specs.declared.jobs.Done.{Done}
-use Rattle.mk_stack.specs.declared.job_lists.Dones.{Dones}
-use Rattle.mk_stack.specs.declared.job_lists.Jobs.{Jobs}
-use Rattle.mk_stack.specs.Interleavings.{AreJobRuns}
-use Rattle.mk_stack.specs.Jobs.{Replied, JobRun, all_of}
+use Rattle.mk_stack.specs.{declared.jobs.Job.Job, declared.jobs.Done.Done, declared.job_lists.Dones.Dones}
+use Rattle.mk_stack.specs.{declared.job_lists.Jobs.Jobs, Interleavings.AreJobRuns, Jobs.{Replied, JobRun, all_of}}
 use Rattle.mk_stack.specs.Passes.{replied_in, replied_to}
 
 abbrev pub jobs_of : List JobRun → List Job

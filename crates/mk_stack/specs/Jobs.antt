@@ -1,16 +1,12 @@
 -- A job on the stack, as operations of the heap that never reuses storage: which one comes next, by the replies so far.
 use Rattle.std.specs.Prelude.{◌≡◌, ℕ, ◌<◌, true, false, List, [], ◌∷◌, ◌++◌}
-use Rattle.mk_never.specs.declared.types.Kind.{Kind}
-use Rattle.mk_never.specs.declared.values.Value.{Value}
-use Rattle.mk_never.specs.declared.operations.Op.{Op}
+use Rattle.mk_never.specs.{declared.types.Kind.Kind, declared.values.Value.Value, declared.operations.Op.Op}
 use Rattle.mk_never.specs.declared.operations.Reply.{Reply}
-use Rattle.mk_stack.specs.declared.points.Point.{Point}
-use Rattle.mk_stack.specs.declared.points.Point.TheVariants.{Founding, Placing, Founded, Starting, Checking, Making}
-use Rattle.mk_stack.specs.declared.points.Point.TheVariants.{Filling, Looking, Linking, Publishing, Peeking, Testing}
-use Rattle.mk_stack.specs.declared.points.Point.TheVariants.{Following, Taking, Freeing, Reading, Ended}
-use Rattle.mk_stack.specs.declared.jobs.Job.{Job}
-use Rattle.mk_stack.specs.declared.jobs.Job.TheVariants.{Push, Pop}
-use Rattle.mk_stack.specs.declared.jobs.Done.{Done}
+use Rattle.mk_stack.specs.{declared.points.Point.Point, declared.points.Point.TheVariants.{Founding, Placing, Founded}}
+use Rattle.mk_stack.specs.declared.points.Point.TheVariants.{Starting, Checking, Making, Filling, Looking, Linking}
+use Rattle.mk_stack.specs.declared.points.Point.TheVariants.{Publishing, Peeking, Testing, Following, Taking, Freeing}
+use Rattle.mk_stack.specs.{declared.points.Point.TheVariants.{Reading, Ended}, declared.jobs.Job.Job}
+use Rattle.mk_stack.specs.{declared.jobs.Job.TheVariants.{Push, Pop}, declared.jobs.Done.Done}
 use Rattle.mk_stack.specs.declared.jobs.Done.TheVariants.{Pushed, Full, Popped, Empty}
 use Rattle.mk_never.specs.declared.types.Kind.TheVariants.{Num as Number, To}
 use Rattle.mk_never.specs.declared.operations.Op.TheVariants as op

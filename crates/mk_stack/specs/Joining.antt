@@ -1,26 +1,16 @@
 -- Callers on threads of their own: what each hands back, and the host that has joined some of them.
 -- Private functions alone cite these words.
 use Rattle.std.specs.Prelude.{◌≡◌, ℕ, ◌+◌, ◌<◌, ◌≤◌, false, List, [], ◌∷◌, ◌++◌, length, IfOk}
-use Rattle.mk_core.specs.declared.config.Config.{Config}
-use Rattle.mk_core.specs.declared.events.Seat.TheVariants.{Caller, Marker, Host}
+use Rattle.mk_core.specs.{declared.config.Config.Config, declared.events.Seat.TheVariants.{Caller, Marker, Host}}
 use Rattle.mk_core.specs.Growing.{Grows}
-use Rattle.mk_words.specs.Seats.{Has, has_over, without_seat}
-use Rattle.mk_words.specs.States.{WordsState, PassState}
+use Rattle.mk_words.specs.{Seats.{Has, has_over, without_seat}, States.{WordsState, PassState}}
 use Rattle.mk_caller.specs.States.{IsIdleCaller}
 use Rattle.mk_heap.specs.Hosts.{HostState, with_caller_out, with_joined}
-use Rattle.mk_stack.specs.declared.job_lists.Jobs.{Jobs}
-use Rattle.mk_stack.specs.declared.jobs.Job.{Job}
-use Rattle.mk_stack.specs.declared.joining.Callers.{Callers}
-use Rattle.mk_stack.specs.declared.joining.Worked.{Worked}
-use Rattle.mk_stack.specs.declared.joining.Joined.{Joined}
-use Rattle.mk_stack.specs.declared.points.Point.TheVariants.{Founding, Founded}
-use Rattle.mk_stack.specs.declared.working.Ended.{Ended}
-use Rattle.mk_stack.specs.Engines.{AreEnginesFrom}
-use Rattle.mk_stack.specs.JobLists.{HasDone, HaveDone}
-use Rattle.mk_stack.specs.Jobs.{Leads, Replied}
-use Rattle.mk_stack.specs.Passes.{replied_in}
-use Rattle.mk_stack.specs.StackRuns.{IsStackRun}
-use Rattle.mk_stack.specs.Walks.{LeadsDown, numbers_read}
+use Rattle.mk_stack.specs.{declared.job_lists.Jobs.Jobs, declared.jobs.Job.Job, declared.joining.Callers.Callers}
+use Rattle.mk_stack.specs.{declared.joining.Worked.Worked, declared.joining.Joined.Joined}
+use Rattle.mk_stack.specs.{declared.points.Point.TheVariants.{Founding, Founded}, declared.working.Ended.Ended}
+use Rattle.mk_stack.specs.{Engines.AreEnginesFrom, JobLists.{HasDone, HaveDone}, Jobs.{Leads, Replied}}
+use Rattle.mk_stack.specs.{Passes.replied_in, StackRuns.IsStackRun, Walks.{LeadsDown, numbers_read}}
 use Rattle.mk_stack.specs.declared.walking.WalkPoint.TheVariants as walk
 
 -- The pass of caller k between two jobs, which its own thread may take.

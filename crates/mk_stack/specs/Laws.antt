@@ -1,15 +1,11 @@
 -- Laws of stacks: of the jobs of any callers, however their operations are interleaved.
 use Rattle.std.specs.Prelude.{◌≡◌, ◌⊎◌, ℕ, ◌+◌, ◌<◌, Bool, true, false, ◌==◌, List, [], ◌∷◌, length, map, take, drop}
 use Rattle.std.specs.Prelude.{Option, if◌then◌else◌}
-use Rattle.mk_never.specs.declared.types.Kind.{Kind}
-use Rattle.mk_never.specs.declared.values.Value.{Value}
-use Rattle.mk_never.specs.NeverHeap.{replies_of, NeverState, Call, start_of, register_at, global_at, word_at}
-use Rattle.mk_never.specs.NeverHeap.{allocation_at, number_of, reply_of, after_op, after_calls}
-use Rattle.mk_never.specs.declared.values.Value.TheVariants.{Null, Ptr}
-use Rattle.mk_never.specs.declared.operations.Op.{Op}
-use Rattle.mk_never.specs.declared.operations.Reply.{Reply}
-use Rattle.mk_stack.specs.Jobs.{Replied, JobRun}
-use Rattle.mk_stack.specs.Orders.{Ordered, Explains}
+use Rattle.mk_never.specs.{declared.types.Kind.Kind, declared.values.Value.Value, NeverHeap.{replies_of, NeverState}}
+use Rattle.mk_never.specs.NeverHeap.{Call, start_of, register_at, global_at, word_at, allocation_at, number_of}
+use Rattle.mk_never.specs.{NeverHeap.{reply_of, after_op, after_calls}, declared.values.Value.TheVariants.{Null, Ptr}}
+use Rattle.mk_never.specs.{declared.operations.Op.Op, declared.operations.Reply.Reply}
+use Rattle.mk_stack.specs.{Jobs.{Replied, JobRun}, Orders.{Ordered, Explains}}
 use Rattle.mk_stack.specs.Interleavings.{IsInterleaved, jobs_of_first, order_of, own_decisions, AreDecidedOnce}
 use Rattle.mk_never.specs.declared.operations.Op.TheVariants as op
 use Rattle.mk_never.specs.declared.operations.Reply.TheVariants as reply

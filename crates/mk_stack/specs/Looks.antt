@@ -1,7 +1,6 @@
 -- Operations that only look.
 use Rattle.std.specs.Prelude.{List, [], ◌∷◌}
-use Rattle.mk_never.specs.declared.operations.Op.{Op}
-use Rattle.mk_never.specs.NeverHeap.{Call}
+use Rattle.mk_never.specs.{declared.operations.Op.Op, NeverHeap.Call}
 use Rattle.mk_never.specs.declared.operations.Op.TheVariants as op
 
 -- It loads, or compares with null: it makes and frees nothing, and stores in no object and no global.

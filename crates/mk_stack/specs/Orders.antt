@@ -1,8 +1,6 @@
 -- An order of jobs, and what explains it: a plain list of numbers.
 use Rattle.std.specs.Prelude.{◌≡◌, ℕ, ◌==◌, List, [], ◌∷◌, Option, Some, None, if◌then◌else◌, option_and_then}
-use Rattle.mk_stack.specs.declared.jobs.Job.{Job}
-use Rattle.mk_stack.specs.declared.jobs.Job.TheVariants.{Push, Pop}
-use Rattle.mk_stack.specs.declared.jobs.Done.{Done}
+use Rattle.mk_stack.specs.{declared.jobs.Job.Job, declared.jobs.Job.TheVariants.{Push, Pop}, declared.jobs.Done.Done}
 use Rattle.mk_stack.specs.declared.jobs.Done.TheVariants.{Pushed, Full, Popped, Empty}
 
 -- a caller's job, and what became of it

@@ -1,19 +1,14 @@
 -- Jobs in the history of a running heap: what a caller's operations were replied there.
 use Rattle.std.specs.Prelude.{◌≡◌, ℕ, List, ◌++◌, slice_get, Option, Some, None}
 use Rattle.mk_never.specs.Types.{kinds_of}
-use Rattle.mk_core.specs.declared.config.Config.{Config}
-use Rattle.mk_core.specs.declared.events.Event.{Event}
-use Rattle.mk_core.specs.Decided.{asked}
+use Rattle.mk_core.specs.{declared.config.Config.Config, declared.events.Event.Event, Decided.asked}
 use Rattle.mk_core.specs.History.{calls, never_first}
 use Rattle.mk_words.specs.States.{PassState}
 use Rattle.mk_caller.specs.States.{caller_of_pass}
-use Rattle.mk_stack.specs.declared.jobs.Job.{Job}
-use Rattle.mk_stack.specs.declared.jobs.Done.{Done}
-use Rattle.mk_stack.specs.declared.jobs.Done.TheVariants.{Popped, Empty}
-use Rattle.mk_stack.specs.declared.points.Point.{Point}
-use Rattle.mk_stack.specs.declared.points.Point.TheVariants.{Starting, Ended}
-use Rattle.mk_stack.specs.Jobs.{Replied, Leads, node_kinds, top_kinds}
-use Rattle.mk_stack.specs.Interleavings.{own_replied}
+use Rattle.mk_stack.specs.{declared.jobs.Job.Job, declared.jobs.Done.Done}
+use Rattle.mk_stack.specs.{declared.jobs.Done.TheVariants.{Popped, Empty}, declared.points.Point.Point}
+use Rattle.mk_stack.specs.{declared.points.Point.TheVariants.{Starting, Ended}, Jobs.{Replied, Leads, node_kinds}}
+use Rattle.mk_stack.specs.{Jobs.top_kinds, Interleavings.own_replied}
 
 -- The first two types are a node and a top, and global 0 is a top's.
 pub record HasStackTypes (c : Config) : Type 0 where

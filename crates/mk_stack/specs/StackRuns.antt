@@ -1,17 +1,10 @@
 -- What is promised of lists of jobs that callers did on a stack of their own.
 use Rattle.std.specs.Prelude.{◌≡◌, ℕ, List, [], ◌∷◌, ◌++◌, length, slice_get, Some}
 use Rattle.mk_never.specs.NeverHeap.{Call, after_calls, start_of}
-use Rattle.mk_core.specs.declared.config.Config.{Config}
-use Rattle.mk_core.specs.declared.events.Event.{Event}
-use Rattle.mk_core.specs.Decided.{asked}
-use Rattle.mk_core.specs.History.{calls}
-use Rattle.mk_stack.specs.declared.job_lists.Dones.{Dones}
-use Rattle.mk_stack.specs.declared.job_lists.Jobs.{Jobs}
-use Rattle.mk_stack.specs.Interleavings.{IsInterleaved}
-use Rattle.mk_stack.specs.JobLists.{dones_of, jobs_of}
-use Rattle.mk_stack.specs.Jobs.{Replied, JobRun, node_kinds, top_kinds}
-use Rattle.mk_stack.specs.Laws.{IsExplained, numbers_in}
-use Rattle.mk_stack.specs.Looks.{AreLooks}
+use Rattle.mk_core.specs.{declared.config.Config.Config, declared.events.Event.Event, Decided.asked, History.calls}
+use Rattle.mk_stack.specs.{declared.job_lists.Dones.Dones, declared.job_lists.Jobs.Jobs, Interleavings.IsInterleaved}
+use Rattle.mk_stack.specs.{JobLists.{dones_of, jobs_of}, Jobs.{Replied, JobRun, node_kinds, top_kinds}}
+use Rattle.mk_stack.specs.{Laws.{IsExplained, numbers_in}, Looks.AreLooks}
 
 -- The heap of a stack: nodes, a top, and the global that points to the top.
 abbrev pub stack_config : ℕ → ℕ → ℕ → ℕ → Config

@@ -1,19 +1,12 @@
 -- A walk: a caller goes down the stack, and reads the number of each node. Private functions alone cite these words.
 use Rattle.std.specs.Prelude.{◌≡◌, ◌+◌, ◌*◌, ◌<◌, ℕ, List, [], ◌∷◌, ◌++◌, length, Option, Some, None, if◌then◌else◌}
 use Rattle.mk_core.specs.declared.events.Answer.{Answer}
-use Rattle.mk_never.specs.declared.values.Value.{Value}
-use Rattle.mk_never.specs.declared.operations.Op.{Op}
-use Rattle.mk_never.specs.declared.operations.Reply.{Reply}
+use Rattle.mk_never.specs.{declared.values.Value.Value, declared.operations.Op.Op, declared.operations.Reply.Reply}
 use Rattle.mk_never.specs.NeverHeap.{NeverState, Call, global_at}
 use Rattle.mk_words.specs.States.{PassState}
-use Rattle.mk_stack.specs.declared.walking.Found.{Found}
-use Rattle.mk_stack.specs.declared.walking.WalkPoint.{WalkPoint}
-use Rattle.mk_stack.specs.Advancing.{number_answered, says_yes}
-use Rattle.mk_stack.specs.Interleavings.{own_replied}
-use Rattle.mk_stack.specs.Jobs.{Replied}
-use Rattle.mk_stack.specs.Laws.{AreLinked, uppermost, numbers_in}
-use Rattle.mk_stack.specs.Looks.{AreLooks}
-use Rattle.mk_stack.specs.Passes.{replied_to}
+use Rattle.mk_stack.specs.{declared.walking.Found.Found, declared.walking.WalkPoint.WalkPoint}
+use Rattle.mk_stack.specs.{Advancing.{number_answered, says_yes}, Interleavings.own_replied, Jobs.Replied}
+use Rattle.mk_stack.specs.{Laws.{AreLinked, uppermost, numbers_in}, Looks.AreLooks, Passes.replied_to}
 use Rattle.mk_never.specs.declared.operations.Op.TheVariants as op
 use Rattle.mk_never.specs.declared.operations.Reply.TheVariants as reply
 use Rattle.mk_stack.specs.declared.walking.Found.TheVariants as found

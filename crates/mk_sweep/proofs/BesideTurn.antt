@@ -6,19 +6,12 @@ use Rattle.mk_sweep.proofs.Vocabulary.{Steady, Step, Words, World, has_bit, is_m
 use Rattle.mk_laws.proofs.Vocabulary.{Bool, IsEnabled, List, ℕ, ap, arith, cases_Bool, enabled_meets, false}
 use Rattle.mk_laws.proofs.Vocabulary.{false_from_ne_true, holder_number, inl, inr, is_one_of, list_any, refl}
 use Rattle.mk_laws.proofs.Vocabulary.{slice_index, subst, sym, true, true≢false, [], ◌++◌, ◌+◌, ◌<◌, ◌∙◌, ◌∷◌, ◌≡◌, ◌≢◌}
-use Rattle.mk_laws.proofs.Known.{Known, holds_turn, known_behind}
-use Rattle.mk_laws.proofs.OthersMoves.{CallLoads, Calls, CallWrite, Marks, OthersMove, Waits, WorldBehind, others_move}
-use Rattle.mk_laws.proofs.Actors.{is_holders}
-use Rattle.mk_laws.proofs.FramesHolders.{acts_as_holder}
-use Rattle.mk_laws.proofs.Orderly.{same_holder, turn_of}
-use Rattle.mk_laws.proofs.OrderlyLists.{actor_of}
-use Rattle.mk_laws.proofs.PrecisionStepKinds.{both_fail}
-use Rattle.mk_laws.proofs.Protocols.{protocol_of}
-use Rattle.mk_laws.proofs.Stretches.{None_of}
-use Rattle.mk_laws.proofs.TurnFrame.{turn_after}
+use Rattle.mk_laws.proofs.{Known.{Known, holds_turn, known_behind}, OthersMoves.{CallLoads, Calls, CallWrite, Marks}}
+use Rattle.mk_laws.proofs.{OthersMoves.{OthersMove, Waits, WorldBehind, others_move}, Actors.is_holders}
+use Rattle.mk_laws.proofs.{FramesHolders.acts_as_holder, Orderly.{same_holder, turn_of}, OrderlyLists.actor_of}
+use Rattle.mk_laws.proofs.{PrecisionStepKinds.both_fail, Protocols.protocol_of, Stretches.None_of, TurnFrame.turn_after}
 use Rattle.mk_laws.proofs.Views.{HoldsTurn, view_of}
-use Rattle.mk_core.specs.Growing.{is_same_seat}
-use Rattle.mk_core.specs.History.{AreEnabledFrom, left_from}
+use Rattle.mk_core.specs.{Growing.is_same_seat, History.{AreEnabledFrom, left_from}}
 use Rattle.mk_sweep.specs.Unswept.{LeaveUnmarked, OthersLeaveUnmarked}
 use Rattle.mk_tracing.specs.Tracing.{OwnStepsKeep}
 use Rattle.mk_turns.specs.Doing.{AreOwnOrOfOthers}

@@ -3,11 +3,9 @@ use Rattle.mk_sweep.proofs.Vocabulary.{BlacksMore, Cell, CellsAreClosed, Config,
 use Rattle.mk_sweep.proofs.Vocabulary.{cells_under, has_bit, has_no_pointers, header_in, is_marked, still_words}
 use Rattle.mk_laws.proofs.Vocabulary.{Bool, List, ℕ, and_from, ap, arith, cases_lt, false, histories_keep_lengths}
 use Rattle.mk_laws.proofs.Vocabulary.{length, lt-ltb, nat_lt, refl, subst, sym, true, ◌&&◌, ◌+◌, ◌<◌, ◌^◌, ◌||◌, ◌∙◌}
-use Rattle.mk_laws.proofs.Vocabulary.{◌≡◌}
-use Rattle.mk_laws.proofs.Tests.{all_below_from}
+use Rattle.mk_laws.proofs.{Vocabulary.◌≡◌, Tests.all_below_from}
 use Rattle.mk_core.proofs.WordBits.{bit_for_has, bit_for_small, bits_added, bits_stay}
-use Rattle.mk_core.specs.Cells.{words_point_well}
-use Rattle.mk_core.specs.StopConditions.{may_turn_black}
+use Rattle.mk_core.specs.{Cells.words_point_well, StopConditions.may_turn_black}
 use Rattle.mk_tracing.specs.Grays.{is_black, with_blacks}
 
 -- a record with the black words of another

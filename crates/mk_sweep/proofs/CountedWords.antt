@@ -1,8 +1,6 @@
 -- How often a number stands in the words of cells and pages.
-use Rattle.std.proofs.Common.{count_by, filter, length-append, sum_by}
-use Rattle.std.proofs.lemmas.List.Sums.{sum_by-append, sum_by-cons}
-use Rattle.std.proofs.lemmas.Bool.{cases_order}
-use Rattle.std.proofs.lemmas.List.FromFn.{length-range_with_len}
+use Rattle.std.proofs.{Common.{count_by, filter, length-append, sum_by}, lemmas.List.Sums.{sum_by-append, sum_by-cons}}
+use Rattle.std.proofs.{lemmas.Bool.cases_order, lemmas.List.FromFn.length-range_with_len}
 use Rattle.std.specs.List.{Contains, range_with_len}
 use Rattle.mk_sweep.proofs.Vocabulary.{Words, cells_under, has_bit, has_no_pointers, header_in, used_at, words_below}
 use Rattle.mk_sweep.proofs.Vocabulary.{words_if, words_of_cells, words_on, words_under}
@@ -10,8 +8,7 @@ use Rattle.mk_laws.proofs.Vocabulary.{Bool, List, ℕ, and_from, and_parts, ap, 
 use Rattle.mk_laws.proofs.Vocabulary.{false, get_or, if◌then◌else◌, inl, inr, le-leb, leb-true, length, lt-ltb}
 use Rattle.mk_laws.proofs.Vocabulary.{ltb-true, mul-le, nat_le, nat_lt, ne_eqb, refl, subst, suc, sym, true, true≢false}
 use Rattle.mk_laws.proofs.Vocabulary.{zero, [], ◌&&◌, ◌*◌, ◌++◌, ◌+◌, ◌-◌, ◌<◌, ◌==◌, ◌∙◌, ◌∷◌, ◌≡◌, ◌≢◌, ◌≤◌, ◌⊎◌}
-use Rattle.mk_cycle.proofs.SumsBelow.{counted_by_key, sum_same}
-use Rattle.mk_cycle.specs.ReleasedPages.{sum_below}
+use Rattle.mk_cycle.{proofs.SumsBelow.{counted_by_key, sum_same}, specs.ReleasedPages.{sum_below}}
 
 -- how often it stands there
 abbrev pub times : ℕ → List ℕ → ℕ

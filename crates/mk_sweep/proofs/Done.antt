@@ -5,10 +5,8 @@ use Rattle.mk_laws.proofs.Vocabulary.{Bool, List, Word, and_parts, ap, append-ni
 use Rattle.mk_laws.proofs.Vocabulary.{◌++◌, ◌∙◌, ◌∷◌, ◌≡◌}
 use Rattle.mk_core.specs.Growing.{Finding, own_from}
 use Rattle.mk_sweep.specs.Sweeping.{word_looked_at, words_looked_at}
-use Rattle.mk_tracing.proofs.Parts.{done_by_one}
-use Rattle.mk_tracing.specs.Tracing.{is_waiting}
-use Rattle.mk_turns.proofs.Doing.{done_in_parts}
-use Rattle.mk_turns.specs.Doing.{Does, are_of, done_in}
+use Rattle.mk_tracing.{proofs.Parts.{done_by_one}, specs.Tracing.{is_waiting}}
+use Rattle.mk_turns.{proofs.Doing.{done_in_parts}, specs.Doing.{Does, are_of, done_in}}
 use Rattle.mk_words.specs.Steps.{Makes}
 
 looked_at_in_parts : (xs ys : List Finding) → words_looked_at (xs ++ ys) ≡ words_looked_at xs ++ words_looked_at ys

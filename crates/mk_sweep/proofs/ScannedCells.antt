@@ -12,26 +12,14 @@ use Rattle.mk_laws.proofs.Vocabulary.{is_small_object, is_unmapped_header, kinds
 use Rattle.mk_laws.proofs.Vocabulary.{made_is_mapped, not, not-true, object_now, object_placed, pages_made, pages_some}
 use Rattle.mk_laws.proofs.Vocabulary.{part_has_no_pointers, refl, small_heads_none, subst, sym, true, true≢false}
 use Rattle.mk_laws.proofs.Vocabulary.{typed_size, unmapped_is_unmapped, words_are_zero, words_within, ◌&&◌, ◌++◌, ◌+◌}
-use Rattle.mk_laws.proofs.Vocabulary.{◌/◌, ◌<◌, ◌==◌, ◌||◌, ◌∙◌, ◌≡◌, ◌≢◌, ◌⊎◌}
-use Rattle.mk_laws.proofs.KnownWorlds.{KnownWorld, known_world}
-use Rattle.mk_laws.proofs.Claims.{claim_among, claim_is}
-use Rattle.mk_laws.proofs.FreeCells.{free_cells_are_zero}
-use Rattle.mk_laws.proofs.Freed.{gone_terrain}
-use Rattle.mk_laws.proofs.InvariantHistories.{histories_keep_the_invariant}
-use Rattle.mk_laws.proofs.InvariantTheorems.{allocations_stand}
-use Rattle.mk_laws.proofs.MappedWords.{mapped_stays}
-use Rattle.mk_laws.proofs.ReadingsStands.{freed_cell}
-use Rattle.mk_laws.proofs.Serving.{Laid, own_claim}
-use Rattle.mk_laws.proofs.Settled.{unmapped_run, unreleased_are_apart}
-use Rattle.mk_laws.proofs.TellGuard.{guard_in}
-use Rattle.mk_core.proofs.PointedAllocations.{cell_word_is_its_own, taken_cell_is}
-use Rattle.mk_core.proofs.StandingAllocations.{cell_is_known}
-use Rattle.mk_core.specs.Cells.{is_used}
-use Rattle.mk_core.specs.ClosedMarks.{is_scanned_allocation}
-use Rattle.mk_core.specs.Effects.{is_mapped_cell, is_ungranted}
-use Rattle.mk_laws.specs.LayoutScene.{Unmapped}
-use Rattle.mk_laws.specs.SettledPages.{StandsUsed}
-use Rattle.mk_laws.specs.Terrain.{IsCellOf}
+use Rattle.mk_laws.proofs.{Vocabulary.{◌/◌, ◌<◌, ◌==◌, ◌||◌, ◌∙◌, ◌≡◌, ◌≢◌, ◌⊎◌}, KnownWorlds.{KnownWorld, known_world}}
+use Rattle.mk_laws.proofs.{Claims.{claim_among, claim_is}, FreeCells.free_cells_are_zero, Freed.gone_terrain}
+use Rattle.mk_laws.proofs.{InvariantHistories.histories_keep_the_invariant, InvariantTheorems.allocations_stand}
+use Rattle.mk_laws.proofs.{MappedWords.mapped_stays, ReadingsStands.freed_cell, Serving.{Laid, own_claim}}
+use Rattle.mk_laws.proofs.{Settled.{unmapped_run, unreleased_are_apart}, TellGuard.guard_in}
+use Rattle.mk_core.proofs.{PointedAllocations.{cell_word_is_its_own, taken_cell_is}, StandingAllocations.cell_is_known}
+use Rattle.mk_core.specs.{Cells.is_used, ClosedMarks.is_scanned_allocation, Effects.{is_mapped_cell, is_ungranted}}
+use Rattle.mk_laws.specs.{LayoutScene.Unmapped, SettledPages.StandsUsed, Terrain.IsCellOf}
 
 -- the mapped allocation that isn't leaf and has this cell
 pub record OfScanned (c : Config) (xs : List PlacedAllocation) (cell : Cell) : Type 0 where

@@ -7,35 +7,21 @@ use Rattle.mk_sweep.proofs.BesideTurn.{IsOf, PartOfTurn, holds_still, leave_firs
 use Rattle.mk_sweep.proofs.BesideTurn.{none_marks, none_of_kind, others_mark_none, still_holds}
 use Rattle.mk_sweep.proofs.CycleParts.{close_apart, close_of_holder, holding_leaves_marks, holding_leaves_turn, no_kind}
 use Rattle.mk_sweep.proofs.CycleParts.{nothing_leaves_marks, nothing_leaves_turn, release_apart, release_of_holder}
-use Rattle.mk_sweep.proofs.CycleParts.{swept_alike, tracing_leaves_turn}
-use Rattle.mk_sweep.proofs.UnsweptReleased.{unswept_is_released}
+use Rattle.mk_sweep.proofs.{CycleParts.{swept_alike, tracing_leaves_turn}, UnsweptReleased.unswept_is_released}
 use Rattle.mk_laws.proofs.Vocabulary.{Bool, IsLeft, List, Releasing, Written, ℕ, and_parts, ap, append_assoc}
 use Rattle.mk_laws.proofs.Vocabulary.{before_close, earlier_part_is_history, enabled_in_parts, enabled_meets, false}
 use Rattle.mk_laws.proofs.Vocabulary.{false_from_ne_true, is_close, is_release, left_from, left_in_parts, not, not-true}
 use Rattle.mk_laws.proofs.Vocabulary.{refl, subst, sym, true, [], ◌++◌, ◌∙◌, ◌∷◌, ◌≡◌}
-use Rattle.mk_laws.proofs.ReadingsKeptPlaces.{StaysPut, keeps_cell, put_step, stays_put}
-use Rattle.mk_laws.proofs.CyclePhases.{phase_moves}
-use Rattle.mk_laws.proofs.FramesHolders.{acts_as_holder, holds_is}
-use Rattle.mk_laws.proofs.Known.{Known, known_left}
-use Rattle.mk_laws.proofs.KnownWorlds.{known_world}
-use Rattle.mk_laws.proofs.LastEvents.{ComesLast, comes_last}
-use Rattle.mk_laws.proofs.OneStep.{precise_begun}
-use Rattle.mk_laws.proofs.OrderlyLists.{actor_of}
-use Rattle.mk_laws.proofs.OthersMoves.{WorldBehind}
-use Rattle.mk_laws.proofs.Precise.{IsPrecise}
-use Rattle.mk_laws.proofs.ProtocolFrames.{others_leave}
-use Rattle.mk_laws.proofs.Stretches.{None_of, none_joined}
-use Rattle.mk_laws.specs.Releases.{allocation_behind}
-use Rattle.mk_core.specs.Cycles.{IsInSnapshot}
-use Rattle.mk_core.specs.Frames.{written_of}
-use Rattle.mk_cycle.proofs.GivingAll.{held_phase}
-use Rattle.mk_cycle.specs.Holding.{HoldsGates}
-use Rattle.mk_cycle.specs.Kinds.{holds_gates}
+use Rattle.mk_laws.proofs.{ReadingsKeptPlaces.{StaysPut, keeps_cell, put_step, stays_put}, CyclePhases.phase_moves}
+use Rattle.mk_laws.proofs.{FramesHolders.{acts_as_holder, holds_is}, Known.{Known, known_left}, KnownWorlds.known_world}
+use Rattle.mk_laws.proofs.{LastEvents.{ComesLast, comes_last}, OneStep.precise_begun, OrderlyLists.actor_of}
+use Rattle.mk_laws.proofs.{OthersMoves.WorldBehind, Precise.IsPrecise, ProtocolFrames.others_leave}
+use Rattle.mk_laws.{proofs.Stretches.{None_of, none_joined}, specs.Releases.{allocation_behind}}
+use Rattle.mk_core.specs.{Cycles.IsInSnapshot, Frames.written_of}
+use Rattle.mk_cycle.{proofs.GivingAll.{held_phase}, specs.{Holding.HoldsGates, Kinds.holds_gates}}
 use Rattle.mk_sweep.specs.Unswept.{LeaveUnmarked, OthersLeaveUnmarked}
-use Rattle.mk_tracing.proofs.Parts.{kinds_keep, others_keep}
-use Rattle.mk_tracing.specs.Tracing.{OwnStepsKeep}
-use Rattle.mk_turns.proofs.Doing.{others_are_so}
-use Rattle.mk_turns.specs.Doing.{AreOwnOrOfOthers}
+use Rattle.mk_tracing.{proofs.Parts.{kinds_keep, others_keep}, specs.Tracing.{OwnStepsKeep}}
+use Rattle.mk_turns.{proofs.Doing.{others_are_so}, specs.Doing.{AreOwnOrOfOthers}}
 use Rattle.mk_words.proofs.Seats.{others_own}
 
 -- What was seen up to and after each part of the cycle, by a pass with this beginning.

@@ -3,30 +3,19 @@ use Rattle.mk_sweep.proofs.Vocabulary.{CellsAreClosed, Config, InGlobal, InRegis
 use Rattle.mk_sweep.proofs.Vocabulary.{IsSwept, IsSweptValue, Moment, PageIsBlack, PassState, PlacedAllocation}
 use Rattle.mk_sweep.proofs.Vocabulary.{PointWell, Step, Sweeps, SweepsBy, SweepsOn, TurnState, Untouched, WordsState}
 use Rattle.mk_sweep.proofs.Vocabulary.{World, heap_looks, is_tracing, now_of, phase_of, placed_at, points_well}
-use Rattle.mk_sweep.proofs.Vocabulary.{still_words, words_below, world_of}
-use Rattle.mk_sweep.proofs.EachOnce.{as_many, looked_at_once, never_twice}
-use Rattle.mk_sweep.proofs.SweepSteps.{rule_alike, settled_kept, word_alike}
-use Rattle.mk_sweep.proofs.CountedWords.{some_there, times}
-use Rattle.mk_sweep.proofs.Done.{looks_in_parts, looks_of_waiting}
+use Rattle.mk_sweep.proofs.{Vocabulary.{still_words, words_below, world_of}, EachOnce.{as_many, looked_at_once}}
+use Rattle.mk_sweep.proofs.{EachOnce.never_twice, SweepSteps.{rule_alike, settled_kept, word_alike}}
+use Rattle.mk_sweep.proofs.{CountedWords.{some_there, times}, Done.{looks_in_parts, looks_of_waiting}}
 use Rattle.mk_laws.proofs.Vocabulary.{Word, ℕ, ap, arith, length, ne_eqb, slice_index, subst, sym, true, ◌++◌, ◌+◌, ◌<◌}
-use Rattle.mk_laws.proofs.Vocabulary.{◌∙◌, ◌≡◌, ◌≤◌}
-use Rattle.mk_laws.proofs.InvariantTheorems.{allocations_stand}
-use Rattle.mk_laws.proofs.Settled.{gone_is_unmapped}
+use Rattle.mk_laws.proofs.{Vocabulary.{◌∙◌, ◌≡◌, ◌≤◌}, InvariantTheorems.allocations_stand, Settled.gone_is_unmapped}
 use Rattle.mk_core.proofs.PointedAllocations.{marked_where_its_cell_is, points_well_where_marked}
-use Rattle.mk_core.specs.ClosedMarks.{is_marked_allocation}
-use Rattle.mk_core.specs.Frames.{HoldsAll}
-use Rattle.mk_cycle.specs.EngineLaw.{ClosesMarks, IsFreeForCycle}
-use Rattle.mk_cycle.specs.Kinds.{closes_marks}
+use Rattle.mk_core.specs.{ClosedMarks.is_marked_allocation, Frames.HoldsAll}
+use Rattle.mk_cycle.specs.{EngineLaw.{ClosesMarks, IsFreeForCycle}, Kinds.closes_marks}
 use Rattle.mk_engines.proofs.TracedMarks.{closing_kind, keeps_turn, same_count}
-use Rattle.mk_sweep.specs.Sweeping.{IsSweeping}
-use Rattle.mk_sweep.specs.Swept.{scanned_words}
+use Rattle.mk_sweep.specs.{Sweeping.IsSweeping, Swept.scanned_words}
 use Rattle.mk_tracing.proofs.Parts.{counted_by_kinds, counted_wider, traces_alike}
-use Rattle.mk_tracing.proofs.Closes.{marks_closed_now, may_close_now}
-use Rattle.mk_tracing.proofs.NoGrays.{no_gray}
-use Rattle.mk_tracing.proofs.Wants.{wanted_once_then}
-use Rattle.mk_tracing.specs.Tracing.{Counted, is_marking, is_waiting, is_want}
-use Rattle.mk_tracing.specs.Grays.{TracesReached}
-use Rattle.mk_tracing.specs.Stops.{IsWanted}
+use Rattle.mk_tracing.proofs.{Closes.{marks_closed_now, may_close_now}, NoGrays.no_gray, Wants.wanted_once_then}
+use Rattle.mk_tracing.specs.{Tracing.{Counted, is_marking, is_waiting, is_want}, Grays.TracesReached, Stops.IsWanted}
 use Rattle.mk_turns.specs.Doing.{Does, done_in}
 
 -- Waiting keeps to the rule of every sweep.

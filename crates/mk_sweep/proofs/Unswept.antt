@@ -3,17 +3,11 @@ use Rattle.mk_sweep.proofs.Vocabulary.{Cell, Config, Event, Moment, Seat, Step, 
 use Rattle.mk_sweep.proofs.Vocabulary.{has_bit, is_marked, is_tracing, never_behind, placed_at, world_behind, world_of}
 use Rattle.mk_laws.proofs.Vocabulary.{List, ℕ, ap, bit_or, cases_Bool, false, false_from_ne_true, inl, inr}
 use Rattle.mk_laws.proofs.Vocabulary.{left_in_parts, slice_index, slice_set, subst, sym, true, true≢false, [], ◌∙◌, ◌∷◌}
-use Rattle.mk_laws.proofs.Vocabulary.{◌≡◌}
-use Rattle.mk_laws.proofs.InvariantHistories.{histories_keep_the_invariant}
-use Rattle.mk_laws.proofs.KnownWorlds.{known_world}
+use Rattle.mk_laws.proofs.{Vocabulary.◌≡◌, InvariantHistories.histories_keep_the_invariant, KnownWorlds.known_world}
 use Rattle.mk_laws.proofs.Worlds.{comes_back}
-use Rattle.mk_core.proofs.WordBits.{bit_of_power, more_bits}
-use Rattle.mk_core.specs.Growing.{is_same_seat}
-use Rattle.mk_core.specs.History.{left_from}
-use Rattle.mk_sweep.specs.Swept.{IsSweptCell, MarksSwept}
-use Rattle.mk_sweep.specs.Unswept.{OthersLeaveUnmarked, UnsweptStaysUnmarked}
-use Rattle.mk_tracing.proofs.Parts.{kinds_keep}
-use Rattle.mk_tracing.specs.Tracing.{OwnStepsKeep}
+use Rattle.mk_core.{proofs.WordBits.{bit_of_power, more_bits}, specs.{Growing.is_same_seat, History.left_from}}
+use Rattle.mk_sweep.specs.{Swept.{IsSweptCell, MarksSwept}, Unswept.{OthersLeaveUnmarked, UnsweptStaysUnmarked}}
+use Rattle.mk_tracing.{proofs.Parts.{kinds_keep}, specs.Tracing.{OwnStepsKeep}}
 
 -- an own step is a tracing one
 abbrev IsTracing : Config → Moment → Step → Type 0

@@ -6,17 +6,10 @@ pub use Rattle.mk_laws.proofs.Vocabulary.{words_under, before_release, Steady, A
 pub use Rattle.mk_laws.proofs.Vocabulary.{never_behind, world_behind, Moment, flight_of, is_phase, others_are_held}
 pub use Rattle.mk_laws.proofs.Vocabulary.{Holds, Words, header_at, phase_of, register_word, used_at, Config, Event}
 pub use Rattle.mk_laws.proofs.Vocabulary.{Seat, Caller, Host, Marker, Step, header_of, Cell}
-pub use Rattle.mk_laws.specs.Guard.{CellsAreClosed}
-pub use Rattle.mk_laws.specs.SettledPages.{IsSettled}
-pub use Rattle.mk_sweep.specs.SweepCycle.{HasMarkers}
-pub use Rattle.mk_sweep.specs.Sweeping.{BlacksMore, PageIsBlack, PointWell, SweepsOn, heap_looks, words_below, words_if}
-pub use Rattle.mk_sweep.specs.Sweeping.{words_of_cells, words_on}
-pub use Rattle.mk_sweep.specs.Sweeps.{Sweeps}
+pub use Rattle.mk_laws.specs.{Guard.CellsAreClosed, SettledPages.IsSettled}
+pub use Rattle.mk_sweep.specs.{SweepCycle.HasMarkers, Sweeping.{BlacksMore, PageIsBlack, PointWell, SweepsOn}}
+pub use Rattle.mk_sweep.specs.{Sweeping.{heap_looks, words_below, words_if, words_of_cells, words_on}, Sweeps.Sweeps}
 pub use Rattle.mk_sweep.specs.Swept.{InGlobal, InRegister, InWord, IsScannedWord, IsSwept, IsSweptValue, SweepsBy}
-pub use Rattle.mk_tracing.specs.Grays.{MarksMore}
-pub use Rattle.mk_tracing.specs.Stops.{still_words}
-pub use Rattle.mk_tracing.specs.Tracing.{Untouched, is_tracing, untouched_of}
-pub use Rattle.mk_words.specs.Seats.{Has}
-pub use Rattle.mk_words.specs.States.{PassState, TurnState, WordsState, event_of, now_of, world_of}
-pub use Rattle.mk_words.specs.Steps.{IsEnabledTo}
-pub use Rattle.mk_words.specs.TurnSteps.{Acts}
+pub use Rattle.mk_tracing.specs.{Grays.MarksMore, Stops.still_words, Tracing.{Untouched, is_tracing, untouched_of}}
+pub use Rattle.mk_words.specs.{Seats.Has, States.{PassState, TurnState, WordsState, event_of, now_of, world_of}}
+pub use Rattle.mk_words.specs.{Steps.IsEnabledTo, TurnSteps.Acts}

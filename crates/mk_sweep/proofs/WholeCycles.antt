@@ -1,11 +1,8 @@
 -- The parts of a whole cycle, read off what beginning and finishing it ensure.
 use Rattle.mk_sweep.proofs.Vocabulary.{AreOfOthers, Event, Has, HasMarkers, IsEnabledTo, IsHistory, PassState, Step}
-use Rattle.mk_sweep.proofs.Vocabulary.{Sweeps, event_of}
-use Rattle.mk_sweep.proofs.SweepCycles.{SweepParts, cycle, is_released_by_it}
+use Rattle.mk_sweep.proofs.{Vocabulary.{Sweeps, event_of}, SweepCycles.{SweepParts, cycle, is_released_by_it}}
 use Rattle.mk_laws.proofs.Vocabulary.{List, ℕ, ap, append-nil, append_assoc, subst, [], ◌++◌, ◌∙◌, ◌∷◌, ◌≡◌}
-use Rattle.mk_cycle.specs.Begun.{DoesNothing, IsBegunLast}
-use Rattle.mk_cycle.specs.Closing.{IsClosedBy}
-use Rattle.mk_cycle.specs.Holding.{HoldsGates}
+use Rattle.mk_cycle.specs.{Begun.{DoesNothing, IsBegunLast}, Closing.IsClosedBy, Holding.HoldsGates}
 use Rattle.mk_cycle.specs.Releasing.{MakesRelease}
 use Rattle.mk_sweep.specs.SweepCycle.{ReleasesUnswept}
 use Rattle.mk_turns.proofs.Sweeping.{only_seen_by}

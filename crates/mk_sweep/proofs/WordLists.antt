@@ -1,6 +1,5 @@
 -- The words of a page's used cells, one after the other; and what points well of them.
-use Rattle.std.proofs.lemmas.List.Elements.{Contains-append_cases, Contains-push_cases}
-use Rattle.std.specs.List.{range_with_len}
+use Rattle.std.{proofs.lemmas.List.Elements.{Contains-append_cases, Contains-push_cases}, specs.List.{range_with_len}}
 use Rattle.mk_sweep.proofs.Vocabulary.{MarksMore, PointWell, Words, cells_under, has_bit, has_no_pointers, head_page}
 use Rattle.mk_sweep.proofs.Vocabulary.{header_at, header_in, header_of, points_well, used_at, words_below, words_if}
 use Rattle.mk_sweep.proofs.Vocabulary.{words_of_cells, words_on, words_under}

@@ -1,15 +1,11 @@
 -- What a whole cycle makes with the sweep engine, where no marker may step.
 use Rattle.std.specs.Prelude.{◌≡◌, ℕ, ◌<◌, true, List, ◌++◌}
-use Rattle.mk_core.specs.declared.events.Event.{Event}
-use Rattle.mk_core.specs.declared.events.Seat.{Seat}
-use Rattle.mk_core.specs.declared.events.Seat.TheVariants.{Marker}
-use Rattle.mk_core.specs.Cycles.{Releasing, IsInSnapshot, before_begin, before_close}
-use Rattle.mk_core.specs.History.{left}
-use Rattle.mk_words.specs.Seats.{Has}
-use Rattle.mk_words.specs.States.{PassState}
+use Rattle.mk_core.specs.{declared.events.Event.Event, declared.events.Seat.Seat}
+use Rattle.mk_core.specs.{declared.events.Seat.TheVariants.Marker, Cycles.{Releasing, IsInSnapshot, before_begin}}
+use Rattle.mk_core.specs.{Cycles.before_close, History.left}
+use Rattle.mk_words.specs.{Seats.Has, States.PassState}
 use Rattle.mk_laws.specs.Releases.{allocation_behind}
-use Rattle.mk_cycle.specs.declared.finishing.Released.{Released}
-use Rattle.mk_cycle.specs.BeginCycle.{BeginsCycle}
+use Rattle.mk_cycle.specs.{declared.finishing.Released.Released, BeginCycle.BeginsCycle}
 use Rattle.mk_cycle.specs.FinishCycle.{FinishesCycle, HasReleased}
 use Rattle.mk_sweep.specs.Swept.{IsSwept}
 

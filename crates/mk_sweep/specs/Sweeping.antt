@@ -1,20 +1,14 @@
 -- The parts of a sweep: which heap words each looks at, and what it leaves.
 use Rattle.std.specs.Prelude.{◌≡◌, ℕ, zero, suc, ◌+◌, ◌*◌, Bool, true, List, [], ◌∷◌, ◌++◌, if◌then◌else◌, slice_index}
-use Rattle.std.specs.Prelude.{Some}
-use Rattle.std.specs.List.{range_with_len, Contains}
+use Rattle.std.specs.{Prelude.Some, List.{range_with_len, Contains}}
 use Rattle.mk_geom.specs.declared.addresses.Cell.{Cell}
-use Rattle.mk_core.specs.declared.events.Step.{Step}
-use Rattle.mk_core.specs.declared.seats.Hand.{Hand}
-use Rattle.mk_core.specs.Bits.{has_bit}
+use Rattle.mk_core.specs.{declared.events.Step.Step, declared.seats.Hand.Hand, Bits.has_bit}
 use Rattle.mk_core.specs.Cells.{cells_under, has_no_pointers, header_in, pointed_cell, word_points_well, words_under}
-use Rattle.mk_core.specs.Frames.{OnlyGrow}
-use Rattle.mk_core.specs.Growing.{Finding}
-use Rattle.mk_core.specs.Words.{Words, used_at}
+use Rattle.mk_core.specs.{Frames.OnlyGrow, Growing.Finding, Words.{Words, used_at}}
 use Rattle.mk_laws.specs.SettledPages.{IsSettled}
 use Rattle.mk_words.specs.States.{PassState, TurnState, world_of}
 use Rattle.mk_turns.specs.Doing.{Does, done_in}
-use Rattle.mk_tracing.specs.Grays.{AllAreBlack, MarksMore}
-use Rattle.mk_tracing.specs.Stops.{IsWanted, hand_of, still_words}
+use Rattle.mk_tracing.specs.{Grays.{AllAreBlack, MarksMore}, Stops.{IsWanted, hand_of, still_words}}
 use Rattle.mk_tracing.specs.Tracing.{Traces, is_marking}
 use Rattle.mk_sweep.specs.Swept.{IsSweptValue, SweepsBy}
 use Rattle.mk_core.specs.declared.events.Step.TheVariants as step

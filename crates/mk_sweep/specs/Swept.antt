@@ -1,14 +1,9 @@
 -- What a sweep looks at, and what it marks: no reach is followed.
 use Rattle.std.specs.Prelude.{◌≡◌, ℕ, ◌^◌, true, List, ⊤, filter, sum_by, slice_index, Some}
-use Rattle.mk_geom.specs.declared.addresses.Cell.{Cell}
-use Rattle.mk_geom.specs.StorageWords.{IsWordOf}
-use Rattle.mk_core.specs.declared.config.Config.{Config}
-use Rattle.mk_core.specs.declared.events.Step.{Step}
-use Rattle.mk_core.specs.Allocations.{PlacedAllocation, placed_at, storage_of, storage_words}
-use Rattle.mk_core.specs.Cells.{pointed_cell}
-use Rattle.mk_core.specs.ClosedMarks.{is_scanned_allocation}
-use Rattle.mk_core.specs.History.{World}
-use Rattle.mk_core.specs.Moments.{Moment}
+use Rattle.mk_geom.specs.{declared.addresses.Cell.Cell, StorageWords.IsWordOf}
+use Rattle.mk_core.specs.{declared.config.Config.Config, declared.events.Step.Step}
+use Rattle.mk_core.specs.{Allocations.{PlacedAllocation, placed_at, storage_of, storage_words}, Cells.pointed_cell}
+use Rattle.mk_core.specs.{ClosedMarks.is_scanned_allocation, History.World, Moments.Moment}
 use Rattle.mk_core.specs.Touched.{PointsIntoAllocation}
 use Rattle.mk_core.specs.declared.events.Step.TheVariants as step
 use Rattle.mk_core.specs.declared.events.Word.TheVariants as word

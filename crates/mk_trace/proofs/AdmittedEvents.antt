@@ -1,26 +1,20 @@
 -- The operations of an event are admitted where all registers are null, and leave them so.
-use Rattle.std.proofs.Common.{set, slice_get}
-use Rattle.std.proofs.lemmas.List.FromFn.{get_or-range_with_len, length-range_with_len}
-use Rattle.std.proofs.lemmas.List.Elements.{All-get_or}
-use Rattle.std.proofs.lemmas.Option.{slice_get-get_or}
+use Rattle.std.proofs.{Common.{set, slice_get}, lemmas.List.FromFn.{get_or-range_with_len, length-range_with_len}}
+use Rattle.std.proofs.{lemmas.List.Elements.All-get_or, lemmas.Option.slice_get-get_or}
 use Rattle.mk_trace.proofs.Vocabulary.{A, AreAdmitted, C, Config, Contents, F, IsAdmitted, IsBetween, IsEventOf}
 use Rattle.mk_trace.proofs.Vocabulary.{IsPlayable, IsSound, K, Kind, NeverState, Null, Num, Op, Ptr, To, TraceEvent}
 use Rattle.mk_trace.proofs.Vocabulary.{Value, W, after_calls, after_free, allocation_at, asked, calls, calls_of_caller}
 use Rattle.mk_trace.proofs.Vocabulary.{config_of, global_at, kinds_of, length-replicate, never_behind, never_first}
 use Rattle.mk_trace.proofs.Vocabulary.{ops_of, range_with_len, register_at, replicate, types_from}
-use Rattle.mk_trace.proofs.SlotTypes.{length-types_from}
-use Rattle.mk_trace.specs.Calls.{EventsAreAdmitted}
-use Rattle.mk_trace.specs.Playing.{slot_type}
+use Rattle.mk_trace.{proofs.SlotTypes.{length-types_from}, specs.{Calls.EventsAreAdmitted, Playing.slot_type}}
 use Rattle.mk_laws.proofs.Vocabulary.{AccessIsAdmitted, Bool, IsTyped, IsTypedAllocation, List, Meets, get_or-set_same}
 use Rattle.mk_laws.proofs.Vocabulary.{length, refl, subst, suc, sym, true, words_of, zero, [], ◌*◌, ◌+◌, ◌-◌, ◌<◌, ◌∙◌}
 use Rattle.mk_laws.proofs.Vocabulary.{◌∷◌, ◌≡◌, ◌≢◌, ◌≤◌}
-use Rattle.mk_never.proofs.Later.{calls_stay, op_stays}
-use Rattle.mk_never.proofs.Edits.{left_at_by}
-use Rattle.mk_never.proofs.Fresh.{new_adds}
+use Rattle.mk_never.proofs.{Later.{calls_stay, op_stays}, Edits.left_at_by, Fresh.new_adds}
 use Rattle.mk_never.proofs.TypedCalls.{op_keeps, stays_typed}
-use Rattle.mk_never.specs.NeverHeap.{after_op}
-use Rattle.mk_never.specs.Admitted.{IsBase, IsCaller, IsOfKind, OperandsAreInRange, StoreIsAdmitted}
-use Rattle.mk_never.specs.declared.operations.Op.TheVariants.{Clear, Free, GetGlobal, New, SetGlobal, SetNum, SetPtr}
+use Rattle.mk_never.specs.{NeverHeap.after_op, Admitted.{IsBase, IsCaller, IsOfKind, OperandsAreInRange}}
+use Rattle.mk_never.specs.{Admitted.StoreIsAdmitted, declared.operations.Op.TheVariants.{Clear, Free, GetGlobal, New}}
+use Rattle.mk_never.specs.declared.operations.Op.TheVariants.{SetGlobal, SetNum, SetPtr}
 use Rattle.mk_laws.proofs.Vocabulary.{Number as NumKind, Some, ℕ, ap, arith, false, get_or, get_or-set_other}
 
 -- The kinds of a slot's objects.

@@ -1,10 +1,7 @@
 -- Pairs of an age and how many have it: ages are counted one by one, in any order.
-use Rattle.std.proofs.Common.{drop-set-lt}
-use Rattle.std.proofs.lemmas.List.{take-set}
-use Rattle.std.proofs.lemmas.List.Sums.{fold-append}
+use Rattle.std.proofs.{Common.drop-set-lt, lemmas.List.take-set, lemmas.List.Sums.fold-append}
 use Rattle.mk_trace.proofs.Vocabulary.{counted, drop_more, fold, in_a_word, nat_tests, one_if, take-append-drop, times}
-use Rattle.mk_trace.proofs.Vocabulary.{with_one}
-use Rattle.mk_trace.specs.Peaks.{with_age}
+use Rattle.mk_trace.{proofs.Vocabulary.{with_one}, specs.Peaks.{with_age}}
 use Rattle.mk_laws.proofs.Vocabulary.{List, ℕ, ap, arith, drop, get_or-set_same, if◌then◌else◌, length, length-set, map}
 use Rattle.mk_laws.proofs.Vocabulary.{refl, slice_index_or, slice_set, subst, sym, take, [], ◌++◌, ◌+◌, ◌<◌, ◌==◌, ◌∙◌}
 use Rattle.mk_laws.proofs.Vocabulary.{◌∷◌, ◌≡◌, ◌≤◌}

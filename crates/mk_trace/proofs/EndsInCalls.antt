@@ -1,15 +1,11 @@
 -- What events of the one caller lack, and what is decided among those of its call.
 use Rattle.mk_trace.proofs.Vocabulary.{Answer, Caller, Config, Decided, Event, Op, Seat, World, call_decided}
-use Rattle.mk_trace.proofs.Vocabulary.{calls_append, flagged, has_step, world_behind}
-use Rattle.mk_trace.proofs.FreedMost.{one_of_three}
-use Rattle.mk_trace.proofs.FoundByEnds.{FreesNoneFrom, is_over}
-use Rattle.mk_trace.proofs.OwnPieces.{AreMine, OneSeat, has_mine, is_mine, mine_parts}
-use Rattle.mk_trace.proofs.EndsInLists.{changes}
-use Rattle.mk_trace.proofs.FreeCalls.{is_free, is_free_call}
+use Rattle.mk_trace.proofs.{Vocabulary.{calls_append, flagged, has_step, world_behind}, FreedMost.one_of_three}
+use Rattle.mk_trace.proofs.{FoundByEnds.{FreesNoneFrom, is_over}, OwnPieces.{AreMine, OneSeat, has_mine, is_mine}}
+use Rattle.mk_trace.proofs.{OwnPieces.mine_parts, EndsInLists.changes, FreeCalls.{is_free, is_free_call}}
 use Rattle.mk_laws.proofs.Vocabulary.{Bool, List, ℕ, and_parts, ap, append_assoc, arith, false, left_append, list_any}
 use Rattle.mk_laws.proofs.Vocabulary.{or_from, refl, sym, true, [], ◌&&◌, ◌++◌, ◌∙◌, ◌∷◌, ◌≡◌}
-use Rattle.mk_core.specs.Growing.{own_from}
-use Rattle.mk_core.specs.History.{AreEnabledFrom, calls_from, left_from}
+use Rattle.mk_core.specs.{Growing.own_from, History.{AreEnabledFrom, calls_from, left_from}}
 use Rattle.mk_run.specs.Scripts.{is_beside_turns}
 use Rattle.mk_turns.specs.Doing.{are_of}
 use Rattle.mk_words.proofs.Seats.{only_one, same_self}

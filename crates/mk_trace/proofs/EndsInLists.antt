@@ -2,19 +2,16 @@
 use Rattle.mk_trace.proofs.Vocabulary.{AreEnabledFrom, Config, EndsNone, EndsOne, EndsTell, Event, FreesNone}
 use Rattle.mk_trace.proofs.Vocabulary.{IsBetweenCycles, LeavesAllocations, ReleasesNone, Step, World, ends, has_step}
 use Rattle.mk_trace.proofs.Vocabulary.{is_begin, is_end, is_grant, is_of_cycle, left, lets_go, moves_phase, none_at}
-use Rattle.mk_trace.proofs.Vocabulary.{phase_of, world_behind, ⊎_elim}
-use Rattle.mk_trace.proofs.FoundByEnds.{EndsOnce, FreesNoneFrom, Rests, ends-append, ends_once, found-append}
-use Rattle.mk_trace.proofs.FoundByEnds.{found-none, frees_behind, frees_second, grows_by, is_over, no_end-cons, rests}
+use Rattle.mk_trace.proofs.{Vocabulary.{phase_of, world_behind, ⊎_elim}, FoundByEnds.{EndsOnce, FreesNoneFrom, Rests}}
+use Rattle.mk_trace.proofs.FoundByEnds.{ends-append, ends_once, found-append, found-none, frees_behind, frees_second}
+use Rattle.mk_trace.{proofs.FoundByEnds.{grows_by, is_over, no_end-cons, rests}, specs.Peaks.{found_by_ends_from}}
 use Rattle.mk_trace.proofs.FlagSteps.{releases_then, same_releases}
-use Rattle.mk_trace.specs.Peaks.{found_by_ends_from}
 use Rattle.mk_laws.proofs.Vocabulary.{Bool, List, ℕ, ap, append-nil, append_assoc, arith, cases_Bool, enabled_parts}
 use Rattle.mk_laws.proofs.Vocabulary.{false, inl, inr, left_append, left_in_parts, or_from, or_parts, refl, subst, sym}
 use Rattle.mk_laws.proofs.Vocabulary.{true, true≢false, [], ◌++◌, ◌+◌, ◌||◌, ◌∙◌, ◌∷◌, ◌≡◌, ◌⊎◌}
 use Rattle.mk_laws.proofs.CyclePhases.{begin_is, phase_behind}
-use Rattle.mk_core.specs.Cycles.{Next}
-use Rattle.mk_core.specs.History.{left_from}
-use Rattle.mk_alloc.proofs.ListParts.{lacks_first, lacks_second}
-use Rattle.mk_alloc.specs.TurnCycles.{RunsOneCycle}
+use Rattle.mk_core.specs.{Cycles.Next, History.left_from}
+use Rattle.mk_alloc.{proofs.ListParts.{lacks_first, lacks_second}, specs.TurnCycles.{RunsOneCycle}}
 use Rattle.mk_quarantine.proofs.HeldTurns.{next_of}
 
 -- What lacks one kind lacks another, where each step of that is one of the first.

@@ -2,31 +2,19 @@
 use Rattle.mk_trace.proofs.Vocabulary.{A, Caller, Config, Contents, Event, IsHistory, IsOfSomeTraceText, IsTidy, Op}
 use Rattle.mk_trace.proofs.Vocabulary.{Step, TalliesAreTidy, W, World, answered, calls, codes, config_of, first_world}
 use Rattle.mk_trace.proofs.Vocabulary.{flight_of, has_step, is_begin, lets_go, none_at, peaks_of, refused_events}
-use Rattle.mk_trace.proofs.Vocabulary.{world_behind}
-use Rattle.mk_trace.proofs.ExactPlays.{nothing_given}
-use Rattle.mk_trace.proofs.Playable.{is_playable}
+use Rattle.mk_trace.proofs.{Vocabulary.world_behind, ExactPlays.nothing_given, Playable.is_playable}
 use Rattle.mk_laws.proofs.Vocabulary.{List, None, Some, Tally, ap, arith, false, or_parts, refl, subst, sym, [], ◌++◌}
-use Rattle.mk_laws.proofs.Vocabulary.{◌∙◌, ◌∷◌, ◌≡◌}
-use Rattle.mk_laws.proofs.Promises.{histories_keep_all_promises}
-use Rattle.mk_core.proofs.Schedules.{by, c0, fault, first_fault}
-use Rattle.mk_core.proofs.EvaluatedHistories.{enabled}
-use Rattle.mk_core.proofs.EventsAt.{Also, AtEach, at_each, ◌and◌}
-use Rattle.mk_core.specs.Allocations.{unreleased_storage}
-use Rattle.mk_core.specs.Bounded.{all_below}
-use Rattle.mk_core.specs.Cells.{pointed_cell}
-use Rattle.mk_core.specs.Cycles.{NoneSweepsFrom, is_give}
-use Rattle.mk_core.specs.History.{CallsAreAdmitted, calls_from, left_from}
-use Rattle.mk_alloc.proofs.ListParts.{lacks_second}
-use Rattle.mk_alloc.proofs.OwnGives.{none_more, one_more}
+use Rattle.mk_laws.proofs.{Vocabulary.{◌∙◌, ◌∷◌, ◌≡◌}, Promises.histories_keep_all_promises}
+use Rattle.mk_core.proofs.{Schedules.{by, c0, fault, first_fault}, EvaluatedHistories.enabled, EventsAt.{Also, AtEach}}
+use Rattle.mk_core.proofs.EventsAt.{at_each, ◌and◌}
+use Rattle.mk_core.specs.{Allocations.unreleased_storage, Bounded.all_below, Cells.pointed_cell}
+use Rattle.mk_core.specs.{Cycles.{NoneSweepsFrom, is_give}, History.{CallsAreAdmitted, calls_from, left_from}}
+use Rattle.mk_alloc.proofs.{ListParts.lacks_second, OwnGives.{none_more, one_more}}
 use Rattle.mk_alloc.specs.TurnCycles.{EndsExactly, TurnsOfAreExact, is_want}
 use Rattle.mk_quarantine.proofs.Bounds.{quarantine_of_one_is_bounded}
-use Rattle.mk_run.proofs.UnsweptHistories.{unswept_is_precise}
-use Rattle.mk_run.specs.Unswept.{IsUnswept}
-use Rattle.mk_trace.specs.Grammar.{along}
-use Rattle.mk_trace.specs.Peaks.{found_by_ends_from, greatest_from}
-use Rattle.mk_trace.specs.Playing.{IsPlayed}
-use Rattle.mk_turns.proofs.Sweeping.{other_steps_sweep}
-use Rattle.mk_turns.specs.Sweeping.{is_mark}
+use Rattle.mk_run.{proofs.UnsweptHistories.{unswept_is_precise}, specs.Unswept.{IsUnswept}}
+use Rattle.mk_trace.specs.{Grammar.along, Peaks.{found_by_ends_from, greatest_from}, Playing.IsPlayed}
+use Rattle.mk_turns.{proofs.Sweeping.{other_steps_sweep}, specs.Sweeping.{is_mark}}
 
 unfoldable pub stored_and_made : Contents
 stored_and_made = record { pages = 1; resident = 1; slots = 2 ∷ []; events = W 0 1 5 ∷ A 0 ∷ [] }

@@ -2,22 +2,17 @@
 use Rattle.mk_trace.proofs.Vocabulary.{AllTurnsAreExact, Answer, Caller, Config, Contents, Event, Grows, Has, Host}
 use Rattle.mk_trace.proofs.Vocabulary.{HostState, IsHistory, Op, PassState, Seat, StayExact, SweepsNothing, Word}
 use Rattle.mk_trace.proofs.Vocabulary.{and-false, config_of, first_world, has_first, has_step, is_of_cycle}
-use Rattle.mk_trace.proofs.Vocabulary.{is_same_seat, pass_for, seat_exists}
-use Rattle.mk_trace.proofs.HeldLooks.{Looked, all_lack, behind, first, moves, seen_is}
-use Rattle.mk_trace.proofs.JoinedCalls.{Joined, elsewhere}
+use Rattle.mk_trace.proofs.{Vocabulary.{is_same_seat, pass_for, seat_exists}, HeldLooks.{Looked, all_lack, behind}}
+use Rattle.mk_trace.proofs.{HeldLooks.{first, moves, seen_is}, JoinedCalls.{Joined, elsewhere}}
 use Rattle.mk_laws.proofs.Vocabulary.{Bool, List, ℕ, ap, arith, false, list_any, list_any-append, ltb-true, or_from}
 use Rattle.mk_laws.proofs.Vocabulary.{or_parts, refl, subst, sym, true, [], ◌&&◌, ◌++◌, ◌∙◌, ◌∷◌, ◌≡◌}
 use Rattle.mk_core.specs.Growing.{AreOfOthers}
-use Rattle.mk_alloc.proofs.ExactTurns.{stay_exact_behind_others}
-use Rattle.mk_alloc.specs.Laws.{OwnAreExact}
-use Rattle.mk_alloc.specs.TurnCycles.{TurnsOfAreExact}
+use Rattle.mk_alloc.{proofs.ExactTurns.{stay_exact_behind_others}, specs.{Laws.OwnAreExact, TurnCycles.TurnsOfAreExact}}
 use Rattle.mk_run.proofs.UnsweptScripts.{first_sweeps, others_on, seat_on}
 use Rattle.mk_run.proofs.UnsweptHistories.{markers_sweep, none_sweeps}
-use Rattle.mk_run.specs.Unswept.{IsUnswept}
-use Rattle.mk_run.specs.UnsweptSeats.{SeatSweepsNothing}
+use Rattle.mk_run.specs.{Unswept.IsUnswept, UnsweptSeats.SeatSweepsNothing}
 use Rattle.mk_trace.specs.Playing.{MakesNoCycle}
-use Rattle.mk_turns.proofs.Doing.{not_own}
-use Rattle.mk_turns.specs.Sweeping.{SweepsNothingFrom}
+use Rattle.mk_turns.{proofs.Doing.{not_own}, specs.Sweeping.{SweepsNothingFrom}}
 use Rattle.mk_words.proofs.Seats.{without_keeps}
 
 -- Lists in which a seat makes no cycle.

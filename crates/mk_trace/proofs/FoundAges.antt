@@ -2,10 +2,8 @@
 use Rattle.mk_trace.proofs.Vocabulary.{AreAgesOf, AreFound, AreThose, Config, Event, FlagsBehind, FreesNone}
 use Rattle.mk_trace.proofs.Vocabulary.{PlacedAllocation, ReleasesNone, age_in_a_word, age_of, and-false, counted}
 use Rattle.mk_trace.proofs.Vocabulary.{filter, fold, left, never_granted, one_if, placed_at, times, with_one}
-use Rattle.mk_trace.proofs.KeptObjects.{freed_before, maps_agree, unfreed_past, was_kept}
-use Rattle.mk_trace.proofs.CountedAges.{counted_more}
-use Rattle.mk_trace.proofs.NumberLists.{stands_passes, those_filtered}
-use Rattle.mk_trace.specs.Ledgers.{is_found_gone, is_gone}
+use Rattle.mk_trace.proofs.{KeptObjects.{freed_before, maps_agree, unfreed_past, was_kept}, CountedAges.counted_more}
+use Rattle.mk_trace.{proofs.NumberLists.{stands_passes, those_filtered}, specs.Ledgers.{is_found_gone, is_gone}}
 use Rattle.mk_laws.proofs.Vocabulary.{Bool, List, Option, ℕ, and_from, and_parts, ap, arith, cases_lt, false}
 use Rattle.mk_laws.proofs.Vocabulary.{false_from_ne_true, get_or_past, if◌then◌else◌, length, list_any-append, map}
 use Rattle.mk_laws.proofs.Vocabulary.{map-append, not, not-true, or_parts, sym, true, true≢false, [], ◌&&◌, ◌++◌, ◌+◌}

@@ -5,8 +5,7 @@ use Rattle.mk_trace.proofs.Vocabulary.{freed_where_it_stands, granted, has_step,
 use Rattle.mk_trace.proofs.Vocabulary.{length-append, moves_phase, no_longer_fresh, phase_of, sum_by-append}
 use Rattle.mk_trace.proofs.Vocabulary.{sum_by-cons, with_released, world_behind, ⊎_elim}
 use Rattle.mk_trace.proofs.FlagSteps.{frees_by, frees_then, releases_by, releases_then, same_releases}
-use Rattle.mk_trace.proofs.FreeCalls.{frees_decide, is_free_call}
-use Rattle.mk_trace.specs.Peaks.{found_by_ends_from}
+use Rattle.mk_trace.{proofs.FreeCalls.{frees_decide, is_free_call}, specs.Peaks.{found_by_ends_from}}
 use Rattle.mk_laws.proofs.Vocabulary.{Bool, List, ℕ, ap, arith, cases_Bool, cond, false, false_from_ne_true}
 use Rattle.mk_laws.proofs.Vocabulary.{if◌then◌else◌, length, length-map, list_any, list_any-append, or_parts, refl}
 use Rattle.mk_laws.proofs.Vocabulary.{subst, sym, true, true≢false, [], ◌++◌, ◌+◌, ◌||◌, ◌∙◌, ◌∷◌, ◌≡◌, ◌≤◌}

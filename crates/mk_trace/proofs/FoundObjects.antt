@@ -10,13 +10,9 @@ use Rattle.mk_laws.proofs.Vocabulary.{arith, bases_of, cases_Bool, cells_begin, 
 use Rattle.mk_laws.proofs.Vocabulary.{if◌then◌else◌, image_of, inl, inr, is_released_in, large_is_not_small, length}
 use Rattle.mk_laws.proofs.Vocabulary.{nat_le, not, object_placed, refl, slice_index, storage_holds, storage_of, subst}
 use Rattle.mk_laws.proofs.Vocabulary.{sym, true, true≢false, typed_size, word_points, ◌+◌, ◌<◌, ◌∙◌, ◌≡◌, ◌≢◌}
-use Rattle.mk_laws.proofs.InvariantTheorems.{allocations_stand}
-use Rattle.mk_laws.proofs.Settled.{unreleased_are_apart}
-use Rattle.mk_never.specs.Reach.{LeadsTo}
-use Rattle.mk_never.specs.Reach.IsReachable.{by_global}
-use Rattle.mk_never.specs.Typed.{IsPlaceIn}
-use Rattle.mk_core.proofs.Sizes.{words_are_small}
-use Rattle.mk_core.specs.Cells.{pointed_cell}
+use Rattle.mk_laws.proofs.{InvariantTheorems.allocations_stand, Settled.unreleased_are_apart}
+use Rattle.mk_never.specs.{Reach.LeadsTo, Reach.IsReachable.by_global, Typed.IsPlaceIn}
+use Rattle.mk_core.{proofs.Sizes.{words_are_small}, specs.Cells.{pointed_cell}}
 use Rattle.mk_laws.specs.SettledPages.{StandsUsed}
 use Rattle.std.proofs.Math.ListN.{get_or-map as get_or-map-default}
 

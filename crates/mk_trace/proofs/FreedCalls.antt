@@ -6,18 +6,14 @@ use Rattle.mk_trace.proofs.Vocabulary.{QuarantinesMostWhereFreed, Step, WordsSta
 use Rattle.mk_trace.proofs.Vocabulary.{calls_from, entry_of, exists_placed, has_step, is_begin, is_of_cycle, is_release}
 use Rattle.mk_trace.proofs.Vocabulary.{is_under_turn, lacks_append, left, never_behind, none_at, number_freed}
 use Rattle.mk_trace.proofs.Vocabulary.{placed_at, reach_is_kept, register_at, unflagged, world_behind}
-use Rattle.mk_trace.proofs.EndsInLists.{first_at, lacks_by}
-use Rattle.mk_trace.proofs.FlagSteps.{is_freed_behind, is_freed_there, later_left, others_kept, points_there, twins}
-use Rattle.mk_trace.proofs.FlagSteps.{was_unfreed}
-use Rattle.mk_trace.proofs.FreeCalls.{flagged_free, is_free, is_free_call}
-use Rattle.mk_trace.proofs.FreedMost.{FreesBefore, MostWhereFreed, ReleasesLate, free_most, no_more_without_free}
+use Rattle.mk_trace.proofs.{EndsInLists.{first_at, lacks_by}, FlagSteps.{is_freed_behind, is_freed_there, later_left}}
+use Rattle.mk_trace.{proofs.FlagSteps.{others_kept, points_there, twins, was_unfreed}, specs.Peaks.{greatest_from}}
+use Rattle.mk_trace.proofs.{FreeCalls.{flagged_free, is_free, is_free_call}, FreedMost.{FreesBefore, MostWhereFreed}}
+use Rattle.mk_trace.proofs.FreedMost.{ReleasesLate, free_most, no_more_without_free}
 use Rattle.mk_trace.proofs.FreedWords.{large_weight, quarantined_is, reserved_is, storage_weight, weighed}
 use Rattle.mk_trace.proofs.JoinedCalls.{InTurn, Joined, acts, before, before_lacks, beside_leaves, called, decided}
 use Rattle.mk_trace.proofs.JoinedCalls.{ends_told, exact, held_at_end, in_parts, last, whole}
-use Rattle.mk_trace.proofs.FoundByEnds.{none_freed_from}
-use Rattle.mk_trace.proofs.OneCaller.{callers_at_home}
-use Rattle.mk_trace.proofs.OwnPieces.{within_is}
-use Rattle.mk_trace.specs.Peaks.{greatest_from}
+use Rattle.mk_trace.proofs.{FoundByEnds.none_freed_from, OneCaller.callers_at_home, OwnPieces.within_is}
 use Rattle.mk_laws.proofs.Vocabulary.{Bool, List, Some, ℕ, ap, append_assoc, arith, cases_Bool, earlier_part_is_history}
 use Rattle.mk_laws.proofs.Vocabulary.{false, inl, inr, left_in_parts, length, never_in_parts, refl, subst, sym, true}
 use Rattle.mk_laws.proofs.Vocabulary.{[], ◌*◌, ◌++◌, ◌+◌, ◌<◌, ◌∙◌, ◌∷◌, ◌≡◌}

@@ -5,18 +5,15 @@ use Rattle.mk_trace.proofs.Vocabulary.{after_free, allocations_by, asked, call_d
 use Rattle.mk_trace.proofs.Vocabulary.{entry_of, first_world, flight_of, freed_where_it_stands, granted, greatest}
 use Rattle.mk_trace.proofs.Vocabulary.{has_step, is_release, lacks_append, lacks_one, left, max, never_behind}
 use Rattle.mk_trace.proofs.Vocabulary.{number_freed, register_at, sum_by-append, sum_by-cons, unfreed, words_of_some}
-use Rattle.mk_trace.proofs.Vocabulary.{world_behind}
-use Rattle.mk_trace.proofs.FlagSteps.{SameReleased, later_left, points_there, same_released, unfreed_all}
-use Rattle.mk_trace.proofs.FreeCalls.{flagged_free, freeing_is, frees_decide, is_free, is_free_call}
-use Rattle.mk_trace.proofs.FreedWords.{freed_adds, part, sum_falls, sum_rises, weighed}
-use Rattle.mk_trace.proofs.PeakParts.{first_below, from-append, last_below}
-use Rattle.mk_trace.proofs.FoundByEnds.{FreesNoneFrom, free_parts}
+use Rattle.mk_trace.proofs.{Vocabulary.world_behind, FlagSteps.{SameReleased, later_left, points_there, same_released}}
+use Rattle.mk_trace.proofs.{FlagSteps.unfreed_all, FreeCalls.{flagged_free, freeing_is, frees_decide, is_free}}
+use Rattle.mk_trace.proofs.{FreeCalls.is_free_call, FreedWords.{freed_adds, part, sum_falls, sum_rises, weighed}}
+use Rattle.mk_trace.proofs.{PeakParts.{first_below, from-append, last_below}, FoundByEnds.{FreesNoneFrom, free_parts}}
 use Rattle.mk_laws.proofs.Vocabulary.{Bool, List, None, Option, Some, ℕ, ap, append-nil, append_assoc, arith}
 use Rattle.mk_laws.proofs.Vocabulary.{earlier_part_is_history, false, if◌then◌else◌, inl, inr, left_in_parts, list_any}
 use Rattle.mk_laws.proofs.Vocabulary.{never_in_parts, not, or_parts, refl, subst, sym, true, true≢false, [], ◌&&◌, ◌*◌}
 use Rattle.mk_laws.proofs.Vocabulary.{◌++◌, ◌+◌, ◌||◌, ◌∙◌, ◌∷◌, ◌≡◌, ◌≤◌, ◌⊎◌}
-use Rattle.mk_never.specs.Reach.{IsReachable}
-use Rattle.mk_never.specs.Reach.IsReachable.{by_register}
+use Rattle.mk_never.specs.{Reach.IsReachable, Reach.IsReachable.by_register}
 use Rattle.mk_core.specs.History.{calls_from, left_from}
 use Rattle.mk_trace.specs.Peaks.{greatest_from}
 

@@ -2,15 +2,12 @@
 use Rattle.std.proofs.Common.{get_or-drop}
 use Rattle.mk_trace.proofs.Vocabulary.{A, C, Config, Event, F, IsHistory, K, NeverState, Null, Op, TraceEvent, W}
 use Rattle.mk_trace.proofs.Vocabulary.{after_calls, calls_of_caller, drop_more, global_at, histories_keep_the_invariant}
-use Rattle.mk_trace.proofs.Vocabulary.{length-drop, never_behind, ops_of, register_at}
-use Rattle.mk_trace.proofs.FreeCalls.{is_free}
-use Rattle.mk_trace.proofs.LaterOps.{AreCalled, either_way}
-use Rattle.mk_trace.proofs.OneCaller.{never_behind_all}
+use Rattle.mk_trace.proofs.{Vocabulary.{length-drop, never_behind, ops_of, register_at}, FreeCalls.is_free}
+use Rattle.mk_trace.proofs.{LaterOps.{AreCalled, either_way}, OneCaller.never_behind_all}
 use Rattle.mk_laws.proofs.Vocabulary.{Bool, List, ℕ, ap, arith, drop, false, get_or, get_or-set_same, length, list_any}
 use Rattle.mk_laws.proofs.Vocabulary.{list_any-append, or_parts, refl, subst, sym, take, [], ◌*◌, ◌++◌, ◌+◌, ◌<◌, ◌∙◌}
 use Rattle.mk_laws.proofs.Vocabulary.{◌∷◌, ◌≡◌}
-use Rattle.mk_trace.specs.Freeing.{FreesItsSlot, FreesSlot}
-use Rattle.mk_trace.specs.Traces.{slot_of}
+use Rattle.mk_trace.specs.{Freeing.{FreesItsSlot, FreesSlot}, Traces.slot_of}
 
 no_free : (ops before : List Op) (o : Op) (rest : List Op) (p : ℕ) → list_any is_free ops ≡ false
     → ops ≡ before ++ o ∷ rest → o ≡ Op.Free p → ⊥

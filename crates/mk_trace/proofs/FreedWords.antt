@@ -5,13 +5,11 @@ use Rattle.mk_trace.proofs.Vocabulary.{exists_placed, flight_of, freed_where_it_
 use Rattle.mk_trace.proofs.Vocabulary.{is_large, is_quarantined, is_some_and, kinds_of, left, lets_go, never_behind}
 use Rattle.mk_trace.proofs.Vocabulary.{never_granted, placed_at, quarantined_words, reach_is_kept, reserved_words}
 use Rattle.mk_trace.proofs.Vocabulary.{stands_in, sum_by, sum_by-append, sum_by-cons, unfreed, with_released}
-use Rattle.mk_trace.proofs.Vocabulary.{words_of_some, world_behind}
-use Rattle.mk_trace.proofs.FlagSteps.{SameReleased, as_many_behind, is_freed_behind, is_freed_there, others_kept, twins}
-use Rattle.mk_trace.proofs.FlagSteps.{was_unfreed}
+use Rattle.mk_trace.proofs.{Vocabulary.{words_of_some, world_behind}, FlagSteps.{SameReleased, as_many_behind}}
+use Rattle.mk_trace.proofs.FlagSteps.{is_freed_behind, is_freed_there, others_kept, twins, was_unfreed}
 use Rattle.mk_laws.proofs.Vocabulary.{Bool, List, None, Option, Some, ℕ, arith, cases_lt, false, get_or_past}
 use Rattle.mk_laws.proofs.Vocabulary.{if◌then◌else◌, length, map, not, refl, suc, sym, true, words_made, zero, [], ◌&&◌}
-use Rattle.mk_laws.proofs.Vocabulary.{◌+◌, ◌||◌, ◌∙◌, ◌∷◌, ◌≡◌, ◌≢◌, ◌≤◌}
-use Rattle.mk_laws.proofs.FreshWords.{sum_filtered}
+use Rattle.mk_laws.proofs.{Vocabulary.{◌+◌, ◌||◌, ◌∙◌, ◌∷◌, ◌≡◌, ◌≢◌, ◌≤◌}, FreshWords.sum_filtered}
 use Rattle.mk_never.specs.Reach.{IsReachable}
 use Rattle.mk_core.specs.NewPlaces.{object_of}
 use Rattle.mk_objects.proofs.HeldFreed.{held_part, held_sum}

@@ -9,8 +9,7 @@ use Rattle.mk_laws.proofs.Vocabulary.{false_from_ne_true, list_any, list_any-app
 use Rattle.mk_laws.proofs.Vocabulary.{sym, true, true≢false, [], ◌&&◌, ◌<◌, ◌∙◌, ◌∷◌, ◌≡◌}
 use Rattle.mk_core.specs.History.{AreEnabledFrom, calls_from}
 use Rattle.mk_heap.specs.Hosts.{with_caller_made}
-use Rattle.mk_words.proofs.Seats.{has_all}
-use Rattle.mk_words.specs.Seats.{all_seats}
+use Rattle.mk_words.{proofs.Seats.{has_all}, specs.Seats.{all_seats}}
 
 -- A grant decides a New, so a call of another operation grants nothing.
 

@@ -3,17 +3,13 @@ use Rattle.mk_trace.proofs.Vocabulary.{AreOfOthers, Config, Event, Has, HasAll, 
 use Rattle.mk_trace.proofs.Vocabulary.{event_of, has_step, lacks_append, lacks_one, left, seen_made}
 use Rattle.mk_trace.proofs.OwnPieces.{AreMine, are_mine, mine_parts, none_of_others, others_lack, waiting_lacks}
 use Rattle.mk_laws.proofs.Vocabulary.{Bool, List, None, Option, ℕ, ap, arith, earlier_part_is_history, enabled_in_parts}
-use Rattle.mk_laws.proofs.Vocabulary.{false, refl, subst, sym, [], ◌++◌, ◌∙◌, ◌∷◌, ◌≡◌}
-use Rattle.mk_laws.proofs.Tallies.{tallies_tell}
+use Rattle.mk_laws.proofs.{Vocabulary.{false, refl, subst, sym, [], ◌++◌, ◌∙◌, ◌∷◌, ◌≡◌}, Tallies.tallies_tell}
 use Rattle.mk_laws.proofs.TallySteps.{others_count_nothing}
 use Rattle.mk_core.specs.Counts.{TalliesAreExact}
 use Rattle.mk_alloc.proofs.Parts.{seen_then}
-use Rattle.mk_heap.proofs.MovedHosts.{MovesOn, moves_more, turn_moves}
-use Rattle.mk_heap.specs.Turns.{TellsWord}
+use Rattle.mk_heap.{proofs.MovedHosts.{MovesOn, moves_more, turn_moves}, specs.Turns.{TellsWord}}
 use Rattle.mk_waiting.specs.Taking.{TakesTurn}
-use Rattle.mk_words.proofs.Made.{made}
-use Rattle.mk_words.proofs.Seats.{others_nobody}
-use Rattle.mk_words.proofs.Tallies.{exact_more}
+use Rattle.mk_words.proofs.{Made.made, Seats.others_nobody, Tallies.exact_more}
 
 -- Where the turn is taken, the tallies are what they count.
 exact_taken : {p q : PassState} (t : TakesTurn p None q) → Has t.waited.seats t.waited.seat

@@ -9,21 +9,16 @@ use Rattle.mk_trace.proofs.Vocabulary.{Event, Grows, HasAll, HoldsMostAtEnd, Hos
 use Rattle.mk_trace.proofs.Vocabulary.{Op, PassState, Seat, Step, World, calls, calls_from, decides_freed, entry_of}
 use Rattle.mk_trace.proofs.Vocabulary.{flight_of, has_step, is_begin, is_grant, is_of_cycle, is_under_turn}
 use Rattle.mk_trace.proofs.Vocabulary.{lacks_append, lacks_one, left, none_at, object_made, pass_for, unflagged}
-use Rattle.mk_trace.proofs.Vocabulary.{without_seat}
-use Rattle.mk_trace.proofs.EndsInCalls.{beside_lacks, flagged_new, freed_list, lacks_over, none_behind_free}
-use Rattle.mk_trace.proofs.EndsInLists.{changes, first_at, lacks_by, leaves_tell, leaves_then, tells_behind_none}
-use Rattle.mk_trace.proofs.EndsInLists.{tells_ends, tells_none}
-use Rattle.mk_trace.proofs.FreeCalls.{freeing_is, frees_decide, is_free_call}
-use Rattle.mk_trace.proofs.OwnPieces.{AreMine, OneSeat, all_again, are_mine, before_turn, before_turn_lacks, giving}
-use Rattle.mk_trace.proofs.OwnPieces.{mine_parts, none_of_others, turn_seen, within_is}
-use Rattle.mk_trace.proofs.FoundByEnds.{FreesNoneFrom, is_over}
-use Rattle.mk_trace.proofs.FreedWords.{held_falls_at, held_rises_at}
-use Rattle.mk_trace.proofs.HeldCalls.{is_new, others_grant_none}
-use Rattle.mk_trace.proofs.OneCaller.{calls_are_own, none_called}
-use Rattle.mk_trace.proofs.PeakParts.{most_then}
+use Rattle.mk_trace.proofs.{Vocabulary.without_seat, EndsInCalls.{beside_lacks, flagged_new, freed_list, lacks_over}}
+use Rattle.mk_trace.proofs.{EndsInCalls.none_behind_free, EndsInLists.{changes, first_at, lacks_by, leaves_tell}}
+use Rattle.mk_trace.proofs.EndsInLists.{leaves_then, tells_behind_none, tells_ends, tells_none}
+use Rattle.mk_trace.proofs.{FreeCalls.{freeing_is, frees_decide, is_free_call}, OwnPieces.{AreMine, OneSeat, all_again}}
+use Rattle.mk_trace.proofs.OwnPieces.{are_mine, before_turn, before_turn_lacks, giving, mine_parts, none_of_others}
+use Rattle.mk_trace.proofs.{OwnPieces.{turn_seen, within_is}, FoundByEnds.{FreesNoneFrom, is_over}}
+use Rattle.mk_trace.proofs.{FreedWords.{held_falls_at, held_rises_at}, HeldCalls.{is_new, others_grant_none}}
+use Rattle.mk_trace.proofs.{OneCaller.{calls_are_own, none_called}, PeakParts.most_then}
 use Rattle.mk_core.proofs.HistoryParts.{calls_in_parts}
-use Rattle.mk_alloc.proofs.GrantParts.{LastIn, last_before, last_then}
-use Rattle.mk_alloc.proofs.OneCycles.{one_before, one_behind}
+use Rattle.mk_alloc.proofs.{GrantParts.{LastIn, last_before, last_then}, OneCycles.{one_before, one_behind}}
 use Rattle.mk_alloc.specs.TurnCycles.{CallIsExact, FreeIsExact, NewIsExact, RunsOneCycle, finishes, within_turn}
 use Rattle.mk_alloc.specs.TurnCalls.{CalledInTurn}
 use Rattle.mk_run.specs.Scripts.{Answers}

@@ -4,14 +4,12 @@ use Rattle.mk_trace.proofs.Vocabulary.{AreFound, AreObjectsOf, AreThose, Config,
 use Rattle.mk_trace.proofs.Vocabulary.{IsHistory, PlacedAllocation, Words, age_in_a_word, age_of, aged, and-false}
 use Rattle.mk_trace.proofs.Vocabulary.{cell_of_allocation, exists_placed, filter, freed_object_of, is_freed}
 use Rattle.mk_trace.proofs.Vocabulary.{is_quarantined, left, never_granted, one_if, option_map, phase_of, placed_at}
-use Rattle.mk_trace.proofs.Vocabulary.{times}
-use Rattle.mk_trace.proofs.NumberLists.{equal_is, filters_agree, stands_passes, those_filtered, times_more, unequal_is}
-use Rattle.mk_trace.proofs.FoundObjects.{bit_tells_released, cell_by}
+use Rattle.mk_trace.proofs.{Vocabulary.times, NumberLists.{equal_is, filters_agree, stands_passes, those_filtered}}
+use Rattle.mk_trace.proofs.{NumberLists.{times_more, unequal_is}, FoundObjects.{bit_tells_released, cell_by}}
 use Rattle.mk_laws.proofs.Vocabulary.{Bool, List, None, Option, Some, ℕ, and_parts, ap, append-nil, arith, cases_lt}
 use Rattle.mk_laws.proofs.Vocabulary.{false, get_or_past, if◌then◌else◌, length, map, map-append, not, not-true, refl}
 use Rattle.mk_laws.proofs.Vocabulary.{true, [], ◌&&◌, ◌++◌, ◌+◌, ◌<◌, ◌==◌, ◌∙◌, ◌∷◌, ◌≡◌, ◌≢◌, ◌≤◌}
-use Rattle.mk_trace.specs.Freeing.{FreesFlag}
-use Rattle.mk_trace.specs.Ledgers.{aged_object, one_or_none}
+use Rattle.mk_trace.specs.{Freeing.FreesFlag, Ledgers.{aged_object, one_or_none}}
 
 -- lists
 

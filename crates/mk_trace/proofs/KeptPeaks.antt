@@ -7,17 +7,14 @@ use Rattle.mk_trace.proofs.Vocabulary.{SettlesFreed, Words, age_in_a_word, age_o
 use Rattle.mk_trace.proofs.Vocabulary.{freed_words, greatest, in_a_word, is_quarantined, left, never_behind}
 use Rattle.mk_trace.proofs.Vocabulary.{number_freed, objects_kept, option_map, phase_of, placed_at, quarantined_words}
 use Rattle.mk_trace.proofs.Vocabulary.{reserved_words, still_kept, sum_by, sum_by-append, sum_by-cons, with_one}
-use Rattle.mk_trace.proofs.Vocabulary.{words_of_some}
-use Rattle.mk_trace.proofs.FoundAges.{kept_age, none_ages, none_found, one_ages, one_found}
+use Rattle.mk_trace.proofs.{Vocabulary.words_of_some, FoundAges.{kept_age, none_ages, none_found, one_ages, one_found}}
 use Rattle.mk_trace.proofs.FreedWords.{large_weight, quarantined_is, reserved_is, storage_weight, sum_alike, weighed}
 use Rattle.mk_trace.proofs.KeptObjects.{ages_gone, let_go, none_released, noted, was_kept}
 use Rattle.mk_trace.proofs.NumberLists.{words_of_numbers}
 use Rattle.mk_laws.proofs.Vocabulary.{Bool, List, None, Option, Some, ℕ, ap, arith, eq-eqb, eqb-true, false, inl, inr}
 use Rattle.mk_laws.proofs.Vocabulary.{map, refl, subst, sym, true, [], ◌++◌, ◌+◌, ◌<◌, ◌==◌, ◌∙◌, ◌∷◌, ◌≡◌, ◌≢◌, ◌⊎◌}
 use Rattle.mk_trace.specs.Ledgers.{IsPeakOf, Notes, SettlesWhere, aged_object, is_count_same, one_or_none, risen}
-use Rattle.mk_trace.specs.Ledgers.{some_words, weighed_anew}
-use Rattle.mk_trace.specs.Peaks.{found_by_ends}
-use Rattle.mk_trace.specs.declared.ledger.Peak.{Peak}
+use Rattle.mk_trace.specs.{Ledgers.{some_words, weighed_anew}, Peaks.found_by_ends, declared.ledger.Peak.Peak}
 
 -- sums
 

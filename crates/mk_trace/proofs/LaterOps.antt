@@ -1,18 +1,16 @@
 -- The operations of events: of one more, and those after the first one.
-use Rattle.std.proofs.Common.{get_or-drop, length-take}
-use Rattle.std.proofs.lemmas.List.{drop-append-le, take-append-le}
+use Rattle.std.proofs.{Common.{get_or-drop, length-take}, lemmas.List.{drop-append-le, take-append-le}}
 use Rattle.std.specs.List.{list_all}
 use Rattle.mk_trace.proofs.Vocabulary.{A, Answer, AreAdmitted, Calls, Config, Event, K, Op, TraceEvent, begins_full}
 use Rattle.mk_trace.proofs.Vocabulary.{calls_of_caller, drop_more, flagged, is_refusal, length-append, length-drop}
 use Rattle.mk_trace.proofs.Vocabulary.{never_behind, one_if, ops_of, refused_events, take-append-drop, take_all}
-use Rattle.mk_trace.proofs.Vocabulary.{take_more}
-use Rattle.mk_trace.proofs.OneCaller.{begins_alike, calls_first, calls_more, full_as_told, next_may_come}
+use Rattle.mk_trace.proofs.{Vocabulary.take_more, OneCaller.{begins_alike, calls_first, calls_more, full_as_told}}
+use Rattle.mk_trace.proofs.OneCaller.{next_may_come}
 use Rattle.mk_laws.proofs.Vocabulary.{Bool, List, ℕ, and_parts, ap, append-nil, append_assoc, arith, drop, false}
 use Rattle.mk_laws.proofs.Vocabulary.{get_or, if◌then◌else◌, length, list_any, subst, suc, sym, take, true, zero, []}
 use Rattle.mk_laws.proofs.Vocabulary.{◌++◌, ◌+◌, ◌-◌, ◌<◌, ◌||◌, ◌∙◌, ◌∷◌, ◌≡◌, ◌≤◌}
 use Rattle.mk_core.specs.Counts.{is_full_answer}
-use Rattle.mk_trace.specs.Calls.{CallsAll, MayCome, PlaysEvent}
-use Rattle.mk_trace.specs.Playing.{ops_played}
+use Rattle.mk_trace.specs.{Calls.{CallsAll, MayCome, PlaysEvent}, Playing.ops_played}
 
 -- The operations of events, and how many are refused, with one event more.
 

@@ -6,17 +6,13 @@ use Rattle.mk_trace.proofs.Vocabulary.{PlacedAllocation, QuarantinesMostWhereFre
 use Rattle.mk_trace.proofs.Vocabulary.{config_of, ends, freed_object_of, freed_words, greatest, in_a_word}
 use Rattle.mk_trace.proofs.Vocabulary.{is_under_turn, large_words, left, most_held, never_behind, never_first}
 use Rattle.mk_trace.proofs.Vocabulary.{number_freed, objects_kept, option_map, peaks_of, quarantined_words}
-use Rattle.mk_trace.proofs.Vocabulary.{reserved_words, storage_words}
-use Rattle.mk_trace.proofs.KeptPeaks.{keeps_on}
-use Rattle.mk_trace.proofs.PeakParts.{last_below}
+use Rattle.mk_trace.proofs.{Vocabulary.{reserved_words, storage_words}, KeptPeaks.keeps_on, PeakParts.last_below}
 use Rattle.mk_trace.proofs.ReleasedAreFreed.{ages_counted}
 use Rattle.mk_laws.proofs.Vocabulary.{List, Option, ℕ, ap, arith, false, refl, subst, sym, [], ◌+◌, ◌<◌, ◌∙◌, ◌≡◌, ◌≤◌}
 use Rattle.mk_laws.proofs.Vocabulary.{◌⊎◌}
-use Rattle.mk_core.specs.Allocations.{unreleased_storage}
-use Rattle.mk_core.specs.History.{left_from}
+use Rattle.mk_core.specs.{Allocations.unreleased_storage, History.left_from}
 use Rattle.mk_trace.specs.Peaks.{HistoryPeaks, found_by_ends, found_by_ends_from, greatest_from}
-use Rattle.mk_trace.specs.Ledgers.{IsPeakOf, Notes}
-use Rattle.mk_trace.specs.declared.ledger.Peak.{Peak}
+use Rattle.mk_trace.specs.{Ledgers.{IsPeakOf, Notes}, declared.ledger.Peak.Peak}
 
 -- The ledger before any event, and what it comes to at the end.
 

@@ -3,23 +3,18 @@ use Rattle.mk_trace.proofs.Vocabulary.{Answer, AreAdmitted, Caller, CallerIsHome
 use Rattle.mk_trace.proofs.Vocabulary.{Event, Grows, Has, HasAll, HostState, IsAdmitted, IsHistory, NeverState, Op}
 use Rattle.mk_trace.proofs.Vocabulary.{PassState, Seat, WordsState, after_calls, answered, asked, begins_full, calls}
 use Rattle.mk_trace.proofs.Vocabulary.{calls_of_caller, first_host, flagged, has_first, is_refusal, never_behind}
-use Rattle.mk_trace.proofs.Vocabulary.{never_first, pass_for, without_seat}
-use Rattle.mk_trace.proofs.OwnPieces.{all_again}
+use Rattle.mk_trace.proofs.{Vocabulary.{never_first, pass_for, without_seat}, OwnPieces.all_again}
 use Rattle.mk_laws.proofs.Vocabulary.{Bool, List, ℕ, ap, append_assoc, arith, eq-eqb, false, if◌then◌else◌, length}
 use Rattle.mk_laws.proofs.Vocabulary.{length-map, list_any, list_any-append, map-append, refl, subst, sym, true, []}
 use Rattle.mk_laws.proofs.Vocabulary.{◌++◌, ◌<◌, ◌==◌, ◌||◌, ◌∙◌, ◌∷◌, ◌≡◌, ◌≤◌}
-use Rattle.mk_never.proofs.Later.{op_stays}
-use Rattle.mk_never.proofs.Parts.{admitted_split, after_append}
-use Rattle.mk_never.specs.Admitted.{IsCaller}
-use Rattle.mk_never.specs.NeverHeap.{after_op}
+use Rattle.mk_never.proofs.{Later.op_stays, Parts.{admitted_split, after_append}}
+use Rattle.mk_never.specs.{Admitted.IsCaller, NeverHeap.after_op}
 use Rattle.mk_core.specs.Counts.{is_full_answer}
-use Rattle.mk_caller.proofs.OwnSteps.{calls_by, others_add_none}
-use Rattle.mk_caller.specs.States.{at_home, caller_of_pass}
+use Rattle.mk_caller.{proofs.OwnSteps.{calls_by, others_add_none}, specs.States.{at_home, caller_of_pass}}
 use Rattle.mk_heap.specs.Hosts.{AllAreJoined, with_caller_made, with_caller_out, with_joined, with_seen}
 use Rattle.mk_run.specs.Scripts.{IsAdmittedByOwnCalls, as_told}
 use Rattle.mk_trace.specs.Calls.{CallsAll, MayCome, SameCalls}
-use Rattle.mk_words.proofs.Seats.{has_all, has_right}
-use Rattle.mk_words.specs.Seats.{has_over}
+use Rattle.mk_words.{proofs.Seats.{has_all, has_right}, specs.Seats.{has_over}}
 
 by_test : (x : Decided) (xs ys : List Decided) (b : Bool) → b ≡ true → ys ≡ xs → (if b then x ∷ ys else ys) ≡ x ∷ xs
 by_test x xs ys x3 is same = grind arith

@@ -1,18 +1,13 @@
 -- What a pass may have seen since, and what is seen of a call under the turn.
-use Rattle.std.proofs.lemmas.List.{append_cancel_right}
-use Rattle.std.proofs.lemmas.List.Folds.{list_all-append}
-use Rattle.std.specs.List.{list_all}
+use Rattle.std.{proofs.{lemmas.List.append_cancel_right, lemmas.List.Folds.list_all-append}, specs.List.{list_all}}
 use Rattle.mk_laws.proofs.Vocabulary.{Bool, List, Option, Some, and_from, and_parts, ap, append_assoc, arith}
 use Rattle.mk_laws.proofs.Vocabulary.{cases_Bool, enabled_meets, false, is_one_of, not, not-true, or_cases, or_from}
 use Rattle.mk_laws.proofs.Vocabulary.{refl, subst, sym, true, true≢false, [], ◌&&◌, ◌++◌, ◌∙◌, ◌∷◌, ◌≡◌}
 use Rattle.mk_trace.proofs.Vocabulary.{Answer, Caller, Config, Event, Has, HasAll, Op, PassState, Seat, Step, World}
 use Rattle.mk_trace.proofs.Vocabulary.{event_of, has_first, has_step, is_same_seat, lacks_append, lacks_one}
 use Rattle.mk_trace.proofs.Vocabulary.{seat_exists, seen_made, without_seat, world_behind, ⊎_elim}
-use Rattle.mk_core.specs.Growing.{AreOfOthers}
-use Rattle.mk_core.specs.History.{AreEnabledFrom}
-use Rattle.mk_alloc.proofs.Parts.{seen_behind, seen_then}
-use Rattle.mk_alloc.specs.TurnCalls.{CalledInTurn}
-use Rattle.mk_alloc.specs.TurnCycles.{within_turn}
+use Rattle.mk_core.specs.{Growing.AreOfOthers, History.AreEnabledFrom}
+use Rattle.mk_alloc.{proofs.Parts.{seen_behind, seen_then}, specs.{TurnCalls.CalledInTurn, TurnCycles.within_turn}}
 use Rattle.mk_waiting.specs.Taking.{is_take, waits_for}
 use Rattle.mk_words.proofs.Seats.{has_either, has_left, has_right, not_both, same_seat, without_keeps}
 use Rattle.mk_words.specs.TurnSteps.{turn_stays}

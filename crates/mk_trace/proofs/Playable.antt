@@ -1,8 +1,6 @@
 -- A trace of some text can be played.
-use Rattle.std.proofs.lemmas.List.{get_or-map}
-use Rattle.std.proofs.lemmas.List.Elements.{All-append, All-cons, All-map, All-nil}
-use Rattle.std.proofs.lemmas.List.FromFn.{length-range_with_len}
-use Rattle.std.proofs.lemmas.List.Quantifiers.{position-Some}
+use Rattle.std.proofs.{lemmas.List.get_or-map, lemmas.List.Elements.{All-append, All-cons, All-map, All-nil}}
+use Rattle.std.proofs.{lemmas.List.FromFn.length-range_with_len, lemmas.List.Quantifiers.position-Some}
 use Rattle.std.specs.Str.{bytes_eq}
 use Rattle.mk_trace.proofs.Vocabulary.{All, Contents, HeapPages, IsBetween, IsEventOf, IsOfSomeTraceText, IsPlayable}
 use Rattle.mk_trace.proofs.Vocabulary.{LinesSoFar, Ok, TraceEvent, Which, codes, contents_of, events_from}
@@ -11,20 +9,15 @@ use Rattle.mk_trace.proofs.Vocabulary.{slot_number, text_fault_at, trace_of_line
 use Rattle.mk_trace.proofs.Vocabulary.{types_from, with_event, with_trace_line, words_of_line, written_from}
 use Rattle.mk_trace.proofs.ReadLines.{along_keeps, bound, gone_on, passed_else, then_next, unless_none}
 use Rattle.mk_trace.proofs.SlotTypes.{length-types_from, range_below, types_among}
-use Rattle.mk_trace.specs.declared.lines.Slot.{Slot}
-use Rattle.mk_trace.specs.Lines.{checked_slot, event_line, heap_pages, slot_from, slot_limit, slot_line}
-use Rattle.mk_trace.specs.Typing.{event_on, on_slot, typed_write, words_at}
-use Rattle.mk_trace.specs.Traces.{contents_from, words_of_slots}
-use Rattle.mk_trace.specs.declared.lines.Action.{Action}
-use Rattle.mk_trace.specs.declared.lines.EventLine.{EventLine}
-use Rattle.mk_trace.specs.declared.lines.Line.{Line}
+use Rattle.mk_trace.specs.{declared.lines.Slot.Slot, Lines.{checked_slot, event_line, heap_pages, slot_from}}
+use Rattle.mk_trace.specs.{Lines.{slot_limit, slot_line}, Typing.{event_on, on_slot, typed_write, words_at}}
+use Rattle.mk_trace.specs.{Traces.{contents_from, words_of_slots}, declared.lines.Action.Action}
+use Rattle.mk_trace.specs.{declared.lines.EventLine.EventLine, declared.lines.Line.Line}
 use Rattle.mk_laws.proofs.Vocabulary.{Bool, List, None, Option, Some, ℕ, arith, false, get_or, if◌then◌else◌, is_some}
 use Rattle.mk_laws.proofs.Vocabulary.{length, length-map, nat_le, refl, subst, true, [], ◌++◌, ◌+◌, ◌<◌, ◌==◌, ◌∷◌, ◌≡◌}
 use Rattle.mk_laws.proofs.Vocabulary.{◌≤◌}
-use Rattle.mk_check.proofs.GrammarLemmas.{at_most-None, passed_then, within-None}
-use Rattle.mk_check.proofs.FaultLemmas.{or-None}
-use Rattle.mk_script.specs.Lines.{at_most, within}
-use Rattle.mk_script.specs.Operands.{name, number}
+use Rattle.mk_check.proofs.{GrammarLemmas.{at_most-None, passed_then, within-None}, FaultLemmas.or-None}
+use Rattle.mk_script.specs.{Lines.{at_most, within}, Operands.{name, number}}
 
 -- The slots of lines are within their limits, and so is the heap of a header.
 

@@ -4,13 +4,10 @@ use Rattle.mk_trace.proofs.Vocabulary.{Grows, HostState, IsEventOf, IsHistory, I
 use Rattle.mk_trace.proofs.Vocabulary.{TraceEvent, WordsState, after_calls, answered, asked, begins_full, calls}
 use Rattle.mk_trace.proofs.Vocabulary.{calls_of_caller, config_of, first_host, is_refusal, never_behind, never_first}
 use Rattle.mk_trace.proofs.Vocabulary.{one_if, ops_of, pass_for, refused_events, register_at, take_all, take_more}
-use Rattle.mk_trace.proofs.LaterOps.{ops-played_more, refused_more}
-use Rattle.mk_trace.proofs.OneCaller.{as_many, calls_are_own, never_then_calls, none_called}
-use Rattle.mk_trace.proofs.AdmittedEvents.{events_are_admitted}
-use Rattle.mk_trace.proofs.ExactPlays.{play_is_unswept}
-use Rattle.mk_trace.specs.Playing.{IsPlayed, ops_played}
-use Rattle.mk_trace.specs.Traces.{slot_of}
-use Rattle.mk_trace.specs.Calls.{AreNull, EventsAreAdmitted, HasPlayed, MayBePlayed, PlaysEvent, SameCalls}
+use Rattle.mk_trace.proofs.{LaterOps.{ops-played_more, refused_more}, OneCaller.{as_many, calls_are_own}}
+use Rattle.mk_trace.proofs.{OneCaller.{never_then_calls, none_called}, AdmittedEvents.events_are_admitted}
+use Rattle.mk_trace.{proofs.ExactPlays.{play_is_unswept}, specs.Calls.{HasPlayed, MayBePlayed, PlaysEvent, SameCalls}}
+use Rattle.mk_trace.specs.{Playing.{IsPlayed, ops_played}, Traces.slot_of, Calls.{AreNull, EventsAreAdmitted}}
 use Rattle.mk_laws.proofs.Vocabulary.{Bool, List, ℕ, ap, arith, false, get_or, if◌then◌else◌, length, list_any}
 use Rattle.mk_laws.proofs.Vocabulary.{map-append, refl, subst, sym, take, [], ◌++◌, ◌+◌, ◌<◌, ◌∙◌, ◌∷◌, ◌≡◌, ◌≤◌}
 use Rattle.mk_laws.proofs.Promises.{histories_keep_all_promises}

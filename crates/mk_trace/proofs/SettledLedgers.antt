@@ -1,9 +1,7 @@
 -- What is kept once what was released is let go.
-use Rattle.std.proofs.lemmas.List.Elements.{filter-append}
-use Rattle.std.proofs.lemmas.List.Sums.{fold-append, sum_by_more}
+use Rattle.std.proofs.{lemmas.List.Elements.filter-append, lemmas.List.Sums.{fold-append, sum_by_more}}
 use Rattle.mk_trace.proofs.Vocabulary.{Freed, FreedObject, SettlesFreed, aged, fold, in_a_word, objects_kept}
-use Rattle.mk_trace.proofs.Vocabulary.{still_kept, sum_by, take_all, take_more, with_one}
-use Rattle.mk_trace.proofs.NumberLists.{unequal_is}
+use Rattle.mk_trace.proofs.{Vocabulary.{still_kept, sum_by, take_all, take_more, with_one}, NumberLists.unequal_is}
 use Rattle.mk_laws.proofs.Vocabulary.{Bool, List, ℕ, ap, arith, get_or, if◌then◌else◌, length, map, map-append, not}
 use Rattle.mk_laws.proofs.Vocabulary.{subst, sym, take, [], ◌++◌, ◌+◌, ◌<◌, ◌∙◌, ◌∷◌, ◌≡◌, ◌≤◌}
 use Rattle.mk_trace.specs.Ledgers.{SettlesWhere, ages_let_go, is_freed_among, weighed_anew}

@@ -3,22 +3,18 @@ use Rattle.mk_trace.proofs.Vocabulary.{Caller, CallerIsHome, Config, Event, Has,
 use Rattle.mk_trace.proofs.Vocabulary.{IsHistory, IsTidy, LeavesAllocations, PassState, PlacedAllocation, Step}
 use Rattle.mk_trace.proofs.Vocabulary.{SweepsNothing, TalliesAreTidy, Word, WordsState, World, calls, ends, event_of}
 use Rattle.mk_trace.proofs.Vocabulary.{first_world, found, greatest, has_step, held_by_allocations, in_a_word, is_end}
-use Rattle.mk_trace.proofs.Vocabulary.{left, seen_made}
-use Rattle.mk_trace.proofs.FoundByEnds.{ends-append, no_end-cons, none_end}
+use Rattle.mk_trace.proofs.{Vocabulary.{left, seen_made}, FoundByEnds.{ends-append, no_end-cons, none_end}}
 use Rattle.mk_trace.proofs.HeldLooks.{IsApart, Looked, all_lack, behind, exact, first, first_lacks, giving, looked_same}
 use Rattle.mk_trace.proofs.HeldLooks.{looking, looks_alone, mine, of_pass, seen_is, taken_same, taken_seen}
 use Rattle.mk_trace.proofs.LookedTables.{is_no_look, looks_leave, looks_measure, word_left}
-use Rattle.mk_trace.proofs.EndsInLists.{changes, leaves_then}
-use Rattle.mk_trace.proofs.ExactPlays.{caller_is_still, look_stays_exact}
-use Rattle.mk_trace.proofs.OneCaller.{callers_at_home, same_calls}
-use Rattle.mk_trace.proofs.OwnPieces.{mine_parts, none_of_others}
+use Rattle.mk_trace.proofs.{EndsInLists.{changes, leaves_then}, ExactPlays.{caller_is_still, look_stays_exact}}
+use Rattle.mk_trace.proofs.{OneCaller.{callers_at_home, same_calls}, OwnPieces.{mine_parts, none_of_others}}
 use Rattle.mk_trace.proofs.PeakParts.{from-append, last_below}
 use Rattle.mk_laws.proofs.Vocabulary.{List, ℕ, ap, append-nil, append_assoc, arith, earlier_part_is_history}
 use Rattle.mk_laws.proofs.Vocabulary.{enabled_in_parts, false, left_in_parts, left_more, refl, subst, sym, [], ◌++◌}
 use Rattle.mk_laws.proofs.Vocabulary.{◌∙◌, ◌∷◌, ◌≡◌}
 use Rattle.mk_heap.specs.Turns.{TellsWord}
-use Rattle.mk_trace.specs.Calls.{held_behind}
-use Rattle.mk_trace.specs.Looking.{LeavesTable, word_behind}
+use Rattle.mk_trace.specs.{Calls.held_behind, Looking.{LeavesTable, word_behind}}
 
 -- With looks alone the most is as it was.
 most_looked : (c : Config) (measure : List PlacedAllocation → ℕ) (es more : List Event)

@@ -1,21 +1,13 @@
 -- The words that the proofs of this crate share: they import them from here.
 pub use Rattle.std.proofs.Common.{All, Ok, codes, filter, fold, length-append, length-drop, max, option_map, replicate}
-pub use Rattle.std.proofs.Common.{rules, sum_by, take-append-drop, take_all, ⊎_elim}
-pub use Rattle.std.proofs.Math.Bool.{and-false}
-pub use Rattle.std.proofs.lemmas.Bool.Decides.{nat_tests}
-pub use Rattle.std.proofs.lemmas.List.{at_drop_more, drop_more, length-replicate, take_more}
-pub use Rattle.std.proofs.lemmas.List.Sums.{sum_by-append, sum_by-cons}
+pub use Rattle.std.proofs.{Common.{rules, sum_by, take-append-drop, take_all, ⊎_elim}, Math.Bool.and-false}
+pub use Rattle.std.proofs.{lemmas.Bool.Decides.nat_tests, lemmas.List.{at_drop_more, drop_more, length-replicate}}
+pub use Rattle.std.proofs.{lemmas.List.take_more, lemmas.List.Sums.{sum_by-append, sum_by-cons}}
 pub use Rattle.std.specs.List.{range_with_len}
-pub use Rattle.mk_core.proofs.Histories.{calls_append}
-pub use Rattle.mk_core.specs.Growing.{Grows, is_same_seat}
-pub use Rattle.mk_core.specs.History.{never_first}
-pub use Rattle.mk_core.specs.Allocations.{allocations_by, held_by_allocations}
-pub use Rattle.mk_core.specs.Config.{IsBetween}
-pub use Rattle.mk_core.specs.Counts.{decides_freed}
-pub use Rattle.mk_laws.proofs.CyclePhases.{moves_phase}
-pub use Rattle.mk_laws.proofs.ImagesKept.{exists_placed}
-pub use Rattle.mk_laws.proofs.InvariantHistories.{histories_keep_the_invariant}
-pub use Rattle.mk_laws.proofs.InvariantTheorems.{reach_is_kept}
+pub use Rattle.mk_core.{proofs.Histories.{calls_append}, specs.{Growing.{Grows, is_same_seat}, History.never_first}}
+pub use Rattle.mk_core.specs.{Allocations.{allocations_by, held_by_allocations}, Config.IsBetween, Counts.decides_freed}
+pub use Rattle.mk_laws.proofs.{CyclePhases.moves_phase, ImagesKept.exists_placed}
+pub use Rattle.mk_laws.proofs.{InvariantHistories.histories_keep_the_invariant, InvariantTheorems.reach_is_kept}
 pub use Rattle.mk_laws.proofs.Vocabulary.{Answer, AreAdmitted, AreEnabledFrom, AreOfOthers, Call, Caller, Cell, Config}
 pub use Rattle.mk_laws.proofs.Vocabulary.{Decided, Event, Flight, Host, IsAdmitted, IsHistory, IsSound, IsTidy}
 pub use Rattle.mk_laws.proofs.Vocabulary.{IsWithinLimits, Kind, Marker, Moment, NeverState, Null, Num, Op}
@@ -29,40 +21,29 @@ pub use Rattle.mk_laws.proofs.Vocabulary.{is_left_unmarked, is_phase, is_quarant
 pub use Rattle.mk_laws.proofs.Vocabulary.{is_under_turn, kinds_of, left, never_behind, never_granted, no_longer_fresh}
 pub use Rattle.mk_laws.proofs.Vocabulary.{object_made, phase_of, placed_at, pointed_cell, register_at, seat_exists}
 pub use Rattle.mk_laws.proofs.Vocabulary.{stands_in, storage_words, with_released, world_behind}
-pub use Rattle.mk_alloc.proofs.ListParts.{lacks_append, lacks_one, none_at}
-pub use Rattle.mk_alloc.proofs.Parts.{seen_made}
+pub use Rattle.mk_alloc.proofs.{ListParts.{lacks_append, lacks_one, none_at}, Parts.seen_made}
 pub use Rattle.mk_alloc.specs.TurnCycles.{has_step, is_grant, is_of_cycle, lets_go}
 pub use Rattle.mk_caller.specs.States.{CallerState}
 pub use Rattle.mk_heap.specs.Hosts.{HostState, first_host, pass_for}
 pub use Rattle.mk_run.specs.Scripts.{unflagged}
-pub use Rattle.mk_script.specs.Words.{lines_of, texts_of, words_of_line}
-pub use Rattle.mk_script.specs.declared.faults.Which.{Which}
+pub use Rattle.mk_script.specs.{Words.{lines_of, texts_of, words_of_line}, declared.faults.Which.Which}
 pub use Rattle.mk_turns.specs.Sweeping.{SweepsNothing}
 pub use Rattle.mk_words.proofs.Seats.{has_first}
-pub use Rattle.mk_words.specs.Seats.{Has, HasAll, without_seat}
-pub use Rattle.mk_words.specs.States.{PassState, WordsState, event_of}
-pub use Rattle.mk_trace.specs.Calls.{CallerIsHome, Calls, HoldsMostAtEnd, most_held}
-pub use Rattle.mk_trace.specs.Ends.{EndsNone, EndsOne, EndsTell, FreesNone, IsBetweenCycles, LeavesAllocations}
-pub use Rattle.mk_trace.specs.Ends.{ReleasesNone}
-pub use Rattle.mk_trace.specs.ExactPlays.{AllTurnsAreExact, StayExact}
-pub use Rattle.mk_trace.specs.Freeing.{AreLater, FlagsBehind, FlagsBehindCall, IsMostWhereFreed}
-pub use Rattle.mk_trace.specs.Freeing.{QuarantinesMostWhereFreed, freed_words, large_words, number_freed, unfreed}
-pub use Rattle.mk_trace.specs.Freeing.{words_of_some}
+pub use Rattle.mk_words.specs.{Seats.{Has, HasAll, without_seat}, States.{PassState, WordsState, event_of}}
+pub use Rattle.mk_trace.specs.{Calls.{CallerIsHome, Calls, HoldsMostAtEnd, most_held}, Ends.{EndsNone, EndsOne}}
+pub use Rattle.mk_trace.specs.Ends.{EndsTell, FreesNone, IsBetweenCycles, LeavesAllocations, ReleasesNone}
+pub use Rattle.mk_trace.specs.{ExactPlays.{AllTurnsAreExact, StayExact}, Freeing.{AreLater, FlagsBehind}}
+pub use Rattle.mk_trace.specs.Freeing.{FlagsBehindCall, IsMostWhereFreed, QuarantinesMostWhereFreed, freed_words}
+pub use Rattle.mk_trace.specs.Freeing.{large_words, number_freed, unfreed, words_of_some}
 pub use Rattle.mk_trace.specs.Grammar.{events_from, read_behind, text_fault_at, type_fault_at, with_event, written_from}
-pub use Rattle.mk_trace.specs.Laws.{IsEventOf, IsPlayable}
-pub use Rattle.mk_trace.specs.Ledgers.{AreAgesOf, AreFound, AreObjectsOf, Keeps, SettlesFreed, age_in_a_word, aged}
-pub use Rattle.mk_trace.specs.Ledgers.{freed_object_of, objects_kept, still_kept, with_one}
-pub use Rattle.mk_trace.specs.Lines.{LinesSoFar, header_line_of, nothing_written, slot_number, with_trace_line}
-pub use Rattle.mk_trace.specs.Looking.{HostOnlyLooks}
-pub use Rattle.mk_trace.specs.Numbers.{AreThose, one_if, times}
+pub use Rattle.mk_trace.specs.{Laws.{IsEventOf, IsPlayable}, Ledgers.{AreAgesOf, AreFound, AreObjectsOf, Keeps}}
+pub use Rattle.mk_trace.specs.Ledgers.{SettlesFreed, age_in_a_word, aged, freed_object_of, objects_kept, still_kept}
+pub use Rattle.mk_trace.specs.{Ledgers.with_one, Lines.{LinesSoFar, header_line_of, nothing_written, slot_number}}
+pub use Rattle.mk_trace.specs.{Lines.with_trace_line, Looking.HostOnlyLooks, Numbers.{AreThose, one_if, times}}
 pub use Rattle.mk_trace.specs.Peaks.{age_of, counted, greatest, peaks_of, quarantined_words, reserved_words}
 pub use Rattle.mk_trace.specs.Playing.{begins_full, calls_of_caller, config_of, is_refusal, ops_of, refused_events}
-pub use Rattle.mk_trace.specs.Playing.{types_from}
-pub use Rattle.mk_trace.specs.Traces.{Contents, IsOfSomeTraceText, contents_of, trace_of_lines}
-pub use Rattle.mk_trace.specs.Typing.{typed_event}
-pub use Rattle.mk_trace.specs.declared.faults.TraceStop.{TraceStop}
-pub use Rattle.mk_trace.specs.declared.ledger.Freed.{Freed}
-pub use Rattle.mk_trace.specs.declared.ledger.FreedObject.{FreedObject}
-pub use Rattle.mk_trace.specs.declared.lines.HeapPages.{HeapPages}
-pub use Rattle.mk_trace.specs.declared.trace.TraceEvent.{TraceEvent}
-pub use Rattle.mk_trace.specs.declared.trace.TraceEvent.TheVariants.{A, C, F, K, W}
+pub use Rattle.mk_trace.specs.{Playing.types_from, Traces.{Contents, IsOfSomeTraceText, contents_of, trace_of_lines}}
+pub use Rattle.mk_trace.specs.{Typing.typed_event, declared.faults.TraceStop.TraceStop, declared.ledger.Freed.Freed}
+pub use Rattle.mk_trace.specs.{declared.ledger.FreedObject.FreedObject, declared.lines.HeapPages.HeapPages}
+pub use Rattle.mk_trace.specs.{declared.trace.TraceEvent.TraceEvent, declared.trace.TraceEvent.TheVariants.{A, C, F, K}}
+pub use Rattle.mk_trace.specs.declared.trace.TraceEvent.TheVariants.{W}

@@ -1,28 +1,17 @@
 -- The calls of a trace's one caller, and the operations of an event.
 -- Private functions alone cite these words.
-use Rattle.std.specs.Prelude.{◌≡◌, ℕ, max, Bool, false, List, ◌++◌, Some}
-use Rattle.std.specs.List.{list_any}
-use Rattle.mk_never.specs.declared.operations.Op.{Op}
-use Rattle.mk_never.specs.NeverHeap.{NeverState, register_at, after_calls}
-use Rattle.mk_never.specs.declared.values.Value.TheVariants.{Null}
-use Rattle.mk_never.specs.Admitted.{IsAdmitted, AreAdmitted}
-use Rattle.mk_core.specs.declared.config.Config.{Config}
-use Rattle.mk_core.specs.declared.events.Answer.{Answer}
-use Rattle.mk_core.specs.declared.events.Event.{Event}
-use Rattle.mk_core.specs.declared.events.Seat.TheVariants.{Caller}
-use Rattle.mk_core.specs.Decided.{Decided, entry_of, asked, answered}
-use Rattle.mk_core.specs.Allocations.{held_by_allocations}
-use Rattle.mk_core.specs.History.{calls, left, never_behind, IsHistory}
-use Rattle.mk_words.specs.Seats.{Has, HasAll, has_over}
-use Rattle.mk_words.specs.States.{WordsState}
+use Rattle.std.specs.{Prelude.{◌≡◌, ℕ, max, Bool, false, List, ◌++◌, Some}, List.list_any}
+use Rattle.mk_never.specs.{declared.operations.Op.Op, NeverHeap.{NeverState, register_at, after_calls}}
+use Rattle.mk_never.specs.{declared.values.Value.TheVariants.Null, Admitted.{IsAdmitted, AreAdmitted}}
+use Rattle.mk_core.specs.{declared.config.Config.Config, declared.events.Answer.Answer, declared.events.Event.Event}
+use Rattle.mk_core.specs.{declared.events.Seat.TheVariants.Caller, Decided.{Decided, entry_of, asked, answered}}
+use Rattle.mk_core.specs.{Allocations.held_by_allocations, History.{calls, left, never_behind, IsHistory}}
+use Rattle.mk_words.specs.{Seats.{Has, HasAll, has_over}, States.WordsState}
 use Rattle.mk_heap.specs.Hosts.{HostState}
 use Rattle.mk_run.specs.Scripts.{as_told}
-use Rattle.mk_trace.specs.declared.trace.TraceEvent.{TraceEvent}
-use Rattle.mk_trace.specs.Laws.{IsEventOf}
-use Rattle.mk_trace.specs.Peaks.{greatest}
+use Rattle.mk_trace.specs.{declared.trace.TraceEvent.TraceEvent, Laws.IsEventOf, Peaks.greatest}
 use Rattle.mk_trace.specs.Playing.{config_of, ops_of, begins_full, calls_of_caller, is_refusal, ops_played}
-use Rattle.mk_trace.specs.Playing.{refused_events}
-use Rattle.mk_trace.specs.Traces.{Contents}
+use Rattle.mk_trace.specs.{Playing.refused_events, Traces.Contents}
 
 -- The heap has one caller, which was made, and whose seat is home in the host's pass, as all others are.
 pub record CallerIsHome (w : WordsState) (h : HostState) : Type 0 where

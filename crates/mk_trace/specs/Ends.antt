@@ -1,11 +1,7 @@
 -- What the ends of cycles find in a call: at most one ends, and after its end nothing is freed or released.
 use Rattle.std.specs.Prelude.{◌≡◌, ◌⊎◌, ℕ, ◌+◌, ◌<◌, ◌≤◌, List, [], ◌∷◌, ◌++◌, length}
-use Rattle.mk_core.specs.declared.config.Config.{Config}
-use Rattle.mk_core.specs.declared.events.Event.{Event}
-use Rattle.mk_core.specs.Allocations.{PlacedAllocation, placed_at}
-use Rattle.mk_core.specs.Counts.{ends}
-use Rattle.mk_core.specs.History.{left}
-use Rattle.mk_core.specs.Words.{phase_of}
+use Rattle.mk_core.specs.{declared.config.Config.Config, declared.events.Event.Event}
+use Rattle.mk_core.specs.{Allocations.{PlacedAllocation, placed_at}, Counts.ends, History.left, Words.phase_of}
 use Rattle.mk_trace.specs.Peaks.{found_by_ends}
 
 -- No cycle is on.

@@ -1,8 +1,7 @@
 -- What the turns of the caller and of the host do with cycles while a trace is played.
 -- Private functions alone cite these words.
 use Rattle.std.specs.Prelude.{false, List}
-use Rattle.mk_core.specs.declared.config.Config.{Config}
-use Rattle.mk_core.specs.declared.events.Event.{Event}
+use Rattle.mk_core.specs.{declared.config.Config.Config, declared.events.Event.Event}
 use Rattle.mk_core.specs.declared.events.Seat.TheVariants.{Caller, Host}
 use Rattle.mk_alloc.specs.TurnCycles.{TurnsOfAreExact}
 use Rattle.mk_run.specs.UnsweptSeats.{SeatSweepsNothing}

@@ -2,20 +2,14 @@
 -- Private functions alone cite these words.
 use Rattle.std.specs.Prelude.{◌≡◌, ℕ, ◌+◌, ◌<◌, ◌≤◌, max, Bool, true, false, List, ◌∷◌, ◌++◌, length, Option, Some}
 use Rattle.std.specs.Prelude.{None, if◌then◌else◌}
-use Rattle.mk_never.specs.declared.operations.Op.{Op}
-use Rattle.mk_never.specs.declared.operations.Op.TheVariants.{Free}
-use Rattle.mk_never.specs.declared.values.Value.{Value}
-use Rattle.mk_never.specs.declared.values.Value.TheVariants.{Null, Num, Ptr}
+use Rattle.mk_never.specs.{declared.operations.Op.Op, declared.operations.Op.TheVariants.Free}
+use Rattle.mk_never.specs.{declared.values.Value.Value, declared.values.Value.TheVariants.{Null, Num, Ptr}}
 use Rattle.mk_never.specs.NeverHeap.{NeverState, after_calls, allocation_at, global_at, register_at}
 use Rattle.mk_never.specs.Types.{kinds_of, is_large}
-use Rattle.mk_core.specs.declared.config.Config.{Config}
-use Rattle.mk_core.specs.declared.events.Event.{Event}
-use Rattle.mk_core.specs.Allocations.{PlacedAllocation, placed_at, storage_words}
-use Rattle.mk_core.specs.History.{left, never_behind}
-use Rattle.mk_trace.specs.declared.trace.TraceEvent.{TraceEvent}
-use Rattle.mk_trace.specs.Peaks.{greatest, quarantined_words, reserved_words}
-use Rattle.mk_trace.specs.Playing.{calls_of_caller, ops_of}
-use Rattle.mk_trace.specs.Traces.{slot_of}
+use Rattle.mk_core.specs.{declared.config.Config.Config, declared.events.Event.Event}
+use Rattle.mk_core.specs.{Allocations.{PlacedAllocation, placed_at, storage_words}, History.{left, never_behind}}
+use Rattle.mk_trace.specs.{declared.trace.TraceEvent.TraceEvent, Peaks.{greatest, quarantined_words, reserved_words}}
+use Rattle.mk_trace.specs.{Playing.{calls_of_caller, ops_of}, Traces.slot_of}
 
 -- the allocation that the value points to, if it isn't freed yet
 abbrev pub unfreed : NeverState → Value → Option ℕ

@@ -1,17 +1,11 @@
 -- Lines one after the other, up to the first that has a fault.
-use Rattle.std.specs.Prelude.{ℕ, ◌+◌, List, [], ◌∷◌, ◌++◌, Ok, Err}
-use Rattle.std.specs.declared.result.Result.{Result}
-use Rattle.mk_script.specs.declared.faults.LineFault.{LineFault}
-use Rattle.mk_script.specs.declared.faults.LineFault.TheVariants.{Text, Limit}
+use Rattle.std.specs.{Prelude.{ℕ, ◌+◌, List, [], ◌∷◌, ◌++◌, Ok, Err}, declared.result.Result.Result}
+use Rattle.mk_script.specs.{declared.faults.LineFault.LineFault, declared.faults.LineFault.TheVariants.{Text, Limit}}
 use Rattle.mk_script.specs.Words.{words_of_line}
 use Rattle.mk_check.specs.declared.typing_faults.TypeKind.{TypeKind}
-use Rattle.mk_trace.specs.declared.faults.TraceStop.{TraceStop}
-use Rattle.mk_trace.specs.declared.lines.Slot.{Slot}
-use Rattle.mk_trace.specs.Typing.{typed_event}
-use Rattle.mk_trace.specs.declared.lines.EventLine.{EventLine}
-use Rattle.mk_trace.specs.declared.lines.Line.{Line}
-use Rattle.mk_trace.specs.declared.trace.TraceEvent.{TraceEvent}
-use Rattle.mk_trace.specs.Lines.{LinesSoFar, with_trace_line, trace_line_of}
+use Rattle.mk_trace.specs.{declared.faults.TraceStop.TraceStop, declared.lines.Slot.Slot, Typing.typed_event}
+use Rattle.mk_trace.specs.{declared.lines.EventLine.EventLine, declared.lines.Line.Line}
+use Rattle.mk_trace.specs.{declared.trace.TraceEvent.TraceEvent, Lines.{LinesSoFar, with_trace_line, trace_line_of}}
 use Rattle.mk_trace.specs.declared.faults.TraceStop.TheVariants as stop
 
 -- a fault at a line

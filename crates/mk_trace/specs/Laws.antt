@@ -1,14 +1,9 @@
 -- What holds of every trace of some text, and of peaks.
 use Rattle.std.specs.Prelude.{◌≡◌, ℕ, ◌<◌, ◌≤◌, length, get_or, List, ◌++◌, All}
-use Rattle.mk_core.specs.declared.config.Config.{Config}
-use Rattle.mk_core.specs.declared.events.Event.{Event}
-use Rattle.mk_core.specs.Allocations.{PlacedAllocation}
-use Rattle.mk_core.specs.History.{left}
-use Rattle.mk_core.specs.Config.{IsBetween, IsWithinLimits}
-use Rattle.mk_trace.specs.declared.trace.TraceEvent.{TraceEvent}
-use Rattle.mk_trace.specs.declared.trace.TraceEvent.TheVariants.{A, K, F, C, W}
-use Rattle.mk_trace.specs.Playing.{config_of}
-use Rattle.mk_trace.specs.Traces.{Contents}
+use Rattle.mk_core.specs.{declared.config.Config.Config, declared.events.Event.Event, Allocations.PlacedAllocation}
+use Rattle.mk_core.specs.{History.left, Config.{IsBetween, IsWithinLimits}}
+use Rattle.mk_trace.specs.{declared.trace.TraceEvent.TraceEvent, declared.trace.TraceEvent.TheVariants.{A, K, F, C, W}}
+use Rattle.mk_trace.specs.{Playing.config_of, Traces.Contents}
 
 -- an event is of one of the slots, and a write is to a number of the slot's objects
 abbrev pub IsEventOf : List ℕ → TraceEvent → Type 0

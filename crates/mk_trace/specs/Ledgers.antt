@@ -1,22 +1,14 @@
 -- What is kept of freed objects while a trace is played.
 -- Private functions alone cite these words.
 use Rattle.std.specs.Prelude.{◌≡◌, ℕ, ◌+◌, max, Bool, true, false, ◌&&◌, ◌==◌, nat_lt, not, List, [], ◌∷◌, ◌++◌, map}
-use Rattle.std.specs.Prelude.{filter, fold, sum_by, slice_index, Option, Some, None, if◌then◌else◌}
-use Rattle.std.specs.List.{list_any}
+use Rattle.std.specs.{Prelude.{filter, fold, sum_by, slice_index, Option, Some, None, if◌then◌else◌}, List.list_any}
 use Rattle.mk_geom.specs.declared.addresses.Cell.{Cell}
-use Rattle.mk_core.specs.declared.config.Config.{Config}
-use Rattle.mk_core.specs.declared.events.Event.{Event}
-use Rattle.mk_core.specs.Allocations.{PlacedAllocation, cell_of_allocation, placed_at, storage_words}
-use Rattle.mk_core.specs.Bits.{has_bit}
-use Rattle.mk_core.specs.Counts.{ends, in_a_word}
-use Rattle.mk_core.specs.Cycles.{is_quarantined}
-use Rattle.mk_core.specs.History.{left}
-use Rattle.mk_trace.specs.declared.ledger.Freed.{Freed}
-use Rattle.mk_trace.specs.declared.ledger.FreedObject.{FreedObject}
-use Rattle.mk_trace.specs.declared.ledger.Peak.{Peak}
-use Rattle.mk_trace.specs.Freeing.{large_words}
-use Rattle.mk_trace.specs.Numbers.{AreThose}
-use Rattle.mk_trace.specs.Peaks.{age_of, counted, found_by_ends, greatest, quarantined_words, reserved_words}
+use Rattle.mk_core.specs.{declared.config.Config.Config, declared.events.Event.Event}
+use Rattle.mk_core.specs.{Allocations.{PlacedAllocation, cell_of_allocation, placed_at, storage_words}, Bits.has_bit}
+use Rattle.mk_core.specs.{Counts.{ends, in_a_word}, Cycles.is_quarantined, History.left}
+use Rattle.mk_trace.specs.{declared.ledger.Freed.Freed, declared.ledger.FreedObject.FreedObject}
+use Rattle.mk_trace.specs.{declared.ledger.Peak.Peak, Freeing.large_words, Numbers.AreThose, Peaks.{age_of, counted}}
+use Rattle.mk_trace.specs.Peaks.{found_by_ends, greatest, quarantined_words, reserved_words}
 
 -- the object of an allocation, as it is freed
 abbrev pub freed_object_of : Config → List PlacedAllocation → ℕ → FreedObject

@@ -1,22 +1,14 @@
 -- What a line of a trace's text says, after those before it, or its first fault: of form and place, numbers and names,
 -- slots that are declared twice, limits.
 use Rattle.std.specs.Prelude.{ℕ, ◌+◌, ◌==◌, if◌then◌else◌, List, [], ◌∷◌, ◌++◌, length, is_some, Option, Some, None, Ok}
-use Rattle.std.specs.Prelude.{Err}
-use Rattle.std.specs.declared.result.Result.{Result}
-use Rattle.std.specs.List.{position}
-use Rattle.std.specs.Str.{bytes_eq}
+use Rattle.std.specs.{Prelude.Err, declared.result.Result.Result, List.position, Str.bytes_eq}
 use lib.Chars.{codes}
 use Rattle.std.specs.Option.{option_or}
-use Rattle.mk_script.specs.declared.faults.LineFault.{LineFault}
-use Rattle.mk_script.specs.declared.faults.LineFault.TheVariants.{Text}
-use Rattle.mk_script.specs.Lines.{at_most, heap_limit, within}
-use Rattle.mk_script.specs.Operands.{◌>>=◌, name, number}
-use Rattle.mk_trace.specs.declared.lines.HeapPages.{HeapPages}
-use Rattle.mk_trace.specs.declared.lines.Slot.{Slot}
-use Rattle.mk_trace.specs.declared.lines.Action.{Action}
+use Rattle.mk_script.specs.{declared.faults.LineFault.LineFault, declared.faults.LineFault.TheVariants.Text}
+use Rattle.mk_script.specs.{Lines.{at_most, heap_limit, within}, Operands.{◌>>=◌, name, number}}
+use Rattle.mk_trace.specs.{declared.lines.HeapPages.HeapPages, declared.lines.Slot.Slot, declared.lines.Action.Action}
 use Rattle.mk_trace.specs.declared.lines.Action.TheVariants.{New, Link, Free, Clear, Write}
-use Rattle.mk_trace.specs.declared.lines.EventLine.{EventLine}
-use Rattle.mk_trace.specs.declared.lines.Line.{Line}
+use Rattle.mk_trace.specs.{declared.lines.EventLine.EventLine, declared.lines.Line.Line}
 use Rattle.mk_script.specs.declared.faults.TextKind.TheVariants as kind
 use Rattle.mk_script.specs.declared.faults.Which.TheVariants as which
 use Rattle.mk_trace.specs.declared.lines.Line.TheVariants as line

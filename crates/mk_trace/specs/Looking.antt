@@ -1,16 +1,9 @@
 -- What the host's looks leave as it is.
 -- Private functions alone cite these words.
 use Rattle.std.specs.Prelude.{◌≡◌, ℕ, List}
-use Rattle.mk_core.specs.declared.config.Config.{Config}
-use Rattle.mk_core.specs.declared.events.Event.{Event}
-use Rattle.mk_core.specs.declared.events.Word.{Word}
-use Rattle.mk_core.specs.Allocations.{PlacedAllocation}
-use Rattle.mk_core.specs.History.{World, left}
-use Rattle.mk_core.specs.Words.{named_word}
-use Rattle.mk_trace.specs.Calls.{SameCalls}
-use Rattle.mk_trace.specs.Ends.{LeavesAllocations}
-use Rattle.mk_trace.specs.ExactPlays.{StayExact}
-use Rattle.mk_trace.specs.Peaks.{greatest}
+use Rattle.mk_core.specs.{declared.config.Config.Config, declared.events.Event.Event, declared.events.Word.Word}
+use Rattle.mk_core.specs.{Allocations.PlacedAllocation, History.{World, left}, Words.named_word}
+use Rattle.mk_trace.specs.{Calls.SameCalls, Ends.LeavesAllocations, ExactPlays.StayExact, Peaks.greatest}
 
 -- All words but the turn word, and the allocations
 pub record LeavesTable (w v : World) : Type 0 where

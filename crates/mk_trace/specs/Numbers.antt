@@ -1,7 +1,6 @@
 -- Lists of allocations' numbers.
 use Rattle.std.specs.Prelude.{◌≡◌, ℕ, ◌+◌, Bool, ◌==◌, List, [], ◌∷◌, if◌then◌else◌}
-use Rattle.mk_core.specs.Allocations.{PlacedAllocation, placed_at}
-use Rattle.mk_core.specs.Cycles.{is_quarantined}
+use Rattle.mk_core.specs.{Allocations.{PlacedAllocation, placed_at}, Cycles.is_quarantined}
 
 abbrev pub one_if : Bool → ℕ
 one_if b = if b then 1 else 0

@@ -1,34 +1,21 @@
 -- Playing a trace: the operations that its events make, given their answers, on a heap of one caller whose globals are
 -- the slots.
 use Rattle.std.specs.Prelude.{◌≡◌, ℕ, ◌+◌, ◌-◌, Bool, true, false, ◌&&◌, if◌then◌else◌, List, [], ◌∷◌, ◌++◌, length}
-use Rattle.std.specs.Prelude.{map, replicate, take, drop}
-use Rattle.std.specs.List.{list_any, range_with_len}
-use Rattle.mk_never.specs.declared.types.Kind.{Kind}
-use Rattle.mk_never.specs.declared.types.Kind.TheVariants.{Num, To}
-use Rattle.mk_never.specs.declared.operations.Op.{Op}
-use Rattle.mk_never.specs.declared.operations.Op.TheVariants.{New, Free, SetNum, SetPtr, Clear, GetGlobal, SetGlobal}
-use Rattle.mk_never.specs.NeverHeap.{Call}
-use Rattle.mk_core.specs.declared.config.Config.{Config}
-use Rattle.mk_core.specs.declared.events.Answer.{Answer}
-use Rattle.mk_core.specs.declared.events.Event.{Event}
-use Rattle.mk_core.specs.declared.events.Seat.{Seat}
-use Rattle.mk_core.specs.declared.events.Seat.TheVariants.{Caller, Host}
-use Rattle.mk_core.specs.Calls.{at_rest}
-use Rattle.mk_core.specs.Counts.{is_full_answer, IsTidy}
-use Rattle.mk_core.specs.Decided.{asked, answered}
-use Rattle.mk_core.specs.Growing.{is_same_seat}
-use Rattle.mk_core.specs.History.{left, calls, IsHistory, RefinesNever}
-use Rattle.mk_core.specs.Moments.{flight_of}
+use Rattle.std.specs.{Prelude.{map, replicate, take, drop}, List.{list_any, range_with_len}}
+use Rattle.mk_never.specs.{declared.types.Kind.Kind, declared.types.Kind.TheVariants.{Num, To}}
+use Rattle.mk_never.specs.{declared.operations.Op.Op, declared.operations.Op.TheVariants.{New, Free, SetNum, SetPtr}}
+use Rattle.mk_never.specs.{declared.operations.Op.TheVariants.{Clear, GetGlobal, SetGlobal}, NeverHeap.Call}
+use Rattle.mk_core.specs.{declared.config.Config.Config, declared.events.Answer.Answer, declared.events.Event.Event}
+use Rattle.mk_core.specs.{declared.events.Seat.Seat, declared.events.Seat.TheVariants.{Caller, Host}, Calls.at_rest}
+use Rattle.mk_core.specs.{Counts.{is_full_answer, IsTidy}, Decided.{asked, answered}, Growing.is_same_seat}
+use Rattle.mk_core.specs.{History.{left, calls, IsHistory, RefinesNever}, Moments.flight_of}
 pub use Rattle.mk_check.specs.Feed.{is_refusal}
 use Rattle.mk_laws.specs.Precision.{CyclesArePrecise}
 use Rattle.mk_alloc.specs.TurnCycles.{TurnsOfAreExact, is_of_cycle}
 use Rattle.mk_quarantine.specs.Bounds.{QuarantineIsBounded}
 use Rattle.mk_run.specs.Unswept.{IsUnswept}
-use Rattle.mk_trace.specs.declared.trace.TraceEvent.{TraceEvent}
-use Rattle.mk_trace.specs.declared.trace.TraceEvent.TheVariants.{A, K, F, C, W}
-use Rattle.mk_trace.specs.declared.peaks.Peaks.{Peaks}
-use Rattle.mk_trace.specs.Peaks.{HistoryPeaks, peaks_of}
-use Rattle.mk_trace.specs.Traces.{Contents}
+use Rattle.mk_trace.specs.{declared.trace.TraceEvent.TraceEvent, declared.trace.TraceEvent.TheVariants.{A, K, F, C, W}}
+use Rattle.mk_trace.specs.{declared.peaks.Peaks.Peaks, Peaks.{HistoryPeaks, peaks_of}, Traces.Contents}
 use Rattle.mk_heap.specs.Reports as report
 
 -- The type of a slot's objects: a pointer to such an object, and numbers.

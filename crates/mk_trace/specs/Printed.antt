@@ -1,7 +1,5 @@
 -- The lines of the peaks of a played trace.
-use Rattle.std.specs.Prelude.{ℕ, List, [], ◌∷◌, ◌++◌}
-use Rattle.std.specs.List.{flat_map}
-use Rattle.std.specs.Fmt.{decimal}
+use Rattle.std.specs.{Prelude.{ℕ, List, [], ◌∷◌, ◌++◌}, List.flat_map, Fmt.decimal}
 use lib.Chars.{codes}
 use Rattle.mk_script.specs.Canonical.{line_text}
 use Rattle.mk_trace.specs.declared.peaks.Peaks.{Peaks}

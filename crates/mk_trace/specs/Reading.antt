@@ -1,18 +1,11 @@
 -- What the reader of lines finds on its way.
 -- Private functions alone cite these words.
-use Rattle.std.specs.Prelude.{◌≡◌, ℕ, List, Ok, Err}
-use Rattle.std.specs.declared.result.Result.{Result}
-use Rattle.std.specs.Borrow.{Bor}
-use Rattle.std.specs.HashMap.{HashMap}
+use Rattle.std.specs.{Prelude.{◌≡◌, ℕ, List, Ok, Err}, declared.result.Result.Result, Borrow.Bor, HashMap.HashMap}
 use Rattle.mk_check.specs.Lookups.{value_for_name}
 use Rattle.mk_script.specs.declared.faults.LineFault.{LineFault}
-use Rattle.mk_trace.specs.declared.faults.TraceStop.{TraceStop}
-use Rattle.mk_trace.specs.declared.lines.Line.{Line}
-use Rattle.mk_trace.specs.declared.lines.Slot.{Slot}
-use Rattle.mk_trace.specs.Grammar.{text_fault_at}
-use Rattle.mk_trace.specs.declared.lines.HeapPages.{HeapPages}
-use Rattle.mk_trace.specs.Lines.{LinesSoFar, slot_number, with_trace_line, trace_line_of}
-use Rattle.mk_trace.specs.Traces.{trace_of, contents_of}
+use Rattle.mk_trace.specs.{declared.faults.TraceStop.TraceStop, declared.lines.Line.Line, declared.lines.Slot.Slot}
+use Rattle.mk_trace.specs.{Grammar.text_fault_at, declared.lines.HeapPages.HeapPages, Lines.{LinesSoFar, slot_number}}
+use Rattle.mk_trace.specs.{Lines.{with_trace_line, trace_line_of}, Traces.{trace_of, contents_of}}
 
 -- a line has a fault, which is told with the line's number
 pub record IsFaultOf {A : Type 0} (number : ℕ) (found : Result A LineFault) (stop : TraceStop) : Type 0 where

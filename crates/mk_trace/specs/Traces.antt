@@ -1,15 +1,11 @@
 -- A text and its trace, or its first fault.
 use Rattle.std.specs.Prelude.{◌≡◌, ℕ, ◌+◌, ◌==◌, nat_le, if◌then◌else◌, List, [], ◌∷◌, length, map, Ok, Err}
 use Rattle.std.specs.declared.result.Result.{Result}
-use Rattle.mk_script.specs.Grammar.{longest_text, too_long}
-use Rattle.mk_script.specs.Words.{lines_of, words_of_line}
-use Rattle.mk_trace.specs.declared.faults.TraceStop.{TraceStop}
-use Rattle.mk_trace.specs.declared.lines.HeapPages.{HeapPages}
-use Rattle.mk_trace.specs.declared.lines.Slot.{Slot}
-use Rattle.mk_trace.specs.declared.trace.TraceEvent.{TraceEvent}
-use Rattle.mk_trace.specs.declared.trace.TraceEvent.TheVariants.{A, K, F, C, W}
-use Rattle.mk_trace.specs.Lines.{LinesSoFar, nothing_written, header_line_of}
-use Rattle.mk_trace.specs.Grammar.{text_fault_at, go_on, written_from, events_from}
+use Rattle.mk_script.specs.{Grammar.{longest_text, too_long}, Words.{lines_of, words_of_line}}
+use Rattle.mk_trace.specs.{declared.faults.TraceStop.TraceStop, declared.lines.HeapPages.HeapPages}
+use Rattle.mk_trace.specs.{declared.lines.Slot.Slot, declared.trace.TraceEvent.TraceEvent}
+use Rattle.mk_trace.specs.{declared.trace.TraceEvent.TheVariants.{A, K, F, C, W}, Lines.{LinesSoFar, nothing_written}}
+use Rattle.mk_trace.specs.{Lines.header_line_of, Grammar.{text_fault_at, go_on, written_from, events_from}}
 use Rattle.mk_script.specs.declared.faults.TextKind.TheVariants as kind
 use Rattle.mk_script.specs.declared.faults.Which.TheVariants as which
 use Rattle.mk_trace.specs.declared.faults.TraceStop.TheVariants as stop

@@ -5,11 +5,9 @@ use Rattle.mk_laws.proofs.Vocabulary.{Run, Some, Words, ℕ, and_from, ap, arith
 use Rattle.mk_laws.proofs.Vocabulary.{cells_under, false, first_word, has_bit, has_no_pointers, header_in}
 use Rattle.mk_laws.proofs.Vocabulary.{if◌then◌else◌, inl, inr, is_marked, length, lt-ltb, nat_lt, points_well, refl}
 use Rattle.mk_laws.proofs.Vocabulary.{slice_index, slice_set, subst, suc, sym, true, true≢false, zero, ◌&&◌, ◌+◌, ◌<◌}
-use Rattle.mk_laws.proofs.Vocabulary.{◌^◌, ◌||◌, ◌∙◌, ◌≡◌, ◌≤◌, ◌⊎◌}
-use Rattle.mk_laws.proofs.Tests.{all_below_from}
+use Rattle.mk_laws.proofs.{Vocabulary.{◌^◌, ◌||◌, ◌∙◌, ◌≡◌, ◌≤◌, ◌⊎◌}, Tests.all_below_from}
 use Rattle.mk_core.proofs.WordBits.{bit_for_has, bit_for_small, bits_added, bits_stay}
-use Rattle.mk_core.specs.Cells.{words_point_well}
-use Rattle.mk_core.specs.StopConditions.{may_turn_black}
+use Rattle.mk_core.specs.{Cells.words_point_well, StopConditions.may_turn_black}
 use Rattle.mk_tracing.specs.Grays.{BlackensOne, ColoursMore, IsGray, MarksMore}
 
 -- how many numbers below one a test doesn't hold of, and the sum of these counts over pages

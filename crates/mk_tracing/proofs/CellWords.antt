@@ -1,6 +1,5 @@
 -- A word of a scanned cell lies in the heap, and a lookup finds the cell there, where the word isn't 0.
-use Rattle.std.proofs.Math.Nat.{mul_comm}
-use Rattle.std.proofs.lemmas.Nat.{div-mul-add, mul-add-lt}
+use Rattle.std.proofs.{Math.Nat.mul_comm, lemmas.Nat.{div-mul-add, mul-add-lt}}
 use Rattle.mk_laws.proofs.Vocabulary.{Block, Bool, Cell, Config, Event, Free, Header, Invariant, IsHistory, Later}
 use Rattle.mk_laws.proofs.Vocabulary.{LeafBlock, LeafRun, List, None, Object, OfBlock, OfLater, OfLeafBlock, OfLeafRun}
 use Rattle.mk_laws.proofs.Vocabulary.{OfRun, Option, Run, ShowsPart, Some, Words, World, ℕ, address_of, and_from, ap}
@@ -9,15 +8,10 @@ use Rattle.mk_laws.proofs.Vocabulary.{first_word, ground_of, has_no_pointers, he
 use Rattle.mk_laws.proofs.Vocabulary.{inr, is_heap_address, is_phase, le-leb, left, lt-ltb, nat_lt, ne_eqb}
 use Rattle.mk_laws.proofs.Vocabulary.{never_behind, object_now, page_at_address, phase_of, refl, shows_on, slice_index}
 use Rattle.mk_laws.proofs.Vocabulary.{subst, sym, true, true≢false, words_under, ◌%◌, ◌*◌, ◌+◌, ◌-◌, ◌/◌, ◌<◌, ◌∙◌, ◌≡◌}
-use Rattle.mk_laws.proofs.Vocabulary.{◌≢◌, ◌≤◌, ◌⊎◌}
-use Rattle.mk_laws.proofs.BarePages.{Unreleasing, on_allocation, shown_there}
-use Rattle.mk_laws.proofs.CoveredWords.{covered_word}
-use Rattle.mk_laws.proofs.InHeap.{in_heap_left}
-use Rattle.mk_laws.proofs.InvariantHistories.{histories_keep_the_invariant}
-use Rattle.mk_laws.proofs.LayoutReadings.{claimed, claimed_head}
-use Rattle.mk_laws.proofs.RunsInHeap.{RunsFit}
-use Rattle.mk_laws.proofs.Serving.{Laid}
-use Rattle.mk_laws.proofs.TellGuard.{later_pages}
+use Rattle.mk_laws.proofs.{Vocabulary.{◌≢◌, ◌≤◌, ◌⊎◌}, BarePages.{Unreleasing, on_allocation, shown_there}}
+use Rattle.mk_laws.proofs.{CoveredWords.covered_word, InHeap.in_heap_left}
+use Rattle.mk_laws.proofs.{InvariantHistories.histories_keep_the_invariant, LayoutReadings.{claimed, claimed_head}}
+use Rattle.mk_laws.proofs.{RunsInHeap.RunsFit, Serving.Laid, TellGuard.later_pages}
 use Rattle.mk_geom.specs.Addresses.{cell_of_block, cell_under, word_at_address}
 use Rattle.mk_core.specs.Cells.{pointed_cell}
 

@@ -2,9 +2,8 @@
 use Rattle.mk_laws.proofs.Vocabulary.{List, Words, ℕ, ap, arith, cases_eq, cases_lt, get_or-set_other, get_or-set_same}
 use Rattle.mk_laws.proofs.Vocabulary.{get_or_past, head_page, inl, inr, length, refl, set-get_or, set_past, slice_index}
 use Rattle.mk_laws.proofs.Vocabulary.{slice_set, subst, sym, ◌+◌, ◌<◌, ◌∙◌, ◌≡◌, ◌≢◌}
-use Rattle.mk_tracing.proofs.DirtyWords.{dirty_is_one}
-use Rattle.mk_tracing.specs.Stops.{still_words}
-use Rattle.mk_tracing.specs.Grays.{BlacksFewer, DirtyFewer, DirtyIsUnscanned, HasDirtyPart, IsCleaner}
+use Rattle.mk_tracing.{proofs.DirtyWords.{dirty_is_one}, specs.Grays.{IsCleaner}}
+use Rattle.mk_tracing.specs.{Stops.still_words, Grays.{BlacksFewer, DirtyFewer, DirtyIsUnscanned, HasDirtyPart}}
 use Rattle.mk_words.specs.States.{PassState}
 
 -- a word that is cleared, and the others

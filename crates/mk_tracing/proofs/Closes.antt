@@ -3,18 +3,13 @@ use Rattle.std.specs.List.{list_all}
 use Rattle.mk_laws.proofs.Vocabulary.{Bool, Config, Event, IsHistory, List, MarksAreClosed, Step, Words, ℕ, all_below}
 use Rattle.mk_laws.proofs.Vocabulary.{and_from, ap, enabled_in_parts, eq-eqb, has_closed_page, none_attends, phase_of}
 use Rattle.mk_laws.proofs.Vocabulary.{points_well, refl, roots_point_well, slice_index, suc, true, [], ◌&&◌, ◌++◌, ◌<◌}
-use Rattle.mk_laws.proofs.Vocabulary.{◌==◌, ◌∙◌, ◌∷◌, ◌≡◌}
-use Rattle.mk_laws.proofs.InvariantTheorems.{closes_find_marks_closed}
+use Rattle.mk_laws.proofs.{Vocabulary.{◌==◌, ◌∙◌, ◌∷◌, ◌≡◌}, InvariantTheorems.closes_find_marks_closed}
 use Rattle.mk_laws.proofs.Tests.{all_below_from, none_from}
-use Rattle.mk_core.specs.Frames.{HoldsAll}
-use Rattle.mk_core.specs.History.{AreEnabledFrom}
-use Rattle.mk_tracing.proofs.MoreMarks.{marked_as, well_more}
-use Rattle.mk_tracing.proofs.Steps.{may_step}
-use Rattle.mk_tracing.specs.Grays.{ColoursMore, HasNoGray, MarksMore, RootsPointWell}
-use Rattle.mk_tracing.specs.Stops.{IsWanted, still_words}
+use Rattle.mk_core.specs.{Frames.HoldsAll, History.AreEnabledFrom}
+use Rattle.mk_tracing.proofs.{MoreMarks.{marked_as, well_more}, Steps.may_step}
+use Rattle.mk_tracing.specs.{Grays.{ColoursMore, HasNoGray, MarksMore, RootsPointWell}, Stops.{IsWanted, still_words}}
 use Rattle.mk_words.proofs.Undecided.{undecided_admitted}
-use Rattle.mk_words.specs.States.{PassState, event_of, now_of, world_of}
-use Rattle.mk_words.specs.Steps.{IsEnabledTo}
+use Rattle.mk_words.specs.{States.{PassState, event_of, now_of, world_of}, Steps.IsEnabledTo}
 
 all_from : (test : ℕ → Bool) (xs : List ℕ) → ((i : ℕ) → test (slice_index xs i) ≡ true) → list_all test xs ≡ true
 all_from test [] each = refl

@@ -1,13 +1,11 @@
 -- A dirty word is 0 or 1, after every list of events.
-use Rattle.std.proofs.Common.{replicate}
-use Rattle.std.proofs.lemmas.List.{get_or-replicate, length-replicate}
+use Rattle.std.proofs.{Common.replicate, lemmas.List.{get_or-replicate, length-replicate}}
 use Rattle.mk_laws.proofs.Vocabulary.{Access, Config, Event, List, Load, Moment, Named, Seat, Step, Store, Tally, Word}
 use Rattle.mk_laws.proofs.Vocabulary.{Words, World, ℕ, accessed, ap, arith, cases_eq, cases_lt, first_world, flight_of}
 use Rattle.mk_laws.proofs.Vocabulary.{get_or-set_other, get_or-set_same, get_or_past, inl, inr, left, length, page_met}
 use Rattle.mk_laws.proofs.Vocabulary.{refl, set_past, slice_index, slice_set, subst, sym, tally_word, world_behind, []}
 use Rattle.mk_laws.proofs.Vocabulary.{◌∙◌, ◌∷◌, ◌≡◌, ◌≢◌, ◌≤◌}
-use Rattle.mk_core.specs.Effects.{moment_behind}
-use Rattle.mk_core.specs.History.{left_from}
+use Rattle.mk_core.specs.{Effects.moment_behind, History.left_from}
 
 reg_leaves : (w : Words) (k r : ℕ) (a : Access) → (accessed w (Named (Word.Reg k r)) a).dirty ≡ w.dirty
 reg_leaves w k r Load = refl

@@ -1,13 +1,10 @@
 -- The first cell among those that a word has as bits.
-use Rattle.std.proofs.Common.{IfNone, IfSome, ltb-false, w64}
-use Rattle.std.proofs.lemmas.Nat.Bits.{bit_at-trailing_zeros}
-use Rattle.std.specs.Bool.{then_some}
-use Rattle.std.specs.Int.{trailing_zeros}
+use Rattle.std.proofs.{Common.{IfNone, IfSome, ltb-false, w64}, lemmas.Nat.Bits.bit_at-trailing_zeros}
+use Rattle.std.specs.{Bool.then_some, Int.trailing_zeros}
 use Rattle.mk_laws.proofs.Vocabulary.{Bool, Option, Words, ℕ, ap, arith, bit_at, cells_under, eq-eqb, false, has_bit}
 use Rattle.mk_laws.proofs.Vocabulary.{has_bit_without, header_at, header_of, ltb-true, nat_lt, no_bit, slice_index}
 use Rattle.mk_laws.proofs.Vocabulary.{subst, sym, true, without, ◌<◌, ◌==◌, ◌^◌, ◌∙◌, ◌≡◌, ◌≤◌}
-use Rattle.mk_tracing.proofs.NoGrays.{no_gray, no_gray_found}
-use Rattle.mk_tracing.specs.Grays.{AllAreBlack, HasNoGray, IsGray}
+use Rattle.mk_tracing.{proofs.NoGrays.{no_gray, no_gray_found}, specs.Grays.{AllAreBlack, HasNoGray, IsGray}}
 
 -- what holds of a value that is told where a test holds, and what holds where it doesn't
 

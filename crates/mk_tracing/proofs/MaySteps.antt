@@ -3,18 +3,11 @@ use Rattle.mk_laws.proofs.Vocabulary.{Bool, Cell, Config, Flight, Hand, Moment, 
 use Rattle.mk_laws.proofs.Vocabulary.{ℕ, all_below, all_below-at, and_from, and_parts, ap, eq-eqb, false, has_gates}
 use Rattle.mk_laws.proofs.Vocabulary.{head_page, is_held, is_number_of, is_phase, lt-ltb, ltb-true, nat_lt}
 use Rattle.mk_laws.proofs.Vocabulary.{none_attends, not, others_are_held, phase_of, pointed_cell, refl, slice_index}
-use Rattle.mk_laws.proofs.Vocabulary.{true, ◌&&◌, ◌<◌, ◌==◌, ◌^◌, ◌||◌, ◌∙◌, ◌≡◌}
-use Rattle.mk_laws.proofs.Tests.{none_from}
-use Rattle.mk_core.proofs.AllBelow.{all_below_not_is}
-use Rattle.mk_core.specs.Ranges.{is_word}
-use Rattle.mk_core.specs.Readings.{NoneAttends}
-use Rattle.mk_core.specs.StopConditions.{blackens, is_bit_of, marks_by_hand, may_turn_black}
-use Rattle.mk_core.specs.Frames.{HoldsAll}
-use Rattle.mk_tracing.proofs.Steps.{may_step}
-use Rattle.mk_tracing.specs.Grays.{HandPointsInto}
-use Rattle.mk_tracing.specs.Stops.{IsWanted, hand_of, still_words}
-use Rattle.mk_words.specs.States.{PassState, call_of, now_of}
-use Rattle.mk_words.specs.Steps.{IsEnabledTo}
+use Rattle.mk_laws.proofs.{Vocabulary.{true, ◌&&◌, ◌<◌, ◌==◌, ◌^◌, ◌||◌, ◌∙◌, ◌≡◌}, Tests.none_from}
+use Rattle.mk_core.{proofs.AllBelow.{all_below_not_is}, specs.{StopConditions.may_turn_black, Frames.HoldsAll}}
+use Rattle.mk_core.specs.{Ranges.is_word, Readings.NoneAttends, StopConditions.{blackens, is_bit_of, marks_by_hand}}
+use Rattle.mk_tracing.{proofs.Steps.{may_step}, specs.{Grays.HandPointsInto, Stops.{IsWanted, hand_of, still_words}}}
+use Rattle.mk_words.specs.{States.{PassState, call_of, now_of}, Steps.IsEnabledTo}
 
 look_gates : (c : Config) (w : Words) (seat : Seat) (f : Flight) (x : Word) → others_are_held c.callers w seat ≡ true
     → is_word c x ≡ true

@@ -2,10 +2,8 @@
 use Rattle.mk_laws.proofs.Vocabulary.{Cell, List, None, Option, Page, Some, Words, ℕ, ap, bit_or, has_bit}
 use Rattle.mk_laws.proofs.Vocabulary.{histories_keep_lengths, is_marked, is_none_or, length, pointed_cell, points_well}
 use Rattle.mk_laws.proofs.Vocabulary.{refl, slice_index, slice_set, subst, sym, true, ◌<◌, ◌^◌, ◌∙◌, ◌≡◌, ◌≢◌}
-use Rattle.mk_core.proofs.WordBits.{bit_for_has, bit_for_small, bits_added, bits_stay}
-use Rattle.mk_core.proofs.PointedPages.{pointed_within}
-use Rattle.mk_tracing.specs.Grays.{IsInHand, MarksMore}
-use Rattle.mk_tracing.specs.Stops.{hand_of, still_words}
+use Rattle.mk_core.proofs.{WordBits.{bit_for_has, bit_for_small, bits_added, bits_stay}, PointedPages.pointed_within}
+use Rattle.mk_tracing.specs.{Grays.{IsInHand, MarksMore}, Stops.{hand_of, still_words}}
 use Rattle.mk_turns.proofs.PointedCells.{outside_none}
 use Rattle.mk_words.specs.States.{PassState}
 

@@ -1,7 +1,5 @@
 -- Pages without gray cells, and pages with one.
-use Rattle.std.proofs.lemmas.Nat.Bits.{bit_at-lt, bit_at_above, bit_at_and}
-use Rattle.std.proofs.Common.{bit_and}
-use Rattle.std.proofs.Math.Pow.{pow_pos}
+use Rattle.std.proofs.{lemmas.Nat.Bits.{bit_at-lt, bit_at_above, bit_at_and}, Common.bit_and, Math.Pow.pow_pos}
 use Rattle.mk_laws.proofs.Vocabulary.{Bool, Words, ℕ, ap, arith, bit_at, cases_lt, cells_under, eq-eqb, false, has_bit}
 use Rattle.mk_laws.proofs.Vocabulary.{has_bit_without, header_at, header_in, header_of, not, refl, slice_index, true}
 use Rattle.mk_laws.proofs.Vocabulary.{without, ◌&&◌, ◌-◌, ◌<◌, ◌^◌, ◌∙◌, ◌≡◌}

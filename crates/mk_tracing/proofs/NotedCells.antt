@@ -3,10 +3,8 @@ use Rattle.std.proofs.Common.{IfSome}
 use Rattle.mk_laws.proofs.Vocabulary.{Cell, None, OnlyGrow, Option, Some, Words, ℕ, arith, cells_under, false, has_bit}
 use Rattle.mk_laws.proofs.Vocabulary.{header_at, header_of, is_marked, slice_index, subst, sym, true, ◌+◌, ◌-◌, ◌<◌}
 use Rattle.mk_laws.proofs.Vocabulary.{◌≡◌}
-use Rattle.mk_tracing.specs.Grays.{MarksMore, with_blacks, words_scanned}
-use Rattle.mk_tracing.specs.Noted.{AreNoted, IsGrayNoted, IsNoted}
-use Rattle.mk_tracing.specs.declared.noted.Noted.{Noted}
-use Rattle.mk_tracing.specs.declared.worklist.Worklist.{Worklist}
+use Rattle.mk_tracing.specs.{Grays.{MarksMore, with_blacks, words_scanned}, Noted.{AreNoted, IsGrayNoted, IsNoted}}
+use Rattle.mk_tracing.specs.{declared.noted.Noted.Noted, declared.worklist.Worklist.Worklist}
 
 -- Headers stay, and marks are only added.
 record Stays (w v : Words) : Type 0 where

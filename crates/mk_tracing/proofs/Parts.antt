@@ -1,21 +1,16 @@
 -- Tracing in parts: nothing, one part after another, and one step.
-use Rattle.std.proofs.Common.{count_by}
-use Rattle.std.proofs.lemmas.List.Sums.{sum_by-append}
+use Rattle.std.proofs.{Common.count_by, lemmas.List.Sums.sum_by-append}
 use Rattle.mk_laws.proofs.Vocabulary.{Bool, Config, Event, List, Moment, Seat, Step, World, ℕ, and_from, and_parts, ap}
 use Rattle.mk_laws.proofs.Vocabulary.{append-nil, append_assoc, arith, cond, false, found, if◌then◌else◌, left}
 use Rattle.mk_laws.proofs.Vocabulary.{left_in_parts, refl, subst, sym, true, true≢false, world_behind, [], ◌++◌, ◌+◌}
 use Rattle.mk_laws.proofs.Vocabulary.{◌∙◌, ◌∷◌, ◌≡◌}
-use Rattle.mk_core.specs.Growing.{AreOfOthers, Finding, is_same_seat, own_from}
-use Rattle.mk_core.specs.Frames.{CountsAreLeft}
+use Rattle.mk_core.specs.{Growing.{AreOfOthers, Finding, is_same_seat, own_from}, Frames.CountsAreLeft}
 use Rattle.mk_core.specs.History.{left_from}
 use Rattle.mk_tracing.specs.Tracing.{Counted, OwnStepsKeep, Traces, untouched_of}
 use Rattle.mk_turns.proofs.Doing.{done_in_parts, none_own, of_kinds_in_parts, others_are_so, own_or_others_in_parts}
 use Rattle.mk_turns.specs.Doing.{AreOwnOrOfOthers, are_of, count_done, done_in}
 use Rattle.mk_words.proofs.Seats.{not_both, same_seat, same_self}
-use Rattle.mk_words.specs.States.{PassState, event_of, world_of}
-use Rattle.mk_words.specs.Seats.{Has}
-use Rattle.mk_words.specs.Steps.{Makes}
-use Rattle.mk_words.specs.TurnSteps.{world_at}
+use Rattle.mk_words.specs.{States.{PassState, event_of, world_of}, Seats.Has, Steps.Makes, TurnSteps.world_at}
 
 -- the rule, over a list in two parts
 pub keep_in_parts : (rule : Config → Moment → Step → Type 0) (c : Config) (s : Seat) (w : World) (xs ys : List Event)

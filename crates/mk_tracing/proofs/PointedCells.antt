@@ -7,8 +7,7 @@ use Rattle.mk_laws.proofs.Vocabulary.{◌∙◌, ◌≡◌, ◌≢◌, ◌≤◌
 use Rattle.mk_geom.proofs.HeaderLemmas.{header_of-word_of}
 use Rattle.mk_geom.specs.Addresses.{cell_of_block, cell_under, word_at_address}
 use Rattle.mk_tracing.proofs.MoreMarks.{hand_kept, some_not_zero, well_none, well_some}
-use Rattle.mk_tracing.specs.Grays.{HandPointsInto, IsInHand, LooksOn, MarksMore}
-use Rattle.mk_tracing.specs.Stops.{hand_of, still_words}
+use Rattle.mk_tracing.specs.{Grays.{HandPointsInto, IsInHand, LooksOn, MarksMore}, Stops.{hand_of, still_words}}
 use Rattle.mk_turns.proofs.PointedCells.{found_by_header}
 use Rattle.mk_words.specs.States.{PassState, TurnState}
 

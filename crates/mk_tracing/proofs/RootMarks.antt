@@ -4,15 +4,12 @@ use Rattle.mk_laws.proofs.Vocabulary.{Config, Event, IsHistory, List, Null, Word
 use Rattle.mk_laws.proofs.Vocabulary.{cases_lt, flight_among, get_or_past, histories_keep_lengths, inl, inr, leb-true}
 use Rattle.mk_laws.proofs.Vocabulary.{left, never_behind, points_well, register_word, slice_index, slice_index_or}
 use Rattle.mk_laws.proofs.Vocabulary.{subst, true, ◌%◌, ◌*◌, ◌+◌, ◌-◌, ◌/◌, ◌<◌, ◌∙◌, ◌≡◌, ◌≤◌}
-use Rattle.mk_laws.proofs.InvariantHistories.{histories_keep_the_invariant}
-use Rattle.mk_laws.proofs.Protocols.{lists_keep_the_protocol}
+use Rattle.mk_laws.proofs.{InvariantHistories.histories_keep_the_invariant, Protocols.lists_keep_the_protocol}
 use Rattle.mk_core.specs.Words.{named_word}
 use Rattle.mk_tracing.proofs.MoreMarks.{marked_as, more_then, well_more, well_none, zero_none}
-use Rattle.mk_tracing.proofs.ScannedWords.{notes_then}
-use Rattle.mk_tracing.proofs.StopSteps.{looks_from, looks_then}
+use Rattle.mk_tracing.proofs.{ScannedWords.notes_then, StopSteps.{looks_from, looks_then}}
 use Rattle.mk_tracing.specs.Grays.{GlobalIsWell, LooksOn, MarksMore, RegistersAreWell, RootsPointWell}
-use Rattle.mk_tracing.specs.Stops.{IsWanted, is_root, still_words}
-use Rattle.mk_tracing.specs.Scans.{MarksAndNotes}
+use Rattle.mk_tracing.specs.{Stops.{IsWanted, is_root, still_words}, Scans.MarksAndNotes}
 use Rattle.mk_tracing.specs.declared.worklist.Worklist.{Worklist}
 use Rattle.mk_turns.proofs.PointedCells.{outside_none}
 use Rattle.mk_words.specs.States.{PassState, TurnState, WordsState, now_of}

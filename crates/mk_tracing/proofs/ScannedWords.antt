@@ -2,15 +2,10 @@
 use Rattle.mk_laws.proofs.Vocabulary.{Cell, Words, ℕ, arith, cases_lt, first_word, inl, inr, points_well, slice_index}
 use Rattle.mk_laws.proofs.Vocabulary.{subst, sym, true, ◌+◌, ◌<◌, ◌≡◌, ◌≤◌}
 use Rattle.mk_core.specs.Cells.{words_point_well}
-use Rattle.mk_tracing.proofs.Blackened.{cell_kept, gray_kept, scan_done}
-use Rattle.mk_tracing.proofs.MoreMarks.{more_same, more_then, well_more}
-use Rattle.mk_tracing.proofs.NotedCells.{noted_more}
-use Rattle.mk_tracing.proofs.StopSteps.{looks_from, on_then}
-use Rattle.mk_tracing.specs.Grays.{LooksOn, MarksMore, MarksOn}
-use Rattle.mk_tracing.specs.Noted.{IsDue}
-use Rattle.mk_tracing.specs.Scans.{MarksAndNotes, Scans}
-use Rattle.mk_tracing.specs.Stops.{IsWanted, still_words}
-use Rattle.mk_tracing.specs.declared.noted.Noted.{Noted}
+use Rattle.mk_tracing.proofs.{Blackened.{cell_kept, gray_kept, scan_done}, MoreMarks.{more_same, more_then, well_more}}
+use Rattle.mk_tracing.proofs.{NotedCells.noted_more, StopSteps.{looks_from, on_then}}
+use Rattle.mk_tracing.specs.{Grays.{LooksOn, MarksMore, MarksOn}, Noted.IsDue, Scans.{MarksAndNotes, Scans}}
+use Rattle.mk_tracing.specs.{Stops.{IsWanted, still_words}, declared.noted.Noted.Noted}
 use Rattle.mk_tracing.specs.declared.worklist.Worklist.{Worklist}
 use Rattle.mk_words.specs.States.{TurnState}
 

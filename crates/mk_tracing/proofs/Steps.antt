@@ -8,16 +8,13 @@ use Rattle.mk_laws.proofs.Vocabulary.{has_phase, holder_may, is_end, is_in_range
 use Rattle.mk_laws.proofs.Vocabulary.{left, lt-ltb, marker_at, marker_may, marks_place, not, not-true, outside}
 use Rattle.mk_laws.proofs.Vocabulary.{phase_of, progress, refl, seat_exists, sees_double, set-get_or, still, subst, sym}
 use Rattle.mk_laws.proofs.Vocabulary.{true, world_behind, [], ◌++◌, ◌+◌, ◌∙◌, ◌∷◌, ◌≡◌}
-use Rattle.mk_core.proofs.Conditions.{meets_enabled}
-use Rattle.mk_core.proofs.Histories.{calls_more}
+use Rattle.mk_core.proofs.{Conditions.meets_enabled, Histories.calls_more}
 use Rattle.mk_core.specs.Order.{comes_next_to_host, is_in_order, is_of_any_holder, may_decide_new}
-use Rattle.mk_core.specs.Effects.{flights_behind}
-use Rattle.mk_core.specs.Frames.{CountsAreLeft, HoldsAll}
-use Rattle.mk_tracing.specs.Stops.{HolderIsLoaded, is_loaded, is_loaded_at}
-use Rattle.mk_tracing.specs.Tracing.{Untouched, is_tracing, untouched_of}
+use Rattle.mk_core.specs.{Effects.flights_behind, Frames.{CountsAreLeft, HoldsAll}}
+use Rattle.mk_tracing.specs.{Stops.{HolderIsLoaded, is_loaded, is_loaded_at}, Tracing.{Untouched, is_tracing}}
+use Rattle.mk_tracing.specs.Tracing.{untouched_of}
 use Rattle.mk_words.proofs.Undecided.{decides_nothing}
-use Rattle.mk_words.specs.States.{PassState, call_of, now_of, world_of}
-use Rattle.mk_words.specs.Steps.{IsEnabledTo}
+use Rattle.mk_words.specs.{States.{PassState, call_of, now_of, world_of}, Steps.IsEnabledTo}
 use Rattle.mk_words.specs.{Steps.Makes, Steps.may_decide as may_decide_call, TurnSteps.Acts, TurnSteps.world_at}
 
 -- what tracing doesn't touch, from what the frame law speaks of

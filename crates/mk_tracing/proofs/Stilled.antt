@@ -4,21 +4,14 @@ use Rattle.mk_laws.proofs.Vocabulary.{Op, Option, Seat, Some, Steady, Step, Turn
 use Rattle.mk_laws.proofs.Vocabulary.{address_of, ap, arith, false, found, has_no_pointers, header_in, is_attending}
 use Rattle.mk_laws.proofs.Vocabulary.{is_marked, ne_eqb, or_else, outside, phase_of, pointed_cell, refl, slice_index_or}
 use Rattle.mk_laws.proofs.Vocabulary.{sym, true, world_behind, ◌∙◌, ◌≡◌}
-use Rattle.mk_core.specs.Effects.{hand_given, hand_of_cell, is_in_stop, markers_behind}
-use Rattle.mk_core.specs.Frames.{HoldsAll, written_of}
-use Rattle.mk_core.specs.Readings.{NoneAttends}
-use Rattle.mk_core.specs.Words.{named_word}
-use Rattle.mk_core.specs.declared.seats.Source.TheVariants.{Marked}
-use Rattle.mk_tracing.proofs.Steps.{is_late, is_quiet, step_counts, step_untouched, still_ready}
-use Rattle.mk_tracing.proofs.Parts.{traces_step}
+use Rattle.mk_core.specs.{Effects.{hand_given, hand_of_cell, is_in_stop, markers_behind}, Frames.{HoldsAll, written_of}}
+use Rattle.mk_core.specs.{Readings.NoneAttends, Words.named_word, declared.seats.Source.TheVariants.Marked}
+use Rattle.mk_tracing.proofs.{Steps.{is_late, is_quiet, step_counts, step_untouched, still_ready}, Parts.traces_step}
 use Rattle.mk_tracing.specs.Grays.{IsInHand, MarksOn, TracesReached, with_blacks, with_marks, without_blacks}
-use Rattle.mk_tracing.specs.Grays.{without_dirty}
-use Rattle.mk_tracing.specs.Stops.{IsWanted, hand_of, is_root, is_still_word, still_words}
+use Rattle.mk_tracing.specs.{Grays.without_dirty, Stops.{IsWanted, hand_of, is_root, is_still_word, still_words}}
 use Rattle.mk_tracing.specs.Tracing.{Traces, is_marking, untouched_of}
 use Rattle.mk_turns.proofs.PointedCells.{found_there}
-use Rattle.mk_words.specs.States.{PassState, event_of, now_of, world_of}
-use Rattle.mk_words.specs.Seats.{Has}
-use Rattle.mk_words.specs.Steps.{Finds}
+use Rattle.mk_words.specs.{States.{PassState, event_of, now_of, world_of}, Seats.Has, Steps.Finds}
 use Rattle.mk_words.specs.TurnSteps.{Acts, world_at}
 
 abbrev words_by : Steady → Written → List ℕ → List ℕ → Words

@@ -2,24 +2,15 @@
 use Rattle.mk_laws.proofs.Vocabulary.{Cell, Config, IsHistory, Moment, Step, Word, Words, World, ℕ, address_of, ap}
 use Rattle.mk_laws.proofs.Vocabulary.{arith, cell_words, first_word, header_at, lt-ltb, pointed_cell, refl, slice_index}
 use Rattle.mk_laws.proofs.Vocabulary.{subst, sym, true, ◌*◌, ◌+◌, ◌<◌, ◌^◌, ◌∙◌, ◌≡◌, ◌≢◌}
-use Rattle.mk_core.proofs.PointedPages.{pointed_within}
-use Rattle.mk_core.specs.Frames.{HoldsAll}
-use Rattle.mk_core.specs.Ranges.{is_word}
-use Rattle.mk_tracing.proofs.CellWords.{cell_of_word, words_in_heap}
-use Rattle.mk_tracing.proofs.Stilled.{but_phase, look_finds, look_words, marked_hand, marks_on}
-use Rattle.mk_tracing.proofs.MaySteps.{marks_by}
-use Rattle.mk_tracing.proofs.Parts.{traces_nothing, traces_then}
+use Rattle.mk_core.{proofs.PointedPages.{pointed_within}, specs.{Frames.HoldsAll, Ranges.is_word}}
+use Rattle.mk_tracing.proofs.{CellWords.{cell_of_word, words_in_heap}, Stilled.{but_phase, look_finds, look_words}}
+use Rattle.mk_tracing.proofs.{Stilled.{marked_hand, marks_on}, MaySteps.marks_by, Parts.{traces_nothing, traces_then}}
 use Rattle.mk_tracing.proofs.Steps.{is_quiet}
 use Rattle.mk_tracing.specs.Grays.{MarksReached, ReachedMarksSweepNothing, TracesReached, HandPointsInto, HasDirtyPart}
-use Rattle.mk_tracing.specs.Grays.{IsGray, IsGrayWord, IsInHand, LooksOn, MarksOn}
-use Rattle.mk_tracing.specs.Stops.{IsWanted, is_page_word, is_root, still_words}
-use Rattle.mk_tracing.specs.Noted.{IsDue}
-use Rattle.mk_tracing.specs.declared.noted.Noted.{Noted}
+use Rattle.mk_tracing.specs.{Grays.{IsGray, IsGrayWord, IsInHand, LooksOn, MarksOn}, Stops.{IsWanted, is_page_word}}
+use Rattle.mk_tracing.specs.{Stops.{is_root, still_words}, Noted.IsDue, declared.noted.Noted.Noted}
 use Rattle.mk_words.proofs.Unmarked.{pointed_has_header}
-use Rattle.mk_words.specs.Seats.{Has}
-use Rattle.mk_words.specs.States.{PassState, TurnState, now_of}
-use Rattle.mk_words.specs.Steps.{Finds}
-use Rattle.mk_words.specs.TurnSteps.{Acts}
+use Rattle.mk_words.specs.{Seats.Has, States.{PassState, TurnState, now_of}, Steps.Finds, TurnSteps.Acts}
 
 -- The marking goes on, and on, and so do looks.
 

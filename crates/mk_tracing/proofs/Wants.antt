@@ -1,17 +1,13 @@
 -- The wish to close the marks, and the looks at the phase after it.
 use Rattle.mk_laws.proofs.Vocabulary.{Config, IsHistory, Moment, Steady, Step, Word, World, ℕ, ap, arith, false}
-use Rattle.mk_laws.proofs.Vocabulary.{phase_of, refl, true, ◌%◌, ◌+◌, ◌<◌, ◌^◌, ◌∙◌, ◌≡◌}
-use Rattle.mk_laws.proofs.ProtocolReadings.{words_tell}
+use Rattle.mk_laws.proofs.{Vocabulary.{phase_of, refl, true, ◌%◌, ◌+◌, ◌<◌, ◌^◌, ◌∙◌, ◌≡◌}, ProtocolReadings.words_tell}
 use Rattle.mk_core.specs.Frames.{HoldsAll}
 use Rattle.mk_tracing.proofs.Parts.{counted_then, counted_wider, traces_step, traces_wider}
 use Rattle.mk_tracing.proofs.Steps.{step_counts, step_untouched, still_ready}
 use Rattle.mk_tracing.specs.Tracing.{Counted, Traces, is_marking, is_tracing, is_waiting, is_want, untouched_of}
-use Rattle.mk_tracing.specs.Grays.{TracesReached, WaitsForMarkers}
-use Rattle.mk_tracing.specs.Stops.{HolderIsLoaded, IsWanted}
+use Rattle.mk_tracing.specs.{Grays.{TracesReached, WaitsForMarkers}, Stops.{HolderIsLoaded, IsWanted}}
 use Rattle.mk_turns.proofs.PointedCells.{found_there}
-use Rattle.mk_words.specs.States.{PassState, TurnState, now_of, world_of}
-use Rattle.mk_words.specs.Seats.{Has}
-use Rattle.mk_words.specs.Steps.{Finds}
+use Rattle.mk_words.specs.{States.{PassState, TurnState, now_of, world_of}, Seats.Has, Steps.Finds}
 use Rattle.mk_words.specs.TurnSteps.{Acts, world_at}
 
 phase_there : (p q : PassState) (s : Step) (a : Acts p s q)

@@ -1,24 +1,16 @@
 -- Gray cells, which are marked and not black, and what steps in the stop keep to.
 use Rattle.std.specs.Prelude.{◌≡◌, ◌≢◌, ◌⊎◌, ℕ, ◌+◌, ◌<◌, ◌≤◌, Bool, true, false, ⊤, slice_index, slice_set, bit_or}
 use Rattle.std.specs.Prelude.{bit_and, ◌^◌, Option, Some, if◌then◌else◌}
-use Rattle.mk_geom.specs.declared.addresses.Cell.{Cell}
-use Rattle.mk_geom.specs.declared.headers.Header.{Header}
-use Rattle.mk_core.specs.declared.config.Config.{Config}
-use Rattle.mk_core.specs.declared.events.Step.{Step}
-use Rattle.mk_core.specs.declared.seats.Flight.{Flight}
-use Rattle.mk_core.specs.declared.seats.Hand.{Hand}
-use Rattle.mk_core.specs.Bits.{has_bit, without}
-use Rattle.mk_core.specs.Bounded.{is_some_and}
-use Rattle.mk_core.specs.Words.{Words, phase_of, register_word}
-use Rattle.mk_core.specs.Cells.{header_in, head_page, cells_under, cell_bits, first_word, cell_words, is_marked}
-use Rattle.mk_core.specs.Cells.{has_no_pointers, pointed_cell, points_well, words_under}
-use Rattle.mk_core.specs.Cycles.{is_unmarked, sweeps}
-use Rattle.mk_core.specs.Frames.{OnlyGrow}
-use Rattle.mk_core.specs.Moments.{Moment}
+use Rattle.mk_geom.specs.{declared.addresses.Cell.Cell, declared.headers.Header.Header}
+use Rattle.mk_core.specs.{declared.config.Config.Config, declared.events.Step.Step, declared.seats.Flight.Flight}
+use Rattle.mk_core.specs.{declared.seats.Hand.Hand, Bits.{has_bit, without}, Bounded.is_some_and}
+use Rattle.mk_core.specs.{Words.{Words, phase_of, register_word}, Cells.{header_in, head_page, cells_under, cell_bits}}
+use Rattle.mk_core.specs.Cells.{first_word, cell_words, is_marked, has_no_pointers, pointed_cell, points_well}
+use Rattle.mk_core.specs.{Cells.words_under, Cycles.{is_unmarked, sweeps}, Frames.OnlyGrow, Moments.Moment}
 use Rattle.mk_core.specs.StopConditions.{marks_by_hand}
 use Rattle.mk_words.specs.States.{PassState, TurnState, now_of}
-use Rattle.mk_tracing.specs.Stops.{HolderIsLoaded, IsWanted, hand_of, still_words}
-use Rattle.mk_tracing.specs.Tracing.{Counted, Traces, is_marking, is_waiting, is_want}
+use Rattle.mk_tracing.specs.{Stops.{HolderIsLoaded, IsWanted, hand_of, still_words}, Tracing.{Counted, Traces}}
+use Rattle.mk_tracing.specs.Tracing.{is_marking, is_waiting, is_want}
 use Rattle.mk_core.specs.declared.events.Step.TheVariants as step
 use Rattle.mk_core.specs.declared.events.Word.TheVariants as word
 

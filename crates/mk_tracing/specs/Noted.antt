@@ -1,10 +1,7 @@
 -- What is noted of the cells that are still to be scanned.
-use Rattle.std.specs.Prelude.{◌≡◌, ℕ, ◌<◌, true, false}
-use Rattle.std.specs.List.{All}
-use Rattle.mk_core.specs.Cells.{cell_words, cells_under, has_no_pointers, header_in, is_marked}
-use Rattle.mk_core.specs.Words.{Words}
-use Rattle.mk_tracing.specs.declared.noted.Noted.{Noted}
-use Rattle.mk_tracing.specs.declared.worklist.Worklist.{Worklist}
+use Rattle.std.specs.{Prelude.{◌≡◌, ℕ, ◌<◌, true, false}, List.All}
+use Rattle.mk_core.specs.{Cells.{cell_words, cells_under, has_no_pointers, header_in, is_marked}, Words.Words}
+use Rattle.mk_tracing.specs.{declared.noted.Noted.Noted, declared.worklist.Worklist.Worklist}
 use Rattle.mk_tracing.specs.Grays.{IsGray, words_scanned}
 
 -- The cell is one of its page's and marked, and so many of its words are scanned.

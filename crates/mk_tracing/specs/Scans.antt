@@ -2,10 +2,8 @@
 use Rattle.std.specs.Prelude.{◌≡◌, ℕ, ◌<◌, ◌≤◌, true}
 use Rattle.mk_geom.specs.declared.addresses.Cell.{Cell}
 use Rattle.mk_words.specs.States.{TurnState}
-use Rattle.mk_tracing.specs.declared.worklist.Worklist.{Worklist}
-use Rattle.mk_tracing.specs.Grays.{MarksMore, MarksOn, WordIsWell}
-use Rattle.mk_tracing.specs.Noted.{AreNoted}
-use Rattle.mk_tracing.specs.Stops.{still_words}
+use Rattle.mk_tracing.specs.{declared.worklist.Worklist.Worklist, Grays.{MarksMore, MarksOn, WordIsWell}}
+use Rattle.mk_tracing.specs.{Noted.AreNoted, Stops.still_words}
 
 -- The stop goes on, marks and no others are added, and what was noted in the list stays so.
 pub record MarksAndNotes (pages : ℕ) (t : TurnState) (had : Worklist) (u : TurnState) (has : Worklist) : Type 0 where

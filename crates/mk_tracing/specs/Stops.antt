@@ -1,13 +1,8 @@
 -- A stop in which marks are closed: the close is wanted, and no marker attends.
 use Rattle.std.specs.Prelude.{◌≡◌, Bool, true, false, Option}
-use Rattle.mk_core.specs.declared.events.Seat.{Seat}
-use Rattle.mk_core.specs.declared.events.Seat.TheVariants.{Caller}
-use Rattle.mk_core.specs.declared.events.Word.{Word}
-use Rattle.mk_core.specs.declared.seats.Flight.{Flight}
-use Rattle.mk_core.specs.declared.seats.Hand.{Hand}
-use Rattle.mk_core.specs.declared.seats.Stage.{Stage}
-use Rattle.mk_core.specs.Words.{Words, phase_of}
-use Rattle.mk_core.specs.Readings.{NoneAttends}
+use Rattle.mk_core.specs.{declared.events.Seat.Seat, declared.events.Seat.TheVariants.Caller, declared.events.Word.Word}
+use Rattle.mk_core.specs.{declared.seats.Flight.Flight, declared.seats.Hand.Hand, declared.seats.Stage.Stage}
+use Rattle.mk_core.specs.{Words.{Words, phase_of}, Readings.NoneAttends}
 use Rattle.mk_words.specs.States.{PassState, WordsState, now_of, call_of}
 use Rattle.mk_core.specs.declared.events.Word.TheVariants as word
 use Rattle.mk_core.specs.declared.seats.Stage.TheVariants as stage

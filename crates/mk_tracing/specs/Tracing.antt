@@ -1,18 +1,10 @@
 -- What the holder of the turn does that traces: steps of its own that keep to a rule, and all else left as it was.
 use Rattle.std.specs.Prelude.{◌≡◌, ℕ, Bool, true, false, List, [], ◌∷◌, Option, ⊤}
 use Rattle.mk_geom.specs.declared.pages.Page.{Page}
-use Rattle.mk_core.specs.declared.config.Config.{Config}
-use Rattle.mk_core.specs.declared.events.Seat.{Seat}
-use Rattle.mk_core.specs.declared.events.Event.{Event}
-use Rattle.mk_core.specs.declared.events.Step.{Step}
-use Rattle.mk_core.specs.declared.seats.Flight.{Flight}
-use Rattle.mk_core.specs.declared.seats.Placing.{Placing}
-use Rattle.mk_core.specs.declared.seats.RunPages.{RunPages}
-use Rattle.mk_core.specs.declared.seats.OwnCycle.{OwnCycle}
-use Rattle.mk_core.specs.Allocations.{PlacedAllocation}
-use Rattle.mk_core.specs.Moments.{Moment}
-use Rattle.mk_core.specs.Frames.{CountsAreLeft}
-use Rattle.mk_core.specs.Growing.{is_same_seat}
+use Rattle.mk_core.specs.{declared.config.Config.Config, declared.events.Seat.Seat, declared.events.Event.Event}
+use Rattle.mk_core.specs.{declared.events.Step.Step, declared.seats.Flight.Flight, declared.seats.Placing.Placing}
+use Rattle.mk_core.specs.{declared.seats.RunPages.RunPages, declared.seats.OwnCycle.OwnCycle}
+use Rattle.mk_core.specs.{Allocations.PlacedAllocation, Moments.Moment, Frames.CountsAreLeft, Growing.is_same_seat}
 use Rattle.mk_core.specs.History.{World, world_behind}
 use Rattle.mk_words.specs.States.{PassState, world_of}
 use Rattle.mk_turns.specs.Doing.{Does, count_done}

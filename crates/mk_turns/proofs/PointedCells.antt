@@ -1,15 +1,12 @@
 -- What a look finds, and what a value points into by the header that is found.
 use Rattle.std.proofs.Common.{List, None, ℕ, ap, false, inl, inr, refl, subst, sym, ◌++◌, ◌∙◌, ◌≡◌}
 use Rattle.std.proofs.lemmas.Bool.{cases_Bool}
-use Rattle.mk_geom.specs.Addresses.{cell_at, is_heap_address, page_at_address}
-use Rattle.mk_geom.specs.declared.pages.Page.{Page}
+use Rattle.mk_geom.specs.{Addresses.{cell_at, is_heap_address, page_at_address}, declared.pages.Page.Page}
 use Rattle.mk_core.proofs.Histories.{left_more}
-use Rattle.mk_core.specs.Words.{Words, header_at, named_word}
-use Rattle.mk_core.specs.{Cells.pointed_cell, History.World, History.first_world, declared.events.Step.Step}
-use Rattle.mk_core.specs.{declared.events.Word.Word, declared.seats.Holding.Holding}
+use Rattle.mk_core.specs.{Words.{Words, header_at, named_word}, Cells.pointed_cell, History.{World, first_world}}
+use Rattle.mk_core.specs.{declared.events.Step.Step, declared.events.Word.Word, declared.seats.Holding.Holding}
 use Rattle.mk_turns.specs.Pointing.{LooksForCell}
-use Rattle.mk_words.specs.States.{PassState, TurnState, event_of, now_of}
-use Rattle.mk_words.specs.{Steps.Finds, TurnSteps.Acts}
+use Rattle.mk_words.specs.{States.{PassState, TurnState, event_of, now_of}, Steps.Finds, TurnSteps.Acts}
 
 -- What a look found is there after it.
 pub found_there : (p q : PassState) (x : Word) (n : ℕ) → Finds p (Step.Look x) n q → named_word (now_of q).words x ≡ n

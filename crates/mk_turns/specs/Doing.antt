@@ -1,12 +1,8 @@
 -- What a seat does in a call: its own events, each of a kind that is allowed, and events of others between them.
-use Rattle.std.specs.Prelude.{◌≡◌, ℕ, Bool, true, List, [], ◌∷◌, ◌++◌, ⊤, count_by}
-use Rattle.std.specs.List.{list_all}
-use Rattle.mk_core.specs.declared.events.Seat.{Seat}
-use Rattle.mk_core.specs.declared.events.Step.{Step}
-use Rattle.mk_core.specs.declared.events.Event.{Event}
+use Rattle.std.specs.{Prelude.{◌≡◌, ℕ, Bool, true, List, [], ◌∷◌, ◌++◌, ⊤, count_by}, List.list_all}
+use Rattle.mk_core.specs.{declared.events.Seat.Seat, declared.events.Step.Step, declared.events.Event.Event}
 use Rattle.mk_core.specs.Growing.{is_same_seat, is_one_of, Finding, in_this_call}
-use Rattle.mk_words.specs.States.{PassState}
-use Rattle.mk_words.specs.Steps.{Makes}
+use Rattle.mk_words.specs.{States.PassState, Steps.Makes}
 
 -- Each event is the seat's own, or of none of these seats.
 unfoldable pub AreOwnOrOfOthers : Seat → List Seat → List Event → Type 0

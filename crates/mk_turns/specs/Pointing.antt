@@ -1,9 +1,7 @@
 -- What is looked at to find the cell into which a value points.
 use Rattle.std.specs.Prelude.{◌≡◌, ℕ, ◌<◌, true, false}
 use Rattle.mk_geom.specs.Addresses.{is_heap_address, page_at_address}
-use Rattle.mk_words.specs.States.{PassState, TurnState}
-use Rattle.mk_words.specs.Steps.{IsEnabledTo}
-use Rattle.mk_words.specs.TurnSteps.{Acts}
+use Rattle.mk_words.specs.{States.{PassState, TurnState}, Steps.IsEnabledTo, TurnSteps.Acts}
 use Rattle.mk_core.specs.declared.events.Step.TheVariants as step
 use Rattle.mk_core.specs.declared.events.Word.TheVariants as word
 

@@ -1,15 +1,9 @@
 -- Sweeping marks: by a word of a cell that wasn't marked when it was looked at. Which of its steps make none.
 use Rattle.std.specs.Prelude.{◌≡◌, Bool, true, false, List, [], ◌∷◌, ◌++◌, ⊤}
-use Rattle.mk_core.specs.declared.config.Config.{Config}
-use Rattle.mk_core.specs.declared.events.Seat.{Seat}
-use Rattle.mk_core.specs.declared.events.Event.{Event}
-use Rattle.mk_core.specs.declared.events.Step.{Step}
-use Rattle.mk_core.specs.Cycles.{sweeps}
-use Rattle.mk_core.specs.Growing.{is_same_seat}
-use Rattle.mk_core.specs.History.{World, world_behind}
+use Rattle.mk_core.specs.{declared.config.Config.Config, declared.events.Seat.Seat, declared.events.Event.Event}
+use Rattle.mk_core.specs.{declared.events.Step.Step, Cycles.sweeps, Growing.is_same_seat, History.{World, world_behind}}
 use Rattle.mk_core.specs.Moments.{flight_of}
-use Rattle.mk_words.specs.States.{PassState, world_of}
-use Rattle.mk_words.specs.Steps.{Makes, moment_of}
+use Rattle.mk_words.specs.{States.{PassState, world_of}, Steps.{Makes, moment_of}}
 use Rattle.mk_turns.specs.Doing.{Does}
 use Rattle.mk_core.specs.declared.events.Step.TheVariants as step
 

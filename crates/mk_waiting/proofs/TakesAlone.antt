@@ -1,21 +1,14 @@
 -- Who waits for the turn, and takes it, only tries to take it.
 use Rattle.std.proofs.Common.{Bool, List, Option, ap, false, if◌then◌else◌, not, refl, subst, sym, true, [], ⊎_elim}
-use Rattle.std.proofs.Common.{◌&&◌, ◌∙◌, ◌∷◌, ◌≡◌}
-use Rattle.std.proofs.lemmas.Bool.{and_from, and_parts, not-true, or_cases}
+use Rattle.std.proofs.{Common.{◌&&◌, ◌∙◌, ◌∷◌, ◌≡◌}, lemmas.Bool.{and_from, and_parts, not-true, or_cases}}
 use Rattle.std.specs.List.{list_all}
 use Rattle.mk_never.specs.declared.operations.Op.{Op}
-use Rattle.mk_core.specs.Growing.{Finding, is_one_of, is_same_seat, own_from}
-use Rattle.mk_core.specs.Accesses.{found}
-use Rattle.mk_core.specs.History.{World, world_behind}
-use Rattle.mk_core.specs.declared.events.Event.{Event}
-use Rattle.mk_core.specs.declared.events.Seat.{Seat}
+use Rattle.mk_core.specs.{Growing.{Finding, is_one_of, is_same_seat, own_from}, Accesses.found}
+use Rattle.mk_core.specs.{History.{World, world_behind}, declared.events.Event.Event, declared.events.Seat.Seat}
 use Rattle.mk_core.specs.declared.events.Step.{Step}
-use Rattle.mk_turns.proofs.Doing.{does_step, does_then, not_own}
-use Rattle.mk_turns.specs.Doing.{AreOwnOrOfOthers, Does, are_of}
+use Rattle.mk_turns.{proofs.Doing.{does_step, does_then, not_own}, specs.Doing.{AreOwnOrOfOthers, Does, are_of}}
 use Rattle.mk_waiting.specs.Taking.{TakesTurn, is_take, waits_for}
-use Rattle.mk_words.proofs.Seats.{not_both, same_seat, same_self}
-use Rattle.mk_words.specs.Seats.{Has}
-use Rattle.mk_words.specs.States.{PassState, world_of}
+use Rattle.mk_words.{proofs.Seats.{not_both, same_seat, same_self}, specs.{Seats.Has, States.{PassState, world_of}}}
 
 -- Its own events are takes.
 pub own_take : (p : PassState) (e : Event) → Has p.seats p.seat → waits_for p e ≡ true

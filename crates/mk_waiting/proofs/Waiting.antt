@@ -1,17 +1,12 @@
 -- Waiting for the turn, a try after the other.
 use Rattle.std.proofs.Common.{Bool, List, Option, ap, append-nil, append_assoc, false, not, refl, subst, sym, true, []}
-use Rattle.std.proofs.Common.{◌&&◌, ◌++◌, ◌||◌, ◌∙◌, ◌∷◌, ◌≡◌}
-use Rattle.std.proofs.lemmas.Bool.{and_from}
+use Rattle.std.{proofs.{Common.{◌&&◌, ◌++◌, ◌||◌, ◌∙◌, ◌∷◌, ◌≡◌}, lemmas.Bool.and_from}, specs.List.{list_all}}
 use Rattle.std.proofs.lemmas.List.Folds.{list_all-append}
-use Rattle.std.specs.List.{list_all}
 use Rattle.mk_never.specs.declared.operations.Op.{Op}
-use Rattle.mk_core.specs.Growing.{AreOfOthers, is_one_of, is_same_seat}
-use Rattle.mk_core.specs.declared.events.Event.{Event}
+use Rattle.mk_core.specs.{Growing.{AreOfOthers, is_one_of, is_same_seat}, declared.events.Event.Event}
 use Rattle.mk_core.specs.declared.events.Step.{Step}
 use Rattle.mk_waiting.specs.Taking.{TakesTurn, Waits, is_take, waits_for}
-use Rattle.mk_words.proofs.Seats.{same_self}
-use Rattle.mk_words.specs.States.{PassState, event_of}
-use Rattle.mk_words.specs.Steps.{Makes}
+use Rattle.mk_words.{proofs.Seats.{same_self}, specs.{States.{PassState, event_of}, Steps.Makes}}
 
 -- the list of a pass that made a step
 pub joined_lists : (p q r : PassState) (first : List Event) (s : Step) → q ≡ record p { seen = p.seen ++ first }

@@ -1,14 +1,9 @@
 -- Waiting for the turn, and taking it.
-use Rattle.std.specs.Prelude.{◌≡◌, Bool, true, false, not, ◌&&◌, ◌||◌, List, ◌++◌, Option}
-use Rattle.std.specs.List.{list_all}
+use Rattle.std.specs.{Prelude.{◌≡◌, Bool, true, false, not, ◌&&◌, ◌||◌, List, ◌++◌, Option}, List.list_all}
 use Rattle.mk_never.specs.declared.operations.Op.{Op}
-use Rattle.mk_core.specs.declared.events.Event.{Event}
-use Rattle.mk_core.specs.declared.events.Step.{Step}
-use Rattle.mk_core.specs.Counts.{TalliesAreExact, TalliesAreTidy}
-use Rattle.mk_core.specs.Growing.{is_one_of, is_same_seat}
-use Rattle.mk_words.specs.States.{PassState, TurnState}
-use Rattle.mk_words.specs.Steps.{Finds}
-use Rattle.mk_words.specs.TurnSteps.{IsFresh}
+use Rattle.mk_core.specs.{declared.events.Event.Event, declared.events.Step.Step}
+use Rattle.mk_core.specs.{Counts.{TalliesAreExact, TalliesAreTidy}, Growing.{is_one_of, is_same_seat}}
+use Rattle.mk_words.specs.{States.{PassState, TurnState}, Steps.Finds, TurnSteps.IsFresh}
 use Rattle.mk_core.specs.declared.events.Step.TheVariants as step
 
 abbrev pub is_take : Step → Bool

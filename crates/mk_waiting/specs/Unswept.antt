@@ -1,8 +1,7 @@
 -- Who waits for the turn marks nothing.
 use Rattle.std.specs.Prelude.{Option}
 use Rattle.mk_never.specs.declared.operations.Op.{Op}
-use Rattle.mk_words.specs.Seats.{Has}
-use Rattle.mk_words.specs.States.{PassState}
+use Rattle.mk_words.specs.{Seats.Has, States.PassState}
 use Rattle.mk_turns.specs.Sweeping.{SweepsNothing}
 use Rattle.mk_waiting.specs.Taking.{TakesTurn}
 

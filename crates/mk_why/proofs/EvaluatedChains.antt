@@ -2,14 +2,10 @@
 use Rattle.mk_why.proofs.Vocabulary.{Config, IsWhy, Register, Root, World, word_of_root}
 use Rattle.mk_laws.proofs.Vocabulary.{Bool, List, None, Some, ℕ, arith, false, false≢true, leb-true, ltb-true, refl}
 use Rattle.mk_laws.proofs.Vocabulary.{small, subst, true, zero, [], ◌∷◌, ◌≡◌}
-use Rattle.mk_core.proofs.ListTests.{list_all-at, numbered_all}
-use Rattle.mk_core.proofs.Schedules.{by, c0, host, pointer_page}
-use Rattle.mk_core.proofs.SmallCycles.{begun_in_stop, marked_in_stop, three_objects}
-use Rattle.mk_core.proofs.MoreSchedules.{exchanged}
+use Rattle.mk_core.proofs.{ListTests.{list_all-at, numbered_all}, Schedules.{by, c0, host, pointer_page}}
+use Rattle.mk_core.proofs.{SmallCycles.{begun_in_stop, marked_in_stop, three_objects}, MoreSchedules.exchanged}
 use Rattle.mk_core.proofs.TouchedTests.{is_into_members, points_into}
-use Rattle.mk_core.specs.Bounded.{all_below}
-use Rattle.mk_core.specs.Cells.{pointed_cell}
-use Rattle.mk_core.specs.History.{left_from}
+use Rattle.mk_core.specs.{Bounded.all_below, Cells.pointed_cell, History.left_from}
 use Rattle.mk_sweep.proofs.EvaluatedSwept.{all_into, stopped, swept_in_stop, two_unreached, unreached}
 use Rattle.mk_why.specs.Chains.{IsChain, NoneIsShorter}
 

@@ -3,20 +3,15 @@ use Rattle.mk_why.proofs.Vocabulary.{AreOfKept, Cell, Config, IsHistory, IsListe
 use Rattle.mk_why.proofs.Vocabulary.{PlacedAllocation, Storage, Tables, View, WordsState, base_at, cell_of_allocation}
 use Rattle.mk_why.proofs.Vocabulary.{entry_at, first_word, has_bit, header_at, header_in, header_of, is_kept}
 use Rattle.mk_why.proofs.Vocabulary.{never_behind, now_of, placed_at, storage_words, view_by, words_under, world_in}
-use Rattle.mk_why.proofs.Vocabulary.{world_of}
-use Rattle.mk_why.specs.Listing.{IsKeptAt}
+use Rattle.mk_why.{proofs.Vocabulary.{world_of}, specs.Listing.{IsKeptAt}}
 use Rattle.mk_laws.proofs.Vocabulary.{Bool, Invariant, List, None, Option, Some, ℕ, and_from, and_parts, ap, arith}
 use Rattle.mk_laws.proofs.Vocabulary.{cases_eq, cases_lt, cell_words, cells_begin, cells_under, false, get_or-set_other}
 use Rattle.mk_laws.proofs.Vocabulary.{get_or-set_same, inl, inr, is_cycling, is_marked, length, length-set, not}
 use Rattle.mk_laws.proofs.Vocabulary.{not-true, refl, slice_index, slice_set, subst, sym, true, typed_size}
 use Rattle.mk_laws.proofs.Vocabulary.{words_within, ◌&&◌, ◌*◌, ◌+◌, ◌/◌, ◌<◌, ◌^◌, ◌∙◌, ◌≡◌, ◌≢◌}
-use Rattle.mk_laws.proofs.InvariantHistories.{histories_keep_the_invariant}
-use Rattle.mk_laws.proofs.InvariantTheorems.{allocations_stand}
-use Rattle.mk_laws.proofs.KnownWorlds.{known_world}
-use Rattle.mk_laws.proofs.ReadingsStands.{freed_cell}
-use Rattle.mk_laws.specs.SettledPages.{StandsUsed}
-use Rattle.mk_core.proofs.PointedAllocations.{marked_where_its_cell_is}
-use Rattle.mk_core.proofs.StandingAllocations.{cell_is_known}
+use Rattle.mk_laws.proofs.{InvariantHistories.histories_keep_the_invariant, InvariantTheorems.allocations_stand}
+use Rattle.mk_laws.{proofs.{KnownWorlds.known_world, ReadingsStands.freed_cell}, specs.SettledPages.{StandsUsed}}
+use Rattle.mk_core.proofs.{PointedAllocations.marked_where_its_cell_is, StandingAllocations.cell_is_known}
 use Rattle.mk_core.specs.ClosedMarks.{is_marked_allocation}
 use Rattle.mk_cycle.specs.FinishCycle.{is_in_snapshot_of_cycle}
 

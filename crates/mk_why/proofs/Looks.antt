@@ -1,43 +1,26 @@
 -- Looks leave the view as it is, and so does what others do in the stop; after an engine's marks they leave its law.
-use Rattle.std.proofs.lemmas.List.Sums.{sum_by-append, sum_by-cons}
-use Rattle.std.proofs.Common.{count_by}
-use Rattle.std.proofs.lemmas.List.{append_cancel_left}
-use Rattle.mk_why.proofs.Vocabulary.{Config, Event, IsHistory, IsStill, LooksWhileStill, PassState, PlacedAllocation, TurnState}
-use Rattle.mk_why.proofs.Vocabulary.{View, Words, World, is_word, left, now_of, others_are_held, phase_of, view_by}
-use Rattle.mk_why.proofs.Vocabulary.{view_of}
-use Rattle.mk_why.specs.Stops.{is_look}
+use Rattle.std.proofs.{lemmas.List.Sums.{sum_by-append, sum_by-cons}, Common.count_by, lemmas.List.append_cancel_left}
+use Rattle.mk_why.proofs.Vocabulary.{Config, Event, IsHistory, IsStill, LooksWhileStill, PassState, PlacedAllocation}
+use Rattle.mk_why.proofs.Vocabulary.{TurnState, View, Words, World, is_word, left, now_of, others_are_held, phase_of}
+use Rattle.mk_why.{proofs.Vocabulary.{view_by, view_of}, specs.Stops.{is_look}}
 use Rattle.mk_laws.proofs.Vocabulary.{AreOfOthers, Bool, List, MarkerState, Moment, Step, TurnIsLeft, Word, ℕ}
 use Rattle.mk_laws.proofs.Vocabulary.{all_below, and_from, and_parts, ap, append_assoc, arith, cond, enabled_meets}
 use Rattle.mk_laws.proofs.Vocabulary.{eq-eqb, false, has_closed_page, is_attending, lt-ltb, none_attends, not, not-true}
 use Rattle.mk_laws.proofs.Vocabulary.{outside, page_at_address, refl, roots_point_well, slice_index_or, suc, true, zero}
-use Rattle.mk_laws.proofs.Vocabulary.{[], ◌&&◌, ◌++◌, ◌+◌, ◌∙◌, ◌∷◌, ◌≡◌}
-use Rattle.mk_laws.proofs.ProtocolFrames.{others_leave}
+use Rattle.mk_laws.proofs.{Vocabulary.{[], ◌&&◌, ◌++◌, ◌+◌, ◌∙◌, ◌∷◌, ◌≡◌}, ProtocolFrames.others_leave}
 use Rattle.mk_laws.proofs.Tests.{none_from}
-use Rattle.mk_core.specs.Frames.{written_of}
-use Rattle.mk_core.specs.Growing.{Finding}
-use Rattle.mk_core.specs.Readings.{NoneAttends}
-use Rattle.mk_cycle.proofs.KeptInParts.{free_then, keeps_at_once, keeps_then}
-use Rattle.mk_cycle.proofs.Allowed.{in_turn_before}
-use Rattle.mk_cycle.proofs.CleaningSteps.{calm_keeps}
-use Rattle.mk_cycle.proofs.MayAct.{calm_admitted}
-use Rattle.mk_cycle.specs.Kinds.{closes_marks, is_want}
-use Rattle.mk_cycle.specs.TurnKeeps.{InTurn, LeavesTurn, but_phase}
+use Rattle.mk_core.specs.{Frames.written_of, Growing.Finding, Readings.NoneAttends}
+use Rattle.mk_cycle.proofs.{KeptInParts.{free_then, keeps_at_once, keeps_then}, Allowed.in_turn_before}
+use Rattle.mk_cycle.proofs.{CleaningSteps.calm_keeps, MayAct.calm_admitted}
+use Rattle.mk_cycle.specs.{Kinds.{closes_marks, is_want}, TurnKeeps.{InTurn, LeavesTurn, but_phase}}
 use Rattle.mk_cycle.specs.EngineLaw.{ClosesMarks, IsFreeForCycle}
 use Rattle.mk_sweep.proofs.Kept.{ready_of}
-use Rattle.mk_tracing.proofs.Stilled.{none_after, phase_there, words_left}
-use Rattle.mk_tracing.proofs.Closes.{marks_closed_now}
-use Rattle.mk_tracing.proofs.MaySteps.{may_look}
-use Rattle.mk_tracing.proofs.Steps.{may_step}
-use Rattle.mk_tracing.specs.Stops.{IsWanted}
-use Rattle.mk_turns.proofs.Doing.{does_nothing, does_step, does_then, done_in_parts}
-use Rattle.mk_turns.proofs.PointedCells.{looked_for}
-use Rattle.mk_turns.proofs.Sweeping.{does_sweep, sweeps_then}
-use Rattle.mk_turns.specs.Sweeping.{HaveNoMark, SweepsNothing}
-use Rattle.mk_turns.specs.Doing.{Does, are_of, count_done, done_in}
-use Rattle.mk_turns.specs.Pointing.{LooksForCell, MayLookAtHeaders}
-use Rattle.mk_words.proofs.Seats.{others_own}
-use Rattle.mk_words.specs.Steps.{IsAdmittedTo, IsEnabledTo}
-use Rattle.mk_words.specs.TurnSteps.{Acts}
+use Rattle.mk_tracing.proofs.{Stilled.{none_after, phase_there, words_left}, Closes.marks_closed_now, MaySteps.may_look}
+use Rattle.mk_tracing.{proofs.Steps.{may_step}, specs.Stops.{IsWanted}}
+use Rattle.mk_turns.proofs.{Doing.{does_nothing, does_step, does_then, done_in_parts}, PointedCells.looked_for}
+use Rattle.mk_turns.{proofs.Sweeping.{does_sweep, sweeps_then}, specs.Pointing.{LooksForCell, MayLookAtHeaders}}
+use Rattle.mk_turns.specs.{Sweeping.{HaveNoMark, SweepsNothing}, Doing.{Does, are_of, count_done, done_in}}
+use Rattle.mk_words.{proofs.Seats.{others_own}, specs.{Steps.{IsAdmittedTo, IsEnabledTo}, TurnSteps.Acts}}
 
 -- Looks leave the view as it is, and so does what others do in the stop.
 

@@ -1,9 +1,7 @@
 -- Chains followed back, and the entries of the kept allocations.
 use Rattle.std.proofs.lemmas.List.{get_or_read_under, length-reverse, reverse-append}
 use Rattle.std.proofs.lemmas.List.Elements.{Contains-append_left, Contains-push, Contains-push_cases}
-use Rattle.std.proofs.Common.{length-append, reverse}
-use Rattle.std.proofs.Math.ListN.{get_or-append}
-use Rattle.std.proofs.Math.Seq.{get_or-append_seam}
+use Rattle.std.proofs.{Common.{length-append, reverse}, Math.ListN.get_or-append, Math.Seq.get_or-append_seam}
 use Rattle.std.specs.List.Sorted.{IsStrictlyIncreasing}
 use Rattle.mk_why.proofs.Vocabulary.{AreEntriesBelow, AreWays, BeginApart, Config, Found, IsLedBack, IsTold, IsWay}
 use Rattle.mk_why.proofs.Vocabulary.{IsWhy, Link, LinksLead, Root, Start, Storage, View, base_at, entry_at, is_kept}
@@ -11,13 +9,9 @@ use Rattle.mk_why.proofs.Vocabulary.{is_scanned_allocation, placed_at, world_in}
 use Rattle.mk_laws.proofs.Vocabulary.{List, None, Option, Some, ℕ, and_parts, ap, arith, cases_lt, false, inl, inr}
 use Rattle.mk_laws.proofs.Vocabulary.{is_some, length, length-map, lt-ltb, map, map-append, not-true, refl, slice_index}
 use Rattle.mk_laws.proofs.Vocabulary.{slice_index_or, subst, sym, true, true≢false, [], ◌*◌, ◌++◌, ◌+◌, ◌<◌, ◌∙◌, ◌∷◌}
-use Rattle.mk_laws.proofs.Vocabulary.{◌≡◌}
-use Rattle.mk_laws.proofs.MappedWords.{mapped_stays}
+use Rattle.mk_laws.proofs.{Vocabulary.◌≡◌, MappedWords.mapped_stays}
 use Rattle.mk_why.specs.Entries.{IsLed, IsMadeOf, IsOneMore, IsToldWhy, IsWayOf, back_to, root_of, step_back}
-use Rattle.mk_why.specs.Chains.{IsEntryOf}
-use Rattle.mk_why.specs.Listing.{IsKeptAt}
-use Rattle.mk_why.specs.declared.found.Way.{Way}
-use Rattle.mk_why.specs.declared.kept.Kept.{Kept}
+use Rattle.mk_why.specs.{Chains.IsEntryOf, Listing.IsKeptAt, declared.found.Way.Way, declared.kept.Kept.Kept}
 
 -- what is read of a table
 pub read_at : {A : Type 0} → (xs : List (Option A)) (i : ℕ) (o : Option A) → o ≡ slice_index_or xs i o → i < length xs

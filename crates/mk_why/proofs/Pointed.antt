@@ -7,12 +7,9 @@ use Rattle.mk_why.proofs.Vocabulary.{storage_of, storage_words, used_at, view_by
 use Rattle.mk_laws.proofs.Vocabulary.{IsSettled, None, Option, Some, ℕ, and_parts, ap, arith, cells_begin, false}
 use Rattle.mk_laws.proofs.Vocabulary.{has_no_pointers, inr, ne_eqb, not, pointed_cell, subst, sym, true, true≢false}
 use Rattle.mk_laws.proofs.Vocabulary.{typed_size, words_within, ◌*◌, ◌+◌, ◌/◌, ◌<◌, ◌∙◌, ◌≡◌, ◌≤◌}
-use Rattle.mk_laws.proofs.InvariantTheorems.{allocations_are_disjoint, allocations_stand}
-use Rattle.mk_laws.proofs.Worlds.{Told, comes_back, hits}
-use Rattle.mk_laws.proofs.InvariantHistories.{histories_keep_the_invariant}
-use Rattle.mk_laws.proofs.KnownWorlds.{known_world}
-use Rattle.mk_laws.proofs.MappedWords.{mapped_stays}
-use Rattle.mk_laws.proofs.Settled.{gone_is_unmapped, unreleased_are_apart}
+use Rattle.mk_laws.proofs.{InvariantTheorems.{allocations_are_disjoint, allocations_stand}, Worlds.{Told, comes_back}}
+use Rattle.mk_laws.proofs.{Worlds.hits, InvariantHistories.histories_keep_the_invariant, KnownWorlds.known_world}
+use Rattle.mk_laws.proofs.{MappedWords.mapped_stays, Settled.{gone_is_unmapped, unreleased_are_apart}}
 use Rattle.mk_core.specs.Cells.{is_used}
 use Rattle.mk_laws.specs.SettledPages.{StandsUsed}
 use Rattle.mk_sweep.proofs.ScannedCells.{scanned_stands, used_cell, used_is_taken}

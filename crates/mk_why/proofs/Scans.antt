@@ -1,6 +1,5 @@
 -- What scans find, and that what is said of a view is said of its world.
-use Rattle.std.proofs.lemmas.List.{get_or_read_under}
-use Rattle.std.proofs.lemmas.List.Sums.{count_by-le-length}
+use Rattle.std.proofs.{lemmas.List.get_or_read_under, lemmas.List.Sums.count_by-le-length}
 use Rattle.mk_why.proofs.Vocabulary.{AreEntriesBelow, Config, Found, IsFirstWord, IsFoundThrough, IsNoted, IsSearch}
 use Rattle.mk_why.proofs.Vocabulary.{IsSearched, IsTold, IsWhy, LinksLead, Root, Storage, Tables, View, Words, World}
 use Rattle.mk_why.proofs.Vocabulary.{base_at, entry_at, is_scanned_allocation, links_in, links_of, placed_at}
@@ -8,8 +7,7 @@ use Rattle.mk_why.proofs.Vocabulary.{storage_words, view_of, word_of_root, world
 use Rattle.mk_laws.proofs.Vocabulary.{List, None, Option, Some, ℕ, ap, arith, cases_lt, get_or_past, length}
 use Rattle.mk_laws.proofs.Vocabulary.{slice_index, slice_index_or, subst, sym, true, [], ◌+◌, ◌-◌, ◌<◌, ◌∙◌, ◌∷◌, ◌≡◌}
 use Rattle.mk_laws.proofs.Vocabulary.{◌≤◌}
-use Rattle.mk_why.specs.Chains.{AreKept, IsChain, IsEntryOf}
-use Rattle.mk_why.specs.declared.kept.Kept.{Kept}
+use Rattle.mk_why.specs.{Chains.{AreKept, IsChain, IsEntryOf}, declared.kept.Kept.Kept}
 
 -- What is done after the scan of an allocation's words.
 

@@ -1,14 +1,11 @@
 -- What is told after the looks, whatever others do.
 use Rattle.mk_why.proofs.Vocabulary.{AreOfKept, BeginApart, Config, Event, Found, IsHistory, IsListed, IsTold, ListsOn}
-use Rattle.mk_why.proofs.Vocabulary.{LooksWhileStill, PassState, Storage, Tables, TurnState, View, WordsState, World, base_at}
-use Rattle.mk_why.proofs.Vocabulary.{is_kept, left, now_of, others_are_held, view_by, view_of, world_in, world_of}
-use Rattle.mk_why.proofs.Looks.{others_still}
+use Rattle.mk_why.proofs.Vocabulary.{LooksWhileStill, PassState, Storage, Tables, TurnState, View, WordsState, World}
+use Rattle.mk_why.proofs.Vocabulary.{base_at, is_kept, left, now_of, others_are_held, view_by, view_of, world_in}
+use Rattle.mk_why.{proofs.{Vocabulary.world_of, Looks.others_still}, specs.{Searching.IsExplored, Stops.IsToldBefore}}
 use Rattle.mk_laws.proofs.Vocabulary.{List, Option, ℕ, ap, append-nil, subst, sym, true, [], ◌++◌, ◌∙◌, ◌≡◌}
 use Rattle.mk_core.specs.Growing.{AreOfOthers}
-use Rattle.mk_cycle.specs.Telling.{IsToldOf}
-use Rattle.mk_cycle.specs.TurnKeeps.{InTurn}
-use Rattle.mk_why.specs.Searching.{IsExplored}
-use Rattle.mk_why.specs.Stops.{IsToldBefore}
+use Rattle.mk_cycle.specs.{Telling.IsToldOf, TurnKeeps.InTurn}
 
 -- the two tables, of the view after the engine's marks
 pub told_by : {k : Config} {t u : TurnState} (a : Tables) {b d : Tables} → LooksWhileStill t u

@@ -3,21 +3,15 @@ pub use Rattle.mk_laws.proofs.Vocabulary.{PlacedAllocation, cell_of_allocation, 
 pub use Rattle.mk_laws.proofs.Vocabulary.{storage_words, has_bit, first_word, header_in, words_under, IsHistory, World}
 pub use Rattle.mk_laws.proofs.Vocabulary.{left, never_behind, others_are_held, object_placed, Words, header_at}
 pub use Rattle.mk_laws.proofs.Vocabulary.{phase_of, used_at, Config, Event, header_of, Cell}
-pub use Rattle.mk_core.specs.ClosedMarks.{is_scanned_allocation}
-pub use Rattle.mk_core.specs.Ranges.{is_word}
-pub use Rattle.mk_core.specs.Touched.{PointsIntoAllocation}
+pub use Rattle.mk_core.specs.{ClosedMarks.is_scanned_allocation, Ranges.is_word, Touched.PointsIntoAllocation}
 pub use Rattle.mk_core.specs.Words.{named_word}
 pub use Rattle.mk_tracing.specs.Stops.{is_still_word, still_words}
-pub use Rattle.mk_why.specs.Chains.{IsWhy, LinksLead, is_kept, word_of_root}
-pub use Rattle.mk_why.specs.Entries.{AreEntriesBelow, IsLedBack}
-pub use Rattle.mk_why.specs.Listing.{AreOfKept, IsListed, IsTold, ListsOn}
-pub use Rattle.mk_why.specs.Searching.{AreWays, BeginApart, FindsMore, IsFirstWord, IsFound, IsFoundThrough, IsNoted}
-pub use Rattle.mk_why.specs.Searching.{IsSearch, IsSearched, IsWay, SearchesOn, entry_at, links_in, links_of}
-pub use Rattle.mk_why.specs.Stops.{IsStill, LooksWhileStill, View, base_at, view_by, view_of, world_in}
-pub use Rattle.mk_why.specs.declared.found.Found.{Found}
-pub use Rattle.mk_why.specs.declared.found.Storage.{Storage}
-pub use Rattle.mk_why.specs.declared.found.Way.TheVariants.{Link, Start}
-pub use Rattle.mk_why.specs.declared.kept.Root.{Root}
-pub use Rattle.mk_why.specs.declared.kept.Root.TheVariants.{Global, Register}
+pub use Rattle.mk_why.specs.{Chains.{IsWhy, LinksLead, is_kept, word_of_root}, Entries.{AreEntriesBelow, IsLedBack}}
+pub use Rattle.mk_why.specs.{Listing.{AreOfKept, IsListed, IsTold, ListsOn}, Searching.{AreWays, BeginApart, FindsMore}}
+pub use Rattle.mk_why.specs.Searching.{IsFirstWord, IsFound, IsFoundThrough, IsNoted, IsSearch, IsSearched, IsWay}
+pub use Rattle.mk_why.specs.{Searching.{SearchesOn, entry_at, links_in, links_of}, Stops.{IsStill, LooksWhileStill}}
+pub use Rattle.mk_why.specs.{Stops.{View, base_at, view_by, view_of, world_in}, declared.found.Found.Found}
+pub use Rattle.mk_why.specs.{declared.found.Storage.Storage, declared.found.Way.TheVariants.{Link, Start}}
+pub use Rattle.mk_why.specs.{declared.kept.Root.Root, declared.kept.Root.TheVariants.{Global, Register}}
 pub use Rattle.mk_why.specs.declared.tables.Tables.{Tables}
 pub use Rattle.mk_words.specs.States.{PassState, TurnState, WordsState, now_of, world_of}

@@ -1,19 +1,12 @@
 -- Chains: how words lead from a root to an allocation, at the close of the marks.
 use Rattle.std.specs.Prelude.{◌≡◌, ℕ, ◌<◌, ◌≤◌, Bool, true, ◌&&◌, List, [], ◌∷◌, length, map, slice_index, Option, Some}
-use Rattle.std.specs.Prelude.{None}
-use Rattle.std.specs.List.{Contains}
-use Rattle.std.specs.List.Sorted.{IsStrictlyIncreasing}
-use Rattle.mk_geom.specs.Addresses.{address_of}
-use Rattle.mk_geom.specs.StorageWords.{IsWordOf}
-use Rattle.mk_core.specs.declared.config.Config.{Config}
-use Rattle.mk_core.specs.Allocations.{placed_at, storage_of, storage_words}
-use Rattle.mk_core.specs.ClosedMarks.{is_marked_allocation, is_scanned_allocation}
-use Rattle.mk_core.specs.History.{World}
-use Rattle.mk_core.specs.Touched.{PointsIntoAllocation}
-use Rattle.mk_core.specs.Words.{Words, register_word}
+use Rattle.std.specs.{Prelude.None, List.Contains, List.Sorted.IsStrictlyIncreasing}
+use Rattle.mk_geom.specs.{Addresses.address_of, StorageWords.IsWordOf}
+use Rattle.mk_core.specs.{declared.config.Config.Config, Allocations.{placed_at, storage_of, storage_words}}
+use Rattle.mk_core.specs.{ClosedMarks.{is_marked_allocation, is_scanned_allocation}, History.World}
+use Rattle.mk_core.specs.{Touched.PointsIntoAllocation, Words.{Words, register_word}}
 use Rattle.mk_cycle.specs.FinishCycle.{is_in_snapshot_of_cycle}
-use Rattle.mk_why.specs.declared.kept.Kept.{Kept}
-use Rattle.mk_why.specs.declared.kept.Root.{Root}
+use Rattle.mk_why.specs.{declared.kept.Kept.Kept, declared.kept.Root.Root}
 use Rattle.mk_why.specs.declared.kept.Root.TheVariants.{Register, Global}
 
 -- A root is a register of a caller that there is, or a global.

@@ -1,19 +1,13 @@
 -- Chains, followed back through the tables, and the entries that are made of them. Private functions alone cite these
 -- words.
 use Rattle.std.specs.Prelude.{◌≡◌, ℕ, ◌+◌, ◌*◌, ◌<◌, true, List, [], ◌∷◌, ◌++◌, length, map, nat_lt, reverse}
-use Rattle.std.specs.Prelude.{slice_index, Option, Some, None, ⊤, if◌then◌else◌}
-use Rattle.std.specs.List.{Contains}
+use Rattle.std.specs.{Prelude.{slice_index, Option, Some, None, ⊤, if◌then◌else◌}, List.Contains}
 use Rattle.std.specs.List.Sorted.{IsStrictlyIncreasing}
 use Rattle.mk_core.specs.declared.config.Config.{Config}
-use Rattle.mk_why.specs.declared.found.Found.{Found}
-use Rattle.mk_why.specs.declared.found.Storage.{Storage}
-use Rattle.mk_why.specs.declared.found.Way.{Way}
-use Rattle.mk_why.specs.declared.found.Way.TheVariants.{Link, Start}
-use Rattle.mk_why.specs.declared.kept.Kept.{Kept}
-use Rattle.mk_why.specs.declared.kept.Root.{Root}
-use Rattle.mk_why.specs.Chains.{IsChain, IsEntryOf, LinksLead, is_kept}
-use Rattle.mk_why.specs.Searching.{BeginApart, AreWays, IsWay, entry_at}
-use Rattle.mk_why.specs.Stops.{View, base_at, world_in}
+use Rattle.mk_why.specs.{declared.found.Found.Found, declared.found.Storage.Storage, declared.found.Way.Way}
+use Rattle.mk_why.specs.{declared.found.Way.TheVariants.{Link, Start}, declared.kept.Kept.Kept, declared.kept.Root.Root}
+use Rattle.mk_why.specs.{Chains.{IsChain, IsEntryOf, LinksLead, is_kept}, Searching.{BeginApart, AreWays, IsWay}}
+use Rattle.mk_why.specs.{Searching.entry_at, Stops.{View, base_at, world_in}}
 
 -- one link back, and how the allocation was found that has it
 

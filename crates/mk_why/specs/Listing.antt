@@ -1,14 +1,9 @@
 -- The kept allocations of a view, in a table. `Why` cites `IsTold`; all other words private functions alone cite.
 use Rattle.std.specs.Prelude.{◌≡◌, ℕ, true, List, length, Option, Some}
 use Rattle.mk_geom.specs.Addresses.{address_of}
-use Rattle.mk_core.specs.declared.config.Config.{Config}
-use Rattle.mk_core.specs.Allocations.{placed_at, storage_words}
-use Rattle.mk_why.specs.declared.found.Found.{Found}
-use Rattle.mk_why.specs.declared.found.Storage.{Storage}
-use Rattle.mk_why.specs.declared.tables.Tables.{Tables}
-use Rattle.mk_why.specs.Chains.{is_kept}
-use Rattle.mk_why.specs.Searching.{BeginApart, IsExplored, entry_at}
-use Rattle.mk_why.specs.Stops.{View, base_at, world_in}
+use Rattle.mk_core.specs.{declared.config.Config.Config, Allocations.{placed_at, storage_words}}
+use Rattle.mk_why.specs.{declared.found.Found.Found, declared.found.Storage.Storage, declared.tables.Tables.Tables}
+use Rattle.mk_why.specs.{Chains.is_kept, Searching.{BeginApart, IsExplored, entry_at}, Stops.{View, base_at, world_in}}
 
 -- The allocation is kept, and this is its storage.
 pub record IsStorageOf (c : Config) (v : View) (b : ℕ) (s : Storage) : Type 0 where

@@ -1,21 +1,14 @@
 -- The search for chains, breadth first: what its tables say of a view. Private functions alone cite these words.
-use Rattle.std.specs.Prelude.{◌≡◌, ℕ, ◌+◌, ◌-◌, ◌*◌, ◌/◌, ◌%◌, ◌<◌, ◌≤◌, nat_lt, if◌then◌else◌, true, false, List, length, slice_index, slice_index_or}
-use Rattle.std.specs.Prelude.{Option, Some, None}
+use Rattle.std.specs.Prelude.{◌≡◌, ℕ, ◌+◌, ◌-◌, ◌*◌, ◌/◌, ◌%◌, ◌<◌, ◌≤◌, nat_lt, if◌then◌else◌, true, false, List}
+use Rattle.std.specs.Prelude.{length, slice_index, slice_index_or, Option, Some, None}
 use Rattle.mk_geom.specs.StorageWords.{IsWordOf}
-use Rattle.mk_core.specs.declared.config.Config.{Config}
-use Rattle.mk_core.specs.declared.events.Word.{Word}
-use Rattle.mk_core.specs.Allocations.{placed_at, storage_of}
-use Rattle.mk_core.specs.ClosedMarks.{is_scanned_allocation}
-use Rattle.mk_core.specs.Touched.{PointsIntoAllocation}
+use Rattle.mk_core.specs.{declared.config.Config.Config, declared.events.Word.Word, Allocations.{placed_at, storage_of}}
+use Rattle.mk_core.specs.{ClosedMarks.is_scanned_allocation, Touched.PointsIntoAllocation}
 use Rattle.mk_words.specs.States.{TurnState}
-use Rattle.mk_why.specs.declared.found.Found.{Found}
-use Rattle.mk_why.specs.declared.found.Way.{Way}
-use Rattle.mk_why.specs.Stops.{world_in, LooksWhileStill, View, base_at, view_by}
-use Rattle.mk_why.specs.declared.found.Way.TheVariants.{Start, Link}
-use Rattle.mk_why.specs.declared.kept.Root.{Root}
-use Rattle.mk_why.specs.declared.kept.Root.TheVariants.{Global, Register}
-use Rattle.mk_why.specs.declared.tables.Tables.{Tables}
-use Rattle.mk_why.specs.Chains.{IsChain, IsLink, IsRoot, word_of_root}
+use Rattle.mk_why.specs.{declared.found.Found.Found, declared.found.Way.Way, Stops.{world_in, LooksWhileStill, View}}
+use Rattle.mk_why.specs.{Stops.{base_at, view_by}, declared.found.Way.TheVariants.{Start, Link}}
+use Rattle.mk_why.specs.{declared.kept.Root.Root, declared.kept.Root.TheVariants.{Global, Register}}
+use Rattle.mk_why.specs.{declared.tables.Tables.Tables, Chains.{IsChain, IsLink, IsRoot, word_of_root}}
 use Rattle.mk_core.specs.declared.events.Word.TheVariants as word
 
 -- what a table has for a heap word

@@ -1,8 +1,6 @@
 -- What contracts see of a `Why`.
 use Rattle.std.specs.Prelude.{◌≡◌, ℕ, List, Option, None}
-use Rattle.mk_why.specs.declared.found.Found.{Found}
-use Rattle.mk_why.specs.declared.found.Storage.{Storage}
-use Rattle.mk_why.specs.Searching.{entry_at}
+use Rattle.mk_why.specs.{declared.found.Found.Found, declared.found.Storage.Storage, Searching.entry_at}
 
 -- The engine inside, and by heap words how allocations were found, and the storage of those that are kept.
 pub record WhyState (E : Type 0) : Type 0 where

@@ -1,17 +1,12 @@
 -- What stays still in the stop, after the inner engine's marks. `Why` cites `view_of`, `IsToldBefore` and
 -- `IsClosedBefore`; all other words private functions alone cite.
 use Rattle.std.specs.Prelude.{◌≡◌, ℕ, Bool, true, false, List, []}
-use Rattle.mk_core.specs.declared.events.Step.{Step}
-use Rattle.mk_core.specs.declared.config.Config.{Config}
-use Rattle.mk_core.specs.Allocations.{PlacedAllocation, placed_at}
-use Rattle.mk_core.specs.History.{World}
-use Rattle.mk_core.specs.Moments.{nothing_done}
-use Rattle.mk_core.specs.Readings.{NoneAttends}
-use Rattle.mk_core.specs.Words.{Words}
+use Rattle.mk_core.specs.{declared.events.Step.Step, declared.config.Config.Config}
+use Rattle.mk_core.specs.{Allocations.{PlacedAllocation, placed_at}, History.World, Moments.nothing_done}
+use Rattle.mk_core.specs.{Readings.NoneAttends, Words.Words}
 use Rattle.mk_words.specs.States.{PassState, TurnState, now_of, world_of}
 use Rattle.mk_turns.specs.Doing.{Does}
-use Rattle.mk_cycle.specs.EngineLaw.{IsAtPhase, IsFreeForCycle}
-use Rattle.mk_cycle.specs.TurnKeeps.{LeavesTurn, but_phase}
+use Rattle.mk_cycle.specs.{EngineLaw.{IsAtPhase, IsFreeForCycle}, TurnKeeps.{LeavesTurn, but_phase}}
 use Rattle.mk_core.specs.declared.events.Step.TheVariants as step
 
 -- the words but the phase, and the allocations

@@ -1,10 +1,8 @@
 -- What chains lead to is swept: a sweep keeps whatever marking in the stop keeps.
 use Rattle.std.specs.Prelude.{ℕ, List}
-use Rattle.mk_core.specs.declared.config.Config.{Config}
-use Rattle.mk_core.specs.History.{World}
+use Rattle.mk_core.specs.{declared.config.Config.Config, History.World}
 use Rattle.mk_sweep.specs.Swept.{IsSwept}
-use Rattle.mk_why.specs.declared.kept.Root.{Root}
-use Rattle.mk_why.specs.Chains.{IsChain}
+use Rattle.mk_why.specs.{declared.kept.Root.Root, Chains.IsChain}
 
 abbrev pub ChainsAreSwept : Type 0
 ChainsAreSwept =

@@ -6,15 +6,13 @@ use Rattle.mk_laws.proofs.Vocabulary.{flight_of, found, get_or-set_other, get_or
 use Rattle.mk_laws.proofs.Vocabulary.{histories_keep_lengths, is_open_to, length, ltb-true, ne_eqb, one_if, onward}
 use Rattle.mk_laws.proofs.Vocabulary.{progress, progress_reg, refl, reg_access, register_met, register_word}
 use Rattle.mk_laws.proofs.Vocabulary.{seat_exists, slice_index, slice_set, still, subst, sym, true, word_accessed, ◌*◌}
-use Rattle.mk_laws.proofs.Vocabulary.{◌++◌, ◌+◌, ◌<◌, ◌==◌, ◌∙◌, ◌≡◌, ◌≢◌, ◌≤◌}
-use Rattle.mk_core.specs.{Calls.progress_cas, Effects.begins_where_free, Effects.moment_behind, Layout.IsOfTable}
+use Rattle.mk_laws.proofs.{Vocabulary.{◌++◌, ◌+◌, ◌<◌, ◌==◌, ◌∙◌, ◌≡◌, ◌≢◌, ◌≤◌}, NextSteps.at_enter}
+use Rattle.mk_laws.proofs.ProtocolHeldGates.{gates_tell_holds}
+use Rattle.mk_core.specs.{Calls.progress_cas, Effects.{begins_where_free, moment_behind}, Layout.IsOfTable}
 use Rattle.mk_core.specs.{Order.is_in_order, Words.with_named, declared.accesses.TableWord.TableWord}
-use Rattle.mk_laws.proofs.{NextSteps.at_enter, ProtocolHeldGates.gates_tell_holds}
-use Rattle.mk_words.proofs.Made.{made}
-use Rattle.mk_words.specs.CallSteps.{FindsHeld, KeepsOtherRegisters, LeavesRegisters, register_of}
-use Rattle.mk_words.specs.States.{PassState, call_of, event_of, now_of}
-use Rattle.mk_words.specs.Steps.{Finds, Goes, IsEnabledTo, Makes, Tells, found_by, moment_of}
-use Rattle.mk_words.specs.{Rule.told_by, Seats.is_caller}
+use Rattle.mk_words.{proofs.Made.{made}, specs.CallSteps.{FindsHeld, KeepsOtherRegisters, LeavesRegisters, register_of}}
+use Rattle.mk_words.specs.{States.{PassState, call_of, event_of, now_of}, Steps.{Finds, Goes, IsEnabledTo, Makes}}
+use Rattle.mk_words.specs.{Steps.{Tells, found_by, moment_of}, Rule.told_by, Seats.is_caller}
 
 -- a step of a call is its caller's
 pub is_callers : (s : Seat) → is_open_to s Group.Callers ≡ true → (k : ℕ) × (s ≡ Caller k)

@@ -3,10 +3,9 @@ use Rattle.std.proofs.{Common.count_ones, Math.Nat.add-mul-mod_self_left}
 use Rattle.mk_laws.proofs.Vocabulary.{AreOfPages, Config, Event, List, Named, Word, Words, ℕ, ap, arith}
 use Rattle.mk_laws.proofs.Vocabulary.{histories_keep_lengths, left, refl, slice_index, subst, suc, sym, zero, [], ◌%◌}
 use Rattle.mk_laws.proofs.Vocabulary.{◌+◌, ◌<◌, ◌^◌, ◌∙◌, ◌∷◌, ◌≡◌, ◌≤◌}
-use Rattle.mk_core.proofs.RegionLemmas.{words_stand}
-use Rattle.mk_core.specs.Layout.{IsOfTable, in_order, index_of, index_of_named}
-use Rattle.mk_core.specs.{Words.word_in, declared.accesses.TableWord.TableWord}
-use Rattle.mk_words.specs.{Finals.HasTallies, Finals.freed_bits_in, Finals.freed_cells, declared.finals.Final.Final}
+use Rattle.mk_core.{proofs.RegionLemmas.{words_stand}, specs.declared.accesses.TableWord.{TableWord}}
+use Rattle.mk_core.specs.{Layout.{IsOfTable, in_order, index_of, index_of_named}, Words.word_in}
+use Rattle.mk_words.specs.{Finals.{HasTallies, freed_bits_in, freed_cells}, declared.finals.Final.Final}
 use mathlib.Core.Option.{some, some-injective, some-ne-none}
 use lib.ListN.{get_elem?}
 

@@ -6,20 +6,19 @@ use Rattle.mk_laws.proofs.Vocabulary.{append-nil, append_assoc, enabled_meets, e
 use Rattle.mk_laws.proofs.Vocabulary.{histories_keep_lengths, left, left_more, refl, set-get_or, slice_index, slice_set}
 use Rattle.mk_laws.proofs.Vocabulary.{subst, suc, sym, true, word_accessed, zero, [], ◌++◌, ◌∙◌, ◌∷◌, ◌≡◌, ◌≢◌}
 use Rattle.mk_page_map.specs.KnownPages.{KnownPages}
-use Rattle.mk_core.proofs.{Histories.last_enabled, RegionLemmas.accesses_change, RegionLemmas.words_stand}
-use Rattle.mk_core.specs.History.{AreEnabledFrom, calls_from, left_from}
-use Rattle.mk_core.specs.{Cycles.is_give, Growing.AreOfOthers, Layout.IsOfTable, Layout.in_order, Layout.index_of}
-use Rattle.mk_core.specs.{Words.becomes, Words.word_in, Words.zero_words_of, declared.accesses.TableWord.TableWord}
+use Rattle.mk_core.proofs.{Histories.last_enabled, RegionLemmas.{accesses_change, words_stand}}
+use Rattle.mk_core.specs.{History.{AreEnabledFrom, calls_from, left_from}, Cycles.is_give, Growing.AreOfOthers}
+use Rattle.mk_core.specs.{Layout.{IsOfTable, in_order, index_of}, Words.{becomes, word_in, zero_words_of}}
+use Rattle.mk_core.specs.declared.accesses.TableWord.{TableWord}
 use Rattle.atomic_table.proofs.Lists.{at_set}
-use Rattle.atomic_table.specs.Table.{Allows, Final, Seen, State, Step as TableStep, keeps}
 use Rattle.mk_words.proofs.Seats.{has_either, has_left, has_right, not_both, others_append, others_fewer, others_nobody}
-use Rattle.mk_words.proofs.Seats.{others_none, others_one, others_own}
-use Rattle.mk_words.proofs.{FreeTurns.free_stays, FreeTurns.map_there, LongerLists.longer_lists, Overs.overs_later}
-use Rattle.mk_words.proofs.{Overs.overs_with, Overs.set_there, Tidy.none_tidy, Tidy.tidy_more, Tidy.tidy_part}
+use Rattle.mk_words.proofs.{Seats.{others_none, others_one, others_own}, FreeTurns.{free_stays, map_there}}
+use Rattle.mk_words.proofs.{LongerLists.longer_lists, Overs.{overs_later, overs_with, set_there}}
+use Rattle.mk_words.{proofs.Tidy.{none_tidy, tidy_more, tidy_part}, specs.declared.rule.View.{View}}
 use Rattle.mk_words.specs.Seats.{CallersAreBeforeOver, Has, HasAll, HasCallers, all_seats, is_over}
-use Rattle.mk_words.specs.{PageMaps.IsMapOf, PageMaps.is_handing, Rule.Adds, Rule.IsHome, Rule.Kept, Rule.Mine}
-use Rattle.mk_words.specs.{Rule.Sees, Rule.adds, Rule.first_view, Rule.no_part, Rule.part, Rule.seats_of, Rule.settles}
-use Rattle.mk_words.specs.{Rule.view, declared.rule.Part.Part, declared.rule.View.View}
+use Rattle.mk_words.specs.{PageMaps.{IsMapOf, is_handing}, Rule.{Adds, IsHome, Kept, Mine, Sees, adds, first_view}}
+use Rattle.mk_words.specs.{Rule.{no_part, part, seats_of, settles, view}, declared.rule.Part.Part}
+use Rattle.atomic_table.specs.Table.{Allows, Final, Seen, State, Step as TableStep, keeps}
 use mathlib.Core.Option.{Option as Maybe, some, some-injective, some-ne-none}
 use lib.ListN.{get_elem?}
 

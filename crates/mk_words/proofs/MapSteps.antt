@@ -4,17 +4,14 @@ use Rattle.mk_laws.proofs.Vocabulary.{Seat, Some, Step, Store, Tally, Word, Word
 use Rattle.mk_laws.proofs.Vocabulary.{cases_eq, earlier_part_is_history, enabled_meets, false, free_page}
 use Rattle.mk_laws.proofs.Vocabulary.{get_or-set_other, get_or-set_same, header_at, histories_keep_lengths, inl, inr}
 use Rattle.mk_laws.proofs.Vocabulary.{is_in_range, length, ltb-true, nat_lt, refl, slice_set, subst, sym, tally_word}
-use Rattle.mk_laws.proofs.Vocabulary.{true, [], ◌%◌, ◌++◌, ◌<◌, ◌^◌, ◌∙◌, ◌∷◌, ◌≡◌, ◌≢◌}
+use Rattle.mk_laws.proofs.{Vocabulary.{true, [], ◌%◌, ◌++◌, ◌<◌, ◌^◌, ◌∙◌, ◌∷◌, ◌≡◌, ◌≢◌}, SameWords.Behind}
 use Rattle.mk_page_map.specs.KnownPages.{KnownPages, Shows, is_uncleaned, with_header, with_used}
 use Rattle.mk_page_map.specs.Members.{IsNext, page_at}
-use Rattle.mk_laws.proofs.SameWords.{Behind}
-use Rattle.mk_words.proofs.FreeTurns.{map_left, map_stays, page_words}
-use Rattle.mk_words.proofs.TurnSteps.{acts, gates_still, still_turn, turn_stays_too}
-use Rattle.mk_words.proofs.{Made.own_before, Seats.others_own, Unmarked.is_mark, Unmarked.stays_unmarked}
-use Rattle.mk_words.specs.PageMaps.{HasNoMarks, IsMapOf, IsNextUncleaned, is_told}
-use Rattle.mk_words.specs.States.{PassState, TurnState, call_of, event_of, now_of}
-use Rattle.mk_words.specs.TurnSteps.{Acts, IsTurnWithMap, gates_stay, turn_stays, world_at}
-use Rattle.mk_words.specs.Steps.{IsEnabledTo, Makes}
+use Rattle.mk_words.proofs.{FreeTurns.{map_left, map_stays, page_words}, TurnSteps.{acts, gates_still, still_turn}}
+use Rattle.mk_words.proofs.{TurnSteps.turn_stays_too, Made.own_before, Seats.others_own}
+use Rattle.mk_words.{proofs.Unmarked.{is_mark, stays_unmarked}, specs.{TurnSteps.world_at, Steps.{IsEnabledTo, Makes}}}
+use Rattle.mk_words.specs.{PageMaps.{HasNoMarks, IsMapOf, IsNextUncleaned, is_told}, States.{PassState, TurnState}}
+use Rattle.mk_words.specs.{States.{call_of, event_of, now_of}, TurnSteps.{Acts, IsTurnWithMap, gates_stay, turn_stays}}
 
 no_mark : (s : Step) → is_told s ≡ false → is_mark s ≡ false
 no_mark (Step.Mark p v) untold = cc

@@ -4,10 +4,8 @@ use Rattle.mk_laws.proofs.Vocabulary.{Step, World, ℕ, ap, arith, enabled_meets
 use Rattle.mk_laws.proofs.Vocabulary.{is_open_to, length, ltb-true, marker_at, marker_behind, marker_may, outside, refl}
 use Rattle.mk_laws.proofs.Vocabulary.{seat_exists, subst, sym, true, ◌<◌, ◌∙◌, ◌≡◌}
 use Rattle.mk_core.specs.{Accesses.access_by, Effects.moment_behind}
-use Rattle.mk_words.proofs.Made.{Made, made}
-use Rattle.mk_words.specs.Markers.{Marks, is_markers, marker_in}
-use Rattle.mk_words.specs.Steps.{IsEnabledTo, Tells, found_by, moment_of}
-use Rattle.mk_words.specs.{Rule.told_by, States.PassState, States.event_of, States.now_of}
+use Rattle.mk_words.{proofs.Made.{Made, made}, specs.{Rule.told_by, States.{PassState, event_of, now_of}}}
+use Rattle.mk_words.specs.{Markers.{Marks, is_markers, marker_in}, Steps.{IsEnabledTo, Tells, found_by, moment_of}}
 
 -- no access of a marker's is a store
 told_found : (c : Config) (n : ℕ) (f : Flight) (placing : Placing) (x : MarkerState) (s : Step) (k : ℕ)

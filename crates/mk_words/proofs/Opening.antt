@@ -7,16 +7,15 @@ use Rattle.mk_laws.proofs.Vocabulary.{enabled_meets, ends, eqb-false, eqb-true, 
 use Rattle.mk_laws.proofs.Vocabulary.{flight_of, get_or-set_other, get_or-set_same, get_or_past, inl, inr, is_held}
 use Rattle.mk_laws.proofs.Vocabulary.{is_number_of, left, length, length-set, ne_eqb, not, outside, refl, set-get_or}
 use Rattle.mk_laws.proofs.Vocabulary.{slice_index, slice_set, subst, sym, true, [], ◌++◌, ◌+◌, ◌<◌, ◌==◌, ◌∙◌, ◌∷◌, ◌≡◌}
-use Rattle.mk_laws.proofs.Vocabulary.{◌≢◌, ◌≤◌, ◌⊎◌}
+use Rattle.mk_laws.proofs.{Vocabulary.{◌≢◌, ◌≤◌, ◌⊎◌}, OthersCounts.answers_full, Protocols.lists_keep_the_protocol}
+use Rattle.mk_laws.proofs.TallySteps.{CountsNothing}
 use Rattle.mk_core.proofs.{Conditions.meets_enabled, Histories.last_enabled}
-use Rattle.mk_core.specs.Frames.{CountsAreLeft, steady_of}
-use Rattle.mk_core.specs.{Counts.full_answers, Effects.moment_behind, Growing.AreOfOthers, Moments.none_is_held}
-use Rattle.mk_laws.proofs.{OthersCounts.answers_full, Protocols.lists_keep_the_protocol, TallySteps.CountsNothing}
-use Rattle.mk_words.proofs.{LongerLists.longer_lists, Made.made, Made.pass_before, Owed.history_more, Tallies.same_ends}
-use Rattle.mk_words.proofs.{Tallies.same_fulls, TurnSteps.all_from}
-use Rattle.mk_words.specs.Opening.{AreOpened, OnlyOpen, Opens, OthersMayOpen}
-use Rattle.mk_words.specs.States.{PassState, event_of, now_of}
-use Rattle.mk_words.specs.{Steps.IsEnabledTo, TurnSteps.Acts, TurnSteps.IsTurn, TurnSteps.world_at}
+use Rattle.mk_core.specs.{Frames.{CountsAreLeft, steady_of}, Counts.full_answers, Effects.moment_behind}
+use Rattle.mk_core.specs.{Growing.AreOfOthers, Moments.none_is_held}
+use Rattle.mk_words.proofs.{LongerLists.longer_lists, Made.{made, pass_before}, Owed.history_more}
+use Rattle.mk_words.proofs.{Tallies.{same_ends, same_fulls}, TurnSteps.all_from}
+use Rattle.mk_words.specs.{Opening.{AreOpened, OnlyOpen, Opens, OthersMayOpen}, States.{PassState, event_of, now_of}}
+use Rattle.mk_words.specs.{Steps.IsEnabledTo, TurnSteps.{Acts, IsTurn, world_at}}
 
 -- one gate that is opened leaves the others to be opened
 

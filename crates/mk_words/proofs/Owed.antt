@@ -2,25 +2,21 @@
 use Rattle.std.proofs.Common.{replicate}
 use Rattle.mk_laws.proofs.Vocabulary.{Access, Caller, Config, Event, Host, IsHistory, IsTidy, IsWithinLimits, List}
 use Rattle.mk_laws.proofs.Vocabulary.{Seat, Step, ℕ, access, ap, arith, false, refl, subst, sym, true, word_accessed}
-use Rattle.mk_laws.proofs.Vocabulary.{[], ◌++◌, ◌<◌, ◌∙◌, ◌∷◌, ◌≡◌}
+use Rattle.mk_laws.proofs.{Vocabulary.{[], ◌++◌, ◌<◌, ◌∙◌, ◌∷◌, ◌≡◌}, Reaching.events_reach_the_table}
 use Rattle.mk_page_map.specs.KnownPages.{KnownPages}
 use Rattle.mk_core.proofs.{Histories.enabled_more, LayoutLemmas.indexes_within, RegionLemmas.first_are_zero}
-use Rattle.mk_core.specs.Layout.{IsOfTable, count_of_words, index_of}
-use Rattle.mk_core.specs.{Growing.Grows, Growing.is_same_seat, History.AreEnabledFrom, History.calls_from}
-use Rattle.mk_core.specs.{Words.becomes, Words.zero_words_of, declared.accesses.TableWord.TableWord}
-use Rattle.mk_laws.proofs.Reaching.{events_reach_the_table}
-use Rattle.atomic_table.specs.Table.{Allows, Final, Joins, Seen, Splits, opening}
-use Rattle.atomic_table.specs.Seated.{TableId}
-use Rattle.mk_words.proofs.Cuts.{hands_over, joins, remembers, splits}
-use Rattle.mk_words.proofs.Keeps.{Ended, access_there, closes, opens, performs_at, place_there, settles_at}
-use Rattle.mk_words.proofs.Seats.{has_all, has_first, has_left, only_one, without_keeps, without_less}
-use Rattle.mk_words.proofs.{Tidy.none_tidy, Undecided.undecided_admitted}
+use Rattle.mk_core.specs.{Layout.{IsOfTable, count_of_words, index_of}, Growing.{Grows, is_same_seat}}
+use Rattle.mk_core.specs.{History.{AreEnabledFrom, calls_from}, Words.{becomes, zero_words_of}}
+use Rattle.mk_core.specs.declared.accesses.TableWord.{TableWord}
+use Rattle.atomic_table.specs.{Table.{Allows, Final, Joins, Seen, Splits, opening}, Seated.TableId}
+use Rattle.mk_words.proofs.{Cuts.{hands_over, joins, remembers, splits}, Keeps.{Ended, access_there, closes, opens}}
+use Rattle.mk_words.proofs.{Keeps.{performs_at, place_there, settles_at}, Seats.{has_all, has_first, has_left}}
+use Rattle.mk_words.proofs.{Seats.{only_one, without_keeps, without_less}, Tidy.none_tidy, Undecided.undecided_admitted}
 use Rattle.mk_words.specs.Rule.{Adds, Kept, Mine, adds, beside, copy_of, first_view, goes_with, no_step, nobody}
-use Rattle.mk_words.specs.Rule.{settles, stays_with, stores_word, told_by}
-use Rattle.mk_words.specs.Seats.{CallersAreBeforeOver, Has, HasAll, has_over, is_caller}
-use Rattle.mk_words.specs.States.{PassState, WordsState, event_of, now_of}
-use Rattle.mk_words.specs.{PageMaps.IsMapOf, PageMaps.is_handing, Passes.IsInOrder, Passes.state_of, Steps.May}
-use Rattle.mk_words.specs.{Steps.MayPerform, Steps.Tells, declared.rule.View.View}
+use Rattle.mk_words.specs.{Rule.{settles, stays_with, stores_word, told_by}, Seats.{CallersAreBeforeOver, Has, HasAll}}
+use Rattle.mk_words.specs.{Seats.{has_over, is_caller}, States.{PassState, WordsState, event_of, now_of}}
+use Rattle.mk_words.specs.{PageMaps.{IsMapOf, is_handing}, Passes.{IsInOrder, state_of}, Steps.{May, MayPerform, Tells}}
+use Rattle.mk_words.specs.declared.rule.View.{View}
 use mathlib.Core.Option.{some}
 
 -- with the event the pass's list is a history

@@ -6,14 +6,13 @@ use Rattle.mk_laws.proofs.Vocabulary.{has_phase, held_by_pages, histories_keep_l
 use Rattle.mk_laws.proofs.Vocabulary.{is_held, is_number_of, is_open_to, length, ltb-true, ne_eqb, not-true}
 use Rattle.mk_laws.proofs.Vocabulary.{nothing_done, others_are_held, phase_of, refl, seat_exists, slice_index, subst}
 use Rattle.mk_laws.proofs.Vocabulary.{suc, sym, true, zero, ◌++◌, ◌+◌, ◌<◌, ◌==◌, ◌||◌, ◌∙◌, ◌≡◌, ◌≢◌}
+use Rattle.mk_laws.proofs.{SameWords.{Behind, reg_keeps, tally_keeps}, NextSteps.at_no_take}
+use Rattle.mk_laws.proofs.Protocols.{lists_keep_the_protocol}
 use Rattle.mk_core.specs.{Bounded.all_below, Frames.HoldsAll, Moments.none_is_held, Order.is_in_order}
-use Rattle.mk_laws.proofs.SameWords.{Behind, reg_keeps, tally_keeps}
-use Rattle.mk_laws.proofs.{NextSteps.at_no_take, Protocols.lists_keep_the_protocol}
-use Rattle.mk_words.proofs.CallSteps.{begins, goes}
-use Rattle.mk_words.proofs.{FreeTurns.hands_none, FreeTurns.turn_word_stays, Made.Made, Made.made, Tallies.free_tallies}
-use Rattle.mk_words.specs.States.{PassState, TurnState, call_of, now_of, world_of}
-use Rattle.mk_words.specs.TurnSteps.{Acts, GatesAre, IsFresh, IsTurn, begun_for, gates_stay, turn_stays}
-use Rattle.mk_words.specs.Steps.{Finds, Makes, Tells, moment_of}
+use Rattle.mk_words.proofs.{CallSteps.{begins, goes}, FreeTurns.{hands_none, turn_word_stays}, Made.{Made, made}}
+use Rattle.mk_words.{proofs.Tallies.{free_tallies}, specs.Steps.{moment_of}}
+use Rattle.mk_words.specs.{States.{PassState, TurnState, call_of, now_of, world_of}, TurnSteps.{Acts, GatesAre}}
+use Rattle.mk_words.specs.{TurnSteps.{IsFresh, IsTurn, begun_for, gates_stay, turn_stays}, Steps.{Finds, Makes, Tells}}
 
 -- who holds the turn, by the turn word
 

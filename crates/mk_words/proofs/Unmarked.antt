@@ -8,16 +8,15 @@ use Rattle.mk_laws.proofs.Vocabulary.{get_or-set_other, get_or-set_same, group_o
 use Rattle.mk_laws.proofs.Vocabulary.{if◌then◌else◌, inl, inr, is_attending, is_none, is_scanned, is_some, left, length}
 use Rattle.mk_laws.proofs.Vocabulary.{ltb-true, marker_at, marker_of, not, page_at_address, phase_of, refl, run_headed}
 use Rattle.mk_laws.proofs.Vocabulary.{scan_page, seen_page, set_past, slice_index, slice_set, subst, suc, sym, true}
-use Rattle.mk_laws.proofs.Vocabulary.{zero, [], ◌&&◌, ◌++◌, ◌-◌, ◌==◌, ◌∙◌, ◌∷◌, ◌≡◌, ◌≢◌}
+use Rattle.mk_laws.proofs.{Vocabulary.{zero, [], ◌&&◌, ◌++◌, ◌-◌, ◌==◌, ◌∙◌, ◌∷◌, ◌≡◌, ◌≢◌}, Actors.{Actor, AsHolder}}
+use Rattle.mk_laws.proofs.{Actors.{AsMarker, CallTakes, HostTakes, InCallOf, Meets}, Changes.{reg_table, tally_table}}
+use Rattle.mk_laws.proofs.{InvariantHistories.histories_keep_the_invariant, IdleMarkers.work_attends}
+use Rattle.mk_laws.proofs.{Known.{Known, known_left}, OrderlyLists.actor_of, ReadingsStands.headers_and_quarantine_tell}
+use Rattle.mk_laws.proofs.{SameWords.Behind, Views.{HoldsTurn, view_of}}
 use Rattle.mk_geom.specs.Addresses.{cell_under, word_at_address}
-use Rattle.mk_core.proofs.{Histories.last_enabled, PointedPages.found_under, PointedPages.lies_under}
-use Rattle.mk_core.specs.StopConditions.{blackens, may_black, may_turn_black}
-use Rattle.mk_core.specs.{Bounded.all_below, Cells.pointed_cell, Readings.WordsTellWhatStands}
-use Rattle.mk_laws.proofs.Actors.{Actor, AsHolder, AsMarker, CallTakes, HostTakes, InCallOf, Meets}
-use Rattle.mk_laws.proofs.Changes.{reg_table, tally_table}
-use Rattle.mk_laws.proofs.InvariantHistories.{histories_keep_the_invariant}
-use Rattle.mk_laws.proofs.{IdleMarkers.work_attends, Known.Known, Known.known_left, OrderlyLists.actor_of}
-use Rattle.mk_laws.proofs.{ReadingsStands.headers_and_quarantine_tell, SameWords.Behind, Views.HoldsTurn, Views.view_of}
+use Rattle.mk_core.proofs.{Histories.last_enabled, PointedPages.{found_under, lies_under}}
+use Rattle.mk_core.specs.{StopConditions.{blackens, may_black, may_turn_black}, Bounded.all_below, Cells.pointed_cell}
+use Rattle.mk_core.specs.Readings.{WordsTellWhatStands}
 use Rattle.mk_words.specs.PageMaps.{HasNoMarks}
 
 -- a `mark` of the turn's holder

@@ -1,11 +1,8 @@
 -- What the steps of a caller's call find and leave.
 use Rattle.std.specs.Prelude.{◌≡◌, ◌≢◌, ℕ, ◌<◌, true, ◌++◌}
 use Rattle.mk_never.specs.declared.operations.Op.{Op}
-use Rattle.mk_core.specs.Words.{register_word}
-use Rattle.mk_core.specs.Accesses.{caller_number}
-use Rattle.mk_core.specs.HeldGates.{is_gate_held}
-use Rattle.mk_words.specs.States.{PassState, now_of}
-use Rattle.mk_words.specs.Steps.{Makes, found_by}
+use Rattle.mk_core.specs.{Words.register_word, Accesses.caller_number, HeldGates.is_gate_held}
+use Rattle.mk_words.specs.{States.{PassState, now_of}, Steps.{Makes, found_by}}
 use Rattle.mk_core.specs.declared.events.Step.TheVariants as step
 
 -- a register of the pass's seat

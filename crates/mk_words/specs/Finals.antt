@@ -1,8 +1,6 @@
 -- What is known of a table that has ended.
 use Rattle.std.specs.Prelude.{◌≡◌, ℕ, zero, suc, ◌+◌, ◌%◌, ◌^◌, List, slice_index, count_ones}
-use Rattle.mk_core.specs.declared.config.Config.{Config}
-use Rattle.mk_core.specs.declared.events.Event.{Event}
-use Rattle.mk_core.specs.Layout.{index_of_named}
+use Rattle.mk_core.specs.{declared.config.Config.Config, declared.events.Event.Event, Layout.index_of_named}
 use Rattle.mk_core.specs.Words.{Words}
 use Rattle.mk_words.specs.declared.finals.Final.{Final}
 use Rattle.mk_core.specs.declared.events.Word.TheVariants as word

@@ -1,7 +1,6 @@
 -- On which page a word of the table stands.
 use Rattle.std.specs.Prelude.{◌≡◌, ℕ, ◌/◌, ⊤}
-use Rattle.mk_core.specs.declared.accesses.TableWord.{TableWord}
-use Rattle.mk_core.specs.declared.accesses.TableWord.TheVariants.{Named}
+use Rattle.mk_core.specs.{declared.accesses.TableWord.TableWord, declared.accesses.TableWord.TheVariants.Named}
 use Rattle.mk_core.specs.declared.events.Word.TheVariants as word
 
 -- A word of the heap stands on this page. Of other words it says nothing.

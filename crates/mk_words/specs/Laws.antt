@@ -1,19 +1,11 @@
 -- What is known of every step that a pass made.
 use Rattle.std.specs.Prelude.{◌≡◌, ℕ, true, List, [], ◌∷◌, ◌++◌}
-use Rattle.mk_core.specs.declared.config.Config.{Config}
-use Rattle.mk_core.specs.declared.events.Seat.TheVariants.{Caller}
-use Rattle.mk_core.specs.declared.events.Event.{Event}
-use Rattle.mk_core.specs.declared.events.Step.{Step}
-use Rattle.mk_core.specs.Enabled.{MeetsAll}
-use Rattle.mk_core.specs.Effects.{progress}
-use Rattle.mk_core.specs.Frames.{IsLeft, IsLeftByAdmitted}
-use Rattle.mk_core.specs.Growing.{AreOfOthers}
-use Rattle.mk_core.specs.History.{left, world_behind, IsHistory}
-use Rattle.mk_core.specs.Words.{phase_of}
-use Rattle.mk_words.specs.Seats.{has_over}
-use Rattle.mk_words.specs.States.{PassState, world_of, call_of, event_of}
-use Rattle.mk_words.specs.Steps.{Makes, moment_of, found_by, Goes}
-use Rattle.mk_words.specs.TurnSteps.{world_at}
+use Rattle.mk_core.specs.{declared.config.Config.Config, declared.events.Seat.TheVariants.Caller}
+use Rattle.mk_core.specs.{declared.events.Event.Event, declared.events.Step.Step, Enabled.MeetsAll, Effects.progress}
+use Rattle.mk_core.specs.{Frames.{IsLeft, IsLeftByAdmitted}, Growing.AreOfOthers, History.{left, world_behind}}
+use Rattle.mk_core.specs.{History.IsHistory, Words.phase_of}
+use Rattle.mk_words.specs.{Seats.has_over, States.{PassState, world_of, call_of, event_of}, Steps.{Makes, moment_of}}
+use Rattle.mk_words.specs.{Steps.{found_by, Goes}, TurnSteps.world_at}
 
 -- Up to the step others have left the seat its own. The event meets all conditions there, and leaves what it leaves
 -- there.

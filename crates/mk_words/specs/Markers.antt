@@ -1,12 +1,8 @@
 -- What the steps of markers find and leave.
 use Rattle.std.specs.Prelude.{◌≡◌, ℕ, Bool, true, false}
-use Rattle.mk_core.specs.declared.events.Group.{Group}
-use Rattle.mk_core.specs.declared.events.Step.{Step}
-use Rattle.mk_core.specs.Bits.{has_bit}
-use Rattle.mk_core.specs.Moments.{marker_at}
+use Rattle.mk_core.specs.{declared.events.Group.Group, declared.events.Step.Step, Bits.has_bit, Moments.marker_at}
 use Rattle.mk_core.specs.Effects.{marker_behind}
-use Rattle.mk_words.specs.States.{PassState, now_of}
-use Rattle.mk_words.specs.Steps.{Finds}
+use Rattle.mk_words.specs.{States.{PassState, now_of}, Steps.Finds}
 use Rattle.mk_core.specs.declared.events.Group.TheVariants as group
 use Rattle.mk_core.specs.declared.events.Step.TheVariants as step
 use Rattle.mk_core.specs.declared.seats.Marker.{Marker as MarkerState}

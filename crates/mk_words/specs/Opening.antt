@@ -1,13 +1,8 @@
 -- What is asked and left where all gates are opened.
 use Rattle.std.specs.Prelude.{◌≡◌, ◌⊎◌, ℕ, ◌<◌, ◌≤◌, Bool, true, false, List, [], ◌∷◌, ◌++◌, ⊤}
-use Rattle.mk_core.specs.declared.events.Seat.{Seat}
-use Rattle.mk_core.specs.declared.events.Step.{Step}
-use Rattle.mk_core.specs.declared.events.Event.{Event}
-use Rattle.mk_core.specs.Moments.{is_number_of, is_held}
-use Rattle.mk_core.specs.Growing.{is_one_of}
-use Rattle.mk_core.specs.Frames.{steady_of, CountsAreLeft}
-use Rattle.mk_words.specs.States.{PassState, world_of, now_of, call_of}
-use Rattle.mk_words.specs.Steps.{IsEnabledTo}
+use Rattle.mk_core.specs.{declared.events.Seat.Seat, declared.events.Step.Step, declared.events.Event.Event}
+use Rattle.mk_core.specs.{Moments.{is_number_of, is_held}, Growing.is_one_of, Frames.{steady_of, CountsAreLeft}}
+use Rattle.mk_words.specs.{States.{PassState, world_of, now_of, call_of}, Steps.IsEnabledTo}
 use Rattle.mk_core.specs.declared.events.Step.TheVariants as step
 
 -- The gates of all callers from this one on may be opened, but for the holder's.

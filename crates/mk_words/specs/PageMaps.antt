@@ -1,8 +1,7 @@
 -- The page map of a heap: what it shows of the words, and the steps by which it changes hands or has to follow.
 use Rattle.std.specs.Prelude.{◌≡◌, ℕ, ◌<◌, ◌≤◌, Bool, true, false, slice_index, Option, Some, None, []}
 use Rattle.mk_page_map.specs.KnownPages.{KnownPages, Shows, is_uncleaned}
-use Rattle.mk_core.specs.declared.events.Step.{Step}
-use Rattle.mk_core.specs.Words.{Words, header_at}
+use Rattle.mk_core.specs.{declared.events.Step.Step, Words.{Words, header_at}}
 use Rattle.mk_core.specs.declared.events.Step.TheVariants as step
 
 -- No mark is on the page, and nothing of it is black.

@@ -2,12 +2,8 @@
 use Rattle.std.specs.Prelude.{◌≡◌, ℕ, List, [], ◌∷◌}
 use Rattle.atomic_table.specs.Seated.{TableId}
 use Rattle.mk_page_map.specs.KnownPages.{KnownPages}
-use Rattle.mk_core.specs.declared.events.Seat.{Seat}
-use Rattle.mk_core.specs.History.{IsHistory}
-use Rattle.mk_core.specs.Counts.{IsTidy}
-use Rattle.mk_words.specs.Seats.{CallersAreBeforeOver, Has}
-use Rattle.mk_words.specs.States.{PassState}
-use Rattle.mk_words.specs.Rule.{Mine, no_part}
+use Rattle.mk_core.specs.{declared.events.Seat.Seat, History.IsHistory, Counts.IsTidy}
+use Rattle.mk_words.specs.{Seats.{CallersAreBeforeOver, Has}, States.PassState, Rule.{Mine, no_part}}
 
 -- a pass, from the view of its token and its seat
 abbrev pub state_of : TableId → Mine → Seat → PassState

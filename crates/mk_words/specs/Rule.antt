@@ -3,23 +3,13 @@ use Rattle.std.specs.Prelude.{◌≡◌, ◌≢◌, ℕ, List, [], ◌∷◌, �
 use mathlib.Core.Option.{Option, some, none}
 use lib.ListN.{get_elem?}
 use Rattle.mk_page_map.specs.KnownPages.{KnownPages}
-use Rattle.mk_core.specs.declared.config.Config.{Config}
-use Rattle.mk_core.specs.declared.events.Seat.{Seat}
-use Rattle.mk_core.specs.declared.events.Seat.TheVariants.{Host}
-use Rattle.mk_core.specs.declared.events.Step.TheVariants.{Leave}
-use Rattle.mk_core.specs.declared.events.Event.{Event}
-use Rattle.mk_core.specs.declared.accesses.Access.{Access}
-use Rattle.mk_core.specs.declared.accesses.Access.TheVariants.{Store}
-use Rattle.mk_core.specs.Words.{Words}
-use Rattle.mk_core.specs.Layout.{in_order}
-use Rattle.mk_core.specs.Accesses.{found}
-use Rattle.mk_core.specs.History.{left, IsHistory}
-use Rattle.mk_core.specs.Counts.{IsTidy}
-use Rattle.mk_core.specs.Growing.{AreOfOthers, Grows}
-use Rattle.mk_words.specs.declared.rule.Part.{Part}
-use Rattle.mk_words.specs.declared.rule.View.{View}
-use Rattle.mk_words.specs.Seats.{Has, CallersAreBeforeOver, without_seat, all_seats}
-use Rattle.mk_words.specs.PageMaps.{IsMapOf}
+use Rattle.mk_core.specs.{declared.config.Config.Config, declared.events.Seat.Seat}
+use Rattle.mk_core.specs.{declared.events.Seat.TheVariants.Host, declared.events.Step.TheVariants.Leave}
+use Rattle.mk_core.specs.{declared.events.Event.Event, declared.accesses.Access.Access}
+use Rattle.mk_core.specs.{declared.accesses.Access.TheVariants.Store, Words.Words, Layout.in_order, Accesses.found}
+use Rattle.mk_core.specs.{History.{left, IsHistory}, Counts.IsTidy, Growing.{AreOfOthers, Grows}}
+use Rattle.mk_words.specs.{declared.rule.Part.Part, declared.rule.View.View, Seats.{Has, CallersAreBeforeOver}}
+use Rattle.mk_words.specs.{Seats.{without_seat, all_seats}, PageMaps.IsMapOf}
 use Rattle.atomic_table.specs.Table.{State, Me, Step as TableStep, step, rest}
 
 abbrev pub part : List Seat → List Event → Part

@@ -1,13 +1,9 @@
 -- Lists of seats: those whose events all stand in a pass's list.
 use Rattle.std.specs.Prelude.{◌≡◌, ◌<◌, ℕ, zero, suc, Bool, true, false, List, [], ◌∷◌, ◌++◌, if◌then◌else◌}
 use Rattle.std.specs.List.{list_any}
-use Rattle.mk_core.specs.declared.config.Config.{Config}
-use Rattle.mk_core.specs.declared.events.Seat.{Seat}
-use Rattle.mk_core.specs.declared.events.Seat.TheVariants.{Caller, Marker, Host}
-use Rattle.mk_core.specs.declared.events.Step.{Step}
-use Rattle.mk_core.specs.declared.events.Event.{Event}
-use Rattle.mk_core.specs.Order.{seat_exists}
-use Rattle.mk_core.specs.Growing.{is_same_seat, is_one_of}
+use Rattle.mk_core.specs.{declared.config.Config.Config, declared.events.Seat.Seat}
+use Rattle.mk_core.specs.{declared.events.Seat.TheVariants.{Caller, Marker, Host}, declared.events.Step.Step}
+use Rattle.mk_core.specs.{declared.events.Event.Event, Order.seat_exists, Growing.{is_same_seat, is_one_of}}
 use Rattle.mk_core.specs.declared.events.Step.TheVariants as step
 
 abbrev pub Has : List Seat → Seat → Type 0

@@ -2,12 +2,8 @@
 use Rattle.std.specs.Prelude.{List, Option}
 use Rattle.atomic_table.specs.Seated.{TableId}
 use Rattle.mk_never.specs.declared.operations.Op.{Op}
-use Rattle.mk_core.specs.declared.config.Config.{Config}
-use Rattle.mk_core.specs.declared.events.Seat.{Seat}
-use Rattle.mk_core.specs.declared.events.Step.{Step}
-use Rattle.mk_core.specs.declared.events.Event.{Event}
-use Rattle.mk_core.specs.declared.seats.Flight.{Flight}
-use Rattle.mk_core.specs.Moments.{Moment, flight_of}
+use Rattle.mk_core.specs.{declared.config.Config.Config, declared.events.Seat.Seat, declared.events.Step.Step}
+use Rattle.mk_core.specs.{declared.events.Event.Event, declared.seats.Flight.Flight, Moments.{Moment, flight_of}}
 use Rattle.mk_core.specs.History.{World, left, IsHistory}
 use Rattle.mk_words.specs.Seats.{Has}
 

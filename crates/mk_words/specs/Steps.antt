@@ -1,19 +1,11 @@
 -- What the calls ask and what they ensure, of any kind of step.
 use Rattle.std.specs.Prelude.{◌≡◌, ℕ, Bool, true, false, List, [], ◌∷◌, ◌++◌}
-use Rattle.mk_core.specs.declared.events.Step.{Step}
-use Rattle.mk_core.specs.declared.events.Event.{Event}
-use Rattle.mk_core.specs.declared.seats.Progress.{Progress}
-use Rattle.mk_core.specs.declared.accesses.Access.{Access}
-use Rattle.mk_core.specs.declared.accesses.TableWord.{TableWord}
-use Rattle.mk_core.specs.Accesses.{access, found, word_accessed}
-use Rattle.mk_core.specs.Moments.{Moment}
-use Rattle.mk_core.specs.Effects.{answer_decided}
-use Rattle.mk_core.specs.History.{left, IsEnabledBehind, IsAdmittedBehind}
-use Rattle.mk_core.specs.Cycles.{is_give}
-use Rattle.mk_core.specs.Counts.{TalliesAreTidy}
+use Rattle.mk_core.specs.{declared.events.Step.Step, declared.events.Event.Event, declared.seats.Progress.Progress}
+use Rattle.mk_core.specs.{declared.accesses.Access.Access, declared.accesses.TableWord.TableWord}
+use Rattle.mk_core.specs.{Accesses.{access, found, word_accessed}, Moments.Moment, Effects.answer_decided}
+use Rattle.mk_core.specs.{History.{left, IsEnabledBehind, IsAdmittedBehind}, Cycles.is_give, Counts.TalliesAreTidy}
 use Rattle.mk_core.specs.Growing.{AreOfOthers}
-use Rattle.mk_words.specs.Seats.{HasCallers, is_over}
-use Rattle.mk_words.specs.States.{PassState, IsPass, now_of, call_of, event_of}
+use Rattle.mk_words.specs.{Seats.{HasCallers, is_over}, States.{PassState, IsPass, now_of, call_of, event_of}}
 use Rattle.mk_words.specs.Rule.{told_by}
 use Rattle.mk_core.specs.declared.events.Word.TheVariants as word
 use Rattle.mk_core.specs.declared.events.Step.TheVariants as step

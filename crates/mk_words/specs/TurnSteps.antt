@@ -2,24 +2,14 @@
 use Rattle.std.specs.Prelude.{◌≡◌, ℕ, ◌%◌, ◌^◌, ◌++◌, Option, Some, None, Bool, true, false}
 use Rattle.mk_geom.specs.Addresses.{address_of}
 use Rattle.mk_never.specs.declared.operations.Op.{Op}
-use Rattle.mk_core.specs.declared.events.Seat.{Seat}
-use Rattle.mk_core.specs.declared.events.Seat.TheVariants.{Caller}
-use Rattle.mk_core.specs.declared.events.Step.{Step}
-use Rattle.mk_core.specs.declared.seats.Flight.{Flight}
-use Rattle.mk_core.specs.Accesses.{granted_base}
-use Rattle.mk_core.specs.Calls.{at_rest, begun}
-use Rattle.mk_core.specs.Moments.{nothing_done, none_is_held, others_are_held}
-use Rattle.mk_core.specs.Words.{phase_of}
-use Rattle.mk_core.specs.Ranges.{has_phase}
-use Rattle.mk_core.specs.TurnConditions.{held_by_pages}
-use Rattle.mk_core.specs.Readings.{Holds}
-use Rattle.mk_core.specs.History.{World, world_behind, left}
-use Rattle.mk_core.specs.Frames.{OwnIsLeft, HoldsAll, TurnIsLeft, CountsAreLeft, written_of}
-use Rattle.mk_core.specs.Effects.{progress}
+use Rattle.mk_core.specs.{declared.events.Seat.Seat, declared.events.Seat.TheVariants.Caller, declared.events.Step.Step}
+use Rattle.mk_core.specs.{declared.seats.Flight.Flight, Accesses.granted_base, Calls.{at_rest, begun}}
+use Rattle.mk_core.specs.{Moments.{nothing_done, none_is_held, others_are_held}, Words.phase_of, Ranges.has_phase}
+use Rattle.mk_core.specs.{TurnConditions.held_by_pages, Readings.Holds, History.{World, world_behind, left}}
+use Rattle.mk_core.specs.{Frames.{OwnIsLeft, HoldsAll, TurnIsLeft, CountsAreLeft, written_of}, Effects.progress}
 use Rattle.mk_page_map.specs.KnownPages.{KnownPages}
-use Rattle.mk_words.specs.PageMaps.{IsMapOf, is_told}
-use Rattle.mk_words.specs.States.{PassState, TurnState, world_of, now_of, call_of, event_of}
-use Rattle.mk_words.specs.Steps.{Makes, found_by}
+use Rattle.mk_words.specs.{PageMaps.{IsMapOf, is_told}, States.{PassState, TurnState, world_of, now_of, call_of}}
+use Rattle.mk_words.specs.{States.event_of, Steps.{Makes, found_by}}
 use Rattle.mk_core.specs.declared.events.Step.TheVariants as step
 
 -- The pass's seat holds the turn.

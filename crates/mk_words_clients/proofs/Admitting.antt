@@ -4,8 +4,7 @@ use Rattle.mk_laws.proofs.Vocabulary.{Op, Option, Seat, Some, Step, admitted_in_
 use Rattle.mk_laws.proofs.Vocabulary.{append_assoc, asked, call_decided, caller_number, entry_of, flagged, left}
 use Rattle.mk_laws.proofs.Vocabulary.{never_behind, subst, sym, [], ◌++◌, ◌∙◌, ◌∷◌, ◌≡◌}
 use Rattle.mk_core.specs.History.{calls_from}
-use Rattle.mk_words.specs.States.{PassState, call_of, event_of, now_of}
-use Rattle.mk_words.specs.Steps.{IsAdmittedTo, Makes}
+use Rattle.mk_words.specs.{States.{PassState, call_of, event_of, now_of}, Steps.{IsAdmittedTo, Makes}}
 use Rattle.mk_words_clients.specs.Clients.{StaysAdmitted}
 
 one_call : (c : Config) (es : List Event) (e : Event)

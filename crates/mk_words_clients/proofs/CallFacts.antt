@@ -3,8 +3,7 @@ use Rattle.mk_laws.proofs.Vocabulary.{Answer, Caller, Config, Event, Flight, Gro
 use Rattle.mk_laws.proofs.Vocabulary.{Op, Progress, Step, ℕ, ap, append-nil, append_assoc, at_rest, begun}
 use Rattle.mk_laws.proofs.Vocabulary.{caller_number, comes_next, flagged, group_of, is_in_range, never_behind, refl}
 use Rattle.mk_laws.proofs.Vocabulary.{subst, sym, true, [], ◌++◌, ◌<◌, ◌∙◌, ◌∷◌, ◌≡◌}
-use Rattle.mk_words.specs.Steps.{Goes, IsAdmittedTo, IsEnabledTo, Makes}
-use Rattle.mk_words.specs.States.{PassState, WordsState, event_of}
+use Rattle.mk_words.specs.{Steps.{Goes, IsAdmittedTo, IsEnabledTo, Makes}, States.{PassState, WordsState, event_of}}
 use Rattle.mk_words_clients.proofs.{Admitting.op_step, Enabling.call_step}
 use Rattle.mk_words_clients.specs.Clients.{IsCallers, IsMidCall, StaysAdmitted}
 

@@ -6,8 +6,7 @@ use Rattle.mk_laws.proofs.Vocabulary.{has_seen_cell, header_of, holder_may, is_a
 use Rattle.mk_laws.proofs.Vocabulary.{is_open_to, is_some, lt-ltb, marker_at, marker_may, outside, phase_of, refl}
 use Rattle.mk_laws.proofs.Vocabulary.{subst, sym, true, ◌%◌, ◌<◌, ◌==◌, ◌∙◌, ◌≡◌}
 use Rattle.mk_core.proofs.Conditions.{meets_enabled}
-use Rattle.mk_words.specs.Markers.{Marks, marker_in}
-use Rattle.mk_words.specs.{States.PassState, States.now_of, Steps.IsEnabledTo, Steps.Makes}
+use Rattle.mk_words.specs.{Markers.{Marks, marker_in}, States.{PassState, now_of}, Steps.{IsEnabledTo, Makes}}
 use Rattle.mk_words_clients.specs.Clients.{IsAttending, IsOutside}
 
 markers_gates : (c : Config) (w : Words) (seat : Seat) (f : Flight) (s : Step) → group_of s ≡ Group.Markers

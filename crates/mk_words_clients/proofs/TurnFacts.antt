@@ -6,13 +6,11 @@ use Rattle.mk_laws.proofs.Vocabulary.{has_gates, has_phase, holder_may, inl, inr
 use Rattle.mk_laws.proofs.Vocabulary.{is_open_to, left, length, length-set, lt-ltb, marker_may, ne_eqb, not}
 use Rattle.mk_laws.proofs.Vocabulary.{others_are_held, outside, phase_of, refl, slice_index, slice_set, subst, sym}
 use Rattle.mk_laws.proofs.Vocabulary.{true, true≢false, world_behind, [], ◌++◌, ◌+◌, ◌<◌, ◌==◌, ◌∙◌, ◌∷◌, ◌≡◌, ◌≢◌, ◌≤◌}
-use Rattle.mk_laws.proofs.Vocabulary.{◌⊎◌}
+use Rattle.mk_laws.proofs.{Vocabulary.◌⊎◌, Asked.none_held, TallySteps.CountsNothing}
 use Rattle.mk_core.proofs.Conditions.{meets_enabled}
-use Rattle.mk_core.specs.{Frames.CountsAreLeft, Frames.steady_of, Moments.none_is_held, Order.comes_next_to_host}
-use Rattle.mk_laws.proofs.{Asked.none_held, TallySteps.CountsNothing}
-use Rattle.mk_words.proofs.{Tallies.counts_tidy_more, TurnSteps.all_from}
-use Rattle.mk_words.specs.States.{PassState, WordsState, now_of, world_of}
-use Rattle.mk_words.specs.{Opening.OthersMayOpen, Steps.IsEnabledTo, TurnSteps.Acts, TurnSteps.world_at}
+use Rattle.mk_core.specs.{Frames.{CountsAreLeft, steady_of}, Moments.none_is_held, Order.comes_next_to_host}
+use Rattle.mk_words.{proofs.{Tallies.counts_tidy_more, TurnSteps.all_from}, specs.TurnSteps.{Acts, world_at}}
+use Rattle.mk_words.specs.{States.{PassState, WordsState, now_of, world_of}, Opening.OthersMayOpen, Steps.IsEnabledTo}
 use Rattle.mk_words_clients.specs.Clients.{HoldsBelow, MayGiveBack, Settled, StaysTidy}
 
 -- kinds that leave the steady words, the allocations and the freed run alone

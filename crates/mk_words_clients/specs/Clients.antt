@@ -1,23 +1,12 @@
 -- What the clients ask of a pass and of a turn, and keep.
 use Rattle.std.specs.Prelude.{slice_index, ◌≢◌, ◌≡◌, ℕ, ◌<◌, ◌≤◌, ◌+◌, ◌*◌, true, false, Some, None, List, ◌++◌}
-use Rattle.mk_never.specs.declared.operations.Op.{Op}
-use Rattle.mk_never.specs.Admitted.{IsAdmitted}
-use Rattle.mk_core.specs.declared.events.Event.{Event}
-use Rattle.mk_core.specs.Accesses.{caller_number}
-use Rattle.mk_core.specs.History.{IsHistory, never_behind}
-use Rattle.mk_core.specs.declared.events.Seat.TheVariants.{Caller, Marker, Host}
-use Rattle.mk_core.specs.Calls.{at_rest}
-use Rattle.mk_core.specs.Counts.{TalliesAreTidy}
-use Rattle.mk_core.specs.Words.{phase_of}
-use Rattle.mk_core.specs.Ranges.{has_phase}
-use Rattle.mk_core.specs.Moments.{none_is_held, outside, is_held}
-use Rattle.mk_core.specs.StopConditions.{is_attending}
-use Rattle.mk_core.specs.Order.{host_has_turn}
-use Rattle.mk_core.specs.TurnConditions.{held_by_pages}
+use Rattle.mk_never.specs.{declared.operations.Op.Op, Admitted.IsAdmitted}
+use Rattle.mk_core.specs.{declared.events.Event.Event, Accesses.caller_number, History.{IsHistory, never_behind}}
+use Rattle.mk_core.specs.{declared.events.Seat.TheVariants.{Caller, Marker, Host}, Calls.at_rest, Counts.TalliesAreTidy}
+use Rattle.mk_core.specs.{Words.phase_of, Ranges.has_phase, Moments.{none_is_held, outside, is_held}}
+use Rattle.mk_core.specs.{StopConditions.is_attending, Order.host_has_turn, TurnConditions.held_by_pages}
 use Rattle.mk_core.specs.declared.seats.Flight.{Flight}
-use Rattle.mk_words.specs.Markers.{marker_in}
-use Rattle.mk_words.specs.CallSteps.{register_of}
-use Rattle.mk_words.specs.States.{PassState, now_of, call_of}
+use Rattle.mk_words.specs.{Markers.marker_in, CallSteps.register_of, States.{PassState, now_of, call_of}}
 use Rattle.mk_geom.specs.Addresses.{heap_word_at}
 use Rattle.mk_core.specs.declared.events.Step.TheVariants as step
 

@@ -1,7 +1,6 @@
 use Rattle.mk_laws.proofs.Vocabulary.{ap, ◌∙◌}
 use Rattle.mk_caller.specs.States.{CallerState}
-use Rattle.mk_caller_clients.proofs.Beginnings.{admits, given, idle, tells_null}
-use Rattle.mk_caller_clients.proofs.Sameness.{told}
+use Rattle.mk_caller_clients.proofs.{Beginnings.{admits, given, idle, tells_null}, Sameness.told}
 use Rattle.mk_caller_clients.proofs.first_register_is_null.Goals as goal
 
 pub new-caller-requires-clause-idle : goal.new-caller-requires-clause-idle

@@ -1,6 +1,5 @@
 use Rattle.mk_alloc.proofs.Vocabulary.{EachIsBegun, Has, PassState, begun_then, finish_begins_none, own_before, subst}
-use Rattle.mk_alloc.proofs.Vocabulary.{sweeps_then, ◌≡◌}
-use Rattle.mk_alloc.proofs.UnsweptTurns.{older_begun, older_same}
+use Rattle.mk_alloc.proofs.{Vocabulary.{sweeps_then, ◌≡◌}, UnsweptTurns.{older_begun, older_same}}
 use Rattle.mk_alloc.proofs.cycles.run_cycle.Goals.{After-begin_cycle}
 use Rattle.mk_cycle.proofs.Begun.{has_on}
 use Rattle.mk_alloc.proofs.cycles.run_cycle.Goals as goal

@@ -1,8 +1,7 @@
 use Rattle.mk_alloc.proofs.Vocabulary.{CallerState, EachIsBegun, FreesObject, IsAnsweredDouble, Op, PassState}
 use Rattle.mk_alloc.proofs.Vocabulary.{SweepsNothing, ap, in_turn, refl, subst, sym, ◌∙◌}
-use Rattle.mk_alloc.proofs.CalledTurns.{Taken, taken_is, taken_turn, took_by}
-use Rattle.mk_alloc.proofs.FreedTurns.{Frees, Refuses, double_answered, freed, freed_object, given, given_double}
-use Rattle.mk_alloc.proofs.FreedTurns.{unloaded}
+use Rattle.mk_alloc.proofs.{CalledTurns.{Taken, taken_is, taken_turn, took_by}, FreedTurns.{Frees, Refuses}}
+use Rattle.mk_alloc.proofs.FreedTurns.{double_answered, freed, freed_object, given, given_double, unloaded}
 use Rattle.mk_alloc.proofs.UnsweptTurns.{freeing_then_begun, freeing_then_sweeps, loading_begun, loading_sweeps}
 use Rattle.mk_alloc.proofs.UnsweptTurns.{turn_begun, turn_sweeps}
 use Rattle.mk_alloc.proofs.freeing.free_object.Goals.{After-is_in_order-in-Ok, After-take-turn}

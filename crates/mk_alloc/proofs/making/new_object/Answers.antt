@@ -1,13 +1,11 @@
 use Rattle.std.proofs.Common.{IfSome}
 use Rattle.mk_alloc.proofs.Vocabulary.{Answer, Bool, CalledInTurn, CallerState, EachIsBegun, Flight, IsAnsweredFull}
 use Rattle.mk_alloc.proofs.Vocabulary.{Misfits, Op, Option, PassState, SweepsNothing, ℕ, ap, false, refl, subst, sym}
-use Rattle.mk_alloc.proofs.Vocabulary.{◌≡◌}
-use Rattle.mk_alloc.proofs.NewTurns.{NewGiven, census_told, given, is_answered_full, last_turn, new_called}
-use Rattle.mk_alloc.proofs.SeekingTurns.{misfits_then, requests_then, seeks_then}
+use Rattle.mk_alloc.proofs.{Vocabulary.◌≡◌, NewTurns.{NewGiven, census_told, given, is_answered_full, last_turn}}
+use Rattle.mk_alloc.proofs.{NewTurns.new_called, SeekingTurns.{misfits_then, requests_then, seeks_then}}
 use Rattle.mk_alloc.proofs.UnsweptTurns.{none_begun, part_then_begun, part_then_sweeps, turn_begun, turn_sweeps}
 use Rattle.mk_alloc.proofs.making.new_object.Goals.{After-give, After-give-2, After-take-turn}
-use Rattle.mk_alloc.proofs.CalledTurns.{Taken, took_by}
-use Rattle.mk_alloc.proofs.OneCycles.{none_runs_one, none_then_one}
+use Rattle.mk_alloc.proofs.{CalledTurns.{Taken, took_by}, OneCycles.{none_runs_one, none_then_one}}
 use Rattle.mk_geom.specs.declared.pages.Census.{Census}
 use Rattle.mk_alloc.specs.Rooms.{CountsFull, answer_with}
 use Rattle.mk_objects.specs.Placing.{Requests}

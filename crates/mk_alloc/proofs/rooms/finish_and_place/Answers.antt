@@ -1,7 +1,6 @@
 use Rattle.mk_alloc.proofs.Vocabulary.{None, Seeks, in_turn, sweeps_then}
 use Rattle.mk_alloc.proofs.SeekingTurns.{misfits_finished, requests_then, seeks_finished, seeks_then}
-use Rattle.mk_alloc.proofs.OneCycles.{finish_then_none}
-use Rattle.mk_alloc.proofs.rooms.finish_and_place.Goals.{After-is_in_order-2}
+use Rattle.mk_alloc.proofs.{OneCycles.finish_then_none, rooms.finish_and_place.Goals.After-is_in_order-2}
 use Rattle.mk_alloc.proofs.rooms.finish_and_place.Goals as goal
 
 -- the cycle that is finished

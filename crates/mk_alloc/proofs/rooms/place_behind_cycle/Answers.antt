@@ -1,10 +1,7 @@
 use Rattle.mk_alloc.proofs.Vocabulary.{Done, None, PassState, Seeks, ap, begun_then, cycle_ended, in_turn, sweeps_then}
-use Rattle.mk_alloc.proofs.Vocabulary.{◌∙◌}
-use Rattle.mk_alloc.proofs.SeekingTurns.{misfits_then, nowhere_begun, requests_then, seeks_begun, seeks_then}
-use Rattle.mk_alloc.proofs.rooms.place_behind_cycle.Goals.{After-is_in_order-2}
-use Rattle.mk_alloc.proofs.Going.{quiet_begun}
-use Rattle.mk_alloc.proofs.OneCycles.{begin_then_ends, ends_none}
-use Rattle.mk_alloc.proofs.UnsweptTurns.{none_begun}
+use Rattle.mk_alloc.proofs.{Vocabulary.◌∙◌, SeekingTurns.{misfits_then, nowhere_begun, requests_then, seeks_begun}}
+use Rattle.mk_alloc.proofs.{SeekingTurns.seeks_then, rooms.place_behind_cycle.Goals.After-is_in_order-2}
+use Rattle.mk_alloc.proofs.{Going.quiet_begun, OneCycles.{begin_then_ends, ends_none}, UnsweptTurns.none_begun}
 use Rattle.mk_alloc.proofs.rooms.place_behind_cycle.Goals as goal
 
 -- the cycle that begins

@@ -1,8 +1,7 @@
 use Rattle.mk_alloc.proofs.Vocabulary.{BeginsNone, Misfits, in_turn, sym, ◌∙◌}
 use Rattle.mk_alloc.proofs.OneCycles.{ends_none, looks_begins_none, none_then_none}
 use Rattle.mk_alloc.proofs.SeekingTurns.{misfits_seen, misfits_then, phase_seen, requests_then, seeks_then, seen_at}
-use Rattle.mk_alloc.proofs.UnsweptTurns.{looking_sweeps, looking_then_sweeps}
-use Rattle.mk_alloc.proofs.Going.{quiet_looked}
+use Rattle.mk_alloc.proofs.{UnsweptTurns.{looking_sweeps, looking_then_sweeps}, Going.quiet_looked}
 use Rattle.mk_alloc.proofs.rooms.place_behind_older.Goals.{After-is_in_order-2}
 use Rattle.mk_alloc.proofs.rooms.place_behind_older.Goals as goal
 

@@ -1,5 +1,4 @@
-use Rattle.mk_alloc.proofs.Vocabulary.{in_turn}
-use Rattle.mk_alloc.proofs.Going.{give_allowed}
+use Rattle.mk_alloc.proofs.{Vocabulary.in_turn, Going.give_allowed}
 use Rattle.mk_alloc.proofs.turns.give.Goals as goal
 
 pub give-requires-clause-enabled : goal.give-requires-clause-enabled

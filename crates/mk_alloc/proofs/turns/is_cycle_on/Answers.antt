@@ -1,5 +1,4 @@
-use Rattle.mk_alloc.proofs.Vocabulary.{in_turn}
-use Rattle.mk_alloc.proofs.Going.{looked, phase_allowed}
+use Rattle.mk_alloc.proofs.{Vocabulary.in_turn, Going.{looked, phase_allowed}}
 use Rattle.mk_alloc.proofs.turns.is_cycle_on.Goals as goal
 
 pub look-found-requires-clause-enabled : goal.look-found-requires-clause-enabled

@@ -1,14 +1,10 @@
 use Rattle.mk_alloc.proofs.Vocabulary.{CalledInTurn, CallerState, IsEnabledTo, PassState, Seeks, in_turn}
-use Rattle.mk_alloc.proofs.NewTurns.{begun_quiet, begun_unplaced, new_called}
-use Rattle.mk_alloc.proofs.OneCycles.{none_runs_one, placed_begins_none}
-use Rattle.mk_alloc.proofs.CalledTurns.{taken_turn}
-use Rattle.mk_alloc.proofs.Going.{give_allowed}
-use Rattle.mk_alloc.proofs.SeekingTurns.{seeks_placed}
+use Rattle.mk_alloc.{proofs.NewTurns.{begun_quiet, begun_unplaced, new_called}, proofs.SeekingTurns.{seeks_placed}}
+use Rattle.mk_alloc.proofs.{OneCycles.{none_runs_one, placed_begins_none}, CalledTurns.taken_turn, Going.give_allowed}
 use Rattle.mk_laws.proofs.Vocabulary.{Answer, Bool, Flight, Op, Some, Step, ap, d_of, false, refl, subst, sym, true}
-use Rattle.mk_alloc_clients.proofs.OnePage.{TakenNew, made_owns, may_take, taken_new}
+use Rattle.mk_alloc_clients.{proofs.OnePage.{TakenNew, made_owns, may_take, taken_new}, specs.Owned.{HasNumber}}
 use Rattle.mk_alloc_clients.proofs.making.make_number.Goals.{After-give-home, After-is_in_order}
 use Rattle.mk_alloc_clients.proofs.making.make_number.Goals.{After-is_in_order-in-Ok}
-use Rattle.mk_alloc_clients.specs.Owned.{HasNumber}
 use Rattle.mk_words.specs.Steps.{Finds}
 use Rattle.mk_alloc_clients.proofs.making.make_number.Goals as goal
 

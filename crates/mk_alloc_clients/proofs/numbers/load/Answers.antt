@@ -1,8 +1,7 @@
 use Rattle.mk_laws.proofs.Vocabulary.{Op, subst}
 use Rattle.mk_alloc.proofs.Vocabulary.{PassState}
 use Rattle.mk_alloc_clients.proofs.OwnedCalls.{held_keeps, load_has_no_fault, load_has_no_null, loaded, may_load}
-use Rattle.mk_caller.specs.Causes.{IsRefused}
-use Rattle.mk_caller.specs.declared.refusals.Refusal.{Refusal}
+use Rattle.mk_caller.specs.{Causes.IsRefused, declared.refusals.Refusal.Refusal}
 use Rattle.mk_alloc_clients.proofs.numbers.load.Goals as goal
 
 pub get_num-loaded-requires-clause-admitted : goal.get_num-loaded-requires-clause-admitted

@@ -1,8 +1,7 @@
 use Rattle.mk_laws.proofs.Vocabulary.{Op, subst}
 use Rattle.mk_alloc.proofs.Vocabulary.{PassState}
 use Rattle.mk_alloc_clients.proofs.OwnedCalls.{held_keeps, may_store, store_has_no_fault, store_has_no_null, stored}
-use Rattle.mk_caller.specs.Causes.{IsRefused}
-use Rattle.mk_caller.specs.declared.refusals.Refusal.{Refusal}
+use Rattle.mk_caller.specs.{Causes.IsRefused, declared.refusals.Refusal.Refusal}
 use Rattle.mk_alloc_clients.proofs.numbers.store.Goals as goal
 
 pub set_num-stored-requires-clause-admitted : goal.set_num-stored-requires-clause-admitted

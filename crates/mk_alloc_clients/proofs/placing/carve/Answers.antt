@@ -1,7 +1,6 @@
 use Rattle.mk_laws.proofs.Vocabulary.{Object, Step, ap, arith, header_made, pages_made, subst, sym, ◌+◌, ◌∙◌, ◌≡◌}
 use Rattle.mk_alloc.proofs.Vocabulary.{Acts, IsEnabledTo, PassState, object_for}
-use Rattle.mk_alloc_clients.proofs.placing.carve.Goals.{After-is_in_order}
-use Rattle.mk_alloc_clients.specs.Making.{one_number}
+use Rattle.mk_alloc_clients.{proofs.placing.carve.Goals.{After-is_in_order}, specs.Making.{one_number}}
 use Rattle.mk_objects.proofs.Serves.{KnowsPlace, carved_all, head_may, heads_on, knows_place}
 use Rattle.mk_objects.specs.Placing.{HasCarved}
 use Rattle.mk_alloc_clients.proofs.placing.carve.Goals as goal

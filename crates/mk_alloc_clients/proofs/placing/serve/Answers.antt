@@ -3,8 +3,7 @@ use Rattle.mk_alloc.proofs.Vocabulary.{PassState, object_for}
 use Rattle.mk_alloc_clients.proofs.placing.serve.Goals.{After-grant, After-is_in_order, After-used}
 use Rattle.mk_objects.proofs.Takes.{HasGranted, HasTaken, counted, counted_held, few_held, grant_address, grant_admits}
 use Rattle.mk_objects.proofs.Takes.{grant_may, grant_on, grant_register, one_bit_more, small_index, tally_may, tally_on}
-use Rattle.mk_objects.proofs.Takes.{used_may, used_on}
-use Rattle.mk_objects.proofs.Serves.{KnowsPlace, knows_place, place_unused}
+use Rattle.mk_objects.proofs.{Takes.{used_may, used_on}, Serves.{KnowsPlace, knows_place, place_unused}}
 use Rattle.mk_alloc_clients.proofs.placing.serve.Goals as goal
 
 -- what is known of the place

@@ -1,5 +1,4 @@
-use Rattle.std.proofs.Common.{arith, ◌∙◌}
-use Rattle.std.proofs.lemmas.List.{get_or_default}
+use Rattle.std.proofs.{Common.{arith, ◌∙◌}, lemmas.List.get_or_default}
 use Rattle.mk_books.proofs.FreeCellLemmas.{at_block, by_class-more, by_class-more_other, room_for_block}
 use Rattle.mk_books.proofs.counting.free_cells.Goals.{in-Some, in_default}
 use Rattle.mk_books.proofs.counting.free_cells.Goals as goal

@@ -1,6 +1,5 @@
 use Rattle.std.proofs.Common.{count_by, rules, sym, ◌∙◌, ◌≡◌}
-use Rattle.mk_geom.specs.PageUses.{is_free_page}
-use Rattle.mk_geom.specs.PageWords.{use_of_page}
+use Rattle.mk_geom.specs.{PageUses.is_free_page, PageWords.use_of_page}
 use Rattle.mk_books.proofs.PlaceLemmas.{count_by-map}
 use Rattle.mk_books.proofs.counting.free_pages.Goals as goal
 

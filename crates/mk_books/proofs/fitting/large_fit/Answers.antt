@@ -1,8 +1,6 @@
-use Rattle.std.proofs.Common.{arith, sym, ◌∙◌}
-use Rattle.std.proofs.lemmas.Grind.{common_steps}
+use Rattle.std.proofs.{Common.{arith, sym, ◌∙◌}, lemmas.Grind.common_steps}
 use Rattle.mk_books.proofs.FreeRangeLemmas.{first-end, first-here, first-known, first-skip, free_range_from-free}
-use Rattle.mk_books.proofs.FreeRangeLemmas.{free_range_from-taken}
-use Rattle.mk_books.proofs.PlaceLemmas.{resident_from-end}
+use Rattle.mk_books.proofs.{FreeRangeLemmas.free_range_from-taken, PlaceLemmas.resident_from-end}
 use Rattle.mk_books.proofs.fitting.large_fit.Goals.{else-not-is_free+else-number-range}
 use Rattle.mk_books.proofs.fitting.large_fit.Goals.{else-not-is_free+then-number-range, then-not-is_free}
 use Rattle.mk_books.proofs.fitting.large_fit.Goals as goal

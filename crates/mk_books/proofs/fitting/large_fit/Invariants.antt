@@ -1,9 +1,6 @@
-use Rattle.std.proofs.Common.{None, ◌+◌, ◌<◌, ◌≡◌, ◌≤◌}
-use Rattle.std.specs.Option.{option_or}
-use Rattle.mk_geom.specs.PageUses.{range_start, resident_pages}
-use Rattle.mk_geom.specs.PageWords.{uses_of_pages}
-use Rattle.mk_books.proofs.FreeRangeLemmas.{free_range_from, range_start_from}
-use Rattle.mk_books.proofs.PlaceLemmas.{resident_from}
+use Rattle.std.{proofs.Common.{None, ◌+◌, ◌<◌, ◌≡◌, ◌≤◌}, specs.Option.{option_or}}
+use Rattle.mk_geom.specs.{PageUses.{range_start, resident_pages}, PageWords.uses_of_pages}
+use Rattle.mk_books.proofs.{FreeRangeLemmas.{free_range_from, range_start_from}, PlaceLemmas.resident_from}
 use Rattle.mk_books.proofs.fitting.large_fit.Given as goal
 
 abbrev pub invariant-loop-number : goal.invariant-loop-number

@@ -1,5 +1,4 @@
-use Rattle.std.proofs.Common.{ap, arith, false, sym, true, ◌+◌, ◌∙◌}
-use Rattle.std.proofs.lemmas.Grind.{common_steps}
+use Rattle.std.proofs.{Common.{ap, arith, false, sym, true, ◌+◌, ◌∙◌}, lemmas.Grind.common_steps}
 use Rattle.std.specs.Option.{option_or}
 use Rattle.mk_books.proofs.PlaceLemmas.{cell_from-next, free_page_from, free_page_from-here, free_page_from-next}
 use Rattle.mk_books.proofs.PlaceLemmas.{or_known, resident_from-next}

@@ -1,5 +1,4 @@
-use Rattle.std.proofs.Common.{ap, nat_lt, sym, ◌∙◌}
-use Rattle.std.specs.Bool.{then_some}
+use Rattle.std.{proofs.Common.{ap, nat_lt, sym, ◌∙◌}, specs.Bool.{then_some}}
 use Rattle.mk_books.proofs.UsedBitLemmas.{first_where-bits_of}
 use Rattle.mk_books.proofs.page_uses.lowest_clear.Goals as goal
 

@@ -1,6 +1,5 @@
 use Rattle.mk_laws.proofs.Vocabulary.{refl}
-use Rattle.mk_caller.proofs.Chains.{called, go, stores}
-use Rattle.mk_caller.specs.Moves.{loads}
+use Rattle.mk_caller.{proofs.Chains.{called, go, stores}, specs.Moves.{loads}}
 use Rattle.mk_caller.proofs.calls.move_ptr.Goals as goal
 
 pub returns-clause-called : goal.returns-clause-called

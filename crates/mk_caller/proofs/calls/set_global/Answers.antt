@@ -1,6 +1,5 @@
 use Rattle.mk_laws.proofs.Vocabulary.{refl}
-use Rattle.mk_caller.proofs.Chains.{called, go, go_on}
-use Rattle.mk_caller.specs.Moves.{call_ends, loads, writes}
+use Rattle.mk_caller.{proofs.Chains.{called, go, go_on}, specs.Moves.{call_ends, loads, writes}}
 use Rattle.mk_caller.proofs.calls.set_global.Goals as goal
 
 pub returns-clause-called : goal.returns-clause-called

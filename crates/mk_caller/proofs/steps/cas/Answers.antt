@@ -1,7 +1,5 @@
 use Rattle.mk_laws.proofs.Vocabulary.{Stage, Step, ap, refl}
-use Rattle.mk_caller.proofs.Onward.{moves, write_next}
-use Rattle.mk_caller.proofs.Stepping.{may_access, met}
-use Rattle.mk_caller.specs.Moves.{is_written}
+use Rattle.mk_caller.{proofs.{Onward.{moves, write_next}, Stepping.{may_access, met}}, specs.Moves.{is_written}}
 use Rattle.mk_caller.proofs.steps.cas.Goals as goal
 
 pub cas-requires-clause-enabled : goal.cas-requires-clause-enabled

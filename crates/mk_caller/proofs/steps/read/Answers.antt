@@ -1,6 +1,5 @@
 use Rattle.mk_laws.proofs.Vocabulary.{Step, refl}
-use Rattle.mk_caller.proofs.Onward.{moves, read_next}
-use Rattle.mk_caller.proofs.Stepping.{may_access}
+use Rattle.mk_caller.proofs.{Onward.{moves, read_next}, Stepping.may_access}
 use Rattle.mk_caller.proofs.steps.read.Goals as goal
 
 pub read-requires-clause-enabled : goal.read-requires-clause-enabled

@@ -1,6 +1,5 @@
 use Rattle.std.proofs.lemmas.List.{take_rest}
-use Rattle.mk_check.proofs.Vocabulary.{◌+◌, ◌∙◌}
-use Rattle.mk_check.proofs.FaultLemmas.{fault_from-none, fault_from-some}
+use Rattle.mk_check.proofs.{Vocabulary.{◌+◌, ◌∙◌}, FaultLemmas.{fault_from-none, fault_from-some}}
 use Rattle.mk_check.proofs.checking.check_lines.Goals as goal
 
 pub returns-in-Some-clause-first_fault : goal.returns-in-Some-clause-first_fault

@@ -1,5 +1,4 @@
-use Rattle.mk_check.proofs.Vocabulary.{drop, fault_from, take, ◌+◌, ◌≡◌}
-use Rattle.mk_check.specs.Typing.{first_typing_fault}
+use Rattle.mk_check.{proofs.Vocabulary.{drop, fault_from, take, ◌+◌, ◌≡◌}, specs.Typing.{first_typing_fault}}
 use Rattle.mk_check.proofs.checking.check_lines.Given as goal
 
 abbrev pub invariant-loop-place : goal.invariant-loop-place

@@ -1,5 +1,4 @@
-use Rattle.mk_check.proofs.Vocabulary.{around}
-use Rattle.mk_check.proofs.FaultLemmas.{IfOk-map}
+use Rattle.mk_check.proofs.{Vocabulary.around, FaultLemmas.IfOk-map}
 use Rattle.mk_check.proofs.checking.line_fault.Goals as goal
 
 pub returns-in-Script : goal.returns-in-Script

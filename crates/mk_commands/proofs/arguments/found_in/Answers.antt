@@ -1,6 +1,4 @@
-use Rattle.clap.proofs.WalkLemmas.{both}
-use Rattle.clap.specs.Faults.{is_free_app}
-use Rattle.clap.specs.Words.{app_of, built, is_simple}
+use Rattle.clap.{proofs.WalkLemmas.{both}, specs.{Faults.is_free_app, Words.{app_of, built, is_simple}}}
 use Rattle.mk_commands.proofs.arguments.found_in.Goals as goal
 
 pub returns-in-Ok : goal.returns-in-Ok

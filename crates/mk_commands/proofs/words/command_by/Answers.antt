@@ -1,8 +1,6 @@
 use Rattle.std.proofs.Common.{None, Option, Some, map, refl, string_bytes, subst}
-use Rattle.clap.specs.Words.{app_of}
-use Rattle.clap.specs.declared.parser.matches.ArgMatches.{ArgMatches}
-use Rattle.mk_commands.proofs.Taken.{Finds, answer_is}
-use Rattle.mk_commands.specs.Naming.{form_of, made_of}
+use Rattle.clap.specs.{Words.app_of, declared.parser.matches.ArgMatches.ArgMatches}
+use Rattle.mk_commands.{proofs.Taken.{Finds, answer_is}, specs.Naming.{form_of, made_of}}
 use Rattle.mk_commands.proofs.words.command_by.Goals as goal
 
 pub returns-in-Some : goal.returns-in-Some

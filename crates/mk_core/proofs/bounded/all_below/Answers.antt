@@ -1,5 +1,4 @@
-use Rattle.mk_core.proofs.Vocabulary.{arith, sym, ◌∙◌}
-use Rattle.mk_core.proofs.AllBelow.{all_below_not_is}
+use Rattle.mk_core.proofs.{Vocabulary.{arith, sym, ◌∙◌}, AllBelow.all_below_not_is}
 use Rattle.mk_core.proofs.bounded.all_below.Goals as goal
 
 pub returns-then-not-test : goal.returns-then-not-test

@@ -1,5 +1,4 @@
-use Rattle.mk_core.proofs.Vocabulary.{arith}
-use Rattle.mk_core.proofs.WordBits.{bit_for_past}
+use Rattle.mk_core.proofs.{Vocabulary.arith, WordBits.bit_for_past}
 use Rattle.mk_core.proofs.cells.bit_for.Goals as goal
 
 pub returns : goal.returns

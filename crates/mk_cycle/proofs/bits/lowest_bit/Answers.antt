@@ -1,6 +1,4 @@
-use Rattle.std.proofs.Common.{w64}
-use Rattle.std.proofs.Math.Facts.{Fits-lt-pow}
-use Rattle.std.proofs.lemmas.Nat.Bits.{bit_at-trailing_zeros}
+use Rattle.std.proofs.{Common.w64, Math.Facts.Fits-lt-pow, lemmas.Nat.Bits.bit_at-trailing_zeros}
 use Rattle.mk_laws.proofs.Vocabulary.{ℕ, ap, arith, bit_at, eq-eqb, ◌<◌, ◌^◌, ◌∙◌}
 use Rattle.mk_cycle.proofs.bits.lowest_bit.Goals as goal
 

@@ -1,9 +1,7 @@
 use Rattle.mk_laws.proofs.Vocabulary.{subst, sym, ◌∙◌}
-use Rattle.mk_cycle.proofs.Vocabulary.{Cleans, now_of}
-use Rattle.mk_cycle.proofs.CleaningSteps.{cleans_then}
+use Rattle.mk_cycle.proofs.{Vocabulary.{Cleans, now_of}, CleaningSteps.cleans_then}
 use Rattle.mk_cycle.proofs.cleaning.clean_free.Goals.{After-clear_black}
-use Rattle.mk_words.specs.PageMaps.{HasNoMarks}
-use Rattle.mk_words.specs.States.{TurnState}
+use Rattle.mk_words.specs.{PageMaps.HasNoMarks, States.TurnState}
 use Rattle.mk_cycle.proofs.cleaning.clean_free.Goals as goal
 
 pub clear_marks-requires-clause-found : goal.clear_marks-requires-clause-found

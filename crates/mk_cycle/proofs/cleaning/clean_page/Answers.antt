@@ -1,8 +1,6 @@
 use Rattle.mk_laws.proofs.Vocabulary.{cases_eq, inl, inr, sym, ◌∙◌, ◌≡◌}
-use Rattle.mk_cycle.proofs.Vocabulary.{Cleans, WasUndirty}
-use Rattle.mk_cycle.proofs.Undirty.{undirty_earlier, undirty_later, undirty_now}
-use Rattle.mk_cycle.proofs.CleaningSteps.{cleans_then}
-use Rattle.mk_cycle.proofs.cleaning.clean_page.Goals.{After-look_before-dirty}
+use Rattle.mk_cycle.proofs.{Vocabulary.{Cleans, WasUndirty}, Undirty.{undirty_earlier, undirty_later, undirty_now}}
+use Rattle.mk_cycle.proofs.{CleaningSteps.cleans_then, cleaning.clean_page.Goals.After-look_before-dirty}
 use Rattle.mk_cycle.specs.Cleaning.{IsUnmarked, IsUnscanned}
 use Rattle.mk_cycle.proofs.cleaning.clean_page.Goals as goal
 

@@ -1,5 +1,4 @@
-use Rattle.mk_cycle.proofs.CleaningSteps.{cleans_then}
-use Rattle.mk_cycle.proofs.Undirty.{undirty_earlier}
+use Rattle.mk_cycle.proofs.{CleaningSteps.cleans_then, Undirty.undirty_earlier}
 use Rattle.mk_cycle.proofs.cleaning.clean_words.Goals as goal
 
 pub clear_black-requires-clause-found : goal.clear_black-requires-clause-found

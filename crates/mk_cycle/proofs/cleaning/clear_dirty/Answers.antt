@@ -1,5 +1,4 @@
-use Rattle.mk_cycle.proofs.CleaningSteps.{undirtied}
-use Rattle.mk_cycle.proofs.Undirty.{undirty_behind, undirty_now}
+use Rattle.mk_cycle.proofs.{CleaningSteps.undirtied, Undirty.{undirty_behind, undirty_now}}
 use Rattle.mk_cycle.proofs.cleaning.clear_dirty.Goals as goal
 
 pub returns-then-dirty-ne0-clause-cleans : goal.returns-then-dirty-ne0-clause-cleans

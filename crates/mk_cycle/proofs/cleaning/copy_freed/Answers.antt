@@ -1,9 +1,7 @@
 use Rattle.mk_laws.proofs.Vocabulary.{ℕ, ap, quarantine_word, refl, sym, ◌∙◌}
-use Rattle.mk_cycle.proofs.Vocabulary.{Cleans, IsTurnAt}
-use Rattle.mk_cycle.proofs.Allowed.{in_turn_after, snapshot_allowed}
+use Rattle.mk_cycle.proofs.{Vocabulary.{Cleans, IsTurnAt}, Allowed.{in_turn_after, snapshot_allowed}}
 use Rattle.mk_cycle.proofs.CleaningSteps.{Halves, cleaned_turn, cleans_then, halves, has_snapshot, looked}
-use Rattle.mk_cycle.proofs.CleaningSteps.{snapshot_taken}
-use Rattle.mk_cycle.proofs.MayAct.{calm_admitted}
+use Rattle.mk_cycle.proofs.{CleaningSteps.snapshot_taken, MayAct.calm_admitted}
 use Rattle.mk_cycle.proofs.cleaning.copy_freed.Goals.{After-look-quarantine}
 use Rattle.mk_cycle.proofs.cleaning.copy_freed.Goals as goal
 

@@ -1,11 +1,8 @@
 use Rattle.mk_laws.proofs.Vocabulary.{Config, Step, ap, is_end, refl, subst, ◌<◌, ◌∙◌}
 use Rattle.mk_cycle.proofs.Vocabulary.{PassState, does_step, only_seen_by, sets_tallies}
 use Rattle.mk_cycle.proofs.FinishedCycles.{ended_free, finishes_cycle, gives_call, gives_free, has_released}
-use Rattle.mk_cycle.proofs.finishing.finish_cycle.Goals.{After-count_cycle}
-use Rattle.mk_cycle.proofs.ClosedBy.{promised_later}
-use Rattle.mk_cycle.proofs.EndSteps.{end_allowed}
-use Rattle.mk_cycle.proofs.KeptInParts.{same_config}
-use Rattle.mk_cycle.specs.Closing.{ClosesAsPromised}
+use Rattle.mk_cycle.proofs.{finishing.finish_cycle.Goals.After-count_cycle, ClosedBy.promised_later}
+use Rattle.mk_cycle.{proofs.{EndSteps.end_allowed, KeptInParts.same_config}, specs.Closing.{ClosesAsPromised}}
 use Rattle.mk_cycle.proofs.finishing.finish_cycle.Goals as goal
 
 pub end-requires-clause-enabled : goal.end-requires-clause-enabled

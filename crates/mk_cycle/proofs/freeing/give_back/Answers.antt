@@ -4,11 +4,8 @@ use Rattle.mk_cycle.proofs.Vocabulary.{Acts, AreFreeCells, GivesNothingBack, IsT
 use Rattle.mk_cycle.proofs.GiveBack.{GivesCells, drops_here, gives_all, gives_here, gone_too, turn_d}
 use Rattle.mk_cycle.proofs.GivingSteps.{look_frees, none_then, quar_allowed, used_allowed}
 use Rattle.mk_cycle.proofs.freeing.give_back.Goals.{After-look_among-used, After-used, After-wipe_released}
-use Rattle.mk_cycle.proofs.Allowed.{in_turn_after, in_turn_before}
-use Rattle.mk_cycle.proofs.FreeingSteps.{freed_turn}
-use Rattle.mk_cycle.proofs.MayAct.{calm_admitted}
-use Rattle.mk_cycle.proofs.PageSteps.{same_used}
-use Rattle.mk_cycle.proofs.SettledPages.{some_free, still_free}
+use Rattle.mk_cycle.proofs.{Allowed.{in_turn_after, in_turn_before}, FreeingSteps.freed_turn, MayAct.calm_admitted}
+use Rattle.mk_cycle.proofs.{PageSteps.same_used, SettledPages.{some_free, still_free}}
 use Rattle.mk_cycle.proofs.freeing.give_back.Goals as goal
 
 -- The look gives nothing back, nor does the wiping.

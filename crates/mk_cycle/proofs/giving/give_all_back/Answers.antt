@@ -1,10 +1,8 @@
 use Rattle.mk_laws.proofs.Vocabulary.{head_page, refl, subst, sym, ◌<◌, ◌∙◌}
 use Rattle.mk_cycle.proofs.Vocabulary.{Frees, HoldsGates, WordsState, is_giving_back, now_of}
-use Rattle.mk_cycle.proofs.ClosedBy.{promised_later, promised_when_held}
-use Rattle.mk_cycle.proofs.GivingAll.{all_held, all_told, gives_all_back}
-use Rattle.mk_cycle.proofs.SettledPages.{free_cells_stay, same_occupied}
-use Rattle.mk_cycle.proofs.FreeingSteps.{frees_then}
-use Rattle.mk_cycle.proofs.giving.give_all_back.Goals.{After-settle_pages-settled}
+use Rattle.mk_cycle.proofs.{ClosedBy.{promised_later, promised_when_held}, GivingAll.{all_held, all_told}}
+use Rattle.mk_cycle.proofs.{GivingAll.gives_all_back, SettledPages.{free_cells_stay, same_occupied}}
+use Rattle.mk_cycle.proofs.{FreeingSteps.frees_then, giving.give_all_back.Goals.After-settle_pages-settled}
 use Rattle.mk_words.specs.States.{TurnState}
 use Rattle.mk_cycle.proofs.giving.give_all_back.Goals as goal
 

@@ -1,7 +1,5 @@
 use Rattle.mk_laws.proofs.Vocabulary.{refl, subst, sym, ◌<◌}
-use Rattle.mk_cycle.proofs.Vocabulary.{WordsState}
-use Rattle.mk_cycle.proofs.Allowed.{in_turn_after}
-use Rattle.mk_cycle.proofs.HoldingSteps.{hold_allowed, hold_holds}
+use Rattle.mk_cycle.proofs.{Vocabulary.WordsState, Allowed.in_turn_after, HoldingSteps.{hold_allowed, hold_holds}}
 use Rattle.mk_cycle.proofs.holding.try_hold.Goals as goal
 
 pub try_hold-requires-clause-enabled : goal.try_hold-requires-clause-enabled

@@ -1,11 +1,8 @@
 use Rattle.mk_laws.proofs.Vocabulary.{Step, ap, append_assoc, refl, ◌∙◌}
 use Rattle.mk_cycle.proofs.Vocabulary.{PassState, only_seen_by, other_step_sweeps, sweeps_then}
 use Rattle.mk_cycle.proofs.ReleasedStops.{StopReleases, stop_holds, stop_leaves_cells, stop_leaves_occupied}
-use Rattle.mk_cycle.proofs.ReleasedStops.{stop_releases, stop_tells}
-use Rattle.mk_cycle.proofs.Told.{told_closing, told_earlier, told_later}
-use Rattle.mk_cycle.proofs.Allowed.{in_turn}
-use Rattle.mk_cycle.proofs.ClosedBy.{closed_in_stop}
-use Rattle.mk_cycle.proofs.releasing.release_unmarked.Goals.{After-release}
+use Rattle.mk_cycle.proofs.{ReleasedStops.{stop_releases, stop_tells}, Told.{told_closing, told_earlier, told_later}}
+use Rattle.mk_cycle.proofs.{Allowed.in_turn, ClosedBy.closed_in_stop, releasing.release_unmarked.Goals.After-release}
 use Rattle.mk_cycle.proofs.releasing.release_unmarked.Goals as goal
 
 -- the three parts

@@ -1,7 +1,6 @@
 use Rattle.mk_laws.proofs.Vocabulary.{Page, ℕ, ap, arith, header_in, in_a_word, refl, run_count, ◌+◌, ◌<◌, ◌∙◌, ◌≡◌}
-use Rattle.mk_cycle.proofs.Vocabulary.{PassState, now_of}
-use Rattle.mk_cycle.proofs.PageByPage.{AreSettledBelow, settled_more, settled_none, settled_to}
-use Rattle.mk_cycle.proofs.settling.settle_pages.Goals.{After-known_page-word, In_default}
+use Rattle.mk_cycle.proofs.{Vocabulary.{PassState, now_of}, PageByPage.{AreSettledBelow, settled_more, settled_none}}
+use Rattle.mk_cycle.proofs.{PageByPage.settled_to, settling.settle_pages.Goals.{After-known_page-word, In_default}}
 use Rattle.mk_cycle.proofs.FreeingSteps.{freed_table}
 use Rattle.mk_cycle.proofs.settling.settle_pages.Goals as goal
 

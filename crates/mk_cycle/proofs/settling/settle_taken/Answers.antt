@@ -1,7 +1,5 @@
 use Rattle.mk_laws.proofs.Vocabulary.{ℕ, subst, sym, ◌≤◌}
-use Rattle.mk_cycle.proofs.SettledPages.{head_before, none_at}
-use Rattle.mk_cycle.proofs.FreeingSteps.{freed_turn}
-use Rattle.mk_cycle.proofs.PageSteps.{page_then}
+use Rattle.mk_cycle.proofs.{SettledPages.{head_before, none_at}, FreeingSteps.freed_turn, PageSteps.page_then}
 use Rattle.mk_cycle.proofs.settling.settle_taken.Goals as goal
 
 pub free_unused-requires-clause-turn : goal.free_unused-requires-clause-turn

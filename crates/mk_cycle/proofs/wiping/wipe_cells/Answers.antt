@@ -1,9 +1,8 @@
 use Rattle.std.proofs.Math.Nat.{mul_left_comm}
 use Rattle.mk_laws.proofs.Vocabulary.{ℕ, ap, arith, cases_Bool, false, has_bit, inl, inr, no_bit, refl, subst, sym}
 use Rattle.mk_laws.proofs.Vocabulary.{true, true≢false, without, ◌*◌, ◌+◌, ◌<◌, ◌^◌, ◌∙◌, ◌≡◌, ◌⊎◌}
-use Rattle.mk_cycle.proofs.Vocabulary.{IsUnmappedWord, IsZero}
-use Rattle.mk_cycle.proofs.GivingSteps.{none_at_once, none_then, still_unmapped_word}
-use Rattle.mk_cycle.proofs.RestBits.{fewer_left, left_among, taken_or_gone}
+use Rattle.mk_cycle.proofs.{Vocabulary.{IsUnmappedWord, IsZero}, GivingSteps.{none_at_once, none_then}}
+use Rattle.mk_cycle.proofs.{GivingSteps.still_unmapped_word, RestBits.{fewer_left, left_among, taken_or_gone}}
 use Rattle.mk_cycle.proofs.wiping.wipe_cells.Goals as goal
 
 pub loop-rest-init : goal.loop-rest-init

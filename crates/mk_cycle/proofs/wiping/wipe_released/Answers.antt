@@ -1,6 +1,5 @@
 use Rattle.mk_laws.proofs.Vocabulary.{ℕ, subst, sym, ◌*◌, ◌+◌, ◌<◌, ◌∙◌}
-use Rattle.mk_cycle.proofs.Vocabulary.{IsUnmappedWord, IsZero}
-use Rattle.mk_cycle.proofs.GivingSteps.{none_at_once}
+use Rattle.mk_cycle.proofs.{Vocabulary.{IsUnmappedWord, IsZero}, GivingSteps.none_at_once}
 use Rattle.mk_cycle.proofs.wiping.wipe_released.Goals as goal
 
 pub wipe_cells-requires-clause-unmapped : goal.wipe_cells-requires-clause-unmapped

@@ -1,6 +1,5 @@
 use Rattle.mk_laws.proofs.Vocabulary.{Word, subst, ◌<◌}
-use Rattle.mk_engines.proofs.MarksBeside.{all_looked, goes_then, looked_on, on_looked}
-use Rattle.mk_engines.proofs.MarkedRoots.{marks_roots}
+use Rattle.mk_engines.proofs.{MarksBeside.{all_looked, goes_then, looked_on, on_looked}, MarkedRoots.marks_roots}
 use Rattle.mk_words.specs.States.{WordsState}
 use Rattle.mk_engines.proofs.roots.mark_roots.Goals as goal
 

@@ -1,7 +1,6 @@
 use Rattle.mk_laws.proofs.Vocabulary.{refl, subst, sym, true, ◌≡◌}
 use Rattle.mk_core.specs.Ranges.{is_word}
-use Rattle.mk_cycle.proofs.Allowed.{in_turn, look_allowed}
-use Rattle.mk_cycle.proofs.MayAct.{calm_admitted}
+use Rattle.mk_cycle.proofs.{Allowed.{in_turn, look_allowed}, MayAct.calm_admitted}
 use Rattle.mk_engines.proofs.BesideSteps.{goes_look, no_register}
 use Rattle.mk_words.specs.States.{WordsState}
 use Rattle.mk_engines.proofs.steps.look_at.Goals as goal

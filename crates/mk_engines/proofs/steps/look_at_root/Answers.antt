@@ -1,7 +1,6 @@
 use Rattle.mk_laws.proofs.Vocabulary.{refl, subst, sym, true, ◌≡◌}
 use Rattle.mk_core.specs.Ranges.{is_word}
-use Rattle.mk_cycle.proofs.Allowed.{in_turn}
-use Rattle.mk_cycle.proofs.MayAct.{calm_admitted}
+use Rattle.mk_cycle.proofs.{Allowed.in_turn, MayAct.calm_admitted}
 use Rattle.mk_engines.proofs.BesideSteps.{finds_in_root, may_look_at_root, root_hand}
 use Rattle.mk_words.specs.States.{WordsState}
 use Rattle.mk_engines.proofs.steps.look_at_root.Goals as goal

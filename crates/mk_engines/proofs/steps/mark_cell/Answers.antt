@@ -2,9 +2,7 @@ use Rattle.mk_laws.proofs.Vocabulary.{Step, subst, sym}
 use Rattle.mk_core.proofs.PointedPages.{pointed_within}
 use Rattle.mk_cycle.proofs.Allowed.{in_turn}
 use Rattle.mk_engines.proofs.BesideSteps.{goes_mark, marked_there, may_mark_beside}
-use Rattle.mk_words.specs.States.{now_of}
-use Rattle.mk_words.specs.Steps.{IsEnabledTo}
-use Rattle.mk_words.specs.TurnSteps.{Acts}
+use Rattle.mk_words.specs.{States.now_of, Steps.IsEnabledTo, TurnSteps.Acts}
 use Rattle.mk_engines.proofs.steps.mark_cell.Goals as goal
 
 pub bit-requires : goal.bit-requires

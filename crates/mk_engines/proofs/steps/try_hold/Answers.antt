@@ -1,6 +1,5 @@
 use Rattle.mk_laws.proofs.Vocabulary.{subst, sym, ◌<◌}
-use Rattle.mk_cycle.proofs.Allowed.{in_turn}
-use Rattle.mk_cycle.proofs.HoldingSteps.{hold_allowed}
+use Rattle.mk_cycle.proofs.{Allowed.in_turn, HoldingSteps.hold_allowed}
 use Rattle.mk_engines.proofs.BesideSteps.{goes_hold, hold_others}
 use Rattle.mk_words.specs.States.{WordsState}
 use Rattle.mk_engines.proofs.steps.try_hold.Goals as goal

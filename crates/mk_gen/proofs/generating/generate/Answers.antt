@@ -1,6 +1,5 @@
 -- The text is one of the generated program, which is well typed.
-use Rattle.mk_gen.proofs.Vocabulary.{◌∙◌}
-use Rattle.mk_gen.proofs.Accepted.{is_generated, is_read, is_typed}
+use Rattle.mk_gen.proofs.{Vocabulary.◌∙◌, Accepted.{is_generated, is_read, is_typed}}
 use Rattle.mk_gen.proofs.generating.generate.Goals as goal
 
 pub unreachable-requires : goal.unreachable-requires

@@ -1,6 +1,5 @@
 -- What was written, and the lines of the scripts that are left, are the text.
-use Rattle.std.proofs.Common.{Bor}
-use Rattle.std.specs.String.{string_bytes}
+use Rattle.std.{proofs.Common.{Bor}, specs.String.{string_bytes}}
 use Rattle.mk_gen.proofs.Vocabulary.{List, ℕ, all_names, ap, codes, draw, next_state, turns_of, [], ◌+◌, ◌∙◌, ◌∷◌}
 use Rattle.mk_gen.proofs.Written.{all_scripts_left, name_read, one_script_more}
 use Rattle.mk_gen.proofs.text.generated_text.Goals as goal

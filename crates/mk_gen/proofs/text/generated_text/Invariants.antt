@@ -1,6 +1,5 @@
 -- The text so far, and the lines of the scripts that are left.
-use Rattle.std.proofs.Common.{drop}
-use Rattle.std.specs.String.{string_bytes}
+use Rattle.std.{proofs.Common.{drop}, specs.String.{string_bytes}}
 use Rattle.mk_gen.proofs.Vocabulary.{all_names, generated_text, lines_of_scripts, text_of_lines, turns_of, ◌++◌, ◌≡◌}
 use Rattle.mk_gen.proofs.text.generated_text.Given as goal
 

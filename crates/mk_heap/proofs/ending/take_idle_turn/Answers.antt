@@ -1,17 +1,13 @@
 use Rattle.mk_laws.proofs.Vocabulary.{Host, Seat, ap, arith, false, refl, subst, sym, ◌%◌, ◌∙◌, ◌≡◌}
 use Rattle.mk_core.proofs.PhaseTests.{in_word, not_in_word}
-use Rattle.mk_cycle.proofs.Allowed.{in_turn}
-use Rattle.mk_cycle.proofs.KeptInParts.{free_then, keeps_less}
+use Rattle.mk_cycle.proofs.{Allowed.in_turn, KeptInParts.{free_then, keeps_less}}
 use Rattle.mk_cycle.specs.TurnKeeps.{InTurn, but_phase, unchanged}
 use Rattle.mk_heap.proofs.Overs.{ends_none, ends_one, exact_kept, finished_idle, fresh_free, look_keeps, looked_idle}
-use Rattle.mk_heap.proofs.Overs.{none_is_on, phase_found, tidy_kept}
-use Rattle.mk_heap.proofs.BegunHosts.{taken_then_sweeps}
-use Rattle.mk_heap.proofs.HomeCallers.{taken_overs, taken_phase}
-use Rattle.mk_heap.proofs.MovedHosts.{turn_moves}
+use Rattle.mk_heap.proofs.{Overs.{none_is_on, phase_found, tidy_kept}, BegunHosts.taken_then_sweeps}
+use Rattle.mk_heap.proofs.{HomeCallers.{taken_overs, taken_phase}, MovedHosts.turn_moves}
 use Rattle.mk_heap.proofs.ending.take_idle_turn.Goals.{After-look-found}
 use Rattle.mk_turns.proofs.Sweeping.{other_step_sweeps, step_then_sweeps}
-use Rattle.mk_words.specs.Seats.{Has, has_over}
-use Rattle.mk_words.specs.States.{PassState}
+use Rattle.mk_words.specs.{Seats.{Has, has_over}, States.PassState}
 use Rattle.mk_heap.proofs.ending.take_idle_turn.Goals as goal
 
 -- The turn is the host's, before its `over`.

@@ -1,9 +1,7 @@
 use Rattle.mk_laws.proofs.Vocabulary.{Host, Seat, ap, arith, is_number_of, subst, sym, ◌<◌, ◌∙◌, ◌≡◌}
-use Rattle.mk_heap_tests.proofs.Vocabulary.{PassState, WordsState, in_turn}
-use Rattle.mk_heap_tests.proofs.JoinedHosts.{none_is_held_at, pass_of}
+use Rattle.mk_heap_tests.proofs.{Vocabulary.{PassState, WordsState, in_turn}, JoinedHosts.{none_is_held_at, pass_of}}
 use Rattle.mk_cycle.proofs.HoldingSteps.{hold_allowed}
-use Rattle.mk_heap.proofs.ClientSteps.{pass_of_later}
-use Rattle.mk_heap.proofs.Overs.{fresh_free}
+use Rattle.mk_heap.proofs.{ClientSteps.pass_of_later, Overs.fresh_free}
 use Rattle.mk_heap_tests.proofs.gates.hold_first.Goals as goal
 
 pub new-first-requires-clause-idle : goal.new-first-requires-clause-idle

@@ -1,5 +1,4 @@
-use Rattle.mk_heap_tests.proofs.Vocabulary.{in_turn}
-use Rattle.mk_heap_tests.proofs.LateMarkers.{HasLooked, host_may, idle, looked_table, marking}
+use Rattle.mk_heap_tests.proofs.{Vocabulary.in_turn, LateMarkers.{HasLooked, host_may, idle, looked_table, marking}}
 use Rattle.mk_heap_tests.proofs.late_markers.begin.Goals.{After-look-found}
 use Rattle.mk_core.proofs.PhaseTests.{not_in_word}
 use Rattle.mk_heap_tests.proofs.late_markers.begin.Goals as goal

@@ -1,6 +1,5 @@
 use Rattle.mk_laws.proofs.Vocabulary.{Config, ap, length, subst, sym, ◌<◌, ◌∙◌}
-use Rattle.mk_heap_tests.proofs.Vocabulary.{PassState}
-use Rattle.mk_heap_tests.proofs.JoinedHosts.{caller_is_home, first_split, still_unused, unused}
+use Rattle.mk_heap_tests.proofs.{Vocabulary.PassState, JoinedHosts.{caller_is_home, first_split, still_unused, unused}}
 use Rattle.mk_heap_tests.proofs.LateMarkers.{host_at_first, marker_is_home, marker_is_outside, marker_split}
 use Rattle.mk_heap_tests.proofs.late_markers.come_to_a_cycle.Goals as goal
 

@@ -1,6 +1,5 @@
 use Rattle.mk_laws.proofs.Vocabulary.{ap, refl, subst, sym, [], ◌∙◌, ◌∷◌, ◌≡◌}
-use Rattle.mk_heap_tests.proofs.Vocabulary.{CallerState, PassState}
-use Rattle.mk_heap_tests.proofs.JoinedHosts.{callers_are_joined}
+use Rattle.mk_heap_tests.proofs.{Vocabulary.{CallerState, PassState}, JoinedHosts.callers_are_joined}
 use Rattle.mk_heap_tests.proofs.LateMarkers.{joined_one, only_seat}
 use Rattle.mk_heap_tests.proofs.late_markers.come_when_over.Goals as goal
 

@@ -1,6 +1,5 @@
 use Rattle.mk_laws.proofs.Vocabulary.{ap, arith, subst, sym, ◌∙◌}
-use Rattle.mk_heap_tests.proofs.Vocabulary.{CallerState, PassState, WordsState}
-use Rattle.mk_heap_tests.proofs.HeldObjects.{may_at_first}
+use Rattle.mk_heap_tests.proofs.{Vocabulary.{CallerState, PassState, WordsState}, HeldObjects.may_at_first}
 use Rattle.mk_heap_tests.proofs.LateMarkers.{attends_not}
 use Rattle.mk_marker.specs.Markers.{IsOut}
 use Rattle.mk_heap_tests.proofs.late_markers.mark_beside.Goals as goal

@@ -1,6 +1,5 @@
 use Rattle.mk_laws.proofs.Vocabulary.{ap, sym, ◌∙◌}
-use Rattle.mk_heap_tests.proofs.Vocabulary.{PassState}
-use Rattle.mk_heap_tests.proofs.HeldObjects.{may_at, same_then}
+use Rattle.mk_heap_tests.proofs.{Vocabulary.PassState, HeldObjects.{may_at, same_then}}
 use Rattle.mk_heap_tests.proofs.objects.fill_and_free.Goals as goal
 
 pub make_eight-once-requires-clause-may : goal.make_eight-once-requires-clause-may

@@ -1,9 +1,7 @@
 use Rattle.mk_laws.proofs.Vocabulary.{Op, subst}
-use Rattle.mk_heap_tests.proofs.Vocabulary.{in_turn}
-use Rattle.mk_heap_tests.proofs.NewTurns.{IsTaken, phase, taken_table}
+use Rattle.mk_heap_tests.proofs.{Vocabulary.in_turn, NewTurns.{IsTaken, phase, taken_table}}
 use Rattle.mk_heap_tests.proofs.RetiringTurns.{double_back, double_may_give, freed_back, freed_may_give, is_unloaded}
-use Rattle.mk_heap_tests.proofs.RetiringTurns.{may_retire}
-use Rattle.mk_heap_tests.proofs.retiring.retire.Goals.{After-is_in_order-2}
+use Rattle.mk_heap_tests.proofs.{RetiringTurns.may_retire, retiring.retire.Goals.After-is_in_order-2}
 use Rattle.mk_objects.specs.Retired.{Retires}
 use Rattle.mk_heap_tests.proofs.retiring.retire.Goals as goal
 

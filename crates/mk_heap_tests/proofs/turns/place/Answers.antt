@@ -1,8 +1,6 @@
 use Rattle.mk_laws.proofs.Vocabulary.{Flight, ap, false, refl}
-use Rattle.mk_heap_tests.proofs.Vocabulary.{in_turn}
-use Rattle.mk_heap_tests.proofs.NewTurns.{IsTaken, first_new, may_make, passed_back, placed_table, seeks, taken_table}
-use Rattle.mk_heap_tests.proofs.NewTurns.{unplaced}
-use Rattle.mk_heap_tests.proofs.turns.place.Goals.{After-is_in_order-2}
+use Rattle.mk_heap_tests.proofs.{Vocabulary.in_turn, NewTurns.{IsTaken, first_new, may_make, passed_back, placed_table}}
+use Rattle.mk_heap_tests.proofs.{NewTurns.{seeks, taken_table, unplaced}, turns.place.Goals.After-is_in_order-2}
 use Rattle.mk_alloc.proofs.Going.{give_allowed}
 use Rattle.mk_heap_tests.proofs.turns.place.Goals as goal
 

@@ -1,6 +1,5 @@
 use Rattle.mk_laws.proofs.Vocabulary.{Config, length, subst, sym, ◌<◌}
-use Rattle.mk_heap_tests.proofs.Vocabulary.{HostState, IsPassFor, WordsState}
-use Rattle.mk_heap_tests.proofs.JoinedHosts.{first_for, first_of}
+use Rattle.mk_heap_tests.proofs.{Vocabulary.{HostState, IsPassFor, WordsState}, JoinedHosts.{first_for, first_of}}
 use Rattle.mk_heap_tests.proofs.turns.places.Goals as goal
 
 pub place_all-requires-clause-pass : goal.place_all-requires-clause-pass

@@ -1,5 +1,4 @@
-use Rattle.std.proofs.Common.{arith, length-take, length-take-le, take, ◌++◌, ◌+◌, ◌≡◌}
-use Rattle.std.proofs.lemmas.Grind.{common_steps}
+use Rattle.std.proofs.{Common.{arith, length-take, length-take-le, take, ◌++◌, ◌+◌, ◌≡◌}, lemmas.Grind.common_steps}
 use Rattle.mk_io.proofs.Told.{Takes-append, TakesCount-append}
 use Rattle.mk_io.proofs.reading.read_all.Goals as goal
 

@@ -1,5 +1,4 @@
-use Rattle.mk_marker.proofs.FewCells.{few_cells}
-use Rattle.mk_marker.proofs.Moving.{claimed, may_claim_seen}
+use Rattle.mk_marker.proofs.{FewCells.few_cells, Moving.{claimed, may_claim_seen}}
 use Rattle.mk_marker.proofs.steps.claim.Goals as goal
 
 pub claim-requires-clause-enabled : goal.claim-requires-clause-enabled

@@ -1,9 +1,7 @@
 use Rattle.mk_laws.proofs.Vocabulary.{Option, Steady, ℕ, ap, arith, free_page, header_at, header_of, heads_run}
 use Rattle.mk_laws.proofs.Vocabulary.{slice_index_or, sym, ◌∙◌, ◌≡◌}
-use Rattle.mk_objects.proofs.Vocabulary.{PassState, now_of, option_map}
-use Rattle.mk_objects.proofs.DecidedFrees.{frees_behind, looks_prepare, still_open}
-use Rattle.mk_objects.proofs.JoinedLooks.{looks_left, looks_table}
-use Rattle.mk_objects.proofs.LargeFrees.{heads_none}
+use Rattle.mk_objects.proofs.{Vocabulary.{PassState, now_of, option_map}, DecidedFrees.{frees_behind, looks_prepare}}
+use Rattle.mk_objects.proofs.{DecidedFrees.still_open, JoinedLooks.{looks_left, looks_table}, LargeFrees.heads_none}
 use Rattle.mk_objects.proofs.freeing.free_found.Goals as goal
 
 pub free_small-requires-clause-gates : goal.free_small-requires-clause-gates

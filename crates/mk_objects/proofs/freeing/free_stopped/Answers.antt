@@ -1,9 +1,6 @@
 use Rattle.mk_laws.proofs.Vocabulary.{Steady, ap, arith, or_right, subst, sym, ◌*◌, ◌+◌, ◌-◌, ◌<◌, ◌^◌, ◌∙◌, ◌≡◌, ◌≤◌}
-use Rattle.mk_objects.proofs.Vocabulary.{PassState, now_of}
-use Rattle.mk_objects.proofs.LargeFrees.{frees_large, held_then, run_is, run_mapped}
-use Rattle.mk_objects.proofs.ClearedRuns.{stopped_by}
-use Rattle.mk_objects.proofs.JoinedLooks.{looks_left}
-use Rattle.mk_objects.proofs.SmallFrees.{freed_now}
+use Rattle.mk_objects.proofs.{Vocabulary.{PassState, now_of}, LargeFrees.{frees_large, held_then, run_is, run_mapped}}
+use Rattle.mk_objects.proofs.{ClearedRuns.stopped_by, JoinedLooks.looks_left, SmallFrees.freed_now}
 use Rattle.mk_objects.proofs.freeing.free_stopped.Goals as goal
 
 pub quarantine-requires-clause-gates : goal.quarantine-requires-clause-gates

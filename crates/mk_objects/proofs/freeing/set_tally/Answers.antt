@@ -1,7 +1,4 @@
-use Rattle.mk_objects.proofs.Vocabulary.{PassState}
-use Rattle.mk_objects.proofs.Looks.{acting_now}
-use Rattle.mk_objects.proofs.MayAct.{may_tally}
-use Rattle.mk_objects.proofs.SetGates.{sets_tally}
+use Rattle.mk_objects.proofs.{Vocabulary.PassState, Looks.acting_now, MayAct.may_tally, SetGates.sets_tally}
 use Rattle.mk_objects.proofs.freeing.set_tally.Goals as goal
 
 pub tally-requires-clause-enabled : goal.tally-requires-clause-enabled

@@ -1,9 +1,6 @@
 use Rattle.mk_laws.proofs.Vocabulary.{ap, false, is_number_of, is_run_gone, not, true, ◌∙◌, ◌≡◌}
-use Rattle.mk_objects.proofs.Vocabulary.{PassState, is_settling, now_of}
-use Rattle.mk_objects.proofs.SetGates.{one_there, set_nothing, sets_open}
-use Rattle.mk_objects.proofs.ClearedRuns.{still_gone}
-use Rattle.mk_objects.proofs.Looks.{acting_now}
-use Rattle.mk_objects.proofs.MayAct.{may_open}
+use Rattle.mk_objects.proofs.{Vocabulary.{PassState, is_settling, now_of}, SetGates.{one_there, set_nothing, sets_open}}
+use Rattle.mk_objects.proofs.{ClearedRuns.still_gone, Looks.acting_now, MayAct.may_open}
 use Rattle.mk_objects.proofs.gates.open_other.Goals as goal
 
 pub open_gate-requires-clause-enabled : goal.open_gate-requires-clause-enabled

@@ -1,9 +1,6 @@
 use Rattle.mk_laws.proofs.Vocabulary.{Step, refl, sym, ◌∙◌}
-use Rattle.mk_objects.proofs.Vocabulary.{PassState, decides_nothing}
-use Rattle.mk_objects.proofs.Looks.{acting_caller, acting_now}
-use Rattle.mk_objects.proofs.LoadedFrees.{value_kept}
-use Rattle.mk_objects.proofs.MayAct.{may_hold}
-use Rattle.mk_objects.proofs.SetGates.{sets_hold, tried}
+use Rattle.mk_objects.proofs.{Vocabulary.{PassState, decides_nothing}, Looks.{acting_caller, acting_now}}
+use Rattle.mk_objects.proofs.{LoadedFrees.value_kept, MayAct.may_hold, SetGates.{sets_hold, tried}}
 use Rattle.mk_objects.proofs.gates.try_hold.Goals as goal
 
 pub try_hold-requires-clause-enabled : goal.try_hold-requires-clause-enabled

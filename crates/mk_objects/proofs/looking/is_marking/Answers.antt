@@ -1,7 +1,5 @@
 use Rattle.mk_laws.proofs.Vocabulary.{ℕ, ap, ◌==◌, ◌∙◌}
-use Rattle.mk_objects.proofs.Looks.{acting_now, found_phase, look_reaches}
-use Rattle.mk_objects.proofs.MayAct.{may_look_phase}
-use Rattle.mk_objects.proofs.Unchanged.{OfPhase}
+use Rattle.mk_objects.proofs.{Looks.{acting_now, found_phase, look_reaches}, MayAct.may_look_phase, Unchanged.OfPhase}
 use Rattle.mk_objects.proofs.looking.is_marking.Goals as goal
 
 pub look-found-requires-clause-enabled : goal.look-found-requires-clause-enabled

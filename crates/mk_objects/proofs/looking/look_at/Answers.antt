@@ -1,9 +1,6 @@
 use Rattle.mk_laws.proofs.Vocabulary.{Step}
-use Rattle.mk_objects.proofs.Vocabulary.{decides_nothing}
-use Rattle.mk_objects.proofs.Looks.{acting_caller, acting_now, found_steady, look_reaches, plain_is_idle}
-use Rattle.mk_objects.proofs.LoadedFrees.{value_kept}
-use Rattle.mk_objects.proofs.MayAct.{may_look}
-use Rattle.mk_objects.proofs.Unchanged.{steady_is_plain}
+use Rattle.mk_objects.proofs.{Vocabulary.decides_nothing, Looks.{acting_caller, acting_now, found_steady, look_reaches}}
+use Rattle.mk_objects.proofs.{Looks.plain_is_idle, LoadedFrees.value_kept, MayAct.may_look, Unchanged.steady_is_plain}
 use Rattle.mk_objects.proofs.looking.look_at.Goals as goal
 
 pub look-requires-clause-enabled : goal.look-requires-clause-enabled

@@ -1,8 +1,7 @@
 use Rattle.mk_laws.proofs.Vocabulary.{IsSized, Object, Step, ap, arith, header_made, pages_made, subst, sym, ◌+◌, ◌<◌}
 use Rattle.mk_laws.proofs.Vocabulary.{◌∙◌}
-use Rattle.mk_objects.proofs.Vocabulary.{Acts, IsEnabledTo, PassState, object_for}
-use Rattle.mk_objects.proofs.Serves.{carved_all, free_pages_of, head_may, heads_on, knows_place}
-use Rattle.mk_objects.proofs.PlacedNews.{head_sweeps}
+use Rattle.mk_objects.proofs.{Vocabulary.{Acts, IsEnabledTo, PassState, object_for}, Serves.{carved_all, free_pages_of}}
+use Rattle.mk_objects.proofs.{Serves.{head_may, heads_on, knows_place}, PlacedNews.head_sweeps}
 use Rattle.mk_objects.proofs.placing.carve.Goals as goal
 
 pub overflow_add-place : goal.overflow_add-place

@@ -1,6 +1,5 @@
 use Rattle.mk_laws.proofs.Vocabulary.{eqb-false, eqb-true, header_at, sym, ◌∙◌}
-use Rattle.mk_objects.proofs.Vocabulary.{PassState, now_of}
-use Rattle.mk_objects.proofs.Serves.{block_ready, knows_place}
+use Rattle.mk_objects.proofs.{Vocabulary.{PassState, now_of}, Serves.{block_ready, knows_place}}
 use Rattle.mk_turns.proofs.Sweeping.{nothing_sweeps}
 use Rattle.mk_objects.proofs.placing.make_ready.Goals as goal
 

@@ -1,8 +1,7 @@
 use Rattle.mk_laws.proofs.Vocabulary.{arith, histories_keep_lengths, place_on_pages, ◌∙◌, ◌≡◌}
 use Rattle.mk_objects.proofs.Vocabulary.{PassState, now_of, object_for}
-use Rattle.mk_objects.proofs.JoinedLooks.{granted_behind_looks, looks_nothing}
-use Rattle.mk_objects.proofs.PlacedNews.{fit_found, fit_within, goes_behind, looks_sweep, place_found}
-use Rattle.mk_objects.proofs.placing.place_apart.Goals.{After-seek}
+use Rattle.mk_objects.proofs.{JoinedLooks.{granted_behind_looks, looks_nothing}, PlacedNews.{fit_found, fit_within}}
+use Rattle.mk_objects.proofs.{PlacedNews.{goes_behind, looks_sweep, place_found}, placing.place_apart.Goals.After-seek}
 use Rattle.mk_objects.proofs.placing.place_apart.Goals as goal
 
 -- the place that was sought is where it fits

@@ -1,10 +1,9 @@
 use Rattle.mk_laws.proofs.Vocabulary.{Kind, List, Some, arith, histories_keep_lengths, length, ltb-true, place_on_pages}
 use Rattle.mk_laws.proofs.Vocabulary.{subst, sym, ◌<◌, ◌≡◌}
-use Rattle.mk_objects.proofs.Vocabulary.{PassState, now_of, object_for}
-use Rattle.mk_objects.proofs.JoinedLooks.{granted_behind_looks, looks_nothing}
-use Rattle.mk_objects.proofs.PlacedNews.{fit_found, fit_within, goes_behind, place_found, shape_asked, type_asked}
+use Rattle.mk_objects.{proofs.Vocabulary.{PassState, now_of, object_for}, specs.Shapes.{object_shaped}}
+use Rattle.mk_objects.proofs.{JoinedLooks.{granted_behind_looks, looks_nothing}, PlacedNews.{fit_found, fit_within}}
+use Rattle.mk_objects.proofs.PlacedNews.{goes_behind, place_found, shape_asked, type_asked}
 use Rattle.mk_objects.proofs.placing.place_object.Goals.{After-shape_of-shape, In-Some}
-use Rattle.mk_objects.specs.Shapes.{object_shaped}
 use Rattle.mk_objects.proofs.placing.place_object.Goals as goal
 
 -- the shape is that of the object

@@ -1,11 +1,9 @@
 use Rattle.mk_laws.proofs.Vocabulary.{IsSized, Object, ap, arith, refl, subst, sym, words_made, words_within, ◌∙◌, ◌≡◌}
-use Rattle.mk_objects.proofs.Vocabulary.{PassState, object_for}
-use Rattle.mk_objects.proofs.Serves.{KnowsPlace, knows_place, place_unused}
+use Rattle.mk_objects.proofs.{Vocabulary.{PassState, object_for}, Serves.{KnowsPlace, knows_place, place_unused}}
 use Rattle.mk_objects.proofs.Takes.{HasGranted, HasTaken, counted, counted_held, few_held, grant_address, grant_admits}
 use Rattle.mk_objects.proofs.Takes.{grant_may, grant_on, grant_register, one_bit_more, small_index, tally_may, tally_on}
-use Rattle.mk_objects.proofs.Takes.{used_may, used_on}
-use Rattle.mk_objects.proofs.placing.serve.Goals.{After-grant, After-is_in_order, After-used}
-use Rattle.mk_objects.proofs.PlacedNews.{serving_sweeps}
+use Rattle.mk_objects.proofs.{Takes.{used_may, used_on}, placing.serve.Goals.{After-grant, After-is_in_order}}
+use Rattle.mk_objects.proofs.{placing.serve.Goals.After-used, PlacedNews.serving_sweeps}
 use Rattle.mk_objects.proofs.placing.serve.Goals as goal
 
 -- what is known of the place

@@ -1,5 +1,4 @@
-use Rattle.mk_objects.proofs.JoinedLooks.{granted_behind_looks, looks_call, looks_joined}
-use Rattle.mk_objects.proofs.PlacedNews.{looks_then_sweep}
+use Rattle.mk_objects.proofs.{JoinedLooks.{granted_behind_looks, looks_call, looks_joined}, PlacedNews.looks_then_sweep}
 use Rattle.mk_objects.proofs.placing.serve_now.Goals as goal
 
 pub serve-requires-clause-register : goal.serve-requires-clause-register

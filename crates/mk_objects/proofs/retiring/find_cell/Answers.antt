@@ -1,6 +1,5 @@
 use Rattle.mk_laws.proofs.Vocabulary.{Cell, Option, Some, lt-ltb, subst, sym, ◌<◌, ◌∙◌, ◌≡◌}
-use Rattle.mk_objects.proofs.Vocabulary.{PassState}
-use Rattle.mk_objects.proofs.FreedObjects.{IsPointed, pointed_now}
+use Rattle.mk_objects.proofs.{Vocabulary.PassState, FreedObjects.{IsPointed, pointed_now}}
 use Rattle.mk_objects.proofs.retiring.find_cell.Goals.{After-is_in_order, After-lookup}
 use Rattle.mk_objects.proofs.retiring.find_cell.Goals as goal
 

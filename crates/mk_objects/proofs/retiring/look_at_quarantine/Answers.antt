@@ -1,8 +1,6 @@
 use Rattle.mk_laws.proofs.Vocabulary.{Step, Word, refl}
-use Rattle.mk_objects.proofs.Vocabulary.{PassState, call_of}
-use Rattle.mk_objects.proofs.Looks.{acting_caller, acting_now, found_quarantine}
-use Rattle.mk_objects.proofs.FreeSteps.{see_keeps, see_reaches}
-use Rattle.mk_objects.proofs.LoadedFrees.{free_step_admits, loaded_undecided}
+use Rattle.mk_objects.proofs.{Vocabulary.{PassState, call_of}, Looks.{acting_caller, acting_now, found_quarantine}}
+use Rattle.mk_objects.proofs.{FreeSteps.{see_keeps, see_reaches}, LoadedFrees.{free_step_admits, loaded_undecided}}
 use Rattle.mk_objects.proofs.MayAct.{free_is_acting, may_look_quarantine}
 use Rattle.mk_objects.proofs.retiring.look_at_quarantine.Goals as goal
 

@@ -1,6 +1,5 @@
 use Rattle.mk_laws.proofs.Vocabulary.{Page, ap, false, sym, ◌∙◌, ◌≡◌}
-use Rattle.mk_objects.proofs.Vocabulary.{now_of, option_map}
-use Rattle.mk_objects.proofs.FoundPlaces.{cell_is_there, cell_told}
+use Rattle.mk_objects.proofs.{Vocabulary.{now_of, option_map}, FoundPlaces.{cell_is_there, cell_told}}
 use Rattle.mk_objects.proofs.seeking.free_cell.Goals.{After-lowest_free}
 use Rattle.mk_page_map.specs.Laws.{free_cell_on}
 use Rattle.mk_objects.proofs.seeking.free_cell.Goals as goal

@@ -1,7 +1,6 @@
 use Rattle.mk_laws.proofs.Vocabulary.{ap, arith, cond-true, header_at, histories_keep_lengths, le-leb, sym, ◌==◌, ◌∙◌}
-use Rattle.mk_objects.proofs.Vocabulary.{PassState, now_of}
-use Rattle.mk_objects.proofs.FoundPlaces.{IsBlock, block_found, block_has_header, place_in_block}
-use Rattle.mk_objects.proofs.seeking.seek_cell.Goals.{In-Some-first_block}
+use Rattle.mk_objects.proofs.{Vocabulary.{PassState, now_of}, FoundPlaces.{IsBlock, block_found, block_has_header}}
+use Rattle.mk_objects.proofs.{FoundPlaces.place_in_block, seeking.seek_cell.Goals.In-Some-first_block}
 use Rattle.mk_objects.proofs.seeking.seek_cell.Goals as goal
 
 -- the block that was found

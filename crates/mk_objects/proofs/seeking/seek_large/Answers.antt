@@ -1,6 +1,5 @@
 use Rattle.mk_laws.proofs.Vocabulary.{arith, histories_keep_lengths, length, ◌≡◌}
-use Rattle.mk_objects.proofs.Vocabulary.{PassState, now_of}
-use Rattle.mk_objects.proofs.FoundPlaces.{resident_few}
+use Rattle.mk_objects.proofs.{Vocabulary.{PassState, now_of}, FoundPlaces.resident_few}
 use Rattle.mk_objects.proofs.seeking.seek_large.Goals as goal
 
 pub overflow_add-resident : goal.overflow_add-resident

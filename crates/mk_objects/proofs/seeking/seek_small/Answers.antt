@@ -1,6 +1,5 @@
 use Rattle.mk_laws.proofs.Vocabulary.{arith, histories_keep_lengths, sym, ◌∙◌}
-use Rattle.mk_objects.proofs.Vocabulary.{PassState, now_of}
-use Rattle.mk_objects.proofs.FoundPlaces.{block_found, place_in_block}
+use Rattle.mk_objects.proofs.{Vocabulary.{PassState, now_of}, FoundPlaces.{block_found, place_in_block}}
 use Rattle.mk_objects.proofs.seeking.seek_small.Goals as goal
 
 pub free_cell-requires-clause-within : goal.free_cell-requires-clause-within

@@ -1,6 +1,5 @@
 use Rattle.mk_laws.proofs.Vocabulary.{[]}
-use Rattle.mk_objects.proofs.Vocabulary.{ComesTo, is_clearing, world_of}
-use Rattle.mk_objects.specs.Unmapping.{UnmappedTo}
+use Rattle.mk_objects.{proofs.Vocabulary.{ComesTo, is_clearing, world_of}, specs.Unmapping.{UnmappedTo}}
 use Rattle.mk_objects.proofs.unmapping.unmap_run.Given as goal
 
 abbrev pub invariant-loop-distance : goal.invariant-loop-distance

@@ -1,6 +1,5 @@
 use Rattle.mk_laws.proofs.Vocabulary.{arith, subst, ◌*◌, ◌≡◌}
-use Rattle.mk_objects.proofs.Vocabulary.{now_of}
-use Rattle.mk_objects.proofs.WipedRuns.{still_may, wiped_from, wiped_now, wipes_named, wipes_then}
+use Rattle.mk_objects.proofs.{Vocabulary.now_of, WipedRuns.{still_may, wiped_from, wiped_now, wipes_named, wipes_then}}
 use Rattle.mk_objects.specs.Unmapping.{AreWiped}
 use Rattle.mk_objects.proofs.wiping.wipe_page.Goals as goal
 

@@ -1,7 +1,6 @@
 use Rattle.mk_laws.proofs.Vocabulary.{arith}
 use Rattle.mk_objects.proofs.WipedRuns.{still_may, wiped_all, wiped_from, wiped_now, wipes_named, wipes_then}
-use Rattle.mk_objects.proofs.wiping.wipe_run.Goals.{Start}
-use Rattle.mk_objects.specs.Unmapping.{MayWipe}
+use Rattle.mk_objects.{proofs.wiping.wipe_run.Goals.{Start}, specs.Unmapping.{MayWipe}}
 use Rattle.mk_objects.proofs.wiping.wipe_run.Goals as goal
 
 may : (c : Start) → MayWipe c.args.turn.now.pass c.args.run

@@ -1,9 +1,7 @@
-use Rattle.std.proofs.Common.{string_bytes}
-use Rattle.std.proofs.lemmas.Option.{slice_get_read}
+use Rattle.std.proofs.{Common.string_bytes, lemmas.Option.slice_get_read}
 use Rattle.mk_laws.proofs.Vocabulary.{List, ℕ, ap, arith, length, refl, sym, ◌++◌, ◌∙◌, ◌≡◌}
 use Rattle.mk_outputs.proofs.Summaries.{lines_done, lines_more, ops_done, ops_more}
-use Rattle.mk_outputs.specs.Summary.{total_line}
-use Rattle.mk_outputs.specs.SummedTexts.{all_ops, line_of_text, lines_from}
+use Rattle.mk_outputs.specs.{Summary.total_line, SummedTexts.{all_ops, line_of_text, lines_from}}
 use Rattle.mk_outputs.proofs.generating.summary_of.Goals as goal
 
 pub loop-text-preserved : goal.loop-text-preserved

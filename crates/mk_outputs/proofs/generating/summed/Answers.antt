@@ -1,14 +1,10 @@
 use Rattle.std.proofs.Common.{Global, Vec, slice_get}
 use Rattle.mk_laws.proofs.Vocabulary.{List, ℕ, ap, arith, false, length, refl, subst, sym, true, ◌∙◌, ◌≡◌}
-use Rattle.mk_check.specs.Declarations.{config_of}
-use Rattle.mk_check.specs.declared.text.Text.{Text}
+use Rattle.mk_check.specs.{Declarations.config_of, declared.text.Text.Text}
 use Rattle.mk_engines.specs.Roots.{CyclesMarkRootsFirst}
 use Rattle.mk_heap.specs.Reports.{history_of}
-use Rattle.mk_outputs.proofs.Summaries.{are_few, four, run_is_summed}
-use Rattle.mk_outputs.specs.SummedTexts.{summary_of_texts}
-use Rattle.mk_run.specs.Headline.{cycles_go_on}
-use Rattle.mk_run.specs.Running.{IsRunOf}
-use Rattle.mk_run.specs.Unswept.{IsUnswept}
+use Rattle.mk_outputs.{proofs.Summaries.{are_few, four, run_is_summed}, specs.SummedTexts.{summary_of_texts}}
+use Rattle.mk_run.specs.{Headline.cycles_go_on, Running.IsRunOf, Unswept.IsUnswept}
 use Rattle.mk_script.specs.declared.items.Item.{Item}
 use Rattle.mk_outputs.proofs.generating.summed.Goals as goal
 

@@ -1,5 +1,4 @@
-use Rattle.mk_page_map.proofs.Vocabulary.{ℕ, ap, bit_at, nat_eq, ◌∙◌}
-use Rattle.mk_page_map.proofs.LowestBits.{all_ones, low_ones, ones_shifted}
+use Rattle.mk_page_map.proofs.{Vocabulary.{ℕ, ap, bit_at, nat_eq, ◌∙◌}, LowestBits.{all_ones, low_ones, ones_shifted}}
 use Rattle.mk_page_map.proofs.sets.ones_below.Goals as goal
 
 pub returns-then-end-lt64 : goal.returns-then-end-lt64

@@ -1,5 +1,4 @@
-use Rattle.mk_page_map.proofs.Vocabulary.{AreSets}
-use Rattle.mk_page_map.proofs.FreeSets.{HaveFreeBelow}
+use Rattle.mk_page_map.proofs.{Vocabulary.AreSets, FreeSets.HaveFreeBelow}
 use Rattle.mk_page_map.proofs.sorting.free_sets.Given as goal
 
 abbrev pub invariant-loop-word : goal.invariant-loop-word

@@ -1,6 +1,5 @@
 use Rattle.mk_page_map.proofs.Vocabulary.{HasClass, PageKind, ℕ, is_member, is_of_set, subst, sym, use_of_kind, ◌<◌}
-use Rattle.mk_page_map.proofs.Vocabulary.{◌≡◌}
-use Rattle.mk_page_map.proofs.BlockSets.{joined_blocks}
+use Rattle.mk_page_map.proofs.{Vocabulary.◌≡◌, BlockSets.joined_blocks}
 use Rattle.mk_page_map.proofs.sorting.join_blocks.Goals as goal
 
 pub returns-in-Block-clause-joined : goal.returns-in-Block-clause-joined

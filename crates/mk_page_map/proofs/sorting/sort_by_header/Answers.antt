@@ -1,6 +1,5 @@
 use Rattle.mk_page_map.proofs.Vocabulary.{ℕ, ap, arith, is_free_page, is_member, is_of_set, not, sym, use_of_kind, ◌<◌}
-use Rattle.mk_page_map.proofs.Vocabulary.{◌∙◌, ◌≡◌, ◌≤◌}
-use Rattle.mk_page_map.proofs.BlockSets.{each_set}
+use Rattle.mk_page_map.proofs.{Vocabulary.{◌∙◌, ◌≡◌, ◌≤◌}, BlockSets.each_set}
 use Rattle.mk_page_map.proofs.sorting.sort_by_header.Goals as goal
 
 -- a page that becomes free

@@ -1,5 +1,4 @@
-use Rattle.mk_replay.proofs.Vocabulary.{Ok, form_of, texts_of}
-use Rattle.mk_replay.proofs.FormsInTurn.{goes_on, single}
+use Rattle.mk_replay.proofs.{Vocabulary.{Ok, form_of, texts_of}, FormsInTurn.{goes_on, single}}
 use Rattle.mk_laws.proofs.Vocabulary.{ap, sym, ◌∙◌}
 use Rattle.mk_replay.specs.Entries.{forms_so_far, with_form}
 use Rattle.mk_replay.proofs.lines.replace_forms.Goals as goal

@@ -1,5 +1,4 @@
-use Rattle.mk_replay.proofs.Vocabulary.{texts_of}
-use Rattle.mk_replay.specs.Schedules.{pieces_of}
+use Rattle.mk_replay.{proofs.Vocabulary.{texts_of}, specs.Schedules.{pieces_of}}
 use Rattle.mk_laws.proofs.Vocabulary.{length, ◌++◌, ◌≡◌, ◌≤◌}
 use Rattle.mk_replay.proofs.lines.replace_pieces.Given as goal
 

@@ -1,6 +1,4 @@
-use Rattle.mk_replay.proofs.Vocabulary.{IfOk-weaker, rules}
-use Rattle.mk_replay.proofs.RunLaws.{fed_ended, fed_more}
-use Rattle.mk_replay.specs.Players.{FeedsOn}
+use Rattle.mk_replay.{proofs.{Vocabulary.{IfOk-weaker, rules}, RunLaws.{fed_ended, fed_more}}, specs.Players.{FeedsOn}}
 use Rattle.mk_check.{proofs.FeedLaws.waits_for_op, specs.Feeding.TakesAnswer as FeedTakesAnswer}
 use Rattle.mk_replay.proofs.players.feed_on.Goals as goal
 

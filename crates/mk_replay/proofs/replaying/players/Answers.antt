@@ -1,5 +1,4 @@
-use Rattle.mk_replay.proofs.Vocabulary.{ArePlayersOf, IsPlayerOf, rules}
-use Rattle.mk_replay.proofs.RunLaws.{players_push}
+use Rattle.mk_replay.proofs.{Vocabulary.{ArePlayersOf, IsPlayerOf, rules}, RunLaws.players_push}
 use Rattle.mk_laws.proofs.Vocabulary.{None, ℕ, subst, sym, []}
 use Rattle.mk_replay.proofs.replaying.players.Goals as goal
 

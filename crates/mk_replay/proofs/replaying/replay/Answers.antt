@@ -1,12 +1,9 @@
-use Rattle.std.proofs.Common.{Result}
-use Rattle.std.specs.Result.{IfErr, IsErrAnd}
-use Rattle.mk_replay.proofs.Vocabulary.{Err, Ok, history_of, rules}
-use Rattle.mk_replay.proofs.UnderWay.{next_under_way, over, refused_here, room_of}
-use Rattle.mk_replay.proofs.AdmittedSchedules.{schedule_is_history, schedule_keeps_all_promises}
+use Rattle.std.{proofs.Common.{Result}, specs.Result.{IfErr, IsErrAnd}}
+use Rattle.mk_replay.proofs.{Vocabulary.{Err, Ok, history_of, rules}, UnderWay.{next_under_way, over, refused_here}}
+use Rattle.mk_replay.proofs.{UnderWay.room_of, AdmittedSchedules.{schedule_is_history, schedule_keeps_all_promises}}
 use Rattle.mk_laws.proofs.Vocabulary.{Some, subst, sym, ◌<◌, ◌≡◌, ◌≢◌}
 use Rattle.mk_check.specs.Laws.{IsChecked}
-use Rattle.mk_replay.specs.Replays.{refusal_of}
-use Rattle.mk_replay.specs.declared.replaying.ReplayStop.TheVariants.{NoMemory}
+use Rattle.mk_replay.specs.{Replays.refusal_of, declared.replaying.ReplayStop.TheVariants.NoMemory}
 use Rattle.mk_replay.proofs.replaying.replay.Goals as goal
 
 -- what holds of the stop that a `?` hands on

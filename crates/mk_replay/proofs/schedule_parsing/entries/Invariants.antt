@@ -1,5 +1,4 @@
-use Rattle.mk_replay.proofs.Vocabulary.{Ok, texts_of}
-use Rattle.mk_replay.specs.Schedules.{entries_of_lines, go_on}
+use Rattle.mk_replay.{proofs.Vocabulary.{Ok, texts_of}, specs.Schedules.{entries_of_lines, go_on}}
 use Rattle.mk_laws.proofs.Vocabulary.{drop, ◌+◌, ◌≡◌}
 use Rattle.mk_replay.proofs.schedule_parsing.entries.Given as goal
 

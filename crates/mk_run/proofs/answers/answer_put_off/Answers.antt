@@ -1,6 +1,5 @@
 use Rattle.mk_laws.proofs.Vocabulary.{Answer, false, is_under_turn, refl, ◌≡◌}
-use Rattle.mk_run.proofs.Vocabulary.{rules}
-use Rattle.mk_run.proofs.ScriptCalls.{answered_free, answered_new, type_exists}
+use Rattle.mk_run.proofs.{Vocabulary.rules, ScriptCalls.{answered_free, answered_new, type_exists}}
 use Rattle.mk_run.proofs.KeptScripts.{beside_begun}
 use Rattle.mk_run.proofs.answers.answer_put_off.Goals as goal
 

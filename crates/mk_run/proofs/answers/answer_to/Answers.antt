@@ -1,7 +1,6 @@
 use Rattle.mk_laws.proofs.Vocabulary.{refl, subst, sym, true, ◌<◌}
-use Rattle.mk_run.proofs.Vocabulary.{PassState, sweeps_then}
-use Rattle.mk_run.proofs.ScriptCalls.{makes_none, none_then_answers, stays_admitted_after}
-use Rattle.mk_run.proofs.KeptScripts.{beside_begun}
+use Rattle.mk_run.proofs.{Vocabulary.{PassState, sweeps_then}, ScriptCalls.{makes_none, none_then_answers}}
+use Rattle.mk_run.proofs.{ScriptCalls.stays_admitted_after, KeptScripts.beside_begun}
 use Rattle.mk_caller.specs.States.{caller_of_pass}
 use Rattle.mk_run.proofs.answers.answer_to.Goals as goal
 

@@ -1,6 +1,5 @@
 use Rattle.mk_laws.proofs.Vocabulary.{Op, false, is_under_turn, subst, sym, ◌∙◌, ◌≡◌}
-use Rattle.mk_run.proofs.Vocabulary.{Answers, IsAdmittedByOwnCalls}
-use Rattle.mk_run.proofs.AskedOps.{asked_op}
+use Rattle.mk_run.proofs.{Vocabulary.{Answers, IsAdmittedByOwnCalls}, AskedOps.asked_op}
 use Rattle.mk_run.proofs.answers.answer_when_open.Goals as goal
 
 pub unreachable-requires : goal.unreachable-requires

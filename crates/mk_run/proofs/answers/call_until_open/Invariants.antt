@@ -1,6 +1,5 @@
 use Rattle.mk_laws.proofs.Vocabulary.{Bool, true, ◌≡◌}
-use Rattle.mk_run.proofs.Vocabulary.{SweepsNothing}
-use Rattle.mk_run.specs.Scripts.{MakesNoCall}
+use Rattle.mk_run.{proofs.Vocabulary.{SweepsNothing}, specs.Scripts.{MakesNoCall}}
 use Rattle.mk_run.proofs.answers.call_until_open.Given as goal
 
 abbrev pub invariant-held : goal.invariant-held

@@ -1,12 +1,9 @@
 use Rattle.mk_laws.proofs.Vocabulary.{Caller, Config, Host, ap, arith, length, subst, sym, ◌+◌, ◌<◌, ◌∙◌, ◌≡◌}
 use Rattle.mk_run.proofs.Vocabulary.{AreReadyFrom, Grows, Has, HasJoined, HasMade, HostState, IsFirstPass}
 use Rattle.mk_run.proofs.Vocabulary.{IsReadyScript, IsScript, has_left, rules, script_names, with_joined}
-use Rattle.mk_run.proofs.HostTurns.{host_is_still, unseen_by_host}
-use Rattle.mk_run.proofs.JoinedScripts.{first_pass, next_made, one_joined, texts_joined}
-use Rattle.mk_run.proofs.KeptScripts.{none_joined, others_on, script_joined, scripts_on}
-use Rattle.mk_run.proofs.LaterLists.{of_one}
-use Rattle.mk_run.proofs.ReadyScripts.{ready_first}
-use Rattle.mk_run.specs.Joining.{AreJoined, HasRun}
+use Rattle.mk_run.proofs.{HostTurns.{host_is_still, unseen_by_host}, JoinedScripts.{first_pass, next_made, one_joined}}
+use Rattle.mk_run.proofs.{JoinedScripts.texts_joined, KeptScripts.{none_joined, others_on, script_joined, scripts_on}}
+use Rattle.mk_run.{proofs.{LaterLists.of_one, ReadyScripts.ready_first}, specs.Joining.{AreJoined, HasRun}}
 use denote.Param.Send.{Quiet-if}
 use mir.Syntax.{of_param}
 use Rattle.mk_run.proofs.joining.+fn-run_from-join+arg3+run_from.Goals as goal

@@ -1,6 +1,5 @@
 use Rattle.mk_laws.proofs.Vocabulary.{Seat, ap, subst, sym, [], ◌∙◌, ◌∷◌, ◌≡◌}
-use Rattle.mk_run.proofs.Vocabulary.{CallerState, PassState}
-use Rattle.mk_run.proofs.JoinedScripts.{follows_at_first, no_answers}
+use Rattle.mk_run.proofs.{Vocabulary.{CallerState, PassState}, JoinedScripts.{follows_at_first, no_answers}}
 use Rattle.mk_run.proofs.KeptScripts.{script_keeps}
 use Rattle.mk_run.proofs.joining.run_alone.Goals as goal
 

@@ -1,10 +1,7 @@
 use Rattle.mk_laws.proofs.Vocabulary.{ap, subst, sym, ◌∙◌}
 use Rattle.mk_run.proofs.Vocabulary.{Has, HasCallers, HostState, TakesLastTurns, WordsState, begun_then, sweeps_then}
-use Rattle.mk_run.proofs.HostTurns.{both_begin}
-use Rattle.mk_run.proofs.LastTurns.{last_turns, own_seat, still_behind_both}
-use Rattle.mk_heap.proofs.BegunHosts.{over_begun}
-use Rattle.mk_heap.specs.Ending.{CallersAreJoined}
-use Rattle.mk_heap.specs.Hosts.{with_seen}
+use Rattle.mk_run.proofs.{HostTurns.both_begin, LastTurns.{last_turns, own_seat, still_behind_both}}
+use Rattle.mk_heap.{proofs.BegunHosts.{over_begun}, specs.{Ending.CallersAreJoined, Hosts.with_seen}}
 use Rattle.mk_run.proofs.last_turns.cycle_and_over.Goals as goal
 
 pub over-requires-clause-joined : goal.over-requires-clause-joined

@@ -1,8 +1,6 @@
 use Rattle.mk_laws.proofs.Vocabulary.{Bool, false, subst, sym, ◌≡◌}
-use Rattle.mk_run.proofs.Vocabulary.{HasCallers, WordsState, rules}
-use Rattle.mk_run.proofs.HostTurns.{over_begins}
-use Rattle.mk_run.proofs.LastTurns.{own_seat, still_behind_over}
-use Rattle.mk_run.specs.LastTurns.{BeginsAsAsked}
+use Rattle.mk_run.proofs.{Vocabulary.{HasCallers, WordsState, rules}, HostTurns.over_begins}
+use Rattle.mk_run.{proofs.LastTurns.{own_seat, still_behind_over}, specs.LastTurns.{BeginsAsAsked}}
 use Rattle.mk_heap.proofs.BegunHosts.{over_begun}
 use Rattle.mk_run.proofs.last_turns.take_last_turns.Goals as goal
 

@@ -1,10 +1,7 @@
 use Rattle.mk_laws.proofs.Vocabulary.{Caller, Host, ap, arith, refl, subst, sym, ◌+◌, ◌-◌, ◌<◌, ◌∙◌, ◌≡◌}
-use Rattle.mk_run.proofs.Vocabulary.{HasMade, HostState, IsOver, rules}
-use Rattle.mk_run.proofs.MarkersBeside.{first_marker, marker_joined, marker_made}
-use Rattle.mk_run.proofs.KeptScripts.{others_on, scripts_on}
-use Rattle.mk_run.proofs.LastTurns.{last_turns_joined}
-use Rattle.mk_run.proofs.LaterLists.{of_one}
-use Rattle.mk_run.specs.Marking.{IsMarkersPass}
+use Rattle.mk_run.proofs.{Vocabulary.{HasMade, HostState, IsOver, rules}, MarkersBeside.{first_marker, marker_joined}}
+use Rattle.mk_run.proofs.{MarkersBeside.marker_made, KeptScripts.{others_on, scripts_on}, LastTurns.last_turns_joined}
+use Rattle.mk_run.{proofs.LaterLists.{of_one}, specs.Marking.{IsMarkersPass}}
 use Rattle.mk_run.proofs.marking.+fn-run_beside-join+arg3+run_beside.Goals as goal
 
 pub join-pass-requires-after_bounds : goal.join-pass-requires-after_bounds

@@ -2,8 +2,7 @@ use Rattle.std.proofs.lemmas.Result.{IfOk-weaker}
 use Rattle.mk_laws.proofs.Vocabulary.{Host, ap, arith, subst, sym, ◌∙◌, ◌≡◌}
 use Rattle.mk_run.proofs.Vocabulary.{AreTextsFrom, Has, HasJoined, HostState}
 use Rattle.mk_run.proofs.WholeRuns.{all_callers_home, all_callers_joined, still_joined, still_texts}
-use Rattle.mk_run.proofs.HostTurns.{comes_last}
-use Rattle.mk_run.proofs.KeptScripts.{host_on, scripts_on}
+use Rattle.mk_run.proofs.{HostTurns.comes_last, KeptScripts.{host_on, scripts_on}}
 use Rattle.mk_run.proofs.marking.run_scripts.Goals as goal
 
 pub take_last_turns-requires-clause-all_home : goal.take_last_turns-requires-clause-all_home

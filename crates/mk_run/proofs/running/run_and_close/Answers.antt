@@ -1,9 +1,6 @@
 use Rattle.mk_laws.proofs.Vocabulary.{Config, arith, subst, sym, ◌∙◌, ◌≡◌}
-use Rattle.mk_run.proofs.Vocabulary.{AreTextsFrom, config_of}
-use Rattle.mk_run.proofs.KeptScripts.{run_is_begun, run_is_unswept}
-use Rattle.mk_run.proofs.LastOvers.{run_ends_with_cycle}
-use Rattle.mk_run.proofs.WholeRuns.{all_joined, is_run}
-use Rattle.mk_run.specs.Ready.{IsReadyRun}
+use Rattle.mk_run.proofs.{Vocabulary.{AreTextsFrom, config_of}, KeptScripts.{run_is_begun, run_is_unswept}}
+use Rattle.mk_run.{proofs.{LastOvers.run_ends_with_cycle, WholeRuns.{all_joined, is_run}}, specs.Ready.{IsReadyRun}}
 use Rattle.mk_heap.specs.Reports as report
 use Rattle.mk_run.proofs.running.run_and_close.Goals as goal
 

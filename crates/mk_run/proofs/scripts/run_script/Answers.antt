@@ -1,12 +1,10 @@
 use Rattle.mk_laws.proofs.Vocabulary.{ap, arith, subst, sym, [], ◌∙◌, ◌∷◌, ◌≡◌}
 use Rattle.mk_run.proofs.Vocabulary.{IsAdmittedByOwnCalls, IsChecked, PassState, answers_in, begun_then, nothing_sweeps}
-use Rattle.mk_run.proofs.Vocabulary.{rules, sweeps_then}
-use Rattle.mk_run.proofs.PutOff.{IsAnsweredAs, answered_at_once, answered_later, put_off_admitted, put_off_is}
-use Rattle.mk_run.proofs.ScriptCalls.{asked_stays_admitted, exists_on, follows_now, refused_within, runs_on, seat_is}
-use Rattle.mk_run.proofs.ScriptCalls.{then_seen}
+use Rattle.mk_run.proofs.{Vocabulary.{rules, sweeps_then}, PutOff.{IsAnsweredAs, answered_at_once, answered_later}}
+use Rattle.mk_run.proofs.{PutOff.{put_off_admitted, put_off_is}, ScriptCalls.{asked_stays_admitted, exists_on}}
+use Rattle.mk_run.proofs.ScriptCalls.{follows_now, refused_within, runs_on, seat_is, then_seen}
 use Rattle.mk_run.proofs.scripts.run_script.Goals.{In-None, In-Some, Joined-answer_at_once, in-None}
-use Rattle.mk_run.proofs.scripts.run_script.Goals.{in-Some-answer_at_once}
-use Rattle.mk_run.specs.Scripts.{script_of}
+use Rattle.mk_run.{proofs.scripts.run_script.Goals.{in-Some-answer_at_once}, specs.Scripts.{script_of}}
 use Rattle.mk_cycle.proofs.Begun.{nothing_begun}
 use Rattle.mk_run.proofs.scripts.run_script.Goals as goal
 

@@ -1,6 +1,5 @@
 use Rattle.mk_laws.proofs.Vocabulary.{false, true, ◌-◌, ◌≡◌, ◌≤◌}
-use Rattle.mk_run.proofs.Vocabulary.{EachIsBegun, SweepsNothing}
-use Rattle.mk_run.specs.Scripts.{IsRunning, script_of}
+use Rattle.mk_run.{proofs.Vocabulary.{EachIsBegun, SweepsNothing}, specs.Scripts.{IsRunning, script_of}}
 use Rattle.mk_run.proofs.scripts.run_script.Given as goal
 
 abbrev pub invariant-instructions : goal.invariant-instructions

@@ -1,5 +1,4 @@
-use Rattle.mk_script.proofs.Vocabulary.{replicate, ◌++◌, ◌≡◌}
-use Rattle.mk_script.specs.declared.items.TypeWord.TheVariants.{Number}
+use Rattle.mk_script.{proofs.Vocabulary.{replicate, ◌++◌, ◌≡◌}, specs.declared.items.TypeWord.TheVariants.{Number}}
 use Rattle.mk_script.proofs.fields.push_numbers.Given as goal
 
 abbrev pub invariant-loop : goal.invariant-loop

@@ -1,5 +1,4 @@
-use Rattle.mk_script.proofs.Vocabulary.{arith, length-map, sym}
-use Rattle.mk_script.proofs.NoForm.{of_no_form}
+use Rattle.mk_script.proofs.{Vocabulary.{arith, length-map, sym}, NoForm.of_no_form}
 use Rattle.mk_script.proofs.forms.item.Goals as goal
 
 pub returns-in_default : goal.returns-in_default

@@ -1,5 +1,4 @@
-use Rattle.mk_script.proofs.Vocabulary.{drop, map, ◌≡◌}
-use Rattle.mk_script.specs.Keywords.{keyword_among}
+use Rattle.mk_script.{proofs.Vocabulary.{drop, map, ◌≡◌}, specs.Keywords.{keyword_among}}
 use Rattle.mk_script.proofs.keywords.keyword_among.Given as goal
 
 -- the entries that are left decide

@@ -1,8 +1,6 @@
 use Rattle.mk_script.proofs.Vocabulary.{ap, is_placed, rules, sym, texts_of, true, ◌∙◌, ◌≡◌, ◌≢◌}
-use Rattle.mk_script.proofs.Converted.{gives_fault}
-use Rattle.mk_script.proofs.Placed.{placed_plain}
-use Rattle.mk_script.specs.Stops.{checked_behind}
-use Rattle.mk_script.specs.declared.keywords.Keyword.TheVariants.{TypeLine}
+use Rattle.mk_script.proofs.{Converted.gives_fault, Placed.placed_plain}
+use Rattle.mk_script.specs.{Stops.checked_behind, declared.keywords.Keyword.TheVariants.TypeLine}
 use Rattle.mk_script.proofs.line.placed_line.Goals as goal
 
 pub returns-in_err-plain_line : goal.returns-in_err-plain_line

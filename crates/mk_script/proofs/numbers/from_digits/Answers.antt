@@ -1,5 +1,4 @@
-use Rattle.mk_script.proofs.Vocabulary.{arith, sym}
-use Rattle.mk_script.proofs.Digits.{from_all, too_great}
+use Rattle.mk_script.proofs.{Vocabulary.{arith, sym}, Digits.{from_all, too_great}}
 use Rattle.mk_script.proofs.numbers.from_digits.Goals as goal
 
 pub returns-in_err-checked_mul : goal.returns-in_err-checked_mul

@@ -1,5 +1,4 @@
-use Rattle.mk_script.proofs.Vocabulary.{sym, ◌∙◌}
-use Rattle.mk_script.proofs.FirstPlace.{cut, uncut}
+use Rattle.mk_script.proofs.{Vocabulary.{sym, ◌∙◌}, FirstPlace.{cut, uncut}}
 use Rattle.mk_script.proofs.operands.split_at_plus.Goals as goal
 
 pub returns-in_err-plus : goal.returns-in_err-plus

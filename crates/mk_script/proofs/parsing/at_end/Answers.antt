@@ -1,5 +1,4 @@
-use Rattle.mk_script.proofs.Vocabulary.{arith}
-use Rattle.mk_script.proofs.Ends.{ends_open, ends_well, ends_without}
+use Rattle.mk_script.proofs.{Vocabulary.arith, Ends.{ends_open, ends_well, ends_without}}
 use Rattle.mk_script.proofs.parsing.at_end.Goals as goal
 
 pub returns-then-has_open_block : goal.returns-then-has_open_block

@@ -1,5 +1,4 @@
-use Rattle.mk_script.proofs.Vocabulary.{drop, items_behind, length, texts_of, [], ◌≡◌}
-use Rattle.mk_script.specs.ScopeOf.{IsScopeOf}
+use Rattle.mk_script.{proofs.Vocabulary.{drop, items_behind, length, texts_of, [], ◌≡◌}, specs.ScopeOf.{IsScopeOf}}
 use Rattle.mk_script.proofs.parsing.items.Given as goal
 
 -- the items so far are of the lines so far, and the lines that are left decide

@@ -1,5 +1,4 @@
-use Rattle.std.proofs.lemmas.Iterator.Consumers.{YieldsList-at, YieldsList-end}
-use Rattle.std.proofs.Common.{tests}
+use Rattle.std.proofs.{lemmas.Iterator.Consumers.{YieldsList-at, YieldsList-end}, Common.tests}
 use Rattle.std.proofs.lemmas.Iterator.Splits.{YieldsList-from_slice_split}
 use Rattle.mk_script.proofs.Vocabulary.{ap, filter, is_empty, not, rules, ◌==◌, ◌∙◌}
 use Rattle.mk_script.proofs.splitting.replace_words.Goals as goal

@@ -1,5 +1,4 @@
-use Rattle.mk_stack.proofs.Vocabulary.{DoesJobs}
-use Rattle.mk_stack.specs.Ready.{IsReadyForJobs}
+use Rattle.mk_stack.{proofs.Vocabulary.{DoesJobs}, specs.Ready.{IsReadyForJobs}}
 use Rattle.mk_laws.proofs.Vocabulary.{take}
 use Rattle.mk_stack.proofs.job_lists.run_jobs.Given as goal
 

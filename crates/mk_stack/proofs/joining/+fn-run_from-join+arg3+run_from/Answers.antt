@@ -1,5 +1,4 @@
-use Rattle.std.proofs.Common.{IfSome, Ok, length-drop, rules}
-use Rattle.std.proofs.lemmas.List.Elements.{All-pop}
+use Rattle.std.proofs.{Common.{IfSome, Ok, length-drop, rules}, lemmas.List.Elements.All-pop}
 use Rattle.mk_stack.proofs.Vocabulary.{HasHandedOut, HaveWorked, HostState, Jobs, Joined, Replied, replied_to}
 use Rattle.mk_stack.proofs.JoinedJobs.{next_list, next_made, next_ready, next_unasked, no_lists, none_joined}
 use Rattle.mk_laws.proofs.Vocabulary.{List, Option, Some, ap, arith, drop, length, subst, sym, [], ◌+◌, ◌-◌, ◌<◌, ◌∙◌}

@@ -1,7 +1,5 @@
-use Rattle.std.proofs.Common.{IfOk, IfSome, slice_get}
-use Rattle.std.proofs.lemmas.Option.{slice_get-get_or}
-use Rattle.mk_stack.proofs.Vocabulary.{DoesJobs, Job, Jobs, replied_to}
-use Rattle.mk_stack.proofs.JoinedJobs.{has_worked, ready_between}
+use Rattle.std.proofs.{Common.{IfOk, IfSome, slice_get}, lemmas.Option.slice_get-get_or}
+use Rattle.mk_stack.proofs.{Vocabulary.{DoesJobs, Job, Jobs, replied_to}, JoinedJobs.{has_worked, ready_between}}
 use Rattle.mk_laws.proofs.Vocabulary.{List, Option, Some, arith, get_or, subst, sym, ◌≡◌}
 use Rattle.mk_stack.specs.Joining.{HasWorked}
 use Rattle.mk_stack.proofs.joining.work_alone.Goals as goal

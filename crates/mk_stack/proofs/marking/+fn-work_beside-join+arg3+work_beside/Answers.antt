@@ -1,9 +1,7 @@
 use Rattle.std.proofs.Common.{rules}
-use Rattle.mk_stack.proofs.Vocabulary.{HasHandedOut}
-use Rattle.mk_stack.proofs.EndedRuns.{is_not_attending, marker_made}
+use Rattle.mk_stack.proofs.{Vocabulary.HasHandedOut, EndedRuns.{is_not_attending, marker_made}}
 use Rattle.mk_laws.proofs.Vocabulary.{arith, subst, sym, ◌+◌, ◌-◌, ◌<◌}
-use Rattle.mk_run.proofs.MarkersBeside.{first_marker}
-use Rattle.mk_run.specs.Marking.{IsMarkersPass}
+use Rattle.mk_run.{proofs.MarkersBeside.{first_marker}, specs.Marking.{IsMarkersPass}}
 use Rattle.mk_stack.proofs.marking.+fn-work_beside-join+arg3+work_beside.Goals as goal
 
 pub finish-pass-requires : goal.finish-pass-requires

@@ -1,6 +1,5 @@
-use Rattle.mk_stack.proofs.Vocabulary.{Done, GoesToPoint, PassState, Starting}
-use Rattle.mk_stack.proofs.Going.{goes_through, jobs_on, seen_then}
-use Rattle.mk_stack.proofs.JobGoals.{fit_as, job_ends}
+use Rattle.mk_stack.proofs.{Vocabulary.{Done, GoesToPoint, PassState, Starting}, Going.{goes_through, jobs_on}}
+use Rattle.mk_stack.proofs.{Going.seen_then, JobGoals.{fit_as, job_ends}}
 use Rattle.mk_laws.proofs.Vocabulary.{subst}
 use Rattle.mk_stack.proofs.stacks.do_job.Goals as goal
 

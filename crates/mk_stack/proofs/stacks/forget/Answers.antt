@@ -1,8 +1,5 @@
-use Rattle.mk_stack.proofs.Vocabulary.{Empty}
-use Rattle.mk_stack.proofs.Going.{goes_held, goes_through, ready_on, seen_then}
-use Rattle.mk_stack.proofs.Advances.{clears, ready_state}
-use Rattle.mk_stack.proofs.PointSteps.{may_clear}
-use Rattle.mk_stack.proofs.Replies.{stays_held}
+use Rattle.mk_stack.proofs.{Vocabulary.Empty, Going.{goes_held, goes_through, ready_on, seen_then}}
+use Rattle.mk_stack.proofs.{Advances.{clears, ready_state}, PointSteps.may_clear, Replies.stays_held}
 use Rattle.mk_stack.proofs.stacks.forget.Goals as goal
 
 pub clear-cleared-requires-clause-admitted : goal.clear-cleared-requires-clause-admitted

@@ -1,6 +1,5 @@
 use Rattle.mk_laws.proofs.Vocabulary.{◌≡◌}
-use Rattle.mk_stack.specs.Advancing.{StaysEnded}
-use Rattle.mk_stack.specs.Ready.{IsReady}
+use Rattle.mk_stack.specs.{Advancing.StaysEnded, Ready.IsReady}
 use Rattle.mk_stack.proofs.stacks.forget.Given as goal
 
 abbrev pub invariant-tries : goal.invariant-tries

@@ -1,5 +1,4 @@
-use Rattle.mk_stack.proofs.Vocabulary.{Founding, GoesToPoint}
-use Rattle.mk_stack.proofs.JobGoals.{founding_ends}
+use Rattle.mk_stack.proofs.{Vocabulary.{Founding, GoesToPoint}, JobGoals.founding_ends}
 use Rattle.mk_laws.proofs.Vocabulary.{subst}
 use Rattle.mk_stack.proofs.stacks.found_stack.Goals as goal
 

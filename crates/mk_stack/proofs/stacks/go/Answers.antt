@@ -1,9 +1,6 @@
 use Rattle.mk_laws.proofs.Vocabulary.{sym, ◌∙◌}
-use Rattle.mk_stack.proofs.Advances.{advances, may_ask}
-use Rattle.mk_stack.proofs.AtPoints.{holds_still}
-use Rattle.mk_stack.proofs.Going.{goes_held, goes_more, jobs_on}
-use Rattle.mk_stack.proofs.JobGoals.{is_goal}
-use Rattle.mk_stack.proofs.Replies.{stays_held}
+use Rattle.mk_stack.proofs.{Advances.{advances, may_ask}, AtPoints.holds_still, Going.{goes_held, goes_more, jobs_on}}
+use Rattle.mk_stack.proofs.{JobGoals.is_goal, Replies.stays_held}
 use Rattle.mk_stack.proofs.stacks.go.Goals as goal
 
 pub answer_now-answer-requires-clause-admitted : goal.answer_now-answer-requires-clause-admitted

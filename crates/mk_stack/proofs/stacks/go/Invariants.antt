@@ -1,5 +1,4 @@
-use Rattle.mk_stack.proofs.Vocabulary.{GoesToPoint, HoldsAt, value_of}
-use Rattle.mk_stack.specs.Ready.{IsReadyForJobs}
+use Rattle.mk_stack.{proofs.Vocabulary.{GoesToPoint, HoldsAt, value_of}, specs.Ready.{IsReadyForJobs}}
 use Rattle.mk_stack.proofs.stacks.go.Given as goal
 
 abbrev pub invariant-points : goal.invariant-points

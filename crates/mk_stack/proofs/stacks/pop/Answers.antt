@@ -1,6 +1,4 @@
-use Rattle.mk_stack.proofs.Vocabulary.{Done, Pop}
-use Rattle.mk_stack.proofs.JobGoals.{empty_unless_popped}
-use Rattle.mk_stack.specs.Passes.{DoesJob}
+use Rattle.mk_stack.{proofs.{Vocabulary.{Done, Pop}, JobGoals.empty_unless_popped}, specs.Passes.{DoesJob}}
 use Rattle.mk_laws.proofs.Vocabulary.{subst}
 use Rattle.mk_stack.proofs.stacks.pop.Goals as goal
 

@@ -1,6 +1,4 @@
-use Rattle.mk_stack.proofs.Vocabulary.{Done, Push}
-use Rattle.mk_stack.proofs.JobGoals.{full_unless_pushed}
-use Rattle.mk_stack.specs.Passes.{DoesJob}
+use Rattle.mk_stack.{proofs.{Vocabulary.{Done, Push}, JobGoals.full_unless_pushed}, specs.Passes.{DoesJob}}
 use Rattle.mk_laws.proofs.Vocabulary.{subst}
 use Rattle.mk_stack.proofs.stacks.push.Goals as goal
 

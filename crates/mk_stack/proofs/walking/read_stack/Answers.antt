@@ -1,9 +1,6 @@
-use Rattle.mk_stack.proofs.Vocabulary.{HasWalked}
-use Rattle.mk_stack.proofs.WalkSteps.{as_pop, beside_turns, may_go_down, steps_down, walked_held, walked_more}
-use Rattle.mk_stack.proofs.AtPoints.{holds_still}
-use Rattle.mk_stack.proofs.Going.{ready_on}
-use Rattle.mk_stack.proofs.Replies.{stays_held}
-use Rattle.mk_stack.specs.declared.walking.WalkPoint.{WalkPoint}
+use Rattle.mk_stack.proofs.{Vocabulary.HasWalked, WalkSteps.{as_pop, beside_turns, may_go_down, steps_down}}
+use Rattle.mk_stack.proofs.{WalkSteps.{walked_held, walked_more}, AtPoints.holds_still, Going.ready_on}
+use Rattle.mk_stack.{proofs.Replies.{stays_held}, specs.declared.walking.WalkPoint.{WalkPoint}}
 use Rattle.mk_laws.proofs.Vocabulary.{List, ℕ, append-nil, subst, sym, ◌∙◌}
 use Rattle.mk_stack.proofs.walking.read_stack.Goals as goal
 

@@ -1,6 +1,4 @@
-use Rattle.mk_stack.proofs.Vocabulary.{HasWalked, HoldsAt, value_of}
-use Rattle.mk_stack.proofs.WalkSteps.{as_pop}
-use Rattle.mk_stack.specs.Ready.{IsReady}
+use Rattle.mk_stack.{proofs.{Vocabulary.{HasWalked, HoldsAt, value_of}, WalkSteps.as_pop}, specs.Ready.{IsReady}}
 use Rattle.mk_stack.proofs.walking.read_stack.Given as goal
 
 abbrev pub invariant-points : goal.invariant-points

@@ -1,6 +1,5 @@
 use Rattle.std.proofs.lemmas.Result.{IfOk-weaker}
-use Rattle.mk_stack.proofs.Vocabulary.{HasWalked, ReadsStack}
-use Rattle.mk_stack.proofs.Readers.{is_reader, reads_stack}
+use Rattle.mk_stack.proofs.{Vocabulary.{HasWalked, ReadsStack}, Readers.{is_reader, reads_stack}}
 use Rattle.mk_stack.specs.declared.walking.WalkPoint.{WalkPoint}
 use Rattle.mk_stack.proofs.working.read_left.Goals as goal
 

@@ -1,6 +1,5 @@
 use Rattle.mk_sweep.proofs.Vocabulary.{BlacksMore, CellsAreClosed, Words, cells_under, header_in, header_of}
-use Rattle.mk_sweep.proofs.Vocabulary.{still_words}
-use Rattle.mk_sweep.proofs.SweepSteps.{quiet_then}
+use Rattle.mk_sweep.proofs.{Vocabulary.still_words, SweepSteps.quiet_then}
 use Rattle.mk_laws.proofs.Vocabulary.{ap, subst, sym, ◌∙◌}
 use Rattle.mk_sweep.proofs.blackening.blacken_page.Goals as goal
 

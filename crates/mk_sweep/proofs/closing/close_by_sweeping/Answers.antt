@@ -1,8 +1,6 @@
 use Rattle.mk_sweep.proofs.Vocabulary.{CellsAreClosed, PageIsBlack, PointWell, SweepsOn, TurnState, WordsState}
-use Rattle.mk_sweep.proofs.Vocabulary.{still_words, words_below}
-use Rattle.mk_sweep.proofs.SweptMarks.{SweepsInStop, closes, sweeping_behind, sweeps}
-use Rattle.mk_sweep.proofs.Kept.{ready_of}
-use Rattle.mk_sweep.proofs.closing.close_by_sweeping.Goals.{After-is_in_order-3}
+use Rattle.mk_sweep.proofs.{Vocabulary.{still_words, words_below}, SweptMarks.{SweepsInStop, closes, sweeping_behind}}
+use Rattle.mk_sweep.proofs.{SweptMarks.sweeps, Kept.ready_of, closing.close_by_sweeping.Goals.After-is_in_order-3}
 use Rattle.mk_laws.proofs.Vocabulary.{ℕ, ap, length, slice_index, subst, sym, ◌<◌, ◌∙◌, ◌≡◌}
 use Rattle.mk_sweep.proofs.closing.close_by_sweeping.Goals as goal
 

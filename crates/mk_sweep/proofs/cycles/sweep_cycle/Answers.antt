@@ -1,5 +1,4 @@
-use Rattle.mk_sweep.proofs.Vocabulary.{Config, IsHistory, PassState}
-use Rattle.mk_sweep.proofs.WholeCycles.{releases_unswept}
+use Rattle.mk_sweep.proofs.{Vocabulary.{Config, IsHistory, PassState}, WholeCycles.releases_unswept}
 use Rattle.mk_laws.proofs.Vocabulary.{ap, subst, ◌∙◌}
 use Rattle.mk_sweep.proofs.cycles.sweep_cycle.Goals as goal
 

@@ -1,5 +1,4 @@
-use Rattle.mk_sweep.proofs.Vocabulary.{WordsState}
-use Rattle.mk_sweep.proofs.SweepSteps.{on_root, root_in_hand}
+use Rattle.mk_sweep.proofs.{Vocabulary.WordsState, SweepSteps.{on_root, root_in_hand}}
 use Rattle.mk_laws.proofs.Vocabulary.{subst, sym, true, ◌≡◌}
 use Rattle.mk_core.specs.Ranges.{is_word}
 use Rattle.mk_tracing.proofs.MaySteps.{may_look}

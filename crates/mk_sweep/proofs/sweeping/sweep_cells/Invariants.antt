@@ -1,5 +1,4 @@
-use Rattle.mk_sweep.proofs.Vocabulary.{words_of_cells}
-use Rattle.mk_sweep.specs.Sweeping.{SweepsWords}
+use Rattle.mk_sweep.{proofs.Vocabulary.{words_of_cells}, specs.Sweeping.{SweepsWords}}
 use Rattle.mk_laws.proofs.Vocabulary.{length, ◌*◌, ◌≡◌, ◌≤◌}
 use Rattle.mk_sweep.proofs.sweeping.sweep_cells.Given as goal
 

@@ -1,7 +1,5 @@
 use Rattle.std.proofs.lemmas.List.FromFn.{length-range_with_len}
-use Rattle.mk_sweep.proofs.Vocabulary.{words_if}
-use Rattle.mk_sweep.proofs.SweptWords.{no_words}
-use Rattle.mk_sweep.specs.Sweeping.{SweepsWords}
+use Rattle.mk_sweep.{proofs.{Vocabulary.words_if, SweptWords.no_words}, specs.Sweeping.{SweepsWords}}
 use Rattle.mk_laws.proofs.Vocabulary.{Bool, ap, length, subst, sym}
 use Rattle.mk_sweep.proofs.sweeping.sweep_if_used.Goals as goal
 

@@ -1,5 +1,4 @@
-use Rattle.mk_sweep.proofs.Vocabulary.{still_words, words_below}
-use Rattle.mk_sweep.specs.Sweeping.{SweepsWords}
+use Rattle.mk_sweep.{proofs.Vocabulary.{still_words, words_below}, specs.Sweeping.{SweepsWords}}
 use Rattle.mk_laws.proofs.Vocabulary.{length, ◌*◌, ◌≡◌, ◌≤◌}
 use Rattle.mk_sweep.proofs.sweeping.sweep_pages.Given as goal
 

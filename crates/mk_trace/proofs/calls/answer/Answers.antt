@@ -1,6 +1,5 @@
-use Rattle.mk_trace.proofs.Vocabulary.{IsHistory, WordsState}
-use Rattle.mk_trace.proofs.LedgerCalls.{ends_over, held_beside, keeps_behind, keeps_beside}
-use Rattle.mk_trace.proofs.ExactPlays.{exact_over}
+use Rattle.mk_trace.proofs.{Vocabulary.{IsHistory, WordsState}, LedgerCalls.{ends_over, held_beside, keeps_behind}}
+use Rattle.mk_trace.proofs.{LedgerCalls.keeps_beside, ExactPlays.exact_over}
 use Rattle.mk_laws.proofs.Vocabulary.{arith, subst, sym, ◌∙◌}
 use Rattle.mk_trace.proofs.calls.answer.Goals as goal
 

@@ -1,10 +1,7 @@
 use Rattle.mk_trace.proofs.Vocabulary.{CallerState, Grows, HasAll, HostState, IsHistory, PassState, StayExact}
-use Rattle.mk_trace.proofs.Vocabulary.{SweepsNothing, WordsState}
-use Rattle.mk_trace.proofs.FreedCalls.{Does, call_does}
+use Rattle.mk_trace.proofs.{Vocabulary.{SweepsNothing, WordsState}, FreedCalls.{Does, call_does}}
 use Rattle.mk_trace.proofs.OneCaller.{joined_home, made_admits, made_alone, made_exists, made_seats}
-use Rattle.mk_trace.proofs.ExactPlays.{call_stays_exact}
-use Rattle.mk_trace.proofs.JoinedCalls.{Joined}
-use Rattle.mk_trace.proofs.calls.call.Goals.{After-is_in_order}
+use Rattle.mk_trace.proofs.{ExactPlays.call_stays_exact, JoinedCalls.Joined, calls.call.Goals.After-is_in_order}
 use Rattle.mk_laws.proofs.Vocabulary.{ap, arith, subst, sym, ◌∙◌}
 use Rattle.mk_run.specs.Scripts.{Answers}
 use Rattle.mk_trace.proofs.calls.call.Goals as goal

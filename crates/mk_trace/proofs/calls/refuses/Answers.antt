@@ -1,8 +1,6 @@
 use Rattle.std.proofs.lemmas.List.{get_or_default}
-use Rattle.mk_trace.proofs.Vocabulary.{Op, never_behind}
-use Rattle.mk_trace.proofs.LaterOps.{called_all, called_first, called_one_more, may_come_now}
-use Rattle.mk_trace.proofs.FewEvents.{few_later}
-use Rattle.mk_trace.proofs.FreedSlots.{frees_now}
+use Rattle.mk_trace.proofs.{Vocabulary.{Op, never_behind}, LaterOps.{called_all, called_first, called_one_more}}
+use Rattle.mk_trace.proofs.{LaterOps.may_come_now, FewEvents.few_later, FreedSlots.frees_now}
 use Rattle.mk_laws.proofs.Vocabulary.{Bool, List, ℕ, ap, arith, false, get_or, subst, sym, ◌||◌, ◌∙◌}
 use Rattle.mk_never.specs.declared.operations.Op.TheVariants.{New}
 use Rattle.mk_trace.specs.Freeing.{FreesSlot}

@@ -1,6 +1,4 @@
-use Rattle.mk_trace.proofs.Vocabulary.{IsWithinLimits}
-use Rattle.mk_trace.proofs.Playable.{is_playable}
-use Rattle.mk_trace.proofs.SlotTypes.{config_is}
+use Rattle.mk_trace.proofs.{Vocabulary.IsWithinLimits, Playable.is_playable, SlotTypes.config_is}
 use Rattle.mk_laws.proofs.Vocabulary.{List, ℕ, length, refl, subst, sym, ◌≤◌}
 use Rattle.mk_trace.proofs.configs.config_of.Goals as goal
 

@@ -1,6 +1,5 @@
 use Rattle.mk_laws.proofs.Vocabulary.{length, ◌<◌}
-use Rattle.mk_trace.proofs.Vocabulary.{rules}
-use Rattle.mk_trace.proofs.CountedAges.{set_there}
+use Rattle.mk_trace.proofs.{Vocabulary.rules, CountedAges.set_there}
 use Rattle.mk_trace.proofs.ledger.count_age.Goals as goal
 
 pub returns-then-age-found : goal.returns-then-age-found

@@ -1,5 +1,4 @@
-use Rattle.mk_trace.proofs.Vocabulary.{FreedObject}
-use Rattle.mk_trace.proofs.SettledLedgers.{all_summed, total_more}
+use Rattle.mk_trace.proofs.{Vocabulary.FreedObject, SettledLedgers.{all_summed, total_more}}
 use Rattle.mk_laws.proofs.Vocabulary.{◌∙◌}
 use Rattle.mk_trace.proofs.ledger.reserved_of.Goals as goal
 

@@ -1,7 +1,5 @@
-use Rattle.mk_trace.proofs.Vocabulary.{HostState, IsHistory, IsTidy, WordsState}
-use Rattle.mk_trace.proofs.ToldWords.{Reports, reports}
-use Rattle.mk_trace.proofs.OneCaller.{told_home}
-use Rattle.mk_trace.proofs.looking.look.Goals.{After-is_in_order-2}
+use Rattle.mk_trace.proofs.{Vocabulary.{HostState, IsHistory, IsTidy, WordsState}, ToldWords.{Reports, reports}}
+use Rattle.mk_trace.proofs.{OneCaller.told_home, looking.look.Goals.After-is_in_order-2}
 use Rattle.mk_laws.proofs.Vocabulary.{ap, subst}
 use Rattle.mk_trace.proofs.looking.look.Goals as goal
 

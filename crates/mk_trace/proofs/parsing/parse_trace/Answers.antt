@@ -1,5 +1,4 @@
-use Rattle.mk_trace.proofs.Vocabulary.{texts_of}
-use Rattle.mk_trace.proofs.ReadLines.{read_whole, stops_whole}
+use Rattle.mk_trace.proofs.{Vocabulary.texts_of, ReadLines.{read_whole, stops_whole}}
 use Rattle.mk_laws.proofs.Vocabulary.{ap, arith, length, ◌<◌, ◌∙◌}
 use Rattle.mk_trace.proofs.parsing.parse_trace.Goals as goal
 

@@ -1,8 +1,6 @@
-use Rattle.std.specs.Fmt.{decimal}
-use Rattle.std.specs.String.{string_bytes}
+use Rattle.std.specs.{Fmt.decimal, String.string_bytes}
 use Rattle.mk_laws.proofs.Vocabulary.{[], ◌∷◌}
-use Rattle.mk_trace.proofs.Vocabulary.{codes}
-use Rattle.mk_trace.proofs.ReadLines.{on_ok, six_lines}
+use Rattle.mk_trace.proofs.{Vocabulary.codes, ReadLines.{on_ok, six_lines}}
 use Rattle.mk_script.specs.Canonical.{line_text}
 use Rattle.mk_trace.proofs.peaks.push_counts.Goals as goal
 

@@ -1,7 +1,5 @@
 use Rattle.mk_trace.proofs.Vocabulary.{CallerIsHome, CallerState, Config, HostState, WordsState}
-use Rattle.mk_trace.proofs.HeldCalls.{opened_empty}
-use Rattle.mk_trace.proofs.OneCaller.{first_home}
-use Rattle.mk_trace.proofs.Played.{first_seats, joined_first}
+use Rattle.mk_trace.proofs.{HeldCalls.opened_empty, OneCaller.first_home, Played.{first_seats, joined_first}}
 use Rattle.mk_laws.proofs.Vocabulary.{ap, ◌∙◌}
 use Rattle.mk_trace.proofs.playing.opened.Goals as goal
 

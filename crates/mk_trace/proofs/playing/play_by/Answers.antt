@@ -1,10 +1,7 @@
 use Rattle.mk_trace.proofs.Vocabulary.{AllTurnsAreExact, Config, quarantined_words, reserved_words}
 use Rattle.mk_trace.proofs.LedgerCalls.{ages_of, first_held, first_idle, first_keeps, most_of, peaks_by}
-use Rattle.mk_trace.proofs.Played.{closed, refused_at}
-use Rattle.mk_trace.proofs.ExactPlays.{first_exact}
-use Rattle.mk_trace.proofs.FewEvents.{none_ended}
-use Rattle.mk_trace.proofs.HeldCalls.{most_told}
-use Rattle.mk_trace.proofs.OneCaller.{home_joined}
+use Rattle.mk_trace.proofs.{Played.{closed, refused_at}, ExactPlays.first_exact, FewEvents.none_ended}
+use Rattle.mk_trace.proofs.{HeldCalls.most_told, OneCaller.home_joined}
 use Rattle.mk_laws.proofs.Vocabulary.{ap, arith, length, subst, ◌∙◌}
 use Rattle.mk_trace.proofs.playing.play_by.Goals as goal
 

@@ -1,11 +1,8 @@
 use Rattle.std.proofs.lemmas.List.{get_or_default}
-use Rattle.mk_trace.proofs.Vocabulary.{A, IsEventOf, IsHistory, IsPlayable}
-use Rattle.mk_trace.proofs.FreedSlots.{frees_its_slot}
+use Rattle.mk_trace.proofs.{Vocabulary.{A, IsEventOf, IsHistory, IsPlayable}, FreedSlots.frees_its_slot}
 use Rattle.mk_trace.proofs.Played.{event_at, may_be_played, next_played, null_between, one_counted, played_all}
-use Rattle.mk_trace.proofs.Played.{played_first, slot_is_global, still_few}
-use Rattle.mk_trace.proofs.FewEvents.{few_events}
-use Rattle.mk_trace.proofs.Playable.{is_playable}
-use Rattle.mk_trace.proofs.playing.play_events.Goals.{After-is_in_order}
+use Rattle.mk_trace.proofs.{Played.{played_first, slot_is_global, still_few}, FewEvents.few_events}
+use Rattle.mk_trace.proofs.{Playable.is_playable, playing.play_events.Goals.After-is_in_order}
 use Rattle.mk_laws.proofs.Vocabulary.{arith, get_or, refl, ◌∙◌}
 use Rattle.mk_trace.proofs.playing.play_events.Goals as goal
 

@@ -1,7 +1,5 @@
 use Rattle.mk_laws.proofs.Vocabulary.{ap, length, sym, ◌<◌, ◌∙◌}
-use Rattle.mk_trace.proofs.Vocabulary.{rules, slot_number}
-use Rattle.mk_trace.proofs.SlotNumbers.{number_within}
-use Rattle.mk_trace.proofs.resolving.event.Goals.{In-Some}
+use Rattle.mk_trace.proofs.{Vocabulary.{rules, slot_number}, SlotNumbers.number_within, resolving.event.Goals.In-Some}
 use Rattle.mk_trace.proofs.resolving.event.Goals as goal
 
 within : (c : In-Some) → c.in-Some.number < length c.args.slots.now

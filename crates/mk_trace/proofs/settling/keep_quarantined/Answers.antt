@@ -1,5 +1,4 @@
-use Rattle.mk_trace.proofs.Vocabulary.{left}
-use Rattle.mk_trace.proofs.SettledLedgers.{ages_all, ages_more, kept_all, kept_more}
+use Rattle.mk_trace.proofs.{Vocabulary.left, SettledLedgers.{ages_all, ages_more, kept_all, kept_more}}
 use Rattle.mk_trace.proofs.FoundCells.{freed_looked, looks_twice}
 use Rattle.mk_laws.proofs.Vocabulary.{◌∙◌}
 use Rattle.mk_trace.proofs.settling.keep_quarantined.Goals as goal

@@ -1,6 +1,5 @@
 use Rattle.mk_laws.proofs.Vocabulary.{Words, ap, slice_index, ◌∙◌}
-use Rattle.mk_tracing.proofs.Closes.{roots_more}
-use Rattle.mk_tracing.proofs.StopSteps.{on_then}
+use Rattle.mk_tracing.proofs.{Closes.roots_more, StopSteps.on_then}
 use Rattle.mk_tracing.proofs.closing.mark_in_stop.Goals as goal
 
 pub returns-clause-on : goal.returns-clause-on

@@ -1,6 +1,5 @@
 use Rattle.mk_laws.proofs.Vocabulary.{ℕ, slice_index, ◌-◌, ◌<◌, ◌≡◌}
-use Rattle.mk_tracing.specs.Grays.{MarksOn}
-use Rattle.mk_tracing.specs.Stops.{still_words}
+use Rattle.mk_tracing.specs.{Grays.MarksOn, Stops.still_words}
 use Rattle.mk_tracing.proofs.dirty.clean_dirty.Given as goal
 
 abbrev pub invariant-loop-page : goal.invariant-loop-page

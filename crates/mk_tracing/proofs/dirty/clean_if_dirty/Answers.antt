@@ -1,6 +1,5 @@
 use Rattle.mk_laws.proofs.Vocabulary.{sym, ◌∙◌}
-use Rattle.mk_tracing.proofs.Clearing.{dirt_cleared, dirt_stays, same_dirt}
-use Rattle.mk_tracing.proofs.StopSteps.{on_then}
+use Rattle.mk_tracing.proofs.{Clearing.{dirt_cleared, dirt_stays, same_dirt}, StopSteps.on_then}
 use Rattle.mk_tracing.proofs.dirty.clean_if_dirty.Goals as goal
 
 pub undirty_page-requires-clause-own : goal.undirty_page-requires-clause-own

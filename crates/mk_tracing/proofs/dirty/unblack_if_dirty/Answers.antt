@@ -2,9 +2,7 @@ use Rattle.mk_laws.proofs.Vocabulary.{List, Page, Words, ap, head_page, head_pag
 use Rattle.mk_laws.proofs.Vocabulary.{sym, ◌∙◌, ◌≡◌, ◌≢◌}
 use Rattle.mk_tracing.proofs.Clearing.{black_cleared, blacks_cleared, cleared_unscanned, head_part, own_part, part_kept}
 use Rattle.mk_tracing.proofs.dirty.unblack_if_dirty.Goals.{After-head_page_under-head, After-look_at-header}
-use Rattle.mk_tracing.proofs.StopSteps.{on_then}
-use Rattle.mk_tracing.specs.Grays.{without_blacks}
-use Rattle.mk_tracing.specs.Stops.{still_words}
+use Rattle.mk_tracing.{proofs.StopSteps.{on_then}, specs.{Grays.without_blacks, Stops.still_words}}
 use Rattle.mk_tracing.proofs.dirty.unblack_if_dirty.Goals as goal
 
 pub returns-then-head-page-clause-on : goal.returns-then-head-page-clause-on

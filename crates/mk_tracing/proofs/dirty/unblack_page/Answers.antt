@@ -1,7 +1,5 @@
 use Rattle.mk_laws.proofs.Vocabulary.{Words, ap, subst, sym, ◌∙◌}
-use Rattle.mk_tracing.proofs.Clearing.{black_clear}
-use Rattle.mk_tracing.proofs.StopSteps.{on_then}
-use Rattle.mk_tracing.specs.Grays.{HasDirtyPart, without_blacks}
+use Rattle.mk_tracing.{proofs.{Clearing.black_clear, StopSteps.on_then}, specs.Grays.{HasDirtyPart, without_blacks}}
 use Rattle.mk_tracing.proofs.dirty.unblack_page.Goals as goal
 
 pub clear_black-requires-clause-part : goal.clear_black-requires-clause-part

@@ -1,7 +1,5 @@
 use Rattle.mk_laws.proofs.Vocabulary.{ap, false, has_bit, header_of, subst, true, ◌∙◌, ◌≡◌}
-use Rattle.mk_tracing.proofs.FirstBits.{gray_there, no_gray_under}
-use Rattle.mk_tracing.specs.Grays.{words_scanned}
-use Rattle.mk_tracing.specs.Stops.{still_words}
+use Rattle.mk_tracing.{proofs.FirstBits.{gray_there, no_gray_under}, specs.{Grays.words_scanned, Stops.still_words}}
 use Rattle.mk_tracing.proofs.grays.gray_among.Goals as goal
 
 pub returns-in_default-clause-none : goal.returns-in_default-clause-none

@@ -1,7 +1,5 @@
 use Rattle.mk_laws.proofs.Vocabulary.{Words, ℕ, arith, cases_lt, ◌+◌, ◌<◌, ◌≡◌, ◌≤◌}
-use Rattle.mk_tracing.proofs.FreePages.{none_past}
-use Rattle.mk_tracing.proofs.StopSteps.{looks_from, looks_then}
-use Rattle.mk_tracing.specs.Grays.{HasNoGray}
+use Rattle.mk_tracing.{proofs.{FreePages.none_past, StopSteps.{looks_from, looks_then}}, specs.Grays.{HasNoGray}}
 use Rattle.mk_tracing.proofs.grays.gray_between.Goals as goal
 
 -- where the pages before one have no gray cell, and it has none, those up to the next have none

@@ -1,5 +1,4 @@
-use Rattle.mk_tracing.proofs.NotedCells.{one_same}
-use Rattle.mk_tracing.proofs.StopSteps.{looks_from, looks_then}
+use Rattle.mk_tracing.proofs.{NotedCells.one_same, StopSteps.{looks_from, looks_then}}
 use Rattle.mk_tracing.proofs.grays.gray_noted.Goals as goal
 
 pub loop-noted-init : goal.loop-noted-init

@@ -1,7 +1,5 @@
 use Rattle.std.proofs.Common.{vec_len}
-use Rattle.mk_tracing.specs.Grays.{LooksOn}
-use Rattle.mk_tracing.specs.Noted.{AreNoted}
-use Rattle.mk_tracing.specs.Stops.{still_words}
+use Rattle.mk_tracing.specs.{Grays.LooksOn, Noted.AreNoted, Stops.still_words}
 use Rattle.mk_tracing.proofs.grays.gray_noted.Given as goal
 
 abbrev pub invariant-loop-noted : goal.invariant-loop-noted

@@ -1,6 +1,5 @@
 use Rattle.mk_laws.proofs.Vocabulary.{Bool, false, not, refl, sym, true, ◌∙◌, ◌≡◌}
-use Rattle.mk_tracing.proofs.NotedCells.{noted_gray}
-use Rattle.mk_tracing.specs.Stops.{still_words}
+use Rattle.mk_tracing.{proofs.NotedCells.{noted_gray}, specs.Stops.{still_words}}
 use Rattle.mk_tracing.proofs.grays.is_gray.Goals as goal
 
 isnt : (b : Bool) → not b ≡ true → b ≡ false

@@ -1,8 +1,7 @@
 use Rattle.std.proofs.Common.{IfNone}
 use Rattle.mk_laws.proofs.Vocabulary.{Words, ℕ, subst, sym, ◌<◌}
 use Rattle.mk_tracing.proofs.grays.next_gray.Goals.{After-another_gray, in-Some+else-is_gray, in_default}
-use Rattle.mk_tracing.proofs.StopSteps.{looks_from, looks_then}
-use Rattle.mk_tracing.specs.Grays.{HasNoGray, LooksOn}
+use Rattle.mk_tracing.{proofs.StopSteps.{looks_from, looks_then}, specs.Grays.{HasNoGray, LooksOn}}
 use Rattle.mk_words.specs.States.{TurnState}
 use Rattle.mk_tracing.proofs.grays.next_gray.Goals as goal
 

@@ -1,12 +1,9 @@
 use Rattle.mk_laws.proofs.Vocabulary.{Words, arith, pointed_cell, subst, sym, ◌%◌, ◌-◌, ◌/◌, ◌∙◌, ◌≡◌}
 use Rattle.mk_geom.specs.Addresses.{cell_of_block}
 use Rattle.mk_tracing.proofs.PointedCells.{hand_points, pointed_here, points_on, well_marked, well_nowhere}
-use Rattle.mk_tracing.proofs.ScannedWords.{looks_alone, marks_alone, notes_then}
-use Rattle.mk_tracing.proofs.FirstBits.{if_told}
-use Rattle.mk_tracing.proofs.NotedCells.{noted_marked}
-use Rattle.mk_tracing.proofs.noting.mark_pointed.Goals.{After-in_block}
-use Rattle.mk_tracing.specs.Grays.{MarksMore}
-use Rattle.mk_tracing.specs.Stops.{still_words}
+use Rattle.mk_tracing.proofs.{ScannedWords.{looks_alone, marks_alone, notes_then}, FirstBits.if_told}
+use Rattle.mk_tracing.proofs.{NotedCells.noted_marked, noting.mark_pointed.Goals.After-in_block}
+use Rattle.mk_tracing.specs.{Grays.MarksMore, Stops.still_words}
 use Rattle.mk_tracing.proofs.noting.mark_pointed.Goals as goal
 
 pub returns-then-header-eq0-clause-marks : goal.returns-then-header-eq0-clause-marks

@@ -1,8 +1,7 @@
 use Rattle.mk_laws.proofs.Vocabulary.{Some, Words, ℕ, arith, pointed_cell, points_well, refl, subst, sym, true, ◌∙◌}
 use Rattle.mk_laws.proofs.Vocabulary.{◌≡◌}
 use Rattle.mk_tracing.proofs.PointedCells.{hand_points, pointed_under, well_marked, well_nowhere}
-use Rattle.mk_tracing.proofs.ScannedWords.{marks_alone, marks_nothing, notes_then}
-use Rattle.mk_tracing.proofs.noting.mark_under.Goals.{In-Some}
+use Rattle.mk_tracing.proofs.{ScannedWords.{marks_alone, marks_nothing, notes_then}, noting.mark_under.Goals.In-Some}
 use Rattle.mk_tracing.specs.Stops.{still_words}
 use Rattle.mk_tracing.proofs.noting.mark_under.Goals as goal
 

@@ -1,6 +1,4 @@
-use Rattle.mk_tracing.proofs.MoreMarks.{more_same}
-use Rattle.mk_tracing.proofs.NotedCells.{noted_cell, noted_same}
-use Rattle.mk_tracing.specs.Stops.{still_words}
+use Rattle.mk_tracing.{proofs.{MoreMarks.more_same, NotedCells.{noted_cell, noted_same}}, specs.Stops.{still_words}}
 use Rattle.mk_tracing.proofs.noting.note.Goals as goal
 
 pub returns-clause-marks : goal.returns-clause-marks

@@ -1,6 +1,5 @@
 use Rattle.mk_laws.proofs.Vocabulary.{ℕ, ◌*◌, ◌<◌}
-use Rattle.mk_tracing.specs.Grays.{GlobalIsWell}
-use Rattle.mk_tracing.specs.Scans.{MarksAndNotes}
+use Rattle.mk_tracing.specs.{Grays.GlobalIsWell, Scans.MarksAndNotes}
 use Rattle.mk_tracing.proofs.roots.mark_globals.Given as goal
 
 abbrev pub invariant-loop-group : goal.invariant-loop-group

@@ -1,6 +1,5 @@
 use Rattle.mk_laws.proofs.Vocabulary.{ℕ, ◌<◌}
-use Rattle.mk_tracing.specs.Grays.{RegistersAreWell}
-use Rattle.mk_tracing.specs.Scans.{MarksAndNotes}
+use Rattle.mk_tracing.specs.{Grays.RegistersAreWell, Scans.MarksAndNotes}
 use Rattle.mk_tracing.proofs.roots.mark_registers.Given as goal
 
 abbrev pub invariant-loop-caller : goal.invariant-loop-caller

@@ -1,7 +1,6 @@
 use Rattle.mk_laws.proofs.Vocabulary.{arith, ◌+◌}
 use Rattle.mk_tracing.proofs.ScannedWords.{due_kept, marks_nothing, none_scanned, one_scanned, scans_then, scans_to}
-use Rattle.mk_tracing.proofs.scanning.scan_few.Goals.{After-mark_value-noted}
-use Rattle.mk_tracing.specs.Scans.{Scans}
+use Rattle.mk_tracing.{proofs.scanning.scan_few.Goals.{After-mark_value-noted}, specs.Scans.{Scans}}
 use Rattle.mk_tracing.proofs.scanning.scan_few.Goals as goal
 
 pub loop-i-init : goal.loop-i-init

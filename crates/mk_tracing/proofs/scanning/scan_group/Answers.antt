@@ -1,6 +1,5 @@
 use Rattle.mk_laws.proofs.Vocabulary.{ℕ, arith, first_word, slice_index, subst, ◌*◌, ◌+◌, ◌-◌, ◌<◌, ◌≡◌}
-use Rattle.mk_tracing.proofs.RootMarks.{before_well}
-use Rattle.mk_tracing.proofs.ScannedWords.{due_same, looks_alone, none_scanned, scans_then}
+use Rattle.mk_tracing.proofs.{RootMarks.before_well, ScannedWords.{due_same, looks_alone, none_scanned, scans_then}}
 use Rattle.mk_tracing.specs.Stops.{still_words}
 use Rattle.mk_tracing.proofs.scanning.scan_group.Goals as goal
 

@@ -1,7 +1,6 @@
 use Rattle.mk_laws.proofs.Vocabulary.{ℕ, arith, ◌*◌, ◌+◌, ◌/◌, ◌≤◌}
 use Rattle.mk_tracing.proofs.ScannedWords.{all_scanned, due_kept, marks_nothing, none_scanned, scans_then, scans_to}
-use Rattle.mk_tracing.proofs.scanning.scan_groups.Goals.{After-scan_part-2}
-use Rattle.mk_tracing.specs.Scans.{Scans}
+use Rattle.mk_tracing.{proofs.scanning.scan_groups.Goals.{After-scan_part-2}, specs.Scans.{Scans}}
 use Rattle.mk_tracing.proofs.scanning.scan_groups.Goals as goal
 
 pub loop-part-init : goal.loop-part-init

@@ -1,6 +1,4 @@
-use Rattle.mk_tracing.specs.Noted.{IsNoted}
-use Rattle.mk_tracing.specs.Scans.{Scans}
-use Rattle.mk_tracing.specs.Stops.{still_words}
+use Rattle.mk_tracing.specs.{Noted.IsNoted, Scans.Scans, Stops.still_words}
 use Rattle.mk_tracing.proofs.scanning.scan_rest.Given as goal
 
 abbrev pub invariant-loop-i : goal.invariant-loop-i

@@ -1,5 +1,4 @@
-use Rattle.mk_tracing.proofs.Stilled.{root_hand}
-use Rattle.mk_tracing.proofs.StopSteps.{looks_root}
+use Rattle.mk_tracing.proofs.{Stilled.root_hand, StopSteps.looks_root}
 use Rattle.mk_tracing.proofs.stepping.look_at_root.Goals as goal
 
 pub returns-clause-looks : goal.returns-clause-looks

@@ -1,7 +1,6 @@
 use Rattle.mk_laws.proofs.Vocabulary.{arith}
 use Rattle.mk_tracing.proofs.StopSteps.{gray_word, looks_word, word_found, word_hand, word_named}
-use Rattle.mk_tracing.proofs.CellWords.{page_of_word}
-use Rattle.mk_tracing.proofs.MaySteps.{may_look}
+use Rattle.mk_tracing.proofs.{CellWords.page_of_word, MaySteps.may_look}
 use Rattle.mk_tracing.proofs.stepping.look_at_word.Goals as goal
 
 pub look_on_page-requires-clause-enabled : goal.look_on_page-requires-clause-enabled

@@ -1,6 +1,5 @@
 use Rattle.mk_laws.proofs.Vocabulary.{arith}
-use Rattle.mk_tracing.proofs.StopSteps.{on_mark, reached_in_use, reached_within}
-use Rattle.mk_tracing.proofs.MaySteps.{may_mark_cell}
+use Rattle.mk_tracing.proofs.{StopSteps.{on_mark, reached_in_use, reached_within}, MaySteps.may_mark_cell}
 use Rattle.mk_tracing.proofs.stepping.mark_cell.Goals as goal
 
 pub bit-requires : goal.bit-requires

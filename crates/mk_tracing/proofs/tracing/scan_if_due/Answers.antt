@@ -1,11 +1,8 @@
 use Rattle.mk_laws.proofs.Vocabulary.{Bool, Cell, Words, ℕ, arith, cell_words, false, has_no_pointers, header_in}
 use Rattle.mk_laws.proofs.Vocabulary.{if◌then◌else◌, inl, inr, refl, subst, sym, true, ◌<◌, ◌∙◌, ◌≡◌, ◌⊎◌}
 use Rattle.mk_core.specs.Cells.{words_point_well}
-use Rattle.mk_tracing.proofs.Blackened.{gray_turns, scan_done}
-use Rattle.mk_tracing.proofs.MoreMarks.{more_same}
-use Rattle.mk_tracing.proofs.ScannedWords.{marks_nothing}
-use Rattle.mk_tracing.specs.Grays.{words_scanned}
-use Rattle.mk_tracing.specs.Stops.{still_words}
+use Rattle.mk_tracing.proofs.{Blackened.{gray_turns, scan_done}, MoreMarks.more_same, ScannedWords.marks_nothing}
+use Rattle.mk_tracing.specs.{Grays.words_scanned, Stops.still_words}
 use Rattle.mk_tracing.proofs.tracing.scan_if_due.Goals as goal
 
 -- Where no word of a cell is scanned, it has no pointers, or no words.

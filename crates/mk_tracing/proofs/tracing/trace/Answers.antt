@@ -1,8 +1,6 @@
 use Rattle.mk_laws.proofs.Vocabulary.{Words, arith, histories_keep_lengths, subst, sym, ◌∙◌, ◌≡◌}
-use Rattle.mk_tracing.proofs.Blackened.{colours_same, colours_then, one_fewer_white}
-use Rattle.mk_tracing.proofs.StopSteps.{on_from, on_then}
-use Rattle.mk_tracing.specs.Grays.{ColoursMore}
-use Rattle.mk_tracing.specs.Stops.{still_words}
+use Rattle.mk_tracing.proofs.{Blackened.{colours_same, colours_then, one_fewer_white}, StopSteps.{on_from, on_then}}
+use Rattle.mk_tracing.specs.{Grays.ColoursMore, Stops.still_words}
 use Rattle.mk_tracing.proofs.tracing.trace.Goals as goal
 
 pub loop-gray-init : goal.loop-gray-init

@@ -1,8 +1,6 @@
 use Rattle.mk_laws.proofs.Vocabulary.{Cell, Words, arith, subst, sym, ◌<◌, ◌^◌, ◌≡◌}
-use Rattle.mk_tracing.proofs.MoreMarks.{marked_now, marks_length, more_marked, more_same}
-use Rattle.mk_tracing.proofs.PointedCells.{points_on}
-use Rattle.mk_tracing.proofs.StopSteps.{on_then, reached_within}
-use Rattle.mk_tracing.specs.Grays.{with_marks}
+use Rattle.mk_tracing.proofs.{MoreMarks.{marked_now, marks_length, more_marked, more_same}, PointedCells.points_on}
+use Rattle.mk_tracing.{proofs.StopSteps.{on_then, reached_within}, specs.Grays.{with_marks}}
 use Rattle.mk_tracing.proofs.values.mark_white.Goals as goal
 
 pub is_marked-requires-clause-page : goal.is_marked-requires-clause-page

@@ -1,5 +1,4 @@
-use Rattle.mk_why.proofs.Vocabulary.{AreEntriesBelow}
-use Rattle.mk_why.proofs.MadeEntries.{entries_more, no_entries}
+use Rattle.mk_why.proofs.{Vocabulary.AreEntriesBelow, MadeEntries.{entries_more, no_entries}}
 use Rattle.mk_laws.proofs.Vocabulary.{ap, arith, length, subst, ◌∙◌, ◌≡◌}
 use Rattle.mk_why.proofs.entries.list_entries.Goals as goal
 

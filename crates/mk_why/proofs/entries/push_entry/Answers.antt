@@ -1,6 +1,4 @@
-use Rattle.mk_why.proofs.Vocabulary.{Found, Storage, entry_at}
-use Rattle.mk_why.proofs.MadeEntries.{read_at}
-use Rattle.mk_why.specs.Entries.{IsMadeOf}
+use Rattle.mk_why.{proofs.{Vocabulary.{Found, Storage, entry_at}, MadeEntries.read_at}, specs.Entries.{IsMadeOf}}
 use Rattle.mk_laws.proofs.Vocabulary.{Option, Some, arith, length, subst, sym, ◌<◌, ◌∙◌, ◌≡◌}
 use Rattle.mk_why.proofs.entries.push_entry.Goals as goal
 

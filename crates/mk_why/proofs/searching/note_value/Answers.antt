@@ -1,8 +1,5 @@
-use Rattle.mk_why.proofs.Vocabulary.{view_by}
-use Rattle.mk_why.proofs.Explored.{found_by, noted_by}
-use Rattle.mk_why.proofs.Pointed.{begins_at}
-use Rattle.mk_why.proofs.Searches.{Notes, grows_nothing, notes}
-use Rattle.mk_why.proofs.searching.note_value.Goals.{After-note}
+use Rattle.mk_why.proofs.{Vocabulary.view_by, Explored.{found_by, noted_by}, Pointed.begins_at}
+use Rattle.mk_why.proofs.{Searches.{Notes, grows_nothing, notes}, searching.note_value.Goals.After-note}
 use Rattle.mk_laws.proofs.Vocabulary.{arith}
 use Rattle.mk_why.proofs.searching.note_value.Goals as goal
 

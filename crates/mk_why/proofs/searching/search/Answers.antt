@@ -1,7 +1,5 @@
 use Rattle.mk_why.proofs.Vocabulary.{AreWays, IsFound, IsSearched, View, view_by, word_of_root}
-use Rattle.mk_why.proofs.Searches.{empty_search, noted_stays, view_search}
-use Rattle.mk_why.proofs.Explored.{explored}
-use Rattle.mk_why.proofs.Looks.{looks_then}
+use Rattle.mk_why.proofs.{Searches.{empty_search, noted_stays, view_search}, Explored.explored, Looks.looks_then}
 use Rattle.mk_laws.proofs.Vocabulary.{ℕ, subst}
 use Rattle.mk_why.proofs.searching.search.Goals as goal
 

@@ -1,9 +1,7 @@
 use Rattle.mk_why.proofs.Vocabulary.{IsFirstWord, IsSearch, IsSearched, SearchesOn, View, entry_at, links_of, view_by}
 use Rattle.mk_why.proofs.Scans.{done_from, entry_read, links_there, one_more_fits, queue_read, queued_base}
-use Rattle.mk_why.proofs.Scans.{queued_within}
-use Rattle.mk_why.proofs.Searches.{looks_search, part_noted, through_stays, view_search}
-use Rattle.mk_why.proofs.searching.search_from.Goals.{After-index-base, In-Some}
-use Rattle.mk_why.specs.Searching.{AreScannedFrom}
+use Rattle.mk_why.proofs.{Scans.queued_within, Searches.{looks_search, part_noted, through_stays, view_search}}
+use Rattle.mk_why.{proofs.searching.search_from.Goals.{After-index-base, In-Some}, specs.Searching.{AreScannedFrom}}
 use Rattle.mk_laws.proofs.Vocabulary.{Some, arith, length, refl, slice_index, subst, sym, ◌+◌, ◌<◌, ◌≡◌}
 use Rattle.mk_why.proofs.searching.search_from.Goals as goal
 

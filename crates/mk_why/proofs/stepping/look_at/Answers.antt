@@ -1,5 +1,4 @@
-use Rattle.mk_why.proofs.Vocabulary.{WordsState, is_word}
-use Rattle.mk_why.proofs.Looks.{look_admitted, look_enabled, look_on, wanted_now}
+use Rattle.mk_why.proofs.{Vocabulary.{WordsState, is_word}, Looks.{look_admitted, look_enabled, look_on, wanted_now}}
 use Rattle.mk_laws.proofs.Vocabulary.{subst, sym, true, ◌≡◌}
 use Rattle.mk_cycle.proofs.Allowed.{in_turn}
 use Rattle.mk_tracing.proofs.Stilled.{look_finds}

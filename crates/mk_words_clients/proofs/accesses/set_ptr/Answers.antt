@@ -2,13 +2,12 @@ use Rattle.mk_laws.proofs.Vocabulary.{Answer, Bool, Flight, None, Op, Some, Step
 use Rattle.mk_laws.proofs.Vocabulary.{if◌then◌else◌, le-leb, lt-ltb, nat_le, nat_lt, ne_eqb, onward, page_met}
 use Rattle.mk_laws.proofs.Vocabulary.{progress_reg, refl, refused, subst, sym, true, ◌&&◌, ◌*◌, ◌+◌, ◌<◌, ◌∙◌, ◌≡◌, ◌≢◌}
 use Rattle.mk_geom.specs.Addresses.{heap_word_at}
-use Rattle.mk_core.specs.declared.seats.Stage.TheVariants.{Dirty, Leave, LoadP, Probe, Write}
-use Rattle.mk_core.specs.{Calls.value_written, Effects.progress_probe}
-use Rattle.mk_words.specs.{CallSteps.register_of, States.PassState, States.WordsState}
+use Rattle.mk_core.specs.{declared.seats.Stage.TheVariants.{Dirty, Leave, LoadP, Probe, Write}, Calls.value_written}
+use Rattle.mk_core.specs.Effects.{progress_probe}
+use Rattle.mk_words.specs.{CallSteps.register_of, States.{PassState, WordsState}}
 use Rattle.mk_words_clients.proofs.accesses.set_ptr.Goals.{After-is_in_order, After-is_in_order-2, After-is_in_order-3}
 use Rattle.mk_words_clients.proofs.accesses.set_ptr.Goals.{After-is_in_order-4, After-write}
-use Rattle.mk_words_clients.proofs.CallFacts.{admitted_now, enters, goes_on, next_may}
-use Rattle.mk_words_clients.specs.Clients.{IsMidCall}
+use Rattle.mk_words_clients.{proofs.CallFacts.{admitted_now, enters, goes_on, next_may}, specs.Clients.{IsMidCall}}
 use Rattle.mk_words_clients.proofs.accesses.set_ptr.Goals as goal
 
 -- where the call is after each of its steps

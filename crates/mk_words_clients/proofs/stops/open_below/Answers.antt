@@ -1,6 +1,5 @@
 use Rattle.mk_laws.proofs.Vocabulary.{Step, ℕ, arith, refl, subst, ◌+◌, ◌-◌, ◌≡◌}
-use Rattle.mk_words_clients.proofs.TurnFacts.{holds_on, none_below, opens_last}
-use Rattle.mk_words_clients.specs.Clients.{HoldsBelow}
+use Rattle.mk_words_clients.{proofs.TurnFacts.{holds_on, none_below, opens_last}, specs.Clients.{HoldsBelow}}
 use Rattle.mk_words_clients.proofs.stops.open_below.Goals as goal
 
 pub loop-caller-preserved : goal.loop-caller-preserved

@@ -1,8 +1,6 @@
 use Rattle.mk_check.proofs.Vocabulary.{ap, globals_of, is_whole, length, pages_of, resident_of, script_names, subst}
-use Rattle.mk_check.proofs.Vocabulary.{sym, types_of, ◌∙◌}
-use Rattle.mk_check.proofs.ConfigLemmas.{config_is, config_within}
-use Rattle.mk_check.proofs.GrammarLemmas.{length-global_names}
-use Rattle.mk_check.specs.Declarations.{config_of}
+use Rattle.mk_check.proofs.{Vocabulary.{sym, types_of, ◌∙◌}, ConfigLemmas.{config_is, config_within}}
+use Rattle.mk_check.{proofs.GrammarLemmas.{length-global_names}, specs.Declarations.{config_of}}
 use Rattle.mk_core.specs.Config.{IsWithinLimits}
 use Rattle.mk_check.proofs.checked.Checked.config.Goals as goal
 

@@ -1,6 +1,5 @@
 use Rattle.std.proofs.Common.{count_by, rules}
-use Rattle.mk_check.proofs.Vocabulary.{is_script, ◌≡◌}
-use Rattle.mk_check.proofs.FaultLemmas.{length-script_names}
+use Rattle.mk_check.proofs.{Vocabulary.{is_script, ◌≡◌}, FaultLemmas.length-script_names}
 use Rattle.mk_check.proofs.checked.Checked.scripts.Goals as goal
 
 pub returns : goal.returns

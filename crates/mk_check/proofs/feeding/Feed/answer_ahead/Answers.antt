@@ -1,16 +1,12 @@
-use Rattle.std.proofs.Common.{OnErr}
-use Rattle.std.specs.declared.result.Result.{Result}
+use Rattle.std.{proofs.Common.{OnErr}, specs.declared.result.Result.{Result}}
 use Rattle.mk_check.proofs.Vocabulary.{FeedState, IfOk-weaker, IsAtStop, IsFeed, IsTree, List, Node, None, OnOk, Op}
 use Rattle.mk_check.proofs.Vocabulary.{Option, Place, PlaceFits, PlaceIsWithin, StopsAt, TakesAnswer, ℕ, after_answer}
 use Rattle.mk_check.proofs.Vocabulary.{ap, arith, false, is_some, kept_in, left_in, length, node_at, op_asked, op_in}
 use Rattle.mk_check.proofs.Vocabulary.{op_of_node, refusal_line, refusal_text, stop_on_answer, stopped_in, subst, sym}
 use Rattle.mk_check.proofs.Vocabulary.{true, with_kept, work_left, [], ◌++◌, ◌<◌, ◌∙◌, ◌∷◌, ◌≡◌}
 use Rattle.mk_check.proofs.Stands.{answer_stands, answer_stops, op_of_others, waits_for_answer}
-use Rattle.mk_check.proofs.feeding.Feed.answer_ahead.Goals.{After-follow, In_ok-take}
-use Rattle.mk_check.proofs.Moves.{line_fits}
-use Rattle.mk_check.proofs.TreeNodes.{is_at}
-use Rattle.mk_check.proofs.WorkLaws.{answer_nearer}
-use Rattle.mk_check.specs.Feeding.{StandsForSome}
+use Rattle.mk_check.proofs.{feeding.Feed.answer_ahead.Goals.{After-follow, In_ok-take}, Moves.line_fits}
+use Rattle.mk_check.{proofs.{TreeNodes.is_at, WorkLaws.answer_nearer}, specs.Feeding.{StandsForSome}}
 use Rattle.mk_check.proofs.feeding.Feed.answer_ahead.Goals as goal
 
 -- the node that waits is that of the line

@@ -1,7 +1,6 @@
 use Rattle.mk_check.proofs.Vocabulary.{FeedState, IsWaiting, TakesAnswer, TakesLine, ℕ, ap, node_at, sequels_of, subst}
-use Rattle.mk_check.proofs.Vocabulary.{sym, work_left, ◌<◌, ◌∙◌}
-use Rattle.mk_check.proofs.AtOnce.{IsAnsweredAtOnce, feeds, feeds_at_once, nearer_at_once, stops_at_once, takes_at_once}
-use Rattle.mk_check.proofs.TreeNodes.{is_at}
+use Rattle.mk_check.proofs.{Vocabulary.{sym, work_left, ◌<◌, ◌∙◌}, AtOnce.{IsAnsweredAtOnce, feeds, feeds_at_once}}
+use Rattle.mk_check.proofs.{AtOnce.{nearer_at_once, stops_at_once, takes_at_once}, TreeNodes.is_at}
 use Rattle.mk_check.proofs.feeding.Feed.answer_silently.Goals.{After-answer_silently}
 use Rattle.mk_check.proofs.feeding.Feed.answer_silently.Goals as goal
 

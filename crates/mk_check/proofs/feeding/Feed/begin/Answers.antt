@@ -2,12 +2,9 @@ use Rattle.std.proofs.Common.{codes}
 use Rattle.mk_check.proofs.Vocabulary.{FeedStandsFor, HasFew, Item, List, Node, Place, PlaceFits, Scope, ScriptText, ℕ}
 use Rattle.mk_check.proofs.Vocabulary.{ap, arith, blocks_from, depth_of, fed_before_lines, length, numbered, replicate}
 use Rattle.mk_check.proofs.Vocabulary.{scope_of, script_of, script_scope, steps_at, subst, sym, trees, [], ◌++◌, ◌∙◌}
-use Rattle.mk_check.proofs.Vocabulary.{◌≡◌}
-use Rattle.mk_check.proofs.Stands.{start_stands, start_stops}
+use Rattle.mk_check.{proofs.{Vocabulary.◌≡◌, Stands.{start_stands, start_stops}}, specs.Feed.{newline}}
 use Rattle.mk_check.proofs.feeding.Feed.begin.Goals.{In_ok-names, In_ok-run, In_ok-running}
-use Rattle.mk_check.proofs.FewBlocks.{text_has_few_blocks}
-use Rattle.mk_check.proofs.FewNames.{text_has_few}
-use Rattle.mk_check.specs.Feed.{newline}
+use Rattle.mk_check.proofs.{FewBlocks.text_has_few_blocks, FewNames.text_has_few}
 use Rattle.mk_check.proofs.feeding.Feed.begin.Goals as goal
 
 -- the names are those that the script may use

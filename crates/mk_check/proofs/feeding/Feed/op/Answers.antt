@@ -1,8 +1,6 @@
 use Rattle.mk_check.proofs.Vocabulary.{FeedState, IsAtStop, IsTree, Op, Option, ap, instruction_of_node, is_some}
-use Rattle.mk_check.proofs.Vocabulary.{node_at, op_asked, op_in, subst, sym, ◌∙◌, ◌≡◌}
-use Rattle.mk_check.proofs.Spots.{op_by_instruction}
-use Rattle.mk_check.proofs.Stands.{op_stands}
-use Rattle.mk_check.proofs.feeding.Feed.op.Goals.{After-asked}
+use Rattle.mk_check.proofs.{Vocabulary.{node_at, op_asked, op_in, subst, sym, ◌∙◌, ◌≡◌}, Spots.op_by_instruction}
+use Rattle.mk_check.proofs.{Stands.op_stands, feeding.Feed.op.Goals.After-asked}
 use Rattle.mk_check.proofs.feeding.Feed.op.Goals as goal
 
 asks : (c : After-asked) → c.asked.result ≡ op_in c.args.self.now

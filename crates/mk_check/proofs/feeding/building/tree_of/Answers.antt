@@ -1,6 +1,5 @@
 use Rattle.mk_check.proofs.Vocabulary.{Element, List, ap, arith, element_of, parts_in, with_element, ◌+◌, ◌-◌, ◌∙◌}
-use Rattle.mk_check.proofs.NumberedParts.{parts_from_more}
-use Rattle.mk_check.specs.Building.{StepPart}
+use Rattle.mk_check.{proofs.NumberedParts.{parts_from_more}, specs.Building.{StepPart}}
 use Rattle.mk_check.proofs.feeding.building.tree_of.Goals as goal
 
 pub loop-index-preserved : goal.loop-index-preserved

@@ -1,5 +1,4 @@
-use Rattle.mk_check.proofs.Vocabulary.{drop, ◌++◌, ◌≡◌}
-use Rattle.mk_check.specs.NamesInScope.{names_of, referred_names}
+use Rattle.mk_check.{proofs.Vocabulary.{drop, ◌++◌, ◌≡◌}, specs.NamesInScope.{names_of, referred_names}}
 use Rattle.mk_check.proofs.feeding.names.names_among.Given as goal
 
 abbrev pub invariant-loop-item : goal.invariant-loop-item

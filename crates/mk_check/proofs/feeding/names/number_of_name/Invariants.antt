@@ -1,5 +1,4 @@
-use Rattle.mk_check.proofs.Vocabulary.{drop, number_of_name, ◌+◌, ◌≡◌}
-use Rattle.mk_check.specs.NamesInScope.{referred_names}
+use Rattle.mk_check.{proofs.Vocabulary.{drop, number_of_name, ◌+◌, ◌≡◌}, specs.NamesInScope.{referred_names}}
 use Rattle.mk_check.proofs.feeding.names.number_of_name.Given as goal
 
 abbrev pub invariant-loop-index : goal.invariant-loop-index

@@ -1,5 +1,4 @@
-use Rattle.mk_check.proofs.Vocabulary.{refl}
-use Rattle.mk_check.proofs.CountLemmas.{counts_with-line}
+use Rattle.mk_check.proofs.{Vocabulary.refl, CountLemmas.counts_with-line}
 use Rattle.mk_check.proofs.lengths.OpenParts.read.Goals as goal
 
 pub returns-else-is_instruction : goal.returns-else-is_instruction

@@ -1,5 +1,4 @@
-use Rattle.mk_check.proofs.Vocabulary.{PartCount, arith}
-use Rattle.mk_check.proofs.CountLemmas.{reverse-none, reverse-set}
+use Rattle.mk_check.proofs.{Vocabulary.{PartCount, arith}, CountLemmas.{reverse-none, reverse-set}}
 use Rattle.mk_check.proofs.lengths.OpenParts.turn.Goals.{in-Some, in_default}
 use Rattle.mk_check.proofs.lengths.OpenParts.turn.Goals as goal
 

@@ -1,5 +1,4 @@
-use Rattle.mk_check.proofs.Vocabulary.{take}
-use Rattle.mk_check.specs.Lookups.{AreDeclared}
+use Rattle.mk_check.{proofs.Vocabulary.{take}, specs.Lookups.{AreDeclared}}
 use Rattle.mk_check.proofs.lookups.Declarations.of_program.Given as goal
 
 abbrev pub invariant-loop-item : goal.invariant-loop-item

@@ -1,5 +1,4 @@
-use Rattle.mk_check.proofs.Vocabulary.{around}
-use Rattle.mk_check.proofs.RuleLemmas.{fault_of_sorts-line}
+use Rattle.mk_check.proofs.{Vocabulary.around, RuleLemmas.fault_of_sorts-line}
 use Rattle.mk_check.proofs.lookups.Lookups.fault.Goals as goal
 
 pub returns : goal.returns

@@ -1,5 +1,4 @@
-use Rattle.mk_check.proofs.Vocabulary.{take, type_names, ◌≤◌}
-use Rattle.mk_check.specs.Numbers.{AreNumbers}
+use Rattle.mk_check.{proofs.Vocabulary.{take, type_names, ◌≤◌}, specs.Numbers.{AreNumbers}}
 use Rattle.mk_check.proofs.numbers.TypeNumbers.of_program.Given as goal
 
 abbrev pub invariant-loop-item : goal.invariant-loop-item

@@ -1,5 +1,4 @@
-use Rattle.mk_core.proofs.Vocabulary.{arith}
-use Rattle.mk_core.proofs.Conditions.{enabled_meets}
+use Rattle.mk_core.proofs.{Vocabulary.arith, Conditions.enabled_meets}
 use Rattle.mk_core.proofs.machine.Core.advance.Goals as goal
 
 pub word_reached-name-requires : goal.word_reached-name-requires

@@ -1,6 +1,5 @@
 use Rattle.std.proofs.Common.{rules}
-use Rattle.mk_core.proofs.Vocabulary.{words_are_zero, ◌*◌, ◌+◌, ◌∙◌}
-use Rattle.mk_core.proofs.Wiped.{run_wiped}
+use Rattle.mk_core.proofs.{Vocabulary.{words_are_zero, ◌*◌, ◌+◌, ◌∙◌}, Wiped.run_wiped}
 use Rattle.mk_core.proofs.table.Table.is_run_wiped.Goals as goal
 
 pub returns : goal.returns

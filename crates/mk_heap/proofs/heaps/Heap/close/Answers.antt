@@ -1,7 +1,6 @@
 use Rattle.mk_laws.proofs.Vocabulary.{ap, subst, sym, ◌∙◌}
-use Rattle.mk_heap.proofs.Ended.{HasAllHome, ends_counted, ends_whole, home}
-use Rattle.mk_heap.proofs.HostsKept.{home_host, home_is, home_view, is_home}
-use Rattle.mk_heap.proofs.heaps.Heap.close.Goals.{After-is_in_order}
+use Rattle.mk_heap.proofs.{Ended.{HasAllHome, ends_counted, ends_whole, home}, HostsKept.{home_host, home_is}}
+use Rattle.mk_heap.proofs.{HostsKept.{home_view, is_home}, heaps.Heap.close.Goals.After-is_in_order}
 use Rattle.mk_heap.specs.Hosts.{AllAreJoined, HostState}
 use Rattle.mk_heap.proofs.heaps.Heap.close.Goals as goal
 

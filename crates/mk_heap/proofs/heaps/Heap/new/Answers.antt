@@ -1,8 +1,6 @@
 use Rattle.mk_laws.proofs.Vocabulary.{Config, Host, ap, subst, sym, [], ◌∙◌}
-use Rattle.mk_heap.proofs.HostsKept.{first_is_host}
-use Rattle.mk_heap.specs.Hosts.{IsHost}
-use Rattle.mk_words.specs.Seats.{all_seats}
-use Rattle.mk_words.specs.States.{PassState, WordsState}
+use Rattle.mk_heap.{proofs.HostsKept.{first_is_host}, specs.Hosts.{IsHost}}
+use Rattle.mk_words.specs.{Seats.all_seats, States.{PassState, WordsState}}
 use Rattle.mk_heap.proofs.heaps.Heap.new.Goals as goal
 
 pub invariant_of-result : goal.invariant_of-result

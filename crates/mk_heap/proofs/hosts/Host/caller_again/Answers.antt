@@ -2,8 +2,7 @@ use Rattle.mk_laws.proofs.Vocabulary.{Caller, subst, sym, ◌<◌}
 use Rattle.mk_caller.specs.States.{IsIdleCaller}
 use Rattle.mk_heap.proofs.HostsKept.{caller_out_is_host, home_is, home_view, is_home, joined_is_idle, still_host}
 use Rattle.mk_heap.specs.Hosts.{HostState}
-use Rattle.mk_words.specs.Seats.{Has}
-use Rattle.mk_words.specs.States.{PassState}
+use Rattle.mk_words.specs.{Seats.Has, States.PassState}
 use Rattle.mk_heap.proofs.hosts.Host.caller_again.Goals as goal
 
 pub new-requires-clause-idle : goal.new-requires-clause-idle

@@ -1,16 +1,11 @@
 use Rattle.mk_laws.proofs.Vocabulary.{None, Step, arith, refl, subst, sym, ◌∙◌}
-use Rattle.mk_cycle.proofs.Allowed.{in_turn}
-use Rattle.mk_cycle.specs.Begun.{EachIsBegun}
-use Rattle.mk_cycle.specs.EngineLaw.{IsAtPhase}
-use Rattle.mk_heap.proofs.HomeCallers.{hosts_seat, none_by_phase, step_overs}
-use Rattle.mk_heap.proofs.MovedHosts.{MovesOn, begin_moves, finish_moves, idle_moves, moved_is_host, moves_more}
+use Rattle.mk_cycle.{proofs.Allowed.{in_turn}, specs.{Begun.EachIsBegun, EngineLaw.IsAtPhase}}
+use Rattle.mk_heap.proofs.{HomeCallers.{hosts_seat, none_by_phase, step_overs}, MovedHosts.{MovesOn, begin_moves}}
+use Rattle.mk_heap.{proofs.MovedHosts.{finish_moves, idle_moves, moved_is_host, moves_more}, specs.Hosts.{HostState}}
 use Rattle.mk_heap.proofs.Overs.{cycle_idle, give_allowed, given_no_turn, given_phase, idle_may_give}
-use Rattle.mk_heap.proofs.BegunHosts.{cycle_begun, idle_then_sweeps}
-use Rattle.mk_heap.proofs.HostsKept.{home_is, home_view, is_home}
+use Rattle.mk_heap.proofs.{BegunHosts.{cycle_begun, idle_then_sweeps}, HostsKept.{home_is, home_view, is_home}}
 use Rattle.mk_heap.proofs.hosts.Host.cycle.Goals.{After-finish_cycle-turn}
-use Rattle.mk_heap.specs.Hosts.{HostState}
-use Rattle.mk_turns.proofs.Sweeping.{other_step_sweeps, sweeps_then}
-use Rattle.mk_turns.specs.Sweeping.{SweepsNothing}
+use Rattle.mk_turns.{proofs.Sweeping.{other_step_sweeps, sweeps_then}, specs.Sweeping.{SweepsNothing}}
 use Rattle.mk_waiting.specs.Taking.{TakesTurn}
 use Rattle.mk_words.specs.States.{PassState}
 use Rattle.mk_heap.proofs.hosts.Host.cycle.Goals as goal

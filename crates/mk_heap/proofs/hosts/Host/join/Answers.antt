@@ -1,8 +1,6 @@
 use Rattle.mk_laws.proofs.Vocabulary.{ap, subst, sym, ◌∙◌}
-use Rattle.mk_heap.proofs.HostsKept.{home_is, home_view, is_home, joined_is_host}
-use Rattle.mk_heap.proofs.BegunHosts.{grown_sweeps}
-use Rattle.mk_heap.proofs.HomeCallers.{joined_overs}
-use Rattle.mk_heap.specs.Hosts.{HostState}
+use Rattle.mk_heap.proofs.{HostsKept.{home_is, home_view, is_home, joined_is_host}, BegunHosts.grown_sweeps}
+use Rattle.mk_heap.{proofs.HomeCallers.{joined_overs}, specs.Hosts.{HostState}}
 use Rattle.mk_turns.specs.Sweeping.{SweepsNothing}
 use Rattle.mk_words.specs.Seats.{has_over}
 use Rattle.mk_heap.proofs.hosts.Host.join.Goals as goal

@@ -1,13 +1,9 @@
 use Rattle.mk_laws.proofs.Vocabulary.{refl, subst, sym}
-use Rattle.mk_cycle.proofs.Allowed.{in_turn, in_turn_after}
-use Rattle.mk_cycle.specs.EngineLaw.{IsAtPhase}
-use Rattle.mk_heap.proofs.HostsKept.{home_is, home_view, is_home}
-use Rattle.mk_heap.proofs.MovedHosts.{idle_moves, moved_is_host, moves_more}
+use Rattle.mk_cycle.{proofs.Allowed.{in_turn, in_turn_after}, specs.EngineLaw.{IsAtPhase}}
+use Rattle.mk_heap.proofs.{HostsKept.{home_is, home_view, is_home}, MovedHosts.{idle_moves, moved_is_host, moves_more}}
 use Rattle.mk_heap.proofs.Overs.{give_allowed, given_no_turn, over_keeps, over_may_give, tidy_kept}
-use Rattle.mk_heap.proofs.BegunHosts.{given_sweeps, idle_then_sweeps}
-use Rattle.mk_heap.proofs.HomeCallers.{callers_home}
-use Rattle.mk_heap.specs.Ending.{CallersAreJoined, SaysOver}
-use Rattle.mk_heap.specs.Hosts.{HostState}
+use Rattle.mk_heap.proofs.{BegunHosts.{given_sweeps, idle_then_sweeps}, HomeCallers.callers_home}
+use Rattle.mk_heap.specs.{Ending.{CallersAreJoined, SaysOver}, Hosts.HostState}
 use Rattle.mk_turns.specs.Sweeping.{SweepsNothing}
 use Rattle.mk_words.specs.States.{PassState}
 use Rattle.mk_heap.proofs.hosts.Host.over.Goals as goal

@@ -1,15 +1,11 @@
 use Rattle.mk_laws.proofs.Vocabulary.{Host, Seat, ap, refl, subst, ◌∙◌, ◌≡◌}
 use Rattle.mk_cycle.proofs.Allowed.{in_turn, in_turn_after}
-use Rattle.mk_heap.proofs.HomeCallers.{hosts_seat, step_overs, taken_overs}
-use Rattle.mk_heap.proofs.HostsKept.{home_is, home_view, is_home}
+use Rattle.mk_heap.proofs.{HomeCallers.{hosts_seat, step_overs, taken_overs}, HostsKept.{home_is, home_view, is_home}}
 use Rattle.mk_heap.proofs.Overs.{give_allowed, given_no_turn, look_admitted, look_tidy, looked_may_give}
-use Rattle.mk_heap.proofs.BegunHosts.{given_sweeps, taken_then_sweeps}
-use Rattle.mk_heap.proofs.MovedHosts.{moved_is_host, moves_more, turn_moves}
-use Rattle.mk_heap.proofs.hosts.Host.tell.Goals.{After-take_turn-turn}
-use Rattle.mk_heap.specs.Hosts.{HostState}
+use Rattle.mk_heap.proofs.{BegunHosts.{given_sweeps, taken_then_sweeps}, MovedHosts.{moved_is_host, moves_more}}
+use Rattle.mk_heap.{proofs.{MovedHosts.turn_moves, hosts.Host.tell.Goals.After-take_turn-turn}, specs.Hosts.{HostState}}
 use Rattle.mk_turns.specs.Sweeping.{SweepsNothing}
-use Rattle.mk_words.specs.Seats.{Has, has_over}
-use Rattle.mk_words.specs.States.{PassState}
+use Rattle.mk_words.specs.{Seats.{Has, has_over}, States.PassState}
 use Rattle.mk_heap.proofs.hosts.Host.tell.Goals as goal
 
 -- The turn is the host's.

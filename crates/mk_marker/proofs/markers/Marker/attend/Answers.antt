@@ -1,7 +1,6 @@
 use Rattle.mk_laws.proofs.Vocabulary.{subst}
 use Rattle.mk_core.proofs.PhaseTests.{not_in_word}
-use Rattle.mk_marker.proofs.Worked.{finds_phase}
-use Rattle.mk_marker.specs.Working.{FindsPhase}
+use Rattle.mk_marker.{proofs.Worked.{finds_phase}, specs.Working.{FindsPhase}}
 use Rattle.mk_words.specs.States.{PassState}
 use Rattle.mk_marker.proofs.markers.Marker.attend.Goals as goal
 

@@ -1,5 +1,4 @@
-use Rattle.mk_page_map.proofs.Vocabulary.{arith, is_free_page, refl}
-use Rattle.mk_page_map.proofs.Reading.{first_shown}
+use Rattle.mk_page_map.proofs.{Vocabulary.{arith, is_free_page, refl}, Reading.first_shown}
 use Rattle.mk_page_map.proofs.page_map.PageMap.first_free.Goals as goal
 
 pub returns : goal.returns

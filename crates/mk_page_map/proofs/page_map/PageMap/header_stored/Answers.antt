@@ -1,10 +1,9 @@
 use Rattle.mk_page_map.proofs.Vocabulary.{List, Page, ℕ, ap, arith, drop, is_free_page, length, length-set, page_at}
 use Rattle.mk_page_map.proofs.Vocabulary.{set, sym, take, true, ◌++◌, ◌+◌, ◌<◌, ◌∙◌, ◌≡◌, ◌≤◌}
-use Rattle.mk_geom.specs.{Headers.header_of, PageWords.use_under}
 use Rattle.mk_page_map.proofs.Storing.{Stores, counted_anew, page_read, page_within, resident_byte, store_fits}
-use Rattle.mk_page_map.proofs.Storing.{store_shows}
-use Rattle.mk_page_map.proofs.Uncleaned.{others_kept, this_uncleaned}
-use Rattle.mk_page_map.proofs.{Fitting.resident_one, FreeSets.written, page_map.PageMap.header_stored.Goals.After-from}
+use Rattle.mk_page_map.proofs.{Storing.store_shows, Uncleaned.{others_kept, this_uncleaned}, Fitting.resident_one}
+use Rattle.mk_page_map.proofs.{FreeSets.written, page_map.PageMap.header_stored.Goals.After-from}
+use Rattle.mk_geom.specs.{Headers.header_of, PageWords.use_under}
 use Rattle.mk_page_map.proofs.page_map.PageMap.header_stored.Goals as goal
 
 abbrev now : After-from → Page

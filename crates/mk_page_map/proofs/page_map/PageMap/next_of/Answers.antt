@@ -1,6 +1,5 @@
-use Rattle.mk_page_map.proofs.Vocabulary.{IsNext, is_member, subst, ◌∙◌}
+use Rattle.mk_page_map.{proofs.Vocabulary.{IsNext, is_member, subst, ◌∙◌}, proofs.Uncleaned.{next_of_uncleaned}}
 use Rattle.mk_page_map.proofs.Reading.{next_of_quarantined, next_of_sorted, no_others_there, reads_by}
-use Rattle.mk_page_map.proofs.Uncleaned.{next_of_uncleaned}
 use Rattle.mk_page_map.proofs.page_map.PageMap.next_of.Goals as goal
 
 pub next_page-requires-clause-no_others : goal.next_page-requires-clause-no_others

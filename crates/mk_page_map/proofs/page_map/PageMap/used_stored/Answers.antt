@@ -1,8 +1,7 @@
 use Rattle.mk_page_map.proofs.Vocabulary.{List, Page, ℕ, ap, arith, drop, length, length-set, page_at, set, take, ◌++◌}
-use Rattle.mk_page_map.proofs.Vocabulary.{◌<◌, ◌∙◌, ◌≡◌}
-use Rattle.mk_page_map.proofs.FreeSets.{written}
-use Rattle.mk_page_map.proofs.Storing.{Stores, page_read, page_within, same_count, store_fits, store_shows}
-use Rattle.mk_page_map.proofs.{Uncleaned.all_kept, page_map.PageMap.used_stored.Goals.After-sort_by_used}
+use Rattle.mk_page_map.proofs.{Vocabulary.{◌<◌, ◌∙◌, ◌≡◌}, FreeSets.written, Storing.{Stores, page_read, page_within}}
+use Rattle.mk_page_map.proofs.{Storing.{same_count, store_fits, store_shows}, Uncleaned.all_kept}
+use Rattle.mk_page_map.proofs.page_map.PageMap.used_stored.Goals.{After-sort_by_used}
 use Rattle.mk_page_map.proofs.page_map.PageMap.used_stored.Goals as goal
 
 abbrev now : After-sort_by_used → Page

@@ -1,7 +1,6 @@
 use Rattle.std.proofs.Common.{slice_get}
 use Rattle.mk_laws.proofs.Vocabulary.{Some, arith, length, subst, ◌+◌, ◌≡◌}
-use Rattle.mk_run.proofs.Vocabulary.{IsReadyScript}
-use Rattle.mk_run.proofs.ReadyScripts.{one_more}
+use Rattle.mk_run.proofs.{Vocabulary.IsReadyScript, ReadyScripts.one_more}
 use Rattle.mk_run.specs.declared.ready.ReadyScript.{ReadyScript}
 use Rattle.mk_run.proofs.ready.ReadyRun.new.Goals as goal
 

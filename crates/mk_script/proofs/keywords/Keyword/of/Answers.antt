@@ -1,5 +1,4 @@
-use Rattle.mk_script.proofs.Vocabulary.{length, refl, ◌∙◌, ◌≡◌}
-use Rattle.mk_script.proofs.KeywordLengths.{of_length}
+use Rattle.mk_script.proofs.{Vocabulary.{length, refl, ◌∙◌, ◌≡◌}, KeywordLengths.of_length}
 use Rattle.mk_script.proofs.keywords.Keyword.of.Goals as goal
 
 pub returns-in-2 : goal.returns-in-2

@@ -1,5 +1,4 @@
-use Rattle.mk_script.proofs.Vocabulary.{ap, bytes_eq, is_among, list_any, sym, ◌∙◌}
-use Rattle.mk_script.proofs.PutName.{list_any-map}
+use Rattle.mk_script.proofs.{Vocabulary.{ap, bytes_eq, is_among, list_any, sym, ◌∙◌}, PutName.list_any-map}
 use Rattle.mk_script.proofs.name_set.NameSet.contains.Goals as goal
 
 pub returns : goal.returns

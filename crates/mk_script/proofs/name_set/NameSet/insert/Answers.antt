@@ -1,5 +1,4 @@
-use Rattle.mk_script.proofs.Vocabulary.{◌∙◌}
-use Rattle.mk_script.proofs.PutName.{puts_name}
+use Rattle.mk_script.proofs.{Vocabulary.◌∙◌, PutName.puts_name}
 use Rattle.mk_script.proofs.name_set.NameSet.insert.Goals as goal
 
 pub returns : goal.returns

@@ -1,5 +1,4 @@
-use Rattle.mk_script.proofs.Vocabulary.{length, rules, ◌≡◌, ◌≤◌}
-use Rattle.mk_script.proofs.PaddedNames.{zeros_behind}
+use Rattle.mk_script.proofs.{Vocabulary.{length, rules, ◌≡◌, ◌≤◌}, PaddedNames.zeros_behind}
 use Rattle.mk_script.proofs.names.Name.from_word.Goals as goal
 
 pub invariant_of-result : goal.invariant_of-result

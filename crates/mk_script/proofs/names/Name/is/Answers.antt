@@ -1,5 +1,4 @@
-use Rattle.mk_script.proofs.Vocabulary.{ap, bytes_eq, take, ◌∙◌}
-use Rattle.mk_script.proofs.PaddedNames.{of_one_length}
+use Rattle.mk_script.proofs.{Vocabulary.{ap, bytes_eq, take, ◌∙◌}, PaddedNames.of_one_length}
 use Rattle.mk_script.proofs.names.Name.is.Goals as goal
 
 pub returns-then-self-other : goal.returns-then-self-other

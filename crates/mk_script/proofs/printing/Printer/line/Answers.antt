@@ -1,5 +1,4 @@
-use Rattle.mk_script.proofs.Vocabulary.{append_assoc, words_of_item}
-use Rattle.mk_script.proofs.Spacing.{line_text-joined, then_same}
+use Rattle.mk_script.proofs.{Vocabulary.{append_assoc, words_of_item}, Spacing.{line_text-joined, then_same}}
 use Rattle.mk_script.proofs.printing.Printer.line.Goals as goal
 
 pub returns : goal.returns

@@ -1,5 +1,4 @@
-use Rattle.mk_script.proofs.Vocabulary.{drop, map, spaced_words, ◌++◌, ◌≡◌}
-use Rattle.mk_script.specs.Spaced.{operand_text}
+use Rattle.mk_script.{proofs.Vocabulary.{drop, map, spaced_words, ◌++◌, ◌≡◌}, specs.Spaced.{operand_text}}
 use Rattle.mk_script.proofs.printing.Printer.operands.Given as goal
 
 abbrev pub invariant-loop-operand : goal.invariant-loop-operand

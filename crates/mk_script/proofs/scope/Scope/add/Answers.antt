@@ -1,8 +1,7 @@
 use Rattle.mk_script.proofs.Vocabulary.{ap, false, global_names, is_among, is_script, is_twice, number_names}
 use Rattle.mk_script.proofs.Vocabulary.{pointer_names, refl, reverse, script_names, sym, this_script, type_names, []}
-use Rattle.mk_script.proofs.Vocabulary.{◌||◌, ◌∙◌, ◌∷◌, ◌≡◌}
-use Rattle.mk_script.proofs.ScopeAfter.{adds, after_line, after_script, kept, or-false, or-true, other_adds}
-use Rattle.mk_script.proofs.NamesSoFar.{among, among_neither, on_ok}
+use Rattle.mk_script.proofs.{Vocabulary.{◌||◌, ◌∙◌, ◌∷◌, ◌≡◌}, ScopeAfter.{adds, after_line, after_script, kept}}
+use Rattle.mk_script.proofs.{ScopeAfter.{or-false, or-true, other_adds}, NamesSoFar.{among, among_neither, on_ok}}
 use Rattle.mk_script.specs.Scopes.{is_instruction}
 use Rattle.mk_script.proofs.scope.Scope.add.Goals as goal
 

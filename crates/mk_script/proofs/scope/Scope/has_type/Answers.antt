@@ -1,5 +1,4 @@
-use Rattle.mk_script.proofs.Vocabulary.{type_names, ◌∙◌}
-use Rattle.mk_script.proofs.NamesSoFar.{among}
+use Rattle.mk_script.proofs.{Vocabulary.{type_names, ◌∙◌}, NamesSoFar.among}
 use Rattle.mk_script.proofs.scope.Scope.has_type.Goals as goal
 
 pub returns : goal.returns

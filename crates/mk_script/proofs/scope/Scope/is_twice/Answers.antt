@@ -1,5 +1,4 @@
-use Rattle.mk_script.proofs.Vocabulary.{global_names, script_names, type_names, ◌∙◌}
-use Rattle.mk_script.proofs.NamesSoFar.{among}
+use Rattle.mk_script.proofs.{Vocabulary.{global_names, script_names, type_names, ◌∙◌}, NamesSoFar.among}
 use Rattle.mk_script.proofs.scope.Scope.is_twice.Goals as goal
 
 pub returns-in-TypeLine : goal.returns-in-TypeLine

@@ -1,5 +1,4 @@
-use Rattle.mk_script.proofs.Vocabulary.{type_names}
-use Rattle.mk_script.proofs.NamesSoFar.{count}
+use Rattle.mk_script.proofs.{Vocabulary.type_names, NamesSoFar.count}
 use Rattle.mk_script.proofs.scope.Scope.type_limit_fault.Goals as goal
 
 pub returns : goal.returns

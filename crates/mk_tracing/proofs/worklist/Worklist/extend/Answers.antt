@@ -1,7 +1,6 @@
 use Rattle.std.proofs.Common.{IfSome}
 use Rattle.mk_laws.proofs.Vocabulary.{Option, subst}
-use Rattle.mk_tracing.specs.Noted.{IsNoted}
-use Rattle.mk_tracing.specs.declared.noted.Noted.{Noted}
+use Rattle.mk_tracing.specs.{Noted.IsNoted, declared.noted.Noted.Noted}
 use Rattle.mk_tracing.proofs.worklist.Worklist.extend.Goals as goal
 
 pub returns-in-Some : goal.returns-in-Some

@@ -1,6 +1,5 @@
 use Rattle.std.proofs.lemmas.Result.{IfOk-weaker}
-use Rattle.mk_why.proofs.Vocabulary.{view_of}
-use Rattle.mk_why.proofs.Scans.{kept_of}
+use Rattle.mk_why.proofs.{Vocabulary.view_of, Scans.kept_of}
 use Rattle.mk_why.proofs.why.Why.kept.Goals as goal
 
 pub returns-clause-kept : goal.returns-clause-kept

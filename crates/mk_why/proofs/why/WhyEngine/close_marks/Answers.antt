@@ -1,8 +1,5 @@
-use Rattle.mk_why.proofs.Vocabulary.{PassState}
-use Rattle.mk_why.proofs.Looks.{law_kept, looks_then, still_closed, sweepless_kept}
-use Rattle.mk_why.proofs.Counts.{of_state}
-use Rattle.mk_why.proofs.Pointed.{apart}
-use Rattle.mk_why.proofs.Telling.{told_by, told_of}
+use Rattle.mk_why.proofs.{Vocabulary.PassState, Looks.{law_kept, looks_then, still_closed, sweepless_kept}}
+use Rattle.mk_why.proofs.{Counts.of_state, Pointed.apart, Telling.{told_by, told_of}}
 use Rattle.mk_laws.proofs.Vocabulary.{ap, arith, ◌∙◌}
 use Rattle.mk_cycle.proofs.Allowed.{in_turn}
 use Rattle.mk_why.proofs.why.WhyEngine.close_marks.Goals as goal

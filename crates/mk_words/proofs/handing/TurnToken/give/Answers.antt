@@ -1,9 +1,8 @@
 use Rattle.mk_laws.proofs.Vocabulary.{Holds, Step, ap, subst, sym, [], ◌∙◌, ◌∷◌, ◌≡◌}
 use Rattle.atomic_table.specs.Table.{rest}
-use Rattle.mk_words.proofs.HandingCalls.{give_makes, give_order, order_of_view, still_state, took}
-use Rattle.mk_words.proofs.{Owed.same_id, handing.TurnToken.give.Goals.After-exchange-empty}
-use Rattle.mk_words.specs.Passes.{IsInOrder, state_of}
-use Rattle.mk_words.specs.{PageMaps.IsMapOf, Rule.Mine, States.PassState, States.now_of, Steps.Makes, Steps.May}
+use Rattle.mk_words.proofs.{HandingCalls.{give_makes, give_order, order_of_view, still_state, took}, Owed.same_id}
+use Rattle.mk_words.{proofs.handing.TurnToken.give.Goals.{After-exchange-empty}, specs.Steps.{Makes, May}}
+use Rattle.mk_words.specs.{Passes.{IsInOrder, state_of}, PageMaps.IsMapOf, Rule.Mine, States.{PassState, now_of}}
 use Rattle.mk_words.proofs.handing.TurnToken.give.Goals as goal
 
 pub exchange-empty-requires : goal.exchange-empty-requires

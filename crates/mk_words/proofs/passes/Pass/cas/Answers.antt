@@ -1,6 +1,5 @@
 use Rattle.mk_laws.proofs.Vocabulary.{refl}
-use Rattle.mk_words.proofs.CallSteps.{cas_goes, goes_on, keeps}
-use Rattle.mk_words.specs.{States.call_of, Steps.found_by}
+use Rattle.mk_words.{proofs.CallSteps.{cas_goes, goes_on, keeps}, specs.{States.call_of, Steps.found_by}}
 use Rattle.mk_words.proofs.passes.Pass.cas.Goals as goal
 
 pub returns-clause-goes : goal.returns-clause-goes

@@ -1,6 +1,5 @@
 use Rattle.mk_laws.proofs.Vocabulary.{ap, arith, sym, ◌∙◌, ◌≡◌, ◌≤◌}
-use Rattle.mk_words.proofs.Opening.{all_opened, one_round, opens_none}
-use Rattle.mk_words.specs.States.{WordsState}
+use Rattle.mk_words.{proofs.Opening.{all_opened, one_round, opens_none}, specs.States.{WordsState}}
 use Rattle.mk_words.proofs.stopped.Stopped.open_all.Goals as goal
 
 pub loop-caller-init : goal.loop-caller-init

@@ -1,6 +1,5 @@
 use Rattle.mk_laws.proofs.Vocabulary.{sym}
-use Rattle.mk_words.proofs.MapSteps.{map_cleaned, page_known, turn_that}
-use Rattle.mk_words.specs.States.{now_of}
+use Rattle.mk_words.{proofs.MapSteps.{map_cleaned, page_known, turn_that}, specs.States.{now_of}}
 use Rattle.mk_words.proofs.turns.TurnAt.cleaned.Goals as goal
 
 pub cleaned-requires : goal.cleaned-requires

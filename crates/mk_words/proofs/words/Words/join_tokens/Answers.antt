@@ -1,6 +1,5 @@
 use Rattle.mk_laws.proofs.Vocabulary.{ap, ◌∙◌}
-use Rattle.mk_words.proofs.Owed.{join_call, joined, same_config, same_id, settle_call}
-use Rattle.mk_words.specs.Rule.{Mine}
+use Rattle.mk_words.{proofs.Owed.{join_call, joined, same_config, same_id, settle_call}, specs.Rule.{Mine}}
 use Rattle.mk_words.proofs.words.Words.join_tokens.Goals as goal
 
 pub join_seat-requires : goal.join_seat-requires

@@ -1,6 +1,5 @@
 use Rattle.mk_check.proofs.Vocabulary.{AddsLine, Built, Element, IfOk-weaker, List, Node, ℕ, ap, subst, sym, with_part}
-use Rattle.mk_check.proofs.Vocabulary.{[], ◌++◌, ◌∙◌, ◌∷◌, ◌≡◌}
-use Rattle.mk_check.proofs.Builds.{else_added}
+use Rattle.mk_check.proofs.{Vocabulary.{[], ◌++◌, ◌∙◌, ◌∷◌, ◌≡◌}, Builds.else_added}
 use Rattle.mk_check.proofs.feeding.building.Builder.add_else.Goals as goal
 
 pub returns : goal.returns

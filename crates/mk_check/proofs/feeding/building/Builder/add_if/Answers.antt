@@ -1,6 +1,5 @@
 use Rattle.mk_check.proofs.Vocabulary.{AddsLine, Built, Element, IfOk-weaker, List, Node, ℕ, ap, subst, sym}
-use Rattle.mk_check.proofs.Vocabulary.{with_node_and_part, [], ◌++◌, ◌∙◌, ◌∷◌, ◌≡◌}
-use Rattle.mk_check.proofs.Builds.{if_added, two_popped}
+use Rattle.mk_check.proofs.{Vocabulary.{with_node_and_part, [], ◌++◌, ◌∙◌, ◌∷◌, ◌≡◌}, Builds.{if_added, two_popped}}
 use Rattle.mk_check.proofs.feeding.building.Builder.add_if.Goals.{In-Some-pop}
 use Rattle.mk_check.specs.declared.feeding.building.Part.{Part}
 use Rattle.mk_check.proofs.feeding.building.Builder.add_if.Goals as goal

@@ -1,6 +1,5 @@
 use Rattle.mk_check.proofs.Vocabulary.{AddsLine, Built, Element, IfOk-weaker, List, Node, ap, length, subst, sym}
-use Rattle.mk_check.proofs.Vocabulary.{with_node_and_part, [], ◌++◌, ◌<◌, ◌∙◌, ◌∷◌, ◌≡◌}
-use Rattle.mk_check.proofs.Builds.{line_added, popped}
+use Rattle.mk_check.proofs.{Vocabulary.{with_node_and_part, [], ◌++◌, ◌<◌, ◌∙◌, ◌∷◌, ◌≡◌}, Builds.{line_added, popped}}
 use Rattle.mk_check.proofs.feeding.building.Builder.add_line.Goals as goal
 
 pub grow-requires : goal.grow-requires

@@ -1,6 +1,5 @@
 use Rattle.mk_check.proofs.Vocabulary.{Built, List, Node, ℕ, ap, length, subst, sym, [], ◌++◌, ◌<◌, ◌∙◌, ◌∷◌, ◌≡◌}
-use Rattle.mk_check.proofs.feeding.building.Builder.finish.Goals.{in-None, in-Some}
-use Rattle.mk_check.proofs.Builds.{popped}
+use Rattle.mk_check.proofs.{feeding.building.Builder.finish.Goals.{in-None, in-Some}, Builds.popped}
 use Rattle.mk_check.proofs.feeding.building.Builder.finish.Goals as goal
 
 pub returns-clause-within : goal.returns-clause-within

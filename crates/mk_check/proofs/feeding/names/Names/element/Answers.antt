@@ -1,5 +1,4 @@
-use Rattle.mk_check.proofs.Vocabulary.{Element, ap, ◌∙◌}
-use Rattle.mk_check.proofs.OtherLines.{element_of_others}
+use Rattle.mk_check.proofs.{Vocabulary.{Element, ap, ◌∙◌}, OtherLines.element_of_others}
 use Rattle.mk_check.proofs.feeding.names.Names.element.Goals as goal
 
 pub returns-in_default : goal.returns-in_default

@@ -1,5 +1,4 @@
-use Rattle.mk_check.proofs.Vocabulary.{ℕ, length, subst, sym, ◌<◌}
-use Rattle.mk_check.proofs.AsksFirst.{resumed_within}
+use Rattle.mk_check.proofs.{Vocabulary.{ℕ, length, subst, sym, ◌<◌}, AsksFirst.resumed_within}
 use Rattle.mk_check.proofs.feeding.running.Running.comes_to_op.Goals as goal
 
 pub asks_first-requires : goal.asks_first-requires

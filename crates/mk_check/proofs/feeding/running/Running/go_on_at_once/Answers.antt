@@ -1,5 +1,4 @@
-use Rattle.mk_check.proofs.Vocabulary.{Place, ap}
-use Rattle.mk_check.proofs.Sequels.{none_at_line, none_at_end}
+use Rattle.mk_check.proofs.{Vocabulary.{Place, ap}, Sequels.{none_at_line, none_at_end}}
 use Rattle.mk_check.proofs.feeding.running.Running.go_on_at_once.Goals as goal
 
 pub returns-in-Asks-clause-taken : goal.returns-in-Asks-clause-taken

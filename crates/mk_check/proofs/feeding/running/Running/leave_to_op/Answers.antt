@@ -1,7 +1,6 @@
-use Rattle.mk_check.proofs.Vocabulary.{Frame, Some, ap, arith, asks_at, innermost, length, node_at, refl, sym, ℕ, ◌-◌, Place, ◌∙◌, ◌≡◌}
-use Rattle.mk_check.proofs.AsksFirst.{repeat_left, round_left}
-use Rattle.mk_check.proofs.NextRounds.{innermost_within}
-use Rattle.mk_check.proofs.feeding.running.Running.leave_to_op.Goals.{In-Some-Rounds}
+use Rattle.mk_check.proofs.Vocabulary.{Frame, Some, ap, arith, asks_at, innermost, length, node_at, refl, sym, ℕ, ◌-◌}
+use Rattle.mk_check.proofs.{Vocabulary.{Place, ◌∙◌, ◌≡◌}, AsksFirst.{repeat_left, round_left}}
+use Rattle.mk_check.proofs.{NextRounds.innermost_within, feeding.running.Running.leave_to_op.Goals.In-Some-Rounds}
 use Rattle.mk_check.proofs.feeding.running.Running.leave_to_op.Goals as goal
 
 last : (c : In-Some-Rounds) → innermost c.args.self.now.frames

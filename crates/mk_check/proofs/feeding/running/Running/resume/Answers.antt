@@ -1,5 +1,4 @@
-use Rattle.mk_check.proofs.AsksFirst.{left_to_op}
-use Rattle.mk_check.proofs.TreeNodes.{found_at}
+use Rattle.mk_check.proofs.{AsksFirst.left_to_op, TreeNodes.found_at}
 use Rattle.mk_check.proofs.feeding.running.Running.resume.Goals as goal
 
 pub returns-in-Done : goal.returns-in-Done

@@ -1,7 +1,6 @@
 use Rattle.mk_check.proofs.Vocabulary.{HasStopped, MovesOn, Place, after_line, ap, false, is_some, kept_in, op_asked}
-use Rattle.mk_check.proofs.Vocabulary.{subst, sym, true, with_kept, ◌∙◌, ◌≡◌}
-use Rattle.mk_check.proofs.Moves.{asks_at, choice_finds_room, choice_goes_on, end_goes_on, ends_at, line_goes_on}
-use Rattle.mk_check.proofs.Moves.{rounds_find_room, rounds_go_on}
+use Rattle.mk_check.proofs.{Vocabulary.{subst, sym, true, with_kept, ◌∙◌, ◌≡◌}, Moves.{asks_at, choice_finds_room}}
+use Rattle.mk_check.proofs.Moves.{choice_goes_on, end_goes_on, ends_at, line_goes_on, rounds_find_room, rounds_go_on}
 use Rattle.mk_check.proofs.TreeNodes.{found_at}
 use Rattle.mk_check.proofs.feeding.running.Running.step.Goals as goal
 

@@ -1,9 +1,8 @@
 use Rattle.mk_check.proofs.Vocabulary.{MovesOn, Node, Place, after_line, ap, asks_first, false, is_asking, is_print}
 use Rattle.mk_check.proofs.Vocabulary.{kept_in, steps_at, subst, sym, trees, true, with_kept, ◌∙◌, ◌≡◌}
 use Rattle.mk_check.proofs.AsksFirst.{first_done, first_in_branch, first_in_rounds, first_later, line_to_op}
-use Rattle.mk_check.proofs.AsksFirst.{no_print_here, stops_at_op}
-use Rattle.mk_check.proofs.Moves.{choice_finds_room, choice_goes_on, rounds_find_room, rounds_go_on}
-use Rattle.mk_check.proofs.TreeNodes.{IsAt, found_at}
+use Rattle.mk_check.proofs.{AsksFirst.{no_print_here, stops_at_op}, Moves.{choice_finds_room, choice_goes_on}}
+use Rattle.mk_check.proofs.{Moves.{rounds_find_room, rounds_go_on}, TreeNodes.{IsAt, found_at}}
 use Rattle.mk_check.proofs.feeding.running.Running.step_to_op.Goals.{After-calculate, In-Choice, In-Line, In-Rounds}
 use Rattle.mk_check.proofs.feeding.running.Running.step_to_op.Goals as goal
 

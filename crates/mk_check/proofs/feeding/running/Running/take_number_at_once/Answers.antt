@@ -1,7 +1,5 @@
-use Rattle.mk_check.proofs.Vocabulary.{KeptState, Place, ap, with_kept, ◌∙◌}
-use Rattle.mk_check.proofs.NextRounds.{kept_left}
-use Rattle.mk_check.proofs.Sequels.{number_at_end, number_at_line}
-use Rattle.mk_check.specs.Steps.{with_value}
+use Rattle.mk_check.proofs.{Vocabulary.{KeptState, Place, ap, with_kept, ◌∙◌}, NextRounds.kept_left}
+use Rattle.mk_check.{proofs.Sequels.{number_at_end, number_at_line}, specs.Steps.{with_value}}
 use Rattle.mk_check.proofs.feeding.running.Running.take_number_at_once.Goals as goal
 
 pub returns-in-Asks-clause-taken : goal.returns-in-Asks-clause-taken

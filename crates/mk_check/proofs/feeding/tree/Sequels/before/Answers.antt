@@ -1,7 +1,5 @@
 use Rattle.mk_check.proofs.Vocabulary.{Bool, None, Option, Sequel, ℕ, ap, false, refl, sequel_to, sym, true, ◌∙◌, ◌≡◌}
-use Rattle.mk_check.specs.Spots.{sequels_by}
-use Rattle.mk_check.specs.Steps.{keeping_register}
-use Rattle.mk_check.specs.declared.feeding.tree.Sequels.{Sequels}
+use Rattle.mk_check.specs.{Spots.sequels_by, Steps.keeping_register, declared.feeding.tree.Sequels.Sequels}
 use Rattle.mk_check.proofs.feeding.tree.Sequels.before.Goals as goal
 
 -- what is told of the instruction and of the node is what is so

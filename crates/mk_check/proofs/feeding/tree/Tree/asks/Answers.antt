@@ -1,5 +1,4 @@
-use Rattle.mk_check.proofs.Vocabulary.{node_at}
-use Rattle.mk_check.proofs.Spots.{asks_by_instruction}
+use Rattle.mk_check.proofs.{Vocabulary.node_at, Spots.asks_by_instruction}
 use Rattle.mk_check.proofs.feeding.tree.Tree.asks.Goals as goal
 
 pub returns : goal.returns

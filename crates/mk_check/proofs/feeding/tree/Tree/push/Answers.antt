@@ -1,7 +1,5 @@
-use Rattle.mk_check.proofs.Vocabulary.{IsBelow, List, Node, asks_first, length, subst, sym}
-use Rattle.mk_check.proofs.Spots.{IsMarkedTree_push}
-use Rattle.mk_check.specs.Spots.{IsMarkedTree}
-use Rattle.mk_check.specs.declared.feeding.tree.Spot.{Spot}
+use Rattle.mk_check.proofs.{Vocabulary.{IsBelow, List, Node, asks_first, length, subst, sym}, Spots.IsMarkedTree_push}
+use Rattle.mk_check.specs.{Spots.IsMarkedTree, declared.feeding.tree.Spot.Spot}
 use Rattle.mk_check.proofs.feeding.tree.Tree.push.Goals as goal
 
 pub invariant_of-self-2 : goal.invariant_of-self-2
