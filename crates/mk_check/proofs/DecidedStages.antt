@@ -1,7 +1,7 @@
 -- A caller's call is decided once, before its last step.
 use Rattle.std.specs.List.{list_any}
-use Rattle.mk_check.proofs.Vocabulary.{Answer, Bool, Config, None, Op, Option, Some, ℕ, and_parts, arith, false}
-use Rattle.mk_check.proofs.Vocabulary.{if◌then◌else◌, refl, subst, sym, true, ◌+◌, ◌==◌, ◌≡◌}
+use Rattle.mk_check.proofs.Vocabulary.{Answer, Bool, Config, None, Op, Option, Some, ℕ, and_parts, arith, false, List}
+use Rattle.mk_check.proofs.Vocabulary.{if◌then◌else◌, not, refl, subst, sym, true, [], ◌+◌, ◌==◌, ◌∷◌, ◌≡◌}
 use Rattle.mk_geom.specs.{Headers.header_of, declared.addresses.Cell.Cell}
 use Rattle.mk_core.specs.Calls.{begun, is_same_stage, onward, progress_p, progress_q, progress_reg, refused}
 use Rattle.mk_core.specs.{Calls.{stage_behind, stage_refused, steps_of, still}, Effects.{decided, progress}}
@@ -19,11 +19,7 @@ has_stage o s = list_any (is_same_stage s) (steps_of o)
 
 -- how many answers of the call in flight are decided
 abbrev pub pending : Stage → ℕ
-pending Stage.Put = 1
-pending Stage.Dirty = 1
-pending Stage.Leave = 1
-pending Stage.Give = 1
-pending _ = 0
+pending s = if list_any (is_same_stage s) (Stage.Put ∷ Stage.Dirty ∷ Stage.Leave ∷ Stage.Give ∷ []) then 1 else 0
 
 abbrev pub count : Option Answer → ℕ
 count (Some a) = 1
@@ -49,24 +45,16 @@ still_goes s o q p r l h = record { stage = h; pending = omega arith }
 -- the next stage
 
 abbrev goes_on : Stage → Bool
-goes_on Stage.Idle = false
-goes_on Stage.Put = false
-goes_on Stage.Leave = false
-goes_on Stage.Turn = false
-goes_on Stage.Give = false
-goes_on _ = true
+goes_on s =
+    not (list_any (is_same_stage s) (Stage.Idle ∷ Stage.Put ∷ Stage.Leave ∷ Stage.Turn ∷ Stage.Give ∷ []))
 
 -- whether the step at this stage decides, where it isn't refused
 abbrev decides : Stage → Op → ℕ
-decides Stage.Read o = 1
-decides Stage.Write o = 1
-decides Stage.Cas o = 1
-decides Stage.Getg o = 1
-decides Stage.Setg o = 1
-decides Stage.Store o = 1
 decides Stage.LoadQ (Op.Same p q) = 1
 decides Stage.LoadP (Op.IsNull p) = 1
-decides _ o = 0
+decides s o =
+    if list_any (is_same_stage s)
+    (Stage.Read ∷ Stage.Write ∷ Stage.Cas ∷ Stage.Getg ∷ Stage.Setg ∷ Stage.Store ∷ []) then 1 else 0
 
 next_stage : (s : Stage) (o : Op) → has_stage o s ≡ true → has_stage o (stage_behind s (steps_of o)) ≡ true
 next_stage x0 x1 h = grind arith
@@ -80,9 +68,7 @@ onward_goes : (s : Stage) (o : Op) (q p r l q' p' r' l' : ℕ) (a : Option Answe
 onward_goes s o q p r l q' p' r' l' a g h e = grind (arith, next_stage, pending, next_pending)
 
 abbrev may_refuse : Stage → Bool
-may_refuse Stage.LoadQ = true
-may_refuse Stage.Probe = true
-may_refuse _ = false
+may_refuse s = list_any (is_same_stage s) (Stage.LoadQ ∷ Stage.Probe ∷ [])
 
 refused_pending : (s : Stage) (o : Op) → may_refuse s ≡ true → pending (stage_refused o) ≡ pending s + 1
 refused_pending x0 x1 m = grind arith
@@ -109,40 +95,29 @@ reg_goes : (s : Stage) (o : Op) (q p r l found : ℕ) → has_stage o s ≡ true
     → Goes (flight s o q p r l) (progress_reg (flight s o q p r l) s found)
 reg_goes s o q p r l found h n = grind (arith, q_goes, p_goes, onward_goes, leave_stage, pending, still_goes)
 
--- the steps that have a stage of their own
+-- the stage of a step that has one of its own
 
-abbrev stage_of : Step → Stage
-stage_of Step.Leave = Stage.Leave
-stage_of Step.Probe = Stage.Probe
-stage_of Step.Read = Stage.Read
-stage_of Step.Write = Stage.Write
-stage_of Step.Cas = Stage.Cas
-stage_of Step.Getg = Stage.Getg
-stage_of Step.Setg = Stage.Setg
-stage_of Step.Dirty = Stage.Dirty
-stage_of _ = Stage.Idle
+abbrev stage_of : Step → Option Stage
+stage_of (Step.Enter o) = Some Stage.Idle
+stage_of (Step.Take o) = Some Stage.Idle
+stage_of Step.Leave = Some Stage.Leave
+stage_of Step.Probe = Some Stage.Probe
+stage_of Step.Read = Some Stage.Read
+stage_of Step.Write = Some Stage.Write
+stage_of Step.Cas = Some Stage.Cas
+stage_of Step.Getg = Some Stage.Getg
+stage_of Step.Setg = Some Stage.Setg
+stage_of Step.Dirty = Some Stage.Dirty
+stage_of _ = None
 
-abbrev has_stage_of_its_own : Step → Bool
-has_stage_of_its_own (Step.Enter o) = true
-has_stage_of_its_own (Step.Take o) = true
-has_stage_of_its_own Step.Leave = true
-has_stage_of_its_own Step.Probe = true
-has_stage_of_its_own Step.Read = true
-has_stage_of_its_own Step.Write = true
-has_stage_of_its_own Step.Cas = true
-has_stage_of_its_own Step.Getg = true
-has_stage_of_its_own Step.Setg = true
-has_stage_of_its_own Step.Dirty = true
-has_stage_of_its_own _ = false
+not_holders : (x : Step) (t : Stage) → stage_of x ≡ Some t → is_of_any_holder x ≡ true → ⊥
+not_holders x0 t k h = grind arith
 
-not_holders : (x : Step) → has_stage_of_its_own x ≡ true → is_of_any_holder x ≡ true → ⊥
-not_holders x0 k h = grind arith
+not_deciding : (o : Op) (x : Step) (t : Stage) → stage_of x ≡ Some t → may_decide_new o x ≡ true → ⊥
+not_deciding o x t k h = grind (arith, not_holders)
 
-not_deciding : (o : Op) (x : Step) → has_stage_of_its_own x ≡ true → may_decide_new o x ≡ true → ⊥
-not_deciding o x k h = grind (arith, not_holders)
-
-own_stage : (s : Stage) (o : Op) (x : Step) → has_stage_of_its_own x ≡ true → comes_next s o x ≡ true → s ≡ stage_of x
-own_stage x0 o x k h = grind (arith, not_deciding, not_holders)
+own_stage : (s : Stage) (o : Op) (x : Step) (t : Stage) → stage_of x ≡ Some t → comes_next s o x ≡ true → s ≡ t
+own_stage x0 o x t k h = grind (arith, not_deciding, not_holders)
 
 begun_goes : (o y : Op) (q p r l : ℕ) → Goes (flight Stage.Idle o q p r l) (record { flight = begun y; answer = None })
 begun_goes o x1 q p r l = grind (arith, pending)
@@ -180,10 +155,10 @@ fulls_at_turn x0 o n = grind arith
 abbrev pub At : Config → Moment → Op → ℕ → ℕ → ℕ → ℕ → ℕ → Step → Stage → Type 0
 At c m o q p r l found x s = Goes (flight s o q p r l) (progress c m (flight s o q p r l) found x)
 
-own : (c : Config) (m : Moment) (s : Stage) (o : Op) (q p r l found : ℕ) (x : Step) → has_stage_of_its_own x ≡ true
+own : (c : Config) (m : Moment) (s : Stage) (o : Op) (q p r l found : ℕ) (x : Step) {t : Stage} → stage_of x ≡ Some t
     → has_stage o s ≡ true → comes_next s o x ≡ true
-    → (has_stage o (stage_of x) ≡ true → At c m o q p r l found x (stage_of x)) → At c m o q p r l found x s
-own c m s o q p r l found x k h n f = grind (arith, own_stage, has_stage)
+    → (has_stage o t ≡ true → At c m o q p r l found x t) → At c m o q p r l found x s
+own c m s o q p r l found x {t} k h n f = grind (arith, own_stage, has_stage)
 
 pub goes : (c : Config) (m : Moment) (s : Stage) (o : Op) (q p r l found : ℕ) (x : Step)
     → has_stage o s ≡ true → comes_next s o x ≡ true → ends_call x ≡ false → At c m o q p r l found x s

@@ -10,17 +10,6 @@ globals-requires c =
     rw (c.in_ok-numbers.ensures, c.items-items.ensures.items)
     (length-global_names program (is_whole program c.items-items.ensures.of_some_text))
 
--- the fields are those of the definition
-pub returns-clause-config : goal.returns-clause-config
-returns-clause-config c =
-    let same = c.items-items.ensures.items in
-    let numbers = c.in_ok-numbers.ensures ∙ same in
-    config_is c.self.inside.program _ _ _ c.args.markers _ _
-    (c.heap_pages-heap.ensures.pages ∙ ap pages_of same) (c.heap_pages-heap.ensures.resident ∙ ap resident_of same)
-    (c.scripts.ensures ∙ ap (λ items. length (script_names items)) (sym c.self.view_is))
-    (c.in_ok-types.ensures ∙ ap types_of numbers) (c.in_ok-globals.ensures ∙ ap globals_of numbers)
-    ∙ ap (λ items. config_of items c.args.markers) c.self.view_is
-
 pub returns-clause-within_limits : goal.returns-clause-within_limits
 returns-clause-within_limits c =
     let program = c.self.inside.program in

@@ -4,11 +4,6 @@ use Rattle.mk_check.proofs.{AtOnce.{nearer_at_once, stops_at_once, takes_at_once
 use Rattle.mk_check.proofs.feeding.Feed.answer_silently.Goals.{After-answer_silently}
 use Rattle.mk_check.proofs.feeding.Feed.answer_silently.Goals as goal
 
-pub answer_silently-requires-clause-sequels : goal.answer_silently-requires-clause-sequels
-answer_silently-requires-clause-sequels c =
-    let nodes = c.self.inside.tree in
-    c.sequels-sequels.ensures.value ∙ ap (λ (at : ℕ). sequels_of nodes (node_at nodes at)) c.at.ensures
-
 -- It took the line, and stops behind it.
 answered : (c : After-answer_silently)
     → TakesLine c.self.inside.tree c.args.answer c.self.inside.running c.answer_silently.new.self

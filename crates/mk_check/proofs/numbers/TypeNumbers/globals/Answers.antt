@@ -34,8 +34,3 @@ loop-item-preserved c =
           rw (w.globals-is, next, globals_among-push_other names front c.item-item.result w.in_default.not-Global)
           c.loop-item.invariant
     ]
-
-pub returns : goal.returns
-returns c =
-    c.loop-item.invariant ∙ ap (globals_among (type_names c.args.self.now))
-    (take_all c.loop-item.item-index c.self.inside.program.now c.loop-item-test.false ∙ c.self.view_is)

@@ -24,8 +24,3 @@ loop-item-preserved c =
           rw (w.types-is, next, kinds_among-push_other names front c.item-item.result w.in_default.not-TypeLine)
           c.loop-item.invariant
     ]
-
-pub returns : goal.returns
-returns c =
-    c.loop-item.invariant ∙ ap (kinds_among (type_names c.args.self.now))
-    (take_all c.loop-item.item-index c.self.inside.program.now c.loop-item-test.false ∙ c.self.view_is)

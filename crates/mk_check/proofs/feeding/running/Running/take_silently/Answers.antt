@@ -6,31 +6,8 @@ here : (c : In-Line) → node_at c.args.tree.now c.args.self.now.at
     ≡ Node.Line c.in-Line.line c.in-Line.instruction c.in-Line.next
 here c = ap (node_at c.args.tree.now) (sym c.at.ensures) ∙ sym c.in-Line.ensures.value
 
-pub take_to_op-requires-clause-within : goal.take_to_op-requires-clause-within
-take_to_op-requires-clause-within c =
-    let l = c.in-Line in
-    record {
-      at = below_length c.args.tree.now
-          (is_at l.ensures.tree c.requires.within (here ((goal.at.take_to_op-requires-clause-within c).In-Line)));
-      frames = c.requires.within.frames;
-    }
-
 pub take_to_op-requires-clause-fits : goal.take_to_op-requires-clause-fits
 take_to_op-requires-clause-fits c =
     let l = c.in-Line in
     line_fits _ (is_at l.ensures.tree c.requires.within (here ((goal.at.take_to_op-requires-clause-fits c).In-Line)))
     c.requires.fits
-
-pub returns-clause-taken : goal.returns-clause-taken
-returns-clause-taken c =
-    let l = c.in-Line in
-    λ t. record {
-      line = l.line;
-      instruction = l.instruction;
-      next = l.next;
-      here = here ((goal.at.returns-clause-taken c).In-Line);
-      taken = record {
-        silent = sym c.is_silent.ensures ∙ c.if-not-is_silent.false;
-        stopped = c.take_to_op.ensures.taken t;
-      };
-    }
