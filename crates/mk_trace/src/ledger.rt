@@ -129,33 +129,26 @@ impl Freed {
         ensures ages { self.new.ages.items ≡ self.old.ages.items }
         ensures ends { self.new.ends ≡ ends }
     {
-        self.quarantined.now = storage_of(kept.as_slice());
-        self.reserved.now = reserved_of(kept.as_slice());
+        let (storage, reserved) = totals_of(kept.as_slice());
+        self.quarantined.now = storage;
+        self.reserved.now = reserved;
         self.quarantine = kept;
         self.ends = ends;
     }
 }
 
-/// The words of their storage.
-fn storage_of(kept: &[FreedObject]) -> u64
-    ensures { result ≡ in_a_word (sum_by (λ object. object.storage) kept.now) }
+/// The words of their storage, and those of the large ones.
+fn totals_of(kept: &[FreedObject]) -> (u64, u64)
+    ensures storage { result.0 ≡ in_a_word (sum_by (λ object. object.storage) kept.now) }
+    ensures reserved { result.1 ≡ in_a_word (sum_by (λ object. object.reserved) kept.now) }
 {
-    let mut words: u64 = 0;
+    let mut storage: u64 = 0;
+    let mut reserved: u64 = 0;
     for object in kept {
-        words = words.saturating_add(object.storage);
+        storage = storage.saturating_add(object.storage);
+        reserved = reserved.saturating_add(object.reserved);
     }
-    words
-}
-
-/// Those of the large ones.
-fn reserved_of(kept: &[FreedObject]) -> u64
-    ensures { result ≡ in_a_word (sum_by (λ object. object.reserved) kept.now) }
-{
-    let mut words: u64 = 0;
-    for object in kept {
-        words = words.saturating_add(object.reserved);
-    }
-    words
+    (storage, reserved)
 }
 
 #[derive(Drop)]
