@@ -1,7 +1,4 @@
-use Rattle.mk_laws.proofs.Vocabulary.{Op, subst}
-use Rattle.mk_alloc.proofs.Vocabulary.{PassState}
 use Rattle.mk_alloc_clients.proofs.OwnedCalls.{held_keeps, load_has_no_fault, load_has_no_null, loaded, may_load}
-use Rattle.mk_caller.specs.{Causes.IsRefused, declared.refusals.Refusal.Refusal}
 use Rattle.mk_alloc_clients.proofs.numbers.load.Goals as goal
 
 pub get_num-loaded-requires-clause-admitted : goal.get_num-loaded-requires-clause-admitted
@@ -9,17 +6,13 @@ get_num-loaded-requires-clause-admitted c = may_load c.args.caller.now.pass c.ar
 
 pub unreachable-requires : goal.unreachable-requires
 unreachable-requires c =
-    let p : PassState = c.args.caller.now.pass in
-    let q : PassState = c.get_num-loaded.new.self.pass in
     load_has_no_fault c.args.d c.requires.owned c.is_idle.ensures.history
-    (subst (λ (e : Refusal). IsRefused p (Op.GetNum c.args.d 0) e q) c.in-Fault.is c.in-Err.ensures.refused)
+    (rw c.in-Fault.is at c.in-Err.ensures.refused)
 
 pub unreachable-requires-in-Null : goal.unreachable-requires-in-Null
 unreachable-requires-in-Null c =
-    let p : PassState = c.args.caller.now.pass in
-    let q : PassState = c.get_num-loaded.new.self.pass in
     load_has_no_null c.args.d c.requires.owned c.is_idle.ensures.history
-    (subst (λ (e : Refusal). IsRefused p (Op.GetNum c.args.d 0) e q) c.in-Null.is c.in-Err.ensures.refused)
+    (rw c.in-Null.is at c.in-Err.ensures.refused)
 
 pub returns-in-Ok-clause-loaded : goal.returns-in-Ok-clause-loaded
 returns-in-Ok-clause-loaded c =
@@ -30,7 +23,5 @@ returns-in-Ok-clause-still c = (loaded c.args.d c.requires.owned c.is_idle.ensur
 
 pub returns-in-Held-clause-still : goal.returns-in-Held-clause-still
 returns-in-Held-clause-still c =
-    let p : PassState = c.args.caller.now.pass in
-    let q : PassState = c.get_num-loaded.new.self.pass in
     held_keeps c.args.d c.requires.owned c.is_idle.ensures.history
-    (subst (λ (e : Refusal). IsRefused p (Op.GetNum c.args.d 0) e q) c.in-Held.is c.in-Err.ensures.refused)
+    (rw c.in-Held.is at c.in-Err.ensures.refused)

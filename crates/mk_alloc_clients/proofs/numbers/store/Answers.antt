@@ -1,7 +1,4 @@
-use Rattle.mk_laws.proofs.Vocabulary.{Op, subst}
-use Rattle.mk_alloc.proofs.Vocabulary.{PassState}
 use Rattle.mk_alloc_clients.proofs.OwnedCalls.{held_keeps, may_store, store_has_no_fault, store_has_no_null, stored}
-use Rattle.mk_caller.specs.{Causes.IsRefused, declared.refusals.Refusal.Refusal}
 use Rattle.mk_alloc_clients.proofs.numbers.store.Goals as goal
 
 pub set_num-stored-requires-clause-admitted : goal.set_num-stored-requires-clause-admitted
@@ -9,24 +6,18 @@ set_num-stored-requires-clause-admitted c = may_store c.args.caller.now.pass c.a
 
 pub unreachable-requires : goal.unreachable-requires
 unreachable-requires c =
-    let p : PassState = c.args.caller.now.pass in
-    let q : PassState = c.set_num-stored.new.self.pass in
     store_has_no_fault c.args.d c.args.n c.requires.owned c.is_idle.ensures.history
-    (subst (λ (e : Refusal). IsRefused p (Op.SetNum c.args.d 0 c.args.n) e q) c.in-Fault.is c.in-Err.ensures.refused)
+    (rw c.in-Fault.is at c.in-Err.ensures.refused)
 
 pub unreachable-requires-in-Null : goal.unreachable-requires-in-Null
 unreachable-requires-in-Null c =
-    let p : PassState = c.args.caller.now.pass in
-    let q : PassState = c.set_num-stored.new.self.pass in
     store_has_no_null c.args.d c.args.n c.requires.owned c.is_idle.ensures.history
-    (subst (λ (e : Refusal). IsRefused p (Op.SetNum c.args.d 0 c.args.n) e q) c.in-Null.is c.in-Err.ensures.refused)
+    (rw c.in-Null.is at c.in-Err.ensures.refused)
 
 pub returns-in-Ok-clause-stored : goal.returns-in-Ok-clause-stored
 returns-in-Ok-clause-stored c = (stored c.args.d c.requires.owned c.is_idle.ensures.history c.in-Ok.ensures.called).has
 
 pub returns-in-Held-clause-still : goal.returns-in-Held-clause-still
 returns-in-Held-clause-still c =
-    let p : PassState = c.args.caller.now.pass in
-    let q : PassState = c.set_num-stored.new.self.pass in
     held_keeps c.args.d c.requires.owned c.is_idle.ensures.history
-    (subst (λ (e : Refusal). IsRefused p (Op.SetNum c.args.d 0 c.args.n) e q) c.in-Held.is c.in-Err.ensures.refused)
+    (rw c.in-Held.is at c.in-Err.ensures.refused)
