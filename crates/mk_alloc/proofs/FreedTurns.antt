@@ -33,7 +33,8 @@ due_is_quar : (c : Config) (m : Moment) (f : Flight) (x : Step) → decides_free
 due_is_quar c m f (Step.Quar p v) h = refl
 due_is_quar c m f _ h = cc
 
-pub not_due_without : {c : Config} {es : List Event} (more before : List Event) {e : Event} (behind : List Event) → Lacks is_quar more
+pub not_due_without : {c : Config} {es : List Event} (more before : List Event) {e : Event} (behind : List Event)
+    → Lacks is_quar more
     → more ≡ before ++ e ∷ behind → IsDue c es e → ⊥
 not_due_without {c} {es} more before {e = e} behind none is due =
     lacks_at is_quar more before e behind none is (due_is_quar c (left c es).now

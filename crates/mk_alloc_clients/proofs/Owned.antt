@@ -8,7 +8,14 @@ use Rattle.mk_never.specs.declared.operations.Op.TheVariants.{CasPtr, Clear, Fre
 use Rattle.mk_never.specs.declared.operations.Op.TheVariants.{Lea, Move, New, Same, SetGlobal, SetNum, SetPtr}
 use Rattle.mk_never.specs.{declared.operations.Reply.Reply, declared.values.Target.Target}
 use Rattle.std.proofs.Common.{ltb-false, set}
-use Rattle.mk_laws.proofs.Vocabulary.{AreAdmitted, Call, Continues, IsAdmitted, IsNumber, IsSound, IsTyped, Kind, List, Meets, NeverAllocation as Allocation, NeverState, Null, Num, Number, Op, Ptr, Suits, To, Value, WordOf, [], after_calls, after_free, allocation_at, ap, arith, cases_Bool, false, get_or, get_or-set_other, get_or-set_same, get_or_append_left, get_or_past, inl, inr, is_same, kinds_of, length, length-set, ltb-true, map, nat_lt, no_allocation, number_of as number_in, refl, register_at, set_by, subst, suc, sym, target_of, with_freed, with_global, with_new, with_register, with_word, word_at, words_of, zero, ℕ, ◌*◌, ◌++◌, ◌+◌, ◌<◌, ◌∙◌, ◌∷◌, ◌≡◌, ◌≢◌}
+use Rattle.mk_laws.proofs.Vocabulary.{AreAdmitted, Call, Continues, IsAdmitted, IsNumber, IsSound, IsTyped, Kind, List}
+use Rattle.mk_laws.proofs.Vocabulary.{Meets, NeverAllocation as Allocation, NeverState, Null, Num, Number, Op, Ptr}
+use Rattle.mk_laws.proofs.Vocabulary.{Suits, To, Value, WordOf, [], after_calls, after_free, allocation_at, ap, arith}
+use Rattle.mk_laws.proofs.Vocabulary.{cases_Bool, false, get_or, get_or-set_other, get_or-set_same, get_or_append_left}
+use Rattle.mk_laws.proofs.Vocabulary.{get_or_past, inl, inr, is_same, kinds_of, length, length-set, ltb-true, map}
+use Rattle.mk_laws.proofs.Vocabulary.{nat_lt, no_allocation, number_of as number_in, refl, register_at, set_by, subst}
+use Rattle.mk_laws.proofs.Vocabulary.{suc, sym, target_of, with_freed, with_global, with_new, with_register, with_word}
+use Rattle.mk_laws.proofs.Vocabulary.{word_at, words_of, zero, ℕ, ◌*◌, ◌++◌, ◌+◌, ◌<◌, ◌∙◌, ◌∷◌, ◌≡◌, ◌≢◌}
 
 -- What other callers' operations leave of an object that one caller alone knows of: all of it.
 
@@ -220,7 +227,8 @@ pub load_replies : {n : NeverState} {k d : ℕ} → OwnsNumberIn n k d
 load_replies owns = grind (arith, gets_to, number_is)
 
 -- and a store is done,
-pub store_replies : {n : NeverState} {k d : ℕ} (x : ℕ) → OwnsNumberIn n k d → reply_of n k (Op.SetNum d 0 x) ≡ Reply.Done
+pub store_replies : {n : NeverState} {k d : ℕ} (x : ℕ) → OwnsNumberIn n k d
+    → reply_of n k (Op.SetNum d 0 x) ≡ Reply.Done
 store_replies {n} {k} {d} x owns = ap (λ (t : Target). reply_at t (λ a w. Reply.Done)) (gets_to owns)
 
 -- which leaves another number.

@@ -147,7 +147,8 @@ granted p d ty more history entry decided kinds =
     let one = one_call {p = p} refl history entry decided in
     let all = (stands c (before_call decided) one.before).all.mirrors in
     let asks = (admitted_before one history).0 in
-    number_left one history 0 (new_owns _ d ty all.typed asks.of_a_caller asks.in_range.0 (ap (λ (types : List (List Kind)). kinds_of types ty) all.types ∙ kinds))
+    number_left one history 0 (new_owns _ d ty all.typed asks.of_a_caller asks.in_range.0
+    (ap (λ (types : List (List Kind)). kinds_of types ty) all.types ∙ kinds))
 
 -- Its caller may store and load.
 
@@ -178,7 +179,8 @@ pub loads_stored : {b : PassState} {d n : ℕ} (r : Result ℕ Held) → HasNumb
 loads_stored (Ok x) has is = is ∙ has.is
 loads_stored (Err e) has is = tt
 
-pub both_done : {p b : PassState} (q : PassState) {d n : ℕ} (r : Result ℕ Held) → Called p (Op.SetNum d 0 n) Answer.Done b
+pub both_done : {p b : PassState} (q : PassState) {d n : ℕ} (r : Result ℕ Held)
+    → Called p (Op.SetNum d 0 n) Answer.Done b
     → IfOk r (λ x. x ≡ n) → IfOk r (λ x. Called b (Op.GetNum d 0) (Answer.Num x) q)
     → OnOk r (own_calls q q.seen ≡ own_calls p p.seen ++ store_then_load (caller_of_pass p) d n)
 both_done q (Err e) set is get = tt

@@ -34,7 +34,8 @@ pub behind_one : (h g : HostState) (w : WordsState) → h ≡ first_host w → g
 behind_one h g w first is = grind arith
 
 -- its pass after a call
-pub pass_of_later : {p : PassState} (q : PassState) → q ≡ record p { seen = q.seen } → IsPassOf p.table p → IsPassOf q.table q
+pub pass_of_later : {p : PassState} (q : PassState) → q ≡ record p { seen = q.seen } → IsPassOf p.table p
+    → IsPassOf q.table q
 pass_of_later q is of = grind arith
 
 -- the first caller

@@ -64,7 +64,8 @@ begins : {c : Config} {seats : List Seat} {es fs : List Event} → IsHistory c f
 begins {c} h g = subst (λ (l : List Event). IsHistory c l) g.is h
 
 -- A seat that rests still does, after the events of others,
-pub still_rests : {c : Config} (seats : List Seat) (es : List Event) {fs : List Event} {s : Seat} → IsHistory c fs → Grows seats es fs
+pub still_rests : {c : Config} (seats : List Seat) (es : List Event) {fs : List Event} {s : Seat}
+    → IsHistory c fs → Grows seats es fs
     → Has seats s → Rests (left c es).now s → Rests (left c fs).now s
 still_rests {c} seats es {fs = fs} {s = s} h g has rests =
     let whole = begins h g in

@@ -57,7 +57,8 @@ none_is_on q n t fresh before f other = elim (fresh_phase fresh t.history before
 pub ends_none : (p q : PassState) (n : ℕ) → Finds p (Step.Look Word.Phase) n q → IsAtPhase p 0 → EndsCycle p q
 ends_none p q n f none = grind arith
 
-pub ends_one : (p : PassState) {q r : PassState} (n : ℕ) → Finds p (Step.Look Word.Phase) n q → IsAtPhase p 1 → FinishesCycle q r
+pub ends_one : (p : PassState) {q r : PassState} (n : ℕ) → Finds p (Step.Look Word.Phase) n q
+    → IsAtPhase p 1 → FinishesCycle q r
     → EndsCycle p r
 ends_one p n f on law = grind arith
 

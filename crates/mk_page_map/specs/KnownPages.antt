@@ -22,7 +22,8 @@ is_uncleaned known number = slice_index_or known.uncleaned number false
 pub record Shows (known : KnownPages) (pages : List Page) (freed : List ℕ) : Type 0 where
   pub page_by_page : known.pages ≡ pages
   pub freed_words : length freed ≡ length pages
-  pub quarantined : (number : ℕ) → number < length pages → is_quarantined_page known number ≡ has_freed_cells freed number
+  pub quarantined : (number : ℕ) → number < length pages
+      → is_quarantined_page known number ≡ has_freed_cells freed number
 
 -- the pages after a store of a header word, and of a used word
 abbrev pub with_header : List Page → ℕ → ℕ → List Page

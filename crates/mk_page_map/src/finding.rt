@@ -2,7 +2,8 @@
 ghost use Rattle.std.specs.Prelude.{◌≡◌, ℕ, ◌<◌, ◌≤◌, List, length, false};
 ghost use Rattle.mk_geom.specs.{declared.pages.Page.Page, PageUses.{first_where, is_free_page, range_start}};
 ghost use Rattle.mk_geom.specs.{PageUses.resident_pages, PageWords.{use_of_page, uses_of_pages}};
-ghost use Rattle.mk_page_map.specs.{KnownPages.{Shows, is_quarantined_page, is_uncleaned}, Members.{IsNext, has_free_cell}};
+ghost use Rattle.mk_page_map.specs.KnownPages.{Shows, is_quarantined_page, is_uncleaned};
+ghost use Rattle.mk_page_map.specs.Members.{IsNext, has_free_cell};
 ghost use Rattle.mk_page_map.specs.{Members.{has_freed_cells, is_in_use, page_at}, PageSets.{AreSets, is_member}};
 ghost use Rattle.mk_page_map.specs.PageSets.{is_of_set};
 

@@ -159,7 +159,8 @@ counts_then : (kind : Step → Bool) {kinds more both : Step → Bool} {p q r : 
     (e : Does more q r) (f : Does both p r) → count_done kind f ≡ count_done kind d + count_done kind e
 counts_then kind {p} {r} d e f = grind (arith, done_in_parts, sum_by-append, append_assoc, append_cancel_left)
 
-module _ (p : PassState) (t u : TurnState) (law : ClosesMarks p t.pass) (on : LooksWhileStill t u) (turn : InTurn u.pass)
+module _ (p : PassState) (t u : TurnState) (law : ClosesMarks p t.pass) (on : LooksWhileStill t u)
+    (turn : InTurn u.pass)
     (gates : others_are_held u.pass.table.config.callers (now_of u.pass).words u.pass.seat ≡ true) where
   close_now : IsEnabledTo u.pass Step.Close
   close_now = grind (arith, closes_by, may_close_by, pages_close, roots_close)

@@ -76,7 +76,8 @@ take_order me n seat o found order on = in_order_still me n seat (take_event sea
 pub give_makes : (tid qid : TableId) (me n : Mine) (seat : Seat) → qid ≡ tid → IsInOrder me seat
     → gives_map (give_event seat) no_step me 0 n → Makes (state_of tid me seat) Step.Give (state_of qid n seat)
 give_makes tid qid me n seat q_is order on =
-    (perform_learns tid qid me (n.0, me.1) seat Step.Give (Store 0) 0 (give_event seat) q_is refl refl order (on.1.0, (refl, on.1.1), refl)).makes
+    (perform_learns tid qid me (n.0, me.1) seat Step.Give (Store 0) 0 (give_event seat) q_is refl refl
+    order (on.1.0, (refl, on.1.1), refl)).makes
 
 pub give_order : (me n : Mine) (seat : Seat) → IsInOrder me seat → gives_map (give_event seat) no_step me 0 n
     → IsInOrder n seat

@@ -124,7 +124,8 @@ module _ (w : WordsState) (tid pid : TableId) (config key : Config) (me : Mine) 
       let at_event : Allows (Kept c) slots id me i (becomes a) (then picked) =
       subst (λ (e : Event). Allows (Kept c) slots id me i (becomes a) (then e)) (sym picked_is) at_index in (
         grind arith,
-        subst (λ (d : Config). Allows (Kept d) slots id me i (becomes a) (then picked)) (config_is ∙ sym key_is) at_event,
+        subst (λ (d : Config). Allows (Kept d) slots id me i (becomes a) (then picked)) (config_is ∙ sym key_is)
+            at_event,
       )
 
   pub perform_call : (words slots id : ℕ) (s : Step) (i : ℕ) (x : TableWord) (a : Access) (picked : Event)

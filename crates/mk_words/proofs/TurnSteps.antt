@@ -141,7 +141,8 @@ module _ (p : PassState) (j n : ℕ) (q : PassState) (t : Tells p (Step.Hold j) 
   pub hold_holds : n ≡ 0 → is_held (now_of q).words j ≡ true
   hold_holds none =
       eq-eqb _ 2
-      (gate_then ∙ ap (λ (b : Bool). if b then 2 else slice_index gs j) (eq-eqb (slice_index gs j) 0 (sym t.tells ∙ none)))
+      (gate_then ∙ ap (λ (b : Bool). if b then 2 else slice_index gs j)
+      (eq-eqb (slice_index gs j) 0 (sym t.tells ∙ none)))
 
   pub hold_misses : n ≢ 0 → is_held (now_of q).words j ≡ false
   hold_misses some =

@@ -24,5 +24,6 @@ returns-clause-once c =
 
 pub overflow_add-quar : goal.overflow_add-quar
 overflow_add-quar c =
-    let fits = quarantine_fits c.requires.may c.is_in_order.ensures.turn c.is_in_order.ensures.history c.requires.quar in
+    let i = c.is_in_order.ensures in
+    let fits = quarantine_fits c.requires.may i.turn i.history c.requires.quar in
     omega (arith, fits)
