@@ -43,8 +43,8 @@ pub record IsIdleCaller (p : PassState) : Type 0 where
   pub rest : call_of p ≡ at_rest
 
 -- The pass is that of this caller of these words.
-abbrev pub IsPassOf : WordsState → ℕ → PassState → Type 0
-IsPassOf w k p = (p.table ≡ w) × (k ≡ caller_of_pass p)
+abbrev pub IsPassOfCaller : WordsState → ℕ → PassState → Type 0
+IsPassOfCaller w k p = (p.table ≡ w) × (k ≡ caller_of_pass p)
 
 -- What a caller is made of: its words, its number and its pass, if that is home.
 

@@ -5,7 +5,7 @@ ghost use Rattle.mk_core.specs.{declared.accesses.Access.TheVariants.Store, Acce
 ghost use Rattle.mk_core.specs.Calls.{at_rest, onward, stage_refused, stage_behind, steps_of, q_of, i_of, d_of};
 ghost use Rattle.mk_core.specs.Calls.{word_met, progress_reg};
 ghost use Rattle.mk_words.specs.States.{call_of};
-ghost use Rattle.mk_caller.specs.{States.{IsPassOf, value_of}, Causes.{Probes, ProbesAWord, IsRefused}};
+ghost use Rattle.mk_caller.specs.{States.{IsPassOfCaller, value_of}, Causes.{Probes, ProbesAWord, IsRefused}};
 ghost use Rattle.mk_caller.specs.Moves.{MayBeginCall, IsUnderway, IsAtFlight, Ends, CallGoesOn, is_access};
 ghost use Rattle.mk_caller.specs.Moves.{stores_register, refused_register, refused_steps, fault_steps, behind_q, loads};
 ghost use Rattle.mk_caller.specs.Moves.{passes};
@@ -21,7 +21,7 @@ use mk_words::Pass;
 
 /// Ends a call that is refused: the register that it would have loaded becomes null.
 pub(crate) fn refuse(table: CallerTable, pass: &mut Pass, d: Option<u8>)
-    requires own { IsPassOf table.words.now table.caller pass.old }
+    requires own { IsPassOfCaller table.words.now table.caller pass.old }
     requires underway { IsUnderway pass.old }
     requires stage { (call_of pass.old).stage ≡ stage_refused (call_of pass.old).op }
     requires loaded { (call_of pass.old).loaded ≡ 0 }
@@ -40,7 +40,7 @@ pub(crate) fn refuse(table: CallerTable, pass: &mut Pass, d: Option<u8>)
 /// Stores the last register of a call, and ends it.
 #[inline(always)]
 pub(crate) fn store_and_leave(table: CallerTable, pass: &mut Pass, d: u8, v: u64)
-    requires own { IsPassOf table.words.now table.caller pass.old }
+    requires own { IsPassOfCaller table.words.now table.caller pass.old }
     requires underway { IsUnderway pass.old }
     requires stage { stores_register (call_of pass.old).stage ≡ true }
     requires register { d ≡ d_of (call_of pass.old).op }
@@ -55,7 +55,7 @@ pub(crate) fn store_and_leave(table: CallerTable, pass: &mut Pass, d: u8, v: u64
 /// Marks the page of the word that a call wrote, and ends it.
 #[inline(always)]
 pub(crate) fn mark_and_leave(table: CallerTable, pass: &mut Pass, word: u64)
-    requires own { IsPassOf table.words.now table.caller pass.old }
+    requires own { IsPassOfCaller table.words.now table.caller pass.old }
     requires underway { IsUnderway pass.old }
     requires stage { (call_of pass.old).stage ≡ stage.Dirty }
     requires word { word ≡ word_met (call_of pass.old) }
@@ -75,7 +75,7 @@ pub(crate) fn begin_access(
     d: Option<u8>,
     q: u8,
 ) -> Result<u64, Refusal>
-    requires own { IsPassOf table.words.now table.caller pass.old }
+    requires own { IsPassOfCaller table.words.now table.caller pass.old }
     requires ready { MayBeginCall pass.old op }
     requires access { is_access op ≡ true }
     requires from { q ≡ q_of op }
@@ -109,7 +109,7 @@ pub(crate) fn probe_access(
     u: u64,
     i: u64,
 ) -> Option<u64>
-    requires own { IsPassOf table.words.now table.caller pass.old }
+    requires own { IsPassOfCaller table.words.now table.caller pass.old }
     requires underway { IsUnderway pass.old }
     requires stage { (call_of pass.old).stage ≡ stage.Probe }
     requires access { is_access (call_of pass.old).op ≡ true }

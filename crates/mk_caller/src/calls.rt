@@ -1,7 +1,7 @@
 //! The calls of a caller, over the words and its pass.
 ghost use Rattle.std.specs.Prelude.{◌≡◌, ◌≢◌, IfOk, OnOk, OnErr, IfErr};
 ghost use Rattle.mk_never.specs.{declared.values.Value.TheVariants.Null, NeverHeap.is_same};
-ghost use Rattle.mk_caller.specs.{States.{IsPassOf, value_of}, Called.{Called, Says, IsAnswered}};
+ghost use Rattle.mk_caller.specs.{States.{IsPassOfCaller, value_of}, Called.{Called, Says, IsAnswered}};
 ghost use Rattle.mk_caller.specs.{Causes.{FindsGateHeld, IsRefused, ProbesAWord}, Comparing.CallComparesValues};
 ghost use Rattle.mk_caller.specs.Moves.{MayBeginCall};
 ghost use Rattle.mk_never.specs.declared.operations.Op.TheVariants as op;
@@ -17,7 +17,7 @@ use mk_words::{Held, Pass};
 
 #[inline(always)]
 pub(crate) fn is_null(table: CallerTable, pass: &mut Pass, p: u8) -> Result<bool, Held>
-    requires own { IsPassOf table.words.now table.caller pass.old }
+    requires own { IsPassOfCaller table.words.now table.caller pass.old }
     requires ready { MayBeginCall pass.old (op.IsNull p) }
     ensures called { IfOk result (λ null. Says pass.old (op.IsNull p) null pass.new) }
     ensures tells { IfOk result (λ null. null ≡ is_same (value_of pass.old p) Null) }
@@ -31,7 +31,7 @@ pub(crate) fn is_null(table: CallerTable, pass: &mut Pass, p: u8) -> Result<bool
 
 #[inline(always)]
 pub(crate) fn same(table: CallerTable, pass: &mut Pass, p: u8, q: u8) -> Result<bool, Held>
-    requires own { IsPassOf table.words.now table.caller pass.old }
+    requires own { IsPassOfCaller table.words.now table.caller pass.old }
     requires ready { MayBeginCall pass.old (op.Same p q) }
     ensures called { IfOk result (λ same. Says pass.old (op.Same p q) same pass.new) }
     ensures tells { IfOk result (λ same. same ≡ is_same (value_of pass.old p) (value_of pass.old q)) }
@@ -46,7 +46,7 @@ pub(crate) fn same(table: CallerTable, pass: &mut Pass, p: u8, q: u8) -> Result<
 
 #[inline(always)]
 pub(crate) fn clear(table: CallerTable, pass: &mut Pass, d: u8) -> Result<(), Held>
-    requires own { IsPassOf table.words.now table.caller pass.old }
+    requires own { IsPassOfCaller table.words.now table.caller pass.old }
     requires ready { MayBeginCall pass.old (op.Clear d) }
     ensures called { OnOk result (Called pass.old (op.Clear d) answer.Done pass.new) }
     ensures held { OnErr result (FindsGateHeld pass.old (op.Clear d) pass.new) }
@@ -58,7 +58,7 @@ pub(crate) fn clear(table: CallerTable, pass: &mut Pass, d: u8) -> Result<(), He
 
 #[inline(always)]
 pub(crate) fn move_ptr(table: CallerTable, pass: &mut Pass, d: u8, q: u8) -> Result<(), Held>
-    requires own { IsPassOf table.words.now table.caller pass.old }
+    requires own { IsPassOfCaller table.words.now table.caller pass.old }
     requires ready { MayBeginCall pass.old (op.Move d q) }
     ensures called { OnOk result (Called pass.old (op.Move d q) answer.Done pass.new) }
     ensures held { OnErr result (FindsGateHeld pass.old (op.Move d q) pass.new) }
@@ -71,7 +71,7 @@ pub(crate) fn move_ptr(table: CallerTable, pass: &mut Pass, d: u8, q: u8) -> Res
 
 #[inline(always)]
 pub(crate) fn get_global(table: CallerTable, pass: &mut Pass, d: u8, g: u8) -> Result<(), Held>
-    requires own { IsPassOf table.words.now table.caller pass.old }
+    requires own { IsPassOfCaller table.words.now table.caller pass.old }
     requires ready { MayBeginCall pass.old (op.GetGlobal d g) }
     ensures called { OnOk result (IsAnswered pass.old (op.GetGlobal d g) pass.new) }
     ensures held { OnErr result (FindsGateHeld pass.old (op.GetGlobal d g) pass.new) }
@@ -84,7 +84,7 @@ pub(crate) fn get_global(table: CallerTable, pass: &mut Pass, d: u8, g: u8) -> R
 
 #[inline(always)]
 pub(crate) fn set_global(table: CallerTable, pass: &mut Pass, g: u8, p: u8) -> Result<(), Held>
-    requires own { IsPassOf table.words.now table.caller pass.old }
+    requires own { IsPassOfCaller table.words.now table.caller pass.old }
     requires ready { MayBeginCall pass.old (op.SetGlobal g p) }
     ensures called { OnOk result (Called pass.old (op.SetGlobal g p) answer.Done pass.new) }
     ensures held { OnErr result (FindsGateHeld pass.old (op.SetGlobal g p) pass.new) }
@@ -98,7 +98,7 @@ pub(crate) fn set_global(table: CallerTable, pass: &mut Pass, g: u8, p: u8) -> R
 
 #[inline(always)]
 pub(crate) fn lea(table: CallerTable, pass: &mut Pass, d: u8, q: u8, i: u64) -> Result<(), Refusal>
-    requires own { IsPassOf table.words.now table.caller pass.old }
+    requires own { IsPassOfCaller table.words.now table.caller pass.old }
     requires ready { MayBeginCall pass.old (op.Lea d q i) }
     ensures called { OnOk result (Called pass.old (op.Lea d q i) answer.Done pass.new) }
     ensures some { OnOk result (value_of pass.old q ≢ Null) }
@@ -113,7 +113,7 @@ pub(crate) fn lea(table: CallerTable, pass: &mut Pass, d: u8, q: u8, i: u64) -> 
 
 #[inline(always)]
 pub(crate) fn get_num(table: CallerTable, pass: &mut Pass, q: u8, i: u64) -> Result<u64, Refusal>
-    requires own { IsPassOf table.words.now table.caller pass.old }
+    requires own { IsPassOfCaller table.words.now table.caller pass.old }
     requires ready { MayBeginCall pass.old (op.GetNum q i) }
     ensures called { IfOk result (λ n. Called pass.old (op.GetNum q i) (answer.Num n) pass.new) }
     ensures reached { OnOk result (ProbesAWord pass.old (op.GetNum q i) pass.new) }
@@ -136,7 +136,7 @@ pub(crate) fn set_num(
     i: u64,
     n: u64,
 ) -> Result<(), Refusal>
-    requires own { IsPassOf table.words.now table.caller pass.old }
+    requires own { IsPassOfCaller table.words.now table.caller pass.old }
     requires ready { MayBeginCall pass.old (op.SetNum q i n) }
     ensures called { OnOk result (Called pass.old (op.SetNum q i n) answer.Done pass.new) }
     ensures reached { OnOk result (ProbesAWord pass.old (op.SetNum q i n) pass.new) }
@@ -159,7 +159,7 @@ pub(crate) fn get_ptr(
     q: u8,
     i: u64,
 ) -> Result<(), Refusal>
-    requires own { IsPassOf table.words.now table.caller pass.old }
+    requires own { IsPassOfCaller table.words.now table.caller pass.old }
     requires ready { MayBeginCall pass.old (op.GetPtr d q i) }
     ensures called { OnOk result (IsAnswered pass.old (op.GetPtr d q i) pass.new) }
     ensures reached { OnOk result (ProbesAWord pass.old (op.GetPtr d q i) pass.new) }
@@ -182,7 +182,7 @@ pub(crate) fn set_ptr(
     i: u64,
     p: u8,
 ) -> Result<(), Refusal>
-    requires own { IsPassOf table.words.now table.caller pass.old }
+    requires own { IsPassOfCaller table.words.now table.caller pass.old }
     requires ready { MayBeginCall pass.old (op.SetPtr q i p) }
     ensures called { OnOk result (Called pass.old (op.SetPtr q i p) answer.Done pass.new) }
     ensures reached { OnOk result (ProbesAWord pass.old (op.SetPtr q i p) pass.new) }
@@ -207,7 +207,7 @@ pub(crate) fn cas_ptr(
     p: u8,
     r: u8,
 ) -> Result<bool, Refusal>
-    requires own { IsPassOf table.words.now table.caller pass.old }
+    requires own { IsPassOfCaller table.words.now table.caller pass.old }
     requires ready { MayBeginCall pass.old (op.CasPtr q i p r) }
     ensures called { IfOk result (λ exchanged. Says pass.old (op.CasPtr q i p r) exchanged pass.new) }
     ensures compares { IfOk result (λ exchanged. CallComparesValues pass.old q i p r exchanged pass.new) }

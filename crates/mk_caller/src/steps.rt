@@ -6,7 +6,7 @@ ghost use Rattle.mk_core.specs.{declared.accesses.Access.TheVariants.Store, Acce
 ghost use Rattle.mk_core.specs.Calls.{refused, g_of, i_of, value_written, page_met, word_met};
 ghost use Rattle.mk_words.specs.States.{call_of};
 ghost use Rattle.mk_laws.specs.Images.{has_q, has_some_q};
-ghost use Rattle.mk_caller.specs.{States.{IsPassOf, value_of}, Causes.{FindsGateHeld, Probes, ProbesAWord}};
+ghost use Rattle.mk_caller.specs.{States.{IsPassOfCaller, value_of}, Causes.{FindsGateHeld, Probes, ProbesAWord}};
 ghost use Rattle.mk_caller.specs.Moves.{MayBeginCall, IsUnderway, CallMoves, CallGoesOn, begins, is_access};
 ghost use Rattle.mk_caller.specs.Moves.{loads_register, stores_register, loads, loads_global, passes, faults, reads};
 ghost use Rattle.mk_caller.specs.Moves.{writes, exchanges, call_ends};
@@ -22,7 +22,7 @@ use mk_words::{Held, Pass};
 /// Begins a call, unless the gate is held.
 #[inline(always)]
 pub(crate) fn enter(table: CallerTable, pass: &mut Pass, op: Op) -> Result<(), Held>
-    requires own { IsPassOf table.words.now table.caller pass.old }
+    requires own { IsPassOfCaller table.words.now table.caller pass.old }
     requires ready { MayBeginCall pass.old op }
     ensures moves { OnOk result (CallMoves pass.old op (step.Enter op) (begins op) pass.new) }
     ensures held { OnErr result (FindsGateHeld pass.old op pass.new) }
@@ -34,7 +34,7 @@ pub(crate) fn enter(table: CallerTable, pass: &mut Pass, op: Op) -> Result<(), H
 /// Ends a call.
 #[inline(always)]
 pub(crate) fn leave(table: CallerTable, pass: &mut Pass)
-    requires own { IsPassOf table.words.now table.caller pass.old }
+    requires own { IsPassOfCaller table.words.now table.caller pass.old }
     requires underway { IsUnderway pass.old }
     requires stage { (call_of pass.old).stage ≡ stage.Leave }
     ensures moves { CallGoesOn pass.old step.Leave call_ends pass.new }
@@ -45,7 +45,7 @@ pub(crate) fn leave(table: CallerTable, pass: &mut Pass)
 /// Loads a register, which is 0 exactly where its value is null.
 #[inline(always)]
 pub(crate) fn load(table: CallerTable, pass: &mut Pass, r: u8) -> u64
-    requires own { IsPassOf table.words.now table.caller pass.old }
+    requires own { IsPassOfCaller table.words.now table.caller pass.old }
     requires underway { IsUnderway pass.old }
     requires stage { loads_register (call_of pass.old).stage ≡ true }
     requires register { r ≡ register_met (call_of pass.old) (call_of pass.old).stage }
@@ -58,7 +58,7 @@ pub(crate) fn load(table: CallerTable, pass: &mut Pass, r: u8) -> u64
 /// Stores to a register.
 #[inline(always)]
 pub(crate) fn store(table: CallerTable, pass: &mut Pass, r: u8, v: u64)
-    requires own { IsPassOf table.words.now table.caller pass.old }
+    requires own { IsPassOfCaller table.words.now table.caller pass.old }
     requires underway { IsUnderway pass.old }
     requires stage { stores_register (call_of pass.old).stage ≡ true }
     requires register { r ≡ register_met (call_of pass.old) (call_of pass.old).stage }
@@ -72,7 +72,7 @@ pub(crate) fn store(table: CallerTable, pass: &mut Pass, r: u8, v: u64)
 #[tactic(auto, using(crate::proofs::Stepping::access_admitted))]
 #[inline(always)]
 pub(crate) fn read(table: CallerTable, pass: &mut Pass, word: u64) -> u64
-    requires own { IsPassOf table.words.now table.caller pass.old }
+    requires own { IsPassOfCaller table.words.now table.caller pass.old }
     requires underway { IsUnderway pass.old }
     requires stage { (call_of pass.old).stage ≡ stage.Read }
     requires access { is_access (call_of pass.old).op ≡ true }
@@ -86,7 +86,7 @@ pub(crate) fn read(table: CallerTable, pass: &mut Pass, word: u64) -> u64
 #[tactic(auto, using(crate::proofs::Stepping::access_admitted))]
 #[inline(always)]
 pub(crate) fn write(table: CallerTable, pass: &mut Pass, word: u64, v: u64)
-    requires own { IsPassOf table.words.now table.caller pass.old }
+    requires own { IsPassOfCaller table.words.now table.caller pass.old }
     requires underway { IsUnderway pass.old }
     requires stage { (call_of pass.old).stage ≡ stage.Write }
     requires access { is_access (call_of pass.old).op ≡ true }
@@ -101,7 +101,7 @@ pub(crate) fn write(table: CallerTable, pass: &mut Pass, word: u64, v: u64)
 #[tactic(auto, using(crate::proofs::Stepping::access_admitted))]
 #[inline(always)]
 pub(crate) fn cas(table: CallerTable, pass: &mut Pass, word: u64, expected: u64, new: u64) -> bool
-    requires own { IsPassOf table.words.now table.caller pass.old }
+    requires own { IsPassOfCaller table.words.now table.caller pass.old }
     requires underway { IsUnderway pass.old }
     requires stage { (call_of pass.old).stage ≡ stage.Cas }
     requires access { is_access (call_of pass.old).op ≡ true }
@@ -116,7 +116,7 @@ pub(crate) fn cas(table: CallerTable, pass: &mut Pass, word: u64, expected: u64,
 /// Marks the page of the word that the call wrote.
 #[inline(always)]
 pub(crate) fn dirty(table: CallerTable, pass: &mut Pass, page: u64)
-    requires own { IsPassOf table.words.now table.caller pass.old }
+    requires own { IsPassOfCaller table.words.now table.caller pass.old }
     requires underway { IsUnderway pass.old }
     requires stage { (call_of pass.old).stage ≡ stage.Dirty }
     requires page { page ≡ page_met (call_of pass.old) }
@@ -128,7 +128,7 @@ pub(crate) fn dirty(table: CallerTable, pass: &mut Pass, page: u64)
 /// Loads the global of the call.
 #[inline(always)]
 pub(crate) fn global_load(table: CallerTable, pass: &mut Pass, g: u8) -> u64
-    requires own { IsPassOf table.words.now table.caller pass.old }
+    requires own { IsPassOfCaller table.words.now table.caller pass.old }
     requires underway { IsUnderway pass.old }
     requires stage { (call_of pass.old).stage ≡ stage.Getg }
     requires global { g ≡ g_of (call_of pass.old).op }
@@ -140,7 +140,7 @@ pub(crate) fn global_load(table: CallerTable, pass: &mut Pass, g: u8) -> u64
 /// Stores to the global of the call.
 #[inline(always)]
 pub(crate) fn global_store(table: CallerTable, pass: &mut Pass, g: u8, v: u64)
-    requires own { IsPassOf table.words.now table.caller pass.old }
+    requires own { IsPassOfCaller table.words.now table.caller pass.old }
     requires underway { IsUnderway pass.old }
     requires stage { (call_of pass.old).stage ≡ stage.Setg }
     requires global { g ≡ g_of (call_of pass.old).op }
@@ -155,7 +155,7 @@ pub(crate) fn global_store(table: CallerTable, pass: &mut Pass, g: u8, v: u64)
 #[tactic(auto, using(crate::proofs::Stepping::access_admitted))]
 #[inline(always)]
 pub(crate) fn probe(table: CallerTable, pass: &mut Pass, u: u64, i: u64) -> Option<u64>
-    requires own { IsPassOf table.words.now table.caller pass.old }
+    requires own { IsPassOfCaller table.words.now table.caller pass.old }
     requires underway { IsUnderway pass.old }
     requires stage { (call_of pass.old).stage ≡ stage.Probe }
     requires access { is_access (call_of pass.old).op ≡ true }
@@ -181,7 +181,7 @@ pub(crate) fn probe(table: CallerTable, pass: &mut Pass, u: u64, i: u64) -> Opti
 /// The value `i` words after the value that the call has loaded.
 #[inline(always)]
 pub(crate) fn moved_on(table: CallerTable, pass: &Pass, u: u64, i: u64) -> u64
-    requires own { IsPassOf table.words.now table.caller pass.now }
+    requires own { IsPassOfCaller table.words.now table.caller pass.now }
     requires underway { IsUnderway pass.now }
     requires stage { (call_of pass.now).stage ≡ stage.Store }
     requires access { is_access (call_of pass.now).op ≡ true }
