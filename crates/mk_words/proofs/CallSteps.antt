@@ -77,9 +77,8 @@ number_is : (s : Seat) (k : ℕ) → s ≡ Caller k → caller_number s ≡ k
 number_is s k is = ap (λ (t : Seat). caller_number t) is
 
 -- What a register is after the step, from what the access makes of the registers.
-pub register_behind : (p : PassState) (s : Step) (q : PassState) (m : Makes p s q)
-    → (r : ℕ) → register_of q r ≡ register_word (moment_behind p.table.config (moment_of m) (event_of p s)).words
-    (caller_number p.seat) r
+pub register_behind : (p : PassState) (s : Step) (q : PassState) (m : Makes p s q) → (r : ℕ) → register_of q r
+    ≡ register_word (moment_behind p.table.config (moment_of m) (event_of p s)).words (caller_number p.seat) r
 register_behind p s q m r =
     let d = made p s q m in
     cc (d.seat, d.world)
@@ -114,9 +113,8 @@ module _ {p : PassState} {s : Step} {n : ℕ} {q : PassState} (t : Tells p s n q
       let k = caller_is in
       cc (number_is p.seat k.0 k.1, registers_before p s q t.makes k.0 k.1 r lt)
 
-  pub register_now : (r : ℕ)
-      → register_of q r ≡ register_word (moment_behind p.table.config (moment_of t.makes) (event_of p s)).words
-      (caller_number p.seat) r
+  pub register_now : (r : ℕ) → register_of q r ≡ register_word
+      (moment_behind p.table.config (moment_of t.makes) (event_of p s)).words (caller_number p.seat) r
   register_now r = register_behind p s q t.makes r
 
 -- A store's progress doesn't read what was there.
@@ -138,9 +136,8 @@ reg_reaches : (p : PassState) (q : PassState) (m : Makes p Step.Reg q) (r : ℕ)
     → word_accessed p.table.config (moment_of m) (event_of p Step.Reg) ≡ Named (Word.Reg (caller_number p.seat) r)
 reg_reaches p q m r same is = grind arith
 
-reg_goes : (p : PassState) (q : PassState) (m : Makes p Step.Reg q) (n : ℕ) → n ≡ found_by m
-    → progress p.table.config (moment_of m) (call_of p) (found_by m) Step.Reg
-    ≡ progress_reg (call_of p) (call_of p).stage n
+reg_goes : (p : PassState) (q : PassState) (m : Makes p Step.Reg q) (n : ℕ) → n ≡ found_by m → progress p.table.config
+    (moment_of m) (call_of p) (found_by m) Step.Reg ≡ progress_reg (call_of p) (call_of p).stage n
 reg_goes p q m n is = ap (λ (i : ℕ). progress_reg (call_of p) (call_of p).stage i) (sym is)
 
 module _ {p : PassState} {n : ℕ} {q : PassState} (t : Tells p Step.Reg n q) (r : ℕ)
@@ -167,9 +164,8 @@ module _ {p : PassState} {n : ℕ} {q : PassState} (t : Tells p Step.Reg n q) (r
 
     pub load_keeps : LeavesRegisters p q
     load_keeps =
-        keeps t refl (ap (λ (a : Access).
-        (accessed (moment_of t.makes).words (word_accessed p.table.config (moment_of t.makes) (event_of p Step.Reg))
-        a).registers) (reg_access_is p q t.makes Load same loads))
+        keeps t refl (ap (λ (a : Access). (accessed (moment_of t.makes).words (word_accessed p.table.config
+        (moment_of t.makes) (event_of p Step.Reg)) a).registers) (reg_access_is p q t.makes Load same loads))
 
     pub load_own : n ≡ register_of p r
     load_own = cc (found_is, reaches, same_register t refl r small)
@@ -179,9 +175,8 @@ module _ {p : PassState} {n : ℕ} {q : PassState} (t : Tells p Step.Reg n q) (r
         ≡ with_named (moment_of t.makes).words (Word.Reg (caller_number p.seat) r) v
     words_now = grind (arith, reg_access_is, same, reaches)
 
-    register_set : (x : ℕ)
-        → register_of q x ≡ slice_index (slice_set (moment_of t.makes).words.registers (8 * caller_number p.seat + r) v)
-        (8 * caller_number p.seat + x)
+    register_set : (x : ℕ) → register_of q x ≡ slice_index
+        (slice_set (moment_of t.makes).words.registers (8 * caller_number p.seat + r) v) (8 * caller_number p.seat + x)
     register_set x = cc (register_now t refl x, words_now)
 
     pub store_goes : Goes p Step.Reg (progress_reg (call_of p) (call_of p).stage v) q

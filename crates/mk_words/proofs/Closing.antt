@@ -59,6 +59,5 @@ pub tallies_told : {c of_pass of_words : Config} {es seen : List Event} {ws : Li
     → HasTallies (left of_pass seen).now.words of_words.pages f
 tallies_told {c} {of_pass} {of_words} {es} {seen} {ws} {f} pass_is words_is seen_is is read =
     subst (λ (x : Config). HasTallies (left x seen).now.words of_words.pages f) (sym pass_is)
-    (subst (λ (x : Config). HasTallies (left c seen).now.words x.pages f) (sym words_is)
-    (subst (λ (l : List Event). HasTallies (left c l).now.words c.pages f) (sym seen_is)
-    (tallies_are c es ws f is read)))
+    (subst (λ (x : Config). HasTallies (left c seen).now.words x.pages f) (sym words_is) (subst
+    (λ (l : List Event). HasTallies (left c l).now.words c.pages f) (sym seen_is) (tallies_are c es ws f is read)))

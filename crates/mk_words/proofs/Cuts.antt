@@ -61,13 +61,11 @@ splits c id v left_v right_v cut s k at =
           (λ (b : get_elem? vs j ≡ some e). apart i j d e x a b hd he) (λ (b : (j ≡ length vs) × (right_v ≡ e)). absurd
           (nobody_has i d x a hd (subst (λ (z : View). Has (seats_of z) x) (sym b.1) he))) (snoc_at vs right_v e j q))
           (λ (a : (i ≡ length vs) × (right_v ≡ d)). ⊎_elim (λ (b : get_elem? vs j ≡ some e). absurd
-          (nobody_has j e x b he (subst (λ (z : View). Has (seats_of z) x) (sym a.1) hd)))
-          (λ (b : (j ≡ length vs) × (right_v ≡ e)). a.0 ∙ sym b.0) (snoc_at vs right_v e j q))
-          (snoc_at vs right_v d i p);
-      before_over = λ j d p. ⊎_elim
-          (λ (u : get_elem? vs j ≡ some d). overs_with c s.views id left_v k.events k.before_over overs.0 j d u)
-          (λ (u : (j ≡ length vs) × (right_v ≡ d)). subst (λ (z : View). CallersAreBeforeOver c (seats_of z) k.events)
-          u.1 overs.1) (snoc_at vs right_v d j p);
+          (nobody_has j e x b he (subst (λ (z : View). Has (seats_of z) x) (sym a.1) hd))) (λ (b : (j ≡ length vs) ×
+          (right_v ≡ e)). a.0 ∙ sym b.0) (snoc_at vs right_v e j q)) (snoc_at vs right_v d i p);
+      before_over = λ j d p. ⊎_elim (λ (u : get_elem? vs j ≡ some d). overs_with c s.views id left_v k.events
+          k.before_over overs.0 j d u) (λ (u : (j ≡ length vs) × (right_v ≡ d)). subst
+          (λ (z : View). CallersAreBeforeOver c (seats_of z) k.events) u.1 overs.1) (snoc_at vs right_v d j p);
     }
 
 -- a seat is handed over, or none is
@@ -135,12 +133,10 @@ joins c id v other w v_alone w_alone s k at ne there_set =
     let there : get_elem? s.views other ≡ some w = sym (set_else s.views id other both ne) ∙ there_set in
     let mine = k.sees id v at in
     let theirs = k.sees other w there in
-    let from : (i : ℕ) (d : View) (x : Seat) → get_elem? (set vs other nobody) i ≡ some d → Has (seats_of d) x
-    → (i ≢ other) × (((b : View) × (get_elem? s.views i ≡ some b) × Has (seats_of b) x)
-    ⊎ ((i ≡ id) × Has (seats_of w) x)) =
-    λ i d x p h. ⊎_elim (λ (t : (i ≡ other) × (nobody ≡ d)).
-    (let n : Has [] x = subst (λ (z : View). Has (seats_of z) x) (sym t.1) h in cc))
-    (λ (t : (i ≢ other) × (get_elem? vs i ≡ some d)). (
+    let from : (i : ℕ) (d : View) (x : Seat) → get_elem? (set vs other nobody) i ≡ some d → Has (seats_of d) x → (i ≢
+    other) × (((b : View) × (get_elem? s.views i ≡ some b) × Has (seats_of b) x) ⊎ ((i ≡ id) × Has (seats_of w) x)) =
+    λ i d x p h. ⊎_elim (λ (t : (i ≡ other) × (nobody ≡ d)). (let n : Has [] x = subst
+    (λ (z : View). Has (seats_of z) x) (sym t.1) h in cc)) (λ (t : (i ≢ other) × (get_elem? vs i ≡ some d)). (
       t.0,
       ⊎_elim (λ (u : (i ≡ id) × (both ≡ d)). ⊎_elim (λ (a : Has v.own.seats x). inl (
         v,

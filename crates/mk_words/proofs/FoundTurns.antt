@@ -4,11 +4,11 @@ use Rattle.mk_laws.proofs.Vocabulary.{Bool, Caller, Config, Event, Flight, Holdi
 use Rattle.mk_laws.proofs.Vocabulary.{Marker, Moment, None, Op, Option, Seat, Some, Step, TalliesAreTidy, World, ℕ, ap}
 use Rattle.mk_laws.proofs.Vocabulary.{at_rest, flight_of, group_of, holder_number, if◌then◌else◌, is_open_to, left}
 use Rattle.mk_laws.proofs.Vocabulary.{ne_eqb, nothing_done, refl, set-get_or, slice_set, subst, sym, true, [], ◌++◌}
-use Rattle.mk_laws.proofs.{Vocabulary.{◌+◌, ◌∙◌, ◌∷◌, ◌≡◌, ◌≢◌}, NextSteps.at_no_take, SameWords.Behind}
-use Rattle.mk_laws.proofs.{Tallies.tallies_tell, TallySteps.others_count_nothing}
+use Rattle.mk_laws.proofs.{Vocabulary.{◌+◌, ◌∙◌, ◌∷◌, ◌≡◌, ◌≢◌}, Tallies.{counts_tidy_more, exact_more, tallies_tell}}
+use Rattle.mk_laws.proofs.{NextSteps.at_no_take, SameWords.Behind, TallySteps.others_count_nothing}
 use Rattle.mk_core.proofs.Conditions.{meets_enabled}
 use Rattle.mk_core.specs.{Counts.TalliesAreExact, Effects.begins_where_free, Order.is_in_order}
-use Rattle.mk_words.proofs.{CallSteps.waits, Made.made, Tallies.{counts_tidy_more, exact_more}, Tidy.tidy_part}
+use Rattle.mk_words.proofs.{CallSteps.waits, Made.made, Tidy.tidy_part}
 use Rattle.mk_words.specs.{States.{PassState, call_of, event_of, now_of}, Steps.{IsEnabledTo, Tells, moment_of}}
 
 -- a `take` that finds another holder leaves all as it was
@@ -35,7 +35,8 @@ missed c m seat o kind order some =
     by : (seat : Seat) (o : Option Op) → is_open_to seat (group_of (Step.Take o)) ≡ true
         → is_in_order c m seat (Step.Take o) ≡ true → record {
           words = m.words;
-          seats = record (Behind c m seat (Step.Take o)).seats { holding = m.seats.holding };
+          seats = record
+              (Behind c m seat (Step.Take o)).seats { holding = m.seats.holding };
           fresh_words = m.fresh_words;
         } ≡ m
     by (Caller k) (Some o) kind order = ap (λ (fs : List Flight). record {

@@ -16,11 +16,10 @@ module _ (w : WordsState) (tid pid : TableId) (config key : Config) (me : Mine) 
   abbrev p : PassState
   p = state_of pid me seat
 
-  pub take_call : (words slots id : ℕ) (o : Option Op) (i number : ℕ) (picked : Event) → IsInOrder me seat → key
-      ≡ config → words ≡ count_of_words config.pages → picked ≡ take_event seat o → May p (Step.Take o)
-      → Exchange 0 number ≡ access p.table.config (now_of p) (take_event seat o) → i ≡ index_of config.pages Turn
-      → (i < words)
-      × Allows (Kept key) slots id me i (becomes (Exchange 0 number)) (λ n m. takes_map picked no_step me n m)
+  pub take_call : (words slots id : ℕ) (o : Option Op) (i number : ℕ) (picked : Event) → IsInOrder me seat
+      → key ≡ config → words ≡ count_of_words config.pages → picked ≡ take_event seat o → May p (Step.Take o) → Exchange
+      0 number ≡ access p.table.config (now_of p) (take_event seat o) → i ≡ index_of config.pages Turn → (i < words) ×
+      Allows (Kept key) slots id me i (becomes (Exchange 0 number)) (λ n m. takes_map picked no_step me n m)
   take_call words slots id o i number picked order key_is words_are picked_is may a_is i_is =
       owed_call w tid pid config key me seat w_is one_table words slots id (Step.Take o) i Turn
       (Exchange 0 number) picked (λ e n m. takes_map e no_step me n m) order key_is words_are picked_is
@@ -28,10 +27,9 @@ module _ (w : WordsState) (tid pid : TableId) (config key : Config) (me : Mine) 
       (takes_at slots id me seat o no_step order.settled order.own (history_more p (Step.Take o) order.history may))
 
   pub give_call : (words slots id i : ℕ) (map : KnownPages) (picked : Event) → IsInOrder me seat → key ≡ config
-      → words ≡ count_of_words config.pages → slots ≡ 1 → picked ≡ give_event seat → May p Step.Give
-      → Holds p.table.config (now_of p) seat → me.1 ≡ (0, map) ∷ [] → IsMapOf map (now_of p).words
-      → i ≡ index_of config.pages Turn
-      → (i < words) × Allows (Kept key) slots id me i (becomes (Store 0)) (λ n m. gives_map picked no_step me 0 m)
+      → words ≡ count_of_words config.pages → slots ≡ 1 → picked ≡ give_event seat → May p Step.Give → Holds
+      p.table.config (now_of p) seat → me.1 ≡ (0, map) ∷ [] → IsMapOf map (now_of p).words → i ≡ index_of config.pages
+      Turn → (i < words) × Allows (Kept key) slots id me i (becomes (Store 0)) (λ n m. gives_map picked no_step me 0 m)
   give_call words slots id i map picked order key_is words_are slots_are picked_is may holds carried shows i_is =
       subst (λ (k : ℕ). (i < words) × Allows (Kept key) k id me i (becomes (Store 0))
       (λ n m. gives_map picked no_step me 0 m)) (sym slots_are) (owed_call w tid pid config key me seat w_is

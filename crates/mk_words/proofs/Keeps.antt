@@ -52,9 +52,8 @@ sees_fewer es p fewer sub s =
     record { more = s.more; is = s.is; of_others = others_fewer p.seats fewer s.more sub s.of_others }
 
 -- one view goes, and has no seats that it had not
-origin : (vs : List View) (id : ℕ) (v w : View) → get_elem? vs id ≡ some v
-    → ((x : Seat) → Has (seats_of w) x → Has (seats_of v) x)
-    → (i : ℕ) (x : Seat) (d : View) → get_elem? (set vs id w) i ≡ some d → Has (seats_of d) x
+origin : (vs : List View) (id : ℕ) (v w : View) → get_elem? vs id ≡ some v → ((x : Seat) → Has (seats_of w) x
+    → Has (seats_of v) x) → (i : ℕ) (x : Seat) (d : View) → get_elem? (set vs id w) i ≡ some d → Has (seats_of d) x
     → (b : View) × (get_elem? vs i ≡ some b) × Has (seats_of b) x
 origin vs id v w at sub i x d p h =
     ⊎_elim (λ (t : (i ≡ id) × (w ≡ d)). (
@@ -95,17 +94,17 @@ access_there me e = access me.0.config (left me.0.config me.0.own.seen).now e
 
 -- The step of an event, whatever its kind, and whatever the slot has after it.
 pub steps_at : (id : ℕ) (me : Mine) (e : Event) → me.0.came ≡ no_part → Has me.0.own.seats e.seat
-    → IsHistory me.0.config (me.0.own.seen ++ e ∷ [])
-    → (is_give e.step ≡ true → TalliesAreTidy me.0.config me.0.own.seen)
-    → (is_over e.step ≡ true → HasCallers me.0.config me.0.own.seats)
+    → IsHistory me.0.config (me.0.own.seen ++ e ∷ []) → (is_give e.step ≡ true
+    → TalliesAreTidy me.0.config me.0.own.seen) → (is_over e.step ≡ true → HasCallers me.0.config me.0.own.seats)
     → (s : Table) (k : Kept me.0.config s) → get_elem? s.views id ≡ some me.0 → (homes : List (Maybe KnownPages))
-    → ((es : List Event) → k.events ≡ es → HomesThen me.0.config e homes es) → (w : View) × Kept me.0.config (record {
-      words = slice_set s.words (place_there me e)
-          (becomes (access_there me e) (slice_index s.words (place_there me e)));
+    → ((es : List Event) → k.events ≡ es → HomesThen me.0.config e homes es)
+    → (w : View) × Kept me.0.config (record {
+      words = slice_set s.words (place_there me e) (becomes (access_there me e)
+          (slice_index s.words (place_there me e)));
       homes = homes;
       views = slice_set s.views id w;
-    })
-    × ((adds : Adds e me.0 (slice_index s.words (place_there me e)) w) × (k.events ≡ me.0.own.seen ++ adds.others))
+    }) ×
+    ((adds : Adds e me.0 (slice_index s.words (place_there me e)) w) × (k.events ≡ me.0.own.seen ++ adds.others))
 steps_at id me e alone has may give home s k at homes there =
     let v : View = me.0 in
     let c : Config = v.config in
@@ -121,9 +120,8 @@ steps_at id me e alone has may give home s k at homes there =
     let out : Has v.came.seats e.seat
     → ⊥ = λ h. (let n : Has [] e.seat = subst (λ (p : Part). Has p.seats e.seat) alone h in cc) in
     let here : Has (seats_of v) e.seat = has_left v.own.seats v.came.seats e.seat has in
-    let overs = overs_later c (left c es).now s.views id v w es e at refl k.apart
-    (subst (λ (l : List Event). (i : ℕ) (d : View) → get_elem? s.views i ≡ some d
-    → CallersAreBeforeOver c (seats_of d) l) mine.0.is k.before_over)
+    let overs = overs_later c (left c es).now s.views id v w es e at refl k.apart (subst (λ (l : List Event). (i : ℕ)
+    (d : View) → get_elem? s.views i ≡ some d → CallersAreBeforeOver c (seats_of d) l) mine.0.is k.before_over)
     (last_enabled c (first_world c) es e go.history.enabled) here
     (λ h i lt. has_left v.own.seats v.came.seats (Caller i) (home h i lt)) in
     let own_before : CallersAreBeforeOver c v.own.seats (es ++ e ∷ []) =
@@ -142,9 +140,11 @@ steps_at id me e alone has may give home s k at homes there =
             changed _ (left c es).now.words (word_accessed c (left c v.own.seen).now e) (word_accessed c (left c es).now
             e) (access c (left c v.own.seen).now e) (access c (left c es).now e) _ of go.same.of_the_table go.same.word
             go.same.access words ∙ sym (ap (λ (x : World). in_order x.now.words) (left_more c (first_world c) es e));
-        sees = λ j d p. ⊎_elim (λ (t : (j ≡ id) × (w ≡ d)). subst (Both (es ++ e ∷ [])) t.1
-            (sees_all v.own.seats (es ++ e ∷ []), behind v.came out mine.1))
-            (λ (t : (j ≢ id) × (get_elem? s.views j ≡ some d)).
+        sees = λ j d p. ⊎_elim (λ (t : (j ≡ id) × (w ≡ d)). subst (Both (es ++ e ∷ [])) t.1 (
+          sees_all v.own.seats
+              (es ++ e ∷ []),
+          behind v.came out mine.1,
+        )) (λ (t : (j ≢ id) × (get_elem? s.views j ≡ some d)).
             let old = k.sees j d t.1 in
             let none : Has (seats_of d) e.seat
             → ⊥ = λ h. t.0 (k.apart j id d v e.seat t.1 at h (has_left v.own.seats v.came.seats e.seat has)) in (
@@ -207,13 +207,11 @@ settles_at slots id me st s k long at small =
             (λ (t : (j ≡ id) × (w ≡ d)). subst (Both k.events) t.1 (sees_all (seats_of v) k.events, sees_none k.events))
             (λ (t : (j ≢ id) × (get_elem? s.views j ≡ some d)). k.sees j d t.1) (at_set s.views id j w d p);
         home = k.home;
-        apart = apart_stays s.views id v w at
-            (λ x h. ⊎_elim (λ (u : Has (seats_of v) x). u) (λ (u : Has [] x). cc) (has_either (seats_of v) [] x h))
-            k.apart;
-        before_over = overs_with v.config s.views id w k.events k.before_over
-            (λ i lt h over. has_left (seats_of v) [] Host (k.before_over id v at i lt
-            (⊎_elim (λ (u : Has (seats_of v) (Caller i)). u) (λ (u : Has [] (Caller i)). cc)
-            (has_either (seats_of v) [] (Caller i) h)) over));
+        apart = apart_stays s.views id v w at (λ x h. ⊎_elim (λ (u : Has (seats_of v) x). u) (λ (u : Has [] x). cc)
+            (has_either (seats_of v) [] x h)) k.apart;
+        before_over = overs_with v.config s.views id w k.events k.before_over (λ i lt h over. has_left
+            (seats_of v) [] Host (k.before_over id v at i lt (⊎_elim (λ (u : Has (seats_of v) (Caller i)). u)
+            (λ (u : Has [] (Caller i)). cc) (has_either (seats_of v) [] (Caller i) h)) over));
       },
       (
         refl,
@@ -234,9 +232,8 @@ one_view : (i : ℕ) (v w : View) → get_elem? (v ∷ []) i ≡ some w → (i �
 one_view zero v w e = (refl, some-injective v w e)
 one_view (suc i) v w e = absurd (some-ne-none w (sym e))
 
-pub opens : (c : Config) (s : Table) → IsWithinLimits c → s.words ≡ in_order (zero_words_of c.pages)
-    → s.views ≡ first_view c ∷ []
-    → (map : KnownPages) → s.homes ≡ some map ∷ [] → IsMapOf map (zero_words_of c.pages) → Kept c s
+pub opens : (c : Config) (s : Table) → IsWithinLimits c → s.words ≡ in_order (zero_words_of c.pages) → s.views
+    ≡ first_view c ∷ [] → (map : KnownPages) → s.homes ≡ some map ∷ [] → IsMapOf map (zero_words_of c.pages) → Kept c s
 unfolding left_from AreEnabledFrom calls_from
 opens c s limits words_are views_are map homes_are shows =
     let of_first : (i : ℕ) (d : View) → get_elem? s.views i ≡ some d → (i ≡ 0) × (first_view c ≡ d) =

@@ -1,17 +1,18 @@
 -- The page map of a turn is kept in step with what its holder stores.
-use Rattle.mk_laws.proofs.Vocabulary.{Access, Bool, Config, IsHistory, List, Load, Moment, Named, None, Option, Page}
-use Rattle.mk_laws.proofs.Vocabulary.{Seat, Some, Step, Store, Tally, Word, Words, World, ℕ, accessed, ap, arith}
+use Rattle.mk_laws.proofs.Vocabulary.{Access, Bool, Config, Flight, IsHistory, List, Load, Moment, Named, None, Option}
+use Rattle.mk_laws.proofs.Vocabulary.{Page, Seat, Some, Step, Store, Tally, Word, Words, World, ℕ, accessed, ap, arith}
 use Rattle.mk_laws.proofs.Vocabulary.{cases_eq, earlier_part_is_history, enabled_meets, false, free_page}
 use Rattle.mk_laws.proofs.Vocabulary.{get_or-set_other, get_or-set_same, header_at, histories_keep_lengths, inl, inr}
-use Rattle.mk_laws.proofs.Vocabulary.{is_in_range, length, ltb-true, nat_lt, refl, slice_set, subst, sym, tally_word}
-use Rattle.mk_laws.proofs.{Vocabulary.{true, [], ◌%◌, ◌++◌, ◌<◌, ◌^◌, ◌∙◌, ◌∷◌, ◌≡◌, ◌≢◌}, SameWords.Behind}
+use Rattle.mk_laws.proofs.Vocabulary.{is_in_range, length, ltb-true, nat_lt, refl, subst, sym, tally_word, true, []}
+use Rattle.mk_laws.proofs.{Vocabulary.{◌++◌, ◌<◌, ◌∙◌, ◌∷◌, ◌≡◌, ◌≢◌}, SameWords.Behind}
 use Rattle.mk_page_map.specs.KnownPages.{KnownPages, Shows, is_uncleaned, with_header, with_used}
 use Rattle.mk_page_map.specs.Members.{IsNext, page_at}
 use Rattle.mk_words.proofs.{FreeTurns.{map_left, map_stays, page_words}, TurnSteps.{acts, gates_still, still_turn}}
 use Rattle.mk_words.proofs.{TurnSteps.turn_stays_too, Made.own_before, Seats.others_own}
-use Rattle.mk_words.{proofs.Unmarked.{is_mark, stays_unmarked}, specs.{TurnSteps.world_at, Steps.{IsEnabledTo, Makes}}}
-use Rattle.mk_words.specs.{PageMaps.{HasNoMarks, IsMapOf, IsNextUncleaned, is_told}, States.{PassState, TurnState}}
-use Rattle.mk_words.specs.{States.{call_of, event_of, now_of}, TurnSteps.{Acts, IsTurnWithMap, gates_stay, turn_stays}}
+use Rattle.mk_words.{proofs.Unmarked.{is_mark, stays_unmarked}, specs.Steps.{IsEnabledTo, Makes}}
+use Rattle.mk_words.specs.PageMaps.{HasNoMarks, HeaderIsTold, IsMapOf, IsNextUncleaned, IsToldOf, MarkIsTold}
+use Rattle.mk_words.specs.{PageMaps.{UsedIsTold, is_told, page_told}, States.{PassState, TurnState, call_of, event_of}}
+use Rattle.mk_words.specs.{States.now_of, TurnSteps.{Acts, IsTurnWithMap, gates_stay, turn_stays, world_at}}
 
 no_mark : (s : Step) → is_told s ≡ false → is_mark s ≡ false
 no_mark (Step.Mark p v) untold = cc
@@ -59,30 +60,6 @@ module _ (p : PassState) (s : Step) (q : PassState) (a : Acts p s q) where
       map_now map (map_stays p.table.config (p.seen ++ a.makes.others) (event_of p s) map history (no_mark s untold)
       (pages_stay p.table.config (world_at a.makes).now p.seat s untold) (map_then map m))
 
--- What a map shows after the four steps, by what it is told of each.
-
-pub record HeaderIsTold (old : KnownPages) (page header : ℕ) (new : KnownPages) : Type 0 where
-  pub shows : (pages : List Page) (freed : List ℕ) → Shows old pages freed
-      → Shows new (with_header pages page header) freed
-  pub freed : header ≡ 0 → is_uncleaned new page ≡ true
-  pub others : (number : ℕ) → (number ≡ page → ⊥) → is_uncleaned new number ≡ is_uncleaned old number
-
-pub record UsedIsTold (old : KnownPages) (page used : ℕ) (new : KnownPages) : Type 0 where
-  pub shows : (pages : List Page) (freed : List ℕ) → Shows old pages freed
-      → Shows new (with_used pages page used) freed
-  pub uncleaned : (number : ℕ) → is_uncleaned new number ≡ is_uncleaned old number
-
-pub record QuarantineIsTold (old : KnownPages) (page now_freed : ℕ) (new : KnownPages) : Type 0 where
-  pub shows : (pages : List Page) (freed : List ℕ) → Shows old pages freed
-      → Shows new pages (slice_set freed page now_freed)
-  pub uncleaned : (number : ℕ) → is_uncleaned new number ≡ is_uncleaned old number
-
-pub record MarkIsTold (old : KnownPages) (page : ℕ) (new : KnownPages) : Type 0 where
-  pub shows : (pages : List Page) (freed : List ℕ) → Shows old pages freed
-      → Shows new pages freed
-  pub marked : (page_at old.pages page).header ≡ 0 → is_uncleaned new page ≡ true
-  pub others : (number : ℕ) → (number ≡ page → ⊥) → is_uncleaned new number ≡ is_uncleaned old number
-
 both : {A : Type 0} (b : Bool) → b ≡ true → b ≡ false → A
 both true t f = cc
 both false t f = cc
@@ -121,9 +98,8 @@ told_used w page v old new told within m = record {
       let same : (page_at (with_used w.pages page v) number).header ≡ (page_at w.pages number).header =
       elim (cases_eq number page) [
         | inl here ↦
-            ap (λ i. (page_at (with_used w.pages page v) i).header) here
-            ∙ ap (λ (x : Page). x.header) (get_or-set_same w.pages page now free_page lt)
-            ∙ ap (λ i. (page_at w.pages i).header) (sym here)
+            ap (λ i. (page_at (with_used w.pages page v) i).header) here ∙ ap (λ (x : Page). x.header)
+            (get_or-set_same w.pages page now free_page lt) ∙ ap (λ i. (page_at w.pages i).header) (sym here)
         | inr ne ↦ ap (λ (x : Page). x.header) (get_or-set_other w.pages page number now free_page ne)
       ] in
       same_marks w (record w { pages = with_used w.pages page v }) number refl refl
@@ -151,40 +127,35 @@ pub map_cleaned : (w : Words) (page : ℕ) (old new : KnownPages)
     → HasNoMarks w page → IsMapOf old w → IsMapOf new w
 map_cleaned w page old new shows others none m = grind arith
 
--- the steps
-
-pub shows_head : {p q : PassState} {page v : ℕ} {old new : KnownPages} → Acts p (Step.Head page v) q
-    → HeaderIsTold old page v new → page < length old.pages → IsMapOf old (now_of p).words
-    → IsMapOf new (now_of q).words
-shows_head {p} {q} {page} {v} {old} {new} a told within shows =
-    let s : Step = Step.Head page v in
-    map_now p s q a new
-    (told_header (world_at a.makes).now.words page v old new told within (map_then p s q a old shows))
-
-pub shows_used : {p q : PassState} {page v : ℕ} {old new : KnownPages} → Acts p (Step.Used page v) q
-    → UsedIsTold old page v new → page < length old.pages → IsMapOf old (now_of p).words → IsMapOf new (now_of q).words
-shows_used {p} {q} {page} {v} {old} {new} a told within shows =
-    let s : Step = Step.Used page v in
-    map_now p s q a new (told_used (world_at a.makes).now.words page v old new told within (map_then p s q a old shows))
-
-pub shows_quar : {p q : PassState} {page v : ℕ} {old new : KnownPages} → Acts p (Step.Quar page v) q
-    → QuarantineIsTold old page (v % 2 ^ 32) new → IsMapOf old (now_of p).words → IsMapOf new (now_of q).words
-shows_quar {p} {q} {page} {v} {old} {new} a told shows =
-    let s : Step = Step.Quar page v in
+-- The map shows what is left after a step that it was told of.
+pub shows_told : {p q : PassState} (s : Step) {old new : KnownPages} → is_told s ≡ true → Acts p s q
+    → IsToldOf s old new → page_told s < length old.pages → IsMapOf old (now_of p).words → IsMapOf new (now_of q).words
+shows_told {p} {q} (Step.Head page v) {old} {new} is a told within shows =
+    map_now p (Step.Head page v) q a new
+    (told_header (world_at a.makes).now.words page v old new told within (map_then p (Step.Head page v) q a old shows))
+shows_told {p} {q} (Step.Used page v) {old} {new} is a told within shows =
+    map_now p (Step.Used page v) q a new
+    (told_used (world_at a.makes).now.words page v old new told within (map_then p (Step.Used page v) q a old shows))
+shows_told {p} {q} (Step.Quar page v) {old} {new} is a told within shows =
     let w : Words = (world_at a.makes).now.words in
-    let m = map_then p s q a old shows in
-    map_now p s q a new (record {
+    let m = map_then p (Step.Quar page v) q a old shows in
+    map_now p (Step.Quar page v) q a new (record {
       words = told.shows w.pages w.freed m.words;
-      unmarked = λ number bare cleaned. same_marks w (after p s q a) number refl refl
+      unmarked = λ number bare cleaned. same_marks w (after p (Step.Quar page v) q a) number refl refl
           (m.unmarked number bare (sym (told.uncleaned number) ∙ cleaned));
     })
+shows_told {p} {q} (Step.Mark page v) {old} {new} is a told within shows =
+    map_now p (Step.Mark page v) q a new (told_mark p.table.config (world_at a.makes).now p.seat page v old new told
+    (map_then p (Step.Mark page v) q a old shows))
+shows_told _ is a told within shows = cc
 
-pub shows_mark : {p q : PassState} {page v : ℕ} {old new : KnownPages} → Acts p (Step.Mark page v) q
-    → MarkIsTold old page new → IsMapOf old (now_of p).words → IsMapOf new (now_of q).words
-shows_mark {p} {q} {page} {v} {old} {new} a told shows =
-    let s : Step = Step.Mark page v in
-    map_now p s q a new
-    (told_mark p.table.config (world_at a.makes).now p.seat page v old new told (map_then p s q a old shows))
+-- It leaves the gates where they are, and the turn.
+pub told_stays : (s : Step) → is_told s ≡ true → gates_stay s ≡ true
+told_stays (Step.Head p v) is = refl
+told_stays (Step.Used p v) is = refl
+told_stays (Step.Quar p v) is = refl
+told_stays (Step.Mark p v) is = refl
+told_stays _ is = cc
 
 -- A mark on a page with a header needn't be told.
 pub untold_mark : (map : KnownPages) (w : Words) (page : ℕ) → header_at w page ≢ 0 → IsMapOf map w
@@ -212,9 +183,8 @@ turn_goes_on {held} {p} {s} {q} stays gates makes turn shows =
     }
 
 -- A step of which the map is told, and which leaves the gates.
-pub told_turn : {held : Bool} {p : PassState} {s : Step} {q : PassState} {old new : KnownPages}
-    → gates_stay s ≡ true → Makes p s q → IsTurnWithMap held p old → (Acts p s q → IsMapOf new (now_of q).words)
-    → IsTurnWithMap held q new
+pub told_turn : {held : Bool} {p : PassState} {s : Step} {q : PassState} {old new : KnownPages} → gates_stay s ≡ true
+    → Makes p s q → IsTurnWithMap held p old → (Acts p s q → IsMapOf new (now_of q).words) → IsTurnWithMap held q new
 told_turn {s = s} stays makes turn shows = turn_goes_on (turn_stays_too s stays) (λ held. stays) makes turn shows
 
 -- What was done in a turn, by another name of it.
@@ -233,15 +203,20 @@ page_known p page map lt shows =
     let same : length map.pages ≡ length (now_of p).words.pages = grind arith in
     omega arith
 
--- So has a page that a step of the turn may name.
-pub told_page : {held : Bool} {t v : TurnState} {map same : KnownPages} (s : Step) (page : ℕ)
-    → is_in_range t.pass.table.config t.pass.seat (call_of t.pass) s ≡ nat_lt page t.pass.table.config.pages → t ≡ v
-    → IsEnabledTo v.pass s → same ≡ map → IsTurnWithMap held t.pass map → page < length same.pages
-told_page {t = t} s page names is on same turn =
-    let here = subst (λ (x : TurnState). IsEnabledTo x.pass s) (sym is) on in
-    page_known t.pass page _ (ltb-true page t.pass.table.config.pages
-    (sym names ∙ (enabled_meets t.pass.table.config (now_of t.pass) (event_of t.pass s) here).range))
-    (turn_that same turn).shows
+told_range : (c : Config) (seat : Seat) (f : Flight) (s : Step) → is_told s ≡ true
+    → is_in_range c seat f s ≡ nat_lt (page_told s) c.pages
+told_range c seat f (Step.Head p v) is = refl
+told_range c seat f (Step.Used p v) is = refl
+told_range c seat f (Step.Quar p v) is = refl
+told_range c seat f (Step.Mark p v) is = refl
+told_range c seat f _ is = cc
+
+-- So has the page of a step that it is told of.
+pub told_page : (p : PassState) (s : Step) {map : KnownPages} → is_told s ≡ true → IsEnabledTo p s
+    → IsMapOf map (now_of p).words → page_told s < length map.pages
+told_page p s is on shows =
+    page_known p (page_told s) _ (ltb-true (page_told s) p.table.config.pages (sym (told_range p.table.config p.seat
+    (call_of p) s is) ∙ (enabled_meets p.table.config (now_of p) (event_of p s) on).range)) shows
 
 -- The next page of those that the map has is the next of the heap's.
 pub next_known : (p : PassState) (passes : ℕ → Bool) (from : ℕ) (next : Option ℕ)

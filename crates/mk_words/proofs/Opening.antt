@@ -7,21 +7,19 @@ use Rattle.mk_laws.proofs.Vocabulary.{enabled_meets, ends, eqb-false, eqb-true, 
 use Rattle.mk_laws.proofs.Vocabulary.{flight_of, get_or-set_other, get_or-set_same, get_or_past, inl, inr, is_held}
 use Rattle.mk_laws.proofs.Vocabulary.{is_number_of, left, length, length-set, ne_eqb, not, outside, refl, set-get_or}
 use Rattle.mk_laws.proofs.Vocabulary.{slice_index, slice_set, subst, sym, true, [], ◌++◌, ◌+◌, ◌<◌, ◌==◌, ◌∙◌, ◌∷◌, ◌≡◌}
-use Rattle.mk_laws.proofs.{Vocabulary.{◌≢◌, ◌≤◌, ◌⊎◌}, OthersCounts.answers_full, Protocols.lists_keep_the_protocol}
-use Rattle.mk_laws.proofs.TallySteps.{CountsNothing}
+use Rattle.mk_laws.proofs.{Vocabulary.{◌≢◌, ◌≤◌, ◌⊎◌}, Tallies.{same_ends, same_fulls}, OthersCounts.answers_full}
+use Rattle.mk_laws.proofs.{Protocols.lists_keep_the_protocol, TallySteps.CountsNothing}
 use Rattle.mk_core.proofs.{Conditions.meets_enabled, Histories.last_enabled}
 use Rattle.mk_core.specs.{Frames.{CountsAreLeft, steady_of}, Counts.full_answers, Effects.moment_behind}
 use Rattle.mk_core.specs.{Growing.AreOfOthers, Moments.none_is_held}
-use Rattle.mk_words.proofs.{LongerLists.longer_lists, Made.{made, pass_before}, Owed.history_more}
-use Rattle.mk_words.proofs.{Tallies.{same_ends, same_fulls}, TurnSteps.all_from}
+use Rattle.mk_words.proofs.{Made.{made, pass_before}, LongerLists.longer_lists, Owed.history_more, TurnSteps.all_from}
 use Rattle.mk_words.specs.{Opening.{AreOpened, OnlyOpen, Opens, OthersMayOpen}, States.{PassState, event_of, now_of}}
 use Rattle.mk_words.specs.{Steps.IsEnabledTo, TurnSteps.{Acts, IsTurn, world_at}}
 
 -- one gate that is opened leaves the others to be opened
 
-behind_open : (c : Config) (m : Moment) (seat : Seat) (k : ℕ)
-    → moment_behind c m (record { seat = seat; step = Step.Open k })
-    ≡ record m { words = record m.words { gates = slice_set m.words.gates k 0 } }
+behind_open : (c : Config) (m : Moment) (seat : Seat) (k : ℕ) → moment_behind c m (record
+    { seat = seat; step = Step.Open k }) ≡ record m { words = record m.words { gates = slice_set m.words.gates k 0 } }
 behind_open c m (Caller i) k = ap (λ (fs : List Flight). record {
   words = record m.words { gates = slice_set m.words.gates k 0 };
   seats = record m.seats { flights = fs };
@@ -106,9 +104,8 @@ opens_more p q r k o a =
       is =
           a.makes.is ∙ ap (λ (x : PassState). record x { seen = q.seen ++ a.makes.others ++ last ∷ [] }) o.is
           ∙ ap (λ (es : List Event). record p { seen = es })
-          (ap (λ (es : List Event). es ++ a.makes.others ++ last ∷ []) seen_is
-          ∙ append_assoc (p.seen ++ o.more) a.makes.others (last ∷ [])
-          ∙ append_assoc p.seen o.more (a.makes.others ++ last ∷ []));
+          (ap (λ (es : List Event). es ++ a.makes.others ++ last ∷ []) seen_is ∙ append_assoc
+          (p.seen ++ o.more) a.makes.others (last ∷ []) ∙ append_assoc p.seen o.more (a.makes.others ++ last ∷ []));
       only = only_append p.seats o.more (a.makes.others ++ last ∷ []) o.only
           (only_append p.seats a.makes.others (last ∷ []) (only_others p.seats a.makes.others
           (subst (λ (seats : List Seat). AreOfOthers seats a.makes.others) seats_are a.makes.of_others))

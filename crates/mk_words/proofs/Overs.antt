@@ -66,12 +66,10 @@ pub overs_later : (c : Config) (m : Moment) (vs : List View) (id : ℕ) (v w : V
     → seats_of w ≡ seats_of v → NoneTwice vs → AllBeforeOver c vs es → IsEnabled c m e → Has (seats_of v) e.seat
     → (is_over e.step ≡ true → HasCallers c (seats_of v)) → AllBeforeOver c (set vs id w) (es ++ e ∷ [])
 overs_later c m vs id v w es e at same apart before on has home j d p k lt h over =
-    let back : (x : Seat) → w ≡ d → Has (seats_of d) x → Has (seats_of v) x =
-    λ x is there. subst (λ (seats : List Seat). Has seats x) same
-    (subst (λ (z : View). Has (seats_of z) x) (sym is) there) in
-    let forth : (x : Seat) → w ≡ d → Has (seats_of v) x → Has (seats_of d) x =
-    λ x is there. subst (λ (z : View). Has (seats_of z) x) is
-    (subst (λ (seats : List Seat). Has seats x) (sym same) there) in
+    let back : (x : Seat) → w ≡ d → Has (seats_of d) x → Has (seats_of v) x = λ x is there. subst
+    (λ (seats : List Seat). Has seats x) same (subst (λ (z : View). Has (seats_of z) x) (sym is) there) in
+    let forth : (x : Seat) → w ≡ d → Has (seats_of v) x → Has (seats_of d) x = λ x is there. subst
+    (λ (z : View). Has (seats_of z) x) is (subst (λ (seats : List Seat). Has seats x) (sym same) there) in
     ⊎_elim (λ (old : has_over es ≡ true). ⊎_elim
     (λ (t : (j ≡ id) × (w ≡ d)). forth Host t.1 (before id v at k lt (back (Caller k) t.1 h) old))
     (λ (t : (j ≢ id) × (get_elem? vs j ≡ some d)). before j d t.1 k lt h old) (at_set vs id j w d p))

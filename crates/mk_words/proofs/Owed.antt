@@ -42,16 +42,14 @@ pub some_words : (words pages : ℕ) → words ≡ count_of_words pages → 0 < 
 some_words words pages e = omega arith
 
 pub split_call : (config key : Config) (words id : ℕ) (me : Mine) (seat x picked : Seat) → IsInOrder me seat
-    → me.0.config ≡ config → key ≡ config
-    → words ≡ count_of_words config.pages → picked ≡ x → Has me.0.own.seats x → Has me.0.own.seats Host
-    → is_same_seat x Host ≡ false → (is_caller x ≡ true → has_over me.0.own.seen ≡ false)
+    → me.0.config ≡ config → key ≡ config → words ≡ count_of_words config.pages → picked ≡ x → Has me.0.own.seats x
+    → Has me.0.own.seats Host → is_same_seat x Host ≡ false → (is_caller x ≡ true → has_over me.0.own.seen ≡ false)
     → (0 < words) × Splits (Kept key) id me.0 (stays_with picked me.0) (goes_with picked me.0)
 split_call config key words id me seat x picked order config_is key_is words_are picked_is has host another early = (
   some_words words config.pages words_are,
   subst (λ (d : Config). Splits (Kept d) id me.0 (stays_with picked me.0) (goes_with picked me.0)) (sym key_is)
-      (subst (λ (y : Seat). Splits (Kept config) id me.0 (stays_with y me.0) (goes_with y me.0)) (sym picked_is)
-      (splits config id me.0 (stays_with x me.0) (goes_with x me.0)
-      (hands_over x me.0 order.settled has host another early))),
+      (subst (λ (y : Seat). Splits (Kept config) id me.0 (stays_with y me.0) (goes_with y me.0)) (sym picked_is) (splits
+      config id me.0 (stays_with x me.0) (goes_with x me.0) (hands_over x me.0 order.settled has host another early))),
 )
 
 pub copy_call : (config key : Config) (words id : ℕ) (me : Mine) → key ≡ config → words ≡ count_of_words config.pages
@@ -129,10 +127,9 @@ module _ (w : WordsState) (tid pid : TableId) (config key : Config) (me : Mine) 
       )
 
   pub perform_call : (words slots id : ℕ) (s : Step) (i : ℕ) (x : TableWord) (a : Access) (picked : Event)
-      → IsInOrder me seat → key ≡ config
-      → words ≡ count_of_words config.pages → picked ≡ event_of p s → MayPerform p s x a → i ≡ index_of config.pages x
-      → is_handing s ≡ false
-      → (i < words) × Allows (Kept key) slots id me i (becomes a) (λ n m. adds picked no_step me n m)
+      → IsInOrder me seat → key ≡ config → words ≡ count_of_words config.pages → picked ≡ event_of p s
+      → MayPerform p s x a → i ≡ index_of config.pages x → is_handing s ≡ false → (i < words) × Allows
+      (Kept key) slots id me i (becomes a) (λ n m. adds picked no_step me n m)
   perform_call words slots id s i x a picked order key_is words_are picked_is may i_is kind =
       owed_call words slots id s i x a picked (λ e n m. adds e no_step me n m) order key_is words_are picked_is may i_is
       (performs_at slots id me (event_of p s) no_step order.settled order.own

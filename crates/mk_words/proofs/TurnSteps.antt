@@ -140,8 +140,7 @@ module _ (p : PassState) (j n : ℕ) (q : PassState) (t : Tells p (Step.Hold j) 
 
   pub hold_holds : n ≡ 0 → is_held (now_of q).words j ≡ true
   hold_holds none =
-      eq-eqb _ 2
-      (gate_then ∙ ap (λ (b : Bool). if b then 2 else slice_index gs j)
+      eq-eqb _ 2 (gate_then ∙ ap (λ (b : Bool). if b then 2 else slice_index gs j)
       (eq-eqb (slice_index gs j) 0 (sym t.tells ∙ none)))
 
   pub hold_misses : n ≢ 0 → is_held (now_of q).words j ≡ false
@@ -202,9 +201,8 @@ module _ (p : PassState) (o : Option Op) (n : ℕ) (q : PassState) (t : Tells p 
         let named : (world_of q).now.words.turn ≡ 1 + holder_number c p.seat =
         ap (λ (w : World). w.now.words.turn) e.world
         ∙ ap (λ (b : Bool). if b then 1 + holder_number c p.seat else m.words.turn) (eq-eqb m.words.turn 0 free) in
-        let holds : Holds c (world_of q).now p.seat =
-        named_holds c (world_of q).now p.seat (protocol_now p (Step.Take o) q t.makes) e.meets.seat
-        (takes_for c m p.seat o e.meets.kind e.meets.order) named in
+        let holds : Holds c (world_of q).now p.seat = named_holds c (world_of q).now p.seat (protocol_now p
+        (Step.Take o) q t.makes) e.meets.seat (takes_for c m p.seat o e.meets.kind e.meets.order) named in
         record {
           holds =
               subst (λ (r : PassState). Holds r.table.config (world_of q).now r.seat) (sym t.makes.is) holds;
@@ -216,9 +214,8 @@ module _ (p : PassState) (o : Option Op) (n : ℕ) (q : PassState) (t : Tells p 
         let m : Moment = moment_of t.makes in
         record {
           call =
-              ap (λ (s : Seat). flight_of (world_of q).now s) e.seat
-              ∙ ap (λ (w : World). flight_of w.now p.seat) e.world
-              ∙ takes_call c m p.seat o e.protocol e.meets.seat e.meets.kind e.meets.order free;
+              ap (λ (s : Seat). flight_of (world_of q).now s) e.seat ∙ ap (λ (w : World). flight_of w.now p.seat)
+              e.world ∙ takes_call c m p.seat o e.protocol e.meets.seat e.meets.kind e.meets.order free;
           holding =
               ap (λ (w : World). w.now.seats.holding) e.world
               ∙ ap (λ (b : Bool). if b then nothing_done else m.seats.holding) (eq-eqb m.words.turn 0 free);
@@ -227,12 +224,10 @@ module _ (p : PassState) (o : Option Op) (n : ℕ) (q : PassState) (t : Tells p 
               ∙ ap (λ (w : World). none_is_held c.callers w.now.words) e.world ∙ none_held_free c m e.protocol free;
           phase = ap (λ (w : World). has_phase (phase_of w.now.words) Step.Give) e.world
               ∙ free_phase c m e.protocol free;
-          held = ap (λ (w : World). w.now.words.held) e.world
-              ∙ (free_tallies c (p.seen ++ t.makes.others) e.history e.protocol free).0
-              ∙ sym (ap (λ (w : World). held_by_pages w.now.words) e.world);
-          fresh = ap (λ (w : World). w.now.words.fresh) e.world
-              ∙ (free_tallies c (p.seen ++ t.makes.others) e.history e.protocol free).1
-              ∙ sym (ap (λ (w : World). w.now.fresh_words) e.world);
+          held = ap (λ (w : World). w.now.words.held) e.world ∙ (free_tallies c (p.seen ++ t.makes.others) e.history
+              e.protocol free).0 ∙ sym (ap (λ (w : World). held_by_pages w.now.words) e.world);
+          fresh = ap (λ (w : World). w.now.words.fresh) e.world ∙ (free_tallies c (p.seen ++ t.makes.others) e.history
+              e.protocol free).1 ∙ sym (ap (λ (w : World). w.now.fresh_words) e.world);
         }
 
 -- `give`

@@ -46,9 +46,8 @@ cleared ws p q z = elim (cases_eq q p) [
 elsewhere : (ws : List ℕ) (p q v : ℕ) → q ≢ p → slice_index ws q ≡ 0 → slice_index (slice_set ws p v) q ≡ 0
 elsewhere ws p q v ne z = get_or-set_other ws p q v 0 ne ∙ z
 
-pub stays_unmarked : (c : Config) (m : Moment) (seat : Seat) (s : Step) (q : ℕ)
-    → ((p : ℕ) → page_coloured c m seat s ≡ Some p → q ≢ p) → HasNoMarks m.words q
-    → HasNoMarks (Behind c m seat s).words q
+pub stays_unmarked : (c : Config) (m : Moment) (seat : Seat) (s : Step) (q : ℕ) → ((p : ℕ)
+    → page_coloured c m seat s ≡ Some p → q ≢ p) → HasNoMarks m.words q → HasNoMarks (Behind c m seat s).words q
 stays_unmarked c m seat (Step.Mark p v) q other h =
     record { unmarked = elsewhere m.words.marks p q _ (other p refl) h.unmarked; unscanned = h.unscanned }
 stays_unmarked c m seat (Step.Black p v) q other h =
@@ -117,10 +116,9 @@ seen_where : (c : Config) (seen : Option SeenHeader) (hand : Option ℕ) → is_
     × (cell_at c.pages s.header v ≡ Some cell) × (cell_seen c seen hand ≡ Some cell)
 seen_where c (Some s) (Some v) is = by (s.page == page_at_address v) refl is
   where
-    by : (b : Bool) → (s.page == page_at_address v) ≡ b
-        → is_some (if b then cell_at c.pages s.header v else None) ≡ true
-        → (t : SeenHeader) × (u : ℕ) × (cell : Cell) × (Some s ≡ Some t) × (t.page ≡ page_at_address u)
-        × (cell_at c.pages t.header u ≡ Some cell) × (cell_seen c (Some s) (Some v) ≡ Some cell)
+    by : (b : Bool) → (s.page == page_at_address v) ≡ b → is_some (if b then cell_at c.pages s.header v else None)
+        ≡ true → (t : SeenHeader) × (u : ℕ) × (cell : Cell) × (Some s ≡ Some t) × (t.page ≡ page_at_address u) ×
+        (cell_at c.pages t.header u ≡ Some cell) × (cell_seen c (Some s) (Some v) ≡ Some cell)
     by false at some = cc
     by true at some = found (cell_at c.pages s.header v) refl some
       where

@@ -1,6 +1,8 @@
 -- The page map of a heap: what it shows of the words, and the steps by which it changes hands or has to follow.
-use Rattle.std.specs.Prelude.{◌≡◌, ℕ, ◌<◌, ◌≤◌, Bool, true, false, slice_index, Option, Some, None, []}
-use Rattle.mk_page_map.specs.KnownPages.{KnownPages, Shows, is_uncleaned}
+use Rattle.std.specs.Prelude.{◌≡◌, ℕ, ◌<◌, ◌≤◌, ◌%◌, ◌^◌, Bool, true, false, slice_index, slice_set, Option, Some, None}
+use Rattle.std.specs.Prelude.{List, []}
+use Rattle.mk_geom.specs.declared.pages.Page.{Page}
+use Rattle.mk_page_map.specs.{Members.page_at, KnownPages.{KnownPages, Shows, is_uncleaned, with_header, with_used}}
 use Rattle.mk_core.specs.{declared.events.Step.Step, Words.{Words, header_at}}
 use Rattle.mk_core.specs.declared.events.Step.TheVariants as step
 
@@ -46,3 +48,42 @@ is_told (step.Used p v) = true
 is_told (step.Quar p v) = true
 is_told (step.Mark p v) = true
 is_told _ = false
+
+-- the page that it stores to
+abbrev pub page_told : Step → ℕ
+page_told (step.Head p v) = p
+page_told (step.Used p v) = p
+page_told (step.Quar p v) = p
+page_told (step.Mark p v) = p
+page_told _ = 0
+
+-- What a map shows after it was told of a step: of each of the four.
+
+pub record HeaderIsTold (old : KnownPages) (page header : ℕ) (new : KnownPages) : Type 0 where
+  pub shows : (pages : List Page) (freed : List ℕ) → Shows old pages freed
+      → Shows new (with_header pages page header) freed
+  pub freed : header ≡ 0 → is_uncleaned new page ≡ true
+  pub others : (number : ℕ) → (number ≡ page → ⊥) → is_uncleaned new number ≡ is_uncleaned old number
+
+pub record UsedIsTold (old : KnownPages) (page used : ℕ) (new : KnownPages) : Type 0 where
+  pub shows : (pages : List Page) (freed : List ℕ) → Shows old pages freed
+      → Shows new (with_used pages page used) freed
+  pub uncleaned : (number : ℕ) → is_uncleaned new number ≡ is_uncleaned old number
+
+pub record QuarantineIsTold (old : KnownPages) (page now_freed : ℕ) (new : KnownPages) : Type 0 where
+  pub shows : (pages : List Page) (freed : List ℕ) → Shows old pages freed
+      → Shows new pages (slice_set freed page now_freed)
+  pub uncleaned : (number : ℕ) → is_uncleaned new number ≡ is_uncleaned old number
+
+pub record MarkIsTold (old : KnownPages) (page : ℕ) (new : KnownPages) : Type 0 where
+  pub shows : (pages : List Page) (freed : List ℕ) → Shows old pages freed
+      → Shows new pages freed
+  pub marked : (page_at old.pages page).header ≡ 0 → is_uncleaned new page ≡ true
+  pub others : (number : ℕ) → (number ≡ page → ⊥) → is_uncleaned new number ≡ is_uncleaned old number
+
+abbrev pub IsToldOf : Step → KnownPages → KnownPages → Type 0
+IsToldOf (step.Head page header) old new = HeaderIsTold old page header new
+IsToldOf (step.Used page used) old new = UsedIsTold old page used new
+IsToldOf (step.Quar page now_freed) old new = QuarantineIsTold old page (now_freed % 2 ^ 32) new
+IsToldOf (step.Mark page cells) old new = MarkIsTold old page new
+IsToldOf _ old new = Unit {0}

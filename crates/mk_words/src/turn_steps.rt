@@ -64,8 +64,7 @@ impl<G: Gates> TurnAt<G> {
         ensures { Acts self.old.pass (step.Head page v) self.new.pass }
     {
         let head = TableWord::Named(Word::Head(page));
-        self.pass.perform(words, Step::Head { page, value: v }, head, Access::Store(v));
-        self.map.header_stored(page, v);
+        self.perform_told(words, Step::Head { page, value: v }, head, Access::Store(v));
     }
 
     /// Stores a page's quarantine word.
@@ -76,8 +75,7 @@ impl<G: Gates> TurnAt<G> {
         ensures { Acts self.old.pass (step.Quar page v) self.new.pass }
     {
         let quar = TableWord::Named(Word::Quar(page));
-        self.pass.perform(words, Step::Quar { page, value: v }, quar, Access::Store(v));
-        self.map.quarantine_stored(page, v % (1 << 32));
+        self.perform_told(words, Step::Quar { page, value: v }, quar, Access::Store(v));
     }
 
     /// Clears a page's marks.
@@ -101,9 +99,7 @@ impl<G: Gates> TurnAt<G> {
         ensures { Acts self.old.pass (step.Mark page v) self.new.pass }
     {
         let mark = TableWord::Named(Word::Mark(page));
-        self.pass
-            .perform(words, Step::Mark { page, value: v }, mark, Access::Or(v));
-        self.map.marked(page);
+        self.perform_told(words, Step::Mark { page, value: v }, mark, Access::Or(v));
     }
 
     /// Marks cells of a page in use, in a table of this many pages. Since the page has a header, the map needn't be
@@ -200,8 +196,7 @@ impl<G: Gates> TurnAt<G> {
         ensures { Acts self.old.pass (step.Used page v) self.new.pass }
     {
         let used = TableWord::Named(Word::Used(page));
-        self.pass.perform(words, Step::Used { page, value: v }, used, Access::Store(v));
-        self.map.used_stored(page, v);
+        self.perform_told(words, Step::Used { page, value: v }, used, Access::Store(v));
     }
 }
 

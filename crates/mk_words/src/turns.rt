@@ -1,8 +1,9 @@
 //! The turn, which one seat has at a time.
-ghost use Rattle.std.specs.Prelude.{◌≡◌, ◌+◌, IfOk, IfErr};
+ghost use Rattle.std.specs.Prelude.{◌≡◌, ◌+◌, ◌<◌, IfOk, IfErr, length, true};
 ghost use Rattle.mk_core.specs.{Calls.at_rest};
 ghost use Rattle.mk_core.specs.{Counts.{TalliesAreExact, TalliesAreTidy, IsTidy}, History.IsHistory};
 ghost use Rattle.mk_words.specs.{Indexes.IsOnPage, Seats.{CallersAreBeforeOver, Has}, States.call_of};
+ghost use Rattle.mk_words.specs.PageMaps.{IsToldOf, is_told, page_told};
 ghost use Rattle.mk_words.specs.{Steps.{IsEnabledTo, MayPerform, Finds, Tells}};
 ghost use Rattle.mk_words.specs.TurnSteps.{IsTurn, IsFresh, StaysTurn, GatesAre, Acts};
 ghost use Rattle.mk_core.specs.declared.events.Step.TheVariants as step;
@@ -48,6 +49,21 @@ impl<G: Gates> Model for TurnAt<G> {
 #[derive(Clone, Copy, Debug, PartialEq, Eq)]
 pub struct Busy {
     pub holder: u64,
+}
+
+/// Tells the map of a step.
+#[inline(always)]
+fn tell(map: &mut PageMap, step: Step)
+    requires { is_told step ≡ true → page_told step < length map.old.pages }
+    ensures { IsToldOf step map.old map.new }
+{
+    match step {
+        Step::Head { page, value } => map.header_stored(page, value),
+        Step::Used { page, value } => map.used_stored(page, value),
+        Step::Quar { page, value } => map.quarantine_stored(page, value % (1 << 32)),
+        Step::Mark { page, .. } => map.marked(page),
+        _ => {}
+    }
 }
 
 impl Pass {
@@ -134,6 +150,18 @@ impl<G: Gates> TurnAt<G> {
         ensures acts { Acts self.old.pass step self.new.pass }
     {
         self.pass.perform_near(words, pages, page, step, word, by)
+    }
+
+    /// Takes a step of which the map is told.
+    #[inline(always)]
+    pub(crate) fn perform_told(&mut self, words: &Words, step: Step, word: TableWord, by: Access)
+        requires one_table { self.old.pass.table ≡ words.now }
+        requires told { is_told step ≡ true }
+        requires may { MayPerform self.old.pass step word by }
+        ensures { Acts self.old.pass step self.new.pass }
+    {
+        self.pass.perform(words, step, word, by);
+        tell(&mut self.map, step);
     }
 }
 

@@ -1,5 +1,5 @@
 use Rattle.mk_laws.proofs.Vocabulary.{refl}
-use Rattle.mk_words.proofs.{HandedMaps.give_event, HandingCalls.give_call, HandingCalls.gives_own, Owed.same_id}
+use Rattle.mk_words.proofs.{HandingCalls.give_call, Owed.same_id}
 use Rattle.mk_words.proofs.handing.give_as.Goals as goal
 
 pub store-requires : goal.store-requires
@@ -15,7 +15,3 @@ store-requires g c =
       k.0,
       k.1,
     )
-
-pub returns-clause-told : goal.returns-clause-told
-returns-clause-told g c =
-    gives_own c.args.token.now.me c.store.new.seat.me _ (give_event _) c.requires.picked c.store.ensures.2

@@ -1,5 +1,5 @@
 use Rattle.mk_laws.proofs.Vocabulary.{refl}
-use Rattle.mk_words.proofs.{HandedMaps.take_event, HandingCalls.take_call, HandingCalls.takes_own, Owed.same_id}
+use Rattle.mk_words.proofs.{HandingCalls.take_call, Owed.same_id}
 use Rattle.mk_words.proofs.handing.take_as.Goals as goal
 
 pub compare_exchange-requires : goal.compare_exchange-requires
@@ -15,8 +15,3 @@ compare_exchange-requires g c =
       k.0,
       k.1,
     )
-
-pub returns-clause-told : goal.returns-clause-told
-returns-clause-told g c =
-    takes_own c.args.token.now.me c.compare_exchange.new.seat.me c.compare_exchange.result g.J.Making.event
-    (take_event c.args.seat c.args.op) c.requires.picked c.compare_exchange.ensures.2

@@ -19,9 +19,8 @@ index_near-index-requires-clause-names g c =
     let w = c.words.inside in
     let t = c.args.token.now in
     subst (λ (n : ℕ). IsOfTable n c.args.word)
-    (sym (pages_told _ c.args.words.now c.args.pages c.words.view_is c.requires.pages))
-    (names_word t.me c.args.seat c.words.view_is refl c.requires.one_table
-    c.args.step c.args.word c.requires.order c.requires.may)
+    (sym (pages_told _ c.args.words.now c.args.pages c.words.view_is c.requires.pages)) (names_word t.me c.args.seat
+    c.words.view_is refl c.requires.one_table c.args.step c.args.word c.requires.order c.requires.may)
 
 -- what the access is owed
 owed : (g : _) (c : After-index_near-index g) → (c.index_near-index.result < c.words.inside.table.shared.table_id.words)

@@ -20,9 +20,8 @@ pub exchange-home-requires : goal.exchange-home-requires
 exchange-home-requires c = grind (arith, same_id, took)
 
 -- what a token learns that has taken the map out of the slot
-learns : (c : After-exchange-home) → Tells c.args.self (Step.Take c.args.op) 0
-    (state_of c.exchange-home.new.seat.table_id c.exchange-home.new.seat.me c.self.inside.seat)
-    × IsMapOf c.exchange-home.result
+learns : (c : After-exchange-home) → Tells c.args.self (Step.Take c.args.op) 0 (state_of
+    c.exchange-home.new.seat.table_id c.exchange-home.new.seat.me c.self.inside.seat) × IsMapOf c.exchange-home.result
     (now_of (state_of c.exchange-home.new.seat.table_id c.exchange-home.new.seat.me c.self.inside.seat)).words
 learns c =
     let p = c.self.inside in
@@ -79,8 +78,7 @@ returns-else-found-eq0-clause-missed c =
     let p = c.self.inside in
     let f = c.take_as-found in
     subst (λ (r : PassState). Tells r (Step.Take c.args.op) f.result
-    (state_of f.new.token.table_id f.new.token.me p.seat)) c.self.view_is
-    (take_tells p.token.table_id f.new.token.table_id p.token.me f.new.token.me p.seat c.args.op
-    c.turn_word-number.result f.result f.ensures.table
+    (state_of f.new.token.table_id f.new.token.me p.seat)) c.self.view_is (take_tells p.token.table_id
+    f.new.token.table_id p.token.me f.new.token.me p.seat c.args.op c.turn_word-number.result f.result f.ensures.table
     (take_access p.token.table_id p.token.me p.seat c.args.op c.turn_word-number.result c.args.self c.self.view_is
     c.turn_word-number.ensures) c.self.invariant.order f.ensures.told)

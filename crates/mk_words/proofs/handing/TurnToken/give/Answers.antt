@@ -1,7 +1,7 @@
-use Rattle.mk_laws.proofs.Vocabulary.{Holds, Step, ap, subst, sym, [], ◌∙◌, ◌∷◌, ◌≡◌}
+use Rattle.mk_laws.proofs.Vocabulary.{Step, ap, subst, sym, [], ◌∙◌, ◌∷◌, ◌≡◌}
 use Rattle.atomic_table.specs.Table.{rest}
 use Rattle.mk_words.proofs.{HandingCalls.{give_makes, give_order, order_of_view, still_state, took}, Owed.same_id}
-use Rattle.mk_words.{proofs.handing.TurnToken.give.Goals.{After-exchange-empty}, specs.Steps.{Makes, May}}
+use Rattle.mk_words.{proofs.handing.TurnToken.give.Goals.{After-exchange-empty}, specs.Steps.{Makes}}
 use Rattle.mk_words.specs.{Passes.{IsInOrder, state_of}, PageMaps.IsMapOf, Rule.Mine, States.{PassState, now_of}}
 use Rattle.mk_words.proofs.handing.TurnToken.give.Goals as goal
 
@@ -31,23 +31,6 @@ same_pass c =
 slot_then : (c : After-exchange-empty) → c.exchange-empty.new.seat.me.1 ≡ (0, c.args.map.value) ∷ []
 slot_then c = cc (c.exchange-empty.ensures.3, c.self.invariant.slots.1)
 
-pub give_as-requires-clause-order : goal.give_as-requires-clause-order
-give_as-requires-clause-order c = order_then (goal.at.give_as-requires-clause-order c).After-exchange-empty
-
-pub give_as-requires-clause-one_table : goal.give_as-requires-clause-one_table
-give_as-requires-clause-one_table c =
-    cc (same_pass (goal.at.give_as-requires-clause-one_table c).After-exchange-empty, c.requires.one_table)
-
-pub give_as-requires-clause-may : goal.give_as-requires-clause-may
-give_as-requires-clause-may c =
-    subst (λ (r : PassState). May r Step.Give) (sym (same_pass
-    (goal.at.give_as-requires-clause-may c).After-exchange-empty)) c.requires.may
-
-pub give_as-requires-clause-holds : goal.give_as-requires-clause-holds
-give_as-requires-clause-holds c =
-    subst (λ (r : PassState). Holds r.table.config (now_of r) r.seat) (sym (same_pass
-    (goal.at.give_as-requires-clause-holds c).After-exchange-empty)) c.requires.holds
-
 pub give_as-requires-clause-slot : goal.give_as-requires-clause-slot
 give_as-requires-clause-slot c = (
   c.args.map.value,
@@ -72,6 +55,5 @@ returns c =
     let x = c.exchange-empty.new.seat in
     let f = c.give_as in
     subst (λ (r : PassState). Makes r Step.Give (state_of f.new.token.table_id f.new.token.me c.self.inside.seat))
-    (same_pass (goal.at.returns c).After-exchange-empty)
-    (give_makes x.table_id f.new.token.table_id x.me f.new.token.me c.self.inside.seat f.ensures.table
-    (order_then (goal.at.returns c).After-exchange-empty) f.ensures.told)
+    (same_pass (goal.at.returns c).After-exchange-empty) (give_makes x.table_id f.new.token.table_id x.me f.new.token.me
+    c.self.inside.seat f.ensures.table (order_then (goal.at.returns c).After-exchange-empty) f.ensures.told)
