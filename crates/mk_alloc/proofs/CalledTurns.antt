@@ -179,17 +179,15 @@ module _ {o : Op} {a : Answer} {p taken done q : PassState} (g : GivenBack o a p
 
   pub turn_goes_on : GivesNone p.seat in_turn
   turn_goes_on =
-      gives_append p.seat g.on.does.more g.gives.others
-      (subst (λ (y : PassState). GivesNone y.seat g.on.does.more) (taken_is g.took) (doing_gives taken done g.on.does))
-      (subst (λ (y : PassState). GivesNone y.seat g.gives.others) done_is
-      (others_give done.seat done.seats g.gives.others (own_before g.gives) g.gives.of_others))
+      gives_append p.seat g.on.does.more g.gives.others (subst (λ (y : PassState). GivesNone y.seat g.on.does.more)
+      (taken_is g.took) (doing_gives taken done g.on.does)) (subst (λ (y : PassState). GivesNone y.seat g.gives.others)
+      done_is (others_give done.seat done.seats g.gives.others (own_before g.gives) g.gives.of_others))
 
   -- Taking it leaves the phase.
   pub phase_taken : phase_of (left p.table.config took_at).now.words ≡ phase_of (now_of taken).words
   phase_taken =
-      sym (ap (λ (w : World). phase_of w.now.words)
-      (made (waited g.took) (Step.Take (Some o)) taken (taking g.took)).world
-      ∙ ap (λ (y : PassState). phase_of (left y.table.config took_at).now.words) (waited_same g.took))
+      sym (ap (λ (w : World). phase_of w.now.words) (made (waited g.took) (Step.Take (Some o)) taken (taking
+      g.took)).world ∙ ap (λ (y : PassState). phase_of (left y.table.config took_at).now.words) (waited_same g.took))
 
   -- the turn after its last event
   abbrev pub turn_of : TurnOf p.table.config p.seat (done.seen ++ g.gives.others)

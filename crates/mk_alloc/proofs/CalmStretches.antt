@@ -94,9 +94,8 @@ module _ (p : PassState) (seat : p.seat ≡ Caller (caller_of_pass p)) (own : Ha
       ≡ storage_in p es
   other_storage {es} {e} h ne =
       let c : Config = p.table.config in
-      ap (λ (v : World). unreleased_storage c v.allocations) h.behind
-      ∙ ap (λ (s : Steady). unreleased_storage c s.allocations)
-      ((left_after c (left c es) e.seat p.seat e.step h.known h.meets ne).turn h.holds).steady
+      ap (λ (v : World). unreleased_storage c v.allocations) h.behind ∙ ap (λ (s : Steady). unreleased_storage c
+      s.allocations) ((left_after c (left c es) e.seat p.seat e.step h.known h.meets ne).turn h.holds).steady
 
   pub stays_reserved : {es more : List Event} → is_pending_free (call_in p es) ≡ false
       → Stretch p releases_none es more → StaysReserved p es (es ++ more)

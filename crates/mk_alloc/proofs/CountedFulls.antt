@@ -13,19 +13,18 @@ use Rattle.mk_alloc.proofs.Vocabulary.{lt-ltb, made, meets_enabled, new_is_actin
 use Rattle.mk_alloc.proofs.Vocabulary.{others_add_none, own_before, own_calls, phase_of, place_now_for, refl}
 use Rattle.mk_alloc.proofs.Vocabulary.{same_config, steady_of, subst, sum_by_push, sym, true, unchanged, undecided_new}
 use Rattle.mk_alloc.proofs.{Vocabulary.{world_of, [], ◌++◌, ◌+◌, ◌<◌, ◌∙◌, ◌∷◌, ◌≡◌}, Going.{IsCallers, but_full}}
-use Rattle.mk_alloc.proofs.Going.{exact_kept, none_held_kept, same_phase, tidy_kept}
-use Rattle.mk_alloc.proofs.{SeekingTurns.{new_callers, still_nowhere, unplaced_kept}, Stretches.{SomeKinds, does_both}}
-use Rattle.mk_alloc.proofs.{Stretches.{does_once, widened}, CalledTurns.{of_others_alone, step_adds_none}}
-use Rattle.mk_alloc.proofs.{FreedTurns.given_is_decided, FullLeaves.{leaves_then, made_leaves}}
-use Rattle.mk_alloc.proofs.{GrantParts.{calm_last, room_lacks}, OneCycles.begins_none_by, Parts.{Part, before_act}}
-use Rattle.mk_alloc.proofs.PlacedTurns.{none_freed_yet}
+use Rattle.mk_alloc.proofs.{Going.{exact_kept, same_phase, tidy_kept}, SeekingTurns.{new_callers, still_nowhere}}
+use Rattle.mk_alloc.proofs.{SeekingTurns.unplaced_kept, Stretches.{SomeKinds, does_both, does_once, widened}}
+use Rattle.mk_alloc.proofs.{CalledTurns.{of_others_alone, step_adds_none}, FreedTurns.given_is_decided}
+use Rattle.mk_alloc.proofs.{FullLeaves.{leaves_then, made_leaves}, GrantParts.{calm_last, room_lacks}}
+use Rattle.mk_alloc.proofs.{OneCycles.begins_none_by, Parts.{Part, before_act}, PlacedTurns.none_freed_yet}
 use Rattle.mk_laws.proofs.Vocabulary.{AreAdmitted, Call, Tally, Unplaced, Word, is_new_at, map-append, place_on_pages}
 use Rattle.mk_laws.proofs.{Vocabulary.{◌-◌, ◌^◌}, InvariantTheorems.first_fit_finds_the_place}
 use Rattle.mk_laws.proofs.LayoutHolders.{seat_operands}
 use Rattle.mk_never.proofs.Parts.{admitted_join}
 use Rattle.mk_core.specs.History.{IsAdmittedBehind, never_first}
 use Rattle.mk_caller.proofs.OwnSteps.{own_entry}
-use Rattle.mk_cycle.{proofs.KeptInParts.{gates_then}, specs.TurnKeeps.{done_of}}
+use Rattle.mk_cycle.{proofs.{BeginSteps.none_held_kept, KeptInParts.gates_then}, specs.TurnKeeps.{done_of}}
 use Rattle.mk_objects.proofs.{Looks.acting_now, MayAct.{new_admitted, new_in_range}, Takes.unplaced_settled}
 use Rattle.mk_words.specs.Steps.{Finds, IsAdmittedTo}
 
@@ -44,9 +43,8 @@ raised_so : (n v f g : ℕ) → n ≡ in_a_word f → v ≡ min (n + 1) (2 ^ 64 
 raised_so n v f g is raised more = omega arith
 
 -- the looks and the tally before
-module _ {p p1 p2 : PassState} {n v : ℕ} (quiet : IsQuiet p) (u : IsUnplaced p)
-    (look : Acts p (Step.Look Word.Full) p1) (finds : Finds p (Step.Look Word.Full) n p1)
-    (tallies : Acts p1 (Step.Tally Tally.Full v) p2) where
+module _ {p p1 p2 : PassState} {n v : ℕ} (quiet : IsQuiet p) (u : IsUnplaced p) (look : Acts p (Step.Look Word.Full) p1)
+    (finds : Finds p (Step.Look Word.Full) n p1) (tallies : Acts p1 (Step.Tally Tally.Full v) p2) where
   k1 : LeavesTurn unchanged p p1
   k1 =
       calm_keeps p (Step.Look Word.Full) p1 look
@@ -177,11 +175,10 @@ module _ {p p1 p2 : PassState} {n v : ℕ} (quiet : IsQuiet p) (u : IsUnplaced p
           (gates_then p1 p2 q k2.call.pass (gates_behind p1 (Step.Tally Tally.Full v) p2 tallies refl)
           (gates_behind p2 Step.Full q full refl))) quiet.gates;
       exact = exact_kept p q pass_q all_steady quiet.exact;
-      tidy = tidy_kept p q all_steady ends_q
-          (ap (λ (s : Steady). s.full) steady_q ∙ (ap (λ (w : World). w.now.words.full) tallies.world)
-          ∙ raised_so n v (full_answers p.table.config p.seen) (full_answers p.table.config q.seen)
-          (found ∙ quiet.tidy.full) raised fulls_q
-          ∙ ap (λ (c : Config). in_a_word (full_answers c q.seen)) (sym config_q)) quiet.tidy;
+      tidy = tidy_kept p q all_steady ends_q (ap (λ (s : Steady). s.full) steady_q
+          ∙ (ap (λ (w : World). w.now.words.full) tallies.world) ∙ raised_so n v (full_answers p.table.config p.seen)
+          (full_answers p.table.config q.seen) (found ∙ quiet.tidy.full) raised fulls_q ∙ ap
+          (λ (c : Config). in_a_word (full_answers c q.seen)) (sym config_q)) quiet.tidy;
     }
 
     does : Does counts_full p q
@@ -251,9 +248,8 @@ full_allowed {p} t u idle ended none =
     (unplaced_settled (acting_now turn acts) (acting_caller p acts) u t.history) ∙ none in
     let seat = new_callers u in
     subst (λ (s : Seat). caller_of_pass p < p.table.config.callers → is_undecided_new (flight_of (now_of p) s) ≡ true
-    → place_on_pages p.table.config.resident (now_of p).words.pages
-    (object_made p.table.config (flight_of (now_of p) s).op) ≡ None
-    → IsEnabled p.table.config (now_of p) (record { seat = s; step = Step.Full }))
+    → place_on_pages p.table.config.resident (now_of p).words.pages (object_made p.table.config
+    (flight_of (now_of p) s).op) ≡ None → IsEnabled p.table.config (now_of p) (record { seat = s; step = Step.Full }))
     (sym seat) (λ lt new fit. full_for p.table.config (now_of p) (caller_of_pass p) lt new idle u.placing ended fit)
     ((subst (λ (s : Seat). Holds p.table.config (now_of p) s) seat t.holds).0) u.new fits
 
@@ -273,9 +269,8 @@ admitted_for {c} {es} k h lt new operands =
     ∙ map-append (λ (x : Decided). record { caller = x.caller; op = x.op }) (calls c es)
     (entry_of k f.op (Some Answer.Full))
     ∙ ap (λ (x : Op). asked (calls c es) ++ asked (entry_of k x (Some Answer.Full))) n.op in
-    subst (λ (xs : List Call). AreAdmitted c.globals (never_first c) xs) (sym more)
-    (admitted_join c.globals (never_first c) (asked (calls c es))
-    (record { caller = k; op = Op.New n.d n.ty true } ∷ [])
+    subst (λ (xs : List Call). AreAdmitted c.globals (never_first c) xs) (sym more) (admitted_join c.globals
+    (never_first c) (asked (calls c es)) (record { caller = k; op = Op.New n.d n.ty true } ∷ [])
     (h.admitted, (new_admitted c k n.d n.ty true (asked (calls c es)) lt ranges.0 ranges.1, tt)))
 
 pub full_admitted : {p : PassState} → InTurn p → IsUnplaced p → IsAdmittedTo p Step.Full

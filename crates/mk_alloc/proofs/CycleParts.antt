@@ -62,9 +62,8 @@ module _ {p q : PassState} (law : FinishesCycle p q) where
   gives_room_back =
       let m = law.makes in
       let r = m.releases in
-      does_both (does_once r.close refl) (does_both (does_once r.release refl)
-      (does_both (widened (λ x h. grind arith) m.frees)
-      (does_both (does_once m.end refl) (widened (λ x h. grind arith) m.behind))))
+      does_both (does_once r.close refl) (does_both (does_once r.release refl) (does_both (widened
+      (λ x h. grind arith) m.frees) (does_both (does_once m.end refl) (widened (λ x h. grind arith) m.behind))))
 
   pub part_closing : InTurn p → Part ends_marking p closing
   part_closing t = record {
@@ -106,11 +105,10 @@ finish_in p q own law t history =
     let z = step_behind gives m.end refl in
     let more : List Event = x.before ++ event_of r.closing Step.Close
     ∷ (y.before ++ event_of r.closed Step.Release ∷ (z.before ++ event_of m.freed Step.End ∷ m.behind.more)) in
-    let is : q.seen ≡ p.seen ++ more =
-    seen_then p.seen r.closed.seen q.seen (x.before ++ event_of r.closing Step.Close ∷ []) _ x.is
-    (seen_then r.closed.seen m.released.seen q.seen (y.before ++ event_of r.closed Step.Release ∷ []) _ y.is
-    (seen_then m.released.seen m.ended.seen q.seen (z.before ++ event_of m.freed Step.End ∷ []) m.behind.more z.is
-    (seen_behind sets_tallies m.ended q m.behind)))
+    let is : q.seen ≡ p.seen ++ more = seen_then p.seen r.closed.seen q.seen
+    (x.before ++ event_of r.closing Step.Close ∷ []) _ x.is (seen_then r.closed.seen m.released.seen q.seen
+    (y.before ++ event_of r.closed Step.Release ∷ []) _ y.is (seen_then m.released.seen m.ended.seen q.seen
+    (z.before ++ event_of m.freed Step.End ∷ []) m.behind.more z.is (seen_behind sets_tallies m.ended q m.behind)))
     ∙ ap (λ (l : List Event). p.seen ++ l) (three x.before y.before z.before m.behind.more _ _ _) in
     let first = part_closing law t in
     let last = part_behind_closing law t history in
@@ -133,10 +131,9 @@ finish_in p q own law t history =
         none_released = y.lacks is_release (λ x h. grind arith) (λ k h. cc);
         none_ended = z.lacks is_end (λ x h. grind arith) (λ x h. grind arith);
       };
-      begins_none = lacks_in_parts is_begin p.seen first.does.more last.does.more more
-          (sym is ∙ seen_then p.seen r.closing.seen q.seen first.does.more last.does.more
-          (seen_behind ends_marking p r.closing first.does) (seen_behind gives_room r.closing q last.does))
-          (part_lacks is_begin first begins_held (λ x h. grind arith))
+      begins_none = lacks_in_parts is_begin p.seen first.does.more last.does.more more (sym is ∙ seen_then p.seen
+          r.closing.seen q.seen first.does.more last.does.more (seen_behind ends_marking p r.closing first.does)
+          (seen_behind gives_room r.closing q last.does)) (part_lacks is_begin first begins_held (λ x h. grind arith))
           (part_lacks is_begin last begins_held (λ x h. grind arith));
     }
 
@@ -175,9 +172,8 @@ begin_in p q own law t history =
       before = x.before;
       begin = e;
       behind = m.behind.more;
-      is = seen_then p.seen m.begun.seen q.seen (x.before ++ e ∷ []) m.behind.more x.is
-          (seen_behind begins_marking m.begun q m.behind)
-          ∙ ap (λ (l : List Event). p.seen ++ l) (append_assoc x.before (e ∷ []) m.behind.more);
+      is = seen_then p.seen m.begun.seen q.seen (x.before ++ e ∷ []) m.behind.more x.is (seen_behind begins_marking
+          m.begun q m.behind) ∙ ap (λ (l : List Event). p.seen ++ l) (append_assoc x.before (e ∷ []) m.behind.more);
       begins = refl;
       none_before = x.lacks is_begin begins_held (λ x h. grind arith);
       none_behind = part_lacks is_begin marking begins_held (λ x h. grind arith);

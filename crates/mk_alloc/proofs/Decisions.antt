@@ -18,9 +18,8 @@ same_last [] ys zs h = h
 same_last (x ∷ xs) ys zs h = let tail : xs ++ ys ≡ xs ++ zs = cc in same_last xs ys zs tail
 
 -- What a caller's calls are more by is what it has of those since.
-pub own_more : (c : Config) (k : ℕ) (es more : List Event) (xs : List Decided)
-    → calls_by k (calls c (es ++ more)) ≡ calls_by k (calls c es) ++ xs
-    → calls_by k (calls_from c (left c es) more) ≡ xs
+pub own_more : (c : Config) (k : ℕ) (es more : List Event) (xs : List Decided) → calls_by k (calls c (es ++ more))
+    ≡ calls_by k (calls c es) ++ xs → calls_by k (calls_from c (left c es) more) ≡ xs
 own_more c k es more xs h =
     same_last (calls_by k (calls c es)) _ xs (sym (by_append k (calls c es) (calls_from c (left c es) more))
     ∙ ap (λ (l : List Decided). calls_by k l) (sym (calls_in_parts c es more)) ∙ h)
@@ -44,9 +43,8 @@ decision : (c : Config) (k : ℕ) (w : World) (more : List Event) (x : Decided)
 unfolding calls_from left_from
 decision c k w [] x h = cc
 decision c k w (e ∷ rest) x h =
-    by (calls_by k (call_decided c w.now e)) refl
-    (sym (by_append k (call_decided c w.now e) (calls_from c (world_behind c w e) rest)) ∙ h)
-    (λ y. decision c k (world_behind c w e) rest x y)
+    by (calls_by k (call_decided c w.now e)) refl (sym (by_append k (call_decided c w.now e)
+    (calls_from c (world_behind c w e) rest)) ∙ h) (λ y. decision c k (world_behind c w e) rest x y)
   where
     by : (ds : List Decided) → calls_by k (call_decided c w.now e) ≡ ds
         → calls_by k (call_decided c w.now e) ++ calls_by k (calls_from c (world_behind c w e) rest) ≡ x ∷ []
@@ -61,9 +59,8 @@ decision c k w (e ∷ rest) x h =
           behind = d.behind;
           is = ap (λ (l : List Event). e ∷ l) d.is;
           own = d.own;
-          none_before = by_append k (call_decided c w.now e) (calls_from c (world_behind c w e) d.before)
-              ∙ ap (λ (l : List Decided). l ++ calls_by k (calls_from c (world_behind c w e) d.before)) is
-              ∙ d.none_before;
+          none_before = by_append k (call_decided c w.now e) (calls_from c (world_behind c w e) d.before) ∙ ap
+              (λ (l : List Decided). l ++ calls_by k (calls_from c (world_behind c w e) d.before)) is ∙ d.none_before;
           none_behind = d.none_behind;
         }
     by (y ∷ ys) is both next =
@@ -137,9 +134,8 @@ module _ (p : PassState) (o : Op) (a : Answer) (more : List Event) (history : Is
 
   cut : p.seen ++ more ≡ (es ++ found.event ∷ []) ++ found.behind
   cut =
-      ap (λ (l : List Event). p.seen ++ l) found.is
-      ∙ sym (append_assoc p.seen found.before (found.event ∷ found.behind))
-      ∙ sym (append_assoc es (found.event ∷ []) found.behind)
+      ap (λ (l : List Event). p.seen ++ l) found.is ∙ sym (append_assoc p.seen found.before
+      (found.event ∷ found.behind)) ∙ sym (append_assoc es (found.event ∷ []) found.behind)
 
   whole : IsHistory c ((es ++ found.event ∷ []) ++ found.behind)
   whole = subst (λ (l : List Event). IsHistory c l) cut history
@@ -160,9 +156,8 @@ module _ (p : PassState) (o : Op) (a : Answer) (more : List Event) (history : Is
 
   behind_none : calls_by k (calls_from c (left c (es ++ found.event ∷ [])) found.behind) ≡ []
   behind_none =
-      ap (λ (w : World). calls_by k (calls_from c w found.behind))
-      ((comes_last c es found.event through).leaves ∙ ap (λ (w : World). world_behind c w found.event) there)
-      ∙ found.none_behind
+      ap (λ (w : World). calls_by k (calls_from c w found.behind)) ((comes_last c es found.event through).leaves ∙ ap
+      (λ (w : World). world_behind c w found.event) there) ∙ found.none_behind
 
   pub decided_in : IsDecidedIn p (flagged o a) a more
   decided_in = record {
@@ -175,11 +170,9 @@ module _ (p : PassState) (o : Op) (a : Answer) (more : List Event) (history : Is
         let st = stands c es last.before in
         let f = one_event c (left c es) (never_behind c es) found.event st.known
         (told_to_images c (left c es) (never_behind c es) st.known st.all) st.all.mirrors last.on last.admitted in
-        sym (ap (λ (l : List Decided). answered l) decides) ∙ f.right []
-        ∙ ap (λ (bs : List ℕ). answers_of bs (replies_of (never_behind c es)
-        (asked (call_decided c (left c es).now found.event))))
-        (append-nil (bases_of (world_behind c (left c es) found.event).allocations))
-        ∙ ap (λ (w : World). answers_of (bases_of w.allocations)
+        sym (ap (λ (l : List Decided). answered l) decides) ∙ f.right [] ∙ ap (λ (bs : List ℕ). answers_of bs
+        (replies_of (never_behind c es) (asked (call_decided c (left c es).now found.event)))) (append-nil (bases_of
+        (world_behind c (left c es) found.event).allocations)) ∙ ap (λ (w : World). answers_of (bases_of w.allocations)
         (replies_of (never_behind c es) (asked (call_decided c (left c es).now found.event)))) (sym last.leaves)
         ∙ ap (λ (l : List Decided). answers_of (bases_of (left c (es ++ found.event ∷ [])).allocations)
         (replies_of (never_behind c es) (asked l))) decides in cc one;

@@ -36,11 +36,9 @@ stay_exact_behind_turns on p o a q own called exact =
     (others_give called.done.seat called.done.seats g.others (own_before g) g.of_others) done in
     let same : called.done ≡ record p { seen = called.done.seen } = only_seen called.taken called.done acts.more acts.is
     ∙ ap (λ (x : PassState). record x { seen = called.done.seen }) takes.is in
-    subst (λ (x : PassState). OwnAreExact on x) (sym g.is)
-    (one_more on called.done.table.config called.done.seat (called.done.seen ++ g.others)
-    (event_of called.done Step.Give) before
-    (subst (λ (x : PassState). EndsExactly on x.table.config x.seat (called.done.seen ++ g.others)) (sym same)
-    called.ends))
+    subst (λ (x : PassState). OwnAreExact on x) (sym g.is) (one_more on called.done.table.config called.done.seat
+    (called.done.seen ++ g.others) (event_of called.done Step.Give) before (subst
+    (λ (x : PassState). EndsExactly on x.table.config x.seat (called.done.seen ++ g.others)) (sym same) called.ends))
 
 pub stay_exact_behind_others : StayExactBehindOthers
 stay_exact_behind_others on c s seats es fs has grows exact =

@@ -34,8 +34,7 @@ due_is_quar c m f (Step.Quar p v) h = refl
 due_is_quar c m f _ h = cc
 
 pub not_due_without : {c : Config} {es : List Event} (more before : List Event) {e : Event} (behind : List Event)
-    → Lacks is_quar more
-    → more ≡ before ++ e ∷ behind → IsDue c es e → ⊥
+    → Lacks is_quar more → more ≡ before ++ e ∷ behind → IsDue c es e → ⊥
 not_due_without {c} {es} more before {e = e} behind none is due =
     lacks_at is_quar more before e behind none is (due_is_quar c (left c es).now
     (flight_of (left c es).now e.seat) e.step due.decides)
@@ -170,9 +169,8 @@ module _ {p taken decided done q : PassState} {r : ℕ} {a : Answer} (g : GivenB
         behind_is ys second ∙ ap (λ (l : List Event). (l ++ ys) ++ g.gives.others) (due_first due)
         ∙ ap (λ (l : List Event). l ++ g.gives.others) (append_assoc due.before (due.event ∷ due.behind) ys)
         ∙ append_assoc due.before (due.event ∷ (due.behind ++ ys)) g.gives.others;
-    due = subst (λ (l : List Event). IsDue c l due.event) (within_is g due.before)
-        (subst (λ (y : PassState). IsDue y.table.config (taken.seen ++ due.before) due.event) (taken_is g.took)
-        due.due);
+    due = subst (λ (l : List Event). IsDue c l due.event) (within_is g due.before) (subst
+        (λ (y : PassState). IsDue y.table.config (taken.seen ++ due.before) due.event) (taken_is g.took) due.due);
   }
 
   -- Before it is due nothing is done with cycles.
@@ -195,9 +193,8 @@ module _ {p taken decided done q : PassState} {r : ℕ} {a : Answer} (g : GivenB
         is =
             seen_by x.does ∙ ap (λ (l : List Event). taken.seen ++ l) y.is
             ∙ sym (append_assoc taken.seen due.before (due.event ∷ y.behind));
-        due = subst (λ (y : PassState). IsDue y.table.config (taken.seen ++ due.before) due.event)
-            (sym (taken_is g.took))
-            (subst (λ (l : List Event). IsDue c l due.event) (sym (within_is g due.before)) due.due);
+        due = subst (λ (y : PassState). IsDue y.table.config (taken.seen ++ due.before) due.event) (sym
+            (taken_is g.took)) (subst (λ (l : List Event). IsDue c l due.event) (sym (within_is g due.before)) due.due);
       }) (λ (y : InSecond x.does.more g.gives.others due.before due.event due.behind). absurd
       (not_due_without g.gives.others y.rest due.behind (lacks_given g is_quar (λ x h. grind arith)) y.is due.due))
       (stands x.does.more g.gives.others due.before due.event due.behind (sym (rest_is same) ∙ due.is))

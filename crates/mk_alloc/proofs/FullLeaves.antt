@@ -52,9 +52,8 @@ same_each xs ys is a =
     subst (λ (l : List PlacedAllocation). StaysOrIsReleased (placed_at xs a) (placed_at l a)) (sym is)
     (record { same = refl; released = λ h. h })
 
-changed_each : (change : PlacedAllocation → PlacedAllocation) (xs : List PlacedAllocation) (a : ℕ)
-    → StaysOrIsReleased (placed_at xs a) (change (placed_at xs a))
-    → placed_at (map change xs) a ≡ change (placed_at xs a)
+changed_each : (change : PlacedAllocation → PlacedAllocation) (xs : List PlacedAllocation) (a : ℕ) → StaysOrIsReleased
+    (placed_at xs a) (change (placed_at xs a)) → placed_at (map change xs) a ≡ change (placed_at xs a)
     → StaysOrIsReleased (placed_at xs a) (placed_at (map change xs) a)
 changed_each change xs a h is = subst (λ (b : PlacedAllocation). StaysOrIsReleased (placed_at xs a) b) (sym is) h
 
@@ -62,9 +61,8 @@ each_stays : (c : Config) (m : Moment) (f : Flight) (x : Step) (xs : List Placed
     → (is_quar x ≡ true → is_pending_free f ≡ false) → (a : ℕ)
     → StaysOrIsReleased (placed_at xs a) (placed_at (allocations_by c m f x xs) a)
 each_stays c m f (Step.Quar p v) xs h free a =
-    same_each xs (allocations_by c m f (Step.Quar p v) xs)
-    (ap (λ (cell : Option Cell). map (freed_where_it_stands m.words cell) xs)
-    (frees_none c.pages m.words f p v (free refl)) ∙ none_freed m.words xs) a
+    same_each xs (allocations_by c m f (Step.Quar p v) xs) (ap (λ (cell : Option Cell). map
+    (freed_where_it_stands m.words cell) xs) (frees_none c.pages m.words f p v (free refl)) ∙ none_freed m.words xs) a
 each_stays c m f x4 xs h free a = grind (arith, changed_each, changed_at, or_left, same_each)
 
 count_stays : (c : Config) (m : Moment) (f : Flight) (x : Step) (xs : List PlacedAllocation) → is_of_full x ≡ true
@@ -159,9 +157,8 @@ last_own : {c : Config} (s : Seat) (es xs : List Event) (e : Event) → OwnLeave
     → LeavesAllButReleased c (left c (es ++ xs)) (world_behind c (left c (es ++ xs)) e)
     → OwnLeaveFrom c s (left c es) (xs ++ e ∷ [])
 last_own {c} s es xs e first last =
-    own_append c s (left c es) xs (e ∷ []) first
-    (subst (λ (w : World). OwnLeaveFrom c s w (e ∷ [])) (left_in_parts c es xs)
-    (one_own c s (left c (es ++ xs)) e (λ same. last)))
+    own_append c s (left c es) xs (e ∷ []) first (subst (λ (w : World). OwnLeaveFrom c s w (e ∷ []))
+    (left_in_parts c es xs) (one_own c s (left c (es ++ xs)) e (λ same. last)))
 
 -- parts of a turn
 

@@ -6,15 +6,15 @@ use Rattle.mk_alloc.proofs.Vocabulary.{PlacedAllocation, Some, Stage, Steady, St
 use Rattle.mk_alloc.proofs.Vocabulary.{and_from, ap, append-nil, arith, call_of, caller_of_pass, calm_keeps}
 use Rattle.mk_alloc.proofs.Vocabulary.{does_nothing, ends, entry_of, eq-eqb, free_then, fresh_words_of, full_answers}
 use Rattle.mk_alloc.proofs.Vocabulary.{gates_behind, gone_is_unmapped, has_place, held_by_allocations, in_a_word, inl}
-use Rattle.mk_alloc.proofs.Vocabulary.{inr, is_held, is_look, is_pending_free, is_run_gone, none_is_held, not, now_of}
-use Rattle.mk_alloc.proofs.Vocabulary.{off_four, or_left, own_calls, phase_of, refl, releases, same_config, steady_of}
-use Rattle.mk_alloc.proofs.Vocabulary.{subst, sym, true, turn_stays, unchanged, world_of, ◌&&◌, ◌++◌, ◌==◌, ◌||◌, ◌∙◌}
-use Rattle.mk_alloc.proofs.{Vocabulary.{◌≡◌, ◌⊎◌}, CalmStretches.{cycles_in_turn, goes_undecided, is_of_cycles}}
-use Rattle.mk_alloc.proofs.Stretches.{does_both, does_once, does_stretch, widened}
-use Rattle.mk_alloc.proofs.{CycleParts.{begin_done, finish_done}, Parts.{Part, seen_behind}}
-use Rattle.mk_laws.proofs.Vocabulary.{IsSettled, Word, all_below-at, held_by_pages, is_decided}
+use Rattle.mk_alloc.proofs.Vocabulary.{inr, is_look, is_pending_free, is_run_gone, now_of, off_four, or_left, own_calls}
+use Rattle.mk_alloc.proofs.Vocabulary.{phase_of, refl, releases, same_config, steady_of, subst, sym, true, turn_stays}
+use Rattle.mk_alloc.proofs.Vocabulary.{unchanged, world_of, ◌&&◌, ◌++◌, ◌==◌, ◌||◌, ◌∙◌, ◌≡◌, ◌⊎◌}
+use Rattle.mk_laws.proofs.Vocabulary.{IsSettled, Word, held_by_pages, is_decided}
 use Rattle.mk_core.specs.Counts.{TalliesAreExact}
-use Rattle.mk_cycle.proofs.{Allowed.{look_allowed, protocol}, BeginSteps.all_from, MayAct.may_act}
+use Rattle.mk_alloc.proofs.CalmStretches.{cycles_in_turn, goes_undecided, is_of_cycles}
+use Rattle.mk_alloc.proofs.Stretches.{does_both, does_once, does_stretch, widened}
+use Rattle.mk_alloc.proofs.{CycleParts.begin_done, CycleParts.finish_done, Parts.Part, Parts.seen_behind}
+use Rattle.mk_cycle.proofs.{Allowed.look_allowed, Allowed.protocol, BeginSteps.none_held_kept, MayAct.may_act}
 use Rattle.mk_cycle.specs.EngineLaw.{IsFreeForCycle}
 use Rattle.mk_words.proofs.Tallies.{settled_tallies}
 
@@ -38,9 +38,8 @@ looked {p} {q} t free history a = record {
 abbrev pub but_full : Steady → Steady
 but_full s = record s { full = 0 }
 
-pub exact_kept : (p q : PassState) → q ≡ record p { seen = q.seen }
-    → but_full (steady_of (world_of q)) ≡ but_full (steady_of (world_of p))
-    → TalliesAreExact p.table.config p.seen → TalliesAreExact q.table.config q.seen
+pub exact_kept : (p q : PassState) → q ≡ record p { seen = q.seen } → but_full (steady_of (world_of q)) ≡ but_full
+    (steady_of (world_of p)) → TalliesAreExact p.table.config p.seen → TalliesAreExact q.table.config q.seen
 exact_kept p q is steady x =
     let c : Config = p.table.config in
     let same : q.table.config ≡ c = same_config p q is in
@@ -65,16 +64,6 @@ tidy_kept p q steady none full x = record {
       ∙ ap in_a_word (sym (ap (λ (s : Steady). releases s.allocations) steady));
   full = full;
 }
-
--- No gate is held where none was, by the same holder.
-pub none_held_kept : (p q : PassState) → q ≡ record p { seen = q.seen } → KeepsGates p q
-    → none_is_held p.table.config.callers (now_of p).words ≡ true
-    → none_is_held q.table.config.callers (now_of q).words ≡ true
-none_held_kept p q is keeps none =
-    let n : ℕ = p.table.config.callers in
-    subst (λ (c : Config). none_is_held c.callers (now_of q).words ≡ true) (sym (same_config p q is))
-    (all_from n (λ j. not (is_held (now_of q).words j))
-    (λ j lt. ap not (keeps j lt) ∙ all_below-at n j (λ i. not (is_held (now_of p).words i)) none lt))
 
 pub same_phase : (p q : PassState) → phase_of (now_of q).words ≡ phase_of (now_of p).words → IsOutOfStop (now_of p)
     → IsOutOfStop (now_of q)
@@ -141,10 +130,9 @@ give_allowed {p} t quiet decided =
     } in
     let told = settled_tallies p.table.config p.seen t.history settled quiet.exact in
     may_act p Step.Give (protocol p t quiet.free) t.holds quiet.free.decided refl refl quiet.gates
-    (give_phase _ quiet.phase) (and_from (is_decided (call_of p).stage && is_run_gone m.words m.seats.holding.freed &&
-    (m.words.held == held_by_pages m.words)) (m.words.fresh == m.fresh_words)
-    (and_from (is_decided (call_of p).stage && is_run_gone m.words m.seats.holding.freed)
-    (m.words.held == held_by_pages m.words)
+    (give_phase _ quiet.phase) (and_from (is_decided (call_of p).stage && is_run_gone m.words m.seats.holding.freed
+    && (m.words.held == held_by_pages m.words)) (m.words.fresh == m.fresh_words) (and_from
+    (is_decided (call_of p).stage && is_run_gone m.words m.seats.holding.freed) (m.words.held == held_by_pages m.words)
     (and_from (is_decided (call_of p).stage) _ (ap (λ (s : Stage). is_decided s) decided) quiet.free.gone)
     (eq-eqb m.words.held _ told.0)) (eq-eqb m.words.fresh m.fresh_words told.1))
 

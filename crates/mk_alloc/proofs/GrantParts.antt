@@ -36,23 +36,24 @@ first_behind xs ys before e behind rest is first =
 
 pub last_then : (xs ys : List Event) → Lacks is_grant xs → LastIn ys → LastIn (xs ++ ys)
 last_then xs ys none last g =
-    ⊎_elim
-    (λ (x : InFirst xs g.before g.event). absurd (lacks_at is_grant xs g.before g.event x.behind none x.is g.of_kind))
-    (λ (x : InSecond xs ys g.before g.event g.behind).
-    last (record { before = x.rest; event = g.event; behind = g.behind; is = x.is; of_kind = g.of_kind }))
-    (stands xs ys g.before g.event g.behind g.is)
+    ⊎_elim (λ (x : InFirst xs g.before g.event). absurd (lacks_at is_grant xs g.before g.event x.behind none x.is
+    g.of_kind)) (λ (x : InSecond xs ys g.before g.event g.behind). last (record {
+      before = x.rest;
+      event = g.event;
+      behind = g.behind;
+      is = x.is;
+      of_kind = g.of_kind;
+    })) (stands xs ys g.before g.event g.behind g.is)
 
 -- After the last part none is granted, and nothing is let go.
 pub last_before : (xs ys : List Event) → LastIn xs → Lacks is_grant ys → Lacks lets_go ys → (g : At is_grant (xs ++ ys))
     → Lacks lets_go g.behind
 last_before xs ys last none calm g =
-    ⊎_elim (λ (x : InFirst xs g.before g.event).
-    ap (λ (l : List Event). has_step lets_go l) (first_behind xs ys g.before g.event g.behind x.behind g.is x.is)
-    ∙ lacks_append lets_go x.behind ys
+    ⊎_elim (λ (x : InFirst xs g.before g.event). ap (λ (l : List Event). has_step lets_go l)
+    (first_behind xs ys g.before g.event g.behind x.behind g.is x.is) ∙ lacks_append lets_go x.behind ys
     (last (record { before = g.before; event = g.event; behind = x.behind; is = x.is; of_kind = g.of_kind })) calm)
-    (λ (x : InSecond xs ys g.before g.event g.behind).
-    absurd (lacks_at is_grant ys x.rest g.event g.behind none x.is g.of_kind))
-    (stands xs ys g.before g.event g.behind g.is)
+    (λ (x : InSecond xs ys g.before g.event g.behind). absurd
+    (lacks_at is_grant ys x.rest g.event g.behind none x.is g.of_kind)) (stands xs ys g.before g.event g.behind g.is)
 
 -- passes
 
@@ -66,9 +67,8 @@ none_last p q none more is g = absurd (lacks_at is_grant more g.before g.event g
 
 pub calm_last : {kinds : SomeKinds} {p q : PassState} → Part kinds p q → AreApart kinds lets_go → GrantsLast p q
 calm_last {p = p} x apart all is =
-    last_of_calm all (ap (λ (l : List Event). has_step lets_go l)
-    (append_cancel_left p.seen all x.does.more (sym is ∙ seen_by x.does))
-    ∙ part_lacks lets_go x (λ x h. grind arith) apart)
+    last_of_calm all (ap (λ (l : List Event). has_step lets_go l) (append_cancel_left p.seen all x.does.more
+    (sym is ∙ seen_by x.does)) ∙ part_lacks lets_go x (λ x h. grind arith) apart)
 
 module _ {first second : SomeKinds} {p q r : PassState} (one : Does first p q) (two : Does second q r) where
   both_are : (all : List Event) → r.seen ≡ p.seen ++ all → all ≡ one.more ++ two.more
@@ -116,12 +116,11 @@ pub room_then : {first second : SomeKinds} {p q r : PassState} (o : Object) → 
     → AsksRoom o p q → AsksRoom o q r → AsksRoom o p r
 room_then {first} {second} {p} {q} {r} o one two a b part e behind is asks =
     let seen = seen_behind second q r two in
-    ⊎_elim (λ (x : InFirst q.seen (p.seen ++ part) e). a part e x.behind x.is asks)
-    (λ (x : InSecond q.seen two.more (p.seen ++ part) e behind). subst
-    (λ (l : List Event). HasNoPlace p.table.config o l) (sym x.first)
-    (subst (λ (c : Config). HasNoPlace c o (q.seen ++ x.rest)) (ap (λ (y : PassState). y.table.config) one.is)
-    (b x.rest e behind (seen ∙ ap (λ (l : List Event). q.seen ++ l) x.is ∙ sym
-    (append_assoc q.seen x.rest (e ∷ behind))) asks))) (stands _ two.more (p.seen ++ part) e behind (sym seen ∙ is))
+    ⊎_elim (λ (x : InFirst q.seen (p.seen ++ part) e). a part e x.behind x.is asks) (λ (x : InSecond q.seen two.more
+    (p.seen ++ part) e behind). subst (λ (l : List Event). HasNoPlace p.table.config o l) (sym x.first)
+    (subst (λ (c : Config). HasNoPlace c o (q.seen ++ x.rest)) (ap (λ (y : PassState). y.table.config) one.is) (b x.rest
+    e behind (seen ∙ ap (λ (l : List Event). q.seen ++ l) x.is ∙ sym (append_assoc q.seen x.rest (e ∷ behind))) asks)))
+    (stands _ two.more (p.seen ++ part) e behind (sym seen ∙ is))
 
 -- Up to a `release` an object without a place has none.
 module _ {p q : PassState} (o : Object) (seat : IsCallers p) (free : is_pending_free (call_of p) ≡ false)

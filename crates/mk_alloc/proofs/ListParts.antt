@@ -73,9 +73,8 @@ pub record IsAt (xs ys before behind : List Event) : Type 0 where
 pub only_at : (kind : SomeKind) (xs : List Event) (e : Event) (ys : List Event) → Lacks kind xs → Lacks kind ys
     → (at : At kind (xs ++ e ∷ ys)) → IsAt xs ys at.before at.behind
 only_at kind xs e ys none_before none_behind at =
-    ⊎_elim (λ (t : InFirst xs at.before at.event). absurd
-    (lacks_at kind xs at.before at.event t.behind none_before t.is at.of_kind))
-    (λ (t : InSecond xs (e ∷ ys) at.before at.event at.behind). by t.rest t.first t.is)
+    ⊎_elim (λ (t : InFirst xs at.before at.event). absurd (lacks_at kind xs at.before at.event t.behind none_before t.is
+    at.of_kind)) (λ (t : InSecond xs (e ∷ ys) at.before at.event at.behind). by t.rest t.first t.is)
     (stands xs (e ∷ ys) at.before at.event at.behind at.is)
   where
     by : (rest : List Event) → at.before ≡ xs ++ rest → e ∷ ys ≡ rest ++ at.event ∷ at.behind

@@ -72,17 +72,15 @@ module _ {d ty : ℕ} {a : Answer} {p taken done q : PassState} (m : NewGiven d 
   room_at : (kind : SomeKind) → ((x : Step) → kind x ≡ true → asks_room x ≡ true) → (at : At kind turn.behind)
       → HasNoPlace p.table.config o (within_turn turn at.before)
   room_at kind within at =
-      ⊎_elim (λ (x : InFirst m.seeks.on.does.more at.before at.event).
-      subst (λ (l : List Event). HasNoPlace p.table.config o l) (within_is given at.before)
-      (subst (λ (y : Object). HasNoPlace p.table.config y (taken.seen ++ at.before)) same_object
-      (subst (λ (y : PassState). HasNoPlace y.table.config (object_for taken) (taken.seen ++ at.before))
-      (taken_is m.took) (m.seeks.room at.before at.event x.behind
-      (seen_by m.seeks.on.does ∙ ap (λ (l : List Event). taken.seen ++ l) x.is
+      ⊎_elim (λ (x : InFirst m.seeks.on.does.more at.before at.event). subst
+      (λ (l : List Event). HasNoPlace p.table.config o l) (within_is given at.before)
+      (subst (λ (y : Object). HasNoPlace p.table.config y (taken.seen ++ at.before)) same_object (subst
+      (λ (y : PassState). HasNoPlace y.table.config (object_for taken) (taken.seen ++ at.before)) (taken_is m.took)
+      (m.seeks.room at.before at.event x.behind (seen_by m.seeks.on.does ∙ ap (λ (l : List Event). taken.seen ++ l) x.is
       ∙ sym (append_assoc taken.seen at.before (at.event ∷ x.behind))) (within at.event.step at.of_kind)))))
-      (λ (x : InSecond m.seeks.on.does.more m.gives.others at.before at.event at.behind).
-      absurd (lacks_at asks_room m.gives.others x.rest at.event at.behind
-      (lacks_given given asks_room (λ x h. grind arith)) x.is (within at.event.step at.of_kind)))
-      (stands m.seeks.on.does.more m.gives.others at.before at.event at.behind at.is)
+      (λ (x : InSecond m.seeks.on.does.more m.gives.others at.before at.event at.behind). absurd (lacks_at asks_room
+      m.gives.others x.rest at.event at.behind (lacks_given given asks_room (λ x h. grind arith)) x.is (within
+      at.event.step at.of_kind))) (stands m.seeks.on.does.more m.gives.others at.before at.event at.behind at.is)
 
   one_done : RunsOneCycle m.seeks.on.does.more
   one_done =
@@ -115,9 +113,8 @@ census_told {p} t quiet shows is =
       unmapped = gone_is_unmapped (now_of p).words (now_of p).seats.holding.freed quiet.free.gone;
     }) in
     is ∙ ap (λ (xs : List Page). census_among (uses_of_pages xs)) shows
-    ∙ same_census pages (unreleased_storage c (world_of p).allocations) shown
-    ∙ ap (λ (n : ℕ). census_of n (unreleased_storage c (world_of p).allocations))
-    (histories_keep_lengths c p.seen).pages
+    ∙ same_census pages (unreleased_storage c (world_of p).allocations) shown ∙ ap
+    (λ (n : ℕ). census_of n (unreleased_storage c (world_of p).allocations)) (histories_keep_lengths c p.seen).pages
 
 -- Giving the turn back leaves the allocations.
 given_allocations : {p q : PassState} → InTurn p → Makes p Step.Give q
@@ -146,29 +143,24 @@ module _ {d ty : ℕ} {p taken last done q : PassState} (m : NewGiven d ty Answe
   seen_is : q.seen ≡ full.before ++ event_of p Step.Full ∷ behind
   seen_is =
       seen_after m.gives ∙ ap (λ (l : List Event). l ++ (m.gives.others ++ event_of done Step.Give ∷ [])) full.is
-      ∙ append_assoc full.before (event_of last Step.Full ∷ full.behind)
-      (m.gives.others ++ event_of done Step.Give ∷ [])
-      ∙ ap (λ (x : PassState). full.before ++ event_of x Step.Full ∷ behind) last_is
+      ∙ append_assoc full.before (event_of last Step.Full ∷ full.behind) (m.gives.others ++ event_of done Step.Give ∷
+      []) ∙ ap (λ (x : PassState). full.before ++ event_of x Step.Full ∷ behind) last_is
 
-  pub is_answered_full : {census : Census} (flag : Bool)
-      → census ≡ census_of_allocations last.table.config (world_of last).allocations
-      → IsAnsweredFull flag p (Op.New d ty false) census q
+  pub is_answered_full : {census : Census} (flag : Bool) → census ≡ census_of_allocations last.table.config
+      (world_of last).allocations → IsAnsweredFull flag p (Op.New d ty false) census q
   is_answered_full flag told = record {
     called = new_called m flag;
     before = full.before;
     behind = behind;
     is = seen_is;
-    full = fulls_fit_nowhere p.table.config q.seen
-        (subst (λ (x : PassState). IsHistory x.table.config q.seen) q_is m.gives.pass.history) full.before
-        (event_of p Step.Full) behind seen_is refl;
+    full = fulls_fit_nowhere p.table.config q.seen (subst (λ (x : PassState). IsHistory x.table.config q.seen) q_is
+        m.gives.pass.history) full.before (event_of p Step.Full) behind seen_is refl;
     counts =
         told ∙ ap (λ (x : PassState). census_of_allocations x.table.config (world_of last).allocations) last_is
         ∙ ap (λ (xs : List PlacedAllocation). census_of_allocations p.table.config xs)
         (sym (given_allocations (given_turn (given m)) m.gives ∙ full.allocations));
     leaves =
-        leaves_then (taken_is m.took) (taking_leaves m.took.own m.took.takes)
-        (leaves_then (only_seen taken last misfits.seeks.on.does.more misfits.seeks.on.does.is)
-        (misfits.seeks.leaves refl)
-        (leaves_then (only_seen last done full.seeks.on.does.more full.seeks.on.does.is) full.leaves
-        (made_leaves m.gives refl refl)));
+        leaves_then (taken_is m.took) (taking_leaves m.took.own m.took.takes) (leaves_then (only_seen taken last
+        misfits.seeks.on.does.more misfits.seeks.on.does.is) (misfits.seeks.leaves refl) (leaves_then (only_seen last
+        done full.seeks.on.does.more full.seeks.on.does.is) full.leaves (made_leaves m.gives refl refl)));
   }

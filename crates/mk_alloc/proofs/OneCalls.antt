@@ -2,7 +2,7 @@
 -- others.
 use Rattle.std.proofs.Common.{length-append}
 use Rattle.mk_laws.proofs.Vocabulary.{calls_from, first_world, flagged, length}
-use Rattle.mk_alloc.proofs.Vocabulary.{ℕ, Answer, Bool, Config, Decided, Event, IsHistory, List, Op, PassState, ap}
+use Rattle.mk_alloc.proofs.Vocabulary.{Answer, Bool, Config, Decided, Event, IsHistory, List, Op, PassState, ℕ, ap}
 use Rattle.mk_alloc.proofs.Vocabulary.{append_assoc, arith, by_append, call_decided, caller_of_pass, calls, calls_by}
 use Rattle.mk_alloc.proofs.Vocabulary.{calls_in_parts, calls_more, earlier_part_is_history, eq-eqb, if◌then◌else◌, left}
 use Rattle.mk_alloc.proofs.Vocabulary.{own_calls, refl, subst, sym, [], ◌++◌, ◌∙◌, ◌∷◌, ◌≡◌}
@@ -34,9 +34,8 @@ pub record OneCall (p : PassState) (o : Op) (a : Answer) (more : List Event) (d 
       (calls_from p.table.config (left p.table.config (through_call d)) d.behind) ≡ []
 
 module _ {p : PassState} {o : Op} {a : Answer} {more : List Event} (once : flagged o a ≡ o)
-    (history : IsHistory p.table.config (p.seen ++ more)) (entry : own_calls p (p.seen ++ more)
-    ≡ own_calls p p.seen ++ record { caller = caller_of_pass p; op = o; answer = a } ∷ [])
-    (d : IsDecidedIn p o a more) where
+    (history : IsHistory p.table.config (p.seen ++ more)) (entry : own_calls p (p.seen ++ more) ≡ own_calls p p.seen ++
+    record { caller = caller_of_pass p; op = o; answer = a } ∷ []) (d : IsDecidedIn p o a more) where
   abbrev c : Config
   c = p.table.config
 
@@ -75,11 +74,10 @@ module _ {p : PassState} {o : Op} {a : Answer} {more : List Event} (once : flagg
 
   none : (earlier ≡ []) × (later ≡ [])
   none =
-      only_one _ earlier later x (ap (λ (l : List Decided). l ++ later) (sym (own_through ∙ ap (λ (l : List Decided).
-      (own_calls p p.seen ++ earlier) ++ l) own_one))
-      ∙ sym (by_append k (calls c (through_call d)) (calls_from c (left c (through_call d)) d.behind))
-      ∙ ap (λ (l : List Decided). calls_by k l) (sym (calls_in_parts c (through_call d) d.behind))
-      ∙ ap (λ (l : List Event). own_calls p l) (sym cut) ∙ entry)
+      only_one _ earlier later x (ap (λ (l : List Decided). l ++ later) (sym
+      (own_through ∙ ap (λ (l : List Decided). (own_calls p p.seen ++ earlier) ++ l) own_one)) ∙ sym (by_append k (calls
+      c (through_call d)) (calls_from c (left c (through_call d)) d.behind)) ∙ ap (λ (l : List Decided). calls_by k l)
+      (sym (calls_in_parts c (through_call d) d.behind)) ∙ ap (λ (l : List Event). own_calls p l) (sym cut) ∙ entry)
 
   pub one_call : OneCall p o a more d
   one_call = record {

@@ -60,19 +60,17 @@ pub others_give : (s : Seat) (seats : List Seat) (es : List Event) → Has seats
 unfolding AreOfOthers
 others_give s seats [] has others = refl
 others_give s seats (e ∷ es) has others =
-    or_from (own_give s e) (list_any (own_give s) es) (ap (λ (b : Bool). b && is_give e.step)
-    (false_from_ne_true (is_same_seat s e.seat)
-    (λ same. not_both seats e.seat others.0 (subst (λ (t : Seat). Has seats t) (same_seat s e.seat same) has))))
-    (others_give s seats es has others.1)
+    or_from (own_give s e) (list_any (own_give s) es)
+    (ap (λ (b : Bool). b && is_give e.step) (false_from_ne_true (is_same_seat s e.seat) (λ same. not_both seats e.seat
+    others.0 (subst (λ (t : Seat). Has seats t) (same_seat s e.seat same) has)))) (others_give s seats es has others.1)
 
 -- Own steps of kinds without a `give` give nothing back.
 
 abbrev pub HaveNoGive : (Step → Bool) → Type 0
 HaveNoGive kinds = (x : Step) → kinds x ≡ true → is_give x ≡ false
 
-first_gives : (kinds : Step → Bool) (b : Bool) (x : Finding) (rest : List Finding) → HaveNoGive kinds
-    → are_of kinds (if b then x ∷ rest else rest) ≡ true
-    → ((b && is_give x.event.step) ≡ false) × (are_of kinds rest ≡ true)
+first_gives : (kinds : Step → Bool) (b : Bool) (x : Finding) (rest : List Finding) → HaveNoGive kinds → are_of kinds
+    (if b then x ∷ rest else rest) ≡ true → ((b && is_give x.event.step) ≡ false) × (are_of kinds rest ≡ true)
 first_gives kinds x1 x rest none all = grind (arith, and_parts)
 
 kinds_give : (kinds : Step → Bool) (c : Config) (s : Seat) (w : World) (es : List Event) → HaveNoGive kinds
@@ -109,9 +107,8 @@ pub steps_are : (kinds : Step → Bool) → ((s : Stage) → kinds (step_at s) �
     (a : Answer) (more : List Event) → kinds (Step.Enter o) ≡ true → own_steps p more ≡ steps_made o a
     → are_of kinds (done_in p more) ≡ true
 steps_are kinds at p o a more enter steps =
-    sym (all_of_steps kinds (done_in p more)) ∙ ap (λ (l : List Step). list_all kinds l) steps
-    ∙ and_from (kinds (Step.Enter o)) (list_all kinds (map step_at (stages_made o a))) enter
-    (stages_are kinds at (stages_made o a))
+    sym (all_of_steps kinds (done_in p more)) ∙ ap (λ (l : List Step). list_all kinds l) steps ∙ and_from (kinds
+    (Step.Enter o)) (list_all kinds (map step_at (stages_made o a))) enter (stages_are kinds at (stages_made o a))
 
 -- so it gives nothing back.
 

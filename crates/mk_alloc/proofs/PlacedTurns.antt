@@ -8,13 +8,12 @@ use Rattle.mk_alloc.proofs.Vocabulary.{if◌then◌else◌, in_a_word, is_end, i
 use Rattle.mk_alloc.proofs.Vocabulary.{is_undecided_new, known_left, left, left_after, looks_left, now_of, progress}
 use Rattle.mk_alloc.proofs.Vocabulary.{refl, releases, same_config, steady_of, subst, sum_by_push, sym, true, unchanged}
 use Rattle.mk_alloc.proofs.Vocabulary.{undecided_new, world_of, [], ◌++◌, ◌+◌, ◌∙◌, ◌∷◌, ◌≡◌}
-use Rattle.mk_alloc.proofs.{Going.{none_held_kept, quiet_kept, same_phase}, Stretches.{Here, Stretch, along}}
-use Rattle.mk_alloc.proofs.{Stretches.{does_stretch, holds_none, widened}, FreedTurns.given_is_decided}
-use Rattle.mk_alloc.proofs.Parts.{Part, seen_behind}
+use Rattle.mk_alloc.proofs.{Going.{quiet_kept, same_phase}, Stretches.{Here, Stretch, along, does_stretch, holds_none}}
+use Rattle.mk_alloc.proofs.{Stretches.widened, FreedTurns.given_is_decided, Parts.{Part, seen_behind}}
 use Rattle.mk_laws.proofs.{Vocabulary.Progress, Basics.{Behind, none_on_its_way, tally_keeps}, FreshWords.fresh_pushed}
 use Rattle.mk_laws.proofs.OthersCounts.{answers_full, counts_nothing}
 use Rattle.mk_core.specs.Effects.{holding_behind}
-use Rattle.mk_cycle.{proofs.KeptInParts.{held_so}, specs.TurnKeeps.{IsGone}}
+use Rattle.mk_cycle.{proofs.{BeginSteps.none_held_kept, KeptInParts.held_so}, specs.TurnKeeps.{IsGone}}
 use Rattle.mk_objects.proofs.{JoinedLooks.looks_call, Reaching.counts_more}
 use Rattle.mk_objects.specs.{Placing.object_at_place, Unchanged.IsAsLeft}
 

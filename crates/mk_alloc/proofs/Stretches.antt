@@ -127,11 +127,10 @@ first_of {p} {kinds} {es} e rest stays own s = by (is_same_seat p.seat e.seat) r
       of_kinds = cc (at.behind, all);
     }
 
-    by : (b : Bool) → is_same_seat p.seat e.seat ≡ b
-        → are_of kinds (if b then record { event = e; found = found p.table.config (left p.table.config es).now e }
-        ∷ own_from p.table.config p.seat (world_behind p.table.config (left p.table.config es) e) rest
-        else own_from p.table.config p.seat (world_behind p.table.config (left p.table.config es) e) rest) ≡ true
-        → First p kinds es e rest
+    by : (b : Bool) → is_same_seat p.seat e.seat ≡ b → are_of kinds
+        (if b then record { event = e; found = found p.table.config (left p.table.config es).now e } ∷ own_from
+        p.table.config p.seat (world_behind p.table.config (left p.table.config es) e) rest else own_from p.table.config
+        p.seat (world_behind p.table.config (left p.table.config es) e) rest) ≡ true → First p kinds es e rest
     by true is all =
         let same : e.seat ≡ p.seat = sym (same_seat p.seat e.seat is) in
         let parts = and_parts (kinds e.step) (are_of kinds
@@ -170,9 +169,8 @@ module _ (p : PassState) (kinds : SomeKinds) (stays : AreOfTurn kinds) (own : Ha
   pub holds_behind : {es more : List Event} → Stretch p kinds es more
       → Holds p.table.config (left p.table.config (es ++ more)).now p.seat
   holds_behind {es} {more} s =
-      along (λ (l : List Event). Holds p.table.config (left p.table.config l).now p.seat)
-      (λ fs x h kind held. holds_own p fs x own h (stays x kind)) (λ fs e h ne held. holds_other p fs e h ne) es more s
-      s.holds
+      along (λ (l : List Event). Holds p.table.config (left p.table.config l).now p.seat) (λ fs x h kind held. holds_own
+      p fs x own h (stays x kind)) (λ fs e h ne held. holds_other p fs e h ne) es more s s.holds
 
 -- parts of a stretch
 

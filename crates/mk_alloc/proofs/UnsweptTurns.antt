@@ -95,9 +95,8 @@ module _ {begins : Config → Seat → List Event → List Event → Type 0} whe
   older_begun {p} {q} own phase older =
       let d = older.looks.does in
       let looking = does_begin_none begins is_look p older.looked (λ x h. grind arith) d in
-      ⊎_elim
-      (λ (none : IsAtPhase p 0). subst (λ (x : PassState). EachIsBegun begins p x) (sym (older.none none)) looking)
-      (λ (on : IsAtPhase p 1). part_then_begun d looking
+      ⊎_elim (λ (none : IsAtPhase p 0). subst (λ (x : PassState). EachIsBegun begins p x)
+      (sym (older.none none)) looking) (λ (on : IsAtPhase p 1). part_then_begun d looking
       (finish_begins_none begins older.looked q (has_then is_look p older.looked d own) (older.on on))) phase
 
   -- the parts of a Free that aren't of cycles

@@ -41,9 +41,9 @@ pub use Rattle.mk_cycle.specs.Kinds.{closes_marks, holds_gates, is_giving_back, 
 pub use Rattle.mk_cycle.specs.TurnKeeps.{Done, InTurn, KeepsGates, LeavesTurn, unchanged}
 pub use Rattle.mk_waiting.specs.Taking.{TakesTurn, is_take, waits_for}
 pub use Rattle.mk_objects.proofs.{JoinedLooks.{does_wider, looks_left}, Looks.acting_caller}
-pub use Rattle.mk_objects.{proofs.MayAct.{new_is_acting, off_four}, specs.Retired.{DecidesFree, IsDueSince}}
-pub use Rattle.mk_objects.specs.{Retiring.{is_freeing, is_loading}, Placing.{FitsNowhere, IsOutOfStop, IsPlaced}}
-pub use Rattle.mk_objects.specs.Placing.{IsUnplaced, OnlyLooks, is_look, is_placing, object_for, place_now_for}
+pub use Rattle.mk_objects.{proofs.MayAct.{new_is_acting, off_four}, specs.Placing.{object_for, place_now_for}}
+pub use Rattle.mk_objects.specs.{Retired.{DecidesFree, IsDueSince}, Retiring.{is_freeing, is_loading}}
+pub use Rattle.mk_objects.specs.Placing.{FitsNowhere, IsOutOfStop, IsPlaced, IsUnplaced, OnlyLooks, is_look, is_placing}
 pub use Rattle.mk_alloc.specs.{DueCycles.{EndsOlder, RunsIfDue}, Leaving.OwnLeaveAllButReleased}
 pub use Rattle.mk_alloc.specs.Rooms.{AnswersFull, AsksRoom, BeginsNone, GrantsNone, Misfits, RunsOne, Seeks, asks_room}
 pub use Rattle.mk_alloc.specs.TurnCalls.{CalledInTurn, FreesObject, IsAnsweredDouble, IsAnsweredFull}

@@ -3,9 +3,9 @@ ghost use Rattle.std.specs.Prelude.{◌≡◌, ◌<◌, ◌∷◌, [], OnOk, IfE
 ghost use Rattle.mk_caller.specs.States.{caller_of_pass};
 ghost use Rattle.mk_turns.specs.Sweeping.{SweepsNothing};
 ghost use Rattle.mk_cycle.specs.Begun.{EachIsBegun};
-ghost use Rattle.mk_objects.specs.Placing.{IsUnplaced, Requests, place_now_for};
-ghost use Rattle.mk_alloc.specs.Rooms.{CountsFull, RunsOne, Seeks, answer_with};
-ghost use Rattle.mk_alloc.specs.{TurnCalls.{CalledInTurn, IsAnsweredFull}, Underway.IsQuiet};
+ghost use Rattle.mk_objects.specs.Placing.{place_now_for};
+ghost use Rattle.mk_alloc.specs.Rooms.{CountsFull, RunsOne, Seeks, SeeksRoom, answer_with};
+ghost use Rattle.mk_alloc.specs.TurnCalls.{CalledInTurn, IsAnsweredFull};
 ghost use Rattle.mk_never.specs.declared.operations.Op.TheVariants as op;
 ghost use Rattle.mk_core.specs.declared.events.Answer.TheVariants as answer;
 
@@ -39,12 +39,9 @@ fn make_room_or_count<E: Engine, R: Threads + Wait + Sync>(
     request: Request,
     engine: &mut E,
 ) -> (Turn, Option<Census>)
-    requires one_table { turn.pass.table ≡ words.now }
-    requires requested { Requests turn.pass request }
-    requires made_for { E.made_for engine.old ≡ words.now.config.pages }
-    requires quiet { IsQuiet turn.pass }
-    requires unplaced { IsUnplaced turn.pass }
+    requires seeks { SeeksRoom words.now turn.pass request }
     requires nowhere { place_now_for turn.pass ≡ None }
+    requires made_for { E.made_for engine.old ≡ words.now.config.pages }
     ensures made_for { E.made_for engine.new ≡ E.made_for engine.old }
     ensures seeks { Seeks (Some (answer_with result.1)) turn.pass result.0.pass }
     ensures full { IfSome result.1 (CountsFull turn.pass result.0.pass) }

@@ -4,9 +4,9 @@ ghost use Rattle.mk_words.specs.States.{now_of};
 ghost use Rattle.mk_turns.specs.Sweeping.{SweepsNothing};
 ghost use Rattle.mk_cycle.specs.{Begun.EachIsBegun, EngineLaw.IsAtPhase};
 ghost use Rattle.mk_core.specs.Effects.{cycle_ended};
-ghost use Rattle.mk_objects.specs.Placing.{IsUnplaced, OnlyLooks, Requests, place_now_for};
+ghost use Rattle.mk_objects.specs.Placing.{OnlyLooks, place_now_for};
 ghost use Rattle.mk_alloc.specs.Rooms.{BeginsNone, EndsOnly, Misfits, MisfitsAtLast, MisfitsIdly, RunsOne, Seeks};
-ghost use Rattle.mk_alloc.specs.Underway.{IsQuiet};
+ghost use Rattle.mk_alloc.specs.Rooms.{SeeksRoom};
 ghost use Rattle.mk_core.specs.declared.events.Answer.TheVariants as answer;
 
 use crate::turns::is_cycle_on;
@@ -19,17 +19,13 @@ use std::thread::Threads;
 /// Grants the object where it fits.
 #[inline(always)]
 pub(crate) fn try_place(words: &Words, turn: &mut Turn, request: Request) -> bool
-    requires one_table { turn.old.pass.table ≡ words.now }
-    requires requested { Requests turn.old.pass request }
-    requires quiet { IsQuiet turn.old.pass }
-    requires unplaced { IsUnplaced turn.old.pass }
+    requires { SeeksRoom words.now turn.old.pass request }
     ensures placed { result ≡ true → Seeks (Some answer.Done) turn.old.pass turn.new.pass }
     ensures misfits { result ≡ false → Misfits turn.old.pass turn.new.pass }
     ensures looks { result ≡ false → OnlyLooks turn.old.pass turn.new.pass }
     ensures begins { BeginsNone turn.old.pass turn.new.pass }
     ensures reached { SweepsNothing turn.old.pass turn.new.pass }
 {
-    turn.is_in_order();
     let placed = place_object(words, turn, request);
     turn.is_in_order();
     placed
@@ -45,12 +41,9 @@ fn finish_and_place<E: Engine, R: Threads + Wait + Sync>(
     request: Request,
     engine: &mut E,
 ) -> (Turn, bool)
-    requires one_table { turn.pass.table ≡ words.now }
-    requires requested { Requests turn.pass request }
-    requires made_for { E.made_for engine.old ≡ words.now.config.pages }
-    requires quiet { IsQuiet turn.pass }
-    requires unplaced { IsUnplaced turn.pass }
+    requires seeks { SeeksRoom words.now turn.pass request }
     requires nowhere { place_now_for turn.pass ≡ None }
+    requires made_for { E.made_for engine.old ≡ words.now.config.pages }
     requires on { IsAtPhase turn.pass 1 }
     ensures made_for { E.made_for engine.new ≡ E.made_for engine.old }
     ensures placed { result.1 ≡ true → Seeks (Some answer.Done) turn.pass result.0.pass }
@@ -60,7 +53,6 @@ fn finish_and_place<E: Engine, R: Threads + Wait + Sync>(
     ensures ends { EndsOnly turn.pass result.0.pass }
     ensures reached { E.sweeps ≡ false → SweepsNothing turn.pass result.0.pass }
 {
-    turn.is_in_order();
     let (mut turn, _) = finish_cycle(rt, words, turn, engine);
     turn.is_in_order();
     let placed = try_place(words, &mut turn, request);
@@ -75,12 +67,9 @@ fn place_behind_older<E: Engine, R: Threads + Wait + Sync>(
     request: Request,
     engine: &mut E,
 ) -> (Turn, bool)
-    requires one_table { turn.pass.table ≡ words.now }
-    requires requested { Requests turn.pass request }
-    requires made_for { E.made_for engine.old ≡ words.now.config.pages }
-    requires quiet { IsQuiet turn.pass }
-    requires unplaced { IsUnplaced turn.pass }
+    requires seeks { SeeksRoom words.now turn.pass request }
     requires nowhere { place_now_for turn.pass ≡ None }
+    requires made_for { E.made_for engine.old ≡ words.now.config.pages }
     ensures made_for { E.made_for engine.new ≡ E.made_for engine.old }
     ensures placed { result.1 ≡ true → Seeks (Some answer.Done) turn.pass result.0.pass }
     ensures misfits { result.1 ≡ false → MisfitsIdly turn.pass result.0.pass }
@@ -88,7 +77,6 @@ fn place_behind_older<E: Engine, R: Threads + Wait + Sync>(
     ensures reached { E.sweeps ≡ false → SweepsNothing turn.pass result.0.pass }
 {
     let mut turn = turn;
-    turn.is_in_order();
     let is_on = is_cycle_on(words, &mut turn);
     turn.is_in_order();
     if !is_on {
@@ -107,12 +95,9 @@ fn place_behind_cycle<E: Engine, R: Threads + Wait + Sync>(
     request: Request,
     engine: &mut E,
 ) -> (Turn, bool)
-    requires one_table { turn.pass.table ≡ words.now }
-    requires requested { Requests turn.pass request }
-    requires made_for { E.made_for engine.old ≡ words.now.config.pages }
-    requires quiet { IsQuiet turn.pass }
-    requires unplaced { IsUnplaced turn.pass }
+    requires seeks { SeeksRoom words.now turn.pass request }
     requires nowhere { place_now_for turn.pass ≡ None }
+    requires made_for { E.made_for engine.old ≡ words.now.config.pages }
     requires idle { IsAtPhase turn.pass 0 }
     ensures made_for { E.made_for engine.new ≡ E.made_for engine.old }
     ensures placed { result.1 ≡ true → Seeks (Some answer.Done) turn.pass result.0.pass }
@@ -122,7 +107,6 @@ fn place_behind_cycle<E: Engine, R: Threads + Wait + Sync>(
     ensures begun { EachIsBegun E.begins turn.pass result.0.pass }
 {
     let mut turn = turn;
-    turn.is_in_order();
     begin_cycle(rt, words, &mut turn, engine);
     turn.is_in_order();
     finish_and_place(rt, words, turn, request, engine)
@@ -139,12 +123,9 @@ pub(crate) fn make_room<E: Engine, R: Threads + Wait + Sync>(
     request: Request,
     engine: &mut E,
 ) -> (Turn, bool)
-    requires one_table { turn.pass.table ≡ words.now }
-    requires requested { Requests turn.pass request }
-    requires made_for { E.made_for engine.old ≡ words.now.config.pages }
-    requires quiet { IsQuiet turn.pass }
-    requires unplaced { IsUnplaced turn.pass }
+    requires seeks { SeeksRoom words.now turn.pass request }
     requires nowhere { place_now_for turn.pass ≡ None }
+    requires made_for { E.made_for engine.old ≡ words.now.config.pages }
     ensures made_for { E.made_for engine.new ≡ E.made_for engine.old }
     ensures placed { result.1 ≡ true → Seeks (Some answer.Done) turn.pass result.0.pass }
     ensures misfits { result.1 ≡ false → MisfitsAtLast turn.pass result.0.pass }

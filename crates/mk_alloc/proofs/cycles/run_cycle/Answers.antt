@@ -1,6 +1,6 @@
 use Rattle.mk_alloc.proofs.Vocabulary.{EachIsBegun, Has, PassState, begun_then, finish_begins_none, own_before, subst}
-use Rattle.mk_alloc.proofs.{Vocabulary.{sweeps_then, ◌≡◌}, UnsweptTurns.{older_begun, older_same}}
-use Rattle.mk_alloc.proofs.cycles.run_cycle.Goals.{After-begin_cycle}
+use Rattle.mk_alloc.proofs.Vocabulary.{sweeps_then, ◌≡◌}
+use Rattle.mk_alloc.proofs.{UnsweptTurns.older_begun, UnsweptTurns.older_same, cycles.run_cycle.Goals.After-begin_cycle}
 use Rattle.mk_cycle.proofs.Begun.{has_on}
 use Rattle.mk_alloc.proofs.cycles.run_cycle.Goals as goal
 
@@ -32,10 +32,9 @@ returns-else-keeps_on-clause-reached g c =
     let x = goal.at.returns-else-keeps_on-clause-reached g c in
     let from = c.finish_older-turn.result.pass in
     let ended = c.finish_cycle-turn.result.0.pass in
-    λ none.
-    sweeps_then c.args.turn.pass from ended (idle g x.After-begin_cycle) (c.finish_older-turn.ensures.reached none)
-    (sweeps_then from c.begin_cycle.new.turn.pass ended c.begin_cycle.ensures.law.pass
-    (c.begin_cycle.ensures.reached none) (c.finish_cycle-turn.ensures.reached none))
+    λ none. sweeps_then c.args.turn.pass from ended (idle g x.After-begin_cycle)
+    (c.finish_older-turn.ensures.reached none) (sweeps_then from c.begin_cycle.new.turn.pass ended
+    c.begin_cycle.ensures.law.pass (c.begin_cycle.ensures.reached none) (c.finish_cycle-turn.ensures.reached none))
 
 pub returns-then-keeps_on-clause-begun : goal.returns-then-keeps_on-clause-begun
 returns-then-keeps_on-clause-begun g c =

@@ -20,9 +20,8 @@ retire_object-requires-clause-unloaded g c κs within =
 
 -- The object was freed: the turn goes on to the end of a cycle that is due.
 frees : (g : _) (c : After-is_in_order-in-Ok g)
-    → Taken (Op.Free c.args.p) c.args.caller.now.pass c.take-turn.result.pass
-    → Frees g.E.Engine.on c.in-Ok.freed.due c.args.p c.args.caller.now.pass c.take-turn.result.pass
-    c.retire_object.new.turn.pass c.run_if_due-turn.result.pass
+    → Taken (Op.Free c.args.p) c.args.caller.now.pass c.take-turn.result.pass → Frees g.E.Engine.on c.in-Ok.freed.due
+    c.args.p c.args.caller.now.pass c.take-turn.result.pass c.retire_object.new.turn.pass c.run_if_due-turn.result.pass
 frees g c took =
     let i = c.is_in_order.ensures in
     let j = c.is_in_order-in-Ok.ensures in
@@ -56,9 +55,8 @@ pub back-requires-clause-one_table : goal.back-requires-clause-one_table
 back-requires-clause-one_table g c =
     let x = goal.at.back-requires-clause-one_table g c in
     let took = took g x.After-take-turn in
-    ap (λ (x : PassState). x.table) c.give.ensures.gives.is
-    ∙ ap (λ (x : PassState). x.table) (freed (frees g x.After-is_in_order-in-Ok took)).does.is
-    ∙ ap (λ (x : PassState). x.table) (taken_is took)
+    ap (λ (x : PassState). x.table) c.give.ensures.gives.is ∙ ap (λ (x : PassState). x.table)
+    (freed (frees g x.After-is_in_order-in-Ok took)).does.is ∙ ap (λ (x : PassState). x.table) (taken_is took)
     ∙ sym (ap (λ (x : CallerState). x.pass.table) c.lend-home.ensures.lent)
 
 pub returns-in-Ok-clause-freed : goal.returns-in-Ok-clause-freed

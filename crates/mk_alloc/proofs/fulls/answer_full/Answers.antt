@@ -11,9 +11,8 @@ full-requires-clause-enabled c =
     let look = c.look-count.ensures in
     let tallies = c.tally.ensures in
     full_allowed (in_turn_after tallies refl) (tallied_unplaced quiet u look.acts look.finds tallies)
-    (tallied_idle quiet u look.acts look.finds tallies c.requires.idle)
-    (tallied_ended quiet u look.acts look.finds tallies c.requires.ended)
-    (tallied_nowhere quiet u look.acts look.finds tallies c.requires.nowhere)
+    (tallied_idle quiet u look.acts look.finds tallies c.requires.idle) (tallied_ended quiet u look.acts look.finds
+    tallies c.requires.ended) (tallied_nowhere quiet u look.acts look.finds tallies c.requires.nowhere)
 
 pub full-requires-clause-admitted : goal.full-requires-clause-admitted
 full-requires-clause-admitted c =

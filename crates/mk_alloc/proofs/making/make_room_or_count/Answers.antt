@@ -1,5 +1,5 @@
-use Rattle.mk_alloc.proofs.{UnsweptTurns.{none_begun, part_then_begun, part_then_sweeps}, OneCycles.one_then_none}
-use Rattle.mk_alloc.proofs.SeekingTurns.{seeks_then}
+use Rattle.mk_alloc.proofs.UnsweptTurns.{none_begun, part_then_begun, part_then_sweeps}
+use Rattle.mk_alloc.proofs.{OneCycles.one_then_none, SeekingTurns.seeks_then}
 use Rattle.mk_alloc.proofs.making.make_room_or_count.Goals as goal
 
 -- The object is placed, or it isn't.

@@ -1,14 +1,14 @@
 use Rattle.std.proofs.Common.{IfSome}
 use Rattle.mk_alloc.proofs.Vocabulary.{Answer, Bool, CalledInTurn, CallerState, EachIsBegun, Flight, IsAnsweredFull}
-use Rattle.mk_alloc.proofs.Vocabulary.{Misfits, Op, Option, PassState, SweepsNothing, ℕ, ap, false, refl, subst, sym}
-use Rattle.mk_alloc.proofs.{Vocabulary.◌≡◌, NewTurns.{NewGiven, census_told, given, is_answered_full, last_turn}}
-use Rattle.mk_alloc.proofs.{NewTurns.new_called, SeekingTurns.{misfits_then, requests_then, seeks_then}}
+use Rattle.mk_alloc.proofs.Vocabulary.{Misfits, Op, Option, PassState, SweepsNothing, ℕ, ap, arith, false, refl, subst}
+use Rattle.mk_alloc.proofs.{Vocabulary.{sym, ◌≡◌}, NewTurns.{NewGiven, begun_quiet, begun_unplaced, census_told, given}}
+use Rattle.mk_alloc.proofs.NewTurns.{is_answered_full, last_turn, new_called}
+use Rattle.mk_alloc.proofs.SeekingTurns.{misfit_seeks, misfits_then, seeks_then}
 use Rattle.mk_alloc.proofs.UnsweptTurns.{none_begun, part_then_begun, part_then_sweeps, turn_begun, turn_sweeps}
 use Rattle.mk_alloc.proofs.making.new_object.Goals.{After-give, After-give-2, After-take-turn}
-use Rattle.mk_alloc.proofs.{CalledTurns.{Taken, took_by}, OneCycles.{none_runs_one, none_then_one}}
+use Rattle.mk_alloc.proofs.{CalledTurns.{Taken, taken_turn, took_by}, OneCycles.{none_runs_one, none_then_one}}
 use Rattle.mk_geom.specs.declared.pages.Census.{Census}
-use Rattle.mk_alloc.specs.Rooms.{CountsFull, answer_with}
-use Rattle.mk_objects.specs.Placing.{Requests}
+use Rattle.mk_alloc.specs.Rooms.{CountsFull, SeeksRoom, answer_with}
 use Rattle.mk_alloc.proofs.making.new_object.Goals as goal
 
 -- the turn of the call, as it was taken
@@ -17,23 +17,28 @@ took : (g : _) (c : After-take-turn g)
 took g c = took_by c.lend-home.ensures.pass c.is_idle.ensures.idle c.is_idle.ensures.own c.take-turn.ensures.takes
 
 -- and what it requests
-requested : (g : _) (c : After-take-turn g)
-    → Requests c.take-turn.result.pass (record { register = c.args.d; ty = c.args.ty })
-requested g c = record { full = false; op = ap (λ (f : Flight). f.op) c.take-turn.ensures.begins.fresh.call }
+sought : (g : _) (c : After-take-turn g)
+    → SeeksRoom c.words-words.result.now c.take-turn.result.pass (record { register = c.args.d; ty = c.args.ty })
+sought g c = record {
+  one_table = grind arith;
+  turn = taken_turn (took g c);
+  requested = record { full = false; op = ap (λ (f : Flight). f.op) c.take-turn.ensures.begins.fresh.call };
+  quiet = begun_quiet c.take-turn.ensures.begins;
+  unplaced = begun_unplaced c.take-turn.ensures.begins;
+}
 
-pub try_place-requires-clause-requested : goal.try_place-requires-clause-requested
-try_place-requires-clause-requested g c = requested g (goal.at.try_place-requires-clause-requested g c).After-take-turn
+pub try_place-requires : goal.try_place-requires
+try_place-requires g c = sought g (goal.at.try_place-requires g c).After-take-turn
 
-pub make_room_or_count-turn-requires-clause-requested : goal.make_room_or_count-turn-requires-clause-requested
-make_room_or_count-turn-requires-clause-requested g c κs within =
-    let x = goal.at.make_room_or_count-turn-requires-clause-requested g c in
-    requests_then (requested g x.After-take-turn) (c.try_place.ensures.misfits c.if-try_place.false).seeks
+pub make_room_or_count-turn-requires-clause-seeks : goal.make_room_or_count-turn-requires-clause-seeks
+make_room_or_count-turn-requires-clause-seeks g c κs within =
+    misfit_seeks (sought g (goal.at.make_room_or_count-turn-requires-clause-seeks g c).After-take-turn)
+    (c.try_place.ensures.misfits c.if-try_place.false)
 
 -- The object is placed at once,
-at_once : (g : _) (c : After-give g) → Taken (Op.New c.args.d c.args.ty false) c.args.caller.now.pass
-    c.take-turn.result.pass
-    → NewGiven c.args.d c.args.ty Answer.Done c.args.caller.now.pass c.take-turn.result.pass c.try_place.new.turn.pass
-    c.give.result
+at_once : (g : _) (c : After-give g)
+    → Taken (Op.New c.args.d c.args.ty false) c.args.caller.now.pass c.take-turn.result.pass → NewGiven c.args.d
+    c.args.ty Answer.Done c.args.caller.now.pass c.take-turn.result.pass c.try_place.new.turn.pass c.give.result
 at_once g c took = record {
   took = took;
   begins = c.take-turn.ensures.begins;
@@ -65,9 +70,8 @@ returns-then-try_place-clause-begun g c =
 
 -- or it isn't, and room is made, or the answer is Full.
 later : (g : _) (c : After-give-2 g) → Taken (Op.New c.args.d c.args.ty false) c.args.caller.now.pass
-    c.take-turn.result.pass
-    → NewGiven c.args.d c.args.ty (answer_with c.make_room_or_count-turn.result.1) c.args.caller.now.pass
-    c.take-turn.result.pass c.make_room_or_count-turn.result.0.pass c.give-2.result
+    c.take-turn.result.pass → NewGiven c.args.d c.args.ty (answer_with c.make_room_or_count-turn.result.1)
+    c.args.caller.now.pass c.take-turn.result.pass c.make_room_or_count-turn.result.0.pass c.give-2.result
 later g c took = record {
   took = took;
   begins = c.take-turn.ensures.begins;
@@ -81,17 +85,15 @@ later g c took = record {
 later_sweeps : (g : _) (c : After-give-2 g) → Taken (Op.New c.args.d c.args.ty false) c.args.caller.now.pass
     c.take-turn.result.pass → g.E.Engine.sweeps ≡ false → SweepsNothing c.args.caller.now.pass c.give-2.result
 later_sweeps g c took none =
-    turn_sweeps (given (later g c took))
-    (part_then_sweeps (c.try_place.ensures.misfits c.if-try_place.false).seeks.on.does c.try_place.ensures.reached
-    (c.make_room_or_count-turn.ensures.reached none))
+    turn_sweeps (given (later g c took)) (part_then_sweeps (c.try_place.ensures.misfits
+    c.if-try_place.false).seeks.on.does c.try_place.ensures.reached (c.make_room_or_count-turn.ensures.reached none))
 
 -- and after each begin the engine does its part.
 later_begun : (g : _) (c : After-give-2 g) → Taken (Op.New c.args.d c.args.ty false) c.args.caller.now.pass
     c.take-turn.result.pass → EachIsBegun g.E.Engine.begins c.args.caller.now.pass c.give-2.result
 later_begun g c took =
-    turn_begun (given (later g c took))
-    (part_then_begun (c.try_place.ensures.misfits c.if-try_place.false).seeks.on.does
-    (none_begun c.try_place.ensures.begins) c.make_room_or_count-turn.ensures.begun)
+    turn_begun (given (later g c took)) (part_then_begun (c.try_place.ensures.misfits
+    c.if-try_place.false).seeks.on.does (none_begun c.try_place.ensures.begins) c.make_room_or_count-turn.ensures.begun)
 
 pub returns-in-None-clause-made : goal.returns-in-None-clause-made
 returns-in-None-clause-made g c =

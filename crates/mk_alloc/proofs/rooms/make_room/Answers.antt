@@ -1,11 +1,11 @@
-use Rattle.mk_alloc.proofs.SeekingTurns.{misfits_then, requests_then, seeks_then}
+use Rattle.mk_alloc.proofs.SeekingTurns.{misfit_seeks, misfits_then, seeks_then}
 use Rattle.mk_alloc.proofs.UnsweptTurns.{none_begun, part_then_begun, part_then_sweeps}
 use Rattle.mk_alloc.proofs.OneCycles.{none_runs_one, none_then_one}
 use Rattle.mk_alloc.proofs.rooms.make_room.Goals as goal
 
-pub place_behind_cycle-requires-clause-requested : goal.place_behind_cycle-requires-clause-requested
-place_behind_cycle-requires-clause-requested g c κs within =
-    requests_then c.requires.requested (c.place_behind_older-turn.ensures.misfits c.if-placed.false).misfits.seeks
+pub place_behind_cycle-requires-clause-seeks : goal.place_behind_cycle-requires-clause-seeks
+place_behind_cycle-requires-clause-seeks g c κs within =
+    misfit_seeks c.requires.seeks (c.place_behind_older-turn.ensures.misfits c.if-placed.false).misfits
 
 pub returns-clause-placed : goal.returns-clause-placed
 returns-clause-placed g c =
