@@ -1,7 +1,7 @@
 -- The operations of a well-typed program's scripts are admitted.
 use Rattle.std.proofs.{lemmas.List.Elements.{All-head, All-nil, All-push, All-tail}, Common.{eq-eqb, eqb-true, ◌≢◌}}
 use Rattle.std.proofs.lemmas.List.{get_or-replicate}
-use Rattle.mk_check.proofs.Vocabulary.{All, Answer, Blocks, Bool, Done, Fed, HasFew, IfSome, IsOfKind, Item, Line, List}
+use Rattle.mk_check.proofs.Vocabulary.{All, Answer, Blocks, Bool, Fed, HasFew, IfSome, IsOfKind, Item, Line, List}
 use Rattle.mk_check.proofs.Vocabulary.{NeverState, None, Op, Option, Scope, Some, Value, ℕ, ap, append-nil, arith}
 use Rattle.mk_check.proofs.Vocabulary.{blocks_from, false, false≢true, fed_before_answers, fed_before_lines, feed}
 use Rattle.mk_check.proofs.Vocabulary.{flagged, globals_of, if◌then◌else◌, length, length-replicate, next_op, note}
@@ -84,37 +84,35 @@ module _ (program script : List Item) (few : HasFew (scope_of program script)) w
   takes_asked [] fed placed before = before
   takes_asked (a ∷ answers) fed placed before =
       let scope = scope_of program script in
-      takes_asked answers (take_answer scope fed fed.left a)
-      (AllPlaced-take_answers (λ l. Says program script) scope (a ∷ []) fed placed)
-      (take_asked fed fed.left a placed before)
+      takes_asked answers (take_answer scope fed fed.left a) (AllPlaced-take_answers (λ l. Says program script) scope
+      (a ∷ []) fed placed) (take_asked fed fed.left a placed before)
 
   -- An operation that is asked for is admitted, and leaves the registers as declared.
 
-  asked_admitted : (n : NeverState) (caller : ℕ) → FitsScript program script n caller → (o : Op) → Asked o
+  asked_admitted : {n : NeverState} {caller : ℕ} → FitsScript program script n caller → (o : Op) → Asked o
       → IsAdmitted (globals_of program) n caller o
-  asked_admitted n caller fits o asked =
-      subst (λ (x : Op). IsAdmitted (globals_of program) n caller x) (sym asked.noted_so)
-      (of_some (op_of (scope_of program script) asked.fed asked.item) (λ x. (a : Answer)
-      → IsAdmitted (globals_of program) n caller (flagged x a)) asked.asked asked.is
-      (admitted program script few n caller fits asked.fed asked.item asked.says) asked.answer)
+  asked_admitted {n} {caller} fits o asked =
+      subst (λ (x : Op). IsAdmitted (globals_of program) n caller x) (sym asked.noted_so) (of_some
+      (op_of (scope_of program script) asked.fed asked.item) (λ x. (a : Answer) → IsAdmitted (globals_of program) n
+      caller (flagged x a)) asked.asked asked.is (admitted few fits asked.fed asked.item asked.says) asked.answer)
 
-  own_keeps : (n : NeverState) (caller : ℕ) → FitsScript program script n caller → (o : Op) → Asked o
+  own_keeps : {n : NeverState} {caller : ℕ} → FitsScript program script n caller → (o : Op) → Asked o
       → AreAsDeclared program script (after_op n caller o) caller
-  own_keeps n caller fits o asked =
+  own_keeps {n} {caller} fits o asked =
       subst (λ (x : Op). AreAsDeclared program script (after_op n caller x) caller) (sym asked.noted_so)
       (of_some (op_of (scope_of program script) asked.fed asked.item) (λ x. (a : Answer)
       → AreAsDeclared program script (after_op n caller (flagged x a)) caller) asked.asked asked.is
-      (line_keeps program script few n caller fits asked.fed asked.item asked.says) asked.answer)
+      (line_keeps few fits asked.fed asked.item asked.says) asked.answer)
 
   others_keep : (n : NeverState) (caller : ℕ) → AreAsDeclared program script n caller → (m : NeverState)
       → KeepsRegisters caller n m → AreAsDeclared program script m caller
   others_keep n caller before m same = grind (arith, pointer_within, kind_at)
 
   -- a call that is admitted, and is asked for by the script where it is the caller's
-  call_fits : (n : NeverState) (caller : ℕ) → FitsScript program script n caller → (x : Call)
+  call_fits : {n : NeverState} {caller : ℕ} → FitsScript program script n caller → (x : Call)
       → IsAdmitted (globals_of program) n x.caller x.op
       → (x.caller ≡ caller → Asked x.op) → FitsScript program script (after_op n x.caller x.op) caller
-  call_fits n caller fits x admits asked =
+  call_fits {n} {caller} fits x admits asked =
       let goes_on : Continues n (after_op n x.caller x.op) = op_stays n x.caller x.op in
       let own : x.caller ≡ caller → AreAsDeclared program script (after_op n x.caller x.op) caller =
       grind (arith, own_keeps) in
@@ -131,13 +129,13 @@ module _ (program script : List Item) (few : HasFew (scope_of program script)) w
         declared = by_caller x.caller caller own other;
       }
 
-  calls_fit : (n : NeverState) (caller : ℕ) (calls : List Call) → FitsScript program script n caller
+  calls_fit : {n : NeverState} {caller : ℕ} (calls : List Call) → FitsScript program script n caller
       → AreAdmitted (globals_of program) n calls
       → All Asked (ops_of_caller caller calls) → FitsScript program script (after_calls n calls) caller
-  calls_fit n caller [] fits admits asked = fits
-  calls_fit n caller (x ∷ xs) fits admits asked =
+  calls_fit [] fits admits asked = fits
+  calls_fit {n} {caller} (x ∷ xs) fits admits asked =
       let parts = split_ops Asked caller x xs asked in
-      calls_fit (after_op n x.caller x.op) caller xs (call_fits n caller fits x admits.0 parts.0) admits.1 parts.1
+      calls_fit {n = after_op n x.caller x.op} xs (call_fits fits x admits.0 parts.0) admits.1 parts.1
 
   -- all registers are null at the start
   start_fits : (callers k : ℕ) → k < callers → FitsScript program script (heap_of program callers) k
@@ -177,9 +175,8 @@ ops_push caller (y ∷ calls) x = by_test (y.caller == caller) (ops_push caller 
   where
     by_test : (same : Bool)
         → ops_of_caller caller (calls ++ x ∷ []) ≡ ops_of_caller caller calls ++ ops_of_caller caller (x ∷ [])
-        → (if same then y.op ∷ ops_of_caller caller (calls ++ x ∷ []) else ops_of_caller caller (calls ++ x ∷ []))
-        ≡ (if same then y.op ∷ ops_of_caller caller calls else ops_of_caller caller calls)
-        ++ ops_of_caller caller (x ∷ [])
+        → (if same then y.op ∷ ops_of_caller caller (calls ++ x ∷ []) else ops_of_caller caller (calls ++ x ∷ [])) ≡ (if
+        same then y.op ∷ ops_of_caller caller calls else ops_of_caller caller calls) ++ ops_of_caller caller (x ∷ [])
     by_test x0 e = grind arith
 
 own_op : (caller : ℕ) (o : Op) → ops_of_caller caller (record { caller = caller; op = o } ∷ []) ≡ o ∷ []
@@ -196,22 +193,21 @@ pub others_are_ignored : (program : List Item) (k : ℕ) (answers : List Answer)
     → AreNotedBy program k answers calls → OthersAreIgnored program k answers calls
 others_are_ignored program k answers calls are call differs = grind (arith, ops_push, other_op, append-nil)
 
-feed_asked : (program : List Item) (k : ℕ) (answers : List Answer) → IsChecked program
+feed_asked : {program : List Item} (k : ℕ) (answers : List Answer) → IsChecked program
     → All (IsAsked program (lines_of program k)) (feed program k answers).ops
-feed_asked program k answers checked =
+feed_asked {program} k answers checked =
     let script = script_of program k in
     let scope = script_scope program k in
     let P = λ (line : ℕ) (item : Item). Says program script.items item in
     takes_asked program script.items (text_has_few program k checked.of_some_text) answers
-    (fed_before_answers scope script) (AllPlaced-run P scope (blocks_from script.line script.items)
-    (placed_of_script P script.line script.items (script_says program k checked.well_typed))
-    (fed_before_lines scope script))
+    (fed_before_answers scope script) (AllPlaced-run P scope (blocks_from script.line script.items) (placed_of_script P
+    script.line script.items (script_says program k checked.well_typed)) (fed_before_lines scope script))
     (subst (All (IsAsked program script.items)) (sym (started_ops program k)) (All-nil (IsAsked program script.items)))
 
 -- the caller's operations are asked for, where its script notes them
-noted_asked : (program : List Item) (k : ℕ) (answers : List Answer) (calls : List Call) → IsChecked program
+noted_asked : {program : List Item} (k : ℕ) (answers : List Answer) (calls : List Call) → IsChecked program
     → AreNotedBy program k answers calls → All (IsAsked program (lines_of program k)) (ops_of_caller k calls)
-noted_asked program k answers calls checked are = grind (arith, lines_of, feed_asked)
+noted_asked k answers calls checked are = grind (arith, lines_of, feed_asked)
 
 pub next_is_admitted : (program : List Item) (callers : ℕ) (calls : List Call) (k : ℕ) (answers : List Answer)
     → IsChecked program
@@ -221,10 +217,10 @@ next_is_admitted program callers calls k answers checked enough is_script admits
     let script = lines_of program k in
     let few = text_has_few program k checked.of_some_text in
     let is_caller : k < callers = omega arith in
-    let fits = calls_fit program script few (heap_of program callers) k calls
-    (start_fits program script few callers k is_caller) admits (noted_asked program k answers calls checked are) in
+    let fits = calls_fit program script few calls
+    (start_fits program script few callers k is_caller) admits (noted_asked k answers calls checked are) in
     let noted_too = λ (o : Op) (a : Answer) (e : next_op program k answers ≡ Some o). asked_admitted program script few
-    (after_calls (heap_of program callers) calls) k fits (flagged o a) (let at = next_placed
+    fits (flagged o a) (let at = next_placed
     (λ line. Says program (lines_of program k)) program k answers o (script_says program k checked.well_typed) e in
     record {
       item = at.item;
@@ -236,37 +232,34 @@ next_is_admitted program callers calls k answers checked enough is_script admits
       noted_so = refl;
     }) in
     record {
-      asked = λ o e. subst
-          (λ (x : Op). IsAdmitted (globals_of program) (after_calls (heap_of program callers) calls) k x)
-          (grind (arith, next_stands, flagged_asked)) (noted_too o Answer.Done e);
+      asked = λ o e. subst (λ (x : Op). IsAdmitted (globals_of program) (after_calls (heap_of program callers) calls) k
+          x) (grind (arith, next_stands, flagged_asked)) (noted_too o Answer.Done e);
       noted = noted_too;
     }
 
 -- All scripts at once.
 
-all_admitted : (program : List Item) → IsChecked program → (n : NeverState) (calls : List Call)
-    → ((k : ℕ) → IsScript program k → FitsScript program (lines_of program k) n k)
-    → All (λ call. IsScript program call.caller) calls
-    → ((k : ℕ) → IsScript program k → All (IsAsked program (lines_of program k)) (ops_of_caller k calls))
-    → AreAdmitted (globals_of program) n calls
-all_admitted program checked n [] fits callers asked = tt
-all_admitted program checked n (x ∷ xs) fits callers asked =
+all_admitted : {program : List Item} → IsChecked program → (n : NeverState) (calls : List Call)
+    → ((k : ℕ) → IsScript program k → FitsScript program (lines_of program k) n k) → All
+    (λ call. IsScript program call.caller) calls → ((k : ℕ) → IsScript program k → All
+    (IsAsked program (lines_of program k)) (ops_of_caller k calls)) → AreAdmitted (globals_of program) n calls
+all_admitted checked n [] fits callers asked = tt
+all_admitted {program} checked n (x ∷ xs) fits callers asked =
     let few = λ (k : ℕ). text_has_few program k checked.of_some_text in
     let parts = λ (k : ℕ) (is : IsScript program k). split_ops (IsAsked program (lines_of program k)) k x xs
     (asked k is) in
     let is_script = All-head (λ call. IsScript program call.caller) x xs callers in
-    let admits = asked_admitted program (lines_of program x.caller) (few x.caller) n x.caller (fits x.caller is_script)
+    let admits = asked_admitted program (lines_of program x.caller) (few x.caller) (fits x.caller is_script)
     x.op ((parts x.caller is_script).0 refl) in (
       admits,
-      all_admitted program checked (after_op n x.caller x.op) xs
-          (λ k is. call_fits program (lines_of program k) (few k) n k (fits k is) x admits (parts k is).0)
+      all_admitted checked (after_op n x.caller x.op) xs
+          (λ k is. call_fits program (lines_of program k) (few k) (fits k is) x admits (parts k is).0)
           (All-tail (λ call. IsScript program call.caller) x xs callers) (λ k is. (parts k is).1),
     )
 
 pub scripts_are_admitted : (program : List Item) (callers : ℕ) (calls : List Call) → IsChecked program
     → length (script_names program) ≤ callers → AreOfScripts program calls → AreAdmittedFor program callers calls
 scripts_are_admitted program callers calls checked enough are =
-    all_admitted program checked (heap_of program callers) calls
-    (λ k is. start_fits program (lines_of program k) (text_has_few program k checked.of_some_text) callers k
-    (omega arith)) are.callers
-    (λ k is. noted_asked program k (are.ops k is).answers calls checked (are.ops k is).are_noted)
+    all_admitted checked (heap_of program callers) calls (λ k is. start_fits program (lines_of program k)
+    (text_has_few program k checked.of_some_text) callers k (omega arith)) are.callers
+    (λ k is. noted_asked k (are.ops k is).answers calls checked (are.ops k is).are_noted)

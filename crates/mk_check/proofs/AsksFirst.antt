@@ -3,13 +3,13 @@ use Rattle.std.proofs.{lemmas.Option.{get_or_from_slice_get, slice_get-get_or}, 
 use Rattle.std.proofs.lemmas.List.{drop_all, set_split}
 use Rattle.mk_check.proofs.Vocabulary.{Bool, Frame, FrameIsWithin, FramesAreWithin, HasStopped, Instruction, List}
 use Rattle.mk_check.proofs.Vocabulary.{MovesOn, Node, None, Option, Place, PlaceIsWithin, Some, ℕ, after_line}
-use Rattle.mk_check.proofs.Vocabulary.{and_parts, ap, arith, asks_first, false, innermost, is_asking, is_print, is_some}
-use Rattle.mk_check.proofs.Vocabulary.{kept_in, length, length_push, node_at, not, op_asked, refl, slice_get}
-use Rattle.mk_check.proofs.Vocabulary.{slice_get_within, steps_at, steps_from, subst, suc, sym, take, take_all}
-use Rattle.mk_check.proofs.Vocabulary.{take_more, trees, true, with_kept, zero, [], ◌&&◌, ◌++◌, ◌+◌, ◌-◌, ◌<◌, ◌∙◌, ◌∷◌}
-use Rattle.mk_check.proofs.{Vocabulary.◌≡◌, Moves.{FramesAreWithin_pop, asks_at, end_goes_on, line_goes_on}}
-use Rattle.mk_check.{proofs.TreeNodes.{IsAt, steps_at-trees}, specs.Trees.{place_behind_block, place_in_branch}}
-use Rattle.mk_check.specs.Trees.{place_in_rounds, resumed_node, LeavesBlock, MovesToOp, node_after, node_to_go_on}
+use Rattle.mk_check.proofs.Vocabulary.{and_parts, ap, arith, asks_first, false, false≢true, innermost, is_asking}
+use Rattle.mk_check.proofs.Vocabulary.{is_print, is_some, kept_in, length, length_push, node_at, not, op_asked, refl}
+use Rattle.mk_check.proofs.Vocabulary.{slice_get, slice_get_within, steps_at, steps_from, subst, suc, sym, take}
+use Rattle.mk_check.proofs.Vocabulary.{take_all, take_more, trees, true, with_kept, zero, [], ◌&&◌, ◌++◌, ◌+◌, ◌-◌, ◌<◌}
+use Rattle.mk_check.proofs.{Vocabulary.{◌∙◌, ◌∷◌, ◌≡◌}, Moves.{FramesAreWithin_pop, asks_at, end_goes_on, line_goes_on}}
+use Rattle.mk_check.{proofs.TreeNodes.{IsAt, IsAtBlock, steps_at-trees}, specs.Trees.{resumed_node}}
+use Rattle.mk_check.specs.Trees.{LeavesBlock, MovesToOp, node_after, node_to_go_on, place_behind_block, place_in_block}
 
 pub asked_so : (numbers : List ℕ) (instruction : Instruction)
     → is_some (op_asked numbers instruction) ≡ is_asking instruction
@@ -100,9 +100,9 @@ to_go_on_within : (count : ℕ) (n : Node) (at : ℕ) (block : Option Frame) →
     → ((f : Frame) → block ≡ Some f → FrameIsWithin count f) → node_to_go_on n at block < count
 to_go_on_within count x1 at x3 h w = grind (arith, node_after_within)
 
-pub resumed_within : (nodes : List Node) (p : Place) → PlaceIsWithin (length nodes) p
+pub resumed_within : (nodes : List Node) {p : Place} → PlaceIsWithin (length nodes) p
     → resumed_node nodes p < length nodes
-resumed_within nodes p w =
+resumed_within nodes {p = p} w =
     to_go_on_within (length nodes) (node_at nodes p.at) p.at (innermost p.frames) w.at
     (λ f e. (FramesAreWithin_pop (length nodes) (take (length p.frames - 1) p.frames) f
     (subst (λ (xs : List Frame). FramesAreWithin (length nodes) xs) (split_last p.frames f e) w.frames)).1)
@@ -123,20 +123,20 @@ module _ (nodes : List Node) where
   first_done at = first_from at
 
   -- so do those of a block that begins
-
-  pub first_in_rounds : {p : Place} {rounds body next : ℕ} → IsAt nodes p (Node.Rounds rounds body next)
-      → asks_first (steps_at (trees nodes) p.at) ≡ true
-      → asks_first (steps_at (trees nodes) (place_in_rounds p rounds body next).at) ≡ true
-  first_in_rounds {rounds = zero} at first = sym (first_from at) ∙ first
-  first_in_rounds {rounds = suc more} at first = sym (first_from at) ∙ first
-
-  pub first_in_branch : {p : Place} {number first second next : ℕ}
-      → IsAt nodes p (Node.Choice number first second next) → asks_first (steps_at (trees nodes) p.at) ≡ true
-      → asks_first (steps_at (trees nodes) (place_in_branch p number first second next).at) ≡ true
-  first_in_branch {p} {number} {first} {second} at asks =
+  first_inside : {p : Place} {n : Node} → IsAtBlock nodes p n → asks_first (steps_at (trees nodes) p.at) ≡ true
+      → asks_first (steps_at (trees nodes) (place_in_block p n).at) ≡ true
+  first_inside {n = Node.Rounds zero body next} block first = sym (first_from block.at) ∙ first
+  first_inside {n = Node.Rounds (suc more) body next} block first = sym (first_from block.at) ∙ first
+  first_inside {n = Node.Choice number first second next} block asks =
       let both = and_parts (asks_first (steps_at (trees nodes) first)) (asks_first (steps_at (trees nodes) second))
-      (sym (first_from at) ∙ asks) in
+      (sym (first_from block.at) ∙ asks) in
       grind arith
+  first_inside {n = n} block first = absurd (false≢true block.begins)
+
+  pub first_in_block : {p q : Place} {n : Node} → IsAtBlock nodes p n → q ≡ place_in_block p n
+      → asks_first (steps_at (trees nodes) p.at) ≡ true → asks_first (steps_at (trees nodes) q.at) ≡ true
+  first_in_block block is first =
+      ap (λ (x : Place). asks_first (steps_at (trees nodes) x.at)) is ∙ first_inside block first
 
   pub no_print_here : {p : Place} {line : ℕ} {instruction : Instruction} {next : ℕ}
       → IsAt nodes p (Node.Line line instruction next) → is_asking instruction ≡ false
@@ -156,9 +156,9 @@ module _ (nodes : List Node) where
       → IsAt nodes p (Node.Line line instruction next) → is_asking instruction ≡ true → HasStopped nodes p p
   stops_at_op {p} {instruction} at asks = asks_at nodes at (asked_so p.numbers instruction ∙ asks)
 
-  stays_to_op : (p q : Place) → PlaceIsWithin (length nodes) p
+  stays_to_op : {p : Place} (q : Place) → PlaceIsWithin (length nodes) p
       → asks_first (steps_at (trees nodes) p.at) ≡ true → q ≡ p → MovesToOp nodes p q
-  stays_to_op p q w first same = grind arith
+  stays_to_op q w first same = grind arith
 
   -- the end of a block, after which an operation comes first
   pub left_to_op : {p : Place} (q : Place) (left : Bool) → IsAt nodes p Node.Done

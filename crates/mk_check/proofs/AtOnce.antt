@@ -32,9 +32,8 @@ pub record StopsBehind (nodes : List Node) (p : Place) (a : Answer) (t : Place) 
   pub fits : PlaceFits nodes p → PlaceFits nodes t
 
 pub stops_at_once : {nodes : List Node} {p : Place} {line : ℕ} {instruction : Instruction} {next : ℕ} (a : Answer)
-    (t : Place) → IsAt nodes p (Node.Line line instruction next) → is_silent instruction a ≡ true
-    → HasStopped nodes (with_kept (record p { at = next }) (after_answer instruction a (kept_in p))) t
-    → StopsBehind nodes p a t
+    (t : Place) → IsAt nodes p (Node.Line line instruction next) → is_silent instruction a ≡ true → HasStopped nodes
+    (with_kept (record p { at = next }) (after_answer instruction a (kept_in p))) t → StopsBehind nodes p a t
 stops_at_once {nodes} {p} {line} {instruction} {next} a t at silent stopped =
     let rest = left_in nodes (record p { at = next }) in
     record {
@@ -50,9 +49,9 @@ pub asks_so : (numbers : List ℕ) (n : Node) → asks_at n ≡ true → is_some
 asks_so numbers x1 h = grind (arith, asked_so)
 
 -- whether it took the answer or not
-pub feeds : (s : FeedState) (t : Place) (taken : Bool) → (taken ≡ true → IsFeed (record { nodes = s.nodes; place = t }))
+pub feeds : {s : FeedState} (t : Place) (taken : Bool) → (taken ≡ true → IsFeed (record { nodes = s.nodes; place = t }))
     → (taken ≡ false → t ≡ s.place) → IsFeed s → IsFeed (record { nodes = s.nodes; place = t })
-feeds s t x2 takes stays is = grind arith
+feeds t x2 takes stays is = grind arith
 
 -- A script that waits at a line, answered so.
 pub record IsAnsweredAtOnce (s : FeedState) (t : Place) (a : Answer) : Type 0 where
@@ -66,11 +65,11 @@ pub record IsAnsweredAtOnce (s : FeedState) (t : Place) (a : Answer) : Type 0 wh
 
 module _ {s : FeedState} {t : Place} {a : Answer} (is : IsAnsweredAtOnce s t a) where
   asks_here : is_some (op_asked s.place.numbers is.instruction) ≡ true
-  asks_here = cc (is.at.node, waits_for_answer s is.at.tree is.feed is.waiting)
+  asks_here = cc (is.at.node, waits_for_answer is.at.tree is.feed is.waiting)
 
   pub takes_at_once : TakesAnswer s a (record { nodes = s.nodes; place = t })
   takes_at_once program k answers st =
-      answer_stands program k answers a s (record { nodes = s.nodes; place = t }) is.line is.instruction is.next
+      answer_stands a (record { nodes = s.nodes; place = t }) is.line is.instruction is.next
       is.at.tree is.at.within is.at.node asks_here is.behind.run st
 
   pub feeds_at_once : IsFeed (record { nodes = s.nodes; place = t })
@@ -86,4 +85,4 @@ module _ {s : FeedState} {t : Place} {a : Answer} (is : IsAnsweredAtOnce s t a) 
 
   pub nearer_at_once : work_left (record { nodes = s.nodes; place = t }) < work_left s
   nearer_at_once =
-      answer_nearer s.nodes s.place t is.line is.instruction is.next a is.at.tree is.at.within is.at.node is.behind.run
+      answer_nearer s.nodes t is.line is.instruction is.next a is.at.tree is.at.within is.at.node is.behind.run

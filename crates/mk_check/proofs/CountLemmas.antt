@@ -5,8 +5,8 @@ use Rattle.mk_check.proofs.Vocabulary.{Bool, Item, List, Part, PartCount, ℕ, a
 use Rattle.mk_check.proofs.Vocabulary.{before_next_script, branch, cases_lt, counts_of, drop, drop_more, false, get_or}
 use Rattle.mk_check.proofs.Vocabulary.{get_or_at, if◌then◌else◌, is_script, length, length-append, max}
 use Rattle.mk_check.proofs.Vocabulary.{outermost_blocks, refl, reverse, suc, take, take_more, true, with_item, zero, []}
-use Rattle.mk_check.{proofs.Vocabulary.{◌*◌, ◌++◌, ◌+◌, ◌-◌, ◌<◌, ◌∙◌, ◌∷◌, ◌≡◌}, specs.Counts.{with_innermost}}
-use Rattle.mk_check.specs.{Lengths.length_of, Counts.{counts_with, innermost_count, saturated_count, with_count}}
+use Rattle.mk_check.{proofs.Vocabulary.{◌*◌, ◌++◌, ◌+◌, ◌-◌, ◌<◌, ◌∙◌, ◌∷◌, ◌≡◌}, specs.Lengths.{length_of}}
+use Rattle.mk_check.specs.Counts.{counts_with, innermost_count, saturated_count, with_count, with_innermost}
 use Rattle.mk_script.specs.{declared.items.Item.TheVariants.{Else, End, If, Repeat}, Scopes.is_instruction}
 
 saturated_count-rounds : (rounds body : ℕ)
@@ -18,9 +18,8 @@ saturated_count-repeat : (rounds body rest : ℕ) → saturated_count (1 + round
     ≡ saturated_count (saturated_count rest + saturated_count (1 + rounds * (1 + saturated_count body)))
 saturated_count-repeat rounds body rest = omega (arith, saturated_count-rounds rounds body)
 
-saturated_count-if : (first second rest : ℕ) → saturated_count (1 + max first second + rest)
-    ≡ saturated_count (saturated_count rest
-    + saturated_count (1 + max (saturated_count first) (saturated_count second)))
+saturated_count-if : (first second rest : ℕ) → saturated_count (1 + max first second + rest) ≡ saturated_count
+    (saturated_count rest + saturated_count (1 + max (saturated_count first) (saturated_count second)))
 saturated_count-if first second rest = omega arith
 
 with_lines : Part → List Part → ℕ → List PartCount
@@ -60,9 +59,12 @@ at_end : (f : PartCount → PartCount) (counts xs : List PartCount) (n : ℕ) (x
 at_end f [] xs n x is counted some read = absurd (omega (arith, length-reverse xs, ap length is))
 at_end f (count ∷ counts) xs n x is counted some read =
     let front : xs ≡ reverse counts ++ count ∷ [] = cc (reverse-reverse xs, is, reverse_onto counts count []) in
-    reverse-set_last f (reverse counts) count x xs (n - 1) front
-    (omega (arith, ap length front, length-append (reverse counts) (count ∷ []))) read
-    ∙ ap (λ rest. f count ∷ rest) (reverse-reverse counts)
+    reverse-set_last f (reverse counts) count x xs (n - 1) front (omega (
+      arith,
+      ap length front,
+      length-append
+          (reverse counts) (count ∷ []),
+    )) read ∙ ap (λ rest. f count ∷ rest) (reverse-reverse counts)
 
 -- n counts the parts
 pub reverse-set : (f : PartCount → PartCount) (xs : List PartCount) (n : ℕ) (x : PartCount) → n ≡ length xs → 0 < n

@@ -1,6 +1,6 @@
 -- A caller's call is decided once, before its last step.
 use Rattle.std.specs.List.{list_any}
-use Rattle.mk_check.proofs.Vocabulary.{Answer, Bool, Config, None, Op, Option, Some, ℕ, and_parts, arith, false, List}
+use Rattle.mk_check.proofs.Vocabulary.{Answer, Bool, Config, None, Op, Option, Some, ℕ, and_parts, arith, false}
 use Rattle.mk_check.proofs.Vocabulary.{if◌then◌else◌, not, refl, subst, sym, true, [], ◌+◌, ◌==◌, ◌∷◌, ◌≡◌}
 use Rattle.mk_geom.specs.{Headers.header_of, declared.addresses.Cell.Cell}
 use Rattle.mk_core.specs.Calls.{begun, is_same_stage, onward, progress_p, progress_q, progress_reg, refused}
@@ -34,9 +34,9 @@ pub record Goes (was : Flight) (p : Progress) : Type 0 where
 abbrev flight : Stage → Op → ℕ → ℕ → ℕ → ℕ → Flight
 flight s o q p r l = record { stage = s; op = o; q = q; p = p; r = r; loaded = l }
 
-either : (b : Bool) (f : Flight) (x y : Progress) → Goes f x → Goes f y → Goes f (if b then x else y)
-either true f x y h k = h
-either false f x y h k = k
+either : (b : Bool) {f : Flight} {x y : Progress} → Goes f x → Goes f y → Goes f (if b then x else y)
+either true h k = h
+either false h k = k
 
 still_goes : (s : Stage) (o : Op) (q p r l : ℕ) → has_stage o s ≡ true
     → Goes (flight s o q p r l) (still (flight s o q p r l))
@@ -45,8 +45,7 @@ still_goes s o q p r l h = record { stage = h; pending = omega arith }
 -- the next stage
 
 abbrev goes_on : Stage → Bool
-goes_on s =
-    not (list_any (is_same_stage s) (Stage.Idle ∷ Stage.Put ∷ Stage.Leave ∷ Stage.Turn ∷ Stage.Give ∷ []))
+goes_on s = not (list_any (is_same_stage s) (Stage.Idle ∷ Stage.Put ∷ Stage.Leave ∷ Stage.Turn ∷ Stage.Give ∷ []))
 
 -- whether the step at this stage decides, where it isn't refused
 abbrev decides : Stage → Op → ℕ
@@ -122,9 +121,8 @@ own_stage x0 o x t k h = grind (arith, not_deciding, not_holders)
 begun_goes : (o y : Op) (q p r l : ℕ) → Goes (flight Stage.Idle o q p r l) (record { flight = begun y; answer = None })
 begun_goes o x1 q p r l = grind (arith, pending)
 
-probe_goes : (o : Op) (q p r l : ℕ) (b : Bool) → has_stage o Stage.Probe ≡ true
-    → Goes (flight Stage.Probe o q p r l) (if b then refused (flight Stage.Probe o q p r l) Answer.Fault
-    else onward (flight Stage.Probe o q p r l) None)
+probe_goes : (o : Op) (q p r l : ℕ) (b : Bool) → has_stage o Stage.Probe ≡ true → Goes (flight Stage.Probe o q p r l)
+    (if b then refused (flight Stage.Probe o q p r l) Answer.Fault else onward (flight Stage.Probe o q p r l) None)
 probe_goes o q p r l b h = grind (arith, either, refused_goes, onward_goes)
 
 -- the turn's steps
@@ -164,10 +162,10 @@ pub goes : (c : Config) (m : Moment) (s : Stage) (o : Op) (q p r l found : ℕ) 
     → has_stage o s ≡ true → comes_next s o x ≡ true → ends_call x ≡ false → At c m o q p r l found x s
 goes c m s o q p r l found (Step.Enter y) h n e =
     own c m s o q p r l found (Step.Enter y) refl h n
-    (λ i. either (found == 0) _ _ _ (begun_goes o y q p r l) (still_goes Stage.Idle o q p r l i))
+    (λ i. either (found == 0) (begun_goes o y q p r l) (still_goes Stage.Idle o q p r l i))
 goes c m s o q p r l found (Step.Take (Some y)) h n e =
     own c m s o q p r l found (Step.Take (Some y)) refl h n
-    (λ i. either (found == 0) _ _ _ (begun_goes o y q p r l) (still_goes Stage.Idle o q p r l i))
+    (λ i. either (found == 0) (begun_goes o y q p r l) (still_goes Stage.Idle o q p r l i))
 goes c m s o q p r l found Step.Leave h n e = cc
 goes c m s o q p r l found Step.Give h n e = cc
 goes c m s o q p r l found Step.Reg h n e = reg_goes s o q p r l found h n

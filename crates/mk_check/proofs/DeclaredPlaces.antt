@@ -1,10 +1,14 @@
 -- What stands at the place of a declared name.
-use Rattle.mk_check.proofs.Vocabulary.{At, Bool, Item, List, Some, TypeWord, ℕ, arith, bytes_eq, bytes_eq-Decides}
-use Rattle.mk_check.proofs.Vocabulary.{false, get_or, global_names, global_type, globals_among, if◌then◌else◌, kind_of}
-use Rattle.mk_check.proofs.Vocabulary.{kinds_among, kinds_of, length, map, number_of_name, pointer_at, pointer_names}
-use Rattle.mk_check.proofs.Vocabulary.{refl, same_Some, slice_get, suc, true, type_names, type_words, [], ◌+◌, ◌<◌, ◌∷◌}
-use Rattle.mk_check.proofs.Vocabulary.{◌≡◌}
-use Rattle.mk_script.specs.declared.items.Item.TheVariants.{Global, Ptr, TypeLine}
+use Rattle.std.proofs.{lemmas.List.Elements.filter_map-append, lemmas.Option.get_or_from_slice_get}
+use Rattle.std.specs.List.{cons_option, filter_map}
+use Rattle.mk_check.proofs.Vocabulary.{At, Bool, Item, List, None, Option, Some, TypeWord, ℕ, append-nil, arith}
+use Rattle.mk_check.proofs.Vocabulary.{bytes_eq, bytes_eq-Decides, get_or, global_names, global_type, globals_among}
+use Rattle.mk_check.proofs.Vocabulary.{if◌then◌else◌, kind_of, kinds_among, kinds_of, length, length-map, map}
+use Rattle.mk_check.proofs.Vocabulary.{number_of_name, option_map, option_or, pointer_at, pointer_names, refl}
+use Rattle.mk_check.proofs.Vocabulary.{same_Some, slice_get, slice_get_within, suc, sym, type_names, type_words, []}
+use Rattle.mk_check.proofs.Vocabulary.{◌++◌, ◌+◌, ◌<◌, ◌∙◌, ◌∷◌, ◌≡◌}
+use Rattle.mk_check.specs.{Declarations.{declared_type, declared_words}, Typing.{declared_place, value_of}}
+use Rattle.mk_script.specs.{Scopes.{declared_name, names_of}, declared.sorts.Sort.Sort}
 
 -- the name at its place
 at_place : (name : List ℕ) (names : List (List ℕ)) → number_of_name name names < length names
@@ -13,9 +17,8 @@ at_place name [] h = absurd (omega arith)
 at_place name (other ∷ others) h = by_test (at_place name others) (bytes_eq name other) refl h
   where
     by_test : (number_of_name name others < length others → get_or others (number_of_name name others) [] ≡ name)
-        → (same : Bool)
-        → bytes_eq name other ≡ same → (if same then 0 else number_of_name name others + 1) < suc (length others)
-        → get_or (other ∷ others) (if same then 0 else number_of_name name others + 1) [] ≡ name
+        → (same : Bool) → bytes_eq name other ≡ same → (if same then 0 else number_of_name name others + 1) < suc
+        (length others) → get_or (other ∷ others) (if same then 0 else number_of_name name others + 1) [] ≡ name
     by_test rest x1 e h = grind (arith, bytes_eq-Decides)
 
 -- names at one place are equal
@@ -23,62 +26,102 @@ pub same_place : (name other : List ℕ) (names : List (List ℕ)) → number_of
     → number_of_name other names < length names → number_of_name name names ≡ number_of_name other names → name ≡ other
 same_place name other names h h' e = cc (at_place name names h, at_place other names h')
 
+-- a line that declares nothing of a kind
+pub declares_nothing : {X : Type 0} (says : Item → Option X) (items : List Item) (item : Item) → says item ≡ None
+    → filter_map says (items ++ item ∷ []) ≡ filter_map says items
+declares_nothing says items item none =
+    filter_map-append says items (item ∷ []) ∙ rw none (append-nil (filter_map says items))
+
+module _ {X : Type 0} where
+  abbrev names_in : List (List ℕ × X) → List (List ℕ)
+  names_in declared = map (λ (d : List ℕ × X). d.0) declared
+
+  pub value_of-append : (name : List ℕ) (declared others : List (List ℕ × X))
+      → value_of name (declared ++ others) ≡ option_or (value_of name declared) (value_of name others)
+  value_of-append name [] others = refl
+  value_of-append name (one ∷ declared) others =
+      by_test (bytes_eq name one.0) one.1 _ _ (value_of-append name declared others)
+    where
+      by_test : (same : Bool) (x : X) (first rest : Option X)
+          → value_of name (declared ++ others) ≡ option_or first rest → (if same then Some x else value_of name
+          (declared ++ others)) ≡ option_or (if same then Some x else first) rest
+      by_test x0 x first rest e = grind arith
+
+  pub said_of-append : (says : Item → Option (List ℕ × X)) (name : List ℕ) (items others : List Item)
+      → value_of name (filter_map says (items ++ others))
+      ≡ option_or (value_of name (filter_map says items)) (value_of name (filter_map says others))
+  said_of-append says name items others =
+      rw (filter_map-append says items others) (value_of-append name (filter_map says items) (filter_map says others))
+
+  -- what a name is declared for stands at its place
+  pub value_place : {Y : Type 0} (f : X → Y) (name : List ℕ) (declared : List (List ℕ × X)) (x : X)
+      → value_of name declared ≡ Some x
+      → slice_get (map (λ (d : List ℕ × X). f d.1) declared) (number_of_name name (names_in declared)) ≡ Some (f x)
+  value_place f name [] x e = cc
+  value_place f name (one ∷ declared) x e = by_test (value_place f name declared x) (bytes_eq name one.0) e
+    where
+      by_test : (value_of name declared ≡ Some x → slice_get (map (λ (d : List ℕ × X). f d.1) declared)
+          (number_of_name name (names_in declared)) ≡ Some (f x)) → (same : Bool) → (if same then Some one.1 else
+          value_of name declared) ≡ Some x → slice_get (f one.1 ∷ map (λ (d : List ℕ × X). f d.1) declared)
+          (if same then 0 else number_of_name name (names_in declared) + 1) ≡ Some (f x)
+      by_test rest x1 h = grind (arith, same_Some)
+
+  -- Lines that say of a name of the sort what it is declared for.
+  module _ (s : Sort) (says : Item → Option (List ℕ × X)) (named : (item : Item)
+      → declared_name s item ≡ option_map (λ (d : List ℕ × X). d.0) (says item)) where
+    pub names_are : (items : List Item) → names_of s items ≡ names_in (filter_map says items)
+    names_are [] = refl
+    names_are (item ∷ items) = rw (named item, names_are items) (by_said (says item))
+      where
+        by_said : (said : Option (List ℕ × X)) → cons_option (option_map (λ (d : List ℕ × X). d.0) said)
+            (names_in (filter_map says items)) ≡ names_in (cons_option said (filter_map says items))
+        by_said None = refl
+        by_said (Some d) = refl
+
+    pub declared_at : {Y : Type 0} (f : X → Y) (name : List ℕ) (items : List Item) (x : X) → value_of name
+        (filter_map says items) ≡ Some x → slice_get (map (λ (d : List ℕ × X). f d.1) (filter_map says items))
+        (number_of_name name (names_of s items)) ≡ Some (f x)
+    declared_at f name items x e = rw (names_are items) (value_place f name (filter_map says items) x e)
+
+    pub length-declared : {Y : Type 0} (f : List ℕ × X → Y) (items : List Item)
+        → length (map f (filter_map says items)) ≡ length (names_of s items)
+    length-declared f items = rw (names_are items) (length-map (filter_map says items) f
+        ∙ sym (length-map (filter_map says items) (λ (d : List ℕ × X). d.0)))
+
+    pub declared_within : (name : List ℕ) (items : List Item) (x : X) → value_of name (filter_map says items) ≡ Some x
+        → number_of_name name (names_of s items) < length (names_of s items)
+    declared_within name items x e =
+        rw (← length-declared (λ (d : List ℕ × X). d.1) items)
+        (slice_get_within _ _ _ (declared_at (λ x. x) name items x e))
+
+pub word_named : (item : Item) → declared_name Sort.Type item ≡ option_map (λ d. d.0) (declared_words item)
+word_named item = grind arith
+
+pub type_named : (item : Item) → declared_name Sort.Global item ≡ option_map (λ d. d.0) (declared_type item)
+type_named item = grind arith
+
+pub place_named : (item : Item) → declared_name Sort.Pointer item ≡ option_map (λ d. d.0) (declared_place item)
+place_named item = grind arith
+
 pub pointer_within : (name : List ℕ) (lines : List Item) (at : At) → pointer_at name lines ≡ Some at
     → number_of_name name (pointer_names lines) < length (pointer_names lines)
-pointer_within name [] at e = cc
-pointer_within name (Ptr other place ∷ lines) at e = by_test (pointer_within name lines at) (bytes_eq name other) e
-  where
-    by_test : (pointer_at name lines ≡ Some at
-        → number_of_name name (pointer_names lines) < length (pointer_names lines))
-        → (same : Bool) → (if same then Some place else pointer_at name lines) ≡ Some at
-        → (if same then 0 else number_of_name name (pointer_names lines) + 1) < suc (length (pointer_names lines))
-    by_test rest x1 f = grind arith
-pointer_within name (item ∷ lines) at e = pointer_within name lines at e
+pointer_within name lines at e = declared_within Sort.Pointer declared_place place_named name lines at e
+
+pub global_within : (name : List ℕ) (items : List Item) (ty : List ℕ) → global_type name items ≡ Some ty
+    → number_of_name name (global_names items) < length (global_names items)
+global_within name items ty e = declared_within Sort.Global declared_type type_named name items ty e
 
 module _ (types : List (List ℕ)) where
   -- the kinds of a type are those of its words
   pub type_place : (name : List ℕ) (items : List Item) (words : List TypeWord) → type_words name items ≡ Some words
       → (number_of_name name (type_names items) < length (kinds_among types items))
       × (kinds_of (kinds_among types items) (number_of_name name (type_names items)) ≡ map (kind_of types) words)
-  type_place name [] words e = cc
-  type_place name (TypeLine other words' ∷ items) words e =
-      by_test (type_place name items words) (bytes_eq name other) e
-    where
-      by_test : (type_words name items ≡ Some words
-          → (number_of_name name (type_names items) < length (kinds_among types items))
-          × (kinds_of (kinds_among types items) (number_of_name name (type_names items)) ≡ map (kind_of types) words))
-          → (same : Bool) → (if same then Some words' else type_words name items) ≡ Some words
-          → ((if same then 0 else number_of_name name (type_names items) + 1) < suc (length (kinds_among types items)))
-          × (kinds_of (map (kind_of types) words' ∷ kinds_among types items) (if same then 0
-          else number_of_name name (type_names items) + 1) ≡ map (kind_of types) words)
-      by_test rest x1 f = grind (arith, same_Some)
-  type_place name (item ∷ items) words e = type_place name items words e
+  type_place name items words e =
+      let at = declared_at Sort.Type declared_words word_named (map (kind_of types)) name items words e in
+      (slice_get_within _ _ _ at, get_or_from_slice_get (kinds_among types items) _ _ [] at)
 
   -- a global has the type that it is declared for
-  pub global_place : (name : List ℕ) (items : List Item) (ty : List ℕ) → global_type name items ≡ Some ty
-      → slice_get (globals_among types items) (number_of_name name (global_names items))
-      ≡ Some (number_of_name ty types)
-  global_place name [] ty e = cc
-  global_place name (Global other ty' ∷ items) ty e = by_test (global_place name items ty) (bytes_eq name other) e
-    where
-      by_test : (global_type name items ≡ Some ty
-          → slice_get (globals_among types items) (number_of_name name (global_names items))
-          ≡ Some (number_of_name ty types))
-          → (same : Bool) → (if same then Some ty' else global_type name items) ≡ Some ty
-          → slice_get (number_of_name ty' types ∷ globals_among types items) (if same then 0
-          else number_of_name name (global_names items) + 1) ≡ Some (number_of_name ty types)
-      by_test rest x1 f = grind (arith, same_Some)
-  global_place name (item ∷ items) ty e = global_place name items ty e
-
-pub global_within : (name : List ℕ) (items : List Item) (ty : List ℕ) → global_type name items ≡ Some ty
-    → number_of_name name (global_names items) < length (global_names items)
-global_within name [] ty e = cc
-global_within name (Global other ty' ∷ items) ty e = by_test (global_within name items ty) (bytes_eq name other) e
-  where
-    by_test : (global_type name items ≡ Some ty
-        → number_of_name name (global_names items) < length (global_names items))
-        → (same : Bool) → (if same then Some ty' else global_type name items) ≡ Some ty
-        → (if same then 0 else number_of_name name (global_names items) + 1) < suc (length (global_names items))
-    by_test rest true f = omega arith
-    by_test rest false f = let within = rest f in omega arith
-global_within name (item ∷ items) ty e = global_within name items ty e
+  pub global_place : (name : List ℕ) (items : List Item) (ty : List ℕ) → global_type name items ≡ Some ty → slice_get
+      (globals_among types items) (number_of_name name (global_names items)) ≡ Some (number_of_name ty types)
+  global_place name items ty e =
+      declared_at Sort.Global declared_type type_named (λ ty. number_of_name ty types) name items ty e

@@ -7,10 +7,10 @@ use Rattle.mk_check.proofs.Vocabulary.{pointer_at, pointer_names, same_Some, sli
 use Rattle.mk_check.proofs.Vocabulary.{type_names, type_words, types_of, word_among, ◌*◌, ◌+◌, ◌<◌, ◌∙◌, ◌≡◌}
 use Rattle.mk_check.proofs.DeclaredPlaces.{global_place, pointer_within, same_place, type_place}
 use Rattle.mk_check.proofs.TypedLines.{PointsBefore}
-use Rattle.mk_never.{proofs.Edits.{exists, if_by, set_by}, specs.Admitted.{IsCaller, Meets}}
-use Rattle.mk_never.specs.{declared.values.Target.TheVariants.WordOf, NeverHeap.{allocation_at, global_at, moved_on}}
-use Rattle.mk_never.specs.NeverHeap.{register_at, target_of, with_register, word_at, words_of}
-use Rattle.mk_never.specs.{Typed.{IsSound, IsTyped, kind_in}, declared.values.Value.TheVariants.{Null, Ptr}}
+use Rattle.mk_never.{proofs.Edits.{exists, if_by, set_by}, specs.declared.values.Target.TheVariants.{WordOf}}
+use Rattle.mk_never.specs.NeverHeap.{allocation_at, global_at, moved_on, register_at, target_of, with_register, word_at}
+use Rattle.mk_never.specs.{NeverHeap.words_of, Typed.{IsSound, IsTyped, kind_in}}
+use Rattle.mk_never.specs.{declared.values.Value.TheVariants.{Null, Ptr}, Admitted.{IsCaller, Meets}}
 use Rattle.mk_script.specs.declared.items.TypeWord.TheVariants.{Pointer}
 use Rattle.mk_never.specs.declared.types.Kind.TheVariants.{Num as NumKind, To}
 
@@ -63,11 +63,11 @@ pub meets_weaker : (n : NeverState) (v : Value) (i : ℕ) (P Q : Kind → Type 0
 meets_weaker n x1 i x3 x4 weaker meets = grind arith
 
 -- a pointer to a place: the word i words on is inside its type
-meets_word : (program : List Item) (n : NeverState) (v : Value) (at : At) (i : ℕ) (word : TypeWord)
+meets_word : (program : List Item) {n : NeverState} (v : Value) (at : At) (i : ℕ) (word : TypeWord)
     → n.types ≡ types_of program → IsTyped (globals_of program) n → IsSound n v → IsOfKind v (kind_at program at)
     → word_among (type_words at.name program) (at.offset + i) ≡ Some word
     → Meets n v i (λ kind. kind ≡ kind_of (type_names program) word)
-meets_word program n (Ptr number ty offset) at i word types typed sound of_kind is =
+meets_word program {n = n} (Ptr number ty offset) at i word types typed sound of_kind is =
     let names = type_names program in
     let found = word_in (type_words at.name program) (at.offset + i) word is in
     let whole : kinds_of (types_of program) (number_of_name at.name names) ≡ map (kind_of names) found.all =
@@ -85,15 +85,14 @@ meets_word program n (Ptr number ty offset) at i word types typed sound of_kind 
       ap (λ (k : List Kind). get_or k (offset + i) NumKind) kinds
           ∙ (ap (λ (o : ℕ). get_or (map (kind_of names) found.all) o NumKind) offset_is ∙ here),
     )
-meets_word program n _ at i word types typed sound of_kind is = tt
+meets_word program _ at i word types typed sound of_kind is = tt
 
-pub meets_before : (program script : List Item) (n : NeverState) (caller : ℕ) → FitsScript program script n caller
-    → (pointer : List ℕ) (i : ℕ) (word : TypeWord) → PointsBefore program script pointer i word
+pub meets_before : {program script : List Item} {n : NeverState} {caller : ℕ} → FitsScript program script n caller
+    → {pointer : List ℕ} {i : ℕ} (word : TypeWord) → PointsBefore program script pointer i word
     → Meets n (register_of script n caller pointer) i (λ kind. kind ≡ kind_of (type_names program) word)
-meets_before program script n caller s pointer i word b =
-    meets_word program n (register_of script n caller pointer) b.at i word s.types s.typed
-    (s.typed.registers (8 * caller + number_of_name pointer (pointer_names script)))
-    (s.declared pointer b.at b.declared) b.is
+meets_before {program} {script} {n} {caller} s {pointer = pointer} {i = i} word b =
+    meets_word program (register_of script n caller pointer) b.at i word s.types s.typed (s.typed.registers
+    (8 * caller + number_of_name pointer (pointer_names script))) (s.declared pointer b.at b.declared) b.is
 
 -- a word that is reached is in an allocation, and of its kind
 record IsTypedWord (n : NeverState) (number place : ℕ) (Q : Kind → Type 0) : Type 0 where
@@ -106,11 +105,10 @@ is_typed_word : (n : NeverState) (v : Value) (i : ℕ) (Q : Kind → Type 0) (nu
 is_typed_word n x1 i x3 number place meets e = grind (arith, if_by, exists)
 
 -- a pointer word that is loaded points to where it is declared to
-pub loaded_word : (program : List Item) (n : NeverState) (v : Value) (i : ℕ) (at : At) (number place : ℕ)
-    → IsTyped (globals_of program) n
-    → Meets n v i (λ kind. kind ≡ kind_at program at) → target_of n v i ≡ WordOf number place
+pub loaded_word : (program : List Item) {n : NeverState} (v : Value) (i : ℕ) (at : At) (number place : ℕ) → IsTyped
+    (globals_of program) n → Meets n v i (λ kind. kind ≡ kind_at program at) → target_of n v i ≡ WordOf number place
     → IsOfKind (word_at n number place) (kind_at program at)
-loaded_word program n v i at number place typed meets e = grind (arith, is_typed_word, kind_at)
+loaded_word program v i at number place typed meets e = grind (arith, is_typed_word, kind_at)
 
 -- a pointer that is moved on points to where its place is moved on to
 pub moved_word : (program : List Item) (v : Value) (i : ℕ) (at : At) → IsOfKind v (kind_at program at)
@@ -118,10 +116,10 @@ pub moved_word : (program : List Item) (v : Value) (i : ℕ) (at : At) → IsOfK
 moved_word program x1 i at of_kind = grind arith
 
 -- what a global holds
-pub global_word : (program : List Item) (n : NeverState) (name ty : List ℕ) → IsTyped (globals_of program) n
+pub global_word : (program : List Item) {n : NeverState} (name ty : List ℕ) → IsTyped (globals_of program) n
     → global_type name program ≡ Some ty
     → IsOfKind (global_at n (number_of_name name (global_names program))) (kind_at program (base_of ty))
-global_word program n name ty typed is =
+global_word program {n = n} name ty typed is =
     subst (λ (o : Option ℕ). IfSome o (λ t. IsOfKind (global_at n (number_of_name name (global_names program)))
     (To t 0)))
     (global_place (type_names program) name program ty is) (typed.listed (number_of_name name (global_names program)))

@@ -4,11 +4,10 @@ use Rattle.mk_check.proofs.Vocabulary.{Answer, Blocks, Fed, FeedStandsFor, FeedS
 use Rattle.mk_check.proofs.Vocabulary.{Option, Scope, Some, ℕ, ap, arith, fed_before_answers, feed, first_op, flagged}
 use Rattle.mk_check.proofs.Vocabulary.{is_some, next_op, note, op_of, refl, script_of, script_scope, take_answer}
 use Rattle.mk_check.proofs.Vocabulary.{take_answers, true, with_answer, [], ◌++◌, ◌∙◌, ◌∷◌, ◌≡◌}
-use Rattle.mk_check.{proofs.Numbered.{ops-with_answer, run_agrees}, specs.Feed.{has_ended}}
+use Rattle.mk_check.{proofs.Numbered.ops-with_answer, proofs.Numbered.run_agrees, specs.Feed.has_ended}
 
-pub take_answers_push : (scope : Scope) (fed : Fed) (answers : List Answer) (a : Answer)
-    → take_answers scope fed (answers ++ a ∷ [])
-    ≡ take_answer scope (take_answers scope fed answers) (take_answers scope fed answers).left a
+pub take_answers_push : (scope : Scope) (fed : Fed) (answers : List Answer) (a : Answer) → take_answers scope fed
+    (answers ++ a ∷ []) ≡ take_answer scope (take_answers scope fed answers) (take_answers scope fed answers).left a
 take_answers_push scope fed [] a = refl
 take_answers_push scope fed (b ∷ answers) a = take_answers_push scope (take_answer scope fed fed.left b) answers a
 

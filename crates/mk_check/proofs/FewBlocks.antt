@@ -2,11 +2,10 @@
 use Rattle.mk_check.proofs.Vocabulary.{ArePassed, Blocks, Choice, Done, Item, Line, List, None, Part, Rounds, Scope, ℕ}
 use Rattle.mk_check.proofs.Vocabulary.{ap, arith, before_next_script, blocks_from, branch, depth_of, fold_push}
 use Rattle.mk_check.proofs.Vocabulary.{is_whole, length, limit_fault, max, numbered, outermost_blocks, parts_from, refl}
-use Rattle.mk_check.proofs.Vocabulary.{script_from, script_of, subst, suc, with_line, zero, [], ◌++◌, ◌+◌, ◌-◌, ◌∷◌}
-use Rattle.mk_check.proofs.{Vocabulary.{◌≡◌, ◌≤◌}, GrammarLemmas.at_most-None}
-use Rattle.mk_check.specs.Blocks.{with_else, with_if, with_repeat}
-use Rattle.mk_script.specs.{Grammar.IsOfSomeText, Scopes.{behind_else, behind_end, open_behind, open_blocks}}
-use Rattle.mk_script.specs.{declared.items.Item.TheVariants.Script, declared.scope.OpenBlock.OpenBlock}
+use Rattle.mk_check.proofs.Vocabulary.{script_of, subst, with_line, [], ◌++◌, ◌+◌, ◌-◌, ◌∷◌, ◌≡◌, ◌≤◌}
+use Rattle.mk_check.{proofs.GrammarLemmas.{at_most-None, of_script}, specs.Blocks.{with_else, with_if, with_repeat}}
+use Rattle.mk_script.specs.{Scopes.{behind_else, behind_end, open_behind, open_blocks}, Grammar.IsOfSomeText}
+use Rattle.mk_script.specs.declared.scope.OpenBlock.{OpenBlock}
 
 abbrev depth : Blocks → ℕ
 depth Done = 0
@@ -101,26 +100,14 @@ parts_fit before (item ∷ more) line passed few =
 outermost_fits : (around : ℕ) (parts : List Part) → PartsFit around parts → depth (outermost_blocks parts) ≤ 32
 outermost_fits around x1 h = grind arith
 
-script_fits : (before more : List Item) (line k : ℕ) → ArePassed before more → opened before ≤ 32
-    → depth (blocks_from (script_from line k more).line (script_from line k more).items) ≤ 32
-script_fits before [] line k passed few = omega arith
-script_fits before (Script name ∷ more) line zero passed few =
-    outermost_fits (opened (before ++ Script name ∷ [])) (parts_from (line + 1) (before_next_script more))
-    (parts_fit (before ++ Script name ∷ []) more (line + 1) passed.1
-    (few_open before (Script name) passed.0.within few))
-script_fits before (Script name ∷ more) line (suc k) passed few =
-    script_fits (before ++ Script name ∷ []) more (line + 1) k passed.1
-    (few_open before (Script name) passed.0.within few)
-script_fits before (item ∷ more) line zero passed few =
-    script_fits (before ++ item ∷ []) more (line + 1) zero passed.1 (few_open before item passed.0.within few)
-script_fits before (item ∷ more) line (suc k) passed few =
-    script_fits (before ++ item ∷ []) more (line + 1) (suc k) passed.1 (few_open before item passed.0.within few)
-
 pub text_has_few_blocks : (program : List Item) (k : ℕ) (scope : Scope) → IsOfSomeText program
     → depth_of (numbered scope (blocks_from (script_of program k).line (script_of program k).items)) ≤ 32
 text_has_few_blocks program k scope text =
     omega (
       arith,
       depth-numbered scope (blocks_from (script_of program k).line (script_of program k).items),
-      script_fits [] program 1 k (is_whole program text).lines (omega arith),
+      of_script (λ before. opened before ≤ 32) (λ line items. depth (blocks_from line items) ≤ 32) few_open
+          (λ line. omega arith) (λ before more line passed few. outermost_fits (opened before)
+          (parts_from line (before_next_script more)) (parts_fit before more line passed few)) [] program 1 k
+          (is_whole program text).lines (omega arith),
     )

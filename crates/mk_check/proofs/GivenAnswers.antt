@@ -64,16 +64,15 @@ none_before : (a : Answer) (b : Option Answer) (p p' : ℕ) → b ≡ Some a →
 none_before a b p p' is few h = let e : count b ≡ 1 = ap count is in omega arith
 
 serves_at : (callers : ℕ) (flights : List Flight) (k n : ℕ) (answers : List Answer) (f : Flight)
-    → get_or flights k at_rest ≡ f
-    → length flights ≡ callers → has_stage f.op f.stage ≡ true → length answers ≡ n + pending f.stage
-    → Serves callers flights k n answers
+    → get_or flights k at_rest ≡ f → length flights ≡ callers → has_stage f.op f.stage ≡ true
+    → length answers ≡ n + pending f.stage → Serves callers flights k n answers
 serves_at callers flights k n answers f is long stage answered = grind (arith, has_stage, pending)
 
 -- a step of caller k's that isn't its call's last one
-goes_more : (callers : ℕ) (flights : List Flight) (k n : ℕ) (answers : List Answer) (p : Progress) → k < callers
+goes_more : {callers : ℕ} {flights : List Flight} {k n : ℕ} {answers : List Answer} {p : Progress} → k < callers
     → Serves callers flights k n answers → Goes (get_or flights k at_rest) p
     → ServesMore callers (set flights k p.flight) k n answers p.answer true false
-goes_more callers flights k n answers p lt h g =
+goes_more {callers} {flights} {k} {n} {answers} {p} lt h g =
     let was = pending (get_or flights k at_rest).stage in
     let total = length-append answers (as_list p.answer) in
     let behind = pending_behind n was (pending p.flight.stage) (length answers) p.answer h.decided g.pending in
@@ -81,9 +80,8 @@ goes_more callers flights k n answers p lt h g =
     let long = h.long in
     record {
       serves =
-          serves_at callers (set flights k p.flight) k n (answers ++ as_list p.answer) p.flight
-          (get_or-set_same flights k p.flight at_rest (omega arith)) (length-set flights k p.flight
-          ∙ h.long) g.stage (omega arith);
+          serves_at callers (set flights k p.flight) k n (answers ++ as_list p.answer) p.flight (get_or-set_same flights
+          k p.flight at_rest (omega arith)) (length-set flights k p.flight ∙ h.long) g.stage (omega arith);
       last = λ e. cc;
       once = λ b _ e. (let none = none_before b p.answer was (pending p.flight.stage) e (grind arith)
           g.pending in omega arith);
@@ -91,11 +89,11 @@ goes_more callers flights k n answers p lt h g =
     }
 
 -- the last step of its call
-ends_more : (callers : ℕ) (flights : List Flight) (k n : ℕ) (answers : List Answer) (p : Progress) → k < callers
+ends_more : {callers : ℕ} {flights : List Flight} {k n : ℕ} {answers : List Answer} (p : Progress) → k < callers
     → Serves callers flights k n answers → pending (get_or flights k at_rest).stage ≡ 1
     → p ≡ record { flight = at_rest; answer = None }
     → ServesMore callers (set flights k p.flight) k n answers p.answer true true
-ends_more callers flights k n answers p lt h one is =
+ends_more {callers} {flights} {k} {n} {answers} p lt h one is =
     let a = h.decided in
     let long = h.long in
     let none : p.answer ≡ None = ap (λ (x : Progress). x.answer) is in
@@ -112,10 +110,11 @@ ends_more callers flights k n answers p lt h one is =
     }
 
 -- a step of another's
-others_more : (callers : ℕ) (flights new : List Flight) (k n : ℕ) (answers : List Answer) (decided : Option Answer)
+others_more : {callers : ℕ} {flights : List Flight} (new : List Flight) {k n : ℕ} {answers : List Answer}
+    (decided : Option Answer)
     (last : Bool) → get_or new k at_rest ≡ get_or flights k at_rest → length new ≡ length flights
     → Serves callers flights k n answers → ServesMore callers new k n answers decided false last
-others_more callers flights new k n answers decided last same long h =
+others_more {callers} {flights} new {k = k} {n = n} {answers = answers} decided last same long h =
     let a = h.decided in record {
       serves =
           serves_at callers new k n (answers ++ []) (get_or flights k at_rest) same (long ∙ h.long) h.stage
@@ -132,36 +131,35 @@ Behind c m seat x k n answers =
     ServesMore c.callers (flights_behind c m seat (found c m e) x) k n answers (answer_decided c m e)
     (is_same_seat (Caller k) seat) (ends_call x)
 
-own_step : (c : Config) (m : Moment) (k n : ℕ) (answers : List Answer) (x : Step) (last : Bool) → ends_call x ≡ last
+own_step : (c : Config) (m : Moment) {k n : ℕ} {answers : List Answer} (x : Step) (last : Bool) → ends_call x ≡ last
     → IsEnabled c m (record { seat = Caller k; step = x }) → Serves c.callers m.seats.flights k n answers
     → let p = progress c m (flight_of m (Caller k)) (found c m (record { seat = Caller k; step = x })) x in
     ServesMore c.callers (set m.seats.flights k p.flight) k n answers p.answer true last
-own_step c m k n answers x true is enabled h =
+own_step c m {k = k} {n = n} {answers = answers} x true is enabled h =
     let e : Event = record { seat = Caller k; step = x } in
     let f = flight_of m (Caller k) in
     let meets = enabled_meets c m e enabled in
-    ends_more c.callers m.seats.flights k n answers (progress c m f (found c m e) x) (ltb-true k c.callers meets.seat) h
+    ends_more (progress c m f (found c m e) x) (ltb-true k c.callers meets.seat) h
     (ends c m f x meets.order meets.holder is) (grind arith)
-own_step c m k n answers x false is enabled h =
+own_step c m {k = k} {n = n} {answers = answers} x false is enabled h =
     let e : Event = record { seat = Caller k; step = x } in
     let f = flight_of m (Caller k) in
     let meets = enabled_meets c m e enabled in
-    goes_more c.callers m.seats.flights k n answers (progress c m f (found c m e) x) (ltb-true k c.callers meets.seat) h
+    goes_more (ltb-true k c.callers meets.seat) h
     (goes c m f.stage f.op f.q f.p f.r f.loaded (found c m e) x h.stage meets.order is)
 
-serves_more : (c : Config) (m : Moment) (k n : ℕ) (answers : List Answer) (seat : Seat) (x : Step)
-    → IsEnabled c m (record { seat = seat; step = x }) → Serves c.callers m.seats.flights k n answers
-    → Behind c m seat x k n answers
-serves_more c m k n answers (Caller j) x enabled h = elim (cases_eq k j) [
+serves_more : (c : Config) (m : Moment) {k n : ℕ} {answers : List Answer} (seat : Seat) (x : Step) → IsEnabled c m
+    (record { seat = seat; step = x }) → Serves c.callers m.seats.flights k n answers → Behind c m seat x k n answers
+serves_more c m {k = k} {n = n} {answers = answers} (Caller j) x enabled h = elim (cases_eq k j) [
   | inl same ↦ subst (λ (i : ℕ). Behind c m (Caller i) x k n answers) same
-      (rw (same_number k) (own_step c m k n answers x (ends_call x) refl
+      (rw (same_number k) (own_step c m x (ends_call x) refl
       (subst (λ (i : ℕ). IsEnabled c m (record { seat = Caller i; step = x })) (sym same) enabled) h))
-  | inr ne ↦ rw (other_number k j ne) (others_more c.callers m.seats.flights _ k n answers _ (ends_call x)
+  | inr ne ↦ rw (other_number k j ne) (others_more _ _ (ends_call x)
       (get_or-set_other m.seats.flights j k _ at_rest ne) (length-set m.seats.flights j _) h)
 ]
-serves_more c m k n answers (Marker j) x enabled h =
-    others_more c.callers m.seats.flights m.seats.flights k n answers None (ends_call x) refl refl h
-serves_more c m k n answers Host x enabled h = others_more _ _ _ k n answers None _ refl refl h
+serves_more c m {k = k} {n = n} {answers = answers} (Marker j) x enabled h =
+    others_more m.seats.flights None (ends_call x) refl refl h
+serves_more c m {k = k} {n = n} {answers = answers} Host x enabled h = others_more _ None _ refl refl h
 
 -- the answers that an event adds
 event_among : (c : Config) (m : Moment) (k : ℕ) (seat : Seat) (x : Step)
@@ -173,14 +171,13 @@ counts_more : (n : ℕ) (b : Bool) → n + (if b then 1 else 0) ≡ counted n b
 counts_more n x1 = grind arith
 
 serves_from : (c : Config) (w : World) (k n : ℕ) (answers : List Answer) (es : List Event) → AreEnabledFrom c w es
-    → Serves c.callers w.now.seats.flights k n answers
-    → Serves c.callers (left_from c w es).now.seats.flights k (n + ended_calls k es)
-    (answers ++ answers_among k (calls_from c w es))
+    → Serves c.callers w.now.seats.flights k n answers → Serves c.callers (left_from c w es).now.seats.flights k
+    (n + ended_calls k es) (answers ++ answers_among k (calls_from c w es))
 unfolding left_from AreEnabledFrom calls_from
 serves_from c w k n answers [] en h = grind (arith, append-nil)
 serves_from c w k n answers (e ∷ es) en h =
     let next = world_behind c w e in
-    let step = (serves_more c w.now k n answers e.seat e.step en.0 h).serves in
+    let step = (serves_more c w.now e.seat e.step en.0 h).serves in
     let ih = serves_from c next k _ _ es en.1 step in
     let rest = answers_among k (calls_from c next es) in
     let more = if is_same_seat (Caller k) e.seat then as_list (answer_decided c w.now e) else [] in
@@ -189,10 +186,9 @@ serves_from c w k n answers (e ∷ es) en h =
     ∙ (let cons = sum_by-cons (λ (x : Event). if ends_call_of k x then 1 else 0) e es in omega arith) in
     let all : (answers ++ more) ++ rest ≡ answers ++ answers_among k (call_decided c w.now e ++ calls_from c next es) =
     grind (arith, append_assoc, event_among, among_more) in
-    subst (λ (xs : List Answer). Serves c.callers (left_from c next es).now.seats.flights k (n + ended_calls k (e ∷ es))
-    xs) all
-    (subst (λ (i : ℕ). Serves c.callers (left_from c next es).now.seats.flights k i ((answers ++ more) ++ rest)) ended
-    ih)
+    subst (λ (xs : List Answer). Serves c.callers (left_from c next es).now.seats.flights k
+    (n + ended_calls k (e ∷ es)) xs) all (subst
+    (λ (i : ℕ). Serves c.callers (left_from c next es).now.seats.flights k i ((answers ++ more) ++ rest)) ended ih)
 
 first_flight : (callers k : ℕ) → get_or (replicate callers at_rest) k at_rest ≡ at_rest
 first_flight zero k = refl
@@ -203,9 +199,8 @@ pub serves : (c : Config) (es : List Event) (k : ℕ) → AreEnabled c es
     → Serves c.callers (left c es).now.seats.flights k (ended_calls k es) (answers_among k (calls c es))
 serves c es k h =
     subst (λ (n : ℕ). Serves c.callers (left c es).now.seats.flights k n (answers_among k (calls c es))) (omega arith)
-    (serves_from c (first_world c) k 0 [] es h
-    (serves_at c.callers (replicate c.callers at_rest) k 0 [] at_rest (first_flight c.callers k)
-    (length-replicate c.callers at_rest) refl refl))
+    (serves_from c (first_world c) k 0 [] es h (serves_at c.callers (replicate c.callers at_rest) k 0 [] at_rest
+    (first_flight c.callers k) (length-replicate c.callers at_rest) refl refl))
 
 -- one event more: what is given, and what waits for its call's last step
 
@@ -220,9 +215,8 @@ last_of [] n b h = rw (sym h) refl
 last_of (a ∷ answers) n b h = rw (sym h) (last_of answers (length answers) b refl)
 
 given_case : (answers : List Answer) (n : ℕ) (a : Option Answer) (mine last : Bool) → n ≤ length answers
-    → ((mine && last) ≡ true → (a ≡ None) × (length answers ≡ n + 1))
-    → take (counted n (mine && last)) (answers ++ (if mine then as_list a else []))
-    ≡ take n answers ++ given_by mine last a (slice_get answers n)
+    → ((mine && last) ≡ true → (a ≡ None) × (length answers ≡ n + 1)) → take (counted n (mine && last))
+    (answers ++ (if mine then as_list a else [])) ≡ take n answers ++ given_by mine last a (slice_get answers n)
 given_case answers n a true true few l =
     let lt : n < length answers = (let e = (l refl).1 in omega arith) in
     let waits = slice_get-get_or answers n Answer.Done lt in
@@ -244,22 +238,19 @@ step_of : (c : Config) (es : List Event) (e : Event) (k : ℕ) → AreEnabled c 
     → Behind c (left c es).now e.seat e.step k (ended_calls k es) (answers_among k (calls c es))
 step_of c es e k h =
     let parts = enabled_parts c (first_world c) es (e ∷ []) h in
-    serves_more c (left c es).now k _ _ _ _ (last_enabled c _ es e h) (serves c es k parts.0)
+    serves_more c (left c es).now _ _ (last_enabled c _ es e h) (serves c es k parts.0)
 
 pub given_more : (c : Config) (es : List Event) (e : Event) (k : ℕ) → AreEnabled c (es ++ e ∷ [])
-    → answers_given c (es ++ e ∷ []) k
-    ≡ answers_given c es k ++ given_by (is_same_seat (Caller k) e.seat) (ends_call e.step)
-    (answer_decided c (left c es).now e) (answer_waiting c es k)
+    → answers_given c (es ++ e ∷ []) k ≡ answers_given c es k ++ given_by (is_same_seat (Caller k) e.seat)
+    (ends_call e.step) (answer_decided c (left c es).now e) (answer_waiting c es k)
 given_more c es e k h =
     let s = step_of c es e k h in
-    rw (more_ended es e k, more_answers c es e k)
-    (given_case (answers_among k (calls c es)) (ended_calls k es) (answer_decided c (left c es).now e)
-    (is_same_seat (Caller k) e.seat) (ends_call e.step) s.few s.last)
+    rw (more_ended es e k, more_answers c es e k) (given_case (answers_among k (calls c es)) (ended_calls k es)
+    (answer_decided c (left c es).now e) (is_same_seat (Caller k) e.seat) (ends_call e.step) s.few s.last)
 
 pub waiting_more : (c : Config) (es : List Event) (e : Event) (k : ℕ) → AreEnabled c (es ++ e ∷ [])
-    → answer_waiting c (es ++ e ∷ []) k
-    ≡ waiting_by (is_same_seat (Caller k) e.seat) (ends_call e.step) (answer_decided c (left c es).now e)
-    (answer_waiting c es k)
+    → answer_waiting c (es ++ e ∷ []) k ≡ waiting_by (is_same_seat (Caller k) e.seat) (ends_call e.step)
+    (answer_decided c (left c es).now e) (answer_waiting c es k)
 waiting_more c es e k h =
     let s = step_of c es e k h in
     rw (more_ended es e k, more_answers c es e k) (grind (arith, append-nil, slice_get_past, last_of))

@@ -1,13 +1,14 @@
 -- Limits that the lines of a program of some text keep.
 use Rattle.std.proofs.Common.{leb-true}
 use Rattle.mk_check.proofs.Vocabulary.{ArePassed, Bool, Err, Item, List, None, Ok, Result, Some, Which, ℕ, and_parts}
-use Rattle.mk_check.proofs.Vocabulary.{ap, append-nil, append_assoc, arith, false≢true, global_names, if◌then◌else◌}
-use Rattle.mk_check.proofs.Vocabulary.{length, length-append, limit_fault, pages_of, resident_of, script_names, subst}
-use Rattle.mk_check.proofs.{Vocabulary.{sym, true, type_names, [], ◌++◌, ◌+◌, ◌-◌, ◌∷◌, ◌≡◌, ◌≤◌}, FaultLemmas.or-None}
+use Rattle.mk_check.proofs.Vocabulary.{ap, append-nil, append_assoc, arith, before_next_script, false≢true}
+use Rattle.mk_check.proofs.Vocabulary.{global_names, if◌then◌else◌, length, length-append, limit_fault, pages_of}
+use Rattle.mk_check.proofs.Vocabulary.{resident_of, script_from, script_names, subst, suc, sym, true, type_names, zero}
+use Rattle.mk_check.proofs.{Vocabulary.{[], ◌++◌, ◌+◌, ◌∷◌, ◌≡◌, ◌≤◌}, FaultLemmas.or-None}
 use Rattle.mk_core.specs.Config.{IsBetween}
-use Rattle.mk_script.proofs.{Pushed.{global_names-append, script_names-append, type_names-append}, PassedLines.IsWhole}
-use Rattle.mk_script.specs.{Lines.{at_most, has_script, heap_line, within}, Operands.{item_from, number, ◌>>=◌}}
-use Rattle.mk_script.specs.declared.items.Item.TheVariants.{Global, Heap, Script, TypeLine}
+use Rattle.mk_script.{proofs.{PassedLines.IsWhole, Pushed.names_of-append}, specs.declared.sorts.Sort.{Sort}}
+use Rattle.mk_script.specs.{declared.items.Item.TheVariants.{Heap, Script}, Lines.{at_most, has_script, heap_line}}
+use Rattle.mk_script.specs.{Lines.within, Operands.{item_from, number, ◌>>=◌}, Scopes.names_of}
 use Rattle.mk_script.specs.{declared.faults.LineFault.LineFault, declared.keywords.Keyword.Keyword}
 
 -- a test that an Ok has passed
@@ -21,10 +22,9 @@ if-None x0 x h = grind arith
 -- Counts of declarations.
 
 -- a count that each line keeps within its limit
-bound : (count : List Item → ℕ) (most : ℕ)
-    → ((before : List Item) (item : Item) → limit_fault before item ≡ None → count before ≤ most
-    → count (before ++ item ∷ []) ≤ most)
-    → (before rest : List Item) → ArePassed before rest → count before ≤ most → count (before ++ rest) ≤ most
+bound : (count : List Item → ℕ) (most : ℕ) → ((before : List Item) (item : Item) → limit_fault before item ≡ None
+    → count before ≤ most → count (before ++ item ∷ []) ≤ most) → (before rest : List Item) → ArePassed before rest
+    → count before ≤ most → count (before ++ rest) ≤ most
 bound count most keeps before [] lines h = subst (λ items. count items ≤ most) (sym (append-nil before)) h
 bound count most keeps before (item ∷ rest) lines h =
     subst (λ items. count items ≤ most) (append_assoc before (item ∷ []) rest)
@@ -33,53 +33,52 @@ bound count most keeps before (item ∷ rest) lines h =
 pub at_most-None : (found greatest : ℕ) (which' : Which) → at_most found greatest which' ≡ None → found ≤ greatest
 at_most-None found greatest which' h = grind (arith, leb-true, if-None)
 
--- Names that lines declare are no more than may be, with one line more.
-names-keep : (names : List Item → List (List ℕ)) (most : ℕ)
-    → ((items behind : List Item) → names (items ++ behind) ≡ names items ++ names behind)
-    → (before : List Item) (item : Item) → length (names before) + length (names (item ∷ [])) ≤ most
-    → length (names (before ++ item ∷ [])) ≤ most
-names-keep names most append before item fits =
-    omega (arith, ap length (append before (item ∷ [])), length-append (names before) (names (item ∷ [])))
+-- What holds of the lines of each script. Where it begins, the lines before it are as each line keeps them.
+module _ (IsKept : List Item → Type 0) (Holds : ℕ → List Item → Type 0) (keeps : (before : List Item) (item : Item)
+    → limit_fault before item ≡ None → IsKept before → IsKept (before ++ item ∷ [])) (none : (line : ℕ)
+    → Holds line []) (begins : (before more : List Item) (line : ℕ) → ArePassed before more → IsKept before
+    → Holds line (before_next_script more)) where
+  pub of_script : (before more : List Item) (line k : ℕ) → ArePassed before more → IsKept before
+      → Holds (script_from line k more).line (script_from line k more).items
+  of_script before [] line k passed h = none line
+  of_script before (Script name ∷ more) line zero passed h =
+      begins (before ++ Script name ∷ []) more (line + 1) passed.1 (keeps before (Script name) passed.0.within h)
+  of_script before (Script name ∷ more) line (suc k) passed h =
+      of_script (before ++ Script name ∷ []) more (line + 1) k passed.1 (keeps before (Script name) passed.0.within h)
+  of_script before (item ∷ more) line zero passed h =
+      of_script (before ++ item ∷ []) more (line + 1) zero passed.1 (keeps before item passed.0.within h)
+  of_script before (item ∷ more) line (suc k) passed h =
+      of_script (before ++ item ∷ []) more (line + 1) (suc k) passed.1 (keeps before item passed.0.within h)
 
-globals-keep : (before : List Item) (item : Item) → limit_fault before item ≡ None → length (global_names before) ≤ 64
-    → length (global_names (before ++ item ∷ [])) ≤ 64
-globals-keep before (Global name ty) within h =
-    names-keep global_names 64 global_names-append before _
-    (at_most-None (length (global_names before) + 1) 64 Which.Globals within)
-globals-keep before item within h = names-keep global_names 64 global_names-append before item (omega arith)
+-- the names of a sort are no more than may be, where each line keeps to that
+few_names : (s : Sort) (most : ℕ) → ((before : List Item) (item : Item) → limit_fault before item ≡ None
+    → length (names_of s before) ≤ most → length (names_of s before) + length (names_of s (item ∷ [])) ≤ most)
+    → {items : List Item} → IsWhole items → length (names_of s items) ≤ most
+few_names s most fits {items = items} program =
+    bound (λ xs. length (names_of s xs)) most (λ before item within h. omega (
+      arith,
+      ap length (names_of-append s before (item ∷ [])),
+      length-append (names_of s before) (names_of s (item ∷ [])),
+      fits before item within h,
+    )) [] items program.lines (omega arith)
 
-pub length-global_names : (items : List Item) → IsWhole items → length (global_names items) ≤ 64
-length-global_names items program = bound (λ xs. length (global_names xs)) 64 globals-keep [] items program.lines
-    (omega arith)
+pub length-global_names : {items : List Item} → IsWhole items → length (global_names items) ≤ 64
+length-global_names {items} program = few_names Sort.Global 64 (λ before item within h. grind (arith, at_most-None))
+    program
 
-types-keep : (before : List Item) (item : Item) → limit_fault before item ≡ None → length (type_names before) ≤ 64
-    → length (type_names (before ++ item ∷ [])) ≤ 64
-types-keep before (TypeLine name words) within h =
-    names-keep type_names 64 type_names-append before _ (at_most-None (length (type_names before) + 1) 64 Which.Types
-    (or-None (at_most (length (type_names before) + 1) 64 Which.Types)
-    (at_most (length words) 4096 Which.Words) within).0)
-types-keep before item within h = names-keep type_names 64 type_names-append before item (omega arith)
-
-pub length-type_names : (items : List Item) → IsWhole items → length (type_names items) ≤ 64
-length-type_names items program = bound (λ xs. length (type_names xs)) 64 types-keep [] items program.lines
-    (omega arith)
-
-scripts-keep : (before : List Item) (item : Item) → limit_fault before item ≡ None → length (script_names before) ≤ 16
-    → length (script_names (before ++ item ∷ [])) ≤ 16
-scripts-keep before (Script name) within h =
-    names-keep script_names 16 script_names-append before _
-    (at_most-None (length (script_names before) + 1) 16 Which.Scripts within)
-scripts-keep before item within h = names-keep script_names 16 script_names-append before item (omega arith)
+pub length-type_names : {items : List Item} → IsWhole items → length (type_names items) ≤ 64
+length-type_names {items} program =
+    few_names Sort.Type 64 (λ before item within h. grind (arith, at_most-None, or-None)) program
 
 some_script : (items : List Item) → has_script items ≡ true → 1 ≤ length (script_names items)
 some_script [] has = absurd (false≢true has)
 some_script (Script name ∷ items) has = omega arith
 some_script (item ∷ items) has = some_script items has
 
-pub length-script_names : (items : List Item) → IsWhole items → IsBetween 1 16 (length (script_names items))
-length-script_names items program = (
+pub length-script_names : {items : List Item} → IsWhole items → IsBetween 1 16 (length (script_names items))
+length-script_names {items} program = (
   some_script items program.script,
-  bound (λ xs. length (script_names xs)) 16 scripts-keep [] items program.lines (omega arith),
+  few_names Sort.Script 16 (λ before item within h. grind (arith, at_most-None)) program,
 )
 
 -- The pages of the heap.
@@ -108,11 +107,11 @@ pub record IsHeapWithin (items : List Item) : Type 0 where
   pub pages : IsBetween 1 4096 (pages_of items)
   pub resident : IsBetween 1 (pages_of items) (resident_of items)
 
-heap_first : (item : Item) (items : List Item) → limit_fault [] item ≡ None → IsHeapLine item
+heap_first : {item : Item} (items : List Item) → limit_fault [] item ≡ None → IsHeapLine item
     → IsHeapWithin (item ∷ items)
-heap_first item items h heap = grind (arith, or-None, within-None)
+heap_first items h heap = grind (arith, or-None, within-None)
 
 pub heap_within : (items : List Item) → IsWhole items → IsHeapWithin items
 heap_within [] program = absurd (false≢true program.script)
 heap_within (item ∷ items) program =
-    let line = program.lines.0 in heap_first item items line.within (heap_line-item line.words item line.says)
+    let line = program.lines.0 in heap_first items line.within (heap_line-item line.words item line.says)

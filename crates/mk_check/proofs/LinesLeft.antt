@@ -6,8 +6,8 @@ use Rattle.mk_check.proofs.Vocabulary.{fed_before_answers, fed_before_lines, fee
 use Rattle.mk_check.proofs.Vocabulary.{is_end_of_block, is_some, length, length_push, next_op, note, op_of}
 use Rattle.mk_check.proofs.Vocabulary.{outermost_blocks, parts_from, refl, run, script_of, script_scope, suc, sym}
 use Rattle.mk_check.proofs.Vocabulary.{take_answer, take_answers, true, with_answer, with_item, with_line, zero, []}
-use Rattle.mk_check.{proofs.Vocabulary.{◌++◌, ◌+◌, ◌==◌, ◌∙◌, ◌∷◌, ◌≡◌}, specs.Blocks.{followed_by}}
-use Rattle.mk_check.specs.{Feed.{then_run, number_in, run_line, run_rounds}, Blocks.{AllFrom, AllLines, AllPlaced}}
+use Rattle.mk_check.{proofs.Vocabulary.{◌++◌, ◌+◌, ◌==◌, ◌∙◌, ◌∷◌, ◌≡◌}, specs.Feed.{then_run}}
+use Rattle.mk_check.specs.{Blocks.{AllFrom, AllLines, AllPlaced, followed_by}, Feed.{number_in, run_line, run_rounds}}
 
 module _ (P : ℕ → Item → Type 0) where
   -- The blocks of a script.
@@ -70,14 +70,12 @@ module _ (P : ℕ → Item → Type 0) where
   AllPlaced-run scope (Line line item rest) h fed =
       by_test (is_some (op_of scope fed item)) (AllPlaced-run scope rest h.1 (run_line scope fed item))
     where
-      by_test : (t : Bool) → AllPlaced P (run scope rest (run_line scope fed item)).left
-          → AllPlaced P (if t then record fed { left = Line line item rest }
-          else run scope rest (run_line scope fed item)).left
+      by_test : (t : Bool) → AllPlaced P (run scope rest (run_line scope fed item)).left → AllPlaced P
+          (if t then record fed { left = Line line item rest } else run scope rest (run_line scope fed item)).left
       by_test x0 ran = grind arith
   AllPlaced-run scope (Rounds rounds body rest) h fed =
-      AllPlaced-then_run (run_rounds rounds body (run scope body) fed) (run scope rest) rest
-      (AllPlaced-run_rounds rounds body (run scope body) h.0 (AllPlaced-run scope body h.0) fed)
-      (AllPlaced-run scope rest h.1) h.1
+      AllPlaced-then_run (run_rounds rounds body (run scope body) fed) (run scope rest) rest (AllPlaced-run_rounds
+      rounds body (run scope body) h.0 (AllPlaced-run scope body h.0) fed) (AllPlaced-run scope rest h.1) h.1
   AllPlaced-run scope (Choice number first second rest) h fed =
       AllPlaced-then_run (if number_in scope fed number == 0 then run scope second fed else run scope first fed)
       (run scope rest) rest (by_test (number_in scope fed number == 0) (AllPlaced-run scope first h.0 fed)
@@ -108,9 +106,8 @@ module _ (P : ℕ → Item → Type 0) where
   placed_left program k answers h =
       let script = script_of program k in
       let scope = script_scope program k in
-      AllPlaced-take_answers scope answers (fed_before_answers scope script)
-      (AllPlaced-run scope (blocks_from script.line script.items) (placed_of_script script.line script.items h)
-      (fed_before_lines scope script))
+      AllPlaced-take_answers scope answers (fed_before_answers scope script) (AllPlaced-run scope (blocks_from
+      script.line script.items) (placed_of_script script.line script.items h) (fed_before_lines scope script))
 
 -- a script stands at a line, which P holds of, and waits for its operation's answer
 pub record IsAtLine (P : ℕ → Item → Type 0) (scope : Scope) (fed : Fed) (o : Op) : Type 0 where

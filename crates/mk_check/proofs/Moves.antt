@@ -1,14 +1,14 @@
 -- A place that moves on keeps where its steps stop, and comes nearer to it.
 use Rattle.mk_check.proofs.Vocabulary.{Bool, Frame, FrameIsWithin, FramesAreWithin, HasStopped, Instruction, IsBelow}
 use Rattle.mk_check.proofs.Vocabulary.{List, MovesOn, Node, Place, PlaceFits, PlaceIsWithin, Steps, Stopped, StopsAt, ℕ}
-use Rattle.mk_check.proofs.Vocabulary.{after_line, ap, arith, depth_of, false, fold_push, if◌then◌else◌, is_some}
-use Rattle.mk_check.proofs.Vocabulary.{kept_in, left_in, length, length_push, max, op_asked, refl, slice_index}
+use Rattle.mk_check.proofs.Vocabulary.{after_line, ap, arith, depth_of, false, false≢true, fold_push, if◌then◌else◌}
+use Rattle.mk_check.proofs.Vocabulary.{is_some, kept_in, left_in, length, length_push, max, op_asked, refl, slice_index}
 use Rattle.mk_check.proofs.Vocabulary.{steps_at, steps_from, stop_of, subst, suc, sym, then_steps, trees, true}
 use Rattle.mk_check.proofs.Vocabulary.{with_kept, work_in, zero, [], ◌*◌, ◌++◌, ◌+◌, ◌<◌, ◌==◌, ◌∙◌, ◌∷◌, ◌≡◌, ◌≤◌}
 use Rattle.mk_check.proofs.StepLaws.{stop_of-choice_other, stop_of-choice_zero, stop_of-round}
-use Rattle.mk_check.proofs.TreeNodes.{IsAt, steps_at-trees}
+use Rattle.mk_check.{proofs.TreeNodes.{IsAt, IsAtBlock, steps_at-trees}, specs.Steps.{Line, Rounds}}
 use Rattle.mk_check.specs.Trees.{FrameFits, FramesFit, LeavesBlock, behind_frames, frame_steps, place_behind_block}
-use Rattle.mk_check.specs.{Trees.{place_in_branch, place_in_rounds, work_of}, Steps.{Choice, Done, Line, Rounds}}
+use Rattle.mk_check.specs.{Trees.{place_in_block, place_in_branch, place_in_rounds, work_of}, Steps.{Choice, Done}}
 
 pub behind_frames_push : (built : List Steps) (frames : List Frame) (f : Frame)
     → behind_frames built (frames ++ f ∷ []) ≡ frame_steps built (behind_frames built frames) f
@@ -38,9 +38,8 @@ FramesFit_push : (built : List Steps) (frames : List Frame) (f : Frame) → Fram
 FramesFit_push built frames f w here =
     FramesFit-append built 0 frames f w (subst (λ (n : ℕ). FrameFits built n f) (omega arith) here)
 
-FramesFit-split : (built : List Steps) (around : ℕ) (frames : List Frame) (f : Frame)
-    → FramesFit built around (frames ++ f ∷ [])
-    → FramesFit built around frames × FrameFits built (around + length frames) f
+FramesFit-split : (built : List Steps) (around : ℕ) (frames : List Frame) (f : Frame) → FramesFit built around
+    (frames ++ f ∷ []) → FramesFit built around frames × FrameFits built (around + length frames) f
 FramesFit-split built around [] f w = (tt, subst (λ (n : ℕ). FrameFits built n f) (omega arith) w.0)
 FramesFit-split built around (g ∷ frames) f w =
     let rest = FramesFit-split built (around + 1) frames f w.1 in
@@ -54,9 +53,8 @@ work_of-then_steps (Choice number first second rest) b = omega (arith, work_of-t
 
 module _ (nodes : List Node) where
   -- the steps that are left once a `repeat` is entered
-  entered_runs : (p : Place) (rounds body next : ℕ)
-      → stop_of (left_in nodes (place_in_rounds p rounds body next)) (kept_in (place_in_rounds p rounds body next))
-      ≡ stop_of (Rounds rounds (steps_at (trees nodes) body)
+  entered_runs : (p : Place) (rounds body next : ℕ) → stop_of (left_in nodes (place_in_rounds p rounds body next))
+      (kept_in (place_in_rounds p rounds body next)) ≡ stop_of (Rounds rounds (steps_at (trees nodes) body)
       (then_steps (steps_at (trees nodes) next) (behind_frames (trees nodes) p.frames))) (kept_in p)
   entered_runs p x1 body next = grind (arith, behind_frames_push, stop_of-round)
 
@@ -72,9 +70,8 @@ module _ (nodes : List Node) where
   entered_within p (suc more) body next w b n =
       record { at = b; frames = FramesAreWithin_push (length nodes) p.frames (Frame.Rounds more body next) w (b, n) }
 
-  entered_fits : (p : Place) (rounds body next : ℕ) → FramesFit (trees nodes) 0 p.frames
-      → FrameFits (trees nodes) (length p.frames) (Frame.Rounds rounds body next)
-      → PlaceFits nodes (place_in_rounds p rounds body next)
+  entered_fits : (p : Place) (rounds body next : ℕ) → FramesFit (trees nodes) 0 p.frames → FrameFits (trees nodes)
+      (length p.frames) (Frame.Rounds rounds body next) → PlaceFits nodes (place_in_rounds p rounds body next)
   entered_fits p zero body next w f = record { here = f.1; frames = w }
   entered_fits p (suc more) body next w f =
       let longer = length_push p.frames (Frame.Rounds more body next) in
@@ -86,15 +83,13 @@ module _ (nodes : List Node) where
       → depth_of (steps_at (trees nodes) p.at) ≡ depth_of (steps_from (trees nodes) n)
   depth_here {p} at = grind (arith, steps_at-trees)
 
-  -- A block that begins finds room.
-
-  pub rounds_find_room : {p : Place} {rounds body next : ℕ} → IsAt nodes p (Node.Rounds rounds body next)
-      → PlaceFits nodes p → length p.frames < 32
-  rounds_find_room at fits = let deep = depth_here at in let here = fits.here in omega arith
-
-  pub choice_finds_room : {p : Place} {number first second next : ℕ}
-      → IsAt nodes p (Node.Choice number first second next) → PlaceFits nodes p → length p.frames < 32
-  choice_finds_room at fits = let deep = depth_here at in let here = fits.here in omega arith
+  -- a block that begins finds room
+  pub block_finds_room : {p : Place} {n : Node} → IsAtBlock nodes p n → PlaceFits nodes p → length p.frames < 32
+  block_finds_room {p} {n} block fits =
+      let deep = depth_here block.at in
+      let here = fits.here in
+      let begins = block.begins in
+      grind arith
 
   -- the line after a line
   pub line_fits : {p : Place} {line : ℕ} {instruction : Instruction} {next : ℕ}
@@ -127,7 +122,7 @@ module _ (nodes : List Node) where
       let here = unfolded at in
       grind (arith, below_length, line_fits, Line)
 
-  pub rounds_go_on : {p : Place} {rounds body next : ℕ} → IsAt nodes p (Node.Rounds rounds body next)
+  rounds_go_on : {p : Place} {rounds body next : ℕ} → IsAt nodes p (Node.Rounds rounds body next)
       → MovesOn nodes p (place_in_rounds p rounds body next)
   rounds_go_on {p} {rounds} {body} {next} at =
       let here = unfolded at in
@@ -143,14 +138,12 @@ module _ (nodes : List Node) where
       }
 
   -- the branch that a choice takes
-  branch_goes_on : {p : Place} {number first second next : ℕ} (branch : ℕ)
-      → IsAt nodes p (Node.Choice number first second next) → branch < length nodes
-      → work_of (steps_at (trees nodes) branch)
-      ≤ max (work_of (steps_at (trees nodes) first)) (work_of (steps_at (trees nodes) second))
-      → depth_of (steps_at (trees nodes) branch)
-      ≤ max (depth_of (steps_at (trees nodes) first)) (depth_of (steps_at (trees nodes) second)) → ((rest : Steps)
-      → stop_of (Choice number (steps_at (trees nodes) first) (steps_at (trees nodes) second) rest) (kept_in p)
-      ≡ stop_of (then_steps (steps_at (trees nodes) branch) rest) (kept_in p))
+  branch_goes_on : {p : Place} {number first second next : ℕ} (branch : ℕ) → IsAt nodes p
+      (Node.Choice number first second next) → branch < length nodes → work_of (steps_at (trees nodes) branch) ≤ max
+      (work_of (steps_at (trees nodes) first)) (work_of (steps_at (trees nodes) second)) → depth_of (steps_at
+      (trees nodes) branch) ≤ max (depth_of (steps_at (trees nodes) first)) (depth_of (steps_at (trees nodes) second))
+      → ((rest : Steps) → stop_of (Choice number (steps_at (trees nodes) first) (steps_at (trees nodes) second) rest)
+      (kept_in p) ≡ stop_of (then_steps (steps_at (trees nodes) branch) rest) (kept_in p))
       → MovesOn nodes p (record p { at = branch; frames = p.frames ++ Frame.Branch next ∷ [] })
   branch_goes_on {p} {next} branch at below work depth stops =
       let here = unfolded at in
@@ -180,24 +173,30 @@ module _ (nodes : List Node) where
             };
       }
 
-  pub choice_goes_on : {p : Place} {number first second next : ℕ} → IsAt nodes p (Node.Choice number first second next)
+  choice_goes_on : {p : Place} {number first second next : ℕ} → IsAt nodes p (Node.Choice number first second next)
       → MovesOn nodes p (place_in_branch p number first second next)
   choice_goes_on {p} {number} {first} {second} {next} at = by_test (slice_index p.numbers number == 0) refl
     where
       by_test : (b : Bool) → (slice_index p.numbers number == 0) ≡ b
           → MovesOn nodes p (record p { at = if b then second else first; frames = p.frames ++ Frame.Branch next ∷ [] })
       by_test true t =
-          branch_goes_on second at (below_length at).1 (omega arith) (omega arith)
-          (λ rest. stop_of-choice_zero number (steps_at (trees nodes) first) (steps_at (trees nodes) second) rest
-          (kept_in p) t)
+          branch_goes_on second at (below_length at).1 (omega arith) (omega arith) (λ rest. stop_of-choice_zero number
+          (steps_at (trees nodes) first) (steps_at (trees nodes) second) rest (kept_in p) t)
       by_test false t =
-          branch_goes_on first at (below_length at).0 (omega arith) (omega arith)
-          (λ rest. stop_of-choice_other number (steps_at (trees nodes) first) (steps_at (trees nodes) second) rest
-          (kept_in p) t)
+          branch_goes_on first at (below_length at).0 (omega arith) (omega arith) (λ rest. stop_of-choice_other number
+          (steps_at (trees nodes) first) (steps_at (trees nodes) second) rest (kept_in p) t)
 
-  frames_before : (p : Place) (frames : List Frame) (f : Frame) → p.frames ≡ frames ++ f ∷ [] → PlaceFits nodes p
+  block_begins : {p : Place} {n : Node} → IsAtBlock nodes p n → MovesOn nodes p (place_in_block p n)
+  block_begins {n = Node.Rounds rounds body next} block = rounds_go_on block.at
+  block_begins {n = Node.Choice number first second next} block = choice_goes_on block.at
+  block_begins {n = n} block = absurd (false≢true block.begins)
+
+  pub begun_block : {p q : Place} {n : Node} → IsAtBlock nodes p n → q ≡ place_in_block p n → MovesOn nodes p q
+  begun_block {p} block is = subst (λ (x : Place). MovesOn nodes p x) (sym is) (block_begins block)
+
+  frames_before : {p : Place} (frames : List Frame) (f : Frame) → p.frames ≡ frames ++ f ∷ [] → PlaceFits nodes p
       → FramesFit (trees nodes) 0 frames × FrameFits (trees nodes) (length frames) f
-  frames_before p frames f was w =
+  frames_before frames f was w =
       let left = FramesFit-split (trees nodes) 0 frames f
       (subst (λ (fs : List Frame). FramesFit (trees nodes) 0 fs) was w.frames) in
       (left.0, subst (λ (n : ℕ). FrameFits (trees nodes) n f) (omega arith) left.1)
@@ -217,7 +216,7 @@ module _ (nodes : List Node) where
       length_push frames (Frame.Branch next),
     );
     fits = λ w.
-        let left = frames_before p frames (Frame.Branch next) was w in
+        let left = frames_before frames (Frame.Branch next) was w in
         record { here = left.1; frames = left.0 };
   }
   block_goes_on p frames (Frame.Rounds rounds body next) was here w = record {
@@ -231,7 +230,7 @@ module _ (nodes : List Node) where
       entered_nearer (record p { frames = frames }) rounds body next,
     );
     fits = λ w.
-        let left = frames_before p frames (Frame.Rounds rounds body next) was w in
+        let left = frames_before frames (Frame.Rounds rounds body next) was w in
         entered_fits (record p { frames = frames }) rounds body next left.0 left.1;
   }
 
@@ -249,9 +248,8 @@ module _ (nodes : List Node) where
   pub ends_at : {p : Place} → IsAt nodes p Node.Done → p.frames ≡ [] → HasStopped nodes p p
   ends_at {p} here none = grind (arith, unfolded_done)
 
-  pub asks_at : {p : Place} {line : ℕ} {instruction : Instruction} {next : ℕ}
-      → IsAt nodes p (Node.Line line instruction next) → is_some (op_asked p.numbers instruction) ≡ true
-      → HasStopped nodes p p
+  pub asks_at : {p : Place} {line : ℕ} {instruction : Instruction} {next : ℕ} → IsAt nodes p
+      (Node.Line line instruction next) → is_some (op_asked p.numbers instruction) ≡ true → HasStopped nodes p p
   asks_at {p} {line} {instruction} {next} at some =
       let rest = then_steps (steps_at (trees nodes) next) (behind_frames (trees nodes) p.frames) in
       let stop : Stopped = record { left = Line line instruction rest; kept = kept_in p } in

@@ -1,9 +1,9 @@
 -- The end of a block after which an operation comes: the script stops there.
-use Rattle.mk_check.proofs.Vocabulary.{Frame, FrameIsWithin, FramesAreWithin, HasStopped, IsTree, List, Node, Place}
-use Rattle.mk_check.proofs.Vocabulary.{PlaceIsWithin, Some, ℕ, ap, asks_at, innermost, length, node_at, refl, subst}
-use Rattle.mk_check.proofs.Vocabulary.{take, true, ◌-◌, ◌∙◌, ◌≡◌, KeptState, arith, kept_in, sym, with_kept}
-use Rattle.mk_check.proofs.{AsksFirst.split_last, AtOnce.{asks_so, stopped_here}}
-use Rattle.mk_check.proofs.{Moves.{FramesAreWithin_pop, end_goes_on}, TreeNodes.is_at}
+use Rattle.mk_check.proofs.Vocabulary.{Frame, FrameIsWithin, FramesAreWithin, HasStopped, IsTree, KeptState, List, Node}
+use Rattle.mk_check.proofs.Vocabulary.{Place, PlaceIsWithin, Some, ℕ, ap, arith, asks_at, innermost, kept_in, length}
+use Rattle.mk_check.proofs.Vocabulary.{node_at, refl, subst, sym, take, true, with_kept, ◌-◌, ◌∙◌, ◌≡◌}
+use Rattle.mk_check.proofs.AtOnce.{asks_so, stopped_here}
+use Rattle.mk_check.proofs.{AsksFirst.split_last, Moves.FramesAreWithin_pop, Moves.end_goes_on, TreeNodes.is_at}
 use Rattle.mk_check.specs.Trees.{LeavesBlock, place_behind_block}
 
 pub innermost_within : (count : ℕ) (frames : List Frame) (f : Frame) → FramesAreWithin count frames
@@ -12,9 +12,9 @@ innermost_within count frames f w e =
     (FramesAreWithin_pop count (take (length frames - 1) frames) f
     (subst (λ (xs : List Frame). FramesAreWithin count xs) (split_last frames f e) w)).1
 
-pub stops_behind_block : (nodes : List Node) (p t : Place) → IsTree nodes → PlaceIsWithin (length nodes) p
+pub stops_behind_block : (nodes : List Node) {p t : Place} → IsTree nodes → PlaceIsWithin (length nodes) p
     → node_at nodes p.at ≡ Node.Done → LeavesBlock p t → asks_at (node_at nodes t.at) ≡ true → HasStopped nodes p t
-stops_behind_block nodes p t tree w e leaves asks =
+stops_behind_block nodes {t = t} tree w e leaves asks =
     let moves = end_goes_on nodes (is_at tree w e) leaves in
     let stopped = stopped_here nodes t (node_at nodes t.at) tree moves.within refl
     (asks_so t.numbers (node_at nodes t.at) asks) in

@@ -4,7 +4,7 @@ use Rattle.mk_check.proofs.Vocabulary.{Rounds, Scope, Stopped, ℕ, after_answer
 use Rattle.mk_check.proofs.Vocabulary.{instruction_of, is_some, number_of_name, numbered, op_asked, op_of, refl, run}
 use Rattle.mk_check.proofs.Vocabulary.{stop_behind, stop_of, stop_of_rounds, suc, then_steps, with_answer, zero, ◌==◌}
 use Rattle.mk_check.proofs.Vocabulary.{◌∙◌, ◌≡◌}
-use Rattle.mk_check.specs.{Blocks.followed_by, Feed.{number_in, run_line, run_rounds, then_run}}
+use Rattle.mk_check.specs.{Blocks.followed_by, Feed.number_in, Feed.run_line, Feed.run_rounds, Feed.then_run}
 use Rattle.mk_check.specs.Steps as steps
 
 abbrev pub kept_of : Fed → KeptState
@@ -51,11 +51,11 @@ then_run_agrees scope fed go rest go' h =
     grind (arith, stopped_of, kept_of, steps_of-followed_by, Done, Line, Rounds, Choice)
 
 -- a part that agrees, and then the rest
-then_agrees : (scope : Scope) (fed : Fed) (go : Fed → Fed) (rest : Blocks) (stopped : Stopped) (go' : KeptState
-    → Stopped) (ops : List Op) → Agrees scope fed stopped ops
+then_agrees : {scope : Scope} {fed : Fed} (go : Fed → Fed) (rest : Blocks) {stopped : Stopped} (go' : KeptState
+    → Stopped) {ops : List Op} → Agrees scope fed stopped ops
     → ((f : Fed) → Agrees scope (go f) (go' (kept_of f)) f.ops)
     → Agrees scope (then_run fed go rest) (stop_behind stopped go' (numbered scope rest)) ops
-then_agrees scope fed go rest stopped go' ops a h =
+then_agrees {scope} {fed} go rest go' a h =
     let b = then_run_agrees scope fed go rest go' h in
     record {
       stop = b.stop ∙ ap (λ (s : Stopped). stop_behind s go' (numbered scope rest)) a.stop;
@@ -63,13 +63,12 @@ then_agrees scope fed go rest stopped go' ops a h =
     }
 
 run_rounds_agrees : (scope : Scope) (rounds : ℕ) (body : Blocks) (go : Fed → Fed) (go' : KeptState → Stopped)
-    → ((f : Fed) → Agrees scope (go f) (go' (kept_of f)) f.ops)
-    → (fed : Fed) → Agrees scope (run_rounds rounds body go fed)
-    (stop_of_rounds rounds (numbered scope body) go' (kept_of fed)) fed.ops
+    → ((f : Fed) → Agrees scope (go f) (go' (kept_of f)) f.ops) → (fed : Fed) → Agrees scope
+    (run_rounds rounds body go fed) (stop_of_rounds rounds (numbered scope body) go' (kept_of fed)) fed.ops
 run_rounds_agrees scope zero body go go' h fed = record { stop = refl; answers = refl }
 run_rounds_agrees scope (suc more) body go go' h fed =
-    then_agrees scope (go fed) (run_rounds more body go) (Rounds more body Done) (go' (kept_of fed))
-    (stop_of_rounds more (numbered scope body) go') fed.ops (h fed) (run_rounds_agrees scope more body go go' h)
+    then_agrees (run_rounds more body go) (Rounds more body Done)
+    (stop_of_rounds more (numbered scope body) go') (h fed) (run_rounds_agrees scope more body go go' h)
 
 -- The steps stop where the blocks do.
 pub run_agrees : (scope : Scope) (b : Blocks) (fed : Fed)
@@ -85,30 +84,24 @@ run_agrees scope (Line line item rest) fed =
     })
   where
     by_test : (s t : Bool) → s ≡ t → Agrees scope (run scope rest (run_line scope fed item))
-        (stop_of (numbered scope rest) (after_line (instruction_of scope item) (kept_of fed))) fed.ops
-        → Agrees scope (if s then record fed { left = Line line item rest }
-        else run scope rest (run_line scope fed item)) (if t then record {
+        (stop_of (numbered scope rest) (after_line (instruction_of scope item) (kept_of fed))) fed.ops → Agrees scope
+        (if s then record fed { left = Line line item rest } else run scope rest (run_line scope fed item))
+        (if t then record {
           left = steps.Line line (instruction_of scope item) (numbered scope rest);
-          kept = kept_of fed;
-        }
-        else stop_of (numbered scope rest) (after_line (instruction_of scope item) (kept_of fed))) fed.ops
+          kept = kept_of
+              fed;
+        } else stop_of (numbered scope rest) (after_line (instruction_of scope item) (kept_of fed))) fed.ops
     by_test x0 x1 e h = grind arith
 run_agrees scope (Rounds rounds body rest) fed =
-    then_agrees scope (run_rounds rounds body (run scope body) fed) (run scope rest) rest
-    (stop_of_rounds rounds (numbered scope body) (stop_of (numbered scope body)) (kept_of fed))
-    (stop_of (numbered scope rest)) fed.ops
-    (run_rounds_agrees scope rounds body (run scope body) (stop_of (numbered scope body)) (run_agrees scope body) fed)
-    (run_agrees scope rest)
+    then_agrees (run scope rest) rest
+    (stop_of (numbered scope rest)) (run_rounds_agrees scope rounds body (run scope body)
+    (stop_of (numbered scope body)) (run_agrees scope body) fed) (run_agrees scope rest)
 run_agrees scope (Choice number first second rest) fed =
-    then_agrees scope (if number_in scope fed number == 0 then run scope second fed else run scope first fed)
-    (run scope rest) rest (if number_in scope fed number == 0 then stop_of (numbered scope second) (kept_of fed)
-    else stop_of (numbered scope first) (kept_of fed)) (stop_of (numbered scope rest)) fed.ops
-    (by_test (number_in scope fed number == 0) (run_agrees scope first fed) (run_agrees scope second fed))
-    (run_agrees scope rest)
+    then_agrees (run scope rest) rest (stop_of (numbered scope rest)) (by_test (number_in scope fed number == 0)
+    (run_agrees scope first fed) (run_agrees scope second fed)) (run_agrees scope rest)
   where
     by_test : (t : Bool) → Agrees scope (run scope first fed) (stop_of (numbered scope first) (kept_of fed)) fed.ops
         → Agrees scope (run scope second fed) (stop_of (numbered scope second) (kept_of fed)) fed.ops
-        → Agrees scope (if t then run scope second fed else run scope first fed)
-        (if t then stop_of (numbered scope second) (kept_of fed) else stop_of (numbered scope first) (kept_of fed))
-        fed.ops
+        → Agrees scope (if t then run scope second fed else run scope first fed) (if t then stop_of
+        (numbered scope second) (kept_of fed) else stop_of (numbered scope first) (kept_of fed)) fed.ops
     by_test x0 f g = grind arith

@@ -3,8 +3,8 @@ use Rattle.mk_check.proofs.Vocabulary.{Answer, Bool, HasStopped, Instruction, Is
 use Rattle.mk_check.proofs.Vocabulary.{Option, Place, PlaceIsWithin, Sequel, Some, TakesLine, ℕ, after_answer, ap}
 use Rattle.mk_check.proofs.Vocabulary.{arith, asks_at, false, if◌then◌else◌, kept_in, length, node_at, not, refl}
 use Rattle.mk_check.proofs.Vocabulary.{sequel_to, sequels_of, subst, sym, true, with_kept, ◌&&◌, ◌∙◌, ◌≡◌}
-use Rattle.mk_check.proofs.{AtOnce.{asks_so, stopped_here}, Moves.below_length, NextRounds.{kept_left, left_with}}
-use Rattle.mk_check.proofs.{NextRounds.stops_behind_block, TreeNodes.is_at}
+use Rattle.mk_check.proofs.{NextRounds.{kept_left, left_with, stops_behind_block}, AtOnce.{asks_so, stopped_here}}
+use Rattle.mk_check.proofs.{Moves.below_length, TreeNodes.is_at}
 use Rattle.mk_check.specs.{AtOnce.{LeavesToOp, TakesAtOnce}, Steps.{is_show, is_silent, keeping_register, with_value}}
 use Rattle.mk_check.specs.{Feed.is_refusal, Spots.sequels_by, declared.feeding.tree.Sequels.Sequels}
 
@@ -55,9 +55,8 @@ ends_is_known e = absurd cc
 
 -- what the answer does to what is kept
 
-pub number_kept : (instruction : Instruction) (number value : ℕ) (k : KeptState)
-    → keeping_register instruction ≡ Some number
-    → after_answer instruction (Answer.Num value) k ≡ with_value k number value
+pub number_kept : (instruction : Instruction) (number value : ℕ) (k : KeptState) → keeping_register instruction
+    ≡ Some number → after_answer instruction (Answer.Num value) k ≡ with_value k number value
 number_kept x0 number value k e = grind arith
 
 pub nothing_kept : (instruction : Instruction) (a : Answer) (k : KeptState) → is_show instruction ≡ false
@@ -86,26 +85,25 @@ module _ (nodes : List Node) (p : Place) (next : ℕ) (instruction : Instruction
         (asks_so (start a).numbers (node_at nodes next) asks));
   }
 
-  stops_behind : (a : Answer) (q t : Place) → is_silent instruction a ≡ true → node_at nodes next ≡ Node.Done
+  stops_behind : (a : Answer) {q : Place} (t : Place) → is_silent instruction a ≡ true → node_at nodes next ≡ Node.Done
       → LeavesToOp nodes p q → t ≡ with_kept q (after_answer instruction a (kept_in p))
       → TakesAtOnce nodes next instruction a p t
-  stops_behind a q t quiet ends l is = record {
+  stops_behind a {q = q} t quiet ends l is = record {
     silent = quiet;
-    stopped = subst (λ (x : Place). HasStopped nodes (start a) x) (sym is)
-        (stops_behind_block nodes (start a) (with_kept q (after_answer instruction a (kept_in p))) tree
+    stopped = subst (λ (x : Place). HasStopped nodes (start a) x) (sym is) (stops_behind_block nodes tree
         (record { at = w.at; frames = w.frames }) ends (left_with next _ l.leaves) l.asks);
   }
 
-module _ (nodes : List Node) (p : Place) (tree : IsTree nodes) (w : PlaceIsWithin (length nodes) p) where
+module _ (nodes : List Node) {p : Place} (tree : IsTree nodes) (w : PlaceIsWithin (length nodes) p) where
   -- the node after the place's line
   within_next : (line : ℕ) (instruction : Instruction) (next : ℕ) → node_at nodes p.at ≡ Node.Line line instruction next
       → PlaceIsWithin (length nodes) (record p { at = next })
   within_next line instruction next here = record { at = below_length nodes (is_at tree w here); frames = w.frames }
 
-  at_line : (kept : Option ℕ) (next : ℕ) (a : Answer) (k : KeptState) (t : Place) → is_refusal a ≡ false
+  at_line : {kept : Option ℕ} {next : ℕ} (a : Answer) (k : KeptState) (t : Place) → is_refusal a ≡ false
       → (l : IsLine nodes (node_at nodes p.at) next kept Sequel.Asks)
       → after_answer l.instruction a (kept_in p) ≡ k → t ≡ with_kept (record p { at = next }) k → TakesLine nodes a p t
-  at_line kept next a k t accepted l after is = record {
+  at_line {next} a k t accepted l after is = record {
     line = l.line;
     instruction = l.instruction;
     next = next;
@@ -115,15 +113,15 @@ module _ (nodes : List Node) (p : Place) (tree : IsTree nodes) (w : PlaceIsWithi
         (is ∙ ap (λ (x : KeptState). with_kept (record p { at = next }) x) (sym after));
   }
 
-  at_end : (kept : Option ℕ) (next : ℕ) (a : Answer) (k : KeptState) (q t : Place) → is_refusal a ≡ false
+  at_end : {kept : Option ℕ} {next : ℕ} (a : Answer) (k : KeptState) {q : Place} (t : Place) → is_refusal a ≡ false
       → (l : IsLine nodes (node_at nodes p.at) next kept Sequel.Ends) → LeavesToOp nodes p q
       → after_answer l.instruction a (kept_in p) ≡ k → t ≡ with_kept q k → TakesLine nodes a p t
-  at_end kept next a k q t accepted l leaves after is = record {
+  at_end {next} a k {q = q} t accepted l leaves after is = record {
     line = l.line;
     instruction = l.instruction;
     next = next;
     here = l.is;
-    taken = stops_behind nodes p next l.instruction tree (within_next l.line l.instruction next l.is) a q t
+    taken = stops_behind nodes p next l.instruction tree (within_next l.line l.instruction next l.is) a t
         (silent l.instruction a accepted l.shown) (grind (arith, ends_not)) leaves
         (is ∙ ap (λ (x : KeptState). with_kept q x) (sym after));
   }
@@ -141,30 +139,29 @@ module _ (nodes : List Node) (p : Place) (tree : IsTree nodes) (w : PlaceIsWithi
         subst (λ (x : Sequels). IsLine nodes (node_at nodes p.at) x.next None told) (sym so)
         (grind (arith, line_told, unkept_by))
 
-    pub number_at_line : (value : ℕ) (t : Place) → s.kept ≡ Sequel.Asks
-        → t ≡ with_kept (record p { at = s.next }) (with_value (kept_in p) s.register value)
-        → TakesLine nodes (Answer.Num value) p t
+    pub number_at_line : (value : ℕ) (t : Place) → s.kept ≡ Sequel.Asks → t ≡ with_kept (record p { at = s.next })
+        (with_value (kept_in p) s.register value) → TakesLine nodes (Answer.Num value) p t
     number_at_line value t e is =
         let l = kept_here Sequel.Asks asks_is_known e in
-        at_line (Some s.register) s.next (Answer.Num value) (with_value (kept_in p) s.register value) t refl l
+        at_line (Answer.Num value) (with_value (kept_in p) s.register value) t refl l
         (number_kept l.instruction s.register value (kept_in p) l.keeps) is
 
-    pub number_at_end : (value : ℕ) (q t : Place) → s.kept ≡ Sequel.Ends → LeavesToOp nodes p q
+    pub number_at_end : (value : ℕ) {q : Place} (t : Place) → s.kept ≡ Sequel.Ends → LeavesToOp nodes p q
         → t ≡ with_kept q (with_value (kept_in p) s.register value) → TakesLine nodes (Answer.Num value) p t
-    number_at_end value q t e leaves is =
+    number_at_end value {q = q} t e leaves is =
         let l = kept_here Sequel.Ends ends_is_known e in
-        at_end (Some s.register) s.next (Answer.Num value) (with_value (kept_in p) s.register value) q t refl l leaves
+        at_end (Answer.Num value) (with_value (kept_in p) s.register value) t refl l leaves
         (number_kept l.instruction s.register value (kept_in p) l.keeps) is
 
     pub none_at_line : (a : Answer) (t : Place) → is_refusal a ≡ false → s.unkept ≡ Sequel.Asks
         → t ≡ record p { at = s.next } → TakesLine nodes a p t
     none_at_line a t accepted e is =
         let l = unkept_here Sequel.Asks asks_is_known e in
-        at_line None s.next a (kept_in p) t accepted l (nothing_kept l.instruction a (kept_in p) l.shown l.keeps) is
+        at_line a (kept_in p) t accepted l (nothing_kept l.instruction a (kept_in p) l.shown l.keeps) is
 
-    pub none_at_end : (a : Answer) (t : Place) → is_refusal a ≡ false → s.unkept ≡ Sequel.Ends
+    pub none_at_end : (a : Answer) {t : Place} → is_refusal a ≡ false → s.unkept ≡ Sequel.Ends
         → LeavesToOp nodes p t → TakesLine nodes a p t
-    none_at_end a t accepted e leaves =
+    none_at_end a {t = t} accepted e leaves =
         let l = unkept_here Sequel.Ends ends_is_known e in
-        at_end None s.next a _ t t accepted l leaves (nothing_kept l.instruction a _ l.shown l.keeps)
+        at_end a _ t accepted l leaves (nothing_kept l.instruction a _ l.shown l.keeps)
         (ap (with_kept t) (kept_left leaves.leaves))

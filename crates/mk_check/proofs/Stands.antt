@@ -1,8 +1,8 @@
 -- A script that is fed stands for what the definition says.
-use Rattle.mk_check.proofs.Vocabulary.{Answer, Blocks, Bool, Choice, Done, Fed, FeedStandsFor, FeedState, HasStopped}
+use Rattle.mk_check.proofs.Vocabulary.{Answer, Blocks, Bool, Done, Fed, FeedStandsFor, FeedState, HasStopped}
 use Rattle.mk_check.proofs.Vocabulary.{Instruction, IsAtStop, IsFeed, IsTree, IsWaiting, Item, KeptState, Line, List}
-use Rattle.mk_check.proofs.Vocabulary.{Node, None, Op, Option, Place, PlaceIsWithin, Rounds, Scope, ScriptText, Steps}
-use Rattle.mk_check.proofs.Vocabulary.{Stopped, StopsAt, ℕ, after_answer, ap, append_assoc, arith, blocks_from, false}
+use Rattle.mk_check.proofs.Vocabulary.{Node, None, Op, Option, Place, PlaceIsWithin, Scope, ScriptText, Steps, Stopped}
+use Rattle.mk_check.proofs.Vocabulary.{StopsAt, ℕ, after_answer, ap, append_assoc, arith, blocks_from, false}
 use Rattle.mk_check.proofs.Vocabulary.{fed_before_lines, feed, first_op, instruction_of, is_end_of_block, is_some}
 use Rattle.mk_check.proofs.Vocabulary.{kept_in, left_in, length, length_push, node_at, note, numbered, op_asked, op_in}
 use Rattle.mk_check.proofs.Vocabulary.{op_of, op_of_node, refl, refusal_line, refusal_text, script_of, script_scope}
@@ -38,36 +38,35 @@ pub record Tells (scope : Scope) (fed : Fed) (o : Option Op) : Type 0 where
   pub ended : is_some o ≡ false → has_ended fed ≡ true
   pub none : has_ended fed ≡ true → is_some o ≡ false
 
-tells : (scope : Scope) (fed : Fed) (nodes : List Node) (p : Place) (n : Node) → IsTree nodes
+tells : (scope : Scope) (fed : Fed) (nodes : List Node) {p : Place} (n : Node) → IsTree nodes
     → PlaceIsWithin (length nodes) p → node_at nodes p.at ≡ n → StopsAt n p
     → left_in nodes p ≡ numbered scope fed.left → p.numbers ≡ fed.numbers → Tells scope fed (op_of_node p.numbers n)
-tells scope fed nodes p Node.Done tree w e stops left numbers = grind (arith, no_more, unfolded_done, is_at)
-tells scope fed nodes p (Node.Line line instruction next) tree w e stops left numbers =
+tells scope fed nodes Node.Done tree w e stops left numbers = grind (arith, no_more, unfolded_done, is_at)
+tells scope fed nodes {p = p} (Node.Line line instruction next) tree w e stops left numbers =
     let here = begins_with scope fed.left line instruction _ (sym left ∙ unfolded_line nodes (is_at tree w e)) in
     let op : op_asked p.numbers instruction ≡ first_op scope fed fed.left = grind (arith, op_of-asked) in
     let on : has_ended fed ≡ false = ap is_end_of_block here.is in
     record { op = op; ended = λ h. cc; none = λ h. cc }
-tells scope fed nodes p _ tree w e stops left numbers = absurd stops
+tells scope fed nodes _ tree w e stops left numbers = absurd stops
 
-pub op_of_others : (numbers : List ℕ) (n : Node)
-    → ((line : ℕ) (instruction : Instruction) (next : ℕ) → n ≡ Node.Line line instruction next → ⊥)
-    → op_of_node numbers n ≡ None
+pub op_of_others : (numbers : List ℕ) (n : Node) → ((line : ℕ) (instruction : Instruction) (next : ℕ)
+    → n ≡ Node.Line line instruction next → ⊥) → op_of_node numbers n ≡ None
 op_of_others numbers x1 h = grind arith
 
-pub op_stands : (program : List Item) (k : ℕ) (s : FeedState) (answers : List Answer) → IsTree s.nodes → IsAtStop s
+pub op_stands : {program : List Item} {k : ℕ} {s : FeedState} {answers : List Answer} → IsTree s.nodes → IsAtStop s
     → FeedStandsFor program k s answers → Tells (script_scope program k) (feed program k answers) (op_in s)
-op_stands program k s answers tree stop st =
-    tells (script_scope program k) (feed program k answers) s.nodes s.place (node_at s.nodes s.place.at) tree
+op_stands {program} {k} {s} {answers} tree stop st =
+    tells (script_scope program k) (feed program k answers) s.nodes (node_at s.nodes s.place.at) tree
     stop.within refl stop.stops st.left st.numbers
 
 -- A script that hasn't ended waits for the answer of an operation.
-pub waits_for_answer : (s : FeedState) → IsTree s.nodes → IsFeed s → IsWaiting s → is_some (op_in s) ≡ true
-waits_for_answer s tree h waiting = by_op (is_some (op_in s)) refl
+pub waits_for_answer : {s : FeedState} → IsTree s.nodes → IsFeed s → IsWaiting s → is_some (op_in s) ≡ true
+waits_for_answer {s} tree h waiting = by_op (is_some (op_in s)) refl
   where
     by_op : (b : Bool) → is_some (op_in s) ≡ b → b ≡ true
     by_op true e = refl
     by_op false e =
-        let t = op_stands h.some.program h.some.k s h.some.answers tree h.stop h.some.stands in
+        let t = op_stands tree h.stop h.some.stands in
         sym (waiting h.some.program h.some.k h.some.answers h.some.stands) ∙ t.ended e
 
 -- A script that begins.
@@ -94,14 +93,15 @@ then_steps-done (steps.Choice number first second rest) = ap (steps.Choice numbe
 
 -- a script that ran from its first line
 pub start_stops : (nodes : List Node) (scope : Scope) (script : ScriptText) (at : ℕ) (p q : Place)
-    → steps_at (trees nodes) at ≡ numbered scope (blocks_from script.line script.items) → p ≡ record {
+    → steps_at (trees nodes) at ≡ numbered scope (blocks_from script.line script.items)
+    → p ≡ record {
       at = at;
       frames = [];
       numbers = (fed_before_lines scope script).numbers;
-      text = (fed_before_lines scope script).text;
-    }
-    → HasStopped nodes p q → stopped_in nodes q
-    ≡ stop_of (numbered scope (blocks_from script.line script.items)) (kept_of (fed_before_lines scope script))
+      text =
+          (fed_before_lines scope script).text;
+    } → HasStopped nodes p q → stopped_in nodes q ≡ stop_of
+    (numbered scope (blocks_from script.line script.items)) (kept_of (fed_before_lines scope script))
 start_stops nodes scope script at p q tree begins stopped = grind (arith, then_steps-done)
 
 -- One more answer.
@@ -150,13 +150,12 @@ answered_from program k answers a line item rest s is taken some stop =
       text = ap (λ (t : Stopped). t.kept.text) same;
     }
 
-pub answer_stands : (program : List Item) (k : ℕ) (answers : List Answer) (a : Answer) (s t : FeedState) (line : ℕ)
-    (instruction : Instruction) (next : ℕ)
-    → IsTree s.nodes → PlaceIsWithin (length s.nodes) s.place → node_at s.nodes s.place.at
-    ≡ Node.Line line instruction next → is_some (op_asked s.place.numbers instruction) ≡ true
-    → stopped_in t.nodes t.place ≡ stop_on_answer (left_in s.nodes s.place) a (kept_in s.place)
+pub answer_stands : {program : List Item} {k : ℕ} {answers : List Answer} (a : Answer) {s : FeedState} (t : FeedState)
+    (line : ℕ) (instruction : Instruction) (next : ℕ) → IsTree s.nodes → PlaceIsWithin (length s.nodes) s.place
+    → node_at s.nodes s.place.at ≡ Node.Line line instruction next → is_some (op_asked s.place.numbers instruction)
+    ≡ true → stopped_in t.nodes t.place ≡ stop_on_answer (left_in s.nodes s.place) a (kept_in s.place)
     → FeedStandsFor program k s answers → FeedStandsFor program k t (answers ++ a ∷ [])
-answer_stands program k answers a s t line instruction next tree w e some stop st =
+answer_stands {program} {k} {answers} a {s = s} t line instruction next tree w e some stop st =
     let scope = script_scope program k in
     let fed = feed program k answers in
     let here = begins_with scope fed.left line instruction _ (sym st.left ∙ unfolded_line s.nodes (is_at tree w e)) in
@@ -174,21 +173,21 @@ after_answer-text : (text : List ℕ) (instruction : Instruction) (a : Answer) (
 after_answer-text text x1 a k = grind (arith, append_assoc)
 
 pub stop_on_answer-text : (rest : Steps) (line : ℕ) (instruction : Instruction) (a : Answer) (k : KeptState)
-    → stop_on_answer (steps.Line line instruction rest) a k ≡ stopped_behind_text k.text
-    (stop_of rest (after_answer instruction a
-    (record { numbers = k.numbers; text = refusal_line line (refusal_text a) })))
+    → stop_on_answer (steps.Line line instruction rest) a k ≡ stopped_behind_text k.text (stop_of rest
+    (after_answer instruction a (record { numbers = k.numbers; text = refusal_line line (refusal_text a) })))
 stop_on_answer-text rest line instruction a k =
     let apart : KeptState = record { numbers = k.numbers; text = refusal_line line (refusal_text a) } in
     cc (after_answer-text k.text instruction a apart, stop_of-text k.text rest (after_answer instruction a apart))
 
 -- A copy that runs on without the text so far stops where the script stops.
-pub answer_stops : (nodes : List Node) (p r q t : Place) (line : ℕ) (instruction : Instruction) (next : ℕ) (a : Answer)
+pub answer_stops : {nodes : List Node} {p r q : Place} (t : Place) (line : ℕ) (instruction : Instruction) (next : ℕ)
+    (a : Answer)
     → IsTree nodes → PlaceIsWithin (length nodes) p → node_at nodes p.at ≡ Node.Line line instruction next
     → r ≡ with_kept (record p { at = next })
     (after_answer instruction a (record { numbers = p.numbers; text = refusal_line line (refusal_text a) }))
     → HasStopped nodes r q → t ≡ record q { text = p.text ++ q.text }
     → stopped_in nodes t ≡ stop_on_answer (left_in nodes p) a (kept_in p)
-answer_stops nodes p r q t line instruction next a tree w e starts stopped follows =
+answer_stops {nodes} {p} {q} t line instruction next a tree w e starts stopped follows =
     let rest = left_in nodes (record p { at = next }) in
     let apart : KeptState = record { numbers = p.numbers; text = refusal_line line (refusal_text a) } in
     let runs : stopped_in nodes q ≡ stop_of rest (after_answer instruction a apart) =

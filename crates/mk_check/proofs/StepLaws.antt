@@ -39,9 +39,8 @@ stop_of-then_steps (Choice number first second rest) b k =
     then_ran_then s.left s.kept rest b (stop_of-then_steps rest b)
 
 -- rounds after the first, which may have stopped
-rounds_behind : (left : Steps) (kept : KeptState) (more : ℕ) (body rest : Steps)
-    → stop_behind (stop_behind (record { left = left; kept = kept }) (stop_of_rounds more body (stop_of body))
-    (Rounds more body Done)) (stop_of rest) rest
+rounds_behind : (left : Steps) (kept : KeptState) (more : ℕ) (body rest : Steps) → stop_behind (stop_behind (record
+    { left = left; kept = kept }) (stop_of_rounds more body (stop_of body)) (Rounds more body Done)) (stop_of rest) rest
     ≡ stop_behind (record { left = left; kept = kept }) (stop_of (Rounds more body rest)) (Rounds more body rest)
 rounds_behind x0 kept more body rest = grind (arith, then_steps_assoc)
 
@@ -50,9 +49,8 @@ pub stop_of-round : (more : ℕ) (body rest : Steps) (k : KeptState)
     → stop_of (Rounds (suc more) body rest) k ≡ stop_of (then_steps body (Rounds more body rest)) k
 stop_of-round more body rest k = grind (arith, rounds_behind, stop_of-then_steps, Rounds)
 
-pub stop_of-choice_zero : (number : ℕ) (first second rest : Steps) (k : KeptState)
-    → (slice_index k.numbers number == 0) ≡ true
-    → stop_of (Choice number first second rest) k ≡ stop_of (then_steps second rest) k
+pub stop_of-choice_zero : (number : ℕ) (first second rest : Steps) (k : KeptState) → (slice_index k.numbers number == 0)
+    ≡ true → stop_of (Choice number first second rest) k ≡ stop_of (then_steps second rest) k
 stop_of-choice_zero number first second rest k h = cc (stop_of-then_steps second rest k)
 
 pub stop_of-choice_other : (number : ℕ) (first second rest : Steps) (k : KeptState)
@@ -75,9 +73,8 @@ stop_behind-text : (text : List ℕ) (left : Steps) (kept : KeptState) (go : Kep
 stop_behind-text text x1 kept go rest h = grind arith
 
 stop_of_rounds-text : (text : List ℕ) (rounds : ℕ) (body : Steps) (go : KeptState → Stopped)
-    → ((k : KeptState) → go (behind_text text k) ≡ stopped_behind_text text (go k))
-    → (k : KeptState) → stop_of_rounds rounds body go (behind_text text k)
-    ≡ stopped_behind_text text (stop_of_rounds rounds body go k)
+    → ((k : KeptState) → go (behind_text text k) ≡ stopped_behind_text text (go k)) → (k : KeptState)
+    → stop_of_rounds rounds body go (behind_text text k) ≡ stopped_behind_text text (stop_of_rounds rounds body go k)
 stop_of_rounds-text text zero body go h k = refl
 stop_of_rounds-text text (suc more) body go h k =
     ap (λ (s : Stopped). stop_behind s (stop_of_rounds more body go) (Rounds more body Done)) (h k)
@@ -92,27 +89,26 @@ stop_of-text text (Line line instruction rest) k =
     by_test (is_some (op_asked k.numbers instruction)) (ap (stop_of rest) (grind (arith, append_assoc))
     ∙ stop_of-text text rest (after_line instruction k))
   where
-    by_test : (t : Bool) → stop_of rest (after_line instruction (behind_text text k))
-        ≡ stopped_behind_text text (stop_of rest (after_line instruction k))
-        → (if t then record { left = Line line instruction rest; kept = behind_text text k }
-        else stop_of rest (after_line instruction (behind_text text k)))
-        ≡ stopped_behind_text text (if t then record { left = Line line instruction rest; kept = k }
-        else stop_of rest (after_line instruction k))
+    by_test : (t : Bool) → stop_of rest (after_line instruction (behind_text text k)) ≡ stopped_behind_text text
+        (stop_of rest (after_line instruction k)) → (if t then record {
+          left = Line line instruction rest;
+          kept =
+              behind_text text k;
+        } else stop_of rest (after_line instruction (behind_text text k))) ≡ stopped_behind_text text
+        (if t then record { left = Line line instruction rest; kept = k } else stop_of rest (after_line instruction k))
     by_test true h = refl
     by_test false h = h
 stop_of-text text (Rounds rounds body rest) k =
     let s = stop_of_rounds rounds body (stop_of body) k in
-    ap (λ (t : Stopped). stop_behind t (stop_of rest) rest)
-    (stop_of_rounds-text text rounds body (stop_of body) (stop_of-text text body) k)
-    ∙ stop_behind-text text s.left s.kept (stop_of rest) rest (stop_of-text text rest)
+    ap (λ (t : Stopped). stop_behind t (stop_of rest) rest) (stop_of_rounds-text text rounds body (stop_of body)
+    (stop_of-text text body) k) ∙ stop_behind-text text s.left s.kept (stop_of rest) rest (stop_of-text text rest)
 stop_of-text text (Choice number first second rest) k =
     by_test (slice_index k.numbers number == 0) (stop_of-text text first k) (stop_of-text text second k)
     (stop_of-text text rest)
   where
     by_test : (t : Bool) → stop_of first (behind_text text k) ≡ stopped_behind_text text (stop_of first k)
-        → stop_of second (behind_text text k) ≡ stopped_behind_text text (stop_of second k)
-        → ((k' : KeptState) → stop_of rest (behind_text text k') ≡ stopped_behind_text text (stop_of rest k'))
-        → stop_behind (if t then stop_of second (behind_text text k) else stop_of first (behind_text text k))
-        (stop_of rest) rest
+        → stop_of second (behind_text text k) ≡ stopped_behind_text text (stop_of second k) → ((k' : KeptState)
+        → stop_of rest (behind_text text k') ≡ stopped_behind_text text (stop_of rest k')) → stop_behind
+        (if t then stop_of second (behind_text text k) else stop_of first (behind_text text k)) (stop_of rest) rest
         ≡ stopped_behind_text text (stop_behind (if t then stop_of second k else stop_of first k) (stop_of rest) rest)
     by_test x0 f g h = grind (arith, stop_behind-text)

@@ -2,11 +2,10 @@
 use Rattle.std.proofs.Common.{eqb-true}
 use Rattle.mk_check.proofs.Vocabulary.{Around, At, Item, List, None, Option, Some, TypeKind, TypeWord, ℕ, and_parts, ap}
 use Rattle.mk_check.proofs.Vocabulary.{arith, base_of, bytes_eq-Decides, global_type, moved_by, option_map, pointer_at}
-use Rattle.mk_check.proofs.Vocabulary.{refl, same_Some, sym, true, type_words, typing_fault, word_among, ◌+◌, ◌or◌, ◌∙◌}
-use Rattle.mk_check.proofs.{Vocabulary.◌≡◌, FaultLemmas.{HasValue, has_value, or-None, unless-None}}
+use Rattle.mk_check.proofs.Vocabulary.{refl, same_Some, sym, true, type_words, typing_fault, word_among, ◌+◌, ◌∙◌, ◌≡◌}
+use Rattle.mk_check.{proofs.FaultLemmas.{HasValue, has_value, or-None, unless-None}, specs.Typing.{unless}}
 use Rattle.mk_check.specs.Typing.{base_of_global, inside_fault, is_base, kind_fault, number_word_fault, place_behind}
 use Rattle.mk_check.specs.Typing.{pointed_place, pointer_fault, pointer_word_fault, same_at, type_fault, type_word_at}
-use Rattle.mk_check.specs.Typing.{unless}
 use Rattle.mk_script.specs.declared.items.Item.TheVariants.{Casp, Clear, Free, Getn, Getp, Isnull, Lea, Loadg, Move}
 use Rattle.mk_script.specs.declared.items.Item.TheVariants.{New, Same, Setn, Setp, Show, Storeg}
 use Rattle.mk_script.specs.declared.items.TypeWord.TheVariants.{Number, Pointer}
@@ -128,9 +127,8 @@ module _ (a : Around) (script : List Item) (stays : (name : List ℕ) (at : At) 
       (are_one _ _ (unless-None _ TypeKind.Kind alike))
     where
       by_place : (place : Option At) → pointer_at pointer a.script ≡ place
-          → HasValue (type_word_at a (option_map (moved_by i) place))
-          → AreOne (pointer_at register a.script) (option_map (moved_by i) place)
-          → PointsBehind a.program script pointer i register
+          → HasValue (type_word_at a (option_map (moved_by i) place)) → AreOne (pointer_at register a.script)
+          (option_map (moved_by i) place) → PointsBehind a.program script pointer i register
       by_place None is word one = let f = one.second in cc
       by_place (Some at) is word one =
           let same : one.at ≡ moved_by i at = sym (same_Some (moved_by i at) one.at one.second) in
@@ -159,9 +157,8 @@ module _ (a : Around) (script : List Item) (stays : (name : List ℕ) (at : At) 
       by_type (global_type global a.program) refl
       (are_one (pointer_at pointer a.script) (base_of_global a global) (unless-None _ TypeKind.Kind e))
     where
-      by_type : (ty : Option (List ℕ)) → global_type global a.program ≡ ty
-          → AreOne (pointer_at pointer a.script) (option_map base_of ty)
-          → PointsToGlobal a.program script pointer global
+      by_type : (ty : Option (List ℕ)) → global_type global a.program ≡ ty → AreOne (pointer_at pointer a.script)
+          (option_map base_of ty) → PointsToGlobal a.program script pointer global
       by_type x0 is one = grind (arith, declared)
 
   to_base : (pointer : List ℕ) → unless (is_base (pointer_at pointer a.script)) TypeKind.InteriorFree ≡ None

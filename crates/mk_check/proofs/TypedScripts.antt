@@ -1,15 +1,15 @@
 -- Each line of a script of a well-typed program says what a well-typed line says.
 use Rattle.mk_check.proofs.Vocabulary.{At, Item, List, None, Some, ℕ, ap, append_assoc, before_next_script, fault_from}
 use Rattle.mk_check.proofs.Vocabulary.{pointer_at, script_from, script_of, suc, sym, this_script, typing_fault, zero}
-use Rattle.mk_check.proofs.{Vocabulary.{[], ◌++◌, ◌+◌, ◌∷◌, ◌≡◌}, FaultLemmas.at_line-None}
-use Rattle.mk_check.proofs.{LookupLemmas.pointer_at-append, TypedLines.{Says, says}}
-use Rattle.mk_check.specs.{Blocks.AllFrom, Typing.IsWellTyped}
-use Rattle.mk_script.{proofs.Pushed.{this_script-push}, specs.declared.items.Item.TheVariants.{Script}}
+use Rattle.mk_check.proofs.Vocabulary.{[], ◌++◌, ◌+◌, ◌∷◌, ◌≡◌}
+use Rattle.mk_check.proofs.{DeclaredPlaces.said_of-append, FaultLemmas.at_line-None, TypedLines.Says, TypedLines.says}
+use Rattle.mk_check.specs.{Blocks.AllFrom, Typing.IsWellTyped, Typing.declared_place}
+use Rattle.mk_script.{proofs.Pushed.this_script-push, specs.declared.items.Item.TheVariants.Script}
 
 -- what is declared before stays declared with more lines
 stays : (script before behind : List Item) → script ≡ before ++ behind → (name : List ℕ) (at : At)
     → pointer_at name before ≡ Some at → pointer_at name script ≡ Some at
-stays script before behind all name at is = cc (pointer_at-append name before behind)
+stays script before behind all name at is = cc (said_of-append declared_place name before behind)
 
 module _ (program : List Item) where
   next_none : (before more : List Item) (line : ℕ) (item : Item) → fault_from program line before (item ∷ more) ≡ None

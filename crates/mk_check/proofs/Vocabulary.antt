@@ -12,7 +12,7 @@ pub use Rattle.std.specs.{Option.option_or, Str.bytes_eq}
 pub use Rattle.mk_never.specs.{Admitted.IsOfKind, NeverHeap.NeverState, Types.kinds_of, declared.operations.Op.Op}
 pub use Rattle.mk_never.specs.{declared.types.Kind.Kind, declared.values.Value.Value}
 pub use Rattle.mk_core.specs.{Decided.flagged, declared.config.Config.Config, declared.events.Answer.Answer}
-pub use Rattle.mk_script.proofs.{PassedLines.{ArePassed, is_whole}, Pushed.number_names-append}
+pub use Rattle.mk_script.proofs.PassedLines.{ArePassed, is_whole}
 pub use Rattle.mk_script.specs.{Lines.limit_fault, Scopes.{global_names, is_script, number_names, pointer_names}}
 pub use Rattle.mk_script.specs.{Scopes.{script_names, this_script, type_names}, declared.faults.Which.Which}
 pub use Rattle.mk_script.specs.{declared.items.At.At, declared.items.Item.Item, declared.items.TypeWord.TypeWord}

@@ -4,17 +4,16 @@ use Rattle.mk_check.proofs.Vocabulary.{Steps, Stopped, ℕ, after_answer, after_
 use Rattle.mk_check.proofs.Vocabulary.{kept_in, left_in, length, max, node_at, op_asked, refusal_line, refusal_text}
 use Rattle.mk_check.proofs.Vocabulary.{slice_index, stop_behind, stop_of, stop_of_rounds, stop_on_answer, stopped_in}
 use Rattle.mk_check.proofs.Vocabulary.{subst, suc, sym, then_steps, with_text, zero, ◌*◌, ◌+◌, ◌<◌, ◌==◌, ◌≡◌, ◌≤◌}
-use Rattle.mk_check.proofs.{Moves.{unfolded_line, work_of-then_steps}, TreeNodes.is_at}
-use Rattle.mk_check.specs.{Steps.{Choice, Done, Line, Rounds, none_left}, Trees.work_of}
+use Rattle.mk_check.proofs.{Moves.unfolded_line, Moves.work_of-then_steps, TreeNodes.is_at}
+use Rattle.mk_check.specs.{Steps.Choice, Steps.Done, Steps.Line, Steps.Rounds, Steps.none_left, Trees.work_of}
 
 work_of-stop_behind : (stopped : Stopped) (go : KeptState → Stopped) (rest : Steps)
     → ((k : KeptState) → work_of (go k).left ≤ work_of rest)
     → work_of (stop_behind stopped go rest).left ≤ work_of stopped.left + work_of rest
 work_of-stop_behind stopped go rest goes = by_test (none_left stopped.left)
   where
-    by_test : (t : Bool)
-        → work_of (if t then go stopped.kept else record stopped { left = then_steps stopped.left rest }).left
-        ≤ work_of stopped.left + work_of rest
+    by_test : (t : Bool) → work_of (if t then go stopped.kept else record stopped
+        { left = then_steps stopped.left rest }).left ≤ work_of stopped.left + work_of rest
     by_test x0 = grind (arith, work_of-then_steps)
 
 work_of-stop_of_rounds : (rounds : ℕ) (body : Steps) (go : KeptState → Stopped)
@@ -56,11 +55,12 @@ work_of-stop_of (Choice number first second rest) k =
     by_test x0 f g = grind arith
 
 -- A place that was answered has less work left.
-pub answer_nearer : (nodes : List Node) (p t : Place) (line : ℕ) (instruction : Instruction) (next : ℕ) (a : Answer)
+pub answer_nearer : (nodes : List Node) {p : Place} (t : Place) (line : ℕ) (instruction : Instruction) (next : ℕ)
+    (a : Answer)
     → IsTree nodes → PlaceIsWithin (length nodes) p → node_at nodes p.at ≡ Node.Line line instruction next
     → stopped_in nodes t ≡ stop_on_answer (left_in nodes p) a (kept_in p)
     → work_of (left_in nodes t) < work_of (left_in nodes p)
-answer_nearer nodes p t line instruction next a tree w here stop =
+answer_nearer nodes {p = p} t line instruction next a tree w here stop =
     let rest = left_in nodes (record p { at = next }) in
     let unfolded = unfolded_line nodes (is_at tree w here) in
     let less : work_of (stop_on_answer (left_in nodes p) a (kept_in p)).left < work_of (left_in nodes p) = subst

@@ -24,9 +24,8 @@ BranchesAreWritten line blocks (Some second) items =
 abbrev Stands : ℕ → List Bool → List Part → List Item → Type 0
 Stands line [] (part ∷ []) items = (part.second ≡ None) × AreWritten line part.blocks items
 Stands line (block ∷ blocks) (part ∷ next ∷ parts) items =
-    (inner more : List Item) × (items ≡ inner ++ End ∷ more) × MayHave block part.second
-    × BranchesAreWritten line part.blocks part.second inner
-    × Stands (line + length inner + 1) blocks (next ∷ parts) more
+    (inner more : List Item) × (items ≡ inner ++ End ∷ more) × MayHave block part.second × BranchesAreWritten line
+    part.blocks part.second inner × Stands (line + length inner + 1) blocks (next ∷ parts) more
 Stands line blocks parts items = ⊥
 
 moved : (P : ℕ → Type 0) (m n : ℕ) → m ≡ n → P m → P n
@@ -49,9 +48,8 @@ branches_behind line line' front B e f blocks (Some second) items (first, other,
 
 in_front : (line line' : ℕ) (front : List Item) (B : Blocks → Blocks) → line + length front ≡ line'
     → ((rest : Blocks) (items : List Item) → AreWritten line' rest items → AreWritten line (B rest) (front ++ items))
-    → (blocks : List Bool) (part : Part) (parts : List Part) (items : List Item)
-    → Stands line' blocks (part ∷ parts) items
-    → Stands line blocks (record part { blocks = B part.blocks } ∷ parts) (front ++ items)
+    → (blocks : List Bool) (part : Part) (parts : List Part) (items : List Item) → Stands line' blocks
+    (part ∷ parts) items → Stands line blocks (record part { blocks = B part.blocks } ∷ parts) (front ++ items)
 in_front line line' front B e f (block ∷ blocks) part (next ∷ parts) items (inner, more, are, may, written, rest) = (
   front ++ inner,
   more,
@@ -62,9 +60,8 @@ in_front line line' front B e f (block ∷ blocks) part (next ∷ parts) items (
 )
 in_front line line' front x4 e f x7 part x9 items h = grind arith
 
-plain_stands : (line : ℕ) (item : Item) (blocks : List Bool) (parts : List Part) (items : List Item)
-    → is_plain item ≡ true
-    → Stands (line + 1) blocks parts items → Stands line blocks (with_line line item parts) (item ∷ items)
+plain_stands : (line : ℕ) (item : Item) (blocks : List Bool) (parts : List Part) (items : List Item) → is_plain item
+    ≡ true → Stands (line + 1) blocks parts items → Stands line blocks (with_line line item parts) (item ∷ items)
 plain_stands line item [] [] items plain h = absurd h
 plain_stands line item (block ∷ blocks) [] items plain h = absurd h
 plain_stands line item blocks (part ∷ parts) items plain h =
@@ -76,18 +73,16 @@ only_first : (line : ℕ) (part : Part) (items : List Item) → part.second ≡ 
     → BranchesAreWritten line part.blocks part.second items → AreWritten line part.blocks items
 only_first line part items none h = subst (λ (s : Option Blocks). BranchesAreWritten line part.blocks s items) none h
 
-repeat_stands : (line rounds : ℕ) (blocks : List Bool) (parts : List Part) (items : List Item)
-    → Stands (line + 1) (false ∷ blocks) parts items
-    → Stands line blocks (with_repeat rounds parts) (Repeat rounds ∷ items)
+repeat_stands : (line rounds : ℕ) (blocks : List Bool) (parts : List Part) (items : List Item) → Stands (line + 1)
+    (false ∷ blocks) parts items → Stands line blocks (with_repeat rounds parts) (Repeat rounds ∷ items)
 repeat_stands line rounds blocks [] items h = absurd h
 repeat_stands line rounds blocks (body ∷ []) items h = absurd h
 repeat_stands line rounds blocks (body ∷ part ∷ parts) items (inner, more, are, none, written, rest) =
     let front : List Item = Repeat rounds ∷ (inner ++ End ∷ []) in
     let whole : front ++ more ≡ Repeat rounds ∷ items =
     ap (λ (xs : List Item). Repeat rounds ∷ xs) (append_assoc inner (End ∷ []) more ∙ sym are) in
-    subst (λ (xs : List Item). Stands line blocks
-    (record part { blocks = Rounds rounds body.blocks part.blocks } ∷ parts) xs) whole
-    (in_front line (line + 1 + length inner + 1) front (Rounds rounds body.blocks)
+    subst (λ (xs : List Item). Stands line blocks (record part { blocks = Rounds rounds body.blocks part.blocks } ∷
+    parts) xs) whole (in_front line (line + 1 + length inner + 1) front (Rounds rounds body.blocks)
     (omega (arith, length-append inner (End ∷ []))) (λ others xs w. (
       inner,
       xs,
@@ -98,37 +93,33 @@ repeat_stands line rounds blocks (body ∷ part ∷ parts) items (inner, more, a
 
 -- a first branch with its second
 if_stands : (line : ℕ) (number : List ℕ) (first second : Blocks) (one other : List Item) (blocks : List Bool)
-    (part : Part) (parts : List Part) (more : List Item)
-    → AreWritten (line + 1) first one → IsSecondBranch (AreWritten (line + 1 + length one + 1) second) second other
-    → Stands (line + 1 + length one + length other + 1) blocks (part ∷ parts) more
-    → Stands line blocks (record part { blocks = Choice number first second part.blocks } ∷ parts)
-    (If number ∷ (one ++ (other ++ End ∷ more)))
+    (part : Part) (parts : List Part) (more : List Item) → AreWritten (line + 1) first one
+    → IsSecondBranch (AreWritten (line + 1 + length one + 1) second) second other
+    → Stands (line + 1 + length one + length other + 1) blocks (part ∷ parts) more → Stands line blocks (record part
+    { blocks = Choice number first second part.blocks } ∷ parts) (If number ∷ (one ++ (other ++ End ∷ more)))
 if_stands line number first second one other blocks part parts more f s rest =
     let front : List Item = If number ∷ (one ++ (other ++ End ∷ [])) in
     let joined : (xs : List Item) → front ++ xs ≡ If number ∷ (one ++ (other ++ End ∷ xs)) =
     λ xs. ap (λ (ys : List Item). If number ∷ ys)
     (append_assoc one (other ++ End ∷ []) xs ∙ ap (λ (ys : List Item). one ++ ys) (append_assoc other (End ∷ []) xs)) in
-    subst (λ (xs : List Item). Stands line blocks
-    (record part { blocks = Choice number first second part.blocks } ∷ parts) xs) (joined more)
-    (in_front line (line + 1 + length one + length other + 1) front (Choice number first second)
-    (omega (arith, length-append one (other ++ End ∷ []), length-append other (End ∷ [])))
+    subst (λ (xs : List Item). Stands line blocks (record part { blocks = Choice number first second part.blocks } ∷
+    parts) xs) (joined more) (in_front line (line + 1 + length one + length other + 1) front
+    (Choice number first second) (omega (arith, length-append one (other ++ End ∷ []), length-append other (End ∷ [])))
     (λ others xs w. (one, other, xs, joined xs, f, s, w)) blocks part parts more rest)
 
 choice_stands : (line : ℕ) (number : List ℕ) (first : Blocks) (second : Option Blocks) (inner more : List Item)
-    (blocks : List Bool) (part : Part) (parts : List Part)
-    → BranchesAreWritten (line + 1) first second inner → Stands (line + 1 + length inner + 1) blocks (part ∷ parts) more
-    → Stands line blocks (record part { blocks = Choice number first (branch second) part.blocks } ∷ parts)
-    (If number ∷ (inner ++ End ∷ more))
+    (blocks : List Bool) (part : Part) (parts : List Part) → BranchesAreWritten (line + 1) first second inner
+    → Stands (line + 1 + length inner + 1) blocks (part ∷ parts) more → Stands line blocks (record part
+    { blocks = Choice number first (branch second) part.blocks } ∷ parts) (If number ∷ (inner ++ End ∷ more))
 choice_stands line number first None inner more blocks part parts written rest =
     if_stands line number first Done inner [] blocks part parts more written (inl (refl, refl))
     (moved (λ n. Stands n blocks (part ∷ parts) more) _ _ (omega arith) rest)
 choice_stands line number first (Some second) inner more blocks part parts (one, other, are, written, others) rest =
     let whole : one ++ ((Else ∷ other) ++ End ∷ more) ≡ inner ++ End ∷ more =
     sym (append_assoc one (Else ∷ other) (End ∷ more)) ∙ ap (λ (xs : List Item). xs ++ End ∷ more) (sym are) in
-    subst (λ (xs : List Item). Stands line blocks
-    (record part { blocks = Choice number first second part.blocks } ∷ parts) (If number ∷ xs)) whole
-    (if_stands line number first second one (Else ∷ other) blocks part parts more written (inr (other, refl, others))
-    (moved (λ n. Stands n blocks (part ∷ parts) more) _ _
+    subst (λ (xs : List Item). Stands line blocks (record part { blocks = Choice number first second part.blocks } ∷
+    parts) (If number ∷ xs)) whole (if_stands line number first second one (Else ∷ other) blocks part parts more written
+    (inr (other, refl, others)) (moved (λ n. Stands n blocks (part ∷ parts) more) _ _
     (omega (arith, ap length are, length-append one (Else ∷ other))) rest))
 
 if_first : (line : ℕ) (number : List ℕ) (blocks : List Bool) (parts : List Part) (items : List Item)

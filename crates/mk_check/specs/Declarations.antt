@@ -1,5 +1,6 @@
 -- What a program declares: a name's place among the names of its sort is its number.
-use Rattle.std.specs.{Prelude.{ℕ, ◌+◌, List, [], ◌∷◌, length, map, if◌then◌else◌}, Str.bytes_eq}
+use Rattle.std.specs.{Prelude.{ℕ, ◌+◌, List, [], ◌∷◌, length, map, if◌then◌else◌, Option, Some, None}, List.filter_map}
+use Rattle.std.specs.Str.{bytes_eq}
 use Rattle.mk_never.specs.declared.types.Kind.{Kind}
 use Rattle.mk_script.specs.{declared.items.TypeWord.TypeWord, declared.items.TypeWord.TheVariants.{Number, Pointer}}
 use Rattle.mk_script.specs.{declared.items.Item.Item, declared.items.Item.TheVariants.{Heap, TypeLine, Global}}
@@ -15,21 +16,28 @@ abbrev pub kind_of : List (List ℕ) → TypeWord → Kind
 kind_of types Number = NumKind
 kind_of types (Pointer at) = To (number_of_name at.name types) at.offset
 
-abbrev pub kinds_among : List (List ℕ) → List Item → List (List Kind)
-kinds_among types [] = []
-kinds_among types (TypeLine name words ∷ items) = map (kind_of types) words ∷ kinds_among types items
-kinds_among types (item ∷ items) = kinds_among types items
+-- the type that a line declares, with its words
+abbrev pub declared_words : Item → Option (List ℕ × List TypeWord)
+declared_words (TypeLine name words) = Some (name, words)
+declared_words item = None
 
--- the types of a program
+-- the global that a line declares, with the name of its type
+abbrev pub declared_type : Item → Option (List ℕ × List ℕ)
+declared_type (Global name ty) = Some (name, ty)
+declared_type item = None
+
+-- the types of these lines, where types have these names
+abbrev pub kinds_among : List (List ℕ) → List Item → List (List Kind)
+kinds_among types items =
+    map (λ (t : List ℕ × List TypeWord). map (kind_of types) t.1) (filter_map declared_words items)
+
 abbrev pub types_of : List Item → List (List Kind)
 types_of items = kinds_among (type_names items) items
 
+-- the types of the globals of these lines
 abbrev pub globals_among : List (List ℕ) → List Item → List ℕ
-globals_among types [] = []
-globals_among types (Global name ty ∷ items) = number_of_name ty types ∷ globals_among types items
-globals_among types (item ∷ items) = globals_among types items
+globals_among types items = map (λ (g : List ℕ × List ℕ). number_of_name g.1 types) (filter_map declared_type items)
 
--- the types of its globals
 abbrev pub globals_of : List Item → List ℕ
 globals_of items = globals_among (type_names items) items
 

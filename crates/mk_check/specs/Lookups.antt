@@ -6,6 +6,7 @@ use Rattle.mk_script.specs.{declared.items.At.At, declared.items.Item.Item, Scop
 use Rattle.mk_script.specs.Scopes.{this_script}
 use Rattle.mk_check.specs.{declared.lookups.Declarations.Declarations, declared.lookups.PointerRegister.PointerRegister}
 use Rattle.mk_check.specs.{declared.lookups.Registers.Registers, Typing.{Around, type_words, global_type, pointer_at}}
+use Rattle.mk_check.specs.Typing.{value_of}
 
 -- A program, and how many of its lines were read.
 pub record Reading : Type 0 where
@@ -37,11 +38,13 @@ pub record AreDeclared (declarations : Declarations) (program : List Item) : Typ
   pub types : (name : List ℕ) → option_copied (value_for_name declarations.types name) ≡ type_words name program
   pub globals : (name : List ℕ) → option_copied (value_for_name declarations.globals name) ≡ global_type name program
 
+-- a register with where it is declared to point
+abbrev pub place_of : PointerRegister → List ℕ × At
+place_of register = (register.name.now, register.at.now)
+
 -- where the first register of a name is declared to point
 abbrev pub first_at : List PointerRegister → List ℕ → Option At
-first_at [] name = None
-first_at (register ∷ registers) name =
-    if bytes_eq name register.name.now then Some register.at.now else first_at registers name
+first_at registers name = value_of name (map place_of registers)
 
 -- they are those of a script's lines
 pub record AreRegisters (registers : Registers) (lines : List Item) : Type 0 where

@@ -129,6 +129,12 @@ place_in_branch p number first second next =
     record p
     { at = if slice_index p.numbers number == 0 then second else first; frames = p.frames ++ frame.Branch next ∷ [] }
 
+-- the block of a node begins, if there is one
+abbrev pub place_in_block : Place → Node → Place
+place_in_block p (node.Rounds rounds body next) = place_in_rounds p rounds body next
+place_in_block p (node.Choice number first second next) = place_in_branch p number first second next
+place_in_block p n = p
+
 -- the innermost block is left
 pub record LeavesBlock (old new : Place) : Type 0 where
   pub frame : Frame

@@ -1,7 +1,7 @@
 -- Which programs are well typed, line by line.
 use Rattle.std.specs.Prelude.{◌≡◌, ⊤, ℕ, ◌+◌, ◌-◌, ◌^◌, min, Bool, true, false, ◌&&◌, ◌==◌, nat_le, if◌then◌else◌, List}
-use Rattle.std.specs.{Prelude.{[], ◌∷◌, ◌++◌, Option, Some, None, is_some, option_map, slice_get}, List.list_any}
-use Rattle.std.specs.{Option.option_or, Str.bytes_eq}
+use Rattle.std.specs.Prelude.{[], ◌∷◌, ◌++◌, Option, Some, None, is_some, option_map, slice_get}
+use Rattle.std.specs.{List.{filter_map, list_any}, Option.option_or, Str.bytes_eq}
 use Rattle.mk_script.specs.{declared.items.At.At, declared.items.TypeWord.TypeWord}
 use Rattle.mk_script.specs.{declared.items.TypeWord.TheVariants.{Number, Pointer}, declared.items.Item.Item}
 use Rattle.mk_script.specs.declared.items.Item.TheVariants.{Heap, TypeLine, Global, Script, Ptr, Num, New, Free, Getn}
@@ -9,28 +9,32 @@ use Rattle.mk_script.specs.declared.items.Item.TheVariants.{Setn, Getp, Setp, Ca
 use Rattle.mk_script.specs.declared.items.Item.TheVariants.{Same, Isnull, Show, Const, Add, Sub, Print, Repeat, If}
 use Rattle.mk_script.specs.{declared.items.Item.TheVariants.{Else, End}, Scopes.{this_script, number_names}}
 use Rattle.mk_check.specs.{declared.typing_faults.TypeKind.TypeKind, declared.typing_faults.TypeStop.TypeStop}
-use Rattle.mk_check.specs.{Blocks.before_next_script, Lengths.script_length}
+use Rattle.mk_check.specs.{Blocks.before_next_script, Declarations.{declared_type, declared_words}}
+use Rattle.mk_check.specs.Lengths.{script_length}
 use Rattle.mk_check.specs.declared.typing_faults.TypeKind.TheVariants as kind
 use Rattle.mk_check.specs.declared.typing_faults.TypeStop.TheVariants as stop
 
 -- Look-ups. A type may be declared in a later line, and so may a global that another line names; a register is
 -- declared before in its script.
 
+-- what the first of these has that has the name
+abbrev pub value_of : {X : Type 0} → List ℕ → List (List ℕ × X) → Option X
+value_of name [] = None
+value_of name (one ∷ others) = if bytes_eq name one.0 then Some one.1 else value_of name others
+
 abbrev pub type_words : List ℕ → List Item → Option (List TypeWord)
-type_words name [] = None
-type_words name (TypeLine other words ∷ items) = if bytes_eq name other then Some words else type_words name items
-type_words name (item ∷ items) = type_words name items
+type_words name items = value_of name (filter_map declared_words items)
 
 abbrev pub global_type : List ℕ → List Item → Option (List ℕ)
-global_type name [] = None
-global_type name (Global other ty ∷ items) = if bytes_eq name other then Some ty else global_type name items
-global_type name (item ∷ items) = global_type name items
+global_type name items = value_of name (filter_map declared_type items)
 
--- where a pointer register is declared to point
+-- the pointer register that a line declares, with where it is to point
+abbrev pub declared_place : Item → Option (List ℕ × At)
+declared_place (Ptr name at) = Some (name, at)
+declared_place item = None
+
 abbrev pub pointer_at : List ℕ → List Item → Option At
-pointer_at name [] = None
-pointer_at name (Ptr other at ∷ items) = if bytes_eq name other then Some at else pointer_at name items
-pointer_at name (item ∷ items) = pointer_at name items
+pointer_at name items = value_of name (filter_map declared_place items)
 
 -- A program, and the lines of the script so far.
 pub record Around : Type 0 where

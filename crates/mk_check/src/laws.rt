@@ -29,7 +29,6 @@ pub fn what_scripts_ask_is_noted()
 {}
 
 /// Scripts call no more than is admitted, in whatever order they take their turns and whatever they are answered.
-#[tactic(auto, using(crate::proofs::AdmittedScripts::scripts_are_admitted))]
 pub fn what_scripts_ask_is_admitted()
     ensures { (program : List Item) (callers : ℕ) (calls : List Call)
         → IsChecked program → length (script_names program) ≤ callers → AreOfScripts program calls

@@ -1,10 +1,10 @@
 -- The generated text is refused by no step.
 use Rattle.std.proofs.Common.{Err}
 use Rattle.mk_gen.proofs.Vocabulary.{Item, List, Ok, Some, ℕ, ap, generated_text, program_of, subst, ◌∙◌, ◌≡◌, ◌≤◌}
-use Rattle.mk_gen.proofs.{ReadText.program_of-generated_text, TypedProgram.generated_is_well_typed}
 use Rattle.mk_check.specs.Typing.{NamesFirstFault, first_typing_fault}
 use Rattle.mk_check.specs.declared.typing_faults.TypeStop.TheVariants.{IllTyped}
 use Rattle.mk_check.specs.{declared.typing_faults.TypeKind.TypeKind, declared.typing_faults.TypeStop.TypeStop}
+use Rattle.mk_gen.proofs.{ReadText.program_of-generated_text, TypedProgram.generated_is_well_typed}
 use Rattle.mk_gen.specs.Generated.{generated_program}
 use Rattle.mk_script.specs.declared.faults.TextStop.{TextStop}
 

@@ -1,5 +1,5 @@
 -- How many operations a script without `if` asks for, whatever it is answered.
-use Rattle.std.{proofs.{Common.{if◌then◌else◌, is_some}, lemmas.List.length_push}, specs.Prelude.{⊤}}
+use Rattle.std.{proofs.Common.if◌then◌else◌, proofs.Common.is_some, proofs.lemmas.List.length_push, specs.Prelude.⊤}
 use Rattle.mk_gen.proofs.Vocabulary.{Bool, Item, List, Option, ℕ, ap, arith, blocks_from, false, length, refl, subst}
 use Rattle.mk_gen.proofs.Vocabulary.{suc, sym, true, zero, [], ◌*◌, ◌+◌, ◌∙◌, ◌∷◌, ◌≡◌}
 use Rattle.mk_never.specs.declared.operations.Op.{Op}
@@ -84,22 +84,21 @@ module _ (scope : Scope) where
   line_keeps : (fed : Fed) (item : Item) → (run_line scope fed item).ops ≡ fed.ops
   line_keeps fed item = grind arith
 
-  line_left : (line : ℕ) (item : Item) (rest : Blocks) (fed after : Fed) → HasNoIf rest
+  line_left : (line : ℕ) (item : Item) (rest : Blocks) (fed : Fed) {after : Fed} → HasNoIf rest
       → IsLeft (calls_of rest) (run_line scope fed item) after → (test : Bool) → test ≡ is_call item
       → IsLeft (calls_of (Line line item rest)) fed (if test then record fed { left = Line line item rest } else after)
-  line_left line item rest fed after plain behind x7 is = grind (arith, line_keeps)
+  line_left line item rest fed plain behind x7 is = grind (arith, line_keeps)
 
   run_left : (b : Blocks) → HasNoIf b → (fed : Fed) → IsLeft (calls_of b) fed (run scope b fed)
   run_left Done plain fed = record { ops = refl; calls_are = refl; plain = tt }
   run_left (Line line item rest) plain fed =
       let next = run_line scope fed item in
-      line_left line item rest fed (run scope rest next) plain (run_left rest plain next)
+      line_left line item rest fed plain (run_left rest plain next)
       (is_some (op_of scope fed item)) (asks scope fed item)
   run_left (Rounds rounds body rest) plain fed =
       let all = run_rounds rounds body (run scope body) fed in
-      left_then (run scope rest) rest
-      (rounds_left rounds body (run scope body) plain.0 (run_left body plain.0) fed) plain.1
-      (run_left rest plain.1) (is_end_of_block all.left) refl
+      left_then (run scope rest) rest (rounds_left rounds body (run scope body) plain.0 (run_left body plain.0) fed)
+      plain.1 (run_left rest plain.1) (is_end_of_block all.left) refl
   run_left (Choice number first second rest) plain fed = absurd plain
 
   answer_keeps : (fed : Fed) (item : Item) (a : Answer) → (with_answer scope fed item a).ops ≡ fed.ops

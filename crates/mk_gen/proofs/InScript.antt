@@ -51,7 +51,7 @@ other_line_of : (before : List Item) (words : List (List ℕ)) → has_script be
 other_line_of [] words has = absurd (false≢true has)
 other_line_of (first ∷ before) words has = refl
 
-module _ (a b : List Item) (alike : AreAlike a b) where
+module _ {a b : List Item} (alike : AreAlike a b) where
   placed_alike : (form : Keyword) → is_placed a form ≡ is_placed b form
   placed_alike Keyword.Heap = refl
   placed_alike Keyword.Script = refl
@@ -87,8 +87,8 @@ module _ (a b : List Item) (alike : AreAlike a b) where
   limit_alike (If number) inside = ap (λ blocks. at_most (length blocks + 1) 32 Which.Depth) alike.blocks
   limit_alike item inside = refl
 
-  pub read_alike : (line : List ℕ) (item : Item) → is_inside item ≡ true → IsRead a line item → IsRead b line item
-  read_alike line item inside is = record {
+  pub read_alike : {line : List ℕ} {item : Item} → is_inside item ≡ true → IsRead a line item → IsRead b line item
+  read_alike {line} {item} inside is = record {
     says = sym (other_line_of a (words_of_line line) alike.script ∙ other_alike (words_of_line line) ∙ sym
         (other_line_of b (words_of_line line) alike.script')) ∙ is.says;
     passes = sym (rw (twice_alike item inside, limit_alike item inside, alike.blocks) refl) ∙ is.passes;
@@ -103,6 +103,6 @@ AreRead-alike [] (item ∷ items) alike inside are = absurd are
 AreRead-alike (line ∷ lines) [] alike inside are = absurd are
 AreRead-alike (line ∷ lines) (item ∷ items) {a} {b} alike inside are =
     let each = and_parts _ _ inside in (
-      read_alike a b alike line item each.0 are.0,
+      read_alike alike each.0 are.0,
       AreRead-alike lines items (alike_push item alike) each.1 are.1,
     )

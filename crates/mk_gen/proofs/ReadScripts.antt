@@ -5,7 +5,7 @@ use Rattle.mk_gen.proofs.Vocabulary.{codes, draw, leb-true, length, line_item, l
 use Rattle.mk_gen.proofs.Vocabulary.{refl, script_body, scripts, sym, true, [], ◌++◌, ◌+◌, ◌<◌, ◌^◌, ◌and◌, ◌∷◌, ◌≡◌}
 use Rattle.mk_gen.proofs.{Vocabulary.◌≤◌, ReadLines.{AreRead, AreRead-append, IsRead}}
 use Rattle.mk_gen.proofs.{InScript.{AreRead-alike, alike_at_first}, ReadBody.{body_is_read, by_words}}
-use Rattle.mk_script.proofs.{PrintedForms.read_name, Pushed.script_names-append, Said.is_word-name}
+use Rattle.mk_script.proofs.{PrintedForms.read_name, Pushed.names_of-append, Said.is_word-name}
 use Rattle.mk_script.specs.{Scopes.{open_blocks, script_names}, Lines.is_among, Names.is_name, Operands.item_from}
 use Rattle.mk_script.specs.ScopeOf.{has_lines}
 
@@ -46,15 +46,14 @@ module _ (turns number place : ℕ) where
   abbrev pub script_items : List ℕ → List Item
   script_items name = Script name ∷ script_body turns number place
 
-  ready_behind : (before : List Item) (names : List (List ℕ)) (name : List ℕ) → AreReady before names
+  ready_behind : {before : List Item} {names : List (List ℕ)} (name : List ℕ) → AreReady before names
       → AreReady (before ++ script_items name) (names ++ name ∷ [])
-  ready_behind before names name ready = grind (arith, has_lines-append, script_items, script_names-append, fold-append)
+  ready_behind name ready = grind (arith, has_lines-append, script_items, names_of-append, fold-append)
 
-  script_is_read : turns < 2 ^ 64 → number < 2 ^ 64 → place < 2 ^ 64
-      → (before : List Item) (names : List (List ℕ)) (name : List ℕ)
-      → AreReady before names → may_begin names name ≡ true
+  script_is_read : turns < 2 ^ 64 → number < 2 ^ 64 → place < 2 ^ 64 → {before : List Item} {names : List (List ℕ)}
+      (name : List ℕ) → AreReady before names → may_begin names name ≡ true
       → AreRead before ((codes "script " ++ name) ∷ body_lines turns number place) (script_items name)
-  script_is_read t a i before names name ready may =
+  script_is_read t a i {before = before} name ready may =
       first_is_read name ready may and AreRead-alike (body_lines turns number place) (script_body turns number place)
       (alike_at_first before name) refl (body_is_read turns number place t a i)
 
@@ -72,10 +71,8 @@ module _ (turns numbers : ℕ) (t : turns < 2 ^ 64) (some : 0 < numbers) (few : 
       let behind = next_state (next_state x) in
       let number_small : number < 2 ^ 64 = omega (arith, draw-lt (next_state x) 1000 (omega arith)) in
       let place_small : place < 2 ^ 64 = omega (arith, draw-lt behind numbers some, few) in
-      let script = script_is_read turns number place t number_small place_small before before_names name ready may.0 in
-      let ready' = ready_behind turns number place before before_names name ready in
-      AreRead-append ((codes "script " ++ name) ∷ body_lines turns number place)
-      (lines_of_scripts turns numbers behind names)
-      before (script_items turns number place name) (scripts turns numbers behind names) script
-      (scripts_are_read behind names (before_names ++ name ∷ []) (before ++ script_items turns number place name) ready'
-      may.1)
+      let script = script_is_read turns number place t number_small place_small name ready may.0 in
+      let ready' = ready_behind turns number place name ready in
+      AreRead-append ((codes "script " ++ name) ∷ body_lines turns number place) (lines_of_scripts turns numbers behind
+      names) before (script_items turns number place name) (scripts turns numbers behind names) script (scripts_are_read
+      behind names (before_names ++ name ∷ []) (before ++ script_items turns number place name) ready' may.1)

@@ -1,10 +1,10 @@
 -- The generated text is a text of the generated program.
 use Rattle.mk_gen.proofs.Vocabulary.{Item, List, Ok, ℕ, all_names, arith, count_of_numbers, declaration_lines}
 use Rattle.mk_gen.proofs.Vocabulary.{declarations, lines_of_scripts, next_state, program_of, refl, scripts, turns_of}
-use Rattle.mk_gen.proofs.{Vocabulary.{[], ◌++◌, ◌<◌, ◌^◌, ◌≡◌, ◌≤◌}, ReadLines.{AreRead, AreRead-append}}
-use Rattle.mk_gen.proofs.{ReadLines.program_of-lines, ReadDeclarations.declarations_are_read}
-use Rattle.mk_gen.proofs.ReadScripts.{draw-lt, scripts_are_read}
-use Rattle.mk_gen.specs.{Generated.generated_program, GeneratedText.{generated_lines, generated_text}}
+use Rattle.mk_gen.proofs.Vocabulary.{[], ◌++◌, ◌<◌, ◌^◌, ◌≡◌, ◌≤◌}
+use Rattle.mk_gen.proofs.ReadLines.{AreRead, AreRead-append, program_of-lines}
+use Rattle.mk_gen.proofs.{ReadDeclarations.declarations_are_read, ReadScripts.draw-lt, ReadScripts.scripts_are_read}
+use Rattle.mk_gen.specs.{Generated.generated_program, GeneratedText.generated_lines, GeneratedText.generated_text}
 use Rattle.mk_script.specs.Grammar.{at_end}
 
 pub numbers_some : (start : ℕ) → 1 ≤ count_of_numbers start

@@ -46,8 +46,7 @@ typed_then program script before (item ∷ items) more line is are rest =
     ∙ ap (λ lines. typing_fault (record { program = program; script = lines }) 0 [] item) is ∙ are.0.no_fault in
     let script_is : this_script (before ++ item ∷ []) ≡ script ++ item ∷ [] =
     this_script-push before item ∙ ap (λ lines. lines_behind lines item) is ∙ script_inside script item are.0.inside in
-    let behind : (later : ℕ) → fault_from program later ((before ++ item ∷ []) ++ items) more ≡ None =
-    λ later. subst (λ b. fault_from program later b more ≡ None) (sym (append_assoc before (item ∷ []) items))
-    (rest later) in
+    let behind : (later : ℕ) → fault_from program later ((before ++ item ∷ []) ++ items) more ≡ None = λ later. subst
+    (λ b. fault_from program later b more ≡ None) (sym (append_assoc before (item ∷ []) items)) (rest later) in
     go_on line _ _ no_fault
     (typed_then program (script ++ item ∷ []) (before ++ item ∷ []) items more (line + 1) script_is are.1 behind)

@@ -40,10 +40,9 @@ module _ (turns numbers : ℕ) (rest : List Item) (few : turns ≤ 62500) (some 
       let place = draw behind numbers in
       let more = scripts turns numbers behind names in
       let around : Around = record { program = program; script = this_script before } in
-      go_on line _ _
-      (first_is_typed around line turns number place more name few (none_before_scripts turns numbers behind names))
-      (typed_then program [] (before ++ Script name ∷ []) (script_body turns number place) more (line + 1)
-      (this_script-push before (Script name))
+      go_on line _ _ (first_is_typed around line turns number place more name few
+      (none_before_scripts turns numbers behind names)) (typed_then program [] (before ++ Script name ∷ [])
+      (script_body turns number place) more (line + 1) (this_script-push before (Script name))
       (body_is_typed numbers turns number place rest (draw-lt behind numbers some))
       (λ later. scripts_are_typed names behind later ((before ++ Script name ∷ []) ++ script_body turns number place)))
 
@@ -55,9 +54,8 @@ numbers_are_inside : (a : Around) (count : ℕ) → offsets_fault a (replicate c
 numbers_are_inside a zero = refl
 numbers_are_inside a (suc more) = numbers_are_inside a more
 
-declarations_are_typed : (numbers : ℕ) (rest : List Item)
-    → fault_from (declarations numbers ++ rest) 5 (declarations numbers) rest ≡ None
-    → IsWellTyped (declarations numbers ++ rest)
+declarations_are_typed : (numbers : ℕ) (rest : List Item) → fault_from (declarations numbers ++ rest) 5
+    (declarations numbers) rest ≡ None → IsWellTyped (declarations numbers ++ rest)
 declarations_are_typed numbers rest none = rw (numbers_have_types _ numbers, numbers_are_inside _ numbers) none
 
 pub generated_is_well_typed : (start count : ℕ) → count ≤ 3000000 → IsWellTyped (generated_program start count)
@@ -65,6 +63,5 @@ unfolding generated_program program
 generated_is_well_typed start count most =
     let numbers = count_of_numbers start in
     let rest = scripts (turns_of count) numbers (next_state start) all_names in
-    declarations_are_typed numbers rest
-    (scripts_are_typed (turns_of count) numbers rest (omega (arith, most)) (omega (arith, numbers_some start))
-    all_names (next_state start) 5 (declarations numbers))
+    declarations_are_typed numbers rest (scripts_are_typed (turns_of count) numbers rest (omega (arith, most))
+    (omega (arith, numbers_some start)) all_names (next_state start) 5 (declarations numbers))

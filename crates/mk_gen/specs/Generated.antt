@@ -7,7 +7,7 @@ use Rattle.mk_script.specs.declared.items.Item.TheVariants.{Setn, Setp, Clear, L
 use Rattle.mk_check.specs.Typing.{base_of}
 use Rattle.mk_gen.specs.Draws.{next_state, draw}
 
--- The names of the types, the registers, the global and the scripts.
+-- The names of the types, the global and the scripts.
 
 abbrev pub node : List ℕ
 node = codes "Node"
@@ -15,23 +15,8 @@ node = codes "Node"
 abbrev pub buf : List ℕ
 buf = codes "Buf"
 
-abbrev pub p : List ℕ
-p = codes "p"
-
-abbrev pub q : List ℕ
-q = codes "q"
-
-abbrev pub z : List ℕ
-z = codes "z"
-
-abbrev pub b : List ℕ
-b = codes "b"
-
-abbrev pub n : List ℕ
-n = codes "n"
-
-abbrev pub g : List ℕ
-g = codes "g"
+abbrev pub shared : List ℕ
+shared = codes "g"
 
 abbrev pub all_names : List (List ℕ)
 all_names = codes "s0" ∷ codes "s1" ∷ codes "s2" ∷ codes "s3" ∷ []
@@ -42,7 +27,7 @@ declarations numbers =
     Heap 256 256 ∷
     TypeLine node (Number ∷ Pointer (base_of node) ∷ []) ∷
     TypeLine buf (replicate numbers Number) ∷
-    Global g node ∷
+    Global shared node ∷
     []
 
 -- The lines of a script after its name line: its registers, and this many turns. In each a new Node gets the number and
@@ -50,25 +35,30 @@ declarations numbers =
 -- this place of a new Buf. Both are freed.
 abbrev pub script_body : ℕ → ℕ → ℕ → List Item
 script_body turns number place =
-    Ptr p (base_of node) ∷
-    Ptr q (base_of node) ∷
-    Ptr z (base_of node) ∷
-    Ptr b (base_of buf) ∷
-    Num n ∷
+    let made = codes "p" in
+    let read = codes "q" in
+    let null = codes "z" in
+    let numbers = codes "b" in
+    let found = codes "n" in
+    Ptr made (base_of node) ∷
+    Ptr read (base_of node) ∷
+    Ptr null (base_of node) ∷
+    Ptr numbers (base_of buf) ∷
+    Num found ∷
     Repeat turns ∷
-    New p node ∷
-    Const n number ∷
-    Setn p 0 n ∷
-    Storeg p g ∷
-    Loadg q g ∷
-    Getn n q 0 ∷
-    Setp p 1 q ∷
-    New b buf ∷
-    Setn b place n ∷
-    Free b ∷
-    Clear b ∷
-    Setp p 1 z ∷
-    Free p ∷
+    New made node ∷
+    Const found number ∷
+    Setn made 0 found ∷
+    Storeg made shared ∷
+    Loadg read shared ∷
+    Getn found read 0 ∷
+    Setp made 1 read ∷
+    New numbers buf ∷
+    Setn numbers place found ∷
+    Free numbers ∷
+    Clear numbers ∷
+    Setp made 1 null ∷
+    Free made ∷
     End ∷
     []
 

@@ -12,7 +12,7 @@ use Rattle.mk_laws.proofs.Vocabulary.{enabled_parts, false, found, get_or, get_o
 use Rattle.mk_laws.proofs.Vocabulary.{left_more, length, ltb-true, map-append, refl, subst, sym, true, [], ◌&&◌, ◌++◌}
 use Rattle.mk_laws.proofs.{Vocabulary.{◌+◌, ◌<◌, ◌∙◌, ◌∷◌, ◌≡◌, ◌≢◌}, Promises.histories_keep_all_promises}
 use Rattle.mk_core.proofs.Histories.{calls_more, last_enabled}
-use Rattle.mk_core.specs.{Effects.flights_behind, History.{calls_from, left_from}, Order.is_in_order}
+use Rattle.mk_core.specs.{Effects.flights_behind, History.{calls_from, left_from}}
 use Rattle.mk_laws.specs.Promises.{KeepsAllPromises}
 use Rattle.mk_check.proofs.{AdmittedScripts.{first_are_noted, scripts_are_admitted}, GivenAnswers.{among_more, as_list}}
 use Rattle.mk_check.proofs.GivenAnswers.{counted, more_ended, other_number, same_number, serves}
@@ -88,13 +88,10 @@ module _ (program : List Item) (es : List Event) where
       more_ended es e j ∙ ap (λ (b : Bool). counted n (b && ends_call s)) (same_number j) in
       let answered : answers_among j (calls c (es ++ e ∷ [])) ≡ all ++ as_list p.answer =
       ap (answers_among j) (calls_more c (first_world c) es e) ∙ (grind (arith, among_more, as_list, same_number)) in
-      let once = λ (goes : ends_call s ≡ false) (b : Answer) (is : p.answer ≡ Some b).
-      once_decided n _ all _ p.answer b (waits c es j before) (waits c (es ++ e ∷ []) j enabled) (ended
-      ∙ ap (counted n) goes) answered is in
-      same_asks program j p.flight _ (counted n (ends_call s)) _ (all ++ as_list p.answer) _
-      (asked (calls c es) ++ asked (entry_of j f.op p.answer)) _
-      (flight_behind e j ∙ get_or-set_same m.seats.flights j p.flight at_rest inside) ended answered (asked_behind e)
-      (own_step program j f n all (asked (calls c es)) h c m (found c m e) s meets.order begins once)
+      let once = λ (goes : ends_call s ≡ false) (b : Answer) (is : p.answer ≡ Some b). once_decided n _ all _ p.answer b
+      (waits c es j before) (waits c (es ++ e ∷ []) j enabled) (ended ∙ ap (counted n) goes) answered is in
+      same_asks _ _ _ _ (flight_behind e j ∙ get_or-set_same m.seats.flights j p.flight at_rest inside) ended answered
+      (asked_behind e) (own_step h c m (found c m e) s meets.order begins once)
 
   others_more : (j k : ℕ) (s : Step) → j ≢ k
       → AsksBehind program es k → AsksBehind program (es ++ record { seat = Caller j; step = s } ∷ []) k
@@ -104,13 +101,10 @@ module _ (program : List Item) (es : List Event) where
       let n = ended_calls k es in
       let all = answers_among k (calls c es) in
       let a = answer_decided c m e in
-      same_asks program k (flight_of m (Caller k)) _ n _ all _ (asked (calls c es) ++ asked (entry_of j f.op a)) _
-      (flight_behind e k ∙ get_or-set_other m.seats.flights j k _ at_rest (λ same. other (sym same)))
-      (more_ended es e k ∙ ap (λ (b : Bool). counted n (b
-      && ends_call s)) (other_number k j (λ same. other (sym same))))
-      (ap (answers_among k) (calls_more c (first_world c) es e)
-      ∙ (grind (arith, among_more, append-nil, other_number)))
-      (asked_behind e) (others_step program k (flight_of m (Caller k)) n all (asked (calls c es)) h j f.op a other)
+      same_asks _ _ _ _ (flight_behind e k ∙ get_or-set_other m.seats.flights j k _ at_rest (λ same. other (sym same)))
+      (more_ended es e k ∙ ap (λ (b : Bool). counted n (b && ends_call s))
+      (other_number k j (λ same. other (sym same)))) (ap (answers_among k) (calls_more c (first_world c) es e)
+      ∙ (grind (arith, among_more, append-nil, other_number))) (asked_behind e) (others_step h j f.op a other)
 
   -- an event of a seat that has no call
   silent_more : (e : Event) (k : ℕ) → flights_behind c m e.seat (found c m e) e.step ≡ m.seats.flights
@@ -120,14 +114,11 @@ module _ (program : List Item) (es : List Event) where
       let n = ended_calls k es in
       let all = answers_among k (calls c es) in
       let same : calls c (es ++ e ∷ []) ≡ calls c es = grind (arith, calls_more, append-nil) in
-      same_asks program k (flight_of m (Caller k)) _ n _ all _ (asked (calls c es)) _
-      (flight_behind e k ∙ ap (λ (fs : List Flight). get_or fs k at_rest) still)
-      (more_ended es e k ∙ ap (λ (b : Bool). counted n (b && ends_call e.step)) other)
-      (ap (answers_among k) same) (ap asked same) h
+      same_asks _ _ _ _ (flight_behind e k ∙ ap (λ (fs : List Flight). get_or fs k at_rest) still) (more_ended es e k
+      ∙ ap (λ (b : Bool). counted n (b && ends_call e.step)) other) (ap (answers_among k) same) (ap asked same) h
 
-  push_caller : (j : ℕ) (o : Op) (a : Option Answer) → IsScript program j
-      → All (λ call. IsScript program call.caller) (asked (calls c es))
-      → All (λ call. IsScript program call.caller) (asked (calls c es) ++ asked (entry_of j o a))
+  push_caller : (j : ℕ) (o : Op) (a : Option Answer) → IsScript program j → All (λ call. IsScript program call.caller)
+      (asked (calls c es)) → All (λ call. IsScript program call.caller) (asked (calls c es) ++ asked (entry_of j o a))
   push_caller j o (Some a) is h = All-push (λ call. IsScript program call.caller) (asked (calls c es)) _ h is
   push_caller j o None is h = subst (All (λ call. IsScript program call.caller)) (sym (append-nil (asked (calls c es))))
       h
@@ -143,9 +134,8 @@ module _ (program : List Item) (es : List Event) where
       let e : Event = record { seat = Caller j; step = s } in
       let meets = enabled_meets c m e (last_enabled c (first_world c) es e enabled) in
       record {
-        callers = subst (All (λ call. IsScript program call.caller)) (sym (asked_behind e))
-            (push_caller j (flight_of m (Caller j)).op (answer_decided c m e) (ltb-true j c.callers meets.seat)
-            h.callers);
+        callers = subst (All (λ call. IsScript program call.caller)) (sym (asked_behind e)) (push_caller j
+            (flight_of m (Caller j)).op (answer_decided c m e) (ltb-true j c.callers meets.seat) h.callers);
         each = λ k is. elim (cases_eq j k) [
           | inl same ↦ subst (AsksBehind program (es ++ e ∷ [])) same
               (own_more j s enabled (begins j refl) (subst (AsksBehind program es) (sym same) (h.each k is)))
@@ -181,9 +171,8 @@ goes_on program es (x ∷ xs) =
     let later = goes_on program (es ++ e ∷ []) xs in
     record { more = e ∷ later.more; are = later.are ∙ append_assoc es (e ∷ []) later.more }
 
-asked_along : (program : List Item) (es : List Event) (xs : List Entry)
-    → AreEnabled (config_of program 8) (history_from program es xs)
-    → AreAsked program es → AreAsked program (history_from program es xs)
+asked_along : (program : List Item) (es : List Event) (xs : List Entry) → AreEnabled (config_of program 8)
+    (history_from program es xs) → AreAsked program es → AreAsked program (history_from program es xs)
 unfolding history_from
 asked_along program es [] enabled h = h
 asked_along program es (x ∷ xs) enabled h =
@@ -205,9 +194,8 @@ none_asked program = record {
 }
 
 -- The history of a checked program's schedule, where its events are enabled, is one of the program's heap.
-pub schedule_is_history : {program : List Item} (schedule : List Entry) → IsChecked program
-    → AreEnabled (config_of program 8) (history_of program schedule)
-    → IsHistory (config_of program 8) (history_of program schedule)
+pub schedule_is_history : {program : List Item} (schedule : List Entry) → IsChecked program → AreEnabled
+    (config_of program 8) (history_of program schedule) → IsHistory (config_of program 8) (history_of program schedule)
 schedule_is_history {program} schedule checked enabled =
     let c = config_of program 8 in
     let es = history_of program schedule in
@@ -223,9 +211,9 @@ schedule_is_history {program} schedule checked enabled =
           });
     }
 
-pub schedule_keeps_all_promises : (program : List Item) (schedule : List Entry) → IsChecked program
+pub schedule_keeps_all_promises : {program : List Item} (schedule : List Entry) → IsChecked program
     → AreEnabled (config_of program 8) (history_of program schedule)
     → KeepsAllPromises (config_of program 8) (history_of program schedule)
-schedule_keeps_all_promises program schedule checked enabled =
+schedule_keeps_all_promises {program} schedule checked enabled =
     histories_keep_all_promises (config_of program 8) (history_of program schedule)
     (schedule_is_history schedule checked enabled)

@@ -4,12 +4,12 @@ use Rattle.mk_replay.proofs.Vocabulary.{Answer, AreEnabled, Caller, Config, Even
 use Rattle.mk_replay.proofs.Vocabulary.{Step, asked, at_rest, calls, comes_next, ends_call, entry_of, flight_of, left}
 use Rattle.mk_replay.proofs.Vocabulary.{length-append, progress, take_all}
 use Rattle.mk_laws.proofs.Vocabulary.{Bool, Call, Cell, List, None, Option, Progress, Some, ℕ, ap, append-nil, arith}
-use Rattle.mk_laws.proofs.Vocabulary.{begun, false, if◌then◌else◌, length, progress_freed, progress_p, progress_q}
-use Rattle.mk_laws.proofs.Vocabulary.{progress_read, progress_reg, refl, still, subst, sym, take, true, [], ◌++◌, ◌+◌}
-use Rattle.mk_laws.proofs.Vocabulary.{◌==◌, ◌∙◌, ◌∷◌, ◌≡◌, ◌≢◌, ◌≤◌}
+use Rattle.mk_laws.proofs.Vocabulary.{begun, false, flagged, if◌then◌else◌, length, progress_freed, progress_p}
+use Rattle.mk_laws.proofs.Vocabulary.{progress_q, progress_read, progress_reg, refl, still, subst, sym, take, true, []}
+use Rattle.mk_laws.proofs.Vocabulary.{◌++◌, ◌+◌, ◌==◌, ◌∙◌, ◌∷◌, ◌≡◌, ◌≢◌, ◌≤◌}
 use Rattle.mk_check.proofs.GivenAnswers.{Serves, as_list, counted, serves}
 use Rattle.mk_check.proofs.AdmittedScripts.{answers_are_noted, others_are_ignored}
-use Rattle.mk_check.specs.{Feeding.next_op, Laws.AreNotedBy, Output.{answers_among, ended_calls}}
+use Rattle.mk_check.specs.{Feeding.next_op, Laws.AreNotedBy, Output.answers_among, Output.ended_calls}
 
 -- the first step of a call
 abbrev pub begins_call : Step → Bool
@@ -69,10 +69,11 @@ pub record Asks (program : List Item) (k : ℕ) (f : Flight) (n : ℕ) (answers 
     pub noted : AreNotedBy program k answers calls
     pub next : length answers ≡ n → f.stage ≢ Stage.Idle → next_op program k answers ≡ Some f.op
 
-pub same_asks : (program : List Item) (k : ℕ) (f g : Flight) (n i : ℕ) (answers given : List Answer)
-    (calls made : List Call)
+pub same_asks : {program : List Item} {k : ℕ} {f : Flight} (g : Flight) {n : ℕ} (i : ℕ) {answers : List Answer}
+    (given : List Answer)
+    {calls : List Call} (made : List Call)
     → g ≡ f → i ≡ n → given ≡ answers → made ≡ calls → Asks program k f n answers calls → Asks program k g i given made
-same_asks program k f g n i answers given calls made a b d e h = rw (a, b, d, e) h
+same_asks g i given made a b d e h = rw (a, b, d, e) h
 
 -- What script k asks for next, where this is the step that begins a call.
 abbrev pub BeginsAsAsked : List Item → ℕ → List Answer → Step → Type 0
@@ -80,18 +81,16 @@ BeginsAsAsked program k given (Step.Enter o) = next_op program k given ≡ Some 
 BeginsAsAsked program k given (Step.Take (Some o)) = next_op program k given ≡ Some o
 BeginsAsAsked program k given _ = ⊤
 
-module _ (program : List Item) (k : ℕ) (f : Flight) (n : ℕ) (answers : List Answer) (calls : List Call)
+module _ {program : List Item} {k : ℕ} {f : Flight} {n : ℕ} {answers : List Answer} {calls : List Call}
     (h : Asks program k f n answers calls) where
   -- after a step that decides nothing
-  quiet : (new : Flight) (i : ℕ)
-      → (length answers ≡ i → new.stage ≢ Stage.Idle → next_op program k answers ≡ Some new.op)
-      → Asks program k new i (answers ++ []) (calls ++ [])
+  quiet : (new : Flight) (i : ℕ) → (length answers ≡ i → new.stage ≢ Stage.Idle
+      → next_op program k answers ≡ Some new.op) → Asks program k new i (answers ++ []) (calls ++ [])
   quiet new i next = grind (arith, same_asks, append-nil)
 
   -- after one that isn't its call's first or last one
-  decides : (new : Flight) (a : Option Answer) → new.op ≡ f.op → f.stage ≢ Stage.Idle
-      → ((b : Answer) → a ≡ Some b → length answers ≡ n)
-      → Asks program k new n (answers ++ as_list a) (calls ++ asked (entry_of k f.op a))
+  decides : (new : Flight) (a : Option Answer) → new.op ≡ f.op → f.stage ≢ Stage.Idle → ((b : Answer) → a ≡ Some b
+      → length answers ≡ n) → Asks program k new n (answers ++ as_list a) (calls ++ asked (entry_of k f.op a))
   decides new (Some a) same busy once = record {
     noted = answers_are_noted program k answers calls h.noted f.op a (h.next (once a refl) busy);
     next = λ e. (let few = once a refl in let more = length-append answers (a ∷ []) in absurd (omega arith));
@@ -126,4 +125,8 @@ module _ (program : List Item) (k : ℕ) (f : Flight) (n : ℕ) (answers : List 
   -- another's call, if one is decided
   pub others_step : (j : ℕ) (o : Op) (a : Option Answer) → j ≢ k
       → Asks program k f n answers (calls ++ asked (entry_of j o a))
-  others_step j o x2 other = grind (arith, others_are_ignored, same_asks, append-nil)
+  others_step j o None other = same_asks f n answers (calls ++ []) refl refl refl (append-nil calls) h
+  others_step j o (Some a) other = record {
+    noted = others_are_ignored program k answers calls h.noted (record { caller = j; op = flagged o a }) other;
+    next = h.next;
+  }

@@ -35,13 +35,11 @@ unnumbered f None (Some n) e is = cc
 unnumbered f (Some m) w e is = cc
 
 -- the first of two words that should be numbers is none
-pub first_is_no_number : (name v w : List ℕ) (form : FormOfNumbers) (e : TextKind)
-    → bytes_eq name (codes "tally") ≡ false → ok_or (value_among listed name) TextKind.Word ≡ Ok form
-    → number v ≡ Err e → two_operands name v w ≡ Err e
+pub first_is_no_number : (name v w : List ℕ) (form : FormOfNumbers) (e : TextKind) → bytes_eq name (codes "tally")
+    ≡ false → ok_or (value_among listed name) TextKind.Word ≡ Ok form → number v ≡ Err e → two_operands name v w ≡ Err e
 first_is_no_number name v w form e other is fault =
-    let named : value_among forms_of_numbers name ≡ Some (form_of_numbers form) =
-    value_among_map form_of_numbers listed name
-    ∙ ap (option_map form_of_numbers) (was_some (value_among listed name) form is) in
+    let named : value_among forms_of_numbers name ≡ Some (form_of_numbers form) = value_among_map form_of_numbers listed
+    name ∙ ap (option_map form_of_numbers) (was_some (value_among listed name) form is) in
     rw (other, named) (unnumbered (form_of_numbers form) (number_of_word v) (number_of_word w) e fault)
 
 pub refused : {A : Type 0} (result : Result A TextKind) (e : TextKind) → IsErrAnd result (λ handed. handed ≡ e)

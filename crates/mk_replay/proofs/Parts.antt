@@ -29,16 +29,15 @@ pub script_within : (lines : List (Bor (List ℕ))) (text : List ℕ) {place : �
 script_within lines text are stands = grind (arith, lines_before, taken)
 
 -- the program is that of the bytes before the schedule line
-program_before : (text : List ℕ) (place : ℕ) → length text ≤ 1048576 → StandsAt (lines_of text) place
+program_before : (text : List ℕ) {place : ℕ} → length text ≤ 1048576 → StandsAt (lines_of text) place
     → program_of (take (text_length (take place (lines_of text))) text) ≡ items_of_lines (script_lines (lines_of text))
-program_before text place short stands =
+program_before text {place = place} short stands =
     let size = text_length (take place (lines_of text)) in
     not_too_long (take size text) (omega (arith, length-take size text))
     ∙ ap items_of_lines ((lines_before place text stands.inside).lines ∙ sym stands.before)
 
-entries_behind : {lines : List (List ℕ)} {place : ℕ} → StandsAt lines place
-    → schedule_behind (length (script_lines lines)) (schedule_lines lines)
-    ≡ entries_of_lines (place + 2) (drop (place + 1) lines)
+entries_behind : {lines : List (List ℕ)} {place : ℕ} → StandsAt lines place → schedule_behind
+    (length (script_lines lines)) (schedule_lines lines) ≡ entries_of_lines (place + 2) (drop (place + 1) lines)
 entries_behind {lines} {place} stands =
     let count : length (script_lines lines) ≡ place =
     omega (arith, ap length stands.before, length-take place lines, stands.inside) in

@@ -39,14 +39,12 @@ unfolding pieces_of
 cut x0 is = grind arith
 
 -- one byte further
-pub goes_on : (text : List ℕ) (i : ℕ) → i < length text → is_cut (drop i text) ≡ false
-    → pieces_of text ≡ glue (take i text) (pieces_of (drop i text))
-    → pieces_of text ≡ glue (take (i + 1) text) (pieces_of (drop (i + 1) text))
+pub goes_on : (text : List ℕ) (i : ℕ) → i < length text → is_cut (drop i text) ≡ false → pieces_of text ≡ glue
+    (take i text) (pieces_of (drop i text)) → pieces_of text ≡ glue (take (i + 1) text) (pieces_of (drop (i + 1) text))
 goes_on text i inside is so_far =
     let here : is_cut (get_or text i 0 ∷ drop (i + 1) text) ≡ false = sym (at_drop_more is_cut text i 0 inside) ∙ is in
-    so_far ∙ ap (glue (take i text)) (at_drop_more pieces_of text i 0 inside
-    ∙ uncut (get_or text i 0) (drop (i + 1) text) here)
-    ∙ (grind (arith, append_assoc))
+    so_far ∙ ap (glue (take i text)) (at_drop_more pieces_of text i 0 inside ∙ uncut (get_or text i 0)
+    (drop (i + 1) text) here) ∙ (grind (arith, append_assoc))
     ∙ ap (λ front. glue front (pieces_of (drop (i + 1) text))) (sym (take_more text i 0 inside))
 
 long : (text : List ℕ) → is_cut text ≡ true → 2 ≤ length text

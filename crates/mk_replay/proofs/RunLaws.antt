@@ -8,7 +8,7 @@ use Rattle.mk_replay.proofs.{Vocabulary.{length-append, nat_tests, served_to}, S
 use Rattle.mk_laws.proofs.Vocabulary.{IsEnabled, List, None, Option, Seat, Some, ℕ, ap, arith, caller_number, cases_eq}
 use Rattle.mk_laws.proofs.Vocabulary.{enabled_meets, false, get_or, get_or-set_other, get_or-set_same}
 use Rattle.mk_laws.proofs.Vocabulary.{get_or_append_left, inl, inr, length, refl, seat_exists, slice_index_or}
-use Rattle.mk_laws.proofs.Vocabulary.{slice_set, subst, sym, true, [], ◌++◌, ◌<◌, ◌==◌, ◌∙◌, ◌∷◌, ◌≡◌, ◌≢◌}
+use Rattle.mk_laws.proofs.Vocabulary.{slice_set, subst, sym, true, [], ◌++◌, ◌<◌, ◌∙◌, ◌∷◌, ◌≡◌, ◌≢◌}
 use Rattle.mk_core.proofs.Histories.{calls_more, last_enabled}
 use Rattle.mk_core.specs.{Enabled.failing, Standing.{CoreStandsFor, CoreState}}
 use Rattle.mk_check.proofs.{FeedLaws.{feed_push, feed_push-ended}, GivenAnswers.same_number}
@@ -41,9 +41,8 @@ pub answer_is : (c : Config) (es : List Event) (e : Event) (caller : ℕ) (o : O
     → calls c (es ++ e ∷ []) ≡ calls c es ++ entry_of caller o a → a ≡ answer_decided c (left c es).now e
 answer_is c es e caller o a h = grind (arith, append_cancel_left, calls_more, answer_of_entry, first_answer)
 
-mine : (players : List Player) (j : ℕ) (old new : Player) (e : Event) (a : Option Answer)
-    → j < length players → old ≡ slice_index_or players j old → e.seat ≡ Seat.Caller j
-    → TakesStep (ends_call e.step) a old new
+mine : (players : List Player) (j : ℕ) (old new : Player) (e : Event) (a : Option Answer) → j < length players
+    → old ≡ slice_index_or players j old → e.seat ≡ Seat.Caller j → TakesStep (ends_call e.step) a old new
     → (program : List Item) (d : Player) (x : Served) → IsPlayerOf program j x (get_or players j d)
     → IsPlayerOf program j (served_by j e a x) (get_or (set players j new) j d)
 mine players j old new e a lt at is takes program d x h =

@@ -2,7 +2,7 @@
 use Rattle.mk_replay.proofs.Vocabulary.{is_schedule_line, position_from}
 use Rattle.mk_laws.proofs.Vocabulary.{Bool, List, None, Some, ℕ, arith, cond, false, refl, subst, suc, sym, true, []}
 use Rattle.mk_laws.proofs.Vocabulary.{◌+◌, ◌∷◌, ◌≡◌}
-use Rattle.mk_replay.specs.{Reading.{HasNone, StandsAt}, Schedules.{schedule_lines, script_lines}}
+use Rattle.mk_replay.specs.{Reading.HasNone, Reading.StandsAt, Schedules.schedule_lines, Schedules.script_lines}
 
 -- where it is found, counted from a number on
 record IsFound (lines : List (List ℕ)) (from found : ℕ) : Type 0 where
@@ -20,9 +20,8 @@ unfolding script_lines schedule_lines
 later line {lines} {place} is first = grind arith
 
 found_by : (line : List ℕ) (lines : List (List ℕ)) (from found : ℕ) (is : Bool) → is_schedule_line line ≡ is
-    → (position_from is_schedule_line (from + 1) lines ≡ Some found → IsFound lines (from + 1) found)
-    → cond is (Some from) (position_from is_schedule_line (from + 1) lines) ≡ Some found
-    → IsFound (line ∷ lines) from found
+    → (position_from is_schedule_line (from + 1) lines ≡ Some found → IsFound lines (from + 1) found) → cond is
+    (Some from) (position_from is_schedule_line (from + 1) lines) ≡ Some found → IsFound (line ∷ lines) from found
 found_by line lines from found true is behind e =
     let same : found ≡ from = cc in
     record { place = 0; counts = omega arith; first = here line lines is }

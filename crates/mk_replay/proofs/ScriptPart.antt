@@ -53,10 +53,9 @@ take_line (byte ∷ line) newline text size =
     ap (λ n. take n (byte ∷ (line ++ newline ∷ text))) one_more
     ∙ ap (λ rest. byte ∷ rest) (take_line line newline text size)
 
-cut : (line : List ℕ) (newline : ℕ) (text : List ℕ) (before : List (List ℕ))
-    → All (λ byte. is_newline byte ≡ false) line → is_newline newline ≡ true → IsCut text before
-    → IsCut (line ++ newline ∷ text) (line ∷ before)
-cut line newline text before without is inner = record {
+cut : (line : List ℕ) (newline : ℕ) {text : List ℕ} {before : List (List ℕ)} → All (λ byte. is_newline byte ≡ false)
+    line → is_newline newline ≡ true → IsCut text before → IsCut (line ++ newline ∷ text) (line ∷ before)
+cut line newline {text = text} {before = before} without is inner = record {
   within = omega (arith, inner.within, length-append line (newline ∷ text));
   lines =
       ap lines_of (take_line line newline text (text_length before))
@@ -79,8 +78,7 @@ lines_before (suc place) text inside = elim (cases_lt (position_or_len is_newlin
       let lines : lines_of text ≡ first.line ∷ lines_of first.rest = ap lines_of first.whole
       ∙ lines_of_line first.line first.newline first.rest first.without first.is_newline in
       let inside' : place < length (lines_of first.rest) = omega (arith, ap length lines) in
-      let whole = cut first.line first.newline first.rest (take place (lines_of first.rest)) first.without
-      first.is_newline (lines_before place first.rest inside') in
+      let whole = cut first.line first.newline first.without first.is_newline (lines_before place first.rest inside') in
       subst (λ ls. IsCut text (take (suc place) ls)) (sym lines)
       (subst (λ t. IsCut t (first.line ∷ take place (lines_of first.rest))) (sym first.whole) whole)
   | inr none ↦ let few = one_line text none in absurd (omega arith)

@@ -28,9 +28,8 @@ refusal_more : (program : List Item) (es : List Event) (x : Entry) (xs : List En
 unfolding refusal_from
 refusal_more program es x xs h = rw h refl
 
-refusal_here : (program : List Item) (es : List Event) (x : Entry) (xs : List Entry)
-    → (failing_entry program es x == 0) ≡ false
-    → refusal_from program es (x ∷ xs) ≡ Some (NotEnabled x.line x.place (failing_entry program es x))
+refusal_here : (program : List Item) (es : List Event) (x : Entry) (xs : List Entry) → (failing_entry program es x == 0)
+    ≡ false → refusal_from program es (x ∷ xs) ≡ Some (NotEnabled x.line x.place (failing_entry program es x))
 unfolding refusal_from
 refusal_here program es x xs h = rw h refl
 

@@ -1,8 +1,8 @@
 -- The lines of a canonical text are those of its items.
-use Rattle.std.{proofs.lemmas.List.Splits.{slice_split_at}, specs.List.{slice_split}}
+use Rattle.std.{proofs.lemmas.List.Splits.slice_split_at, specs.List.slice_split}
 use Rattle.mk_script.proofs.Vocabulary.{Item, List, ℕ, ap, append_assoc, canonical_text, joined_words, lines_of, map}
 use Rattle.mk_script.proofs.Vocabulary.{nat_eq, refl, without_empty_last, words_of_item, [], ◌++◌, ◌∙◌, ◌∷◌, ◌≡◌}
-use Rattle.mk_script.proofs.{LineWords.{AreWords, without_newline}, Spacing.line_text-joined}
+use Rattle.mk_script.proofs.{LineWords.AreWords, LineWords.without_newline, Spacing.line_text-joined}
 
 -- the lines of items, without their newlines
 abbrev pub lines_of_items : List Item → List (List ℕ)

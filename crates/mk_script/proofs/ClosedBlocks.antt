@@ -40,10 +40,9 @@ closes_behind before [] passed closed =
     none_open (open_blocks before) (ap (λ (xs : List Item). has_none (open_blocks xs)) (sym (append-nil before))
     ∙ closed)
 closes_behind before (item ∷ items) passed closed =
-    one_more (open_blocks before) item items passed.0.ends
-    (subst (λ (bs : List OpenBlock). Closes (map may_have_else bs) items) (fold_push open_behind [] before item)
-    (closes_behind (before ++ item ∷ []) items passed.1
-    (ap (λ (xs : List Item). has_none (open_blocks xs)) (append_assoc before (item ∷ []) items) ∙ closed)))
+    one_more (open_blocks before) item items passed.0.ends (subst (λ (bs : List OpenBlock). Closes
+    (map may_have_else bs) items) (fold_push open_behind [] before item) (closes_behind (before ++ item ∷ []) items
+    passed.1 (ap (λ (xs : List Item). has_none (open_blocks xs)) (append_assoc before (item ∷ []) items) ∙ closed)))
 
 pub program_closes : (program : List Item) → IsOfSomeText program → Closes [] program
 program_closes program text =

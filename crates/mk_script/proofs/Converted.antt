@@ -1,5 +1,5 @@
 -- A fault of a line that a `?` hands on.
-use Rattle.std.{proofs.Common.{Result}, specs.Result.{IsErrAnd}}
+use Rattle.std.{proofs.Common.Result, specs.Result.IsErrAnd}
 use Rattle.mk_script.proofs.Vocabulary.{Err, LineFault, arith, ◌≡◌}
 use Rattle.mk_script.specs.{Stops.Gives, declared.faults.LineStop.LineStop, declared.faults.LineStop.TheVariants.Fault}
 

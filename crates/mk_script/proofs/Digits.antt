@@ -13,9 +13,8 @@ pub value_from-drop : (high : ℕ) (digits : List ℕ) (i : ℕ) → i < length 
 value_from-drop high digits i inside = at_drop_more (value_from high) digits i 0 inside
 
 -- the digits so far are too great already
-pub too_great : (high : ℕ) (digits : List ℕ) (i : ℕ) → i < length digits
-    → value_from 0 digits ≡ value_from high (drop i digits) → 2 ^ 64 ≤ 10 * high + (get_or digits i 0 - 48)
-    → value_of_digits digits ≡ None
+pub too_great : (high : ℕ) (digits : List ℕ) (i : ℕ) → i < length digits → value_from 0 digits ≡ value_from high
+    (drop i digits) → 2 ^ 64 ≤ 10 * high + (get_or digits i 0 - 48) → value_of_digits digits ≡ None
 too_great high digits i inside so_far great = grind (arith, value_from-drop, value_from-le, le-ltb, and-false)
 
 -- there are no digits left

@@ -1,5 +1,5 @@
 -- The lines of a text are the pieces between its newlines, without an empty last piece.
-use Rattle.std.proofs.{Common.Bor, lemmas.List.{map-append, take_more}}
+use Rattle.std.proofs.{Common.Bor, lemmas.List.map-append, lemmas.List.take_more}
 use Rattle.mk_script.proofs.Vocabulary.{List, ℕ, ap, arith, false, get_or, length, refl, take, take_all, texts_of, true}
 use Rattle.mk_script.proofs.Vocabulary.{without_empty_last, [], ◌++◌, ◌+◌, ◌-◌, ◌<◌, ◌==◌, ◌∙◌, ◌∷◌, ◌≡◌}
 
@@ -16,9 +16,8 @@ last_full (a ∷ []) last full = ap (λ rest. a ∷ rest) (last_full [] last ful
 last_full (a ∷ b ∷ front) last full = ap (λ rest. a ∷ rest) (last_full (b ∷ front) last full)
 
 -- front and last of a list that isn't empty
-split : (pieces : List (Bor (List ℕ))) (last : Bor (List ℕ)) → 0 < length pieces
-    → last ≡ get_or pieces (length pieces - 1) last
-    → texts_of pieces ≡ texts_of (take (length pieces - 1) pieces) ++ last.now ∷ []
+split : (pieces : List (Bor (List ℕ))) (last : Bor (List ℕ)) → 0 < length pieces → last ≡ get_or pieces
+    (length pieces - 1) last → texts_of pieces ≡ texts_of (take (length pieces - 1) pieces) ++ last.now ∷ []
 split pieces last inside is_last =
     let i = length pieces - 1 in
     let below : i < length pieces = omega arith in
@@ -33,8 +32,7 @@ pub without_last : (pieces : List (Bor (List ℕ))) (last : Bor (List ℕ)) → 
 without_last pieces last inside is_last empty =
     cc (split pieces last inside is_last, last_empty (texts_of (take (length pieces - 1) pieces)) last.now empty)
 
-pub with_last : (pieces : List (Bor (List ℕ))) (last : Bor (List ℕ)) → 0 < length pieces
-    → last ≡ get_or pieces (length pieces - 1) last → (length last.now == 0) ≡ false
-    → texts_of pieces ≡ without_empty_last (texts_of pieces)
+pub with_last : (pieces : List (Bor (List ℕ))) (last : Bor (List ℕ)) → 0 < length pieces → last ≡ get_or pieces
+    (length pieces - 1) last → (length last.now == 0) ≡ false → texts_of pieces ≡ without_empty_last (texts_of pieces)
 with_last pieces last inside is_last full =
     cc (split pieces last inside is_last, last_full (texts_of (take (length pieces - 1) pieces)) last.now full)

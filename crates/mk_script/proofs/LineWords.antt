@@ -59,9 +59,8 @@ pub split_spaced : (word : List ℕ) (words : List (List ℕ)) → is_word word 
     → slice_split (λ byte. nat_eq byte 32) (word ++ spaced_words words) ≡ word ∷ words
 split_spaced word [] p ws = grind (arith, append-nil, slice_split_none, without, is_solid-from_is_word)
 split_spaced word (next ∷ words) p ws =
-    slice_split_at (λ byte. nat_eq byte 32) word 32 (next ++ spaced_words words)
-    (without 32 word (omega arith) (is_solid-from_is_word word p)) refl
-    ∙ ap (λ rest. word ∷ rest) (split_spaced next words ws.0 ws.1)
+    slice_split_at (λ byte. nat_eq byte 32) word 32 (next ++ spaced_words words) (without 32 word (omega arith)
+    (is_solid-from_is_word word p)) refl ∙ ap (λ rest. word ∷ rest) (split_spaced next words ws.0 ws.1)
 
 not_zero : (n : ℕ) → not (nat_eq (suc n) 0) ≡ true
 not_zero n = grind (arith, nat_tests)

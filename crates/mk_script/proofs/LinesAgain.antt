@@ -1,12 +1,12 @@
 -- The line that said an item is said again by the item's own words.
-use Rattle.std.{proofs.Common.{leb-true}, specs.Option.{option_or}}
+use Rattle.std.{proofs.Common.leb-true, specs.Option.option_or}
 use Rattle.mk_script.proofs.Vocabulary.{Bool, Err, Item, Keyword, LineFault, List, None, Ok, Option, Result, Some, ℕ}
 use Rattle.mk_script.proofs.Vocabulary.{and_from, and_parts, ap, arith, bytes_eq, codes, cond, cond-true}
 use Rattle.mk_script.proofs.Vocabulary.{has_word_count, have_form, is_placed, item_from, keyword_of, length, line_of}
 use Rattle.mk_script.proofs.Vocabulary.{refl, subst, sym, true, words_of_item, [], ◌&&◌, ◌∙◌, ◌∷◌, ◌≡◌}
-use Rattle.mk_script.proofs.{PrintedForms.{IsShort, read_number, said}, LineWords.{AreWords, is_word-decimal}}
-use Rattle.mk_script.proofs.{PassedLines.passed, PrintedOperands.{Printed, no_item}, Said.{is_this, then_again}}
-use Rattle.mk_script.proofs.Said.{with_number}
+use Rattle.mk_script.proofs.PrintedForms.{IsShort, read_number, said}
+use Rattle.mk_script.proofs.{LineWords.AreWords, LineWords.is_word-decimal, PassedLines.passed, PrintedOperands.Printed}
+use Rattle.mk_script.proofs.{PrintedOperands.no_item, Said.is_this, Said.then_again, Said.with_number}
 use Rattle.mk_script.specs.Lines.{checked_item, heap_line, limit_fault, line_item, other_line, placed_item}
 
 -- a line's item again, from words that are words of a line

@@ -1,5 +1,5 @@
 -- What a set says of the names that it has.
-use Rattle.std.proofs.{Common.Result, lemmas.List.Sorted.{length_permutation, list_any-IsPermutation}}
+use Rattle.std.proofs.{Common.Result, lemmas.List.Sorted.length_permutation, lemmas.List.Sorted.list_any-IsPermutation}
 use Rattle.std.specs.Result.{OnOk}
 use Rattle.mk_script.proofs.Vocabulary.{Bool, IsPermutation, List, ℕ, ap, arith, bytes_eq, false, is_among, length}
 use Rattle.mk_script.proofs.Vocabulary.{list_any-append, sym, true, ◌++◌, ◌||◌, ◌∙◌, ◌≡◌}

@@ -1,7 +1,7 @@
 -- A line with a number of words that no form has.
 use Rattle.mk_script.proofs.Vocabulary.{Err, Keyword, List, ℕ, item_from, length, refl, [], ◌∷◌, ◌≡◌, ◌≢◌}
-use Rattle.mk_script.specs.{declared.faults.LineFault.TheVariants.Text, declared.faults.TextKind.TheVariants.Word}
-use Rattle.mk_script.specs.declared.keywords.Keyword.TheVariants.{TypeLine}
+use Rattle.mk_script.specs.declared.faults.LineFault.TheVariants.{Text}
+use Rattle.mk_script.specs.{declared.faults.TextKind.TheVariants.Word, declared.keywords.Keyword.TheVariants.TypeLine}
 
 pub of_no_form : (keyword : Keyword) (words : List (List ℕ)) → keyword ≢ TypeLine → length words ≢ 0 → length words ≢ 1
     → length words ≢ 2 → length words ≢ 3 → length words ≢ 5 → item_from keyword words ≡ Err (Text Word)

@@ -70,9 +70,8 @@ ended : (closed script : Bool) (first last : TextStop) (before items : List Item
 ended x0 script first last before items has close h = grind (arith, append-nil)
 
 one_more : (line : ℕ) (before items : List Item) (next : Item → Result (List Item) TextStop) (r : Result Item LineFault)
-    → ((item : Item) → r ≡ Ok item → IsPassed before item)
-    → ((item : Item) → next item ≡ Ok items → Behind (before ++ item ∷ []) items)
-    → go_on line r next ≡ Ok items → Behind before items
+    → ((item : Item) → r ≡ Ok item → IsPassed before item) → ((item : Item) → next item ≡ Ok items
+    → Behind (before ++ item ∷ []) items) → go_on line r next ≡ Ok items → Behind before items
 one_more line before items next x4 is behind h = grind (arith, append_assoc)
 
 lines_behind : (lines : List (List ℕ)) (before items : List Item) → items_behind lines before ≡ Ok items

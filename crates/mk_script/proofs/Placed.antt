@@ -48,9 +48,8 @@ miscounted keyword words other counts = refl
 have_form-plain : (keyword : Keyword) (words : List (List ℕ)) → keyword ≢ TypeLine → have_form keyword words ≡ true
 have_form-plain keyword words other = grind arith
 
-chosen : (counts formed placed : Bool) (found : Result Item LineFault) → formed ≡ true → placed ≡ true
-    → (counts ≡ false → found ≡ Err (Text Word))
-    → (if counts && formed && placed then found else Err (Text Word)) ≡ found
+chosen : (counts formed placed : Bool) (found : Result Item LineFault) → formed ≡ true → placed ≡ true → (counts ≡ false
+    → found ≡ Err (Text Word)) → (if counts && formed && placed then found else Err (Text Word)) ≡ found
 chosen x0 formed placed found is is' unless = grind arith
 
 -- a line that isn't a type's and stands in its place

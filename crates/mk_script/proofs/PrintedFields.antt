@@ -9,10 +9,9 @@ use Rattle.mk_script.proofs.Vocabulary.{fields_behind, fields_of, le-leb, length
 use Rattle.mk_script.proofs.Vocabulary.{nat_le, number_of_word, refl, replicate, subst, suc, sym, true, zero, [], ◌++◌}
 use Rattle.mk_script.proofs.{Vocabulary.{◌+◌, ◌<◌, ◌^◌, ◌∷◌, ◌≡◌}, LineWords.{AreWords, is_solid-decimal, is_word}}
 use Rattle.mk_script.proofs.{LineWords.is_word-append, Said.{IsPlace, at_again, at_was, is_solid-at}}
-use Rattle.mk_script.proofs.PrintedNumbers.{number_of_word-decimal}
+use Rattle.mk_script.{proofs.PrintedNumbers.{number_of_word-decimal}, specs.declared.items.TypeWord.{TypeWord}}
 use Rattle.mk_script.specs.Operands.{field_of, number_field, numbers, pointer_field}
-use Rattle.mk_script.specs.declared.items.TypeWord.TheVariants.{Number, Pointer}
-use Rattle.mk_script.specs.{Canonical.{numbers_before, numbers_text}, declared.items.TypeWord.TypeWord}
+use Rattle.mk_script.specs.{declared.items.TypeWord.TheVariants.{Number, Pointer}, Canonical.numbers_before}
 
 -- a word of a type whose place is one
 abbrev pub IsTypeWord : TypeWord → Type 0
@@ -37,15 +36,15 @@ pub record AreFieldsOf (fields : List (List ℕ)) (words : List TypeWord) : Type
   pub each : list_all (λ field. is_some (field_of field)) fields ≡ true
   pub apart : AreWords fields
 
-one_more : (field : List ℕ) (fields : List (List ℕ)) (first words : List TypeWord) → IsFieldOf field first
+one_more : {field : List ℕ} {fields : List (List ℕ)} {first words : List TypeWord} → IsFieldOf field first
     → AreFieldsOf fields words → AreFieldsOf (field ∷ fields) (first ++ words)
-one_more field fields first words f fs = grind (arith, and_from)
+one_more f fs = grind (arith, and_from)
 
 numbers_before_again : (count : ℕ) (fields : List (List ℕ)) (words : List TypeWord) → count < 2 ^ 64
     → AreFieldsOf fields words → AreFieldsOf (numbers_before count fields) (replicate count Number ++ words)
 numbers_before_again zero fields words small fs = fs
 numbers_before_again (suc count) fields words small fs =
-    one_more (numbers_text (suc count)) fields (replicate (suc count) Number) words
+    one_more
     (cond_both (nat_eq (suc count) 1) (codes "n") (codes "n*" ++ decimal (suc count))
     (λ field. IsFieldOf field (replicate (suc count) Number))
     (λ one. subst (λ k. IsFieldOf (codes "n") (replicate k Number)) (sym (eqb-true (suc count) 1 one))
@@ -64,8 +63,7 @@ fields_again (Pointer a ∷ words) count all small =
     let later = fields_again words 0 (All-tail IsTypeWord (Pointer a) words all) (omega arith) in
     let place : IsPlace a = All-head IsTypeWord (Pointer a) words all in
     numbers_before_again count ((codes "p:" ++ at_text a) ∷ fields_behind words 0) (Pointer a ∷ words) (omega arith)
-    (one_more (codes "p:" ++ at_text a) (fields_behind words 0) (Pointer a ∷ []) words (
-    grind (arith, at_again, is_word-append, is_solid-at)) later)
+    (one_more {first = Pointer a ∷ []} (grind (arith, at_again, is_word-append, is_solid-at)) later)
 
 numbers_before_some : (count : ℕ) (fields : List (List ℕ)) → 0 < count + length fields
     → 0 < length (numbers_before count fields)

@@ -8,8 +8,8 @@ use Rattle.mk_script.proofs.PrintedFields.{fields_again, fields_behind_some, fie
 use Rattle.mk_script.specs.declared.keywords.Keyword.TheVariants.{Add, Casp, Clear, Const, Else, End, Free, Getn, Getp}
 use Rattle.mk_script.specs.declared.keywords.Keyword.TheVariants.{Global, Heap, If, Isnull, Lea, Loadg, Move, New, Num}
 use Rattle.mk_script.specs.declared.keywords.Keyword.TheVariants.{Print, Ptr, Repeat, Same, Script, Setn, Setp, Show}
-use Rattle.mk_script.specs.{declared.keywords.Keyword.TheVariants.{Storeg, Sub, TypeLine}, Names.is_name}
-use Rattle.mk_script.specs.Operands.{number}
+use Rattle.mk_script.specs.declared.keywords.Keyword.TheVariants.{Storeg, Sub, TypeLine}
+use Rattle.mk_script.specs.{Names.is_name, Operands.number}
 
 pub read_name : {A : Type 0} (n : List ℕ) → is_name n ≡ true
     → (f : List ℕ → Result A LineFault) {y : Result A LineFault} → f n ≡ y → (name n >>= f) ≡ y
@@ -24,9 +24,8 @@ abbrev pub IsShort : Item → Type 0
 IsShort (Item.TypeLine name words) = length words ≤ 4096
 IsShort item = Unit {0}
 
-pub said : (form : Keyword) (operands : List (List ℕ)) (line : Item) → IsShort line
-    → has_word_count form (length operands) ≡ true → have_form form operands ≡ true → item_from form operands ≡ Ok line
-    → Printed form line
+pub said : (form : Keyword) (operands : List (List ℕ)) (line : Item) → IsShort line → has_word_count form
+    (length operands) ≡ true → have_form form operands ≡ true → item_from form operands ≡ Ok line → Printed form line
 unfolding item_from
 said TypeLine (t ∷ []) line short count form e = absurd cc
 said TypeLine (t ∷ field ∷ fields) line short count form e =
@@ -61,18 +60,14 @@ said New (a ∷ b ∷ []) line short count form e = prints (a ∷ b ∷ []) (cod
     (λ v w. Item.New v w) refl refl (λ words. refl) (λ v w. refl) (λ a b. refl) count e
 said Free (a ∷ []) line short count form e = prints (a ∷ []) (codes "free") (AName ∷ [])
     (λ v. Item.Free v) refl refl (λ words. refl) (λ v. refl) (λ a. refl) count e
-said Getn (a ∷ b ∷ c ∷ []) line short count form e = prints (a ∷ b ∷ c ∷ []) (codes "getn")
-    (AName ∷ AName ∷ ANumber ∷ [])
-    (λ v w x. Item.Getn v w x) refl refl (λ words. refl) (λ v w x. refl) (λ a b c. refl) count e
-said Setn (a ∷ b ∷ c ∷ []) line short count form e = prints (a ∷ b ∷ c ∷ []) (codes "setn")
-    (AName ∷ ANumber ∷ AName ∷ [])
-    (λ v w x. Item.Setn v w x) refl refl (λ words. refl) (λ v w x. refl) (λ a b c. refl) count e
-said Getp (a ∷ b ∷ c ∷ []) line short count form e = prints (a ∷ b ∷ c ∷ []) (codes "getp")
-    (AName ∷ AName ∷ ANumber ∷ [])
-    (λ v w x. Item.Getp v w x) refl refl (λ words. refl) (λ v w x. refl) (λ a b c. refl) count e
-said Setp (a ∷ b ∷ c ∷ []) line short count form e = prints (a ∷ b ∷ c ∷ []) (codes "setp")
-    (AName ∷ ANumber ∷ AName ∷ [])
-    (λ v w x. Item.Setp v w x) refl refl (λ words. refl) (λ v w x. refl) (λ a b c. refl) count e
+said Getn (a ∷ b ∷ c ∷ []) line short count form e = prints (a ∷ b ∷ c ∷ []) (codes "getn") (AName ∷ AName ∷ ANumber ∷
+    []) (λ v w x. Item.Getn v w x) refl refl (λ words. refl) (λ v w x. refl) (λ a b c. refl) count e
+said Setn (a ∷ b ∷ c ∷ []) line short count form e = prints (a ∷ b ∷ c ∷ []) (codes "setn") (AName ∷ ANumber ∷ AName ∷
+    []) (λ v w x. Item.Setn v w x) refl refl (λ words. refl) (λ v w x. refl) (λ a b c. refl) count e
+said Getp (a ∷ b ∷ c ∷ []) line short count form e = prints (a ∷ b ∷ c ∷ []) (codes "getp") (AName ∷ AName ∷ ANumber ∷
+    []) (λ v w x. Item.Getp v w x) refl refl (λ words. refl) (λ v w x. refl) (λ a b c. refl) count e
+said Setp (a ∷ b ∷ c ∷ []) line short count form e = prints (a ∷ b ∷ c ∷ []) (codes "setp") (AName ∷ ANumber ∷ AName ∷
+    []) (λ v w x. Item.Setp v w x) refl refl (λ words. refl) (λ v w x. refl) (λ a b c. refl) count e
 said Casp (a ∷ b ∷ c ∷ d ∷ f ∷ []) line short count form e = prints (a ∷ b ∷ c ∷ d ∷ f ∷ []) (codes "casp")
     (AName ∷ AName ∷ ANumber ∷ AName ∷ AName ∷ [])
     (λ v w x y z. Item.Casp v w x y z) refl refl (λ words. refl) (λ v w x y z. refl) (λ a b c d f. refl) count e

@@ -4,9 +4,8 @@ use Rattle.mk_script.proofs.Vocabulary.{append_assoc, at, at_text, decimal, has_
 use Rattle.mk_script.proofs.Vocabulary.{keyword_of, length, name, refl, subst, suc, sym, true, words_of_item, [], ◌++◌}
 use Rattle.mk_script.proofs.{Vocabulary.{◌>>=◌, ◌∙◌, ◌∷◌, ◌≡◌}, Said.{at_again, is_this, is_word-at, is_word-name}}
 use Rattle.mk_script.proofs.Said.{name_again, number_again, with_at, with_name, with_number}
-use Rattle.mk_script.proofs.LineWords.{AreWords, is_word, is_word-decimal}
-use Rattle.mk_script.specs.{declared.faults.TextKind.TextKind, Operands.number}
-use Rattle.mk_script.specs.declared.faults.LineFault.TheVariants.{Text}
+use Rattle.mk_script.{proofs.LineWords.{AreWords, is_word, is_word-decimal}, specs.declared.faults.TextKind.{TextKind}}
+use Rattle.mk_script.specs.{Operands.number, declared.faults.LineFault.TheVariants.Text}
 
 -- its words are those of a line of the form, and say it
 pub record Printed (form : Keyword) (item : Item) : Type 0 where
@@ -54,7 +53,7 @@ with_operand AName w e go =
     with_name w e (λ n p e. go n (record { again = name_again n p; apart = is_word-name n p }) e)
 with_operand ANumber w e go =
     with_number w e (λ n p e. go n (record { again = number_again n p; apart = is_word-decimal n p }) e)
-with_operand APlace w e go = with_at w e (λ a p e. go a (record { again = at_again a p; apart = is_word-at a p }) e)
+with_operand APlace w e go = with_at w e (λ a p e. go a (record { again = at_again p; apart = is_word-at p }) e)
 
 -- the item of operands of these kinds
 abbrev pub Makes : List Kind → Type 0
@@ -110,10 +109,9 @@ again (k ∷ ks) make front (operand ∷ operands) line printed e =
     })
 
 pub prints : {form : Keyword} {line : Item} (operands : List (List ℕ)) (word : List ℕ) (ks : List Kind)
-    (make : Makes ks) → keyword_of word ≡ Some form → is_word word ≡ true
-    → ((words : List (List ℕ)) → have_form form words ≡ true) → ArePrinted ks make (word ∷ [])
-    → SayTheSame ks (item_from form) (says ks make) → has_word_count form (length operands) ≡ true
-    → says ks make operands ≡ Ok line → Printed form line
+    (make : Makes ks) → keyword_of word ≡ Some form → is_word word ≡ true → ((words : List (List ℕ))
+    → have_form form words ≡ true) → ArePrinted ks make (word ∷ []) → SayTheSame ks (item_from form) (says ks make)
+    → has_word_count form (length operands) ≡ true → says ks make operands ≡ Ok line → Printed form line
 prints {form} {line} operands word ks make keyword solid formed printed same count e =
     let of = again ks make (word ∷ []) operands line printed e in
     record {

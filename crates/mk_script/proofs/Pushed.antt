@@ -1,42 +1,15 @@
 -- What lines say, with others behind them.
-use Rattle.std.proofs.{lemmas.List.{reverse-append, take_more}, Common.set, Math.Seq.set-append_seam}
-use Rattle.std.proofs.lemmas.List.Sums.{fold-append}
-use Rattle.mk_script.proofs.Vocabulary.{Item, List, ℕ, ap, arith, get_or, global_names, if◌then◌else◌, is_script}
-use Rattle.mk_script.proofs.Vocabulary.{length, length-append, number_names, open_behind, open_blocks, pointer_names}
-use Rattle.mk_script.proofs.Vocabulary.{refl, reverse, script_names, take, take_all, this_script, type_names, [], ◌++◌}
-use Rattle.mk_script.proofs.Vocabulary.{◌+◌, ◌-◌, ◌<◌, ◌∙◌, ◌∷◌, ◌≡◌}
-use Rattle.mk_script.specs.{Scopes.{InSecond, OpenBlock, behind_else}, declared.items.Item.TheVariants.{Global, Num}}
-use Rattle.mk_script.specs.declared.items.Item.TheVariants.{Ptr, Script, TypeLine}
+use Rattle.std.proofs.{Common.set, Math.Seq.set-append_seam, lemmas.List.reverse-append, lemmas.List.take_more}
+use Rattle.std.proofs.{lemmas.List.Elements.filter_map-append, lemmas.List.Sums.fold-append}
+use Rattle.mk_script.proofs.Vocabulary.{Item, List, ℕ, ap, arith, get_or, if◌then◌else◌, is_script, length}
+use Rattle.mk_script.proofs.Vocabulary.{length-append, open_behind, open_blocks, refl, reverse, take, take_all}
+use Rattle.mk_script.proofs.Vocabulary.{this_script, [], ◌++◌, ◌+◌, ◌-◌, ◌<◌, ◌∙◌, ◌∷◌, ◌≡◌}
+use Rattle.mk_script.specs.Scopes.{InSecond, OpenBlock, behind_else, declared_name, names_of}
+use Rattle.mk_script.specs.declared.sorts.Sort.{Sort}
 
-pub type_names-append : (items behind : List Item)
-    → type_names (items ++ behind) ≡ type_names items ++ type_names behind
-type_names-append [] behind = refl
-type_names-append (TypeLine name words ∷ items) behind = ap (λ names. name ∷ names) (type_names-append items behind)
-type_names-append (item ∷ items) behind = type_names-append items behind
-
-pub global_names-append : (items behind : List Item)
-    → global_names (items ++ behind) ≡ global_names items ++ global_names behind
-global_names-append [] behind = refl
-global_names-append (Global name ty ∷ items) behind = ap (λ names. name ∷ names) (global_names-append items behind)
-global_names-append (item ∷ items) behind = global_names-append items behind
-
-pub script_names-append : (items behind : List Item)
-    → script_names (items ++ behind) ≡ script_names items ++ script_names behind
-script_names-append [] behind = refl
-script_names-append (Script name ∷ items) behind = ap (λ names. name ∷ names) (script_names-append items behind)
-script_names-append (item ∷ items) behind = script_names-append items behind
-
-pub pointer_names-append : (items behind : List Item)
-    → pointer_names (items ++ behind) ≡ pointer_names items ++ pointer_names behind
-pointer_names-append [] behind = refl
-pointer_names-append (Ptr name at ∷ items) behind = ap (λ names. name ∷ names) (pointer_names-append items behind)
-pointer_names-append (item ∷ items) behind = pointer_names-append items behind
-
-pub number_names-append : (items behind : List Item)
-    → number_names (items ++ behind) ≡ number_names items ++ number_names behind
-number_names-append [] behind = refl
-number_names-append (Num name ∷ items) behind = ap (λ names. name ∷ names) (number_names-append items behind)
-number_names-append (item ∷ items) behind = number_names-append items behind
+pub names_of-append : (sort : Sort) (items behind : List Item)
+    → names_of sort (items ++ behind) ≡ names_of sort items ++ names_of sort behind
+names_of-append sort items behind = filter_map-append (declared_name sort) items behind
 
 pub this_script-push : (before : List Item) (item : Item)
     → this_script (before ++ item ∷ []) ≡ (if is_script item then [] else this_script before ++ item ∷ [])

@@ -25,9 +25,8 @@ put text before after key false is_new puts absent =
 
 -- the same, at a name that the key's text is, and at the set's view
 pub puts_name : {A : Type 0} (text : A → List ℕ) (before after : List A) (key : A) (added : Bool) (name : List ℕ)
-    (names : List (List ℕ)) → text key ≡ name → map text before ≡ names
-    → added ≡ not (list_any (λ other. bytes_eq (text key) (text other)) before)
-    → MatchBool added (IsPermutation (key ∷ before) after) (after ≡ before) → is_among name names ≡ false
-    → IsPermutation (names ++ name ∷ []) (map text after)
+    (names : List (List ℕ)) → text key ≡ name → map text before ≡ names → added ≡ not
+    (list_any (λ other. bytes_eq (text key) (text other)) before) → MatchBool added (IsPermutation (key ∷ before) after)
+    (after ≡ before) → is_among name names ≡ false → IsPermutation (names ++ name ∷ []) (map text after)
 puts_name text before after key added name names name_is names_are is_new puts absent =
     rw (← name_is, ← names_are) (put text before after key added is_new puts (rw (name_is, names_are) absent))

@@ -1,8 +1,8 @@
 -- The canonical text of a text's program has the same program.
 use Rattle.mk_script.proofs.Vocabulary.{IsOfSomeText, Item, List, Ok, ap, append-nil, append_assoc, at_end}
 use Rattle.mk_script.proofs.Vocabulary.{canonical_text, cond-true, items_behind, items_of_lines, joined_words, le-leb}
-use Rattle.mk_script.proofs.Vocabulary.{length, line_of, refl, subst, sym, words_of_item, words_of_line, [], ◌++◌, ◌+◌}
-use Rattle.mk_script.proofs.{Vocabulary.{◌∙◌, ◌∷◌, ◌≡◌, ◌≤◌}, CanonicalLines.{HaveWords, lines_of-canonical_text}}
+use Rattle.mk_script.proofs.Vocabulary.{length, line_of, refl, subst, sym, words_of_item, words_of_line, [], ◌++◌, ◌∙◌}
+use Rattle.mk_script.proofs.{Vocabulary.{◌∷◌, ◌≡◌, ◌≤◌}, CanonicalLines.{HaveWords, lines_of-canonical_text}}
 use Rattle.mk_script.proofs.{CanonicalLines.lines_of_items, PassedLines.{ArePassed, IsWhole, is_whole}}
 use Rattle.mk_script.{proofs.{LineWords.{AreWords, words_of-joined}, LinesAgain.line_again}, specs.Grammar.{program_of}}
 
@@ -45,6 +45,5 @@ pub program_of-canonical_text : (items : List Item) → IsOfSomeText items → l
     → program_of (canonical_text items) ≡ Ok items
 program_of-canonical_text items text small =
     let is = is_whole items text in
-    cond-true _ _ _ (le-leb _ _ small)
-    ∙ ap items_of_lines (lines_of-canonical_text items (have_words items [] (said_again [] items is.lines)))
-    ∙ lines_again items is
+    cond-true _ _ _ (le-leb _ _ small) ∙ ap items_of_lines
+    (lines_of-canonical_text items (have_words items [] (said_again [] items is.lines))) ∙ lines_again items is

@@ -89,8 +89,8 @@ at_text_again : (n : List ℕ) (k : ℕ) → is_name n ≡ true → k < 2 ^ 64
     → at (at_text (record { name = n; offset = k })) ≡ Ok (record { name = n; offset = k })
 at_text_again n x1 h small = grind (arith, alone, ne_eqb, cond-false, with_offset)
 
-pub at_again : (a : At) → IsPlace a → at (at_text a) ≡ Ok a
-at_again a place = at_text_again a.name a.offset place.named place.small
+pub at_again : {a : At} → IsPlace a → at (at_text a) ≡ Ok a
+at_again {a} place = at_text_again a.name a.offset place.named place.small
 
 -- A line's operands, one after the other.
 
@@ -118,8 +118,8 @@ pub with_at : {A P : Type 0} (w : List ℕ) {f : At → Result A LineFault} {y :
     → ((a : At) → IsPlace a → f a ≡ Ok y → P) → P
 with_at w {f} {y} e go = let was = then_was (at w) f y e in go was.0 (at_was w was.0 was.1) was.2
 
-pub is_solid-at : (a : At) → IsPlace a → is_solid (at_text a) ≡ true
-is_solid-at a place = grind (arith, cond_both, is_solid, is_solid-name, is_solid-append, is_solid-decimal)
+pub is_solid-at : {a : At} → IsPlace a → is_solid (at_text a) ≡ true
+is_solid-at place = grind (arith, cond_both, is_solid, is_solid-name, is_solid-append, is_solid-decimal)
 
-pub is_word-at : (a : At) → IsPlace a → is_word (at_text a) ≡ true
-is_word-at a place = grind (arith, cond_both, is_word, is_word-name, is_word-append, is_solid-decimal)
+pub is_word-at : {a : At} → IsPlace a → is_word (at_text a) ≡ true
+is_word-at place = grind (arith, cond_both, is_word, is_word-name, is_word-append, is_solid-decimal)

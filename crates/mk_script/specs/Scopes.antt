@@ -1,35 +1,39 @@
 -- What the lines before a line say: what is declared, which blocks are open.
-use Rattle.std.specs.Prelude.{ℕ, Bool, if◌then◌else◌, fold, true, false, List, [], ◌∷◌, ◌++◌}
+use Rattle.std.specs.Prelude.{ℕ, Bool, if◌then◌else◌, fold, true, false, List, [], ◌∷◌, ◌++◌, Option, Some, None}
+use Rattle.std.specs.List.{filter_map}
 use Rattle.mk_script.specs.{declared.items.Item.Item, declared.items.Item.TheVariants.{Heap, TypeLine, Global, Script}}
-use Rattle.mk_script.specs.declared.items.Item.TheVariants.{Ptr, Num, Repeat, If, Else, End}
+use Rattle.mk_script.specs.{declared.items.Item.TheVariants.{Ptr, Num, Repeat, If, Else, End}, declared.sorts.Sort.Sort}
 pub use Rattle.mk_script.specs.declared.scope.OpenBlock.{OpenBlock}
 pub use Rattle.mk_script.specs.declared.scope.OpenBlock.TheVariants.{InRepeat, InFirst, InSecond}
+use Rattle.mk_script.specs.declared.sorts.Sort.TheVariants as sort
 
--- the names of types, in the order of their lines
+-- the name that a line declares, of this sort
+abbrev pub declared_name : Sort → Item → Option (List ℕ)
+declared_name sort.Type (TypeLine name words) = Some name
+declared_name sort.Global (Global name ty) = Some name
+declared_name sort.Script (Script name) = Some name
+declared_name sort.Pointer (Ptr name at) = Some name
+declared_name sort.Number (Num name) = Some name
+declared_name s item = None
+
+-- the names of a sort, in the order of their lines
+abbrev pub names_of : Sort → List Item → List (List ℕ)
+names_of s items = filter_map (declared_name s) items
+
 abbrev pub type_names : List Item → List (List ℕ)
-type_names [] = []
-type_names (TypeLine name words ∷ items) = name ∷ type_names items
-type_names (item ∷ items) = type_names items
+type_names items = names_of sort.Type items
 
 abbrev pub global_names : List Item → List (List ℕ)
-global_names [] = []
-global_names (Global name ty ∷ items) = name ∷ global_names items
-global_names (item ∷ items) = global_names items
+global_names items = names_of sort.Global items
 
 abbrev pub script_names : List Item → List (List ℕ)
-script_names [] = []
-script_names (Script name ∷ items) = name ∷ script_names items
-script_names (item ∷ items) = script_names items
+script_names items = names_of sort.Script items
 
 abbrev pub pointer_names : List Item → List (List ℕ)
-pointer_names [] = []
-pointer_names (Ptr name at ∷ items) = name ∷ pointer_names items
-pointer_names (item ∷ items) = pointer_names items
+pointer_names items = names_of sort.Pointer items
 
 abbrev pub number_names : List Item → List (List ℕ)
-number_names [] = []
-number_names (Num name ∷ items) = name ∷ number_names items
-number_names (item ∷ items) = number_names items
+number_names items = names_of sort.Number items
 
 abbrev pub is_script : Item → Bool
 is_script (Script name) = true

@@ -20,6 +20,7 @@ mod parsing;
 mod printing;
 mod program;
 mod scope;
+mod sorts;
 mod splitting;
 
 pub use faults::{LineFault, TEXT_LIMIT, TOO_LONG, TextKind, TextStop, Which};
@@ -30,4 +31,5 @@ pub use numbers::parse_number;
 pub use parsing::parse;
 pub use printing::print;
 pub use program::Program;
+pub use sorts::{Sort, declared_name};
 pub use splitting::{replace_words, split_lines, split_words};

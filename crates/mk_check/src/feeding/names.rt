@@ -1,34 +1,14 @@
 //! Names of a program and of one of its scripts, with their numbers.
-ghost use Rattle.std.specs.{Prelude.{◌≡◌, ◌+◌, ◌<◌, ◌≤◌, ◌^◌, length, map, IfOk}, Option.option_copied};
-ghost use Rattle.mk_check.specs.{Declarations.number_of_name, NamesInScope.{declared_name, names_of, referred_names}};
+ghost use Rattle.std.specs.Prelude.{◌≡◌, ◌+◌, ◌<◌, ◌≤◌, ◌^◌, length, map, IfOk};
+ghost use Rattle.mk_script.specs.Scopes.{names_of};
+ghost use Rattle.mk_check.specs.{Declarations.number_of_name, NamesInScope.referred_names};
 ghost use Rattle.mk_check.specs.{Feed.scope_of, Steps.{instruction_of, number_place}};
 
 use crate::feeding::instructions::{Element, Instruction};
 use mk_never::NoMemory;
-use mk_script::{Item, Name};
+use mk_script::{Item, Name, Sort, declared_name};
 use std::alloc::Global;
 use std::marker::Model;
-
-/// What a name is declared to be.
-#[derive(Clone, Copy)]
-pub enum Sort {
-    Type,
-    Global,
-    Pointer,
-    Number,
-}
-
-fn declared(sort: Sort, item: &Item) -> Option<&Name>
-    ensures { option_copied result ≡ declared_name sort item.now }
-{
-    match (sort, item) {
-        (Sort::Type, Item::TypeLine { name, .. })
-        | (Sort::Global, Item::Global { name, .. })
-        | (Sort::Pointer, Item::Ptr { name, .. })
-        | (Sort::Number, Item::Num { name }) => Some(name),
-        _ => None,
-    }
-}
 
 /// The names of a sort, in the order of their lines.
 fn names_among(alloc: Global, sort: Sort, items: &[Item]) -> Result<Vec<&Name>, NoMemory>
@@ -36,7 +16,7 @@ fn names_among(alloc: Global, sort: Sort, items: &[Item]) -> Result<Vec<&Name>, 
 {
     let mut names = Vec::new(alloc);
     for item in items {
-        if let Some(name) = declared(sort, item) {
+        if let Some(name) = declared_name(sort, item) {
             names.push(name)?;
         }
     }

@@ -2,8 +2,8 @@
 ghost use Rattle.std.specs.Prelude.{◌≡◌, ◌+◌, ◌-◌, ◌<◌, ◌≤◌, ◌++◌, [], ◌∷◌, true, false, length, slice_index};
 ghost use Rattle.std.specs.Prelude.{slice_set, take, IsTrue, IfOk, OnOk, OnErr, is_some, replicate, codes};
 ghost use Rattle.mk_check.specs.{Feed.{newline, answered_number}, Trees.{kept_in, with_kept, PlaceIsWithin}};
-ghost use Rattle.mk_check.specs.Trees.{place_in_rounds, innermost, place_in_branch, LeavesBlock, MovesOn, HasStopped};
-ghost use Rattle.mk_check.specs.Trees.{PlaceFits};
+ghost use Rattle.mk_check.specs.Trees.{place_in_rounds, innermost, place_in_block, place_in_branch, LeavesBlock};
+ghost use Rattle.mk_check.specs.Trees.{HasStopped, MovesOn, PlaceFits};
 ghost use Rattle.mk_check.specs.Steps as steps;
 ghost use Rattle.mk_check.specs.declared.feeding.tree.Frame.TheVariants as frame;
 
@@ -145,12 +145,6 @@ impl Running {
         self.at
     }
 
-    pub fn text(&self) -> &[u8]
-        ensures { result.now ≡ self.now.text }
-    {
-        self.text.as_slice()
-    }
-
     #[inline(always)]
     fn number(&self, number: usize) -> u64
         ensures { result ≡ slice_index self.now.numbers number }
@@ -268,6 +262,23 @@ impl Running {
         self.open(Frame::Branch { next });
     }
 
+    /// Begins the block of the node, if there is one.
+    fn begin_block(&mut self, node: Node)
+        requires { length self.old.frames < 32 }
+        ensures { self.new ≡ place_in_block self.old node }
+    {
+        match node {
+            Node::Rounds { rounds, body, next } => self.enter(rounds, body, next),
+            Node::Choice {
+                number,
+                first,
+                second,
+                next,
+            } => self.choose(number, first, second, next),
+            _ => {}
+        }
+    }
+
     /// The innermost open block goes on with these rounds left, after its node.
     #[inline(always)]
     fn go_round(&mut self, rounds: u64, body: usize, next: usize)
@@ -321,6 +332,7 @@ impl Running {
     }
 
     /// Moves on, unless it is at an operation or at the end.
+    #[tactic(auto, using(crate::proofs::TreeNodes::found_block, crate::proofs::Moves::block_finds_room))]
     fn step(&mut self, alloc: Global, tree: &Tree) -> Result<bool, NoMemory>
         requires within { PlaceIsWithin (length tree.now) self.old }
         requires fits { PlaceFits tree.now self.old }
@@ -341,17 +353,8 @@ impl Running {
                 self.run_line(alloc, instruction)?;
                 Ok(true)
             }
-            Node::Rounds { rounds, body, next } => {
-                self.enter(rounds, body, next);
-                Ok(true)
-            }
-            Node::Choice {
-                number,
-                first,
-                second,
-                next,
-            } => {
-                self.choose(number, first, second, next);
+            block => {
+                self.begin_block(block);
                 Ok(true)
             }
         }

@@ -1,8 +1,6 @@
-use Rattle.std.proofs.lemmas.Iterator.Consumers.{YieldsList-at, YieldsList-end}
-use Rattle.std.proofs.lemmas.List.{reverse-append, reverse-reverse}
-use Rattle.std.proofs.lemmas.Iterator.Adapters.{YieldsList-from_rev_slice}
-use Rattle.mk_check.proofs.Vocabulary.{ap, counts_of, map-append, parts_from, refl, reverse, sym, ◌+◌, ◌∙◌}
-use Rattle.mk_check.{proofs.CountLemmas.{counts-with_item, lines-innermost}, specs.Counts.{counts_with}}
+use Rattle.std.proofs.lemmas.List.{reverse-append}
+use Rattle.mk_check.proofs.Vocabulary.{ap, map-append, sym, ◌+◌, ◌∙◌}
+use Rattle.mk_check.{proofs.CountLemmas.counts-with_item, specs.Counts.counts_with}
 use Rattle.mk_check.proofs.lengths.script_length.Goals as goal
 
 pub loop-item-preserved : goal.loop-item-preserved

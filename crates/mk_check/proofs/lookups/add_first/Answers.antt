@@ -1,5 +1,5 @@
-use Rattle.mk_check.proofs.{Vocabulary.{None, sym, ◌≡◌}, LookupLemmas.{None-from_is_some, put_first}}
-use Rattle.mk_check.specs.Lookups.{value_for_name}
+use Rattle.mk_check.proofs.Vocabulary.{None, sym, ◌≡◌}
+use Rattle.mk_check.{proofs.LookupLemmas.None-from_is_some, proofs.LookupLemmas.put_first, specs.Lookups.value_for_name}
 use Rattle.mk_check.proofs.lookups.add_first.Goals as goal
 
 pub returns-in_ok-insert-clause-added : goal.returns-in_ok-insert-clause-added

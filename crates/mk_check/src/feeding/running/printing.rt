@@ -8,6 +8,13 @@ use mk_never::NoMemory;
 use std::alloc::Global;
 
 impl Running {
+    /// The text so far.
+    pub fn text(&self) -> &[u8]
+        ensures { result.now ≡ self.now.text }
+    {
+        self.text.as_slice()
+    }
+
     /// Appends a piece of text.
     pub fn print(&mut self, piece: &[u8]) -> Result<(), NoMemory>
         ensures ok { OnOk result (self.new ≡ record self.old { text = self.old.text ++ piece.now }) }

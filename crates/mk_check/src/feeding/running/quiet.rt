@@ -60,6 +60,7 @@ impl Running {
     }
 
     /// Runs a line that asks for no operation, or begins a block.
+    #[tactic(auto, using(crate::proofs::TreeNodes::found_block, crate::proofs::Moves::block_finds_room, crate::proofs::AsksFirst::first_in_block))]
     fn step_to_op(&mut self, tree: &Tree) -> bool
         requires within { PlaceIsWithin (length tree.now) self.old }
         requires fits { PlaceFits tree.now self.old }
@@ -81,20 +82,11 @@ impl Running {
                 self.calculate(instruction);
                 true
             }
-            Node::Rounds { rounds, body, next } => {
-                self.enter(rounds, body, next);
-                true
-            }
-            Node::Choice {
-                number,
-                first,
-                second,
-                next,
-            } => {
-                self.choose(number, first, second, next);
-                true
-            }
             Node::Done => unreachable!(),
+            block => {
+                self.begin_block(block);
+                true
+            }
         }
     }
 

@@ -11,9 +11,8 @@ unreachable-requires c =
 pub returns-in-Ok-check : goal.returns-in-Ok-check
 returns-in-Ok-check c =
     let text = c.as_bytes.ensures.value ∙ c.in_ok-text.ensures in
-    c.in-Ok-check.ensures.program
-    ∙ is_generated c.args.start c.args.count c.requires c.as_bytes.result.now text c.in-Ok.program
-    c.in-Ok.ensures.program
+    c.in-Ok-check.ensures.program ∙ is_generated c.args.start c.args.count c.requires c.as_bytes.result.now text
+    c.in-Ok.program c.in-Ok.ensures.program
 
 pub unreachable-requires-in-IllTyped : goal.unreachable-requires-in-IllTyped
 unreachable-requires-in-IllTyped c =

@@ -1,5 +1,5 @@
 use Rattle.mk_laws.proofs.Vocabulary.{drop, take, ◌≡◌}
-use Rattle.mk_replay.{proofs.Pieces.{glue}, specs.Schedules.{pieces_of}}
+use Rattle.mk_replay.{proofs.Pieces.glue, specs.Schedules.pieces_of}
 use Rattle.mk_replay.proofs.lines.end_of_piece.Given as goal
 
 -- no piece ends in the bytes so far

@@ -64,5 +64,5 @@ returns-clause-promises c =
     let known = c.program-well_typed.ensures in
     let checked : IsChecked c.args.program.now =
     record { well_typed = known.well_typed; of_some_text = known.of_some_text } in
-    schedule_keeps_all_promises c.args.program.now c.args.schedule.now checked (over c.entries-entry-items.result.now
+    schedule_keeps_all_promises c.args.schedule.now checked (over c.entries-entry-items.result.now
     c.entries-entry-items.ensures c.loop-entry-test.false c.loop-entry.invariant).enabled

@@ -1,7 +1,7 @@
 use Rattle.std.proofs.lemmas.Grind.{common_steps}
 use Rattle.mk_replay.proofs.Vocabulary.{is_schedule_line, position_from, texts_of}
-use Rattle.mk_replay.proofs.ScheduleLine.{found_first, found_none}
 use Rattle.mk_laws.proofs.Vocabulary.{None, Some, arith, ◌≡◌}
+use Rattle.mk_replay.proofs.ScheduleLine.{found_first, found_none}
 use Rattle.mk_replay.proofs.schedule_parsing.schedule_place.Goals as goal
 
 pub returns-then-branch : goal.returns-then-branch

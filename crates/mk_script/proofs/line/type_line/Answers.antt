@@ -1,7 +1,7 @@
 use Rattle.mk_script.proofs.Vocabulary.{Ok, ap, are_fields, arith, fields_of, length, length-map, nat_tests, sym}
-use Rattle.mk_script.proofs.{Vocabulary.{texts_of, true, ◌<◌, ◌>>=◌, ◌∙◌, ◌≡◌}, Converted.gives_fault}
-use Rattle.mk_script.proofs.Placed.{named_type, placed_type}
-use Rattle.mk_script.specs.{Stops.{Gives, checked_behind}, declared.items.Item.TheVariants.TypeLine}
+use Rattle.mk_script.proofs.Vocabulary.{texts_of, true, ◌<◌, ◌>>=◌, ◌∙◌, ◌≡◌}
+use Rattle.mk_script.proofs.{Converted.gives_fault, Placed.named_type, Placed.placed_type}
+use Rattle.mk_script.specs.{Stops.Gives, Stops.checked_behind, declared.items.Item.TheVariants.TypeLine}
 use Rattle.mk_script.proofs.line.type_line.Goals as goal
 
 pub returns-in_err-name : goal.returns-in_err-name

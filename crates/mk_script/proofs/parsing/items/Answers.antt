@@ -11,8 +11,7 @@ loop-index-preserved c =
     record {
       scope_of = read.scope_of;
       count = grind (arith, ap length read.items_are, length-append {A = Item});
-      rest = step c.deref-line-items.result.now c.loop-index.index c.loop-index.items.items c.read_line.new.items.items
-          c.read_line.new.scope _ c.loop-index-test.true read ∙ so_far.rest;
+      rest = step c.deref-line-items.result.now c.loop-index.index _ c.loop-index-test.true read ∙ so_far.rest;
     }
 
 pub returns-in-Err-clause-fault : goal.returns-in-Err-clause-fault

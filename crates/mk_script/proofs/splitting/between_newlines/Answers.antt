@@ -1,5 +1,5 @@
-use Rattle.std.proofs.{Common.tests, lemmas.Iterator.Consumers.map_from_collect}
-use Rattle.std.proofs.lemmas.Iterator.Splits.{YieldsList-from_slice_split}
+use Rattle.std.proofs.Common.{tests}
+use Rattle.std.proofs.{lemmas.Iterator.Consumers.map_from_collect, lemmas.Iterator.Splits.YieldsList-from_slice_split}
 use Rattle.mk_script.proofs.Vocabulary.{rules, ◌==◌}
 use Rattle.mk_script.proofs.splitting.between_newlines.Goals as goal
 

@@ -1,13 +1,12 @@
-use Rattle.std.proofs.{lemmas.Iterator.Consumers.{YieldsList-at, YieldsList-end}, Common.tests}
-use Rattle.std.proofs.lemmas.Iterator.Splits.{YieldsList-from_slice_split}
+use Rattle.std.proofs.lemmas.Iterator.Consumers.{YieldsList-at, YieldsList-end}
+use Rattle.std.proofs.{Common.tests, lemmas.Iterator.Splits.YieldsList-from_slice_split}
 use Rattle.mk_script.proofs.Vocabulary.{ap, filter, is_empty, not, rules, ◌==◌, ◌∙◌}
 use Rattle.mk_script.proofs.splitting.replace_words.Goals as goal
 
 pub returns : goal.returns
 returns c =
     let seen = YieldsList-end (YieldsList-at c.into_iter-word-iterator.ensures.into_iter_gives
-    (YieldsList-from_slice_split _
-    (λ byte. byte == 32) c.args.line.now c.split-word-items.ensures.rest c.split-word-items.ensures.done
-    c.split-word-items.ensures.closure (λ x b q k. search (rules, tests))))
+    (YieldsList-from_slice_split _ (λ byte. byte == 32) c.args.line.now c.split-word-items.ensures.rest
+    c.split-word-items.ensures.done c.split-word-items.ensures.closure (λ x b q k. search (rules, tests))))
     c.loop-word.yielded _ c.loop-word.yielded_by _ _ c.in-None.is c.next.ensures.steps in
     c.loop-word.invariant ∙ ap (filter (λ word. not (is_empty word))) seen.0

@@ -77,9 +77,8 @@ begins c steps =
       numbers = (fed_before_lines scope script).numbers;
       text = codes "script " ++ (name ++ newline);
     } in p) lines.ensures.name) in
-    start_stands program k (record { nodes = c.in_ok-tree.tree; place = c.run.new.self })
-    (start_stops c.in_ok-tree.tree scope script c.in_ok-tree.at c.in_ok-running.running c.run.new.self steps place
-    c.in_ok-run.ensures)
+    start_stands program k (record { nodes = c.in_ok-tree.tree; place = c.run.new.self }) (start_stops c.in_ok-tree.tree
+    scope script c.in_ok-tree.at c.in_ok-running.running c.run.new.self steps place c.in_ok-run.ensures)
 
 pub invariant_of-result : goal.invariant_of-result
 invariant_of-result c = record {

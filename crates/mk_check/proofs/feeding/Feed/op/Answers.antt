@@ -1,6 +1,6 @@
 use Rattle.mk_check.proofs.Vocabulary.{FeedState, IsAtStop, IsTree, Op, Option, ap, instruction_of_node, is_some}
-use Rattle.mk_check.proofs.{Vocabulary.{node_at, op_asked, op_in, subst, sym, ◌∙◌, ◌≡◌}, Spots.op_by_instruction}
-use Rattle.mk_check.proofs.{Stands.op_stands, feeding.Feed.op.Goals.After-asked}
+use Rattle.mk_check.proofs.Vocabulary.{node_at, op_asked, op_in, subst, sym, ◌∙◌, ◌≡◌}
+use Rattle.mk_check.proofs.{Spots.op_by_instruction, Stands.op_stands, feeding.Feed.op.Goals.After-asked}
 use Rattle.mk_check.proofs.feeding.Feed.op.Goals as goal
 
 asks : (c : After-asked) → c.asked.result ≡ op_in c.args.self.now
@@ -17,9 +17,9 @@ returns c =
     let tree = subst (λ (s : FeedState). IsTree s.nodes) c.self.view_is c.instruction-instruction.ensures.tree in
     let value = asks ((goal.at.returns c).After-asked) in
     record {
-      next = λ program k answers st. value ∙ (op_stands program k c.args.self.now answers tree stop st).op;
+      next = λ program k answers st. value ∙ (op_stands tree stop st).op;
       none = λ program k answers st.
-          let t = op_stands program k c.args.self.now answers tree stop st in
+          let t = op_stands tree stop st in
           let e = ap (λ (o : Option Op). is_some o) value in
           (λ h. t.ended (sym e ∙ h), λ h. e ∙ t.none h);
     }

@@ -1,4 +1,5 @@
-use Rattle.mk_check.{proofs.Vocabulary.{drop, ◌++◌, ◌≡◌}, specs.NamesInScope.{names_of, referred_names}}
+use Rattle.mk_check.{proofs.Vocabulary.{drop, ◌++◌, ◌≡◌}, specs.NamesInScope.{referred_names}}
+use Rattle.mk_script.specs.Scopes.{names_of}
 use Rattle.mk_check.proofs.feeding.names.names_among.Given as goal
 
 abbrev pub invariant-loop-item : goal.invariant-loop-item

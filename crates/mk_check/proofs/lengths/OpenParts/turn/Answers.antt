@@ -7,9 +7,8 @@ returns c =
     let parts = c.self.inside.outermost_first in
     let turned = λ (count : PartCount). let t : PartCount = record { lines = 0; second = count.lines } in t in
     elim c.match-last_mut.branch [
-      | in-Some w ↦ rw (w.self-inside-is, ← c.self.view_is)
-          (reverse-set turned parts.items parts.len w.in-Some.innermost.now parts.ok.0
-          (omega (arith, w.in-Some.ensures.item)) w.in-Some.ensures.value)
+      | in-Some w ↦ rw (w.self-inside-is, ← c.self.view_is) (reverse-set turned parts.items parts.len
+          w.in-Some.innermost.now parts.ok.0 (omega (arith, w.in-Some.ensures.item)) w.in-Some.ensures.value)
       | in_default w ↦ rw (w.self-inside-is, ← c.self.view_is)
           (reverse-none turned parts.items parts.len parts.ok.0 (omega (arith, w.in_default.ensures.item)))
     ]

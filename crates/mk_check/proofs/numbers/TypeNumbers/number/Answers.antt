@@ -1,5 +1,5 @@
-use Rattle.mk_check.proofs.{Vocabulary.{ap, type_names, unwrap_or, ◌∙◌}, NumberLemmas.number_of_name-among}
-use Rattle.mk_check.specs.Numbers.{number_among}
+use Rattle.mk_check.proofs.Vocabulary.{ap, type_names, unwrap_or, ◌∙◌}
+use Rattle.mk_check.{proofs.NumberLemmas.number_of_name-among, specs.Numbers.number_among}
 use Rattle.mk_check.proofs.numbers.TypeNumbers.number.Goals as goal
 
 pub returns : goal.returns

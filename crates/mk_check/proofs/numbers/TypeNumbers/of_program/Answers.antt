@@ -1,7 +1,7 @@
-use Rattle.mk_check.proofs.Vocabulary.{arith, take, type_names}
-use Rattle.mk_check.proofs.NumberLemmas.{AreNumbers-push, take-step, type_names-push_other}
+use Rattle.mk_check.proofs.Vocabulary.{arith, take}
 use Rattle.mk_check.proofs.numbers.TypeNumbers.of_program.Goals.{in-TypeLine+in_ok-add_first, in_default}
-use Rattle.mk_script.proofs.Pushed.{type_names-append}
+use Rattle.mk_check.proofs.{DeclaredPlaces.declares_nothing, NumberLemmas.AreNumbers-push, NumberLemmas.take-step}
+use Rattle.mk_script.{proofs.Pushed.names_of-append, specs.Scopes.declared_name, specs.declared.sorts.Sort.Sort}
 use Rattle.mk_check.proofs.numbers.TypeNumbers.of_program.Goals as goal
 
 pub loop-item-preserved : goal.loop-item-preserved
@@ -12,12 +12,15 @@ loop-item-preserved c =
     let known = c.loop-item.invariant in
     elim c.match-item.branch [
       | in-TypeLine+in_ok-add_first w ↦
-          rw (w.numbers-is, w.count-is, next, w.in-TypeLine.is, type_names-append front) (record {
-            numbers = AreNumbers-push c.loop-item.numbers w.add_first.new.names c.loop-item.count
-                (type_names front) w.in-TypeLine.name w.in_ok-add_first.ensures.added known.numbers;
+          rw (w.numbers-is, w.count-is, next, w.in-TypeLine.is, names_of-append Sort.Type front) (record {
+            numbers = AreNumbers-push w.add_first.new.names
+                w.in-TypeLine.name w.in_ok-add_first.ensures.added known.numbers;
             fits = omega (arith, known.fits);
           })
       | in_default w ↦
-          rw (w.numbers-is, w.count-is, next, type_names-push_other front c.item-item.result w.in_default.not-TypeLine)
-          (record { numbers = known.numbers; fits = omega (arith, known.fits) })
+          let none = declares_nothing (declared_name Sort.Type) front c.item-item.result (grind arith) in
+          rw (w.numbers-is, w.count-is, next, none) (record {
+            numbers = known.numbers;
+            fits = omega (arith, known.fits);
+          })
     ]

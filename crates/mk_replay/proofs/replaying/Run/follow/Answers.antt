@@ -8,8 +8,7 @@ returns-clause-players c =
     let old = c.in-Some.player.now in
     let new = c.follow.new.self in
     let within : c.in-Caller.caller < length players = search rules in
-    IfOk-weaker c.follow.result (λ _. TakesStep c.ends_call.result c.args.decided old new)
-    (λ _. TakeEvent c.args.event c.args.decided players (slice_set players c.in-Caller.caller new))
-    (λ _ takes. one_takes players c.in-Caller.caller old new c.args.event c.args.decided within c.in-Some.ensures.value
-    c.in-Caller.is
+    IfOk-weaker c.follow.result (λ _. TakesStep c.ends_call.result c.args.decided old new) (λ _. TakeEvent c.args.event
+    c.args.decided players (slice_set players c.in-Caller.caller new)) (λ _ takes. one_takes players c.in-Caller.caller
+    old new c.args.event c.args.decided within c.in-Some.ensures.value c.in-Caller.is
     (subst (λ (b : Bool). TakesStep b c.args.decided old new) c.ends_call.ensures takes)) c.follow.ensures

@@ -1,6 +1,6 @@
-use Rattle.mk_replay.proofs.{Vocabulary.{AreFirstTexts, IsPlayerOf, config_of, rules, served_to}, RunLaws.texts_push}
+use Rattle.mk_replay.proofs.Vocabulary.{AreFirstTexts, IsPlayerOf, config_of, rules, served_to}
 use Rattle.mk_laws.proofs.Vocabulary.{ℕ, get_or, length, subst, sym, ◌<◌, ◌≡◌}
-use Rattle.mk_replay.specs.Replays.{IsReplayedText}
+use Rattle.mk_replay.{proofs.RunLaws.texts_push, specs.Replays.IsReplayedText}
 use Rattle.mk_replay.proofs.replaying.Run.texts.Goals as goal
 
 pub loop-player-preserved : goal.loop-player-preserved

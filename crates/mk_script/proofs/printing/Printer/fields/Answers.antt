@@ -1,5 +1,5 @@
-use Rattle.mk_script.proofs.{Vocabulary.arith, Spacing.{drop_next, pointer_behind}}
-use Rattle.mk_script.proofs.printing.Printer.fields.Goals.{in-Number}
+use Rattle.mk_script.proofs.Vocabulary.{arith}
+use Rattle.mk_script.proofs.{Spacing.drop_next, Spacing.pointer_behind, printing.Printer.fields.Goals.in-Number}
 use Rattle.mk_script.proofs.printing.Printer.fields.Goals as goal
 
 pub loop-word-preserved : goal.loop-word-preserved

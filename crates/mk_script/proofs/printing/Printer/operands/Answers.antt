@@ -1,5 +1,5 @@
-use Rattle.mk_script.proofs.{Vocabulary.{ap, append_assoc, map, spaced_words, ◌++◌, ◌∙◌}, Spacing.drop_next}
-use Rattle.mk_script.specs.Spaced.{operand_text}
+use Rattle.mk_script.proofs.Vocabulary.{ap, append_assoc, map, spaced_words, ◌++◌, ◌∙◌}
+use Rattle.mk_script.{proofs.Spacing.drop_next, specs.Spaced.operand_text}
 use Rattle.mk_script.proofs.printing.Printer.operands.Goals as goal
 
 pub loop-operand-preserved : goal.loop-operand-preserved

@@ -9,7 +9,6 @@ returns-then-contains c = λ before scope.
     (number_names (this_script before)) c.args.self.now.numbers scope.pointers scope.numbers)
 
 pub returns-else-contains : goal.returns-else-contains
-returns-else-contains c = λ before scope.
-    either_false c.contains.result c.contains.ensures c.if-contains.false c.contains-else-contains.ensures
-    (among_both c.args.name.now (pointer_names (this_script before)) c.args.self.now.pointers
-    (number_names (this_script before)) c.args.self.now.numbers scope.pointers scope.numbers)
+returns-else-contains c = λ before scope. either_false c.contains.result c.contains.ensures c.if-contains.false
+    c.contains-else-contains.ensures (among_both c.args.name.now (pointer_names (this_script before))
+    c.args.self.now.pointers (number_names (this_script before)) c.args.self.now.numbers scope.pointers scope.numbers)

@@ -10,7 +10,6 @@ returns c =
     let was : b.parts ≡ parts ++ part ∷ [] = sym (ap (λ (x : Built). x.parts) c.self.view_is)
     ∙ c.in-Some.ensures.items in
     let new = λ (ns : List Node). with_part (record { nodes = ns; parts = parts }) 0 part.steps in
-    IfOk-weaker c.put.result (λ _. c.put.new.self ≡ new c.self.inside.tree) (λ _. (line : ℕ)
-    → AddsLine line Element.Else b c.put.new.self) (λ _ e line. subst (λ (x : Built). AddsLine line Element.Else b x)
-    (sym (e ∙ ap (λ (x : Built). new x.nodes) c.self.view_is)) (else_added b parts part line c.requires was))
-    c.put.ensures
+    IfOk-weaker c.put.result (λ _. c.put.new.self ≡ new c.self.inside.tree) (λ _. (line : ℕ) → AddsLine line
+    Element.Else b c.put.new.self) (λ _ e line. subst (λ (x : Built). AddsLine line Element.Else b x) (sym
+    (e ∙ ap (λ (x : Built). new x.nodes) c.self.view_is)) (else_added parts part line c.requires was)) c.put.ensures

@@ -12,7 +12,7 @@ was c =
 
 pub grow-requires : goal.grow-requires
 grow-requires c =
-    let two = two_popped c.args.self.now c.in-Some-pop.part c.in-Some.body c.pop-2.new.self.items c.self.inside.tree
+    let two = two_popped c.in-Some-pop.part c.in-Some.body c.pop-2.new.self.items c.self.inside.tree
     c.requires (was ((goal.at.grow-requires c).In-Some-pop)) (ap (λ (x : Built). x.nodes) c.self.view_is) in
     (two.0, two.2)
 
@@ -24,9 +24,7 @@ returns c =
     let parts = c.pop-2.new.self.items in
     let n = Node.Rounds c.args.rounds inner.steps part.steps in
     let new = λ (ns : List Node). with_node_and_part (record { nodes = ns; parts = parts }) n part.second in
-    IfOk-weaker c.grow.result (λ _. c.grow.new.self ≡ new c.self.inside.tree) (λ _. (line : ℕ)
-    → AddsLine line (Element.Repeat c.args.rounds) b c.grow.new.self)
-    (λ _ e line. subst (λ (x : Built). AddsLine line (Element.Repeat c.args.rounds) b x)
-    (sym (e ∙ ap (λ (x : Built). new x.nodes) c.self.view_is))
-    (repeat_added b parts part inner line c.args.rounds c.requires (was ((goal.at.returns c).In-Some-pop))))
-    c.grow.ensures
+    IfOk-weaker c.grow.result (λ _. c.grow.new.self ≡ new c.self.inside.tree) (λ _. (line : ℕ) → AddsLine line
+    (Element.Repeat c.args.rounds) b c.grow.new.self) (λ _ e line. subst (λ (x : Built). AddsLine line
+    (Element.Repeat c.args.rounds) b x) (sym (e ∙ ap (λ (x : Built). new x.nodes) c.self.view_is)) (repeat_added parts
+    part inner line c.args.rounds c.requires (was ((goal.at.returns c).In-Some-pop)))) c.grow.ensures

@@ -11,7 +11,7 @@ returns-clause-within c =
       | in-Some w ↦
           let was : b.parts ≡ c.pop.new.self.items ++ w.in-Some.part ∷ [] =
           sym (ap (λ (x : Built). x.parts) c.self.view_is) ∙ w.in-Some.ensures.items in
-          let p = popped b w.in-Some.part c.pop.new.self.items c.requires was in
+          let p = popped w.in-Some.part c.pop.new.self.items c.requires was in
           below c.match-pop.first (subst (λ (j : ℕ). j < length b.nodes) (sym w.first-is) p.1)
       | in-None w ↦ below c.match-pop.first (subst (λ (j : ℕ). j < length b.nodes) (sym w.first-is) c.requires.some)
     ]

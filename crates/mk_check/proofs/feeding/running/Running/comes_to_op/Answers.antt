@@ -4,4 +4,4 @@ use Rattle.mk_check.proofs.feeding.running.Running.comes_to_op.Goals as goal
 pub asks_first-requires : goal.asks_first-requires
 asks_first-requires c =
     subst (λ (at : ℕ). at < length c.args.tree.now) (sym c.resumed_node.ensures)
-    (resumed_within c.args.tree.now (record c.args.self.now { at = c.args.at }) c.requires)
+    (resumed_within c.args.tree.now c.requires)

@@ -1,5 +1,5 @@
-use Rattle.mk_check.proofs.Vocabulary.{Frame, Some, ap, arith, asks_at, innermost, length, node_at, refl, sym, ℕ, ◌-◌}
-use Rattle.mk_check.proofs.{Vocabulary.{Place, ◌∙◌, ◌≡◌}, AsksFirst.{repeat_left, round_left}}
+use Rattle.mk_check.proofs.Vocabulary.{Frame, Place, Some, ap, arith, asks_at, innermost, length, node_at, refl, sym}
+use Rattle.mk_check.proofs.{Vocabulary.{◌-◌, ◌∙◌, ◌≡◌}, AsksFirst.{repeat_left, round_left}}
 use Rattle.mk_check.proofs.{NextRounds.innermost_within, feeding.running.Running.leave_to_op.Goals.In-Some-Rounds}
 use Rattle.mk_check.proofs.feeding.running.Running.leave_to_op.Goals as goal
 
@@ -9,9 +9,8 @@ last c = cc
 
 pub close_to_op-requires : goal.close_to_op-requires
 close_to_op-requires c =
-    (innermost_within (length c.args.tree.now) c.args.self.now.frames
-    (Frame.Rounds c.in-Some-Rounds.rounds c.in-Some-Rounds.body c.in-Some-Rounds.next) c.requires
-    (last ((goal.at.close_to_op-requires c).In-Some-Rounds))).1
+    (innermost_within (length c.args.tree.now) c.args.self.now.frames (Frame.Rounds c.in-Some-Rounds.rounds
+    c.in-Some-Rounds.body c.in-Some-Rounds.next) c.requires (last ((goal.at.close_to_op-requires c).In-Some-Rounds))).1
 
 pub returns-then-rounds-eq0-clause-left : goal.returns-then-rounds-eq0-clause-left
 returns-then-rounds-eq0-clause-left c =
@@ -26,9 +25,8 @@ returns-then-rounds-eq0-clause-left c =
 
 pub asks-requires : goal.asks-requires
 asks-requires c =
-    (innermost_within (length c.args.tree.now) c.args.self.now.frames
-    (Frame.Rounds c.in-Some-Rounds.rounds c.in-Some-Rounds.body c.in-Some-Rounds.next) c.requires
-    (last ((goal.at.asks-requires c).In-Some-Rounds))).0
+    (innermost_within (length c.args.tree.now) c.args.self.now.frames (Frame.Rounds c.in-Some-Rounds.rounds
+    c.in-Some-Rounds.body c.in-Some-Rounds.next) c.requires (last ((goal.at.asks-requires c).In-Some-Rounds))).0
 
 pub returns-clause-left : goal.returns-clause-left
 returns-clause-left c =

@@ -1,7 +1,6 @@
 use Rattle.mk_check.proofs.Vocabulary.{HasStopped, MovesOn, Place, after_line, ap, false, is_some, kept_in, op_asked}
-use Rattle.mk_check.proofs.{Vocabulary.{subst, sym, true, with_kept, ◌∙◌, ◌≡◌}, Moves.{asks_at, choice_finds_room}}
-use Rattle.mk_check.proofs.Moves.{choice_goes_on, end_goes_on, ends_at, line_goes_on, rounds_find_room, rounds_go_on}
-use Rattle.mk_check.proofs.TreeNodes.{found_at}
+use Rattle.mk_check.proofs.{Vocabulary.{subst, sym, true, with_kept, ◌∙◌, ◌≡◌}, Moves.{asks_at, begun_block}}
+use Rattle.mk_check.proofs.{Moves.{end_goes_on, ends_at, line_goes_on}, TreeNodes.{found_at, found_block}}
 use Rattle.mk_check.proofs.feeding.running.Running.step.Goals as goal
 
 pub returns-then-is_some-clause-stops : goal.returns-then-is_some-clause-stops
@@ -33,24 +32,6 @@ returns-in_ok-run_line-in-Line-clause-goes_on c =
     λ t. subst (λ (q : Place). MovesOn c.args.tree.now p q) (sym new)
     (line_goes_on c.args.tree.now (found_at c.self.view_is e.tree c.requires.within e.value) none)
 
-pub enter-requires : goal.enter-requires
-enter-requires c =
-    let e = c.in-Rounds.ensures in
-    rounds_find_room c.args.tree.now (found_at c.self.view_is e.tree c.requires.within e.value) c.requires.fits
-
-pub returns-in-Rounds-clause-goes_on : goal.returns-in-Rounds-clause-goes_on
-returns-in-Rounds-clause-goes_on c =
-    let e = c.in-Rounds.ensures in
-    λ t. subst (λ (q : Place). MovesOn c.args.tree.now c.args.self.now q) (sym c.enter.ensures)
-    (rounds_go_on c.args.tree.now (found_at c.self.view_is e.tree c.requires.within e.value))
-
-pub choose-requires : goal.choose-requires
-choose-requires c =
-    let e = c.in-Choice.ensures in
-    choice_finds_room c.args.tree.now (found_at c.self.view_is e.tree c.requires.within e.value) c.requires.fits
-
-pub returns-in-Choice-clause-goes_on : goal.returns-in-Choice-clause-goes_on
-returns-in-Choice-clause-goes_on c =
-    let e = c.in-Choice.ensures in
-    λ t. subst (λ (q : Place). MovesOn c.args.tree.now c.args.self.now q) (sym c.choose.ensures)
-    (choice_goes_on c.args.tree.now (found_at c.self.view_is e.tree c.requires.within e.value))
+pub returns-in_default-clause-goes_on : goal.returns-in_default-clause-goes_on
+returns-in_default-clause-goes_on c = λ t. begun_block c.args.tree.now (found_block c.self.view_is c.node.ensures.tree
+    c.requires.within c.node.ensures.value c.in_default.not-Done c.in_default.not-Line) c.begin_block.ensures

@@ -1,9 +1,8 @@
 use Rattle.mk_check.proofs.Vocabulary.{MovesOn, Node, Place, after_line, ap, asks_first, false, is_asking, is_print}
 use Rattle.mk_check.proofs.Vocabulary.{kept_in, steps_at, subst, sym, trees, true, with_kept, ◌∙◌, ◌≡◌}
-use Rattle.mk_check.proofs.AsksFirst.{first_done, first_in_branch, first_in_rounds, first_later, line_to_op}
-use Rattle.mk_check.proofs.{AsksFirst.{no_print_here, stops_at_op}, Moves.{choice_finds_room, choice_goes_on}}
-use Rattle.mk_check.proofs.{Moves.{rounds_find_room, rounds_go_on}, TreeNodes.{IsAt, found_at}}
-use Rattle.mk_check.proofs.feeding.running.Running.step_to_op.Goals.{After-calculate, In-Choice, In-Line, In-Rounds}
+use Rattle.mk_check.proofs.AsksFirst.{first_done, first_later, line_to_op, no_print_here, stops_at_op}
+use Rattle.mk_check.proofs.TreeNodes.{IsAt, found_at, found_block}
+use Rattle.mk_check.proofs.{feeding.running.Running.step_to_op.Goals.{After-calculate, In-Line}, Moves.begun_block}
 use Rattle.mk_check.proofs.feeding.running.Running.step_to_op.Goals as goal
 
 pub unreachable-requires : goal.unreachable-requires
@@ -59,41 +58,6 @@ returns-else-asks-clause-first c =
     λ t. ap (λ (q : Place). asks_first (steps_at (trees nodes) q.at)) on.new
     ∙ (sym (first_later nodes at on.asks prints) ∙ c.requires.first)
 
--- A block begins.
-
-at_rounds : (c : In-Rounds) → IsAt c.args.tree.now c.args.self.now
-    (Node.Rounds c.in-Rounds.rounds c.in-Rounds.body c.in-Rounds.next)
-at_rounds c = found_at c.self.view_is c.in-Rounds.ensures.tree c.requires.within c.in-Rounds.ensures.value
-
-pub enter-requires : goal.enter-requires
-enter-requires c = rounds_find_room c.args.tree.now (at_rounds ((goal.at.enter-requires c).In-Rounds)) c.requires.fits
-
-pub returns-in-Rounds-clause-goes_on : goal.returns-in-Rounds-clause-goes_on
-returns-in-Rounds-clause-goes_on c =
-    λ t. subst (λ (q : Place). MovesOn c.args.tree.now c.args.self.now q) (sym c.enter.ensures)
-    (rounds_go_on c.args.tree.now (at_rounds ((goal.at.returns-in-Rounds-clause-goes_on c).In-Rounds)))
-
-pub returns-in-Rounds-clause-first : goal.returns-in-Rounds-clause-first
-returns-in-Rounds-clause-first c =
-    λ t. ap (λ (q : Place). asks_first (steps_at (trees c.args.tree.now) q.at)) c.enter.ensures
-    ∙ first_in_rounds c.args.tree.now (at_rounds ((goal.at.returns-in-Rounds-clause-first c).In-Rounds))
-    c.requires.first
-
-at_choice : (c : In-Choice) → IsAt c.args.tree.now c.args.self.now
-    (Node.Choice c.in-Choice.number c.in-Choice.first c.in-Choice.second c.in-Choice.next)
-at_choice c = found_at c.self.view_is c.in-Choice.ensures.tree c.requires.within c.in-Choice.ensures.value
-
-pub choose-requires : goal.choose-requires
-choose-requires c =
-    choice_finds_room c.args.tree.now (at_choice ((goal.at.choose-requires c).In-Choice)) c.requires.fits
-
-pub returns-in-Choice-clause-goes_on : goal.returns-in-Choice-clause-goes_on
-returns-in-Choice-clause-goes_on c =
-    λ t. subst (λ (q : Place). MovesOn c.args.tree.now c.args.self.now q) (sym c.choose.ensures)
-    (choice_goes_on c.args.tree.now (at_choice ((goal.at.returns-in-Choice-clause-goes_on c).In-Choice)))
-
-pub returns-in-Choice-clause-first : goal.returns-in-Choice-clause-first
-returns-in-Choice-clause-first c =
-    λ t. ap (λ (q : Place). asks_first (steps_at (trees c.args.tree.now) q.at)) c.choose.ensures
-    ∙ first_in_branch c.args.tree.now (at_choice ((goal.at.returns-in-Choice-clause-first c).In-Choice))
-    c.requires.first
+pub returns-in_default-clause-goes_on : goal.returns-in_default-clause-goes_on
+returns-in_default-clause-goes_on c = λ t. begun_block c.args.tree.now (found_block c.self.view_is c.node.ensures.tree
+    c.requires.within c.node.ensures.value c.in_default.not-Done c.in_default.not-Line) c.begin_block.ensures

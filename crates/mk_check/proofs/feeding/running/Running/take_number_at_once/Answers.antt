@@ -5,7 +5,7 @@ use Rattle.mk_check.proofs.feeding.running.Running.take_number_at_once.Goals as 
 pub returns-in-Asks-clause-taken : goal.returns-in-Asks-clause-taken
 returns-in-Asks-clause-taken c =
     let at = c.args.sequels.now.next in
-    λ t. number_at_line c.args.tree.now c.args.self.now c.requires.tree c.requires.within c.args.sequels.now
+    λ t. number_at_line c.args.tree.now c.requires.tree c.requires.within c.args.sequels.now
     c.requires.sequels c.args.value _ c.in-Asks.is
     (ap (λ (q : Place). let x : Place = record q { at = at } in x) (c.self.view_is ∙ c.set.ensures))
 
@@ -15,5 +15,5 @@ returns-then-left-clause-taken c =
     let l = c.leave_to_op-left.ensures.left c.if-left.true in
     let q = c.leave_to_op-left.new.self in
     let same = ap (λ (k : KeptState). with_kept q (with_value k number c.args.value)) (kept_left l.leaves) in
-    λ t. number_at_end c.args.tree.now c.args.self.now c.requires.tree c.requires.within c.args.sequels.now
-    c.requires.sequels c.args.value q c.set-then-left.new.self c.in-Ends.is l (c.set-then-left.ensures ∙ same)
+    λ t. number_at_end c.args.tree.now c.requires.tree c.requires.within c.args.sequels.now
+    c.requires.sequels c.args.value c.set-then-left.new.self c.in-Ends.is l (c.set-then-left.ensures ∙ same)

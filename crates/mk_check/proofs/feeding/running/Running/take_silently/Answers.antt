@@ -1,5 +1,5 @@
-use Rattle.mk_check.proofs.{Vocabulary.{Node, ap, node_at, sym, ◌∙◌, ◌≡◌}, Moves.{below_length, line_fits}}
-use Rattle.mk_check.proofs.{TreeNodes.is_at, feeding.running.Running.take_silently.Goals.In-Line}
+use Rattle.mk_check.proofs.Vocabulary.{Node, ap, node_at, sym, ◌∙◌, ◌≡◌}
+use Rattle.mk_check.proofs.{Moves.line_fits, TreeNodes.is_at, feeding.running.Running.take_silently.Goals.In-Line}
 use Rattle.mk_check.proofs.feeding.running.Running.take_silently.Goals as goal
 
 here : (c : In-Line) → node_at c.args.tree.now c.args.self.now.at

@@ -1,11 +1,11 @@
-use Rattle.mk_check.proofs.{Vocabulary.{IsBelow, List, Node, asks_first, length, subst, sym}, Spots.IsMarkedTree_push}
-use Rattle.mk_check.specs.{Spots.IsMarkedTree, declared.feeding.tree.Spot.Spot}
+use Rattle.mk_check.proofs.Vocabulary.{IsBelow, List, Node, length, subst, sym}
+use Rattle.mk_check.{proofs.Spots.IsMarkedTree_push, specs.Spots.IsMarkedTree, specs.declared.feeding.tree.Spot.Spot}
 use Rattle.mk_check.proofs.feeding.tree.Tree.push.Goals as goal
 
 pub invariant_of-self-2 : goal.invariant_of-self-2
 invariant_of-self-2 c =
     let spots = c.self.inside.spots.items in
-    subst (λ (xs : List Spot). IsMarkedTree xs) (sym c.in_ok-push.ensures.items) (IsMarkedTree_push spots (record {
+    subst (λ (xs : List Spot). IsMarkedTree xs) (sym c.in_ok-push.ensures.items) (IsMarkedTree_push (record {
       instruction = c.instruction.result;
       node = c.args.node;
       sequels = c.sequels_from.result;
