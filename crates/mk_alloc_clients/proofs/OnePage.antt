@@ -82,9 +82,8 @@ fit_on_page p page h one number is =
     let resident : c.resident ≡ 1 = omega arith in
     let lengths = (histories_keep_lengths c p.seen).pages in
     ap (λ (o : Object). place_on_pages c.resident (now_of p).words.pages o) number
-    ∙ ap (λ n. place_on_pages n (now_of p).words.pages one_number) resident
-    ∙ ap (λ (ps : List Page). place_on_pages 1 ps one_number) (only_page (now_of p).words.pages (lengths ∙ one))
-    ∙ ap (λ (x : Page). place_on x) (sym is)
+    ∙ ap (λ n. place_on_pages n (now_of p).words.pages one_number) resident ∙ ap (λ (ps : List Page). place_on_pages 1
+    ps one_number) (only_page (now_of p).words.pages (lengths ∙ one)) ∙ ap (λ (x : Page). place_on x) (sym is)
 
 -- A turn that puts a number on the only page: what its looks say, and that its call is that of a New.
 
@@ -114,32 +113,41 @@ taken_at_once p q o f = grind (arith, append-nil)
 
 -- The place of a number, from what a look round says, and what comes of it.
 
-module _ {p : PassState} (q : PassState) (page : Page) (found : Option Place) (turn : IsTurn p)
-    (h : IsHistory p.table.config p.seen) (u : IsUnplaced p) (one : p.table.config.pages ≡ 1) (number : object_for p
-    ≡ one_number) (looks : OnlyLooks p q) (sees : page ≡ page_of (now_of q).words 0) (is : found ≡ place_on page) where
+pub record HasSeen (p q : PassState) (page : Page) : Type 0 where
+  pub turn : IsTurn p
+  pub history : IsHistory p.table.config p.seen
+  pub unplaced : IsUnplaced p
+  pub one : p.table.config.pages ≡ 1
+  pub number : object_for p ≡ one_number
+  pub looks : OnlyLooks p q
+  pub sees : page ≡ page_of (now_of q).words 0
+
+module _ {p q : PassState} {page : Page} (s : HasSeen p q page) {found : Option Place}
+    (is : found ≡ place_on page) where
   fit : place_on_pages p.table.config.resident (now_of p).words.pages (object_for p) ≡ found
-  fit = fit_on_page p page h one number (sees ∙ sym (page_kept p q looks)) ∙ sym is
-
-  pub goes : (place : Place) → found ≡ Some place → GoesTo q place
-  goes place there = goes_behind place looks u (fit ∙ there)
-
-  pub sees_page : (place : Place) → found ≡ Some place → page ≡ page_of (now_of q).words place.page
-  sees_page place there =
-      let within = fit_within place turn h u (fit ∙ there) in
-      let lengths = (histories_keep_lengths p.table.config p.seen).pages in
-      let first : 0 ≡ place.page = omega arith in
-      sees ∙ ap (λ i. page_of (now_of q).words i) first
+  fit = fit_on_page p page s.history s.one s.number (s.sees ∙ sym (page_kept p q s.looks)) ∙ sym is
 
   pub nowhere : found ≡ None → FitsNowhere p q
-  nowhere none = record { nowhere = place_found turn h u (fit ∙ none); looks = looks }
+  nowhere none = record { nowhere = place_found s.turn s.history s.unplaced (fit ∙ none); looks = s.looks }
 
-  pub placed : (r : PassState) (place : Place) → found ≡ Some place → IsGranted q place r → HeldIsExact r → IsPlaced p r
-  placed r place there granted held = record {
-    place = place;
-    fits = place_found turn h u (fit ∙ there);
-    granted = granted_behind_looks looks granted;
-    held = held;
-  }
+  module _ {place : Place} (there : found ≡ Some place) where
+    pub goes : GoesTo q place
+    goes = goes_behind place s.looks s.unplaced (fit ∙ there)
+
+    pub sees_page : page ≡ page_of (now_of q).words place.page
+    sees_page =
+        let within = fit_within place s.turn s.history s.unplaced (fit ∙ there) in
+        let lengths = (histories_keep_lengths p.table.config p.seen).pages in
+        let first : 0 ≡ place.page = omega (arith, s.one) in
+        s.sees ∙ ap (λ i. page_of (now_of q).words i) first
+
+    pub placed : {r : PassState} → IsGranted q place r → HeldIsExact r → IsPlaced p r
+    placed granted held = record {
+      place = place;
+      fits = place_found s.turn s.history s.unplaced (fit ∙ there);
+      granted = granted_behind_looks s.looks granted;
+      held = held;
+    }
 
 -- The New of a number, from its turn's parts.
 

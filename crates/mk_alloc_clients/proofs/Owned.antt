@@ -1,21 +1,21 @@
 -- A number that a caller owns: what other callers leave of it, and what its own calls do.
-use Rattle.mk_alloc_clients.specs.Owned.{IsKnownToAlone, IsRegisterOf, OwnsNumberIn, number_behind}
-use Rattle.mk_never.proofs.{Edits.{exists, if_by, left_at_by}, Fresh.new_adds, Later.op_stays}
-use Rattle.mk_never.proofs.Registers.{destination, op_keeps}
-use Rattle.mk_never.specs.{Admitted.{IsCaller, OperandsAreInRange}, Laws.AreNotBy, NeverHeap.{after_op, left_at}}
-use Rattle.mk_never.specs.{NeverHeap.{moved_on, reply_at, reply_of}, Reach.LeadsTo, Types.zero_of}
-use Rattle.mk_never.specs.declared.operations.Op.TheVariants.{CasPtr, Clear, Free, GetGlobal, GetNum, GetPtr, IsNull}
-use Rattle.mk_never.specs.declared.operations.Op.TheVariants.{Lea, Move, New, Same, SetGlobal, SetNum, SetPtr}
-use Rattle.mk_never.specs.{declared.operations.Reply.Reply, declared.values.Target.Target}
 use Rattle.std.proofs.Common.{ltb-false, set}
 use Rattle.mk_laws.proofs.Vocabulary.{AreAdmitted, Call, Continues, IsAdmitted, IsNumber, IsSound, IsTyped, Kind, List}
 use Rattle.mk_laws.proofs.Vocabulary.{Meets, NeverAllocation as Allocation, NeverState, Null, Num, Number, Op, Ptr}
-use Rattle.mk_laws.proofs.Vocabulary.{Suits, To, Value, WordOf, [], after_calls, after_free, allocation_at, ap, arith}
+use Rattle.mk_laws.proofs.Vocabulary.{Suits, To, Value, WordOf, ℕ, after_calls, after_free, allocation_at, ap, arith}
 use Rattle.mk_laws.proofs.Vocabulary.{cases_Bool, false, get_or, get_or-set_other, get_or-set_same, get_or_append_left}
 use Rattle.mk_laws.proofs.Vocabulary.{get_or_past, inl, inr, is_same, kinds_of, length, length-set, ltb-true, map}
 use Rattle.mk_laws.proofs.Vocabulary.{nat_lt, no_allocation, number_of as number_in, refl, register_at, set_by, subst}
 use Rattle.mk_laws.proofs.Vocabulary.{suc, sym, target_of, with_freed, with_global, with_new, with_register, with_word}
-use Rattle.mk_laws.proofs.Vocabulary.{word_at, words_of, zero, ℕ, ◌*◌, ◌++◌, ◌+◌, ◌<◌, ◌∙◌, ◌∷◌, ◌≡◌, ◌≢◌}
+use Rattle.mk_laws.proofs.Vocabulary.{word_at, words_of, zero, [], ◌*◌, ◌++◌, ◌+◌, ◌<◌, ◌∙◌, ◌∷◌, ◌≡◌, ◌≢◌}
+use Rattle.mk_never.proofs.Edits.{exists, if_by, left_at_by}
+use Rattle.mk_never.proofs.{Fresh.new_adds, Later.op_stays, Registers.destination, Registers.op_keeps}
+use Rattle.mk_never.specs.NeverHeap.{after_op, left_at, moved_on, reply_at, reply_of}
+use Rattle.mk_never.specs.declared.operations.Op.TheVariants.{CasPtr, Clear, Free, GetGlobal, GetNum, GetPtr, IsNull}
+use Rattle.mk_never.specs.declared.operations.Op.TheVariants.{Lea, Move, New, Same, SetGlobal, SetNum, SetPtr}
+use Rattle.mk_never.specs.{Admitted.IsCaller, Admitted.OperandsAreInRange, Laws.AreNotBy, Reach.LeadsTo, Types.zero_of}
+use Rattle.mk_never.specs.{declared.operations.Reply.Reply, declared.values.Target.Target}
+use Rattle.mk_alloc_clients.specs.Owned.{IsKnownToAlone, IsRegisterOf, OwnsNumberIn, number_behind}
 
 -- What other callers' operations leave of an object that one caller alone knows of: all of it.
 
@@ -88,10 +88,9 @@ module _ {n : NeverState} {k number : ℕ} (own : IsKnownToAlone n k number) (th
   word_alone a w v none = record {
     registers = own.registers;
     globals = own.globals;
-    words = λ from place.
-        set_by (λ (x : Allocation). LeadsTo (get_or x.words place Null) number → ⊥) n.allocations a from _ no_allocation
-        (λ e. set_by (λ x. LeadsTo x number → ⊥) (words_of n a) w place v Null (λ e'. none) (own.words a place))
-        (own.words from place);
+    words = λ from place. set_by (λ (x : Allocation). LeadsTo (get_or x.words place Null) number → ⊥) n.allocations a
+        from _ no_allocation (λ e. set_by (λ x. LeadsTo x number → ⊥) (words_of n a) w place v Null (λ e'. none)
+        (own.words a place)) (own.words from place);
   }
 
   word_stays : (a w : ℕ) (v : Value) → a ≢ number → LeadsElsewhere v → Stays (with_word n a w v)
@@ -105,9 +104,8 @@ module _ {n : NeverState} {k number : ℕ} (own : IsKnownToAlone n k number) (th
     alone = record {
       registers = own.registers;
       globals = own.globals;
-      words = λ from place.
-          set_by (λ (x : Allocation). LeadsTo (get_or x.words place Null) number → ⊥) n.allocations a from _
-          no_allocation (λ e. own.words a place) (own.words from place);
+      words = λ from place. set_by (λ (x : Allocation). LeadsTo (get_or x.words place Null) number → ⊥) n.allocations a
+          from _ no_allocation (λ e. own.words a place) (own.words from place);
     };
     same = get_or-set_other n.allocations a number _ no_allocation (λ e. other (sym e));
   }

@@ -2,18 +2,16 @@
 use Rattle.std.proofs.Common.{Err, IfOk, Ok, OnOk, Result}
 use Rattle.mk_laws.proofs.Vocabulary.{Answer, AreAdmitted, Config, Decided, Event, IsHistory, Kind, List, NeverState}
 use Rattle.mk_laws.proofs.Vocabulary.{Number, Op, Some, Step, ℕ, admitted_in_parts, answer_of, ap, append-nil}
-use Rattle.mk_laws.proofs.Vocabulary.{append_assoc, arith, asked, bases_of, calls_from, entry_of, false, flagged}
-use Rattle.mk_laws.proofs.Vocabulary.{kinds_of, left, never_behind, never_in_parts, refl, subst, sym, [], ◌++◌, ◌∙◌}
-use Rattle.mk_laws.proofs.Vocabulary.{◌∷◌, ◌≡◌}
-use Rattle.mk_alloc.proofs.Vocabulary.{PassState, caller_of_pass, calls_by, comes_last, event_of, others_add_none}
-use Rattle.mk_alloc.proofs.{Vocabulary.{own_calls, stands, after_calls}, OneCalls.{OneCall, before_call, one_call}}
+use Rattle.mk_laws.proofs.Vocabulary.{append_assoc, arith, asked, bases_of, calls_from, entry_of, false, kinds_of, left}
+use Rattle.mk_laws.proofs.Vocabulary.{never_behind, never_in_parts, refl, subst, sym, [], ◌++◌, ◌∙◌, ◌∷◌, ◌≡◌}
+use Rattle.mk_alloc.proofs.Vocabulary.{PassState, after_calls, caller_of_pass, calls_by, comes_last, event_of}
+use Rattle.mk_alloc.proofs.{Vocabulary.{others_add_none, own_calls, stands}, OneCalls.{OneCall, before_call, one_call}}
 use Rattle.mk_alloc.proofs.{OneCalls.through_call, Decisions.{none_by, own_more}}
 use Rattle.mk_never.specs.{NeverHeap.after_op, declared.operations.Reply.Reply}
 use Rattle.mk_alloc_clients.proofs.Owned.{HasStored, KeepsNumber, access_admitted, keeps_by_others, load_replies}
 use Rattle.mk_alloc_clients.{proofs.Owned.{new_owns, store_leaves, store_replies}, specs.Making.{store_then_load}}
 use Rattle.mk_alloc_clients.specs.{Owned.{HasNumber, OwnsNumber, OwnsNumberIn, number_owned}, Laws.OwnedNumbersStay}
-use Rattle.mk_caller.specs.{Called.{Called, IsDecidedIn}, declared.refusals.Refusal.TheVariants.{Fault, Null}}
-use Rattle.mk_caller.specs.{Causes.{FindsGateHeld, IsRefused}, States.{Admits, never_of}}
+use Rattle.mk_caller.specs.{Called.{Called, IsDecidedIn}, Causes.FindsGateHeld, States.{Admits, never_of}}
 use Rattle.mk_words.specs.declared.call_steps.Held.{Held}
 
 -- Events among whose calls the caller has none keep its number.
@@ -50,9 +48,8 @@ module _ {p : PassState} {o : Op} {a : Answer} {more : List Event} {decided : Is
     kept_before owns = kept p.seen decided.before one.before one.none_before owns
 
     -- and after it.
-    kept_later : OwnsNumberIn (never_behind c (through_call decided)) k d
-        → KeepsNumber (never_behind c (through_call decided)) k d
-        (never_behind c (through_call decided ++ decided.behind))
+    kept_later : OwnsNumberIn (never_behind c (through_call decided)) k d → KeepsNumber
+        (never_behind c (through_call decided)) k d (never_behind c (through_call decided ++ decided.behind))
     kept_later owns =
         kept (through_call decided) decided.behind (subst (λ (l : List Event). IsHistory c l) one.cut history)
         one.none_behind owns
@@ -104,25 +101,7 @@ module _ {p q : PassState} {a : Answer} (d : ℕ) (owns : OwnsNumber p d) (h : I
             (number_left one (seen_history c) (number_owned p d) (record { owns = there.owns; stored = there.same }));
       }
 
--- So neither is refused,
-
-pub store_has_no_fault : {p q : PassState} (d n : ℕ) → OwnsNumber p d → IsHistory q.table.config q.seen
-    → IsRefused p (Op.SetNum d 0 n) Fault q → ⊥
-store_has_no_fault d n owns h r = let done = (stored d owns h r.0).done in cc
-
-pub store_has_no_null : {p q : PassState} (d n : ℕ) → OwnsNumber p d → IsHistory q.table.config q.seen
-    → IsRefused p (Op.SetNum d 0 n) Null q → ⊥
-store_has_no_null d n owns h r = let done = (stored d owns h r.0).done in cc
-
-pub load_has_no_fault : {p q : PassState} (d : ℕ) → OwnsNumber p d → IsHistory q.table.config q.seen
-    → IsRefused p (Op.GetNum d 0) Fault q → ⊥
-load_has_no_fault d owns h r = let tells = (loaded d owns h r.0).tells in cc
-
-pub load_has_no_null : {p q : PassState} (d : ℕ) → OwnsNumber p d → IsHistory q.table.config q.seen
-    → IsRefused p (Op.GetNum d 0) Null q → ⊥
-load_has_no_null d owns h r = let tells = (loaded d owns h r.0).tells in cc
-
--- but where the gate is held: then there is no call.
+-- So neither is refused, but where the gate is held: then there is no call.
 pub held_keeps : {p q : PassState} {o : Op} (d : ℕ) → OwnsNumber p d → IsHistory q.table.config q.seen
     → FindsGateHeld p o q → HasNumber q d (number_owned p d)
 held_keeps {p} {q} {o} d owns h f =
@@ -136,11 +115,10 @@ held_keeps {p} {q} {o} d owns h f =
     subst (λ (r : PassState). HasNumber r d (number_owned p d)) (sym is) (record { owns = keeps.owns; is = keeps.same })
 
 -- A New of one number that was granted gives its caller that number, which is 0.
-pub granted : (p : PassState) (d ty : ℕ) (more : List Event) → IsHistory p.table.config (p.seen ++ more)
-    → own_calls p (p.seen ++ more) ≡ own_calls p p.seen
-    ++ entry_of (caller_of_pass p) (Op.New d ty false) (Some Answer.Done)
-    → IsDecidedIn p (Op.New d ty false) Answer.Done more
-    → kinds_of p.table.config.types ty ≡ Number ∷ [] → HasNumber (record p { seen = p.seen ++ more }) d 0
+pub granted : (p : PassState) (d ty : ℕ) (more : List Event) → IsHistory p.table.config (p.seen ++ more) → own_calls p
+    (p.seen ++ more) ≡ own_calls p p.seen ++ entry_of (caller_of_pass p) (Op.New d ty false) (Some Answer.Done)
+    → IsDecidedIn p (Op.New d ty false) Answer.Done more → kinds_of p.table.config.types ty ≡ Number ∷ []
+    → HasNumber (record p { seen = p.seen ++ more }) d 0
 granted p d ty more history entry decided kinds =
     let o : Op = Op.New d ty false in
     let c : Config = p.table.config in
@@ -179,9 +157,8 @@ pub loads_stored : {b : PassState} {d n : ℕ} (r : Result ℕ Held) → HasNumb
 loads_stored (Ok x) has is = is ∙ has.is
 loads_stored (Err e) has is = tt
 
-pub both_done : {p b : PassState} (q : PassState) {d n : ℕ} (r : Result ℕ Held)
-    → Called p (Op.SetNum d 0 n) Answer.Done b
-    → IfOk r (λ x. x ≡ n) → IfOk r (λ x. Called b (Op.GetNum d 0) (Answer.Num x) q)
+pub both_done : {p b : PassState} (q : PassState) {d n : ℕ} (r : Result ℕ Held) → Called p
+    (Op.SetNum d 0 n) Answer.Done b → IfOk r (λ x. x ≡ n) → IfOk r (λ x. Called b (Op.GetNum d 0) (Answer.Num x) q)
     → OnOk r (own_calls q q.seen ≡ own_calls p p.seen ++ store_then_load (caller_of_pass p) d n)
 both_done q (Err e) set is get = tt
 both_done q (Ok x) set is get = grind (arith, entry_now, append_assoc)

@@ -93,20 +93,6 @@ fn mark_first(words: &Words, turn: &mut Turn, place: Place, marking: bool)
     }
 }
 
-/// Makes the free page a block of numbers.
-fn carve(words: &Words, turn: &mut Turn, place: Place, marking: bool)
-    requires one_table { turn.old.pass.table ≡ words.now }
-    requires number { object_for turn.old.pass ≡ one_number }
-    requires goes { GoesTo turn.old.pass place }
-    requires free { header_at (now_of turn.old.pass).words place.page ≡ 0 }
-    requires marking { marking ≡ (phase_of (now_of turn.old.pass).words == 1) }
-    ensures { MayTake turn.old.pass place turn.new.pass }
-{
-    turn.is_in_order();
-    mark_first(words, turn, place, marking);
-    turn.head(words, place.page, block_word());
-}
-
 /// Makes the page a block, where it is free.
 fn make_ready(words: &Words, turn: &mut Turn, place: Place, seen: Seen)
     requires one_table { turn.old.pass.table ≡ words.now }
@@ -118,7 +104,8 @@ fn make_ready(words: &Words, turn: &mut Turn, place: Place, seen: Seen)
 {
     turn.is_in_order();
     if seen.page.header == 0 {
-        carve(words, turn, place, seen.marking);
+        mark_first(words, turn, place, seen.marking);
+        turn.head(words, place.page, block_word());
     }
 }
 

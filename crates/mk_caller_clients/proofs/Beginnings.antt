@@ -1,8 +1,8 @@
 -- A caller's pass of a heap that nobody has used.
 use Rattle.std.proofs.lemmas.List.{length-replicate}
-use Rattle.mk_laws.proofs.Vocabulary.{Caller, Config, Event, List, Null, Op, Value, World, ap, arith, at_rest}
-use Rattle.mk_laws.proofs.Vocabulary.{first_world, flight_of, is_same, left, length, never_behind, refl, slice_index_or}
-use Rattle.mk_laws.proofs.{Vocabulary.{subst, sym, true, [], ◌*◌, ◌∙◌, ◌∷◌, ◌≡◌, ◌≤◌}, OrderlyLists.at_first}
+use Rattle.mk_laws.proofs.Vocabulary.{Caller, Config, Null, Op, World, ap, arith, at_rest, first_world, flight_of}
+use Rattle.mk_laws.proofs.Vocabulary.{is_same, left, length, never_behind, refl, subst, sym, true, [], ◌*◌, ◌∙◌, ◌∷◌}
+use Rattle.mk_laws.proofs.{Vocabulary.{◌≡◌, ◌≤◌}, OrderlyLists.at_first}
 use Rattle.mk_core.specs.History.{calls_from, left_from, never_first}
 use Rattle.mk_caller.specs.States.{Admits, IsIdleCaller, value_of}
 use Rattle.mk_words.specs.States.{PassState, WordsState}

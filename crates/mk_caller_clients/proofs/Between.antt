@@ -1,10 +1,10 @@
 -- Two calls, of one caller or of two, one after the other, and the calls between the events that decide them.
-use Rattle.std.proofs.{Common.{filter, length-append}, lemmas.List.Elements.filter-append}
+use Rattle.std.proofs.{Common.filter, Common.length-append, lemmas.List.Elements.filter-append}
 use Rattle.mk_laws.proofs.Vocabulary.{Answer, Bool, Config, Decided, Event, List, Op, after_calls, ap, append-nil}
 use Rattle.mk_laws.proofs.Vocabulary.{append_assoc, arith, asked, call_decided, calls, cond, first_world, flagged, left}
 use Rattle.mk_laws.proofs.Vocabulary.{length, never_behind, never_in_parts, refl, sym, true, [], ◌++◌, ◌∙◌, ◌∷◌, ◌≡◌}
 use Rattle.mk_never.specs.NeverHeap.{after_op}
-use Rattle.mk_core.{proofs.{Histories.calls_more, HistoryParts.calls_in_parts}, specs.History.{calls_from}}
+use Rattle.mk_core.{proofs.Histories.calls_more, proofs.HistoryParts.calls_in_parts, specs.History.calls_from}
 use Rattle.mk_caller.specs.{Called.Called, States.caller_of_pass}
 use Rattle.mk_caller_clients.specs.Setters.{HasSeenAllOf}
 use Rattle.mk_words.specs.States.{PassState}
@@ -63,22 +63,18 @@ module _ {p0 p1 r1 p2 : PassState} {o1 o2 : Op} {a1 a2 : Answer} (first : Called
   pub place : r1.seen ++ second.decided.before ≡ decided ++ others
   place =
       ap (λ (l : List Event). l ++ second.decided.before) later.is
-      ∙ append_assoc p1.seen later.more second.decided.before
-      ∙ ap (λ (x : PassState). x.seen ++ came) first.is
-      ∙ ap (λ (l : List Event). (p0.seen ++ l) ++ came) first.decided.is
-      ∙ ap (λ (l : List Event). l ++ came)
-      (sym (append_assoc p0.seen first.decided.before (first.decided.event ∷ first.decided.behind))
-      ∙ sym (append_assoc before (first.decided.event ∷ []) first.decided.behind))
-      ∙ append_assoc decided first.decided.behind came
+      ∙ append_assoc p1.seen later.more second.decided.before ∙ ap (λ (x : PassState). x.seen ++ came) first.is
+      ∙ ap (λ (l : List Event). (p0.seen ++ l) ++ came) first.decided.is ∙ ap (λ (l : List Event). l ++ came)
+      (sym (append_assoc p0.seen first.decided.before (first.decided.event ∷ first.decided.behind)) ∙ sym (append_assoc
+      before (first.decided.event ∷ []) first.decided.behind)) ∙ append_assoc decided first.decided.behind came
 
   calls_there : calls c decided ≡ calls c before ++ entry ∷ []
   calls_there = cc (calls_more c (first_world c) before first.decided.event, first.decided.decides)
 
   pub never_there : never_behind c decided ≡ after_op (never_behind c before) (caller_of_pass p0) (flagged o1 a1)
   never_there =
-      never_in_parts c before (first.decided.event ∷ [])
-      ∙ ap (λ (l : List Decided). after_calls (never_behind c before) (asked l))
-      (one_call c before first.decided.event ∙ first.decided.decides)
+      never_in_parts c before (first.decided.event ∷ []) ∙ ap (λ (l : List Decided). after_calls (never_behind c before)
+      (asked l)) (one_call c before first.decided.event ∙ first.decided.decides)
 
   -- the calls in between
   abbrev pub between : List Decided
@@ -95,10 +91,8 @@ module _ {p0 p1 r1 p2 : PassState} {o1 o2 : Op} {a1 a2 : Answer} (first : Called
     whole : es ≡ (decided ++ others) ++ tail
     unfolding tail
     whole =
-        on
-        ∙ ap (λ (x : PassState). x.seen ++ more) second.is
-        ∙ ap (λ (l : List Event). (r1.seen ++ l) ++ more) second.decided.is
-        ∙ ap (λ (l : List Event). l ++ more)
+        on ∙ ap (λ (x : PassState). x.seen ++ more) second.is
+        ∙ ap (λ (l : List Event). (r1.seen ++ l) ++ more) second.decided.is ∙ ap (λ (l : List Event). l ++ more)
         (sym (append_assoc r1.seen second.decided.before (second.decided.event ∷ second.decided.behind)))
         ∙ append_assoc (r1.seen ++ second.decided.before) (second.decided.event ∷ second.decided.behind) more
         ∙ ap (λ (l : List Event). l ++ ((second.decided.event ∷ second.decided.behind) ++ more)) place

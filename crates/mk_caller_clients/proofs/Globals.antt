@@ -4,8 +4,8 @@ use Rattle.mk_laws.proofs.Vocabulary.{Bool, Decided, List, NeverState, Null, Num
 use Rattle.mk_laws.proofs.Vocabulary.{after_calls, after_free, asked, cond, eq-eqb, false, get_or-set_other}
 use Rattle.mk_laws.proofs.Vocabulary.{get_or-set_same, global_at, if◌then◌else◌, is_same, length, refl, register_at}
 use Rattle.mk_laws.proofs.Vocabulary.{sym, target_of, true, with_register, with_word, word_at, [], ◌<◌, ◌∙◌, ◌∷◌, ◌≡◌}
-use Rattle.mk_never.specs.{NeverHeap.{after_op, left_at}, declared.values.Target.Target}
-use Rattle.mk_never.specs.declared.values.Target.TheVariants.{Nothing}
+use Rattle.mk_never.specs.NeverHeap.{after_op, left_at}
+use Rattle.mk_never.specs.{declared.values.Target.Target, declared.values.Target.TheVariants.Nothing}
 use Rattle.mk_caller_clients.specs.Setters.{is_set_of}
 
 -- those of the calls that set the global
@@ -18,8 +18,7 @@ free_keeps n g (Num m) = refl
 free_keeps n g (Ptr a t o) = refl
 
 left_keeps : (n m : NeverState) (g : ℕ) (t : Target) (f : ℕ → ℕ → NeverState) → global_at m g ≡ global_at n g
-    → ((a w : ℕ) → global_at (f a w) g ≡ global_at n g)
-    → global_at (left_at t m f) g ≡ global_at n g
+    → ((a w : ℕ) → global_at (f a w) g ≡ global_at n g) → global_at (left_at t m f) g ≡ global_at n g
 left_keeps n m g Nothing f x y = x
 left_keeps n m g Unmapped f x y = x
 left_keeps n m g (WordOf a w) f x y = y a w

@@ -46,8 +46,7 @@ record Word (n : NeverState) (v : Value) (i : ℕ) : Type 0 where
   pub is : target_of n v i ≡ WordOf number at
 
 done_gets : (bases : List ℕ) (n : NeverState) (v : Value) (i : ℕ) (t : Target) → target_of n v i ≡ t
-    → Answer.Done ≡ answer_of bases (reply_at t (λ a w. Reply.Done))
-    → Word n v i
+    → Answer.Done ≡ answer_of bases (reply_at t (λ a w. Reply.Done)) → Word n v i
 done_gets bases n v i (WordOf a w) is e = record { number = a; at = w; is = is }
 done_gets bases n v i Nothing is e = cc
 done_gets bases n v i Unmapped is e = cc
@@ -61,9 +60,8 @@ number_gets bases n v i r f Unmapped is e = cc
 pointer_word : (n : NeverState) (a t o i : ℕ) → Word n (Ptr a t o) i → target_of n (Ptr a t o) i ≡ WordOf a (o + i)
 pointer_word n a t o i x = by (is_unmapped (allocation_at n a)) refl x.is
   where
-    by : (b : Bool) → is_unmapped (allocation_at n a) ≡ b
-        → (if b then Unmapped else WordOf a (o + i)) ≡ WordOf x.number x.at
-        → (if b then Unmapped else WordOf a (o + i)) ≡ WordOf a (o + i)
+    by : (b : Bool) → is_unmapped (allocation_at n a) ≡ b → (if b then Unmapped else WordOf a (o + i))
+        ≡ WordOf x.number x.at → (if b then Unmapped else WordOf a (o + i)) ≡ WordOf a (o + i)
     by false is e = refl
     by true is e = cc
 
@@ -80,14 +78,12 @@ admitted_there : {p q : PassState} {o : Op} {a : Answer} → (c : Called p o a q
     (asked (Rattle.mk_core.specs.Decided.entry_of (caller_of_pass p) o (Rattle.std.specs.Prelude.Some a)))
 admitted_there {p} {q} {o} {a} c h =
     let es : List Event = p.seen ++ c.decided.before in
-    let whole : q.seen ≡ (es ++ c.decided.event ∷ []) ++ c.decided.behind =
-    ap (λ (x : PassState). x.seen) c.is ∙ ap (λ (l : List Event). p.seen ++ l) c.decided.is
-    ∙ sym (append_assoc p.seen c.decided.before (c.decided.event ∷ c.decided.behind))
-    ∙ sym (append_assoc es (c.decided.event ∷ []) c.decided.behind) in
+    let whole : q.seen ≡ (es ++ c.decided.event ∷ []) ++ c.decided.behind = ap (λ (x : PassState). x.seen) c.is
+    ∙ ap (λ (l : List Event). p.seen ++ l) c.decided.is ∙ sym (append_assoc p.seen c.decided.before
+    (c.decided.event ∷ c.decided.behind)) ∙ sym (append_assoc es (c.decided.event ∷ []) c.decided.behind) in
     let all : IsHistory p.table.config q.seen = rw (ap (λ (x : PassState). x.table.config) c.is) at h in
-    let last = comes_last p.table.config es c.decided.event
-    (earlier_part_is_history p.table.config (es ++ c.decided.event ∷ []) c.decided.behind
-    (subst (λ (l : List Event). IsHistory p.table.config l) whole all)) in
+    let last = comes_last p.table.config es c.decided.event (earlier_part_is_history p.table.config
+    (es ++ c.decided.event ∷ []) c.decided.behind (subst (λ (l : List Event). IsHistory p.table.config l) whole all)) in
     rw c.decided.decides at last.admitted
 
 module _ {p0 p1 p2 : PassState} (x i n loaded : ℕ) (lt : x < 8) (h : IsHistory p1.table.config p1.seen)
@@ -107,8 +103,7 @@ module _ {p0 p1 p2 : PassState} (x i n loaded : ℕ) (lt : x < 8) (h : IsHistory
   there : never_behind p1.table.config (p1.seen ++ get.decided.before) ≡ n2
   there =
       ap (λ (k : Config). never_behind k (p1.seen ++ get.decided.before)) (same_config set (at_once p1) get)
-      ∙ ap (λ (l : List Event). never_behind c l) (place set (at_once p1) get)
-      ∙ never_later set (at_once p1) get
+      ∙ ap (λ (l : List Event). never_behind c l) (place set (at_once p1) get) ∙ never_later set (at_once p1) get
       ∙ ap (λ (m : NeverState). after_calls m (asked (between set (at_once p1) get))) (never_there set (at_once p1) get)
 
   -- the register, at both places
@@ -141,15 +136,12 @@ module _ {p0 p1 p2 : PassState} (x i n loaded : ℕ) (lt : x < 8) (h : IsHistory
       let none = none_between set (at_once p1) get is_store p2.seen [] (sym (append-nil p2.seen)) refl only in
       let ad = (admitted_there set h).0 in
       let inside = store_is_inside n1 k (Op.SetNum x i n) stored_to.number stored_to.at ad.access stored_to.is in
-      let gives = load_gives_stored n1 k (Op.SetNum x i n) (asked (between set (at_once p1) get)) stored_to.number
-      stored_to.at
-      inside stored_to.is
-      (none_store (after_op n1 k (Op.SetNum x i n)) (between set (at_once p1) get) stored_to.number stored_to.at none)
-      in
+      let gives = load_gives_stored n1 k (Op.SetNum x i n)
+      (asked (between set (at_once p1) get)) stored_to.number stored_to.at inside stored_to.is (none_store
+      (after_op n1 k (Op.SetNum x i n)) (between set (at_once p1) get) stored_to.number stored_to.at none) in
       let is : reply_of n2 k (Op.GetNum x i) ≡ Reply.Num n = gives.a_number k x i reaches in
       numbers (answered ∙ ap (λ (r : Reply). answer_of
-      (bases_of (left p1.table.config (p1.seen ++ get.decided.before ++ get.decided.event ∷ [])).allocations) r)
-      is)
+      (bases_of (left p1.table.config (p1.seen ++ get.decided.before ++ get.decided.event ∷ [])).allocations) r) is)
     where
       numbers : Answer.Num loaded ≡ Answer.Num n → loaded ≡ n
       numbers e = cc

@@ -19,10 +19,8 @@ same_is p x y e = same_from_equal (value_of p x) (value_of p y) e
 pub moved : {p q : PassState} (d x : ℕ) → Admits p (Op.Move d x) → Called p (Op.Move d x) Answer.Done q
     → value_of q d ≡ value_of p x
 moved {p} d x ad c =
-    value_left c d ad.in_range.0
-    ∙ set_same (never_behind p.table.config (p.seen ++ c.decided.before)) (caller_of_pass p) d _
-    (caller_there c ad.of_a_caller) ad.in_range.0
-    ∙ c.decided.known x ad.in_range.1
+    value_left c d ad.in_range.0 ∙ set_same (never_behind p.table.config (p.seen ++ c.decided.before))
+    (caller_of_pass p) d _ (caller_there c ad.of_a_caller) ad.in_range.0 ∙ c.decided.known x ad.in_range.1
 
 source : {p q : PassState} (d x : ℕ) → Admits p (Op.Move d x) → Called p (Op.Move d x) Answer.Done q
     → value_of q x ≡ value_of p x
@@ -49,45 +47,43 @@ may_get {p} {q} d g r ad lt c =
     record { of_a_caller = still_caller c ad.of_a_caller; in_range = (lt, there); access = tt; store = tt }
 
 module _ {p0 p1 r1 p2 p3 : PassState} (d g r : ℕ) (word : ℕ) (a : Answer) (o : Op) (ad : Admits p0 (Op.SetGlobal g r))
-    (may : Admits r1 (Op.GetGlobal d g)) (set : Called p0 (Op.SetGlobal g r) Answer.Done p1)
-    (later : HasSeenAllOf p1 r1) (get : Called r1 (Op.GetGlobal d g) (Answer.Word word) p2) (last : Called p2 o a p3)
-  where
-    abbrev c : Config
-    c = p0.table.config
+    (may : Admits r1 (Op.GetGlobal d g)) (set : Called p0 (Op.SetGlobal g r) Answer.Done p1) (later : HasSeenAllOf p1
+    r1) (get : Called r1 (Op.GetGlobal d g) (Answer.Word word) p2) (last : Called p2 o a p3) where
+  abbrev c : Config
+  c = p0.table.config
 
-    abbrev n1 : NeverState
-    n1 = never_behind c (before set later get)
+  abbrev n1 : NeverState
+  n1 = never_behind c (before set later get)
 
-    global_there : IsOnlySetter p0 g r p3 → global_at (never_behind c (decided set later get ++ others set later get)) g
-        ≡ value_of p0 r
-    global_there only =
-        ap (λ (n : NeverState). global_at n g) (never_later set later get)
-        ∙ calls_keep (never_behind c (decided set later get)) g (between set later get)
-        (none_between set later get (is_set_of g) p3.seen last.more (ap (λ (x : PassState). x.seen) last.is)
-        (eq-eqb g g refl) only)
-        ∙ ap (λ (n : NeverState). global_at n g) (never_there set later get)
-        ∙ set_gives n1 (caller_of_pass p0) g r
-        (subst (λ count. g < count) (sym (never_continues c p0.seen set.decided.before).globals) ad.in_range.0)
-        ∙ set.decided.known r ad.in_range.1
+  global_there : IsOnlySetter p0 g r p3 → global_at (never_behind c (decided set later get ++ others set later get)) g
+      ≡ value_of p0 r
+  global_there only =
+      ap (λ (n : NeverState). global_at n g) (never_later set later get)
+      ∙ calls_keep (never_behind c (decided set later get)) g (between set later get)
+      (none_between set later get (is_set_of g) p3.seen last.more (ap (λ (x : PassState). x.seen) last.is)
+      (eq-eqb g g refl) only)
+      ∙ ap (λ (n : NeverState). global_at n g) (never_there set later get)
+      ∙ set_gives n1 (caller_of_pass p0) g r
+      (subst (λ count. g < count) (sym (never_continues c p0.seen set.decided.before).globals) ad.in_range.0)
+      ∙ set.decided.known r ad.in_range.1
 
-    -- The register that is loaded holds what the other one held.
-    pub got : IsOnlySetter p0 g r p3 → value_of p2 d ≡ value_of p0 r
-    got only =
-        value_left get d may.in_range.0
-        ∙ set_same (never_behind r1.table.config (r1.seen ++ get.decided.before)) (caller_of_pass r1) d _
-        (caller_there get may.of_a_caller) may.in_range.0
-        ∙ ap (λ (k : Config). global_at (never_behind k (r1.seen ++ get.decided.before)) g) (same_config set later get)
-        ∙ ap (λ (l : List Event). global_at (never_behind c l) g) (place set later get)
-        ∙ global_there only
+  -- The register that is loaded holds what the other one held.
+  pub got : IsOnlySetter p0 g r p3 → value_of p2 d ≡ value_of p0 r
+  got only =
+      value_left get d may.in_range.0
+      ∙ set_same (never_behind r1.table.config (r1.seen ++ get.decided.before)) (caller_of_pass r1) d _
+      (caller_there get may.of_a_caller) may.in_range.0
+      ∙ ap (λ (k : Config). global_at (never_behind k (r1.seen ++ get.decided.before)) g) (same_config set later get)
+      ∙ ap (λ (l : List Event). global_at (never_behind c l) g) (place set later get)
+      ∙ global_there only
 
-    -- Another register stays as it is while the global is loaded.
-    pub kept : (x : ℕ) → x < 8 → d ≢ x → value_of p2 x ≡ value_of r1 x
-    kept x lt ne = calls_leave_other_registers r1 (Op.GetGlobal d g) (Answer.Word word) p2 x get lt (λ e. ne (cc e))
+  -- Another register stays as it is while the global is loaded.
+  pub kept : (x : ℕ) → x < 8 → d ≢ x → value_of p2 x ≡ value_of r1 x
+  kept x lt ne = calls_leave_other_registers r1 (Op.GetGlobal d g) (Answer.Word word) p2 x get lt (λ e. ne (cc e))
 
-through_global : {p0 p1 p2 p3 : PassState} (d g r : ℕ) (word : ℕ) (a : Answer) (o : Op)
-    → Admits p0 (Op.SetGlobal g r) → d < 8 → d ≢ r → Called p0 (Op.SetGlobal g r) Answer.Done p1
-    → Called p1 (Op.GetGlobal d g) (Answer.Word word) p2 → Called p2 o a p3 → IsOnlySetter p0 g r p3
-    → is_same (value_of p2 r) (value_of p2 d) ≡ true
+through_global : {p0 p1 p2 p3 : PassState} (d g r : ℕ) (word : ℕ) (a : Answer) (o : Op) → Admits p0 (Op.SetGlobal g r)
+    → d < 8 → d ≢ r → Called p0 (Op.SetGlobal g r) Answer.Done p1 → Called p1 (Op.GetGlobal d g) (Answer.Word word) p2
+    → Called p2 o a p3 → IsOnlySetter p0 g r p3 → is_same (value_of p2 r) (value_of p2 d) ≡ true
 through_global {p0} {p1} {p2} d g r word a o ad lt ne set get last only =
     let may = may_get d g r ad lt set in
     same_is p2 r d (kept d g r word a o ad may set (at_once p1) get last r ad.in_range.1 ne
@@ -97,8 +93,7 @@ through_global {p0} {p1} {p2} d g r word a o ad lt ne set get last only =
 -- The answers of the clients.
 
 pub told_of_other : (b p2 p3 : PassState) (y : Result Bool Held) (d g x : ℕ) → Admits b (Op.GetGlobal d g) → x < 8
-    → d ≢ x → IsAnswered b (Op.GetGlobal d g) p2
-    → IfOk y (λ s. Called p2 (Op.Same d x) (Answer.Num (one_if s)) p3)
+    → d ≢ x → IsAnswered b (Op.GetGlobal d g) p2 → IfOk y (λ s. Called p2 (Op.Same d x) (Answer.Num (one_if s)) p3)
     → IfOk y (λ s. s ≡ is_same (value_of p2 d) (value_of p2 x)) → IfOk y (λ s. TakesOut b g x s p3)
 told_of_other b p2 p3 (Ok s) d g x may lt ne get last is = λ p0 p1 r ad set later only e. is
     ∙ same_is p2 d x (got d g r get.word (Answer.Num (one_if s)) (Op.Same d x) ad may set later get.called last only
@@ -109,11 +104,10 @@ pub told : (x : Result Bool Held) (b : Bool) → IfOk x (λ s. s ≡ b) → b �
 told (Ok s) b is h = is ∙ h
 told (Err e) b is h = tt
 
-pub told_of_global : (p0 p1 p2 p3 : PassState) (x : Result Bool Held) (d g r : ℕ) → Admits p0 (Op.SetGlobal g r)
-    → d < 8 → d ≢ r
-    → Called p0 (Op.SetGlobal g r) Answer.Done p1 → IsAnswered p1 (Op.GetGlobal d g) p2
-    → IfOk x (λ s. Called p2 (Op.Same r d) (Answer.Num (one_if s)) p3)
-    → IfOk x (λ s. s ≡ is_same (value_of p2 r) (value_of p2 d)) → IfOk x (λ s. IsOnlySetter p0 g r p3 → s ≡ true)
+pub told_of_global : (p0 p1 p2 p3 : PassState) (x : Result Bool Held) (d g r : ℕ) → Admits p0 (Op.SetGlobal g r) → d < 8
+    → d ≢ r → Called p0 (Op.SetGlobal g r) Answer.Done p1 → IsAnswered p1 (Op.GetGlobal d g) p2 → IfOk x
+    (λ s. Called p2 (Op.Same r d) (Answer.Num (one_if s)) p3) → IfOk x
+    (λ s. s ≡ is_same (value_of p2 r) (value_of p2 d)) → IfOk x (λ s. IsOnlySetter p0 g r p3 → s ≡ true)
 told_of_global p0 p1 p2 p3 (Ok s) d g r ad lt ne set get last is = λ only. is
     ∙ through_global d g r get.word (Answer.Num (one_if s)) (Op.Same r d) ad lt ne set get.called last only
 told_of_global p0 p1 p2 p3 (Err e) d g r ad lt ne set get last is = tt

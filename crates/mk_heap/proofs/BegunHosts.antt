@@ -17,11 +17,9 @@ module _ (begins : Config → Seat → List Event → List Event → Type 0) whe
   ending_begun {p} {q} own ends =
       let look = step_begins_none begins p ends.looked (Step.Look Word.Phase) own ends.looks refl in
       ⊎_elim (λ (none : IsAtPhase p 0). subst (λ (x : PassState). EachIsBegun begins p x) (sym (ends.none none)) look)
-      (λ (on : IsAtPhase p 1).
-      begun_then begins p ends.looked q (only_seen_by p ends.looked (Step.Look Word.Phase) ends.looks) look
-      (finish_begins_none begins ends.looked q
-      (has_on p ends.looked (only_seen_by p ends.looked (Step.Look Word.Phase) ends.looks) own) (ends.on on)))
-      ends.phase
+      (λ (on : IsAtPhase p 1). begun_then begins p ends.looked q (only_seen_by p ends.looked
+      (Step.Look Word.Phase) ends.looks) look (finish_begins_none begins ends.looked q (has_on p ends.looked
+      (only_seen_by p ends.looked (Step.Look Word.Phase) ends.looks) own) (ends.on on))) ends.phase
 
   idle_same : {p idle : PassState} → TakesIdleTurn p idle → idle ≡ record p { seen = idle.seen }
   idle_same {p} {idle} takes = let m = idle_moves p idle takes in only_seen p idle m.more m.is

@@ -8,8 +8,8 @@ use Rattle.mk_core.specs.History.{never_first}
 use Rattle.mk_caller.specs.States.{Admits, CallerState, at_home}
 use Rattle.mk_heap.specs.Hosts.{AllAreJoined, HostState, first_host, pass_for, with_caller_made, with_joined, with_seen}
 use Rattle.mk_heap.specs.{Clients.IsPassOf, Ending.SaysOver}
-use Rattle.mk_words.proofs.Seats.{has_right}
-use Rattle.mk_words.specs.{Seats.{Has, has_over, is_over}, States.{PassState, WordsState, event_of}, Steps.Makes}
+use Rattle.mk_words.{proofs.Seats.has_right, specs.Seats.Has, specs.Seats.has_over, specs.Seats.is_over}
+use Rattle.mk_words.{specs.States.PassState, specs.States.WordsState, specs.States.event_of, specs.Steps.Makes}
 
 -- Each caller has eight registers, whatever happened.
 registers_are : (c : Config) (es : List Event) → length (never_behind c es).registers ≡ 8 * c.callers
@@ -45,9 +45,8 @@ pass_of_first h x w first limits is = grind (arith, pass_of_next)
 
 -- Where one caller was made, and no marker, all are joined when it is, whatever was seen since.
 pub one_is_joined : (w : WordsState) (first made h joined over : HostState) (p : PassState) (seen later : List Event)
-    → first ≡ first_host w → made ≡ with_caller_made first → h ≡ with_seen made h.pass.seen
-    → p.seats ≡ Caller first.callers ∷ [] → joined ≡ with_joined h p seen → over ≡ with_seen joined later
-    → AllAreJoined over
+    → first ≡ first_host w → made ≡ with_caller_made first → h ≡ with_seen made h.pass.seen → p.seats
+    ≡ Caller first.callers ∷ [] → joined ≡ with_joined h p seen → over ≡ with_seen joined later → AllAreJoined over
 one_is_joined w first made h joined over p seen later is_first is_made is seats is_joined is_over =
     let begun : h ≡ with_seen (with_caller_made (first_host w)) h.pass.seen = cc (is, is_made, is_first) in
     let callers : h.callers ≡ 1 = ap (λ (g : HostState). g.callers) begun in

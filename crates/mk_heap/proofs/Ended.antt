@@ -114,9 +114,8 @@ module _ {h : HostState} {w : WordsState} (host : HasAllHome h w) where
   all_rest : (s : Seat) → seat_exists h.pass.table.config s ≡ true → Rests (now_of h.pass) s
   all_rest s exists = host.is.rests s (all_home host.is host.own host.joined s exists)
 
-  module _ (f : Final) (history : IsHistory h.pass.table.config h.pass.seen)
-      (tidy : IsTidy h.pass.table.config h.pass.seen)
-      (seen : final.history_of f ≡ h.pass.seen) (config : final.config_of f ≡ w.config) where
+  module _ (f : Final) (history : IsHistory h.pass.table.config h.pass.seen) (tidy : IsTidy h.pass.table.config
+      h.pass.seen) (seen : final.history_of f ≡ h.pass.seen) (config : final.config_of f ≡ w.config) where
     pub ends_whole : IsWhole (final.config_of f) (final.history_of f)
     ends_whole = grind (arith, all_rest)
 

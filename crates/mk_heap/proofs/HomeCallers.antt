@@ -1,20 +1,20 @@
 -- Where all callers are home, nobody makes a step of the turn's holder while the host waits for the turn: the phase
 -- stays.
-use Rattle.mk_core.specs.{Growing.{AreOfOthers, Grows, is_same_seat}, History.{AreEnabledFrom, left_from}}
-use Rattle.mk_heap.proofs.MovedHosts.{MovesOn}
-use Rattle.mk_heap.specs.{Ending.CallersAreJoined, Hosts.{HostState, IsHost, with_joined}}
-use Rattle.mk_laws.proofs.{Actors.{Meets, is_holders}, CyclePhases.{AsksPhase, moves_phase, phase_behind}}
+use Rattle.std.{proofs.Common.{⊎_elim}, specs.List.{list_all}}
 use Rattle.mk_laws.proofs.Vocabulary.{Bool, Caller, Config, Event, Host, IsHistory, List, Marker, Moment, None, Seat}
-use Rattle.mk_laws.proofs.Vocabulary.{Step, World, [], and_parts, ap, arith, cases_lt, earlier_part_is_history}
+use Rattle.mk_laws.proofs.Vocabulary.{Step, World, ℕ, and_parts, ap, arith, cases_lt, earlier_part_is_history}
 use Rattle.mk_laws.proofs.Vocabulary.{enabled_in_parts, enabled_meets, false, false_from_ne_true, first_world, group_of}
 use Rattle.mk_laws.proofs.Vocabulary.{inl, inr, is_one_of, is_open_to, left, left_in_parts, list_any, list_any-append}
 use Rattle.mk_laws.proofs.Vocabulary.{ltb-true, not, not-true, or_cases, or_from, or_parts, phase_of, refl, seat_exists}
-use Rattle.mk_laws.proofs.Vocabulary.{subst, sym, true, true≢false, world_behind, ℕ, ◌&&◌, ◌++◌, ◌<◌, ◌||◌, ◌∙◌, ◌∷◌}
-use Rattle.mk_laws.proofs.Vocabulary.{◌≡◌, ◌≢◌, ◌≤◌, ◌⊎◌}
+use Rattle.mk_laws.proofs.Vocabulary.{subst, sym, true, true≢false, world_behind, [], ◌&&◌, ◌++◌, ◌<◌, ◌||◌, ◌∙◌, ◌∷◌}
+use Rattle.mk_laws.proofs.{Vocabulary.{◌≡◌, ◌≢◌, ◌≤◌, ◌⊎◌}, CyclePhases.{AsksPhase, moves_phase, phase_behind}}
+use Rattle.mk_laws.proofs.Actors.{Meets, is_holders}
+use Rattle.mk_core.specs.{Growing.{AreOfOthers, Grows, is_same_seat}, History.{AreEnabledFrom, left_from}}
+use Rattle.mk_heap.proofs.MovedHosts.{MovesOn}
+use Rattle.mk_heap.specs.{Ending.CallersAreJoined, Hosts.{HostState, IsHost, with_joined}}
 use Rattle.mk_waiting.{proofs.Waiting.{waits_more}, specs.Taking.{TakesTurn, Waits, is_take, waits_for}}
 use Rattle.mk_words.proofs.Overs.{none_over, over_is_hosts}
 use Rattle.mk_words.specs.{Seats.{Has, HasCallers, has_over, is_over}, States.{PassState, now_of}, Steps.Makes}
-use Rattle.std.{proofs.Common.{⊎_elim}, specs.List.{list_all}}
 
 -- Whether an `over` stands among what the host has seen. It comes by the host's own step alone.
 
@@ -92,9 +92,8 @@ over_lasts c w (e ∷ es) on h =
     let moves = moves_phase c w e es on in
     over_lasts c (world_behind c w e) es moves.2 (by moves.0 moves.1 h)
   where
-    by : AsksPhase e.step (phase_of w.now.words)
-        → phase_of (world_behind c w e).now.words ≡ phase_behind e.step (phase_of w.now.words)
-        → (phase_of w.now.words ≡ 5) ⊎ (has_over (e ∷ es) ≡ true)
+    by : AsksPhase e.step (phase_of w.now.words) → phase_of (world_behind c w e).now.words ≡ phase_behind e.step
+        (phase_of w.now.words) → (phase_of w.now.words ≡ 5) ⊎ (has_over (e ∷ es) ≡ true)
         → (phase_of (world_behind c w e).now.words ≡ 5) ⊎ (has_over es ≡ true)
     by asks moved (inl five) = inl (moved ∙ five_stays e.step (phase_of w.now.words) asks five)
     by asks moved (inr has) = grind (arith, or_cases, five_behind)
@@ -164,9 +163,8 @@ module _ (p : PassState) (c : Config) (host : Has p.seats Host) (callers : HasCa
   unfolding AreOfOthers AreEnabledFrom
   others_hold_none w [] others on = refl
   others_hold_none w (e ∷ es) others on =
-      or_from (is_holders e.step) (list_any (λ (x : Event). is_holders x.step) es)
-      (waiting w.now e (enabled_meets c w.now e on.0)
-      (ap (λ (b : Bool). not b || (is_take e.step && is_same_seat e.seat p.seat)) others.0))
+      or_from (is_holders e.step) (list_any (λ (x : Event). is_holders x.step) es) (waiting w.now e (enabled_meets c
+      w.now e on.0) (ap (λ (b : Bool). not b || (is_take e.step && is_same_seat e.seat p.seat)) others.0))
       (others_hold_none (world_behind c w e) es others.1 on.1)
 
 -- The phase stays where no holder steps.

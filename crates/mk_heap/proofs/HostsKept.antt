@@ -64,9 +64,8 @@ begins : {c : Config} {seats : List Seat} {es fs : List Event} → IsHistory c f
 begins {c} h g = subst (λ (l : List Event). IsHistory c l) g.is h
 
 -- A seat that rests still does, after the events of others,
-pub still_rests : {c : Config} (seats : List Seat) (es : List Event) {fs : List Event} {s : Seat}
-    → IsHistory c fs → Grows seats es fs
-    → Has seats s → Rests (left c es).now s → Rests (left c fs).now s
+pub still_rests : {c : Config} (seats : List Seat) (es : List Event) {fs : List Event} {s : Seat} → IsHistory c fs
+    → Grows seats es fs → Has seats s → Rests (left c es).now s → Rests (left c fs).now s
 still_rests {c} seats es {fs = fs} {s = s} h g has rests =
     let whole = begins h g in
     let kept = others_leave c es g.more s whole.within_limits whole.enabled (others_own seats s g.more has g.of_others)
@@ -82,9 +81,8 @@ still_no_turn id {c = c} {seats = seats} {es = es} {fs = fs} h g has no_turn =
     let whole = begins h g in
     let before = earlier_part_is_history c es g.more whole in
     let p : PassState = record { table = record { id = id; config = c }; seat = Host; seats = seats; seen = es } in
-    let short = history_more p (Step.Take None) before
-    (record { enabled = host_may_take c (left c es).now no_turn; admitted = λ e. cc; tidy = λ e. cc; home = λ e. cc })
-    in
+    let short = history_more p (Step.Take None) before (record
+    { enabled = host_may_take c (left c es).now no_turn; admitted = λ e. cc; tidy = λ e. cc; home = λ e. cc }) in
     let long = longer_lists c es g.more take_of_host short whole (others_own seats Host g.more has g.of_others) in
     let on = last_enabled c (first_world c) (es ++ g.more) take_of_host long.history.enabled in
     let meets = enabled_meets c (left c (es ++ g.more)).now take_of_host on in
@@ -100,9 +98,8 @@ still_host {callers} {markers} same is = subst (λ (x : PassState). IsHost (home
 
 all_same : {A : Type 0} (n k : ℕ) (x : A) → get_or (replicate n x) k x ≡ x
 all_same n k x =
-    ⊎_elim (λ (t : k < n). get_or-replicate n k x x t)
-    (λ (t : n ≤ k). get_or_past (replicate n x) k x (subst (λ (i : ℕ). i ≤ k) (sym (length-replicate n x)) t))
-    (cases_lt k n)
+    ⊎_elim (λ (t : k < n). get_or-replicate n k x x t) (λ (t : n ≤ k). get_or_past (replicate n x) k x
+    (subst (λ (i : ℕ). i ≤ k) (sym (length-replicate n x)) t)) (cases_lt k n)
 
 first_rests : (c : Config) (s : Seat) → Rests (first_moment c) s
 first_rests c (Caller k) = record { call = all_same c.callers k at_rest; out = refl }

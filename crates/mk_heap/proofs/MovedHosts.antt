@@ -78,9 +78,8 @@ pub moves_does : (kinds : Step → Bool) (p q r : PassState) → MovesOn p q →
 moves_does kinds p q r v d = record {
   more = v.more ++ d.more;
   is = cc (d.is, v.is, append_assoc p.seen v.more d.more);
-  leaves = λ x has other. others_append (x ∷ []) v.more d.more (v.leaves x has other)
-      (does_leave p.seat p.seats x d.more has other
-      (subst (λ (y : PassState). AreOwnOrOfOthers y.seat y.seats d.more) v.is d.own_or_others));
+  leaves = λ x has other. others_append (x ∷ []) v.more d.more (v.leaves x has other) (does_leave p.seat p.seats x
+      d.more has other (subst (λ (y : PassState). AreOwnOrOfOthers y.seat y.seats d.more) v.is d.own_or_others));
 }
 
 -- and so over the end of a cycle, and over a `begin`.

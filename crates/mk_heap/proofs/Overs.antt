@@ -1,19 +1,19 @@
 -- The host says that all is over, and gives its turn back.
 use Rattle.std.proofs.lemmas.List.Sums.{count_by-le-length}
 use Rattle.mk_laws.proofs.Vocabulary.{Config, Event, Host, IsHistory, List, None, Steady, Step, TalliesAreTidy, Word}
-use Rattle.mk_laws.proofs.Vocabulary.{World, ℕ, all_below-at, and_from, ap, append-nil, arith, eq-eqb, false, has_phase}
-use Rattle.mk_laws.proofs.Vocabulary.{host_has_turn, inl, inr, is_held, left, ne_eqb, not, phase_of, refl, subst, suc}
-use Rattle.mk_laws.proofs.{Vocabulary.{sym, true, zero, ◌%◌, ◌+◌, ◌/◌, ◌^◌, ◌∙◌, ◌≡◌, ◌≤◌, ◌⊎◌}, Asked.give_phase}
-use Rattle.mk_laws.proofs.{Settled.gone_is_unmapped, TallySteps.CountsNothing}
+use Rattle.mk_laws.proofs.Vocabulary.{World, ℕ, and_from, ap, append-nil, arith, eq-eqb, false, has_phase}
+use Rattle.mk_laws.proofs.Vocabulary.{host_has_turn, inl, inr, left, ne_eqb, phase_of, refl, suc, true, zero, ◌%◌, ◌+◌}
+use Rattle.mk_laws.proofs.{Vocabulary.{◌/◌, ◌^◌, ◌∙◌, ◌≡◌, ◌≤◌, ◌⊎◌}, Asked.give_phase, Settled.gone_is_unmapped}
+use Rattle.mk_laws.proofs.{Tallies.counts_tidy_more, TallySteps.CountsNothing}
 use Rattle.mk_core.proofs.Histories.{calls_more}
 use Rattle.mk_core.specs.{Counts.TalliesAreExact, Frames.{CountsAreLeft, steady_of}, Moments.none_is_held}
 use Rattle.mk_cycle.proofs.KeptInParts.{free_then, gates_behind, keeps_less, same_config}
-use Rattle.mk_cycle.proofs.{OwnSteps.{keeps_call, keeps_counts, steady_behind}, Allowed.protocol, BeginSteps.all_from}
-use Rattle.mk_cycle.proofs.{CleaningSteps.calm_keeps, MayAct.may_act}
-use Rattle.mk_cycle.specs.{EngineLaw.{IsAtPhase, IsFreeForCycle}, TurnKeeps.{InTurn, KeepsGates, LeavesTurn, but_phase}}
-use Rattle.mk_cycle.specs.{TurnKeeps.unchanged, BeginCycle.BeginsCycle, FinishCycle.FinishesCycle}
+use Rattle.mk_cycle.proofs.{OwnSteps.{keeps_call, keeps_counts, steady_behind}, Allowed.protocol}
+use Rattle.mk_cycle.proofs.{BeginSteps.none_held_kept, CleaningSteps.calm_keeps, MayAct.may_act}
+use Rattle.mk_cycle.specs.{EngineLaw.{IsAtPhase, IsFreeForCycle}, TurnKeeps.{InTurn, LeavesTurn, but_phase, unchanged}}
+use Rattle.mk_cycle.specs.{BeginCycle.BeginsCycle, FinishCycle.FinishesCycle}
 use Rattle.mk_heap.specs.Ending.{EndsCycle, IsIdleTurn}
-use Rattle.mk_words.proofs.{Made.made, OverPhases.end_is_behind_over, Tallies.{counts_tidy_more, settled_tallies}}
+use Rattle.mk_words.proofs.{Made.made, OverPhases.end_is_behind_over, Tallies.settled_tallies}
 use Rattle.mk_words.specs.{Seats.has_over, States.{PassState, now_of}, Steps.{Finds, IsAdmittedTo, IsEnabledTo}}
 use Rattle.mk_words.specs.TurnSteps.{Acts, IsFresh, world_at}
 
@@ -57,9 +57,8 @@ none_is_on q n t fresh before f other = elim (fresh_phase fresh t.history before
 pub ends_none : (p q : PassState) (n : ℕ) → Finds p (Step.Look Word.Phase) n q → IsAtPhase p 0 → EndsCycle p q
 ends_none p q n f none = grind arith
 
-pub ends_one : (p : PassState) {q r : PassState} (n : ℕ) → Finds p (Step.Look Word.Phase) n q
-    → IsAtPhase p 1 → FinishesCycle q r
-    → EndsCycle p r
+pub ends_one : (p : PassState) {q r : PassState} (n : ℕ) → Finds p (Step.Look Word.Phase) n q → IsAtPhase p 1
+    → FinishesCycle q r → EndsCycle p r
 ends_one p n f on law = grind arith
 
 -- What is exact and tidy stays so where all but the phase is kept.
@@ -71,16 +70,6 @@ exact_kept k x = grind (arith, same_config)
 pub tidy_kept : {p q : PassState} → LeavesTurn but_phase p q → TalliesAreTidy p.table.config p.seen
     → TalliesAreTidy q.table.config q.seen
 tidy_kept k x = grind (arith, same_config)
-
--- No gate is held where none was, by the same holder.
-pub none_held_kept : (p q : PassState) → q ≡ record p { seen = q.seen } → KeepsGates p q
-    → none_is_held p.table.config.callers (now_of p).words ≡ true
-    → none_is_held q.table.config.callers (now_of q).words ≡ true
-none_held_kept p q is keeps none =
-    let n : ℕ = p.table.config.callers in
-    subst (λ (c : Config). none_is_held c.callers (now_of q).words ≡ true) (sym (same_config p q is))
-    (all_from n (λ j. not (is_held (now_of q).words j))
-    (λ j lt. ap not (keeps j lt) ∙ all_below-at n j (λ i. not (is_held (now_of p).words i)) none lt))
 
 -- What is idle: a turn in which the look found no cycle on, and one in which a cycle was finished.
 

@@ -1,45 +1,31 @@
 -- Callers that make and free objects keep to pointers to first words.
 use Rattle.std.proofs.Common.{IfErr, IfOk, OnErr}
-use Rattle.mk_laws.proofs.Vocabulary.{Answer, Bool, Caller, Config, Event, List, NeverState, Null, Num, Op, Ptr, Seat}
-use Rattle.mk_laws.proofs.Vocabulary.{Value, ℕ, after_free, ap, arith, caller_number, cases_eq, false, flagged}
-use Rattle.mk_laws.proofs.Vocabulary.{get_or-set_other, inl, inr, length, refl, register_at, subst, sym, true, with_new}
-use Rattle.mk_laws.proofs.{Vocabulary.{[], ◌*◌, ◌+◌, ◌<◌, ◌∙◌, ◌∷◌, ◌≡◌, ◌≢◌}, OtherCalls.never_continues}
-use Rattle.mk_heap_tests.proofs.Vocabulary.{CallerState, Err, HostState, IsCaller, IsIdleCaller, IsPassOfObjects}
+use Rattle.mk_laws.proofs.Vocabulary.{Answer, Bool, Event, List, NeverState, Null, Num, Op, Ptr, Seat, Value, ℕ}
+use Rattle.mk_laws.proofs.Vocabulary.{after_free, ap, arith, caller_number, cases_eq, false, flagged, get_or-set_other}
+use Rattle.mk_laws.proofs.Vocabulary.{inl, inr, length, refl, register_at, subst, sym, true, [], ◌*◌, ◌+◌, ◌<◌, ◌∙◌}
+use Rattle.mk_laws.proofs.{Vocabulary.{◌∷◌, ◌≡◌, ◌≢◌}, OtherCalls.never_continues}
+use Rattle.mk_heap_tests.proofs.Vocabulary.{BothMayAllocate, CallerState, Err, IsCaller, IsIdleCaller, IsPassOfObjects}
 use Rattle.mk_heap_tests.proofs.Vocabulary.{MayAllocate, Ok, OnOk, PassState, Result, WordsState, at_home}
-use Rattle.mk_heap_tests.proofs.{Vocabulary.{caller_of_pass, pass_for, value_of}, JoinedHosts.still_for}
-use Rattle.mk_heap_tests.proofs.Registers.{has_registers, null_at_first}
+use Rattle.mk_heap_tests.proofs.{Vocabulary.{caller_of_pass, value_of}, JoinedHosts.{has_registers, null_at_first}}
+use Rattle.mk_heap_tests.proofs.JoinedHosts.{pass_after}
 use Rattle.mk_never.specs.{Admitted.IsBase, NeverHeap.after_op}
 use Rattle.mk_alloc.specs.TurnCalls.{CalledInTurn, FreesObject, IsAnsweredDouble, IsAnsweredFull}
 use Rattle.mk_alloc.specs.declared.making.Full.{Full}
 use Rattle.mk_caller.{proofs.After.{set_same}, specs.States.{never_then}}
-use Rattle.mk_heap_tests.specs.{HeldObjects.{HoldsObjects, MayMakeObjects}, Passes.IsFirstPass}
+use Rattle.mk_heap_tests.specs.HeldObjects.{BothGoOn, GoesOn, HoldsObjects, MayMakeObjects}
 use Rattle.mk_objects.specs.{declared.freeing.Double.Double, declared.freeing.Freed.Freed}
+use Rattle.mk_run.specs.Joining.{IsFirstPass}
 
 -- what calls ask of such a caller
 
-pub number_is : (s : CallerState) → MayMakeObjects s → caller_of_pass s.pass < s.pass.table.config.callers
-number_is s r =
-    let number : caller_number s.pass.seat ≡ r.number = ap caller_number r.seat in
-    let exists = r.exists in
+pub number_is : {m : ℕ} {s : CallerState} → MayAllocate m s → caller_of_pass s.pass < s.pass.table.config.callers
+number_is {s = s} may =
+    let number : caller_number s.pass.seat ≡ may.ready.number = ap caller_number may.ready.seat in
+    let exists = may.ready.exists in
     omega arith
 
-pub is_alone : (s : CallerState) → MayMakeObjects s → s.pass.seats ≡ s.pass.seat ∷ []
-is_alone s r = r.alone ∙ ap (λ (x : Seat). x ∷ []) (sym r.seat)
-
--- a caller that has made no call
-pub ready_at_first : (h : HostState) (s : CallerState) → h.pass.seen ≡ [] → h.callers < h.pass.table.config.callers
-    → s ≡ at_home (pass_for h (Caller h.callers)) → MayMakeObjects s
-ready_at_first h s none more is =
-    subst (λ (t : CallerState). MayMakeObjects t) (sym is)
-    (record {
-      number = h.callers;
-      home = refl;
-      seat = refl;
-      exists = more;
-      alone = refl;
-      objects = λ r lt. subst (λ (v : Value). IsBase v)
-          (sym (null_at_first (pass_for h (Caller h.callers)) r none)) tt;
-    })
+pub is_alone : {m : ℕ} {s : CallerState} → MayAllocate m s → s.pass.seats ≡ s.pass.seat ∷ []
+is_alone may = may.ready.alone ∙ ap (λ (x : Seat). x ∷ []) (sym may.ready.seat)
 
 -- What a call under the turn leaves in a register.
 
@@ -58,17 +44,14 @@ new_sets : {on : Bool} {p q : PassState} {d ty : ℕ} → CalledInTurn on p (Op.
     → caller_of_pass p < p.table.config.callers → d < 8 → IsBase (value_of q d)
 new_sets {on} {p} {q} {d} {ty} c exists lt =
     let n : NeverState = never_then p c.decided.before in
-    subst (λ (v : Value). IsBase v)
-    (sym (left_there c d lt ∙ set_same (with_new n ty) (caller_of_pass p) d _ (has_registers_there c exists) lt)) refl
+    subst (λ (v : Value). IsBase v) (sym (left_there c d lt ∙ set_same n _ d _ (has_registers_there c exists) lt)) refl
 
 new_leaves : {on : Bool} {p q : PassState} {d ty : ℕ} → (c : CalledInTurn on p (Op.New d ty false) Answer.Done q)
     → (r : ℕ) → r < 8 → r ≢ d → value_of q r ≡ value_of p r
 new_leaves {on} {p} {q} {d} {ty} c r lt other =
     let n : NeverState = never_then p c.decided.before in
-    left_there c r lt
-    ∙ get_or-set_other n.registers (8 * caller_of_pass p + d) (8 * caller_of_pass p + r) _ Null
-    (λ e. other (omega arith))
-    ∙ c.decided.known r lt
+    left_there c r lt ∙ get_or-set_other n.registers (8 * caller_of_pass p + d) (8 * caller_of_pass p + r) _ Null
+    (λ e. other (omega arith)) ∙ c.decided.known r lt
 
 new_keeps : {on : Bool} {p q : PassState} {d ty : ℕ} → CalledInTurn on p (Op.New d ty false) Answer.Done q
     → caller_of_pass p < p.table.config.callers → d < 8 → HoldsObjects p → HoldsObjects q
@@ -86,124 +69,126 @@ free_leaves n k r Null = refl
 free_leaves n k r (Num m) = refl
 free_leaves n k r (Ptr a t o) = refl
 
-pub freed_keeps : {on : Bool} {p q : PassState} {x : ℕ} → CalledInTurn on p (Op.Free x) Answer.Done q
+pub free_keeps : {on : Bool} {a : Answer} {p q : PassState} {x : ℕ} → CalledInTurn on p (Op.Free x) a q
     → HoldsObjects p → HoldsObjects q
-freed_keeps {on} {p} {q} {x} c h r lt =
+free_keeps {p = p} c h r lt =
     let n : NeverState = never_then p c.decided.before in
-    subst (λ (v : Value). IsBase v)
-    (sym (left_there c r lt ∙ free_leaves n (caller_of_pass p) r (register_at n (caller_of_pass p) x)
-    ∙ c.decided.known r lt))
-    (h r lt)
+    subst (λ (v : Value). IsBase v) (sym (left_there c r lt ∙ free_leaves n _ r _ ∙ c.decided.known r lt)) (h r lt)
 
-pub double_keeps : {on : Bool} {p q : PassState} {x : ℕ} → CalledInTurn on p (Op.Free x) Answer.Double q
-    → HoldsObjects p → HoldsObjects q
-double_keeps {on} {p} {q} {x} c h r lt =
-    let n : NeverState = never_then p c.decided.before in
-    subst (λ (v : Value). IsBase v)
-    (sym (left_there c r lt ∙ free_leaves n (caller_of_pass p) r (register_at n (caller_of_pass p) x)
-    ∙ c.decided.known r lt))
-    (h r lt)
+-- So a caller goes on after each, with an engine of the same size.
 
--- So a caller goes on after each.
-
-pub seen_only : {on : Bool} {p q : PassState} {o : Op} {a : Answer} → CalledInTurn on p o a q
+seen_only : {on : Bool} {p q : PassState} {o : Op} {a : Answer} → CalledInTurn on p o a q
     → q ≡ record p { seen = q.seen }
 seen_only {on} {p} {q} c =
     c.is ∙ ap (λ (es : List Event). record p { seen = es }) (sym (ap (λ (r : PassState). r.seen) c.is))
 
--- the caller at its table, which has seen more
-pub same_then : (s t u : CallerState) → t.pass ≡ record s.pass { seen = t.pass.seen }
-    → u.pass ≡ record t.pass { seen = u.pass.seen } → u.pass ≡ record s.pass { seen = u.pass.seen }
-same_then s t u first second = second ∙ ap (λ (p : PassState). record p { seen = u.pass.seen }) first
+module _ {m n : ℕ} {s : CallerState} (t : CallerState) (may : MayAllocate m s) (engine : n ≡ m)
+    (home : t.home ≡ true) where
+  goes_on : t.pass ≡ record s.pass { seen = t.pass.seen } → HoldsObjects t.pass → GoesOn n s t
+  goes_on is objects =
+      let r = may.ready in
+      record {
+        may = record {
+          ready = record {
+            number = r.number;
+            home = home;
+            seat = ap (λ (p : PassState). p.seat) is ∙ r.seat;
+            exists = subst (λ (p : PassState). r.number < p.table.config.callers) (sym is) r.exists;
+            alone = ap (λ (p : PassState). p.seats) is ∙ r.alone;
+            objects = objects;
+          };
+          ty = subst (λ (p : PassState). 0 < length p.table.config.types) (sym is) may.ty;
+          engine = engine ∙ may.engine ∙ sym (ap (λ (p : PassState). p.table.config.pages) is);
+        };
+        same = is;
+      }
 
-ready_on : (s t : CallerState) → MayMakeObjects s → t.home ≡ true → t.pass ≡ record s.pass { seen = t.pass.seen }
-    → HoldsObjects t.pass → MayMakeObjects t
-ready_on s t r home is objects =
-    record {
-      number = r.number;
-      home = home;
-      seat = ap (λ (p : PassState). p.seat) is ∙ r.seat;
-      exists = subst (λ (p : PassState). r.number < p.table.config.callers) (sym is) r.exists;
-      alone = ap (λ (p : PassState). p.seats) is ∙ r.alone;
-      objects = objects;
-    }
+  pub made_on : {T : Type 0} (on : Bool) (d : ℕ) (x : Result T Full) → d < 8
+      → OnOk x (CalledInTurn on s.pass (Op.New d 0 false) Answer.Done t.pass)
+      → IfErr x (λ full. IsAnsweredFull on s.pass (Op.New d 0 false) full.census t.pass) → GoesOn n s t
+  made_on on d (Ok u) small made full =
+      goes_on (seen_only made) (new_keeps made (number_is may) small may.ready.objects)
+  made_on on d (Err e) small made full = goes_on (seen_only full.called) (full_keeps full.called may.ready.objects)
 
-pub same_new : (on : Bool) (d ty : ℕ) {T : Type 0} (s t : CallerState) (x : Result T Full)
-    → OnOk x (CalledInTurn on s.pass (Op.New d ty false) Answer.Done t.pass)
-    → IfErr x (λ full. IsAnsweredFull on s.pass (Op.New d ty false) full.census t.pass)
-    → t.pass ≡ record s.pass { seen = t.pass.seen }
-same_new on d ty s t (Ok u) made full = seen_only made
-same_new on d ty s t (Err e) made full = seen_only full.called
+  pub freed_on : (on : Bool) (x : ℕ) (y : Result Freed Double) → IfOk y
+      (λ freed. FreesObject on s.pass x freed.due t.pass) → OnErr y (IsAnsweredDouble on s.pass x t.pass) → GoesOn n s t
+  freed_on on x (Ok f) freed double = goes_on (seen_only freed.called) (free_keeps freed.called may.ready.objects)
+  freed_on on x (Err e) freed double = goes_on (seen_only double.called) (free_keeps double.called may.ready.objects)
 
-pub ready_new : (on : Bool) (d ty : ℕ) {T : Type 0} (s t : CallerState) (x : Result T Full) → MayMakeObjects s → d < 8
-    → t.home ≡ true → OnOk x (CalledInTurn on s.pass (Op.New d ty false) Answer.Done t.pass)
-    → IfErr x (λ full. IsAnsweredFull on s.pass (Op.New d ty false) full.census t.pass) → MayMakeObjects t
-ready_new on d ty s t (Ok u) r small home made full =
-    ready_on s t r home (seen_only made) (new_keeps made (number_is s r) small r.objects)
-ready_new on d ty s t (Err e) r small home made full =
-    ready_on s t r home (seen_only full.called) (full_keeps full.called r.objects)
+pub goes_on_there : {m : ℕ} {s : CallerState} → MayAllocate m s → GoesOn m s s
+goes_on_there may = record { may = may; same = refl }
 
-pub same_free : (on : Bool) (x : ℕ) (s t : CallerState) (y : Result Freed Double)
-    → IfOk y (λ freed. FreesObject on s.pass x freed.due t.pass) → OnErr y (IsAnsweredDouble on s.pass x t.pass)
-    → t.pass ≡ record s.pass { seen = t.pass.seen }
-same_free on x s t (Ok f) freed double = seen_only freed.called
-same_free on x s t (Err e) freed double = seen_only double.called
+pub goes_on_then : {m n : ℕ} {s t u : CallerState} → GoesOn m s t → GoesOn n t u → GoesOn n s u
+goes_on_then {u = u} one two =
+    record { may = two.may; same = two.same ∙ ap (λ (p : PassState). record p { seen = u.pass.seen }) one.same }
 
-pub ready_free : (on : Bool) (x : ℕ) (s t : CallerState) (y : Result Freed Double) → MayMakeObjects s → t.home ≡ true
-    → IfOk y (λ freed. FreesObject on s.pass x freed.due t.pass) → OnErr y (IsAnsweredDouble on s.pass x t.pass)
-    → MayMakeObjects t
-ready_free on x s t (Ok f) r home freed double =
-    ready_on s t r home (seen_only freed.called) (freed_keeps freed.called r.objects)
-ready_free on x s t (Err e) r home freed double =
-    ready_on s t r home (seen_only double.called) (double_keeps double.called r.objects)
+-- Where one of two callers goes on, the other may still allocate.
 
--- The engine is of the table's size still, and for another caller of the table too.
-
-pub may_at : (m : ℕ) (s t : CallerState) → MayAllocate m s → t.pass.table ≡ s.pass.table → MayMakeObjects t
+may_at : {m : ℕ} {s t : CallerState} → MayAllocate m s → t.pass.table ≡ s.pass.table → MayMakeObjects t
     → MayAllocate m t
-may_at m s t may same ready =
-    let config : t.pass.table.config ≡ s.pass.table.config = ap (λ (w : WordsState). w.config) same in
-    record {
-      ready = ready;
-      ty = subst (λ (c : Config). 0 < length c.types) (sym config) may.ty;
-      engine = may.engine ∙ sym (ap (λ (c : Config). c.pages) config);
-    }
+may_at may same ready = record {
+  ready = ready;
+  ty = subst (λ (w : WordsState). 0 < length w.config.types) (sym same) may.ty;
+  engine = may.engine ∙ sym (ap (λ (w : WordsState). w.config.pages) same);
+}
 
-pub may_then : (m n : ℕ) (s t : CallerState) → MayAllocate m s → n ≡ m
-    → t.pass ≡ record s.pass { seen = t.pass.seen } → MayMakeObjects t → MayAllocate n t
-may_then m n s t may engine is ready =
-    let at : MayAllocate m t = may_at m s t may (ap (λ (p : PassState). p.table) is) ready in
-    record { ready = ready; ty = at.ty; engine = engine ∙ at.engine }
+module _ {m n : ℕ} {s t : CallerState} (both : BothMayAllocate m s t) where
+  pub first_on : {u : CallerState} → GoesOn n s u → BothGoOn n s t u t
+  first_on one =
+      let table = both.one_table ∙ sym (ap (λ (p : PassState). p.table) one.same) in
+      record {
+        may = record { first = one.may; second = may_at one.may table both.second.ready; one_table = table };
+        first = one.same;
+        second = refl;
+      }
 
--- A caller whose pass was just handed out is at home.
-pub home_at_first : (h : HostState) (s : CallerState) → s ≡ at_home (pass_for h (Caller h.callers)) → s ≡ at_home s.pass
-home_at_first h s is = is ∙ ap (λ (p : PassState). at_home p) (sym (ap (λ (x : CallerState). x.pass) is))
+  pub second_on : {v : CallerState} → GoesOn n t v → BothGoOn n s t s v
+  second_on one =
+      let table = ap (λ (p : PassState). p.table) one.same ∙ both.one_table in
+      record {
+        may = record { first = may_at one.may (sym table) both.first.ready; second = one.may; one_table = table };
+        first = refl;
+        second = one.same;
+      }
 
--- A caller before its first call may make objects.
-pub may_at_first : (w : WordsState) (k made_for : ℕ) (p : PassState) (s : CallerState) → IsFirstPass w k p
-    → s ≡ at_home p → k < w.config.callers → 0 < length w.config.types → made_for ≡ w.config.pages
-    → MayAllocate made_for s
-may_at_first w k made_for p s first is exists ty engine =
-    let table : s.pass.table ≡ w = ap (λ (x : CallerState). x.pass.table) is ∙ first.table in
-    record {
-      ready =
-          subst (λ (x : CallerState). MayMakeObjects x) (sym is)
-          (record {
-            number = k;
-            home = refl;
-            seat = first.seat;
-            exists = subst (λ (v : WordsState). k < v.config.callers) (sym first.table) exists;
-            alone = first.alone;
-            objects = λ r lt. subst (λ (v : Value). IsBase v) (sym (null_at_first p r first.seen)) tt;
-          });
-      ty = subst (λ (v : WordsState). 0 < length v.config.types) (sym table) ty;
-      engine = engine ∙ sym (ap (λ (v : WordsState). v.config.pages) table);
-    }
+pub both_then : {m n : ℕ} {s t u v x y : CallerState} → BothGoOn m s t u v → BothGoOn n u v x y → BothGoOn n s t x y
+both_then {x = x} {y = y} one two = record {
+  may = two.may;
+  first = two.first ∙ ap (λ (p : PassState). record p { seen = x.pass.seen }) one.first;
+  second = two.second ∙ ap (λ (p : PassState). record p { seen = y.pass.seen }) one.second;
+}
+
+-- Callers before their first call may make objects.
+
+pub may_at_first : {w : WordsState} {k m : ℕ} {p : PassState} {s : CallerState} → IsFirstPass w k p → s ≡ at_home p
+    → k < w.config.callers → 0 < length w.config.types → m ≡ w.config.pages → MayAllocate m s
+may_at_first {w} {k} {m} {p} first is exists ty engine = subst (λ (x : CallerState). MayAllocate m x) (sym is) (record {
+  ready = record {
+    number = k;
+    home = refl;
+    seat = first.seat;
+    exists = subst (λ (v : WordsState). k < v.config.callers) (sym first.table) exists;
+    alone = first.alone;
+    objects = λ r lt. subst (λ (v : Value). IsBase v) (sym (null_at_first p r first.seen)) tt;
+  };
+  ty = subst (λ (v : WordsState). 0 < length v.config.types) (sym first.table) ty;
+  engine = engine ∙ sym (ap (λ (v : WordsState). v.config.pages) first.table);
+})
+
+pub both_may : {w : WordsState} {m : ℕ} {p q : PassState} {s t : CallerState} → IsFirstPass w 0 p → IsFirstPass w 1 q
+    → s ≡ at_home p → t ≡ at_home q → w.config.callers ≡ 2 → 0 < length w.config.types → m ≡ w.config.pages
+    → BothMayAllocate m s t
+both_may first second is_s is_t two ty engine = record {
+  first = may_at_first first is_s (omega arith) ty engine;
+  second = may_at_first second is_t (omega arith) ty engine;
+  one_table = cc (is_s, is_t, first.table, second.table);
+}
 
 -- The pass of one that has made objects.
-pub pass_of_objects : (w : WordsState) (k : ℕ) (s t : CallerState) (q : PassState) → IsFirstPass w k s.pass
-    → t.pass ≡ record s.pass { seen = t.pass.seen } → MayMakeObjects t → q ≡ t.pass → IsIdleCaller t.pass
-    → IsPassOfObjects w k q
-pass_of_objects w k s t q first is ready same idle =
-    subst (λ (p : PassState). IsPassOfObjects w k p) (sym same)
-    (record { pass = still_for w k s.pass t.pass first is idle; objects = ready.objects })
+pub pass_of_objects : {w : WordsState} {k : ℕ} {p q : PassState} {s t : CallerState} → IsFirstPass w k p
+    → s ≡ at_home p → t.pass ≡ record s.pass { seen = t.pass.seen } → MayMakeObjects t → q ≡ t.pass
+    → IsIdleCaller t.pass → IsPassOfObjects w k q
+pass_of_objects {w} {k} first is_s is_t ready is_q idle = record {
+  pass = pass_after first is_s is_t is_q idle;
+  objects = subst (λ (r : PassState). HoldsObjects r) (sym is_q) ready.objects;
+}

@@ -1,22 +1,22 @@
 -- A marker that is out, or comes in, the host's turn and cycle beside it, and the caller that was joined.
 use Rattle.std.specs.Result.{is_err}
-use Rattle.mk_laws.proofs.Vocabulary.{Caller, Config, Event, IsEnabled, List, Marker, MarkerState, None, Presence, Seat}
-use Rattle.mk_laws.proofs.Vocabulary.{Steady, Step, TalliesAreTidy, Word, ℕ, ap, arith, eq-eqb, false, is_attending}
-use Rattle.mk_laws.proofs.Vocabulary.{is_held, is_number_of, marker_at, others_are_held, outside, phase_of, refl, subst}
-use Rattle.mk_laws.proofs.Vocabulary.{sym, true, [], ◌%◌, ◌<◌, ◌∙◌, ◌∷◌, ◌≡◌}
-use Rattle.mk_heap_tests.proofs.Vocabulary.{CallerState, Err, Has, HostState, InTurn, IsEnabledTo, IsFresh, Ok, OnOk}
-use Rattle.mk_heap_tests.proofs.Vocabulary.{PassState, Result, TakesTurn, TalliesAreExact, WordsState, at_home, has_all}
-use Rattle.mk_heap_tests.proofs.{Vocabulary.{now_of, pass_for}, JoinedHosts.{IsUnused, free_at_first, has_joined}}
-use Rattle.mk_heap_tests.proofs.JoinedHosts.{none_is_held_at, only_zero, split_is}
+use Rattle.mk_laws.proofs.Vocabulary.{Caller, Config, Event, Host, IsEnabled, List, Marker, MarkerState, None, Presence}
+use Rattle.mk_laws.proofs.Vocabulary.{Seat, Steady, Step, Word, ℕ, ap, arith, eq-eqb, false, is_attending, is_held}
+use Rattle.mk_laws.proofs.Vocabulary.{is_number_of, marker_at, others_are_held, outside, phase_of, refl, subst, sym}
+use Rattle.mk_laws.proofs.Vocabulary.{true, [], ◌%◌, ◌<◌, ◌∙◌, ◌∷◌, ◌≡◌}
+use Rattle.mk_heap_tests.proofs.Vocabulary.{CallerState, Err, Has, HostState, InTurn, IsEnabledTo, Ok, OnOk, PassState}
+use Rattle.mk_heap_tests.proofs.Vocabulary.{Result, WordsState, at_home, has_all, now_of, pass_for}
+use Rattle.mk_heap_tests.proofs.JoinedHosts.{IsUnused, free_at_first, has_joined, none_is_held_at, only_zero, split_is}
+use Rattle.mk_heap_tests.proofs.JoinedHosts.{still_unused, unused}
 use Rattle.mk_core.specs.{History.left_from, MarkerConditions.is_out}
 use Rattle.mk_cycle.proofs.HoldingSteps.{all_held_below, held_free, held_table, hold_allowed, hold_holds}
-use Rattle.mk_cycle.proofs.{Allowed.{or_true, protocol}, MayAct.may_act}
+use Rattle.mk_cycle.proofs.{Allowed.{or_true, protocol}, BeginSteps.none_held_kept, MayAct.may_act}
 use Rattle.mk_cycle.specs.{BeginCycle.BeginsCycle, EngineLaw.IsFreeForCycle, Holding.HoldsGates}
-use Rattle.mk_heap.proofs.{HomeCallers.taken_overs, Overs.{begun_free, fresh_free, look_keeps, looked_idle}}
-use Rattle.mk_heap.proofs.{Overs.{none_held_kept, none_is_on}, HostsKept.{first_is_host, host_may_take}}
-use Rattle.mk_heap.{proofs.MovedHosts.{turn_moves}, specs.Hosts.{with_marker_made}}
-use Rattle.mk_heap.specs.{Ending.IsIdleTurn, Hosts.{IsHost, first_host, with_caller_made, with_joined}}
-use Rattle.mk_heap_tests.specs.Passes.{HasJoinedOne, HostIsMarking, IsHostsPass, IsMarkerOut}
+use Rattle.mk_heap.proofs.{HostsKept.{first_is_host, host_may_take}, Overs.{begun_free, fresh_free, look_keeps}}
+use Rattle.mk_heap.proofs.{Overs.{looked_idle, none_is_on}, HomeCallers.taken_overs, MovedHosts.turn_moves}
+use Rattle.mk_heap.specs.Hosts.{IsHost, first_host, with_caller_made, with_joined, with_marker_made}
+use Rattle.mk_heap.specs.Ending.{IsIdleTurn}
+use Rattle.mk_heap_tests.specs.{Passes.{HasJoinedOne, HostIsMarking, IsHostsPass, IsMarkerOut}, Taken.IsTaken}
 use Rattle.mk_marker.specs.Markers.{IsOut, attends}
 use Rattle.mk_words.proofs.Seats.{without_keeps}
 use Rattle.mk_words.specs.{Markers.marker_in, Seats.{all_seats, has_over, without_seat}, Steps.Finds, TurnSteps.Acts}
@@ -35,8 +35,7 @@ out_at_first : (w : WordsState) (p : PassState)
     → p ≡ record { table = w; seat = Marker 0; seats = Marker 0 ∷ []; seen = [] } → IsMarkerOut w p
 out_at_first w p is =
     let host : IsHost (first_host w) = first_is_host w in
-    subst (λ (q : PassState). IsMarkerOut w q) (sym is)
-    (record {
+    subst (λ (q : PassState). IsMarkerOut w q) (sym is) (record {
       table = refl;
       seat = refl;
       alone = refl;
@@ -44,9 +43,9 @@ out_at_first w p is =
           (host.rests (Marker 0) (host.markers 0 (omega arith) (omega arith))).out;
     })
 
-pub marker_split : (w : WordsState) (h m : PassState) → IsUnused w h
+pub marker_split : {w : WordsState} {h : PassState} (m : PassState) → IsUnused w h
     → m ≡ record h { seat = Marker 0; seats = Marker 0 ∷ [] } → IsMarkerOut w m
-marker_split w h m u is = out_at_first w m (split_is w h m (Marker 0) u is)
+marker_split {w} {h} m u is = out_at_first w m (split_is m (Marker 0) u is)
 
 -- The host of a table that nobody has used, which split off its first caller and then its first marker.
 
@@ -61,64 +60,66 @@ marker_is_outside p none =
 pub marker_is_home : (c : Config) (h g : PassState) → h.seats ≡ all_seats c
     → g.seats ≡ without_seat (Caller 0) h.seats → Has g.seats (Marker 0)
 marker_is_home c h g first less =
-    subst (λ (xs : List Seat). Has xs (Marker 0)) (sym less)
-    (without_keeps (Caller 0) h.seats (Marker 0) refl
+    subst (λ (xs : List Seat). Has xs (Marker 0)) (sym less) (without_keeps (Caller 0) h.seats (Marker 0) refl
     (subst (λ (xs : List Seat). Has xs (Marker 0)) (sym first) (has_all c (Marker 0) refl)))
 
-pub host_at_first : (w : WordsState) (p : PassState) → IsUnused w p → IsHostsPass w p
-host_at_first w p u =
-    record { table = u.table; seat = u.seat; without = free_at_first w p u; before_over = ap has_over u.seen }
+pub host_at_first : {w : WordsState} {p : PassState} → IsUnused w p → IsHostsPass w p
+host_at_first {w} {p} u =
+    record { table = u.table; seat = u.seat; without = free_at_first u; before_over = ap has_over u.seen }
 
-pub host_may : (w : WordsState) (p : PassState) → IsHostsPass w p → IsEnabledTo p (Step.Take None)
-host_may w p host =
+-- after two splits
+pub host_after_splits : {w : WordsState} {h g j : PassState} {xs ys zs : List Seat}
+    → h ≡ record { table = w; seat = Host; seats = xs; seen = [] } → g ≡ record h { seats = ys }
+    → j ≡ record g { seats = zs } → IsHostsPass w j
+host_after_splits is one two = host_at_first (still_unused (still_unused (unused is) one) two)
+
+pub host_may : {w : WordsState} {p : PassState} → IsHostsPass w p → IsEnabledTo p (Step.Take None)
+host_may {p} host =
     subst (λ (s : Seat). IsEnabled p.table.config (now_of p) (record { seat = s; step = Step.Take None }))
     (sym host.seat) (host_may_take p.table.config (now_of p) host.without)
 
 -- The turn that it took for no operation, and its cycle.
 pub record HasLooked (w : WordsState) (h p : PassState) (n : ℕ) (q : PassState) : Type 0 where
   pub host : IsHostsPass w h
-  pub own : Has h.seats h.seat
-  pub takes : TakesTurn h None p
-  pub fresh : IsFresh p None
-  pub exact : TalliesAreExact p.table.config p.seen
-  pub tidy : TalliesAreTidy p.table.config p.seen
-  pub turn : InTurn p
+  pub taken : IsTaken h None p
   pub finds : Finds p (Step.Look Word.Phase) n q
   pub acts : Acts p (Step.Look Word.Phase) q
 
 module _ {w : WordsState} {h p : PassState} {n : ℕ} {q : PassState} (l : HasLooked w h p n q) where
   pub looked_table : q.table ≡ w
   looked_table =
-      ap (λ (x : PassState). x.table) (look_keeps l.turn (fresh_free l.fresh) l.acts).call.pass
-      ∙ ap (λ (x : PassState). x.table) (turn_moves h p l.takes).is ∙ l.host.table
+      cc (
+        (look_keeps l.taken.turn (fresh_free l.taken.fresh) l.acts).call.pass,
+        (turn_moves h p l.taken.takes).is,
+        l.host.table,
+      )
 
   module _ (none : n % 8 ≡ 1 → ⊥) where
     before : has_over p.seen ≡ false
     before =
-        taken_overs l.takes (subst (λ (s : Seat). Has h.seats s) l.host.seat l.own) l.turn.history
+        taken_overs l.taken.takes (subst (λ (s : Seat). Has h.seats s) l.host.seat l.taken.own) l.taken.turn.history
         ∙ l.host.before_over
 
     pub idle : IsIdleTurn q
     idle =
-        looked_idle (ap (λ (x : PassState). x.seat) (turn_moves h p l.takes).is ∙ l.host.seat) l.turn l.fresh l.acts
-        (none_is_on q n l.turn l.fresh before l.finds none) l.exact l.tidy
+        looked_idle (ap (λ (x : PassState). x.seat) (turn_moves h p l.taken.takes).is ∙ l.host.seat) l.taken.turn
+        l.taken.fresh l.acts (none_is_on q n l.taken.turn l.taken.fresh before l.finds none) l.taken.exact l.taken.tidy
 
-    pub marking : (r : PassState) → BeginsCycle q r → HostIsMarking w r
-    marking r begins =
-        record {
-          table = ap (λ (x : PassState). x.table) begins.pass ∙ looked_table;
-          seat = ap (λ (x : PassState). x.seat) begins.pass ∙ idle.seat;
-          phase = ap (λ (s : Steady). s.phase) begins.steady;
-          free = begun_free idle.free begins;
-          gates = none_held_kept q r begins.pass begins.gates idle.gates;
-        }
+    pub marking : {r : PassState} → BeginsCycle q r → HostIsMarking w r
+    marking {r} begins = record {
+      table = ap (λ (x : PassState). x.table) begins.pass ∙ looked_table;
+      seat = ap (λ (x : PassState). x.seat) begins.pass ∙ idle.seat;
+      phase = ap (λ (s : Steady). s.phase) begins.steady;
+      free = begun_free idle.free begins;
+      gates = none_held_kept q r begins.pass begins.gates idle.gates;
+    }
 
 pub on_ok : {A B : Type 0} (x : Result A B) (P : Type 0) → is_err x ≡ false → OnOk x P → P
 on_ok (Ok a) P is h = h
 on_ok (Err e) P is h = cc
 
 -- The stop of the one caller, in which the close is wanted.
-module _ (w : WordsState) (p : PassState) (m : HostIsMarking w p) (one : w.config.callers ≡ 1) (t : InTurn p) where
+module _ (w : WordsState) {p : PassState} (m : HostIsMarking w p) (one : w.config.callers ≡ 1) (t : InTurn p) where
   one_caller : p.table.config.callers ≡ 1
   one_caller = ap (λ (v : WordsState). v.config.callers) m.table ∙ one
 
@@ -151,10 +152,8 @@ module _ {w : WordsState} {p q : PassState} (h : HasHeld w p q) where
   pub all_held : others_are_held q.table.config.callers (now_of q).words q.seat ≡ true
   all_held =
       let count : q.table.config.callers ≡ 1 = ap (λ (v : WordsState). v.config.callers) stop_table ∙ h.one in
-      all_held_below q q.table.config.callers
-      (λ j lt. or_true (is_number_of q.seat j) (is_held (now_of q).words j)
-      (subst (λ (i : ℕ). is_held (now_of q).words i ≡ true)
-      (sym (only_zero j q.table.config.callers count lt)) h.held))
+      all_held_below q _ (λ j lt. or_true (is_number_of q.seat j) (is_held (now_of q).words j)
+      (subst (λ (i : ℕ). is_held (now_of q).words i ≡ true) (sym (only_zero j q.table.config.callers count lt)) h.held))
 
   pub may_want : IsEnabledTo q Step.Want
   may_want =

@@ -1,18 +1,22 @@
 -- A caller's turn for a New, from its `take` to its `give`.
-use Rattle.mk_laws.proofs.Vocabulary.{Answer, IsHistory, Op, Some, Step, TalliesAreTidy, ℕ, ap, arith, at_rest}
-use Rattle.mk_laws.proofs.Vocabulary.{caller_number, false, has_operands, length, refl, subst, sym, true, ◌<◌, ◌∙◌, ◌≡◌}
-use Rattle.mk_heap_tests.proofs.Vocabulary.{Has, InTurn, IsEnabledTo, IsFresh, IsPassFor, PassState, TakesTurn}
-use Rattle.mk_heap_tests.proofs.{Vocabulary.{TalliesAreExact, WordsState, caller_of_pass, now_of}, JoinedHosts.alone_in}
-use Rattle.mk_alloc.proofs.{NewTurns.{begun_quiet, begun_unplaced, operands_of}, CalledTurns.{callers, take_allowed}}
-use Rattle.mk_alloc.proofs.{CalledTurns.{taken_phase, taken_same}, SeekingTurns.seeks_placed}
-use Rattle.mk_alloc.specs.{Rooms.Seeks, Underway.{BeginsTurn, TurnGoesOn}}
+use Rattle.mk_laws.proofs.Vocabulary.{Answer, Bool, IsHistory, Op, Some, Step, ℕ, ap, arith, at_rest, caller_number}
+use Rattle.mk_laws.proofs.Vocabulary.{false, has_operands, length, lt-ltb, refl, subst, sym, true, ◌&&◌, ◌<◌, ◌∙◌, ◌≡◌}
+use Rattle.mk_heap_tests.proofs.Vocabulary.{InTurn, IsEnabledTo, IsPassFor, IsPassOfObjects, PassState, WordsState}
+use Rattle.mk_heap_tests.proofs.Vocabulary.{caller_of_pass, now_of}
+use Rattle.mk_alloc.proofs.CalledTurns.{Taken, callers, take_allowed, taken_phase, taken_same}
+use Rattle.mk_alloc.proofs.FreedTurns.{Frees, Refuses, double_answered, freed, freed_object, refused, unloaded}
+use Rattle.mk_alloc.proofs.NewTurns.{begun_quiet, begun_unplaced, operands_of}
+use Rattle.mk_alloc.proofs.{Going.give_allowed, SeekingTurns.seeks_placed}
+use Rattle.mk_alloc.specs.{Rooms.Seeks, TurnCalls.CalledInTurn, Underway.BeginsTurn, Underway.TurnGoesOn}
+use Rattle.mk_heap_tests.{proofs.HeldObjects.free_keeps, proofs.JoinedHosts.alone_in, specs.Taken.IsTaken}
 use Rattle.mk_objects.specs.Placing.{IsOutOfStop, IsPlaced, IsUnplaced}
-use Rattle.mk_words.specs.{Seats.CallersAreBeforeOver, States.call_of, Steps.Makes}
+use Rattle.mk_objects.specs.{Retired.FindsFreed, Retired.Retires, Retiring.IsUnloaded}
+use Rattle.mk_words.specs.{States.call_of, Steps.Makes}
 
 abbrev pub first_new : Op
 first_new = Op.New 0 0 false
 
-module _ (w : WordsState) (k : ℕ) (p : PassState) (is : IsPassFor w k p) where
+module _ {w : WordsState} {k : ℕ} {p : PassState} (is : IsPassFor w k p) where
   number : caller_of_pass p ≡ k
   number = ap caller_number is.seat
 
@@ -32,37 +36,23 @@ module _ (w : WordsState) (k : ℕ) (p : PassState) (is : IsPassFor w k p) where
   pub may_make : k < w.config.callers → 0 < length w.config.types → IsEnabledTo p (Step.Take (Some first_new))
   may_make few typed = take_allowed first_new is.idle (exists few) refl (operands typed)
 
--- The turn was taken for it.
-pub record IsTaken (w : WordsState) (k : ℕ) (o : Op) (p q : PassState) : Type 0 where
-  pub is : IsPassFor w k p
-  pub few : k < w.config.callers
-  pub own : Has p.seats p.seat
-  pub takes : TakesTurn p (Some o) q
-  pub fresh : IsFresh q (Some o)
-  pub exact : TalliesAreExact q.table.config q.seen
-  pub tidy : TalliesAreTidy q.table.config q.seen
-  pub turn : InTurn q
-  pub before : CallersAreBeforeOver q.table.config q.seats q.seen
-
-module _ {w : WordsState} {k : ℕ} {o : Op} {p q : PassState} (t : IsTaken w k o p q) where
+module _ {w : WordsState} {k : ℕ} {o : Op} {p q : PassState} (is : IsPassFor w k p) (t : IsTaken p (Some o) q) where
   taken_is : q ≡ record p { seen = q.seen }
-  taken_is = taken_same (callers t.is.idle) t.own t.takes
+  taken_is = taken_same (callers is.idle) t.own t.takes
 
   pub taken_table : q.table ≡ w
-  taken_table = ap (λ (x : PassState). x.table) taken_is ∙ t.is.table
+  taken_table = ap (λ (x : PassState). x.table) taken_is ∙ is.table
 
-  pub phase : IsOutOfStop (now_of q)
-  phase =
-      taken_phase (callers t.is.idle) (exists w k p t.is t.few) (alone_in t.is) t.own t.takes t.fresh
-      t.turn.history t.before
+  pub phase : k < w.config.callers → IsOutOfStop (now_of q)
+  phase few = taken_phase (callers is.idle) (exists is few) (alone_in is) t.own t.takes t.fresh t.turn.history t.before
 
-  pub begins : BeginsTurn o q
-  begins = record { fresh = t.fresh; phase = phase; exact = t.exact; tidy = t.tidy }
+  begins : k < w.config.callers → BeginsTurn o q
+  begins few = record { fresh = t.fresh; phase = phase few; exact = t.exact; tidy = t.tidy }
 
   -- The pass that is given back, where the turn went on to an answer.
-  pub back_of : (a : Answer) (d : PassState) → TurnGoesOn (Some a) q d → (b : PassState) → Makes d Step.Give b
+  pub back_of : {a : Answer} {d : PassState} → TurnGoesOn (Some a) q d → (b : PassState) → Makes d Step.Give b
       → call_of b ≡ at_rest → IsPassFor w k b
-  back_of a d on b gives rests =
+  back_of on b gives rests =
       let all : (b.table ≡ p.table) × (b.seat ≡ p.seat) × (b.seats ≡ p.seats) = (
         ap (λ (x : PassState). x.table) gives.is ∙ ap (λ (x : PassState). x.table) on.does.is
             ∙ ap (λ (x : PassState). x.table) taken_is,
@@ -72,24 +62,77 @@ module _ {w : WordsState} {k : ℕ} {o : Op} {p q : PassState} (t : IsTaken w k 
             ∙ ap (λ (x : PassState). x.seats) taken_is,
       ) in
       record {
-        table = all.0 ∙ t.is.table;
-        seat = all.1 ∙ t.is.seat;
-        alone = all.2 ∙ t.is.alone;
-        idle = record { caller = k; seat = all.1 ∙ t.is.seat; rest = rests };
+        table = all.0 ∙ is.table;
+        seat = all.1 ∙ is.seat;
+        alone = all.2 ∙ is.alone;
+        idle = record { caller = k; seat = all.1 ∙ is.seat; rest = rests };
       }
 
-module _ {w : WordsState} {k : ℕ} {p q : PassState} (t : IsTaken w k first_new p q) where
+module _ {w : WordsState} {k : ℕ} {p q : PassState} (is : IsPassFor w k p) (few : k < w.config.callers)
+    (t : IsTaken p (Some first_new) q) where
   -- Directly after its `take` the turn may place its object.
   pub unplaced : IsUnplaced q
-  unplaced = begun_unplaced (begins t)
+  unplaced = begun_unplaced (begins is t few)
 
   -- Where it has placed it, it may be given back.
   module _ {r : PassState} (placed : IsPlaced q r) (history : IsHistory r.table.config r.seen) where
     pub seeks : Seeks (Some Answer.Done) q r
-    seeks = seeks_placed t.turn unplaced (begun_quiet (begins t)) placed history
+    seeks = seeks_placed t.turn unplaced (begun_quiet (begins is t few)) placed history
 
     pub placed_table : r.table ≡ w
-    placed_table = ap (λ (x : PassState). x.table) seeks.on.does.is ∙ taken_table t
+    placed_table = ap (λ (x : PassState). x.table) seeks.on.does.is ∙ taken_table is t
 
-    pub passed_back : (b : PassState) → Makes r Step.Give b → call_of b ≡ at_rest → IsPassFor w k b
-    passed_back b gives rests = back_of t Answer.Done r seeks.on b gives rests
+    pub passed_back : {b : PassState} → Makes r Step.Give b → call_of b ≡ at_rest → IsPassFor w k b
+    passed_back {b} gives rests = back_of is t seeks.on b gives rests
+
+-- A caller's turn for a Free, from its `take` to its `give`, with no cycle.
+
+pub may_retire : {w : WordsState} {k r : ℕ} {p : PassState} → IsPassOfObjects w k p → k < w.config.callers → r < 8
+    → IsEnabledTo p (Step.Take (Some (Op.Free r)))
+may_retire {r = r} is few small =
+    take_allowed (Op.Free r) is.pass.idle (exists is.pass few) refl
+    (ap (λ (b : Bool). true && b && true && true && true && true) (lt-ltb r 8 small))
+
+module _ {w : WordsState} {k r : ℕ} {p q : PassState} (of : IsPassOfObjects w k p) (few : k < w.config.callers)
+    (t : IsTaken p (Some (Op.Free r)) q) where
+  took : Taken (Op.Free r) p q
+  took = record { seat = callers of.pass.idle; own = t.own; takes = t.takes }
+
+  pub is_unloaded : r < 8 → IsUnloaded q r
+  is_unloaded small = unloaded (callers of.pass.idle) t.own t.takes t.fresh t.turn.history small (of.objects r small)
+
+  -- The pass that is given back has its objects still.
+  back_with_objects : {on : Bool} {a : Answer} {d : PassState} → TurnGoesOn (Some a) q d → (b : PassState)
+      → Makes d Step.Give b → call_of b ≡ at_rest → CalledInTurn on p (Op.Free r) a b → IsPassOfObjects w k b
+  back_with_objects on b gives rests called =
+      record { pass = back_of of.pass t on b gives rests; objects = free_keeps called of.objects }
+
+  -- It was freed, and that isn't due.
+  module _ {d : PassState} (retires : Retires q r false d) (u : InTurn d) where
+    frees : Frees false false r p q d d
+    frees = record {
+      took = took;
+      begins = begins of.pass t few;
+      retires = retires;
+      decided = u;
+      run = record { runs = λ h. cc; rests = λ h. refl };
+      history = u.history;
+    }
+
+    pub freed_may_give : IsEnabledTo d Step.Give
+    freed_may_give = give_allowed u (freed frees).quiet ((freed frees).decided refl)
+
+    pub freed_back : {b : PassState} → Makes d Step.Give b → call_of b ≡ at_rest → IsPassOfObjects w k b
+    freed_back {b} gives rests = back_with_objects (freed frees) b gives rests (freed_object frees gives rests).called
+
+  -- It was freed already.
+  module _ {d : PassState} (finds : FindsFreed q r d) (u : InTurn d) where
+    refuses : Refuses r p q d
+    refuses = record { took = took; begins = begins of.pass t few; finds = finds }
+
+    pub double_may_give : IsEnabledTo d Step.Give
+    double_may_give = give_allowed u (refused refuses).quiet ((refused refuses).decided refl)
+
+    pub double_back : {b : PassState} → Makes d Step.Give b → call_of b ≡ at_rest → IsPassOfObjects w k b
+    double_back {b} gives rests =
+        back_with_objects (refused refuses) b gives rests (double_answered false refuses gives rests).called

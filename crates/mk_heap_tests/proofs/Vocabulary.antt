@@ -8,4 +8,5 @@ pub use Rattle.mk_heap.specs.Hosts.{HostState, pass_for}
 pub use Rattle.mk_waiting.specs.Taking.{TakesTurn}
 pub use Rattle.mk_words.proofs.Seats.{has_all}
 pub use Rattle.mk_words.specs.{Seats.Has, States.{PassState, WordsState, now_of}, Steps.IsEnabledTo, TurnSteps.IsFresh}
-pub use Rattle.mk_heap_tests.specs.{HeldObjects.{IsPassOfObjects, MayAllocate}, Passes.{HoldsNull, IsPassFor}}
+pub use Rattle.mk_heap_tests.specs.HeldObjects.{BothMayAllocate, IsPassOfObjects, MayAllocate}
+pub use Rattle.mk_heap_tests.specs.Passes.{HoldsNull, IsPassFor}

@@ -25,6 +25,23 @@ pub record MayAllocate (made_for : ℕ) (s : CallerState) : Type 0 where
   pub ty : 0 < length s.pass.table.config.types
   pub engine : made_for ≡ s.pass.table.config.pages
 
+-- A caller went on: it may allocate still, with the same pass but for what it has seen.
+pub record GoesOn (made_for : ℕ) (s t : CallerState) : Type 0 where
+  pub may : MayAllocate made_for t
+  pub same : t.pass ≡ record s.pass { seen = t.pass.seen }
+
+-- Two callers of one table may both allocate.
+pub record BothMayAllocate (made_for : ℕ) (s t : CallerState) : Type 0 where
+  pub first : MayAllocate made_for s
+  pub second : MayAllocate made_for t
+  pub one_table : t.pass.table ≡ s.pass.table
+
+-- Both went on.
+pub record BothGoOn (made_for : ℕ) (s t u v : CallerState) : Type 0 where
+  pub may : BothMayAllocate made_for u v
+  pub first : u.pass ≡ record s.pass { seen = u.pass.seen }
+  pub second : v.pass ≡ record t.pass { seen = v.pass.seen }
+
 -- the pass of caller k, with no call in flight, whose registers hold objects
 pub record IsPassOfObjects (w : WordsState) (k : ℕ) (p : PassState) : Type 0 where
   pub pass : IsPassFor w k p

@@ -1,3 +1,4 @@
 pub mod Passes
+pub mod Taken
 pub mod HeldObjects
 pub mod Configs

@@ -1,6 +1,6 @@
 -- The passes and hosts that the tests hand from thread to thread.
 -- Private functions alone cite these words.
-use Rattle.std.specs.Prelude.{◌≡◌, ℕ, ◌<◌, true, false, [], ◌∷◌}
+use Rattle.std.specs.Prelude.{◌≡◌, ℕ, ◌<◌, true, false, [], ◌∷◌, length}
 use Rattle.mk_never.specs.declared.values.Value.TheVariants.{Null}
 use Rattle.mk_core.specs.{declared.events.Seat.TheVariants.{Caller, Marker, Host}, Moments.none_is_held}
 use Rattle.mk_core.specs.Order.{host_has_turn}
@@ -9,6 +9,7 @@ use Rattle.mk_caller.specs.States.{value_of, IsIdleCaller}
 use Rattle.mk_marker.specs.Markers.{IsOut}
 use Rattle.mk_cycle.specs.EngineLaw.{IsAtPhase, IsFreeForCycle}
 use Rattle.mk_heap.specs.Hosts.{HostState}
+use Rattle.mk_run.specs.Joining.{IsFirstPass}
 
 -- a caller's pass, whose register 1 is null
 pub record HoldsNull (p : PassState) : Type 0 where
@@ -22,20 +23,19 @@ pub record StaysNull (p q : PassState) : Type 0 where
   pub is : q ≡ record p { seen = q.seen }
   pub null : HoldsNull q
 
--- the pass of caller k before its first call
-pub record IsFirstPass (w : WordsState) (k : ℕ) (p : PassState) : Type 0 where
-  pub table : p.table ≡ w
-  pub seat : p.seat ≡ Caller k
-  pub alone : p.seats ≡ Caller k ∷ []
-  pub seen : p.seen ≡ []
-  pub idle : IsIdleCaller p
-
 -- the pass of caller k, with no call in flight
 pub record IsPassFor (w : WordsState) (k : ℕ) (p : PassState) : Type 0 where
   pub table : p.table ≡ w
   pub seat : p.seat ≡ Caller k
   pub alone : p.seats ≡ Caller k ∷ []
   pub idle : IsIdleCaller p
+
+-- the passes of both callers of a heap that has types, before their first calls
+pub record AreOfTwo (w : WordsState) (p q : PassState) : Type 0 where
+  pub two : w.config.callers ≡ 2
+  pub ty : 0 < length w.config.types
+  pub first : IsFirstPass w 0 p
+  pub second : IsFirstPass w 1 q
 
 -- the pass of the first marker, which is out
 pub record IsMarkerOut (w : WordsState) (p : PassState) : Type 0 where

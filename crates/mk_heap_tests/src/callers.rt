@@ -1,14 +1,13 @@
 //! Two callers at once, each on a thread of its own, whose calls are on registers that stay null.
 ghost use Rattle.std.specs.Prelude.{◌≡◌, ◌<◌, true};
-ghost use Rattle.mk_core.specs.Config.{IsWithinLimits};
-ghost use Rattle.mk_heap_tests.specs.Passes.{HoldsNull, IsFirstPass, IsPassFor, StaysNull};
+ghost use Rattle.mk_heap.specs.Hosts.{first_host, with_caller_made};
+ghost use Rattle.mk_run.specs.Joining.{IsFirstPass};
+ghost use Rattle.mk_heap_tests.specs.Passes.{AreOfTwo, HoldsNull, IsPassFor, StaysNull};
 
+use crate::beginnings::{TwoCallers, close};
 use mk_caller::{Caller, Refusal};
-use mk_core::Config;
 use mk_heap::{Heap, Report};
-use mk_never::NoMemory;
 use mk_words::{Held, Pass};
-use std::alloc::Global;
 use std::thread;
 use std::thread::Threads;
 
@@ -99,27 +98,20 @@ fn make_both<R: Threads + Sync>(rt: &R, heap: &Heap, first: Pass, second: Pass) 
 }
 
 /// The report of a heap whose two callers made their rounds at once, and whether all was fine.
-pub(crate) fn two_at_once<R: Threads + Sync>(
-    rt: &R,
-    alloc: Global,
-    config: &Config,
-) -> Result<(Report, bool), NoMemory>
-    requires limits { IsWithinLimits config.now }
-    requires two { config.now.callers ≡ 2 }
+pub(crate) fn two_at_once<R: Threads + Sync>(rt: &R, two: TwoCallers) -> (Report, bool)
+    requires host { two.1 ≡ with_caller_made (with_caller_made (first_host two.0)) }
+    requires callers { AreOfTwo two.0 two.2 two.3 }
 {
-    let (heap, mut host) = Heap::new(alloc, config)?;
-    let first = host.caller(&heap).finish();
-    let second = host.caller(&heap).finish();
+    let (heap, host, first, second) = two;
     let (one, other) = make_both(rt, &heap, first, second);
     let fine = one.fine & other.fine;
-    host.join_caller(&heap, other.pass);
-    host.join_caller(&heap, one.pass);
-    Ok((heap.close(host), fine))
+    (close(heap, host, one.pass, other.pass), fine)
 }
 
 #[cfg(test)]
 mod tests {
     use super::two_at_once;
+    use crate::beginnings::two_callers;
     use crate::configs::one_page;
     use mk_never::Kind;
     use std::test::Fail;
@@ -129,7 +121,8 @@ mod tests {
     fn two_callers_make_their_calls_at_once(rt: HostRuntime) -> Result<(), Fail> {
         let mut config = one_page(rt.alloc(), 2, 0, &[Kind::Num]).expect(&rt, "memory");
         config.globals.add(0).expect(&rt, "memory");
-        let (report, fine) = two_at_once(&rt, rt.alloc(), &config).expect(&rt, "memory");
+        let two = two_callers(rt.alloc(), &config).expect(&rt, "memory");
+        let (report, fine) = two_at_once(&rt, two);
         assert!(rt; fine);
         assert_eq!(rt; (report.held, report.fresh, report.quarantined), (0, 0, 0));
         assert_eq!(rt; (report.released, report.cycles, report.full), (0, 0, 0));

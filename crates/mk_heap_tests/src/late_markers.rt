@@ -1,17 +1,19 @@
 //! A marker that comes before a cycle, to a cycle that is on, and when all is over. All is done on one thread.
-ghost use Rattle.std.specs.Prelude.{◌≡◌, ◌<◌, length, true, false, IfSome};
+ghost use Rattle.std.specs.Prelude.{◌≡◌, ◌<◌, length, true, false, IfOk, IfSome};
 ghost use Rattle.mk_core.specs.Config.{IsWithinLimits};
 ghost use Rattle.mk_marker.specs.Markers.{attends};
-ghost use Rattle.mk_heap_tests.specs.Passes.{IsFirstPass, IsHostsPass, IsMarkerOut, HostIsMarking};
+ghost use Rattle.mk_run.specs.Joining.{IsFirstPass};
+ghost use Rattle.mk_heap_tests.specs.Passes.{HostIsMarking, IsHostsPass, IsMarkerOut};
 
+use crate::beginnings::Split;
 use crate::objects::make;
+use crate::turns::take;
 use mk_caller::Caller;
 use mk_core::{Config, Phase, Seat, Word};
 use mk_cycle::{Engine, begin_cycle};
 use mk_heap::{Heap, Report};
 use mk_marker::{Marker, Work};
 use mk_never::NoMemory;
-use mk_waiting::take_turn;
 use mk_words::{Pass, Turn, Words};
 use std::alloc::Global;
 use std::sync::Wait;
@@ -54,9 +56,7 @@ fn begin<E: Engine, R: Threads + Wait + Sync>(
     requires made_for { E.made_for engine.old ≡ words.now.config.pages }
     ensures { IfSome result (λ turn. HostIsMarking words.now turn.pass) }
 {
-    host.is_in_order();
-    let mut turn = take_turn(rt, words, host, None);
-    turn.is_in_order();
+    let mut turn = take(rt, words, host, None);
     let found = turn.look(words, Word::Phase);
     turn.is_in_order();
     if Phase::Marking.is_in(found) {
@@ -86,53 +86,49 @@ fn want_close(words: &Words, turn: Turn, marker: &mut Marker) -> Option<Work>
     Some(told)
 }
 
-/// The caller creates an object, and a cycle begins. What the marker is told when its close is wanted, if it found no
-/// cycle before, and one cell to scan in this one.
-fn mark_beside<E: Engine, R: Threads + Wait + Sync>(
-    rt: &R,
-    words: &Words,
-    host: Pass,
-    caller: Pass,
-    marker: Pass,
-    engine: &mut E,
-) -> Option<Work>
-    requires host { IsHostsPass words.now host }
-    requires caller { IsFirstPass words.now 0 caller }
-    requires marker { IsMarkerOut words.now marker }
-    requires one { words.now.config.callers ≡ 1 }
-    requires ty { 0 < length words.now.config.types }
-    requires made_for { E.made_for engine.old ≡ words.now.config.pages }
-{
-    let mut marker = Marker::new(words, marker);
-    if !finds_phase(&mut marker, Phase::None) {
-        return None;
-    }
-    let mut caller = Caller::new(words, caller);
-    if !make(rt, &mut caller, engine, 0) {
-        return None;
-    }
-    let turn = begin(rt, words, host, engine)?;
-    if !scans_one_cell(&mut marker) {
-        return None;
-    }
-    want_close(words, turn, &mut marker)
-}
-
-/// The same on a table of its own, which is dropped with the turn.
-pub(crate) fn come_to_a_cycle<E: Engine, R: Threads + Wait + Sync>(
-    rt: &R,
-    alloc: Global,
-    config: &Config,
-) -> Result<Option<Work>, NoMemory>
+/// The passes are those of the one caller and of the one marker of a heap.
+pub(crate) fn split_for_one(alloc: Global, config: &Config) -> Result<Split, NoMemory>
     requires limits { IsWithinLimits config.now }
     requires one { config.now.callers ≡ 1 }
-    requires ty { 0 < length config.now.types }
+    ensures config { IfOk result (λ made. made.0.config ≡ config.now) }
+    ensures host { IfOk result (λ made. IsHostsPass made.0 made.1) }
+    ensures caller { IfOk result (λ made. IsFirstPass made.0 0 made.2) }
+    ensures marker { IfOk result (λ made. IsMarkerOut made.0 made.3) }
 {
-    let mut engine = E::make(alloc, config.pages)?;
     let (words, mut host) = Words::new(alloc, config)?;
     let caller = Words::split(&words, &mut host, Seat::Caller(0));
     let marker = Words::split(&words, &mut host, Seat::Marker(0));
-    Ok(mark_beside(rt, &words, host, caller, marker, &mut engine))
+    Ok((words, host, caller, marker))
+}
+
+/// The caller creates an object, and a cycle begins. What the marker is told when its close is wanted, if it found no
+/// cycle before, and one cell to scan in this one.
+pub(crate) fn come_to_a_cycle<E: Engine, R: Threads + Wait + Sync>(
+    rt: &R,
+    split: Split,
+    engine: &mut E,
+) -> Option<Work>
+    requires host { IsHostsPass split.0 split.1 }
+    requires caller { IsFirstPass split.0 0 split.2 }
+    requires marker { IsMarkerOut split.0 split.3 }
+    requires one { split.0.config.callers ≡ 1 }
+    requires ty { 0 < length split.0.config.types }
+    requires made_for { E.made_for engine.old ≡ split.0.config.pages }
+{
+    let (words, host, caller, marker) = split;
+    let mut marker = Marker::new(&words, marker);
+    if !finds_phase(&mut marker, Phase::None) {
+        return None;
+    }
+    let mut caller = Caller::new(&words, caller);
+    if !make(rt, &mut caller, engine, 0) {
+        return None;
+    }
+    let turn = begin(rt, &words, host, engine)?;
+    if !scans_one_cell(&mut marker) {
+        return None;
+    }
+    want_close(&words, turn, &mut marker)
 }
 
 /// The marker comes when the one caller is joined and all is over. The report, if it finds that.
@@ -161,8 +157,9 @@ pub(crate) fn come_when_over<E: Engine, R: Threads + Wait + Sync>(
 
 #[cfg(test)]
 mod tests {
-    use super::{come_to_a_cycle, come_when_over};
+    use super::{come_to_a_cycle, come_when_over, split_for_one};
     use crate::configs::one_page;
+    use mk_cycle::Engine;
     use mk_engines::MostlyEngine;
     use mk_marker::Work;
     use mk_never::Kind;
@@ -178,10 +175,12 @@ mod tests {
             &[Kind::To { ty: 0, offset: 0 }, Kind::Num],
         )
         .expect(&rt, "memory");
-        let told = come_to_a_cycle::<MostlyEngine, HostRuntime>(&rt, rt.alloc(), &config).expect(
-            &rt, "memory",
+        let split = split_for_one(rt.alloc(), &config).expect(&rt, "memory");
+        let mut engine = MostlyEngine::make(rt.alloc(), config.pages).expect(&rt, "memory");
+        assert_eq!(rt;
+            come_to_a_cycle(&rt, split, &mut engine),
+            Some(Work::Wanted)
         );
-        assert_eq!(rt; told, Some(Work::Wanted));
         Ok(())
     }
 

@@ -1,19 +1,18 @@
 //! Objects of two words that callers make and free by direct calls, on one page of 32 cells.
-ghost use Rattle.std.specs.Prelude.{◌≡◌, ◌<◌, length, true};
-ghost use Rattle.mk_core.specs.Config.{IsWithinLimits};
-ghost use Rattle.mk_heap_tests.specs.HeldObjects.{MayMakeObjects, MayAllocate};
+ghost use Rattle.std.specs.Prelude.{◌≡◌, ◌<◌};
+ghost use Rattle.mk_heap.specs.Hosts.{first_host, with_caller_made};
+ghost use Rattle.mk_heap_tests.specs.{HeldObjects.{BothGoOn, BothMayAllocate, GoesOn, MayAllocate}, Passes.AreOfTwo};
 
+use crate::beginnings::{TwoCallers, close};
 use mk_alloc::{Double, Freed, free_object, new_object};
 use mk_caller::Caller;
-use mk_core::Config;
 use mk_cycle::Engine;
-use mk_heap::{Heap, Report};
-use mk_never::NoMemory;
-use std::alloc::Global;
+use mk_heap::Report;
 use std::sync::Wait;
 use std::thread::Threads;
 
 /// Sets a register to an object of the first type, and says whether it fits.
+#[tactic(auto, using(crate::proofs::HeldObjects::number_is, crate::proofs::HeldObjects::is_alone))]
 pub(crate) fn make<E: Engine, R: Threads + Wait + Sync>(
     rt: &R,
     caller: &mut Caller,
@@ -22,14 +21,14 @@ pub(crate) fn make<E: Engine, R: Threads + Wait + Sync>(
 ) -> bool
     requires may { MayAllocate (E.made_for engine.old) caller.old }
     requires register { d < 8 }
-    ensures may { MayAllocate (E.made_for engine.new) caller.new }
-    ensures same { caller.new.pass ≡ record caller.old.pass { seen = caller.new.pass.seen } }
+    ensures { GoesOn (E.made_for engine.new) caller.old caller.new }
 {
     new_object(rt, caller, engine, d, 0).is_ok()
 }
 
 /// Frees what a register points to.
-pub(crate) fn free<E: Engine, R: Threads + Wait + Sync>(
+#[tactic(auto, using(crate::proofs::HeldObjects::number_is, crate::proofs::HeldObjects::is_alone))]
+fn free<E: Engine, R: Threads + Wait + Sync>(
     rt: &R,
     caller: &mut Caller,
     engine: &mut E,
@@ -37,42 +36,24 @@ pub(crate) fn free<E: Engine, R: Threads + Wait + Sync>(
 ) -> Result<Freed, Double>
     requires may { MayAllocate (E.made_for engine.old) caller.old }
     requires register { p < 8 }
-    ensures may { MayAllocate (E.made_for engine.new) caller.new }
-    ensures same { caller.new.pass ≡ record caller.old.pass { seen = caller.new.pass.seen } }
+    ensures { GoesOn (E.made_for engine.new) caller.old caller.new }
 {
     free_object(rt, caller, engine, p)
 }
 
-/// Sets each register to a new object, and says whether all fit.
-pub(crate) fn make_eight<E: Engine, R: Threads + Wait + Sync>(
+/// Creates this many objects, each in the next of the eight registers, and says whether all fit.
+pub(crate) fn make_many<E: Engine, R: Threads + Wait + Sync>(
     rt: &R,
     caller: &mut Caller,
     engine: &mut E,
+    count: u64,
 ) -> bool
     requires may { MayAllocate (E.made_for engine.old) caller.old }
-    ensures may { MayAllocate (E.made_for engine.new) caller.new }
-    ensures same { caller.new.pass ≡ record caller.old.pass { seen = caller.new.pass.seen } }
+    ensures { GoesOn (E.made_for engine.new) caller.old caller.new }
 {
     let mut all_fit = true;
-    for d in 0..8 {
-        all_fit &= make(rt, caller, engine, d);
-    }
-    all_fit
-}
-
-/// The same three times, in the same registers.
-pub(crate) fn make_eight_thrice<E: Engine, R: Threads + Wait + Sync>(
-    rt: &R,
-    caller: &mut Caller,
-    engine: &mut E,
-) -> bool
-    requires may { MayAllocate (E.made_for engine.old) caller.old }
-    ensures may { MayAllocate (E.made_for engine.new) caller.new }
-    ensures same { caller.new.pass ≡ record caller.old.pass { seen = caller.new.pass.seen } }
-{
-    let mut all_fit = true;
-    for _eight in 0..3 {
-        all_fit &= make_eight(rt, caller, engine);
+    for index in 0..count {
+        all_fit &= make(rt, caller, engine, (index % 8) as u8);
     }
     all_fit
 }
@@ -88,8 +69,7 @@ fn free_eight<E: Engine, R: Threads + Wait + Sync>(
     engine: &mut E,
 ) -> bool
     requires may { MayAllocate (E.made_for engine.old) caller.old }
-    ensures may { MayAllocate (E.made_for engine.new) caller.new }
-    ensures same { caller.new.pass ≡ record caller.old.pass { seen = caller.new.pass.seen } }
+    ensures { GoesOn (E.made_for engine.new) caller.old caller.new }
 {
     let mut none_due = true;
     for p in 0..8 {
@@ -116,22 +96,17 @@ fn fill_and_free<E: Engine, R: Threads + Wait + Sync>(
     second: &mut Caller,
     engine: &mut E,
 ) -> Answers
-    requires first { MayAllocate (E.made_for engine.old) first.old }
-    requires second { MayMakeObjects second.old }
-    requires one_table { second.old.pass.table ≡ first.old.pass.table }
-    ensures first { MayMakeObjects first.new }
-    ensures second { MayMakeObjects second.new }
-    ensures same_first { first.new.pass ≡ record first.old.pass { seen = first.new.pass.seen } }
-    ensures same_second { second.new.pass ≡ record second.old.pass { seen = second.new.pass.seen } }
+    requires may { BothMayAllocate (E.made_for engine.old) first.old second.old }
+    ensures { BothGoOn (E.made_for engine.new) first.old second.old first.new second.new }
 {
-    let three_times = make_eight_thrice(rt, first, engine);
-    let once = make_eight(rt, second, engine);
+    let of_first = make_many(rt, first, engine, 24);
+    let of_second = make_many(rt, second, engine, 8);
     let one_more_fits = make(rt, first, engine, 0);
     let eight_undue = free_eight(rt, first, engine);
     let ninth = free(rt, second, engine, 0);
     let again = free(rt, second, engine, 0);
     Answers {
-        all_fit: three_times & once,
+        all_fit: of_first & of_second,
         one_more_fits,
         eight_undue,
         ninth_due: is_freed(ninth, true),
@@ -139,30 +114,31 @@ fn fill_and_free<E: Engine, R: Threads + Wait + Sync>(
     }
 }
 
-/// The same on a heap of its own, and its report.
+/// The same on a heap of two callers, and its report.
 pub(crate) fn fill_a_page<E: Engine, R: Threads + Wait + Sync>(
     rt: &R,
-    alloc: Global,
-    config: &Config,
-) -> Result<(Answers, Report), NoMemory>
-    requires limits { IsWithinLimits config.now }
-    requires two { config.now.callers ≡ 2 }
-    requires ty { 0 < length config.now.types }
+    two: TwoCallers,
+    engine: &mut E,
+) -> (Answers, Report)
+    requires host { two.1 ≡ with_caller_made (with_caller_made (first_host two.0)) }
+    requires callers { AreOfTwo two.0 two.2 two.3 }
+    requires made_for { E.made_for engine.old ≡ two.0.config.pages }
 {
-    let mut engine = E::make(alloc, config.pages)?;
-    let (heap, mut host) = Heap::new(alloc, config)?;
-    let mut first = host.caller(&heap);
-    let mut second = host.caller(&heap);
-    let answers = fill_and_free(rt, &mut first, &mut second, &mut engine);
-    host.join_caller(&heap, second.finish());
-    host.join_caller(&heap, first.finish());
-    Ok((answers, heap.close(host)))
+    let (heap, host, first, second) = two;
+    let mut one = Caller::new(heap.words(), first);
+    let mut other = Caller::new(heap.words(), second);
+    let answers = fill_and_free(rt, &mut one, &mut other, engine);
+    let first = one.finish();
+    let second = other.finish();
+    (answers, close(heap, host, first, second))
 }
 
 #[cfg(test)]
 mod tests {
     use super::{Answers, fill_a_page};
+    use crate::beginnings::two_callers;
     use crate::configs::one_page;
+    use mk_cycle::Engine;
     use mk_engines::StopEngine;
     use mk_never::Kind;
     use std::test::Fail;
@@ -180,11 +156,9 @@ mod tests {
             ninth_due: true,
             ninth_again: false,
         };
-        let (answers, report) = fill_a_page::<StopEngine, HostRuntime>(
-            &rt,
-            rt.alloc(),
-            &config,
-        ).expect(&rt, "memory");
+        let two = two_callers(rt.alloc(), &config).expect(&rt, "memory");
+        let mut engine = StopEngine::make(rt.alloc(), config.pages).expect(&rt, "memory");
+        let (answers, report) = fill_a_page(&rt, two, &mut engine);
         assert_eq!(rt; answers, expected);
         assert_eq!(rt; (report.held, report.fresh, report.quarantined), (64, 0, 9));
         assert_eq!(rt; (report.released, report.cycles, report.full), (0, 2, 1));

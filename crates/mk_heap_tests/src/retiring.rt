@@ -1,17 +1,15 @@
 //! Objects freed by direct calls under the turn, on one page of 32 cells. No cycle is made where a free is due.
-ghost use Rattle.std.specs.Prelude.{◌≡◌, ◌<◌, length, IfSome};
-ghost use Rattle.mk_core.specs.Config.{IsWithinLimits};
-ghost use Rattle.mk_heap_tests.specs.HeldObjects.{IsPassOfObjects};
+ghost use Rattle.std.specs.Prelude.{◌≡◌, ◌<◌, IfSome};
+ghost use Rattle.mk_heap_tests.specs.{HeldObjects.IsPassOfObjects, Passes.AreOfTwo};
 
-use crate::objects::{make_eight, make_eight_thrice};
+use crate::beginnings::Split;
+use crate::objects::make_many;
+use crate::turns::take;
 use mk_alloc::{Double, Freed, retire_object};
-use mk_core::Config;
+use mk_caller::Caller;
 use mk_cycle::Engine;
-use mk_heap::Heap;
-use mk_never::{NoMemory, Op};
-use mk_waiting::take_turn;
+use mk_never::Op;
 use mk_words::{Pass, Words};
-use std::alloc::Global;
 use std::sync::Wait;
 use std::thread::Threads;
 
@@ -28,24 +26,18 @@ fn retire<R: Threads + Wait + Sync>(
     requires register { p < 8 }
     ensures { IfSome result.1 (λ back. IsPassOfObjects words.now number back) }
 {
-    home.is_in_order();
-    let mut turn = take_turn(rt, words, home, Some(Op::Free { p }));
-    turn.is_in_order();
+    let mut turn = take(rt, words, home, Some(Op::Free { p }));
     match retire_object(rt, words, &mut turn, p) {
         Ok(freed) => {
             turn.is_in_order();
             if freed.due {
                 return (Ok(freed), None);
             }
-            let back = turn.give(words);
-            back.is_in_order();
-            (Ok(freed), Some(back))
+            (Ok(freed), Some(turn.give(words)))
         }
         Err(double) => {
             turn.is_in_order();
-            let back = turn.give(words);
-            back.is_in_order();
-            (Err(double), Some(back))
+            (Err(double), Some(turn.give(words)))
         }
     }
 }
@@ -98,35 +90,33 @@ fn retire_nine<R: Threads + Wait + Sync>(
     })
 }
 
-/// The same after 32 objects on a heap of its own, if all fit.
+/// The same after 32 objects, if all fit.
 pub(crate) fn fill_and_retire<E: Engine, R: Threads + Wait + Sync>(
     rt: &R,
-    alloc: Global,
-    config: &Config,
-) -> Result<Option<Answers>, NoMemory>
-    requires limits { IsWithinLimits config.now }
-    requires two { config.now.callers ≡ 2 }
-    requires ty { 0 < length config.now.types }
+    split: Split,
+    engine: &mut E,
+) -> Option<Answers>
+    requires callers { AreOfTwo split.0 split.2 split.3 }
+    requires made_for { E.made_for engine.old ≡ split.0.config.pages }
 {
-    let mut engine = E::make(alloc, config.pages)?;
-    let (heap, mut host) = Heap::new(alloc, config)?;
-    let mut first = host.caller(&heap);
-    let mut second = host.caller(&heap);
-    first.is_idle();
-    second.is_idle();
-    let three_times = make_eight_thrice(rt, &mut first, &mut engine);
-    let once = make_eight(rt, &mut second, &mut engine);
-    if !(three_times & once) {
-        return Ok(None);
+    let (words, _host, first, second) = split;
+    let mut one = Caller::new(&words, first);
+    let mut other = Caller::new(&words, second);
+    let of_first = make_many(rt, &mut one, engine, 24);
+    let of_second = make_many(rt, &mut other, engine, 8);
+    if !(of_first & of_second) {
+        return None;
     }
-    Ok(retire_nine(rt, heap.words(), first.finish(), second.finish()))
+    retire_nine(rt, &words, one.finish(), other.finish())
 }
 
 #[cfg(test)]
 mod tests {
     use super::{Answers, fill_and_retire};
+    use crate::beginnings::split_callers;
     use crate::configs::one_page;
     use mk_alloc::{Double, Freed};
+    use mk_cycle::Engine;
     use mk_engines::StopEngine;
     use mk_never::Kind;
     use std::test::Fail;
@@ -135,9 +125,9 @@ mod tests {
     #[test]
     fn the_ninth_that_is_retired_is_due(rt: HostRuntime) -> Result<(), Fail> {
         let config = one_page(rt.alloc(), 2, 0, &[Kind::Num, Kind::Num]).expect(&rt, "memory");
-        let answers = fill_and_retire::<StopEngine, HostRuntime>(&rt, rt.alloc(), &config).expect(
-            &rt, "memory",
-        );
+        let split = split_callers(rt.alloc(), &config).expect(&rt, "memory");
+        let mut engine = StopEngine::make(rt.alloc(), config.pages).expect(&rt, "memory");
+        let answers = fill_and_retire(&rt, split, &mut engine);
         let expected = Answers {
             eighth_again: Err(Double),
             ninth: Ok(Freed { due: true }),

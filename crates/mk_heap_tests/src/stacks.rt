@@ -1,10 +1,14 @@
 //! Callers on one stack, each on a thread of its own: what became of their jobs, and what is left.
 
+use mk_cycle::Engine;
 use mk_engines::{MostlyEngine, StopEngine};
+use mk_never::NoMemory;
 use mk_run::NoPace;
-use mk_stack::{Done, Job, Jobs, run_stack};
+use mk_stack::{Done, Job, Jobs, StackOutcome, run_stack};
 use std::alloc::{AllocError, Global};
+use std::sync::Wait;
 use std::test::Fail;
+use std::thread::Threads;
 
 /// The jobs of each caller of a large run.
 const JOBS_EACH: u64 = 25_000;
@@ -102,6 +106,15 @@ fn one_order_of_three_is_not_that_of_a_stack(rt: HostRuntime) -> Result<(), Fail
     Ok(())
 }
 
+/// The outcome of one caller's jobs, on a heap of one page.
+fn run_alone<E: Engine + Send, R: Threads + Wait + Sync>(
+    rt: &R,
+    alloc: Global,
+    list: Vec<Job>,
+) -> Result<StackOutcome, NoMemory> {
+    run_stack::<E, NoPace, R>(rt, alloc, 1, 1, 0, &[Jobs { list }], &NoPace)
+}
+
 /// One caller, so that all is known.
 #[test]
 fn one_caller_pops_what_it_pushed_last(rt: HostRuntime) -> Result<(), Fail> {
@@ -129,18 +142,8 @@ fn one_caller_pops_what_it_pushed_last(rt: HostRuntime) -> Result<(), Fail> {
         Done::Pushed,
         Done::Pushed,
     ];
-    let lists = [Jobs {
-        list: list.to_vec(rt.alloc())?,
-    }];
-    let run = run_stack::<StopEngine, NoPace, HostRuntime>(
-        &rt,
-        rt.alloc(),
-        1,
-        1,
-        0,
-        &lists,
-        &NoPace,
-    );
+    let jobs = list.to_vec(rt.alloc())?;
+    let run = run_alone::<StopEngine, HostRuntime>(&rt, rt.alloc(), jobs);
     let outcome = run.expect(&rt, "memory");
     assert_eq!(rt; outcome.done.len(), 1);
     for found in &outcome.done {
@@ -175,16 +178,7 @@ fn one_page_has_room_for_31_nodes(rt: HostRuntime) -> Result<(), Fail> {
         list.push(job)?;
         dones.push(done)?;
     }
-    let lists = [Jobs { list }];
-    let run = run_stack::<MostlyEngine, NoPace, HostRuntime>(
-        &rt,
-        rt.alloc(),
-        1,
-        1,
-        0,
-        &lists,
-        &NoPace,
-    );
+    let run = run_alone::<MostlyEngine, HostRuntime>(&rt, rt.alloc(), list);
     let outcome = run.expect(&rt, "memory");
     assert_eq!(rt; outcome.done.len(), 1);
     for found in &outcome.done {

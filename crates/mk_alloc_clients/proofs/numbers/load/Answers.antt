@@ -1,4 +1,4 @@
-use Rattle.mk_alloc_clients.proofs.OwnedCalls.{held_keeps, load_has_no_fault, load_has_no_null, loaded, may_load}
+use Rattle.mk_alloc_clients.proofs.OwnedCalls.{held_keeps, loaded, may_load}
 use Rattle.mk_alloc_clients.proofs.numbers.load.Goals as goal
 
 pub get_num-loaded-requires-clause-admitted : goal.get_num-loaded-requires-clause-admitted
@@ -6,13 +6,13 @@ get_num-loaded-requires-clause-admitted c = may_load c.args.caller.now.pass c.ar
 
 pub unreachable-requires : goal.unreachable-requires
 unreachable-requires c =
-    load_has_no_fault c.args.d c.requires.owned c.is_idle.ensures.history
-    (rw c.in-Fault.is at c.in-Err.ensures.refused)
+    let refused = rw c.in-Fault.is at c.in-Err.ensures.refused in
+    let tells = (loaded c.args.d c.requires.owned c.is_idle.ensures.history refused.0).tells in cc
 
 pub unreachable-requires-in-Null : goal.unreachable-requires-in-Null
 unreachable-requires-in-Null c =
-    load_has_no_null c.args.d c.requires.owned c.is_idle.ensures.history
-    (rw c.in-Null.is at c.in-Err.ensures.refused)
+    let refused = rw c.in-Null.is at c.in-Err.ensures.refused in
+    let tells = (loaded c.args.d c.requires.owned c.is_idle.ensures.history refused.0).tells in cc
 
 pub returns-in-Ok-clause-loaded : goal.returns-in-Ok-clause-loaded
 returns-in-Ok-clause-loaded c =
@@ -23,5 +23,4 @@ returns-in-Ok-clause-still c = (loaded c.args.d c.requires.owned c.is_idle.ensur
 
 pub returns-in-Held-clause-still : goal.returns-in-Held-clause-still
 returns-in-Held-clause-still c =
-    held_keeps c.args.d c.requires.owned c.is_idle.ensures.history
-    (rw c.in-Held.is at c.in-Err.ensures.refused)
+    held_keeps _ c.requires.owned c.is_idle.ensures.history (rw c.in-Held.is at c.in-Err.ensures.refused)

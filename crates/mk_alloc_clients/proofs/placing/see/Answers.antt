@@ -35,6 +35,5 @@ returns-clause-held c =
 
 pub returns-clause-marking : goal.returns-clause-marking
 returns-clause-marking c =
-    c.is_marking-marking.ensures.finds
-    ∙ ap (λ n. n == 1) (phase_kept c.look_at-held.new.turn.pass c.is_marking-marking.new.turn.pass
-    c.is_marking-marking.ensures.looks)
+    c.is_marking-marking.ensures.finds ∙ ap (λ n. n == 1)
+    (phase_kept c.look_at-held.new.turn.pass c.is_marking-marking.new.turn.pass c.is_marking-marking.ensures.looks)

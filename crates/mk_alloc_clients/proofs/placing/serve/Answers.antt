@@ -73,6 +73,5 @@ returns-clause-held c =
     let p : PassState = c.args.turn.now.pass in
     let k = knows x.After-is_in_order in
     let size : 2 ≡ words_made (object_for p) = sym (ap (λ (o : Object). words_made o) c.requires.number) in
-    counted_held c.requires.goes k (c.requires.held ∙ c.requires.exact) size
-    (tally_on c.requires.goes k (granted x.After-grant k (taken x.After-used k)) c.tally.ensures
-    c.is_in_order.ensures.history)
+    counted_held c.requires.goes k (c.requires.held ∙ c.requires.exact) size (tally_on c.requires.goes k
+    (granted x.After-grant k (taken x.After-used k)) c.tally.ensures c.is_in_order.ensures.history)

@@ -16,9 +16,8 @@ pub close-requires-clause-joined : goal.close-requires-clause-joined
 close-requires-clause-joined g c =
     let first : HostState = c.in_ok-heap.host in
     let p : PassState = c.finish.result in
-    let seats : p.seats ≡ Caller first.callers ∷ [] =
-    ap (λ (r : PassState). r.seats) (c.finish.ensures.pass ∙ c.clear-2.ensures.pass)
-    ∙ ap (λ (r : PassState). r.seats) c.clear.ensures.pass
+    let seats : p.seats ≡ Caller first.callers ∷ [] = ap (λ (r : PassState). r.seats)
+    (c.finish.ensures.pass ∙ c.clear-2.ensures.pass) ∙ ap (λ (r : PassState). r.seats) c.clear.ensures.pass
     ∙ ap (λ (x : CallerState). x.pass.seats) c.caller-caller.ensures.caller in
     one_is_joined c.in_ok-heap.heap first c.caller-caller.new.self c.cycle.new.self c.join_caller.new.self
     c.over.new.self p c.join_caller.new.self.pass.seen c.over.new.self.pass.seen c.in_ok-heap.ensures.host

@@ -1,37 +1,35 @@
 use Rattle.mk_laws.proofs.Vocabulary.{Host, Seat, ap, arith, is_number_of, subst, sym, ◌<◌, ◌∙◌, ◌≡◌}
-use Rattle.mk_heap_tests.proofs.{Vocabulary.{PassState, WordsState, in_turn}, JoinedHosts.{none_is_held_at, pass_of}}
+use Rattle.mk_heap_tests.proofs.Vocabulary.{PassState, WordsState, in_turn}
 use Rattle.mk_cycle.proofs.HoldingSteps.{hold_allowed}
 use Rattle.mk_heap.proofs.{ClientSteps.pass_of_later, Overs.fresh_free}
+use Rattle.mk_heap_tests.proofs.{JoinedHosts.none_is_held_at, JoinedHosts.pass_of, LateMarkers.host_may}
 use Rattle.mk_heap_tests.proofs.gates.hold_first.Goals as goal
-
-pub new-first-requires-clause-idle : goal.new-first-requires-clause-idle
-new-first-requires-clause-idle c = c.requires.first.idle
-
-pub new-second-requires-clause-idle : goal.new-second-requires-clause-idle
-new-second-requires-clause-idle c = c.requires.second.idle
 
 pub clear-before-requires-clause-whole : goal.clear-before-requires-clause-whole
 clear-before-requires-clause-whole c =
-    pass_of c.args.words.now 0 c.args.first c.new-first.result c.requires.first (omega arith) c.new-first.ensures
+    pass_of c.new-first.result c.requires.callers.first (omega (arith, c.requires.callers.two)) c.new-first.ensures
+
+pub try_take-requires-clause-enabled : goal.try_take-requires-clause-enabled
+try_take-requires-clause-enabled c = host_may c.requires.host
 
 pub try_hold-requires-clause-enabled : goal.try_hold-requires-clause-enabled
 try_hold-requires-clause-enabled c =
-    let w : WordsState = c.args.words.now in
+    let w : WordsState = c.args.split.0 in
     let q : PassState = c.in-Ok.turn.pass in
     let o = c.is_in_order.ensures in
     let made = c.in-Ok.ensures.made.makes.is in
-    let table : q.table ≡ w = ap (λ (x : PassState). x.table) made ∙ c.requires.one_table in
-    let seat : q.seat ≡ Host = ap (λ (x : PassState). x.seat) made ∙ c.requires.host in
+    let table : q.table ≡ w = ap (λ (x : PassState). x.table) made ∙ c.requires.host.table in
+    let seat : q.seat ≡ Host = ap (λ (x : PassState). x.seat) made ∙ c.requires.host.seat in
     let some : 0 < q.table.config.callers =
-    subst (λ (v : WordsState). 0 < v.config.callers) (sym table) (let two = c.requires.two in omega arith) in
+    subst (λ (v : WordsState). 0 < v.config.callers) (sym table) (omega (arith, c.requires.callers.two)) in
     hold_allowed q (in_turn q o.own o.turn o.history) (fresh_free c.in-Ok.ensures.fresh) 0 some
     (ap (λ (s : Seat). is_number_of s 0) seat) (none_is_held_at q 0 some c.in-Ok.ensures.fresh.gates)
 
 pub clear-requires-clause-whole : goal.clear-requires-clause-whole
 clear-requires-clause-whole c =
     pass_of_later c.clear-before.new.caller.pass c.clear-before.ensures.pass
-    (pass_of c.args.words.now 0 c.args.first c.new-first.result c.requires.first (omega arith) c.new-first.ensures)
+    (pass_of c.new-first.result c.requires.callers.first (omega (arith, c.requires.callers.two)) c.new-first.ensures)
 
 pub clear-requires-2-clause-whole : goal.clear-requires-2-clause-whole
 clear-requires-2-clause-whole c =
-    pass_of c.args.words.now 1 c.args.second c.new-second.result c.requires.second (omega arith) c.new-second.ensures
+    pass_of c.new-second.result c.requires.callers.second (omega (arith, c.requires.callers.two)) c.new-second.ensures

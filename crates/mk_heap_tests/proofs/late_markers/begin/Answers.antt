@@ -1,27 +1,19 @@
-use Rattle.mk_heap_tests.proofs.{Vocabulary.in_turn, LateMarkers.{HasLooked, host_may, idle, looked_table, marking}}
-use Rattle.mk_heap_tests.proofs.late_markers.begin.Goals.{After-look-found}
 use Rattle.mk_core.proofs.PhaseTests.{not_in_word}
+use Rattle.mk_heap_tests.proofs.LateMarkers.{HasLooked, host_may, idle, looked_table, marking}
+use Rattle.mk_heap_tests.proofs.late_markers.begin.Goals.{After-look-found}
 use Rattle.mk_heap_tests.proofs.late_markers.begin.Goals as goal
 
-pub take_turn-turn-requires-clause-enabled : goal.take_turn-turn-requires-clause-enabled
-take_turn-turn-requires-clause-enabled g c = host_may c.args.words.now c.args.host c.requires.host
+pub take-turn-requires-clause-enabled : goal.take-turn-requires-clause-enabled
+take-turn-requires-clause-enabled g c = host_may c.requires.host
 
-looked : (g : _) (c : After-look-found g) → HasLooked c.args.words.now c.args.host c.take_turn-turn.result.pass
+looked : (g : _) (c : After-look-found g) → HasLooked c.args.words.now c.args.host c.take-turn.result.pass
     c.look-found.result c.look-found.new.self.pass
-looked g c =
-    let t = c.take_turn-turn in
-    let o = c.is_in_order-2.ensures in
-    record {
-      host = c.requires.host;
-      own = c.is_in_order.ensures.own;
-      takes = t.ensures.takes;
-      fresh = t.ensures.fresh;
-      exact = t.ensures.exact;
-      tidy = t.ensures.tidy;
-      turn = in_turn t.result.pass o.own o.turn o.history;
-      finds = c.look-found.ensures.finds;
-      acts = c.look-found.ensures.acts;
-    }
+looked g c = record {
+  host = c.requires.host;
+  taken = c.take-turn.ensures;
+  finds = c.look-found.ensures.finds;
+  acts = c.look-found.ensures.acts;
+}
 
 pub begin_cycle-requires-clause-one_table : goal.begin_cycle-requires-clause-one_table
 begin_cycle-requires-clause-one_table g c κs within =
@@ -39,6 +31,5 @@ begin_cycle-requires-clause-free g c κs within =
 
 pub returns : goal.returns
 returns g c =
-    marking (looked g (goal.at.returns g c).After-look-found)
-    (not_in_word c.look-found.result 1 c.is_in.result c.is_in.ensures c.if-is_in.false) c.begin_cycle.new.turn.pass
-    c.begin_cycle.ensures.law
+    marking (looked g (goal.at.returns g c).After-look-found) (not_in_word c.look-found.result 1 c.is_in.result
+    c.is_in.ensures c.if-is_in.false) c.begin_cycle.ensures.law

@@ -1,18 +1,14 @@
-use Rattle.mk_laws.proofs.Vocabulary.{Step, ap, is_held, subst, sym, true, ◌∙◌, ◌≡◌}
+use Rattle.mk_laws.proofs.Vocabulary.{Step, is_held, subst, sym, true, ◌∙◌, ◌≡◌}
 use Rattle.mk_heap_tests.proofs.Vocabulary.{IsEnabledTo, in_turn, now_of}
 use Rattle.mk_heap_tests.proofs.LateMarkers.{HasHeld, all_held, may_hold, may_want, on_ok, stop_table}
 use Rattle.mk_heap_tests.proofs.late_markers.want_close.Goals.{After-is_in_order-2}
 use Rattle.mk_words.specs.States.{TurnState}
 use Rattle.mk_heap_tests.proofs.late_markers.want_close.Goals as goal
 
-pub try_hold-requires-clause-one_table : goal.try_hold-requires-clause-one_table
-try_hold-requires-clause-one_table c = c.requires.turn.table
-
 pub try_hold-requires-clause-enabled : goal.try_hold-requires-clause-enabled
 try_hold-requires-clause-enabled c =
     let o = c.is_in_order.ensures in
-    may_hold c.args.words.now c.args.turn.pass c.requires.turn c.requires.one
-    (in_turn c.args.turn.pass o.own o.turn o.history)
+    may_hold c.args.words.now c.requires.turn c.requires.one (in_turn c.args.turn.pass o.own o.turn o.history)
 
 held : (c : After-is_in_order-2) → HasHeld c.args.words.now c.args.turn.pass c.try_hold.new.self.pass
 held c =
@@ -34,8 +30,7 @@ stopped-stop-requires c = all_held (held (goal.at.stopped-stop-requires c).After
 
 pub want-requires-clause-one_table : goal.want-requires-clause-one_table
 want-requires-clause-one_table c =
-    ap (λ (s : TurnState). s.pass.table) c.stopped-stop.ensures
-    ∙ stop_table (held (goal.at.want-requires-clause-one_table c).After-is_in_order-2)
+    cc (c.stopped-stop.ensures, stop_table (held (goal.at.want-requires-clause-one_table c).After-is_in_order-2))
 
 pub want-requires-clause-enabled : goal.want-requires-clause-enabled
 want-requires-clause-enabled c =

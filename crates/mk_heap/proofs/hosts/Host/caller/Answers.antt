@@ -10,9 +10,8 @@ new-requires-clause-idle c =
     let view = home_view c.take_home-home.ensures c.self.view_is in
     subst (λ (p : PassState). IsIdleCaller p) (sym c.split-pass.ensures.made)
     (next_is_idle (home_is c.take_home-home.ensures c.self.invariant)
-    (subst (λ (g : HostState). g.callers < g.pass.table.config.callers) (sym view)
-    (subst (λ (w : WordsState). c.args.self.now.callers < w.config.callers) (sym c.requires.one_table)
-    c.requires.more)))
+    (subst (λ (g : HostState). g.callers < g.pass.table.config.callers) (sym view) (subst
+    (λ (w : WordsState). c.args.self.now.callers < w.config.callers) (sym c.requires.one_table) c.requires.more)))
 
 pub invariant_of-self : goal.invariant_of-self
 invariant_of-self c =

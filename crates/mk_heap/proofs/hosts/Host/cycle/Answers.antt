@@ -1,4 +1,4 @@
-use Rattle.mk_laws.proofs.Vocabulary.{None, Step, arith, refl, subst, sym, ◌∙◌}
+use Rattle.mk_laws.proofs.Vocabulary.{None, arith, refl, subst, sym, ◌∙◌}
 use Rattle.mk_cycle.{proofs.Allowed.{in_turn}, specs.{Begun.EachIsBegun, EngineLaw.IsAtPhase}}
 use Rattle.mk_heap.proofs.{HomeCallers.{hosts_seat, none_by_phase, step_overs}, MovedHosts.{MovesOn, begin_moves}}
 use Rattle.mk_heap.{proofs.MovedHosts.{finish_moves, idle_moves, moved_is_host, moves_more}, specs.Hosts.{HostState}}
@@ -16,9 +16,8 @@ give-back-requires-clause-enabled g c = grind (arith, cycle_idle, give_allowed, 
 -- the host's pass as the cycle left it
 ended : (g : _) (c : After-finish_cycle-turn g) → MovesOn c.take_home-home.result c.finish_cycle-turn.result.0.pass
 ended g c =
-    finish_moves _ _ _
-    (begin_moves _ _ _ (idle_moves _ _ c.take_idle_turn-turn.ensures.takes) c.begin_cycle.ensures.law)
-    c.finish_cycle-turn.ensures.law
+    finish_moves _ _ _ (begin_moves _ _ _
+    (idle_moves _ _ c.take_idle_turn-turn.ensures.takes) c.begin_cycle.ensures.law) c.finish_cycle-turn.ensures.law
 
 pub invariant_of-self : goal.invariant_of-self
 invariant_of-self g c =

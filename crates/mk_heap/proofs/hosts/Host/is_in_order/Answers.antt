@@ -1,5 +1,5 @@
 use Rattle.mk_laws.proofs.Vocabulary.{IsHistory, IsTidy, subst}
-use Rattle.mk_heap.{proofs.HostsKept.{home_is, home_view}, specs.Hosts.{HostState}}
+use Rattle.mk_heap.{proofs.HostsKept.home_is, proofs.HostsKept.home_view, specs.Hosts.HostState}
 use Rattle.mk_heap.proofs.hosts.Host.is_in_order.Goals as goal
 
 pub returns-clause-seat : goal.returns-clause-seat

@@ -1,6 +1,0 @@
-use Rattle.mk_laws.proofs.Vocabulary.{arith}
-use Rattle.mk_heap_tests.proofs.NewTurns.{may_free}
-use Rattle.mk_heap_tests.proofs.turns.host_is_told.Goals as goal
-
-pub try_take-requires-clause-enabled : goal.try_take-requires-clause-enabled
-try_take-requires-clause-enabled c = may_free c.args.words.now 1 c.args.caller c.requires.caller (omega arith)
