@@ -3,10 +3,10 @@ use Rattle.mk_laws.proofs.Vocabulary.{Bool, Caller, Config, Flight, Group, Host,
 use Rattle.mk_laws.proofs.Vocabulary.{Seat, Some, Stage, Step, ℕ, and_parts, ap, cases_Bool, comes_next, eqb-false}
 use Rattle.mk_laws.proofs.Vocabulary.{eqb-true, false, flight_of, group_of, host_has_turn, inl, inr, is_new_at}
 use Rattle.mk_laws.proofs.Vocabulary.{is_of_turn, is_open_to, is_undecided_new, is_under_turn, ltb-true, not-true, refl}
-use Rattle.mk_laws.proofs.{Vocabulary.{sym, true, ◌&&◌, ◌+◌, ◌<◌, ◌∙◌, ◌≡◌, ◌≢◌}, NextSteps.{at_no_take, at_take}}
-use Rattle.mk_laws.proofs.{NextSteps.{is_take, of_turn}, Stages.turns_stand, Standings.{is_astray, standing}}
-use Rattle.mk_laws.proofs.Views.{HoldsTurn, view_of}
+use Rattle.mk_laws.proofs.Vocabulary.{sym, true, ◌&&◌, ◌+◌, ◌<◌, ◌∙◌, ◌≡◌, ◌≢◌}
 use Rattle.mk_core.specs.Order.{comes_next_to_host}
+use Rattle.mk_laws.proofs.NextSteps.{at_no_take, at_take, is_take, of_turn}
+use Rattle.mk_laws.proofs.{Stages.turns_stand, Standings.is_astray, Standings.standing, Views.HoldsTurn, Views.view_of}
 
 abbrev pub Meets : Config → Moment → Seat → Step → Type 0
 Meets c m seat x = MeetsAll c m (record { seat = seat; step = x })

@@ -1,7 +1,7 @@
 -- An operation that is admitted stays so, whatever others call.
 use Rattle.mk_laws.proofs.Vocabulary.{AccessIsAdmitted, Answer, AreAdmitted, Continues, IsAdmitted, IsNumber, IsPointer}
 use Rattle.mk_laws.proofs.Vocabulary.{IsSound, IsTyped, KeepsRegisters, Kind, List, Meets, NeverState, None, Number, Op}
-use Rattle.mk_laws.proofs.Vocabulary.{Option, Ptr, Some, Value, ℕ, allocation_at, asked, entry_of, flagged, kinds_of}
+use Rattle.mk_laws.proofs.Vocabulary.{Option, Ptr, Some, Value, ℕ, allocation_at, asked, entry_of, kinds_of}
 use Rattle.mk_laws.proofs.Vocabulary.{register_at, slice_index_or, subst, sym, ◌*◌, ◌+◌, ◌<◌, ◌≡◌}
 use Rattle.mk_never.specs.Admitted.{IsBase, IsOfKind, OperandsAreInRange, StoreIsAdmitted}
 
@@ -42,8 +42,8 @@ module _ (globals : List ℕ) (n m : NeverState) (k : ℕ) (on : Continues n m) 
   store_on (Op.SetGlobal g p) r h = rw (own p r.1) h
   store_on _ r h = tt
 
-  admitted_on : (o : Op) → IsAdmitted globals n k o → IsAdmitted globals m k o
-  admitted_on o h = record {
+  admitted_on : {o : Op} → IsAdmitted globals n k o → IsAdmitted globals m k o
+  admitted_on {o} h = record {
     of_a_caller = rw on.registers h.of_a_caller;
     in_range = operands_on o h.in_range;
     access = access_on o h.in_range h.access;
@@ -52,5 +52,5 @@ module _ (globals : List ℕ) (n m : NeverState) (k : ℕ) (on : Continues n m) 
 
   pub call_on : (o : Op) (a : Option Answer) → AreAdmitted globals n (asked (entry_of k o a))
       → AreAdmitted globals m (asked (entry_of k o a))
-  call_on o (Some a) h = (admitted_on (flagged o a) h.0, tt)
+  call_on o (Some a) h = (admitted_on h.0, tt)
   call_on o None h = tt

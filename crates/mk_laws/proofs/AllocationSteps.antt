@@ -5,7 +5,7 @@ use Rattle.mk_laws.proofs.Vocabulary.{cases_lt, cell_freed, changed_at, false, f
 use Rattle.mk_laws.proofs.Vocabulary.{freed_where_it_stands, fresh_leaves, get_or_past, granted, inl, inr, is_release}
 use Rattle.mk_laws.proofs.Vocabulary.{length, length-map, map, no_longer_fresh, or_parts, placed_at, refl}
 use Rattle.mk_laws.proofs.Vocabulary.{released_leaves, sym, with_released, [], ◌++◌, ◌<◌, ◌∙◌, ◌∷◌, ◌≡◌}
-use Rattle.mk_core.{proofs.ChangedAllocations.{earlier_at}, specs.Allocations.{allocations_by}}
+use Rattle.mk_core.{proofs.ChangedAllocations.earlier_at, specs.Allocations.allocations_by}
 
 -- An unreleased allocation is one of the list.
 pub is_there : (xs : List PlacedAllocation) (i : ℕ) → (placed_at xs i).released ≡ false → i < length xs
@@ -52,11 +52,11 @@ pub data Came (xs ys : List PlacedAllocation) (x : Step) (i : ℕ) : Type 0 wher
   Stayed : (placed_at xs i).released ≡ false → AreOfOne (placed_at xs i) (placed_at ys i) → Came xs ys x i
   IsNew : x ≡ Step.Grant → i ≡ length xs → Came xs ys x i
 
-pub came : (xs ys : List PlacedAllocation) (x : Step) (i : ℕ) → AllocationStep xs x ys
+pub came : {xs ys : List PlacedAllocation} {x : Step} (i : ℕ) → AllocationStep xs x ys
     → (placed_at ys i).released ≡ false → Came xs ys x i
-came xs _ x i Leaves u = Stayed u (record { base = refl; ty = refl })
-came xs _ x i (Changes g ch) u = grind (arith, changed_at)
-came xs _ x i (Grants a grant) u = elim (cases_lt i (length xs)) [
+came i Leaves u = Stayed u (record { base = refl; ty = refl })
+came i (Changes g ch) u = grind (arith, changed_at)
+came {xs} i (Grants a grant) u = elim (cases_lt i (length xs)) [
   | inl lt ↦
       Stayed (rw (← (earlier_at xs a i lt)) u) (of_one_same _ _ (earlier_at xs a i lt))
   | inr past ↦

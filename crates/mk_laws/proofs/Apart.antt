@@ -10,11 +10,11 @@ use Rattle.mk_laws.proofs.Vocabulary.{is_small, is_small_object, length, mul-le,
 use Rattle.mk_laws.proofs.Vocabulary.{placed_at, refl, small_pages, small_words, stands_on, storage_is_of, storage_of}
 use Rattle.mk_laws.proofs.Vocabulary.{storage_words, suc, sym, true, true≢false, unreleased_storage, words_within, []}
 use Rattle.mk_laws.proofs.Vocabulary.{◌%◌, ◌*◌, ◌+◌, ◌-◌, ◌/◌, ◌<◌, ◌∙◌, ◌∷◌, ◌≡◌, ◌≢◌, ◌≤◌}
-use Rattle.mk_laws.proofs.{Basics.{claim_among, ends_on_pages}, Claims.{first_apart, rest_apart}, Released.stands_there}
-use Rattle.mk_laws.proofs.Unmapping.{shares_run}
-use Rattle.mk_geom.{proofs.Standing.{stands_parts}, specs.Storages.{LieApart}}
-use Rattle.mk_core.proofs.{UnreleasedStorage.{released_front, unreleased_front}, Sizes.words_are_small}
-use Rattle.mk_core.proofs.StandingAllocations.{placed_cell}
+use Rattle.mk_geom.{proofs.Standing.stands_parts, specs.Storages.LieApart}
+use Rattle.mk_core.proofs.UnreleasedStorage.{released_front, unreleased_front}
+use Rattle.mk_core.proofs.{Sizes.words_are_small, StandingAllocations.placed_cell}
+use Rattle.mk_laws.proofs.Basics.{claim_among, ends_on_pages}
+use Rattle.mk_laws.proofs.{Claims.first_apart, Claims.rest_apart, Released.stands_there, Unmapping.shares_run}
 
 -- a scene in which nothing is on its way: no place, no run, no released cell
 abbrev pub quiet_scene : Config → Words → List PlacedAllocation → LayoutScene
@@ -41,12 +41,12 @@ pub record Lies (c : Config) (w : Words) (xs : List PlacedAllocation) (a : Place
   pub begins : BeginsAtCell (object_placed c a) a.base
   pub part : ShowsPart (object_placed c a) 0 (header_in w (a.base / 64))
 
-pub lies : (c : Config) (w : Words) (xs : List PlacedAllocation) → Rests c w xs → (i : ℕ)
+pub lies : {c : Config} {w : Words} {xs : List PlacedAllocation} → Rests c w xs → (i : ℕ)
     → (placed_at xs i).released ≡ false → Lies c w xs (placed_at xs i)
-lies c w xs r i u =
+lies {c} {w} {xs} r i u =
     let a : PlacedAllocation = placed_at xs i in
     let shown : IsShown w.pages (claim_of c None a) = r.laid.shown (claim_of c None a) (claim_among c None xs i u) in
-    let s = stands_there c None w a r.lengths shown u (r.cells i u) in
+    let s = stands_there None w r.lengths shown u (r.cells i u) in
     grind (arith, claim_among, first_page_shows)
 
 -- the pages of its storage
@@ -62,25 +62,25 @@ on_its_pages c a p sized b h =
     (low, omega arith)
 
 -- Two small objects whose first pages show one header are of one class and sort.
-same_block_by : (o u : Object) (x y : Option Header) → x ≡ y → ShowsPart o 0 x → ShowsPart u 0 y
+same_block_by : {o u : Object} {x y : Option Header} → x ≡ y → ShowsPart o 0 x → ShowsPart u 0 y
     → is_small_object o ≡ true → is_small_object u ≡ true → (class_made o ≡ class_made u) × (o.leaf ≡ u.leaf)
-same_block_by o u x y e (OfBlock f s l) (OfBlock g t m) so su = grind arith
-same_block_by o u x y e (OfLeafBlock f s l) (OfLeafBlock g t m) so su =
+same_block_by e (OfBlock f s l) (OfBlock g t m) so su = grind arith
+same_block_by {o} {u} e (OfLeafBlock f s l) (OfLeafBlock g t m) so su =
     (let k : class_made o ≡ class_made u = cc in k, l ∙ sym m)
-same_block_by o u x y e (OfBlock f s l) (OfLeafBlock g t m) so su = absurd (true≢false (let k : true ≡ false = cc in k))
-same_block_by o u x y e (OfLeafBlock f s l) (OfBlock g t m) so su = absurd (true≢false (let k : true ≡ false = cc in k))
-same_block_by o u x y e (OfRun d f l k) any so su = absurd (true≢false (sym so ∙ l))
-same_block_by o u x y e (OfLeafRun f l k) any so su = absurd (true≢false (sym so ∙ l))
-same_block_by o u x y e (OfLater d f l) any so su = absurd (true≢false (sym so ∙ l))
-same_block_by o u x y e any (OfRun d f l k) so su = absurd (true≢false (sym su ∙ l))
-same_block_by o u x y e any (OfLeafRun f l k) so su = absurd (true≢false (sym su ∙ l))
-same_block_by o u x y e any (OfLater d f l) so su = absurd (true≢false (sym su ∙ l))
+same_block_by e (OfBlock f s l) (OfLeafBlock g t m) so su = absurd (true≢false (let k : true ≡ false = cc in k))
+same_block_by e (OfLeafBlock f s l) (OfBlock g t m) so su = absurd (true≢false (let k : true ≡ false = cc in k))
+same_block_by e (OfRun d f l k) any so su = absurd (true≢false (sym so ∙ l))
+same_block_by e (OfLeafRun f l k) any so su = absurd (true≢false (sym so ∙ l))
+same_block_by e (OfLater d f l) any so su = absurd (true≢false (sym so ∙ l))
+same_block_by e any (OfRun d f l k) so su = absurd (true≢false (sym su ∙ l))
+same_block_by e any (OfLeafRun f l k) so su = absurd (true≢false (sym su ∙ l))
+same_block_by e any (OfLater d f l) so su = absurd (true≢false (sym su ∙ l))
 
 pub same_block : {c : Config} {w : Words} {xs : List PlacedAllocation} {a b : PlacedAllocation} → Lies c w xs a
     → Lies c w xs b → is_small_object (object_placed c a) ≡ true → is_small_object (object_placed c b) ≡ true
     → a.base / 64 ≡ b.base / 64 → (class_made (object_placed c a) ≡ class_made (object_placed c b))
     × ((object_placed c a).leaf ≡ (object_placed c b).leaf)
-same_block x y small_a small_b page = same_block_by _ _ _ _ (rw page) x.part y.part small_a small_b
+same_block x y small_a small_b page = same_block_by (rw page) x.part y.part small_a small_b
 
 -- The cell's index is that at which the object begins.
 pub index_is : (c : Config) (a : PlacedAllocation) → IsSized (object_placed c a)
@@ -92,7 +92,7 @@ pub small_is : (c : Config) (a : PlacedAllocation) → IsSized (object_placed c 
 small_is c a sized = words_are_small (object_placed c a) sized
 
 -- two of them lie apart
-module _ (c : Config) (w : Words) (xs : List PlacedAllocation) (a b : PlacedAllocation)
+module _ {c : Config} {w : Words} {xs : List PlacedAllocation} {a b : PlacedAllocation}
     (laid : IsLaidOn (quiet_scene c w xs)) (x : Lies c w xs a) (y : Lies c w xs b)
     (other : IsOfOneCell (claim_of c None a) (claim_of c None b) → ⊥) where
   -- where they share no page
@@ -138,8 +138,7 @@ module _ (c : Config) (w : Words) (xs : List PlacedAllocation) (a b : PlacedAllo
         apart = elim (cases_order x.begins.index y.begins.index) [
           | inl e ↦ absurd (other (
             page,
-            index_is c a x.shown.sized x.begins ∙ e
-                ∙ sym (index_is c b y.shown.sized y.begins),
+            index_is c a x.shown.sized x.begins ∙ e ∙ sym (index_is c b y.shown.sized y.begins),
           ))
           | inr (inl lt) ↦ let m = mul-le (suc x.begins.index) k y.begins.index k lt (le_refl k) in inl (omega arith)
           | inr (inr gt) ↦ let m = mul-le (suc y.begins.index) k x.begins.index k gt (le_refl k) in inr (omega arith)
@@ -147,8 +146,7 @@ module _ (c : Config) (w : Words) (xs : List PlacedAllocation) (a b : PlacedAllo
         alike = λ p ha hb. (
           small_is c a x.shown.sized ∙ small_a,
           small_is c b y.shown.sized ∙ small_b,
-          wa
-              ∙ sym wb,
+          wa ∙ sym wb,
           same.1,
         );
       }
@@ -156,10 +154,10 @@ module _ (c : Config) (w : Words) (xs : List PlacedAllocation) (a b : PlacedAllo
   by : (s t : Bool) → is_small_object (object_placed c a) ≡ s → is_small_object (object_placed c b) ≡ t
       → LieApart (storage_of c a) (storage_of c b)
   by false t l m = far (λ d e ld le at.
-      let same = shares_run _ _ _ d e laid x.among y.among l ld le (sym at) in
+      let same = shares_run _ _ d e laid x.among y.among l ld le (sym at) in
       other (ap (λ (z : Claim). z.page) (sym same), ap (λ (z : Claim). z.index) (sym same)))
   by true false l m = far (λ d e ld le at.
-      let same = shares_run _ _ _ e d laid y.among x.among m le ld at in
+      let same = shares_run _ _ e d laid y.among x.among m le ld at in
       other (ap (λ (z : Claim). z.page) same, ap (λ (z : Claim). z.index) same))
   by true true l m = elim (cases_eq (a.base / 64) (b.base / 64)) [
     | inl page ↦ near l m page

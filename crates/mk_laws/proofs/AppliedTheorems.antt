@@ -11,7 +11,7 @@ use Rattle.mk_laws.proofs.Vocabulary.{marked_in_stop, may_turn_black, never_behi
 use Rattle.mk_laws.proofs.Vocabulary.{points_well, refl, register_at, replies_of, resident_pages, slice_index, small}
 use Rattle.mk_laws.proofs.Vocabulary.{stopped_cycle, stopped_is_history, storage_of, subst, sym, take, three_objects}
 use Rattle.mk_laws.proofs.Vocabulary.{three_pages, true, unreleased_storage, uses_of_pages, word_at, word_points_well}
-use Rattle.mk_laws.proofs.{Vocabulary.{[], ◌++◌, ◌∙◌, ◌∷◌, ◌≡◌, ◌≤◌}, Promises.histories_keep_all_promises}
+use Rattle.mk_laws.{proofs.Vocabulary.{[], ◌++◌, ◌∙◌, ◌∷◌, ◌≡◌, ◌≤◌}, proofs.Promises.{histories_keep_all_promises}}
 use Rattle.mk_laws.proofs.InvariantHistories.{events_keep_the_invariant, histories_keep_the_invariant}
 use Rattle.mk_geom.specs.Storages.{words_of_storages}
 use Rattle.mk_never.specs.declared.values.Target.{Target}
@@ -30,14 +30,14 @@ use Rattle.mk_laws.proofs.Quarantines as quarantines
 use Rattle.mk_laws.proofs.InvariantTheorems as theorems
 
 -- The first events of a history are one.
-pub first_events : (c : Config) (es : List Event) (n : ℕ) → IsHistory c es → IsHistory c (take n es)
-first_events c es n h = earlier_part_is_history c (take n es) (drop n es) (rw (take-append-drop n es) h)
+pub first_events : {c : Config} {es : List Event} (n : ℕ) → IsHistory c es → IsHistory c (take n es)
+first_events {c} {es} n h = earlier_part_is_history c (take n es) (drop n es) (rw (take-append-drop n es) h)
 
 pub large_front : (n : ℕ) → IsHistory three_pages (take n large_freed)
-large_front n = first_events three_pages large_freed n large_is_history
+large_front n = first_events n large_is_history
 
 pub stopped_front : (n : ℕ) → IsHistory small (take n stopped_cycle)
-stopped_front n = first_events small stopped_cycle n stopped_is_history
+stopped_front n = first_events n stopped_is_history
 
 -- The invariant after the first of two lists goes on to the second by one event.
 pub invariant_by_one_event : KeepsTheInvariant pointer_page (before_the_sweep ++ sweeping_mark ∷ [])
@@ -60,9 +60,8 @@ abbrev pub marking : World
 marking = left one_page (take 31 freed_after_begin)
 
 -- The images of the replies are these answers.
-pub images_of_replies : answers_of (bases_of (left one_page freed_after_begin).allocations)
-    (replies_of (never_first one_page) (asked (calls one_page freed_after_begin)))
-    ≡ replicate 7 Answer.Done ++ Answer.Num 0 ∷ []
+pub images_of_replies : answers_of (bases_of (left one_page freed_after_begin).allocations) (replies_of
+    (never_first one_page) (asked (calls one_page freed_after_begin))) ≡ replicate 7 Answer.Done ++ Answer.Num 0 ∷ []
 images_of_replies = sym (theorems.histories_refine_never _ _ freed_is_history) ∙ answers_freed
 
 -- An object that a register leads to is unreleased, and so is one that it leads to by a word.
@@ -187,7 +186,7 @@ one_is_resident = quarantines.few_pages_are_resident _ _ full_is_history
 -- freed after it, has none.
 
 begun_since : IsHistory one_page (take 31 freed_after_begin)
-begun_since = first_events one_page freed_after_begin 31 freed_is_history
+begun_since = first_events 31 freed_is_history
 
 pub first_in_snapshot : has_bit_of one_page marking.now.words.snapshot (placed_at marking.allocations 0) ≡ true
 unfolding by c0 host all_below pointed_cell one_page freed_after_begin left_from event_number at_number

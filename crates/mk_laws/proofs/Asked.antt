@@ -4,8 +4,8 @@ use Rattle.mk_laws.proofs.Vocabulary.{and_parts, arith, eqb-false, eqb-true, fal
 use Rattle.mk_laws.proofs.Vocabulary.{is_attending, is_held, is_number_of, ltb-true, nat_lt, none_attends, not}
 use Rattle.mk_laws.proofs.Vocabulary.{not-true, or_cases, others_are_held, outside, refl, slice_index, slice_index_or}
 use Rattle.mk_laws.proofs.Vocabulary.{suc, true, zero, [], ◌&&◌, ◌<◌, ◌==◌, ◌||◌, ◌∷◌, ◌≡◌, ◌≢◌, ◌≤◌, ◌⊎◌}
-use Rattle.mk_laws.proofs.{ProtocolMoves.OthersAreHeld, Views.view_of}
 use Rattle.mk_core.specs.{Moments.none_is_held, StopConditions.may_close}
+use Rattle.mk_laws.proofs.{ProtocolMoves.OthersAreHeld, Views.view_of}
 
 pub none_held : (c : Config) (w : Words) → none_is_held c.callers w ≡ true → (j : ℕ) → j < c.callers
     → slice_index w.gates j ≢ 2

@@ -55,19 +55,19 @@ on_allocation c w n q some = by (q.zeros n some)
         record { claim = x.claim; among = x.among; distance = d; near = omega arith; at = omega arith }
 
 -- The words of a page are 0 that has no header,
-pub bare_page : (c : Config) (w : World) (p n : ℕ) → Unreleasing c w → header_on w.now.words.pages p ≡ 0 → n / 64 ≡ p
+pub bare_page : {c : Config} {w : World} (p n : ℕ) → Unreleasing c w → header_on w.now.words.pages p ≡ 0 → n / 64 ≡ p
     → slice_index w.now.words.heap n ≡ 0
-bare_page c w p n q free at = zero_unless _ (λ some.
+bare_page {c} {w} p n q free at = zero_unless _ (λ some.
     let x = on_allocation c w n q some in
     claimed_some w.now.words.pages x.claim x.distance (shown_there c w x.claim q x.among) x.near
     (ap (λ i. header_on w.now.words.pages i) (x.at ∙ at) ∙ free))
 
 -- and of one of a plot.
-pub plot_page : (c : Config) (w : World) (first : ℕ) (o : Object) (distance n : ℕ) → Unreleasing c w
+pub plot_page : {c : Config} {w : World} {first : ℕ} {o : Object} (distance n : ℕ) → Unreleasing c w
     → IsPlotShown w.now.words.pages first o
     → distance < pages_made o → n / 64 ≡ first + distance → slice_index w.now.words.heap n ≡ 0
-plot_page c w first o distance n q plot lt at = elim (plot.headers distance lt) [
-  | inl free ↦ bare_page c w (first + distance) n q free at
+plot_page {c} {w} {first} {o} distance n q plot lt at = elim (plot.headers distance lt) [
+  | inl free ↦ bare_page (first + distance) n q free at
   | inr made ↦ zero_unless _ (λ some. no_claim made (on_allocation c w n q some))
 ]
   where

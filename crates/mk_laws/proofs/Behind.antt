@@ -3,7 +3,7 @@ use Rattle.mk_laws.proofs.Vocabulary.{Bool, Chosen, Config, HasLayout, LayoutSta
 use Rattle.mk_laws.proofs.Vocabulary.{Seat, Some, Step, World, arith, cases_Bool, cell_seen, eqb-true, false, ground_of}
 use Rattle.mk_laws.proofs.Vocabulary.{has_place, inl, inr, is_phase, is_some, marker_at, object_now, phase_of, refl}
 use Rattle.mk_laws.proofs.{Vocabulary.{true, ◌-◌, ◌≡◌, ◌⊎◌}, Basics.{Before, Known, Meets, WorldBehind, actor_of}}
-use Rattle.mk_laws.proofs.Basics.{held_place, is_releasing_behind, not_astray, reg_leaves, tally_keeps, view_of}
+use Rattle.mk_laws.proofs.Basics.{held_place, is_releasing_behind, not_astray, reg_leaves, tally_keeps}
 use Rattle.mk_laws.proofs.{CyclePhases.{phase_asked, phase_moves}, Colours.colour_step, Dropped.unreleasing}
 use Rattle.mk_laws.proofs.{LayoutByKind.{by_kind, placeless}, NewPlace.new_was, OrderlyLists.orderly_behind}
 use Rattle.mk_laws.proofs.Sorts.{moves}
@@ -15,18 +15,18 @@ pub phase_kind : (c : Config) (w : World) (seat : Seat) (x : Step) → Meets c w
 phase_kind c w seat x h = grind (arith, phase_moves, phase_asked)
 
 -- While released cells are there, no mark changes: nobody marks then.
-seen_attends : (c : Config) (m : Moment) (seat : Seat) → Known c m
+seen_attends : {c : Config} {m : Moment} (seat : Seat) → Known c m
     → is_some (cell_seen c (marker_at m seat).seen (marker_at m seat).hand) ≡ true
     → (phase_of m.words ≡ 1) ⊎ (phase_of m.words ≡ 2)
-seen_attends c m (Marker k) known some = grind arith
-seen_attends c m _ known some = cc
+seen_attends (Marker k) known some = grind arith
+seen_attends _ known some = cc
 
-pub releasing_marks : (c : Config) (w : World) (seat : Seat) (x : Step) → Known c w.now → Meets c w.now seat x
+pub releasing_marks : {c : Config} (w : World) (seat : Seat) (x : Step) → Known c w.now → Meets c w.now seat x
     → is_releasing_behind x (is_phase w.now.words 4) ≡ true
     → (WorldBehind c w seat x).now.words.marks ≡ w.now.words.marks
-releasing_marks c w seat Step.Release known h on = refl
-releasing_marks c w seat Step.End known h on = refl
-releasing_marks c w seat x known h on = grind (arith, eqb-true, colour_step, seen_attends)
+releasing_marks w seat Step.Release known h on = refl
+releasing_marks w seat Step.End known h on = refl
+releasing_marks w seat x known h on = grind (arith, eqb-true, colour_step, seen_attends)
 
 -- Where there is a place after, the turn is the same,
 turn_kind : (c : Config) (w : World) (seat : Seat) (x : Step) → Meets c w.now seat x
@@ -47,31 +47,29 @@ pub object_kind : (c : Config) (w : World) (seat : Seat) (x : Step) → Known c 
     → object_now c (WorldBehind c w seat x).now ≡ object_now c w.now
 object_kind c w seat x known h has =
     let v : World = WorldBehind c w seat x in
-    let new = (orderly_behind c w.now seat x known.small known.orderly h).served.placed has in
-    let move = moves c w.now seat x (not_astray c w.now known.orderly) (actor_of c w.now seat x known.orderly h) h in
-    elim (new_was c (view_of w.now) seat (view_of v.now) (v.now.words.turn - 1) move new) [
+    let new = (orderly_behind w.now seat x known.small known.orderly h).served.placed has in
+    let move = moves (not_astray c w.now known.orderly) (actor_of c w.now seat x known.orderly h) h in
+    elim (new_was (v.now.words.turn - 1) move new) [
       | inl same ↦ rw same (rw (turn_kind c w seat x h has))
       | inr none ↦ absurd (held_none v.now.seats.holding.placing has none)
     ]
 
 -- An enabled event: laid out before it, laid out after it.
-pub layout_behind : (c : Config) (w : World) (seat : Seat) (x : Step) → Before c w → Meets c w.now seat x
+pub layout_behind : {c : Config} {w : World} (seat : Seat) (x : Step) → Before c w → Meets c w.now seat x
     → LayoutStands c w → LayoutStands c (WorldBehind c w seat x)
-layout_behind c w seat x b h laid =
+layout_behind {c} {w} seat x b h laid =
     let v : World = WorldBehind c w seat x in
     let phase = phase_kind c w seat x h in
     let marked : HasLayout c (object_now c w.now) (is_phase v.now.words 4) v.now.words.marks (ground_of v) =
     rw phase (marks (is_releasing_behind x (is_phase w.now.words 4)) refl (by_kind c w seat b laid x h)) in
     elim (cases_Bool (has_place v.now.seats.holding.placing)) [
       | inl has ↦ rw (object_kind c w seat x b.known h has) marked
-      | inr none ↦ (placeless c (object_now c w.now) (object_now c v.now) (is_phase v.now.words 4) v.now.words.marks
-          (ground_of v) v.now.seats.holding.placing refl none marked).0
+      | inr none ↦ (placeless (object_now c v.now) v.now.seats.holding.placing refl none marked).0
     ]
   where
     marks : (r : Bool) → is_releasing_behind x (is_phase w.now.words 4) ≡ r
-        → HasLayout c (object_now c w.now) r w.now.words.marks (ground_of (WorldBehind c w seat x))
-        → HasLayout c (object_now c w.now) r (WorldBehind c w seat x).now.words.marks
-        (ground_of (WorldBehind c w seat x))
-    marks true is st = rw (releasing_marks c w seat x b.known h is) st
+        → HasLayout c (object_now c w.now) r w.now.words.marks (ground_of (WorldBehind c w seat x)) → HasLayout c
+        (object_now c w.now) r (WorldBehind c w seat x).now.words.marks (ground_of (WorldBehind c w seat x))
+    marks true is st = rw (releasing_marks w seat x b.known h is) st
     marks false is st = unreleasing c _ _ (WorldBehind c w seat x).now.words.marks (ground_of (WorldBehind c w seat x))
         (WorldBehind c w seat x).now.words.freed (WorldBehind c w seat x).now.words.snapshot st

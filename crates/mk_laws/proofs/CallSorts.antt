@@ -1,14 +1,14 @@
 -- Each step of a caller's call outside the turn leads to what the images allow.
-use Rattle.mk_laws.proofs.Vocabulary.{Answer, AreAdmitted, Bool, Caller, CarriesOwn, Config, Flight, IsAdmitted, List}
-use Rattle.mk_laws.proofs.Vocabulary.{MeetsAll, Mirrors, Named, NeverState, None, Op, Some, Stage, Step, Word, Words}
-use Rattle.mk_laws.proofs.Vocabulary.{World, ℕ, accessed, answer_decided, ap, arith, asked, at_rest, begun}
-use Rattle.mk_laws.proofs.Vocabulary.{call_decided, d_of, entry_of, false, flagged, flight_of, g_of, header_at}
-use Rattle.mk_laws.proofs.Vocabulary.{if◌then◌else◌, image_scene_of, is_past_probe, is_put, is_under_turn, length}
-use Rattle.mk_laws.proofs.Vocabulary.{ltb-true, onward, page_met, progress_read, refl, refused, reg_access}
-use Rattle.mk_laws.proofs.Vocabulary.{register_met, register_word, slice_index, slice_set, subst, sym, true, word_met}
-use Rattle.mk_laws.proofs.{Vocabulary.{world_behind, ◌*◌, ◌+◌, ◌<◌, ◌==◌, ◌∙◌, ◌≡◌}, Basics.{KnownWorld, Leads}}
-use Rattle.mk_laws.proofs.Basics.{PagesShow, Ready, at_its_stage, at_reg, either_leads, flight, goes_bare, is_astray}
-use Rattle.mk_laws.proofs.Basics.{is_call_stage, not_astray, operands_of, register_small, standing, standing_at}
+use Rattle.mk_laws.proofs.Vocabulary.{Answer, AreAdmitted, Bool, Caller, Config, Flight, IsAdmitted, List, MeetsAll}
+use Rattle.mk_laws.proofs.Vocabulary.{Mirrors, Named, NeverState, None, Op, Some, Stage, Step, Word, Words, World, ℕ}
+use Rattle.mk_laws.proofs.Vocabulary.{accessed, answer_decided, ap, arith, asked, at_rest, begun, call_decided, d_of}
+use Rattle.mk_laws.proofs.Vocabulary.{entry_of, false, flagged, flight_of, g_of, header_at, if◌then◌else◌}
+use Rattle.mk_laws.proofs.Vocabulary.{image_scene_of, is_past_probe, is_put, is_under_turn, length, ltb-true, onward}
+use Rattle.mk_laws.proofs.Vocabulary.{page_met, progress_read, refl, refused, reg_access, register_met, register_word}
+use Rattle.mk_laws.proofs.Vocabulary.{slice_index, slice_set, subst, sym, true, word_met, world_behind, ◌*◌, ◌+◌, ◌<◌}
+use Rattle.mk_laws.proofs.{Vocabulary.{◌==◌, ◌∙◌, ◌≡◌}, Basics.{KnownWorld, Leads, PagesShow, Ready, at_its_stage}}
+use Rattle.mk_laws.proofs.Basics.{at_reg, either_leads, flight, goes_bare, is_astray, is_call_stage, not_astray}
+use Rattle.mk_laws.proofs.Basics.{operands_of, register_small, standing, standing_at}
 use Rattle.mk_laws.proofs.ImagesCallMoves.{cas_leads, getg_leads, probe_leads, read_leads, setg_leads, write_leads}
 use Rattle.mk_laws.proofs.{ImagesKept.own_plain, ImagesMoves.{Flies, is_bare}, NextSteps.at_enter, Ready.LeadsBy}
 use Rattle.mk_laws.proofs.RegMoves.{flies_on, reg_leads, registers_behind}
@@ -48,9 +48,8 @@ pub literal : (f : Flight) (st : Stage) → f.stage ≡ st → f ≡ flight st f
 literal f st e = rw e
 
 -- the words after `reg`
-reg_registers : (w : Words) (k : ℕ) (f : Flight) (st : Stage)
-    → (accessed w (Named (Word.Reg k (register_met f st))) (reg_access f st)).registers
-    ≡ registers_behind w.registers k f st
+reg_registers : (w : Words) (k : ℕ) (f : Flight) (st : Stage) → (accessed w (Named (Word.Reg k (register_met f st)))
+    (reg_access f st)).registers ≡ registers_behind w.registers k f st
 reg_registers w k f Stage.Store = refl
 reg_registers w k f _ = cc
 
@@ -94,9 +93,8 @@ module _ (c : Config) (w : World) (n : NeverState) (known : KnownWorld c w) (mir
   )
 
   pub bare_on : (k : ℕ) (o : Op) (f : Flight) → is_put (flight_of w.now (Caller k)).stage ≡ false
-      → is_bare f.stage ≡ true → Leads safe (image_scene_of w) n k o (record (image_scene_of w) {
-        flights = slice_set w.now.seats.flights k f;
-      }) None
+      → is_bare f.stage ≡ true → Leads safe (image_scene_of w) n k o
+      (record (image_scene_of w) { flights = slice_set w.now.seats.flights k f }) None
   bare_on k o f was bare = (goes_bare safe _ n k f was bare, λ more. refl)
 
   pub enter_leads : (k : ℕ) (o : Op) → Meets c w k (Step.Enter o) → LeadsAt c w n safe k (Step.Enter o)
@@ -114,9 +112,8 @@ module _ (c : Config) (w : World) (n : NeverState) (known : KnownWorld c w) (mir
       let e = literal f Stage.Dirty (at_its_stage f.stage f.op Step.Dirty refl h.order) in
       rw e (dirty_by f.op f.q f.p f.r f.loaded (rw e at (own_astray k (ltb-true k c.callers h.seat))) (rw e))
     where
-      dirty_by : (o : Op) (q p r l : ℕ) → is_astray (standing_at Stage.Dirty o) ≡ false
-          → is_put (flight_of w.now (Caller k)).stage ≡ false → Leads safe (image_scene_of w) n k o
-          (record (image_scene_of w)
+      dirty_by : (o : Op) (q p r l : ℕ) → is_astray (standing_at Stage.Dirty o) ≡ false → is_put
+          (flight_of w.now (Caller k)).stage ≡ false → Leads safe (image_scene_of w) n k o (record (image_scene_of w)
           { flights = slice_set w.now.seats.flights k (onward (flight Stage.Dirty o q p r l) None).flight }) None
       dirty_by (Op.SetNum q' i m) q p r l a was = bare_on k (Op.SetNum q' i m) _ was refl
       dirty_by (Op.SetPtr q' i p') q p r l a was = bare_on k (Op.SetPtr q' i p') _ was refl
@@ -134,11 +131,10 @@ module _ (c : Config) (w : World) (n : NeverState) (known : KnownWorld c w) (mir
     reg_leads_at h ad =
         let x = register_word w.now.words k (register_met f f.stage) in
         let kept = register_leaves w.now.words k (register_met f f.stage) (reg_access f f.stage) in
-        rw (reg_registers w.now.words k f f.stage, kept.globals, kept.heap)
-        (reg_leads c.globals safe _ n k ready (there_is k (lt h)) (own_registers k (lt h)) (own_words k (lt h)) f.stage
-        f.op f.q f.p f.r f.loaded x refl (own_d k) (at_reg f.stage f.op h.order) (own_astray k (lt h))
-        (ready.images.carried k) (λ np. own_plain _ n ready.images k _
-        (register_small f f.stage (operands_of c f.op (known.now.operands k))) np) ad)
+        rw (reg_registers w.now.words k f f.stage, kept.globals, kept.heap) (reg_leads c.globals safe _ n k ready
+        (there_is k (lt h)) (own_registers k (lt h)) (own_words k (lt h)) f.stage f.op f.q f.p f.r f.loaded x refl
+        (own_d k) (at_reg f.stage f.op h.order) (own_astray k (lt h)) (ready.images.carried k)
+        (λ np. own_plain ready.images k _ (register_small f f.stage (operands_of c f.op (known.now.operands k))) np) ad)
 
     pub probe_leads_at : PagesShow (header_at w.now.words) (image_scene_of w) n → Meets c w k Step.Probe
         → AdmittedAt c w n k Step.Probe → LeadsAt c w n safe k Step.Probe
@@ -148,11 +144,10 @@ module _ (c : Config) (w : World) (n : NeverState) (known : KnownWorld c w) (mir
         let out = call_outside f.op f.stage (ap is_call_stage st) (own_astray k (lt h)) in
         subst (λ (g : Flight). LeadsBy safe (image_scene_of w) n k g.op (image_scene_of w)
         (progress_probe g (header_at w.now.words (page_met f)))) (sym e)
-        (probe_leads c.globals safe (image_scene_of w) n k ready (there_is k (lt h)) (own_registers k (lt h))
-        (header_at w.now.words) show f.op f.q f.p f.r f.loaded (header_at w.now.words (page_met f)) e (own_d k)
-        (rw e at (own_astray k (lt h))) (rw e at (ready.images.carried k)) refl
-        (λ u. admitted_call c.globals n k f.op Answer.Fault out (subst (λ b. AreAdmitted c.globals n
-        (asked (entry_of k f.op (if b then refused f Answer.Fault else onward f None).answer))) u ad)))
+        (probe_leads k ready (there_is k (lt h)) (own_registers k (lt h)) (header_at w.now.words) show f.op f.q f.p f.r
+        f.loaded (header_at w.now.words (page_met f)) e (own_d k) (rw e at (own_astray k (lt h))) (rw e at
+        (ready.images.carried k)) refl (λ u. admitted_call c.globals n k f.op Answer.Fault out (subst (λ b. AreAdmitted
+        c.globals n (asked (entry_of k f.op (if b then refused f Answer.Fault else onward f None).answer))) u ad)))
 
     pub read_leads_at : Meets c w k Step.Read → AdmittedAt c w n k Step.Read → LeadsAt c w n safe k Step.Read
     read_leads_at h ad =
@@ -161,7 +156,7 @@ module _ (c : Config) (w : World) (n : NeverState) (known : KnownWorld c w) (mir
         let out = call_outside f.op f.stage (ap is_call_stage st) (own_astray k (lt h)) in
         let x = slice_index w.now.words.heap (word_met f) in
         subst (λ (g : Flight). LeadsBy safe (image_scene_of w) n k g.op (image_scene_of w) (progress_read g g.op x))
-        (sym e) (read_leads _ safe _ n k ready (there_is k (lt h)) (own_registers k (lt h)) f.op f.q f.p f.r _ x e
+        (sym e) (read_leads k ready (there_is k (lt h)) (own_registers k (lt h)) f.op f.q f.p f.r _ x e
         (own_d k) (rw e at (own_astray k (lt h))) (rw e at (ready.images.carried k)) (rw e at (ready.images.probed k))
         refl (read_admitted _ n k f f.op x out ad))
 
@@ -170,7 +165,7 @@ module _ (c : Config) (w : World) (n : NeverState) (known : KnownWorld c w) (mir
         let st = at_its_stage f.stage f.op Step.Write refl h.order in
         let e = literal f Stage.Write st in
         let out = call_outside f.op f.stage (ap is_call_stage st) (own_astray k (lt h)) in
-        rw e (write_leads c.globals safe _ n k ready (there_is k (lt h)) (own_registers k (lt h)) f.op f.q f.p f.r
+        rw e (write_leads k ready (there_is k (lt h)) (own_registers k (lt h)) f.op f.q f.p f.r
         f.loaded e (rw e at (own_astray k (lt h))) (rw e at (ready.images.carried k))
         (rw e at (ready.images.probed k)) (admitted_call c.globals n k f.op Answer.Done out ad))
 
@@ -180,7 +175,7 @@ module _ (c : Config) (w : World) (n : NeverState) (known : KnownWorld c w) (mir
         let e = literal f Stage.Cas st in
         let out = call_outside f.op f.stage (ap is_call_stage st) (own_astray k (lt h)) in
         let x = slice_index w.now.words.heap (word_met f) in
-        rw e (cas_leads c.globals safe _ n k ready (there_is k (lt h)) (own_registers k (lt h)) f.op f.q f.p f.r
+        rw e (cas_leads k ready (there_is k (lt h)) (own_registers k (lt h)) f.op f.q f.p f.r
         f.loaded x e (rw e at (own_astray k (lt h))) (rw e at (ready.images.carried k))
         (rw e at (ready.images.probed k)) refl (admitted_call c.globals n k f.op _ out ad))
 
@@ -188,7 +183,7 @@ module _ (c : Config) (w : World) (n : NeverState) (known : KnownWorld c w) (mir
     getg_leads_at h =
         let e = literal f Stage.Getg (at_its_stage f.stage f.op Step.Getg refl h.order) in
         let x = slice_index w.now.words.globals (g_of f.op) in
-        rw e (getg_leads c.globals safe _ n k ready (there_is k (lt h))
+        rw e (getg_leads k ready (there_is k (lt h))
         (own_registers k (lt h)) f.op f.q f.p f.r f.loaded x e (own_d k) (rw e at (own_astray k (lt h))) refl)
 
     pub setg_leads_at : Meets c w k Step.Setg → LeadsAt c w n safe k Step.Setg
@@ -197,5 +192,5 @@ module _ (c : Config) (w : World) (n : NeverState) (known : KnownWorld c w) (mir
         let small = (operands_of c f.op (known.now.operands k)).g in
         let lg = known.lengths.globals in
         let ln = mirrors.global_count in
-        rw e (setg_leads c.globals safe _ n k ready (there_is k (lt h)) (own_registers k (lt h)) f.op f.q f.p f.r
+        rw e (setg_leads k ready (there_is k (lt h)) (own_registers k (lt h)) f.op f.q f.p f.r
         f.loaded e (rw e at (own_astray k (lt h))) (rw e at (ready.images.carried k)) (omega arith) (omega arith))

@@ -25,14 +25,12 @@ standing c w seat x i b u = all_stand c _ _ w b.lengths.pages b.others.laid_out 
 -- While the phase isn't releasing no cell is released.
 pub none_released : (c : Config) (s : ZeroScene) (n : ℕ) → s.releasing ≡ false
     → IsReleasedWord c s.pages (is_released_there s) n → ⊥
-none_released c s n off r = true≢false (sym (and_parts s.releasing
-    (has_bit (without (slice_index s.snapshot r.cell.page) (slice_index s.marks r.cell.page)) r.cell.index)
-    r.released).0 ∙ off)
+none_released c s n off r = true≢false (sym (and_parts s.releasing (has_bit
+    (without (slice_index s.snapshot r.cell.page) (slice_index s.marks r.cell.page)) r.cell.index) r.released).0 ∙ off)
 
 -- From one scene to another, each of the three by itself
-pub changed_words : (c : Config) (s t : ZeroScene) → OthersAreZero c s
-    → ((n : ℕ) → slice_index t.heap n ≢ 0 → slice_index s.heap n ≢ 0)
-    → ((n : ℕ) → IsWordOfMapped c s.allocations n → MayHold c t n)
+pub changed_words : (c : Config) (s t : ZeroScene) → OthersAreZero c s → ((n : ℕ) → slice_index t.heap n ≢ 0
+    → slice_index s.heap n ≢ 0) → ((n : ℕ) → IsWordOfMapped c s.allocations n → MayHold c t n)
     → ((n : ℕ) → slice_index s.heap n ≢ 0 → IsReleasedWord c s.pages (is_released_there s) n → MayHold c t n)
     → ((n : ℕ) → slice_index s.heap n ≢ 0 → IsFreedWord s.run n → MayHold c t n) → OthersAreZero c t
 changed_words c s t z heap mapped released freed n some = by (heap n some) (z n (heap n some))
@@ -52,9 +50,9 @@ early_words c w t off z heap mapped freed =
     (λ n some f. freed n f)
 
 -- `write` and `cas`
-pub stored_words : (c : Config) (s : ZeroScene) (j v : ℕ) → IsWordOfMapped c s.allocations j → OthersAreZero c s
+pub stored_words : {c : Config} (s : ZeroScene) {j : ℕ} (v : ℕ) → IsWordOfMapped c s.allocations j → OthersAreZero c s
     → OthersAreZero c (record s { heap = slice_set s.heap j v })
-stored_words c s j v m z n some =
+stored_words {c} s {j = j} v m z n some =
     set_by (λ x. x ≢ 0 → MayHold c (record s { heap = slice_set s.heap j v }) n) s.heap j n v 0
     (λ e ne. OfMapped (subst (IsWordOfMapped c s.allocations) (sym e) m)) (λ ne. moved (z n ne)) some
   where
@@ -71,6 +69,6 @@ wiped_words c s j z = changed_words c s (record s { heap = slice_set s.heap j 0 
     (λ n m. OfMapped m) (λ n some r. OfReleased r) (λ n some f. OfFreedRun f)
 
 -- Registers and counts
-pub kept_heap : (c : Config) (w : World) (x : Words) → LeavesTable w.now.words x → HasZeros c w
+pub kept_heap : (c : Config) (w : World) {x : Words} → LeavesTable w.now.words x → HasZeros c w
     → OthersAreZero c (record (here w) { heap = x.heap; pages = x.pages; snapshot = x.snapshot })
-kept_heap c w x k z = rw (k.heap, k.pages, k.snapshot) z
+kept_heap c w k z = rw (k.heap, k.pages, k.snapshot) z

@@ -6,10 +6,10 @@ use Rattle.mk_laws.proofs.Vocabulary.{flight_of, found, free_page, get_or-set_ot
 use Rattle.mk_laws.proofs.Vocabulary.{header_at, inl, inr, ltb-true, nat_le, nat_lt, no_bit, page_met, progress, refl}
 use Rattle.mk_laws.proofs.Vocabulary.{set_by, slice_index, slice_index_or, slice_set, stage_behind, steps_of, subst}
 use Rattle.mk_laws.proofs.Vocabulary.{sym, tally_word, true, true≢false, word_met, ◌*◌, ◌<◌, ◌∙◌, ◌≡◌, ◌⊎◌}
-use Rattle.mk_laws.proofs.{Actors.Meets, Colours.{Colours, ColourStep, colour_step}, Growth.{grows_more, grows_same}}
-use Rattle.mk_laws.proofs.{Known.Known, NextSteps.at_its_stage, OrderlyLists.not_astray, SameWords.Behind}
-use Rattle.mk_laws.proofs.{Standings.{is_astray, standing_at}, Wells.bare_guarded}
 use Rattle.mk_core.proofs.RegisterAccesses.{register_leaves, tally_leaves}
+use Rattle.mk_laws.proofs.{Actors.Meets, Colours.Colours, Colours.ColourStep, Colours.colour_step, Growth.grows_more}
+use Rattle.mk_laws.proofs.{Growth.grows_same, Known.Known, NextSteps.at_its_stage, OrderlyLists.not_astray}
+use Rattle.mk_laws.proofs.{SameWords.Behind, Standings.is_astray, Standings.standing_at, Wells.bare_guarded}
 
 -- the words that only a few kinds change
 pub record Table : Type 0 where
@@ -51,7 +51,7 @@ swapped _ h = cc
 
 -- heap words: one that changes is owed, or is 0
 
-stored : (c : Config) (m : Moment) (k : ℕ) (x : Step) (s : Stage) (n y : ℕ) → Known c m → k < c.callers
+stored : {c : Config} {m : Moment} (k : ℕ) (x : Step) (s : Stage) (n y : ℕ) → Known c m → k < c.callers
     → (flight_of m (Caller k)).stage ≡ s
     → ((o : Op) → is_astray (standing_at s o) ≡ false → stage_behind s (steps_of o) ≡ Stage.Dirty)
     → (f : Flight) → f.stage ≡ stage_behind (flight_of m (Caller k)).stage (steps_of (flight_of m (Caller k)).op)
@@ -60,7 +60,7 @@ stored : (c : Config) (m : Moment) (k : ℕ) (x : Step) (s : Stage) (n y : ℕ) 
     → (Behind c m (Caller k) x).seats.flights ≡ slice_set m.seats.flights k f
     → (slice_index (Behind c m (Caller k) x).words.heap y ≡ slice_index m.words.heap y)
     ⊎ IsGuarded c (Behind c m (Caller k) x) y
-stored c m k x s n y known lt at owes f stage same heap flights =
+stored {c} {m} k x s n y known lt at owes f stage same heap flights =
     elim (cases_eq y (word_met (flight_of m (Caller k)))) [
       | inl e ↦
           let o : Op = (flight_of m (Caller k)).op in
@@ -79,19 +79,19 @@ pub wiped : (xs : List ℕ) (n y : ℕ)
     → (slice_index (slice_set xs n 0) y ≡ slice_index xs y) ⊎ (slice_index (slice_set xs n 0) y ≡ 0)
 wiped xs n y = set_by (λ v. (v ≡ slice_index xs y) ⊎ (v ≡ 0)) xs n y 0 0 (λ e. inr refl) (inl refl)
 
-pub heap_kind : (c : Config) (m : Moment) (seat : Seat) (x : Step) → Known c m → Meets c m seat x → (y : ℕ)
+pub heap_kind : {c : Config} {m : Moment} (seat : Seat) (x : Step) → Known c m → Meets c m seat x → (y : ℕ)
     → (slice_index (Behind c m seat x).words.heap y ≡ slice_index m.words.heap y) ⊎ IsGuarded c (Behind c m seat x) y
-heap_kind c m seat Step.Reg known h y = inl (ap (λ (t : Table). slice_index t.heap y) (reg_table c m seat))
-heap_kind c m seat (Step.Tally n v) known h y = inl (ap (λ (t : Table). slice_index t.heap y) (tally_table m.words n v))
-heap_kind c m (Caller k) Step.Write known h y = stored c m k Step.Write Stage.Write _ y known
+heap_kind {c} {m} seat Step.Reg known h y = inl (ap (λ (t : Table). slice_index t.heap y) (reg_table c m seat))
+heap_kind {m} seat (Step.Tally n v) known h y = inl (ap (λ (t : Table). slice_index t.heap y) (tally_table m.words n v))
+heap_kind {c} {m} (Caller k) Step.Write known h y = stored k Step.Write Stage.Write _ y known
     (ltb-true k c.callers h.seat) (at_its_stage _ _ Step.Write refl h.order) wrote _ refl refl refl refl
-heap_kind c m (Caller k) Step.Cas known h y = stored c m k Step.Cas Stage.Cas _ y known
+heap_kind {c} {m} (Caller k) Step.Cas known h y = stored k Step.Cas Stage.Cas _ y known
     (ltb-true k c.callers h.seat) (at_its_stage _ _ Step.Cas refl h.order) swapped _ refl refl refl refl
-heap_kind c m _ Step.Write known h y = let kind = h.kind in cc
-heap_kind c m _ Step.Cas known h y = let kind = h.kind in cc
-heap_kind c m seat (Step.Wipe n) known h y =
+heap_kind _ Step.Write known h y = let kind = h.kind in cc
+heap_kind _ Step.Cas known h y = let kind = h.kind in cc
+heap_kind {c} {m} seat (Step.Wipe n) known h y =
     elim (wiped m.words.heap n y) [ inl same ↦ inl same | inr bare ↦ inr (bare_guarded c _ y bare) ]
-heap_kind c m seat _ known h y = inl refl
+heap_kind seat _ known h y = inl refl
 
 -- dirty words
 
@@ -159,13 +159,13 @@ headers_kind c m seat (Step.Used q n) u p = set_by (λ (y : Page). y.header ≡ 
 headers_kind c m seat _ u p = cc
 
 -- marks only grow while a cycle marks
-marks_grow : (c : Config) (m : Moment) (seat : Seat) (y : Colours) → IsMarking m.words → ColourStep c m seat y
+marks_grow : {c : Config} {m : Moment} {seat : Seat} {y : Colours} → IsMarking m.words → ColourStep c m seat y
     → OnlyGrow m.words.marks y.marks
-marks_grow c m seat y early x6 = grind (arith, grows_more, grows_same)
+marks_grow early x6 = grind (arith, grows_more, grows_same)
 
 pub marks_kind : (c : Config) (m : Moment) (seat : Seat) (x : Step) → IsMarking m.words → Meets c m seat x
     → OnlyGrow m.words.marks (Behind c m seat x).words.marks
-marks_kind c m seat x early h = marks_grow c m seat _ early (colour_step c m seat x h)
+marks_kind c m seat x early h = marks_grow early (colour_step c m seat x h)
 
 -- black words: bits are added by two kinds
 abbrev pub is_blackening : Step → Bool

@@ -20,20 +20,20 @@ pub gone_front : (c : Config) (run : Option RunPages) (a : PlacedAllocation) (xs
     → a.released ≡ true → claims_of c run (a ∷ xs) ≡ claims_of c run xs
 gone_front c run a xs r = cond-true a.released _ _ r
 
-behind_front : (c : Config) (run : Option RunPages) (a : PlacedAllocation) (xs : List PlacedAllocation) (x : Claim)
+behind_front : {c : Config} {run : Option RunPages} (a : PlacedAllocation) {xs : List PlacedAllocation} {x : Claim}
     → IsClaimOf c run xs x → IsClaimOf c run (a ∷ xs) x
-behind_front c run a xs x h = record { number = suc h.number; unreleased = h.unreleased; is = h.is }
+behind_front a h = record { number = suc h.number; unreleased = h.unreleased; is = h.is }
 
 pub claim_is : (c : Config) (run : Option RunPages) (xs : List PlacedAllocation) (x : Claim)
     → Among x (claims_of c run xs) → IsClaimOf c run xs x
 claim_is c run [] x i = absurd i
 claim_is c run (a ∷ xs) x i = elim (cases_Bool a.released) [
-  | inl r ↦ behind_front c run a xs x (claim_is c run xs x (rw (gone_front c run a xs r) at i))
+  | inl r ↦ behind_front a (claim_is c run xs x (rw (gone_front c run a xs r) at i))
   | inr u ↦
       let j : Among x (claim_of c run a ∷ claims_of c run xs) = rw (front c run a xs u) at i in
       elim j [
         | inl e ↦ record { number = 0; unreleased = u; is = e }
-        | inr k ↦ behind_front c run a xs x (claim_is c run xs x k)
+        | inr k ↦ behind_front a (claim_is c run xs x k)
       ]
 ]
 
@@ -67,24 +67,19 @@ pub record WasClaim (c : Config) (run : Option RunPages) (g : PlacedAllocation
   pub was : (placed_at xs number).released ≡ false
   pub is : y ≡ claim_of c run (g (placed_at xs number))
 
-pub was_claim : (c : Config) (run : Option RunPages) (g : PlacedAllocation
-    → PlacedAllocation) (xs : List PlacedAllocation) (y : Claim) → LeavesCells g
+pub was_claim : (c : Config) (run : Option RunPages) {g : PlacedAllocation
+    → PlacedAllocation} (xs : List PlacedAllocation) (y : Claim) → LeavesCells g
     → Among y (claims_of c run (map g xs)) → WasClaim c run g xs y
-was_claim c run g xs y leaves i =
+was_claim c run {g = g} xs y leaves i =
     let x = claim_is c run (map g xs) y i in
     let at = changed_at g xs x.number leaves.places.none in
     let u : (g (placed_at xs x.number)).released ≡ false = rw (← at) x.unreleased in
-    record {
-      number = x.number;
-      unreleased = u;
-      was = leaves.released _ u;
-      is = x.is ∙ ap (claim_of c run) at;
-    }
+    record { number = x.number; unreleased = u; was = leaves.released _ u; is = x.is ∙ ap (claim_of c run) at }
 
-pub changed_among : (c : Config) (run : Option RunPages) (g : PlacedAllocation
-    → PlacedAllocation) (xs : List PlacedAllocation) (i : ℕ) → LeavesCells g
+pub changed_among : (c : Config) (run : Option RunPages) {g : PlacedAllocation
+    → PlacedAllocation} (xs : List PlacedAllocation) (i : ℕ) → LeavesCells g
     → (g (placed_at xs i)).released ≡ false → Among (claim_of c run (g (placed_at xs i))) (claims_of c run (map g xs))
-changed_among c run g xs i leaves u =
+changed_among c run {g = g} xs i leaves u =
     let at = changed_at g xs i leaves.places.none in
     subst (λ (a : PlacedAllocation). Among (claim_of c run a) (claims_of c run (map g xs))) at
     (claim_among c run (map g xs) i (ap (λ (a : PlacedAllocation). a.released) at ∙ u))
@@ -106,16 +101,16 @@ first_apart c run a xs u apart i v same =
     both.0 _ (claim_among c run xs i v) same
 
 -- Claims stay apart,
-pub apart_behind : (c : Config) (old new : Option RunPages) (g : PlacedAllocation → PlacedAllocation)
+pub apart_behind : (c : Config) (old new : Option RunPages) {g : PlacedAllocation → PlacedAllocation}
     (xs : List PlacedAllocation) → LeavesCells g → AreApart (claims_of c old xs) → AreApart (claims_of c new (map g xs))
-apart_behind c old new g [] leaves apart = apart
-apart_behind c old new g (a ∷ xs) leaves apart =
-    let rest = apart_behind c old new g xs leaves (rest_apart c old a xs apart) in
+apart_behind c old new [] leaves apart = apart
+apart_behind c old new {g = g} (a ∷ xs) leaves apart =
+    let rest = apart_behind c old new xs leaves (rest_apart c old a xs apart) in
     elim (cases_Bool (g a).released) [
       | inl r ↦ rw (gone_front c new (g a) (map g xs) r) rest
       | inr u ↦ rw (front c new (g a) (map g xs) u) (
         λ y i same.
-            let was = was_claim c new g xs y leaves i in
+            let was = was_claim c new xs y leaves i in
             let b : PlacedAllocation = placed_at xs was.number in
             let of_b = one_cell c old new b (g b) (leaves.places.base b) (leaves.places.ty b) in
             let of_a = one_cell c old new a (g a) (leaves.places.base a) (leaves.places.ty a) in
@@ -128,15 +123,16 @@ apart_behind c old new g (a ∷ xs) leaves apart =
     ]
 
 -- and allocations at their cells.
-pub at_cell : (c : Config) (a b : PlacedAllocation) → b.base ≡ a.base → b.ty ≡ a.ty → IsAtCell c a → IsAtCell c b
-at_cell c a b base ty at =
+pub at_cell : {c : Config} {a : PlacedAllocation} (b : PlacedAllocation) → b.base ≡ a.base → b.ty ≡ a.ty
+    → IsAtCell c a → IsAtCell c b
+at_cell {c} {a} b base ty at =
     let same : object_placed c b ≡ object_placed c a = rw ty in
     record { typed = rw ty at.typed; begins = rw same (rw base at.begins) }
 
-pub cells_behind : (c : Config) (g : PlacedAllocation → PlacedAllocation) (xs : List PlacedAllocation) → LeavesCells g
+pub cells_behind : (c : Config) {g : PlacedAllocation → PlacedAllocation} (xs : List PlacedAllocation) → LeavesCells g
     → ((i : ℕ) → (placed_at xs i).released ≡ false → IsAtCell c (placed_at xs i))
     → (i : ℕ) → (placed_at (map g xs) i).released ≡ false → IsAtCell c (placed_at (map g xs) i)
-cells_behind c g xs leaves cells i u =
+cells_behind c {g = g} xs leaves cells i u =
     let at = changed_at g xs i leaves.places.none in
-    rw at (at_cell c (placed_at xs i) (g (placed_at xs i)) (leaves.places.base (placed_at xs i))
+    rw at (at_cell (g (placed_at xs i)) (leaves.places.base (placed_at xs i))
     (leaves.places.ty (placed_at xs i)) (cells i (leaves.released (placed_at xs i) (rw (← at) u))))

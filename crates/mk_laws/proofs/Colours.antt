@@ -4,11 +4,11 @@ use Rattle.mk_laws.proofs.Vocabulary.{Words, ℕ, and_parts, arith, bit_or, cell
 use Rattle.mk_laws.proofs.Vocabulary.{head_page, if◌then◌else◌, inl, inr, is_attending, is_phase, is_some, marker_at}
 use Rattle.mk_laws.proofs.Vocabulary.{marker_of, none_attends, not, not-true, nothing_done, or_cases, or_else, page_met}
 use Rattle.mk_laws.proofs.Vocabulary.{phase_of, refl, scan_page, seen_bit, seen_page, slice_index, slice_set, sym, true}
-use Rattle.mk_laws.proofs.{Vocabulary.{◌&&◌, ◌==◌, ◌||◌, ◌∙◌, ◌≡◌, ◌⊎◌}, Actors.Meets, Asked.none_at}
-use Rattle.mk_laws.proofs.{Growth.{grows_more, grows_same}, SameWords.Behind}
+use Rattle.mk_laws.proofs.Vocabulary.{◌&&◌, ◌==◌, ◌||◌, ◌∙◌, ◌≡◌, ◌⊎◌}
 use Rattle.mk_core.proofs.RegisterAccesses.{LeavesTable, register_leaves, tally_leaves}
-use Rattle.mk_core.specs.{StopConditions.{may_black, may_mark, may_undirty}, Accesses.scan_bit, Effects.hand_given}
-use Rattle.mk_core.specs.MarkerConditions.{may_mblack}
+use Rattle.mk_core.specs.StopConditions.{may_black, may_mark, may_undirty}
+use Rattle.mk_core.specs.{Accesses.scan_bit, Effects.hand_given, MarkerConditions.may_mblack}
+use Rattle.mk_laws.proofs.{Actors.Meets, Asked.none_at, Growth.grows_more, Growth.grows_same, SameWords.Behind}
 
 pub record Colours : Type 0 where
   pub marks : List ℕ
@@ -53,9 +53,9 @@ pub data ColourStep (c : Config) (m : Moment) (seat : Seat) : Colours → Type 0
   DropsHand : ColourStep c m seat (record (colours_of m) { hand = None })
 
 -- Words that leave the table leave the colours.
-table_left : (c : Config) (m : Moment) (seat : Seat) (w : Words) → LeavesTable m.words w
+table_left : (c : Config) (m : Moment) (seat : Seat) {w : Words} → LeavesTable m.words w
     → ColourStep c m seat (colours_with w m.seats.holding.hand)
-table_left c m seat w t = rw (t.marks, t.blacks, t.dirty) Leaves
+table_left c m seat t = rw (t.marks, t.blacks, t.dirty) Leaves
 
 marking : (n : ℕ) → ((n == 1) || (n == 2)) ≡ true → (n ≡ 1) ⊎ (n ≡ 2)
 marking n h = elim (or_cases (n == 1) (n == 2) h) [ inl e ↦ inl (eqb-true n 1 e) | inr e ↦ inr (eqb-true n 2 e) ]
@@ -84,8 +84,8 @@ takes_or_not c m seat false = Leaves
 -- all kinds, whatever the seat
 pub colour_step : (c : Config) (m : Moment) (seat : Seat) (x : Step) → Meets c m seat x
     → ColourStep c m seat (colours_of (Behind c m seat x))
-colour_step c m seat Step.Reg h = table_left c m seat _ (register_leaves m.words _ _ _)
-colour_step c m seat (Step.Tally n v) h = table_left c m seat _ (tally_leaves m.words n v)
+colour_step c m seat Step.Reg h = table_left c m seat (register_leaves m.words _ _ _)
+colour_step c m seat (Step.Tally n v) h = table_left c m seat (tally_leaves m.words n v)
 colour_step c m seat (Step.Take o) h = takes_or_not c m seat _
 colour_step c m seat Step.Give h = DropsHand
 colour_step c m seat (Step.Look w) h = TakesHand w
@@ -107,13 +107,13 @@ quiet_ends : (m : Moment) (k : ℕ) → (phase_of m.words ≡ 1) ⊎ (phase_of m
 quiet_ends m k early a (inl z) = omega arith
 quiet_ends m k early a (inr none) = let f : true ≡ false = sym a ∙ none_at m.seats.markers k none.1 in cc
 
-pub attending_grows : (c : Config) (m : Moment) (seat : Seat) (y : Colours) (k : ℕ) → (phase_of m.words ≡ 1)
+pub attending_grows : {c : Config} {m : Moment} {seat : Seat} {y : Colours} (k : ℕ) → (phase_of m.words ≡ 1)
     ⊎ (phase_of m.words ≡ 2) → is_attending (marker_of m k).presence ≡ true → ColourStep c m seat y
     → OnlyGrow m.words.marks y.marks × OnlyGrow m.words.blacks y.blacks
-attending_grows c m seat y k early a (AddsMarks p bits e h) = (grows_more _ p bits, grows_same _)
-attending_grows c m seat y k early a (MarksSeen p bits s e f) = (grows_more _ p bits, grows_same _)
-attending_grows c m seat y k early a (Blackens p bits e h) = (grows_same _, grows_more _ p bits)
-attending_grows c m seat y k early a (BlackensScanned p bits s e f) = (grows_same _, grows_more _ p bits)
-attending_grows c m seat y k early a (ClearsMarks p z) = absurd (quiet_ends m k early a (inl z))
-attending_grows c m seat y k early a (Whitens p q) = absurd (quiet_ends m k early a q)
-attending_grows c m seat y k early a _ = (grows_same m.words.marks, grows_same m.words.blacks)
+attending_grows k early a (AddsMarks p bits e h) = (grows_more _ p bits, grows_same _)
+attending_grows k early a (MarksSeen p bits s e f) = (grows_more _ p bits, grows_same _)
+attending_grows k early a (Blackens p bits e h) = (grows_same _, grows_more _ p bits)
+attending_grows k early a (BlackensScanned p bits s e f) = (grows_same _, grows_more _ p bits)
+attending_grows {m} k early a (ClearsMarks p z) = absurd (quiet_ends m k early a (inl z))
+attending_grows {m} k early a (Whitens p q) = absurd (quiet_ends m k early a q)
+attending_grows {m} k early a _ = (grows_same m.words.marks, grows_same m.words.blacks)

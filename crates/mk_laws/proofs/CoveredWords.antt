@@ -7,8 +7,8 @@ use Rattle.mk_laws.proofs.Vocabulary.{cells_under, false, has_no_pointers, head_
 use Rattle.mk_laws.proofs.Vocabulary.{header_in, heads_run, inl, inr, mul-le, page_at_address, pointed_cell, refl}
 use Rattle.mk_laws.proofs.Vocabulary.{run_count, slice_index, storage_of, storage_words, sym, true, word_points}
 use Rattle.mk_laws.proofs.Vocabulary.{words_under, ◌*◌, ◌+◌, ◌-◌, ◌/◌, ◌<◌, ◌∙◌, ◌≡◌, ◌≢◌, ◌≤◌, ◌⊎◌}
-use Rattle.mk_laws.{proofs.Headers.{free_shows}, specs.{Kept.LaterPagesAreKnown, WholeRuns.RunsAreWhole}}
 use Rattle.mk_core.proofs.PointedPages.{pointed_head}
+use Rattle.mk_laws.{proofs.Headers.free_shows, specs.Kept.LaterPagesAreKnown, specs.WholeRuns.RunsAreWhole}
 
 -- A number is in one of equal parts alone.
 pub one_part : (size i j n : ℕ) → i * size ≤ n → n < i * size + size → j * size ≤ n → n < j * size + size → i ≡ j
@@ -80,9 +80,9 @@ module _ (c : Config) (w : World) (runs : RunsAreWhole c w) (p k x : ℕ)
             ]
       ]
 
-  pub has_cell : (a : PlacedAllocation) → IsWithinLimits c → StandsOnHeap c a → HasItsHeaders c w.now.words a
+  pub has_cell : {a : PlacedAllocation} → IsWithinLimits c → StandsOnHeap c a → HasItsHeaders c w.now.words a
       → IsWordOf (storage_of c a) x → cell_of_allocation c a ≡ record { page = p; index = k }
-  has_cell a limits stands headers word =
+  has_cell {a} limits stands headers word =
       let cell : Cell = cell_of_allocation c a in
       let points : pointed_cell c.pages w.now.words.pages (address_of x) ≡ Some cell =
       word_points c w.now.words a limits stands headers x word in

@@ -43,10 +43,10 @@ pub record IsMarking (p : ℕ) : Type 0 where
   pub least : 1 ≤ p
   pub most : p ≤ 2
 
-pub marking_step : (x : Step) (p : ℕ) → AsksPhase x p → IsMarking p → is_close x ≡ false
+pub marking_step : (x : Step) {p : ℕ} → AsksPhase x p → IsMarking p → is_close x ≡ false
     → IsMarking (phase_behind x p) × (is_begin x ≡ false) × (is_release x ≡ false)
-marking_step step.Begin p asks m out = let least = m.least in absurd (omega arith)
-marking_step x0 p asks m out = grind arith
+marking_step step.Begin asks m out = let least = m.least in absurd (omega arith)
+marking_step x0 asks m out = grind arith
 
 -- From a `begin` up to its `release`, phases 1, 2 and 3, no other cycle begins.
 pub record IsUnreleased (p : ℕ) : Type 0 where
@@ -60,19 +60,17 @@ unreleased_step x0 p asks m out = grind arith
 
 -- One event that is enabled: what its phases are.
 pub moves_phase : (c : Config) (w : World) (e : Event) (es : List Event) → AreEnabledFrom c w (e ∷ es)
-    → AsksPhase e.step (phase_of w.now.words)
-    × (phase_of (world_behind c w e).now.words ≡ phase_behind e.step (phase_of w.now.words))
-    × AreEnabledFrom c (world_behind c w e) es
+    → AsksPhase e.step (phase_of w.now.words) × (phase_of (world_behind c w e).now.words ≡ phase_behind e.step
+    (phase_of w.now.words)) × AreEnabledFrom c (world_behind c w e) es
 unfolding AreEnabledFrom
 moves_phase c w e es on = grind (arith, enabled_meets, phase_asked, phase_moves)
 
 -- Without events of one kind a claim of the phase stays along a list, and another kind doesn't come, where each step
 -- says so.
-pub phases_go_on : (P : ℕ → Type 0) (stops out : Step → Bool)
-    → ((x : Step) (p : ℕ) → AsksPhase x p → P p → stops x ≡ false → P (phase_behind x p) × (out x ≡ false))
-    → (c : Config) (w : World) (es : List Event) → AreEnabledFrom c w es → P (phase_of w.now.words)
-    → list_any (λ (e : Event). stops e.step) es ≡ false
-    → P (phase_of (left_from c w es).now.words) × (list_any (λ (e : Event). out e.step) es ≡ false)
+pub phases_go_on : (P : ℕ → Type 0) (stops out : Step → Bool) → ((x : Step) (p : ℕ) → AsksPhase x p → P p
+    → stops x ≡ false → P (phase_behind x p) × (out x ≡ false)) → (c : Config) (w : World) (es : List Event)
+    → AreEnabledFrom c w es → P (phase_of w.now.words) → list_any (λ (e : Event). stops e.step) es ≡ false → P
+    (phase_of (left_from c w es).now.words) × (list_any (λ (e : Event). out e.step) es ≡ false)
 unfolding left_from
 phases_go_on P stops out one c w [] on here none = (here, refl)
 phases_go_on P stops out one c w (e ∷ es) on here none =
@@ -90,20 +88,18 @@ pub record MarkingGoesOn (c : Config) (w : World) (es : List Event) : Type 0 whe
 pub marking_goes_on : (c : Config) (w : World) (es : List Event) → AreEnabledFrom c w es
     → IsMarking (phase_of w.now.words) → list_any (λ (e : Event). is_close e.step) es ≡ false → MarkingGoesOn c w es
 marking_goes_on c w es on m none =
-    let begins = phases_go_on IsMarking is_close is_begin (λ x p asks here out. let s =
-    marking_step x p asks here out in
+    let begins = phases_go_on IsMarking is_close is_begin (λ x p asks here out. let s = marking_step x asks here out in
     (s.0, s.1)) c w es on m none in
     let releases = phases_go_on IsMarking is_close is_release (λ x p asks here out.
-    let s = marking_step x p asks here out in (s.0, s.2)) c w es on m none in
+    let s = marking_step x asks here out in (s.0, s.2)) c w es on m none in
     record { phase = begins.0; none_begins = begins.1; none_releases = releases.1 }
 
 pub record NoneIsReleased (c : Config) (w : World) (es : List Event) : Type 0 where
   pub phase : IsUnreleased (phase_of (left_from c w es).now.words)
   pub none_begins : list_any (λ (e : Event). is_begin e.step) es ≡ false
 
-pub none_is_released : (c : Config) (w : World) (es : List Event) → AreEnabledFrom c w es
-    → IsUnreleased (phase_of w.now.words)
-    → list_any (λ (e : Event). is_release e.step) es ≡ false → NoneIsReleased c w es
+pub none_is_released : (c : Config) (w : World) (es : List Event) → AreEnabledFrom c w es → IsUnreleased
+    (phase_of w.now.words) → list_any (λ (e : Event). is_release e.step) es ≡ false → NoneIsReleased c w es
 none_is_released c w es on m none =
     let rest = phases_go_on IsUnreleased is_release is_begin unreleased_step c w es on m none in
     record { phase = rest.0; none_begins = rest.1 }

@@ -24,17 +24,17 @@ data FlagsStep (w v : World) (i : ℕ) : Type 0 where
   IsNew : length w.allocations ≤ i → is_freed_before (placed_at v.allocations i) ≡ false → FlagsStep w v i
 
 -- `quar` (a): what stands in the cell wasn't freed
-freed_flags : (c : Config) (w : World) (cell : Cell) (n i : ℕ) → FreesHere c w cell n → IsQuarantined c w
+freed_flags : {c : Config} {w : World} {cell : Cell} {n : ℕ} (i : ℕ) → FreesHere c w cell n → IsQuarantined c w
     → (placed_at w.allocations i).released ≡ false → (b : Bool) → stands_in w.now.words cell (placed_at w.allocations i)
     ≡ b → is_freed_before (freed_where_it_stands w.now.words (Some cell) (placed_at w.allocations i))
     ≡ is_freed_before (placed_at w.allocations i)
-freed_flags c w cell n i x q u true is = grind (arith, false_from_ne_true, is_freed_before)
-freed_flags c w cell n i x q u false is = grind arith
+freed_flags i x q u true is = grind (arith, false_from_ne_true, is_freed_before)
+freed_flags i x q u false is = grind arith
 
-flags_step : (c : Config) (w : World) (seat : Seat) (x : Step) (i : ℕ) → Before c w → Meets c w.now seat x
+flags_step : {c : Config} {w : World} (seat : Seat) (x : Step) (i : ℕ) → Before c w → Meets c w.now seat x
     → LayoutStands c w → IsQuarantined c w → is_begin x ≡ false
     → (placed_at (WorldBehind c w seat x).allocations i).released ≡ false → FlagsStep w (WorldBehind c w seat x) i
-flags_step c w seat (Step.Quar p n) i b h laid q out u =
+flags_step {c} {w} seat (Step.Quar p n) i b h laid q out u =
     by (cell_freed c.pages w.now.words (flight_of w.now seat) p n) refl
   where
     by : (cell : Option Cell) → cell_freed c.pages w.now.words (flight_of w.now seat) p n ≡ cell
@@ -46,15 +46,15 @@ flags_step c w seat (Step.Quar p n) i b h laid q out u =
     by (Some cell) is =
         let same : (WorldBehind c w seat (Step.Quar p n)).allocations
         ≡ map (freed_where_it_stands w.now.words (Some cell)) w.allocations = rw is in
-        let frees = frees_here c w seat p n cell b h laid (freed_cell c.pages w.now.words _ p n cell is) in
-        let x = before_change c _ w.allocations i (freeing_leaves w.now.words (Some cell)) (rw (← same) u) in
-        Stays x.was (rw same (rw x.now (freed_flags c w cell n i frees q x.was _ refl)))
-flags_step c w seat Step.Begin i b h laid q out u = absurd (true≢false out)
-flags_step c w seat Step.Grant i b h laid q out u = grind (arith, pushed_new)
-flags_step c w seat Step.Release i b h laid q out u =
-    let x = before_change c _ w.allocations i (releasing_leaves c w.now.words) u in
+        let frees = frees_here seat b h laid (freed_cell c.pages w.now.words _ p n cell is) in
+        let x = before_change c w.allocations i (freeing_leaves w.now.words (Some cell)) (rw (← same) u) in
+        Stays x.was (rw same (rw x.now (freed_flags i frees q x.was _ refl)))
+flags_step seat Step.Begin i b h laid q out u = absurd (true≢false out)
+flags_step seat Step.Grant i b h laid q out u = grind (arith, pushed_new)
+flags_step {c} {w} seat Step.Release i b h laid q out u =
+    let x = before_change c w.allocations i (releasing_leaves c w.now.words) u in
     Stays x.was (rw x.now)
-flags_step c w seat _ i b h laid q out u = Stays u refl
+flags_step seat _ i b h laid q out u = Stays u refl
 
 -- allocations are never lost
 longer : (c : Config) (w : World) (seat : Seat) (x : Step)
@@ -72,12 +72,12 @@ record Tells (xs : List PlacedAllocation) (w : World) : Type 0 where
   flags : (i : ℕ) → (placed_at w.allocations i).released ≡ false
       → is_freed_before (placed_at w.allocations i) ≡ is_quarantined (placed_at xs i)
 
-tells_behind : (c : Config) (xs : List PlacedAllocation) (w : World) (seat : Seat) (x : Step) → Before c w
+tells_behind : {c : Config} {xs : List PlacedAllocation} {w : World} (seat : Seat) (x : Step) → Before c w
     → Meets c w.now seat x → LayoutStands c w → IsQuarantined c w → is_begin x ≡ false
     → Tells xs w → Tells xs (WorldBehind c w seat x)
-tells_behind c xs w seat x b h laid q out t = record {
+tells_behind {c} {xs} {w} seat x b h laid q out t = record {
   longer = let l = longer c w seat x in let m = t.longer in omega arith;
-  flags = λ i u. by i (flags_step c w seat x i b h laid q out u);
+  flags = λ i u. by i (flags_step seat x i b h laid q out u);
 }
   where
     by : (i : ℕ) → FlagsStep w (WorldBehind c w seat x) i
@@ -90,7 +90,7 @@ tells_at_begin : (c : Config) (w : World) (seat : Seat) → Tells w.allocations 
 tells_at_begin c w seat = record {
   longer = longer c w seat Step.Begin;
   flags = λ i u.
-      let x = before_change c no_longer_fresh w.allocations i fresh_cells u in
+      let x = before_change c w.allocations i fresh_cells u in
       let a : PlacedAllocation = placed_at w.allocations i in
       rw x.now (sym (rw x.was));
 }
@@ -117,23 +117,22 @@ stage_behind c b w e xs none before h order (Waits (y ∷ front) is at) =
     Waits front rest (ap (λ (z : Event). left_from c (world_behind c w z) front) same ∙ at)
 stage_behind c b w e xs none before h order (Begun out t) =
     let parts = or_parts _ (list_any (λ (x : Event). is_begin x.step) xs) out in
-    Begun parts.1 (tells_behind c _ w e.seat e.step before h order.laid order.quarantined parts.0 t)
+    Begun parts.1 (tells_behind e.seat e.step before h order.laid order.quarantined parts.0 t)
 
 pub snapshots_are_of_cycles : SnapshotsAreOfCycles
 unfolding LayoutPremisesFrom
 snapshots_are_of_cycles c es limits on others begin none cycling i u =
-    let all = along_enabled c (λ w xs. LayoutPremisesFrom c w xs × StandsInOrder c w × Stage c begin w xs)
+    let all = along_enabled (λ w xs. LayoutPremisesFrom c w xs × StandsInOrder c w × Stage c begin w xs)
     (λ w e xs lengths known here p. (
       p.0.1,
-      order_behind c w e limits lengths known here p.0.0 p.1,
-      stage_behind c begin w e xs none (known_before c w limits lengths known p.0.0 p.1.quarantined)
+      order_behind e limits lengths known here p.0.0 p.1,
+      stage_behind c begin w e xs none (known_before limits lengths known p.0.0 p.1.quarantined)
           (enabled_meets c w.now e here) p.1 p.2,
     )) es limits on (others, in_order_at_first c, Waits begin.before begin.is refl) in
     by all.1 all.2
   where
-    by : StandsInOrder c (left c es) → Stage c begin (left c es) []
-        → has_bit_of c (left c es).now.words.snapshot (placed_at (left c es).allocations i)
-        ≡ is_quarantined (placed_at (left c begin.before).allocations i)
+    by : StandsInOrder c (left c es) → Stage c begin (left c es) [] → has_bit_of c (left c es).now.words.snapshot
+        (placed_at (left c es).allocations i) ≡ is_quarantined (placed_at (left c begin.before).allocations i)
     by order (Waits [] is at) = cc
     by order (Waits (y ∷ front) is at) = cc
     by order (Begun out t) = order.snapshot.quarantined cycling i u ∙ t.flags i u

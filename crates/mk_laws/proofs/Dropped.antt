@@ -12,10 +12,10 @@ pub unreleasing : (c : Config) (o : Object) (marks other : List ℕ) (t : Ground
 unreleasing c o marks other t freed snapshot st = grind arith
 
 -- `quar` (c): released cells that aren't used are dropped
-pub dropped : (c : Config) (o : Object) (w : World) (p freed n : ℕ) → Laid c o true w (ground_of w)
+pub dropped : (c : Config) (o : Object) (w : World) {p freed n : ℕ} → Laid c o true w (ground_of w)
     → Drops w.now.words p freed n
     → Laid c o true w (record (ground_of w) { snapshot = slice_set w.now.words.snapshot p n })
-dropped c o w p freed n st h =
+dropped c o w {p = p} {n = n} st h =
     let s = st.scene in
     record {
       scene = record {
@@ -39,10 +39,9 @@ dropped c o w p freed n st h =
           | inr out ↦ let lost = h.gone k (rw (← e) was) out in absurd (true≢false (sym bit ∙ rw e lost.1))
         ]) was
 
-    by : (q k : ℕ) → has_bit (used_at w.now.words q) k ≡ true → IsClaimed (claims_on c o (ground_of w)) q k
-        ⊎ (is_released_in true w.now.words.snapshot w.now.words.marks q k ≡ true)
-        → IsClaimed (claims_on c o (ground_of w)) q k
-        ⊎ (is_released_in true (slice_set w.now.words.snapshot p n) w.now.words.marks q k ≡ true)
+    by : (q k : ℕ) → has_bit (used_at w.now.words q) k ≡ true → IsClaimed (claims_on c o (ground_of w)) q k ⊎
+        (is_released_in true w.now.words.snapshot w.now.words.marks q k ≡ true) → IsClaimed (claims_on c o
+        (ground_of w)) q k ⊎ (is_released_in true (slice_set w.now.words.snapshot p n) w.now.words.marks q k ≡ true)
     by q k bit (inl own) = inl own
     by q k bit (inr r) = grind (arith, and_parts, stays)
 
@@ -64,7 +63,7 @@ settled_page w count p h lt =
 pub ended : (c : Config) (o : Object) (w : World) → length w.now.words.pages ≡ c.pages → Laid c o true w (ground_of w)
     → may_end c.pages w.now.words ≡ true → Laid c o false w (ground_of w)
 ended c o w len st h = record {
-  scene = layout_ended _ st.scene (record {
+  scene = layout_ended st.scene (record {
     none = λ p k lt. (settled_page w.now.words c.pages p h (omega (arith, len))).none k;
     settled = λ p lt some empty. (settled_page w.now.words c.pages p h (omega (arith, len))).used some empty;
   });

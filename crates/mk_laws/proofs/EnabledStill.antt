@@ -27,7 +27,7 @@ use Rattle.mk_core.specs.{NewPlaces.bits_made, Order.is_in_order}
 
 -- The gates that a step of the turn's holder asks for are as it asks, whatever others did since.
 
-module _ (c : Config) (w v : World) (kept : TurnIsLeft w v) where
+module _ (c : Config) {w v : World} (kept : TurnIsLeft w v) where
   pub phase_same : phase_of v.now.words ≡ phase_of w.now.words
   phase_same = ap (λ (s : Steady). s.phase) kept.steady
 
@@ -73,10 +73,10 @@ module _ (c : Config) (w v : World) (kept : TurnIsLeft w v) (own : v.now.seats.h
   b = v.now.words
 
   phase : phase_of b ≡ phase_of a
-  phase = phase_same c w v kept
+  phase = phase_same c kept
 
   pages : b.pages ≡ a.pages
-  pages = pages_same c w v kept
+  pages = pages_same c kept
 
   phase_is : (n : ℕ) → is_phase b n ≡ is_phase a n
   phase_is n = rw phase
@@ -101,10 +101,9 @@ module _ (c : Config) (w v : World) (kept : TurnIsLeft w v) (own : v.now.seats.h
       → carves b (object_made c f.op) (place_now c v.now f) p n ≡ true
   carves_on f p n h =
       let o : Object = object_made c f.op in
-      rw (place_same f)
-      (some_on (λ (x : Place). is_next_header a x.page (pages_made o) (header_made o) p n && is_marked_first a o x)
-      (λ (x : Place). is_next_header b x.page (pages_made o) (header_made o) p n
-      && is_marked_first b o x) _ (λ x q. and_on _ _ _ _ (λ e. rw pages e) (marked_on o x) q) h)
+      rw (place_same f) (some_on (λ (x : Place). is_next_header a x.page (pages_made o)
+      (header_made o) p n && is_marked_first a o x) (λ (x : Place). is_next_header b x.page (pages_made o)
+      (header_made o) p n && is_marked_first b o x) _ (λ x q. and_on _ _ _ _ (λ e. rw pages e) (marked_on o x) q) h)
 
   empties_same : (p n : ℕ) → empties b p n ≡ empties a p n
   empties_same p n = grind (arith, pages)
@@ -117,16 +116,14 @@ module _ (c : Config) (w v : World) (kept : TurnIsLeft w v) (own : v.now.seats.h
   unmarked_same : (p n : ℕ) → b.marks ≡ a.marks → gives_unmarked b p n ≡ gives_unmarked a p n
   unmarked_same p n marks = rw (marks, pages, ap (λ (s : Steady). s.snapshot) kept.steady)
 
-  used_on : (f : Flight) (p n : ℕ)
-      → (is_phase a 4 ≡ true → gives_back a p n ≡ true → are_wiped b p (used_at b p - n) ≡ true)
-      → may_use c w.now f p n ≡ true → may_use c v.now f p n ≡ true
+  used_on : (f : Flight) (p n : ℕ) → (is_phase a 4 ≡ true → gives_back a p n ≡ true
+      → are_wiped b p (used_at b p - n) ≡ true) → may_use c w.now f p n ≡ true → may_use c v.now f p n ≡ true
   used_on f p n wiped h =
       let o : Object = object_made c f.op in
       let first : Bool = not (is_used_once w.now.seats.holding.placing) in
-      rw phase (if_on (is_phase a 4) _ _ (gives_back b p n) _
-      (λ four e. and_on (gives_unmarked a p n) _ (gives_unmarked b p n)
-      _ (λ u. unmarked_same p n (quiet_at_4 four) ∙ u) (λ u. wiped four e) e) (λ off e. and_on first _ _
-      (takes_cell b o (place_now c v.now f) p n) (λ u. rw own u) (λ u. rw (place_same f) (rw pages u)) e) h)
+      rw phase (if_on (is_phase a 4) _ _ (gives_back b p n) _ (λ four e. and_on (gives_unmarked a p n) _
+      (gives_unmarked b p n) _ (λ u. unmarked_same p n (quiet_at_4 four) ∙ u) (λ u. wiped four e) e) (λ off e. and_on
+      first _ _ (takes_cell b o (place_now c v.now f) p n) (λ u. rw own u) (λ u. rw (place_same f) (rw pages u)) e) h)
 
   -- `quar`
 
@@ -211,7 +208,7 @@ module _ (c : Config) (w v : World) (kept : TurnIsLeft w v) (own : v.now.seats.h
 
 -- The words of released cells are in no mapped allocation: what is wiped stays so.
 
-module _ (c : Config) (w v : World) (n : NeverState) (known : KnownWorld c w) (all : Invariant c w n)
+module _ {c : Config} {w : World} (v : World) {n : NeverState} (known : KnownWorld c w) (all : Invariant c w n)
     (pages : v.now.words.pages ≡ w.now.words.pages) (outside : (i : ℕ) → (IsWordOfMapped c w.allocations i → ⊥)
     → slice_index v.now.words.heap i ≡ slice_index w.now.words.heap i) where
   -- no word of a cell that is given back is one of a mapped allocation
@@ -225,7 +222,7 @@ module _ (c : Config) (w v : World) (n : NeverState) (known : KnownWorld c w) (a
       let at = left_bits w.now.words p _ k (gives_back_is w.now.words p value back).left bit in
       let lk = all.order.known p k (all.order.quarantined.within p k at.0) in
       let cell = has_cell c w all.order.runs p k (first_word w.now.words (record { page = p; index = k }) + i) lk
-      (omega arith) (omega arith) a known.limits l.stands l.headers m.word in
+      (omega arith) (omega arith) known.limits l.stands l.headers m.word in
       let left : is_released_cell w.now.words (record { page = p; index = k }) ≡ true =
       and_from _ _ four (has_bit_without _ _ k ∙ and_from _ _ at.0 (ap not at.1)) in
       true≢false (sym left ∙ ap (is_released_cell w.now.words) (sym cell)
@@ -233,9 +230,8 @@ module _ (c : Config) (w v : World) (n : NeverState) (known : KnownWorld c w) (a
 
   -- The cell's words are 0, where its bit is one of these.
   abbrev wiped_in : Words → ℕ → ℕ → ℕ → Bool
-  wiped_in x p bits k = not (has_bit bits k)
-      || words_are_zero x (first_word w.now.words (record { page = p; index = k }))
-      (cell_words w.now.words (record { page = p; index = k }))
+  wiped_in x p bits k = not (has_bit bits k) || words_are_zero x (first_word w.now.words
+      (record { page = p; index = k })) (cell_words w.now.words (record { page = p; index = k }))
 
   pub wiped_still : (p value : ℕ) → is_phase w.now.words 4 ≡ true → gives_back w.now.words p value ≡ true
       → are_wiped v.now.words p (used_at v.now.words p - value) ≡ true
@@ -266,9 +262,9 @@ turn_after c m (Marker k) (Step.Take o) h ne out = let kind = h.kind in cc
 turn_after c m Host (Step.Take o) h ne out = absurd (ne refl)
 turn_after c m seat x3 h ne out = grind (arith, reg_keeps, tally_keeps)
 
-host_stays_out : (c : Config) (es more : List Event) → IsHistory c (es ++ more) → AreOfOthers (Host ∷ []) more
+host_stays_out : {c : Config} (es more : List Event) → IsHistory c (es ++ more) → AreOfOthers (Host ∷ []) more
     → (left c es).now.words.turn ≢ 1 + c.callers → (left c (es ++ more)).now.words.turn ≢ 1 + c.callers
-host_stays_out c es more h others = along_others c (Host ∷ []) (λ xs ys. (left c xs).now.words.turn ≢ 1 + c.callers
+host_stays_out {c} es more h others = along_others c (Host ∷ []) (λ xs ys. (left c xs).now.words.turn ≢ 1 + c.callers
     → (left c ys).now.words.turn ≢ 1 + c.callers) (λ xs out. out) (λ xs ys zs f g out. g (f out))
     (λ xs e whole other out. rw (comes_last c xs e whole).leaves (turn_after c (left c xs).now e.seat
     e.step (comes_last c xs e whole).meets (other_seat Host e.seat other) out)) es more h others
@@ -312,20 +308,19 @@ module _ (c : Config) (es more : List Event) (e : Event) (h : IsHistory c (es ++
       let holds = holds_is c w.now e.seat st.known.now.orderly t in
       let turn = (left_to.turn holds).0 in
       let finds = holder_finds c e.seat es more h others holds in
-      let pages = pages_same c w v turn in
+      let pages = pages_same c turn in
       record {
-        gates = rw left_to.own.flight (gates_on c w v turn e.seat (flight_of w.now e.seat) e.step meets.gates);
-        phase = rw (phase_same c w v turn) meets.phase;
-        holder = rw left_to.own.flight
-            (holder_on c w v turn finds.holding e.seat (flight_of w.now e.seat) e.step meets.gates meets.phase
-            (λ all. left_to.stop (holds, all)) finds.gone
-            (λ p n four back. wiped_still c w v _ st.known st.all pages finds.outside p n four back) meets.holder);
+        gates = rw left_to.own.flight (gates_on c turn e.seat (flight_of w.now e.seat) e.step meets.gates);
+        phase = rw (phase_same c turn) meets.phase;
+        holder = rw left_to.own.flight (holder_on c w v turn finds.holding e.seat
+            (flight_of w.now e.seat) e.step meets.gates meets.phase (λ all. left_to.stop (holds, all)) finds.gone
+            (λ p n four back. wiped_still v st.known st.all pages finds.outside p n four back) meets.holder);
       }
 
   pub enabled_still : IsEnabled c w.now e → IsEnabled c v.now e
   enabled_still on =
       let meets = enabled_meets c w.now e on in
-      let still = asks_still meets (asks c w.now e.seat e.step (actor_of c w.now e.seat e.step
+      let still = asks_still meets (asks (actor_of c w.now e.seat e.step
       (stands c es before).known.now.orderly meets)) in
       meets_enabled c v.now e (record {
         seat = meets.seat;

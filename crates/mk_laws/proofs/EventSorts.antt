@@ -16,9 +16,9 @@ use Rattle.mk_laws.proofs.Vocabulary.{sym, target, true, with_released, word_at,
 use Rattle.mk_laws.proofs.{Vocabulary.{◌/◌, ◌<◌, ◌==◌, ◌||◌, ◌∙◌, ◌≡◌, ◌≢◌}, Basics.{KnownWorld, Leads, Move, Ready}}
 use Rattle.mk_laws.proofs.Basics.{Releases, Renews, Stands, at_its_stage, at_no_take, base_at, calls_stand}
 use Rattle.mk_laws.proofs.Basics.{exists_placed, grants_new, is_call_stage, not_astray, others_held, pointed_word}
-use Rattle.mk_laws.proofs.{Basics.{unmapped_is, view_of, words_fit}, CallSorts.{bare_on, begins, cas_leads_at}}
-use Rattle.mk_laws.proofs.CallSorts.{dirty_leads, enter_leads, getg_leads_at, leave_leads, probe_leads_at}
-use Rattle.mk_laws.proofs.CallSorts.{read_leads_at, reg_leads_at, setg_leads_at, write_leads_at}
+use Rattle.mk_laws.proofs.{Basics.{unmapped_is, words_fit}, CallSorts.{bare_on, begins, cas_leads_at, dirty_leads}}
+use Rattle.mk_laws.proofs.CallSorts.{enter_leads, getg_leads_at, leave_leads, probe_leads_at, read_leads_at}
+use Rattle.mk_laws.proofs.CallSorts.{reg_leads_at, setg_leads_at, write_leads_at}
 use Rattle.mk_laws.proofs.{ImagesBefore.{shown_in_call, type_is}, TurnMoves.{full_by, grant_by, look_by, quar_by}}
 use Rattle.mk_laws.proofs.{FreeMoves.same_places, GrantMoves.wiped_outside, ImagesHeldGates.others_idle}
 use Rattle.mk_laws.proofs.{ImagesMoves.{Rests, Wipes}, NextSteps.{at_take, of_turn}, Pairs.shows_plain}
@@ -33,8 +33,8 @@ is_number_kind : (kind : Kind) → is_number kind ≡ true → kind ≡ Number
 is_number_kind Number h = refl
 is_number_kind (To t o) h = cc
 
-module _ (c : Config) (w : World) (n : NeverState) (known : KnownWorld c w) (mirrors : Mirrors c w n) (safe : ℕ
-    → Bool) (ready : Ready c.globals safe (image_scene_of w) n) (st : Stands c w.now.words w.allocations)
+module _ {c : Config} {w : World} {n : NeverState} (known : KnownWorld c w) (mirrors : Mirrors c w n) {safe : ℕ
+    → Bool} (ready : Ready c.globals safe (image_scene_of w) n) (st : Stands c w.now.words w.allocations)
     (marks : MarksAreClosed c w) (plain : (j : ℕ) → is_put (flight_among w.now.seats.flights j).stage ≡ false) where
   abbrev placed : ℕ → PlacedAllocation
   placed i = placed_at w.allocations i
@@ -110,9 +110,8 @@ module _ (c : Config) (w : World) (n : NeverState) (known : KnownWorld c w) (mir
 
   cut_safe : IsSafeSet cut cut_allocations n
   cut_safe = record {
-    registers = λ k. root_cut (slice_index w.now.words.registers k) (slice_index_or n.registers k Null)
-        (marks.registers k)
-        (sym (shows_plain (flight_among w.now.seats.flights (k / 8)) (k % 8) (slice_index w.now.words.registers k)
+    registers = λ k. root_cut (slice_index w.now.words.registers k) (slice_index_or n.registers k Null) (marks.registers
+        k) (sym (shows_plain (flight_among w.now.seats.flights (k / 8)) (k % 8) (slice_index w.now.words.registers k)
         (plain (k / 8))) ∙ ready.images.registers k) (mirrors.typed.registers k) (ready.set.registers k);
     globals = λ g. root_cut (slice_index w.now.words.globals g) (global_at n g) (marks.globals g)
         (ready.images.globals g) (mirrors.typed.globals g) (ready.set.globals g);
@@ -127,9 +126,8 @@ module _ (c : Config) (w : World) (n : NeverState) (known : KnownWorld c w) (mir
 
   pub releases : Move safe (image_scene_of w) n
       (record (image_scene_of w) { allocations = map (with_released c w.now.words) w.allocations }) n
-  releases = Releases cut_allocations
-      (same_places _ w.allocations (released_leaves c w.now.words)) (λ a u. (or_parts _ _
-      (ap (λ (y : PlacedAllocation). y.released) (sym (changed_at _ w.allocations a refl)) ∙ u)).0)
+  releases = Releases cut_allocations (same_places w.allocations (released_leaves c w.now.words)) (λ a
+      u. (or_parts _ _ (ap (λ (y : PlacedAllocation). y.released) (sym (changed_at _ w.allocations a refl)) ∙ u)).0)
       (λ a. rw (changed_at _ w.allocations a refl)) cut cut_safe
 
 -- what an event leads to, and that what it decides is right
@@ -172,9 +170,9 @@ none_target : (b : Bool) → (if b then no_cell else no_cell) ≡ no_cell
 none_target true = refl
 none_target false = refl
 
-module _ (c : Config) (w : World) (n : NeverState) (known : KnownWorld c w) (mirrors : Mirrors c w n)
-    (others : ImagePremises c w) (safe : ℕ
-    → Bool) (ready : Ready c.globals safe (image_scene_of w) n) (st : Stands c w.now.words w.allocations) where
+module _ {c : Config} {w : World} {n : NeverState} (known : KnownWorld c w) (mirrors : Mirrors c w n)
+    (others : ImagePremises c w) {safe : ℕ
+    → Bool} (ready : Ready c.globals safe (image_scene_of w) n) (st : Stands c w.now.words w.allocations) where
   -- at a release nothing is owed
   plain_at : (seat : Seat) → is_open_to seat Group.Turn ≡ true → MeetsOf c w seat Step.Release → (j : ℕ)
       → is_put (flight_among w.now.seats.flights j).stage ≡ false
@@ -182,13 +180,11 @@ module _ (c : Config) (w : World) (n : NeverState) (known : KnownWorld c w) (mir
     | inl e ↦
         let f = flight_of w.now (Caller k) in
         rw e (turn_plain f.stage (of_turn f.stage f.op Step.Release refl refl h.order))
-    | inr ne ↦ idle_plain _
-        (others_idle c (view_of w.now) k known.now.orderly (others_held c w.now (Caller k) h.gates) j ne)
+    | inr ne ↦ idle_plain _ (others_idle k known.now.orderly (others_held c w.now (Caller k) h.gates) j ne)
   ]
   plain_at Host o h j = elim (cases_lt j c.callers) [
     | inl lt ↦ idle_plain _
-        (others_idle c (view_of w.now) c.callers known.now.orderly (others_held c w.now Host h.gates) j
-        (λ e. absurd (omega arith)))
+        (others_idle c.callers known.now.orderly (others_held c w.now Host h.gates) j (λ e. absurd (omega arith)))
     | inr le ↦ rw (get_or_past w.now.seats.flights j at_rest (let e = known.now.orderly.flights in omega (arith, e)))
   ]
   plain_at (Marker k) o h j = absurd (false≢true o)
@@ -206,24 +202,24 @@ module _ (c : Config) (w : World) (n : NeverState) (known : KnownWorld c w) (mir
       rw (tally_leaves_registers w.now.words t v, kept.globals, kept.heap) Rests
   still_moves seat (Step.Wipe x) s h = Wipes x (wiped_outside c w n known mirrors others st x (h.holder))
   still_moves seat Step.Begin s h =
-      Renews (map no_longer_fresh w.allocations) (same_places no_longer_fresh _ fresh_leaves) (λ a. rw (changed_at
+      Renews (map no_longer_fresh w.allocations) (same_places _ fresh_leaves) (λ a. rw (changed_at
       no_longer_fresh w.allocations a refl)) (λ a. rw (changed_at no_longer_fresh w.allocations a refl))
   still_moves seat Step.Release s h =
-      releases c w n known mirrors safe ready st (others.marks (eqb-true _ 3 h.phase)) (plain_at seat h.kind h)
+      releases known mirrors ready st (others.marks (eqb-true _ 3 h.phase)) (plain_at seat h.kind h)
   still_moves seat _ s h = Rests
 
   -- of a caller, whose flight stays
-  still_leads : (k : ℕ) (t : ImageScene) → Move safe (image_scene_of w) n t n → t.flights ≡ w.now.seats.flights
+  still_leads : (k : ℕ) {t : ImageScene} → Move safe (image_scene_of w) n t n → t.flights ≡ w.now.seats.flights
       → Leads safe (image_scene_of w) n k (flight_of w.now (Caller k)).op
       (record t { flights = slice_set w.now.seats.flights k (flight_of w.now (Caller k)) }) None
-  still_leads k t m e = (rw (e ∙ sym (set-get_or w.now.seats.flights k at_rest)) at m, λ more. refl)
+  still_leads k m e = (rw (e ∙ sym (set-get_or w.now.seats.flights k at_rest)) at m, λ more. refl)
 
   quiet_at : (k p v : ℕ) → MeetsOf c w (Caller k) (Step.Quar p v)
       → is_run_cell w.now.words (target c.pages w.now.words (flight_of w.now (Caller k))) ≡ true → (j : ℕ) → j ≢ k
       → is_past_probe (flight_among w.now.seats.flights j).stage ≡ false
   quiet_at k p v h run j ne =
       let held : others_are_held c.callers w.now.words (Caller k) ≡ true = either_held _ _ run h.gates in
-      ap is_past_probe (others_idle c (view_of w.now) k known.now.orderly (others_held c w.now (Caller k) held) j ne)
+      ap is_past_probe (others_idle k known.now.orderly (others_held c w.now (Caller k) held) j ne)
     where
       either_held : (a b : Bool) → a ≡ true → (not a || b) ≡ true → b ≡ true
       either_held true b e g = g
@@ -256,22 +252,20 @@ module _ (c : Config) (w : World) (n : NeverState) (known : KnownWorld c w) (mir
   goes (Caller k) Step.Give h ad = let f =
       flight_of w.now (Caller k) in bare_on c w n known mirrors safe ready k f.op at_rest
       (turn_plain f.stage (of_turn f.stage f.op Step.Give refl refl h.order)) refl
-  goes (Caller k) (Step.Look x) h ad = look_by c w n known mirrors others safe ready st k (ltb-true k c.callers h.seat)
-      _ x refl
+  goes (Caller k) (Step.Look x) h ad = look_by known mirrors others ready st k (ltb-true k c.callers h.seat) _ x refl
   goes (Caller k) (Step.Quar p v) h ad =
-      quar_by c w n known mirrors others safe ready st k (ltb-true k c.callers h.seat) _ p v
-      _ refl refl (quiet_at k p v h)
+      quar_by known mirrors others ready st k (ltb-true k c.callers h.seat) _ p v _ refl refl (quiet_at k p v h)
   goes (Caller k) Step.Grant h ad =
       let f = flight_of w.now (Caller k) in
       let lt = ltb-true k c.callers h.seat in
-      grant_by c w n known mirrors others safe ready st k lt f.stage f.op f.q f.p f.r f.loaded
+      grant_by known mirrors others ready st k lt f.stage f.op f.q f.p f.r f.loaded
       w.now.seats.holding.placing refl h.order (h.holder) refl
       (lt, new_stands f.stage f.op (grants_new c w.now (Caller k) h)) (grant_phase _ h.phase) (known.now.operands k)
   goes (Caller k) Step.Full h ad =
       let f = flight_of w.now (Caller k) in
-      full_by c w n known mirrors others safe ready st k (ltb-true k c.callers h.seat) f.stage f.op f.q f.p f.r f.loaded
+      full_by known mirrors others ready st k (ltb-true k c.callers h.seat) f.stage f.op f.q f.p f.r f.loaded
       refl h.order
-  goes (Caller k) x h ad = still_leads k _ (still_moves (Caller k) x refl h) refl
+  goes (Caller k) x h ad = still_leads k (still_moves (Caller k) x refl h) refl
   goes _ Step.Reg h ad = absurd (false≢true h.kind)
   goes _ Step.Write h ad = absurd (false≢true h.kind)
   goes _ Step.Cas h ad = absurd (false≢true h.kind)

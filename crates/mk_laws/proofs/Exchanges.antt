@@ -46,8 +46,8 @@ histories_compare c es h others before behind k q i p r whole is =
     ap (λ s. flight s f.op f.q f.p f.r f.loaded) at_cas ∙ rw is in
     let admits : IsAdmitted c.globals n k o =
     rw is at (admitted_call c.globals n k f.op _ (ap is_under_turn is) (admitted.0, tt)) in
-    let compared = cas_compares c.globals safe.0 _ n k ready (there_is c w n known mirrors safe.0 ready k lt)
-    (own_registers c w n known mirrors safe.0 ready k lt) q i p r f.q f.p f.r f.loaded x
+    let compared = cas_compares k ready (there_is c w n known mirrors safe.0 ready k lt)
+    (own_registers c w n known mirrors safe.0 ready k lt) f.q f.p f.r f.loaded x
     (rw lit at (ready.images.carried k)) (rw lit at (ready.images.probed k)) (rw lit) admits in
     record {
       number = compared.0.number;

@@ -8,15 +8,15 @@ use Rattle.mk_laws.proofs.Vocabulary.{cell_of_allocation, cells_made, claim_of, 
 use Rattle.mk_laws.proofs.Vocabulary.{eqb-true, false, flight_of, granted, granted_base_is, granted_object}
 use Rattle.mk_laws.proofs.Vocabulary.{granted_type, ground_of, has_bit_without, header_at, header_made, inl, inr}
 use Rattle.mk_laws.proofs.Vocabulary.{is_large, is_mapped, is_phase, is_released_cell, is_released_in, is_small_object}
-use Rattle.mk_laws.proofs.Vocabulary.{is_undecided_new, is_unmapping, kinds_of, large_is_not_small, layout_scene_of}
-use Rattle.mk_laws.proofs.Vocabulary.{length, lt-ltb, mode_of, not, object_made, object_now, object_placed, pages_made}
-use Rattle.mk_laws.proofs.Vocabulary.{pages_some, phase_of, place_claim, placed_at, pointed_cell, refl}
-use Rattle.mk_laws.proofs.Vocabulary.{run_of_allocation, stands, subst, suc, sym, true, true≢false, typed_size}
-use Rattle.mk_laws.proofs.Vocabulary.{unmapped_header, zero, [], ◌&&◌, ◌+◌, ◌/◌, ◌<◌, ◌==◌, ◌∙◌, ◌∷◌, ◌≡◌, ◌≢◌, ◌≤◌}
-use Rattle.mk_laws.proofs.{Claims.{claim_among, claim_is, first_apart, rest_apart}, Unmapping.shares_run}
-use Rattle.mk_laws.proofs.LayoutHolders.{holding_object, new_has_turn, seat_operands}
-use Rattle.mk_laws.proofs.{Released.{IsStanding, all_stand, place_index}, Serving.{apart_across, apart_left, own_claim}}
-use Rattle.mk_laws.proofs.{Serving.placed_claim, KnownWorlds.KnownWorld, TellImages.zeros_tell_the_images}
+use Rattle.mk_laws.proofs.Vocabulary.{is_undecided_new, is_unmapping, kinds_of, large_is_not_small, length, lt-ltb}
+use Rattle.mk_laws.proofs.Vocabulary.{mode_of, not, object_made, object_now, object_placed, pages_made, pages_some}
+use Rattle.mk_laws.proofs.Vocabulary.{phase_of, place_claim, placed_at, pointed_cell, refl, run_of_allocation, stands}
+use Rattle.mk_laws.proofs.Vocabulary.{subst, suc, sym, true, true≢false, typed_size, unmapped_header, zero, [], ◌&&◌}
+use Rattle.mk_laws.proofs.{Vocabulary.{◌+◌, ◌/◌, ◌<◌, ◌==◌, ◌∙◌, ◌∷◌, ◌≡◌, ◌≢◌, ◌≤◌}, Claims.{claim_among, claim_is}}
+use Rattle.mk_laws.proofs.{Claims.{first_apart, rest_apart}, LayoutHolders.{holding_object, new_has_turn}}
+use Rattle.mk_laws.proofs.{LayoutHolders.seat_operands, Released.{IsStanding, all_stand, place_index}}
+use Rattle.mk_laws.proofs.{Serving.{apart_across, apart_left, own_claim, placed_claim}, KnownWorlds.KnownWorld}
+use Rattle.mk_laws.proofs.{TellImages.zeros_tell_the_images, Unmapping.shares_run}
 use Rattle.mk_core.proofs.{GrantedAllocations.{placed_headers, placed_stands}, PointedAllocations.base_points}
 use Rattle.mk_core.specs.NewPlaces.{place_stands}
 use Rattle.mk_laws.specs.{ImagePremises.IsFreedRun, RunGates.HoldsRunGates}
@@ -116,9 +116,8 @@ module _ (c : Config) (w : World) (known : KnownWorld c w) (laid : LayoutStands 
             let some = pages_some (object_placed c a) (shown_claim i u).sized in
             let some2 = pages_some x.claim.object (laid.scene.shown x.claim his).sized in
             let page = x.page in
-            let same : x.claim ≡ claim_of c run a =
-            shares_run (layout_scene_of c (object_now c w.now) (is_phase w.now.words 4) w.now.words.marks (ground_of w))
-            (claim_of c run a) x.claim 0 0 laid.scene mine his large (omega arith) (omega arith) (omega arith) in
+            let same : x.claim ≡ claim_of c run a = shares_run (claim_of c run a) x.claim 0 0 laid.scene mine his large
+            (omega arith) (omega arith) (omega arith) in
             let count = sym x.count ∙ ap (λ (y : Claim). pages_made y.object) same in
             absurd (other (e ∙ ap Some (ap (λ p. record { page = p; count = r.count }) there
             ∙ ap (λ k. record { page = a.base / 64; count = k }) count)))
@@ -157,9 +156,8 @@ module _ (c : Config) (w : World) (known : KnownWorld c w) (laid : LayoutStands 
       let index : (cell_of_allocation c a).index ≡ place.index = ap (λ (x : Cell). x.index) cells ∙ at.1 in
       apart_across _ _ _ _ laid.scene.apart (claim_among c run xs i u) among (page, index)
 
-  taken : (place : Place) (k : ℕ) → w.now.seats.holding.placing ≡ Used place → k < c.callers
-      → is_undecided_new (flight_of w.now (Caller k)) ≡ true
-      → IsPlaceOfNone c w (object_made c (flight_of w.now (Caller k)).op) place
+  taken : (place : Place) (k : ℕ) → w.now.seats.holding.placing ≡ Used place → k < c.callers → is_undecided_new
+      (flight_of w.now (Caller k)) ≡ true → IsPlaceOfNone c w (object_made c (flight_of w.now (Caller k)).op) place
   taken place k is lt new =
       let f : Flight = flight_of w.now (Caller k) in
       let o : Object = object_made c f.op in
@@ -167,9 +165,8 @@ module _ (c : Config) (w : World) (known : KnownWorld c w) (laid : LayoutStands 
       holding_object c w.now (Caller k) known.now (new_has_turn c w.now (Caller k) (lt-ltb k c.callers lt) new) in
       let among : Among (place_claim (object_now c w.now) place)
       (claims_placed (object_now c w.now) w.now.seats.holding.placing) = grind arith in
-      let shown : IsShown w.now.words.pages (place_claim o place) =
-      subst (λ (u : Object). IsShown w.now.words.pages (place_claim u place)) object
-      (laid.scene.shown (place_claim (object_now c w.now) place)
+      let shown : IsShown w.now.words.pages (place_claim o place) = subst (λ (u : Object). IsShown w.now.words.pages
+      (place_claim u place)) object (laid.scene.shown (place_claim (object_now c w.now) place)
       (placed_claim c (object_now c w.now) (ground_of w) (place_claim (object_now c w.now) place) among)) in
       let pages : place.page + pages_made o ≤ c.pages =
       subst (λ n. place.page + pages_made o ≤ n) known.lengths.pages shown.within in
@@ -181,13 +178,11 @@ module _ (c : Config) (w : World) (known : KnownWorld c w) (laid : LayoutStands 
         index = shown.known;
         pages = pages;
         stands = stand;
-        alone = λ i u same. place_alone b place
-            (granted_type c w.now f new (seat_operands c w.now (Caller k) known.now)) refl (base
-            ∙ ap (λ (x : Object). base_made x place) (sym e))
-            (subst (λ (x : Object). place.index < cells_made x) (sym e) shown.known)
-            (subst (λ (x : Object). place.page + pages_made x ≤ c.pages) (sym e) pages)
-            (subst (λ (x : Object). place_stands w.now.words x place ≡ true) (sym e) stand) is i u (same
-            ∙ ap (λ (x : Object). base_made x place) (sym e));
+        alone = λ i u same. place_alone b place (granted_type c w.now f new
+            (seat_operands c w.now (Caller k) known.now)) refl (base ∙ ap (λ (x : Object). base_made x place) (sym e))
+            (subst (λ (x : Object). place.index < cells_made x) (sym e) shown.known) (subst (λ (x : Object). place.page
+            + pages_made x ≤ c.pages) (sym e) pages) (subst (λ (x : Object). place_stands w.now.words x place ≡ true)
+            (sym e) stand) is i u (same ∙ ap (λ (x : Object). base_made x place) (sym e));
       }
 
   pub say_to_images : IsQuarantined c w → HasZeros c w → HoldsRunGates c w

@@ -28,37 +28,35 @@ run_cell distance page = if nat_le distance page then Some (record { page = page
 first_cell : (distance page : ℕ) → distance ≡ 0 → Some (record { page = page; index = 0 }) ≡ run_cell distance page
 first_cell distance page z = grind (arith, cond-true, le-leb)
 
-run_cell_under : (o : Object) (distance page word : ℕ) (x : Option Header) → ShowsPart o distance x
+run_cell_under : {o : Object} {distance : ℕ} (page word : ℕ) {x : Option Header} → ShowsPart o distance x
     → is_small_object o ≡ false → option_and_then (λ h. cell_under h page word) x ≡ run_cell distance page
-run_cell_under o distance page word x (OfBlock z small leaf) large = absurd (true≢false (sym small ∙ large))
-run_cell_under o distance page word x (OfLeafBlock z small leaf) large = absurd (true≢false (sym small ∙ large))
-run_cell_under o distance page word x (OfRun mapped z l leaf) large = first_cell distance page z
-run_cell_under o distance page word x (OfLeafRun z l leaf) large = first_cell distance page z
-run_cell_under o distance page word x (OfLater mapped some l) large = refl
+run_cell_under page word (OfBlock z small leaf) large = absurd (true≢false (sym small ∙ large))
+run_cell_under page word (OfLeafBlock z small leaf) large = absurd (true≢false (sym small ∙ large))
+run_cell_under {distance} page word (OfRun mapped z l leaf) large = first_cell distance page z
+run_cell_under {distance} page word (OfLeafRun z l leaf) large = first_cell distance page z
+run_cell_under page word (OfLater mapped some l) large = refl
 
-run_cell_at : (pages header value distance : ℕ) (o : Object) → ShowsPart o distance (header_of header)
+run_cell_at : (pages header value : ℕ) {distance : ℕ} {o : Object} → ShowsPart o distance (header_of header)
     → is_small_object o ≡ false → cell_at pages header value
     ≡ (if is_heap_address pages value then run_cell distance (page_at_address value) else None)
-run_cell_at pages header value distance o part large =
-    ap (λ (x : Option Cell). if is_heap_address pages value then x else None)
-    (run_cell_under o distance _ _ _ part large)
+run_cell_at pages header value {distance = distance} {o = o} part large =
+    ap (λ (x : Option Cell). if is_heap_address pages value then x else None) (run_cell_under _ _ part large)
 
 -- Unmapping shows the same.
 
-unmapped_goes : (pages before after distance : ℕ) (o : Object) → is_small_object o ≡ false
+unmapped_goes : (pages before after : ℕ) {distance : ℕ} {o : Object} → is_small_object o ≡ false
     → ShowsPart o distance (header_of before) → ShowsPart o distance (header_of after)
     → is_unmapped_header (header_of after) ≡ true → HeaderGoesOn pages before after
-unmapped_goes pages before after distance o large b a unmapped = record {
-  cell = λ v y is. run_cell_at pages after v distance o a large
-      ∙ sym (run_cell_at pages before v distance o b large) ∙ is;
+unmapped_goes pages before after {distance = distance} {o = o} large b a unmapped = record {
+  cell = λ v y is. run_cell_at pages after v a large ∙ sym (run_cell_at pages before v b large) ∙ is;
   count = λ some. same_cells o distance _ _ a b;
   words = λ some. same_words o distance _ _ a b;
   unscanned = λ some t. rw unmapped (or-true _);
 }
 
-unmaps_find : (c : Config) (w : Words) (freed : Option RunPages) (p n : ℕ)
+unmaps_find : (c : Config) {w : Words} {freed : Option RunPages} {p n : ℕ}
     → ((run : RunPages) → freed ≡ Some run → RunHasObject w run) → Unmaps w freed p n → HeadFinds c.pages w p n
-unmaps_find c w freed p n runs u =
+unmaps_find c {w = w} {p = p} {n = n} runs u =
     let o : RunHasObject w u.run = runs u.run u.there in
     let near : p - u.run.page < u.run.count = u.next.near in
     let within : p - u.run.page < pages_made o.object = rw o.count near in
@@ -72,11 +70,9 @@ unmaps_find c w freed p n runs u =
     let unmapped : is_unmapped_header (header_of n) ≡ true =
     rw is (unmapped_is_unmapped _ _ (large_count o.object o.sized o.large) within) in
     let distance : ℕ = p - u.run.page in
-    Unmapped (part_not_free o.object distance n after)
-    (unmapped_goes c.pages (header_at w p) n distance o.object o.large before after unmapped)
-    (λ v y on is. run_cell_at c.pages (header_at w p) v distance o.object before o.large
-    ∙ sym (run_cell_at c.pages n v distance o.object after o.large) ∙ is)
-    (λ none. same_cells o.object distance (header_of n) (header_in w p) after before ∙ none)
+    Unmapped (part_not_free o.object distance n after) (unmapped_goes c.pages (header_at w p) n o.large before after
+    unmapped) (λ v y on is. run_cell_at c.pages (header_at w p) v before o.large ∙ sym (run_cell_at c.pages n v after
+    o.large) ∙ is) (λ none. same_cells o.object distance (header_of n) (header_in w p) after before ∙ none)
 
 -- Carving: the cells that the headers make are marked first.
 
@@ -131,7 +127,7 @@ made_cell pages o first distance value x sized lt on is = (page, index)
       | inl small ↦ small_index small
       | inr large ↦
           let zero = run_index (is_heap_address pages value) (nat_le distance (page_at_address value)) _
-          (sym (run_cell_at pages (header_made o distance) value distance o part large) ∙ is) in
+          (sym (run_cell_at pages (header_made o distance) value part large) ∙ is) in
           omega (arith, large_cells o large)
     ]
 
@@ -152,15 +148,14 @@ word_within o k i sized lk li = elim (cases_Bool (is_small_object o)) [
       omega arith
 ]
 
-carves_find : (c : Config) (w : Words) (o : Object) (found : Option Place) (p n : ℕ) → IsSized o → is_phase w 1 ≡ true
+carves_find : (c : Config) {w : Words} {o : Object} {found : Option Place} {p n : ℕ} → IsSized o → is_phase w 1 ≡ true
     → ((place : Place) → found ≡ Some place → PlaceIsBare w o place) → Carves w o found p n → HeadFinds c.pages w p n
-carves_find c w o found p n sized one bare k = Carved free (λ v x on is.
+carves_find c {w = w} {o = o} {p = p} {n = n} sized one bare k = Carved free (λ v x on is.
     let cell = made_cell c.pages o k.place.page (p - k.place.page) v x sized near (on
     ∙ sym here) (subst (λ a. cell_at c.pages a v ≡ Some x) k.next.is is) in
     subst (λ q. has_bit (slice_index w.marks q) x.index ≡ true) (sym cell.0)
-    (first_marked w o k.place x.index one k.marked cell.1))
-    (λ j i lj li. words j i (subst (λ a. j < cells_under (header_of a)) k.next.is lj)
-    (subst (λ a. i < words_under (header_of a)) k.next.is li))
+    (first_marked w o k.place x.index one k.marked cell.1)) (λ j i lj li. words j i
+    (subst (λ a. j < cells_under (header_of a)) k.next.is lj) (subst (λ a. i < words_under (header_of a)) k.next.is li))
   where
     b : PlaceIsBare w o k.place
     b = bare k.place k.there
@@ -201,9 +196,9 @@ carves_find c w o found p n sized one bare k = Carved free (λ v x on is.
     ]
 
 -- The object of an undecided New has 1 to 4,096 words.
-new_sized : (c : Config) (f : Flight) → IsWithinLimits c → has_operands c f.op ≡ true → is_undecided_new f ≡ true
+new_sized : {c : Config} (f : Flight) → IsWithinLimits c → has_operands c f.op ≡ true → is_undecided_new f ≡ true
     → IsSized (object_made c f.op)
-new_sized c f limits operands new = grind (arith, undecided_new, ltb-true, and_parts)
+new_sized f limits operands new = grind (arith, undecided_new, ltb-true, and_parts)
 
 -- While a cycle marks, a `head` comes before the stop is wanted.
 marking_phase : (n : ℕ) → ((n == 0) || (n == 1) || (n == 4)) ≡ true → (n ≡ 1) ⊎ (n ≡ 2) → n ≡ 1
@@ -221,7 +216,7 @@ head_finds c w seat p n limits known early say h = by (head_step c w.now (flight
     by (ItCarves four k) =
         let new = (placed_now c w.now (flight_of w.now seat) k.place k.there).new in
         let own = new_holds c w.now seat (Step.Head p n) h new in
-        let sized = new_sized c (flight_of w.now seat) limits (rw own.2 (known.operands own.0)) new in
-        carves_find c w.now.words _ _ p n sized (eq-eqb _ 1 one) (say.place early seat) k
-    by (ItUnmaps four u) = unmaps_find c w.now.words w.now.seats.holding.freed p n (say.freed early) u
+        let sized = new_sized (flight_of w.now seat) limits (rw own.2 (known.operands own.0)) new in
+        carves_find c sized (eq-eqb _ 1 one) (say.place early seat) k
+    by (ItUnmaps four u) = unmaps_find c (say.freed early) u
     by (ItEmpties four k) = let e = eqb-true _ 4 four in absurd (omega arith)

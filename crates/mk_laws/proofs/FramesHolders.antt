@@ -34,5 +34,5 @@ pub data Asks (c : Config) (m : Moment) (s : Seat) (x : Step) : Type 0 where
   OfHolder : HoldsTurn c (view_of m) s → Asks c m s x
   OfNone : ((n : Moment) (f : Flight) (phase : ℕ) → AsksNothing c n s f phase x) → Asks c m s x
 
-pub asks : (c : Config) (m : Moment) (s : Seat) (x : Step) → Actor c m s x → Asks c m s x
-asks c m s x actor = grind (arith, call_asks_nothing, marker_asks_nothing)
+pub asks : {c : Config} {m : Moment} {s : Seat} {x : Step} → Actor c m s x → Asks c m s x
+asks actor = grind (arith, call_asks_nothing, marker_asks_nothing)

@@ -82,9 +82,8 @@ of_caller k x = record { seat = Caller k; step = x }
 
 module _ (c : Config) (es more : List Event) (k : ℕ) (x : Step) (h : IsHistory c (es ++ more))
     (others : AreOfOthers (Caller k ∷ []) more)
-    (on : IsEnabled c (left c es).now (record { seat = Caller k; step = x }))
-    (admitted : AreAdmitted c.globals (never_behind c es)
-    (asked (call_decided c (left c es).now (record { seat = Caller k; step = x })))) where
+    (on : IsEnabled c (left c es).now (record { seat = Caller k; step = x })) (admitted : AreAdmitted c.globals
+    (never_behind c es) (asked (call_decided c (left c es).now (record { seat = Caller k; step = x })))) where
   abbrev w : World
   w = left c es
 
@@ -144,7 +143,7 @@ module _ (c : Config) (es more : List Event) (k : ℕ) (x : Step) (h : IsHistory
         is admitted) in
         let register =
         registers_are_left c es more k h others (q_of f.op) (operands_of c f.op (here.known.now.operands k)).q in
-        probe_still c w v _ _ here.known there.known here.all there.all k lt kept.own.flight (at_probe is)
+        probe_still here.known there.known here.all there.all lt kept.own.flight (at_probe is)
         (never_continues c es more) register (admitted_call _ _ k f.op Answer.Fault out decides) unmapped ∙ sym unmapped
   ]
 
@@ -182,30 +181,27 @@ module _ (c : Config) (es more : List Event) (k : ℕ) (x : Step) (h : IsHistory
   -- whether a `probe` decides
   pub caller_decides_the_same : x ≡ Step.Probe
       → is_some (answer_decided c v.now (of_caller k x)) ≡ is_some (answer_decided c w.now (of_caller k x))
-  caller_decides_the_same is = subst (λ (s : Step). is_some (answer_decided c v.now (of_caller k s))
-      ≡ is_some (answer_decided c w.now (of_caller k s))) (sym is)
-      (ap (λ (g : Flight). is_some (if probed v.now.words g then refused g Answer.Fault else onward g
-      None).answer) kept.own.flight
-      ∙ ap (λ (b : Bool). is_some (if b then refused f Answer.Fault else onward f None).answer) (probes_the_same is))
+  caller_decides_the_same is = subst (λ (s : Step). is_some (answer_decided c v.now (of_caller k s)) ≡ is_some
+      (answer_decided c w.now (of_caller k s))) (sym is) (ap (λ (g : Flight). is_some
+      (if probed v.now.words g then refused g Answer.Fault else onward g None).answer) kept.own.flight ∙ ap
+      (λ (b : Bool). is_some (if b then refused f Answer.Fault else onward f None).answer) (probes_the_same is))
 
-pub still_admitted : (c : Config) (es more : List Event) (seat : Seat) (x : Step) → IsHistory c (es ++ more)
+pub still_admitted : {c : Config} (es more : List Event) (seat : Seat) (x : Step) → IsHistory c (es ++ more)
     → AreOfOthers (seat ∷ []) more → IsEnabled c (left c es).now (record { seat = seat; step = x })
     → AreAdmitted c.globals (never_behind c es)
-    (asked (call_decided c (left c es).now (record { seat = seat; step = x })))
-    → AreAdmitted c.globals (never_behind c (es ++ more))
-    (asked (call_decided c (left c (es ++ more)).now (record { seat = seat; step = x })))
-still_admitted c es more (Caller k) x h others on admitted = caller_is_admitted c es more k x h others on admitted
-still_admitted c es more _ x h others on admitted = tt
+    (asked (call_decided c (left c es).now (record { seat = seat; step = x }))) → AreAdmitted c.globals
+    (never_behind c (es ++ more)) (asked (call_decided c (left c (es ++ more)).now (record { seat = seat; step = x })))
+still_admitted {c} es more (Caller k) x h others on admitted = caller_is_admitted c es more k x h others on admitted
+still_admitted es more _ x h others on admitted = tt
 
-pub still_decides : (c : Config) (es more : List Event) (seat : Seat) (x : Step) → IsHistory c (es ++ more)
-    → AreOfOthers (seat ∷ []) more → IsEnabled c (left c es).now (record { seat = seat; step = x })
-    → AreAdmitted c.globals (never_behind c es)
-    (asked (call_decided c (left c es).now (record { seat = seat; step = x }))) → x ≡ Step.Probe
-    → is_some (answer_decided c (left c (es ++ more)).now (record { seat = seat; step = x }))
-    ≡ is_some (answer_decided c (left c es).now (record { seat = seat; step = x }))
-still_decides c es more (Caller k) x h others on admitted is =
+pub still_decides : {c : Config} (es more : List Event) (seat : Seat) (x : Step) → IsHistory c (es ++ more)
+    → AreOfOthers (seat ∷ []) more → IsEnabled c (left c es).now (record { seat = seat; step = x }) → AreAdmitted
+    c.globals (never_behind c es) (asked (call_decided c (left c es).now (record { seat = seat; step = x })))
+    → x ≡ Step.Probe → is_some (answer_decided c (left c (es ++ more)).now (record { seat = seat; step = x })) ≡ is_some
+    (answer_decided c (left c es).now (record { seat = seat; step = x }))
+still_decides {c} es more (Caller k) x h others on admitted is =
     caller_decides_the_same c es more k x h others on admitted is
-still_decides c es more _ x h others on admitted is = refl
+still_decides es more _ x h others on admitted is = refl
 
 -- A `give` that keeps a tidy list tidy does so after what others did since: they leave the tallies, and what these
 -- count.
@@ -216,10 +212,10 @@ data SplitsLast (xs : List Event) (e : Event) (ys : List Event) (x : Event) : Ty
   AtLast : ys ≡ xs → x ≡ e → SplitsLast xs e ys x
   Before : (zs : List Event) → xs ≡ ys ++ x ∷ zs → SplitsLast xs e ys x
 
-one_longer : (a b : Event) (xs : List Event) (e : Event) (ys : List Event) (x : Event) → a ≡ b → SplitsLast xs e ys x
+one_longer : (a b : Event) {xs : List Event} {e : Event} {ys : List Event} {x : Event} → a ≡ b → SplitsLast xs e ys x
     → SplitsLast (a ∷ xs) e (b ∷ ys) x
-one_longer a b xs e ys x same (AtLast all is) = AtLast (cc) is
-one_longer a b xs e ys x same (Before zs is) = Before zs (cc)
+one_longer a b same (AtLast all is) = AtLast (cc) is
+one_longer a b same (Before zs is) = Before zs (cc)
 
 splits_last : (xs : List Event) (e : Event) (ys : List Event) (x : Event) (zs : List Event)
     → xs ++ e ∷ [] ≡ ys ++ x ∷ zs → SplitsLast xs e ys x
@@ -227,11 +223,11 @@ splits_last [] e [] x zs is = AtLast refl (cc)
 splits_last [] e (y ∷ []) x zs is = cc
 splits_last [] e (y ∷ z ∷ ys) x zs is = cc
 splits_last (a ∷ xs) e [] x zs is = Before xs (cc)
-splits_last (a ∷ xs) e (y ∷ ys) x zs is = one_longer a y xs e ys x (cc) (splits_last xs e ys x zs (cc))
+splits_last (a ∷ xs) e (y ∷ ys) x zs is = one_longer a y (cc) (splits_last xs e ys x zs (cc))
 
-pub tallies_on : (c : Config) (es fs : List Event) → TurnIsLeft (left c es) (left c fs) → CountsAreLeft c es fs
+pub tallies_on : {c : Config} {es fs : List Event} → TurnIsLeft (left c es) (left c fs) → CountsAreLeft c es fs
     → TalliesAreTidy c es → TalliesAreTidy c fs
-tallies_on c es fs kept counts tidy = record {
+tallies_on kept counts tidy = record {
   cycles = ap (λ (s : Steady). s.cycles) kept.steady ∙ tidy.cycles ∙ ap in_a_word (sym counts.ends);
   released = ap (λ (s : Steady). s.released) kept.steady ∙ tidy.released
       ∙ ap (λ (s : Steady). in_a_word (releases s.allocations)) (sym kept.steady);
@@ -248,16 +244,15 @@ tidy_by_last c xs e tidy last before x behind is give = by (splits_last xs e bef
     by (Before zs at) = tidy before x zs at give
 
 -- A `give` finds the tallies as its seat has found them.
-give_finds : (c : Config) (es more : List Event) (e : Event) → IsHistory c (es ++ e ∷ []) → IsHistory c (es ++ more)
+give_finds : {c : Config} (es more : List Event) (e : Event) → IsHistory c (es ++ e ∷ []) → IsHistory c (es ++ more)
     → AreOfOthers (e.seat ∷ []) more → IsTidy c (es ++ e ∷ []) → e.step ≡ Step.Give → TalliesAreTidy c (es ++ more)
-give_finds c es more e one h others tidy give =
+give_finds {c} es more e one h others tidy give =
     let last = comes_last c es e one in
     let orderly = (stands c es last.before).known.now.orderly in
-    let holds = holds_is c (left c es).now e.seat orderly
-    (acts_as_holder c (left c es).now e.seat e.step (actor_of c (left c es).now e.seat e.step orderly
-    last.meets) (ap is_holders give)) in
+    let holds = holds_is c (left c es).now e.seat orderly (acts_as_holder c (left c es).now e.seat e.step
+    (actor_of c (left c es).now e.seat e.step orderly last.meets) (ap is_holders give)) in
     let turn = (left_to c es more e h others).turn holds in
-    tallies_on c es (es ++ more) turn.0 turn.1 (tidy es e [] refl give)
+    tallies_on turn.0 turn.1 (tidy es e [] refl give)
 
 pub longer_lists_go_on : LongerListsGoOn
 longer_lists_go_on c es more e one h others =
@@ -265,12 +260,12 @@ longer_lists_go_on c es more e one h others =
     let on = enabled_still c es more e h others last.on in
     let reaches = others_leave_accesses c es more e h.within_limits h.enabled others last.on in
     record {
-      history = goes_on_by c (es ++ more) e h on (still_admitted c es more _ _ h others last.on last.admitted);
+      history = goes_on_by c (es ++ more) e h on (still_admitted es more _ _ h others last.on last.admitted);
       same = record {
         word = reaches.word;
         of_the_table = events_reach_the_table c es e h.within_limits last.before.enabled last.on;
         access = reaches.access;
-        decides = still_decides c es more e.seat e.step h others last.on last.admitted;
+        decides = still_decides es more e.seat e.step h others last.on last.admitted;
       };
-      tidy = λ short long. tidy_by_last c (es ++ more) e long (give_finds c es more e one h others short);
+      tidy = λ short long. tidy_by_last c (es ++ more) e long (give_finds es more e one h others short);
     }

@@ -16,15 +16,15 @@ use Rattle.mk_laws.proofs.Vocabulary.{sym, true, with_freed as never_freed, [], 
 
 -- Allocations that change one by one, and stay at their places.
 
-same_bases : (change : PlacedAllocation → PlacedAllocation) (xs : List PlacedAllocation) → LeavesPlaces change
+same_bases : {change : PlacedAllocation → PlacedAllocation} (xs : List PlacedAllocation) → LeavesPlaces change
     → bases_of (map change xs) ≡ bases_of xs
-same_bases change [] h = refl
-same_bases change (a ∷ xs) h = rw (h.base a) (rw (same_bases change xs h))
+same_bases [] h = refl
+same_bases {change} (a ∷ xs) h = rw (h.base a) (rw (same_bases xs h))
 
-pub same_places : (change : PlacedAllocation → PlacedAllocation) (xs : List PlacedAllocation) → LeavesPlaces change
+pub same_places : {change : PlacedAllocation → PlacedAllocation} (xs : List PlacedAllocation) → LeavesPlaces change
     → SamePlaces xs (map change xs)
-same_places change xs h = record {
-  bases = same_bases change xs h;
+same_places {change} xs h = record {
+  bases = same_bases xs h;
   count = length-map xs change;
   each = λ i. rw (changed_at change xs i h.none) (h.ty _);
 }
@@ -59,7 +59,8 @@ module _ (c : Config) (w : World) (n : NeverState) (known : KnownWorld c w) (mir
       → is_past_probe (flight_among w.now.seats.flights j).stage ≡ false) → Move safe (image_scene_of w) n
       (record (image_scene_of w) {
         flights = slice_set w.now.seats.flights k f;
-        allocations = map (freed_where_it_stands w.now.words (Some cell)) w.allocations;
+        allocations = map
+            (freed_where_it_stands w.now.words (Some cell)) w.allocations;
       }) (after_free n v) × (free_reply n v ≡ Reply.Done)
   free_by others k o f p cell Null at sound is e ne points not_freed quiet = absurd (ne e)
   free_by others k o f p cell (Num m) at sound is e ne points not_freed quiet = absurd sound
@@ -78,13 +79,12 @@ module _ (c : Config) (w : World) (n : NeverState) (known : KnownWorld c w) (mir
             ∙ others.shown a u yes_freed in absurd (cc)
         | inr z ↦ z
       ] in (
-        Frees k a f (map frees w.allocations) at (same_places frees w.allocations leaves)
+        Frees k a f (map frees w.allocations) at (same_places w.allocations leaves)
             (λ b. rw (now b) (freed_released w.now.words (Some cell) (placed b))) sound.0
-            (λ b other. rw (now b) (rw (apart_from b a cell u first other))) (rw (now a) (rw (and_from
-            (not (placed a).released) ((placed a).base == first_word w.now.words cell) (ap not u)
-            (eq-eqb (placed a).base (first_word w.now.words cell) (sym first)))))
-            (λ un. quiet (ap (is_run_cell w.now.words) cells
-            ∙ st.run a u (ap (λ l. nat_lt 32 l) (sym (words_are c w n known mirrors a lt)) ∙ un))),
+            (λ b other. rw (now b) (rw (apart_from b a cell u first other))) (rw (now a)
+            (rw (and_from (not (placed a).released) ((placed a).base == first_word w.now.words cell) (ap not u) (eq-eqb
+            (placed a).base (first_word w.now.words cell) (sym first))))) (λ un. quiet (ap (is_run_cell w.now.words)
+            cells ∙ st.run a u (ap (λ l. nat_lt 32 l) (sym (words_are c w n known mirrors a lt)) ∙ un))),
         ap (λ b. if b then Reply.Double else Reply.Done) (sym (mirrors.twins.freed a lt) ∙ its),
       )
     where
@@ -101,9 +101,8 @@ module _ (c : Config) (w : World) (n : NeverState) (known : KnownWorld c w) (mir
   pub double_by : (others : ImagePremises c w) (k : ℕ) (f : Flight) (p : ℕ) (cell : Cell) (v : Value)
       → is_put (flight_among w.now.seats.flights k).stage ≡ false → is_bare f.stage ≡ true → IsSound n v → IsSafe safe v
       → p ≡ image_of (bases_of w.allocations) v → p ≢ 0 → pointed_cell c.pages w.now.words.pages p ≡ Some cell
-      → is_freed w.now.words cell ≡ true → Move safe (image_scene_of w) n (record (image_scene_of w) {
-        flights = slice_set w.now.seats.flights k f;
-      }) (after_free n v) × (free_reply n v ≡ Reply.Double)
+      → is_freed w.now.words cell ≡ true → Move safe (image_scene_of w) n (record (image_scene_of w)
+      { flights = slice_set w.now.seats.flights k f }) (after_free n v) × (free_reply n v ≡ Reply.Double)
   double_by others k f p cell Null was bare sound is e ne points is_free = absurd (ne e)
   double_by others k f p cell (Num m) was bare sound is e ne points is_free = absurd sound
   double_by others k f p cell (Ptr a t x) was bare sound is e ne points is_free =

@@ -31,16 +31,16 @@ store_next o s x h next = grind arith
 abbrev pub OwesSince : Flight → Step → Flight → Type 0
 OwesSince f x g = (g ≡ f) ⊎ ((is_heap_store x ≡ true) × (page_met g ≡ page_met f))
 
-pub owes_since : (f : Flight) (x : Step) (g : Flight) → comes_next f.stage f.op x ≡ true → CallStep f x g
+pub owes_since : {f : Flight} {x : Step} {g : Flight} → comes_next f.stage f.op x ≡ true → CallStep f x g
     → g.stage ≡ Stage.Dirty → OwesSince f x g
-owes_since f x g next Stays h = inl refl
-owes_since f x g next (Begins o is) h = grind arith
-owes_since f x g next Ends h = cc
-owes_since f x g next (GoesOn y at same off) h = absurd (true≢false
+owes_since next Stays h = inl refl
+owes_since next (Begins o is) h = grind arith
+owes_since next Ends h = cc
+owes_since {x} next (GoesOn y at same off) h = absurd (true≢false
     (sym (store_next y.op y.stage x h (rw at (rw same next))) ∙ off))
-owes_since f x g next (Stores on) h = inr (on, refl)
-owes_since f x g next (Refused y a same) h = grind arith
-owes_since f x g next (Comes y s same ne) h = absurd (ne h)
+owes_since next (Stores on) h = inr (on, refl)
+owes_since next (Refused y a same) h = grind arith
+owes_since next (Comes y s same ne) h = absurd (ne h)
 
 pub record DirtyStands (c : Config) (w : World) : Type 0 where
   pub dirty : DirtyPagesHaveAllocations c w
@@ -55,10 +55,10 @@ allocation_stays : (c : Config) (w : World) (seat : Seat) (x : Step) (p : ℕ) �
 allocation_stays c w seat x p out a = grind (arith, put_step)
 
 -- While the marks are closed, up to the `release`, no call owes a mark.
-none_owes : (c : Config) (m : Moment) → Known c m → phase_of m.words ≡ 3 → (k : ℕ)
+none_owes : {c : Config} {m : Moment} → Known c m → phase_of m.words ≡ 3 → (k : ℕ)
     → (flight_of m (Caller k)).stage ≡ Stage.Dirty → ⊥
-none_owes c m known three k at =
-    let call = owes_in_call c m k known at in
+none_owes {c} {m} known three k at =
+    let call = owes_in_call k known at in
     let shows = shows_at c (view_of m) k InCall known.orderly call.0 call.1 in
     absurd (omega (arith, shows.0, (protocol_of c m known).stopped three k call.0 shows.1))
 
@@ -85,18 +85,17 @@ owes_now c m _ Step.Dirty h is = let kind = h.kind in cc
 owes_now c m seat _ h is = cc
 
 -- A call that owes a mark after a step owed it before, or the step is its store.
-mark_since : (c : Config) (m : Moment) (seat : Seat) (x : Step) → Known c m → Meets c m seat x → (k : ℕ)
+mark_since : {c : Config} {m : Moment} (seat : Seat) (x : Step) → Known c m → Meets c m seat x → (k : ℕ)
     → (flight_of (Behind c m seat x) (Caller k)).stage ≡ Stage.Dirty
     → (flight_of (Behind c m seat x) (Caller k) ≡ flight_of m (Caller k))
     ⊎ ((is_heap_store x ≡ true) × (page_met (flight_of m seat) ≡ page_met (flight_of (Behind c m seat x) (Caller k))))
-mark_since c m (Caller j) x known h k at = elim (cases_eq k j) [
+mark_since {c} {m} (Caller j) x known h k at = elim (cases_eq k j) [
   | inr ne ↦ inl (get_or-set_other m.seats.flights j k flight at_rest ne)
   | inl e ↦
       let lt = ltb-true j c.callers h.seat in
       let here : flight_of (Behind c m (Caller j) x) (Caller k) ≡ flight =
       cc (e, get_or-set_same m.seats.flights j flight at_rest (omega (arith, known.orderly.flights))) in
-      elim (owes_since (flight_of m (Caller j)) x flight h.order (call_step c m _ _ x)
-      (ap (λ (f : Flight). f.stage) (sym here) ∙ at)) [
+      elim (owes_since h.order (call_step c m _ _ x) (ap (λ (f : Flight). f.stage) (sym here) ∙ at)) [
         | inl same ↦ inl (here ∙ same ∙ ap (λ i. flight_of m (Caller i)) (sym e))
         | inr new ↦ inr (new.0, sym (ap page_met here ∙ new.1))
       ]
@@ -104,34 +103,34 @@ mark_since c m (Caller j) x known h k at = elim (cases_eq k j) [
   where
     flight : Flight
     flight = (progress c m (flight_of m (Caller j)) (found c m (record { seat = Caller j; step = x })) x).flight
-mark_since c m _ x known h k at = inl refl
+mark_since _ x known h k at = inl refl
 
 -- Where the marks are closed after a step, no page was dirty before it.
-was_clean : (c : Config) (w : World) (seat : Seat) (x : Step) → KnownWorld c w → Meets c w.now seat x
+was_clean : {c : Config} {w : World} (seat : Seat) (x : Step) → KnownWorld c w → Meets c w.now seat x
     → DirtyStands c w → phase_behind x (phase_of w.now.words) ≡ 3 → (p : ℕ) → slice_index w.now.words.dirty p ≡ 0
-was_clean c w seat Step.Close known h d three p = elim (cases_lt p c.pages) [
+was_clean {c} {w} seat Step.Close known h d three p = elim (cases_lt p c.pages) [
   | inr past ↦ get_or_past w.now.words.dirty p 0 (omega (arith, known.lengths.dirty))
   | inl lt ↦
       let pages = and_parts _ _ (and_parts _ _ h.holder).0 in
       eqb-true _ 0 (and_parts _ (slice_index w.now.words.dirty p == 0) (all_below-at c.pages p _ pages.1 lt)).1
 ]
-was_clean c w seat x3 known h d three p = grind arith
+was_clean seat x3 known h d three p = grind arith
 
 not_closing : (x : Step) (n : ℕ) → is_dirty x ≡ true → phase_behind x n ≡ n
 not_closing Step.Dirty n is = refl
 not_closing _ n is = cc
 
-module _ (c : Config) (w : World) (seat : Seat) (x : Step) (known : KnownWorld c w) (h : Meets c w.now seat x)
+module _ {c : Config} {w : World} (seat : Seat) (x : Step) (known : KnownWorld c w) (h : Meets c w.now seat x)
     (d : DirtyStands c w) where
   clean_behind : phase_of (WorldBehind c w seat x).now.words ≡ 3 → (p : ℕ)
       → slice_index (WorldBehind c w seat x).now.words.dirty p ≡ 0
   clean_behind three p = zero_unless _ (λ some.
       let closed = sym (phase_moves c w.now seat x h) ∙ three in
       elim (dirty_since c w.now seat x p some) [
-        | inl was ↦ was (was_clean c w seat x known h d closed p)
+        | inl was ↦ was (was_clean seat x known h d closed p)
         | inr marks ↦
             let owes = owes_now c w.now seat x h marks.0 in
-            none_owes c w.now known.now (sym (not_closing x _ marks.0) ∙ closed) owes.0 owes.2
+            none_owes known.now (sym (not_closing x _ marks.0) ∙ closed) owes.0 owes.2
       ])
 
   stands_at_release : phase_of w.now.words ≡ 3 → is_dirty x ≡ false → is_heap_store x ≡ false
@@ -141,8 +140,8 @@ module _ (c : Config) (w : World) (seat : Seat) (x : Step) (known : KnownWorld c
       | inl was ↦ absurd (was (d.clean three p))
       | inr marks ↦ absurd (true≢false (sym marks.0 ∙ undirty))
     ];
-    owed = λ k at. elim (mark_since c w.now seat x known.now h k at) [
-      | inl same ↦ absurd (none_owes c w.now known.now three k (ap (λ (f : Flight). f.stage) (sym same) ∙ at))
+    owed = λ k at. elim (mark_since seat x known.now h k at) [
+      | inl same ↦ absurd (none_owes known.now three k (ap (λ (f : Flight). f.stage) (sym same) ∙ at))
       | inr new ↦ absurd (true≢false (sym new.0 ∙ unstored))
     ];
     clean = clean_behind;
@@ -151,15 +150,14 @@ module _ (c : Config) (w : World) (seat : Seat) (x : Step) (known : KnownWorld c
   mark_has : is_dirty x ≡ true → HasAllocation c w (page_met (flight_of w.now seat))
   mark_has is = grind (arith, owes_now)
 
-  stands_behind : is_release x ≡ false
-      → (is_heap_store x ≡ true → IsWordOfMapped c w.allocations (word_met (flight_of w.now seat)))
-      → DirtyStands c (WorldBehind c w seat x)
+  stands_behind : is_release x ≡ false → (is_heap_store x ≡ true
+      → IsWordOfMapped c w.allocations (word_met (flight_of w.now seat))) → DirtyStands c (WorldBehind c w seat x)
   stands_behind out stored = record {
     dirty = λ p some. allocation_stays c w seat x p out (elim (dirty_since c w.now seat x p some) [
       | inl was ↦ d.dirty p was
       | inr marks ↦ subst (HasAllocation c w) marks.1 (mark_has marks.0)
     ]);
-    owed = λ k at. allocation_stays c w seat x _ out (elim (mark_since c w.now seat x known.now h k at) [
+    owed = λ k at. allocation_stays c w seat x _ out (elim (mark_since seat x known.now h k at) [
       | inl same ↦ subst (λ (f : Flight). HasAllocation c w (page_met f)) (sym same)
           (d.owed k (ap (λ (f : Flight). f.stage) (sym same) ∙ at))
       | inr new ↦
@@ -176,12 +174,12 @@ module _ (c : Config) (w : World) (seat : Seat) (x : Step) (known : KnownWorld c
   }
 
 -- One event, whatever it is.
-by_event : (c : Config) (w : World) (seat : Seat) (x : Step) → KnownWorld c w → Meets c w.now seat x → DirtyStands c w
+by_event : {c : Config} {w : World} (seat : Seat) (x : Step) → KnownWorld c w → Meets c w.now seat x → DirtyStands c w
     → (is_heap_store x ≡ true → IsWordOfMapped c w.allocations (word_met (flight_of w.now seat)))
     → DirtyStands c (WorldBehind c w seat x)
-by_event c w seat Step.Release known h d stored =
-    stands_at_release c w seat Step.Release known h d (phase_asked c w.now seat Step.Release h) refl refl
-by_event c w seat x known h d stored = stands_behind c w seat x known h d refl stored
+by_event {c} {w} seat Step.Release known h d stored =
+    stands_at_release seat Step.Release known h d (phase_asked c w.now seat Step.Release h) refl refl
+by_event {c} {w} seat x known h d stored = stands_behind seat x known h d refl stored
 
 abbrev Stands : Config → List Event → Type 0
 Stands c es = DirtyStands c (left c es)
@@ -191,9 +189,9 @@ unfolding left_from
 first_stands c = grind (arith, at_first)
 
 -- A store is to a word of a mapped allocation.
-stores_told : (c : Config) (es : List Event) (e : Event) → IsHistory c (es ++ e ∷ []) → is_heap_store e.step ≡ true
+stores_told : {c : Config} (es : List Event) (e : Event) → IsHistory c (es ++ e ∷ []) → is_heap_store e.step ≡ true
     → IsWordOfMapped c (left c es).allocations (word_met (flight_of (left c es).now e.seat))
-stores_told c es e h =
+stores_told {c} es e h =
     let last = comes_last c es e h in
     (told_to_zeros c (left c es) _ (known_world c es last.before.within_limits last.before.enabled)
     (histories_keep_the_invariant c es last.before) e last.on last.admitted).stored
@@ -201,8 +199,8 @@ stores_told c es e h =
 kept : KeptByEvents Stands
 kept c es e h d =
     let last = comes_last c es e h in
-    rw last.leaves (by_event c (left c es) e.seat e.step (known_world c es last.before.within_limits
-    last.before.enabled) last.meets d (stores_told c es e h))
+    rw last.leaves (by_event e.seat e.step (known_world c es last.before.within_limits
+    last.before.enabled) last.meets d (stores_told es e h))
 
 pub dirty_stands : OfHistories Stands
 dirty_stands = holds_of_histories Stands first_stands kept
@@ -211,8 +209,8 @@ dirty_stands = holds_of_histories Stands first_stands kept
 
 module _ (c : Config) (w : World) (n : NeverState) (known : KnownWorld c w) (all : Invariant c w n) where
   -- Where an allocation stands there is a header.
-  allocation_shows : (p : ℕ) → HasAllocation c w p → header_at w.now.words p ≢ 0
-  allocation_shows p x z =
+  allocation_shows : {p : ℕ} → HasAllocation c w p → header_at w.now.words p ≢ 0
+  allocation_shows {p} x z =
       let a : PlacedAllocation = placed_at w.allocations x.number in
       let shown = shown_claim c w known all.order.laid x.number x.unreleased in
       let s = standing c w known all.order.laid x.number x.unreleased in
@@ -234,7 +232,7 @@ module _ (c : Config) (w : World) (n : NeverState) (known : KnownWorld c w) (all
     used = free_unused _ p all.order.laid.scene z;
     freed = zero_where_none _ (none_freed p z);
     snapshot = zero_where_none _ (λ k bit. none_freed p z k (all.order.quarantined.within p k bit));
-    dirty = zero_unless _ (λ some. allocation_shows p (dirty p some) z);
+    dirty = zero_unless _ (λ some. allocation_shows (dirty p some) z);
   }
 
 pub dirty_pages_have_allocations : OfHistories (Leaves DirtyPagesHaveAllocations)

@@ -38,7 +38,7 @@ gone_word w run x word gone =
     (all_below-at (64 * run.count) (x - 64 * run.page) (λ i. slice_index w.heap (64 * run.page + i) == 0) parts.1
     (omega arith))
 
-module _ (c : Config) (w : World) (n : NeverState) (known : KnownWorld c w) (all : Invariant c w n) where
+module _ {c : Config} {w : World} {n : NeverState} (known : KnownWorld c w) (all : Invariant c w n) where
   -- A word that isn't 0 is one of an unreleased allocation,
   pub of_one : phase_of w.now.words ≢ 4 → (x : ℕ) → slice_index w.now.words.heap x ≢ 0 → IsOfOne c w x
   of_one quiet x some = by (all.zeros x some)
@@ -79,14 +79,13 @@ module _ (c : Config) (w : World) (n : NeverState) (known : KnownWorld c w) (all
       let one = of_one_mapped quiet gone x some in none one.number one.mapped one.word)
 
 -- Both of all histories; this is how the invariant is after each.
-pub of_worlds : {claim : Config → World → Type 0}
-    → ((c : Config) (w : World) (n : NeverState) → KnownWorld c w → Invariant c w n → claim c w)
-    → OfHistories (Leaves claim)
+pub of_worlds : {claim : Config → World → Type 0} → ((c : Config) (w : World) (n : NeverState) → KnownWorld c w
+    → Invariant c w n → claim c w) → OfHistories (Leaves claim)
 of_worlds {claim} known c es h = known c (left c es) _ (known_world c es h.within_limits h.enabled)
     (histories_keep_the_invariant c es h)
 
 pub words_of_none_are_zero : OfHistories (Leaves WordsOfNoneAreZero)
-words_of_none_are_zero = of_worlds words_of_none
+words_of_none_are_zero = of_worlds (λ c w n known all. words_of_none known all)
 
 pub unmapped_words_are_zero : OfHistories (Leaves UnmappedWordsAreZero)
-unmapped_words_are_zero = of_worlds unmapped_words
+unmapped_words_are_zero = of_worlds (λ c w n known all. unmapped_words known all)

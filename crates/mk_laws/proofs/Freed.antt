@@ -7,16 +7,16 @@ use Rattle.mk_laws.proofs.Vocabulary.{Words, World, ℕ, all_below-at, ap, arith
 use Rattle.mk_laws.proofs.Vocabulary.{cells_made, cells_under, claim_of, claims_of, claims_on, cond-true, eq-eqb}
 use Rattle.mk_laws.proofs.Vocabulary.{eqb-true, false, first_page_shows, freed_leaves, freed_released}
 use Rattle.mk_laws.proofs.Vocabulary.{freed_where_it_stands, ground_of, header_at, header_in, header_on, if◌then◌else◌}
-use Rattle.mk_laws.proofs.Vocabulary.{inl, inr, is_run_unmapped, is_small_object, is_unmapping, layout_scene_of, length}
-use Rattle.mk_laws.proofs.Vocabulary.{map, mode_of, not, not-true, object_placed, pages_made, pages_some, part_cells}
-use Rattle.mk_laws.proofs.Vocabulary.{placed_at, refl, run_headed, run_of_cell, small, stands, stands_in}
-use Rattle.mk_laws.proofs.Vocabulary.{stands_in_its_cell, subst, sym, true, true≢false, unmapped_header, ◌&&◌, ◌+◌, ◌/◌}
-use Rattle.mk_laws.proofs.{Vocabulary.{◌<◌, ◌==◌, ◌∙◌, ◌≡◌, ◌⊎◌}, Serving.{Laid, among_back, among_front, among_parts}}
-use Rattle.mk_laws.proofs.Serving.{apart_across, apart_joined, apart_left, apart_right, own_claim, placed_claim}
-use Rattle.mk_laws.proofs.Claims.{LeavesCells, apart_behind, cells_behind, changed_among, claim_among, claim_is}
-use Rattle.mk_laws.proofs.{Claims.was_claim, LayoutReadings.one_claim, Released.{IsStanding, all_stand}}
-use Rattle.mk_laws.proofs.Unmapping.{layout_changed, shares_run}
+use Rattle.mk_laws.proofs.Vocabulary.{inl, inr, is_run_unmapped, is_small_object, is_unmapping, length, map, mode_of}
+use Rattle.mk_laws.proofs.Vocabulary.{not, not-true, object_placed, pages_made, pages_some, part_cells, placed_at, refl}
+use Rattle.mk_laws.proofs.Vocabulary.{run_headed, run_of_cell, small, stands, stands_in, stands_in_its_cell, subst, sym}
+use Rattle.mk_laws.proofs.Vocabulary.{true, true≢false, unmapped_header, ◌&&◌, ◌+◌, ◌/◌, ◌<◌, ◌==◌, ◌∙◌, ◌≡◌, ◌⊎◌}
 use Rattle.mk_core.proofs.CellsOfAllocations.{stands_in_no_other}
+use Rattle.mk_laws.proofs.Serving.{Laid, among_back, among_front, among_parts, apart_across, apart_joined, apart_left}
+use Rattle.mk_laws.proofs.Serving.{apart_right, own_claim, placed_claim}
+use Rattle.mk_laws.proofs.{Claims.LeavesCells, Claims.apart_behind, Claims.cells_behind, Claims.changed_among}
+use Rattle.mk_laws.proofs.{Claims.claim_among, Claims.claim_is, Claims.was_claim, LayoutReadings.one_claim}
+use Rattle.mk_laws.proofs.{Released.IsStanding, Released.all_stand, Unmapping.layout_changed, Unmapping.shares_run}
 use Rattle.mk_laws.specs.{LayoutScene.IsUnmappedHeaderOf, Terrain.IsCellOf}
 
 -- Allocations whose claims change at most how far they are unmapped.
@@ -32,22 +32,21 @@ pub record Remodes (c : Config) (t : Ground) (run : Option RunPages) (g : Placed
       → HasHeader (claim_of c run (g (placed_at t.allocations i))).mode (object_placed c (placed_at t.allocations i)) d
       (header_on t.pages ((placed_at t.allocations i).base / 64 + d))
 
-pub remoded : (c : Config) (o : Object) (releasing : Bool) (marks : List ℕ) (t : Ground) (run : Option RunPages)
+pub remoded : {c : Config} {o : Object} {releasing : Bool} {marks : List ℕ} {t : Ground} (run : Option RunPages)
     (g : PlacedAllocation → PlacedAllocation)
     → HasLayout c o releasing marks t → Remodes c t run g → RunStands (claims_of c run (map g t.allocations)) run
     → HasLayout c o releasing marks (record t { run = run; allocations = map g t.allocations })
-remoded c o releasing marks t run g st r stands = record {
-  scene = layout_changed _ _ st.scene (record {
+remoded {c} {o} {t} run g st r stands = record {
+  scene = layout_changed _ st.scene (record {
     from = λ y i. elim (among_parts _ _ y i) [
       | inl j ↦ let b = was y j in (b.0, own_claim c o t (record y { mode = b.0 }) b.1)
       | inr j ↦ (y.mode, placed_claim c o t y j)
     ];
     to = λ x i. elim (among_parts _ _ x i) [
-      | inl j ↦ let b = now x j
-          in (b.0, among_front _ _ (record x { mode = b.0 }) b.1)
+      | inl j ↦ let b = now x j in (b.0, among_front _ _ (record x { mode = b.0 }) b.1)
       | inr j ↦ (x.mode, among_back _ _ x j)
     ];
-    apart = apart_joined _ _ (apart_behind c t.run run g t.allocations r.leaves (apart_left _ _ st.scene.apart))
+    apart = apart_joined _ _ (apart_behind c t.run run t.allocations r.leaves (apart_left _ _ st.scene.apart))
         (apart_right _ _ st.scene.apart) (λ x y ix iy same.
         apart_across _ _ (record x { mode = (was x ix).0 }) y st.scene.apart (was x ix).1 iy same);
     headers = λ y i d lt. elim (among_parts _ _ y i) [
@@ -57,7 +56,7 @@ remoded c o releasing marks t run g st r stands = record {
   });
   gone = stands;
   first = st.first;
-  cells = cells_behind c g t.allocations r.leaves st.cells;
+  cells = cells_behind c t.allocations r.leaves st.cells;
 }
   where
     same : (i : ℕ) (m : Mode) → record (claim_of c run (g (placed_at t.allocations i))) { mode = m }
@@ -69,7 +68,7 @@ remoded c o releasing marks t run g st r stands = record {
     was : (y : Claim) → Among y (claims_of c run (map g t.allocations))
         → (m : Mode) × Among (record y { mode = m }) (claims_of c t.run t.allocations)
     was y j =
-        let n = was_claim c run g t.allocations y r.leaves j in
+        let n = was_claim c run t.allocations y r.leaves j in
         let m : Mode = (claim_of c t.run (placed_at t.allocations n.number)).mode in (
           m,
           rw (ap (λ (z : Claim). record z { mode = m }) n.is ∙ same n.number m)
@@ -84,13 +83,13 @@ remoded c o releasing marks t run g st r stands = record {
         let m : Mode = (claim_of c run (g a)).mode in (
           m,
           rw (ap (λ (z : Claim). record z { mode = m }) n.is ∙ sym (same n.number m))
-              (changed_among c run g t.allocations n.number r.leaves (r.keeps a n.unreleased)),
+              (changed_among c run t.allocations n.number r.leaves (r.keeps a n.unreleased)),
         )
 
     headers : (y : Claim) → Among y (claims_of c run (map g t.allocations)) → (d : ℕ) → d < pages_made y.object
         → HasHeader y.mode y.object d (header_on t.pages (y.page + d))
     headers y j d lt =
-        let n = was_claim c run g t.allocations y r.leaves j in
+        let n = was_claim c run t.allocations y r.leaves j in
         let a : PlacedAllocation = placed_at t.allocations n.number in
         let x : Claim = claim_of c t.run a in
         let m : Mode = (claim_of c run (g a)).mode in
@@ -100,16 +99,16 @@ remoded c o releasing marks t run g st r stands = record {
         ((st.scene.shown x (own_claim c o t x (claim_among c t.run t.allocations n.number n.was))).headers d near))
 
 -- the run that the header of an object's first page heads
-run_small : (o : Object) (x : Option Header) (p : ℕ) → ShowsPart o 0 x → is_small_object o ≡ true
+run_small : {o : Object} {x : Option Header} (p : ℕ) → ShowsPart o 0 x → is_small_object o ≡ true
     → run_headed x p ≡ None
-run_small o x p (OfRun m first large leaf) s = absurd (true≢false (sym s ∙ large))
-run_small o x p (OfLeafRun first large leaf) s = absurd (true≢false (sym s ∙ large))
-run_small o x p (OfLater m some large) s = absurd (omega arith)
-run_small o x p _ s = refl
+run_small p (OfRun m first large leaf) s = absurd (true≢false (sym s ∙ large))
+run_small p (OfLeafRun first large leaf) s = absurd (true≢false (sym s ∙ large))
+run_small p (OfLater m some large) s = absurd (omega arith)
+run_small p _ s = refl
 
-pub run_large : (o : Object) (x : Option Header) (p : ℕ) → ShowsPart o 0 x → is_small_object o ≡ false
+pub run_large : {o : Object} {x : Option Header} (p : ℕ) → ShowsPart o 0 x → is_small_object o ≡ false
     → run_headed x p ≡ Some (record { page = p; count = pages_made o })
-run_large o x p x4 l = grind (arith, small)
+run_large p x4 l = grind (arith, small)
 
 -- Where no run is on its way, the header of a claim's page stays right for what it becomes.
 moves : (freed now large going : Bool) (o : Object) (d h : ℕ) → (freed ≡ true → now ≡ true)
@@ -122,11 +121,11 @@ pub freeing_leaves : (w : Words) (cell : Option Cell) → LeavesCells (freed_whe
 freeing_leaves w cell = record { places = freed_leaves w cell; released = λ a h. sym (freed_released w cell a) ∙ h }
 
 -- What stands in the cell of an unreleased allocation has that cell.
-pub standing_cell : (c : Config) (o : Object) (w : World) (cell : Cell) → length w.now.words.pages ≡ c.pages
+pub standing_cell : {c : Config} (o : Object) (w : World) {cell : Cell} → length w.now.words.pages ≡ c.pages
     → IsCellOf c w.allocations cell → Laid c o false w (ground_of w) → (i : ℕ)
     → (placed_at w.allocations i).released ≡ false → stands_in w.now.words cell (placed_at w.allocations i) ≡ true
     → cell_of_allocation c (placed_at w.allocations i) ≡ cell
-standing_cell c o w cell len own st i u h =
+standing_cell {c} o w {cell = cell} len own st i u h =
     let x = shown own.number own.unreleased in
     let a : PlacedAllocation = placed_at w.allocations own.number in
     let page : a.base / 64 ≡ cell.page = ap (λ (y : Cell). y.page) own.is in
@@ -174,31 +173,27 @@ module _ (c : Config) (o : Object) (w : World) (cell : Cell) (limits : IsWithinL
   part : ShowsPart (object_placed c a) 0 (header_in w.now.words cell.page)
   part = rw page at (first_page_shows c w.now.words a sized (stand own.number own.unreleased).headers)
 
-  cell_of : (i : ℕ) → (placed_at w.allocations i).released ≡ false
-      → stands_in w.now.words cell (placed_at w.allocations i) ≡ true
-      → cell_of_allocation c (placed_at w.allocations i) ≡ cell
-  cell_of = standing_cell c o w cell len own st
+  cell_of : (i : ℕ) → (placed_at w.allocations i).released ≡ false → stands_in w.now.words cell
+      (placed_at w.allocations i) ≡ true → cell_of_allocation c (placed_at w.allocations i) ≡ cell
+  cell_of = standing_cell o w len own st
 
   stays_unreleased : (b : PlacedAllocation) → b.released ≡ false → (frees b).released ≡ false
   stays_unreleased b u = freed_released w.now.words (Some cell) b ∙ u
 
-  modes : (run : Option RunPages) → ((i : ℕ) → (placed_at w.allocations i).released ≡ false
-      → stands_in w.now.words cell (placed_at w.allocations i) ≡ true
-      → is_small_object (object_placed c (placed_at w.allocations i)) ≡ false
+  modes : (run : Option RunPages) → ((i : ℕ) → (placed_at w.allocations i).released ≡ false → stands_in w.now.words cell
+      (placed_at w.allocations i) ≡ true → is_small_object (object_placed c (placed_at w.allocations i)) ≡ false
       → is_unmapping run ((placed_at w.allocations i).base / 64) ≡ true) → Remodes c (ground_of w) run frees
   modes run going = record {
     leaves = freeing_leaves w.now.words (Some cell);
     keeps = stays_unreleased;
-    headers = λ i u d ld has.
-        at (placed_at w.allocations i) d (header_at w.now.words ((placed_at w.allocations i).base / 64 + d))
-        (stands_in w.now.words cell (placed_at w.allocations i)) refl (going i u) (rw none at has);
+    headers = λ i u d ld has. at (placed_at w.allocations i) d (header_at w.now.words ((placed_at w.allocations i).base
+        / 64 + d)) (stands_in w.now.words cell (placed_at w.allocations i)) refl (going i u) (rw none at has);
   }
     where
       at : (a : PlacedAllocation) (d h : ℕ) (b : Bool) → stands_in w.now.words cell a ≡ b
-          → (stands_in w.now.words cell a ≡ true → is_small_object (object_placed c a) ≡ false
-          → is_unmapping run (a.base / 64) ≡ true) → HasHeader (claim_of c None a).mode (object_placed c a) d h
-          → HasHeader (claim_of c run (if b then record a { freed = true; fresh = true } else a)).mode
-          (object_placed c a) d h
+          → (stands_in w.now.words cell a ≡ true → is_small_object (object_placed c a) ≡ false → is_unmapping run
+          (a.base / 64) ≡ true) → HasHeader (claim_of c None a).mode (object_placed c a) d h → HasHeader
+          (claim_of c run (if b then record a { freed = true; fresh = true } else a)).mode (object_placed c a) d h
       at a d h true is go has =
           moves a.freed true (not (is_small_object (object_placed c a))) (is_unmapping run (a.base / 64))
           (object_placed c a) d h (λ e. refl) (λ e f l. go is (not-true (is_small_object (object_placed c a)) l)) has
@@ -207,8 +202,7 @@ module _ (c : Config) (o : Object) (w : World) (cell : Cell) (limits : IsWithinL
           (object_placed c a) d h (λ e. e) (λ e f l. absurd (true≢false (sym f ∙ e))) has
 
   by : (is_small_object (object_placed c a) ≡ true) ⊎ (is_small_object (object_placed c a) ≡ false) → Behind
-  by (inl small) = rw (run_small _ _ cell.page part small)
-      (remoded c o false w.now.words.marks (ground_of w) None frees st (modes None (λ i u h large.
+  by (inl small) = rw (run_small cell.page part small) (remoded None frees st (modes None (λ i u h large.
       let there = cell_of i u h in
       let one = one_claim _ _ _ st.scene.apart (among i u) (among own.number own.unreleased)
       (ap (λ (x : Cell). x.page) (there ∙ sym own.is), ap (λ (x : Cell). x.index) (there ∙ sym own.is)) in
@@ -219,10 +213,10 @@ module _ (c : Config) (o : Object) (w : World) (cell : Cell) (limits : IsWithinL
       let in_cell : stands_in w.now.words cell a ≡ true =
       rw (← own.is) (stands_in_its_cell c w.now.words a limits s.stands s.headers) in
       let freed : PlacedAllocation = record a { freed = true; fresh = true } in
-      rw (run_large _ _ cell.page part large) (remoded c o false w.now.words.marks (ground_of w) (Some run) frees st
+      rw (run_large cell.page part large) (remoded (Some run) frees st
       (modes (Some run) (λ i u h l. eq-eqb cell.page _ (sym (ap (λ (x : Cell). x.page) (cell_of i u h))))) (record {
         claim = claim_of c (Some run) freed;
-        among = rw (cond-true _ freed a in_cell) at (changed_among c (Some run) frees w.allocations own.number
+        among = rw (cond-true _ freed a in_cell) at (changed_among c (Some run) w.allocations own.number
             (freeing_leaves w.now.words (Some cell)) (stays_unreleased a own.unreleased));
         page = page;
         count = refl;
@@ -238,7 +232,7 @@ pub gone_terrain : (c : Config) (o : Object) (releasing : Bool) (w : World)
     → ((run : RunPages) → w.now.seats.holding.freed ≡ Some run → is_run_unmapped w.now.words run ≡ true)
     → Laid c o releasing w (ground_of w) → Laid c o releasing w (record (ground_of w) { run = None })
 gone_terrain c o releasing w unmapped st =
-    rw (map-id w.allocations) at (remoded c o releasing w.now.words.marks (ground_of w) None (λ a. a) st (record {
+    rw (map-id w.allocations) at (remoded None (λ a. a) st (record {
       leaves = record { places = record { base = λ a. refl; ty = λ a. refl; none = refl }; released = λ a h. h };
       keeps = λ a u. u;
       headers = λ i u d lt has. by w.now.seats.holding.freed refl i u d lt has st.gone;
@@ -249,12 +243,10 @@ gone_terrain c o releasing w unmapped st =
         → HasHeader (mode_of (freed && large) going) o d h → HasHeader (mode_of (freed && large) false) o d h
     ends x1 large going o d h un has = grind arith
 
-    by : (run : Option RunPages) → w.now.seats.holding.freed ≡ run → (i : ℕ)
-        → (placed_at w.allocations i).released ≡ false → (d : ℕ)
-        → d < pages_made (object_placed c (placed_at w.allocations i))
-        → HasHeader (claim_of c w.now.seats.holding.freed (placed_at w.allocations i)).mode
-        (object_placed c (placed_at w.allocations i)) d
-        (header_at w.now.words ((placed_at w.allocations i).base / 64 + d))
+    by : (run : Option RunPages) → w.now.seats.holding.freed ≡ run → (i : ℕ) → (placed_at w.allocations i).released
+        ≡ false → (d : ℕ) → d < pages_made (object_placed c (placed_at w.allocations i))
+        → HasHeader (claim_of c w.now.seats.holding.freed (placed_at w.allocations i)).mode (object_placed c
+        (placed_at w.allocations i)) d (header_at w.now.words ((placed_at w.allocations i).base / 64 + d))
         → RunStands (claims_of c w.now.seats.holding.freed w.allocations) w.now.seats.holding.freed
         → HasHeader (claim_of c None (placed_at w.allocations i)).mode (object_placed c (placed_at w.allocations i)) d
         (header_at w.now.words ((placed_at w.allocations i).base / 64 + d))
@@ -273,9 +265,8 @@ gone_terrain c o releasing w unmapped st =
         (claim_among c w.now.seats.holding.freed w.allocations i u) in
         let some = pages_some x.claim.object (st.scene.shown x.claim ix).sized in
         let xp = x.page in
-        let one = shares_run (layout_scene_of c o releasing w.now.words.marks (ground_of w))
-        (claim_of c w.now.seats.holding.freed a)
-        x.claim 0 0 st.scene ia ix large (omega arith) (omega arith) (omega arith) in
+        let one = shares_run (claim_of c w.now.seats.holding.freed a) x.claim 0 0 st.scene ia ix large (omega arith)
+        (omega arith) (omega arith) in
         let count : pages_made ob ≡ run.count = ap (λ (z : Claim). pages_made z.object) (sym one) ∙ x.count in
         let near : d < run.count = omega arith in (
           large,

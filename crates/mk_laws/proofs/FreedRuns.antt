@@ -1,26 +1,26 @@
 -- The run that a Free unmaps is what its register points to.
 use Rattle.mk_laws.proofs.Vocabulary.{Answer, AreAdmitted, Bool, Caller, CarriesOwn, Cell, Config, Event, Flight}
-use Rattle.mk_laws.proofs.Vocabulary.{Header, Holding, Host, ImagePremises, IsSafe, IsSound, LeafRun, Marker, Mirrors}
-use Rattle.mk_laws.proofs.Vocabulary.{Moment, NeverState, None, Null, Num, Op, Option, PlacedAllocation, Ptr, Run}
-use Rattle.mk_laws.proofs.Vocabulary.{RunPages, Seat, Some, Stage, Step, Value, Words, World, ℕ, admitted_keep}
-use Rattle.mk_laws.proofs.Vocabulary.{after_calls, after_free, ap, arith, asked, at_rest, bases_of, call_decided}
-use Rattle.mk_laws.proofs.Vocabulary.{cases_Bool, cases_eq, cases_lt, cell_freed, cell_of_allocation, entry_of, false}
-use Rattle.mk_laws.proofs.Vocabulary.{false≢true, first_page_shows, flight_of, found, freed_cell, get_or-set_other}
-use Rattle.mk_laws.proofs.Vocabulary.{get_or-set_same, get_or_append_left, get_or_past, header_in, heads_run}
-use Rattle.mk_laws.proofs.Vocabulary.{if◌then◌else◌, image_of, image_scene_of, inl, inr, is_decided_free}
-use Rattle.mk_laws.proofs.Vocabulary.{is_decided_free_at, is_small_object, is_undecided_free, is_undecided_new, length}
-use Rattle.mk_laws.proofs.Vocabulary.{length-map, ltb-true, nothing_done, object_placed, or_else, p_of, placed_at}
-use Rattle.mk_laws.proofs.Vocabulary.{pointed_cell, progress, progress_freed, refl, register_at, run_begins, run_headed}
-use Rattle.mk_laws.proofs.Vocabulary.{run_of_cell, set_by, slice_index_or, slice_set, small_heads_none, still, subst}
-use Rattle.mk_laws.proofs.Vocabulary.{sym, true, typed_size, world_behind, ◌%◌, ◌&&◌, ◌*◌, ◌+◌, ◌-◌, ◌/◌, ◌<◌, ◌∙◌, ◌≡◌}
-use Rattle.mk_laws.proofs.{Vocabulary.{◌≢◌, ◌⊎◌}, Basics.{HoldsTurn, InCall, KnownWorld, Meets, Orderly, Ready, Stands}}
-use Rattle.mk_laws.proofs.Basics.{View, actor_of, base_at, flight, flight_in, not_astray, ready_of, standing}
-use Rattle.mk_laws.proofs.{Basics.{standing_at, stands_of, view_of}, ProtocolMoves.{Takes, Works}}
-use Rattle.mk_laws.proofs.{Standings.{Resting, Standing, UnderTurn}, Bases.IsLonger, CallSorts.literal}
-use Rattle.mk_laws.proofs.{FramesHolders.acts_as_holder, FreeMoves.pointer_cell, Orderly.{holders_flight, same_holder}}
-use Rattle.mk_laws.{proofs.Sorts.{moves}, specs.Mirrors.{OwnsFreedRun, PointsAtRun}}
+use Rattle.mk_laws.proofs.Vocabulary.{Header, Holding, Host, ImagePremises, IsSafe, IsSound, Marker, Mirrors, Moment}
+use Rattle.mk_laws.proofs.Vocabulary.{NeverState, None, Null, Num, Op, Option, PlacedAllocation, Ptr, RunPages, Seat}
+use Rattle.mk_laws.proofs.Vocabulary.{Some, Stage, Step, Value, Words, World, ℕ, admitted_keep, after_calls, after_free}
+use Rattle.mk_laws.proofs.Vocabulary.{ap, arith, asked, at_rest, bases_of, call_decided, cases_Bool, cases_eq, cases_lt}
+use Rattle.mk_laws.proofs.Vocabulary.{cell_freed, cell_of_allocation, entry_of, false, false≢true, first_page_shows}
+use Rattle.mk_laws.proofs.Vocabulary.{flight_of, found, freed_cell, get_or-set_other, get_or-set_same}
+use Rattle.mk_laws.proofs.Vocabulary.{get_or_append_left, get_or_past, header_in, heads_run, if◌then◌else◌, image_of}
+use Rattle.mk_laws.proofs.Vocabulary.{image_scene_of, inl, inr, is_decided_free, is_decided_free_at, is_small_object}
+use Rattle.mk_laws.proofs.Vocabulary.{is_undecided_free, is_undecided_new, length, length-map, ltb-true, nothing_done}
+use Rattle.mk_laws.proofs.Vocabulary.{object_placed, or_else, p_of, placed_at, pointed_cell, progress, progress_freed}
+use Rattle.mk_laws.proofs.Vocabulary.{refl, register_at, run_begins, run_headed, run_of_cell, set_by, slice_index_or}
+use Rattle.mk_laws.proofs.Vocabulary.{slice_set, small_heads_none, still, subst, sym, true, typed_size, world_behind}
+use Rattle.mk_laws.proofs.Vocabulary.{◌%◌, ◌&&◌, ◌*◌, ◌+◌, ◌-◌, ◌/◌, ◌<◌, ◌∙◌, ◌≡◌, ◌≢◌, ◌⊎◌}
+use Rattle.mk_laws.proofs.Basics.{HoldsTurn, InCall, KnownWorld, Meets, Orderly, Ready, Stands, View, actor_of, base_at}
+use Rattle.mk_laws.proofs.Basics.{flight, flight_in, not_astray, ready_of, standing, standing_at, stands_of, view_of}
+use Rattle.mk_laws.proofs.{ProtocolMoves.{Takes, Works}, Standings.{Resting, Standing, UnderTurn}, Bases.IsLonger}
+use Rattle.mk_laws.proofs.{CallSorts.literal, FramesHolders.acts_as_holder, FreeMoves.pointer_cell}
+use Rattle.mk_laws.proofs.{Orderly.{holders_flight, same_holder}, Sorts.moves}
 use Rattle.mk_never.specs.Laws.{AreNotBy}
 use Rattle.mk_core.specs.{Effects.holding_behind, Order.is_of_any_holder}
+use Rattle.mk_laws.specs.Mirrors.{OwnsFreedRun, PointsAtRun}
 use Rattle.mk_laws.proofs.ProtocolMoves.{Enters, Gives, GoesOn, Holds, Leaves, Move as ProtocolMove, Opens, Phases}
 
 -- Only a Free that is decided unmaps a run, and that call holds the turn.
@@ -33,15 +33,14 @@ pub decided_free_gives : (s : Stage) (o : Op) → is_decided_free_at s o ≡ tru
 decided_free_gives Stage.Give o h = refl
 decided_free_gives _ _ h = cc
 
-pub frees_run : (c : Config) (m : Moment) (k : ℕ) (run : RunPages) → Orderly c (view_of m) → HoldsTurn c (view_of m)
+pub frees_run : {c : Config} (m : Moment) (k : ℕ) (run : RunPages) → Orderly c (view_of m) → HoldsTurn c (view_of m)
     (Caller k) → m.seats.holding.freed ≡ Some run → is_decided_free (flight_of m (Caller k)) ≡ true
-frees_run c m k run o hold e = rw (holders_flight c (view_of m) (Caller k) o hold) at (o.served.freed (rw e))
+frees_run {c} m k run o hold e = rw (holders_flight (Caller k) o hold) at (o.served.freed (rw e))
 
 -- While a New is undecided no run is freed.
-pub new_frees_none : (c : Config) (m : Moment) (k : ℕ) (run : RunPages) → Orderly c (view_of m)
-    → HoldsTurn c (view_of m) (Caller k)
-    → is_undecided_new (flight_of m (Caller k)) ≡ true → m.seats.holding.freed ≢ Some run
-new_frees_none c m k run o hold new e = grind (arith, frees_run)
+pub new_frees_none : {c : Config} (m : Moment) (k : ℕ) (run : RunPages) → Orderly c (view_of m) → HoldsTurn c
+    (view_of m) (Caller k) → is_undecided_new (flight_of m (Caller k)) ≡ true → m.seats.holding.freed ≢ Some run
+new_frees_none m k run o hold new e = grind (arith, frees_run)
 
 -- the heap that never reuses storage, after an event
 abbrev pub never_after : Config → World → NeverState → Event → NeverState
@@ -142,10 +141,10 @@ module _ (c : Config) (w : World) (n : NeverState) (known : KnownWorld c w) (oth
   ready = ready_of c w n known mirrors st mirrors.safe.0 mirrors.safe.1
 
   -- what a register points at is there after the event
-  points_on : (e : Event) (k r : ℕ) (run : RunPages) → IsLonger (bases_of w.allocations)
+  points_on : (e : Event) {k r : ℕ} {run : RunPages} → IsLonger (bases_of w.allocations)
       (bases_of (world_behind c w e).allocations) → register_at (never_after c w n e) k r ≡ register_at n k r
       → PointsAtRun w n k r run → PointsAtRun (world_behind c w e) (never_after c w n e) k r run
-  points_on e k r run grows same h =
+  points_on e {k = k} {r = r} grows same h =
       let sound : IsSound n (Ptr h.number h.ty h.offset) = rw h.is at (mirrors.typed.registers (8 * k + r)) in
       let there : h.number < length n.allocations = sound.0 in
       let longs = length-map w.allocations (λ (x : PlacedAllocation). x.base) in
@@ -215,10 +214,9 @@ module _ (c : Config) (w : World) (n : NeverState) (known : KnownWorld c w) (oth
       let f = flight_of w.now (Caller k) in
       let behind = flight_of (world_behind c w e).now (Caller k) in
       let under = decided_free_stands behind.stage behind.op free in
-      let was = was_under c (view_of w.now) (Caller k) _ k
-      (moves c w.now (Caller k) x (not_astray c w.now known.now.orderly)
+      let was = was_under c (view_of w.now) (Caller k) _ k (moves (not_astray c w.now known.now.orderly)
       (actor_of c w.now (Caller k) x known.now.orderly h) h) refl (turn_taken run old) under in
-      let was_free = frees_run c w.now k run known.now.orderly (lt, was) old in
+      let was_free = frees_run w.now k run known.now.orderly (lt, was) old in
       let at_give = decided_free_gives f.stage f.op was_free in
       let lit = literal f Stage.Give at_give in
       let any : is_of_any_holder x ≡ true = rw at_give at h.order in
@@ -227,7 +225,7 @@ module _ (c : Config) (w : World) (n : NeverState) (known : KnownWorld c w) (oth
       let there : k < length w.now.seats.flights = (let l = known.now.orderly.flights in omega (arith, l)) in
       let same : behind ≡ f = get_or-set_same w.now.seats.flights k _ at_rest there ∙ rw stays in
       let never : never_after c w n e ≡ n = rw stays in
-      rw same (points_on e k (p_of f.op) run grows (rw never) (mirrors.freed_run run old k was_free))
+      rw same (points_on e grows (rw never) (mirrors.freed_run run old k was_free))
 
   -- the step of another caller
   other_old : (j k : ℕ) (x : Step) (run : RunPages) → j ≢ k → GrowsBehind (Caller j) x
@@ -236,7 +234,7 @@ module _ (c : Config) (w : World) (n : NeverState) (known : KnownWorld c w) (oth
   other_old j k x run ne grows ad old free =
       let same : flight_of (world_behind c w (event_of (Caller j) x)).now (Caller k) ≡ flight_of w.now (Caller k) =
       get_or-set_other w.now.seats.flights j k _ at_rest (λ y. ne (sym y)) in
-      rw same (points_on (event_of (Caller j) x) k _ run grows (admitted_keep c.globals n k _ ad (not_by j k _ _ ne) _
+      rw same (points_on (event_of (Caller j) x) grows (admitted_keep c.globals n k _ ad (not_by j k _ _ ne) _
       (ready.small k).1) (mirrors.freed_run run old k (rw same at free)))
 
   -- a run that is freed by this step
@@ -251,13 +249,12 @@ module _ (c : Config) (w : World) (n : NeverState) (known : KnownWorld c w) (oth
       let new = new_by k f.stage f.op f.q f.p f.r f.loaded cell run freed.free freed.pointed heads
       (mirrors.images.carried k) in
       let there : k < length w.now.seats.flights = (let l = known.now.orderly.flights in omega (arith, l)) in
-      let same : (flight_of (world_behind c w ev).now (Caller k)).op ≡ f.op =
-      ap (λ (y : Flight). y.op) (get_or-set_same w.now.seats.flights k _ at_rest there)
-      ∙ ap (λ (y : Option Cell). (progress_freed f y).flight.op) e in
+      let same : (flight_of (world_behind c w ev).now (Caller k)).op ≡ f.op = ap (λ (y : Flight). y.op) (get_or-set_same
+      w.now.seats.flights k _ at_rest there) ∙ ap (λ (y : Option Cell). (progress_freed f y).flight.op) e in
       let never : never_after c w n ev ≡ after_calls n (asked (entry_of k f.op (Some Answer.Done))) =
       ap (λ (y : Option Cell). after_calls n (asked (entry_of k f.op (progress_freed f y).answer))) e in
       subst (λ (o : Op). PointsAtRun (world_behind c w ev) (never_after c w n ev) k (p_of o) run) (sym same)
-      (points_on ev k (p_of f.op) run grows (ap (λ m. register_at m k (p_of f.op)) never ∙ new.1) new.0)
+      (points_on ev grows (ap (λ m. register_at m k (p_of f.op)) never ∙ new.1) new.0)
 
   -- Two callers are never under the turn.
   other_new : (j k p v : ℕ) (run : RunPages) → j ≢ k → Meets c w.now (Caller j) (Step.Quar p v)
@@ -275,32 +272,31 @@ module _ (c : Config) (w : World) (n : NeverState) (known : KnownWorld c w) (oth
       there : (k : ℕ) → is_decided_free (flight_of w.now (Caller k)) ≡ true → k < c.callers
       there k free = grind (arith, cases_lt, get_or_past)
 
-  caller_owns : (j : ℕ) (x : Step) → Meets c w.now (Caller j) x → GrowsBehind (Caller j) x
+  caller_owns : (j : ℕ) {x : Step} → Meets c w.now (Caller j) x → GrowsBehind (Caller j) x
       → AreAdmitted c.globals n (asked (call_decided c w.now (event_of (Caller j) x)))
-      → (run : RunPages) → WasFreed c w (flight_of w.now (Caller j)) run x → (k : ℕ) → OwnsBehind (Caller j) x run k
-  caller_owns j x h grows ad run (Before old g) k = elim (cases_eq j k) [
+      → {run : RunPages} → WasFreed c w (flight_of w.now (Caller j)) run x → (k : ℕ) → OwnsBehind (Caller j) x run k
+  caller_owns j {x = x} h grows ad {run = run} (Before old g) k = elim (cases_eq j k) [
     | inl e ↦ subst (λ (i : ℕ). OwnsBehind (Caller j) x run i) e (own_old j x run h grows old g)
     | inr ne ↦ other_old j k x run ne grows ad old
   ]
-  caller_owns j x h grows ad run (Now p v heads) k = elim (cases_eq j k) [
-    | inl e ↦ subst (λ (i : ℕ). OwnsBehind (Caller j) (Step.Quar p v) run i) e
-        (own_new j p v run (cell_freed c.pages w.now.words (flight_of w.now (Caller j)) p v)
-        (ltb-true j c.callers h.seat) grows refl heads)
+  caller_owns j h grows ad {run = run} (Now p v heads) k = elim (cases_eq j k) [
+    | inl e ↦ subst (λ (i : ℕ). OwnsBehind (Caller j) (Step.Quar p v) run i) e (own_new j p v run (cell_freed c.pages
+        w.now.words (flight_of w.now (Caller j)) p v) (ltb-true j c.callers h.seat) grows refl heads)
     | inr ne ↦ other_new j k p v run ne h
   ]
 
   -- Where no call is in flight, it was freed before.
-  was_before : {x : Step} (run : RunPages) → WasFreed c w at_rest run x → w.now.seats.holding.freed ≡ Some run
-  was_before run (Before old g) = old
-  was_before run (Now p v heads) = absurd (no_run w.now.words _ run heads)
+  was_before : {x : Step} {run : RunPages} → WasFreed c w at_rest run x → w.now.seats.holding.freed ≡ Some run
+  was_before (Before old g) = old
+  was_before {run = run} (Now p v heads) = absurd (no_run w.now.words _ run heads)
 
   pub owns : (seat : Seat) (x : Step) → Meets c w.now seat x → GrowsBehind seat x
       → AreAdmitted c.globals n (asked (call_decided c w.now (event_of seat x)))
       → OwnsFreedRun (world_behind c w (event_of seat x)) (never_after c w n (event_of seat x))
-  owns (Caller j) x h grows ad run e k free = caller_owns j x h grows ad run (was_freed c w (Caller j) _ x run e) k free
+  owns (Caller j) x h grows ad run e k free = caller_owns j h grows ad (was_freed c w (Caller j) _ x run e) k free
   owns Host x h grows ad run e k free =
-      let old = was_before run (was_freed c w Host at_rest x run e) in
-      points_on (event_of Host x) k _ run grows refl (mirrors.freed_run run old k free)
+      let old = was_before (was_freed c w Host at_rest x run e) in
+      points_on (event_of Host x) grows refl (mirrors.freed_run run old k free)
   owns (Marker j) x h grows ad run e k free =
-      let old = was_before run (was_freed c w (Marker j) at_rest x run e) in
-      points_on (event_of (Marker j) x) k _ run grows refl (mirrors.freed_run run old k free)
+      let old = was_before (was_freed c w (Marker j) at_rest x run e) in
+      points_on (event_of (Marker j) x) grows refl (mirrors.freed_run run old k free)

@@ -20,9 +20,9 @@ abbrev pub FreshTold : Config → World → Type 0
 FreshTold c w = w.now.fresh_words ≡ in_a_word (fresh_words_of c w.allocations)
 
 -- what a freed object adds: a small one's storage
-words_of_part : (o : Object) (x : Option Header) → ShowsPart o 0 x → (small : Bool) → is_small_object o ≡ small
+words_of_part : {o : Object} {x : Option Header} → ShowsPart o 0 x → (small : Bool) → is_small_object o ≡ small
     → (if heads_run x then 0 else words_under x) ≡ (if small then words_made o else 0)
-words_of_part o x part x4 is = grind (arith, small_heads_none, part_words, part_heads_run)
+words_of_part part x4 is = grind (arith, small_heads_none, part_words, part_heads_run)
 
 -- and what it counts from then on
 counted_freed : (released large small : Bool) (n : ℕ) → released ≡ false → large ≡ not small
@@ -75,7 +75,7 @@ module _ (c : Config) (w : World) (cell : Cell) (n : ℕ) (b : Before c w) (off 
       let large = large_is_not_small _ in
       let counted = counted_freed own.released _ small (words_made o) x.own.unreleased large in
       let now : fresh_part c (freed own) ≡ (if small then words_made o else 0) = ap (fresh_part c) becomes ∙ counted in
-      let added = words_of_part o (header_in w.now.words cell.page) part small refl in
+      let added = words_of_part part small refl in
       omega (arith, stale_part c own stale)
 
   within : x.own.number < length w.allocations
@@ -88,9 +88,9 @@ module _ (c : Config) (w : World) (cell : Cell) (n : ℕ) (b : Before c w) (off 
 -- A sum stands still at the greatest number of a word.
 
 -- each kind of event, whatever the seat
-pub fresh_told_behind : (c : Config) (w : World) (seat : Seat) (x : Step) → Before c w → Meets c w.now seat x
+pub fresh_told_behind : {c : Config} {w : World} (seat : Seat) (x : Step) → Before c w → Meets c w.now seat x
     → StandsInOrder c w → FreshTold c w → FreshTold c (WorldBehind c w seat x)
-fresh_told_behind c w seat (Step.Quar p n) b h order told =
+fresh_told_behind {c} {w} seat (Step.Quar p n) b h order told =
     by (cell_freed c.pages w.now.words (flight_of w.now seat) p n) refl
   where
     by : (cell : Option Cell) → cell_freed c.pages w.now.words (flight_of w.now seat) p n ≡ cell
@@ -99,11 +99,12 @@ fresh_told_behind c w seat (Step.Quar p n) b h order told =
     by None is = grind (arith, none_freed)
     by (Some cell) is =
         let x = freed_cell c.pages w.now.words _ p n cell is in
-        let sum = fresh_freed c w cell n b x.phase order (frees_here c w seat p n cell b h order.laid x) in
+        let sum = fresh_freed c w cell n b x.phase order (frees_here seat b h order.laid x) in
         omega arith
-fresh_told_behind c w seat Step.Begin b h order told = ap in_a_word (sym (none_fresh c w.allocations))
-fresh_told_behind c w seat Step.Grant b h order told = told ∙ ap in_a_word (sym (fresh_pushed c w.allocations _ refl))
-fresh_told_behind c w seat Step.Release b h order told =
+fresh_told_behind {c} {w} seat Step.Begin b h order told = ap in_a_word (sym (none_fresh c w.allocations))
+fresh_told_behind {c} {w} seat Step.Grant b h order told =
+    told ∙ ap in_a_word (sym (fresh_pushed c w.allocations _ refl))
+fresh_told_behind {c} {w} seat Step.Release b h order told =
     told ∙ ap in_a_word (sym (fresh_kept c _ w.allocations same))
   where
     counted : (released left mapped fresh : Bool) (m : ℕ) → (fresh ≡ true → (released || left) ≡ released)
@@ -117,8 +118,8 @@ fresh_told_behind c w seat Step.Release b h order told =
     same i =
         let a : PlacedAllocation = placed_at w.allocations i in
         let at = changed_at _ w.allocations i (released_leaves c w.now.words).none in
-        let now = snapshot_behind c w seat Step.Release b h order.laid order.quarantined order.snapshot in
+        let now = snapshot_behind seat Step.Release b h order.laid order.quarantined order.snapshot in
         counted a.released _ (not (a.freed && is_large (kinds_of c.types a.ty))) a.fresh _ (λ f.
         let behind = now.fresh i (ap (λ (y : PlacedAllocation). y.fresh) at ∙ f) in
         ap (λ (y : PlacedAllocation). y.released) (sym at) ∙ behind.1 ∙ sym (order.snapshot.fresh i f).1)
-fresh_told_behind c w seat _ b h order told = told
+fresh_told_behind seat _ b h order told = told

@@ -1,5 +1,5 @@
 -- The words of fresh allocations, as a sum over all.
-use Rattle.std.proofs.{Common.{filter, sum_by}, Math.Bool.and-false, lemmas.List.Sums.sum_by-cons}
+use Rattle.std.proofs.{Common.filter, Common.sum_by, Math.Bool.and-false, lemmas.List.Sums.sum_by-cons}
 use Rattle.mk_laws.proofs.Vocabulary.{Bool, Config, List, PlacedAllocation, ℕ, ap, arith, false, fresh_words_of}
 use Rattle.mk_laws.proofs.Vocabulary.{if◌then◌else◌, is_mapped, length, map, no_longer_fresh, placed_at, refl}
 use Rattle.mk_laws.proofs.Vocabulary.{storage_words, suc, sym, true, zero, [], ◌&&◌, ◌++◌, ◌+◌, ◌<◌, ◌∙◌, ◌∷◌, ◌≡◌, ◌≢◌}

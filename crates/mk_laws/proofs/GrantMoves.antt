@@ -22,10 +22,10 @@ pub record FillsCell (c : Config) (w : Words) (a : PlacedAllocation) : Type 0 wh
   pub first : first_word w (cell_of_allocation c a) ≡ a.base
   pub inside : a.base + storage_words c a ≤ 64 * c.pages
 
-pub fills_cell : (c : Config) (w : World) (a : PlacedAllocation) (place : Place) → KnownWorld c w
+pub fills_cell : {c : Config} {w : World} (a : PlacedAllocation) {place : Place} → KnownWorld c w
     → a.ty < length c.types → a.released ≡ false → a.base ≡ base_made (object_placed c a) place
     → IsPlaceOfNone c w (object_placed c a) place → FillsCell c w.now.words a
-fills_cell c w a place known typed unreleased base h =
+fills_cell {c} {w} a {place = place} known typed unreleased base h =
     let st = placed_stands c a place known.limits typed unreleased base h.index h.pages in
     let has = placed_headers c w.now.words a place known.limits typed base h.index h.stands in
     grind (arith, word_points, cells_begin)
@@ -33,11 +33,11 @@ fills_cell c w a place known typed unreleased base h =
 module _ (c : Config) (w : World) (n : NeverState) (known : KnownWorld c w) (mirrors : Mirrors c w n)
     (others : ImagePremises c w) (st : Stands c w.now.words w.allocations) where
   -- the words of a place that is granted, while no run is freed
-  pub place_is_zero : (a : PlacedAllocation) (place : Place) → ((run : RunPages) → w.now.seats.holding.freed ≢ Some run)
+  pub place_is_zero : {a : PlacedAllocation} {place : Place} → ((run : RunPages) → w.now.seats.holding.freed ≢ Some run)
       → phase_of w.now.words ≢ 4 → a.base ≡ base_made (object_placed c a) place
       → IsPlaceOfNone c w (object_placed c a) place → FillsCell c w.now.words a → (i : ℕ) → i < storage_words c a
       → slice_index w.now.words.heap (a.base + i) ≡ 0
-  place_is_zero a place no_run phase base h fills i lt = zero_unless _ (λ ne. by (others.zero_words (a.base + i) ne))
+  place_is_zero {a} no_run phase base h fills i lt = zero_unless _ (λ ne. by (others.zero_words (a.base + i) ne))
     where
       by : MayHoldWords c w (a.base + i) → ⊥
       by (OfMapped j m is) =

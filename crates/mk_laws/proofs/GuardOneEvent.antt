@@ -59,65 +59,60 @@ seen_cell c x own = by x.seen x.hand refl refl own
         here _ e _ is own = cc
     by _ _ es eh own = cc
 
-looks : (c : Config) (m : Moment) (x : Word) (y : MarkerState) (f : ℕ)
-    → ((p : ℕ) → x ≡ Word.Head p → f ≡ header_at m.words p) → MarkerStands c m y
-    → MarkerStands c m (behind_mlook c f x y)
-looks c m (Word.Head p) y f is h = rw (is p refl) (look_stands c m p y h)
-looks c m _ y f is h = unseen_stands c m y h
+looks : {c : Config} {m : Moment} (x : Word) {y : MarkerState} (f : ℕ) → ((p : ℕ) → x ≡ Word.Head p
+    → f ≡ header_at m.words p) → MarkerStands c m y → MarkerStands c m (behind_mlook c f x y)
+looks {c} {m} (Word.Head p) {y = y} f is h = rw (is p refl) (look_stands c m p y h)
+looks {c} {m} _ {y = y} f is h = unseen_stands h
 
 -- a marker's own step
 own_marker : (c : Config) (m : Moment) (k : ℕ) (x : Step) → AreOfPages c.pages m.words → Meets c m (Marker k) x
     → Keeps c m (Behind c m (Marker k) x)
-    → (is_attending (marker_of m k).presence ≡ true → MarkerStands c m (marker_of m k))
-    → is_attending (marker_behind c (found c m (record { seat = Marker k; step = x })) x (marker_of m k)).presence
-    ≡ true → MarkerStands c (Behind c m (Marker k) x)
-    (marker_behind c (found c m (record { seat = Marker k; step = x })) x (marker_of m k))
+    → (is_attending (marker_of m k).presence ≡ true → MarkerStands c m (marker_of m k)) → is_attending (marker_behind c
+    (found c m (record { seat = Marker k; step = x })) x (marker_of m k)).presence ≡ true → MarkerStands c
+    (Behind c m (Marker k) x) (marker_behind c (found c m (record { seat = Marker k; step = x })) x (marker_of m k))
 own_marker c m k Step.Attend len h keeps before at = idle_stands c _ _
 own_marker c m k Step.Quit len h keeps before at = idle_stands c _ Out
 own_marker c m k (Step.Mlook x) len h keeps before at =
-    marker_kept c m _ _ keeps (looks c m x (marker_of m k) (found c m (record { seat = Marker k; step = Step.Mlook x }))
+    marker_kept keeps (looks x (found c m (record { seat = Marker k; step = Step.Mlook x }))
     (λ p e. rw e) (before ((and_parts _ (is_markers_word x) h.marker).0)))
 own_marker c m k (Step.Claim p i) len h keeps before at =
-    marker_kept c m _ _ keeps (claim_stands c m (marker_of m k) p i (and_parts _ _ h.marker).1 (before at))
+    marker_kept keeps (claim_stands p i (and_parts _ _ h.marker).1 (before at))
 own_marker c m k Step.Mload len h keeps before at =
-    marker_kept c m _ _ keeps (load_stands c m (marker_of m k) _ (and_parts _ _ h.marker).0
+    marker_kept keeps (load_stands _ (and_parts _ _ h.marker).0
     (nothing_is (marker_of m k).hand (and_parts _ _ h.marker).1) (λ y e. sym (rw e)) (before at))
 own_marker c m k Step.Mmark len h keeps before at =
     let s = seen_cell c (marker_of m k) h.marker in
     let within = cell_within c.pages s.under.header s.value s.cell s.at in
     let n = Behind c m (Marker k) Step.Mmark in
-    let there : MarkerStands c n (marker_of m k) = marker_kept c m n (marker_of m k) keeps (before at) in
-    mark_stands c n (marker_of m k) s.value s.hand (seen_well c n (marker_of m k) s.cell s.value s.hand s.is there
+    let there : MarkerStands c n (marker_of m k) = marker_kept keeps (before at) in
+    mark_stands s.value s.hand (seen_well s.cell s.value s.hand s.is there
     (rw s.is (bits_added m.words.marks s.cell.page _ s.cell.index
     (let lt = within.0 in omega (arith, len.marks, lt)) (bit_for_has s.cell.index within.1)))) there
-own_marker c m k Step.Mblack len h keeps before at =
-    marker_kept c m _ _ keeps (unscanning_stands c m (marker_of m k) (before at))
+own_marker c m k Step.Mblack len h keeps before at = marker_kept keeps (unscanning_stands (before at))
 own_marker c m k _ len h keeps before at = let kind = h.kind in cc
 
 -- all markers
 pub markers_stand : (c : Config) (m : Moment) (seat : Seat) (x : Step) → AreOfPages c.pages m.words → Meets c m seat x
-    → Keeps c m (Behind c m seat x)
-    → ((k : ℕ) → is_attending (marker_of m k).presence ≡ true → MarkerStands c m (marker_of m k))
-    → (k : ℕ) → is_attending (marker_of (Behind c m seat x) k).presence ≡ true
+    → Keeps c m (Behind c m seat x) → ((k : ℕ) → is_attending (marker_of m k).presence ≡ true
+    → MarkerStands c m (marker_of m k)) → (k : ℕ) → is_attending (marker_of (Behind c m seat x) k).presence ≡ true
     → MarkerStands c (Behind c m seat x) (marker_of (Behind c m seat x) k)
-markers_stand c m (Caller k) x len h keeps before j at = marker_kept c m (Behind c m (Caller k) x) _ keeps (before j at)
-markers_stand c m Host x len h keeps before j at = marker_kept c m (Behind c m Host x) _ keeps (before j at)
+markers_stand c m (Caller k) x len h keeps before j at = marker_kept keeps (before j at)
+markers_stand c m Host x len h keeps before j at = marker_kept keeps (before j at)
 markers_stand c m (Marker k) x len h keeps before j at = marker_set m.seats.markers k j
     (marker_behind c (found c m (record { seat = Marker k; step = x })) x (marker_of m k))
     (λ (y : MarkerState). is_attending y.presence ≡ true → MarkerStands c (Behind c m (Marker k) x) y)
-    (λ lt own. own_marker c m k x len h keeps (before k) own)
-    (λ other. marker_kept c m (Behind c m (Marker k) x) (marker_of m j) keeps (before j other)) at
+    (λ lt own. own_marker c m k x len h keeps (before k) own) (λ other. marker_kept keeps (before j other)) at
 
 -- The words of black cells stay guarded: cells that turn black, and pages that are made clean.
 
 -- bits are added to the black word of one page, each of a cell whose words are guarded
-blackened : (c : Config) (m n : Moment) (q bits : ℕ) → Keeps c m n → NewCellsAreGuarded c m n
+blackened : {c : Config} {m n : Moment} (q bits : ℕ) → Keeps c m n → NewCellsAreGuarded c m n
     → n.words.blacks ≡ slice_set m.words.blacks q (bit_or (slice_index m.words.blacks q) bits)
     → ((k : ℕ) → has_bit bits k ≡ true → (i : ℕ) → k < cells_under (header_in m.words q)
     → has_no_pointers (header_in m.words q) ≡ false → i < words_under (header_in m.words q)
     → IsGuarded c m (64 * q + k * words_under (header_in m.words q) + i)) → BlackIsGuarded c m → BlackIsGuarded c n
-blackened c m n q bits keeps new are guarded black =
-    black_kept c m n keeps new (λ p k is. elim (more_bits m.words.blacks q bits p k (rw are at is)) [
+blackened {c} {m} {n} q bits keeps new are guarded black =
+    black_kept keeps new (λ p k is. elim (more_bits m.words.blacks q bits p k (rw are at is)) [
       | inl old ↦ inl old
       | inr at ↦ inr (λ i lt sc li. rw at.0 (guarded k at.1 i (rw at.0 at lt) (rw at.0 at sc) (rw at.0 at li)))
     ]) black
@@ -151,7 +146,7 @@ pub mblack_kind : (c : Config) (m : Moment) (seat : Seat) → Known c m → Keep
     → NewCellsAreGuarded c m (Behind c m seat Step.Mblack) → Meets c m seat Step.Mblack → Guard c m
     → BlackIsGuarded c (Behind c m seat Step.Mblack)
 mblack_kind c m (Marker k) known keeps new h g =
-    blackened c m _ _ _ keeps new refl (by (marker_of m k).scan refl own.0) g.black
+    blackened _ _ keeps new refl (by (marker_of m k).scan refl own.0) g.black
   where
     own : (is_scanned (marker_of m k).scan ≡ true) × (is_none (marker_of m k).hand ≡ true)
     own = and_parts _ _ h.marker
@@ -177,10 +172,10 @@ pub undirties : (c : Config) (m : Moment) (seat : Seat) (q : ℕ) → IsMarking 
     → Undirties m q
 undirties c m seat q early h = grind (arith, and_parts, eqb-true, either_phase, eq-eqb)
 
-pub undirty_kind : (c : Config) (w : World) (seat : Seat) (q : ℕ) → AreOfPages c.pages w.now.words
+pub undirty_kind : {c : Config} {w : World} (seat : Seat) (q : ℕ) → AreOfPages c.pages w.now.words
     → IsMarking w.now.words → GuardPremises c w → Meets c w.now seat (Step.Undirty q)
     → BlackIsGuarded c w.now → BlackIsGuarded c (Behind c w.now seat (Step.Undirty q))
-undirty_kind c w seat q len early say h black p k i lt is scanned li =
+undirty_kind {c} {w} seat q len early say h black p k i lt is scanned li =
     elim (cases_eq (slice_index w.now.words.heap (64 * p + k * words_under (header_in w.now.words p) + i)) 0) [
       | inl z ↦ bare_guarded c _ _ z
       | inr some ↦ elim (cases_eq ((64 * p + k * words_under (header_in w.now.words p) + i) / 64) q) [
@@ -206,19 +201,17 @@ same_markers c m (Marker k) q j h = let kind = h.kind in cc
 same_markers c m _ q j h = refl
 
 -- what a step keeps of the guarded words
-module _ (c : Config) (w : World) (seat : Seat) (limits : IsWithinLimits c) (known : Known c w.now)
-    (len : AreOfPages c.pages w.now.words) (early : IsMarking w.now.words) (say : GuardPremises c w)
-    (g : Guard c w.now) where
+module _ (c : Config) (w : World) (seat : Seat) (limits : IsWithinLimits c) (known : Known c w.now) (len : AreOfPages
+    c.pages w.now.words) (early : IsMarking w.now.words) (say : GuardPremises c w) (g : Guard c w.now) where
   abbrev After : Step → Moment
   After x = Behind c w.now seat x
 
   keeps_by : (x : Step) → Meets c w.now seat x → is_undirty x ≡ false
-      → ((v : ℕ) → IsWell c w.now.words v → IsWell c (After x).words v)
-      → ((p : ℕ) → HeaderGoesOn c.pages (header_at w.now.words p) (header_at (After x).words p))
-      → Keeps c w.now (After x)
+      → ((v : ℕ) → IsWell c w.now.words v → IsWell c (After x).words v) → ((p : ℕ)
+      → HeaderGoesOn c.pages (header_at w.now.words p) (header_at (After x).words p)) → Keeps c w.now (After x)
   keeps_by x h no_clean wells headers = record {
     wells = wells;
-    heap = heap_kind c w.now seat x known h;
+    heap = heap_kind seat x known h;
     dirty = dirty_kind c w.now seat x no_clean;
     owed = owed_kind c w.now seat x len h;
     headers = headers;
@@ -226,9 +219,8 @@ module _ (c : Config) (w : World) (seat : Seat) (limits : IsWithinLimits c) (kno
   }
 
   keeps_of : (x : Step) → Meets c w.now seat x → is_head x ≡ false → is_undirty x ≡ false → Keeps c w.now (After x)
-  keeps_of x h no_head no_clean = keeps_by x h no_clean
-      (wells_from c w.now.words (After x).words (headers_kind c w.now seat x no_head)
-      (marks_kind c w.now seat x early h))
+  keeps_of x h no_head no_clean = keeps_by x h no_clean (wells_from c w.now.words (After x).words
+      (headers_kind c w.now seat x no_head) (marks_kind c w.now seat x early h))
       (λ p. goes_equal c.pages _ _ (headers_kind c w.now seat x no_head p))
 
   head : (p n : ℕ) → Meets c w.now seat (Step.Head p n) → HeadKeeps c w.now (After (Step.Head p n))
@@ -238,23 +230,22 @@ module _ (c : Config) (w : World) (seat : Seat) (limits : IsWithinLimits c) (kno
   keeps_head p n h = keeps_by (Step.Head p n) h refl (head p n h).wells (head p n h).headers
 
   black_behind : (x : Step) → Meets c w.now seat x → BlackIsGuarded c (After x)
-  black_behind (Step.Head p n) h = black_kept c w.now _ (keeps_head p n h) (head p n h).new
+  black_behind (Step.Head p n) h = black_kept (keeps_head p n h) (head p n h).new
       (λ q k is. inl (blacks_kind c w.now seat (Step.Head p n) refl q k is)) g.black
-  black_behind (Step.Undirty q) h = undirty_kind c w seat q len early say h g.black
+  black_behind (Step.Undirty q) h = undirty_kind seat q len early say h g.black
   black_behind (Step.Black p n) h =
       let own = and_parts _ (not (all_below 32 (λ k. not (blackens c.pages w.now.words p n k)))) h.holder in
       let t = turned w.now.words c.pages p n 32
       (not-true (all_below 32 (λ k. not (blackens c.pages w.now.words p n k))) own.1) in
       let a = and_parts _ (may_turn_black c.pages w.now.words (record { page = p; index = t.bit })) t.is in
-      blackened c w.now _ p n (keeps_of (Step.Black p n) h refl refl)
+      blackened p n (keeps_of (Step.Black p n) h refl refl)
       (no_new_cells c w.now seat (Step.Black p n) refl) refl (λ k is i lt sc li.
       let e = bit_of_power t.bit k (rw (eqb-true n (2 ^ t.bit) a.0) at is) in
       let words = turned_words c.pages w.now.words p t.bit a.1 sc in
       let at : word_points_well c.pages w.now.words (64 * p + t.bit * words_under (header_in w.now.words p) + i)
       ≡ true =
-      all_below-at (cell_words w.now.words (record { page = p; index = t.bit })) i
-      (λ j. word_points_well c.pages w.now.words (first_word w.now.words (record { page = p; index = t.bit }) + j))
-      words li in
+      all_below-at (cell_words w.now.words (record { page = p; index = t.bit })) i (λ j. word_points_well c.pages
+      w.now.words (first_word w.now.words (record { page = p; index = t.bit }) + j)) words li in
       rw e (PointsWell at)) g.black
   black_behind Step.Mblack h = mblack_kind c w.now seat known (keeps_of Step.Mblack h refl refl)
       (no_new_cells c w.now seat Step.Mblack refl) h g
@@ -262,7 +253,7 @@ module _ (c : Config) (w : World) (seat : Seat) (limits : IsWithinLimits c) (kno
     where
       rest : (x : Step) → Meets c w.now seat x → is_head x ≡ false → is_undirty x ≡ false → is_blackening x ≡ false
           → BlackIsGuarded c (After x)
-      rest x h no_head no_clean no_black = black_kept c w.now _ (keeps_of x h no_head no_clean)
+      rest x h no_head no_clean no_black = black_kept (keeps_of x h no_head no_clean)
           (no_new_cells c w.now seat x no_head) (λ p k is. inl (blacks_kind c w.now seat x no_black p k is)) g.black
 
   markers_behind : (x : Step) → Meets c w.now seat x → (j : ℕ)
@@ -329,7 +320,7 @@ module _ (c : Config) (w : World) (seat : Seat) (limits : IsWithinLimits c) (kno
       let two = eqb-true _ 2 h.phase in
       record {
         guarded = λ early. goes_on Step.Close (inr two) h g;
-        closed = λ three. stays_closed c w.now.words _
+        closed = λ three. stays_closed _
             (record { registers = refl; globals = refl; headers = λ p. refl; marks = refl; heap = λ n. inl refl })
             (closed c w.now seat known len h (g.guarded (inr two)).black);
       }

@@ -23,8 +23,8 @@ pub record LeavesClosed (w v : Words) : Type 0 where
   pub marks : v.marks ≡ w.marks
   pub heap : (n : ℕ) → (slice_index v.heap n ≡ slice_index w.heap n) ⊎ (slice_index v.heap n ≡ 0)
 
-pub stays_closed : (c : Config) (w v : Words) → LeavesClosed w v → CellsAreClosed c w → CellsAreClosed c v
-stays_closed c w v same h = record {
+pub stays_closed : {c : Config} {w : Words} (v : Words) → LeavesClosed w v → CellsAreClosed c w → CellsAreClosed c v
+stays_closed {c} {w} v same h = record {
   registers = λ i. rw same.registers (over _ (h.registers i));
   globals = λ g. rw same.globals (over _ (h.globals g));
   words = λ cell i lt is scanned li.
@@ -42,40 +42,40 @@ stays_closed c w v same h = record {
 
 -- At this phase no caller is in a call outside the turn.
 
-no_call : (c : Config) (m : Moment) (k : ℕ) → Known c m → phase_of m.words ≡ 3 → k < c.callers
+no_call : {c : Config} {m : Moment} (k : ℕ) → Known c m → phase_of m.words ≡ 3 → k < c.callers
     → is_call_stage (flight_of m (Caller k)).stage ≡ true → ⊥
-no_call c m k known three lt at = grind (arith, shows_at, view_of, calls_stand, not_astray)
+no_call k known three lt at = grind (arith, shows_at, view_of, calls_stand, not_astray)
 
-no_step : (c : Config) (m : Moment) (seat : Seat) (x : Step) → Known c m → phase_of m.words ≡ 3 → Meets c m seat x
+no_step : {c : Config} {m : Moment} (seat : Seat) (x : Step) → Known c m → phase_of m.words ≡ 3 → Meets c m seat x
     → has_stage_of_its_own x ≡ true → is_call_stage (stage_of x) ≡ true → ⊥
-no_step c m (Caller k) x known three h own at =
-    no_call c m k known three (ltb-true k c.callers h.seat) (subst (λ (s : Stage). is_call_stage s ≡ true)
+no_step {c} {m} (Caller k) x known three h own at =
+    no_call k known three (ltb-true k c.callers h.seat) (subst (λ (s : Stage). is_call_stage s ≡ true)
     (sym (at_its_stage _ _ x own h.order)) at)
-no_step c m seat x known three h own at = grind arith
+no_step seat x known three h own at = grind arith
 
-reg_still : (c : Config) (m : Moment) (seat : Seat) → Known c m → phase_of m.words ≡ 3 → Meets c m seat Step.Reg
+reg_still : {c : Config} {m : Moment} (seat : Seat) → Known c m → phase_of m.words ≡ 3 → Meets c m seat Step.Reg
     → (Behind c m seat Step.Reg).words.registers ≡ m.words.registers
-reg_still c m (Caller k) known three h = grind (arith, is_call_stage, no_call, ltb-true, at_reg)
-reg_still c m _ known three h = let kind = h.kind in cc
+reg_still (Caller k) known three h = grind (arith, is_call_stage, no_call, ltb-true, at_reg)
+reg_still _ known three h = let kind = h.kind in cc
 
-registers_still : (c : Config) (m : Moment) (seat : Seat) (x : Step) → Known c m → phase_of m.words ≡ 3
+registers_still : {c : Config} {m : Moment} (seat : Seat) (x : Step) → Known c m → phase_of m.words ≡ 3
     → Meets c m seat x → (Behind c m seat x).words.registers ≡ m.words.registers
-registers_still c m seat Step.Reg known three h = reg_still c m seat known three h
-registers_still c m seat x3 known three h = grind (arith, tally_leaves_registers, either_phase)
+registers_still {c} {m} seat Step.Reg known three h = reg_still seat known three h
+registers_still seat x3 known three h = grind (arith, tally_leaves_registers, either_phase)
 
-globals_still : (c : Config) (m : Moment) (seat : Seat) (x : Step) → Known c m → phase_of m.words ≡ 3 → Meets c m seat x
+globals_still : {c : Config} {m : Moment} (seat : Seat) (x : Step) → Known c m → phase_of m.words ≡ 3 → Meets c m seat x
     → (Behind c m seat x).words.globals ≡ m.words.globals
-globals_still c m seat x4 known three h = grind (arith, reg_table, tally_table, no_step)
+globals_still seat x4 known three h = grind (arith, reg_table, tally_table, no_step)
 
-heap_still : (c : Config) (m : Moment) (seat : Seat) (x : Step) → Known c m → phase_of m.words ≡ 3 → Meets c m seat x
+heap_still : {c : Config} {m : Moment} (seat : Seat) (x : Step) → Known c m → phase_of m.words ≡ 3 → Meets c m seat x
     → (n : ℕ) → (slice_index (Behind c m seat x).words.heap n ≡ slice_index m.words.heap n)
     ⊎ (slice_index (Behind c m seat x).words.heap n ≡ 0)
-heap_still c m seat x4 known three h n = grind (arith, reg_table, tally_table, no_step, wiped)
+heap_still seat x4 known three h n = grind (arith, reg_table, tally_table, no_step, wiped)
 
-marks_still : (c : Config) (m : Moment) (seat : Seat) (x : Step) → Known c m → phase_of m.words ≡ 3 → Meets c m seat x
+marks_still : {c : Config} {m : Moment} (seat : Seat) (x : Step) → Known c m → phase_of m.words ≡ 3 → Meets c m seat x
     → (Behind c m seat x).words.marks ≡ m.words.marks
-marks_still c m seat Step.Reg known three h = ap (λ (t : Table). t.marks) (reg_table c m seat)
-marks_still c m seat x3 known three h = grind (arith, tally_table, eqb-true, either_phase, work_attends)
+marks_still {c} {m} seat Step.Reg known three h = ap (λ (t : Table). t.marks) (reg_table c m seat)
+marks_still seat x3 known three h = grind (arith, tally_table, eqb-true, either_phase, work_attends)
 
 -- no header is stored
 no_head : (n : ℕ) → n ≡ 3 → ((n == 0) || (n == 1) || (n == 4)) ≡ true → ⊥
@@ -86,25 +86,25 @@ headers_still : (c : Config) (m : Moment) (seat : Seat) (x : Step) → phase_of 
 headers_still c m seat (Step.Head q n) three h p = absurd (no_head _ three h.phase)
 headers_still c m seat x three h p = grind (arith, is_head, headers_kind)
 
-pub leaves_closed : (c : Config) (m : Moment) (seat : Seat) (x : Step) → Known c m → phase_of m.words ≡ 3
+pub leaves_closed : {c : Config} {m : Moment} (seat : Seat) (x : Step) → Known c m → phase_of m.words ≡ 3
     → Meets c m seat x → LeavesClosed m.words (Behind c m seat x).words
-leaves_closed c m seat x known three h =
+leaves_closed seat x known three h =
     grind (arith, registers_still, globals_still, headers_still, marks_still, heap_still)
 
 -- `close`: no dirty word, nothing owed, marked cells black; so the marks are closed.
 
 -- A call that owes a dirty mark is a caller's, outside the turn.
-pub owes_in_call : (c : Config) (m : Moment) (j : ℕ) → Known c m → (flight_of m (Caller j)).stage ≡ Stage.Dirty
+pub owes_in_call : {c : Config} {m : Moment} (j : ℕ) → Known c m → (flight_of m (Caller j)).stage ≡ Stage.Dirty
     → (j < c.callers) × (standing (flight_of m (Caller j)) ≡ InCall)
-owes_in_call c m j known at = elim (cases_lt j c.callers) [
+owes_in_call {c} j known at = elim (cases_lt j c.callers) [
   | inr past ↦ grind (arith, get_or_past)
   | inl lt ↦ grind (arith, is_astray, standing_at, not_astray, calls_stand)
 ]
 
 -- where a `close` is enabled, no call owes a dirty word
-none_owes : (c : Config) (m : Moment) (seat : Seat) (j : ℕ) → Known c m → Meets c m seat Step.Close
+none_owes : {c : Config} {m : Moment} (seat : Seat) (j : ℕ) → Known c m → Meets c m seat Step.Close
     → (flight_of m (Caller j)).stage ≡ Stage.Dirty → ⊥
-none_owes c m seat j known h at = elim (cases_eq (holder_number c seat) j) [
+none_owes {c} {m} seat j known h at = elim (cases_eq (holder_number c seat) j) [
   | inl e ↦ own seat e call.0 h
   | inr ne ↦
       let two = others_held c m seat h.gates j call.0 ne in
@@ -112,7 +112,7 @@ none_owes c m seat j known h at = elim (cases_eq (holder_number c seat) j) [
 ]
   where
     call : (j < c.callers) × (standing (flight_of m (Caller j)) ≡ InCall)
-    call = owes_in_call c m j known at
+    call = owes_in_call j known at
 
     own : (seat : Seat) → holder_number c seat ≡ j → j < c.callers → Meets c m seat Step.Close → ⊥
     own x1 e lt h = grind (arith, at_owed)
@@ -126,9 +126,9 @@ record ClosedPage (w : Words) (p : ℕ) : Type 0 where
 closed_page : (w : Words) (p : ℕ) → has_closed_page w p ≡ true → ClosedPage w p
 closed_page w p h = record { black = eqb-true _ 0 (and_parts _ _ h).0; clean = eqb-true _ 0 (and_parts _ _ h).1 }
 
-black_bit : (w : Words) (p k : ℕ) → ClosedPage w p → k < cells_under (header_in w p)
+black_bit : {w : Words} {p : ℕ} (k : ℕ) → ClosedPage w p → k < cells_under (header_in w p)
     → has_bit (slice_index w.marks p) k ≡ true → has_bit (slice_index w.blacks p) k ≡ true
-black_bit w p k h lt is = grind (arith, fewer_bits, without_none, eq-eqb, bit_at_and, bit_at_ones, eqb-true)
+black_bit k h lt is = grind (arith, fewer_bits, without_none, eq-eqb, bit_at_and, bit_at_ones, eqb-true)
 
 pub closed : (c : Config) (m : Moment) (seat : Seat) → Known c m → AreOfPages c.pages m.words
     → Meets c m seat Step.Close → BlackIsGuarded c m → CellsAreClosed c m.words
@@ -137,7 +137,7 @@ closed c m seat known len h black = record {
   globals = λ g. list_all-at _ m.words.globals 0 roots.1 (null_points_well c m.words) g;
   words = λ cell i lt is scanned li.
       let there = page cell.page (in_heap cell.page cell.index lt) in
-      settled _ (black cell.page cell.index i lt (black_bit m.words cell.page cell.index there lt is) scanned li);
+      settled _ (black cell.page cell.index i lt (black_bit cell.index there lt is) scanned li);
 }
   where
     parts : (all_below c.pages (has_closed_page m.words) ≡ true) × (roots_point_well c.pages m.words ≡ true)

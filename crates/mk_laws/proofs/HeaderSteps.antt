@@ -57,10 +57,10 @@ pub used_set : (w : Words) (p q n : ℕ) → (P : ℕ → Type 0) → P (header_
 used_set w p q n P is = set_by (λ (y : Page). P y.header) w.pages p q (record { header = header_at w p; used = n })
     free_page (λ e. rw e at is) is
 
-pub stays_mapped : (w : Words) (ps : List Page) (q : ℕ) → HeaderStep w ps → is_unmapped_header (header_in w q) ≡ false
+pub stays_mapped : {w : Words} {ps : List Page} (q : ℕ) → HeaderStep w ps → is_unmapped_header (header_in w q) ≡ false
     → is_unmapped_header (header_of (slice_index_or ps q free_page).header) ≡ false
-stays_mapped w ps q KeepsPages h = h
-stays_mapped w ps q (SetsUsed p n) h = used_set w p q n (λ y. is_unmapped_header (header_of y) ≡ false) h
-stays_mapped w ps q (SetsHeader p v is) h =
+stays_mapped q KeepsPages h = h
+stays_mapped {w} q (SetsUsed p n) h = used_set w p q n (λ y. is_unmapped_header (header_of y) ≡ false) h
+stays_mapped {w} q (SetsHeader p v is) h =
     page_set w.pages p q (record { header = v; used = used_at w p }) (λ y. is_unmapped_header (header_of y) ≡ false)
     (λ lt. is) h

@@ -4,8 +4,8 @@ use Rattle.mk_laws.proofs.Vocabulary.{Words, ℕ, ap, arith, cases_eq, cell_at, 
 use Rattle.mk_laws.proofs.Vocabulary.{get_or-set_other, get_or-set_same, header_at, header_in, header_of, inl, inr}
 use Rattle.mk_laws.proofs.Vocabulary.{is_marked, ltb-true, none-some, page_at_address, slice_index, slice_index_or}
 use Rattle.mk_laws.proofs.Vocabulary.{slice_set, subst, sym, true, used_at, words_under, ◌*◌, ◌+◌, ◌<◌, ◌∙◌, ◌≡◌, ◌≢◌}
-use Rattle.mk_laws.proofs.{Basics.{Behind, Meets, headers_kind, is_head}, KeptGuard.{NewCellsAreGuarded, goes_same}}
-use Rattle.mk_laws.proofs.Wells.{IsWell, bare_guarded}
+use Rattle.mk_laws.proofs.Basics.{Behind, Meets, headers_kind, is_head}
+use Rattle.mk_laws.proofs.{KeptGuard.NewCellsAreGuarded, KeptGuard.goes_same, Wells.IsWell, Wells.bare_guarded}
 
 -- It finds no header on its page, marked cells and words 0; or it unmaps, which shows the same.
 pub data HeadFinds (pages : ℕ) (w : Words) (p header : ℕ) : Type 0 where

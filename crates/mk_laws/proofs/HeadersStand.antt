@@ -26,14 +26,13 @@ use Rattle.mk_geom.specs.Storages.{taken_cells, used_word, words_of_storages}
 use Rattle.mk_core.proofs.{ObjectHeaders.{large_header, small_header}, UnreleasedStorage.has_its_storage}
 use Rattle.mk_core.proofs.WordBits.{bit_is_none, bit_is_one}
 
-pub laid_out : (c : Config) (w : Words) (xs : List PlacedAllocation) → Rests c w xs
+pub laid_out : {c : Config} {w : Words} {xs : List PlacedAllocation} → Rests c w xs
     → AreLaidOut (length w.pages) (unreleased_storage c xs)
-laid_out c w xs r = record {
+laid_out {c} {w} {xs} r = record {
   each = λ i d within.
       let h = storage_is_of c xs (get_or _ i d) (Contains-get_or (unreleased_storage c xs) i d within) in
-      rw h.storage (rw r.lengths (standing_has_storage c _ r.limits (lies c w xs r h.number h.unreleased).stands));
-  apart = lie_in_pairs c xs r.laid.apart (λ i j u v other. lie_apart c w xs _ _ r.laid (lies c w xs r i u)
-      (lies c w xs r j v) other);
+      rw h.storage (rw r.lengths (standing_has_storage c _ r.limits (lies r h.number h.unreleased).stands));
+  apart = lie_in_pairs c xs r.laid.apart (λ i j u v other. lie_apart r.laid (lies r i u) (lies r j v) other);
 }
 
 -- Pages of a run.
@@ -52,9 +51,8 @@ unmapped_run count true zero = refl
 unmapped_run count _ _ = cc
 
 -- the header word of a large claim's page, mapped where the allocation isn't freed
-run_word : (o : Object) (freed : Bool) (d h : ℕ) → is_small_object o ≡ false
-    → HasHeader (mode_of (freed && true) false) o d h
-    → h ≡ word_of (run_header (pages_made o) (not (freed && true)) o.leaf d)
+run_word : (o : Object) (freed : Bool) (d h : ℕ) → is_small_object o ≡ false → HasHeader
+    (mode_of (freed && true) false) o d h → h ≡ word_of (run_header (pages_made o) (not (freed && true)) o.leaf d)
 run_word o true d h large has = has.1 ∙ ap word_of (unmapped_run (pages_made o) o.leaf d)
 run_word o false d h large has = has ∙ large_header o d large
 
@@ -83,16 +81,16 @@ alike_at {c} {w} {xs} {a} {b} laid x y small p page at = elim (cases_Bool (is_sm
   | inr l ↦
       let pa = pages_some (object_placed c a) x.shown.sized in
       let pb = pages_some (object_placed c b) y.shown.sized in
-      let one = shares_run (quiet_scene c w xs) (claim_of c None b) (claim_of c None a) 0 0 laid y.among x.among l
+      let one = shares_run (claim_of c None b) (claim_of c None a) 0 0 laid y.among x.among l
       (omega arith) (omega arith) (omega arith) in
       absurd (true≢false (sym small ∙ ap (λ (z : Claim). is_small_object z.object) one ∙ l))
 ]
 
 -- the header of a block's page
-block_shown : (c : Config) (w : Words) (xs : List PlacedAllocation) (a : PlacedAllocation) → Lies c w xs a
+block_shown : {c : Config} {w : Words} {xs : List PlacedAllocation} {a : PlacedAllocation} → Lies c w xs a
     → is_small_object (object_placed c a) ≡ true → header_at w (a.base / 64)
     ≡ word_of (block_header (class_made (object_placed c a)) (object_placed c a).leaf)
-block_shown c w xs a x s =
+block_shown {c} {w} {a} x s =
     let o : Object = object_placed c a in
     let one = small_pages o s in
     let zero : a.base / 64 + 0 ≡ a.base / 64 = omega arith in
@@ -116,7 +114,7 @@ module _ (c : Config) (w : Words) (xs : List PlacedAllocation) (i p : ℕ) (r : 
   class = class_made o
 
   x : Lies c w xs a
-  x = lies c w xs r i u
+  x = lies r i u
 
   abbrev PageStands : Type 0
   PageStands = slice_index_or w.pages p free_page ≡ words_of_storages (unreleased_storage c xs) p
@@ -130,10 +128,9 @@ module _ (c : Config) (w : Words) (xs : List PlacedAllocation) (i p : ℕ) (r : 
       let count : s.words / 64 ≡ pages_made o = omega arith in
       let distance : p - first_page s ≡ d = omega arith in
       let stands : stands_on p s ≡ true = stands_from p s (omega arith) (omega arith) in
-      page_is ∙ rw (← count) (rw (← (mapped_is c a u large)) (rw (← distance)
-      (sym (words_by_large p (unreleased_storage c xs) s (small_is c a x.shown.sized ∙ large))
-      ∙ sym (words_at (length w.pages) p (unreleased_storage c xs) s (laid_out c w xs r) (has_its_storage c xs i u)
-      stands))))
+      page_is ∙ rw (← count) (rw (← (mapped_is c a u large))
+      (rw (← distance) (sym (words_by_large p (unreleased_storage c xs) s (small_is c a x.shown.sized ∙ large)) ∙ sym
+      (words_at (length w.pages) p (unreleased_storage c xs) s (laid_out r) (has_its_storage c xs i u) stands))))
     where
       header : header_at w p ≡ word_of (run_header (pages_made o) (not (a.freed && true)) o.leaf d)
       header = run_word o a.freed d (header_at w p) large (rw large at
@@ -143,11 +140,11 @@ module _ (c : Config) (w : Words) (xs : List PlacedAllocation) (i p : ℕ) (r : 
       used_by zero z =
           let first : a.base / 64 ≡ p = omega arith in
           let cells : cells_under (shows_on w.pages p) ≡ 1 =
-          rw (← first) (cells_at_claim (quiet_scene c w xs) (claim_of c None a) x.shown ∙ large_cells o large) in
+          rw (← first) (cells_at_claim (quiet_scene c w xs) x.shown ∙ large_cells o large) in
           let low : (cell_of_allocation c a).index ≡ 0 = large_index c a x.shown.sized large in
           one_bit (used_at w p) (rw (← first) (ap (λ k. has_bit (used_at w (a.base / 64)) k) (sym low) ∙ x.shown.used))
           (λ k h. let t = (r.laid.used p k h).0 in omega arith)
-      used_by (suc e) z = cellless_unused (quiet_scene c w xs) p r.laid (later_cells o d _ (subst (λ q. ShowsPart o d
+      used_by (suc e) z = cellless_unused p r.laid (later_cells o d _ (subst (λ q. ShowsPart o d
           (shows_on w.pages q)) at (claimed _ _ d x.shown ld)) (omega arith))
 
       page_is : slice_index_or w.pages p free_page ≡ run_page (pages_made o) (not (a.freed && true)) o.leaf d
@@ -160,32 +157,30 @@ module _ (c : Config) (w : Words) (xs : List PlacedAllocation) (i p : ℕ) (r : 
       let some : 1 ≤ storage_words c a = (words_within o x.shown.sized).0 in
       let stands : stands_on p s ≡ true = stands_from p s (omega arith) (omega arith) in
       let same = class_of_words s class (class_known o x.shown.sized small).0 (small_words o small) in
-      ap (λ h. record { header = h; used = used_at w p }) (ap (header_at w) (sym at) ∙ block_shown c w xs a x small)
+      ap (λ h. record { header = h; used = used_at w p }) (ap (header_at w) (sym at) ∙ block_shown x small)
       ∙ ap (λ v. record { header = word_of (block_header class o.leaf); used = v }) used
       ∙ ap (λ m. block_page m o.leaf (used_word (taken_cells (unreleased_storage c xs) p m))) (sym same)
       ∙ sym (words_by_small p (unreleased_storage c xs) s (small_is c a x.shown.sized ∙ small))
-      ∙ sym (words_at (length w.pages) p (unreleased_storage c xs) s (laid_out c w xs r) (has_its_storage c xs i u)
-      stands)
+      ∙ sym (words_at (length w.pages) p (unreleased_storage c xs) s (laid_out r) (has_its_storage c xs i u) stands)
     where
       known : class < 8
       known = (class_known o x.shown.sized small).0
 
       cells : cells_under (shows_on w.pages p) ≡ cells_of class
       cells = ap (λ q. cells_under (shows_on w.pages q)) (sym at)
-          ∙ cells_at_claim (quiet_scene c w xs) (claim_of c None a) x.shown ∙ small_cells o small
+          ∙ cells_at_claim (quiet_scene c w xs) x.shown ∙ small_cells o small
 
       -- where a small object of the class begins
       begins_at : (j : ℕ) → (v : (placed_at xs j).released ≡ false) → is_small_object (object_placed c (placed_at xs j))
           ≡ true → class_made (object_placed c (placed_at xs j)) ≡ class → (placed_at xs j).base % 64
           ≡ (cell_of_allocation c (placed_at xs j)).index * class_words_of class
       begins_at j v s same =
-          let y = lies c w xs r j v in
+          let y = lies r j v in
           cc (
             y.begins.first,
             small_words (object_placed c (placed_at xs j)) s,
             same,
-            index_is c (placed_at xs j)
-                y.shown.sized y.begins,
+            index_is c (placed_at xs j) y.shown.sized y.begins,
           )
 
       -- whose cell it is
@@ -201,7 +196,7 @@ module _ (c : Config) (w : Words) (xs : List PlacedAllocation) (i p : ℕ) (r : 
               let j : ℕ = y.number in
               let page : (placed_at xs j).base / 64 ≡ p = ap (λ (z : Claim). z.page) (sym y.is) ∙ k.page in
               let index : (cell_of_allocation c (placed_at xs j)).index ≡ n = cc (y.is, k.index) in
-              let same = alike_at r.laid x (lies c w xs r j y.unreleased) small p at page in
+              let same = alike_at r.laid x (lies r j y.unreleased) small p at page in
               let first = begins_at j y.unreleased same.0 same.1 ∙ ap (λ m. m * class_words_of class) index in
               cell_taken_from p (class_words_of class) n _ _ (has_its_storage c xs j y.unreleased) (omega arith)
 
@@ -209,20 +204,19 @@ module _ (c : Config) (w : Words) (xs : List PlacedAllocation) (i p : ℕ) (r : 
           → has_bit (used_at w p) n ≡ true
       back n ln taken =
           let k : ℕ = class_words_of class in
-          let t = cell_taken_by (length w.pages) p class n
-          (unreleased_storage c xs) known ln (laid_out c w xs r).each taken in
+          let t = cell_taken_by (length w.pages) p class n (unreleased_storage c xs) known ln (laid_out r).each taken in
           let h = storage_is_of c xs t.0 t.1 in
           let j : ℕ = h.number in
           let base : (placed_at xs j).base ≡ 64 * p + n * k = ap (λ (s : Storage). s.first) (sym h.storage) ∙ t.2 in
           let ends : n * k + k ≤ 64 = cell_ends n k ln in
           let some = (class_words_within class known).0 in
           let page : (placed_at xs j).base / 64 ≡ p = omega arith in
-          let same = alike_at r.laid x (lies c w xs r j h.unreleased) small p at page in
+          let same = alike_at r.laid x (lies r j h.unreleased) small p at page in
           let first = begins_at j h.unreleased same.0 same.1 in
           let is_n : (cell_of_allocation c (placed_at xs j)).index ≡ n =
           same_index k (cell_of_allocation c (placed_at xs j)).index n (omega arith) (sym first
           ∙ (let rest : (placed_at xs j).base % 64 ≡ n * k = omega arith in rest)) in
-          cc (page, is_n, (lies c w xs r j h.unreleased).shown.used)
+          cc (page, is_n, (lies r j h.unreleased).shown.used)
 
       used : used_at w p ≡ used_word (taken_cells (unreleased_storage c xs) p class)
       used =
@@ -240,28 +234,27 @@ module _ (c : Config) (w : Words) (xs : List PlacedAllocation) (i p : ℕ) (r : 
 
 -- All pages.
 
-nothing_there : (c : Config) (w : Words) (xs : List PlacedAllocation) (p : ℕ) → Rests c w xs → header_at w p ≡ 0
+nothing_there : {c : Config} {w : Words} {xs : List PlacedAllocation} (p : ℕ) → Rests c w xs → header_at w p ≡ 0
     → (s : Storage) → Contains (unreleased_storage c xs) s → stands_on p s ≡ true → ⊥
-nothing_there c w xs p r z s inside stands =
+nothing_there {c} {w} {xs} p r z s inside stands =
     let h = storage_is_of c xs s inside in
     let a : PlacedAllocation = placed_at xs h.number in
-    let x = lies c w xs r h.number h.unreleased in
+    let x = lies r h.number h.unreleased in
     let range = on_its_pages c a p x.shown.sized x.begins (rw h.storage at stands) in
     let low = range.0 in
     let high = range.1 in
     let at : a.base / 64 + (p - a.base / 64) ≡ p = omega arith in
     claimed_some w.pages _ _ x.shown (omega arith) (ap (header_at w) at ∙ z)
 
-pub pages_stand : (c : Config) (w : Words) (xs : List PlacedAllocation) → Rests c w xs
+pub pages_stand : {c : Config} {w : Words} {xs : List PlacedAllocation} → Rests c w xs
     → PagesStandFor w.pages (unreleased_storage c xs)
-pages_stand c w xs r = record {
-  laid_out = laid_out c w xs r;
+pages_stand {c} {w} {xs} r = record {
+  laid_out = laid_out r;
   words = λ p d lt. get_or_default w.pages p d free_page lt ∙ elim (cases_eq (header_at w p) 0) [
-    | inl z ↦ ap (λ h. record { header = h; used = used_at w p }) z
-        ∙ rw (free_unused _ p r.laid z) (sym (words_free p _
-        (λ s inside. false_from_ne_true (stands_on p s) (nothing_there c w xs p r z s inside))))
+    | inl z ↦ ap (λ h. record { header = h; used = used_at w p }) z ∙ rw (free_unused _ p r.laid z)
+        (sym (words_free p _ (λ s inside. false_from_ne_true (stands_on p s) (nothing_there p r z s inside))))
     | inr some ↦
-        let on : IsOn (quiet_scene c w xs) p = on_claim _ p r.laid refl refl some in
+        let on : IsOn (quiet_scene c w xs) p = on_claim p r.laid refl refl some in
         let y = claim_is c None xs on.claim on.among in
         let o : Object = object_placed c (placed_at xs y.number) in
         let near : on.distance < pages_made o = rw y.is at on.near in

@@ -5,9 +5,9 @@ use Rattle.mk_laws.proofs.Vocabulary.{allocation_at, ap, arith, cases_Bool, cell
 use Rattle.mk_laws.proofs.Vocabulary.{flight_among, flight_of, header_at, image_scene_of, inl, inr, is_run_gone}
 use Rattle.mk_laws.proofs.Vocabulary.{is_unmapped, kinds_of, length, placed_at, pointed_cell, storage_holds}
 use Rattle.mk_laws.proofs.Vocabulary.{storage_words, subst, sym, true, words_of, [], ◌<◌, ◌∙◌, ◌≡◌, ◌≤◌}
-use Rattle.mk_laws.proofs.{ImagesStands.{Stands, gone_shows, is_gone}, HeapEdits.exists_placed, Known.operands_of}
-use Rattle.mk_laws.proofs.{KnownWorlds.KnownWorld, Orderly.shows_at, Reached.PagesShow, Ready.Ready}
-use Rattle.mk_laws.proofs.{Standings.{InCall, standing}, Views.view_of}
+use Rattle.mk_laws.proofs.ImagesStands.{Stands, gone_shows, is_gone}
+use Rattle.mk_laws.proofs.{HeapEdits.exists_placed, Known.operands_of, KnownWorlds.KnownWorld, Orderly.shows_at}
+use Rattle.mk_laws.proofs.{Reached.PagesShow, Ready.Ready, Standings.InCall, Standings.standing, Views.view_of}
 
 abbrev pub first_in : Words → Option Cell → ℕ
 first_in w (Some cell) = first_word w cell
@@ -66,7 +66,7 @@ module _ (c : Config) (w : World) (n : NeverState) (known : KnownWorld c w) (mir
       let f = words_fit a is_there in
       elim (cases_Bool (is_gone c (placed a))) [
         | inl e ↦
-            gone_shows c w known.limits others gone a i u e (omega arith) ∙ sym e ∙ sym (unmapped_is a is_there)
+            gone_shows known.limits others gone a i u e (omega arith) ∙ sym e ∙ sym (unmapped_is a is_there)
         | inr e ↦ st.mapped a i u e (omega arith) ∙ sym e ∙ sym (unmapped_is a is_there)
       ]
     where

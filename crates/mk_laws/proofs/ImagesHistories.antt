@@ -26,9 +26,8 @@ call_of x = record { caller = x.caller; op = x.op }
 abbrev answer_in : Decided → Answer
 answer_in x = x.answer
 
-joined_right : (bs : List ℕ) (n : NeverState) (xs ys : List Decided)
-    → answered xs ≡ answers_of bs (replies_of n (asked xs))
-    → answered ys ≡ answers_of bs (replies_of (after_calls n (asked xs)) (asked ys))
+joined_right : (bs : List ℕ) (n : NeverState) (xs ys : List Decided) → answered xs ≡ answers_of bs
+    (replies_of n (asked xs)) → answered ys ≡ answers_of bs (replies_of (after_calls n (asked xs)) (asked ys))
     → answered (xs ++ ys) ≡ answers_of bs (replies_of n (asked (xs ++ ys)))
 joined_right bs n xs ys hx hy = grind (arith, map-append, answer_in, replies_append, call_of)
 
@@ -88,17 +87,17 @@ first_mirrors c = record {
   );
 }
 
-all_follow : (c : Config) (es : List Event) → IsHistory c es → ImagePremisesAlong c es
+all_follow : {c : Config} {es : List Event} → IsHistory c es → ImagePremisesAlong c es
     → FollowsAll c (first_world c) (never_first c) es
 unfolding left_from AreEnabledFrom
-all_follow c es h others =
+all_follow {c} {es} h others =
     follows_from c es [] es _ _ h.within_limits refl tt h.enabled refl others (first_mirrors c) h.admitted
 
 pub histories_refine : HistoriesRefineNever
-histories_refine c es h others = (all_follow c es h others).right
+histories_refine c es h others = (all_follow h others).right
 
 pub histories_mirror : HistoriesMirrorNever
-histories_mirror c es h others = (all_follow c es h others).mirrors
+histories_mirror c es h others = (all_follow h others).mirrors
 
 -- The premises hold along each front.
 pub say_along : (c : Config) (front rest : List Event) → ImagePremisesAlong c (front ++ rest)

@@ -27,24 +27,23 @@ AreSmall fs = (j : ℕ) → (q_of (flight_among fs j).op < 8) × (p_of (flight_a
 
 -- words of two mapped allocations are apart
 abbrev pub AreApart : List PlacedAllocation → NeverState → Type 0
-AreApart xs n = (a b i j : ℕ) → (placed_at xs a).released ≡ false → (placed_at xs b).released ≡ false
-    → i < length (words_of n a) → j < length (words_of n b) → a ≢ b
-    → (placed_at xs a).base + i ≢ (placed_at xs b).base + j
+AreApart xs n = (a b i j : ℕ) → (placed_at xs a).released ≡ false → (placed_at xs b).released ≡ false → i < length
+    (words_of n a) → j < length (words_of n b) → a ≢ b → (placed_at xs a).base + i ≢ (placed_at xs b).base + j
 
 -- a caller's own register
-own_shown : (s : ImageScene) (n : NeverState) → AreImages s n → (k r : ℕ) → r < 8
-    → shown (flight_among s.flights k) r (slice_index s.registers (8 * k + r))
-    ≡ image_of (bases_of s.allocations) (register_at n k r)
-own_shown s n h k r lt =
+own_shown : {s : ImageScene} {n : NeverState} → AreImages s n → (k r : ℕ) → r < 8 → shown (flight_among s.flights k) r
+    (slice_index s.registers (8 * k + r)) ≡ image_of (bases_of s.allocations) (register_at n k r)
+own_shown h k r lt =
     let a : (8 * k + r) / 8 ≡ k = omega arith in
     let b : (8 * k + r) % 8 ≡ r = omega arith in
     rw a at (rw b at (h.registers (8 * k + r)))
 
-pub own_plain : (s : ImageScene) (n : NeverState) → AreImages s n → (k r : ℕ) → r < 8
+pub own_plain : {s : ImageScene} {n : NeverState} → AreImages s n → (k r : ℕ) → r < 8
     → is_put (flight_among s.flights k).stage ≡ false
     → slice_index s.registers (8 * k + r) ≡ image_of (bases_of s.allocations) (register_at n k r)
-own_plain s n h k r lt was = sym (shows_plain (flight_among s.flights k) r (slice_index s.registers (8 * k + r)) was)
-    ∙ own_shown s n h k r lt
+own_plain {s} {n} h k r lt was =
+    sym (shows_plain (flight_among s.flights k) r (slice_index s.registers (8 * k + r)) was)
+    ∙ own_shown h k r lt
 
 -- an index of another caller's registers
 outside : {A : Type 0} (xs : List A) (k d i : ℕ) (v e : A) → d < 8 → i / 8 ≢ k
@@ -52,15 +51,13 @@ outside : {A : Type 0} (xs : List A) (k d i : ℕ) (v e : A) → d < 8 → i / 8
 outside xs k d i v e ld ne = get_or-set_other xs (8 * k + d) i v e (λ is. absurd (ne (omega arith)))
 
 -- A caller's flight and registers change. It carries nothing then and has probed nothing. The others' stay.
-own_changed : (s : ImageScene) (n : NeverState) → AreImages s n → AreSmall s.flights → (k : ℕ) (f : Flight)
-    (ys : List ℕ) (vs : List Value) → k < length s.flights
-    → ((a b d : Value) → Carries (bases_of s.allocations) f a b d) → is_past_probe f.stage ≡ false
-    → ((i : ℕ) → i / 8 ≢ k → slice_index ys i ≡ slice_index s.registers i)
-    → ((i : ℕ) → i / 8 ≢ k → slice_index_or vs i Null ≡ slice_index_or n.registers i Null)
-    → ((r : ℕ) → r < 8 → shown f r (slice_index ys (8 * k + r))
-    ≡ image_of (bases_of s.allocations) (slice_index_or vs (8 * k + r) Null))
+own_changed : {s : ImageScene} {n : NeverState} → AreImages s n → AreSmall s.flights → (k : ℕ) (f : Flight) (ys : List
+    ℕ) (vs : List Value) → k < length s.flights → ((a b d : Value) → Carries (bases_of s.allocations) f a b d)
+    → is_past_probe f.stage ≡ false → ((i : ℕ) → i / 8 ≢ k → slice_index ys i ≡ slice_index s.registers i)
+    → ((i : ℕ) → i / 8 ≢ k → slice_index_or vs i Null ≡ slice_index_or n.registers i Null) → ((r : ℕ) → r < 8
+    → shown f r (slice_index ys (8 * k + r)) ≡ image_of (bases_of s.allocations) (slice_index_or vs (8 * k + r) Null))
     → AreImages (record s { flights = slice_set s.flights k f; registers = ys }) (record n { registers = vs })
-own_changed s n h small k f ys vs there carries unprobed same_words same_values own = record {
+own_changed {s} {n} h small k f ys vs there carries unprobed same_words same_values own = record {
   registers = λ i. elim (cases_eq (i / 8) k) [
     | inl e ↦
         let is : 8 * k + i % 8 ≡ i = omega arith in rw (at_own (i / 8) e) (rw is at (own (i % 8) (omega arith)))
@@ -88,30 +85,28 @@ own_changed s n h small k f ys vs there carries unprobed same_words same_values 
     same j r ne lr = same_values (8 * j + r) (λ e. absurd (ne (omega arith)))
 
 pub rebased : (s : ImageScene) (n : NeverState) → AreImages s n → (xs : List PlacedAllocation)
-    → bases_of xs ≡ bases_of s.allocations
-    → ((a : ℕ) → (placed_at xs a).released ≡ false → (placed_at s.allocations a).released ≡ false)
-    → AreImages (record s { allocations = xs }) n
+    → bases_of xs ≡ bases_of s.allocations → ((a : ℕ) → (placed_at xs a).released ≡ false
+    → (placed_at s.allocations a).released ≡ false) → AreImages (record s { allocations = xs }) n
 rebased s n h xs e u = grind (arith, same_base)
 
 -- a register gets a value and its image
-stored : (s : ImageScene) (n : NeverState) → AreImages s n → AreSmall s.flights → (k d x : ℕ) (f : Flight) (v : Value)
+stored : {s : ImageScene} {n : NeverState} → AreImages s n → AreSmall s.flights → (k d x : ℕ) (f : Flight) (v : Value)
     → Decides s n k f → 8 * k + 7 < length s.registers → d < 8 → x ≡ image_of (bases_of s.allocations) v
     → AreImages (record s { flights = slice_set s.flights k f; registers = slice_set s.registers (8 * k + d) x })
     (with_register n k d v)
-stored s n h small k d x f v at long ld is =
+stored {s} {n} h small k d x f v at long ld is =
     let long_n = at.registers in
-    own_changed s n h small k f (slice_set s.registers (8 * k + d) x) (slice_set n.registers (8 * k + d) v) at.there
+    own_changed h small k f (slice_set s.registers (8 * k + d) x) (slice_set n.registers (8 * k + d) v) at.there
     (λ a b e. bare_carries _ f a b e at.bare) (bare_unprobed f.stage at.bare) (λ i ne. outside _ k d i x 0 ld ne)
     (λ i ne. outside _ k d i v Null ld ne) (λ r lr. shows_plain f _ _ (bare_owes_nothing f.stage at.bare)
     ∙ set_both (λ y u. y ≡ image_of (bases_of s.allocations) u) s.registers n.registers (8 * k + d) (8 * k + r) x 0 v
-    Null (omega arith) (omega arith) (λ e. is) (λ ne. own_plain s n h k r lr at.was))
+    Null (omega arith) (omega arith) (λ e. is) (λ ne. own_plain h k r lr at.was))
 
 -- a caller's flight becomes another
-flown : (s : ImageScene) (n : NeverState) → AreImages s n → (k : ℕ) (f : Flight)
-    → ((r x : ℕ) → shown f r x ≡ shown (flight_among s.flights k) r x)
-    → CarriesOwn (bases_of s.allocations) n k f → ProbedOwn n k f
-    → AreImages (record s { flights = slice_set s.flights k f }) n
-flown s n h k f shows carries probes = record {
+flown : {s : ImageScene} {n : NeverState} → AreImages s n → (k : ℕ) (f : Flight)
+    → ((r x : ℕ) → shown f r x ≡ shown (flight_among s.flights k) r x) → CarriesOwn (bases_of s.allocations) n k f
+    → ProbedOwn n k f → AreImages (record s { flights = slice_set s.flights k f }) n
+flown {s} {n} h k f shows carries probes = record {
   registers = λ i. set_by (λ (x : Flight). shown x (i % 8) (slice_index s.registers i)
       ≡ image_of (bases_of s.allocations) (slice_index_or n.registers i Null)) s.flights k (i / 8) f at_rest
       (λ e. shows (i % 8) _ ∙ rw (← e) (h.registers i)) (h.registers i);
@@ -125,13 +120,12 @@ flown s n h k f shows carries probes = record {
 -- a decided call, after which nothing is owed
 decided : (s t : ImageScene) (n m : NeverState) → AreImages t m → (k : ℕ) (f : Flight) → Decides s n k f
     → t.flights ≡ s.flights → AreImages (record t { flights = slice_set t.flights k f }) m
-decided s t n m h k f at same = flown t m h k f
-    (λ r x. shows_plain f r x (bare_owes_nothing f.stage at.bare) ∙ sym (shows_plain (flight_among t.flights k) r x
-    (rw same at.was))) (bare_carries _ f _ _ _ at.bare)
+decided s t n m h k f at same = flown h k f (λ r x. shows_plain f r x (bare_owes_nothing f.stage at.bare) ∙ sym
+    (shows_plain (flight_among t.flights k) r x (rw same at.was))) (bare_carries _ f _ _ _ at.bare)
     (λ past. let x : false ≡ true = sym (bare_unprobed f.stage at.bare) ∙ past in cc)
 
 -- each move
-module _ (globals : List ℕ) (s : ImageScene) (n : NeverState) (h : AreImages s n) (small : AreSmall s.flights)
+module _ {globals : List ℕ} {s : ImageScene} {n : NeverState} (h : AreImages s n) (small : AreSmall s.flights)
     (typed : IsTyped globals n) (same : length s.allocations ≡ length n.allocations) (safe : ℕ → Bool) where
   abbrev bases : List ℕ
   bases = bases_of s.allocations
@@ -166,37 +160,35 @@ module _ (globals : List ℕ) (s : ImageScene) (n : NeverState) (h : AreImages s
               ∙ sym (suits_grown n s.allocations y (word_at n b j) (kind_in n (allocation_at n b) j) same
               (t.words j lj')) ∙ ap (λ (x : NeverAllocation). image_of bs (slice_index_or x.words j Null)) (sym na))
         ];
-        carried = λ j. carries_same bases bs _ _ _ _ _ _ _ (grown _ (typed.registers _)) (grown _ (typed.registers _))
+        carried = λ j. carries_same bs _ _ _ (grown _ (typed.registers _)) (grown _ (typed.registers _))
             (grown _ (typed.registers _)) (h.carried j);
         probed = λ j past. meets_new n ty _ _ (h.probed j past);
       }
 
-  pub images_kept : (t : ImageScene) (m : NeverState) → AreApart s.allocations n → Move safe s n t m → AreImages t m
-  images_kept t m apart Rests = h
-  images_kept t m apart (Flies k f shows carries probes) = flown s n h k f shows carries probes
-  images_kept t m apart (Owes k f v there long was put ld is safely) =
-      own_changed s n h small k f s.registers (slice_set n.registers (8 * k + d_of f.op) v) there
+  pub images_kept : {t : ImageScene} {m : NeverState} → AreApart s.allocations n → Move safe s n t m → AreImages t m
+  images_kept apart Rests = h
+  images_kept apart (Flies k f shows carries probes) = flown h k f shows carries probes
+  images_kept apart (Owes k f v there long was put ld is safely) =
+      own_changed h small k f s.registers (slice_set n.registers (8 * k + d_of f.op) v) there
       (λ a b d. put_carries _ f a b d put) (ap is_past_probe put) (λ i ne. refl)
       (λ i ne. outside _ k (d_of f.op) i v Null ld ne) (λ r lr. elim (cases_eq r (d_of f.op)) [
         | inl e ↦ rw e (shows_owed f _ put ∙ is ∙ ap (image_of bases)
             (sym (get_or-set_same n.registers (8 * k + d_of f.op) v Null (omega arith))))
-        | inr ne ↦ shows_other f r _ put (λ e. ne (sym e)) ∙ own_plain s n h k r lr was ∙ ap (image_of bases)
+        | inr ne ↦ shows_other f r _ put (λ e. ne (sym e)) ∙ own_plain h k r lr was ∙ ap (image_of bases)
             (sym (get_or-set_other n.registers (8 * k + d_of f.op) (8 * k + r) v Null (λ e. absurd (ne (omega arith)))))
       ])
-  images_kept t m apart (Pays k f there long put ld bare) =
+  images_kept apart (Pays k f there long put ld bare) =
       let old = flight_among s.flights k in
-      own_changed s n h small k f (slice_set s.registers (8 * k + d_of old.op) old.loaded) n.registers there
-      (λ a b d. bare_carries _ f a b d bare) (bare_unprobed f.stage bare)
-      (λ i ne. outside _ k (d_of old.op) i old.loaded 0 ld ne) (λ i ne. refl)
-      (λ r lr. shows_plain f _ _ (bare_owes_nothing f.stage bare) ∙ elim (cases_eq r (d_of old.op)) [
+      own_changed h small k f (slice_set s.registers (8 * k + d_of old.op) old.loaded) n.registers there (λ a b
+      d. bare_carries _ f a b d bare) (bare_unprobed f.stage bare) (λ i ne. outside _ k (d_of old.op) i old.loaded 0 ld
+      ne) (λ i ne. refl) (λ r lr. shows_plain f _ _ (bare_owes_nothing f.stage bare) ∙ elim (cases_eq r (d_of old.op)) [
         | inl e ↦ rw e (get_or-set_same s.registers (8 * k + d_of old.op) old.loaded 0 (omega arith)
-            ∙ sym (shows_owed old _ put) ∙ own_shown s n h k (d_of old.op) ld)
+            ∙ sym (shows_owed old _ put) ∙ own_shown h k (d_of old.op) ld)
         | inr ne ↦ get_or-set_other s.registers (8 * k + d_of old.op) (8 * k + r) old.loaded 0
-            (λ e. absurd (ne (omega arith)))
-            ∙ sym (shows_other old r _ put (λ e. ne (sym e))) ∙ own_shown s n h k r lr
+            (λ e. absurd (ne (omega arith))) ∙ sym (shows_other old r _ put (λ e. ne (sym e))) ∙ own_shown h k r lr
       ])
-  images_kept t m apart (Stores k d x f v at long ld is safely) = stored s n h small k d x f v at long ld is
-  images_kept t m apart (Shares k g x f v at lg ln is safely) = decided s _ n _ (record {
+  images_kept apart (Stores k d x f v at long ld is safely) = stored h small k d x f v at long ld is
+  images_kept apart (Shares k g x f v at lg ln is safely) = decided s _ n _ (record {
     registers = h.registers;
     globals = λ i. set_both (λ y u. y ≡ image_of bases u) s.globals n.globals g i x 0 v Null lg ln (λ e. is)
         (λ ne. h.globals i);
@@ -204,7 +196,7 @@ module _ (globals : List ℕ) (s : ImageScene) (n : NeverState) (h : AreImages s
     carried = h.carried;
     probed = λ j past. met_same n (with_global n g v) _ _ (λ a. refl) (λ a u. u) (h.probed j past);
   }) k f at refl
-  images_kept t m apart (Writes k a i x f v at ua mapped li inside is safely) =
+  images_kept apart (Writes k a i x f v at ua mapped li inside is safely) =
       let alike = written_alike n a i v in
       decided s _ n _ (record {
         registers = h.registers;
@@ -217,11 +209,9 @@ module _ (globals : List ℕ) (s : ImageScene) (n : NeverState) (h : AreImages s
                 | inl e2 ↦ rw (e, e2) (get_or-set_same s.heap ((placed_at s.allocations a).base + i) x 0 inside ∙ is
                     ∙ ap (image_of bases) (sym (this_word n a i v li)))
                 | inr ne2 ↦ get_or-set_other s.heap ((placed_at s.allocations a).base + i)
-                    ((placed_at s.allocations b).base + j) x 0
-                    (λ z. let y = ap (λ y. (placed_at s.allocations y).base) e in absurd (ne2 (omega (arith, y, z))))
-                    ∙ h.heap b j ub mb' lj' ∙ ap (image_of bases)
-                    (let w : word_at (with_word n a i v) b j
-                    ≡ word_at n b j = rw e (word_other n a i j v li ne2) in sym w)
+                    ((placed_at s.allocations b).base + j) x 0 (λ z. let y = ap (λ y. (placed_at s.allocations y).base)
+                    e in absurd (ne2 (omega (arith, y, z)))) ∙ h.heap b j ub mb' lj' ∙ ap (image_of bases) (let
+                    w : word_at (with_word n a i v) b j ≡ word_at n b j = rw e (word_other n a i j v li ne2) in sym w)
               ]
               | inr ne ↦
                   get_or-set_other s.heap ((placed_at s.allocations a).base + i) ((placed_at s.allocations b).base + j)
@@ -232,18 +222,18 @@ module _ (globals : List ℕ) (s : ImageScene) (n : NeverState) (h : AreImages s
         probed = λ j past. met_same n (with_word n a i v) _ _ (λ b. (alike b).0) (λ b u. (alike b).1 ∙ u)
             (h.probed j past);
       }) k f at refl
-  images_kept t m apart (Wipes x out) = record {
+  images_kept {m} apart (Wipes x out) = record {
     registers = h.registers;
     globals = h.globals;
     heap = λ a i u m lt. get_or-set_other s.heap x _ 0 0 (out a i u m lt) ∙ h.heap a i u m lt;
     carried = h.carried;
     probed = h.probed;
   }
-  images_kept t m apart (Grants k d base ty f at long ld zero_there) =
-      stored _ (with_new n ty) (granted_one base ty zero_there) small k d _ f _
+  images_kept apart (Grants k d base ty f at long ld zero_there) =
+      stored (granted_one base ty zero_there) small k d _ f _
       (record { there = at.there; registers = at.registers; was = at.was; bare = at.bare }) long ld
       (sym (new_image s.allocations (fresh_one base ty) (length n.allocations) ty same))
-  images_kept t m apart (Frees k a f xs at places released there others is quiet) =
+  images_kept {m} apart (Frees k a f xs at places released there others is quiet) =
       let flies = decided s s n n h k f at refl in
       rebased (record s { flights = slice_set s.flights k f }) (with_freed n a) (record {
         registers = flies.registers;
@@ -264,5 +254,5 @@ module _ (globals : List ℕ) (s : ImageScene) (n : NeverState) (h : AreImages s
         | inl own ↦ rw own (rw (get_or-set_same s.flights k f at_rest at.there) (bare_unprobed f.stage at.bare))
         | inr ne ↦ rw (get_or-set_other s.flights k j f at_rest ne) (quiet e j ne)
       ]
-  images_kept t m apart (Renews xs places released freed) = rebased s n h xs places.bases (λ b u. sym (released b) ∙ u)
-  images_kept t m apart (Releases xs places released freed kept cut) = rebased s n h xs places.bases released
+  images_kept apart (Renews xs places released freed) = rebased s n h xs places.bases (λ b u. sym (released b) ∙ u)
+  images_kept apart (Releases xs places released freed kept cut) = rebased s n h xs places.bases released

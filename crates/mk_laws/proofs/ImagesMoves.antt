@@ -2,9 +2,9 @@
 use Rattle.mk_laws.proofs.Vocabulary.{Bool, CarriesOwn, Flight, ImageScene, IsSafe, IsSafeSet, List, NeverState}
 use Rattle.mk_laws.proofs.Vocabulary.{PlacedAllocation, ProbedOwn, Ptr, Stage, Value, ℕ, address_of, allocation_at}
 use Rattle.mk_laws.proofs.Vocabulary.{bases_of, d_of, false, flight_among, image_of, is_past_probe, is_put, is_unmapped}
-use Rattle.mk_laws.proofs.Vocabulary.{kinds_of, length, placed_at, shown, slice_index, slice_set, true, with_freed}
-use Rattle.mk_laws.proofs.Vocabulary.{with_global, with_new, with_register, with_word, words_of, [], ◌*◌, ◌++◌, ◌+◌}
-use Rattle.mk_laws.proofs.Vocabulary.{list_any, ◌<◌, ◌∷◌, ◌≡◌, ◌≢◌}
+use Rattle.mk_laws.proofs.Vocabulary.{kinds_of, length, list_any, placed_at, shown, slice_index, slice_set, true}
+use Rattle.mk_laws.proofs.Vocabulary.{with_freed, with_global, with_new, with_register, with_word, words_of, [], ◌*◌}
+use Rattle.mk_laws.proofs.Vocabulary.{◌++◌, ◌+◌, ◌<◌, ◌∷◌, ◌≡◌, ◌≢◌}
 use Rattle.mk_core.specs.Calls.{is_same_stage}
 
 -- nothing is carried, and nothing owed

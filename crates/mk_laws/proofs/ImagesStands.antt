@@ -76,8 +76,7 @@ stands_of c w limits others = record {
       ap (λ p. is_unmapped_header (header_in w.now.words p)) at.page ∙ ap (λ x. is_unmapped_header (header_of x))
       (h.mapped (mapped_is c (placed_at w.allocations a) u ∙ ap not un) at.distance at.near)
       ∙ made_is_mapped (object_placed c (placed_at w.allocations a)) at.distance sized at.near;
-  run = λ a u large.
-      grind (arith, part_heads_run, first_page_shows, typed_size, large_object);
+  run = λ a u large. grind (arith, part_heads_run, first_page_shows, typed_size, large_object);
 }
 
 -- A run that is gone shows on its pages that it is unmapped.
@@ -109,11 +108,11 @@ gone_headers c w (Some run) a h un gone distance near =
           rw page at (rw count at (eqb-true _ _ (all_below-at run.count distance _ all (omega arith))))
     ]
 
-pub gone_shows : (c : Config) (w : World) → IsWithinLimits c → ImagePremises c w
+pub gone_shows : {c : Config} {w : World} → IsWithinLimits c → ImagePremises c w
     → is_run_gone w.now.words w.now.seats.holding.freed ≡ true → (a i : ℕ) → (placed_at w.allocations a).released
     ≡ false → is_gone c (placed_at w.allocations a) ≡ true → i < storage_words c (placed_at w.allocations a)
     → is_unmapped_header (header_in w.now.words (((placed_at w.allocations a).base + i) / 64)) ≡ true
-gone_shows c w limits others gone a i u un lt =
+gone_shows {c} {w} limits others gone a i u un lt =
     let x = placed_at w.allocations a in
     let h = others.laid_out a u in
     let sized = typed_size c x limits h.stands.typed in

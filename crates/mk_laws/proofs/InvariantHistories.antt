@@ -47,8 +47,7 @@ pub events_keep_the_invariant : EventsKeepTheInvariant
 events_keep_the_invariant c es e h all =
     let last = comes_last c es e h in
     let known = known_world c es last.before.within_limits last.before.enabled in
-    rw last.leaves (rw last.never
-    (invariant_behind c (left c es) (never_behind c es) e known all last.on last.admitted))
+    rw last.leaves (rw last.never (invariant_behind e known all last.on last.admitted))
 
 pub histories_keep_the_invariant : OfHistories KeepsTheInvariant
 unfolding left_from calls_from

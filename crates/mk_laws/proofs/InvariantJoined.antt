@@ -1,11 +1,11 @@
 -- The groups joined: what each is told in one world, and one event.
 use Rattle.mk_laws.proofs.Vocabulary.{AreAdmitted, Config, Event, ImagesSay, Invariant, IsEnabled, LayoutPremises}
 use Rattle.mk_laws.proofs.Vocabulary.{NeverState, World, asked, call_decided, enabled_meets, eqb-true, world_behind}
-use Rattle.mk_laws.proofs.{Basics.KnownWorld, ForImages.say_to_images, FreedRuns.never_after}
-use Rattle.mk_laws.proofs.{GuardHistories.stopped_marks_are_closed, GuardOneEvent.marks_behind}
-use Rattle.mk_laws.proofs.{ImagesOneEvent.one_event, LayoutHistories.order_behind, RunGates.run_gates_behind}
-use Rattle.mk_laws.proofs.{Saying.images_say, TellGuard.guard_in, TellImages.images_tell_the_zeros}
-use Rattle.mk_laws.proofs.ZerosHistories.{zeros_behind}
+use Rattle.mk_laws.proofs.Basics.{KnownWorld}
+use Rattle.mk_laws.proofs.{ForImages.say_to_images, FreedRuns.never_after, GuardHistories.stopped_marks_are_closed}
+use Rattle.mk_laws.proofs.{GuardOneEvent.marks_behind, ImagesOneEvent.one_event, LayoutHistories.order_behind}
+use Rattle.mk_laws.proofs.{RunGates.run_gates_behind, Saying.images_say, TellGuard.guard_in}
+use Rattle.mk_laws.proofs.{TellImages.images_tell_the_zeros, ZerosHistories.zeros_behind}
 use Rattle.mk_laws.specs.ImagePremises as images
 use Rattle.mk_laws.specs.Kept as guard
 use Rattle.mk_laws.specs.ZeroLaws as zeros
@@ -33,14 +33,13 @@ module _ (c : Config) (w : World) (n : NeverState) (known : KnownWorld c w) (all
   told_to_zeros e on admitted = images_tell_the_zeros c w n e all.order.laid told_by_images on admitted
 
 -- One event, whatever it is.
-pub invariant_behind : (c : Config) (w : World) (n : NeverState) (e : Event) → KnownWorld c w → Invariant c w n
+pub invariant_behind : {c : Config} {w : World} {n : NeverState} (e : Event) → KnownWorld c w → Invariant c w n
     → IsEnabled c w.now e
     → AreAdmitted c.globals n (asked (call_decided c w.now e)) → Invariant c (world_behind c w e) (never_after c w n e)
-invariant_behind c w n e known all on admitted = record {
-  order = order_behind c w e known.limits known.lengths known.now on (told_to_layout c w n known all) all.order;
-  zeros = zeros_behind c w e known.limits known.lengths known.now on (told_to_zeros c w n known all e on admitted)
-      all.zeros;
-  run_gates = run_gates_behind c w known all.order.laid all.run_gates e.seat e.step (enabled_meets c w.now e on)
+invariant_behind {c} {w} {n} e known all on admitted = record {
+  order = order_behind e known.limits known.lengths known.now on (told_to_layout c w n known all) all.order;
+  zeros = zeros_behind known.limits known.lengths known.now on (told_to_zeros c w n known all e on admitted) all.zeros;
+  run_gates = run_gates_behind known all.order.laid all.run_gates e.seat e.step (enabled_meets c w.now e on)
       (told_to_zeros c w n known all e on admitted).stored;
   mirrors = (one_event c w n e known (told_to_images c w n known all) all.mirrors on admitted).mirrors;
   marks = marks_behind c w e.seat known.limits known.now known.lengths (told_to_guard c w n known all) e.step

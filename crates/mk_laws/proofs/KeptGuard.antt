@@ -1,11 +1,11 @@
 -- What a change must leave for words to stay guarded, and for scans to stand.
 use Rattle.mk_laws.proofs.Vocabulary.{BlackIsGuarded, Config, DirtyIsOwed, HeaderGoesOn, IsGuarded, MarkerStands}
+use Rattle.mk_laws.proofs.Vocabulary.{MarkerState as Marker, Moment, OnlyGrow, Option, OwesDirty, PageIsDirty}
 use Rattle.mk_laws.proofs.Vocabulary.{PointsWell, Scan, ScanStands, Some, ℕ, arith, cases_eq, cells_under, false}
 use Rattle.mk_laws.proofs.Vocabulary.{false_from_ne_true, first_word, has_bit, has_no_pointers, header_at, header_in}
 use Rattle.mk_laws.proofs.Vocabulary.{header_of, inl, inr, refl, slice_index, sym, true, true≢false, words_under, ◌*◌}
-use Rattle.mk_laws.proofs.{Vocabulary.{◌+◌, ◌/◌, ◌<◌, ◌∙◌, ◌≡◌, ◌≢◌, ◌⊎◌}, Wells.{IsWell, is_well, well_guarded}}
-use Rattle.mk_laws.specs.Guard.{cell_scanned}
-use Rattle.mk_laws.proofs.Vocabulary.{MarkerState as Marker, Moment, OnlyGrow, Option, OwesDirty, PageIsDirty}
+use Rattle.mk_laws.proofs.Vocabulary.{◌+◌, ◌/◌, ◌<◌, ◌∙◌, ◌≡◌, ◌≢◌, ◌⊎◌}
+use Rattle.mk_laws.{proofs.Wells.IsWell, proofs.Wells.is_well, proofs.Wells.well_guarded, specs.Guard.cell_scanned}
 
 pub goes_same : (pages a : ℕ) → HeaderGoesOn pages a a
 goes_same pages a = record { cell = λ v y h. h; count = λ h. refl; words = λ h. refl; unscanned = λ h t. t }
@@ -13,8 +13,8 @@ goes_same pages a = record { cell = λ v y h. h; count = λ h. refl; words = λ 
 pub goes_equal : (pages a b : ℕ) → b ≡ a → HeaderGoesOn pages a b
 goes_equal pages a b e = rw e (goes_same pages a)
 
-pub goes_joined : (pages a b d : ℕ) → HeaderGoesOn pages a b → HeaderGoesOn pages b d → HeaderGoesOn pages a d
-goes_joined pages a b d g h = record {
+pub goes_joined : {pages a b d : ℕ} → HeaderGoesOn pages a b → HeaderGoesOn pages b d → HeaderGoesOn pages a d
+goes_joined {a} {b} g h = record {
   cell = λ v y is. h.cell v y (g.cell v y is);
   count = λ some. h.count (some_on some) ∙ g.count some;
   words = λ some. h.words (some_on some) ∙ g.words some;
@@ -38,29 +38,29 @@ abbrev pub NewCellsAreGuarded : Config → Moment → Moment → Type 0
 NewCellsAreGuarded c m n = (p k i : ℕ) → cells_under (header_in m.words p) ≡ 0 → k < cells_under (header_in n.words p)
     → i < words_under (header_in n.words p) → IsGuarded c n (64 * p + k * words_under (header_in n.words p) + i)
 
-pub guards : (c : Config) (m n : Moment) → Keeps c m n → (x : ℕ) → IsGuarded c m x → IsGuarded c n x
-guards c m n k x (PointsWell h) = elim (k.heap x) [
+pub guards : {c : Config} {m n : Moment} → Keeps c m n → {x : ℕ} → IsGuarded c m x → IsGuarded c n x
+guards {c} {m} {n} k {x = x} (PointsWell h) = elim (k.heap x) [
   | inl e ↦ well_guarded c n x (rw e (k.wells _ (is_well c m.words _ h)))
   | inr g ↦ g
 ]
-guards c m n k x (PageIsDirty h) = PageIsDirty (k.dirty (x / 64) h)
-guards c m n k x (DirtyIsOwed j owes) =
+guards k {x = x} (PageIsDirty h) = PageIsDirty (k.dirty (x / 64) h)
+guards k {x = x} (DirtyIsOwed j owes) =
     elim (k.owed j (x / 64) owes) [ inl o ↦ DirtyIsOwed j o | inr d ↦ PageIsDirty d ]
 
 -- a word that equals the hand, or is guarded
-pub passes : (c : Config) (m n : Moment) (hand : Option ℕ) → Keeps c m n → (x : ℕ) → IsGuarded c m x
+pub passes : {c : Config} {m n : Moment} (hand : Option ℕ) → Keeps c m n → (x : ℕ) → IsGuarded c m x
     ⊎ (hand ≡ Some (slice_index m.words.heap x)) → IsGuarded c n x ⊎ (hand ≡ Some (slice_index n.words.heap x))
-passes c m n hand k x (inl g) = inl (guards c m n k x g)
-passes c m n hand k x (inr e) = elim (k.heap x) [ inl same ↦ inr (e ∙ rw (← same)) | inr g ↦ inl g ]
+passes {c} {m} {n} hand k x (inl g) = inl (guards k g)
+passes hand k x (inr e) = elim (k.heap x) [ inl same ↦ inr (e ∙ rw (← same)) | inr g ↦ inl g ]
 
 -- what is scanned after was scanned before
-pub scanned_before : (pages a b : ℕ) → HeaderGoesOn pages a b → cells_under (header_of a) ≢ 0
+pub scanned_before : {pages a b : ℕ} → HeaderGoesOn pages a b → cells_under (header_of a) ≢ 0
     → has_no_pointers (header_of b) ≡ false → has_no_pointers (header_of a) ≡ false
-scanned_before pages a b g some f = false_from_ne_true _ (λ t. true≢false (sym (g.unscanned some t) ∙ f))
+scanned_before g some f = false_from_ne_true _ (λ t. true≢false (sym (g.unscanned some t) ∙ f))
 
-pub scan_kept : (c : Config) (m n : Moment) (hand : Option ℕ) (x : Scan) → Keeps c m n → ScanStands c m hand x
+pub scan_kept : {c : Config} {m n : Moment} {hand : Option ℕ} {x : Scan} → Keeps c m n → ScanStands c m hand x
     → ScanStands c n hand x
-scan_kept c m n hand x k h =
+scan_kept {c} {m} {n} {hand} {x} k h =
     let g = k.headers x.page in
     let some : cells_under (header_in m.words x.page) ≢ 0 = λ z. let lt = h.index in omega arith in
     let first : first_word n.words (cell_scanned x) ≡ first_word m.words (cell_scanned x) = rw (g.words some) in
@@ -70,37 +70,37 @@ scan_kept c m n hand x k h =
       start = rw first h.start;
       next = h.next;
       end = grind arith;
-      passed = λ f i le lt. passes c m n hand k i (h.passed (scanned_before c.pages _ _ g some f) i
-          (rw first at le) lt);
+      passed = λ f i le lt. passes hand k i (h.passed (scanned_before g some f) i (rw first at le) lt);
     }
 
-pub marker_kept : (c : Config) (m n : Moment) (x : Marker) → Keeps c m n → MarkerStands c m x → MarkerStands c n x
-marker_kept c m n x k h = record {
-  scan = λ s is. scan_kept c m n x.hand s k (h.scan s is);
-  seen = λ s is. goes_joined c.pages s.header _ _ (h.seen s is) (k.headers s.page);
+pub marker_kept : {c : Config} {m n : Moment} {x : Marker} → Keeps c m n → MarkerStands c m x → MarkerStands c n x
+marker_kept {c} {m} {n} {x} k h = record {
+  scan = λ s is. scan_kept k (h.scan s is);
+  seen = λ s is. goes_joined (h.seen s is) (k.headers s.page);
 }
 
 -- The guarded words of a cell stay so, where it is there and scanned before.
-pub cell_kept : (c : Config) (m n : Moment) (p k i : ℕ) → Keeps c m n → cells_under (header_in m.words p) ≢ 0
+pub cell_kept : {c : Config} {m n : Moment} (p k i : ℕ) → Keeps c m n → cells_under (header_in m.words p) ≢ 0
     → (k < cells_under (header_in m.words p) → has_no_pointers (header_in m.words p) ≡ false
     → i < words_under (header_in m.words p) → IsGuarded c m (64 * p + k * words_under (header_in m.words p) + i))
     → k < cells_under (header_in n.words p) → has_no_pointers (header_in n.words p) ≡ false
     → i < words_under (header_in n.words p) → IsGuarded c n (64 * p + k * words_under (header_in n.words p) + i)
-cell_kept c m n p k i keeps some before cell scanned lt =
+cell_kept {c} {m} {n} p k i keeps some before cell scanned lt =
     let g = keeps.headers p in
-    rw (g.words some) (guards c m n keeps _ (before (rw (g.count some) at cell)
-    (scanned_before c.pages _ _ g some scanned) (rw (g.words some) at lt)))
+    rw (g.words some) (guards keeps (before (rw (g.count some) at cell)
+    (scanned_before g some scanned) (rw (g.words some) at lt)))
 
 -- Cells that are black after were so before, or their words were guarded before.
-pub black_kept : (c : Config) (m n : Moment) → Keeps c m n → NewCellsAreGuarded c m n
+pub black_kept : {c : Config} {m n : Moment} → Keeps c m n → NewCellsAreGuarded c m n
     → ((p k : ℕ) → has_bit (slice_index n.words.blacks p) k ≡ true → (has_bit (slice_index m.words.blacks p) k ≡ true)
     ⊎ ((i : ℕ) → k < cells_under (header_in m.words p) → has_no_pointers (header_in m.words p) ≡ false
     → i < words_under (header_in m.words p) → IsGuarded c m (64 * p + k * words_under (header_in m.words p) + i)))
     → BlackIsGuarded c m → BlackIsGuarded c n
-black_kept c m n keeps new more h p k i cell is scanned lt = elim (cases_eq (cells_under (header_in m.words p)) 0) [
-  | inl none ↦ new p k i none cell lt
-  | inr some ↦ elim (more p k is) [
-    | inl old ↦ cell_kept c m n p k i keeps some (λ a b d. h p k i a old b d) cell scanned lt
-    | inr guarded ↦ cell_kept c m n p k i keeps some (guarded i) cell scanned lt
-  ]
-]
+black_kept {c} {m} {n} keeps new more h p k i cell is scanned lt = elim
+    (cases_eq (cells_under (header_in m.words p)) 0) [
+      | inl none ↦ new p k i none cell lt
+      | inr some ↦ elim (more p k is) [
+        | inl old ↦ cell_kept p k i keeps some (λ a b d. h p k i a old b d) cell scanned lt
+        | inr guarded ↦ cell_kept p k i keeps some (guarded i) cell scanned lt
+      ]
+    ]

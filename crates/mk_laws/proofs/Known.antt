@@ -25,20 +25,20 @@ pub data CallStep (f : Flight) (x : Step) : Flight → Type 0 where
   Refused : (g : Flight) (a : Answer) → g.op ≡ f.op → CallStep f x (refused g a).flight
   Comes : (g : Flight) (s : Stage) → g.op ≡ f.op → s ≢ Stage.Dirty → CallStep f x (record g { stage = s })
 
-either : (f : Flight) (x : Step) (b : Bool) (p q : Progress) → CallStep f x p.flight → CallStep f x q.flight
+either : {f : Flight} {x : Step} (b : Bool) (p q : Progress) → CallStep f x p.flight → CallStep f x q.flight
     → CallStep f x (if b then p else q).flight
-either f x true p q hp hq = hp
-either f x false p q hp hq = hq
+either true p q hp hq = hp
+either false p q hp hq = hq
 
 q_step : (f : Flight) (x : Step) (o : Op) (n : ℕ) → is_heap_store x ≡ false → CallStep f x (progress_q f o n).flight
 q_step f x (Op.Move d q) n off = GoesOn (record f { q = n }) refl refl off
 q_step f x (Op.Same p q) n off = GoesOn (record f { q = n }) refl refl off
-q_step f x _ n off = either f x (n == 0) _ _ (Refused (record f { q = n }) Answer.Null refl)
+q_step f x _ n off = either (n == 0) _ _ (Refused (record f { q = n }) Answer.Null refl)
     (GoesOn (record f { q = n }) refl refl off)
 
 p_step : (f : Flight) (x : Step) (o : Op) (n : ℕ) → is_heap_store x ≡ false → CallStep f x (progress_p f o n).flight
 p_step f x (Op.IsNull p) n off = GoesOn (record f { p = n }) refl refl off
-p_step f x (Op.Free p) n off = either f x (n == 0) _ _ (Comes (record f { p = n }) Stage.Give refl (λ e. cc))
+p_step f x (Op.Free p) n off = either (n == 0) _ _ (Comes (record f { p = n }) Stage.Give refl (λ e. cc))
     (GoesOn (record f { p = n }) refl refl off)
 p_step f x _ n off = GoesOn (record f { p = n }) refl refl off
 
@@ -62,19 +62,19 @@ freed_step f x None = Stays
 
 -- all kinds
 pub call_step : (c : Config) (m : Moment) (f : Flight) (n : ℕ) (x : Step) → CallStep f x (progress c m f n x).flight
-call_step c m f n (Step.Enter o) = either f (Step.Enter o) (n == 0) _ _ (Begins o (inl refl)) Stays
-call_step c m f n (Step.Take (Some o)) = either f (Step.Take (Some o)) (n == 0) _ _ (Begins o (inr refl)) Stays
+call_step c m f n (Step.Enter o) = either (n == 0) _ _ (Begins o (inl refl)) Stays
+call_step c m f n (Step.Take (Some o)) = either (n == 0) _ _ (Begins o (inr refl)) Stays
 call_step c m f n Step.Leave = Ends
 call_step c m f n Step.Give = Ends
 call_step c m f n Step.Reg = reg_step f Step.Reg f.stage n refl
-call_step c m f n Step.Probe = either f Step.Probe _ _ _ (Refused f Answer.Fault refl) (GoesOn f refl refl refl)
+call_step c m f n Step.Probe = either _ _ _ (Refused f Answer.Fault refl) (GoesOn f refl refl refl)
 call_step c m f n Step.Read = read_step f Step.Read f.op n refl
 call_step c m f n Step.Write = Stores refl
 call_step c m f n Step.Cas = Stores refl
 call_step c m f n Step.Getg = GoesOn (record f { loaded = n }) refl refl refl
 call_step c m f n Step.Setg = GoesOn f refl refl refl
 call_step c m f n Step.Dirty = GoesOn f refl refl refl
-call_step c m f n (Step.Look x) = either f (Step.Look x) _ _ _ (Comes f Stage.Give refl (λ e. cc)) Stays
+call_step c m f n (Step.Look x) = either _ _ _ (Comes f Stage.Give refl (λ e. cc)) Stays
 call_step c m f n (Step.Quar p v) = freed_step f (Step.Quar p v) _
 call_step c m f n Step.Grant = Comes f Stage.Give refl (λ e. cc)
 call_step c m f n Step.Full = Comes f Stage.Give refl (λ e. cc)
@@ -138,38 +138,37 @@ pub record Known (c : Config) (m : Moment) : Type 0 where
 pub known_behind : (c : Config) (m : Moment) (e : Event) → Known c m → IsEnabled c m e → Known c (moment_behind c m e)
 known_behind c m e k on = record {
   small = k.small;
-  orderly = orderly_behind c m e.seat e.step k.small k.orderly (enabled_meets c m e on);
+  orderly = orderly_behind m e.seat e.step k.small k.orderly (enabled_meets c m e on);
   operands = operands_behind c m e.seat e.step k.operands (enabled_meets c m e on);
 }
 
-pub known_at_first : (c : Config) → IsWithinLimits c → Known c (first_moment c)
-known_at_first c limits = record {
+pub known_at_first : {c : Config} → IsWithinLimits c → Known c (first_moment c)
+known_at_first {c} limits = record {
   small = limits.callers.1;
   orderly = orderly_at_first c limits.callers.1;
   operands = λ k. rw (at_first c.callers k at_rest) refl;
 }
 
-enabled_from : (c : Config) (P : World → List Event → Type 0)
+enabled_from : {c : Config} (P : World → List Event → Type 0)
     → ((w : World) (e : Event) (es : List Event) → AreOfPages c.pages w.now.words → Known c w.now → IsEnabled c w.now e
     → P w (e ∷ es) → P (world_behind c w e) es) → (w : World) (es : List Event) → AreOfPages c.pages w.now.words
     → Known c w.now → AreEnabledFrom c w es → P w es → P (left_from c w es) []
 unfolding left_from AreEnabledFrom
-enabled_from c P one w [] lengths known on here = here
-enabled_from c P one w (e ∷ es) lengths known on here = enabled_from c P one (world_behind c w e) es
+enabled_from P one w [] lengths known on here = here
+enabled_from {c} P one w (e ∷ es) lengths known on here = enabled_from P one (world_behind c w e) es
     (accessed_lengths c.pages w.now.words (word_accessed c w.now e) (access c w.now e) lengths)
     (known_behind c w.now e known on.0) on.1 (one w e es lengths known on.0 here)
 
 -- What is said of a world and the events to come holds in the end of enabled events, where each of them keeps it.
-pub along_enabled : (c : Config) (P : World → List Event → Type 0)
-    → ((w : World) (e : Event) (es : List Event) → AreOfPages c.pages w.now.words → Known c w.now → IsEnabled c w.now e
-    → P w (e ∷ es) → P (world_behind c w e) es) → (es : List Event) → IsWithinLimits c → AreEnabled c es
-    → P (first_world c) es → P (left c es) []
-along_enabled c P one es limits on first =
-    enabled_from c P one (first_world c) es (zero_lengths c.pages) (known_at_first c limits) on first
+pub along_enabled : {c : Config} (P : World → List Event → Type 0) → ((w : World) (e : Event) (es : List Event)
+    → AreOfPages c.pages w.now.words → Known c w.now → IsEnabled c w.now e → P w (e ∷ es) → P (world_behind c w e) es)
+    → (es : List Event) → IsWithinLimits c → AreEnabled c es → P (first_world c) es → P (left c es) []
+along_enabled {c} P one es limits on first =
+    enabled_from P one (first_world c) es (zero_lengths c.pages) (known_at_first limits) on first
 
 pub known_left : (c : Config) (es : List Event) → IsWithinLimits c → AreEnabled c es → Known c (left c es).now
-known_left c es limits on = along_enabled c (λ w xs. Known c w.now) (λ w e xs lengths known here k.
-    known_behind c w.now e k here) es limits on (known_at_first c limits)
+known_left c es limits on = along_enabled (λ w xs. Known c w.now) (λ w e xs lengths known here k.
+    known_behind c w.now e k here) es limits on (known_at_first limits)
 
 -- who holds the turn by its call holds it by what the protocol reads
 pub holds_turn : (c : Config) (m : Moment) (seat : Seat) → Orderly c (view_of m) → Holds c m seat

@@ -2,8 +2,8 @@
 use Rattle.mk_laws.proofs.Vocabulary.{Among, AreOfPages, Bool, Claim, Config, Ground, IsWithinLimits, LayoutPremises}
 use Rattle.mk_laws.proofs.Vocabulary.{Seat, Step, World, ℕ, arith, claims_on, false, ground_of, is_phase}
 use Rattle.mk_laws.proofs.Vocabulary.{is_released_in, length, ltb-true, nat_lt, object_now, true, ◌<◌, ◌≡◌}
-use Rattle.mk_laws.proofs.{Known.Known, OthersMoves.WorldBehind, SameWords.{Keeps, reg_keeps}, Serving.Laid}
 use Rattle.mk_core.proofs.RegisterAccesses.{LeavesTable, register_leaves}
+use Rattle.mk_laws.proofs.{Known.Known, OthersMoves.WorldBehind, SameWords.Keeps, SameWords.reg_keeps, Serving.Laid}
 
 -- all that is known of the world before
 pub record Before (c : Config) (w : World) : Type 0 where

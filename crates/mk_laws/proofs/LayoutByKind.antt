@@ -44,10 +44,11 @@ fresh_claims c run [] = refl
 fresh_claims c run (a ∷ xs) = rw (fresh_claims c run xs)
 
 -- Without a place, whose object it is doesn't matter.
-pub placeless : (c : Config) (o other : Object) (releasing : Bool) (marks : List ℕ) (t : Ground) (placing : Placing)
+pub placeless : {c : Config} {o : Object} (other : Object) {releasing : Bool} {marks : List ℕ} {t : Ground}
+    (placing : Placing)
     → t.placing ≡ placing → has_place placing ≡ false → HasLayout c o releasing marks t
     → HasLayout c other releasing marks t × HasLayout c other releasing marks (record t { placing = Unplaced })
-placeless c o other releasing marks t placing is none st = grind arith
+placeless other placing is none st = grind arith
 
 pub off_at : (w : World) (n : ℕ) → is_phase w.now.words n ≡ true → n ≢ 4 → is_phase w.now.words 4 ≡ false
 off_at w n at ne = let e = eqb-true _ n at in ne_eqb _ 4 (λ four. ne (sym e ∙ four))
@@ -80,15 +81,14 @@ module _ (c : Config) (w : World) (seat : Seat) (b : Before c w) (laid : LayoutS
   })
 
   -- `head`
-  head_by : (p n : ℕ) → seat_exists c seat ≡ true → p < length w.now.words.pages → HeadStep c w.now f p n
+  head_by : {p n : ℕ} → seat_exists c seat ≡ true → p < length w.now.words.pages → HeadStep c w.now f p n
       → PagesBehind (with_header_on w.now.words.pages p n) chosen four found
-  head_by p n there lt (ItCarves off x) =
+  head_by {p} {n} there lt (ItCarves off x) =
       let placed = placed_now c w.now f x.place x.there in
       let same = own there placed.new in
       let was = rw off at laid in
-      rw off (rw x.there (rw same
-      (head_carves c o w x.place p n (rw same at was) (sized placed.new) placed.placed x.next)))
-  head_by p n there lt (ItUnmaps off x) = rw off (by found refl)
+      rw off (rw x.there (rw same (head_carves c w (rw same at was) (sized placed.new) placed.placed x.next)))
+  head_by {p} {n} there lt (ItUnmaps off x) = rw off (by found refl)
     where
       by : (place : Option Place) → found ≡ place
           → PagesBehind (with_header_on w.now.words.pages p n) chosen false place
@@ -97,8 +97,8 @@ module _ (c : Config) (w : World) (seat : Seat) (b : Before c w) (laid : LayoutS
           absurd (no_run c w.now seat b.known (new_has_turn c w.now seat there new) (undecided_new f new).stage x.run
           x.there)
       by None at = rw (chosen_none w.now.seats.holding.placing)
-          (head_unmaps c (object_now c w.now) false w p n (rw off at laid) x)
-  head_by p n there lt (ItEmpties on x) = rw on (head_empties c _ w p n lt (rw on at laid) x)
+          (head_unmaps c (object_now c w.now) false w (rw off at laid) x)
+  head_by {p} {n} there lt (ItEmpties on x) = rw on (head_empties c _ w lt (rw on at laid) x)
 
   -- `used`
   used_by : (p n : ℕ) → seat_exists c seat ≡ true → p < length w.now.words.pages → UsedStep c w.now f p n
@@ -114,8 +114,8 @@ module _ (c : Config) (w : World) (seat : Seat) (b : Before c w) (laid : LayoutS
       rw on (used_gives_back c (object_now c w.now) w p n lt (rw on at laid) x (b.unreleased on))
 
   -- `quar`, where none is freed: the allocations are as they were
-  left_by : (p n : ℕ) → QuarantineStep c w.now f p n → LaidNow c w (with_halves w p n)
-  left_by p n step = by step
+  left_by : {p n : ℕ} → QuarantineStep c w.now f p n → LaidNow c w (with_halves w p n)
+  left_by {p} {n} step = by step
     where
       still : is_phase w.now.words 4 ≡ false → LaidNow c w (with_halves w p n)
       still off = rw off (unreleasing c _ w.now.words.marks w.now.words.marks (ground_of w) _ _ (rw off at laid))
@@ -124,13 +124,13 @@ module _ (c : Config) (w : World) (seat : Seat) (b : Before c w) (laid : LayoutS
       by (ItFrees off x) = still off
       by (ItTakesSnapshot x) = still (ne_eqb _ 4 (λ e. absurd (omega (arith, eqb-true _ 0 x.phase))))
       by (ItDrops on x) =
-          let d = dropped c _ w p (n % 2 ^ 32) (n / 2 ^ 32) (rw on at laid) x in
+          let d = dropped c _ w (rw on at laid) x in
           rw on (record { scene = d.scene; gone = d.gone; first = d.first; cells = d.cells })
 
   -- words that leave the terrain
-  kept_ground : (x : Words) → LeavesTable w.now.words x
+  kept_ground : {x : Words} → LeavesTable w.now.words x
       → LaidNow c w (record (ground_of w) { pages = x.pages; freed = x.freed; snapshot = x.snapshot })
-  kept_ground x g = rw g.pages (rw g.freed (rw g.snapshot laid))
+  kept_ground g = rw g.pages (rw g.freed (rw g.snapshot laid))
 
   -- each kind of event, whatever the seat
   pub by_kind : (x : Step) → Meets c w.now seat x → LaidBehind c w x (ground_of (WorldBehind c w seat x))
@@ -139,10 +139,9 @@ module _ (c : Config) (w : World) (seat : Seat) (b : Before c w) (laid : LayoutS
     | inr is ↦ rw is laid
   ]
   by_kind Step.Give h =
-      (placeless c (object_now c w.now) (object_now c w.now) four w.now.words.marks
-      (record (ground_of w) { run = None }) w.now.seats.holding.placing refl
-      (false_from_ne_true (has_place w.now.seats.holding.placing) no_place) (gone_terrain c (object_now c w.now) four w
-      (λ run is. unmapped w.now.seats.holding.freed is decides.1) laid)).1
+      (placeless (object_now c w.now) w.now.seats.holding.placing refl
+      (false_from_ne_true (has_place w.now.seats.holding.placing) no_place)
+      (gone_terrain c (object_now c w.now) four w (λ run is. unmapped w.now.seats.holding.freed is decides.1) laid)).1
     where
       decides : (is_decided f.stage ≡ true) × (is_run_gone w.now.words w.now.seats.holding.freed ≡ true)
       decides = grind (arith, and_parts)
@@ -155,14 +154,14 @@ module _ (c : Config) (w : World) (seat : Seat) (b : Before c w) (laid : LayoutS
       unmapped : (x : Option RunPages) {run : RunPages} → x ≡ Some run → is_run_gone w.now.words x ≡ true
           → is_run_unmapped w.now.words run ≡ true
       unmapped x {run} is k = grind (arith, and_parts)
-  by_kind Step.Reg h = kept_ground _ (reg_leaves_ground c w seat)
-  by_kind (Step.Tally n v) h = kept_ground _ (tally_ground w.now.words n v)
-  by_kind (Step.Head p n) h = head_by p n h.seat (page_within c w p b h.range) (head_step c w.now _ p n h.holder)
+  by_kind Step.Reg h = kept_ground (reg_leaves_ground c w seat)
+  by_kind (Step.Tally n v) h = kept_ground (tally_ground w.now.words n v)
+  by_kind (Step.Head p n) h = head_by h.seat (page_within c w p b h.range) (head_step c w.now _ p n h.holder)
   by_kind (Step.Used p n) h = used_by p n h.seat (page_within c w p b h.range) (used_step c w.now _ p n h.holder)
   by_kind (Step.Quar p n) h = by (cell_freed c.pages w.now.words f p n) refl
     where
       by : (cell : Option Cell) → cell_freed c.pages w.now.words f p n ≡ cell → LaidNow c w (with_quarantine w p n cell)
-      by None is = rw (none_freed w.now.words w.allocations) (left_by p n (quarantine_step c w.now f p n h.holder))
+      by None is = rw (none_freed w.now.words w.allocations) (left_by (quarantine_step c w.now f p n h.holder))
       by (Some cell) is =
           let frees = freed_cell c.pages w.now.words f p n cell is in
           let turn = free_has_turn c w.now seat h.seat frees.free in
@@ -204,7 +203,7 @@ module _ (c : Config) (w : World) (seat : Seat) (b : Before c w) (laid : LayoutS
         let size = sized placed.new in
         let free = ap (header_at w.now.words) (sym x.marked.at) ∙ x.marked.free in
         rw is (rw x.there (rw same
-        (mark_places c o four w x.place (rw same at laid) size placed.placed free (first_header o size))))
+        (mark_places c four w (rw same at laid) size placed.placed free (first_header o size))))
   ]
   by_kind Step.Begin h =
       let same = sym (fresh_claims c w.now.seats.holding.freed w.allocations) in
@@ -212,10 +211,10 @@ module _ (c : Config) (w : World) (seat : Seat) (b : Before c w) (laid : LayoutS
         scene = rw same at laid.scene;
         gone = rw same at laid.gone;
         first = laid.first;
-        cells = cells_behind c no_longer_fresh w.allocations fresh_cells laid.cells;
+        cells = cells_behind c w.allocations fresh_cells laid.cells;
       }
   by_kind Step.Release h =
-      released_terrain c _ w b.limits b.lengths.pages (rw (off_at w 3 h.phase (λ e. absurd (omega arith))) at laid)
+      released_terrain _ w b.limits b.lengths.pages (rw (off_at w 3 h.phase (λ e. absurd (omega arith))) at laid)
       (λ run is. and_right _ _ (ap not (b.others.marked h.phase run is)))
   by_kind Step.End h = ended c _ w b.lengths.pages (rw h.phase at laid) h.holder
   by_kind _ h = laid

@@ -32,13 +32,13 @@ pub giver_has_turn : (c : Config) (m : Moment) (seat : Seat) → Known c m → M
 giver_has_turn c m seat known h = acts_as_holder c m seat Step.Give (actor_of c m seat Step.Give known.orderly h) refl
 
 -- The call that the turn word names is the seat's.
-pub holding_flight : (c : Config) (m : Moment) (seat : Seat) → Known c m → HoldsTurn c (view_of m) seat
+pub holding_flight : {c : Config} {m : Moment} (seat : Seat) → Known c m → HoldsTurn c (view_of m) seat
     → flight_of m (Caller (m.words.turn - 1)) ≡ flight_of m seat
-holding_flight c m seat known t = holders_flight c (view_of m) seat known.orderly t ∙ sym (flight_is m seat)
+holding_flight {c} {m} seat known t = holders_flight seat known.orderly t ∙ sym (flight_is m seat)
 
 pub holding_object : (c : Config) (m : Moment) (seat : Seat) → Known c m → HoldsTurn c (view_of m) seat
     → object_now c m ≡ object_made c (flight_of m seat).op
-holding_object c m seat known t = rw (holding_flight c m seat known t)
+holding_object c m seat known t = rw (holding_flight seat known t)
 
 pub no_run : (c : Config) (m : Moment) (seat : Seat) → Known c m → HoldsTurn c (view_of m) seat
     → (flight_of m seat).stage ≡ Stage.Turn → (run : RunPages) → m.seats.holding.freed ≡ Some run → ⊥
@@ -50,7 +50,7 @@ none_on_its_way c m seat known t at = grind (arith, no_run)
 
 pub placed_undecided : (c : Config) (m : Moment) (seat : Seat) → Known c m → HoldsTurn c (view_of m) seat
     → has_place m.seats.holding.placing ≡ true → is_undecided_new (flight_of m seat) ≡ true
-placed_undecided c m seat known t has = rw (← (holding_flight c m seat known t)) (known.orderly.served.placed has)
+placed_undecided c m seat known t has = rw (← (holding_flight seat known t)) (known.orderly.served.placed has)
 
 -- The operands of a seat's call are in range, so a New makes an object of 1 to 4,096 words.
 pub seat_operands : (c : Config) (m : Moment) (seat : Seat) → Known c m → has_operands c (flight_of m seat).op ≡ true

@@ -32,9 +32,9 @@ pub claimed_head : (pages : List Page) (x : Claim) (distance : ℕ) → IsShown 
 claimed_head pages x distance shown lt = part_head x.object distance x.page _ (claimed pages x distance shown lt)
 
 -- so its head has a used bit
-pub claimed_used : (pages : List Page) (x : Claim) (distance : ℕ) → IsShown pages x → distance < pages_made x.object
+pub claimed_used : {pages : List Page} {x : Claim} (distance : ℕ) → IsShown pages x → distance < pages_made x.object
     → used_on pages (head_on pages (x.page + distance)) ≢ 0
-claimed_used pages x distance shown lt z =
+claimed_used {pages} {x} distance shown lt z =
     none_set _ x.index (rw (← (claimed_head pages x distance shown lt)) z) shown.used
 
 pub claimed_some : (pages : List Page) (x : Claim) (distance : ℕ) → IsShown pages x → distance < pages_made x.object
@@ -42,12 +42,12 @@ pub claimed_some : (pages : List Page) (x : Claim) (distance : ℕ) → IsShown 
 claimed_some pages x distance shown lt = part_not_free x.object distance _ (claimed pages x distance shown lt)
 
 -- a page without cells has no used bit
-pub cellless_unused : (s : LayoutScene) (p : ℕ) → IsLaidOn s → cells_under (shows_on s.pages p) ≡ 0
+pub cellless_unused : {s : LayoutScene} (p : ℕ) → IsLaidOn s → cells_under (shows_on s.pages p) ≡ 0
     → used_on s.pages p ≡ 0
-cellless_unused s p laid none = zero_where_none _ (λ k h. let t = laid.used p k h in absurd (omega (arith, t.0)))
+cellless_unused p laid none = zero_where_none _ (λ k h. let t = laid.used p k h in absurd (omega (arith, t.0)))
 
 pub free_unused : (s : LayoutScene) (p : ℕ) → IsLaidOn s → header_on s.pages p ≡ 0 → used_on s.pages p ≡ 0
-free_unused s p laid z = cellless_unused s p laid (rw z)
+free_unused s p laid z = cellless_unused p laid (rw z)
 
 -- two claims of one cell are one
 pub one_claim : (xs : List Claim) (x y : Claim) → AreApart xs → Among x xs → Among y xs → IsOfOneCell x y → x ≡ y

@@ -3,8 +3,8 @@ use Rattle.mk_laws.proofs.Vocabulary.{At, Bool, Config, Cycle, Event, List, Mark
 use Rattle.mk_laws.proofs.Vocabulary.{World, ap, append_assoc, false, first_world, left, left_append, left_from}
 use Rattle.mk_laws.proofs.Vocabulary.{list_any, list_any-append, refl, sym, true, world_behind, [], ◌&&◌, ◌++◌, ◌||◌}
 use Rattle.mk_laws.proofs.Vocabulary.{◌∙◌, ◌∷◌, ◌≡◌}
-use Rattle.mk_core.specs.{Placement.{FirstServed, NoneServesFrom, event_serves}, Cycles.{Next, is_give}}
-use Rattle.mk_core.specs.Growing.{is_same_seat}
+use Rattle.mk_core.specs.Placement.{FirstServed, NoneServesFrom, event_serves}
+use Rattle.mk_core.specs.{Cycles.Next, Cycles.is_give, Growing.is_same_seat}
 
 -- Cycles in lists that go on.
 

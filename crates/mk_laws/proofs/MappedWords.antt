@@ -17,24 +17,24 @@ pub word_of_longer : (c : Config) (xs : List PlacedAllocation) (a : PlacedAlloca
 word_of_longer c xs a n m = grind (arith, earlier_at, cases_lt, get_or_past, mapped_stays)
 
 -- An allocation that stays at its place, and mapped, keeps its words.
-pub word_of_changed : (c : Config) (g : PlacedAllocation → PlacedAllocation) (xs : List PlacedAllocation) (n : ℕ)
+pub word_of_changed : {c : Config} {g : PlacedAllocation → PlacedAllocation} {xs : List PlacedAllocation} {n : ℕ}
     → LeavesPlaces g
     → (m : IsWordOfMapped c xs n) → is_mapped c (g (placed_at xs m.number)) ≡ true → IsWordOfMapped c (map g xs) n
-word_of_changed c g xs n leaves m stays = grind (arith, changed_at)
+word_of_changed leaves m stays = grind (arith, changed_at)
 
 -- `begin`
 pub word_of_fresh : (c : Config) (xs : List PlacedAllocation) (n : ℕ) → IsWordOfMapped c xs n
     → IsWordOfMapped c (map no_longer_fresh xs) n
-word_of_fresh c xs n m = word_of_changed c no_longer_fresh xs n fresh_leaves m m.mapped
+word_of_fresh c xs n m = word_of_changed fresh_leaves m m.mapped
 
 -- `release`, where the allocation's cell isn't left unmarked
-pub word_of_unreleased : (c : Config) (w : Words) (xs : List PlacedAllocation) (n : ℕ) → IsWithinLimits c
+pub word_of_unreleased : {c : Config} (w : Words) {xs : List PlacedAllocation} {n : ℕ} → IsWithinLimits c
     → (m : IsWordOfMapped c xs n) → StandsOnHeap c (placed_at xs m.number) → HasItsHeaders c w (placed_at xs m.number)
     → is_left_unmarked w (cell_of_allocation c (placed_at xs m.number)) ≡ false
     → IsWordOfMapped c (map (with_released c w) xs) n
-word_of_unreleased c w xs n limits m stands headers kept =
+word_of_unreleased {c} w {xs = xs} {n = n} limits m stands headers kept =
     let a : PlacedAllocation = placed_at xs m.number in
     let stays = released_where_left c w a limits stands headers ∙ kept in
     let unmapped : Bool = a.freed && is_large (kinds_of c.types a.ty) in
-    word_of_changed c _ xs n (released_leaves c w) m (and_from _ (not unmapped) (ap not stays)
+    word_of_changed (released_leaves c w) m (and_from _ (not unmapped) (ap not stays)
     (and_parts _ (not unmapped) m.mapped).1)

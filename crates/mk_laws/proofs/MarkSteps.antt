@@ -74,7 +74,7 @@ pub points_behind : (c : Config) (w : World) (n : NeverState) (seat : Seat) (x :
 points_behind c w n seat x after T v s only b points = by (came_behind c w seat x b points.0)
   where
     by : Came w.allocations (WorldBehind c w seat x).allocations x b → T b
-    by (Stayed was same) = only b (was, points_before c _ _ v same points.1)
+    by (Stayed was same) = only b (was, points_before c v same points.1)
     by (IsNew grant at) = new_is_touched c w n seat x after T b s grant at points.0
 
 -- three kinds change marks
@@ -100,9 +100,8 @@ record MarksWith (w : Words) (pages : ℕ) (hand : Option Hand) (page value : �
   cell : (k : ℕ) → has_bit value k ≡ true
       → pointed_cell pages w.pages holds.value ≡ Some (record { page = page; index = k })
 
-hand_marks : (w : Words) (pages : ℕ) (hand : Option Hand) (page value : ℕ)
-    → marks_by_hand pages w hand page value ≡ true
-    → is_some_and (λ (h : Hand). is_unmarked h.source) hand ≡ false → MarksWith w pages hand page value
+hand_marks : (w : Words) (pages : ℕ) (hand : Option Hand) (page value : ℕ) → marks_by_hand pages w hand page
+    value ≡ true → is_some_and (λ (h : Hand). is_unmarked h.source) hand ≡ false → MarksWith w pages hand page value
 hand_marks w pages None page value h unswept = cc
 hand_marks w pages (Some x) page value h unswept = grind (arith, and_parts, eqb-true, bit_of_power)
 
@@ -122,11 +121,11 @@ record MarksSeen (c : Config) (w : Words) (x : MarkerState) (k : ℕ) : Type 0 w
   there : x.hand ≡ Some value
   cell : pointed_cell c.pages w.pages value ≡ Some (record { page = seen_page (cell_seen c x.seen x.hand); index = k })
 
-seen_marks : (c : Config) (m : Moment) (x : MarkerState) (k : ℕ) → MarkerStands c m x
+seen_marks : {c : Config} {m : Moment} {x : MarkerState} (k : ℕ) → MarkerStands c m x
     → has_bit (seen_bit (cell_seen c x.seen x.hand)) k ≡ true
     → is_some (cell_seen c x.seen x.hand) ≡ true → MarksSeen c m.words x k
 unfolding pointed_cell
-seen_marks c m x k stand bit own =
+seen_marks {c} {m} {x} k stand bit own =
     let s = seen_cell c x own in
     let page : seen_page (cell_seen c x.seen x.hand) ≡ s.cell.page = rw s.is in
     let same : k ≡ s.cell.index = bit_of_cell s.cell.index k (rw s.is at bit) in
@@ -137,12 +136,11 @@ seen_marks c m x k stand bit own =
           ∙ (stand.seen s.under s.seen).cell s.value s.cell s.at ∙ rw (page, same);
     }
 
-module _ (c : Config) (w : World) (n : NeverState) (T : ℕ → Type 0) (precise : IsPrecise c w T) where
+module _ {c : Config} {w : World} (n : NeverState) {T : ℕ → Type 0} (precise : IsPrecise c w T) where
   -- Whatever of it stands there, a cell that is marked is touched.
   abbrev MarksTouched : Seat → Step → Type 0
-  MarksTouched seat x = (b : ℕ) → (placed_at w.allocations b).released ≡ false
-      → has_bit (slice_index (WorldBehind c w seat x).now.words.marks
-      (cell_of_allocation c (placed_at w.allocations b)).page)
+  MarksTouched seat x = (b : ℕ) → (placed_at w.allocations b).released ≡ false → has_bit
+      (slice_index (WorldBehind c w seat x).now.words.marks (cell_of_allocation c (placed_at w.allocations b)).page)
       (cell_of_allocation c (placed_at w.allocations b)).index ≡ true → T b
 
   marks_touched : (seat : Seat) (x : Step) (after : NeverState) → ((j : ℕ) → MarkerStands c w.now (marker_of w.now j))
@@ -165,8 +163,7 @@ module _ (c : Config) (w : World) (n : NeverState) (T : ℕ → Type 0) (precise
               (left_fails (is_some_and (λ (y : Hand). is_unmarked y.source) hand) _ s.unswept unplaced) in
               precise.hand h.holds h.there h.unswept b (
                 u,
-                comes_back c w n s.before s.early b h.holds.value u
-                    (h.cell cell.index new.1 ∙ rw (← new.0)),
+                comes_back c w n s.before s.early b h.holds.value u (h.cell cell.index new.1 ∙ rw (← new.0)),
               )
         ]
       ]
@@ -176,7 +173,7 @@ module _ (c : Config) (w : World) (n : NeverState) (T : ℕ → Type 0) (precise
       elim (more_bits w.now.words.marks (seen_page y) (seen_bit y) cell.page cell.index bit) [
         | inl old ↦ precise.marked b u old
         | inr new ↦
-            let m = seen_marks c w.now _ cell.index (stand j) new.1 s.meets.marker in
+            let m = seen_marks cell.index (stand j) new.1 s.meets.marker in
             let at : pointed_cell c.pages w.now.words.pages m.value ≡ Some cell = m.cell ∙ rw (← new.0) in
             (precise.markers j).hand m.value m.there b (u, comes_back c w n s.before s.early b m.value u at)
       ]
@@ -188,12 +185,11 @@ module _ (c : Config) (w : World) (n : NeverState) (T : ℕ → Type 0) (precise
       rest : (x : Step) → is_of_marks x ≡ false → MarksTouched seat x
       rest x out b u bit = precise.marked b u (rw (marks_same c w.now seat x out) at bit)
 
-  pub marked_behind : (seat : Seat) (x : Step) (after : NeverState)
-      → ((j : ℕ) → MarkerStands c w.now (marker_of w.now j)) → Steps c w n seat x after T
-      → (b : ℕ) → (placed_at (WorldBehind c w seat x).allocations b).released ≡ false
-      → is_marked (WorldBehind c w seat x).now.words
-      (cell_of_allocation c (placed_at (WorldBehind c w seat x).allocations b)) ≡ true → T b
-  marked_behind seat x after stand s b u marked = by (came_behind c w seat x b u)
+  pub marked_behind : {seat : Seat} {x : Step} {after : NeverState}
+      → ((j : ℕ) → MarkerStands c w.now (marker_of w.now j)) → Steps c w n seat x after T → (b : ℕ)
+      → (placed_at (WorldBehind c w seat x).allocations b).released ≡ false → is_marked (WorldBehind c w seat
+      x).now.words (cell_of_allocation c (placed_at (WorldBehind c w seat x).allocations b)) ≡ true → T b
+  marked_behind {seat} {x} {after} stand s b u marked = by (came_behind c w seat x b u)
     where
       a : PlacedAllocation
       a = placed_at (WorldBehind c w seat x).allocations b

@@ -25,10 +25,9 @@ pub marker_kept : (c : Config) (w : World) (n : NeverState) (seat : Seat) (x : S
     → MarkerIsPrecise c (precision_scene_of w) T y → MarkerIsPrecise c (precision_scene_of (WorldBehind c w seat x)) T y
 marker_kept c w n seat x after T y s stand precise = record {
   hand = λ v is. points_behind c w n seat x after T v s (precise.hand v is);
-  scan = λ z is lt. no_leaf_behind c w n seat x after T s z.page
+  scan = λ z is lt. no_leaf_behind s
       (λ none. let known = (stand.scan z is).index in absurd (omega arith)) (precise.scan z is lt);
-  seen = λ z is some scanned.
-      no_leaf_behind c w n seat x after T s z.page (λ none. some (sym ((stand.seen z is).count some) ∙ none))
+  seen = λ z is some scanned. no_leaf_behind s (λ none. some (sym ((stand.seen z is).count some) ∙ none))
       (precise.seen z is some scanned);
 }
 
@@ -42,7 +41,7 @@ looks c w n T y (Word.Head p) f t is m = record {
       let e : record { page = p; header = f } ≡ z = same_Some _ _ at in
       let page : p ≡ z.page = ap (λ (q : SeenHeader). q.page) e in
       let header : f ≡ z.header = ap (λ (q : SeenHeader). q.header) e in
-      scanned_has_none c w n z.page t (ap (λ q. has_no_pointers (header_in w.now.words q)) (sym page)
+      scanned_has_none z.page t (ap (λ q. has_no_pointers (header_in w.now.words q)) (sym page)
       ∙ ap (λ h. has_no_pointers (header_of h)) (sym (is p refl) ∙ header) ∙ scanned);
 }
   where
@@ -96,7 +95,7 @@ loaded_points c w n seat x after T hand z s precise st less none b points =
     let low : 65536 ≤ slice_index w.now.words.heap z.next = points.1.0 in
     let o : IsHeld c w z.next = held c w n s.before s.early z.next (λ e. absurd (omega arith)) in
     let a : PlacedAllocation = placed_at w.allocations o.number in
-    let same = has_cell c w s.before.all.order.runs z.page z.index z.next st.index st.start (inside st.end) a
+    let same = has_cell c w s.before.all.order.runs z.page z.index z.next st.index st.start (inside st.end)
     s.before.known.limits (stands c w n s.before o.number o.unreleased) (headers c w n s.before o.number o.unreleased)
     o.word in
     let touched : T o.number = precise.marked o.number o.unreleased
@@ -110,11 +109,10 @@ loaded_points c w n seat x after T hand z s precise st less none b points =
     inside (inl e) = omega arith
     inside (inr e) = let start = st.start in let at = e.0 in absurd (omega arith)
 
-load_precise : (c : Config) (w : World) (n : NeverState) (seat : Seat) (x : Step) (after : NeverState)
-    (T : ℕ → Type 0) (y : MarkerState)
-    → Steps c w n seat x after T → IsPrecise c w T → MarkerStands c w.now y → has_next_word y.scan ≡ true
-    → MarkerIsPrecise c (precision_scene_of w) T y → MarkerIsPrecise c (precision_scene_of w) T
-    (record y { scan = scan_onward y.scan; hand = open_hand c (slice_index w.now.words.heap (next_word y.scan)) })
+load_precise : (c : Config) (w : World) (n : NeverState) (seat : Seat) (x : Step) (after : NeverState) (T : ℕ
+    → Type 0) (y : MarkerState) → Steps c w n seat x after T → IsPrecise c w T → MarkerStands c w.now y
+    → has_next_word y.scan ≡ true → MarkerIsPrecise c (precision_scene_of w) T y → MarkerIsPrecise c (precision_scene_of
+    w) T (record y { scan = scan_onward y.scan; hand = open_hand c (slice_index w.now.words.heap (next_word y.scan)) })
 load_precise c w n seat x after T y s precise stand more m = record {
   hand = λ v is. opened y.scan more stand.scan m.scan v is;
   scan = λ z is less. onward y.scan m.scan z is less;
@@ -183,6 +181,5 @@ markers_behind c w n Host x after T s precise stand j =
     marker_kept c w n Host x after T _ s (stand j) (precise.markers j)
 markers_behind c w n (Marker k) x after T s precise stand j = marker_set w.now.seats.markers k j
     (marker_behind c (found c w.now (record { seat = Marker k; step = x })) x (marker_of w.now k))
-    (λ (y : MarkerState). MarkerIsPrecise c (precision_scene_of (WorldBehind c w (Marker k) x)) T y)
-    (λ lt. own_marker c w n k x after T s precise (stand k))
-    (marker_kept c w n (Marker k) x after T _ s (stand j) (precise.markers j))
+    (λ (y : MarkerState). MarkerIsPrecise c (precision_scene_of (WorldBehind c w (Marker k) x)) T y) (λ lt. own_marker c
+    w n k x after T s precise (stand k)) (marker_kept c w n (Marker k) x after T _ s (stand j) (precise.markers j))

@@ -11,8 +11,9 @@ use Rattle.mk_core.specs.Touched.{IsTouched, LeadsToMoment, by_global, by_regist
 use Rattle.mk_core.specs.Cycles.{NoneSweepsFrom, sweeps}
 
 -- what is known after a history
-pub told : (c : Config) (es : List Event) → IsHistory c es → Told c (left c es) (never_behind c es)
-told c es h = record { known = known_world c es h.within_limits h.enabled; all = histories_keep_the_invariant c es h }
+pub told : {c : Config} {es : List Event} → IsHistory c es → Told c (left c es) (never_behind c es)
+told {c} {es} h =
+    record { known = known_world c es h.within_limits h.enabled; all = histories_keep_the_invariant c es h }
 
 -- one event more
 pub record More (c : Config) (front : List Event) (e : Event) : Type 0 where
@@ -31,30 +32,30 @@ pub record AtMoment (c : Config) (T : ℕ → Type 0) (front : List Event) : Typ
   pub precise : IsPrecise c (left c front) T
 
 -- At a moment of the cycle what is touched is closed.
-closed_at : (c : Config) (es : List Event) (k : Marking es) (front : List Event) → LeadsToMoment k front
+closed_at : (c : Config) {es : List Event} {k : Marking es} {front : List Event} → LeadsToMoment k front
     → IsClosedIn c (left c front) (never_behind c front) (IsTouched c k)
-closed_at c es k front at = record {
+closed_at c {front = front} at = record {
   registers = λ i b points. by_register front i b at points;
   globals = λ g b points. by_global front g b at points;
   words = λ a x touched inside b points. by_word front a x b at touched inside points;
 }
 
 -- one event of the marking
-moment_behind : (c : Config) (es : List Event) (k : Marking es) (front : List Event) (e : Event)
+moment_behind : {c : Config} {es : List Event} {k : Marking es} {front : List Event} (e : Event)
     → IsHistory c (front ++ e ∷ []) → LeadsToMoment k front → LeadsToMoment k (front ++ e ∷ [])
     → is_close e.step ≡ false → sweeps c (left c front).now (flight_of (left c front).now e.seat) e.step ≡ false
     → AtMoment c (IsTouched c k) front → AtMoment c (IsTouched c k) (front ++ e ∷ [])
-moment_behind c es k front e h here there other unswept at =
+moment_behind {c} {es} {k} {front} e h here there other unswept at =
     let m = one_more c front e h in
     let w : World = left c front in
     let s : Steps c w (never_behind c front) e.seat e.step (never_behind c (front ++ e ∷ [])) (IsTouched c k) = record {
-      before = told c front at.history;
-      behind = rw m.left at (told c _ h);
+      before = told at.history;
+      behind = rw m.left at (told h);
       meets = m.meets;
       early = at.early;
       unswept = unswept;
-      here = closed_at c es k front here;
-      there = rw m.left at (closed_at c es k _ there);
+      here = closed_at c here;
+      there = rw m.left at (closed_at c there);
     } in
     record {
       history = h;
@@ -68,13 +69,13 @@ pub record Marked (c : Config) {es : List Event} (k : Marking es) (rest : List E
   pub begun : list_any (λ (e : Event). is_begin e.step) rest ≡ false
   pub released : list_any (λ (e : Event). is_release e.step) rest ≡ false
 
-along : (c : Config) (es : List Event) (k : Marking es) (done rest : List Event) → k.close.at.before ≡ done ++ rest
+along : (c : Config) {es : List Event} (k : Marking es) (done rest : List Event) → k.close.at.before ≡ done ++ rest
     → IsHistory c (through k.begin ++ (done ++ rest)) → list_any (λ (e : Event). is_close e.step) rest ≡ false
     → NoneSweepsFrom c (left c (through k.begin ++ done)) rest
     → AtMoment c (IsTouched c k) (through k.begin ++ done) → Marked c k rest
 unfolding NoneSweepsFrom
-along c es k done [] is h none unswept at = grind (arith, append-nil)
-along c es k done (e ∷ rest) is h none unswept at =
+along c k done [] is h none unswept at = grind (arith, append-nil)
+along c {es = es} k done (e ∷ rest) is h none unswept at =
     let first : List Event = through k.begin in
     let front : List Event = first ++ done in
     let split : done ++ e ∷ rest ≡ (done ++ e ∷ []) ++ rest = sym (append_assoc done (e ∷ []) rest) in
@@ -87,9 +88,9 @@ along c es k done (e ∷ rest) is h none unswept at =
     record { done = done ++ e ∷ []; to_come = rest; of_the_cycle = is ∙ split; is = longer } in
     let parts = or_parts _ (list_any (λ (x : Event). is_close x.step) rest) none in
     let m = one_more c front e next in
-    let behind = moment_behind c es k front e next here there parts.0 unswept.0 at in
+    let behind = moment_behind e next here there parts.0 unswept.0 at in
     let left_is : world_behind c (left c front) e ≡ left c (first ++ (done ++ e ∷ [])) = sym m.left ∙ rw longer in
-    let end = along c es k (done ++ e ∷ []) rest (is ∙ split) whole parts.1 (rw left_is at unswept.1)
+    let end = along c k (done ++ e ∷ []) rest (is ∙ split) whole parts.1 (rw left_is at unswept.1)
     (rw longer at behind) in
     let on = marking_goes_on c _ e.seat e.step at.early m.meets parts.0 in
     record {
@@ -99,9 +100,9 @@ along c es k done (e ∷ rest) is h none unswept at =
     }
 
 -- after the `begin`
-at_begin : (c : Config) (es : List Event) (k : Marking es) → IsHistory c (through k.begin)
+at_begin : {c : Config} {es : List Event} (k : Marking es) → IsHistory c (through k.begin)
     → AtMoment c (IsTouched c k) (through k.begin)
-at_begin c es k h =
+at_begin {c} k h =
     let e : Event = k.begin.event in
     let m = one_more c k.begin.before e h in
     let w : World = left c k.begin.before in
@@ -116,10 +117,10 @@ at_begin c es k h =
     }
 
 -- At the `close` all that is marked is touched.
-pub marked_at_close : (c : Config) (es : List Event) (k : Marking es) → IsHistory c (before_close k)
+pub marked_at_close : {c : Config} {es : List Event} (k : Marking es) → IsHistory c (before_close k)
     → NoneSweepsFrom c (left c (through k.begin)) k.close.at.before → Marked c k k.close.at.before
-marked_at_close c es k h unswept =
+marked_at_close {c} {es} k h unswept =
     let first : List Event = through k.begin in
     let start : first ++ [] ≡ first = append-nil first in
     let began : IsHistory c first = earlier_part_is_history c first k.close.at.before h in
-    along c es k [] k.close.at.before refl h k.close.none_before (rw start unswept) (rw start (at_begin c es k began))
+    along c k [] k.close.at.before refl h k.close.none_before (rw start unswept) (rw start (at_begin k began))

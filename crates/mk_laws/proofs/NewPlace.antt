@@ -33,9 +33,8 @@ PlacesFit c m = (k : ℕ) → k < c.callers → is_undecided_new (flight_of m (C
 in_fits : (c : Config) (pages : List Page) (o : Op) (placing : Placing) (place : Place) → length pages ≡ c.pages
     → ((y : Place) → held_place placing ≡ Some y → PlaceFits c o y)
     → place_by_placing c.resident pages (object_made c o) placing ≡ Some place → PlaceFits c o place
-in_fits c pages o Unplaced place count held is = λ large. rw count at
-    (run_place_is c.resident (object_made c o).words (object_made c o).leaf pages place
-    (leb-false _ 32 large) is).free.within
+in_fits c pages o Unplaced place count held is = λ large. rw count at (run_place_is c.resident (object_made c o).words
+    (object_made c o).leaf pages place (leb-false _ 32 large) is).free.within
 in_fits c pages o Granted place count held is = cc
 in_fits c pages o _ place count held is = held place is
 
@@ -52,21 +51,20 @@ taken_held : (p : Placing) (place : Option Place) (x : Place) → held_place (ta
 taken_held p (Some y) x h = inr h
 taken_held p None x h = inl h
 
-ground_place : (c : Config) (w : World) (f : Flight) (g : Ground) (x : Place) → GroundStep c w f g
+ground_place : {c : Config} {w : World} {f : Flight} {g : Ground} (x : Place) → GroundStep c w f g
     → held_place g.placing ≡ Some x → (held_place w.now.seats.holding.placing ≡ Some x) ⊎ (place_now c w.now f ≡ Some x)
-ground_place c w f g x (Starts z idle) h = cc
-ground_place c w f g x (Gives own at) h = cc
-ground_place c w f g x (Carves p n own at) h = chosen_held w.now.seats.holding.placing _ x h
-ground_place c w f g x (Unmaps p n own at) h = chosen_held w.now.seats.holding.placing _ x h
-ground_place c w f g x (TakesCell p n once own at) h = taken_held w.now.seats.holding.placing _ x h
-ground_place c w f g x (Places p n own) h = chosen_held w.now.seats.holding.placing _ x h
-ground_place c w f g x (Grants new once) h = cc
-ground_place c w f g x _ h = inl h
+ground_place x (Starts z idle) h = cc
+ground_place x (Gives own at) h = cc
+ground_place {w} x (Carves p n own at) h = chosen_held w.now.seats.holding.placing _ x h
+ground_place {w} x (Unmaps p n own at) h = chosen_held w.now.seats.holding.placing _ x h
+ground_place {w} x (TakesCell p n once own at) h = taken_held w.now.seats.holding.placing _ x h
+ground_place {w} x (Places p n own) h = chosen_held w.now.seats.holding.placing _ x h
+ground_place x (Grants new once) h = cc
+ground_place x _ h = inl h
 
 -- an undecided New is one that was there, or there is no place
 
-pub set_new : (fs : List Flight) (k j : ℕ) (f : Flight)
-    → (is_undecided_new f ≡ true → f ≡ slice_index_or fs k at_rest)
+pub set_new : (fs : List Flight) (k j : ℕ) (f : Flight) → (is_undecided_new f ≡ true → f ≡ slice_index_or fs k at_rest)
     → is_undecided_new (slice_index_or (slice_set fs k f) j at_rest) ≡ true
     → slice_index_or (slice_set fs k f) j at_rest ≡ slice_index_or fs j at_rest
 set_new fs k j f same =
@@ -79,12 +77,12 @@ call_no_new f is new = let e : InCall ≡ UnderTurn = sym is ∙ new_stands f.st
 pub give_no_new : (o : Op) → is_new_at Stage.Give o ≡ true → ⊥
 give_no_new o h = cc
 
-pub service_new : (f : Flight) (h : Holding) (g : Flight) (i : Holding) → Service f h g i → is_undecided_new g ≡ true
+pub service_new : {f : Flight} {h : Holding} {g : Flight} {i : Holding} → Service f h g i → is_undecided_new g ≡ true
     → g ≡ f
-service_new f h g i (Goes _ p q) new = refl
-service_new f h g i (Loads _ at stands no_new) new = let e : true ≡ false = sym new ∙ no_new in cc
-service_new f h g i (PlacesNew _ was p q) new = refl
-service_new f h g i _ new = absurd (give_no_new f.op new)
+service_new (Goes _ p q) new = refl
+service_new (Loads _ at stands no_new) new = let e : true ≡ false = sym new ∙ no_new in cc
+service_new (PlacesNew _ was p q) new = refl
+service_new {f} _ new = absurd (give_no_new f.op new)
 
 -- the call of a seat is set, if it has one
 set_call : (fs : List Flight) (s : Seat) (j : ℕ) (f : Flight) → (is_undecided_new f ≡ true → f ≡ flight_at fs s)
@@ -94,23 +92,20 @@ set_call fs (Caller k) j f same new = set_new fs k j f same new
 set_call fs _ j f same new = refl
 
 -- it was so, or the turn was free and is taken
-pub new_from : (c : Config) (v : View) (seat : Seat) (n : View) (j : ℕ) → Move c v seat n
+pub new_from : {c : Config} {v : View} {seat : Seat} {n : View} (j : ℕ) → Move c v seat n
     → is_undecided_new (flight_in n j) ≡ true → (flight_in n j ≡ flight_in v j)
     ⊎ ((v.turn ≡ 0) × (n.turn ≡ 1 + holder_number c seat) × (held_place n.holding.placing ≡ None))
-new_from c v seat n j (Enters {k} f lt z was is) new =
-    inl (set_new v.flights k j f (λ x. absurd (call_no_new f is x)) new)
-new_from c v seat n j (GoesOn {k} f lt was is) new =
-    inl (set_new v.flights k j f (λ x. absurd (call_no_new f is x)) new)
-new_from c v seat n j (Leaves {k} lt was) new = inl (set_new v.flights k j at_rest (λ x. cc) new)
-new_from c v seat n j (Takes f z may) new = inr (z, refl, refl)
-new_from c v seat n j (GivesTurn t none at) new = inl (set_call v.flights seat j at_rest (λ x. cc) new)
-new_from c v seat n j (Works f i t s) new = inl (set_call v.flights seat j f (service_new _ v.holding f i s) new)
-new_from c v seat n j _ new = inl refl
+new_from {v} j (Enters {k} f lt z was is) new = inl (set_new v.flights k j f (λ x. absurd (call_no_new f is x)) new)
+new_from {v} j (GoesOn {k} f lt was is) new = inl (set_new v.flights k j f (λ x. absurd (call_no_new f is x)) new)
+new_from {v} j (Leaves {k} lt was) new = inl (set_new v.flights k j at_rest (λ x. cc) new)
+new_from j (Takes f z may) new = inr (z, refl, refl)
+new_from {v} {seat} j (GivesTurn t none at) new = inl (set_call v.flights seat j at_rest (λ x. cc) new)
+new_from {v} {seat} j (Works f i t s) new = inl (set_call v.flights seat j f (service_new s) new)
+new_from j _ new = inl refl
 
-pub new_was : (c : Config) (v : View) (seat : Seat) (n : View) (j : ℕ) → Move c v seat n
+pub new_was : {c : Config} {v : View} {seat : Seat} {n : View} (j : ℕ) → Move c v seat n
     → is_undecided_new (flight_in n j) ≡ true → (flight_in n j ≡ flight_in v j) ⊎ (held_place n.holding.placing ≡ None)
-new_was c v seat n j move new =
-    elim (new_from c v seat n j move new) [ inl same ↦ inl same | inr taken ↦ inr taken.2 ]
+new_was {c} {v} {seat} {n} j move new = elim (new_from j move new) [ inl same ↦ inl same | inr taken ↦ inr taken.2 ]
 
 -- the seat of an undecided New holds the turn
 pub new_holds : (c : Config) (m : Moment) (seat : Seat) (x : Step) → Meets c m seat x
@@ -119,15 +114,13 @@ new_holds c m (Caller k) x h new = (k, ltb-true k c.callers h.seat, refl)
 new_holds c m _ x h new = cc
 
 -- the place of a step
-now_is : (c : Config) (m : Moment) (f : Flight) (place : Place) → place_now c m f ≡ Some place
-    → (is_undecided_new f ≡ true)
-    × (place_by_placing c.resident m.words.pages (object_made c f.op) m.seats.holding.placing ≡ Some place)
+now_is : (c : Config) (m : Moment) (f : Flight) (place : Place) → place_now c m f ≡ Some place → (is_undecided_new f
+    ≡ true) × (place_by_placing c.resident m.words.pages (object_made c f.op) m.seats.holding.placing ≡ Some place)
 now_is c m f place e = by (is_undecided_new f) refl e
   where
-    by : (b : Bool) → is_undecided_new f ≡ b
-        → (if b then place_by_placing c.resident m.words.pages (object_made c f.op) m.seats.holding.placing else None)
-        ≡ Some place → (is_undecided_new f ≡ true)
-        × (place_by_placing c.resident m.words.pages (object_made c f.op) m.seats.holding.placing ≡ Some place)
+    by : (b : Bool) → is_undecided_new f ≡ b → (if b then place_by_placing c.resident m.words.pages
+        (object_made c f.op) m.seats.holding.placing else None) ≡ Some place → (is_undecided_new f ≡ true) ×
+        (place_by_placing c.resident m.words.pages (object_made c f.op) m.seats.holding.placing ≡ Some place)
     by true is h = (is, h)
     by false is h = cc
 
@@ -140,16 +133,14 @@ place_fits_now c m seat x place count fits h now =
     let own_new : is_undecided_new (flight_of m (Caller own.0)) ≡ true = rw own.2 at is.0 in
     in_fits c _ _ _ place count (λ y old. rw own.2 (fits own.0 own.1 own_new y old)) is.1
 
-pub places_behind : (c : Config) (w : World) (seat : Seat) (x : Step) → Known c w.now
-    → length w.now.words.pages ≡ c.pages → PlacesFit c w.now
-    → Meets c w.now seat x → PlacesFit c (WorldBehind c w seat x).now
-places_behind c w seat x known count fits h k lt new place held =
-    elim (new_was c (view_of w.now) seat (view_of (WorldBehind c w seat x).now) k
-    (event_moves c w.now seat x known.orderly h) new) [
+pub places_behind : {c : Config} (w : World) (seat : Seat) (x : Step) → Known c w.now → length w.now.words.pages
+    ≡ c.pages → PlacesFit c w.now → Meets c w.now seat x → PlacesFit c (WorldBehind c w seat x).now
+places_behind {c} w seat x known count fits h k lt new place held =
+    elim (new_was k (event_moves c w.now seat x known.orderly h) new) [
       | inr none ↦ let e : None ≡ Some place = sym none ∙ held in absurd (none-some _ e)
       | inl same ↦
           let was : is_undecided_new (flight_of w.now (Caller k)) ≡ true = rw (← same) new in
-          rw same (before was (ground_place c w (flight_of w.now seat) _ place (ground_step c w seat x h) held))
+          rw same (before was (ground_place place (ground_step c w seat x h) held))
     ]
   where
     before : is_undecided_new (flight_of w.now (Caller k)) ≡ true

@@ -1,8 +1,8 @@
 -- Which stage of a call each step comes at.
 use Rattle.mk_laws.proofs.Vocabulary.{Bool, Group, None, Op, Some, Stage, Step, comes_next, false, group_of}
 use Rattle.mk_laws.proofs.Vocabulary.{is_under_turn, not, not-true, refl, true, ◌≡◌}
+use Rattle.mk_core.specs.{Calls.is_same_stage, Order.is_of_any_holder, Order.may_decide_new}
 use Rattle.mk_laws.proofs.Stages.{is_reg_stage, is_turn_stage}
-use Rattle.mk_core.specs.{Order.{is_of_any_holder, may_decide_new}, Calls.is_same_stage}
 
 abbrev pub is_take : Step → Bool
 is_take (Step.Take o) = true

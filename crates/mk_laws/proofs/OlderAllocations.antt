@@ -13,8 +13,8 @@ pub record AreOlder (xs ys : List PlacedAllocation) : Type 0 where
 pub older_same : (xs : List PlacedAllocation) → AreOlder xs xs
 older_same xs = record { was = λ j u. u; there = λ i lt. lt; same = λ i lt. record { base = refl; ty = refl } }
 
-pub older_joined : (xs ys zs : List PlacedAllocation) → AreOlder xs ys → AreOlder ys zs → AreOlder xs zs
-older_joined xs ys zs a b = record {
+pub older_joined : {xs ys zs : List PlacedAllocation} → AreOlder xs ys → AreOlder ys zs → AreOlder xs zs
+older_joined a b = record {
   was = λ j u. a.was j (b.was j u);
   there = λ i lt. b.there i (a.there i lt);
   same = λ i lt. of_one_joined _ _ _ (a.same i lt) (b.same i (a.there i lt));

@@ -10,7 +10,7 @@ use Rattle.mk_laws.proofs.Vocabulary.{is_unmarked, ltb-true, marker_of, nat_lt, 
 use Rattle.mk_laws.proofs.Vocabulary.{placed_at, pointed_cell, refl, register_word, same_Some, slice_index}
 use Rattle.mk_laws.proofs.Vocabulary.{slice_index_or, subst, sym, true, true≢false, word_points, ◌&&◌, ◌*◌, ◌+◌, ◌/◌}
 use Rattle.mk_laws.proofs.{Vocabulary.{◌∙◌, ◌≡◌, ◌≢◌, ◌≤◌, ◌⊎◌}, Basics.{Behind, KnownWorld, Meets, WorldBehind}}
-use Rattle.mk_laws.proofs.{Basics.view_of, Precise.{IsPrecise, MarkerIsPrecise, PointsOnlyInto, PrecisionScene, Steps}}
+use Rattle.mk_laws.proofs.Precise.{IsPrecise, MarkerIsPrecise, PointsOnlyInto, PrecisionScene, Steps}
 use Rattle.mk_laws.proofs.{Precise.precision_scene_of, Worlds.{Told, headers, held, not_leaf, stands}}
 use Rattle.mk_laws.proofs.{ImagesHeldGates.held_idle, MarkSteps.{marked_behind, points_behind}}
 use Rattle.mk_laws.proofs.{MarkerSteps.{idle_is_precise, markers_behind}, Pairs.shows_plain}
@@ -31,14 +31,14 @@ hand_kept c m seat x out = grind arith
 
 -- Registers that a look may reach are images: their caller owes out register.
 
-module _ (c : Config) (w : World) (n : NeverState) (t : Told c w n) where
+module _ {c : Config} {w : World} {n : NeverState} (t : Told c w n) where
   looked_owes_none : (seat : Seat) (j r : ℕ) → Meets c w.now seat (Step.Look (Word.Reg j r))
       → is_put (flight_of w.now (Caller j)).stage ≡ false
   looked_owes_none seat j r h = elim (or_cases _ _ h.gates) [
     | inl own ↦ by seat own h
     | inr gate ↦
         let lt = ltb-true j c.callers (and_parts _ (nat_lt r 8) h.range).0 in
-        ap is_put (held_idle c (view_of w.now) j t.known.now.orderly lt (eqb-true _ 2 gate))
+        ap is_put (held_idle j t.known.now.orderly lt (eqb-true _ 2 gate))
   ]
     where
       by : (seat : Seat) → is_number_of seat j ≡ true → Meets c w.now seat (Step.Look (Word.Reg j r))
@@ -63,18 +63,17 @@ cell_hand : (w : Words) (stop : Bool) (placing : Placing) (cell : Cell) (value :
 cell_hand w stop placing cell value h is out =
     by (has_no_pointers (header_in w cell.page)) (is_marked w cell) (stop && is_mapped_cell w placing cell) refl refl is
   where
-    by : (a b d : Bool) → has_no_pointers (header_in w cell.page) ≡ a → is_marked w cell ≡ b → (if a then None else if b
-        then Some (record { value = value; source = Marked })
-        else if d then Some (record { value = value; source = Unmarked }) else None) ≡ Some h
-        → IsOfMarked w cell value h
+    by : (a b d : Bool) → has_no_pointers (header_in w cell.page) ≡ a → is_marked w cell ≡ b
+        → (if a then None else if b then Some (record { value = value; source = Marked }) else if d then Some
+        (record { value = value; source = Unmarked }) else None) ≡ Some h → IsOfMarked w cell value h
     by a b d ea eb is = grind (arith, same_Some)
 
-module _ (c : Config) (w : World) (n : NeverState) (T : ℕ → Type 0) (precise : IsPrecise c w T) where
+module _ {c : Config} {w : World} (n : NeverState) {T : ℕ → Type 0} (precise : IsPrecise c w T) where
   -- a word of a marked cell that is scanned
-  heap_hand : (seat : Seat) (x : ℕ) (after : NeverState) (h : Hand) → Steps c w n seat (Step.Look (Word.Heap x)) after T
+  heap_hand : {seat : Seat} {x : ℕ} {after : NeverState} (h : Hand) → Steps c w n seat (Step.Look (Word.Heap x)) after T
       → hand_given c w.now seat (Word.Heap x) (slice_index w.now.words.heap x) ≡ Some h → is_unmarked h.source ≡ false
       → PointsOnlyInto c w.allocations T h.value
-  heap_hand seat x after h s is out = by (pointed_cell c.pages w.now.words.pages (address_of x)) refl is
+  heap_hand {seat} {x} h s is out = by (pointed_cell c.pages w.now.words.pages (address_of x)) refl is
     where
       stop : Bool
       stop = is_in_stop c.callers w.now.words seat
@@ -91,9 +90,8 @@ module _ (c : Config) (w : World) (n : NeverState) (T : ℕ → Type 0) (precise
           let some : slice_index w.now.words.heap x ≢ 0 = λ z. absurd (omega arith) in
           let o = held c w n s.before s.early x some in
           let a : PlacedAllocation = placed_at w.allocations o.number in
-          let same : cell_of_allocation c a ≡ cell =
-          same_Some _ _ (sym (word_points c w.now.words a s.before.known.limits
-          (stands c w n s.before o.number o.unreleased)
+          let same : cell_of_allocation c a ≡ cell = same_Some _ _
+          (sym (word_points c w.now.words a s.before.known.limits (stands c w n s.before o.number o.unreleased)
           (headers c w n s.before o.number o.unreleased) x o.word) ∙ at) in
           let touched = precise.marked o.number o.unreleased
           (subst (λ (y : Cell). is_marked w.now.words y ≡ true) (sym same) k.marked) in
@@ -111,9 +109,9 @@ module _ (c : Config) (w : World) (n : NeverState) (T : ℕ → Type 0) (precise
       → hand_given c w.now seat y (found c w.now (record { seat = seat; step = Step.Look y })) ≡ Some h
       → is_unmarked h.source ≡ false → PointsOnlyInto c w.allocations T h.value
   look_hand seat (Word.Reg j r) after h s is out =
-      root_hand _ h (rw (register_image c w n s.before seat j r s.meets) (s.here.registers (8 * j + r))) is
+      root_hand _ h (rw (register_image s.before seat j r s.meets) (s.here.registers (8 * j + r))) is
   look_hand seat (Word.Global g) after h s is out = root_hand _ h (s.here.globals g) is
-  look_hand seat (Word.Heap x) after h s is out = heap_hand seat x after h s is out
+  look_hand seat (Word.Heap x) after h s is out = heap_hand h s is out
   look_hand seat _ after h s is out = cc
 
   pub hand_behind : (seat : Seat) (x : Step) (after : NeverState) → Steps c w n seat x after T → (h : Hand)
@@ -139,14 +137,14 @@ module _ (c : Config) (w : World) (n : NeverState) (T : ℕ → Type 0) (precise
 
 -- What markers are in the middle of stands, whether they attend or not.
 
-idle_stands : (c : Config) (m : Moment) (x : MarkerState) → IsIdle x → MarkerStands c m x
-idle_stands c m x idle = grind (arith, none-some)
+idle_stands : (c : Config) (m : Moment) {x : MarkerState} → IsIdle x → MarkerStands c m x
+idle_stands c m idle = grind (arith, none-some)
 
 markers_stand : (c : Config) (w : World) (n : NeverState) (seat : Seat) (x : Step) (after : NeverState)
     (T : ℕ → Type 0) → Steps c w n seat x after T → (j : ℕ) → MarkerStands c w.now (marker_of w.now j)
 markers_stand c w n seat x after T s j = elim (cases_Bool (is_attending (marker_of w.now j).presence)) [
   | inl at ↦ (s.before.all.marks.guarded s.early).markers j at
-  | inr out ↦ idle_stands c w.now _ (s.before.known.now.orderly.idle j out)
+  | inr out ↦ idle_stands c w.now (s.before.known.now.orderly.idle j out)
 ]
 
 pub precise_behind : (c : Config) (w : World) (n : NeverState) (seat : Seat) (x : Step) (after : NeverState)
@@ -154,8 +152,8 @@ pub precise_behind : (c : Config) (w : World) (n : NeverState) (seat : Seat) (x 
 precise_behind c w n seat x after T s precise =
     let stand = markers_stand c w n seat x after T s in
     record {
-      marked = marked_behind c w n T precise seat x after stand s;
-      hand = hand_behind c w n T precise seat x after s;
+      marked = marked_behind n precise stand s;
+      hand = hand_behind n precise seat x after s;
       markers = markers_behind c w n seat x after T s precise stand;
     }
 
@@ -186,9 +184,8 @@ precise_begun c w seat T known h = record {
           elim (known.now.orderly.attends j at) [ inl e ↦ absurd (omega arith) | inr e ↦ absurd (omega arith) ]
     ]
 
-    by : (seat : Seat) → Meets c w.now seat Step.Begin → (j : ℕ)
-        → MarkerIsPrecise c (precision_scene_of (WorldBehind c w seat Step.Begin)) T
-        (marker_of (WorldBehind c w seat Step.Begin).now j)
+    by : (seat : Seat) → Meets c w.now seat Step.Begin → (j : ℕ) → MarkerIsPrecise c
+        (precision_scene_of (WorldBehind c w seat Step.Begin)) T (marker_of (WorldBehind c w seat Step.Begin).now j)
     by (Caller k) on j = quiet j _
     by Host on j = quiet j _
     by (Marker k) on j = let kind = on.kind in cc

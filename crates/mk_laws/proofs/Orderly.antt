@@ -1,13 +1,13 @@
 -- All is in order: what each move keeps, by what the protocol reads.
-use Rattle.std.proofs.{Common.count_by, lemmas.List.Sums.{count_by-le-length, sum_by-set}}
+use Rattle.std.proofs.{Common.count_by, lemmas.List.Sums.count_by-le-length, lemmas.List.Sums.sum_by-set}
 use Rattle.mk_laws.proofs.Vocabulary.{Caller, Config, Flight, List, MarkerState, Seat, ℕ, arith, at_rest, cases_eq}
 use Rattle.mk_laws.proofs.Vocabulary.{cases_lt, cond, false, get_or-set_other, get_or-set_same, get_or_past}
 use Rattle.mk_laws.proofs.Vocabulary.{holder_number, inl, inr, is_attending, is_in, length, length-set, nothing_done}
 use Rattle.mk_laws.proofs.Vocabulary.{outside, refl, set_by, set_past, slice_index, slice_index_or, slice_set, sym}
 use Rattle.mk_laws.proofs.Vocabulary.{true, ◌%◌, ◌*◌, ◌+◌, ◌-◌, ◌<◌, ◌^◌, ◌≡◌, ◌≢◌, ◌≤◌, ◌⊎◌}
-use Rattle.mk_laws.proofs.{Standings.{Resting, Shows, Standing, UnderTurn, standing}, Views.{HoldsTurn, View}}
-use Rattle.mk_laws.proofs.Views.{flight_at, flight_in, flights_with, gate_in, marker_in}
-use Rattle.mk_laws.proofs.{ProtocolMoves.{IdlesOutside, MayTake}, Services.Served}
+use Rattle.mk_laws.proofs.Standings.{Resting, Shows, Standing, UnderTurn, standing}
+use Rattle.mk_laws.proofs.Views.{HoldsTurn, View, flight_at, flight_in, flights_with, gate_in, marker_in}
+use Rattle.mk_laws.proofs.{ProtocolMoves.IdlesOutside, ProtocolMoves.MayTake, Services.Served}
 
 -- The markers that are in, and the numbers of the phase word.
 
@@ -15,9 +15,8 @@ use Rattle.mk_laws.proofs.{ProtocolMoves.{IdlesOutside, MayTake}, Services.Serve
 abbrev pub count_in : List MarkerState → ℕ
 count_in xs = count_by is_in xs
 
-counted : (xs : List MarkerState) (k : ℕ) (x : MarkerState) → k < length xs
-    → count_in (slice_set xs k x) + cond {A = ℕ} (is_in (slice_index_or xs k outside)) 1 0
-    ≡ count_in xs + cond {A = ℕ} (is_in x) 1 0
+counted : (xs : List MarkerState) (k : ℕ) (x : MarkerState) → k < length xs → count_in (slice_set xs k x) + cond {A = ℕ}
+    (is_in (slice_index_or xs k outside)) 1 0 ≡ count_in xs + cond {A = ℕ} (is_in x) 1 0
 counted xs k x lt = sum_by-set (λ (y : MarkerState). cond {A = ℕ} (is_in y) 1 0) xs k x outside lt
 
 pub counted_same : (xs : List MarkerState) (k : ℕ) (x : MarkerState) → k < length xs
@@ -74,9 +73,8 @@ AllShow n t gs fs = (b : ℕ) → b < n → Shows t (slice_index gs b) b (standi
 
 -- one flight is set
 pub all_but_flight : (n t k : ℕ) (gs : List ℕ) (fs : List Flight) (f : Flight) → k < length fs
-    → Shows t (slice_index gs k) k (standing f)
-    → ((b : ℕ) → b < n → k ≢ b → Shows t (slice_index gs b) b (standing (slice_index_or fs b at_rest)))
-    → AllShow n t gs (slice_set fs k f)
+    → Shows t (slice_index gs k) k (standing f) → ((b : ℕ) → b < n → k ≢ b
+    → Shows t (slice_index gs b) b (standing (slice_index_or fs b at_rest))) → AllShow n t gs (slice_set fs k f)
 all_but_flight n t k gs fs f lt mine others b lb = elim (cases_eq b k) [
   | inl e ↦ rw e (rw (get_or-set_same fs k f at_rest lt) mine)
   | inr ne ↦ rw (get_or-set_other fs k b f at_rest ne) (others b lb (λ e. ne (sym e)))
@@ -84,9 +82,8 @@ all_but_flight n t k gs fs f lt mine others b lb = elim (cases_eq b k) [
 
 -- one gate is set
 pub all_but_gate : (n t k x : ℕ) (gs : List ℕ) (fs : List Flight) → k < length gs
-    → Shows t x k (standing (slice_index_or fs k at_rest))
-    → ((b : ℕ) → b < n → k ≢ b → Shows t (slice_index gs b) b (standing (slice_index_or fs b at_rest)))
-    → AllShow n t (slice_set gs k x) fs
+    → Shows t x k (standing (slice_index_or fs k at_rest)) → ((b : ℕ) → b < n → k ≢ b
+    → Shows t (slice_index gs b) b (standing (slice_index_or fs b at_rest))) → AllShow n t (slice_set gs k x) fs
 all_but_gate n t k x gs fs lt mine others b lb = elim (cases_eq b k) [
   | inl e ↦ rw e (rw (get_or-set_same gs k x 0 lt) mine)
   | inr ne ↦ rw (get_or-set_other gs k b x 0 ne) (others b lb (λ e. ne (sym e)))
@@ -99,9 +96,8 @@ OwnShows c fs t gs _ s = Unit {0}
 
 -- the flight of the seat is set
 pub all_but_seat : (c : Config) (t : ℕ) (seat : Seat) (gs : List ℕ) (fs : List Flight) (f : Flight)
-    → OwnShows c fs t gs seat (standing f) → ((b : ℕ) → b < c.callers → holder_number c seat ≢ b
-    → Shows t (slice_index gs b) b (standing (slice_index_or fs b at_rest)))
-    → AllShow c.callers t gs (flights_with fs seat f)
+    → OwnShows c fs t gs seat (standing f) → ((b : ℕ) → b < c.callers → holder_number c seat ≢ b → Shows t
+    (slice_index gs b) b (standing (slice_index_or fs b at_rest))) → AllShow c.callers t gs (flights_with fs seat f)
 all_but_seat c t (Caller k) gs fs f mine others = all_but_flight c.callers t k gs fs f mine.0 mine.1 others
 all_but_seat c t _ gs fs f mine others = λ b lb. others b lb (λ e. absurd (omega arith))
 
@@ -148,29 +144,29 @@ pub same_holder : (c : Config) (v : View) (a b : Seat) → Orderly c v → Holds
 same_holder c v a b p ha hb = grind (arith, turn_of)
 
 -- its call; the host has none
-pub holders_flight : (c : Config) (v : View) (seat : Seat) → Orderly c v → HoldsTurn c v seat
+pub holders_flight : {c : Config} {v : View} (seat : Seat) → Orderly c v → HoldsTurn c v seat
     → flight_in v (v.turn - 1) ≡ flight_at v.flights seat
-holders_flight c v seat h t = grind (arith, turn_of, flight_in, get_or_past)
+holders_flight seat h t = grind (arith, turn_of, flight_in, get_or_past)
 
 -- what the holder shows after its step, where it goes on, where it gives the turn, and where it takes it
 
-pub holder_shows : (c : Config) (v : View) (seat : Seat) (f : Flight) → Orderly c v → HoldsTurn c v seat
+pub holder_shows : {c : Config} {v : View} (seat : Seat) (f : Flight) → Orderly c v → HoldsTurn c v seat
     → (standing (flight_at v.flights seat) ≡ UnderTurn → standing f ≡ UnderTurn)
     → OwnShows c v.flights v.turn v.gates seat (standing f)
-holder_shows c v seat f h t is = grind (arith, shows_at)
+holder_shows seat f h t is = grind (arith, shows_at)
 
-pub giver_shows : (c : Config) (v : View) (seat : Seat) → Orderly c v → HoldsTurn c v seat
+pub giver_shows : {c : Config} {v : View} (seat : Seat) → Orderly c v → HoldsTurn c v seat
     → OwnShows c v.flights 0 v.gates seat Resting
-giver_shows c v seat h t = grind (arith, gate_in, shows_at)
+giver_shows seat h t = grind (arith, gate_in, shows_at)
 
-pub taker_shows : (c : Config) (v : View) (seat : Seat) (f : Flight) → Orderly c v → v.turn ≡ 0 → MayTake c v seat f
+pub taker_shows : {c : Config} {v : View} (seat : Seat) (f : Flight) → Orderly c v → v.turn ≡ 0 → MayTake c v seat f
     → OwnShows c v.flights (1 + holder_number c seat) v.gates seat (standing f)
-taker_shows c v seat f h z t = grind (arith, shows_at)
+taker_shows seat f h z t = grind (arith, shows_at)
 
 pub taker_number : (c : Config) (v : View) (seat : Seat) (f : Flight) → MayTake c v seat f
     → holder_number c seat ≤ c.callers
 taker_number c v seat f t = grind arith
 
 -- there are few markers
-pub few_in : (c : Config) (v : View) → Orderly c v → count_in v.markers ≤ 8
-few_in c v h = omega (arith, count_by-le-length is_in v.markers, h.markers)
+pub few_in : {c : Config} {v : View} → Orderly c v → count_in v.markers ≤ 8
+few_in {v} h = omega (arith, count_by-le-length is_in v.markers, h.markers)

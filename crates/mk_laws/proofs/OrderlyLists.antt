@@ -1,11 +1,11 @@
 -- All is in order after every enabled list.
-use Rattle.std.proofs.{Common.replicate, lemmas.List.{get_or-replicate, length-replicate}}
+use Rattle.std.proofs.{Common.replicate, lemmas.List.get_or-replicate, lemmas.List.length-replicate}
+use Rattle.mk_laws.proofs.Vocabulary.{Caller, Config, MarkerState as Marker, Moment, Seat, Step, ℕ, ap, arith, at_rest}
 use Rattle.mk_laws.proofs.Vocabulary.{cases_lt, false, first_moment, flight_of, get_or_past, inl, inr, is_attending}
 use Rattle.mk_laws.proofs.Vocabulary.{outside, refl, slice_index_or, sym, true, ◌<◌, ◌∙◌, ◌≡◌, ◌≤◌}
-use Rattle.mk_laws.proofs.{Standings.{is_astray, shown_not_astray, standing}, Actors.{Actor, Meets, acts}}
-use Rattle.mk_laws.proofs.{Orderly.Orderly, ProtocolKept.kept, ProtocolMoves.Move, SameWords.Behind}
-use Rattle.mk_laws.proofs.{Services.nothing_served, Sorts.moves, Views.view_of}
-use Rattle.mk_laws.proofs.Vocabulary.{Caller, Config, MarkerState as Marker, Moment, Seat, Step, ℕ, ap, arith, at_rest}
+use Rattle.mk_laws.proofs.Standings.{is_astray, shown_not_astray, standing}
+use Rattle.mk_laws.proofs.{Actors.Actor, Actors.Meets, Actors.acts, Orderly.Orderly, ProtocolKept.kept}
+use Rattle.mk_laws.proofs.{ProtocolMoves.Move, SameWords.Behind, Services.nothing_served, Sorts.moves, Views.view_of}
 
 -- no call is astray, so each event is someone's
 
@@ -19,13 +19,13 @@ actor_of c m seat x o h = acts c m seat x (not_astray c m o) h
 
 pub event_moves : (c : Config) (m : Moment) (seat : Seat) (x : Step) → Orderly c (view_of m) → Meets c m seat x
     → Move c (view_of m) seat (view_of (Behind c m seat x))
-event_moves c m seat x o h = moves c m seat x (not_astray c m o) (actor_of c m seat x o h) h
+event_moves c m seat x o h = moves (not_astray c m o) (actor_of c m seat x o h) h
 
 -- one event, and many
 
-pub orderly_behind : (c : Config) (m : Moment) (seat : Seat) (x : Step) → c.callers ≤ 16 → Orderly c (view_of m)
+pub orderly_behind : {c : Config} (m : Moment) (seat : Seat) (x : Step) → c.callers ≤ 16 → Orderly c (view_of m)
     → Meets c m seat x → Orderly c (view_of (Behind c m seat x))
-orderly_behind c m seat x small o h = kept c (view_of m) seat _ small o (event_moves c m seat x o h)
+orderly_behind {c} m seat x small o h = kept small o (event_moves c m seat x o h)
 
 pub at_first : {A : Type 0} (n k : ℕ) (x : A) → slice_index_or (replicate n x) k x ≡ x
 at_first n k x = elim (cases_lt k n) [

@@ -3,9 +3,9 @@
 use Rattle.mk_laws.proofs.Vocabulary.{AreOfOthers, Call, Caller, Config, Continues, Decided, Event, IsHistory}
 use Rattle.mk_laws.proofs.Vocabulary.{KeepsRegisters, List, Seat, Step, World, ℕ, admitted_in_parts, admitted_keep}
 use Rattle.mk_laws.proofs.Vocabulary.{answer_decided, asked, call_decided, calls_from, left, map-append, never_behind}
-use Rattle.mk_laws.proofs.{Vocabulary.{never_in_parts, subst, sym, world_behind, [], ◌++◌, ◌∷◌, ◌≢◌}, FreedRuns.not_by}
-use Rattle.mk_laws.proofs.ProtocolFrames.{other_seat}
-use Rattle.mk_never.{proofs.Later.{calls_stay}, specs.Laws.{AreNotBy}}
+use Rattle.mk_laws.proofs.Vocabulary.{never_in_parts, subst, sym, world_behind, [], ◌++◌, ◌∷◌, ◌≢◌}
+use Rattle.mk_never.{proofs.Later.calls_stay, specs.Laws.AreNotBy}
+use Rattle.mk_laws.proofs.{FreedRuns.not_by, ProtocolFrames.other_seat}
 
 -- one event of another seat
 pub call_not_by : (c : Config) (w : World) (seat : Seat) (x : Step) (k : ℕ) → seat ≢ Caller k

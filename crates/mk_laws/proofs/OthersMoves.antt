@@ -91,19 +91,18 @@ host_take_out c w ne = rw (ne_eqb w.now.words.turn 0 ne) Waits
 
 -- the gate of a caller in a call
 
-pub gate_one : (c : Config) (m : Moment) (k : ℕ) → Known c m → k < c.callers
+pub gate_one : {c : Config} {m : Moment} (k : ℕ) → Known c m → k < c.callers
     → standing (flight_of m (Caller k)) ≡ InCall → slice_index m.words.gates k ≡ 1
-gate_one c m k h lt is = (shows_at c (view_of m) k InCall h.orderly lt is).0
+gate_one {c} {m} k h lt is = (shows_at c (view_of m) k InCall h.orderly lt is).0
 
-in_call : (c : Config) (m : Moment) (k : ℕ) (x : Step) → Known c m → k < c.callers → Meets c m (Caller k) x
+in_call : {c : Config} {m : Moment} (k : ℕ) (x : Step) → Known c m → k < c.callers → Meets c m (Caller k) x
     → has_stage_of_its_own x ≡ true → is_call_stage (stage_of x) ≡ true → slice_index m.words.gates k ≤ 1
-in_call c m k x known lt h own is = grind (arith, gate_one, calls_stand, is_call_stage, at_its_stage, not_astray)
+in_call k x known lt h own is = grind (arith, gate_one, calls_stand, is_call_stage, at_its_stage, not_astray)
 
 -- `reg` is in a call outside the turn, unless its seat holds the turn
-reg_in_call : (c : Config) (m : Moment) (k : ℕ) → Known c m → k < c.callers
-    → is_reg_stage (flight_of m (Caller k)).stage ≡ true → (HoldsTurn c (view_of m) (Caller k) → ⊥)
-    → slice_index m.words.gates k ≤ 1
-reg_in_call c m k known lt is free = grind (arith, gate_one, standing, regs_work, is_astray, not_astray)
+reg_in_call : {c : Config} {m : Moment} (k : ℕ) → Known c m → k < c.callers → is_reg_stage
+    (flight_of m (Caller k)).stage ≡ true → (HoldsTurn c (view_of m) (Caller k) → ⊥) → slice_index m.words.gates k ≤ 1
+reg_in_call k known lt is free = grind (arith, gate_one, standing, regs_work, is_astray, not_astray)
 
 reg_write : (w : Words) (k : ℕ) (f : Flight) (s : Stage) → Operands f.op
     → CallWrite k w (accessed w (Named (Word.Reg k (register_met f s))) (reg_access f s))
@@ -111,46 +110,46 @@ reg_write w k f s o = grind (arith, register_small, SetsRegister, CallLoads)
 
 ruleset call_out_facts = (at_reg, reg_write, operands_of, Calls, SetsGate, CallLoads, SetsHeap, SetsGlobal, SetsDirty)
 
-call_out : (c : Config) (w : World) (k : ℕ) (x : Step) → Known c w.now → (HoldsTurn c (view_of w.now) (Caller k) → ⊥)
+call_out : {c : Config} (w : World) (k : ℕ) (x : Step) → Known c w.now → (HoldsTurn c (view_of w.now) (Caller k) → ⊥)
     → k < c.callers → group_of x ≡ Group.Callers → Meets c w.now (Caller k) x → Outs c w (Caller k) x
-call_out c w k x known out lt g h = grind (arith, call_out_facts, enter_out, in_call, reg_in_call)
+call_out w k x known out lt g h = grind (arith, call_out_facts, enter_out, in_call, reg_in_call)
 
 -- markers, whoever holds the turn
 
-in_counts : (c : Config) (m : Moment) (k : ℕ) → Known c m → k < 8 → is_in (marker_of m k) ≡ true → 8 ≤ m.words.phase
-in_counts c m k h lt is = grind (arith, count_in-at)
+in_counts : {c : Config} {m : Moment} (k : ℕ) → Known c m → k < 8 → is_in (marker_of m k) ≡ true → 8 ≤ m.words.phase
+in_counts k h lt is = grind (arith, count_in-at)
 
-marker_out : (c : Config) (w : World) (k : ℕ) (x : Step) → Known c w.now → k < 8 → group_of x ≡ Group.Markers
+marker_out : {c : Config} (w : World) (k : ℕ) (x : Step) → Known c w.now → k < 8 → group_of x ≡ Group.Markers
     → Meets c w.now (Marker k) x → Outs c w (Marker k) x
-marker_out c w k Step.Attend known lt g h = Marks _ lt (ComesIn (attends_at w.now.words.phase))
-marker_out c w k Step.Quit known lt g h = Marks outside lt (GoesOut refl (in_counts c w.now k known lt h.marker))
-marker_out c w k (Step.Mlook y) known lt g h = grind (arith, look_stays, finds, Marks, MarkerLoads)
-marker_out c w k (Step.Claim p i) known lt g h = Marks _ lt (MarkerLoads refl)
-marker_out c w k Step.Mload known lt g h = Marks _ lt (MarkerLoads refl)
-marker_out c w k Step.Mmark known lt g h = grind (arith, work_attends, Marks, AddsMarks)
-marker_out c w k Step.Mblack known lt g h = grind (arith, work_attends, Marks, AddsBlacks)
-marker_out c w k _ known lt g h = cc
+marker_out w k Step.Attend known lt g h = Marks _ lt (ComesIn (attends_at w.now.words.phase))
+marker_out {c} w k Step.Quit known lt g h = Marks outside lt (GoesOut refl (in_counts k known lt h.marker))
+marker_out w k (Step.Mlook y) known lt g h = grind (arith, look_stays, finds, Marks, MarkerLoads)
+marker_out w k (Step.Claim p i) known lt g h = Marks _ lt (MarkerLoads refl)
+marker_out w k Step.Mload known lt g h = Marks _ lt (MarkerLoads refl)
+marker_out w k Step.Mmark known lt g h = grind (arith, work_attends, Marks, AddsMarks)
+marker_out w k Step.Mblack known lt g h = grind (arith, work_attends, Marks, AddsBlacks)
+marker_out w k _ known lt g h = cc
 
 -- any seat that doesn't hold the turn, and takes none that is free
-moves_out : (c : Config) (w : World) (seat : Seat) (x : Step) → Known c w.now
+moves_out : {c : Config} (w : World) (seat : Seat) (x : Step) → Known c w.now
     → (is_take x ≡ true → w.now.words.turn ≢ 0)
     → (HoldsTurn c (view_of w.now) seat → ⊥) → Meets c w.now seat x → OthersMove c w seat (WorldBehind c w seat x)
-moves_out c w seat x known held out h = by seat x (actor_of c w.now seat x known.orderly h) held out h
+moves_out {c} w seat x known held out h = by seat x (actor_of c w.now seat x known.orderly h) held out h
   where
     by : (seat : Seat) (x : Step) → Actor c w.now seat x → (is_take x ≡ true → w.now.words.turn ≢ 0)
         → (HoldsTurn c (view_of w.now) seat → ⊥) → Meets c w.now seat x → Outs c w seat x
-    by seat x (InCallOf k _ lt g) held out h = call_out c w k x known out lt g h
-    by seat x (AsMarker k _ lt g) held out h = marker_out c w k x known lt g h
+    by seat x (InCallOf k _ lt g) held out h = call_out w k x known out lt g h
+    by seat x (AsMarker k _ lt g) held out h = marker_out w k x known lt g h
     by seat x (CallTakes k o lt idle is) held out h = take_out c w k o (held refl)
     by seat x (HostTakes free) held out h = host_take_out c w (held refl)
     by seat x (AsHolder _ _ t n) held out h = absurd (out t)
 
 pub others_move : (c : Config) (w : World) (seat : Seat) (x : Step) → Known c w.now → w.now.words.turn ≢ 0
     → (HoldsTurn c (view_of w.now) seat → ⊥) → Meets c w.now seat x → OthersMove c w seat (WorldBehind c w seat x)
-others_move c w seat x known held = moves_out c w seat x known (λ _. held)
+others_move c w seat x known held = moves_out w seat x known (λ _. held)
 
 -- While nobody holds the turn: any step but a take.
 pub free_move : (c : Config) (w : World) (seat : Seat) (x : Step) → Known c w.now → w.now.words.turn ≡ 0
     → is_take x ≡ false → Meets c w.now seat x → OthersMove c w seat (WorldBehind c w seat x)
-free_move c w seat x known free takes = moves_out c w seat x known (λ is. absurd (true≢false (sym is ∙ takes)))
+free_move c w seat x known free takes = moves_out w seat x known (λ is. absurd (true≢false (sym is ∙ takes)))
     (λ t. absurd (omega (arith, free, turn_of c (view_of w.now) seat known.orderly t)))

@@ -110,14 +110,14 @@ module _ (es : List Event) (e : Event) (phase now : ℕ) where
   at : (next to : OwnCycle) → next ≡ to → HasCycle (es ++ e ∷ []) to now → HasCycle (es ++ e ∷ []) next now
   at next to is has = subst (λ (x : OwnCycle). HasCycle (es ++ e ∷ []) x now) (sym is) has
 
-  pub cycle_more : (cycle next : OwnCycle) → CycleStep e.step cycle phase next now → HasCycle es cycle phase
+  pub cycle_more : {cycle next : OwnCycle} → CycleStep e.step cycle phase next now → HasCycle es cycle phase
       → HasCycle (es ++ e ∷ []) next now
-  cycle_more cycle next (Drops to) has = at next NotBegun to tt
-  cycle_more cycle next (Stays off to same) has = at next cycle to (kept cycle (on_way off same) has)
-  cycle_more cycle next (Begins is to one) has =
+  cycle_more {next} (Drops to) has = at next NotBegun to tt
+  cycle_more {cycle} {next} (Stays off to same) has = at next cycle to (kept cycle (on_way off same) has)
+  cycle_more {next} (Begins is to one) has =
       at next Begun to (Marks (inl one) (record { before = es; event = e; behind = []; is = refl; of_kind = is }) refl)
-  cycle_more cycle next (Wants off one to two) has = at next cycle to (kept cycle (wants off one two) has)
-  cycle_more cycle next (Closes is two to three) has = at next cycle to (kept cycle (closes is two three) has)
-  cycle_more cycle next (Frees is three to four) has = at next cycle to (kept cycle (frees is three four) has)
-  cycle_more cycle next (Ends is four to) has = at next _ to (ended cycle (ends is four) has)
-  cycle_more cycle next (Overs zero to) has = grind (arith, kept)
+  cycle_more {cycle} {next} (Wants off one to two) has = at next cycle to (kept cycle (wants off one two) has)
+  cycle_more {cycle} {next} (Closes is two to three) has = at next cycle to (kept cycle (closes is two three) has)
+  cycle_more {cycle} {next} (Frees is three to four) has = at next cycle to (kept cycle (frees is three four) has)
+  cycle_more {cycle} {next} (Ends is four to) has = at next _ to (ended cycle (ends is four) has)
+  cycle_more (Overs zero to) has = grind (arith, kept)

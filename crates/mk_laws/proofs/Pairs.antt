@@ -45,9 +45,10 @@ image_more n bs more (Ptr a t o) e s = ap (λ x. address_of (x + o))
 image_more n bs more _ e s = refl
 
 -- what is carried, where the values are others with the same images
-pub carries_same : (bs cs : List ℕ) (f : Flight) (a b d a2 b2 d2 : Value) → image_of cs a2 ≡ image_of bs a
+pub carries_same : {bs : List ℕ} (cs : List ℕ) {f : Flight} {a b d : Value} (a2 b2 d2 : Value)
+    → image_of cs a2 ≡ image_of bs a
     → image_of cs b2 ≡ image_of bs b → image_of cs d2 ≡ image_of bs d → Carries bs f a b d → Carries cs f a2 b2 d2
-carries_same bs cs f a b d a2 b2 d2 ea eb ed h = grind arith
+carries_same cs a2 b2 d2 ea eb ed h = grind arith
 
 -- an access that is met, where lengths and what is unmapped are the same
 pub met_same : (n m : NeverState) (v : Value) (i : ℕ) → ((a : ℕ) → length (words_of m a) ≡ length (words_of n a))

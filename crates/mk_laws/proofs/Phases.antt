@@ -1,7 +1,7 @@
 -- The phase that a condition names, and the phase after a step.
 use Rattle.mk_laws.proofs.Vocabulary.{Bool, Config, Moment, Seat, Step, ℕ, and_parts, arith, eqb-true, false, or_cases}
-use Rattle.mk_laws.proofs.{Vocabulary.{phase_of, true, ◌==◌, ◌||◌, ◌≡◌, ◌⊎◌}, Actors.Meets}
-use Rattle.mk_laws.proofs.{Changes.{reg_table, tally_table}, SameWords.Behind}
+use Rattle.mk_laws.proofs.Vocabulary.{phase_of, true, ◌==◌, ◌||◌, ◌≡◌, ◌⊎◌}
+use Rattle.mk_laws.proofs.{Actors.Meets, Changes.reg_table, Changes.tally_table, SameWords.Behind}
 
 pub either_phase : (n a b : ℕ) → ((n == a) || (n == b)) ≡ true → (n ≡ a) ⊎ (n ≡ b)
 either_phase n a b h = grind (arith, or_cases, eqb-true)

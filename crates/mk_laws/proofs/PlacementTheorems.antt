@@ -5,20 +5,19 @@ use Rattle.mk_laws.proofs.Vocabulary.{Option, OwnCycle, Page, Place, Placing, Se
 use Rattle.mk_laws.proofs.Vocabulary.{ℕ, ap, arith, eqb-true, false, flight_of, granted_base, is_none, is_phase}
 use Rattle.mk_laws.proofs.Vocabulary.{is_undecided_new, is_used_once, left, may_answer_full, ne_eqb, phase_of}
 use Rattle.mk_laws.proofs.Vocabulary.{place_on_pages, refl, subst, sym, true, ◌++◌, ◌<◌, ◌∙◌, ◌∷◌, ◌≡◌}
-use Rattle.mk_laws.proofs.{Basics.{Meets, before_it, grants_new, held_place, new_holds}, Actors.fills_new}
-use Rattle.mk_laws.proofs.{InvariantTheorems.first_fit_finds_the_place, OwnCycles.HasCycle}
-use Rattle.mk_laws.proofs.{Tracked.{HasPlace, news_are_tracked, unplaced_settles}, Undecided.HasNew}
-use Rattle.mk_core.specs.Placement.{FindsNoPlace, FullsFitNowhere, GrantsStandAtTheirPlaces, StandsAtItsPlace}
-use Rattle.mk_core.specs.{Placement.object_at, declared.seats.OwnCycle.TheVariants.Ended}
+use Rattle.mk_core.specs.{Placement.FindsNoPlace, Placement.FullsFitNowhere, Placement.GrantsStandAtTheirPlaces}
+use Rattle.mk_core.specs.{Placement.StandsAtItsPlace, Placement.object_at, declared.seats.OwnCycle.TheVariants.Ended}
+use Rattle.mk_laws.proofs.Basics.{Meets, before_it, grants_new, held_place, new_holds}
+use Rattle.mk_laws.proofs.{Actors.fills_new, InvariantTheorems.first_fit_finds_the_place, OwnCycles.HasCycle}
+use Rattle.mk_laws.proofs.{Tracked.HasPlace, Tracked.news_are_tracked, Tracked.unplaced_settles, Undecided.HasNew}
 
 -- What holds where a caller with an undecided New makes a step of this kind holds where any seat makes it.
-at_each : (c : Config) (x : Step) (claim : List Event → Seat → Type 0)
-    → ((m : Moment) (seat : Seat) → Meets c m seat x → is_undecided_new (flight_of m seat) ≡ true)
-    → ((es : List Event) (k : ℕ) → IsHistory c es → k < c.callers → HasNew (left c es) k
-    → Meets c (left c es).now (Caller k) x → claim es (Caller k))
-    → (es before : List Event) (e : Event) (behind : List Event) → IsHistory c es → es ≡ before ++ e ∷ behind
-    → e.step ≡ x → claim before e.seat
-at_each c x claim news there es before e behind h is kind =
+at_each : {c : Config} (x : Step) (claim : List Event → Seat → Type 0) → ((m : Moment) (seat : Seat) → Meets c m seat x
+    → is_undecided_new (flight_of m seat) ≡ true) → ((es : List Event) (k : ℕ) → IsHistory c es → k < c.callers
+    → HasNew (left c es) k → Meets c (left c es).now (Caller k) x → claim es (Caller k))
+    → {es : List Event} (before : List Event) (e : Event) (behind : List Event) → IsHistory c es
+    → es ≡ before ++ e ∷ behind → e.step ≡ x → claim before e.seat
+at_each {c} x claim news there {es = es} before e behind h is kind =
     let here = before_it c es before e behind h is in
     grind (arith, new_holds)
 
@@ -48,7 +47,7 @@ granted_there c es k h lt new meets = by (left c es).now.seats.holding.placing r
 
 pub grants_stand_at_their_places : OfHistories GrantsStandAtTheirPlaces
 grants_stand_at_their_places c es h before e behind is =
-    at_each c Step.Grant (StandsAtItsPlace c) (grants_new c) (granted_there c) es before e behind h is
+    at_each Step.Grant (StandsAtItsPlace c) (grants_new c) (granted_there c) before e behind h is
 
 -- `full`
 
@@ -78,4 +77,4 @@ full_there c es k h lt new meets =
 
 pub fulls_fit_nowhere : OfHistories FullsFitNowhere
 fulls_fit_nowhere c es h before e behind is =
-    at_each c Step.Full (FindsNoPlace c) (fills_new c) (full_there c) es before e behind h is
+    at_each Step.Full (FindsNoPlace c) (fills_new c) (full_there c) before e behind h is

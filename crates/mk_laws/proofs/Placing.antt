@@ -56,10 +56,10 @@ apart_joined (z ∷ zs) ys ax ay across = (
 abbrev pub ChosenAt : LayoutScene → ℕ → Object → LayoutScene
 ChosenAt s first o = record s { plot = Plotted first o }
 
-pub layout_chosen : (s : LayoutScene) (first : ℕ) (o : Object) → IsLaidOn s → s.plot ≡ NoPlot → IsSized o
+pub layout_chosen : {s : LayoutScene} (first : ℕ) (o : Object) → IsLaidOn s → s.plot ≡ NoPlot → IsSized o
     → first + pages_made o ≤ length s.pages
     → ((d : ℕ) → d < pages_made o → header_on s.pages (first + d) ≡ 0) → IsLaidOn (ChosenAt s first o)
-layout_chosen s first o laid none sized within free = grind (arith, free_unused)
+layout_chosen first o laid none sized within free = grind (arith, free_unused)
 
 -- `head` (a) and (b): the first page that hasn't its header gets it
 abbrev pub Carved : LayoutScene → ℕ → Object → ℕ → LayoutScene
@@ -70,13 +70,13 @@ pub record Carves (s : LayoutScene) (first : ℕ) (o : Object) (d : ℕ) : Type 
   pub not_yet : header_on s.pages (first + d) ≢ header_made o d
   pub before : (e : ℕ) → e < d → header_on s.pages (first + e) ≡ header_made o e
 
-pub layout_carved : (s : LayoutScene) (first : ℕ) (o : Object) (d : ℕ) → IsLaidOn s → s.plot ≡ Plotted first o
+pub layout_carved : {s : LayoutScene} (first : ℕ) (o : Object) (d : ℕ) → IsLaidOn s → s.plot ≡ Plotted first o
     → s.releasing ≡ false → Carves s first o d → IsLaidOn (Carved s first o d)
-layout_carved s first o d laid plotted off next =
+layout_carved {s} first o d laid plotted off next =
     let p : ℕ = first + d in
     let n : ℕ = header_made o d in
     record {
-      shown = λ x among. shown_beside s.pages p n x lt (laid.shown x among)
+      shown = λ x among. shown_beside p n lt (laid.shown x among)
           (λ e le at. claimed_some s.pages x e (laid.shown x among) le (ap (header_on s.pages) at ∙ was));
       apart = laid.apart;
       used = λ q k h. let t = laid.used q k (old q k h) in (
@@ -94,9 +94,8 @@ layout_carved s first o d laid plotted off next =
       };
       occupied = λ q some empty. elim (cases_eq q p) [
         | inl e ↦ let w = next.within in inr (omega arith, omega arith)
-        | inr ne ↦ elim (laid.occupied q (λ z. some (headed_other s.pages p n q ne ∙ z))
-            (rw (← (head_of_other s.pages p n q ne))
-            (sym (headed_used s.pages p n (head_on (with_header_on s.pages p n) q) lt) ∙ empty))) [
+        | inr ne ↦ elim (laid.occupied q (λ z. some (headed_other s.pages p n q ne ∙ z)) (rw (← (head_of_other s.pages
+            p n q ne)) (sym (headed_used s.pages p n (head_on (with_header_on s.pages p n) q) lt) ∙ empty))) [
               | inl on ↦ inl on
               | inr here ↦ inr (rw plotted at here)
             ]
@@ -114,9 +113,7 @@ layout_carved s first o d laid plotted off next =
             rw back (headed_other s.pages (first + d) (header_made o d) first (λ x. omega arith)
             ∙ rw (← zero) (next.before 0 (omega arith))) in (
               omega arith,
-              inl (rw head
-                  (let count = part_count o (header_of (header_made o 0)) (made_shows o 0 plot.sized (omega arith)) at.2
-                  in omega arith)),
+              inl (rw head (let count = part_count (made_shows o 0 plot.sized (omega arith)) at.2 in omega arith)),
             )
         | inr ne ↦
             let l = laid.later q e m (rw (← (headed_other s.pages p n q ne)) is) in (
@@ -182,8 +179,8 @@ module _ (s : LayoutScene) (x : Claim) (n : ℕ) (laid : IsLaidOn s) (t : Takes 
   grow : (q k : ℕ) → has_bit (used_on s.pages q) k ≡ true → has_bit (used_on after q) k ≡ true
   grow q k h = same_bit q k (λ e ek. true≢false (sym h ∙ rw e (rw ek t.unset))) ∙ h
 
-  grown : (y : Claim) → IsShown s.pages y → IsShown after y
-  grown y was = grind (arith, len, used_header, lt, grow)
+  grown : {y : Claim} → IsShown s.pages y → IsShown after y
+  grown was = grind (arith, len, used_header, lt, grow)
 
   own : IsShown after x
   own = grind (arith, len, used_header, lt, here_set)
@@ -229,15 +226,14 @@ module _ (s : LayoutScene) (x : Claim) (n : ℕ) (laid : IsLaidOn s) (t : Takes 
   pub layout_taken : IsLaidOn (Taken s x n)
   layout_taken = record {
     shown = λ y among. elim (among_parts s.claims (x ∷ []) y among) [
-      | inl was ↦ grown y (laid.shown y was)
+      | inl was ↦ grown (laid.shown y was)
       | inr (inl e) ↦ rw e own
       | inr (inr out) ↦ absurd out
     ];
     apart = apart_joined s.claims (x ∷ []) laid.apart (λ y i. absurd i, tt) new;
     used = used;
     plot = tt;
-    occupied = λ q some empty. elim
-        (laid.occupied q (λ z. some (used_header s.pages x.page n q lt ∙ z)) (
+    occupied = λ q some empty. elim (laid.occupied q (λ z. some (used_header s.pages x.page n q lt ∙ z)) (
         let head : head_on after q ≡ head_on s.pages q = rw (used_header s.pages x.page n q lt) in
         zero_where_none _ (λ k h. none_set _ k (rw (← head) empty) (grow _ k h)))) [
           | inl on ↦ inl on

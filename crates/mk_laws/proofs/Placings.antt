@@ -112,36 +112,36 @@ abbrev flight_behind : Config → World → ℕ → Step → Flight
 flight_behind c w k x =
     (progress c w.now (flight_of w.now (Caller k)) (found c w.now (record { seat = Caller k; step = x })) x).flight
 
-own_places : (c : Config) (w : World) (k : ℕ) (x : Step) → Known c w.now → Meets c w.now (Caller k) x → HasNew w k
+own_places : {c : Config} (w : World) (k : ℕ) (x : Step) → Known c w.now → Meets c w.now (Caller k) x → HasNew w k
     → is_undecided_new (flight_behind c w k x) ≡ true
     → Placed c w.now (flight_of w.now (Caller k)) x (WorldBehind c w (Caller k) x).now.seats.holding.placing
-own_places c w k (Step.Take (Some o)) known h new stays = grind (arith, at_take, undecided_new)
-own_places c w k (Step.Take None) known h new stays =
+own_places w k (Step.Take (Some o)) known h new stays = grind (arith, at_take, undecided_new)
+own_places w k (Step.Take None) known h new stays =
     absurd (at_no_take (flight_of w.now (Caller k)).stage (flight_of w.now (Caller k)).op h.order)
-own_places c w k Step.Give known h new stays = cc
-own_places c w k Step.Grant known h new stays = absurd (give_no_new (flight_of w.now (Caller k)).op stays)
-own_places c w k (Step.Head p n) known h new stays =
+own_places w k Step.Give known h new stays = cc
+own_places w k Step.Grant known h new stays = absurd (give_no_new (flight_of w.now (Caller k)).op stays)
+own_places {c} w k (Step.Head p n) known h new stays =
     let f : Flight = flight_of w.now (Caller k) in
     let holds = new_has_turn c w.now (Caller k) h.seat new in
     let none = none_on_its_way c w.now (Caller k) known holds (undecided_new f new).stage in
     head_places c w.now f p n (is_phase w.now.words 4) _ refl none h.holder
-own_places c w k (Step.Used p n) known h new stays =
+own_places {c} w k (Step.Used p n) known h new stays =
     used_places c w.now (flight_of w.now (Caller k)) p n (is_phase w.now.words 4) _ refl h.holder
-own_places c w k (Step.Mark p n) known h new stays =
+own_places {c} w k (Step.Mark p n) known h new stays =
     let f : Flight = flight_of w.now (Caller k) in
     mark_places c w.now f p n (marks_at c w.now f p n (place_now c w.now f)) refl
-own_places c w k _ known h new stays = Stays refl refl
+own_places w k _ known h new stays = Stays refl refl
 
 -- And each event, whatever the seat, while a caller has an undecided New.
 abbrev pub PlacesAt : Config → World → Seat → Step → ℕ → Type 0
 PlacesAt c w seat x k = PlacingStep c w.now (new_object c w k) (serves c w.now (flight_of w.now seat) x)
     (held_place w.now.seats.holding.placing) (held_place (WorldBehind c w seat x).now.seats.holding.placing)
 
-others_places : (c : Config) (w : World) (seat : Seat) (x : Step) (k : ℕ) → Known c w.now → Meets c w.now seat x
+others_places : {c : Config} (w : World) (seat : Seat) (x : Step) (k : ℕ) → Known c w.now → Meets c w.now seat x
     → HoldsTurn c (view_of w.now) (Caller k) → (seat ≡ Caller k → ⊥) → PlacesAt c w seat x k
-others_places c w seat x k known h holds other =
+others_places {c} w seat x k known h holds other =
     Stays (none_to_serve c w.now (flight_of w.now seat) x none) (ap (λ (y : Holding). held_place y.placing)
-    (holding_out c w seat (WorldBehind c w seat x) (others_move c w seat x known held out h)))
+    (holding_out (others_move c w seat x known held out h)))
   where
     out : HoldsTurn c (view_of w.now) seat → ⊥
     out t = other (same_holder c (view_of w.now) seat (Caller k) known.orderly t holds)
@@ -153,9 +153,9 @@ others_places c w seat x k known h holds other =
     none =
         false_from_ne_true (is_undecided_new (flight_of w.now seat)) (λ new. out (new_has_turn c w.now seat h.seat new))
 
-pub places_at : (c : Config) (w : World) (seat : Seat) (x : Step) (k : ℕ) → Known c w.now → Meets c w.now seat x
+pub places_at : {c : Config} (w : World) (seat : Seat) (x : Step) (k : ℕ) → Known c w.now → Meets c w.now seat x
     → k < c.callers → HasNew w k → HasNew (WorldBehind c w seat x) k → PlacesAt c w seat x k
-places_at c w seat x k known h lt was new = by seat h new
+places_at {c} w seat x k known h lt was new = by seat h new
   where
     holds : HoldsTurn c (view_of w.now) (Caller k)
     holds = new_holds_turn c w k lt was
@@ -163,14 +163,13 @@ places_at c w seat x k known h lt was new = by seat h new
     own : Meets c w.now (Caller k) x → HasNew (WorldBehind c w (Caller k) x) k → PlacesAt c w (Caller k) x k
     own h new =
         let set = get_or-set_same w.now.seats.flights k _ at_rest (omega (arith, known.orderly.flights)) in
-        own_places c w k x known h was (ap is_undecided_new (sym set) ∙ new)
+        own_places w k x known h was (ap is_undecided_new (sym set) ∙ new)
 
     by : (seat : Seat) → Meets c w.now seat x → HasNew (WorldBehind c w seat x) k → PlacesAt c w seat x k
-    by (Marker j) h new = others_places c w (Marker j) x k known h holds (λ e. cc)
-    by Host h new = others_places c w Host x k known h holds (λ e. cc)
+    by (Marker j) h new = others_places w (Marker j) x k known h holds (λ e. cc)
+    by Host h new = others_places w Host x k known h holds (λ e. cc)
     by (Caller j) h new = elim (cases_eq k j) [
-      | inl same ↦ subst
-          (λ i. Meets c w.now (Caller i) x → HasNew (WorldBehind c w (Caller i) x) k → PlacesAt c w (Caller i) x k)
-          same own h new
-      | inr ne ↦ others_places c w (Caller j) x k known h holds (λ (e : Caller j ≡ Caller k). ne cc)
+      | inl same ↦ subst (λ i. Meets c w.now (Caller i) x → HasNew (WorldBehind c w (Caller i) x) k → PlacesAt c w
+          (Caller i) x k) same own h new
+      | inr ne ↦ others_places w (Caller j) x k known h holds (λ (e : Caller j ≡ Caller k). ne cc)
     ]

@@ -3,7 +3,7 @@ use Rattle.mk_laws.proofs.Vocabulary.{Page, PlacedAllocation, PointsInto, Scan, 
 use Rattle.mk_laws.proofs.Vocabulary.{arith, bases_of, cell_of_allocation, cells_under, false, flight_of}
 use Rattle.mk_laws.proofs.Vocabulary.{has_no_pointers, header_of, image_of, is_leaf_header, is_marked, is_unmarked}
 use Rattle.mk_laws.proofs.Vocabulary.{marker_of, placed_at, shows_on, slice_index, slice_index_or, storage_of}
-use Rattle.mk_laws.proofs.{Vocabulary.{storage_words, true, ◌/◌, ◌<◌, ◌≡◌, ◌≢◌}, Worlds.Told}
+use Rattle.mk_laws.{proofs.Vocabulary.{storage_words, true, ◌/◌, ◌<◌, ◌≡◌, ◌≢◌}, proofs.Worlds.{Told}}
 use Rattle.mk_laws.proofs.{AllocationSteps.{AreOfOne, allocation_step, came}, Basics.{Came, Meets, WorldBehind}}
 use Rattle.mk_core.specs.{Cycles.sweeps, Touched.IsWordOfAllocation}
 use Rattle.mk_laws.proofs.Vocabulary.{Config, Hand, IsMarking, IsWordOf, List, MarkerState as Marker, NeverState, Null}
@@ -61,23 +61,22 @@ pub record Steps (c : Config) (w : World) (n : NeverState) (seat : Seat) (x : St
   pub there : IsClosedIn c (WorldBehind c w seat x) after T
 
 -- An allocation keeps its words.
-pub same_words : (c : Config) (a b : PlacedAllocation) → AreOfOne a b → storage_words c b ≡ storage_words c a
-same_words c a b e = rw e.ty
+pub same_words : (c : Config) {a b : PlacedAllocation} → AreOfOne a b → storage_words c b ≡ storage_words c a
+same_words c e = rw e.ty
 
-pub same_leaf : (c : Config) (a b : PlacedAllocation) → AreOfOne a b → (storage_of c b).leaf ≡ (storage_of c a).leaf
-same_leaf c a b e = rw e.ty
+pub same_leaf : (c : Config) {a b : PlacedAllocation} → AreOfOne a b → (storage_of c b).leaf ≡ (storage_of c a).leaf
+same_leaf c e = rw e.ty
 
-pub same_word : (c : Config) (a b : PlacedAllocation) (x : ℕ) → AreOfOne a b → IsWordOf (storage_of c b) x
+pub same_word : (c : Config) {a b : PlacedAllocation} (x : ℕ) → AreOfOne a b → IsWordOf (storage_of c b) x
     → IsWordOf (storage_of c a) x
-same_word c a b x e word = grind (arith, same_words)
+same_word c x e word = grind (arith, same_words)
 
-pub points_before : (c : Config) (a b : PlacedAllocation) (v : ℕ) → AreOfOne a b → PointsInto v (storage_of c b)
+pub points_before : (c : Config) {a b : PlacedAllocation} (v : ℕ) → AreOfOne a b → PointsInto v (storage_of c b)
     → PointsInto v (storage_of c a)
-points_before c a b v e into = (into.0, same_word c a b _ e into.1)
+points_before c {a = a} {b = b} v e into = (into.0, same_word c _ e into.1)
 
 -- An unreleased allocation after a step came with it, or was there before.
 pub came_behind : (c : Config) (w : World) (seat : Seat) (x : Step) (i : ℕ)
     → (placed_at (WorldBehind c w seat x).allocations i).released ≡ false
     → Came w.allocations (WorldBehind c w seat x).allocations x i
-came_behind c w seat x i u = came w.allocations (WorldBehind c w seat x).allocations x i
-    (allocation_step c w.now (flight_of w.now seat) x w.allocations) u
+came_behind c w seat x i u = came i (allocation_step c w.now (flight_of w.now seat) x w.allocations) u

@@ -66,8 +66,8 @@ record Released (c : Config) {es : List Event} (k : Cycle es) : Type 0 where
       (left c (through_release k.releasing)).allocations
   end : AreOlder (left c (through_release k.releasing)).allocations (left c (through_end k)).allocations
 
-released : (c : Config) (es : List Event) (k : Cycle es) → IsHistory c es → AtRelease c k.releasing → Released c k
-released c es k h at =
+released : {c : Config} {es : List Event} (k : Cycle es) → IsHistory c es → AtRelease c k.releasing → Released c k
+released {c} {es} k h at =
     let front : List Event = before_release k.releasing in
     let e : Event = k.releasing.release.at.event in
     let w : World = left c front in
@@ -92,10 +92,10 @@ released c es k h at =
     }
 
 -- What is in the snapshot is unreleased up to the `release`.
-kept_to_release : (c : Config) (es : List Event) (k : Releasing es) (i : ℕ) → IsHistory c es → AtRelease c k
+kept_to_release : {c : Config} {es : List Event} (k : Releasing es) (i : ℕ) → IsHistory c es → AtRelease c k
     → (placed_at (left c (before_begin k.marking)).allocations i).released ≡ false
     → IsKept (left c (before_release k)) i
-kept_to_release c es k i h at u =
+kept_to_release {c} {es} k i h at u =
     let b = last_begin k in
     let e : Event = k.release.at.event in
     let whole = earlier_part_is_history c _ (e ∷ []) (history_through c es _ k.release.at.behind e h (at_release k)) in
@@ -110,7 +110,7 @@ frees_the_untouched c es h k unswept i quarantined untouched =
     r = k.releasing
 
     at : AtRelease c r
-    at = at_the_release c es r h unswept
+    at = at_the_release r h unswept
 
     xs : List PlacedAllocation
     xs = (left c (before_release r)).allocations
@@ -129,23 +129,23 @@ frees_the_untouched c es h k unswept i quarantined untouched =
         (history_through c es (before_release r) r.release.at.behind r.release.at.event h (at_release r))
 
     done : Released c k
-    done = released c es k h at
+    done = released k h at
 
     older : AreOlder xs zs
-    older = older_joined xs ys zs done.release done.end
+    older = older_joined done.release done.end
 
     kept : IsKept (left c (before_release r)) i
     kept =
         let a : PlacedAllocation = placed_at (left c (before_begin r.marking)).allocations i in
-        kept_to_release c es r i h at (not-true a.released (and_parts a.freed (not a.released) quarantined).1)
+        kept_to_release r i h at (not-true a.released (and_parts a.freed (not a.released) quarantined).1)
 
     -- an allocation that was unreleased before the `release` has its storage still
     storage : (j : ℕ) → (placed_at xs j).released ≡ false → IsStorage c.pages (storage_of c (placed_at xs j))
-    storage j u = standing_has_storage c _ h.within_limits (stands c _ _ (told c _ before) j u)
+    storage j u = standing_has_storage c _ h.within_limits (stands c _ _ (told before) j u)
 
     size : (j : ℕ) → (placed_at xs j).released ≡ false → 1 ≤ storage_words c (placed_at zs j)
     size j u =
-        let words = same_words c (placed_at xs j) (placed_at zs j) (older.same j (is_there xs j u)) in
+        let words = same_words c (older.same j (is_there xs j u)) in
         let some = has_words c.pages (storage_of c (placed_at xs j)) (storage j u) in
         omega arith
 
@@ -155,7 +155,7 @@ frees_the_untouched c es h k unswept i quarantined untouched =
     run : is_small (storage_of c (placed_at zs i)) ≡ false → IsRun (storage_of c (placed_at zs i))
     run large =
         let same = older.same i kept.there in
-        let words = same_words c (placed_at xs i) (placed_at zs i) same in
+        let words = same_words c same in
         let z = large_is_run c.pages (storage_of c (placed_at xs i)) (storage i kept.unreleased)
         (ap (λ n. is_small (record (storage_of c (placed_at xs i)) { words = n })) (sym words) ∙ large) in
         record {
@@ -176,8 +176,8 @@ frees_the_untouched c es h k unswept i quarantined untouched =
         let o = storage_is_of c zs t inside in
         let j : ℕ = o.number in
         let u = older.was j o.unreleased in
-        let mine = same_word c (placed_at xs i) (placed_at zs i) n (older.same i kept.there) own in
-        let other = same_word c (placed_at xs j) (placed_at zs j) n (older.same j (is_there xs j u))
+        let mine = same_word c n (older.same i kept.there) own in
+        let other = same_word c n (older.same j (is_there xs j u))
         (subst (λ (y : Storage). IsWordOf y n) o.storage its) in
         let same = allocations_are_disjoint c (before_release r) before i j n kept.unreleased u mine other in
         grind (arith, releases_the_untouched, ys, released, done)

@@ -29,10 +29,9 @@ not_granted : (x : Step) → is_grant x ≡ false → x ≡ Step.Grant → ⊥
 not_granted x out is = true≢false (sym (ap is_grant is) ∙ out)
 
 -- one event that isn't the `release`
-stop_behind : (c : Config) (w : World) (seat : Seat) (x : Step) (T : ℕ → Type 0) → Known c w.now
-    → phase_of w.now.words ≡ 3 → Meets c w.now seat x
-    → is_release x ≡ false → IsMarkedOnly c w T → IsMarkedOnly c (WorldBehind c w seat x) T
-stop_behind c w seat x T known three h other marked b u is =
+stop_behind : {c : Config} (w : World) (seat : Seat) (x : Step) (T : ℕ → Type 0) → Known c w.now → phase_of w.now.words
+    ≡ 3 → Meets c w.now seat x → is_release x ≡ false → IsMarkedOnly c w T → IsMarkedOnly c (WorldBehind c w seat x) T
+stop_behind w seat x T known three h other marked b u is =
     grind (arith, came_behind, not_granted, stopped_waits, leaves_closed, same_cell)
 
 stop_goes_on : (c : Config) (T : ℕ → Type 0) (es : List Event) (e : Event) → IsHistory c (es ++ e ∷ [])
@@ -40,16 +39,16 @@ stop_goes_on : (c : Config) (T : ℕ → Type 0) (es : List Event) (e : Event) �
 stop_goes_on c T es e h other at =
     let m = one_more c es e h in
     let w : World = left c es in
-    let known = (told c es m.history).known.now in
+    let known = (told m.history).known.now in
     record {
       phase = rw m.left (stopped_waits c w.now e.seat e.step at.phase m.meets other).phase;
-      marked = rw m.left (stop_behind c w e.seat e.step T known at.phase m.meets other at.marked);
+      marked = rw m.left (stop_behind w e.seat e.step T known at.phase m.meets other at.marked);
     }
 
 -- after the `close`
-stop_begins : (c : Config) (T : ℕ → Type 0) (front : List Event) (e : Event) → IsHistory c (front ++ e ∷ [])
+stop_begins : {c : Config} (T : ℕ → Type 0) (front : List Event) (e : Event) → IsHistory c (front ++ e ∷ [])
     → is_close e.step ≡ true → IsMarkedOnly c (left c front) T → AtStop c T (front ++ e ∷ [])
-stop_begins c T front e h kind marked =
+stop_begins {c} T front e h kind marked =
     let m = one_more c front e h in
     grind (arith, close_is, eqb-true)
 
@@ -60,20 +59,20 @@ pub record AtRelease (c : Config) {es : List Event} (k : Releasing es) : Type 0 
   pub begun : None_of is_begin (k.marking.close.at.before ++ k.marking.close.at.event ∷ k.release.at.before)
   pub released : None_of is_release (k.marking.close.at.before ++ k.marking.close.at.event ∷ k.release.at.before)
 
-pub at_the_release : (c : Config) (es : List Event) (k : Releasing es) → IsHistory c es → NoneSweeps c k.marking
+pub at_the_release : {c : Config} {es : List Event} (k : Releasing es) → IsHistory c es → NoneSweeps c k.marking
     → AtRelease c k
-at_the_release c es k h unswept =
+at_the_release {c} {es} k h unswept =
     let e : Event = k.marking.close.at.event in
     let front : List Event = before_close k.marking in
     let more : List Event = k.release.at.before in
     let T : ℕ → Type 0 = IsTouched c k.marking in
     let closing = history_through c es front k.marking.close.at.behind e h (at_close k.marking) in
-    let marked = marked_at_close c es k.marking (earlier_part_is_history c front (e ∷ []) closing) unswept in
+    let marked = marked_at_close k.marking (earlier_part_is_history c front (e ∷ []) closing) unswept in
     let same : (front ++ e ∷ []) ++ more ≡ before_release k = append_assoc front (e ∷ []) more in
     let releasing = history_through c es _ k.release.at.behind k.release.at.event h (at_release k) in
     let whole : IsHistory c ((front ++ e ∷ []) ++ more) =
     rw same (earlier_part_is_history c _ (k.release.at.event ∷ []) releasing) in
-    let first = stop_begins c T front e closing k.marking.close.at.of_kind marked.at.precise.marked in
+    let first = stop_begins T front e closing k.marking.close.at.of_kind marked.at.precise.marked in
     let at : AtStop c T ((front ++ e ∷ []) ++ more) =
     along_without c is_release (AtStop c T) (front ++ e ∷ []) more (stop_goes_on c T) whole k.release.none_before first
     in
@@ -84,9 +83,8 @@ at_the_release c es k h unswept =
     record {
       phase = rw same at at.phase;
       marked = rw same at at.marked;
-      begun = none_joined is_begin k.marking.close.at.before (e ∷ more) marked.begun
-          (or_from _ (list_any (λ (x : Event). is_begin x.step) more)
-          (ap is_begin (close_is e.step k.marking.close.at.of_kind)) begun);
+      begun = none_joined is_begin k.marking.close.at.before (e ∷ more) marked.begun (or_from _ (list_any
+          (λ (x : Event). is_begin x.step) more) (ap is_begin (close_is e.step k.marking.close.at.of_kind)) begun);
       released = none_joined is_release k.marking.close.at.before (e ∷ more) marked.released
           (or_from _ (list_any (λ (x : Event). is_release x.step) more)
           (ap is_release (close_is e.step k.marking.close.at.of_kind)) k.release.none_before);
@@ -123,13 +121,13 @@ keeps_only_the_touched c es h k unswept i quarantined unreleased =
     let a : PlacedAllocation = placed_at w.allocations i in
     let releasing = history_through c es (before_release k) k.release.at.behind e h (at_release k) in
     let m = one_more c (before_release k) e releasing in
-    let at = at_the_release c es k h unswept in
+    let at = at_the_release k h unswept in
     let left_is : left c (through_release k) ≡ WorldBehind c w e.seat Step.Release =
     m.left ∙ ap (λ (x : Step). WorldBehind c w e.seat x) (release_is e.step k.release.at.of_kind) in
     let now : (with_released c w.now.words a).released ≡ false =
     cc (changed_at (with_released c w.now.words) w.allocations i refl, left_is, unreleased) in
     let u : a.released ≡ false = (or_parts a.released _ now).0 in
-    let t = told c (before_release k) m.history in
+    let t = told m.history in
     let taken : has_bit_of c w.now.words.snapshot a ≡ true =
     snapshot_is_the_cycles c _ m.history (last_begin k) at.begun (ap is_cycling at.phase) i u ∙ quarantined in
     let kept = sym (released_where_left c w.now.words a h.within_limits (stands c w _ t i u) (headers c w _ t i u))

@@ -19,13 +19,13 @@ target_unmapped n a t o i is = by (is_unmapped (allocation_at n a)) is
     by true e = refl
     by false e = cc
 
-clash : (n m : NeverState) (v : Value) (i : ℕ) → Continues n m → IsSound n v → Meets n v i (λ kind. Unit {0})
+clash : {n m : NeverState} (v : Value) (i : ℕ) → Continues n m → IsSound n v → Meets n v i (λ kind. Unit {0})
     → target_of n v i ≡ Unmapped → IsMet m v i → ⊥
-clash n m (Ptr a t o) i on sound meets is met =
+clash {n} {m} (Ptr a t o) i on sound meets is met =
     true≢false (sym (let parts = and_parts _ (is_large (words_of n a)) (target_unmapped n a t o i is) in
     and_from _ (is_large (words_of m a)) (on.freed a parts.0) (rw (on.size a sound.0) parts.1))
     ∙ met (rw (on.size a sound.0) meets.0))
-clash n m _ i on sound meets is met = cc
+clash _ i on sound meets is met = cc
 
 module _ (c : Config) (w : World) (n : NeverState) (known : KnownWorld c w) (all : Invariant c w n) where
   others : ImagePremises c w
@@ -46,10 +46,9 @@ module _ (c : Config) (w : World) (n : NeverState) (known : KnownWorld c w) (all
   own_sound k r = all.mirrors.typed.registers (8 * k + r)
 
   -- What a `probe` finds unmapped is so to the heap that never reuses storage,
-  finds_unmapped : (k : ℕ) (o : Op) (q p r l : ℕ) → k < c.callers
-      → flight_of w.now (Caller k) ≡ flight Stage.Probe o q p r l → standing (flight_of w.now (Caller k)) ≡ InCall
-      → Meets n (register_at n k (q_of o)) (i_of o) (λ kind. Unit {0})
-      → is_unmapped_header (header_in w.now.words (page_met (flight Stage.Probe o q p r l))) ≡ true
+  finds_unmapped : (k : ℕ) (o : Op) (q p r l : ℕ) → k < c.callers → flight_of w.now (Caller k) ≡ flight Stage.Probe o q
+      p r l → standing (flight_of w.now (Caller k)) ≡ InCall → Meets n (register_at n k (q_of o)) (i_of o)
+      (λ kind. Unit {0}) → is_unmapped_header (header_in w.now.words (page_met (flight Stage.Probe o q p r l))) ≡ true
       → target_of n (register_at n k (q_of o)) (i_of o) ≡ Unmapped
   finds_unmapped k o q p r l lt is in_call meets u =
       let car : CarriesOwn (bases_of w.allocations) n k (flight Stage.Probe o q p r l) =
@@ -74,14 +73,14 @@ probe_meets : (n : NeverState) (k : ℕ) (o : Op) → is_astray (standing_at Sta
     → Meets n (register_at n k (q_of o)) (i_of o) (λ kind. Unit {0})
 probe_meets n k o a h = access_meets n k o (at_probe o a).access h
 
-pub probe_still : (c : Config) (w v : World) (n m : NeverState) (kw : KnownWorld c w) (kv : KnownWorld c v)
-    (aw : Invariant c w n) (av : Invariant c v m) (k : ℕ) → k < c.callers
+pub probe_still : {c : Config} {w v : World} {n m : NeverState} (kw : KnownWorld c w) (kv : KnownWorld c v)
+    (aw : Invariant c w n) (av : Invariant c v m) {k : ℕ} → k < c.callers
     → flight_of v.now (Caller k) ≡ flight_of w.now (Caller k) → (flight_of w.now (Caller k)).stage ≡ Stage.Probe
     → Continues n m → register_at m k (q_of (flight_of w.now (Caller k)).op)
     ≡ register_at n k (q_of (flight_of w.now (Caller k)).op) → IsAdmitted c.globals n k (flight_of w.now (Caller k)).op
     → is_unmapped_header (header_in w.now.words (page_met (flight_of w.now (Caller k)))) ≡ true
     → is_unmapped_header (header_in v.now.words (page_met (flight_of w.now (Caller k)))) ≡ true
-probe_still c w v n m kw kv aw av k lt same at on own admitted u =
+probe_still {c} {w} {v} {n} {m} kw kv aw av {k = k} lt same at on own admitted u =
     let lit : f ≡ flight Stage.Probe f.op f.q f.p f.r f.loaded = literal f Stage.Probe at in
     let in_call : standing f ≡ InCall = calls_stand f.stage f.op (ap is_call_stage at) astray in
     elim (cases_Bool (is_unmapped_header (header_in v.now.words (page_met f)))) [
@@ -89,7 +88,7 @@ probe_still c w v n m kw kv aw av k lt same at on own admitted u =
       | inr mapped ↦
           let met = finds_mapped c v m kv av k f.op f.q f.p f.r f.loaded lt (same ∙ lit)
           (ap standing same ∙ in_call) mapped in
-          absurd (clash n m _ (i_of f.op) on (aw.mirrors.typed.registers _) meets
+          absurd (clash _ (i_of f.op) on (aw.mirrors.typed.registers _) meets
           (finds_unmapped c w n kw aw k f.op f.q f.p f.r f.loaded lt lit in_call meets u) (rw own at met))
     ]
   where

@@ -36,10 +36,10 @@ pub register_step : (c : Config) (m : Moment) (seat : Seat) (x : Step) → HaveO
 register_step c m seat x ops h =
     grind (arith, reg_registers, operands_of, grants_new, tally_leaves_registers, SetsOwn, KeepsRegisters)
 
-pub others_registers : (w : Words) (seat : Seat) (rs : List ℕ) (k r : ℕ) → RegisterStep w seat rs → seat ≢ Caller k
+pub others_registers : {w : Words} {seat : Seat} {rs : List ℕ} (k r : ℕ) → RegisterStep w seat rs → seat ≢ Caller k
     → r < 8 → slice_index rs (8 * k + r) ≡ slice_index w.registers (8 * k + r)
-others_registers w seat rs k r KeepsRegisters ne lt = refl
-others_registers w seat rs k r (SetsOwn {k = j} s v ls) ne lt =
+others_registers k r KeepsRegisters ne lt = refl
+others_registers {w} k r (SetsOwn {k = j} s v ls) ne lt =
     get_or-set_other w.registers (8 * j + s) (8 * k + r) v 0 (λ e. ne (rw (let same : j ≡ k = omega arith in same)))
 
 -- the call of another caller, and another marker
@@ -55,9 +55,9 @@ others_marker c w (Marker j) (Marker k) x ne = get_or-set_other w.now.seats.mark
 others_marker c w _ _ x ne = cc
 
 -- A seat that holds the turn holds it still, after an event of another.
-others_out : (c : Config) (w : World) (seat s : Seat) (x : Step) → Known c w.now → Meets c w.now seat x → seat ≢ s
+others_out : {c : Config} (w : World) (seat s : Seat) (x : Step) → Known c w.now → Meets c w.now seat x → seat ≢ s
     → Holds c w.now s → OthersMove c w seat (WorldBehind c w seat x)
-others_out c w seat s x known h ne holds =
+others_out {c} w seat s x known h ne holds =
     let t = holds_turn c w.now s known.orderly holds in
     grind (arith, others_move, turn_of, view_of, same_holder)
 
@@ -76,89 +76,90 @@ pub record Left (c : Config) (s : Seat) (w v : World) : Type 0 where
       → OnlyGrow w.now.words.marks v.now.words.marks × OnlyGrow w.now.words.blacks v.now.words.blacks
 
 -- who is in a call
-pub in_call_stands : (c : Config) (m : Moment) (k : ℕ) → Known c m → is_in_call (flight_of m (Caller k)) ≡ true
+pub in_call_stands : {c : Config} {m : Moment} (k : ℕ) → Known c m → is_in_call (flight_of m (Caller k)) ≡ true
     → (k < c.callers) × (standing (flight_of m (Caller k)) ≡ InCall)
-in_call_stands c m k known is = elim (cases_lt k c.callers) [
+in_call_stands {c} k known is = elim (cases_lt k c.callers) [
   | inl lt ↦ grind (arith, in_call_is, standing, in_call_told, not_astray)
   | inr past ↦ grind (arith, get_or_past)
 ]
 
 -- and whose gate is 1
-in_call_gate : (c : Config) (m : Moment) (k : ℕ) → Known c m → is_in_call (flight_of m (Caller k)) ≡ true
+in_call_gate : {c : Config} {m : Moment} (k : ℕ) → Known c m → is_in_call (flight_of m (Caller k)) ≡ true
     → (k < c.callers) × (slice_index m.words.gates k ≡ 1)
-in_call_gate c m k known is = let s = in_call_stands c m k known is in (s.0, gate_one c m k known s.0 s.1)
+in_call_gate {c} {m} k known is = let s = in_call_stands k known is in (s.0, gate_one k known s.0 s.1)
 
-mapped_after : (c : Config) (w : World) (seat s : Seat) (x : Step) → Known c w.now → Meets c w.now seat x → seat ≢ s
+mapped_after : {c : Config} (w : World) (seat s : Seat) (x : Step) → Known c w.now → Meets c w.now seat x → seat ≢ s
     → IsInCall w.now s → (p : ℕ) → is_unmapped_header (header_in w.now.words p) ≡ false
     → is_unmapped_header (header_in (WorldBehind c w seat x).now.words p) ≡ false
-mapped_after c w seat (Caller k) x known h ne call p is =
-    let g = in_call_gate c w.now k known call in
-    stays_mapped w.now.words _ p (header_step c w.now seat x k h g.0 ne g.1) is
-mapped_after c w seat _ x known h ne call p is = absurd call
+mapped_after {c} w seat (Caller k) x known h ne call p is =
+    let g = in_call_gate k known call in
+    stays_mapped p (header_step c w.now seat x k h g.0 ne g.1) is
+mapped_after w seat _ x known h ne call p is = absurd call
 
 -- Where all other gates are held, callers do nothing, and markers don't change what callers do.
-marks_leave : (w : World) (k : ℕ) (y : MarkerState) (ms : List MarkerState) (x : Words) → MarkerWrite k w.now y x
+marks_leave : (w : World) {k : ℕ} {y : MarkerState} (ms : List MarkerState) {x : Words} → MarkerWrite k w.now y x
     → written_of (with_words_seats w x (record w.now.seats { markers = ms })) ≡ written_of w
-marks_leave w k y ms x h = grind arith
+marks_leave w ms h = grind arith
 
-stop_out : (c : Config) (w : World) (seat s : Seat) (v : World) → OthersMove c w seat v → seat ≢ s → Holds c w.now s
+stop_out : {c : Config} {w : World} {seat : Seat} (s : Seat) {v : World} → OthersMove c w seat v → seat ≢ s
+    → Holds c w.now s
     → others_are_held c.callers w.now.words s ≡ true → written_of v ≡ written_of w
-stop_out c w seat s v h ne holds all = grind (arith, others_held, marks_leave)
+stop_out s h ne holds all = grind (arith, others_held, marks_leave)
 
-scan_after : (c : Config) (w : World) (seat s : Seat) (x : Step) → Known c w.now → Meets c w.now seat x
+scan_after : {c : Config} (w : World) (seat s : Seat) (x : Step) → Known c w.now → Meets c w.now seat x
     → Attends w.now s → OnlyGrow w.now.words.marks (WorldBehind c w seat x).now.words.marks
     × OnlyGrow w.now.words.blacks (WorldBehind c w seat x).now.words.blacks
-scan_after c w seat (Marker k) x known h a = attending_grows c w.now seat _ k (known.orderly.attends k a) a
+scan_after {c} w seat (Marker k) x known h a = attending_grows k (known.orderly.attends k a) a
     (colour_step c w.now seat x h)
-scan_after c w seat _ x known h a = absurd a
+scan_after w seat _ x known h a = absurd a
 
 -- one event of another seat
-own_after : (c : Config) (w : World) (seat s : Seat) (x : Step) → Known c w.now → Meets c w.now seat x → seat ≢ s
+own_after : {c : Config} (w : World) (seat s : Seat) (x : Step) → Known c w.now → Meets c w.now seat x → seat ≢ s
     → OwnIsLeft c s w (WorldBehind c w seat x)
-own_after c w seat s x known h ne = record {
+own_after {c} w seat s x known h ne = record {
   flight = others_flight c w seat s x ne;
   marker = others_marker c w seat s x ne;
-  registers = λ k r is lt. others_registers w.now.words seat _ k r (register_step c w.now seat x known.operands h)
+  registers = λ k r is lt. others_registers k r (register_step c w.now seat x known.operands h)
       (λ e. ne (e ∙ sym is)) lt;
   holding = λ holds.
-      let move = others_out c w seat s x known h ne holds in
+      let move = others_out w seat s x known h ne holds in
       let turn = turn_after c w seat _ known move in (
         still_holds c s w (WorldBehind c w seat x) (others_flight c w seat s x ne)
             (ap (λ (y : Steady). y.turn) turn.steady) holds,
-        holding_out c w seat _ move,
+        holding_out move,
       );
 }
 
 pub left_after : (c : Config) (w : World) (seat s : Seat) (x : Step) → Known c w.now → Meets c w.now seat x → seat ≢ s
     → Left c s w (WorldBehind c w seat x)
 left_after c w seat s x known h ne = record {
-  own = own_after c w seat s x known h ne;
-  mapped = mapped_after c w seat s x known h ne;
-  turn = λ holds. turn_after c w seat _ known (others_out c w seat s x known h ne holds);
-  stop = λ all. stop_out c w seat s _ (others_out c w seat s x known h ne all.0) ne all.0 all.1;
-  scan = scan_after c w seat s x known h;
+  own = own_after w seat s x known h ne;
+  mapped = mapped_after w seat s x known h ne;
+  turn = λ holds. turn_after c w seat _ known (others_out w seat s x known h ne holds);
+  stop = λ all. stop_out s (others_out w seat s x known h ne all.0) ne all.0 all.1;
+  scan = scan_after w seat s x known h;
 }
 
 -- what the seat is in the middle of, it still is
 
-still_calls : (c : Config) (s : Seat) (w u : World) → OwnIsLeft c s w u → IsInCall w.now s → IsInCall u.now s
-still_calls c s w u l call = grind arith
+still_calls : {c : Config} {s : Seat} {w u : World} → OwnIsLeft c s w u → IsInCall w.now s → IsInCall u.now s
+still_calls l call = grind arith
 
-pub still_attends : (c : Config) (s : Seat) (w u : World) → OwnIsLeft c s w u → Attends w.now s → Attends u.now s
-still_attends c s w u l a = grind arith
+pub still_attends : {c : Config} {s : Seat} {w u : World} → OwnIsLeft c s w u → Attends w.now s → Attends u.now s
+still_attends l a = grind arith
 
-still_in : (c : Config) (s : Seat) (w u : World) → OwnIsLeft c s w u → IsIn w.now s → IsIn u.now s
-still_in c s w u l i = grind arith
+still_in : {c : Config} {s : Seat} {w u : World} → OwnIsLeft c s w u → IsIn w.now s → IsIn u.now s
+still_in l i = grind arith
 
-still_stopped : (c : Config) (s : Seat) (w u : World) → Left c s w u → HoldsAll c w.now s → HoldsAll c u.now s
-still_stopped c s w u l all = grind arith
+still_stopped : {c : Config} {s : Seat} {w u : World} → Left c s w u → HoldsAll c w.now s → HoldsAll c u.now s
+still_stopped l all = grind arith
 
-pub left_joined : (c : Config) (s : Seat) (w u v : World) → Left c s w u → Left c s u v → Left c s w v
-left_joined c s w u v a b = record {
+pub left_joined : {c : Config} {s : Seat} {w u v : World} → Left c s w u → Left c s u v → Left c s w v
+left_joined {c} {s} {w} {u} {v} a b = record {
   own = grind arith;
-  mapped = λ call p is. b.mapped (still_calls c s w u a.own call) p (a.mapped call p is);
-  turn = λ holds. turn_joined w u v (a.turn holds) (b.turn (a.own.holding holds).0);
-  stop = λ all. b.stop (still_stopped c s w u a all) ∙ a.stop all;
+  mapped = λ call p is. b.mapped (still_calls a.own call) p (a.mapped call p is);
+  turn = λ holds. turn_joined (a.turn holds) (b.turn (a.own.holding holds).0);
+  stop = λ all. b.stop (still_stopped a all) ∙ a.stop all;
   scan = grind (arith, still_attends, grows_joined);
 }
 
@@ -170,13 +171,12 @@ same_seat s = grind (arith, eq-eqb)
 pub other_seat : (s seat : Seat) → is_one_of (s ∷ []) seat ≡ false → seat ≢ s
 other_seat s seat h e = grind (arith, same_seat)
 
-pub left_later : (c : Config) (s : Seat) (w : World) (es : List Event) → Known c w.now → AreEnabledFrom c w es
+pub left_later : {c : Config} (s : Seat) (w : World) (es : List Event) → Known c w.now → AreEnabledFrom c w es
     → AreOfOthers (s ∷ []) es → Left c s w (left_from c w es)
 unfolding left_from AreEnabledFrom AreOfOthers
-left_later c s w [] k on others = grind (arith, turn_same, grows_same)
-left_later c s w (e ∷ es) k on others = left_joined c s w (world_behind c w e) (left_from c (world_behind c w e) es)
-    (left_after c w e.seat s e.step k (enabled_meets c w.now e on.0) (other_seat s e.seat others.0))
-    (left_later c s (world_behind c w e) es (known_behind c w.now e k on.0) on.1 others.1)
+left_later s w [] k on others = grind (arith, turn_same, grows_same)
+left_later {c} s w (e ∷ es) k on others = left_joined (left_after c w e.seat s e.step k (enabled_meets c w.now e on.0)
+    (other_seat s e.seat others.0)) (left_later s (world_behind c w e) es (known_behind c w.now e k on.0) on.1 others.1)
 
 -- the counts
 
@@ -184,47 +184,48 @@ record CountsNothing (c : Config) (w : World) (es : List Event) : Type 0 where
   none_ends : ends es ≡ 0
   none_full : fulls_of (calls_from c w es) ≡ 0
 
-counts_later : (c : Config) (s : Seat) (w : World) (es : List Event) → Known c w.now → AreEnabledFrom c w es
+counts_later : {c : Config} (s : Seat) (w : World) (es : List Event) → Known c w.now → AreEnabledFrom c w es
     → AreOfOthers (s ∷ []) es → Holds c w.now s → CountsNothing c w es
 unfolding calls_from AreEnabledFrom AreOfOthers
-counts_later c s w [] k on others holds = record { none_ends = refl; none_full = refl }
-counts_later c s w (e ∷ es) k on others holds =
+counts_later s w [] k on others holds = record { none_ends = refl; none_full = refl }
+counts_later {c} s w (e ∷ es) k on others holds =
     let h = enabled_meets c w.now e on.0 in
     let ne = other_seat s e.seat others.0 in
     let t = holds_turn c w.now s k.orderly holds in
     let now = counts_nothing c w.now e.seat e.step (λ out. ne (same_holder c (view_of w.now) e.seat s k.orderly out t))
     (actor_of c w.now e.seat e.step k.orderly h) in
-    let rest = counts_later c s (world_behind c w e) es (known_behind c w.now e k on.0) on.1 others.1
+    let rest = counts_later s (world_behind c w e) es (known_behind c w.now e k on.0) on.1 others.1
     ((left_after c w e.seat s e.step k h ne).own.holding holds).0 in
     grind (arith, entry_fulls, sum_by-append, fulls_append)
 
 -- the law
 
-visit_left : (c : Config) (s : Seat) (m : Moment) → Protocol c m → IsIn m s → 1 ≤ m.words.phase / 8
-visit_left c s m p i = grind (arith, in_counts)
+visit_left : {c : Config} (s : Seat) {m : Moment} → Protocol c m → IsIn m s → 1 ≤ m.words.phase / 8
+visit_left s p i = grind (arith, in_counts)
 
-is_left : (c : Config) (s : Seat) (es more : List Event) → Left c s (left c es) (left c (es ++ more))
+is_left : {c : Config} (s : Seat) (es more : List Event) → Left c s (left c es) (left c (es ++ more))
     → Known c (left c (es ++ more)).now
     → (Holds c (left c es).now s → CountsAreLeft c es (es ++ more)) → IsLeft c s es (es ++ more)
-is_left c s es more l known counts = record {
+is_left {c} s es more l known counts = record {
   own = l.own;
   in_call = λ k is call. record {
-    gate = (in_call_gate c _ k known (rw is at (still_calls c s (left c es) _ l.own call))).1;
+    gate = (in_call_gate k known (rw is at (still_calls l.own call))).1;
     mapped = l.mapped call;
   };
   turn = λ holds. (l.turn holds, counts holds);
   stop = l.stop;
   scan = λ a. grind (arith, still_attends);
-  visit = λ i. visit_left c s _ (protocol_of c _ known) (still_in c s (left c es) _ l.own i);
+  visit = λ i. visit_left s (protocol_of c _ known) (still_in l.own i);
 }
 
-counts_left : (c : Config) (es more : List Event) → CountsNothing c (left c es) more → CountsAreLeft c es (es ++ more)
-counts_left c es more h = grind (arith, sum_by-append, calls_append, fulls_append)
+counts_left : {c : Config} (es : List Event) {more : List Event} → CountsNothing c (left c es) more
+    → CountsAreLeft c es (es ++ more)
+counts_left es h = grind (arith, sum_by-append, calls_append, fulls_append)
 
 pub others_leave : OthersLeave
 others_leave c es more s limits on others =
     let parts = enabled_parts c (first_world c) es more on in
     let known = known_left c es limits parts.0 in
-    is_left c s es more (rw (left_append c (first_world c) es more)
-    (left_later c s (left c es) more known parts.1 others)) (known_left c (es ++ more) limits on)
-    (λ holds. counts_left c es more (counts_later c s (left c es) more known parts.1 others holds))
+    is_left s es more (rw (left_append c (first_world c) es more)
+    (left_later s (left c es) more known parts.1 others)) (known_left c (es ++ more) limits on)
+    (λ holds. counts_left es (counts_later s (left c es) more known parts.1 others holds))

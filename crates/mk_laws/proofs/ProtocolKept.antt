@@ -23,46 +23,47 @@ pub record PhaseKept (c : Config) (v : View) (p : ℕ) : Type 0 where
   pub attends : (k : ℕ) → is_attending (marker_in v k).presence ≡ true → (p % 8 ≡ 1) ⊎ (p % 8 ≡ 2)
 
 -- from a phase in which no marker attends to one that isn't the stop
-quiet : (c : Config) (v : View) (p m : ℕ) → Orderly c v → (p % 8 ≡ m) × (p ≡ m + 8 * count_in v.markers) → m ≤ 5 → m ≢ 3
+quiet : {c : Config} {v : View} (p m : ℕ) → Orderly c v → (p % 8 ≡ m) × (p ≡ m + 8 * count_in v.markers) → m ≤ 5 → m ≢ 3
     → (v.phase % 8 ≡ 0) ⊎ (3 ≤ v.phase % 8) → PhaseKept c v p
-quiet c v p m h n low no_stop idle = grind arith
+quiet p m h n low no_stop idle = grind arith
 
-pub phase_kept : (c : Config) (v : View) (seat : Seat) (p : ℕ) → Orderly c v → HoldsTurn c v seat → PhaseStep c v seat p
+pub phase_kept : {c : Config} {v : View} {seat : Seat} {p : ℕ} → Orderly c v → HoldsTurn c v seat → PhaseStep c v seat p
     → PhaseKept c v p
-phase_kept c v seat p h t (Begins z) =
-    quiet c v p _ h (up_one v.phase _ (v.phase % 8) h.phase h.low (few_in c v h) (omega arith)) (omega arith)
+phase_kept {c} {v} {p} h t (Begins z) =
+    quiet p _ h (up_one v.phase _ (v.phase % 8) h.phase h.low (few_in h) (omega arith)) (omega arith)
     (λ e. omega arith) (inl z)
-phase_kept c v seat p h t (Wants z) =
-    let n = up_one v.phase _ (v.phase % 8) h.phase h.low (few_in c v h) (omega arith) in
+phase_kept {c} {v} h t (Wants z) =
+    let n = up_one v.phase _ (v.phase % 8) h.phase h.low (few_in h) (omega arith) in
     grind arith
-phase_kept c v seat p h t (Closes z held none) =
-    let n = up_one v.phase _ (v.phase % 8) h.phase h.low (few_in c v h) (omega arith) in
+phase_kept {c} {v} h t (Closes z held none) =
+    let n = up_one v.phase _ (v.phase % 8) h.phase h.low (few_in h) (omega arith) in
     grind (arith, turn_of)
-phase_kept c v seat p h t (Releases z) =
-    quiet c v p _ h (up_one v.phase _ (v.phase % 8) h.phase h.low (few_in c v h) (omega arith)) (omega arith)
+phase_kept {c} {v} {p} h t (Releases z) =
+    quiet p _ h (up_one v.phase _ (v.phase % 8) h.phase h.low (few_in h) (omega arith)) (omega arith)
     (λ e. omega arith) (inr (omega arith))
-phase_kept c v seat p h t (Ends z) = quiet c v p _ h (down_four v.phase _ (v.phase % 8) h.phase (few_in c v h) z)
+phase_kept {c} {v} {p} h t (Ends z) = quiet p _ h (down_four v.phase _ (v.phase % 8) h.phase (few_in h) z)
     (omega arith) (λ e. omega arith) (inr (omega arith))
-phase_kept c v seat p h t (Stops z) = quiet c v p _ h (up_five v.phase _ (v.phase % 8) h.phase (few_in c v h) z)
+phase_kept {c} {v} {p} h t (Stops z) = quiet p _ h (up_five v.phase _ (v.phase % 8) h.phase (few_in h) z)
     (omega arith) (λ e. omega arith) (inl z)
 
-flights_kept : (c : Config) (v : View) (seat : Seat) (f : Flight) → Orderly c v
+flights_kept : {c : Config} {v : View} (seat : Seat) (f : Flight) → Orderly c v
     → length (flights_with v.flights seat f) ≡ c.callers
-flights_kept c v seat f h = length_with v.flights seat f ∙ h.flights
+flights_kept {v} seat f h = length_with v.flights seat f ∙ h.flights
 
 -- a caller that isn't the holder goes on
-others_served : (c : Config) (v : View) (k : ℕ) (f : Flight) → Orderly c v → v.turn ≢ 1 + k
+others_served : {c : Config} {v : View} (k : ℕ) (f : Flight) → Orderly c v → v.turn ≢ 1 + k
     → Served (slice_index_or (slice_set v.flights k f) (v.turn - 1) at_rest) v.holding
-others_served c v k f h ne = elim (cases_eq v.turn 0) [
+others_served {v} k f h ne = elim (cases_eq v.turn 0) [
   | inl z ↦ rw (h.free z) (nothing_served _ _)
   | inr held ↦ rw (get_or-set_other v.flights k (v.turn - 1) f at_rest (λ e. ne (omega arith))) h.served
 ]
 
 -- the holder goes on
-works_served : (c : Config) (v : View) (seat : Seat) (f : Flight) (i : Holding) → Orderly c v → HoldsTurn c v seat
+works_served : {c : Config} {v : View} (seat : Seat) {f : Flight} {i : Holding} → Orderly c v → HoldsTurn c v seat
     → Service (flight_at v.flights seat) v.holding f i
     → Served (slice_index_or (flights_with v.flights seat f) (v.turn - 1) at_rest) i
-works_served c v seat f i h t s = rw (behind c v seat f i h t s) (grind (arith, served_on, holders_flight))
+works_served {c} {v} seat {f = f} {i = i} h t s =
+    rw (behind c v seat f i h t s) (grind (arith, served_on, holders_flight))
   where
     behind : (c : Config) (v : View) (seat : Seat) (f : Flight) (i : Holding) → Orderly c v → HoldsTurn c v seat
         → Service (flight_at v.flights seat) v.holding f i
@@ -72,18 +73,18 @@ works_served c v seat f i h t s = rw (behind c v seat f i h t s) (grind (arith, 
         let e : v.turn - 1 ≡ k = omega arith in
         cc (e, get_or-set_same v.flights k f at_rest (omega (arith, h.flights, t.0)))
     behind c v (Marker k) f i h t s = absurd t
-    behind c v Host f i h t s = holders_flight c v Host h t ∙ sym (service_rests at_rest v.holding f i refl s)
+    behind c v Host f i h t s = holders_flight Host h t ∙ sym (service_rests refl s)
 
-works_shown : (c : Config) (v : View) (seat : Seat) (f : Flight) (i : Holding) → Orderly c v → HoldsTurn c v seat
+works_shown : {c : Config} {v : View} (seat : Seat) {f : Flight} {i : Holding} → Orderly c v → HoldsTurn c v seat
     → Service (flight_at v.flights seat) v.holding f i
     → AllShow c.callers v.turn v.gates (flights_with v.flights seat f)
-works_shown c v seat f i h t s = all_but_seat c v.turn seat v.gates v.flights f
-    (holder_shows c v seat f h t (λ is. service_stands _ v.holding f i is s)) (λ b lb ne. h.each b lb)
+works_shown {c} {v} seat {f = f} {i = i} h t s = all_but_seat c v.turn seat v.gates v.flights f
+    (holder_shows seat f h t (λ is. service_stands is s)) (λ b lb ne. h.each b lb)
 
 -- a gate of another is set
-gate_shown : (c : Config) (v : View) (j x : ℕ) → c.callers ≤ 16 → Orderly c v → j < c.callers
+gate_shown : {c : Config} {v : View} (j x : ℕ) → c.callers ≤ 16 → Orderly c v → j < c.callers
     → Shows v.turn x j (standing (flight_in v j)) → AllShow c.callers v.turn (slice_set v.gates j x) v.flights
-gate_shown c v j x small h lj s = all_but_gate _ _ j x v.gates _ (omega (arith, h.gates)) s (λ b lb nb. h.each b lb)
+gate_shown {v} j x small h lj s = all_but_gate _ _ j x v.gates _ (omega (arith, h.gates)) s (λ b lb nb. h.each b lb)
 
 -- one gate is set to 2, or stays
 held_or : (gs : List ℕ) (j b : ℕ) → j < length gs → (b ≢ j → slice_index gs b ≡ 2)
@@ -94,26 +95,26 @@ held_or gs j b lt other = elim (cases_eq b j) [
 ]
 
 -- where the turn, the phase and the markers stay
-seats_kept : (c : Config) (v : View) (fs : List Flight) (gs : List ℕ) (i : Holding) → Orderly c v
+seats_kept : {c : Config} {v : View} (fs : List Flight) (gs : List ℕ) (i : Holding) → Orderly c v
     → length fs ≡ c.callers → length gs ≡ 16 → AllShow c.callers v.turn gs fs
     → Served (slice_index_or fs (v.turn - 1) at_rest) i → (v.turn ≡ 0 → i ≡ nothing_done)
     → (v.phase % 8 ≡ 3 → (k : ℕ) → k < c.callers → v.turn ≢ 1 + k → slice_index gs k ≡ 2)
     → Orderly c (record v { flights = fs; gates = gs; holding = i })
-seats_kept c v fs gs i h flights gates each served free stopped = grind arith
+seats_kept fs gs i h flights gates each served free stopped = grind arith
 
 -- where the turn is taken or given
-turn_kept : (c : Config) (v : View) (fs : List Flight) (t : ℕ) → Orderly c v → length fs ≡ c.callers → t ≤ 1 + c.callers
+turn_kept : {c : Config} {v : View} (fs : List Flight) (t : ℕ) → Orderly c v → length fs ≡ c.callers → t ≤ 1 + c.callers
     → AllShow c.callers t v.gates fs → (2 ≤ v.phase % 8 → v.phase % 8 ≤ 4 → t ≢ 0)
     → (v.phase % 8 ≡ 3 → (k : ℕ) → k < c.callers → t ≢ 1 + k → gate_in v k ≡ 2)
     → Orderly c (record v { flights = fs; turn = t; holding = nothing_done })
-turn_kept c v fs t h flights turn each cycle stopped = grind (arith, nothing_served)
+turn_kept fs t h flights turn each cycle stopped = grind (arith, nothing_served)
 
 -- where the markers change, and how many of them are in, but not how far the phase is
-markers_kept : (c : Config) (v : View) (k : ℕ) (x : MarkerState) (p : ℕ) → Orderly c v → p % 8 ≡ v.phase % 8
+markers_kept : {c : Config} {v : View} (k : ℕ) (x : MarkerState) (p : ℕ) → Orderly c v → p % 8 ≡ v.phase % 8
     → p ≡ v.phase % 8 + 8 * count_in (slice_set v.markers k x)
     → (is_attending x.presence ≡ true → (v.phase % 8 ≡ 1) ⊎ (v.phase % 8 ≡ 2)) → (k < length v.markers → IdlesOutside x)
     → Orderly c (record v { phase = p; markers = slice_set v.markers k x })
-markers_kept c v k x p h same count own idle = record {
+markers_kept {v} k x p h same count own idle = record {
   flights = h.flights;
   gates = h.gates;
   markers = length-set v.markers k x ∙ h.markers;
@@ -125,73 +126,70 @@ markers_kept c v k x p h same count own idle = record {
   low = omega (arith, same, h.low);
   cycle = λ a b. h.cycle (omega (arith, same)) (omega (arith, same));
   stopped = λ e. h.stopped (omega (arith, same));
-  attends = λ b a.
-      rw same (marker_set v.markers k b x (λ (y : MarkerState). is_attending y.presence ≡ true
+  attends = λ b a. rw same (marker_set v.markers k b x (λ (y : MarkerState). is_attending y.presence ≡ true
       → (v.phase % 8 ≡ 1) ⊎ (v.phase % 8 ≡ 2)) (λ lk. own) (h.attends b) a);
   idle = λ b. marker_set v.markers k b x (λ (y : MarkerState). IdlesOutside y) idle (h.idle b);
 }
 
-pub kept : (c : Config) (v : View) (seat : Seat) (n : View) → c.callers ≤ 16 → Orderly c v → Move c v seat n
+pub kept : {c : Config} {v : View} {seat : Seat} {n : View} → c.callers ≤ 16 → Orderly c v → Move c v seat n
     → Orderly c n
-kept c v seat n small h Stays = h
-kept c v seat n small h (Enters {k} f lt free was is) =
+kept small h Stays = h
+kept {c} {v} small h (Enters {k} f lt free was is) =
     let s = shows_at c v k Resting h lt was in
     let g : gate_in v k ≡ 0 = free in
-    seats_kept c v _ _ v.holding h (length-set v.flights k f ∙ h.flights) (length-set v.gates k 1 ∙ h.gates)
-    (all_but_both c.callers v.turn k 1 v.gates v.flights f (omega (arith, h.gates)) (omega (arith, h.flights))
-    (rw is (refl, s.3)) h.each)
-    (others_served c v k f h s.3) h.free (λ e b lb ne. absurd (omega (arith, g, h.stopped e k lt s.3)))
-kept c v seat n small h (GoesOn {k} f lt was is) =
+    seats_kept _ _ v.holding h (length-set v.flights k f ∙ h.flights) (length-set v.gates k 1 ∙ h.gates) (all_but_both
+    c.callers v.turn k 1 v.gates v.flights f (omega (arith, h.gates)) (omega (arith, h.flights)) (rw is (refl, s.3))
+    h.each) (others_served k f h s.3) h.free (λ e b lb ne. absurd (omega (arith, g, h.stopped e k lt s.3)))
+kept {c} {v} small h (GoesOn {k} f lt was is) =
     let s = shows_at c v k InCall h lt was in
-    seats_kept c v _ v.gates v.holding h (length-set v.flights k f ∙ h.flights) h.gates
+    seats_kept _ v.gates v.holding h (length-set v.flights k f ∙ h.flights) h.gates
     (all_but_flight c.callers v.turn k v.gates v.flights f (omega (arith, h.flights)) (rw is s)
-    (λ b lb ne. h.each b lb)) (others_served c v k f h s.1) h.free h.stopped
-kept c v seat n small h (Leaves {k} lt was) =
+    (λ b lb ne. h.each b lb)) (others_served k f h s.1) h.free h.stopped
+kept {c} {v} small h (Leaves {k} lt was) =
     let s = shows_at c v k InCall h lt was in
     let g : gate_in v k ≡ 1 = s.0 in
-    seats_kept c v _ _ v.holding h (length-set v.flights k at_rest ∙ h.flights) (length-set v.gates k 0 ∙ h.gates)
+    seats_kept _ _ v.holding h (length-set v.flights k at_rest ∙ h.flights) (length-set v.gates k 0 ∙ h.gates)
     (all_but_both c.callers v.turn k 0 v.gates v.flights at_rest (omega (arith, h.gates)) (omega (arith, h.flights))
     (λ e. absurd (omega arith), omega arith, λ e. refl, s.1) h.each)
-    (others_served c v k at_rest h s.1) h.free (λ e b lb ne. absurd (omega (arith, g, h.stopped e k lt s.1)))
-kept c v seat n small h (Takes f z may) = turn_kept c v _ _ h (flights_kept c v seat f h)
-    (omega (arith, taker_number c v seat f may))
-    (all_but_seat c (1 + holder_number c seat) seat v.gates v.flights f (taker_shows c v seat f h z may)
-    (λ b lb ne. shows_taken (gate_in v b) b (holder_number c seat) (standing (flight_in v b)) ne
-    (rw z at (h.each b lb))))
+    (others_served k at_rest h s.1) h.free (λ e b lb ne. absurd (omega (arith, g, h.stopped e k lt s.1)))
+kept {c} {v} {seat} small h (Takes f z may) = turn_kept _ _ h (flights_kept seat f h) (omega (
+  arith,
+  taker_number c v
+      seat f may,
+)) (all_but_seat c (1 + holder_number c seat) seat v.gates v.flights f (taker_shows seat f h z may) (λ b
+    lb ne. shows_taken (gate_in v b) b (holder_number c seat) (standing (flight_in v b)) ne (rw z at (h.each b lb))))
     (λ a b e. absurd (omega arith)) (λ e. absurd (h.cycle (omega arith) (omega arith) z))
-kept c v seat n small h (Gives t none at) =
+kept {c} {v} {seat} small h (Gives t none at) =
     let turn = turn_of c v seat h t in
-    turn_kept c v _ 0 h (flights_kept c v seat at_rest h) (omega arith)
-    (all_but_seat c 0 seat v.gates v.flights at_rest (giver_shows c v seat h t)
+    turn_kept _ 0 h (flights_kept seat at_rest h) (omega arith)
+    (all_but_seat c 0 seat v.gates v.flights at_rest (giver_shows seat h t)
     (λ b lb ne. shows_given v.turn (gate_in v b) b (holder_number c seat) (standing (flight_in v b)) ne turn
     (none b lb) (h.each b lb)))
     (λ a b. elim at [ inl l ↦ absurd (omega arith) | inr l ↦ absurd (omega arith) ])
     (λ e. elim at [ inl l ↦ absurd (omega arith) | inr l ↦ absurd (omega arith) ])
-kept c v seat n small h (Works f i t s) = grind (arith, turn_of, length_with, works_shown, works_served)
-kept c v seat n small h (Holds j t lj ne was) =
+kept small h (Works f i t s) = grind (arith, turn_of, length_with, works_shown, works_served)
+kept {c} {v} {seat} small h (Holds j t lj ne was) =
     let turn = turn_of c v seat h t in
-    seats_kept c v v.flights _ v.holding h h.flights (length-set v.gates j 2 ∙ h.gates)
-    (gate_shown c v j 2 small h lj (shows_held v.turn j (holder_number c seat) (standing (flight_in v j)) ne turn
-    (rw was at (h.each j lj))))
-    h.served h.free (λ e k lk nk. held_or v.gates j k (omega (arith, h.gates)) (λ _. h.stopped e k lk nk))
-kept c v seat n small h (Opens j t lj ne was open3) =
+    seats_kept v.flights _ v.holding h h.flights (length-set v.gates j 2 ∙ h.gates) (gate_shown j 2 small h lj
+    (shows_held v.turn j (holder_number c seat) (standing (flight_in v j)) ne turn (rw was at (h.each j lj)))) h.served
+    h.free (λ e k lk nk. held_or v.gates j k (omega (arith, h.gates)) (λ _. h.stopped e k lk nk))
+kept {c} {v} {seat} small h (Opens j t lj ne was open3) =
     let turn = turn_of c v seat h t in
-    seats_kept c v v.flights _ v.holding h h.flights (length-set v.gates j 0 ∙ h.gates)
-    (gate_shown c v j 0 small h lj (shows_opened v.turn j (holder_number c seat) (standing (flight_in v j)) ne turn
+    seats_kept v.flights _ v.holding h h.flights (length-set v.gates j 0 ∙ h.gates)
+    (gate_shown j 0 small h lj (shows_opened v.turn j (holder_number c seat) (standing (flight_in v j)) ne turn
     (rw was at (h.each j lj)))) h.served h.free (λ e. absurd (open3 e))
-kept c v seat n small h (Phases i {n = p} t same_place same_run step) =
-    grind (arith, turn_of, phase_kept, served_on, flight_in)
-kept c v seat n small h (Attends {k} x lt was is at idle) =
+kept small h (Phases i {n = p} t same_place same_run step) = grind (arith, turn_of, phase_kept, served_on, flight_in)
+kept {c} {v} small h (Attends {k} x lt was is at idle) =
     let more = counted_more v.markers k x (omega (arith, h.markers)) was is in
-    let up = up_eight v.phase (count_in v.markers) (v.phase % 8) h.phase h.low (few_in c v h) in
-    markers_kept c v k x _ h up.0 (omega (arith, up.1, more)) (λ y. inl (at y)) (λ lk _. idle)
-kept c v seat n small h (Quits {k} lt was) =
+    let up = up_eight v.phase (count_in v.markers) (v.phase % 8) h.phase h.low (few_in h) in
+    markers_kept k x _ h up.0 (omega (arith, up.1, more)) (λ y. inl (at y)) (λ lk _. idle)
+kept {c} {v} small h (Quits {k} lt was) =
     let less = counted_less v.markers k outside (omega (arith, h.markers)) was refl in
     let down = down_eight v.phase (count_in v.markers) (count_in (slice_set v.markers k outside))
-    (v.phase % 8) h.phase h.low (few_in c v h) less in
-    markers_kept c v k outside _ h down.0 (omega (arith, down.1)) (λ y. cc)
+    (v.phase % 8) h.phase h.low (few_in h) less in
+    markers_kept k outside _ h down.0 (omega (arith, down.1)) (λ y. cc)
     (λ lk _. record { scan = refl; hand = refl; seen = refl })
-kept c v seat n small h (Scans {k} x lt same idle) =
+kept {c} {v} {n} small h (Scans {k} x lt same idle) =
     let less = counted_same v.markers k x (omega (arith, h.markers)) same in
-    markers_kept c v k x v.phase h refl (h.phase ∙ ap (λ n. v.phase % 8 + 8 * n) (sym less))
+    markers_kept k x v.phase h refl (h.phase ∙ ap (λ n. v.phase % 8 + 8 * n) (sym less))
     (λ y. h.attends k (rw (← same) y)) (λ lk. idle (h.idle k))

@@ -9,9 +9,9 @@ use Rattle.mk_laws.{proofs.Known.{HaveOperands}, specs.Protocol.{ListsKeepThePro
 -- what is in order is as the protocol says
 
 -- the holder is a caller, where its call is so and no call is astray
-some_caller : (c : Config) (m : Moment) (test : Flight → Bool) → Orderly c (view_of m) → test at_rest ≡ false
+some_caller : {c : Config} (m : Moment) (test : Flight → Bool) → Orderly c (view_of m) → test at_rest ≡ false
     → test (flight_in (view_of m) (m.words.turn - 1)) ≡ true → SomeCaller c m test
-some_caller c m test o rests is = grind (arith, cases_lt, get_or_past)
+some_caller m test o rests is = grind (arith, cases_lt, get_or_past)
 
 told : (c : Config) (m : Moment) → Orderly c (view_of m) → HaveOperands c m.seats.flights → Protocol c m
 told c m o operands = record {
@@ -36,9 +36,9 @@ told c m o operands = record {
   attends = o.attends;
   idle = o.idle;
   free = o.free;
-  placed = λ e. some_caller c m is_undecided_new o refl (o.served.placed e);
-  granted = λ e. some_caller c m is_decided_new o refl (o.served.granted e);
-  freed = λ run e. some_caller c m is_decided_free o refl (o.served.freed (rw e));
+  placed = λ e. some_caller m is_undecided_new o refl (o.served.placed e);
+  granted = λ e. some_caller m is_decided_new o refl (o.served.granted e);
+  freed = λ run e. some_caller m is_decided_free o refl (o.served.freed (rw e));
 }
   where
     gates : (k : ℕ) → k < c.callers → (gate_in (view_of m) k ≤ 2)

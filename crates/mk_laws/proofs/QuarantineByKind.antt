@@ -46,7 +46,7 @@ quar_none : (c : Config) (w : World) (f : Flight) (p n : ℕ) → p < length w.n
     → p < length w.now.words.snapshot → cell_freed c.pages w.now.words f p n ≡ None
     → QuarantineStep c w.now f p n → IsQuarantined c w → QuarantinedNow c w (with_halves w p n)
 quar_none c w f p n lf ls none (ItFrees off x) q = absurd (frees_some c.pages w.now.words f p n off x none)
-quar_none c w f p n lf ls none (ItDrops on x) q = rw on (drop_kept c w p (n % 2 ^ 32) (n / 2 ^ 32) lf ls (rw on at q) x)
+quar_none c w f p n lf ls none (ItDrops on x) q = rw on (drop_kept c w lf ls (rw on at q) x)
 quar_none c w f p n lf ls none (ItTakesSnapshot x) q =
     let low : n % 2 ^ 32 ≡ slice_index w.now.words.freed p = omega arith in
     let high : n / 2 ^ 32 ≡ slice_index w.now.words.freed p = omega arith in
@@ -55,10 +55,10 @@ quar_none c w f p n lf ls none (ItTakesSnapshot x) q =
     rw off (rw same (rw high (snapshot_kept c _ (ground_of w) p ls (rw off at q))))
 
 -- what a step that frees finds
-pub frees_here : (c : Config) (w : World) (seat : Seat) (p n : ℕ) (cell : Cell) → Before c w
+pub frees_here : {c : Config} {w : World} (seat : Seat) {p n : ℕ} {cell : Cell} → Before c w
     → Meets c w.now seat (Step.Quar p n) → LayoutStands c w
     → FreesCell c.pages w.now.words (flight_of w.now seat) p n cell → FreesHere c w cell n
-frees_here c w seat p n cell b h laid x =
+frees_here {c} {w} seat {p = p} {cell = cell} b h laid x =
     let own = b.others.target seat cell x.at in
     let a : PlacedAllocation = placed_at w.allocations own.number in
     let off : Laid c (object_now c w.now) false w (ground_of w) = rw x.phase at laid in
@@ -76,16 +76,16 @@ frees_here c w seat p n cell b h laid x =
       index = omega arith;
       own = own;
       stands = cc (own.is, stands_in_its_cell c w.now.words a b.limits s.stands s.headers);
-      others = standing_cell c (object_now c w.now) w cell b.lengths.pages own off;
+      others = standing_cell (object_now c w.now) w b.lengths.pages own off;
       unset = x.unfreed;
       value = x.value ∙ rw page;
       unplaced = false_from_ne_true (has_place w.now.seats.holding.placing)
           (λ has. not_both (flight_of w.now seat) (placed_undecided c w.now seat b.known turn has) x.free);
     }
 
-quar_kept : (c : Config) (w : World) (seat : Seat) (p n : ℕ) → Before c w → Meets c w.now seat (Step.Quar p n)
+quar_kept : {c : Config} {w : World} (seat : Seat) (p n : ℕ) → Before c w → Meets c w.now seat (Step.Quar p n)
     → LayoutStands c w → IsQuarantined c w → QuarantinedNow c w (ground_of (WorldBehind c w seat (Step.Quar p n)))
-quar_kept c w seat p n b h laid q = by (cell_freed c.pages w.now.words (flight_of w.now seat) p n) refl
+quar_kept {c} {w} seat p n b h laid q = by (cell_freed c.pages w.now.words (flight_of w.now seat) p n) refl
   where
     lf : p < length w.now.words.freed
     lf = let lt = ltb-true p c.pages h.range in let len = b.lengths.freed in omega arith
@@ -99,7 +99,7 @@ quar_kept c w seat p n b h laid q = by (cell_freed c.pages w.now.words (flight_o
         (quar_none c w (flight_of w.now seat) p n lf ls is (quarantine_step c w.now _ p n h.holder) q)
     by (Some cell) is =
         let x = freed_cell c.pages w.now.words _ p n cell is in
-        rw x.phase (rw x.page (free_kept c w cell _ n (frees_here c w seat p n cell b h laid x) (rw x.phase at q)))
+        rw x.phase (rw x.page (free_kept _ (frees_here seat b h laid x) (rw x.phase at q)))
 
 -- `head` and `used`
 head_from : (four : Bool) (placing : Placing) (found : Option Place) (place : Place)
@@ -131,33 +131,33 @@ pub grants_early : (w : World) → ((phase_of w.now.words == 0) || (phase_of w.n
     → is_phase w.now.words 4 ≡ false
 grants_early w h = grind (arith, or_cases, off_at)
 
-none_left : (c : Config) (w : World) → Before c w → may_end c.pages w.now.words ≡ true → (p k : ℕ)
+none_left : {c : Config} {w : World} → Before c w → may_end c.pages w.now.words ≡ true → (p k : ℕ)
     → is_released_in true w.now.words.snapshot w.now.words.marks p k ≡ false
-none_left c w b own p k = elim (cases_lt p c.pages) [
+none_left {c} {w} b own p k = elim (cases_lt p c.pages) [
   | inl lt ↦ (settled_page w.now.words c.pages p own lt).none k
   | inr past ↦ grind (arith, false_from_ne_true, released_bits, none_set, get_or_past)
 ]
 
 -- each kind of event, whatever the seat
-pub quarantine_by_kind : (c : Config) (w : World) (seat : Seat) (x : Step) → Before c w → Meets c w.now seat x
+pub quarantine_by_kind : {c : Config} {w : World} (seat : Seat) (x : Step) → Before c w → Meets c w.now seat x
     → LayoutStands c w → IsQuarantined c w
     → QuarantinedAs c (is_releasing_behind x (is_phase w.now.words 4)) w (ground_of (WorldBehind c w seat x))
-quarantine_by_kind c w seat (Step.Take o) b h laid q = grind (arith, eqb-true)
-quarantine_by_kind c w seat Step.Give b h laid q = replaced c _ _ (ground_of w) _ Unplaced None (λ place e. cc) q
-quarantine_by_kind c w seat Step.Reg b h laid q = kept_ground c w _ (reg_leaves_ground c w seat) q
-quarantine_by_kind c w seat (Step.Tally n v) b h laid q = kept_ground c w _ (tally_ground w.now.words n v) q
-quarantine_by_kind c w seat (Step.Head p n) b h laid q =
+quarantine_by_kind seat (Step.Take o) b h laid q = grind (arith, eqb-true)
+quarantine_by_kind {c} {w} seat Step.Give b h laid q = replaced c _ _ (ground_of w) _ Unplaced None (λ place e. cc) q
+quarantine_by_kind {c} {w} seat Step.Reg b h laid q = kept_ground c w _ (reg_leaves_ground c w seat) q
+quarantine_by_kind {c} {w} seat (Step.Tally n v) b h laid q = kept_ground c w _ (tally_ground w.now.words n v) q
+quarantine_by_kind {c} {w} seat (Step.Head p n) b h laid q =
     replaced c _ _ (ground_of w) _ _ _ (λ place e. head_from _ _ _ place e) q
-quarantine_by_kind c w seat (Step.Used p n) b h laid q =
+quarantine_by_kind {c} {w} seat (Step.Used p n) b h laid q =
     used_kept c w seat p n _ laid q (used_step c w.now _ p n h.holder)
-quarantine_by_kind c w seat (Step.Quar p n) b h laid q = quar_kept c w seat p n b h laid q
-quarantine_by_kind c w seat Step.Grant b h laid q =
+quarantine_by_kind {c} {w} seat (Step.Quar p n) b h laid q = quar_kept seat p n b h laid q
+quarantine_by_kind {c} {w} seat Step.Grant b h laid q =
     rw (grants_early w h.phase) (grant_kept c w.now.words.marks (ground_of w) _ refl (rw (grants_early w h.phase) at q))
-quarantine_by_kind c w seat (Step.Mark p n) b h laid q = grind (arith, replaced, chosen_used)
-quarantine_by_kind c w seat Step.Begin b h laid q = begin_kept c _ w.now.words.marks (ground_of w) q
-quarantine_by_kind c w seat Step.Release b h laid q =
+quarantine_by_kind seat (Step.Mark p n) b h laid q = grind (arith, replaced, chosen_used)
+quarantine_by_kind {c} {w} seat Step.Begin b h laid q = begin_kept q
+quarantine_by_kind {c} {w} seat Step.Release b h laid q =
     let off = off_at w 3 h.phase (λ e. absurd (omega arith)) in
-    release_kept c w b.limits (all_stand c _ false w b.lengths.pages (rw off at laid)) (rw off at q)
-quarantine_by_kind c w seat Step.End b h laid q =
-    end_kept c w.now.words.marks (ground_of w) (none_left c w b h.holder) (rw h.phase at q)
-quarantine_by_kind c w seat _ b h laid q = q
+    release_kept w b.limits (all_stand c _ false w b.lengths.pages (rw off at laid)) (rw off at q)
+quarantine_by_kind {c} {w} seat Step.End b h laid q =
+    end_kept c w.now.words.marks (ground_of w) (none_left b h.holder) (rw h.phase at q)
+quarantine_by_kind seat _ b h laid q = q

@@ -16,10 +16,10 @@ use Rattle.mk_geom.proofs.ClassTable.{class_words_within}
 use Rattle.mk_core.proofs.WordBits.{added_here, added_other, sum_is_or}
 
 -- A freed cell after a change that leaves its allocation unreleased, and freed.
-pub freed_behind : (c : Config) (g : PlacedAllocation → PlacedAllocation) (xs : List PlacedAllocation) (p k : ℕ)
+pub freed_behind : {c : Config} {g : PlacedAllocation → PlacedAllocation} {xs : List PlacedAllocation} {p k : ℕ}
     → LeavesCells g → (o : IsFreedCell c xs p k) → (g (placed_at xs o.number)).released ≡ false
     → (g (placed_at xs o.number)).freed ≡ true → IsFreedCell c (map g xs) p k
-freed_behind c g xs p k leaves o u f = grind (arith, changed_at, same_cell)
+freed_behind leaves o u f = grind (arith, changed_at, same_cell)
 
 -- An unreleased allocation after a change, at its number before it.
 pub record BeforeChange (c : Config) (g : PlacedAllocation
@@ -29,21 +29,20 @@ pub record BeforeChange (c : Config) (g : PlacedAllocation
   pub was : (placed_at xs i).released ≡ false
   pub cell : cell_of_allocation c (placed_at (map g xs) i) ≡ cell_of_allocation c (placed_at xs i)
 
-pub before_change : (c : Config) (g : PlacedAllocation → PlacedAllocation) (xs : List PlacedAllocation) (i : ℕ)
+pub before_change : (c : Config) {g : PlacedAllocation → PlacedAllocation} (xs : List PlacedAllocation) (i : ℕ)
     → LeavesCells g → (placed_at (map g xs) i).released ≡ false → BeforeChange c g xs i
-before_change c g xs i leaves u = grind (arith, changed_at, same_cell)
+before_change c xs i leaves u = grind (arith, changed_at, same_cell)
 
 -- `release`: what stays isn't released, and what goes is
-pub release_kept : (c : Config) (w : World) → IsWithinLimits c
+pub release_kept : {c : Config} (w : World) → IsWithinLimits c
     → ((i : ℕ) → (placed_at w.allocations i).released ≡ false → IsStanding c w.now.words (placed_at w.allocations i))
     → HasQuarantine c false w.now.words.marks (ground_of w) → HasQuarantine c true w.now.words.marks
     (record (ground_of w) { allocations = map (with_released c w.now.words) w.allocations })
-release_kept c w limits stand q = record {
+release_kept {c} w limits stand q = record {
   small = q.small;
   within = q.within;
   owned = λ p k h. owned p k (q.owned p k h);
-  shown = λ i u f.
-      grind (arith, before_change);
+  shown = λ i u f. grind (arith, before_change);
   taken = q.taken;
   kept = grind (arith, before_change, left_is);
 }
@@ -51,31 +50,28 @@ release_kept c w limits stand q = record {
     leaves : LeavesCells (with_released c w.now.words)
     leaves = releasing_leaves c w.now.words
 
-    owned : (p k : ℕ) → IsFreedCell c w.allocations p k
-        ⊎ (is_released_in false w.now.words.snapshot w.now.words.marks p k ≡ true)
-        → IsFreedCell c (map (with_released c w.now.words) w.allocations) p k
-        ⊎ (is_released_in true w.now.words.snapshot w.now.words.marks p k ≡ true)
+    owned : (p k : ℕ) → IsFreedCell c w.allocations p k ⊎ (is_released_in false w.now.words.snapshot w.now.words.marks p
+        k ≡ true) → IsFreedCell c (map (with_released c w.now.words) w.allocations) p k ⊎
+        (is_released_in true w.now.words.snapshot w.now.words.marks p k ≡ true)
     owned p k (inr r) = absurd (true≢false (sym r))
     owned p k (inl o) = elim (cases_Bool (with_released c w.now.words (placed_at w.allocations o.number)).released) [
-      | inr u ↦ inl (freed_behind c (with_released c w.now.words) w.allocations p k leaves o u o.freed)
+      | inr u ↦ inl (freed_behind leaves o u o.freed)
       | inl r ↦ grind (arith, left_is)
     ]
 
 -- `begin`
-pub begin_kept : (c : Config) (releasing : Bool) (marks : List ℕ) (t : Ground) → HasQuarantine c releasing marks t
+pub begin_kept : {c : Config} {releasing : Bool} {marks : List ℕ} {t : Ground} → HasQuarantine c releasing marks t
     → HasQuarantine c releasing marks (record t { allocations = map no_longer_fresh t.allocations })
-begin_kept c releasing marks t q = record {
+begin_kept {c} {t} q = record {
   small = q.small;
   within = q.within;
   owned = λ p k h. elim (q.owned p k h) [
-    | inl o ↦ inl (freed_behind c no_longer_fresh t.allocations p k fresh_cells o o.unreleased o.freed)
+    | inl o ↦ inl (freed_behind fresh_cells o o.unreleased o.freed)
     | inr r ↦ inr r
   ];
-  shown = λ i u f.
-      grind (arith, before_change, fresh_cells);
+  shown = λ i u f. grind (arith, before_change, fresh_cells);
   taken = q.taken;
-  kept = λ on i u.
-      grind (arith, before_change, fresh_cells);
+  kept = λ on i u. grind (arith, before_change, fresh_cells);
 }
 
 -- `grant`
@@ -120,34 +116,33 @@ pub record FreesHere (c : Config) (w : World) (cell : Cell) (n : ℕ) : Type 0 w
   pub unplaced : has_place w.now.seats.holding.placing ≡ false
 
 -- the halves of the value that it stores
-pub free_halves : (c : Config) (w : World) (cell : Cell) (n : ℕ) → FreesHere c w cell n
-    → HasQuarantine c false w.now.words.marks (ground_of w)
-    → (n % 2 ^ 32 ≡ slice_index w.now.words.freed cell.page + 2 ^ cell.index)
-    × (n / 2 ^ 32 ≡ slice_index w.now.words.snapshot cell.page)
-free_halves c w cell n x q = let e = x.value in let s = sum in (omega arith, omega arith)
+pub free_halves : {c : Config} {w : World} {cell : Cell} {n : ℕ} → FreesHere c w cell n
+    → HasQuarantine c false w.now.words.marks (ground_of w) → (n % 2 ^ 32 ≡ slice_index w.now.words.freed cell.page + 2
+    ^ cell.index) × (n / 2 ^ 32 ≡ slice_index w.now.words.snapshot cell.page)
+free_halves {w} {cell} x q = let e = x.value in let s = sum in (omega arith, omega arith)
   where
     sum : slice_index w.now.words.freed cell.page + 2 ^ cell.index < 2 ^ 32
     sum =
         let a = (q.small cell.page).0 in
         let lt = x.index in
-        let more : 2 * 2 ^ cell.index ≤ 2 ^ 32 =
-        (let le : suc cell.index ≤ 32 = omega arith in let p : 2 ^ suc cell.index
-        ≤ 2 ^ 32 = pow_mono le in let s = pow-suc 2 cell.index in omega arith) in
+        let more : 2 * 2 ^ cell.index ≤ 2 ^ 32 = (let le : suc cell.index ≤ 32 = omega arith in let p : 2 ^ suc
+        cell.index ≤ 2 ^ 32 = pow_mono le in let s = pow-suc 2 cell.index in omega arith) in
         let some : 1 ≤ 2 ^ cell.index =
         (let z : 0 ≤ cell.index = omega arith in let p : 2 ^ 0 ≤ 2 ^ cell.index = pow_mono z in omega arith) in
         let b = or_lt 32 _ (2 ^ cell.index) a (omega arith) in
         let e = sum_is_or _ cell.index x.unset in
         omega arith
 
-pub free_kept : (c : Config) (w : World) (cell : Cell) (run : Option RunPages) (n : ℕ) → FreesHere c w cell n
-    → HasQuarantine c false w.now.words.marks (ground_of w) → HasQuarantine c false w.now.words.marks
-    (record (ground_of w) {
+pub free_kept : {c : Config} {w : World} {cell : Cell} (run : Option RunPages) {n : ℕ} → FreesHere c w cell n
+    → HasQuarantine c false w.now.words.marks (ground_of w) → HasQuarantine c false w.now.words.marks (record (ground_of
+    w) {
       freed = slice_set w.now.words.freed cell.page (n % 2 ^ 32);
-      snapshot = slice_set w.now.words.snapshot cell.page (n / 2 ^ 32);
+      snapshot = slice_set w.now.words.snapshot cell.page
+          (n / 2 ^ 32);
       run = run;
       allocations = map (freed_where_it_stands w.now.words (Some cell)) w.allocations;
     })
-free_kept c w cell run n x q = record {
+free_kept {c} {w} {cell} run {n = n} x q = record {
   small = λ i. (
     least_set w.now.words.freed cell.page (n % 2 ^ 32) i x.page (omega arith) (q.small i).0,
     least_set w.now.words.snapshot cell.page (n / 2 ^ 32) i x.in_snapshot
@@ -156,7 +151,7 @@ free_kept c w cell run n x q = record {
   within = λ i k h. grown i k (q.within i k (grind (arith, bit_cases, high)));
   owned = owned;
   shown = λ i u f.
-      let b = before_change c (freed_where_it_stands w.now.words (Some cell)) w.allocations i leaves u in
+      let b = before_change c w.allocations i leaves u in
       let a : PlacedAllocation = placed_at w.allocations i in
       ap (λ (y : Cell). has_bit (slice_index (slice_set w.now.words.freed cell.page (n % 2 ^ 32)) y.page) y.index)
       b.cell ∙ elim (freed_by (stands_in w.now.words cell a) a (rw (← b.now) f)) [
@@ -172,10 +167,10 @@ free_kept c w cell run n x q = record {
     leaves = freeing_leaves w.now.words (Some cell)
 
     low : n % 2 ^ 32 ≡ slice_index w.now.words.freed cell.page + 2 ^ cell.index
-    low = (free_halves c w cell n x q).0
+    low = (free_halves x q).0
 
     high : n / 2 ^ 32 ≡ slice_index w.now.words.snapshot cell.page
-    high = (free_halves c w cell n x q).1
+    high = (free_halves x q).1
 
     set_here : has_bit (slice_index (slice_set w.now.words.freed cell.page (n % 2 ^ 32)) cell.page) cell.index ≡ true
     set_here = grind (arith, bit_cases, low, added_here)
@@ -189,7 +184,7 @@ free_kept c w cell run n x q = record {
 
     still : (i k : ℕ) → IsFreedCell c w.allocations i k
         → IsFreedCell c (map (freed_where_it_stands w.now.words (Some cell)) w.allocations) i k
-    still i k o = freed_behind c (freed_where_it_stands w.now.words (Some cell)) w.allocations i k leaves o
+    still i k o = freed_behind leaves o
         (grind (arith, freed_released)) (freed_stays w.now.words cell (placed_at w.allocations o.number) o.freed)
 
     was : (i k : ℕ) → has_bit (slice_index w.now.words.freed i) k ≡ true

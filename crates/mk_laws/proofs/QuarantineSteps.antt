@@ -45,9 +45,8 @@ pub released_bits : (snapshot marks : List ℕ) (p k : ℕ) → is_released_in t
 released_bits snapshot marks p k r = grind (arith, and_parts, not-true)
 
 -- `quar` (c): on one page some released bits go, of both halves
-module _ (c : Config) (w : World) (p f n : ℕ) (lf : p < length w.now.words.freed)
-    (ls : p < length w.now.words.snapshot) (q : HasQuarantine c true w.now.words.marks (ground_of w))
-    (d : Drops w.now.words p f n) where
+module _ (c : Config) (w : World) {p f n : ℕ} (lf : p < length w.now.words.freed) (ls : p < length w.now.words.snapshot)
+    (q : HasQuarantine c true w.now.words.marks (ground_of w)) (d : Drops w.now.words p f n) where
   abbrev rest : ℕ
   rest = slice_index w.now.words.snapshot p - n
 
@@ -99,15 +98,14 @@ pub snapshot_kept : (c : Config) (marks : List ℕ) (t : Ground) (p : ℕ) → p
 snapshot_kept c marks t p ls q = grind (arith, least_set, bit_cases)
 
 -- `end`
-pub end_kept : (c : Config) (marks : List ℕ) (t : Ground)
-    → ((p k : ℕ) → is_released_in true t.snapshot marks p k ≡ false)
-    → HasQuarantine c true marks t → HasQuarantine c false marks t
+pub end_kept : (c : Config) (marks : List ℕ) (t : Ground) → ((p k : ℕ)
+    → is_released_in true t.snapshot marks p k ≡ false) → HasQuarantine c true marks t → HasQuarantine c false marks t
 end_kept c marks t none q = grind arith
 
 -- While the phase isn't releasing, the marks don't matter.
-pub unmarked : (c : Config) (marks other : List ℕ) (t : Ground) → HasQuarantine c false marks t
+pub unmarked : {c : Config} {marks : List ℕ} (other : List ℕ) {t : Ground} → HasQuarantine c false marks t
     → HasQuarantine c false other t
-unmarked c marks other t q = grind arith
+unmarked other q = grind arith
 
 -- Headers, used words and runs aren't read, and no step but one takes a cell.
 pub replaced : (c : Config) (releasing : Bool) (marks : List ℕ) (t : Ground) (pages : List Page) (placing : Placing)
@@ -118,9 +116,8 @@ replaced c releasing marks t pages placing run from q = grind arith
 
 -- `used` (a): a cell without a used bit is in no quarantine
 pub take_kept : (c : Config) (marks : List ℕ) (t : Ground) (pages : List Page) (place : Place)
-    → ((i : ℕ) → (placed_at t.allocations i).released ≡ false
-    → has_bit (used_on t.pages (cell_of_allocation c (placed_at t.allocations i)).page)
-    (cell_of_allocation c (placed_at t.allocations i)).index ≡ true)
+    → ((i : ℕ) → (placed_at t.allocations i).released ≡ false → has_bit (used_on t.pages (cell_of_allocation c
+    (placed_at t.allocations i)).page) (cell_of_allocation c (placed_at t.allocations i)).index ≡ true)
     → has_bit (used_on t.pages place.page) place.index ≡ false → HasQuarantine c false marks t
     → HasQuarantine c false marks (record t { pages = pages; placing = Used place })
 take_kept c marks t pages place used unset q = grind (arith, false_from_ne_true)

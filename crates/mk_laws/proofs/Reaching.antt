@@ -2,11 +2,11 @@
 use Rattle.mk_laws.proofs.Vocabulary.{Config, Flight, Marker, Moment, Seat, Step, Word, ℕ, access, and_parts, arith}
 use Rattle.mk_laws.proofs.Vocabulary.{caller_number, enabled_meets, flight_of, is_number_of, ltb-true, marker_at}
 use Rattle.mk_laws.proofs.Vocabulary.{nat_lt, not, outside, page_met, refl, seat_exists, true, word_accessed, word_met}
-use Rattle.mk_laws.proofs.{Vocabulary.{◌&&◌, ◌*◌, ◌<◌, ◌≡◌, ◌≤◌}, Basics.{Known, Meets, is_grant, known_left}}
-use Rattle.mk_laws.proofs.{Basics.{operands_of, register_small}, ScansInHeap.{MarkerFits, next_in_heap, nothing_fits}}
-use Rattle.mk_laws.proofs.{ScansInHeap.{scan_page_in_heap, seen_page_in_heap}, InHeap.{InHeap, in_heap_left}}
-use Rattle.mk_laws.proofs.{Known.Operands, ProtocolFrames.others_leave}
-use Rattle.mk_core.specs.{Layout.{IsOfTable, NamesWord}, Ranges.{is_word, is_word_met}}
+use Rattle.mk_laws.proofs.Vocabulary.{◌&&◌, ◌*◌, ◌<◌, ◌≡◌, ◌≤◌}
+use Rattle.mk_core.specs.{Layout.IsOfTable, Layout.NamesWord, Ranges.is_word, Ranges.is_word_met}
+use Rattle.mk_laws.proofs.Basics.{Known, Meets, is_grant, known_left, operands_of, register_small}
+use Rattle.mk_laws.proofs.ScansInHeap.{MarkerFits, next_in_heap, nothing_fits, scan_page_in_heap, seen_page_in_heap}
+use Rattle.mk_laws.proofs.{InHeap.InHeap, InHeap.in_heap_left, Known.Operands, ProtocolFrames.others_leave}
 use Rattle.mk_laws.specs.Reaching.{EventsReachTheTable, OthersLeaveAccesses}
 
 -- what is known of a seat
@@ -17,9 +17,9 @@ number_small c seat small h = grind (arith, ltb-true)
 seat_operands : (c : Config) (m : Moment) (seat : Seat) → Known c m → Operands (flight_of m seat).op
 seat_operands c m seat known = grind (arith, operands_of)
 
-seat_marker : (c : Config) (m : Moment) (seat : Seat) → InHeap c m → MarkerFits c (marker_at m seat)
-seat_marker c m (Marker k) h = h.markers k
-seat_marker c m _ h = nothing_fits c outside refl refl
+seat_marker : {c : Config} {m : Moment} (seat : Seat) → InHeap c m → MarkerFits c (marker_at m seat)
+seat_marker (Marker k) h = h.markers k
+seat_marker {c} _ h = nothing_fits c outside refl refl
 
 -- a word that is looked at
 looked_at : (c : Config) (x : Word) → c.callers ≤ 16 → is_word c x ≡ true → NamesWord c.pages x
@@ -35,14 +35,14 @@ other_gate c seat j small h = let lt = ltb-true j c.callers (and_parts _ _ h).0 
 
 ruleset reaches_facts = (other_gate, and_parts, next_in_heap, seat_marker, seen_page_in_heap, scan_page_in_heap)
 
-reaches : (c : Config) (m : Moment) (seat : Seat) (x : Step) → Known c m → InHeap c m → Meets c m seat x
+reaches : {c : Config} {m : Moment} (seat : Seat) (x : Step) → Known c m → InHeap c m → Meets c m seat x
     → IsOfTable c.pages (word_accessed c m (record { seat = seat; step = x }))
-reaches c m seat x known heap h =
+reaches seat x known heap h =
     grind (arith, reaches_facts, number_small, register_small, seat_operands, met, looked_at, ltb-true)
 
 pub events_reach_the_table : EventsReachTheTable
 events_reach_the_table c es e limits on now =
-    reaches c _ e.seat e.step (known_left c es limits on) (in_heap_left c es limits on) (enabled_meets c _ e now)
+    reaches e.seat e.step (known_left c es limits on) (in_heap_left c es limits on) (enabled_meets c _ e now)
 
 -- the access is the same where the call, the marker and a New's place are
 

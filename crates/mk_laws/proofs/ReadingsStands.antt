@@ -4,10 +4,10 @@ use Rattle.mk_laws.proofs.Vocabulary.{OfHistories, Option, PlacedAllocation, Run
 use Rattle.mk_laws.proofs.Vocabulary.{ap, arith, cell_of_allocation, false, inl, inr, is_freed, is_phase}
 use Rattle.mk_laws.proofs.Vocabulary.{is_released_in, left, ne_eqb, not-true, phase_of, placed_at, refl, run_count}
 use Rattle.mk_laws.proofs.Vocabulary.{run_headed, stands_in_its_cell, sym, true, true≢false, typed_size, ◌-◌, ◌<◌, ◌∙◌}
-use Rattle.mk_laws.proofs.{Vocabulary.{◌≡◌, ◌≢◌}, Basics.{KnownWorld, known_world}, ForImages.standing}
-use Rattle.mk_laws.proofs.InvariantHistories.{histories_keep_the_invariant}
-use Rattle.mk_core.{proofs.PointedAllocations.{taken_cell_is}, specs.Readings.{WordsTellWhatStands}}
-use Rattle.mk_laws.specs.WordReadings.{HeadersAndQuarantineTell}
+use Rattle.mk_laws.proofs.Vocabulary.{◌≡◌, ◌≢◌}
+use Rattle.mk_core.{proofs.PointedAllocations.taken_cell_is, specs.Readings.WordsTellWhatStands}
+use Rattle.mk_laws.{proofs.Basics.KnownWorld, proofs.Basics.known_world, proofs.ForImages.standing}
+use Rattle.mk_laws.{proofs.InvariantHistories.histories_keep_the_invariant, specs.WordReadings.HeadersAndQuarantineTell}
 
 -- a header that heads a run of more pages than this
 run_there : (x : Option Header) (page distance : ℕ) → distance < run_count x

@@ -29,10 +29,10 @@ pointed_word listed safe s n h a t o sound = grind (arith, place_is_inside)
 pub image_zero : (n : NeverState) (bs : List ℕ) (v : Value) → IsSound n v → image_of bs v ≡ 0 → v ≡ Null
 image_zero n bs v s e = grind arith
 
-pub image_same : (listed : List ℕ) (safe : ℕ → Bool) (s : ImageScene) (n : NeverState) → Ready listed safe s n
+pub image_same : {listed : List ℕ} {safe : ℕ → Bool} {s : ImageScene} {n : NeverState} → Ready listed safe s n
     → (u v : Value) → IsSound n u → IsSound n v → IsSafe safe u → IsSafe safe v
     → image_of (bases_of s.allocations) u ≡ image_of (bases_of s.allocations) v → u ≡ v
-image_same listed safe s n h (Ptr a t o) (Ptr b u i) su sv fu fv e =
+image_same {listed} {safe} {s} {n} h (Ptr a t o) (Ptr b u i) su sv fu fv e =
     let ea = base_at s.allocations a in
     let eb = base_at s.allocations b in
     let places : (placed_at s.allocations a).base + o ≡ (placed_at s.allocations b).base + i = omega arith in
@@ -41,12 +41,12 @@ image_same listed safe s n h (Ptr a t o) (Ptr b u i) su sv fu fv e =
       | inr ne ↦ absurd (h.apart a b o i (h.set.unreleased a fu) (h.set.unreleased b fv)
           (pointed_word listed safe s n h a t o su) (pointed_word listed safe s n h b u i sv) ne places)
     ]
-image_same listed safe s n h u v su sv fu fv e = grind (arith, image_zero)
+image_same h u v su sv fu fv e = grind (arith, image_zero)
 
-pub image_test : (listed : List ℕ) (safe : ℕ → Bool) (s : ImageScene) (n : NeverState) → Ready listed safe s n
+pub image_test : {listed : List ℕ} {safe : ℕ → Bool} {s : ImageScene} {n : NeverState} → Ready listed safe s n
     → (u v : Value) → IsSound n u → IsSound n v → IsSafe safe u → IsSafe safe v
     → (image_of (bases_of s.allocations) u == image_of (bases_of s.allocations) v) ≡ is_same u v
-image_test listed safe s n h u v su sv fu fv = elim (cases_Bool (is_same u v)) [
+image_test {s = s} h u v su sv fu fv = elim (cases_Bool (is_same u v)) [
   | inl e ↦ eq-eqb _ _ (ap (image_of (bases_of s.allocations)) (equal_from_same u v e)) ∙ sym e
   | inr e ↦ grind (arith, ne_eqb, same_from_equal, image_same)
 ]
@@ -56,9 +56,8 @@ bit_is b = grind arith
 
 -- what an event leads to, and that the answer that it decides is right
 abbrev pub Leads : (ℕ → Bool) → ImageScene → NeverState → ℕ → Op → ImageScene → Option Answer → Type 0
-Leads safe s n k o t a = Move safe s n t (after_calls n (asked (entry_of k o a)))
-    × ((more : List ℕ) → answered (entry_of k o a)
-    ≡ answers_of (bases_of t.allocations ++ more) (replies_of n (asked (entry_of k o a))))
+Leads safe s n k o t a = Move safe s n t (after_calls n (asked (entry_of k o a))) × ((more : List ℕ)
+    → answered (entry_of k o a) ≡ answers_of (bases_of t.allocations ++ more) (replies_of n (asked (entry_of k o a))))
 
 abbrev pub LeadsBy : (ℕ → Bool) → ImageScene → NeverState → ℕ → Op → ImageScene → Progress → Type 0
 LeadsBy safe s n k o t p = Leads safe s n k o (record t { flights = slice_set s.flights k p.flight }) p.answer

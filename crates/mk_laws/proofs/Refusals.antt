@@ -1,10 +1,10 @@
 -- A call that is decided and changes nothing, or is refused.
 use Rattle.mk_laws.proofs.Vocabulary.{Answer, Bool, Done, Flight, ImageScene, List, NeverState, Null, Op, Some, Stage}
 use Rattle.mk_laws.proofs.Vocabulary.{WordOf, ℕ, answer_of, arith, d_of, false, flagged, flight_among, i_of, is_put}
-use Rattle.mk_laws.proofs.Vocabulary.{length, q_of, register_at, slice_set, stage_refused, target_of, true, list_any}
-use Rattle.mk_laws.proofs.{Vocabulary.{steps_of, with_register, ◌*◌, ◌+◌, ◌<◌, ◌≡◌}, ImagesMoves.{Flies, Move, Owes}}
-use Rattle.mk_laws.proofs.{ImagesMoves.is_bare, Pairs.{bare_carries, bare_owes_nothing, bare_unprobed, shows_plain}}
-use Rattle.mk_laws.proofs.Ready.{Leads, one_right}
+use Rattle.mk_laws.proofs.Vocabulary.{length, list_any, q_of, register_at, slice_set, stage_refused, steps_of}
+use Rattle.mk_laws.proofs.{Vocabulary.{target_of, true, with_register, ◌*◌, ◌+◌, ◌<◌, ◌≡◌}, ImagesMoves.{Flies, Move}}
+use Rattle.mk_laws.proofs.{ImagesMoves.{Owes, is_bare}, Pairs.{bare_carries, bare_owes_nothing, bare_unprobed}}
+use Rattle.mk_laws.proofs.{Pairs.shows_plain, Ready.{Leads, one_right}}
 use Rattle.mk_never.specs.{NeverHeap.{after_op, left_at, reply_at, reply_of}, declared.operations.Reply.Reply}
 use Rattle.mk_never.specs.declared.values.Target.{Target}
 use Rattle.mk_core.specs.Calls.{is_same_stage}

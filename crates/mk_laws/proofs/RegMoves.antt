@@ -34,20 +34,19 @@ behind_load_q : (o : Op) → accesses o ≡ true → BehindLoadQ (stage_behind S
 behind_load_q o h = grind arith
 
 -- a flight that goes on undecided
-pub flies_on : (safe : ℕ → Bool) (s : ImageScene) (n : NeverState) (k : ℕ) (o : Op) (f : Flight)
-    → is_put (flight_among s.flights k).stage ≡ false → is_put f.stage ≡ false
-    → CarriesOwn (bases_of s.allocations) n k f → ProbedOwn n k f
-    → Leads safe s n k o (record s { flights = slice_set s.flights k f }) None
+pub flies_on : (safe : ℕ → Bool) (s : ImageScene) (n : NeverState) (k : ℕ) (o : Op) (f : Flight) → is_put
+    (flight_among s.flights k).stage ≡ false → is_put f.stage ≡ false → CarriesOwn (bases_of s.allocations) n k f
+    → ProbedOwn n k f → Leads safe s n k o (record s { flights = slice_set s.flights k f }) None
 flies_on safe s n k o f was is carries probed = grind (arith, shows_plain, Flies)
 
 -- a pointer i words on
-lea_value : (listed : List ℕ) (safe : ℕ → Bool) (s : ImageScene) (n : NeverState) → Ready listed safe s n
+lea_value : {listed : List ℕ} {safe : ℕ → Bool} {s : ImageScene} {n : NeverState} → Ready listed safe s n
     → (v : Value) (x i : ℕ) → IsSound n v → IsSafe safe v → x ≡ image_of (bases_of s.allocations) v → x ≢ 0
     → Meets n v i (λ kind. Unit {0}) → ((x + 8 * i) % 2 ^ 64 ≡ image_of (bases_of s.allocations) (moved_on v i))
     × IsSafe safe (moved_on v i) × (lea_reply v ≡ Done)
-lea_value listed safe s n h Null x i sound is e ne meets = absurd (ne e)
-lea_value listed safe s n h (Num m) x i sound is e ne meets = absurd sound
-lea_value listed safe s n h (Ptr a t o) x i sound is e ne meets =
+lea_value h Null x i sound is e ne meets = absurd (ne e)
+lea_value h (Num m) x i sound is e ne meets = absurd sound
+lea_value {s = s} h (Ptr a t o) x i sound is e ne meets =
     (omega (arith, h.bound a (o + i) (h.set.unreleased a is) meets.0, base_at s.allocations a, h.room), is, refl)
 
 -- the registers after `reg`
@@ -121,7 +120,7 @@ module _ (listed : List ℕ) (safe : ℕ → Bool) (s : ImageScene) (n : NeverSt
     reg_p (Op.IsNull p') q p r l x is a car e =
         let v = register_at n k p' in
         let tests : (x == 0) ≡ is_same v Null = rw e
-        (image_test listed safe s n h v Null (h.typed.registers (8 * k + p')) tt (h.set.registers (8 * k + p')) tt) in
+        (image_test h v Null (h.typed.registers (8 * k + p')) tt (h.set.registers (8 * k + p')) tt) in
         decides_nothing safe s n k (Op.IsNull p') _ (Answer.Num (one_if (x == 0))) refl (rw is) refl refl
         (λ bs. rw tests (ap Answer.Num (bit_is _)))
     reg_p (Op.Free p') q p r l x is a car e =
@@ -148,7 +147,7 @@ module _ (listed : List ℕ) (safe : ℕ → Bool) (s : ImageScene) (n : NeverSt
         (onward (flight Stage.Store o q p r l) (Some Answer.Done))
     reg_store (Op.Lea d q' i) q p r l is ld a car ad =
         let admitted : IsAdmitted listed n k (Op.Lea d q' i) = ad.0 in
-        let lea = lea_value listed safe s n h (register_at n k q') q i (h.typed.registers (8 * k + q'))
+        let lea = lea_value h (register_at n k q') q i (h.typed.registers (8 * k + q'))
         (h.set.registers (8 * k + q')) (car.q refl) (car.some_q refl) admitted.access in (
           Stores k d _ (flight Stage.Leave (Op.Lea d q' i) q p r l) (moved_on (register_at n k q') i)
               (record { there = there; registers = long; was = rw is; bare = refl }) longs ld lea.0 lea.1,

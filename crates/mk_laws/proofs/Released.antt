@@ -30,9 +30,9 @@ pub record IsStanding (c : Config) (w : Words) (a : PlacedAllocation) : Type 0 w
   pub stands : StandsOnHeap c a
   pub headers : HasItsHeaders c w a
 
-pub stands_there : (c : Config) (run : Option RunPages) (w : Words) (a : PlacedAllocation) → length w.pages ≡ c.pages
+pub stands_there : {c : Config} (run : Option RunPages) (w : Words) {a : PlacedAllocation} → length w.pages ≡ c.pages
     → IsShown w.pages (claim_of c run a) → a.released ≡ false → IsAtCell c a → IsStanding c w a
-stands_there c run w a len shown u at = record {
+stands_there run w {a = a} len shown u at = record {
   stands = record {
     typed = at.typed;
     unreleased = u;
@@ -64,44 +64,40 @@ pub all_stand : (c : Config) (o : Object) (releasing : Bool) (w : World) → len
 all_stand c o releasing w len st i u =
     let a : PlacedAllocation = placed_at w.allocations i in
     let x : Claim = claim_of c w.now.seats.holding.freed a in
-    stands_there c w.now.seats.holding.freed w.now.words a len
-    (st.scene.shown x (own_claim c o (ground_of w) x (claim_among c w.now.seats.holding.freed w.allocations i u))) u
-    (st.cells i u)
+    stands_there w.now.seats.holding.freed w.now.words len (st.scene.shown x
+    (own_claim c o (ground_of w) x (claim_among c w.now.seats.holding.freed w.allocations i u))) u (st.cells i u)
 
 pub releasing_leaves : (c : Config) (w : Words) → LeavesCells (with_released c w)
 releasing_leaves c w = record { places = released_leaves c w; released = λ a h. (or_parts a.released _ h).0 }
 
 -- whether a release of the allocation's cell releases it
-pub left_is : (c : Config) (w : Words) (a : PlacedAllocation) → IsWithinLimits c → IsStanding c w a
-    → (with_released c w a).released
-    ≡ is_released_in true w.snapshot w.marks (a.base / 64) (cell_of_allocation c a).index
-left_is c w a limits st = released_where_left c w a limits st.stands st.headers ∙ has_bit_without _ _ _
+pub left_is : {c : Config} {w : Words} {a : PlacedAllocation} → IsWithinLimits c → IsStanding c w a → (with_released c w
+    a).released ≡ is_released_in true w.snapshot w.marks (a.base / 64) (cell_of_allocation c a).index
+left_is {c} {w} {a} limits st = released_where_left c w a limits st.stands st.headers ∙ has_bit_without _ _ _
 
 -- a claim goes exactly where its cell is released
-pub goes : (c : Config) (run : Option RunPages) (w : Words) (xs : List PlacedAllocation) (x : Claim) → IsWithinLimits c
+pub goes : {c : Config} (run : Option RunPages) (w : Words) (xs : List PlacedAllocation) (x : Claim) → IsWithinLimits c
     → ((i : ℕ) → (placed_at xs i).released ≡ false → IsStanding c w (placed_at xs i)) → Among x (claims_of c run xs)
     → Among x (claims_of c run (map (with_released c w) xs))
     ⊎ (is_released_in true w.snapshot w.marks x.page x.index ≡ true)
-goes c run w xs x limits stand i = grind (arith, claim_is, changed_among, releasing_leaves, left_is)
+goes run w xs x limits stand i = grind (arith, claim_is, changed_among, releasing_leaves, left_is)
 
-pub released_terrain : (c : Config) (o : Object) (w : World) → IsWithinLimits c → length w.now.words.pages ≡ c.pages
+pub released_terrain : {c : Config} (o : Object) (w : World) → IsWithinLimits c → length w.now.words.pages ≡ c.pages
     → Laid c o false w (ground_of w) → ((run : RunPages) → w.now.seats.holding.freed ≡ Some run
     → is_released_in true w.now.words.snapshot w.now.words.marks run.page 0 ≡ false)
     → Laid c o true w (record (ground_of w) { allocations = map (with_released c w.now.words) w.allocations })
-released_terrain c o w limits len st kept =
+released_terrain {c} o w limits len st kept =
     let own : List Claim = claims_of c w.now.seats.holding.freed w.allocations in
     let placed : List Claim = claims_placed o w.now.seats.holding.placing in
     record {
-      scene = layout_released _ _ st.scene refl (record {
+      scene = layout_released _ st.scene refl (record {
         fewer = λ x i. elim (among_parts _ placed x i) [
           | inl j ↦ own_claim c o (ground_of w) x (was x j)
           | inr j ↦ placed_claim c o (ground_of w) x j
         ];
-        apart = apart_joined _ placed
-            (apart_behind c w.now.seats.holding.freed w.now.seats.holding.freed (with_released c w.now.words)
-            w.allocations (releasing_leaves c w.now.words) (apart_left own placed st.scene.apart))
-            (apart_right own placed st.scene.apart)
-            (λ x y ix iy. apart_across own placed x y st.scene.apart (was x ix) iy);
+        apart = apart_joined _ placed (apart_behind c w.now.seats.holding.freed w.now.seats.holding.freed w.allocations
+            (releasing_leaves c w.now.words) (apart_left own placed st.scene.apart)) (apart_right own placed
+            st.scene.apart) (λ x y ix iy. apart_across own placed x y st.scene.apart (was x ix) iy);
         gone = λ x i. elim (among_parts own placed x i) [
           | inl j ↦ elim (going x j) [ inl k ↦ inl (among_front _ placed x k) | inr r ↦ inr r ]
           | inr j ↦ inl (among_back _ placed x j)
@@ -109,21 +105,20 @@ released_terrain c o w limits len st kept =
       });
       gone = gone w.now.seats.holding.freed refl st.gone;
       first = st.first;
-      cells = cells_behind c _ w.allocations (releasing_leaves c w.now.words) st.cells;
+      cells = cells_behind c w.allocations (releasing_leaves c w.now.words) st.cells;
     }
   where
     was : (x : Claim) → Among x
         (claims_of c w.now.seats.holding.freed (map (with_released c w.now.words) w.allocations))
         → Among x (claims_of c w.now.seats.holding.freed w.allocations)
     was x j =
-        let n = was_claim c w.now.seats.holding.freed (with_released c w.now.words) w.allocations x
-        (releasing_leaves c w.now.words) j in
+        let n = was_claim c w.now.seats.holding.freed w.allocations x (releasing_leaves c w.now.words) j in
         rw n.is (claim_among c w.now.seats.holding.freed w.allocations n.number n.was)
 
     going : (x : Claim) → Among x (claims_of c w.now.seats.holding.freed w.allocations)
         → Among x (claims_of c w.now.seats.holding.freed (map (with_released c w.now.words) w.allocations))
         ⊎ (is_released_in true w.now.words.snapshot w.now.words.marks x.page x.index ≡ true)
-    going x j = goes c w.now.seats.holding.freed w.now.words w.allocations x limits (all_stand c o false w len st) j
+    going x j = goes w.now.seats.holding.freed w.now.words w.allocations x limits (all_stand c o false w len st) j
 
     gone : (run : Option RunPages) → w.now.seats.holding.freed ≡ run
         → RunStands (claims_of c w.now.seats.holding.freed w.allocations) run

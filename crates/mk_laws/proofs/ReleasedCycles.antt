@@ -17,11 +17,11 @@ pub record HasClosed (es : List Event) : Type 0 where
 pub record CycleSoFar (p : ℕ) (es : List Event) : Type 0 where
   pub closed : p ≡ 3 → HasClosed es
 
-closed_in : (p : ℕ) (es : List Event) → p ≡ 3 → UnderWay es p → HasClosed es
-closed_in p es three (Stops at k none) = record { marking = k; unreleased = none }
-closed_in p es three (Marks (inl one) begin none) = absurd (omega arith)
-closed_in p es three (Marks (inr two) begin none) = absurd (omega arith)
-closed_in p es three (Releases at k none) = absurd (omega arith)
+closed_in : {p : ℕ} {es : List Event} → p ≡ 3 → UnderWay es p → HasClosed es
+closed_in three (Stops at k none) = record { marking = k; unreleased = none }
+closed_in three (Marks (inl one) begin none) = absurd (omega arith)
+closed_in three (Marks (inr two) begin none) = absurd (omega arith)
+closed_in three (Releases at k none) = absurd (omega arith)
 
 so_far : (seat : Seat) (x : Step) (p : ℕ) (es : List Event) → AsksPhase x p → (IsUnreleased p → UnderWay es p)
     → IsUnreleased (phase_behind x p) → UnderWay (es ++ record { seat = seat; step = x } ∷ []) (phase_behind x p)
@@ -51,7 +51,7 @@ way_first c u = absurd (omega (arith, u.least))
 
 pub cycle_so_far : (c : Config) (es : List Event) → IsHistory c es → CycleSoFar (phase_of (left c es).now.words) es
 cycle_so_far c es h = record {
-  closed = λ three. closed_in _ es three (holds_of_histories IsUnderWay way_first way_kept c es h
+  closed = λ three. closed_in three (holds_of_histories IsUnderWay way_first way_kept c es h
       (record { least = omega arith; most = omega arith }));
 }
 

@@ -19,9 +19,8 @@ use Rattle.mk_laws.specs.Releases.{allocation_behind}
 
 -- No other cycle begins between a `begin` and its `release`.
 none_begins : (c : Config) (w : World) (b x : Event) (ys zs : List Event) → AreEnabledFrom c w (b ∷ (ys ++ x ∷ zs))
-    → is_begin b.step ≡ true → list_any (λ (e : Event). is_close e.step) ys ≡ false → is_close x.step ≡ true
-    → list_any (λ (e : Event). is_release e.step) zs ≡ false
-    → list_any (λ (e : Event). is_begin e.step) (ys ++ x ∷ zs) ≡ false
+    → is_begin b.step ≡ true → list_any (λ (e : Event). is_close e.step) ys ≡ false → is_close x.step ≡ true → list_any
+    (λ (e : Event). is_release e.step) zs ≡ false → list_any (λ (e : Event). is_begin e.step) (ys ++ x ∷ zs) ≡ false
 none_begins c w b x ys zs on begins no_close closes no_release =
     let first = moves_phase c w b (ys ++ x ∷ zs) on in
     let one = first.1 ∙ ap (λ (s : Step). phase_behind s (phase_of w.now.words)) (begin_is b.step begins) in
@@ -75,8 +74,7 @@ module _ (c : Config) (es : List Event) (h : IsHistory c es) (r : Releasing es) 
   }
 
   no_other : list_any (λ (e : Event). is_begin e.step) begin_at.behind ≡ false
-  no_other = none_begins c _ begin.event close.event close.before last.before
-      (enabled_at c front is_begin begin_at before_is_history)
+  no_other = none_begins c _ begin.event close.event close.before last.before (enabled_at begin_at before_is_history)
       begin.of_kind r.marking.close.none_before close.of_kind r.release.none_before
 
   releases : last.event.step ≡ Step.Release
@@ -87,9 +85,8 @@ module _ (c : Config) (es : List Event) (h : IsHistory c es) (r : Releasing es) 
       let on = ((enabled_in_parts c front (last.event ∷ last.behind)).0 whole.enabled).1 in
       subst (λ (x : Step). AsksPhase x (phase_of w.now.words)) releases (moves_phase c w last.event last.behind on).0
 
-  snapshot_is : (i : ℕ) → (placed_at w.allocations i).released ≡ false
-      → has_bit_of c w.now.words.snapshot (placed_at w.allocations i)
-      ≡ is_quarantined (placed_at (left c begin.before).allocations i)
+  snapshot_is : (i : ℕ) → (placed_at w.allocations i).released ≡ false → has_bit_of c w.now.words.snapshot
+      (placed_at w.allocations i) ≡ is_quarantined (placed_at (left c begin.before).allocations i)
   snapshot_is =
       let at = stopped in
       let phase : IsUnreleased (phase_of w.now.words) = record { least = omega arith; most = omega arith } in

@@ -43,9 +43,9 @@ used_header pages p n q lt =
     set_by (λ (x : Page). x.header ≡ header_on pages q) pages p q _ free_page (λ e. ap (header_on pages) (sym e)) refl
 
 -- the pages of a claim are others
-pub shown_beside : (pages : List Page) (p n : ℕ) (x : Claim) → p < length pages → IsShown pages x
+pub shown_beside : {pages : List Page} (p n : ℕ) {x : Claim} → p < length pages → IsShown pages x
     → ((distance : ℕ) → distance < pages_made x.object → x.page + distance ≢ p) → IsShown (with_header_on pages p n) x
-shown_beside pages p n x lt shown apart = record {
+shown_beside {pages} p n {x = x} lt shown apart = record {
   sized = shown.sized;
   known = shown.known;
   within = let len = length-set pages p (record { header = n; used = used_on pages p }) in omega arith;
@@ -72,11 +72,11 @@ plot_emptied pages p (Plotted first o) lt stands = record {
 }
 
 -- `head` (d): a page of which nothing is left is free
-pub layout_emptied : (s : LayoutScene) (p : ℕ) → IsLaidOn s → p < length s.pages → s.releasing ≡ true
+pub layout_emptied : {s : LayoutScene} (p : ℕ) → IsLaidOn s → p < length s.pages → s.releasing ≡ true
     → used_on s.pages (head_on s.pages p) ≡ 0 → IsLaidOn (Emptied s p)
-layout_emptied s p laid lt on z = record {
-  shown = λ x among. shown_beside s.pages p 0 x lt (laid.shown x among) (
-      λ distance lt e. claimed_used s.pages x distance (laid.shown x among) lt (rw e z));
+layout_emptied {s} p laid lt on z = record {
+  shown = λ x among. shown_beside p 0 lt (laid.shown x among) (
+      λ distance lt e. claimed_used distance (laid.shown x among) lt (rw e z));
   apart = laid.apart;
   used = λ q k h. let t = laid.used q k (old q k h) in (
     set_by (λ (x : Page). k < cells_under (header_of x.header)) s.pages p q _ free_page
@@ -110,9 +110,9 @@ pub record Gives (s : LayoutScene) (p n : ℕ) : Type 0 where
   pub fewer : (k : ℕ) → has_bit n k ≡ true → has_bit (used_on s.pages p) k ≡ true
   pub gone : (k : ℕ) → has_bit (used_on s.pages p) k ≡ true → has_bit n k ≡ false → is_released_on s p k ≡ true
 
-pub layout_given_back : (s : LayoutScene) (p n : ℕ) → IsLaidOn s → p < length s.pages → s.releasing ≡ true → Gives s p n
+pub layout_given_back : {s : LayoutScene} (p n : ℕ) → IsLaidOn s → p < length s.pages → s.releasing ≡ true → Gives s p n
     → ((x : Claim) → Among x s.claims → is_released_on s x.page x.index ≡ false) → IsLaidOn (GivenBack s p n)
-layout_given_back s p n laid lt on gives kept = record {
+layout_given_back {s} p n laid lt on gives kept = record {
   shown = λ x among. shown x among (laid.shown x among);
   apart = laid.apart;
   used = λ q k h. let t = laid.used q k (fewer q k h)
@@ -163,9 +163,9 @@ pub record Releases (s : LayoutScene) (claims : List Claim) : Type 0 where
   pub gone : (x : Claim) → Among x s.claims
       → Among x claims ⊎ (is_released_in true s.snapshot s.marks x.page x.index ≡ true)
 
-pub layout_released : (s : LayoutScene) (claims : List Claim) → IsLaidOn s → s.releasing ≡ false → Releases s claims
+pub layout_released : {s : LayoutScene} (claims : List Claim) → IsLaidOn s → s.releasing ≡ false → Releases s claims
     → IsLaidOn (Released s claims)
-layout_released s claims laid off r = record {
+layout_released {s} claims laid off r = record {
   shown = λ x among. laid.shown x (r.fewer x among);
   apart = r.apart;
   used = λ p k h. let t = laid.used p k h in (t.0, by p k t.1);
@@ -189,8 +189,8 @@ pub record Ends (s : LayoutScene) : Type 0 where
   pub none : (p k : ℕ) → p < length s.pages → is_released_on s p k ≡ false
   pub settled : (p : ℕ) → p < length s.pages → header_on s.pages p ≢ 0 → used_on s.pages (head_on s.pages p) ≢ 0
 
-pub layout_ended : (s : LayoutScene) → IsLaidOn s → Ends s → IsLaidOn (Ended s)
-layout_ended s laid ends = record {
+pub layout_ended : {s : LayoutScene} → IsLaidOn s → Ends s → IsLaidOn (Ended s)
+layout_ended {s} laid ends = record {
   shown = laid.shown;
   apart = laid.apart;
   used = λ p k h. let t = laid.used p k h in (t.0, inl (by p k h t.1));

@@ -27,28 +27,28 @@ exchanged : (gs : List ℕ) (n j k : ℕ) → slice_index gs k ≡ 2 → k ≡ j
     → (if slice_index gs j == 0 then n else slice_index gs j) ≡ 2
 exchanged gs n j k held e = ap (λ g. if g == 0 then n else g) (ap (λ i. slice_index gs i) (sym e) ∙ held)
 
-pub gates_stay : (c : Config) (m : Moment) (seat : Seat) (x : Step) → Known c m → Meets c m seat x → is_open x ≡ false
+pub gates_stay : {c : Config} {m : Moment} (seat : Seat) (x : Step) → Known c m → Meets c m seat x → is_open x ≡ false
     → (k : ℕ) → k < c.callers → slice_index m.words.gates k ≡ 2 → slice_index (Behind c m seat x).words.gates k ≡ 2
-gates_stay c m seat (Step.Enter o) known h out k lt held =
+gates_stay {m} seat (Step.Enter o) known h out k lt held =
     set_gate m.words.gates _ _ k held (exchanged m.words.gates 1 _ k held)
-gates_stay c m seat (Step.Hold j) known h out k lt held =
+gates_stay {m} seat (Step.Hold j) known h out k lt held =
     set_gate m.words.gates j _ k held (exchanged m.words.gates 2 j k held)
-gates_stay c m (Caller j) Step.Leave known h out k lt held = set_gate m.words.gates j 0 k held own
+gates_stay {c} {m} (Caller j) Step.Leave known h out k lt held = set_gate m.words.gates j 0 k held own
   where
     own : k ≡ j → ◌≡◌ {A = ℕ} 0 2
     own e =
         let at = at_its_stage _ _ Step.Leave refl h.order in
         let here : (flight_of m (Caller j)).stage ≡ Stage.Idle =
-        subst (λ i. (flight_of m (Caller i)).stage ≡ Stage.Idle) e (held_idle c (view_of m) k known.orderly lt held) in
+        subst (λ i. (flight_of m (Caller i)).stage ≡ Stage.Idle) e (held_idle k known.orderly lt held) in
         cc
-gates_stay c m (Marker j) Step.Leave known h out k lt held = let kind = h.kind in cc
-gates_stay c m Host Step.Leave known h out k lt held = let kind = h.kind in cc
-gates_stay c m seat (Step.Open j) known h out k lt held = cc
-gates_stay c m seat Step.Reg known h out k lt held = ap (λ (gs : List ℕ). slice_index gs k) (reg_keeps m.words _ _
+gates_stay (Marker j) Step.Leave known h out k lt held = let kind = h.kind in cc
+gates_stay Host Step.Leave known h out k lt held = let kind = h.kind in cc
+gates_stay seat (Step.Open j) known h out k lt held = cc
+gates_stay {m} seat Step.Reg known h out k lt held = ap (λ (gs : List ℕ). slice_index gs k) (reg_keeps m.words _ _
     _).gates ∙ held
-gates_stay c m seat (Step.Tally n v) known h out k lt held =
+gates_stay {m} seat (Step.Tally n v) known h out k lt held =
     ap (λ (gs : List ℕ). slice_index gs k) (tally_keeps m.words n v).gates ∙ held
-gates_stay c m seat _ known h out k lt held = held
+gates_stay seat _ known h out k lt held = held
 
 -- the kinds that change what the holder has freed, or whose turn it is
 abbrev moves_run : Step → Bool
@@ -78,7 +78,7 @@ some_run : (w : Words) (cell : Option Cell) (r : RunPages) → run_of_cell w cel
 some_run w None r is = cc
 some_run w (Some x) r is = (x, (refl, heads _ x.page r is))
 
-module _ (c : Config) (w : World) (known : KnownWorld c w) (laid : LayoutStands c w) (gates : HoldsRunGates c w) where
+module _ {c : Config} {w : World} (known : KnownWorld c w) (laid : LayoutStands c w) (gates : HoldsRunGates c w) where
   -- the run of the call, where it is what it was
   stays : (seat : Seat) (x : Step) → Meets c w.now seat x
       → (is_heap_store x ≡ true → IsWordOfMapped c w.allocations (word_met (flight_of w.now seat)))
@@ -103,15 +103,13 @@ module _ (c : Config) (w : World) (known : KnownWorld c w) (laid : LayoutStands 
   -- A Free of a run finds them held.
   freeing : (seat : Seat) (p n : ℕ) → Meets c w.now seat (Step.Quar p n)
       → (is_heap_store (Step.Quar p n) ≡ true → IsWordOfMapped c w.allocations (word_met (flight_of w.now seat)))
-      → is_run_gone w.now.words
-      (or_else (run_of_cell w.now.words (cell_freed c.pages w.now.words (flight_of w.now seat) p n))
-      w.now.seats.holding.freed) ≡ false → OthersHeld c w.now
+      → is_run_gone w.now.words (or_else (run_of_cell w.now.words (cell_freed c.pages w.now.words
+      (flight_of w.now seat) p n)) w.now.seats.holding.freed) ≡ false → OthersHeld c w.now
   freeing seat p n h stored off =
       by (run_of_cell w.now.words (cell_freed c.pages w.now.words (flight_of w.now seat) p n)) refl off
     where
-      by : (r : Option RunPages)
-          → run_of_cell w.now.words (cell_freed c.pages w.now.words (flight_of w.now seat) p n) ≡ r
-          → is_run_gone w.now.words (or_else r w.now.seats.holding.freed) ≡ false → OthersHeld c w.now
+      by : (r : Option RunPages) → run_of_cell w.now.words (cell_freed c.pages w.now.words (flight_of w.now seat) p n)
+          ≡ r → is_run_gone w.now.words (or_else r w.now.seats.holding.freed) ≡ false → OthersHeld c w.now
       by None is off = gates off
       by (Some r) is off =
           let x = some_run w.now.words _ r is in
@@ -148,5 +146,5 @@ module _ (c : Config) (w : World) (known : KnownWorld c w) (laid : LayoutStands 
       rest x h stored out shut off k lt other =
           let same : is_run_gone (Behind c w.now seat x).words w.now.seats.holding.freed ≡ false =
           cc (freed_kind c w.now seat x out, off) in
-          gates_stay c w.now seat x known.now h shut k lt
+          gates_stay seat x known.now h shut k lt
           (gates (before seat x h stored same) k lt (λ e. other (turn_kind c w.now seat x out ∙ e)))

@@ -8,10 +8,10 @@ use Rattle.mk_laws.proofs.Vocabulary.{is_unmapped_header, large_count, made_is_m
 use Rattle.mk_laws.proofs.Vocabulary.{pages_made, placed_at, placed_now, refl, set_by, slice_index, stands, subst, sym}
 use Rattle.mk_laws.proofs.Vocabulary.{true, true≢false, typed_size, undecided_new, unmapped_header}
 use Rattle.mk_laws.proofs.Vocabulary.{unmapped_is_unmapped, used_at, word_met, words_are_zero, ◌*◌, ◌+◌, ◌-◌, ◌/◌, ◌<◌}
-use Rattle.mk_laws.proofs.{Vocabulary.{◌∙◌, ◌≡◌, ◌≢◌}, Basics.{Behind, KnownWorld, Meets, Table, WorldBehind}}
-use Rattle.mk_laws.proofs.Basics.{ends_on_pages, headers_kind, is_head, mapped_stays, new_has_turn, no_run, own_claim}
-use Rattle.mk_laws.proofs.{Basics.{reg_table, tally_table}, ForImages.{laid_out, run_of}, LayoutReadings.claimed_used}
-use Rattle.mk_laws.proofs.Tests.{all_below_from}
+use Rattle.mk_laws.proofs.Vocabulary.{◌∙◌, ◌≡◌, ◌≢◌}
+use Rattle.mk_laws.proofs.Basics.{Behind, KnownWorld, Meets, Table, WorldBehind, ends_on_pages, headers_kind, is_head}
+use Rattle.mk_laws.proofs.Basics.{mapped_stays, new_has_turn, no_run, own_claim, reg_table, tally_table}
+use Rattle.mk_laws.proofs.{ForImages.laid_out, ForImages.run_of, LayoutReadings.claimed_used, Tests.all_below_from}
 
 gone_from : (v : Words) (r : RunPages) → ((d : ℕ) → d < r.count → header_at v (r.page + d) ≡ unmapped_header r.count d)
     → ((i : ℕ) → i < 64 * r.count → slice_index v.heap (64 * r.page + i) ≡ 0) → is_run_gone v (Some r) ≡ true
@@ -34,8 +34,7 @@ heap_after c w seat Step.Cas no_wipe stored n none = get_or-set_other _ _ n _ 0 
 heap_after c w seat _ no_wipe stored n none = cc
 
 module _ (c : Config) (w : World) (known : KnownWorld c w) (laid : LayoutStands c w) (r : RunPages)
-    (is : w.now.seats.holding.freed ≡ Some r)
-    (gone : is_run_gone w.now.words w.now.seats.holding.freed ≡ true) where
+    (is : w.now.seats.holding.freed ≡ Some r) (gone : is_run_gone w.now.words w.now.seats.holding.freed ≡ true) where
   gone_parts : (is_run_unmapped w.now.words r ≡ true) × (words_are_zero w.now.words (64 * r.page) (64 * r.count) ≡ true)
   gone_parts = and_parts _ _ (ap (λ (x : Option RunPages). is_run_gone w.now.words x) (sym is) ∙ gone)
 
@@ -68,7 +67,7 @@ module _ (c : Config) (w : World) (known : KnownWorld c w) (laid : LayoutStands 
           let page = y.page in
           let count = y.count in
           let here : y.claim.page + d ≡ p = omega arith in
-          claimed_used w.now.words.pages y.claim d shown (omega arith)
+          claimed_used d shown (omega arith)
           (subst (λ q. used_at w.now.words (head_page w.now.words q) ≡ 0) (sym here) x.unused)
 
   -- No word of it is one of a mapped allocation.

@@ -25,9 +25,8 @@ shown_word word count h = (word_of-header_of word (Run count true) h).1
 class_small : (words : ℕ) → unwrap_or (class_for words) 0 < 8
 class_small words = grind (arith, class_for-some)
 
-run_shown : (pages count distance : ℕ) (mapped leaf : Bool)
-    → 9 + 16 * count ≡ word_of (run_header pages mapped leaf distance)
-    → (mapped ≡ true) × (distance ≡ 0) × (count ≡ pages)
+run_shown : (pages count distance : ℕ) (mapped leaf : Bool) → 9 + 16 * count ≡ word_of
+    (run_header pages mapped leaf distance) → (mapped ≡ true) × (distance ≡ 0) × (count ≡ pages)
 run_shown pages count distance mapped leaf e = grind arith
 
 made_shown : (o : Object) (distance count : ℕ) → 9 + 16 * count ≡ header_made o distance
@@ -43,9 +42,8 @@ pub next_is : (w : Words) (first count : ℕ) (wanted : ℕ → ℕ) (page value
     → is_next_header w first count wanted page value ≡ true → Next first page value wanted
 next_is w first count wanted page value h = grind (arith, and_parts, leb-true, eqb-true)
 
-carved_fits : (c : Config) (w : Words) (f : Flight) (place : Option Place) (p n : ℕ)
-    → ((x : Place) → place ≡ Some x → PlaceFits c f.op x)
-    → carves w (object_made c f.op) place p n ≡ true → RunFits c p n
+carved_fits : (c : Config) (w : Words) (f : Flight) (place : Option Place) (p n : ℕ) → ((x : Place) → place ≡ Some x
+    → PlaceFits c f.op x) → carves w (object_made c f.op) place p n ≡ true → RunFits c p n
 carved_fits c w f None p n fits h = cc
 carved_fits c w f (Some x) p n fits h = λ count shows.
     let o = object_made c f.op in
@@ -67,15 +65,14 @@ header_set : (c : Config) (ps : List Page) (p n u : ℕ) → RunFits c p n → R
 header_set c ps p n u fits all q =
     set_by (λ (x : Page). RunFits c q x.header) ps p q _ free_page (λ e count shows. rw e (fits count shows)) (all q)
 
-pub runs_behind : (c : Config) (w : World) (f : Flight) (g : Ground)
-    → ((x : Place) → place_now c w.now f ≡ Some x → PlaceFits c f.op x)
-    → RunsFit c w.now.words.pages → GroundStep c w f g → RunsFit c g.pages
-runs_behind c w f g fits all (Carves p n own at) = header_set c w.now.words.pages p n _
+pub runs_behind : {c : Config} {w : World} {f : Flight} {g : Ground} → ((x : Place) → place_now c w.now f ≡ Some x
+    → PlaceFits c f.op x) → RunsFit c w.now.words.pages → GroundStep c w f g → RunsFit c g.pages
+runs_behind {c} {w} {f} fits all (Carves p n own at) = header_set c w.now.words.pages p n _
     (carved_fits c w.now.words f _ p n fits own) all
-runs_behind c w f g fits all (Unmaps p n own at) = header_set c w.now.words.pages p n _
+runs_behind {c} {w} fits all (Unmaps p n own at) = header_set c w.now.words.pages p n _
     (unmapped_fits c w.now.words w.now.seats.holding.freed p n own) all
-runs_behind c w f g fits all (Empties p n own at) =
+runs_behind {c} {w} fits all (Empties p n own at) =
     header_set c w.now.words.pages p n _ (grind (arith, eqb-true, shown_word, and_parts)) all
-runs_behind c w f g fits all (TakesCell p n once own at) = λ q. used_set w.now.words p q n (λ y. RunFits c q y) (all q)
-runs_behind c w f g fits all (GivesBack p n own at) = λ q. used_set w.now.words p q n (λ y. RunFits c q y) (all q)
-runs_behind c w f g fits all _ = all
+runs_behind {c} {w} fits all (TakesCell p n once own at) = λ q. used_set w.now.words p q n (λ y. RunFits c q y) (all q)
+runs_behind {c} {w} fits all (GivesBack p n own at) = λ q. used_set w.now.words p q n (λ y. RunFits c q y) (all q)
+runs_behind fits all _ = all

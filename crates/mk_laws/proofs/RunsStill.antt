@@ -14,13 +14,13 @@ wipe_is_holders : (x : Step) → is_wipe x ≡ true → is_holders x ≡ true
 wipe_is_holders (Step.Wipe n) w = refl
 wipe_is_holders _ w = cc
 
-gone_after : (c : Config) (w : World) (seat : Seat) (x : Step) (freed : Option RunPages) → KnownWorld c w
+gone_after : {c : Config} {w : World} (seat : Seat) (x : Step) (freed : Option RunPages) → KnownWorld c w
     → LayoutStands c w → w.now.seats.holding.freed ≡ freed
     → Meets c w.now seat x → (is_heap_store x ≡ true → IsWordOfMapped c w.allocations (word_met (flight_of w.now seat)))
     → is_run_gone w.now.words w.now.seats.holding.freed ≡ true
     → is_run_gone (WorldBehind c w seat x).now.words freed ≡ true
-gone_after c w seat x None known laid is h stored gone = refl
-gone_after c w seat x (Some r) known laid is h stored gone = gone_behind c w known laid r is gone seat x h stored
+gone_after seat x None known laid is h stored gone = refl
+gone_after {c} {w} seat x (Some r) known laid is h stored gone = gone_behind c w known laid r is gone seat x h stored
 
 -- what the turn's holder finds
 pub record HolderFinds (c : Config) (s : Seat) (w v : World) : Type 0 where
@@ -44,9 +44,8 @@ finds_one c s es e h other holds =
     let ne = other_seat s e.seat other in
     let own = left_after c w e.seat s e.step st.known.now last.meets ne in
     let stored = (told_to_zeros c w _ st.known st.all e last.on last.admitted).stored in
-    let out : HoldsTurn c (view_of w.now) e.seat → ⊥ =
-    λ t. ne (same_holder c (view_of w.now) e.seat s st.known.now.orderly t
-    (holds_turn c w.now s st.known.now.orderly holds)) in
+    let out : HoldsTurn c (view_of w.now) e.seat → ⊥ = λ t. ne
+    (same_holder c (view_of w.now) e.seat s st.known.now.orderly t (holds_turn c w.now s st.known.now.orderly holds)) in
     let no_wipe : is_wipe e.step ≡ false = elim (cases_Bool (is_wipe e.step)) [
       | inr e' ↦ e'
       | inl e' ↦ absurd (out (acts_as_holder c w.now e.seat e.step (actor_of c w.now e.seat e.step st.known.now.orderly
@@ -56,7 +55,7 @@ finds_one c s es e h other holds =
       holds = (own.own.holding holds).0;
       holding = (own.own.holding holds).1;
       allocations = ap (λ (y : Steady). y.allocations) (own.turn holds).steady;
-      gone = gone_after c w e.seat e.step w.now.seats.holding.freed st.known st.all.order.laid refl last.meets stored;
+      gone = gone_after e.seat e.step w.now.seats.holding.freed st.known st.all.order.laid refl last.meets stored;
       outside = heap_after c w e.seat e.step no_wipe stored;
     })
 

@@ -1,8 +1,8 @@
 -- The moment after an event, and steps that leave the words of the protocol as they are.
 use Rattle.mk_laws.proofs.Vocabulary.{Access, Config, Flight, Holding, List, Load, MarkerState, Moment, Named, Seat}
 use Rattle.mk_laws.proofs.Vocabulary.{Step, Store, Tally, Word, Words, ℕ, accessed, found, refl, tally_word, ◌≡◌}
-use Rattle.mk_laws.proofs.{ProtocolMoves.Move, Views.{View, view_of}}
 use Rattle.mk_core.specs.Effects.{moment_behind}
+use Rattle.mk_laws.proofs.{ProtocolMoves.Move, Views.View, Views.view_of}
 
 abbrev pub Behind : Config → Moment → Seat → Step → Moment
 Behind c m seat x = moment_behind c m (record { seat = seat; step = x })
@@ -27,21 +27,11 @@ pub tally_keeps : (w : Words) (n : Tally) (v : ℕ) → Keeps w (accessed w (Nam
 tally_keeps w Tally.Held v = record { turn = refl; phase = refl; gates = refl }
 tally_keeps w _ v = record { turn = refl; phase = refl; gates = refl }
 
+-- a view of these words
+abbrev pub view_by : Words → List Flight → Holding → List MarkerState → View
+view_by w fs h ms = record { turn = w.turn; phase = w.phase; gates = w.gates; flights = fs; holding = h; markers = ms }
+
 -- a move, where the words of the protocol are the same
-pub with_words : (c : Config) (v : View) (seat : Seat) (w x : Words) (fs : List Flight) (h : Holding)
-    (ms : List MarkerState) → Keeps w x → Move c v seat (record {
-      turn = w.turn;
-      phase = w.phase;
-      gates = w.gates;
-      flights = fs;
-      holding = h;
-      markers = ms;
-    }) → Move c v seat (record {
-      turn = x.turn;
-      phase = x.phase;
-      gates = x.gates;
-      flights = fs;
-      holding = h;
-      markers = ms;
-    })
-with_words c v seat w x fs h ms same move = rw same.turn (rw same.phase (rw same.gates move))
+pub with_words : {c : Config} {v : View} {seat : Seat} {w x : Words} (fs : List Flight) (h : Holding)
+    (ms : List MarkerState) → Keeps w x → Move c v seat (view_by w fs h ms) → Move c v seat (view_by x fs h ms)
+with_words fs h ms same move = rw same.turn (rw same.phase (rw same.gates move))

@@ -1,19 +1,19 @@
 -- What the images tell the other groups.
-use Rattle.mk_laws.proofs.Vocabulary.{AreAdmitted, Caller, CarriesOwn, Cell, Config, ImagePremises, ImagesSay}
+use Rattle.mk_laws.proofs.Vocabulary.{AreAdmitted, Bool, Caller, CarriesOwn, Cell, Config, ImagePremises, ImagesSay}
 use Rattle.mk_laws.proofs.Vocabulary.{IsAdmitted, IsNumber, IsPointer, IsSafe, IsSound, Kind, MeetsAll, Mirrors}
 use Rattle.mk_laws.proofs.Vocabulary.{NeverState, Null, Num, Op, ProbedOwn, Ptr, RunPages, Seat, Some, Stage, Step}
 use Rattle.mk_laws.proofs.Vocabulary.{Value, World, ℕ, ap, arith, asked, bases_of, call_decided, cases_eq}
 use Rattle.mk_laws.proofs.Vocabulary.{cell_of_allocation, enabled_meets, false, false≢true, flight_of, i_of, image_of}
-use Rattle.mk_laws.proofs.Vocabulary.{image_scene_of, inl, inr, is_marked, is_put, is_undecided_free, ltb-true}
-use Rattle.mk_laws.proofs.Vocabulary.{object_placed, p_of, phase_of, placed_at, pointed_cell, refl, register_at}
-use Rattle.mk_laws.proofs.Vocabulary.{run_begins, subst, sym, target, true, typed_size, word_met, ◌*◌, ◌+◌, ◌-◌, ◌/◌}
-use Rattle.mk_laws.proofs.Vocabulary.{◌∙◌, ◌≡◌, ◌≢◌, ◌⊎◌, Bool, [], is_under_turn, list_any, ◌∷◌}
+use Rattle.mk_laws.proofs.Vocabulary.{image_scene_of, inl, inr, is_marked, is_put, is_undecided_free, is_under_turn}
+use Rattle.mk_laws.proofs.Vocabulary.{list_any, ltb-true, object_placed, p_of, phase_of, placed_at, pointed_cell, refl}
+use Rattle.mk_laws.proofs.Vocabulary.{register_at, run_begins, subst, sym, target, true, typed_size, word_met, [], ◌*◌}
+use Rattle.mk_laws.proofs.Vocabulary.{◌+◌, ◌-◌, ◌/◌, ◌∙◌, ◌∷◌, ◌≡◌, ◌≢◌, ◌⊎◌}
+use Rattle.mk_core.{proofs.PlacesNow.target_is, proofs.StandingAllocations.run_cell, specs.Calls.is_same_stage}
 use Rattle.mk_laws.proofs.Basics.{KnownWorld, Ready, Stands, at_its_stage, exists_placed, flight, is_astray}
 use Rattle.mk_laws.proofs.Basics.{is_call_stage, not_astray, ready_of, standing_at, stands_of, unmapped_is, words_fit}
-use Rattle.mk_laws.proofs.{CallSorts.{admitted_call, call_outside, literal}, FreeMoves.pointer_cell}
-use Rattle.mk_laws.proofs.{FreedRuns.decided_free_gives, ImagesKept.own_plain, Protocols.protocol_of}
-use Rattle.mk_laws.proofs.{Reached.{Reaches, reaches}, NextSteps.{has_stage_of_its_own, stage_of}}
-use Rattle.mk_core.{proofs.{PlacesNow.target_is, StandingAllocations.run_cell}, specs.Calls.{is_same_stage}}
+use Rattle.mk_laws.proofs.{CallSorts.admitted_call, CallSorts.call_outside, FreeMoves.pointer_cell}
+use Rattle.mk_laws.proofs.{FreedRuns.decided_free_gives, ImagesKept.own_plain, NextSteps.has_stage_of_its_own}
+use Rattle.mk_laws.proofs.{NextSteps.stage_of, Protocols.protocol_of, Reached.Reaches, Reached.reaches}
 use Rattle.mk_laws.specs.ImagesSay.{IsCellOfUnreleased, IsMappedWord}
 
 abbrev is_storing : Stage → Bool
@@ -89,7 +89,7 @@ module _ (c : Config) (w : World) (n : NeverState) (known : KnownWorld c w) (oth
             (let b = points.base in omega arith))
       ] in
       let plain : is_put f.stage ≡ false = ap is_put (decided_free_gives f.stage f.op who.holds) in
-      let word = own_plain (image_scene_of w) n ready.images k (p_of f.op) (ready.small k).1 plain
+      let word = own_plain ready.images k (p_of f.op) (ready.small k).1 plain
       ∙ ap (image_of (bases_of w.allocations)) points.is in
       let cell = pointer_cell c w n known mirrors mirrors.safe.0 ready st points.number points.ty points.offset _ sound
       is word in

@@ -1,4 +1,5 @@
 -- What a marker's own step makes of its scan, its hand and the header that it has seen, in the words as they are.
+use Rattle.mk_laws.proofs.Vocabulary.{Bool, Cell, Config, HeaderGoesOn, IsGuarded, MarkerStands, MarkerState as Marker}
 use Rattle.mk_laws.proofs.Vocabulary.{Moment, None, Option, Presence, Scan, ScanStands, SeenHeader, Some, Words, ℕ}
 use Rattle.mk_laws.proofs.Vocabulary.{and_parts, ap, arith, cases_eq, cases_lt, cell_at, cell_seen, cells_under}
 use Rattle.mk_laws.proofs.Vocabulary.{eqb-true, false, has_bit, has_next_word, has_no_pointers, has_seen_cell}
@@ -6,9 +7,8 @@ use Rattle.mk_laws.proofs.Vocabulary.{header_at, header_in, header_of, if◌then
 use Rattle.mk_laws.proofs.Vocabulary.{is_marked, is_scanned, lt-ltb, ltb-true, nat_lt, none-some, not, page_at_address}
 use Rattle.mk_laws.proofs.Vocabulary.{refl, same_Some, scan_begun, scan_claimed, scan_onward, slice_index, subst, sym}
 use Rattle.mk_laws.proofs.Vocabulary.{true, true≢false, words_under, ◌*◌, ◌+◌, ◌<◌, ◌==◌, ◌∙◌, ◌≡◌, ◌≢◌, ◌≤◌, ◌⊎◌}
-use Rattle.mk_laws.{proofs.{KeptGuard.goes_same, Wells.{IsWell, well_guarded}}, specs.Guard.{EndsItsCell}}
 use Rattle.mk_core.specs.Effects.{hand_behind_look, open_hand}
-use Rattle.mk_laws.proofs.Vocabulary.{Bool, Cell, Config, HeaderGoesOn, IsGuarded, MarkerStands, MarkerState as Marker}
+use Rattle.mk_laws.{proofs.KeptGuard.goes_same, proofs.Wells.IsWell, proofs.Wells.well_guarded, specs.Guard.EndsItsCell}
 
 -- outside the heap a value points into nothing
 outside_well : (c : Config) (w : Words) (v : ℕ) → is_heap_address c.pages v ≡ false → IsWell c w v
@@ -18,10 +18,10 @@ outside_well c w v out y is = absurd (by (is_heap_address c.pages v) _ out is)
     by b x e is = grind (arith, none-some)
 
 -- the same scan, with another hand
-other_hand : (c : Config) (m : Moment) (hand new : Option ℕ) (x : Scan) → ScanStands c m hand x
+other_hand : {c : Config} {m : Moment} {hand : Option ℕ} (new : Option ℕ) {x : Scan} → ScanStands c m hand x
     → ((n : ℕ) → IsGuarded c m n ⊎ (hand ≡ Some (slice_index m.words.heap n))
     → IsGuarded c m n ⊎ (new ≡ Some (slice_index m.words.heap n))) → ScanStands c m new x
-other_hand c m hand new x h over = record {
+other_hand new h over = record {
   index = h.index;
   marked = h.marked;
   start = h.start;
@@ -55,18 +55,18 @@ pub look_stands : (c : Config) (m : Moment) (p : ℕ) (x : Marker) → MarkerSta
   seen = Some (record { page = p; header = header_at m.words p });
 })
 look_stands c m p x h = record {
-  scan = λ s is. other_hand c m x.hand _ s (h.scan s is) (look_passes c m p x.hand);
+  scan = λ s is. other_hand _ (h.scan s is) (look_passes c m p x.hand);
   seen = λ s is. subst (λ (z : SeenHeader). HeaderGoesOn c.pages z.header (header_at m.words z.page))
       (same_Some _ _ is) (goes_same c.pages _);
 }
 
-pub unseen_stands : (c : Config) (m : Moment) (x : Marker) → MarkerStands c m x
+pub unseen_stands : {c : Config} {m : Moment} {x : Marker} → MarkerStands c m x
     → MarkerStands c m (record x { seen = None })
-unseen_stands c m x h = record { scan = h.scan; seen = λ s is. absurd (none-some _ is) }
+unseen_stands h = record { scan = h.scan; seen = λ s is. absurd (none-some _ is) }
 
-pub unscanning_stands : (c : Config) (m : Moment) (x : Marker) → MarkerStands c m x
+pub unscanning_stands : {c : Config} {m : Moment} {x : Marker} → MarkerStands c m x
     → MarkerStands c m (record x { scan = None })
-unscanning_stands c m x h = record { scan = λ s is. absurd (none-some _ is); seen = h.seen }
+unscanning_stands h = record { scan = λ s is. absurd (none-some _ is); seen = h.seen }
 
 pub idle_stands : (c : Config) (m : Moment) (at : Presence)
     → MarkerStands c m (record { presence = at; scan = None; hand = None; seen = None })
@@ -95,9 +95,9 @@ begun_stands c m hand p k header lt is go = record {
         { end = 64 * p + k * words_under (header_of header) + (if b then 0 else words_under (header_of header)) })
     ends b e = grind (arith, first, some)
 
-pub claim_stands : (c : Config) (m : Moment) (x : Marker) (p k : ℕ) → has_seen_cell x.seen p k ≡ true
+pub claim_stands : {c : Config} {m : Moment} {x : Marker} (p k : ℕ) → has_seen_cell x.seen p k ≡ true
     → MarkerStands c m x → MarkerStands c m (record x { scan = scan_claimed p k (slice_index m.words.marks p) x.seen })
-claim_stands c m x p k own h = record { scan = λ s is. by x.seen own h.seen s is; seen = h.seen }
+claim_stands {c} {m} {x} p k own h = record { scan = λ s is. by x.seen own h.seen s is; seen = h.seen }
   where
     by : (seen : Option SeenHeader) → has_seen_cell seen p k ≡ true
         → ((q : SeenHeader) → seen ≡ Some q → HeaderGoesOn c.pages q.header (header_at m.words q.page))
@@ -113,10 +113,10 @@ claim_stands c m x p k own h = record { scan = λ s is. by x.seen own h.seen s i
             (rw (eqb-true seen.page p (and_parts _ _ own).0) at (goes seen refl)))
 
 -- `mload`: the word loaded is the hand, or points into nothing
-pub load_stands : (c : Config) (m : Moment) (x : Marker) (next : ℕ) → has_next_word x.scan ≡ true → x.hand ≡ None
+pub load_stands : {c : Config} {m : Moment} {x : Marker} (next : ℕ) → has_next_word x.scan ≡ true → x.hand ≡ None
     → ((s : Scan) → x.scan ≡ Some s → s.next ≡ next) → MarkerStands c m x
     → MarkerStands c m (record x { scan = scan_onward x.scan; hand = open_hand c (slice_index m.words.heap next) })
-load_stands c m x next more none at h = record { scan = λ s is. by x.scan more at h.scan s is; seen = h.seen }
+load_stands {c} {m} {x} next more none at h = record { scan = λ s is. by x.scan more at h.scan s is; seen = h.seen }
   where
     loaded : (n : ℕ) (b : Bool) → is_heap_address c.pages (slice_index m.words.heap n) ≡ b → IsGuarded c m n
         ⊎ ((if b then Some (slice_index m.words.heap n) else None) ≡ Some (slice_index m.words.heap n))
@@ -149,25 +149,24 @@ load_stands c m x next more none at h = record { scan = λ s is. by x.scan more 
         rw (same_Some _ _ is) at (onward z (st z refl) (ltb-true z.next z.end more) (at z refl))
 
 -- `mmark`: what the hand points into is marked, so the hand is closed
-pub mark_stands : (c : Config) (m : Moment) (x : Marker) (value : ℕ) → x.hand ≡ Some value → IsWell c m.words value
+pub mark_stands : {c : Config} {m : Moment} {x : Marker} (value : ℕ) → x.hand ≡ Some value → IsWell c m.words value
     → MarkerStands c m x → MarkerStands c m (record x { hand = None })
-mark_stands c m x value is well h =
-    record { scan = λ s at. other_hand c m x.hand None s (h.scan s at) (λ n g. inl (by n g)); seen = h.seen }
+mark_stands {c} {m} {x} value is well h =
+    record { scan = λ s at. other_hand None (h.scan s at) (λ n g. inl (by n g)); seen = h.seen }
   where
     by : (n : ℕ) → IsGuarded c m n ⊎ (x.hand ≡ Some (slice_index m.words.heap n)) → IsGuarded c m n
     by n (inl g) = g
     by n (inr e) = well_guarded c m n (rw (same_Some _ _ (sym is ∙ e)) at well)
 
 -- the cell that was seen is the one of now
-pub seen_well : (c : Config) (m : Moment) (x : Marker) (cell : Cell) (value : ℕ) → x.hand ≡ Some value
+pub seen_well : {c : Config} {m : Moment} {x : Marker} (cell : Cell) (value : ℕ) → x.hand ≡ Some value
     → cell_seen c x.seen x.hand ≡ Some cell
     → MarkerStands c m x → is_marked m.words cell ≡ true → IsWell c m.words value
-seen_well c m x cell value is at h marked =
+seen_well {c} {m} {x} cell value is at h marked =
     by x.seen (subst (λ (u : Option ℕ). cell_seen c x.seen u ≡ Some cell) is at) h.seen
   where
-    by : (seen : Option SeenHeader) → cell_seen c seen (Some value) ≡ Some cell
-        → ((q : SeenHeader) → seen ≡ Some q → HeaderGoesOn c.pages q.header (header_at m.words q.page))
-        → IsWell c m.words value
+    by : (seen : Option SeenHeader) → cell_seen c seen (Some value) ≡ Some cell → ((q : SeenHeader) → seen ≡ Some q
+        → HeaderGoesOn c.pages q.header (header_at m.words q.page)) → IsWell c m.words value
     by None at goes = absurd (none-some _ at)
     by (Some seen) at goes = here (seen.page == page_at_address value) refl at
       where

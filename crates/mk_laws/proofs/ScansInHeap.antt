@@ -35,9 +35,9 @@ claimed_is : (p i marks : ℕ) (x : Option SeenHeader) (s : Scan) → scan_claim
 claimed_is p i marks None s e = cc
 claimed_is p i marks (Some h) s e = grind arith
 
-claims : (c : Config) (p i marks : ℕ) (x : Marker) → p < c.pages → has_seen_cell x.seen p i ≡ true → MarkerFits c x
+claims : {c : Config} (p i marks : ℕ) {x : Marker} → p < c.pages → has_seen_cell x.seen p i ≡ true → MarkerFits c x
     → MarkerFits c (record x { scan = scan_claimed p i marks x.seen })
-claims c p i marks x lt seen h = record {
+claims {c} p i marks {x = x} lt seen h = record {
   seen = h.seen;
   page = λ s e. let k = claimed_is p i marks x.seen s e in rw k.2 lt;
   end = λ s e.
@@ -52,35 +52,36 @@ onwards : (P : Scan → Type 0) (o : Option Scan) → ((t : Scan) → o ≡ Some
     → (s : Scan) → scan_onward o ≡ Some s → P s
 onwards P o k s e = grind (arith, same_Some)
 
-loads : (c : Config) (hand : Option ℕ) (x : Marker) → MarkerFits c x
+loads : {c : Config} (hand : Option ℕ) {x : Marker} → MarkerFits c x
     → MarkerFits c (record x { scan = scan_onward x.scan; hand = hand })
-loads c hand x h = record {
+loads {c} hand {x = x} h = record {
   seen = h.seen;
   page = onwards (λ (y : Scan). y.page < c.pages) x.scan h.page;
   end = onwards (λ (y : Scan). y.end ≤ 64 * c.pages) x.scan h.end;
 }
 
-looks : (c : Config) (n : ℕ) (w : Word) (x : Marker) → ((p : ℕ) → w ≡ Word.Head p → RunFits c p n) → MarkerFits c x
+looks : {c : Config} (n : ℕ) (w : Word) {x : Marker} → ((p : ℕ) → w ≡ Word.Head p → RunFits c p n) → MarkerFits c x
     → MarkerFits c (behind_mlook c n w x)
-looks c n (Word.Head p) x fits h = record {
+looks {c} n (Word.Head p) fits h = record {
   seen = λ s e. subst (λ (t : SeenHeader). RunFits c t.page t.header) (same_Some _ _ e) (fits p refl);
   page = h.page;
   end = h.end;
 }
-looks c n _ x fits h = record { seen = λ s e. cc; page = h.page; end = h.end }
+looks n _ fits h = record { seen = λ s e. cc; page = h.page; end = h.end }
 
 -- where a marker steps that finds n
-pub marker_fits_behind : (c : Config) (n : ℕ) (s : Step) (x : Marker)
+pub marker_fits_behind : {c : Config} (n : ℕ) (s : Step) {x : Marker}
     → ((p : ℕ) → s ≡ Step.Mlook (Word.Head p) → RunFits c p n) → ((p i : ℕ) → s ≡ Step.Claim p i → p < c.pages)
     → marker_may c x s ≡ true → MarkerFits c x → MarkerFits c (marker_behind c n s x)
-marker_fits_behind c n Step.Attend x looked claimed m h = nothing_fits c _ refl refl
-marker_fits_behind c n Step.Quit x looked claimed m h = nothing_fits c _ refl refl
-marker_fits_behind c n (Step.Mlook w) x looked claimed m h = looks c n w x (λ p e. looked p (rw e)) h
-marker_fits_behind c n (Step.Claim p i) x looked claimed m h = claims c p i n x (claimed p i refl) (and_parts _ _ m).1 h
-marker_fits_behind c n Step.Mload x looked claimed m h = loads c _ x h
-marker_fits_behind c n Step.Mmark x looked claimed m h = record { seen = h.seen; page = h.page; end = h.end }
-marker_fits_behind c n Step.Mblack x looked claimed m h = record { seen = h.seen; page = λ s e. cc; end = λ s e. cc }
-marker_fits_behind c n _ x looked claimed m h = h
+marker_fits_behind {c} n Step.Attend looked claimed m h = nothing_fits c _ refl refl
+marker_fits_behind {c} n Step.Quit looked claimed m h = nothing_fits c _ refl refl
+marker_fits_behind {c} n (Step.Mlook w) {x = x} looked claimed m h = looks n w (λ p e. looked p (rw e)) h
+marker_fits_behind {c} n (Step.Claim p i) {x = x} looked claimed m h =
+    claims p i n (claimed p i refl) (and_parts _ _ m).1 h
+marker_fits_behind {c} n Step.Mload {x = x} looked claimed m h = loads _ h
+marker_fits_behind n Step.Mmark looked claimed m h = record { seen = h.seen; page = h.page; end = h.end }
+marker_fits_behind n Step.Mblack looked claimed m h = record { seen = h.seen; page = λ s e. cc; end = λ s e. cc }
+marker_fits_behind n _ looked claimed m h = h
 
 -- the words that a scan and a hand reach
 

@@ -2,7 +2,7 @@
 use Rattle.mk_laws.proofs.Vocabulary.{Flight, Granted, Holding, None, Op, Option, Placing, RunPages, Stage, Unplaced}
 use Rattle.mk_laws.proofs.Vocabulary.{ap, false, has_place, is_decided_free_at, is_free_at, is_new_at, is_some}
 use Rattle.mk_laws.proofs.Vocabulary.{is_undecided_free, is_undecided_new, refl, sym, true, ◌∙◌, ◌≡◌}
-use Rattle.mk_laws.proofs.{Stages.gives_stand, Standings.{UnderTurn, standing}}
+use Rattle.mk_laws.proofs.{Stages.gives_stand, Standings.UnderTurn, Standings.standing}
 use Rattle.mk_laws.specs.Protocol.{is_decided_new_at, is_granted}
 
 -- what is done is done for a call at this stage
@@ -27,20 +27,20 @@ pub data Service (f : Flight) (h : Holding) : Flight → Holding → Type 0 wher
 
 -- the call stays under the turn, and a seat without a call has none
 
-pub service_stands : (f : Flight) (h : Holding) (g : Flight) (i : Holding) → standing f ≡ UnderTurn → Service f h g i
+pub service_stands : {f : Flight} {h : Holding} {g : Flight} {i : Holding} → standing f ≡ UnderTurn → Service f h g i
     → standing g ≡ UnderTurn
-service_stands f h g i is (Goes _ p q) = is
-service_stands f h g i is (Loads _ at stands no_new) = stands
-service_stands f h g i is (Places _ new p q) = is
-service_stands f h g i is _ = gives_stand f.stage f.op is
+service_stands is (Goes _ p q) = is
+service_stands is (Loads _ at stands no_new) = stands
+service_stands is (Places _ new p q) = is
+service_stands {f} is _ = gives_stand f.stage f.op is
 
-pub service_rests : (f : Flight) (h : Holding) (g : Flight) (i : Holding) → f.stage ≡ Stage.Idle → Service f h g i
+pub service_rests : {f : Flight} {h : Holding} {g : Flight} {i : Holding} → f.stage ≡ Stage.Idle → Service f h g i
     → g ≡ f
-service_rests f h g i idle (Loads _ at stands no_new) = let e : Stage.Idle ≡ Stage.LoadP = sym idle ∙ at in cc
-service_rests f h g i idle (Fills new p) = cc
-service_rests f h g i idle (Grants new) = cc
-service_rests f h g i idle (Frees _ free p) = cc
-service_rests f h g i idle _ = refl
+service_rests idle (Loads _ at stands no_new) = let e : Stage.Idle ≡ Stage.LoadP = sym idle ∙ at in cc
+service_rests idle (Fills new p) = cc
+service_rests idle (Grants new) = cc
+service_rests idle (Frees _ free p) = cc
+service_rests idle _ = refl
 
 -- what the stages exclude
 
@@ -67,32 +67,32 @@ load_gives_none : (s : Stage) (o : Op) → s ≡ Stage.LoadP
 load_gives_none Stage.LoadP o h = (refl, refl, refl)
 load_gives_none _ o h = cc
 
-pub served_on : (f : Flight) (h : Holding) (g : Flight) (i : Holding) → Served f h → Service f h g i → Served g i
-served_on f h g i s (Goes _ p q) = record {
+pub served_on : {f : Flight} {h : Holding} {g : Flight} {i : Holding} → Served f h → Service f h g i → Served g i
+served_on s (Goes _ p q) = record {
   placed = λ e. s.placed (ap has_place (sym p) ∙ e);
   granted = λ e. s.granted (ap is_granted (sym p) ∙ e);
   freed = λ e. s.freed (ap is_some (sym q) ∙ e);
 }
-served_on f h g i s (Loads _ at stands no_new) =
+served_on {f} s (Loads _ at stands no_new) =
     let none = load_gives_none f.stage f.op at in
     record {
       placed = λ e. let x : true ≡ false = sym (s.placed e) ∙ none.0 in cc;
       granted = λ e. let x : true ≡ false = sym (s.granted e) ∙ none.1 in cc;
       freed = λ e. let x : true ≡ false = sym (s.freed e) ∙ none.2 in cc;
     }
-served_on f h g i s (Places _ new p q) =
+served_on s (Places _ new p q) =
     record { placed = λ e. new; granted = λ e. s.granted (p e); freed = λ e. s.freed (ap is_some (sym q) ∙ e) }
-served_on f h g i s (Fills new p) = record {
+served_on {f} s (Fills new p) = record {
   placed = λ e. let x : false ≡ true = ap has_place (sym p) ∙ e in cc;
   granted = λ e. new_decided f.stage f.op new;
   freed = λ e. let x : true ≡ false = sym (s.freed e) ∙ (new_gives_none f.stage f.op new).1 in cc;
 }
-served_on f h g i s (Grants new) = record {
+served_on {f} s (Grants new) = record {
   placed = λ e. cc;
   granted = λ e. new_decided f.stage f.op new;
   freed = λ e. let x : true ≡ false = sym (s.freed e) ∙ (new_gives_none f.stage f.op new).1 in cc;
 }
-served_on f h g i s (Frees _ free p) =
+served_on {f} s (Frees _ free p) =
     let none = free_gives_none f.stage f.op free in
     record {
       placed = λ e. let x : true ≡ false = sym (s.placed (ap has_place (sym p) ∙ e)) ∙ none.0 in cc;

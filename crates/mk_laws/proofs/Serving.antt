@@ -33,21 +33,21 @@ pub placed_claim : (c : Config) (o : Object) (t : Ground) (x : Claim) → Among 
 placed_claim c o t x i = among_back _ _ x i
 
 -- `head` (d): a page with nothing on it is free
-pub head_empties : (c : Config) (o : Object) (w : World) (p n : ℕ) → p < length w.now.words.pages
+pub head_empties : (c : Config) (o : Object) (w : World) {p n : ℕ} → p < length w.now.words.pages
     → Laid c o true w (ground_of w) → Empties w.now.words p n
     → Laid c o true w (record (ground_of w) { pages = with_header_on w.now.words.pages p n })
-head_empties c o w p n lt st h = record {
-  scene = rw h.is (layout_emptied _ p st.scene lt refl h.unused);
+head_empties c o w {p = p} lt st h = record {
+  scene = rw h.is (layout_emptied p st.scene lt refl h.unused);
   gone = st.gone;
   first = st.first;
   cells = st.cells;
 }
 
 -- `head` (c): a page of the run that the call freed is unmapped
-pub head_unmaps : (c : Config) (o : Object) (releasing : Bool) (w : World) (p n : ℕ)
+pub head_unmaps : (c : Config) (o : Object) (releasing : Bool) (w : World) {p n : ℕ}
     → Laid c o releasing w (ground_of w) → Unmaps w.now.words w.now.seats.holding.freed p n
     → Laid c o releasing w (record (ground_of w) { pages = with_header_on w.now.words.pages p n })
-head_unmaps c o releasing w p n st h =
+head_unmaps c o releasing w {p = p} {n = n} st h =
     let x : IsClaimedRun (claims_of c w.now.seats.holding.freed w.allocations) h.run =
     subst (λ (r : Option RunPages). RunStands (claims_of c w.now.seats.holding.freed w.allocations) r) h.there st.gone
     in
@@ -65,33 +65,31 @@ head_unmaps c o releasing w p n st h =
     }
 
 -- The place is chosen, where its pages are free.
-chosen_free : (c : Config) (o : Object) (releasing : Bool) (w : World) (place : Place)
+chosen_free : (c : Config) {o : Object} (releasing : Bool) (w : World) {place : Place}
     → Laid c o releasing w (ground_of w) → w.now.seats.holding.placing ≡ Unplaced → IsSized o
     → FitsOnFreePages c.resident w.now.words.pages o place
     → Laid c o releasing w (record (ground_of w) { placing = Chosen place })
-chosen_free c o releasing w place st is sized fit = record {
-  scene = layout_chosen (layout_scene_of c o releasing w.now.words.marks (record (ground_of w) {
-    placing = Unplaced;
-  })) place.page o (placed_as c o releasing w (ground_of w) Unplaced is st).scene refl sized fit.within fit.free;
+chosen_free c {o = o} releasing w {place = place} st is sized fit = record {
+  scene =
+      layout_chosen place.page o
+      (placed_as c o releasing w (ground_of w) Unplaced is st).scene refl sized fit.within fit.free;
   gone = st.gone;
   first = fit.index;
   cells = st.cells;
 }
 
 -- `head` (b), where the place is chosen
-carved_on : (c : Config) (o : Object) (w : World) (place : Place) (p n : ℕ)
+carved_on : (c : Config) (o : Object) (w : World) (place : Place) {p n : ℕ}
     → Laid c o false w (record (ground_of w) { placing = Chosen place })
     → IsNextHeader w.now.words place.page (pages_made o) (header_made o) p n
     → Laid c o false w (record (ground_of w) { pages = with_header_on w.now.words.pages p n; placing = Chosen place })
-carved_on c o w place p n st next =
+carved_on c o w place {p = p} {n = n} st next =
     let low = next.from in
     let at : place.page + (p - place.page) ≡ p = omega arith in
     record {
       scene = subst (λ q. IsLaidOn (layout_scene_of c o false w.now.words.marks
           (record (ground_of w) { pages = with_header_on w.now.words.pages q n; placing = Chosen place }))) at
-          (rw next.is
-          (layout_carved (layout_scene_of c o false w.now.words.marks (record (ground_of w) { placing = Chosen place }))
-          place.page o (p - place.page) st.scene refl refl (grind arith)));
+          (rw next.is (layout_carved place.page o (p - place.page) st.scene refl refl (grind arith)));
       gone = st.gone;
       first = st.first;
       cells = st.cells;
@@ -105,20 +103,17 @@ pub data PlacedFor (c : Config) (o : Object) (w : World) (place : Place) (placin
       → ((placing ≡ Unplaced) × FitsInBlock w.now.words.pages o place) ⊎ (placing ≡ Used place)
       → PlacedFor c o w place placing
 
-pub placed_for : (c : Config) (o : Object) (releasing : Bool) (w : World) (place : Place)
-    → Laid c o releasing w (ground_of w) → IsSized o
-    → IsPlaced c.resident w.now.words.pages o place w.now.seats.holding.placing
+pub placed_for : (c : Config) {o : Object} (releasing : Bool) (w : World) {place : Place} → Laid c o releasing w
+    (ground_of w) → IsSized o → IsPlaced c.resident w.now.words.pages o place w.now.seats.holding.placing
     → PlacedFor c o w place w.now.seats.holding.placing
-placed_for c o releasing w place st sized placed = by w.now.seats.holding.placing refl placed
+placed_for c {o = o} releasing w {place = place} st sized placed = by w.now.seats.holding.placing refl placed
   where
     by : (placing : Placing) → w.now.seats.holding.placing ≡ placing
         → IsPlaced c.resident w.now.words.pages o place placing → PlacedFor c o w place placing
     by Unplaced is (ByFit at) = elim (fits c.resident w.now.words.pages o place sized at) [
       | inl fit ↦ OnFree refl fit
-      | inr fit ↦ Stands
-          (λ d lt. let first : d ≡ 0 = omega (arith, small_pages o fit.small) in
-          let here : place.page + 0 ≡ place.page = omega arith in rw first (rw here fit.header))
-          (inl (refl, fit))
+      | inr fit ↦ Stands (λ d lt. let first : d ≡ 0 = omega (arith, small_pages o fit.small) in
+          let here : place.page + 0 ≡ place.page = omega arith in rw first (rw here fit.header)) (inl (refl, fit))
     ]
     by (Chosen place) is AsChosen = OnChosen refl
     by (Used place) is AsUsed = Stands (st.scene.shown (place_claim o place)
@@ -126,51 +121,50 @@ placed_for c o releasing w place st sized placed = by w.now.seats.holding.placin
     by Granted is out = elim out [ ]
 
 -- A page of it whose header stands doesn't get it again.
-pub not_again : (o : Object) (w : World) (place : Place) (p n : ℕ)
+pub not_again : (o : Object) (w : World) (place : Place) {p n : ℕ}
     → ((d : ℕ) → d < pages_made o → header_at w.now.words (place.page + d) ≡ header_made o d)
     → IsNextHeader w.now.words place.page (pages_made o) (header_made o) p n → ⊥
-not_again o w place p n headers next =
+not_again o w place {p = p} headers next =
     let there : place.page + (p - place.page) ≡ p = omega (arith, next.from) in
     next.not_yet (ap (λ q. header_at w.now.words q) (sym there) ∙ headers _ next.near)
 
 -- `head` (a) and (b): a page of the place gets its header
-pub head_carves : (c : Config) (o : Object) (w : World) (place : Place) (p n : ℕ) → Laid c o false w (ground_of w)
+pub head_carves : (c : Config) {o : Object} (w : World) {place : Place} {p n : ℕ} → Laid c o false w (ground_of w)
     → IsSized o → IsPlaced c.resident w.now.words.pages o place w.now.seats.holding.placing
-    → IsNextHeader w.now.words place.page (pages_made o) (header_made o) p n → Laid c o false w (record (ground_of w) {
-      pages = with_header_on w.now.words.pages p n;
-      placing = chosen w.now.seats.holding.placing (Some place);
-    })
-head_carves c o w place p n st sized placed next = elim (placed_for c o false w place st sized placed) [
-  | OnFree is fit ↦ rw is (carved_on c o w place p n (chosen_free c o false w place st is sized fit) next)
-  | OnChosen is ↦ rw is (carved_on c o w place p n (placed_as c o false w (ground_of w) (Chosen place) is st) next)
-  | Stands headers _ ↦ absurd (not_again o w place p n headers next)
-]
+    → IsNextHeader w.now.words place.page (pages_made o) (header_made o) p n → Laid c o false w (record (ground_of w)
+    { pages = with_header_on w.now.words.pages p n; placing = chosen w.now.seats.holding.placing (Some place) })
+head_carves c {o = o} w {place = place} {p = p} {n = n} st sized placed next =
+    elim (placed_for c false w st sized placed) [
+      | OnFree is fit ↦ rw is (carved_on c o w place (chosen_free c false w st is sized fit) next)
+      | OnChosen is ↦ rw is (carved_on c o w place (placed_as c o false w (ground_of w) (Chosen place) is st) next)
+      | Stands headers _ ↦ absurd (not_again o w place headers next)
+    ]
 
 -- `mark` (b): the place is chosen before its first header is stored
-pub mark_places : (c : Config) (o : Object) (releasing : Bool) (w : World) (place : Place)
-    → Laid c o releasing w (ground_of w) → IsSized o
-    → IsPlaced c.resident w.now.words.pages o place w.now.seats.holding.placing → header_at w.now.words place.page ≡ 0
-    → header_made o 0 ≢ 0
+pub mark_places : (c : Config) {o : Object} (releasing : Bool) (w : World) {place : Place} → Laid c o releasing w
+    (ground_of w) → IsSized o → IsPlaced c.resident w.now.words.pages o place w.now.seats.holding.placing
+    → header_at w.now.words place.page ≡ 0 → header_made o 0 ≢ 0
     → Laid c o releasing w (record (ground_of w) { placing = chosen w.now.seats.holding.placing (Some place) })
-mark_places c o releasing w place st sized placed free made = elim (placed_for c o releasing w place st sized placed) [
-  | OnFree is fit ↦ rw is (chosen_free c o releasing w place st is sized fit)
-  | OnChosen is ↦ rw is (placed_as c o releasing w (ground_of w) (Chosen place) is st)
-  | Stands headers _ ↦
-      let here : place.page + 0 ≡ place.page = omega arith in
-      absurd (made (sym (headers 0 (pages_some o sized)) ∙ ap (λ q. header_at w.now.words q) here ∙ free))
-]
+mark_places c {o = o} releasing w {place = place} st sized placed free made =
+    elim (placed_for c releasing w st sized placed) [
+      | OnFree is fit ↦ rw is (chosen_free c releasing w st is sized fit)
+      | OnChosen is ↦ rw is (placed_as c o releasing w (ground_of w) (Chosen place) is st)
+      | Stands headers _ ↦
+          let here : place.page + 0 ≡ place.page = omega arith in
+          absurd (made (sym (headers 0 (pages_some o sized)) ∙ ap (λ q. header_at w.now.words q) here ∙ free))
+    ]
 
 -- `used` (a): the cell of the place is taken
 no_claims : (xs : List Claim) (x : Claim) → (xs ++ []) ++ x ∷ [] ≡ xs ++ x ∷ []
 no_claims xs x = rw (append-nil xs)
 
-taken_at : (c : Config) (o : Object) (releasing : Bool) (w : World) (placing : Placing) (place : Place) (p n : ℕ)
+taken_at : (c : Config) {o : Object} (releasing : Bool) (w : World) (placing : Placing) {place : Place} {p n : ℕ}
     → Laid c o releasing w (record (ground_of w) { placing = placing })
     → claims_placed o placing ≡ [] → IsCellTaken w.now.words o place p n → IsSized o → place.index < cells_made o
     → place.page + pages_made o ≤ length w.now.words.pages
     → ((q : ℕ) → InPlot (plot_of o placing) q → InPlot (Plotted place.page o) q)
     → Laid c o releasing w (record (ground_of w) { pages = with_used_on w.now.words.pages p n; placing = Used place })
-taken_at c o releasing w placing place p n st none next sized index within plot =
+taken_at c {o = o} releasing w placing {place = place} {n = n} st none next sized index within plot =
     let xs : List Claim = claims_of c w.now.seats.holding.freed w.allocations in
     let s : LayoutScene = layout_scene_of c o releasing w.now.words.marks (ground_of w) in
     let was : IsLaidOn (record s { claims = xs ++ []; plot = plot_of o placing }) = rw none at st.scene in
@@ -196,22 +190,21 @@ pub used_takes : (c : Config) (o : Object) (releasing : Bool) (w : World) (place
     → is_used_once w.now.seats.holding.placing ≡ false
     → IsPlaced c.resident w.now.words.pages o place w.now.seats.holding.placing → IsCellTaken w.now.words o place p n
     → Laid c o releasing w (record (ground_of w) { pages = with_used_on w.now.words.pages p n; placing = Used place })
-used_takes c o releasing w place p n st sized made once placed next =
-    elim (placed_for c o releasing w place st sized placed) [
-      | OnFree is fit ↦
-          let some = pages_some o sized in
-          absurd (made (sym (next.headers 0 (omega arith)) ∙ fit.free 0 (omega arith)))
-      | OnChosen is ↦
-          let here = placed_as c o releasing w (ground_of w) (Chosen place) is st in
-          let plot : IsPlotShown w.now.words.pages place.page o = here.scene.plot in
-          let first : place.index ≡ 0 = here.first in
-          taken_at c o releasing w (Chosen place) place p n here refl next sized (omega (arith, cells_some o sized))
-          plot.within (λ q i. i)
-      | Stands headers (inl (is, fit)) ↦
-          taken_at c o releasing w Unplaced place p n (placed_as c o releasing w (ground_of w) Unplaced is st) refl next
-          sized fit.index (omega (arith, small_pages o fit.small, fit.within)) (λ q out. absurd out)
-      | Stands headers (inr is) ↦ let e : true ≡ false = ap is_used_once (sym is) ∙ once in cc
-    ]
+used_takes c o releasing w place p n st sized made once placed next = elim (placed_for c releasing w st sized placed) [
+  | OnFree is fit ↦
+      let some = pages_some o sized in
+      absurd (made (sym (next.headers 0 (omega arith)) ∙ fit.free 0 (omega arith)))
+  | OnChosen is ↦
+      let here = placed_as c o releasing w (ground_of w) (Chosen place) is st in
+      let plot : IsPlotShown w.now.words.pages place.page o = here.scene.plot in
+      let first : place.index ≡ 0 = here.first in
+      taken_at c releasing w (Chosen place) here refl next sized (omega (arith, cells_some o sized))
+      plot.within (λ q i. i)
+  | Stands headers (inl (is, fit)) ↦
+      taken_at c releasing w Unplaced (placed_as c o releasing w (ground_of w) Unplaced is st) refl next
+      sized fit.index (omega (arith, small_pages o fit.small, fit.within)) (λ q out. absurd out)
+  | Stands headers (inr is) ↦ let e : true ≡ false = ap is_used_once (sym is) ∙ once in cc
+]
 
 -- `used` (b): released cells are given back
 pub used_gives_back : (c : Config) (o : Object) (w : World) (p n : ℕ) → p < length w.now.words.pages
@@ -219,7 +212,7 @@ pub used_gives_back : (c : Config) (o : Object) (w : World) (p n : ℕ) → p < 
     → is_released_in true w.now.words.snapshot w.now.words.marks x.page x.index ≡ false)
     → Laid c o true w (record (ground_of w) { pages = with_used_on w.now.words.pages p n })
 used_gives_back c o w p n lt st h apart = record {
-  scene = layout_given_back _ p n st.scene lt refl (record {
+  scene = layout_given_back p n st.scene lt refl (record {
     fewer = λ k bit. fewer_bits n _ k h.fewer bit;
     gone = λ k bit out.
         let goes = h.gone k bit out in

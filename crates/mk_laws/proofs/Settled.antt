@@ -6,17 +6,16 @@ use Rattle.mk_laws.proofs.Vocabulary.{append-nil, claim_of, claims_of, claims_pl
 use Rattle.mk_laws.proofs.Vocabulary.{histories_keep_lengths, is_run_gone, is_run_unmapped, left, length, object_now}
 use Rattle.mk_laws.proofs.{Vocabulary.{placed_at, plot_of, refl, sym, true, ◌++◌, ◌∙◌, ◌≡◌}, Basics.{Laid, all_stand}}
 use Rattle.mk_laws.proofs.{Basics.{apart_left, claim_among, gone_terrain, own_claim}, Apart.Rests}
-use Rattle.mk_laws.{proofs.{ForImages.numbers_apart, HeadersStand.pages_stand}, specs.SettledPages.{UnreleasedStand}}
-use Rattle.mk_laws.specs.SettledPages.{is_freed_unmapped, FirstFitIsThePlace, HeadersStand, UnreleasedAreApart}
+use Rattle.mk_laws.{proofs.{ForImages.numbers_apart, HeadersStand.pages_stand}, specs.SettledPages.{is_freed_unmapped}}
 use Rattle.mk_geom.proofs.Bridge.{same_places}
+use Rattle.mk_laws.specs.SettledPages.{FirstFitIsThePlace, HeadersStand, UnreleasedAreApart, UnreleasedStand}
 
 pub unreleased_stand : UnreleasedStand
 unreleased_stand c es limits laid i u =
     let w : World = left c es in
     let x : Claim = claim_of c w.now.seats.holding.freed (placed_at w.allocations i) in
     let s = all_stand c _ _ w (histories_keep_lengths c es).pages laid i u in
-    let shown = laid.scene.shown x (own_claim c _ (ground_of w) x (claim_among c _ w.allocations i u))
-    in
+    let shown = laid.scene.shown x (own_claim c _ (ground_of w) x (claim_among c _ w.allocations i u)) in
     record { stands = s.stands; headers = s.headers; used = shown.used }
 
 pub unreleased_are_apart : UnreleasedAreApart
@@ -35,9 +34,9 @@ pub unmapped_run : (w : World) → is_freed_unmapped w.now.words w.now.seats.hol
     → w.now.seats.holding.freed ≡ Some run → is_run_unmapped w.now.words run ≡ true
 unmapped_run w unmapped run is = ap (is_freed_unmapped w.now.words) (sym is) ∙ unmapped
 
-settled_rests : (c : Config) (w : World) → IsWithinLimits c → length w.now.words.pages ≡ c.pages → LayoutStands c w
+settled_rests : {c : Config} {w : World} → IsWithinLimits c → length w.now.words.pages ≡ c.pages → LayoutStands c w
     → IsSettled w → Rests c w.now.words w.allocations
-settled_rests c w limits len laid s = by w.now.seats.holding.placing refl s.placing
+settled_rests {c} {w} limits len laid s = by w.now.seats.holding.placing refl s.placing
   where
     rested : Laid c (object_now c w.now) false w (record (ground_of w) { run = None })
     rested = gone_terrain c _ false w (unmapped_run w s.unmapped) (rw s.releasing at laid)
@@ -61,8 +60,7 @@ settled_rests c w limits len laid s = by w.now.seats.holding.placing refl s.plac
     by _ is out = cc
 
 pub headers_stand : HeadersStand
-headers_stand c es limits laid s = pages_stand c _ _
-    (settled_rests c (left c es) limits (histories_keep_lengths c es).pages laid s)
+headers_stand c es limits laid s = pages_stand (settled_rests limits (histories_keep_lengths c es).pages laid s)
 
 pub first_fit_is_the_place : FirstFitIsThePlace
 first_fit_is_the_place c es o limits laid s = same_places _ _ c.resident o.words o.leaf

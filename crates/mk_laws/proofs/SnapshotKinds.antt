@@ -23,18 +23,17 @@ use Rattle.mk_core.specs.StopConditions.{may_begin}
 -- What is fresh and what is in the snapshot, after a `quar`.
 
 -- the snapshot's bit of an allocation whose freed bit isn't set
-pub unset_in_snapshot : (c : Config) (releasing : Bool) (marks : List ℕ) (t : Ground) (p k : ℕ)
+pub unset_in_snapshot : {c : Config} {releasing : Bool} {marks : List ℕ} {t : Ground} (p k : ℕ)
     → HasQuarantine c releasing marks t → has_bit (slice_index t.freed p) k ≡ false
     → has_bit (slice_index t.snapshot p) k ≡ false
-unset_in_snapshot c releasing marks t p k q out = false_from_ne_true _ (λ h. true≢false (sym (q.within p k h) ∙ out))
+unset_in_snapshot p k q out = false_from_ne_true _ (λ h. true≢false (sym (q.within p k h) ∙ out))
 
 -- `quar` (c): no unreleased allocation's bit goes
-dropped_bits : (c : Config) (w : World) (p f n i : ℕ) → p < length w.now.words.snapshot
+dropped_bits : {c : Config} (w : World) {p f n : ℕ} (i : ℕ) → p < length w.now.words.snapshot
     → HasQuarantine c true w.now.words.marks (ground_of w) → Drops w.now.words p f n
-    → (placed_at w.allocations i).released ≡ false
-    → has_bit_of c (slice_set w.now.words.snapshot p n) (placed_at w.allocations i)
-    ≡ has_bit_of c w.now.words.snapshot (placed_at w.allocations i)
-dropped_bits c w p f n i ls q d u = elim (bit_cases w.now.words.snapshot p n x.page x.index ls) [
+    → (placed_at w.allocations i).released ≡ false → has_bit_of c (slice_set w.now.words.snapshot p n)
+    (placed_at w.allocations i) ≡ has_bit_of c w.now.words.snapshot (placed_at w.allocations i)
+dropped_bits {c} w {p = p} {n = n} i ls q d u = elim (bit_cases w.now.words.snapshot p n x.page x.index ls) [
   | inr other ↦ other.1
   | inl here ↦ here.1 ∙ same here.0 (cases_Bool _) (cases_Bool _)
 ]
@@ -56,22 +55,22 @@ quar_none : (c : Config) (w : World) (f : Flight) (p n : ℕ) → p < length w.n
     → HasSnapshot c (is_cycling (phase_of w.now.words)) (slice_set w.now.words.snapshot p (n / 2 ^ 32)) w.allocations
 quar_none c w f p n ls none h q s = grind (arith, frees_some, eqb-true, dropped_bits)
 
-quar_frees : (c : Config) (w : World) (cell : Cell) (n : ℕ) → FreesHere c w cell n
+quar_frees : {c : Config} {w : World} {cell : Cell} {n : ℕ} → FreesHere c w cell n
     → HasQuarantine c false w.now.words.marks (ground_of w) → KeepsSnapshot c w
     → HasSnapshot c (is_cycling (phase_of w.now.words)) (slice_set w.now.words.snapshot cell.page (n / 2 ^ 32))
     (map (freed_where_it_stands w.now.words (Some cell)) w.allocations)
-quar_frees c w cell n x q s =
+quar_frees {c} {w} {cell} {n} x q s =
     let leaves : LeavesCells (freed_where_it_stands w.now.words (Some cell)) = freeing_leaves w.now.words (Some cell) in
     rw same (record {
       fresh = λ i f. fresh i _ refl f;
       quarantined = λ on i u.
-          let b = before_change c _ w.allocations i leaves u in
+          let b = before_change c w.allocations i leaves u in
           ap (λ (y : Cell). has_bit (slice_index w.now.words.snapshot y.page) y.index) b.cell
           ∙ bit on i b.was (stands_in w.now.words cell (placed_at w.allocations i)) refl ∙ sym (rw (at i));
     })
   where
     same : slice_set w.now.words.snapshot cell.page (n / 2 ^ 32) ≡ w.now.words.snapshot
-    same = rw (free_halves c w cell n x q).1 (set-get_or w.now.words.snapshot cell.page 0)
+    same = rw (free_halves x q).1 (set-get_or w.now.words.snapshot cell.page 0)
 
     at : (i : ℕ) → placed_at (map (freed_where_it_stands w.now.words (Some cell)) w.allocations) i
         ≡ freed_where_it_stands w.now.words (Some cell) (placed_at w.allocations i)
@@ -94,20 +93,19 @@ quar_frees c w cell n x q s =
         (rw (at i) r.0, rw (at i) r.1)
 
     bit : is_cycling (phase_of w.now.words) ≡ true → (i : ℕ) → (placed_at w.allocations i).released ≡ false → (b : Bool)
-        → stands_in w.now.words cell (placed_at w.allocations i) ≡ b
-        → has_bit_of c w.now.words.snapshot (placed_at w.allocations i)
-        ≡ ((freed_where_it_stands w.now.words (Some cell) (placed_at w.allocations i)).freed
+        → stands_in w.now.words cell (placed_at w.allocations i) ≡ b → has_bit_of c w.now.words.snapshot
+        (placed_at w.allocations i) ≡ ((freed_where_it_stands w.now.words (Some cell) (placed_at w.allocations i)).freed
         && not (freed_where_it_stands w.now.words (Some cell) (placed_at w.allocations i)).fresh)
     bit on i u true is =
         ap (λ (y : Cell). has_bit (slice_index w.now.words.snapshot y.page) y.index) (x.others i u is)
-        ∙ unset_in_snapshot c false w.now.words.marks (ground_of w) cell.page cell.index q x.unset ∙ sym (rw is)
+        ∙ unset_in_snapshot cell.page cell.index q x.unset ∙ sym (rw is)
     bit on i u false is = s.quarantined on i u ∙ sym (rw is)
 
-pub snapshot_of_quar : (c : Config) (w : World) (seat : Seat) (p n : ℕ) → Before c w
+pub snapshot_of_quar : {c : Config} {w : World} (seat : Seat) (p n : ℕ) → Before c w
     → Meets c w.now seat (Step.Quar p n) → LayoutStands c w → IsQuarantined c w → KeepsSnapshot c w
     → HasSnapshot c (is_cycling (phase_of w.now.words)) (slice_set w.now.words.snapshot p (n / 2 ^ 32))
     (map (freed_where_it_stands w.now.words (cell_freed c.pages w.now.words (flight_of w.now seat) p n)) w.allocations)
-snapshot_of_quar c w seat p n b h laid q s = by (cell_freed c.pages w.now.words (flight_of w.now seat) p n) refl
+snapshot_of_quar {c} {w} seat p n b h laid q s = by (cell_freed c.pages w.now.words (flight_of w.now seat) p n) refl
   where
     ls : p < length w.now.words.snapshot
     ls = let lt = ltb-true p c.pages h.range in let len = b.lengths.snapshot in omega arith
@@ -119,7 +117,7 @@ snapshot_of_quar c w seat p n b h laid q s = by (cell_freed c.pages w.now.words 
         (quar_none c w (flight_of w.now seat) p n ls is (quarantine_step c w.now _ p n h.holder) q s)
     by (Some cell) is =
         let x = freed_cell c.pages w.now.words _ p n cell is in
-        rw x.page (quar_frees c w cell n (frees_here c w seat p n cell b h laid x) (rw x.phase at q) s)
+        rw x.page (quar_frees (frees_here seat b h laid x) (rw x.phase at q) s)
 
 -- Whether the phase is one of a cycle's, after each kind of event.
 
@@ -134,13 +132,13 @@ pub cycle_kind : (c : Config) (w : World) (seat : Seat) (x : Step) → Meets c w
 cycle_kind c w seat x h = grind (arith, phase_moves, phase_asked)
 
 -- `begin`: what is freed is in the snapshot, and nothing is fresh
-begin_kind : (c : Config) (w : World) → Before c w → is_phase w.now.words 0 ≡ true
+begin_kind : {c : Config} {w : World} → Before c w → is_phase w.now.words 0 ≡ true
     → may_begin c.pages w.now.words ≡ true → LayoutStands c w → IsQuarantined c w
     → HasSnapshot c true w.now.words.snapshot (map no_longer_fresh w.allocations)
-begin_kind c w b quiet own laid q = record {
+begin_kind {c} {w} b quiet own laid q = record {
   fresh = λ i f. absurd (true≢false (sym f ∙ rw (at i)));
   quarantined = λ on i u.
-      let x = before_change c no_longer_fresh w.allocations i fresh_cells u in
+      let x = before_change c w.allocations i fresh_cells u in
       ap (λ (y : Cell). has_bit (slice_index w.now.words.snapshot y.page) y.index) x.cell
       ∙ bit i x.was (cases_Bool (placed_at w.allocations i).freed) ∙ sym (rw (at i));
 }
@@ -162,17 +160,16 @@ begin_kind c w b quiet own laid q = record {
     bit i u (inr f) = grind (arith, false_from_ne_true, off_at, numbers_apart, apart_left)
 
 -- `grant`: the new cell isn't in the snapshot
-grant_kind : (c : Config) (w : World) (seat : Seat) → Before c w → Meets c w.now seat Step.Grant → LayoutStands c w
+grant_kind : {c : Config} {w : World} (seat : Seat) → Before c w → Meets c w.now seat Step.Grant → LayoutStands c w
     → IsQuarantined c w → KeepsSnapshot c w → HasSnapshot c (is_cycling (phase_of w.now.words)) w.now.words.snapshot
     (w.allocations ++ granted c w.now (flight_of w.now seat) ∷ [])
-grant_kind c w seat b h laid q s = record {
+grant_kind {c} {w} seat b h laid q s = record {
   fresh = grind (arith, pushed_any);
   quarantined = λ on i u. elim (pushed_at w.allocations a i u) [
     | inl old ↦ ap (λ (x : PlacedAllocation). has_bit_of c w.now.words.snapshot x) old.1 ∙ s.quarantined on i old.0
         ∙ sym (ap (λ (x : PlacedAllocation). x.freed && not x.fresh) old.1)
-    | inr new ↦ ap (λ (x : PlacedAllocation). has_bit_of c w.now.words.snapshot x) new
-        ∙ outside w.now.seats.holding.placing refl h.holder
-        ∙ sym (ap (λ (x : PlacedAllocation). x.freed && not x.fresh) new)
+    | inr new ↦ ap (λ (x : PlacedAllocation). has_bit_of c w.now.words.snapshot x) new ∙ outside
+        w.now.seats.holding.placing refl h.holder ∙ sym (ap (λ (x : PlacedAllocation). x.freed && not x.fresh) new)
   ];
 }
   where
@@ -195,24 +192,21 @@ grant_kind c w seat b h laid q s = record {
         let shown = (rw own at laid).scene.shown
         (place_claim o place) (placed_claim c o (ground_of w) (place_claim o place) there) in
         let cell = place_index c a place shown.sized base shown.known in
-        rw cell.0 (rw cell.1
-        (unset_in_snapshot c (is_phase w.now.words 4) w.now.words.marks (ground_of w) place.page place.index q
-        (q.taken place is)))
+        rw cell.0 (rw cell.1 (unset_in_snapshot place.page place.index q (q.taken place is)))
     outside _ is k = cc
 
 -- `release`: what is fresh isn't released
-release_kind : (c : Config) (w : World) → Before c w → is_phase w.now.words 3 ≡ true → LayoutStands c w
+release_kind : {c : Config} {w : World} → Before c w → is_phase w.now.words 3 ≡ true → LayoutStands c w
     → KeepsSnapshot c w → HasSnapshot c (is_cycling (phase_of w.now.words)) w.now.words.snapshot
     (map (with_released c w.now.words) w.allocations)
-release_kind c w b three laid s = record {
+release_kind {c} {w} b three laid s = record {
   fresh = λ i f.
       let g : PlacedAllocation = with_released c w.now.words (placed_at w.allocations i) in
       let was = s.fresh i (ap (λ (x : PlacedAllocation). x.fresh) (sym (at i)) ∙ f) in (
         rw (at i) was.0,
         rw (at i) (stays i was.0 was.1 (ap (λ (x : PlacedAllocation). x.fresh) (sym (at i)) ∙ f)),
       );
-  quarantined = λ on i u.
-      grind (arith, before_change, releasing_leaves);
+  quarantined = λ on i u. grind (arith, before_change, releasing_leaves);
 }
   where
     at : (i : ℕ) → placed_at (map (with_released c w.now.words) w.allocations) i
@@ -230,18 +224,18 @@ release_kind c w b three laid s = record {
         let x : Cell = cell_of_allocation c a in
         let off = rw (off_at w 3 three (λ e. absurd (omega arith))) at laid in
         let on : is_cycling (phase_of w.now.words) ≡ true = rw (eqb-true _ 3 three) in
-        left_is c w.now.words a b.limits (all_stand c _ false w b.lengths.pages off i u)
+        left_is b.limits (all_stand c _ false w b.lengths.pages off i u)
         ∙ rw (s.quarantined on i u ∙ none_of a.freed a.fresh f fresh)
 
 -- each kind of event, whatever the seat
-pub snapshot_by_kind : (c : Config) (w : World) (seat : Seat) (x : Step) → Before c w → Meets c w.now seat x
+pub snapshot_by_kind : {c : Config} {w : World} (seat : Seat) (x : Step) → Before c w → Meets c w.now seat x
     → LayoutStands c w → IsQuarantined c w → KeepsSnapshot c w
     → HasSnapshot c (is_cycling_behind x (is_cycling (phase_of w.now.words)))
     (WorldBehind c w seat x).now.words.snapshot (WorldBehind c w seat x).allocations
-snapshot_by_kind c w seat Step.Reg b h laid q s = rw (reg_leaves_ground c w seat).snapshot s
-snapshot_by_kind c w seat x3 b h laid q s =
+snapshot_by_kind {c} {w} seat Step.Reg b h laid q s = rw (reg_leaves_ground c w seat).snapshot s
+snapshot_by_kind seat x3 b h laid q s =
     grind (arith, tally_ground, snapshot_of_quar, begin_kind, grant_kind, release_kind)
 
-pub snapshot_behind : (c : Config) (w : World) (seat : Seat) (x : Step) → Before c w → Meets c w.now seat x
+pub snapshot_behind : {c : Config} {w : World} (seat : Seat) (x : Step) → Before c w → Meets c w.now seat x
     → LayoutStands c w → IsQuarantined c w → KeepsSnapshot c w → KeepsSnapshot c (WorldBehind c w seat x)
-snapshot_behind c w seat x b h laid q s = rw (cycle_kind c w seat x h) (snapshot_by_kind c w seat x b h laid q s)
+snapshot_behind {c} {w} seat x b h laid q s = rw (cycle_kind c w seat x h) (snapshot_by_kind seat x b h laid q s)

@@ -13,18 +13,17 @@ use Rattle.mk_core.specs.{Cells.is_in_snapshot, Readings.{SnapshotsTell, Snapsho
 
 -- the events from a `begin` on, as a part of the list
 
-pub enabled_at : (c : Config) (es : List Event) (kind : Step → Bool) (at : At kind es) → IsHistory c es
+pub enabled_at : {c : Config} {es : List Event} {kind : Step → Bool} (at : At kind es) → IsHistory c es
     → AreEnabledFrom c (left c at.before) (at.event ∷ at.behind)
-enabled_at c es kind at h = grind (arith, enabled_in_parts)
+enabled_at at h = grind (arith, enabled_in_parts)
 
 -- An unreleased phase is one of a cycle's.
 pub unreleased_cycles : (p : ℕ) → IsUnreleased p → (is_cycling p ≡ true) × (p ≢ 4)
 unreleased_cycles p u = grind (arith, and_from, le-leb)
 
 -- what stands after a `begin` where nothing was released since
-pub begun_world : (c : Config) (w : World) (e : Event) (es : List Event) → AreEnabledFrom c w (e ∷ es)
-    → is_begin e.step ≡ true
-    → list_any (λ (x : Event). is_release x.step) es ≡ false → NoneIsReleased c (world_behind c w e) es
+pub begun_world : (c : Config) (w : World) (e : Event) (es : List Event) → AreEnabledFrom c w (e ∷ es) → is_begin
+    e.step ≡ true → list_any (λ (x : Event). is_release x.step) es ≡ false → NoneIsReleased c (world_behind c w e) es
 begun_world c w e es on is none = grind (arith, moves_phase, phase_behind, begin_is, none_is_released)
 
 either_kind : (es : List Event) → list_any (λ (e : Event). is_begin e.step || is_release e.step) es ≡ false
@@ -55,7 +54,7 @@ module _ (c : Config) (es : List Event) (h : IsHistory c es) (begin : At is_begi
   phase : IsUnreleased (phase_of w.now.words)
   unfolding left_from
   phase =
-      let on = enabled_at c es is_begin begin h in
+      let on = enabled_at begin h in
       grind (arith, begun_world, no_release, since)
 
   all : KeepsTheInvariant c es

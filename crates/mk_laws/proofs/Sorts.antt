@@ -1,29 +1,29 @@
 -- Each enabled event is one of the moves of the protocol.
 use Rattle.std.proofs.lemmas.Bool.{not_from_true}
 use Rattle.mk_laws.proofs.Vocabulary.{Answer, Bool, Caller, Cell, Config, Event, Flight, Group, Hand, Holding, Host}
-use Rattle.mk_laws.proofs.Vocabulary.{List, Marker, Moment, Named, None, Object, Op, Option, OwnCycle, Page, Place}
-use Rattle.mk_laws.proofs.Vocabulary.{Placing, Seat, Some, Stage, Step, Store, Unplaced, Word, Words, ℕ, accessed}
-use Rattle.mk_laws.proofs.Vocabulary.{and_parts, ap, arith, at_rest, begun, cases_Bool, cases_eq, cell_freed, chosen}
-use Rattle.mk_laws.proofs.Vocabulary.{decided, eq-eqb, eqb-false, eqb-true, false, flight_of, found, freed_cell}
-use Rattle.mk_laws.proofs.Vocabulary.{group_of, host_has_turn, if◌then◌else◌, inl, inr, is_attending, is_in, is_phase}
-use Rattle.mk_laws.proofs.Vocabulary.{is_some, is_undecided_free, is_under_turn, marker_of, marks_place}
-use Rattle.mk_laws.proofs.Vocabulary.{may_answer_full, ne_eqb, not-true, nothing_done, object_made, onward, or_else}
-use Rattle.mk_laws.proofs.Vocabulary.{phase_of, place_now, placed_now, progress, progress_freed, progress_reg, refl}
-use Rattle.mk_laws.proofs.Vocabulary.{run_of_cell, sees_double, set-get_or, slice_index, slice_set, stage_behind}
-use Rattle.mk_laws.proofs.Vocabulary.{steps_of, still, subst, sym, taken, tally_word, target, true, ◌%◌, ◌+◌, ◌<◌, ◌==◌}
-use Rattle.mk_laws.proofs.{Vocabulary.{◌∙◌, ◌≡◌}, Actors.{Actor, AsHolder, AsMarker, CallTakes, HostTakes, InCallOf}}
-use Rattle.mk_laws.proofs.{Actors.{Meets, fills_new, grants_new, is_holders}, Asked.{closing_alone, give_phase}}
-use Rattle.mk_laws.proofs.{Asked.{none_at, none_held, other_caller, others_held}, NextSteps.{at_enter, at_its_stage}}
-use Rattle.mk_laws.proofs.{NextSteps.{at_reg, has_stage_of_its_own, stage_of}, ProtocolMoves.{Attends, Begins, Closes}}
-use Rattle.mk_laws.proofs.ProtocolMoves.{Ends, Enters, Gives, GoesOn, Holds, Leaves, Move, Opens, Phases, Quits}
-use Rattle.mk_laws.proofs.ProtocolMoves.{Releases, Scans, Stays, Stops, Takes, Wants, Works}
-use Rattle.mk_laws.proofs.SameWords.{Behind, Moves, finds, reg_keeps, tally_keeps, with_words}
-use Rattle.mk_laws.{proofs.Services.{Fills, Frees, Goes, Grants, Loads, Places, Service}, specs.Protocol.{is_granted}}
-use Rattle.mk_laws.proofs.Stages.{begun_in_call, begun_under_turn, calls_stand, either_stands, goes_on, is_call_stage}
-use Rattle.mk_laws.proofs.Stages.{is_reg_stage, loads_under_turn, onward_stands, read_stands, refused_stands}
-use Rattle.mk_laws.proofs.{Stages.{reg_no_new, reg_stands, regs_work}, Standings.{Astray, InCall, Resting, Standing}}
-use Rattle.mk_laws.proofs.{Standings.{UnderTurn, is_astray, standing, standing_at}, Views.{HoldsTurn, View, flight_in}}
-use Rattle.mk_laws.proofs.{Views.{flight_is, flights_with, gate_in, view_of}, IdleMarkers.{work_idles, work_stays}}
+use Rattle.mk_laws.proofs.Vocabulary.{List, Marker, Moment, None, Object, Op, Option, OwnCycle, Page, Place, Placing}
+use Rattle.mk_laws.proofs.Vocabulary.{Seat, Some, Stage, Step, Unplaced, Word, Words, ℕ, and_parts, ap, arith, at_rest}
+use Rattle.mk_laws.proofs.Vocabulary.{begun, cases_Bool, cases_eq, cell_freed, chosen, decided, eq-eqb, eqb-false}
+use Rattle.mk_laws.proofs.Vocabulary.{eqb-true, false, flight_of, found, freed_cell, group_of, host_has_turn}
+use Rattle.mk_laws.proofs.Vocabulary.{if◌then◌else◌, inl, inr, is_attending, is_in, is_phase, is_some}
+use Rattle.mk_laws.proofs.Vocabulary.{is_undecided_free, is_under_turn, marker_of, marks_place, may_answer_full, ne_eqb}
+use Rattle.mk_laws.proofs.Vocabulary.{not-true, nothing_done, object_made, onward, or_else, phase_of, place_now}
+use Rattle.mk_laws.proofs.Vocabulary.{placed_now, progress, progress_freed, progress_reg, refl, run_of_cell}
+use Rattle.mk_laws.proofs.Vocabulary.{sees_double, set-get_or, slice_index, slice_set, stage_behind, steps_of, still}
+use Rattle.mk_laws.proofs.Vocabulary.{subst, sym, taken, target, true, ◌%◌, ◌+◌, ◌<◌, ◌==◌, ◌∙◌, ◌≡◌}
+use Rattle.mk_laws.proofs.Actors.{Actor, AsHolder, AsMarker, CallTakes, HostTakes, InCallOf, Meets, fills_new}
+use Rattle.mk_laws.proofs.{Actors.{grants_new, is_holders}, Asked.{closing_alone, give_phase, none_at, none_held}}
+use Rattle.mk_laws.proofs.{Asked.{other_caller, others_held}, NextSteps.{at_enter, at_its_stage, at_reg}}
+use Rattle.mk_laws.proofs.{NextSteps.{has_stage_of_its_own, stage_of}, ProtocolMoves.{Attends, Begins, Closes, Ends}}
+use Rattle.mk_laws.proofs.ProtocolMoves.{Enters, Gives, GoesOn, Holds, Leaves, Move, Opens, Phases, Quits, Releases}
+use Rattle.mk_laws.proofs.{ProtocolMoves.{Scans, Stays, Stops, Takes, Wants, Works}, SameWords.{Behind, Moves, finds}}
+use Rattle.mk_laws.proofs.{SameWords.{reg_keeps, tally_keeps, with_words}, Services.{Fills, Frees, Goes, Grants, Loads}}
+use Rattle.mk_laws.proofs.{Services.{Places, Service}, Stages.{begun_in_call, begun_under_turn, calls_stand}}
+use Rattle.mk_laws.proofs.Stages.{either_stands, goes_on, is_call_stage, is_reg_stage, loads_under_turn, onward_stands}
+use Rattle.mk_laws.proofs.Stages.{read_stands, refused_stands, reg_no_new, reg_stands, regs_work}
+use Rattle.mk_laws.proofs.Standings.{Astray, InCall, Resting, Standing, UnderTurn, is_astray, standing, standing_at}
+use Rattle.mk_laws.proofs.Views.{HoldsTurn, View, flight_in, flight_is, flights_with, gate_in, view_of}
+use Rattle.mk_laws.{proofs.IdleMarkers.{work_idles, work_stays}, specs.Protocol.{is_granted}}
 use Rattle.mk_core.specs.declared.seats.Presence.TheVariants.{Attending, Visiting}
 
 -- How a step of the turn's holder serves its call.
@@ -44,9 +44,8 @@ double_some w None (Word.Quar p) h = cc
 double_some w None _ h = cc
 
 -- `look`
-pub looks : (pages : ℕ) (w : Words) (f : Flight) (h : Holding) (x : Word) (hand : Option Hand)
-    → Service f h (if sees_double w (target pages w f) x then decided f Answer.Double else still f).flight
-    (record h { hand = hand })
+pub looks : (pages : ℕ) (w : Words) (f : Flight) (h : Holding) (x : Word) (hand : Option Hand) → Service f h
+    (if sees_double w (target pages w f) x then decided f Answer.Double else still f).flight (record h { hand = hand })
 looks pages w f h x hand = by (sees_double w (target pages w f) x) refl
   where
     by : (b : Bool) → sees_double w (target pages w f) x ≡ b
@@ -65,9 +64,8 @@ granted_chosen _ _ h = cc
 
 place_changes : (c : Config) (m : Moment) (f : Flight) (change : Placing → Option Place → Placing)
     → ((p : Placing) → change p None ≡ p)
-    → ((p : Placing) (place : Place) → is_granted (change p (Some place)) ≡ true → is_granted p ≡ true)
-    → Service f m.seats.holding f
-    (record m.seats.holding { placing = change m.seats.holding.placing (place_now c m f) })
+    → ((p : Placing) (place : Place) → is_granted (change p (Some place)) ≡ true → is_granted p ≡ true) → Service f
+    m.seats.holding f (record m.seats.holding { placing = change m.seats.holding.placing (place_now c m f) })
 place_changes c m f change none granted = by (place_now c m f) refl
   where
     by : (place : Option Place) → place_now c m f ≡ place
@@ -75,15 +73,14 @@ place_changes c m f change none granted = by (place_now c m f) refl
     by (Some place) e = Places _ (placed_now c m f place e).new (granted m.seats.holding.placing place) refl
     by None e = Goes _ (none m.seats.holding.placing) refl
 
-pub either_place : (f : Flight) (h : Holding) (b : Bool) (p q : Placing) → Service f h f (record h { placing = p })
+pub either_place : {f : Flight} {h : Holding} (b : Bool) (p q : Placing) → Service f h f (record h { placing = p })
     → Service f h f (record h { placing = q }) → Service f h f (record h { placing = if b then p else q })
-either_place f h true p q x y = x
-either_place f h false p q x y = y
+either_place true p q x y = x
+either_place false p q x y = y
 
 -- `quar`
-pub quarantines : (pages : ℕ) (w : Words) (f : Flight) (h : Holding) (p v : ℕ)
-    → Service f h (progress_freed f (cell_freed pages w f p v)).flight
-    (record h { freed = or_else (run_of_cell w (cell_freed pages w f p v)) h.freed })
+pub quarantines : (pages : ℕ) (w : Words) (f : Flight) (h : Holding) (p v : ℕ) → Service f h (progress_freed f
+    (cell_freed pages w f p v)).flight (record h { freed = or_else (run_of_cell w (cell_freed pages w f p v)) h.freed })
 quarantines pages w f h p v = by (cell_freed pages w f p v) refl
   where
     by : (cell : Option Cell) → cell_freed pages w f p v ≡ cell
@@ -129,7 +126,7 @@ enter_move c m k o lt was out = elim (cases_eq (slice_index m.words.gates k) 0) 
 -- `reg`, in a call outside the turn or of a Free
 reg_move : (c : Config) (m : Moment) (k : ℕ) → k < c.callers → is_reg_stage (flight_of m (Caller k)).stage ≡ true
     → is_astray (standing (flight_of m (Caller k))) ≡ false → Moves c m (Caller k) Step.Reg
-reg_move c m k lt is a = with_words c (view_of m) (Caller k) m.words _ _ m.seats.holding m.seats.markers
+reg_move c m k lt is a = with_words _ m.seats.holding m.seats.markers
     (reg_keeps m.words k _ _) (by (standing f) refl (reg_stands f.stage f.op f.q f.p f.r f.loaded (found c m e) is a))
   where
     e : Event
@@ -160,10 +157,9 @@ on c m k x h own is a =
 
 -- and so after them, but for `leave`
 goes : (c : Config) (m : Moment) (k : ℕ) (x : Step) → Meets c m (Caller k) x → has_stage_of_its_own x ≡ true
-    → is_call_stage (stage_of x) ≡ true → goes_on (stage_of x) ≡ true
-    → is_astray (standing (flight_of m (Caller k))) ≡ false → (standing (flight_of m (Caller k)) ≡ InCall)
-    × (standing_at (stage_behind (flight_of m (Caller k)).stage (steps_of (flight_of m (Caller k)).op))
-    (flight_of m (Caller k)).op ≡ InCall)
+    → is_call_stage (stage_of x) ≡ true → goes_on (stage_of x) ≡ true → is_astray (standing (flight_of m (Caller k)))
+    ≡ false → (standing (flight_of m (Caller k)) ≡ InCall) × (standing_at (stage_behind (flight_of m (Caller k)).stage
+    (steps_of (flight_of m (Caller k)).op)) (flight_of m (Caller k)).op ≡ InCall)
 goes c m k x h own is further a =
     let f = flight_of m (Caller k) in
     let was = on c m k x h own is a in
@@ -263,14 +259,14 @@ from_seat : (c : Config) (m : Moment) (seat : Seat) (x : Step) → HoldsTurn c (
 from_seat c m (Marker k) x t move = absurd t
 from_seat c m _ x t move = move
 
-works : (c : Config) (m : Moment) (seat : Seat) (g : Flight) (i : Holding) → HoldsTurn c (view_of m) seat
+works : (c : Config) (m : Moment) (seat : Seat) {g : Flight} {i : Holding} → HoldsTurn c (view_of m) seat
     → Service (flight_of m seat) m.seats.holding g i
     → Move c (view_of m) seat (record (view_of m) { flights = flights_with m.seats.flights seat g; holding = i })
-works c m seat g i t s = Works g i t (rw (flight_is m seat) at s)
+works c m seat {g = g} {i = i} t s = Works g i t (rw (flight_is m seat) at s)
 
 works_on : (c : Config) (m : Moment) (seat : Seat) → HoldsTurn c (view_of m) seat
     → Move c (view_of m) seat (record (view_of m) { flights = flights_with m.seats.flights seat (flight_of m seat) })
-works_on c m seat t = works c m seat _ m.seats.holding t (Goes m.seats.holding refl refl)
+works_on c m seat t = works c m seat t (Goes m.seats.holding refl refl)
 
 -- its call stays as it is
 same_call : (m : Moment) (seat : Seat) → flights_with m.seats.flights seat (flight_of m seat) ≡ m.seats.flights
@@ -285,22 +281,18 @@ stays_at c m seat v move = rw (same_call m seat) move
 by_kind : (c : Config) (m : Moment) (seat : Seat) (x : Step) → HoldsTurn c (view_of m) seat → is_holders x ≡ true
     → Meets c m seat x → HolderMoves c m seat x
 by_kind c m seat Step.Give t n h = Gives t (none_held c m.words h.gates) (give_phase (phase_of m.words) h.phase)
-by_kind c m seat (Step.Look w) t n h =
-    works c m seat _ _ t (looks c.pages m.words (flight_of m seat) m.seats.holding w _)
-by_kind c m seat (Step.Head p v) t n h = works c m seat _ _ t
-    (either_place (flight_of m seat) m.seats.holding (is_phase m.words 4) m.seats.holding.placing
-    (chosen m.seats.holding.placing (place_now c m (flight_of m seat)))
-    (Goes m.seats.holding refl refl) (place_changes c m (flight_of m seat) chosen chosen_none granted_chosen))
-by_kind c m seat (Step.Used p v) t n h = works c m seat _ _ t
-    (either_place (flight_of m seat) m.seats.holding (is_phase m.words 4) m.seats.holding.placing
-    (taken m.seats.holding.placing (place_now c m (flight_of m seat)))
-    (Goes m.seats.holding refl refl) (place_changes c m (flight_of m seat) taken (λ p. refl) (λ p place g. cc)))
+by_kind c m seat (Step.Look w) t n h = works c m seat t (looks c.pages m.words (flight_of m seat) m.seats.holding w _)
+by_kind c m seat (Step.Head p v) t n h = works c m seat t (either_place (is_phase m.words 4) m.seats.holding.placing
+    (chosen m.seats.holding.placing (place_now c m (flight_of m seat))) (Goes m.seats.holding refl refl)
+    (place_changes c m (flight_of m seat) chosen chosen_none granted_chosen))
+by_kind c m seat (Step.Used p v) t n h = works c m seat t (either_place (is_phase m.words 4) m.seats.holding.placing
+    (taken m.seats.holding.placing (place_now c m (flight_of m seat))) (Goes m.seats.holding refl refl)
+    (place_changes c m (flight_of m seat) taken (λ p. refl) (λ p place g. cc)))
 by_kind c m seat (Step.Quar p v) t n h =
-    works c m seat _ _ t (quarantines c.pages m.words (flight_of m seat) m.seats.holding p v)
-by_kind c m seat Step.Grant t n h = works c m seat _ _ t (Grants (grants_new c m seat h))
+    works c m seat t (quarantines c.pages m.words (flight_of m seat) m.seats.holding p v)
+by_kind c m seat Step.Grant t n h = works c m seat t (Grants (grants_new c m seat h))
 by_kind c m seat (Step.Tally n v) t _ h =
-    with_words c (view_of m) seat m.words (accessed m.words (Named (tally_word n)) (Store v)) _ m.seats.holding
-    m.seats.markers (tally_keeps m.words n v) (works_on c m seat t)
+    with_words _ m.seats.holding m.seats.markers (tally_keeps m.words n v) (works_on c m seat t)
 by_kind c m seat (Step.Hold j) t n h =
     let o = other_caller c seat j h.range in stays_at c m seat (view_of (Behind c m seat (Step.Hold j)))
     (elim (cases_eq (slice_index m.words.gates j) 0) [
@@ -313,14 +305,13 @@ by_kind c m seat (Step.Open j) t n h =
     (Opens j t o.0 o.1 (eqb-true (slice_index m.words.gates j) 2 h.gates)
     (eqb-false (phase_of m.words) 3 (not-true (phase_of m.words == 3) h.phase)))
 by_kind c m seat (Step.Clear p) t n h = works_on c m seat t
-by_kind c m seat (Step.Mark p v) t n h = works c m seat _ _ t (either_place (flight_of m seat) m.seats.holding
+by_kind c m seat (Step.Mark p v) t n h = works c m seat t (either_place
     (marks_place m.words (object_made c (flight_of m seat).op) (place_now c m (flight_of m seat)) p v)
     (chosen m.seats.holding.placing (place_now c m (flight_of m seat))) m.seats.holding.placing
     (place_changes c m (flight_of m seat) chosen chosen_none granted_chosen) (Goes m.seats.holding refl refl))
 by_kind c m seat (Step.Wipe i) t n h = works_on c m seat t
-by_kind c m seat Step.Full t n h = works c m seat _ _ t (Fills (fills_new c m seat h)
-    (full_unplaced c.resident m.words.pages (object_made c (flight_of m seat).op) m.seats.holding.placing
-    m.seats.holding.cycle h.holder))
+by_kind c m seat Step.Full t n h = works c m seat t (Fills (fills_new c m seat h) (full_unplaced c.resident
+    m.words.pages (object_made c (flight_of m seat).op) m.seats.holding.placing m.seats.holding.cycle h.holder))
 by_kind c m seat Step.Begin t n h = stays_at c m seat (view_of (Behind c m seat Step.Begin))
     (Phases _ t refl refl (Begins (eqb-true (phase_of m.words) 0 h.phase)))
 by_kind c m seat Step.Close t n h = stays_at c m seat (view_of (Behind c m seat Step.Close)) (Phases _ t refl refl
@@ -340,11 +331,10 @@ by_kind c m seat Step.Over t n h = stays_at c m seat (view_of (Behind c m seat S
 by_kind c m seat _ t n h = cc
 
 -- all kinds
-pub moves : (c : Config) (m : Moment) (seat : Seat) (x : Step)
-    → ((k : ℕ) → k < c.callers → is_astray (standing (flight_of m (Caller k))) ≡ false)
-    → Actor c m seat x → Meets c m seat x → Moves c m seat x
-moves c m seat x a (InCallOf k _ lt g) h = call_moves c m k x lt g (a k lt) h
-moves c m seat x a (AsMarker k _ lt g) h = marker_moves c m k x lt g h
-moves c m seat x a (CallTakes k o lt idle is) h = call_takes c m k o lt idle is
-moves c m seat x a (HostTakes free) h = host_takes c m
-moves c m seat x a (AsHolder _ _ t n) h = from_seat c m seat x t (by_kind c m seat x t n h)
+pub moves : {c : Config} {m : Moment} {seat : Seat} {x : Step} → ((k : ℕ) → k < c.callers
+    → is_astray (standing (flight_of m (Caller k))) ≡ false) → Actor c m seat x → Meets c m seat x → Moves c m seat x
+moves {c} {m} {x} a (InCallOf k _ lt g) h = call_moves c m k x lt g (a k lt) h
+moves {c} {m} {x} a (AsMarker k _ lt g) h = marker_moves c m k x lt g h
+moves {c} {m} a (CallTakes k o lt idle is) h = call_takes c m k o lt idle is
+moves {c} {m} a (HostTakes free) h = host_takes c m
+moves {c} {m} {seat} {x} a (AsHolder _ _ t n) h = from_seat c m seat x t (by_kind c m seat x t n h)

@@ -1,9 +1,9 @@
 -- How the stages of a call follow one another.
 use Rattle.mk_laws.proofs.Vocabulary.{Bool, Flight, Op, Progress, Stage, ℕ, begun, false, if◌then◌else◌, is_new_at}
-use Rattle.mk_laws.proofs.Vocabulary.{is_undecided_new, is_under_turn, progress_read, progress_reg, refl, stage_behind}
-use Rattle.mk_laws.proofs.Vocabulary.{list_any, not, stage_refused, steps_of, true, [], ◌==◌, ◌∷◌, ◌≡◌}
-use Rattle.mk_laws.proofs.Standings.{InCall, Resting, Standing, UnderTurn, is_astray, standing, standing_at}
+use Rattle.mk_laws.proofs.Vocabulary.{is_undecided_new, is_under_turn, list_any, not, progress_read, progress_reg, refl}
+use Rattle.mk_laws.proofs.Vocabulary.{stage_behind, stage_refused, steps_of, true, [], ◌==◌, ◌∷◌, ◌≡◌}
 use Rattle.mk_core.specs.Calls.{is_same_stage}
+use Rattle.mk_laws.proofs.Standings.{InCall, Resting, Standing, UnderTurn, is_astray, standing, standing_at}
 
 -- the stages of calls outside the turn, those of the turn's steps, and those of `reg`
 

@@ -2,7 +2,7 @@
 use Rattle.std.proofs.lemmas.List.Sums.{sum_by_push}
 use Rattle.mk_laws.proofs.Vocabulary.{Bool, Config, Event, Flight, IsHistory, IsSettled, IsTidy, List, Moment}
 use Rattle.mk_laws.proofs.Vocabulary.{OfHistories, PlacedAllocation, Seat, Step, TalliesAreTidy, Words, World, ℕ}
-use Rattle.mk_laws.proofs.Vocabulary.{and_parts, ap, append_assoc, arith, calls_from, eqb-true, false}
+use Rattle.mk_laws.proofs.Vocabulary.{and_parts, ap, append_assoc, arith, calls_from, ends, eqb-true, false}
 use Rattle.mk_laws.proofs.Vocabulary.{false_from_ne_true, first_world, flight_of, fresh_words_of, held_by_pages}
 use Rattle.mk_laws.proofs.Vocabulary.{histories_keep_lengths, in_a_word, is_decided, is_run_gone, is_undecided_new}
 use Rattle.mk_laws.proofs.Vocabulary.{left, left_from, left_more, ne_eqb, refl, subst, sym, true, true≢false}
@@ -15,8 +15,8 @@ use Rattle.mk_laws.proofs.TallySteps.{Leaves, Takes, TurnStep, give_counts_nothi
 use Rattle.mk_laws.proofs.{Asked.give_phase, InvariantJoined.told_to_layout, InvariantTheorems.pages_show_the_storage}
 use Rattle.mk_laws.proofs.{LayoutHistories.known_before, LayoutHolders.giver_has_turn, Settled.gone_is_unmapped}
 use Rattle.mk_geom.proofs.HeldWords.{pages_hold_mapped_words}
-use Rattle.mk_core.{proofs.Histories.{calls_more}, specs.Counts.{releases}}
-use Rattle.mk_core.specs.{Readings.TalliesTell, Allocations.held_by_allocations, Counts.{TalliesAreExact, full_answers}}
+use Rattle.mk_core.{proofs.Histories.{calls_more}, specs.Readings.{TalliesTell}}
+use Rattle.mk_core.specs.{Allocations.held_by_allocations, Counts.{TalliesAreExact, full_answers, releases}}
 use Rattle.mk_laws.specs.ExactTallies.{TalliesAreExactAtGives}
 
 -- The fresh count of the moment is that of the allocations, after every history.
@@ -24,19 +24,19 @@ use Rattle.mk_laws.specs.ExactTallies.{TalliesAreExactAtGives}
 abbrev pub FreshIsTold : Config → List Event → Type 0
 FreshIsTold c es = FreshTold c (left c es)
 
-world_before : (c : Config) (es : List Event) → IsHistory c es → Before c (left c es)
-world_before c es h =
+world_before : {c : Config} {es : List Event} → IsHistory c es → Before c (left c es)
+world_before {c} {es} h =
     let all = histories_keep_the_invariant c es h in
     let others = told_to_layout c (left c es) _ (known_world c es h.within_limits h.enabled) all in
     let known = known_left c es h.within_limits h.enabled in
-    known_before c (left c es) h.within_limits (histories_keep_lengths c es) known others all.order.quarantined
+    known_before h.within_limits (histories_keep_lengths c es) known others all.order.quarantined
 
 fresh_kept : KeptByEvents FreshIsTold
 fresh_kept c es e h told =
     let here = before_it c (es ++ e ∷ []) es e [] h refl in
     let order = (histories_keep_the_invariant c es here.0).order in
     subst (FreshTold c) (sym (left_more c (first_world c) es e))
-    (fresh_told_behind c (left c es) e.seat e.step (world_before c es here.0) here.1 order told)
+    (fresh_told_behind e.seat e.step (world_before here.0) here.1 order told)
 
 fresh_at_first : (c : Config) → FreshIsTold c []
 unfolding left_from
@@ -53,9 +53,9 @@ decided_no_new f decided new = true≢false (sym decided ∙ ap is_decided (unde
 giving : (phase : ℕ) → (phase ≤ 1) ⊎ (phase ≡ 5) → (phase == 4) ≡ false
 giving phase h = grind (arith, ne_eqb)
 
-exact_at_give : (c : Config) (es : List Event) (seat : Seat) → IsHistory c es → Meets c (left c es).now seat Step.Give
+exact_at_give : {c : Config} {es : List Event} (seat : Seat) → IsHistory c es → Meets c (left c es).now seat Step.Give
     → TalliesAreExact c es
-exact_at_give c es seat h meets =
+exact_at_give {c} {es} seat h meets =
     let m : Moment = (left c es).now in
     let f : Flight = flight_of m seat in
     let known : Known c m = known_left c es h.within_limits h.enabled in
@@ -73,7 +73,7 @@ exact_at_give c es seat h meets =
 pub tallies_are_exact_at_gives : OfHistories TalliesAreExactAtGives
 tallies_are_exact_at_gives c es h before e behind is gives =
     let here = before_it c es before e behind h is in
-    exact_at_give c before e.seat here.0 (subst (Meets c (left c before).now e.seat) gives here.1)
+    exact_at_give e.seat here.0 (subst (Meets c (left c before).now e.seat) gives here.1)
 
 -- An event that counts nothing leaves the tallies exact and tidy.
 module _ (c : Config) (es : List Event) (e : Event) (nothing : CountsNothing c (left c es) e) where
@@ -87,10 +87,13 @@ module _ (c : Config) (es : List Event) (e : Event) (nothing : CountsNothing c (
   same_allocations : (left c es).allocations ≡ (left c (es ++ e ∷ [])).allocations
   same_allocations = sym (ap (λ (w : World). w.allocations) more ∙ nothing.alike.allocations)
 
-  same_fulls : full_answers c es ≡ full_answers c (es ++ e ∷ [])
+  pub same_ends : ends es ≡ ends (es ++ e ∷ [])
+  same_ends = grind (arith, sum_by_push)
+
+  pub same_fulls : full_answers c es ≡ full_answers c (es ++ e ∷ [])
   same_fulls = grind (arith, fulls_of, entry_fulls, calls_more, fulls_append)
 
-  exact_more : TalliesAreExact c es → TalliesAreExact c (es ++ e ∷ [])
+  pub exact_more : TalliesAreExact c es → TalliesAreExact c (es ++ e ∷ [])
   exact_more exact = record {
     held = tally (λ (w : Words). w.held) _ nothing.alike.tallies.held exact.held
         ∙ ap (λ (xs : List PlacedAllocation). held_by_allocations c xs) same_allocations;
@@ -98,10 +101,9 @@ module _ (c : Config) (es : List Event) (e : Event) (nothing : CountsNothing c (
         ∙ ap (λ (xs : List PlacedAllocation). in_a_word (fresh_words_of c xs)) same_allocations;
   }
 
-  tidy_more : TalliesAreTidy c es → TalliesAreTidy c (es ++ e ∷ [])
-  tidy_more tidy = record {
-    cycles = tally (λ (w : Words). w.cycles) _ nothing.alike.tallies.cycles tidy.cycles ∙ ap in_a_word
-        (grind (arith, sum_by_push));
+  pub counts_tidy_more : TalliesAreTidy c es → TalliesAreTidy c (es ++ e ∷ [])
+  counts_tidy_more tidy = record {
+    cycles = tally (λ (w : Words). w.cycles) _ nothing.alike.tallies.cycles tidy.cycles ∙ ap in_a_word same_ends;
     released = tally (λ (w : Words). w.released) _ nothing.alike.tallies.released tidy.released
         ∙ ap (λ (xs : List PlacedAllocation). in_a_word (releases xs)) same_allocations;
     full = tally (λ (w : Words). w.full) _ nothing.alike.tallies.full tidy.full ∙ ap in_a_word same_fulls;
@@ -115,19 +117,19 @@ tidy_before c es e tidy before g behind is gives = tidy before g (behind ++ e �
 abbrev ExactAndTidy : Config → List Event → Type 0
 ExactAndTidy c es = TalliesAreExact c es × (IsTidy c es → TalliesAreTidy c es)
 
-told_behind : (c : Config) (es : List Event) (e : Event) → IsHistory c es → Meets c (left c es).now e.seat e.step
+told_behind : {c : Config} {es : List Event} (e : Event) → IsHistory c es → Meets c (left c es).now e.seat e.step
     → TalliesTell c es → TurnStep e.step (left c es).now.words.turn (world_behind c (left c es) e).now.words.turn
     → (world_behind c (left c es) e).now.words.turn ≡ 0 → ExactAndTidy c (es ++ e ∷ [])
-told_behind c es e h meets tells (Takes held) free = absurd (held free)
-told_behind c es e h meets tells (Gives is) free =
+told_behind e h meets tells (Takes held) free = absurd (held free)
+told_behind {c} {es} e h meets tells (Gives is) free =
     let nothing = give_counts_nothing c (left c es) e is in
-    let exact = exact_at_give c es e.seat h (subst (Meets c (left c es).now e.seat) is meets) in
-    (exact_more c es e nothing exact, λ tidy. tidy_more c es e nothing (tidy es e [] refl is))
-told_behind c es e h meets tells (Leaves same) free =
+    let exact = exact_at_give e.seat h (subst (Meets c (left c es).now e.seat) is meets) in
+    (exact_more c es e nothing exact, λ tidy. counts_tidy_more c es e nothing (tidy es e [] refl is))
+told_behind {c} {es} e h meets tells (Leaves same) free =
     let was : (left c es).now.words.turn ≡ 0 = sym same ∙ free in
     let nothing = others_count_nothing c (left c es) e (known_left c es h.within_limits h.enabled) meets was in
     let told = tells was in
-    (exact_more c es e nothing told.0, λ tidy. tidy_more c es e nothing (told.1 (tidy_before c es e tidy)))
+    (exact_more c es e nothing told.0, λ tidy. counts_tidy_more c es e nothing (told.1 (tidy_before c es e tidy)))
 
 tells_at_first : (c : Config) → TalliesTell c []
 unfolding left_from calls_from unreleased_storage

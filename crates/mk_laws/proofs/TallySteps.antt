@@ -1,10 +1,10 @@
 -- What events leave to the tallies, and to the allocations that they count.
 use Rattle.mk_laws.proofs.Vocabulary.{Bool, Config, Event, Moment, Seat, Step, World, ℕ, answer_decided, ap, arith}
 use Rattle.mk_laws.proofs.Vocabulary.{false, group_of, is_end, is_of_turn, refl, true, world_behind, ◌≡◌, ◌≢◌}
+use Rattle.mk_core.proofs.RegisterAccesses.{LeavesTallies, register_leaves_tallies}
 use Rattle.mk_laws.proofs.Basics.{Actor, AsHolder, AsMarker, HoldsTurn, InCallOf, Known, Meets, WorldBehind, actor_of}
 use Rattle.mk_laws.proofs.Basics.{reg_leaves, tally_keeps, turn_of, view_of}
 use Rattle.mk_laws.proofs.OthersCounts.{answers_full, counts_nothing}
-use Rattle.mk_core.proofs.RegisterAccesses.{LeavesTallies, register_leaves_tallies}
 
 -- The step changes no tally, and no allocation.
 abbrev pub counts_alike : Step → Bool
@@ -38,12 +38,12 @@ turn_step c w seat x = grind (arith, reg_leaves, tally_keeps)
 of_no_turn : (x : Step) → is_of_turn (group_of x) ≡ false → counts_alike x ≡ true
 of_no_turn x g = grind arith
 
-outside_alike : (c : Config) (m : Moment) (seat : Seat) (x : Step) → (HoldsTurn c (view_of m) seat → ⊥)
+outside_alike : {c : Config} {m : Moment} {seat : Seat} {x : Step} → (HoldsTurn c (view_of m) seat → ⊥)
     → Actor c m seat x → counts_alike x ≡ true
-outside_alike c m seat x out (InCallOf k y lt g) = of_no_turn y (ap is_of_turn g)
-outside_alike c m seat x out (AsMarker k y lt g) = of_no_turn y (ap is_of_turn g)
-outside_alike c m seat x out (AsHolder s y holds n) = absurd (out holds)
-outside_alike c m seat x out _ = refl
+outside_alike out (InCallOf k y lt g) = of_no_turn y (ap is_of_turn g)
+outside_alike out (AsMarker k y lt g) = of_no_turn y (ap is_of_turn g)
+outside_alike out (AsHolder s y holds n) = absurd (out holds)
+outside_alike out _ = refl
 
 -- the event counts nothing: no tally changes and no allocation, no cycle ends, and no call is answered Full
 pub record CountsNothing (c : Config) (w : World) (e : Event) : Type 0 where
@@ -60,7 +60,7 @@ others_count_nothing c w e known h free =
     let actor = actor_of c w.now e.seat e.step known.orderly h in
     let none = counts_nothing c w.now e.seat e.step out actor in
     record {
-      alike = alike c w e.seat e.step (outside_alike c w.now e.seat e.step out actor);
+      alike = alike c w e.seat e.step (outside_alike out actor);
       no_end = none.0;
       no_full = none.1;
     }

@@ -19,34 +19,31 @@ use Rattle.mk_laws.specs.ZerosTell.{ZerosTellTheGuard}
 
 pub later_pages : (c : Config) (w : World) → Unreleasing c w → LaterPagesAreKnown w.now.words
 later_pages c w q p count distance is some lt =
-    let run = whole_quiet _ q.laid.scene refl p (ap heads_run is) in
+    let run = whole_quiet q.laid.scene refl p (ap heads_run is) in
     elim (run.later distance some (rw is lt)) [
       | inl later ↦ inl (ap (λ x. head_page_under x (p + distance)) later.1 ∙ omega arith)
-      | inr free ↦ inr (λ i li. bare_page c w (p + distance) (64 * (p + distance) + i) q free.0 (omega arith))
+      | inr free ↦ inr (λ i li. bare_page (p + distance) (64 * (p + distance) + i) q free.0 (omega arith))
     ]
 
 -- The place of a New
 
 -- who is in a New is there
-new_exists : (c : Config) (m : Moment) (seat : Seat) → Known c m → is_undecided_new (flight_of m seat) ≡ true
+new_exists : {c : Config} {m : Moment} (seat : Seat) → Known c m → is_undecided_new (flight_of m seat) ≡ true
     → seat_exists c seat ≡ true
-new_exists c m seat known new = grind (arith, cases_lt, lt-ltb, get_or_past)
+new_exists seat known new = grind (arith, cases_lt, lt-ltb, get_or_past)
 
-bare_place : (c : Config) (w : World) (o : Object) (place : Place) → Unreleasing c w → Laid c o false w (ground_of w)
+bare_place : {c : Config} {w : World} {o : Object} {place : Place} → Unreleasing c w → Laid c o false w (ground_of w)
     → IsSized o
     → IsPlaced c.resident w.now.words.pages o place w.now.seats.holding.placing → PlaceIsBare w.now.words o place
-bare_place c w o place q st sized placed = elim (placed_for c o false w place st sized placed) [
+bare_place {c} {w} {o} {place} q st sized placed = elim (placed_for c false w st sized placed) [
   | OnFree is fit ↦ record {
     headers = λ d lt. inl (fit.free d lt);
-    words = λ free i li. bare_page c w (place.page + i / 64) _ q (fit.free (i / 64) (omega arith)) (omega arith);
+    words = λ free i li. bare_page (place.page + i / 64) _ q (fit.free (i / 64) (omega arith)) (omega arith);
   }
   | OnChosen is ↦
       let plot : IsPlotShown w.now.words.pages place.page o =
       subst (λ (x : Placing). PlotStands w.now.words.pages (plot_of o x)) is st.scene.plot in
-      record {
-        headers = plot.headers;
-        words = λ free i li. plot_page c w place.page o (i / 64) _ q plot (omega arith) (omega arith);
-      }
+      record { headers = plot.headers; words = λ free i li. plot_page (i / 64) _ q plot (omega arith) (omega arith) }
   | Stands headers _ ↦
       let zero : place.page + 0 ≡ place.page = omega arith in
       record {
@@ -58,9 +55,9 @@ bare_place c w o place q st sized placed = elim (placed_for c o false w place st
 
 -- The run that a call freed, and mapped allocations
 
-run_has_object : (c : Config) (w : World) (run : RunPages) → Unreleasing c w → w.now.seats.holding.freed ≡ Some run
+run_has_object : {c : Config} {w : World} (run : RunPages) → Unreleasing c w → w.now.seats.holding.freed ≡ Some run
     → RunHasObject w.now.words run
-run_has_object c w run q is =
+run_has_object {c} {w} run q is =
     let x : IsClaimedRun (claims_of c w.now.seats.holding.freed w.allocations) run =
     subst (RunStands (claims_of c w.now.seats.holding.freed w.allocations)) is q.laid.gone in
     let shown = shown_there c w x.claim q x.among in
@@ -95,11 +92,11 @@ pub guard_in : (c : Config) (w : World) → KnownWorld c w → LayoutStands c w 
 guard_in c w known laid zeros = record {
   place = λ early seat place now.
       let placed = placed_now c w.now (flight_of w.now seat) place now in
-      let there = new_exists c w.now seat known.now placed.new in
+      let there = new_exists seat known.now placed.new in
       let own = holding_object c w.now seat known.now (new_has_turn c w.now seat there placed.new) in
-      bare_place c w _ place (quiet early) (subst (λ (o : Object). Laid c o false w (ground_of w)) own (quiet
+      bare_place (quiet early) (subst (λ (o : Object). Laid c o false w (ground_of w)) own (quiet
       early).laid) (made_sized c w.now seat known.limits known.now placed.new) placed.placed;
-  freed = λ early run is. run_has_object c w run (quiet early) is;
+  freed = λ early run is. run_has_object run (quiet early) is;
   later = λ early. later_pages c w (quiet early);
   mapped = λ i is. mapped_stands c w i known.lengths laid is;
 }

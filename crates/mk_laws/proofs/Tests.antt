@@ -1,10 +1,10 @@
 -- Tests that still hold where their parts do.
+use Rattle.mk_laws.proofs.Vocabulary.{Bool, List, MarkerState as Marker, Option, ℕ, all_below, all_below-at, and_from}
 use Rattle.mk_laws.proofs.Vocabulary.{and_parts, ap, arith, eq-eqb, eqb-true, false, has_bit, has_bit_without}
 use Rattle.mk_laws.proofs.Vocabulary.{if◌then◌else◌, is_attending, is_some_and, no_bit, none_attends, not, outside}
 use Rattle.mk_laws.proofs.Vocabulary.{refl, slice_index_or, suc, sym, true, without, zero, [], ◌&&◌, ◌<◌, ◌==◌, ◌||◌}
 use Rattle.mk_laws.proofs.Vocabulary.{◌∙◌, ◌∷◌, ◌≡◌}
 use Rattle.mk_core.proofs.WordBits.{zero_from_bits}
-use Rattle.mk_laws.proofs.Vocabulary.{Bool, List, MarkerState as Marker, Option, ℕ, all_below, all_below-at, and_from}
 
 pub or_on : (a b x y : Bool) → (a ≡ true → x ≡ true) → (b ≡ true → y ≡ true) → (a || b) ≡ true → (x || y) ≡ true
 or_on a b x y f g h = grind arith

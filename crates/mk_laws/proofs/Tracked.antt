@@ -5,14 +5,14 @@ use Rattle.mk_laws.proofs.Vocabulary.{and_parts, ap, arith, at_rest, eqb-true, f
 use Rattle.mk_laws.proofs.Vocabulary.{get_or-set_same, is_phase, is_undecided_new, left, left_from, left_more}
 use Rattle.mk_laws.proofs.Vocabulary.{object_made, phase_of, place_on_pages, refl, subst, sym, true, true≢false}
 use Rattle.mk_laws.proofs.Vocabulary.{undecided_new, world_behind, [], ◌++◌, ◌<◌, ◌==◌, ◌∙◌, ◌∷◌, ◌≡◌}
-use Rattle.mk_laws.proofs.Basics.{KeptByEvents, Known, Meets, WorldBehind, at_first, before_it, held_place}
-use Rattle.mk_laws.proofs.{Basics.{holds_of_histories, known_left, none_on_its_way}, Longer.{gives_turn, left_in_turn}}
-use Rattle.mk_laws.proofs.Longer.{longer_first, longer_turn, none_serves_more, taken}
-use Rattle.mk_laws.proofs.{OwnCycles.{HasCycle, cycle_more, cycle_step}, Undecided.{HasNew, IsTaken, NewCame, WasNew}}
-use Rattle.mk_laws.proofs.Undecided.{new_came, new_holds_turn, new_object}
-use Rattle.mk_laws.proofs.{InvariantTheorems.first_fit_finds_the_place, Placings.{PlacingStep, places_at}}
 use Rattle.mk_core.specs.Placement.{FirstServed, NoneServesFrom, before_served, event_serves, place_after}
 use Rattle.mk_core.specs.{Allocations.place_among_allocations, Cycles.is_give}
+use Rattle.mk_laws.proofs.Basics.{KeptByEvents, Known, Meets, WorldBehind, at_first, before_it, held_place}
+use Rattle.mk_laws.proofs.Basics.{holds_of_histories, known_left, none_on_its_way}
+use Rattle.mk_laws.proofs.Longer.{gives_turn, left_in_turn, longer_first, longer_turn, none_serves_more, taken}
+use Rattle.mk_laws.proofs.OwnCycles.{HasCycle, cycle_more, cycle_step}
+use Rattle.mk_laws.proofs.Undecided.{HasNew, IsTaken, NewCame, WasNew, new_came, new_holds_turn, new_object}
+use Rattle.mk_laws.proofs.{InvariantTheorems.first_fit_finds_the_place, Placings.PlacingStep, Placings.places_at}
 
 -- A step of the turn has served its New first, where the place was this one.
 pub record ServedFirst (c : Config) (s : Seat) {es : List Event} (t : TurnOf c s es) (o : Object) (place : Place)
@@ -35,9 +35,9 @@ abbrev pub NewsAreTracked : Config → List Event → Type 0
 NewsAreTracked c es = (k : ℕ) → k < c.callers → HasNew (left c es) k → Tracked c es (left c es) k
 
 -- The event gives no turn back of a caller whose New is undecided after it.
-gives_off : (c : Config) (w : World) (seat : Seat) (x : Step) (k : ℕ) → Known c w.now → k < c.callers
+gives_off : {c : Config} (w : World) (seat : Seat) (x : Step) (k : ℕ) → Known c w.now → k < c.callers
     → HasNew (WorldBehind c w seat x) k → gives_turn (Caller k) (record { seat = seat; step = x }) ≡ false
-gives_off c w (Caller j) x k known lt new = false_from_ne_true _
+gives_off {c} w (Caller j) x k known lt new = false_from_ne_true _
     (λ is. let both = and_parts (k == j) (is_give x) is in by j x (eqb-true k j both.0) both.1 new)
   where
     by : (j : ℕ) (x : Step) → k ≡ j → is_give x ≡ true → HasNew (WorldBehind c w (Caller j) x) k → ⊥
@@ -45,7 +45,7 @@ gives_off c w (Caller j) x k known lt new = false_from_ne_true _
         let rests = get_or-set_same w.now.seats.flights k at_rest at_rest (omega (arith, known.orderly.flights)) in
         grind arith
     by j _ own is new = cc
-gives_off c w _ x k known lt new = refl
+gives_off w _ x k known lt new = refl
 
 -- Where nothing is placed yet, nothing is on its way,
 pub unplaced_settles : (c : Config) (es : List Event) (k : ℕ) → IsHistory c es → k < c.callers → HasNew (left c es) k
@@ -59,9 +59,9 @@ FitsHere c es o =
     (place : Place) → is_phase (left c es).now.words 4 ≡ false → (left c es).now.seats.holding.placing ≡ Unplaced
     → place_on_pages c.resident (left c es).now.words.pages o ≡ Some place → place_after c es o ≡ Some place
 
-fits_here : (c : Config) (es : List Event) (k : ℕ) (o : Object) → IsHistory c es → k < c.callers → HasNew (left c es) k
+fits_here : {c : Config} {es : List Event} (k : ℕ) (o : Object) → IsHistory c es → k < c.callers → HasNew (left c es) k
     → FitsHere c es o
-fits_here c es k o h lt new place off at found =
+fits_here {c} {es} k o h lt new place off at found =
     sym (first_fit_finds_the_place c es h o (unplaced_settles c es k h lt new off at)) ∙ found
 
 -- So what is said of the turn's steps is told with one more.
@@ -83,9 +83,9 @@ module _ (c : Config) (es : List Event) (e : Event) (k : ℕ) (o : Object) (t : 
         fits = ap (λ (w : World). place_among_allocations c o.words o.leaf w.allocations) here ∙ fits;
       }
 
-  place_more : (was now : Option Place) → PlacingStep c (left c es).now o (event_serves c (left c es) e) was now
+  place_more : {was now : Option Place} → PlacingStep c (left c es).now o (event_serves c (left c es) e) was now
       → FitsHere c es o → HasPlace c (Caller k) t o was → HasPlace c (Caller k) (longer_turn t e on) o now
-  place_more was now h fit has = grind (arith, to_place, left_in_turn, none_serves_more, goes_on, fixes)
+  place_more h fit has = grind (arith, to_place, left_in_turn, none_serves_more, goes_on, fixes)
 
 -- One event: the `take` of the New, or one after it.
 
@@ -93,11 +93,11 @@ abbrev TrackedBehind : Config → List Event → Seat → Step → ℕ → Type 
 TrackedBehind c es seat x k =
     Tracked c (es ++ record { seat = seat; step = x } ∷ []) (WorldBehind c (left c es) seat x) k
 
-tracked_behind : (c : Config) (es : List Event) (seat : Seat) (x : Step) (k : ℕ) → NewCame c (left c es) seat x k
+tracked_behind : {c : Config} {es : List Event} {seat : Seat} {x : Step} {k : ℕ} → NewCame c (left c es) seat x k
     → NewsAreTracked c es → IsHistory c es → Meets c (left c es).now seat x → k < c.callers
     → HasNew (WorldBehind c (left c es) seat x) k → TrackedBehind c es seat x k
 unfolding NoneServesFrom
-tracked_behind c es seat x k (IsTaken o own take free begun) all h meets lt new =
+tracked_behind {c} {es} {seat} {x} {k} (IsTaken o own take free begun) all h meets lt new =
     let v : World = WorldBehind c (left c es) seat x in
     record {
       turn = turn;
@@ -107,15 +107,8 @@ tracked_behind c es seat x k (IsTaken o own take free begun) all h meets lt new 
     }
   where
     turn : TurnOf c (Caller k) (es ++ record { seat = seat; step = x } ∷ [])
-    turn = record {
-      before = es;
-      op = Some o;
-      behind = [];
-      is = cc (own, take);
-      took = free;
-      goes_on = refl;
-    }
-tracked_behind c es seat x k (WasNew same) all h meets lt new =
+    turn = record { before = es; op = Some o; behind = []; is = cc (own, take); took = free; goes_on = refl }
+tracked_behind {c} {es} {seat} {x} {k} (WasNew same) all h meets lt new =
     let was : HasNew (left c es) k = ap is_undecided_new (sym same) ∙ new in
     let w : World = left c es in
     let o : Object = new_object c (left c es) k in
@@ -124,8 +117,8 @@ tracked_behind c es seat x k (WasNew same) all h meets lt new =
       turn = longer_turn t.turn e on;
       placed = subst (λ (y : Object). HasPlace c (Caller k) (longer_turn t.turn e on) y (held_place (WorldBehind c (left
           c es) seat x).now.seats.holding.placing)) (ap (λ (f : Flight). object_made c f.op) (sym same)) (place_more c
-          es e k o _ on _ _ (places_at c w seat x k known meets lt was new) (fits_here c es k o h lt was) t.placed);
-      cycle = cycle_more t.turn.behind e _ _ w.now.seats.holding.cycle _ (cycle_step c w seat x meets) t.cycle;
+          es e k o _ on (places_at w seat x k known meets lt was new) (fits_here k o h lt was) t.placed);
+      cycle = cycle_more t.turn.behind e _ _ (cycle_step c w seat x meets) t.cycle;
     }
   where
     e : Event
@@ -135,7 +128,7 @@ tracked_behind c es seat x k (WasNew same) all h meets lt new =
     known = known_left c es h.within_limits h.enabled
 
     on : gives_turn (Caller k) (record { seat = seat; step = x }) ≡ false
-    on = gives_off c (left c es) seat x k known lt new
+    on = gives_off (left c es) seat x k known lt new
 
 one_more : KeptByEvents NewsAreTracked
 one_more c es e h all k lt new =
@@ -143,9 +136,8 @@ one_more c es e h all k lt new =
     let more : left c (es ++ e ∷ []) ≡ world_behind c (left c es) e = left_more c (first_world c) es e in
     let behind : HasNew (world_behind c (left c es) e) k = subst (λ (w : World). HasNew w k) more new in
     let known = known_left c es here.0.within_limits here.0.enabled in
-    let came = new_came c (left c es) e.seat e.step k known here.1 behind in
-    subst (λ (w : World). Tracked c (es ++ e ∷ []) w k) (sym more)
-    (tracked_behind c es e.seat e.step k came all here.0 here.1 lt behind)
+    let came = new_came (left c es) e.seat e.step k known here.1 behind in
+    subst (λ (w : World). Tracked c (es ++ e ∷ []) w k) (sym more) (tracked_behind came all here.0 here.1 lt behind)
 
 at_the_first : (c : Config) → NewsAreTracked c []
 unfolding left_from

@@ -25,20 +25,21 @@ record SeesFreed (w : Words) (t : Option Cell) : Type 0 where
 sees_freed : (w : Words) (t : Option Cell) (x : Word) → sees_double w t x ≡ true → SeesFreed w t
 sees_freed w t x h = grind (arith, and_parts)
 
-module _ (c : Config) (w : World) (n : NeverState) (known : KnownWorld c w) (mirrors : Mirrors c w n)
-    (others : ImagePremises c w) (safe : ℕ
-    → Bool) (ready : Ready c.globals safe (image_scene_of w) n) (st : Stands c w.now.words w.allocations)
-    (k : ℕ) (lt : k < c.callers) where
-  pub grant_by : (s : Stage) (o : Op) (q p r l : ℕ) (placing : Placing)
-      → flight_of w.now (Caller k) ≡ flight s o q p r l → comes_next s o Step.Grant ≡ true → is_used_once placing ≡ true
-      → w.now.seats.holding.placing ≡ placing → HoldsTurn c (view_of w.now) (Caller k) → phase_of w.now.words ≢ 4
-      → has_operands c o ≡ true → Leads safe (image_scene_of w) n k o (record {
+module _ {c : Config} {w : World} {n : NeverState} (known : KnownWorld c w) (mirrors : Mirrors c w n)
+    (others : ImagePremises c w) {safe : ℕ → Bool} (ready : Ready c.globals safe (image_scene_of w) n)
+    (st : Stands c w.now.words w.allocations) (k : ℕ) (lt : k < c.callers) where
+  pub grant_by : (s : Stage) (o : Op) (q p r l : ℕ) (placing : Placing) → flight_of w.now (Caller k) ≡ flight s o q p r
+      l → comes_next s o Step.Grant ≡ true → is_used_once placing ≡ true → w.now.seats.holding.placing ≡ placing
+      → HoldsTurn c (view_of w.now) (Caller k) → phase_of w.now.words ≢ 4 → has_operands c o ≡ true
+      → Leads safe (image_scene_of w) n k o (record {
         registers = slice_set w.now.words.registers (8 * k + d_of o)
             (address_of (granted_base c (flight s o q p r l) placing) % 2 ^ 64);
         globals = w.now.words.globals;
-        heap = w.now.words.heap;
+        heap =
+            w.now.words.heap;
         flights = slice_set w.now.seats.flights k (flight Stage.Give o q p r l);
-        allocations = w.allocations ++ fresh_one (granted_base c (flight s o q p r l) placing) (type_made o) ∷ [];
+        allocations =
+            w.allocations ++ fresh_one (granted_base c (flight s o q p r l) placing) (type_made o) ∷ [];
       }) (Some Answer.Done)
   grant_by Stage.Turn (Op.New d ty full) q p r l (Used place) is next used placed hold phase operands =
       let o = object_made c (Op.New d ty full) in
@@ -47,12 +48,12 @@ module _ (c : Config) (w : World) (n : NeverState) (known : KnownWorld c w) (mir
       let new : is_undecided_new (flight_of w.now (Caller k)) ≡ true = rw is in
       let typed : ty < length c.types = granted_type c w.now f refl operands in
       let taken : IsPlaceOfNone c w o place = rw is at (others.taken place k placed lt new) in
-      let fills = fills_cell c w a place known typed refl refl taken in
+      let fills = fills_cell a known typed refl refl taken in
       let holds = (storage_holds c a known.limits typed).0 in
       let pages = known.limits.pages.1 in
       let word : address_of (base_made o place) ≡ address_of (base_made o place) % 2 ^ 64 = omega arith in
-      let zero_there = place_is_zero c w n known mirrors others st a place
-      (λ run. new_frees_none c w.now k run known.now.orderly hold new) phase refl taken fills in (
+      let zero_there = place_is_zero c w n known mirrors others st
+      (λ run. new_frees_none w.now k run known.now.orderly hold new) phase refl taken fills in (
         subst (λ x. Move safe (image_scene_of w) n (record {
           registers = slice_set w.now.words.registers (8 * k + d) x;
           globals = w.now.words.globals;
@@ -73,9 +74,8 @@ module _ (c : Config) (w : World) (n : NeverState) (known : KnownWorld c w) (mir
   grant_by _ _ q p r l _ is next used placed hold phase operands = cc
 
   pub full_by : (s : Stage) (o : Op) (q p r l : ℕ) → flight_among w.now.seats.flights k ≡ flight s o q p r l
-      → comes_next s o Step.Full ≡ true → Leads safe (image_scene_of w) n k o
-      (record (image_scene_of w) { flights = slice_set w.now.seats.flights k (flight Stage.Give o q p r l) })
-      (Some Answer.Full)
+      → comes_next s o Step.Full ≡ true → Leads safe (image_scene_of w) n k o (record
+      (image_scene_of w) { flights = slice_set w.now.seats.flights k (flight Stage.Give o q p r l) }) (Some Answer.Full)
   full_by Stage.Turn (Op.New d ty full) q p r l is next = (goes_bare safe _ n k _ (rw is) refl, λ more. refl)
   full_by _ _ q p r l is next = absurd (false≢true next)
 
@@ -86,7 +86,8 @@ module _ (c : Config) (w : World) (n : NeverState) (known : KnownWorld c w) (mir
       → CarriesOwn (bases_of w.allocations) n k (flight s o q p r l) → Leads safe (image_scene_of w) n k o
       (record (image_scene_of w) {
         flights = slice_set w.now.seats.flights k (flight Stage.Give o q p r l);
-        allocations = map (freed_where_it_stands w.now.words (Some cell)) w.allocations;
+        allocations
+            = map (freed_where_it_stands w.now.words (Some cell)) w.allocations;
       }) (Some Answer.Done)
   freed_by Stage.Turn (Op.Free p') q p r l cell is undecided points fresh quiet car =
       let f = flight Stage.Give (Op.Free p') q p r l in
@@ -99,22 +100,19 @@ module _ (c : Config) (w : World) (n : NeverState) (known : KnownWorld c w) (mir
       fresh quiet in (
         free.0,
         λ more. one_right (bases_of (map (freed_where_it_stands w.now.words (Some cell)) w.allocations) ++ more)
-            Answer.Done n k (Op.Free p')
-            (grind arith),
+            Answer.Done n k (Op.Free p') (grind arith),
       )
   freed_by _ _ q p r l cell is undecided points fresh quiet car = absurd (false≢true undecided)
 
   twice_by : (s : Stage) (o : Op) (q p r l : ℕ) (cell : Cell) → flight_among w.now.seats.flights k ≡ flight s o q p r l
       → is_undecided_free (flight s o q p r l) ≡ true → pointed_cell c.pages w.now.words.pages p ≡ Some cell
       → is_freed w.now.words cell ≡ true → CarriesOwn (bases_of w.allocations) n k (flight s o q p r l)
-      → Leads safe (image_scene_of w) n k o
-      (record (image_scene_of w) { flights = slice_set w.now.seats.flights k (flight Stage.Give o q p r l) })
-      (Some Answer.Double)
+      → Leads safe (image_scene_of w) n k o (record (image_scene_of w)
+      { flights = slice_set w.now.seats.flights k (flight Stage.Give o q p r l) }) (Some Answer.Double)
   twice_by Stage.Turn (Op.Free p') q p r l cell is undecided points is_free car =
       let free = double_by c w n known mirrors safe ready st others k (flight Stage.Give (Op.Free p') q p r l) p cell
-      (register_at n k p') (ap (λ (g : Flight). is_put g.stage) is) refl
-      (mirrors.typed.registers (8 * k + p')) (ready.set.registers (8 * k + p')) (car.p refl) (car.some_p refl) points
-      is_free in (
+      (register_at n k p') (ap (λ (g : Flight). is_put g.stage) is) refl (mirrors.typed.registers (8 * k + p'))
+      (ready.set.registers (8 * k + p')) (car.p refl) (car.some_p refl) points is_free in (
         free.0,
         λ more. one_right (bases_of w.allocations ++ more) Answer.Double n k (Op.Free p')
             (ap (answer_of (bases_of w.allocations ++ more)) (sym free.1)),
@@ -123,11 +121,11 @@ module _ (c : Config) (w : World) (n : NeverState) (known : KnownWorld c w) (mir
 
   -- `quar`
   pub quar_by : (f : Flight) (p v : ℕ) (x : Option Cell) → flight_among w.now.seats.flights k ≡ f
-      → cell_freed c.pages w.now.words f p v ≡ x
-      → (is_run_cell w.now.words (target c.pages w.now.words f) ≡ true → (j : ℕ) → j ≢ k
-      → is_past_probe (flight_among w.now.seats.flights j).stage ≡ false) → Leads safe (image_scene_of w) n k f.op
-      (record (image_scene_of w) {
-        flights = slice_set w.now.seats.flights k (progress_freed f x).flight;
+      → cell_freed c.pages w.now.words f p v ≡ x → (is_run_cell w.now.words (target c.pages w.now.words f) ≡ true
+      → (j : ℕ) → j ≢ k → is_past_probe (flight_among w.now.seats.flights j).stage ≡ false) → Leads safe
+      (image_scene_of w) n k f.op (record (image_scene_of w) {
+        flights = slice_set w.now.seats.flights k (progress_freed
+            f x).flight;
         allocations = map (freed_where_it_stands w.now.words x) w.allocations;
       }) (progress_freed f x).answer
   quar_by f p v None is e quiet = subst (λ (xs : List PlacedAllocation). Leads safe (image_scene_of w) n k f.op
@@ -143,9 +141,10 @@ module _ (c : Config) (w : World) (n : NeverState) (known : KnownWorld c w) (mir
 
   -- a look
   pub look_by : (f : Flight) (x : Word) → flight_among w.now.seats.flights k ≡ f
-      → Leads safe (image_scene_of w) n k f.op
-      (record (image_scene_of w) { flights = slice_set w.now.seats.flights k (progress_look c w.now.words f x).flight })
-      (progress_look c w.now.words f x).answer
+      → Leads safe (image_scene_of w) n k f.op (record (image_scene_of w) {
+        flights = slice_set w.now.seats.flights k
+            (progress_look c w.now.words f x).flight;
+      }) (progress_look c w.now.words f x).answer
   look_by f x is = either_leads safe (image_scene_of w) n k f.op (image_scene_of w) (sees_double w.now.words
       (target c.pages w.now.words f) x) (decided f Answer.Double) (still f) (λ sees.
       let t = sees_freed w.now.words (target c.pages w.now.words f) x sees in

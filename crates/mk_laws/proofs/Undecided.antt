@@ -2,9 +2,9 @@
 use Rattle.mk_laws.proofs.Vocabulary.{Bool, Caller, Config, None, Object, Op, Option, Seat, Some, Step, World, ℕ, ap}
 use Rattle.mk_laws.proofs.Vocabulary.{arith, at_rest, cases_eq, eq-eqb, flight_of, get_or-set_other, if◌then◌else◌, inl}
 use Rattle.mk_laws.proofs.Vocabulary.{inr, is_undecided_new, nothing_done, object_made, refl, subst, sym, true, ◌+◌}
-use Rattle.mk_laws.proofs.{Vocabulary.{◌<◌, ◌≡◌}, Basics.{HoldsTurn, Known, Meets, WorldBehind, at_no_take, reg_leaves}}
-use Rattle.mk_laws.proofs.{Basics.{tally_keeps, view_of}, NewPlace.new_from, OrderlyLists.event_moves}
-use Rattle.mk_laws.proofs.Stages.{new_stands}
+use Rattle.mk_laws.proofs.Vocabulary.{◌<◌, ◌≡◌}
+use Rattle.mk_laws.proofs.Basics.{HoldsTurn, Known, Meets, WorldBehind, at_no_take, reg_leaves, tally_keeps, view_of}
+use Rattle.mk_laws.proofs.{NewPlace.new_from, OrderlyLists.event_moves, Stages.new_stands}
 
 -- The caller has an undecided New,
 abbrev pub HasNew : World → ℕ → Type 0
@@ -34,12 +34,12 @@ pub data NewCame (c : Config) (w : World) (seat : Seat) (x : Step) (k : ℕ) : T
   IsTaken : (o : Op) → seat ≡ Caller k → x ≡ Step.Take (Some o) → w.now.words.turn ≡ 0
       → (WorldBehind c w seat x).now.seats.holding ≡ nothing_done → NewCame c w seat x k
 
-own_came : (c : Config) (w : World) (k : ℕ) (x : Step) → Known c w.now → Meets c w.now (Caller k) x
+own_came : {c : Config} (w : World) (k : ℕ) (x : Step) → Known c w.now → Meets c w.now (Caller k) x
     → HasNew (WorldBehind c w (Caller k) x) k → NewCame c w (Caller k) x k
-own_came c w k x known h new =
+own_came {c} w k x known h new =
     let v : World = WorldBehind c w (Caller k) x in
     let move = event_moves c w.now (Caller k) x known.orderly h in
-    elim (new_from c (view_of w.now) (Caller k) (view_of v.now) k move new) [
+    elim (new_from k move new) [
       | inl same ↦ WasNew same
       | inr free ↦
           let take = taken_by_take c w (Caller k) x k free.0 free.1 in
@@ -53,12 +53,12 @@ own_came c w k x known h new =
         (ap (λ (b : Bool). if b then nothing_done else w.now.seats.holding) (eq-eqb w.now.words.turn 0 free))
     taken None free h = absurd (at_no_take _ _ h.order)
 
-pub new_came : (c : Config) (w : World) (seat : Seat) (x : Step) (k : ℕ) → Known c w.now → Meets c w.now seat x
+pub new_came : {c : Config} (w : World) (seat : Seat) (x : Step) (k : ℕ) → Known c w.now → Meets c w.now seat x
     → HasNew (WorldBehind c w seat x) k → NewCame c w seat x k
-new_came c w (Caller j) x k known h new = elim (cases_eq k j) [
+new_came {c} w (Caller j) x k known h new = elim (cases_eq k j) [
   | inr ne ↦ WasNew (get_or-set_other w.now.seats.flights j k _ at_rest ne)
   | inl own ↦
       subst (λ i. Meets c w.now (Caller i) x → HasNew (WorldBehind c w (Caller i) x) k → NewCame c w (Caller i) x k) own
-      (own_came c w k x known) h new
+      (own_came w k x known) h new
 ]
-new_came c w _ x k known h new = WasNew refl
+new_came w _ x k known h new = WasNew refl

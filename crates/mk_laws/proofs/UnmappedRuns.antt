@@ -31,9 +31,8 @@ stays_out c m seat (Step.Head q n) p none out = false_from_ne_true _ (λ residen
     zero_there e = grind (arith, and_from, eq-eqb, ne_eqb)
 stays_out c m seat _ p none out = out
 
-stays_along : (c : Config) (w : World) (es : List Event) (p : ℕ)
-    → list_any (λ (e : Event). gives_header p e.step) es ≡ false → is_resident w.now.words.pages p ≡ false
-    → is_resident (left_from c w es).now.words.pages p ≡ false
+stays_along : (c : Config) (w : World) (es : List Event) (p : ℕ) → list_any (λ (e : Event). gives_header p e.step)
+    es ≡ false → is_resident w.now.words.pages p ≡ false → is_resident (left_from c w es).now.words.pages p ≡ false
 unfolding left_from
 stays_along c w [] p none out = out
 stays_along c w (e ∷ es) p none out =
@@ -45,7 +44,7 @@ stays_along c w (e ∷ es) p none out =
 not_false : (b : Bool) → not b ≡ false → b ≡ true
 not_false b h = grind arith
 
-module _ (c : Config) (w : World) (n : NeverState) (known : KnownWorld c w) (all : Invariant c w n) (p : ℕ)
+module _ {c : Config} {w : World} {n : NeverState} (known : KnownWorld c w) (all : Invariant c w n) {p : ℕ}
     (x : IsOfUnmappedRun c w p) where
   abbrev a : PlacedAllocation
   a = placed_at w.allocations x.number
@@ -83,9 +82,8 @@ module _ (c : Config) (w : World) (n : NeverState) (known : KnownWorld c w) (all
         let rested : Laid c (object_now c w.now) (is_phase w.now.words 4) w (record (ground_of w) { run = None }) =
         gone_terrain c (object_now c w.now) (is_phase w.now.words 4) w
         (λ run is. x.unmapped run is (page_of_run w.now.seats.holding.freed run is going)) all.order.laid in
-        let shown = rested.scene.shown (claim_of c None a)
-        (own_claim c (object_now c w.now) (record (ground_of w) { run = None }) (claim_of c None a)
-        (claim_among c None w.allocations x.number x.unreleased)) in
+        let shown = rested.scene.shown (claim_of c None a) (own_claim c (object_now c w.now) (record
+        (ground_of w) { run = None }) (claim_of c None a) (claim_among c None w.allocations x.number x.unreleased)) in
         by None refl (shown.headers on_run.distance on_run.near)
   ]
     where
@@ -106,7 +104,7 @@ module _ (c : Config) (w : World) (n : NeverState) (known : KnownWorld c w) (all
 pub unmapped_runs_take_no_memory : OfHistories UnmappedRunsTakeNoMemory
 unmapped_runs_take_no_memory c es h front more p is x none =
     let before = earlier_part_is_history c front more (subst (IsHistory c) is h) in
-    let out = not_resident c _ _
-    (known_world c front before.within_limits before.enabled) (histories_keep_the_invariant c front before) p x in
+    let out = not_resident
+    (known_world c front before.within_limits before.enabled) (histories_keep_the_invariant c front before) x in
     ap (λ (xs : List Event). is_resident_in (left c xs) p) is
     ∙ ap (λ (w : World). is_resident_in w p) (left_append c _ front more) ∙ stays_along c _ more p none out

@@ -7,50 +7,51 @@ use Rattle.mk_laws.proofs.Vocabulary.{header_of, header_on, inl, inr, is_release
 use Rattle.mk_laws.proofs.Vocabulary.{length, length-set, made_shows, pages_made, pages_some, part_cells, part_head}
 use Rattle.mk_laws.proofs.Vocabulary.{refl, run_count, set_by, shown_later, shows_on, stands, sym, true}
 use Rattle.mk_laws.proofs.Vocabulary.{unmapped_header, used_on, ◌+◌, ◌-◌, ◌<◌, ◌∙◌, ◌≡◌, ◌≢◌, ◌≤◌, ◌⊎◌}
+use Rattle.mk_core.proofs.ObjectHeaders.{later_part, same_cells, unmapped_shows}
 use Rattle.mk_laws.proofs.Releasing.{head_of_other, headed_here, headed_other, headed_used, shown_beside}
 use Rattle.mk_laws.proofs.Releasing.{with_header_on}
 use Rattle.mk_laws.proofs.LayoutReadings.{claimed, claimed_head, claimed_some, none_set, one_claim}
-use Rattle.mk_core.proofs.ObjectHeaders.{later_part, same_cells, unmapped_shows}
 
 -- How many pages the run has that a header of an object heads.
 
 -- the head of a large object's run has its pages,
-pub part_count : (o : Object) (x : Option Header) → ShowsPart o 0 x → is_small_object o ≡ false
+pub part_count : {o : Object} {x : Option Header} → ShowsPart o 0 x → is_small_object o ≡ false
     → run_count x ≡ pages_made o
-part_count o x h large = grind arith
+part_count h large = grind arith
 
 -- and no other page of an object has any.
-later_count : (o : Object) (distance : ℕ) (x : Option Header) → ShowsPart o distance x → 1 ≤ distance → run_count x ≡ 0
-later_count o distance x h some = grind arith
+later_count : {o : Object} {distance : ℕ} {x : Option Header} → ShowsPart o distance x → 1 ≤ distance → run_count x ≡ 0
+later_count h some = grind arith
 
-pub small_count : (o : Object) (x : Option Header) → ShowsPart o 0 x → is_small_object o ≡ true → run_count x ≡ 0
-small_count o x h is = grind arith
+pub small_count : {o : Object} {x : Option Header} → ShowsPart o 0 x → is_small_object o ≡ true → run_count x ≡ 0
+small_count h is = grind arith
 
-pub same_count : (o : Object) (distance : ℕ) (x y : Option Header) → ShowsPart o distance x → ShowsPart o distance y
+pub same_count : {o : Object} {distance : ℕ} {x y : Option Header} → ShowsPart o distance x → ShowsPart o distance y
     → is_small_object o ≡ false → run_count x ≡ run_count y
-same_count o distance x y px py large = grind (arith, part_count, later_count)
+same_count px py large = grind (arith, part_count, later_count)
 
 -- a claim's cells are those under its first page's header
-pub cells_at_claim : (s : LayoutScene) (x : Claim) → IsShown s.pages x
+pub cells_at_claim : (s : LayoutScene) {x : Claim} → IsShown s.pages x
     → cells_under (shows_on s.pages x.page) ≡ cells_made x.object
-cells_at_claim s x shown =
+cells_at_claim s {x = x} shown =
     let zero : x.page + 0 ≡ x.page = omega arith in
     rw (← zero) (part_cells x.object _ (claimed s.pages x 0 shown (omega (arith, pages_some x.object shown.sized))))
 
 -- a claim that shares a page with a run's is the run's
-pub shares_run : (s : LayoutScene) (x y : Claim) (d e : ℕ) → IsLaidOn s → Among x s.claims → Among y s.claims
+pub shares_run : {s : LayoutScene} (x y : Claim) (d e : ℕ) → IsLaidOn s → Among x s.claims → Among y s.claims
     → is_small_object x.object ≡ false → d < pages_made x.object
     → e < pages_made y.object → y.page + e ≡ x.page + d → y ≡ x
-shares_run s x y d e laid ix iy large ld le at =
+shares_run {s} x y d e laid ix iy large ld le at =
     let sx = laid.shown x ix in
     let sy = laid.shown y iy in
     let page = sym (claimed_head s.pages y e sy le) ∙ ap (head_on s.pages) at ∙ claimed_head s.pages x d sx ld in
     grind (arith, cells_at_claim, one_claim, large_cells)
 
 -- and the page isn't one of a plot
-pub apart_of_plot : (s : LayoutScene) (x : Claim) (d first e : ℕ) (o : Object) → IsLaidOn s → Among x s.claims
+pub apart_of_plot : {s : LayoutScene} (x : Claim) (d : ℕ) {first : ℕ} (e : ℕ) {o : Object} → IsLaidOn s
+    → Among x s.claims
     → d < pages_made x.object → IsPlotShown s.pages first o → e < pages_made o → first + e ≢ x.page + d
-apart_of_plot s x d first e o laid ix ld plot le at =
+apart_of_plot {s} x d {first = first} e {o = o} laid ix ld plot le at =
     let sx = laid.shown x ix in
     let head : head_on s.pages (first + e) ≡ x.page = ap (head_on s.pages) at ∙ claimed_head s.pages x d sx ld in
     by head (plot.headers e le)
@@ -118,7 +119,7 @@ module _ (s : LayoutScene) (x : Claim) (d : ℕ) (laid : IsLaidOn s) (ix : Among
 
   counts : (q : ℕ) → run_count (shows_on after q) ≡ run_count (shows_on s.pages q)
   counts q = set_by (λ (y : Page). run_count (header_of y.header) ≡ run_count (shows_on s.pages q)) s.pages p q _
-      free_page (λ e. same_count x.object d (header_of n) _ new old large ∙ rw e) refl
+      free_page (λ e. same_count new old large ∙ rw e) refl
 
   head : (q : ℕ) → head_on after q ≡ head_on s.pages q
   head q = grind (arith, here, part_head, new, old, head_of_other)
@@ -131,7 +132,7 @@ module _ (s : LayoutScene) (x : Claim) (d : ℕ) (laid : IsLaidOn s) (ix : Among
   plot (Plotted first o) stands = record {
     sized = stands.sized;
     within = let l = len in let w = stands.within in omega arith;
-    headers = λ e le. rw (headed_other s.pages p n (first + e) (apart_of_plot s x d first e o laid ix ld stands le))
+    headers = λ e le. rw (headed_other s.pages p n (first + e) (apart_of_plot x d e laid ix ld stands le))
         (stands.headers e le);
     used = λ e le. headed_used s.pages p n (first + e) lt ∙ stands.used e le;
   }
@@ -161,8 +162,8 @@ module _ (s : LayoutScene) (x : Claim) (d : ℕ) (laid : IsLaidOn s) (ix : Among
   layout_page_unmapped = record {
     shown = λ y iy. elim (same_or_not y x) [
       | inl same ↦ let e = one_claim s.claims y x laid.apart iy ix same in rw e own
-      | inr other ↦ shown_beside s.pages p n y lt (laid.shown y iy)
-          (λ e le at. let is = shares_run s x y d e laid ix iy large ld le at in other (rw is, rw is))
+      | inr other ↦ shown_beside p n lt (laid.shown y iy)
+          (λ e le at. let is = shares_run x y d e laid ix iy large ld le at in other (rw is, rw is))
     ];
     apart = laid.apart;
     used = λ q k h. let t = laid.used q k (rw (← (headed_used s.pages p n q lt)) h) in (rw (cells q) t.0, t.1);
@@ -183,9 +184,9 @@ pub record Changes (s : LayoutScene) (claims : List Claim) : Type 0 where
   pub headers : (y : Claim) → Among y claims → (d : ℕ) → d < pages_made y.object
       → HasHeader y.mode y.object d (header_on s.pages (y.page + d))
 
-pub layout_changed : (s : LayoutScene) (claims : List Claim) → IsLaidOn s → Changes s claims
+pub layout_changed : {s : LayoutScene} (claims : List Claim) → IsLaidOn s → Changes s claims
     → IsLaidOn (record s { claims = claims })
-layout_changed s claims laid ch = record {
+layout_changed {s} claims laid ch = record {
   shown = λ y iy. let was = laid.shown (record y { mode = (ch.from y iy).0 }) (ch.from y iy).1 in record {
     sized = was.sized;
     known = was.known;

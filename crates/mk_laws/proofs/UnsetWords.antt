@@ -3,13 +3,13 @@ use Rattle.mk_laws.proofs.Vocabulary.{Bool, Config, Event, Flight, Invariant, Le
 use Rattle.mk_laws.proofs.Vocabulary.{OfHistories, Seat, Step, World, ℕ, ap, append_assoc, arith, at_rest, false}
 use Rattle.mk_laws.proofs.Vocabulary.{flight_of, g_of, get_or-set_other, get_or_past, left, left_from, left_more, refl}
 use Rattle.mk_laws.proofs.Vocabulary.{shown, slice_index, sym, true, [], ◌%◌, ◌*◌, ◌++◌, ◌+◌, ◌/◌, ◌∙◌, ◌∷◌, ◌≡◌}
-use Rattle.mk_laws.proofs.Basics.{Behind, KeptByEvents, KnownWorld, at_first, holds_of_histories, reg_table}
-use Rattle.mk_laws.proofs.{Basics.tally_table, FreeWords.of_worlds}
+use Rattle.mk_laws.proofs.{Basics.Behind, Basics.KeptByEvents, Basics.KnownWorld, Basics.at_first}
+use Rattle.mk_laws.proofs.{Basics.holds_of_histories, Basics.reg_table, Basics.tally_table, FreeWords.of_worlds}
 use Rattle.mk_laws.specs.UnsetWords.{IsNeverSet, RegistersOfNoCallerAreZero, UnsetGlobalsAreZero}
 
-no_caller : (c : Config) (w : World) (n : NeverState) → KnownWorld c w → Invariant c w n
+no_caller : {c : Config} {w : World} {n : NeverState} → KnownWorld c w → Invariant c w n
     → RegistersOfNoCallerAreZero c w
-no_caller c w n known all k r past =
+no_caller {w} {n} known all k r past =
     let i : ℕ = 8 * k + r in
     let rest : flight_of w.now (Seat.Caller (i / 8)) ≡ at_rest =
     get_or_past w.now.seats.flights (i / 8) at_rest (omega arith) in
@@ -17,7 +17,7 @@ no_caller c w n known all k r past =
     cc (plain, all.mirrors.images.registers i, get_or_past n.registers i Null (omega arith))
 
 pub registers_of_no_caller_are_zero : OfHistories (Leaves RegistersOfNoCallerAreZero)
-registers_of_no_caller_are_zero = of_worlds no_caller
+registers_of_no_caller_are_zero = of_worlds (λ c w n known all. no_caller known all)
 
 -- A `setg` alone stores to globals.
 

@@ -39,14 +39,13 @@ pub record IsOn (sc : LayoutScene) (p : ℕ) : Type 0 where
   pub near : distance < pages_made claim.object
   pub at : claim.page + distance ≡ p
 
-pub on_claim : (sc : LayoutScene) (p : ℕ) → IsLaidOn sc → sc.plot ≡ NoPlot → sc.releasing ≡ false
+pub on_claim : {sc : LayoutScene} (p : ℕ) → IsLaidOn sc → sc.plot ≡ NoPlot → sc.releasing ≡ false
     → header_on sc.pages p ≢ 0 → IsOn sc p
-on_claim sc p laid none off some =
+on_claim {sc} p laid none off some =
     elim (find_bit (used_on sc.pages (head_on sc.pages p)) (cells_under (shows_on sc.pages (head_on sc.pages p)))) [
       | inr no_bits ↦
-          let empty : used_on sc.pages (head_on sc.pages p) ≡ 0 =
-          zero_where_none (used_on sc.pages (head_on sc.pages p))
-          (λ k h. let t = laid.used (head_on sc.pages p) k h in true≢false (sym h ∙ no_bits k t.0)) in
+          let empty : used_on sc.pages (head_on sc.pages p) ≡ 0 = zero_where_none (used_on sc.pages (head_on sc.pages
+          p)) (λ k h. let t = laid.used (head_on sc.pages p) k h in true≢false (sym h ∙ no_bits k t.0)) in
           absurd (elim (laid.occupied p some empty) [ inl on ↦ true≢false (sym on ∙ off) | inr here ↦ rw none at here ])
       | inl (k, bit) ↦ elim ((laid.used (head_on sc.pages p) k bit).1) [
         | inl o ↦ elim (head_cases (shows_on sc.pages p) p) [
@@ -75,9 +74,9 @@ on_claim sc p laid none off some =
         let less : d < run_count (shows_on sc.pages (p - d)) =
         elim l.1 [ inl less ↦ less | inr lost ↦ absurd (true≢false (sym lost.0 ∙ off)) ] in
         elim (cases_Bool (is_small_object x.object)) [
-          | inl s ↦ let none = small_count x.object (shows_on sc.pages (p - d)) part s in absurd (omega arith)
+          | inl s ↦ let none = small_count part s in absurd (omega arith)
           | inr large ↦
-              let count = part_count x.object (shows_on sc.pages (p - d)) part large in
+              let count = part_count part large in
               record { claim = x; among = ix; distance = d; near = omega arith; at = omega arith }
         ]
 
@@ -86,11 +85,11 @@ own_head : (x : Option Header) (p : ℕ) → heads_run x ≡ true → head_page_
 own_head x p h = grind arith
 
 -- and shows an object's first page
-heads_first : (o : Object) (d : ℕ) (x : Option Header) → ShowsPart o d x → heads_run x ≡ true → d ≡ 0
-heads_first o d x part h = grind (arith, later_part)
+heads_first : {o : Object} {d : ℕ} {x : Option Header} → ShowsPart o d x → heads_run x ≡ true → d ≡ 0
+heads_first part h = grind (arith, later_part)
 
-heads_large : (o : Object) (x : Option Header) → ShowsPart o 0 x → heads_run x ≡ true → is_small_object o ≡ false
-heads_large o x part h = grind (arith, small_heads_none)
+heads_large : {o : Object} {x : Option Header} → ShowsPart o 0 x → heads_run x ≡ true → is_small_object o ≡ false
+heads_large part h = grind (arith, small_heads_none)
 
 later_at : (pages : List Page) (releasing : Bool) (plot : Plot) (p q d : ℕ) (x : Option Header) → q ≡ p
     → shows_on pages (q + d) ≡ x → {large : Type 0}
@@ -98,14 +97,14 @@ later_at : (pages : List Page) (releasing : Bool) (plot : Plot) (p q d : ℕ) (x
 later_at pages releasing plot p q d x page at (mapped, is, large) = inl (mapped, rw (← page) (at ∙ is))
 
 -- from a claim at its head
-claimed_run : (s : LayoutScene) (x : Claim) (p : ℕ) → IsLaidOn s → Among x s.claims → x.page ≡ p
+claimed_run : {s : LayoutScene} (x : Claim) (p : ℕ) → IsLaidOn s → Among x s.claims → x.page ≡ p
     → heads_run (shows_on s.pages p) ≡ true → RunIsWhole s.pages s.releasing s.plot p
-claimed_run s x p laid ix page h =
+claimed_run {s} x p laid ix page h =
     let shown = laid.shown x ix in
     let some = pages_some x.object shown.sized in
     let zero : x.page + 0 ≡ p = omega arith in
     let part : ShowsPart x.object 0 (shows_on s.pages p) = rw zero at (claimed s.pages x 0 shown (omega arith)) in
-    let count = part_count x.object _ part (heads_large x.object _ part h) in
+    let count = part_count part (heads_large part h) in
     let within = shown.within in
     record {
       within = omega arith;
@@ -128,10 +127,10 @@ plotted_run s (Plotted first o) p is stands here h =
         let low = here.0 in
         let high = here.1 in
         let part : ShowsPart o (p - first) (shows_on s.pages p) = grind (arith, made_shows) in
-        let none = heads_first o (p - first) _ part h in
+        let none = heads_first part h in
         let page : p ≡ first = omega arith in
         let front : ShowsPart o 0 (shows_on s.pages p) = rw none at part in
-        let count = part_count o (shows_on s.pages p) front (heads_large o (shows_on s.pages p) front h) in
+        let count = part_count front (heads_large front h) in
         let within = stands.within in
         let zero : first + 0 ≡ p = omega arith in
         let some = pages_some o stands.sized in
@@ -152,12 +151,11 @@ plotted_run s (Plotted first o) p is stands here h =
     by (inr e) = made e
 
 -- While the phase isn't releasing, they are whole in what is laid out.
-pub whole_quiet : (s : LayoutScene) → IsLaidOn s → s.releasing ≡ false → HaveWholeRuns s.pages s.releasing s.plot
-whole_quiet s laid off p h = elim (find_bit (used_on s.pages p) (cells_under (shows_on s.pages p))) [
+pub whole_quiet : {s : LayoutScene} → IsLaidOn s → s.releasing ≡ false → HaveWholeRuns s.pages s.releasing s.plot
+whole_quiet {s} laid off p h = elim (find_bit (used_on s.pages p) (cells_under (shows_on s.pages p))) [
   | inr none ↦
       let empty : used_on s.pages p ≡ 0 =
-      zero_where_none (used_on s.pages p) (λ k bit. let t = laid.used p k bit in true≢false (sym bit ∙ none k t.0))
-      in
+      zero_where_none (used_on s.pages p) (λ k bit. let t = laid.used p k bit in true≢false (sym bit ∙ none k t.0)) in
       let head : used_on s.pages (head_on s.pages p) ≡ 0 = rw (own_head (shows_on s.pages p) p h) empty in
       elim (laid.occupied p (λ z. true≢false (sym h ∙ rw z)) head) [
         | inl on ↦ absurd (true≢false (sym on ∙ off))
@@ -165,14 +163,14 @@ whole_quiet s laid off p h = elim (find_bit (used_on s.pages p) (cells_under (sh
       ]
   | inl (k, bit) ↦ elim (laid.used p k bit).1 [
     | inr r ↦ absurd (true≢false (sym r ∙ rw off))
-    | inl o ↦ claimed_run s o.claim p laid o.among o.page h
+    | inl o ↦ claimed_run o.claim p laid o.among o.page h
   ]
 ]
 
 -- `head` (d)
-emptied : (w : Words) (plot : Plot) (p n : ℕ) → p < length w.pages → Empties w p n → HaveWholeRuns w.pages true plot
+emptied : {w : Words} (plot : Plot) {p n : ℕ} → p < length w.pages → Empties w p n → HaveWholeRuns w.pages true plot
     → HaveWholeRuns (with_header_on w.pages p n) true plot
-emptied w plot p n lt x whole q h = elim (cases_eq q p) [
+emptied {w} plot {p = p} {n = n} lt x whole q h = elim (cases_eq q p) [
   | inl e ↦ absurd (true≢false (sym h ∙ rw e (rw (headed_here w.pages p n lt) (rw x.is))))
   | inr ne ↦ other ne
 ]
@@ -202,9 +200,9 @@ emptied w plot p n lt x whole q h = elim (cases_eq q p) [
             (elim l [ inl is ↦ inl is | inr free ↦ inr (free.0, headed_used w.pages p n q lt ∙ free.1, free.2) ])
 
 -- `used` (b)
-given_back : (w : Words) (plot : Plot) (p n : ℕ) → p < length w.pages → GivesBack w p n
+given_back : {w : Words} (plot : Plot) {p n : ℕ} → p < length w.pages → GivesBack w p n
     → HaveWholeRuns w.pages true plot → HaveWholeRuns (with_used_on w.pages p n) true plot
-given_back w plot p n lt x whole q h =
+given_back {w} plot {p = p} {n = n} lt x whole q h =
     let same : shows_on (with_used_on w.pages p n) q ≡ shows_on w.pages q = rw (used_header w.pages p n q lt) in
     let r = whole q (rw (← same) h) in
     let count : run_count (shows_on (with_used_on w.pages p n) q) ≡ run_count (shows_on w.pages q) = rw same in
@@ -219,43 +217,42 @@ given_back w plot p n lt x whole q h =
     page : (d : ℕ) → HasLaterPage w.pages true plot q d → HasLaterPage (with_used_on w.pages p n) true plot q d
     page d h = grind (arith, used_header, still)
 
-head_whole : (c : Config) (w : World) (f : Flight) (plot : Plot) (p n : ℕ) → p < length w.now.words.pages
+head_whole : {c : Config} (w : World) {f : Flight} (plot : Plot) {p n : ℕ} → p < length w.now.words.pages
     → is_phase w.now.words 4 ≡ true → HeadStep c w.now f p n
     → HaveWholeRuns w.now.words.pages true plot → HaveWholeRuns (with_header_on w.now.words.pages p n) true plot
-head_whole c w f plot p n lt four (ItCarves off x) whole = absurd (true≢false (sym four ∙ off))
-head_whole c w f plot p n lt four (ItUnmaps off x) whole = absurd (true≢false (sym four ∙ off))
-head_whole c w f plot p n lt four (ItEmpties on x) whole = emptied w.now.words plot p n lt x whole
+head_whole w plot lt four (ItCarves off x) whole = absurd (true≢false (sym four ∙ off))
+head_whole w plot lt four (ItUnmaps off x) whole = absurd (true≢false (sym four ∙ off))
+head_whole w plot {p = p} {n = n} lt four (ItEmpties on x) whole = emptied plot lt x whole
 
 used_whole : (c : Config) (w : World) (f : Flight) (plot : Plot) (p n : ℕ) → p < length w.now.words.pages
     → is_phase w.now.words 4 ≡ true → UsedStep c w.now f p n
     → HaveWholeRuns w.now.words.pages true plot → HaveWholeRuns (with_used_on w.now.words.pages p n) true plot
 used_whole c w f plot p n lt four (ItTakes off once x) whole = absurd (true≢false (sym four ∙ off))
-used_whole c w f plot p n lt four (ItGivesBack on x) whole = given_back w.now.words plot p n lt x whole
+used_whole c w f plot p n lt four (ItGivesBack on x) whole = given_back plot lt x whole
 
 -- what each kind does while the phase is releasing, and where it becomes so
-whole_by_kind : (c : Config) (w : World) (seat : Seat) (x : Step) (plot : Plot) → Before c w → Meets c w.now seat x
+whole_by_kind : {c : Config} {w : World} (seat : Seat) (x : Step) (plot : Plot) → Before c w → Meets c w.now seat x
     → is_releasing_behind x (is_phase w.now.words 4) ≡ true
     → HaveWholeRuns w.now.words.pages true plot → HaveWholeRuns (WorldBehind c w seat x).now.words.pages true plot
-whole_by_kind c w seat (Step.Head p n) plot b h on whole =
-    head_whole c w (flight_of w.now seat) plot p n (page_within c w p b h.range) on
-    (head_step c w.now _ p n h.holder) whole
-whole_by_kind c w seat (Step.Used p n) plot b h on whole =
+whole_by_kind {c} {w} seat (Step.Head p n) plot b h on whole =
+    head_whole w plot (page_within c w p b h.range) on (head_step c w.now (flight_of w.now seat) p n h.holder) whole
+whole_by_kind {c} {w} seat (Step.Used p n) plot b h on whole =
     used_whole c w (flight_of w.now seat) plot p n (page_within c w p b h.range) on
     (used_step c w.now _ p n h.holder) whole
-whole_by_kind c w seat Step.Reg plot b h on whole = rw (reg_leaves_ground c w seat).pages whole
-whole_by_kind c w seat (Step.Tally n v) plot b h on whole = rw (tally_ground w.now.words n v).pages whole
-whole_by_kind c w seat _ plot b h on whole = whole
+whole_by_kind {c} {w} seat Step.Reg plot b h on whole = rw (reg_leaves_ground c w seat).pages whole
+whole_by_kind {w} seat (Step.Tally n v) plot b h on whole = rw (tally_ground w.now.words n v).pages whole
+whole_by_kind seat _ plot b h on whole = whole
 
 replotted : (pages : List Page) (plot other : Plot) (before : Bool) → HaveWholeRuns pages before plot
     → HaveWholeRuns pages true other
 replotted pages plot other before whole p h = grind arith
 
-pub whole_behind : (c : Config) (w : World) (seat : Seat) (x : Step) → Before c w → Meets c w.now seat x
+pub whole_behind : {c : Config} {w : World} (seat : Seat) (x : Step) → Before c w → Meets c w.now seat x
     → RunsAreWhole c w → LayoutStands c (WorldBehind c w seat x) → RunsAreWhole c (WorldBehind c w seat x)
-whole_behind c w seat x b h whole laid =
+whole_behind {c} {w} seat x b h whole laid =
     let v : World = WorldBehind c w seat x in
     let plot : Plot = plot_of (object_now c v.now) v.now.seats.holding.placing in
     elim (cases_Bool (is_releasing_behind x (is_phase w.now.words 4))) [
-      | inl on ↦ rw (phase_kind c w seat x h ∙ on) (whole_by_kind c w seat x plot b h on (replotted _ _ plot _ whole))
-      | inr off ↦ whole_quiet _ laid.scene (phase_kind c w seat x h ∙ off)
+      | inl on ↦ rw (phase_kind c w seat x h ∙ on) (whole_by_kind seat x plot b h on (replotted _ _ plot _ whole))
+      | inr off ↦ whole_quiet laid.scene (phase_kind c w seat x h ∙ off)
     ]

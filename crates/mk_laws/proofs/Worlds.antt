@@ -24,9 +24,9 @@ not_four : (n : ℕ) → (n ≡ 1) ⊎ (n ≡ 2) → n ≡ 4 → ⊥
 not_four n h f = grind arith
 
 -- a run's head shows the pages of its object
-run_pages : (o : Object) (x : Option Header) (d : ℕ) → ShowsPart o 0 x → d < run_count x
+run_pages : {o : Object} {x : Option Header} (d : ℕ) → ShowsPart o 0 x → d < run_count x
     → (is_small_object o ≡ false) × (d < pages_made o)
-run_pages o x d part lt = grind (arith, part_count, small_count)
+run_pages d part lt = grind (arith, part_count, small_count)
 
 module _ (c : Config) (w : World) (n : NeverState) (t : Told c w n) where
   abbrev placed : ℕ → PlacedAllocation
@@ -72,9 +72,8 @@ module _ (c : Config) (w : World) (n : NeverState) (t : Told c w n) where
       on_first : a.base / 64 ≡ page_at_address v → stands_on (page_at_address v) (storage_of c a) ≡ true
       on_first at = stands_at_first c.pages (storage_of c a) (page_at_address v) storage at
 
-      by : (h : Header) → header_in w.now.words (page_at_address v) ≡ Some h
-          → a.base / 64 ≡ head_page_under (Some h) (page_at_address v)
-          → stands_on (page_at_address v) (storage_of c a) ≡ true
+      by : (h : Header) → header_in w.now.words (page_at_address v) ≡ Some h → a.base / 64 ≡ head_page_under (Some h)
+          (page_at_address v) → stands_on (page_at_address v) (storage_of c a) ≡ true
       by (Later distance mapped) shown head =
           let later = t.all.order.laid.scene.later (page_at_address v) distance mapped shown in
           let le = later.0 in
@@ -83,8 +82,7 @@ module _ (c : Config) (w : World) (n : NeverState) (t : Told c w n) where
             | inl lt ↦
                 let counted : distance < run_count (header_in w.now.words (a.base / 64)) =
                 subst (λ p. distance < run_count (header_in w.now.words p)) (sym head) lt in
-                let part = run_pages (object_placed c a) (header_in w.now.words (a.base / 64)) distance
-                (first_part b u) counted in
+                let part = run_pages distance (first_part b u) counted in
                 let large = part.0 in
                 let near = part.1 in
                 let words : storage_words c a ≡ 64 * pages_made (object_placed c a) =
@@ -104,4 +102,4 @@ module _ (c : Config) (w : World) (n : NeverState) (t : Told c w n) where
 
   -- A word that isn't 0 is held, while a cycle marks.
   pub held : IsMarking w.now.words → (x : ℕ) → slice_index w.now.words.heap x ≢ 0 → IsHeld c w x
-  held early = of_one c w n t.known t.all (not_four (phase_of w.now.words) early)
+  held early = of_one t.known t.all (not_four (phase_of w.now.words) early)

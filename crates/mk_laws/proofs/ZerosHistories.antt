@@ -9,10 +9,10 @@ use Rattle.mk_laws.proofs.Vocabulary.{histories_keep_lengths, if◌then◌else�
 use Rattle.mk_laws.proofs.Vocabulary.{is_left_unmarked, is_phase, is_released_there, is_run_gone, left, left_from, map}
 use Rattle.mk_laws.proofs.Vocabulary.{may_end, nothing_done, object_placed, placed_at, quarantine_step, refl}
 use Rattle.mk_laws.proofs.Vocabulary.{reg_access, register_met, subst, sym, true, true≢false, used_step, with_released}
-use Rattle.mk_laws.proofs.Vocabulary.{word_accessed, word_met, word_points, world_behind, zero_lengths, zero_scene_with}
-use Rattle.mk_laws.proofs.{Vocabulary.{[], ◌*◌, ◌++◌, ◌==◌, ◌∙◌, ◌∷◌, ◌≡◌}, Basics.{Known, Meets, WorldBehind}}
-use Rattle.mk_laws.proofs.Basics.{at_first, changed_words, is_releasing_behind, known_at_first, known_behind}
-use Rattle.mk_laws.proofs.{Basics.{known_left, mapped_stays, none_released}, Behind.{phase_kind, releasing_marks}}
+use Rattle.mk_laws.proofs.Vocabulary.{word_accessed, word_points, world_behind, zero_lengths, zero_scene_with, [], ◌*◌}
+use Rattle.mk_laws.proofs.{Vocabulary.{◌++◌, ◌==◌, ◌∙◌, ◌∷◌, ◌≡◌}, Basics.{Known, Meets, WorldBehind, at_first}}
+use Rattle.mk_laws.proofs.Basics.{changed_words, is_releasing_behind, known_at_first, known_behind, known_left}
+use Rattle.mk_laws.proofs.{Basics.{mapped_stays, none_released}, Behind.{phase_kind, releasing_marks}}
 use Rattle.mk_laws.proofs.ChangedScenes.{Before, early_words, here, kept_heap, standing, stored_words, wiped_words}
 use Rattle.mk_laws.proofs.MappedWords.{word_of_fresh, word_of_longer, word_of_unreleased}
 use Rattle.mk_laws.proofs.{ZerosPageKinds.{gone_word, head_kind, quar_kind, used_kind}, Dropped.settled_page}
@@ -25,17 +25,17 @@ use Rattle.mk_laws.specs.LayoutLaws as layout
 -- What each kind of event makes of the words that may hold values.
 
 -- `take` and `give`
-take_kind : (c : Config) (w : World) (seat : Seat) (x : Step) → Before c w seat x → HasZeros c w → (t : Bool)
+take_kind : {c : Config} {w : World} {seat : Seat} {x : Step} → Before c w seat x → HasZeros c w → (t : Bool)
     → (w.now.words.turn == 0) ≡ t
     → OthersAreZero c (record (here w) { run = (if t then nothing_done else w.now.seats.holding).freed })
-take_kind c w seat x b z false is = z
-take_kind c w seat x b z true is = subst (λ (y : Holding). OthersAreZero c (record (here w) { run = y.freed }))
+take_kind b z false is = z
+take_kind {c} {w} b z true is = subst (λ (y : Holding). OthersAreZero c (record (here w) { run = y.freed }))
     (b.known.orderly.free (eqb-true w.now.words.turn 0 is)) z
 
 give_kind : (c : Config) (w : World) (seat : Seat) → Meets c w.now seat Step.Give → HasZeros c w
     → OthersAreZero c (record (here w) { run = None })
 give_kind c w seat h z = changed_words c (here w) (record (here w) { run = None }) z (λ n ne. ne) (λ n m. OfMapped m)
-    (λ n some r. OfReleased r) (λ n some f. absurd (some (gone_word w.now.words w.now.seats.holding.freed n gone f)))
+    (λ n some r. OfReleased r) (λ n some f. absurd (some (gone_word w.now.words gone f)))
   where
     gone : is_run_gone w.now.words w.now.seats.holding.freed ≡ true
     gone =
@@ -57,9 +57,9 @@ abbrev released_scene : Config → World → ZeroScene
 released_scene c w =
     record (zero_scene_with true w.now.words.marks w) { allocations = map (with_released c w.now.words) w.allocations }
 
-release_kind : (c : Config) (w : World) (seat : Seat) → Before c w seat Step.Release → is_phase w.now.words 3 ≡ true
+release_kind : {c : Config} {w : World} {seat : Seat} → Before c w seat Step.Release → is_phase w.now.words 3 ≡ true
     → HasZeros c w → OthersAreZero c (released_scene c w)
-release_kind c w seat b three z =
+release_kind {c} {w} {seat} b three z =
     early_words c w (released_scene c w) (off_at w 3 three (λ e. absurd (omega arith))) z (λ n ne. ne) mapped
     (λ n f. OfFreedRun f)
   where
@@ -84,7 +84,7 @@ release_kind c w seat b three z =
             from = omega arith;
             to = omega arith;
           })
-          | inr kept ↦ OfMapped (word_of_unreleased c w.now.words w.allocations n b.limits m st.stands st.headers kept)
+          | inr kept ↦ OfMapped (word_of_unreleased w.now.words b.limits m st.stands st.headers kept)
         ]
 
 -- `end`
@@ -103,25 +103,23 @@ end_kind c w own z = changed_words c (here w) _ z (λ n ne. ne) (λ n m. OfMappe
 pub by_kind : (c : Config) (w : World) (seat : Seat) (x : Step) → Before c w seat x → Meets c w.now seat x
     → HasZeros c w → OthersAreZero c (zero_scene_with (is_releasing_behind x (is_phase w.now.words 4)) w.now.words.marks
     (WorldBehind c w seat x))
-by_kind c w seat (Step.Take o) b h z = take_kind c w seat (Step.Take o) b z (w.now.words.turn == 0) refl
+by_kind c w seat (Step.Take o) b h z = take_kind b z (w.now.words.turn == 0) refl
 by_kind c w seat Step.Give b h z = give_kind c w seat h z
-by_kind c w seat Step.Reg b h z = kept_heap c w _ (register_leaves _ _ (register_met (flight_of w.now seat) (flight_of
+by_kind c w seat Step.Reg b h z = kept_heap c w (register_leaves _ _ (register_met (flight_of w.now seat) (flight_of
     w.now seat).stage) (reg_access (flight_of w.now seat) (flight_of w.now seat).stage)) z
-by_kind c w seat (Step.Tally n v) b h z = kept_heap c w _ (tally_leaves w.now.words n v) z
-by_kind c w seat Step.Write b h z = stored_words c (here w) (word_met (flight_of w.now seat)) _ (b.others.stored refl) z
-by_kind c w seat Step.Cas b h z = stored_words c (here w) (word_met (flight_of w.now seat)) _ (b.others.stored refl) z
+by_kind c w seat (Step.Tally n v) b h z = kept_heap c w (tally_leaves w.now.words n v) z
+by_kind c w seat Step.Write b h z = stored_words (here w) _ (b.others.stored refl) z
+by_kind c w seat Step.Cas b h z = stored_words (here w) _ (b.others.stored refl) z
 by_kind c w seat (Step.Wipe n) b h z = wiped_words c (here w) n z
-by_kind c w seat (Step.Head p v) b h z =
-    head_kind c w (flight_of w.now seat) p v z (head_step c w.now (flight_of w.now seat) p v h.holder)
+by_kind c w seat (Step.Head p v) b h z = head_kind w z (head_step c w.now (flight_of w.now seat) p v h.holder)
 by_kind c w seat (Step.Used p v) b h z =
     used_kind c w (flight_of w.now seat) p v z (used_step c w.now (flight_of w.now seat) p v h.holder)
-by_kind c w seat (Step.Quar p v) b h z =
-    quar_kind c w seat p v b h z (quarantine_step c w.now (flight_of w.now seat) p v h.holder)
+by_kind c w seat (Step.Quar p v) b h z = quar_kind b h z (quarantine_step c w.now (flight_of w.now seat) p v h.holder)
 by_kind c w seat Step.Grant b h z =
     other_allocations c w (w.allocations ++ granted c w.now (flight_of w.now seat) ∷ []) z
     (word_of_longer c w.allocations (granted c w.now (flight_of w.now seat)))
 by_kind c w seat Step.Begin b h z = other_allocations c w _ z (word_of_fresh c w.allocations)
-by_kind c w seat Step.Release b h z = release_kind c w seat b h.phase z
+by_kind c w seat Step.Release b h z = release_kind b h.phase z
 by_kind c w seat Step.End b h z = end_kind c w h.holder z
 by_kind c w seat _ b h z = z
 
@@ -131,9 +129,9 @@ with_marks : (c : Config) (v : World) (old new : List ℕ) → OthersAreZero c (
 with_marks c v old new z = grind (arith, changed_words, none_released)
 
 -- One event, from the world before it.
-pub zeros_behind : (c : Config) (w : World) (e : Event) → IsWithinLimits c → AreOfPages c.pages w.now.words
+pub zeros_behind : {c : Config} {w : World} {e : Event} → IsWithinLimits c → AreOfPages c.pages w.now.words
     → Known c w.now → IsEnabled c w.now e → ZeroPremises c w e → HasZeros c w → HasZeros c (world_behind c w e)
-zeros_behind c w e limits lengths known on others z =
+zeros_behind {c} {w} {e} limits lengths known on others z =
     let h = enabled_meets c w.now e on in
     let v : World = world_behind c w e in
     let kind = by_kind c w e.seat e.step (record { limits = limits; lengths = lengths; known = known; others = others })
@@ -145,12 +143,12 @@ zeros_behind c w e limits lengths known on others z =
         → OthersAreZero c (zero_scene_with r w.now.words.marks (world_behind c w e))
         → OthersAreZero c (zero_scene_with r (world_behind c w e).now.words.marks (world_behind c w e))
     marked true is z = subst (λ (ms : List ℕ). OthersAreZero c (zero_scene_with true ms (world_behind c w e)))
-        (sym (releasing_marks c w e.seat e.step known (enabled_meets c w.now e on) is)) z
+        (sym (releasing_marks w e.seat e.step known (enabled_meets c w.now e on) is)) z
     marked false is z = with_marks c (world_behind c w e) w.now.words.marks (world_behind c w e).now.words.marks z
 
 pub events_keep_the_zeros : EventsKeepTheZeros
 events_keep_the_zeros c es e limits on enabled others z =
-    zeros_behind c (left c es) e limits (histories_keep_lengths c es) (known_left c es limits on) enabled others z
+    zeros_behind limits (histories_keep_lengths c es) (known_left c es limits on) enabled others z
 
 zeros_from : (c : Config) (w : World) (es : List Event) → IsWithinLimits c → AreOfPages c.pages w.now.words
     → Known c w.now → AreEnabledFrom c w es → ZeroPremisesFrom c w es → HasZeros c w → HasZeros c (left_from c w es)
@@ -158,17 +156,17 @@ unfolding left_from AreEnabledFrom ZeroPremisesFrom
 zeros_from c w [] limits lengths known on others z = z
 zeros_from c w (e ∷ es) limits lengths known on others z = zeros_from c (world_behind c w e) es limits
     (accessed_lengths c.pages w.now.words (word_accessed c w.now e) (access c w.now e) lengths)
-    (known_behind c w.now e known on.0) on.1 others.1 (zeros_behind c w e limits lengths known on.0 others.0 z)
+    (known_behind c w.now e known on.0) on.1 others.1 (zeros_behind limits lengths known on.0 others.0 z)
 
 pub zeros_at_first : (c : Config) → HasZeros c (first_world c)
 zeros_at_first c n some = absurd (some (at_first (64 * c.pages) n 0))
 
 pub zeros_stand_behind_lists : ZerosStandBehindLists
 zeros_stand_behind_lists c es limits on others =
-    zeros_from c (first_world c) es limits (zero_lengths c.pages) (known_at_first c limits) on others (zeros_at_first c)
+    zeros_from c (first_world c) es limits (zero_lengths c.pages) (known_at_first limits) on others (zeros_at_first c)
 
 -- The premises aren't empty.
-pub others_at_first : (c : Config) (e : Event) → IsWithinLimits c → is_heap_store e.step ≡ false
+pub others_at_first : {c : Config} (e : Event) → IsWithinLimits c → is_heap_store e.step ≡ false
     → ZeroPremises c (first_world c) e
 unfolding left_from AreEnabledFrom layout.LayoutPremisesFrom
-others_at_first c e limits still = grind (arith, histories_are_laid_out, at_first)
+others_at_first e limits still = grind (arith, histories_are_laid_out, at_first)
