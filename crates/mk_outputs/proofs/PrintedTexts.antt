@@ -2,21 +2,20 @@
 use Rattle.std.specs.List.{flat_map, range_with_len}
 use Rattle.mk_laws.proofs.Vocabulary.{Bool, Event, List, ℕ, ap, arith, false, length, refl, slice_index_or, subst, suc}
 use Rattle.mk_laws.proofs.Vocabulary.{sym, true, [], ◌++◌, ◌+◌, ◌<◌, ◌∙◌, ◌∷◌, ◌≡◌}
-use Rattle.mk_check.specs.{Declarations.config_of, Output.{output, text_behind}, declared.text.Text.Text}
+use Rattle.mk_check.specs.{Declarations.config_of, Output.output, Output.text_behind, declared.text.Text.Text}
 use Rattle.mk_engines.specs.Roots.{CyclesMarkRootsFirst}
-use Rattle.mk_outputs.specs.{KeptText.kept_text, Outputs.{IsOutputOfRun, TellsWhatIsKept}}
+use Rattle.mk_outputs.specs.{KeptText.kept_text, Outputs.IsOutputOfRun, Outputs.TellsWhatIsKept}
 use Rattle.mk_replay.specs.Replays.{AreTextsOf}
 use Rattle.mk_run.proofs.Headline.{runs_print_their_texts, runs_stand_in_one_history}
-use Rattle.mk_run.specs.{Headline.{StandsInOneHistory, cycles_go_on}, LastCycle.EndsWithCycle, Running.IsRunOf}
-use Rattle.mk_run.specs.{Unswept.IsUnswept, declared.outcomes.Outcome.Outcome}
+use Rattle.mk_run.specs.Headline.{StandsInOneHistory, cycles_go_on}
+use Rattle.mk_run.specs.{LastCycle.EndsWithCycle, Running.IsRunOf, Unswept.IsUnswept, declared.outcomes.Outcome.Outcome}
 use Rattle.mk_script.specs.declared.items.Item.{Item}
 use Rattle.mk_why.specs.{Chains.AreKept, declared.kept.Kept.Kept}
 use Rattle.mk_heap.specs.Reports as report
 
 -- pieces that are those of their places
-pieces : {X A : Type 0} (f : X → List A) (g : ℕ → List A) (a : ℕ) (xs : List X)
-    → ((k : ℕ) (d : X) → k < length xs → f (slice_index_or xs k d) ≡ g (a + k))
-    → flat_map f xs ≡ flat_map g (range_with_len a (length xs))
+pieces : {X A : Type 0} (f : X → List A) (g : ℕ → List A) (a : ℕ) (xs : List X) → ((k : ℕ) (d : X) → k < length xs
+    → f (slice_index_or xs k d) ≡ g (a + k)) → flat_map f xs ≡ flat_map g (range_with_len a (length xs))
 pieces f g a [] each = refl
 pieces f g a (x ∷ xs) each =
     let first : f x ≡ g a = each 0 x (omega arith) ∙ ap g (omega arith) in
@@ -44,13 +43,11 @@ run_is_printed program markers sweep outcome bytes runs begun unswept are =
 
 -- With the lines of the entries after them they report what was kept in that history's last cycle.
 pub run_is_explained : (program : List Item) (markers : ℕ) (sweep : Bool) (outcome : Outcome) (texts bytes : List ℕ)
-    (entries : List Kept) → IsRunOf (cycles_go_on markers) true program markers outcome
-    → (cycles_go_on markers ≡ true
+    (entries : List Kept) → IsRunOf (cycles_go_on markers) true program markers outcome → (cycles_go_on markers ≡ true
     → CyclesMarkRootsFirst (config_of program markers) (report.history_of outcome.report))
-    → (sweep ≡ false → IsUnswept (config_of program markers) (report.history_of outcome.report))
-    → EndsWithCycle (λ c w. AreKept c w entries) (config_of program markers) (report.history_of outcome.report)
-    → texts ≡ flat_map (λ (text : Text). text.bytes.items) outcome.texts.items
-    → bytes ≡ texts ++ kept_text program entries
+    → (sweep ≡ false → IsUnswept (config_of program markers) (report.history_of outcome.report)) → EndsWithCycle
+    (λ c w. AreKept c w entries) (config_of program markers) (report.history_of outcome.report) → texts ≡ flat_map
+    (λ (text : Text). text.bytes.items) outcome.texts.items → bytes ≡ texts ++ kept_text program entries
     → TellsWhatIsKept program markers sweep bytes
 unfolding runs_stand_in_one_history
 run_is_explained program markers sweep outcome texts bytes entries runs begun unswept ends are is =
@@ -67,28 +64,22 @@ run_is_explained program markers sweep outcome texts bytes entries runs begun un
 -- So a run is told, whether it is asked why objects are kept or not.
 
 pub told_why : (why : Bool) (program : List Item) (markers : ℕ) (sweep : Bool) (outcome : Outcome)
-    (texts bytes : List ℕ)
-    (entries : List Kept) → why ≡ true → IsRunOf (cycles_go_on markers) why program markers outcome
-    → (cycles_go_on markers ≡ true
-    → CyclesMarkRootsFirst (config_of program markers) (report.history_of outcome.report))
-    → (sweep ≡ false → IsUnswept (config_of program markers) (report.history_of outcome.report))
-    → EndsWithCycle (λ c w. AreKept c w entries) (config_of program markers) (report.history_of outcome.report)
-    → texts ≡ flat_map (λ (text : Text). text.bytes.items) outcome.texts.items
-    → bytes ≡ texts ++ kept_text program entries
-    → IsOutputOfRun why program markers sweep bytes
+    (texts bytes : List ℕ) (entries : List Kept) → why ≡ true → IsRunOf (cycles_go_on markers) why program markers
+    outcome → (cycles_go_on markers ≡ true → CyclesMarkRootsFirst (config_of program markers)
+    (report.history_of outcome.report)) → (sweep ≡ false → IsUnswept (config_of program markers)
+    (report.history_of outcome.report)) → EndsWithCycle (λ c w. AreKept c w entries) (config_of program markers)
+    (report.history_of outcome.report) → texts ≡ flat_map (λ (text : Text). text.bytes.items) outcome.texts.items
+    → bytes ≡ texts ++ kept_text program entries → IsOutputOfRun why program markers sweep bytes
 told_why why program markers sweep outcome texts bytes entries asked runs begun unswept ends are is =
     subst (λ (w : Bool). IsOutputOfRun w program markers sweep bytes) (sym asked)
-    (run_is_explained program markers sweep outcome texts bytes entries
-    (subst (λ (w : Bool). IsRunOf
-    (cycles_go_on markers) w program markers outcome) asked runs) begun unswept ends are is)
+    (run_is_explained program markers sweep outcome texts bytes entries (subst
+    (λ (w : Bool). IsRunOf (cycles_go_on markers) w program markers outcome) asked runs) begun unswept ends are is)
 
 pub told_texts : (why : Bool) (program : List Item) (markers : ℕ) (sweep : Bool) (outcome : Outcome) (bytes : List ℕ)
-    → why ≡ false → IsRunOf (cycles_go_on markers) why program markers outcome
-    → (cycles_go_on markers ≡ true
+    → why ≡ false → IsRunOf (cycles_go_on markers) why program markers outcome → (cycles_go_on markers ≡ true
     → CyclesMarkRootsFirst (config_of program markers) (report.history_of outcome.report))
-    → (sweep ≡ false → IsUnswept (config_of program markers) (report.history_of outcome.report))
-    → bytes ≡ flat_map (λ (text : Text). text.bytes.items) outcome.texts.items
-    → IsOutputOfRun why program markers sweep bytes
+    → (sweep ≡ false → IsUnswept (config_of program markers) (report.history_of outcome.report)) → bytes ≡ flat_map
+    (λ (text : Text). text.bytes.items) outcome.texts.items → IsOutputOfRun why program markers sweep bytes
 told_texts why program markers sweep outcome bytes asked runs begun unswept are =
     subst (λ (w : Bool). IsOutputOfRun w program markers sweep bytes) (sym asked)
     (run_is_printed program markers sweep outcome bytes

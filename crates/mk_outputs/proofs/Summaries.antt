@@ -1,7 +1,7 @@
 -- The summary of a run of a generated program is that of its history.
-use Rattle.std.proofs.{Common.{codes, slice_get, sum_by}, lemmas.Fmt.decimal_digit, lemmas.List.drop_all}
+use Rattle.std.proofs.{Common.codes, Common.slice_get, Common.sum_by, lemmas.Fmt.decimal_digit, lemmas.List.drop_all}
 use Rattle.std.proofs.{lemmas.List.Sums.sum_by-cons, lemmas.Option.slice_get_within}
-use Rattle.std.specs.{Fmt.decimal, List.{flat_map, range_with_len}}
+use Rattle.std.specs.{Fmt.decimal, List.flat_map, List.range_with_len}
 use Rattle.mk_laws.proofs.Vocabulary.{Config, Event, List, Some, ℕ, ap, append-nil, append_assoc, arith, drop, false}
 use Rattle.mk_laws.proofs.Vocabulary.{get_or, length, refl, slice_index_or, suc, sym, true, zero, [], ◌++◌, ◌+◌, ◌<◌}
 use Rattle.mk_laws.proofs.Vocabulary.{◌∙◌, ◌∷◌, ◌≡◌, ◌≤◌}
@@ -9,32 +9,29 @@ use Rattle.mk_check.specs.{Declarations.config_of, Laws.IsScript, declared.text.
 use Rattle.mk_engines.specs.Roots.{CyclesMarkRootsFirst}
 use Rattle.mk_gen.proofs.GeneratedLaws.{generated_declares_nodes, generated_makes_turns}
 use Rattle.mk_gen.specs.Generated.{all_names, generated_program}
-use Rattle.mk_outputs.specs.Summary.{calls_made, line_of_script, script_line, summary, total_line}
 use Rattle.mk_outputs.specs.SummedTexts.{AreFew, all_ops, line_of_text, lines_from, summary_of_texts}
+use Rattle.mk_outputs.specs.Summary.{calls_made, line_of_script, summary}
 use Rattle.mk_run.proofs.Headline.{runs_stand_in_one_history, runs_to_its_end}
-use Rattle.mk_run.specs.{Headline.{StandsInOneHistory, cycles_go_on}, Running.{IsRunOf, answers_in}, Unswept.IsUnswept}
-use Rattle.mk_run.specs.declared.outcomes.Outcome.{Outcome}
-use Rattle.mk_script.{proofs.Spacing.{drop_next}, specs.{Scopes.script_names, declared.items.Item.Item}}
+use Rattle.mk_run.specs.Headline.{StandsInOneHistory, cycles_go_on}
+use Rattle.mk_run.specs.{Running.IsRunOf, Running.answers_in, Unswept.IsUnswept, declared.outcomes.Outcome.Outcome}
+use Rattle.mk_script.{proofs.Spacing.drop_next, specs.Scopes.script_names, specs.declared.items.Item.Item}
 use Rattle.mk_heap.specs.Reports as report
 
 -- Lines and sums, place by place.
 
-lines_are : (g : ℕ → List ℕ) (k : ℕ) (texts : List Text)
-    → ((i : ℕ) (text : Text) → slice_get texts i ≡ Some text → line_of_text (k + i) text ≡ g (k + i))
-    → lines_from k texts ≡ flat_map g (range_with_len k (length texts))
+lines_are : (g : ℕ → List ℕ) (k : ℕ) (texts : List Text) → ((i : ℕ) (text : Text) → slice_get texts i ≡ Some text
+    → line_of_text (k + i) text ≡ g (k + i)) → lines_from k texts ≡ flat_map g (range_with_len k (length texts))
 lines_are g k [] each = refl
 lines_are g k (text ∷ texts) each =
     let here : k ≡ k + 0 = omega arith in
-    let first : line_of_text k text ≡ g k = ap (λ (j : ℕ). line_of_text j text) here ∙ each 0 text refl
-    ∙ ap g (sym here) in
+    let first : line_of_text k text ≡ g k = cc (here, each 0 text refl) in
     let rest = lines_are g (k + 1) texts (λ i next is.
     let there : (k + 1) + i ≡ k + suc i = omega arith in
     ap (λ (j : ℕ). line_of_text j next) there ∙ each (suc i) next is ∙ ap g (sym there)) in
     ap (λ (line : List ℕ). line ++ lines_from (k + 1) texts) first ∙ ap (λ (more : List ℕ). g k ++ more) rest
 
-sums_are : (g : ℕ → ℕ) (k : ℕ) (texts : List Text)
-    → ((i : ℕ) (text : Text) → slice_get texts i ≡ Some text → text.ops ≡ g (k + i))
-    → all_ops texts ≡ sum_by g (range_with_len k (length texts))
+sums_are : (g : ℕ → ℕ) (k : ℕ) (texts : List Text) → ((i : ℕ) (text : Text) → slice_get texts i ≡ Some text
+    → text.ops ≡ g (k + i)) → all_ops texts ≡ sum_by g (range_with_len k (length texts))
 sums_are g k [] each = refl
 sums_are g k (text ∷ texts) each =
     let first : text.ops ≡ g k = each 0 text refl ∙ ap g (omega arith) in
@@ -46,8 +43,7 @@ sums_are g k (text ∷ texts) each =
 -- One text more.
 
 pub lines_more : (texts : List Text) (i : ℕ) (text : Text) (front line : List ℕ) → i < length texts
-    → text ≡ get_or texts i text
-    → line ≡ front ++ line_of_text i text
+    → text ≡ get_or texts i text → line ≡ front ++ line_of_text i text
     → front ++ lines_from i (drop i texts) ≡ line ++ lines_from (i + 1) (drop (i + 1) texts)
 lines_more texts i text front line inside is made =
     ap (λ (left : List Text). front ++ lines_from i left) (drop_next texts i text inside is)
@@ -63,8 +59,7 @@ ops_more texts i text inside is =
 
 pub lines_done : (texts : List Text) (i : ℕ) (front : List ℕ) → length texts ≤ i
     → front ++ lines_from i (drop i texts) ≡ front
-lines_done texts i front past = ap (λ (left : List Text). front ++ lines_from i left) (drop_all i texts past)
-    ∙ append-nil front
+lines_done texts i front past = cc (drop_all i texts past, append-nil front)
 
 pub ops_done : (texts : List Text) (i : ℕ) → length texts ≤ i → all_ops (drop i texts) ≡ 0
 ops_done texts i past = ap all_ops (drop_all i texts past)
@@ -117,9 +112,7 @@ module _ (start count markers : ℕ) (outcome : Outcome)
       let e = four in
       let name : codes "s" ++ decimal k ≡ slice_index_or (script_names program) k [] =
       name_is k (omega arith) ∙ ap (λ (xs : List (List ℕ)). slice_index_or xs k []) (sym names) in
-      ap (λ (n : List ℕ). script_line n text.ops text.refused) name
-      ∙ ap (λ (n : ℕ). script_line (slice_index_or (script_names program) k []) n text.refused) t.ops
-      ∙ ap (λ (n : ℕ). script_line (slice_index_or (script_names program) k []) (calls_made c es k) n) t.refused
+      cc (name, t.ops, t.refused)
 
   summary_is : summary_of_texts outcome.texts.items ≡ summary program c es
   summary_is =
@@ -130,10 +123,7 @@ module _ (start count markers : ℕ) (outcome : Outcome)
       let sums = sums_are (calls_made c es) 0 texts (λ k text is.
       (runs.texts k text is).ops ∙ ap (calls_made c es) (omega arith)) in
       let counted = runs.count in
-      ap (λ (front : List ℕ). front ++ total_line (all_ops texts)) lines
-      ∙ ap (λ (n : ℕ). flat_map (line_of_script program c es) (range_with_len 0 (length texts)) ++ total_line n) sums
-      ∙ ap (λ (n : ℕ). flat_map (line_of_script program c es) (range_with_len 0 n)
-      ++ total_line (sum_by (calls_made c es) (range_with_len 0 n))) counted
+      cc (lines, sums, counted)
 
   pub run_is_summed : (cycles_go_on markers ≡ true → CyclesMarkRootsFirst c es) → IsUnswept c es
       → (bytes : List ℕ) → bytes ≡ summary_of_texts outcome.texts.items

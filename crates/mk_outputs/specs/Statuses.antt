@@ -76,35 +76,18 @@ status_line (NotEnabled line event condition) = message_at_line line (not_enable
 -- the statuses that come before the first write
 abbrev pub IsBeforeWriting : Status → Type 0
 IsBeforeWriting Ok = ⊥
-IsBeforeWriting NoMemory = Unit {0}
-IsBeforeWriting Usage = Unit {0}
-IsBeforeWriting ReadFault = Unit {0}
 IsBeforeWriting WriteFault = ⊥
-IsBeforeWriting (Text line kind) = Unit {0}
-IsBeforeWriting (IllTyped line fault) = Unit {0}
-IsBeforeWriting (Limit line which found) = Unit {0}
-IsBeforeWriting (NotEnabled line event condition) = Unit {0}
-
--- the statuses that a text may have, but for Ok
-abbrev pub IsOfText : Status → Type 0
-IsOfText Ok = ⊥
-IsOfText NoMemory = Unit {0}
-IsOfText Usage = ⊥
-IsOfText ReadFault = ⊥
-IsOfText WriteFault = ⊥
-IsOfText (Text line kind) = Unit {0}
-IsOfText (IllTyped line fault) = Unit {0}
-IsOfText (Limit line which found) = Unit {0}
-IsOfText (NotEnabled line event condition) = Unit {0}
+IsBeforeWriting _ = Unit {0}
 
 -- the statuses that say what is wrong with a text
 abbrev pub IsRefusal : Status → Type 0
-IsRefusal Ok = ⊥
-IsRefusal NoMemory = ⊥
-IsRefusal Usage = ⊥
-IsRefusal ReadFault = ⊥
-IsRefusal WriteFault = ⊥
 IsRefusal (Text line kind) = Unit {0}
 IsRefusal (IllTyped line fault) = Unit {0}
 IsRefusal (Limit line which found) = Unit {0}
 IsRefusal (NotEnabled line event condition) = Unit {0}
+IsRefusal _ = ⊥
+
+-- the statuses that a text may have, but for Ok
+abbrev pub IsOfText : Status → Type 0
+IsOfText NoMemory = Unit {0}
+IsOfText status = IsRefusal status

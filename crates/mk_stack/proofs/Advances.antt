@@ -52,10 +52,8 @@ pub record Steps {S : Type 0} (Asked : Op → Reply → S → Type 0) (point : S
   pub holds : HoldsAt (value_of q) (point t)
 
 pub steps_so : {S : Type 0} {Asked : Op → Reply → S → Type 0} {point : S → Point} {p q : PassState} {o : Op}
-    {a : Answer} {t : S} → (h : Happens p o a q)
-    → Asked o (reply_of h.n (caller_of_pass p) o) t
-    × HoldsAt (register_at (after_op h.n (caller_of_pass p) o) (caller_of_pass p)) (point t)
-    → Steps Asked point p q t
+    {a : Answer} {t : S} → (h : Happens p o a q) → Asked o (reply_of h.n (caller_of_pass p) o) t × HoldsAt
+    (register_at (after_op h.n (caller_of_pass p) o) (caller_of_pass p)) (point t) → Steps Asked point p q t
 steps_so {point} {p} {o} {t} h leads = grind (arith, holds_still)
 
 abbrev pub Advances : PassState → Point → PassState → Point → Type 0
@@ -68,9 +66,7 @@ record Told (p : PassState) (o : Op) (told : Answer) (q : PassState) : Type 0 wh
   pub happens : Happens p (flagged o answer) answer q
 
 flagged_alike : (o : Op) (a : Answer) → flagged (unflagged o) a ≡ flagged o a
-flagged_alike (Op.New d ty full) Answer.Full = refl
-flagged_alike (Op.New d ty full) _ = refl
-flagged_alike _ a = refl
+flagged_alike x0 a = grind arith
 
 told_so : {on : Bool} {p q : PassState} {o : Op} {told : Answer} → IsHistory q.table.config q.seen
     → Answers on p o told q → (is_under_turn o ≡ false → IsCalled p o told q) → Told p o told q
@@ -90,16 +86,14 @@ told_so {p} {q} {o} {told} history answers called = by (is_under_turn o) refl
           happens = rw (flag_is o c.answer e) (from_called c.called (flag_is o c.answer e) history);
         }
 
-pub advances : {on : Bool} {p q : PassState} (s : Point) {t : Point} {o : Op} {told : Answer} → t
-    ≡ next_point s told → HasStackTypes p.table.config
-    → IsHistory q.table.config q.seen → op_at s ≡ Some o → HoldsAt (value_of p) s → Answers on p o told q
-    → (is_under_turn o ≡ false → IsCalled p o told q) → Advances p s q t
+pub advances : {on : Bool} {p q : PassState} (s : Point) {t : Point} {o : Op} {told : Answer} → t ≡ next_point s told
+    → HasStackTypes p.table.config → IsHistory q.table.config q.seen → op_at s ≡ Some o → HoldsAt (value_of p) s
+    → Answers on p o told q → (is_under_turn o ≡ false → IsCalled p o told q) → Advances p s q t
 advances {p} {q} s {told} leads types history is holds answers called =
     let t = told_so history answers called in
     let h = t.happens in
     let next = of_asked _ is (asks (place_state types h) s (holds_still h.before s holds)) in
-    subst (Advances p s q) (ap (next_point s) (sym t.is_told) ∙ sym leads)
-    (steps_so h (next t.answer h.bases h.image))
+    subst (Advances p s q) (ap (next_point s) (sym t.is_told) ∙ sym leads) (steps_so h (next t.answer h.bases h.image))
 
 pub clears : {p q : PassState} (r : ℕ) → r < 8 → IsHistory q.table.config q.seen → Called p (Op.Clear r) Answer.Done q
     → StaysEnded p q

@@ -62,8 +62,7 @@ pub record HeldBefore (k : ℕ) (r r' : Role) : Type 0 where
   pub freeing : r' ≡ Taken k → r ≡ Taken k
 
 held_stays : {n : NeverState} (m : NeverState) {r r' : Role} {k a : ℕ} {s : Point} → IsHeld n r k a s
-    → HeldBefore k r r'
-    → ((x : ℕ) → x < 8 → register_at m k x ≡ register_at n k x) → IsHeld m r' k a s
+    → HeldBefore k r r' → ((x : ℕ) → x < 8 → register_at m k x ≡ register_at n k x) → IsHeld m r' k a s
 held_stays m held before registers = grind arith
 
 pub same_before : (k : ℕ) (r : Role) → HeldBefore k r r
@@ -71,14 +70,14 @@ same_before k r = record { pushing = λ e. e; freeing = λ e. e }
 
 module _ {callers : ℕ} {n : NeverState} {top : Option ℕ} {role : ℕ → Role} {nodes : List ℕ} {W : ℕ → Work}
     (inv : Inv callers n top role nodes W) (c : ℕ) where
-  pub assemble : (m : NeverState) (top' : Option ℕ) (role' : ℕ → Role) (nodes' : List ℕ) (w : Work)
+  pub assemble : {m : NeverState} {top' : Option ℕ} {role' : ℕ → Role} {nodes' : List ℕ} (w : Work)
       → Core callers m top' role' nodes' → ((k : ℕ) → k ≢ c → Leaves n top role m top' role' k)
       → ((k a : ℕ) → k ≢ c → HeldBefore k (role a) (role' a)) → Local m top' role' c w.point w.decided
       → ((a : ℕ) → IsHeld m (role' a) c a w.point) → Inv callers m top' role' nodes' (put W c w)
-  assemble m top' role' nodes' w core leaves before local held = record {
+  assemble {m} {top'} {role'} w core leaves before local held = record {
     core = core;
     local = put_by (λ (k : ℕ) (x : Work). Local m top' role' k x.point x.decided) W c w local
-        (λ k other. local_stays n top role m top' role' k (leaves k other) (W k).point (W k).decided (inv.local k));
+        (λ k other. local_stays (leaves k other) (W k).point (W k).decided (inv.local k));
     held = λ k a. put_by (λ (j : ℕ) (x : Work). IsHeld m (role' a) j a x.point) W c w (held a)
         (λ j other. held_stays m (inv.held j a) (before j a other) (leaves j other).registers) k;
   }
@@ -95,8 +94,7 @@ module _ {callers : ℕ} {n : NeverState} {top : Option ℕ} {role : ℕ → Rol
     nodes_now = nodes;
     decided = u';
     decision = d;
-    inv = assemble m top' role nodes (moved (W c) next u' rest) core leaves
-        (λ k a other. same_before k (role a)) local held;
+    inv = assemble (moved (W c) next u' rest) core leaves (λ k a other. same_before k (role a)) local held;
     left = left;
     decides = decides;
     frees = λ a. omega (arith, frees a);

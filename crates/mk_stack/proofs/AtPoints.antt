@@ -1,7 +1,5 @@
 -- What a caller holds at a point of its job: its registers alone tell.
-use Rattle.mk_stack.proofs.Vocabulary.{Checking, Ended, Filling, Following, Founded, Founding, Freeing, HoldsAt}
-use Rattle.mk_stack.proofs.Vocabulary.{IsPointerTo, Linking, Looking, Making, MayPointTo, Peeking, Placing, Point}
-use Rattle.mk_stack.proofs.Vocabulary.{Publishing, Reading, Starting, Taking, Testing, Value}
+use Rattle.mk_stack.proofs.Vocabulary.{HoldsAt, IsPointerTo, MayPointTo, Point, Value}
 use Rattle.mk_laws.proofs.Vocabulary.{ℕ, arith, subst, sym, ◌<◌, ◌∙◌, ◌≡◌}
 
 pub points_on : {ty : ℕ} {v : Value} (w : Value) → w ≡ v → IsPointerTo ty v → IsPointerTo ty w
@@ -11,12 +9,11 @@ pub may_on : (ty : ℕ) (v w : Value) → w ≡ v → MayPointTo ty v → MayPoi
 may_on ty v w e h = subst (MayPointTo ty) (sym e) h
 
 module _ {f g : ℕ → Value} (same : (x : ℕ) → x < 8 → g x ≡ f x) where
-  points : (ty x : ℕ) → x < 8 → IsPointerTo ty (f x) → IsPointerTo ty (g x)
-  points ty x lt h = points_on (g x) (same x lt) h
+  points : {ty : ℕ} (x : ℕ) → x < 8 → IsPointerTo ty (f x) → IsPointerTo ty (g x)
+  points x lt h = points_on (g x) (same x lt) h
 
   may : (ty x : ℕ) → x < 8 → MayPointTo ty (f x) → MayPointTo ty (g x)
   may ty x lt h = may_on ty (f x) (g x) (same x lt) h
 
   pub holds_still : (t : Point) → HoldsAt f t → HoldsAt g t
-  holds_still Founding h = tt
-  holds_still _ h = grind (arith, points, may)
+  holds_still x0 h = grind (arith, points, may)

@@ -1,7 +1,8 @@
 -- Chains of nodes: where their words stay, they stay, and have the same numbers.
-use Rattle.std.proofs.Common.{◌≡◌, ◌≢◌, ℕ, List, [], ◌∷◌, refl, sym, ◌∙◌, ap, ap₂, subst, inl, inr, Some, None, Option}
-use Rattle.mk_stack.proofs.Vocabulary.{IsOneOf, NeverState, Null, Value, global_at, number_of, numbers_in, word_at}
-use Rattle.mk_stack.proofs.{Roles.{Role, Base, Stacked}, Invariant.{IsNotAmong, IsChain, HasChain}}
+use Rattle.std.proofs.Common.{ap₂}
+use Rattle.mk_stack.proofs.Vocabulary.{IsOneOf, NeverState, Value, global_at, number_of, numbers_in, word_at}
+use Rattle.mk_stack.proofs.{Invariant.{HasChain, IsChain, IsNotAmong}, Roles.{Base, Role, Stacked}}
+use Rattle.mk_laws.proofs.Vocabulary.{List, Option, ℕ, ap, arith, inl, inr, refl, sym, [], ◌∙◌, ◌∷◌, ◌≡◌, ◌≢◌}
 use Rattle.mk_stack.specs.Laws.{AreLinked, uppermost}
 
 -- An allocation of another role isn't in the chain.
@@ -22,9 +23,8 @@ pub record NodeStays (n : NeverState) (m : NeverState) (role : ℕ → Role) (a 
   pub role_now : role a ≡ Stacked
   pub link : word_at m a 1 ≡ word_at n a 1
 
-pub chain_stays : (n m : NeverState) (role role' : ℕ → Role) (v : Value) (nodes : List ℕ)
-    → ((a : ℕ) → IsOneOf a nodes → role a ≡ Stacked → NodeStays n m role' a)
-    → IsChain n role v nodes → IsChain m role' v nodes
+pub chain_stays : (n m : NeverState) (role role' : ℕ → Role) (v : Value) (nodes : List ℕ) → ((a : ℕ) → IsOneOf a nodes
+    → role a ≡ Stacked → NodeStays n m role' a) → IsChain n role v nodes → IsChain m role' v nodes
 chain_stays n m role role' v [] stays chain = chain
 chain_stays n m role role' v (a ∷ nodes) stays chain =
     let here = stays a (inl refl) chain.1 in (
@@ -34,9 +34,8 @@ chain_stays n m role role' v (a ∷ nodes) stays chain =
       rw here.link (chain_stays n m role role' (word_at n a 1) nodes (λ b one. stays b (inr one)) chain.3),
     )
 
-pub numbers_stay : (n m : NeverState) (role : ℕ → Role) (v : Value) (nodes : List ℕ)
-    → ((a : ℕ) → role a ≡ Stacked → word_at m a 0 ≡ word_at n a 0)
-    → IsChain n role v nodes → numbers_in m nodes ≡ numbers_in n nodes
+pub numbers_stay : (n m : NeverState) (role : ℕ → Role) (v : Value) (nodes : List ℕ) → ((a : ℕ) → role a ≡ Stacked
+    → word_at m a 0 ≡ word_at n a 0) → IsChain n role v nodes → numbers_in m nodes ≡ numbers_in n nodes
 numbers_stay n m role v [] stays chain = refl
 numbers_stay n m role v (a ∷ nodes) stays chain =
     ap₂ (λ (x : ℕ) (xs : List ℕ). x ∷ xs) (ap number_of (stays a chain.1))
@@ -46,21 +45,14 @@ numbers_stay n m role v (a ∷ nodes) stays chain =
 pub all_numbers_stay : (n m : NeverState) (top : Option ℕ) (role : ℕ → Role) (nodes : List ℕ)
     → ((a : ℕ) → role a ≡ Stacked → word_at m a 0 ≡ word_at n a 0)
     → HasChain n top role nodes → numbers_in m nodes ≡ numbers_in n nodes
-all_numbers_stay n m None role nodes stays chain = ap (numbers_in m) chain.1 ∙ sym (ap (numbers_in n) chain.1)
-all_numbers_stay n m (Some t) role nodes stays chain = numbers_stay n m role (word_at n t 0) nodes stays chain.2
+all_numbers_stay n m x2 role nodes stays chain = grind (arith, numbers_stay)
 
 -- The chain stays where the global, the top's word and the nodes' links do.
 pub has_chain_stays : (n m : NeverState) (top : Option ℕ) (role role' : ℕ → Role) (nodes : List ℕ)
     → global_at m 0 ≡ global_at n 0 → ((t : ℕ) → role t ≡ Base → (role' t ≡ Base) × (word_at m t 0 ≡ word_at n t 0))
     → ((a : ℕ) → IsOneOf a nodes → role a ≡ Stacked → NodeStays n m role' a)
     → HasChain n top role nodes → HasChain m top role' nodes
-has_chain_stays n m None role role' nodes global base stays chain = (global ∙ chain.0, chain.1)
-has_chain_stays n m (Some t) role role' nodes global base stays chain =
-    let tops = base t chain.1 in (
-      global ∙ chain.0,
-      tops.0,
-      rw tops.1 (chain_stays n m role role' (word_at n t 0) nodes stays chain.2),
-    )
+has_chain_stays n m x2 role role' nodes global base stays chain = grind (arith, chain_stays)
 
 -- A chain is linked.
 linked : (n : NeverState) (role : ℕ → Role) (v : Value) (nodes : List ℕ) → IsChain n role v nodes → AreLinked n v nodes
@@ -69,10 +61,7 @@ linked n role v (a ∷ nodes) chain = (chain.0, linked n role (word_at n a 1) no
 
 pub stack_is_linked : (n : NeverState) (top : Option ℕ) (role : ℕ → Role) (nodes : List ℕ) → HasChain n top role nodes
     → AreLinked n (uppermost n (global_at n 0)) nodes
-stack_is_linked n None role nodes chain =
-    subst (λ (v : Value). AreLinked n (uppermost n v) nodes) (sym chain.0) (subst (AreLinked n Null) (sym chain.1) refl)
-stack_is_linked n (Some t) role nodes chain =
-    subst (λ (v : Value). AreLinked n (uppermost n v) nodes) (sym chain.0) (linked n role (word_at n t 0) nodes chain.2)
+stack_is_linked n x1 role nodes chain = grind (arith, linked)
 
 -- Each node of it has the role.
 pub stacked_role : (n : NeverState) (role : ℕ → Role) (v : Value) (nodes : List ℕ) (a : ℕ) → IsChain n role v nodes
@@ -83,5 +72,4 @@ stacked_role n role v (b ∷ nodes) a chain (inr one) = stacked_role n role (wor
 
 pub on_stack_role : (n : NeverState) (top : Option ℕ) (role : ℕ → Role) (nodes : List ℕ) (a : ℕ)
     → HasChain n top role nodes → IsOneOf a nodes → role a ≡ Stacked
-on_stack_role n None role nodes a chain one = absurd (let none : IsOneOf a [] = subst (IsOneOf a) chain.1 one in none)
-on_stack_role n (Some t) role nodes a chain one = stacked_role n role (word_at n t 0) nodes a chain.2 one
+on_stack_role n x1 role nodes a chain one = grind (arith, stacked_role)

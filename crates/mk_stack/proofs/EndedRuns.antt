@@ -21,9 +21,8 @@ use Rattle.mk_stack.specs.declared.working.Ended.{Ended}
 use Rattle.mk_words.proofs.Seats.{has_first, has_left, has_right, others_own, without_keeps}
 use Rattle.mk_words.specs.Markers.{marker_in}
 
-both_ok : {V U : Type 0} (P : V → Type 0) (Q : U → Type 0) (R : V → U → Type 0) (x : Result V NoMemory)
-    (y : Result U NoMemory) → ((v : V) (u : U) → P v → Q u → R v u) → IfOk x P → IfOk y Q
-    → IfOk x (λ v. IfOk y (λ u. R v u))
+both_ok : {V U : Type 0} (P : V → Type 0) (Q : U → Type 0) (R : V → U → Type 0) (x : Result V NoMemory) (y : Result U
+    NoMemory) → ((v : V) (u : U) → P v → Q u → R v u) → IfOk x P → IfOk y Q → IfOk x (λ v. IfOk y (λ u. R v u))
 both_ok P Q R (Ok v) (Ok u) f p q = f v u p q
 both_ok P Q R (Ok v) (Err e) f p q = tt
 both_ok P Q R (Err e) y f p q = tt
@@ -35,9 +34,8 @@ still_ok R S x y f = IfOk-weaker x (λ v. IfOk y (R v)) (λ v. IfOk y (S v)) (λ
 -- The jobs were done, the first caller read what is left, and the host said that all is over.
 module _ (w : WordsState) (markers : ℕ) (lists : List Jobs) (joined : Joined) (g i : HostState)
     (types : HasStackTypes w.config) (count : length lists ≡ w.config.callers)
-    (did : HaveFoundedAndWorked w markers lists joined) (reads : IsReader joined.host g)
-    (over : SaysOver g.pass i.pass) (is : i ≡ with_seen g i.pass.seen)
-    (history : IsHistory i.pass.table.config i.pass.seen) where
+    (did : HaveFoundedAndWorked w markers lists joined) (reads : IsReader joined.host g) (over : SaysOver g.pass i.pass)
+    (is : i ≡ with_seen g i.pass.seen) (history : IsHistory i.pass.table.config i.pass.seen) where
   abbrev h : HostState
   h = joined.host
 
@@ -64,14 +62,12 @@ module _ (w : WordsState) (markers : ℕ) (lists : List Jobs) (joined : Joined) 
       moves.leaves (Caller k) (callers_home h g reads k (home k lt))
       (ap (is_same_seat (Caller k)) (same_seat h g reads ∙ did.worked.seat))
 
-  runs : (all : List Dones) (numbers : List ℕ)
-      → HaveDone w.config h.pass.seen did.founding 0 lists all → ReadsStack w.config h numbers g
-      → IsStackRun w.config i.pass.seen lists all numbers
-  runs all numbers done read =
-      run_stands moves.more grown last_history still
-      (is_stack_run h.pass.seen reads.own.more did.founding lists all numbers read.all
-      reads.own.is read_history types did.founds count done (by_reader h g reads w.config read_history home)
-      (its_replies h g reads w.config read_history home numbers read) read.leads read.reads)
+  runs : (all : List Dones) {numbers : List ℕ} → HaveDone w.config h.pass.seen did.founding 0 lists all
+      → ReadsStack w.config h numbers g → IsStackRun w.config i.pass.seen lists all numbers
+  runs all {numbers = numbers} done read =
+      run_stands moves.more grown last_history still (is_stack_run h.pass.seen reads.own.more did.founding lists all
+      numbers read.all reads.own.is read_history types did.founds count done (by_reader h g reads read_history home)
+      (its_replies h g reads read_history home read) read.leads read.reads)
 
   pub have_ended : (ended : Ended) → ended.host ≡ i → ended.dones ≡ joined.dones
       → IfOk ended.left (λ left. ReadsStack w.config h left.items g) → HaveEnded w markers lists ended
@@ -87,11 +83,9 @@ module _ (w : WordsState) (markers : ℕ) (lists : List Jobs) (joined : Joined) 
             (let now = ap (λ (x : HostState). x.markers) is ∙ same_markers h g reads ∙ did.worked.same_markers in
             absurd (omega (arith, now, le, lt)));
         run =
-            both_ok (λ all. HaveDone w.config h.pass.seen did.founding 0 lists all.items)
-            (λ left. ReadsStack w.config h left.items g)
-            (λ all left. IsStackRun w.config i.pass.seen lists all.items left.items) ended.dones ended.left
-            (λ all left done read. runs all.items left.items done read)
-            (rw dones did.worked.done) left;
+            both_ok (λ all. HaveDone w.config h.pass.seen did.founding 0 lists all.items) (λ left. ReadsStack w.config h
+            left.items g) (λ all left. IsStackRun w.config i.pass.seen lists all.items left.items) ended.dones
+            ended.left (λ all left done read. runs all.items done read) (rw dones did.worked.done) left;
       })
 
 -- What the operations of the first caller lead to, before its jobs
@@ -149,11 +143,9 @@ marker_joined {w} j {lists} p {before} after all alone ended is grows history do
       own = subst (λ (l : List Seat). Has l Host) (sym seats) (has_left h.pass.seats p.seats Host ended.own);
       count = ap (λ (x : HostState). x.callers) is ∙ ended.count;
       callers = λ k lt. rw seats (has_left h.pass.seats p.seats (Caller k) (ended.callers k lt));
-      markers = λ i le lt. rw seats (⊎_elim
-          (λ (e : i ≡ j). has_right h.pass.seats p.seats (Marker i)
-          (subst (λ (n : ℕ). Has p.seats (Marker n)) (sym e) mine))
-          (λ (later : j + 1 ≤ i). has_left h.pass.seats p.seats (Marker i)
-          (ended.markers i later (omega (arith, lt, count)))) (same_or_later j i le));
+      markers = λ i le lt. rw seats (⊎_elim (λ (e : i ≡ j). has_right h.pass.seats p.seats (Marker i)
+          (subst (λ (n : ℕ). Has p.seats (Marker n)) (sym e) mine)) (λ (later : j + 1 ≤ i). has_left h.pass.seats
+          p.seats (Marker i) (ended.markers i later (omega (arith, lt, count)))) (same_or_later j i le));
       run =
           rw dones (rw left (still_ok (λ all left. IsStackRun w.config h.pass.seen lists all.items left.items)
           (λ all left. IsStackRun w.config fs lists all.items left.items) before.dones before.left

@@ -21,14 +21,12 @@ put_before role b r k a private taken =
 pub roles_put : (role : ℕ → Role) (b : ℕ) (r : Role) (k : ℕ) (Same : ℕ → Type 0) → RoleKeeps k (role b) r (Same b)
     → ((a : ℕ) → a ≢ b → RoleKeeps k (role a) (role a) (Same a))
     → (a : ℕ) → RoleKeeps k (role a) (put role b r a) (Same a)
-roles_put role b r k Same here there a =
-    put_by (λ (x : ℕ) (y : Role). RoleKeeps k (role x) y (Same x)) role b r here there a
+roles_put role b r k Same here there a = grind (arith, put_by, Same)
 
 -- The word of the top is exchanged, and node a gets another role: it goes on the stack, or leaves it.
 module _ {callers : ℕ} {n : NeverState} {top : Option ℕ} {role : ℕ → Role} {nodes : List ℕ} {W : ℕ → Work}
-    (inv : Inv callers n top role nodes W) (c t a : ℕ) (v : Value) (r : Role) (is : top ≡ Some t)
-    (is_base : role t ≡ Base)
-    (nodelike : (role a ≡ Private c) × (r ≡ Stacked) ⊎ (role a ≡ Stacked) × (r ≡ Taken c)) where
+    (inv : Inv callers n top role nodes W) (c t a : ℕ) (v : Value) (r : Role) (is : top ≡ Some t) (is_base : role t
+    ≡ Base) (nodelike : (role a ≡ Private c) × (r ≡ Stacked) ⊎ (role a ≡ Stacked) × (r ≡ Taken c)) where
   abbrev m : NeverState
   m = with_word n t 0 v
 
@@ -50,9 +48,6 @@ module _ {callers : ℕ} {n : NeverState} {top : Option ℕ} {role : ℕ → Rol
   exchange_leaves : (k : ℕ) → k ≢ c → Leaves n top role m top now k
   exchange_leaves k other = grind (arith, roles_put, keeps_here, keeps_there)
 
-  before : (k b : ℕ) → k ≢ c → HeldBefore k (role b) (now b)
-  before k b other = grind (arith, now, put_before, private_stacked, taken_stacked, private_taken, same_taken)
-
   -- both roles are of nodes that aren't freed
   alike : (size_of r ≡ size_of (role a)) × (is_gone r ≡ is_gone (role a)) × (r ≢ Unborn) × (r ≢ Base)
       × (role a ≢ Unborn)
@@ -62,26 +57,25 @@ module _ {callers : ℕ} {n : NeverState} {top : Option ℕ} {role : ℕ → Rol
       → Core callers m top now nodes'
   exchange_core nodes' stacked chain = record {
     shape = inv.core.shape;
-    fits = put_by (λ (b : ℕ) (x : Role). Fits m b x) role a r
-        (alike_fits r (written_fits n t 0 a v (inv.core.fits a)) alike.4 alike.2 alike.3 alike.0 alike.1)
-        (λ b ne. written_fits n t 0 b v (inv.core.fits b));
+    fits = put_by (λ (b : ℕ) (x : Role). Fits m b x) role a r (alike_fits r (written_fits n t 0 a v (inv.core.fits a))
+        alike.4 alike.2 alike.3 alike.0 alike.1) (λ b ne. written_fits n t 0 b v (inv.core.fits b));
     stacked = stacked;
     chain = chain;
   }
 
-  pub by_exchange : (nodes' : List ℕ) (s : Point) (o : Op) (next : Point) (rest : List Replied) (u u' : Option Done)
-      (d : Option Ordered) → ((b : ℕ) → now b ≡ Stacked → IsOneOf b nodes') → HasChain m top now nodes'
-      → Local m top now c next u' → AllHeld m now c next
-      → IsLeft d (numbers_in n nodes) (numbers_in m nodes') → Decides c s u d u' → ((b : ℕ) → freed_by b n c o ≡ 0)
-      → Stepped callers n role nodes W c s u o next rest m
-  by_exchange nodes' s o next rest u u' d stacked chain local held left decides frees = record {
+  pub by_exchange : (nodes' : List ℕ) {s : Point} (o : Op) (next : Point) (rest : List Replied) {u u' : Option Done}
+      {d : Option Ordered} → ((b : ℕ) → now b ≡ Stacked → IsOneOf b nodes') → HasChain m top now nodes'
+      → Local m top now c next u' → AllHeld m now c next → IsLeft d (numbers_in n nodes) (numbers_in m nodes')
+      → Decides c s u d u' → ((b : ℕ) → freed_by b n c o ≡ 0) → Stepped callers n role nodes W c s u o next rest m
+  by_exchange nodes' o next rest {u' = u'} {d = d} stacked chain local held left decides frees = record {
     top_now = top;
     role_now = now;
     nodes_now = nodes';
     decided = u';
     decision = d;
-    inv = assemble inv c m top now nodes' (moved (W c) next u' rest)
-        (exchange_core nodes' stacked chain) exchange_leaves (λ k b other. before k b other) local held;
+    inv = assemble inv c (moved (W c) next u' rest)
+        (exchange_core nodes' stacked chain) exchange_leaves (λ k b other.
+        grind (arith, now, put_before, private_stacked, taken_stacked, private_taken, same_taken)) local held;
     left = left;
     decides = decides;
     frees = λ b. none_freed_there role a r alike.1 b ∙ ap (λ (x : ℕ). bit (is_gone (role b)) + x) (sym (frees b));

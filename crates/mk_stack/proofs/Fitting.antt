@@ -1,8 +1,8 @@
 -- An allocation is as its role says, and stays so.
-use Rattle.mk_stack.proofs.{Vocabulary.{Allocation, NeverState, Value, with_word}, Heaps.{written_flag, written_size}}
-use Rattle.mk_stack.proofs.{Heaps.written_type, Invariant.{Fits, IsOfRole}, Roles.{Base, Role, Unborn, is_gone}}
-use Rattle.mk_stack.proofs.Roles.{size_of}
+use Rattle.mk_stack.proofs.Vocabulary.{Allocation, NeverState, Value, with_word}
 use Rattle.mk_laws.proofs.Vocabulary.{ℕ, arith, length-set, sym, ◌∙◌, ◌≡◌, ◌≢◌}
+use Rattle.mk_stack.proofs.{Heaps.written_flag, Heaps.written_size, Heaps.written_type, Invariant.Fits}
+use Rattle.mk_stack.proofs.{Invariant.IsOfRole, Roles.Base, Roles.Role, Roles.Unborn, Roles.is_gone, Roles.size_of}
 
 -- where a word is written,
 pub written_fits : (n : NeverState) (a i b : ℕ) (v : Value) {r : Role} → Fits n b r → Fits (with_word n a i v) b r

@@ -1,11 +1,9 @@
 -- What a step of one caller leaves of what holds of another.
-use Rattle.mk_stack.proofs.Vocabulary.{Checking, Done, Empty, Ended, Filling, Following, Founded, Founding, Freeing}
-use Rattle.mk_stack.proofs.Vocabulary.{Job, Linking, Looking, Making, NeverState, Null, Peeking, Placing, Point}
-use Rattle.mk_stack.proofs.Vocabulary.{Publishing, Reading, Starting, Taking, Testing, Value, done_without, register_at}
-use Rattle.mk_stack.proofs.{Vocabulary.{word_at, words_of}, Invariant.{HasBase, HasFilled, HasFollowed, HasFreed}}
-use Rattle.mk_stack.proofs.{Invariant.{HasLinked, HasOwn, HasSeen, HasTaken, HasTop, Local}, Roles.{Base, Role}}
-use Rattle.mk_stack.proofs.Roles.{RoleKeeps, private_keeps, published_keeps, taken_keeps}
-use Rattle.mk_laws.proofs.Vocabulary.{List, None, Option, Some, ℕ, ap, arith, get_or, inl, inr, ◌<◌, ◌∙◌, ◌≡◌, ◌⊎◌}
+use Rattle.mk_stack.proofs.Vocabulary.{Done, Empty, Founding, Job, NeverState, Null, Point, Value, done_without}
+use Rattle.mk_stack.proofs.{Vocabulary.{register_at, word_at, words_of}, Invariant.{HasBase, HasFilled, HasFollowed}}
+use Rattle.mk_stack.proofs.Invariant.{HasFreed, HasLinked, HasOwn, HasSeen, HasTaken, HasTop, Local}
+use Rattle.mk_stack.proofs.Roles.{Base, Role, RoleKeeps, private_keeps, published_keeps, taken_keeps}
+use Rattle.mk_laws.proofs.Vocabulary.{List, None, Option, Some, ℕ, ap, arith, get_or, ◌<◌, ◌∙◌, ◌≡◌, ◌⊎◌}
 
 -- What a step leaves as it was for caller k. The caller that founds the stack is the first, so no other relies on the
 -- stack having no top.
@@ -17,8 +15,8 @@ pub record Leaves (n : NeverState) (top : Option ℕ) (role : ℕ → Role) (m :
   pub base : k ≡ 0 → top ≡ None → (a : ℕ) → role a ≡ Base → (role' a ≡ Base) × (words_of m a ≡ words_of n a)
   pub roles : (a : ℕ) → RoleKeeps k (role a) (role' a) (words_of m a ≡ words_of n a)
 
-module _ (n : NeverState) (top : Option ℕ) (role : ℕ → Role) (m : NeverState) (top' : Option ℕ) (role' : ℕ → Role)
-    (k : ℕ) (leaves : Leaves n top role m top' role' k) where
+module _ {n : NeverState} {top : Option ℕ} {role : ℕ → Role} {m : NeverState} {top' : Option ℕ} {role' : ℕ → Role}
+    {k : ℕ} (leaves : Leaves n top role m top' role' k) where
   word_same : (a i : ℕ) → words_of m a ≡ words_of n a → word_at m a i ≡ word_at n a i
   word_same a i e = ap (λ (ws : List Value). get_or ws i Null) e
 
@@ -31,11 +29,11 @@ module _ (n : NeverState) (top : Option ℕ) (role : ℕ → Role) (m : NeverSta
       let keeps = private_keeps k (role h.a) (role' h.a) _ h.has (leaves.roles h.a) in
       record { a = h.a; register = leaves.registers 1 (omega arith) ∙ h.register; has = keeps.0 }
 
-  filled_stays : (x : ℕ) → HasFilled n role k x → HasFilled m role' k x
-  filled_stays x h = grind (arith, private_keeps, word_same)
+  filled_stays : {x : ℕ} → HasFilled n role k x → HasFilled m role' k x
+  filled_stays h = grind (arith, private_keeps, word_same)
 
-  linked_stays : (x : ℕ) → HasLinked n role k x → HasLinked m role' k x
-  linked_stays x h = grind (arith, private_keeps, word_same)
+  linked_stays : {x : ℕ} → HasLinked n role k x → HasLinked m role' k x
+  linked_stays h = grind (arith, private_keeps, word_same)
 
   seen_stays : HasSeen n role k → HasSeen m role' k
   seen_stays h =
@@ -45,11 +43,11 @@ module _ (n : NeverState) (top : Option ℕ) (role : ℕ → Role) (m : NeverSta
   followed_stays : HasFollowed n role k → HasFollowed m role' k
   followed_stays h = grind (arith, published_keeps, word_same)
 
-  taken_stays : (u : Option Done) → HasTaken n role k u → HasTaken m role' k u
-  taken_stays u h = grind (arith, taken_keeps, word_same)
+  taken_stays : {u : Option Done} → HasTaken n role k u → HasTaken m role' k u
+  taken_stays h = grind (arith, taken_keeps, word_same)
 
-  freed_stays : (u : Option Done) → HasFreed n role k u → HasFreed m role' k u
-  freed_stays u h = grind (arith, published_keeps, word_same)
+  freed_stays : {u : Option Done} → HasFreed n role k u → HasFreed m role' k u
+  freed_stays h = grind (arith, published_keeps, word_same)
 
   base_stays : k ≡ 0 → top ≡ None → HasBase n role k → HasBase m role' k
   base_stays first none h = grind (arith, word_same)
@@ -57,13 +55,11 @@ module _ (n : NeverState) (top : Option ℕ) (role : ℕ → Role) (m : NeverSta
   checked_stays : (j : Job) (u : Option Done)
       → ((register_at n k 0 ≡ Null) × (u ≡ Some (done_without j))) ⊎ ((u ≡ None) × HasTop n top k)
       → ((register_at m k 0 ≡ Null) × (u ≡ Some (done_without j))) ⊎ ((u ≡ None) × HasTop m top' k)
-  checked_stays j u (inl h) = inl (leaves.registers 0 (omega arith) ∙ h.0, h.1)
-  checked_stays j u (inr h) = inr (h.0, top_stays h.1)
+  checked_stays j u x2 = grind (arith, top_stays)
 
   tested_stays : (u : Option Done) → ((register_at n k 2 ≡ Null) × (u ≡ Some Empty)) ⊎ ((u ≡ None) × HasSeen n role k)
       → ((register_at m k 2 ≡ Null) × (u ≡ Some Empty)) ⊎ ((u ≡ None) × HasSeen m role' k)
-  tested_stays u (inl h) = inl (leaves.registers 2 (omega arith) ∙ h.0, h.1)
-  tested_stays u (inr h) = inr (h.0, seen_stays h.1)
+  tested_stays u x1 = grind (arith, seen_stays)
 
   pub local_stays : (s : Point) (u : Option Done) → Local n top role k s u → Local m top' role' k s u
   local_stays Founding u h = (h.0, leaves.none h.0 h.1)

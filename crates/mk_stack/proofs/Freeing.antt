@@ -3,7 +3,7 @@ use Rattle.mk_stack.proofs.Vocabulary.{Done, Freeing, IsOneOf, NeverState, Null,
 use Rattle.mk_stack.proofs.{Vocabulary.{freed_by, register_at, with_freed, word_at}, Assembly.{Stepped, assemble}}
 use Rattle.mk_stack.proofs.{Assembly.{moved, nothing}, Heaps.{freed_flag, freed_type, freed_words, other_flag}}
 use Rattle.mk_stack.proofs.Invariant.{AllHeld, Core, Fits, HasChain, HasFreed, HasTaken, Inv, IsHeld, Work}
-use Rattle.mk_stack.proofs.Roles.{Base, Freed, Private, Role, Stacked, Taken, Unborn, is_gone, put, put_by, put_other}
+use Rattle.mk_stack.proofs.Roles.{Freed, Private, Role, Stacked, Taken, Unborn, is_gone, put, put_by, put_other}
 use Rattle.mk_stack.proofs.{Roles.{put_same, same_role, size_of}, Chains.{all_numbers_stay, has_chain_stays}}
 use Rattle.mk_stack.proofs.{Exchanges.{put_before, roles_put}, Frames.Leaves, Writes.{base_taken, granted}}
 use Rattle.mk_stack.proofs.Writes.{taken_stacked, unborn_taken}
@@ -16,17 +16,11 @@ freed_private k e = cc
 freed_taken : (k : ℕ) → Freed ≡ Taken k → ⊥
 freed_taken k e = cc
 
-freed_stacked : Freed ≡ Stacked → ⊥
-freed_stacked e = cc
-
-freed_base : Freed ≡ Base → ⊥
-freed_base e = cc
-
 freed_unborn : Freed ≡ Unborn → ⊥
 freed_unborn e = cc
 
 module _ {callers : ℕ} {n : NeverState} {top : Option ℕ} {role : ℕ → Role} {nodes : List ℕ} {W : ℕ → Work}
-    (inv : Inv callers n top role nodes W) (c : ℕ) (u : Option Done) (own : HasTaken n role c u)
+    (inv : Inv callers n top role nodes W) {c : ℕ} {u : Option Done} (own : HasTaken n role c u)
     (held : AllHeld n role c Freeing) where
   abbrev a : ℕ
   a = own.a
@@ -61,7 +55,7 @@ module _ {callers : ℕ} {n : NeverState} {top : Option ℕ} {role : ℕ → Rol
     born = λ lt e. freed_unborn e;
     size = ap length (freed_words n a a) ∙ (inv.core.fits a).size ∙ ap size_of own.has;
     freed = freed_flag n a there;
-    base = λ e. absurd (freed_base e);
+    base = λ e. absurd (cc);
   }
 
   other_fits : (b : ℕ) → b ≢ a → Fits m b (role b)
@@ -72,7 +66,7 @@ module _ {callers : ℕ} {n : NeverState} {top : Option ℕ} {role : ℕ → Rol
     shape = inv.core.shape;
     fits = put_by (λ (b : ℕ) (x : Role). Fits m b x) role a Freed freed_fits other_fits;
     stacked = put_by (λ (b : ℕ) (x : Role). x ≡ Stacked → IsOneOf b nodes) role a Freed
-        (λ e. absurd (freed_stacked e)) (λ b ne e. inv.core.stacked b e);
+        (λ e. absurd (cc)) (λ b ne e. inv.core.stacked b e);
     chain = free_chain;
   }
 
@@ -84,11 +78,9 @@ module _ {callers : ℕ} {n : NeverState} {top : Option ℕ} {role : ℕ → Rol
     pushing = put_by (λ (z : ℕ) (r : Role). r ≡ Private c → ⊥ × (register_at m c 1 ≡ Ptr z 0 0)) role a Freed
         (λ e. absurd (freed_private c e)) (λ z ne e. absurd ((held z).pushing e).0) b;
     freeing = put_by (λ (z : ℕ) (r : Role). r ≡ Taken c → ⊥ × (register_at m c 2 ≡ Ptr z 0 0)) role a Freed
-        (λ e. absurd (freed_taken c e)) (λ z ne e. absurd (ne (same_node z ((held z).freeing e).1))) b;
+        (λ e. absurd (freed_taken c e)) (λ z ne e. absurd (ne (
+        let same : Ptr z 0 0 ≡ Ptr a 0 0 = sym ((held z).freeing e).1 ∙ own.register in cc))) b;
   }
-    where
-      same_node : (z : ℕ) → register_at n c 2 ≡ Ptr z 0 0 → z ≡ a
-      same_node z e = let same : Ptr z 0 0 ≡ Ptr a 0 0 = sym e ∙ own.register in cc
 
   -- It is freed by this.
   pub by_free : (o : Op) (rest : List Replied) → freed_by a n c o ≡ 1 → ((b : ℕ) → b ≢ a → freed_by b n c o ≡ 0)
@@ -99,16 +91,14 @@ module _ {callers : ℕ} {n : NeverState} {top : Option ℕ} {role : ℕ → Rol
     nodes_now = nodes;
     decided = u;
     decision = None;
-    inv = assemble inv c m top now nodes (moved (W c) Reading u rest) free_core free_leaves
+    inv = assemble inv c (moved (W c) Reading u rest) free_core free_leaves
         (λ k b other. put_before role a Freed k b (λ e. freed_private k e) (λ e. freed_taken k e)) freed no_longer;
     left = all_numbers_stay n m top role nodes (λ b e. word b 0) inv.core.chain;
     decides = nothing;
     frees = put_by (λ (b : ℕ) (x : Role). bit (is_gone x) ≡ bit (is_gone (role b)) + freed_by b n c o) role a Freed
-        (sym (ap (λ (r : Role). bit (is_gone r) + freed_by a n c o) own.has ∙ one_more)) (λ b ne. none_more b ne);
+        (sym (ap (λ (r : Role). bit (is_gone r) + freed_by a n c o) own.has ∙
+        (omega (arith, once)))) (λ b ne. none_more b ne);
   }
     where
-      one_more : 0 + freed_by a n c o ≡ 1
-      one_more = omega (arith, once)
-
       none_more : (b : ℕ) → b ≢ a → bit (is_gone (role b)) ≡ bit (is_gone (role b)) + freed_by b n c o
       none_more b ne = omega (arith, others b ne)

@@ -1,8 +1,8 @@
 -- Operations one after the other, from the point of a job where its caller was.
 use Rattle.mk_stack.proofs.Vocabulary.{CallerState, GoesToPoint, HasStackTypes, Leads, PassState, Point, Replied}
-use Rattle.mk_stack.proofs.{Vocabulary.{caller_of_pass, replied_to}, Advances.Advances, Replies.Stays}
-use Rattle.mk_laws.proofs.Vocabulary.{List, ℕ, ap, append_assoc, refl, subst, sym, true, [], ◌++◌, ◌<◌, ◌∙◌, ◌∷◌, ◌≡◌}
-use Rattle.mk_stack.specs.Ready.{IsReady, IsReadyForJobs}
+use Rattle.mk_stack.proofs.Vocabulary.{caller_of_pass}
+use Rattle.mk_laws.proofs.Vocabulary.{List, ℕ, ap, append_assoc, arith, subst, sym, true, [], ◌++◌, ◌<◌, ◌∙◌, ◌∷◌, ◌≡◌}
+use Rattle.mk_stack.{proofs.Advances.Advances, proofs.Replies.Stays, specs.Ready.IsReady, specs.Ready.IsReadyForJobs}
 
 pub leads_through : (s : Point) (xs : List Replied) (t : Point) (ys : List Replied) (u : Point) → Leads s xs t
     → Leads t ys u → Leads s (xs ++ ys) u
@@ -14,23 +14,16 @@ pub seen_then : (p q r : PassState) → q ≡ record p { seen = q.seen } → r �
 seen_then p q r is next = next ∙ ap (λ (s : PassState). record s { seen = r.seen }) is
 
 pub goes_through : {p q r : PassState} {s t u : Point} → GoesToPoint p s q t → GoesToPoint q t r u → GoesToPoint p s r u
-goes_through {p} {q} {r} {s} {t} {u} goes on = record {
-  is = seen_then p q r goes.is on.is;
-  all = goes.all ++ on.all;
-  leads = leads_through s goes.all t on.all u goes.leads on.leads;
-  did = on.did ∙ ap (λ (l : List Replied). l ++ on.all) goes.did ∙ append_assoc (replied_to p) goes.all on.all;
-}
+goes_through goes on = grind (arith, seen_then, leads_through, append_assoc)
 
 goes_once : {p q : PassState} {s t : Point} → Advances p s q t → GoesToPoint p s q t
-goes_once {t} on =
-    record { is = on.is; all = record { op = on.op; reply = on.reply } ∷ []; leads = (t, on.asked, refl); did = on.did }
+goes_once on = grind arith
 
 pub goes_more : {p q r : PassState} {s t u : Point} → GoesToPoint p s q t → Advances q t r u → GoesToPoint p s r u
 goes_more goes on = goes_through goes (goes_once on)
 
 pub goes_held : {p q : PassState} (r : PassState) {s t : Point} → GoesToPoint p s q t → Stays q r → GoesToPoint p s r t
-goes_held {p} {q} r goes on =
-    record { is = seen_then p q r goes.is on.is; all = goes.all; leads = goes.leads; did = on.did ∙ goes.did }
+goes_held r goes on = grind (arith, seen_then)
 
 -- A caller that has seen more is ready still.
 
@@ -42,12 +35,7 @@ ready_on ready home is = record {
   types = subst (λ (q : PassState). HasStackTypes q.table.config) (sym is) ready.types;
 }
 
-pub jobs_on : {E : Type 0} {made_for : E → ℕ} {s t : CallerState} {b : E} (d : E)
-    → IsReadyForJobs made_for s b
+pub jobs_on : {E : Type 0} {made_for : E → ℕ} {s t : CallerState} {b : E} (d : E) → IsReadyForJobs made_for s b
     → t.home ≡ true → t.pass ≡ record s.pass { seen = t.pass.seen } → made_for d ≡ s.pass.table.config.pages
     → IsReadyForJobs made_for t d
-jobs_on {made_for} d ready home is made = record {
-  ready = ready_on ready.ready home is;
-  alone = subst (λ (q : PassState). q.seats ≡ q.seat ∷ []) (sym is) ready.alone;
-  made = subst (λ (q : PassState). made_for d ≡ q.table.config.pages) (sym is) made;
-}
+jobs_on d ready home is made = grind (arith, ready_on)

@@ -4,8 +4,8 @@ use Rattle.mk_stack.proofs.Vocabulary.{Allocation, Done, IsOneOf, NeverState, Nu
 use Rattle.mk_stack.proofs.Vocabulary.{allocation_at, bit, freed_by, kinds_of, no_allocation, with_new, with_register}
 use Rattle.mk_stack.proofs.{Vocabulary.{word_at, words_of, zero_words}, Assembly.{Stepped, assemble, moved}}
 use Rattle.mk_stack.proofs.{Assembly.{none_freed_there, nothing}, Chains.{all_numbers_stay, has_chain_stays}}
-use Rattle.mk_stack.proofs.{Invariant.{AllHeld, Core, Fits, HasChain, Inv, Local, Work}, Roles.{Base, Private, Role}}
-use Rattle.mk_stack.proofs.Roles.{Stacked, Taken, Unborn, is_gone, put, put_by, put_other, same_role, size_of}
+use Rattle.mk_stack.proofs.{Invariant.{AllHeld, Core, Fits, Inv, Local, Work}, Roles.{Base, Private, Role, Stacked}}
+use Rattle.mk_stack.proofs.Roles.{Taken, Unborn, is_gone, put, put_by, put_other, same_role, size_of}
 use Rattle.mk_stack.proofs.{Exchanges.{put_before, roles_put}, Frames.Leaves}
 use Rattle.mk_stack.proofs.{Heaps.{other_allocation, register_of_other}, Writes.{unborn_base, unborn_stacked}}
 use Rattle.mk_laws.proofs.Vocabulary.{List, None, Option, ℕ, ap, arith, false, get_or, length, length-set, refl, sym}
@@ -22,7 +22,8 @@ pub record IsNewRole (n : NeverState) (c ty : ℕ) (r : Role) : Type 0 where
   pub not_taken : (k : ℕ) → r ≢ Taken k
 
 module _ {callers : ℕ} {n : NeverState} {top : Option ℕ} {role : ℕ → Role} {nodes : List ℕ} {W : ℕ → Work}
-    (inv : Inv callers n top role nodes W) (c d ty : ℕ) (r : Role) (below : d < 8) (fits : IsNewRole n c ty r) where
+    (inv : Inv callers n top role nodes W) {c : ℕ} (d : ℕ) {ty : ℕ} {r : Role} (below : d < 8)
+    (fits : IsNewRole n c ty r) where
   abbrev a : ℕ
   a = length n.allocations
 
@@ -56,15 +57,6 @@ module _ {callers : ℕ} {n : NeverState} {top : Option ℕ} {role : ℕ → Rol
   grant_leaves : (k : ℕ) → k ≢ c → Leaves n top role m top now k
   grant_leaves k ne = grind (arith, register_of_other, still, unborn_base, words, not_new, roles_put, was, same_role)
 
-  grant_chain : HasChain m top now nodes
-  grant_chain =
-      has_chain_stays n m top role now nodes refl
-      (λ t e. (still t Base e unborn_base, word t 0 (not_new t Base e unborn_base)))
-      (λ b one e. record {
-        role_now = still b Stacked e unborn_stacked;
-        link = word b 1 (not_new b Stacked e unborn_stacked);
-      }) inv.core.chain
-
   count : length m.allocations ≡ a + 1
   count = length_push n.allocations _
 
@@ -80,22 +72,24 @@ module _ {callers : ℕ} {n : NeverState} {top : Option ℕ} {role : ℕ → Rol
     fits = put_by (λ (b : ℕ) (x : Role). Fits m b x) role a r new_fits other_fits;
     stacked = put_by (λ (b : ℕ) (x : Role). x ≡ Stacked → IsOneOf b nodes) role a r
         (λ e. absurd (fits.not_stacked e)) (λ b ne e. inv.core.stacked b e);
-    chain = grant_chain;
+    chain = has_chain_stays n m top role now nodes refl
+        (λ t e. (still t Base e unborn_base, word t 0 (not_new t Base e unborn_base))) (λ b one e. record {
+          role_now = still b Stacked e unborn_stacked;
+          link = word b 1 (not_new b Stacked e unborn_stacked);
+        }) inv.core.chain;
   }
 
-  pub by_grant : {s : Point} {u : Option Done} {o : Op} {next : Point} {rest : List Replied}
-      → Local m top now c next u → AllHeld m now c next → ((b : ℕ) → freed_by b n c o ≡ 0)
-      → Stepped callers n role nodes W c s u o next rest m
+  pub by_grant : {s : Point} {u : Option Done} {o : Op} {next : Point} {rest : List Replied} → Local m top now c next u
+      → AllHeld m now c next → ((b : ℕ) → freed_by b n c o ≡ 0) → Stepped callers n role nodes W c s u o next rest m
   by_grant {u} {next} {rest} local held frees = record {
     top_now = top;
     role_now = now;
     nodes_now = nodes;
     decided = u;
     decision = None;
-    inv = assemble inv c m top now nodes (moved (W c) next u rest) grant_core grant_leaves
+    inv = assemble inv c (moved (W c) next u rest) grant_core grant_leaves
         (λ k b ne. put_before role a r k b (fits.of_caller k ne) (fits.not_taken k)) local held;
-    left = all_numbers_stay n m top role nodes (λ b e. word b 0
-        (not_new b Stacked e unborn_stacked)) inv.core.chain;
+    left = all_numbers_stay n m top role nodes (λ b e. word b 0 (not_new b Stacked e unborn_stacked)) inv.core.chain;
     decides = nothing;
     frees = λ b. none_freed_there role a r (fits.not_gone ∙ sym (ap is_gone was)) b
         ∙ ap (λ (x : ℕ). bit (is_gone (role b)) + x) (sym (frees b));

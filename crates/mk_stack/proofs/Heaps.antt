@@ -1,11 +1,11 @@
 -- What single operations leave of a heap of small objects, and what they reply.
-use Rattle.std.proofs.Common.{le-ltb, set}
-use Rattle.mk_stack.proofs.Vocabulary.{Allocation, NeverState, Null, Ptr, Unmapped, Value, WordOf, allocation_at}
-use Rattle.mk_stack.proofs.Vocabulary.{is_unmapped, no_allocation, register_at, target_of, with_freed, with_new}
-use Rattle.mk_stack.proofs.Vocabulary.{with_register, with_word, word_at, words_of}
-use Rattle.mk_laws.proofs.Vocabulary.{Bool, List, ℕ, and_right, ap, arith, false, get_or, get_or-set_other}
-use Rattle.mk_laws.proofs.Vocabulary.{get_or-set_same, if◌then◌else◌, is_large, length, length-set, refl, set_by, suc}
-use Rattle.mk_laws.proofs.Vocabulary.{sym, true, zero, [], ◌*◌, ◌++◌, ◌+◌, ◌<◌, ◌∙◌, ◌∷◌, ◌≡◌, ◌≢◌, ◌≤◌}
+use Rattle.std.proofs.Common.{le-ltb}
+use Rattle.mk_stack.proofs.Vocabulary.{Allocation, NeverState, Null, Ptr, Value, WordOf, allocation_at, is_unmapped}
+use Rattle.mk_stack.proofs.Vocabulary.{no_allocation, register_at, target_of, with_freed, with_new, with_register}
+use Rattle.mk_stack.proofs.Vocabulary.{with_word, word_at, words_of}
+use Rattle.mk_laws.proofs.Vocabulary.{List, ℕ, and_right, ap, arith, false, get_or, get_or-set_other, get_or-set_same}
+use Rattle.mk_laws.proofs.Vocabulary.{is_large, length, length-set, refl, set_by, suc, sym, true, zero, [], ◌*◌, ◌++◌}
+use Rattle.mk_laws.proofs.Vocabulary.{◌+◌, ◌<◌, ◌∙◌, ◌∷◌, ◌≡◌, ◌≢◌, ◌≤◌}
 
 -- An access through a pointer to a small object gets to its word.
 small_is_mapped : (a : Allocation) → length a.words ≤ 2 → is_unmapped a ≡ false
@@ -52,10 +52,7 @@ pub written_size : (n : NeverState) (a w b : ℕ) (v : Value)
     → length (words_of (with_word n a w v) b) ≡ length (words_of n b)
 written_size n a w b v =
     set_by (λ (x : Allocation). length x.words ≡ length (words_of n b)) n.allocations a b _ no_allocation
-    (λ e. length-set-of e) refl
-  where
-    length-set-of : b ≡ a → length (set (words_of n a) w v) ≡ length (words_of n b)
-    length-set-of e = omega (arith, length-set (words_of n a) w v, ap (λ (x : ℕ). length (words_of n x)) e)
+    (λ e. omega (arith, length-set (words_of n a) w v, ap (λ (x : ℕ). length (words_of n x)) e)) refl
 
 pub written_flag : (n : NeverState) (a w b : ℕ) (v : Value)
     → (allocation_at (with_word n a w v) b).freed ≡ (allocation_at n b).freed

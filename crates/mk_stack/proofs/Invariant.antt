@@ -4,8 +4,8 @@ use Rattle.mk_stack.proofs.Vocabulary.{Freeing, IsOneOf, JobRun, Kind, Linking, 
 use Rattle.mk_stack.proofs.Vocabulary.{Peeking, Placing, Point, Popped, Ptr, Publishing, Reading, Replied, Starting}
 use Rattle.mk_stack.proofs.Vocabulary.{Taking, Testing, Value, allocation_at, done_without, global_at, kinds_of}
 use Rattle.mk_stack.proofs.Vocabulary.{node_kinds, number_of, register_at, top_kinds, word_at}
-use Rattle.mk_stack.proofs.Roles.{Base, IsPublished, Private, Role, Stacked, Taken, Unborn, is_gone, size_of}
 use Rattle.mk_laws.proofs.Vocabulary.{List, None, Option, Some, ℕ, length, [], ◌*◌, ◌<◌, ◌∷◌, ◌≡◌, ◌≢◌, ◌≤◌, ◌⊎◌}
+use Rattle.mk_stack.proofs.Roles.{Base, IsPublished, Private, Role, Stacked, Taken, Unborn, is_gone, size_of}
 
 abbrev pub IsNotAmong : ℕ → List ℕ → Type 0
 IsNotAmong a [] = Unit {0}

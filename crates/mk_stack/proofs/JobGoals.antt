@@ -3,18 +3,14 @@ use Rattle.mk_stack.proofs.Vocabulary.{Asks, Done, Empty, Ended, Founded, Foundi
 use Rattle.mk_stack.proofs.Vocabulary.{Placing, Point, Pop, Popped, Push, Pushed, Replied, Reply, Starting}
 use Rattle.mk_stack.proofs.Vocabulary.{done_without, fail, find_no_room, found, lack, miss, op_at, place, publish, read}
 use Rattle.mk_stack.proofs.{Invariant.{IsFreeing, IsPushing, Local}, Assembly.{IsOfJob, job_at}, Roles.Role}
-use Rattle.mk_laws.proofs.Vocabulary.{List, None, Option, Some, ℕ, refl, subst, sym, [], ◌∙◌, ◌∷◌, ◌≡◌}
+use Rattle.mk_laws.proofs.Vocabulary.{List, None, Option, Some, ℕ, arith, refl, subst, sym, [], ◌∙◌, ◌∷◌, ◌≡◌}
 use Rattle.mk_stack.specs.Advancing.{IsFit, IsGoal}
 
 pub goal_pushes_nothing : (g : Point) → IsGoal g → IsPushing g → ⊥
-goal_pushes_nothing Founded h p = p
-goal_pushes_nothing (Ended d) h p = p
-goal_pushes_nothing _ h p = absurd h
+goal_pushes_nothing x0 h p = grind arith
 
 pub goal_frees_nothing : (g : Point) → IsGoal g → IsFreeing g → ⊥
-goal_frees_nothing Founded h p = p
-goal_frees_nothing (Ended d) h p = p
-goal_frees_nothing _ h p = absurd h
+goal_frees_nothing x0 h p = grind arith
 
 -- Where nothing is asked any more
 pub is_goal : (t : Point) → ((o : Op) → op_at t ≡ Some o → ⊥) → IsGoal t
@@ -40,9 +36,8 @@ ended : (d : Done) (u : Option Done) → u ≡ Some d → u ≡ None → ⊥
 ended d u some none = none_some d (sym some ∙ none)
 
 -- While it isn't decided it is the same job.
-pub same_job : {s : Point} {o : Op} {r : Reply} {next : Point} → Asks s o r next
-    → (m : NeverState) (top : Option ℕ) (role : ℕ → Role) (k : ℕ) (u : Option Done) → Local m top role k next u
-    → u ≡ None → job_at next ≡ job_at s
+pub same_job : {s : Point} {o : Op} {r : Reply} {next : Point} → Asks s o r next → (m : NeverState) (top : Option ℕ)
+    (role : ℕ → Role) (k : ℕ) (u : Option Done) → Local m top role k next u → u ≡ None → job_at next ≡ job_at s
 same_job (lack) m top role k u local none = absurd (ended _ u local none)
 same_job (fail {n = x}) m top role k u local none = absurd (ended _ u local none)
 same_job (publish {n = x}) m top role k u local none = absurd (ended _ u local none)
@@ -57,8 +52,7 @@ IsAtJob j (Ended d) = IsFit j d
 IsAtJob j s = job_at s ≡ j
 
 fit_without : (j j' : Job) → j ≡ j' → IsFit j' (done_without j)
-fit_without (Push x) j' is = subst (λ (k : Job). IsFit k Full) is tt
-fit_without Pop j' is = subst (λ (k : Job). IsFit k Empty) is tt
+fit_without x0 j' is = grind arith
 
 job_stays : {s : Point} {o : Op} {r : Reply} {next : Point} → Asks s o r next → (j : Job) → IsAtJob j s → IsAtJob j next
 job_stays (lack {j = i}) j is = fit_without i j is
@@ -102,24 +96,15 @@ leads_founding s [] t h leads = subst IsFounding leads h
 leads_founding s (x ∷ xs) t h leads = leads_founding leads.0 xs t (founding_stays leads.1 h) leads.2
 
 pub founding_ends : (xs : List Replied) (t : Point) → IsGoal t → Leads Founding xs t → t ≡ Founded
-founding_ends xs Founded goal leads = refl
-founding_ends xs (Ended d) goal leads = absurd (leads_founding Founding xs (Ended d) tt leads)
-founding_ends xs _ goal leads = absurd goal
+founding_ends xs x1 goal leads = grind (arith, leads_founding)
 
 pub fit_as : {j : Job} {t : Point} (d : Done) → EndsAs j t → t ≡ Ended d → IsFit j d
-fit_as {j} d ends is =
-    let same : Ended ends.done ≡ Ended d = sym ends.is ∙ is in
-    let done : ends.done ≡ d = cc in
-    subst (IsFit j) done ends.fit
+fit_as {j} d ends is = grind (arith, Ended)
 
 -- A push that isn't done was full, and a pop without a number found nothing.
 
 pub full_unless_pushed : (n : ℕ) (d : Done) → IsFit (Push n) d → (d ≡ Pushed → ⊥) → d ≡ Full
-full_unless_pushed n Pushed fit other = absurd (other refl)
-full_unless_pushed n Full fit other = refl
-full_unless_pushed n _ fit other = absurd fit
+full_unless_pushed n x1 fit other = grind arith
 
 pub empty_unless_popped : (d : Done) → IsFit Pop d → ((n : ℕ) → d ≡ Popped n → ⊥) → d ≡ Empty
-empty_unless_popped (Popped n) fit other = absurd (other n refl)
-empty_unless_popped Empty fit other = refl
-empty_unless_popped _ fit other = absurd fit
+empty_unless_popped x0 fit other = grind arith

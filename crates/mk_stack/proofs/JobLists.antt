@@ -1,10 +1,9 @@
 -- A caller does one job more of its list.
 use Rattle.std.proofs.lemmas.List.{take_more}
 use Rattle.mk_stack.proofs.Vocabulary.{AreJobRuns, DoesJobs, Done, Job, JobRun, PassState, replied_to}
+use Rattle.mk_laws.proofs.Vocabulary.{List, ℕ, ap, get_or, length, refl, take, [], ◌++◌, ◌+◌, ◌<◌, ◌∙◌, ◌∷◌, ◌≡◌}
 use Rattle.mk_stack.proofs.StackHistories.{jobs_add_up}
-use Rattle.mk_laws.proofs.Vocabulary.{List, ℕ, ap, get_or, length, refl, subst, sym, take, [], ◌++◌, ◌+◌, ◌<◌, ◌∙◌, ◌∷◌}
-use Rattle.mk_laws.proofs.Vocabulary.{◌≡◌}
-use Rattle.mk_stack.specs.{Histories.AddsJob, JobLists.{dones_of, jobs_of}, Jobs.IsJobRun, Passes.DoesJob}
+use Rattle.mk_stack.specs.{Histories.AddsJob, JobLists.dones_of, JobLists.jobs_of, Jobs.IsJobRun, Passes.DoesJob}
 
 one_run_more : (rs : List JobRun) (r : JobRun) → AreJobRuns rs → IsJobRun r → AreJobRuns (rs ++ r ∷ [])
 one_run_more [] r are is = (is, tt)

@@ -17,9 +17,9 @@ use Rattle.mk_words.{proofs.Seats.{has_first, has_left, has_right, others_own, w
 
 -- What a caller did stands where the list goes on by events of others.
 
-pub still_replied : (c : Config) (k : ℕ) {es fs : List Event} → Grows (Caller k ∷ []) es fs
+pub still_replied : (c : Config) {k : ℕ} {es fs : List Event} → Grows (Caller k ∷ []) es fs
     → replied_in c k fs ≡ replied_in c k es
-still_replied c k {es} g = ap (replied_in c k) g.is ∙ same_replied c k es g.more (none_of c k es g.more g.of_others)
+still_replied c g = grind (arith, same_replied, none_of)
 
 still_done : {c : Config} {es fs : List Event} {first : List Replied} {k : ℕ} {jobs : List Job} {dones : List Done}
     → Grows (Caller k ∷ []) es fs → HasDone c es first k jobs dones → HasDone c fs first k jobs dones
@@ -69,11 +69,9 @@ pub done_by : {w : WordsState} {k : ℕ} {p q : PassState} {jobs : List Job} {do
 done_by {w} {k} {p} {q} ready does = grind arith
 
 pub all_done_by : {w : WordsState} {k : ℕ} {p : PassState} (q : PassState) (jobs : List Job)
-    (dones : Result Dones NoMemory)
-    → IsBetweenJobs w k p → IfOk dones (λ ds. DoesJobs p jobs ds.list.items q)
+    (dones : Result Dones NoMemory) → IsBetweenJobs w k p → IfOk dones (λ ds. DoesJobs p jobs ds.list.items q)
     → IfOk dones (λ ds. HasDone w.config q.seen (replied_to p) k jobs ds.list.items)
-all_done_by q jobs (Ok ds) ready does = done_by ready does
-all_done_by q jobs (Err e) ready does = tt
+all_done_by q jobs x2 ready does = grind (arith, done_by)
 
 pub no_lists : (lists : List Jobs) → length lists ≡ 0 → lists ≡ []
 no_lists [] e = refl
@@ -83,8 +81,7 @@ no_lists (x ∷ xs) e = absurd (omega (arith, e))
 
 none_done : {V : Type 0} (items : V → List Dones) (c : Config) (es : List Event) (first : List Replied) (k : ℕ)
     (all : Result V NoMemory) → IfOk all (λ a. items a ≡ []) → IfOk all (λ a. HaveDone c es first k [] (items a))
-none_done items c es first k (Ok a) is = subst (HaveDone c es first k []) (sym is) tt
-none_done items c es first k (Err e) is = tt
+none_done items c es first k x5 is = grind arith
 
 pub none_joined : {w : WordsState} {markers n : ℕ} (joined : Joined) → HasHandedOut w markers n joined.host
     → IfOk joined.dones (λ all. all.items ≡ []) → HaveWorked w markers [] n [] joined
@@ -114,12 +111,10 @@ dones_joined items c es {fs} before k jobs lists (Ok x) (Ok xs) (Ok all) mine th
 pub one_joined : {w : WordsState} {markers : ℕ} {first : List Replied} {k : ℕ} (jobs : Jobs) {others : List Jobs}
     {worked : Worked} {joined : Joined} (all : Joined) → HasWorked w first k jobs.list.items worked
     → HaveWorked w markers [] (k + 1) others joined → all.host ≡ with_joined joined.host worked.pass all.host.pass.seen
-    → Grows joined.host.pass.seats joined.host.pass.seen all.host.pass.seen
-    → Grows worked.pass.seats worked.pass.seen all.host.pass.seen
-    → has_over all.host.pass.seen ≡ has_over joined.host.pass.seen
-    → OnOk all.dones (IsOk worked.dones) → OnOk all.dones (IsOk joined.dones)
-    → IfOk all.dones (λ a. IfOk worked.dones (λ x. IfOk joined.dones (λ xs. a.items ≡ x ∷ xs.items)))
-    → HaveWorked w markers first k (jobs ∷ others) all
+    → Grows joined.host.pass.seats joined.host.pass.seen all.host.pass.seen → Grows worked.pass.seats worked.pass.seen
+    all.host.pass.seen → has_over all.host.pass.seen ≡ has_over joined.host.pass.seen → OnOk all.dones
+    (IsOk worked.dones) → OnOk all.dones (IsOk joined.dones) → IfOk all.dones (λ a. IfOk worked.dones
+    (λ x. IfOk joined.dones (λ xs. a.items ≡ x ∷ xs.items))) → HaveWorked w markers first k (jobs ∷ others) all
 one_joined {w} {first} {k} jobs {others} {worked} {joined} all one rest is own came overs a b items =
     let p = worked.pass in
     let h = joined.host in
@@ -149,10 +144,9 @@ one_joined {w} {first} {k} jobs {others} {worked} {joined} all one rest is own c
 
 -- The work of a caller's thread
 pub has_worked : {w : WordsState} {k : ℕ} {p : PassState} (s : CallerState) {q : PassState} (r : PassState)
-    (jobs : List Job)
-    (dones : Result Dones NoMemory) → IsBetweenJobs w k p → s ≡ at_home p → q ≡ record s.pass { seen = q.seen }
-    → IfOk dones (λ ds. DoesJobs s.pass jobs ds.list.items q) → r ≡ q → IsIdleCaller q
-    → HasWorked w (replied_to p) k jobs (record { pass = r; dones = dones })
+    (jobs : List Job) (dones : Result Dones NoMemory) → IsBetweenJobs w k p → s ≡ at_home p
+    → q ≡ record s.pass { seen = q.seen } → IfOk dones (λ ds. DoesJobs s.pass jobs ds.list.items q) → r ≡ q
+    → IsIdleCaller q → HasWorked w (replied_to p) k jobs (record { pass = r; dones = dones })
 has_worked {w} {k} {p} s {q} r jobs dones ready home is does same idle = grind (arith, is_ready, all_done_by)
 
 -- A caller between two jobs may do the next one.

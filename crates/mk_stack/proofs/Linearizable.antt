@@ -5,10 +5,10 @@ use Rattle.mk_stack.proofs.Vocabulary.{Replied, after_calls, allocation_at, bit,
 use Rattle.mk_stack.proofs.{Invariant.{Core, Inv, Local, Work}, Roles.{Base, Freed, Private, Role, Stacked, Taken}}
 use Rattle.mk_stack.proofs.{Roles.{Unborn, is_gone}, Writes.{granted, unborn_base, unborn_private, unborn_stacked}}
 use Rattle.mk_stack.proofs.{Writes.unborn_taken, Chains.{on_stack_role, stack_is_linked}, Owing.{IsWork, Ran}}
-use Rattle.mk_stack.{proofs.Running.{run_all}, specs.Laws.{StacksAreLinearizable, times_freed}}
-use Rattle.mk_stack.specs.{Interleavings.{IsInterleaved, jobs_of_first}, Laws.{IsExplained, IsLinearized, LeaksNothing}}
+use Rattle.mk_stack.{proofs.Running.{run_all}, specs.Interleavings.{IsInterleaved, jobs_of_first}}
 use Rattle.mk_laws.proofs.Vocabulary.{List, None, ℕ, arith, drop, length, refl, suc, take, zero, [], ◌*◌, ◌<◌, ◌≡◌}
 use Rattle.mk_never.specs.NeverHeap.{start_of}
+use Rattle.mk_stack.specs.Laws.{IsExplained, IsLinearized, LeaksNothing, StacksAreLinearizable, times_freed}
 
 -- The first caller founds the stack; each other one begins with its first job.
 first_work : List Replied → (ℕ → List JobRun) → ℕ → Work
@@ -17,7 +17,7 @@ first_work founding runs zero =
 first_work founding runs (suc k) =
     record { point = Founded; decided = None; rest = []; goal = Founded; later = runs (suc k) }
 
-module _ (types : List (List Kind)) (callers : ℕ) (founding : List Replied) (runs : ℕ → List JobRun) (calls : List Call)
+module _ {types : List (List Kind)} {callers : ℕ} {founding : List Replied} {runs : ℕ → List JobRun} {calls : List Call}
     (h : IsInterleaved types callers founding runs calls) where
   abbrev n : NeverState
   n = start_of types callers
@@ -119,5 +119,4 @@ module _ (types : List (List Kind)) (callers : ℕ) (founding : List Replied) (r
   }
 
 pub stacks_are_linearizable : StacksAreLinearizable
-stacks_are_linearizable types callers founding runs calls h =
-    explained types callers founding runs calls h (all types callers founding runs calls h)
+stacks_are_linearizable types callers founding runs calls h = explained h (all h)

@@ -1,10 +1,10 @@
 -- What the registers and words of a stack's heap point to, and what its callers may ask.
 use Rattle.std.proofs.Common.{IfSome, slice_get}
-use Rattle.mk_stack.proofs.Vocabulary.{IsPointerTo, IsTyped, Kind, MayPointTo, NeverState, Null, Num, Number, Ptr, To}
-use Rattle.mk_stack.proofs.Vocabulary.{Value, WordOf, allocation_at, global_at, kinds_of, node_kinds, register_at}
-use Rattle.mk_stack.proofs.{Vocabulary.{target_of, top_kinds, word_at, words_of}, Heaps.reaches}
-use Rattle.mk_laws.proofs.Vocabulary.{List, Meets, Option, Some, Suits, ℕ, ap, arith, get_or, length, refl, subst, sym}
-use Rattle.mk_laws.proofs.Vocabulary.{◌+◌, ◌<◌, ◌∙◌, ◌≡◌, ◌≤◌}
+use Rattle.mk_stack.proofs.Vocabulary.{IsPointerTo, IsTyped, Kind, MayPointTo, NeverState, Null, Number, To, Value}
+use Rattle.mk_stack.proofs.Vocabulary.{WordOf, allocation_at, global_at, kinds_of, node_kinds, register_at, target_of}
+use Rattle.mk_stack.proofs.{Vocabulary.{top_kinds, word_at, words_of}, Heaps.reaches}
+use Rattle.mk_laws.proofs.Vocabulary.{List, Meets, Option, Some, Suits, ℕ, arith, get_or, length, refl, subst, sym, ◌+◌}
+use Rattle.mk_laws.proofs.Vocabulary.{◌<◌, ◌≡◌, ◌≤◌}
 use Rattle.mk_never.specs.Admitted.{IsCaller, IsOfKind}
 
 -- a state of such a heap, and one of its callers
@@ -24,26 +24,24 @@ pub record IsObject (n : NeverState) (a : ℕ) (ks : List Kind) : Type 0 where
   pub words : (i : ℕ) → i < length ks → Suits n (word_at n a i) (get_or ks i Number)
 
 module _ {globals : List ℕ} {n : NeverState} {k : ℕ} (state : IsStackState globals n k) where
-  pub object : (ty r : ℕ) (ks : List Kind) → kinds_of n.types ty ≡ ks → (h : IsPointerTo ty (register_at n k r))
+  pub object : {ty : ℕ} (r : ℕ) (ks : List Kind) → kinds_of n.types ty ≡ ks → (h : IsPointerTo ty (register_at n k r))
       → IsObject n h.number ks
-  object ty r ks kinds h = grind arith
+  object r ks kinds h = grind arith
 
   -- An access through it is inside, and the word is of its kind.
-  pub meets : (P : Kind → Type 0) (ty r i : ℕ) (ks : List Kind) → kinds_of n.types ty ≡ ks
+  pub meets : (P : Kind → Type 0) {ty : ℕ} (r i : ℕ) (ks : List Kind) → kinds_of n.types ty ≡ ks
       → IsPointerTo ty (register_at n k r) → i < length ks → P (get_or ks i Number) → Meets n (register_at n k r) i P
-  meets P ty r i ks kinds h lt holds = grind (arith, object)
+  meets P r i ks kinds h lt holds = grind (arith, object)
 
-  pub gets_to : (ty r i : ℕ) (ks : List Kind) → kinds_of n.types ty ≡ ks → length ks ≤ 2
+  pub gets_to : {ty : ℕ} (r i : ℕ) (ks : List Kind) → kinds_of n.types ty ≡ ks → length ks ≤ 2
       → (h : IsPointerTo ty (register_at n k r)) → target_of n (register_at n k r) i ≡ WordOf h.number (0 + i)
-  gets_to ty r i ks kinds small h =
-      let o : IsObject n h.number ks = object ty r ks kinds h in
-      reaches n k r h.number ty 0 i h.is (omega (arith, o.size, small))
+  gets_to r i ks kinds small h = grind (arith, object, reaches)
 
   pub top_word : (r : ℕ) → (h : IsPointerTo 1 (register_at n k r)) → MayPointTo 0 (word_at n h.number 0)
-  top_word r h = ((object 1 r top_kinds state.top h).words 0 (omega arith)).1
+  top_word r h = ((object r top_kinds state.top h).words 0 (omega arith)).1
 
   pub node_link : (r : ℕ) → (h : IsPointerTo 0 (register_at n k r)) → MayPointTo 0 (word_at n h.number 1)
-  node_link r h = ((object 0 r node_kinds state.node h).words 1 (omega arith)).1
+  node_link r h = ((object r node_kinds state.node h).words 1 (omega arith)).1
 
   pub global_kind : MayPointTo 1 (global_at n 0)
   global_kind =
@@ -55,7 +53,4 @@ may_point {ty} h = subst (λ (x : Value). IsOfKind x (To ty 0)) (sym h.is) (refl
 
 -- What may be a pointer, and isn't null, is one.
 pub not_null_points : (ty : ℕ) (v : Value) → MayPointTo ty v → (v ≡ Null → ⊥) → IsPointerTo ty v
-not_null_points ty Null may some = absurd (some refl)
-not_null_points ty (Num m) may some = absurd may
-not_null_points ty (Ptr a t offset) may some =
-    record { number = a; is = ap (λ (x : ℕ). Ptr a x offset) may.0 ∙ ap (Ptr a ty) may.1 }
+not_null_points ty x1 may some = grind arith

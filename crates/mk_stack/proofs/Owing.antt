@@ -1,13 +1,12 @@
 -- What callers still have to do, what is still to be decided of it, and what one operation more makes of that.
-use Rattle.std.proofs.Common.{option_and_then}
-use Rattle.mk_stack.proofs.Vocabulary.{AreDecidedOnce, AreJobRuns, Call, Done, Ended, Founded, Job, JobRun, Leads}
+use Rattle.mk_stack.proofs.Vocabulary.{AreDecidedOnce, AreJobRuns, Call, Done, Ended, Founded, JobRun, Leads}
 use Rattle.mk_stack.proofs.Vocabulary.{NeverState, Op, Ordered, Point, Replied, after_calls, after_op, all_of, bit}
 use Rattle.mk_stack.proofs.Vocabulary.{numbers_in, order_of, own_decisions, own_replied, reply_of}
 use Rattle.mk_stack.proofs.{Assembly.{Decides, IsLeft, IsOfJob, job_at, nothing, settles}, Invariant.{Core, Inv}}
 use Rattle.mk_stack.proofs.{Invariant.{IsFreeing, IsPushing, Local, Work}, Roles.{Private, Role, Taken, is_gone}}
 use Rattle.mk_stack.proofs.JobGoals.{goal_frees_nothing, goal_pushes_nothing}
-use Rattle.mk_laws.proofs.Vocabulary.{Bool, List, None, Option, Some, ℕ, ap, arith, drop, eq-eqb, if◌then◌else◌, length}
-use Rattle.mk_laws.proofs.Vocabulary.{ne_eqb, refl, replies_of, subst, sym, take, [], ◌++◌, ◌+◌, ◌∙◌, ◌∷◌, ◌≡◌, ◌≢◌}
+use Rattle.mk_laws.proofs.Vocabulary.{List, None, Option, Some, ℕ, arith, drop, eq-eqb, length, ne_eqb, refl}
+use Rattle.mk_laws.proofs.Vocabulary.{replies_of, subst, sym, take, [], ◌++◌, ◌+◌, ◌∙◌, ◌∷◌, ◌≡◌, ◌≢◌}
 use Rattle.mk_stack.specs.{Advancing.IsGoal, Jobs.IsJobRun, Laws.{NoneIsDouble, times_freed}, Orders.left_by_all}
 
 -- what a caller still has to do
@@ -68,11 +67,7 @@ pub record IsSettled (k : ℕ) (s : Point) (u : Option Done) (g : Point) : Type 
 
 pub settled : (n : NeverState) (top : Option ℕ) (role : ℕ → Role) (k : ℕ) (s : Point) (u : Option Done) (g : Point)
     → IsGoal g → s ≡ g → Local n top role k s u → IsSettled k s u g
-settled n top role k s u Founded goal is local = grind (arith, nothing)
-settled n top role k s u (Ended d) goal is local =
-    let done : u ≡ Some d = subst (λ (p : Point). Local n top role k p u) is local in
-    subst (λ (x : Option Done). IsSettled k s x (Ended d)) (sym done) (record { agrees = refl; nothing = refl })
-settled n top role k s u _ goal is local = absurd goal
+settled n top role k s u x6 goal is local = grind (arith, nothing)
 
 -- A job has an operation.
 pub begins : (r : JobRun) → IsJobRun r → r.all ≡ [] → ⊥
@@ -95,9 +90,6 @@ module _ {callers : ℕ} {n : NeverState} {top : Option ℕ} {role : ℕ → Rol
       let none = nothing_left (W k).rest (all_of (W k).later) (work k).own in
       subst (λ (xs : List Replied). Leads (W k).point xs (W k).goal) none.0 (work k).leads
 
-  done_once : (k : ℕ) → IsOnce k (W k) []
-  done_once k = grind (arith, nothing_left, settles, settled, at_goal, no_jobs_left)
-
   pub all_done : Ran callers n role nodes W []
   all_done = record {
     end = record {
@@ -113,7 +105,7 @@ module _ {callers : ℕ} {n : NeverState} {top : Option ℕ} {role : ℕ → Rol
     decisions = [];
     one_each = refl;
     explained = refl;
-    once = done_once;
+    once = λ k. grind (arith, nothing_left, settles, settled, at_goal, no_jobs_left);
     frees = λ a. omega arith;
     single = tt;
   }
@@ -139,17 +131,12 @@ decision_of_other k c o xs d ds other = rw (ne_eqb c k (λ e. other (sym e))) re
 -- One decision before others
 pub explained_more : (d : Option Ordered) (xs ys : List ℕ) (zs : List ℕ) (ds : List (Option Ordered)) → IsLeft d xs ys
     → left_by_all ys (order_of ds) ≡ Some zs → left_by_all xs (order_of (d ∷ ds)) ≡ Some zs
-explained_more None xs ys zs ds left rest = ap (λ (l : List ℕ). left_by_all l (order_of ds)) (sym left) ∙ rest
-explained_more (Some e) xs ys zs ds left rest =
-    ap (option_and_then (λ (l : List ℕ). left_by_all l (order_of ds))) left ∙ rest
+explained_more x0 xs ys zs ds left rest = grind arith
 
 -- The same is owed after a step that decides nothing,
 pub owed_same : (c : ℕ) (s next : Point) (u : Option Done) (g : Point) → (u ≡ None → job_at next ≡ job_at s)
     → owed c next u g ≡ owed c s u g
-owed_same c s next None (Ended d) same = ap (λ (j : Job). record { caller = c; job = j; done = d } ∷ []) (same refl)
-owed_same c s next (Some y) (Ended d) same = refl
-owed_same c s next None _ same = refl
-owed_same c s next (Some y) _ same = refl
+owed_same c s next x3 x4 same = grind arith
 
 -- and nothing after one that decides the job.
 pub record IsOnceMore (c : ℕ) (s : Point) (u : Option Done) (d : Option Ordered) (g : Point) (ds : List
@@ -157,11 +144,11 @@ pub record IsOnceMore (c : ℕ) (s : Point) (u : Option Done) (d : Option Ordere
   pub agrees : Agrees u g
   pub first : order_of (d ∷ ds) ≡ owed c s u g
 
-pub once_more : (c : ℕ) (s next : Point) (u : Option Done) (d : Option Ordered) (u' : Option Done) (g : Point)
+pub once_more : {c : ℕ} {s : Point} (next : Point) {u : Option Done} {d : Option Ordered} {u' : Option Done} (g : Point)
     (ds : List (Option Ordered)) → Decides c s u d u' → (u' ≡ None → job_at next ≡ job_at s)
     → IsGoal g → (IsOfJob s → g ≢ Founded) → Agrees u' g → order_of ds ≡ owed c next u' g → IsOnceMore c s u d g ds
-once_more c s next u d u' g ds (nothing {u = x}) same goal of_job agrees first =
+once_more {c} {s} next {u' = u'} g ds (nothing {u = x}) same goal of_job agrees first =
     record { agrees = agrees; first = first ∙ owed_same c s next u' g same }
-once_more c s next u d u' (Ended e) ds (settles {d = y} h) same goal of_job agrees first = grind (arith, entry)
-once_more c s next u d u' Founded ds (settles {d = y} h) same goal of_job agrees first = absurd (of_job h refl)
-once_more c s next u d u' _ ds (settles {d = y} h) same goal of_job agrees first = absurd goal
+once_more next (Ended e) ds (settles {d = y} h) same goal of_job agrees first = grind (arith, entry)
+once_more next Founded ds (settles {d = y} h) same goal of_job agrees first = absurd (of_job h refl)
+once_more next _ ds (settles {d = y} h) same goal of_job agrees first = absurd goal

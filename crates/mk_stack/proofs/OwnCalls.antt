@@ -2,21 +2,19 @@
 use Rattle.std.proofs.lemmas.List.{append_cancel_left}
 use Rattle.mk_stack.proofs.Vocabulary.{AreAllBy, AreBelow, AreOfOthers, Call, Caller, Config, Decided, Event, asked}
 use Rattle.mk_stack.proofs.Vocabulary.{calls, calls_from, left}
-use Rattle.mk_laws.proofs.Vocabulary.{Bool, List, ℕ, ap, append-nil, cases_eq, eq-eqb, false, if◌then◌else◌, inl, inr}
-use Rattle.mk_laws.proofs.Vocabulary.{refl, sym, true, [], ◌++◌, ◌<◌, ◌==◌, ◌∙◌, ◌∷◌, ◌≡◌, ◌≢◌, ◌⊎◌}
+use Rattle.mk_laws.proofs.Vocabulary.{Bool, List, ℕ, ap, append-nil, arith, cases_eq, eq-eqb, if◌then◌else◌, inl, inr}
+use Rattle.mk_laws.proofs.Vocabulary.{refl, sym, [], ◌++◌, ◌<◌, ◌==◌, ◌∙◌, ◌∷◌, ◌≡◌, ◌≢◌, ◌⊎◌}
 use Rattle.mk_core.proofs.HistoryParts.{calls_in_parts}
 use Rattle.mk_caller.proofs.OwnSteps.{by_append, calls_by, others_add_none}
 
 -- Events that add none to a caller's calls decide none of them.
-pub none_since : (c : Config) (k : ℕ) (es more : List Event) → calls_by k (calls c (es ++ more))
-    ≡ calls_by k (calls c es)
-    → calls_by k (calls_from c (left c es) more) ≡ []
+pub none_since : (c : Config) (k : ℕ) (es more : List Event)
+    → calls_by k (calls c (es ++ more)) ≡ calls_by k (calls c es) → calls_by k (calls_from c (left c es) more) ≡ []
 none_since c k es more same =
     let xs = calls c es in
     let later = calls_from c (left c es) more in
-    append_cancel_left (calls_by k xs) (calls_by k later) []
-    (sym (by_append k xs later) ∙ ap (calls_by k) (sym (calls_in_parts c es more)) ∙ same
-    ∙ sym (append-nil (calls_by k xs)))
+    append_cancel_left (calls_by k xs) (calls_by k later) [] (sym (by_append k xs later) ∙ ap (calls_by k)
+    (sym (calls_in_parts c es more)) ∙ same ∙ sym (append-nil (calls_by k xs)))
 
 -- So do events of others.
 pub none_of : (c : Config) (k : ℕ) (es more : List Event) → AreOfOthers (Caller k ∷ []) more
@@ -34,8 +32,7 @@ none_of_fewer : (k : ℕ) (x : Decided) (xs : List Decided) → calls_by k (x �
 none_of_fewer k x xs none = by (x.caller == k) none
   where
     by : (b : Bool) → (if b then x ∷ calls_by k xs else calls_by k xs) ≡ [] → calls_by k xs ≡ []
-    by true e = absurd (cons_is_not_nil x (calls_by k xs) e)
-    by false e = e
+    by x0 e = grind (arith, cons_is_not_nil, calls_by)
 
 -- Where no other caller makes any of these calls, this one makes them all.
 pub all_by : (callers j : ℕ) (xs : List Decided) → AreBelow callers (asked xs)

@@ -1,32 +1,28 @@
 -- The operation of a point: that it may be asked, where its answer leads, and what its caller's registers hold then.
-use Rattle.std.proofs.Common.{IfSome, zero-add}
+use Rattle.std.proofs.Common.{IfSome}
 use Rattle.mk_stack.proofs.Vocabulary.{Answer, Asks, Checking, Ended, Filling, Following, Founded, Founding, Freeing}
 use Rattle.mk_stack.proofs.Vocabulary.{Full, HoldsAt, IsPointerTo, Kind, Linking, Looking, Making, MayPointTo}
 use Rattle.mk_stack.proofs.Vocabulary.{NeverState, Null, Num, Number, Op, Peeking, Placing, Point, Pop, Ptr, Publishing}
-use Rattle.mk_stack.proofs.Vocabulary.{Push, Reading, Reply, Starting, Taking, Target, Testing, To, Value, WordOf}
-use Rattle.mk_stack.proofs.Vocabulary.{after_free, after_op, allocation_at, answer_of, bit, fail, fill, find_no_room}
-use Rattle.mk_stack.proofs.Vocabulary.{flagged, follow, found, free, free_again, global_at, go_pop, go_push, is_same}
-use Rattle.mk_stack.proofs.Vocabulary.{kinds_of, lack, left_at, link, look, make, meet, miss, next_point, node_kinds}
-use Rattle.mk_stack.proofs.Vocabulary.{number_of, op_at, peek, place, pop_again, publish, push_again, read, register_at}
-use Rattle.mk_stack.proofs.Vocabulary.{reply_at, reply_of, start, target_of, top_kinds, unlink, with_new, with_register}
-use Rattle.mk_stack.proofs.{Vocabulary.{with_word, word_at}, AtPoints.{holds_still, may_on, points_on}}
-use Rattle.mk_stack.proofs.NodeKinds.{IsStackState, gets_to, global_kind, may_point, meets, node_link, not_null_points}
-use Rattle.mk_stack.proofs.{NodeKinds.top_word, Heaps.{other_register, set_register}}
-use Rattle.mk_laws.proofs.Vocabulary.{AccessIsAdmitted, Bool, IsAdmitted, IsNumber, IsPointer, List, Meets, ℕ, ap}
-use Rattle.mk_laws.proofs.Vocabulary.{arith, false, false≢true, get_or, if◌then◌else◌, length, refl, subst, suc, sym}
-use Rattle.mk_laws.proofs.Vocabulary.{true, zero, [], ◌*◌, ◌+◌, ◌<◌, ◌∙◌, ◌∷◌, ◌≡◌, ◌≢◌}
-use Rattle.mk_never.specs.{Admitted.{IsBase, IsOfKind, OperandsAreInRange, StoreIsAdmitted}, NeverHeap.free_reply}
+use Rattle.mk_stack.proofs.Vocabulary.{Push, Reading, Reply, Starting, Taking, Testing, To, Value, after_op}
+use Rattle.mk_stack.proofs.Vocabulary.{allocation_at, answer_of, bit, fail, fill, find_no_room, flagged, follow, found}
+use Rattle.mk_stack.proofs.Vocabulary.{free, free_again, global_at, go_pop, go_push, is_same, kinds_of, lack, left_at}
+use Rattle.mk_stack.proofs.Vocabulary.{link, look, make, meet, miss, next_point, node_kinds, op_at, peek, place}
+use Rattle.mk_stack.proofs.Vocabulary.{pop_again, publish, push_again, read, register_at, reply_at, reply_of, start}
+use Rattle.mk_stack.proofs.Vocabulary.{target_of, top_kinds, unlink, with_new, with_register, with_word, word_at}
+use Rattle.mk_stack.proofs.{AtPoints.{holds_still, may_on, points_on}, NodeKinds.{IsStackState, gets_to, global_kind}}
+use Rattle.mk_stack.proofs.NodeKinds.{may_point, meets, node_link, not_null_points, top_word}
+use Rattle.mk_stack.{proofs.Heaps.{other_register, set_register}, specs.Advancing.{says_full, says_yes}}
+use Rattle.mk_laws.proofs.Vocabulary.{AccessIsAdmitted, Bool, IsAdmitted, IsPointer, List, Meets, ℕ, ap, arith, false}
+use Rattle.mk_laws.proofs.Vocabulary.{false≢true, get_or, if◌then◌else◌, length, refl, suc, sym, true, zero, [], ◌*◌}
+use Rattle.mk_laws.proofs.Vocabulary.{◌+◌, ◌<◌, ◌∙◌, ◌∷◌, ◌≡◌, ◌≢◌}
+use Rattle.mk_never.specs.Admitted.{IsOfKind, OperandsAreInRange, StoreIsAdmitted}
 use Rattle.mk_run.specs.Scripts.{as_told}
-use Rattle.mk_stack.specs.Advancing.{says_full, says_yes}
 
 -- Where an operation is replied yes or no, its answer leads to this point or that.
 pub yes_no : {S : Type 0} (P : Reply → S → Type 0) {so not_so : S} (b : Bool) (a : Answer) (bases : List ℕ)
     → (b ≡ true → P (Reply.Num 1) so) → (b ≡ false → P (Reply.Num 0) not_so) → a ≡ answer_of bases (Reply.Num (bit b))
     → P (Reply.Num (bit b)) (if says_yes (as_told a) then so else not_so)
-yes_no P {so} {not_so} true a bases here there image =
-    subst (λ (x : Answer). P (Reply.Num 1) (if says_yes (as_told x) then so else not_so)) (sym image) (here refl)
-yes_no P {so} {not_so} false a bases here there image =
-    subst (λ (x : Answer). P (Reply.Num 0) (if says_yes (as_told x) then so else not_so)) (sym image) (there refl)
+yes_no x0 x1 a bases here there image = grind arith
 
 -- A type that has words is one of the list.
 type_exists : (types : List (List Kind)) (ty : ℕ) (x : Kind) (xs : List Kind) → kinds_of types ty ≡ x ∷ xs
@@ -38,8 +34,7 @@ type_exists (t ∷ types) (suc ty) x xs e = let lt = type_exists types ty x xs e
 -- An exchange leaves all registers.
 exchange_leaves : (b : Bool) (n : NeverState) (a w : ℕ) (v : Value) (k r : ℕ)
     → register_at (if b then with_word n a w v else n) k r ≡ register_at n k r
-exchange_leaves true n a w v k r = refl
-exchange_leaves false n a w v k r = refl
+exchange_leaves x0 n a w v k r = grind arith
 
 module _ {globals : List ℕ} {n : NeverState} {k : ℕ} (state : IsStackState globals n k) where
   abbrev At : Point → Type 0
@@ -55,11 +50,11 @@ module _ {globals : List ℕ} {n : NeverState} {k : ℕ} (state : IsStackState g
   -- an access to the top's word, and to a word of a node
 
   top_meets : (P : Kind → Type 0) → IsPointerTo 1 (register_at n k 0) → P (To 0 0) → Meets n (register_at n k 0) 0 P
-  top_meets P h holds = meets state P 1 0 0 top_kinds state.top h (omega arith) holds
+  top_meets P h holds = meets state P 0 0 top_kinds state.top h (omega arith) holds
 
   node_meets : (P : Kind → Type 0) (r i : ℕ) → IsPointerTo 0 (register_at n k r) → i < 2
       → P (get_or node_kinds i Number) → Meets n (register_at n k r) i P
-  node_meets P r i h lt holds = meets state P 0 r i node_kinds state.node h lt holds
+  node_meets P r i h lt holds = meets state P r i node_kinds state.node h lt holds
 
   pub may_clear : (r : ℕ) → r < 8 → IsAdmitted globals n k (Op.Clear r)
   may_clear r lt = admitted (Op.Clear r) lt tt tt
@@ -77,25 +72,8 @@ module _ {globals : List ℕ} {n : NeverState} {k : ℕ} (state : IsStackState g
   may_place h = grind (arith, admitted, may_point)
 
   pub admits : (s : Point) → At s → IfSome (op_at s) (IsAdmitted globals n k)
-  admits Founding h = admitted _ (omega arith, type_exists n.types 1 _ _ state.top) tt tt
-  admits Placing h = may_place h
-  admits Founded h = tt
-  admits (Starting j) h = admitted _ (omega arith, omega (arith, state.count)) tt tt
-  admits (Checking j) h = admitted _ (omega arith) tt tt
-  admits (Making x) h = admitted _ (omega arith, type_exists n.types 0 _ _ state.node) tt tt
-  admits (Filling x) h = admitted _ (omega arith) (node_meets IsNumber 1 0 h.1 (omega arith) refl) tt
-  admits (Looking x) h = admitted _ (omega arith, omega arith) (top_meets IsPointer h.0 refl) tt
-  admits (Linking x) h =
-      admitted _ (omega arith, omega arith) (node_meets IsPointer 1 1 h.1 (omega arith) refl)
-      (node_meets (IsOfKind (register_at n k 2)) 1 1 h.1 (omega arith) h.2)
-  admits (Publishing x) h = may_exchange 1 (omega arith) h.0 h.2 (may_point h.1)
-  admits Peeking h = admitted _ (omega arith, omega arith) (top_meets IsPointer h refl) tt
-  admits Testing h = admitted _ (omega arith) tt tt
-  admits Following h = may_follow 3 (omega arith) h.1
-  admits Taking h = may_exchange 3 (omega arith) h.0 (may_point h.1) h.2
-  admits Freeing h = admitted _ (omega arith) tt (subst IsBase (sym h.is) refl)
-  admits Reading h = admitted _ (omega arith) (node_meets IsNumber 2 0 h (omega arith) refl) tt
-  admits (Ended d) h = tt
+  admits x0 h =
+      grind (arith, admitted, type_exists, may_place, node_meets, top_meets, may_exchange, may_point, may_follow)
 
   -- What is left, and where it leads
 
@@ -118,23 +96,18 @@ module _ {globals : List ℕ} {n : NeverState} {k : ℕ} (state : IsStackState g
   pub at_top : (A : Reply → NeverState → Type 0) (at : ℕ → ℕ → Reply) (refused : NeverState)
       (left : ℕ → ℕ → NeverState) (h : IsPointerTo 1 (register_at n k 0)) → A (at h.number 0) (left h.number 0)
       → A (reply_at (target_of n (register_at n k 0) 0) at) (left_at (target_of n (register_at n k 0) 0) refused left)
-  at_top A at refused left h =
-      subst (λ (t : Target). A (reply_at t at) (left_at t refused left))
-      (sym (gets_to state 1 0 0 top_kinds state.top (omega arith) h))
+  at_top x0 at refused left h = grind (arith, gets_to)
 
   pub at_node : (r i : ℕ) (A : Reply → NeverState → Type 0) (at : ℕ → ℕ → Reply) (refused : NeverState)
       (left : ℕ → ℕ → NeverState) (h : IsPointerTo 0 (register_at n k r)) → A (at h.number i) (left h.number i)
       → A (reply_at (target_of n (register_at n k r) i) at) (left_at (target_of n (register_at n k r) i) refused left)
-  at_node r i A at refused left h there =
-      subst (λ (t : Target). A (reply_at t at) (left_at t refused left))
-      (sym (gets_to state 0 r i node_kinds state.node (omega arith) h ∙ ap (WordOf h.number) (zero-add i))) there
+  at_node r i x2 at refused left h there = grind (arith, gets_to)
 
   -- A register that is said not to be null
   pub is_pointer : (ty r : ℕ) → MayPointTo ty (register_at n k r) → is_same (register_at n k r) Null ≡ false
       → IsPointerTo ty (register_at n k r)
   is_pointer ty r may differs =
-      not_null_points ty (register_at n k r) may
-      (λ e. false≢true (sym differs ∙ ap (λ (v : Value). is_same v Null) e))
+      not_null_points ty (register_at n k r) may (λ e. false≢true (sym differs ∙ ap (λ (v : Value). is_same v Null) e))
 
   -- The operation o is replied r, leaves m, is answered by its image, and leads on from s.
   abbrev Step : Point → Op → Answer → List ℕ → Reply → NeverState → Type 0
@@ -142,48 +115,37 @@ module _ {globals : List ℕ} {n : NeverState} {k : ℕ} (state : IsStackState g
       a ≡ answer_of bases r
       → Asks s o r (next_point s (as_told a)) × HoldsAt (register_at m k) (next_point s (as_told a))
 
-  made : (s : Point) (d ty : ℕ) (so not_so : Point) → ((told : Answer) → next_point s told
-      ≡ if says_full told then not_so else so)
-      → Asks s (Op.New d ty false) Reply.Done so → Asks s (Op.New d ty true) Reply.Full not_so
+  made : {s : Point} {d ty : ℕ} {so not_so : Point} → ((told : Answer) → next_point s told ≡ if says_full told then
+      not_so else so) → Asks s (Op.New d ty false) Reply.Done so → Asks s (Op.New d ty true) Reply.Full not_so
       → HoldsAt (register_at (with_register (with_new n ty) k d (Ptr (length n.allocations) ty 0)) k) so
-      → HoldsAt (register_at n k) not_so
-      → (a : Answer) (bases : List ℕ) → Step s (flagged (Op.New d ty false) a) a bases
-      (reply_of n k (flagged (Op.New d ty false) a)) (after_op n k (flagged (Op.New d ty false) a))
-  made s d ty so not_so next done none holds else_holds Answer.Full bases image =
-      rw (next Answer.Full) (none, else_holds)
-  made s d ty so not_so next done none holds else_holds Answer.Done bases image = grind arith
-  made s d ty so not_so next done none holds else_holds _ bases image = absurd (cc)
+      → HoldsAt (register_at n k) not_so → (a : Answer) (bases : List ℕ) → Step s (flagged (Op.New d ty false) a) a
+      bases (reply_of n k (flagged (Op.New d ty false) a)) (after_op n k (flagged (Op.New d ty false) a))
+  made next done none holds else_holds x5 bases image = grind arith
 
   -- a comparison with null
   pub tested : {S : Type 0} (A : Op → Reply → S → Type 0) (i ty : ℕ) {so not_so : S} (a : Answer) (bases : List ℕ)
-      → MayPointTo ty (register_at n k i) → A (Op.IsNull i) (Reply.Num 1) so
-      → (IsPointerTo ty (register_at n k i) → A (Op.IsNull i) (Reply.Num 0) not_so)
-      → a ≡ answer_of bases (reply_of n k (Op.IsNull i))
+      → MayPointTo ty (register_at n k i) → A (Op.IsNull i) (Reply.Num 1) so → (IsPointerTo ty (register_at n k i)
+      → A (Op.IsNull i) (Reply.Num 0) not_so) → a ≡ answer_of bases (reply_of n k (Op.IsNull i))
       → A (Op.IsNull i) (reply_of n k (Op.IsNull i)) (if says_yes (as_told a) then so else not_so)
-  tested A i ty a bases may so not_so =
-      yes_no (A (Op.IsNull i)) (is_same (register_at n k i) Null) a bases (λ e. so)
-      (λ e. not_so (is_pointer ty i may e))
+  tested x0 i ty a bases may so not_so = grind (arith, yes_no, is_pointer)
 
   -- an exchange of the uppermost node
-  exchanged : (s : Point) (r : ℕ) {so not_so : Point} (a : Answer) (bases : List ℕ)
+  exchanged : {s : Point} {r : ℕ} {so not_so : Point} (a : Answer) (bases : List ℕ)
       → (h : IsPointerTo 1 (register_at n k 0))
       → Asks s (Op.CasPtr 0 0 2 r) (Reply.Num 1) so → Asks s (Op.CasPtr 0 0 2 r) (Reply.Num 0) not_so → At so
       → At not_so
       → a ≡ answer_of bases (reply_of n k (Op.CasPtr 0 0 2 r))
       → Asks s (Op.CasPtr 0 0 2 r) (reply_of n k (Op.CasPtr 0 0 2 r)) (if says_yes (as_told a) then so else not_so)
       × HoldsAt (register_at (after_op n k (Op.CasPtr 0 0 2 r)) k) (if says_yes (as_told a) then so else not_so)
-  exchanged s r {so} {not_so} a bases h asks_yes asks_no at_yes at_no =
-      at_top (λ x m. a ≡ answer_of bases x
-      → Asks s (Op.CasPtr 0 0 2 r) x (if says_yes (as_told a) then so else not_so)
-      × HoldsAt (register_at m k) (if says_yes (as_told a) then so else not_so))
-      (λ t w. Reply.Num (bit (is_same (word_at n t w) (register_at n k 2)))) n
-      (λ t w. if is_same (word_at n t w) (register_at n k 2) then with_word n t w (register_at n k r) else n) h
-      (by (is_same (word_at n h.number 0) (register_at n k 2)))
+  exchanged {s} {r} {so} {not_so} a bases h asks_yes asks_no at_yes at_no =
+      at_top (λ x m. a ≡ answer_of bases x → Asks s (Op.CasPtr 0 0 2 r) x (if says_yes (as_told a) then so else not_so)
+      × HoldsAt (register_at m k) (if says_yes (as_told a) then so else not_so)) (λ t w. Reply.Num
+      (bit (is_same (word_at n t w) (register_at n k 2)))) n (λ t w. if is_same (word_at n t w) (register_at n k 2) then
+      with_word n t w (register_at n k r) else n) h (by (is_same (word_at n h.number 0) (register_at n k 2)))
     where
-      by : (b : Bool) → a ≡ answer_of bases (Reply.Num (bit b))
-          → Asks s (Op.CasPtr 0 0 2 r) (Reply.Num (bit b)) (if says_yes (as_told a) then so else not_so)
-          × HoldsAt (register_at (if b then with_word n h.number 0 (register_at n k r) else n) k)
-          (if says_yes (as_told a) then so else not_so)
+      by : (b : Bool) → a ≡ answer_of bases (Reply.Num (bit b)) → Asks s (Op.CasPtr 0 0 2 r) (Reply.Num (bit b))
+          (if says_yes (as_told a) then so else not_so) × HoldsAt (register_at
+          (if b then with_word n h.number 0 (register_at n k r) else n) k) (if says_yes (as_told a) then so else not_so)
       by b =
           let still : (t : Point) → At t
           → HoldsAt (register_at (if b then with_word n h.number 0 (register_at n k r) else n) k) t =
@@ -196,28 +158,23 @@ module _ {globals : List ℕ} {n : NeverState} {k : ℕ} (state : IsStackState g
   pub loads_top : (A : Reply → NeverState → Type 0) (h : IsPointerTo 1 (register_at n k 0))
       → ((v : Value) → MayPointTo 0 v → A (Reply.Val v) (with_register n k 2 v))
       → A (reply_of n k (Op.GetPtr 2 0 0)) (after_op n k (Op.GetPtr 2 0 0))
-  loads_top A h there =
-      at_top A (λ a w. Reply.Val (word_at n a w)) (with_register n k 2 Null)
-      (λ a w. with_register n k 2 (word_at n a w)) h (there _ (top_word state 0 h))
+  loads_top x0 h there = grind (arith, at_top, top_word)
 
   -- and of a node's link
   pub loads_link : (d : ℕ) (A : Reply → NeverState → Type 0) (h : IsPointerTo 0 (register_at n k 2))
       → ((v : Value) → MayPointTo 0 v → A (Reply.Val v) (with_register n k d v))
       → A (reply_of n k (Op.GetPtr d 2 1)) (after_op n k (Op.GetPtr d 2 1))
-  loads_link d A h there =
-      at_node 2 1 A (λ a w. Reply.Val (word_at n a w)) (with_register n k d Null)
-      (λ a w. with_register n k d (word_at n a w)) h (there _ (node_link state 2 h))
+  loads_link d x1 h there = grind (arith, at_node, node_link)
 
   -- a load of a node's number
   pub loads_number : (A : Reply → Type 0) → IsPointerTo 0 (register_at n k 2) → ((x : ℕ) → A (Reply.Num x))
       → A (reply_of n k (Op.GetNum 2 0))
-  loads_number A h there =
-      at_node 2 0 (λ r m. A r) (λ a w. Reply.Num (number_of (word_at n a w))) n (λ a w. n) h (there _)
+  loads_number x0 h there = grind (arith, at_node)
 
   pub asks : (s : Point) → At s → IfSome (op_at s) (λ o. (a : Answer) (bases : List ℕ)
       → Step s (flagged o a) a bases (reply_of n k (flagged o a)) (after_op n k (flagged o a)))
   asks Founding h =
-      made Founding 0 1 Placing Founded (λ told. refl) found find_no_room
+      made (λ told. refl) found find_no_room
       (record { number = length n.allocations; is = set_register (with_new n 1) k 0 _ (room 0 (omega arith)) }) tt
   asks Placing h = λ a bases image. (place, tt)
   asks Founded h = tt
@@ -228,23 +185,19 @@ module _ {globals : List ℕ} {n : NeverState} {k : ℕ} (state : IsStackState g
       tested (λ o r t. Asks (Checking Pop) o r t × At t) 0 1 a bases h (lack, tt) (λ p. (go_pop, p))
   asks (Making x) h =
       let v : Value = Ptr (length n.allocations) 0 0 in
-      made (Making x) 1 0 (Filling x) (Ended Full) (λ told. refl) make fail (
+      made (λ told. refl) make fail (
         points_on _ (other_register (with_new n 0) k 1 0 v (omega arith)) h,
         record { number = length n.allocations; is = set_register (with_new n 0) k 1 v (room 1 (omega arith)) },
       ) tt
-  asks (Filling x) h = λ a bases.
-      at_node 1 0 (Step (Filling x) (Op.SetNum 1 0 x) a bases) (λ a w. Reply.Done) n (λ a w. with_word n a w
-      (Num x)) h.1
-      (λ image. (fill, h))
+  asks (Filling x) h = λ a bases. at_node 1 0 (Step (Filling x) (Op.SetNum 1 0 x) a bases) (λ a w. Reply.Done) n
+      (λ a w. with_word n a w (Num x)) h.1 (λ image. (fill, h))
   asks (Looking x) h = λ a bases. loads_top (Step (Looking x) (Op.GetPtr 2 0 0) a bases) h.0 (λ v may image. (
     look,
     (kept 2 0 v (omega arith) h.0, kept 2 1 v (omega arith) h.1, now_may 0 2 v (omega arith) may),
   ))
-  asks (Linking x) h = λ a bases.
-      at_node 1 1 (Step (Linking x) (Op.SetPtr 1 1 2) a bases) (λ a w. Reply.Done) n
+  asks (Linking x) h = λ a bases. at_node 1 1 (Step (Linking x) (Op.SetPtr 1 1 2) a bases) (λ a w. Reply.Done) n
       (λ a w. with_word n a w (register_at n k 2)) h.1 (λ image. (link, h))
-  asks (Publishing x) h = λ a bases.
-      exchanged (Publishing x) 1 a bases h.0 publish push_again tt (h.0, h.1)
+  asks (Publishing x) h = λ a bases. exchanged a bases h.0 publish push_again tt (h.0, h.1)
   asks Peeking h = λ a bases. loads_top (Step Peeking (Op.GetPtr 2 0 0) a bases) h
       (λ v may image. (peek, (kept 2 0 v (omega arith) h, now_may 0 2 v (omega arith) may)))
   asks Testing h = λ a bases.
@@ -253,15 +206,12 @@ module _ {globals : List ℕ} {n : NeverState} {k : ℕ} (state : IsStackState g
     follow,
     (kept 3 0 v (omega arith) h.0, kept 3 2 v (omega arith) h.1, now_may 0 3 v (omega arith) may),
   ))
-  asks Taking h = λ a bases. exchanged Taking 3 a bases h.0 unlink pop_again h.1 h.0
-  asks Freeing h = λ a bases.
-      rw h.is (λ image. (by (allocation_at n h.number).freed, h))
+  asks Taking h = λ a bases. exchanged a bases h.0 unlink pop_again h.1 h.0
+  asks Freeing h = λ a bases. rw h.is (λ image. (by (allocation_at n h.number).freed, h))
     where
       by : (b : Bool) → Asks Freeing (Op.Free 2) (if b then Reply.Double else Reply.Done) Reading
       by true = free_again
       by false = free
-  asks Reading h = λ a bases.
-      loads_number (λ r. a ≡ answer_of bases r → Asks Reading (Op.GetNum 2 0) r (next_point Reading (as_told a))
-      × Unit {0}) h
-      (λ x image. rw image (read, tt))
+  asks Reading h = λ a bases. loads_number (λ r. a ≡ answer_of bases r → Asks Reading (Op.GetNum 2 0) r
+      (next_point Reading (as_told a)) × Unit {0}) h (λ x image. rw image (read, tt))
   asks (Ended d) h = tt

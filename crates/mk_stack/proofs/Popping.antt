@@ -1,18 +1,17 @@
 -- A pop takes the uppermost node off the stack.
-use Rattle.mk_stack.proofs.Vocabulary.{Freeing, IsOneOf, NeverState, Null, Op, Pop, Popped, Ptr, Replied, Taking, Value}
+use Rattle.mk_stack.proofs.Vocabulary.{Freeing, IsOneOf, NeverState, Null, Op, Popped, Ptr, Replied, Taking, Value}
 use Rattle.mk_stack.proofs.Vocabulary.{freed_by, number_of, numbers_in, register_at, with_word, word_at, words_of}
 use Rattle.mk_stack.proofs.{Chains.{chain_stays, not_one_of, numbers_stay}, Exchanges.{by_exchange, node_is_no_top}}
 use Rattle.mk_stack.proofs.{Exchanges.words_stay, Invariant.{AllHeld, HasChain, HasTaken, Inv, IsHeld, Work}}
 use Rattle.mk_stack.proofs.Roles.{Role, Stacked, Taken, put, put_by, put_other, put_same, size_of}
 use Rattle.mk_stack.proofs.Writes.{base_stacked, granted, private_taken, taken_stacked, unborn_base}
 use Rattle.mk_stack.proofs.{Assembly.{Stepped, settles}, Heaps.written}
-use Rattle.mk_laws.proofs.Vocabulary.{Bool, List, None, Option, Some, ℕ, ap, arith, cond, eq-eqb, get_or, inl, inr}
-use Rattle.mk_laws.proofs.Vocabulary.{length, refl, subst, sym, ◌∙◌, ◌∷◌, ◌≡◌, ◌≢◌}
+use Rattle.mk_laws.proofs.Vocabulary.{Bool, List, None, Option, Some, ℕ, ap, arith, cond, eq-eqb, get_or, inr, length}
+use Rattle.mk_laws.proofs.Vocabulary.{refl, subst, sym, ◌∙◌, ◌∷◌, ◌≡◌, ◌≢◌}
 
-module _ {callers : ℕ} {n : NeverState} {top : Option ℕ} {role : ℕ → Role} {a : ℕ} {nodes : List ℕ} {W : ℕ → Work}
-    (inv : Inv callers n top role (a ∷ nodes) W) (c t : ℕ) (v : Value) (is : top ≡ Some t)
-    (register : register_at n c 2 ≡ Ptr a 0 0) (next_is : v ≡ word_at n a 1)
-    (held : AllHeld n role c Taking) where
+module _ {callers : ℕ} {n : NeverState} {top : Option ℕ} {role : ℕ → Role} {a : ℕ} {nodes : List ℕ} {W : ℕ
+    → Work} (inv : Inv callers n top role (a ∷ nodes) W) (c t : ℕ) (v : Value) (is : top ≡ Some t)
+    (register : register_at n c 2 ≡ Ptr a 0 0) (next_is : v ≡ word_at n a 1) (held : AllHeld n role c Taking) where
   abbrev m : NeverState
   m = with_word n t 0 v
 
@@ -42,9 +41,6 @@ module _ {callers : ℕ} {n : NeverState} {top : Option ℕ} {role : ℕ → Rol
   popped_chain : HasChain m top now nodes
   popped_chain = grind (arith, now, chain, put_other, apart, top_word, chain_stays, not_one_of, word, no_top)
 
-  popped_numbers : numbers_in m nodes ≡ numbers_in n nodes
-  popped_numbers = numbers_stay n m role (word_at n a 1) nodes (λ b e. word b 0 (no_top b e)) chain.2.3
-
   abbrev y : ℕ
   y = number_of (word_at n a 0)
 
@@ -55,15 +51,13 @@ module _ {callers : ℕ} {n : NeverState} {top : Option ℕ} {role : ℕ → Rol
   now_held b = grind (arith, put_by, private_taken)
 
   only_below : (b : ℕ) → b ≢ a → IsOneOf b (a ∷ nodes) → IsOneOf b nodes
-  only_below b ne (inl e) = absurd (ne e)
-  only_below b ne (inr one) = one
+  only_below b ne x2 = grind arith
 
   pub by_pop : (o : Op) (rest : List Replied) → ((b : ℕ) → freed_by b n c o ≡ 0)
       → Stepped callers n role (a ∷ nodes) W c Taking None o Freeing rest m
   by_pop o rest frees =
-      by_exchange inv c t a v (Taken c) is chain.1 (inr (chain.2.1, refl))
-      nodes Taking o Freeing rest None (Some (Popped y)) (Some (record { caller = c; job = Pop; done = Popped y }))
+      by_exchange inv c t a v (Taken c) is chain.1 (inr (chain.2.1, refl)) nodes o Freeing rest
       (put_by (λ (b : ℕ) (r : Role). r ≡ Stacked → IsOneOf b nodes) role a (Taken c) (λ e. absurd (taken_stacked c e))
-      (λ b ne e. only_below b ne (inv.core.stacked b e))) popped_chain taken now_held
-      (ap (λ (b : Bool). cond b (Some (numbers_in n nodes)) None) (eq-eqb y y refl) ∙ ap Some (sym popped_numbers))
-      (settles tt) frees
+      (λ b ne e. only_below b ne (inv.core.stacked b e))) popped_chain taken now_held (ap (λ (b : Bool). cond b
+      (Some (numbers_in n nodes)) None) (eq-eqb y y refl) ∙ ap Some (sym
+      (numbers_stay n m role (word_at n a 1) nodes (λ b e. word b 0 (no_top b e)) chain.2.3))) (settles tt) frees

@@ -1,12 +1,12 @@
 -- A push publishes its node: it is the uppermost one from there on.
 use Rattle.std.proofs.Common.{ap₂}
-use Rattle.mk_stack.proofs.Vocabulary.{Ended, IsOneOf, NeverState, Null, Op, Ptr, Publishing, Push, Pushed, Replied}
-use Rattle.mk_stack.proofs.Vocabulary.{Value, freed_by, number_of, numbers_in, register_at, with_word, word_at}
-use Rattle.mk_stack.proofs.{Vocabulary.words_of, Chains.{chain_stays, numbers_stay, other_role}}
-use Rattle.mk_stack.proofs.{Exchanges.{by_exchange, node_is_no_top, words_stay}, Invariant.{AllHeld, HasChain}}
-use Rattle.mk_stack.proofs.{Invariant.{HasLinked, Inv, IsChain, IsHeld, Work}, Roles.{Role, Stacked, put, put_by}}
-use Rattle.mk_stack.proofs.{Roles.{put_other, put_same, size_of}, Writes.{base_stacked, granted, private_stacked}}
-use Rattle.mk_stack.proofs.{Writes.{taken_stacked, unborn_base}, Assembly.{Stepped, settles}, Heaps.written}
+use Rattle.mk_stack.proofs.Vocabulary.{Ended, IsOneOf, NeverState, Null, Op, Ptr, Publishing, Pushed, Replied, Value}
+use Rattle.mk_stack.proofs.Vocabulary.{freed_by, number_of, register_at, with_word, word_at, words_of}
+use Rattle.mk_stack.proofs.{Chains.{chain_stays, numbers_stay, other_role}, Exchanges.{by_exchange, node_is_no_top}}
+use Rattle.mk_stack.proofs.{Exchanges.words_stay, Invariant.{AllHeld, HasChain, HasLinked, Inv, IsChain, IsHeld, Work}}
+use Rattle.mk_stack.proofs.Roles.{Role, Stacked, put, put_by, put_other, put_same, size_of}
+use Rattle.mk_stack.proofs.Writes.{base_stacked, granted, private_stacked, taken_stacked, unborn_base}
+use Rattle.mk_stack.proofs.{Assembly.{Stepped, settles}, Heaps.written}
 use Rattle.mk_laws.proofs.Vocabulary.{List, None, Option, Some, ℕ, ap, arith, get_or, inl, inr, length, refl, subst}
 use Rattle.mk_laws.proofs.Vocabulary.{sym, ◌∙◌, ◌∷◌, ◌≡◌, ◌≢◌}
 
@@ -48,20 +48,14 @@ module _ {callers : ℕ} {n : NeverState} {top : Option ℕ} {role : ℕ → Rol
   pushed_chain : HasChain m top now (a ∷ nodes)
   pushed_chain = grind (arith, now, chain, put_other, apart, top_word, put_same, other_role, private_stacked, below)
 
-  pushed_numbers : numbers_in m (a ∷ nodes) ≡ x ∷ numbers_in n nodes
-  pushed_numbers =
-      ap₂ (λ (y : ℕ) (ys : List ℕ). y ∷ ys) (ap number_of (word a 0 apart) ∙ own.number)
-      (numbers_stay n m role (word_at n t 0) nodes (λ b e. word b 0 (no_top b e)) chain.2)
-
   no_longer : (b : ℕ) → IsHeld m (now b) c b (Ended Pushed)
   no_longer b = grind (arith, put_by, private_stacked, taken_stacked)
 
   pub by_push : (o : Op) (rest : List Replied) → ((b : ℕ) → freed_by b n c o ≡ 0)
       → Stepped callers n role nodes W c (Publishing x) None o (Ended Pushed) rest m
   by_push o rest frees =
-      by_exchange inv c t a (Ptr a 0 0) Stacked is chain.1 (inl (own.has, refl))
-      (a ∷ nodes) (Publishing x) o (Ended Pushed) rest None (Some Pushed)
-      (Some (record { caller = c; job = Push x; done = Pushed }))
-      (put_by (λ (b : ℕ) (r : Role). r ≡ Stacked → IsOneOf b (a ∷ nodes)) role a Stacked (λ e. inl refl)
-      (λ b ne e. inr (inv.core.stacked b e)))
-      pushed_chain refl no_longer (ap Some (sym pushed_numbers)) (settles tt) frees
+      by_exchange inv c t a (Ptr a 0 0) Stacked is chain.1 (inl (own.has, refl)) (a ∷ nodes) o (Ended Pushed) rest
+      (put_by (λ (b : ℕ) (r : Role). r ≡ Stacked → IsOneOf b (a ∷ nodes)) role a Stacked (λ e. inl refl) (λ b ne e. inr
+      (inv.core.stacked b e))) pushed_chain refl no_longer (ap Some (sym
+      (ap₂ (λ (y : ℕ) (ys : List ℕ). y ∷ ys) (ap number_of (word a 0 apart) ∙ own.number)
+      (numbers_stay n m role (word_at n t 0) nodes (λ b e. word b 0 (no_top b e)) chain.2)))) (settles tt) frees

@@ -2,44 +2,26 @@
 use Rattle.std.proofs.{Common.⊎_elim, lemmas.List.append_cancel_left}
 use Rattle.mk_stack.proofs.Vocabulary.{AreAllBy, AreBelow, Caller, CallerState, Config, Decided, Grows, Has, HasWalked}
 use Rattle.mk_stack.proofs.Vocabulary.{Host, HostState, IsHistory, PassState, ReadsStack, Seat, WordsState, asked}
-use Rattle.mk_stack.proofs.Vocabulary.{at_home, caller_of_pass, calls, calls_from, left, never_behind, never_first}
-use Rattle.mk_stack.proofs.{Vocabulary.{own_replied, pass_for, replied_in, with_joined}, JoinedJobs.still_replied}
-use Rattle.mk_stack.proofs.{OwnCalls.{all_by, below_later, none_of}, Replies.{asked_grown, own_in_parts}}
-use Rattle.mk_stack.proofs.StackHistories.{callers_are_below}
-use Rattle.mk_laws.proofs.Vocabulary.{List, ℕ, ap, cases_eq, ne_eqb, refl, subst, sym, [], ◌++◌, ◌<◌, ◌∙◌, ◌∷◌, ◌≡◌}
-use Rattle.mk_laws.proofs.Vocabulary.{◌≢◌}
+use Rattle.mk_stack.proofs.Vocabulary.{at_home, calls, calls_from, left, never_behind, never_first, own_replied}
+use Rattle.mk_stack.proofs.Vocabulary.{pass_for, replied_in, with_joined}
+use Rattle.mk_laws.proofs.Vocabulary.{List, ℕ, ap, arith, cases_eq, ne_eqb, refl, subst, sym, [], ◌++◌, ◌<◌, ◌∙◌, ◌∷◌}
+use Rattle.mk_laws.proofs.Vocabulary.{◌≡◌, ◌≢◌}
 use Rattle.mk_heap.specs.Hosts.{with_caller_out}
+use Rattle.mk_stack.proofs.{JoinedJobs.still_replied, OwnCalls.all_by, OwnCalls.below_later, OwnCalls.none_of}
+use Rattle.mk_stack.proofs.{Replies.asked_grown, Replies.own_in_parts, StackHistories.callers_are_below}
 use Rattle.mk_stack.specs.{Joining.IsReader, declared.walking.WalkPoint.WalkPoint}
 use Rattle.mk_words.proofs.Seats.{has_first, has_left, has_right, others_own, without_keeps}
 use Rattle.mk_words.specs.Seats.{has_over, without_seat}
 
 -- the reader's walk, when it is joined
-pub reads_stack : (w : WordsState) (h g : HostState) (s : CallerState) {q : PassState} (r : PassState)
-    {numbers : List ℕ}
-    → h.pass.table ≡ w → s ≡ at_home (pass_for h (Caller 0)) → HasWalked s.pass numbers q WalkPoint.Ended → r ≡ q
+pub reads_stack : (w : WordsState) (h g : HostState) (s : CallerState) {q : PassState} (r : PassState) {numbers : List
+    ℕ} → h.pass.table ≡ w → s ≡ at_home (pass_for h (Caller 0)) → HasWalked s.pass numbers q WalkPoint.Ended → r ≡ q
     → Grows r.seats r.seen g.pass.seen → ReadsStack w.config h numbers g
-reads_stack w h g s {q} r {numbers} table home walked same came =
-    let p : PassState = pass_for h (Caller 0) in
-    let first : s.pass ≡ p = ap (λ (x : CallerState). x.pass) home in
-    let from : HasWalked p numbers q WalkPoint.Ended =
-    subst (λ (x : PassState). HasWalked x numbers q WalkPoint.Ended) first walked in
-    let grows : Grows q.seats q.seen g.pass.seen =
-    subst (λ (x : PassState). Grows x.seats x.seen g.pass.seen) same came in
-    let own : Grows (Caller 0 ∷ []) q.seen g.pass.seen =
-    subst (λ (x : PassState). Grows x.seats q.seen g.pass.seen) from.is grows in
-    let did : replied_in h.pass.table.config 0 q.seen ≡ replied_in h.pass.table.config 0 h.pass.seen ++ from.all =
-    cc (from.is, from.did) in
-    record {
-      all = from.all;
-      leads = from.leads;
-      reads = from.reads;
-      did = cc (still_replied w.config 0 own, table, did);
-    }
+reads_stack w h g s r table home walked same came = grind (arith, still_replied)
 
-pub is_reader : (h g k : HostState) (s : CallerState) (q r : PassState) → g ≡ with_caller_out h 0
-    → s ≡ at_home (pass_for h (Caller 0)) → q ≡ record s.pass { seen = q.seen } → r ≡ q
-    → k ≡ with_joined g r k.pass.seen → Grows g.pass.seats g.pass.seen k.pass.seen
-    → has_over k.pass.seen ≡ has_over g.pass.seen → IsReader h k
+pub is_reader : (h g k : HostState) (s : CallerState) (q r : PassState) → g ≡ with_caller_out h 0 → s ≡ at_home
+    (pass_for h (Caller 0)) → q ≡ record s.pass { seen = q.seen } → r ≡ q → k ≡ with_joined g r k.pass.seen
+    → Grows g.pass.seats g.pass.seen k.pass.seen → has_over k.pass.seen ≡ has_over g.pass.seen → IsReader h k
 is_reader h g k s q r out home is same joined own overs =
     let first : s.pass ≡ pass_for h (Caller 0) = ap (λ (x : CallerState). x.pass) home in
     let seats : r.seats ≡ Caller 0 ∷ [] =
@@ -81,14 +63,12 @@ module _ (h g : HostState) (reader : IsReader h g) where
 
   pub callers_home : (k : ℕ) → Has h.pass.seats (Caller k) → Has g.pass.seats (Caller k)
   callers_home k has =
-      rw seats (⊎_elim
-      (λ (e : k ≡ 0). has_right (without_seat (Caller 0) h.pass.seats) (Caller 0 ∷ []) (Caller k)
-      (subst (λ (j : ℕ). Has (Caller 0 ∷ []) (Caller j)) (sym e) (has_first (Caller 0) [])))
-      (λ (ne : k ≢ 0). has_left (without_seat (Caller 0) h.pass.seats) (Caller 0 ∷ []) (Caller k) (other_home k ne has))
-      (cases_eq k 0))
+      rw seats (⊎_elim (λ (e : k ≡ 0). has_right (without_seat (Caller 0) h.pass.seats) (Caller 0 ∷ []) (Caller k)
+      (subst (λ (j : ℕ). Has (Caller 0 ∷ []) (Caller j)) (sym e) (has_first (Caller 0) []))) (λ (ne : k ≢ 0). has_left
+      (without_seat (Caller 0) h.pass.seats) (Caller 0 ∷ []) (Caller k) (other_home k ne has)) (cases_eq k 0))
 
   -- All calls since then are the reader's.
-  module _ (c : Config) (history : IsHistory c g.pass.seen)
+  module _ {c : Config} (history : IsHistory c g.pass.seen)
       (home : (k : ℕ) → k < c.callers → Has h.pass.seats (Caller k)) where
     abbrev later : List Decided
     later = calls_from c (left c h.pass.seen) reader.own.more
@@ -98,17 +78,14 @@ module _ (h g : HostState) (reader : IsReader h g) where
 
     pub by_reader : AreAllBy 0 (asked later)
     by_reader =
-        all_by c.callers 0 later
-        (below_later c.callers (asked (calls c h.pass.seen)) (asked later)
+        all_by c.callers 0 later (below_later c.callers (asked (calls c h.pass.seen)) (asked later)
         (subst (AreBelow c.callers) split (callers_are_below history)))
-        (λ k lt ne. none_of c k h.pass.seen reader.own.more
-        (others_own (without_seat (Caller 0) h.pass.seats) (Caller k) reader.own.more (other_home k ne (home k lt))
-        reader.own.of_others))
+        (λ k lt ne. none_of c k h.pass.seen reader.own.more (others_own (without_seat (Caller 0) h.pass.seats)
+        (Caller k) reader.own.more (other_home k ne (home k lt)) reader.own.of_others))
 
-    pub its_replies : (numbers : List ℕ) (reads : ReadsStack c h numbers g)
+    pub its_replies : {numbers : List ℕ} (reads : ReadsStack c h numbers g)
         → own_replied 0 (never_behind c h.pass.seen) (asked later) ≡ reads.all
-    its_replies numbers reads =
-        append_cancel_left (replied_in c 0 h.pass.seen)
-        (own_replied 0 (never_behind c h.pass.seen) (asked later)) reads.all
-        (sym (own_in_parts 0 (never_first c) (asked (calls c h.pass.seen)) (asked later))
-        ∙ ap (own_replied 0 (never_first c)) (sym split) ∙ reads.did)
+    its_replies reads =
+        append_cancel_left (replied_in c 0 h.pass.seen) (own_replied 0 (never_behind c h.pass.seen)
+        (asked later)) reads.all (sym (own_in_parts 0 (never_first c) (asked (calls c h.pass.seen)) (asked later)) ∙ ap
+        (own_replied 0 (never_first c)) (sym split) ∙ reads.did)

@@ -12,16 +12,13 @@ none_some x same = cc
 
 module _ {callers : ℕ} {n : NeverState} {top : Option ℕ} {role : ℕ → Role} {nodes : List ℕ} {W : ℕ → Work}
     (inv : Inv callers n top role nodes W) (c : ℕ) where
-  nothing_leaves : (k : ℕ) → Leaves n top role n top role k
-  nothing_leaves k = grind (arith, same_role)
-
   -- A step that leaves the heap as it was
-  pub by_nothing : {s : Point} {u : Option Done} {o : Op} {next : Point} {rest : List Replied} (u' : Option Done)
-      (d : Option Ordered) → Local n top role c next u' → AllHeld n role c next
+  pub by_nothing : {s : Point} {u : Option Done} {o : Op} {next : Point} {rest : List Replied} {u' : Option Done}
+      {d : Option Ordered} → Local n top role c next u' → AllHeld n role c next
       → IsLeft d (numbers_in n nodes) (numbers_in n nodes) → Decides c s u d u' → ((a : ℕ) → freed_by a n c o ≡ 0)
       → Stepped callers n role nodes W c s u o next rest n
-  by_nothing u' d local held left decides frees =
-      same_roles inv c n top u' d inv.core (λ k other. nothing_leaves k) local held left decides frees
+  by_nothing {u' = u'} {d = d} local held left decides frees =
+      same_roles inv c n top u' d inv.core (λ k other. grind (arith, same_role)) local held left decides frees
 
   -- A register that is set
   module _ (d : ℕ) (v : Value) (below : d < 8) where
@@ -31,29 +28,23 @@ module _ {callers : ℕ} {n : NeverState} {top : Option ℕ} {role : ℕ → Rol
     register_leaves : (k : ℕ) → k ≢ c → Leaves n top role m top role k
     register_leaves k other = grind (arith, register_of_other, same_role)
 
-    register_chain : HasChain m top role nodes
-    register_chain =
-        has_chain_stays n m top role role nodes refl (λ t e. (e, refl))
-        (λ a one e. record { role_now = e; link = refl }) inv.core.chain
-
     register_core : Core callers m top role nodes
     register_core = record {
       shape = rw (length-set n.registers (8 * c + d) v) inv.core.shape;
       fits = inv.core.fits;
       stacked = inv.core.stacked;
-      chain = register_chain;
+      chain = has_chain_stays n m top role role nodes refl (λ t e. (e, refl))
+          (λ a one e. record { role_now = e; link = refl }) inv.core.chain;
     }
 
-    register_numbers : numbers_in m nodes ≡ numbers_in n nodes
-    register_numbers = all_numbers_stay n m top role nodes (λ a e. refl) inv.core.chain
-
-    pub by_register : {s : Point} {u : Option Done} {o : Op} {next : Point} {rest : List Replied} (u' : Option Done)
-        (e : Option Ordered) → Local m top role c next u' → AllHeld m role c next
+    pub by_register : {s : Point} {u : Option Done} {o : Op} {next : Point} {rest : List Replied} {u' : Option Done}
+        {e : Option Ordered} → Local m top role c next u' → AllHeld m role c next
         → IsLeft e (numbers_in n nodes) (numbers_in n nodes) → Decides c s u e u' → ((a : ℕ) → freed_by a n c o ≡ 0)
         → Stepped callers n role nodes W c s u o next rest m
-    by_register u' e local held left decides frees =
+    by_register {u' = u'} {e = e} local held left decides frees =
         same_roles inv c m top u' e register_core register_leaves local held
-        (subst (IsLeft e (numbers_in n nodes)) (sym register_numbers) left) decides frees
+        (subst (IsLeft e (numbers_in n nodes)) (sym
+        (all_numbers_stay n m top role nodes (λ a e. refl) inv.core.chain)) left) decides frees
 
   -- The first caller stores the top in global 0.
   module _ (first : c ≡ 0) (t : ℕ) (none : top ≡ None) (is_base : role t ≡ Base) (empty : word_at n t 0 ≡ Null) where
@@ -61,8 +52,7 @@ module _ {callers : ℕ} {n : NeverState} {top : Option ℕ} {role : ℕ → Rol
     g = with_global n 0 (Ptr t 1 0)
 
     no_nodes : (x : Option ℕ) → x ≡ None → HasChain n x role nodes → nodes ≡ []
-    no_nodes None e chain = chain.1
-    no_nodes (Some x) e chain = absurd (none_some x (sym e))
+    no_nodes x0 e chain = grind (arith, none_some)
 
     global_leaves : (k : ℕ) → k ≢ c → Leaves n top role g (Some t) role k
     global_leaves k other = grind (arith, none_some, same_role)

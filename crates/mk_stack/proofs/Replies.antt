@@ -1,19 +1,16 @@
 -- One call of a caller, as one more operation with its reply.
-use Rattle.std.proofs.Common.{length-append}
 use Rattle.mk_stack.proofs.Vocabulary.{Answer, AreAdmitted, Call, Called, Config, Decided, Event, IsHistory, IsTyped}
 use Rattle.mk_stack.proofs.Vocabulary.{NeverState, Op, PassState, Replied, after_calls, after_op, answer_of, asked}
 use Rattle.mk_stack.proofs.Vocabulary.{caller_of_pass, calls, calls_from, flagged, left, never_behind, never_first}
 use Rattle.mk_stack.proofs.Vocabulary.{never_of, own_replied, register_at, replied_in, replied_to, reply_of, value_of}
 use Rattle.mk_stack.proofs.OwnCalls.{none_since}
 use Rattle.mk_laws.proofs.Vocabulary.{Bool, KeepsRegisters, List, Step, ℕ, ap, append-nil, append_assoc, arith}
-use Rattle.mk_laws.proofs.Vocabulary.{bases_of, call_decided, earlier_part_is_history, eq-eqb, false, first_world}
-use Rattle.mk_laws.proofs.Vocabulary.{if◌then◌else◌, length, map-append, refl, subst, sym, true, [], ◌++◌, ◌<◌, ◌==◌}
-use Rattle.mk_laws.proofs.{Vocabulary.{◌∙◌, ◌∷◌, ◌≡◌}, LastEvents.{comes_last, stands}}
+use Rattle.mk_laws.proofs.Vocabulary.{bases_of, eq-eqb, if◌then◌else◌, length, map-append, refl, subst, sym, [], ◌++◌}
+use Rattle.mk_laws.proofs.{Vocabulary.{◌<◌, ◌==◌, ◌∙◌, ◌∷◌, ◌≡◌}, LastEvents.{comes_last, stands}}
 use Rattle.mk_never.specs.Admitted.{IsCaller}
 use Rattle.mk_core.proofs.{Histories.calls_more, HistoryParts.calls_in_parts}
-use Rattle.mk_alloc.specs.TurnCalls.{CalledInTurn}
-use Rattle.mk_caller.proofs.OwnSteps.{by_append, calls_by}
-use Rattle.mk_caller.specs.{Called.{IsDecidedIn, own_calls}, Causes.FindsGateHeld}
+use Rattle.mk_alloc.{proofs.OneCalls.{OneCall, before_call, one_call, through_call}, specs.TurnCalls.{CalledInTurn}}
+use Rattle.mk_caller.{proofs.OwnSteps.{calls_by}, specs.{Called.{IsDecidedIn, own_calls}, Causes.FindsGateHeld}}
 use Rattle.mk_words.specs.States.{event_of}
 
 -- A caller's operations in two parts
@@ -27,8 +24,7 @@ own_in_parts k n (x ∷ xs) ys =
   where
     by : (b : Bool) (r : Replied) (all these those : List Replied) → all ≡ these ++ those
         → (if b then r ∷ all else all) ≡ (if b then r ∷ these else these) ++ those
-    by true r all these those is = ap (λ (l : List Replied). r ∷ l) is
-    by false r all these those is = is
+    by x0 r all these those is = grind arith
 
 -- Calls among which the caller has none
 none_replied : (k : ℕ) (n : NeverState) (xs : List Decided) → calls_by k xs ≡ [] → own_replied k n (asked xs) ≡ []
@@ -37,11 +33,9 @@ none_replied k n (x ∷ xs) h =
     by (x.caller == k) (calls_by k xs) (own_replied k (after_op n x.caller x.op) (asked xs)) h
     (none_replied k (after_op n x.caller x.op) xs)
   where
-    by : (b : Bool) (own : List Decided) (rest : List Replied) → (if b then x ∷ own else own) ≡ []
-        → (own ≡ [] → rest ≡ [])
-        → (if b then record { op = x.op; reply = reply_of n x.caller x.op } ∷ rest else rest) ≡ []
-    by true own rest is next = let some : x ∷ own ≡ [] = is in absurd (cc)
-    by false own rest is next = next is
+    by : (b : Bool) (own : List Decided) (rest : List Replied) → (if b then x ∷ own else own) ≡ [] → (own ≡ []
+        → rest ≡ []) → (if b then record { op = x.op; reply = reply_of n x.caller x.op } ∷ rest else rest) ≡ []
+    by x0 own rest is next = grind arith
 
 asked_in_two : (xs ys : List Decided) → asked (xs ++ ys) ≡ asked xs ++ asked ys
 asked_in_two xs ys = map-append (λ (x : Decided). record { caller = x.caller; op = x.op }) xs ys
@@ -57,9 +51,8 @@ pub same_replied : (c : Config) (k : ℕ) (es more : List Event) → calls_by k 
 same_replied c k es more none =
     let later : List Decided = calls_from c (left c es) more in
     ap (own_replied k (never_first c)) (asked_grown c es more refl)
-    ∙ own_in_parts k (never_first c) (asked (calls c es)) (asked later)
-    ∙ ap (λ (l : List Replied). replied_in c k es ++ l) (none_replied k (never_behind c es) later none)
-    ∙ append-nil (replied_in c k es)
+    ∙ own_in_parts k (never_first c) (asked (calls c es)) (asked later) ∙ ap (λ (l : List Replied). replied_in c k es ++
+    l) (none_replied k (never_behind c es) later none) ∙ append-nil (replied_in c k es)
 
 -- What is known of the place at which an operation was decided: the heap that never reuses storage there, in which the
 -- caller's registers are those before the call, and leave those after it.
@@ -76,17 +69,9 @@ pub record Happens (p : PassState) (o : Op) (a : Answer) (q : PassState) : Type 
   pub image : a ≡ answer_of bases (reply_of n (caller_of_pass p) o)
   pub did : replied_to q ≡ replied_to p ++ record { op = o; reply = reply_of n (caller_of_pass p) o } ∷ []
 
--- nothing is beside one element more
-only_one : (a z y : List Decided) (e : Decided) → ((a ++ z) ++ e ∷ []) ++ y ≡ a ++ e ∷ [] → (z ≡ []) × (y ≡ [])
-only_one a [] [] e h = (refl, refl)
-only_one a [] (b ∷ y) e h = let lengths = ap length h in absurd (grind (arith, length-append, lengths))
-only_one a (b ∷ z) y e h = let lengths = ap length h in absurd (grind (arith, length-append, lengths))
-
 module _ (p : PassState) (o : Op) (a : Answer) (more : List Event) (once : flagged o a ≡ o)
-    (history : IsHistory p.table.config (p.seen ++ more))
-    (entry : own_calls p (p.seen ++ more)
-    ≡ own_calls p p.seen ++ record { caller = caller_of_pass p; op = o; answer = a } ∷ [])
-    (decided : IsDecidedIn p o a more) where
+    (history : IsHistory p.table.config (p.seen ++ more)) (entry : own_calls p (p.seen ++ more) ≡ own_calls p p.seen ++
+    record { caller = caller_of_pass p; op = o; answer = a } ∷ []) (decided : IsDecidedIn p o a more) where
   abbrev c : Config
   c = p.table.config
 
@@ -97,57 +82,16 @@ module _ (p : PassState) (o : Op) (a : Answer) (more : List Event) (once : flagg
   x = record { caller = caller_of_pass p; op = o; answer = a }
 
   abbrev before : List Event
-  before = p.seen ++ decided.before
+  before = before_call decided
 
   abbrev through : List Event
-  through = before ++ decided.event ∷ []
+  through = through_call decided
 
-  abbrev earlier : List Decided
-  earlier = calls_from c (left c p.seen) decided.before
-
-  abbrev later : List Decided
-  later = calls_from c (left c through) decided.behind
-
-  abbrev n0 : NeverState
-  n0 = never_first c
-
-  cut : p.seen ++ more ≡ through ++ decided.behind
-  cut = grind (arith, append_assoc, before)
-
-  through_history : IsHistory c through
-  through_history = earlier_part_is_history c through decided.behind (subst (IsHistory c) cut history)
-
-  before_history : IsHistory c before
-  before_history = earlier_part_is_history c before (decided.event ∷ []) through_history
-
-  decides : call_decided c (left c before).now decided.event ≡ x ∷ []
-  decides = decided.decides ∙ ap (λ (y : Op). record { caller = k; op = y; answer = a } ∷ []) once
+  one : OneCall p o a more decided
+  one = one_call {p = p} once history entry decided
 
   admitted : AreAdmitted c.globals (never_behind c before) (asked (x ∷ []))
-  admitted = rw decides at (comes_last c before decided.event through_history).admitted
-
-  calls_before : calls c before ≡ calls c p.seen ++ earlier
-  calls_before = calls_in_parts c p.seen decided.before
-
-  calls_through : calls c through ≡ (calls c p.seen ++ earlier) ++ x ∷ []
-  calls_through = cc (calls_more c (first_world c) before decided.event, decides, calls_before)
-
-  calls_all : calls c (p.seen ++ more) ≡ ((calls c p.seen ++ earlier) ++ x ∷ []) ++ later
-  calls_all =
-      ap (calls c) cut ∙ calls_in_parts c through decided.behind ∙ ap (λ (l : List Decided). l ++ later) calls_through
-
-  one_is : calls_by k (x ∷ []) ≡ x ∷ []
-  one_is = ap (λ (b : Bool). if b then x ∷ [] else []) (eq-eqb k k refl)
-
-  -- The caller has no other call in it.
-  none : (calls_by k earlier ≡ []) × (calls_by k later ≡ [])
-  none =
-      only_one (own_calls p p.seen) (calls_by k earlier) (calls_by k later) x
-      (ap (λ (l : List Decided). l ++ calls_by k later)
-      (ap (λ (l : List Decided). (own_calls p p.seen ++ calls_by k earlier) ++ l) (sym one_is)
-      ∙ ap (λ (l : List Decided). l ++ calls_by k (x ∷ [])) (sym (by_append k (calls c p.seen) earlier))
-      ∙ sym (by_append k (calls c p.seen ++ earlier) (x ∷ [])))
-      ∙ sym (by_append k ((calls c p.seen ++ earlier) ++ x ∷ []) later) ∙ ap (calls_by k) (sym calls_all) ∙ entry)
+  admitted = rw one.decides at (comes_last c before decided.event one.through).admitted
 
   abbrev here : Replied
   here = record { op = o; reply = reply_of (never_behind c before) k o }
@@ -156,16 +100,13 @@ module _ (p : PassState) (o : Op) (a : Answer) (more : List Event) (once : flagg
   own_one = ap (λ (b : Bool). if b then here ∷ [] else []) (eq-eqb k k refl)
 
   own_through : replied_in c k through ≡ replied_in c k before ++ here ∷ []
-  own_through = grind (arith, n0, calls_more, before, decides, asked_in_two, own_in_parts, own_one)
-
-  own_all : replied_in c k (p.seen ++ more) ≡ replied_in c k p.seen ++ here ∷ []
-  own_all =
-      ap (replied_in c k) cut ∙ same_replied c k through decided.behind none.1 ∙ own_through
-      ∙ ap (λ (l : List Replied). l ++ here ∷ []) (same_replied c k p.seen decided.before none.0)
+  own_through =
+      let decides = one.decides in
+      grind (arith, calls_more, before_call, decides, asked_in_two, own_in_parts, own_one)
 
   pub happens : Happens p o a (record p { seen = p.seen ++ more })
   happens =
-      let mirrors = (stands c before before_history).all.mirrors in
+      let mirrors = (stands c before one.before).all.mirrors in
       record {
         is = refl;
         n = never_behind c before;
@@ -177,29 +118,25 @@ module _ (p : PassState) (o : Op) (a : Answer) (more : List Event) (once : flagg
         after = decided.left_so;
         bases = bases_of (left c (p.seen ++ decided.before ++ decided.event ∷ [])).allocations;
         image = decided.reply;
-        did = own_all;
+        did = ap (replied_in c k) one.cut ∙ same_replied c k through decided.behind one.none_behind ∙ own_through
+            ∙ ap (λ (l : List Replied). l ++ here ∷ []) (same_replied c k p.seen decided.before one.none_before);
       }
 
 pub from_called : {p q : PassState} {o : Op} {a : Answer} → Called p o a q → flagged o a ≡ o
     → IsHistory q.table.config q.seen → Happens p o a q
 from_called {p} {q} {o} {a} h once history =
     subst (Happens p o a) (sym h.is)
-    (happens p o a h.more once (subst (λ (r : PassState). IsHistory r.table.config r.seen) h.is history)
-    (h.entry ∙ ap (λ (y : Op). own_calls p p.seen
-    ++ record { caller = caller_of_pass p; op = y; answer = a } ∷ []) once) h.decided)
+    (happens p o a h.more once (subst (λ (r : PassState). IsHistory r.table.config r.seen) h.is history) (h.entry ∙ ap
+    (λ (y : Op). own_calls p p.seen ++ record { caller = caller_of_pass p; op = y; answer = a } ∷ []) once) h.decided)
 
 flagged_once : (o : Op) (a : Answer) → flagged (flagged o a) a ≡ flagged o a
-flagged_once (Op.New d ty full) Answer.Full = refl
-flagged_once (Op.New d ty full) _ = refl
-flagged_once _ a = refl
+flagged_once x0 a = grind arith
 
 pub from_turn : {on : Bool} {p q : PassState} {o : Op} {a : Answer} → CalledInTurn on p o a q
     → IsHistory q.table.config q.seen → Happens p (flagged o a) a q
 from_turn {on} {p} {q} {o} {a} h history =
-    subst (Happens p (flagged o a) a) (sym h.is)
-    (happens p (flagged o a) a h.more (flagged_once o a) (subst (λ
-    (r : PassState). IsHistory r.table.config r.seen) h.is history)
-    h.entry h.decided)
+    subst (Happens p (flagged o a) a) (sym h.is) (happens p (flagged o a) a h.more (flagged_once o a)
+    (subst (λ (r : PassState). IsHistory r.table.config r.seen) h.is history) h.entry h.decided)
 
 -- The caller found its gate held, and asked nothing.
 pub record Stays (p q : PassState) : Type 0 where
@@ -215,8 +152,7 @@ stays_held {p} {q} {o} f =
     let seen : q ≡ record p { seen = q.seen } = is ∙ ap (λ (r : PassState). record p { seen = r.seen }) (sym is) in
     record {
       is = seen;
-      did = rw is (same_replied p.table.config (caller_of_pass p) p.seen more
-          (none_since p.table.config (caller_of_pass p) p.seen more
-          (ap (λ (r : PassState). own_calls p r.seen) (sym is) ∙ f.entries)));
+      did = rw is (same_replied p.table.config (caller_of_pass p) p.seen more (none_since p.table.config
+          (caller_of_pass p) p.seen more (ap (λ (r : PassState). own_calls p r.seen) (sym is) ∙ f.entries)));
       registers = λ r lt. ap (λ (s : PassState). register_at (never_of q) (caller_of_pass s) r) seen ∙ f.registers r lt;
     }

@@ -1,6 +1,6 @@
 -- What each allocation is for the stack, and what a step of one caller leaves of what the others rely on.
-use Rattle.mk_laws.proofs.Vocabulary.{Bool, ℕ, ap, cond, eq-eqb, eqb-false, eqb-true, false, if◌then◌else◌, ne_eqb}
-use Rattle.mk_laws.proofs.Vocabulary.{refl, subst, sym, true, ◌==◌, ◌≡◌, ◌≢◌}
+use Rattle.mk_laws.proofs.Vocabulary.{Bool, ℕ, ap, arith, cond, eq-eqb, eqb-false, eqb-true, false, if◌then◌else◌}
+use Rattle.mk_laws.proofs.Vocabulary.{ne_eqb, refl, subst, sym, true, ◌==◌, ◌≡◌, ◌≢◌}
 
 -- Not granted; the top; a caller's, and not yet pushed; on the stack; popped by a caller, which frees it next; freed
 pub data Role : Type 0 where
@@ -47,17 +47,11 @@ RoleKeeps k (Taken j) r same = (j ≡ k → r ≡ Taken k) × IsPublished r × s
 RoleKeeps k Freed r same = IsPublished r × same
 
 pub same_role : (k : ℕ) (r : Role) (same : Type 0) → same → RoleKeeps k r r same
-same_role k Unborn same h = tt
-same_role k Base same h = tt
-same_role k (Private j) same h = λ e. (ap Private e, h)
-same_role k Stacked same h = (tt, h)
-same_role k (Taken j) same h = ((λ e. ap Taken e), tt, h)
-same_role k Freed same h = (tt, h)
+same_role k x1 same h = grind arith
 
 pub private_keeps : (k : ℕ) (r r' : Role) (same : Type 0) → r ≡ Private k → RoleKeeps k r r' same
     → (r' ≡ Private k) × same
-private_keeps k r r' same is keeps = subst (λ (x : Role). RoleKeeps k x r' same → (r' ≡ Private k) × same) (sym is)
-    (λ h. h refl) keeps
+private_keeps k r r' same is keeps = grind (arith, Private)
 
 -- what is left of a node that the caller took
 pub record StillTaken (k : ℕ) (r : Role) (same : Type 0) : Type 0 where
@@ -71,12 +65,7 @@ taken_keeps k r r' same is keeps =
 
 pub published_keeps : (k : ℕ) (r r' : Role) (same : Type 0) → IsPublished r → RoleKeeps k r r' same
     → IsPublished r' × same
-published_keeps k Unborn r' same is keeps = absurd is
-published_keeps k Base r' same is keeps = absurd is
-published_keeps k (Private j) r' same is keeps = absurd is
-published_keeps k Stacked r' same is keeps = keeps
-published_keeps k (Taken j) r' same is keeps = (keeps.1, keeps.2)
-published_keeps k Freed r' same is keeps = keeps
+published_keeps k x1 r' same is keeps = grind arith
 
 -- a function with another value in one place
 abbrev pub put : {A : Type 0} → (ℕ → A) → ℕ → A → ℕ → A
@@ -91,8 +80,4 @@ put_other f a x b other = ap (λ (t : Bool). cond t x (f b)) (ne_eqb b a other)
 -- what holds of the new value there and of the old ones elsewhere
 pub put_by : {A : Type 0} (P : ℕ → A → Type 0) (f : ℕ → A) (a : ℕ) (x : A) → P a x → ((b : ℕ) → b ≢ a → P b (f b))
     → (b : ℕ) → P b (put f a x b)
-put_by P f a x here there b = by (b == a) refl
-  where
-    by : (t : Bool) → (b == a) ≡ t → P b (cond t x (f b))
-    by true e = subst (λ (c : ℕ). P c x) (sym (eqb-true b a e)) here
-    by false e = there b (eqb-false b a e)
+put_by x0 f a x here there b = grind (arith, eqb-true, eqb-false)

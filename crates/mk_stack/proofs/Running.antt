@@ -49,15 +49,10 @@ module _ {callers : ℕ} {n : NeverState} {top : Option ℕ} {role : ℕ → Rol
         (sym (cons_head _ y (own_replied c m xs) (ys ++ all_of (W c).later) own_is)) leads.1
 
     stepped : Stepped callers n role nodes W c (W c).point (W c).decided o leads.0 ys m
-    stepped =
-        steps inv c exists (W c).point o (reply_of n c o) leads.0 asks (W c).decided ys
-        (inv.local c) (λ a. inv.held c a) refl
+    stepped = steps inv c exists asks (W c).decided ys (inv.local c) (λ a. inv.held c a) refl
 
     abbrev w : Work
     w = moved (W c) leads.0 stepped.decided ys
-
-    works_on : (k : ℕ) → IsWork m xs k (put W c w k)
-    works_on = grind (arith, put_by, cons_tail, own_is, leads, of_other)
 
     local_now : Local m stepped.top_now stepped.role_now c leads.0 stepped.decided
     local_now = rw (put_same W c w) at (stepped.inv.local c)
@@ -75,29 +70,21 @@ module _ {callers : ℕ} {n : NeverState} {top : Option ℕ} {role : ℕ → Rol
       mine_once : IsOnce c (W c) (own_decisions c (x ∷ xs) decisions)
       mine_once =
           let after : IsOnce c w own = subst (λ (v : Work). IsOnce c v own) (put_same W c w) (ran.once c) in
-          let more =
-          once_more c (W c).point leads.0 (W c).decided stepped.decision stepped.decided (W c).goal (take
-          (length ys) own) stepped.decides
+          let more = once_more leads.0 (W c).goal (take (length ys) own) stepped.decides
           (same_job asks m stepped.top_now stepped.role_now c stepped.decided local_now)
           (works c).goal no_founder after.agrees after.first in
-          subst (IsOnce c (W c)) (sym (my_decision c o xs stepped.decision ran.decisions))
-          (record {
+          subst (IsOnce c (W c)) (sym (my_decision c o xs stepped.decision ran.decisions)) (record {
             agrees = more.agrees;
-            first = subst
-                (λ (r : List Replied). order_of (take (length r) (stepped.decision ∷ own))
-                ≡ owed c (W c).point (W c).decided (W c).goal) (sym rest_is) more.first;
-            later = subst
-                (λ (r : List Replied). AreDecidedOnce c (W c).later (drop (length r) (stepped.decision ∷ own)))
-                (sym rest_is) after.later;
+            first = subst (λ (r : List Replied). order_of (take (length r) (stepped.decision ∷ own)) ≡ owed c
+                (W c).point (W c).decided (W c).goal) (sym rest_is) more.first;
+            later = subst (λ (r : List Replied). AreDecidedOnce c (W c).later
+                (drop (length r) (stepped.decision ∷ own))) (sym rest_is) after.later;
           })
 
       other_once : (k : ℕ) → k ≢ c → IsOnce k (W k) (own_decisions k (x ∷ xs) decisions)
       other_once k other =
           subst (IsOnce k (W k)) (sym (decision_of_other k c o xs stepped.decision ran.decisions other))
           (subst (λ (v : Work). IsOnce k v (own_decisions k xs ran.decisions)) (put_other W c w k other) (ran.once k))
-
-      all_once : (k : ℕ) → IsOnce k (W k) (own_decisions k (x ∷ xs) decisions)
-      all_once k = grind (arith, decisions, mine_once, other_once)
 
       ran_on : Ran callers n role nodes W (x ∷ xs)
       ran_on = record {
@@ -106,16 +93,17 @@ module _ {callers : ℕ} {n : NeverState} {top : Option ℕ} {role : ℕ → Rol
         one_each = ap suc ran.one_each;
         explained = explained_more stepped.decision (numbers_in n nodes) (numbers_in m stepped.nodes_now)
             (numbers_in (after_calls m xs) ran.end.nodes) ran.decisions stepped.left ran.explained;
-        once = all_once;
+        once = λ k. grind (arith, decisions, mine_once, other_once);
         frees = λ a. omega (arith, stepped.frees a, ran.frees a);
         single = (
-          single inv c exists (W c).point o (reply_of n c o) leads.0 asks (W c).decided (inv.local c) refl,
+          single inv c exists asks (W c).decided (inv.local c) refl,
           ran.single,
         );
       }
 
     goes_on : RunsOn callers m xs → Ran callers n role nodes W (x ∷ xs)
-    goes_on run = ran_on (run stepped.top_now stepped.role_now stepped.nodes_now (put W c w) stepped.inv works_on)
+    goes_on run = ran_on (run stepped.top_now stepped.role_now stepped.nodes_now (put W c w) stepped.inv
+        (grind (arith, put_by, cons_tail, own_is, leads, of_other)))
 
   -- The caller begins its next job.
   module _ (nil : (W c).rest ≡ []) (r : JobRun) (rs : List JobRun) (later_is : (W c).later ≡ r ∷ rs) where
@@ -130,13 +118,12 @@ module _ {callers : ℕ} {n : NeverState} {top : Option ℕ} {role : ℕ → Rol
       core = inv.core;
       local = put_by (λ (k : ℕ) (v : Work). Local n top role k v.point v.decided) W c fresh refl
           (λ k other. inv.local k);
-      held = λ k a. put_by (λ (j : ℕ) (v : Work). IsHeld n (role a) j a v.point) W c fresh
-          (record {
-            pushing = λ e. absurd (goal_pushes_nothing (W c).goal (works c).goal
-                (subst IsPushing at_end ((inv.held c a).pushing e).0));
-            freeing = λ e. absurd (goal_frees_nothing (W c).goal (works c).goal
-                (subst IsFreeing at_end ((inv.held c a).freeing e).0));
-          }) (λ j other. inv.held j a) k;
+      held = λ k a. put_by (λ (j : ℕ) (v : Work). IsHeld n (role a) j a v.point) W c fresh (record {
+        pushing = λ e. absurd (goal_pushes_nothing (W c).goal (works c).goal
+            (subst IsPushing at_end ((inv.held c a).pushing e).0));
+        freeing = λ e. absurd (goal_frees_nothing (W c).goal (works c).goal
+            (subst IsFreeing at_end ((inv.held c a).freeing e).0));
+      }) (λ j other. inv.held j a) k;
     }
 
     runs : AreJobRuns (r ∷ rs)
@@ -145,12 +132,8 @@ module _ {callers : ℕ} {n : NeverState} {top : Option ℕ} {role : ℕ → Rol
     begun_works : (k : ℕ) → IsWork n (x ∷ xs) k (put W c fresh k)
     begun_works = grind (arith, put_by, fresh, leads, runs)
 
-    begun_once : (ds : List (Option Ordered)) → IsOnce c fresh ds → IsOnce c (W c) ds
-    begun_once ds once = grind (arith, settled, at_end)
-
-    began_once : (ran : Ran callers n role nodes (put W c fresh) (x ∷ xs)) (k : ℕ)
-        → IsOnce k (W k) (own_decisions k (x ∷ xs) ran.decisions)
-    began_once ran k = grind (arith, begun_once, put_same, fresh, put_other)
+    begun_once : {ds : List (Option Ordered)} → IsOnce c fresh ds → IsOnce c (W c) ds
+    begun_once once = grind (arith, settled, at_end)
 
     began : Ran callers n role nodes (put W c fresh) (x ∷ xs) → Ran callers n role nodes W (x ∷ xs)
     began ran = record {
@@ -158,7 +141,7 @@ module _ {callers : ℕ} {n : NeverState} {top : Option ℕ} {role : ℕ → Rol
       decisions = ran.decisions;
       one_each = ran.one_each;
       explained = ran.explained;
-      once = began_once ran;
+      once = λ k. grind (arith, begun_once, put_same, fresh, put_other);
       frees = ran.frees;
       single = ran.single;
     }
@@ -184,9 +167,8 @@ run_more {callers} {n} {role} {nodes} {W} inv c o xs exists works run = by (W c)
             → Ran callers n role nodes (put W c (next_work r rs)) (record { caller = c; op = o } ∷ xs)
         begin [] e = absurd (begins r (runs inv c o xs exists works nil r rs is).0 e)
         begin (y ∷ ys) e =
-            goes_on (begun_inv inv c o xs exists works nil r rs is) c o xs exists
-            (begun_works inv c o xs exists works nil r rs is) y ys
-            (ap (λ (v : Work). v.rest) (put_same W c (next_work r rs)) ∙ e) run
+            goes_on (begun_inv inv c o xs exists works nil r rs is) c o xs exists (begun_works inv c o xs exists works
+            nil r rs is) y ys (ap (λ (v : Work). v.rest) (put_same W c (next_work r rs)) ∙ e) run
 
     by : (l : List Replied) → (W c).rest ≡ l → Ran callers n role nodes W (record { caller = c; op = o } ∷ xs)
     by [] e = open_next e (W c).later refl

@@ -2,10 +2,10 @@
 use Rattle.std.proofs.lemmas.List.{length-replicate}
 use Rattle.mk_stack.proofs.Vocabulary.{AreAdmitted, AreBelow, Call, Config, Event, IsHistory, JobRun, NeverState, Null}
 use Rattle.mk_stack.proofs.Vocabulary.{Replied, after_op, all_of, asked, calls, never_first}
-use Rattle.mk_stack.proofs.Linearizable.{stacks_are_linearizable}
 use Rattle.mk_laws.proofs.Vocabulary.{List, ℕ, ap, append-nil, append_assoc, arith, length, refl, sym, [], ◌*◌, ◌++◌}
 use Rattle.mk_laws.proofs.Vocabulary.{◌+◌, ◌<◌, ◌∙◌, ◌∷◌, ◌≡◌}
 use Rattle.mk_never.proofs.Later.{op_stays}
+use Rattle.mk_stack.proofs.Linearizable.{stacks_are_linearizable}
 use Rattle.mk_stack.specs.Histories.{JobsAddUp, JobsInHistoriesAreLinearizable}
 
 -- Admitted calls are of callers that exist.
@@ -41,7 +41,6 @@ jobs_add_up p q job done first rs before does =
       same_done = refl;
       did =
           does.did ∙ ap (λ (l : List Replied). l ++ does.all) before ∙ append_assoc first (all_of rs) does.all
-          ∙ ap (λ (l : List Replied). first ++ l)
-          (ap (λ (l : List Replied). all_of rs ++ l) (sym (append-nil does.all))
+          ∙ ap (λ (l : List Replied). first ++ l) (ap (λ (l : List Replied). all_of rs ++ l) (sym (append-nil does.all))
           ∙ sym (all_in_parts rs (record { job = job; done = done; all = does.all } ∷ [])));
     }

@@ -56,9 +56,8 @@ module _ (c : Config) (es : List Event) where
 
   -- Behind the last list no caller asks for anything.
   own_at : (below : AreBelow c.callers (asked (calls c es))) (first : List Replied) (k : ℕ) (lists : List Jobs)
-      (all : List Dones) (h : HaveDone c es first k lists all) → (length lists ≡ 0 → first ≡ [])
-      → k + length lists ≡ c.callers → (i : ℕ)
-      → replied_in c (k + i) es ≡ jobs_of_first i first ++ all_of (runs_at first k lists all h i)
+      (all : List Dones) (h : HaveDone c es first k lists all) → (length lists ≡ 0 → first ≡ []) → k + length lists
+      ≡ c.callers → (i : ℕ) → replied_in c (k + i) es ≡ jobs_of_first i first ++ all_of (runs_at first k lists all h i)
   unfolding runs_at
   own_at below first k [] [] h none count zero =
       cc (unasked_beyond (k + 0) c.callers (never_first c) (asked (calls c es)) below (omega arith), none refl)
@@ -79,10 +78,9 @@ module _ (c : Config) (es : List Event) where
 pub is_stack_run : {c : Config} (es more : List Event) {fs : List Event} (founding : List Replied) (lists : List Jobs)
     (all : List Dones) (left_on : List ℕ) (walked : List Replied) → fs ≡ es ++ more → IsHistory c fs → HasStackTypes c
     → Leads Founding founding Founded → length lists ≡ c.callers → HaveDone c es founding 0 lists all
-    → AreAllBy 0 (asked (calls_from c (left c es) more))
-    → own_replied 0 (never_behind c es) (asked (calls_from c (left c es) more)) ≡ walked
-    → LeadsDown WalkPoint.Starting walked WalkPoint.Ended → numbers_read walked ≡ left_on
-    → IsStackRun c fs lists all left_on
+    → AreAllBy 0 (asked (calls_from c (left c es) more)) → own_replied 0 (never_behind c es)
+    (asked (calls_from c (left c es) more)) ≡ walked → LeadsDown WalkPoint.Starting walked WalkPoint.Ended
+    → numbers_read walked ≡ left_on → IsStackRun c fs lists all left_on
 is_stack_run {c} es more founding lists all left_on walked is history types founds count h by_first own leads reads =
     let jobs_history : IsHistory c es = earlier_part_is_history c es more (subst (IsHistory c) is history) in
     let below = callers_are_below jobs_history in
@@ -94,9 +92,8 @@ is_stack_run {c} es more founding lists all left_on walked is history types foun
       tops = types.top;
       founds = founds;
       jobs = are_runs_at c es founding 0 lists all h;
-      own = λ k. ap (λ (j : ℕ). replied_in c j es) (omega arith)
-          ∙ own_at c es below founding 0 lists all h (λ e. absurd (omega (arith, e, count, least)))
-          (omega (arith, count)) k;
+      own = λ k. ap (λ (j : ℕ). replied_in c j es) (omega arith) ∙ own_at c es below founding 0 lists all h
+          (λ e. absurd (omega (arith, e, count, least))) (omega (arith, count)) k;
       exist = below;
     } in
     let explained : IsExplained c.types c.callers founding runs (asked (calls c es)) =
@@ -121,14 +118,12 @@ is_stack_run {c} es more founding lists all left_on walked is history types foun
 
 -- It stands where the history goes on without a call.
 pub run_stands : {c : Config} {es : List Event} (more : List Event) {fs : List Event} {lists : List Jobs}
-    {all : List Dones} {left_on : List ℕ}
-    → fs ≡ es ++ more → IsHistory c fs → ((k : ℕ) → k < c.callers → AreOfOthers (Caller k ∷ []) more)
-    → IsStackRun c es lists all left_on → IsStackRun c fs lists all left_on
+    {all : List Dones} {left_on : List ℕ} → fs ≡ es ++ more → IsHistory c fs → ((k : ℕ) → k < c.callers
+    → AreOfOthers (Caller k ∷ []) more) → IsStackRun c es lists all left_on → IsStackRun c fs lists all left_on
 run_stands {c} {es} more {fs} is history others run =
     let later : List Decided = calls_from c (left c es) more in
     let split : asked (calls c fs) ≡ asked (calls c es) ++ asked later = asked_grown c es more is in
-    let below : AreBelow c.callers (asked later) =
-    below_later c.callers (asked (calls c es)) (asked later)
+    let below : AreBelow c.callers (asked later) = below_later c.callers (asked (calls c es)) (asked later)
     (subst (AreBelow c.callers) split (callers_are_below history)) in
     let none : later ≡ [] = no_calls c.callers later below (λ k lt. none_of c k es more (others k lt)) in
     record {

@@ -1,24 +1,21 @@
 -- What the steps of all points share.
-use Rattle.mk_stack.proofs.Vocabulary.{Done, Empty, Job, NeverState, Null, Op, Ordered, Point, Pop, Ptr, Push, Replied}
-use Rattle.mk_stack.proofs.Vocabulary.{Reply, Value, WordOf, after_op, bit, done_without, is_same, left_by, register_at}
-use Rattle.mk_stack.proofs.Vocabulary.{reply_of, target_of, with_register, with_word, word_at, words_of}
-use Rattle.mk_stack.proofs.Invariant.{AllHeld, HasChain, HasTop, Inv, IsFreeing, IsHeld, IsPushing, Work}
-use Rattle.mk_stack.proofs.Roles.{Base, Freed, Private, Role, Stacked, Taken, Unborn, put, put_by, size_of}
-use Rattle.mk_stack.proofs.{Assembly.{Decides, Stepped, held_on}, Heaps.{reaches, set_register}}
-use Rattle.mk_laws.proofs.Vocabulary.{Bool, List, None, Option, Some, ℕ, arith, cond, false, false≢true, length, refl}
-use Rattle.mk_laws.proofs.Vocabulary.{subst, sym, true, [], ◌*◌, ◌+◌, ◌<◌, ◌∙◌, ◌≡◌, ◌≢◌, ◌≤◌}
+use Rattle.mk_stack.proofs.Vocabulary.{Done, Job, NeverState, Null, Op, Ordered, Point, Ptr, Replied, Reply, Value}
+use Rattle.mk_stack.proofs.Vocabulary.{WordOf, after_op, bit, done_without, is_same, left_by, register_at, reply_of}
+use Rattle.mk_stack.proofs.{Vocabulary.{target_of, with_register, with_word, word_at}, Invariant.{AllHeld, HasChain}}
+use Rattle.mk_stack.proofs.{Invariant.{HasTop, Inv, IsFreeing, IsHeld, IsPushing, Work}, Roles.{Role, put, put_by}}
+use Rattle.mk_stack.proofs.{Roles.size_of, Assembly.{Decides, Stepped, held_on}, Heaps.{reaches, set_register}}
+use Rattle.mk_laws.proofs.Vocabulary.{Bool, List, None, Option, Some, ℕ, arith, cond, false, false≢true, length, subst}
+use Rattle.mk_laws.proofs.Vocabulary.{sym, true, [], ◌*◌, ◌+◌, ◌<◌, ◌∙◌, ◌≡◌, ◌≢◌, ◌≤◌}
 use Rattle.mk_never.proofs.Sameness.{equal_from_same, same_from_equal}
 
 pub ptr_is_not_null : (a ty : ℕ) → Ptr a ty 0 ≡ Null → ⊥
 ptr_is_not_null a ty e = cc
 
 pub bit_is_one : (b : Bool) → bit b ≡ 1 → b ≡ true
-bit_is_one true e = refl
-bit_is_one false e = absurd (omega arith)
+bit_is_one x0 e = grind arith
 
 pub bit_is_zero : (b : Bool) → bit b ≡ 0 → b ≡ false
-bit_is_zero true e = absurd (omega arith)
-bit_is_zero false e = refl
+bit_is_zero x0 e = grind arith
 
 pub num_is : (a b : ℕ) → Reply.Num a ≡ Reply.Num b → a ≡ b
 num_is a b e = cc
@@ -31,27 +28,20 @@ ptr_is a b ty offset e = cc
 
 -- A size of at most two words
 pub small : (r : Role) → size_of r ≤ 2
-small Unborn = omega arith
-small Base = omega arith
-small (Private k) = omega arith
-small Stacked = omega arith
-small (Taken k) = omega arith
-small Freed = omega arith
+small x0 = grind arith
 
 module _ {callers : ℕ} {n : NeverState} {top : Option ℕ} {role : ℕ → Role} {nodes : List ℕ} {W : ℕ → Work}
     (inv : Inv callers n top role nodes W) (c : ℕ) (exists : c < callers) where
   abbrev Goal : Point → Option Done → Op → Point → List Replied → NeverState → Type 0
   Goal s u o next rest m = Stepped callers n role nodes W c s u o next rest m
 
-  pub all_small : (a : ℕ) → length (words_of n a) ≤ 2
-  all_small a = let bound = small (role a) in omega (arith, (inv.core.fits a).size, bound)
-
   pub there : (r : ℕ) → r < 8 → 8 * c + r < length n.registers
   there r lt = omega (arith, inv.core.shape.registers, exists, lt)
 
   -- where an access through a register gets to
   pub gets : (q a ty i : ℕ) → register_at n c q ≡ Ptr a ty 0 → target_of n (register_at n c q) i ≡ WordOf a (0 + i)
-  gets q a ty i is = reaches n c q a ty 0 i is (all_small a)
+  gets q a ty i is = reaches n c q a ty 0 i is (
+      let bound = small (role a) in omega (arith, (inv.core.fits a).size, bound))
 
   pub register_set : (d : ℕ) (v : Value) → d < 8 → register_at (with_register n c d v) c d ≡ v
   register_set d v lt = set_register n c d v (there d lt)
@@ -69,13 +59,12 @@ module _ {callers : ℕ} {n : NeverState} {top : Option ℕ} {role : ℕ → Rol
   put_held m a r next here others b =
       put_by (λ (x : ℕ) (y : Role). IsHeld m y c x next) role a r here (λ x ne. others x) b
 
-  pub undecided : (s : Point) (u : Option Done) (d : Option Ordered) (y : Done) → u ≡ None → Decides c s None d (Some y)
+  pub undecided : {s : Point} (u : Option Done) {d : Option Ordered} {y : Done} → u ≡ None → Decides c s None d (Some y)
       → Decides c s u d (Some y)
-  undecided s u d y is h = subst (λ (x : Option Done). Decides c s x d (Some y)) (sym is) h
+  undecided {s} u {d = d} {y = y} is h = subst (λ (x : Option Done). Decides c s x d (Some y)) (sym is) h
 
   pub without_left : (j : Job) (xs : List ℕ) → xs ≡ [] → left_by xs j (done_without j) ≡ Some xs
-  without_left (Push x) xs e = refl
-  without_left Pop xs e = subst (λ (l : List ℕ). left_by l Pop Empty ≡ Some l) (sym e) refl
+  without_left x0 xs e = grind arith
 
   -- What IsNull says
   pub is_null_says : (r m : ℕ) → reply_of n c (Op.IsNull r) ≡ Reply.Num m → bit (is_same (register_at n c r) Null) ≡ m

@@ -6,13 +6,13 @@ use Rattle.mk_stack.proofs.Vocabulary.{global_at, numbers_read, register_at, rep
 use Rattle.mk_stack.proofs.Advances.{Steps, of_asked, place_state, ready_state, steps_so}
 use Rattle.mk_stack.proofs.{NodeKinds.{IsStackState, global_kind}, PointSteps.{admits, kept, loads_link, loads_number}}
 use Rattle.mk_stack.proofs.{PointSteps.{loads_top, may_follow, now_may, tested}, AtPoints.holds_still, Going.seen_then}
-use Rattle.mk_stack.{proofs.Replies.{Stays, from_called}, specs.declared.walking.Found.{Found}}
-use Rattle.mk_stack.specs.{declared.walking.WalkPoint.WalkPoint, Walks.{Walks, descend, found_down, go, lack, meet}}
-use Rattle.mk_stack.specs.{Walks.{number_read, op_down, peek, read, start, stop}, Ready.IsReady}
+use Rattle.mk_stack.{proofs.Replies.{Stays, from_called}, specs.declared.walking.WalkPoint.{WalkPoint}}
 use Rattle.mk_laws.proofs.Vocabulary.{IsAdmitted, List, Some, ℕ, ap, append-nil, append_assoc, arith, false}
 use Rattle.mk_laws.proofs.{Vocabulary.{is_under_turn, refl, subst, sym, [], ◌++◌, ◌∙◌, ◌∷◌, ◌≡◌}, CallSorts.flag_is}
 use Rattle.mk_caller.specs.States.{Admits}
 use Rattle.mk_run.specs.Scripts.{IsCalled, as_told}
+use Rattle.mk_stack.specs.Walks.{Walks, descend, found_down, go, lack, meet, number_read, op_down, peek, read, start}
+use Rattle.mk_stack.specs.{Walks.stop, Ready.IsReady, declared.walking.Found.Found}
 
 -- what the registers hold at a point is what they hold at this one of a pop
 abbrev pub as_pop : WalkPoint → Point
@@ -49,13 +49,7 @@ module _ {globals : List ℕ} {n : NeverState} {k : ℕ} (state : IsStackState g
   At s = HoldsAt (register_at n k) (as_pop s)
 
   pub admits_down : (s : WalkPoint) → At s → IfSome (op_down s) (IsAdmitted globals n k)
-  admits_down WalkPoint.Starting h = admits state (Point.Starting Pop) h
-  admits_down WalkPoint.Checking h = admits state (Point.Checking Pop) h
-  admits_down WalkPoint.Peeking h = admits state Point.Peeking h
-  admits_down WalkPoint.Testing h = admits state Point.Testing h
-  admits_down WalkPoint.Reading h = admits state Point.Reading h.1
-  admits_down WalkPoint.Descending h = may_follow state 2 (omega arith) h.1
-  admits_down WalkPoint.Ended h = tt
+  admits_down x0 h = grind (arith, admits, may_follow)
 
   abbrev Step : WalkPoint → Op → Answer → List ℕ → Reply → NeverState → Type 0
   Step s o a bases r m =
@@ -66,18 +60,14 @@ module _ {globals : List ℕ} {n : NeverState} {k : ℕ} (state : IsStackState g
       → Step s o a bases (reply_of n k o) (after_op n k o))
   goes_down WalkPoint.Starting h = λ a bases image.
       ((start, refl), now_may state 1 0 (global_at n 0) (omega arith) (global_kind state))
-  goes_down WalkPoint.Checking h = λ a bases.
-      tested state (λ o r f. Down WalkPoint.Checking o r f × HoldsAt (register_at n k) (after f)) 0 1 a bases h
-      ((lack, refl), tt) (λ p. ((go, refl), p))
-  goes_down WalkPoint.Peeking h = λ a bases.
-      loads_top state (Step WalkPoint.Peeking (Op.GetPtr 2 0 0) a bases) h
+  goes_down WalkPoint.Checking h = λ a bases. tested state (λ o r f. Down WalkPoint.Checking o r f × HoldsAt
+      (register_at n k) (after f)) 0 1 a bases h ((lack, refl), tt) (λ p. ((go, refl), p))
+  goes_down WalkPoint.Peeking h = λ a bases. loads_top state (Step WalkPoint.Peeking (Op.GetPtr 2 0 0) a bases) h
       (λ v may image. ((peek, refl), (kept state 2 0 v (omega arith) h, now_may state 0 2 v (omega arith) may)))
-  goes_down WalkPoint.Testing h = λ a bases.
-      tested state (λ o r f. Down WalkPoint.Testing o r f × HoldsAt (register_at n k) (after f)) 2 0 a bases h.1
-      ((stop, refl), tt) (λ p. ((meet, refl), (h.0, p)))
-  goes_down WalkPoint.Reading h = λ a bases.
-      loads_number state (λ r. Step WalkPoint.Reading (Op.GetNum 2 0) a bases r n) h.1
-      (λ x image. rw image ((read, refl), h))
+  goes_down WalkPoint.Testing h = λ a bases. tested state (λ o r f. Down WalkPoint.Testing o r f × HoldsAt
+      (register_at n k) (after f)) 2 0 a bases h.1 ((stop, refl), tt) (λ p. ((meet, refl), (h.0, p)))
+  goes_down WalkPoint.Reading h = λ a bases. loads_number state
+      (λ r. Step WalkPoint.Reading (Op.GetNum 2 0) a bases r n) h.1 (λ x image. rw image ((read, refl), h))
   goes_down WalkPoint.Descending h = λ a bases.
       loads_link state 2 (Step WalkPoint.Descending (Op.GetPtr 2 2 1) a bases) h.1
       (λ v may image. ((descend, refl), (kept state 2 0 v (omega arith) h.0, now_may state 0 2 v (omega arith) may)))
@@ -118,6 +108,5 @@ pub walked_more : {p q r : PassState} {numbers : List ℕ} {s : WalkPoint} {f : 
 walked_more {p} {q} {r} {numbers} walked steps = grind (arith, seen_then, leads_more, reads_more, append_assoc)
 
 pub walked_held : {p q : PassState} (r : PassState) {numbers : List ℕ} {t : WalkPoint} → HasWalked p numbers q t
-    → Stays q r
-    → HasWalked p numbers r t
+    → Stays q r → HasWalked p numbers r t
 walked_held {p} {q} r walked on = grind (arith, seen_then)

@@ -1,13 +1,13 @@
 -- What a walk down a stack reads is what is on it.
 use Rattle.mk_stack.proofs.Vocabulary.{Allocation, AreAllBy, Call, LeadsDown, NeverState, Null, Num, Op, Ptr, Replied}
 use Rattle.mk_stack.proofs.Vocabulary.{Reply, Target, Unmapped, Value, WordOf, after_op, allocation_at, bit, global_at}
-use Rattle.mk_stack.proofs.Vocabulary.{is_same, is_unmapped, left_at, number_of, numbers_in, numbers_read, own_replied}
+use Rattle.mk_stack.proofs.Vocabulary.{is_same, is_unmapped, number_of, numbers_in, numbers_read, own_replied}
 use Rattle.mk_stack.proofs.Vocabulary.{register_at, reply_at, reply_of, target_of, with_register, word_at}
-use Rattle.mk_stack.{proofs.Heaps.{set_register}, specs.{Walks.{read, start, stop}, Looks.{AreLooks, IsLook}}}
-use Rattle.mk_stack.specs.{declared.walking.WalkPoint.WalkPoint, Laws.{AreLinked, uppermost}}
-use Rattle.mk_stack.specs.Walks.{Walks, WalksReadTheStack, descend, go, lack, meet, number_read, number_told, peek}
+use Rattle.mk_stack.{proofs.Heaps.{set_register}, specs.declared.walking.WalkPoint.{WalkPoint}}
 use Rattle.mk_laws.proofs.Vocabulary.{Bool, List, ℕ, ap, arith, eq-eqb, false, if◌then◌else◌, length, length-set, map}
 use Rattle.mk_laws.proofs.Vocabulary.{refl, subst, sym, [], ◌*◌, ◌++◌, ◌+◌, ◌<◌, ◌∙◌, ◌∷◌, ◌≡◌, ◌≢◌}
+use Rattle.mk_stack.specs.{Laws.{AreLinked, uppermost}, Walks.{Walks, WalksReadTheStack, descend, go, lack, meet}}
+use Rattle.mk_stack.specs.{Walks.{number_read, number_told, peek, read, start, stop}, Looks.{AreLooks, IsLook}}
 
 -- the operations of one caller, with their replies
 abbrev each : ℕ → NeverState → List Op → List Replied
@@ -17,9 +17,8 @@ each k n (o ∷ os) = record { op = o; reply = reply_of n k o } ∷ each k (afte
 abbrev ops_of : List Call → List Op
 ops_of xs = map (λ (x : Call). x.op) xs
 
-by_one : (k j : ℕ) (n : NeverState) (o : Op) (xs : List Call) → j ≡ k
-    → own_replied k n (record { caller = j; op = o } ∷ xs)
-    ≡ record { op = o; reply = reply_of n k o } ∷ own_replied k (after_op n k o) xs
+by_one : (k j : ℕ) (n : NeverState) (o : Op) (xs : List Call) → j ≡ k → own_replied k n
+    (record { caller = j; op = o } ∷ xs) ≡ record { op = o; reply = reply_of n k o } ∷ own_replied k (after_op n k o) xs
 by_one k j n o xs e = grind (arith, eq-eqb)
 
 own_is_each : (k : ℕ) (n : NeverState) (xs : List Call) → AreAllBy k xs → own_replied k n xs ≡ each k n (ops_of xs)
@@ -71,12 +70,6 @@ same_word n m a i same = ap (λ (l : List Allocation). word_at (record m { alloc
 num_is : (x y : ℕ) → Reply.Num x ≡ Reply.Num y → x ≡ y
 num_is x y e = cc
 
-num_is_no_fault : (x : ℕ) → Reply.Num x ≢ Reply.Fault
-num_is_no_fault x e = cc
-
-val_is_no_fault : (v : Value) → Reply.Val v ≢ Reply.Fault
-val_is_no_fault v e = cc
-
 says_null : (m : NeverState) (k r x : ℕ) (v : Value) → register_at m k r ≡ v
     → reply_of m k (Op.IsNull r) ≡ Reply.Num x → bit (is_same v Null) ≡ x
 says_null m k r x v is said =
@@ -85,18 +78,8 @@ says_null m k r x v is said =
 differ : (x y : ℕ) → x < y → x ≡ y → ⊥
 differ x y lt e = omega (arith, lt, e)
 
-null_is_no_val : (v : Value) → Reply.Null ≡ Reply.Val v → ⊥
-null_is_no_val v e = cc
-
-null_is_no_pointer : (a : ℕ) → Null ≡ Ptr a 0 0 → ⊥
-null_is_no_pointer a e = cc
-
 -- A number more, and the walk goes on.
 module _ (n : NeverState) (k : ℕ) where
-  abbrev Down : NeverState → List Op → List ℕ → Type 0
-  Down m os nodes = LeadsDown WalkPoint.Testing (each k m os) WalkPoint.Ended
-      → numbers_read (each k m os) ≡ numbers_in n nodes
-
   abbrev Asked : NeverState → List Op → List ℕ → Op → Reply → WalkPoint → Type 0
   Asked m os told o r t =
       reply_of m k o ≡ r → LeadsDown t (each k (after_op m k o) os) WalkPoint.Ended
@@ -111,7 +94,9 @@ module _ (n : NeverState) (k : ℕ) where
   Ready m v = (m.allocations ≡ n.allocations) × (8 * k + 7 < length m.registers) × (register_at m k 2 ≡ v)
 
   abbrev Goes : Value → List ℕ → Type 0
-  Goes v nodes = (m : NeverState) (os : List Op) → Ready m v → Down m os nodes
+  Goes v nodes = (m : NeverState) (os : List Op) → Ready m v →
+      (LeadsDown WalkPoint.Testing (each k m os) WalkPoint.Ended
+      → numbers_read (each k m os) ≡ numbers_in n nodes)
 
   descends : (a : ℕ) (nodes : List ℕ) → Goes (word_at n a 1) nodes → (m : NeverState) (os : List Op)
       → Ready m (Ptr a 0 0) → is_unmapped (allocation_at m a) ≡ false
@@ -134,14 +119,12 @@ module _ (n : NeverState) (k : ℕ) where
       let at : ℕ → ℕ → Reply = λ b w. Reply.Num (number_of (word_at m b w)) in
       let told : reply_at (target_of m (Ptr a 0 0) 0) at ≡ Reply.Num x =
       ap (λ (v : Value). reply_at (target_of m v 0) at) (sym ready.2) ∙ said in
-      let there = mapped m a 0 0 0 at (Reply.Num x) told (num_is_no_fault x) in
-      let number : number_of (word_at n a 0) ≡ x =
-      ap number_of (sym (same_word n m a 0 ready.0)) ∙ num_is (number_of (word_at m a 0)) x
-      (sym (ap (λ (t : Target). reply_at t at) (target m a 0 0 0 there)) ∙ told) in
+      let there = mapped m a 0 0 0 at (Reply.Num x) told (λ e. cc) in
+      let number : number_of (word_at n a 0) ≡ x = ap number_of (sym (same_word n m a 0 ready.0)) ∙ num_is
+      (number_of (word_at m a 0)) x (sym (ap (λ (t : Target). reply_at t at) (target m a 0 0 0 there)) ∙ told) in
       ap (λ (r : Reply). number_told r ++ numbers_read (each k m os)) said
       ∙ ap (λ (y : ℕ). y ∷ numbers_read (each k m os)) (sym number)
-      ∙ ap (λ (l : List ℕ). number_of (word_at n a 0) ∷ l) (descends a nodes goes m os ready there rest)) refl
-      leads.2
+      ∙ ap (λ (l : List ℕ). number_of (word_at n a 0) ∷ l) (descends a nodes goes m os ready there rest)) refl leads.2
 
   down : (v : Value) (nodes : List ℕ) → AreLinked n v nodes → Goes v nodes
   down v nodes linked m [] ready leads = let e : WalkPoint.Testing ≡ WalkPoint.Ended = leads in cc
@@ -167,7 +150,7 @@ module _ (n : NeverState) (k : ℕ) where
   loads (Ptr t ty i) nodes linked m os top w said rest =
       let at : ℕ → ℕ → Reply = λ a j. Reply.Val (word_at m a j) in
       let there = mapped m t ty i 0 at (Reply.Val w)
-      (ap (λ (u : Value). reply_at (target_of m u 0) at) (sym top.2) ∙ said) (val_is_no_fault w) in
+      (ap (λ (u : Value). reply_at (target_of m u 0) at) (sym top.2) ∙ said) (λ e. cc) in
       let after : after_op m k (Op.GetPtr 2 0 0) ≡ with_register m k 2 (word_at m t (i + 0)) =
       cc (top.2, target m t ty i 0 there) in
       let same : word_at m t (i + 0) ≡ word_at n t i = same_word n m t (i + 0) top.0 ∙ ap (word_at n t) (omega arith) in
@@ -178,8 +161,7 @@ module _ (n : NeverState) (k : ℕ) where
         set_register m k 2 (word_at m t (i + 0)) (omega (arith, top.1)) ∙ same,
       )) rest
   loads _ nodes linked m os top w said rest =
-      absurd (null_is_no_val w (sym (ap (λ (u : Value). reply_at (target_of m u 0) (λ a i. Reply.Val (word_at m a i)))
-      top.2) ∙ said))
+      absurd (cc)
 
   peeks : (v : Value) (nodes : List ℕ) → AreLinked n (uppermost n v) nodes → (m : NeverState) (os : List Op)
       → HasTop m v → LeadsDown WalkPoint.Peeking (each k m os) WalkPoint.Ended
@@ -191,7 +173,7 @@ module _ (n : NeverState) (k : ℕ) where
   lacks : (v : Value) (nodes : List ℕ) → AreLinked n (uppermost n v) nodes → (m : NeverState) (os : List Op)
       → HasTop m v → Asked m os (numbers_in n nodes) (Op.IsNull 0) (Reply.Num 1) WalkPoint.Ended
   lacks Null [] linked m os top said rest = at_end k m os WalkPoint.Ended rest
-  lacks Null (a ∷ nodes) linked m os top said rest = absurd (null_is_no_pointer a linked.0)
+  lacks Null (a ∷ nodes) linked m os top said rest = absurd (cc)
   lacks _ nodes linked m os top said rest = absurd (differ 0 1 (omega arith) (says_null m k 0 1 _ top.2 said))
 
   checks : (v : Value) (nodes : List ℕ) → AreLinked n (uppermost n v) nodes → (m : NeverState) (os : List Op)

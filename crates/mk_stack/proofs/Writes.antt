@@ -4,8 +4,8 @@ use Rattle.mk_stack.proofs.{Vocabulary.words_of, Invariant.{AllHeld, Core, HasCh
 use Rattle.mk_stack.proofs.Roles.{Base, Private, Role, RoleKeeps, Stacked, Taken, Unborn, same_role}
 use Rattle.mk_stack.proofs.{Assembly.{Stepped, nothing, same_roles}, Chains.{all_numbers_stay, has_chain_stays}}
 use Rattle.mk_stack.proofs.{Fitting.written_fits, Frames.Leaves, Heaps.other_words}
-use Rattle.mk_laws.proofs.Vocabulary.{List, None, Option, ℕ, ap, cases_eq, cases_lt, get_or, inl, inr, length, refl}
-use Rattle.mk_laws.proofs.Vocabulary.{subst, sym, ◌<◌, ◌∙◌, ◌≡◌, ◌≢◌, ◌≤◌, ◌⊎◌}
+use Rattle.mk_laws.proofs.Vocabulary.{List, None, Option, ℕ, ap, arith, cases_eq, cases_lt, get_or, length, sym, ◌<◌}
+use Rattle.mk_laws.proofs.Vocabulary.{◌∙◌, ◌≡◌, ◌≢◌, ◌⊎◌}
 
 -- Roles are apart.
 
@@ -48,11 +48,7 @@ same_taken k j e = cc
 -- What has a role of a granted allocation was granted.
 pub granted : {callers : ℕ} {n : NeverState} {top : Option ℕ} {role : ℕ → Role} {nodes : List ℕ} (a : ℕ)
     → Core callers n top role nodes → (Unborn ≡ role a → ⊥) → a < length n.allocations
-granted {n} {role} a core is = by (cases_lt a (length n.allocations))
-  where
-    by : (a < length n.allocations) ⊎ (length n.allocations ≤ a) → a < length n.allocations
-    by (inl lt) = lt
-    by (inr ge) = absurd (is (sym ((core.fits a).unborn ge)))
+granted a core is = grind (arith, cases_lt)
 
 module _ {callers : ℕ} {n : NeverState} {top : Option ℕ} {role : ℕ → Role} {nodes : List ℕ} {W : ℕ → Work}
     (inv : Inv callers n top role nodes W) (c a i : ℕ) (v : Value) (own : role a ≡ Private c) where
@@ -70,23 +66,13 @@ module _ {callers : ℕ} {n : NeverState} {top : Option ℕ} {role : ℕ → Rol
   write_role k other b = by (cases_eq b a)
     where
       by : (b ≡ a) ⊎ (b ≡ a → ⊥) → RoleKeeps k (role b) (role b) (words_of m b ≡ words_of n b)
-      by (inl e) = rw (ap role e ∙ own) (λ same. absurd (other (sym same)))
-      by (inr ne) = same_role k (role b) _ (other_words n a i b v ne)
+      by x0 = grind (arith, same_role, other_words)
 
   write_leaves : (k : ℕ) → k ≢ c → Leaves n top role m top role k
-  write_leaves k other = record {
-    registers = λ r lt. refl;
-    same_top = λ t e. e;
-    none = λ first e. e;
-    base = λ first e b is. (is, apart b Base is (base_private c));
-    roles = write_role k other;
-  }
+  write_leaves k other = grind (arith, apart, base_private, write_role, Base)
 
   write_chain : HasChain m top role nodes
-  write_chain =
-      has_chain_stays n m top role role nodes refl (λ t e. (e, word_stays t 0 Base e (base_private c)))
-      (λ b one e. record { role_now = e; link = word_stays b 1 Stacked e (λ same. private_stacked c (sym same)) })
-      inv.core.chain
+  write_chain = grind (arith, has_chain_stays, word_stays, base_private, private_stacked, Base, Stacked)
 
   write_core : Core callers m top role nodes
   write_core = record {
@@ -96,10 +82,8 @@ module _ {callers : ℕ} {n : NeverState} {top : Option ℕ} {role : ℕ → Rol
     chain = write_chain;
   }
 
-  pub by_write : {s : Point} {u : Option Done} {o : Op} {next : Point} {rest : List Replied}
-      → Local m top role c next u → AllHeld m role c next → ((b : ℕ) → freed_by b n c o ≡ 0)
-      → Stepped callers n role nodes W c s u o next rest m
+  pub by_write : {s : Point} {u : Option Done} {o : Op} {next : Point} {rest : List Replied} → Local m top role c next u
+      → AllHeld m role c next → ((b : ℕ) → freed_by b n c o ≡ 0) → Stepped callers n role nodes W c s u o next rest m
   by_write {u} local held frees =
-      same_roles inv c m top u None write_core write_leaves local held
-      (all_numbers_stay n m top role nodes (λ b e. word_stays b 0 Stacked e (λ same. private_stacked c (sym same)))
-      inv.core.chain) nothing frees
+      same_roles inv c m top u None write_core write_leaves local held (all_numbers_stay n m top role nodes
+      (λ b e. word_stays b 0 Stacked e (λ same. private_stacked c (sym same))) inv.core.chain) nothing frees

@@ -1,7 +1,7 @@
 use Rattle.std.proofs.{Common.string_bytes, lemmas.Option.slice_get_read}
-use Rattle.mk_laws.proofs.Vocabulary.{List, ℕ, ap, arith, length, refl, sym, ◌++◌, ◌∙◌, ◌≡◌}
+use Rattle.mk_laws.proofs.Vocabulary.{ℕ, ap, arith, length, refl, ◌++◌, ◌∙◌, ◌≡◌}
 use Rattle.mk_outputs.proofs.Summaries.{lines_done, lines_more, ops_done, ops_more}
-use Rattle.mk_outputs.specs.{Summary.total_line, SummedTexts.{all_ops, line_of_text, lines_from}}
+use Rattle.mk_outputs.specs.SummedTexts.{all_ops, line_of_text}
 use Rattle.mk_outputs.proofs.generating.summary_of.Goals as goal
 
 pub loop-text-preserved : goal.loop-text-preserved
@@ -20,8 +20,7 @@ loop-text-preserved c =
     record {
       number = omega arith;
       small = omega arith;
-      lines = l.invariant.lines
-          ∙ lines_more texts l.text-index text (string_bytes l.lines) _ inside c.text-item.is line;
+      lines = l.invariant.lines ∙ lines_more texts l.text-index text _ _ inside c.text-item.is line;
       total = omega arith;
     }
 
@@ -53,6 +52,4 @@ returns c =
     let none = ops_done texts l.text-index past in
     let counted = l.invariant.total in
     let total : l.total ≡ all_ops texts = omega arith in
-    c.in_ok-push_total.ensures
-    ∙ (ap (λ (front : List ℕ). front ++ total_line l.total) (sym lines)
-    ∙ ap (λ (n : ℕ). lines_from 0 texts ++ total_line n) total)
+    cc (c.in_ok-push_total.ensures, lines, total)

@@ -5,8 +5,7 @@ use Rattle.mk_outputs.proofs.traces.told.Goals as goal
 
 pub returns : goal.returns
 returns g c =
-    IfOk-weaker c.print_peaks.result _ (λ lines. TellsOfPlay c.args.trace.now lines.items)
-    (λ lines are. record {
+    IfOk-weaker c.print_peaks.result _ (λ lines. TellsOfPlay c.args.trace.now lines.items) (λ lines are. record {
       history = history_of c.in_ok-peaks.peaks;
       played = c.in_ok-peaks.ensures.played;
       peaks = c.in_ok-peaks.peaks;

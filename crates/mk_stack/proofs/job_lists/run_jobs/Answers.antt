@@ -1,5 +1,4 @@
-use Rattle.mk_stack.proofs.{Vocabulary.{DoesJobs, Done}, JobLists.does_next}
-use Rattle.mk_laws.proofs.Vocabulary.{List, subst, sym, take, ◌+◌}
+use Rattle.mk_stack.proofs.JobLists.{does_next}
 use Rattle.mk_stack.proofs.job_lists.run_jobs.Goals as goal
 
 pub loop-index-preserved : goal.loop-index-preserved

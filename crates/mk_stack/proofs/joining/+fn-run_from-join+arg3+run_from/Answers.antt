@@ -1,8 +1,7 @@
-use Rattle.std.proofs.{Common.{IfSome, Ok, length-drop, rules}, lemmas.List.Elements.All-pop}
-use Rattle.mk_stack.proofs.Vocabulary.{HasHandedOut, HaveWorked, HostState, Jobs, Joined, Replied, replied_to}
+use Rattle.std.proofs.{Common.Ok, Common.length-drop, Common.rules, lemmas.List.Elements.All-pop}
+use Rattle.mk_stack.proofs.Vocabulary.{HasHandedOut, HaveWorked, Jobs, Joined, replied_to}
+use Rattle.mk_laws.proofs.Vocabulary.{List, Some, arith, drop, length, subst, sym, [], ◌+◌, ◌-◌, ◌<◌, ◌≡◌}
 use Rattle.mk_stack.proofs.JoinedJobs.{next_list, next_made, next_ready, next_unasked, no_lists, none_joined}
-use Rattle.mk_laws.proofs.Vocabulary.{List, Option, Some, ap, arith, drop, length, subst, sym, [], ◌+◌, ◌-◌, ◌<◌, ◌∙◌}
-use Rattle.mk_laws.proofs.Vocabulary.{◌≡◌}
 use Rattle.mk_stack.specs.Joining.{AreCallersFrom, HasWorked, IsBetweenJobs}
 use Rattle.mk_stack.proofs.joining.+fn-run_from-join+arg3+run_from.Goals as goal
 
@@ -17,8 +16,7 @@ join-worked-requires-after_bounds g t c κs within =
     let ready : IsBetweenJobs w (k + 1) c.finish-next_pass.result =
     subst (IsBetweenJobs w (k + 1)) (sym c.finish-next_pass.ensures.pass)
     (next_ready c.caller.result c.requires.host c.caller.ensures.caller c.finish-next_pass.ensures.idle) in
-    let made =
-    All-pop (λ engine. g.E.Engine.made_for engine ≡ w.config.pages) c.args.callers.engines.others.items rest
+    let made = All-pop (λ engine. g.E.Engine.made_for engine ≡ w.config.pages) c.args.callers.engines.others.items rest
     (Some c.in-Some.second) c.in-Some.ensures.items given.engines.others in
     let callers : AreCallersFrom g.E.Engine.made_for w (k + 1) (record {
       pass = c.finish-next_pass.result;
@@ -54,8 +52,7 @@ returns g t c =
     rw c.caller.ensures.host at c.join-worked.ensures.second in
     record {
       joined =
-          rw list.rest (c.join_worked-2.ensures markers first k list.jobs others one
-          (rw begun at joined));
+          rw list.rest (c.join_worked-2.ensures markers first k list.jobs others one (rw begun at joined));
     }
 
 -- the last caller
@@ -77,6 +74,4 @@ returns-in_default g t c =
     rw none (none_joined joined c.requires.host c.new.ensures.items) in
     let one : HasWorked w first k list.jobs.list.items c.work_alone-worked.result =
     rw list.there at c.work_alone-worked.ensures.worked in
-    record {
-      joined = rw list.rest (c.join_worked.ensures markers first k list.jobs others one alone);
-    }
+    record { joined = rw list.rest (c.join_worked.ensures markers first k list.jobs others one alone) }

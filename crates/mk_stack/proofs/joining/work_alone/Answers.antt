@@ -1,7 +1,6 @@
-use Rattle.std.proofs.{Common.{IfOk, IfSome, slice_get}, lemmas.Option.slice_get-get_or}
-use Rattle.mk_stack.proofs.{Vocabulary.{DoesJobs, Job, Jobs, replied_to}, JoinedJobs.{has_worked, ready_between}}
-use Rattle.mk_laws.proofs.Vocabulary.{List, Option, Some, arith, get_or, subst, sym, ◌≡◌}
-use Rattle.mk_stack.specs.Joining.{HasWorked}
+use Rattle.std.proofs.{Common.slice_get, lemmas.Option.slice_get-get_or}
+use Rattle.mk_stack.proofs.{Vocabulary.Jobs, JoinedJobs.{has_worked, ready_between}}
+use Rattle.mk_laws.proofs.Vocabulary.{Some, arith, get_or, ◌≡◌}
 use Rattle.mk_stack.proofs.joining.work_alone.Goals as goal
 
 pub new-caller-requires-clause-idle : goal.new-caller-requires-clause-idle
@@ -19,9 +18,7 @@ returns g c =
     slice_get-get_or lists c.args.k c.index-run-k.result (omega (arith, c.args.run.now.one_each, c.requires.exists)) in
     record {
       worked =
-          rw there (has_worked c.new-caller.result
-          c.finish.result jobs.list.items c.run_jobs-dones.result c.requires.pass c.new-caller.ensures
-          c.run_jobs-dones.ensures.pass
-          (rw c.deref.ensures.value at c.run_jobs-dones.ensures.does)
-          c.finish.ensures.pass c.finish.ensures.idle);
+          rw there (has_worked c.new-caller.result c.finish.result jobs.list.items c.run_jobs-dones.result
+          c.requires.pass c.new-caller.ensures c.run_jobs-dones.ensures.pass
+          (rw c.deref.ensures.value at c.run_jobs-dones.ensures.does) c.finish.ensures.pass c.finish.ensures.idle);
     }

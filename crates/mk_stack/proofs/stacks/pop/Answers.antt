@@ -1,5 +1,4 @@
-use Rattle.mk_stack.{proofs.{Vocabulary.{Done, Pop}, JobGoals.empty_unless_popped}, specs.Passes.{DoesJob}}
-use Rattle.mk_laws.proofs.Vocabulary.{subst}
+use Rattle.mk_stack.proofs.JobGoals.{empty_unless_popped}
 use Rattle.mk_stack.proofs.stacks.pop.Goals as goal
 
 pub returns-in_default-clause-does : goal.returns-in_default-clause-does

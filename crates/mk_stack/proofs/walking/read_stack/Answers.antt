@@ -1,7 +1,6 @@
-use Rattle.mk_stack.proofs.{Vocabulary.HasWalked, WalkSteps.{as_pop, beside_turns, may_go_down, steps_down}}
-use Rattle.mk_stack.proofs.{WalkSteps.{walked_held, walked_more}, AtPoints.holds_still, Going.ready_on}
-use Rattle.mk_stack.{proofs.Replies.{stays_held}, specs.declared.walking.WalkPoint.{WalkPoint}}
-use Rattle.mk_laws.proofs.Vocabulary.{List, ℕ, append-nil, subst, sym, ◌∙◌}
+use Rattle.mk_laws.proofs.Vocabulary.{append-nil, sym, ◌∙◌}
+use Rattle.mk_stack.proofs.WalkSteps.{as_pop, beside_turns, may_go_down, steps_down, walked_held, walked_more}
+use Rattle.mk_stack.proofs.{AtPoints.holds_still, Going.ready_on, Replies.stays_held}
 use Rattle.mk_stack.proofs.walking.read_stack.Goals as goal
 
 pub call-answer-requires-clause-entered : goal.call-answer-requires-clause-entered
@@ -9,17 +8,15 @@ call-answer-requires-clause-entered g c = beside_turns c.points.point (sym c.op_
 
 pub call-answer-requires-clause-admitted : goal.call-answer-requires-clause-admitted
 call-answer-requires-clause-admitted g c =
-    may_go_down c.points.point c.points.invariant.ready c.is_idle.ensures.history (sym c.op_down.ensures
-    ∙ c.in-Some-op_down.is)
-    c.points.invariant.holds
+    may_go_down c.points.point c.points.invariant.ready c.is_idle.ensures.history
+    (sym c.op_down.ensures ∙ c.in-Some-op_down.is) c.points.invariant.holds
 
 pub points-preserved-in-To : goal.points-preserved-in-To
 points-preserved-in-To g c =
     let before = c.points.invariant in
-    let steps =
-    steps_down c.points.point (sym c.in-To.is ∙ c.found_down.ensures) before.ready.types
-    c.is_idle-in-points.ensures.history (sym c.op_down.ensures ∙ c.in-Some-op_down.is) before.holds
-    c.in-Ok.ensures.called in
+    let steps = steps_down c.points.point
+    (sym c.in-To.is ∙ c.found_down.ensures) before.ready.types c.is_idle-in-points.ensures.history
+    (sym c.op_down.ensures ∙ c.in-Some-op_down.is) before.holds c.in-Ok.ensures.called in
     record {
       ready = ready_on before.ready c.call-answer.ensures.home steps.is;
       walked = rw (append-nil c.points.left.items) at (walked_more before.walked steps);
@@ -29,10 +26,9 @@ points-preserved-in-To g c =
 pub points-preserved-in-Number : goal.points-preserved-in-Number
 points-preserved-in-Number g c =
     let before = c.points.invariant in
-    let steps =
-    steps_down c.points.point (sym c.in-Number.is ∙ c.found_down.ensures) before.ready.types
-    c.is_idle-in-points.ensures.history (sym c.op_down.ensures ∙ c.in-Some-op_down.is) before.holds
-    c.in-Ok.ensures.called in
+    let steps = steps_down c.points.point
+    (sym c.in-Number.is ∙ c.found_down.ensures) before.ready.types c.is_idle-in-points.ensures.history
+    (sym c.op_down.ensures ∙ c.in-Some-op_down.is) before.holds c.in-Ok.ensures.called in
     record {
       ready = ready_on before.ready c.call-answer.ensures.home steps.is;
       walked = rw c.in_ok-push-in-Number.ensures.items (walked_more before.walked steps);

@@ -1,6 +1,6 @@
-use Rattle.mk_stack.proofs.Vocabulary.{HasHandedOut, HaveWorked, HostState, replied_to}
-use Rattle.mk_stack.proofs.{JoinedJobs.{is_ready, next_made, next_ready, ready_between}, EndedRuns.founds_stack}
-use Rattle.mk_laws.proofs.Vocabulary.{arith, subst, sym}
+use Rattle.mk_stack.proofs.{Vocabulary.replied_to, JoinedJobs.{is_ready, next_made, next_ready, ready_between}}
+use Rattle.mk_stack.proofs.EndedRuns.{founds_stack}
+use Rattle.mk_laws.proofs.Vocabulary.{arith}
 use Rattle.mk_stack.proofs.working.found_and_work.Goals as goal
 
 pub found_stack-requires-clause-ready : goal.found_stack-requires-clause-ready
