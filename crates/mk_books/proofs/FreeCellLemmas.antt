@@ -4,7 +4,7 @@ use Rattle.std.proofs.Common.{get_or-set_other, get_or-set_same, if◌then◌els
 use Rattle.std.proofs.Common.{length-take-le, map, nat_eq, ne_eqb, not, refl, set, suc, sym, take, true, zero, [], ◌*◌}
 use Rattle.std.{proofs.Common.{◌++◌, ◌+◌, ◌-◌, ◌<◌, ◌^◌, ◌∙◌, ◌∷◌, ◌≡◌, ◌≢◌, ◌≤◌}, specs.List.{range_with_len}}
 use Rattle.std.proofs.lemmas.List.{get_or-append_right, get_or_append_left, map_more, same_lists, set-append_left}
-use Rattle.std.proofs.{lemmas.List.set-append_right, lemmas.Bool.{and_right, cases_eq}}
+use Rattle.std.{proofs.lemmas.List.{set-append_right}, proofs.lemmas.Bool.{and_right, cases_eq}}
 use Rattle.std.proofs.lemmas.List.FromFn.{get_or-map-range_with_len, length-map-range_with_len}
 use Rattle.std.proofs.{lemmas.List.Sums.{count_by-le-length, sum_by-cons, sum_by_push}, Math.Bool.beq}
 use Rattle.mk_geom.specs.PageUses.{Cells, PageUse, cells_taken, free_cells_among, is_same_sort}
@@ -23,16 +23,14 @@ map_range-set f g n k y within here others =
     same_lists (map g (range_with_len 0 n)) (set xs k y)
     (length-map-range_with_len g 0 n ∙ sym (length-set xs k y ∙ long)) (λ j d below.
     let low : j < n = omega (arith, length-map-range_with_len g 0 n) in
-    get_or-map-range_with_len g 0 n j j d low (omega arith)
-    ∙ elim (cases_eq j k) [
+    get_or-map-range_with_len g 0 n j j d low (omega arith) ∙ elim (cases_eq j k) [
       | inl same ↦ ap g same ∙ here ∙ sym (rw same (get_or-set_same xs k y d (omega (arith, long))))
       | inr other ↦ others j other
           ∙ sym (get_or-set_other xs k j y d other ∙ get_or-map-range_with_len f 0 n j j d low (omega arith))
     ])
 
-free_cells_among-push : (leaf : Bool) (pages : List PageUse) (page : PageUse) (class : ℕ)
-    → free_cells_among leaf (pages ++ page ∷ []) class ≡ free_cells_among leaf pages class
-    + count_by not (cells_taken class leaf page)
+free_cells_among-push : (leaf : Bool) (pages : List PageUse) (page : PageUse) (class : ℕ) → free_cells_among leaf
+    (pages ++ page ∷ []) class ≡ free_cells_among leaf pages class + count_by not (cells_taken class leaf page)
 free_cells_among-push leaf pages page class = grind (arith, sum_by_push)
 
 length-free_cells_of_sort : (leaf : Bool) (pages : List PageUse) → length (free_cells_of_sort leaf pages) ≡ 8
@@ -79,9 +77,8 @@ of_sort-push leaf pages class taken within =
     grind (arith, map_range-set, free_cells_among-push, same_class, get_or-free_cells_of_sort, other_class)
 
 -- one page more that has none of the sort's cells
-of_sort-push_other : (leaf : Bool) (pages : List PageUse) (page : PageUse)
-    → ((class : ℕ) → cells_taken class leaf page ≡ [])
-    → free_cells_of_sort leaf (pages ++ page ∷ []) ≡ free_cells_of_sort leaf pages
+of_sort-push_other : (leaf : Bool) (pages : List PageUse) (page : PageUse) → ((class : ℕ)
+    → cells_taken class leaf page ≡ []) → free_cells_of_sort leaf (pages ++ page ∷ []) ≡ free_cells_of_sort leaf pages
 of_sort-push_other leaf pages page none = grind (arith, free_cells_among-push)
 
 -- a list of two parts of 8, at a place of each
@@ -93,38 +90,34 @@ get_or-halves : (blocks leaves : List ℕ) (class : ℕ) (leaf : Bool) → lengt
 get_or-halves blocks leaves class false long within = get_or_append_left blocks leaves 0 class (omega arith)
 get_or-halves blocks leaves class true long within = grind (arith, get_or-append_right, back)
 
-set-halves : (blocks leaves : List ℕ) (class y : ℕ) (leaf : Bool) → length blocks ≡ 8 → class < 8
-    → set (blocks ++ leaves) (class_place class leaf) y
-    ≡ (if leaf then blocks ++ set leaves class y else set blocks class y ++ leaves)
+set-halves : (blocks leaves : List ℕ) (class y : ℕ) (leaf : Bool) → length blocks ≡ 8 → class < 8 → set (blocks ++
+    leaves) (class_place class leaf) y ≡ (if leaf then blocks ++ set leaves class y else set blocks class y ++ leaves)
 set-halves blocks leaves class y false long within = set-append_left blocks leaves class y (omega arith)
 set-halves blocks leaves class y true long within =
     cc (set-append_right blocks leaves 8 (8 + class) y long (omega arith), back class)
 
 -- one page more, a block
 by_class-push : (pages : List PageUse) (class : ℕ) (leaf : Bool) (taken : List Bool) → class < 8
-    → free_cells_by_class (pages ++ Cells class leaf taken ∷ [])
-    ≡ set (free_cells_by_class pages) (class_place class leaf)
-    (get_or (free_cells_by_class pages) (class_place class leaf) 0 + count_by not taken)
+    → free_cells_by_class (pages ++ Cells class leaf taken ∷ []) ≡ set (free_cells_by_class pages)
+    (class_place class leaf) (get_or (free_cells_by_class pages) (class_place class leaf) 0 + count_by not taken)
 by_class-push pages class false taken within =
     let blocks = free_cells_of_sort false pages in
     let leaves = free_cells_of_sort true pages in
     let long = length-free_cells_of_sort false pages in
     ap (λ rest. free_cells_of_sort false (pages ++ Cells class false taken ∷ []) ++ rest)
     (of_sort-push_other true pages (Cells class false taken) (other_sort false taken class))
-    ∙ ap (λ front. front ++ leaves) (of_sort-push false pages class taken within)
-    ∙ sym (set-halves blocks leaves class (get_or blocks class 0 + count_by not taken) false long within)
-    ∙ ap (λ count. set (blocks ++ leaves) class (count + count_by not taken))
-    (sym (get_or-halves blocks leaves class false long within))
+    ∙ ap (λ front. front ++ leaves) (of_sort-push false pages class taken within) ∙ sym
+    (set-halves blocks leaves class (get_or blocks class 0 + count_by not taken) false long within) ∙ ap (λ count. set
+    (blocks ++ leaves) class (count + count_by not taken)) (sym (get_or-halves blocks leaves class false long within))
 by_class-push pages class true taken within =
     let blocks = free_cells_of_sort false pages in
     let leaves = free_cells_of_sort true pages in
     let long = length-free_cells_of_sort false pages in
     ap (λ front. front ++ free_cells_of_sort true (pages ++ Cells class true taken ∷ []))
     (of_sort-push_other false pages (Cells class true taken) (other_sort true taken class))
-    ∙ ap (λ rest. blocks ++ rest) (of_sort-push true pages class taken within)
-    ∙ sym (set-halves blocks leaves class (get_or leaves class 0 + count_by not taken) true long within)
-    ∙ ap (λ count. set (blocks ++ leaves) (8 + class) (count + count_by not taken))
-    (sym (get_or-halves blocks leaves class true long within))
+    ∙ ap (λ rest. blocks ++ rest) (of_sort-push true pages class taken within) ∙ sym (set-halves blocks leaves class
+    (get_or leaves class 0 + count_by not taken) true long within) ∙ ap (λ count. set (blocks ++ leaves) (8 + class)
+    (count + count_by not taken)) (sym (get_or-halves blocks leaves class true long within))
 
 -- one page more, and no block
 by_class-push_other : (pages : List PageUse) (page : PageUse) → HasNoCells page
@@ -199,10 +192,10 @@ pub at_block : {pages : List Page} {i : ℕ} {counts : List ℕ} {class : ℕ} {
 at_block within here known stands counted placed added = grind arith
 
 -- the count of the class fits 64 bits, where the pages lie in memory
-pub room_for_block : (pages : List Page) (i : ℕ) (counts : List ℕ) (class : ℕ) (leaf : Bool) (page : Page)
-    (place count : ℕ) → AtBlock pages i counts class leaf page place count → length pages * 16 < 2 ^ 63
+pub room_for_block : {pages : List Page} {i : ℕ} {counts : List ℕ} {class : ℕ} {leaf : Bool} {page : Page}
+    {place count : ℕ} → AtBlock pages i counts class leaf page place count → length pages * 16 < 2 ^ 63
     → get_or counts place 0 + count < 2 ^ 64
-room_for_block pages i counts class leaf page place count at in_memory =
+room_for_block {pages} {i} {counts} {class} {leaf} {page} {place} at in_memory =
     let before = uses_of_pages (take i pages) in
     let counted : get_or counts place 0 ≡ free_cells_among leaf before class
     = (λ j. get_or (at.counted j) (at.placed j) 0) ∙ get_or-by_class before class leaf at.known in
@@ -218,10 +211,10 @@ room_for_block pages i counts class leaf page place count at in_memory =
       cells_of-le class,
     )
 
-pub by_class-more : (pages : List Page) (i : ℕ) (counts : List ℕ) (class : ℕ) (leaf : Bool) (page : Page)
-    (place count : ℕ) → AtBlock pages i counts class leaf page place count
+pub by_class-more : {pages : List Page} {i : ℕ} {counts : List ℕ} {class : ℕ} {leaf : Bool} {page : Page}
+    {place count : ℕ} → AtBlock pages i counts class leaf page place count
     → set counts place (get_or counts place 0 + count) ≡ free_cells_by_class (uses_of_pages (take (i + 1) pages))
-by_class-more pages i counts class leaf page place count at =
+by_class-more {pages} {i} {class} {leaf} {page} at =
     let before = uses_of_pages (take i pages) in
     (λ j. set (at.counted j) (at.placed j) (get_or (at.counted j) (at.placed j) 0 + at.added j))
     ∙ sym (ap free_cells_by_class (map_more use_of_page pages i page at.within

@@ -30,6 +30,5 @@ pub freeable_cells-none : (used quar mark k : ℕ) → quar < 2 ^ 64 → 32 ≤ 
 freeable_cells-none used quar mark k fits above =
     let high : quar / 2 ^ 32 < 2 ^ 32 = omega arith in
     let none : bit_at (quar / 2 ^ 32) k ≡ 0 = bit_at_above (quar / 2 ^ 32) 32 k high above in
-    bit_at_and (bit_and used (quar / 2 ^ 32)) (bit_not w64 mark) k
-    ∙ ap (λ x. min x (bit_at (bit_not w64 mark) k)) (bit_at_and used (quar / 2 ^ 32) k
-    ∙ ap (λ x. min (bit_at used k) x) none) ∙ omega arith
+    bit_at_and (bit_and used (quar / 2 ^ 32)) (bit_not w64 mark) k ∙ ap (λ x. min x (bit_at (bit_not w64 mark) k))
+    (bit_at_and used (quar / 2 ^ 32) k ∙ ap (λ x. min (bit_at used k) x) none) ∙ omega arith

@@ -47,9 +47,8 @@ first_where-bits_of count word short fits =
     let taken : (k : ℕ) → k < place → k < count → not (get_or bits k false) ≡ false
     = grind (arith, get_or-bits_of, eq-eqb) in
     elim (cases_lt place count) [
-      | inl within ↦ rw (lt-ltb place count within)
-          (first_where_at not bits place false (omega (arith, length-bits_of count word))
-          (λ k lower. taken k lower (omega arith))
+      | inl within ↦ rw (lt-ltb place count within) (first_where_at not bits place false
+          (omega (arith, length-bits_of count word)) (λ k lower. taken k lower (omega arith))
           (rw (get_or-bits_of count word place false within, lowest.here (omega arith))))
       | inr past ↦ rw (le-ltb place count past) (first_where_nowhere not bits false
           (λ k short. taken k (omega (arith, length-bits_of count word)) (omega (arith, length-bits_of count word))))
@@ -79,9 +78,8 @@ pub count_ones-masked : (count word : ℕ)
     → count_ones (bit_and word (2 ^ count - 1)) ≡ count_by (λ bit. bit) (bits_of count word)
 count_ones-masked count word =
     ap count_ones (same_from_bits (bit_and word (2 ^ count - 1)) (mask_l (bits_of count word))
-    (λ k. masked count word k ∙ sym (bit_mask_l (bits_of count word) k)))
-    ∙ ap (λ bits. count_ones (mask_l bits)) (sym (map-id (bits_of count word)))
-    ∙ ones-mask_l (λ bit. bit) (bits_of count word)
+    (λ k. masked count word k ∙ sym (bit_mask_l (bits_of count word) k))) ∙ ap (λ bits. count_ones (mask_l bits))
+    (sym (map-id (bits_of count word))) ∙ ones-mask_l (λ bit. bit) (bits_of count word)
 
 -- the bits that are 1, and the rest
 count_by-others : (bits : List Bool) → count_by not bits + count_by (λ bit. bit) bits ≡ length bits

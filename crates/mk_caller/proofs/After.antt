@@ -3,11 +3,11 @@ use Rattle.mk_laws.proofs.Vocabulary.{Answer, Bool, NeverState, Null, Num, Op, P
 use Rattle.mk_laws.proofs.Vocabulary.{after_free, ap, arith, false, get_or-set_other, get_or-set_same, if◌then◌else◌}
 use Rattle.mk_laws.proofs.Vocabulary.{is_same, never_behind, refl, register_at, target_of, true, with_register}
 use Rattle.mk_laws.proofs.Vocabulary.{with_word, word_at, ◌*◌, ◌++◌, ◌+◌, ◌<◌, ◌∙◌, ◌≡◌, ◌≢◌}
+use Rattle.mk_never.specs.NeverHeap.{after_op, left_at}
+use Rattle.mk_never.specs.{Admitted.IsCaller, declared.values.Target.Target, declared.values.Target.TheVariants.Nothing}
 use Rattle.mk_laws.proofs.OtherCalls.{never_continues}
-use Rattle.mk_never.specs.{NeverHeap.{after_op, left_at}, Admitted.IsCaller, declared.values.Target.Target}
-use Rattle.mk_never.specs.declared.values.Target.TheVariants.{Nothing}
-use Rattle.mk_caller.specs.{States.{caller_of_pass, never_of, value_of}, Called.Called}
-use Rattle.mk_caller.specs.Laws.{CallsLeaveOtherRegisters, destination}
+use Rattle.mk_caller.specs.States.{caller_of_pass, never_of, value_of}
+use Rattle.mk_caller.specs.{Called.Called, Laws.CallsLeaveOtherRegisters, Laws.destination}
 use Rattle.mk_words.specs.States.{PassState}
 
 set_other : (n : NeverState) (k d r : ℕ) (v : Value) → Some d ≢ Some r
@@ -35,16 +35,14 @@ either_leaves : (n : NeverState) (k r a w : ℕ) (v : Value) (b : Bool)
 either_leaves n k r a w v true = refl
 either_leaves n k r a w v false = refl
 
-cas_leaves : (n : NeverState) (k r : ℕ) (t : Target) (x v : Value)
-    → register_at (left_at t n (λ a w. if is_same (word_at n a w) x then with_word n a w v else n)) k r ≡ register_at
-    n k r
+cas_leaves : (n : NeverState) (k r : ℕ) (t : Target) (x v : Value) → register_at
+    (left_at t n (λ a w. if is_same (word_at n a w) x then with_word n a w v else n)) k r ≡ register_at n k r
 cas_leaves n k r Nothing x v = refl
 cas_leaves n k r Unmapped x v = refl
 cas_leaves n k r (WordOf a w) x v = either_leaves n k r a w v (is_same (word_at n a w) x)
 
-read_leaves : (n : NeverState) (k d r : ℕ) (t : Target) → Some d ≢ Some r
-    → register_at (left_at t (with_register n k d Null) (λ a w. with_register n k d (word_at n a w))) k
-    r ≡ register_at n k r
+read_leaves : (n : NeverState) (k d r : ℕ) (t : Target) → Some d ≢ Some r → register_at
+    (left_at t (with_register n k d Null) (λ a w. with_register n k d (word_at n a w))) k r ≡ register_at n k r
 read_leaves n k d r Nothing ne = set_other n k d r Null ne
 read_leaves n k d r Unmapped ne = set_other n k d r Null ne
 read_leaves n k d r (WordOf a w) ne = set_other n k d r (word_at n a w) ne
@@ -73,9 +71,8 @@ leaves n k (Op.IsNull p) r ne = refl
 
 -- A register after a call is what the operation leaves at its place.
 pub value_left : {p q : PassState} {o : Op} {a : Answer} → (c : Called p o a q) → (r : ℕ) → r < 8
-    → value_of q r ≡ register_at (after_op (never_behind p.table.config (p.seen
-    ++ c.decided.before)) (caller_of_pass p) o)
-    (caller_of_pass p) r
+    → value_of q r ≡ register_at
+    (after_op (never_behind p.table.config (p.seen ++ c.decided.before)) (caller_of_pass p) o) (caller_of_pass p) r
 value_left c r lt = ap (λ (x : PassState). value_of x r) c.is ∙ c.decided.left_so r lt
 
 pub calls_leave_other_registers : CallsLeaveOtherRegisters
@@ -86,7 +83,6 @@ pub still_caller : {p q : PassState} {o : Op} {a : Answer} → (c : Called p o a
     → IsCaller (never_of p) (caller_of_pass p) → IsCaller (never_of q) (caller_of_pass q)
 still_caller c is = grind (arith, never_continues)
 
-pub caller_there : {p q : PassState} {o : Op} {a : Answer} → (c : Called p o a q)
-    → IsCaller (never_of p) (caller_of_pass p)
-    → IsCaller (never_behind p.table.config (p.seen ++ c.decided.before)) (caller_of_pass p)
+pub caller_there : {p q : PassState} {o : Op} {a : Answer} → (c : Called p o a q) → IsCaller (never_of p)
+    (caller_of_pass p) → IsCaller (never_behind p.table.config (p.seen ++ c.decided.before)) (caller_of_pass p)
 caller_there c is = grind (arith, never_continues)

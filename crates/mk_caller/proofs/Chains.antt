@@ -1,9 +1,8 @@
 -- A call step by step, from its beginning to its end.
-use Rattle.mk_laws.proofs.Vocabulary.{Answer, Bool, Event, Flight, KeepsRegisters, List, NeverState, None, Op, Option}
-use Rattle.mk_laws.proofs.Vocabulary.{Progress, Some, Stage, Step, Unmapped, Value, ℕ, ap, append_assoc, at_rest, begun}
-use Rattle.mk_laws.proofs.Vocabulary.{d_of, i_of, if◌then◌else◌, ne_eqb, never_behind, onward, progress_reg, q_of, refl}
-use Rattle.mk_laws.proofs.Vocabulary.{refused, stage_refused, subst, sym, target_of, true, [], ◌++◌, ◌<◌, ◌==◌, ◌∙◌}
-use Rattle.mk_laws.proofs.Vocabulary.{arith, ◌∷◌, ◌≡◌, ◌≢◌}
+use Rattle.mk_laws.proofs.Vocabulary.{Answer, Event, Flight, KeepsRegisters, List, NeverState, None, Op, Option}
+use Rattle.mk_laws.proofs.Vocabulary.{Progress, Some, Stage, Step, Unmapped, ℕ, ap, append_assoc, arith, at_rest, begun}
+use Rattle.mk_laws.proofs.Vocabulary.{d_of, if◌then◌else◌, ne_eqb, never_behind, onward, progress_reg, q_of, refl}
+use Rattle.mk_laws.proofs.Vocabulary.{refused, stage_refused, subst, true, [], ◌++◌, ◌<◌, ◌==◌, ◌∙◌, ◌∷◌, ◌≡◌, ◌≢◌}
 use Rattle.mk_never.specs.{Admitted.OperandsAreInRange, declared.values.Target.Target}
 use Rattle.mk_caller.proofs.Joined.{joined, joined_on}
 use Rattle.mk_caller.specs.Moves.{CallGoesOn, IsAtFlight, MakesSteps, MayBeginCall, is_access, loads, passes}
@@ -13,9 +12,7 @@ use Rattle.mk_words.specs.States.{PassState, call_of, event_of}
 
 -- Further steps of a call that isn't decided; how they go on is said by the call before them.
 pub go : {p q r : PassState} {o : Op} {ss ts : List Step} {f : Flight} → IsAtFlight p o ss None f q → (X : Flight
-    → Progress)
-    → f.op ≡ o
-    → IsAtFlight q (call_of q).op ts (X (call_of q)).answer (X (call_of q)).flight r
+    → Progress) → f.op ≡ o → IsAtFlight q (call_of q).op ts (X (call_of q)).answer (X (call_of q)).flight r
     → IsAtFlight p o (ss ++ ts) (X f).answer (X f).flight r
 go {q} {r} {ts} {f} a X same b = record {
   makes =
@@ -31,9 +28,8 @@ pub go_probed : {p q r : PassState} {o : Op} {ss : List Step} {f : Flight} → I
 go_probed at same probes = go at passes same probes
 
 pub go_on : {p q r : PassState} {o : Op} {ss ts : List Step} {a : Answer} {f : Flight} → IsAtFlight p o ss (Some a) f q
-    → (X : Flight → Progress) → f.op ≡ o
-    → (X f).answer ≡ None → IsAtFlight q (call_of q).op ts (X (call_of q)).answer (X (call_of q)).flight r
-    → IsAtFlight p o (ss ++ ts) (Some a) (X f).flight r
+    → (X : Flight → Progress) → f.op ≡ o → (X f).answer ≡ None → IsAtFlight q (call_of q).op ts (X (call_of q)).answer
+    (X (call_of q)).flight r → IsAtFlight p o (ss ++ ts) (Some a) (X f).flight r
 go_on {q} {r} {o} {ts} {f} before X same none b =
     let makes : MakesSteps q o ts (X f).answer r =
     subst (λ (y : Op). MakesSteps q y ts (X f).answer r) same (rw before.call at b.makes) in
@@ -45,28 +41,16 @@ go_on {q} {r} {o} {ts} {f} before X same none b =
 
 -- parts of one call
 pub to : {p q r : PassState} {o : Op} {ss ts : List Step} {a : Option Answer} {f g : Flight}
-    → IsAtFlight p o ss None f q
-    → IsAtFlight q o ts a g r → IsAtFlight p o (ss ++ ts) a g r
-to x y = record {
-  makes = joined x.makes y.makes;
-  call = y.call;
-  underway = y.underway;
-}
+    → IsAtFlight p o ss None f q → IsAtFlight q o ts a g r → IsAtFlight p o (ss ++ ts) a g r
+to x y = record { makes = joined x.makes y.makes; call = y.call; underway = y.underway }
 
 pub on_to : {p q r : PassState} {o : Op} {ss ts : List Step} {a : Answer} {f g : Flight}
-    → IsAtFlight p o ss (Some a) f q
-    → IsAtFlight q o ts None g r
-    → IsAtFlight p o (ss ++ ts) (Some a) g r
-on_to x y = record {
-  makes = joined_on x.makes y.makes;
-  call = y.call;
-  underway = y.underway;
-}
+    → IsAtFlight p o ss (Some a) f q → IsAtFlight q o ts None g r → IsAtFlight p o (ss ++ ts) (Some a) g r
+on_to x y = record { makes = joined_on x.makes y.makes; call = y.call; underway = y.underway }
 
 -- whether it is decided or not
 pub either_to : {p q r : PassState} {o : Op} {ss ts : List Step} {f g : Flight} → (a : Option Answer)
-    → IsAtFlight p o ss a f q → IsAtFlight q o ts None g r
-    → IsAtFlight p o (ss ++ ts) a g r
+    → IsAtFlight p o ss a f q → IsAtFlight q o ts None g r → IsAtFlight p o (ss ++ ts) a g r
 either_to None x y = to x y
 either_to (Some a) x y = on_to x y
 
@@ -105,9 +89,8 @@ pub probes_from : {p q r : PassState} {o : Op} {ss : List Step} {t : Target} →
 probes_from {p} {r} {o} {t} m lt probes =
     by m.more m.decided (subst (λ (x : PassState). Probes x o r t) m.is probes)
   where
-    by : (m1 : List Event) → KeepsRegisters (caller_of_pass p) (never_of p) (never_behind p.table.config (p.seen ++ m1))
-        → Probes (record p { seen = p.seen ++ m1 }) o r t
-        → Probes p o r t
+    by : (m1 : List Event) → KeepsRegisters (caller_of_pass p) (never_of p)
+        (never_behind p.table.config (p.seen ++ m1)) → Probes (record p { seen = p.seen ++ m1 }) o r t → Probes p o r t
     by m1 keeps x =
         let join = append_assoc p.seen m1 x.before in
         record {
@@ -137,9 +120,8 @@ refused_puts (Op.GetPtr d q i) e h = (refl, cc)
 refused_puts (Op.Lea d q i) e h = (refl, cc)
 refused_puts _ e h = cc
 
-some_for : (o : Op) (u : ℕ) → u ≢ 0
-    → (if u == 0 then refused (record (begun o) { q = u }) Answer.Null else onward (record (begun o) { q = u }) None)
-    ≡ onward (record (begun o) { q = u }) None
+some_for : (o : Op) (u : ℕ) → u ≢ 0 → (if u == 0 then refused (record (begun o) { q = u }) Answer.Null else onward
+    (record (begun o) { q = u }) None) ≡ onward (record (begun o) { q = u }) None
 some_for o u ne = rw (ne_eqb u 0 ne) refl
 
 pub access_finds_some : (o : Op) (u : ℕ) → is_access o ≡ true → u ≢ 0
@@ -174,8 +156,7 @@ probes_on {p} x g = record {
 
 -- The call's access got to a word at its probe.
 pub reached : {p q s r : PassState} {o : Op} {ss : List Step} {f : Flight} → MayBeginCall p o → is_access o ≡ true
-    → IsAtFlight p o ss None f q → f.op ≡ o
-    → ProbesAWord q (call_of q).op s → SeesMore s r → ProbesAWord p o r
+    → IsAtFlight p o ss None f q → f.op ≡ o → ProbesAWord q (call_of q).op s → SeesMore s r → ProbesAWord p o r
 reached {p} {q} {s} {o} ready access a same x g =
     let y : ProbesAWord q o s = rw (ap (λ (f : Flight). f.op) a.call ∙ same) at x in
     record {
@@ -186,11 +167,9 @@ reached {p} {q} {s} {o} ready access a same x g =
 
 -- It found the allocation's pages unmapped.
 pub faults : {p q r : PassState} {o : Op} {ss : List Step} {f : Flight} → MayBeginCall p o → is_access o ≡ true
-    → IsAtFlight p o ss None f q → f.op ≡ o
-    → ss ++ (Step.Probe ∷ refused_steps o) ≡ steps_made o Answer.Fault
+    → IsAtFlight p o ss None f q → f.op ≡ o → ss ++ (Step.Probe ∷ refused_steps o) ≡ steps_made o Answer.Fault
     → IsAtFlight q (call_of q).op (Step.Probe ∷ refused_steps (call_of q).op) (Some Answer.Fault) at_rest r
-    → Probes q (call_of q).op r Unmapped
-    → Called p o Answer.Fault r × Probes p o r Unmapped
+    → Probes q (call_of q).op r Unmapped → Called p o Answer.Fault r × Probes p o r Unmapped
 faults {p} {q} {r} {o} ready access a same steps b x =
     let is : (call_of q).op ≡ o = ap (λ (f : Flight). f.op) a.call ∙ same in (
       called (to a (rw is at b)) steps,

@@ -3,10 +3,10 @@ use Rattle.mk_laws.proofs.Vocabulary.{Answer, Bool, List, NeverState, Op, Unmapp
 use Rattle.mk_laws.proofs.Vocabulary.{bit, false, is_same, one_if, refl, register_at, sym, target_of, true, word_at}
 use Rattle.mk_laws.proofs.Vocabulary.{◌↔◌, ◌∙◌, ◌≡◌}
 use Rattle.mk_never.proofs.Sameness.{equal_from_same, same_from_equal}
-use Rattle.mk_never.specs.{declared.values.Target.TheVariants.Nothing, NeverHeap.reply_at}
-use Rattle.mk_never.specs.{declared.operations.Reply.Reply, declared.values.Target.Target}
-use Rattle.mk_caller.specs.{States.{Admits, caller_of_pass, never_then, value_of}, Called.Says}
-use Rattle.mk_caller.specs.Comparing.{CallComparesValues}
+use Rattle.mk_never.specs.declared.values.Target.TheVariants.{Nothing}
+use Rattle.mk_never.specs.{NeverHeap.reply_at, declared.operations.Reply.Reply, declared.values.Target.Target}
+use Rattle.mk_caller.specs.States.{Admits, caller_of_pass, never_then, value_of}
+use Rattle.mk_caller.specs.{Called.Says, Comparing.CallComparesValues}
 use Rattle.mk_words.specs.States.{PassState}
 
 -- the word that an access gets to which is answered by a number, and what that says
@@ -47,7 +47,6 @@ compares_values {p} x i e r said ad c =
       number = there.number;
       place = there.place;
       gets_to = ap (λ (v : Value). target_of n v i) (sym (c.decided.known x ad.in_range.0)) ∙ there.gets_to;
-      compares = equal_where_said said (word_at n there.number there.place) (value_of p e)
-          (there.said_so ∙ ap (λ (v : Value). is_same (word_at n there.number there.place) v)
-          (c.decided.known e ad.in_range.1));
+      compares = equal_where_said said (word_at n there.number there.place) (value_of p e) (there.said_so ∙ ap
+          (λ (v : Value). is_same (word_at n there.number there.place) v) (c.decided.known e ad.in_range.1));
     }

@@ -8,8 +8,7 @@ use Rattle.mk_laws.proofs.Vocabulary.{phase_of, refl, register_met, subst, sym, 
 use Rattle.mk_laws.proofs.{LastEvents.{goes_on_by, stands}, LayoutHolders.seat_operands}
 use Rattle.mk_never.specs.Admitted.{IsCaller, OperandsAreInRange}
 use Rattle.mk_core.proofs.Conditions.{meets_enabled}
-use Rattle.mk_caller.proofs.OneStep.{flagged_same}
-use Rattle.mk_caller.specs.{Moves.MayBeginCall, States.{Admits, caller_of_pass, never_of}}
+use Rattle.mk_caller.{proofs.OneStep.{flagged_same}, specs.{Moves.MayBeginCall, States.{Admits, never_of}}}
 use Rattle.mk_words.specs.{States.{PassState, call_of, event_of, now_of}, Steps.{IsAdmittedTo, IsEnabledTo}}
 
 -- Callers' kinds have no conditions 5 to 7.
@@ -31,15 +30,12 @@ enabled_for c m k s lt kind next range = grind (arith, is_free, meets_enabled, l
 
 -- The next step of a call is enabled, where its argument is in range.
 pub enabled : (p : PassState) (s : Step) (k : ℕ) → p.seat ≡ Caller k → k < p.table.config.callers
-    → group_of s ≡ Group.Callers
-    → comes_next (call_of p).stage (call_of p).op s ≡ true → is_in_range p.table.config p.seat (call_of p) s ≡ true
-    → IsEnabledTo p s
+    → group_of s ≡ Group.Callers → comes_next (call_of p).stage (call_of p).op s ≡ true
+    → is_in_range p.table.config p.seat (call_of p) s ≡ true → IsEnabledTo p s
 enabled p s k is lt kind next range =
-    subst
-    (λ (t : Seat). comes_next (flight_of (now_of p) t).stage (flight_of (now_of p) t).op s ≡ true
-    → is_in_range p.table.config t (flight_of (now_of p) t) s ≡ true
-    → IsEnabled p.table.config (now_of p) (record { seat = t; step = s }))
-    (sym is) (enabled_for p.table.config (now_of p) k s lt kind) next range
+    subst (λ (t : Seat). comes_next (flight_of (now_of p) t).stage (flight_of (now_of p) t).op s ≡ true
+    → is_in_range p.table.config t (flight_of (now_of p) t) s ≡ true → IsEnabled p.table.config (now_of p)
+    (record { seat = t; step = s })) (sym is) (enabled_for p.table.config (now_of p) k s lt kind) next range
 
 -- whatever it is answered
 entry_admitted : {globals : List ℕ} {n : NeverState} {k : ℕ} {o : Op} (a : Option Answer) → is_under_turn o ≡ false
@@ -48,8 +44,7 @@ entry_admitted None h ad = tt
 entry_admitted (Some a) h ad = grind (arith, flagged_same)
 
 pub admitted : (p : PassState) (s : Step) → IsHistory p.table.config p.seen → IsEnabledTo p s
-    → is_under_turn (call_of p).op ≡ false
-    → Admits p (call_of p).op → IsAdmittedTo p s
+    → is_under_turn (call_of p).op ≡ false → Admits p (call_of p).op → IsAdmittedTo p s
 admitted p s h on entered ad =
     (goes_on_by p.table.config p.seen (event_of p s) h on (entry_admitted (answer_decided p.table.config (now_of p)
     (event_of p s)) entered ad)).admitted
@@ -57,9 +52,7 @@ admitted p s h on entered ad =
 -- A step that decides nothing
 pub idly_admitted : (p : PassState) (s : Step) → IsHistory p.table.config p.seen → IsEnabledTo p s
     → answer_decided p.table.config (now_of p) (event_of p s) ≡ None → IsAdmittedTo p s
-idly_admitted p s h on none =
-    (goes_on_by p.table.config p.seen (event_of p s) h on
-    (rw none tt)).admitted
+idly_admitted p s h on none = (goes_on_by p.table.config p.seen (event_of p s) h on (rw none tt)).admitted
 
 pub put_decides_nothing : (p : PassState) (k : ℕ) → p.seat ≡ Caller k → (call_of p).stage ≡ Stage.Put
     → answer_decided p.table.config (now_of p) (event_of p Step.Reg) ≡ None

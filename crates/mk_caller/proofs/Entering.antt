@@ -1,8 +1,8 @@
 -- The first step: it begins the call, or finds the gate held.
 use Rattle.std.proofs.Common.{Err, Ok, OnErr, OnOk, Result}
-use Rattle.mk_laws.proofs.Vocabulary.{None, Op, Step, ap, append-nil, begun, refl, still, subst, sym, ◌∙◌}
-use Rattle.mk_caller.{proofs.{OneStep.one_step, Onward.enters}, specs.Causes.{FindsGateHeld}}
-use Rattle.mk_caller.specs.{States.{caller_of_pass, never_of}, Moves.{CallMoves, MayBeginCall}, Called.own_calls}
+use Rattle.mk_laws.proofs.Vocabulary.{None, Op, Step, ap, append-nil, begun, refl, still, ◌∙◌}
+use Rattle.mk_caller.proofs.{OneStep.one_step, Onward.enters}
+use Rattle.mk_caller.specs.{Called.own_calls, Causes.FindsGateHeld, Moves.{CallMoves, MayBeginCall}}
 use Rattle.mk_words.specs.{States.{PassState, call_of}, CallSteps.FindsHeld, Steps.Goes, declared.call_steps.Held.Held}
 
 pub entered : {p : PassState} {o : Op} (q : PassState) (r : Result (Unit {0}) Held) → MayBeginCall p o

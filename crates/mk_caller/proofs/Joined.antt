@@ -1,12 +1,11 @@
 -- Steps of a call, one after the other.
 use Rattle.mk_laws.proofs.Vocabulary.{Answer, Config, Decided, Event, KeepsRegisters, List, None, Op, Option, Some}
-use Rattle.mk_laws.proofs.Vocabulary.{Step, World, answer_of, ap, append-nil, append_assoc, bases_of, call_decided}
-use Rattle.mk_laws.proofs.Vocabulary.{entry_of, left, left_from, left_in_parts, never_behind, subst, sym, [], ◌++◌, ◌∙◌}
-use Rattle.mk_laws.proofs.Vocabulary.{◌∷◌, ◌≡◌}
-use Rattle.mk_never.specs.NeverHeap.{after_op, reply_of}
-use Rattle.mk_caller.proofs.{OneStep.keeps_both, OwnSteps.{steps_append, steps_from}}
-use Rattle.mk_caller.specs.{Called.{IsDecidedIn, own_calls, own_steps}, Moves.{IsDecidedAs, MakesSteps}}
-use Rattle.mk_caller.specs.States.{caller_of_pass, never_of}
+use Rattle.mk_laws.proofs.Vocabulary.{Step, World, ap, append-nil, append_assoc, entry_of, left, left_from}
+use Rattle.mk_laws.proofs.Vocabulary.{left_in_parts, never_behind, subst, sym, ◌++◌, ◌∙◌, ◌∷◌, ◌≡◌}
+use Rattle.mk_never.specs.NeverHeap.{after_op}
+use Rattle.mk_caller.proofs.{OneStep.keeps_both, OwnSteps.steps_append, OwnSteps.steps_from}
+use Rattle.mk_caller.specs.Called.{IsDecidedIn, own_calls, own_steps}
+use Rattle.mk_caller.specs.{Moves.IsDecidedAs, Moves.MakesSteps, States.caller_of_pass, States.never_of}
 use Rattle.mk_words.specs.States.{PassState}
 
 -- the pass that has seen more
@@ -14,12 +13,10 @@ abbrev seen_more : PassState → List Event → PassState
 seen_more p m = record p { seen = p.seen ++ m }
 
 steps_joined : (p : PassState) (m1 m2 : List Event) (ss ts : List Step) → own_steps p m1 ≡ ss
-    → own_steps (seen_more p m1) m2 ≡ ts
-    → own_steps p (m1 ++ m2) ≡ ss ++ ts
+    → own_steps (seen_more p m1) m2 ≡ ts → own_steps p (m1 ++ m2) ≡ ss ++ ts
 steps_joined p m1 m2 ss ts a b =
-    steps_append p.table.config p.seat (left p.table.config p.seen) m1 m2
-    ∙ ap (λ (l : List Step). l ++ steps_from p.table.config p.seat
-    (left_from p.table.config (left p.table.config p.seen) m1) m2) a
+    steps_append p.table.config p.seat (left p.table.config p.seen) m1 m2 ∙ ap (λ (l : List Step). l ++ steps_from
+    p.table.config p.seat (left_from p.table.config (left p.table.config p.seen) m1) m2) a
     ∙ ap (λ (w : World). ss ++ steps_from p.table.config p.seat w m2) (sym (left_in_parts p.table.config p.seen m1))
     ∙ ap (λ (l : List Step). ss ++ l) b
 
@@ -75,9 +72,8 @@ is_joined p r m1 m2 is = is ∙ ap (λ (l : List Event). record p { seen = l }) 
 
 -- steps, and then others, by what they come to of the caller's calls, and of what is decided
 steps_then : {p : PassState} {o : Op} {ss ts : List Step} {a b : Option Answer} {r : PassState} (m1 : List Event)
-    → own_steps p m1 ≡ ss → (second : MakesSteps (seen_more p m1) o ts b r)
-    → own_calls p (p.seen ++ m1) ++ entry_of (caller_of_pass p) o b
-    ≡ own_calls p p.seen ++ entry_of (caller_of_pass p) o a
+    → own_steps p m1 ≡ ss → (second : MakesSteps (seen_more p m1) o ts b r) → own_calls p (p.seen ++ m1) ++ entry_of
+    (caller_of_pass p) o b ≡ own_calls p p.seen ++ entry_of (caller_of_pass p) o a
     → IsDecidedAs p o a (m1 ++ second.more) → MakesSteps p o (ss ++ ts) a r
 steps_then {p} {ss = ss} {ts = ts} {r = r} m1 steps second entry decided = record {
   more = m1 ++ second.more;

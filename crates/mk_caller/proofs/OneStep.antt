@@ -1,13 +1,12 @@
 -- One step of a call: what it adds to the list, to the calls and to the heap that never reuses storage.
 use Rattle.mk_laws.proofs.Vocabulary.{Answer, AreOfOthers, Caller, Config, Decided, Event, Flight, IsHistory}
 use Rattle.mk_laws.proofs.Vocabulary.{KeepsRegisters, List, NeverState, None, Op, Option, Progress, Seat, Some, Stage}
-use Rattle.mk_laws.proofs.Vocabulary.{Step, World, ℕ, after_calls, answer_decided, answer_of, answered, answers_of, ap}
-use Rattle.mk_laws.proofs.Vocabulary.{append-nil, append_assoc, asked, bases_of, call_decided, caller_number, calls}
-use Rattle.mk_laws.proofs.Vocabulary.{entry_of, false, first_world, flagged, is_under_turn, left, never_behind, refl}
-use Rattle.mk_laws.proofs.Vocabulary.{register_at, replies_of, subst, sym, true, world_behind, [], ◌++◌, ◌<◌, ◌∙◌, ◌∷◌}
-use Rattle.mk_laws.proofs.{Vocabulary.◌≡◌, LastEvents.{comes_last, stands}}
-use Rattle.mk_laws.proofs.{OtherCalls.{never_continues, registers_are_left}, AdmittedStill.call_on}
-use Rattle.mk_laws.proofs.{ImagesOneEvent.one_event, InvariantJoined.told_to_images}
+use Rattle.mk_laws.proofs.Vocabulary.{Step, ℕ, after_calls, answer_of, answered, answers_of, ap, append-nil}
+use Rattle.mk_laws.proofs.Vocabulary.{append_assoc, asked, bases_of, call_decided, caller_number, calls, entry_of}
+use Rattle.mk_laws.proofs.Vocabulary.{false, first_world, flagged, is_under_turn, left, never_behind, refl, register_at}
+use Rattle.mk_laws.proofs.Vocabulary.{replies_of, subst, sym, true, world_behind, [], ◌++◌, ◌<◌, ◌∙◌, ◌∷◌, ◌≡◌}
+use Rattle.mk_laws.proofs.{LastEvents.{comes_last, stands}, OtherCalls.{never_continues, registers_are_left}}
+use Rattle.mk_laws.proofs.{AdmittedStill.call_on, ImagesOneEvent.one_event, InvariantJoined.told_to_images}
 use Rattle.mk_never.specs.NeverHeap.{after_op, reply_of}
 use Rattle.mk_core.{proofs.Histories.{calls_more}, specs.Ranges.{is_word_met}}
 use Rattle.mk_caller.proofs.OwnSteps.{by_append, calls_by, others_add_none, own_entry, own_step}
@@ -92,8 +91,7 @@ module _ (p : PassState) (o : Op) (s : Step) (x : Progress) (q : PassState) (k :
             let after : never_behind c (p.seen ++ (others ++ e ∷ []))
             ≡ after_op (never_behind c es) (caller_of_pass p) o =
             never ∙ ap (λ (b : Option Answer). after_calls (never_behind c es) (asked (entry_of
-            (caller_of_pass p) o b))) is
-            ∙ ap (λ (y : Op). after_op (never_behind c es) (caller_of_pass p) y) flag in
+            (caller_of_pass p) o b))) is ∙ ap (λ (y : Op). after_op (never_behind c es) (caller_of_pass p) y) flag in
             λ r lt. ap (λ (n : NeverState). register_at n (caller_of_pass p) r) after;
       }
 
@@ -138,8 +136,7 @@ module _ (p : PassState) (o : Op) (s : Step) (x : Progress) (q : PassState) (k :
         seat = rw is_more seat;
         exists = rw is_more exists;
         entered = ap (λ (f : Flight). is_under_turn f.op) g.call ∙ goes_on;
-        admits = λ undecided.
-            rw (g.call, is_more)
+        admits = λ undecided. rw (g.call, is_more)
             (at_last (next (ap (λ (f : Flight). is_past_decision f.stage) (sym g.call) ∙ undecided)));
         page = λ dirty. rw (g.call, is_more) (page (ap (λ (f : Flight). f.stage) (sym g.call) ∙ dirty));
       }

@@ -4,10 +4,10 @@ use Rattle.mk_laws.proofs.Vocabulary.{at_rest, begun, false, header_of, if◌the
 use Rattle.mk_laws.proofs.Vocabulary.{is_unmapped_header, onward, progress_p, progress_q, progress_read, progress_reg}
 use Rattle.mk_laws.proofs.Vocabulary.{refl, refused, stage_behind, steps_of, subst, sym, true, ◌==◌, ◌∙◌, ◌≡◌}
 use Rattle.mk_core.specs.{Calls.progress_getg, Effects.progress_probe, Ranges.is_word_met}
-use Rattle.mk_caller.proofs.{Enabling.caller_exists, OneStep.{goes_underway, one_step}}
-use Rattle.mk_caller.specs.Moves.{CallMoves, IsUnderway, MayBeginCall, is_past_decision, is_written, loads_register}
-use Rattle.mk_caller.specs.{Moves.stores_register, States.Admits}
-use Rattle.mk_words.{proofs.Made.{pass_before}, specs.{States.{PassState, call_of}, Steps.Goes}}
+use Rattle.mk_caller.proofs.{Enabling.caller_exists, OneStep.goes_underway, OneStep.one_step}
+use Rattle.mk_caller.specs.{Moves.CallMoves, Moves.IsUnderway, Moves.MayBeginCall, Moves.is_past_decision}
+use Rattle.mk_caller.specs.{Moves.is_written, Moves.loads_register, Moves.stores_register, States.Admits}
+use Rattle.mk_words.{proofs.Made.pass_before, specs.States.PassState, specs.States.call_of, specs.Steps.Goes}
 
 pub record Next (c : Config) (f : Flight) (x : Progress) : Type 0 where
   pub op : x.flight.op ≡ f.op
@@ -16,15 +16,13 @@ pub record Next (c : Config) (f : Flight) (x : Progress) : Type 0 where
 
 -- A step of a call that may go on leaves one that may.
 pub moves : {p : PassState} {s : Step} {x : Progress} {q : PassState} → IsUnderway p → Goes p s x q
-    → Next p.table.config (call_of p) x
-    → CallMoves p (call_of p).op s x q
+    → Next p.table.config (call_of p) x → CallMoves p (call_of p).op s x q
 moves {p} {s} {x} {q} u g next = record {
   makes = one_step p (call_of p).op s x q u.caller u.seat g u.entered refl;
   call = g.call;
   underway = goes_underway p (call_of p).op s x q u.caller u.seat g u.entered refl u.exists
       (ap (λ (o : Op). is_under_turn o) next.op ∙ u.entered)
-      (λ h. let n = next.undecided h in (n.0, subst (λ (o : Op). Admits p o) (sym next.op) (u.admits n.1)))
-      next.page;
+      (λ h. let n = next.undecided h in (n.0, subst (λ (o : Op). Admits p o) (sym next.op) (u.admits n.1))) next.page;
 }
 
 abbrev flight : Stage → Op → ℕ → ℕ → ℕ → ℕ → Flight
@@ -100,8 +98,7 @@ read_on c _ q p r l found = record { op = refl; undecided = λ h. (cc, cc); page
 
 -- after a write the page is still to be marked
 written : (c : Config) (s : Stage) (o : Op) (q p r l : ℕ) (a : Answer) → is_written s ≡ true
-    → is_word_met c (flight s o q p r l) ≡ true
-    → Next c (flight s o q p r l) (onward (flight s o q p r l) (Some a))
+    → is_word_met c (flight s o q p r l) ≡ true → Next c (flight s o q p r l) (onward (flight s o q p r l) (Some a))
 written c s o q p r l a h met = record { op = refl; undecided = λ u. absurd (by s o h u); page = λ e. met }
   where
     by : (s : Stage) (o : Op) → is_written s ≡ true → is_past_decision (stage_behind s (steps_of o)) ≡ false → ⊥

@@ -37,9 +37,8 @@ own_of_others : (c : Config) (s : Seat) (w : World) (es : List Event) → AreOfO
 unfolding own_from AreOfOthers
 own_of_others c s w [] others = refl
 own_of_others c s w (e ∷ es) others =
-    skips (is_same_seat s e.seat) (record { event = e; found = found c w.now e })
-    (own_from c s (world_behind c w e) es) (not_same s e.seat others.0)
-    ∙ own_of_others c s (world_behind c w e) es others.1
+    skips (is_same_seat s e.seat) (record { event = e; found = found c w.now e }) (own_from c s (world_behind c w e) es)
+    (not_same s e.seat others.0) ∙ own_of_others c s (world_behind c w e) es others.1
 
 abbrev pub steps_from : Config → Seat → World → List Event → List Step
 steps_from c s w es = map (λ (x : Finding). x.event.step) (own_from c s w es)
@@ -61,6 +60,4 @@ pub own_step : (c : Config) (s : Seat) (w : World) (others : List Event) (x : St
 own_step c s w others x of_others =
     steps_append c s w others (record { seat = s; step = x } ∷ [])
     ∙ ap (λ (l : List Finding). map (λ (f : Finding). f.event.step) l ++ steps_from c s (left_from c w others)
-    (record { seat = s; step = x } ∷ []))
-    (own_of_others c s w others of_others)
-    ∙ one_own c s (left_from c w others) x
+    (record { seat = s; step = x } ∷ [])) (own_of_others c s w others of_others) ∙ one_own c s (left_from c w others) x

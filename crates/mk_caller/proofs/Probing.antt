@@ -32,10 +32,9 @@ mapped_word (Ptr a t o) {i} some sound meets met =
     record { number = a; place = o + i; is = ap (λ (b : Bool). if b then Unmapped else WordOf a (o + i)) (met meets.0) }
 
 module _ (c : Config) (es : List Event) (k : ℕ) (h : IsHistory c es) (lt : k < c.callers)
-    (at : (flight_of (left c es).now (Caller k)).stage ≡ Stage.Probe)
-    (meets : Meets (never_behind c es) (register_at (never_behind c es) k
-    (q_of (flight_of (left c es).now (Caller k)).op)) (i_of (flight_of (left c es).now (Caller k)).op)
-    (λ kind. Unit {0})) where
+    (at : (flight_of (left c es).now (Caller k)).stage ≡ Stage.Probe) (meets : Meets (never_behind c es)
+    (register_at (never_behind c es) k (q_of (flight_of (left c es).now (Caller k)).op))
+    (i_of (flight_of (left c es).now (Caller k)).op) (λ kind. Unit {0})) where
   abbrev f : Flight
   f = flight_of (left c es).now (Caller k)
 
@@ -70,36 +69,31 @@ module _ (c : Config) (es : List Event) (k : ℕ) (h : IsHistory c es) (lt : k <
   pub gets_to : (b : Bool) → is_unmapped_header (header_in w.now.words (page_met f)) ≡ b → GetsTo b n v (i_of f.op)
   gets_to true u =
       unmapped_target c.globals st.all.mirrors.safe.0 (image_scene_of w) n (ready c w n st.known st.all)
-      (header_at w.now.words)
-      (pages_tell c w n st.known st.all k lt in_call) v f.q (i_of f.op) (λ kind. Unit {0})
+      (header_at w.now.words) (pages_tell c w n st.known st.all k lt in_call) v f.q (i_of f.op) (λ kind. Unit {0})
       (car.q has) (car.some_q some) (st.all.mirrors.typed.registers (8 * k + q_of f.op))
       (st.all.mirrors.safe.1.registers (8 * k + q_of f.op)) meets u
   gets_to false u =
       mapped_word v not_null (st.all.mirrors.typed.registers (8 * k + q_of f.op)) meets
       (mapped_met _ st.all.mirrors.safe.0 _ n (ready c w n st.known st.all) (header_at w.now.words)
       (pages_tell c w n st.known st.all k lt in_call) v f.q _ (car.q has) (car.some_q some)
-      (st.all.mirrors.typed.registers (8 * k + q_of f.op))
-      (st.all.mirrors.safe.1.registers (8 * k + q_of f.op)) u)
+      (st.all.mirrors.typed.registers (8 * k + q_of f.op)) (st.all.mirrors.safe.1.registers (8 * k + q_of f.op)) u)
 
 -- a seat's, after what others did
 gets_to_for : {c : Config} {es : List Event} (t : Seat) (k : ℕ) → t ≡ Caller k → IsHistory c es → k < c.callers
-    → (flight_of (left c es).now t).stage ≡ Stage.Probe
-    → Meets (never_behind c es) (register_at (never_behind c es) (caller_number t)
-    (q_of (flight_of (left c es).now t).op)) (i_of (flight_of (left c es).now t).op) (λ kind. Unit {0})
-    → (b : Bool) → is_unmapped_header (header_in (left c es).now.words (page_met (flight_of (left c es).now t))) ≡ b
-    → GetsTo b (never_behind c es) (register_at (never_behind c es) (caller_number t)
-    (q_of (flight_of (left c es).now t).op)) (i_of (flight_of (left c es).now t).op)
+    → (flight_of (left c es).now t).stage ≡ Stage.Probe → Meets (never_behind c es) (register_at (never_behind c es)
+    (caller_number t) (q_of (flight_of (left c es).now t).op)) (i_of (flight_of (left c es).now t).op)
+    (λ kind. Unit {0}) → (b : Bool) → is_unmapped_header (header_in (left c es).now.words
+    (page_met (flight_of (left c es).now t))) ≡ b → GetsTo b (never_behind c es) (register_at (never_behind c es)
+    (caller_number t) (q_of (flight_of (left c es).now t).op)) (i_of (flight_of (left c es).now t).op)
 gets_to_for {c} {es} t k is h lt at meets b u =
-    subst (λ (t : Seat). (flight_of (left c es).now t).stage ≡ Stage.Probe
-    → Meets (never_behind c es) (register_at (never_behind c es) (caller_number t)
-    (q_of (flight_of (left c es).now t).op)) (i_of (flight_of (left c es).now t).op) (λ kind. Unit {0})
-    → is_unmapped_header (header_in (left c es).now.words (page_met (flight_of (left c es).now t))) ≡ b
-    → GetsTo b (never_behind c es) (register_at (never_behind c es) (caller_number t)
-    (q_of (flight_of (left c es).now t).op)) (i_of (flight_of (left c es).now t).op)) (sym is)
-    (λ at' meets' u'. gets_to c es k h lt at' meets' b u') at meets u
+    subst (λ (t : Seat). (flight_of (left c es).now t).stage ≡ Stage.Probe → Meets (never_behind c es)
+    (register_at (never_behind c es) (caller_number t) (q_of (flight_of (left c es).now t).op))
+    (i_of (flight_of (left c es).now t).op) (λ kind. Unit {0}) → is_unmapped_header
+    (header_in (left c es).now.words (page_met (flight_of (left c es).now t))) ≡ b → GetsTo b (never_behind c es)
+    (register_at (never_behind c es) (caller_number t) (q_of (flight_of (left c es).now t).op))
+    (i_of (flight_of (left c es).now t).op)) (sym is) (λ at' meets' u'. gets_to c es k h lt at' meets' b u') at meets u
 
-module _ (p : PassState) (q : PassState) (n : ℕ) (u : IsUnderway p)
-    (finds : Finds p Step.Probe n q)
+module _ (p : PassState) (q : PassState) (n : ℕ) (u : IsUnderway p) (finds : Finds p Step.Probe n q)
     (at : (call_of p).stage ≡ Stage.Probe) (through : is_access (call_of p).op ≡ true) where
   abbrev es : List Event
   es = p.seen ++ finds.makes.others
@@ -122,9 +116,8 @@ module _ (p : PassState) (q : PassState) (n : ℕ) (u : IsUnderway p)
   small : q_of o < 8
   small = met_is_small p Stage.LoadQ u.pass.history
 
-  meets : Meets (never_behind p.table.config es) (register_at (never_behind p.table.config es) (caller_of_pass p)
-      (q_of o))
-      (i_of o) (λ kind. Unit {0})
+  meets : Meets (never_behind p.table.config es)
+      (register_at (never_behind p.table.config es) (caller_of_pass p) (q_of o)) (i_of o) (λ kind. Unit {0})
   meets =
       meets_register p.table.config.globals (never_of p) (never_behind p.table.config es) (caller_of_pass p)
       (never_continues p.table.config p.seen finds.makes.others) keeps
@@ -155,6 +148,5 @@ module _ (p : PassState) (q : PassState) (n : ℕ) (u : IsUnderway p)
       record {
         number = g.number;
         place = g.place;
-        probes = record
-            { before = finds.makes.others; behind = []; is = seen; gets_to = g.is };
+        probes = record { before = finds.makes.others; behind = []; is = seen; gets_to = g.is };
       }

@@ -6,8 +6,8 @@ use Rattle.mk_laws.proofs.Vocabulary.{word_met, ◌*◌, ◌+◌, ◌-◌, ◌/�
 use Rattle.mk_core.specs.{Effects.progress_probe, Ranges.is_word_met}
 use Rattle.mk_laws.specs.Images.{has_q, has_some_q}
 use Rattle.mk_caller.proofs.Enabling.{admitted, enabled, idly_admitted, met_is_small, put_decides_nothing}
-use Rattle.mk_caller.{proofs.WordsMet.{null_tells, word_is_met}, specs.Moves.{stores_register}}
-use Rattle.mk_caller.specs.{States.value_of, Moves.{CallMoves, IsUnderway, is_access, is_past_decision, loads_register}}
+use Rattle.mk_caller.{proofs.WordsMet.{null_tells, word_is_met}, specs.States.{value_of}}
+use Rattle.mk_caller.specs.Moves.{CallMoves, IsUnderway, is_access, is_past_decision, loads_register, stores_register}
 use Rattle.mk_words.specs.{States.{PassState, call_of}, CallSteps.register_of, Steps.{IsAdmittedTo, IsEnabledTo}}
 
 load_comes : (s : Stage) (o : Op) → loads_register s ≡ true → comes_next s o Step.Reg ≡ true
@@ -84,9 +84,8 @@ module _ {p : PassState} (u : IsUnderway p) where
 
   -- what the word is
   pub met_bounds : (value offset : ℕ) → value ≡ (call_of p).q → offset ≡ i_of (call_of p).op
-      → is_word_met p.table.config (call_of p) ≡ true
-      → (65536 ≤ value) × (word_met (call_of p) < 64 * p.table.config.pages) ×
-      ((value - 65536) / 8 + offset ≡ word_met (call_of p))
+      → is_word_met p.table.config (call_of p) ≡ true → (65536 ≤ value) ×
+      (word_met (call_of p) < 64 * p.table.config.pages) × ((value - 65536) / 8 + offset ≡ word_met (call_of p))
   met_bounds value offset v i is = grind (arith, and_parts, leb-true, ltb-true)
 
 probe_by : {p q : PassState} (n : ℕ) (b : Bool) → is_unmapped_header (header_of n) ≡ b
@@ -105,11 +104,9 @@ pub probe_passed : {p q : PassState} (n : ℕ) → is_unmapped_header (header_of
 probe_passed n is m = probe_by n false is m
 
 -- A pointer that is moved on stays within its allocation.
-pub moved_within : {p : PassState} (u : IsUnderway p) {value offset : ℕ}
-    → (call_of p).stage ≡ Stage.Store → is_access (call_of p).op ≡ true → has_q Stage.Store (call_of p).op ≡ true
-    → has_some_q Stage.Store (call_of p).op ≡ true
-    → value ≡ (call_of p).q → offset ≡ i_of (call_of p).op
-    → value + 8 * offset < 2 ^ 64
+pub moved_within : {p : PassState} (u : IsUnderway p) {value offset : ℕ} → (call_of p).stage ≡ Stage.Store → is_access
+    (call_of p).op ≡ true → has_q Stage.Store (call_of p).op ≡ true → has_some_q Stage.Store (call_of p).op ≡ true
+    → value ≡ (call_of p).q → offset ≡ i_of (call_of p).op → value + 8 * offset < 2 ^ 64
 moved_within u {value} {offset} at access has some v i =
     let m = met u Stage.Store at access refl has some in
     let b = met_bounds u value offset v i m in

@@ -1,13 +1,12 @@
 -- What the words that a call loads show of its registers' values, and the heap word that it accesses.
 use Rattle.mk_laws.proofs.Vocabulary.{AccessIsAdmitted, Caller, CarriesOwn, Config, Event, Flight, IsHistory, IsNumber}
 use Rattle.mk_laws.proofs.Vocabulary.{IsPointer, IsSafe, IsSound, Kind, List, Meets, NeverState, Null, Num, Op, Ptr}
-use Rattle.mk_laws.proofs.Vocabulary.{Value, World, ℕ, and_from, ap, arith, bases_of, false, flight_among, flight_of}
-use Rattle.mk_laws.proofs.Vocabulary.{histories_keep_lengths, i_of, image_of, is_put, le-leb, left, lt-ltb, nat_le}
-use Rattle.mk_laws.proofs.Vocabulary.{nat_lt, never_behind, q_of, register_at, register_word, shown, sym, true}
-use Rattle.mk_laws.proofs.{Vocabulary.{word_met, ◌%◌, ◌*◌, ◌+◌, ◌/◌, ◌<◌, ◌↔◌, ◌∙◌, ◌≡◌}, ImagesKept.base_at}
-use Rattle.mk_laws.proofs.{LastEvents.stands, Pairs.shows_plain, ProbesStill.ready, Ready.image_zero}
+use Rattle.mk_laws.proofs.Vocabulary.{Value, World, ℕ, and_from, ap, arith, bases_of, false, flight_of}
+use Rattle.mk_laws.proofs.Vocabulary.{histories_keep_lengths, i_of, image_of, is_put, le-leb, left, lt-ltb}
+use Rattle.mk_laws.proofs.Vocabulary.{never_behind, q_of, register_at, register_word, sym, true, ◌%◌, ◌*◌, ◌+◌, ◌/◌}
+use Rattle.mk_laws.proofs.{Vocabulary.{◌<◌, ◌↔◌, ◌∙◌, ◌≡◌}, ImagesKept.base_at, LastEvents.stands, Pairs.shows_plain}
+use Rattle.mk_laws.{proofs.{ProbesStill.ready, Ready.image_zero}, specs.Images.{has_q, has_some_q}}
 use Rattle.mk_core.specs.Ranges.{is_word_met}
-use Rattle.mk_laws.specs.Images.{has_q, has_some_q}
 use Rattle.mk_caller.specs.{Moves.is_access, States.{Admits, value_of}}
 use Rattle.mk_words.specs.{CallSteps.register_of, States.{PassState, call_of}}
 
@@ -51,17 +50,15 @@ null_for {c} {es} k r h lt plain =
 
 -- It is 0 exactly where the value is null.
 pub null_tells : (p : PassState) (k r : ℕ) → p.seat ≡ Caller k → IsHistory p.table.config p.seen → r < 8
-    → is_put (call_of p).stage ≡ false
-    → (register_of p r ≡ 0) ↔ (value_of p r ≡ Null)
+    → is_put (call_of p).stage ≡ false → (register_of p r ≡ 0) ↔ (value_of p r ≡ Null)
 null_tells p k r is h lt plain = grind (arith, null_for)
 
 -- The word that is accessed through a value lies in the heap.
-word_for : {c : Config} {es : List Event} (k : ℕ) → IsHistory c es
-    → has_q (flight_of (left c es).now (Caller k)).stage (flight_of (left c es).now (Caller k)).op ≡ true
-    → has_some_q (flight_of (left c es).now (Caller k)).stage (flight_of (left c es).now (Caller k)).op ≡ true
-    → Meets (never_behind c es) (register_at (never_behind c es) k (q_of (flight_of (left c es).now (Caller k)).op))
-    (i_of (flight_of (left c es).now (Caller k)).op) (λ kind. Unit {0})
-    → is_word_met c (flight_of (left c es).now (Caller k)) ≡ true
+word_for : {c : Config} {es : List Event} (k : ℕ) → IsHistory c es → has_q (flight_of (left c es).now (Caller k)).stage
+    (flight_of (left c es).now (Caller k)).op ≡ true → has_some_q (flight_of (left c es).now (Caller k)).stage
+    (flight_of (left c es).now (Caller k)).op ≡ true → Meets (never_behind c es) (register_at (never_behind c es) k
+    (q_of (flight_of (left c es).now (Caller k)).op)) (i_of (flight_of (left c es).now (Caller k)).op)
+    (λ kind. Unit {0}) → is_word_met c (flight_of (left c es).now (Caller k)) ≡ true
 word_for {c} {es} k h has some meets = by (register_at n k (q_of f.op)) (car.q has)
     (st.all.mirrors.typed.registers (8 * k + q_of f.op)) (st.all.mirrors.safe.1.registers (8 * k + q_of f.op)) meets
   where
@@ -81,8 +78,7 @@ word_for {c} {es} k h has some meets = by (register_at n k (q_of f.op)) (car.q h
     car = st.all.mirrors.images.carried k
 
     by : (v : Value) → f.q ≡ image_of (bases_of w.allocations) v → IsSound n v → IsSafe st.all.mirrors.safe.0 v
-        → Meets n v (i_of f.op) (λ kind. Unit {0})
-        → is_word_met c f ≡ true
+        → Meets n v (i_of f.op) (λ kind. Unit {0}) → is_word_met c f ≡ true
     by Null is sound safe meets = absurd (car.some_q some is)
     by (Num x) is sound safe meets = absurd sound
     by (Ptr a t o) is sound safe meets =
@@ -93,7 +89,6 @@ word_for {c} {es} k h has some meets = by (register_at n k (q_of f.op)) (car.q h
         and_from _ _ (le-leb 65536 f.q (omega arith)) (lt-ltb _ (64 * c.pages) (omega arith))
 
 pub word_is_met : (p : PassState) (k : ℕ) → p.seat ≡ Caller k → IsHistory p.table.config p.seen
-    → has_q (call_of p).stage (call_of p).op ≡ true
-    → has_some_q (call_of p).stage (call_of p).op ≡ true → is_access (call_of p).op ≡ true → Admits p (call_of p).op
-    → is_word_met p.table.config (call_of p) ≡ true
+    → has_q (call_of p).stage (call_of p).op ≡ true → has_some_q (call_of p).stage (call_of p).op ≡ true
+    → is_access (call_of p).op ≡ true → Admits p (call_of p).op → is_word_met p.table.config (call_of p) ≡ true
 word_is_met p k is h has some through ad = grind (arith, word_for, access_meets)

@@ -1,9 +1,9 @@
 -- The command that the getters read is the one of what was given.
 use Rattle.std.proofs.Common.{Bool, Option, Some, ap, codes, false, option_and_then, true, ◌∙◌, ◌≡◌}
-use Rattle.clap.{proofs.WalkLemmas.{first_value-rows, one_text-rows}, specs.Walk.{Text, rows_of}}
-use Rattle.clap.specs.{declared.parser.matches.Found.Found, Matches.{first_value, one_text}, Values.bool_text}
-use Rattle.mk_commands.specs.{Commands.{gen_from, gen_of, markers_of, run_of, run_with, start_of}, Given.{Given, gens}}
-use Rattle.mk_commands.specs.{Given.runs, Told.HasGiven, declared.commands.Command.Command}
+use Rattle.clap.{proofs.WalkLemmas.{first_value-rows, one_text-rows}, specs.declared.parser.matches.Found.{Found}}
+use Rattle.clap.specs.{Matches.{first_value, one_text}, Values.bool_text, Walk.{Text, rows_of}}
+use Rattle.mk_commands.specs.{Commands.{gen_from, gen_of, markers_of, run_of, run_with}, Given.{Given, gens, runs}}
+use Rattle.mk_commands.specs.{Told.HasGiven, declared.commands.Command.Command}
 use Rattle.mk_script.specs.Names.{number_of_word}
 
 pub flag_is : (b r : Bool) (o : Option Text) → o ≡ Some (bool_text b) → (o ≡ Some (codes "true") → r ≡ true)
@@ -25,11 +25,9 @@ abbrev gen_said : Option Text → Option Text → Option Text → Option Command
 gen_said markers start count = gen_from (markers_of markers) (option_and_then number_of_word start)
     (option_and_then number_of_word count)
 
-pub gen_reads : (f : Found) (t : Given) (answer : Option Command)
-    → answer ≡ gen_from (markers_of (first_value f (codes "markers")))
-    (option_and_then number_of_word (first_value f (codes "start")))
-    (option_and_then number_of_word (first_value f (codes "count")))
-    → HasGiven gens (rows_of f) t → answer ≡ gen_of t
+pub gen_reads : (f : Found) (t : Given) (answer : Option Command) → answer ≡ gen_from
+    (markers_of (first_value f (codes "markers"))) (option_and_then number_of_word (first_value f (codes "start")))
+    (option_and_then number_of_word (first_value f (codes "count"))) → HasGiven gens (rows_of f) t → answer ≡ gen_of t
 gen_reads f t answer reads h =
     let markers = first_value-rows f (codes "markers") ∙ h.markers in
     let start = first_value-rows f (codes "start") ∙ h.start in

@@ -36,15 +36,13 @@ long_shape : (word : Text) (p : Text × Option Text) → long_of word ≡ Some p
 long_shape word p e = first (strip_byte 45 word) refl e
   where
     second : (r : Text) → strip_byte 45 word ≡ Some r → (o : Option Text) → strip_byte 45 r ≡ o
-        → option_and_then long_of_rest o ≡ Some p
-        → word ≡ 45 ∷ 45 ∷ (p.0 ++ tail_of p.1)
+        → option_and_then long_of_rest o ≡ Some p → word ≡ 45 ∷ 45 ∷ (p.0 ++ tail_of p.1)
     second r a None b e = cc
     second r a (Some []) b e = cc
     second r a (Some (x ∷ xs)) b e = cc (stripped 45 word r a, stripped 45 r (x ∷ xs) b, joined (x ∷ xs))
 
-    first : (o : Option Text) → strip_byte 45 word ≡ o
-        → option_and_then long_of_rest (option_and_then (strip_byte 45) o) ≡ Some p
-        → word ≡ 45 ∷ 45 ∷ (p.0 ++ tail_of p.1)
+    first : (o : Option Text) → strip_byte 45 word ≡ o → option_and_then long_of_rest
+        (option_and_then (strip_byte 45) o) ≡ Some p → word ≡ 45 ∷ 45 ∷ (p.0 ++ tail_of p.1)
     first None a e = cc
     first (Some r) a e = second r a (strip_byte 45 r) refl e
 
@@ -54,8 +52,7 @@ behind_shape (x ∷ front) [] digits e = cc
 behind_shape (x ∷ front) (y ∷ word) digits e = by_test (y == x) refl e (behind_shape front word digits)
   where
     by_test : (t : Bool) → (y == x) ≡ t → behind (x ∷ front) (y ∷ word) ≡ Some digits
-        → (behind front word ≡ Some digits → word ≡ front ++ digits)
-        → y ∷ word ≡ x ∷ (front ++ digits)
+        → (behind front word ≡ Some digits → word ≡ front ++ digits) → y ∷ word ≡ x ∷ (front ++ digits)
     by_test true t e more = grind (arith, nat_tests)
     by_test false t e more = let no : None ≡ Some digits = rw t at e in cc
 
@@ -74,10 +71,9 @@ no_value None s = s
 no_value (Some v) s = unknown
 
 abbrev pub said_long : Text → Option Text → Said
-said_long name v = if bytes_eq (codes "markers") name then markers_said v
-    else if bytes_eq (codes "sweep") name then no_value v (flag_said sweep_flag)
-    else if bytes_eq (codes "why") name then no_value v (flag_said why_flag)
-    else unknown
+said_long name v = if bytes_eq (codes "markers") name then markers_said v else if bytes_eq
+    (codes "sweep") name then no_value v (flag_said sweep_flag) else if bytes_eq (codes "why") name then no_value v
+    (flag_said why_flag) else unknown
 
 pub flag_long : (flag : Flag) (v : Option Text) → said_long (flag_name flag) v ≡ no_value v (flag_said flag)
 flag_long sweep_flag v = refl

@@ -1,6 +1,6 @@
 -- A word more that is an option.
 use Rattle.std.proofs.Common.{Bool, List, None, Option, Some, ap, codes, false, if◌then◌else◌, is_some, option_and_then}
-use Rattle.std.{proofs.Common.{refl, subst, sym, true, [], ◌++◌, ◌∙◌, ◌∷◌, ◌≡◌}, specs.Str.{bytes_eq}}
+use Rattle.std.{proofs.Common.{refl, subst, sym, true, [], ◌∙◌, ◌∷◌, ◌≡◌}, specs.Str.{bytes_eq}}
 use Rattle.clap.specs.{Faults.{long_fault, settle_fault}, Walk.{Held, Row, Text, Walk, arg_by_long, has_row, idle}}
 use Rattle.clap.specs.Walk.{long_word, next, option, settled_rows, with_values, without}
 use Rattle.clap.specs.declared.builder.value_parser.Reading.TheVariants.{AsWritten}
@@ -11,8 +11,8 @@ use Rattle.mk_commands.proofs.{Lexing.said_long, Standing.{Id, IsAt, More, Tells
 use Rattle.mk_commands.proofs.Standing.{has_id, holds_set, markers_id, passes_on, still_holds, text_of, waits}
 use Rattle.mk_commands.proofs.Walking.{holding, long_is, position_of, rules, standing, word_stops}
 use Rattle.mk_commands.specs.Given.{Flag, Form, Given, Numbers, bare, flag_said, gens, given_said, has_flag, markers_by}
-use Rattle.mk_commands.specs.Given.{runs, set_flag, sweep_flag, takes_flags, takes_markers, unknown, why_flag}
-use Rattle.mk_commands.specs.{Given.{with_markers, with_words}, Told.flag_name}
+use Rattle.mk_commands.specs.Given.{runs, set_flag, sweep_flag, takes_flags, takes_markers, why_flag, with_markers}
+use Rattle.mk_commands.specs.{Given.with_words, Told.flag_name}
 
 -- ---- a word with a name
 
@@ -21,20 +21,17 @@ conflict_if true = ErrorKind.ArgumentConflict ∷ []
 conflict_if false = []
 
 -- the value of `--markers=K`, where there is one already and where there is none
-markers_fault : (form : Form) → takes_markers form ≡ true
-    → (x : Text) (rows : List Row) (p : Option (Text × List Text)) (b : Bool)
-    → settle_fault (rules form) false (holding rows p) ≡ []
-    → has_row (codes "markers") (settled_rows (rules form) p rows) ≡ b
-    → long_fault (rules form) false (arg_by_long (rules form) (codes "markers")) (Some x) (holding rows p)
-    ≡ conflict_if b
+markers_fault : (form : Form) → takes_markers form ≡ true → (x : Text) (rows : List Row) (p : Option (Text × List Text))
+    (b : Bool) → settle_fault (rules form) false (holding rows p) ≡ []
+    → has_row (codes "markers") (settled_rows (rules form) p rows) ≡ b → long_fault (rules form) false
+    (arg_by_long (rules form) (codes "markers")) (Some x) (holding rows p) ≡ conflict_if b
 markers_fault bare k x rows p b s h = cc
 markers_fault _ k x rows p true s h = rw (s, h) refl
 markers_fault _ k x rows p false s h = rw (s, h) refl
 
 markers_met : (form : Form) → takes_markers form ≡ true
-    → (word x : Text) (rows : List Row) (p : Option (Text × List Text))
-    → long_word (rules form) idle word (codes "markers") (Some x) (holding rows p)
-    ≡ (
+    → (word x : Text) (rows : List Row) (p : Option (Text × List Text)) → long_word (rules form) idle word
+    (codes "markers") (Some x) (holding rows p) ≡ (
       holding (with_values (codes "markers") AsWritten CommandLine (x ∷ [])
           (without (codes "markers") (settled_rows (rules form) p rows))) None,
       next idle,
@@ -42,12 +39,11 @@ markers_met : (form : Form) → takes_markers form ≡ true
 markers_met bare k word x rows p = cc
 markers_met _ k word x rows p = refl
 
-markers_wait : (form : Form) → takes_markers form ≡ true
-    → (word : Text) (rows : List Row) (p : Option (Text × List Text))
-    → (long_word (rules form) idle word (codes "markers") None (holding rows p)
-    ≡ (holding (settled_rows (rules form) p rows) (Some (codes "markers", [])), next (option (codes "markers"))))
-    × (long_fault (rules form) false (arg_by_long (rules form) (codes "markers")) None (holding rows p)
-    ≡ settle_fault (rules form) false (holding rows p))
+markers_wait : (form : Form) → takes_markers form ≡ true → (word : Text) (rows : List Row)
+    (p : Option (Text × List Text)) → (long_word (rules form) idle word (codes "markers") None (holding rows p)
+    ≡ (holding (settled_rows (rules form) p rows) (Some (codes "markers", [])), next (option (codes "markers")))) ×
+    (long_fault (rules form) false (arg_by_long (rules form) (codes "markers")) None (holding rows p) ≡ settle_fault
+    (rules form) false (holding rows p))
 markers_wait bare k word rows p = cc
 markers_wait _ k word rows p = (refl, refl)
 
@@ -56,9 +52,8 @@ no_markers bare k = refl
 no_markers _ k = cc
 
 -- a flag, where it was given already and where it wasn't
-flag_fault : (form : Form) → takes_flags form ≡ true
-    → (flag : Flag) (rows : List Row) (p : Option (Text × List Text)) (b : Bool)
-    → settle_fault (rules form) false (holding rows p) ≡ []
+flag_fault : (form : Form) → takes_flags form ≡ true → (flag : Flag) (rows : List Row) (p : Option (Text × List Text))
+    (b : Bool) → settle_fault (rules form) false (holding rows p) ≡ []
     → has_row (flag_name flag) (settled_rows (rules form) p rows) ≡ b
     → long_fault (rules form) false (arg_by_long (rules form) (flag_name flag)) None (holding rows p) ≡ conflict_if b
 flag_fault runs k sweep_flag rows p true s h = rw (s, h) refl
@@ -67,11 +62,10 @@ flag_fault runs k _ rows p _ s h = rw (s, h) refl
 flag_fault _ k flag rows p b s h = cc
 
 flag_met : (form : Form) → takes_flags form ≡ true
-    → (flag : Flag) (word : Text) (rows : List Row) (p : Option (Text × List Text))
-    → long_word (rules form) idle word (flag_name flag) None (holding rows p)
-    ≡ (
-      holding (with_values (flag_name flag) AsWritten CommandLine (codes "true" ∷ [])
-          (without (flag_name flag) (settled_rows (rules form) p rows))) None,
+    → (flag : Flag) (word : Text) (rows : List Row) (p : Option (Text × List Text)) → long_word (rules form) idle word
+    (flag_name flag) None (holding rows p) ≡ (
+      holding (with_values (flag_name flag) AsWritten CommandLine
+          (codes "true" ∷ []) (without (flag_name flag) (settled_rows (rules form) p rows))) None,
       next idle,
     )
 flag_met runs k sweep_flag word rows p = refl
@@ -92,8 +86,7 @@ no_flag _ k _ = cc
 
 -- a name that no option has
 no_option : (form : Form) (id : Text) → bytes_eq (codes "markers") id ≡ false → bytes_eq (codes "sweep") id ≡ false
-    → bytes_eq (codes "why") id ≡ false
-    → arg_by_long (rules form) id ≡ None
+    → bytes_eq (codes "why") id ≡ false → arg_by_long (rules form) id ≡ None
 no_option runs id m s w = rw (m, s, w) refl
 no_option gens id m s w = rw m refl
 no_option bare id m s w = refl
@@ -168,8 +161,7 @@ module _ (form : Form) (name word : Text) (words : List Text) (rows : List Row) 
     left = settled_rows (rules form) p rows
 
     markers_value : takes_markers form ≡ true → (x : Text) → long_of word ≡ Some (codes "markers", Some x) → (b : Bool)
-        → is_some t.markers ≡ b
-        → Free (with_markers t x)
+        → is_some t.markers ≡ b → Free (with_markers t x)
     markers_value k x l true has =
         let kinds = markers_fault form k x rows p true i.0 (has_id left t i.1 markers_id ∙ has) in
         subst Free (sym (some_markers t x true has)) (long_refused (codes "markers") (Some x) l
@@ -195,8 +187,7 @@ module _ (form : Form) (name word : Text) (words : List Text) (rows : List Row) 
     markers_go false k v l = long_unknown (codes "markers") v l (no_markers form k)
 
     flag_sets : takes_flags form ≡ true → (flag : Flag) → long_of word ≡ Some (flag_name flag, None) → (b : Bool)
-        → has_flag flag t ≡ b
-        → Free (if b then None else Some (set_flag flag t))
+        → has_flag flag t ≡ b → Free (if b then None else Some (set_flag flag t))
     flag_sets k flag l true has =
         let kinds = flag_fault form k flag rows p true i.0
         (has_id left t i.1 (flag_id flag) ∙ flag_some (has_flag flag t) ∙ has) in
@@ -207,9 +198,8 @@ module _ (form : Form) (name word : Text) (words : List Text) (rows : List Row) 
         let held = holds_set left t i.1 (flag_id flag) (codes "true") (set_flag flag t) none (flag_set t flag)
         (flag_alone t flag) in
         let others = unchanged flag in
-        long_passes (flag_name flag) None l false (set_flag flag t) _ None
-        (flag_fault form k flag rows p false i.0 fresh) (flag_met form k flag word rows p) others.0 others.1
-        (refl, held, others.2)
+        long_passes (flag_name flag) None l false (set_flag flag t) _ None (flag_fault form k flag rows p false i.0
+        fresh) (flag_met form k flag word rows p) others.0 others.1 (refl, held, others.2)
       where
         unchanged : (f : Flag)
             → ((set_flag f t).numbers ≡ ns) × ((set_flag f t).ended ≡ false) × ((set_flag f t).awaits ≡ false)
@@ -230,9 +220,8 @@ module _ (form : Form) (name word : Text) (words : List Text) (rows : List Row) 
         → Free (given_said form (said_long id v) word t)
     long_go id v l = by (name_view id)
       where
-        named : (name : Text) → id ≡ name
-            → (long_of word ≡ Some (name, v) → Free (given_said form (said_long name v) word t))
-            → Free (given_said form (said_long id v) word t)
+        named : (name : Text) → id ≡ name → (long_of word ≡ Some (name, v)
+            → Free (given_said form (said_long name v) word t)) → Free (given_said form (said_long id v) word t)
         named name same go = rw same (go (subst (λ (n : Text). long_of word ≡ Some (n, v)) same l))
 
         by : NameView id → Free (given_said form (said_long id v) word t)

@@ -26,16 +26,14 @@ at_end : (id : Text) (change : Row → List Row) (missing rows : List Row) → h
 at_end id change missing [] e = refl
 at_end id change missing (r ∷ rows) e = by_test (bytes_eq r.id id) refl e (at_end id change missing rows)
   where
-    by_test : (t : Bool) → bytes_eq r.id id ≡ t → has_row id (r ∷ rows) ≡ false
-        → (has_row id rows ≡ false → at_row id change missing rows ≡ rows ++ missing)
-        → at_row id change missing (r ∷ rows) ≡ r ∷ (rows ++ missing)
+    by_test : (t : Bool) → bytes_eq r.id id ≡ t → has_row id (r ∷ rows) ≡ false → (has_row id rows ≡ false
+        → at_row id change missing rows ≡ rows ++ missing) → at_row id change missing (r ∷ rows) ≡ r ∷ (rows ++ missing)
     by_test true t e more = let no : true ≡ false = rw t at e in cc
     by_test false t e more = let left : has_row id rows ≡ false = rw t at e in rw t (ap (λ l. r ∷ l) (more left))
 
 -- the values of an id that has none yet
 pub values_added : (id : Text) (how : Reading) (source : ValueSource) (values : List Text) (rows : List Row)
-    → has_row id rows ≡ false
-    → with_values id how source values rows ≡ rows ++ row id how source values ∷ []
+    → has_row id rows ≡ false → with_values id how source values rows ≡ rows ++ row id how source values ∷ []
 values_added id how source values rows e = at_end id (more_values source values) (row id how source values ∷ []) rows e
 
 pub values_set : (id : Text) (how : Reading) (source : ValueSource) (values : List Text) (rows : List Row)
@@ -67,9 +65,8 @@ entry_same id r (x ∷ rows) e none = by_test (bytes_eq x.id id) refl none (entr
     by_test false t was more = let left : entry id rows ≡ None = rw t at was in rw t (more left)
 
 -- what is found of a row's values and how they are read
-of_found : {C : Type 0} (f : List Text × Reading → Option C) (o : Option Row)
-    → option_and_then (λ (r : Row). f (r.values, r.reading)) o
-    ≡ option_and_then f (option_map (λ (r : Row). (r.values, r.reading)) o)
+of_found : {C : Type 0} (f : List Text × Reading → Option C) (o : Option Row) → option_and_then
+    (λ (r : Row). f (r.values, r.reading)) o ≡ option_and_then f (option_map (λ (r : Row). (r.values, r.reading)) o)
 of_found f None = refl
 of_found f (Some r) = refl
 
@@ -77,7 +74,6 @@ pub first_of_entry : (id : Text) (rows : List Row)
     → first_of id rows ≡ option_and_then (λ (p : List Text × Reading). slice_get p.0 0) (entry id rows)
 first_of_entry id rows = of_found (λ p. slice_get p.0 0) (find (λ r. bytes_eq r.id id) rows)
 
-pub one_of_entry : (id : Text) (rows : List Row)
-    → one_of id rows ≡ option_and_then (λ (p : List Text × Reading). option_map (read_as p.1) (slice_get p.0 0))
-    (entry id rows)
+pub one_of_entry : (id : Text) (rows : List Row) → one_of id rows ≡ option_and_then
+    (λ (p : List Text × Reading). option_map (read_as p.1) (slice_get p.0 0)) (entry id rows)
 one_of_entry id rows = of_found (λ p. option_map (read_as p.1) (slice_get p.0 0)) (find (λ r. bytes_eq r.id id) rows)

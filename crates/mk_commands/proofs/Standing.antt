@@ -1,6 +1,6 @@
 -- Where the walk of clap stands, with what its rows hold, and a word more that is a number.
 use Rattle.std.proofs.Common.{Bool, List, None, Option, Some, ap, codes, false, if◌then◌else◌, is_some, option_and_then}
-use Rattle.std.proofs.{Common.{refl, subst, sym, true, [], ◌++◌, ◌||◌, ◌∙◌, ◌∷◌, ◌≡◌}, Math.Bool.{and-false, or-false}}
+use Rattle.std.proofs.{Common.{refl, subst, sym, true, [], ◌++◌, ◌∙◌, ◌∷◌, ◌≡◌}, Math.Bool.{and-false, or-false}}
 use Rattle.std.specs.Str.{bytes_eq}
 use Rattle.clap.specs.{Faults.{settle_fault, step_fault, word_fault}, Walk.{Held, Row, Step, Text, Waiting, Walk}}
 use Rattle.clap.specs.Walk.{after_step, has_row, idle, is_pending, option, settled_rows, value, with_values, without}
@@ -108,15 +108,13 @@ TellsAs form name w words (Some t) = (rest_fault form name w words ≡ []) × Ho
 -- what is shown of the words that are left, from wherever the walk stands
 abbrev pub More : Form → Text → List Text → Type 0
 More form name words = (b : Bool) (t : Given) (rows : List Row) (p : Option (Text × List Text)) (ns : Numbers)
-    (tr : Bool)
-    → t.numbers ≡ ns → t.ended ≡ tr → IsAt b form t rows p
+    (tr : Bool) → t.numbers ≡ ns → t.ended ≡ tr → IsAt b form t rows p
     → TellsAs form name (standing rows p (waits b) (position_of ns) tr) words (with_words form words t)
 
 -- a word that passes: what comes after it tells the same
 pub passes_on : (form : Form) (name : Text) (w : Walk) (word : Text) (words : List Text) (h : Held) (step : Step)
-    (o : Option Given) → w.stopped ≡ None
-    → word_met (rules form) [] w.is_trailing w.waiting w.position word w.held ≡ (h, step)
-    → word_fault (shape form name) [] w.is_trailing w.waiting word w.held ≡ []
+    (o : Option Given) → w.stopped ≡ None → word_met (rules form) [] w.is_trailing w.waiting w.position word w.held
+    ≡ (h, step) → word_fault (shape form name) [] w.is_trailing w.waiting word w.held ≡ []
     → step_fault (shape form name) w.position h step ≡ []
     → TellsAs form name (after_step (rules form) word w h step) words o → TellsAs form name w (word ∷ words) o
 passes_on form name w word words h step None s met passes fits tells =
@@ -147,9 +145,8 @@ start_alone t v none count_id e = ap count_of (sym none)
 start_alone t v none (flag_id sweep_flag) e = refl
 start_alone t v none _ e = refl
 
-count_alone : (t : Given) (a v : Text) → t.numbers ≡ one_number a → (j : Id)
-    → bytes_eq (codes "count") (text_of j) ≡ false
-    → given_for j (record t { numbers = two_numbers a v }) ≡ given_for j t
+count_alone : (t : Given) (a v : Text) → t.numbers ≡ one_number a → (j : Id) → bytes_eq (codes "count") (text_of j)
+    ≡ false → given_for j (record t { numbers = two_numbers a v }) ≡ given_for j t
 count_alone t a v one count_id e = cc
 count_alone t a v one start_id e = ap start_of (sym one)
 count_alone t a v one (flag_id sweep_flag) e = refl
@@ -164,13 +161,11 @@ module _ (form : Form) (name word : Text) (words : List Text) (t : Given) (rows 
   left = settled_rows (rules form) p rows
 
   -- The number is held, and the walk goes on from there.
-  holds_number : (k : Id) (now : Numbers)
-      → after_step (rules form) word (standing rows p idle (position_of ns) tr) (holding rows p) value
-      ≡ standing left (Some (text_of k, word ∷ [])) idle (position_of now) tr
+  holds_number : (k : Id) (now : Numbers) → after_step (rules form) word (standing rows p idle (position_of ns) tr)
+      (holding rows p) value ≡ standing left (Some (text_of k, word ∷ [])) idle (position_of now) tr
       → step_fault (shape form name) (position_of ns) (holding rows p) value ≡ []
-      → IsAt false form (record t { numbers = now }) left (Some (text_of k, word ∷ []))
-      → TellsAs form name (standing rows p idle (position_of ns) tr) (word ∷ words)
-      (with_words form words (record t { numbers = now }))
+      → IsAt false form (record t { numbers = now }) left (Some (text_of k, word ∷ [])) → TellsAs form name
+      (standing rows p idle (position_of ns) tr) (word ∷ words) (with_words form words (record t { numbers = now }))
   holds_number k now after fits at =
       passes_on form name (standing rows p idle (position_of ns) tr) word words (holding rows p) value _ refl met passes
       fits (rw after (more false _ left (Some (text_of k, word ∷ [])) now tr refl en at))

@@ -1,14 +1,13 @@
 -- What clap takes and finds, of a whole command line.
 use Rattle.std.proofs.Common.{Bool, List, MatchOption, None, Option, Some, ap, codes, drop, false, fold, if◌then◌else◌}
-use Rattle.std.proofs.Common.{is_some, option_and_then, option_map, refl, slice_get, subst, sym, true, [], ◌||◌, ◌∙◌}
-use Rattle.std.{proofs.Common.{◌∷◌, ◌≡◌, ◌≢◌}, specs.Str.{bytes_eq}}
+use Rattle.std.proofs.Common.{is_some, option_and_then, refl, subst, sym, true, [], ◌||◌, ◌∙◌, ◌∷◌, ◌≡◌, ◌≢◌}
+use Rattle.std.specs.Str.{bytes_eq}
 use Rattle.clap.{proofs.FaultLemmas.{leaf_fault}, specs.Walk.{nothing_held, one_of, rows_of, with_default, with_values}}
-use Rattle.clap.specs.{declared.parser.matches.ArgMatches.ArgMatches, Faults.{check_fault, default_fault}}
-use Rattle.clap.specs.{Faults.{defaults_fault, fault_of, given_default_fault, settle_fault}, Simple.{App, built}}
-use Rattle.clap.specs.{Simple.matches_of, declared.builder.value_parser.Reading.TheVariants.AsWritten}
+use Rattle.clap.specs.Faults.{check_fault, default_fault, defaults_fault, fault_of, given_default_fault, settle_fault}
+use Rattle.clap.specs.{Simple.{App, built, matches_of}, declared.builder.value_parser.Reading.TheVariants.AsWritten}
 use Rattle.clap.specs.{declared.parser.matches.ValueSource.TheVariants.DefaultValue, Kinds.{Kinds, or_else}}
-use Rattle.clap.specs.{Matches.found_of, Values.{bool_text, read_as}, Walk.{Row, Rule, Text, first_of, has_row, idle}}
-use Rattle.clap.specs.declared.builder.value_parser.Reading.{Reading}
+use Rattle.clap.specs.{Matches.found_of, Values.bool_text, Walk.{Row, Rule, Text, first_of, has_row, idle}}
+use Rattle.clap.specs.declared.parser.matches.ArgMatches.{ArgMatches}
 use Rattle.mk_commands.proofs.Standing.{Holds, Id, TellsAs, as_entry, count_id, flag_id, given_for, markers_id}
 use Rattle.mk_commands.proofs.{Standing.{start_id, text_of}, Walking.{count_filled, flag_filled, markers_filled}}
 use Rattle.mk_commands.proofs.Walking.{rest_fault, rest_rows, rules, shape, standing, start_filled}
@@ -27,9 +26,8 @@ flag_other : (id other : Text) (rows : List Row) → bytes_eq id other ≡ false
     → entry other (with_default rows (flag_filled id)) ≡ entry other rows
 flag_other id other rows e = by_test (has_row id rows) refl
   where
-    by_test : (b : Bool) → has_row id rows ≡ b
-        → entry other (if b then rows else with_values id AsWritten DefaultValue (codes "false" ∷ []) rows)
-        ≡ entry other rows
+    by_test : (b : Bool) → has_row id rows ≡ b → entry other
+        (if b then rows else with_values id AsWritten DefaultValue (codes "false" ∷ []) rows) ≡ entry other rows
     by_test true h = refl
     by_test false h = ap (entry other) (values_added id AsWritten DefaultValue (codes "false" ∷ []) rows h)
         ∙ entry_other other (row id AsWritten DefaultValue (codes "false" ∷ [])) rows e
@@ -95,9 +93,8 @@ has_given form rows t h = record {
       flag_found (codes "sweep") (defaulted runs rows) t.sweep
           (flag_other (codes "why") (codes "sweep") (with_default rows (flag_filled (codes "sweep"))) refl
           ∙ flag_same (codes "sweep") rows t.sweep refl (h (flag_id sweep_flag))),
-      flag_found (codes "why") (defaulted runs rows) t.why
-          (flag_same (codes "why") (with_default rows (flag_filled (codes "sweep"))) t.why refl
-          (flag_other (codes "sweep") (codes "why") rows refl ∙ h (flag_id why_flag))),
+      flag_found (codes "why") (defaulted runs rows) t.why (flag_same (codes "why") (with_default rows (flag_filled
+          (codes "sweep"))) t.why refl (flag_other (codes "sweep") (codes "why") rows refl ∙ h (flag_id why_flag))),
     )
     by _ = tt
 
@@ -128,13 +125,11 @@ unfolding defaults_fault
 no_defaults_fault bare name rows = refl
 no_defaults_fault gens name rows =
     let one = with_default rows markers_filled in
-    two_empty _ _ (none_default markers_filled refl rows)
-    (two_empty _ _ (none_default start_filled refl one)
+    two_empty _ _ (none_default markers_filled refl rows) (two_empty _ _ (none_default start_filled refl one)
     (two_empty _ _ (none_default count_filled refl (with_default one start_filled)) refl))
 no_defaults_fault runs name rows =
     let one = with_default rows markers_filled in
-    two_empty _ _ (none_default markers_filled refl rows)
-    (two_empty _ _ (flag_none (codes "sweep") one)
+    two_empty _ _ (none_default markers_filled refl rows) (two_empty _ _ (flag_none (codes "sweep") one)
     (two_empty _ _ (flag_none (codes "why") (with_default one (flag_filled (codes "sweep")))) refl))
 
 no_check_fault : (form : Form) (name : Text) (rows : List Row) → check_fault (shape form name) rows false ≡ []
@@ -156,8 +151,7 @@ fault_is bare name words = leaf_fault (built (app_named bare name)) nothing_held
 fault_is form name words = leaf_fault (built (app_named form name)) nothing_held (drop 1 words) refl
     ∙ third_empty _ _ _ _ (no_defaults_fault form name _) (no_check_fault form name [])
 
-matches_are : (form : Form) (name : Text) (words : List Text)
-    → matches_of (app_named form name) words
+matches_are : (form : Form) (name : Text) (words : List Text) → matches_of (app_named form name) words
     ≡ with_defaults form (rest_rows form (standing [] None idle 1 false) (drop 1 words))
 matches_are bare name words = refl
 matches_are _ name words = refl
@@ -176,9 +170,8 @@ nothing_pending : (form : Form) → settle_fault (rules form) false nothing_held
 nothing_pending form = refl
 
 taken : (form : Form) (name : Text) (words : List Text) → TakesGiven form name words (given_by form (drop 1 words))
-taken form name words = by_told (given_by form (drop 1 words))
-    (tells form name (drop 1 words) false nothing_given [] None no_number false refl refl
-    (nothing_pending form, holds_nothing, refl))
+taken form name words = by_told (given_by form (drop 1 words)) (tells form name
+    (drop 1 words) false nothing_given [] None no_number false refl refl (nothing_pending form, holds_nothing, refl))
   where
     by_told : (o : Option Given) → TellsAs form name (standing [] None idle 1 false) (drop 1 words) o
         → TakesGiven form name words o
@@ -199,9 +192,8 @@ Answers form read found answer = MatchOption found (answer ≡ None)
 
 -- the answer is the command of the words
 pub answer_is : (form : Form) (read : Given → Option Command) (name : Text) (app : App) (words : List Text)
-    (found : Option ArgMatches) (answer : Option Command)
-    → app ≡ app_named form name → Finds app words found → Answers form read found answer
-    → answer ≡ option_and_then read (given_by form (drop 1 words))
+    (found : Option ArgMatches) (answer : Option Command) → app ≡ app_named form name → Finds app words found
+    → Answers form read found answer → answer ≡ option_and_then read (given_by form (drop 1 words))
 answer_is form read name app words found answer is finds answers =
     by_given found (subst (λ (a : App). Finds a words found) is finds) answers (given_by form (drop 1 words))
     (taken form name words)

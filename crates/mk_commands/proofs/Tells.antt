@@ -19,10 +19,9 @@ use Rattle.mk_commands.specs.Given.{plain, runs, said, takes_markers, unknown, w
 -- ---- a word where no number is awaited
 
 free_tells : (form : Form) (name word : Text) (words : List Text) (t : Given) (rows : List Row)
-    (p : Option (Text × List Text)) (ns : Numbers) (tr : Bool)
-    → t.numbers ≡ ns → t.ended ≡ tr → IsAt false form t rows p → More form name words
-    → TellsAs form name (standing rows p idle (position_of ns) tr) (word ∷ words)
-    (option_and_then (with_words form words) (given_with_word form t word))
+    (p : Option (Text × List Text)) (ns : Numbers) (tr : Bool) → t.numbers ≡ ns → t.ended ≡ tr
+    → IsAt false form t rows p → More form name words → TellsAs form name (standing rows p idle (position_of ns) tr)
+    (word ∷ words) (option_and_then (with_words form words) (given_with_word form t word))
 free_tells form name word words t rows p ns true is en i more =
     rw (told_ended form t word i.2 en) (number_tells form name word words t rows p ns true is en i refl refl more)
 free_tells form name word words t rows p ns false is en i more = on_view (view word)
@@ -33,32 +32,27 @@ free_tells form name word words t rows p ns false is en i more = on_view (view w
         (sym (told_free form t word i.2 en ∙ ap (λ (y : Said). given_said form y word t) s)) h
 
     passing : PassesBy form name word → Free form name word words rows p ns (given_with_word form t word)
-    passing by = by_said plain by.says
-        (number_tells form name word words t rows p ns false is en i (by.met idle (position_of ns) rows p)
-        (by.passes idle rows p) more)
+    passing by = by_said plain by.says (number_tells form name word words t rows p ns false is en i
+        (by.met idle (position_of ns) rows p) (by.passes idle rows p) more)
 
     on_view : View word → Free form name word words rows p ns (given_with_word form t word)
     on_view (is_ends e) =
-        by_said ends (rw e refl)
-        (passes_on form name (standing rows p idle (position_of ns) false) word words (holding rows p)
-        (trailing (position_of ns)) _ refl (rw e refl) (rw e refl) refl
-        (more false (record t { ended = true }) rows p ns true is refl
-        (i.0, still_holds (settled_rows (rules form) p rows) t t.awaits true i.1, i.2)))
+        by_said ends (rw e refl) (passes_on form name (standing rows p idle (position_of ns) false) word words (holding
+        rows p) (trailing (position_of ns)) _ refl (rw e refl) (rw e refl) refl (more false (record t { ended = true })
+        rows p ns true is refl (i.0, still_holds (settled_rows (rules form) p rows) t t.awaits true i.1, i.2)))
     on_view (is_long id v e l) =
         by_said (said_long id v) (says_long word id v e l)
         (long_go form name word words rows p ns t is en i e more id v l)
-    on_view (is_bundle flags x e l s c) = by_said unknown (says_dashed word e l ∙ rw (s, c) refl)
-        (word_stops form name (standing rows p idle (position_of ns) false) word words refl
-        (λ g. bundle_stops form x flags (holding rows p) c refl
-        (sym (bundle_is form name word flags idle (holding rows p) e l s) ∙ g)))
+    on_view (is_bundle flags x e l s c) = by_said unknown (says_dashed word e l ∙ rw (s, c) refl) (word_stops form name
+        (standing rows p idle (position_of ns) false) word words refl (λ g. bundle_stops form x flags
+        (holding rows p) c refl (sym (bundle_is form name word flags idle (holding rows p) e l s) ∙ g)))
     on_view (is_odd flags e l s c) = passing (odd_passes form name word flags e l s c)
     on_view (is_plain e l s) = passing (plain_passes form name word e l s)
 
 -- ---- a word where the number of `--markers` is awaited
 
 awaited : (form : Form) → takes_markers form ≡ true → (rows : List Row) (b : Bool) → has_row (codes "markers") rows ≡ b
-    → (x : Text)
-    → settle_fault (rules form) false (holding rows (Some (codes "markers", x ∷ []))) ≡ conflict_if b
+    → (x : Text) → settle_fault (rules form) false (holding rows (Some (codes "markers", x ∷ []))) ≡ conflict_if b
 awaited bare k rows b h x = cc
 awaited _ k rows true h x = rw h refl
 awaited _ k rows false h x = rw h refl
@@ -92,10 +86,8 @@ never_long id v word t = by (name_view id) v
 
 awaiting_tells : (form : Form) (name word : Text) (words : List Text) (t : Given) (rows : List Row) (ns : Numbers)
     → t.numbers ≡ ns → Holds rows t → t.awaits ≡ true → t.ended ≡ false → takes_markers form ≡ true
-    → More form name words
-    → TellsAs form name (standing rows (Some (codes "markers", [])) (option (codes "markers")) (position_of ns) false)
-    (word ∷ words)
-    (option_and_then (with_words form words) (given_with_word form t word))
+    → More form name words → TellsAs form name (standing rows (Some (codes "markers", [])) (option (codes "markers"))
+    (position_of ns) false) (word ∷ words) (option_and_then (with_words form words) (given_with_word form t word))
 awaiting_tells form name word words t rows ns is h a en k more = on_view (view word)
   where
     by_told : (o : Option Given) → given_awaited (said word) word t ≡ o → Awaiting form name word words rows ns o
@@ -107,10 +99,9 @@ awaiting_tells form name word words t rows ns is h a en k more = on_view (view w
         → TellsAs form name (standing rows (Some (codes "markers", word ∷ [])) idle (position_of ns) false) words o
         → TellsAs form name (at_value rows ns) (word ∷ words) o
     takes_number by o =
-        passes_on form name (at_value rows ns) word words (holding rows (Some (codes "markers", word ∷ []))) (next idle)
-        o refl (by.met (option (codes "markers")) (position_of ns) rows (Some (codes "markers", []))
-        ∙ awaited_met form k word rows)
-        (by.passes (option (codes "markers")) rows (Some (codes "markers", []))) refl
+        passes_on form name (at_value rows ns) word words (holding rows (Some (codes "markers", word ∷ [])))
+        (next idle) o refl (by.met (option (codes "markers")) (position_of ns) rows (Some (codes "markers", []))
+        ∙ awaited_met form k word rows) (by.passes (option (codes "markers")) rows (Some (codes "markers", []))) refl
 
     by_markers : PassesBy form name word → (b : Bool) → is_some t.markers ≡ b
         → Awaiting form name word words rows ns (with_markers t word)
@@ -122,9 +113,8 @@ awaiting_tells form name word words t rows ns is h a en k more = on_view (view w
     by_markers by false has =
         let fresh = has_id rows t h markers_id ∙ has in
         let u : Given = record t { markers = Some word; awaits = false } in
-        let held : Holds (settled_rows (rules form) (Some (codes "markers", word ∷ [])) rows) u =
-        rw (awaited_rows form k word rows)
-        (holds_set rows t h markers_id word u (is_none t.markers has) refl (markers_alone t word false)) in
+        let held : Holds (settled_rows (rules form) (Some (codes "markers", word ∷ [])) rows) u = rw (awaited_rows form
+        k word rows) (holds_set rows t h markers_id word u (is_none t.markers has) refl (markers_alone t word false)) in
         subst (Awaiting form name word words rows ns) (sym (some_markers t word false has)) (takes_number by _
         (more false u rows (Some (codes "markers", word ∷ [])) ns false is en
         (awaited form k rows false fresh word, held, refl)))
@@ -135,25 +125,20 @@ awaiting_tells form name word words t rows ns is h a en k more = on_view (view w
 
     on_view : View word → Awaiting form name word words rows ns (given_with_word form t word)
     on_view (is_ends e) =
-        by_told None (rw e refl)
-        (passes_on form name (at_value rows ns) word words (holding rows (Some (codes "markers", [])))
-        (trailing (position_of ns)) None refl (rw e refl) (rw e refl) refl
-        (lost form name words rows (Some (codes "markers", [])) (option (codes "markers")) ns true
-        (none_awaited form k rows) (inl refl)))
+        by_told None (rw e refl) (passes_on form name (at_value rows ns) word words (holding rows (Some
+        (codes "markers", []))) (trailing (position_of ns)) None refl (rw e refl) (rw e refl) refl (lost form name words
+        rows (Some (codes "markers", [])) (option (codes "markers")) ns true (none_awaited form k rows) (inl refl)))
     on_view (is_long id v e l) =
         let kinds = long_is form name word id v (option (codes "markers")) (position_of ns)
         (holding rows (Some (codes "markers", []))) e l in
         by_told None (ap (λ (x : Said). given_awaited x word t) (says_long word id v e l) ∙ never_long id v word t)
-        (word_stops form name (at_value rows ns) word words refl
-        (λ g. long_stops (rules form) (arg_by_long (rules form) id) v (holding rows (Some (codes "markers", [])))
-        (none_awaited form k rows) (sym kinds.1 ∙ g)))
+        (word_stops form name (at_value rows ns) word words refl (λ g. long_stops (rules form) (arg_by_long
+        (rules form) id) v (holding rows (Some (codes "markers", []))) (none_awaited form k rows) (sym kinds.1 ∙ g)))
     on_view (is_bundle flags x e l s c) =
         let says : said word ≡ unknown = says_dashed word e l ∙ rw (s, c) refl in
-        by_told None (ap (λ (y : Said). given_awaited y word t) says)
-        (word_stops form name (at_value rows ns) word words refl
-        (λ g. bundle_stops form x flags (holding rows (Some (codes "markers", []))) c refl
-        (sym (bundle_is form name word flags (option (codes "markers")) (holding rows (Some (codes "markers", []))) e l
-        s) ∙ g)))
+        by_told None (ap (λ (y : Said). given_awaited y word t) says) (word_stops form name (at_value rows ns) word
+        words refl (λ g. bundle_stops form x flags (holding rows (Some (codes "markers", []))) c refl (sym (bundle_is
+        form name word flags (option (codes "markers")) (holding rows (Some (codes "markers", []))) e l s) ∙ g)))
     on_view (is_odd flags e l s c) = passing (odd_passes form name word flags e l s c)
     on_view (is_plain e l s) = passing (plain_passes form name word e l s)
 
@@ -164,8 +149,7 @@ unfolding walk_fault
 no_words form name false t rows p ns tr is en i =
     let told : with_words form [] t ≡ Some t = rw i.2 refl in
     subst (TellsAs form name (standing rows p idle (position_of ns) tr) []) (sym told) (i.0, i.1)
-no_words form name true t rows p ns tr is en i =
-    rw i.2 (λ e. none_awaited form i.4 rows (rw i.0 at e))
+no_words form name true t rows p ns tr is en i = rw i.2 (λ e. none_awaited form i.4 rows (rw i.0 at e))
 
 pub tells : (form : Form) (name : Text) (words : List Text) → More form name words
 tells form name [] = no_words form name
@@ -174,7 +158,6 @@ tells form name (word ∷ words) = one_more (tells form name words)
     one_more : More form name words → More form name (word ∷ words)
     one_more more false t rows p ns tr is en i = free_tells form name word words t rows p ns tr is en i more
     one_more more true t rows p ns tr is en i =
-        rw i.0 (subst (λ (r : Bool). TellsAs form name
-        (standing rows (Some (codes "markers", [])) (option (codes "markers")) (position_of ns) r) (word ∷ words)
-        (with_words form (word ∷ words) t)) (sym i.3 ∙ en)
+        rw i.0 (subst (λ (r : Bool). TellsAs form name (standing rows (Some (codes "markers", []))
+        (option (codes "markers")) (position_of ns) r) (word ∷ words) (with_words form (word ∷ words) t)) (sym i.3 ∙ en)
         (awaiting_tells form name word words t rows ns is i.1 i.2 i.3 i.4 more))

@@ -1,7 +1,7 @@
 -- The walk of clap over the words, word by word.
 use Rattle.std.proofs.Common.{Bool, List, None, Option, Some, ℕ, ap, codes, drop, encode_utf8, false, fold, inl, inr}
-use Rattle.std.proofs.Common.{length, refl, slice_get, subst, sym, true, [], ◌&&◌, ◌∙◌, ◌∷◌, ◌≡◌, ◌⊎◌}
-use Rattle.std.{proofs.Math.Bool.{and-false}, specs.Str.{bytes_eq, chars}}
+use Rattle.std.proofs.{Common.{length, refl, slice_get, subst, sym, true, [], ◌∙◌, ◌∷◌, ◌≡◌, ◌⊎◌}, Math.Bool.and-false}
+use Rattle.std.specs.Str.{bytes_eq, chars}
 use Rattle.clap.proofs.{FaultLemmas.fault_ends, WalkLemmas.bundle_ends}
 use Rattle.clap.specs.Faults.{bundle_fault, flags_fault, long_fault, settle_fault, short_fault, step_fault, turn_fault}
 use Rattle.clap.specs.{Faults.{walk_fault, word_fault}, Walk.{Held, Row, Rule, Step, Text, Waiting, Walk, after_step}}
@@ -82,16 +82,14 @@ goes_on form name w word words h step s met passes fits =
     let turn : turn_fault (shape form name) [] w word ≡ [] = rw (s, passes, met) fits in
     let moved : walked (rules form) [] w word ≡ after_step (rules form) word w h step = rw (s, met) refl in
     let after = walked (rules form) [] w word in (
-      sym (ap (λ (t : Kinds). or_else (or_else t (walk_fault (shape form name) [] after words))
-          (settle_fault (rules form) false (end_of form after words))) turn
-          ∙ ap (λ (v : Walk). rest_fault form name v words) moved),
+      sym (ap (λ (t : Kinds). or_else (or_else t (walk_fault (shape form name) [] after words)) (settle_fault
+          (rules form) false (end_of form after words))) turn ∙ ap (λ (v : Walk). rest_fault form name v words) moved),
       sym (ap (λ (v : Walk). rest_rows form v words) moved),
     )
 
 -- a word that is refused
 stops : (form : Form) (name : Text) (w : Walk) (word : Text) (words : List Text)
-    → (turn_fault (shape form name) [] w word ≡ [] → ⊥)
-    → rest_fault form name w (word ∷ words) ≡ [] → ⊥
+    → (turn_fault (shape form name) [] w word ≡ [] → ⊥) → rest_fault form name w (word ∷ words) ≡ [] → ⊥
 unfolding walk_fault
 stops form name w word words bad e = bad (first_empty (turn_fault (shape form name) [] w word) _ (first_empty _ _ e))
 
@@ -106,8 +104,7 @@ second_empty [] b e = e
 second_empty (k ∷ ks) b e = cc
 
 pub step_stops : (form : Form) (name : Text) (w : Walk) (word : Text) (words : List Text) (h : Held) (step : Step)
-    → w.stopped ≡ None
-    → word_met (rules form) [] w.is_trailing w.waiting w.position word w.held ≡ (h, step)
+    → w.stopped ≡ None → word_met (rules form) [] w.is_trailing w.waiting w.position word w.held ≡ (h, step)
     → (step_fault (shape form name) w.position h step ≡ [] → ⊥) → rest_fault form name w (word ∷ words) ≡ [] → ⊥
 step_stops form name w word words h step s met bad = stops form name w word words (λ e.
     let taken = word_met (rules form) [] w.is_trailing w.waiting w.position word w.held in
@@ -148,9 +145,8 @@ unfolding chars flags_fault
 bundle_stops form x [] h first skip e = let no : None ≡ Some x = first in cc
 bundle_stops form x (b ∷ flags) h first skip e = by_form form (rw (first, skip) at e)
   where
-    by_form : (f : Form)
-        → short_fault (rules f) false (arg_by_short (rules f) x) (drop (length (encode_utf8 x)) (b ∷ flags))
-        (record h { skip = 0 })
+    by_form : (f : Form) → short_fault (rules f) false (arg_by_short (rules f) x)
+        (drop (length (encode_utf8 x)) (b ∷ flags)) (record h { skip = 0 })
         (flags_fault (rules f) false (length flags) (drop (length (encode_utf8 x)) (b ∷ flags)) 0) ≡ [] → ⊥
     by_form bare e = cc
     by_form _ e = cc
@@ -211,23 +207,20 @@ plain_passes form name word e l s = record {
 }
 
 pub odd_passes : (form : Form) (name word flags : Text) → bytes_eq word (codes "--") ≡ false → long_of word ≡ None
-    → short_of word ≡ Some flags
-    → slice_get (chars flags) 0 ≡ None → PassesBy form name word
+    → short_of word ≡ Some flags → slice_get (chars flags) 0 ≡ None → PassesBy form name word
 odd_passes form name word flags e l s x = record {
   says = says_dashed word e l ∙ rw (s, x) refl;
   met = λ waiting position rows p. rw (no_subcommand waiting word, e, l, s)
       (rw (sym (bundle_ends (rules form) (length flags) flags 0 no_flag (holding rows p) (sym x))) refl);
-  passes = λ waiting rows p. rw (no_subcommand waiting word, e, l, s)
-      (sym (fault_ends (shape form name).rules (shape form name).args_override_self (length flags) flags 0
-      (holding rows p) (sym x)));
+  passes = λ waiting rows p. rw (no_subcommand waiting word, e, l, s) (sym (fault_ends (shape form name).rules
+      (shape form name).args_override_self (length flags) flags 0 (holding rows p) (sym x)));
 }
 
 -- a word with a name
 pub long_is : (form : Form) (name word id : Text) (v : Option Text) (waiting : Waiting) (position : ℕ) (h : Held)
-    → bytes_eq word (codes "--") ≡ false → long_of word ≡ Some (id, v)
-    → (word_met (rules form) [] false waiting position word h ≡ long_word (rules form) waiting word id v h)
-    × (word_fault (shape form name) [] false waiting word h
-    ≡ long_fault (rules form) false (arg_by_long (rules form) id) v h)
+    → bytes_eq word (codes "--") ≡ false → long_of word ≡ Some (id, v) → (word_met
+    (rules form) [] false waiting position word h ≡ long_word (rules form) waiting word id v h) × (word_fault
+    (shape form name) [] false waiting word h ≡ long_fault (rules form) false (arg_by_long (rules form) id) v h)
 long_is form name word id v waiting position h e l = (
   rw (no_subcommand waiting word, e, l) refl,
   rw (no_subcommand waiting word, e, l, shape_rules form name, again_not form name) refl,
@@ -242,9 +235,8 @@ bundle_is form name word flags waiting h e l s =
 -- ---- where all is lost: what is pending is refused
 
 pub lost : (form : Form) (name : Text) (words : List Text) (rows : List Row) (p : Option (Text × List Text))
-    (waiting : Waiting) (ns : Numbers) (tr : Bool)
-    → (settle_fault (rules form) false (holding rows p) ≡ [] → ⊥) → (tr ≡ true) ⊎ (waiting ≡ idle)
-    → rest_fault form name (standing rows p waiting (position_of ns) tr) words ≡ [] → ⊥
+    (waiting : Waiting) (ns : Numbers) (tr : Bool) → (settle_fault (rules form) false (holding rows p) ≡ [] → ⊥)
+    → (tr ≡ true) ⊎ (waiting ≡ idle) → rest_fault form name (standing rows p waiting (position_of ns) tr) words ≡ [] → ⊥
 unfolding walk_fault
 lost form name [] rows p waiting ns tr bad free e = bad e
 lost form name (word ∷ words) rows p waiting ns true bad free e =
@@ -252,25 +244,22 @@ lost form name (word ∷ words) rows p waiting ns true bad free e =
     (number_stops form name ns rows p bad) e
 lost form name (word ∷ words) rows p waiting ns false bad (inl t) e = cc
 lost form name (word ∷ words) rows p waiting ns false bad (inr is) e =
-    subst (λ (w : Waiting). rest_fault form name (standing rows p w (position_of ns) false) (word ∷ words) ≡ []
-    → ⊥) (sym is)
-    (by_view (view word) (lost form name words rows p idle ns true bad (inl refl))) e
+    subst (λ (w : Waiting). rest_fault form name (standing rows p w (position_of ns) false) (word ∷ words) ≡ [] → ⊥)
+    (sym is) (by_view (view word) (lost form name words rows p idle ns true bad (inl refl))) e
   where
     by_view : View word → (rest_fault form name (standing rows p idle (position_of ns) true) words ≡ [] → ⊥)
         → rest_fault form name (standing rows p idle (position_of ns) false) (word ∷ words) ≡ [] → ⊥
     by_view (is_ends t) more h =
         let step = goes_on form name (standing rows p idle (position_of ns) false) word words (holding rows p)
-        (trailing (position_of ns)) refl
-        (rw t refl) (rw t refl) refl in
+        (trailing (position_of ns)) refl (rw t refl) (rw t refl) refl in
         more (step.0 ∙ h)
     by_view (is_long id v t l) more h =
         let is = long_is form name word id v idle (position_of ns) (holding rows p) t l in
         word_stops form name (standing rows p idle (position_of ns) false) word words refl
         (λ g. long_stops (rules form) (arg_by_long (rules form) id) v (holding rows p) bad (sym is.1 ∙ g)) h
     by_view (is_bundle flags x t l s c) more h =
-        word_stops form name (standing rows p idle (position_of ns) false) word words refl
-        (λ g. bundle_stops form x flags (holding rows p) c refl
-        (sym (bundle_is form name word flags idle (holding rows p) t l s) ∙ g)) h
+        word_stops form name (standing rows p idle (position_of ns) false) word words refl (λ g. bundle_stops form x
+        flags (holding rows p) c refl (sym (bundle_is form name word flags idle (holding rows p) t l s) ∙ g)) h
     by_view (is_odd flags t l s c) more h =
         step_stops form name (standing rows p idle (position_of ns) false) word words (holding rows p) value refl
         ((odd_passes form name word flags t l s c).met idle (position_of ns) rows p)

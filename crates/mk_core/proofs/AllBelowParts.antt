@@ -1,5 +1,5 @@
 -- Tests of each number below a sum.
-use Rattle.std.proofs.{Common.add-suc, Math.Bool.{and-true, and_assoc}}
+use Rattle.std.proofs.{Common.add-suc, Math.Bool.and-true, Math.Bool.and_assoc}
 use Rattle.mk_core.proofs.Vocabulary.{Bool, ℕ, all_below, arith, refl, suc, zero, ◌&&◌, ◌+◌, ◌-◌, ◌≡◌}
 
 -- this many, and this many after them

@@ -6,9 +6,8 @@ use Rattle.mk_core.{proofs.Vocabulary.{◌∙◌, ◌≡◌, ◌≤◌}, specs.H
 
 half_and : (a b : ℕ) → bit_and a b / 2 ≡ bit_and (a / 2) (b / 2)
 half_and a b = same_from_bits (bit_and a b / 2) (bit_and (a / 2) (b / 2))
-    (λ k. sym (bit_at-suc (bit_and a b) k) ∙ bit_at_and a b (suc k)
-    ∙ ap (λ x. min x (bit_at b (suc k))) (bit_at-suc a k) ∙ ap (λ y. min (bit_at (a / 2) k) y) (bit_at-suc b k)
-    ∙ sym (bit_at_and (a / 2) (b / 2) k))
+    (λ k. sym (bit_at-suc (bit_and a b) k) ∙ bit_at_and a b (suc k) ∙ ap (λ x. min x (bit_at b (suc k)))
+    (bit_at-suc a k) ∙ ap (λ y. min (bit_at (a / 2) k) y) (bit_at-suc b k) ∙ sym (bit_at_and (a / 2) (b / 2) k))
 
 lowest_and : (a b : ℕ) → bit_and a b % 2 ≡ min (a % 2) (b % 2)
 lowest_and a b = cc (bit_at_lowest (bit_and a b), bit_at_and a b 0, bit_at_lowest a, bit_at_lowest b)

@@ -78,7 +78,6 @@ fresh_storage c xs = unreleased_kept c no_longer_fresh (λ a. refl) (λ a unrele
 
 pub same_headers : (c : Config) (w : Words) (a b : PlacedAllocation) → b.base ≡ a.base → b.ty ≡ a.ty
     → HasItsHeaders c w a → HasItsHeaders c w b
-same_headers c w a b base ty has = subst (λ n. (d : ℕ) → d < pages_made (object_placed c b)
-    → IsHeaderOf (object_placed c b) d (header_at w (n / 64 + d))) (sym base)
-    (subst (λ t. (d : ℕ) → d < pages_made (object_of (kinds_of c.types t))
-    → IsHeaderOf (object_of (kinds_of c.types t)) d (header_at w (a.base / 64 + d))) (sym ty) has)
+same_headers c w a b base ty has = subst (λ n. (d : ℕ) → d < pages_made (object_placed c b) → IsHeaderOf
+    (object_placed c b) d (header_at w (n / 64 + d))) (sym base) (subst (λ t. (d : ℕ) → d < pages_made (object_of
+    (kinds_of c.types t)) → IsHeaderOf (object_of (kinds_of c.types t)) d (header_at w (a.base / 64 + d))) (sym ty) has)

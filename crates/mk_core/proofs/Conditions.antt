@@ -1,7 +1,7 @@
 -- What each condition says of an enabled event.
 use Rattle.mk_core.proofs.Vocabulary.{Bool, Config, Event, IsEnabled, Moment, Seat, ℕ, and_parts, arith, false}
 use Rattle.mk_core.proofs.Vocabulary.{if◌then◌else◌, refl, true, ◌≡◌}
-use Rattle.mk_core.specs.{Enabled.{EnabledEventsMeetAll, MeetsAll, marker_may}, Moments.marker_of}
+use Rattle.mk_core.specs.{Enabled.EnabledEventsMeetAll, Enabled.MeetsAll, Enabled.marker_may, Moments.marker_of}
 
 all_hold : (a b c d e f g : Bool) → ◌≡◌ {A = ℕ} (if a then (if b
     then (if c then (if d then (if e then (if f then (if g then 0 else 7) else 6) else 5) else 4) else 3) else 2)

@@ -25,10 +25,9 @@ blackened_answers = (refl, refl, refl)
 
 -- The third New is refused, and so the heap that never reuses storage is told to refuse it. The fourth isn't.
 pub full_answers : (answered (calls one_page full_then_reused)
-    ≡ Answer.Done ∷ Answer.Done ∷ Answer.Done ∷ Answer.Full ∷ Answer.Done ∷ Answer.Done ∷ [])
-    × (replies_of (never_first one_page) (asked (calls one_page full_then_reused))
-    ≡ Reply.Done ∷ Reply.Done ∷ Reply.Done ∷ Reply.Full ∷ Reply.Done ∷ Reply.Done ∷ [])
-    × RefinesNever one_page full_then_reused
+    ≡ Answer.Done ∷ Answer.Done ∷ Answer.Done ∷ Answer.Full ∷ Answer.Done ∷ Answer.Done ∷ []) ×
+    (replies_of (never_first one_page) (asked (calls one_page full_then_reused)) ≡ Reply.Done ∷ Reply.Done ∷ Reply.Done
+    ∷ Reply.Full ∷ Reply.Done ∷ Reply.Done ∷ []) × RefinesNever one_page full_then_reused
 unfolding by c0 all_below pointed_cell may_turn_black one_page full_then_reused calls_from left_from
 full_answers = (refl, refl, refl)
 

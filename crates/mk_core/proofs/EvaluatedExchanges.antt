@@ -23,17 +23,14 @@ ExchangeCompares c es e = (k q i p r : ℕ) → e ≡ record { seat = Caller k; 
     → (flight_of (left c es).now (Caller k)).op ≡ Op.CasPtr q i p r → ComparesValues c es k q i p
 
 -- The operation and the word that are compared are these alone.
-compares_there : (c : Config) (es : List Event) (q i p r number place : ℕ)
-    → (flight_of (left c es).now (Caller 0)).op ≡ Op.CasPtr q i p r
-    → target_of (never_behind c es) (register_at (never_behind c es) 0 q) i ≡ WordOf number place
+compares_there : (c : Config) (es : List Event) (q i p r number place : ℕ) → (flight_of (left c es).now (Caller 0)).op
+    ≡ Op.CasPtr q i p r → target_of (never_behind c es) (register_at (never_behind c es) 0 q) i ≡ WordOf number place
     → Compares c es 0 p number place → ExchangeCompares c es (record { seat = Caller 0; step = Step.Cas })
 compares_there c es q i p r number place is there same k' q' i' p' r' is_event is' =
-    subst (λ (x : ℕ). (flight_of (left c es).now (Caller x)).op ≡ Op.CasPtr q' i' p' r'
-    → ComparesValues c es x q' i' p') (ap (λ (e : Event). caller_number e.seat) is_event)
-    (λ (here : (flight_of (left c es).now (Caller 0)).op ≡ Op.CasPtr q' i' p' r').
-    subst (λ (o : Op). ComparesValues c es 0 (q_of o) (i_of o) (p_of o)) (sym is ∙ here)
-    (record { number = number; place = place; target = there; answered = same }))
-    is'
+    subst (λ (x : ℕ). (flight_of (left c es).now (Caller x)).op ≡ Op.CasPtr q' i' p' r' → ComparesValues c es x q' i'
+    p') (ap (λ (e : Event). caller_number e.seat) is_event) (λ (here : (flight_of (left c es).now
+    (Caller 0)).op ≡ Op.CasPtr q' i' p' r'). subst (λ (o : Op). ComparesValues c es 0 (q_of o) (i_of o) (p_of o))
+    (sym is ∙ here) (record { number = number; place = place; target = there; answered = same })) is'
 
 answered_zero : Some (Answer.Num 0) ≡ Some (Answer.Num 1) → ⊥
 answered_zero h = let no : ◌≡◌ {A = ℕ} 0 1 = cc in omega arith
@@ -60,6 +57,7 @@ second_exchange = compares_there pointer_page (take 24 exchanged) 0 0 2 1 0 0 re
 pub exchanges_compare : ExchangesCompareValues pointer_page exchanged
 unfolding by c0 exchanged AtEach Also
 exchanges_compare before behind k q i p r is at =
-    at_each is_cas (λ (es : List Event) (e : Event). ExchangeCompares pointer_page es e) [] exchanged
-    (first_exchange, (second_exchange, tt)) before (record { seat = Caller k; step = Step.Cas }) behind is refl k q i p
-    r refl at
+    at_each is_cas (λ (es : List Event) (e : Event). ExchangeCompares pointer_page es e) [] exchanged (
+      first_exchange,
+      (second_exchange, tt),
+    ) before (record { seat = Caller k; step = Step.Cas }) behind is refl k q i p r refl at

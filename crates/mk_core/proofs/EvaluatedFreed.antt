@@ -31,9 +31,8 @@ unfolding left_from all_below pointed_cell three_objects
 headers zero = refl
 headers (suc p) = refl
 
-only_third : (page index : ℕ)
-    → is_freed (left small three_objects).now.words (record { page = page; index = index }) ≡ true
-    → (page ≡ 0) × (index ≡ 2)
+only_third : (page index : ℕ) → is_freed (left small three_objects).now.words (record { page = page; index = index })
+    ≡ true → (page ≡ 0) × (index ≡ 2)
 unfolding left_from all_below pointed_cell three_objects
 only_third zero index h = elim (cases_eq index 2) [
   | inl e ↦ (refl, e)
@@ -79,11 +78,9 @@ words_tell_what_stands =
       headers = headers;
       later = λ settled p distance mapped h. absurd (no_later p distance mapped h);
       freed = λ settled cell h. subst (λ x. (a : IsTaken w x) × ((placed_at w.allocations a.number).freed ≡ true))
-          (sym (cell_is cell (only_third cell.page cell.index h)))
-          (third_is_taken, third_was_freed);
-      quarantined = λ cell a h. cell_of_third cell.page cell.index a.in_range
-          (subst (λ i. stands_in w.now.words cell (placed_at w.allocations i) ≡ true) (freed_number a.number h)
-          a.stands);
+          (sym (cell_is cell (only_third cell.page cell.index h))) (third_is_taken, third_was_freed);
+      quarantined = λ cell a h. cell_of_third cell.page cell.index a.in_range (subst
+          (λ i. stands_in w.now.words cell (placed_at w.allocations i) ≡ true) (freed_number a.number h) a.stands);
     }
 
 -- what no history leaves: a freed bit where nothing stands
@@ -93,8 +90,8 @@ bare = record {
   allocations = [];
 }
 
-nothing_is_taken : (cell : Cell) → IsTaken bare cell → ⊥
-nothing_is_taken cell a = false≢true a.stands
+nothing_is_taken : {cell : Cell} → IsTaken bare cell → ⊥
+nothing_is_taken a = false≢true a.stands
 
 bare_tells_wrong : WordsTellWhatStands bare → ⊥
-bare_tells_wrong tells = nothing_is_taken third_cell (tells.freed (eqb-false 0 4 refl) third_cell refl).0
+bare_tells_wrong tells = nothing_is_taken (tells.freed (eqb-false 0 4 refl) third_cell refl).0

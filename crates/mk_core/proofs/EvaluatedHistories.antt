@@ -82,55 +82,51 @@ pub admitted : {globals : List ℕ} {n : NeverState} {caller : ℕ} {op : Op} �
     → AccessIsAdmitted n caller op → StoreIsAdmitted globals n caller op → IsAdmitted globals n caller op
 admitted caller range access store = record { of_a_caller = caller; in_range = range; access = access; store = store }
 
-pub history : (c : Config) (es : List Event) → IsWithinLimits c → first_fault c es ≡ None → CallsAreAdmitted c es
+pub history : {c : Config} (es : List Event) → IsWithinLimits c → first_fault c es ≡ None → CallsAreAdmitted c es
     → IsHistory c es
-history c es limits no_fault calls =
+history {c} es limits no_fault calls =
     record { within_limits = limits; enabled = enabled c es no_fault; admitted = calls }
 
 pub freed_is_history : IsHistory one_page freed_after_begin
 unfolding by c0 host all_below pointed_cell one_page freed_after_begin left_from calls_from
-freed_is_history = history one_page freed_after_begin one_page_limits no_fault_freed
-    (admitted (omega arith) (omega arith) tt tt and admitted (omega arith) (omega arith) tt tt
-    and admitted (omega arith) (omega arith) tt refl and admitted (omega arith) (omega arith) tt refl
-    and admitted (omega arith) (omega arith) tt tt and admitted (omega arith) (omega arith) tt tt
-    and admitted (omega arith) (omega arith) tt tt and admitted (omega arith) (omega arith) tt tt and tt)
+freed_is_history = history freed_after_begin one_page_limits no_fault_freed (admitted (omega arith) (omega arith) tt tt
+    and admitted (omega arith) (omega arith) tt tt and admitted (omega arith) (omega arith) tt refl and admitted
+    (omega arith) (omega arith) tt refl and admitted (omega arith) (omega arith) tt tt and admitted (omega arith) (omega
+    arith) tt tt and admitted (omega arith) (omega arith) tt tt and admitted (omega arith) (omega arith) tt tt and tt)
 
 pub blackened_is_history : IsHistory pointer_page blackened_before_the_move
 unfolding by c0 m0 host all_below pointed_cell may_turn_black pointer_page blackened_before_the_move left_from
     calls_from
-blackened_is_history = history pointer_page blackened_before_the_move pointer_page_limits no_fault_blackened
-    (admitted (omega arith) (omega arith) tt tt and admitted (omega arith) (omega arith) tt tt
-    and admitted (omega arith) (omega arith) tt tt
-    and admitted (omega arith) (omega arith) (omega arith, refl) (omega arith, (refl, refl))
-    and admitted (omega arith) (omega arith) (omega arith, refl) tt and admitted (omega arith) (omega arith) tt refl
-    and admitted (omega arith) (omega arith) tt tt and admitted (omega arith) (omega arith) (omega arith, refl) tt
-    and admitted (omega arith) (omega arith) (omega arith, refl) (omega arith, (refl, refl))
-    and admitted (omega arith) (omega arith) (omega arith, refl) (omega arith, tt)
-    and admitted (omega arith) (omega arith) tt tt and admitted (omega arith) (omega arith) (omega arith, refl) tt
-    and admitted (omega arith) (omega arith) (omega arith, refl) tt and tt)
+blackened_is_history = history blackened_before_the_move pointer_page_limits no_fault_blackened (admitted (omega arith)
+    (omega arith) tt tt and admitted (omega arith) (omega arith) tt tt and admitted (omega arith) (omega arith) tt tt
+    and admitted (omega arith) (omega arith) (omega arith, refl) (omega arith, (refl, refl)) and admitted (omega arith)
+    (omega arith) (omega arith, refl) tt and admitted (omega arith) (omega arith) tt refl and admitted (omega arith)
+    (omega arith) tt tt and admitted (omega arith) (omega arith) (omega arith, refl) tt and admitted (omega arith)
+    (omega arith) (omega arith, refl) (omega arith, (refl, refl)) and admitted (omega arith) (omega arith)
+    (omega arith, refl) (omega arith, tt) and admitted (omega arith) (omega arith) tt tt and admitted (omega arith)
+    (omega arith) (omega arith, refl) tt and admitted (omega arith) (omega arith) (omega arith, refl) tt and tt)
 
 pub full_is_history : IsHistory one_page full_then_reused
 unfolding by c0 all_below pointed_cell may_turn_black one_page full_then_reused left_from calls_from
-full_is_history = history one_page full_then_reused one_page_limits no_fault_full
+full_is_history = history full_then_reused one_page_limits no_fault_full
     (admitted (omega arith) (omega arith) tt tt and admitted (omega arith) (omega arith) tt tt
     and admitted (omega arith) (omega arith) tt refl and admitted (omega arith) (omega arith) tt tt
     and admitted (omega arith) (omega arith) tt tt and admitted (omega arith) (omega arith) tt tt and tt)
 
 pub quarter_is_history : IsHistory two_pages a_quarter_and_all
 unfolding by c0 all_below pointed_cell two_pages a_quarter_and_all left_from calls_from
-quarter_is_history = history two_pages a_quarter_and_all two_pages_limits no_fault_quarter
+quarter_is_history = history a_quarter_and_all two_pages_limits no_fault_quarter
     (admitted (omega arith) (omega arith) tt tt and admitted (omega arith) (omega arith) tt tt
     and admitted (omega arith) (omega arith) tt refl and admitted (omega arith) (omega arith) tt refl and tt)
 
 pub marking_is_history : IsHistory two_pages granted_while_marking
 unfolding by c0 all_below pointed_cell two_pages granted_while_marking left_from calls_from
-marking_is_history = history two_pages granted_while_marking two_pages_limits no_fault_marking
-    (admitted (omega arith) (omega arith) tt tt and admitted (omega arith) (omega arith) tt refl
-    and admitted (omega arith) (omega arith) tt tt and tt)
+marking_is_history = history granted_while_marking two_pages_limits no_fault_marking (admitted (omega arith) (omega
+    arith) tt tt and admitted (omega arith) (omega arith) tt refl and admitted (omega arith) (omega arith) tt tt and tt)
 
 pub swept_is_history : IsHistory pointer_page (before_the_sweep ++ sweeping_mark ∷ [])
 unfolding by c0 host all_below pointed_cell pointer_page exchanged before_the_sweep sweeping_mark left_from calls_from
-swept_is_history = history pointer_page (before_the_sweep ++ sweeping_mark ∷ []) pointer_page_limits no_fault_swept
+swept_is_history = history (before_the_sweep ++ sweeping_mark ∷ []) pointer_page_limits no_fault_swept
     (admitted (omega arith) (omega arith) tt tt and admitted (omega arith) (omega arith) tt tt
     and admitted (omega arith) (omega arith) (omega arith, refl) (omega arith, (tt, (refl, refl)))
     and admitted (omega arith) (omega arith) (omega arith, refl) (omega arith, (tt, (refl, refl))) and tt)

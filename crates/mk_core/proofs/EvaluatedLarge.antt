@@ -4,11 +4,11 @@ use Rattle.mk_core.proofs.Vocabulary.{StandsAtItsPlace, Step, all_below, answere
 use Rattle.mk_core.proofs.Vocabulary.{false≢true, is_give, left, left_from, pointed_cell, refl, replicate, take, true}
 use Rattle.mk_core.proofs.{Vocabulary.{unreleased_storage, [], ◌<◌, ◌∷◌, ◌≡◌}, EvaluatedHistories.{admitted, history}}
 use Rattle.mk_core.proofs.{EvaluatedHistories.{numbers, one_type, small_limits}, EventsAt.{Also, AtEach, at_each}}
-use Rattle.mk_core.proofs.EventsAt.{event_number, served, stands_at, turn_number, ◌and◌}
+use Rattle.mk_core.{proofs.EventsAt.{event_number, served, stands_at, turn_number, ◌and◌}, specs.History.{RefinesNever}}
 use Rattle.mk_core.proofs.{LargeSchedule.{large_freed, no_fault_large, three_pages}, Schedules.{by, c0}}
-use Rattle.mk_core.specs.{History.RefinesNever, Allocations.{FitsAmongAllocations, fresh_words_of, held_by_allocations}}
-use Rattle.mk_core.specs.{Allocations.place_among_allocations, Counts.{IsDue, IsTidy, TalliesAreTidy}}
 use Rattle.mk_never.specs.declared.types.Kind.TheVariants.{Num}
+use Rattle.mk_core.specs.Allocations.{FitsAmongAllocations, fresh_words_of, held_by_allocations}
+use Rattle.mk_core.specs.{Allocations.place_among_allocations, Counts.{IsDue, IsTidy, TalliesAreTidy}}
 
 three_pages_limits : IsWithinLimits three_pages
 unfolding three_pages
@@ -18,17 +18,15 @@ three_pages_limits =
 
 pub large_is_history : IsHistory three_pages large_freed
 unfolding by c0 all_below pointed_cell three_pages large_freed left_from calls_from
-large_is_history = history three_pages large_freed three_pages_limits no_fault_large
-    (admitted (omega arith) (omega arith) tt tt and admitted (omega arith) (omega arith) (omega arith, refl) tt
-    and admitted (omega arith) (omega arith) tt refl and admitted (omega arith) (omega arith) (omega arith, refl) tt
-    and admitted (omega arith) (omega arith) tt refl and admitted (omega arith) (omega arith) tt tt
-    and admitted (omega arith) (omega arith) tt tt and tt)
+large_is_history = history large_freed three_pages_limits no_fault_large (admitted (omega arith) (omega arith) tt tt and
+    admitted (omega arith) (omega arith) (omega arith, refl) tt and admitted (omega arith) (omega arith) tt refl and
+    admitted (omega arith) (omega arith) (omega arith, refl) tt and admitted (omega arith) (omega arith) tt refl and
+    admitted (omega arith) (omega arith) tt tt and admitted (omega arith) (omega arith) tt tt and tt)
 
 -- A New, a write and a Free are done. The read is refused as one of an unmapped object, and the second Free as one too
 -- many.
-pub large_answers : (answered (calls three_pages large_freed)
-    ≡ Answer.Done ∷ Answer.Done ∷ Answer.Done ∷ Answer.Fault ∷ Answer.Double ∷ Answer.Done ∷ Answer.Done ∷ [])
-    × RefinesNever three_pages large_freed
+pub large_answers : (answered (calls three_pages large_freed) ≡ Answer.Done ∷ Answer.Done ∷ Answer.Done ∷ Answer.Fault ∷
+    Answer.Double ∷ Answer.Done ∷ Answer.Done ∷ []) × RefinesNever three_pages large_freed
 unfolding by c0 all_below pointed_cell three_pages large_freed calls_from left_from
 large_answers = (refl, refl)
 
@@ -54,9 +52,8 @@ pub large_grant : StandsAtItsPlace three_pages (take 53 large_freed) c0
 unfolding by c0 all_below pointed_cell three_pages large_freed left_from unreleased_storage event_number
     turn_number NoneServesFrom
 large_grant = stands_at (turn_number three_pages c0 34 (Some (Op.New 1 0 false)) (take 53 large_freed) refl refl refl)
-    (served _ 15 refl (refl and refl and refl and refl and refl and refl and refl and refl
-    and refl and refl and refl and refl and refl and refl and refl and tt) refl)
-    (record { page = 0; index = 0; carve = true }) refl refl
+    (served _ 15 refl (refl and refl and refl and refl and refl and refl and refl and refl and refl and refl and refl
+    and refl and refl and refl and refl and tt) refl) (record { page = 0; index = 0; carve = true }) refl refl
 
 pub large_is_tidy : IsTidy three_pages large_freed
 unfolding by c0 all_below pointed_cell three_pages large_freed left_from calls_from AtEach Also

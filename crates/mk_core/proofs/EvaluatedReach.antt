@@ -4,9 +4,9 @@ use Rattle.mk_core.proofs.Vocabulary.{false, false≢true, left_from, list_all, 
 use Rattle.mk_core.proofs.Vocabulary.{replicate, subst, suc, sym, true, zero, [], ◌&&◌, ◌||◌, ◌∙◌, ◌∷◌, ◌≡◌}
 use Rattle.mk_core.proofs.ListTests.{implied, list_all-at, numbered_all, numbered_all-at}
 use Rattle.mk_core.proofs.SmallCycles.{begun_in_stop, small, three_objects}
-use Rattle.mk_never.{proofs.Reached.{reached_is_in}, specs.Reach.{by_register, by_word}}
-use Rattle.mk_never.specs.{declared.values.Value.TheVariants.Num, NeverHeap.{Allocation, allocation_at, is_unmapped}}
-use Rattle.mk_never.specs.{NeverHeap.{no_allocation, word_at}, Reach.{IsClosedUnderPointers, IsReachable, LeadsTo}}
+use Rattle.mk_never.{proofs.Reached.{reached_is_in}, specs.declared.values.Value.TheVariants.{Num}}
+use Rattle.mk_never.specs.NeverHeap.{Allocation, allocation_at, is_unmapped, no_allocation, word_at}
+use Rattle.mk_never.specs.Reach.{IsClosedUnderPointers, IsReachable, LeadsTo, by_register, by_word}
 
 -- A set is closed under pointers, as a test.
 

@@ -5,10 +5,9 @@ use Rattle.mk_core.proofs.Vocabulary.{false, false≢true, inl, leb-true, left, 
 use Rattle.mk_core.proofs.Vocabulary.{placed_at, pointed_cell, refl, slice_index, storage_of, subst, suc, true, zero}
 use Rattle.mk_core.proofs.{Vocabulary.{[], ◌*◌, ◌++◌, ◌+◌, ◌∷◌, ◌≡◌}, EvaluatedReach.{below_two, leads_into, led_into}}
 use Rattle.mk_core.proofs.SmallCycles.{by_marker, first_marked, pointer_written, small, three_objects}
-use Rattle.mk_core.proofs.{EvaluatedFrames.{before_probe, turn_taken}, ListTests.list_all-at}
-use Rattle.mk_core.specs.{Readings.Holds, Frames.{HeapIsLeft, IsLeft, IsLeftByAdmitted, TargetsAreLeft}}
-use Rattle.mk_core.specs.Allocations.{is_mapped}
+use Rattle.mk_core.{proofs.{EvaluatedFrames.{before_probe, turn_taken}, ListTests.list_all-at}, specs.Readings.{Holds}}
 use Rattle.mk_never.specs.{NeverHeap.register_at, Reach.LeadsTo}
+use Rattle.mk_core.specs.{Frames.{HeapIsLeft, IsLeft, IsLeftByAdmitted, TargetsAreLeft}, Allocations.is_mapped}
 
 -- A caller in a call, while the host takes the turn: its registers point to the first two objects.
 
@@ -38,9 +37,8 @@ targets_are_left = record {
   mapped = λ r a lt leads was. mapped a (targets r a leads);
 }
 
-values_are_left : (k r : ℕ) → Seat.Caller 0 ≡ Seat.Caller k
-    → register_at (never_behind small (before_probe ++ turn_taken)) k r
-    ≡ register_at (never_behind small before_probe) k r
+values_are_left : (k r : ℕ) → Seat.Caller 0 ≡ Seat.Caller k → register_at
+    (never_behind small (before_probe ++ turn_taken)) k r ≡ register_at (never_behind small before_probe) k r
 unfolding left_from calls_from all_below pointed_cell three_objects
 values_are_left k r is = refl
 
@@ -65,9 +63,8 @@ all_is_left_to_caller = record {
 -- The host in its turn, while a caller writes to the first object: no word outside the objects changes.
 
 outside : (n : ℕ) → ((i : ℕ) → is_mapped small (placed_at (left small first_marked).allocations i) ≡ true
-    → IsWordOf (storage_of small (placed_at (left small first_marked).allocations i)) n → ⊥)
-    → slice_index (left small (first_marked ++ pointer_written)).now.words.heap n
-    ≡ slice_index (left small first_marked).now.words.heap n
+    → IsWordOf (storage_of small (placed_at (left small first_marked).allocations i)) n → ⊥) → slice_index (left small
+    (first_marked ++ pointer_written)).now.words.heap n ≡ slice_index (left small first_marked).now.words.heap n
 unfolding left_from all_below pointed_cell three_objects
 outside zero none = absurd (none 0 refl (leb-true 0 0 refl, ltb-true 0 2 refl))
 outside (suc n) none = refl

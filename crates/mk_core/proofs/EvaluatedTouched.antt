@@ -53,14 +53,15 @@ first_is_touched = by_register (through marking.begin) 0 0 behind_begin
 
 pub second_is_touched : IsTouched small marking 1
 unfolding left_from calls_from all_below pointed_cell begun_in_stop three_objects
-second_is_touched = by_word (through marking.begin) 0 0 1 behind_begin first_is_touched
-    (refl, refl, (leb-true 0 0 refl, ltb-true 0 2 refl))
-    (refl, (leb-true 65536 65552 refl, (leb-true 2 2 refl, ltb-true 2 4 refl)))
+second_is_touched = by_word (through marking.begin) 0 0 1 behind_begin first_is_touched (
+  refl,
+  refl,
+  (leb-true 0 0 refl, ltb-true 0 2 refl),
+) (refl, (leb-true 65536 65552 refl, (leb-true 2 2 refl, ltb-true 2 4 refl)))
 
 two_are_closed_along : IsClosedAlong small marking (λ b. below_two b ≡ true)
 unfolding left_from calls_from all_below pointed_cell numbered_all all_fronts begun_in_stop three_objects marked_in_stop
-two_are_closed_along = closed_along_by_test small stopped_cycle marking below_two refl
+two_are_closed_along = closed_along_by_test small marking below_two refl
 
 pub third_is_untouched : IsTouched small marking 2 → ⊥
-third_is_untouched touched =
-    false≢true (touched_is_least small stopped_cycle marking below_two two_are_closed_along 2 touched)
+third_is_untouched touched = false≢true (touched_is_least small marking below_two two_are_closed_along 2 touched)

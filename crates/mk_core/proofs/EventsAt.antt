@@ -37,10 +37,9 @@ abbrev pub cycle_of : {es : List Event} (begin : At is_begin es) (close : Next i
 cycle_of begin close release end =
     record { releasing = record { marking = record { begin = begin; close = close }; release = release }; end = end }
 
-unfoldable pub turn_number : (c : Config) (s : Seat) (n : ℕ) (o : Option Op) (es : List Event)
-    → es ≡ take n es ++ record { seat = s; step = Step.Take o } ∷ drop (n + 1) es
-    → (left c (take n es)).now.words.turn ≡ 0
-    → list_any (λ (e : Event). is_same_seat s e.seat && is_give e.step) (drop (n + 1) es) ≡ false → TurnOf c s es
+unfoldable pub turn_number : (c : Config) (s : Seat) (n : ℕ) (o : Option Op) (es : List Event) → es ≡ take n es ++
+    record { seat = s; step = Step.Take o } ∷ drop (n + 1) es → (left c (take n es)).now.words.turn ≡ 0 → list_any
+    (λ (e : Event). is_same_seat s e.seat && is_give e.step) (drop (n + 1) es) ≡ false → TurnOf c s es
 turn_number c s n o es is took goes_on =
     record { before = take n es; op = o; behind = drop (n + 1) es; is = is; took = took; goes_on = goes_on }
 
@@ -93,9 +92,8 @@ at_each kind P done [] h [] e behind is k = cc
 at_each kind P done [] h (x ∷ before) e behind is k = cc
 at_each kind P done (y ∷ es) h [] e behind is k =
     let same : y ≡ e = cc in
-    rw append-nil (subst (λ (z : Event). P done z) same
-    (also_first (kind y.step) (P done y) (AtEach kind P (done ++ y ∷ []) es)
-    (subst (λ (z : Event). kind z.step ≡ true) (sym same) k) h))
+    rw append-nil (subst (λ (z : Event). P done z) same (also_first (kind y.step) (P done y)
+    (AtEach kind P (done ++ y ∷ []) es) (subst (λ (z : Event). kind z.step ≡ true) (sym same) k) h))
 at_each kind P done (y ∷ es) h (x ∷ before) e behind is k =
     let same : y ≡ x = cc in
     let rest : es ≡ before ++ e ∷ behind = cc in

@@ -57,9 +57,8 @@ placed_stands c a place limits typed unreleased base known within =
 
 -- and has its headers, where these stand.
 pub placed_headers : (c : Config) (w : Words) (a : PlacedAllocation) (place : Place) → IsWithinLimits c
-    → a.ty < length c.types
-    → a.base ≡ base_made (object_placed c a) place → place.index < cells_made (object_placed c a)
-    → place_stands w (object_placed c a) place ≡ true → HasItsHeaders c w a
+    → a.ty < length c.types → a.base ≡ base_made (object_placed c a) place → place.index < cells_made
+    (object_placed c a) → place_stands w (object_placed c a) place ≡ true → HasItsHeaders c w a
 placed_headers c w a place limits typed base known h distance near =
     let sized : IsSized (object_placed c a) = (limits.types a.ty [] typed).0 in
     let page : a.base / 64 ≡ place.page = cc (base, (made_begins (object_placed c a) place sized known).2) in

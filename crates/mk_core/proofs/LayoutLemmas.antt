@@ -1,5 +1,5 @@
 -- Each word of the table has an index of its own, and words of two line groups stand eight words apart.
-use Rattle.std.{proofs.lemmas.Bool.{cases_order}, specs.Prelude.{⊤}}
+use Rattle.std.{proofs.lemmas.Bool.cases_order, specs.Prelude.⊤}
 use Rattle.mk_core.proofs.Vocabulary.{Named, TableWord, Turn, Word, ℕ, ap, arith, inl, inr, refl, sym, ◌*◌, ◌+◌, ◌<◌}
 use Rattle.mk_core.proofs.Vocabulary.{◌∙◌, ◌≡◌, ◌≤◌, ◌⊎◌}
 use Rattle.mk_core.specs.Layout.{IsOfTable, LineGroup, LineGroupsAreApart, NamesWord, OfGate, OfGlobals, OfHeaders}
@@ -117,9 +117,9 @@ stands_in : (pages : ℕ) (x : TableWord) → IsOfTable pages x → StandsIn pag
 stands_in pages Turn h = record { within = tt; first = omega arith; last = omega arith }
 stands_in pages (Named x) h = named_stands_in pages x h
 
-in_turn : (pages : ℕ) (g h : LineGroup) (i j : ℕ) → StandsIn pages g i → StandsIn pages h j
+in_turn : {pages : ℕ} {g h : LineGroup} {i j : ℕ} → StandsIn pages g i → StandsIn pages h j
     → (lines pages g).rank < (lines pages h).rank → i + 8 ≤ j
-in_turn pages g h i j sg sh lt =
+in_turn {pages} {g} {h} sg sh lt =
     let apart = later_group pages g h sg.within sh.within lt in let here = sg.last in let there =
     sh.first in omega arith
 
@@ -130,6 +130,6 @@ groups_apart pages x y hx hy ne =
     elim (cases_order (lines pages (line_group x)).rank (lines pages (line_group y)).rank) as (λ _.
     (index_of pages x + 8 ≤ index_of pages y) ⊎ (index_of pages y + 8 ≤ index_of pages x)) [
       | inl same ↦ absurd (ne (same_rank pages (line_group x) (line_group y) sx.within sy.within same))
-      | inr (inl less) ↦ inl (in_turn pages _ _ _ _ sx sy less)
-      | inr (inr more) ↦ inr (in_turn pages _ _ _ _ sy sx more)
+      | inr (inl less) ↦ inl (in_turn sx sy less)
+      | inr (inr more) ↦ inr (in_turn sy sx more)
     ]

@@ -43,6 +43,5 @@ all_fronts-at test [] (y ∷ front) rest h is = absurd cc
 all_fronts-at test (x ∷ xs) (y ∷ front) rest h is =
     let same : x ≡ y = cc in
     let others : xs ≡ front ++ rest = cc in
-    ap (λ z. test (z ∷ front)) (sym same)
-    ∙ all_fronts-at (λ ys. test (x ∷ ys)) xs front rest (and_parts (test []) (all_fronts (λ ys. test (x ∷ ys)) xs) h).1
-    others
+    ap (λ z. test (z ∷ front)) (sym same) ∙ all_fronts-at (λ ys. test (x ∷ ys)) xs front rest
+    (and_parts (test []) (all_fronts (λ ys. test (x ∷ ys)) xs) h).1 others

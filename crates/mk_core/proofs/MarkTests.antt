@@ -22,9 +22,8 @@ allocation_points_well c w a = not (is_scanned_allocation c a && is_marked_alloc
     || numbered_all (points_well_in c w (storage_of c a)) w.heap
 
 abbrev pub marks_are_closed : Config → World → Bool
-marks_are_closed c w = list_all (points_well c.pages w.now.words) w.now.words.registers
-    && list_all (points_well c.pages w.now.words) w.now.words.globals
-    && list_all (allocation_points_well c w.now.words) w.allocations
+marks_are_closed c w = list_all (points_well c.pages w.now.words) w.now.words.registers && list_all (points_well c.pages
+    w.now.words) w.now.words.globals && list_all (allocation_points_well c w.now.words) w.allocations
 
 -- 0 points into nothing
 pub null_points_well : (c : Config) (w : Words) → points_well c.pages w 0 ≡ true

@@ -4,10 +4,10 @@ use Rattle.mk_core.proofs.Vocabulary.{Option, Run, Some, ℕ, ap, arith, cases_B
 use Rattle.mk_core.proofs.Vocabulary.{cond-false, cond-true, false, header_made, inl, inr, is_small_object, pages_made}
 use Rattle.mk_core.proofs.Vocabulary.{refl, subst, suc, sym, true, true≢false, unmapped_header, words_made, words_under}
 use Rattle.mk_core.proofs.Vocabulary.{zero, ◌&&◌, ◌+◌, ◌<◌, ◌||◌, ◌∙◌, ◌≡◌, ◌≢◌, ◌≤◌}
+use Rattle.mk_geom.{proofs.HeaderLemmas.header_of-word_of, specs.Addresses.head_page_under, specs.Headers.header_of}
+use Rattle.mk_geom.{specs.Headers.word_of, specs.Storages.block_header, specs.Storages.run_header}
 use Rattle.mk_core.proofs.Sizes.{class_known, large_cells, large_count, large_pages, large_words, small_cells}
 use Rattle.mk_core.proofs.Sizes.{small_pages, small_words}
-use Rattle.mk_geom.proofs.HeaderLemmas.{header_of-word_of}
-use Rattle.mk_geom.specs.{Addresses.head_page_under, Headers.{header_of, word_of}, Storages.{block_header, run_header}}
 use Rattle.mk_core.specs.ObjectHeaders.{FirstPartsHaveCells, OfBlock, OfLater, OfLeafBlock, OfLeafRun, OfRun, ShowsPart}
 use Rattle.mk_core.specs.Cells.{has_no_pointers, heads_run, is_unmapped_header}
 
@@ -84,27 +84,27 @@ abbrev shows_free : Option Header → Bool
 shows_free (Some Free) = true
 shows_free _ = false
 
-not_free : (o : Object) (distance : ℕ) (x : Option Header) → ShowsPart o distance x → shows_free x ≡ false
-not_free o distance x (OfBlock first small leaf) = refl
-not_free o distance x _ = refl
+not_free : {o : Object} {distance : ℕ} {x : Option Header} → ShowsPart o distance x → shows_free x ≡ false
+not_free (OfBlock first small leaf) = refl
+not_free _ = refl
 
 pub part_not_free : (o : Object) (distance header : ℕ) → ShowsPart o distance (header_of header) → header ≢ 0
 part_not_free o distance header part is = grind (arith, shows_free, not_free)
 
 -- has the object's cells at its first page, of the object's words,
-part_sizes : (o : Object) (x : Option Header) → ShowsPart o 0 x
+part_sizes : {o : Object} {x : Option Header} → ShowsPart o 0 x
     → (cells_under x ≡ cells_made o) × (words_under x ≡ words_made o)
-part_sizes o x (OfBlock first small leaf) = (sym (small_cells o small), sym (small_words o small))
-part_sizes o x (OfLeafBlock first small leaf) = (sym (small_cells o small), sym (small_words o small))
-part_sizes o x (OfRun mapped first large leaf) = (sym (large_cells o large), sym (large_words o large))
-part_sizes o x (OfLeafRun first large leaf) = (sym (large_cells o large), sym (large_words o large))
-part_sizes o x (OfLater mapped some large) = absurd (omega arith)
+part_sizes {o} (OfBlock first small leaf) = (sym (small_cells o small), sym (small_words o small))
+part_sizes {o} (OfLeafBlock first small leaf) = (sym (small_cells o small), sym (small_words o small))
+part_sizes {o} (OfRun mapped first large leaf) = (sym (large_cells o large), sym (large_words o large))
+part_sizes {o} (OfLeafRun first large leaf) = (sym (large_cells o large), sym (large_words o large))
+part_sizes (OfLater mapped some large) = absurd (omega arith)
 
 pub part_cells : (o : Object) (x : Option Header) → ShowsPart o 0 x → cells_under x ≡ cells_made o
-part_cells o x part = (part_sizes o x part).0
+part_cells o x part = (part_sizes part).0
 
 pub part_words : (o : Object) (x : Option Header) → ShowsPart o 0 x → words_under x ≡ words_made o
-part_words o x part = (part_sizes o x part).1
+part_words o x part = (part_sizes part).1
 
 -- what two headers of one page of an object have alike, where it is so of first pages and of later ones
 same_under : (f : Option Header → ℕ) (n : ℕ) (o : Object) → ((x : Option Header) → ShowsPart o 0 x → f x ≡ n)

@@ -21,14 +21,12 @@ later : (d : ℕ) (ds heap : List ℕ) (k : ℕ) → length heap ≡ 64 * suc (l
 unfolding page_by_page
 later d ds heap k e =
     let here : length (take 64 heap) ≡ 64 = length-take-le 64 heap (omega arith) in
-    ap (λ m. slice_index (page_by_page (d ∷ ds) heap) m) (omega arith)
-    ∙ get_or-append-add (take 64 heap) ((d ∷ gap 7) ++ page_by_page ds (drop 64 heap)) (8 + k) 0
-    ∙ get_or-append-add (d ∷ gap 7) (page_by_page ds (drop 64 heap)) k 0
+    ap (λ m. slice_index (page_by_page (d ∷ ds) heap) m) (omega arith) ∙ get_or-append-add (take 64 heap) ((d ∷ gap 7)
+    ++ page_by_page ds (drop 64 heap)) (8 + k) 0 ∙ get_or-append-add (d ∷ gap 7) (page_by_page ds (drop 64 heap)) k 0
 
 -- a change there
-later_set : (d : ℕ) (ds heap : List ℕ) (k v : ℕ) → length heap ≡ 64 * suc (length ds)
-    → slice_set (page_by_page (d ∷ ds) heap) (72 + k) v
-    ≡ take 64 heap ++ ((d ∷ gap 7) ++ slice_set (page_by_page ds (drop 64 heap)) k v)
+later_set : (d : ℕ) (ds heap : List ℕ) (k v : ℕ) → length heap ≡ 64 * suc (length ds) → slice_set (page_by_page
+    (d ∷ ds) heap) (72 + k) v ≡ take 64 heap ++ ((d ∷ gap 7) ++ slice_set (page_by_page ds (drop 64 heap)) k v)
 unfolding page_by_page
 later_set d ds heap k v e =
     let here : length (take 64 heap) ≡ 64 = length-take-le 64 heap (omega arith) in
@@ -71,9 +69,8 @@ heap_set [] heap i r v e li lr = absurd (omega arith)
 heap_set (d ∷ ds) heap zero r v e li lr =
     let here : length (take 64 heap) ≡ 64 = length-take-le 64 heap (omega arith) in
     let rest = λ (ys : List ℕ). (d ∷ gap 7) ++ page_by_page ds ys in
-    ap (λ k. slice_set (page_by_page (d ∷ ds) heap) k v) (omega arith)
-    ∙ set-append_left (take 64 heap) (rest (drop 64 heap)) r v (omega arith)
-    ∙ ap (λ ys. ys ++ rest (drop 64 heap)) (sym (take-set-lt 64 heap r v lr))
+    ap (λ k. slice_set (page_by_page (d ∷ ds) heap) k v) (omega arith) ∙ set-append_left (take 64 heap)
+    (rest (drop 64 heap)) r v (omega arith) ∙ ap (λ ys. ys ++ rest (drop 64 heap)) (sym (take-set-lt 64 heap r v lr))
     ∙ ap (λ ys. take 64 (slice_set heap r v) ++ rest ys) (sym (drop-set-lt 64 heap r v lr))
     ∙ ap (λ k. page_by_page (d ∷ ds) (slice_set heap k v)) (omega arith)
 heap_set (d ∷ ds) heap (suc i) r v e li lr =

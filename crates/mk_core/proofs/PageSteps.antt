@@ -6,10 +6,10 @@ use Rattle.mk_core.proofs.Vocabulary.{quarantine_word, refl, slice_index, sym, t
 use Rattle.mk_core.proofs.Vocabulary.{words_are_zero, ◌%◌, ◌-◌, ◌/◌, ◌<◌, ◌^◌, ◌||◌, ◌∙◌, ◌≡◌, ◌⊎◌}
 use Rattle.mk_core.proofs.ServingSteps.{Carves, IsNextHeader, TakesCell, carves_is, four_hold, next_header, takes_is}
 use Rattle.mk_core.proofs.{WordBits.{fewer_bits, no_common, rest_bits, without_none}, AllBelow.all_below-at}
-use Rattle.mk_core.{proofs.BitsWithout.{has_bit_without}, specs.{Bits.without, NewPlaces.target}}
-use Rattle.mk_core.specs.{Words.used_at, declared.seats.RunPages.RunPages, Cells.{are_left_unmarked, head_page}}
-use Rattle.mk_core.specs.{Cells.left_unmarked, TurnConditions.{are_wiped, carves, drops, empties, frees, gives_back}}
-use Rattle.mk_core.specs.TurnConditions.{is_used_once, may_head, may_quarantine, may_use, takes_snapshot, unmaps}
+use Rattle.mk_core.{proofs.BitsWithout.{has_bit_without}, specs.{Words.used_at, declared.seats.RunPages.RunPages}}
+use Rattle.mk_core.specs.{Cells.{are_left_unmarked, head_page, left_unmarked}, TurnConditions.{are_wiped, carves}}
+use Rattle.mk_core.specs.TurnConditions.{drops, empties, frees, gives_back, is_used_once, may_head, may_quarantine}
+use Rattle.mk_core.specs.{TurnConditions.{may_use, takes_snapshot, unmaps}, Bits.without, NewPlaces.target}
 
 -- one of two tests holds
 either_holds : (a b : Bool) → (a || b) ≡ true → (a ≡ true) ⊎ (b ≡ true)
@@ -44,12 +44,7 @@ pub record Empties (w : Words) (page value : ℕ) : Type 0 where
 pub empties_is : (w : Words) (page value : ℕ) → empties w page value ≡ true → Empties w page value
 empties_is w page value h =
     let a = four_hold _ _ _ _ h in
-    record {
-      is = eqb-true _ 0 a.0;
-      unused = eqb-true _ 0 a.1;
-      unfreed = eqb-true _ 0 a.2;
-      outside = eqb-true _ 0 a.3;
-    }
+    record { is = eqb-true _ 0 a.0; unused = eqb-true _ 0 a.1; unfreed = eqb-true _ 0 a.2; outside = eqb-true _ 0 a.3 }
 
 -- A `head` that may come carves a page, unmaps one, or empties one.
 pub data HeadStep (c : Config) (m : Moment) (f : Flight) (page value : ℕ) : Type 0 where
@@ -86,9 +81,8 @@ pub wiped_cell : (w : Words) (page bits k : ℕ) → are_wiped w page bits ≡ t
 wiped_cell w page bits k h lt bit =
     let zero_words = words_are_zero w (first_word w (record { page = page; index = k }))
     (cell_words w (record { page = page; index = k })) in
-    ap (λ b. not b || zero_words) (sym bit) ∙ all_below-at 32 k (λ i. not (has_bit bits i)
-    || words_are_zero w (first_word w (record { page = page; index = i }))
-    (cell_words w (record { page = page; index = i }))) h lt
+    ap (λ b. not b || zero_words) (sym bit) ∙ all_below-at 32 k (λ i. not (has_bit bits i) || words_are_zero w
+    (first_word w (record { page = page; index = i })) (cell_words w (record { page = page; index = i }))) h lt
 
 pub record GivesBack (w : Words) (page value : ℕ) : Type 0 where
   pub fewer : bit_and value (used_at w page) ≡ value

@@ -3,11 +3,11 @@ use Rattle.mk_core.proofs.Vocabulary.{Bool, Cell, Config, Flight, List, Moment, 
 use Rattle.mk_core.proofs.Vocabulary.{Some, Words, ℕ, and_parts, ap, eqb-true, false, if◌then◌else◌, inl, inr, is_phase}
 use Rattle.mk_core.proofs.Vocabulary.{not, not-true, object_made, place_now, pointed_cell, quarantine_word, refl}
 use Rattle.mk_core.proofs.Vocabulary.{slice_index, subst, sym, true, ◌&&◌, ◌+◌, ◌^◌, ◌∙◌, ◌≡◌, ◌⊎◌}
-use Rattle.mk_core.specs.{declared.seats.Placing.TheVariants.{Chosen, Granted, Unplaced, Used}, Cells.is_freed}
-use Rattle.mk_core.specs.{Effects.{chosen, taken}, NewPlaces.{is_free_at, is_new_at, is_undecided_free}}
-use Rattle.mk_core.specs.NewPlaces.{is_undecided_new, place_by_placing, place_on_pages, target}
-use Rattle.mk_core.specs.{TurnConditions.{cell_freed, frees}, declared.seats.Placing.Placing}
-use Rattle.mk_core.specs.declared.seats.Stage.{Stage}
+use Rattle.mk_core.specs.declared.seats.Placing.TheVariants.{Chosen, Granted, Unplaced, Used}
+use Rattle.mk_core.specs.{Cells.is_freed, Effects.chosen, Effects.taken, NewPlaces.is_free_at, NewPlaces.is_new_at}
+use Rattle.mk_core.specs.{NewPlaces.is_undecided_free, NewPlaces.is_undecided_new, NewPlaces.place_by_placing}
+use Rattle.mk_core.specs.{NewPlaces.place_on_pages, NewPlaces.target, TurnConditions.cell_freed, TurnConditions.frees}
+use Rattle.mk_core.specs.{declared.seats.Placing.Placing, declared.seats.Stage.Stage}
 
 -- what stands under a test, where something does
 some_under : {A : Type 0} (b : Bool) (o : Option A) (x : A) → (if b then o else None) ≡ Some x

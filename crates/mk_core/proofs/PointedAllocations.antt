@@ -9,9 +9,9 @@ use Rattle.mk_core.proofs.StandingAllocations.{cells_begin, headers_show_storage
 use Rattle.mk_core.proofs.{StandingAllocations.typed_size, CellsOfAllocations.stands_in_no_other, Sizes.words_within}
 use Rattle.mk_geom.proofs.PointedCells.{address_points_into, cell_index, class_has_words, small_cell_of, small_lookup}
 use Rattle.mk_geom.proofs.Standing.{cell_stands_at, has_words, large_is_run, small_is_cell, stands_parts}
-use Rattle.mk_geom.proofs.CellsOnPages.{is_address}
-use Rattle.mk_geom.specs.{Storages.{IsStorage, class_of_storage, is_small, stands_on}, Addresses.{address_of, cell_at}}
-use Rattle.mk_geom.specs.{Addresses.{cell_of_block, word_at_address}, StorageWords.{PointsInto, ShowsStorage}}
+use Rattle.mk_geom.{proofs.CellsOnPages.{is_address}, specs.Storages.{IsStorage, class_of_storage, is_small, stands_on}}
+use Rattle.mk_geom.specs.Addresses.{address_of, cell_at, cell_of_block, word_at_address}
+use Rattle.mk_geom.specs.StorageWords.{PointsInto, ShowsStorage}
 use Rattle.mk_core.specs.{Cells.{is_left_unmarked, is_marked}, Allocations.with_released}
 use Rattle.mk_core.specs.{ClosedMarks.is_marked_allocation, Readings.IsTaken}
 
@@ -28,10 +28,9 @@ cell_points_into pages header u s is stands shows found = elim (cases_Bool (is_s
       let low = (is_address pages header u (cell_of_storage s) found).0 in
       let cell = small_is_cell pages s is small in
       let in_block = sym (small_lookup pages header u s is low stands shows small) ∙ found in
-      let at : word_at_address u / s.words ≡ cell.index =
-      ap (λ (n : ℕ). word_at_address u / n) (sym (class_has_words s cell))
-      ∙ block_index (class_of_storage s) (page_at_address u) (word_at_address u) (cell_of_storage s) in_block
-      ∙ ap (λ (k : Cell). k.index) (small_cell_of s small) ∙ cell_index s cell in
+      let at : word_at_address u / s.words ≡ cell.index = ap (λ (n : ℕ). word_at_address u / n)
+      (sym (class_has_words s cell)) ∙ block_index (class_of_storage s) (page_at_address u) (word_at_address u)
+      (cell_of_storage s) in_block ∙ ap (λ (k : Cell). k.index) (small_cell_of s small) ∙ cell_index s cell in
       let some = has_words pages s is in
       let page = cell_stands_at s (page_at_address u) cell stands in
       let first : s.first % 64 ≡ cell.index * s.words = cell.first ∙ ap (λ (w : ℕ). cell.index * w) (sym cell.words) in
@@ -88,8 +87,7 @@ cell_word_is_its_own c w a limits st has i lt = grind (arith, cells_begin)
 
 -- A cell that is taken is that of the allocation that stands in it.
 pub taken_cell_is : (c : Config) (w : World) (cell : Cell) (taken : IsTaken w cell)
-    → IsSized (object_placed c (placed_at w.allocations taken.number))
-    → HasItsHeaders c w.now.words (placed_at w.allocations taken.number)
-    → ((placed_at w.allocations taken.number).released ≡ false)
-    × (cell_of_storage (storage_of c (placed_at w.allocations taken.number)) ≡ cell)
+    → IsSized (object_placed c (placed_at w.allocations taken.number)) → HasItsHeaders c w.now.words
+    (placed_at w.allocations taken.number) → ((placed_at w.allocations taken.number).released ≡ false) ×
+    (cell_of_storage (storage_of c (placed_at w.allocations taken.number)) ≡ cell)
 taken_cell_is c w cell taken sized has = grind (arith, stands_in_no_other)

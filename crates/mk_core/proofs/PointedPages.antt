@@ -4,9 +4,8 @@ use Rattle.mk_core.proofs.Vocabulary.{Block, Bool, Cell, Free, Header, Later, Le
 use Rattle.mk_core.proofs.Vocabulary.{Some, Words, ℕ, ap, arith, cells_of, cells_under, false, header_at, header_in}
 use Rattle.mk_core.proofs.Vocabulary.{if◌then◌else◌, inl, inr, ltb-true, nat_le, page_at_address, pointed_cell, refl}
 use Rattle.mk_core.{proofs.Vocabulary.{sym, true, ◌<◌, ◌∙◌, ◌≡◌, ◌≤◌, ◌⊎◌}, specs.Cells.{head_page}}
-use Rattle.mk_geom.proofs.CellsOnPages.{is_address}
-use Rattle.mk_geom.specs.Addresses.{word_at_address, cell_at, cell_of_block, cell_under, head_page_under}
-use Rattle.mk_geom.specs.{Addresses.{is_heap_address, run_of_page}, Headers.header_of}
+use Rattle.mk_geom.{proofs.CellsOnPages.{is_address}, specs.{Addresses.word_at_address, Headers.header_of}}
+use Rattle.mk_geom.specs.Addresses.{cell_at, cell_of_block, cell_under, head_page_under, is_heap_address, run_of_page}
 
 -- It lies on the head page of the value's page, and is one of the 64 that a page has at most, and of those that the
 -- value's page has, if it has cells.
@@ -63,15 +62,13 @@ pub record PointsTo (count : ℕ) (w : Words) (value : ℕ) (cell : Cell) : Type
   pub shown : header_in w (page_at_address value) ≡ Some header
   pub lies : LiesUnder header (page_at_address value) cell
 
-pub found_under : (count header value : ℕ) (cell : Cell) → cell_at count header value ≡ Some cell
-    → (h : Header) × (header_of header ≡ Some h)
-    × (cell_under h (page_at_address value) (word_at_address value) ≡ Some cell)
+pub found_under : (count header value : ℕ) (cell : Cell) → cell_at count header value ≡ Some cell → (h : Header) ×
+    (header_of header ≡ Some h) × (cell_under h (page_at_address value) (word_at_address value) ≡ Some cell)
 found_under count header value cell is = by (is_heap_address count value) (header_of header) refl is
   where
-    by : (b : Bool) (o : Option Header) → header_of header ≡ o
-        → (if b then option_and_then (λ h. cell_under h (page_at_address value) (word_at_address value)) o else None)
-        ≡ Some cell → (h : Header) × (header_of header ≡ Some h)
-        × (cell_under h (page_at_address value) (word_at_address value) ≡ Some cell)
+    by : (b : Bool) (o : Option Header) → header_of header ≡ o → (if b then option_and_then
+        (λ h. cell_under h (page_at_address value) (word_at_address value)) o else None) ≡ Some cell → (h : Header) ×
+        (header_of header ≡ Some h) × (cell_under h (page_at_address value) (word_at_address value) ≡ Some cell)
     by true (Some h) at is = (h, at, is)
     by true None at is = cc
     by false o at is = cc

@@ -3,7 +3,7 @@ use Rattle.std.proofs.Common.{rules}
 use Rattle.mk_core.proofs.Vocabulary.{Access, Config, Flight, Load, Named, Op, Store, Tally, Word, Words, ℕ, and_parts}
 use Rattle.mk_core.proofs.Vocabulary.{ltb-true, nat_lt, refl, true, ◌<◌, ◌≡◌}
 use Rattle.mk_core.specs.Calls.{d_of, g_of, has_operands, has_type, p_of, q_of, r_of}
-use Rattle.mk_core.specs.{Accesses.{register_met, tally_word}, Words.accessed, declared.seats.Stage.Stage}
+use Rattle.mk_core.specs.{Accesses.register_met, Accesses.tally_word, Words.accessed, declared.seats.Stage.Stage}
 
 -- all that the words have but the registers and the tallies
 pub record LeavesTable (w v : Words) : Type 0 where

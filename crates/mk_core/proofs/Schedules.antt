@@ -60,15 +60,14 @@ one_page = heap_of 1 1 (replicate 32 Num ∷ [])
 
 -- Two objects are freed, one before a cycle begins and one after its begin. The first alone is released by it.
 unfoldable pub freed_after_begin : List Event
-freed_after_begin = carved 0 0 0 125 32 ++ granted 1 3 64
-    ++ by c0 (Step.Take (Some (Op.Free 0)) ∷ Step.Reg ∷ Step.Quar 0 1 ∷ Step.Quar 0 4294967297 ∷ Step.Begin
-    ∷ Step.Give ∷ []) ++ freed 1 0 4294967299 32 ++ cleared 0 ++ cleared 1
-    ++ by host (Step.Take None ∷ Step.Hold 0 ∷ Step.Want ∷ Step.Close ∷ Step.Release ∷ [])
-    ++ by host (Step.Used 0 2 ∷ Step.Quar 0 2 ∷ Step.Tally Tally.Held 32 ∷ Step.End ∷ Step.Open 0 ∷ Step.Give ∷ [])
-    ++ by c0 (Step.Take (Some (Op.New 2 0 false)) ∷ Step.Quar 0 8589934594 ∷ Step.Tally Tally.Fresh 0 ∷ Step.Begin
-    ∷ Step.Want ∷ Step.Close ∷ Step.Release ∷ Step.Used 0 0 ∷ Step.Quar 0 0 ∷ Step.Head 0 0
-    ∷ Step.Tally Tally.Held 0 ∷ Step.End ∷ Step.Head 0 125 ∷ Step.Used 0 1 ∷ Step.Grant ∷ Step.Tally Tally.Held 32
-    ∷ Step.Give ∷ []) ++ by c0 (Step.Enter (Op.IsNull 2) ∷ Step.Reg ∷ Step.Leave ∷ [])
+freed_after_begin = carved 0 0 0 125 32 ++ granted 1 3 64 ++ by c0 (Step.Take (Some (Op.Free 0)) ∷ Step.Reg ∷ Step.Quar
+    0 1 ∷ Step.Quar 0 4294967297 ∷ Step.Begin ∷ Step.Give ∷ []) ++ freed 1 0 4294967299 32 ++ cleared 0 ++ cleared 1 ++
+    by host (Step.Take None ∷ Step.Hold 0 ∷ Step.Want ∷ Step.Close ∷ Step.Release ∷ []) ++ by host
+    (Step.Used 0 2 ∷ Step.Quar 0 2 ∷ Step.Tally Tally.Held 32 ∷ Step.End ∷ Step.Open 0 ∷ Step.Give ∷ []) ++ by c0
+    (Step.Take (Some (Op.New 2 0 false)) ∷ Step.Quar 0 8589934594 ∷ Step.Tally Tally.Fresh 0 ∷ Step.Begin ∷ Step.Want ∷
+    Step.Close ∷ Step.Release ∷ Step.Used 0 0 ∷ Step.Quar 0 0 ∷ Step.Head 0 0 ∷ Step.Tally Tally.Held 0 ∷ Step.End ∷
+    Step.Head 0 125 ∷ Step.Used 0 1 ∷ Step.Grant ∷ Step.Tally Tally.Held 32 ∷ Step.Give ∷ []) ++ by c0
+    (Step.Enter (Op.IsNull 2) ∷ Step.Reg ∷ Step.Leave ∷ [])
 
 pub no_fault_freed : first_fault one_page freed_after_begin ≡ None
 unfolding first_fault fault by c0 host all_below pointed_cell one_page freed_after_begin

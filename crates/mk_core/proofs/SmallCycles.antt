@@ -23,14 +23,12 @@ small = record { pages = 1; resident = 1; callers = 1; markers = 1; types = (To 
 
 -- Three objects, of which register 0 holds the first and register 1 the second. The third is freed.
 unfoldable pub three_objects : List Event
-three_objects = by_caller (Step.Take (Some (Op.New 0 0 false)) ∷ Step.Head 0 1 ∷ Step.Used 0 1 ∷ Step.Grant
-    ∷ Step.Tally Tally.Held 2 ∷ Step.Give ∷ [])
-    ++ by_caller (Step.Take (Some (Op.New 1 0 false)) ∷ Step.Used 0 3 ∷ Step.Grant ∷ Step.Tally Tally.Held 4 ∷ Step.Give
-    ∷ [])
-    ++ by_caller (Step.Take (Some (Op.New 2 0 false)) ∷ Step.Used 0 7 ∷ Step.Grant ∷ Step.Tally Tally.Held 6 ∷ Step.Give
-    ∷ [])
-    ++ by_caller (Step.Take (Some (Op.Free 2)) ∷ Step.Reg ∷ Step.Quar 0 4 ∷ Step.Tally Tally.Fresh 2 ∷ Step.Give ∷ [])
-    ++ by_caller (Step.Enter (Op.Clear 2) ∷ Step.Reg ∷ Step.Leave ∷ [])
+three_objects = by_caller (Step.Take (Some (Op.New 0 0 false)) ∷ Step.Head 0 1 ∷ Step.Used 0 1 ∷ Step.Grant ∷ Step.Tally
+    Tally.Held 2 ∷ Step.Give ∷ []) ++ by_caller (Step.Take
+    (Some (Op.New 1 0 false)) ∷ Step.Used 0 3 ∷ Step.Grant ∷ Step.Tally Tally.Held 4 ∷ Step.Give ∷ []) ++ by_caller
+    (Step.Take (Some (Op.New 2 0 false)) ∷ Step.Used 0 7 ∷ Step.Grant ∷ Step.Tally Tally.Held 6 ∷ Step.Give ∷ []) ++
+    by_caller (Step.Take (Some (Op.Free 2)) ∷ Step.Reg ∷ Step.Quar 0 4 ∷ Step.Tally Tally.Fresh 2 ∷ Step.Give ∷ []) ++
+    by_caller (Step.Enter (Op.Clear 2) ∷ Step.Reg ∷ Step.Leave ∷ [])
 
 -- A pointer to the second is written to the first, up to the `write`, and then from there on.
 abbrev pub pointer_written : List Event
@@ -61,9 +59,8 @@ stopped_cycle = begun_in_stop ++ record { seat = Seat.Host; step = Step.Begin } 
 
 -- A cycle begins, and the first object is marked.
 abbrev pub first_marked : List Event
-first_marked = three_objects
-    ++ by_host (Step.Take None ∷ Step.Hold 0 ∷ Step.Quar 0 17179869188 ∷ Step.Tally Tally.Fresh 0 ∷ Step.Begin ∷
-    Step.Look (Word.Reg 0 0) ∷ Step.Mark 0 1 ∷ Step.Open 0 ∷ [])
+first_marked = three_objects ++ by_host (Step.Take None ∷ Step.Hold 0 ∷ Step.Quar 0 17179869188 ∷ Step.Tally Tally.Fresh
+    0 ∷ Step.Begin ∷ Step.Look (Word.Reg 0 0) ∷ Step.Mark 0 1 ∷ Step.Open 0 ∷ [])
 
 -- A marker blackens it.
 abbrev pub marker_in : List Event

@@ -29,24 +29,23 @@ small_is_within_limits = record {
   type_count = leb-true 1 64 refl;
   global_count = leb-true 0 64 refl;
   types = All-cons (IsTypeAmong small.types) (To 0 0 ∷ Num ∷ []) []
-      ((leb-true 1 2 refl, leb-true 2 4096 refl), kinds_are_among)
-      (All-nil (IsTypeAmong small.types));
+      ((leb-true 1 2 refl, leb-true 2 4096 refl), kinds_are_among) (All-nil (IsTypeAmong small.types));
   globals = All-nil (λ (ty : ℕ). ty < 1);
 }
 
 -- the calls of both
 abbrev pub small_calls : List Call
-small_calls = record { caller = 0; op = Op.New 0 0 false } ∷ record { caller = 0; op = Op.New 1 0 false }
-    ∷ record { caller = 0; op = Op.New 2 0 false }
-    ∷ record { caller = 0; op = Op.Free 2 } ∷ record { caller = 0; op = Op.Clear 2 }
+small_calls = record { caller = 0; op = Op.New 0 0 false } ∷ record { caller = 0; op = Op.New 1 0 false } ∷ record {
+  caller = 0;
+  op = Op.New 2 0 false;
+} ∷ record { caller = 0; op = Op.Free 2 } ∷ record { caller = 0; op = Op.Clear 2 }
     ∷ record { caller = 0; op = Op.SetPtr 0 0 1 } ∷ record { caller = 0; op = Op.Clear 1 } ∷ []
 
 small_calls_are_admitted : AreAdmitted [] (never_first small) small_calls
-small_calls_are_admitted = admitted (omega arith) (omega arith) tt tt and admitted (omega arith) (omega arith) tt tt
-    and admitted (omega arith) (omega arith) tt tt and admitted (omega arith) (omega arith) tt refl
-    and admitted (omega arith) (omega arith) tt tt
-    and admitted (omega arith) (omega arith) (omega arith, refl) (omega arith, (refl, refl))
-    and admitted (omega arith) (omega arith) tt tt and tt
+small_calls_are_admitted = admitted (omega arith) (omega arith) tt tt and admitted (omega arith)
+    (omega arith) tt tt and admitted (omega arith) (omega arith) tt tt and admitted (omega arith)
+    (omega arith) tt refl and admitted (omega arith) (omega arith) tt tt and admitted (omega arith) (omega arith)
+    (omega arith, refl) (omega arith, (refl, refl)) and admitted (omega arith) (omega arith) tt tt and tt
 
 calls_in_stop : asked (calls small stopped_cycle) ≡ small_calls
 unfolding left_from calls_from all_below pointed_cell begun_in_stop three_objects marked_in_stop

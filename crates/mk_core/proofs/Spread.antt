@@ -35,23 +35,20 @@ spread_at (suc n) size between xs (suc i) r e li lr =
     let empty : length (gap between) ≡ between = length-replicate between 0 in
     let left : length (drop size xs) ≡ n * size = omega (arith, length-drop size xs) in
     let k = (size + between) * i + r in
-    ap (λ m. slice_index (spread (suc n) size between xs) m) (omega arith)
-    ∙ get_or-append-add (take size xs) (gap between ++ spread n size between (drop size xs)) (length (gap between) + k)
-    0 ∙ get_or-append-add (gap between) (spread n size between (drop size xs)) k 0
-    ∙ spread_at n size between (drop size xs) i r left (omega arith) lr
+    ap (λ m. slice_index (spread (suc n) size between xs) m) (omega arith) ∙ get_or-append-add (take size xs)
+    (gap between ++ spread n size between (drop size xs)) (length (gap between) + k) 0 ∙ get_or-append-add (gap between)
+    (spread n size between (drop size xs)) k 0 ∙ spread_at n size between (drop size xs) i r left (omega arith) lr
     ∙ get_or-drop size xs (size * i + r) 0 ∙ ap (λ m. slice_index xs m) (omega arith)
 
-pub spread_set : (n size between : ℕ) (xs : List ℕ) (i r v : ℕ) → length xs ≡ n * size → i < n → r < size
-    → slice_set (spread n size between xs) ((size + between) * i + r) v
-    ≡ spread n size between (slice_set xs (size * i + r) v)
+pub spread_set : (n size between : ℕ) (xs : List ℕ) (i r v : ℕ) → length xs ≡ n * size → i < n → r < size → slice_set
+    (spread n size between xs) ((size + between) * i + r) v ≡ spread n size between (slice_set xs (size * i + r) v)
 unfolding spread
 spread_set zero size between xs i r v e li lr = absurd (omega arith)
 spread_set (suc n) size between xs zero r v e li lr =
     let here : length (take size xs) ≡ size = length-take-le size xs (omega arith) in
     let rest = λ (ys : List ℕ). gap between ++ spread n size between ys in
-    ap (λ k. slice_set (spread (suc n) size between xs) k v) (omega arith)
-    ∙ set-append_left (take size xs) (rest (drop size xs)) r v (omega arith)
-    ∙ ap (λ ys. ys ++ rest (drop size xs)) (sym (take-set-lt size xs r v lr))
+    ap (λ k. slice_set (spread (suc n) size between xs) k v) (omega arith) ∙ set-append_left (take size xs)
+    (rest (drop size xs)) r v (omega arith) ∙ ap (λ ys. ys ++ rest (drop size xs)) (sym (take-set-lt size xs r v lr))
     ∙ ap (λ ys. take size (slice_set xs r v) ++ rest ys) (sym (drop-set-lt size xs r v lr))
     ∙ ap (λ k. spread (suc n) size between (slice_set xs k v)) (omega arith)
 spread_set (suc n) size between xs (suc i) r v e li lr =
@@ -79,6 +76,5 @@ word_at n xs j e lt = ap (λ k. slice_index (spread n 1 15 xs) k) (omega arith)
 
 pub word_set : (n : ℕ) (xs : List ℕ) (j v : ℕ) → length xs ≡ n → j < n
     → spread n 1 15 (slice_set xs j v) ≡ slice_set (spread n 1 15 xs) (16 * j) v
-word_set n xs j v e lt = ap (λ k. spread n 1 15 (slice_set xs k v)) (omega arith)
-    ∙ sym (spread_set n 1 15 xs j 0 v (omega arith) lt (omega arith))
-    ∙ ap (λ k. slice_set (spread n 1 15 xs) k v) (omega arith)
+word_set n xs j v e lt = ap (λ k. spread n 1 15 (slice_set xs k v)) (omega arith) ∙ sym (spread_set n 1 15 xs j 0 v
+    (omega arith) lt (omega arith)) ∙ ap (λ k. slice_set (spread n 1 15 xs) k v) (omega arith)

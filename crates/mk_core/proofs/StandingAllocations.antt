@@ -12,8 +12,8 @@ use Rattle.mk_core.proofs.Sizes.{words_are_small, words_hold, words_within}
 use Rattle.mk_core.proofs.ObjectHeaders.{header_shows, large_header, part_cells, part_words, small_header}
 use Rattle.mk_geom.proofs.PointedCells.{cell_first, cell_from_first, large_cell_of, points_into_cell, shows_cell}
 use Rattle.mk_geom.proofs.{PointedCells.{shows_run, stands_at_address}, ClassTable.class_words_within}
-use Rattle.mk_geom.{proofs.Standing.{stands_parts}, specs.Headers.{word_of}}
-use Rattle.mk_geom.specs.{StorageWords.ShowsStorage, Storages.{IsCell, IsRun, IsStorage, run_header, stands_on}}
+use Rattle.mk_geom.{proofs.Standing.{stands_parts}, specs.StorageWords.{ShowsStorage}}
+use Rattle.mk_geom.specs.{Storages.{IsCell, IsRun, IsStorage, run_header, stands_on}, Headers.word_of}
 use Rattle.mk_core.specs.StandingAllocations.{CellsBeginAtBases, HeadersShowStorage, PointersHitAllocations}
 use Rattle.mk_core.specs.StandingAllocations.{StandingHasStorage, StorageHoldsObjects}
 use Rattle.mk_core.specs.{Allocations.{is_mapped, storage_words}, ObjectHeaders.ShowsPart}
@@ -173,9 +173,8 @@ headers_show_storage c w a limits st has page stands =
     let near = page_near c a page sized st.begins stands in
     let from = near.0 in
     let there : a.base / 64 + (page - a.base / 64) ≡ page = omega arith in
-    subst (λ p. ShowsStorage (storage_of c a) p (header_at w p)) there
-    (header_shows_storage c a (page - a.base / 64) (header_at w (a.base / 64 + (page - a.base / 64))) sized st.begins
-    near.1 (has (page - a.base / 64) near.1))
+    subst (λ p. ShowsStorage (storage_of c a) p (header_at w p)) there (header_shows_storage c a (page - a.base / 64)
+    (header_at w (a.base / 64 + (page - a.base / 64))) sized st.begins near.1 (has (page - a.base / 64) near.1))
 
 pub pointers_hit : PointersHitAllocations
 unfolding pointed_cell
@@ -188,9 +187,8 @@ pub first_page_shows : (c : Config) (w : Words) (a : PlacedAllocation) → IsSiz
     → HasItsHeaders c w a → ShowsPart (object_placed c a) 0 (header_in w (a.base / 64))
 first_page_shows c w a sized has =
     let here : a.base / 64 + 0 ≡ a.base / 64 = omega arith in
-    subst (λ p. ShowsPart (object_placed c a) 0 (header_in w p)) here
-    (header_shows (object_placed c a) 0 (header_at w (a.base / 64 + 0)) sized (pages_some (object_placed c a) sized)
-    (has 0 (pages_some (object_placed c a) sized)))
+    subst (λ p. ShowsPart (object_placed c a) 0 (header_in w p)) here (header_shows (object_placed c a) 0 (header_at w
+    (a.base / 64 + 0)) sized (pages_some (object_placed c a) sized) (has 0 (pages_some (object_placed c a) sized)))
 
 pub cells_begin : CellsBeginAtBases
 cells_begin c w a limits st has =

@@ -5,9 +5,9 @@ use Rattle.mk_core.proofs.Vocabulary.{PlacedAllocation, Value, World, ℕ, and_f
 use Rattle.mk_core.proofs.Vocabulary.{nat_le, never_behind, never_granted, not, placed_at, refl, slice_index}
 use Rattle.mk_core.proofs.Vocabulary.{storage_of, subst, sym, true, ◌&&◌, ◌++◌, ◌||◌, ◌≡◌}
 use Rattle.mk_core.proofs.ListTests.{all_fronts, all_fronts-at, implied, list_all-at, numbered_all, numbered_all-at}
-use Rattle.mk_core.{proofs.MarkTests.{is_word_of, is_word_of_by}, specs.{Touched.PointsIntoAllocation, Cycles.through}}
-use Rattle.mk_core.specs.{History.bases_of, Image.image_of, Touched.{IsWordOfAllocation, LeadsToMoment}}
+use Rattle.mk_core.{proofs.MarkTests.{is_word_of, is_word_of_by}, specs.{History.bases_of, Image.image_of}}
 use Rattle.mk_geom.specs.Addresses.{heap_word_at}
+use Rattle.mk_core.specs.{Touched.{IsWordOfAllocation, LeadsToMoment, PointsIntoAllocation}, Cycles.through}
 
 -- an address that points into the allocation points into a member
 abbrev pub points_into_member : Config → (ℕ → Bool) → ℕ → ℕ → PlacedAllocation → Bool
@@ -57,24 +57,21 @@ word_points_into c w S a n b h member inside points =
     (λ i. or-true (not (is_word_of (storage_of c x) i))) n in
     points_into c w S _ b (implied _ _ word (is_word_of_by (storage_of c x) n inside.2)) points
 
-pub closed_along_by_test : (c : Config) (es : List Event) (k : Marking es) (S : ℕ → Bool)
+pub closed_along_by_test : (c : Config) {es : List Event} (k : Marking es) (S : ℕ → Bool)
     → all_fronts (λ done. is_closed_behind c S (through k.begin ++ done)) k.close.at.before ≡ true
     → IsClosedAlong c k (λ b. S b ≡ true)
-closed_along_by_test c es k S h = record {
-  registers = λ front i b at points. points_into c (left c front) S _ b
-      (list_all-at (register_is_into_members c (left c front) S) (never_behind c front).registers Null
-      (parts front at).0 refl i) points;
-  globals = λ front g b at points. points_into c (left c front) S _ b
-      (list_all-at (is_into_members c (left c front) S) (left c front).now.words.globals 0 (parts front at).1 refl
-      g) points;
+closed_along_by_test c k S h = record {
+  registers = λ front i b at points. points_into c (left c front) S _ b (list_all-at (register_is_into_members c
+      (left c front) S) (never_behind c front).registers Null (parts front at).0 refl i) points;
+  globals = λ front g b at points. points_into c (left c front) S _ b (list_all-at (is_into_members c (left c front) S)
+      (left c front).now.words.globals 0 (parts front at).1 refl g) points;
   words = λ front a n b at member inside points. word_points_into c (left c front) S a n b (parts front at).2 member
       inside points;
 }
   where
     closed_at : (front : List Event) → LeadsToMoment k front → is_closed_behind c S front ≡ true
-    closed_at front at = subst (λ xs. is_closed_behind c S xs ≡ true) (sym at.is)
-        (all_fronts-at (λ done. is_closed_behind c S (through k.begin ++ done)) k.close.at.before at.done at.to_come h
-        at.of_the_cycle)
+    closed_at front at = subst (λ xs. is_closed_behind c S xs ≡ true) (sym at.is) (all_fronts-at
+        (λ done. is_closed_behind c S (through k.begin ++ done)) k.close.at.before at.done at.to_come h at.of_the_cycle)
 
     parts : (front : List Event) → LeadsToMoment k front
         → (list_all (register_is_into_members c (left c front) S) (never_behind c front).registers ≡ true)

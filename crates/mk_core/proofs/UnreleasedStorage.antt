@@ -35,9 +35,8 @@ pub unreleased_more : (c : Config) (xs : List PlacedAllocation) (a : PlacedAlloc
 unreleased_more c xs a unreleased = grind (arith, unreleased_in_parts, unreleased_front, none_unreleased)
 
 -- A change of each allocation that releases none and leaves each storage leaves all.
-pub unreleased_kept : (c : Config) (f : PlacedAllocation → PlacedAllocation)
-    → ((a : PlacedAllocation) → (f a).released ≡ a.released)
-    → ((a : PlacedAllocation) → a.released ≡ false → storage_of c (f a) ≡ storage_of c a)
+pub unreleased_kept : (c : Config) (f : PlacedAllocation → PlacedAllocation) → ((a : PlacedAllocation)
+    → (f a).released ≡ a.released) → ((a : PlacedAllocation) → a.released ≡ false → storage_of c (f a) ≡ storage_of c a)
     → (xs : List PlacedAllocation) → unreleased_storage c (map f xs) ≡ unreleased_storage c xs
 unreleased_kept c f same storage [] = refl
 unreleased_kept c f same storage (a ∷ xs) = elim (cases_Bool a.released) [
@@ -69,17 +68,17 @@ has_its_storage c (a ∷ xs) (suc i) unreleased = elim (cases_Bool a.released) [
       (has_its_storage c xs i unreleased))
 ]
 
-has_more : (c : Config) (a : PlacedAllocation) (xs : List PlacedAllocation) (s : Storage) → HasStorage c xs s
+has_more : {c : Config} (a : PlacedAllocation) {xs : List PlacedAllocation} {s : Storage} → HasStorage c xs s
     → HasStorage c (a ∷ xs) s
-has_more c a xs s h = record { number = suc h.number; unreleased = h.unreleased; storage = h.storage }
+has_more a h = record { number = suc h.number; unreleased = h.unreleased; storage = h.storage }
 
 pub storage_is_of : (c : Config) (xs : List PlacedAllocation) (s : Storage) → Contains (unreleased_storage c xs) s
     → HasStorage c xs s
 storage_is_of c [] s h = grind (arith, none_unreleased)
 storage_is_of c (a ∷ xs) s h = elim (cases_Bool a.released) [
-  | inl released ↦ has_more c a xs s
+  | inl released ↦ has_more a
       (storage_is_of c xs s (subst (λ (ss : List Storage). Contains ss s) (released_front c a xs released) h))
-  | inr unreleased ↦ by unreleased (λ k. has_more c a xs s (storage_is_of c xs s k))
+  | inr unreleased ↦ by unreleased (λ k. has_more a (storage_is_of c xs s k))
       (subst (λ (ss : List Storage). Contains ss s) (unreleased_front c a xs unreleased) h)
 ]
   where

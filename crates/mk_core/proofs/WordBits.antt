@@ -67,14 +67,12 @@ rest_is n m sub = let sum : n + bit_xor m n ≡ m = sym (or_disjoint n (bit_xor 
     all_at a b lt (inr both) = let o = both.0 in let p = both.1 in omega arith
 
     disjoint : bit_and n (bit_xor m n) ≡ 0
-    disjoint = same_from_bits (bit_and n (bit_xor m n)) 0
-        (λ i. bit_at_and n (bit_xor m n) i ∙ ap (λ b. min (bit_at n i) b) (bit_at_xor m n i)
-        ∙ none_at (bit_at n i) (bit_at m i) (bit_at-lt m i) (bits i) ∙ sym (bit_at-zero i))
+    disjoint = same_from_bits (bit_and n (bit_xor m n)) 0 (λ i. bit_at_and n (bit_xor m n) i ∙ ap (λ b. min (bit_at n i)
+        b) (bit_at_xor m n i) ∙ none_at (bit_at n i) (bit_at m i) (bit_at-lt m i) (bits i) ∙ sym (bit_at-zero i))
 
     whole : bit_or n (bit_xor m n) ≡ m
-    whole = same_from_bits (bit_or n (bit_xor m n)) m
-        (λ i. bit_at_or n (bit_xor m n) i ∙ ap (λ b. max (bit_at n i) b) (bit_at_xor m n i)
-        ∙ all_at (bit_at n i) (bit_at m i) (bit_at-lt m i) (bits i))
+    whole = same_from_bits (bit_or n (bit_xor m n)) m (λ i. bit_at_or n (bit_xor m n) i ∙ ap (λ b. max (bit_at n i) b)
+        (bit_at_xor m n i) ∙ all_at (bit_at n i) (bit_at m i) (bit_at-lt m i) (bits i))
 
 pub rest_bits : (n m k : ℕ) → bit_and n m ≡ n → has_bit m k ≡ true → has_bit n k ≡ false → has_bit (m - n) k ≡ true
 rest_bits n m k sub h out = grind (arith, bit_is_one, bit_is_none, has_from, rest_is, bit_at_xor)
@@ -111,9 +109,8 @@ pub bit_for_has : (k : ℕ) → k < 64 → has_bit (bit_for k) k ≡ true
 bit_for_has k lt = has_from (bit_for k) k (ap (λ n. bit_at n k) (bit_for_small k lt) ∙ bit_at-pow_same k)
 
 -- Bits that are added to one of some words: each bit after that was there, or is one of them.
-pub more_bits : (xs : List ℕ) (q b p i : ℕ)
-    → has_bit (slice_index (slice_set xs q (bit_or (slice_index xs q) b)) p) i ≡ true
-    → (has_bit (slice_index xs p) i ≡ true) ⊎ ((p ≡ q) × (has_bit b i ≡ true))
+pub more_bits : (xs : List ℕ) (q b p i : ℕ) → has_bit (slice_index (slice_set xs q (bit_or (slice_index xs q) b)) p) i
+    ≡ true → (has_bit (slice_index xs p) i ≡ true) ⊎ ((p ≡ q) × (has_bit b i ≡ true))
 more_bits xs q b p i is = elim (cases_eq p q) [
   | inr ne ↦ inl (subst (λ n. has_bit n i ≡ true) (get_or-set_other xs q p (bit_or (slice_index xs q) b) 0 ne) is)
   | inl e ↦ elim (cases_lt q (length xs)) [

@@ -1,6 +1,6 @@
 -- The steps that a turn which is free for a cycle may make at phase 0.
-use Rattle.mk_laws.proofs.Vocabulary.{Bool, Cell, Config, Flight, IsHistory, None, Op, Option, Protocol, Seat, Step}
-use Rattle.mk_laws.proofs.Vocabulary.{Tally, Word, Words, ℕ, ap, eq-eqb, false, frees, has_gates, if◌then◌else◌}
+use Rattle.mk_laws.proofs.Vocabulary.{Bool, Cell, Config, Flight, IsHistory, None, Option, Protocol, Seat, Step, Tally}
+use Rattle.mk_laws.proofs.Vocabulary.{Word, Words, ℕ, ap, arith, eq-eqb, false, frees, has_gates, if◌then◌else◌}
 use Rattle.mk_laws.proofs.Vocabulary.{is_phase, is_run_cell, lt-ltb, nat_lt, not, others_are_held, phase_of}
 use Rattle.mk_laws.proofs.Vocabulary.{quarantine_word, refl, slice_index, subst, sym, target, true, ◌%◌, ◌&&◌, ◌/◌, ◌<◌}
 use Rattle.mk_laws.proofs.{Vocabulary.{◌==◌, ◌^◌, ◌||◌, ◌∙◌, ◌≡◌}, Protocols.lists_keep_the_protocol}
@@ -13,12 +13,10 @@ use Rattle.mk_words.specs.TurnSteps.{IsTurn, turn_stays}
 
 look_gates : (c : Config) (w : Words) (seat : Seat) (f : Flight) (x : Word) → is_register x ≡ false
     → has_gates c w seat f (Step.Look x) ≡ true
-look_gates c w seat f (Word.Reg j r) h = cc
-look_gates c w seat f _ h = refl
+look_gates c w seat f x4 h = grind arith
 
 pub or_true : (a b : Bool) → b ≡ true → (a || b) ≡ true
-or_true true b h = refl
-or_true false b h = h
+or_true x0 b h = grind arith
 
 module _ (p : PassState) (t : InTurn p) (free : IsFreeForCycle p) where
   pub protocol : Protocol p.table.config (now_of p)
@@ -65,24 +63,21 @@ module _ {p : PassState} {w : WordsState} (t : InTurn p) (turn : IsTurnAt 0 w p)
       may_act p (Step.Undirty page) (protocol p t turn.free) t.holds turn.free.decided refl range
       (or_left (not _) _ (ap not not_two)) (or_left _ _ at_zero) (or_left (not _) _ (ap not not_two))
 
-  pub snapshot_allowed : (v : ℕ)
-      → v ≡ quarantine_word (slice_index (now_of p).words.freed page) (slice_index (now_of p).words.freed page)
-      → IsEnabledTo p (Step.Quar page v)
+  pub snapshot_allowed : (v : ℕ) → v ≡ quarantine_word (slice_index (now_of p).words.freed page)
+      (slice_index (now_of p).words.freed page) → IsEnabledTo p (Step.Quar page v)
   snapshot_allowed v is =
       let w : Words = (now_of p).words in
       let f : Flight = call_of p in
       let none_freed : target p.table.config.pages w f ≡ None = no_target p.table.config.pages w f turn.free.decided in
-      may_act p (Step.Quar page v) (protocol p t turn.free) t.holds turn.free.decided refl range
-      (ap (λ (cell : Option Cell). not (is_run_cell w cell) || others_are_held p.table.config.callers w p.seat)
-      none_freed) (or_left ((phase_of w == 0) || (phase_of w == 1)) _ (or_left _ _ at_zero))
-      (ap (λ (n : ℕ). if n == 4 then drops w page (v % 2 ^ 32) (v / 2 ^ 32)
-      else (frees w (target p.table.config.pages w f) page v || takes_snapshot w page v)) turn.phase ∙ or_true _ _
-      (ap (λ (b : Bool). b && (v == quarantine_word (slice_index w.freed page) (slice_index w.freed page))) at_zero
-      ∙ eq-eqb v _ is))
+      may_act p (Step.Quar page v) (protocol p t turn.free) t.holds turn.free.decided refl range (ap
+      (λ (cell : Option Cell). not (is_run_cell w cell) || others_are_held p.table.config.callers w p.seat) none_freed)
+      (or_left ((phase_of w == 0) || (phase_of w == 1)) _ (or_left _ _ at_zero)) (ap (λ (n : ℕ). if n == 4 then drops w
+      page (v % 2 ^ 32) (v / 2 ^ 32) else (frees w (target p.table.config.pages w f) page v || takes_snapshot w page v))
+      turn.phase ∙ or_true _ _ (ap (λ (b : Bool). b
+      && (v == quarantine_word (slice_index w.freed page) (slice_index w.freed page))) at_zero ∙ eq-eqb v _ is))
 
 -- what `is_in_order` says of a turn
-pub in_turn : (p : PassState) → Has p.seats p.seat → IsTurn p → IsHistory p.table.config p.seen
-    → InTurn p
+pub in_turn : (p : PassState) → Has p.seats p.seat → IsTurn p → IsHistory p.table.config p.seen → InTurn p
 in_turn p own turn history = record { own = own; holds = turn.holds; history = history }
 
 -- before a step of the turn

@@ -1,19 +1,19 @@
 -- The `begin` of a cycle, and the calls around it.
 use Rattle.std.proofs.Common.{filter}
-use Rattle.mk_laws.proofs.Vocabulary.{Bool, Config, List, PlacedAllocation, Step, Storage, TalliesAreTidy, World, ℕ}
-use Rattle.mk_laws.proofs.Vocabulary.{all_below, all_below_more_is, all_below_zero_is, and_from, ap, arith, eq-eqb}
-use Rattle.mk_laws.proofs.Vocabulary.{false, has_clean_page, if◌then◌else◌, is_mapped, length, map, no_longer_fresh}
-use Rattle.mk_laws.proofs.Vocabulary.{refl, slice_index, storage_of, subst, suc, sym, true, zero, [], ◌%◌, ◌&&◌, ◌+◌}
-use Rattle.mk_laws.proofs.Vocabulary.{◌/◌, ◌<◌, ◌==◌, ◌^◌, ◌∙◌, ◌∷◌, ◌≡◌, ◌≤◌}
+use Rattle.mk_laws.proofs.Vocabulary.{Bool, Config, List, PlacedAllocation, Step, Storage, World, ℕ, all_below}
+use Rattle.mk_laws.proofs.Vocabulary.{all_below-at, all_below_more_is, all_below_zero_is, and_from, ap, arith, eq-eqb}
+use Rattle.mk_laws.proofs.Vocabulary.{false, has_clean_page, if◌then◌else◌, is_held, is_mapped, length, map}
+use Rattle.mk_laws.proofs.Vocabulary.{no_longer_fresh, not, refl, slice_index, storage_of, subst, suc, sym, true, zero}
+use Rattle.mk_laws.proofs.Vocabulary.{[], ◌%◌, ◌&&◌, ◌+◌, ◌/◌, ◌<◌, ◌==◌, ◌^◌, ◌∙◌, ◌∷◌, ◌≡◌, ◌≤◌}
 use Rattle.mk_cycle.proofs.Vocabulary.{Acts, Cleans, CountsAreLeft, InTurn, IsAtPhase, IsClean, IsEnabledTo}
 use Rattle.mk_cycle.proofs.Vocabulary.{IsFreeForCycle, IsGone, IsTurnAt, KeepsGates, PassState, WasUndirty, WordsState}
 use Rattle.mk_cycle.proofs.Vocabulary.{call_of, count_by-le-length, done_of, held_by_allocations, made, now_of}
-use Rattle.mk_cycle.proofs.{Vocabulary.{releases, stands, steady_of, world_at, world_of}, MayAct.may_act}
+use Rattle.mk_cycle.{proofs.Vocabulary.{releases, stands, steady_of, world_at, world_of}, proofs.MayAct.{may_act}}
 use Rattle.mk_cycle.proofs.{KeptInParts.{gates_behind, gates_then, same_config}, OwnSteps.{done_in, keeps_counts}}
 use Rattle.mk_cycle.proofs.{OwnSteps.{same_call, same_pass, still_gone}, Allowed.{in_turn_after, protocol}}
 use Rattle.mk_geom.specs.StorageWords.{held_by_storages}
 use Rattle.mk_books.proofs.PlaceLemmas.{count_by-map}
-use Rattle.mk_core.specs.{Allocations.unreleased_storage, Counts.TalliesAreExact}
+use Rattle.mk_core.specs.{Allocations.unreleased_storage, Counts.TalliesAreExact, Moments.none_is_held}
 use Rattle.mk_core.specs.declared.seats.OwnCycle.TheVariants.{Begun}
 use Rattle.mk_cycle.specs.{BeginCycle.{BeginsCycle, with_cycle_begun}, EngineLaw.BeginsMarking}
 
@@ -37,9 +37,8 @@ pub record IsCleared (w : WordsState) (p b : PassState) : Type 0 where
 pub begin_allowed : {w : WordsState} {p b : PassState} → IsCleared w p b → IsEnabledTo b Step.Begin
 begin_allowed {b = b} x =
     may_act b Step.Begin (protocol b x.holds x.turn.free) x.holds.holds x.turn.free.decided refl refl refl
-    (eq-eqb _ 0 x.turn.phase)
-    (and_from _ ((now_of b).words.fresh == 0) (all_from _ _ (λ page lt. clean_page (x.clean page lt)))
-    (eq-eqb (now_of b).words.fresh 0 x.fresh))
+    (eq-eqb _ 0 x.turn.phase) (and_from _ ((now_of b).words.fresh == 0)
+    (all_from _ _ (λ page lt. clean_page (x.clean page lt))) (eq-eqb (now_of b).words.fresh 0 x.fresh))
 
 -- The phase word has the phase and the count of markers, which is small.
 begun_phase : (n markers : ℕ) → n % 8 ≡ 0 → n / 8 ≡ markers → markers ≤ 8 → (n + 1) % 2 ^ 64 % 8 ≡ 1
@@ -70,8 +69,7 @@ pub stale_held : (c : Config) (xs : List PlacedAllocation)
 stale_held c xs = ap (λ (ys : List Storage). held_by_storages ys) (stale_storage c xs)
 
 never_both : (b : Bool) → (b && false) ≡ false
-never_both true = refl
-never_both false = refl
+never_both x0 = grind arith
 
 none_fresh : (c : Config) (xs : List PlacedAllocation)
     → filter (λ (a : PlacedAllocation). is_mapped c a && a.fresh) (map no_longer_fresh xs) ≡ []
@@ -89,12 +87,8 @@ module _ {p q : PassState} (t : InTurn p) (free : IsFreeForCycle p) (none : IsAt
   phase_there : (w.now.words.phase + 1) % 2 ^ 64 % 8 ≡ 1
   phase_there = grind (arith, made, protocol, count_by-le-length, begun_phase)
 
-  pub steady_begun : steady_of (world_of q)
-      ≡ record (steady_of (world_of p)) {
-        phase = 1;
-        fresh_words = 0;
-        allocations = map no_longer_fresh (world_of p).allocations;
-      }
+  pub steady_begun : steady_of (world_of q) ≡ record (steady_of (world_of p))
+      { phase = 1; fresh_words = 0; allocations = map no_longer_fresh (world_of p).allocations }
   steady_begun = grind (arith, phase_there)
 
   pub begun_call : call_of q ≡ call_of p
@@ -123,25 +117,17 @@ snapshot_is {b} t clean =
     (λ k lt. (clean k (subst (λ (n : ℕ). k < n) lengths.snapshot lt)).snapshot)
 
 -- the allocations and tallies, from all that only the holder changes
-exact_from : (p q : PassState) → q ≡ record p { seen = q.seen }
-    → steady_of (world_of q) ≡ with_cycle_begun (steady_of (world_of p))
-    → TalliesAreExact p.table.config p.seen → TalliesAreExact q.table.config q.seen
+exact_from : (p q : PassState) → q ≡ record p { seen = q.seen } → steady_of (world_of q) ≡ with_cycle_begun
+    (steady_of (world_of p)) → TalliesAreExact p.table.config p.seen → TalliesAreExact q.table.config q.seen
 exact_from p q is steady x = grind (arith, same_config, stale_held, none_fresh)
-
-tidy_from : (p q : PassState) → q ≡ record p { seen = q.seen }
-    → steady_of (world_of q) ≡ with_cycle_begun (steady_of (world_of p))
-    → CountsAreLeft p.table.config p.seen q.seen → TalliesAreTidy p.table.config p.seen
-    → TalliesAreTidy q.table.config q.seen
-tidy_from p q is steady counts x = grind (arith, same_config, stale_releases)
 
 pub counts_then : (p q r : PassState) → q.table.config ≡ p.table.config → CountsAreLeft p.table.config p.seen q.seen
     → CountsAreLeft q.table.config q.seen r.seen → CountsAreLeft p.table.config p.seen r.seen
 counts_then p q r same a b = grind arith
 
 -- All of it: pages are cleaned, the cycle begins, and the engine does its part.
-pub begins_cycle : {w : WordsState} {p b d q : PassState} → IsCleared w p b
-    → ((page : ℕ) → page < p.table.config.pages → WasUndirty page p b) → Acts b Step.Begin d → BeginsMarking d q
-    → BeginsCycle p q
+pub begins_cycle : {w : WordsState} {p b d q : PassState} → IsCleared w p b → ((page : ℕ) → page < p.table.config.pages
+    → WasUndirty page p b) → Acts b Step.Begin d → BeginsMarking d q → BeginsCycle p q
 begins_cycle {p = p} {b = b} {d = d} {q = q} x undirty a law =
     let k = x.cleans in
     let t : InTurn b = x.holds in
@@ -173,5 +159,15 @@ begins_cycle {p = p} {b = b} {d = d} {q = q} x undirty a law =
           (begun_gates t free none u a) law.gates);
       gone = law.keeps.call.gone (begun_gone t free none u a free.gone);
       exact = exact_from p q pass steady;
-      tidy = tidy_from p q pass steady counts;
+      tidy = λ x. grind (arith, same_config, stale_releases);
     }
+
+-- No gate is held where none was, by the same holder.
+pub none_held_kept : (p q : PassState) → q ≡ record p { seen = q.seen } → KeepsGates p q
+    → none_is_held p.table.config.callers (now_of p).words ≡ true
+    → none_is_held q.table.config.callers (now_of q).words ≡ true
+none_held_kept p q is keeps none =
+    let n : ℕ = p.table.config.callers in
+    subst (λ (c : Config). none_is_held c.callers (now_of q).words ≡ true) (sym (same_config p q is))
+    (all_from n (λ j. not (is_held (now_of q).words j))
+    (λ j lt. ap not (keeps j lt) ∙ all_below-at n j (λ i. not (is_held (now_of p).words i)) none lt))

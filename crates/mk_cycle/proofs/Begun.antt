@@ -1,9 +1,9 @@
 -- What an engine does after each `begin`, in parts, by kinds of step, and at the `begin` itself.
 use Rattle.std.proofs.{Common.⊎_elim, lemmas.List.append_cancel_left, lemmas.List.Folds.list_all-append}
 use Rattle.mk_laws.proofs.Vocabulary.{At, Bool, Config, Event, List, Seat, Step, World, and_parts, ap, append-nil}
-use Rattle.mk_laws.proofs.Vocabulary.{append_assoc, false, found, if◌then◌else◌, is_begin, left, left_from, list_any}
-use Rattle.mk_laws.proofs.Vocabulary.{not, not-true, or_from, refl, subst, sym, through, true, true≢false, world_behind}
-use Rattle.mk_laws.proofs.Vocabulary.{[], ◌&&◌, ◌++◌, ◌∙◌, ◌∷◌, ◌≡◌}
+use Rattle.mk_laws.proofs.Vocabulary.{append_assoc, arith, false, found, if◌then◌else◌, is_begin, left, left_from}
+use Rattle.mk_laws.proofs.Vocabulary.{list_any, not, not-true, or_from, refl, subst, sym, through, true, true≢false}
+use Rattle.mk_laws.proofs.Vocabulary.{world_behind, [], ◌&&◌, ◌++◌, ◌∙◌, ◌∷◌, ◌≡◌}
 use Rattle.mk_cycle.proofs.Vocabulary.{Has, Makes, PassState, does_step, event_of, holds_gates, is_giving_back}
 use Rattle.mk_cycle.proofs.{Vocabulary.{only_seen_by, sets_tallies}, InParts.{InFirst, InSecond, in_parts}}
 use Rattle.mk_core.specs.{Cycles.is_give, Growing.{AreOfOthers, Finding, is_same_seat, own_from}}
@@ -17,15 +17,13 @@ abbrev pub HaveNoBegin : (Step → Bool) → Type 0
 HaveNoBegin kinds = (x : Step) → kinds x ≡ true → is_begin x ≡ false
 
 pub begins_none : (kinds : Step → Bool) → kinds Step.Begin ≡ false → HaveNoBegin kinds
-begins_none kinds none Step.Begin h = absurd (true≢false (sym h ∙ none))
-begins_none kinds none _ h = refl
+begins_none kinds none x2 h = grind arith
 
 -- The own events of a list are of these kinds.
 
 first_kind : (kinds : Step → Bool) (b : Bool) (x : Finding) (rest : List Finding) → b ≡ true
     → are_of kinds (if b then x ∷ rest else rest) ≡ true → kinds x.event.step ≡ true
-first_kind kinds true x rest h all = (and_parts (kinds x.event.step) (are_of kinds rest) all).0
-first_kind kinds false x rest h all = cc
+first_kind kinds x1 x rest h all = grind (arith, and_parts)
 
 own_kind : (kinds : Step → Bool) (c : Config) (s : Seat) (w : World) (before : List Event) (e : Event)
     (behind : List Event) → are_of kinds (own_from c s w (before ++ e ∷ behind)) ≡ true → is_same_seat s e.seat ≡ true
@@ -34,9 +32,8 @@ unfolding own_from
 own_kind kinds c s w before e behind all same =
     let rest : World = left_from c w before in
     let last : are_of kinds (own_from c s rest (e ∷ behind)) ≡ true =
-    (and_parts (are_of kinds (own_from c s w before)) (are_of kinds (own_from c s rest (e ∷ behind)))
-    (sym (list_all-append (λ (x : Finding). kinds x.event.step) (own_from c s w before)
-    (own_from c s rest (e ∷ behind)))
+    (and_parts (are_of kinds (own_from c s w before)) (are_of kinds (own_from c s rest (e ∷ behind))) (sym
+    (list_all-append (λ (x : Finding). kinds x.event.step) (own_from c s w before) (own_from c s rest (e ∷ behind)))
     ∙ ap (λ (xs : List Finding). are_of kinds xs) (sym (own_in_parts c s w before (e ∷ behind))) ∙ all)).1 in
     first_kind kinds (is_same_seat s e.seat) (record { event = e; found = found c rest.now e })
     (own_from c s (world_behind c rest e) behind) same last
@@ -53,15 +50,12 @@ kinds_begin_none kinds c s w es none all b own =
 -- The seat gives no turn back in a list whose own events are of kinds without a `give`.
 
 marking_gives_none : (x : Step) → begins_marking x ≡ true → is_give x ≡ false
-marking_gives_none Step.Give h = cc
-marking_gives_none _ h = refl
+marking_gives_none x0 h = grind arith
 
 give_first : (kinds : Step → Bool) (b : Bool) (x : Finding) (rest : List Finding)
     → ((y : Step) → kinds y ≡ true → is_give y ≡ false) → are_of kinds (if b then x ∷ rest else rest) ≡ true
     → ((b && is_give x.event.step) ≡ false) × (are_of kinds rest ≡ true)
-give_first kinds true x rest none all =
-    let parts = and_parts (kinds x.event.step) (are_of kinds rest) all in (none x.event.step parts.0, parts.1)
-give_first kinds false x rest none all = (refl, all)
+give_first kinds x1 x rest none all = grind (arith, and_parts)
 
 kinds_give_none : (kinds : Step → Bool) (c : Config) (s : Seat) (w : World) (es : List Event)
     → ((y : Step) → kinds y ≡ true → is_give y ≡ false) → are_of kinds (own_from c s w es) ≡ true
@@ -71,9 +65,8 @@ kinds_give_none kinds c s w [] none all = refl
 kinds_give_none kinds c s w (e ∷ es) none all =
     let parts = give_first kinds (is_same_seat s e.seat) (record { event = e; found = found c w.now e })
     (own_from c s (world_behind c w e) es) none all in
-    or_from (is_same_seat s e.seat && is_give e.step)
-    (list_any (λ (x : Event). is_same_seat s x.seat && is_give x.step) es) parts.0
-    (kinds_give_none kinds c s (world_behind c w e) es none parts.1)
+    or_from (is_same_seat s e.seat && is_give e.step) (list_any (λ (x : Event). is_same_seat s x.seat && is_give x.step)
+    es) parts.0 (kinds_give_none kinds c s (world_behind c w e) es none parts.1)
 
 -- No event of others is an own `begin`.
 pub others_begin_none : (seats : List Seat) (s : Seat) (es : List Event) → Has seats s → AreOfOthers seats es
@@ -111,18 +104,19 @@ module _ (begins : Config → Seat → List Event → List Event → Type 0) whe
   pub begun_append : (c : Config) (s : Seat) (es xs ys : List Event) → AreBegunFirst begins c s es xs
       → AreBegunFirst begins c s (es ++ xs) ys → AreBegunFirst begins c s es (xs ++ ys)
   begun_append c s es xs ys one two b own =
-      ⊎_elim
-      (λ (t : InFirst xs ys b.before b.event b.behind).
-      subst (λ (l : List Event). IsBegunFirst begins c s (es ++ through b) l) (sym t.then)
-      (later ys (one (record { before = b.before; event = b.event; behind = t.rest; is = t.is; of_kind = b.of_kind })
-      own)))
-      (λ (t : InSecond xs ys b.before b.event b.behind).
-      subst (λ (l : List Event). IsBegunFirst begins c s l b.behind)
-      (append_assoc es xs (t.rest ++ b.event ∷ []) ∙ ap (λ (l : List Event). es ++ l)
-      (sym (append_assoc xs t.rest (b.event ∷ []))
-      ∙ ap (λ (l : List Event). l ++ b.event ∷ []) (sym t.first)))
-      (two (record { before = t.rest; event = b.event; behind = b.behind; is = t.is; of_kind = b.of_kind }) own))
-      (in_parts xs ys b.before b.event b.behind b.is)
+      ⊎_elim (λ (t : InFirst xs ys b.before b.event b.behind). subst
+      (λ (l : List Event). IsBegunFirst begins c s (es ++ through b) l) (sym t.then) (later ys (one (record
+      { before = b.before; event = b.event; behind = t.rest; is = t.is; of_kind = b.of_kind }) own))) (λ (t : InSecond
+      xs ys b.before b.event b.behind). subst (λ (l : List Event). IsBegunFirst begins c s l b.behind) (append_assoc es
+      xs (t.rest ++ b.event ∷ []) ∙ ap (λ (l : List Event). es ++ l) (sym (append_assoc xs t.rest (b.event ∷ [])) ∙ ap
+      (λ (l : List Event). l ++ b.event ∷ []) (sym t.first))) (two (record {
+        before = t.rest;
+        event = b.event;
+        behind =
+            b.behind;
+        is = t.is;
+        of_kind = b.of_kind;
+      }) own)) (in_parts xs ys b.before b.event b.behind b.is)
 
   pub begun_then : (p q r : PassState) → q ≡ record p { seen = q.seen } → EachIsBegun begins p q
       → EachIsBegun begins q r → EachIsBegun begins p r
@@ -175,8 +169,7 @@ module _ (begins : Config → Seat → List Event → List Event → Type 0) whe
     no_more : (b : At is_begin part.more) → b.event.seat ≡ p.seat → ⊥
     no_more b is =
         kinds_begin_none begins_marking d.table.config d.seat (left d.table.config d.seen) does.more
-        (begins_none begins_marking refl)
-        does.of_kinds (record {
+        (begins_none begins_marking refl) does.of_kinds (record {
           before = b.before;
           event = b.event;
           behind = b.behind;
@@ -188,9 +181,8 @@ module _ (begins : Config → Seat → List Event → List Event → Type 0) whe
     no_give : list_any (λ (x : Event). is_same_seat p.seat x.seat && is_give x.step) part.more ≡ false
     no_give =
         subst (λ (l : List Event). list_any (λ (x : Event). is_same_seat p.seat x.seat && is_give x.step) l ≡ false)
-        same_more
-        (subst (λ (s : Seat). list_any (λ (x : Event). is_same_seat s x.seat && is_give x.step) does.more ≡ false)
-        seat_is (kinds_give_none begins_marking _ _ _ does.more marking_gives_none does.of_kinds))
+        same_more (subst (λ (s : Seat). list_any (λ (x : Event). is_same_seat s x.seat && is_give x.step) does.more
+        ≡ false) seat_is (kinds_give_none begins_marking _ _ _ does.more marking_gives_none does.of_kinds))
 
     done : begins c p.seat (p.seen ++ (m.others ++ e ∷ [])) part.more
     done =
@@ -248,12 +240,10 @@ module _ (begins : Config → Seat → List Event → List Event → Type 0) whe
       let own_released = has_on r.closed m.released released own_closed in
       let own_freed = has_on m.released m.freed freed own_released in
       begun_then p m.held q held (does_begin_none holds_gates p m.held (begins_none holds_gates refl) m.holds)
-      (begun_then m.held r.closing q closing
-      (does_begin_none closes_marks m.held r.closing (begins_none closes_marks refl) r.marks.does)
-      (begun_then r.closing r.closed q closed (step_begins_none r.closing r.closed Step.Close own_closing r.close refl)
-      (begun_then r.closed m.released q released
-      (step_begins_none r.closed m.released Step.Release own_closed r.release refl)
-      (begun_then m.released m.freed q freed
-      (does_begin_none is_giving_back m.released m.freed (begins_none is_giving_back refl) m.frees)
+      (begun_then m.held r.closing q closing (does_begin_none closes_marks m.held r.closing
+      (begins_none closes_marks refl) r.marks.does) (begun_then r.closing r.closed q closed
+      (step_begins_none r.closing r.closed Step.Close own_closing r.close refl) (begun_then r.closed m.released q
+      released (step_begins_none r.closed m.released Step.Release own_closed r.release refl) (begun_then m.released
+      m.freed q freed (does_begin_none is_giving_back m.released m.freed (begins_none is_giving_back refl) m.frees)
       (begun_then m.freed m.ended q ended (step_begins_none m.freed m.ended Step.End own_freed m.end refl)
       (does_begin_none sets_tallies m.ended q (begins_none sets_tallies refl) m.behind))))))

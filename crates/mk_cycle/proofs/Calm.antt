@@ -1,12 +1,11 @@
 -- Steps of the turn's holder that go on with its call and with what it has done in its turn as they were.
 use Rattle.mk_laws.proofs.Vocabulary.{Bool, Cell, Config, Flight, Holding, Moment, None, Op, Option, Seat, Stage, Step}
-use Rattle.mk_laws.proofs.Vocabulary.{Word, Words, ℕ, ap, cell_freed, false, if◌then◌else◌, is_end, is_free_at}
-use Rattle.mk_laws.proofs.Vocabulary.{is_heap_store, is_phase, not, or_else, pointed_cell, progress, progress_freed}
-use Rattle.mk_laws.proofs.Vocabulary.{refl, run_of_cell, sees_double, still, sym, target, true, true≢false, ◌&&◌, ◌∙◌}
-use Rattle.mk_laws.proofs.Vocabulary.{◌≡◌}
-use Rattle.mk_cycle.proofs.{Vocabulary.{holding_behind, is_pending_free}, OwnSteps.done_in}
+use Rattle.mk_laws.proofs.Vocabulary.{Word, Words, ℕ, ap, arith, cell_freed, false, if◌then◌else◌, is_end, is_free_at}
+use Rattle.mk_laws.proofs.Vocabulary.{is_heap_store, is_phase, not, pointed_cell, progress, sees_double, still, target}
+use Rattle.mk_laws.proofs.Vocabulary.{true, ◌&&◌, ◌≡◌}
+use Rattle.mk_cycle.proofs.Vocabulary.{holding_behind, is_pending_free}
 use Rattle.mk_core.specs.Effects.{progress_look}
-use Rattle.mk_cycle.specs.EngineLaw.{is_pending_free_at}
+use Rattle.mk_cycle.{proofs.OwnSteps.done_in, specs.EngineLaw.is_pending_free_at}
 
 -- these kinds
 abbrev pub is_calm : Step → Bool
@@ -28,26 +27,21 @@ is_calm _ = false
 -- A call that isn't an undecided Free has no target.
 
 not_undecided : (o : Op) (x : Stage) → is_pending_free_at o x ≡ false → is_free_at x o ≡ false
-not_undecided (Op.Free p) Stage.Turn h = cc
-not_undecided (Op.Free p) x h = refl
-not_undecided o Stage.Turn h = refl
-not_undecided o x h = refl
+not_undecided o x h = grind arith
 
 pub no_target : (pages : ℕ) (w : Words) (f : Flight) → is_pending_free f ≡ false → target pages w f ≡ None
 no_target pages w f h = ap (λ (b : Bool). if b then pointed_cell pages w.pages f.p else None)
     (not_undecided f.op f.stage h)
 
 sees_none : (w : Words) (x : Word) → sees_double w None x ≡ false
-sees_none w (Word.Quar p) = refl
-sees_none w x = refl
+sees_none w x = grind arith
 
 pub look_still : (c : Config) (w : Words) (f : Flight) (x : Word) → is_pending_free f ≡ false
     → progress_look c w f x ≡ still f
 look_still c w f x h = cc (no_target c.pages w f h, sees_none w x)
 
 none_either_way : (b : Bool) → (if b then None else None) ≡ (let n : Option Cell = None in n)
-none_either_way true = refl
-none_either_way false = refl
+none_either_way x0 = grind arith
 
 pub frees_none : (pages : ℕ) (w : Words) (f : Flight) (p v : ℕ) → is_pending_free f ≡ false
     → cell_freed pages w f p v ≡ None
@@ -55,26 +49,17 @@ frees_none pages w f p v h = cc (no_target pages w f h, none_either_way (not (is
 
 pub calm_still : (c : Config) (m : Moment) (f : Flight) (n : ℕ) (s : Step) → is_calm s ≡ true
     → is_pending_free f ≡ false → progress c m f n s ≡ still f
-calm_still c m f n (Step.Look x) h free = look_still c m.words f x free
-calm_still c m f n (Step.Quar p v) h free =
-    ap (λ (cell : Option Cell). progress_freed f cell) (frees_none c.pages m.words f p v free)
-calm_still c m f n _ h free = cc
+calm_still c m f n x4 h free = grind (arith, look_still, frees_none)
 
 pub calm_done : (c : Config) (m : Moment) (seat : Seat) (f : Flight) (n : ℕ) (s : Step) (h : Holding) → is_calm s ≡ true
     → is_pending_free f ≡ false → done_in (holding_behind c m seat f n s h) ≡ done_in h
-calm_done c m seat f n (Step.Quar p v) h kind free =
-    ap (λ (cell : Option Cell). done_in (record h { freed = or_else (run_of_cell m.words cell) h.freed }))
-    (frees_none c.pages m.words f p v free)
-calm_done c m seat f n _ h kind free = cc
+calm_done c m seat f n x5 h kind free = grind (arith, done_in, frees_none)
 
 -- Kinds of step among which no heap word is stored to, and none that ends a cycle.
 
 pub stores_none : (kinds : Step → Bool) → kinds Step.Write ≡ false → kinds Step.Cas ≡ false → (s : Step)
     → kinds s ≡ true → is_heap_store s ≡ false
-stores_none kinds write cas Step.Write h = absurd (true≢false (sym h ∙ write))
-stores_none kinds write cas Step.Cas h = absurd (true≢false (sym h ∙ cas))
-stores_none kinds write cas _ h = refl
+stores_none kinds write cas x3 h = grind arith
 
 pub ends_none : (kinds : Step → Bool) → kinds Step.End ≡ false → (s : Step) → kinds s ≡ true → is_end s ≡ false
-ends_none kinds none Step.End h = absurd (true≢false (sym h ∙ none))
-ends_none kinds none _ h = refl
+ends_none kinds none x2 h = grind arith

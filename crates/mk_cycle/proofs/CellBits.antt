@@ -1,8 +1,8 @@
 -- Bits of cells that are given back.
 use Rattle.std.proofs.{lemmas.Nat.Bits.{bit_at-lt, bit_at_and, same_from_bits}, Common.min}
-use Rattle.mk_laws.proofs.Vocabulary.{Bool, ℕ, ap, arith, bit_at, cases_Bool, false, has_bit, has_bit_without, inl, inr}
-use Rattle.mk_laws.proofs.Vocabulary.{not, quarantine_word, refl, suc, sym, true, without, zero, ◌%◌, ◌&&◌, ◌-◌, ◌/◌}
-use Rattle.mk_laws.proofs.Vocabulary.{◌<◌, ◌==◌, ◌^◌, ◌∙◌, ◌≡◌, ◌⊎◌}
+use Rattle.mk_laws.proofs.Vocabulary.{Bool, ℕ, ap, arith, bit_at, cases_Bool, false, has_bit, has_bit_without, not}
+use Rattle.mk_laws.proofs.Vocabulary.{quarantine_word, sym, true, without, ◌%◌, ◌&&◌, ◌-◌, ◌/◌, ◌<◌, ◌==◌, ◌^◌, ◌∙◌}
+use Rattle.mk_laws.proofs.Vocabulary.{◌≡◌, ◌⊎◌}
 use Rattle.mk_cycle.proofs.Vocabulary.{and_le_l, bit_and}
 use Rattle.mk_core.proofs.WordBits.{bit_is_none, bit_is_one, zero_from_bits}
 
@@ -10,15 +10,10 @@ same_from_has : (a b : ℕ) → ((k : ℕ) → has_bit a k ≡ has_bit b k) → 
 same_from_has a b h = same_from_bits a b (λ k. by k (cases_Bool (has_bit a k)))
   where
     by : (k : ℕ) → (has_bit a k ≡ true) ⊎ (has_bit a k ≡ false) → bit_at a k ≡ bit_at b k
-    by k (inl one) = bit_is_one a k one ∙ sym (bit_is_one b k (sym (h k) ∙ one))
-    by k (inr none) = bit_is_none a k none ∙ sym (bit_is_none b k (sym (h k) ∙ none))
+    by k x1 = grind (arith, bit_is_one, bit_is_none)
 
 least_test : (x y : ℕ) → x < 2 → y < 2 → (min x y == 1) ≡ ((x == 1) && (y == 1))
-least_test zero y lx ly = let none : min 0 y ≡ 0 = omega arith in ap (λ n. n == 1) none
-least_test (suc zero) zero lx ly = refl
-least_test (suc zero) (suc zero) lx ly = refl
-least_test (suc zero) (suc (suc y)) lx ly = absurd (omega arith)
-least_test (suc (suc x)) y lx ly = absurd (omega arith)
+least_test x0 y lx ly = grind arith
 
 pub has_bit_and : (a b k : ℕ) → has_bit (bit_and a b) k ≡ (has_bit a k && has_bit b k)
 has_bit_and a b k = grind (arith, bit_at_and, least_test, bit_at-lt)
@@ -26,49 +21,36 @@ has_bit_and a b k = grind (arith, bit_at_and, least_test, bit_at-lt)
 -- in Booleans
 
 within_test : (x y : Bool) → ((x && not y) && x) ≡ (x && not y)
-within_test true true = refl
-within_test true false = refl
-within_test false y = refl
+within_test x0 y = grind arith
 
 both_test : (x y : Bool) → ((x && y) && not y) ≡ false
-both_test true true = refl
-both_test true false = refl
-both_test false y = refl
+both_test x0 y = grind arith
 
 apart_test : (x y : Bool) → ((x && not y) && y) ≡ false
-apart_test true true = refl
-apart_test true false = refl
-apart_test false y = refl
+apart_test x0 y = grind arith
 
 part_test : (x y : Bool) → ((x && y) && x) ≡ (x && y)
-part_test true true = refl
-part_test true false = refl
-part_test false y = refl
+part_test x0 y = grind arith
 
 self_test : (x : Bool) → (x && not x) ≡ false
-self_test true = refl
-self_test false = refl
+self_test x0 = grind arith
 
 -- what is left of a word is part of it
 pub left_within : (a g : ℕ) → bit_and (without a g) a ≡ without a g
-left_within a g = same_from_has _ _ (λ k.
-    has_bit_and (without a g) a k ∙ ap (λ (b : Bool). b && has_bit a k) (has_bit_without a g k)
-    ∙ within_test (has_bit a k) (has_bit g k) ∙ sym (has_bit_without a g k))
+left_within a g = same_from_has _ _ (λ k. has_bit_and (without a g) a k ∙ ap (λ (b : Bool). b && has_bit a k)
+    (has_bit_without a g k) ∙ within_test (has_bit a k) (has_bit g k) ∙ sym (has_bit_without a g k))
 
 pub none_beyond : (a g : ℕ) → without (bit_and a g) g ≡ 0
-none_beyond a g = zero_from_bits _ (λ k.
-    has_bit_without (bit_and a g) g k ∙ ap (λ (b : Bool). b && not (has_bit g k)) (has_bit_and a g k)
-    ∙ both_test (has_bit a k) (has_bit g k))
+none_beyond a g = zero_from_bits _ (λ k. has_bit_without (bit_and a g) g k ∙ ap (λ (b : Bool). b && not (has_bit g k))
+    (has_bit_and a g k) ∙ both_test (has_bit a k) (has_bit g k))
 
 pub none_in_both : (a g : ℕ) → bit_and (without a g) g ≡ 0
-none_in_both a g = zero_from_bits _ (λ k.
-    has_bit_and (without a g) g k ∙ ap (λ (b : Bool). b && has_bit g k) (has_bit_without a g k)
-    ∙ apart_test (has_bit a k) (has_bit g k))
+none_in_both a g = zero_from_bits _ (λ k. has_bit_and (without a g) g k ∙ ap (λ (b : Bool). b && has_bit g k)
+    (has_bit_without a g k) ∙ apart_test (has_bit a k) (has_bit g k))
 
 pub part_within : (a g : ℕ) → bit_and (bit_and a g) a ≡ bit_and a g
-part_within a g = same_from_has _ _ (λ k.
-    has_bit_and (bit_and a g) a k ∙ ap (λ (b : Bool). b && has_bit a k) (has_bit_and a g k)
-    ∙ part_test (has_bit a k) (has_bit g k) ∙ sym (has_bit_and a g k))
+part_within a g = same_from_has _ _ (λ k. has_bit_and (bit_and a g) a k ∙ ap (λ (b : Bool). b && has_bit a k)
+    (has_bit_and a g k) ∙ part_test (has_bit a k) (has_bit g k) ∙ sym (has_bit_and a g k))
 
 pub none_of_itself : (g : ℕ) → without g g ≡ 0
 none_of_itself g = zero_from_bits _ (λ k. has_bit_without g g k ∙ self_test (has_bit g k))

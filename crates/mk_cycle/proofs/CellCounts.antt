@@ -1,17 +1,17 @@
 -- Bits of the pages' cells are as many as the allocations in these cells, and weigh as much.
-use Rattle.std.proofs.{Common.{count_ones, nat_eq}, lemmas.List.FromFn.get_or-map-range_with_len, lemmas.Nat.and_mask}
-use Rattle.std.proofs.lemmas.Nat.Bits.{bit_at_above}
+use Rattle.std.proofs.Common.{count_ones, nat_eq}
+use Rattle.std.proofs.{lemmas.List.FromFn.get_or-map-range_with_len, lemmas.Nat.and_mask, lemmas.Nat.Bits.bit_at_above}
 use Rattle.mk_laws.proofs.Vocabulary.{Bool, Cell, Config, Event, IsHistory, List, PlacedAllocation, ℕ, and_from}
 use Rattle.mk_laws.proofs.Vocabulary.{and_parts, ap, arith, bit_at, cases_lt, cell_of_allocation, cond, eq-eqb}
 use Rattle.mk_laws.proofs.Vocabulary.{eqb-true, false, get_or, get_or_past, has_bit, histories_keep_lengths, inl, inr}
 use Rattle.mk_laws.proofs.Vocabulary.{left, never_behind, never_granted, phase_of, placed_at, slice_index, subst, sym}
 use Rattle.mk_laws.proofs.Vocabulary.{true, ◌%◌, ◌&&◌, ◌*◌, ◌<◌, ◌==◌, ◌^◌, ◌∙◌, ◌≡◌, ◌≢◌, ◌≤◌, ◌⊎◌}
-use Rattle.mk_laws.proofs.{InvariantHistories.histories_keep_the_invariant, KnownWorlds.known_world}
-use Rattle.mk_laws.proofs.{ReadingsStands.freed_cell, Settled.unreleased_are_apart}
-use Rattle.mk_cycle.proofs.{Vocabulary.{count_by, sum_below, sum_by}, SumsBelow.{counted_by_key, counted_by_place}}
-use Rattle.mk_cycle.proofs.SumsBelow.{one_if_any, sum_same, weighed_by_key}
+use Rattle.mk_cycle.proofs.Vocabulary.{count_by, sum_below, sum_by}
 use Rattle.mk_geom.specs.PageWords.{bits_of}
 use Rattle.mk_books.proofs.UsedBitLemmas.{count_ones-masked, length-bits_of}
+use Rattle.mk_laws.proofs.InvariantHistories.{histories_keep_the_invariant}
+use Rattle.mk_laws.proofs.{KnownWorlds.known_world, ReadingsStands.freed_cell, Settled.unreleased_are_apart}
+use Rattle.mk_cycle.proofs.SumsBelow.{counted_by_key, counted_by_place, one_if_any, sum_same, weighed_by_key}
 
 -- the bits of a word that fits the low half
 ones_below : (word : ℕ) → word < 2 ^ 32 → count_ones word ≡ sum_below 32 (λ k. cond (has_bit word k) 1 0)
@@ -72,15 +72,13 @@ module _ (c : Config) (es : List Event) (h : IsHistory c es) (quiet : phase_of (
   counted_in_cell p k =
       let all = histories_keep_the_invariant c es h in
       let known = known_world c es h.within_limits h.enabled in
-      one_if_any never_granted (in_cell p k) (has_bit (bits p) k) xs
-      (ap (λ b. b && ((cell_of_allocation c never_granted).page == p) &&
-      ((cell_of_allocation c never_granted).index == k)) are.none) (λ bit.
+      one_if_any never_granted (in_cell p k) (has_bit (bits p) k) xs (ap (λ b. b && ((cell_of_allocation c
+      never_granted).page == p) && ((cell_of_allocation c never_granted).index == k)) are.none) (λ bit.
       let o = freed_cell c (left c es) (never_behind c es) known all quiet (record { page = p; index = k })
       (are.within p k bit) in (
         o.number,
-        cell_chosen p k (placed_at xs o.number)
-            (are.same o.number o.unreleased o.freed ∙ ap (λ (y : Cell). has_bit (bits y.page) y.index) o.cell ∙ bit)
-            o.cell,
+        cell_chosen p k (placed_at xs o.number) (are.same o.number o.unreleased o.freed ∙ ap
+            (λ (y : Cell). has_bit (bits y.page) y.index) o.cell ∙ bit) o.cell,
       )) (λ i there.
       let x = chosen_cell p k (placed_at xs i) there in
       subst (λ (y : Cell). has_bit (bits y.page) y.index ≡ true) x.1 (bit_of i x.0)) (λ i j a b.
@@ -92,15 +90,12 @@ module _ (c : Config) (es : List Event) (h : IsHistory c es) (quiet : phase_of (
   in_range : (p k : ℕ) → has_bit (bits p) k ≡ true → (p < c.pages) × (k < 32)
   in_range p k bit = (by (cases_lt p c.pages), there (cases_lt k 32))
     where
-      freed : has_bit (slice_index (left c es).now.words.freed p) k ≡ true
-      freed = are.within p k bit
-
       by : (p < c.pages) ⊎ (c.pages ≤ p) → p < c.pages
       by (inl lt) = lt
       by (inr past) =
           let none : slice_index (left c es).now.words.freed p ≡ 0 = get_or_past (left c es).now.words.freed p 0
           (subst (λ (n : ℕ). n ≤ p) (sym (histories_keep_lengths c es).freed) past) in
-          let one : bit_at (slice_index (left c es).now.words.freed p) k ≡ 1 = eqb-true _ 1 freed in
+          let one : bit_at (slice_index (left c es).now.words.freed p) k ≡ 1 = eqb-true _ 1 (are.within p k bit) in
           let zero : bit_at 0 k ≡ 0 = bit_at_above 0 0 k (omega arith) (omega arith) in
           absurd (succ_not_zero (sym one ∙ ap (λ (n : ℕ). bit_at n k) none ∙ zero))
 

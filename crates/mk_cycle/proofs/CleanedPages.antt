@@ -1,6 +1,6 @@
 -- Pages are cleaned one by one, and others are passed over: what is known of those before goes on.
-use Rattle.mk_laws.proofs.Vocabulary.{Steady, ℕ, ap, arith, cases_lt, false, header_at, refl, sym, ◌+◌, ◌<◌, ◌∙◌, ◌≡◌}
-use Rattle.mk_laws.proofs.{Vocabulary.◌≤◌, FreePages.free_pages_have_nothing}
+use Rattle.mk_laws.proofs.Vocabulary.{Steady, ℕ, ap, arith, cases_lt, false, header_at, sym, ◌+◌, ◌<◌, ◌∙◌, ◌≡◌, ◌≤◌}
+use Rattle.mk_laws.proofs.FreePages.{free_pages_have_nothing}
 use Rattle.mk_cycle.proofs.Vocabulary.{Cleans, InTurn, IsClean, PassState, WasUndirty, WordsState, below_more, now_of}
 use Rattle.mk_cycle.proofs.CleaningSteps.{cleaned_table, cleans_nothing, cleans_then}
 use Rattle.mk_cycle.proofs.{Undirty.{undirty_earlier, undirty_later, undirty_now}, PageByPage.no_header}
@@ -45,9 +45,8 @@ FreeAreBare p n = (page : ℕ) → page < n → header_at (now_of p).words page 
 pub free_stay_bare : {p q : PassState} (n : ℕ) → Cleans p q → FreeAreBare p n → FreeAreBare q n
 free_stay_bare {p} {q} n k h page lt bare = bare_stays k (h page lt (sym (same_header page k) ∙ bare))
 
-pub free_bare_past : (p : PassState) (from n : ℕ) → FreeAreBare p from
-    → ((page : ℕ) → from ≤ page → page < n → header_at (now_of p).words page ≡ 0 → HasNoMarks (now_of p).words page)
-    → FreeAreBare p n
+pub free_bare_past : (p : PassState) (from n : ℕ) → FreeAreBare p from → ((page : ℕ) → from ≤ page → page < n
+    → header_at (now_of p).words page ≡ 0 → HasNoMarks (now_of p).words page) → FreeAreBare p n
 free_bare_past p from n before more page lt bare = grind (arith, cases_lt)
 
 pub free_bare_more : {p q : PassState} {n : ℕ} → Cleans p q → FreeAreBare p n → HasNoMarks (now_of q).words n

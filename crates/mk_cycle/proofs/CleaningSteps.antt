@@ -92,22 +92,6 @@ module _ {p : PassState} {s : Step} {q : PassState} {y : WordsState} (a : Acts p
 
 -- by kind
 
-pub look_cleans : (c : Config) (w : World) (seat : Seat) (x : Word)
-    → CleansAt w (world_behind c w (record { seat = seat; step = Step.Look x }))
-look_cleans c w seat x = grind arith
-
-pub clear_cleans : (c : Config) (w : World) (seat : Seat) (p : ℕ)
-    → CleansAt w (world_behind c w (record { seat = seat; step = Step.Clear p }))
-clear_cleans c w seat p = grind (arith, zero_stays)
-
-pub unblack_cleans : (c : Config) (w : World) (seat : Seat) (p : ℕ)
-    → CleansAt w (world_behind c w (record { seat = seat; step = Step.Unblack p }))
-unblack_cleans c w seat p = grind (arith, zero_stays)
-
-pub undirty_cleans : (c : Config) (w : World) (seat : Seat) (p : ℕ)
-    → CleansAt w (world_behind c w (record { seat = seat; step = Step.Undirty p }))
-undirty_cleans c w seat p = grind arith
-
 -- `quar` (b): the low half is stored over itself
 
 low_half : (f : ℕ) → f < 2 ^ 32 → quarantine_word f f % 2 ^ 32 ≡ f
@@ -158,11 +142,7 @@ quar_cleans c w seat p v free lt small is =
 
 -- A turn stays free for a cycle, on its words and at phase 0, while pages are cleaned.
 pub cleaned_turn : {p q : PassState} {w : WordsState} → Cleans p q → IsTurnAt 0 w p → IsTurnAt 0 w q
-cleaned_turn {p} {q} k turn = record {
-  one_table = ap (λ (x : PassState). x.table) k.keeps.call.pass ∙ turn.one_table;
-  free = free_then p q k.keeps.call turn.free;
-  phase = ap (λ (s : Steady). s.phase) k.keeps.steady ∙ turn.phase;
-}
+cleaned_turn k turn = grind (arith, free_then)
 
 pub cleaned_table : {p q : PassState} (w : WordsState) → Cleans p q → p.table ≡ w → q.table ≡ w
 cleaned_table w k is = ap (λ (x : PassState). x.table) k.keeps.call.pass ∙ is
@@ -170,61 +150,60 @@ cleaned_table w k is = ap (λ (x : PassState). x.table) k.keeps.call.pass ∙ is
 -- Each step by which they are.
 module _ {p q : PassState} {y : WordsState} (turn : IsTurnAt 0 y p) where
   pub looked : {x : Word} → Acts p (Step.Look x) q → Cleans p q
-  looked {x} a = cleans_step a refl refl turn (look_cleans p.table.config (world_at a.makes) p.seat x)
+  looked {x} a = cleans_step a refl refl turn (grind arith)
 
   pub cleared : {page : ℕ} → Acts p (Step.Clear page) q → Cleans p q
-  cleared {page} a = cleans_step a refl refl turn (clear_cleans p.table.config (world_at a.makes) p.seat page)
+  cleared {page} a = cleans_step a refl refl turn (grind (arith, zero_stays))
 
   pub unblacked : {page : ℕ} → Acts p (Step.Unblack page) q → Cleans p q
-  unblacked {page} a = cleans_step a refl refl turn (unblack_cleans p.table.config (world_at a.makes) p.seat page)
+  unblacked {page} a = cleans_step a refl refl turn (grind (arith, zero_stays))
 
   pub undirtied : {page : ℕ} → Acts p (Step.Undirty page) q → Cleans p q
-  undirtied {page} a = cleans_step a refl refl turn (undirty_cleans p.table.config (world_at a.makes) p.seat page)
+  undirtied {page} a = cleans_step a refl refl turn (grind arith)
 
   pub tallied : {v : ℕ} → Acts p (Step.Tally Tally.Fresh v) q → Cleans p q
   tallied a = cleans_step a refl refl turn
       (record { steady = refl; gates = refl; unmarked = λ r h. h; unscanned = λ r h. h; snapshot = λ r h. h })
 
-  module _ {page v : ℕ} (a : Acts p (Step.Quar page v) q) (within : page < y.config.pages)
-      (is : v ≡ quarantine_word (slice_index (now_of p).words.freed page) (slice_index (now_of p).words.freed page))
-    where
-      w : World
-      w = world_at a.makes
+  module _ {page v : ℕ} (a : Acts p (Step.Quar page v) q) (within : page < y.config.pages) (is : v ≡ quarantine_word
+      (slice_index (now_of p).words.freed page) (slice_index (now_of p).words.freed page)) where
+    w : World
+    w = world_at a.makes
 
-      same_freed : slice_index w.now.words.freed page ≡ slice_index (now_of p).words.freed page
-      unfolding w
-      same_freed = ap (λ (s : Steady). slice_index s.freed page) a.turn.steady
+    same_freed : slice_index w.now.words.freed page ≡ slice_index (now_of p).words.freed page
+    unfolding w
+    same_freed = ap (λ (s : Steady). slice_index s.freed page) a.turn.steady
 
-      known : Stands p.table.config (p.seen ++ a.makes.others)
-      known = stands p.table.config (p.seen ++ a.makes.others) (made p (Step.Quar page v) q a.makes).history
+    known : Stands p.table.config (p.seen ++ a.makes.others)
+    known = stands p.table.config (p.seen ++ a.makes.others) (made p (Step.Quar page v) q a.makes).history
 
-      small : slice_index w.now.words.freed page < 2 ^ 32
-      unfolding w
-      small = (known.all.order.quarantined.small page).0
+    small : slice_index w.now.words.freed page < 2 ^ 32
+    unfolding w
+    small = (known.all.order.quarantined.small page).0
 
-      lt : page < p.table.config.pages
-      lt = on_table p turn.one_table within
+    lt : page < p.table.config.pages
+    lt = on_table p turn.one_table within
 
-      pub snapshot_taken : Cleans p q
-      unfolding w
-      snapshot_taken =
-          cleans_step a refl refl turn
-          (quar_cleans p.table.config w p.seat page v (ap is_pending_free a.own.flight ∙ turn.free.decided)
-          (subst (λ (n : ℕ). page < n) (sym known.known.lengths.snapshot) lt) small
-          (is ∙ ap (λ (n : ℕ). quarantine_word n n) (sym same_freed)))
+    pub snapshot_taken : Cleans p q
+    unfolding w
+    snapshot_taken =
+        cleans_step a refl refl turn
+        (quar_cleans p.table.config w p.seat page v (ap is_pending_free a.own.flight ∙ turn.free.decided)
+        (subst (λ (n : ℕ). page < n) (sym known.known.lengths.snapshot) lt) small
+        (is ∙ ap (λ (n : ℕ). quarantine_word n n) (sym same_freed)))
 
-      pub has_snapshot : HasTakenSnapshot q page
-      unfolding w
-      has_snapshot =
-          let long = subst (λ (n : ℕ). page < n) (sym known.known.lengths.snapshot) lt in
-          let long' = subst (λ (n : ℕ). page < n) (sym known.known.lengths.freed) lt in
-          let little = subst (λ (n : ℕ). n < 2 ^ 32) same_freed small in
-          ap (λ (x : World). slice_index x.now.words.snapshot page) a.world
-          ∙ get_or-set_same w.now.words.snapshot page (v / 2 ^ 32) 0 long
-          ∙ ap (λ (n : ℕ). n / 2 ^ 32) is ∙ high_half _ little
-          ∙ sym (ap (λ (x : World). slice_index x.now.words.freed page) a.world
-          ∙ get_or-set_same w.now.words.freed page (v % 2 ^ 32) 0 long'
-          ∙ ap (λ (n : ℕ). n % 2 ^ 32) is ∙ low_half _ little)
+    pub has_snapshot : HasTakenSnapshot q page
+    unfolding w
+    has_snapshot =
+        let long = subst (λ (n : ℕ). page < n) (sym known.known.lengths.snapshot) lt in
+        let long' = subst (λ (n : ℕ). page < n) (sym known.known.lengths.freed) lt in
+        let little = subst (λ (n : ℕ). n < 2 ^ 32) same_freed small in
+        ap (λ (x : World). slice_index x.now.words.snapshot page) a.world
+        ∙ get_or-set_same w.now.words.snapshot page (v / 2 ^ 32) 0 long
+        ∙ ap (λ (n : ℕ). n / 2 ^ 32) is ∙ high_half _ little
+        ∙ sym (ap (λ (x : World). slice_index x.now.words.freed page) a.world
+        ∙ get_or-set_same w.now.words.freed page (v % 2 ^ 32) 0 long'
+        ∙ ap (λ (n : ℕ). n % 2 ^ 32) is ∙ low_half _ little)
 
 pub clean_stays : {p q : PassState} {page : ℕ} → Cleans p q → IsClean p page → IsClean q page
 clean_stays k h = grind arith

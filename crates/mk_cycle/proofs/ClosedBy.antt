@@ -2,9 +2,9 @@
 use Rattle.mk_laws.proofs.Vocabulary.{Bool, Config, Event, List, Step, World, ℕ, ap, append-nil, append_assoc, false}
 use Rattle.mk_laws.proofs.Vocabulary.{refl, sym, [], ◌++◌, ◌∙◌, ◌≡◌}
 use Rattle.mk_cycle.proofs.Vocabulary.{HoldsGates, PassState, does_sweep, holds_gates, sweeps_then}
-use Rattle.mk_cycle.proofs.{HoldingSteps.{holds_nothing, holds_then}, Sweepless.marks_nothing}
-use Rattle.mk_cycle.proofs.Told.{told_earlier, told_later}
-use Rattle.mk_cycle.specs.{Closing.{ClosesAsPromised, IsClosedBy}, Releasing.MakesRelease}
+use Rattle.mk_cycle.proofs.HoldingSteps.{holds_nothing, holds_then}
+use Rattle.mk_cycle.proofs.{Sweepless.marks_nothing, Told.told_earlier, Told.told_later}
+use Rattle.mk_cycle.specs.{Closing.ClosesAsPromised, Closing.IsClosedBy, Releasing.MakesRelease}
 use Rattle.mk_turns.specs.Doing.{Does}
 
 module _ (closes : PassState → PassState → Type 0) where
@@ -34,8 +34,7 @@ module _ (closes : PassState → PassState → Type 0) where
 
   -- when more was seen after it
   pub closed_later : {p q : PassState} (r : PassState) (more : List Event) → r.seen ≡ q.seen ++ more
-      → IsClosedBy closes p q
-      → IsClosedBy closes p r
+      → IsClosedBy closes p q → IsClosedBy closes p r
   closed_later r more is k = record {
     held = k.held;
     released = k.released;
@@ -58,10 +57,10 @@ module _ {sweeps : Bool} {tells : Config → World → Type 0} {closes : PassSta
   }
 
   -- when steps came after it that mark nothing
-  pub promised_later : (kinds : Step → Bool) → ((page v : ℕ) → kinds (Step.Mark page v) ≡ false) → {p q r : PassState}
+  pub promised_later : {kinds : Step → Bool} → ((page v : ℕ) → kinds (Step.Mark page v) ≡ false) → {p q r : PassState}
       → q ≡ record p { seen = q.seen } → Does kinds q r → ClosesAsPromised sweeps tells closes p q
       → ClosesAsPromised sweeps tells closes p r
-  promised_later kinds marks {p} {q} {r} same d k = record {
+  promised_later {kinds} marks {p} {q} {r} same d k = record {
     reached = λ none. sweeps_then p q r same (k.reached none) (does_sweep kinds q r (marks_nothing kinds marks) d);
     told = told_later r d.more (ap (λ (x : PassState). x.seen) d.is) k.told;
     closed = closed_later closes r d.more (ap (λ (x : PassState). x.seen) d.is) k.closed;

@@ -1,8 +1,8 @@
 -- What was released is counted page by page.
 use Rattle.std.proofs.{Common.count_ones, lemmas.Nat.ones_le_self}
-use Rattle.mk_laws.proofs.Vocabulary.{Bool, Words, ℕ, ap, arith, false, header_at, header_in, header_of, if◌then◌else◌}
-use Rattle.mk_laws.proofs.Vocabulary.{is_unmapped_header, quarantine_word, refl, slice_index, suc, true, without}
-use Rattle.mk_laws.proofs.Vocabulary.{words_under, zero, ◌*◌, ◌+◌, ◌/◌, ◌^◌, ◌∙◌, ◌≡◌}
+use Rattle.mk_laws.proofs.Vocabulary.{Bool, Words, ℕ, ap, arith, header_at, header_in, header_of, if◌then◌else◌}
+use Rattle.mk_laws.proofs.Vocabulary.{is_unmapped_header, quarantine_word, refl, slice_index, suc, without, words_under}
+use Rattle.mk_laws.proofs.Vocabulary.{zero, ◌*◌, ◌+◌, ◌/◌, ◌^◌, ◌∙◌, ◌≡◌}
 use Rattle.mk_cycle.proofs.Vocabulary.{GivesNothingBack, InTurn, PassState, Released, SamePage, bit_and, held_below}
 use Rattle.mk_cycle.proofs.Vocabulary.{held_unmarked, now_of, released_below, released_on, words_unmarked}
 use Rattle.mk_cycle.proofs.{CleaningSteps.halves, GivingSteps.none_then, PageSteps.same_header, SumsBelow.sum_same}
@@ -12,10 +12,10 @@ same_released a b count words kept = grind arith
 
 -- what is said of a page by its snapshot, its marks and its header
 told_by : (snapshot marks header s m h : ℕ) (r : Released) → snapshot ≡ s → marks ≡ m → header ≡ h
-    → r.count ≡ count_ones (without snapshot marks)
-    → r.words ≡ count_ones (without snapshot marks) * words_under (header_of header)
-    → r.kept ≡ count_ones (bit_and snapshot marks) → r ≡ record {
-      count = count_ones (without s m);
+    → r.count ≡ count_ones (without snapshot marks) → r.words ≡ count_ones (without snapshot marks) * words_under
+    (header_of header) → r.kept ≡ count_ones (bit_and snapshot marks) → r ≡ record {
+      count = count_ones
+          (without s m);
       words = count_ones (without s m) * words_under (header_of h);
       kept = count_ones (bit_and s m);
     }
@@ -55,9 +55,12 @@ sum_of a b = record { count = a.count + b.count; words = a.words + b.words; kept
 
 -- one page more
 pub counted_more : (w : Words) (page : ℕ) (all here : Released) → all ≡ released_below w page
-    → here ≡ released_on w page
-    → record { count = all.count + here.count; words = all.words + here.words; kept = all.kept + here.kept }
-    ≡ released_below w (page + 1)
+    → here ≡ released_on w page → record {
+      count = all.count + here.count;
+      words = all.words + here.words;
+      kept =
+          all.kept + here.kept;
+    } ≡ released_below w (page + 1)
 unfolding sum_of
 counted_more w page all here before now = grind (arith, sum_of)
 
@@ -83,8 +86,7 @@ none_held w page none =
     ∙ ap (λ (r : Released). if is_unmapped_header (header_in w page) then 0 else r.words) none
   where
     either : (b : Bool) → ◌≡◌ {A = ℕ} 0 (if b then 0 else 0)
-    either true = refl
-    either false = refl
+    either x0 = grind arith
 
 pub held_same : (p q : PassState) (page : ℕ) → (now_of q).words.marks ≡ (now_of p).words.marks → SamePage p q page
     → held_unmarked (now_of q).words page ≡ held_unmarked (now_of p).words page

@@ -5,9 +5,9 @@ use Rattle.mk_laws.proofs.Vocabulary.{◌^◌, ◌∷◌, ◌≡◌, ◌≤◌}
 use Rattle.mk_cycle.proofs.Vocabulary.{Acts, InTurn, IsAtPhase, IsEnabledTo, IsFreeForCycle, IsGone, IsSettledPage}
 use Rattle.mk_cycle.proofs.Vocabulary.{KeepsGates, PassState, call_of, count_by-le-length, done_of, event_of}
 use Rattle.mk_cycle.proofs.Vocabulary.{full_answers, made, now_of, steady_of, world_at, world_of}
-use Rattle.mk_cycle.proofs.{OwnSteps.{done_in, no_more_calls, same_call, still_gone, undecided}, Allowed.protocol}
-use Rattle.mk_cycle.proofs.{BeginSteps.all_from, KeptInParts.gates_behind, MayAct.may_act}
 use Rattle.mk_core.specs.Effects.{cycle_ended}
+use Rattle.mk_cycle.proofs.OwnSteps.{done_in, no_more_calls, same_call, still_gone, undecided}
+use Rattle.mk_cycle.proofs.{Allowed.protocol, BeginSteps.all_from, KeptInParts.gates_behind, MayAct.may_act}
 
 pub end_allowed : {p : PassState} → InTurn p → IsFreeForCycle p → IsAtPhase p 4
     → ((page : ℕ) → page < p.table.config.pages → IsSettledPage p page) → IsEnabledTo p Step.End

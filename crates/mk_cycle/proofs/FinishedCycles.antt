@@ -9,9 +9,9 @@ use Rattle.mk_cycle.proofs.{Allowed.{in_turn_after, in_turn_before}, EndSteps.{a
 use Rattle.mk_cycle.proofs.EndSteps.{ended_gates, ended_gone, one_more_end, steady_ended}
 use Rattle.mk_cycle.proofs.KeptInParts.{calls_then, free_then, gates_then, same_config}
 use Rattle.mk_cycle.proofs.{BeginSteps.{all_from, counts_then}, HeldReleased.held_alike, NewlyReleased.newly_added}
-use Rattle.mk_cycle.{proofs.{OwnSteps.same_pass, ReleasedCounts.told_to}, specs.GivingAll.{GivesAllBack}}
-use Rattle.mk_cycle.specs.{Releasing.words_released, Tallying.{Sets, with_cycle_counted}, FinishCycle.FinishesCycle}
+use Rattle.mk_cycle.{proofs.{OwnSteps.same_pass, ReleasedCounts.told_to}, specs.Releasing.{words_released}}
 use Rattle.mk_core.specs.{Counts.TalliesAreExact, Effects.cycle_ended, Moments.none_is_held}
+use Rattle.mk_cycle.specs.{Tallying.{Sets, with_cycle_counted}, FinishCycle.FinishesCycle, GivingAll.GivesAllBack}
 
 pub gives_call : {p g : PassState} → GivesAllBack p g → KeepsCall p g
 gives_call x = grind (arith, calls_then)
@@ -79,11 +79,9 @@ module _ {p g e q : PassState} {r : Released} (gives : GivesAllBack p g) (free :
   pass_e : e ≡ record g { seen = e.seen }
   pass_e = same_pass g Step.End e a t.own t.holds u.history
 
-  pass_p : e ≡ record p { seen = e.seen }
-  pass_p = pass_e ∙ ap (λ (x : PassState). record x { seen = e.seen }) pass_g
-
   pass_q : q ≡ record p { seen = q.seen }
-  pass_q = sets.call.pass ∙ ap (λ (x : PassState). record x { seen = q.seen }) pass_p
+  pass_q = sets.call.pass ∙ ap (λ (x : PassState). record x { seen = q.seen })
+      (pass_e ∙ ap (λ (x : PassState). record x { seen = e.seen }) pass_g)
 
   steady_e : steady_of (world_of e) ≡ record (steady_of (world_of g)) { phase = 0 }
   steady_e = steady_ended t gives.phase u a

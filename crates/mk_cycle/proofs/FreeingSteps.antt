@@ -57,16 +57,12 @@ frees_calmly s = is_calm s
 
 frees_still : (c : Config) (m : Moment) (f : Flight) (n : ℕ) (s : Step) → frees_calmly s ≡ true
     → is_pending_free f ≡ false → progress c m f n s ≡ still f
-frees_still c m f n (Step.Head p v) h free = refl
-frees_still c m f n (Step.Used p v) h free = refl
-frees_still c m f n s h free = calm_still c m f n s h free
+frees_still c m f n s h free = grind (arith, calm_still)
 
 frees_done : (c : Config) (m : Moment) (seat : Seat) (f : Flight) (n : ℕ) (s : Step) (h : Holding)
     → frees_calmly s ≡ true
     → is_pending_free f ≡ false → is_phase m.words 4 ≡ true → done_in (holding_behind c m seat f n s h) ≡ done_in h
-frees_done c m seat f n (Step.Head p v) h kind free at = grind (arith, done_in)
-frees_done c m seat f n (Step.Used p v) h kind free at = grind (arith, done_in)
-frees_done c m seat f n s h kind free at = calm_done c m seat f n s h kind free
+frees_done c m seat f n s h kind free at = grind (arith, done_in, calm_done)
 
 -- what a step that gives back makes of the words
 pub record FreesAt (w v : World) : Type 0 where
@@ -80,9 +76,8 @@ open_stays : (p q : PassState)
     → (j : ℕ) → is_held (now_of p).words j ≡ false → is_held (now_of q).words j ≡ false
 open_stays p q h j e = ne_eqb _ 2 (h j (eqb-false _ 2 e))
 
-module _ {p : PassState} {s : Step} {q : PassState} (a : Acts p s q) (t : InTurn p) (u : InTurn q)
-    (kind : frees_calmly s ≡ true) (gives : is_giving_back s
-    ≡ true) (free : IsFreeForCycle p) (at : IsAtPhase p 4) where
+module _ {p : PassState} {s : Step} {q : PassState} (a : Acts p s q) (t : InTurn p) (u : InTurn q) (kind : frees_calmly
+    s ≡ true) (gives : is_giving_back s ≡ true) (free : IsFreeForCycle p) (at : IsAtPhase p 4) where
   pub frees_step : FreesAt (world_at a.makes) (world_behind p.table.config (world_at a.makes) (event_of p s))
       → Frees p q
   frees_step x =
@@ -98,9 +93,8 @@ module _ {p : PassState} {s : Step} {q : PassState} (a : Acts p s q) (t : InTurn
       record {
         does = does_step is_giving_back p q s a.makes gives;
         keeps = record {
-          call = keeps_call p s q a t.own t.holds u.history st
-              (λ n. frees_done c m p.seat f n s m.seats.holding kind pending four)
-              (stores_none frees_calmly refl refl s kind);
+          call = keeps_call p s q a t.own t.holds u.history st (λ n. frees_done c m p.seat f n s m.seats.holding kind
+              pending four) (stores_none frees_calmly refl refl s kind);
           steady = ap (λ (y : World). but_pages (steady_of y)) a.world ∙ x.steady ∙ ap but_pages a.turn.steady;
           counts = keeps_counts p s q a t.own t.holds u.history st (ends_none frees_calmly refl s kind);
         };
@@ -118,9 +112,8 @@ pub wipe_gives : (c : Config) (w : World) (seat : Seat) (n : ℕ)
 wipe_gives c w seat n = record { steady = refl; marks = refl; gates = λ j h. h; zeros = zero_stays w.now.words.heap n }
 
 -- one that leaves these words
-pub leaves_words : {w v : World} → but_pages (steady_of v) ≡ but_pages (steady_of w)
-    → v.now.words.marks ≡ w.now.words.marks → v.now.words.gates ≡ w.now.words.gates
-    → v.now.words.heap ≡ w.now.words.heap → FreesAt w v
+pub leaves_words : {w v : World} → but_pages (steady_of v) ≡ but_pages (steady_of w) → v.now.words.marks
+    ≡ w.now.words.marks → v.now.words.gates ≡ w.now.words.gates → v.now.words.heap ≡ w.now.words.heap → FreesAt w v
 leaves_words steady marks gates heap = record {
   steady = steady;
   marks = marks;

@@ -43,13 +43,11 @@ module _ {w : WordsState} {p b d : PassState} {page used gone quarantine : ℕ}
   pub turn_d : IsTurnAt 4 w d
   turn_d = freed_turn gives_page.frees turn_b
 
-  state_d : page_state d page
-      ≡ record (page_state p page)
-      { page = record { header = header_at (now_of p).words page; used = without used gone } }
+  state_d : page_state d page ≡ record
+      (page_state p page) { page = record { header = header_at (now_of p).words page; used = without used gone } }
   state_d =
-      used_state turn_b x.within x.gives
-      ∙ ap (λ (y : PageState). record y { page = record { header = y.page.header; used = without used gone } })
-      (x.wiped.same page)
+      used_state turn_b x.within x.gives ∙ ap (λ (y : PageState). record y
+      { page = record { header = y.page.header; used = without used gone } }) (x.wiped.same page)
 
   half : Halves p page quarantine
   half = halves page quarantine x.begun x.word

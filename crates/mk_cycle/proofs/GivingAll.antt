@@ -3,17 +3,14 @@ use Rattle.mk_laws.proofs.Vocabulary.{Config, Steady, ℕ, all_below-at, ap, ari
 use Rattle.mk_laws.proofs.Vocabulary.{◌<◌, ◌∙◌, ◌≡◌}
 use Rattle.mk_cycle.proofs.Vocabulary.{Frees, GivesNothingBack, HasReleased, HoldsFewer, HoldsGates, IsAtPhase}
 use Rattle.mk_cycle.proofs.Vocabulary.{IsSettledPage, PassState, Released, held_below, now_of, released_below}
-use Rattle.mk_cycle.proofs.{CountedPages.{held_alike_below, told_alike_below}, BeginSteps.all_from}
-use Rattle.mk_cycle.proofs.{FreeingSteps.{freed_phase, frees_then}, HeldReleased.held_alike}
-use Rattle.mk_cycle.proofs.ReleasedCounts.{told_from, told_to}
 use Rattle.mk_core.specs.Moments.{none_is_held}
+use Rattle.mk_cycle.proofs.CountedPages.{held_alike_below, told_alike_below}
+use Rattle.mk_cycle.proofs.{BeginSteps.all_from, FreeingSteps.freed_phase, FreeingSteps.frees_then}
+use Rattle.mk_cycle.proofs.{HeldReleased.held_alike, ReleasedCounts.told_from, ReleasedCounts.told_to}
 use Rattle.mk_cycle.specs.{GivingAll.GivesAllBack, Releasing.ReleasesUnmarked}
 
 pub held_phase : (p q : PassState) (n : ℕ) → HoldsGates p q → IsAtPhase p n → IsAtPhase q n
 held_phase p q n k at = ap (λ (s : Steady). s.phase) k.keeps.steady ∙ at
-
-pub released_phase : {p q : PassState} → ReleasesUnmarked p q → IsAtPhase q 4
-released_phase r = ap (λ (s : Steady). s.phase) r.steady
 
 none_held_then : (callers : ℕ) {p q : PassState} → Frees p q → none_is_held callers (now_of p).words ≡ true
     → none_is_held callers (now_of q).words ≡ true
@@ -33,7 +30,7 @@ gives_all_back {p} {h} {r} {o} {q} holds releases opens frees none settled =
       holds = holds;
       releases = releases;
       frees = all;
-      phase = freed_phase all (released_phase releases);
+      phase = freed_phase all (ap (λ (s : Steady). s.phase) releases.steady);
       gates = none_held_then p.table.config.callers frees
           (subst (λ (c : Config). none_is_held c.callers (now_of o).words ≡ true) same none);
       settled = settled;

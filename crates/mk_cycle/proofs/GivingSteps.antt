@@ -36,9 +36,8 @@ state_there s t e r = ap (λ (y : Steady). state_of y r) e
 
 module _ {p q : PassState} {y : WordsState} (turn : IsTurnAt 4 y p) where
   -- a step that leaves the words of pages
-  leaves_pages : {s : Step} (a : Acts p s q) → Frees p q
-      → ((r : ℕ) → state_in (world_behind p.table.config (world_at a.makes) (event_of p s)).now.words r
-      ≡ state_in (world_at a.makes).now.words r) → GivesNothingBack p q
+  leaves_pages : {s : Step} (a : Acts p s q) → Frees p q → ((r : ℕ) → state_in (world_behind p.table.config
+      (world_at a.makes) (event_of p s)).now.words r ≡ state_in (world_at a.makes).now.words r) → GivesNothingBack p q
   leaves_pages a frees left = record {
     frees = frees;
     same = λ r. ap (λ (w : World). state_in w.now.words r) a.world ∙ left r ∙ state_there _ _ a.turn.steady r;
@@ -74,32 +73,27 @@ module _ {p : PassState} {y : WordsState} (t : InTurn p) (turn : IsTurnAt 4 y p)
       → IsEnabledTo p (Step.Used page v)
   used_allowed page v lt is =
       may_act p (Step.Used page v) (protocol p t turn.free) t.holds turn.free.decided refl (lt-ltb page _
-      (on_table p turn.one_table lt)) refl
-      (four_or (phase_of w == 0) (phase_of w == 1) (phase_of w) turn.phase) (ap (λ
-      (n : ℕ). if n == 4 then gives_back w page v
-      else (not (is_used_once (now_of p).seats.holding.placing) && takes_cell w (object_made c f.op)
-      (place_now c (now_of p) f) page v)) turn.phase ∙ is)
+      (on_table p turn.one_table lt)) refl (four_or (phase_of w == 0) (phase_of w == 1) (phase_of w) turn.phase)
+      (ap (λ (n : ℕ). if n == 4 then gives_back w page v else (not (is_used_once (now_of p).seats.holding.placing)
+      && takes_cell w (object_made c f.op) (place_now c (now_of p) f) page v)) turn.phase ∙ is)
 
   pub head_allowed : (page : ℕ) → page < y.config.pages → empties (now_of p).words page 0 ≡ true
       → IsEnabledTo p (Step.Head page 0)
   head_allowed page lt is =
       may_act p (Step.Head page 0) (protocol p t turn.free) t.holds turn.free.decided refl (lt-ltb page _
-      (on_table p turn.one_table lt)) refl
-      (four_or (phase_of w == 0) (phase_of w == 1) (phase_of w) turn.phase) (ap (λ
-      (n : ℕ). if n == 4 then empties w page 0
-      else (carves w (object_made c f.op) (place_now c (now_of p) f) page 0
-      || unmaps w (now_of p).seats.holding.freed page 0)) turn.phase ∙ is)
+      (on_table p turn.one_table lt)) refl (four_or (phase_of w == 0) (phase_of w == 1) (phase_of w) turn.phase)
+      (ap (λ (n : ℕ). if n == 4 then empties w page 0 else (carves w (object_made c f.op)
+      (place_now c (now_of p) f) page 0 || unmaps w (now_of p).seats.holding.freed page 0)) turn.phase ∙ is)
 
   pub quar_allowed : (page v : ℕ) → page < y.config.pages
       → drops (now_of p).words page (v % 2 ^ 32) (v / 2 ^ 32) ≡ true → IsEnabledTo p (Step.Quar page v)
   quar_allowed page v lt is =
       let none : target c.pages w f ≡ None = no_target c.pages w f turn.free.decided in
-      may_act p (Step.Quar page v) (protocol p t turn.free) t.holds turn.free.decided refl (lt-ltb page _
-      (on_table p turn.one_table lt))
+      may_act p (Step.Quar page v) (protocol p t turn.free) t.holds turn.free.decided refl
+      (lt-ltb page _ (on_table p turn.one_table lt))
       (ap (λ (cell : Option Cell). not (is_run_cell w cell) || others_are_held c.callers w p.seat) none)
-      (four_or (phase_of w == 0) (phase_of w == 1) (phase_of w) turn.phase)
-      (ap (λ (n : ℕ). if n == 4 then drops w page (v % 2 ^ 32) (v / 2 ^ 32)
-      else (frees w (target c.pages w f) page v || takes_snapshot w page v)) turn.phase ∙ is)
+      (four_or (phase_of w == 0) (phase_of w == 1) (phase_of w) turn.phase) (ap (λ (n : ℕ). if n == 4 then drops w page
+      (v % 2 ^ 32) (v / 2 ^ 32) else (frees w (target c.pages w f) page v || takes_snapshot w page v)) turn.phase ∙ is)
 
   -- A word of no mapped allocation that isn't 0 is of a released cell.
   holds_released : (n : ℕ) → IsUnmapped p n → (slice_index (now_of p).words.heap n ≡ 0 → ⊥)
@@ -122,17 +116,15 @@ module _ {p : PassState} {y : WordsState} (t : InTurn p) (turn : IsTurnAt 4 y p)
               let zero = (and_parts (is_run_unmapped w run) (words_are_zero w (64 * run.page) (64 * run.count))
               (ap (λ (x : Option RunPages). is_run_gone w x) (sym is) ∙ turn.free.gone)).1 in
               let there : 64 * run.page + (n - 64 * run.page) ≡ n = omega arith in
-              ap (λ (i : ℕ). slice_index w.heap i) (sym there)
-              ∙ eqb-true _ 0 (all_below-at (64 * run.count) (n - 64 * run.page)
-              (λ i. slice_index w.heap (64 * run.page + i) == 0) zero (omega arith))
+              ap (λ (i : ℕ). slice_index w.heap i) (sym there) ∙ eqb-true _ 0 (all_below-at (64 * run.count)
+              (n - 64 * run.page) (λ i. slice_index w.heap (64 * run.page + i) == 0) zero (omega arith))
 
   pub wipe_allowed : {n : ℕ} → IsUnmappedWord p n → (slice_index (now_of p).words.heap n ≡ 0 → ⊥)
       → IsEnabledTo p (Step.Wipe n)
   wipe_allowed {n} word some =
       may_act p (Step.Wipe n) (protocol p t turn.free) t.holds turn.free.decided refl
       (lt-ltb n (64 * c.pages) word.within) refl refl
-      (ap (λ (b : Bool). b || is_in_gone_run w (now_of p).seats.holding.freed n)
-      (holds_released n word.unmapped some))
+      (ap (λ (b : Bool). b || is_in_gone_run w (now_of p).seats.holding.freed n) (holds_released n word.unmapped some))
 
 pub none_then : {p q r : PassState} → GivesNothingBack p q → GivesNothingBack q r → GivesNothingBack p r
 none_then {p} {q} {r} a b = record { frees = frees_then a.frees b.frees; same = λ i. b.same i ∙ a.same i }
@@ -141,10 +133,7 @@ pub none_at_once : (p : PassState) → GivesNothingBack p p
 none_at_once p = record { frees = frees_nothing p; same = λ i. refl }
 
 pub still_unmapped_word : {p q : PassState} {n : ℕ} → Frees p q → IsUnmappedWord p n → IsUnmappedWord q n
-still_unmapped_word {p} {q} {n} k h = record {
-  within = subst (λ (c : Config). n < 64 * c.pages) (sym (same_config p q k.keeps.call.pass)) h.within;
-  unmapped = still_unmapped n k.keeps h.unmapped;
-}
+still_unmapped_word k h = grind (arith, same_config, still_unmapped)
 
 -- the word is 0 after its wipe
 pub wiped : {p q : PassState} {n : ℕ} → Acts p (Step.Wipe n) q → IsZero q n
@@ -173,16 +162,6 @@ abbrev with_quar : Words → ℕ → ℕ → ℕ → Words
 with_quar w page freed snapshot =
     record w { freed = slice_set w.freed page freed; snapshot = slice_set w.snapshot page snapshot }
 
-quar_set : (w : Words) (page freed snapshot : ℕ) → page < length w.freed → page < length w.snapshot
-    → state_in (with_quar w page freed snapshot) page ≡ record (state_in w page) { freed = freed; snapshot = snapshot }
-quar_set w page freed snapshot long longer =
-    cc (get_or-set_same w.freed page freed 0 long, get_or-set_same w.snapshot page snapshot 0 longer)
-
-quar_set_other : (w : Words) (page freed snapshot r : ℕ) → r ≢ page
-    → state_in (with_quar w page freed snapshot) r ≡ state_in w r
-quar_set_other w page freed snapshot r ne =
-    cc (get_or-set_other w.freed page r freed 0 ne, get_or-set_other w.snapshot page r snapshot 0 ne)
-
 -- A step that stores the words of one page.
 module _ {p q : PassState} (s : Step) (a : Acts p s q) (page : ℕ) where
   abbrev there : Words
@@ -197,13 +176,11 @@ module _ {p q : PassState} (s : Step) (a : Acts p s q) (page : ℕ) where
     others = λ r ne. ap (λ (w : World). state_in w.now.words r) a.world ∙ others r ne ∙ state_there _ _ a.turn.steady r;
   }
 
-  state_now : (f : PageState → PageState)
-      → (AreOfPages p.table.config.pages there → state_in behind page ≡ f (state_in there page))
-      → page_state q page ≡ f (page_state p page)
+  state_now : (f : PageState → PageState) → (AreOfPages p.table.config.pages there
+      → state_in behind page ≡ f (state_in there page)) → page_state q page ≡ f (page_state p page)
   state_now f stored =
-      ap (λ (w : World). state_in w.now.words page) a.world
-      ∙ stored (stands p.table.config (p.seen ++ a.makes.others) (made p s q a.makes).history).known.lengths
-      ∙ ap f (state_there _ _ a.turn.steady page)
+      ap (λ (w : World). state_in w.now.words page) a.world ∙ stored (stands p.table.config (p.seen ++ a.makes.others)
+      (made p s q a.makes).history).known.lengths ∙ ap f (state_there _ _ a.turn.steady page)
 
 long : {p : PassState} {y : WordsState} {page : ℕ} → IsTurnAt 4 y p → page < y.config.pages → (n : ℕ)
     → n ≡ p.table.config.pages → page < n
@@ -235,14 +212,19 @@ module _ {p q : PassState} {y : WordsState} (turn : IsTurnAt 4 y p) {page : ℕ}
 
   pub quar_frees : {v : ℕ} → Acts p (Step.Quar page v) q → FreesPage page p q
   quar_frees {v} a =
-      frees_one _ a page (freeing turn a refl refl refl
-      (quar_gives p.table.config (world_at a.makes) p.seat page v
+      frees_one _ a page (freeing turn a refl refl refl (quar_gives p.table.config (world_at a.makes) p.seat page v
       (ap is_pending_free a.own.flight ∙ turn.free.decided)))
-      (λ r ne. quar_set_other (world_at a.makes).now.words page _ _ r ne)
+      (λ r ne. cc (
+        get_or-set_other (world_at a.makes).now.words.freed page r _ 0 ne,
+        get_or-set_other
+            (world_at a.makes).now.words.snapshot page r _ 0 ne,
+      ))
 
   pub quar_state : {v : ℕ} → Acts p (Step.Quar page v) q
       → page_state q page ≡ record (page_state p page) { freed = v % 2 ^ 32; snapshot = v / 2 ^ 32 }
   quar_state {v} a =
       state_now _ a page (λ x. record x { freed = v % 2 ^ 32; snapshot = v / 2 ^ 32 })
-      (λ of. quar_set (world_at a.makes).now.words page _ _ (long turn within _ of.freed)
-      (long turn within _ of.snapshot))
+      (λ of. cc (
+        get_or-set_same (world_at a.makes).now.words.freed page _ 0 (long turn within _ of.freed),
+        get_or-set_same (world_at a.makes).now.words.snapshot page _ 0 (long turn within _ of.snapshot),
+      ))

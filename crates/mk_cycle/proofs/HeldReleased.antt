@@ -1,23 +1,22 @@
 -- What a `release` releases is held no longer: of that, the small allocations were held.
-use Rattle.std.proofs.{Common.zero-add, Math.Bool.and-false}
-use Rattle.mk_laws.proofs.Vocabulary.{Bool, Config, Event, Header, IsHistory, List, Object, OfBlock, OfLater}
-use Rattle.mk_laws.proofs.Vocabulary.{OfLeafBlock, OfLeafRun, OfRun, Option, PlacedAllocation, ShowsPart, Step, Storage}
-use Rattle.mk_laws.proofs.Vocabulary.{Words, ℕ, address_of, ap, append-nil, arith, cases_Bool, cell_of_allocation}
-use Rattle.mk_laws.proofs.Vocabulary.{cells_begin, cond, false, false_from_ne_true, get_or, header_at, header_in}
-use Rattle.mk_laws.proofs.Vocabulary.{header_shows, if◌then◌else◌, inl, inr, is_large, is_left_unmarked, is_mapped}
-use Rattle.mk_laws.proofs.Vocabulary.{is_resident_page, is_run_gone, is_small_object, is_some_and, is_unmapped_header}
-use Rattle.mk_laws.proofs.Vocabulary.{kinds_of, left, map, never_granted, not, object_placed, pages_some, phase_of}
-use Rattle.mk_laws.proofs.Vocabulary.{placed_at, pointed_cell, refl, run_begins, storage_of, storage_words, subst, suc}
-use Rattle.mk_laws.proofs.Vocabulary.{sym, true, true≢false, typed_size, use_under, used_at, with_released, words_under}
-use Rattle.mk_laws.proofs.Vocabulary.{words_within, zero, [], ◌&&◌, ◌*◌, ◌+◌, ◌/◌, ◌||◌, ◌∙◌, ◌∷◌, ◌≡◌}
-use Rattle.mk_laws.proofs.{ForImages.gone_is, Settled.{gone_is_unmapped, unmapped_run}}
-use Rattle.mk_laws.{proofs.UnmappedRuns.{unmapped_runs_take_no_memory}, specs.UnmappedRuns.{is_resident_in}}
+use Rattle.std.proofs.Math.Bool.{and-false}
+use Rattle.mk_laws.proofs.Vocabulary.{Bool, Config, Event, Header, IsHistory, List, Object, Option, PlacedAllocation}
+use Rattle.mk_laws.proofs.Vocabulary.{ShowsPart, Step, Storage, Words, ℕ, address_of, ap, append-nil, arith, cases_Bool}
+use Rattle.mk_laws.proofs.Vocabulary.{cell_of_allocation, cells_begin, cond, false, false_from_ne_true, get_or}
+use Rattle.mk_laws.proofs.Vocabulary.{header_at, header_in, header_shows, if◌then◌else◌, inl, inr, is_large}
+use Rattle.mk_laws.proofs.Vocabulary.{is_left_unmarked, is_mapped, is_resident_page, is_run_gone, is_small_object}
+use Rattle.mk_laws.proofs.Vocabulary.{is_some_and, is_unmapped_header, kinds_of, left, map, never_granted, not}
+use Rattle.mk_laws.proofs.Vocabulary.{object_placed, pages_some, phase_of, placed_at, pointed_cell, refl, run_begins}
+use Rattle.mk_laws.proofs.Vocabulary.{storage_of, storage_words, subst, suc, sym, true, true≢false, typed_size}
+use Rattle.mk_laws.proofs.Vocabulary.{use_under, used_at, with_released, words_under, words_within, zero, [], ◌&&◌, ◌*◌}
+use Rattle.mk_laws.proofs.{Vocabulary.{◌+◌, ◌/◌, ◌||◌, ◌∙◌, ◌∷◌, ◌≡◌}, Settled.{gone_is_unmapped, unmapped_run}}
+use Rattle.mk_laws.proofs.{ForImages.gone_is, UnmappedRuns.unmapped_runs_take_no_memory}
 use Rattle.mk_cycle.proofs.Vocabulary.{Acts, HoldsFewer, InTurn, IsAtPhase, IsGone, PassState, allocations_stand}
-use Rattle.mk_cycle.proofs.Vocabulary.{cells_unmarked, held_below, held_by_allocations, made, now_of, sum_below, sum_by}
-use Rattle.mk_cycle.proofs.{Vocabulary.{sum_by-cons, world_of, left_unmarked}, ReleasedCells.{gone_there, plus_zero}}
-use Rattle.mk_cycle.proofs.{ReleasedCells.unmapped_is_large, ReleasedCounts.{phase_there, quiet, same_before}}
-use Rattle.mk_cycle.proofs.{ReleasedCounts.unmarked_are, CellCounts.cells_weigh_as_much, NewlyReleased.is_new}
-use Rattle.mk_cycle.proofs.SumsBelow.{sum_same}
+use Rattle.mk_cycle.proofs.Vocabulary.{cells_unmarked, held_below, held_by_allocations, left_unmarked, made, now_of}
+use Rattle.mk_cycle.proofs.Vocabulary.{sum_below, sum_by, sum_by-cons, world_of}
+use Rattle.mk_cycle.proofs.ReleasedCells.{gone_there, plus_zero, unmapped_is_large}
+use Rattle.mk_cycle.proofs.ReleasedCounts.{phase_there, quiet, same_before, unmarked_are}
+use Rattle.mk_cycle.proofs.{CellCounts.cells_weigh_as_much, NewlyReleased.is_new, SumsBelow.sum_same}
 use Rattle.mk_geom.specs.StorageWords.{held_by_storages}
 use Rattle.mk_core.{proofs.StandingAllocations.{placed_cell}, specs.Allocations.{unreleased_storage}}
 
@@ -55,31 +54,22 @@ held_then c f d weight (a ∷ ys) parts =
     omega arith
 
 -- by whether it was released, and whether it is now
-held_split : (was gone mapped : Bool) (n weight : ℕ)
-    → ((not was && (was || gone)) ≡ true → weight ≡ (if not was && mapped then n else 0))
-    → (if not was && mapped then n else 0)
+held_split : (was gone mapped : Bool) (n weight : ℕ) → ((not was && (was || gone)) ≡ true
+    → weight ≡ (if not was && mapped then n else 0)) → (if not was && mapped then n else 0)
     ≡ (if not (was || gone) && mapped then n else 0) + cond (not was && (was || gone)) weight 0
-held_split true gone mapped n weight is = refl
-held_split false true mapped n weight is = sym (is refl) ∙ sym (zero-add weight)
-held_split false false mapped n weight is = sym (plus_zero _)
+held_split x0 gone mapped n weight is = grind (arith, plus_zero)
 
 if_mapped : (mapped : Bool) (n : ℕ) → (if not mapped then 0 else n) ≡ (if mapped then n else 0)
-if_mapped true n = refl
-if_mapped false n = refl
+if_mapped x0 n = grind arith
 
 -- A run that isn't resident is unmapped.
 not_resident : {o : Object} {x : Option Header} (used : ℕ) → ShowsPart o 0 x → is_small_object o ≡ false
     → is_resident_page (use_under x used) ≡ false → is_unmapped_header x ≡ true
-not_resident used (OfBlock first small leaf) large out = absurd (true≢false (sym small ∙ large))
-not_resident used (OfLeafBlock first small leaf) large out = absurd (true≢false (sym small ∙ large))
-not_resident used (OfRun mapped first big leaf) large out = ap not out
-not_resident used (OfLeafRun first big leaf) large out = absurd (true≢false out)
-not_resident used (OfLater mapped some big) large out = ap not out
+not_resident used x1 large out = grind arith
 
 weigh : (unmapped : Bool) (cells words : ℕ)
     → (if unmapped then 0 else cells * words) ≡ cells * (if unmapped then 0 else words)
-weigh true cells words = omega arith
-weigh false cells words = refl
+weigh x0 cells words = grind arith
 
 -- a history whose next event may be a `release`
 module _ (c : Config) (es : List Event) (h : IsHistory c es) (at : phase_of (left c es).now.words ≡ 3)
@@ -111,25 +101,6 @@ module _ (c : Config) (es : List Event) (h : IsHistory c es) (at : phase_of (lef
       subst (λ (n : ℕ). ShowsPart o 0 (header_in w n)) (plus_zero _ ∙ sym (page_is i u))
       (header_shows o 0 (header_at w (a.base / 64 + 0)) sized some (st.headers 0 some))
 
-  not_resident_there : (i : ℕ) → (placed_at xs i).released ≡ false
-      → is_small_object (object_placed c (placed_at xs i)) ≡ false → is_mapped c (placed_at xs i) ≡ false
-      → is_resident_in (left c es) (page_of_cell i) ≡ false
-  not_resident_there i u large unmapped =
-      let a : PlacedAllocation = placed_at xs i in
-      let o : Object = object_placed c a in
-      let st = allocations_stand c es h i u in
-      let sized = typed_size c a h.within_limits st.stands.typed in
-      let aligned = (run_begins o a.base large st.stands.begins).1 in
-      let some = (words_within o sized).0 in
-      let page = page_is i u in
-      unmapped_runs_take_no_memory c es h es [] (page_of_cell i) (sym (append-nil es)) (record {
-        number = i;
-        unreleased = u;
-        freed = unmapped;
-        page = (omega (arith, aligned, page), omega (arith, aligned, page, some));
-        unmapped = λ run is there. unmapped_run (left c es) (gone_is_unmapped w _ gone) run is;
-      }) refl
-
   -- so the header of a freed one is that of an unmapped run exactly where it isn't mapped.
   unmapped_where : (i : ℕ) → (placed_at xs i).released ≡ false → (placed_at xs i).freed ≡ true
       → is_unmapped_header (header_in w (page_of_cell i)) ≡ not (is_mapped c (placed_at xs i))
@@ -143,7 +114,21 @@ module _ (c : Config) (es : List Event) (h : IsHistory c es) (at : phase_of (lef
             ∙ sym (ap not mapped)
         | inr large ↦
             let unmapped : is_mapped c a ≡ false = grind (arith, gone_is) in
-            not_resident (used_at w (page_of_cell i)) (shows_there i u) large (not_resident_there i u large unmapped)
+            not_resident (used_at w (page_of_cell i)) (shows_there i u) large (
+            let a : PlacedAllocation = placed_at xs i in
+            let o : Object = object_placed c a in
+            let st = allocations_stand c es h i u in
+            let sized = typed_size c a h.within_limits st.stands.typed in
+            let aligned = (run_begins o a.base large st.stands.begins).1 in
+            let some = (words_within o sized).0 in
+            let page = page_is i u in
+            unmapped_runs_take_no_memory c es h es [] (page_of_cell i) (sym (append-nil es)) (record {
+              number = i;
+              unreleased = u;
+              freed = unmapped;
+              page = (omega (arith, aligned, page), omega (arith, aligned, page, some));
+              unmapped = λ run is there. unmapped_run (left c es) (gone_is_unmapped w _ gone) run is;
+            }) refl)
             ∙ sym (ap not unmapped)
       ]
 
@@ -156,9 +141,8 @@ module _ (c : Config) (es : List Event) (h : IsHistory c es) (at : phase_of (lef
       let a : PlacedAllocation = placed_at xs i in
       let known = (unmarked_are h at).quarantined i new in
       let st = allocations_stand c es h i known.0 in
-      ap (λ n. if is_unmapped_header (header_in w (page_of_cell i)) then 0 else n)
-      (cells_begin c w a h.within_limits st.stands st.headers).1
-      ∙ ap (λ b. if b then 0 else storage_words c a) (unmapped_where i known.0 known.1)
+      ap (λ n. if is_unmapped_header (header_in w (page_of_cell i)) then 0 else n) (cells_begin c w a h.within_limits
+      st.stands st.headers).1 ∙ ap (λ b. if b then 0 else storage_words c a) (unmapped_where i known.0 known.1)
       ∙ if_mapped (is_mapped c a) (storage_words c a)
 
   pub held_told : held_by_allocations c xs ≡ held_by_allocations c (map f xs) + held_below w c.pages

@@ -5,8 +5,8 @@ use Rattle.mk_laws.proofs.Vocabulary.{is_held, is_number_of, length, lt-ltb, ne_
 use Rattle.mk_laws.proofs.Vocabulary.{set_past, slice_index, slice_set, sym, true, ◌<◌, ◌==◌, ◌||◌, ◌∙◌, ◌≡◌}
 use Rattle.mk_cycle.proofs.Vocabulary.{Acts, HoldsGates, InTurn, IsEnabledTo, IsFreeForCycle, PassState, WordsState}
 use Rattle.mk_cycle.proofs.Vocabulary.{does_nothing, does_step, does_then, holds_gates, now_of, world_at}
-use Rattle.mk_cycle.proofs.{Allowed.{in_turn_before, protocol}, BeginSteps.all_from, CleaningSteps.calm_keeps}
-use Rattle.mk_cycle.proofs.{KeptInParts.{free_then, keeps_at_once, keeps_then}, MayAct.may_act}
+use Rattle.mk_cycle.proofs.{Allowed.in_turn_before, Allowed.protocol, BeginSteps.all_from, CleaningSteps.calm_keeps}
+use Rattle.mk_cycle.proofs.{KeptInParts.free_then, KeptInParts.keeps_at_once, KeptInParts.keeps_then, MayAct.may_act}
 use Rattle.mk_cycle.specs.{Holding.IsHeldOrOwn, TurnKeeps.unchanged}
 
 pub holds_nothing : (p : PassState) → HoldsGates p p
@@ -44,9 +44,8 @@ stays_held gs i j two = elim (cases_eq j i) [
     | inl near ↦
         let here : slice_index gs i ≡ 2 = ap (λ (k : ℕ). slice_index gs k) (sym e) ∙ two in
         ap (λ (k : ℕ). slice_index (slice_set gs i (if slice_index gs i == 0 then 2 else slice_index gs i)) k) e
-        ∙ get_or-set_same gs i _ 0 near
-        ∙ ap (λ (b : Bool). if b then 2 else slice_index gs i) (ne_eqb (slice_index gs i) 0 (λ z. absurd (omega arith)))
-        ∙ here
+        ∙ get_or-set_same gs i _ 0 near ∙ ap (λ (b : Bool). if b then 2 else slice_index gs i)
+        (ne_eqb (slice_index gs i) 0 (λ z. absurd (omega arith))) ∙ here
   ]
 ]
 

@@ -1,17 +1,11 @@
 -- What is kept in parts is kept.
-use Rattle.mk_laws.proofs.Vocabulary.{Config, Steady, Step, World, ℕ, ap, cases_eq, eq-eqb, has_place, inl, inr}
-use Rattle.mk_laws.proofs.Vocabulary.{is_held, ne_eqb, refl, slice_index, subst, sym, world_behind, ◌<◌, ◌==◌, ◌∙◌, ◌≡◌}
-use Rattle.mk_laws.proofs.Vocabulary.{◌≢◌}
+use Rattle.mk_laws.proofs.Vocabulary.{Config, Steady, Step, World, ℕ, ap, arith, cases_eq, eq-eqb, inl, inr, is_held}
+use Rattle.mk_laws.proofs.Vocabulary.{ne_eqb, refl, slice_index, subst, sym, world_behind, ◌<◌, ◌==◌, ◌∙◌, ◌≡◌, ◌≢◌}
 use Rattle.mk_cycle.proofs.Vocabulary.{Acts, Done, IsFreeForCycle, KeepsCall, KeepsGates, LeavesTurn, PassState}
-use Rattle.mk_cycle.proofs.Vocabulary.{event_of, is_pending_free, world_at}
+use Rattle.mk_cycle.proofs.Vocabulary.{event_of, world_at}
 
 pub calls_then : {p q r : PassState} → KeepsCall p q → KeepsCall q r → KeepsCall p r
-calls_then {r = r} a b = record {
-  pass = b.pass ∙ ap (λ (x : PassState). record x { seen = r.seen }) a.pass;
-  call = b.call ∙ a.call;
-  done = b.done ∙ a.done;
-  gone = λ g. b.gone (a.gone g);
-}
+calls_then a b = grind arith
 
 pub same_config : (p q : PassState) → q ≡ record p { seen = q.seen } → q.table.config ≡ p.table.config
 same_config p q is = ap (λ (x : PassState). x.table.config) is
@@ -49,16 +43,11 @@ held_so a b held free = elim (cases_eq a 2) [
 ]
 
 -- A step that changes no gate: others neither hold one nor open one that is held.
-pub gates_behind : (p : PassState) (s : Step) (q : PassState) (a : Acts p s q)
-    → (world_behind p.table.config (world_at a.makes) (event_of p s)).now.words.gates
-    ≡ (world_at a.makes).now.words.gates → KeepsGates p q
+pub gates_behind : (p : PassState) (s : Step) (q : PassState) (a : Acts p s q) → (world_behind p.table.config
+    (world_at a.makes) (event_of p s)).now.words.gates ≡ (world_at a.makes).now.words.gates → KeepsGates p q
 gates_behind p s q a same j lt =
     ap (λ (w : World). is_held w.now.words j) a.world ∙ ap (λ gs. slice_index gs j == 2) same
     ∙ held_so _ _ (a.turn.held_gates j) (a.turn.other_gates j)
 
 pub free_then : (p q : PassState) → KeepsCall p q → IsFreeForCycle p → IsFreeForCycle q
-free_then p q k free = record {
-  decided = ap is_pending_free k.call ∙ free.decided;
-  unplaced = ap (λ (x : Done). has_place x.placing) k.done ∙ free.unplaced;
-  gone = k.gone free.gone;
-}
+free_then p q k free = grind (arith, Done)

@@ -1,7 +1,7 @@
 -- Lists of allocations after a `release`: what is new there, counted and weighed.
 use Rattle.std.proofs.Common.{filter}
 use Rattle.mk_laws.proofs.Vocabulary.{Bool, List, PlacedAllocation, ℕ, ap, arith, cond, false, get_or, if◌then◌else◌}
-use Rattle.mk_laws.proofs.Vocabulary.{length, map, not, refl, suc, sym, true, true≢false, zero, [], ◌&&◌, ◌+◌, ◌∷◌, ◌≡◌}
+use Rattle.mk_laws.proofs.Vocabulary.{length, map, not, refl, suc, true, zero, [], ◌&&◌, ◌+◌, ◌∷◌, ◌≡◌}
 use Rattle.mk_cycle.proofs.Vocabulary.{count_by, newly_released, releases, sum_by, sum_by-cons}
 use Rattle.mk_cycle.specs.FinishCycle.{is_newly_released}
 
@@ -34,8 +34,7 @@ module _ (f : PlacedAllocation → PlacedAllocation) where
 
   length_cons : (b : Bool) (a : PlacedAllocation) (ys : List PlacedAllocation)
       → length (if b then a ∷ ys else ys) ≡ cond b 1 0 + length ys
-  length_cons true a ys = omega arith
-  length_cons false a ys = omega arith
+  length_cons x0 a ys = grind arith
 
   pub newly_counted : (xs : List PlacedAllocation) → length (newly_released xs (map f xs)) ≡ count_by is_new xs
   newly_counted [] = refl
@@ -47,12 +46,10 @@ module _ (f : PlacedAllocation → PlacedAllocation) where
 
   sum_cons : (g : PlacedAllocation → ℕ) (b : Bool) (a : PlacedAllocation) (ys : List PlacedAllocation)
       → sum_by g (if b then a ∷ ys else ys) ≡ cond b (g a) 0 + sum_by g ys
-  sum_cons g true a ys = sum_by-cons g a ys
-  sum_cons g false a ys = omega arith
+  sum_cons g x1 a ys = grind (arith, sum_by-cons)
 
-  pub newly_weighed : (g : PlacedAllocation → ℕ) → ((a : PlacedAllocation) → g (f a) ≡ g a)
-      → (xs : List PlacedAllocation)
-      → sum_by g (newly_released xs (map f xs)) ≡ sum_by (λ x. cond (is_new x) (g x) 0) xs
+  pub newly_weighed : (g : PlacedAllocation → ℕ) → ((a : PlacedAllocation) → g (f a) ≡ g a) → (xs : List
+      PlacedAllocation) → sum_by g (newly_released xs (map f xs)) ≡ sum_by (λ x. cond (is_new x) (g x) 0) xs
   newly_weighed g same [] = refl
   newly_weighed g same (a ∷ ys) =
       let first = sum_cons g (is_new a) (f a) (newly_released ys (map f ys)) in
@@ -63,10 +60,7 @@ module _ (f : PlacedAllocation → PlacedAllocation) where
       omega arith
 
   one_more : (was is : Bool) → (was ≡ true → is ≡ true) → cond {A = ℕ} is 1 0 ≡ cond was 1 0 + cond (not was && is) 1 0
-  one_more true true stays = refl
-  one_more true false stays = absurd (true≢false (sym (stays refl)))
-  one_more false true stays = refl
-  one_more false false stays = refl
+  one_more x0 x1 stays = grind arith
 
   -- Released allocations stay so, and the new ones come to them.
   pub newly_added : ((a : PlacedAllocation) → a.released ≡ true → (f a).released ≡ true) → (xs : List PlacedAllocation)
@@ -88,8 +82,7 @@ module _ (f : PlacedAllocation → PlacedAllocation) where
   left_filtered t d (a ∷ ys) left none =
       by (t a) refl (left_filtered t d ys (λ i. left (suc i)) (λ i. none (suc i)))
     where
-      by : (b : Bool) → t a ≡ b → filter t (map f ys) ≡ filter t ys
-          → (if t (f a) then f a ∷ filter t (map f ys) else filter t (map f ys))
-          ≡ (if t a then a ∷ filter t ys else filter t ys)
+      by : (b : Bool) → t a ≡ b → filter t (map f ys) ≡ filter t ys → (if t (f a) then f a ∷ filter t
+          (map f ys) else filter t (map f ys)) ≡ (if t a then a ∷ filter t ys else filter t ys)
       by true is rest = cc (left zero is)
       by false is rest = cc (none zero is)

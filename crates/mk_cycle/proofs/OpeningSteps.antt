@@ -1,21 +1,20 @@
 -- The gates are opened after a `release`.
 use Rattle.mk_laws.proofs.Vocabulary.{Bool, Config, Event, IsHistory, List, Seat, Step, Words, World, ℕ, all_below-at}
-use Rattle.mk_laws.proofs.Vocabulary.{and_from, ap, append-nil, append_assoc, earlier_part_is_history, false, inl, inr}
-use Rattle.mk_laws.proofs.Vocabulary.{is_held, is_number_of, is_one_of, lt-ltb, not, others_are_held, refl, slice_index}
-use Rattle.mk_laws.proofs.{Vocabulary.{subst, sym, true, [], ◌++◌, ◌==◌, ◌||◌, ◌∙◌, ◌∷◌, ◌≡◌}, Actors.is_holders}
-use Rattle.mk_laws.proofs.{FramesHolders.acts_as_holder, Known.holds_turn, LastEvents.comes_last, Orderly.same_holder}
-use Rattle.mk_laws.proofs.{OrderlyLists.actor_of, ProtocolFrames.others_leave, Views.view_of}
-use Rattle.mk_cycle.proofs.Vocabulary.{GivesNothingBack, InTurn, IsAtPhase, IsFreeForCycle, Makes, PassState, call_of}
-use Rattle.mk_cycle.proofs.{Vocabulary.{event_of, now_of, stands, world_at}, FreeingSteps.{freed_free, freed_phase}}
-use Rattle.mk_cycle.proofs.{FreeingSteps.{frees_step, open_gives, others_free}, GivingSteps.{none_at_once, none_then}}
-use Rattle.mk_cycle.proofs.{GivingSteps.state_there, Allowed.protocol, MayAct.may_act}
+use Rattle.mk_laws.proofs.Vocabulary.{and_from, ap, append-nil, append_assoc, arith, earlier_part_is_history, false}
+use Rattle.mk_laws.proofs.Vocabulary.{inl, inr, is_held, is_number_of, is_one_of, lt-ltb, not, others_are_held, refl}
+use Rattle.mk_laws.proofs.Vocabulary.{slice_index, subst, sym, true, [], ◌++◌, ◌==◌, ◌||◌, ◌∙◌, ◌∷◌, ◌≡◌}
+use Rattle.mk_laws.proofs.{Actors.is_holders, FramesHolders.acts_as_holder, Known.holds_turn, LastEvents.comes_last}
+use Rattle.mk_laws.proofs.{Orderly.same_holder, OrderlyLists.actor_of, ProtocolFrames.others_leave, Views.view_of}
+use Rattle.mk_cycle.proofs.Vocabulary.{GivesNothingBack, InTurn, IsAtPhase, IsFreeForCycle, Makes, PassState, event_of}
+use Rattle.mk_cycle.proofs.{Vocabulary.{now_of, stands, world_at}, FreeingSteps.{freed_free, freed_phase, frees_step}}
+use Rattle.mk_cycle.proofs.{FreeingSteps.{open_gives, others_free}, GivingSteps.{none_at_once, none_then, state_there}}
+use Rattle.mk_cycle.proofs.{Allowed.protocol, MayAct.may_act}
 use Rattle.mk_core.specs.{Growing.AreOfOthers, Words.page_of}
 use Rattle.mk_words.proofs.{Seats.others_own, TurnSteps.{acts, still_turn}}
 use Rattle.mk_words.specs.Opening.{OnlyOpen, Opens, OthersMayOpen, is_open}
 
 open_is_holders : (x : Step) → is_open x ≡ true → is_holders x ≡ true
-open_is_holders (Step.Open j) h = refl
-open_is_holders _ h = cc
+open_is_holders x0 h = grind arith
 
 -- Only the turn's holder opens a gate.
 opens_itself : {p : PassState} (e : Event) → InTurn p → IsHistory p.table.config (p.seen ++ e ∷ [])
@@ -39,19 +38,7 @@ behind p es = record p { seen = p.seen ++ es }
 by_another : {p : PassState} (e : Event) → InTurn p → IsAtPhase p 4 → IsHistory p.table.config (p.seen ++ e ∷ [])
     → is_one_of p.seats e.seat ≡ false → Further p (behind p (e ∷ []))
 unfolding behind AreOfOthers
-by_another {p} e t at h other =
-    let c : Config = p.table.config in
-    let others : AreOfOthers p.seats (e ∷ []) = (other, tt) in
-    let before = earlier_part_is_history c p.seen (e ∷ []) h in
-    let frame = others_leave c p.seen (e ∷ []) p.seat before.within_limits h.enabled
-    (others_own p.seats p.seat (e ∷ []) t.own others) in
-    record {
-      none = record {
-        frees = others_free (e ∷ []) t others h at;
-        same = λ r. state_there _ _ (frame.turn t.holds).0.steady r;
-      };
-      turn = record { own = t.own; holds = (frame.own.holding t.holds).0; history = h };
-    }
+by_another e t at h other = grind (arith, earlier_part_is_history, others_leave, others_own, others_free, state_there)
 
 by_itself : {p : PassState} (j : ℕ) → InTurn p → IsFreeForCycle p → IsAtPhase p 4 → IsHistory p.table.config
     (p.seen ++ event_of p (Step.Open j) ∷ []) → Further p (behind p (event_of p (Step.Open j) ∷ []))
@@ -66,8 +53,7 @@ by_itself {p} j t free at h =
       pass = record { own = t.own; history = h };
     } in
     let a = acts p (Step.Open j) q makes t.holds in
-    let turn = still_turn p (Step.Open j) q makes refl
-    (record { holds = t.holds }) in
+    let turn = still_turn p (Step.Open j) q makes refl (record { holds = t.holds }) in
     let next : InTurn q = record { own = t.own; holds = turn.holds; history = h } in
     record {
       none = record {
@@ -114,9 +100,7 @@ opens_all (e ∷ es) p t free at only h =
 pub opens_frees : {p q : PassState} → InTurn p → IsFreeForCycle p → IsAtPhase p 4 → Opens p q
     → IsHistory q.table.config q.seen → GivesNothingBack p q
 unfolding behind
-opens_frees {p} t free at o h =
-    subst (λ (x : PassState). GivesNothingBack p x) (sym o.is)
-    (opens_all o.more p t free at o.only (subst (λ (x : PassState). IsHistory x.table.config x.seen) o.is h))
+opens_frees t free at o h = grind (arith, opens_all)
 
 -- While all is stopped and the run that the call freed is gone, each gate may be opened.
 pub others_may_open : {p : PassState} → InTurn p → IsFreeForCycle p → IsAtPhase p 4
@@ -124,6 +108,5 @@ pub others_may_open : {p : PassState} → InTurn p → IsFreeForCycle p → IsAt
 others_may_open {p} t free at held j le lt other =
     let w : Words = (now_of p).words in
     let all = all_below-at p.table.config.callers j (λ i. is_number_of p.seat i || is_held w i) held lt in
-    may_act p (Step.Open j) (protocol p t free) t.holds free.decided refl
-    (and_from _ (not _) (lt-ltb j _ lt) (ap not other)) (sym (ap (λ (b : Bool). b || is_held w j) other) ∙ all)
-    (ap (λ (n : ℕ). not (n == 3)) at) free.gone
+    may_act p (Step.Open j) (protocol p t free) t.holds free.decided refl (and_from _ (not _) (lt-ltb j _ lt)
+    (ap not other)) (sym (ap (λ (b : Bool). b || is_held w j) other) ∙ all) (ap (λ (n : ℕ). not (n == 3)) at) free.gone

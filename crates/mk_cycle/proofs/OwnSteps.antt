@@ -30,9 +30,7 @@ flight_behind c m Host s p h st = refl
 pub undecided : (c : Config) (m : Moment) (seat : Seat) (s : Step)
     → ((n : ℕ) → progress c m (flight_of m seat) n s ≡ still (flight_of m seat))
     → answer_decided c m (record { seat = seat; step = s }) ≡ None
-undecided c m (Caller k) s st = ap (λ (x : Progress). x.answer) (st _)
-undecided c m (Marker k) s st = refl
-undecided c m Host s st = refl
+undecided c m x2 s st = grind arith
 
 pub no_more_calls : (c : Config) (es : List Event) (e : Event) → answer_decided c (left c es).now e ≡ None
     → calls c (es ++ e ∷ []) ≡ calls c es
@@ -61,14 +59,12 @@ module _ (p : PassState) (s : Step) (q : PassState) (a : Acts p s q) (own : Has 
   pub same_call : ((n : ℕ) → progress c m (flight_of m p.seat) n s ≡ still (flight_of m p.seat)) → call_of q ≡ call_of p
   same_call st = grind (arith, flight_behind, holds_there)
 
-  same_done : ((n : ℕ)
-      → done_in (holding_behind c m p.seat (flight_of m p.seat) n s m.seats.holding) ≡ done_in m.seats.holding)
-      → done_of (now_of q) ≡ done_of (now_of p)
+  same_done : ((n : ℕ) → done_in (holding_behind c m p.seat (flight_of m p.seat) n s m.seats.holding)
+      ≡ done_in m.seats.holding) → done_of (now_of q) ≡ done_of (now_of p)
   same_done k = ap (λ (w : World). done_of w.now) a.world ∙ k _ ∙ ap (λ (h : Holding). done_in h) a.holding
 
-  pub still_gone : ((n : ℕ)
-      → (holding_behind c m p.seat (flight_of m p.seat) n s m.seats.holding).freed ≡ m.seats.holding.freed)
-      → is_heap_store s ≡ false → IsGone p → IsGone q
+  pub still_gone : ((n : ℕ) → (holding_behind c m p.seat (flight_of m p.seat) n s m.seats.holding).freed
+      ≡ m.seats.holding.freed) → is_heap_store s ≡ false → IsGone p → IsGone q
   still_gone k none gone =
       let at = holder_finds c p.seat p.seen a.makes.others d.history d.others holds in
       let here : is_run_gone m.words m.seats.holding.freed ≡ true = grind arith in
@@ -77,9 +73,8 @@ module _ (p : PassState) (s : Step) (q : PassState) (a : Acts p s q) (own : Has 
       ap (λ (w : World). is_run_gone w.now.words w.now.seats.holding.freed) a.world
       ∙ ap (λ (x : Option RunPages). is_run_gone (moment_behind c m (event_of p s)).words x) (k _) ∙ behind
     where
-      gone_on : (freed : Option RunPages) → m.seats.holding.freed ≡ freed
-          → is_run_gone m.words m.seats.holding.freed ≡ true
-          → is_run_gone (moment_behind c m (event_of p s)).words freed ≡ true
+      gone_on : (freed : Option RunPages) → m.seats.holding.freed ≡ freed → is_run_gone m.words m.seats.holding.freed
+          ≡ true → is_run_gone (moment_behind c m (event_of p s)).words freed ≡ true
       gone_on None is g = refl
       gone_on (Some r) is g =
           let known = stands c (p.seen ++ a.makes.others) d.history in

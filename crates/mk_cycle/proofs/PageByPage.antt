@@ -2,12 +2,12 @@
 -- those still to come, goes on.
 use Rattle.std.proofs.Common.{le-ltb, ltb-false}
 use Rattle.mk_laws.proofs.Vocabulary.{Free, Header, Option, Some, Words, ℕ, and_from, ap, arith, cases_lt, eq-eqb}
-use Rattle.mk_laws.proofs.Vocabulary.{false, header_at, header_in, header_of, inl, inr, lt-ltb, nat_lt, not, or_parts}
-use Rattle.mk_laws.proofs.Vocabulary.{refl, run_count, slice_index, sym, use_under, used_at, ◌+◌, ◌<◌, ◌∙◌, ◌≡◌, ◌≤◌}
+use Rattle.mk_laws.proofs.Vocabulary.{false, header_at, header_in, header_of, inl, inr, lt-ltb, not, or_parts, refl}
+use Rattle.mk_laws.proofs.Vocabulary.{run_count, slice_index, sym, use_under, used_at, ◌+◌, ◌<◌, ◌∙◌, ◌≡◌, ◌≤◌}
 use Rattle.mk_cycle.proofs.Vocabulary.{Frees, FreesPage, HasFreeCells, InTurn, IsOccupied, IsSettledPage, PassState}
 use Rattle.mk_cycle.proofs.Vocabulary.{Released, SamePage, below_more, held_below, held_unmarked, now_of}
 use Rattle.mk_cycle.proofs.{Vocabulary.{released_below, released_on}, CountedPages.{counted_more, held_more, held_same}}
-use Rattle.mk_cycle.proofs.{CountedPages.{none_held, nothing_on, same_released, told_same}, SumsBelow.sum_past}
+use Rattle.mk_cycle.{proofs.CountedPages.{none_held, nothing_on, same_released, told_same}, proofs.SumsBelow.{sum_past}}
 use Rattle.mk_cycle.proofs.SettledPages.{free_cells_stay, head_elsewhere, no_cells, no_snapshot, none_left}
 use Rattle.mk_cycle.proofs.{SettledPages.{same_occupied, still_settled}, FreeingSteps.{frees_nothing, frees_then}}
 use Rattle.mk_geom.{proofs.HeaderLemmas.{word_of-header_of}, specs.PageUses.{is_free_page}}
@@ -51,9 +51,8 @@ module _ (p : PassState) {q r : PassState} {n : ℕ} (pages : ℕ) (page : Frees
   same_on before s le = page.others s (λ e. absurd (omega (arith, e, le))) ∙ before s (omega (arith, le))
 
   -- A page past the run that is headed there has its head elsewhere, so it stays occupied.
-  occupied_on : InTurn q → (end now : ℕ) → end ≤ now
-      → ((s : ℕ) → now ≤ s → n < s → s < pages → n + run_count (header_in (now_of q).words n) ≤ s)
-      → ((s : ℕ) → n ≤ s → end ≤ s → s < pages → IsOccupied q s)
+  occupied_on : InTurn q → (end now : ℕ) → end ≤ now → ((s : ℕ) → now ≤ s → n < s → s < pages
+      → n + run_count (header_in (now_of q).words n) ≤ s) → ((s : ℕ) → n ≤ s → end ≤ s → s < pages → IsOccupied q s)
       → (s : ℕ) → n + 1 ≤ s → now ≤ s → s < pages → IsOccupied r s
   occupied_on t end now le past before s after far few =
       let was = before s (omega (arith, after)) (omega (arith, le, far)) few in
@@ -87,9 +86,6 @@ free_header h _ u is free = cc
 pub no_header : (w : Words) (n : ℕ) → is_in_use w.pages n ≡ false → header_at w n ≡ 0
 no_header w n free = free_header (header_at w n) (header_of (header_at w n)) (used_at w n) refl free
 
-not_below : (r end : ℕ) → nat_lt r end ≡ false → end ≤ r
-not_below r end h = ltb-false r end h
-
 -- A page without freed cells that is occupied is settled, and nothing was released on it.
 module _ {q : PassState} (t : InTurn q) (n : ℕ) (bare : has_freed_cells (now_of q).words.freed n ≡ false) where
   snapshot_none : slice_index (now_of q).words.snapshot n ≡ 0
@@ -109,15 +105,7 @@ module _ (p : PassState) {q : PassState} (t : InTurn q) (n m end pages : ℕ) (l
   bare_there r after lt = (or_parts _ _ (out r after lt)).1
 
   past_end : (r : ℕ) → n ≤ r → r < m → end ≤ r
-  past_end r after lt = not_below r end (or_parts _ _ (out r after lt)).0
-
-  settled_past : ((r : ℕ) → r < n → IsSettledPage q r) → ((r : ℕ) → n ≤ r → end ≤ r → r < pages → IsOccupied q r)
-      → (r : ℕ) → r < m → IsSettledPage q r
-  settled_past before occupied r lt = elim (cases_lt r n) [
-    | inl below ↦ before r below
-    | inr above ↦ bare_is_settled t r (bare_there r above lt)
-        (occupied r above (past_end r above lt) (omega (arith, lt, few)))
-  ]
+  past_end r after lt = ltb-false r end (or_parts _ _ (out r after lt)).0
 
   counted_past : ((r : ℕ) → n ≤ r → SamePage p q r)
       → released_below (now_of p).words n ≡ released_below (now_of p).words m
@@ -134,7 +122,12 @@ module _ (p : PassState) {q : PassState} (t : InTurn q) (n m end pages : ℕ) (l
       → AreSettledBelow p q pages m end all held
   settled_to before = record {
     frees = before.frees;
-    settled = settled_past before.settled before.occupied;
+    settled = λ r lt.
+        elim (cases_lt r n) [
+          | inl below ↦ before.settled r below
+          | inr above ↦ bare_is_settled t r (bare_there r above lt)
+              (before.occupied r above (past_end r above lt) (omega (arith, lt, few)))
+        ];
     cells = λ r after lt. before.cells r (omega (arith, le, after)) lt;
     same = λ r after. before.same r (omega (arith, le, after));
     occupied = λ r after far lt. before.occupied r (omega (arith, le, after)) far lt;

@@ -1,23 +1,8 @@
 -- Cells have whole pairs of words.
-use Rattle.mk_laws.proofs.Vocabulary.{Block, Free, Header, Later, LeafBlock, LeafRun, None, Option, Run, Some, ℕ, arith}
-use Rattle.mk_laws.proofs.Vocabulary.{class_words_of, refl, suc, words_under, zero, ◌*◌, ◌/◌, ◌≡◌}
+use Rattle.mk_laws.proofs.Vocabulary.{Header, Option, ℕ, arith, class_words_of, words_under, ◌*◌, ◌/◌, ◌≡◌}
 
 classes_have : (class : ℕ) → 2 * (class_words_of class / 2) ≡ class_words_of class
-classes_have zero = refl
-classes_have (suc zero) = refl
-classes_have (suc (suc zero)) = refl
-classes_have (suc (suc (suc zero))) = refl
-classes_have (suc (suc (suc (suc zero)))) = refl
-classes_have (suc (suc (suc (suc (suc zero))))) = refl
-classes_have (suc (suc (suc (suc (suc (suc zero)))))) = refl
-classes_have (suc (suc (suc (suc (suc (suc (suc zero))))))) = refl
-classes_have (suc (suc (suc (suc (suc (suc (suc (suc n)))))))) = refl
+classes_have x0 = grind arith
 
 pub have_whole_pairs : (x : Option Header) → 2 * (words_under x / 2) ≡ words_under x
-have_whole_pairs (Some (Block class)) = classes_have class
-have_whole_pairs (Some (LeafBlock class)) = classes_have class
-have_whole_pairs (Some (Run pages mapped)) = omega arith
-have_whole_pairs (Some (LeafRun pages)) = omega arith
-have_whole_pairs (Some (Later distance mapped)) = refl
-have_whole_pairs (Some Free) = refl
-have_whole_pairs None = refl
+have_whole_pairs x0 = grind (arith, classes_have)

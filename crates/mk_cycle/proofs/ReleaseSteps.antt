@@ -2,9 +2,9 @@
 use Rattle.mk_laws.proofs.Vocabulary.{Config, Steady, Step, Words, World, ℕ, ap, arith, fresh_words_of, map, phase_of}
 use Rattle.mk_laws.proofs.Vocabulary.{refl, subst, with_released, [], ◌%◌, ◌+◌, ◌/◌, ◌<◌, ◌^◌, ◌∙◌, ◌≡◌, ◌≤◌}
 use Rattle.mk_cycle.proofs.Vocabulary.{Acts, InTurn, IsAtPhase, IsFreeForCycle, LeavesTurn, PassState}
-use Rattle.mk_cycle.proofs.{Vocabulary.{count_by-le-length, made, steady_of, world_at, world_of}, Allowed.protocol}
-use Rattle.mk_cycle.proofs.{BeginSteps.counts_then, CleaningSteps.calm_keeps, KeptInParts.{calls_then, free_then}}
-use Rattle.mk_cycle.proofs.{KeptInParts.same_config, ReleasedCounts.fresh_words_stay}
+use Rattle.mk_cycle.proofs.Vocabulary.{count_by-le-length, made, steady_of, world_at, world_of}
+use Rattle.mk_cycle.proofs.{Allowed.protocol, BeginSteps.counts_then, CleaningSteps.calm_keeps, KeptInParts.calls_then}
+use Rattle.mk_cycle.proofs.{KeptInParts.free_then, KeptInParts.same_config, ReleasedCounts.fresh_words_stay}
 use Rattle.mk_cycle.specs.{EngineLaw.ClosesMarks, Releasing.ReleasesUnmarked, TurnKeeps.but_phase}
 use Rattle.mk_words.specs.Steps.{moment_of}
 

@@ -1,23 +1,21 @@
 -- After a `release` the released cells have no word of a mapped allocation.
 use Rattle.std.proofs.Math.Bool.{and-false}
-use Rattle.mk_cycle.proofs.Vocabulary.{Acts, AreFreeCells, HasFreeCells, InTurn, IsAtPhase, IsGone, IsOccupied}
-use Rattle.mk_cycle.proofs.Vocabulary.{IsUnmappedWord, IsZero, PassState, allocations_stand, holder_finds}
-use Rattle.mk_cycle.proofs.Vocabulary.{left_unmarked, made, now_of, stands, world_at}
-use Rattle.mk_laws.proofs.Vocabulary.{Bool, Chosen, Config, Event, Granted, Header, InPlot, IsFreedCell, IsHistory}
-use Rattle.mk_laws.proofs.Vocabulary.{IsWordOf, IsWordOfMapped, List, Object, OfBlock, OfLater, OfLeafBlock, OfLeafRun}
-use Rattle.mk_laws.proofs.Vocabulary.{OfRun, Option, PlacedAllocation, Placing, ShowsPart, Steady, Step, Unplaced, Used}
-use Rattle.mk_laws.proofs.Vocabulary.{World, ℕ, and_parts, ap, arith, cases_eq, cells_begin, changed_at, eq-eqb, false}
-use Rattle.mk_laws.proofs.Vocabulary.{has_bit, has_bit_without, has_place, head_page, header_at, header_in}
-use Rattle.mk_laws.proofs.Vocabulary.{header_shows, inl, inr, is_large, is_mapped, is_phase, is_released_in}
-use Rattle.mk_laws.proofs.Vocabulary.{is_run_gone, is_small_object, is_unmapped_header, kinds_of, large_is_not_small}
-use Rattle.mk_laws.proofs.Vocabulary.{map, ne_eqb, not, object_placed, or_right, pages_made, pages_some, phase_of}
-use Rattle.mk_laws.proofs.Vocabulary.{placed_at, plot_of, refl, released_where_left, slice_index, storage_of, subst}
-use Rattle.mk_laws.proofs.Vocabulary.{sym, true, true≢false, typed_size, used_at, with_released, words_under, ◌&&◌, ◌*◌}
-use Rattle.mk_laws.proofs.Vocabulary.{◌++◌, ◌+◌, ◌/◌, ◌<◌, ◌==◌, ◌||◌, ◌∙◌, ◌≡◌, ◌⊎◌}
-use Rattle.mk_laws.proofs.{FreeWords.unmapped_words_are_zero, InvariantTheorems.allocations_are_disjoint}
-use Rattle.mk_laws.{proofs.MappedWords.{mapped_stays}, specs.FreeWords.{IsOfNoneMapped}}
+use Rattle.mk_cycle.proofs.Vocabulary.{Acts, AreFreeCells, HasFreeCells, InTurn, IsAtPhase, IsGone, IsOccupied, IsZero}
+use Rattle.mk_cycle.proofs.Vocabulary.{PassState, allocations_stand, holder_finds, left_unmarked, made, now_of, stands}
+use Rattle.mk_cycle.{proofs.Vocabulary.{world_at}, specs.Freeing.{is_occupied_page}}
+use Rattle.mk_laws.proofs.Vocabulary.{Bool, Config, Event, Header, InPlot, IsFreedCell, IsHistory, IsWordOf}
+use Rattle.mk_laws.proofs.Vocabulary.{IsWordOfMapped, List, Object, Option, PlacedAllocation, Placing, ShowsPart}
+use Rattle.mk_laws.proofs.Vocabulary.{Steady, Step, World, ℕ, and_parts, ap, arith, cases_eq, cells_begin, changed_at}
+use Rattle.mk_laws.proofs.Vocabulary.{eq-eqb, false, has_bit, has_bit_without, has_place, head_page, header_at}
+use Rattle.mk_laws.proofs.Vocabulary.{header_in, header_shows, inl, inr, is_large, is_mapped, is_phase, is_run_gone}
+use Rattle.mk_laws.proofs.Vocabulary.{is_small_object, is_unmapped_header, kinds_of, large_is_not_small, map, ne_eqb}
+use Rattle.mk_laws.proofs.Vocabulary.{not, object_placed, or_right, pages_made, pages_some, phase_of, placed_at}
+use Rattle.mk_laws.proofs.Vocabulary.{plot_of, refl, released_where_left, slice_index, storage_of, subst, sym, true}
+use Rattle.mk_laws.proofs.Vocabulary.{true≢false, typed_size, used_at, with_released, words_under, ◌&&◌, ◌*◌, ◌++◌, ◌+◌}
+use Rattle.mk_laws.proofs.{Vocabulary.{◌/◌, ◌<◌, ◌==◌, ◌||◌, ◌∙◌, ◌≡◌}, FreeWords.unmapped_words_are_zero}
+use Rattle.mk_laws.proofs.{InvariantTheorems.allocations_are_disjoint, MappedWords.mapped_stays}
 use Rattle.mk_core.proofs.StandingAllocations.{placed_cell}
-use Rattle.mk_cycle.specs.Freeing.{is_occupied_page}
+use Rattle.mk_laws.specs.FreeWords.{IsOfNoneMapped}
 
 pub plus_zero : (n : ℕ) → n + 0 ≡ n
 plus_zero n = omega arith
@@ -25,11 +23,7 @@ plus_zero n = omega arith
 -- What shows an unmapped run shows a large object.
 pub unmapped_is_large : {o : Object} {x : Option Header} → ShowsPart o 0 x → is_unmapped_header x ≡ true
     → is_small_object o ≡ false
-unmapped_is_large (OfBlock first small leaf) h = absurd (true≢false (sym h))
-unmapped_is_large (OfLeafBlock first small leaf) h = absurd (true≢false (sym h))
-unmapped_is_large (OfRun mapped first large leaf) h = large
-unmapped_is_large (OfLeafRun first large leaf) h = large
-unmapped_is_large (OfLater mapped some large) h = large
+unmapped_is_large x0 h = grind arith
 
 module _ {d q : PassState} (t : InTurn d) (u : InTurn q) (at : IsAtPhase d 3) (a : Acts d Step.Release q) where
   abbrev c : Config
@@ -54,13 +48,10 @@ module _ {d q : PassState} (t : InTurn d) (u : InTurn q) (at : IsAtPhase d 3) (a
       let in_snapshot = (and_parts (has_bit (slice_index w.now.words.snapshot page) k)
       (not (has_bit (slice_index w.now.words.marks page) k))
       (sym (has_bit_without (slice_index w.now.words.snapshot page) (slice_index w.now.words.marks page) k) ∙ has)).0 in
-      by (order.quarantined.owned page k (order.quarantined.within page k in_snapshot))
-    where
-      by : IsFreedCell c w.allocations page k
-          ⊎ (is_released_in (is_phase w.now.words 4) w.now.words.snapshot w.now.words.marks page k ≡ true)
-          → IsFreedCell c w.allocations page k
-      by (inl f) = f
-      by (inr r) = grind (arith, not_releasing)
+      elim (order.quarantined.owned page k (order.quarantined.within page k in_snapshot)) [
+        | inl f ↦ f
+        | inr r ↦ grind (arith, not_releasing)
+      ]
 
   -- no allocation that is still mapped has one of its words
   none_mapped : {page k : ℕ} (n : ℕ) (f : IsFreedCell c w.allocations page k)
@@ -84,8 +75,7 @@ module _ {d q : PassState} (t : InTurn d) (u : InTurn q) (at : IsAtPhase d 3) (a
       ∙ ap (λ (i : ℕ). (with_released c w.now.words (placed_at w.allocations i)).released) (sym number) ∙ kept)
     where
       first_of_or : (b e : Bool) → (b || e) ≡ false → b ≡ false
-      first_of_or true e h = cc
-      first_of_or false e h = refl
+      first_of_or x0 e h = grind arith
 
   -- The allocation of a cell whose header is that of an unmapped run isn't mapped,
   unmapped_owner : {page k : ℕ} (f : IsFreedCell c w.allocations page k)
@@ -118,9 +108,8 @@ module _ {d q : PassState} (t : InTurn d) (u : InTurn q) (at : IsAtPhase d 3) (a
       none : IsOfNoneMapped c w.allocations n
       none i mapped there =
           let history = (made d Step.Release q a.makes).history in
-          let number : i ≡ f.number =
-          allocations_are_disjoint c es history i f.number n (mapped_stays c (placed_at w.allocations i) mapped)
-          f.unreleased there word in
+          let number : i ≡ f.number = allocations_are_disjoint c es history i f.number n
+          (mapped_stays c (placed_at w.allocations i) mapped) f.unreleased there word in
           true≢false (sym (subst (λ (j : ℕ). is_mapped c (placed_at w.allocations j) ≡ true) number mapped)
           ∙ unmapped_owner f unmapped)
 
@@ -133,24 +122,9 @@ module _ {d q : PassState} (t : InTurn d) (u : InTurn q) (at : IsAtPhase d 3) (a
   word_of page k i = 64 * page + k * size page + i
 
   owned_word : {page k : ℕ} (i : ℕ) → has_bit (left_unmarked w.now.words page) k ≡ true → i < size page
-      → (f : IsFreedCell c w.allocations page k)
-      → (word_of page k i < 64 * c.pages)
-      × IsWordOf (storage_of c (placed_at w.allocations f.number)) (word_of page k i)
+      → (f : IsFreedCell c w.allocations page k) → (word_of page k i < 64 * c.pages) × IsWordOf
+      (storage_of c (placed_at w.allocations f.number)) (word_of page k i)
   owned_word i has small f = grind (arith, made, allocations_stand, es, cells_begin)
-
-  unmapped_there : (page k i : ℕ) → has_bit (left_unmarked w.now.words page) k ≡ true → i < size page
-      → IsUnmappedWord q (word_of page k i)
-  unmapped_there page k i has small =
-      let f = owner page k has in
-      let n : ℕ = word_of page k i in
-      let own = owned_word i has small f in
-      record {
-        within = subst (λ (e : Config). n < 64 * e.pages) (sym same_table) own.0;
-        unmapped = λ m. none_mapped n f has own.1
-            (subst (λ (e : Config). IsWordOfMapped e (map (with_released c w.now.words) w.allocations) n) same_table
-            (subst (λ (xs : List PlacedAllocation). IsWordOfMapped q.table.config xs n)
-            (ap (λ (x : World). x.allocations) a.world) m));
-      }
 
   zero_there : IsGone d → (page k i : ℕ) → is_unmapped_header (header_in w.now.words page) ≡ true
       → has_bit (left_unmarked w.now.words page) k ≡ true → i < size page → IsZero q (word_of page k i)
@@ -161,9 +135,21 @@ module _ {d q : PassState} (t : InTurn d) (u : InTurn q) (at : IsAtPhase d 3) (a
 
   pub cells_are_free : IsGone d → (page : ℕ) → HasFreeCells q page
   cells_are_free gone page =
-      subst (λ (x : World). AreFreeCells q page (header_at x.now.words page) (left_unmarked x.now.words page))
-      (sym a.world)
-      (record { unmapped = unmapped_there page; wiped = λ unmapped k i. zero_there gone page k i unmapped })
+      subst (λ (x : World). AreFreeCells q page (header_at x.now.words page) (left_unmarked x.now.words page)) (sym
+      a.world) (record {
+        unmapped = λ k i has small.
+            let f = owner page k has in
+            let n : ℕ = word_of page k i in
+            let own = owned_word i has small f in
+            record {
+              within = subst (λ (e : Config). n < 64 * e.pages) (sym same_table) own.0;
+              unmapped = λ m. none_mapped n f has own.1
+                  (subst (λ (e : Config). IsWordOfMapped e (map (with_released c w.now.words) w.allocations) n)
+                  same_table (subst (λ (xs : List PlacedAllocation). IsWordOfMapped q.table.config xs n)
+                  (ap (λ (x : World). x.allocations) a.world) m));
+            };
+        wiped = λ unmapped k i. zero_there gone page k i unmapped;
+      })
 
   -- A page with a header has a used cell, a run's at its head: no New has a place.
   pub pages_are_occupied : has_place (now_of d).seats.holding.placing ≡ false → (page : ℕ) → IsOccupied q page
@@ -176,10 +162,7 @@ module _ {d q : PassState} (t : InTurn d) (u : InTurn q) (at : IsAtPhase d 3) (a
       unplaced = grind (arith, holder_finds, history, made)
 
       no_plot : (o : Object) (placing : Placing) → has_place placing ≡ false → InPlot (plot_of o placing) page → ⊥
-      no_plot o Unplaced h within = within
-      no_plot o Granted h within = within
-      no_plot o (Chosen place) h within = cc
-      no_plot o (Used place) h within = cc
+      no_plot o x1 h within = grind arith
 
       there : is_occupied_page w.now.words page ≡ true
       there = elim (cases_eq (header_at w.now.words page) 0) [

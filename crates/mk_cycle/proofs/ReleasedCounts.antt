@@ -16,9 +16,7 @@ use Rattle.mk_cycle.specs.{FinishCycle.is_in_snapshot_of_cycle, ReleasedPages.{c
 
 -- what is left of a bit of the snapshot that isn't left unmarked is marked
 marked_rest : (s m : Bool) → (s && not (s && not m)) ≡ (s && m)
-marked_rest true true = refl
-marked_rest true false = refl
-marked_rest false m = refl
+marked_rest x0 m = grind arith
 
 -- a history whose next event may be a `release`
 module _ {c : Config} {es : List Event} (h : IsHistory c es) (at : phase_of (left c es).now.words ≡ 3) where
@@ -43,9 +41,8 @@ module _ {c : Config} {es : List Event} (h : IsHistory c es) (at : phase_of (lef
       → has_bit_of c w.snapshot (placed_at xs i) ≡ ((placed_at xs i).freed && not (placed_at xs i).fresh)
   in_snapshot i u = (stands c es h).all.order.snapshot.quarantined cycling i u
 
-  left_where : (i : ℕ) → (placed_at xs i).released ≡ false → (f (placed_at xs i)).released
-      ≡ has_bit (left_unmarked w (cell_of_allocation c (placed_at xs i)).page)
-      (cell_of_allocation c (placed_at xs i)).index
+  left_where : (i : ℕ) → (placed_at xs i).released ≡ false → (f (placed_at xs i)).released ≡ has_bit
+      (left_unmarked w (cell_of_allocation c (placed_at xs i)).page) (cell_of_allocation c (placed_at xs i)).index
   left_where i u = grind (arith, allocations_stand, released_where_left, xs)
 
   left_parts : (p k : ℕ) → has_bit (left_unmarked w p) k ≡ true → has_bit (slice_index w.snapshot p) k ≡ true
@@ -95,9 +92,8 @@ module _ {c : Config} {es : List Event} (h : IsHistory c es) (at : phase_of (lef
         let least = ((stands c es h).all.order.quarantined.small p).1 in
         let fewer = and_le_l (slice_index w.snapshot p) (slice_index w.marks p) in
         omega arith;
-    within = λ p k has.
-        within_freed p k (and_parts (has_bit (slice_index w.snapshot p) k) (has_bit (slice_index w.marks p) k)
-        (sym (has_bit_and (slice_index w.snapshot p) (slice_index w.marks p) k) ∙ has)).0;
+    within = λ p k has. within_freed p k (and_parts (has_bit (slice_index w.snapshot p) k) (has_bit
+        (slice_index w.marks p) k) (sym (has_bit_and (slice_index w.snapshot p) (slice_index w.marks p) k) ∙ has)).0;
     quarantined = λ i kept.
         let a : PlacedAllocation = placed_at xs i in
         let in_it = (and_parts (is_in_snapshot_of_cycle a) (not (f a).released) kept).0 in
@@ -118,9 +114,8 @@ module _ {c : Config} {es : List Event} (h : IsHistory c es) (at : phase_of (lef
       ≡ cond (is_new f (placed_at xs i)) (storage_words c (placed_at xs i)) 0
   storage_is i = by (is_new f (placed_at xs i)) refl
     where
-      by : (b : Bool) → is_new f (placed_at xs i) ≡ b
-          → cond b (words_under (header_in w (cell_of_allocation c (placed_at xs i)).page)) 0
-          ≡ cond b (storage_words c (placed_at xs i)) 0
+      by : (b : Bool) → is_new f (placed_at xs i) ≡ b → cond b (words_under
+          (header_in w (cell_of_allocation c (placed_at xs i)).page)) 0 ≡ cond b (storage_words c (placed_at xs i)) 0
       by true new =
           let u = (unmarked_are.quarantined i new).0 in
           let st = allocations_stand c es h i u in
@@ -143,9 +138,8 @@ module _ {c : Config} {es : List Event} (h : IsHistory c es) (at : phase_of (lef
   pub kept_told : count_by is_in_snapshot_of_cycle xs
       ≡ sum_below c.pages (cells_marked w) + sum_below c.pages (cells_unmarked w)
   kept_told =
-      let all = parts_at_each never_granted (λ a. cond {A = ℕ} (is_in_snapshot_of_cycle a) 1 0)
-      (λ a. cond (is_kept a) 1 0)
-      (λ a. cond (is_new f a) 1 0) xs (λ i. parts (placed_at xs i) (new_is_in_snapshot i)) in
+      let all = parts_at_each never_granted (λ a. cond {A = ℕ} (is_in_snapshot_of_cycle a) 1 0) (λ a. cond
+      (is_kept a) 1 0) (λ a. cond (is_new f a) 1 0) xs (λ i. parts (placed_at xs i) (new_is_in_snapshot i)) in
       let marked = cells_are_as_many c es h quiet is_kept (left_marked w) marked_are in
       let unmarked = cells_are_as_many c es h quiet (is_new f) (left_unmarked w) unmarked_are in
       omega arith
@@ -173,15 +167,12 @@ module _ {c : Config} {es : List Event} (h : IsHistory c es) (at : phase_of (lef
   pub fresh_stays : fresh_words_of c (map f xs) ≡ fresh_words_of c xs
   fresh_stays =
       ap (λ (ys : List PlacedAllocation). sum_by (storage_words c) ys)
-      (left_filtered f is_counted_fresh never_granted xs
-      (λ i is. fresh_is_left i (and_parts (is_mapped c (placed_at xs i)) (placed_at xs i).fresh is).1)
-      (λ i isnt. none (placed_at xs i) isnt))
+      (left_filtered f is_counted_fresh never_granted xs (λ i is. fresh_is_left i
+      (and_parts (is_mapped c (placed_at xs i)) (placed_at xs i).fresh is).1) (λ i isnt. none (placed_at xs i) isnt))
     where
       by : (was gone mapped fresh : Bool) → ((not was && mapped) && fresh) ≡ false
           → ((not (was || gone) && mapped) && fresh) ≡ false
-      by true gone mapped fresh isnt = refl
-      by false true mapped fresh isnt = refl
-      by false false mapped fresh isnt = isnt
+      by x0 gone mapped fresh isnt = grind arith
 
       none : (a : PlacedAllocation) → is_counted_fresh a ≡ false → is_counted_fresh (f a) ≡ false
       none a isnt = by a.released _ (not (a.freed && is_large (kinds_of c.types a.ty))) a.fresh isnt

@@ -2,11 +2,11 @@
 use Rattle.mk_laws.proofs.Vocabulary.{Config, Steady, Step, ℕ, ap, refl, subst, sym, ◌∙◌, ◌≡◌}
 use Rattle.mk_cycle.proofs.Vocabulary.{Acts, HasFreeCells, HasReleased, HoldsFewer, InTurn, IsAtPhase, IsFreeForCycle}
 use Rattle.mk_cycle.proofs.Vocabulary.{IsOccupied, LeavesTurn, PassState, WordsState, held_below, now_of}
-use Rattle.mk_cycle.proofs.{Vocabulary.{released_below, world_of}, HeldReleased.{held_alike, release_holds}}
-use Rattle.mk_cycle.proofs.{Allowed.in_turn_after, KeptInParts.{free_then, same_config}}
-use Rattle.mk_cycle.proofs.ReleaseSteps.{close_leaves, releases_unmarked}
-use Rattle.mk_cycle.proofs.ReleasedCells.{cells_are_free, pages_are_occupied}
-use Rattle.mk_cycle.proofs.ReleasedCounts.{release_tells, told_from}
+use Rattle.mk_cycle.proofs.Vocabulary.{released_below, world_of}
+use Rattle.mk_cycle.proofs.HeldReleased.{held_alike, release_holds}
+use Rattle.mk_cycle.proofs.{Allowed.in_turn_after, KeptInParts.free_then, KeptInParts.same_config}
+use Rattle.mk_cycle.proofs.{ReleaseSteps.close_leaves, ReleaseSteps.releases_unmarked, ReleasedCells.cells_are_free}
+use Rattle.mk_cycle.proofs.{ReleasedCells.pages_are_occupied, ReleasedCounts.release_tells, ReleasedCounts.told_from}
 use Rattle.mk_cycle.specs.{EngineLaw.ClosesMarks, Releasing.ReleasesUnmarked, TurnKeeps.but_phase}
 
 -- The engine closes the marks, and the turn's holder makes the `close` and the `release`.

@@ -1,21 +1,17 @@
 -- The bits that are left of a word after its lowest is taken away.
-use Rattle.mk_laws.proofs.Vocabulary.{Bool, ℕ, ap, arith, false, has_bit, has_bit_without, not, refl, subst, sym, true}
+use Rattle.mk_laws.proofs.Vocabulary.{Bool, ℕ, arith, false, has_bit, has_bit_without, not, subst, sym, true}
 use Rattle.mk_laws.proofs.Vocabulary.{true≢false, without, ◌&&◌, ◌<◌, ◌^◌, ◌∙◌, ◌≡◌}
 use Rattle.mk_cycle.proofs.Vocabulary.{and_le_l, bit_and}
 use Rattle.mk_core.proofs.WordBits.{bit_for_has, bit_for_small, bit_of_power}
 
 both_left : (x y : Bool) → (x && not y) ≡ true → x ≡ true
-both_left true y h = refl
-both_left false y h = h
+both_left x0 y h = grind arith
 
 and_gone : (x y : Bool) → (x && not y) ≡ false → x ≡ true → y ≡ true
-and_gone true true h is = refl
-and_gone true false h is = absurd (true≢false h)
-and_gone false y h is = absurd (true≢false (sym is))
+and_gone x0 y h is = grind arith
 
 not_both : (x y : Bool) → y ≡ true → (x && not y) ≡ false
-not_both true y is = ap not is
-not_both false y is = refl
+not_both x0 y is = grind arith
 
 -- what is left was there
 pub left_among : (n k j : ℕ) → has_bit (without n (2 ^ k)) j ≡ true → has_bit n j ≡ true
@@ -32,10 +28,7 @@ power_has k lt = subst (λ (n : ℕ). has_bit n k ≡ true) (bit_for_small k lt)
 pub fewer_left : (n k : ℕ) → k < 64 → has_bit n k ≡ true → without n (2 ^ k) < n
 fewer_left n k lt has =
     let le = and_le_l n (2 ^ k) in
-    let some : bit_and n (2 ^ k) ≡ 0 → ⊥ = λ none. true≢false (sym has ∙ kept none) in
+    let some : bit_and n (2 ^ k) ≡ 0 → ⊥ = λ none. true≢false (sym has ∙
+    (let same : without n (2 ^ k) ≡ n = omega arith in
+    cc (same, has_bit_without n (2 ^ k) k, not_both (has_bit n k) (has_bit (2 ^ k) k) (power_has k lt)))) in
     omega (arith, le, some)
-  where
-    kept : bit_and n (2 ^ k) ≡ 0 → has_bit n k ≡ false
-    kept none =
-        let same : without n (2 ^ k) ≡ n = omega arith in
-        cc (same, has_bit_without n (2 ^ k) k, not_both (has_bit n k) (has_bit (2 ^ k) k) (power_has k lt))

@@ -25,10 +25,7 @@ still_free k free = record {
 
 pub free_cells_stay : {p q : PassState} (page : ℕ) → Frees p q → SamePage p q page → HasFreeCells p page
     → HasFreeCells q page
-free_cells_stay {p} {q} page k same free =
-    subst (λ (n : ℕ). AreFreeCells q page n (left_unmarked (now_of q).words page)) (sym (same_header p q page same))
-    (subst (λ (n : ℕ). AreFreeCells q page (header_at (now_of p).words page) n)
-    (sym (same_left p q page same k.marks)) (still_free k free))
+free_cells_stay page k same free = grind (arith, same_header, same_left, still_free)
 
 pub some_free : {p : PassState} {page header all : ℕ} (some : ℕ) → AreFreeCells p page header all
     → ((k : ℕ) → has_bit some k ≡ true → has_bit all k ≡ true) → AreFreeCells p page header some
@@ -103,13 +100,9 @@ pub settled_bare : (p : PassState) (page : ℕ) → left_unmarked (now_of p).wor
     → header_at (now_of p).words page ≡ 0 → IsSettledPage p page
 settled_bare p page none bare = grind (arith, and_from, eq-eqb, or_left)
 
-pub settled_left : (p : PassState) (page : ℕ) → IsSettledPage p page → left_unmarked (now_of p).words page ≡ 0
-settled_left p page h = eqb-true _ 0 (and_parts (left_unmarked (now_of p).words page == 0) _ h).0
-
 -- The head of a page's run isn't after it.
 pub head_before : (x : Option Header) (page : ℕ) → head_page_under x page ≤ page
-head_before (Some (Header.Later distance mapped)) page = omega arith
-head_before _ page = omega arith
+head_before x0 page = grind arith
 
 pub head_near : (w : Words) (page : ℕ) → head_page w page ≤ page
 head_near w page = head_before (header_in w page) page
@@ -175,7 +168,8 @@ pub none_at : {p q : PassState} {page : ℕ} (h : ℕ) → GivesBack page p q �
     → ((r : ℕ) → r < page → IsSettledPage p r) → left_unmarked (now_of q).words h ≡ 0
 none_at {p} {q} {page} h g le settled = elim (cases_eq h page) [
   | inl e ↦ ap (λ (n : ℕ). left_unmarked (now_of q).words n) e ∙ g.none_left
-  | inr ne ↦ same_left p q h (g.frees.others h ne) g.frees.frees.marks ∙ settled_left p h (settled h (omega arith))
+  | inr ne ↦ same_left p q h (g.frees.others h ne) g.frees.frees.marks ∙
+      (eqb-true _ 0 (and_parts (left_unmarked (now_of p).words h == 0) _ (settled h (omega arith))).0)
 ]
 
 pub freed_settles : {a q : PassState} {page : ℕ} (used : ℕ) → FreesPage page a q

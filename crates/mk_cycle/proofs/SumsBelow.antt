@@ -84,13 +84,10 @@ module _ {X : Type 0} (d : X) where
       let both = sum_of_both n one rest in
       let split = sum_same n (λ k. count_by (λ y. t y && (key y == k)) (x ∷ xs) * g k) (λ k. one k + rest k)
       (λ k lt. ap (λ (m : ℕ). m * g k) (sum_by-cons (λ y. cond (t y && (key y == k)) 1 0) x xs)
-      ∙ shared (cond (t x && (key x == k)) 1 0) (count_by (λ y. t y && (key y == k)) xs) (g k)) in
+      ∙ (omega arith)) in
       let first = sum_by-cons (λ y. cond (t y) (g (key y)) 0) x xs in
       omega arith
     where
-      shared : (a b m : ℕ) → (a + b) * m ≡ a * m + b * m
-      shared a b m = omega arith
-
       by : (b : Bool) → t x ≡ b → (t x ≡ true → key x < n)
           → sum_below n (λ k. cond (t x && (key x == k)) 1 0 * g k) ≡ cond (t x) (g (key x)) 0
       by true is lt =
@@ -147,8 +144,7 @@ module _ {X : Type 0} (d : X) where
           omega arith
         where
           later : (i : ℕ) × (u (get_or (x ∷ xs) i d) ≡ true) → (i : ℕ) × (u (get_or xs i d) ≡ true)
-          later (zero, h) = absurd (true≢false (sym h ∙ is))
-          later (suc i, h) = (i, h)
+          later x0 = grind arith
 
   -- a list's count, place by place
   pub counted_by_place : (u : X → Bool) (xs : List X)

@@ -1,8 +1,8 @@
 -- Looks and tallies after an `end`.
-use Rattle.mk_laws.proofs.Vocabulary.{Config, Steady, Step, Tally, Word, Words, World, ℕ, ap, in_a_word, refl, subst}
-use Rattle.mk_laws.proofs.Vocabulary.{tally_word, world_behind, ◌+◌, ◌-◌, ◌∙◌, ◌≡◌}
+use Rattle.mk_laws.proofs.Vocabulary.{Config, Steady, Step, Tally, Word, Words, World, ℕ, ap, arith, in_a_word, refl}
+use Rattle.mk_laws.proofs.Vocabulary.{subst, tally_word, world_behind, ◌+◌, ◌-◌, ◌∙◌, ◌≡◌}
 use Rattle.mk_cycle.proofs.Vocabulary.{Acts, IsFreeForCycle, PassState, does_step, does_then, event_of, now_of}
-use Rattle.mk_cycle.proofs.{Vocabulary.{sets_tallies, steady_of, world_at, world_of}, CleaningSteps.calm_keeps}
+use Rattle.mk_cycle.{proofs.Vocabulary.{sets_tallies, steady_of, world_at, world_of}, proofs.CleaningSteps.{calm_keeps}}
 use Rattle.mk_cycle.proofs.{KeptInParts.{gates_behind, gates_then, keeps_then}, Allowed.in_turn_before}
 use Rattle.mk_core.specs.Words.{named_word}
 use Rattle.mk_cycle.specs.{Tallying.{Sets, with_cycle_counted, with_tally}, TurnKeeps.unchanged}
@@ -22,13 +22,11 @@ sets_then {g} {p} {q} {r} a b =
 
 tally_behind : (c : Config) (w : World) (p : PassState) (n : Tally) (v : ℕ)
     → steady_of (world_behind c w (event_of p (Step.Tally n v))) ≡ with_tally n v (steady_of w)
-tally_behind c w p Tally.Held v = refl
-tally_behind c w p _ v = refl
+tally_behind c w p x3 v = grind arith
 
 tally_gates : (c : Config) (w : World) (p : PassState) (n : Tally) (v : ℕ)
     → (world_behind c w (event_of p (Step.Tally n v))).now.words.gates ≡ w.now.words.gates
-tally_gates c w p Tally.Held v = refl
-tally_gates c w p _ v = refl
+tally_gates c w p x3 v = grind arith
 
 nothing_seen : Steady → Steady → Steady
 nothing_seen t s = t
@@ -61,11 +59,7 @@ module _ {p q : PassState} (free : IsFreeForCycle p) where
 -- What a tally's word is goes by what only the holder changes.
 pub same_tally : (p q : PassState) (n : Tally) → steady_of (world_of q) ≡ steady_of (world_of p)
     → named_word (now_of q).words (tally_word n) ≡ named_word (now_of p).words (tally_word n)
-same_tally p q Tally.Held same = ap (λ (s : Steady). s.held) same
-same_tally p q Tally.Fresh same = ap (λ (s : Steady). s.fresh) same
-same_tally p q Tally.Cycles same = ap (λ (s : Steady). s.cycles) same
-same_tally p q Tally.Released same = ap (λ (s : Steady). s.released) same
-same_tally p q Tally.Full same = ap (λ (s : Steady). s.full) same
+same_tally p q x2 same = grind arith
 
 -- a tally that is set by what it is found to be
 pub set_by : {p a q : PassState} (n : Tally) (x : Word) (becomes : ℕ → ℕ) (found to : ℕ) → x ≡ tally_word n

@@ -1,6 +1,6 @@
 -- What is said of the world in which marks are closed, from wider parts of a turn.
-use Rattle.mk_laws.proofs.Vocabulary.{Config, Event, IsHistory, List, Step, World, ap, append_assoc, left, subst, []}
-use Rattle.mk_laws.proofs.Vocabulary.{◌++◌, ◌∙◌, ◌∷◌, ◌≡◌}
+use Rattle.mk_laws.proofs.Vocabulary.{Config, Event, IsHistory, List, Step, World, ap, append_assoc, arith, left, subst}
+use Rattle.mk_laws.proofs.Vocabulary.{[], ◌++◌, ◌∙◌, ◌∷◌, ◌≡◌}
 use Rattle.mk_cycle.{proofs.Vocabulary.{Has, Makes, PassState, event_of, made}, specs.Telling.{IsToldAtClose, IsToldOf}}
 
 -- at the step that closes them
@@ -16,12 +16,7 @@ told_closing tells {p = p} {q = q} has makes history told = record {
 -- when more was seen after it
 pub told_later : {tells : Config → World → Type 0} {p q : PassState} (r : PassState) (more : List Event)
     → r.seen ≡ q.seen ++ more → IsToldAtClose tells p q → IsToldAtClose tells p r
-told_later {p} r more is t = record {
-  before = t.before;
-  behind = t.behind ++ more;
-  is = cc (is, t.is, append_assoc (p.seen ++ t.before) (event_of p Step.Close ∷ t.behind) more);
-  told = t.told;
-}
+told_later r more is t = grind (arith, append_assoc)
 
 -- when more had been seen before it
 told_at : (tells : Config → World → Type 0) (p : PassState) (more : List Event) (q : PassState)
@@ -37,5 +32,4 @@ told_at tells p more q t =
 
 pub told_earlier : {tells : Config → World → Type 0} (o : PassState) {p : PassState} (more : List Event) {q : PassState}
     → p ≡ record o { seen = o.seen ++ more } → IsToldAtClose tells p q → IsToldAtClose tells o q
-told_earlier {tells} o more {q = q} is t =
-    told_at tells o more q (subst (λ (x : PassState). IsToldAtClose tells x q) is t)
+told_earlier o more is t = grind (arith, told_at)

@@ -16,8 +16,8 @@ use Rattle.mk_core.specs.{Effects.hand_given, Frames.steady_of, Growing.Finding,
 use Rattle.mk_core.specs.{StopConditions.marks_by_hand, Words.named_word, declared.seats.Source.TheVariants.Root}
 use Rattle.mk_cycle.proofs.{Allowed.{in_turn_before, look_allowed, protocol}, OwnSteps.{done_in, keeps_call}}
 use Rattle.mk_cycle.proofs.{OwnSteps.keeps_counts, CleaningSteps.calm_keeps, KeptInParts.{gates_behind, held_so}}
-use Rattle.mk_cycle.{proofs.MayAct.{may_act}, specs.EngineLaw.{is_register}}
-use Rattle.mk_cycle.specs.{Kinds.begins_marking, TurnKeeps.{InTurn, KeepsGates, LeavesTurn, unchanged}}
+use Rattle.mk_cycle.{proofs.MayAct.{may_act}, specs.Kinds.{begins_marking}}
+use Rattle.mk_cycle.specs.{TurnKeeps.{InTurn, KeepsGates, LeavesTurn, unchanged}, EngineLaw.is_register}
 use Rattle.mk_engines.proofs.{MarksBeside.{gates_at_once, goes_nowhere, still_beside}, Since.{done_step, keeps_step}}
 use Rattle.mk_engines.specs.Beside.{FindsInRoot, GoesBeside, IsBeside, IsOpenToLook, KeepsOtherGates, StaysWell}
 use Rattle.mk_engines.specs.Beside.{found_well, gives_no_hand, looks_at_root}
@@ -26,9 +26,8 @@ use Rattle.mk_tracing.proofs.{MaySteps.marks_by, MoreMarks.marked_now}
 use Rattle.mk_tracing.specs.{Grays.{HandPointsInto, IsInHand, MarksReached, TracesReached}, Stops.{hand_of, is_root}}
 use Rattle.mk_turns.proofs.{Doing.does_step, PointedCells.{found_there, looked_for}}
 use Rattle.mk_turns.specs.Pointing.{LooksForCell, MayLookAtHeaders}
-use Rattle.mk_words.proofs.Made.{own_before, stands_behind_others}
-use Rattle.mk_words.specs.{Steps.{found_by, Finds, IsEnabledTo}, TurnSteps.{Acts, world_at}}
-use Rattle.mk_words.specs.States.{PassState, TurnState, call_of, event_of, now_of}
+use Rattle.mk_words.{proofs.Made.{own_before, stands_behind_others}, specs.{Steps.found_by, TurnSteps.{Acts, world_at}}}
+use Rattle.mk_words.specs.{States.{PassState, TurnState, call_of, event_of, now_of}, Steps.{Finds, IsEnabledTo}}
 
 -- words that give no hand
 
@@ -165,9 +164,8 @@ module _ {p q : PassState} {x : Word} (a : Acts p (Step.Look x) q) where
     reached = refl;
   }
     where
-      by : (y : Word) (value : ℕ) → is_root y ≡ true
-          → or_else (hand_given p.table.config (world_at a.makes).now p.seat y value) (hand_of p)
-          ≡ Some (record { value = value; source = Root })
+      by : (y : Word) (value : ℕ) → is_root y ≡ true → or_else (hand_given p.table.config
+          (world_at a.makes).now p.seat y value) (hand_of p) ≡ Some (record { value = value; source = Root })
       by (Word.Reg j r) value h = refl
       by (Word.Global g) value h = refl
       by _ value h = cc
@@ -179,8 +177,7 @@ may_look_at_headers {p} t b page lt = look_allowed p t b.free (Word.Head page) (
 
 module _ {value : ℕ} {t u : TurnState} (l : LooksForCell value t u) where
   pub goes_for_cell : IsBeside t.pass → GoesBeside t u
-  goes_for_cell b =
-      looked_for (λ (v : TurnState). GoesBeside t v) l (goes_nowhere t b) (λ a. goes_look t u b a refl)
+  goes_for_cell b = looked_for (λ (v : TurnState). GoesBeside t v) l (goes_nowhere t b) (λ a. goes_look t u b a refl)
 
   pub gates_for_cell : KeepsGates t.pass u.pass
   gates_for_cell = grind (arith, looked_for, gates_at_once, gates_behind)
@@ -251,9 +248,8 @@ module _ (t u : TurnState) (b : IsBeside t.pass)
       let x : Words = (world_at a.makes).now.words in
       let within = pointed_within c.pages x r.value cell points_there in
       ap (λ (v : World). is_marked v.now.words cell) a.world ∙ marked_now x (world_behind c (world_at a.makes)
-      (event_of t.pass (Step.Mark cell.page (2 ^ cell.index)))).now.words cell
-      (subst (λ (n : ℕ). cell.page < n) (sym (histories_keep_lengths c (t.pass.seen ++ a.makes.others)).marks) within.0)
-      within.1 refl
+      (event_of t.pass (Step.Mark cell.page (2 ^ cell.index)))).now.words cell (subst (λ (n : ℕ). cell.page < n)
+      (sym (histories_keep_lengths c (t.pass.seen ++ a.makes.others)).marks) within.0) within.1 refl
 
 -- gates
 
@@ -264,9 +260,8 @@ open_at gs j = elim (cases_lt j (length gs)) [
 ]
 
 module _ {p : PassState} {s : Step} {q : PassState} (a : Acts p s q) where
-  others_behind : (caller : ℕ) → ((j : ℕ) → j ≢ caller
-      → slice_index (world_behind p.table.config (world_at a.makes) (event_of p s)).now.words.gates j
-      ≡ slice_index (world_at a.makes).now.words.gates j) → KeepsOtherGates caller p q
+  others_behind : (caller : ℕ) → ((j : ℕ) → j ≢ caller → slice_index (world_behind p.table.config (world_at a.makes)
+      (event_of p s)).now.words.gates j ≡ slice_index (world_at a.makes).now.words.gates j) → KeepsOtherGates caller p q
   others_behind caller same j lt ne = grind (arith, held_so)
 
 pub hold_others : {p : PassState} {caller : ℕ} {q : PassState} → Acts p (Step.Hold caller) q

@@ -16,9 +16,8 @@ marks_roots {p} {q} marks looked =
       more = d.more;
       is = ap (λ (x : PassState). x.seen) d.is;
       part = record {
-        looked = λ x root named.
-            subst (λ (es : List Event). list_any (λ (f : Finding). looks_at x f.event.step) (done_in p es) ≡ true) since
-            (looked x root named);
+        looked = λ x root named. subst (λ (es : List Event). list_any (λ (f : Finding). looks_at x f.event.step)
+            (done_in p es) ≡ true) since (looked x root named);
         found = cc (d.is, since, marks.found);
         reached = subst (λ (es : List Event). OwnStepsKeep TracesReached p.table.config p.seat (world_of p) es) since
             marks.reached;

@@ -83,9 +83,8 @@ module _ (p : PassState) (xs : List Event) (r : PassState) where
   looked_second : (x : Word) → Does begins_marking q r → LooksAt x q r → LooksAt x p r
   looked_second x d here =
       let test : Finding → Bool = λ (f : Finding). looks_at x f.event.step in
-      ap (λ (fs : List Finding). list_any test fs) (done_then p xs r d.more d.is)
-      ∙ list_any-append test (done_since p q) (done_since q r)
-      ∙ or_right (list_any test (done_since p q)) (list_any test (done_since q r)) here
+      ap (λ (fs : List Finding). list_any test fs) (done_then p xs r d.more d.is) ∙ list_any-append test (done_since p
+      q) (done_since q r) ∙ or_right (list_any test (done_since p q)) (list_any test (done_since q r)) here
 
 -- One part after another.
 
@@ -95,11 +94,7 @@ beside_then {p} {r} a b =
     (two_parts p a.does.more r) a b
 
 pub goes_then : {t u v : TurnState} → GoesBeside t u → GoesBeside u v → GoesBeside t v
-goes_then {t} {u} {v} a b = record {
-  table = b.table ∙ a.table;
-  beside = b.beside;
-  marks = beside_then a.marks b.marks;
-}
+goes_then {t} {u} {v} a b = record { table = b.table ∙ a.table; beside = b.beside; marks = beside_then a.marks b.marks }
 
 -- A root was looked at in the first part, or in the second.
 
@@ -129,11 +124,10 @@ module _ {x : Word} {n : ℕ} {t u v : TurnState} (f : FindsInRoot x n t u) (b :
     beside = b.beside;
     marks =
         subst (λ (y : PassState). Does begins_marking t.pass y → LeavesTurn unchanged t.pass y
-        → MarksReachedAlone t.pass y → StaysWell t.pass y → done_since t.pass y ≡ record
-        { event = event_of t.pass (Step.Look x); found = n } ∷ []
-        → MarksBeside y v.pass → points_well t.pass.table.config.pages (now_of v.pass).words n ≡ true
-        → MarksBeside t.pass v.pass) (sym f.does.is) (root_part t.pass f.does.more v.pass x n)
-        f.does f.keeps f.reached f.well f.done b.marks here;
+        → MarksReachedAlone t.pass y → StaysWell t.pass y
+        → done_since t.pass y ≡ record { event = event_of t.pass (Step.Look x); found = n } ∷ [] → MarksBeside y v.pass
+        → points_well t.pass.table.config.pages (now_of v.pass).words n ≡ true → MarksBeside t.pass v.pass)
+        (sym f.does.is) (root_part t.pass f.does.more v.pass x n) f.does f.keeps f.reached f.well f.done b.marks here;
   }
 
   pub root_looked : is_root x ≡ true → LooksAt x t.pass v.pass

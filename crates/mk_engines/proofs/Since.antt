@@ -6,8 +6,8 @@ use Rattle.mk_core.specs.Growing.{Finding, own_from}
 use Rattle.mk_engines.specs.Beside.{done_since, seen_since}
 use Rattle.mk_tracing.{proofs.Parts.{keep_in_parts, one_keeps, one_own, others_keep}, specs.Tracing.{OwnStepsKeep}}
 use Rattle.mk_turns.{proofs.Doing.{done_in_parts, none_own}, specs.Doing.{done_in}}
-use Rattle.mk_words.{proofs.Seats.{same_self}, specs.Steps.{Makes, found_by}}
-use Rattle.mk_words.specs.{TurnSteps.world_at, Seats.Has, States.{PassState, event_of, world_of}}
+use Rattle.mk_words.{proofs.Seats.{same_self}, specs.TurnSteps.{world_at}}
+use Rattle.mk_words.specs.{Seats.Has, States.{PassState, event_of, world_of}, Steps.{Makes, found_by}}
 
 -- what was seen after a list
 pub since_behind : (p : PassState) (xs : List Event) → seen_since p (record p { seen = p.seen ++ xs }) ≡ xs
@@ -32,9 +32,8 @@ module _ (p : PassState) (xs : List Event) (r : PassState) (ys : List Event)
 
   pub rule_then : (rule : Config → Moment → Step → Type 0)
       → OwnStepsKeep rule p.table.config p.seat (world_of p) (seen_since p (record p { seen = p.seen ++ xs }))
-      → OwnStepsKeep rule p.table.config p.seat (world_of (record p { seen = p.seen ++ xs }))
-      (seen_since (record p { seen = p.seen ++ xs }) r)
-      → OwnStepsKeep rule p.table.config p.seat (world_of p) (seen_since p r)
+      → OwnStepsKeep rule p.table.config p.seat (world_of (record p { seen = p.seen ++ xs })) (seen_since
+      (record p { seen = p.seen ++ xs }) r) → OwnStepsKeep rule p.table.config p.seat (world_of p) (seen_since p r)
   rule_then rule one two =
       let c : Config = p.table.config in
       subst (λ (es : List Event). OwnStepsKeep rule c p.seat (world_of p) es) (sym since_both) (keep_in_parts rule c _ _
@@ -63,10 +62,9 @@ module _ (p : PassState) (s : Step) (q : PassState) (m : Makes p s q) where
       → OwnStepsKeep rule c p.seat (world_of p) (seen_since p q)
   keeps_step rule has is =
       subst (λ (es : List Event). OwnStepsKeep rule c p.seat (world_of p) es) (sym since_step)
-      (keep_in_parts rule c p.seat (world_of p) m.others (event_of p s ∷ [])
-      (others_keep rule c p.seat p.seats (world_of p) m.others has m.of_others)
-      (subst (λ (w : World). OwnStepsKeep rule c p.seat w (event_of p s ∷ [])) (left_in_parts c p.seen m.others)
-      (one_keeps rule c p.seat (world_at m) (event_of p s) is)))
+      (keep_in_parts rule c p.seat (world_of p) m.others (event_of p s ∷ []) (others_keep rule c p.seat p.seats
+      (world_of p) m.others has m.of_others) (subst (λ (w : World). OwnStepsKeep rule c p.seat w (event_of p s ∷ []))
+      (left_in_parts c p.seen m.others) (one_keeps rule c p.seat (world_at m) (event_of p s) is)))
 
 -- nothing
 pub nothing_since : (p : PassState) → seen_since p p ≡ []

@@ -1,10 +1,10 @@
 -- Marks of what was reached are no sweeping marks.
 use Rattle.mk_laws.proofs.Vocabulary.{Bool, Config, Event, List, Seat, Step, World, ap, flight_of, subst, world_behind}
 use Rattle.mk_laws.proofs.Vocabulary.{[], ◌++◌, ◌∷◌, ◌≡◌}
-use Rattle.mk_engines.{proofs.Since.{since_is}, specs.Beside.{MarksReachedAlone}}
+use Rattle.mk_engines.{proofs.Since.since_is, specs.Beside.MarksReachedAlone}
 use Rattle.mk_tracing.proofs.StopSteps.{reached_marks_sweep_nothing}
 use Rattle.mk_tracing.specs.{Grays.TracesReached, Tracing.OwnStepsKeep}
-use Rattle.mk_turns.specs.{Doing.Does, Sweeping.{SweepsNothing, SweepsNothingFrom}}
+use Rattle.mk_turns.specs.{Doing.Does, Sweeping.SweepsNothing, Sweeping.SweepsNothingFrom}
 use Rattle.mk_words.specs.States.{PassState, world_of}
 
 sweepless_from : (c : Config) (s : Seat) (w : World) (es : List Event) → OwnStepsKeep TracesReached c s w es
@@ -27,6 +27,5 @@ sweepless_rule p q more is keep = record {
 pub sweepless_beside : {kinds : Step → Bool} {p q : PassState} → Does kinds p q → MarksReachedAlone p q
     → SweepsNothing p q
 sweepless_beside {p} {q} d keep =
-    sweepless_rule p q d.more d.is
-    (subst (λ (es : List Event). OwnStepsKeep TracesReached p.table.config p.seat (world_of p) es)
-    (since_is p q d.more d.is) keep)
+    sweepless_rule p q d.more d.is (subst (λ (es : List Event). OwnStepsKeep TracesReached p.table.config p.seat
+    (world_of p) es) (since_is p q d.more d.is) keep)

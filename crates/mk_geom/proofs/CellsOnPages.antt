@@ -9,7 +9,7 @@ use Rattle.mk_geom.proofs.PointedCells.{cell_index, class_has_words, large_cell_
 use Rattle.mk_geom.proofs.PointedCells.{points_into_cell, small_cell_of, small_lookup, stands_at_address}
 use Rattle.mk_geom.proofs.Standing.{AreAlike, class_of_cell, has_words, large_is_run, same_or_alike, same_or_apart}
 use Rattle.mk_geom.proofs.Standing.{small_is_cell, stands_at_first, stands_parts, storage_in}
-use Rattle.mk_geom.proofs.{StoredWords.{words_at, words_by_large, words_by_small}, UsedWords.bit_at-used_word}
+use Rattle.mk_geom.{proofs.StoredWords.{words_at, words_by_large, words_by_small}, proofs.UsedWords.{bit_at-used_word}}
 use Rattle.mk_geom.proofs.{TakenCells.{cell_taken_by, get_or-taken_cells, length-taken_cells}, ListSearch.find_cases}
 use Rattle.mk_geom.specs.StorageWords.{PointsInto, ShowsStorage, cell_of_storage, cell_on, header_shown, page_in}
 use Rattle.mk_geom.specs.Storages.{AreLaidOut, IsStorage, PagesStandFor, Storage, class_of_storage, first_page}
@@ -158,9 +158,8 @@ cell_has_value n u xs s t laid inside on =
     elim on.at [
       | inl (small, below, same) ↦
           let at : first_page s ≡ page_at_address u = ap (λ (k : Cell). k.page) same in
-          let (s_small, words) =
-          like_small (same_or_alike n xs page s t laid inside on.inside (stands_at_first n s page s_is at)
-          on.stands) small in
+          let (s_small, words) = like_small
+          (same_or_alike n xs page s t laid inside on.inside (stands_at_first n s page s_is at) on.stands) small in
           let t_words = class_has_words t (small_is_cell n t t_is small) in
           let index = sym (ap (λ (k : Cell). k.index) (small_cell_of s s_small)) ∙ ap (λ (k : Cell). k.index) same in
           small_back n u s t s_is s_small on.low at (t_words ∙ sym words) index
@@ -201,13 +200,11 @@ module _ (pages : List Page) (storages : List Storage) (stand : PagesStandFor pa
       let known : class_of_storage t < 8 = omega (arith, class_of_cell t cell, cell.known) in
       let words : page_in pages page ≡ words_by storages page (Some t) =
       stand.words page free_page within ∙ words_at n page storages t stand.laid_out on.inside on.stands in
-      let used : (page_in pages k.page).used ≡ used_word (taken_cells storages page c) =
-      ap (λ (p : ℕ). (page_in pages p).used) at
-      ∙ ap (λ (p : Page). p.used) (words ∙ words_by_small page storages t small) in
+      let used : (page_in pages k.page).used ≡ used_word (taken_cells storages page c) = ap (λ (p : ℕ). (page_in pages
+      p).used) at ∙ ap (λ (p : Page). p.used) (words ∙ words_by_small page storages t small) in
       let long : k.index < length (taken_cells storages page c) = omega (arith, length-taken_cells storages page c) in
-      let taken : is_cell_taken storages page (class_words_of c) k.index ≡ true =
-      sym (get_or-taken_cells storages page c k.index false index_within)
-      ∙ sym (bit_at-used_word (taken_cells storages page c) k.index false long)
+      let taken : is_cell_taken storages page (class_words_of c) k.index ≡ true = sym (get_or-taken_cells storages page
+      c k.index false index_within) ∙ sym (bit_at-used_word (taken_cells storages page c) k.index false long)
       ∙ ap (λ (w : ℕ). bit_at w k.index == 1) (sym used) ∙ bit in
       let (s, inside, first, stands) =
       cell_taken_by n page c k.index storages known index_within stand.laid_out.each taken in

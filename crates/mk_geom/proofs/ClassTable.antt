@@ -42,9 +42,8 @@ pub classes_listed : (words : ℕ) → 1 ≤ words → words ≤ 32 → class_fo
 classes_listed words some small =
     let place : words - 1 < 32 = omega (arith, some, small) in
     let is : 1 + (words - 1) ≡ words = omega (arith, some) in
-    sym (get_or-map-range_with_len class_for 1 32 (words - 1) words None place is)
-    ∙ ap (λ xs. get_or xs (words - 1) None) same_classes
-    ∙ get_or-map-range_with_len listed_class 1 32 (words - 1) words None place is
+    sym (get_or-map-range_with_len class_for 1 32 (words - 1) words None place is) ∙ ap (λ xs. get_or xs
+    (words - 1) None) same_classes ∙ get_or-map-range_with_len listed_class 1 32 (words - 1) words None place is
 
 -- the cells of a block, by class
 pub cells_listed : (class : ℕ) → class < 8 → slice_index (32 ∷ 16 ∷ 10 ∷ 8 ∷ 5 ∷ 4 ∷ 2 ∷ 2 ∷ []) class ≡ cells_of class

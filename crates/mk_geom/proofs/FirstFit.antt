@@ -45,9 +45,8 @@ same_sort_is true b is = is
 same_sort_is false b is = not-true b is
 
 -- a cell that isn't taken on a page
-free_cell_is : (class : ℕ) (leaf : Bool) (u : PageUse) (index : ℕ)
-    → first_where not (cells_taken class leaf u) ≡ Some index
-    → MayTakeCell class leaf index u × (false ≡ is_free_page u)
+free_cell_is : (class : ℕ) (leaf : Bool) (u : PageUse) (index : ℕ) → first_where not (cells_taken class leaf u)
+    ≡ Some index → MayTakeCell class leaf index u × (false ≡ is_free_page u)
 free_cell_is class leaf Nothing index is = absurd (none-some index is)
 free_cell_is class leaf (PartOfRun mapped) index is = absurd (none-some index is)
 free_cell_is class leaf (Cells class' leaf' taken) index is =
@@ -96,9 +95,8 @@ free_is_nothing (Cells class leaf taken) free = absurd (false≢true free)
 free_is_nothing (PartOfRun mapped) free = absurd (false≢true free)
 
 small_place_fits : (limit class : ℕ) (leaf : Bool) (uses : List PageUse) (place : Place) → 0 < cells_of class
-    → small_place limit class leaf uses ≡ Some place
-    → FitsOn class leaf uses place × (place.carve ≡ true → place.index ≡ 0)
-    × (place.carve ≡ true → resident_pages uses < limit)
+    → small_place limit class leaf uses ≡ Some place → FitsOn class leaf uses place × (place.carve ≡ true
+    → place.index ≡ 0) × (place.carve ≡ true → resident_pages uses < limit)
 small_place_fits limit class leaf uses place some is =
     let free = option_map carved (first_where is_free_page uses) in
     elim (or_else_cases (cell_place class leaf uses) (if nat_lt (resident_pages uses) limit then free
@@ -111,13 +109,12 @@ small_place_fits limit class leaf uses place some is =
           let (page, first, place_is) = option_map_some carved (first_where is_free_page uses) place found in
           let (u, at, is_free) = first_where_passes is_free_page uses page first in
           let nothing : Nothing ≡ u = sym (free_is_nothing u is_free) in (
-            subst (λ (x : Place). FitsOn class leaf uses x) place_is
-                (record {
-                  on = u;
-                  at = at;
-                  may_take = subst (λ (v : PageUse). MayTakeCell class leaf 0 v) nothing some;
-                  carves = sym is_free;
-                }),
+            subst (λ (x : Place). FitsOn class leaf uses x) place_is (record {
+              on = u;
+              at = at;
+              may_take = subst (λ (v : PageUse). MayTakeCell class leaf 0 v) nothing some;
+              carves = sym is_free;
+            }),
             λ carves. sym (ap (λ (x : Place). x.index) place_is),
             λ carves. ltb-true (resident_pages uses) limit room,
           )
@@ -157,8 +154,7 @@ range_start_free count (u ∷ uses) start is = elim (cases_Bool (nat_le count (f
         free = λ k d low high. free_in_range (u ∷ uses) k d (omega arith);
       }
   | inr few ↦
-      let (n, found, start_is) =
-      option_map_some (λ (n : ℕ). n + 1) (range_start count uses) start
+      let (n, found, start_is) = option_map_some (λ (n : ℕ). n + 1) (range_start count uses) start
       (sym (cond-false (nat_le count (free_range (u ∷ uses))) (Some 0) later few) ∙ is) in
       let rest = range_start_free count uses n found in
       record {
@@ -230,15 +226,13 @@ run_place_is limit words leaf pages place large is =
     }
 
 pub cell_place_found : (pages : List Page) (storages : List Storage) (limit words class : ℕ) (leaf : Bool)
-    (place : Place) → PagesStandFor pages storages → class_for words ≡ Some class
-    → place_among_storages (length pages) limit words leaf storages ≡ Some place
-    → IsCellPlace limit class leaf pages place
+    (place : Place) → PagesStandFor pages storages → class_for words ≡ Some class → place_among_storages
+    (length pages) limit words leaf storages ≡ Some place → IsCellPlace limit class leaf pages place
 cell_place_found pages storages limit words class leaf place stand class_is is =
     cell_place_is limit words class leaf pages place class_is (same_places pages storages limit words leaf stand ∙ is)
 
 pub run_place_found : (pages : List Page) (storages : List Storage) (limit words : ℕ) (leaf : Bool) (place : Place)
-    → PagesStandFor pages storages → 32 < words
-    → place_among_storages (length pages) limit words leaf storages ≡ Some place
-    → IsRunPlace limit (run_pages_of words) pages place
+    → PagesStandFor pages storages → 32 < words → place_among_storages (length pages) limit words leaf storages
+    ≡ Some place → IsRunPlace limit (run_pages_of words) pages place
 run_place_found pages storages limit words leaf place stand large is =
     run_place_is limit words leaf pages place large (same_places pages storages limit words leaf stand ∙ is)

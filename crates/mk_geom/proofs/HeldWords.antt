@@ -39,8 +39,7 @@ sum_on_pages : (s : Storage) (n count : ℕ) → first_page s + count ≡ last_p
 sum_on_pages s n count ends within = sum_below-block (words_on s) (first_page s) count (words_there s)
     (λ p low. words_off_page s p (λ stands. let parts = stands_parts p s stands in omega arith))
     (λ p low high. words_on_page s p (stands_from p s low (omega arith)))
-    (λ p past. words_off_page s p (λ stands. let parts = stands_parts p s stands in omega arith))
-    n within
+    (λ p past. words_off_page s p (λ stands. let parts = stands_parts p s stands in omega arith)) n within
 
 large_there : (s : Storage) (pages : ℕ) → is_small s ≡ false → s.words ≡ 64 * pages → pages * words_there s ≡ held_by s
 large_there s pages large words = grind (arith, cond-false)
@@ -134,9 +133,8 @@ module _ (n : ℕ) (s : Storage) (xs : List Storage) (laid : AreLaidOut n (s ∷
         | inl small ↦
             let cell = small_is_cell n t (storage_in n xs t laid_tail inside) small in
             let known : class_of_storage t < 8 = omega (arith, class_of_cell t cell, cell.known) in
-            held_small (s ∷ xs) page t small
-            ∙ ap (λ (bits : List Bool). class_words_of (class_of_storage t) * count bits)
-            (taken_same n page (class_of_storage t) (s ∷ xs) xs known laid.each laid_tail.each without
+            held_small (s ∷ xs) page t small ∙ ap (λ (bits : List Bool). class_words_of (class_of_storage t) * count
+            bits) (taken_same n page (class_of_storage t) (s ∷ xs) xs known laid.each laid_tail.each without
             (λ u stands inside'. Contains-tail s xs u inside')) ∙ sym (held_small xs page t small)
         | inr large ↦ held_large (s ∷ xs) page t large ∙ sym (held_large xs page t large)
       ]
@@ -179,9 +177,8 @@ module _ (n : ℕ) (s : Storage) (xs : List Storage) (laid : AreLaidOut n (s ∷
         let same : t.first ≡ s.first = first ∙ sym first_is in
         elim (from_head t inside).apart [ inl before ↦ omega arith | inr behind ↦ omega arith ])
 
-    others_stay : (k : ℕ) → k < cells_of (class_of_storage s) → k ≢ cell.index
-        → is_cell_taken (s ∷ xs) page (class_words_of (class_of_storage s)) k
-        ≡ is_cell_taken xs page (class_words_of (class_of_storage s)) k
+    others_stay : (k : ℕ) → k < cells_of (class_of_storage s) → k ≢ cell.index → is_cell_taken (s ∷ xs) page
+        (class_words_of (class_of_storage s)) k ≡ is_cell_taken xs page (class_words_of (class_of_storage s)) k
     others_stay k within other = grind (arith, ne_eqb, same_index, cell, some_words, first_is)
 
     taken_more : count (taken_cells (s ∷ xs) page (class_of_storage s))
@@ -234,8 +231,7 @@ held_sum : (n : ℕ) (xs : List Storage) → AreLaidOut n xs
     → sum_below (λ page. held_by_use (use_of_storages xs page)) n ≡ held_by_storages xs
 held_sum n [] laid = sum_below-zero (λ page. held_by_use (use_of_storages [] page)) n (λ page within. refl)
 held_sum n (s ∷ xs) laid = sum_below-add (λ page. held_by_use (use_of_storages (s ∷ xs) page)) (words_on s)
-    (λ page. held_by_use (use_of_storages xs page)) n (λ page within. held_more n s xs laid page)
-    ∙ omega (
+    (λ page. held_by_use (use_of_storages xs page)) n (λ page within. held_more n s xs laid page) ∙ omega (
       arith,
       storage_sum n s (All-head (IsStorage n) s xs laid.each),
       held_sum n xs (laid_tail n s xs laid),

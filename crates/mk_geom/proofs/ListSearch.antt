@@ -17,9 +17,8 @@ pub Contains-nil : {X : Type 0} (y : X) → Contains [] y → ⊥
 Contains-nil y (k, within, is) = omega arith
 
 -- the first element that passes, or none does
-pub find_cases : {X : Type 0} (p : X → Bool) (xs : List X)
-    → ((x : X) × (find p xs ≡ Some x) × Contains xs x × (p x ≡ true))
-    ⊎ ((find p xs ≡ None) × ((x : X) → Contains xs x → p x ≡ false))
+pub find_cases : {X : Type 0} (p : X → Bool) (xs : List X) → ((x : X) × (find p xs ≡ Some x) × Contains xs x ×
+    (p x ≡ true)) ⊎ ((find p xs ≡ None) × ((x : X) → Contains xs x → p x ≡ false))
 find_cases p [] = inr (refl, λ x in_nil. absurd (Contains-nil x in_nil))
 find_cases {X} p (x ∷ xs) = elim (cases_Bool (p x)) [
   | inl passes ↦ inl (x, rw passes refl, Contains-head x xs, passes)
@@ -38,11 +37,10 @@ pub list_any_from : {X : Type 0} (p : X → Bool) (xs : List X) (x : X) → Cont
 list_any_from p [] x inside passes = absurd (Contains-nil x inside)
 list_any_from {X} p (y ∷ xs) x inside passes = elim (cases_Bool (p y)) [
   | inl passes' ↦ rw passes' refl
-  | inr fails ↦ rw fails
-      (elim (Contains-cons_cases y xs x inside) [
-        | inl same ↦ absurd (false≢true (sym fails ∙ subst (λ (z : X). p z ≡ true) (sym same) passes))
-        | inr inside' ↦ list_any_from p xs x inside' passes
-      ])
+  | inr fails ↦ rw fails (elim (Contains-cons_cases y xs x inside) [
+    | inl same ↦ absurd (false≢true (sym fails ∙ subst (λ (z : X). p z ≡ true) (sym same) passes))
+    | inr inside' ↦ list_any_from p xs x inside' passes
+  ])
 ]
 
 pub list_any_found : {X : Type 0} (p : X → Bool) (xs : List X) → list_any p xs ≡ true

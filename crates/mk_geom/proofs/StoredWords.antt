@@ -53,9 +53,8 @@ module _ (n : ℕ) (xs : List Storage) (s : Storage) (laid : AreLaidOut n xs) (i
       let pages : s.words / 64 ≡ count = omega arith in
       let behind : first + distance - first_page s ≡ distance = omega arith in
       words_at n (first + distance) xs s laid inside (stands_from (first + distance) s (omega arith) (omega arith))
-      ∙ words_by_large (first + distance) xs s large
-      ∙ ap (λ (k : ℕ). run_page k s.mapped s.leaf (first + distance - first_page s)) pages
-      ∙ ap (run_page count s.mapped s.leaf) behind
+      ∙ words_by_large (first + distance) xs s large ∙ ap (λ (k : ℕ). run_page k s.mapped s.leaf
+      (first + distance - first_page s)) pages ∙ ap (run_page count s.mapped s.leaf) behind
 
 pub words_free : (page : ℕ) (xs : List Storage) → ((s : Storage) → Contains xs s → stands_on page s ≡ false)
     → words_of_storages xs page ≡ free_page

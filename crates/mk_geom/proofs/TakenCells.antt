@@ -5,8 +5,8 @@ use Rattle.std.proofs.{Common.{◌∙◌, ◌≡◌, ◌≢◌, ◌≤◌}, lemm
 use Rattle.std.proofs.lemmas.List.FromFn.{get_or-map-range_with_len, length-map-range_with_len}
 use Rattle.std.proofs.{lemmas.List.same_lists, lemmas.List.Elements.All-contains, lemmas.Nat.mul-le}
 use Rattle.mk_geom.proofs.{ClassTable.{cell_ends, class_words_within}, ListSearch.{list_any_found, list_any_from}}
-use Rattle.mk_geom.{proofs.Standing.{stands_at_first}, specs.Storages.{taken_cells}}
-use Rattle.mk_geom.specs.{Classes.{cells_of, class_words_of}, Storages.{IsStorage, Storage, is_cell_taken, stands_on}}
+use Rattle.mk_geom.{proofs.Standing.{stands_at_first}, specs.Classes.{cells_of, class_words_of}}
+use Rattle.mk_geom.specs.Storages.{IsStorage, Storage, is_cell_taken, stands_on, taken_cells}
 
 -- each of these storages that stands on the page is one of those
 abbrev pub Carries : ℕ → List Storage → List Storage → Type 0

@@ -12,26 +12,25 @@ then_at p more xs ys own done r d = record {
   is = d.is ∙ ap (λ (es : List Event). record p { seen = es }) (append_assoc p.seen more d.more);
   own_or_others = own_or_others_in_parts p.seat p.seats more d.more own d.own_or_others;
   done =
-      done_in_parts p more d.more
-      ∙ ap (λ (zs : List Finding). zs ++ done_in (record p { seen = p.seen ++ more }) d.more) done
-      ∙ ap (λ (zs : List Finding). xs ++ zs) d.done;
+      done_in_parts p more d.more ∙ ap (λ (zs : List Finding). zs ++ done_in
+      (record p { seen = p.seen ++ more }) d.more) done ∙ ap (λ (zs : List Finding). xs ++ zs) d.done;
 }
 
-pub did_then : (p : PassState) (xs : List Finding) (q : PassState) (ys : List Finding) (r : PassState) → Did p xs q
+pub did_then : {p : PassState} {xs : List Finding} {q : PassState} {ys : List Finding} {r : PassState} → Did p xs q
     → Did q ys r → Did p (xs ++ ys) r
-did_then p xs q ys r d e = then_at p d.more xs ys d.own_or_others d.done r
+did_then {p} {xs} {ys} {r} d e = then_at p d.more xs ys d.own_or_others d.done r
     (subst (λ (x : PassState). Did x ys r) d.is e)
 
-pub seat_kept : (p : PassState) (xs : List Finding) (q : PassState) → Did p xs q → q.seat ≡ p.seat
-seat_kept p xs q d = ap (λ (x : PassState). x.seat) d.is
+pub seat_kept : {p : PassState} {xs : List Finding} {q : PassState} → Did p xs q → q.seat ≡ p.seat
+seat_kept d = ap (λ (x : PassState). x.seat) d.is
 
-pub table_kept : (p : PassState) (xs : List Finding) (q : PassState) → Did p xs q → q.table ≡ p.table
-table_kept p xs q d = ap (λ (x : PassState). x.table) d.is
+pub table_kept : {p : PassState} {xs : List Finding} {q : PassState} → Did p xs q → q.table ≡ p.table
+table_kept d = ap (λ (x : PassState). x.table) d.is
 
-pub still_of : (w : WordsState) (p : PassState) (xs : List Finding) (q : PassState) → IsOf w p → Did p xs q → IsOf w q
-still_of w p xs q o d = record {
-  one_table = table_kept p xs q d ∙ o.one_table;
-  marker = record { number = o.marker.number; exists = o.marker.exists; seat = seat_kept p xs q d ∙ o.marker.seat };
+pub still_of : {w : WordsState} {p : PassState} {xs : List Finding} {q : PassState} → IsOf w p → Did p xs q → IsOf w q
+still_of {p} {xs} {q} o d = record {
+  one_table = table_kept d ∙ o.one_table;
+  marker = record { number = o.marker.number; exists = o.marker.exists; seat = seat_kept d ∙ o.marker.seat };
 }
 
 pub did_nothing : (p : PassState) → Did p [] p

@@ -66,7 +66,7 @@ StaysChosen c w seat place x =
     ((WorldBehind c w seat x).now.seats.holding.placing ≡ Chosen place)
     ⊎ ((header_at w.now.words place.page ≡ header_made (object_now c w.now) 0) × IsSized (object_now c w.now))
 
-module _ (c : Config) (w : World) (seat : Seat) (limits : IsWithinLimits c) (known : Known c w.now)
+module _ {c : Config} (w : World) (seat : Seat) (limits : IsWithinLimits c) (known : Known c w.now)
     (early : IsMarking w.now.words) (place : Place) (is : w.now.seats.holding.placing ≡ Chosen place) where
   gives_not : Meets c w.now seat Step.Give → ⊥
   gives_not h =
@@ -80,9 +80,9 @@ module _ (c : Config) (w : World) (seat : Seat) (limits : IsWithinLimits c) (kno
       let d = and_parts decided gone b.0 in
       undecided (flight_of w.now seat).stage (undecided_new (flight_of w.now seat) new).stage d.0
 
-  takes : (p n : ℕ) → Meets c w.now seat (Step.Used p n) → UsedStep c w.now (flight_of w.now seat) p n
+  takes : {p n : ℕ} → Meets c w.now seat (Step.Used p n) → UsedStep c w.now (flight_of w.now seat) p n
       → StaysChosen c w seat place (Step.Used p n)
-  takes p n h (ItTakes four once t) =
+  takes h (ItTakes four once t) =
       let now = placed_now c w.now (flight_of w.now seat) t.place t.there in
       let o : Object = object_made c (flight_of w.now seat).op in
       let sized : IsSized o = made_sized c w.now seat limits known now.new in
@@ -104,26 +104,25 @@ module _ (c : Config) (w : World) (seat : Seat) (limits : IsWithinLimits c) (kno
       by (Chosen y) e AsChosen = cc
       by (Used y) e AsUsed = cc
       by Granted e x4 = elim x4 [ ]
-  takes p n h (ItGivesBack four g) = absurd (true≢false (sym four ∙ marking_not_four (phase_of w.now.words) early))
+  takes h (ItGivesBack four g) = absurd (true≢false (sym four ∙ marking_not_four (phase_of w.now.words) early))
 
   pub stays_chosen : (x : Step) → Meets c w.now seat x → StaysChosen c w seat place x
   stays_chosen (Step.Take o) h = grind (arith, either, eqb-true)
   stays_chosen Step.Give h = absurd (gives_not h)
   stays_chosen (Step.Head p n) h = inl (still_chosen (is_phase w.now.words 4) w.now.seats.holding.placing
       (place_now c w.now (flight_of w.now seat)) place is)
-  stays_chosen (Step.Used p n) h = takes p n h (used_step c w.now (flight_of w.now seat) p n h.holder)
+  stays_chosen (Step.Used p n) h = takes h (used_step c w.now (flight_of w.now seat) p n h.holder)
   stays_chosen Step.Grant h = absurd (not_used w.now.seats.holding.placing place is h.holder)
   stays_chosen (Step.Mark p n) h = grind (arith, chosen_still)
   stays_chosen _ h = inl is
 
 -- So a mark that was of a cell is of one after a step: headers go on.
-pub still_a_cell : (c : Config) (w : World) (seat : Seat) (x : Step) (p k : ℕ) → IsWithinLimits c → Known c w.now
-    → IsMarking w.now.words → Meets c w.now seat x
-    → HeaderGoesOn c.pages (header_at w.now.words p) (header_at (WorldBehind c w seat x).now.words p)
-    → IsCell c w.now p k → IsCell c (WorldBehind c w seat x).now p k
-still_a_cell c w seat x p k limits known early h goes is = elim is [
+pub still_a_cell : {c : Config} (w : World) (seat : Seat) (x : Step) (p k : ℕ) → IsWithinLimits c → Known c w.now
+    → IsMarking w.now.words → Meets c w.now seat x → HeaderGoesOn c.pages (header_at w.now.words p)
+    (header_at (WorldBehind c w seat x).now.words p) → IsCell c w.now p k → IsCell c (WorldBehind c w seat x).now p k
+still_a_cell {c} w seat x p k limits known early h goes is = elim is [
   | inl lt ↦ inl (onward lt)
-  | inr t ↦ elim (stays_chosen c w seat limits known early t.place t.chosen x h) [
+  | inr t ↦ elim (stays_chosen w seat limits known early t.place t.chosen x h) [
     | inl still ↦
         let same : object_now c (WorldBehind c w seat x).now ≡ object_now c w.now = object_kind c w seat x known h
         (ap (λ (y : Placing). has_place y) still) in

@@ -15,12 +15,12 @@ use Rattle.mk_marker.proofs.MarkBits.{IsCell, IsToCarve, MarksAreOfCells, made_h
 use Rattle.mk_marker.proofs.NewMarks.{new_mark}
 
 -- headers go on while a cycle marks
-headers_go_on : (c : Config) (w : World) (seat : Seat) (x : Step) → IsWithinLimits c → Known c w.now
+headers_go_on : {c : Config} {w : World} (seat : Seat) (x : Step) → IsWithinLimits c → Known c w.now
     → AreOfPages c.pages w.now.words → IsMarking w.now.words → GuardPremises c w → Meets c w.now seat x → (p : ℕ)
     → HeaderGoesOn c.pages (header_at w.now.words p) (header_at (WorldBehind c w seat x).now.words p)
-headers_go_on c w seat (Step.Head q n) limits known len early say h p =
+headers_go_on {c} {w} seat (Step.Head q n) limits known len early say h p =
     (head_keeps c w.now seat q n len h (head_finds c w seat q n limits known early say h)).headers p
-headers_go_on c w seat x limits known len early say h p = rest x refl
+headers_go_on {c} {w} seat x limits known len early say h p = rest x refl
   where
     rest : (y : Step) → is_head y ≡ false → HeaderGoesOn c.pages (header_at w.now.words p)
         (header_at (WorldBehind c w seat y).now.words p)
@@ -46,35 +46,33 @@ nothing_marked c w seat len h p k is = true≢false (sym is ∙ no_bit (slice_in
       | inr past ↦ get_or_past w.now.words.marks p 0 (omega (arith, len.marks))
     ]
 
-cells_kept : (c : Config) (w : World) (seat : Seat) (x : Step) → IsWithinLimits c → Known c w.now
-    → AreOfPages c.pages w.now.words → LayoutStands c w → GuardPremises c w
-    → Guard c w.now → IsMarking w.now.words → Meets c w.now seat x → MarksAreOfCells c w.now → (p k : ℕ)
-    → has_bit (slice_index (WorldBehind c w seat x).now.words.marks p) k ≡ true
-    → IsCell c (WorldBehind c w seat x).now p k
-cells_kept c w seat x limits known len laid say guard early h all p k is =
-    let goes = headers_go_on c w seat x limits known len early say h in
-    elim (new_mark c w seat limits known laid
+cells_kept : {c : Config} {w : World} (seat : Seat) (x : Step) → IsWithinLimits c → Known c w.now
+    → AreOfPages c.pages w.now.words → LayoutStands c w → GuardPremises c w → Guard c w.now → IsMarking w.now.words
+    → Meets c w.now seat x → MarksAreOfCells c w.now → (p k : ℕ) → has_bit
+    (slice_index (WorldBehind c w seat x).now.words.marks p) k ≡ true → IsCell c (WorldBehind c w seat x).now p k
+cells_kept {c} {w} seat x limits known len laid say guard early h all p k is =
+    let goes = headers_go_on seat x limits known len early say h in
+    elim (new_mark w seat limits known laid
     (marking_not_four (phase_of w.now.words) early) x p k h early guard.markers goes is) [
-      | inl old ↦ still_a_cell c w seat x p k limits known early h (goes p) (all early p k old)
+      | inl old ↦ still_a_cell w seat x p k limits known early h (goes p) (all early p k old)
       | inr new ↦ new
     ]
 
 -- One event, whatever it is.
-marks_behind : (c : Config) (w : World) (seat : Seat) (x : Step) → IsWithinLimits c → Known c w.now
-    → AreOfPages c.pages w.now.words → LayoutStands c w → GuardPremises c w
-    → MarksStand c w.now → Meets c w.now seat x → MarksAreOfCells c w.now
-    → MarksAreOfCells c (WorldBehind c w seat x).now
-marks_behind c w seat Step.Begin limits known len laid say g h all early p k is = absurd
+marks_behind : {c : Config} {w : World} (seat : Seat) (x : Step) → IsWithinLimits c → Known c w.now
+    → AreOfPages c.pages w.now.words → LayoutStands c w → GuardPremises c w → MarksStand c w.now → Meets c w.now seat x
+    → MarksAreOfCells c w.now → MarksAreOfCells c (WorldBehind c w seat x).now
+marks_behind {c} {w} seat Step.Begin limits known len laid say g h all early p k is = absurd
     (nothing_marked c w seat len h p k is)
-marks_behind c w seat Step.Want limits known len laid say g h all early p k is =
+marks_behind {c} {w} seat Step.Want limits known len laid say g h all early p k is =
     let one = eqb-true (phase_of w.now.words) 1 h.phase in
-    cells_kept c w seat Step.Want limits known len laid say (g.guarded (inl one)) (inl one) h all p k is
-marks_behind c w seat Step.Close limits known len laid say g h all early p k is = grind (arith, eqb-true)
-marks_behind c w seat Step.Release limits known len laid say g h all early p k is = grind (arith, eqb-true)
-marks_behind c w seat Step.End limits known len laid say g h all early p k is = grind (arith, eqb-true)
-marks_behind c w seat Step.Over limits known len laid say g h all early p k is =
+    cells_kept seat Step.Want limits known len laid say (g.guarded (inl one)) (inl one) h all p k is
+marks_behind seat Step.Close limits known len laid say g h all early p k is = grind (arith, eqb-true)
+marks_behind seat Step.Release limits known len laid say g h all early p k is = grind (arith, eqb-true)
+marks_behind seat Step.End limits known len laid say g h all early p k is = grind (arith, eqb-true)
+marks_behind {c} {w} seat Step.Over limits known len laid say g h all early p k is =
     let zero = over_phase c w.now seat h in absurd (elim early [ inl e ↦ omega arith | inr e ↦ omega arith ])
-marks_behind c w seat x limits known len laid say g h all early p k is = rest x h refl early is
+marks_behind {c} {w} seat x limits known len laid say g h all early p k is = rest x h refl early is
   where
     rest : (y : Step) → Meets c w.now seat y → is_phase_step y ≡ false → IsMarking (WorldBehind c w seat y).now.words
         → has_bit (slice_index (WorldBehind c w seat y).now.words.marks p) k ≡ true
@@ -82,7 +80,7 @@ marks_behind c w seat x limits known len laid say g h all early p k is = rest x 
     rest y hy stays on there =
         let before : IsMarking w.now.words = subst (λ (n : ℕ). (n ≡ 1) ⊎ (n ≡ 2))
         (phase_stays c w.now seat y stays) on in
-        cells_kept c w seat y limits known len laid say (g.guarded before) before hy all p k there
+        cells_kept seat y limits known len laid say (g.guarded before) before hy all p k there
 
 -- and so along each history
 along : (c : Config) (done es : List Event) → IsHistory c (done ++ es) → MarksAreOfCells c (left c done).now
@@ -93,9 +91,8 @@ along c done (e ∷ es) h all =
     let parts : IsHistory c ((done ++ e ∷ []) ++ es) = subst (λ (xs : List Event). IsHistory c xs) split h in
     let last = comes_last c done e (earlier_part_is_history c (done ++ e ∷ []) es parts) in
     let st = stands c done last.before in
-    let next : MarksAreOfCells c (left c (done ++ e ∷ [])).now =
-    subst (λ (v : World). MarksAreOfCells c v.now) (sym last.leaves)
-    (marks_behind c (left c done) e.seat e.step st.known.limits st.known.now st.known.lengths st.all.order.laid
+    let next : MarksAreOfCells c (left c (done ++ e ∷ [])).now = subst (λ (v : World). MarksAreOfCells c v.now)
+    (sym last.leaves) (marks_behind e.seat e.step st.known.limits st.known.now st.known.lengths st.all.order.laid
     (told_to_guard c (left c done) (never_behind c done) st.known st.all) st.all.marks last.meets all) in
     subst (λ (xs : List Event). MarksAreOfCells c (left c xs).now) (sym split) (along c (done ++ e ∷ []) es parts next)
 
@@ -104,9 +101,9 @@ unfolding left_from
 none_at_first c early p k is = absurd (elim early [ inl e ↦ omega arith | inr e ↦ omega arith ])
 
 -- where the place that is chosen has its first header, that has its cells
-to_carve_shown : (c : Config) (w : World) (p k : ℕ) → LayoutStands c w → IsToCarve c w.now p k
+to_carve_shown : {c : Config} (w : World) {p k : ℕ} → LayoutStands c w → IsToCarve c w.now p k
     → header_at w.now.words p ≢ 0 → k < cells_under (header_in w.now.words p)
-to_carve_shown c w p k laid t some =
+to_carve_shown {c} w {p = p} {k = k} laid t some =
     let plot : IsPlotShown w.now.words.pages t.place.page (object_now c w.now) =
     subst (λ (y : Placing). PlotStands w.now.words.pages (plot_of (object_now c w.now) y)) t.chosen laid.scene.plot in
     let pages = pages_some (object_now c w.now) plot.sized in
@@ -118,11 +115,10 @@ to_carve_shown c w p k laid t some =
           (subst (λ (q : ℕ). header_at w.now.words q ≡ header_made (object_now c w.now) 0) first made) t.cell
     ]
 
-pub marks_are_of_cells : (c : Config) (es : List Event) → IsHistory c es → IsMarking (left c es).now.words
-    → (page k : ℕ)
-    → has_bit (slice_index (left c es).now.words.marks page) k ≡ true → header_at (left c es).now.words page ≢ 0
-    → k < cells_under (header_in (left c es).now.words page)
-marks_are_of_cells c es h early page k is some = elim (along c [] es h (none_at_first c) early page k is) [
+pub marks_are_of_cells : {c : Config} {es : List Event} → IsHistory c es → IsMarking (left c es).now.words
+    → (page k : ℕ) → has_bit (slice_index (left c es).now.words.marks page) k ≡ true
+    → header_at (left c es).now.words page ≢ 0 → k < cells_under (header_in (left c es).now.words page)
+marks_are_of_cells {c} {es} h early page k is some = elim (along c [] es h (none_at_first c) early page k is) [
   | inl lt ↦ lt
-  | inr t ↦ to_carve_shown c (left c es) page k (stands c es h).all.order.laid t some
+  | inr t ↦ to_carve_shown (left c es) (stands c es h).all.order.laid t some
 ]

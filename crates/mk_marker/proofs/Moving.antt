@@ -18,9 +18,8 @@ use Rattle.mk_words.specs.{Markers.{Marks, marker_in}, Seats.Has, States.{PassSt
 use Rattle.mk_words.specs.Steps.{Finds, IsEnabledTo, Makes, found_by}
 
 -- one own event
-one_own : (c : Config) (s : Seat) (w : World) (x : Step)
-    → own_from c s w (record { seat = s; step = x } ∷ []) ≡ finding s x
-    (found c w.now (record { seat = s; step = x })) ∷ []
+one_own : (c : Config) (s : Seat) (w : World) (x : Step) → own_from c s w (record { seat = s; step = x } ∷ [])
+    ≡ finding s x (found c w.now (record { seat = s; step = x })) ∷ []
 unfolding own_from
 one_own c s w x = ap (λ (b : Bool). if b then finding s x
     (found c w.now (record { seat = s; step = x })) ∷ [] else []) (same_self s)
@@ -50,8 +49,8 @@ attends_there m (Marker k) h = h
 attends_there m (Caller k) h = cc
 attends_there m Host h = cc
 
-pub marks_grow : (p : PassState) (s : Step) (q : PassState) → Makes p s q → MarksGrow p q
-marks_grow p s q makes on page k is =
+pub marks_grow : {p : PassState} {s : Step} {q : PassState} → Makes p s q → MarksGrow p q
+marks_grow {p} {s} {q} makes on page k is =
     let d = made p s q makes in
     let scan : ScanIsLeft (left p.table.config p.seen) (left p.table.config (p.seen ++ makes.others)) = d.frame.scan
     (attends_there (now_of p) p.seat on) in
@@ -64,7 +63,7 @@ moves p s n q m = record {
   pass = m.finds.makes.pass;
   did = did_step p s n q m.finds;
   marker = m.marker;
-  marks = marks_grow p s q m.finds.makes;
+  marks = marks_grow m.finds.makes;
 }
 
 -- Who comes in finds one of the six phases.
@@ -81,9 +80,9 @@ look_shows p x n q f =
     f.finds ∙ sym (ap (λ (w : World). named_word w.now.words x) d.world)
 
 -- a step of which the number that it found isn't said
-pub moved : (p : PassState) (s : Step) (q : PassState) → (m : Makes p s q)
+pub moved : {p : PassState} {s : Step} {q : PassState} → (m : Makes p s q)
     → marker_in q ≡ marker_behind p.table.config (found_by m) s (marker_in p) → Moved p s q
-moved p s q m behind = (
+moved {p} {s} {q} m behind = (
   found_by m,
   moves p s (found_by m) q (record { finds = record { makes = m; finds = refl }; marker = behind }),
 )
@@ -96,22 +95,21 @@ still_marked p page k n q on is f =
     let scan = d.frame.scan (attends_there (now_of p) p.seat on) in
     ap (λ (i : ℕ). has_bit i k) f.finds ∙ scan.marks page k is
 
-scan_of : (c : Config) (page k header n : ℕ) → has_bit n k ≡ true
-    → marker_behind c n (Step.Claim page k) (between_scans (Some (record { page = page; header = header }))) ≡ record {
+scan_of : (c : Config) (page k header n : ℕ) → has_bit n k ≡ true → marker_behind c n (Step.Claim page k)
+    (between_scans (Some (record { page = page; header = header }))) ≡ record {
       presence = Attending;
-      scan = Some (scan_begun page k header);
+      scan = Some
+          (scan_begun page k header);
       hand = None;
-      seen = Some
-          (record { page = page; header = header });
+      seen = Some (record { page = page; header = header });
     }
 scan_of c page k header n is = grind arith
 
-pub claimed : (p : PassState) (cell : MarkedCell) (n : ℕ) (q : PassState)
-    → marker_in p ≡ between_scans (Some (record { page = cell.page; header = cell.header }))
-    → IsMarkedIn p cell.page cell.index → Marks p (Step.Claim cell.page cell.index) n q
-    → ClaimsMarked p cell q × IsScanning (marker_in q) × IsScanOf (marker_in q) cell.page cell.index ×
-    (words_left (marker_in q) ≡ words_scanned cell.header)
-claimed p cell n q at is m =
+pub claimed : {p : PassState} (cell : MarkedCell) {n : ℕ} {q : PassState} → marker_in p ≡ between_scans
+    (Some (record { page = cell.page; header = cell.header })) → IsMarkedIn p cell.page cell.index
+    → Marks p (Step.Claim cell.page cell.index) n q → ClaimsMarked p cell q × IsScanning (marker_in q) × IsScanOf
+    (marker_in q) cell.page cell.index × (words_left (marker_in q) ≡ words_scanned cell.header)
+claimed {p} cell {n = n} {q = q} at is m =
     let on : attends p ≡ true = ap (λ (x : MarkerState). is_attending x.presence) at in
     let marked = still_marked p cell.page cell.index n q on is m.finds in
     let x : MarkerState = record {
@@ -141,16 +139,16 @@ claimed p cell n q at is m =
     begun_left : (a w : ℕ) → (a + w) - a ≡ w
     begun_left a w = omega arith
 
-pub may_claim_seen : (w : WordsState) (p : PassState) (cell : MarkedCell) → IsOf w p
+pub may_claim_seen : {w : WordsState} {p : PassState} (cell : MarkedCell) → IsOf w p
     → marker_in p ≡ between_scans (Some (record { page = cell.page; header = cell.header }))
     → cell.page < w.config.pages → cell.index < cells_under (header_of cell.header) → cell.index < 32
     → IsEnabledTo p (Step.Claim cell.page cell.index)
-may_claim_seen w p cell of at page index few = grind (arith, lt-ltb, eq-eqb, meets_enabled)
+may_claim_seen cell of at page index few = grind (arith, lt-ltb, eq-eqb, meets_enabled)
 
 -- after its `mblack` the cell is black
-pub blackened : (p : PassState) (page k : ℕ) (q : PassState) → Makes p Step.Mblack q
+pub blackened : {p : PassState} {page k : ℕ} {q : PassState} → Makes p Step.Mblack q
     → IsScanOf (marker_in p) page k → page < p.table.config.pages → k < 64 → IsBlackIn q page k
-blackened p page k q makes of lt few =
+blackened {p} {page} {k} {q} makes of lt few =
     let d = made p Step.Mblack q makes in
     let c : Config = p.table.config in
     let w : World = left c (p.seen ++ makes.others) in

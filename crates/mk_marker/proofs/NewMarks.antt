@@ -46,11 +46,11 @@ bits_of_cells o k is = by (is_small_object o) is
 
 -- the header that a marker has seen where it marks
 
-seen_none : (c : Config) (m : Moment) (seat : Seat) → Known c m → is_attending (marker_at m seat).presence ≡ false
+seen_none : {c : Config} {m : Moment} (seat : Seat) → Known c m → is_attending (marker_at m seat).presence ≡ false
     → (marker_at m seat).seen ≡ None
-seen_none c m (Marker k) known off = (known.orderly.idle k off).seen
-seen_none c m (Caller k) known off = refl
-seen_none c m Host known off = refl
+seen_none (Marker k) known off = (known.orderly.idle k off).seen
+seen_none (Caller k) known off = refl
+seen_none Host known off = refl
 
 marker_stands : (c : Config) (m : Moment) (seat : Seat)
     → ((j : ℕ) → is_attending (marker_of m j).presence ≡ true → MarkerStands c m (marker_of m j))
@@ -59,19 +59,20 @@ marker_stands c m (Marker k) markers on = markers k on
 marker_stands c m (Caller k) markers on = cc
 marker_stands c m Host markers on = cc
 
-seen_header_goes_on : (c : Config) (m : Moment) (seat : Seat) → Known c m
+seen_header_goes_on : {c : Config} {m : Moment} (seat : Seat) → Known c m
     → ((j : ℕ) → is_attending (marker_of m j).presence ≡ true → MarkerStands c m (marker_of m j))
     → is_some (cell_seen c (marker_at m seat).seen (marker_at m seat).hand) ≡ true
     → (s : SeenHeader) → (marker_at m seat).seen ≡ Some s → HeaderGoesOn c.pages s.header (header_at m.words s.page)
-seen_header_goes_on c m seat known markers some s is = elim (cases_Bool (is_attending (marker_at m seat).presence)) [
-  | inl on ↦ (marker_stands c m seat markers on).seen s is
-  | inr off ↦
-      let none = seen_none c m seat known off in
-      absurd (true≢false (sym some ∙ ap (λ (y : Option SeenHeader). is_some
-      (cell_seen c y (marker_at m seat).hand)) none))
-]
+seen_header_goes_on {c} {m} seat known markers some s is =
+    elim (cases_Bool (is_attending (marker_at m seat).presence)) [
+      | inl on ↦ (marker_stands c m seat markers on).seen s is
+      | inr off ↦
+          let none = seen_none seat known off in
+          absurd (true≢false (sym some ∙ ap (λ (y : Option SeenHeader). is_some
+          (cell_seen c y (marker_at m seat).hand)) none))
+    ]
 
-module _ (c : Config) (w : World) (seat : Seat) (limits : IsWithinLimits c) (known : Known c w.now)
+module _ {c : Config} (w : World) (seat : Seat) (limits : IsWithinLimits c) (known : Known c w.now)
     (laid : LayoutStands c w) (on : is_phase w.now.words 4 ≡ false) where
   -- by a hand
   by_hand : (hand : Option Hand) (p n k : ℕ) → marks_by_hand c.pages w.now.words hand p n ≡ true → has_bit n k ≡ true
@@ -87,15 +88,13 @@ module _ (c : Config) (w : World) (seat : Seat) (limits : IsWithinLimits c) (kno
           let page : p ≡ cell.page = eqb-true p cell.page parts.0 in
           let value : n ≡ 2 ^ cell.index = eqb-true n (2 ^ cell.index) parts.1 in
           let same : k ≡ cell.index = bit_of_power cell.index k (subst (λ (i : ℕ). has_bit i k ≡ true) value is) in
-          subst (λ (i : ℕ). i < cells_under (header_in w.now.words p)) (sym same)
-          (subst (λ (q : ℕ). cell.index < cells_under (header_in w.now.words q)) (sym page)
-          (pointed_is_cell c w laid on hand.value cell there))
+          subst (λ (i : ℕ). i < cells_under (header_in w.now.words p)) (sym same) (subst (λ (q : ℕ). cell.index
+          < cells_under (header_in w.now.words q)) (sym page) (pointed_is_cell c w laid on hand.value cell there))
 
   -- for the place of a New
-  by_place : (p n k : ℕ) → Meets c w.now seat (Step.Mark p n)
-      → marks_place w.now.words (object_made c (flight_of w.now seat).op)
-      (place_now c w.now (flight_of w.now seat)) p n ≡ true → has_bit n k ≡ true
-      → IsCell c (WorldBehind c w seat (Step.Mark p n)).now p k
+  by_place : (p n k : ℕ) → Meets c w.now seat (Step.Mark p n) → marks_place w.now.words
+      (object_made c (flight_of w.now seat).op) (place_now c w.now (flight_of w.now seat)) p n ≡ true
+      → has_bit n k ≡ true → IsCell c (WorldBehind c w seat (Step.Mark p n)).now p k
   by_place p n k h may is = at w.now.seats.holding.placing refl now.placed
     where
       m : MarksPlace w.now.words (object_made c (flight_of w.now seat).op)
@@ -110,20 +109,17 @@ module _ (c : Config) (w : World) (seat : Seat) (limits : IsWithinLimits c) (kno
       same = holding_object c w.now seat known (new_has_turn c w.now seat h.seat now.new)
 
       cell : k < cells_made (object_now c w.now)
-      cell = subst (λ (o : Object). k < cells_made o) (sym same)
-          (bits_of_cells (object_made c (flight_of w.now seat).op) k
-          (subst (λ (i : ℕ). has_bit i k ≡ true) m.marked.is is))
+      cell = subst (λ (o : Object). k < cells_made o) (sym same) (bits_of_cells
+          (object_made c (flight_of w.now seat).op) k (subst (λ (i : ℕ). has_bit i k ≡ true) m.marked.is is))
 
       behind : Placing → Option Place → Bool → Placing
       behind placing found b = if b then chosen placing found else placing
 
-      placed : (placing : Placing) → w.now.seats.holding.placing ≡ placing
-          → chosen placing (Some m.place) ≡ Chosen m.place
-          → (WorldBehind c w seat (Step.Mark p n)).now.seats.holding.placing ≡ Chosen m.place
+      placed : (placing : Placing) → w.now.seats.holding.placing ≡ placing → chosen placing (Some m.place)
+          ≡ Chosen m.place → (WorldBehind c w seat (Step.Mark p n)).now.seats.holding.placing ≡ Chosen m.place
       placed placing e is =
-          ap (λ (b : Bool). if b then chosen w.now.seats.holding.placing
-          (place_now c w.now (flight_of w.now seat)) else w.now.seats.holding.placing) may
-          ∙ ap (λ (y : Placing). chosen y (place_now c w.now (flight_of w.now seat))) e
+          ap (λ (b : Bool). if b then chosen w.now.seats.holding.placing (place_now c w.now (flight_of w.now seat)) else
+          w.now.seats.holding.placing) may ∙ ap (λ (y : Placing). chosen y (place_now c w.now (flight_of w.now seat))) e
           ∙ ap (λ (y : Option Place). chosen placing y) m.there ∙ is
 
       carved : (placing : Placing) → w.now.seats.holding.placing ≡ placing
@@ -169,9 +165,8 @@ module _ (c : Config) (w : World) (seat : Seat) (limits : IsWithinLimits c) (kno
   seen_is (Some s) (Some value) goes p k some page bit = by (s.page == page_at_address value) refl
       (cell_at c.pages s.header value) refl some page bit
     where
-      by : (b : Bool) → (s.page == page_at_address value) ≡ b → (cell : Option Cell)
-          → cell_at c.pages s.header value ≡ cell
-          → is_some (if b then cell else None) ≡ true → p ≡ seen_page (if b then cell else None)
+      by : (b : Bool) → (s.page == page_at_address value) ≡ b → (cell : Option Cell) → cell_at c.pages s.header value
+          ≡ cell → is_some (if b then cell else None) ≡ true → p ≡ seen_page (if b then cell else None)
           → has_bit (seen_bit (if b then cell else None)) k ≡ true → k < cells_under (header_in w.now.words p)
       by false here cell is some page bit = cc
       by true here None is some page bit = cc
@@ -182,9 +177,8 @@ module _ (c : Config) (w : World) (seat : Seat) (limits : IsWithinLimits c) (kno
           subst (λ (q : ℕ). cell_at c.pages (header_at w.now.words q) value ≡ Some cell)
           (eqb-true s.page (page_at_address value) here) now in
           let same : k ≡ cell.index = bit_of_cell cell.index k bit in
-          subst (λ (i : ℕ). i < cells_under (header_in w.now.words p)) (sym same)
-          (subst (λ (q : ℕ). cell.index < cells_under (header_in w.now.words q)) (sym page)
-          (found_is_cell c w laid on value cell there))
+          subst (λ (i : ℕ). i < cells_under (header_in w.now.words p)) (sym same) (subst (λ (q : ℕ). cell.index
+          < cells_under (header_in w.now.words q)) (sym page) (found_is_cell c w laid on value cell there))
 
   -- The mark that a step adds.
   pub new_mark : (x : Step) (p k : ℕ) → Meets c w.now seat x → IsMarking w.now.words
@@ -195,9 +189,8 @@ module _ (c : Config) (w : World) (seat : Seat) (limits : IsWithinLimits c) (kno
   new_mark (Step.Mark q n) p k h early markers goes is = elim (more_bits w.now.words.marks q n p k is) [
     | inl old ↦ inl old
     | inr new ↦
-        let may = or_cases (marks_by_hand c.pages w.now.words w.now.seats.holding.hand q n)
-        (marks_place w.now.words (object_made c (flight_of w.now seat).op)
-        (place_now c w.now (flight_of w.now seat)) q n) h.holder in
+        let may = or_cases (marks_by_hand c.pages w.now.words w.now.seats.holding.hand q n) (marks_place w.now.words
+        (object_made c (flight_of w.now seat).op) (place_now c w.now (flight_of w.now seat)) q n) h.holder in
         subst (λ (i : ℕ). (has_bit (slice_index w.now.words.marks p) k ≡ true) ⊎ IsCell c
         (WorldBehind c w seat (Step.Mark q n)).now i k) (sym new.0) (elim may [
           | inl hand ↦ inr (inl (by_hand w.now.seats.holding.hand q n k hand new.1))
@@ -205,19 +198,17 @@ module _ (c : Config) (w : World) (seat : Seat) (limits : IsWithinLimits c) (kno
         ])
   ]
   new_mark Step.Mmark p k h early markers goes is =
-      elim (more_bits w.now.words.marks (seen_page
-      (cell_seen c (marker_at w.now seat).seen (marker_at w.now seat).hand))
-      (seen_bit (cell_seen c (marker_at w.now seat).seen (marker_at w.now seat).hand)) p k is) [
+      elim (more_bits w.now.words.marks (seen_page (cell_seen c (marker_at w.now seat).seen (marker_at w.now
+      seat).hand)) (seen_bit (cell_seen c (marker_at w.now seat).seen (marker_at w.now seat).hand)) p k is) [
         | inl old ↦ inl old
         | inr new ↦
             inr (inl (seen_is (marker_at w.now seat).seen (marker_at w.now seat).hand
-            (seen_header_goes_on c w.now seat known markers h.marker) p k h.marker new.0 new.1))
+            (seen_header_goes_on seat known markers h.marker) p k h.marker new.0 new.1))
       ]
   new_mark (Step.Clear q) p k h early markers goes is = grind (arith, eqb-true)
   new_mark x p k h early markers goes is = rest x refl is
     where
-      rest : (y : Step) → is_marking_step y ≡ false
-          → has_bit (slice_index (WorldBehind c w seat y).now.words.marks p) k ≡ true
-          → (has_bit (slice_index w.now.words.marks p) k ≡ true) ⊎ IsCell c (WorldBehind c w seat y).now p k
+      rest : (y : Step) → is_marking_step y ≡ false → has_bit (slice_index (WorldBehind c w seat y).now.words.marks p) k
+          ≡ true → (has_bit (slice_index w.now.words.marks p) k ≡ true) ⊎ IsCell c (WorldBehind c w seat y).now p k
       rest y u there = inl (subst (λ (ys : List ℕ). has_bit (slice_index ys p) k ≡ true)
           (marks_same c w seat y u) there)

@@ -20,9 +20,9 @@ later_index false h page cell is = cc
 
 module _ (c : Config) (w : World) (laid : LayoutStands c w) (on : is_phase w.now.words 4 ≡ false) where
   -- the cell lies on its own page, which has cells
-  near : (h : Header) (page : ℕ) (cell : Cell) → header_in w.now.words page ≡ Some h → 0 < cells_under (Some h)
+  near : {h : Header} {page : ℕ} {cell : Cell} → header_in w.now.words page ≡ Some h → 0 < cells_under (Some h)
       → cell.page ≡ page → (l : LiesUnder h page cell) → cell.index < cells_under (header_in w.now.words cell.page)
-  near h page cell shown some at l = grind arith
+  near shown some at l = grind arith
 
   far : (d : ℕ) (mapped : Bool) (page : ℕ) (cell : Cell) → header_in w.now.words page ≡ Some (Later d mapped)
       → cell.page ≡ page - d → cell.index ≡ 0 → cell.index < cells_under (header_in w.now.words cell.page)
@@ -38,20 +38,17 @@ module _ (c : Config) (w : World) (laid : LayoutStands c w) (on : is_phase w.now
       → cell_under h page word ≡ Some cell → cell.index < cells_under (header_in w.now.words cell.page)
   by_header Free page word cell range shown is = cc
   by_header (Block class) page word cell range shown is =
-      let l = lies_under (Block class) page word cell is in near (Block class) page cell shown
-      (some_cells class range) l.head l
+      let l = lies_under (Block class) page word cell is in near shown (some_cells class range) l.head l
   by_header (LeafBlock class) page word cell range shown is =
-      let l = lies_under (LeafBlock class) page word cell is in near (LeafBlock class) page cell shown
-      (some_cells class range) l.head l
+      let l = lies_under (LeafBlock class) page word cell is in near shown (some_cells class range) l.head l
   by_header (Run count mapped) page word cell range shown is = grind (arith, lies_under, near)
   by_header (LeafRun count) page word cell range shown is = grind (arith, lies_under, near)
   by_header (Later d mapped) page word cell range shown is =
       let l = lies_under (Later d mapped) page word cell is in
       far d mapped page cell shown l.head (later_index (nat_le d page) (Later d mapped) page cell is)
 
-  pub found_is_cell : (value : ℕ) (cell : Cell)
-      → cell_at c.pages (header_at w.now.words (page_at_address value)) value ≡ Some cell
-      → cell.index < cells_under (header_in w.now.words cell.page)
+  pub found_is_cell : (value : ℕ) (cell : Cell) → cell_at c.pages (header_at w.now.words (page_at_address value)) value
+      ≡ Some cell → cell.index < cells_under (header_in w.now.words cell.page)
   found_is_cell value cell is =
       let page : ℕ = page_at_address value in
       let under = found_under c.pages (header_at w.now.words page) value cell is in

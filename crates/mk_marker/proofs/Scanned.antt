@@ -3,9 +3,9 @@ use Rattle.std.proofs.lemmas.List.Sums.{sum_by-append}
 use Rattle.mk_laws.proofs.Vocabulary.{Bool, List, Seat, Step, ℕ, ap, cond, false, refl, subst, true, [], ◌&&◌, ◌++◌}
 use Rattle.mk_laws.proofs.Vocabulary.{◌+◌, ◌∙◌, ◌∷◌, ◌≡◌}
 use Rattle.mk_core.specs.Growing.{Finding}
-use Rattle.mk_marker.{proofs.Did.{did_nothing, did_then, seat_kept}, specs.Scanning.{words_scanned}}
-use Rattle.mk_marker.specs.{declared.cells.MarkedCell.MarkedCell, Doing.{Did, count_loads, finding, is_markers_load}}
-use Rattle.mk_marker.specs.{Doing.is_of_scan, Steps.{ClaimsMarked, Moved, MovesMarker, ScansCell, ScansOn}}
+use Rattle.mk_marker.{proofs.Did.{did_nothing, did_then, seat_kept}, specs.declared.cells.MarkedCell.{MarkedCell}}
+use Rattle.mk_marker.specs.{Doing.{Did, count_loads, finding, is_markers_load, is_of_scan}, Steps.{ClaimsMarked, Moved}}
+use Rattle.mk_marker.specs.{Steps.{MovesMarker, ScansCell, ScansOn}, Scanning.words_scanned}
 use Rattle.mk_turns.proofs.Doing.{of_kinds_in_parts}
 use Rattle.mk_words.specs.States.{PassState}
 
@@ -15,44 +15,42 @@ count_in_parts xs ys = sum_by-append (λ (x : Finding). cond (is_markers_load x.
 pub goes_nowhere : (p : PassState) → ScansOn p 0 p
 goes_nowhere p = record { steps = []; did = did_nothing p; of_scan = refl; has_loads = refl }
 
-pub goes_then : (p : PassState) (i : ℕ) (q : PassState) (j : ℕ) (r : PassState) → ScansOn p i q → ScansOn q j r
+pub goes_then : {p : PassState} {i : ℕ} {q : PassState} {j : ℕ} {r : PassState} → ScansOn p i q → ScansOn q j r
     → ScansOn p (i + j) r
-goes_then p i q j r a b = record {
+goes_then {p} {i} {q} {r} a b = record {
   steps = a.steps ++ b.steps;
-  did = did_then p a.steps q b.steps r a.did b.did;
+  did = did_then a.did b.did;
   of_scan = of_kinds_in_parts is_of_scan a.steps b.steps a.of_scan b.of_scan;
   has_loads = count_in_parts a.steps b.steps ∙ ap (λ (n : ℕ). n + count_loads b.steps) a.has_loads
       ∙ ap (λ (n : ℕ). i + n) b.has_loads;
 }
 
-pub goes_once : (p : PassState) (s : Step) (n : ℕ) (q : PassState) → is_of_scan s ≡ true → is_markers_load s ≡ false
+pub goes_once : {p : PassState} {s : Step} {n : ℕ} {q : PassState} → is_of_scan s ≡ true → is_markers_load s ≡ false
     → MovesMarker p s n q → ScansOn p 0 q
-goes_once p s n q allowed silent m = record {
+goes_once {p} {s} {n} allowed silent m = record {
   steps = finding p.seat s n ∷ [];
   did = m.did;
   of_scan = ap (λ (b : Bool). b && true) allowed;
   has_loads = ap (λ (b : Bool). 0 + cond {A = ℕ} b 1 0) silent;
 }
 
-pub loads_once : (p : PassState) (n : ℕ) (q : PassState) → MovesMarker p Step.Mload n q → ScansOn p 1 q
-loads_once p n q m = record { steps = finding p.seat Step.Mload n ∷ []; did = m.did; of_scan = refl; has_loads = refl }
+pub loads_once : {p : PassState} {n : ℕ} {q : PassState} → MovesMarker p Step.Mload n q → ScansOn p 1 q
+loads_once {p} {n} m =
+    record { steps = finding p.seat Step.Mload n ∷ []; did = m.did; of_scan = refl; has_loads = refl }
 
-pub scanned : (p : PassState) (cell : MarkedCell) (a : PassState) (count : ℕ) (b q : PassState)
+pub scanned : {p : PassState} {cell : MarkedCell} {a : PassState} {count : ℕ} {b : PassState} (q : PassState)
     → ClaimsMarked p cell a → ScansOn a count b
     → count ≡ words_scanned cell.header → Moved b Step.Mblack q → ScansCell p cell q
-scanned p cell a count b q claims goes is black =
+scanned {p} {cell} {a} {b} q claims goes is black =
     let one = goes.did in
-    let at : b.seat ≡ p.seat = seat_kept a goes.steps b goes.did
-    ∙ seat_kept p (finding p.seat (Step.Claim cell.page cell.index) claims.found ∷ []) a claims.moves.did in
+    let at : b.seat ≡ p.seat = seat_kept goes.did ∙ seat_kept claims.moves.did in
     let last : Did b (finding p.seat Step.Mblack black.0 ∷ []) q = subst
     (λ (s : Seat). Did b (finding s Step.Mblack black.0 ∷ []) q) at black.1.did in
     record {
       steps = finding p.seat (Step.Claim cell.page cell.index) claims.found ∷
           (goes.steps ++ finding p.seat Step.Mblack black.0 ∷ []);
       did =
-          did_then p (finding p.seat (Step.Claim cell.page cell.index) claims.found ∷ []) a
-          (goes.steps ++ finding p.seat Step.Mblack black.0 ∷ []) q claims.moves.did
-          (did_then a goes.steps b (finding p.seat Step.Mblack black.0 ∷ []) q goes.did last);
+          did_then claims.moves.did (did_then goes.did last);
       scans = record {
         marks = claims.found;
         blacks = black.0;

@@ -1,8 +1,8 @@
 -- A New's allocation is after all that were there before.
 use Rattle.std.proofs.Common.{List, ℕ, arith, get_or-set_same, length, length-append, refl, [], ◌*◌, ◌+◌, ◌<◌, ◌≤◌}
 use Rattle.std.proofs.lemmas.List.{get_or_at}
-use Rattle.mk_never.{proofs.Later.{calls_stay}, specs.Laws.{Continues, NewAdds}}
-use Rattle.mk_never.specs.{NeverHeap.{Call, NeverState, after_calls}, declared.values.Value.TheVariants.{Null, Ptr}}
+use Rattle.mk_never.{proofs.Later.{calls_stay}, specs.NeverHeap.{Call, NeverState, after_calls}}
+use Rattle.mk_never.specs.{declared.values.Value.TheVariants.{Null, Ptr}, Laws.{Continues, NewAdds}}
 
 pub new_adds : (n : NeverState) (caller d ty : ℕ) → NewAdds n caller d ty
 new_adds n caller d ty is_caller in_range =

@@ -18,8 +18,8 @@ same_allocations n m types allocations registers globals = grind arith
 pub same : (n : NeverState) → Continues n n
 same n = same_allocations n n refl refl refl refl
 
-pub join : (n m o : NeverState) → Continues n m → Continues m o → Continues n o
-join n m o first second = grind arith
+pub join : {n m o : NeverState} → Continues n m → Continues m o → Continues n o
+join first second = grind arith
 
 pub register_stays : (n : NeverState) (c r : ℕ) (v : Value) → Continues n (with_register n c r v)
 register_stays n c r v = same_allocations n _ refl refl (length-set _ _ _) refl
@@ -36,8 +36,7 @@ edit_stays n number new ty size freed = record {
   registers = refl;
   globals = refl;
   count = omega (arith, length-set n.allocations number new);
-  ty = λ k h. set_by (λ a. a.ty ≡ (allocation_at n k).ty) n.allocations number k new no_allocation
-      (λ e. rw e ty) refl;
+  ty = λ k h. set_by (λ a. a.ty ≡ (allocation_at n k).ty) n.allocations number k new no_allocation (λ e. rw e ty) refl;
   size = λ k h. set_by (λ a. length a.words ≡ length (words_of n k)) n.allocations number k new no_allocation
       (λ e. rw e size) refl;
   freed = λ k h. set_by (λ a. a.freed ≡ true) n.allocations number k new no_allocation
@@ -72,20 +71,19 @@ free_stays n (Num m) = same n
 free_stays n (Ptr number ty offset) = freed_stays n number
 
 -- an access leaves the allocations where what it leaves at each word does
-access_stays : (n : NeverState) (t : Target) (refused : NeverState) (at : ℕ → ℕ → NeverState)
+access_stays : {n : NeverState} (t : Target) {refused : NeverState} (at : ℕ → ℕ → NeverState)
     → Continues n refused → ((number place : ℕ) → Continues n (at number place)) → Continues n (left_at t refused at)
-access_stays n t refused at kept reached = grind (arith, left_at_by)
+access_stays t at kept reached = grind (arith, left_at_by)
 
 pub op_stays : (n : NeverState) (c : ℕ) (op : Op) → Continues n (after_op n c op)
 op_stays n c (New d ty full) = if_by (λ m. Continues n m) full _ _ (λ e. same n)
-    (λ e. join n (with_new n ty) _ (new_stays n ty) (register_stays (with_new n ty) c d _))
+    (λ e. join (new_stays n ty) (register_stays (with_new n ty) c d _))
 op_stays n c (Free p) = free_stays n (register_at n c p)
-op_stays n c (SetNum q i m) = access_stays n _ n _ (same n) (λ number place. word_stays n number place _)
-op_stays n c (GetPtr d q i) = access_stays n _ _ _ (register_stays n c d _) (λ number place. register_stays n c d _)
-op_stays n c (SetPtr q i p) = access_stays n _ n _ (same n) (λ number place. word_stays n number place _)
-op_stays n c (CasPtr q i p r) = access_stays n _ n _ (same n)
-    (λ number place. if_by (λ m. Continues n m) (is_same (word_at n number place) (register_at n c p)) _ _
-    (λ e. word_stays n number place _) (λ e. same n))
+op_stays n c (SetNum q i m) = access_stays _ _ (same n) (λ number place. word_stays n number place _)
+op_stays n c (GetPtr d q i) = access_stays _ _ (register_stays n c d _) (λ number place. register_stays n c d _)
+op_stays n c (SetPtr q i p) = access_stays _ _ (same n) (λ number place. word_stays n number place _)
+op_stays n c (CasPtr q i p r) = access_stays _ _ (same n) (λ number place. if_by (λ m. Continues n m)
+    (is_same (word_at n number place) (register_at n c p)) _ _ (λ e. word_stays n number place _) (λ e. same n))
 op_stays n c (Lea d q i) = register_stays n c d _
 op_stays n c (Move d q) = register_stays n c d _
 op_stays n c (Clear d) = register_stays n c d _
@@ -95,8 +93,7 @@ op_stays n c _ = same n
 
 pub calls_stay : (n : NeverState) (calls : List Call) → Continues n (after_calls n calls)
 calls_stay n [] = same n
-calls_stay n (x ∷ xs) =
-    join n (after_op n x.caller x.op) _ (op_stays n x.caller x.op) (calls_stay (after_op n x.caller x.op) xs)
+calls_stay n (x ∷ xs) = join (op_stays n x.caller x.op) (calls_stay (after_op n x.caller x.op) xs)
 
 pub types_stay : (n : NeverState) (calls : List Call) (number : ℕ) → number < length n.allocations
     → TypeStays n (after_calls n calls) number

@@ -1,8 +1,8 @@
 -- Calls in two parts: what they leave, what they are replied, and where they are admitted.
 use Rattle.std.proofs.Common.{List, ℕ, ap, refl, [], ◌++◌, ◌∷◌}
-use Rattle.mk_never.specs.{Laws.{AdmittedInParts, LeavesInParts, RepliesInParts}, NeverHeap.{Call, NeverState}}
-use Rattle.mk_never.specs.{NeverHeap.{after_calls, after_op, reply_of}, Admitted.AreAdmitted}
-use Rattle.mk_never.specs.declared.operations.Reply.{Reply}
+use Rattle.mk_never.specs.Laws.{AdmittedInParts, LeavesInParts, RepliesInParts}
+use Rattle.mk_never.specs.NeverHeap.{Call, NeverState, after_calls, after_op, reply_of}
+use Rattle.mk_never.specs.{Admitted.AreAdmitted, declared.operations.Reply.Reply}
 
 pub after_append : (n : NeverState) (earlier later : List Call) → LeavesInParts n earlier later
 after_append n [] later = refl
@@ -13,9 +13,8 @@ replies_append n [] later = refl
 replies_append n (x ∷ xs) later = ap (λ (replies : List Reply). reply_of n x.caller x.op ∷ replies)
     (replies_append (after_op n x.caller x.op) xs later)
 
-pub admitted_split : (globals : List ℕ) (n : NeverState) (earlier later : List Call)
-    → AreAdmitted globals n (earlier ++ later)
-    → AreAdmitted globals n earlier × AreAdmitted globals (after_calls n earlier) later
+pub admitted_split : (globals : List ℕ) (n : NeverState) (earlier later : List Call) → AreAdmitted globals n
+    (earlier ++ later) → AreAdmitted globals n earlier × AreAdmitted globals (after_calls n earlier) later
 admitted_split globals n [] later admitted = (tt, admitted)
 admitted_split globals n (x ∷ xs) later admitted =
     let rest = admitted_split globals (after_op n x.caller x.op) xs later admitted.1 in ((admitted.0, rest.0), rest.1)

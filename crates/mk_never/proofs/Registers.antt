@@ -1,10 +1,10 @@
 -- The calls of others leave a caller's registers.
 use Rattle.std.proofs.Common.{List, ℕ, arith, get_or-set_other, refl, [], ◌*◌, ◌+◌, ◌<◌, ◌∙◌, ◌∷◌, ◌≢◌}
-use Rattle.mk_never.{proofs.Edits.{if_by, left_at_by}, specs.NeverHeap.{left_at, register_at, with_register}}
-use Rattle.mk_never.specs.declared.operations.Op.TheVariants.{SetNum, SetPtr, CasPtr, Clear, Free, GetGlobal, GetPtr}
-use Rattle.mk_never.specs.{declared.operations.Op.TheVariants.{Lea, Move, New}, Admitted.{AreAdmitted, IsAdmitted}}
-use Rattle.mk_never.specs.{Admitted.OperandsAreInRange, Laws.{AreByOthers, AreNotBy, DestinationIsInRange}}
-use Rattle.mk_never.specs.{Laws.KeepsRegisters, NeverHeap.{Call, NeverState, after_calls, after_free, after_op}}
+use Rattle.mk_never.{proofs.Edits.{if_by, left_at_by}, specs.declared.operations.Op.TheVariants.{SetNum, SetPtr}}
+use Rattle.mk_never.specs.{Admitted.{AreAdmitted, IsAdmitted, OperandsAreInRange}, Laws.{AreByOthers, AreNotBy}}
+use Rattle.mk_never.specs.{Laws.{DestinationIsInRange, KeepsRegisters}, NeverHeap.{Call, NeverState, after_calls}}
+use Rattle.mk_never.specs.NeverHeap.{after_free, after_op, left_at, register_at, with_register}
+use Rattle.mk_never.specs.declared.operations.Op.TheVariants.{CasPtr, Clear, Free, GetGlobal, GetPtr, Lea, Move, New}
 use Rattle.mk_never.specs.{declared.values.Value.TheVariants.{Null, Num, Ptr}, declared.operations.Op.Op}
 use Rattle.mk_never.specs.{declared.values.Target.Target, declared.values.Value.Value}
 

@@ -13,18 +13,18 @@ pub place_is_inside : (kinds : List Kind) (offset : ℕ) → IsPlaceIn kinds off
 place_is_inside kinds offset (inl first) some = omega arith
 place_is_inside kinds offset (inr inside) some = inside
 
-pub sound_kept : (n m : NeverState) → Continues n m → (v : Value) → IsSound n v → IsSound m v
-sound_kept n m stays Null sound = tt
-sound_kept n m stays (Num k) sound = sound
-sound_kept n m stays (Ptr number ty offset) sound = grind arith
+pub sound_kept : {n m : NeverState} → Continues n m → (v : Value) → IsSound n v → IsSound m v
+sound_kept stays Null sound = tt
+sound_kept stays (Num k) sound = sound
+sound_kept stays (Ptr number ty offset) sound = grind arith
 
-pub suits_kept : (n m : NeverState) → Continues n m → (v : Value) (kind : Kind) → Suits n v kind → Suits m v kind
-suits_kept n m stays v Number suits = suits
-suits_kept n m stays v (To ty offset) suits = (sound_kept n m stays v suits.0, suits.1)
+pub suits_kept : {n m : NeverState} → Continues n m → (v : Value) (kind : Kind) → Suits n v kind → Suits m v kind
+suits_kept stays v Number suits = suits
+suits_kept {n} {m} stays v (To ty offset) suits = (sound_kept stays v suits.0, suits.1)
 
-pub allocation_kept : (n m : NeverState) → Continues n m → (a : Allocation) → IsTypedAllocation n a
+pub allocation_kept : {n m : NeverState} → Continues n m → {a : Allocation} → IsTypedAllocation n a
     → IsTypedAllocation m a
-allocation_kept n m stays a typed = grind (arith, suits_kept)
+allocation_kept stays typed = grind (arith, suits_kept)
 
 pub number_suits : (n : NeverState) (m : ℕ) (kind : Kind) → IsNumber kind → Suits n (Num m) kind
 number_suits n m Number is = tt

@@ -2,12 +2,12 @@
 use Rattle.std.proofs.Common.{List, ℕ, ap, arith, get_or, get_or-set_other, get_or-set_same, length, refl, sym, [], ◌*◌}
 use Rattle.std.proofs.{Common.{◌+◌, ◌<◌, ◌∙◌, ◌∷◌, ◌≡◌, ◌≢◌}, lemmas.List.get_or_append_left}
 use Rattle.mk_never.proofs.{Edits.{exists, if_by, left_at_by, set_by}, Later.op_stays}
-use Rattle.mk_never.proofs.Sameness.{equal_from_same, same_from_equal}
-use Rattle.mk_never.specs.{declared.values.Value.Value, Laws.{Continues, LoadGivesStored, LoadsGive, Reaches}}
-use Rattle.mk_never.specs.{Laws.{StoreIsInside, StoreLeaves, StoresTo, UnstoredStays}, NeverHeap.{Call, NeverState}}
-use Rattle.mk_never.specs.NeverHeap.{after_free, after_op, left_at, no_allocation, number_of, register_at, reply_at}
-use Rattle.mk_never.specs.NeverHeap.{with_freed, with_register, with_word, word_at, words_of}
-use Rattle.mk_never.specs.declared.operations.Op.TheVariants.{CasPtr, Free, GetPtr, New, SetNum, SetPtr}
+use Rattle.mk_never.{proofs.Sameness.{equal_from_same, same_from_equal}, specs.declared.values.Value.{Value}}
+use Rattle.mk_never.specs.Laws.{Continues, LoadGivesStored, LoadsGive, Reaches, StoreIsInside, StoreLeaves, StoresTo}
+use Rattle.mk_never.specs.{Laws.UnstoredStays, NeverHeap.{Call, NeverState, after_free, after_op, left_at}}
+use Rattle.mk_never.specs.NeverHeap.{no_allocation, number_of, register_at, reply_at, with_freed, with_register}
+use Rattle.mk_never.specs.{NeverHeap.{with_word, word_at, words_of}, declared.operations.Op.TheVariants.{CasPtr, Free}}
+use Rattle.mk_never.specs.declared.operations.Op.TheVariants.{GetPtr, New, SetNum, SetPtr}
 use Rattle.mk_never.specs.{declared.values.Target.TheVariants.WordOf, declared.values.Value.TheVariants.{Null, Num}}
 use Rattle.mk_never.specs.{declared.values.Value.TheVariants.Ptr, Admitted.Meets, declared.operations.Op.Op}
 use Rattle.mk_never.specs.{declared.operations.Reply.Reply, declared.types.Kind.Kind, declared.values.Target.Target}
@@ -22,9 +22,8 @@ other_word : (n : NeverState) (a w number place : ℕ) (v : Value) → (WordOf a
     → WordStays number place n (with_word n a w v)
 other_word n a w number place v apart =
     set_by (λ b. get_or b.words place Null ≡ word_at n number place) n.allocations a number _ no_allocation
-    (λ e. let other : place ≢ w = λ e'. apart (cc) in get_or-set_other (words_of n a) w place v Null other
-    ∙ ap (λ k. word_at n k place) (sym e))
-    refl
+    (λ e. let other : place ≢ w = λ e'. apart (cc) in get_or-set_other (words_of n a) w place v Null other ∙ ap
+    (λ k. word_at n k place) (sym e)) refl
 
 -- a write leaves its value
 pub this_word : (n : NeverState) (number place : ℕ) (v : Value) → place < length (words_of n number)
@@ -92,10 +91,8 @@ loads_give n number place v is = record {
   a_pointer = λ c d q i reaches. reply_reached _ _ number place reaches ∙ ap Val is;
   a_register = λ c d q i is_caller in_range reaches.
       let here : 8 * c + d < length n.registers = omega arith in
-      ap (λ m. register_at m c d)
-      (left_reached _ (with_register n c d Null) (λ a w. with_register n c d (word_at n a w)) number place
-      reaches)
-      ∙ get_or-set_same n.registers (8 * c + d) _ Null here ∙ is;
+      ap (λ m. register_at m c d) (left_reached _ (with_register n c d Null) (λ a w. with_register n c d
+      (word_at n a w)) number place reaches) ∙ get_or-set_same n.registers (8 * c + d) _ Null here ∙ is;
 }
 
 pub load_gives_stored : (n : NeverState) (c : ℕ) (op : Op) (calls : List Call) (number place : ℕ)

@@ -3,11 +3,11 @@ use Rattle.std.proofs.Common.{Bool, IfSome, List, None, Option, Some, ℕ, arith
 use Rattle.std.proofs.Common.{subst, suc, sym, zero, [], ◌*◌, ◌+◌, ◌∷◌, ◌≡◌}
 use Rattle.mk_never.proofs.{Soundness.{moved_is_sound, number_suits, pointer_suits, suited_is_sound}, Edits.if_by}
 use Rattle.mk_never.proofs.Typing.{new_is_sound, typed_access, typed_free, typed_global, typed_new, typed_register}
-use Rattle.mk_never.{proofs.Typing.{typed_word}, specs.declared.operations.Op.TheVariants.{SetGlobal, SetNum, SetPtr}}
-use Rattle.mk_never.specs.{Typed.{IsSound, IsTyped, KeepsTyped, StaysTyped}, Admitted.{AccessIsAdmitted, IsAdmitted}}
-use Rattle.mk_never.specs.{Admitted.{IsOfKind, OperandsAreInRange, StoreIsAdmitted}, NeverHeap.{Call, NeverState}}
-use Rattle.mk_never.specs.NeverHeap.{after_op, is_same, register_at, start_of, with_new, word_at}
+use Rattle.mk_never.{proofs.Typing.{typed_word}, specs.Typed.{IsSound, IsTyped, KeepsTyped, StaysTyped}}
+use Rattle.mk_never.specs.Admitted.{AccessIsAdmitted, IsAdmitted, IsOfKind, OperandsAreInRange, StoreIsAdmitted}
+use Rattle.mk_never.specs.NeverHeap.{Call, NeverState, after_op, is_same, register_at, start_of, word_at}
 use Rattle.mk_never.specs.declared.operations.Op.TheVariants.{CasPtr, Clear, Free, GetGlobal, GetPtr, Lea, Move, New}
+use Rattle.mk_never.specs.declared.operations.Op.TheVariants.{SetGlobal, SetNum, SetPtr}
 use Rattle.mk_never.specs.{declared.types.Kind.TheVariants.To, declared.operations.Op.Op, declared.types.Kind.Kind}
 use Rattle.mk_never.specs.declared.values.Value.TheVariants.{Null}
 
@@ -22,7 +22,7 @@ module _ (listed : List ℕ) (n : NeverState) (c : ℕ) (typed : IsTyped listed 
 
   new_keeps : (d ty : ℕ) (full : Bool) → Keeps (New d ty full)
   new_keeps d ty full in_range access store = if_by (λ m. IsTyped listed m) full _ _ (λ e. typed)
-      (λ e. typed_register listed (with_new n ty) (typed_new listed n typed ty in_range.1) c d _ (new_is_sound n ty))
+      (λ e. typed_register (typed_new typed ty in_range.1) c d _ (new_is_sound n ty))
 
   set_num_keeps : (q i m : ℕ) → Keeps (SetNum q i m)
   set_num_keeps q i m in_range access store = grind (arith, typed_access, typed_word, number_suits)
@@ -35,28 +35,26 @@ module _ (listed : List ℕ) (n : NeverState) (c : ℕ) (typed : IsTyped listed 
 
   cas_ptr_keeps : (q i p r : ℕ) → Keeps (CasPtr q i p r)
   cas_ptr_keeps q i p r in_range access store =
-      typed_access listed n typed (register_at n c q) i (λ kind. IsOfKind (register_at n c p) kind
-      × IsOfKind (register_at n c r) kind) n _ store typed
-      (λ number place there inside is. if_by (λ m. IsTyped listed m)
-      (is_same (word_at n number place) (register_at n c p)) _ _
-      (λ e. typed_word listed n typed number place _ there (pointer_suits n _ _ (register_is_sound r) is.1))
-      (λ e. typed))
+      typed_access typed (register_at n c q) i
+      (λ kind. IsOfKind (register_at n c p) kind × IsOfKind (register_at n c r) kind) _ store typed (λ number place
+      there inside is. if_by (λ m. IsTyped listed m) (is_same (word_at n number place) (register_at n c p)) _ _
+      (λ e. typed_word typed number place _ there (pointer_suits n _ _ (register_is_sound r) is.1)) (λ e. typed))
 
   lea_keeps : (d q i : ℕ) → Keeps (Lea d q i)
   lea_keeps d q i in_range access store = grind (arith, typed_register, moved_is_sound, register_is_sound)
 
   pub op_keeps : (op : Op) → Keeps op
   op_keeps (New d ty full) = new_keeps d ty full
-  op_keeps (Free p) = λ in_range access store. typed_free listed n typed (register_at n c p) (register_is_sound p)
+  op_keeps (Free p) = λ in_range access store. typed_free typed (register_at n c p) (register_is_sound p)
   op_keeps (SetNum q i m) = set_num_keeps q i m
   op_keeps (GetPtr d q i) = get_ptr_keeps d q i
   op_keeps (SetPtr q i p) = set_ptr_keeps q i p
   op_keeps (CasPtr q i p r) = cas_ptr_keeps q i p r
   op_keeps (Lea d q i) = lea_keeps d q i
-  op_keeps (Move d q) = λ in_range access store. typed_register listed n typed c d _ (register_is_sound q)
-  op_keeps (Clear d) = λ in_range access store. typed_register listed n typed c d Null tt
-  op_keeps (GetGlobal d g) = λ in_range access store. typed_register listed n typed c d _ (typed.globals g)
-  op_keeps (SetGlobal g p) = λ in_range access store. typed_global listed n typed g _ (register_is_sound p) store
+  op_keeps (Move d q) = λ in_range access store. typed_register typed c d _ (register_is_sound q)
+  op_keeps (Clear d) = λ in_range access store. typed_register typed c d Null tt
+  op_keeps (GetGlobal d g) = λ in_range access store. typed_register typed c d _ (typed.globals g)
+  op_keeps (SetGlobal g p) = λ in_range access store. typed_global typed g _ (register_is_sound p) store
   op_keeps _ = λ in_range access store. typed
 
 pub calls_keep : (listed : List ℕ) (n : NeverState) (calls : List Call) → KeepsTyped listed n calls

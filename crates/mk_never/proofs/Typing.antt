@@ -10,15 +10,15 @@ use Rattle.mk_never.specs.{declared.values.Value.TheVariants.{Null, Num, Ptr}, A
 use Rattle.mk_never.specs.{Laws.Continues, Types.{kinds_of, zero_words}, declared.types.Kind.Kind}
 use Rattle.mk_never.specs.{declared.types.Kind.TheVariants.To, declared.values.Value.Value}
 
-module _ (listed : List ℕ) (n : NeverState) (typed : IsTyped listed n) where
+module _ {listed : List ℕ} {n : NeverState} (typed : IsTyped listed n) where
   pub typed_register : (c d : ℕ) (v : Value) → IsSound n v → IsTyped listed (with_register n c d v)
   typed_register c d v sound =
       let stays = register_stays n c d v in
       record {
-        allocations = λ number h. allocation_kept n _ stays _ (typed.allocations number h);
-        registers = λ k. sound_kept n _ stays _
+        allocations = λ number h. allocation_kept stays (typed.allocations number h);
+        registers = λ k. sound_kept stays _
             (set_by (λ x. IsSound n x) n.registers (8 * c + d) k v Null (λ e. sound) (typed.registers k));
-        globals = λ g. sound_kept n _ stays _ (typed.globals g);
+        globals = λ g. sound_kept stays _ (typed.globals g);
         listed = typed.listed;
       }
 
@@ -27,9 +27,9 @@ module _ (listed : List ℕ) (n : NeverState) (typed : IsTyped listed n) where
   typed_global g v sound of_kind =
       let stays = global_stays n g v in
       record {
-        allocations = λ number h. allocation_kept n _ stays _ (typed.allocations number h);
-        registers = λ k. sound_kept n _ stays _ (typed.registers k);
-        globals = λ k. sound_kept n _ stays _
+        allocations = λ number h. allocation_kept stays (typed.allocations number h);
+        registers = λ k. sound_kept stays _ (typed.registers k);
+        globals = λ k. sound_kept stays _
             (set_by (λ x. IsSound n x) n.globals g k v Null (λ e. sound) (typed.globals k));
         listed = λ k. set_by (λ x. IfSome (slice_get listed k) (λ ty. IsOfKind x (To ty 0))) n.globals g k v Null
             (λ e. subst (λ j. IfSome (slice_get listed j) (λ ty. IsOfKind v (To ty 0))) (sym e) of_kind)
@@ -37,16 +37,15 @@ module _ (listed : List ℕ) (n : NeverState) (typed : IsTyped listed n) where
       }
 
   -- an allocation becomes another that is typed
-  typed_edit : (number : ℕ) (new : Allocation) → Continues n (record n { allocations = set n.allocations number new })
+  typed_edit : (number : ℕ) {new : Allocation} → Continues n (record n { allocations = set n.allocations number new })
       → IsTypedAllocation n new → IsTyped listed (record n { allocations = set n.allocations number new })
-  typed_edit number new stays new_typed = record {
+  typed_edit number {new = new} stays new_typed = record {
     allocations = λ k h.
         let there : k < length n.allocations = omega (arith, length-set n.allocations number new) in
-        allocation_kept n _ stays _
-        (set_by (λ a. IsTypedAllocation n a) n.allocations number k new no_allocation (λ e. new_typed)
-        (typed.allocations k there));
-    registers = λ k. sound_kept n _ stays _ (typed.registers k);
-    globals = λ g. sound_kept n _ stays _ (typed.globals g);
+        allocation_kept stays (set_by (λ a. IsTypedAllocation n a) n.allocations number k new no_allocation
+        (λ e. new_typed) (typed.allocations k there));
+    registers = λ k. sound_kept stays _ (typed.registers k);
+    globals = λ g. sound_kept stays _ (typed.globals g);
     listed = typed.listed;
   }
 
@@ -54,7 +53,7 @@ module _ (listed : List ℕ) (n : NeverState) (typed : IsTyped listed n) where
       → Suits n v (kind_in n (allocation_at n number) place) → IsTyped listed (with_word n number place v)
   typed_word number place v there suits =
       let before = typed.allocations number there in
-      typed_edit number _ (word_stays n number place v)
+      typed_edit number (word_stays n number place v)
       record {
         ty = before.ty;
         size = length-set (words_of n number) place v ∙ before.size;
@@ -73,10 +72,10 @@ module _ (listed : List ℕ) (n : NeverState) (typed : IsTyped listed n) where
       let new_typed : IsTypedAllocation n new =
       record { ty = in_range; size = length-map _ _; words = zero_suits n (kinds_of n.types ty) } in
       record {
-        allocations = λ k h. allocation_kept n _ stays _
+        allocations = λ k h. allocation_kept stays
             (push_by (λ a. IsTypedAllocation n a) n.allocations new no_allocation k h new_typed (typed.allocations k));
-        registers = λ k. sound_kept n _ stays _ (typed.registers k);
-        globals = λ g. sound_kept n _ stays _ (typed.globals g);
+        registers = λ k. sound_kept stays _ (typed.registers k);
+        globals = λ g. sound_kept stays _ (typed.globals g);
         listed = typed.listed;
       }
 
@@ -86,14 +85,13 @@ module _ (listed : List ℕ) (n : NeverState) (typed : IsTyped listed n) where
   typed_free (Ptr number ty offset) sound = typed_freed number sound.0
 
   -- an access leaves a typed state where it does so at the word that it reaches
-  pub typed_access : (v : Value) (i : ℕ) (Q : Kind → Type 0) (refused : NeverState) (at : ℕ → ℕ → NeverState)
-      → Meets n v i Q → IsTyped listed refused
-      → ((number place : ℕ) → number < length n.allocations → place < length (words_of n number)
-      → Q (kind_in n (allocation_at n number) place) → IsTyped listed (at number place))
-      → IsTyped listed (left_at (target_of n v i) refused at)
-  typed_access Null i Q refused at meets kept reached = kept
-  typed_access (Num m) i Q refused at meets kept reached = kept
-  typed_access (Ptr number ty offset) i Q refused at meets kept reached = grind (arith, if_by, exists)
+  pub typed_access : (v : Value) (i : ℕ) (Q : Kind → Type 0) {refused : NeverState} (at : ℕ → ℕ → NeverState)
+      → Meets n v i Q → IsTyped listed refused → ((number place : ℕ) → number < length n.allocations
+      → place < length (words_of n number) → Q (kind_in n (allocation_at n number) place)
+      → IsTyped listed (at number place)) → IsTyped listed (left_at (target_of n v i) refused at)
+  typed_access Null i Q at meets kept reached = kept
+  typed_access (Num m) i Q at meets kept reached = kept
+  typed_access (Ptr number ty offset) i Q at meets kept reached = grind (arith, if_by, exists)
 
 -- the pointer that a New gives
 pub new_is_sound : (n : NeverState) (ty : ℕ) → IsSound (with_new n ty) (Ptr (length n.allocations) ty 0)

@@ -39,9 +39,8 @@ gone_kept c s es e h holds (Another other) gone =
     let found = holder_finds c s es (e ∷ []) h (other, tt) holds in
     ap (λ (y : Holding). is_run_gone (left c (es ++ e ∷ [])).now.words y.freed) found.holding ∙ found.gone gone
 
-pub still_gone : {p q : PassState} → Does is_settling p q → IsHistory q.table.config q.seen
-    → Holds p.table.config (now_of p) p.seat
-    → IsGoneIn (left p.table.config p.seen) → IsGoneIn (left p.table.config q.seen)
+pub still_gone : {p q : PassState} → Does is_settling p q → IsHistory q.table.config q.seen → Holds p.table.config
+    (now_of p) p.seat → IsGoneIn (left p.table.config p.seen) → IsGoneIn (left p.table.config q.seen)
 still_gone {p} d h holds gone =
     along_turn p is_settling (λ x kind. grind arith) (λ es. IsGoneIn (left p.table.config es)) (gone_kept _ _) d h holds
     gone

@@ -8,10 +8,10 @@ use Rattle.mk_objects.proofs.Vocabulary.{Changes, ComesTo, FreesCell, HasFreed, 
 use Rattle.mk_objects.proofs.Vocabulary.{OnlyLooks, PassState, SetsGates, SetsTally, StaysSo, Unmaps, Wipes, WordsState}
 use Rattle.mk_objects.proofs.Vocabulary.{all_below_from, entry_for, is_clearing, is_following, is_freeing, is_look}
 use Rattle.mk_objects.proofs.Vocabulary.{is_settling, none_is_held, now_of, steady_of, sum_by-cons, world_of}
+use Rattle.mk_core.specs.Counts.{releases}
 use Rattle.mk_objects.proofs.JoinedLooks.{AreAmong, reached_world, reaches_after, reaches_answered, reaches_so}
 use Rattle.mk_objects.proofs.FreedOnce.{FreesNot, once_behind}
-use Rattle.mk_core.specs.Counts.{releases}
-use Rattle.mk_objects.specs.{Deciding.{IsDecidedAt, counted}, FreeParts.IsButGates}
+use Rattle.mk_objects.specs.{Deciding.IsDecidedAt, Deciding.counted, FreeParts.IsButGates}
 
 -- What stays over each part.
 
@@ -167,9 +167,8 @@ module _ {kinds : Step → Bool} {p q : PassState} (a : Prepares kinds p q) wher
 
 -- No gate is held after it where none was.
 pub still_open : (p q : PassState) → p.table ≡ q.table
-    → ((j : ℕ) → is_held (now_of q).words j ≡ is_held (now_of p).words j)
-    → none_is_held p.table.config.callers (now_of p).words ≡ true
-    → none_is_held q.table.config.callers (now_of q).words ≡ true
+    → ((j : ℕ) → is_held (now_of q).words j ≡ is_held (now_of p).words j) → none_is_held p.table.config.callers
+    (now_of p).words ≡ true → none_is_held q.table.config.callers (now_of q).words ≡ true
 still_open p q table gates none =
     ap (λ (t : WordsState). none_is_held t.config.callers (now_of q).words) (sym table)
     ∙ all_below_from p.table.config.callers (λ j. not (is_held (now_of q).words j))

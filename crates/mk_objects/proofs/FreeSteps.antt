@@ -33,9 +33,8 @@ freed_same w v cell same = ap (λ (xs : List ℕ). has_bit (slice_index xs cell.
 
 -- what is seen of the target in a world that is as it was left
 seen_now : (c : Config) {k : ℕ} (cell : Cell) {w v : World} → IsAsLeft (Caller k) w v
-    → target c.pages w.now.words (flight_of w.now (Caller k)) ≡ Some cell
-    → sees_double v.now.words (target c.pages v.now.words (flight_of v.now (Caller k))) (Word.Quar cell.page)
-    ≡ is_freed w.now.words cell
+    → target c.pages w.now.words (flight_of w.now (Caller k)) ≡ Some cell → sees_double v.now.words
+    (target c.pages v.now.words (flight_of v.now (Caller k))) (Word.Quar cell.page) ≡ is_freed w.now.words cell
 seen_now c {k} cell {w} {v} kept at =
     let there : target c.pages v.now.words (flight_of v.now (Caller k)) ≡ Some cell =
     ap (λ (f : Flight). target c.pages v.now.words f) kept.call ∙ target_same c.pages w.now.words v.now.words
@@ -61,9 +60,8 @@ pub record SeesBy (c : Config) (k : ℕ) (cell : Cell) (w v : World) : Type 0 wh
   pub answer : answer_decided c v.now (record { seat = Caller k; step = Step.Look (Word.Quar cell.page) })
       ≡ answer_seen (is_freed w.now.words cell)
 
-pub sees_by : (c : Config) {k : ℕ} (cell : Cell) {w v : World} → k < length v.now.seats.flights
-    → IsAsLeft (Caller k) w v
-    → target c.pages w.now.words (flight_of w.now (Caller k)) ≡ Some cell → SeesBy c k cell w v
+pub sees_by : (c : Config) {k : ℕ} (cell : Cell) {w v : World} → k < length v.now.seats.flights → IsAsLeft
+    (Caller k) w v → target c.pages w.now.words (flight_of w.now (Caller k)) ≡ Some cell → SeesBy c k cell w v
 sees_by c {k} cell {w} {v} lt kept at =
     let seen = seen_now c cell kept at in
     record {
@@ -178,11 +176,10 @@ quar_behind c {k} cell {value} {w} {v} lt kept low at clear is small =
     let u : World = world_behind c v (record { seat = Caller k; step = Step.Quar cell.page value }) in
     let n : ℕ = slice_index w.now.words.freed cell.page + 2 ^ cell.index in
     let freed : u.now.words.freed ≡ slice_set w.now.words.freed cell.page n = grind (arith, low_half) in
-    let snapshot : u.now.words.snapshot ≡ w.now.words.snapshot =
-    ap (λ i. slice_set v.now.words.snapshot cell.page (i / 2 ^ 32)) is
-    ∙ ap (λ i. slice_set v.now.words.snapshot cell.page i) (high_half n (slice_index w.now.words.snapshot cell.page)
-    small) ∙ ap (λ (xs : List ℕ). slice_set xs cell.page (slice_index w.now.words.snapshot cell.page)) snapshots
-    ∙ set-get_or w.now.words.snapshot cell.page 0 in
+    let snapshot : u.now.words.snapshot ≡ w.now.words.snapshot = ap (λ i. slice_set v.now.words.snapshot cell.page
+    (i / 2 ^ 32)) is ∙ ap (λ i. slice_set v.now.words.snapshot cell.page i)
+    (high_half n (slice_index w.now.words.snapshot cell.page) small) ∙ ap (λ (xs : List ℕ). slice_set xs cell.page
+    (slice_index w.now.words.snapshot cell.page)) snapshots ∙ set-get_or w.now.words.snapshot cell.page 0 in
     let allocations : u.allocations ≡ map (freed_where_it_stands w.now.words (Some cell)) w.allocations =
     ap (λ (x : Option Cell). map (freed_where_it_stands v.now.words x) v.allocations) frees
     ∙ ap (λ (ps : List Page). map (freed_where_it_stands (record v.now.words { pages = ps }) (Some cell)) v.allocations)
@@ -238,9 +235,8 @@ module _ (p : PassState) (cell : Cell) (value : ℕ) (v : World) (known : Known 
       let lt : k < p.table.config.callers = (subst (λ (x : Seat). Holds p.table.config (now_of p) x) e holds).0 in
       let there : k < length v.now.seats.flights = subst (λ i. k < i) (sym known.orderly.flights) lt in
       let by = quar_behind p.table.config cell there (subst (λ (x : Seat). IsAsLeft x (world_of p) v) e kept)
-      (out_of_stop (now_of p) v.now (ap (λ (x : Steady). x.phase) kept.steady) low)
-      (ap (λ (x : Seat). target p.table.config.pages
-      (now_of p).words (flight_of (now_of p) x)) (sym e) ∙ at) clear is small in
+      (out_of_stop (now_of p) v.now (ap (λ (x : Steady). x.phase) kept.steady) low) (ap (λ (x : Seat). target
+      p.table.config.pages (now_of p).words (flight_of (now_of p) x)) (sym e) ∙ at) clear is small in
       subst (λ (x : Seat). Frees x) (sym e) by
 
 -- the word that is made of both halves of the one that was found
@@ -283,9 +279,8 @@ module _ {p : PassState} {r u : ℕ} {cell : Cell} {quar : ℕ} (may : MayFree p
   pub quarantine_fits : stored < 2 ^ 64
   quarantine_fits = let high = small.1 in omega (arith, made, half)
 
-  pub quarantine_may : (not (heads_run (header_in (now_of p).words cell.page))
-      || others_are_held p.table.config.callers (now_of p).words p.seat) ≡ true
-      → IsEnabledTo p (Step.Quar cell.page stored)
+  pub quarantine_may : (not (heads_run (header_in (now_of p).words cell.page)) || others_are_held p.table.config.callers
+      (now_of p).words p.seat) ≡ true → IsEnabledTo p (Step.Quar cell.page stored)
   quarantine_may gates =
       may_free (acting_now turn (free_is_acting (call_of p) undecided)) cell.page stored may.within may.phase
       (ap (λ (x : Option Cell). not (is_run_cell (now_of p).words x) || others_are_held p.table.config.callers

@@ -16,18 +16,18 @@ use Rattle.mk_laws.proofs.Vocabulary.{page_at_address, pages_made, placed_at, po
 use Rattle.mk_laws.proofs.Vocabulary.{run_begins, slice_set, small_cells, small_heads_none, stands_in}
 use Rattle.mk_laws.proofs.Vocabulary.{stands_in_its_cell, storage_words, sym, target, true, true≢false, typed_size}
 use Rattle.mk_laws.proofs.Vocabulary.{unmapped_header, unmapped_is_unmapped, words_under, words_within, ◌*◌, ◌+◌, ◌/◌}
-use Rattle.mk_laws.proofs.{Vocabulary.{◌<◌, ◌==◌, ◌∙◌, ◌≡◌, ◌≢◌, ◌≤◌}, FreeMoves.pointer_cell, ImagesBefore.ready_of}
-use Rattle.mk_laws.proofs.{ImagesStands.{Stands, stands_of}, InvariantJoined.told_to_images}
-use Rattle.mk_laws.proofs.{InvariantTheorems.allocations_stand, KnownWorlds.{KnownWorld, known_world}, Ready.Ready}
-use Rattle.mk_laws.proofs.{RegMoves.flight, Settled.unreleased_are_apart}
+use Rattle.mk_laws.proofs.Vocabulary.{◌<◌, ◌==◌, ◌∙◌, ◌≡◌, ◌≢◌, ◌≤◌}
 use Rattle.mk_objects.proofs.Vocabulary.{IsFreeAt, IsOutOfStop, PassState, call_of, freed_and_fresh}
 use Rattle.mk_objects.proofs.Vocabulary.{held_by_allocations, histories_keep_the_invariant, loaded_free, now_of}
-use Rattle.mk_objects.proofs.{Vocabulary.{value_of, world_of}, HeldFreed.{freed_one, held_part, held_set, large_part}}
-use Rattle.mk_objects.proofs.{HeldFreed.{live_part, small_part}, LoadedFrees.loaded_undecided, Looks.acting_caller}
-use Rattle.mk_objects.proofs.MayAct.{free_is_acting, off_four}
+use Rattle.mk_objects.proofs.Vocabulary.{value_of, world_of}
 use Rattle.mk_geom.proofs.ClassTable.{class_words_within}
 use Rattle.mk_core.proofs.{ObjectHeaders.part_heads_run, StandingAllocations.placed_cell}
+use Rattle.mk_laws.proofs.{FreeMoves.pointer_cell, ImagesBefore.ready_of, ImagesStands.Stands, ImagesStands.stands_of}
+use Rattle.mk_laws.proofs.{InvariantJoined.told_to_images, InvariantTheorems.allocations_stand, KnownWorlds.KnownWorld}
+use Rattle.mk_laws.proofs.{KnownWorlds.known_world, Ready.Ready, RegMoves.flight, Settled.unreleased_are_apart}
 use Rattle.mk_laws.specs.{ImagePremises.IsLaidOut, SettledPages.StandsUsed}
+use Rattle.mk_objects.proofs.HeldFreed.{freed_one, held_part, held_set, large_part, live_part, small_part}
+use Rattle.mk_objects.proofs.{LoadedFrees.loaded_undecided, Looks.acting_caller, MayAct.free_is_acting, MayAct.off_four}
 
 -- What the register of an undecided Free points into: the cell of an unreleased allocation.
 
@@ -92,9 +92,8 @@ pub record InHeap (pages u : ℕ) : Type 0 where
 pub pointed_in_heap : (pages header u : ℕ) (cell : Cell) → cell_at pages header u ≡ Some cell → InHeap pages u
 pointed_in_heap pages header u cell is = grind (arith, and_parts, leb-true, ltb-true, cond-false)
 
-pub points_now : (p : PassState) (k : ℕ) → p.seat ≡ Caller k → IsHistory p.table.config p.seen
-    → is_undecided_free (call_of p) ≡ true
-    → PointsAt p.table.config (world_of p) (never_behind p.table.config p.seen) k (call_of p)
+pub points_now : (p : PassState) (k : ℕ) → p.seat ≡ Caller k → IsHistory p.table.config p.seen → is_undecided_free
+    (call_of p) ≡ true → PointsAt p.table.config (world_of p) (never_behind p.table.config p.seen) k (call_of p)
 points_now p k is h undecided = grind (arith, free_points_at)
 
 -- what points into a cell by the words does so by its page's header
@@ -257,9 +256,8 @@ module _ (p : PassState) (r : ℕ) (cell : Cell) (h : IsHistory p.table.config p
       let a : PlacedAllocation = placed_at (world_of p).allocations i in
       let one = and_parts (not a.released) (a.base == first_word (now_of p).words cell) there in
       let two = and_parts (not own.released) (own.base == first_word (now_of p).words cell) stands in
-      others.apart i x.number (not-true a.released one.0) x.unreleased ne
-      (eqb-true a.base (first_word (now_of p).words cell) one.1
-      ∙ sym (eqb-true own.base (first_word (now_of p).words cell) two.1))))
+      others.apart i x.number (not-true a.released one.0) x.unreleased ne (eqb-true a.base
+      (first_word (now_of p).words cell) one.1 ∙ sym (eqb-true own.base (first_word (now_of p).words cell) two.1))))
 
   -- what is held after it
 
@@ -273,10 +271,9 @@ module _ (p : PassState) (r : ℕ) (cell : Cell) (h : IsHistory p.table.config p
       (world_of p).allocations) ≡ held_by_allocations p.table.config (world_of p).allocations
   small_held small = grind (arith, small_part, own, its_size, held_behind)
 
-  pub large_held : heads_run (header_in (now_of p).words cell.page) ≡ true → own.freed ≡ false
-      → held_by_allocations p.table.config (map (freed_where_it_stands (now_of p).words (Some cell))
-      (world_of p).allocations) + words_under (header_in (now_of p).words cell.page)
-      ≡ held_by_allocations p.table.config (world_of p).allocations
+  pub large_held : heads_run (header_in (now_of p).words cell.page) ≡ true → own.freed ≡ false → held_by_allocations
+      p.table.config (map (freed_where_it_stands (now_of p).words (Some cell)) (world_of p).allocations) + words_under
+      (header_in (now_of p).words cell.page) ≡ held_by_allocations p.table.config (world_of p).allocations
   large_held large live = grind (arith, large_part, own, its_size, live_part, its_words, held_behind)
 
   -- the pages of a large one

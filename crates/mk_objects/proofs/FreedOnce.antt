@@ -109,9 +109,8 @@ module _ (p : PassState) (kinds : Step → Bool) (stays : (x : Step) → kinds x
           history = subst (λ (x : Event). IsHistory c (es ++ x ∷ [])) (sym it) h;
         };
       } in
-      subst (λ (x : Event). Holds c (left c (es ++ x ∷ [])).now p.seat) it
-      (still_turn (seeing es) e.step (seeing (es ++ event_of p e.step ∷ [])) makes
-      (stays e.step of_kind) (record { holds = holds })).holds
+      subst (λ (x : Event). Holds c (left c (es ++ x ∷ [])).now p.seat) it (still_turn (seeing es) e.step
+      (seeing (es ++ event_of p e.step ∷ [])) makes (stays e.step of_kind) (record { holds = holds })).holds
 
   comes_by : (e : Event) → (is_same_seat p.seat e.seat ≡ true → kinds e.step ≡ true) → ComesBy p.seat kinds e
   comes_by e of_kind = elim (cases_Bool (is_same_seat p.seat e.seat)) [
@@ -149,9 +148,8 @@ module _ (p : PassState) (kinds : Step → Bool) (stays : (x : Step) → kinds x
       → AreOfOthers (p.seat ∷ []) others → claim p.seen → claim (p.seen ++ others)
   along_others others h holds of_others there =
       let own : Has (p.seat ∷ []) p.seat = ap (λ b. b || false) (same_self p.seat) in
-      along p.seen others h holds
-      (ap (λ (xs : List Finding). are_of kinds xs) (none_own c (p.seat ∷ []) p.seat (left c p.seen) others own
-      of_others)) there
+      along p.seen others h holds (ap (λ (xs : List Finding). are_of kinds xs)
+      (none_own c (p.seat ∷ []) p.seat (left c p.seen) others own of_others)) there
 
 abbrev pub is_quar : Step → Bool
 is_quar (Step.Quar p v) = true
@@ -170,9 +168,8 @@ others_free_none {c} s es e h holds other = elim (cases_Bool (is_quar e.step)) [
       let m : Moment = (left c es).now in
       let holders : is_holders e.step ≡ true = grind arith in
       let orderly = (stands c es last.before).known.now.orderly in
-      absurd (other_seat s e.seat other (same_holder c (view_of m) e.seat s orderly
-      (acts_as_holder c m e.seat e.step (actor_of c m e.seat e.step orderly last.meets) holders)
-      (holds_turn c m s orderly holds)))
+      absurd (other_seat s e.seat other (same_holder c (view_of m) e.seat s orderly (acts_as_holder c m e.seat e.step
+      (actor_of c m e.seat e.step orderly last.meets) holders) (holds_turn c m s orderly holds)))
 ]
 
 -- nothing after a list
@@ -190,15 +187,13 @@ frees_more c seen {es} e only last before x behind is frees = elim (in_parts es 
       let front : seen ++ before ≡ es = there.is ∙ ap (λ (l : List Event). es ++ l) one.0 ∙ append-nil es in
       let it : x ≡ e = sym one.1 in
       ap (λ (l : List Event). (left c (l ++ x ∷ [])).allocations) front
-      ∙ ap (λ (y : Event). (left c (es ++ y ∷ [])).allocations) it
-      ∙ last (ap (λ (y : Event). event_frees c es y) one.1 ∙ ap (λ (l : List Event). event_frees c l x) (sym front)
-      ∙ frees)
+      ∙ ap (λ (y : Event). (left c (es ++ y ∷ [])).allocations) it ∙ last
+      (ap (λ (y : Event). event_frees c es y) one.1 ∙ ap (λ (l : List Event). event_frees c l x) (sym front) ∙ frees)
 ]
 
 -- and a list after another
-frees_then : (c : Config) (seen more rest : List Event) {xs : List PlacedAllocation}
-    → FreesOnly c seen xs (seen ++ more)
-    → FreesOnly c (seen ++ more) xs (seen ++ more ++ rest) → FreesOnly c seen xs (seen ++ more ++ rest)
+frees_then : (c : Config) (seen more rest : List Event) {xs : List PlacedAllocation} → FreesOnly c seen xs
+    (seen ++ more) → FreesOnly c (seen ++ more) xs (seen ++ more ++ rest) → FreesOnly c seen xs (seen ++ more ++ rest)
 frees_then c seen more rest first second before x behind is frees =
     elim (in_parts (seen ++ more) rest (seen ++ before) x behind is) [
       | inl here ↦ first before x here.rest here.is frees
@@ -247,10 +242,9 @@ frees_now {p} {q} {x} m h holds frees =
     let whole : IsHistory c (es ++ e ∷ []) = subst (λ (y : PassState). IsHistory y.table.config y.seen) m.same h in
     let left_now : (left c (es ++ e ∷ [])).allocations ≡ (world_of q).allocations = grind arith in
     let xs : List PlacedAllocation = (world_of q).allocations in
-    let before : FreesOnly c p.seen xs es =
-    along_others p none (λ y (no : none y ≡ true). absurd (true≢false (sym no))) (FreesOnly c p.seen xs)
-    (none_kept c p.seat none p.seen xs (λ y (no : none y ≡ true). absurd (true≢false (sym no)))) m.others
-    (earlier_part_is_history c es (e ∷ []) whole) holds m.of_others (frees_at_once c p.seen xs) in
+    let before : FreesOnly c p.seen xs es = along_others p none (λ y (no : none y ≡ true). absurd (true≢false (sym no)))
+    (FreesOnly c p.seen xs) (none_kept c p.seat none p.seen xs (λ y (no : none y ≡ true). absurd (true≢false (sym no))))
+    m.others (earlier_part_is_history c es (e ∷ []) whole) holds m.of_others (frees_at_once c p.seen xs) in
     record {
       before = m.others;
       event = e;

@@ -1,5 +1,5 @@
 -- What one freed object changes among the allocations, and of the held words.
-use Rattle.std.proofs.{Common.{ext_get_or, sum_by}, lemmas.List.Sums.sum_by-set}
+use Rattle.std.proofs.{Common.ext_get_or, Common.sum_by, lemmas.List.Sums.sum_by-set}
 use Rattle.mk_laws.proofs.Vocabulary.{Bool, Cell, Config, List, PlacedAllocation, Some, Storage, Words, ℕ, ap, arith}
 use Rattle.mk_laws.proofs.Vocabulary.{cases_eq, changed_at, cond-false, cond-true, false, freed_leaves}
 use Rattle.mk_laws.proofs.Vocabulary.{freed_where_it_stands, get_or-set_other, get_or-set_same, if◌then◌else◌, inl, inr}
@@ -38,9 +38,8 @@ pub freed_one : (w : Words) (cell : Cell) (xs : List PlacedAllocation) (n : ℕ)
     → map (freed_where_it_stands w (Some cell)) xs ≡ slice_set xs n (freed_and_fresh (placed_at xs n))
 freed_one w cell xs n lt stands others =
     ext_get_or never_granted (map (freed_where_it_stands w (Some cell)) xs)
-    (slice_set xs n (freed_and_fresh (placed_at xs n)))
-    (length-map xs (freed_where_it_stands w (Some cell)) ∙ sym (length-set xs n (freed_and_fresh (placed_at xs n))))
-    (λ i le. elim (cases_eq i n) [
+    (slice_set xs n (freed_and_fresh (placed_at xs n))) (length-map xs (freed_where_it_stands w (Some cell)) ∙ sym
+    (length-set xs n (freed_and_fresh (placed_at xs n)))) (λ i le. elim (cases_eq i n) [
       | inl e ↦
           changed_at _ xs i (freed_leaves w (Some cell)).none ∙ ap (λ j. freed_where_it_stands w (Some cell) (placed_at
           xs j)) e ∙ cond-true _ _ _ stands ∙ sym (get_or-set_same xs n (freed_and_fresh (placed_at xs n)) never_granted

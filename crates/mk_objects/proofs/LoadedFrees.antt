@@ -63,9 +63,8 @@ registers_kept {c} es others k x whole of_others none r lt =
     cc (same, (admitted_others_leave c es others (Caller k) before of_others).registers k r refl lt)
 
 -- Any step of a Free is admitted.
-pub free_step_admits : {p : PassState} {r : ℕ} (x : Step) {f : Flight} → IsCallers p
-    → Holds p.table.config (now_of p) p.seat
-    → IsHistory p.table.config p.seen → IsFreeAt p r f → f.op ≡ Op.Free r → IsAdmittedTo p x
+pub free_step_admits : {p : PassState} {r : ℕ} (x : Step) {f : Flight} → IsCallers p → Holds p.table.config
+    (now_of p) p.seat → IsHistory p.table.config p.seen → IsFreeAt p r f → f.op ≡ Op.Free r → IsAdmittedTo p x
 free_step_admits x caller holds h u is = grind (arith, free_admits)
 
 -- Its register keeps its value over a step that decides nothing.

@@ -76,9 +76,8 @@ off_four m (inr one) = ap (λ (n : ℕ). n == 4) one
 
 module _ {c : Config} {m : Moment} {s : Seat} (at : IsActing c m s) where
   may_by : (x : Step) → group_of x ≡ Group.Turn → is_in_order c m s x ≡ true → is_in_range c s (flight_of m s) x ≡ true
-      → has_gates c m.words s (flight_of m s) x ≡ true → has_phase (phase_of m.words) x ≡ true
-      → marker_may c (marker_at m s) x ≡ true
-      → holder_may c m (flight_of m s) x ≡ true → IsEnabled c m (record { seat = s; step = x })
+      → has_gates c m.words s (flight_of m s) x ≡ true → has_phase (phase_of m.words) x ≡ true → marker_may c
+      (marker_at m s) x ≡ true → holder_may c m (flight_of m s) x ≡ true → IsEnabled c m (record { seat = s; step = x })
   may_by x turn order range gates phase marker own = meets_enabled c m (record { seat = s; step = x }) (record {
     seat = at.there;
     kind = ap (λ g. is_open_to s g) turn ∙ open_to_acting m s at.acts;
@@ -156,9 +155,8 @@ module _ {c : Config} {m : Moment} {s : Seat} (at : IsActing c m s) where
   pub may_open : (j : ℕ) → j < c.callers → is_number_of s j ≡ false → is_held m.words j ≡ true → IsOutOfStop m
       → is_run_gone m.words m.seats.holding.freed ≡ true → IsEnabled c m (record { seat = s; step = Step.Open j })
   may_open j lt other held low gone =
-      may_by (Step.Open j) refl (order_of_acting c m s (Step.Open j) at.acts refl)
-      (and_from (nat_lt j c.callers) (not (is_number_of s j)) (lt-ltb j c.callers lt) (ap not other)) held
-      (ap not (elim low [
+      may_by (Step.Open j) refl (order_of_acting c m s (Step.Open j) at.acts refl) (and_from (nat_lt j c.callers)
+      (not (is_number_of s j)) (lt-ltb j c.callers lt) (ap not other)) held (ap not (elim low [
         | inl none ↦ ap (λ (n : ℕ). n == 3) none
         | inr one ↦ ap (λ (n : ℕ). n == 3) one
       ])) refl gone
@@ -203,9 +201,8 @@ new_admitted c k d ty full xs lt small typed =
     }
 
 -- So its `grant` is.
-pub grant_admitted : {c : Config} {es : List Event} (k : ℕ) → IsHistory c es → k < c.callers
-    → is_undecided_new (flight_of (left c es).now (Caller k)) ≡ true
-    → has_operands c (flight_of (left c es).now (Caller k)).op ≡ true
+pub grant_admitted : {c : Config} {es : List Event} (k : ℕ) → IsHistory c es → k < c.callers → is_undecided_new
+    (flight_of (left c es).now (Caller k)) ≡ true → has_operands c (flight_of (left c es).now (Caller k)).op ≡ true
     → IsAdmittedBehind c es (record { seat = Caller k; step = Step.Grant })
 grant_admitted {c} {es} k h lt new operands =
     let f = flight_of (left c es).now (Caller k) in

@@ -2,16 +2,16 @@
 use Rattle.mk_laws.proofs.Vocabulary.{Config, IsHistory, List, Op, Option, Page, Place, Some, Steady, Step, ℕ}
 use Rattle.mk_laws.proofs.Vocabulary.{and_parts, and_right, ap, arith, false, free_page, has_operands, header_at}
 use Rattle.mk_laws.proofs.Vocabulary.{length, not, object_made, phase_of, place_on_pages, refl, slice_index_or, sym}
-use Rattle.mk_laws.proofs.{Vocabulary.{true, uses_of_pages, ◌<◌, ◌∙◌, ◌≡◌}, InvariantTheorems.first_fit_finds_the_place}
-use Rattle.mk_laws.proofs.LayoutHolders.{seat_operands}
+use Rattle.mk_laws.proofs.Vocabulary.{true, uses_of_pages, ◌<◌, ◌∙◌, ◌≡◌}
 use Rattle.mk_objects.proofs.Vocabulary.{Acts, GoesTo, HasCarved, IsTurn, IsUnplaced, MayTake, OnlyLooks, PassState}
 use Rattle.mk_objects.proofs.Vocabulary.{WordsState, bits_made, call_of, is_look, known_left, now_of, object_for}
-use Rattle.mk_objects.proofs.JoinedLooks.{goes_to, looks_object, looks_pages, looks_table, looks_unplaced}
-use Rattle.mk_objects.proofs.{Looks.{acting_caller, acting_now}, MayAct.new_is_acting, Reaching.kept_by}
-use Rattle.mk_objects.proofs.{Serves.{KnowsPlace, knows_place}, Serving.{serving_left, serving_marks}}
-use Rattle.mk_objects.proofs.Takes.{unplaced_settled}
 use Rattle.mk_geom.specs.PageUses.{place_on_uses}
 use Rattle.mk_core.specs.Calls.{has_type}
+use Rattle.mk_laws.proofs.{InvariantTheorems.first_fit_finds_the_place, LayoutHolders.seat_operands}
+use Rattle.mk_objects.proofs.JoinedLooks.{goes_to, looks_object, looks_pages, looks_table, looks_unplaced}
+use Rattle.mk_objects.proofs.Looks.{acting_caller, acting_now}
+use Rattle.mk_objects.proofs.{MayAct.new_is_acting, Reaching.kept_by, Serves.KnowsPlace, Serves.knows_place}
+use Rattle.mk_objects.proofs.{Serving.serving_left, Serving.serving_marks, Takes.unplaced_settled}
 use Rattle.mk_objects.specs.{Placing.place_now_for, Shapes.object_shaped, declared.objects.Shape.Shape}
 use Rattle.mk_turns.proofs.Sweeping.{does_sweep, other_step_sweeps, step_sweeps, step_then_sweeps, sweeps_then}
 use Rattle.mk_turns.specs.Sweeping.{SweepsNothing, is_mark}

@@ -5,13 +5,13 @@ use Rattle.mk_laws.proofs.Vocabulary.{Op, Option, Seat, Step, World, ℕ, answer
 use Rattle.mk_laws.proofs.Vocabulary.{arith, call_decided, calls, cases_eq, ends, entry_of, eq-eqb, false, first_world}
 use Rattle.mk_laws.proofs.Vocabulary.{flight_of, histories_keep_lengths, inl, inr, is_end, left, ne_eqb, refl, subst}
 use Rattle.mk_laws.proofs.Vocabulary.{sym, true, world_behind, [], ◌++◌, ◌+◌, ◌==◌, ◌∙◌, ◌∷◌, ◌≡◌, ◌≢◌}
-use Rattle.mk_laws.proofs.CallsBy.{by_append, calls_by, others_add_none, own_entry}
-use Rattle.mk_laws.proofs.OthersCounts.{entry_fulls, fulls_append, fulls_of}
 use Rattle.mk_objects.proofs.Vocabulary.{Acts, ComesTo, Does, IsAsLeft, Known, PassState, answers_full, calls_more}
 use Rattle.mk_objects.proofs.Vocabulary.{decides_nothing, does_then, event_of, own_calls, world_of}
 use Rattle.mk_core.specs.Frames.{CountsAreLeft, HoldsAll, written_of}
+use Rattle.mk_laws.proofs.CallsBy.{by_append, calls_by, others_add_none, own_entry}
+use Rattle.mk_laws.proofs.OthersCounts.{entry_fulls, fulls_append, fulls_of}
 use Rattle.mk_turns.proofs.Doing.{does_nothing, does_step}
-use Rattle.mk_words.{proofs.Made.{made}, specs.{Steps.may_decide, TurnSteps.world_at}}
+use Rattle.mk_words.{proofs.Made.made, specs.Steps.may_decide, specs.TurnSteps.world_at}
 
 -- What is counted of ended cycles and of Full answers, one event further and in parts.
 
@@ -27,15 +27,13 @@ counts_more c es e no_end no_full = grind (arith, sum_by_push, fulls_of, entry_f
 
 pub own_step_adds : (c : Config) (k : ℕ) (es others : List Event) (x : Step) {o : Op} {a : Option Answer}
     → AreOfOthers (Caller k ∷ []) others → (flight_of (left c (es ++ others)).now (Caller k)).op ≡ o
-    → answer_decided c (left c (es ++ others)).now (record { seat = Caller k; step = x }) ≡ a
-    → calls_by k (calls c (es ++ others ++ record { seat = Caller k; step = x } ∷ []))
-    ≡ calls_by k (calls c es) ++ entry_of k o a
+    → answer_decided c (left c (es ++ others)).now (record { seat = Caller k; step = x }) ≡ a → calls_by k
+    (calls c (es ++ others ++ record { seat = Caller k; step = x } ∷ [])) ≡ calls_by k (calls c es) ++ entry_of k o a
 own_step_adds c k es others x {o} {a} of_others same decides =
-    ap (λ (l : List Decided). calls_by k l) (calls_more c (first_world c) (es ++ others) e)
-    ∙ by_append k (calls c (es ++ others)) (call_decided c (left c (es ++ others)).now e)
-    ∙ ap (λ (l : List Decided). l ++ calls_by k (call_decided c (left c (es ++ others)).now e))
-    (others_add_none c k es others of_others) ∙ ap (λ (y : Op). calls_by k (calls c es) ++ calls_by k
-    (entry_of k y (answer_decided c (left c (es ++ others)).now e))) same
+    ap (λ (l : List Decided). calls_by k l) (calls_more c (first_world c) (es ++ others) e) ∙ by_append k
+    (calls c (es ++ others)) (call_decided c (left c (es ++ others)).now e) ∙ ap (λ (l : List Decided). l ++ calls_by k
+    (call_decided c (left c (es ++ others)).now e)) (others_add_none c k es others of_others) ∙ ap (λ (y : Op). calls_by
+    k (calls c es) ++ calls_by k (entry_of k y (answer_decided c (left c (es ++ others)).now e))) same
     ∙ ap (λ (y : Option Answer). calls_by k (calls c es) ++ calls_by k (entry_of k o y)) decides
     ∙ ap (λ (l : List Decided). calls_by k (calls c es) ++ l) (own_entry k o a)
   where
@@ -119,12 +117,11 @@ own_adds : (p : PassState) (k : ℕ) → p.seat ≡ Caller k → (seen others : 
     → entry_of k (flight_of (left p.table.config (seen ++ others)).now p.seat).op a ≡ es
     → own_calls p (seen ++ others ++ event_of p s ∷ []) ≡ own_calls p seen ++ es
 own_adds p k is seen others s {es} of_others {a} answer entry =
-    subst (λ (x : Seat). AreOfOthers (x ∷ []) others → answer_decided p.table.config
-    (left p.table.config (seen ++ others)).now (record { seat = x; step = s }) ≡ a
-    → entry_of k (flight_of (left p.table.config (seen ++ others)).now x).op a ≡ es
-    → own_calls (record p { seat = x }) (seen ++ others ++ record { seat = x; step = s } ∷ [])
-    ≡ own_calls (record p { seat = x }) seen ++ es) (sym is) (λ o d e. own_step_adds p.table.config k seen others s o
-    refl d ∙ ap (λ (l : List Decided). own_calls (record p { seat = Caller k }) seen ++ l) e) of_others answer entry
+    subst (λ (x : Seat). AreOfOthers (x ∷ []) others → answer_decided p.table.config (left p.table.config (seen ++
+    others)).now (record { seat = x; step = s }) ≡ a → entry_of k (flight_of (left p.table.config (seen ++ others)).now
+    x).op a ≡ es → own_calls (record p { seat = x }) (seen ++ others ++ record { seat = x; step = s } ∷ []) ≡ own_calls
+    (record p { seat = x }) seen ++ es) (sym is) (λ o d e. own_step_adds p.table.config k seen others s o refl d ∙ ap
+    (λ (l : List Decided). own_calls (record p { seat = Caller k }) seen ++ l) e) of_others answer entry
 
 -- what is known of the world in which the holder makes a step, where it had come to such a one
 abbrev pub GoesOn : (p : PassState) (A : World → Type 0) (C : World → Type 0) → Type 0
@@ -181,14 +178,12 @@ idle_steps p s B v idle there = record {
   entry = λ k is. refl;
 }
 
-pub reaches_still_in_stop : {kinds : Step → Bool} {p q r : PassState}
-    (A B : World → Type 0) {ds : List Decided} {s : Step} → ComesTo kinds p A ds q → Acts q s r → kinds s ≡ true
-    → is_end s ≡ false → IsCallers p → may_decide s ≡ false → GoesOnInStop p A
-    (λ v. B (world_behind p.table.config v (event_of p s))) → ComesTo kinds p B ds r
+pub reaches_still_in_stop : {kinds : Step → Bool} {p q r : PassState} (A B : World → Type 0) {ds : List Decided}
+    {s : Step} → ComesTo kinds p A ds q → Acts q s r → kinds s ≡ true → is_end s ≡ false → IsCallers p → may_decide
+    s ≡ false → GoesOnInStop p A (λ v. B (world_behind p.table.config v (event_of p s))) → ComesTo kinds p B ds r
 reaches_still_in_stop {kinds} {p} {r} A B {ds} {s} reached acts allowed no_end caller idle next =
-    subst (λ (l : List Decided). ComesTo kinds p B l r) (append-nil ds)
-    (reaches_in_stop A B reached acts allowed no_end caller
-    (λ w v a kept stop known pages. idle_steps p s B v idle (next w v a kept stop known pages)))
+    subst (λ (l : List Decided). ComesTo kinds p B l r) (append-nil ds) (reaches_in_stop A B reached acts allowed no_end
+    caller (λ w v a kept stop known pages. idle_steps p s B v idle (next w v a kept stop known pages)))
 
 pub reaches_still : {kinds : Step → Bool} {p q r : PassState} (A B : World → Type 0) {ds : List Decided} {s : Step}
     → ComesTo kinds p A ds q → Acts q s r → kinds s ≡ true → is_end s ≡ false → IsCallers p → may_decide s ≡ false
@@ -199,10 +194,9 @@ reaches_still A B reached acts allowed no_end caller idle next =
 
 -- the first step of a part
 pub reaches_first : {kinds : Step → Bool} {p r : PassState} (B : World → Type 0) {s : Step} → Acts p s r
-    → kinds s ≡ true → is_end s ≡ false → IsCallers p → may_decide s ≡ false
-    → ((v : World) → IsAsLeft p.seat (world_of p) v → Known p.table.config v.now
-    → AreOfPages p.table.config.pages v.now.words → B (world_behind p.table.config v (event_of p s)))
-    → ComesTo kinds p B [] r
+    → kinds s ≡ true → is_end s ≡ false → IsCallers p → may_decide s ≡ false → ((v : World)
+    → IsAsLeft p.seat (world_of p) v → Known p.table.config v.now → AreOfPages p.table.config.pages v.now.words
+    → B (world_behind p.table.config v (event_of p s))) → ComesTo kinds p B [] r
 reaches_first {kinds} {p} B acts allowed no_end caller idle next =
     reaches_still (λ w. w ≡ world_of p) B (reaches_nothing kinds p (λ w. w ≡ world_of p) refl) acts
     allowed no_end caller idle

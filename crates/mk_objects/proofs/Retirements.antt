@@ -97,17 +97,15 @@ tidy_by : {kinds : Step → Bool} {p q : PassState} {a : Answer} → Decides kin
 tidy_by d tidy = grind arith
 
 pub decides_free : {kinds : Step → Bool} {p q : PassState} {a : Answer} → Decides kinds p a q
-    → is_run_gone (now_of q).words (now_of q).seats.holding.freed ≡ true
-    → ((j : ℕ) → j < p.table.config.callers → is_held (now_of q).words j ≡ false)
-    → TalliesAreExact q.table.config q.seen → DecidesFree kinds a p q
+    → is_run_gone (now_of q).words (now_of q).seats.holding.freed ≡ true → ((j : ℕ) → j < p.table.config.callers
+    → is_held (now_of q).words j ≡ false) → TalliesAreExact q.table.config q.seen → DecidesFree kinds a p q
 decides_free d gone gates exact = grind (arith, reached_world, all_below_from, tidy_by)
 
 -- Where the turn had done nothing, and the call only came to be decided
 module _ {kinds : Step → Bool} {p q : PassState} {f : Flight} (a : Answer)
-    (at : ComesTo kinds p (CallIsAt p.seat f (world_of p)) (entry_for p a) q)
-    (give : f.stage ≡ Stage.Give) (same : f.op ≡ (call_of p).op) (nothing : (now_of p).seats.holding ≡ nothing_done)
-    (gates : none_is_held p.table.config.callers (now_of p).words ≡ true)
-    (exact : TalliesAreExact p.table.config p.seen) where
+    (at : ComesTo kinds p (CallIsAt p.seat f (world_of p)) (entry_for p a) q) (give : f.stage ≡ Stage.Give)
+    (same : f.op ≡ (call_of p).op) (nothing : (now_of p).seats.holding ≡ nothing_done) (gates : none_is_held
+    p.table.config.callers (now_of p).words ≡ true) (exact : TalliesAreExact p.table.config p.seen) where
   here : CallIsAt p.seat f (world_of p) (world_of q)
   here = reached_world at
 
@@ -127,9 +125,8 @@ pub retires_null : {p q : PassState} {r u : ℕ} → IsUnloaded p r → HasLoade
     → Retires p r false q
 retires_null {p} {q} {r} {u} unloaded loaded none null nothing gates exact h holds =
     let f : Flight = loaded_free r u in
-    let named : ComesTo is_freeing p (CallIsAt p.seat f (world_of p)) (entry_for p Answer.Done) q =
-    reaches_wider (λ x h. grind arith)
-    (reaches_named (ap (λ (b : Bool). if b then entry_for p Answer.Done else []) none) loaded) in
+    let named : ComesTo is_freeing p (CallIsAt p.seat f (world_of p)) (entry_for p Answer.Done) q = reaches_wider
+    (λ x h. grind arith) (reaches_named (ap (λ (b : Bool). if b then entry_for p Answer.Done else []) none) loaded) in
     let give : f.stage ≡ Stage.Give = ap (λ (b : Bool). if b then Stage.Give else Stage.Turn) none in
     let same : f.op ≡ (call_of p).op = sym (ap (λ (x : Flight). x.op) unloaded.call) in
     record {
@@ -151,9 +148,8 @@ freed_by_word p cell h is =
 
 -- The object is freed in the heap that never reuses storage exactly where its bit is set.
 module _ (p q : PassState) (r : ℕ) (f : Flight) (cell : Cell) (come : Comes p f q)
-    (hp : IsHistory p.table.config p.seen)
-    (hq : IsHistory q.table.config q.seen) (x : IsObjectAt q r cell) (keeps : value_of q r ≡ value_of p r)
-    (low : IsOutOfStop (now_of p)) where
+    (hp : IsHistory p.table.config p.seen) (hq : IsHistory q.table.config q.seen) (x : IsObjectAt q r cell)
+    (keeps : value_of q r ≡ value_of p r) (low : IsOutOfStop (now_of p)) where
   same_list : (world_of q).allocations ≡ (world_of p).allocations
   same_list = ap (λ (y : Steady). y.allocations) (come_now come).steady
 
@@ -194,9 +190,8 @@ finds_freed {p} {s} {r} u cell unloaded come seen set nothing gates exact freed 
     let f : Flight = record (loaded_free r u) { stage = Stage.Give } in
     let same : (loaded_free r u).op ≡ (call_of p).op = sym (ap (λ (g : Flight). g.op) unloaded.call) in
     let joined : ComesTo is_loading p (CallIsAt p.seat f (world_of p)) (entry_for p Answer.Double) s =
-    reaches_answered (λ x h. h) (λ x h. h) (λ x. CallIsAt x.seat f (world_of x)) Answer.Double
-    come (ap (λ (g : Flight). g.op) come.world.call ∙ same) (seen_at cell come seen set refl) (λ v a b. is_at_then a b)
-    in
+    reaches_answered (λ x h. h) (λ x h. h) (λ x. CallIsAt x.seat f (world_of x)) Answer.Double come
+    (ap (λ (g : Flight). g.op) come.world.call ∙ same) (seen_at cell come seen set refl) (λ v a b. is_at_then a b) in
     record { decides = leaves_all Answer.Double joined refl same nothing gates exact; freed = freed }
 
 -- The cell of its target was found.
@@ -208,9 +203,8 @@ pub record IsFound (p q : PassState) (r u : ℕ) (cell : Cell) : Type 0 where
   pub within : cell.page < q.table.config.pages
   pub index : cell.index < 32
 
-target_stays : (p q : PassState) (cell : Cell) → p.table ≡ q.table → call_of q ≡ call_of p
-    → (now_of q).words.pages ≡ (now_of p).words.pages
-    → target p.table.config.pages (now_of p).words (call_of p) ≡ Some cell
+target_stays : (p q : PassState) (cell : Cell) → p.table ≡ q.table → call_of q ≡ call_of p → (now_of q).words.pages
+    ≡ (now_of p).words.pages → target p.table.config.pages (now_of p).words (call_of p) ≡ Some cell
     → target q.table.config.pages (now_of q).words (call_of q) ≡ Some cell
 target_stays p q cell table call pages at =
     cc (target_same p.table.config.pages (now_of p).words (now_of q).words (call_of p) pages)
@@ -262,9 +256,8 @@ module _ {p q : PassState} {r u : ℕ} {cell : Cell} (unloaded : IsUnloaded p r)
       )
 
 -- No gate is held there where none was.
-pub none_held_there : {p q : PassState} {f : Flight} → Comes p f q
-    → none_is_held p.table.config.callers (now_of p).words ≡ true
-    → none_is_held q.table.config.callers (now_of q).words ≡ true
+pub none_held_there : {p q : PassState} {f : Flight} → Comes p f q → none_is_held p.table.config.callers
+    (now_of p).words ≡ true → none_is_held q.table.config.callers (now_of q).words ≡ true
 none_held_there {p} {q} come none = still_open p q (come_table come) (come_now come).gates none
 
 -- Its object was freed.
@@ -277,10 +270,9 @@ retires {p} {q} {t} {r} {u} {cell} {due} unloaded come may keeps low f before h 
     let object : IsObjectAt q r cell = object_at u cell h may.free may.some may.target in
     let same : g.op ≡ (call_of p).op = sym (ap (λ (x : Flight). x.op) unloaded.call) in
     let table = come_table come in
-    let d : Decides is_freeing p Answer.Done t =
-    reaches_answered (λ x h. grind arith) (λ x h. h) (λ x. IsDecidedAt x.seat (world_of x)) Answer.Done come
-    (ap (λ (x : Flight). x.op) come.world.call ∙ same) f.reaches (λ v a b. decided_behind (world_of p)
-    (ap (λ (x : Flight). x.op) a.call ∙ same) a.holding (ap counted a.steady) b) in
+    let d : Decides is_freeing p Answer.Done t = reaches_answered (λ x h. grind arith) (λ x h. h) (λ x. IsDecidedAt
+    x.seat (world_of x)) Answer.Done come (ap (λ (x : Flight). x.op) come.world.call ∙ same) f.reaches (λ v a
+    b. decided_behind (world_of p) (ap (λ (x : Flight). x.op) a.call ∙ same) a.holding (ap counted a.steady) b) in
     let once = once_behind (λ x h. grind arith) come.does h holds f.once in
     let exactly = subst (λ (y : WordsState). IsExactly y due (world_of t).allocations) (sym table) f.exactly in
     record {

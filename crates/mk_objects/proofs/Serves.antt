@@ -102,9 +102,8 @@ pub served_acting : {p : PassState} {place : Place} {v : World} → KnowsPlace p
     → Serving p.table.config p.seat (object_for p) place (world_of p) v → IsActing p.table.config v.now p.seat
 served_acting {p} {v} k at = acts_there (world_of p) v k.acting at.call
 
-pub served_new : {p : PassState} {place : Place} {v : World} → GoesTo p place
-    → Serving p.table.config p.seat (object_for p) place (world_of p) v
-    → is_undecided_new (flight_of v.now p.seat) ≡ true
+pub served_new : {p : PassState} {place : Place} {v : World} → GoesTo p place → Serving p.table.config p.seat
+    (object_for p) place (world_of p) v → is_undecided_new (flight_of v.now p.seat) ≡ true
 served_new goes at = ap (λ (f : Flight). is_undecided_new f) at.call ∙ goes.unplaced.new
 
 -- `mark`
@@ -142,11 +141,10 @@ module _ {p : PassState} {place : Place} (goes : GoesTo p place) (k : KnowsPlace
       let w : World = left p.table.config q.seen in
       let ends = frees.within in
       let lengths = k.serving.pages in
-      subst (λ (x : PassState). IsEnabledTo x (Step.Head (place.page + n) (header_made (object_for p) n)))
-      (sym reached.same) (may_carve (served_acting k reached.world.serving) (place.page + n)
-      (header_made (object_for p) n) (omega arith) (out_of_stop (now_of p) w.now
-      (ap (λ (x : Steady). x.phase) reached.world.serving.steady) goes.unplaced.phase)
-      (made_is_mapped (object_for p) n k.sized lt) (carving_carves k.sized reached.world lt))
+      subst (λ (x : PassState). IsEnabledTo x (Step.Head (place.page + n) (header_made (object_for p) n))) (sym
+      reached.same) (may_carve (served_acting k reached.world.serving) (place.page + n) (header_made (object_for p) n)
+      (omega arith) (out_of_stop (now_of p) w.now (ap (λ (x : Steady). x.phase) reached.world.serving.steady)
+      goes.unplaced.phase) (made_is_mapped (object_for p) n k.sized lt) (carving_carves k.sized reached.world lt))
 
   pub heads_on : {q r : PassState} {n : ℕ} → HasCarved p place n q → n < pages_made (object_for p)
       → Acts q (Step.Head (place.page + n) (header_made (object_for p) n)) r → HasCarved p place (n + 1) r

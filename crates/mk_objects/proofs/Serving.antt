@@ -71,16 +71,17 @@ pub header_here : (ps : List Page) (p : ℕ) (x : Page) → p < length ps
     → (slice_index_or (slice_set ps p x) p free_page).header ≡ x.header
 header_here ps p x lt = ap (λ (y : Page). y.header) (get_or-set_same ps p x free_page lt)
 
-used_kept : (ps : List Page) (p q h : ℕ) → (slice_index_or (slice_set ps p
-    (record { header = h; used = (slice_index_or ps p free_page).used })) q free_page).used ≡
-    (slice_index_or ps q free_page).used
+used_kept : (ps : List Page) (p q h : ℕ) → (slice_index_or (slice_set ps p (record {
+  header = h;
+  used =
+      (slice_index_or ps p free_page).used;
+})) q free_page).used ≡ (slice_index_or ps q free_page).used
 used_kept ps p q h = elim (cases_eq q p) [
   | inl e ↦ elim (cases_lt p (length ps)) [
     | inl lt ↦
         let x : Page = record { header = h; used = (slice_index_or ps p free_page).used } in
-        ap (λ i. (slice_index_or (slice_set ps p x) i free_page).used) e
-        ∙ ap (λ (y : Page). y.used) (get_or-set_same ps p x free_page lt)
-        ∙ ap (λ i. (slice_index_or ps i free_page).used) (sym e)
+        ap (λ i. (slice_index_or (slice_set ps p x) i free_page).used) e ∙ ap (λ (y : Page). y.used)
+        (get_or-set_same ps p x free_page lt) ∙ ap (λ i. (slice_index_or ps i free_page).used) (sym e)
     | inr past ↦ ap (λ (ys : List Page). (slice_index_or ys q free_page).used) (set_past ps p _ past)
   ]
   | inr ne ↦ ap (λ (y : Page). y.used) (get_or-set_other ps p q _ free_page ne)
@@ -184,9 +185,8 @@ marks_first : (w : Words) (o : Object) (place : Place) → phase_of w ≡ 1 → 
 marks_first w o place one free = grind (arith, and_from, eq-eqb)
 
 pub serving_marks : {c : Config} {s : Seat} {o : Object} {place : Place} {w v : World} → Serving c s o place w v
-    → phase_of v.now.words ≡ 1 → header_at v.now.words place.page ≡ 0
-    → marks_place v.now.words (object_made c (flight_of v.now s).op) (place_now c v.now (flight_of v.now s)) place.page
-    (bits_made o) ≡ true
+    → phase_of v.now.words ≡ 1 → header_at v.now.words place.page ≡ 0 → marks_place v.now.words
+    (object_made c (flight_of v.now s).op) (place_now c v.now (flight_of v.now s)) place.page (bits_made o) ≡ true
 serving_marks at one free = grind (arith, marks_first)
 
 all_marked : (bits : ℕ) (xs : List ℕ) (p : ℕ) → p < length xs
@@ -278,10 +278,9 @@ granted_behind {c} {place} {w} {v} at (OfCaller k lt) room =
           let d : d_of (flight_of v.now (Caller k)).op ≡ d_of (flight_of w.now (Caller k)).op = grind arith in
           let value = address_of (granted_base c (flight_of v.now (Caller k)) v.now.seats.holding.placing) % 2 ^ 64 in
           ap (λ i. slice_index (slice_set v.now.words.registers (8 * k + d_of (flight_of v.now (Caller k)).op) value)
-          (8 * i + d_of (flight_of w.now (Caller k)).op)) (sym same)
-          ∙ ap (λ i. slice_index (slice_set v.now.words.registers (8 * k + i) value)
-          (8 * k + d_of (flight_of w.now (Caller k)).op)) d ∙ get_or-set_same v.now.words.registers
-          (8 * k + d_of (flight_of w.now (Caller k)).op) value 0 (room k refl)
+          (8 * i + d_of (flight_of w.now (Caller k)).op)) (sym same) ∙ ap (λ i. slice_index
+          (slice_set v.now.words.registers (8 * k + i) value) (8 * k + d_of (flight_of w.now (Caller k)).op)) d
+          ∙ get_or-set_same v.now.words.registers (8 * k + d_of (flight_of w.now (Caller k)).op) value 0 (room k refl)
           ∙ ap (λ n. address_of n % 2 ^ 64) (ap (λ (x : Placing). granted_base c (flight_of v.now (Caller k)) x)
           at.placing ∙ ap (λ (g : Flight). base_made (object_made c g.op) place) at.call);
     }

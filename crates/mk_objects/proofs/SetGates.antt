@@ -176,9 +176,8 @@ holds_none p none =
     sets_first is_holding p _ (λ j lt. not-true _ (all_below-at p.table.config.callers j (λ i. not (is_held (now_of
     p).words i)) none lt) ∙ sym (none_below p.seat j))
 
-pub opens_none : (p : PassState)
-    → ((j : ℕ) → j < p.table.config.callers → is_held (now_of p).words j ≡ all_others p.seat j)
-    → SetsGates is_settling p (held_from p.seat 0) p
+pub opens_none : (p : PassState) → ((j : ℕ) → j < p.table.config.callers
+    → is_held (now_of p).words j ≡ all_others p.seat j) → SetsGates is_settling p (held_from p.seat 0) p
 opens_none p held = sets_first is_settling p (held_from p.seat 0) (λ j lt. held j lt ∙ sym (all_from p.seat j))
 
 -- what the passes are after it

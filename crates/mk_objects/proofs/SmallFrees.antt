@@ -3,15 +3,15 @@ use Rattle.mk_laws.proofs.Vocabulary.{Bool, Cell, Header, Holds, IsHistory, List
 use Rattle.mk_laws.proofs.Vocabulary.{Steady, Tally, ℕ, all_below-at, ap, arith, false, fresh_words_of, header_in}
 use Rattle.mk_laws.proofs.Vocabulary.{heads_run, if◌then◌else◌, in_a_word, is_held, not, not-true, run_headed, subst}
 use Rattle.mk_laws.proofs.Vocabulary.{sym, true, words_under, ◌*◌, ◌+◌, ◌-◌, ◌<◌, ◌^◌, ◌↔◌, ◌∙◌, ◌≡◌}
-use Rattle.mk_laws.proofs.Tallies.{fresh_is_told}
 use Rattle.mk_objects.proofs.Vocabulary.{Changes, FreesCell, FreesOnce, HasFreed, IsAsLeft, IsFreedAt, IsTrue, MayFree}
 use Rattle.mk_objects.proofs.Vocabulary.{OnlyLooks, PassState, SetsTally, StaysSo, held_by_allocations, is_following}
 use Rattle.mk_objects.proofs.Vocabulary.{min, none_is_held, now_of, steady_of, with_tally, words_freed, world_of}
-use Rattle.mk_objects.proofs.{ClearedRuns.{IsGoneIn, still_gone}, DecidedFrees.{Stays, decides_before, freed_decides}}
-use Rattle.mk_objects.proofs.{DecidedFrees.{fresh_stays, stays_now}, JoinedLooks.{reached_table, reached_world}}
-use Rattle.mk_objects.proofs.{JoinedLooks.{reaches_after, reaches_wider}, FreedObjects.{object_at, small_held}}
-use Rattle.mk_objects.proofs.FreedOnce.{once_before}
 use Rattle.mk_core.specs.Counts.{TalliesAreExact}
+use Rattle.mk_laws.proofs.Tallies.{fresh_is_told}
+use Rattle.mk_objects.proofs.ClearedRuns.{IsGoneIn, still_gone}
+use Rattle.mk_objects.proofs.DecidedFrees.{Stays, decides_before, freed_decides, fresh_stays, stays_now}
+use Rattle.mk_objects.proofs.JoinedLooks.{reached_table, reached_world, reaches_after, reaches_wider}
+use Rattle.mk_objects.proofs.{FreedObjects.object_at, FreedObjects.small_held, FreedOnce.once_before}
 
 -- After a `quar` the call is decided.
 pub freed_now : {p q : PassState} {cell : Cell} → HasFreed p cell q
@@ -30,9 +30,8 @@ fresh_told_by p q cell before behind table exact is = grind (arith, fresh_is_tol
 
 -- The tallies are exact by what is known from the pass before.
 pub exact_from : (p q : PassState) → p.table ≡ q.table
-    → (now_of q).words.held ≡ held_by_allocations p.table.config (world_of q).allocations
-    → (now_of q).words.fresh ≡ in_a_word (fresh_words_of p.table.config (world_of q).allocations)
-    → TalliesAreExact q.table.config q.seen
+    → (now_of q).words.held ≡ held_by_allocations p.table.config (world_of q).allocations → (now_of q).words.fresh
+    ≡ in_a_word (fresh_words_of p.table.config (world_of q).allocations) → TalliesAreExact q.table.config q.seen
 exact_from p q table held fresh = grind arith
 
 pub exact_still : (p q : PassState) → p.table ≡ q.table → steady_of (world_of q) ≡ steady_of (world_of p)
@@ -72,11 +71,10 @@ tally_between t n before sets behind =
 -- The object is freed and counted, once its `quar` and what follows that are done.
 pub frees_counted : {p q r : PassState} {cell : Cell} {held fresh : ℕ} (due : Bool) → HasFreed p cell q
     → Stays is_following q r → FreesOnce p q → Holds q.table.config (now_of q) q.seat → IsHistory r.table.config r.seen
-    → IsGoneIn (world_of r) → ((j : ℕ) → j < p.table.config.callers → is_held (now_of r).words j ≡ false) → held
-    ≡ (now_of r).words.held → fresh ≡ (now_of r).words.fresh → held
-    ≡ held_by_allocations p.table.config (world_of r).allocations → fresh
-    ≡ in_a_word (fresh_words_of p.table.config (world_of r).allocations) → held < 2 ^ 64
-    → IsTrue due ↔ (held < 4 * fresh) → FreesCell p cell due r
+    → IsGoneIn (world_of r) → ((j : ℕ) → j < p.table.config.callers → is_held (now_of r).words j ≡ false)
+    → held ≡ (now_of r).words.held → fresh ≡ (now_of r).words.fresh → held ≡ held_by_allocations p.table.config
+    (world_of r).allocations → fresh ≡ in_a_word (fresh_words_of p.table.config (world_of r).allocations)
+    → held < 2 ^ 64 → IsTrue due ↔ (held < 4 * fresh) → FreesCell p cell due r
 frees_counted {p} {q} {r} due freed follows once holds behind gone gates held fresh held_exact fresh_exact fits is_due =
     let table : p.table ≡ q.table = sym (reached_table freed) in
     let stays = stays_now follows in
@@ -90,9 +88,8 @@ frees_counted {p} {q} {r} due freed follows once holds behind gone gates held fr
       exactly = grind arith;
     }
 
-module _ (p q a b r : PassState) (reg u : ℕ) (cell : Cell) (n : ℕ) (may : MayFree p reg u cell)
-    (before : IsHistory p.table.config p.seen) (freed : HasFreed p cell q) (looks : OnlyLooks q a)
-    (tallied : SetsTally a Tally.Fresh n b)
+module _ (p q a b r : PassState) (reg u : ℕ) (cell : Cell) (n : ℕ) (may : MayFree p reg u cell) (before : IsHistory
+    p.table.config p.seen) (freed : HasFreed p cell q) (looks : OnlyLooks q a) (tallied : SetsTally a Tally.Fresh n b)
     (looks_again : OnlyLooks b r) (gates : none_is_held p.table.config.callers (now_of p).words ≡ true) where
   sets : SetsTally q Tally.Fresh n r
   sets = tally_between Tally.Fresh _ looks tallied looks_again
@@ -129,7 +126,6 @@ module _ (p q a b r : PassState) (reg u : ℕ) (cell : Cell) (n : ℕ) (may : Ma
 
       pub frees_small : FreesCell p cell due r
       frees_small =
-          frees_counted due freed follows once holds behind (subst (λ (x : PassState). IsGoneIn (world_of x))
-          (sym sets.same) (still_gone sets.does behind holds
-          (grind (arith, freed_there, no_run)))) none_held_now found_held
+          frees_counted due freed follows once holds behind (subst (λ (x : PassState). IsGoneIn (world_of x)) (sym
+          sets.same) (still_gone sets.does behind holds (grind (arith, freed_there, no_run)))) none_held_now found_held
           (sym (ap (λ (x : Steady). x.fresh) changed.steady)) (found_held ∙ held_exact) fresh_exact fits is_due

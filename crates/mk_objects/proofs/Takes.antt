@@ -65,9 +65,8 @@ module _ {p : PassState} {place : Place} (goes : GoesTo p place) (k : KnowsPlace
 
   pub used_on : {q r : PassState} {value : ℕ} → MayTake p place q → Acts q (Step.Used place.page value) r → HasTaken r
   used_on {value} reached a =
-      reaches_still (IsCellReady c p.seat (object_for p) place (world_of p))
-      (IsTakenAt c p.seat (object_for p) place (world_of p)) reached a refl refl k.caller refl
-      (λ w v here kept known pages.
+      reaches_still (IsCellReady c p.seat (object_for p) place (world_of p)) (IsTakenAt c p.seat (object_for p) place
+      (world_of p)) reached a refl refl k.caller refl (λ w v here kept known pages.
       let on = ready_left here kept in
       let call = acting_has_call known.orderly.flights (served_acting k on.serving) in
       taken_behind place.page value on.serving call (low_still v (ap (λ (x : Steady). x.phase) on.serving.steady)))

@@ -52,10 +52,8 @@ unmapped_left at kept = grind arith
 
 unmapped_more : {c : Config} {s : Seat} {run : RunPages} {w v : World} {n : ℕ} → UnmappedTo s run w v n
     → HasCall c v.now s → (flight_of v.now s).stage ≡ Stage.Give → IsOutOfStop v.now → n < run.count
-    → run.page + n < length v.now.words.pages → UnmappedTo s run w (world_behind c v (record {
-      seat = s;
-      step = Step.Head (run.page + n) (unmapped_header run.count n);
-    })) (n + 1)
+    → run.page + n < length v.now.words.pages → UnmappedTo s run w
+    (world_behind c v (record { seat = s; step = Step.Head (run.page + n) (unmapped_header run.count n) })) (n + 1)
 unmapped_more {c} {s} {run} {v} {n} at (OfCaller k lt) give low near room =
     let p = run.page + n in
     let x = Step.Head p (unmapped_header run.count n) in
@@ -63,9 +61,11 @@ unmapped_more {c} {s} {run} {v} {n} at (OfCaller k lt) give low near room =
     record {
       changes = record {
         call = call_behind c v.now k x lt ∙ at.changes.call;
-        holding = ap (λ (y : Placing). record v.now.seats.holding { placing = y })
-            (rw (off_four v.now low, no_place c v.now (flight_of v.now s) give)
-            (chosen_none v.now.seats.holding.placing)) ∙ at.changes.holding;
+        holding = ap (λ (y : Placing). record v.now.seats.holding { placing = y }) (rw (
+          off_four v.now low,
+          no_place c
+              v.now (flight_of v.now s) give,
+        ) (chosen_none v.now.seats.holding.placing)) ∙ at.changes.holding;
         steady = ap (λ (y : Steady). record y { pages = u.now.words.pages }) at.changes.steady;
         gates = at.changes.gates;
       };
@@ -111,9 +111,8 @@ module _ {p : PassState} (run : RunPages) (turn : IsTurn p) (give : (call_of p).
       reached_there reached (λ (x : PassState). IsEnabledTo x (Step.Head (run.page + n) (unmapped_header run.count n)))
       (may_unmap (there_acting v at.changes.call) (run.page + n) (unmapped_header run.count n) (omega arith)
       (there_low v (ap (λ (x : Steady). x.phase) at.changes.steady)) (still_stopped p v at.changes.gates stopped)
-      (ap (λ (x : Option RunPages). unmaps v.now.words x (run.page + n) (unmapped_header run.count n)) here
-      ∙ next_is v.now.words run.page run.count (unmapped_header run.count) n near (at.rest n (omega arith) near)
-      at.done))
+      (ap (λ (x : Option RunPages). unmaps v.now.words x (run.page + n) (unmapped_header run.count n)) here ∙ next_is
+      v.now.words run.page run.count (unmapped_header run.count) n near (at.rest n (omega arith) near) at.done))
 
   pub unmaps_on : {q r : PassState} {n : ℕ} → HasUnmapped q n → n < run.count
       → run.page + run.count ≤ p.table.config.pages
@@ -171,9 +170,8 @@ gone_cell w run pages address d cell unmapped few near at is =
 no_hand : (c : Config) (m : Moment) (s : Seat) (run : RunPages) (n value : ℕ) → is_run_unmapped m.words run ≡ true
     → run.count ≤ 64 → n < 64 * run.count → hand_given c m s (Word.Heap (64 * run.page + n)) value ≡ None
 no_hand c m s run n value unmapped few near =
-    by (pointed_cell c.pages m.words.pages (address_of (64 * run.page + n)))
-    (λ cell is. gone_cell m.words run c.pages (address_of (64 * run.page + n)) (n / 64) cell unmapped few
-    (omega (arith, near)) (omega arith) is)
+    by (pointed_cell c.pages m.words.pages (address_of (64 * run.page + n))) (λ cell is. gone_cell m.words run c.pages
+    (address_of (64 * run.page + n)) (n / 64) cell unmapped few (omega (arith, near)) (omega arith) is)
   where
     by : (x : Option Cell) → ((cell : Cell) → x ≡ Some cell → has_no_pointers (header_in m.words cell.page) ≡ true)
         → option_and_then (λ (cell : Cell). hand_of_cell m.words (is_in_stop c.callers m.words s)

@@ -29,9 +29,8 @@ pub of_own_set : (class : ℕ) (leaf : Bool) (use' : PageUse) → class < 8
     → is_of_set (class_place class leaf) use' ≡ has_free_cell class leaf use'
 of_own_set class leaf use' known = grind (arith, of_block_set, place_within, class_of_place, sort_of_place)
 
-pub free_in_own_set : (class : ℕ) (leaf : Bool) (used : ℕ) → class < 8
-    → is_of_set (class_place class leaf) (Cells class leaf (bits_of (cells_of class) used))
-    ≡ is_some (first_where not (bits_of (cells_of class) used))
+pub free_in_own_set : (class : ℕ) (leaf : Bool) (used : ℕ) → class < 8 → is_of_set (class_place class leaf)
+    (Cells class leaf (bits_of (cells_of class) used)) ≡ is_some (first_where not (bits_of (cells_of class) used))
 free_in_own_set class leaf used known = of_own_set class leaf (Cells class leaf (bits_of (cells_of class) used)) known
     ∙ ap (λ taken. is_some (first_where not taken))
     (cells_taken_alike (Cells class leaf (bits_of (cells_of class) used)) class class leaf leaf used refl refl refl)
@@ -87,18 +86,16 @@ each_set P blocks free in_use set is_set = grind (arith, cases_lt)
 -- used words tell blocks of one class and sort apart in their own set alone
 same_elsewhere : (set class : ℕ) (leaf : Bool) (earlier used : ℕ) → set < 18 → (set ≡ class_place class leaf → ⊥)
     → is_of_set set (use_of_kind (Block class leaf) earlier) ≡ is_of_set set (use_of_kind (Block class leaf) used)
-same_elsewhere set class leaf earlier used is_set other = each_set (λ s. (s ≡ class_place class leaf → ⊥)
-    → is_of_set s (use_of_kind (Block class leaf) earlier) ≡ is_of_set s (use_of_kind (Block class leaf) used))
-    (λ s block differ. of_other_set s class leaf (bits_of (cells_of class) earlier) block differ
-    ∙ sym (of_other_set s class leaf (bits_of (cells_of class) used) block differ))
-    (λ _. refl) (λ _. refl) set is_set other
+same_elsewhere set class leaf earlier used is_set other = each_set (λ s. (s ≡ class_place class leaf → ⊥) → is_of_set s
+    (use_of_kind (Block class leaf) earlier) ≡ is_of_set s (use_of_kind (Block class leaf) used))
+    (λ s block differ. of_other_set s class leaf (bits_of (cells_of class) earlier) block differ ∙ sym
+    (of_other_set s class leaf (bits_of (cells_of class) used) block differ)) (λ _. refl) (λ _. refl) set is_set other
 
 -- a block whose used word changes
 pub sorted_anew : (before after : List ℕ) (page class : ℕ) {place : ℕ} (earlier used : ℕ) (leaf free : Bool) → class < 8
     → place ≡ class_place class leaf → place < 16 → free ≡ is_some (first_where not (bits_of (cells_of class) used))
-    → is_member after place page ≡ free → OtherSetsStay before after page place
-    → IsInItsSets before page (use_of_kind (Block class leaf) earlier)
-    → IsInItsSets after page (use_of_kind (Block class leaf) used)
+    → is_member after place page ≡ free → OtherSetsStay before after page place → IsInItsSets before page
+    (use_of_kind (Block class leaf) earlier) → IsInItsSets after page (use_of_kind (Block class leaf) used)
 sorted_anew before after page class {place} earlier used leaf free known is low is_free put stay sorted set is_set =
     elim (cases_eq set place) [
       | inl same ↦ ap (λ s. is_member after s page) same ∙ put ∙ is_free ∙ sym (free_in_own_set class leaf used known)

@@ -17,9 +17,8 @@ pub record Changes (pages : List Page) (sets after : List ℕ) (page : ℕ) (now
   pub sorted : IsInItsSets after page (use_of_page now)
   pub others : OthersStay sets after page
 
-pub resident_changed : (pages : List Page) (page : ℕ) (now : Page) → page < length pages
-    → resident_pages (uses_of_pages (set pages page now)) + resident_one (page_at pages page)
-    ≡ resident_pages (uses_of_pages pages) + resident_one now
+pub resident_changed : (pages : List Page) (page : ℕ) (now : Page) → page < length pages → resident_pages (uses_of_pages
+    (set pages page now)) + resident_one (page_at pages page) ≡ resident_pages (uses_of_pages pages) + resident_one now
 resident_changed pages page now within =
     let one : PageUse → ℕ = λ u. cond (is_resident_page u) 1 0 in
     let long : page < length (uses_of_pages pages) = omega (arith, length-map pages use_of_page) in

@@ -14,9 +14,8 @@ is_free_at pages number = is_free_page (use_of_page (page_at pages number))
 
 -- a page alone
 
-one_page : (free : Bool) (range : ℕ) (rest other : Option ℕ) → rest ≡ other
-    → (if free then Some 0 else option_map (λ n. n + 1) rest)
-    ≡ (if nat_le 1 (if free then range + 1 else 0) then Some 0 else option_map (λ n. n + 1) other)
+one_page : (free : Bool) (range : ℕ) (rest other : Option ℕ) → rest ≡ other → (if free then Some 0 else option_map
+    (λ n. n + 1) rest) ≡ (if nat_le 1 (if free then range + 1 else 0) then Some 0 else option_map (λ n. n + 1) other)
 one_page _ range rest other same = grind (arith, le-leb)
 
 pub lowest_page_is_range : (uses : List PageUse) → first_where is_free_page uses ≡ range_start 1 uses

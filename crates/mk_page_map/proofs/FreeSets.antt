@@ -47,9 +47,8 @@ in_word number words pages here = grind (arith, cases_lt, lt-ltb, le-ltb)
 
 -- one word more
 pub one_word_more : (before after : List ℕ) {words : ℕ} (pages word : ℕ) → HaveFreeBelow before words pages
-    → word_in_set after 16 words ≡ word → OtherWordsStay before after 16 words
-    → ((place : ℕ) → place < 64 → nat_eq (bit_at word place) 1 ≡ nat_lt place (pages - 64 * words))
-    → HaveFreeBelow after (words + 1) pages
+    → word_in_set after 16 words ≡ word → OtherWordsStay before after 16 words → ((place : ℕ) → place < 64
+    → nat_eq (bit_at word place) 1 ≡ nat_lt place (pages - 64 * words)) → HaveFreeBelow after (words + 1) pages
 one_word_more before after {words} pages word free is stay bits set number is_set few =
     elim (cases_eq (number / 64) words) [
       | inl here ↦ elim (cases_eq set 16) [
@@ -57,11 +56,10 @@ one_word_more before after {words} pages word free is stay bits set number is_se
             (bit_at (word_in_set after 16 w) (number % 64)) 1) here ∙ ap (λ n. nat_eq (bit_at n (number % 64)) 1) is
             ∙ bits (number % 64) (omega arith) ∙ in_word number words pages here
             ∙ sym (ap (λ s. nat_eq s 16 && (nat_lt (number / 64) (words + 1) && nat_lt number pages)) own)
-        | inr other ↦ ap (λ n. nat_eq (bit_at n (number % 64)) 1) (stay set (number / 64) (omega arith)
-            (λ same _. other same)) ∙ free set number is_set few ∙ and_left (nat_eq set 16)
-            (nat_lt (number / 64) words && nat_lt number pages) (ne_eqb set 16 other)
-            ∙ sym (and_left (nat_eq set 16) (nat_lt (number / 64) (words + 1) && nat_lt number pages)
-            (ne_eqb set 16 other))
+        | inr other ↦ ap (λ n. nat_eq (bit_at n (number % 64)) 1)
+            (stay set (number / 64) (omega arith) (λ same _. other same)) ∙ free set number is_set few
+            ∙ and_left (nat_eq set 16) (nat_lt (number / 64) words && nat_lt number pages) (ne_eqb set 16 other) ∙ sym
+            (and_left (nat_eq set 16) (nat_lt (number / 64) (words + 1) && nat_lt number pages) (ne_eqb set 16 other))
       ]
       | inr differ ↦ ap (λ n. nat_eq (bit_at n (number % 64)) 1) (stay set (number / 64) (omega arith)
           (λ _ same. differ same)) ∙ free set number is_set few ∙ ap (λ t. nat_eq set 16 && (t && nat_lt number pages))

@@ -4,9 +4,8 @@ use Rattle.mk_page_map.proofs.Vocabulary.{sym, ◌<◌, ◌∙◌, ◌≡◌}
 use Rattle.mk_books.proofs.FirstWhereLemmas.{first_where_at, first_where_nowhere}
 
 -- by another test that says the same
-pub same_next : {passes : ℕ → Bool} (others : ℕ → Bool) (from : ℕ) {count : ℕ} (next : Option ℕ)
-    → ((number : ℕ) → number < count → passes number ≡ others number)
-    → IsNext passes from count next → IsNext others from count next
+pub same_next : {passes : ℕ → Bool} (others : ℕ → Bool) (from : ℕ) {count : ℕ} (next : Option ℕ) → ((number : ℕ)
+    → number < count → passes number ≡ others number) → IsNext passes from count next → IsNext others from count next
 same_next others from _ same next = grind arith
 
 -- the first of a list is the next one from its start

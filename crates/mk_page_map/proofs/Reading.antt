@@ -25,9 +25,8 @@ no_others_there set reads is_set number past few = grind arith
 
 -- and by what the map knows: of the first 18 sets, and of the two of quarantined and of uncleaned pages
 pub next_of_sorted : {known : KnownPages} {held : List Page} {sets slice : List ℕ} {resident count : ℕ} (set from : ℕ)
-    (next : Option ℕ) → Reads known held sets slice resident count → set < 18
-    → IsNext (is_member slice set) from count next
-    → IsNext (λ number. is_of_set set (use_of_page (page_at known.pages number))) from (length known.pages) next
+    (next : Option ℕ) → Reads known held sets slice resident count → set < 18 → IsNext (is_member slice set) from count
+    next → IsNext (λ number. is_of_set set (use_of_page (page_at known.pages number))) from (length known.pages) next
 next_of_sorted {held} set from next reads is_set found =
     subst (λ (k : KnownPages). IsNext (λ number. is_of_set set (use_of_page (page_at k.pages number))) from
     (length k.pages) next) reads.view (grind (arith, same_next))

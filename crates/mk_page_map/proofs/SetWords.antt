@@ -70,25 +70,21 @@ stored_are_sets {sets} {s} {word} {bits} {summary} stores = record {
           same ∙ ap (λ k. not (nat_eq (word_in_set (after_store sets s word bits summary) s k) 0)) here
           ∙ ap (λ n. not (nat_eq n 0)) (stored_word stores))
       | inr there ↦ ap (λ t. nat_eq (bit_at (summary_of (after_store sets s word bits summary) t) w) 1) same
-          ∙ ap (λ n. nat_eq (bit_at n w) 1) (stored_summary stores)
-          ∙ ap (λ b. nat_eq b 1) (stores.other_marks w within there)
-          ∙ stores.are_sets.summaries s w stores.is_set within
-          ∙ sym (ap (λ t. not (nat_eq (word_in_set (after_store sets s word bits summary) t w) 0)) same
-          ∙ ap (λ n. not (nat_eq n 0)) (other_word sets s word bits summary stores.is_word s w within
-          (λ _ here. there here)))
+          ∙ ap (λ n. nat_eq (bit_at n w) 1) (stored_summary stores) ∙ ap (λ b. nat_eq b 1)
+          (stores.other_marks w within there) ∙ stores.are_sets.summaries s w stores.is_set within
+          ∙ sym (ap (λ t. not (nat_eq (word_in_set (after_store sets s word bits summary) t w) 0)) same ∙ ap (λ n. not
+          (nat_eq n 0)) (other_word sets s word bits summary stores.is_word s w within (λ _ here. there here)))
     ]
     | inr differ ↦ ap (λ n. nat_eq (bit_at n w) 1) (other_summary sets s word bits summary other stores.is_word
-        differ) ∙ stores.are_sets.summaries other w is_set within
-        ∙ sym (ap (λ n. not (nat_eq n 0)) (other_word sets s word bits summary stores.is_word other w within
-        (λ same _. differ same)))
+        differ) ∙ stores.are_sets.summaries other w is_set within ∙ sym (ap (λ n. not (nat_eq n 0))
+        (other_word sets s word bits summary stores.is_word other w within (λ same _. differ same)))
   ];
 }
 
 -- a page is put, by its word
 
-pub put_other_set : (before after : List ℕ) {s : ℕ} (page other : ℕ) → page < 4096
-    → OtherWordsStay before after s (page / 64) → (other ≡ s → ⊥)
-    → is_member after other page ≡ is_member before other page
+pub put_other_set : (before after : List ℕ) {s : ℕ} (page other : ℕ) → page < 4096 → OtherWordsStay before after s
+    (page / 64) → (other ≡ s → ⊥) → is_member after other page ≡ is_member before other page
 put_other_set before after page other is_page stay differ = grind (arith, same)
 
 pub put_other_pages : (before after : List ℕ) {s : ℕ} (page bits : ℕ) → page < 4096 → word_in_set after s (page / 64)

@@ -32,16 +32,14 @@ changed_shows held {pages} sets after {page} now few others same_sets shows =
     record {
       page_by_page = ap (λ ps. set ps page now) shows.page_by_page;
       freed_words = shows.freed_words ∙ sym pages_long;
-      quarantined = λ number within. member_at after 18 (length (set held page now)) number (omega arith)
-          ∙ stays 18 number (omega arith) (omega arith) (omega arith)
-          ∙ member_of_freed held sets shows number (omega arith);
+      quarantined = λ number within. member_at after 18 (length (set held page now)) number (omega arith) ∙ stays 18
+          number (omega arith) (omega arith) (omega arith) ∙ member_of_freed held sets shows number (omega arith);
     }
 
 -- where a page's quarantine word changes
 pub quarantine_shows : (held : List Page) {pages : List Page} (sets after : List ℕ) {freed : List ℕ} {page : ℕ}
-    (cells : ℕ) → length held ≤ 4096 → page < length held → OthersStay sets after page → is_member after 18 page
-    ≡ not (nat_eq cells 0) → Shows (known_by held sets) pages freed
-    → Shows (known_by held after) pages (set freed page cells)
+    (cells : ℕ) → length held ≤ 4096 → page < length held → OthersStay sets after page → is_member after 18 page ≡ not
+    (nat_eq cells 0) → Shows (known_by held sets) pages freed → Shows (known_by held after) pages (set freed page cells)
 quarantine_shows held {pages} sets after {freed} {page} cells few inside stay quarantined shows =
     let long : length held ≡ length pages = ap length shows.page_by_page in
     let freed_here : get_or (set freed page cells) page 0 ≡ cells =
@@ -53,8 +51,7 @@ quarantine_shows held {pages} sets after {freed} {page} cells few inside stay qu
           ∙ elim (cases_eq number page) [
             | inl same ↦ ap (is_member after 18) same ∙ quarantined
                 ∙ sym (ap (has_freed_cells (set freed page cells)) same ∙ ap (λ n. not (nat_eq n 0)) freed_here)
-            | inr differ ↦ stay 18 number (omega arith) (omega arith) differ
-                ∙ member_of_freed held sets shows number within ∙ sym
-                (ap (λ n. not (nat_eq n 0)) (get_or-set_other freed page number cells 0 differ))
+            | inr differ ↦ stay 18 number (omega arith) (omega arith) differ ∙ member_of_freed held sets shows number
+                within ∙ sym (ap (λ n. not (nat_eq n 0)) (get_or-set_other freed page number cells 0 differ))
           ];
     }

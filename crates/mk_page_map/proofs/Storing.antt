@@ -28,19 +28,17 @@ store_fits {held} vec count {page} {now} stores written counted =
     subst (λ (xs : List ℕ). FitPages (set held page now) xs count) (sym written)
     (fit_changed count stores.fit (changes_of stores) counted)
 
-pub store_shows : {known : KnownPages} {held pages : List Page} {sets slice after : List ℕ}
-    (vec : List ℕ) {freed : List ℕ}
-    {resident page : ℕ} {now : Page} (stored : Page) → Stores held sets slice after resident page now → vec ≡ after
-    → known_by held sets ≡ known → (held ≡ pages → now ≡ stored) → Shows known pages freed
+pub store_shows : {known : KnownPages} {held pages : List Page} {sets slice after : List ℕ} (vec : List ℕ)
+    {freed : List ℕ} {resident page : ℕ} {now : Page} (stored : Page) → Stores held sets slice after resident page now
+    → vec ≡ after → known_by held sets ≡ known → (held ≡ pages → now ≡ stored) → Shows known pages freed
     → Shows (known_by (set held page now) vec) (set pages page stored) freed
 store_shows {held} {pages} {sets} {after} vec {freed} {page} {now} stored stores written view same shows =
     let shows_before = subst (λ (k : KnownPages). Shows k pages freed) (sym view) shows in
     let changes = changes_of stores in
-    subst (λ (p : Page). Shows (known_by (set held page now) vec) (set pages page p) freed)
-    (same shows_before.page_by_page) (subst (λ (xs : List ℕ). Shows (known_by (set held page now) xs)
-    (set pages page now) freed) (sym written) (changed_shows held sets after now stores.fit.few changes.others
-    (λ s quarantine is_set. stores.quarantine s quarantine is_set ∙ ap (λ xs. is_member xs s page) stores.is_slice)
-    shows_before))
+    subst (λ (p : Page). Shows (known_by (set held page now) vec) (set pages page p) freed) (same
+    shows_before.page_by_page) (subst (λ (xs : List ℕ). Shows (known_by (set held page now) xs) (set pages page now)
+    freed) (sym written) (changed_shows held sets after now stores.fit.few changes.others (λ s quarantine
+    is_set. stores.quarantine s quarantine is_set ∙ ap (λ xs. is_member xs s page) stores.is_slice) shows_before))
 
 -- a page of the map, and its words as they were read
 pub page_within : (known : KnownPages) (held : List Page) (sets : List ℕ) (page : ℕ) → known_by held sets ≡ known
@@ -61,9 +59,8 @@ pub resident_byte : (page : Page) (is_resident : Bool) (byte : ℕ)
 resident_byte page is_resident byte resident is = grind (arith, byte_is)
 
 -- one page more or less
-pub counted_anew : (held : List Page) (page resident was is : ℕ) (now : Page) → page < length held
-    → was ≡ resident_one (page_at held page) → is ≡ resident_one now
-    → resident ≡ resident_pages (uses_of_pages held) → was ≤ resident + is
+pub counted_anew : (held : List Page) (page resident was is : ℕ) (now : Page) → page < length held → was ≡ resident_one
+    (page_at held page) → is ≡ resident_one now → resident ≡ resident_pages (uses_of_pages held) → was ≤ resident + is
 counted_anew held page resident was is now within old new counted = omega (arith, resident_changed held page now within)
 
 -- a used word makes no page resident
@@ -72,7 +69,6 @@ resident_by_kind : (kind : PageKind) (used other : ℕ)
 resident_by_kind _ used other = grind arith
 
 pub same_count : (held : List Page) (resident page : ℕ) (found : Page) (used : ℕ) (kind : PageKind)
-    → found ≡ page_at held page → ((n : ℕ) → use_under (header_of found.header) n ≡ use_of_kind kind n)
-    → resident + resident_one (page_at held page)
-    ≡ resident + resident_one (record { header = found.header; used = used })
+    → found ≡ page_at held page → ((n : ℕ) → use_under (header_of found.header) n ≡ use_of_kind kind n) → resident
+    + resident_one (page_at held page) ≡ resident + resident_one (record { header = found.header; used = used })
 same_count held resident page found used kind is is_kind = grind (arith, resident_one, resident_by_kind)

@@ -85,26 +85,23 @@ this_uncleaned held after vec page inside within written put = grind (arith, kno
 -- a store of a word of a page: what the set has of other pages, and of this one where it stays there
 
 pub others_kept : (known : KnownPages) (held now : List Page) (sets : List ℕ) {slice after : List ℕ}
-    (vec : List ℕ) {page : ℕ} (number : ℕ)
-    → known_by held sets ≡ known → slice ≡ sets → vec ≡ after → length now ≡ length held → length held ≤ 4096
-    → OthersStay slice after page → (number ≡ page → ⊥)
+    (vec : List ℕ) {page : ℕ} (number : ℕ) → known_by held sets ≡ known → slice ≡ sets → vec ≡ after
+    → length now ≡ length held → length held ≤ 4096 → OthersStay slice after page → (number ≡ page → ⊥)
     → is_uncleaned (known_by now vec) number ≡ is_uncleaned known number
 others_kept known held now sets {after} vec {page} number view is_slice written long few others differ =
     ap (λ xs. is_uncleaned (known_by now xs) number) written ∙ uncleaned_others held now sets after number long few
     (subst (λ (xs : List ℕ). OthersStay xs after page) is_slice others) differ ∙ ap (λ k. is_uncleaned k number) view
 
-pub all_kept : (known : KnownPages) (held now : List Page) (sets : List ℕ) {slice after : List ℕ}
-    (vec : List ℕ) {page : ℕ} (number : ℕ)
-    → known_by held sets ≡ known → slice ≡ sets → vec ≡ after → length now ≡ length held → length held ≤ 4096
-    → OthersStay slice after page → is_member after 19 page ≡ is_member slice 19 page
+pub all_kept : (known : KnownPages) (held now : List Page) (sets : List ℕ) {slice after : List ℕ} (vec : List ℕ)
+    {page : ℕ} (number : ℕ) → known_by held sets ≡ known → slice ≡ sets → vec ≡ after → length now ≡ length held
+    → length held ≤ 4096 → OthersStay slice after page → is_member after 19 page ≡ is_member slice 19 page
     → is_uncleaned (known_by now vec) number ≡ is_uncleaned known number
 all_kept known held now sets {after} vec {page} number view is_slice written long few others same =
     elim (cases_eq number page) [
       | inr differ ↦ others_kept known held now sets vec number view is_slice written long few others differ
-      | inl here ↦ ap (λ xs. is_uncleaned (known_by now xs) number) written
-          ∙ uncleaned_alike held now sets after number long (λ within. ap (is_member after 19) here ∙ same
-          ∙ ap (λ xs. is_member xs 19 page) is_slice ∙ ap (is_member sets 19) (sym here))
-          ∙ ap (λ k. is_uncleaned k number) view
+      | inl here ↦ ap (λ xs. is_uncleaned (known_by now xs) number) written ∙ uncleaned_alike held now sets after
+          number long (λ within. ap (is_member after 19) here ∙ same ∙ ap (λ xs. is_member xs 19 page) is_slice ∙ ap
+          (is_member sets 19) (sym here)) ∙ ap (λ k. is_uncleaned k number) view
     ]
 
 -- the next page of the set

@@ -1,7 +1,6 @@
 -- What one event makes of the words that are held, fresh and given back.
-use Rattle.std.proofs.{Common.{filter, sum_by}, lemmas.List.Sums.{sum_by-append, sum_by-cons}}
+use Rattle.std.proofs.{Common.filter, Common.sum_by, lemmas.List.Sums.sum_by-append, lemmas.List.Sums.sum_by-cons}
 use Rattle.mk_laws.proofs.Vocabulary.{address_of, is_large, is_left_unmarked, kinds_of, map, none_freed, pointed_cell}
-use Rattle.mk_laws.proofs.FreshWords.{fresh_part, fresh_pushed, fresh_sum, none_fresh, sum_filtered}
 use Rattle.mk_quarantine.proofs.Vocabulary.{Bool, Cell, Config, Event, List, Option, PlacedAllocation, Seat, Step}
 use Rattle.mk_quarantine.proofs.Vocabulary.{World, WorldBehind, ℕ, arith, decides_freed, false, first_world, flight_of}
 use Rattle.mk_quarantine.proofs.Vocabulary.{freed_where_it_stands, fresh_words_of, given_back, given_back_behind}
@@ -9,6 +8,7 @@ use Rattle.mk_quarantine.proofs.Vocabulary.{held_by_allocations, if◌then◌els
 use Rattle.mk_quarantine.proofs.Vocabulary.{is_some_and, left, not, refl, storage_words, true, with_released}
 use Rattle.mk_quarantine.proofs.Vocabulary.{world_behind, [], ◌&&◌, ◌*◌, ◌++◌, ◌+◌, ◌||◌, ◌∷◌, ◌≡◌, ◌≤◌}
 use Rattle.mk_core.specs.History.{left_from}
+use Rattle.mk_laws.proofs.FreshWords.{fresh_part, fresh_pushed, fresh_sum, none_fresh, sum_filtered}
 use Rattle.mk_objects.proofs.HeldFreed.{held_part, held_sum}
 use Rattle.mk_quarantine.specs.GivenBack.{given_back_from, is_given_back, words_given_back}
 
@@ -40,9 +40,8 @@ released_part : (n : ℕ) (released more mapped : Bool) → (if not (released ||
     + (if (not released && mapped) && (released || more) then n else 0) ≡ (if not released && mapped then n else 0)
 released_part n released more mapped = grind arith
 
-stays_stale : (n : ℕ) (released more mapped fresh : Bool)
-    → (if (not (released || more) && mapped) && fresh then n else 0)
-    ≤ (if (not released && mapped) && fresh then n else 0)
+stays_stale : (n : ℕ) (released more mapped fresh : Bool) → (if
+    (not (released || more) && mapped) && fresh then n else 0) ≤ (if (not released && mapped) && fresh then n else 0)
 stays_stale n released more mapped fresh = grind arith
 
 module _ (c : Config) (w : World) where

@@ -150,9 +150,8 @@ module _ {c : Config} {es : List Event} (h : IsHistory c es) (exact : CallersAre
           let others = subst (λ (xs : List Event). AreOfOthers (Caller caller.0 ∷ []) xs) f.is
           (last b.before b.event b.behind b.is b.of_kind seat caller.0 lt) in
           let other = others_at (Caller caller.0 ∷ []) f.before f.event f.behind others in
-          true≢false (sym (eq-eqb caller.0 caller.0 refl)
-          ∙ (or_parts (is_same_seat (Caller caller.0) (Caller caller.0)) false
-          (subst (λ (s : Seat). is_one_of (Caller caller.0 ∷ []) s ≡ false) caller.1 other)).0)
+          true≢false (sym (eq-eqb caller.0 caller.0 refl) ∙ (or_parts (is_same_seat (Caller caller.0) (Caller caller.0))
+          false (subst (λ (s : Seat). is_one_of (Caller caller.0 ∷ []) s ≡ false) caller.1 other)).0)
 
   stale_where_late : HostBeginsLast c es → fresh_after c es ≡ 0
   stale_where_late last = by b.event.seat refl

@@ -102,9 +102,8 @@ module _ (on : Bool) (c : Config) (es before : List Event) (e : Event) (behind :
           earlier_part_is_history,
           whole,
           lt,
-          turn_of c (view_of (left c before).now) (Caller k)
-              (known_left c before here.0.within_limits here.0.enabled).orderly
-              (free_has_turn c (left c before).now (Caller k) exists undecided),
+          turn_of c (view_of (left c before).now) (Caller k) (known_left c before here.0.within_limits
+              here.0.enabled).orderly (free_has_turn c (left c before).now (Caller k) exists undecided),
           or_from,
           own_give,
           not_given,

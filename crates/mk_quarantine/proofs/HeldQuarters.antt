@@ -162,9 +162,8 @@ held_kept c es e h (Quarter quarter) = elim
             let here = before_it c (es ++ e ∷ []) es e [] h refl in
             released e here.0 here.1 is
         | inr off ↦
-            to_longer c es e
-            (subst (λ n. IsQuarter c (world_behind c (left c es) e) n) (given_at c (left c es) e.step off)
-            (quarter_stays c (left c es) e.seat e.step 0 none quarter))
+            to_longer c es e (subst (λ n. IsQuarter c (world_behind c (left c es) e) n)
+            (given_at c (left c es) e.step off) (quarter_stays c (left c es) e.seat e.step 0 none quarter))
       ]
     ]
 held_kept c es e h (Pending p) = elim (cases_Bool (is_begin e.step)) [

@@ -209,9 +209,8 @@ since_behind : (c : Config) (es : List Event) (e : Event) → Meets c (left c es
     → SinceBegin c (es ++ e ∷ []) (world_behind c (left c es) e)
 since_behind c es e meets since = elim (cases_Bool (is_begin e.step)) [
   | inl begins ↦
-      Begun (record { before = es; event = e; behind = []; is = refl; of_kind = begins })
-      (Marks (inl (phase_moves c (left c es).now e.seat e.step meets ∙ begun_phase e.step begins)) refl)
-      (λ i h. grind (arith, changed_at))
+      Begun (record { before = es; event = e; behind = []; is = refl; of_kind = begins }) (Marks (inl (phase_moves c
+      (left c es).now e.seat e.step meets ∙ begun_phase e.step begins)) refl) (λ i h. grind (arith, changed_at))
   | inr none ↦ by none since
 ]
   where

@@ -124,10 +124,9 @@ module _ (c : Config) (w : World) (k : ℕ) (known : Known c w.now) (lt : k < c.
 
   loaded : f.stage ≡ Stage.LoadP → standing f ≡ UnderTurn → FreeCame c w (Caller k) Step.Reg k
   loaded at stands =
-      WasOpen (grind (arith, is_open_at, load_is_open, standing_at))
-      (ap (λ (g : Flight). g.op) (get_or-set_same w.now.seats.flights k _ at_rest within)
-      ∙ ap (λ (s : Stage). (progress_reg f s (found c w.now (record { seat = Caller k; step = Step.Reg }))).flight.op)
-      at ∙ (grind arith))
+      WasOpen (grind (arith, is_open_at, load_is_open, standing_at)) (ap (λ (g : Flight). g.op)
+      (get_or-set_same w.now.seats.flights k _ at_rest within) ∙ ap (λ (s : Stage). (progress_reg f s
+      (found c w.now (record { seat = Caller k; step = Step.Reg }))).flight.op) at ∙ (grind arith))
 
   own_came : (x : Step) → Meets c w.now (Caller k) x → HasOpen (WorldBehind c w (Caller k) x) k
       → FreeCame c w (Caller k) x k
@@ -204,16 +203,14 @@ FreesNoneFrom c w [] = ⊤
 FreesNoneFrom c w (e ∷ es) = (decides_freed c w.now (flight_of w.now e.seat) e.step ≡ false)
     × FreesNoneFrom c (world_behind c w e) es
 
-frees_none_more : (c : Config) (w : World) (es : List Event) (e : Event) → FreesNoneFrom c w es
-    → decides_freed c (left_from c w es).now (flight_of (left_from c w es).now e.seat) e.step ≡ false
-    → FreesNoneFrom c w (es ++ e ∷ [])
+frees_none_more : (c : Config) (w : World) (es : List Event) (e : Event) → FreesNoneFrom c w es → decides_freed c
+    (left_from c w es).now (flight_of (left_from c w es).now e.seat) e.step ≡ false → FreesNoneFrom c w (es ++ e ∷ [])
 unfolding FreesNoneFrom left_from
 frees_none_more c w [] e none last = (last, tt)
 frees_none_more c w (x ∷ es) e none last = (none.0, frees_none_more c (world_behind c w x) es e none.1 last)
 
-pub frees_none_at : (c : Config) (w : World) (xs : List Event) (e : Event) (ys : List Event)
-    → FreesNoneFrom c w (xs ++ e ∷ ys)
-    → decides_freed c (left_from c w xs).now (flight_of (left_from c w xs).now e.seat) e.step ≡ false
+pub frees_none_at : (c : Config) (w : World) (xs : List Event) (e : Event) (ys : List Event) → FreesNoneFrom c w
+    (xs ++ e ∷ ys) → decides_freed c (left_from c w xs).now (flight_of (left_from c w xs).now e.seat) e.step ≡ false
 unfolding FreesNoneFrom left_from
 frees_none_at c w [] e ys none = none.0
 frees_none_at c w (x ∷ xs) e ys none = frees_none_at c (world_behind c w x) xs e ys none.1

@@ -8,10 +8,10 @@ use Rattle.mk_quarantine.proofs.Vocabulary.{held_by_allocations, holds_of_histor
 use Rattle.mk_quarantine.proofs.Vocabulary.{is_of_cycle, lacks_append, lacks_at, lacks_first, lacks_one, left}
 use Rattle.mk_quarantine.proofs.Vocabulary.{left_in_parts, left_more, not, stands, subst, sym, taken, true, true≢false}
 use Rattle.mk_quarantine.proofs.Vocabulary.{world_behind, [], ⊎_elim, ◌&&◌, ◌*◌, ◌++◌, ◌+◌, ◌∙◌, ◌∷◌, ◌≡◌, ◌≤◌, ◌⊎◌}
+use Rattle.mk_core.specs.History.{left_from}
 use Rattle.mk_quarantine.proofs.CountedWords.{IsQuarter, filtered_in_parts, given_more, none_fresh_begun, quarter_stays}
 use Rattle.mk_quarantine.proofs.EndedFrees.{CallersAreExact, EndedFree, ended_free}
 use Rattle.mk_quarantine.proofs.OpenFrees.{FreesNoneFrom, frees_none_at}
-use Rattle.mk_core.specs.History.{left_from}
 use Rattle.mk_quarantine.specs.Bounds.{FreshIsQuarterWithGivenBack, QuarantineIsQuarterAndKept}
 use Rattle.mk_quarantine.specs.KeptAllocations.{kept_mapped, quarantined_mapped}
 
@@ -78,9 +78,8 @@ module _ {on : Bool} {c : Config} {before : List Event} {e : Event} {behind : Li
   cycles_later due =
       let first : FreesFirst f.turn = f.exact.first due in
       ⊎_elim (λ (s : InFirst f.done first.due.before first.due.event). absurd (twice first s))
-      (λ (s : InSecond f.done (e ∷ f.more) first.due.before first.due.event first.due.behind).
-      lacks_first is_of_cycle f.done s.rest
-      (ap (λ (l : List Event). has_step is_of_cycle l) (sym s.first) ∙ first.no_cycle))
+      (λ (s : InSecond f.done (e ∷ f.more) first.due.before first.due.event first.due.behind). lacks_first is_of_cycle
+      f.done s.rest (ap (λ (l : List Event). has_step is_of_cycle l) (sym s.first) ∙ first.no_cycle))
       (stands f.done (e ∷ f.more) first.due.before first.due.event first.due.behind (sym f.parts ∙ first.due.is))
     where
       twice : (first : FreesFirst f.turn) → InFirst f.done first.due.before first.due.event → ⊥
@@ -91,9 +90,8 @@ module _ {on : Bool} {c : Config} {before : List Event} {e : Event} {behind : Li
           let same : left_from c (left c start) first.due.before ≡ left c (within_turn f.turn first.due.before) =
           sym (left_in_parts c start first.due.before)
           ∙ ap (λ (l : List Event). left c l) (append_assoc f.turn.before (taken f.turn ∷ []) first.due.before) in
-          true≢false (sym first.due.due.decides
-          ∙ ap (λ (w : World). decides_freed c w.now (flight_of w.now first.due.event.seat) first.due.event.step)
-          (sym same) ∙ off)
+          true≢false (sym first.due.due.decides ∙ ap (λ (w : World). decides_freed c w.now
+          (flight_of w.now first.due.event.seat) first.due.event.step) (sym same) ∙ off)
 
 pub begin_is_of_cycle : (x : Step) → is_begin x ≡ true → is_of_cycle x ≡ true
 begin_is_of_cycle x1 is = grind arith
@@ -114,11 +112,10 @@ none_pending on {c = c} {es = es} h exact free p =
     let b = f.exact.begins.1 due in
     let none : Lacks is_begin f.more =
     lacks_first is_begin f.more f.rest (ap (λ (l : List Event). has_step is_begin l) (sym f.is) ∙ p.none) in
-    ⊎_elim (λ (s : InFirst f.done b.before b.event).
-    lacks_at is_of_cycle f.done b.before b.event s.behind later s.is (begin_is_of_cycle b.event.step b.of_kind))
-    (λ (s : InSecond f.done (p.event ∷ f.more) b.before b.event b.behind).
-    by b.event b.behind b.of_kind f.more none s.rest s.is)
-    (stands f.done (p.event ∷ f.more) b.before b.event b.behind (sym f.parts ∙ b.is))
+    ⊎_elim (λ (s : InFirst f.done b.before b.event). lacks_at is_of_cycle f.done b.before b.event s.behind later s.is
+    (begin_is_of_cycle b.event.step b.of_kind))
+    (λ (s : InSecond f.done (p.event ∷ f.more) b.before b.event b.behind). by b.event b.behind b.of_kind f.more none
+    s.rest s.is) (stands f.done (p.event ∷ f.more) b.before b.event b.behind (sym f.parts ∙ b.is))
   where
     by : (begin : Event) (behind : List Event) → is_begin begin.step ≡ true → (more : List Event) → Lacks is_begin more
         → (rest : List Event) → p.event ∷ more ≡ rest ++ begin ∷ behind → ⊥

@@ -1,14 +1,14 @@
 -- The history of a run keeps all promises, and its texts are all that is printed of it.
-use Rattle.std.proofs.{Common.{slice_get, take_all}, lemmas.Bool.Decides.nat_tests}
+use Rattle.std.proofs.{Common.slice_get, Common.take_all, lemmas.Bool.Decides.nat_tests}
 use Rattle.std.specs.List.{flat_map, range_with_len}
 use Rattle.mk_laws.proofs.Vocabulary.{Bool, Caller, Config, Decided, Event, List, Some, ℕ, ap, arith, asked, calls}
-use Rattle.mk_laws.proofs.Vocabulary.{false, length, refl, seat_exists, suc, true, [], ◌++◌, ◌+◌, ◌<◌, ◌==◌, ◌∙◌, ◌∷◌}
-use Rattle.mk_laws.proofs.{Vocabulary.◌≡◌, Promises.histories_keep_all_promises}
+use Rattle.mk_laws.proofs.Vocabulary.{length, refl, seat_exists, suc, true, [], ◌++◌, ◌+◌, ◌<◌, ◌==◌, ◌∙◌, ◌∷◌, ◌≡◌}
 use Rattle.mk_run.proofs.Vocabulary.{IsRunOf, IsScript, IsWhole, Item, Outcome, Text, answers_in, config_of}
-use Rattle.mk_run.proofs.{Vocabulary.slice_get_within, BoundedRuns.quarantine_of_run_is_bounded}
-use Rattle.mk_run.proofs.UnsweptHistories.{unswept_is_precise}
-use Rattle.mk_check.proofs.GivenAnswers.{serves}
-use Rattle.mk_check.specs.{Laws.ops_of_caller, Output.{answers_among, answers_given, ended_calls, text_behind}}
+use Rattle.mk_run.proofs.Vocabulary.{slice_get_within}
+use Rattle.mk_laws.proofs.Promises.{histories_keep_all_promises}
+use Rattle.mk_check.{proofs.GivenAnswers.serves, specs.Laws.ops_of_caller, specs.Output.answers_among}
+use Rattle.mk_check.{specs.Output.answers_given, specs.Output.ended_calls, specs.Output.text_behind}
+use Rattle.mk_run.proofs.{BoundedRuns.quarantine_of_run_is_bounded, UnsweptHistories.unswept_is_precise}
 use Rattle.mk_run.specs.Headline.{RunsPrintTheirTexts, RunsStandInOneHistory, RunsToItsEnd, cycles_go_on}
 use Rattle.mk_heap.specs.Reports as report
 
@@ -17,8 +17,7 @@ use Rattle.mk_heap.specs.Reports as report
 more_answers : (k : ℕ) (b : Bool) (x : Decided) (xs : List Decided)
     → length (ops_of_caller k (asked xs)) ≡ length (answers_among k xs)
     → (x.caller == k) ≡ b → length (ops_of_caller k (asked (x ∷ xs))) ≡ length (answers_among k (x ∷ xs))
-more_answers k true x xs same is = rw is (ap suc same)
-more_answers k false x xs same is = rw is same
+more_answers k x1 x xs same is = grind arith
 
 as_many : (k : ℕ) (xs : List Decided) → length (ops_of_caller k (asked xs)) ≡ length (answers_among k xs)
 as_many k [] = refl
@@ -29,18 +28,17 @@ as_many k (x ∷ xs) = more_answers k (x.caller == k) x xs (as_many k xs) refl
 exists : (c : Config) (k : ℕ) → k < c.callers → seat_exists c (Caller k) ≡ true
 exists c k less = grind (arith, nat_tests)
 
-all_given : (c : Config) (es : List Event) (k : ℕ) → IsWhole c es → k < c.callers
+all_given : {c : Config} {es : List Event} (k : ℕ) → IsWhole c es → k < c.callers
     → answers_given c es k ≡ answers_in c k es
-all_given c es k whole less =
+all_given {c} {es} k whole less =
     let answers = serves c es k whole.history.enabled in
     let rests = (whole.rests (Caller k) (exists c k less)).call in
     let all = rw rests at answers.decided in
     take_all (ended_calls k es) (answers_among k (calls c es)) (omega arith)
 
 -- pieces that are those of their places
-pieces : {X A : Type 0} (f : X → List A) (g : ℕ → List A) (a : ℕ) (xs : List X)
-    → ((k : ℕ) (x : X) → slice_get xs k ≡ Some x → f x ≡ g (a + k))
-    → flat_map f xs ≡ flat_map g (range_with_len a (length xs))
+pieces : {X A : Type 0} (f : X → List A) (g : ℕ → List A) (a : ℕ) (xs : List X) → ((k : ℕ) (x : X)
+    → slice_get xs k ≡ Some x → f x ≡ g (a + k)) → flat_map f xs ≡ flat_map g (range_with_len a (length xs))
 pieces f g a [] each = refl
 pieces f g a (x ∷ xs) each =
     let first : f x ≡ g a = each 0 x refl ∙ ap g (omega arith) in
@@ -49,8 +47,7 @@ pieces f g a (x ∷ xs) each =
 
 -- A script of a run has used all its answers.
 pub runs_to_its_end : (on with_cycle : Bool) (program : List Item) (markers : ℕ) (outcome : Outcome) (k : ℕ)
-    → IsRunOf on with_cycle program markers outcome
-    → IsScript program k
+    → IsRunOf on with_cycle program markers outcome → IsScript program k
     → RunsToItsEnd program k (answers_in (config_of program markers) k (report.history_of outcome.report))
 runs_to_its_end on with_cycle program markers outcome k runs is = grind (arith, as_many)
 
@@ -69,7 +66,7 @@ runs_stand_in_one_history program markers sweep last_cycle outcome tell bytes ru
       roots = begun;
       host = runs.host;
       precise = λ none. unswept_is_precise c es kept (unswept none);
-      bounded = quarantine_of_run_is_bounded (cycles_go_on markers) last_cycle program markers outcome runs;
+      bounded = quarantine_of_run_is_bounded runs;
       told = told;
     }
 

@@ -2,18 +2,18 @@
 use Rattle.mk_laws.proofs.Vocabulary.{AreEnabledFrom, Config, Event, IsHistory, List, None, Step, Word, World, ℕ, ap}
 use Rattle.mk_laws.proofs.Vocabulary.{arith, earlier_part_is_history, enabled_in_parts, false, inl, inr, is_begin}
 use Rattle.mk_laws.proofs.Vocabulary.{is_close, left, or_from, or_parts, phase_of, refl, subst, sym, true, world_behind}
-use Rattle.mk_laws.proofs.{Vocabulary.{[], ◌++◌, ◌∙◌, ◌∷◌, ◌≡◌, ◌≤◌}, CyclePhases.{AsksPhase, close_is, moves_phase}}
-use Rattle.mk_laws.proofs.CyclePhases.{phase_behind}
+use Rattle.mk_laws.proofs.Vocabulary.{[], ◌++◌, ◌∙◌, ◌∷◌, ◌≡◌, ◌≤◌}
 use Rattle.mk_run.proofs.Vocabulary.{Has, Lacks, PassState, finish_does, has_step, has_then, history_before}
 use Rattle.mk_run.proofs.Vocabulary.{in_turn_then, is_of_cycles, turn_moves, turn_stays}
+use Rattle.mk_laws.proofs.CyclePhases.{AsksPhase, close_is, moves_phase, phase_behind}
 use Rattle.mk_alloc.proofs.{CalmStretches.cycles_in_turn, ListParts.SomeKind, Parts.made_as}
 use Rattle.mk_alloc.specs.TurnCycles.{finishes}
-use Rattle.mk_cycle.{proofs.Allowed.{in_turn}, specs.TurnKeeps.{InTurn}}
+use Rattle.mk_cycle.{proofs.Allowed.in_turn, specs.TurnKeeps.InTurn}
 use Rattle.mk_heap.specs.Ending.{EndsCycle}
 use Rattle.mk_objects.proofs.JoinedLooks.{does_wider}
-use Rattle.mk_turns.{proofs.Doing.{does_then}, specs.Doing.{Does}}
+use Rattle.mk_turns.{proofs.Doing.does_then, specs.Doing.Does}
 use Rattle.mk_waiting.specs.Taking.{TakesTurn}
-use Rattle.mk_words.{proofs.TurnSteps.{takes}, specs.Steps.{Makes}}
+use Rattle.mk_words.{proofs.TurnSteps.takes, specs.Steps.Makes}
 
 -- Outside of phases 1 and 2 no cycle is closed before another is begun.
 
@@ -22,13 +22,7 @@ IsBeside n = 1 ≤ n → n ≤ 2 → ⊥
 
 beside_step : (x : Step) (n : ℕ) → AsksPhase x n → IsBeside n → is_begin x ≡ false
     → IsBeside (phase_behind x n) × (is_close x ≡ false)
-beside_step Step.Begin n asks out none = cc
-beside_step Step.Want n asks out none = absurd (out (omega arith) (omega arith))
-beside_step Step.Close n asks out none = absurd (out (omega arith) (omega arith))
-beside_step Step.Release n asks out none = (λ least most. omega arith, refl)
-beside_step Step.End n asks out none = (λ least most. omega arith, refl)
-beside_step Step.Over n asks out none = (λ least most. omega arith, refl)
-beside_step _ n asks out none = (out, refl)
+beside_step x0 n asks out none = grind arith
 
 closes_none : (c : Config) (w : World) (es : List Event) → AreEnabledFrom c w es → IsBeside (phase_of w.now.words)
     → Lacks is_begin es → Lacks is_close es
@@ -37,8 +31,7 @@ closes_none c w (e ∷ es) on out none =
     let parts = or_parts (is_begin e.step) (has_step is_begin es) none in
     let moves = moves_phase c w e es on in
     let one = beside_step e.step (phase_of w.now.words) moves.0 out parts.0 in
-    or_from _ _ one.1
-    (closes_none c (world_behind c w e) es moves.2 (subst IsBeside (sym moves.1) one.0) parts.1)
+    or_from _ _ one.1 (closes_none c (world_behind c w e) es moves.2 (subst IsBeside (sym moves.1) one.0) parts.1)
 
 -- Directly after a `close` it is so.
 pub closes_no_more : (c : Config) (es : List Event) (close : Event) (more : List Event)
@@ -48,8 +41,7 @@ closes_no_more c es close more history closes none =
     let moves = moves_phase c (left c es) close more on in
     let three : phase_of (world_behind c (left c es) close).now.words ≡ 3 =
     moves.1 ∙ ap (λ (x : Step). phase_behind x (phase_of (left c es).now.words)) (close_is close.step closes) in
-    closes_none c (world_behind c (left c es) close) more moves.2
-    (λ least most. omega arith) none
+    closes_none c (world_behind c (left c es) close) more moves.2 (λ least most. omega arith) none
 
 -- What finishes no cycle closes none.
 pub unfinished_unclosed : (es : List Event) → Lacks finishes es → Lacks is_close es
@@ -59,8 +51,7 @@ unfinished_unclosed (e ∷ es) h =
     or_from (is_close e.step) (has_step is_close es) (by e.step parts.0) (unfinished_unclosed es parts.1)
   where
     by : (x : Step) → finishes x ≡ false → is_close x ≡ false
-    by Step.Close h = cc
-    by _ h = refl
+    by x0 h = grind arith
 
 -- what is after the first event
 pub behind_first : (kind : SomeKind) (e : Event) (es : List Event) → Lacks kind (e ∷ es) → Lacks kind es
@@ -73,33 +64,31 @@ before_made p q s m history = grind (arith, earlier_part_is_history)
 
 -- The host's turn, up to where no cycle is on.
 
-pub turn_taken : (p taken : PassState) → Has p.seats p.seat → TakesTurn p None taken
+pub turn_taken : {p taken : PassState} → Has p.seats p.seat → TakesTurn p None taken
     → IsHistory taken.table.config taken.seen → InTurn taken
-turn_taken p taken own t history =
+turn_taken {p} {taken} own t history =
     let waited_own : Has t.waited.seats t.waited.seat =
     subst (λ (r : PassState). Has r.seats r.seat) (sym t.waits.is) own in
     let taken_own : Has taken.seats taken.seat =
     subst (λ (r : PassState). Has r.seats r.seat) (sym (turn_moves p taken t).is) own in
     in_turn taken taken_own
-    (takes t.waited None 0 taken (record { makes = t.takes.makes; tells = t.takes.finds }) refl)
-    history
+    (takes t.waited None 0 taken (record { makes = t.takes.makes; tells = t.takes.finds }) refl) history
 
 pub stays : (x : Step) → turn_stays x ≡ true → turn_stays x ≡ true
 stays x h = h
 
-pub finish_stays : (p q : PassState) → Does is_of_cycles p q → Does turn_stays p q
-finish_stays p q d = does_wider is_of_cycles turn_stays cycles_in_turn p q d
+pub finish_stays : {p q : PassState} → Does is_of_cycles p q → Does turn_stays p q
+finish_stays {p} {q} d = does_wider is_of_cycles turn_stays cycles_in_turn p q d
 
-pub ends_does : (taken idle : PassState) → Has taken.seats taken.seat → EndsCycle taken idle
+pub ends_does : {taken idle : PassState} → Has taken.seats taken.seat → EndsCycle taken idle
     → Does turn_stays taken idle
-ends_does taken idle own ends =
+ends_does {taken} {idle} own ends =
     let look : Does turn_stays taken ends.looked =
     made_as turn_stays taken ends.looked (Step.Look Word.Phase) own ends.looks refl in
     elim ends.phase [
       | inl none ↦ subst (λ (r : PassState). Does turn_stays taken r) (sym (ends.none none)) look
       | inr on ↦ does_then turn_stays taken ends.looked idle look
-          (finish_stays ends.looked idle
-          (finish_does ends.looked idle (has_then turn_stays taken ends.looked look own) (ends.on on)))
+          (finish_stays (finish_does ends.looked idle (has_then turn_stays taken ends.looked look own) (ends.on on)))
     ]
 
 module _ {p taken idle : PassState} (own : Has p.seats p.seat) (takes : TakesTurn p None taken)
@@ -108,7 +97,7 @@ module _ {p taken idle : PassState} (own : Has p.seats p.seat) (takes : TakesTur
   taken_own = subst (λ (r : PassState). Has r.seats r.seat) (sym (turn_moves p taken takes).is) own
 
   pub to_idle : Does turn_stays taken idle
-  to_idle = ends_does taken idle taken_own ends
+  to_idle = ends_does taken_own ends
 
   pub idle_own : Has idle.seats idle.seat
   idle_own = has_then turn_stays taken idle to_idle taken_own
@@ -118,7 +107,7 @@ module _ {p taken idle : PassState} (own : Has p.seats p.seat) (takes : TakesTur
     taken_history = history_before turn_stays taken idle to_idle history
 
     pub taken_turn : InTurn taken
-    taken_turn = turn_taken p taken own takes taken_history
+    taken_turn = turn_taken own takes taken_history
 
     pub idle_turn : InTurn idle
     idle_turn = in_turn_then turn_stays taken idle stays taken_turn to_idle history

@@ -1,26 +1,25 @@
 -- What the host does in a run: it makes no step before the scripts are joined, and then begins the last cycle alone.
-use Rattle.std.proofs.{Math.Bool.cond, lemmas.List.Sums.{sum_by-append, sum_by-cons}}
+use Rattle.std.proofs.{Math.Bool.cond, lemmas.List.Sums.sum_by-append, lemmas.List.Sums.sum_by-cons}
 use Rattle.mk_laws.proofs.Vocabulary.{AreOfOthers, Bool, Caller, Config, Event, Host, IsHistory, List, Seat, Step, ℕ}
 use Rattle.mk_laws.proofs.Vocabulary.{ap, append_assoc, arith, earlier_part_is_history, enabled_in_parts, false}
 use Rattle.mk_laws.proofs.Vocabulary.{is_begin, left, or_parts, refl, subst, sym, true, [], ◌++◌, ◌+◌, ◌∙◌, ◌∷◌, ◌≡◌}
 use Rattle.mk_run.proofs.Vocabulary.{CallersAreStill, Grows, Has, HasCallers, HostComesLast, HostState, Lacks}
-use Rattle.mk_run.proofs.Vocabulary.{PassState, SaysOver, append_cancel_left, finish_does, finish_in, has_step}
-use Rattle.mk_run.proofs.Vocabulary.{has_then, history_before, in_turn_then, is_of_cycles, others_append, others_none}
-use Rattle.mk_run.proofs.{Vocabulary.{others_own, seen_then, turn_moves, turn_stays}, LastOvers.{Unbegun, idle_unbegun}}
-use Rattle.mk_run.proofs.LastOvers.{over_unbegun, unbegun_made, unheld_unbegun}
-use Rattle.mk_alloc.proofs.{CycleParts.{BeginIn, begin_does, begin_in}, CalmStretches.cycles_in_turn}
-use Rattle.mk_heap.{proofs.HomeCallers.{others_hold_none}, specs.{Ending.MakesCycle, Hosts.with_seen}}
-use Rattle.mk_run.specs.{HostTurns.cycles_begun, LastTurns.BeginsAsAsked}
+use Rattle.mk_run.proofs.Vocabulary.{PassState, SaysOver, append_cancel_left, has_step, others_append, others_none}
+use Rattle.mk_run.proofs.Vocabulary.{others_own, seen_then}
+use Rattle.mk_alloc.proofs.CycleParts.{BeginIn}
+use Rattle.mk_heap.{proofs.HomeCallers.others_hold_none, specs.Ending.MakesCycle, specs.Hosts.with_seen}
+use Rattle.mk_run.proofs.LastOvers.{Unbegun, idle_unbegun, over_unbegun, unbegun_made, unheld_unbegun}
 use Rattle.mk_run.proofs.LastCycles.{begins as begins_in, ends, h_idle, t_ended}
+use Rattle.mk_run.specs.{HostTurns.cycles_begun, LastTurns.BeginsAsAsked}
 
 -- Before the scripts are joined the host makes no step.
 
 pub unseen_by_host : (es : List Event) → es ≡ [] → AreOfOthers (Host ∷ []) es
 unseen_by_host es is = subst (λ (l : List Event). AreOfOthers (Host ∷ []) l) (sym is) (others_none (Host ∷ []))
 
-pub host_is_still : (seats : List Seat) (es fs : List Event) → Has seats Host → Grows seats es fs
+pub host_is_still : {seats : List Seat} {es fs : List Event} → Has seats Host → Grows seats es fs
     → AreOfOthers (Host ∷ []) es → AreOfOthers (Host ∷ []) fs
-host_is_still seats es fs own g before = grind (arith, others_append, others_own)
+host_is_still own g before = grind (arith, others_append, others_own)
 
 -- the cycles that are begun in a list
 
@@ -31,12 +30,10 @@ begun_append : (xs ys : List Event) → cycles_begun (xs ++ ys) ≡ cycles_begun
 begun_append xs ys = sum_by-append begins xs ys
 
 by_none : (b : Bool) (n : ℕ) → b ≡ false → n ≡ 0 → cond b 1 0 + n ≡ 0
-by_none true n is none = cc
-by_none false n is none = omega arith
+by_none x0 n is none = grind arith
 
 by_one : (b : Bool) (n : ℕ) → b ≡ true → n ≡ 0 → cond b 1 0 + n ≡ 1
-by_one true n is none = omega arith
-by_one false n is none = cc
+by_one x0 n is none = grind arith
 
 none_begun : (es : List Event) → Lacks is_begin es → cycles_begun es ≡ 0
 none_begun [] h = refl
@@ -44,17 +41,14 @@ none_begun (e ∷ es) h =
     let parts = or_parts (is_begin e.step) (has_step is_begin es) h in
     sum_by-cons begins e es ∙ by_none (is_begin e.step) (cycles_begun es) parts.0 (none_begun es parts.1)
 
-one_begun : (e : Event) (es : List Event) → is_begin e.step ≡ true → Lacks is_begin es → cycles_begun (e ∷ es) ≡ 1
-one_begun e es is none = sum_by-cons begins e es ∙ by_one (is_begin e.step) (cycles_begun es) is (none_begun es none)
-
 -- From what the one pass had seen to what the other has seen this many cycles are begun.
 record Begins (n : ℕ) (p q : PassState) : Type 0 where
   pub more : List Event
   pub is : q.seen ≡ p.seen ++ more
   pub count : cycles_begun more ≡ n
 
-begins_then : (m n : ℕ) (p q r : PassState) → Begins m p q → Begins n q r → Begins (m + n) p r
-begins_then m n p q r one two =
+begins_then : {m : ℕ} (n : ℕ) {p q : PassState} (r : PassState) → Begins m p q → Begins n q r → Begins (m + n) p r
+begins_then n {p = p} {q = q} r one two =
     let a = one.count in
     let b = two.count in
     record {
@@ -66,10 +60,11 @@ begins_then m n p q r one two =
 begins_none : (p q : PassState) → Unbegun p q → Begins 0 p q
 begins_none p q u = record { more = u.more; is = u.is; count = none_begun u.more u.none }
 
-begins_one : (p q : PassState) → BeginIn p q → Begins 1 p q
-begins_one p q b =
+begins_one : {p q : PassState} → BeginIn p q → Begins 1 p q
+begins_one b =
     let before = none_begun b.before b.none_before in
-    let one = one_begun b.begin b.behind b.begins b.none_behind in
+    let one = sum_by-cons begins b.begin b.behind ∙ by_one (is_begin b.begin.step) (cycles_begun b.behind) b.begins
+    (none_begun b.behind b.none_behind) in
     record {
       more = b.before ++ b.begin ∷ b.behind;
       is = b.is;
@@ -77,24 +72,22 @@ begins_one p q b =
     }
 
 -- The host makes one cycle.
-cycle_begins : (p q : PassState) → Has p.seats p.seat → Has p.seats Host → HasCallers p.table.config p.seats
+cycle_begins : {p q : PassState} → Has p.seats p.seat → Has p.seats Host → HasCallers p.table.config p.seats
     → MakesCycle p q → IsHistory q.table.config q.seen → Begins 1 p q
-cycle_begins p q own host callers m history =
-    let finish = ends p q m own history in
-    begins_then 0 1 p m.idle q
-    (begins_none p m.idle (idle_unbegun own host callers m.takes m.ends (h_idle p q m own history)))
-    (begins_then 1 0 m.idle m.begun q (begins_one m.idle m.begun (begins_in p q m own history))
-    (begins_then 0 0 m.begun m.ended q
+cycle_begins {p} {q} own host callers m history =
+    let finish = ends m own history in
+    begins_then 1 q (begins_none p m.idle (idle_unbegun own host callers m.takes m.ends (h_idle m own history)))
+    (begins_then 0 q (begins_one (begins_in m own history)) (begins_then 0 q
     (begins_none m.begun m.ended (record { more = finish.more; is = finish.is; none = finish.begins_none }))
-    (begins_none m.ended q (unbegun_made m.ended q Step.Give (t_ended p q m own history) refl m.gives history))))
+    (begins_none m.ended q (unbegun_made q Step.Give (t_ended m own history) refl m.gives history))))
 
 -- The host's last turns, without a cycle of its own and with one.
 
-pub over_begins : (p q : PassState) → p.seat ≡ Host → Has p.seats Host → HasCallers p.table.config p.seats
+pub over_begins : {p q : PassState} → p.seat ≡ Host → Has p.seats Host → HasCallers p.table.config p.seats
     → SaysOver p q → IsHistory q.table.config q.seen → BeginsAsAsked false p.seen q.seen
-over_begins p q seat host callers over history =
+over_begins {p} {q} seat host callers over history =
     let own : Has p.seats p.seat = subst (λ (s : Seat). Has p.seats s) (sym seat) host in
-    let u = over_unbegun p q own host callers over history in
+    let u = over_unbegun own host callers over history in
     record { more = u.more; is = u.is; cycles = none_begun u.more u.none }
 
 pub both_begin : (h g i : HostState) → h.pass.seat ≡ Host → Has h.pass.seats Host
@@ -107,20 +100,20 @@ both_begin h g i seat host callers is is' cycle over history =
     let g_host : Has g.pass.seats Host = subst (λ (x : HostState). Has x.pass.seats Host) (sym is) host in
     let g_callers : HasCallers g.pass.table.config g.pass.seats =
     subst (λ (x : HostState). HasCallers x.pass.table.config x.pass.seats) (sym is) callers in
-    let after = over_begins g.pass i.pass g_seat g_host g_callers over history in
+    let after = over_begins g_seat g_host g_callers over history in
     let same : i.pass.table.config ≡ g.pass.table.config = ap (λ (x : HostState). x.pass.table.config) is' in
     let whole : IsHistory g.pass.table.config (g.pass.seen ++ after.more) = grind arith in
     let g_history = earlier_part_is_history g.pass.table.config g.pass.seen after.more whole in
-    let both = begins_then 1 0 h.pass g.pass i.pass (cycle_begins h.pass g.pass own host callers cycle g_history)
+    let both = begins_then 0 i.pass (cycle_begins own host callers cycle g_history)
     (record { more = after.more; is = after.is; count = after.cycles }) in
     record { more = both.more; is = both.is; cycles = both.count }
 
 -- So the host comes last,
 
-pub comes_last : (c : Config) (with_cycle : Bool) (p : PassState) (fs : List Event) → HasCallers c p.seats
+pub comes_last : (c : Config) {with_cycle : Bool} (p : PassState) {fs : List Event} → HasCallers c p.seats
     → AreOfOthers (Host ∷ []) p.seen → CallersAreStill p fs → BeginsAsAsked with_cycle p.seen fs
     → HostComesLast c.callers with_cycle fs
-comes_last c with_cycle p fs callers before still begins = record {
+comes_last c p callers before still begins = record {
   scripts = p.seen;
   last = begins.more;
   is = begins.is;
@@ -132,10 +125,10 @@ comes_last c with_cycle p fs callers before still begins = record {
 }
 
 -- and still does as a marker is joined.
-pub still_last : (c : Config) (with_cycle : Bool) (p : PassState) (fs : List Event) → Has p.seats Host
+pub still_last : (c : Config) {with_cycle : Bool} (p : PassState) {fs : List Event} → Has p.seats Host
     → HasCallers c p.seats → Grows p.seats p.seen fs → IsHistory c fs → HostComesLast c.callers with_cycle p.seen
     → HostComesLast c.callers with_cycle fs
-still_last c with_cycle p fs host callers g history l =
+still_last c p host callers g history l =
     let long : IsHistory c (p.seen ++ g.more) = subst (λ (es : List Event). IsHistory c es) g.is history in
     let on = ((enabled_in_parts c p.seen g.more).0 long.enabled).1 in
     let none = none_begun g.more
@@ -146,8 +139,7 @@ still_last c with_cycle p fs host callers g history l =
       last = l.last ++ g.more;
       is = g.is ∙ ap (λ (es : List Event). es ++ g.more) l.is ∙ append_assoc l.scripts l.last g.more;
       without_host = l.without_host;
-      without_callers = λ k lt.
-          others_append (Caller k ∷ []) l.last g.more (l.without_callers k lt)
+      without_callers = λ k lt. others_append (Caller k ∷ []) l.last g.more (l.without_callers k lt)
           (others_own p.seats (Caller k) g.more (callers k lt) g.of_others);
       cycles = begun_append l.last g.more ∙ omega arith;
     }

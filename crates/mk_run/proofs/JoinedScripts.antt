@@ -1,17 +1,17 @@
 -- The host makes the scripts' callers, and joins them.
-use Rattle.std.proofs.Common.{Err, IsOk, Ok, OnOk, Result, slice_get}
+use Rattle.std.proofs.Common.{IsOk, OnOk, Result, slice_get}
 use Rattle.mk_laws.proofs.Vocabulary.{Bool, Caller, Config, Event, List, Seat, Some, ℕ, ap, arith, length, subst, suc}
 use Rattle.mk_laws.proofs.Vocabulary.{sym, zero, [], ◌++◌, ◌+◌, ◌<◌, ◌∷◌, ◌≡◌, ◌≤◌, ◌⊎◌}
 use Rattle.mk_run.proofs.Vocabulary.{AreTextsFrom, CallerState, EndsScript, FollowsScript, Grows, Has, HasJoined}
 use Rattle.mk_run.proofs.Vocabulary.{HasMade, HostState, IfOk, IsFirstPass, IsScript, IsTextOf, Item, PassState, Text}
 use Rattle.mk_run.proofs.Vocabulary.{WordsState, answers_in, at_home, has_first, has_left, script_names}
 use Rattle.mk_run.proofs.Vocabulary.{slice_get_within, with_joined, ⊎_elim}
-use Rattle.mk_run.proofs.LaterLists.{of_one, still_ends, still_follows, still_text}
 use Rattle.mk_never.specs.declared.never_heap.NoMemory.{NoMemory}
 use Rattle.mk_core.specs.History.{calls_from}
 use Rattle.mk_caller.specs.States.{IsIdleCaller}
 use Rattle.mk_check.proofs.AdmittedScripts.{first_are_noted}
 use Rattle.mk_heap.specs.Hosts.{pass_for, with_caller_made}
+use Rattle.mk_run.proofs.LaterLists.{of_one, still_ends, still_follows, still_text}
 use Rattle.mk_words.proofs.Seats.{has_right, without_keeps}
 
 -- Before the first call.
@@ -35,58 +35,47 @@ follows_at_first on program k c es is =
 
 -- The host makes the next caller.
 
-pub next_made : (w : WordsState) (k : ℕ) (h : HostState) → HasMade w k h → HasMade w (k + 1) (with_caller_made h)
-next_made w k h made = grind (arith, without_keeps)
+pub next_made : {w : WordsState} {k : ℕ} {h : HostState} → HasMade w k h → HasMade w (k + 1) (with_caller_made h)
+next_made made = grind (arith, without_keeps)
 
-pub first_pass : (w : WordsState) (k : ℕ) (h : HostState) (s : CallerState) (p : PassState) → HasMade w k h
+pub first_pass : {w : WordsState} {k : ℕ} {h : HostState} (s : CallerState) (p : PassState) → HasMade w k h
     → s ≡ at_home (pass_for h (Caller h.callers)) → p ≡ s.pass → IsIdleCaller s.pass → IsFirstPass w k p
-first_pass w k h s p made is same idle = grind arith
+first_pass s p made is same idle = grind arith
 
 -- One more is joined.
 
 pub same_or_later : (k j : ℕ) → k ≤ j → (j ≡ k) ⊎ (k + 1 ≤ j)
 same_or_later k j le = grind arith
 
-module _ (on : Bool) (program : List Item) (w : WordsState) (k : ℕ) (h : HostState) (p : PassState) (fs : List Event)
+module _ {on : Bool} {program : List Item} {w : WordsState} (k : ℕ) {h : HostState} (p : PassState) {fs : List Event}
     (joined : HasJoined on program w (k + 1) h) (own : Grows h.pass.seats h.pass.seen fs)
-    (alone : p.seats ≡ Caller k ∷ [])
-    (came : Grows p.seats p.seen fs) where
+    (alone : p.seats ≡ Caller k ∷ []) (came : Grows p.seats p.seen fs) where
   mine : Grows (Caller k ∷ []) p.seen fs
   mine = subst (λ (seats : List Seat). Grows seats p.seen fs) alone came
 
   theirs : (j : ℕ) → k + 1 ≤ j → IsScript program j → Grows (Caller j ∷ []) h.pass.seen fs
-  theirs j le is = of_one h.pass.seats (Caller j) h.pass.seen fs (joined.seats j le is) own
+  theirs j le is = of_one (Caller j) (joined.seats j le is) own
 
   pub one_joined : FollowsScript on program k w.config p.seen → HasJoined on program w k (with_joined h p fs)
   one_joined follows = record {
     table = joined.table;
     seat = joined.seat;
     count = joined.count;
-    seats = λ j le is.
-        ⊎_elim
-        (λ (e : j ≡ k). has_right h.pass.seats p.seats (Caller j)
-        (rw alone (subst (λ (i : ℕ). Has (Caller i ∷ []) (Caller j)) e (has_first (Caller j) []))))
-        (λ (later : k + 1 ≤ j). has_left h.pass.seats p.seats (Caller j) (joined.seats j later is))
-        (same_or_later k j le);
-    follow = λ j le is.
-        ⊎_elim
-        (λ (e : j ≡ k). rw e (still_follows program k w.config p.seen fs mine on follows))
-        (λ (later : k + 1 ≤ j). still_follows program j w.config h.pass.seen fs (theirs j later is) on
-        (joined.follow j later is))
-        (same_or_later k j le);
+    seats = λ j le is. ⊎_elim (λ (e : j ≡ k). has_right h.pass.seats p.seats (Caller j)
+        (rw alone (subst (λ (i : ℕ). Has (Caller i ∷ []) (Caller j)) e (has_first (Caller j) [])))) (λ (later : k + 1 ≤
+        j). has_left h.pass.seats p.seats (Caller j) (joined.seats j later is)) (same_or_later k j le);
+    follow = λ j le is. ⊎_elim (λ (e : j ≡ k). rw e (still_follows program w.config mine follows)) (λ (later : k + 1 ≤
+        j). still_follows program w.config (theirs j later is) (joined.follow j later is)) (same_or_later k j le);
   }
 
-  one_text_more : (text : Text) (texts all : List Text) → all ≡ text ∷ texts → EndsScript program k w.config p.seen
+  one_text_more : {text : Text} {texts : List Text} (all : List Text) → all ≡ text ∷ texts
+      → EndsScript program k w.config p.seen
       → IsTextOf program k w.config p.seen text → AreTextsFrom program (k + 1) w.config h.pass.seen texts
       → k < length (script_names program) → AreTextsFrom program k w.config fs all
-  one_text_more text texts all is ends first others few = record {
+  one_text_more {text} {texts} all is ends first others few = record {
     count = (let n = others.count in let m = ap (λ (l : List Text). length l) is in omega arith);
-    ends = λ j le is'.
-        ⊎_elim
-        (λ (e : j ≡ k). rw e (still_ends program k w.config p.seen fs mine ends))
-        (λ (later : k + 1 ≤ j). still_ends program j w.config h.pass.seen fs (theirs j later is')
-        (others.ends j later is'))
-        (same_or_later k j le);
+    ends = λ j le is'. ⊎_elim (λ (e : j ≡ k). rw e (still_ends program w.config mine ends)) (λ (later : k + 1 ≤
+        j). still_ends program w.config (theirs j later is') (others.ends j later is')) (same_or_later k j le);
     each = λ i text' at. here i text' (subst (λ (l : List Text). slice_get l i ≡ Some text') is at);
   }
     where
@@ -95,14 +84,14 @@ module _ (on : Bool) (program : List Item) (w : WordsState) (k : ℕ) (h : HostS
       here zero text' at =
           let same : text ≡ text' = cc in
           subst (λ (j : ℕ). IsTextOf program j w.config fs text') (omega arith)
-          (rw same at (still_text program k w.config p.seen fs mine text first))
+          (rw same at (still_text program w.config mine first))
       here (suc i) text' at =
           let within = slice_get_within texts i text' at in
           let n = others.count in
           let is_script : IsScript program (k + 1 + i) = omega arith in
           let le : k + 1 ≤ k + 1 + i = omega arith in
-          subst (λ (j : ℕ). IsTextOf program j w.config fs text') (omega arith) (still_text program (k + 1 + i) _ _ fs
-          (theirs (k + 1 + i) le is_script) text' (others.each i text' at))
+          subst (λ (j : ℕ). IsTextOf program j w.config fs text') (omega arith) (still_text program _
+          (theirs (k + 1 + i) le is_script) (others.each i text' at))
 
   pub texts_joined : {V : Type 0} (items : V → List Text)
       (first : Result Text NoMemory) (others all : Result V NoMemory)
@@ -112,8 +101,4 @@ module _ (on : Bool) (program : List Item) (w : WordsState) (k : ℕ) (h : HostS
       → IfOk others (λ texts. AreTextsFrom program (k + 1) w.config h.pass.seen (items texts))
       → k < length (script_names program)
       → IfOk all (λ a. AreTextsFrom program k w.config fs (items a))
-  texts_joined items first others (Err e) a b c d f g few = tt
-  texts_joined items (Err x) others (Ok all) a b c d f g few = cc
-  texts_joined items (Ok text) (Err x) (Ok all) a b c d f g few = cc
-  texts_joined items (Ok text) (Ok texts) (Ok all) a b c d f g few =
-      one_text_more text (items texts) (items all) c d f g few
+  texts_joined items first others x3 a b c d f g few = grind (arith, one_text_more)

@@ -14,27 +14,25 @@ use Rattle.mk_turns.specs.Sweeping.{SweepsNothingFrom}
 use Rattle.mk_run.proofs.UnsweptScripts.{first_sweeps, others_on as others_sweep_on, seat_on as seat_sweeps_on}
 
 beside_begins_none : HaveNoBegin is_beside_turns
-beside_begins_none Step.Begin h = cc
-beside_begins_none _ h = refl
+beside_begins_none x0 h = grind arith
 
 marker_begins_none : (j : ℕ) (x : Step) → is_open_to (Marker j) (group_of x) ≡ true → is_begin x ≡ false
-marker_begins_none j Step.Begin h = cc
-marker_begins_none j _ h = refl
+marker_begins_none j x1 h = grind arith
 
 nowhere : (before : List Event) (e : Event) (behind : List Event) → [] ≡ before ++ e ∷ behind → ⊥
 nowhere [] e behind is = cc
 nowhere (x ∷ xs) e behind is = cc
 
 -- An event of an enabled list is of a seat that exists, and of a kind that is open to it.
-open_to_its_seat : (c : Config) (es : List Event) (b : At is_begin es) → IsHistory c es
+open_to_its_seat : {c : Config} {es : List Event} (b : At is_begin es) → IsHistory c es
     → (seat_exists c b.event.seat ≡ true) × (is_open_to b.event.seat (group_of b.event.step) ≡ true)
 unfolding AreEnabledFrom
-open_to_its_seat c es b history = grind (arith, enabled_in_parts, enabled_meets)
+open_to_its_seat b history = grind (arith, enabled_in_parts, enabled_meets)
 
 -- a call beside the turn
-pub beside_begun : (begins : Config → Seat → List Event → List Event → Type 0) (p q : PassState) → StaysBeside p q
+pub beside_begun : (begins : Config → Seat → List Event → List Event → Type 0) {p q : PassState} → StaysBeside p q
     → EachIsBegun begins p q
-beside_begun begins p q h = record {
+beside_begun begins {p = p} h = record {
   more = h.more;
   is = h.is;
   each = λ b own. absurd (kinds_begin_none is_beside_turns p.table.config p.seat (left p.table.config p.seen)
@@ -69,39 +67,35 @@ module _ {sweeps : Bool} {begins : Config → Seat → List Event → List Event
   }
 
   -- the run of one script, from its first pass
-  pub script_keeps : (w : WordsState) (k : ℕ) (first : PassState) (s : CallerState) (q r : PassState)
+  pub script_keeps : {w : WordsState} {k : ℕ} {first : PassState} (s : CallerState) (q r : PassState)
       → IsFirstPass w k first → s ≡ at_home first → PassKeeps sweeps begins s.pass q → r ≡ q
       → SeatKeeps sweeps begins w.config (Caller k) r.seen
-  script_keeps w k first s q r at is more same = grind (arith, first_keeps, seat_on)
+  script_keeps s q r at is more same = grind (arith, first_keeps, seat_on)
 
   -- The host goes on.
-  pub host_on : (w : WordsState) (p q : PassState) → p.table ≡ w → p.seat ≡ Host → PassKeeps sweeps begins p q
+  pub host_on : (w : WordsState) {p q : PassState} → p.table ≡ w → p.seat ≡ Host → PassKeeps sweeps begins p q
       → SeatKeeps sweeps begins w.config Host p.seen → SeatKeeps sweeps begins w.config Host q.seen
-  host_on w p q table seat more before = grind (arith, seat_on)
+  host_on w table seat more before = grind (arith, seat_on)
 
   -- The callers are still.
-  pub scripts_on : (program : List Item) (k : ℕ) (c : Config) (es fs : List Event)
+  pub scripts_on : {program : List Item} {k : ℕ} {c : Config} {es : List Event} (fs : List Event)
       → (SeatKeeps sweeps begins c Host es → SeatKeeps sweeps begins c Host fs)
       → ((j : ℕ) → k ≤ j → IsScript program j → Grows (Caller j ∷ []) es fs)
       → ScriptsKeep sweeps begins program k c es → ScriptsKeep sweeps begins program k c fs
-  scripts_on program k c es fs host still before = record {
-    callers = λ j le is.
-        others_on c (Caller j) (Caller j ∷ []) es fs (has_first (Caller j) []) (still j le is)
+  scripts_on {c} {es} fs host still before = record {
+    callers = λ j le is. others_on c (Caller j) (Caller j ∷ []) es fs (has_first (Caller j) []) (still j le is)
         (before.callers j le is);
     host = host before.host;
   }
 
   -- One more is joined.
-  pub script_joined : (program : List Item) (k : ℕ) (c : Config) (seats : List Seat) (es fs : List Event)
+  pub script_joined : {program : List Item} {k : ℕ} {c : Config} {seats : List Seat} {es fs : List Event}
       → seats ≡ Caller k ∷ [] → Grows seats es fs → SeatKeeps sweeps begins c (Caller k) es
       → ScriptsKeep sweeps begins program (k + 1) c fs → ScriptsKeep sweeps begins program k c fs
-  script_joined program k c seats es fs alone came mine others = record {
-    callers = λ j le is.
-        ⊎_elim
-        (λ (same : j ≡ k). rw same (others_on c (Caller k) (Caller k ∷ []) es fs (has_first (Caller k) [])
-        (subst (λ (l : List Seat). Grows l es fs) alone came) mine))
-        (λ (later : k + 1 ≤ j). others.callers j later is)
-        (same_or_later k j le);
+  script_joined {k} {c} {es} {fs} alone came mine others = record {
+    callers = λ j le is. ⊎_elim (λ (same : j ≡ k). rw same (others_on c (Caller k) (Caller k ∷ []) es fs
+        (has_first (Caller k) []) (subst (λ (l : List Seat). Grows l es fs) alone came) mine))
+        (λ (later : k + 1 ≤ j). others.callers j later is) (same_or_later k j le);
     host = others.host;
   }
 
@@ -125,7 +119,7 @@ module _ {sweeps : Bool} {begins : Config → Seat → List Event → List Event
     scripts = rw is (subst (λ (x : Config). ScriptsKeep sweeps begins program 0 x seen) made keep)
 
     pub run_is_begun : CyclesAreBegun begins c es
-    run_is_begun b = let at = open_to_its_seat c es b history in by b.event.seat at.0 at.1 refl
+    run_is_begun b = let at = open_to_its_seat b history in by b.event.seat at.0 at.1 refl
       where
         by : (s : Seat) → seat_exists c s ≡ true → is_open_to s (group_of b.event.step) ≡ true → b.event.seat ≡ s
             → IsBegunFirst begins c s (through b) b.behind
@@ -135,10 +129,7 @@ module _ {sweeps : Bool} {begins : Config → Seat → List Event → List Event
         by Host exists may is = scripts.host.begun b is
 
     each_seat : sweeps ≡ false → (s : Seat) → seat_exists c s ≡ true → SweepsNothingFrom c s (first_world c) es
-    each_seat off (Caller j) exists =
-        (scripts.callers j (omega arith) (ltb-true j (length (script_names program)) exists)).unswept off
-    each_seat off (Marker j) exists = markers_sweep c j (first_world c) es history.enabled
-    each_seat off Host exists = scripts.host.unswept off
+    each_seat off x1 exists = grind (arith, scripts, ltb-true, markers_sweep, history)
 
     pub run_is_unswept : sweeps ≡ false → IsUnswept c es
     run_is_unswept off = none_sweeps c (first_world c) es history.enabled (each_seat off)

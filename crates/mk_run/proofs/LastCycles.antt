@@ -1,8 +1,8 @@
 -- The host's last cycle, by the events of the whole list: where its turn and its cycle stand, and that no other `close`
 -- stands after.
 use Rattle.mk_laws.proofs.Vocabulary.{AreOfOthers, Caller, Config, Cycle, Event, Host, IsHistory, List, None, Seat}
-use Rattle.mk_laws.proofs.Vocabulary.{Step, TurnOf, World, ℕ, ap, append-nil, append_assoc, before_close, is_begin}
-use Rattle.mk_laws.proofs.Vocabulary.{is_close, left, refl, subst, sym, [], ◌++◌, ◌<◌, ◌∙◌, ◌∷◌, ◌≡◌}
+use Rattle.mk_laws.proofs.Vocabulary.{Step, TurnOf, World, ℕ, ap, append-nil, append_assoc, arith, is_begin, is_close}
+use Rattle.mk_laws.proofs.Vocabulary.{left, refl, subst, sym, [], ◌++◌, ◌<◌, ◌∙◌, ◌∷◌, ◌≡◌}
 use Rattle.mk_run.proofs.Vocabulary.{Has, HasCallers, Lacks, PassState, append_cancel_left, finish_does, finish_in}
 use Rattle.mk_run.proofs.Vocabulary.{has_then, history_before, in_turn_then, others_append, others_none, turn_moves}
 use Rattle.mk_run.proofs.{Vocabulary.turn_stays, HostTurnParts.{before_made, behind_first, closes_no_more}}
@@ -10,15 +10,15 @@ use Rattle.mk_run.proofs.HostTurnParts.{finish_stays, idle_own, idle_turn, stays
 use Rattle.mk_core.specs.Growing.{is_same_seat}
 use Rattle.mk_alloc.proofs.CycleParts.{BeginIn, FinishIn, begin_does, begin_in, begins_held}
 use Rattle.mk_alloc.proofs.ListParts.{IsAt, lacks_append, lacks_first, lacks_second, only_at}
-use Rattle.mk_alloc.proofs.OwnGives.{GivesNone, doing_gives, gives_append, others_give}
-use Rattle.mk_alloc.{proofs.Parts.{others_lack, seen_behind}, specs.TurnCycles.{finishes, within_turn}}
-use Rattle.mk_cycle.specs.{TurnKeeps.InTurn, Telling.IsToldAtClose}
+use Rattle.mk_alloc.{proofs.OwnGives.{GivesNone, doing_gives, gives_append, others_give}, specs.TurnCycles.{finishes}}
+use Rattle.mk_alloc.proofs.Parts.{others_lack, seen_behind}
+use Rattle.mk_cycle.specs.{Telling.IsToldAtClose, TurnKeeps.InTurn}
 use Rattle.mk_heap.{proofs.MovedHosts.{MovesOn, moves_does, moves_more}, specs.Ending.{MakesCycle}}
 use Rattle.mk_run.specs.LastCycle.{MakesLastCycle, give_of}
 use Rattle.mk_turns.{proofs.Doing.{does_then}, specs.Doing.{Does}}
 use Rattle.mk_words.{proofs.TurnSteps.{takes}, specs.States.{event_of}}
 
-module _ (p q : PassState) (m : MakesCycle p q) (own : Has p.seats p.seat) (history : IsHistory q.table.config q.seen)
+module _ {p q : PassState} (m : MakesCycle p q) (own : Has p.seats p.seat) (history : IsHistory q.table.config q.seen)
   where
     abbrev taken : PassState
     taken = m.taken
@@ -42,13 +42,13 @@ module _ (p q : PassState) (m : MakesCycle p q) (own : Has p.seats p.seat) (hist
     own_idle = idle_own own m.takes m.ends
 
     d_begun : Does turn_stays idle begun
-    d_begun = finish_stays idle begun (begin_does idle begun own_idle m.begins)
+    d_begun = finish_stays (begin_does idle begun own_idle m.begins)
 
     own_begun : Has begun.seats begun.seat
     own_begun = has_then turn_stays idle begun d_begun own_idle
 
     d_ended : Does turn_stays begun ended
-    d_ended = finish_stays begun ended (finish_does begun ended own_begun m.finishes)
+    d_ended = finish_stays (finish_does begun ended own_begun m.finishes)
 
     own_ended : Has ended.seats ended.seat
     own_ended = has_then turn_stays begun ended d_ended own_begun
@@ -115,11 +115,8 @@ module _ (p q : PassState) (m : MakesCycle p q) (own : Has p.seats p.seat) (hist
     abbrev take_event : Event
     take_event = record { seat = p.seat; step = Step.Take None }
 
-    waited_seat : m.takes.waited.seat ≡ p.seat
-    waited_seat = ap (λ (r : PassState). r.seat) m.takes.waits.is
-
     taken_is : taken.seen ≡ before_take ++ take_event ∷ []
-    taken_is = cc (m.takes.takes.makes.is, waited_seat)
+    taken_is = cc (m.takes.takes.makes.is, ap (λ (r : PassState). r.seat) m.takes.waits.is)
 
     goes_on : GivesNone p.seat inside
     goes_on =
@@ -210,14 +207,12 @@ module _ (p q : PassState) (m : MakesCycle p q) (own : Has p.seats p.seat) (hist
         (lacks_second is_begin ends.ends.to_close (ends.ends.close ∷ finished)
         (subst (λ (l : List Event). Lacks is_begin l) ends.ends.is ends.begins_none))
 
-    given_begins_none : Lacks is_begin given
-    given_begins_none = others_lack is_begin ended q Step.Give begins_held t_ended m.gives history
-
     behind_is : finished ++ given ≡ behind_close
     behind_is = simp append_assoc
 
     behind_begins_none : Lacks is_begin behind_close
-    behind_begins_none = rw behind_is at (lacks_append is_begin finished given finished_begins_none given_begins_none)
+    behind_begins_none = rw behind_is at (lacks_append is_begin finished given finished_begins_none
+        (others_lack is_begin ended q Step.Give begins_held t_ended m.gives history))
 
     ended_config : begun.table.config ≡ p.table.config
     ended_config =
@@ -256,7 +251,7 @@ module _ (p q : PassState) (m : MakesCycle p q) (own : Has p.seats p.seat) (hist
         (sym (ap (λ (r : PassState). r.seen) ended_moves.is) ∙ q_is
         ∙ ap (λ (l : List Event). (l ++ given) ++ give_of p.seat ∷ []) ended_is ∙ simp append_assoc)
 
-    module _ (tells : Config → World → Type 0) (told : IsToldAtClose tells begun ended) where
+    module _ {tells : Config → World → Type 0} (told : IsToldAtClose tells begun ended) where
       -- The world before the `close` is that of which the engine says.
 
       told_there : IsAt ends.ends.to_close finished told.before told.behind
@@ -281,17 +276,7 @@ module _ (p q : PassState) (m : MakesCycle p q) (own : Has p.seats p.seat) (hist
       close_is_there : begun.seen ++ told.before
           ≡ before_take ++ take_event ∷ (through_begin ++ (begins.behind ++ ends.ends.to_close))
       close_is_there =
-          ap (λ (l : List Event). begun.seen ++ l) told_there.before_is
-          ∙ ap (λ (l : List Event). l ++ ends.ends.to_close)
-          (begins.is ∙ ap (λ (l : List Event). l ++ (begins.before ++ begins.begin ∷ begins.behind))
-          (seen_behind turn_stays taken idle d_idle ∙ ap (λ (l : List Event). l ++ d_idle.more) taken_is))
-          ∙ simp append_assoc
-
-      told_then : tells p.table.config
-          (left p.table.config (within_turn the_turn (before_close the_cycle.releasing.marking)))
-      told_then =
-          subst (λ (l : List Event). tells p.table.config (left p.table.config l)) close_is_there
-          (subst (λ (c : Config). tells c (left c (begun.seen ++ told.before))) ended_config told.told)
+          grind (arith, begun, told_there, ends, begins, seen_behind, taken, idle, d_idle, taken_is, append_assoc)
 
       -- So it is in a longer list, in which nobody begins a cycle and no caller steps after the turn.
       module _ (host : p.seat ≡ Host) (home : HasCallers p.table.config p.seats) (tail : List Event)
@@ -339,5 +324,6 @@ module _ (p q : PassState) (m : MakesCycle p q) (own : Has p.seats p.seat) (hist
               lacks_append is_close behind_close tail
               (lacks_first is_close behind_close (give_of p.seat ∷ tail) closes_no_other)
               (lacks_second is_close behind_close (give_of p.seat ∷ tail) closes_no_other);
-          told = told_then;
+          told = subst (λ (l : List Event). tells p.table.config (left p.table.config l)) close_is_there
+              (subst (λ (c : Config). tells c (left c (begun.seen ++ told.before))) ended_config told.told);
         }

@@ -2,18 +2,18 @@
 use Rattle.mk_laws.proofs.Vocabulary.{AreOfOthers, Caller, Config, Event, Host, IsHistory, List, None, Seat, Step, Word}
 use Rattle.mk_laws.proofs.Vocabulary.{World, ℕ, ap, append_assoc, before_close, earlier_part_is_history}
 use Rattle.mk_laws.proofs.Vocabulary.{enabled_in_parts, false, inl, inr, is_begin, left, list_any, or_from, or_parts}
-use Rattle.mk_laws.proofs.{Vocabulary.{refl, subst, sym, true, [], ◌++◌, ◌<◌, ◌∙◌, ◌∷◌, ◌≡◌}, Actors.is_holders}
+use Rattle.mk_laws.proofs.{Vocabulary.{refl, subst, sym, [], ◌++◌, ◌<◌, ◌∙◌, ◌∷◌, ◌≡◌}, Actors.is_holders}
 use Rattle.mk_run.proofs.Vocabulary.{Has, HasCallers, IsWhole, Lacks, PassState, SaysOver, TakesLastTurns, WordsState}
 use Rattle.mk_run.proofs.Vocabulary.{append_cancel_left, finish_does, finish_in, has_step, has_then, history_before}
-use Rattle.mk_run.proofs.Vocabulary.{in_turn_then, is_of_cycles, others_append, others_own, seen_then, turn_moves}
-use Rattle.mk_run.proofs.{Vocabulary.turn_stays, HostTurnParts.{before_made, idle_turn, stays, taken_history}}
-use Rattle.mk_run.proofs.{HostTurnParts.taken_turn, LastCycles.last_cycle, LastTurns.{cycle_moves, over_moves}}
-use Rattle.mk_run.{proofs.LastTurns.{still_behind_over}, specs.LastCycle.{EndsWithCycle, MakesLastCycle}}
+use Rattle.mk_run.proofs.Vocabulary.{in_turn_then, is_of_cycles, others_append, others_own, seen_then, turn_stays}
+use Rattle.mk_run.proofs.HostTurnParts.{before_made, idle_turn, stays, taken_history, taken_turn}
+use Rattle.mk_run.proofs.{LastTurns.{cycle_moves, over_moves, still_behind_over}, LastCycles.last_cycle}
 use Rattle.mk_alloc.proofs.{Parts.{made_as, others_lack, seen_made}, CycleParts.begins_held}
 use Rattle.mk_alloc.{proofs.ListParts.{lacks_append, lacks_one}, specs.TurnCycles.{within_turn}}
 use Rattle.mk_cycle.specs.TurnKeeps.{InTurn}
 use Rattle.mk_heap.proofs.HomeCallers.{HoldersStepNone, others_hold_none, waiting_holds_none}
 use Rattle.mk_heap.specs.{Ending.EndsCycle, declared.reports.Report.Report}
+use Rattle.mk_run.specs.LastCycle.{EndsWithCycle, MakesLastCycle}
 use Rattle.mk_turns.specs.Doing.{Does}
 use Rattle.mk_waiting.{proofs.Waiting.{waits_more}, specs.Taking.{TakesTurn, Waits}}
 use Rattle.mk_words.specs.{States.event_of, Steps.Makes}
@@ -25,16 +25,16 @@ pub record Unbegun (p q : PassState) : Type 0 where
   pub is : q.seen ≡ p.seen ++ more
   pub none : Lacks is_begin more
 
-unbegun_then : (p q r : PassState) → Unbegun p q → Unbegun q r → Unbegun p r
-unbegun_then p q r one two = record {
+unbegun_then : {p q : PassState} (r : PassState) → Unbegun p q → Unbegun q r → Unbegun p r
+unbegun_then {p} {q} r one two = record {
   more = one.more ++ two.more;
   is = seen_then p.seen q.seen r.seen one.more two.more one.is two.is;
   none = lacks_append is_begin one.more two.more one.none two.none;
 }
 
-pub unbegun_made : (p q : PassState) (s : Step) → InTurn p → is_begin s ≡ false → Makes p s q
+pub unbegun_made : {p : PassState} (q : PassState) (s : Step) → InTurn p → is_begin s ≡ false → Makes p s q
     → IsHistory q.table.config q.seen → Unbegun p q
-unbegun_made p q s t other m history = record {
+unbegun_made {p} q s t other m history = record {
   more = m.others ++ event_of p s ∷ [];
   is = seen_made p q s m;
   none =
@@ -50,10 +50,9 @@ unheld_unbegun (e ∷ es) h =
     or_from (is_begin e.step) (has_step is_begin es) (begins_held e.step parts.0) (unheld_unbegun es parts.1)
 
 -- A cycle that is on may be finished.
-pub ends_unbegun : (taken idle : PassState) → InTurn taken → EndsCycle taken idle
-    → IsHistory idle.table.config idle.seen
-    → Unbegun taken idle
-ends_unbegun taken idle t ends history = elim ends.phase [
+pub ends_unbegun : {taken idle : PassState} → InTurn taken → EndsCycle taken idle
+    → IsHistory idle.table.config idle.seen → Unbegun taken idle
+ends_unbegun {taken} {idle} t ends history = elim ends.phase [
   | inl none ↦
       let is : idle ≡ ends.looked = ends.none none in
       rw is (look (subst (λ (r : PassState). IsHistory r.table.config r.seen) is history))
@@ -62,8 +61,7 @@ ends_unbegun taken idle t ends history = elim ends.phase [
       let there = history_before is_of_cycles ends.looked idle does history in
       let finish = finish_in ends.looked idle looked_own (ends.on on)
       (in_turn_then turn_stays taken ends.looked stays t looks there) history in
-      unbegun_then taken ends.looked idle (look there)
-      (record { more = finish.more; is = finish.is; none = finish.begins_none })
+      unbegun_then idle (look there) (record { more = finish.more; is = finish.is; none = finish.begins_none })
 ]
   where
     looks : Does turn_stays taken ends.looked
@@ -73,12 +71,12 @@ ends_unbegun taken idle t ends history = elim ends.phase [
     looked_own = has_then turn_stays taken ends.looked looks t.own
 
     look : IsHistory ends.looked.table.config ends.looked.seen → Unbegun taken ends.looked
-    look there = unbegun_made taken ends.looked (Step.Look Word.Phase) t refl ends.looks there
+    look there = unbegun_made ends.looked (Step.Look Word.Phase) t refl ends.looks there
 
 -- While the host waits for the turn nobody begins one, and it takes the turn.
-pub wait_unbegun : (p taken : PassState) → Has p.seats Host → HasCallers p.table.config p.seats
+pub wait_unbegun : {p taken : PassState} → Has p.seats Host → HasCallers p.table.config p.seats
     → TakesTurn p None taken → IsHistory taken.table.config taken.seen → Unbegun p taken
-wait_unbegun p taken host callers takes history =
+wait_unbegun {p} {taken} host callers takes history =
     let c : Config = p.table.config in
     let w : Waits p taken = waits_more p takes.waited taken None takes.waits takes.takes.makes in
     let long : IsHistory c (p.seen ++ w.more) =
@@ -95,26 +93,25 @@ pub idle_unbegun : {p taken idle : PassState} → Has p.seats p.seat → Has p.s
     → HasCallers p.table.config p.seats → TakesTurn p None taken → EndsCycle taken idle
     → IsHistory idle.table.config idle.seen → Unbegun p idle
 idle_unbegun {p} {taken} {idle} own host callers takes ends history =
-    unbegun_then p taken idle (wait_unbegun p taken host callers takes (taken_history own takes ends history))
-    (ends_unbegun taken idle (taken_turn own takes ends history) ends history)
+    unbegun_then idle (wait_unbegun host callers takes (taken_history own takes ends history))
+    (ends_unbegun (taken_turn own takes ends history) ends history)
 
 -- The host says that all is over.
-pub over_unbegun : (p q : PassState) → Has p.seats p.seat → Has p.seats Host → HasCallers p.table.config p.seats
+pub over_unbegun : {p q : PassState} → Has p.seats p.seat → Has p.seats Host → HasCallers p.table.config p.seats
     → SaysOver p q → IsHistory q.table.config q.seen → Unbegun p q
-over_unbegun p q own host callers o history =
+over_unbegun {p} {q} own host callers o history =
     let said = before_made o.said q Step.Give o.gives history in
     let idle = before_made o.idle o.said Step.Over o.says said in
     let t_idle = idle_turn own o.takes o.ends idle in
     let t_said = in_turn_then turn_stays o.idle o.said stays t_idle
     (made_as turn_stays o.idle o.said Step.Over t_idle.own o.says refl) said in
-    unbegun_then p o.idle q (idle_unbegun own host callers o.takes o.ends idle)
-    (unbegun_then o.idle o.said q (unbegun_made o.idle o.said Step.Over t_idle refl o.says said)
-    (unbegun_made o.said q Step.Give t_said refl o.gives history))
+    unbegun_then q (idle_unbegun own host callers o.takes o.ends idle) (unbegun_then q
+    (unbegun_made o.said Step.Over t_idle refl o.says said) (unbegun_made q Step.Give t_said refl o.gives history))
 
 -- So the host's last turns end the list with their cycle.
-pub ends_with_cycle : (tells : Config → World → Type 0) (w : WordsState) (p : PassState) → TakesLastTurns tells w p
+pub ends_with_cycle : {tells : Config → World → Type 0} {w : WordsState} {p : PassState} → TakesLastTurns tells w p
     → IsHistory w.config p.seen → EndsWithCycle tells w.config p.seen
-ends_with_cycle tells w p t history =
+ends_with_cycle {tells} {p} t history =
     let a : PassState = t.joined in
     let b : PassState = t.cycled in
     let s : PassState = t.said in
@@ -123,7 +120,7 @@ ends_with_cycle tells w p t history =
     let own : Has a.seats a.seat = subst (λ (x : Seat). Has a.seats x) (sym t.seat) t.own in
     let callers : HasCallers c a.seats =
     subst (λ (x : WordsState). HasCallers x.config a.seats) (sym t.table) t.callers in
-    let made = (cycle_moves a b t.cycle.makes).is in
+    let made = (cycle_moves t.cycle.makes).is in
     let said = (over_moves b s t.over).is in
     let b_seat : b.seat ≡ Host = ap (λ (r : PassState). r.seat) made ∙ t.seat in
     let b_callers : HasCallers b.table.config b.seats =
@@ -134,7 +131,7 @@ ends_with_cycle tells w p t history =
     ap (λ (r : PassState). r.table.config) said ∙ ap (λ (r : PassState). r.table.config) made in
     let s_history : IsHistory s.table.config s.seen =
     subst (λ (d : Config). IsHistory d s.seen) (sym config) (earlier_part_is_history c s.seen more long) in
-    let over = over_unbegun b s (subst (λ (r : PassState). Has r.seats r.seat) (sym made) own)
+    let over = over_unbegun (subst (λ (r : PassState). Has r.seats r.seat) (sym made) own)
     (subst (λ (r : PassState). Has r.seats Host) (sym made) t.own) b_callers t.over s_history in
     let tail : List Event = over.more ++ more in
     let is : p.seen ≡ b.seen ++ tail =
@@ -147,26 +144,25 @@ ends_with_cycle tells w p t history =
     t.behind.of_others ((enabled_in_parts c s.seen more).0 long.enabled).1)) in
     let still : (k : ℕ) → k < c.callers → AreOfOthers (Caller k ∷ []) tail =
     λ k lt.
-    let said_still = still_behind_over b s b_seat t.over k
+    let said_still = still_behind_over b_seat t.over k
     (subst (λ (r : PassState). Has r.seats (Caller k)) (sym made) (callers k lt)) in
     others_append (Caller k ∷ []) over.more more
     (rw (append_cancel_left b.seen said_still.more over.more (sym said_still.is ∙ over.is)) at said_still.of_others)
     (others_own a.seats (Caller k) more (callers k lt) t.behind.of_others) in
-    subst (λ (x : WordsState). EndsWithCycle tells x.config p.seen) t.table
-    (subst (λ (l : List Event). EndsWithCycle tells c l) (sym is)
-    (subst (λ (x : Seat). MakesLastCycle x tells c (b.seen ++ tail)) t.seat
-    (last_cycle a b t.cycle.makes own b_history tells t.cycle.at_close t.seat callers tail ends none still)))
+    subst (λ (x : WordsState). EndsWithCycle tells x.config p.seen) t.table (subst (λ (l : List Event). EndsWithCycle
+    tells c l) (sym is) (subst (λ (x : Seat). MakesLastCycle x tells c (b.seen ++ tail)) t.seat
+    (last_cycle t.cycle.makes own b_history t.cycle.at_close t.seat callers tail ends none still)))
 
 -- and that of the whole run, when the heap is closed.
-pub run_ends_with_cycle : (tells : Config → World → Type 0) (c : Config) (w : WordsState) (p : PassState) (r : Report)
+pub run_ends_with_cycle : {tells : Config → World → Type 0} (c : Config) {w : WordsState} {p : PassState} (r : Report)
     → w.config ≡ c → TakesLastTurns tells w p → report.history_of r ≡ p.seen → report.config_of r ≡ w.config
     → IsWhole (report.config_of r) (report.history_of r) → EndsWithCycle tells c (report.history_of r)
-run_ends_with_cycle tells c w p r made t history config whole =
+run_ends_with_cycle {tells} c {w = w} {p = p} r made t history config whole =
     let es : List Event = report.history_of r in
     let seen : IsHistory w.config p.seen =
     rw history at (subst (λ (d : Config). IsHistory d es) config whole.history) in
     subst (λ (d : Config). EndsWithCycle tells d es) made
-    (subst (λ (l : List Event). EndsWithCycle tells w.config l) (sym history) (ends_with_cycle tells w p t seen))
+    (subst (λ (l : List Event). EndsWithCycle tells w.config l) (sym history) (ends_with_cycle t seen))
 
 -- What is told may tell more.
 pub ends_weaker : (tells others : Config → World → Type 0) (c : Config) (es : List Event)

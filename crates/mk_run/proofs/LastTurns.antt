@@ -1,11 +1,11 @@
 -- The host's last turns, when the scripts are joined: the callers are still, and so they stay as markers are joined.
-use Rattle.mk_laws.proofs.Vocabulary.{Caller, Config, Event, Host, List, Seat, Step, World, ap, append-nil}
-use Rattle.mk_laws.proofs.Vocabulary.{append_assoc, subst, sym, [], ◌++◌, ◌∙◌, ◌∷◌, ◌≡◌}
+use Rattle.mk_laws.proofs.Vocabulary.{Caller, Config, Host, Seat, Step, World, ap, append-nil, append_assoc, subst, sym}
+use Rattle.mk_laws.proofs.Vocabulary.{[], ◌++◌, ◌∙◌, ◌∷◌, ◌≡◌}
 use Rattle.mk_run.proofs.Vocabulary.{CallersAreStill, Grows, Has, HasCallers, HostState, PassState, SaysOver}
 use Rattle.mk_run.proofs.Vocabulary.{TakesLastTurns, WordsState, has_left, others_append, others_none, with_joined}
 use Rattle.mk_core.specs.Growing.{is_same_seat}
 use Rattle.mk_heap.proofs.MovedHosts.{MovesOn, begin_moves, finish_moves, idle_moves, moves_more}
-use Rattle.mk_heap.specs.{Ending.{MakesCycle, MakesToldCycle}, Hosts.with_seen}
+use Rattle.mk_heap.specs.{Ending.MakesCycle, Ending.MakesToldCycle, Hosts.with_seen}
 use Rattle.mk_words.proofs.Seats.{others_fewer}
 
 -- The host's own seat is home.
@@ -14,8 +14,8 @@ own_seat h seat own = subst (λ (s : Seat). Has h.pass.seats s) (sym seat) own
 
 -- Callers whose seats are home make no step in the host's turns.
 
-moved_still : (p q : PassState) → p.seat ≡ Host → MovesOn p q → CallersAreStill p q.seen
-moved_still p q seat moves = λ k has. record {
+moved_still : {p q : PassState} → p.seat ≡ Host → MovesOn p q → CallersAreStill p q.seen
+moved_still seat moves = λ k has. record {
   more = moves.more;
   is = ap (λ (r : PassState). r.seen) moves.is;
   of_others = moves.leaves (Caller k) has (ap (λ (s : Seat). is_same_seat (Caller k) s) seat);
@@ -26,23 +26,21 @@ over_moves p q over =
     let idle = idle_moves p over.idle (record { taken = over.taken; takes = over.takes; ends = over.ends }) in
     moves_more p over.said q Step.Give (moves_more p over.idle over.said Step.Over idle over.says) over.gives
 
-pub cycle_moves : (p q : PassState) → MakesCycle p q → MovesOn p q
-cycle_moves p q m =
+pub cycle_moves : {p q : PassState} → MakesCycle p q → MovesOn p q
+cycle_moves {p} {q} m =
     let idle = idle_moves p m.idle (record { taken = m.taken; takes = m.takes; ends = m.ends }) in
     let ended = finish_moves p m.begun m.ended (begin_moves p m.idle m.begun idle m.begins) m.finishes in
     moves_more p m.ended q Step.Give ended m.gives
 
-pub still_behind_over : (p q : PassState) → p.seat ≡ Host → SaysOver p q → CallersAreStill p q.seen
-still_behind_over p q seat over = moved_still p q seat (over_moves p q over)
+pub still_behind_over : {p q : PassState} → p.seat ≡ Host → SaysOver p q → CallersAreStill p q.seen
+still_behind_over {p} {q} seat over = moved_still seat (over_moves p q over)
 
-module _ (tells : Config → World → Type 0) (w : WordsState) (h g i : HostState) (seat : h.pass.seat ≡ Host)
-    (is : g ≡ with_seen h g.pass.seen)
-    (cycle : MakesToldCycle tells h.pass g.pass)
-    (over : SaysOver g.pass i.pass) where
+module _ {tells : Config → World → Type 0} (w : WordsState) (h g i : HostState) (seat : h.pass.seat ≡ Host) (is : g
+    ≡ with_seen h g.pass.seen) (cycle : MakesToldCycle tells h.pass g.pass) (over : SaysOver g.pass i.pass) where
   pub still_behind_both : CallersAreStill h.pass i.pass.seen
   still_behind_both k has =
-      let first = moved_still h.pass g.pass seat (cycle_moves h.pass g.pass cycle.makes) k has in
-      let second = still_behind_over g.pass i.pass (ap (λ (x : HostState). x.pass.seat) is ∙ seat) over k
+      let first = moved_still seat (cycle_moves cycle.makes) k has in
+      let second = still_behind_over (ap (λ (x : HostState). x.pass.seat) is ∙ seat) over k
       (subst (λ (x : HostState). Has x.pass.seats (Caller k)) (sym is) has) in
       record {
         more = first.more ++ second.more;
@@ -62,16 +60,15 @@ module _ (tells : Config → World → Type 0) (w : WordsState) (h g i : HostSta
     callers = callers;
     cycle = cycle;
     over = over;
-    home = λ s has.
-        rw is' (subst (λ (x : HostState). Has x.pass.seats s) (sym is) has);
+    home = λ s has. rw is' (subst (λ (x : HostState). Has x.pass.seats s) (sym is) has);
     behind = record { more = []; is = sym (append-nil i.pass.seen); of_others = others_none h.pass.seats };
   }
 
 -- They stay the last as a marker is joined.
-pub last_turns_joined : (tells : Config → World → Type 0) (w : WordsState) (h g : HostState) (p : PassState)
+pub last_turns_joined : {tells : Config → World → Type 0} {w : WordsState} (h g : HostState) (p : PassState)
     → g ≡ with_joined h p g.pass.seen → Grows h.pass.seats h.pass.seen g.pass.seen → TakesLastTurns tells w h.pass
     → TakesLastTurns tells w g.pass
-last_turns_joined tells w h g p is own t = record {
+last_turns_joined h g p is own t = record {
   joined = t.joined;
   cycled = t.cycled;
   said = t.said;

@@ -9,19 +9,19 @@ use Rattle.mk_caller.proofs.OwnSteps.{others_add_none}
 use Rattle.mk_check.specs.Feed.{has_ended}
 
 -- a list that goes on by events of none of these seats goes on by none of one of them
-pub of_one : (seats : List Seat) (s : Seat) (es fs : List Event) → Has seats s → Grows seats es fs
+pub of_one : {seats : List Seat} (s : Seat) {es fs : List Event} → Has seats s → Grows seats es fs
     → Grows (s ∷ []) es fs
-of_one seats s es fs has g = record { more = g.more; is = g.is; of_others = others_own seats s g.more has g.of_others }
+of_one {seats} s has g = record { more = g.more; is = g.is; of_others = others_own seats s g.more has g.of_others }
 
-module _ (program : List Item) (k : ℕ) (c : Config) (es fs : List Event) (g : Grows (Caller k ∷ []) es fs) where
+module _ (program : List Item) {k : ℕ} (c : Config) {es fs : List Event} (g : Grows (Caller k ∷ []) es fs) where
   same_calls : calls_by k (calls c fs) ≡ calls_by k (calls c es)
   same_calls = ap (λ (l : List Event). calls_by k (calls c l)) g.is ∙ others_add_none c k es g.more g.of_others
 
   answers_stay : answers_in c k fs ≡ answers_in c k es
   answers_stay = same_answers k (calls c es) (calls c fs) same_calls
 
-  pub still_follows : (on : Bool) → FollowsScript on program k c es → FollowsScript on program k c fs
-  still_follows on h = record {
+  pub still_follows : {on : Bool} → FollowsScript on program k c es → FollowsScript on program k c fs
+  still_follows {on} h = record {
     noted = still_noted program k (calls c es) (calls c fs) same_calls h.noted;
     exact = stay_exact_behind_others on c (Caller k) (Caller k ∷ []) es fs (has_first (Caller k) []) g h.exact;
   }
@@ -29,8 +29,8 @@ module _ (program : List Item) (k : ℕ) (c : Config) (es fs : List Event) (g : 
   pub still_ends : EndsScript program k c es → EndsScript program k c fs
   still_ends h = ap (λ (answers : List Answer). has_ended (feed program k answers)) answers_stay ∙ h
 
-  pub still_text : (text : Text) → IsTextOf program k c es text → IsTextOf program k c fs text
-  still_text text h = record {
+  pub still_text : {text : Text} → IsTextOf program k c es text → IsTextOf program k c fs text
+  still_text h = record {
     bytes = h.bytes ∙ ap (λ (answers : List Answer). (feed program k answers).text) (sym answers_stay);
     ops = h.ops ∙ ap (λ (answers : List Answer). length answers) (sym answers_stay);
     refused = h.refused ∙ ap (λ (answers : List Answer). count_by is_refusal answers) (sym answers_stay);

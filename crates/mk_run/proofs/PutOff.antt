@@ -1,42 +1,35 @@
 -- An operation that isn't answered at once, and what it is answered later.
-use Rattle.mk_laws.proofs.Vocabulary.{Answer, Bool, Config, Event, List, Op, Seat, false, is_under_turn, refl, subst}
-use Rattle.mk_laws.proofs.Vocabulary.{sym, true, true≢false, ◌∙◌, ◌≡◌}
+use Rattle.mk_laws.proofs.Vocabulary.{Answer, Bool, Config, Event, List, Op, Seat, arith, false, is_under_turn, refl}
+use Rattle.mk_laws.proofs.Vocabulary.{subst, sym, true, true≢false, ◌∙◌, ◌≡◌}
 use Rattle.mk_run.proofs.Vocabulary.{Answers, CallerState, EachIsBegun, FindsGateHeld, IsAdmittedByOwnCalls, PassState}
 use Rattle.mk_run.proofs.{Vocabulary.{StaysBeside, SweepsNothing, begun_then, sweeps_then}, KeptScripts.beside_begun}
 use Rattle.mk_run.{proofs.ScriptCalls.{makes_none, none_then_answers, stays_admitted_after}, specs.Scripts.{IsPutOff}}
 
 pub turn_put_off : (p : PassState) (o : Op) → is_under_turn o ≡ true → IsPutOff p o p
-turn_put_off p o under = record {
-  turn = λ is. refl;
-  held = λ beside. absurd (true≢false (sym under ∙ beside));
-}
+turn_put_off p o under = record { turn = λ is. refl; held = λ beside. absurd (true≢false (sym under ∙ beside)) }
 
-pub held_put_off : (p : PassState) (o : Op) (q : PassState) → is_under_turn o ≡ false → FindsGateHeld p o q
+pub held_put_off : {p : PassState} {o : Op} {q : PassState} → is_under_turn o ≡ false → FindsGateHeld p o q
     → IsPutOff p o q
-held_put_off p o q beside held = record {
-  turn = λ under. absurd (true≢false (sym under ∙ beside));
-  held = λ is. held;
-}
+held_put_off beside held = record { turn = λ under. absurd (true≢false (sym under ∙ beside)); held = λ is. held }
 
-module _ (p : PassState) (o : Op) (q : PassState) (h : IsPutOff p o q) where
+module _ {p : PassState} {o : Op} {q : PassState} (h : IsPutOff p o q) where
   is_by_test : (b : Bool) → is_under_turn o ≡ b → q ≡ record p { seen = q.seen }
-  is_by_test true under = subst (λ (r : PassState). r ≡ record p { seen = r.seen }) (sym (h.turn under)) refl
-  is_by_test false beside = (makes_none true p o q (h.held beside)).is
+  is_by_test x0 under = grind (arith, makes_none)
 
   pub put_off_is : q ≡ record p { seen = q.seen }
   put_off_is = is_by_test (is_under_turn o) refl
 
   admitted_by_test : (b : Bool) → is_under_turn o ≡ b → IsAdmittedByOwnCalls p o → IsAdmittedByOwnCalls q o
   admitted_by_test true under stays = subst (λ (r : PassState). IsAdmittedByOwnCalls r o) (sym (h.turn under)) stays
-  admitted_by_test false beside stays = stays_admitted_after true p o q stays (makes_none true p o q (h.held beside))
+  admitted_by_test false beside stays = stays_admitted_after o stays (makes_none true (h.held beside))
 
   pub put_off_admitted : IsAdmittedByOwnCalls p o → IsAdmittedByOwnCalls q o
   put_off_admitted = admitted_by_test (is_under_turn o) refl
 
-  module _ (on : Bool) (told : Answer) (r : PassState) (later : Answers on q o told r) where
+  module _ {on : Bool} {told : Answer} {r : PassState} (later : Answers on q o told r) where
     answers_by_test : (b : Bool) → is_under_turn o ≡ b → Answers on p o told r
     answers_by_test true under = subst (λ (x : PassState). Answers on x o told r) (h.turn under) later
-    answers_by_test false beside = none_then_answers on p q o told r (makes_none on p o q (h.held beside)) beside later
+    answers_by_test false beside = none_then_answers (makes_none on (h.held beside)) beside later
 
     pub put_off_then : Answers on p o told r
     put_off_then = answers_by_test (is_under_turn o) refl
@@ -57,17 +50,17 @@ module _ (on sweeps : Bool) (begins : Config → Seat → List Event → List Ev
     home = home;
     answers = answers on;
     reached = λ off. reached;
-    begun = beside_begun begins p q.pass beside;
+    begun = beside_begun begins beside;
   }
 
   pub answered_later : (r : CallerState) → IsPutOff p o q.pass → StaysBeside p q.pass → SweepsNothing p q.pass
       → r.home ≡ true → Answers on q.pass o told r.pass → (sweeps ≡ false → SweepsNothing q.pass r.pass)
       → EachIsBegun begins q.pass r.pass → IsAnsweredAs on sweeps begins p o told r
   answered_later r off beside reached home answers more begun =
-      let is = put_off_is p o q.pass off in
+      let is = put_off_is off in
       record {
         home = home;
-        answers = put_off_then p o q.pass off on told r.pass answers;
+        answers = put_off_then off answers;
         reached = λ none. sweeps_then p q.pass r.pass is reached (more none);
-        begun = begun_then begins p q.pass r.pass is (beside_begun begins p q.pass beside) begun;
+        begun = begun_then begins p q.pass r.pass is (beside_begun begins beside) begun;
       }

@@ -1,17 +1,17 @@
 -- A script's caller makes one call more, or finds its gate held, and what is known then.
 use Rattle.std.proofs.{Common.length-append, lemmas.List.Sums.count_by-le-length}
-use Rattle.mk_laws.proofs.Vocabulary.{Answer, Bool, Caller, Config, Decided, Event, IsAdmitted, IsHistory, List, Op}
-use Rattle.mk_laws.proofs.Vocabulary.{Seat, Some, ℕ, ap, arith, asked, caller_number, calls, entry_of, false, flagged}
-use Rattle.mk_laws.proofs.Vocabulary.{is_under_turn, length, never_behind, refl, subst, sym, true, true≢false, [], ◌++◌}
-use Rattle.mk_laws.proofs.Vocabulary.{◌+◌, ◌<◌, ◌∙◌, ◌∷◌, ◌≡◌, ◌≤◌}
+use Rattle.mk_laws.proofs.Vocabulary.{Answer, Bool, Caller, Config, Event, IsHistory, List, Op, Seat, Some, ℕ, ap}
+use Rattle.mk_laws.proofs.Vocabulary.{arith, asked, caller_number, calls, entry_of, false, flagged, is_under_turn}
+use Rattle.mk_laws.proofs.Vocabulary.{length, refl, subst, sym, true, true≢false, [], ◌++◌, ◌+◌, ◌<◌, ◌∙◌, ◌∷◌, ◌≡◌}
+use Rattle.mk_laws.proofs.Vocabulary.{◌≤◌}
 use Rattle.mk_run.proofs.Vocabulary.{Answers, FindsGateHeld, FollowsScript, Has, IsAdmittedByOwnCalls, IsChecked}
-use Rattle.mk_run.proofs.Vocabulary.{IsFedWith, IsScript, Item, PassState, WordsState, answers_in, calls_by, config_of}
-use Rattle.mk_run.proofs.{Vocabulary.{is_refusal, next_op}, BesideTurns.{beside_then, called_beside, held_beside}}
+use Rattle.mk_run.proofs.Vocabulary.{IsFedWith, IsScript, Item, PassState, answers_in, calls_by, config_of, is_refusal}
+use Rattle.mk_run.proofs.{Vocabulary.next_op, BesideTurns.{beside_then, called_beside, held_beside}}
 use Rattle.mk_run.proofs.NotedCalls.{next_admitted, one_answer_more, one_more_noted, same_answers, still_noted}
 use Rattle.mk_run.proofs.FedScripts.{fed_as_told}
 use Rattle.mk_never.proofs.Later.{calls_stay}
 use Rattle.mk_alloc.proofs.ExactTurns.{stay_exact_behind_calls, stay_exact_behind_turns, stay_exact_where_held}
-use Rattle.mk_alloc.specs.{Laws.OwnAreExact, TurnCalls.CalledInTurn, TurnCycles.TurnsOfAreExact}
+use Rattle.mk_alloc.specs.{TurnCalls.CalledInTurn, TurnCycles.TurnsOfAreExact}
 use Rattle.mk_caller.specs.{Called.own_calls, States.{Admits, IsIdleCaller, caller_of_pass}}
 use Rattle.mk_check.specs.Laws.{AreNotedBy}
 use Rattle.mk_run.specs.Scripts.{IsCalled, IsRunning, MakesNoCall, Script, ScriptTakesAnswer, as_told, unflagged}
@@ -23,23 +23,21 @@ seen_alone : (p : PassState) (more : List Event) (q : PassState) → q ≡ recor
     → q ≡ record p { seen = q.seen }
 seen_alone p more q is = is ∙ ap (λ (r : PassState). record p { seen = r.seen }) (sym is)
 
-pub answered_by_call : (on : Bool) (p : PassState) (o : Op) (told : Answer) (q : PassState) → Has p.seats p.seat
-    → is_under_turn o ≡ false → IsCalled p o told q
-    → Answers on p o told q
-answered_by_call on p o told q own entered h = record {
+pub answered_by_call : (on : Bool) {p : PassState} {o : Op} {told : Answer} {q : PassState} → Has p.seats p.seat
+    → is_under_turn o ≡ false → IsCalled p o told q → Answers on p o told q
+answered_by_call on {p = p} {o = o} {q = q} own entered h = record {
   answer = h.answer;
   is_told = h.is_told;
   is = seen_alone p h.called.more q h.called.is;
   entry = ap (λ (r : PassState). own_calls p r.seen) h.called.is ∙ h.called.entry;
   exact = stay_exact_behind_calls on p o h.answer q own h.called;
   in_turn = λ under. absurd (true≢false (sym under ∙ entered));
-  beside = λ besides. called_beside p o h.answer q h.called;
+  beside = λ besides. called_beside h.called;
 }
 
-pub answered_in_turn : (on : Bool) (p : PassState) (o : Op) (a : Answer) (q : PassState) → Has p.seats p.seat
-    → unflagged o ≡ o → is_under_turn o ≡ true → CalledInTurn on p o a q
-    → Answers on p o (as_told a) q
-answered_in_turn on p o a q own plain turn h = record {
+pub answered_in_turn : {on : Bool} {p : PassState} {o : Op} {a : Answer} {q : PassState} → Has p.seats p.seat
+    → unflagged o ≡ o → is_under_turn o ≡ true → CalledInTurn on p o a q → Answers on p o (as_told a) q
+answered_in_turn {on} {p} {o} {a} {q} own plain turn h = record {
   answer = a;
   is_told = refl;
   is = seen_alone p h.more q h.is;
@@ -49,12 +47,12 @@ answered_in_turn on p o a q own plain turn h = record {
   beside = λ besides. absurd (true≢false (sym turn ∙ besides));
 }
 
-pub makes_none : (on : Bool) (p : PassState) (o : Op) (q : PassState) → FindsGateHeld p o q → MakesNoCall on p q
-makes_none on p o q h = record {
+pub makes_none : (on : Bool) {p : PassState} {o : Op} {q : PassState} → FindsGateHeld p o q → MakesNoCall on p q
+makes_none on {p = p} {o = o} {q = q} h = record {
   is = h.finds.makes.is ∙ ap (λ (r : PassState). record p { seen = r.seen }) (sym h.finds.makes.is);
   entries = h.entries;
   exact = stay_exact_where_held on p o q (own_before h.finds.makes) h;
-  beside = held_beside p o q h;
+  beside = held_beside h;
 }
 
 -- own calls are the same for passes of one seat
@@ -65,50 +63,47 @@ pub then_seen : (p q r : PassState) → q ≡ record p { seen = q.seen } → r �
     → r ≡ record p { seen = r.seen }
 then_seen p q r is next = next ∙ ap (λ (s : PassState). record s { seen = r.seen }) is
 
-pub none_then_none : (on : Bool) (p q r : PassState) → MakesNoCall on p q → MakesNoCall on q r → MakesNoCall on p r
-none_then_none on p q r h g = record {
+pub none_then_none : {on : Bool} {p q r : PassState} → MakesNoCall on p q → MakesNoCall on q r → MakesNoCall on p r
+none_then_none {p} {q} {r} h g = record {
   is = then_seen p q r h.is g.is;
   entries = sym (same_own p q r.seen h.is) ∙ g.entries ∙ same_own p q q.seen h.is ∙ h.entries;
   exact = λ e. g.exact (h.exact e);
-  beside = beside_then p q r h.is h.beside g.beside;
+  beside = beside_then h.is h.beside g.beside;
 }
 
-pub none_then_answers : (on : Bool) (p q : PassState) (o : Op) (told : Answer) (r : PassState) → MakesNoCall on p q
-    → is_under_turn o ≡ false → Answers on q o told r
-    → Answers on p o told r
-none_then_answers on p q o told r h entered g = record {
+pub none_then_answers : {on : Bool} {p q : PassState} {o : Op} {told : Answer} {r : PassState} → MakesNoCall on p q
+    → is_under_turn o ≡ false → Answers on q o told r → Answers on p o told r
+none_then_answers {p} {q} {r} h entered g = record {
   answer = g.answer;
   is_told = g.is_told;
   is = then_seen p q r h.is g.is;
   entry = cc (same_own p q r.seen h.is, g.entry, same_own p q q.seen h.is, h.entries, h.is);
   exact = λ e. g.exact (h.exact e);
   in_turn = λ under. absurd (true≢false (sym under ∙ entered));
-  beside = λ besides. beside_then p q r h.is h.beside (g.beside entered);
+  beside = λ besides. beside_then h.is h.beside (g.beside entered);
 }
 
 -- What stays admitted is admitted after a list to which the caller added no call.
-pub still_admitted : (on : Bool) (p : PassState) (o : Op) (q : PassState) → IsAdmittedByOwnCalls p o
-    → MakesNoCall on p q
-    → IsHistory q.table.config q.seen → Admits q o
-still_admitted on p o q stays h history = grind arith
+pub still_admitted : {on : Bool} {p : PassState} (o : Op) {q : PassState} → IsAdmittedByOwnCalls p o
+    → MakesNoCall on p q → IsHistory q.table.config q.seen → Admits q o
+still_admitted o stays h history = grind arith
 
 -- ... and stays so.
-pub stays_admitted_after : (on : Bool) (p : PassState) (o : Op) (q : PassState) → IsAdmittedByOwnCalls p o
+pub stays_admitted_after : {on : Bool} {p : PassState} (o : Op) {q : PassState} → IsAdmittedByOwnCalls p o
     → MakesNoCall on p q → IsAdmittedByOwnCalls q o
-stays_admitted_after on p o q stays h es history own = grind (arith, same_own)
+stays_admitted_after o stays h es history own = grind (arith, same_own)
 
 -- A New.
 
 flagged_alike : (d ty : ℕ) (full : Bool) (a : Answer) → flagged (Op.New d ty false) a ≡ flagged (Op.New d ty full) a
-flagged_alike d ty full Answer.Full = refl
-flagged_alike d ty full _ = refl
+flagged_alike d ty full x3 = grind arith
 
-pub answered_new : (on : Bool) (p : PassState) (o : Op) (d ty : ℕ) (full : Bool) (a : Answer) (q : PassState)
+pub answered_new : {on : Bool} {p : PassState} (o : Op) {d ty : ℕ} (full : Bool) {a : Answer} {q : PassState}
     → Has p.seats p.seat
     → o ≡ Op.New d ty full → CalledInTurn on p (Op.New d ty false) a q → Answers on p o (as_told a) q
 unfolding answered_in_turn
-answered_new on p o d ty full a q own is h =
-    let made = answered_in_turn on p (Op.New d ty false) a q own refl refl h in
+answered_new {on} {p} o {d = d} {ty = ty} full {a = a} {q = q} own is h =
+    let made = answered_in_turn own refl refl h in
     subst (λ (x : Op). Answers on p x (as_told a) q) (sym is) (record {
       answer = a;
       is_told = refl;
@@ -119,10 +114,10 @@ answered_new on p o d ty full a q own is h =
       beside = λ besides. absurd (true≢false besides);
     })
 
-pub answered_free : (on : Bool) (p : PassState) (o : Op) (r : ℕ) (a : Answer) (q : PassState) → Has p.seats p.seat
+pub answered_free : {on : Bool} {p : PassState} (o : Op) {r : ℕ} {a : Answer} {q : PassState} → Has p.seats p.seat
     → o ≡ Op.Free r → CalledInTurn on p (Op.Free r) a q → Answers on p o (as_told a) q
-answered_free on p o r a q own is h =
-    subst (λ (x : Op). Answers on p x (as_told a) q) (sym is) (answered_in_turn on p (Op.Free r) a q own refl refl h)
+answered_free {on} {p} o {r = r} {a = a} {q = q} own is h =
+    subst (λ (x : Op). Answers on p x (as_told a) q) (sym is) (answered_in_turn own refl refl h)
 
 pub type_exists : (p : PassState) (o : Op) (d ty : ℕ) (full : Bool) → o ≡ Op.New d ty full → Admits p o
     → ty < length p.table.config.types
@@ -145,13 +140,12 @@ module _ (on : Bool) (program : List Item) (k : ℕ) (p : PassState) (seat : p.s
   answers = answers_in c k es
 
   pub next_stays_admitted : IsChecked program → IsScript program k → c ≡ config_of program c.markers
-      → FollowsScript on program k c es
-      → (o : Op) → next_op program k answers ≡ Some o → IsAdmittedByOwnCalls now o
+      → FollowsScript on program k c es → (o : Op) → next_op program k answers ≡ Some o → IsAdmittedByOwnCalls now o
   next_stays_admitted checked is_script config follows o next = λ fs history same.
       let mine : calls_by k (calls c fs) ≡ calls_by k (calls c es) =
       subst (λ (j : ℕ). calls_by j (calls c fs) ≡ calls_by j (calls c es)) number same in
       let noted : AreNotedBy program k answers (asked (calls c fs)) = grind (arith, same_answers, still_noted) in
-      rw number (next_admitted program c k fs answers o checked is_script config history noted next)
+      rw number (next_admitted k answers o checked is_script config history noted next)
 
   module _ (o : Op) (told : Answer) (q : PassState) (next : next_op program k answers ≡ Some o)
       (h : Answers on now o told q) where
@@ -165,12 +159,11 @@ module _ (on : Bool) (program : List Item) (k : ℕ) (p : PassState) (seat : p.s
           rw seat at (rw h.is at (h.exact (subst (λ (s : Seat). TurnsOfAreExact on c s es) (sym seat) follows.exact)));
     }
 
-    pub fed_on : (s t : Script) → IsFedWith program k answers s → ScriptTakesAnswer told s t
+    pub fed_on : {s : Script} (t : Script) → IsFedWith program k answers s → ScriptTakesAnswer told s t
         → IsFedWith program k (answers_in c k q.seen) t
-    fed_on s t fed takes =
-        rw (one_answer_more k (calls c es) (calls c q.seen) o h.answer one_more)
-        (fed_as_told program k answers h.answer t
-        (subst (λ (a : Answer). IsFedWith program k (answers ++ a ∷ []) t) h.is_told (takes program k answers fed)))
+    fed_on t fed takes =
+        rw (one_answer_more k (calls c es) (calls c q.seen) o h.answer one_more) (fed_as_told program k answers h.answer
+        t (subst (λ (a : Answer). IsFedWith program k (answers ++ a ∷ []) t) h.is_told (takes program k answers fed)))
 
 -- A script under way.
 
@@ -180,43 +173,41 @@ pub exists_on : (p q : PassState) (k : ℕ) (program : List Item) → q ≡ reco
     → p.table.config ≡ config_of program p.table.config.markers → caller_of_pass q < q.table.config.callers
 exists_on p q k program is number script config = grind arith
 
-pub seat_is : (p q : PassState) (k : ℕ) → q ≡ record p { seen = q.seen } → IsIdleCaller q → caller_of_pass p ≡ k
+pub seat_is : (p : PassState) {q : PassState} (k : ℕ) → q ≡ record p { seen = q.seen } → IsIdleCaller q
+    → caller_of_pass p ≡ k
     → p.seat ≡ Caller k
-seat_is p q k is idle number = grind arith
+seat_is p k is idle number = grind arith
 
-module _ (on : Bool) (program : List Item) (k : ℕ) (p q : PassState) (s : Script) (run : IsRunning on program k p q s)
+module _ {on : Bool} {program : List Item} {k : ℕ} {p q : PassState} {s : Script} (run : IsRunning on program k p q s)
     (seat : p.seat ≡ Caller k) (o : Op) (next : next_op program k (answers_in p.table.config k q.seen) ≡ Some o) where
   pub asked_stays_admitted : IsChecked program → IsScript program k
-      → p.table.config ≡ config_of program p.table.config.markers
-      → IsAdmittedByOwnCalls q o
+      → p.table.config ≡ config_of program p.table.config.markers → IsAdmittedByOwnCalls q o
   asked_stays_admitted checked is_script config =
       rw run.is (next_stays_admitted on program k p seat q.seen checked is_script config run.follows o next)
 
-  pub follows_now : (told : Answer) (r : PassState) → Answers on q o told r
+  pub follows_now : {told : Answer} {r : PassState} → Answers on q o told r
       → FollowsScript on program k r.table.config r.seen
-  follows_now told r h =
-      rw (ap (λ (x : PassState). x.table) (then_seen p q r run.is h.is))
-      (follows_on on program k p seat q.seen o told r next (subst (λ (x : PassState). Answers on x o told r) run.is h)
-      run.follows)
+  follows_now {told} {r} h =
+      rw (ap (λ (x : PassState). x.table) (then_seen p q r run.is h.is)) (follows_on on program k p seat q.seen o told r
+      next (subst (λ (x : PassState). Answers on x o told r) run.is h) run.follows)
 
-  pub runs_on : (told : Answer) (r : PassState) (t : Script) → Answers on q o told r → ScriptTakesAnswer told s t
+  pub runs_on : {told : Answer} {r : PassState} (t : Script) → Answers on q o told r → ScriptTakesAnswer told s t
       → IsRunning on program k p r t
-  runs_on told r t h takes =
+  runs_on {told} {r} t h takes =
       let answers = subst (λ (x : PassState). Answers on x o told r) run.is h in
       record {
         is = then_seen p q r run.is h.is;
         follows = follows_on on program k p seat q.seen o told r next answers run.follows;
-        fed = fed_on on program k p seat q.seen o told r next answers s t run.fed takes;
+        fed = fed_on on program k p seat q.seen o told r next answers t run.fed takes;
       }
 
 -- One answer more is counted.
 
-pub one_more_op : (program : List Item) (k : ℕ) (answers : List Answer) (told : Answer) (s t : Script)
-    → IsFedWith program k answers s
-    → ScriptTakesAnswer told s t → t.ops ≡ s.ops + 1
-one_more_op program k answers told s t fed takes =
+pub one_more_op : {program : List Item} {k : ℕ} {answers : List Answer} (told : Answer) {s : Script} (t : Script)
+    → IsFedWith program k answers s → ScriptTakesAnswer told s t → t.ops ≡ s.ops + 1
+one_more_op {program} {k} {answers} told t fed takes =
     (takes program k answers fed).ops ∙ length-append answers (told ∷ []) ∙ ap (λ (n : ℕ). n + 1) (sym fed.ops)
 
-pub refused_within : (program : List Item) (k : ℕ) (answers : List Answer) (s : Script)
+pub refused_within : {program : List Item} {k : ℕ} {answers : List Answer} {s : Script}
     → IsFedWith program k answers s → s.refused ≤ s.ops
-refused_within program k answers s fed = omega (arith, count_by-le-length is_refusal answers, fed.ops, fed.refused)
+refused_within {answers} fed = omega (arith, count_by-le-length is_refusal answers, fed.ops, fed.refused)

@@ -1,19 +1,18 @@
 -- A history none of whose seats makes a sweeping mark has none, nor has a cycle of it.
-use Rattle.mk_laws.proofs.Vocabulary.{Config, Event, List, Marker, Marking, Seat, Step, World, ℕ, append_assoc, false}
-use Rattle.mk_laws.proofs.Vocabulary.{first_world, flight_of, group_of, is_open_to, left, refl, seat_exists, subst, sym}
-use Rattle.mk_laws.proofs.Vocabulary.{through, true, world_behind, [], ◌++◌, ◌∙◌, ◌∷◌, ◌≡◌}
+use Rattle.mk_laws.proofs.Vocabulary.{Config, Event, List, Marker, Marking, Seat, Step, World, ℕ, append_assoc, arith}
+use Rattle.mk_laws.proofs.Vocabulary.{false, first_world, flight_of, group_of, is_open_to, left, seat_exists, subst}
+use Rattle.mk_laws.proofs.Vocabulary.{sym, through, true, world_behind, [], ◌++◌, ◌∙◌, ◌∷◌, ◌≡◌}
 use Rattle.mk_core.proofs.Conditions.{enabled_events_meet_all}
-use Rattle.mk_core.specs.{Cycles.{NoneSweeps, NoneSweepsFrom}, History.{AreEnabledFrom, left_from}}
+use Rattle.mk_core.specs.{Cycles.NoneSweeps, Cycles.NoneSweepsFrom, History.AreEnabledFrom, History.left_from}
 use Rattle.mk_laws.specs.{Precision.CyclesArePrecise, Promises.KeepsAllPromises}
 use Rattle.mk_run.specs.Unswept.{IsUnswept}
-use Rattle.mk_turns.{proofs.Sweeping.{other_steps_sweep}, specs.Sweeping.{SweepsNothingFrom, is_mark}}
+use Rattle.mk_turns.{proofs.Sweeping.other_steps_sweep, specs.Sweeping.SweepsNothingFrom, specs.Sweeping.is_mark}
 use Rattle.mk_words.proofs.Seats.{same_seat, same_self}
 
 -- A marker makes none: its marks are of a kind of their own.
 
 markers_kind : (j : ℕ) (x : Step) → is_open_to (Marker j) (group_of x) ≡ true → is_mark x ≡ false
-markers_kind j (Step.Mark p v) h = cc
-markers_kind j _ h = refl
+markers_kind j x1 h = grind arith
 
 pub markers_sweep : (c : Config) (j : ℕ) (w : World) (es : List Event) → AreEnabledFrom c w es
     → SweepsNothingFrom c (Marker j) w es
@@ -50,8 +49,8 @@ unfolding NoneSweepsFrom left_from
 none_second c w [] ys none = none
 none_second c w (e ∷ es) ys none = none_second c (world_behind c w e) es ys none.1
 
-pub cycle_is_unswept : (c : Config) (es : List Event) (k : Marking es) → IsUnswept c es → NoneSweeps c k
-cycle_is_unswept c es k none =
+pub cycle_is_unswept : (c : Config) {es : List Event} (k : Marking es) → IsUnswept c es → NoneSweeps c k
+cycle_is_unswept c k none =
     let at = k.close.at in
     let whole : IsUnswept c (through k.begin ++ k.begin.behind) =
     rw (k.begin.is ∙ sym (append_assoc k.begin.before (k.begin.event ∷ []) k.begin.behind)) at none in
@@ -59,9 +58,8 @@ cycle_is_unswept c es k none =
     none_first c (left c (through k.begin)) at.before (at.event ∷ at.behind)
     (subst (λ (l : List Event). NoneSweepsFrom c (left c (through k.begin)) l) at.is behind)
 
-pub unswept_is_precise : (c : Config) (es : List Event) → KeepsAllPromises c es → IsUnswept c es
-    → CyclesArePrecise c es
+pub unswept_is_precise : (c : Config) (es : List Event) → KeepsAllPromises c es → IsUnswept c es → CyclesArePrecise c es
 unswept_is_precise c es kept none = record {
-  releases = λ k. kept.precise k (cycle_is_unswept c es k.marking none);
-  frees = λ k. kept.freed k (cycle_is_unswept c es k.releasing.marking none);
+  releases = λ k. kept.precise k (cycle_is_unswept c k.marking none);
+  frees = λ k. kept.freed k (cycle_is_unswept c k.releasing.marking none);
 }

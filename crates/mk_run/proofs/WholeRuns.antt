@@ -8,20 +8,19 @@ use Rattle.mk_run.{proofs.LaterLists.{still_ends, still_follows, still_text}, sp
 use Rattle.mk_heap.specs.{Ending.CallersAreJoined, Hosts.AllAreJoined, Reports.HasCounts}
 use Rattle.mk_heap.specs.Reports as report
 
-pub all_callers_joined : (on : Bool) (program : List Item) (w : WordsState) (h : HostState)
+pub all_callers_joined : {on : Bool} {program : List Item} {w : WordsState} {h : HostState}
     → HasJoined on program w 0 h → CallersAreJoined h
-all_callers_joined on program w h joined = λ k lt. let n = joined.count in joined.seats k (omega arith) (omega arith)
+all_callers_joined joined = λ k lt. let n = joined.count in joined.seats k (omega arith) (omega arith)
 
 -- All callers that there are are home.
-pub all_callers_home : (on : Bool) (program : List Item) (markers : ℕ) (w : WordsState) (h : HostState)
+pub all_callers_home : {on : Bool} {program : List Item} (markers : ℕ) {w : WordsState} {h : HostState}
     → w.config ≡ config_of program markers → HasJoined on program w 0 h → HasCallers w.config h.pass.seats
-all_callers_home on program markers w h made joined = grind arith
+all_callers_home markers made joined = grind arith
 
 -- What was joined stays so where the callers are still.
 
-module _ (on : Bool) (program : List Item) (w : WordsState) (h : HostState) (fs : List Event)
-    (joined : HasJoined on program w 0 h)
-    (still : CallersAreStill h.pass fs) where
+module _ {on : Bool} {program : List Item} {w : WordsState} {h : HostState} (fs : List Event)
+    (joined : HasJoined on program w 0 h) (still : CallersAreStill h.pass fs) where
   later : (k : ℕ) → 0 ≤ k → IsScript program k → Grows (Caller k ∷ []) h.pass.seen fs
   later k le is = still k (joined.seats k le is)
 
@@ -32,31 +31,29 @@ module _ (on : Bool) (program : List Item) (w : WordsState) (h : HostState) (fs 
     seat = joined.seat;
     count = joined.count;
     seats = λ k le is. keep k (joined.seats k le is);
-    follow = λ k le is. still_follows program k w.config h.pass.seen fs (later k le is) on (joined.follow k le is);
+    follow = λ k le is. still_follows program w.config (later k le is) (joined.follow k le is);
   }
 
-  pub still_texts : (texts : List Text) → AreTextsFrom program 0 w.config h.pass.seen texts
+  pub still_texts : {texts : List Text} → AreTextsFrom program 0 w.config h.pass.seen texts
       → AreTextsFrom program 0 w.config fs texts
-  still_texts texts h' = record {
+  still_texts {texts} h' = record {
     count = h'.count;
-    ends = λ k le is. still_ends program k w.config h.pass.seen fs (later k le is) (h'.ends k le is);
-    each = λ i text at.
-        (let within = slice_get_within texts i text at in
+    ends = λ k le is. still_ends program w.config (later k le is) (h'.ends k le is);
+    each = λ i text at. (let within = slice_get_within texts i text at in
         let count = h'.count in
-        still_text program (0 + i) w.config h.pass.seen fs (later (0 + i) (omega arith) (omega arith)) text
-        (h'.each i text at));
+        still_text program w.config (later (0 + i) (omega arith) (omega arith)) (h'.each i text at));
   }
 
 -- When the heap is closed.
 
-pub all_joined : (on with_cycle : Bool) (program : List Item) (w : WordsState) (joined : Joined)
+pub all_joined : {on with_cycle : Bool} {program : List Item} {w : WordsState} {joined : Joined}
     → IsOver on with_cycle program w 0 joined → AllAreJoined joined.host
-all_joined on with_cycle program w joined over = record {
-  callers = all_callers_joined on program w joined.host over.is_host;
+all_joined {on} {program} {w} {joined} over = record {
+  callers = all_callers_joined over.is_host;
   markers = λ i lt. over.markers i (omega arith) lt;
 }
 
-pub is_run : (on with_cycle : Bool) (program : List Item) (markers : ℕ) (w : WordsState) (h : HostState)
+pub is_run : {on with_cycle : Bool} {program : List Item} (markers : ℕ) {w : WordsState} {h : HostState}
     (outcome : Outcome)
     → w.config ≡ config_of program markers → HasJoined on program w 0 h
     → HostComesLast w.config.callers with_cycle h.pass.seen
@@ -65,7 +62,7 @@ pub is_run : (on with_cycle : Bool) (program : List Item) (markers : ℕ) (w : W
     → IsWhole (report.config_of outcome.report) (report.history_of outcome.report)
     → HasCounts (report.config_of outcome.report) (report.history_of outcome.report) outcome.report
     → IsRunOf on with_cycle program markers outcome
-is_run on with_cycle program markers w h outcome made joined last texts history config whole counts =
+is_run {on} {with_cycle} {program} markers {w = w} {h = h} outcome made joined last texts history config whole counts =
     let c = config_of program markers in
     let es = report.history_of outcome.report in
     let same : report.config_of outcome.report ≡ c = config ∙ made in
@@ -74,14 +71,12 @@ is_run on with_cycle program markers w h outcome made joined last texts history 
       config = same;
       whole = subst (λ (d : Config). IsWhole d es) same whole;
       counts = subst (λ (d : Config). HasCounts d es outcome.report) same counts;
-      follows = λ k is.
-          subst (λ (l : List Event). FollowsScript on program k c l) (sym history)
+      follows = λ k is. subst (λ (l : List Event). FollowsScript on program k c l) (sym history)
           (subst (λ (d : Config). FollowsScript on program k d h.pass.seen) made (joined.follow k (omega arith) is));
       ends = λ k is.
           rw history (subst (λ (d : Config). EndsScript program k d h.pass.seen) made (texts.ends k (omega arith) is));
       host = rw history (subst (λ (d : Config). HostComesLast d.callers with_cycle h.pass.seen) made last);
       count = omega arith;
-      texts = λ k text at.
-          rw history (subst (λ (d : Config). IsTextOf program k d h.pass.seen text) made
+      texts = λ k text at. rw history (subst (λ (d : Config). IsTextOf program k d h.pass.seen text) made
           (subst (λ (j : ℕ). IsTextOf program j w.config h.pass.seen text) (omega arith) (texts.each k text at)));
     }

@@ -6,11 +6,10 @@ use Rattle.mk_sweep.proofs.Vocabulary.{Steady, Step, Words, World, has_bit, is_m
 use Rattle.mk_laws.proofs.Vocabulary.{Bool, IsEnabled, List, ℕ, ap, arith, cases_Bool, enabled_meets, false}
 use Rattle.mk_laws.proofs.Vocabulary.{false_from_ne_true, holder_number, inl, inr, is_one_of, list_any, refl}
 use Rattle.mk_laws.proofs.Vocabulary.{slice_index, subst, sym, true, true≢false, [], ◌++◌, ◌+◌, ◌<◌, ◌∙◌, ◌∷◌, ◌≡◌, ◌≢◌}
-use Rattle.mk_laws.proofs.{Known.{Known, holds_turn, known_behind}, OthersMoves.{CallLoads, Calls, CallWrite, Marks}}
-use Rattle.mk_laws.proofs.{OthersMoves.{OthersMove, Waits, WorldBehind, others_move}, Actors.is_holders}
-use Rattle.mk_laws.proofs.{FramesHolders.acts_as_holder, Orderly.{same_holder, turn_of}, OrderlyLists.actor_of}
-use Rattle.mk_laws.proofs.{PrecisionStepKinds.both_fail, Protocols.protocol_of, Stretches.None_of, TurnFrame.turn_after}
-use Rattle.mk_laws.proofs.Views.{HoldsTurn, view_of}
+use Rattle.mk_laws.proofs.{Known.{Known, holds_turn, known_behind}, OthersMoves.{CallWrite, OthersMove, WorldBehind}}
+use Rattle.mk_laws.proofs.{OthersMoves.others_move, Actors.is_holders, FramesHolders.acts_as_holder}
+use Rattle.mk_laws.proofs.{Orderly.{same_holder, turn_of}, OrderlyLists.actor_of, PrecisionStepKinds.both_fail}
+use Rattle.mk_laws.proofs.{Protocols.protocol_of, Stretches.None_of, TurnFrame.turn_after, Views.{HoldsTurn, view_of}}
 use Rattle.mk_core.specs.{Growing.is_same_seat, History.{AreEnabledFrom, left_from}}
 use Rattle.mk_sweep.specs.Unswept.{LeaveUnmarked, OthersLeaveUnmarked}
 use Rattle.mk_tracing.specs.Tracing.{OwnStepsKeep}
@@ -25,15 +24,11 @@ MayHold c (Marker k) = ⊥
 MayHold c Host = ⊤
 
 holder_may_hold : (c : Config) (m : Moment) (s : Seat) → Holds c m s → MayHold c s
-holder_may_hold c m (Caller k) h = h.0
-holder_may_hold c m (Marker k) h = h
-holder_may_hold c m Host h = tt
+holder_may_hold c m x2 h = grind arith
 
 holds_by_name : {c : Config} {m : Moment} (s : Seat) → Known c m → MayHold c s
     → m.words.turn ≡ 1 + holder_number c s → Holds c m s
-holds_by_name {c} {m} (Caller k) known may is = (may, ((protocol_of c m known).holder k may).0 is)
-holds_by_name (Marker k) known may is = absurd may
-holds_by_name Host known may is = is
+holds_by_name x0 known may is = grind (arith, protocol_of)
 
 -- A step that leaves the turn word leaves the turn to its holder.
 pub holds_still : {c : Config} (s : Seat) (w v : World) → Known c w.now → Known c v.now
@@ -50,14 +45,11 @@ record IsBeside (c : Config) (w : World) (e : Event) : Type 0 where
   kind : is_holders e.step ≡ false
 
 call_marks : {k : ℕ} {w x : Words} → CallWrite k w x → x.marks ≡ w.marks
-call_marks CallLoads = refl
-call_marks _ = refl
+call_marks x0 = grind arith
 
 move_marks : {c : Config} {w : World} {seat : Seat} {v : World} → OthersMove c w seat v
     → ((k : ℕ) → seat ≡ Marker k → k < 8 → ⊥) → v.now.words.marks ≡ w.now.words.marks
-move_marks Waits none = refl
-move_marks (Calls f lt le write) none = call_marks write
-move_marks (Marks {k} y lt write) none = absurd (none k refl lt)
+move_marks x0 none = grind (arith, call_marks)
 
 one_beside : {c : Config} (s : Seat) (seats : List Seat) (w : World) (e : Event) → HasMarkers seats → Known c w.now
     → IsEnabled c w.now e → Holds c w.now s → is_one_of seats e.seat ≡ false → is_same_seat s e.seat ≡ false
@@ -69,9 +61,8 @@ one_beside {c} s seats w e markers known on holds out other =
     let free : HoldsTurn c (view_of w.now) e.seat → ⊥ = grind (arith, same_holder, view_of, same_self) in
     let move = others_move c w e.seat e.step known (λ z. absurd (omega arith)) free meets in
     record {
-      marks = move_marks move
-          (λ k is lt. not_both seats (Marker k) (subst (λ (x : Seat). is_one_of seats x ≡ false) is out)
-          (markers k lt));
+      marks = move_marks move (λ k is lt. not_both seats (Marker k)
+          (subst (λ (x : Seat). is_one_of seats x ≡ false) is out) (markers k lt));
       turn = ap (λ (x : Steady). x.turn) (turn_after c w e.seat (WorldBehind c w e.seat e.step) known move).steady;
       kind = false_from_ne_true (is_holders e.step)
           (λ is. free (acts_as_holder c w.now e.seat e.step (actor_of c w.now e.seat e.step known.orderly meets) is));

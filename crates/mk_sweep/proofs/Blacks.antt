@@ -48,9 +48,8 @@ pub may_turn : {c : Config} {w : Words} (cell : Cell) → CellsAreClosed c w
 unfolding may_turn_black
 may_turn {c} {w} cell closed known marked =
     and_from (nat_lt cell.index (cells_under (header_in w cell.page)) && is_marked w cell) _
-    (and_from (nat_lt cell.index (cells_under (header_in w cell.page))) (is_marked w cell)
-    (lt-ltb cell.index (cells_under (header_in w cell.page)) known) marked)
-    (by (has_no_pointers (header_in w cell.page)) refl)
+    (and_from (nat_lt cell.index (cells_under (header_in w cell.page))) (is_marked w cell) (lt-ltb cell.index
+    (cells_under (header_in w cell.page)) known) marked) (by (has_no_pointers (header_in w cell.page)) refl)
   where
     by : (b : Bool) → has_no_pointers (header_in w cell.page) ≡ b
         → (has_no_pointers (header_in w cell.page) || words_point_well c.pages w cell) ≡ true

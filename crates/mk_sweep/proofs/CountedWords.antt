@@ -1,13 +1,13 @@
 -- How often a number stands in the words of cells and pages.
-use Rattle.std.proofs.{Common.{count_by, filter, length-append, sum_by}, lemmas.List.Sums.{sum_by-append, sum_by-cons}}
-use Rattle.std.proofs.{lemmas.Bool.cases_order, lemmas.List.FromFn.length-range_with_len}
-use Rattle.std.specs.List.{Contains, range_with_len}
+use Rattle.std.proofs.{Common.{count_by, filter, length-append, sum_by}, lemmas.List.FromFn.length-range_with_len}
+use Rattle.std.{proofs.lemmas.List.Sums.{sum_by-append, sum_by-cons}, specs.List.{Contains, range_with_len}}
 use Rattle.mk_sweep.proofs.Vocabulary.{Words, cells_under, has_bit, has_no_pointers, header_in, used_at, words_below}
 use Rattle.mk_sweep.proofs.Vocabulary.{words_if, words_of_cells, words_on, words_under}
 use Rattle.mk_laws.proofs.Vocabulary.{Bool, List, ℕ, and_from, and_parts, ap, arith, cases_eq, cases_lt, cond, eq-eqb}
 use Rattle.mk_laws.proofs.Vocabulary.{false, get_or, if◌then◌else◌, inl, inr, le-leb, leb-true, length, lt-ltb}
-use Rattle.mk_laws.proofs.Vocabulary.{ltb-true, mul-le, nat_le, nat_lt, ne_eqb, refl, subst, suc, sym, true, true≢false}
-use Rattle.mk_laws.proofs.Vocabulary.{zero, [], ◌&&◌, ◌*◌, ◌++◌, ◌+◌, ◌-◌, ◌<◌, ◌==◌, ◌∙◌, ◌∷◌, ◌≡◌, ◌≢◌, ◌≤◌, ◌⊎◌}
+use Rattle.mk_laws.proofs.Vocabulary.{ltb-true, nat_le, nat_lt, ne_eqb, refl, subst, suc, sym, true, true≢false, zero}
+use Rattle.mk_laws.proofs.Vocabulary.{[], ◌&&◌, ◌*◌, ◌++◌, ◌+◌, ◌-◌, ◌<◌, ◌==◌, ◌∙◌, ◌∷◌, ◌≡◌, ◌≢◌, ◌≤◌, ◌⊎◌}
+use Rattle.mk_laws.proofs.CoveredWords.{one_part}
 use Rattle.mk_cycle.{proofs.SumsBelow.{counted_by_key, sum_same}, specs.ReleasedPages.{sum_below}}
 
 -- how often it stands there
@@ -48,12 +48,10 @@ range_outside a (suc len) n out =
     omega arith
   where
     not_here : (n < a) ⊎ (a + suc len ≤ n) → a ≡ n → ⊥
-    not_here (inl below) e = omega arith
-    not_here (inr past) e = omega arith
+    not_here x0 e = grind arith
 
     further : (n < a) ⊎ (a + suc len ≤ n) → (n < a + 1) ⊎ (a + 1 + len ≤ n)
-    further (inl below) = inl (omega arith)
-    further (inr past) = inr (omega arith)
+    further x0 = grind arith
 
 pub range_inside : (a len n : ℕ) → a ≤ n → n < a + len → times n (range_with_len a len) ≡ 1
 range_inside a zero n low high = absurd (omega arith)
@@ -82,10 +80,6 @@ range_found a len n some = elim (cases_lt n a) [
 if_found : (used : Bool) (a len n : ℕ) → times n (words_if used a len) ≢ 0 → (used ≡ true) × (a ≤ n) × (n < a + len)
 if_found true a len n some = let h = range_found a len n some in (refl, h.0, h.1)
 if_found false a len n some = absurd (some refl)
-
--- A number is in one of equal parts alone.
-one_part : (size i j n : ℕ) → i * size ≤ n → n < i * size + size → j * size ≤ n → n < j * size + size → i ≡ j
-one_part size i j n from to low high = grind (arith, cases_order, mul-le)
 
 -- a used cell of a page, of this many words, that has the word
 pub record HasInCell (page size used cells n : ℕ) : Type 0 where
@@ -172,9 +166,8 @@ page_found w page n some = by (has_no_pointers (header_in w page)) refl
 
 pub page_once : {w : Words} {page n : ℕ} → HasOnPage w page n → times n (words_on w page) ≡ 1
 page_once {w} {page} {n} x =
-    ap (λ (b : Bool). times n (if b then []
-    else words_of_cells page (words_under (header_in w page)) (used_at w page) (cells_under (header_in w page))))
-    x.scanned
+    ap (λ (b : Bool). times n (if b then [] else words_of_cells page (words_under (header_in w page)) (used_at w page)
+    (cells_under (header_in w page)))) x.scanned
     ∙ cells_once page (words_under (header_in w page)) (used_at w page) (cells_under (header_in w page)) n x.cell
 
 pub pages_found : (w : Words) (pages n : ℕ) → times n (words_below w pages) ≢ 0
@@ -250,14 +243,12 @@ module _ {X : Type 0} (t : X → Bool) (first words : X → ℕ) where
       → times n (all_words xs) ≡ count_by (λ x. t x && is_in_range (first x) (words x) n) xs
   times_in_all n [] = refl
   times_in_all n (x ∷ xs) =
-      times_in_both n (words_if (t x) (first x) (words x)) (all_words xs)
-      ∙ ap (λ k. k + times n (all_words xs)) (by (t x))
-      ∙ ap (λ k. cond (t x && is_in_range (first x) (words x) n) 1 0 + k) (times_in_all n xs)
+      times_in_both n (words_if (t x) (first x) (words x)) (all_words xs) ∙ ap (λ k. k + times n (all_words xs))
+      (by (t x)) ∙ ap (λ k. cond (t x && is_in_range (first x) (words x) n) 1 0 + k) (times_in_all n xs)
       ∙ sym (sum_by-cons (λ y. cond (t y && is_in_range (first y) (words y) n) 1 0) x xs)
     where
       by : (b : Bool) → times n (words_if b (first x) (words x)) ≡ cond (b && is_in_range (first x) (words x) n) 1 0
-      by true = times_in_range (first x) (words x) n
-      by false = refl
+      by x0 = grind (arith, times_in_range)
 
   pub length_of_all : (xs : List X) → length (all_words xs) ≡ sum_by words (filter t xs)
   length_of_all [] = refl
@@ -266,8 +257,7 @@ module _ {X : Type 0} (t : X → Bool) (first words : X → ℕ) where
     where
       by : (b : Bool) → length (words_if b (first x) (words x)) + sum_by words (filter t xs)
           ≡ sum_by words (if b then x ∷ filter t xs else filter t xs)
-      by true = grind (arith, length-range_with_len, sum_by-cons)
-      by false = let e : 0 + sum_by words (filter t xs) ≡ sum_by words (filter t xs) = omega arith in e
+      by x0 = grind (arith, length-range_with_len, sum_by-cons)
 
 -- Lists in which each number stands as often are as long.
 

@@ -1,6 +1,6 @@
 -- The kinds of steps in the parts of a sweeping cycle; and what is swept where values and allocations are the same.
-use Rattle.mk_laws.proofs.Vocabulary.{Bool, List, ℕ, ap, false, is_close, is_release, refl, slice_index, subst, sym}
-use Rattle.mk_laws.proofs.{Vocabulary.{true, true≢false, ◌∙◌, ◌≡◌}, Actors.is_holders}
+use Rattle.mk_laws.proofs.Vocabulary.{Bool, List, ℕ, ap, arith, false, is_close, is_release, slice_index, subst, sym}
+use Rattle.mk_laws.proofs.{Vocabulary.{true, ◌∙◌, ◌≡◌}, Actors.is_holders}
 use Rattle.mk_sweep.proofs.Vocabulary.{Config, InGlobal, InRegister, InWord, IsScannedWord, IsSwept, IsSweptValue}
 use Rattle.mk_sweep.proofs.Vocabulary.{PlacedAllocation, Step, World, is_tracing}
 use Rattle.mk_sweep.proofs.BesideTurn.{LeaveTheMarks, LeaveTheTurn}
@@ -36,16 +36,13 @@ abbrev pub no_kind : Step → Bool
 no_kind x = false
 
 pub holding_leaves_turn : LeaveTheTurn holds_gates
-holding_leaves_turn c w seat (Step.Look x) is = refl
-holding_leaves_turn c w seat _ is = cc
+holding_leaves_turn c w seat x3 is = grind arith
 
 pub holding_leaves_marks : LeaveTheMarks holds_gates
-holding_leaves_marks c w seat (Step.Look x) is = refl
-holding_leaves_marks c w seat _ is = cc
+holding_leaves_marks c w seat x3 is = grind arith
 
 pub tracing_leaves_turn : LeaveTheTurn is_tracing
-tracing_leaves_turn c w seat (Step.Look x) is = refl
-tracing_leaves_turn c w seat _ is = cc
+tracing_leaves_turn c w seat x3 is = grind arith
 
 pub nothing_leaves_turn : LeaveTheTurn no_kind
 nothing_leaves_turn c w seat x is = cc
@@ -54,20 +51,16 @@ pub nothing_leaves_marks : LeaveTheMarks no_kind
 nothing_leaves_marks c w seat x is = cc
 
 pub close_of_holder : (x : Step) → is_close x ≡ true → is_holders x ≡ true
-close_of_holder Step.Close is = refl
-close_of_holder _ is = cc
+close_of_holder x0 is = grind arith
 
 pub release_of_holder : (x : Step) → is_release x ≡ true → is_holders x ≡ true
-release_of_holder Step.Release is = refl
-release_of_holder _ is = cc
+release_of_holder x0 is = grind arith
 
 -- kinds without a `close`, and without a `release`
 
 pub close_apart : (kinds : Step → Bool) → kinds Step.Close ≡ false → (x : Step) → kinds x ≡ true → is_close x ≡ false
-close_apart kinds none Step.Close is = absurd (true≢false (sym is ∙ none))
-close_apart kinds none _ is = refl
+close_apart kinds none x2 is = grind arith
 
 pub release_apart : (kinds : Step → Bool) → kinds Step.Release ≡ false → (x : Step) → kinds x ≡ true
     → is_release x ≡ false
-release_apart kinds none Step.Release is = absurd (true≢false (sym is ∙ none))
-release_apart kinds none _ is = refl
+release_apart kinds none x2 is = grind arith

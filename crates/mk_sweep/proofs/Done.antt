@@ -1,12 +1,12 @@
 -- Which heap words were looked at: in parts, and by one step.
 use Rattle.std.proofs.lemmas.List.{append_cancel_left}
 use Rattle.mk_sweep.proofs.Vocabulary.{Config, Event, Has, Moment, PassState, Step, event_of, heap_looks}
-use Rattle.mk_laws.proofs.Vocabulary.{Bool, List, Word, and_parts, ap, append-nil, append_assoc, refl, sym, true, []}
+use Rattle.mk_laws.proofs.Vocabulary.{Bool, List, and_parts, ap, append-nil, append_assoc, arith, refl, sym, true, []}
 use Rattle.mk_laws.proofs.Vocabulary.{◌++◌, ◌∙◌, ◌∷◌, ◌≡◌}
 use Rattle.mk_core.specs.Growing.{Finding, own_from}
 use Rattle.mk_sweep.specs.Sweeping.{word_looked_at, words_looked_at}
-use Rattle.mk_tracing.{proofs.Parts.{done_by_one}, specs.Tracing.{is_waiting}}
-use Rattle.mk_turns.{proofs.Doing.{done_in_parts}, specs.Doing.{Does, are_of, done_in}}
+use Rattle.mk_tracing.{proofs.Parts.done_by_one, specs.Tracing.is_waiting}
+use Rattle.mk_turns.{proofs.Doing.done_in_parts, specs.Doing.Does, specs.Doing.are_of, specs.Doing.done_in}
 use Rattle.mk_words.specs.Steps.{Makes}
 
 looked_at_in_parts : (xs ys : List Finding) → words_looked_at (xs ++ ys) ≡ words_looked_at xs ++ words_looked_at ys
@@ -30,13 +30,11 @@ looks_of_nothing {p} d =
 pub looks_in_parts : {kinds more both : Step → Bool} {p q r : PassState} (d : Does kinds p q) (e : Does more q r)
     (f : Does both p r) → heap_looks f ≡ heap_looks d ++ heap_looks e
 looks_in_parts {p} {r} d e f =
-    ap (λ (es : List Event). words_looked_at (done_in p es)) (done_is f (d.more ++ e.more) whole)
+    ap (λ (es : List Event). words_looked_at (done_in p es)) (done_is f (d.more ++ e.more)
+    (cc (e.is, d.is, append_assoc p.seen d.more e.more)))
     ∙ ap words_looked_at (done_in_parts p d.more e.more)
     ∙ looked_at_in_parts (done_in p d.more) (done_in (record p { seen = p.seen ++ d.more }) e.more)
     ∙ ap (λ (x : PassState). heap_looks d ++ words_looked_at (done_in x e.more)) (sym d.is)
-  where
-    whole : r ≡ record p { seen = p.seen ++ (d.more ++ e.more) }
-    whole = cc (e.is, d.is, append_assoc p.seen d.more e.more)
 
 no_rule : Config → Moment → Step → Type 0
 no_rule c m s = ⊥
@@ -56,8 +54,7 @@ looks_of_step {kinds} {p} {q} {s} m d has =
 -- Waiting for the markers looks at none.
 
 none_waiting : (s : Step) → is_waiting s ≡ true → word_looked_at s ≡ []
-none_waiting (Step.Look (Word.Heap n)) h = cc
-none_waiting _ h = refl
+none_waiting x0 h = grind arith
 
 none_waited : (xs : List Finding) → are_of is_waiting xs ≡ true → words_looked_at xs ≡ []
 none_waited [] h = refl

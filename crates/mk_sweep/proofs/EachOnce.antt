@@ -104,6 +104,5 @@ module _ {c : Config} {es : List Event} (h : IsHistory c es) (settled : IsSettle
 
   pub as_many : length (words_below (left c es).now.words c.pages) ≡ scanned_words c (left c es).allocations
   as_many =
-      same_length (64 * c.pages) _ (all_words _ (λ a. a.base) _ xs) within
-      (λ n. counted n ∙ sym (times_in_all (is_scanned_allocation c) (λ a. a.base) (storage_words c) n xs))
-      ∙ length_of_all _ (λ a. a.base) _ xs
+      same_length (64 * c.pages) _ (all_words _ (λ a. a.base) _ xs) within (λ n. counted n ∙ sym (times_in_all
+      (is_scanned_allocation c) (λ a. a.base) (storage_words c) n xs)) ∙ length_of_all _ (λ a. a.base) _ xs

@@ -1,15 +1,15 @@
 -- What is swept at the closes of two small cycles: by a register, by a word of a reached object, by a word of one that
 -- nothing reaches, and not at all.
 use Rattle.std.specs.List.{list_all}
-use Rattle.mk_sweep.proofs.Vocabulary.{Config, Event, InGlobal, InRegister, InWord, IsSwept, IsSweptValue, Step, World}
-use Rattle.mk_sweep.proofs.Vocabulary.{left, placed_at}
-use Rattle.mk_laws.proofs.Vocabulary.{Bool, List, None, Op, Some, Tally, Word, ℕ, and_parts, false, false≢true}
-use Rattle.mk_laws.proofs.Vocabulary.{leb-true, ltb-true, refl, slice_index, small, subst, suc, true, zero, [], ◌&&◌}
-use Rattle.mk_laws.proofs.Vocabulary.{◌++◌, ◌∷◌, ◌≡◌}
+use Rattle.mk_sweep.proofs.Vocabulary.{Config, Event, InRegister, InWord, IsSwept, IsSweptValue, Step, World, left}
+use Rattle.mk_sweep.proofs.Vocabulary.{placed_at}
+use Rattle.mk_laws.proofs.Vocabulary.{Bool, List, None, Op, Some, Tally, Word, ℕ, and_parts, arith, false, false≢true}
+use Rattle.mk_laws.proofs.Vocabulary.{leb-true, ltb-true, refl, slice_index, small, suc, true, zero, [], ◌&&◌, ◌++◌}
+use Rattle.mk_laws.proofs.Vocabulary.{◌∷◌, ◌≡◌}
 use Rattle.mk_core.proofs.Schedules.{by, c0, fault, first_fault, host, pointer_page}
 use Rattle.mk_core.proofs.SmallCycles.{begun_in_stop, by_host, marked_in_stop, three_objects}
-use Rattle.mk_core.proofs.{EvaluatedReach.below_two, ListTests.{list_all-at, numbered_all}, MoreSchedules.exchanged}
-use Rattle.mk_core.proofs.TouchedTests.{is_into_members, points_into}
+use Rattle.mk_core.proofs.{EvaluatedReach.below_two, ListTests.list_all-at, ListTests.numbered_all}
+use Rattle.mk_core.proofs.{MoreSchedules.exchanged, TouchedTests.is_into_members, TouchedTests.points_into}
 use Rattle.mk_core.specs.{Bounded.all_below, Cells.pointed_cell, History.left_from, StopConditions.may_turn_black}
 
 -- Whatever these words point into is a member of the set: as a test.
@@ -36,9 +36,7 @@ module _ (c : Config) (w : World) (S : ℕ → Bool) (h : all_are_into c w S ≡
   global_into g = list_all-at (is_into_members c w S) w.now.words.globals 0 roots.1 refl g
 
   value_into : {u : ℕ} → IsSweptValue c w u → is_into_members c w S u ≡ true
-  value_into (InRegister i is) = subst (λ (v : ℕ). is_into_members c w S v ≡ true) is (register_into i)
-  value_into (InGlobal g is) = subst (λ (v : ℕ). is_into_members c w S v ≡ true) is (global_into g)
-  value_into (InWord n scanned is) = cc (is, list_all-at (is_into_members c w S) w.now.words.heap 0 outer.1 refl n)
+  value_into x0 = grind (arith, is_into_members, register_into, global_into, list_all-at, outer)
 
   pub swept_by_test : {b : ℕ} → IsSwept c w b → S b ≡ true
   swept_by_test {b} swept = points_into c w S swept.value b (value_into swept.found) swept.points
@@ -75,18 +73,16 @@ third_is_not_swept swept = false≢true (swept_by_test small stopped below_two s
 
 unfoldable pub two_unreached : List Event
 two_unreached =
-    exchanged
-    ++ by c0 (Step.Take (Some (Op.Free 0)) ∷ Step.Reg ∷ Step.Quar 0 1 ∷ Step.Tally Tally.Fresh 2 ∷ Step.Give ∷ [])
-    ++ by c0 (Step.Take (Some (Op.Free 1)) ∷ Step.Reg ∷ Step.Quar 0 3 ∷ Step.Tally Tally.Fresh 4 ∷ Step.Give ∷ [])
-    ++ by c0 (Step.Enter (Op.Clear 0) ∷ Step.Reg ∷ Step.Leave ∷ [])
-    ++ by c0 (Step.Enter (Op.Clear 1) ∷ Step.Reg ∷ Step.Leave ∷ [])
+    exchanged ++ by c0 (Step.Take (Some (Op.Free 0)) ∷ Step.Reg ∷ Step.Quar 0 1 ∷ Step.Tally Tally.Fresh 2 ∷ Step.Give ∷
+    []) ++ by c0 (Step.Take (Some (Op.Free 1)) ∷ Step.Reg ∷ Step.Quar 0 3 ∷ Step.Tally Tally.Fresh 4 ∷ Step.Give ∷ [])
+    ++ by c0 (Step.Enter (Op.Clear 0) ∷ Step.Reg ∷ Step.Leave ∷ []) ++ by c0
+    (Step.Enter (Op.Clear 1) ∷ Step.Reg ∷ Step.Leave ∷ [])
 
 -- The stop looks at the words of both, and marks the second.
 unfoldable pub swept_in_stop : List Event
 swept_in_stop =
-    two_unreached
-    ++ by host (Step.Take None ∷ Step.Hold 0 ∷ Step.Quar 0 12884901891 ∷ Step.Tally Tally.Fresh 0 ∷ Step.Undirty 0 ∷
-    Step.Begin ∷ Step.Want ∷ Step.Look (Word.Heap 0) ∷ Step.Mark 0 2 ∷ Step.Black 0 2 ∷ [])
+    two_unreached ++ by host (Step.Take None ∷ Step.Hold 0 ∷ Step.Quar 0 12884901891 ∷ Step.Tally Tally.Fresh 0 ∷
+    Step.Undirty 0 ∷ Step.Begin ∷ Step.Want ∷ Step.Look (Word.Heap 0) ∷ Step.Mark 0 2 ∷ Step.Black 0 2 ∷ [])
 
 unfoldable pub released_unswept : List Event
 released_unswept = swept_in_stop ++ by host (Step.Close ∷ Step.Release ∷ [])

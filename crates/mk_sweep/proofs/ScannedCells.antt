@@ -3,17 +3,17 @@ use Rattle.mk_sweep.proofs.Vocabulary.{Cell, Config, Event, IsHistory, IsScanned
 use Rattle.mk_sweep.proofs.Vocabulary.{World, cell_of_allocation, cell_words, cells_under, first_word, has_bit}
 use Rattle.mk_sweep.proofs.Vocabulary.{has_no_pointers, header_at, header_in, header_of, is_mapped, is_phase, left}
 use Rattle.mk_sweep.proofs.Vocabulary.{never_behind, phase_of, placed_at, storage_of, storage_words, used_at}
-use Rattle.mk_laws.proofs.Vocabulary.{Among, Bool, Chosen, Claim, Granted, HasHeader, Invariant, IsClaimed, IsShown}
-use Rattle.mk_laws.proofs.Vocabulary.{IsSized, IsWordOf, List, None, Object, Placing, ShowsPart, Unplaced, Used, ℕ}
-use Rattle.mk_laws.proofs.Vocabulary.{and_from, and_parts, ap, append-nil, arith, cells_begin, claim_of, claims_of}
-use Rattle.mk_laws.proofs.Vocabulary.{claims_on, claims_placed, eq-eqb, false, first_page_shows, ground_of, has_place}
-use Rattle.mk_laws.proofs.Vocabulary.{header_made, header_on, heads_run, inl, inr, is_freed, is_large, is_released_in}
-use Rattle.mk_laws.proofs.Vocabulary.{is_small_object, is_unmapped_header, kinds_of, large_count, large_is_not_small}
-use Rattle.mk_laws.proofs.Vocabulary.{made_is_mapped, not, not-true, object_now, object_placed, pages_made, pages_some}
-use Rattle.mk_laws.proofs.Vocabulary.{part_has_no_pointers, refl, small_heads_none, subst, sym, true, true≢false}
-use Rattle.mk_laws.proofs.Vocabulary.{typed_size, unmapped_is_unmapped, words_are_zero, words_within, ◌&&◌, ◌++◌, ◌+◌}
-use Rattle.mk_laws.proofs.{Vocabulary.{◌/◌, ◌<◌, ◌==◌, ◌||◌, ◌∙◌, ◌≡◌, ◌≢◌, ◌⊎◌}, KnownWorlds.{KnownWorld, known_world}}
-use Rattle.mk_laws.proofs.{Claims.{claim_among, claim_is}, FreeCells.free_cells_are_zero, Freed.gone_terrain}
+use Rattle.mk_laws.proofs.Vocabulary.{Among, Bool, Claim, HasHeader, Invariant, IsClaimed, IsShown, IsSized, IsWordOf}
+use Rattle.mk_laws.proofs.Vocabulary.{List, None, Object, Placing, ShowsPart, ℕ, and_from, and_parts, ap, append-nil}
+use Rattle.mk_laws.proofs.Vocabulary.{arith, cells_begin, claim_of, claims_of, claims_on, claims_placed, eq-eqb, false}
+use Rattle.mk_laws.proofs.Vocabulary.{first_page_shows, ground_of, has_place, header_made, header_on, heads_run, inl}
+use Rattle.mk_laws.proofs.Vocabulary.{inr, is_freed, is_large, is_released_in, is_small_object, is_unmapped_header}
+use Rattle.mk_laws.proofs.Vocabulary.{kinds_of, large_count, large_is_not_small, made_is_mapped, not, not-true}
+use Rattle.mk_laws.proofs.Vocabulary.{object_now, object_placed, pages_made, pages_some, part_has_no_pointers, refl}
+use Rattle.mk_laws.proofs.Vocabulary.{small_heads_none, subst, sym, true, true≢false, typed_size, unmapped_is_unmapped}
+use Rattle.mk_laws.proofs.Vocabulary.{words_are_zero, words_within, ◌&&◌, ◌++◌, ◌+◌, ◌/◌, ◌<◌, ◌==◌, ◌||◌, ◌∙◌, ◌≡◌}
+use Rattle.mk_laws.proofs.{Vocabulary.{◌≢◌, ◌⊎◌}, KnownWorlds.{KnownWorld, known_world}, Claims.{claim_among, claim_is}}
+use Rattle.mk_laws.proofs.{FreeCells.free_cells_are_zero, Freed.gone_terrain}
 use Rattle.mk_laws.proofs.{InvariantHistories.histories_keep_the_invariant, InvariantTheorems.allocations_stand}
 use Rattle.mk_laws.proofs.{MappedWords.mapped_stays, ReadingsStands.freed_cell, Serving.{Laid, own_claim}}
 use Rattle.mk_laws.proofs.{Settled.{unmapped_run, unreleased_are_apart}, TellGuard.guard_in}
@@ -37,22 +37,15 @@ pub record StandsScanned (c : Config) (w : World) (a : PlacedAllocation) : Type 
   pub words : cell_words w.now.words (cell_of_allocation c a) ≡ storage_words c a
 
 neither : (a b : Bool) → (a || b) ≡ false → (a ≡ false) × (b ≡ false)
-neither true b h = absurd (true≢false h)
-neither false b h = (refl, h)
+neither x0 b h = grind arith
 
 -- No New has a place, so the claims are those of allocations.
 unplaced_claims : (c : Config) (o : Object) (placing : Placing) (xs : List Claim) (x : Claim) → has_place placing ≡
     false → Among x (xs ++ claims_placed o placing) → Among x xs
-unplaced_claims c o Unplaced xs x none among = subst (Among x) (append-nil xs) among
-unplaced_claims c o Granted xs x none among = subst (Among x) (append-nil xs) among
-unplaced_claims c o (Chosen place) xs x none among = absurd (true≢false none)
-unplaced_claims c o (Used place) xs x none among = absurd (true≢false none)
+unplaced_claims c o x2 xs x none among = grind (arith, append-nil)
 
 none_ungranted : (placing : Placing) (cell : Cell) → has_place placing ≡ false → is_ungranted placing cell ≡ false
-none_ungranted Unplaced cell none = refl
-none_ungranted Granted cell none = refl
-none_ungranted (Chosen place) cell none = absurd (true≢false none)
-none_ungranted (Used place) cell none = absurd (true≢false none)
+none_ungranted x0 cell none = grind arith
 
 module _ (c : Config) (es : List Event) (h : IsHistory c es) (settled : IsSettled (left c es)) where
   abbrev w : World
@@ -75,9 +68,8 @@ module _ (c : Config) (es : List Event) (h : IsHistory c es) (settled : IsSettle
       → IsCellOf c (left c es).allocations (record { page = p; index = k })
   used_is_taken p k bit = by (all.order.laid.scene.used p k bit).1
     where
-      by : IsClaimed (claims_on c (object_now c w.now) (ground_of w)) p k
-          ⊎ (is_released_in (is_phase w.now.words 4) w.now.words.snapshot w.now.words.marks p k ≡ true)
-          → IsCellOf c xs (record { page = p; index = k })
+      by : IsClaimed (claims_on c (object_now c w.now) (ground_of w)) p k ⊎ (is_released_in (is_phase w.now.words 4)
+          w.now.words.snapshot w.now.words.marks p k ≡ true) → IsCellOf c xs (record { page = p; index = k })
       by (inl o) =
           let among = unplaced_claims c (object_now c w.now) w.now.seats.holding.placing
           (claims_of c w.now.seats.holding.freed xs) o.claim settled.placing o.among in
@@ -86,9 +78,8 @@ module _ (c : Config) (es : List Event) (h : IsHistory c es) (settled : IsSettle
             number = x.number;
             unreleased = x.unreleased;
             is =
-                ap (λ (y : Claim). record { page = y.page; index = y.index }) (sym x.is)
-                ∙ ap (λ (i : ℕ). record { page = i; index = o.claim.index }) o.page
-                ∙ ap (λ (i : ℕ). record { page = p; index = i }) o.index;
+                ap (λ (y : Claim). record { page = y.page; index = y.index }) (sym x.is) ∙ ap (λ (i : ℕ). record
+                { page = i; index = o.claim.index }) o.page ∙ ap (λ (i : ℕ). record { page = p; index = i }) o.index;
           }
       by (inr r) = grind arith
 
@@ -115,13 +106,11 @@ module _ (c : Config) (es : List Event) (h : IsHistory c es) (settled : IsSettle
   shown : (i : ℕ) → (placed_at (left c es).allocations i).released ≡ false
       → IsShown (left c es).now.words.pages (claim_of c None (placed_at (left c es).allocations i))
   shown i u =
-      rested.scene.shown (claim_of c None (placed_at xs i))
-      (own_claim c (object_now c w.now) (record (ground_of w) { run = None }) (claim_of c None (placed_at xs i))
-      (claim_among c None xs i u))
+      rested.scene.shown (claim_of c None (placed_at xs i)) (own_claim c (object_now c w.now)
+      (record (ground_of w) { run = None }) (claim_of c None (placed_at xs i)) (claim_among c None xs i u))
 
-  freed_is_unmapped : (i : ℕ) → (placed_at (left c es).allocations i).released ≡ false
-      → ((placed_at (left c es).allocations i).freed && not (is_small_object (object_placed c
-      (placed_at (left c es).allocations i)))) ≡ true
+  freed_is_unmapped : (i : ℕ) → (placed_at (left c es).allocations i).released ≡ false → ((placed_at (left c
+      es).allocations i).freed && not (is_small_object (object_placed c (placed_at (left c es).allocations i)))) ≡ true
       → is_unmapped_header (header_in (left c es).now.words ((placed_at (left c es).allocations i).base / 64)) ≡ true
   freed_is_unmapped i u gone =
       let a : PlacedAllocation = placed_at xs i in
@@ -131,15 +120,9 @@ module _ (c : Config) (es : List Event) (h : IsHistory c es) (settled : IsSettle
       let here : a.base / 64 + 0 ≡ a.base / 64 = omega arith in
       cc (here, has.1, unmapped_is_unmapped (pages_made o) 0 (large_count o (sized i u) has.0) (omega arith))
 
-  mapped_where_shown : (i : ℕ) → (placed_at (left c es).allocations i).released ≡ false
-      → is_unmapped_header (header_in (left c es).now.words ((placed_at (left c es).allocations i).base / 64)) ≡ false
-      → is_mapped c (placed_at (left c es).allocations i) ≡ true
-  mapped_where_shown i u mapped = grind (arith, xs, and_from, large_is_not_small, freed_is_unmapped)
-
   -- So the used cell of a scanned page is that of a mapped allocation that isn't leaf,
-  pub used_cell : (p k : ℕ) → has_bit (used_at (left c es).now.words p) k ≡ true
-      → has_no_pointers (header_in (left c es).now.words p) ≡ false
-      → OfScanned c (left c es).allocations (record { page = p; index = k })
+  pub used_cell : (p k : ℕ) → has_bit (used_at (left c es).now.words p) k ≡ true → has_no_pointers
+      (header_in (left c es).now.words p) ≡ false → OfScanned c (left c es).allocations (record { page = p; index = k })
   used_cell p k bit scanned =
       let x = used_is_taken p k bit in
       let a : PlacedAllocation = placed_at xs x.number in
@@ -150,7 +133,7 @@ module _ (c : Config) (es : List Event) (h : IsHistory c es) (settled : IsSettle
       record {
         number = x.number;
         scanned = and_from (is_mapped c a) (not (storage_of c a).leaf)
-            (mapped_where_shown x.number x.unreleased sort.1) (ap not sort.0);
+            (grind (arith, xs, and_from, large_is_not_small, freed_is_unmapped)) (ap not sort.0);
         is = x.is;
       }
 
@@ -241,14 +224,12 @@ module _ (c : Config) (es : List Event) (h : IsHistory c es) (settled : IsSettle
           absurd (true≢false (sym e ∙ none))
         where
           is_small : (b : Bool) → not b ≡ false → b ≡ true
-          is_small true e = refl
-          is_small false e = absurd (true≢false e)
+          is_small x0 e = grind arith
 
   -- Words of a cell that isn't used are 0.
   pub unused_is_zero : (cell : Cell) → cell.index < cells_under (header_in (left c es).now.words cell.page)
-      → is_used (left c es).now.words cell ≡ false
-      → words_are_zero (left c es).now.words (first_word (left c es).now.words cell) (cell_words (left c
-      es).now.words cell) ≡ true
+      → is_used (left c es).now.words cell ≡ false → words_are_zero (left c es).now.words
+      (first_word (left c es).now.words cell) (cell_words (left c es).now.words cell) ≡ true
   unused_is_zero cell in_range none =
       free_cells_are_zero c es h quiet cell in_range (λ t.
       let a : PlacedAllocation = placed_at xs t.number in

@@ -1,14 +1,14 @@
 -- A whole cycle with one sweep releases what isn't swept, where the seats of all markers are in the pass of the turn.
 use Rattle.mk_sweep.proofs.Vocabulary.{AreOfOthers, Cell, Config, Event, Has, HasMarkers, Holds, IsEnabledTo, IsHistory}
-use Rattle.mk_sweep.proofs.Vocabulary.{IsSwept, PassState, PlacedAllocation, Seat, Steady, Step, Sweeps, Untouched}
-use Rattle.mk_sweep.proofs.Vocabulary.{World, before_release, cell_of_allocation, is_marked, is_tracing, left}
-use Rattle.mk_sweep.proofs.Vocabulary.{others_are_held, phase_of, placed_at, untouched_of}
-use Rattle.mk_sweep.proofs.BesideTurn.{IsOf, PartOfTurn, holds_still, leave_first, leave_in_parts, left_unmarked_by}
-use Rattle.mk_sweep.proofs.BesideTurn.{none_marks, none_of_kind, others_mark_none, still_holds}
-use Rattle.mk_sweep.proofs.CycleParts.{close_apart, close_of_holder, holding_leaves_marks, holding_leaves_turn, no_kind}
-use Rattle.mk_sweep.proofs.CycleParts.{nothing_leaves_marks, nothing_leaves_turn, release_apart, release_of_holder}
-use Rattle.mk_sweep.proofs.{CycleParts.{swept_alike, tracing_leaves_turn}, UnsweptReleased.unswept_is_released}
-use Rattle.mk_laws.proofs.Vocabulary.{Bool, IsLeft, List, Releasing, Written, ℕ, and_parts, ap, append_assoc}
+use Rattle.mk_sweep.proofs.Vocabulary.{IsSwept, PassState, PlacedAllocation, Seat, Step, Sweeps, World, before_release}
+use Rattle.mk_sweep.proofs.Vocabulary.{cell_of_allocation, is_marked, is_tracing, left, others_are_held, phase_of}
+use Rattle.mk_sweep.proofs.{Vocabulary.placed_at, BesideTurn.{IsOf, PartOfTurn, holds_still, leave_first}}
+use Rattle.mk_sweep.proofs.BesideTurn.{leave_in_parts, left_unmarked_by, none_marks, none_of_kind, others_mark_none}
+use Rattle.mk_sweep.proofs.{BesideTurn.still_holds, CycleParts.{close_apart, close_of_holder, holding_leaves_marks}}
+use Rattle.mk_sweep.proofs.CycleParts.{holding_leaves_turn, no_kind, nothing_leaves_marks, nothing_leaves_turn}
+use Rattle.mk_sweep.proofs.CycleParts.{release_apart, release_of_holder, swept_alike, tracing_leaves_turn}
+use Rattle.mk_sweep.{proofs.UnsweptReleased.{unswept_is_released}, specs.Unswept.{LeaveUnmarked, OthersLeaveUnmarked}}
+use Rattle.mk_laws.proofs.Vocabulary.{Bool, IsLeft, List, Releasing, ℕ, and_parts, ap, append_assoc, arith}
 use Rattle.mk_laws.proofs.Vocabulary.{before_close, earlier_part_is_history, enabled_in_parts, enabled_meets, false}
 use Rattle.mk_laws.proofs.Vocabulary.{false_from_ne_true, is_close, is_release, left_from, left_in_parts, not, not-true}
 use Rattle.mk_laws.proofs.Vocabulary.{refl, subst, sym, true, [], ◌++◌, ◌∙◌, ◌∷◌, ◌≡◌}
@@ -17,9 +17,8 @@ use Rattle.mk_laws.proofs.{FramesHolders.{acts_as_holder, holds_is}, Known.{Know
 use Rattle.mk_laws.proofs.{LastEvents.{ComesLast, comes_last}, OneStep.precise_begun, OrderlyLists.actor_of}
 use Rattle.mk_laws.proofs.{OthersMoves.WorldBehind, Precise.IsPrecise, ProtocolFrames.others_leave}
 use Rattle.mk_laws.{proofs.Stretches.{None_of, none_joined}, specs.Releases.{allocation_behind}}
-use Rattle.mk_core.specs.{Cycles.IsInSnapshot, Frames.written_of}
+use Rattle.mk_core.specs.Cycles.{IsInSnapshot}
 use Rattle.mk_cycle.{proofs.GivingAll.{held_phase}, specs.{Holding.HoldsGates, Kinds.holds_gates}}
-use Rattle.mk_sweep.specs.Unswept.{LeaveUnmarked, OthersLeaveUnmarked}
 use Rattle.mk_tracing.{proofs.Parts.{kinds_keep, others_keep}, specs.Tracing.{OwnStepsKeep}}
 use Rattle.mk_turns.{proofs.Doing.{others_are_so}, specs.Doing.{AreOwnOrOfOthers}}
 use Rattle.mk_words.proofs.Seats.{others_own}
@@ -100,11 +99,8 @@ module _ {p : PassState} {looks : ℕ} {es : List Event} (has : Has p.seats p.se
   closing_history : IsHistory c closing
   closing_history = earlier_part_is_history c closing (close ∷ []) closed_history
 
-  swept_history : IsHistory c k.swept
-  swept_history = earlier_part_is_history c k.swept k.waited closing_history
-
   sweeping_history : IsHistory c (k.held ++ sweeping)
-  sweeping_history = subst (IsHistory c) swept_is swept_history
+  sweeping_history = subst (IsHistory c) swept_is (earlier_part_is_history c k.swept k.waited closing_history)
 
   held_history : IsHistory c k.held
   held_history = earlier_part_is_history c k.held sweeping sweeping_history
@@ -160,9 +156,7 @@ module _ {p : PassState} {looks : ℕ} {es : List Event} (has : Has p.seats p.se
   held_world = ap (left c) held_is ∙ left_in_parts c start holding
 
   held_holds : Holds c (left c k.held).now s
-  held_holds =
-      subst (λ (w : World). Holds c w.now s) (sym held_world)
-      (still_holds holds_gates holding_leaves_turn c s p.seats holding_part)
+  held_holds = grind (arith, held_world, still_holds, holding_leaves_turn, holding_part, Holds)
 
   sweeping_part : PartOfTurn is_tracing c s p.seats (left c k.held) sweeping
   sweeping_part =
@@ -170,9 +164,7 @@ module _ {p : PassState} {looks : ℕ} {es : List Event} (has : Has p.seats p.se
       (kinds_keep is_tracing (IsOf is_tracing) c s _ sweeping (λ m x is. is) k.sweeps.traces.does.of_kinds)
 
   swept_holds : Holds c (left c k.swept).now s
-  swept_holds =
-      subst (λ (w : World). Holds c w.now s) (sym (ap (left c) swept_is ∙ left_in_parts c k.held sweeping))
-      (still_holds is_tracing tracing_leaves_turn c s p.seats sweeping_part)
+  swept_holds = grind (arith, swept_is, left_in_parts, sweeping, still_holds, tracing_leaves_turn, sweeping_part, Holds)
 
   -- a part in which the holder does nothing
   others_part : (xs more : List Event) → IsHistory c (xs ++ more) → Holds c (left c xs).now s
@@ -184,18 +176,15 @@ module _ {p : PassState} {looks : ℕ} {es : List Event} (has : Has p.seats p.se
   waiting_part : PartOfTurn no_kind c s p.seats (left c k.swept) k.waited
   waiting_part = others_part k.swept k.waited closing_history swept_holds k.while_waiting
 
-  closing_holds : Holds c (left c closing).now s
-  closing_holds =
-      subst (λ (w : World). Holds c w.now s) (sym (left_in_parts c k.swept k.waited))
-      (still_holds no_kind nothing_leaves_turn c s p.seats waiting_part)
-
   last_close : ComesLast c closing close
   last_close = comes_last c closing close closed_history
 
   closed_holds : Holds c (left c closed).now s
   closed_holds =
       holds_still s (left c closing) (left c closed) (known closing_history) (known closed_history)
-      (ap (λ (w : World). w.now.words.turn) last_close.leaves) closing_holds
+      (ap (λ (w : World). w.now.words.turn) last_close.leaves)
+      (subst (λ (w : World). Holds c w.now s) (sym (left_in_parts c k.swept k.waited))
+      (still_holds no_kind nothing_leaves_turn c s p.seats waiting_part))
 
   stopped_part : PartOfTurn no_kind c s p.seats (left c closed) k.stopped
   stopped_part = others_part closed k.stopped stopped_history closed_holds k.while_stopped
@@ -207,11 +196,22 @@ module _ {p : PassState} {looks : ℕ} {es : List Event} (has : Has p.seats p.se
 
   pub closes_none : None_of is_close marking
   closes_none =
-      none_joined is_close holding (sweeping ++ k.waited) (none_of_kind holds_gates holding_leaves_turn c s _ is_close
-      close_of_holder (close_apart holds_gates refl) holding_part) (none_joined is_close sweeping k.waited
-      (none_of_kind is_tracing tracing_leaves_turn c s _ is_close close_of_holder
-      (close_apart is_tracing refl) sweeping_part)
-      (none_of_kind no_kind nothing_leaves_turn c s _ is_close close_of_holder (λ x is. cc) waiting_part))
+      grind (
+        arith,
+        none_joined,
+        holding,
+        sweeping,
+        none_of_kind,
+        holding_leaves_turn,
+        close_of_holder,
+        close_apart,
+        holding_part,
+        tracing_leaves_turn,
+        sweeping_part,
+        no_kind,
+        nothing_leaves_turn,
+        waiting_part,
+      )
 
   pub releases_none : None_of is_release k.stopped
   releases_none =
@@ -220,23 +220,20 @@ module _ {p : PassState} {looks : ℕ} {es : List Event} (has : Has p.seats p.se
   holding_keeps : None_of is_release holding
   holding_keeps =
       none_of_kind holds_gates holding_leaves_turn c s p.seats is_release release_of_holder
-      (release_apart holds_gates refl)
-      holding_part
+      (release_apart holds_gates refl) holding_part
 
   -- the cycle
 
   closing_is : closing ≡ start ++ marking
   closing_is =
       ap (λ (xs : List Event). xs ++ k.waited) (swept_is ∙ ap (λ (xs : List Event). xs ++ sweeping) held_is)
-      ∙ ap (λ (xs : List Event). xs ++ k.waited) (append_assoc start holding sweeping)
-      ∙ append_assoc start (holding ++ sweeping) k.waited
-      ∙ ap (λ (xs : List Event). start ++ xs) (append_assoc holding sweeping k.waited)
+      ∙ ap (λ (xs : List Event). xs ++ k.waited) (append_assoc start holding sweeping) ∙ append_assoc start
+      (holding ++ sweeping) k.waited ∙ ap (λ (xs : List Event). start ++ xs) (append_assoc holding sweeping k.waited)
 
   pub begin_is : es ≡ k.front ++ begin ∷ (marking ++ close ∷ (k.stopped ++ release ∷ k.rest))
   begin_is =
-      whole ∙ append_assoc closing (close ∷ []) (k.stopped ++ release ∷ k.rest)
-      ∙ ap (λ (xs : List Event). xs ++ close ∷ (k.stopped ++ release ∷ k.rest)) closing_is
-      ∙ append_assoc start marking (close ∷ (k.stopped ++ release ∷ k.rest))
+      whole ∙ append_assoc closing (close ∷ []) (k.stopped ++ release ∷ k.rest) ∙ ap (λ (xs : List Event). xs ++ close ∷
+      (k.stopped ++ release ∷ k.rest)) closing_is ∙ append_assoc start marking (close ∷ (k.stopped ++ release ∷ k.rest))
       ∙ append_assoc k.front (begin ∷ []) (marking ++ close ∷ (k.stopped ++ release ∷ k.rest))
 
   abbrev pub cycle : Releasing es
@@ -284,19 +281,7 @@ module _ {p : PassState} {looks : ℕ} {es : List Event} (has : Has p.seats p.se
       (others_own p.seats s k.waited has k.while_waiting)
 
   swept_at_close : {i : ℕ} → IsSwept c (left c k.held) i → IsSwept c (left c (before_close cycle.marking)) i
-  swept_at_close {i} x =
-      subst (λ (xs : List Event). IsSwept c (left c xs) i) closing_is (swept_alike (left c closing)
-      (ap (λ (y : Written). y.registers) written ∙ ap (λ (u : Untouched). u.registers) untouched)
-      (ap (λ (y : Written). y.globals) written ∙ ap (λ (u : Untouched). u.globals) untouched)
-      (ap (λ (y : Written). y.heap) written ∙ ap (λ (u : Untouched). u.heap) untouched)
-      (ap (λ (y : Steady). y.allocations) (waited_leaves.turn swept_holds).0.steady
-      ∙ ap (λ (u : Untouched). u.allocations) untouched) x)
-    where
-      written : written_of (left c closing) ≡ written_of (left c k.swept)
-      written = waited_leaves.stop (swept_holds, gates_held)
-
-      untouched : untouched_of (left c k.swept) ≡ untouched_of (left c k.held)
-      untouched = k.sweeps.traces.untouched
+  swept_at_close x = grind (arith, closing_is, swept_alike, closing, waited_leaves, swept_holds, gates_held)
 
   -- The allocation is unreleased as the sweep begins, and its cell is unmarked.
   module _ (i : ℕ) (snapshot : IsInSnapshot c cycle.marking i) where
@@ -343,14 +328,6 @@ module _ {p : PassState} {looks : ℕ} {es : List Event} (has : Has p.seats p.se
         (left_unmarked_by c cell (left c start) holding
         (none_marks holds_gates holding_leaves_turn c s _ cell holding_leaves_marks holding_part) unmarked)
 
-    none_marks_since : LeaveUnmarked c cell (left c k.swept) since_sweep
-    none_marks_since =
-        leave_in_parts c cell _ k.waited (close ∷ k.stopped) (none_marks no_kind nothing_leaves_turn c s _ cell
-        nothing_leaves_marks waiting_part) (subst (λ (w : World). LeaveUnmarked c cell w (close ∷ k.stopped))
-        (left_in_parts c k.swept k.waited) (leave_first c cell (left c closing) close k.stopped (λ was. was)
-        (subst (λ (w : World). LeaveUnmarked c cell w k.stopped) last_close.leaves (none_marks no_kind
-        nothing_leaves_turn c s _ cell nothing_leaves_marks stopped_part))))
-
     pub is_released_by_it : (IsSwept c (left c (before_close cycle.marking)) i → ⊥)
         → (allocation_behind c cycle i).released ≡ true
     is_released_by_it out =
@@ -361,4 +338,9 @@ module _ {p : PassState} {looks : ℕ} {es : List Event} (has : Has p.seats p.se
         (λ x. out (swept_at_close x)) (subst (λ (x : Cell). is_marked (left c k.held).now.words x ≡ false)
         (sym same_cell) unmarked_there) (subst (λ (x : Cell). OthersLeaveUnmarked c s x (left c k.held) sweeping)
         (sym same_cell) (others_mark_none is_tracing tracing_leaves_turn c s p.seats cell sweeping_part))
-        (subst (λ (x : Cell). LeaveUnmarked c x (left c k.swept) since_sweep) (sym same_cell) none_marks_since)
+        (subst (λ (x : Cell). LeaveUnmarked c x (left c k.swept) since_sweep) (sym same_cell)
+        (leave_in_parts c cell _ k.waited (close ∷ k.stopped) (none_marks no_kind nothing_leaves_turn c s _ cell
+        nothing_leaves_marks waiting_part) (subst (λ (w : World). LeaveUnmarked c cell w (close ∷ k.stopped))
+        (left_in_parts c k.swept k.waited) (leave_first c cell (left c closing) close k.stopped (λ was. was)
+        (subst (λ (w : World). LeaveUnmarked c cell w k.stopped) last_close.leaves (none_marks no_kind
+        nothing_leaves_turn c s _ cell nothing_leaves_marks stopped_part))))))

@@ -42,9 +42,7 @@ module _ (c : Config) (v w : World) (same : untouched_of v ≡ untouched_of w) w
   }
 
   pub rule_alike : (m : Moment) (s : Step) → SweepsBy v c m s → SweepsBy w c m s
-  rule_alike m (Step.Look (Word.Heap n)) r = word_alike n r
-  rule_alike m (Step.Mark p k) r = grind (arith, cell_alike)
-  rule_alike m _ r = tt
+  rule_alike m x1 r = grind (arith, word_alike, cell_alike)
 
 -- The sweep goes on, and on.
 
@@ -91,9 +89,8 @@ module _ (t u : TurnState) (sweeping : IsSweeping t.pass)
         table = ap (λ (x : PassState). x.table) a.makes.is;
         sweeping = record {
           wanted = wanted;
-          settled = settled_kept t.pass u.pass
-              (a.makes.is ∙ ap (λ (x : PassState). record t.pass { seen = x.seen }) (sym a.makes.is))
-              traces.untouched wanted.phase sweeping.settled;
+          settled = settled_kept t.pass u.pass (a.makes.is ∙ ap (λ (x : PassState). record t.pass { seen = x.seen })
+              (sym a.makes.is)) traces.untouched wanted.phase sweeping.settled;
         };
         traces = traces;
         looked = looks_of_step a.makes traces.does own;
@@ -192,10 +189,6 @@ module _ (p q : PassState) (sweeping : IsSweeping p) (all : HoldsAll p.table.con
   abbrev cell : Cell
   cell = cell_of_allocation p.table.config (placed_at (world_of p).allocations scanned.number)
 
-  word_pointed : pointed_cell p.table.config.pages (now_of p).words.pages (address_of n)
-      ≡ Some (cell_of_allocation p.table.config (placed_at (world_of p).allocations scanned.number))
-  word_pointed = grind (arith, and_parts, allocations_stand, mapped_stays, word_points)
-
   pub word_named : is_word p.table.config (Word.Heap n) ≡ true
   word_named = grind (arith, and_parts, allocations_stand, mapped_stays, lt-ltb)
 
@@ -213,7 +206,8 @@ module _ (p q : PassState) (sweeping : IsSweeping p) (all : HoldsAll p.table.con
 
     pointed_now : pointed_cell p.table.config.pages (world_at acts.makes).now.words.pages (address_of n)
         ≡ Some (cell_of_allocation p.table.config (placed_at (world_of p).allocations scanned.number))
-    pointed_now = ap (λ (w : Words). pointed_cell p.table.config.pages w.pages (address_of n)) still ∙ word_pointed
+    pointed_now = ap (λ (w : Words). pointed_cell p.table.config.pages w.pages (address_of n)) still ∙
+        (grind (arith, and_parts, allocations_stand, mapped_stays, word_points))
 
     bare_now : has_no_pointers (header_in (world_at acts.makes).now.words
         (cell_of_allocation p.table.config (placed_at (world_of p).allocations scanned.number)).page) ≡ false
@@ -238,9 +232,8 @@ module _ (p q : PassState) (sweeping : IsSweeping p) (all : HoldsAll p.table.con
             ≡ gives false (is_marked m.words cell) true value
         to_cell = cc (pointed_now, bare_now, mapped_now)
 
-        by : (b : Bool) → is_marked m.words cell ≡ b
-            → (h : Hand) × (hand_given p.table.config (world_at acts.makes).now p.seat (Word.Heap n) value ≡ Some h)
-            × (h.value ≡ value)
+        by : (b : Bool) → is_marked m.words cell ≡ b → (h : Hand) × (hand_given p.table.config
+            (world_at acts.makes).now p.seat (Word.Heap n) value ≡ Some h) × (h.value ≡ value)
         by true e =
             (record { value = value; source = Marked }, to_cell ∙ ap (λ (b : Bool). gives false b true value) e, refl)
         by false e =

@@ -6,8 +6,8 @@ use Rattle.mk_sweep.proofs.Vocabulary.{World, heap_looks, is_tracing, now_of, ph
 use Rattle.mk_sweep.proofs.{Vocabulary.{still_words, words_below, world_of}, EachOnce.{as_many, looked_at_once}}
 use Rattle.mk_sweep.proofs.{EachOnce.never_twice, SweepSteps.{rule_alike, settled_kept, word_alike}}
 use Rattle.mk_sweep.proofs.{CountedWords.{some_there, times}, Done.{looks_in_parts, looks_of_waiting}}
-use Rattle.mk_laws.proofs.Vocabulary.{Word, ℕ, ap, arith, length, ne_eqb, slice_index, subst, sym, true, ◌++◌, ◌+◌, ◌<◌}
-use Rattle.mk_laws.proofs.{Vocabulary.{◌∙◌, ◌≡◌, ◌≤◌}, InvariantTheorems.allocations_stand, Settled.gone_is_unmapped}
+use Rattle.mk_laws.proofs.Vocabulary.{ℕ, ap, arith, length, ne_eqb, slice_index, subst, sym, true, ◌++◌, ◌+◌, ◌<◌, ◌∙◌}
+use Rattle.mk_laws.proofs.{Vocabulary.{◌≡◌, ◌≤◌}, InvariantTheorems.allocations_stand, Settled.gone_is_unmapped}
 use Rattle.mk_core.proofs.PointedAllocations.{marked_where_its_cell_is, points_well_where_marked}
 use Rattle.mk_core.specs.{ClosedMarks.is_marked_allocation, Frames.HoldsAll}
 use Rattle.mk_cycle.specs.{EngineLaw.{ClosesMarks, IsFreeForCycle}, Kinds.closes_marks}
@@ -20,11 +20,7 @@ use Rattle.mk_turns.specs.Doing.{Does, done_in}
 
 -- Waiting keeps to the rule of every sweep.
 waits : (w : World) (c : Config) (m : Moment) (s : Step) → is_waiting s ≡ true → SweepsBy w c m s
-waits w c m Step.Want h = tt
-waits w c m (Step.Look Word.Phase) h = tt
-waits w c m (Step.Look (Word.Heap n)) h = cc
-waits w c m (Step.Mark p v) h = cc
-waits w c m _ h = tt
+waits w c m x3 h = grind arith
 
 -- After the wait the sweep may begin.
 pub sweeping_behind : {p q : PassState} → Counted is_waiting TracesReached is_want p q 1 → IsWanted q
@@ -55,10 +51,6 @@ module _ {p : PassState} {t u : TurnState} (s : SweepsInStop p t u) where
 
   table : t.pass.table ≡ p.table
   table = ap (λ (x : PassState). x.table) s.waited.traces.does.is
-
-  scanned_there : {k : ℕ} → IsScannedWord p.table.config (world_of p).allocations k
-      → IsScannedWord t.pass.table.config (world_of t.pass).allocations k
-  scanned_there x = grind (arith, table, word_alike)
 
   scanned_before : {k : ℕ} → IsScannedWord u.pass.table.config (world_of u.pass).allocations k
       → IsScannedWord t.pass.table.config (world_of t.pass).allocations k
@@ -94,22 +86,21 @@ module _ {p : PassState} {t u : TurnState} (s : SweepsInStop p t u) where
   sweeps n is = record {
     traces = whole.traces;
     never_twice = λ k. subst (λ ns. times k ns ≤ 1) (sym words_of_all) (never_twice s.early s.sweeping.settled k);
-    each = λ k x. ap (λ ns. times k ns) words_of_all ∙ looked_at_once s.early s.sweeping.settled (scanned_there x);
+    each = λ k x. ap (λ ns. times k ns) words_of_all ∙ looked_at_once s.early s.sweeping.settled (
+        grind (arith, table, word_alike));
     counted = is ∙ sym (ap length words_of_all);
     words = is ∙ all_words_are;
     swept = λ i x. swept_is_marked x;
   }
 
   pub closes : HoldsAll u.pass.table.config (now_of u.pass) u.pass.seat
-      → ((pg : ℕ) → pg < u.pass.table.config.pages → PageIsBlack (still_words u.pass) pg)
-      → ((pg : ℕ) → pg < u.pass.table.config.pages → slice_index (still_words u.pass).dirty pg ≡ 0)
-      → ClosesMarks p u.pass
+      → ((pg : ℕ) → pg < u.pass.table.config.pages → PageIsBlack (still_words u.pass) pg) → ((pg : ℕ)
+      → pg < u.pass.table.config.pages → slice_index (still_words u.pass).dirty pg ≡ 0) → ClosesMarks p u.pass
   closes all black clean =
       let d : Does is_tracing p u.pass = whole.traces.does in
       let wider = counted_wider is_tracing closes_marks (SweepsBy (world_of p)) is_want p u.pass 1 closing_kind whole in
-      let close = may_close_now u.pass s.on.sweeping.wanted all
-      (λ pg lt. no_gray (still_words u.pass) pg (black pg lt)) clean
-      (record { registers = s.closed.registers; globals = s.closed.globals }) in
+      let close = may_close_now u.pass s.on.sweeping.wanted all (λ pg lt. no_gray (still_words u.pass) pg (black pg lt))
+      clean (record { registers = s.closed.registers; globals = s.closed.globals }) in
       record {
         does = wider.traces.does;
         one_want = same_count (done_in p wider.traces.does.more) ∙ wider.count;

@@ -2,18 +2,16 @@
 use Rattle.mk_sweep.proofs.Vocabulary.{MarksMore, SweepsOn, TurnState, Words, points_well, still_words}
 use Rattle.mk_sweep.proofs.{SweepSteps.{sweeps_from, sweeps_then, then_quiet}, WordLists.{both_well, none_well}}
 use Rattle.mk_sweep.{proofs.WordLists.{one_well}, specs.Sweeping.{IsSweeping, SweepsWords}}
-use Rattle.mk_laws.proofs.Vocabulary.{List, ℕ, refl, slice_index, subst, true, [], ◌++◌, ◌∷◌, ◌≡◌}
+use Rattle.mk_laws.proofs.Vocabulary.{List, ℕ, arith, slice_index, subst, true, [], ◌++◌, ◌∷◌, ◌≡◌}
 use Rattle.mk_tracing.proofs.MoreMarks.{more_same, more_then}
 
 pub no_words : {pages : ℕ} {t : TurnState} → IsSweeping t.pass → SweepsWords pages t t []
-no_words {pages} {t} sweeping =
-    record { on = sweeps_from t sweeping; more = more_same _ _ refl; well = none_well pages (still_words t.pass) }
+no_words sweeping = grind (arith, sweeps_from, more_same, none_well)
 
 -- where nothing is marked
 pub quiet_words : {pages : ℕ} {t u : TurnState} → SweepsOn t u [] → still_words u.pass ≡ still_words t.pass
     → SweepsWords pages t u []
-quiet_words {pages} {u} on same =
-    record { on = on; more = more_same _ _ same; well = none_well pages (still_words u.pass) }
+quiet_words on same = grind (arith, more_same, none_well)
 
 pub one_word : {pages : ℕ} {t u v : TurnState} {n value : ℕ} → SweepsOn t u (n ∷ [])
     → still_words u.pass ≡ still_words t.pass → value ≡ slice_index (still_words t.pass).heap n → SweepsOn u v []

@@ -1,10 +1,9 @@
 -- A cell that no swept value points into isn't marked by a sweep.
 use Rattle.mk_sweep.proofs.Vocabulary.{Cell, Config, Event, Moment, Seat, Step, SweepsBy, World, cell_of_allocation}
 use Rattle.mk_sweep.proofs.Vocabulary.{has_bit, is_marked, is_tracing, never_behind, placed_at, world_behind, world_of}
-use Rattle.mk_laws.proofs.Vocabulary.{List, ℕ, ap, bit_or, cases_Bool, false, false_from_ne_true, inl, inr}
-use Rattle.mk_laws.proofs.Vocabulary.{left_in_parts, slice_index, slice_set, subst, sym, true, true≢false, [], ◌∙◌, ◌∷◌}
-use Rattle.mk_laws.proofs.{Vocabulary.◌≡◌, InvariantHistories.histories_keep_the_invariant, KnownWorlds.known_world}
-use Rattle.mk_laws.proofs.Worlds.{comes_back}
+use Rattle.mk_laws.proofs.Vocabulary.{List, ℕ, arith, bit_or, cases_Bool, false, false_from_ne_true, inl, inr}
+use Rattle.mk_laws.proofs.Vocabulary.{left_in_parts, slice_index, slice_set, true, [], ◌∷◌, ◌≡◌}
+use Rattle.mk_laws.proofs.{InvariantHistories.histories_keep_the_invariant, KnownWorlds.known_world, Worlds.comes_back}
 use Rattle.mk_core.{proofs.WordBits.{bit_of_power, more_bits}, specs.{Growing.is_same_seat, History.left_from}}
 use Rattle.mk_sweep.specs.{Swept.{IsSweptCell, MarksSwept}, Unswept.{OthersLeaveUnmarked, UnsweptStaysUnmarked}}
 use Rattle.mk_tracing.{proofs.Parts.{kinds_keep}, specs.Tracing.{OwnStepsKeep}}
@@ -17,27 +16,12 @@ IsTracing c m s = is_tracing s ≡ true
 mark_leaves : {c : Config} {v : World} (marks : List ℕ) {page value : ℕ} (cell : Cell) → MarksSwept c v page value
     → (IsSweptCell c v cell → ⊥) → has_bit (slice_index marks cell.page) cell.index ≡ false
     → has_bit (slice_index (slice_set marks page (bit_or (slice_index marks page) value)) cell.page) cell.index ≡ false
-mark_leaves {c} {v} marks {page} {value} cell swept out was = false_from_ne_true _ (λ is.
-    elim (more_bits marks page value cell.page cell.index is) [
-      | inl before ↦ true≢false (sym before ∙ was)
-      | inr now ↦
-          let index = bit_of_power swept.index cell.index (subst (λ k. has_bit k cell.index ≡ true) swept.bit now.1) in
-          let same : record { page = page; index = swept.index } ≡ cell =
-          ap (λ (k : ℕ). record { page = k; index = swept.index }) (sym now.0)
-          ∙ ap (λ (k : ℕ). record { page = cell.page; index = k }) (sym index) in
-          out (subst (IsSweptCell c v) same swept.swept)
-    ])
+mark_leaves marks cell swept out was = grind (arith, false_from_ne_true, more_bits, bit_of_power)
 
 step_leaves : (c : Config) (v w : World) (seat : Seat) (cell : Cell) (s : Step) → is_tracing s ≡ true
     → SweepsBy v c w.now s → (IsSweptCell c v cell → ⊥) → is_marked w.now.words cell ≡ false
     → is_marked (world_behind c w (record { seat = seat; step = s })).now.words cell ≡ false
-step_leaves c v w seat cell (Step.Mark p k) kind rule out was = mark_leaves w.now.words.marks cell rule out was
-step_leaves c v w seat cell (Step.Look x) kind rule out was = was
-step_leaves c v w seat cell Step.Want kind rule out was = was
-step_leaves c v w seat cell (Step.Undirty p) kind rule out was = was
-step_leaves c v w seat cell (Step.Black p k) kind rule out was = was
-step_leaves c v w seat cell (Step.Unblack p) kind rule out was = was
-step_leaves c v w seat cell _ kind rule out was = cc
+step_leaves c v w seat cell x5 kind rule out was = grind (arith, mark_leaves)
 
 list_leaves : (c : Config) (v w : World) (seat : Seat) (cell : Cell) (es : List Event)
     → OwnStepsKeep IsTracing c seat w es → OwnStepsKeep (SweepsBy v) c seat w es
@@ -58,9 +42,8 @@ unswept_stays_unmarked p q n s i history one unreleased out was others =
     let w : World = world_of p in
     let d = s.traces.does in
     let cell : Cell = cell_of_allocation c (placed_at w.allocations i) in
-    let behind = list_leaves c w w p.seat cell d.more
-    (kinds_keep is_tracing IsTracing c p.seat w d.more (λ m x kind. kind) d.of_kinds) s.traces.keeps others
-    (λ x. out (record {
+    let behind = list_leaves c w w p.seat cell d.more (kinds_keep is_tracing IsTracing c p.seat w d.more
+    (λ m x kind. kind) d.of_kinds) s.traces.keeps others (λ x. out (record {
       value = x.value;
       found = x.found;
       points = (

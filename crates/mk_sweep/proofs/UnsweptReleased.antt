@@ -72,17 +72,13 @@ unswept_is_released p q n s es r rest i history seen is one snapshot unreleased 
     allocations : (world_of q).allocations ≡ (world_of p).allocations
     allocations = ap (λ (u : Untouched). u.allocations) s.traces.untouched
 
-    swept : StandsUnmarked c a i (world_of q)
-    swept = record {
-      there = subst (λ (xs : List PlacedAllocation). i < length xs) (sym allocations)
-          (is_there (world_of p).allocations i unreleased);
-      same = subst (λ (xs : List PlacedAllocation). AreOfOne a (placed_at xs i)) (sym allocations)
-          (record { base = refl; ty = refl });
-      unmarked = unswept_stays_unmarked p q n s i seen one unreleased out was others;
-    }
-
     before : StandsUnmarked c a i (left c (before_release r))
     before =
-        subst (StandsUnmarked c a i)
-        (sym (ap (left c) is ∙ left_in_parts c _ rest ∙ ap (λ (w : World). left_from c w rest) (sym same_world)))
-        (stands_along c a i _ rest leave swept)
+        subst (StandsUnmarked c a i) (sym (ap (left c) is ∙ left_in_parts c _ rest ∙ ap
+        (λ (w : World). left_from c w rest) (sym same_world))) (stands_along c a i _ rest leave (record {
+          there = subst (λ (xs : List PlacedAllocation). i < length xs) (sym allocations)
+              (is_there (world_of p).allocations i unreleased);
+          same = subst (λ (xs : List PlacedAllocation). AreOfOne a (placed_at xs i)) (sym allocations)
+              (record { base = refl; ty = refl });
+          unmarked = unswept_stays_unmarked p q n s i seen one unreleased out was others;
+        }))

@@ -30,15 +30,13 @@ module _ (p b q : PassState) (looks : ℕ) (same : b ≡ record p { seen = b.see
 
   begun_is : last.begun ≡ record p { seen = front ++ begin ∷ [] }
   begun_is =
-      last.begin.is
-      ∙ ap (λ (x : PassState). record x { seen = x.seen ++ last.begin.others ++ event_of x Step.Begin ∷ [] })
-      last.before.is
+      last.begin.is ∙ ap
+      (λ (x : PassState). record x { seen = x.seen ++ last.begin.others ++ event_of x Step.Begin ∷ [] }) last.before.is
 
   start_is : b ≡ record p { seen = front ++ begin ∷ [] }
   start_is =
-      same ∙ ap (λ (xs : List Event). record p { seen = xs })
-      (last.part.is ∙ ap (λ (xs : List Event). last.begun.seen ++ xs) last.part.part
-      ∙ append-nil last.begun.seen ∙ ap (λ (x : PassState). x.seen) begun_is)
+      same ∙ ap (λ (xs : List Event). record p { seen = xs }) (last.part.is ∙ ap (λ (xs : List Event). last.begun.seen
+      ++ xs) last.part.part ∙ append-nil last.begun.seen ∙ ap (λ (x : PassState). x.seen) begun_is)
 
   held_is : closed.held ≡ record p { seen = closed.held.seen }
   held_is = closed.holds.keeps.call.pass ∙ ap (λ (x : PassState). record x { seen = closed.held.seen }) same
@@ -60,12 +58,11 @@ module _ (p b q : PassState) (looks : ℕ) (same : b ≡ record p { seen = b.see
 
   seen_is : q.seen ≡ makes.closing.seen ++ (waited ++ close ∷ (stopped ++ release ∷ closed.rest))
   seen_is =
-      closed.is ∙ ap (λ (x : PassState). x.seen ++ closed.rest) makes.release.is
-      ∙ ap (λ (x : PassState). ((makes.closed.seen ++ stopped) ++ event_of x Step.Release ∷ []) ++ closed.rest)
-      closed_is ∙ ap (λ (x : PassState). ((x.seen ++ stopped) ++ release ∷ []) ++ closed.rest) makes.close.is
-      ∙ ap (λ (x : PassState).
-      ((((makes.closing.seen ++ waited) ++ event_of x Step.Close ∷ []) ++ stopped) ++ release ∷ []) ++ closed.rest)
-      closing_is ∙ stretches makes.closing.seen waited stopped closed.rest close release
+      closed.is ∙ ap (λ (x : PassState). x.seen ++ closed.rest) makes.release.is ∙ ap
+      (λ (x : PassState). ((makes.closed.seen ++ stopped) ++ event_of x Step.Release ∷ []) ++ closed.rest) closed_is
+      ∙ ap (λ (x : PassState). ((x.seen ++ stopped) ++ release ∷ []) ++ closed.rest) makes.close.is ∙ ap
+      (λ (x : PassState). ((((makes.closing.seen ++ waited) ++ event_of x Step.Close ∷ []) ++ stopped) ++ release ∷ [])
+      ++ closed.rest) closing_is ∙ stretches makes.closing.seen waited stopped closed.rest close release
 
   abbrev parts : SweepParts p looks q.seen
   parts = record {

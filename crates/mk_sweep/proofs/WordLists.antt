@@ -3,15 +3,14 @@ use Rattle.std.{proofs.lemmas.List.Elements.{Contains-append_cases, Contains-pus
 use Rattle.mk_sweep.proofs.Vocabulary.{MarksMore, PointWell, Words, cells_under, has_bit, has_no_pointers, head_page}
 use Rattle.mk_sweep.proofs.Vocabulary.{header_at, header_in, header_of, points_well, used_at, words_below, words_if}
 use Rattle.mk_sweep.proofs.Vocabulary.{words_of_cells, words_on, words_under}
-use Rattle.mk_laws.proofs.Vocabulary.{Header, Later, List, Option, Some, ℕ, ap, arith, false, head_page_under, inl, inr}
-use Rattle.mk_laws.proofs.Vocabulary.{slice_index, suc, sym, true, zero, [], ◌*◌, ◌++◌, ◌+◌, ◌∙◌, ◌∷◌, ◌≡◌, ◌≤◌}
+use Rattle.mk_laws.proofs.Vocabulary.{Header, List, Option, ℕ, ap, arith, false, head_page_under, inl, inr, slice_index}
+use Rattle.mk_laws.proofs.Vocabulary.{suc, sym, true, zero, [], ◌*◌, ◌++◌, ◌+◌, ◌∙◌, ◌∷◌, ◌≡◌, ◌≤◌}
 use Rattle.mk_tracing.proofs.MoreMarks.{well_more}
 
 -- The head of a page's run doesn't lie after it.
 
 head_under : (x : Option Header) (p : ℕ) → head_page_under x p ≤ p
-head_under (Some (Later distance mapped)) p = omega arith
-head_under _ p = omega arith
+head_under x0 p = grind arith
 
 pub head_is_near : (w : Words) (p : ℕ) → head_page w p ≤ p
 head_is_near w p = head_under (header_in w p) p
@@ -27,9 +26,8 @@ range_more a (suc n) =
 pub word_more : (a n : ℕ) → range_with_len a n ++ (a + n) ∷ [] ≡ range_with_len a (n + 1)
 word_more a n = let e : suc n ≡ n + 1 = omega arith in sym (range_more a n) ∙ ap (λ k. range_with_len a k) e
 
-pub cell_more : (page size used n : ℕ)
-    → words_of_cells page size used n ++ words_if (has_bit used n) (64 * page + n * size) size
-    ≡ words_of_cells page size used (n + 1)
+pub cell_more : (page size used n : ℕ) → words_of_cells page size used n ++ words_if (has_bit used n)
+    (64 * page + n * size) size ≡ words_of_cells page size used (n + 1)
 cell_more page size used n = grind arith
 
 pub page_more : (w : Words) (n : ℕ) → words_below w n ++ words_on w n ≡ words_below w (n + 1)

@@ -11,10 +11,9 @@ use Rattle.mk_laws.proofs.Vocabulary.{AccessIsAdmitted, Bool, IsTyped, IsTypedAl
 use Rattle.mk_laws.proofs.Vocabulary.{length, refl, subst, suc, sym, true, words_of, zero, [], ◌*◌, ◌+◌, ◌-◌, ◌<◌, ◌∙◌}
 use Rattle.mk_laws.proofs.Vocabulary.{◌∷◌, ◌≡◌, ◌≢◌, ◌≤◌}
 use Rattle.mk_never.proofs.{Later.{calls_stay, op_stays}, Edits.left_at_by, Fresh.new_adds}
-use Rattle.mk_never.proofs.TypedCalls.{op_keeps, stays_typed}
-use Rattle.mk_never.specs.{NeverHeap.after_op, Admitted.{IsBase, IsCaller, IsOfKind, OperandsAreInRange}}
-use Rattle.mk_never.specs.{Admitted.StoreIsAdmitted, declared.operations.Op.TheVariants.{Clear, Free, GetGlobal, New}}
-use Rattle.mk_never.specs.declared.operations.Op.TheVariants.{SetGlobal, SetNum, SetPtr}
+use Rattle.mk_never.{proofs.TypedCalls.{op_keeps, stays_typed}, specs.NeverHeap.{after_op}}
+use Rattle.mk_never.specs.Admitted.{IsBase, IsCaller, IsOfKind, OperandsAreInRange, StoreIsAdmitted}
+use Rattle.mk_never.specs.declared.operations.Op.TheVariants.{Clear, Free, GetGlobal, New, SetGlobal, SetNum, SetPtr}
 use Rattle.mk_laws.proofs.Vocabulary.{Number as NumKind, Some, ℕ, ap, arith, false, get_or, get_or-set_other}
 
 -- The kinds of a slot's objects.
@@ -58,8 +57,8 @@ module _ (slots : List ℕ) where
     pub globals : length n.globals ≡ 64
     pub typed : IsTyped listed n
 
-  pub stands_on : (n : NeverState) (o : Op) → Stands n → IsAdmitted listed n 0 o → Stands (after_op n 0 o)
-  stands_on n o s h = grind (arith, op_stays, op_keeps, listed)
+  pub stands_on : {n : NeverState} {o : Op} → Stands n → IsAdmitted listed n 0 o → Stands (after_op n 0 o)
+  stands_on s h = grind (arith, op_stays, op_keeps, listed)
 
   -- The operations are admitted, and leave all registers null.
   pub record AreFine (n : NeverState) (ops : List Op) : Type 0 where
@@ -199,10 +198,9 @@ module _ (slots : List ℕ) where
         let n3 = after_op n2 0 (SetPtr 0 0 1) in
         let points = by_value (get_or-set_other n1.registers (8 * 0 + 1) (8 * 0 + 0) (global_at n1 slot) Null
         (λ e. omega arith)) (new_points n s) in
-        then_all s (new_admitted n false s) (λ s1. then_all s1 (get_admitted n1 1 (omega arith) s1) (λ s2.
-        then_all s2 (link_admitted n2 some s2 points (got_points n1 1 (omega arith) s1)) (λ s3.
-        then_all s3 (set_admitted n3 s3 (by_value (linked_same n2 0) points)) (λ s4.
-        two_clear (after_op n3 0 (SetGlobal slot 0)) s4
+        then_all s (new_admitted n false s) (λ s1. then_all s1 (get_admitted n1 1 (omega arith) s1)
+        (λ s2. then_all s2 (link_admitted n2 some s2 points (got_points n1 1 (omega arith) s1)) (λ s3. then_all s3
+        (set_admitted n3 s3 (by_value (linked_same n2 0) points)) (λ s4. two_clear (after_op n3 0 (SetGlobal slot 0)) s4
         (λ r above. linked_same n2 r ∙ got_clear n1 1 (new_clear n clear) r above)))))
 
     full_fine : (n : NeverState) → Stands n → ClearFrom n 0 → AreFine n (New 0 slot true ∷ Clear 0 ∷ [])
@@ -246,7 +244,7 @@ module _ (slots : List ℕ) where
   events_fine few some n s clear (W slot index value) within true =
       written_fine slot within.0 few n index value within.1 within.2 s clear
 
-module _ (trace : Contents) (playable : IsPlayable trace) where
+module _ {trace : Contents} (playable : IsPlayable trace) where
   abbrev c : Config
   c = config_of trace
 

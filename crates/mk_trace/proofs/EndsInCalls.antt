@@ -1,6 +1,6 @@
 -- What events of the one caller lack, and what is decided among those of its call.
 use Rattle.mk_trace.proofs.Vocabulary.{Answer, Caller, Config, Decided, Event, Op, Seat, World, call_decided}
-use Rattle.mk_trace.proofs.{Vocabulary.{calls_append, flagged, has_step, world_behind}, FreedMost.one_of_three}
+use Rattle.mk_trace.{proofs.Vocabulary.{calls_append, flagged, has_step, world_behind}, proofs.FreedMost.{one_of_three}}
 use Rattle.mk_trace.proofs.{FoundByEnds.{FreesNoneFrom, is_over}, OwnPieces.{AreMine, OneSeat, has_mine, is_mine}}
 use Rattle.mk_trace.proofs.{OwnPieces.mine_parts, EndsInLists.changes, FreeCalls.{is_free, is_free_call}}
 use Rattle.mk_laws.proofs.Vocabulary.{Bool, List, ℕ, and_parts, ap, append_assoc, arith, false, left_append, list_any}
@@ -43,9 +43,8 @@ pub beside_lacks : (c : Config) (w : World) (away : List Seat) (es : List Event)
     → AreMine c away es → are_of is_beside_turns (own_from c (Caller 0) w es) ≡ true → has_step changes es ≡ false
 beside_lacks c w away [] all own beside = refl
 beside_lacks c w away (e ∷ es) all own beside =
-    let parts = and_parts (is_beside_turns e.step)
-    (are_of is_beside_turns (own_from c (Caller 0) (world_behind c w e) es))
-    (sym (own_all c w e es (seat_is c away e es all own)) ∙ beside) in
+    let parts = and_parts (is_beside_turns e.step) (are_of is_beside_turns
+    (own_from c (Caller 0) (world_behind c w e) es)) (sym (own_all c w e es (seat_is c away e es all own)) ∙ beside) in
     or_from (changes e.step) (has_step changes es) (grind arith)
     (beside_lacks c (world_behind c w e) away es all (mine_parts c away (e ∷ []) es own).1 parts.1)
 

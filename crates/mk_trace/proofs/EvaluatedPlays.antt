@@ -25,20 +25,18 @@ is_of_text = (codes "trace 1 1\nslot x 2\nw x 1 5\na x\n", refl)
 
 unfoldable pub played : List Event
 played =
-    by c0 (Step.Enter (Op.GetGlobal 0 0) ∷ Step.Getg ∷ Step.Reg ∷ Step.Leave ∷ [])
-    ++ by c0 (Step.Enter (Op.SetNum 0 1 5) ∷ Step.Reg ∷ Step.Leave ∷ [])
-    ++ by c0 (Step.Enter (Op.Clear 0) ∷ Step.Reg ∷ Step.Leave ∷ [])
-    ++ by c0 (Step.Take (Some (Op.New 0 0 false)) ∷ Step.Head 0 1 ∷ Step.Used 0 1 ∷ Step.Grant ∷ Step.Tally
-    Tally.Held 2 ∷ Step.Give ∷ []) ++ by c0 (Step.Enter (Op.SetGlobal 0 0) ∷ Step.Reg ∷ Step.Setg ∷ Step.Leave ∷ [])
-    ++ by c0 (Step.Enter (Op.Clear 0) ∷ Step.Reg ∷ Step.Leave ∷ [])
+    by c0 (Step.Enter (Op.GetGlobal 0 0) ∷ Step.Getg ∷ Step.Reg ∷ Step.Leave ∷ []) ++ by c0 (Step.Enter
+    (Op.SetNum 0 1 5) ∷ Step.Reg ∷ Step.Leave ∷ []) ++ by c0 (Step.Enter (Op.Clear 0) ∷ Step.Reg ∷ Step.Leave ∷ []) ++
+    by c0 (Step.Take (Some (Op.New 0 0 false)) ∷ Step.Head 0 1 ∷ Step.Used 0 1 ∷ Step.Grant ∷ Step.Tally Tally.Held 2 ∷
+    Step.Give ∷ []) ++ by c0 (Step.Enter (Op.SetGlobal 0 0) ∷ Step.Reg ∷ Step.Setg ∷ Step.Leave ∷ []) ++ by c0
+    (Step.Enter (Op.Clear 0) ∷ Step.Reg ∷ Step.Leave ∷ [])
 
 -- up to the take of the New, and from there up to its give, and what comes after it
 
 unfoldable stored : List Event
 stored =
-    by c0 (Step.Enter (Op.GetGlobal 0 0) ∷ Step.Getg ∷ Step.Reg ∷ Step.Leave ∷ [])
-    ++ by c0 (Step.Enter (Op.SetNum 0 1 5) ∷ Step.Reg ∷ Step.Leave ∷ [])
-    ++ by c0 (Step.Enter (Op.Clear 0) ∷ Step.Reg ∷ Step.Leave ∷ [])
+    by c0 (Step.Enter (Op.GetGlobal 0 0) ∷ Step.Getg ∷ Step.Reg ∷ Step.Leave ∷ []) ++ by c0 (Step.Enter
+    (Op.SetNum 0 1 5) ∷ Step.Reg ∷ Step.Leave ∷ []) ++ by c0 (Step.Enter (Op.Clear 0) ∷ Step.Reg ∷ Step.Leave ∷ [])
 
 unfoldable making : List Event
 making = by c0 (Step.Head 0 1 ∷ Step.Used 0 1 ∷ Step.Grant ∷ Step.Tally Tally.Held 2 ∷ [])

@@ -35,9 +35,8 @@ others_no_cycle : (s : Seat) (seats : List Seat) (es : List Event) → Has seats
 unfolding AreOfOthers
 others_no_cycle s seats [] has others = refl
 others_no_cycle s seats (e ∷ es) has others =
-    or_from (of_cycle s e) (list_any (of_cycle s) es)
-    (ap (λ (b : Bool). b && is_of_cycle e.step) (not_own seats s e.seat has others.0))
-    (others_no_cycle s seats es has others.1)
+    or_from (of_cycle s e) (list_any (of_cycle s) es) (ap (λ (b : Bool). b && is_of_cycle e.step)
+    (not_own seats s e.seat has others.0)) (others_no_cycle s seats es has others.1)
 
 -- before the first event
 
@@ -121,6 +120,6 @@ each_seat : (trace : Contents) {es : List Event} → IsHistory (config_of trace)
     → SweepsNothingFrom (config_of trace) s (first_world (config_of trace)) es
 each_seat trace history exact x3 exists = grind (arith, ltb-true, markers_sweep)
 
-pub play_is_unswept : (trace : Contents) (es : List Event) → IsHistory (config_of trace) es
+pub play_is_unswept : (trace : Contents) {es : List Event} → IsHistory (config_of trace) es
     → AllTurnsAreExact (config_of trace) es → IsUnswept (config_of trace) es
-play_is_unswept trace es history exact = grind (arith, none_sweeps, each_seat)
+play_is_unswept trace history exact = grind (arith, none_sweeps, each_seat)

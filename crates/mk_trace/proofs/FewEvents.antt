@@ -21,10 +21,9 @@ pub few_later : (full : Bool) (event : TraceEvent) (ops : List Op) → ops ≡ d
 few_later full event ops is = subst (λ (l : List Op). length l ≤ 5) (sym is) (grind arith)
 
 -- What each line adds at most one to, all add to.
-along_grows : {Line Given Whole Fault : Type 0} (told : ℕ → Fault → TraceStop)
-    (read : Whole → Line → Result Given Fault) (add : Whole → Given → Whole) (measure : Whole → ℕ)
-    → ((whole : Whole) (given : Given) → measure (add whole given) ≤ measure whole + 1)
-    → (number : ℕ) (lines : List Line) (before after : Whole)
+along_grows : {Line Given Whole Fault : Type 0} (told : ℕ → Fault → TraceStop) (read : Whole → Line
+    → Result Given Fault) (add : Whole → Given → Whole) (measure : Whole → ℕ) → ((whole : Whole) (given : Given)
+    → measure (add whole given) ≤ measure whole + 1) → (number : ℕ) (lines : List Line) (before after : Whole)
     → along told read add number lines before ≡ Ok after → measure after ≤ measure before + length lines
 unfolding along
 along_grows {Line} {Given} {Whole} told read add measure grows number [] before after h = grind arith
@@ -60,9 +59,8 @@ of_lines [] trace h = absurd cc
 of_lines (first ∷ lines) trace h =
     let header = gone_on (text_fault_at 1) (header_line_of (words_of_line first)) _ trace h in
     let written = then_next (written_from 2 lines nothing_written) _ trace header.behind in
-    let events =
-    along_grows text_fault_at read_behind with_trace_line (λ (w : LinesSoFar). length w.events) line_adds 2 lines
-    nothing_written written.value written.is in
+    let events = along_grows text_fault_at read_behind with_trace_line
+    (λ (w : LinesSoFar). length w.events) line_adds 2 lines nothing_written written.value written.is in
     let count = read header.value written.value trace written.behind in
     omega (arith, events, count)
 

@@ -82,17 +82,15 @@ more_frees [] a unfreed (suc n) = refl
 more_frees (x ∷ xs) a unfreed zero = refl
 more_frees (x ∷ xs) a unfreed (suc n) = more_frees xs a unfreed n
 
-changed_releases : (change : PlacedAllocation → PlacedAllocation) (xs : List PlacedAllocation)
-    → change never_granted ≡ never_granted → ((a : PlacedAllocation) → (change a).released ≡ a.released)
-    → ReleasesNone xs (map change xs)
+changed_releases : (change : PlacedAllocation → PlacedAllocation) (xs : List PlacedAllocation) → change never_granted
+    ≡ never_granted → ((a : PlacedAllocation) → (change a).released ≡ a.released) → ReleasesNone xs (map change xs)
 changed_releases change xs none keeps = record {
   count = omega (arith, length-map xs change);
   released = λ n lt. ap (λ (a : PlacedAllocation). a.released) (changed_at change xs n none) ∙ keeps (placed_at xs n);
 }
 
-changed_frees : (change : PlacedAllocation → PlacedAllocation) (xs : List PlacedAllocation)
-    → change never_granted ≡ never_granted → ((a : PlacedAllocation) → (change a).freed ≡ a.freed)
-    → FreesNone xs (map change xs)
+changed_frees : (change : PlacedAllocation → PlacedAllocation) (xs : List PlacedAllocation) → change never_granted
+    ≡ never_granted → ((a : PlacedAllocation) → (change a).freed ≡ a.freed) → FreesNone xs (map change xs)
 changed_frees change xs none keeps n = grind (arith, changed_at)
 
 -- one step

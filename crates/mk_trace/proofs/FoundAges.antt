@@ -30,9 +30,8 @@ age_where_gone number (first ∷ found) finds gone =
 first_age : (freed released : Bool) → freed ≡ true → (if freed then (if released then 1 else 1 + 0) else 0) ≡ 0 + 1
 first_age freed released is = grind arith
 
-kept_by : (freed released : Bool) (k n : ℕ) → (freed && released) ≡ false → k ≡ n + 1
-    → (if freed then (if released then 1 else 1 + k) else k)
-    ≡ (if freed then (if released then 1 else 1 + n) else n) + 1
+kept_by : (freed released : Bool) (k n : ℕ) → (freed && released) ≡ false → k ≡ n + 1 → (if freed then
+    (if released then 1 else 1 + k) else k) ≡ (if freed then (if released then 1 else 1 + n) else n) + 1
 kept_by freed released k n kept same = grind arith
 
 age_where_kept : (number : ℕ) (found : List (List PlacedAllocation)) (finds : List PlacedAllocation)
@@ -91,8 +90,8 @@ module _ (c : Config) (es fs : List Event) (x : Option ℕ)
     same_gone : (i : ℕ) → is_gone (placed_at xs i) ≡ is_gone (placed_at ys i)
     same_gone i = grind (arith, cases_lt, xs, both_same, same_freed, past, unfreed_past)
 
-    pub none_found : (found : List (List PlacedAllocation)) → AreFound found xs → AreFound found ys
-    none_found found h = grind (arith, same_gone, was_unfreed)
+    pub none_found : {found : List (List PlacedAllocation)} → AreFound found xs → AreFound found ys
+    none_found h = grind (arith, same_gone, was_unfreed)
 
     pub none_ages : (found : List (List PlacedAllocation)) (pairs : List (ℕ × ℕ)) → AreAgesOf found xs pairs
         → AreAgesOf found ys pairs
@@ -121,10 +120,9 @@ module _ (c : Config) (es fs : List Event) (x : Option ℕ)
     kept_age i kept = grind (arith, and_parts, ys, xs, age_where_kept, not-true, and-false)
 
     -- The ages of those that it released are counted.
-    pub one_ages : (pairs now : List (ℕ × ℕ)) (numbers : List ℕ) → AreAgesOf found xs pairs
-        → AreThose (was_kept c es fs x flags) numbers
-        → now ≡ fold with_one pairs (map (age_in_a_word later) (filter (λ (i : ℕ). (placed_at ys i).released) numbers))
-        → AreAgesOf later ys now
+    pub one_ages : (pairs now : List (ℕ × ℕ)) (numbers : List ℕ) → AreAgesOf found xs pairs → AreThose
+        (was_kept c es fs x flags) numbers → now ≡ fold with_one pairs
+        (map (age_in_a_word later) (filter (λ (i : ℕ). (placed_at ys i).released) numbers)) → AreAgesOf later ys now
     one_ages pairs now numbers ages those is =
         let gone : ℕ → Bool = λ i. (placed_at ys i).released in
         let rest : List ℕ = filter gone numbers in

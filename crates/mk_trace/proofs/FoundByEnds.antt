@@ -142,9 +142,8 @@ grows_by c w e = by e.step
     by Step.Release = omega (arith, length-map w.allocations (with_released c w.now.words))
     by _ = omega arith
 
-module _ (c : Config) (w : World) (e : Event) (es : List Event) (on : AreEnabledFrom c w (e ∷ es))
-    (begins : has_step is_begin (e ∷ es) ≡ false) (overs : has_step is_over (e ∷ es) ≡ false)
-    (frees : FreesNoneFrom c w (e ∷ es)) where
+module _ (c : Config) (w : World) (e : Event) (es : List Event) (on : AreEnabledFrom c w (e ∷ es)) (begins : has_step
+    is_begin (e ∷ es) ≡ false) (overs : has_step is_over (e ∷ es) ≡ false) (frees : FreesNoneFrom c w (e ∷ es)) where
   abbrev behind : World
   behind = world_behind c w e
 
@@ -152,9 +151,8 @@ module _ (c : Config) (w : World) (e : Event) (es : List Event) (on : AreEnabled
   unfolding left_from
   ends_here is =
       let moves = moves_phase c w e es on in
-      let rest = rests c behind es moves.2 (moves.1 ∙ (grind arith))
-      (or_parts (is_begin e.step) (has_step is_begin es) begins).1
-      (or_parts (is_over e.step) (has_step is_over es) overs).1 in
+      let rest = rests c behind es moves.2 (moves.1 ∙ (grind arith)) (or_parts (is_begin e.step)
+      (has_step is_begin es) begins).1 (or_parts (is_over e.step) (has_step is_over es) overs).1 in
       record {
         finds = w.allocations;
         phase = rest.phase;

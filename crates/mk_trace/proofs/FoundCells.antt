@@ -17,7 +17,7 @@ pub looks_twice : {c : Config} {es fs gs : List Event} → HostOnlyLooks c es fs
 looks_twice {c} {es} {fs} {gs} one two = record {
   calls = two.calls ∙ one.calls;
   leaves = leaves_twice one.leaves two.leaves;
-  table = leaves_then (left c es) (left c fs) (left c gs) one.table two.table;
+  table = leaves_then one.table two.table;
   most = λ measure. two.most measure ∙ one.most measure;
   exact = λ before. two.exact (one.exact before);
 }
@@ -58,9 +58,8 @@ module _ (c : Config) (es : List Event) (history : IsHistory c es) where
   pub quarantine_tells : (cell : Cell) (q : ℕ) → q ≡ word_behind c es (Word.Quar cell.page)
       → has_bit (q % 4294967296) cell.index ≡ is_freed w cell
   quarantine_tells cell q is =
-      ap (λ (n : ℕ). has_bit n cell.index)
-      (low_half (slice_index w.freed cell.page) (slice_index w.snapshot cell.page) q
-      ((histories_keep_the_invariant c es history).order.quarantined.small cell.page).0 is)
+      ap (λ (n : ℕ). has_bit n cell.index) (low_half (slice_index w.freed cell.page) (slice_index w.snapshot cell.page)
+      q ((histories_keep_the_invariant c es history).order.quarantined.small cell.page).0 is)
 
   pub none_freed_there : (cell : Cell) → c.pages ≤ cell.page → is_freed w cell ≡ false
   none_freed_there cell past = grind (arith, known_world, no_bit, get_or_past)
@@ -103,8 +102,7 @@ module _ (c : Config) (es : List Event) (history : IsHistory c es) where
           → object ≡ freed_object_of c xs it.number
       same_object object at words large young = grind (arith, it, xs)
 
-      pub unfreed_object : (object : FreedObject) → false ≡ is_freed w cell → object.cell ≡ cell
-          → object.storage ≡ cell_words w cell
-          → object.reserved ≡ (if not (nat_le object.storage 32) then object.storage else 0) → object.age ≡ 0
-          → Some object ≡ found
+      pub unfreed_object : (object : FreedObject) → false ≡ is_freed w cell → object.cell ≡ cell → object.storage
+          ≡ cell_words w cell → object.reserved ≡ (if not (nat_le object.storage 32) then object.storage else 0)
+          → object.age ≡ 0 → Some object ≡ found
       unfreed_object object is at words large young = cc (same_object object at words large young, by_bit false is)

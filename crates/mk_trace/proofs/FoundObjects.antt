@@ -1,4 +1,5 @@
 -- What freed bits and globals show between calls.
+use Rattle.std.proofs.Math.ListN.{get_or-map as get_or-map-default}
 use Rattle.mk_trace.proofs.Vocabulary.{AreLater, Cell, Config, Event, IsHistory, IsSound, NeverState, Null, Num}
 use Rattle.mk_trace.proofs.Vocabulary.{PlacedAllocation, Ptr, Value, Words, address_of, allocation_at}
 use Rattle.mk_trace.proofs.Vocabulary.{cell_of_allocation, cell_words, exists_placed, global_at}
@@ -10,11 +11,10 @@ use Rattle.mk_laws.proofs.Vocabulary.{arith, bases_of, cases_Bool, cells_begin, 
 use Rattle.mk_laws.proofs.Vocabulary.{if◌then◌else◌, image_of, inl, inr, is_released_in, large_is_not_small, length}
 use Rattle.mk_laws.proofs.Vocabulary.{nat_le, not, object_placed, refl, slice_index, storage_holds, storage_of, subst}
 use Rattle.mk_laws.proofs.Vocabulary.{sym, true, true≢false, typed_size, word_points, ◌+◌, ◌<◌, ◌∙◌, ◌≡◌, ◌≢◌}
-use Rattle.mk_laws.proofs.{InvariantTheorems.allocations_stand, Settled.unreleased_are_apart}
 use Rattle.mk_never.specs.{Reach.LeadsTo, Reach.IsReachable.by_global, Typed.IsPlaceIn}
-use Rattle.mk_core.{proofs.Sizes.{words_are_small}, specs.Cells.{pointed_cell}}
+use Rattle.mk_core.{proofs.Sizes.words_are_small, specs.Cells.pointed_cell}
+use Rattle.mk_laws.proofs.{InvariantTheorems.allocations_stand, Settled.unreleased_are_apart}
 use Rattle.mk_laws.specs.SettledPages.{StandsUsed}
-use Rattle.std.proofs.Math.ListN.{get_or-map as get_or-map-default}
 
 -- Freed bits between calls: those of the allocations that are freed and unreleased, and no others.
 
@@ -23,7 +23,7 @@ pub cell_by : (c : Config) (a b : PlacedAllocation) → a.base ≡ b.base → a.
     → cell_of_allocation c a ≡ cell_of_allocation c b
 cell_by c a b base ty = cc
 
-module _ (c : Config) (es : List Event) (history : IsHistory c es) (out : phase_of (left c es).now.words ≢ 4) where
+module _ {c : Config} {es : List Event} (history : IsHistory c es) (out : phase_of (left c es).now.words ≢ 4) where
   abbrev placed : List PlacedAllocation
   placed = (left c es).allocations
 
@@ -38,10 +38,9 @@ module _ (c : Config) (es : List Event) (history : IsHistory c es) (out : phase_
 
   pub owner : (cell : Cell) → is_freed shown cell ≡ true → IsFreedCell c placed cell.page cell.index
   owner cell is =
-      ⊎_elim (λ (x : IsFreedCell c placed cell.page cell.index). x)
-      (λ (x : is_released_in (is_phase shown 4) shown.snapshot shown.marks cell.page cell.index ≡ true).
-      absurd (true≢false (sym x
-      ∙ ap (λ (b : Bool). is_released_in b shown.snapshot shown.marks cell.page cell.index) not_releasing)))
+      ⊎_elim (λ (x : IsFreedCell c placed cell.page cell.index). x) (λ (x : is_released_in
+      (is_phase shown 4) shown.snapshot shown.marks cell.page cell.index ≡ true). absurd (true≢false
+      (sym x ∙ ap (λ (b : Bool). is_released_in b shown.snapshot shown.marks cell.page cell.index) not_releasing)))
       (quarantined.owned cell.page cell.index is)
 
   -- The bit of an unreleased allocation's cell says whether it is freed.
@@ -52,30 +51,27 @@ module _ (c : Config) (es : List Event) (history : IsHistory c es) (out : phase_
     | inr unfreed ↦
         false_from_ne_true (is_freed shown (cell_of_allocation c (placed_at placed i))) (λ is.
         (let x = owner (cell_of_allocation c (placed_at placed i)) is in
-        let same : i ≡ x.number =
-        unreleased_are_apart c es (histories_keep_the_invariant c es history).order.laid i x.number unreleased
-        x.unreleased (sym x.cell) in
+        let same : i ≡ x.number = unreleased_are_apart c es
+        (histories_keep_the_invariant c es history).order.laid i x.number unreleased x.unreleased (sym x.cell) in
         true≢false (sym x.freed ∙ ap (λ (k : ℕ). (placed_at placed k).freed) (sym same) ∙ unfreed))) ∙ sym unfreed
   ]
 
 -- What was unreleased before, and is freed after a call: its bit says whether it is released by then.
-module _ (c : Config) (es fs : List Event) (before : IsHistory c es) (behind : IsHistory c fs)
-    (later : AreLater (left c es).allocations (left c fs).allocations)
-    (old : (j : ℕ) → (placed_at (left c fs).allocations j).freed ≡ true → j < length (left c es).allocations)
-    (out : phase_of (left c fs).now.words ≢ 4) where
+module _ {c : Config} {es fs : List Event} (before : IsHistory c es) (behind : IsHistory c fs) (later : AreLater
+    (left c es).allocations (left c fs).allocations) (old : (j : ℕ) → (placed_at (left c fs).allocations j).freed ≡ true
+    → j < length (left c es).allocations) (out : phase_of (left c fs).now.words ≢ 4) where
   same_cell : (j : ℕ) → j < length (left c es).allocations → cell_of_allocation c (placed_at (left c fs).allocations j)
       ≡ cell_of_allocation c (placed_at (left c es).allocations j)
   same_cell j lt = grind (arith, cell_by)
 
   pub bit_tells_released : (i : ℕ) → (placed_at (left c es).allocations i).released ≡ false
-      → (placed_at (left c fs).allocations i).freed ≡ true
-      → is_freed (left c fs).now.words (cell_of_allocation c (placed_at (left c es).allocations i))
-      ≡ not (placed_at (left c fs).allocations i).released
+      → (placed_at (left c fs).allocations i).freed ≡ true → is_freed (left c fs).now.words
+      (cell_of_allocation c (placed_at (left c es).allocations i)) ≡ not (placed_at (left c fs).allocations i).released
   bit_tells_released i unreleased freed = elim (cases_Bool (placed_at (left c fs).allocations i).released) [
-    | inr still ↦ cc (same_cell i (old i freed), bit_tells_freed c fs behind out i still, freed, still)
+    | inr still ↦ cc (same_cell i (old i freed), bit_tells_freed behind out i still, freed, still)
     | inl gone ↦
         false_from_ne_true _ (λ is.
-        (let x = owner c fs behind out (cell_of_allocation c (placed_at (left c es).allocations i)) is in
+        (let x = owner behind out (cell_of_allocation c (placed_at (left c es).allocations i)) is in
         let lt = old x.number x.freed in
         let same : i ≡ x.number = unreleased_are_apart c es (histories_keep_the_invariant c es before).order.laid i
         x.number unreleased (grind (arith, false_from_ne_true)) (sym x.cell ∙ same_cell x.number lt) in

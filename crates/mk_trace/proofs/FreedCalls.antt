@@ -104,10 +104,9 @@ module _ {on : Bool} {h : HostState} {o : Op} {told : Answer} {q : PassState} {f
   releases_late = elim (cases_Bool (has_step is_begin part)) [
     | inl begins ↦ inr (frees_before (is_exact.first (is_exact.begins.0 (first_at is_begin part begins).at)))
     | inr none ↦
-        inl (ap (has_step is_release) (in_parts j (Op.Free r) turn)
-        ∙ lacks_append is_release prior (part ++ give) none_prior (lacks_append is_release part give
-        (releases_none part (is_exact.undue
-        (λ (due : IsDueIn turn.ends.turn). none_at is_begin part none (is_exact.begins.1 due)))) refl))
+        inl (ap (has_step is_release) (in_parts j (Op.Free r) turn) ∙ lacks_append is_release prior
+        (part ++ give) none_prior (lacks_append is_release part give (releases_none part
+        (is_exact.undue (λ (due : IsDueIn turn.ends.turn). none_at is_begin part none (is_exact.begins.1 due)))) refl))
   ]
 
 -- What is quarantined over a call of the caller: the most is that before, or where a Free has freed its object.

@@ -116,7 +116,7 @@ module _ (weight : ℕ → ℕ) (c : Config) (es more : List Event) (o : Op) (a 
       omega arith
 
 -- and a Free that releases nothing.
-module _ (weight : ℕ → ℕ) (c : Config) (es more : List Event) (r : ℕ) (a : Answer) (whole : IsHistory c (es ++ more))
+module _ (weight : ℕ → ℕ) {c : Config} (es more : List Event) (r : ℕ) (a : Answer) (whole : IsHistory c (es ++ more))
     (one : calls_from c (left c es) more ≡ entry_of 0 (Op.Free r) (Some a)) where
   abbrev value : Value
   value = register_at (never_behind c es) 0 r
@@ -169,9 +169,8 @@ module _ (weight : ℕ → ℕ) (c : Config) (es more : List Event) (r : ℕ) (a
   decides : list_any is_free_call (call_decided c at.now f.event) ≡ true
   decides = cc (at_is, frees_decide c (left c (es ++ f.before)).now f.event.seat f.event.step f.decides)
 
-  split : calls_from c (left c es) f.before
-      ++ (call_decided c at.now f.event ++ calls_from c (world_behind c at f.event) f.behind)
-      ≡ entry_of 0 (Op.Free r) (Some a)
+  split : calls_from c (left c es) f.before ++ (call_decided c at.now f.event ++ calls_from c
+      (world_behind c at f.event) f.behind) ≡ entry_of 0 (Op.Free r) (Some a)
   unfolding calls_from
   split = grind (arith, calls_append)
 
@@ -198,7 +197,7 @@ module _ (weight : ℕ → ℕ) (c : Config) (es more : List Event) (r : ℕ) (a
 
   pub most_of_late : MostWhereFreed weight c es (Op.Free r) (es ++ more)
   most_of_late =
-      let done = most_of_free weight c es first r a (earlier_part_is_history c (es ++ first) f.behind
+      let done = most_of_free weight es first r a (earlier_part_is_history c (es ++ first) f.behind
       (subst (IsHistory c) in_parts whole)) first_decides (grind (arith, lacks_append, lacks_one, freeing_is)) in
       let parts = from-append c (weighed weight) (first_world c) (es ++ first) f.behind in
       let last = last_below c (weighed weight) (first_world c) (es ++ first) in
@@ -210,5 +209,5 @@ module _ (weight : ℕ → ℕ) (c : Config) (es more : List Event) (r : ℕ) (a
 pub free_most : (weight : ℕ → ℕ) {c : Config} (es more : List Event) (r : ℕ) (a : Answer) → IsHistory c (es ++ more)
     → calls_from c (left c es) more ≡ entry_of 0 (Op.Free r) (Some a) → ReleasesLate c es more
     → MostWhereFreed weight c es (Op.Free r) (es ++ more)
-free_most weight {c} es more r a whole one (inl none) = most_of_free weight c es more r a whole one none
+free_most weight {c} es more r a whole one (inl none) = most_of_free weight es more r a whole one none
 free_most weight {c} es more r a whole one (inr f) = most_of_late weight c es more r a whole one f

@@ -2,12 +2,12 @@
 use Rattle.std.proofs.Common.{get_or-drop}
 use Rattle.mk_trace.proofs.Vocabulary.{A, C, Config, Event, F, IsHistory, K, NeverState, Null, Op, TraceEvent, W}
 use Rattle.mk_trace.proofs.Vocabulary.{after_calls, calls_of_caller, drop_more, global_at, histories_keep_the_invariant}
-use Rattle.mk_trace.proofs.{Vocabulary.{length-drop, never_behind, ops_of, register_at}, FreeCalls.is_free}
-use Rattle.mk_trace.proofs.{LaterOps.{AreCalled, either_way}, OneCaller.never_behind_all}
+use Rattle.mk_trace.proofs.Vocabulary.{length-drop, never_behind, ops_of, register_at}
 use Rattle.mk_laws.proofs.Vocabulary.{Bool, List, ℕ, ap, arith, drop, false, get_or, get_or-set_same, length, list_any}
 use Rattle.mk_laws.proofs.Vocabulary.{list_any-append, or_parts, refl, subst, sym, take, [], ◌*◌, ◌++◌, ◌+◌, ◌<◌, ◌∙◌}
 use Rattle.mk_laws.proofs.Vocabulary.{◌∷◌, ◌≡◌}
-use Rattle.mk_trace.specs.{Freeing.{FreesItsSlot, FreesSlot}, Traces.slot_of}
+use Rattle.mk_trace.proofs.{FreeCalls.is_free, LaterOps.AreCalled, LaterOps.either_way, OneCaller.never_behind_all}
+use Rattle.mk_trace.specs.{Freeing.FreesItsSlot, Freeing.FreesSlot, Traces.slot_of}
 
 no_free : (ops before : List Op) (o : Op) (rest : List Op) (p : ℕ) → list_any is_free ops ≡ false
     → ops ≡ before ++ o ∷ rest → o ≡ Op.Free p → ⊥
@@ -17,15 +17,13 @@ abbrev FreesNone : TraceEvent → Bool → Type 0
 FreesNone event full = list_any is_free (ops_of full event) ≡ false
 
 module _ (n : NeverState) (count : length n.registers ≡ 8) (slot : ℕ) where
-  loaded : (b : Op) (p : ℕ) → b ≡ Op.GetGlobal 0 slot → p ≡ 0
-      → register_at (after_calls n (calls_of_caller (b ∷ []))) 0 p
-      ≡ global_at (after_calls n (calls_of_caller (b ∷ []))) slot
+  loaded : (b : Op) (p : ℕ) → b ≡ Op.GetGlobal 0 slot → p ≡ 0 → register_at
+      (after_calls n (calls_of_caller (b ∷ []))) 0 p ≡ global_at (after_calls n (calls_of_caller (b ∷ []))) slot
   loaded b p is at = cc (is, at, get_or-set_same n.registers (8 * 0 + 0) (global_at n slot) Null (omega (arith, count)))
 
   by_place : (before : List Op) (o : Op) (rest : List Op) (p : ℕ)
-      → Op.GetGlobal 0 slot ∷ Op.Free 0 ∷ Op.Clear 0 ∷ [] ≡ before ++ o ∷ rest → o ≡ Op.Free p
-      → register_at (after_calls n (calls_of_caller before)) 0 p
-      ≡ global_at (after_calls n (calls_of_caller before)) slot
+      → Op.GetGlobal 0 slot ∷ Op.Free 0 ∷ Op.Clear 0 ∷ [] ≡ before ++ o ∷ rest → o ≡ Op.Free p → register_at
+      (after_calls n (calls_of_caller before)) 0 p ≡ global_at (after_calls n (calls_of_caller before)) slot
   by_place [] o rest p split is = absurd cc
   by_place (b ∷ []) o rest p split is = grind (arith, loaded)
   by_place (b ∷ d ∷ []) o rest p split is = absurd cc

@@ -73,16 +73,14 @@ sums_but_one f (suc n) (x ∷ xs) (y ∷ ys) count same =
 
 -- Changes one by one.
 
-pub sum_falls : (f : PlacedAllocation → ℕ) (change : PlacedAllocation → PlacedAllocation)
-    → ((a : PlacedAllocation) → f (change a) ≤ f a) → (xs : List PlacedAllocation)
-    → sum_by f (map change xs) ≤ sum_by f xs
+pub sum_falls : (f : PlacedAllocation → ℕ) (change : PlacedAllocation → PlacedAllocation) → ((a : PlacedAllocation)
+    → f (change a) ≤ f a) → (xs : List PlacedAllocation) → sum_by f (map change xs) ≤ sum_by f xs
 sum_falls f change falls [] = omega arith
 sum_falls f change falls (a ∷ xs) =
     omega (arith, sum_by-cons f a xs, sum_by-cons f (change a) (map change xs), falls a, sum_falls f change falls xs)
 
-pub sum_rises : (f : PlacedAllocation → ℕ) (change : PlacedAllocation → PlacedAllocation)
-    → ((a : PlacedAllocation) → f a ≤ f (change a)) → (xs : List PlacedAllocation)
-    → sum_by f xs ≤ sum_by f (map change xs)
+pub sum_rises : (f : PlacedAllocation → ℕ) (change : PlacedAllocation → PlacedAllocation) → ((a : PlacedAllocation)
+    → f a ≤ f (change a)) → (xs : List PlacedAllocation) → sum_by f xs ≤ sum_by f (map change xs)
 sum_rises f change rises [] = omega arith
 sum_rises f change rises (a ∷ xs) =
     omega (arith, sum_by-cons f a xs, sum_by-cons f (change a) (map change xs), rises a, sum_rises f change rises xs)
@@ -96,9 +94,8 @@ part_by weight a b freed released ty = cc
 
 module _ (c : Config) (es fs : List Event) (history : IsHistory c es) (whole : IsHistory c fs) (v : Value)
     (reached : (number : ℕ) → unfreed (never_behind c es) v ≡ Some number → IsReachable (never_behind c es) number)
-    (never : never_behind c fs ≡ after_free (never_behind c es) v)
-    (later : AreLater (left c es).allocations (left c fs).allocations)
-    (same : SameReleased (left c es).allocations (left c fs).allocations) where
+    (never : never_behind c fs ≡ after_free (never_behind c es) v) (later : AreLater (left c es).allocations
+    (left c fs).allocations) (same : SameReleased (left c es).allocations (left c fs).allocations) where
   abbrev xs : List PlacedAllocation
   xs = (left c es).allocations
 

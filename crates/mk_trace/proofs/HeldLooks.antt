@@ -3,13 +3,13 @@ use Rattle.mk_trace.proofs.Vocabulary.{AreOfOthers, Config, Event, Has, HasAll, 
 use Rattle.mk_trace.proofs.Vocabulary.{event_of, has_step, lacks_append, lacks_one, left, seen_made}
 use Rattle.mk_trace.proofs.OwnPieces.{AreMine, are_mine, mine_parts, none_of_others, others_lack, waiting_lacks}
 use Rattle.mk_laws.proofs.Vocabulary.{Bool, List, None, Option, ℕ, ap, arith, earlier_part_is_history, enabled_in_parts}
-use Rattle.mk_laws.proofs.{Vocabulary.{false, refl, subst, sym, [], ◌++◌, ◌∙◌, ◌∷◌, ◌≡◌}, Tallies.tallies_tell}
-use Rattle.mk_laws.proofs.TallySteps.{others_count_nothing}
+use Rattle.mk_laws.proofs.Vocabulary.{false, refl, subst, sym, [], ◌++◌, ◌∙◌, ◌∷◌, ◌≡◌}
+use Rattle.mk_laws.proofs.{Tallies.{exact_more, tallies_tell}, TallySteps.others_count_nothing}
 use Rattle.mk_core.specs.Counts.{TalliesAreExact}
 use Rattle.mk_alloc.proofs.Parts.{seen_then}
 use Rattle.mk_heap.{proofs.MovedHosts.{MovesOn, moves_more, turn_moves}, specs.Turns.{TellsWord}}
 use Rattle.mk_waiting.specs.Taking.{TakesTurn}
-use Rattle.mk_words.proofs.{Made.made, Seats.others_nobody, Tallies.exact_more}
+use Rattle.mk_words.proofs.{Made.made, Seats.others_nobody}
 
 -- Where the turn is taken, the tallies are what they count.
 exact_taken : {p q : PassState} (t : TakesTurn p None q) → Has t.waited.seats t.waited.seat
@@ -97,9 +97,8 @@ module _ {p q : PassState} {x : Word} {n : ℕ} (l : Looked p x n q) where
 
   pub mine : AreMine c [] first × AreMine c [] behind
   mine =
-      mine_parts c [] first behind (are_mine c (left c p.seen) [] (first ++ behind)
-      ((enabled_in_parts c p.seen (first ++ behind)).0
-      (subst (IsHistory c) seen_is l.history).enabled).1 (others_nobody (first ++ behind)))
+      mine_parts c [] first behind (are_mine c (left c p.seen) [] (first ++ behind) ((enabled_in_parts c p.seen
+      (first ++ behind)).0 (subst (IsHistory c) seen_is l.history).enabled).1 (others_nobody (first ++ behind)))
 
   pub of_pass : (r : PassState) (es : List Event) → r ≡ record p { seen = r.seen } → AreOfOthers r.seats es
       → AreOfOthers p.seats es
@@ -111,8 +110,8 @@ module _ {p q : PassState} {x : Word} {n : ℕ} (l : Looked p x n q) where
       lacks_append kind es (e ∷ [])
       (others_lack kind c [] p.seats es l.all (mine_parts c [] es (e ∷ []) whole).0 others) (lacks_one kind e none)
 
-  pub behind_lacks : (kind : Step → Bool) → IsApart kind → has_step kind behind ≡ false
-  behind_lacks kind apart =
+  pub behind_lacks : {kind : Step → Bool} → IsApart kind → has_step kind behind ≡ false
+  behind_lacks apart =
       grind (
         arith,
         mine_parts,
@@ -130,13 +129,12 @@ module _ {p q : PassState} {x : Word} {n : ℕ} (l : Looked p x n q) where
   pub first_lacks : (kind : Step → Bool) → IsApart kind → has_step kind first ≡ false
   first_lacks kind apart =
       let parts = mine_parts c [] h.takes.waits.more taking mine.0 in
-      lacks_append kind h.takes.waits.more taking
-      (waiting_lacks kind c [] p h.takes.waits.more apart.take l.all parts.0 h.takes.waits.only)
-      (others_none h.takes.takes.makes.others (event_of waited (Step.Take None)) kind parts.1
+      lacks_append kind h.takes.waits.more taking (waiting_lacks kind c [] p h.takes.waits.more apart.take l.all parts.0
+      h.takes.waits.only) (others_none h.takes.takes.makes.others (event_of waited (Step.Take None)) kind parts.1
       (of_pass waited h.takes.takes.makes.others waited_same h.takes.takes.makes.of_others) (apart.take None))
 
   pub all_lack : (kind : Step → Bool) → IsApart kind → has_step kind (first ++ behind) ≡ false
-  all_lack kind apart = lacks_append kind first behind (first_lacks kind apart) (behind_lacks kind apart)
+  all_lack kind apart = lacks_append kind first behind (first_lacks kind apart) (behind_lacks apart)
 
   pub exact : TalliesAreExact c taken.seen
   exact =
@@ -147,9 +145,8 @@ module _ {p q : PassState} {x : Word} {n : ℕ} (l : Looked p x n q) where
 
   pub looks_alone : h.looks.makes.others ≡ []
   looks_alone =
-      none_of_others c [] p.seats h.looks.makes.others l.all
-      (mine_parts c [] h.looks.makes.others (event_of taken (Step.Look x) ∷ [])
-      (mine_parts c [] looking giving mine.1).0).0
+      none_of_others c [] p.seats h.looks.makes.others l.all (mine_parts c [] h.looks.makes.others
+      (event_of taken (Step.Look x) ∷ []) (mine_parts c [] looking giving mine.1).0).0
       (of_pass taken h.looks.makes.others taken_same h.looks.makes.of_others)
 
   -- what the pass moves on by

@@ -73,9 +73,8 @@ module _ {on : Bool} {h : HostState} {o : Op} {told : Answer} {q : PassState} {f
         answer = j.answers.answer;
         is_told = j.answers.is_told;
         entry =
-            sym (calls_are_own one j.history) ∙ none_called c grown ∙ j.answers.entry
-            ∙ ap (λ (l : List Decided). l ++ entry_of 0 o (Some j.answers.answer))
-            (calls_are_own one (earlier_part_is_history c es j.own.more whole));
+            sym (calls_are_own one j.history) ∙ none_called c grown ∙ j.answers.entry ∙ ap (λ (l : List Decided). l ++
+            entry_of 0 o (Some j.answers.answer)) (calls_are_own one (earlier_part_is_history c es j.own.more whole));
       }
 
   pub decided : (made : Calls c es o told fs) → calls_from c (left c es) j.own.more ≡ entry_of 0 o (Some made.answer)
@@ -113,8 +112,8 @@ module _ {on : Bool} {h : HostState} {o : Op} {told : Answer} {q : PassState} {f
   -- What is held over it: no more than before, or than at its end.
 
   -- After the grant of a New's object nothing is let go.
-  new_last : (d ty : ℕ) → InTurn (Op.New d ty false) → LastIn j.own.more
-  new_last d ty turn =
+  new_last : {d ty : ℕ} → InTurn (Op.New d ty false) → LastIn j.own.more
+  new_last {d} {ty} turn =
       let o : Op = Op.New d ty false in
       let exactly : NewIsExact turn.ends.turn (object_made c o) = exact o turn in
       subst LastIn (sym (in_parts o turn)) (last_then (before o turn) (acts o turn ++ last o turn)
@@ -137,7 +136,7 @@ module _ {on : Bool} {h : HostState} {o : Op} {told : Answer} {q : PassState} {f
   overs : has_step is_over more ≡ false
   overs = lacks_over c (left c es) elsewhere more the_rest enabled mine
 
-  module _ (x : Op) (turn : InTurn x) where
+  module _ {x : Op} (turn : InTurn x) where
     one_in_call : RunsOneCycle (acts x turn) → RunsOneCycle more
     one_in_call one =
         subst RunsOneCycle (sym (in_parts x turn)) (one_behind (before x turn) (acts x turn ++ last x turn)
@@ -188,10 +187,10 @@ module _ {on : Bool} {h : HostState} {o : Op} {told : Answer} {q : PassState} {f
   told_by (Op.New d ty full) said off in_turn beside entry =
       let turn : InTurn (Op.New d ty false) = in_turn refl in
       let exactly : NewIsExact turn.ends.turn (object_made c (Op.New d ty false)) = exact (Op.New d ty false) turn in
-      tells_ends c es more enabled overs (one_in_call (Op.New d ty false) turn exactly.one)
+      tells_ends c es more enabled overs (one_in_call turn exactly.one)
       (ap (list_any is_free_call) entry ∙ ap (λ (b : Bool). b || false) (flagged_new d ty full said))
   told_by (Op.Free r) said off in_turn beside entry =
-      free_tells (Op.Free r) (in_turn refl) off _ entry (exact (Op.Free r) (in_turn refl))
+      free_tells (in_turn refl) off _ entry (exact (Op.Free r) (in_turn refl))
   told_by _ said off in_turn beside entry = subst (EndsTell c es) j.own.is (leaves_tell (beside refl))
 
   pub ends_told : on ≡ false → Calls c es o told fs → EndsTell c es fs

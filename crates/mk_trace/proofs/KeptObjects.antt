@@ -76,15 +76,14 @@ module _ (c : Config) (es fs : List Event) (x : Option ℕ)
 
   -- The call
 
-  none_noted : (found : List (List PlacedAllocation)) (objects : List FreedObject) → x ≡ None
-      → AreObjectsOf c found xs (λ (i : ℕ). is_quarantined (placed_at xs i)) objects
-      → AreObjectsOf c found xs was_kept objects
-  none_noted found objects none kept = grind (arith, those_alike, xs, was_kept)
+  none_noted : {found : List (List PlacedAllocation)} {objects : List FreedObject} → x ≡ None → AreObjectsOf c found xs
+      (λ (i : ℕ). is_quarantined (placed_at xs i)) objects → AreObjectsOf c found xs was_kept objects
+  none_noted none kept = grind (arith, those_alike, xs, was_kept)
 
-  one_noted : (found : List (List PlacedAllocation)) (objects : List FreedObject) (k : ℕ) → x ≡ Some k
+  one_noted : {found : List (List PlacedAllocation)} {objects : List FreedObject} (k : ℕ) → x ≡ Some k
       → AreFound found xs → AreObjectsOf c found xs (λ (i : ℕ). is_quarantined (placed_at xs i)) objects
       → AreObjectsOf c found xs was_kept (objects ++ freed_object_of c xs k ∷ [])
-  one_noted found objects k is ends kept = record {
+  one_noted {found} k is ends kept = record {
     numbers = kept.numbers ++ k ∷ [];
     are = cc (kept.are, young, map-append (aged_object c found xs) kept.numbers (k ∷ []));
     those = those;
@@ -105,16 +104,16 @@ module _ (c : Config) (es fs : List Event) (x : Option ℕ)
       those : AreThose was_kept (kept.numbers ++ k ∷ [])
       those i = grind (arith, times_more, at_k, equal_is, was, unequal_is, was_kept, xs)
 
-  noted_by : (found : List (List PlacedAllocation)) (objects : List FreedObject) (y : Option ℕ) → x ≡ y
+  noted_by : {found : List (List PlacedAllocation)} {objects : List FreedObject} (y : Option ℕ) → x ≡ y
       → AreFound found xs → AreObjectsOf c found xs (λ (i : ℕ). is_quarantined (placed_at xs i)) objects
       → AreObjectsOf c found xs was_kept (objects ++ one_or_none (option_map (freed_object_of c xs) y))
-  noted_by found objects None is ends kept = grind (arith, xs, was_kept, append-nil, none_noted)
-  noted_by found objects (Some k) is ends kept = one_noted found objects k is ends kept
+  noted_by None is ends kept = grind (arith, xs, was_kept, append-nil, none_noted)
+  noted_by {found} {objects} (Some k) is ends kept = one_noted k is ends kept
 
-  pub noted : (found : List (List PlacedAllocation)) (objects : List FreedObject) → AreFound found xs
+  pub noted : {found : List (List PlacedAllocation)} {objects : List FreedObject} → AreFound found xs
       → AreObjectsOf c found xs (λ (i : ℕ). is_quarantined (placed_at xs i)) objects
       → AreObjectsOf c found xs was_kept (objects ++ one_or_none (option_map (freed_object_of c xs) x))
-  noted found objects ends kept = noted_by found objects x refl ends kept
+  noted {found} {objects} ends kept = noted_by x refl ends kept
 
   -- and after it.
 
@@ -127,10 +126,9 @@ module _ (c : Config) (es fs : List Event) (x : Option ℕ)
   same_objects found numbers those = grind (arith, maps_agree, xs, ys, exists, object_by)
 
   pub none_released : ((i : ℕ) → i < length xs → (placed_at ys i).released ≡ (placed_at xs i).released)
-      → (found : List (List PlacedAllocation)) (objects : List FreedObject) → AreObjectsOf c found xs was_kept objects
+      → {found : List (List PlacedAllocation)} {objects : List FreedObject} → AreObjectsOf c found xs was_kept objects
       → AreObjectsOf c found ys (λ (i : ℕ). is_quarantined (placed_at ys i)) objects
-  none_released same found objects kept =
-      grind (arith, same_objects, those_alike, was_kept, ys, cases_lt, xs, unfreed_past)
+  none_released same kept = grind (arith, same_objects, those_alike, was_kept, ys, cases_lt, xs, unfreed_past)
 
   module _ (before : IsHistory c es) (behind : IsHistory c fs) (out : phase_of (left c fs).now.words ≢ 4) where
     abbrev w : Words
@@ -144,18 +142,16 @@ module _ (c : Config) (es fs : List Event) (x : Option ℕ)
     left_alike i = grind (arith, cases_lt, xs, still_in, ys, unfreed_past, and-false)
 
     -- One end was after what had been found.
-    module _ (found later : List (List PlacedAllocation))
-        (one : (i : ℕ) → was_kept i ≡ true → age_of i later ≡ age_of i found + 1)
-        (objects : List FreedObject) (kept : AreObjectsOf c found xs was_kept objects) where
+    module _ (found later : List (List PlacedAllocation)) (one : (i : ℕ) → was_kept i ≡ true → age_of i later
+        ≡ age_of i found + 1) (objects : List FreedObject) (kept : AreObjectsOf c found xs was_kept objects) where
       abbrev aged_at : ℕ → FreedObject
       aged_at i = aged (aged_object c found xs i)
 
       all_aged : map aged objects ≡ map aged_at kept.numbers
       all_aged = ap (map aged) kept.are ∙ mapped_twice aged (aged_object c found xs) kept.numbers
 
-      pub ages_gone : map (λ (y : FreedObject). y.age)
-          (filter (λ (y : FreedObject). not (is_freed w y.cell)) (map aged objects))
-          ≡ map (age_in_a_word later) (filter (λ (i : ℕ). (placed_at ys i).released) kept.numbers)
+      pub ages_gone : map (λ (y : FreedObject). y.age) (filter (λ (y : FreedObject). not (is_freed w y.cell))
+          (map aged objects)) ≡ map (age_in_a_word later) (filter (λ (i : ℕ). (placed_at ys i).released) kept.numbers)
       ages_gone =
           let gone : ℕ → Bool = λ i. (placed_at ys i).released in
           let agree = filters_agree (λ (i : ℕ). not (is_freed w (cell_of_allocation c (placed_at xs i)))) gone
@@ -169,12 +165,11 @@ module _ (c : Config) (es fs : List Event) (x : Option ℕ)
           (and_parts (gone i) (was_kept i) (stands_passes (λ (j : ℕ). gone j && was_kept j)
           (filter gone kept.numbers) (those_filtered gone was_kept kept.numbers kept.those) i some)).1))))
 
-    pub let_go : (found later : List (List PlacedAllocation))
-        → ((i : ℕ) → was_kept i ≡ true → age_of i later ≡ age_of i found + 1)
-        → (objects : List FreedObject) → AreObjectsOf c found xs was_kept objects
-        → AreObjectsOf c later ys (λ (i : ℕ). is_quarantined (placed_at ys i))
-        (filter (λ (y : FreedObject). is_freed w y.cell) (map aged objects))
-    let_go found later one objects kept =
+    pub let_go : {found : List (List PlacedAllocation)} (later : List (List PlacedAllocation))
+        → ((i : ℕ) → was_kept i ≡ true → age_of i later ≡ age_of i found + 1) → {objects : List FreedObject}
+        → AreObjectsOf c found xs was_kept objects → AreObjectsOf c later ys (λ (i : ℕ). is_quarantined
+        (placed_at ys i)) (filter (λ (y : FreedObject). is_freed w y.cell) (map aged objects))
+    let_go {found} later one {objects = objects} kept =
         let aged_at : ℕ → FreedObject = λ i. aged (aged_object c found xs i) in
         let unreleased : ℕ → Bool = λ i. not (placed_at ys i).released in
         let rest : List ℕ = filter unreleased kept.numbers in
@@ -187,9 +182,8 @@ module _ (c : Config) (es fs : List Event) (x : Option ℕ)
           are =
               ap (filter (λ (y : FreedObject). is_freed w y.cell)) (all_aged found later one objects kept)
               ∙ filter_mapped (λ (y : FreedObject). is_freed w y.cell) aged_at kept.numbers ∙ ap (map aged_at) agree
-              ∙ maps_agree aged_at (aged_object c later ys) rest (λ i some.
-              (let both = and_parts (unreleased i) (was_kept i)
-              (stands_passes (λ (j : ℕ). unreleased j && was_kept j) rest those i some) in
+              ∙ maps_agree aged_at (aged_object c later ys) rest (λ i some. (let both = and_parts (unreleased i)
+              (was_kept i) (stands_passes (λ (j : ℕ). unreleased j && was_kept j) rest those i some) in
               let lt : i < length xs = freed_before i (and_parts (placed_at ys i).freed _ both.1).0 in
               aged_by c found later xs i (one i both.1)
               ∙ object_by c later xs ys i (flags.later.base i lt) (flags.later.ty i lt)));

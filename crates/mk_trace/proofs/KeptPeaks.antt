@@ -40,9 +40,9 @@ module _ (c : Config) (measure : List PlacedAllocation → ℕ) (words : FreedOb
     (measure_is : (ys : List PlacedAllocation) → measure ys ≡ weighed weight ys)
     (words_is : (ys : List PlacedAllocation) (i age : ℕ)
     → words (record (freed_object_of c ys i) { age = age }) ≡ weight (placed_at ys i).ty) where
-  total : (found : List (List PlacedAllocation)) (ys : List PlacedAllocation) (objects : List FreedObject)
+  total : {found : List (List PlacedAllocation)} {ys : List PlacedAllocation} {objects : List FreedObject}
       → AreObjectsOf c found ys (λ (i : ℕ). is_quarantined (placed_at ys i)) objects → sum_by words objects ≡ measure ys
-  total found ys objects kept =
+  total {found} {ys} kept =
       ap (sum_by words) kept.are ∙ sum_mapped words (aged_object c found ys) kept.numbers
       ∙ sum_alike _ (λ (i : ℕ). weight (placed_at ys i).ty) (λ i. words_is ys i (age_in_a_word found i)) kept.numbers
       ∙ words_of_numbers weight kept.numbers ys kept.those ∙ sym (measure_is ys)
@@ -52,7 +52,7 @@ module _ (c : Config) (measure : List PlacedAllocation → ℕ) (words : FreedOb
   some_is ys None = refl
   some_is ys (Some i) = words_is ys i 0
 
-  module _ (es fs : List Event) (o : Op) (first second third : Peak) (x : Option FreedObject)
+  module _ {es : List Event} (fs : List Event) (o : Op) {first : Peak} (second third : Peak) (x : Option FreedObject)
       (is : x ≡ option_map (freed_object_of c (left c es).allocations) (number_freed (never_behind c es) o))
       (peak : IsPeakOf c measure es first) (rises : second ≡ risen first (some_words words x))
       (most : IsMostWhereFreed c measure (λ (a : PlacedAllocation). weight a.ty) es o fs) where
@@ -66,14 +66,13 @@ module _ (c : Config) (measure : List PlacedAllocation → ℕ) (words : FreedOb
     most_is = grind (arith, adds)
 
     -- Nothing was released.
-    pub peak_stays : (found : List (List PlacedAllocation)) (objects : List FreedObject)
-        → AreObjectsOf c found (left c es).allocations (λ (i : ℕ). is_quarantined (placed_at (left c es).allocations i))
-        objects
+    pub peak_stays : {found : List (List PlacedAllocation)} {objects : List FreedObject} → AreObjectsOf c found
+        (left c es).allocations (λ (i : ℕ). is_quarantined (placed_at (left c es).allocations i)) objects
         → AreObjectsOf c found (left c fs).allocations (λ (i : ℕ). is_quarantined (placed_at (left c fs).allocations i))
         (objects ++ one_or_none x) → third ≡ second → IsPeakOf c measure fs third
-    peak_stays found objects was kept same =
-        let before = total found (left c es).allocations objects was in
-        let behind = total found (left c fs).allocations (objects ++ one_or_none x) kept in
+    peak_stays {found} {objects} was kept same =
+        let before = total was in
+        let behind = total kept in
         let sums = sum_noted words objects x in
         record {
           now = ap (λ (p : Peak). p.now) same ∙ now_is ∙ (omega (arith, before, behind, sums));
@@ -81,21 +80,20 @@ module _ (c : Config) (measure : List PlacedAllocation → ℕ) (words : FreedOb
         }
 
     -- What was released was let go.
-    pub peak_anew : (found : List (List PlacedAllocation)) (rest : List FreedObject)
+    pub peak_anew : {found : List (List PlacedAllocation)} {rest : List FreedObject}
         → AreObjectsOf c found (left c fs).allocations (λ (i : ℕ). is_quarantined (placed_at (left c fs).allocations i))
         rest → third ≡ weighed_anew words rest second → IsPeakOf c measure fs third
-    peak_anew found rest kept anew = record {
-      now = ap (λ (p : Peak). p.now) anew ∙ ap in_a_word (total found (left c fs).allocations rest kept);
+    peak_anew {found} {rest} kept anew = record {
+      now = ap (λ (p : Peak). p.now) anew ∙ ap in_a_word (total kept);
       most = ap (λ (p : Peak). p.most) anew ∙ most_is;
     }
 
 -- All of them.
 module _ (c : Config) (es fs : List Event) (o : Op) (before : IsHistory c es) (behind : IsHistory c fs)
     (few : ends es < 18446744073709551615) (idle : IsBetweenCycles c fs) (tells : EndsNone c es fs ⊎ EndsOne c es fs)
-    (flags : FlagsBehindCall c es o fs)
-    (most : QuarantinesMostWhereFreed c es o fs) (first second third : Freed) (x : Option FreedObject)
-    (is : x ≡ option_map (freed_object_of c (left c es).allocations) (number_freed (never_behind c es) o))
-    (keeps : Keeps c es first) (notes : Notes first x second)
+    (flags : FlagsBehindCall c es o fs) (most : QuarantinesMostWhereFreed c es o fs) (first second third : Freed)
+    (x : Option FreedObject) (is : x ≡ option_map (freed_object_of c (left c es).allocations)
+    (number_freed (never_behind c es) o)) (keeps : Keeps c es first) (notes : Notes first x second)
     (settles : SettlesFreed (left c fs).now.words.freed (in_a_word (ends fs)) second third) where
   abbrev xs : List PlacedAllocation
   xs = (left c es).allocations
@@ -127,29 +125,28 @@ module _ (c : Config) (es fs : List Event) (o : Op) (before : IsHistory c es) (b
   -- No cycle ended.
   module _ (none : EndsNone c es fs) where
     none_gone : Kept found (objects_kept first ++ one_or_none x)
-    none_gone = none_released c es fs x_number flags none.released.released found _ with_freed
+    none_gone = none_released c es fs x_number flags none.released.released with_freed
 
     keeps_none : SettlesWhere true w.freed second third → Keeps c fs third
     keeps_none s = record {
       quarantined =
           peak_stays c (quarantined_words c) (λ (y : FreedObject). y.storage) (storage_weight c) (quarantined_is c)
-          (λ zs i age. refl) es fs o first.quarantined second.quarantined third.quarantined x is keeps.quarantined
-          notes.quarantined most.quarantined found (objects_kept first) keeps.objects none_gone s.0;
+          (λ zs i age. refl) fs o second.quarantined third.quarantined x is keeps.quarantined
+          notes.quarantined most.quarantined keeps.objects none_gone s.0;
       reserved =
           peak_stays c (reserved_words c) (λ (y : FreedObject). y.reserved) (large_weight c) (reserved_is c)
-          (λ zs i age. refl) es fs o first.reserved second.reserved third.reserved x is keeps.reserved
-          notes.reserved most.reserved found (objects_kept first) keeps.objects none_gone s.1;
+          (λ zs i age. refl) fs o second.reserved third.reserved x is keeps.reserved
+          notes.reserved most.reserved keeps.objects none_gone s.1;
       objects =
-          subst (Kept (found_by_ends c fs)) (sym (s.2 ∙ notes.objects))
-          (subst (λ (f : List (List PlacedAllocation)). Kept f (objects_kept first ++ one_or_none x)) (sym none.found)
-          none_gone);
+          subst (Kept (found_by_ends c fs)) (sym (s.2 ∙ notes.objects)) (subst (λ (f : List
+          (List PlacedAllocation)). Kept f (objects_kept first ++ one_or_none x)) (sym none.found) none_gone);
       ages =
           subst (λ (f : List (List PlacedAllocation)). AreAgesOf f ys third.ages.items) (sym none.found)
           (none_ages c es fs x_number flags none.released.released found third.ages.items
           (subst (AreAgesOf found xs) (sym (s.3 ∙ notes.ages)) keeps.ages));
       found =
           subst (λ (f : List (List PlacedAllocation)). AreFound f ys) (sym none.found)
-          (none_found c es fs x_number flags none.released.released found keeps.found);
+          (none_found c es fs x_number flags none.released.released keeps.found);
       ends = settles.ends;
     }
 
@@ -162,28 +159,25 @@ module _ (c : Config) (es fs : List Event) (o : Op) (before : IsHistory c es) (b
     older = kept_age c es fs x_number flags found one.finds one.freed one.released keeps.found
 
     rest_kept : Kept later (still_kept w.freed (map aged (objects_kept second)))
-    rest_kept = let_go c es fs x_number flags before behind out found later older (objects_kept second) noted_objects
+    rest_kept = let_go c es fs x_number flags before behind out later older noted_objects
 
     keeps_one : SettlesWhere false w.freed second third → Keeps c fs third
     keeps_one s = record {
       quarantined =
           peak_anew c (quarantined_words c) (λ (y : FreedObject). y.storage) (storage_weight c) (quarantined_is c)
-          (λ zs i age. refl) es fs o first.quarantined second.quarantined third.quarantined x is keeps.quarantined
-          notes.quarantined most.quarantined later (still_kept w.freed (map aged (objects_kept second))) rest_kept s.0;
+          (λ zs i age. refl) fs o second.quarantined third.quarantined x is keeps.quarantined
+          notes.quarantined most.quarantined rest_kept s.0;
       reserved =
-          peak_anew c (reserved_words c) (λ (y : FreedObject). y.reserved) (large_weight c) (reserved_is c)
-          (λ zs i age. refl) es fs o first.reserved second.reserved third.reserved x is keeps.reserved
-          notes.reserved most.reserved later (still_kept w.freed (map aged (objects_kept second))) rest_kept s.1;
+          peak_anew c (reserved_words c) (λ (y : FreedObject). y.reserved) (large_weight c) (reserved_is c) (λ zs i
+          age. refl) fs o second.reserved third.reserved x is keeps.reserved notes.reserved most.reserved rest_kept s.1;
       objects =
-          subst (Kept (found_by_ends c fs)) (sym s.2)
-          (subst (λ (f : List (List PlacedAllocation)). Kept f (still_kept w.freed (map aged (objects_kept second))))
-          (sym one.found) rest_kept);
+          subst (Kept (found_by_ends c fs)) (sym s.2) (subst (λ (f : List (List PlacedAllocation)). Kept f
+          (still_kept w.freed (map aged (objects_kept second)))) (sym one.found) rest_kept);
       ages =
           subst (λ (f : List (List PlacedAllocation)). AreAgesOf f ys third.ages.items) (sym one.found)
           (one_ages c es fs x_number flags found one.finds one.freed one.released keeps.found second.ages.items
-          third.ages.items noted_objects.numbers
-          (subst (AreAgesOf found xs) (sym notes.ages) keeps.ages) noted_objects.those
-          (s.3 ∙ ap (fold with_one second.ages.items)
+          third.ages.items noted_objects.numbers (subst (AreAgesOf found xs) (sym notes.ages) keeps.ages)
+          noted_objects.those (s.3 ∙ ap (fold with_one second.ages.items)
           (ages_gone c es fs x_number flags before behind out found later older (objects_kept second) noted_objects)));
       found =
           subst (λ (f : List (List PlacedAllocation)). AreFound f ys) (sym one.found)

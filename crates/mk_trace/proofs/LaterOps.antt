@@ -1,16 +1,16 @@
 -- The operations of events: of one more, and those after the first one.
-use Rattle.std.proofs.{Common.{get_or-drop, length-take}, lemmas.List.{drop-append-le, take-append-le}}
+use Rattle.std.proofs.{Common.get_or-drop, Common.length-take, lemmas.List.drop-append-le, lemmas.List.take-append-le}
 use Rattle.std.specs.List.{list_all}
 use Rattle.mk_trace.proofs.Vocabulary.{A, Answer, AreAdmitted, Calls, Config, Event, K, Op, TraceEvent, begins_full}
 use Rattle.mk_trace.proofs.Vocabulary.{calls_of_caller, drop_more, flagged, is_refusal, length-append, length-drop}
 use Rattle.mk_trace.proofs.Vocabulary.{never_behind, one_if, ops_of, refused_events, take-append-drop, take_all}
-use Rattle.mk_trace.proofs.{Vocabulary.take_more, OneCaller.{begins_alike, calls_first, calls_more, full_as_told}}
-use Rattle.mk_trace.proofs.OneCaller.{next_may_come}
+use Rattle.mk_trace.proofs.Vocabulary.{take_more}
 use Rattle.mk_laws.proofs.Vocabulary.{Bool, List, ℕ, and_parts, ap, append-nil, append_assoc, arith, drop, false}
 use Rattle.mk_laws.proofs.Vocabulary.{get_or, if◌then◌else◌, length, list_any, subst, suc, sym, take, true, zero, []}
 use Rattle.mk_laws.proofs.Vocabulary.{◌++◌, ◌+◌, ◌-◌, ◌<◌, ◌||◌, ◌∙◌, ◌∷◌, ◌≡◌, ◌≤◌}
 use Rattle.mk_core.specs.Counts.{is_full_answer}
-use Rattle.mk_trace.specs.{Calls.{CallsAll, MayCome, PlaysEvent}, Playing.ops_played}
+use Rattle.mk_trace.proofs.OneCaller.{begins_alike, calls_first, calls_more, full_as_told, next_may_come}
+use Rattle.mk_trace.specs.{Calls.CallsAll, Calls.MayCome, Calls.PlaysEvent, Playing.ops_played}
 
 -- The operations of events, and how many are refused, with one event more.
 
@@ -55,25 +55,22 @@ module _ (event : TraceEvent) (more : List Answer) where
   abbrev next : List Op
   next = ops_of (begins_full more) event
 
-  pub ops-played_more : (events : List TraceEvent) (answers : List Answer)
-      → length (ops_played events answers) ≡ length answers
-      → ops_played (events ++ event ∷ []) (answers ++ more) ≡ ops_played events answers ++ next
+  pub ops-played_more : (events : List TraceEvent) (answers : List Answer) → length (ops_played events answers)
+      ≡ length answers → ops_played (events ++ event ∷ []) (answers ++ more) ≡ ops_played events answers ++ next
   ops-played_more [] [] count = append-nil next
   ops-played_more [] (a ∷ answers) count = absurd cc
   ops-played_more (x ∷ events) answers count =
       let own : List Op = own_ops x events answers count in
       let left : List Answer = rest x events answers count in
-      ap (λ (full : Bool). ops_of full x ++ ops_played (events ++ event ∷ [])
-      (drop (length (ops_of full x)) (answers ++ more))) (alike x events answers count more)
-      ∙ ap (λ (l : List Answer). own ++ ops_played (events ++ event ∷ []) l)
-      (drop-append-le (length own) answers more (within x events answers count))
+      ap (λ (full : Bool). ops_of full x ++ ops_played (events ++ event ∷ []) (drop (length (ops_of full x))
+      (answers ++ more))) (alike x events answers count more) ∙ ap (λ (l : List Answer). own ++ ops_played
+      (events ++ event ∷ []) l) (drop-append-le (length own) answers more (within x events answers count))
       ∙ ap (λ (l : List Op). own ++ l) (ops-played_more events left (rest_count x events answers count))
       ∙ sym (append_assoc own (ops_played events left) next)
 
   pub refused_more : (events : List TraceEvent) (answers : List Answer)
-      → length (ops_played events answers) ≡ length answers → length more ≡ length next
-      → refused_events (events ++ event ∷ []) (answers ++ more)
-      ≡ refused_events events answers + one_if (list_any is_refusal more)
+      → length (ops_played events answers) ≡ length answers → length more ≡ length next → refused_events
+      (events ++ event ∷ []) (answers ++ more) ≡ refused_events events answers + one_if (list_any is_refusal more)
   refused_more [] [] count size =
       cc (size, take_all (length more) more (omega arith), first_refused (list_any is_refusal more))
   refused_more [] (a ∷ answers) count size = absurd cc
@@ -138,27 +135,25 @@ module _ (c : Config) (es : List Event) (full : Bool) (event : TraceEvent) (i : 
   plain : IsPlain o
   plain = are_plain (drop 1 ops) i o (grind arith) within at
 
-  pub later_call : (refused : Bool) (fs : List Event) (told : Answer) (gs : List Event)
+  pub later_call : {refused : Bool} {fs : List Event} {told : Answer} {gs : List Event}
       → CallsAll c es full (take (i + 1) ops) refused fs → Calls c fs o told gs
       → CallsAll c es full (take (i + 1 + 1) ops) (refused || is_refusal told) gs
-  later_call refused fs told gs h g =
+  later_call {refused} {fs} {told} {gs} h g =
       subst (λ (l : List Op). CallsAll c es full l (refused || is_refusal told) gs)
-      (ap (λ (x : Op). take (i + 1) ops ++ x ∷ []) (plain g.answer) ∙ sym
-      (take_more ops (i + 1) o inside ∙ ap (λ (x : Op). take (i + 1) ops ++ x ∷ []) here)) (calls_more c es full
-      (take (i + 1) ops) refused fs h o told gs g (omega (arith, length-take (i + 1) ops, inside)))
+      (ap (λ (x : Op). take (i + 1) ops ++ x ∷ []) (plain g.answer) ∙ sym (take_more ops (i + 1) o inside ∙ ap
+      (λ (x : Op). take (i + 1) ops ++ x ∷ []) here)) (calls_more h g (omega (arith, length-take (i + 1) ops, inside)))
 
-  pub later_may_come : (refused : Bool) (fs : List Event) → CallsAll c es full (take (i + 1) ops) refused fs
+  pub later_may_come : {refused : Bool} {fs : List Event} → CallsAll c es full (take (i + 1) ops) refused fs
       → AreAdmitted c.globals (never_behind c es) (calls_of_caller ops) → MayCome c fs o
-  later_may_come refused fs h admitted =
+  later_may_come h admitted =
       next_may_come o (drop (i + 1 + 1) ops) h (subst (λ (l : List Op). AreAdmitted c.globals (never_behind c es)
       (calls_of_caller l)) (sym (take-append-drop (i + 1) ops) ∙ ap (λ (l : List Op). take (i + 1) ops ++ l) (
       (drop_more ops (i + 1) o inside) ∙ ap (λ (x : Op). x ∷ drop (i + 1 + 1) ops) here)) admitted)
 
 -- all of them
-pub later_all : {c : Config} {es : List Event} {full : Bool} (event : TraceEvent) (i : ℕ) {refused : Bool}
-    {fs : List Event} → length (drop 1 (ops_of full event)) ≤ i
-    → CallsAll c es full (take (i + 1) (ops_of full event)) refused fs
-    → CallsAll c es full (ops_of full event) refused fs
+pub later_all : {c : Config} {es : List Event} {full : Bool} (event : TraceEvent)
+    (i : ℕ) {refused : Bool} {fs : List Event} → length (drop 1 (ops_of full event)) ≤ i → CallsAll c es full
+    (take (i + 1) (ops_of full event)) refused fs → CallsAll c es full (ops_of full event) refused fs
 later_all {c} {es} {full} event i {refused} {fs} past h =
     subst (λ (l : List Op). CallsAll c es full l refused fs)
     (take_all (i + 1) (ops_of full event) (omega (arith, past, length-drop 1 (ops_of full event)))) h
@@ -187,23 +182,22 @@ pub record AreCalled (c : Config) (es : List Event) (event : TraceEvent) (items 
   pub calls : CallsAll c es full (take (i + 1) (ops_of full event)) refused fs
 
 module _ (c : Config) (es : List Event) (event : TraceEvent) (items : List Op) (i : ℕ) (refused : Bool)
-    (fs : List Event)
-    (h : AreCalled c es event items i refused fs) (o : Op) (within : i < length items) (here : o ≡ get_or items i o)
-  where
-    inside_later : i < length (drop 1 (ops_of h.full event))
-    inside_later = subst (λ (l : List Op). i < length l) h.items_are within
+    (fs : List Event) (h : AreCalled c es event items i refused fs) (o : Op) (within : i < length items)
+    (here : o ≡ get_or items i o) where
+  inside_later : i < length (drop 1 (ops_of h.full event))
+  inside_later = subst (λ (l : List Op). i < length l) h.items_are within
 
-    here_later : o ≡ get_or (drop 1 (ops_of h.full event)) i o
-    here_later = here ∙ ap (λ (l : List Op). get_or l i o) h.items_are
+  here_later : o ≡ get_or (drop 1 (ops_of h.full event)) i o
+  here_later = here ∙ ap (λ (l : List Op). get_or l i o) h.items_are
 
-    pub may_come_now : ((full : Bool) → AreAdmitted c.globals (never_behind c es) (calls_of_caller (ops_of full event)))
-        → MayCome c fs o
-    may_come_now admitted =
-        later_may_come c es h.full event i o inside_later here_later refused fs h.calls (admitted h.full)
+  pub may_come_now : ((full : Bool) → AreAdmitted c.globals (never_behind c es) (calls_of_caller (ops_of full event)))
+      → MayCome c fs o
+  may_come_now admitted =
+      later_may_come c es h.full event i o inside_later here_later h.calls (admitted h.full)
 
-    pub called_one_more : (told : Answer) (gs : List Event) (now : Bool) → Calls c fs o told gs
-        → now ≡ refused || is_refusal told → AreCalled c es event items (i + 1) now gs
-    called_one_more told gs now g is = grind (arith, later_call, inside_later, here_later)
+  pub called_one_more : (told : Answer) (gs : List Event) (now : Bool) → Calls c fs o told gs
+      → now ≡ refused || is_refusal told → AreCalled c es event items (i + 1) now gs
+  called_one_more told gs now g is = grind (arith, later_call, inside_later, here_later)
 
 pub called_all : {c : Config} {es : List Event} {event : TraceEvent} {items : List Op} {i : ℕ} {refused : Bool}
     {fs : List Event} → AreCalled c es event items i refused fs → length items ≤ i → PlaysEvent c es event refused fs

@@ -6,13 +6,13 @@ use Rattle.mk_trace.proofs.Vocabulary.{PlacedAllocation, QuarantinesMostWhereFre
 use Rattle.mk_trace.proofs.Vocabulary.{config_of, ends, freed_object_of, freed_words, greatest, in_a_word}
 use Rattle.mk_trace.proofs.Vocabulary.{is_under_turn, large_words, left, most_held, never_behind, never_first}
 use Rattle.mk_trace.proofs.Vocabulary.{number_freed, objects_kept, option_map, peaks_of, quarantined_words}
-use Rattle.mk_trace.proofs.{Vocabulary.{reserved_words, storage_words}, KeptPeaks.keeps_on, PeakParts.last_below}
-use Rattle.mk_trace.proofs.ReleasedAreFreed.{ages_counted}
+use Rattle.mk_trace.proofs.Vocabulary.{reserved_words, storage_words}
 use Rattle.mk_laws.proofs.Vocabulary.{List, Option, ℕ, ap, arith, false, refl, subst, sym, [], ◌+◌, ◌<◌, ◌∙◌, ◌≡◌, ◌≤◌}
 use Rattle.mk_laws.proofs.Vocabulary.{◌⊎◌}
 use Rattle.mk_core.specs.{Allocations.unreleased_storage, History.left_from}
+use Rattle.mk_trace.proofs.{KeptPeaks.keeps_on, PeakParts.last_below, ReleasedAreFreed.ages_counted}
 use Rattle.mk_trace.specs.Peaks.{HistoryPeaks, found_by_ends, found_by_ends_from, greatest_from}
-use Rattle.mk_trace.specs.{Ledgers.{IsPeakOf, Notes}, declared.ledger.Peak.Peak}
+use Rattle.mk_trace.specs.{Ledgers.IsPeakOf, Ledgers.Notes, declared.ledger.Peak.Peak}
 
 -- The ledger before any event, and what it comes to at the end.
 
@@ -24,9 +24,8 @@ pub first_idle : (c : Config) (es : List Event) → es ≡ [] → IsBetweenCycle
 unfolding left_from
 first_idle c es empty = subst (IsBetweenCycles c) (sym empty) refl
 
-pub first_keeps : (c : Config) (es : List Event) (f : Freed) → es ≡ []
-    → f.quarantined ≡ record { now = 0; most = 0 } → f.reserved ≡ record { now = 0; most = 0 }
-    → objects_kept f ≡ [] → f.ages.items ≡ [] → f.ends ≡ 0 → Keeps c es f
+pub first_keeps : (c : Config) (es : List Event) (f : Freed) → es ≡ [] → f.quarantined ≡ record { now = 0; most = 0 }
+    → f.reserved ≡ record { now = 0; most = 0 } → objects_kept f ≡ [] → f.ages.items ≡ [] → f.ends ≡ 0 → Keeps c es f
 unfolding greatest_from left_from found_by_ends_from
 first_keeps c es f empty quarantined reserved objects ages ends = grind arith
 
@@ -98,8 +97,8 @@ pub never_looked : {c : Config} {es fs : List Event} → HostOnlyLooks c es fs �
 never_looked {c} looks = ap (λ (l : List Decided). after_calls (never_first c) (asked l)) looks.calls
 
 -- One call
-module _ (c : Config) (es0 es1 es2 es3 es4 : List Event) (o : Op) (first second third : Freed)
-    (x : Option FreedObject) (before : HostOnlyLooks c es0 es1) (at_first : IsHistory c es1) (at_last : IsHistory c es2)
+module _ {c : Config} {es0 es1 es2 es3 es4 : List Event} {o : Op} {first second third : Freed}
+    {x : Option FreedObject} (before : HostOnlyLooks c es0 es1) (at_first : IsHistory c es1) (at_last : IsHistory c es2)
     (few : ends es0 < 18446744073709551615) (idle : IsBetweenCycles c es0) (tells : EndsTell c es1 es2)
     (most : QuarantinesMostWhereFreed c es1 o es2)
     (flags : FlagsBehindCall c es1 o es2) (looks : HostOnlyLooks c es2 es3) (more : HostOnlyLooks c es3 es4)

@@ -14,8 +14,8 @@ is_no_look _ = true
 pub word_left : {w v : World} → LeavesTable w v → (x : Word) → named_word v.now.words x ≡ named_word w.now.words x
 word_left {w} {v} leaves x = ap (λ (y : Words). named_word y x) leaves.words ∙ (grind arith)
 
-pub leaves_then : (u v w : World) → LeavesTable u v → LeavesTable v w → LeavesTable u w
-leaves_then u v w one two = grind arith
+pub leaves_then : {u v w : World} → LeavesTable u v → LeavesTable v w → LeavesTable u w
+leaves_then one two = grind arith
 
 step_leaves : (c : Config) (w : World) (seat : Seat) (s : Step) → is_no_look s ≡ false
     → LeavesTable w (world_behind c w (record { seat = seat; step = s }))
@@ -27,8 +27,7 @@ unfolding left_from
 looks_leave c w [] looks = record { allocations = refl; words = refl }
 looks_leave c w (e ∷ es) looks =
     let parts = or_parts (is_no_look e.step) (has_step is_no_look es) looks in
-    leaves_then w (world_behind c w e) (left_from c (world_behind c w e) es)
-    (step_leaves c w e.seat e.step parts.0) (looks_leave c (world_behind c w e) es parts.1)
+    leaves_then (step_leaves c w e.seat e.step parts.0) (looks_leave c (world_behind c w e) es parts.1)
 
 -- So no measure of the allocations changes.
 pub looks_measure : (c : Config) (w : World) (measure : List PlacedAllocation → ℕ) (es : List Event)

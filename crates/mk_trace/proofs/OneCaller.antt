@@ -64,9 +64,8 @@ full_as_told a = grind arith
 -- as many operations as answers
 pub as_many : (xs : List Decided) (ops : List Op) → asked xs ≡ calls_of_caller ops → length ops ≡ length (answered xs)
 as_many xs ops is =
-    sym (length-map ops (λ (o : Op). record { caller = 0; op = o })) ∙ ap length (sym is)
-    ∙ length-map xs (λ (x : Decided). record { caller = x.caller; op = x.op })
-    ∙ sym (length-map xs (λ (x : Decided). x.answer))
+    sym (length-map ops (λ (o : Op). record { caller = 0; op = o })) ∙ ap length (sym is) ∙ length-map xs
+    (λ (x : Decided). record { caller = x.caller; op = x.op }) ∙ sym (length-map xs (λ (x : Decided). x.answer))
 
 any_more : (xs : List Answer) (told a : Answer) → told ≡ as_told a
     → list_any is_refusal (xs ++ a ∷ []) ≡ list_any is_refusal xs || is_refusal told
@@ -82,8 +81,8 @@ pub begins_alike : (answers more : List Answer) → 1 ≤ length answers
 begins_alike x0 more some = grind arith
 
 -- and one more
-module _ (c : Config) (es : List Event) (full : Bool) (ops : List Op) (refused : Bool) (fs : List Event)
-    (h : CallsAll c es full ops refused fs) (o : Op) (told : Answer) (gs : List Event) (g : Calls c fs o told gs) where
+module _ {c : Config} {es : List Event} {full : Bool} {ops : List Op} {refused : Bool} {fs : List Event}
+    (h : CallsAll c es full ops refused fs) {o : Op} {told : Answer} {gs : List Event} (g : Calls c fs o told gs) where
   pub calls_more : 1 ≤ length ops → CallsAll c es full (ops ++ flagged o g.answer ∷ []) (refused || is_refusal told) gs
   calls_more some = grind (arith, map-append, begins_alike, as_many, append_assoc, any_more)
 
@@ -115,10 +114,9 @@ joined_home {w} {h} out g q home is joined seats overs = record {
       subst (λ (x : HostState). Has x.pass.seats (Caller 0)) (sym joined) (has_right out.pass.seats q.seats (Caller 0)
       (subst (λ (l : List Seat). Has l (Caller 0)) (sym seats) (has_first (Caller 0) [])));
   all =
-      subst (λ (x : HostState). HasAll w.config x.pass.seats) (sym joined)
-      (subst (λ (x : HostState). HasAll w.config (x.pass.seats ++ q.seats)) (sym is)
-      (subst (λ (l : List Seat). HasAll w.config (without_seat (Caller 0) h.pass.seats ++ l)) (sym seats)
-      (all_again w.config (Caller 0) h.pass.seats home.all)));
+      subst (λ (x : HostState). HasAll w.config x.pass.seats) (sym joined) (subst
+      (λ (x : HostState). HasAll w.config (x.pass.seats ++ q.seats)) (sym is) (subst (λ (l : List Seat). HasAll w.config
+      (without_seat (Caller 0) h.pass.seats ++ l)) (sym seats) (all_again w.config (Caller 0) h.pass.seats home.all)));
   before_over = overs ∙ ap (λ (x : HostState). has_over x.pass.seen) is ∙ home.before_over;
 }
 
@@ -137,7 +135,7 @@ admits {h} home o comes history = λ es later same.
     subst (λ (xs : List Decided). IsAdmitted c.globals (after_calls (never_first c) (asked xs)) 0 o) (sym all)
     (subst (λ (x : WordsState). MayCome x.config h.pass.seen o) (sym home.table) comes)
 
-module _ (w : WordsState) (h : HostState) (home : CallerIsHome w h) (s : CallerState)
+module _ {w : WordsState} {h : HostState} (home : CallerIsHome w h) (s : CallerState)
     (made : s ≡ at_home (pass_for h (Caller 0))) where
   pub made_seats : s.pass.seats ≡ Caller 0 ∷ []
   made_seats = ap (λ (x : CallerState). x.pass.seats) made

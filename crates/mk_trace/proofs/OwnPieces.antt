@@ -112,9 +112,8 @@ module _ {on : Bool} {p : PassState} {o : Op} {a : Answer} {q : PassState} (h : 
 
   done_seen : h.done.seen ++ h.gives.others ≡ (p.seen ++ before_turn) ++ h.ends.turn.behind
   done_seen =
-      ap (λ (l : List Event). l ++ h.gives.others) (seen_behind turn_stays h.taken h.done h.acts)
-      ∙ append_assoc h.taken.seen h.acts.more h.gives.others
-      ∙ ap (λ (l : List Event). l ++ (h.acts.more ++ h.gives.others)) taken_seen
+      ap (λ (l : List Event). l ++ h.gives.others) (seen_behind turn_stays h.taken h.done h.acts) ∙ append_assoc
+      h.taken.seen h.acts.more h.gives.others ∙ ap (λ (l : List Event). l ++ (h.acts.more ++ h.gives.others)) taken_seen
       ∙ ap (λ (l : List Event). (p.seen ++ before_turn) ++ l) (sym h.turn_part)
 
   pub turn_seen : q.seen ≡ p.seen ++ (before_turn ++ (h.ends.turn.behind ++ giving))

@@ -10,16 +10,16 @@ use Rattle.mk_trace.specs.PeakBounds.{BoundsMeetPeaks, FreshIsQuarterOfPeak, Qua
 
 -- What is quarantined is reserved, or mapped; and what is mapped is fresh, or was freed before the last `begin`.
 
-reserved_or_mapped : (n : ℕ) (released freed large : Bool) → (if freed && not released then n else 0)
-    ≤ (if (freed && not released) && large then n else 0)
-    + (if (not released && not (freed && large)) && freed then n else 0)
+reserved_or_mapped : (n : ℕ) (released freed large : Bool) → (if freed && not released then n else 0) ≤ (if
+    (freed && not released) && large then n else 0) + (if (not released && not (freed && large)) && freed then n else 0)
 reserved_or_mapped n x1 x2 large = grind arith
 
 quarantined_in_parts : (c : Config) (xs : List PlacedAllocation)
     → quarantined_words c xs ≤ reserved_words c xs + quarantined_mapped c xs
 quarantined_in_parts c xs = grind (arith, filtered_in_parts, reserved_or_mapped)
 
-module _ (c : Config) (es front more : List Event) (h : IsHistory c es) (bounded : QuarantineIsBounded false c es)
+module _ {c : Config} {es : List Event} (front more : List Event) (h : IsHistory c es)
+    (bounded : QuarantineIsBounded false c es)
     (is : es ≡ front ++ more) (free : (left c front).now.words.turn ≡ 0) where
   held_below_peak : held_after c front ≤ (peaks_of c es).held
   held_below_peak =
@@ -35,6 +35,6 @@ module _ (c : Config) (es front more : List Event) (h : IsHistory c es) (bounded
 
 pub bounds_meet_peaks : BoundsMeetPeaks
 bounds_meet_peaks c es h bounded = record {
-  fresh = λ front more is free. fresh_below_peak c es front more h bounded is free;
-  quarantined = λ front more is free. quarantine_below_peak c es front more h bounded is free;
+  fresh = λ front more is free. fresh_below_peak front more h bounded is free;
+  quarantined = λ front more is free. quarantine_below_peak front more h bounded is free;
 }

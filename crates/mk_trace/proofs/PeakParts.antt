@@ -69,9 +69,8 @@ module _ (c : Config) (measure : List PlacedAllocation → ℕ) where
       let r = reached (first_world c) es in
       record {
         reached = record { before = r.before; behind = r.behind; is = r.is; same = r.same };
-        above = λ before behind is. subst (λ (all : List Event). measure
-            (left_from c (first_world c) before).allocations ≤ greatest c measure all) (sym is)
-            (above (first_world c) before behind);
+        above = λ before behind is. subst (λ (all : List Event). measure (left_from c (first_world c)
+            before).allocations ≤ greatest c measure all) (sym is) (above (first_world c) before behind);
       }
 
 -- The greatest measure over a history in two parts, where a grant alone makes the measure more, and what lets storage

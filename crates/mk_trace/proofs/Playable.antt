@@ -8,16 +8,15 @@ use Rattle.mk_trace.proofs.Vocabulary.{header_line_of, length-append, lines_of, 
 use Rattle.mk_trace.proofs.Vocabulary.{slot_number, text_fault_at, trace_of_lines, type_fault_at, typed_event}
 use Rattle.mk_trace.proofs.Vocabulary.{types_from, with_event, with_trace_line, words_of_line, written_from}
 use Rattle.mk_trace.proofs.ReadLines.{along_keeps, bound, gone_on, passed_else, then_next, unless_none}
-use Rattle.mk_trace.proofs.SlotTypes.{length-types_from, range_below, types_among}
-use Rattle.mk_trace.specs.{declared.lines.Slot.Slot, Lines.{checked_slot, event_line, heap_pages, slot_from}}
-use Rattle.mk_trace.specs.{Lines.{slot_limit, slot_line}, Typing.{event_on, on_slot, typed_write, words_at}}
-use Rattle.mk_trace.specs.{Traces.{contents_from, words_of_slots}, declared.lines.Action.Action}
-use Rattle.mk_trace.specs.{declared.lines.EventLine.EventLine, declared.lines.Line.Line}
+use Rattle.mk_trace.{proofs.SlotTypes.{length-types_from, range_below, types_among}, specs.declared.lines.Slot.{Slot}}
 use Rattle.mk_laws.proofs.Vocabulary.{Bool, List, None, Option, Some, ℕ, arith, false, get_or, if◌then◌else◌, is_some}
 use Rattle.mk_laws.proofs.Vocabulary.{length, length-map, nat_le, refl, subst, true, [], ◌++◌, ◌+◌, ◌<◌, ◌==◌, ◌∷◌, ◌≡◌}
 use Rattle.mk_laws.proofs.Vocabulary.{◌≤◌}
 use Rattle.mk_check.proofs.{GrammarLemmas.{at_most-None, passed_then, within-None}, FaultLemmas.or-None}
 use Rattle.mk_script.specs.{Lines.{at_most, within}, Operands.{name, number}}
+use Rattle.mk_trace.specs.Lines.{checked_slot, event_line, heap_pages, slot_from, slot_limit, slot_line}
+use Rattle.mk_trace.specs.{Typing.{event_on, on_slot, typed_write, words_at}, Traces.{contents_from, words_of_slots}}
+use Rattle.mk_trace.specs.{declared.lines.Action.Action, declared.lines.EventLine.EventLine, declared.lines.Line.Line}
 
 -- The slots of lines are within their limits, and so is the heap of a header.
 
@@ -28,9 +27,9 @@ pub record AreWithin (slots : List Slot) : Type 0 where
   pub few : length slots ≤ 64
   pub sizes : All SlotIsWithin slots
 
-one_more : (before : List Slot) (slot found : Slot) → checked_slot before slot ≡ Ok found → AreWithin before
+one_more : {before : List Slot} (slot found : Slot) → checked_slot before slot ≡ Ok found → AreWithin before
     → AreWithin (before ++ found ∷ [])
-one_more before slot found h are =
+one_more {before} slot found h are =
     let fresh = passed_else (is_some (slot_number before slot.name)) _ _ found h in
     let is = unless_none (slot_limit (length before + 1) slot.words) slot found fresh.1 in
     let limits = or-None (at_most (length before + 1) 64 Which.Types) (within 1 slot.words 4096 Which.Words) is.0 in
@@ -51,7 +50,7 @@ slot_line_more before (word ∷ words ∷ []) given h are =
     subst (λ (x : Line). AreWithin (with_trace_line before x).slots) is
     (let named = bound (name word) _ found.value found.is in
     let counted = bound (number words) _ found.value named.behind in
-    one_more before.slots (record { name = named.value; words = counted.value }) found.value counted.behind are)
+    one_more (record { name = named.value; words = counted.value }) found.value counted.behind are)
 slot_line_more before _ given h are = absurd cc
 
 by_word : (is_slot : Bool) (before : LinesSoFar) (word : List ℕ) (operands : List (List ℕ)) (given : Line)
@@ -102,16 +101,15 @@ event_more slots before line event h are =
 
 -- A trace of some text can be played.
 
-read : (heap : HeapPages) (written : LinesSoFar) (trace : Contents) → HeapIsWithin heap → AreWithin written.slots
+read : {heap : HeapPages} (written : LinesSoFar) (trace : Contents) → HeapIsWithin heap → AreWithin written.slots
     → contents_of heap written ≡ Ok trace → IsPlayable trace
-read heap written trace pages slots h =
+read {heap} written trace pages slots h =
     let some = passed_else (length written.slots == 0) _ _ trace h in
     let found = then_next (events_from written.slots (length written.slots + 2) written.events []) _ trace some.1 in
     let are = along_keeps type_fault_at (λ events line. typed_event written.slots line) with_event
     (All (IsEventOf (words_of_slots written.slots)))
-    (λ before line event holds is. event_more written.slots before line event is holds)
-    (length written.slots + 2) written.events [] found.value
-    (All-nil (IsEventOf (words_of_slots written.slots))) found.is in
+    (λ before line event holds is. event_more written.slots before line event is holds) (length written.slots + 2)
+    written.events [] found.value (All-nil (IsEventOf (words_of_slots written.slots))) found.is in
     let made = contents_from heap.pages heap.resident (words_of_slots written.slots) found.value in
     let is : made ≡ trace = cc in
     let count = length-map written.slots (λ (slot : Slot). slot.words) in
@@ -143,8 +141,7 @@ of_lines (first ∷ lines) trace h =
     let slots = along_keeps text_fault_at read_behind with_trace_line (λ (w : LinesSoFar). AreWithin w.slots)
     (λ before line given holds is. grind (arith, by_word)) 2 lines nothing_written
     written.value (record { few = omega arith; sizes = All-nil SlotIsWithin }) written.is in
-    read header.value written.value trace (header_within
-    (words_of_line first) header.value header.is) slots written.behind
+    read written.value trace (header_within (words_of_line first) header.value header.is) slots written.behind
 
 pub is_playable : (trace : Contents) → IsOfSomeTraceText trace → IsPlayable trace
 is_playable trace (text, h) = of_lines (lines_of text) trace (passed_then (nat_le (length text) 1048576) _ _ trace h).1

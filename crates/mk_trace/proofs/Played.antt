@@ -6,8 +6,7 @@ use Rattle.mk_trace.proofs.Vocabulary.{calls_of_caller, config_of, first_host, i
 use Rattle.mk_trace.proofs.Vocabulary.{one_if, ops_of, pass_for, refused_events, register_at, take_all, take_more}
 use Rattle.mk_trace.proofs.{LaterOps.{ops-played_more, refused_more}, OneCaller.{as_many, calls_are_own}}
 use Rattle.mk_trace.proofs.{OneCaller.{never_then_calls, none_called}, AdmittedEvents.events_are_admitted}
-use Rattle.mk_trace.{proofs.ExactPlays.{play_is_unswept}, specs.Calls.{HasPlayed, MayBePlayed, PlaysEvent, SameCalls}}
-use Rattle.mk_trace.specs.{Playing.{IsPlayed, ops_played}, Traces.slot_of, Calls.{AreNull, EventsAreAdmitted}}
+use Rattle.mk_trace.{proofs.ExactPlays.{play_is_unswept}, specs.{Playing.{IsPlayed, ops_played}, Traces.slot_of}}
 use Rattle.mk_laws.proofs.Vocabulary.{Bool, List, ℕ, ap, arith, false, get_or, if◌then◌else◌, length, list_any}
 use Rattle.mk_laws.proofs.Vocabulary.{map-append, refl, subst, sym, take, [], ◌++◌, ◌+◌, ◌<◌, ◌∙◌, ◌∷◌, ◌≡◌, ◌≤◌}
 use Rattle.mk_laws.proofs.Promises.{histories_keep_all_promises}
@@ -16,6 +15,7 @@ use Rattle.mk_caller.specs.States.{at_home}
 use Rattle.mk_heap.specs.Reports.{IsWhole}
 use Rattle.mk_quarantine.proofs.Bounds.{quarantine_of_one_is_bounded}
 use Rattle.mk_run.proofs.UnsweptHistories.{unswept_is_precise}
+use Rattle.mk_trace.specs.Calls.{AreNull, EventsAreAdmitted, HasPlayed, MayBePlayed, PlaysEvent, SameCalls}
 
 -- Before the first event.
 pub played_none : (trace : Contents) → HasPlayed trace [] 0 []
@@ -23,48 +23,47 @@ unfolding calls_from
 played_none trace = grind arith
 
 module _ (trace : Contents) (events : List TraceEvent) (refused : ℕ) (es : List Event)
-    (h : HasPlayed trace events refused es)
-    (event : TraceEvent) (is_refused : Bool) (fs : List Event) (p : PlaysEvent (config_of trace) es event is_refused fs)
-  where
-    abbrev c : Config
-    c = config_of trace
+    (h : HasPlayed trace events refused es) (event : TraceEvent) (is_refused : Bool) (fs : List Event)
+    (p : PlaysEvent (config_of trace) es event is_refused fs) where
+  abbrev c : Config
+  c = config_of trace
 
-    abbrev answers : List Answer
-    answers = answered (calls c es)
+  abbrev answers : List Answer
+  answers = answered (calls c es)
 
-    abbrev more : List Answer
-    more = answered p.more
+  abbrev more : List Answer
+  more = answered p.more
 
-    answered_more : answered (calls c fs) ≡ answers ++ more
-    answered_more = ap answered p.is ∙ map-append (λ (x : Decided). x.answer) (calls c es) p.more
+  answered_more : answered (calls c fs) ≡ answers ++ more
+  answered_more = ap answered p.is ∙ map-append (λ (x : Decided). x.answer) (calls c es) p.more
 
-    count : length (ops_played events answers) ≡ length answers
-    count = as_many (calls c es) (ops_played events answers) h.ops
+  count : length (ops_played events answers) ≡ length answers
+  count = as_many (calls c es) (ops_played events answers) h.ops
 
-    ops : asked (calls c fs) ≡ calls_of_caller (ops_played (events ++ event ∷ []) (answered (calls c fs)))
-    ops = grind (arith, map-append, answers, more, ops-played_more, count, answered_more)
+  ops : asked (calls c fs) ≡ calls_of_caller (ops_played (events ++ event ∷ []) (answered (calls c fs)))
+  ops = grind (arith, map-append, answers, more, ops-played_more, count, answered_more)
 
-    pub played_more : EventsAreAdmitted trace → IsHistory c es → IsEventOf trace.slots event
-        → HasPlayed trace (events ++ event ∷ []) (refused + one_if is_refused) fs
-    played_more admitted history of_slots = record {
-      ops = ops;
-      refuses =
-          ap (λ (b : Bool). refused + one_if b) (sym p.refuses)
-          ∙ ap (λ (n : ℕ). n + one_if (list_any is_refusal more)) h.refuses
-          ∙ sym (refused_more event more events answers count
-          (sym (as_many p.more (ops_of (begins_full more) event) p.asks)))
-          ∙ ap (refused_events (events ++ event ∷ [])) (sym answered_more);
-      clear = λ r. subst (λ (n : NeverState). register_at n 0 r ≡ Null) (sym
-          (never_then_calls c es fs p.more p.is ∙ ap (after_calls (never_behind c es)) p.asks))
-          ((admitted es history h.clear event of_slots (begins_full more)).1 r);
-    }
+  pub played_more : EventsAreAdmitted trace → IsHistory c es → IsEventOf trace.slots event
+      → HasPlayed trace (events ++ event ∷ []) (refused + one_if is_refused) fs
+  played_more admitted history of_slots = record {
+    ops = ops;
+    refuses =
+        ap (λ (b : Bool). refused + one_if b) (sym p.refuses)
+        ∙ ap (λ (n : ℕ). n + one_if (list_any is_refusal more)) h.refuses
+        ∙ sym (refused_more event more events answers count
+        (sym (as_many p.more (ops_of (begins_full more) event) p.asks)))
+        ∙ ap (refused_events (events ++ event ∷ [])) (sym answered_more);
+    clear = λ r. subst (λ (n : NeverState). register_at n 0 r ≡ Null) (sym
+        (never_then_calls c es fs p.more p.is ∙ ap (after_calls (never_behind c es)) p.asks))
+        ((admitted es history h.clear event of_slots (begins_full more)).1 r);
+  }
 
 -- When the heap is closed.
 is_played : (trace : Contents) (refused : ℕ) (es : List Event) → HasPlayed trace trace.events refused es
     → IsWhole (config_of trace) es → AllTurnsAreExact (config_of trace) es → IsPlayed trace es
 is_played trace refused es h whole exact =
     let kept = histories_keep_all_promises (config_of trace) es whole.history in
-    let unswept = play_is_unswept trace es whole.history exact in
+    let unswept = play_is_unswept trace whole.history exact in
     record {
       history = whole.history;
       tidy = whole.tidy;
@@ -79,18 +78,17 @@ is_played trace refused es h whole exact =
     }
 
 pub may_be_played : {trace : Contents} {c : Config} {es : List Event} (fs : List Event) (event : TraceEvent)
-    → c ≡ config_of trace
-    → IsPlayable trace → IsHistory c es → AreNull (never_behind c es) → IsEventOf trace.slots event → SameCalls c es fs
-    → MayBePlayed c fs event
+    → c ≡ config_of trace → IsPlayable trace → IsHistory c es → AreNull (never_behind c es)
+    → IsEventOf trace.slots event → SameCalls c es fs → MayBePlayed c fs event
 may_be_played fs event config playable history null of_slots same full = grind (arith, events_are_admitted)
 
 pub slot_within : (slots : List ℕ) (event : TraceEvent) → IsEventOf slots event → slot_of event < length slots
 slot_within slots x1 h = grind arith
 
 -- A slot is a global.
-pub slot_is_global : (trace : Contents) (event : TraceEvent) → IsPlayable trace → IsEventOf trace.slots event
+pub slot_is_global : {trace : Contents} (event : TraceEvent) → IsPlayable trace → IsEventOf trace.slots event
     → slot_of event < 64
-slot_is_global trace event playable h = omega (arith, slot_within trace.slots event h, playable.slot_count.1)
+slot_is_global {trace} event playable h = omega (arith, slot_within trace.slots event h, playable.slot_count.1)
 
 -- The same calls were played.
 pub played_same : {trace : Contents} {events : List TraceEvent} {refused : ℕ} {es : List Event} (fs : List Event)
@@ -113,10 +111,9 @@ pub played_first : (trace : Contents) (c : Config) (events : List TraceEvent) (e
 played_first trace c events es config same = grind (arith, played_same, played_none)
 
 -- The next event of some was played.
-pub next_played : {trace : Contents} {c : Config} (events : List TraceEvent) (i : ℕ) {refused : ℕ} (count : ℕ)
-    {es fs : List Event}
-    {event : TraceEvent} {is_refused : Bool} → c ≡ config_of trace → IsPlayable trace → IsHistory c es
-    → i < length events → event ≡ get_or events i event → IsEventOf trace.slots event
+pub next_played : {trace : Contents} {c : Config} (events : List TraceEvent) (i : ℕ) {refused : ℕ}
+    (count : ℕ) {es fs : List Event} {event : TraceEvent} {is_refused : Bool} → c ≡ config_of trace → IsPlayable trace
+    → IsHistory c es → i < length events → event ≡ get_or events i event → IsEventOf trace.slots event
     → HasPlayed trace (take i events) refused es → PlaysEvent c es event is_refused fs
     → count ≡ refused + one_if is_refused → HasPlayed trace (take (i + 1) events) count fs
 next_played {trace} events i {refused} count {es} {fs} {event} {is_refused} config playable history within here of_slots
@@ -125,9 +122,8 @@ next_played {trace} events i {refused} count {es} {fs} {event} {is_refused} conf
     let of_trace : IsHistory (config_of trace) es = subst (λ (d : Config). IsHistory d es) config history in
     let next : take (i + 1) events ≡ take i events ++ event ∷ [] = grind (arith, take_more) in
     subst (λ (l : List TraceEvent). HasPlayed trace l count fs) (sym next)
-    (subst (λ (n : ℕ). HasPlayed trace (take i events ++ event ∷ []) n fs) (sym is)
-    (played_more trace (take i events) refused es h event is_refused fs plays (events_are_admitted trace playable)
-    of_trace of_slots))
+    (subst (λ (n : ℕ). HasPlayed trace (take i events ++ event ∷ []) n fs) (sym is) (played_more trace
+    (take i events) refused es h event is_refused fs plays (events_are_admitted playable) of_trace of_slots))
 
 pub one_counted : (b : Bool) (n m : ℕ) → m ≡ (if b then n + 1 else n) → m ≡ n + one_if b
 one_counted x0 n m is = grind arith
@@ -170,9 +166,9 @@ closed {trace} {refused} {fs} same config h whole exact =
     (subst (λ (x : Config). IsWhole x fs) config whole) (subst (AllTurnsAreExact (config_of trace)) (sym same) exact)
 
 -- An event of the trace.
-pub event_at : (trace : Contents) (events : List TraceEvent) (i : ℕ) (event : TraceEvent) → IsPlayable trace
+pub event_at : {trace : Contents} (events : List TraceEvent) (i : ℕ) (event : TraceEvent) → IsPlayable trace
     → events ≡ trace.events → i < length events → event ≡ get_or events i event → IsEventOf trace.slots event
-event_at trace events i event playable is within here = grind arith
+event_at events i event playable is within here = grind arith
 
 pub refused_at : {trace : Contents} {refused : ℕ} {es : List Event} (fs : List Event) → fs ≡ es
     → HasPlayed trace trace.events refused es

@@ -3,15 +3,15 @@ use Rattle.mk_trace.proofs.Vocabulary.{AreAgesOf, Cell, Config, Event, IsHistory
 use Rattle.mk_trace.proofs.Vocabulary.{age_in_a_word, allocations_by, cell_of_allocation, counted, first_world}
 use Rattle.mk_trace.proofs.Vocabulary.{flight_of, histories_keep_the_invariant, left, length-append, moves_phase}
 use Rattle.mk_trace.proofs.Vocabulary.{nat_tests, never_granted, one_if, phase_of, placed_at, times, with_released}
-use Rattle.mk_trace.{proofs.CountedAges.{same_counted}, specs.{Ledgers.is_gone, Peaks.released_ages}}
 use Rattle.mk_laws.proofs.Vocabulary.{Bool, List, ℕ, and_parts, ap, append-nil, append_assoc, arith, cases_Bool}
 use Rattle.mk_laws.proofs.Vocabulary.{cases_lt, changed_at, earlier_part_is_history, enabled_in_parts, false}
 use Rattle.mk_laws.proofs.Vocabulary.{freed_leaves, freed_released, fresh_leaves, has_bit_without, if◌then◌else◌, inl}
 use Rattle.mk_laws.proofs.Vocabulary.{inr, left_more, length, length-map, map, not, refl, released_leaves}
 use Rattle.mk_laws.proofs.Vocabulary.{released_where_left, slice_index, subst, suc, sym, true, true≢false, zero, []}
-use Rattle.mk_laws.proofs.{Vocabulary.{◌&&◌, ◌++◌, ◌+◌, ◌<◌, ◌∙◌, ◌∷◌, ◌≡◌}, CyclePhases.AsksPhase}
-use Rattle.mk_laws.proofs.{InvariantTheorems.allocations_stand, Snapshots.unreleased_cycles}
-use Rattle.mk_core.{proofs.ChangedAllocations.{earlier_at, granted_at}, specs.History.{left_from}}
+use Rattle.mk_laws.proofs.Vocabulary.{◌&&◌, ◌++◌, ◌+◌, ◌<◌, ◌∙◌, ◌∷◌, ◌≡◌}
+use Rattle.mk_core.{proofs.ChangedAllocations.earlier_at, proofs.ChangedAllocations.granted_at, specs.History.left_from}
+use Rattle.mk_laws.proofs.{CyclePhases.AsksPhase, InvariantTheorems.allocations_stand, Snapshots.unreleased_cycles}
+use Rattle.mk_trace.{proofs.CountedAges.same_counted, specs.Ledgers.is_gone, specs.Peaks.released_ages}
 
 abbrev pub AreFreed : List PlacedAllocation → Type 0
 AreFreed xs = (i : ℕ) → i < length xs → (placed_at xs i).released ≡ true → (placed_at xs i).freed ≡ true
@@ -75,13 +75,12 @@ module _ (c : Config) (front : List Event) (history : IsHistory c front) where
 
 -- all of them
 
-one_freed : (c : Config) (front : List Event) (e : Event) → IsHistory c (front ++ e ∷ [])
+one_freed : {c : Config} (front : List Event) (e : Event) → IsHistory c (front ++ e ∷ [])
     → AreFreed (left c front).allocations → AreFreed (left c (front ++ e ∷ [])).allocations
-one_freed c front e whole h =
+one_freed {c} front e whole h =
     let on = (enabled_in_parts c front (e ∷ [])).0 whole.enabled in
-    subst (λ (w : World). AreFreed w.allocations) (sym (left_more c (first_world c) front e))
-    (step_freed c front (earlier_part_is_history c front (e ∷ []) whole) e e.step refl
-    (moves_phase c (left c front) e [] on.1).0 h)
+    subst (λ (w : World). AreFreed w.allocations) (sym (left_more c (first_world c) front e)) (step_freed c front
+    (earlier_part_is_history c front (e ∷ []) whole) e e.step refl (moves_phase c (left c front) e [] on.1).0 h)
 
 all_freed : {c : Config} (front rest : List Event) → IsHistory c (front ++ rest)
     → AreFreed (left c front).allocations → AreFreed (left c (front ++ rest)).allocations
@@ -90,7 +89,7 @@ all_freed {c} front (e ∷ rest) whole h =
     let parts = append_assoc front (e ∷ []) rest in
     let same : IsHistory c ((front ++ e ∷ []) ++ rest) = subst (IsHistory c) (sym parts) whole in
     subst (λ (es : List Event). AreFreed (left c es).allocations) parts (all_freed (front ++ e ∷ []) rest same
-    (one_freed c front e (earlier_part_is_history c (front ++ e ∷ []) rest same) h))
+    (one_freed front e (earlier_part_is_history c (front ++ e ∷ []) rest same) h))
 
 none_freed_first : (c : Config) → AreFreed (left c []).allocations
 unfolding left_from

@@ -8,9 +8,8 @@ use Rattle.mk_trace.specs.Ledgers.{SettlesWhere, ages_let_go, is_freed_among, we
 
 -- Words of kept objects, summed up one by one, where a number above 2^64 - 1 stands as 2^64 - 1.
 
-pub total_more : (f : FreedObject → ℕ) (xs : List FreedObject) (i words : ℕ) (d : FreedObject) → i < length xs
-    → words ≡ in_a_word (sum_by f (take i xs))
-    → in_a_word (words + f (get_or xs i d)) ≡ in_a_word (sum_by f (take (i + 1) xs))
+pub total_more : (f : FreedObject → ℕ) (xs : List FreedObject) (i words : ℕ) (d : FreedObject) → i < length xs → words
+    ≡ in_a_word (sum_by f (take i xs)) → in_a_word (words + f (get_or xs i d)) ≡ in_a_word (sum_by f (take (i + 1) xs))
 total_more f xs i words d lt so_far = omega (arith, so_far, sum_by_more f xs i d lt)
 
 pub all_summed : (f : FreedObject → ℕ) (xs : List FreedObject) (i words : ℕ) → length xs ≤ i
@@ -58,12 +57,11 @@ pub ages_more : (freed : List ℕ) (found : List FreedObject) (i : ℕ) (d x : F
 ages_more freed found i d x first ages now b lt so_far same is more =
     let y : FreedObject = aged (get_or found i d) in
     let before : List ℕ = ages_let_go freed (map aged (take i found)) in
-    more ∙ ap (λ (l : List (ℕ × ℕ)). if b then l else with_one l x.age) so_far
-    ∙ ap (λ (z : FreedObject). if b then fold with_one first before else with_one (fold with_one first before) z.age)
-    same ∙ ap (λ (z : Bool). if z then fold with_one first before else with_one (fold with_one first before) y.age) is
-    ∙ one_by (fold with_one first before) y (is_freed_among freed y.cell)
-    ∙ sym (fold-append with_one first before (ages_let_go freed (y ∷ [])))
-    ∙ ap (fold with_one first) (sym (let_go_one freed (map aged (take i found)) y))
+    more ∙ ap (λ (l : List (ℕ × ℕ)). if b then l else with_one l x.age) so_far ∙ ap
+    (λ (z : FreedObject). if b then fold with_one first before else with_one (fold with_one first before) z.age) same
+    ∙ ap (λ (z : Bool). if z then fold with_one first before else with_one (fold with_one first before) y.age) is
+    ∙ one_by (fold with_one first before) y (is_freed_among freed y.cell) ∙ sym (fold-append with_one first before
+    (ages_let_go freed (y ∷ []))) ∙ ap (fold with_one first) (sym (let_go_one freed (map aged (take i found)) y))
     ∙ ap (λ (l : List FreedObject). fold with_one first (ages_let_go freed l)) (sym (all_aged found i d lt))
 
 pub ages_all : (freed : List ℕ) (found : List FreedObject) (i : ℕ) (first ages : List (ℕ × ℕ)) → length found ≤ i

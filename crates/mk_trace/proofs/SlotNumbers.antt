@@ -1,7 +1,7 @@
 -- The numbers of slots by their names, put into a map from the last slot to the first.
-use Rattle.std.proofs.{Common.Bor, lemmas.Iterator.Adapters.position_from-zero, lemmas.List.at_drop_all}
-use Rattle.std.{proofs.lemmas.List.Quantifiers.{position-Some}, specs.Str.{bytes_eq}}
-use Rattle.std.specs.{Cmp.Lexicographic.nat_list_eq_equiv, HashMap.HashMap, List.position_from, Map.lookup}
+use Rattle.std.{proofs.Common.Bor, proofs.lemmas.Iterator.Adapters.position_from-zero, proofs.lemmas.List.at_drop_all}
+use Rattle.std.{proofs.lemmas.List.Quantifiers.position-Some, specs.Cmp.Lexicographic.nat_list_eq_equiv}
+use Rattle.std.{specs.HashMap.HashMap, specs.List.position_from, specs.Map.lookup, specs.Str.bytes_eq}
 use Rattle.mk_laws.proofs.Vocabulary.{List, Some, ℕ, ap, arith, cond, drop, get_or, length, subst, sym, [], ◌+◌, ◌<◌}
 use Rattle.mk_laws.proofs.Vocabulary.{◌∙◌, ◌≡◌}
 use Rattle.mk_trace.proofs.Vocabulary.{at_drop_more, slot_number}
@@ -16,9 +16,8 @@ AreNumbersFrom numbers from slots =
 pub none_put : {S : Type 0} (numbers : HashMap (Bor (List ℕ)) ℕ S) (slots : List Slot) → numbers.entries ≡ []
     → AreNumbersFrom numbers (length slots) (drop (length slots) slots)
 none_put numbers slots empty name =
-    ap (lookup (λ key. bytes_eq name key.now)) empty
-    ∙ sym (at_drop_all (position_from (λ (slot : Slot). bytes_eq name slot.name) (length slots)) slots (length slots)
-    (omega arith))
+    ap (lookup (λ key. bytes_eq name key.now)) empty ∙ sym (at_drop_all
+    (position_from (λ (slot : Slot). bytes_eq name slot.name) (length slots)) slots (length slots) (omega arith))
 
 pub one_more : {S : Type 0} (old new : HashMap (Bor (List ℕ)) ℕ S) (slots : List Slot) (i from : ℕ) (d : Slot)
     (this : List ℕ) → i < length slots → from ≡ i + 1 → this ≡ (get_or slots i d).name

@@ -3,19 +3,18 @@ use Rattle.std.proofs.lemmas.List.Elements.{All-cons, All-head, All-nil, All-rep
 use Rattle.std.proofs.Math.Seq.{get_or-append_seam}
 use Rattle.mk_trace.proofs.Vocabulary.{All, Contents, IsBetween, Kind, To, config_of, kinds_of, length-append}
 use Rattle.mk_trace.proofs.Vocabulary.{length-replicate, range_with_len, replicate, types_from}
+use Rattle.mk_laws.proofs.Vocabulary.{List, Number as Num, ℕ, ap, append_assoc, arith, length, refl, subst, suc, sym}
 use Rattle.mk_laws.proofs.Vocabulary.{zero, [], ◌++◌, ◌+◌, ◌-◌, ◌<◌, ◌∙◌, ◌∷◌, ◌≡◌, ◌≤◌}
 use Rattle.mk_core.specs.Config.{IsAmong, IsTypeAmong}
 use Rattle.mk_trace.specs.Playing.{slot_type}
-use Rattle.mk_laws.proofs.Vocabulary.{List, Number as Num, ℕ, ap, append_assoc, arith, length, refl, subst, suc, sym}
 
 pub length-types_from : (slot : ℕ) (slots : List ℕ) → length (types_from slot slots) ≡ length slots
 length-types_from slot [] = refl
 length-types_from slot (words ∷ slots) = ap (λ n. suc n) (length-types_from (slot + 1) slots)
 
 -- a slot's type stands at its number among the types
-type_among : (types before behind : List (List Kind)) (words : ℕ)
-    → types ≡ before ++ slot_type (length before) words ∷ behind
-    → IsBetween 1 4096 words → IsTypeAmong types (slot_type (length before) words)
+type_among : (types before behind : List (List Kind)) (words : ℕ) → types ≡ before ++ slot_type
+    (length before) words ∷ behind → IsBetween 1 4096 words → IsTypeAmong types (slot_type (length before) words)
 type_among types before behind words is within =
     let slot = length before in
     let size : length (slot_type slot words) ≡ words = omega (arith, within.0, length-replicate (words - 1) Num) in
@@ -28,9 +27,8 @@ type_among types before behind words is within =
           (All-replicate (IsAmong types) (words - 1) Num tt),
     )
 
-pub types_among : (types before : List (List Kind)) (slot : ℕ) (slots : List ℕ) → slot ≡ length before
-    → types ≡ before ++ types_from slot slots
-    → All (IsBetween 1 4096) slots → All (IsTypeAmong types) (types_from slot slots)
+pub types_among : (types before : List (List Kind)) (slot : ℕ) (slots : List ℕ) → slot ≡ length before → types
+    ≡ before ++ types_from slot slots → All (IsBetween 1 4096) slots → All (IsTypeAmong types) (types_from slot slots)
 types_among types before slot [] at is within = All-nil (IsTypeAmong types)
 types_among types before slot (words ∷ slots) at is within =
     let first : IsBetween 1 4096 words = All-head (IsBetween 1 4096) words slots within in
@@ -38,9 +36,8 @@ types_among types before slot (words ∷ slots) at is within =
     let behind = types_from (slot + 1) slots in
     let next : slot + 1 ≡ length (before ++ slot_type slot words ∷ []) = omega
     (arith, at, length-append before (slot_type slot words ∷ [])) in
-    All-cons (IsTypeAmong types) (slot_type slot words) behind
-    (subst (λ n. IsTypeAmong types (slot_type n words)) (sym at)
-    (type_among types before behind words (is ∙ ap (λ n. before ++ slot_type n words ∷ behind) at) first))
+    All-cons (IsTypeAmong types) (slot_type slot words) behind (subst (λ n. IsTypeAmong types (slot_type n words))
+    (sym at) (type_among types before behind words (is ∙ ap (λ n. before ++ slot_type n words ∷ behind) at) first))
     (types_among types (before ++ slot_type slot words ∷ []) (slot + 1) slots next
     (is ∙ sym (append_assoc before (slot_type slot words ∷ []) behind)) others)
 
@@ -57,14 +54,7 @@ range_more first count below = grind arith
 
 -- The heap that a trace is played on, from its parts.
 pub config_is : (trace : Contents) (pages resident count : ℕ) (slots : List ℕ) (types : List (List Kind))
-    (globals : List ℕ)
-    → pages ≡ trace.pages → resident ≡ trace.resident → slots ≡ trace.slots → types ≡ types_from 0 slots
-    → count ≡ length slots → globals ≡ range_with_len 0 count → config_of trace ≡ record {
-      pages = pages;
-      resident = resident;
-      callers = 1;
-      markers = 0;
-      types = types;
-      globals = globals;
-    }
+    (globals : List ℕ) → pages ≡ trace.pages → resident ≡ trace.resident → slots ≡ trace.slots
+    → types ≡ types_from 0 slots → count ≡ length slots → globals ≡ range_with_len 0 count → config_of trace
+    ≡ record { pages = pages; resident = resident; callers = 1; markers = 0; types = types; globals = globals }
 config_is trace pages resident count slots types globals a b d e f g = cc

@@ -21,9 +21,8 @@ most_looked : (c : Config) (measure : List PlacedAllocation → ℕ) (es more : 
     → has_step is_no_look more ≡ false → greatest c measure (es ++ more) ≡ greatest c measure es
 most_looked c measure es more looks = grind (arith, from-append, last_below, looks_measure)
 
-word_found : (r : PassState) (x : Word) (others : List Event) → others ≡ []
-    → found r.table.config (left r.table.config (r.seen ++ others)).now (event_of r (Step.Look x))
-    ≡ word_behind r.table.config r.seen x
+word_found : (r : PassState) (x : Word) (others : List Event) → others ≡ [] → found r.table.config
+    (left r.table.config (r.seen ++ others)).now (event_of r (Step.Look x)) ≡ word_behind r.table.config r.seen x
 word_found r x others none = cc (append-nil r.seen)
 
 module _ {p q : PassState} {x : Word} {n : ℕ} (l : Looked p x n q) where
@@ -66,9 +65,8 @@ module _ {p q : PassState} {x : Word} {n : ℕ} (l : Looked p x n q) where
 
   gives_alone : h.gives.others ≡ []
   gives_alone =
-      none_of_others c [] p.seats h.gives.others l.all
-      (mine_parts c [] h.gives.others (event_of h.looked Step.Give ∷ [])
-      (mine_parts c [] (looking l) (giving l) (mine l).1).1).0
+      none_of_others c [] p.seats h.gives.others l.all (mine_parts c [] h.gives.others
+      (event_of h.looked Step.Give ∷ []) (mine_parts c [] (looking l) (giving l) (mine l).1).1).0
       (of_pass l h.looked h.gives.others (looked_same l) h.gives.of_others)
 
   last_is : last ≡ at ++ look ∷ []
@@ -116,9 +114,8 @@ pub record Reports (c : Config) (es : List Event) (x : Word) (n : ℕ) (fs : Lis
   pub counts : IsTidy c fs → x ≡ Word.Cycles → n ≡ in_a_word (ends es)
 
 pub reports : {w : WordsState} {h : HostState} → CallerIsHome w h → h.pass.seat ≡ Host
-    → {x : Word} {n : ℕ} (k : HostState)
-    → TellsWord h.pass x n k.pass → IsHistory h.pass.table.config k.pass.seen → SweepsNothing h.pass k.pass
-    → Reports w.config h.pass.seen x n k.pass.seen
+    → {x : Word} {n : ℕ} (k : HostState) → TellsWord h.pass x n k.pass → IsHistory h.pass.table.config k.pass.seen
+    → SweepsNothing h.pass k.pass → Reports w.config h.pass.seen x n k.pass.seen
 reports {h} home host {x} {n} k tells history sweeps =
     let l : Looked h.pass x n k.pass = record {
       tells = tells;

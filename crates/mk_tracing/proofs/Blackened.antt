@@ -42,8 +42,7 @@ misses_less (suc n) before after grow =
     let here = less_where_more (before n) (after n) (grow n) in omega arith
 
 misses_fewer : (n i : ℕ) (before after : ℕ → Bool) → ((k : ℕ) → before k ≡ true → after k ≡ true) → i < n
-    → before i ≡ false → after i ≡ true
-    → misses n after < misses n before
+    → before i ≡ false → after i ≡ true → misses n after < misses n before
 unfolding misses
 misses_fewer zero i before after grow lt no_more now = absurd (omega arith)
 misses_fewer (suc n) i before after grow lt no_more now = elim (cases_lt i n) [
@@ -77,9 +76,8 @@ sums_fewer (suc n) i f g each lt here = elim (cases_lt i n) [
 
 -- One more black cell leaves fewer white ones.
 pub fewer_white : (pages page index : ℕ) (blacks : List ℕ) → page < pages → page < length blacks → index < 32
-    → has_bit (slice_index blacks page) index ≡ false
-    → white_cells pages (slice_set blacks page (bit_or (slice_index blacks page) (2 ^ index))) < white_cells pages
-    blacks
+    → has_bit (slice_index blacks page) index ≡ false → white_cells pages
+    (slice_set blacks page (bit_or (slice_index blacks page) (2 ^ index))) < white_cells pages blacks
 unfolding white_cells
 fewer_white pages page index blacks lt within small white =
     let after : List ℕ = slice_set blacks page (bit_or (slice_index blacks page) (2 ^ index)) in
@@ -94,17 +92,15 @@ fewer_white pages page index blacks lt within small white =
 
 -- A gray cell goes on being marked, with its header; it may turn black.
 
-pub gray_turns : (pages : ℕ) (w v : Words) (cell : Cell) → IsGray pages w cell → MarksMore w v
+pub gray_turns : {pages : ℕ} {w v : Words} {cell : Cell} → IsGray pages w cell → MarksMore w v
     → (has_no_pointers (header_in w cell.page) ≡ true) ⊎ (words_point_well pages v cell ≡ true)
     → may_turn_black pages v cell ≡ true
 unfolding may_turn_black
-gray_turns pages w v cell gray more either =
+gray_turns {pages} {w} {v} {cell} gray more either =
     and_from (nat_lt cell.index (cells_under (header_in v cell.page)) && is_marked v cell) _
     (and_from (nat_lt cell.index (cells_under (header_in v cell.page))) (is_marked v cell)
     (ap (λ (y : Words). nat_lt cell.index (cells_under (header_in y cell.page))) more.is ∙ lt-ltb cell.index
-    (cells_under (header_in w cell.page)) gray.index)
-    (more.grow cell.page cell.index gray.marked))
-    (by either)
+    (cells_under (header_in w cell.page)) gray.index) (more.grow cell.page cell.index gray.marked)) (by either)
   where
     by : (has_no_pointers (header_in w cell.page) ≡ true) ⊎ (words_point_well pages v cell ≡ true)
         → (has_no_pointers (header_in v cell.page) || words_point_well pages v cell) ≡ true
@@ -116,19 +112,18 @@ gray_turns pages w v cell gray more either =
         by_second false b e = e
 
 -- A gray cell stays one after marks, with its header and its words.
-pub gray_kept : (pages : ℕ) (w v : Words) (cell : Cell) → IsGray pages w cell → MarksMore w v → IsGray pages v cell
-gray_kept pages w v cell gray more = grind arith
+pub gray_kept : {pages : ℕ} {w v : Words} {cell : Cell} → IsGray pages w cell → MarksMore w v → IsGray pages v cell
+gray_kept gray more = grind arith
 
 -- Once each of its words points well, they all do.
-pub scan_done : (pages : ℕ) (w v : Words) (cell : Cell) → MarksMore w v
-    → ((j : ℕ) → j < cell_words w cell → points_well pages v (slice_index w.heap (first_word w cell + j)) ≡ true)
-    → words_point_well pages v cell ≡ true
-scan_done pages w v cell more each = grind (arith, all_below_from)
+pub scan_done : (pages : ℕ) {w v : Words} (cell : Cell) → MarksMore w v → ((j : ℕ) → j < cell_words w cell
+    → points_well pages v (slice_index w.heap (first_word w cell + j)) ≡ true) → words_point_well pages v cell ≡ true
+scan_done pages cell more each = grind (arith, all_below_from)
 
 -- what stays after marks, of the cell
-pub cell_kept : (w v : Words) (cell : Cell) (i : ℕ) → MarksMore w v
+pub cell_kept : {w v : Words} (cell : Cell) (i : ℕ) → MarksMore w v
     → slice_index v.heap (first_word v cell + i) ≡ slice_index w.heap (first_word w cell + i)
-cell_kept w v cell i more = ap (λ (y : Words). slice_index y.heap (first_word y cell + i)) more.is
+cell_kept cell i more = ap (λ (y : Words). slice_index y.heap (first_word y cell + i)) more.is
 
 -- A page has at most 32 cells.
 
@@ -153,10 +148,10 @@ cells_few (Some (Later distance mapped)) = lit≤ tt
 cells_few None = lit≤ tt
 
 -- A cell is blackened after marks.
-pub blackens_one : (w x v : Words) (cell : Cell) → MarksMore w x
+pub blackens_one : {w x : Words} (v : Words) (cell : Cell) → MarksMore w x
     → v ≡ record x { blacks = slice_set x.blacks cell.page (bit_or (slice_index x.blacks cell.page) (2 ^ cell.index)) }
     → BlackensOne w cell v
-blackens_one w x v cell more is = grind arith
+blackens_one v cell more is = grind arith
 
 -- Colours are added, one part after another.
 
@@ -166,11 +161,10 @@ colours_same w = record { is = refl; marks = λ p k h. h; blacks = λ p k h. h }
 abbrev coloured_as : Words → List ℕ → List ℕ → Words
 coloured_as w ms bs = record w { marks = ms; blacks = bs }
 
-pub colours_then : (w v x : Words) (cell : Cell) → ColoursMore w v → BlackensOne v cell x → ColoursMore w x
-colours_then w v x cell one two = grind (arith, coloured_as, bits_stay)
+pub colours_then : (w : Words) {v x : Words} {cell : Cell} → ColoursMore w v → BlackensOne v cell x → ColoursMore w x
+colours_then w one two = grind (arith, coloured_as, bits_stay)
 
 -- one fewer is white
-pub one_fewer_white : (pages : ℕ) (w v x : Words) (cell : Cell) → IsGray pages w cell → pages ≡ length w.blacks → v ≡ w
-    → BlackensOne v cell x
-    → white_cells pages x.blacks < white_cells pages w.blacks
-one_fewer_white pages w v x cell gray count same one = grind (arith, cells_few, white_cells, fewer_white)
+pub one_fewer_white : {pages : ℕ} {w v x : Words} {cell : Cell} → IsGray pages w cell → pages ≡ length w.blacks → v ≡ w
+    → BlackensOne v cell x → white_cells pages x.blacks < white_cells pages w.blacks
+one_fewer_white gray count same one = grind (arith, cells_few, white_cells, fewer_white)

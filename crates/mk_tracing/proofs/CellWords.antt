@@ -6,9 +6,9 @@ use Rattle.mk_laws.proofs.Vocabulary.{OfRun, Option, Run, ShowsPart, Some, Words
 use Rattle.mk_laws.proofs.Vocabulary.{arith, cell_ends, cell_words, cells_of, cells_under, class_words_of, false}
 use Rattle.mk_laws.proofs.Vocabulary.{first_word, ground_of, has_no_pointers, head_page, header_in, if◌then◌else◌, inl}
 use Rattle.mk_laws.proofs.Vocabulary.{inr, is_heap_address, is_phase, le-leb, left, lt-ltb, nat_lt, ne_eqb}
-use Rattle.mk_laws.proofs.Vocabulary.{never_behind, object_now, page_at_address, phase_of, refl, shows_on, slice_index}
-use Rattle.mk_laws.proofs.Vocabulary.{subst, sym, true, true≢false, words_under, ◌%◌, ◌*◌, ◌+◌, ◌-◌, ◌/◌, ◌<◌, ◌∙◌, ◌≡◌}
-use Rattle.mk_laws.proofs.{Vocabulary.{◌≢◌, ◌≤◌, ◌⊎◌}, BarePages.{Unreleasing, on_allocation, shown_there}}
+use Rattle.mk_laws.proofs.Vocabulary.{never_behind, object_now, page_at_address, phase_of, refl, slice_index, subst}
+use Rattle.mk_laws.proofs.Vocabulary.{sym, true, true≢false, words_under, ◌%◌, ◌*◌, ◌+◌, ◌-◌, ◌/◌, ◌<◌, ◌∙◌, ◌≡◌, ◌≢◌}
+use Rattle.mk_laws.proofs.{Vocabulary.{◌≤◌, ◌⊎◌}, BarePages.{Unreleasing, on_allocation, shown_there}}
 use Rattle.mk_laws.proofs.{CoveredWords.covered_word, InHeap.in_heap_left}
 use Rattle.mk_laws.proofs.{InvariantHistories.histories_keep_the_invariant, LayoutReadings.{claimed, claimed_head}}
 use Rattle.mk_laws.proofs.{RunsInHeap.RunsFit, Serving.Laid, TellGuard.later_pages}
@@ -20,31 +20,29 @@ abbrev LiesBehind : Words → ℕ → ℕ → Type 0
 LiesBehind w p page = (page ≡ p) ⊎ ((distance : ℕ) × (mapped : Bool) ×
     (header_in w page ≡ Some (Later distance mapped)) × (p + distance ≡ page))
 
-part_behind : (w : Words) (o : Object) (p distance page : ℕ) (x : Option Header) → ShowsPart o distance x
-    → header_in w page ≡ x
-    → p + distance ≡ page → LiesBehind w p page
-part_behind w o p distance page x (OfBlock first small leaf) is at = inl (omega arith)
-part_behind w o p distance page x (OfLeafBlock first small leaf) is at = inl (omega arith)
-part_behind w o p distance page x (OfRun mapped first large leaf) is at = inl (omega arith)
-part_behind w o p distance page x (OfLeafRun first large leaf) is at = inl (omega arith)
-part_behind w o p distance page x (OfLater mapped some large) is at = inr (distance, mapped, is, at)
+part_behind : (w : Words) {o : Object} (p : ℕ) {distance : ℕ} (page : ℕ) {x : Option Header} → ShowsPart o distance x
+    → header_in w page ≡ x → p + distance ≡ page → LiesBehind w p page
+part_behind w p page (OfBlock first small leaf) is at = inl (omega arith)
+part_behind w p page (OfLeafBlock first small leaf) is at = inl (omega arith)
+part_behind w p page (OfRun mapped first large leaf) is at = inl (omega arith)
+part_behind w p page (OfLeafRun first large leaf) is at = inl (omega arith)
+part_behind w p {distance = distance} page (OfLater mapped some large) is at = inr (distance, mapped, is, at)
 
 -- While the phase isn't releasing, a word that isn't 0 lies on an allocation, whose headers stand.
-behind_head : (c : Config) (w : World) (n p : ℕ) → Unreleasing c w → slice_index w.now.words.heap n ≢ 0
+behind_head : {c : Config} {w : World} (n p : ℕ) → Unreleasing c w → slice_index w.now.words.heap n ≢ 0
     → head_page w.now.words (n / 64) ≡ p → LiesBehind w.now.words p (n / 64)
-behind_head c w n p q some head =
+behind_head {c} {w} n p q some head =
     let x = on_allocation c w n q some in
     let shown = shown_there c w x.claim q x.among in
     let at = x.at in
     let page : x.claim.page ≡ p = grind (arith, claimed_head) in
-    part_behind w.now.words x.claim.object p x.distance (n / 64)
-    (shows_on w.now.words.pages (x.claim.page + x.distance))
+    part_behind w.now.words p (n / 64)
     (claimed w.now.words.pages x.claim x.distance shown x.near) (ap (λ i. header_in w.now.words i) (sym at))
     (omega arith)
 
-unreleasing_behind : (c : Config) (es : List Event) → IsHistory c es → phase_of (left c es).now.words ≡ 2
+unreleasing_behind : {c : Config} {es : List Event} → IsHistory c es → phase_of (left c es).now.words ≡ 2
     → Unreleasing c (left c es)
-unreleasing_behind c es h two =
+unreleasing_behind {c} {es} h two =
     let all : Invariant c (left c es) (never_behind c es) = histories_keep_the_invariant c es h in
     let w : World = left c es in
     let off : is_phase w.now.words 4 ≡ false = ne_eqb (phase_of w.now.words) 4 (λ e. omega arith) in
@@ -98,11 +96,11 @@ in_heap_under c w p k i (Some Free) fit is lt lk scanned li = absurd (omega arit
 in_heap_under c w p k i (Some (Later d m)) fit is lt lk scanned li = absurd (omega arith)
 in_heap_under c w p k i None fit is lt lk scanned li = absurd (omega arith)
 
-pub words_in_heap : (c : Config) (es : List Event) (cell : Cell) (i : ℕ) → IsHistory c es → cell.page < c.pages
+pub words_in_heap : {c : Config} {es : List Event} (cell : Cell) (i : ℕ) → IsHistory c es → cell.page < c.pages
     → cell.index < cells_under (header_in (left c es).now.words cell.page)
     → has_no_pointers (header_in (left c es).now.words cell.page) ≡ false
     → i < cell_words (left c es).now.words cell → first_word (left c es).now.words cell + i < 64 * c.pages
-words_in_heap c es cell i h lt lk scanned li =
+words_in_heap {c} {es} cell i h lt lk scanned li =
     in_heap_under c (left c es).now.words cell.page cell.index i (header_in (left c es).now.words cell.page)
     (in_heap_left c es h.within_limits h.enabled).runs refl lt lk scanned li
 
@@ -119,52 +117,46 @@ page_under p k i (Some (Later d m)) lk li = absurd (omega arith)
 page_under p k i None lk li = absurd (omega arith)
 
 pub page_of_word : (w : Words) (cell : Cell) (i size : ℕ) → cell.index < cells_under (header_in w cell.page)
-    → size ≡ cell_words w cell → i < size
-    → cell.page + i / 64 ≡ (64 * cell.page + cell.index * size + i) / 64
+    → size ≡ cell_words w cell → i < size → cell.page + i / 64 ≡ (64 * cell.page + cell.index * size + i) / 64
 page_of_word w cell i size lk is li = grind (arith, page_under)
 
 -- and a lookup finds the cell at each that isn't 0.
 
 run_at : (pages : ℕ) (w : Words) (n p count : ℕ) → n < 64 * pages → header_in w p ≡ Some (Run count true)
-    → LiesBehind w p (n / 64)
-    → pointed_cell pages w.pages (address_of n) ≡ Some (record { page = p; index = 0 })
+    → LiesBehind w p (n / 64) → pointed_cell pages w.pages (address_of n) ≡ Some (record { page = p; index = 0 })
 run_at pages w n p count lt is (inl here) =
     found_at pages w n (Run count true) (record { page = p; index = 0 }) lt (ap (λ q. header_in w q) here ∙ is)
     (ap (λ (q : ℕ). Some (cell_of q 0)) here)
 run_at pages w n p count lt is (inr (d, m, shown, at)) =
-    found_at pages w n (Later d m) (record { page = p; index = 0 }) lt shown
-    (ap (λ (b : Bool). some_where b (cell_of (n / 64 - d) 0)) (le-leb d (n / 64) (omega arith))
-    ∙ ap (λ (q : ℕ). Some (cell_of q 0)) (omega arith))
+    found_at pages w n (Later d m) (record { page = p; index = 0 }) lt shown (ap (λ (b : Bool). some_where b
+    (cell_of (n / 64 - d) 0)) (le-leb d (n / 64) (omega arith)) ∙ ap (λ (q : ℕ). Some (cell_of q 0)) (omega arith))
 
-cell_under_word : (c : Config) (v : World) (p k i : ℕ) (x : Option Header) → Unreleasing c v
-    → header_in v.now.words p ≡ x → k < cells_under x
-    → has_no_pointers x ≡ false → i < words_under x → 64 * p + k * words_under x + i < 64 * c.pages
-    → slice_index v.now.words.heap (64 * p + k * words_under x + i) ≢ 0
-    → head_page v.now.words ((64 * p + k * words_under x + i) / 64) ≡ p
-    → pointed_cell c.pages v.now.words.pages (address_of (64 * p + k * words_under x + i))
-    ≡ Some (record { page = p; index = k })
-cell_under_word c v p k i (Some (Block class)) q is lk scanned li within some head =
+cell_under_word : {c : Config} {v : World} (p k i : ℕ) (x : Option Header) → Unreleasing c v
+    → header_in v.now.words p ≡ x → k < cells_under x → has_no_pointers x ≡ false → i < words_under x
+    → 64 * p + k * words_under x + i < 64 * c.pages → slice_index v.now.words.heap (64 * p + k * words_under x + i) ≢ 0
+    → head_page v.now.words ((64 * p + k * words_under x + i) / 64) ≡ p → pointed_cell c.pages v.now.words.pages
+    (address_of (64 * p + k * words_under x + i)) ≡ Some (record { page = p; index = k })
+cell_under_word {c} {v} p k i (Some (Block class)) q is lk scanned li within some head =
     let size = class_words_of class in
     let ends = cell_ends k size lk in
     let n = 64 * p + k * size + i in
     let page : n / 64 ≡ p = omega arith in
     let place : n % 64 ≡ k * size + i = omega arith in
     found_at c.pages v.now.words n (Block class) (record { page = p; index = k }) within
-    (ap (λ j. header_in v.now.words j) page ∙ is)
-    (ap (λ j. cell_of_block class j (n % 64)) page ∙ ap (λ j. cell_of_block class p j) place ∙ block_there size
-    (cells_of class) p k i lk li)
-cell_under_word c v p k i (Some (Run count true)) q is lk scanned li within some head =
+    (ap (λ j. header_in v.now.words j) page ∙ is) (ap (λ j. cell_of_block class j (n % 64)) page ∙ ap
+    (λ j. cell_of_block class p j) place ∙ block_there size (cells_of class) p k i lk li)
+cell_under_word {c} {v} p k i (Some (Run count true)) q is lk scanned li within some head =
     let n = 64 * p + k * (64 * count) + i in
     let zero : 0 ≡ k = omega arith in
-    cc (run_at c.pages v.now.words n p count within is (behind_head c v n p q some head), zero)
-cell_under_word c v p k i (Some (Run count false)) q is lk scanned li within some head = absurd (true≢false scanned)
-cell_under_word c v p k i (Some (LeafBlock class)) q is lk scanned li within some head = absurd (true≢false scanned)
-cell_under_word c v p k i (Some (LeafRun count)) q is lk scanned li within some head = absurd (true≢false scanned)
-cell_under_word c v p k i (Some Free) q is lk scanned li within some head = absurd (omega arith)
-cell_under_word c v p k i (Some (Later d m)) q is lk scanned li within some head = absurd (omega arith)
-cell_under_word c v p k i None q is lk scanned li within some head = absurd (omega arith)
+    cc (run_at c.pages v.now.words n p count within is (behind_head n p q some head), zero)
+cell_under_word p k i (Some (Run count false)) q is lk scanned li within some head = absurd (true≢false scanned)
+cell_under_word p k i (Some (LeafBlock class)) q is lk scanned li within some head = absurd (true≢false scanned)
+cell_under_word p k i (Some (LeafRun count)) q is lk scanned li within some head = absurd (true≢false scanned)
+cell_under_word p k i (Some Free) q is lk scanned li within some head = absurd (omega arith)
+cell_under_word p k i (Some (Later d m)) q is lk scanned li within some head = absurd (omega arith)
+cell_under_word p k i None q is lk scanned li within some head = absurd (omega arith)
 
-pub cell_of_word : (c : Config) (es : List Event) (cell : Cell) (i : ℕ) → IsHistory c es
+pub cell_of_word : {c : Config} {es : List Event} (cell : Cell) (i : ℕ) → IsHistory c es
     → phase_of (left c es).now.words ≡ 2 → cell.page < c.pages
     → cell.index < cells_under (header_in (left c es).now.words cell.page)
     → has_no_pointers (header_in (left c es).now.words cell.page) ≡ false
@@ -172,9 +164,8 @@ pub cell_of_word : (c : Config) (es : List Event) (cell : Cell) (i : ℕ) → Is
     → slice_index (left c es).now.words.heap (first_word (left c es).now.words cell + i) ≢ 0
     → pointed_cell c.pages (left c es).now.words.pages (address_of (first_word (left c es).now.words cell + i))
     ≡ Some cell
-cell_of_word c es cell i h two lt lk scanned li some =
+cell_of_word {c} {es} cell i h two lt lk scanned li some =
     let v : World = left c es in
-    let q = unreleasing_behind c es h two in
-    cell_under_word c v cell.page cell.index i (header_in v.now.words cell.page) q refl lk scanned li
-    (words_in_heap c es cell i h lt lk scanned li) some
-    (covered_word v.now.words cell.page cell.index i (later_pages c v q) lk scanned li some)
+    let q = unreleasing_behind h two in
+    cell_under_word cell.page cell.index i (header_in v.now.words cell.page) q refl lk scanned li (words_in_heap cell i
+    h lt lk scanned li) some (covered_word v.now.words cell.page cell.index i (later_pages c v q) lk scanned li some)

@@ -2,8 +2,8 @@
 use Rattle.mk_laws.proofs.Vocabulary.{List, Words, ℕ, ap, arith, cases_eq, cases_lt, get_or-set_other, get_or-set_same}
 use Rattle.mk_laws.proofs.Vocabulary.{get_or_past, head_page, inl, inr, length, refl, set-get_or, set_past, slice_index}
 use Rattle.mk_laws.proofs.Vocabulary.{slice_set, subst, sym, ◌+◌, ◌<◌, ◌∙◌, ◌≡◌, ◌≢◌}
-use Rattle.mk_tracing.{proofs.DirtyWords.{dirty_is_one}, specs.Grays.{IsCleaner}}
-use Rattle.mk_tracing.specs.{Stops.still_words, Grays.{BlacksFewer, DirtyFewer, DirtyIsUnscanned, HasDirtyPart}}
+use Rattle.mk_tracing.{proofs.DirtyWords.{dirty_is_one}, specs.Stops.{still_words}}
+use Rattle.mk_tracing.specs.Grays.{BlacksFewer, DirtyFewer, DirtyIsUnscanned, HasDirtyPart, IsCleaner}
 use Rattle.mk_words.specs.States.{PassState}
 
 -- a word that is cleared, and the others
@@ -61,8 +61,8 @@ dirt_cleared w v page e = ap (λ (x : Words). slice_index x.dirty page) e ∙ cl
 pub dirt_stays : (w v : Words) (page : ℕ) → v ≡ dirtied_as w (slice_set w.dirty page 0) → IsCleaner w v
 dirt_stays w v page e p z = ap (λ (x : Words). slice_index x.dirty p) e ∙ cleared_stays w.dirty page p z
 
-pub same_dirt : (w v : Words) (p : ℕ) → BlacksFewer w v → slice_index v.dirty p ≡ slice_index w.dirty p
-same_dirt w v p fewer = ap (λ (x : Words). slice_index x.dirty p) fewer.is
+pub same_dirt : {w v : Words} (p : ℕ) → BlacksFewer w v → slice_index v.dirty p ≡ slice_index w.dirty p
+same_dirt p fewer = ap (λ (x : Words). slice_index x.dirty p) fewer.is
 
 -- A dirty page whose black word is cleared, and that of its head.
 pub cleared_unscanned : (v : Words) (page : ℕ) → slice_index v.blacks page ≡ 0
@@ -78,8 +78,8 @@ pub head_part : (p : PassState) (page head : ℕ) → slice_index (still_words p
 head_part p page head some is = grind (arith, dirty_is_one)
 
 -- such a part is one in the same words but for the black ones
-pub part_kept : (w v : Words) (page : ℕ) → BlacksFewer w v → HasDirtyPart w page → HasDirtyPart v page
-part_kept w v page fewer h = grind arith
+pub part_kept : {w v : Words} {page : ℕ} → BlacksFewer w v → HasDirtyPart w page → HasDirtyPart v page
+part_kept fewer h = grind arith
 
 -- what holds of each page below one, and of the next
 pub pages_then : (P Q : ℕ → Type 0) (i : ℕ) → ((p : ℕ) → P p → Q p) → ((p : ℕ) → p < i → P p) → Q i → (p : ℕ)

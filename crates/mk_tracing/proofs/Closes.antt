@@ -16,8 +16,8 @@ all_from test [] each = refl
 all_from test (x ∷ xs) each = and_from (test x) (list_all test xs) (each 0) (all_from test xs (λ i. each (suc i)))
 
 -- Roots go on pointing well while marks and black bits are added.
-pub roots_more : (pages : ℕ) (w v : Words) → ColoursMore w v → RootsPointWell pages w → RootsPointWell pages v
-roots_more pages w v more roots = record {
+pub roots_more : {pages : ℕ} {w v : Words} → ColoursMore w v → RootsPointWell pages w → RootsPointWell pages v
+roots_more {pages} {w} {v} more roots = record {
   registers = λ i. ap (λ (y : Words). points_well pages v (slice_index y.registers i)) more.is ∙ well
       (slice_index w.registers i) (roots.registers i);
   globals = λ g. ap (λ (y : Words). points_well pages v (slice_index y.globals g)) more.is ∙ well
@@ -40,12 +40,10 @@ may_close_now p wanted all black clean roots =
     may_step p Step.Close wanted.ready all.0 refl refl all.1 (eq-eqb (phase_of w) 2 wanted.phase) refl
     (and_from (none_attends (now_of p).seats.markers && all_below pages (has_closed_page w)) (roots_point_well pages w)
     (and_from (none_attends (now_of p).seats.markers) (all_below pages (has_closed_page w))
-    (none_from (now_of p).seats.markers wanted.none)
-    (all_below_from pages (has_closed_page w) (λ pg lt. and_from _ (slice_index w.dirty pg == 0)
-    (eq-eqb _ 0 (black pg lt)) (eq-eqb (slice_index w.dirty pg) 0 (clean pg lt)))))
-    (and_from (list_all (points_well pages w) w.registers) (list_all (points_well pages w) w.globals)
-    (all_from (points_well pages w) w.registers roots.registers)
-    (all_from (points_well pages w) w.globals roots.globals)))
+    (none_from (now_of p).seats.markers wanted.none) (all_below_from pages (has_closed_page w) (λ pg lt. and_from _
+    (slice_index w.dirty pg == 0) (eq-eqb _ 0 (black pg lt)) (eq-eqb (slice_index w.dirty pg) 0 (clean pg lt)))))
+    (and_from (list_all (points_well pages w) w.registers) (list_all (points_well pages w) w.globals) (all_from
+    (points_well pages w) w.registers roots.registers) (all_from (points_well pages w) w.globals roots.globals)))
 
 pub marks_closed_now : (p : PassState) → IsHistory p.table.config p.seen → IsEnabledTo p Step.Close
     → MarksAreClosed p.table.config (world_of p)

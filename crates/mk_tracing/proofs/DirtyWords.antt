@@ -1,5 +1,5 @@
 -- A dirty word is 0 or 1, after every list of events.
-use Rattle.std.proofs.{Common.replicate, lemmas.List.{get_or-replicate, length-replicate}}
+use Rattle.std.proofs.{Common.replicate, lemmas.List.get_or-replicate, lemmas.List.length-replicate}
 use Rattle.mk_laws.proofs.Vocabulary.{Access, Config, Event, List, Load, Moment, Named, Seat, Step, Store, Tally, Word}
 use Rattle.mk_laws.proofs.Vocabulary.{Words, World, ℕ, accessed, ap, arith, cases_eq, cases_lt, first_world, flight_of}
 use Rattle.mk_laws.proofs.Vocabulary.{get_or-set_other, get_or-set_same, get_or_past, inl, inr, left, length, page_met}
@@ -40,17 +40,16 @@ small_set xs q v le small p = elim (cases_eq p q) [
   ]
 ]
 
-small_on : (xs ys : List ℕ) → IsMarked01 xs ys → AreSmall xs → AreSmall ys
-small_on xs ys (Same e) small = subst AreSmall (sym e) small
-small_on xs ys (OneIs p v le e) small = subst AreSmall (sym e) (small_set xs p v le small)
+small_on : {xs ys : List ℕ} → IsMarked01 xs ys → AreSmall xs → AreSmall ys
+small_on (Same e) small = subst AreSmall (sym e) small
+small_on {xs} (OneIs p v le e) small = subst AreSmall (sym e) (small_set xs p v le small)
 
 small_from : (c : Config) (w : World) (es : List Event) → AreSmall w.now.words.dirty
     → AreSmall (left_from c w es).now.words.dirty
 unfolding left_from
 small_from c w [] small = small
 small_from c w (e ∷ es) small =
-    small_from c (world_behind c w e) es
-    (small_on w.now.words.dirty (moment_behind c w.now e).words.dirty (dirty_behind c w.now e.seat e.step) small)
+    small_from c (world_behind c w e) es (small_on (dirty_behind c w.now e.seat e.step) small)
 
 zeros_small : (n : ℕ) → AreSmall (replicate n 0)
 zeros_small n p = elim (cases_lt p n) [

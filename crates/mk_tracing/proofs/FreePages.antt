@@ -2,10 +2,10 @@
 use Rattle.mk_laws.proofs.Vocabulary.{Block, Free, Header, IsHistory, Later, LeafBlock, LeafRun, None, Option, Run}
 use Rattle.mk_laws.proofs.Vocabulary.{Some, Words, ℕ, arith, cases_lt, false, header_at, header_of, not, refl}
 use Rattle.mk_laws.proofs.Vocabulary.{slice_index, sym, use_under, used_at, ◌<◌, ◌≡◌, ◌≤◌}
-use Rattle.mk_laws.proofs.FreePages.{free_pages_have_nothing}
-use Rattle.mk_geom.{proofs.HeaderLemmas.{word_of-header_of}, specs.PageUses.{is_free_page}}
+use Rattle.mk_geom.{proofs.HeaderLemmas.word_of-header_of, specs.PageUses.is_free_page}
 use Rattle.mk_page_map.specs.Members.{is_in_use}
-use Rattle.mk_tracing.{proofs.NoGrays.{no_gray}, specs.{Grays.HasNoGray, Stops.still_words}}
+use Rattle.mk_laws.proofs.FreePages.{free_pages_have_nothing}
+use Rattle.mk_tracing.{proofs.NoGrays.no_gray, specs.Grays.HasNoGray, specs.Stops.still_words}
 use Rattle.mk_words.specs.States.{PassState}
 
 no_header : (h : ℕ) (x : Option Header) (u : ℕ) → header_of h ≡ x → not (is_free_page (use_under x u)) ≡ false → h ≡ 0

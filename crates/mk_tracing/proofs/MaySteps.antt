@@ -4,14 +4,13 @@ use Rattle.mk_laws.proofs.Vocabulary.{ℕ, all_below, all_below-at, and_from, an
 use Rattle.mk_laws.proofs.Vocabulary.{head_page, is_held, is_number_of, is_phase, lt-ltb, ltb-true, nat_lt}
 use Rattle.mk_laws.proofs.Vocabulary.{none_attends, not, others_are_held, phase_of, pointed_cell, refl, slice_index}
 use Rattle.mk_laws.proofs.{Vocabulary.{true, ◌&&◌, ◌<◌, ◌==◌, ◌^◌, ◌||◌, ◌∙◌, ◌≡◌}, Tests.none_from}
-use Rattle.mk_core.{proofs.AllBelow.{all_below_not_is}, specs.{StopConditions.may_turn_black, Frames.HoldsAll}}
-use Rattle.mk_core.specs.{Ranges.is_word, Readings.NoneAttends, StopConditions.{blackens, is_bit_of, marks_by_hand}}
+use Rattle.mk_core.{proofs.AllBelow.{all_below_not_is}, specs.{Ranges.is_word, Readings.NoneAttends}}
+use Rattle.mk_core.specs.{StopConditions.{blackens, is_bit_of, marks_by_hand, may_turn_black}, Frames.HoldsAll}
 use Rattle.mk_tracing.{proofs.Steps.{may_step}, specs.{Grays.HandPointsInto, Stops.{IsWanted, hand_of, still_words}}}
 use Rattle.mk_words.specs.{States.{PassState, call_of, now_of}, Steps.IsEnabledTo}
 
 look_gates : (c : Config) (w : Words) (seat : Seat) (f : Flight) (x : Word) → others_are_held c.callers w seat ≡ true
-    → is_word c x ≡ true
-    → has_gates c w seat f (Step.Look x) ≡ true
+    → is_word c x ≡ true → has_gates c w seat f (Step.Look x) ≡ true
 look_gates c w seat f (Word.Reg j r) all is =
     all_below-at c.callers j (λ k. is_number_of seat k || is_held w k) all
     (ltb-true j c.callers (and_parts (nat_lt j c.callers) (nat_lt r 8) is).0)
@@ -29,19 +28,18 @@ or_second true b e = refl
 or_second false b e = e
 
 -- the hand's cell, by its one bit
-pub marks_by : (pages : ℕ) (w : Words) (hand : Option Hand) (u : ℕ) (cell : Cell) (h : Hand) → hand ≡ Some h
-    → h.value ≡ u → pointed_cell pages w.pages u ≡ Some cell
-    → marks_by_hand pages w hand cell.page (2 ^ cell.index) ≡ true
+pub marks_by : (pages : ℕ) (w : Words) (hand : Option Hand) (u : ℕ) (cell : Cell) (h : Hand) → hand ≡ Some h → h.value
+    ≡ u → pointed_cell pages w.pages u ≡ Some cell → marks_by_hand pages w hand cell.page (2 ^ cell.index) ≡ true
 marks_by pages w hand u cell h is value points =
     ap (λ (o : Option Hand). marks_by_hand pages w o cell.page (2 ^ cell.index)) is
     ∙ ap (λ v. is_bit_of (pointed_cell pages w.pages v) cell.page (2 ^ cell.index)) value
-    ∙ ap (λ (o : Option Cell). is_bit_of o cell.page (2 ^ cell.index)) points
-    ∙ and_from (cell.page == cell.page) (2 ^ cell.index == 2 ^ cell.index) (eq-eqb cell.page cell.page refl)
-    (eq-eqb (2 ^ cell.index) (2 ^ cell.index) refl)
+    ∙ ap (λ (o : Option Cell). is_bit_of o cell.page (2 ^ cell.index)) points ∙ and_from (cell.page == cell.page)
+    (2 ^ cell.index == 2 ^ cell.index) (eq-eqb cell.page cell.page refl) (eq-eqb (2 ^ cell.index) (2 ^ cell.index) refl)
 
-marks_reached : (p : PassState) (cell : Cell) → HandPointsInto p cell
+marks_reached : {p : PassState} {cell : Cell} → HandPointsInto p cell
     → marks_by_hand p.table.config.pages (now_of p).words (hand_of p) cell.page (2 ^ cell.index) ≡ true
-marks_reached p cell r = marks_by _ (now_of p).words _ r.value cell r.in_hand.hand r.in_hand.is r.in_hand.value r.points
+marks_reached {p} {cell} r =
+    marks_by _ (now_of p).words _ r.value cell r.in_hand.hand r.in_hand.is r.in_hand.value r.points
 
 turns_now : (p : PassState) (cell : Cell) → may_turn_black p.table.config.pages (still_words p) cell ≡ true
     → may_turn_black p.table.config.pages (now_of p).words cell ≡ true
@@ -57,16 +55,15 @@ module _ (p : PassState) (wanted : IsWanted p) (all : HoldsAll p.table.config (n
       (look_gates p.table.config (now_of p).words p.seat (call_of p) x all.1 is) refl refl refl
 
   -- whatever the hand's value stood in
-  pub may_mark_by_hand : (cell : Cell)
-      → marks_by_hand p.table.config.pages (now_of p).words (hand_of p) cell.page (2 ^ cell.index) ≡ true
-      → cell.page < p.table.config.pages → IsEnabledTo p (Step.Mark cell.page (2 ^ cell.index))
+  pub may_mark_by_hand : (cell : Cell) → marks_by_hand p.table.config.pages (now_of p).words (hand_of p) cell.page
+      (2 ^ cell.index) ≡ true → cell.page < p.table.config.pages → IsEnabledTo p (Step.Mark cell.page (2 ^ cell.index))
   may_mark_by_hand cell by_hand lt =
       may_step p (Step.Mark cell.page (2 ^ cell.index)) wanted.ready all.0 refl (lt-ltb cell.page _ lt) refl
       (or_second _ _ phase_two) refl (or_first _ _ by_hand)
 
-  pub may_mark_cell : (cell : Cell) → HandPointsInto p cell → cell.page < p.table.config.pages
+  pub may_mark_cell : {cell : Cell} → HandPointsInto p cell → cell.page < p.table.config.pages
       → IsEnabledTo p (Step.Mark cell.page (2 ^ cell.index))
-  may_mark_cell cell reached lt = may_mark_by_hand cell (marks_reached p cell reached) lt
+  may_mark_cell {cell} reached lt = may_mark_by_hand cell (marks_reached reached) lt
 
   pub may_black_cell : (cell : Cell) → cell.page < p.table.config.pages → cell.index < 32
       → may_turn_black p.table.config.pages (still_words p) cell ≡ true
@@ -86,9 +83,8 @@ module _ (p : PassState) (wanted : IsWanted p) (all : HoldsAll p.table.config (n
   may_unblack_page page lt =
       may_step p (Step.Unblack page) wanted.ready all.0 refl (lt-ltb page p.table.config.pages lt)
       (or_second (not (is_phase (now_of p).words 2)) _ all.1)
-      (or_second (phase_of (now_of p).words == 0) (phase_of (now_of p).words == 2) phase_two) refl
-      (or_second (not (is_phase (now_of p).words 2)) (none_attends (now_of p).seats.markers)
-      (none_by_test (now_of p) wanted.none))
+      (or_second (phase_of (now_of p).words == 0) (phase_of (now_of p).words == 2) phase_two) refl (or_second
+      (not (is_phase (now_of p).words 2)) (none_attends (now_of p).seats.markers) (none_by_test (now_of p) wanted.none))
 
   pub may_undirty_page : (page : ℕ) → page < p.table.config.pages → slice_index (still_words p).blacks page ≡ 0
       → slice_index (still_words p).blacks (head_page (still_words p) page) ≡ 0 → IsEnabledTo p (Step.Undirty page)

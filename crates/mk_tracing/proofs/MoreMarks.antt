@@ -22,11 +22,10 @@ more_then u v w one two = record {
 
 pub more_marked : (w v : Words) (page value : ℕ)
     → v ≡ marked_as w (slice_set w.marks page (bit_or (slice_index w.marks page) value)) → MarksMore w v
-more_marked w v page value e =
-    subst (λ (x : Words). MarksMore w x) (sym e) (record {
-      is = refl;
-      grow = λ p k h. bits_stay w.marks page value p k h;
-    })
+more_marked w v page value e = subst (λ (x : Words). MarksMore w x) (sym e) (record {
+  is = refl;
+  grow = λ p k h. bits_stay w.marks page value p k h;
+})
 
 none_or_on : (o : Option Cell) (w v : Words) → ((x : Cell) → is_marked w x ≡ true → is_marked v x ≡ true)
     → is_none_or (is_marked w) o ≡ true → is_none_or (is_marked v) o ≡ true
@@ -47,9 +46,8 @@ pub well_some : (pages : ℕ) (w : Words) (u : ℕ) (cell : Cell) → pointed_ce
 well_some pages w u cell e marked = ap (λ (o : Option Cell). is_none_or (is_marked w) o) e ∙ marked
 
 -- the marked cell is marked
-pub marked_now : (w v : Words) (cell : Cell) → cell.page < length w.marks → cell.index < 64
-    → v ≡ marked_as w (slice_set w.marks cell.page (bit_or (slice_index w.marks cell.page) (2 ^ cell.index)))
-    → is_marked v cell ≡ true
+pub marked_now : (w v : Words) (cell : Cell) → cell.page < length w.marks → cell.index < 64 → v ≡ marked_as w
+    (slice_set w.marks cell.page (bit_or (slice_index w.marks cell.page) (2 ^ cell.index))) → is_marked v cell ≡ true
 marked_now w v cell lt small e =
     ap (λ (x : Words). is_marked x cell) e ∙ bits_added _ cell.page (2 ^ cell.index) cell.index lt
     (subst (λ n. has_bit n cell.index ≡ true) (bit_for_small cell.index small) (bit_for_has cell.index small))
@@ -64,8 +62,8 @@ some_not_zero pages ps u cell is z =
     let bad : None ≡ Some cell = sym (zero_none pages ps) ∙ ap (λ n. pointed_cell pages ps n) (sym z) ∙ is in cc
 
 -- The hand, through looks that leave it and the words.
-pub hand_kept : (p q : PassState) (u : ℕ) → hand_of q ≡ hand_of p → IsInHand p u → IsInHand q u
-hand_kept p q u same h = record { hand = h.hand; is = same ∙ h.is; value = h.value; reached = h.reached }
+pub hand_kept : {p : PassState} (q : PassState) {u : ℕ} → hand_of q ≡ hand_of p → IsInHand p u → IsInHand q u
+hand_kept q same h = record { hand = h.hand; is = same ∙ h.is; value = h.value; reached = h.reached }
 
 pub marks_length : (p : PassState) → length (still_words p).marks ≡ p.table.config.pages
 marks_length p = (histories_keep_lengths p.table.config p.seen).marks

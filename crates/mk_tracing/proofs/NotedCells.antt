@@ -3,34 +3,34 @@ use Rattle.std.proofs.Common.{IfSome}
 use Rattle.mk_laws.proofs.Vocabulary.{Cell, None, OnlyGrow, Option, Some, Words, ℕ, arith, cells_under, false, has_bit}
 use Rattle.mk_laws.proofs.Vocabulary.{header_at, header_of, is_marked, slice_index, subst, sym, true, ◌+◌, ◌-◌, ◌<◌}
 use Rattle.mk_laws.proofs.Vocabulary.{◌≡◌}
-use Rattle.mk_tracing.specs.{Grays.{MarksMore, with_blacks, words_scanned}, Noted.{AreNoted, IsGrayNoted, IsNoted}}
-use Rattle.mk_tracing.specs.{declared.noted.Noted.Noted, declared.worklist.Worklist.Worklist}
+use Rattle.mk_tracing.specs.{Grays.MarksMore, Grays.with_blacks, Grays.words_scanned, Noted.AreNoted, Noted.IsGrayNoted}
+use Rattle.mk_tracing.specs.{Noted.IsNoted, declared.noted.Noted.Noted, declared.worklist.Worklist.Worklist}
 
 -- Headers stay, and marks are only added.
 record Stays (w v : Words) : Type 0 where
   headers : (p : ℕ) → header_at v p ≡ header_at w p
   grow : OnlyGrow w.marks v.marks
 
-more_stays : (w v : Words) → MarksMore w v → Stays w v
-more_stays w v more = grind arith
+more_stays : {w v : Words} → MarksMore w v → Stays w v
+more_stays more = grind arith
 
 black_stays : (page bits : ℕ) (w v : Words) → v ≡ with_blacks page bits w → Stays w v
 black_stays page bits w v is = grind arith
 
-one_stays : (pages : ℕ) (w v : Words) (noted : Noted) → Stays w v → IsNoted pages w noted → IsNoted pages v noted
-one_stays pages w v noted stays is = grind arith
+one_stays : (pages : ℕ) {w v : Words} (noted : Noted) → Stays w v → IsNoted pages w noted → IsNoted pages v noted
+one_stays pages noted stays is = grind arith
 
-last_stays : (pages : ℕ) (w v : Words) (last : Option Noted) → Stays w v → IfSome last (IsNoted pages w)
+last_stays : (pages : ℕ) {w v : Words} (last : Option Noted) → Stays w v → IfSome last (IsNoted pages w)
     → IfSome last (IsNoted pages v)
-last_stays pages w v None stays noted = noted
-last_stays pages w v (Some last) stays noted = one_stays pages w v last stays noted
+last_stays pages None stays noted = noted
+last_stays pages {w = w} {v = v} (Some last) stays noted = one_stays pages last stays noted
 
 pub noted_same : {w v : Words} (pages : ℕ) (work : Worklist) → v ≡ w → AreNoted pages w work → AreNoted pages v work
 noted_same pages work same noted = subst (λ (y : Words). AreNoted pages y work) (sym same) noted
 
-pub noted_more : (pages : ℕ) (w v : Words) (work : Worklist) → MarksMore w v → AreNoted pages w work
+pub noted_more : (pages : ℕ) {w v : Words} (work : Worklist) → MarksMore w v → AreNoted pages w work
     → AreNoted pages v work
-noted_more pages w v work more noted k d lt = one_stays pages w v _ (more_stays w v more) (noted k d lt)
+noted_more pages {w = w} {v = v} work more noted k d lt = one_stays pages _ (more_stays more) (noted k d lt)
 
 pub noted_black : (pages page bits : ℕ) (w v : Words) (work : Worklist) → v ≡ with_blacks page bits w
     → AreNoted pages w work → AreNoted pages v work
@@ -40,30 +40,28 @@ pub one_same : {pages : ℕ} {w v : Words} {noted : Noted} → v ≡ w → IsNot
 one_same {pages} {noted = noted} same is = subst (λ (y : Words). IsNoted pages y noted) (sym same) is
 
 pub one_more : {pages : ℕ} {w v : Words} {noted : Noted} → MarksMore w v → IsNoted pages w noted → IsNoted pages v noted
-one_more {pages} {w} {v} {noted} more = one_stays pages w v noted (more_stays w v more)
+one_more {pages} {w} {v} {noted} more = one_stays pages noted (more_stays more)
 
 pub last_black : (pages page bits : ℕ) (w v : Words) (last : Option Noted) → v ≡ with_blacks page bits w
     → IfSome last (IsNoted pages w) → IfSome last (IsNoted pages v)
-last_black pages page bits w v last is = last_stays pages w v last (black_stays page bits w v is)
+last_black pages page bits w v last is = last_stays pages last (black_stays page bits w v is)
 
 -- A cell is noted that is marked, by the header word that was found at its page.
 
 pub noted_cell : (pages : ℕ) (w v : Words) (cell : Cell) (header : ℕ) (noted : Option Noted) → v ≡ w
-    → header ≡ header_at w cell.page → cell.page < pages → is_marked w cell ≡ true
-    → IfSome noted (λ (n : Noted). n.cell ≡ cell)
-    → IfSome noted (λ (n : Noted). n.cell.index < cells_under (header_of header))
+    → header ≡ header_at w cell.page → cell.page < pages → is_marked w cell ≡ true → IfSome noted
+    (λ (n : Noted). n.cell ≡ cell) → IfSome noted (λ (n : Noted). n.cell.index < cells_under (header_of header))
     → IfSome noted (λ (n : Noted). n.words ≡ words_scanned (header_of header)) → IfSome noted (IsNoted pages v)
 noted_cell pages w v cell header None same there within marked at known words = at
 noted_cell pages w v cell header (Some noted) same there within marked at known words = grind arith
 
-pub noted_marked : (pages : ℕ) (w v x : Words) (noted : Noted) (page header : ℕ) → v ≡ w → MarksMore v x
+pub noted_marked : (pages : ℕ) (w : Words) {v x : Words} (noted : Noted) (page header : ℕ) → v ≡ w → MarksMore v x
     → noted.cell.page ≡ page → noted.cell.index < cells_under (header_of (1 + (header - 1)))
     → noted.words ≡ words_scanned (header_of (1 + (header - 1))) → 0 < header → header ≡ header_at w page
     → page < pages → is_marked x noted.cell ≡ true → IsNoted pages x noted
-noted_marked pages w v x noted page header same more at known words some there within marked = grind arith
+noted_marked pages w noted page header same more at known words some there within marked = grind arith
 
 -- A noted cell that isn't black is gray.
-pub noted_gray : (pages : ℕ) (w : Words) (noted : Noted) (blacks : ℕ) → IsNoted pages w noted
-    → blacks ≡ slice_index w.blacks noted.cell.page → has_bit blacks noted.cell.index ≡ false
-    → IsGrayNoted pages w noted
-noted_gray pages w noted blacks is found white = grind arith
+pub noted_gray : {pages : ℕ} {w : Words} {noted : Noted} (blacks : ℕ) → IsNoted pages w noted → blacks
+    ≡ slice_index w.blacks noted.cell.page → has_bit blacks noted.cell.index ≡ false → IsGrayNoted pages w noted
+noted_gray blacks is found white = grind arith

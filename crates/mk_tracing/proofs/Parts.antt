@@ -20,9 +20,8 @@ keep_in_parts rule c s w [] ys one two = two
 keep_in_parts rule c s w (e ∷ es) ys one two = (one.0, keep_in_parts rule c s (world_behind c w e) es ys one.1 two)
 
 -- events of others keep to it, since none is the seat's own
-pub others_keep : (rule : Config → Moment → Step
-    → Type 0) (c : Config) (s : Seat) (seats : List Seat) (w : World) (xs : List Event)
-    → Has seats s → AreOfOthers seats xs → OwnStepsKeep rule c s w xs
+pub others_keep : (rule : Config → Moment → Step → Type 0) (c : Config) (s : Seat) (seats : List Seat) (w : World)
+    (xs : List Event) → Has seats s → AreOfOthers seats xs → OwnStepsKeep rule c s w xs
 unfolding OwnStepsKeep AreOfOthers
 others_keep rule c s seats w [] has others = tt
 others_keep rule c s seats w (e ∷ es) has others = (
@@ -77,9 +76,9 @@ traces_nothing kinds rule p = record {
 
 -- One part is traced after another, and what is done of a kind adds up.
 
-counts_then : (c : Config) (es fs gs : List Event) → CountsAreLeft c es fs → CountsAreLeft c fs gs
+counts_then : {c : Config} {es fs gs : List Event} → CountsAreLeft c es fs → CountsAreLeft c fs gs
     → CountsAreLeft c es gs
-counts_then c es fs gs one two = record { ends = two.ends ∙ one.ends; fulls = two.fulls ∙ one.fulls }
+counts_then one two = record { ends = two.ends ∙ one.ends; fulls = two.fulls ∙ one.fulls }
 
 count_in_parts : (test : Finding → Bool) (xs ys : List Finding)
     → count_by test (xs ++ ys) ≡ count_by test xs + count_by test ys
@@ -91,12 +90,10 @@ count_first test x xs unlike = grind (arith, count_in_parts)
 
 module _ (kinds : Step → Bool) (rule : Config → Moment → Step → Type 0) (kind : Step → Bool) where
   then_at : (p : PassState) (xs : List Event) → AreOwnOrOfOthers p.seat p.seats xs → are_of kinds (done_in p xs) ≡ true
-      → OwnStepsKeep rule p.table.config p.seat (world_of p) xs
-      → untouched_of (left p.table.config (p.seen ++ xs)) ≡ untouched_of (world_of p)
-      → CountsAreLeft p.table.config p.seen (p.seen ++ xs)
-      → (n m : ℕ) → count_by (λ (x : Finding). kind x.event.step) (done_in p xs) ≡ n
-      → (r : PassState) → Counted kinds rule kind (record p { seen = p.seen ++ xs }) r m
-      → Counted kinds rule kind p r (n + m)
+      → OwnStepsKeep rule p.table.config p.seat (world_of p) xs → untouched_of
+      (left p.table.config (p.seen ++ xs)) ≡ untouched_of (world_of p) → CountsAreLeft p.table.config p.seen
+      (p.seen ++ xs) → (n m : ℕ) → count_by (λ (x : Finding). kind x.event.step) (done_in p xs) ≡ n → (r : PassState)
+      → Counted kinds rule kind (record p { seen = p.seen ++ xs }) r m → Counted kinds rule kind p r (n + m)
   then_at p xs own of_kinds keeps untouched counts n m before r on =
       let d = on.traces.does in
       let test : Finding → Bool = λ (x : Finding). kind x.event.step in
@@ -107,21 +104,19 @@ module _ (kinds : Step → Bool) (rule : Config → Moment → Step → Type 0) 
             is = d.is ∙ ap (λ (es : List Event). record p { seen = es }) (append_assoc p.seen xs d.more);
             own_or_others = own_or_others_in_parts p.seat p.seats xs d.more own d.own_or_others;
             of_kinds =
-                ap (λ (zs : List Finding). are_of kinds zs) (done_in_parts p xs d.more)
-                ∙ of_kinds_in_parts kinds (done_in p xs) (done_in (record p { seen = p.seen ++ xs }) d.more) of_kinds
-                d.of_kinds;
+                ap (λ (zs : List Finding). are_of kinds zs) (done_in_parts p xs d.more) ∙ of_kinds_in_parts kinds
+                (done_in p xs) (done_in (record p { seen = p.seen ++ xs }) d.more) of_kinds d.of_kinds;
           };
           keeps =
               keep_in_parts rule _ _ _ xs d.more keeps (subst
               (λ (w : World). OwnStepsKeep rule p.table.config p.seat w d.more) (left_in_parts _ _ xs) on.traces.keeps);
           untouched = on.traces.untouched ∙ untouched;
-          counts = counts_then p.table.config p.seen (p.seen ++ xs) r.seen counts on.traces.counts;
+          counts = counts_then counts on.traces.counts;
         };
         count =
             ap (λ (zs : List Finding). count_by test zs) (done_in_parts p xs d.more)
-            ∙ count_in_parts test (done_in p xs) (done_in (record p { seen = p.seen ++ xs }) d.more)
-            ∙ ap (λ k. k + count_by test (done_in (record p { seen = p.seen ++ xs }) d.more)) before ∙ ap
-            (λ k. n + k) on.count;
+            ∙ count_in_parts test (done_in p xs) (done_in (record p { seen = p.seen ++ xs }) d.more) ∙ ap (λ k. k
+            + count_by test (done_in (record p { seen = p.seen ++ xs }) d.more)) before ∙ ap (λ k. n + k) on.count;
       }
 
   pub counted_then : (p q r : PassState) (n m : ℕ) → Counted kinds rule kind p q n → Counted kinds rule kind q r m
@@ -172,14 +167,14 @@ wider_traces kinds more rule p q wider t =
       counts = t.counts;
     }
 
-pub traces_wider : (kinds more kind : Step → Bool) (rule : Config → Moment → Step → Type 0) (p q : PassState)
+pub traces_wider : {kinds : Step → Bool} (more kind : Step → Bool) {rule : Config → Moment → Step → Type 0}
+    {p q : PassState}
     → ((s : Step) → kinds s ≡ true → more s ≡ true) → ((s : Step) → kinds s ≡ true → kind s ≡ false)
     → Traces kinds rule p q → Counted more rule kind p q 0
-traces_wider kinds more kind rule p q wider none t =
-    record {
-      traces = wider_traces kinds more rule p q wider t;
-      count = none_counted kinds kind (done_in p t.does.more) none t.does.of_kinds;
-    }
+traces_wider {kinds} more kind {rule = rule} {p = p} {q = q} wider none t = record {
+  traces = wider_traces kinds more rule p q wider t;
+  count = none_counted kinds kind (done_in p t.does.more) none t.does.of_kinds;
+}
 
 pub counted_wider : (kinds more : Step → Bool) (rule : Config → Moment → Step → Type 0) (kind : Step → Bool)
     (p q : PassState) (n : ℕ) → ((s : Step) → kinds s ≡ true → more s ≡ true)
@@ -200,8 +195,7 @@ keep_alike rule other c s w (e ∷ es) follows keeps = (
 
 pub kinds_keep : (kinds : Step → Bool) (rule : Config → Moment → Step → Type 0) (c : Config) (s : Seat) (w : World)
     (es : List Event) → ((m : Moment) (x : Step) → kinds x ≡ true → rule c m x)
-    → are_of kinds (own_from c s w es) ≡ true
-    → OwnStepsKeep rule c s w es
+    → are_of kinds (own_from c s w es) ≡ true → OwnStepsKeep rule c s w es
 unfolding OwnStepsKeep own_from
 kinds_keep kinds rule c s w [] follows of_kinds = tt
 kinds_keep kinds rule c s w (e ∷ es) follows of_kinds =
@@ -213,14 +207,12 @@ kinds_keep kinds rule c s w (e ∷ es) follows of_kinds =
   where
     here : (b : Bool) → is_same_seat s e.seat ≡ b
         → are_of kinds (if b then record { event = e; found = found c w.now e } ∷ own_from c s (world_behind c w e) es
-        else own_from c s (world_behind c w e) es) ≡ true
-        → is_same_seat s e.seat ≡ true → rule c w.now e.step
+        else own_from c s (world_behind c w e) es) ≡ true → is_same_seat s e.seat ≡ true → rule c w.now e.step
     here true is h same = grind (arith, and_parts)
     here false is h same = absurd (true≢false (sym same ∙ is))
 
-    behind : (b : Bool)
-        → are_of kinds (if b then record { event = e; found = found c w.now e } ∷ own_from c s (world_behind c w e) es
-        else own_from c s (world_behind c w e) es) ≡ true
+    behind : (b : Bool) → are_of kinds (if b then record { event = e; found = found c w.now e } ∷ own_from c s
+        (world_behind c w e) es else own_from c s (world_behind c w e) es) ≡ true
         → are_of kinds (own_from c s (world_behind c w e) es) ≡ true
     behind true h = (and_parts (kinds e.step) (are_of kinds (own_from c s (world_behind c w e) es)) h).1
     behind false h = h
@@ -253,8 +245,7 @@ counted_by_kinds kinds rule other kind p q n follows one =
 -- One step is made.
 module _ (kinds : Step → Bool) (rule : Config → Moment → Step → Type 0) (kind : Step → Bool) (p q : PassState)
     (s : Step) (m : Makes p s q) where
-  pub done_by_one : Has p.seats p.seat
-      → done_in p (m.others ++ event_of p s ∷ [])
+  pub done_by_one : Has p.seats p.seat → done_in p (m.others ++ event_of p s ∷ [])
       ≡ record { event = event_of p s; found = found p.table.config (world_at m).now (event_of p s) } ∷ []
   done_by_one has = grind (arith, done_in_parts, none_own, one_own, same_self)
 
@@ -277,9 +268,8 @@ module _ (kinds : Step → Bool) (rule : Config → Moment → Step → Type 0) 
           keeps =
               keep_in_parts rule p.table.config p.seat (world_of p) m.others (e ∷ [])
               (others_keep rule p.table.config p.seat p.seats (world_of p) m.others has m.of_others)
-              (one_keeps rule p.table.config p.seat (left_from p.table.config (world_of p) m.others) e
-              (subst (λ (w : World). rule p.table.config w.now s)
-              (left_in_parts p.table.config p.seen m.others) ruled));
+              (one_keeps rule p.table.config p.seat (left_from p.table.config (world_of p) m.others) e (subst
+              (λ (w : World). rule p.table.config w.now s) (left_in_parts p.table.config p.seen m.others) ruled));
           untouched = untouched;
           counts = counts;
         };

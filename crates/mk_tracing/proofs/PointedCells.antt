@@ -12,15 +12,14 @@ use Rattle.mk_turns.proofs.PointedCells.{found_by_header}
 use Rattle.mk_words.specs.States.{PassState, TurnState}
 
 -- The hand points into the cell that its value points into.
-pub hand_points : (p : PassState) (pages value : ℕ) (cell : Cell) → pages ≡ p.table.config.pages
-    → (value ≢ 0 → IsInHand p value) → pointed_cell pages (still_words p).pages value ≡ Some cell
-    → HandPointsInto p cell
+pub hand_points : (p : PassState) (pages value : ℕ) (cell : Cell) → pages ≡ p.table.config.pages → (value ≢ 0
+    → IsInHand p value) → pointed_cell pages (still_words p).pages value ≡ Some cell → HandPointsInto p cell
 hand_points p pages value cell sized hand points = grind (arith, some_not_zero)
 
 -- It goes on doing so through looks that leave the hand.
-pub points_on : {t u : TurnState} (cell : Cell) → LooksOn t u → hand_of u.pass ≡ hand_of t.pass
+pub points_on : {t u : TurnState} {cell : Cell} → LooksOn t u → hand_of u.pass ≡ hand_of t.pass
     → HandPointsInto t.pass cell → HandPointsInto u.pass cell
-points_on cell looks hand r = grind (arith, hand_kept)
+points_on looks hand r = grind (arith, hand_kept)
 
 -- A value that points into a cell that is marked after marks points well, and one that points into nothing.
 

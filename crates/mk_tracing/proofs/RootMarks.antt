@@ -4,25 +4,25 @@ use Rattle.mk_laws.proofs.Vocabulary.{Config, Event, IsHistory, List, Null, Word
 use Rattle.mk_laws.proofs.Vocabulary.{cases_lt, flight_among, get_or_past, histories_keep_lengths, inl, inr, leb-true}
 use Rattle.mk_laws.proofs.Vocabulary.{left, never_behind, points_well, register_word, slice_index, slice_index_or}
 use Rattle.mk_laws.proofs.Vocabulary.{subst, true, ◌%◌, ◌*◌, ◌+◌, ◌-◌, ◌/◌, ◌<◌, ◌∙◌, ◌≡◌, ◌≤◌}
-use Rattle.mk_laws.proofs.{InvariantHistories.histories_keep_the_invariant, Protocols.lists_keep_the_protocol}
 use Rattle.mk_core.specs.Words.{named_word}
+use Rattle.mk_laws.proofs.{InvariantHistories.histories_keep_the_invariant, Protocols.lists_keep_the_protocol}
 use Rattle.mk_tracing.proofs.MoreMarks.{marked_as, more_then, well_more, well_none, zero_none}
-use Rattle.mk_tracing.proofs.{ScannedWords.notes_then, StopSteps.{looks_from, looks_then}}
+use Rattle.mk_tracing.proofs.{ScannedWords.notes_then, StopSteps.looks_from, StopSteps.looks_then}
 use Rattle.mk_tracing.specs.Grays.{GlobalIsWell, LooksOn, MarksMore, RegistersAreWell, RootsPointWell}
-use Rattle.mk_tracing.specs.{Stops.{IsWanted, is_root, still_words}, Scans.MarksAndNotes}
-use Rattle.mk_tracing.specs.declared.worklist.Worklist.{Worklist}
+use Rattle.mk_tracing.specs.Stops.{IsWanted, is_root, still_words}
+use Rattle.mk_tracing.specs.{Scans.MarksAndNotes, declared.worklist.Worklist.Worklist}
 use Rattle.mk_turns.proofs.PointedCells.{outside_none}
 use Rattle.mk_words.specs.States.{PassState, TurnState, WordsState, now_of}
 
 -- Each value below one points well, and so does the next.
-values_then : (pages : ℕ) (v x : Words) (value : ℕ → ℕ) (i : ℕ) → MarksMore v x
+values_then : (pages : ℕ) {v x : Words} (value : ℕ → ℕ) (i : ℕ) → MarksMore v x
     → ((k : ℕ) → k < i → points_well pages v (value k) ≡ true)
     → points_well pages x (value i) ≡ true → (k : ℕ) → k < i + 1 → points_well pages x (value k) ≡ true
-values_then pages v x value i more before here k lt = grind (arith, cases_lt, well_more)
+values_then pages value i more before here k lt = grind (arith, cases_lt, well_more)
 
 -- A root is the same after marks.
-root_kept : (w v : Words) (x : Word) → is_root x ≡ true → MarksMore w v → named_word v x ≡ named_word w x
-root_kept w v x root more = grind (arith, marked_as)
+root_kept : {w v : Words} (x : Word) → is_root x ≡ true → MarksMore w v → named_word v x ≡ named_word w x
+root_kept x root more = grind (arith, marked_as)
 
 -- Marks were added, and what each root below one pointed into is marked.
 pub record RootsMarked (pages : ℕ) (w v : Words) (root : ℕ → Word) (n : ℕ) : Type 0 where
@@ -38,8 +38,8 @@ pub next_root : {pages : ℕ} {w v x : Words} {root : ℕ → Word} {i : ℕ} �
     → RootsMarked pages w x root (i + 1)
 next_root {pages} {w} {v} {x} {root} {i} are before more here = record {
   more = more_then w v x before.more more;
-  well = values_then pages v x (λ k. named_word w (root k)) i more before.well
-      (subst (λ n. points_well pages x n ≡ true) (root_kept w v (root i) (are i) before.more) here);
+  well = values_then pages (λ k. named_word w (root k)) i more before.well
+      (subst (λ n. points_well pages x n ≡ true) (root_kept (root i) (are i) before.more) here);
 }
 
 -- The same in a stop with a list of what is noted.
@@ -91,16 +91,16 @@ next_look {value = value} {all} {next} {i} before look found = record {
 }
 
 -- Each global of the groups below one points well, and so do those of the next.
-pub groups_then : (pages : ℕ) (w v x : Words) (group : ℕ) → MarksMore w v → MarksMore v x
+pub groups_then : (pages : ℕ) {w v x : Words} (group : ℕ) → MarksMore w v → MarksMore v x
     → ((g : ℕ) → g < 8 * group → points_well pages v (slice_index w.globals g) ≡ true)
     → ((i : ℕ) → i < 8 → points_well pages x (slice_index v.globals (8 * group + i)) ≡ true)
     → (g : ℕ) → g < 8 * (group + 1) → points_well pages x (slice_index w.globals g) ≡ true
-groups_then pages w v x group old more before here g lt = grind (arith, cases_lt, well_more, root_kept)
+groups_then pages group old more before here g lt = grind (arith, cases_lt, well_more, root_kept)
 
 -- A register after those of the callers is 0.
-pub register_past : (c : Config) (es : List Event) (i : ℕ) → IsHistory c es → 8 * c.callers ≤ i
+pub register_past : {c : Config} {es : List Event} (i : ℕ) → IsHistory c es → 8 * c.callers ≤ i
     → slice_index (left c es).now.words.registers i ≡ 0
-register_past c es i h past =
+register_past {c} {es} i h past =
     let all = histories_keep_the_invariant c es h in
     let count = (lists_keep_the_protocol c es h.within_limits h.enabled).callers in
     let some = all.mirrors.register_count in
@@ -108,8 +108,7 @@ register_past c es i h past =
     let null : slice_index_or (never_behind c es).registers i Null ≡ Null = grind (arith, get_or_past) in
     cc (idle, all.mirrors.images.registers i, null)
 
-roots_well : (p : PassState) (pages : ℕ) (w : Words) → IsHistory p.table.config p.seen
-    → pages ≡ p.table.config.pages
+roots_well : (p : PassState) (pages : ℕ) (w : Words) → IsHistory p.table.config p.seen → pages ≡ p.table.config.pages
     → w.registers ≡ (now_of p).words.registers → w.globals ≡ (now_of p).words.globals
     → ((k r : ℕ) → k < p.table.config.callers → r < 8 → points_well pages w (register_word (now_of p).words k r) ≡ true)
     → ((g : ℕ) → g < 64 → points_well pages w (slice_index (now_of p).words.globals g) ≡ true) → RootsPointWell pages w
@@ -126,15 +125,14 @@ roots_well p pages w h same registers globals rs gs = record {
       | inl lt ↦
           let at : 8 * (i / 8) + i % 8 ≡ i = omega arith in
           cc (at, rs (i / 8) (i % 8) (omega arith) (omega arith))
-      | inr past ↦ null (slice_index (now_of p).words.registers i) (register_past p.table.config p.seen i h past)
+      | inr past ↦ null (slice_index (now_of p).words.registers i) (register_past i h past)
     ]
 
     global : (g : ℕ) → points_well pages w (slice_index (now_of p).words.globals g) ≡ true
     global g = elim (cases_lt g 64) [
       | inl lt ↦ gs g lt
       | inr past ↦
-          null (slice_index (now_of p).words.globals g)
-          (get_or_past (now_of p).words.globals g 0 (let long =
+          null (slice_index (now_of p).words.globals g) (get_or_past (now_of p).words.globals g 0 (let long =
           (histories_keep_lengths p.table.config p.seen).globals in omega arith))
     ]
 

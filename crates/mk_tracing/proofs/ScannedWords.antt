@@ -29,13 +29,12 @@ notes_then one two = record {
 
 pub marks_alone : {pages : ℕ} {t u : TurnState} {work : Worklist} → MarksOn t u
     → MarksMore (still_words t.pass) (still_words u.pass) → MarksAndNotes pages t work u work
-marks_alone {work = work} on more = record { on = on; more = more; noted = noted_more _ _ _ work more }
+marks_alone {work = work} on more = record { on = on; more = more; noted = noted_more _ work more }
 
 pub looks_alone : {pages : ℕ} {t u : TurnState} {work : Worklist} → LooksOn t u → MarksAndNotes pages t work u work
 looks_alone looks = marks_alone looks.on (more_same _ _ looks.words)
 
-pub marks_nothing : {pages : ℕ} {t : TurnState} {work : Worklist} → IsWanted t.pass
-    → MarksAndNotes pages t work t work
+pub marks_nothing : {pages : ℕ} {t : TurnState} {work : Worklist} → IsWanted t.pass → MarksAndNotes pages t work t work
 marks_nothing wanted = looks_alone (looks_from wanted)
 
 -- No word yet, words up to another after those before it, and fewer of them.
@@ -51,7 +50,7 @@ scans_then {pages} {t} {u} {v} {cell = cell} {i = i} one two = record {
   well = λ k le lt. elim (cases_lt k i) [
     | inl below ↦ well_more pages (still_words u.pass) (still_words v.pass) _ two.marks.more (one.well k le below)
     | inr past ↦
-        cc (cell_kept (still_words t.pass) (still_words u.pass) cell k one.marks.more, two.well k past lt)
+        cc (cell_kept cell k one.marks.more, two.well k past lt)
   ];
 }
 
@@ -60,10 +59,9 @@ pub scans_to : {pages : ℕ} {t u : TurnState} {a b : Worklist} {cell : Cell} {f
 scans_to n le all = record { marks = all.marks; well = λ k lo hi. all.well k lo (omega arith) }
 
 -- One word, which was looked at, and what it points into then marked.
-pub one_scanned : {pages : ℕ} {t u v : TurnState} {a b : Worklist} {cell : Cell} {i value : ℕ} → LooksOn t u
-    → value ≡ slice_index (still_words t.pass).heap (first_word (still_words t.pass) cell + i)
-    → MarksAndNotes pages u a v b → points_well pages (still_words v.pass) value ≡ true
-    → Scans pages t a v b cell i (i + 1)
+pub one_scanned : {pages : ℕ} {t u v : TurnState} {a b : Worklist} {cell : Cell} {i value : ℕ} → LooksOn t u → value
+    ≡ slice_index (still_words t.pass).heap (first_word (still_words t.pass) cell + i) → MarksAndNotes pages u a v b
+    → points_well pages (still_words v.pass) value ≡ true → Scans pages t a v b cell i (i + 1)
 one_scanned {pages} {t} {u} {v} {cell = cell} {i = i} looks found marks well = record {
   marks = notes_then (looks_alone looks) marks;
   well = λ k le lt.
@@ -72,9 +70,7 @@ one_scanned {pages} {t} {u} {v} {cell = cell} {i = i} looks found marks well = r
 }
 
 -- All words of a cell.
-pub all_scanned : {pages : ℕ} {t u : TurnState} {a b : Worklist} {gray : Noted}
-    → IsDue pages (still_words t.pass) gray → Scans pages t a u b gray.cell 0 gray.words
-    → words_point_well pages (still_words u.pass) gray.cell ≡ true
+pub all_scanned : {pages : ℕ} {t u : TurnState} {a b : Worklist} {gray : Noted} → IsDue pages (still_words t.pass) gray
+    → Scans pages t a u b gray.cell 0 gray.words → words_point_well pages (still_words u.pass) gray.cell ≡ true
 all_scanned {pages} {gray = gray} due all =
-    scan_done pages _ _ gray.cell all.marks.more
-    (λ j lt. all.well j (omega arith) (subst (λ n. j < n) (sym due.words) lt))
+    scan_done pages gray.cell all.marks.more (λ j lt. all.well j (omega arith) (subst (λ n. j < n) (sym due.words) lt))

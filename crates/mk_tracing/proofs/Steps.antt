@@ -10,11 +10,11 @@ use Rattle.mk_laws.proofs.Vocabulary.{phase_of, progress, refl, seat_exists, see
 use Rattle.mk_laws.proofs.Vocabulary.{true, world_behind, [], ◌++◌, ◌+◌, ◌∙◌, ◌∷◌, ◌≡◌}
 use Rattle.mk_core.proofs.{Conditions.meets_enabled, Histories.calls_more}
 use Rattle.mk_core.specs.Order.{comes_next_to_host, is_in_order, is_of_any_holder, may_decide_new}
-use Rattle.mk_core.specs.{Effects.flights_behind, Frames.{CountsAreLeft, HoldsAll}}
-use Rattle.mk_tracing.specs.{Stops.{HolderIsLoaded, is_loaded, is_loaded_at}, Tracing.{Untouched, is_tracing}}
-use Rattle.mk_tracing.specs.Tracing.{untouched_of}
+use Rattle.mk_core.specs.{Effects.flights_behind, Frames.CountsAreLeft, Frames.HoldsAll}
+use Rattle.mk_tracing.specs.Stops.{HolderIsLoaded, is_loaded, is_loaded_at}
+use Rattle.mk_tracing.specs.Tracing.{Untouched, is_tracing, untouched_of}
 use Rattle.mk_words.proofs.Undecided.{decides_nothing}
-use Rattle.mk_words.specs.{States.{PassState, call_of, now_of, world_of}, Steps.IsEnabledTo}
+use Rattle.mk_words.specs.{States.PassState, States.call_of, States.now_of, States.world_of, Steps.IsEnabledTo}
 use Rattle.mk_words.specs.{Steps.Makes, Steps.may_decide as may_decide_call, TurnSteps.Acts, TurnSteps.world_at}
 
 -- what tracing doesn't touch, from what the frame law speaks of
@@ -41,9 +41,9 @@ untouched_by s y h = record {
   allocations = s.allocations;
 }
 
-pub others_leave_untouched : (p q : PassState) (s : Step) (a : Acts p s q) → HoldsAll p.table.config (now_of p) p.seat
+pub others_leave_untouched : {p q : PassState} {s : Step} (a : Acts p s q) → HoldsAll p.table.config (now_of p) p.seat
     → untouched_of (world_at a.makes) ≡ untouched_of (world_of p)
-others_leave_untouched p q s a all = grind (arith, untouched_by)
+others_leave_untouched a all = grind (arith, untouched_by)
 
 -- Any step of a holder comes next, where the call has loaded what it loads.
 
@@ -63,8 +63,7 @@ host_next b Step.Over e h = refl
 host_next b s e h = and_from b (is_of_any_holder s) e h
 
 in_order_of : (c : Config) (m : Moment) (seat : Seat) (s : Step) → Holds c m seat
-    → is_loaded seat (flight_of m seat) ≡ true
-    → is_of_any_holder s ≡ true → is_in_order c m seat s ≡ true
+    → is_loaded seat (flight_of m seat) ≡ true → is_of_any_holder s ≡ true → is_in_order c m seat s ≡ true
 in_order_of c m (Caller k) s holds loaded any = grind (arith, next_at)
 in_order_of c m (Marker k) s holds loaded any = absurd holds
 in_order_of c m Host s holds loaded any = grind (arith, host_next, eq-eqb)
@@ -192,6 +191,6 @@ module _ (p q : PassState) (s : Step) (a : Acts p s q) (quiet : is_quiet s ≡ t
   step_untouched all late = grind (arith, untouched_behind, others_leave_untouched)
 
 -- the seat is as it was, and its call
-pub still_ready : (p q : PassState) (s : Step) (m : Makes p s q) → untouched_of (world_of q) ≡ untouched_of (world_of p)
+pub still_ready : {p q : PassState} {s : Step} (m : Makes p s q) → untouched_of (world_of q) ≡ untouched_of (world_of p)
     → HolderIsLoaded p → HolderIsLoaded q
-still_ready p q s m same ready = grind arith
+still_ready m same ready = grind arith

@@ -1,6 +1,6 @@
 -- In the stop, where no marker attends, the words are at each step as they were left, but for the phase.
 use Rattle.mk_laws.proofs.Vocabulary.{Bool, Caller, Cell, Config, Hand, Holds, Host, List, Marker, MarkerState, Moment}
-use Rattle.mk_laws.proofs.Vocabulary.{Op, Option, Seat, Some, Steady, Step, TurnIsLeft, Word, Words, World, Written, ℕ}
+use Rattle.mk_laws.proofs.Vocabulary.{Option, Seat, Some, Steady, Step, TurnIsLeft, Word, Words, World, Written, ℕ}
 use Rattle.mk_laws.proofs.Vocabulary.{address_of, ap, arith, false, found, has_no_pointers, header_in, is_attending}
 use Rattle.mk_laws.proofs.Vocabulary.{is_marked, ne_eqb, or_else, outside, phase_of, pointed_cell, refl, slice_index_or}
 use Rattle.mk_laws.proofs.Vocabulary.{sym, true, world_behind, ◌∙◌, ◌≡◌}
@@ -118,11 +118,10 @@ module _ (p q : PassState) (wanted : IsWanted p) (all : HoldsAll p.table.config 
   pub undirty_words : (pg : ℕ) → Acts p (Step.Undirty pg) q → still_words q ≡ without_dirty pg (still_words p)
   undirty_words pg a = grind (arith, but_phase, words_there)
 
-  pub marks_on : Has p.seats p.seat → (s : Step) → Acts p s q → is_stopped_step s ≡ true
+  pub marks_on : Has p.seats p.seat → {s : Step} → Acts p s q → is_stopped_step s ≡ true
       → ((w : World) → but_phase w.now.words ≡ still_words p → w.now.seats.holding ≡ (now_of p).seats.holding
-      → TracesReached p.table.config w.now s)
-      → MarksOn (record { pass = p }) (record { pass = q })
-  marks_on own s a stopped ruled = record {
+      → TracesReached p.table.config w.now s) → MarksOn (record { pass = p }) (record { pass = q })
+  marks_on own {s = s} a stopped ruled = record {
     table = ap (λ (x : PassState). x.table) a.makes.is;
     wanted = still_wanted p q s a wanted all stopped;
     traces = stopped_traces p q s a wanted all stopped own TracesReached (marking s stopped)
@@ -157,16 +156,13 @@ module _ (p q : PassState) (wanted : IsWanted p) (all : HoldsAll p.table.config 
   root_hand root = grind (arith, hand_now, found_now)
 
 -- a word of a marked cell that is scanned
-pub marked_hand : (p q : PassState) → IsWanted p → HoldsAll p.table.config (now_of p) p.seat
-    → (i : ℕ) (a : Acts p (Step.Look (Word.Heap i)) q) (n : ℕ)
-    → Finds p (Step.Look (Word.Heap i)) n q → (cell : Cell)
-    → pointed_cell p.table.config.pages (still_words p).pages (address_of i) ≡ Some cell
-    → is_marked (still_words p) cell ≡ true → has_no_pointers (header_in (still_words p) cell.page) ≡ false
-    → IsInHand q n
-marked_hand p q wanted all i a n finds cell pointed marked scanned = record {
+pub marked_hand : {p q : PassState} → IsWanted p → HoldsAll p.table.config (now_of p) p.seat
+    → {i : ℕ} (a : Acts p (Step.Look (Word.Heap i)) q) (n : ℕ) → Finds p (Step.Look (Word.Heap i)) n q → (cell : Cell)
+    → pointed_cell p.table.config.pages (still_words p).pages (address_of i) ≡ Some cell → is_marked
+    (still_words p) cell ≡ true → has_no_pointers (header_in (still_words p) cell.page) ≡ false → IsInHand q n
+marked_hand {p} {q} wanted all {i = i} a n finds cell pointed marked scanned = record {
   hand = record { value = n; source = Marked };
-  is = hand_now p q wanted all (Word.Heap i) a n finds
-      ∙ ap (λ (o : Option Hand). or_else o (hand_of p))
+  is = hand_now p q wanted all (Word.Heap i) a n finds ∙ ap (λ (o : Option Hand). or_else o (hand_of p))
       (given (found p.table.config (world_at a.makes).now (event_of p (Step.Look (Word.Heap i)))))
       ∙ ap (λ (v : ℕ). Some (record { value = v; source = Marked })) (found_now p q wanted all (Word.Heap i) a n finds);
   value = refl;

@@ -5,10 +5,10 @@ use Rattle.mk_laws.proofs.Vocabulary.{subst, sym, true, ◌*◌, ◌+◌, ◌<�
 use Rattle.mk_core.{proofs.PointedPages.{pointed_within}, specs.{Frames.HoldsAll, Ranges.is_word}}
 use Rattle.mk_tracing.proofs.{CellWords.{cell_of_word, words_in_heap}, Stilled.{but_phase, look_finds, look_words}}
 use Rattle.mk_tracing.proofs.{Stilled.{marked_hand, marks_on}, MaySteps.marks_by, Parts.{traces_nothing, traces_then}}
-use Rattle.mk_tracing.proofs.Steps.{is_quiet}
-use Rattle.mk_tracing.specs.Grays.{MarksReached, ReachedMarksSweepNothing, TracesReached, HandPointsInto, HasDirtyPart}
-use Rattle.mk_tracing.specs.{Grays.{IsGray, IsGrayWord, IsInHand, LooksOn, MarksOn}, Stops.{IsWanted, is_page_word}}
-use Rattle.mk_tracing.specs.{Stops.{is_root, still_words}, Noted.IsDue, declared.noted.Noted.Noted}
+use Rattle.mk_tracing.{proofs.Steps.{is_quiet}, specs.Grays.{MarksReached, ReachedMarksSweepNothing, TracesReached}}
+use Rattle.mk_tracing.specs.Grays.{HandPointsInto, HasDirtyPart, IsGray, IsGrayWord, IsInHand, LooksOn, MarksOn}
+use Rattle.mk_tracing.specs.{Stops.{IsWanted, is_page_word, is_root, still_words}, Noted.IsDue}
+use Rattle.mk_tracing.specs.declared.noted.Noted.{Noted}
 use Rattle.mk_words.proofs.Unmarked.{pointed_has_header}
 use Rattle.mk_words.specs.{Seats.Has, States.{PassState, TurnState, now_of}, Steps.Finds, TurnSteps.Acts}
 
@@ -48,57 +48,48 @@ root_quiet : (x : Word) → is_root x ≡ true → is_quiet (Step.Look x) ≡ tr
 root_quiet (Word.Quar p) h = cc
 root_quiet _ h = refl
 
-gray_there : (pages n : ℕ) (w v : Words) → but_phase w ≡ v → IsGrayWord pages v n → IsGrayWord pages w n
-gray_there pages n w v same h = grind arith
+gray_there : {pages n : ℕ} (w : Words) {v : Words} → but_phase w ≡ v → IsGrayWord pages v n → IsGrayWord pages w n
+gray_there w same h = grind arith
 
-dirty_there : (page : ℕ) (w v : Words) → but_phase w ≡ v → HasDirtyPart v page → HasDirtyPart w page
-dirty_there page w v same h = grind arith
+dirty_there : {page : ℕ} (w : Words) {v : Words} → but_phase w ≡ v → HasDirtyPart v page → HasDirtyPart w page
+dirty_there w same h = grind arith
 
-reached_there : (p : PassState) (w : World) (cell : Cell) → but_phase w.now.words ≡ still_words p
-    → w.now.seats.holding ≡ (now_of p).seats.holding
-    → HandPointsInto p cell → MarksReached p.table.config w.now cell.page (2 ^ cell.index)
-reached_there p w cell same holding r = grind (arith, marks_by)
+reached_there : {p : PassState} (w : World) {cell : Cell} → but_phase w.now.words ≡ still_words p → w.now.seats.holding
+    ≡ (now_of p).seats.holding → HandPointsInto p cell → MarksReached p.table.config w.now cell.page (2 ^ cell.index)
+reached_there w same holding r = grind (arith, marks_by)
 
 module _ {t u : TurnState} (wanted : IsWanted t.pass) (all : HoldsAll t.pass.table.config (now_of t.pass) t.pass.seat)
     (own : Has t.pass.seats t.pass.seat) where
-  looks_on : (x : Word) → Acts t.pass (Step.Look x) u.pass → is_quiet (Step.Look x) ≡ true
-      → ((w : World) → but_phase w.now.words ≡ still_words t.pass
-      → TracesReached t.pass.table.config w.now (Step.Look x))
-      → LooksOn t u
-  looks_on x a quiet ruled = record {
-    on = marks_on t.pass u.pass wanted all own (Step.Look x) a quiet (λ w e h. ruled w e);
+  looks_on : {x : Word} → Acts t.pass (Step.Look x) u.pass → is_quiet (Step.Look x) ≡ true → ((w : World) → but_phase
+      w.now.words ≡ still_words t.pass → TracesReached t.pass.table.config w.now (Step.Look x)) → LooksOn t u
+  looks_on {x} a quiet ruled = record {
+    on = marks_on t.pass u.pass wanted all own a quiet (λ w e h. ruled w e);
     words = look_words t.pass u.pass wanted all x a;
   }
 
-  pub looks_plain : (x : Word) → Acts t.pass (Step.Look x) u.pass → is_page_word x ≡ true → LooksOn t u
-  looks_plain x a plain = looks_on x a (plain_quiet x plain) (λ w e. looks_freely t.pass.table.config w.now x plain)
+  pub looks_plain : {x : Word} → Acts t.pass (Step.Look x) u.pass → is_page_word x ≡ true → LooksOn t u
+  looks_plain {x} a plain = looks_on a (plain_quiet x plain) (λ w e. looks_freely t.pass.table.config w.now x plain)
 
-  pub looks_root : (x : Word) → Acts t.pass (Step.Look x) u.pass → is_root x ≡ true → LooksOn t u
-  looks_root x a root = looks_on x a (root_quiet x root) (λ w e. looks_at_root t.pass.table.config w.now x root)
+  pub looks_root : {x : Word} → Acts t.pass (Step.Look x) u.pass → is_root x ≡ true → LooksOn t u
+  looks_root {x} a root = looks_on a (root_quiet x root) (λ w e. looks_at_root t.pass.table.config w.now x root)
 
-  pub looks_word : (n : ℕ) → Acts t.pass (Step.Look (Word.Heap n)) u.pass
+  pub looks_word : {n : ℕ} → Acts t.pass (Step.Look (Word.Heap n)) u.pass
       → IsGrayWord t.pass.table.config.pages (still_words t.pass) n → LooksOn t u
-  looks_word n a gray =
-      looks_on (Word.Heap n) a refl
-      (λ w e. gray_there t.pass.table.config.pages n w.now.words (still_words t.pass) e gray)
+  looks_word {n} a gray = looks_on a refl (λ w e. gray_there w.now.words e gray)
 
-  pub on_mark : (cell : Cell) → Acts t.pass (Step.Mark cell.page (2 ^ cell.index)) u.pass → HandPointsInto t.pass cell
+  pub on_mark : {cell : Cell} → Acts t.pass (Step.Mark cell.page (2 ^ cell.index)) u.pass → HandPointsInto t.pass cell
       → MarksOn t u
-  on_mark cell a reached =
-      marks_on t.pass u.pass wanted all own (Step.Mark cell.page (2 ^ cell.index)) a refl
-      (λ w e h. reached_there t.pass w cell e h reached)
+  on_mark {cell} a reached = marks_on t.pass u.pass wanted all own a refl (λ w e h. reached_there w e h reached)
 
-  pub on_black : (page value : ℕ) → Acts t.pass (Step.Black page value) u.pass → MarksOn t u
-  on_black page value a = marks_on _ _ wanted all own (Step.Black page value) a refl (λ w e h. tt)
+  pub on_black : {page value : ℕ} → Acts t.pass (Step.Black page value) u.pass → MarksOn t u
+  on_black {page} {value} a = marks_on _ _ wanted all own a refl (λ w e h. tt)
 
-  pub on_unblack : (page : ℕ) → Acts t.pass (Step.Unblack page) u.pass → HasDirtyPart (still_words t.pass) page
+  pub on_unblack : {page : ℕ} → Acts t.pass (Step.Unblack page) u.pass → HasDirtyPart (still_words t.pass) page
       → MarksOn t u
-  on_unblack page a part =
-      marks_on t.pass u.pass wanted all own (Step.Unblack page) a refl
-      (λ w e h. dirty_there page w.now.words (still_words t.pass) e part)
+  on_unblack {page} a part = marks_on t.pass u.pass wanted all own a refl (λ w e h. dirty_there w.now.words e part)
 
-  pub on_undirty : (page : ℕ) → Acts t.pass (Step.Undirty page) u.pass → MarksOn t u
-  on_undirty page a = marks_on t.pass u.pass wanted all own (Step.Undirty page) a refl (λ w e h. tt)
+  pub on_undirty : {page : ℕ} → Acts t.pass (Step.Undirty page) u.pass → MarksOn t u
+  on_undirty {page} a = marks_on t.pass u.pass wanted all own a refl (λ w e h. tt)
 
 -- A word of a gray cell.
 module _ (p : PassState) (history : IsHistory p.table.config p.seen) (pages : ℕ) (sized : pages ≡ p.table.config.pages)
@@ -124,7 +115,7 @@ module _ (p : PassState) (history : IsHistory p.table.config p.seen) (pages : �
   in_heap : n < 64 * p.table.config.pages
   in_heap =
       subst (λ k. k < 64 * p.table.config.pages) (sym same_word)
-      (words_in_heap p.table.config p.seen cell i history gray.page gray.index due.scanned within)
+      (words_in_heap cell i history gray.page gray.index due.scanned within)
 
   pub word_named : is_word p.table.config (Word.Heap (64 * cell.page + cell.index * noted.words + i)) ≡ true
   word_named = lt-ltb n (64 * p.table.config.pages) in_heap
@@ -140,20 +131,19 @@ module _ (p : PassState) (history : IsHistory p.table.config p.seen) (pages : �
 
     pub word_hand : v ≢ 0 → IsInHand q v
     word_hand some =
-        marked_hand p q wanted all n a v finds cell
-        (ap (λ k. pointed_cell p.table.config.pages (still_words p).pages (address_of k)) same_word ∙ cell_of_word _ _
-        cell i history wanted.phase gray.page gray.index due.scanned within (λ z. some (word_found ∙ z))) gray.marked
-        due.scanned
+        marked_hand wanted all a v finds cell (ap (λ k. pointed_cell p.table.config.pages (still_words p).pages
+        (address_of k)) same_word ∙ cell_of_word cell i history wanted.phase gray.page gray.index due.scanned within
+        (λ z. some (word_found ∙ z))) gray.marked due.scanned
 
 -- The cell into which the hand points lies in the heap.
-pub reached_within : (p : PassState) (cell : Cell) → HandPointsInto p cell
+pub reached_within : {p : PassState} {cell : Cell} → HandPointsInto p cell
     → (cell.page < p.table.config.pages) × (cell.index < 64)
-reached_within p cell r = pointed_within p.table.config.pages (still_words p) r.value cell r.points
+reached_within {p} {cell} r = pointed_within p.table.config.pages (still_words p) r.value cell r.points
 
 -- Its page has a header.
-pub reached_in_use : (p : PassState) (cell : Cell) → IsHistory p.table.config p.seen → IsWanted p
+pub reached_in_use : {p : PassState} {cell : Cell} → IsHistory p.table.config p.seen → IsWanted p
     → HandPointsInto p cell → header_at (now_of p).words cell.page ≢ 0
-reached_in_use p cell history wanted r = grind (arith, pointed_has_header)
+reached_in_use history wanted r = grind (arith, pointed_has_header)
 
 -- A mark by what stood in a root or a marked cell isn't sweeping.
 pub reached_marks_sweep_nothing : ReachedMarksSweepNothing

@@ -28,7 +28,7 @@ module _ {t u : TurnState} (a : Acts t.pass Step.Want u.pass) (own : Has t.pass.
   pub want_waits : phase_of (now_of t.pass).words ≡ 1 → WaitsForMarkers t u 1
   want_waits one = record {
     table = ap (λ (p : PassState). p.table) a.makes.is;
-    ready = still_ready t.pass u.pass Step.Want a.makes untouched ready;
+    ready = still_ready a.makes untouched ready;
     phase = want_phase one;
     traces = traces_step is_waiting TracesReached is_want t.pass u.pass Step.Want a.makes 1 own refl tt untouched
         (step_counts t.pass u.pass Step.Want a refl) refl;
@@ -43,9 +43,8 @@ module _ {t u : TurnState} (a : Acts t.pass (Step.Look Word.Phase) u.pass) (own 
   pub look_waits : WaitsForMarkers t u 0
   look_waits = record {
     table = ap (λ (p : PassState). p.table) a.makes.is;
-    ready = still_ready t.pass u.pass (Step.Look Word.Phase) a.makes still ready;
-    phase = ap (λ (w : World). phase_of w.now.words) a.world
-        ∙ phase_there t.pass u.pass (Step.Look Word.Phase) a ∙ two;
+    ready = still_ready a.makes still ready;
+    phase = ap (λ (w : World). phase_of w.now.words) a.world ∙ phase_there t.pass u.pass (Step.Look Word.Phase) a ∙ two;
     traces = traces_step is_waiting TracesReached is_want t.pass u.pass (Step.Look Word.Phase) a.makes 0 own refl tt
         still (step_counts t.pass u.pass (Step.Look Word.Phase) a refl) refl;
   }
@@ -83,9 +82,7 @@ marking_wants _ h = refl
 
 -- by any rule that the waiting keeps to
 pub wanted_once_then : (rule : Config → Moment → Step → Type 0) (p q r : PassState)
-    → Counted is_waiting rule is_want p q 1
-    → Traces is_marking rule q r → Counted is_tracing rule is_want p r 1
+    → Counted is_waiting rule is_want p q 1 → Traces is_marking rule q r → Counted is_tracing rule is_want p r 1
 wanted_once_then rule p q r one t =
-    counted_then is_tracing rule is_want p q r 1 0
-    (counted_wider is_waiting is_tracing rule is_want p q 1 waiting_traces one)
-    (traces_wider is_marking is_tracing is_want rule q r marking_traces marking_wants t)
+    counted_then is_tracing rule is_want p q r 1 0 (counted_wider is_waiting is_tracing rule is_want p q 1
+    waiting_traces one) (traces_wider is_tracing is_want marking_traces marking_wants t)

@@ -10,6 +10,7 @@ use mk_words::{Gates, TurnAt, Words};
 
 /// The cell into which a value points. It looks at the header of the value's page, and at nothing where the value is no
 /// address of the heap.
+#[tactic(auto, using(crate::proofs::PointedCells::outside_none))]
 pub fn cell_pointed<G: Gates>(words: &Words, turn: &mut TurnAt<G>, value: u64) -> Option<Cell>
     requires one_table { turn.old.pass.table ≡ words.now }
     requires may { MayLookAtHeaders turn.old.pass }

@@ -7,8 +7,8 @@ use Rattle.mk_why.proofs.Vocabulary.{is_word, links_in, links_of, named_word, pl
 use Rattle.mk_why.proofs.{Vocabulary.world_in, Searches.{Stays, links_stay, noted_stays, same_links}}
 use Rattle.mk_laws.proofs.Vocabulary.{IsWordOf, List, Option, ℕ, and_from, ap, arith, length, lt-ltb, refl, slice_index}
 use Rattle.mk_laws.proofs.Vocabulary.{subst, sym, true, [], ◌*◌, ◌+◌, ◌<◌, ◌∷◌, ◌≡◌, ◌≤◌}
-use Rattle.mk_why.specs.Searching.{IsExplored, IsFoundAt, IsFoundWithin, IsOnward, PointsAtBase, root_numbered}
-use Rattle.mk_why.specs.{Searching.root_word, Chains.IsRoot}
+use Rattle.mk_why.specs.{Chains.IsRoot, Searching.{IsExplored, IsFoundAt, IsFoundWithin, IsOnward, PointsAtBase}}
+use Rattle.mk_why.specs.Searching.{root_numbered, root_word}
 
 -- Ways to what values point into.
 
@@ -25,9 +25,8 @@ onward_way c v n b x through value is points = grind arith
 
 -- A way to whatever a value points into leads to what begins at the base.
 pub found_by : {c : Config} {v : View} (found : List (Option Found)) {value base : ℕ} (f : Found)
-    → PointsAtBase c v value base
-    → ((b : ℕ) → PointsIntoAllocation c (world_in v) value b → IsWay c v found f.way f.links b)
-    → IsFoundAt c v found base f
+    → PointsAtBase c v value base → ((b : ℕ) → PointsIntoAllocation c (world_in v) value b
+    → IsWay c v found f.way f.links b) → IsFoundAt c v found base f
 found_by found f x way = grind arith
 
 -- Where that was found, so was whatever the value points into.
@@ -61,12 +60,11 @@ root_named w x1 = grind arith
 done_stays : (c : Config) (v : View) (found more : List (Option Found)) → Stays found more → (base : ℕ)
     → IsFound found base → IsSearched c v found base → IsSearched c v more base
 done_stays c v found more stays base x done a n begins scanned word =
-    subst (λ k. IsNoted c v more (slice_index v.words.heap n) (k + 1)) (sym (same_links more stays x))
-    (noted_stays c v found more stays (slice_index v.words.heap n) (links_in (entry_at found base) + 1)
-    (done a n begins scanned word))
+    subst (λ k. IsNoted c v more (slice_index v.words.heap n) (k + 1)) (sym (same_links more stays x)) (noted_stays c v
+    found more stays (slice_index v.words.heap n) (links_in (entry_at found base) + 1) (done a n begins scanned word))
 
 -- The search went on from one place of the queue.
-module _ (c : Config) (v : View) (r s : Tables) (place limit : ℕ) (known : place < r.count)
+module _ {c : Config} {v : View} {r s : Tables} (place : ℕ) {limit : ℕ} (known : place < r.count)
     (search : IsSearch c v r limit) (behind : IsSearch c v s (links_of r place + 1)) (grows : FindsMore r s) where
   pub done_more : ((i : ℕ) → i < place → IsSearched c v r.found.items (slice_index r.queue.items i))
       → IsSearched c v s.found.items (slice_index r.queue.items place)
@@ -84,10 +82,10 @@ module _ (c : Config) (v : View) (r s : Tables) (place limit : ℕ) (known : pla
       let low = behind.below i few in
       omega arith
 
-pub all_done : (c : Config) (v : View) (r : Tables) (limit place : ℕ) → IsSearch c v r limit → r.count ≤ place
+pub all_done : {c : Config} {v : View} {r : Tables} {limit : ℕ} (place : ℕ) → IsSearch c v r limit → r.count ≤ place
     → ((i : ℕ) → i < place → IsSearched c v r.found.items (slice_index r.queue.items i))
     → (base : ℕ) → IsFound r.found.items base → IsSearched c v r.found.items base
-all_done c v r limit place search past done base x =
+all_done {c} {v} {r} place search past done base x =
     let q = search.queued base x in
     subst (λ n. IsSearched c v r.found.items n) q.is (done q.place (let low = q.known in omega arith))
 
@@ -102,9 +100,8 @@ module _ (c : Config) (v : View) (found : List (Option Found))
       let y = done (base_at v a) (record { entry = x.entry; there = x.there }) a leads.1.word refl leads.1.scanned
       leads.1.of_the_one next leads.1.to_the_other in
       let few : links_in (entry_at found (base_at v a)) ≡ x.entry.links = ap links_in x.there in
-      let z = leads_within links next b (n + 1)
-      (record { entry = y.entry; there = y.there; near = let low = y.near in let near = x.near in omega arith })
-      leads.2 in
+      let z = leads_within links next b (n + 1) (record
+      { entry = y.entry; there = y.there; near = let low = y.near in let near = x.near in omega arith }) leads.2 in
       record { entry = z.entry; there = z.there; near = let low = z.near in omega arith }
 
   pub explored : AreWays c v found

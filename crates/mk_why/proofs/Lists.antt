@@ -57,9 +57,8 @@ module _ (p : PassState) (history : IsHistory p.table.config p.seen) (still : Is
       → IsKeptCell c (view_by p) cell (words_under (header_in (now_of p).words cell.page))
   kept_cell cell in_snapshot marked =
       let f = freed_cell c (world_of p) (never_behind c p.seen)
-      (known_world c p.seen history.within_limits history.enabled) all
-      (λ e. let two = still.wanted in absurd (omega arith)) cell
-      (all.order.quarantined.within cell.page cell.index in_snapshot) in
+      (known_world c p.seen history.within_limits history.enabled) all (λ e. let two = still.wanted in absurd
+      (omega arith)) cell (all.order.quarantined.within cell.page cell.index in_snapshot) in
       let b = f.number in
       let x : PlacedAllocation = a b in
       let st = stands b f.unreleased in
@@ -99,7 +98,7 @@ module _ (p : PassState) (history : IsHistory p.table.config p.seen) (still : Is
       }
 
 -- By the configuration of the words, and what looks found of the view.
-module _ (p : PassState) (history : IsHistory p.table.config p.seen) (still : IsStill p) (k : WordsState)
+module _ {p : PassState} (history : IsHistory p.table.config p.seen) (still : IsStill p) (k : WordsState)
     (same : p.table ≡ k) (page header snapshot marks size : ℕ) (shown : header ≡ header_at (view_by p).words page)
     (snapshots : snapshot ≡ slice_index (view_by p).words.snapshot page)
     (bits : marks ≡ slice_index (view_by p).words.marks page) (under : size ≡ words_under (header_of header)) where
@@ -192,9 +191,8 @@ pub lists_cell : (c : Config) (v : View) (r s : Tables) (cell : Cell) (size : �
     → AreOfKept c v r.kept.items → length r.kept.items ≡ 64 * c.pages
     → (in_snapshot ≡ true → marked ≡ true → IsKeptCell c v cell size) → s.found ≡ r.found
     → (in_snapshot ≡ true → marked ≡ true → s.kept.items ≡ slice_set r.kept.items (64 * cell.page + cell.index * size)
-    (Some (record { address = 65536 + 8 * (64 * cell.page + cell.index * size); words = size })))
-    → (in_snapshot ≡ false → s ≡ r) → (marked ≡ false → s ≡ r)
-    → ListsCell c v r s (64 * cell.page + cell.index * size) in_snapshot marked
+    (Some (record { address = 65536 + 8 * (64 * cell.page + cell.index * size); words = size }))) → (in_snapshot ≡ false
+    → s ≡ r) → (marked ≡ false → s ≡ r) → ListsCell c v r s (64 * cell.page + cell.index * size) in_snapshot marked
 lists_cell c v r s cell size true true of_kept all kept found set outside unmarked =
     let x = kept refl refl in
     sets_cell c v r s cell size of_kept (let low = x.within in omega arith) x found (set refl refl)
@@ -216,9 +214,8 @@ cells_more {c} {v} {s} page size count snapshot marks index is_in is_marked has 
       | inr high ↦
           let x = has b kept at_page in
           let e : (cell_of_allocation c (placed_at v.allocations b)).index ≡ index = omega arith in
-          subst (λ n. IsListed s.kept.items n) (sym (x.is ∙ ap (λ i. 64 * page + i * size) e))
-          (one.listed (is_in ∙ ap (λ i. has_bit snapshot i) (sym e) ∙ x.in_snapshot)
-          (is_marked ∙ ap (λ i. has_bit marks i) (sym e) ∙ x.marked))
+          subst (λ n. IsListed s.kept.items n) (sym (x.is ∙ ap (λ i. 64 * page + i * size) e)) (one.listed (is_in ∙ ap
+          (λ i. has_bit snapshot i) (sym e) ∙ x.in_snapshot) (is_marked ∙ ap (λ i. has_bit marks i) (sym e) ∙ x.marked))
     ]
 
 -- the snapshot's half of a quarantine word
@@ -239,11 +236,9 @@ pub none_listed : (c : Config) (v : View) (kept : List (Option Storage)) → ((b
     → AreOfKept c v kept
 none_listed c v kept none base s is = let e = none base in absurd cc
 
-pub pages_more : {c : Config} {v : View} {r s : Tables} (page : ℕ) → ListsOn c v r s
-    → ((b : ℕ) → is_kept c (world_in v) b ≡ true → (cell_of_allocation c (placed_at v.allocations b)).page < page
-    → IsListed r.kept.items (base_at v b))
+pub pages_more : {c : Config} {v : View} {r s : Tables} (page : ℕ) → ListsOn c v r s → ((b : ℕ) → is_kept c (world_in v)
+    b ≡ true → (cell_of_allocation c (placed_at v.allocations b)).page < page → IsListed r.kept.items (base_at v b))
     → ((b : ℕ) → is_kept c (world_in v) b ≡ true → (cell_of_allocation c (placed_at v.allocations b)).page ≡ page
-    → IsListed s.kept.items (base_at v b))
-    → (b : ℕ) → is_kept c (world_in v) b ≡ true → (cell_of_allocation c (placed_at v.allocations b)).page < page + 1
-    → IsListed s.kept.items (base_at v b)
+    → IsListed s.kept.items (base_at v b)) → (b : ℕ) → is_kept c (world_in v) b ≡ true
+    → (cell_of_allocation c (placed_at v.allocations b)).page < page + 1 → IsListed s.kept.items (base_at v b)
 pages_more {c} {v} page on before here b kept lt = grind (arith, cases_lt)

@@ -6,20 +6,18 @@ use Rattle.mk_why.{proofs.Vocabulary.{view_by, view_of}, specs.Stops.{is_look}}
 use Rattle.mk_laws.proofs.Vocabulary.{AreOfOthers, Bool, List, MarkerState, Moment, Step, TurnIsLeft, Word, ℕ}
 use Rattle.mk_laws.proofs.Vocabulary.{all_below, and_from, and_parts, ap, append_assoc, arith, cond, enabled_meets}
 use Rattle.mk_laws.proofs.Vocabulary.{eq-eqb, false, has_closed_page, is_attending, lt-ltb, none_attends, not, not-true}
-use Rattle.mk_laws.proofs.Vocabulary.{outside, page_at_address, refl, roots_point_well, slice_index_or, suc, true, zero}
-use Rattle.mk_laws.proofs.{Vocabulary.{[], ◌&&◌, ◌++◌, ◌+◌, ◌∙◌, ◌∷◌, ◌≡◌}, ProtocolFrames.others_leave}
-use Rattle.mk_laws.proofs.Tests.{none_from}
+use Rattle.mk_laws.proofs.Vocabulary.{outside, refl, roots_point_well, slice_index_or, suc, true, zero, [], ◌&&◌, ◌++◌}
+use Rattle.mk_laws.proofs.{Vocabulary.{◌+◌, ◌∙◌, ◌∷◌, ◌≡◌}, ProtocolFrames.others_leave, Tests.none_from}
 use Rattle.mk_core.specs.{Frames.written_of, Growing.Finding, Readings.NoneAttends}
 use Rattle.mk_cycle.proofs.{KeptInParts.{free_then, keeps_at_once, keeps_then}, Allowed.in_turn_before}
-use Rattle.mk_cycle.proofs.{CleaningSteps.calm_keeps, MayAct.calm_admitted}
-use Rattle.mk_cycle.specs.{Kinds.{closes_marks, is_want}, TurnKeeps.{InTurn, LeavesTurn, but_phase}}
-use Rattle.mk_cycle.specs.EngineLaw.{ClosesMarks, IsFreeForCycle}
+use Rattle.mk_cycle.{proofs.{CleaningSteps.calm_keeps, MayAct.calm_admitted}, specs.Kinds.{closes_marks, is_want}}
+use Rattle.mk_cycle.specs.{TurnKeeps.{InTurn, LeavesTurn, but_phase}, EngineLaw.{ClosesMarks, IsFreeForCycle}}
 use Rattle.mk_sweep.proofs.Kept.{ready_of}
 use Rattle.mk_tracing.proofs.{Stilled.{none_after, phase_there, words_left}, Closes.marks_closed_now, MaySteps.may_look}
 use Rattle.mk_tracing.{proofs.Steps.{may_step}, specs.Stops.{IsWanted}}
 use Rattle.mk_turns.proofs.{Doing.{does_nothing, does_step, does_then, done_in_parts}, PointedCells.looked_for}
-use Rattle.mk_turns.{proofs.Sweeping.{does_sweep, sweeps_then}, specs.Pointing.{LooksForCell, MayLookAtHeaders}}
-use Rattle.mk_turns.specs.{Sweeping.{HaveNoMark, SweepsNothing}, Doing.{Does, are_of, count_done, done_in}}
+use Rattle.mk_turns.{proofs.Sweeping.{does_sweep, sweeps_then}, specs.Sweeping.{HaveNoMark, SweepsNothing}}
+use Rattle.mk_turns.specs.{Doing.{Does, are_of, count_done, done_in}, Pointing.{LooksForCell, MayLookAtHeaders}}
 use Rattle.mk_words.{proofs.Seats.{others_own}, specs.{Steps.{IsAdmittedTo, IsEnabledTo}, TurnSteps.Acts}}
 
 -- Looks leave the view as it is, and so does what others do in the stop.
@@ -32,7 +30,7 @@ pub view_left : {w v : World} → TurnIsLeft w v → written_of v ≡ written_of
 view_left {w} {v} turn written two none = grind (arith, view_from, words_left)
 
 -- Any word may be looked at.
-module _ (p : PassState) (turn : InTurn p) (gates : others_are_held p.table.config.callers (now_of p).words p.seat
+module _ {p : PassState} (turn : InTurn p) (gates : others_are_held p.table.config.callers (now_of p).words p.seat
     ≡ true) (still : IsStill p) where
   pub wanted_now : IsWanted p
   wanted_now = record { ready = ready_of p turn.history turn.holds still.free; phase = still.wanted; none = still.none }
@@ -44,11 +42,10 @@ module _ (p : PassState) (turn : InTurn p) (gates : others_are_held p.table.conf
   look_admitted x = calm_admitted p (Step.Look x) turn.history refl still.free.decided
 
 -- A look leaves all still.
-module _ (t u : TurnState) (x : Word) (a : Acts t.pass (Step.Look x) u.pass)
-    (gates : others_are_held t.pass.table.config.callers (now_of t.pass).words t.pass.seat ≡ true)
-    (still : IsStill t.pass) where
+module _ (t u : TurnState) {x : Word} (a : Acts t.pass (Step.Look x) u.pass) (gates : others_are_held
+    t.pass.table.config.callers (now_of t.pass).words t.pass.seat ≡ true) (still : IsStill t.pass) where
   wanted : IsWanted t.pass
-  wanted = wanted_now t.pass (in_turn_before a) gates still
+  wanted = wanted_now (in_turn_before a) gates still
 
   keeps : LeavesTurn but_phase t.pass u.pass
   keeps =
@@ -75,14 +72,13 @@ looks_then {t} {u} {v} one two = grind (arith, does_then, keeps_then)
 
 pub may_look_at_headers : {p : PassState} → InTurn p
     → others_are_held p.table.config.callers (now_of p).words p.seat ≡ true → IsStill p → MayLookAtHeaders p
-may_look_at_headers {p} turn gates still page lt = look_enabled p turn gates still (Word.Head page) (lt-ltb page _ lt)
+may_look_at_headers {p} turn gates still page lt = look_enabled turn gates still (Word.Head page) (lt-ltb page _ lt)
 
 pub looks_for_cell : {value : ℕ} {t u : TurnState} → LooksForCell value t u
     → others_are_held t.pass.table.config.callers (now_of t.pass).words t.pass.seat ≡ true → IsStill t.pass
     → LooksWhileStill t u
 looks_for_cell {value} {t} {u} l gates still =
-    looked_for (λ (v : TurnState). LooksWhileStill t v) l (looks_at_nothing t still)
-    (λ a. look_on t u (Word.Head (page_at_address value)) a gates still)
+    looked_for (λ (v : TurnState). LooksWhileStill t v) l (looks_at_nothing t still) (λ a. look_on t u a gates still)
 
 -- Looks after an engine's marks leave its law, and what is said of the view.
 
@@ -113,20 +109,17 @@ closes_by p on = grind (arith, enabled_meets, and_parts)
 pub still_closed : {p q : PassState} → ClosesMarks p q → IsFreeForCycle p → IsStill q
 still_closed {p} {q} law free = grind (arith, free_then, each_not, closes_by)
 
-may_close_by : (p : PassState) (turn : InTurn p)
-    → others_are_held p.table.config.callers (now_of p).words p.seat ≡ true → IsStill p
-    → pages_close p.table.config.pages (view_by p) ≡ true → roots_close p.table.config.pages (view_by p) ≡ true
-    → IsEnabledTo p Step.Close
+may_close_by : {p : PassState} (turn : InTurn p) → others_are_held p.table.config.callers (now_of p).words p.seat ≡ true
+    → IsStill p → pages_close p.table.config.pages (view_by p) ≡ true
+    → roots_close p.table.config.pages (view_by p) ≡ true → IsEnabledTo p Step.Close
 unfolding pages_close roots_close
-may_close_by p turn gates still pages roots =
+may_close_by {p} turn gates still pages roots =
     let c : Config = p.table.config in
     let m : Moment = now_of p in
-    may_step p Step.Close (wanted_now p turn gates still).ready turn.holds refl refl gates
-    (eq-eqb (phase_of m.words) 2 still.wanted) refl
-    (and_from (none_attends m.seats.markers && all_below c.pages (has_closed_page m.words))
-    (roots_point_well c.pages m.words)
-    (and_from (none_attends m.seats.markers) (all_below c.pages (has_closed_page m.words))
-    (none_from m.seats.markers still.none) pages) roots)
+    may_step p Step.Close (wanted_now turn gates still).ready turn.holds refl refl gates
+    (eq-eqb (phase_of m.words) 2 still.wanted) refl (and_from (none_attends m.seats.markers && all_below c.pages
+    (has_closed_page m.words)) (roots_point_well c.pages m.words) (and_from (none_attends m.seats.markers)
+    (all_below c.pages (has_closed_page m.words)) (none_from m.seats.markers still.none) pages) roots)
 
 -- Looks are of the kinds of the law, and wish nothing.
 
@@ -159,9 +152,8 @@ counts_then : (kind : Step → Bool) {kinds more both : Step → Bool} {p q r : 
     (e : Does more q r) (f : Does both p r) → count_done kind f ≡ count_done kind d + count_done kind e
 counts_then kind {p} {r} d e f = grind (arith, done_in_parts, sum_by-append, append_assoc, append_cancel_left)
 
-module _ (p : PassState) (t u : TurnState) (law : ClosesMarks p t.pass) (on : LooksWhileStill t u)
-    (turn : InTurn u.pass)
-    (gates : others_are_held u.pass.table.config.callers (now_of u.pass).words u.pass.seat ≡ true) where
+module _ {p : PassState} {t u : TurnState} (law : ClosesMarks p t.pass) (on : LooksWhileStill t u) (turn : InTurn
+    u.pass) (gates : others_are_held u.pass.table.config.callers (now_of u.pass).words u.pass.seat ≡ true) where
   close_now : IsEnabledTo u.pass Step.Close
   close_now = grind (arith, closes_by, may_close_by, pages_close, roots_close)
 
@@ -189,11 +181,10 @@ sweepless_kept {p} {t} {u} law on one =
     sweeps_then p t.pass u.pass law.keeps.call.pass one (does_sweep is_look t.pass u.pass look_marks on.does)
 
 -- What others do leaves the view.
-pub others_still : (p : PassState) → InTurn p
-    → others_are_held p.table.config.callers (now_of p).words p.seat ≡ true → IsStill p
-    → (others : List Event) → AreOfOthers p.seats others → IsHistory p.table.config (p.seen ++ others)
+pub others_still : {p : PassState} → InTurn p → others_are_held p.table.config.callers (now_of p).words p.seat ≡ true
+    → IsStill p → (others : List Event) → AreOfOthers p.seats others → IsHistory p.table.config (p.seen ++ others)
     → view_of (left p.table.config (p.seen ++ others)) ≡ view_by p
-others_still p turn gates still others of_others history =
+others_still {p} turn gates still others of_others history =
     let x = others_leave p.table.config p.seen others p.seat history.within_limits history.enabled
     (others_own p.seats p.seat others turn.own of_others) in
     view_left (x.turn turn.holds).0 (x.stop (turn.holds, gates)) still.wanted still.none

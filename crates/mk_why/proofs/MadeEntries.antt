@@ -73,10 +73,10 @@ module _ (c : Config) (v : View) (found : List (Option Found)) (ways : AreWays c
         sum = let long = length-append pushed (to ∷ []) in omega arith;
       }))
 
-  pub led_more : (f : Found) (pushed : List ℕ) (b count : ℕ) → IsLedBack c v found f pushed b count
+  pub led_more : {f : Found} {pushed : List ℕ} {b count : ℕ} → IsLedBack c v found f pushed b count
       → (link : ℕ) (before : Found) → step_back found f ≡ Some (link, before)
       → IsLedBack c v found before (pushed ++ link ∷ []) b count
-  led_more f pushed b count led link before is = grind (arith, led_by)
+  led_more led link before is = grind (arith, led_by)
 
   ends_by : (way : Way) (links : ℕ) (pushed : List ℕ) (b count x : ℕ) → IsWay c v found way links x
       → LinksLead c (world_in v) x (reverse pushed) b → length pushed + links ≡ count
@@ -89,9 +89,10 @@ module _ (c : Config) (v : View) (found : List (Option Found)) (ways : AreWays c
   }
   ends_by (Link to from) links pushed b count x on leads sum is = grind (arith, pair_is_some, some_back)
 
-  pub led_to_root : (f : Found) (pushed : List ℕ) (b count : ℕ) → IsLedBack c v found f pushed b count
+  pub led_to_root : {f : Found} {pushed : List ℕ} {b count : ℕ} → IsLedBack c v found f pushed b count
       → step_back found f ≡ None → IsLed c v b count (root_of f.way) (reverse pushed)
-  led_to_root f pushed b count led is = ends_by f.way f.links pushed b count led.number led.way led.leads led.sum is
+  led_to_root {f} {pushed} {b} {count} led is =
+      ends_by f.way f.links pushed b count led.number led.way led.leads led.sum is
 
 -- Numbers that rise go on rising after a greater one.
 
@@ -120,7 +121,7 @@ below_pushed : (xs : List ℕ) (x n : ℕ) → x < n → ((i : ℕ) → i < leng
 below_pushed xs x n small below i lt = grind (arith, cases_lt, get_or-append, pushed_at)
 
 -- What an entry tells is why.
-module _ (c : Config) (v : View) (found : List (Option Found)) (kept : List (Option Storage))
+module _ {c : Config} {v : View} {found : List (Option Found)} {kept : List (Option Storage)}
     (told : IsTold c found kept v) where
   unreleased_kept : (b : ℕ) → is_kept c (world_in v) b ≡ true → (placed_at v.allocations b).released ≡ false
   unreleased_kept b kept_here = grind (arith, and_parts, not-true)
@@ -156,13 +157,13 @@ module _ (c : Config) (v : View) (found : List (Option Found)) (kept : List (Opt
       subst (λ n. IsWay c v found f.way f.links n) (told.apart x.number b x.unreleased u x.is) x.way
 
   -- the entry that is made of what the tables have
-  made_entry : (base : ℕ) (s : Storage) → (k : IsKeptAt c v base s) → (entry : Kept)
+  made_entry : {base : ℕ} {s : Storage} → (k : IsKeptAt c v base s) → {entry : Kept}
       → IsMadeOf found s (entry_at found base) entry → IsEntryOf c (world_in v) entry k.number
-  made_entry base s k entry made = grind (arith, unreleased_kept, why_by, way_by)
+  made_entry k made = grind (arith, unreleased_kept, why_by, way_by)
 
-  pub entries_none : (base : ℕ) (es : List Kept) → entry_at kept base ≡ None → AreEntriesBelow c v base es
+  pub entries_none : {base : ℕ} {es : List Kept} → entry_at kept base ≡ None → AreEntriesBelow c v base es
       → AreEntriesBelow c v (base + 1) es
-  entries_none base es none x = record {
+  entries_none {base} none x = record {
     ascending = x.ascending;
     below = λ i lt. let low = x.below i lt in omega arith;
     of_one = x.of_one;
@@ -176,9 +177,9 @@ module _ (c : Config) (v : View) (found : List (Option Found)) (kept : List (Opt
     ];
   }
 
-  pub entries_some : (base : ℕ) (es fs : List Kept) (s : Storage) → entry_at kept base ≡ Some s
+  pub entries_some : {base : ℕ} {es fs : List Kept} {s : Storage} → entry_at kept base ≡ Some s
       → IsOneMore found s (entry_at found base) es fs → AreEntriesBelow c v base es → AreEntriesBelow c v (base + 1) fs
-  entries_some base es fs s is more x =
+  entries_some {base} {es} {s} is more x =
       subst (AreEntriesBelow c v (base + 1)) (sym more.is) (record {
         ascending = subst IsStrictlyIncreasing (sym mapped)
             (rising_more (map address es) more.entry.address x.ascending (λ i lt.
@@ -214,7 +215,7 @@ module _ (c : Config) (v : View) (found : List (Option Found)) (kept : List (Opt
       k = told.of_kept base s is
 
       entry : IsEntryOf c (world_in v) more.entry k.number
-      entry = made_entry base s k more.entry more.made
+      entry = made_entry k more.made
 
       at_base : more.entry.address ≡ 65536 + 8 * base
       at_base = entry.address ∙ ap (λ n. 65536 + 8 * n) k.is
@@ -232,5 +233,5 @@ pub entries_more : {c : Config} {v : View} {found : List (Option Found)} {kept :
 entries_more {c} {v} {found} {kept} told {base} {es} fs same more x = by (entry_at kept base) refl
   where
     by : (o : Option Storage) → entry_at kept base ≡ o → AreEntriesBelow c v (base + 1) fs
-    by None is = subst (AreEntriesBelow c v (base + 1)) (sym (same is)) (entries_none c v found kept told base es is x)
-    by (Some s) is = entries_some c v found kept told base es fs s is (more s is) x
+    by None is = subst (AreEntriesBelow c v (base + 1)) (sym (same is)) (entries_none told is x)
+    by (Some s) is = entries_some told is (more s is) x

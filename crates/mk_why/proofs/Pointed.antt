@@ -70,9 +70,8 @@ module _ (p : PassState) (history : IsHistory p.table.config p.seen) (still : Is
               (is ∙ ap Some (sym x.is)),
         );
         is = sym begins.0 ∙ ap (first_word (now_of p).words) x.is;
-        only = λ b points. unreleased_are_apart c p.seen
-            (histories_keep_the_invariant c p.seen history).order.laid b x.number points.0 x.unreleased
-            (same_cell value b cell is points ∙ sym x.is);
+        only = λ b points. unreleased_are_apart c p.seen (histories_keep_the_invariant c p.seen history).order.laid b
+            x.number points.0 x.unreleased (same_cell value b cell is points ∙ sym x.is);
       }
 
   -- What is scanned has a header that says so.
@@ -89,7 +88,7 @@ module _ (p : PassState) (history : IsHistory p.table.config p.seen) (still : Is
   unreleased_of : (b : ℕ) → is_scanned_allocation c (a b) ≡ true → (a b).released ≡ false
   unreleased_of b is = mapped_stays c (a b) (and_parts (is_mapped c (a b)) (not (storage_of c (a b)).leaf) is).0
 
-  module _ (base : ℕ) (is : IsFirstWord (view_by p) base) where
+  module _ {base : ℕ} (is : IsFirstWord (view_by p) base) where
     pub bare_whole : has_no_pointers (header_in (now_of p).words (base / 64)) ≡ true → (b : ℕ)
         → base_at (view_by p) b ≡ base → is_scanned_allocation c (a b) ≡ true → 0 ≡ storage_words c (a b)
     bare_whole bare b at scanned = grind (arith, scanned_header)
@@ -105,9 +104,8 @@ module _ (p : PassState) (history : IsHistory p.table.config p.seen) (still : Is
         let cell : Cell = cell_of_allocation c (a b) in
         let x = used_cell c p.seen history settled cell.page cell.index (stands b is.unreleased).used
         (ap (λ n. has_no_pointers (header_in (now_of p).words (n / 64))) is.is ∙ bare) in
-        let same : x.number ≡ b = unreleased_are_apart c p.seen
-        (histories_keep_the_invariant c p.seen history).order.laid x.number b (unreleased_of x.number x.scanned)
-        is.unreleased x.is in
+        let same : x.number ≡ b = unreleased_are_apart c p.seen (histories_keep_the_invariant c p.seen
+        history).order.laid x.number b (unreleased_of x.number x.scanned) is.unreleased x.is in
         let scanned : is_scanned_allocation c (a b) ≡ true = grind arith in
         let whole : words_under (header_in (now_of p).words (base / 64)) ≡ storage_words c (a b) =
         scanned_whole b is.is scanned in
@@ -129,7 +127,7 @@ module _ (p : PassState) (history : IsHistory p.table.config p.seen) (still : Is
       allocations_are_disjoint c p.seen history i j (a i).base u v (omega arith, omega arith) (omega arith, omega arith)
 
 -- By the configuration of the words, and what looks found of the view.
-module _ (p : PassState) (history : IsHistory p.table.config p.seen) (still : IsStill p) (k : WordsState)
+module _ {p : PassState} (history : IsHistory p.table.config p.seen) (still : IsStill p) (k : WordsState)
     (same : p.table ≡ k) (value : ℕ) where
   pointed_here : (cell : Option Cell) → cell ≡ pointed_cell k.config.pages (view_by p).words.pages value
       → pointed_cell p.table.config.pages (now_of p).words.pages value ≡ cell
@@ -149,20 +147,19 @@ module _ (p : PassState) (history : IsHistory p.table.config p.seen) (still : Is
         → PointsAtBase k.config (view_by p) value (64 * cell.page + cell.index * size)
     some_at_used has header size shown under = grind (arith, used_pointed, pointed_here)
 
-module _ (p : PassState) (history : IsHistory p.table.config p.seen) (still : IsStill p) (k : WordsState)
+module _ {p : PassState} (history : IsHistory p.table.config p.seen) (still : IsStill p) (k : WordsState)
     (same : p.table ≡ k) (base : ℕ) (is : IsFirstWord (view_by p) base) where
   pub begins_at : base < 64 * k.config.pages
-  begins_at = subst (λ (t : WordsState). base < 64 * t.config.pages) same (begins_within p history still base is)
+  begins_at = subst (λ (t : WordsState). base < 64 * t.config.pages) same (begins_within p history still is)
 
   module _ (header : ℕ) (shown : header ≡ header_at (view_by p).words (base / 64)) where
     pub bare_at : has_no_pointers (header_of header) ≡ true → (b : ℕ) → base_at (view_by p) b ≡ base
         → is_scanned_allocation k.config (placed_at (view_by p).allocations b) ≡ true
         → 0 ≡ storage_words k.config (placed_at (view_by p).allocations b)
     bare_at bare =
-        subst (λ (t : WordsState). (b : ℕ) → base_at (view_by p) b ≡ base
-        → is_scanned_allocation t.config (placed_at (view_by p).allocations b) ≡ true
-        → 0 ≡ storage_words t.config (placed_at (view_by p).allocations b)) same
-        (bare_whole p history still base is (ap (λ h. has_no_pointers (header_of h)) (sym shown) ∙ bare))
+        subst (λ (t : WordsState). (b : ℕ) → base_at (view_by p) b ≡ base → is_scanned_allocation t.config
+        (placed_at (view_by p).allocations b) ≡ true → 0 ≡ storage_words t.config (placed_at (view_by p).allocations b))
+        same (bare_whole p history still is (ap (λ h. has_no_pointers (header_of h)) (sym shown) ∙ bare))
 
     size_is : (size : ℕ) → size ≡ words_under (header_of header)
         → size ≡ words_under (header_in (now_of p).words (base / 64))
@@ -173,19 +170,17 @@ module _ (p : PassState) (history : IsHistory p.table.config p.seen) (still : Is
     scanned_at bare size under =
         subst (λ (t : WordsState). AreScannedFrom t.config (view_by p) base size) same
         (subst (λ n. AreScannedFrom p.table.config (view_by p) base n) (sym (size_is size under))
-        (scanned_from p history still base is (ap (λ h. has_no_pointers (header_of h)) (sym shown) ∙ bare)))
+        (scanned_from p history still is (ap (λ h. has_no_pointers (header_of h)) (sym shown) ∙ bare)))
 
     pub whole_at : (size : ℕ) → size ≡ words_under (header_of header) → (b : ℕ) → base_at (view_by p) b ≡ base
         → is_scanned_allocation k.config (placed_at (view_by p).allocations b) ≡ true
         → size ≡ storage_words k.config (placed_at (view_by p).allocations b)
     whole_at size under =
-        subst (λ (t : WordsState). (b : ℕ) → base_at (view_by p) b ≡ base
-        → is_scanned_allocation t.config (placed_at (view_by p).allocations b) ≡ true
-        → size ≡ storage_words t.config (placed_at (view_by p).allocations b)) same
-        (λ b at scanned. size_is size under ∙ scanned_whole p history still base is b at scanned)
+        subst (λ (t : WordsState). (b : ℕ) → base_at (view_by p) b ≡ base → is_scanned_allocation t.config (placed_at
+        (view_by p).allocations b) ≡ true → size ≡ storage_words t.config (placed_at (view_by p).allocations b)) same
+        (λ b at scanned. size_is size under ∙ scanned_whole p history still is b at scanned)
 
     pub within_at : (size : ℕ) → size ≡ words_under (header_of header) → base + size ≤ 64 * k.config.pages
     within_at size under =
         subst (λ (t : WordsState). base + size ≤ 64 * t.config.pages) same
-        (subst (λ n. base + n ≤ 64 * p.table.config.pages) (sym (size_is size under))
-        (within_heap p history still base is))
+        (subst (λ n. base + n ≤ 64 * p.table.config.pages) (sym (size_is size under)) (within_heap p history still is))

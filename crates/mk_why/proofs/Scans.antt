@@ -7,7 +7,7 @@ use Rattle.mk_why.proofs.Vocabulary.{storage_words, view_of, word_of_root, world
 use Rattle.mk_laws.proofs.Vocabulary.{List, None, Option, Some, ℕ, ap, arith, cases_lt, get_or_past, length}
 use Rattle.mk_laws.proofs.Vocabulary.{slice_index, slice_index_or, subst, sym, true, [], ◌+◌, ◌-◌, ◌<◌, ◌∙◌, ◌∷◌, ◌≡◌}
 use Rattle.mk_laws.proofs.Vocabulary.{◌≤◌}
-use Rattle.mk_why.specs.{Chains.{AreKept, IsChain, IsEntryOf}, declared.kept.Kept.Kept}
+use Rattle.mk_why.specs.{Chains.AreKept, Chains.IsChain, Chains.IsEntryOf, declared.kept.Kept.Kept}
 
 -- What is done after the scan of an allocation's words.
 
@@ -33,7 +33,7 @@ done_from c v {found} {base} size {links} through whole noted a n begins scanned
     subst (λ k. IsNoted c v found (slice_index v.words.heap n) (k + 1)) (sym same)
     (subst (λ j. IsNoted c v found (slice_index v.words.heap j) (links + 1)) here (noted (n - base) few))
 
-module _ (c : Config) (v : View) (r : Tables) (place limit : ℕ) (search : IsSearch c v r limit)
+module _ {c : Config} {v : View} {r : Tables} (place : ℕ) {limit : ℕ} (search : IsSearch c v r limit)
     (known : place < r.count) where
   pub queued_within : slice_index r.queue.items place < length r.found.items
   queued_within = grind (arith, within_table)
@@ -79,24 +79,24 @@ module _ (c : Config) (w : World) where
   leads_in [] a b x = x
   leads_in (link ∷ links) a b x = (x.0, grind arith, leads_in links x.0 b x.2)
 
-  chain_in : (root : Root) (links : List ℕ) (b : ℕ) → IsChain c w root links b
+  chain_in : {root : Root} {links : List ℕ} {b : ℕ} → IsChain c w root links b
       → IsChain c (world_in (view_of w)) root links b
-  chain_in root links b x = grind (arith, same_root, leads_in)
+  chain_in x = grind (arith, same_root, leads_in)
 
   why_out : (b : ℕ) (o : Option Root) (links : List ℕ) → IsWhy c (world_in (view_of w)) b o links → IsWhy c w b o links
-  why_out b (Some root) links x = (grind (arith, same_root, leads_out), λ r ls chain. x.1 r ls (chain_in r ls b chain))
-  why_out b None links x = (x.0, λ r ls chain. x.1 r ls (chain_in r ls b chain))
+  why_out b (Some root) links x = (grind (arith, same_root, leads_out), λ r ls chain. x.1 r ls (chain_in chain))
+  why_out b None links x = (x.0, λ r ls chain. x.1 r ls (chain_in chain))
 
-  entry_out : (entry : Kept) (b : ℕ) → IsEntryOf c (world_in (view_of w)) entry b → IsEntryOf c w entry b
-  entry_out entry b x = grind (arith, why_out)
+  entry_out : {entry : Kept} {b : ℕ} → IsEntryOf c (world_in (view_of w)) entry b → IsEntryOf c w entry b
+  entry_out x = grind (arith, why_out)
 
-  pub kept_of : (found : List (Option Found)) (kept : List (Option Storage)) (entries : List Kept)
+  pub kept_of : {found : List (Option Found)} {kept : List (Option Storage)} {entries : List Kept}
       → IsTold c found kept (view_of w) → AreEntriesBelow c (view_of w) (length kept) entries → AreKept c w entries
-  kept_of found kept entries told x = record {
+  kept_of {kept} told x = record {
     ascending = x.ascending;
-    of_one = λ entry inside. let y = x.of_one entry inside in (y.0, entry_out entry y.0 y.1);
+    of_one = λ entry inside. let y = x.of_one entry inside in (y.0, entry_out y.1);
     each = λ b kept_here.
         let listed = told.each b kept_here in
         let y = x.each b kept_here (within_table kept (base_at (view_of w) b) listed.storage listed.there) in
-        (y.0, y.1, entry_out y.0 b y.2);
+        (y.0, y.1, entry_out y.2);
   }

@@ -3,12 +3,12 @@ use Rattle.std.proofs.Common.{below_more}
 use Rattle.mk_why.proofs.Vocabulary.{AreWays, Config, FindsMore, Found, IsFound, IsFoundThrough, IsNoted, IsSearch}
 use Rattle.mk_why.proofs.Vocabulary.{IsStill, IsWay, LooksWhileStill, Root, SearchesOn, Tables, TurnState, View}
 use Rattle.mk_why.proofs.Vocabulary.{entry_at, links_in, links_of, view_by, word_of_root}
-use Rattle.mk_why.proofs.Looks.{looks_at_nothing, looks_then}
 use Rattle.mk_laws.proofs.Vocabulary.{List, None, Option, Some, ℕ, ap, arith, cases_Bool, cases_eq, cases_lt, false}
 use Rattle.mk_laws.proofs.Vocabulary.{get_or-set_other, get_or-set_same, inl, inr, is_some, length, length-set, refl}
 use Rattle.mk_laws.proofs.Vocabulary.{slice_index, slice_set, subst, sym, true, true≢false, ◌*◌, ◌+◌, ◌<◌, ◌∙◌, ◌≡◌}
 use Rattle.mk_laws.proofs.Vocabulary.{◌≢◌, ◌≤◌, ◌⊎◌}
-use Rattle.mk_why.specs.{Searching.{IsFoundAt, IsFoundWithin, IsQueued}, declared.found.Way.Way}
+use Rattle.mk_why.proofs.Looks.{looks_at_nothing, looks_then}
+use Rattle.mk_why.specs.{Searching.IsFoundAt, Searching.IsFoundWithin, Searching.IsQueued, declared.found.Way.Way}
 
 abbrev pub Stays : List (Option Found) → List (Option Found) → Type 0
 Stays found more = (base : ℕ) (f : Found) → entry_at found base ≡ Some f → entry_at more base ≡ Some f

@@ -10,9 +10,8 @@ use Rattle.mk_cycle.specs.{Telling.IsToldOf, TurnKeeps.InTurn}
 -- the two tables, of the view after the engine's marks
 pub told_by : {k : Config} {t u : TurnState} (a : Tables) {b d : Tables} → LooksWhileStill t u
     → IsExplored k (view_by t.pass) a.found.items → BeginApart (view_by t.pass) → b.found ≡ a.found
-    → ListsOn k (view_by u.pass) b d
-    → ((n : ℕ) → is_kept k (world_in (view_by u.pass)) n ≡ true → IsListed d.kept.items (base_at (view_by u.pass) n))
-    → IsTold k d.found.items d.kept.items (view_by t.pass)
+    → ListsOn k (view_by u.pass) b d → ((n : ℕ) → is_kept k (world_in (view_by u.pass)) n ≡ true
+    → IsListed d.kept.items (base_at (view_by u.pass) n)) → IsTold k d.found.items d.kept.items (view_by t.pass)
 told_by {k} {t} a {d} on explored apart same lists each = record {
   explored = subst (IsExplored k (view_by t.pass)) (sym (ap (λ x. x.items) (lists.found ∙ same))) explored;
   apart = apart;
@@ -32,9 +31,9 @@ told_now tells p history told =
     subst (λ (es : List Event). tells p.table.config (left p.table.config es)) (append-nil p.seen)
     (told [] (nothing_of_others p) (subst (IsHistory p.table.config) (sym (append-nil p.seen)) history))
 
-module _ (tells : Config → World → Type 0) (k : WordsState) (t u : TurnState) (on : LooksWhileStill t u)
+module _ (tells : Config → World → Type 0) (k : WordsState) {t u : TurnState} (on : LooksWhileStill t u)
     (history : IsHistory t.pass.table.config t.pass.seen) (told : IsToldOf tells t.pass) (same : t.pass.table ≡ k)
-    (found : List (Option Found)) (kept : List (Option Storage))
+    {found : List (Option Found)} {kept : List (Option Storage)}
     (tables : IsTold k.config found kept (view_by t.pass)) (turn : InTurn u.pass)
     (gates : others_are_held u.pass.table.config.callers (now_of u.pass).words u.pass.seat ≡ true) where
   pub told_of : IsToldOf (λ c w. IsToldBefore tells c w × IsTold c found kept (view_of w)) u.pass
@@ -42,7 +41,7 @@ module _ (tells : Config → World → Type 0) (k : WordsState) (t u : TurnState
       let c : Config = u.pass.table.config in
       let table : u.pass.table ≡ k = on.table ∙ same in
       let view : view_of (left c (u.pass.seen ++ others)) ≡ view_by t.pass =
-      others_still u.pass turn gates on.still others of_others more ∙ on.view in
+      others_still turn gates on.still others of_others more ∙ on.view in
       let first : tells c (world_of t.pass) =
       subst (λ (x : WordsState). tells x.config (world_of t.pass)) (sym on.table) (told_now tells t.pass history told)
       in

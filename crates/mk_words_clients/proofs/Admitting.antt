@@ -30,9 +30,9 @@ op_step p s h admitted =
     by None = tt
 
 -- after a step of its own, where the call has that operation and the answer's flag doesn't matter
-pub own_step : (p : PassState) (t : Step) (q : PassState) (s : Step) (o : Op) → StaysAdmitted p o → Makes p t q
+pub own_step : {p : PassState} {t : Step} {q : PassState} (s : Step) (o : Op) → StaysAdmitted p o → Makes p t q
     → IsHistory q.table.config q.seen → (call_of q).op ≡ o → ((a : Answer) → flagged o a ≡ o) → IsAdmittedTo q s
-own_step p t q s o stays m h op_is plain =
+own_step {p} {t} {q} s o stays m h op_is plain =
     let c : Config = p.table.config in
     let more : List Event = m.others ++ event_of p t ∷ [] in
     let seen_is : q.seen ≡ p.seen ++ more = cc (m.is, append_assoc p.seen m.others (event_of p t ∷ [])) in
@@ -40,12 +40,10 @@ own_step p t q s o stays m h op_is plain =
     let seat_is : q.seat ≡ p.seat = ap (λ (r : PassState). r.seat) m.is in
     let there = stays more
     (subst (λ (es : List Event). IsHistory c es) seen_is (subst (λ (d : Config). IsHistory d q.seen) config_is h)) in
-    let here : IsAdmitted q.table.config.globals (never_behind q.table.config q.seen) (caller_number q.seat) o =
-    subst (λ (x : Seat). IsAdmitted q.table.config.globals (never_behind q.table.config q.seen) (caller_number x) o)
-    (sym seat_is)
-    (subst (λ (d : Config). IsAdmitted d.globals (never_behind d q.seen) (caller_number p.seat) o) (sym config_is)
-    (subst (λ (es : List Event). IsAdmitted c.globals (never_behind c es) (caller_number p.seat) o)
+    let here : IsAdmitted q.table.config.globals (never_behind q.table.config q.seen) (caller_number q.seat) o = subst
+    (λ (x : Seat). IsAdmitted q.table.config.globals (never_behind q.table.config q.seen) (caller_number x) o)
+    (sym seat_is) (subst (λ (d : Config). IsAdmitted d.globals (never_behind d q.seen) (caller_number p.seat) o)
+    (sym config_is) (subst (λ (es : List Event). IsAdmitted c.globals (never_behind c es) (caller_number p.seat) o)
     (sym seen_is) there)) in
-    op_step q s h (λ a. subst
-    (λ (x : Op). IsAdmitted q.table.config.globals (never_behind q.table.config q.seen) (caller_number q.seat) x)
-    (sym (ap (λ (y : Op). flagged y a) op_is ∙ plain a)) here)
+    op_step q s h (λ a. subst (λ (x : Op). IsAdmitted q.table.config.globals (never_behind q.table.config q.seen)
+    (caller_number q.seat) x) (sym (ap (λ (y : Op). flagged y a) op_is ∙ plain a)) here)

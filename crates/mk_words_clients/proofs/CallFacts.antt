@@ -17,8 +17,8 @@ behind p others e o stays more h =
     subst (λ (es : List Event). IsAdmitted c.globals (never_behind c es) (caller_number p.seat) o) (sym same)
     (stays (mid ++ more) (subst (λ (es : List Event). IsHistory c es) same h))
 
-pub stays_on : (p q : PassState) (s : Step) (o : Op) → Makes p s q → StaysAdmitted p o → StaysAdmitted q o
-stays_on p q s o m stays =
+pub stays_on : {p q : PassState} {s : Step} (o : Op) → Makes p s q → StaysAdmitted p o → StaysAdmitted q o
+stays_on {p} {s} o m stays =
     subst (λ (x : PassState). StaysAdmitted x o) (sym m.is) (behind p m.others (event_of p s) o stays)
 
 pub admitted_now : (p : PassState) (o : Op) (f : Flight) (s : Step) → IsMidCall p o f → f.op ≡ o
@@ -43,17 +43,17 @@ goes_on p q s x o f g i goes is = record {
   within = subst (λ (t : WordsState). i.number < t.config.callers)
       (sym (ap (λ (r : PassState). r.table) goes.makes.is)) i.within;
   call = goes.call ∙ is;
-  admitted = stays_on p q s o goes.makes i.admitted;
+  admitted = stays_on o goes.makes i.admitted;
 }
 
-pub enters : (p q : PassState) (o : Op) → IsCallers p → StaysAdmitted p o
+pub enters : {p : PassState} (q : PassState) (o : Op) → IsCallers p → StaysAdmitted p o
     → Goes p (Step.Enter o) (record { flight = begun o; answer = None }) q → IsMidCall q o (begun o)
-enters p q o i stays goes =
+enters {p} q o i stays goes =
     goes_on p q (Step.Enter o) _ o at_rest (begun o)
     (record { number = i.number; seat = i.seat; within = i.within; call = i.rests; admitted = stays }) goes refl
 
-pub ends : (p q : PassState) (o : Op) (f : Flight) → IsMidCall p o f
+pub ends : {p : PassState} (q : PassState) {o : Op} {f : Flight} → IsMidCall p o f
     → Goes p Step.Leave (record { flight = at_rest; answer = None }) q → IsCallers q
-ends p q o f i goes =
+ends {p} q {o = o} {f = f} i goes =
     let at = goes_on p q Step.Leave _ o f at_rest i goes refl in
     record { number = at.number; seat = at.seat; within = at.within; rests = at.call }

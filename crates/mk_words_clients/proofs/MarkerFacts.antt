@@ -44,17 +44,16 @@ marker_step p s k seat_is few kind range may =
 
 -- what a marker's step leaves
 
-pub seat_kept : (p q : PassState) (s : Step) → Makes p s q → q.seat ≡ p.seat
-seat_kept p q s m = ap (λ (r : PassState). r.seat) m.is
+pub seat_kept : {p q : PassState} {s : Step} → Makes p s q → q.seat ≡ p.seat
+seat_kept m = ap (λ (r : PassState). r.seat) m.is
 
-pub config_kept : (p q : PassState) (s : Step) → Makes p s q → q.table ≡ p.table
-config_kept p q s m = ap (λ (r : PassState). r.table) m.is
+pub config_kept : {p q : PassState} {s : Step} → Makes p s q → q.table ≡ p.table
+config_kept m = ap (λ (r : PassState). r.table) m.is
 
-pub load_may : (p : PassState) → IsAttending p → has_next_word (marker_in p).scan ≡ true → IsEnabledTo p Step.Mload
-load_may p a next =
-    marker_step p Step.Mload a.number a.seat a.few refl refl
-    (and_from (has_next_word (marker_in p).scan) (is_none (marker_in p).hand) next
-    (ap (λ (h : Option ℕ). is_none h) a.hand))
+pub load_may : {p : PassState} → IsAttending p → has_next_word (marker_in p).scan ≡ true → IsEnabledTo p Step.Mload
+load_may {p} a next =
+    marker_step p Step.Mload a.number a.seat a.few refl refl (and_from (has_next_word (marker_in p).scan)
+    (is_none (marker_in p).hand) next (ap (λ (h : Option ℕ). is_none h) a.hand))
 
 pub look_may : (p : PassState) (k page : ℕ) → p.seat ≡ Marker k → k < 8 → is_attending (marker_in p).presence ≡ true
     → page < p.table.config.pages → IsEnabledTo p (Step.Mlook (Word.Head page))
@@ -66,22 +65,22 @@ pub mark_may : (p : PassState) (k : ℕ) → p.seat ≡ Marker k → k < 8
     → is_some (cell_seen p.table.config (marker_in p).seen (marker_in p).hand) ≡ true → IsEnabledTo p Step.Mmark
 mark_may p k seat few some = marker_step p Step.Mmark k seat few refl refl some
 
-pub attended : (p q : PassState) (n : ℕ) → IsOutside p → Marks p Step.Attend n q → n % 8 ≡ 1 → IsAttending q
-attended p q n o m is = record {
+pub attended : {p q : PassState} {n : ℕ} → IsOutside p → Marks p Step.Attend n q → n % 8 ≡ 1 → IsAttending q
+attended {p} {q} {n} o m is = record {
   number = o.number;
-  seat = seat_kept p q Step.Attend m.finds.makes ∙ o.seat;
+  seat = seat_kept m.finds.makes ∙ o.seat;
   few = o.few;
   attends = cc (m.marker, eq-eqb (n % 8) 1 is);
   hand = ap (λ (y : MarkerState). y.hand) m.marker;
 }
 
-pub is_outside : (p q : PassState) (s : Step) (k : ℕ) → p.seat ≡ Marker k → k < 8 → Makes p s q → marker_in q ≡ outside
+pub is_outside : {p q : PassState} {s : Step} (k : ℕ) → p.seat ≡ Marker k → k < 8 → Makes p s q → marker_in q ≡ outside
     → IsOutside q
-is_outside p q s k seat few m out = record { number = k; seat = seat_kept p q s m ∙ seat; few = few; out = out }
+is_outside {p} {q} {s} k seat few m out = record { number = k; seat = seat_kept m ∙ seat; few = few; out = out }
 
 -- A look at a page's header shows a cell of its block.
-pub seen_cell : (p q : PassState) (page n class k : ℕ) → IsAttending p → Marks p (Step.Mlook (Word.Head page)) n q
+pub seen_cell : {p q : PassState} {page n : ℕ} (class k : ℕ) → IsAttending p → Marks p (Step.Mlook (Word.Head page)) n q
     → header_of n ≡ Some (Block class) → k < cells_of class → has_seen_cell (marker_in q).seen page k ≡ true
-seen_cell p q page n class k a m is lt =
+seen_cell {page = page} class k a m is lt =
     ap (λ (y : MarkerState). has_seen_cell y.seen page k) m.marker ∙ and_from (page == page) _ (eq-eqb page page refl)
     (lt-ltb k _ (subst (λ (h : Option Header). k < cells_under h) (sym is) lt))

@@ -6,10 +6,10 @@ use Rattle.mk_laws.proofs.Vocabulary.{has_gates, has_phase, holder_may, inl, inr
 use Rattle.mk_laws.proofs.Vocabulary.{is_open_to, left, length, length-set, lt-ltb, marker_may, ne_eqb, not}
 use Rattle.mk_laws.proofs.Vocabulary.{others_are_held, outside, phase_of, refl, slice_index, slice_set, subst, sym}
 use Rattle.mk_laws.proofs.Vocabulary.{true, true≢false, world_behind, [], ◌++◌, ◌+◌, ◌<◌, ◌==◌, ◌∙◌, ◌∷◌, ◌≡◌, ◌≢◌, ◌≤◌}
-use Rattle.mk_laws.proofs.{Vocabulary.◌⊎◌, Asked.none_held, TallySteps.CountsNothing}
+use Rattle.mk_laws.proofs.{Vocabulary.◌⊎◌, Asked.none_held, Tallies.counts_tidy_more, TallySteps.CountsNothing}
 use Rattle.mk_core.proofs.Conditions.{meets_enabled}
 use Rattle.mk_core.specs.{Frames.{CountsAreLeft, steady_of}, Moments.none_is_held, Order.comes_next_to_host}
-use Rattle.mk_words.{proofs.{Tallies.counts_tidy_more, TurnSteps.all_from}, specs.TurnSteps.{Acts, world_at}}
+use Rattle.mk_words.{proofs.TurnSteps.{all_from}, specs.TurnSteps.{Acts, world_at}}
 use Rattle.mk_words.specs.{States.{PassState, WordsState, now_of, world_of}, Opening.OthersMayOpen, Steps.IsEnabledTo}
 use Rattle.mk_words_clients.specs.Clients.{HoldsBelow, MayGiveBack, Settled, StaysTidy}
 
@@ -36,18 +36,18 @@ freed_behind : (c : Config) (w : World) (seat : Seat) (s : Step) → leaves_stea
 freed_behind c w seat (Step.Look x) h = refl
 freed_behind c w seat _ h = cc
 
-pub steady_kept : (p q : PassState) (s : Step) → Acts p s q → leaves_steady s ≡ true
+pub steady_kept : {p q : PassState} {s : Step} → Acts p s q → leaves_steady s ≡ true
     → steady_of (world_of q) ≡ steady_of (world_of p)
-steady_kept p q s a h = grind (arith, steady_behind)
+steady_kept a h = grind (arith, steady_behind)
 
-pub freed_kept : (p q : PassState) (s : Step) → Acts p s q → leaves_steady s ≡ true
+pub freed_kept : {p q : PassState} {s : Step} → Acts p s q → leaves_steady s ≡ true
     → (now_of q).seats.holding.freed ≡ (now_of p).seats.holding.freed
-freed_kept p q s a h =
+freed_kept {p} {s} a h =
     ap (λ (w : World). w.now.seats.holding.freed) a.world ∙ freed_behind p.table.config (world_at a.makes) p.seat s h
     ∙ ap (λ (x : Holding). x.freed) a.holding
 
-pub settled_kept : (p q : PassState) (s : Step) → Acts p s q → leaves_steady s ≡ true → Settled p → Settled q
-settled_kept p q s a h x = grind (arith, steady_kept, freed_kept)
+pub settled_kept : {p q : PassState} {s : Step} → Acts p s q → leaves_steady s ≡ true → Settled p → Settled q
+settled_kept a h x = grind (arith, steady_kept, freed_kept)
 
 -- gates that aren't held
 
@@ -63,11 +63,11 @@ none_held_is p h = none_held p.table.config (now_of p).words h
 pub is_none_held : (p : PassState) → NoneHeld p → none_is_held p.table.config.callers (now_of p).words ≡ true
 is_none_held p h = grind (arith, all_from, ne_eqb)
 
-config_kept : (p q : PassState) (s : Step) → Acts p s q → q.table.config ≡ p.table.config
-config_kept p q s a = ap (λ (r : PassState). r.table.config) a.makes.is
+config_kept : {p q : PassState} {s : Step} → Acts p s q → q.table.config ≡ p.table.config
+config_kept a = ap (λ (r : PassState). r.table.config) a.makes.is
 
 within : (p q : PassState) (s : Step) (a : Acts p s q) (i : ℕ) → i < q.table.config.callers → i < p.table.config.callers
-within p q s a i lt = subst (λ (c : Config). i < c.callers) (config_kept p q s a) lt
+within p q s a i lt = subst (λ (c : Config). i < c.callers) (config_kept a) lt
 
 zero_there : (xs : List ℕ) (i : ℕ) → slice_index (slice_set xs i 0) i ≢ 2
 zero_there xs i two = by (cases_lt i (length xs))
@@ -77,59 +77,59 @@ zero_there xs i two = by (cases_lt i (length xs))
     by (inr past) = let z = get_or_past (slice_set xs i 0) i 0 (subst (λ (n : ℕ). n ≤ i) (sym (length-set xs i 0)) past)
         in absurd (omega arith)
 
-hold_elsewhere : (p q : PassState) (j : ℕ) (a : Acts p (Step.Hold j) q) (i : ℕ) → i ≢ j
+hold_elsewhere : {p q : PassState} {j : ℕ} (a : Acts p (Step.Hold j) q) (i : ℕ) → i ≢ j
     → slice_index (now_of q).words.gates i ≡ slice_index (world_at a.makes).now.words.gates i
-hold_elsewhere p q j a i other =
+hold_elsewhere {j = j} a i other =
     ap (λ (w : World). slice_index w.now.words.gates i) a.world
     ∙ get_or-set_other (world_at a.makes).now.words.gates j i _ 0 other
 
-open_elsewhere : (p q : PassState) (j : ℕ) (a : Acts p (Step.Open j) q) (i : ℕ) → i ≢ j
+open_elsewhere : {p q : PassState} {j : ℕ} (a : Acts p (Step.Open j) q) (i : ℕ) → i ≢ j
     → slice_index (now_of q).words.gates i ≡ slice_index (world_at a.makes).now.words.gates i
-open_elsewhere p q j a i other =
+open_elsewhere {j = j} a i other =
     ap (λ (w : World). slice_index w.now.words.gates i) a.world
     ∙ get_or-set_other (world_at a.makes).now.words.gates j i 0 0 other
 
 -- a gate after another is held, and after one is opened
-hold_frees : (p q : PassState) (j : ℕ) → Acts p (Step.Hold j) q → (i : ℕ) → i ≢ j
+hold_frees : {p q : PassState} {j : ℕ} → Acts p (Step.Hold j) q → (i : ℕ) → i ≢ j
     → slice_index (now_of p).words.gates i ≢ 2 → slice_index (now_of q).words.gates i ≢ 2
-hold_frees p q j a i other free two = a.turn.other_gates i free (sym (hold_elsewhere p q j a i other) ∙ two)
+hold_frees {p} {q} {j} a i other free two = a.turn.other_gates i free (sym (hold_elsewhere a i other) ∙ two)
 
-open_frees : (p q : PassState) (j : ℕ) → Acts p (Step.Open j) q → (i : ℕ)
+open_frees : {p q : PassState} {j : ℕ} → Acts p (Step.Open j) q → (i : ℕ)
     → (i ≢ j → slice_index (now_of p).words.gates i ≢ 2) → slice_index (now_of q).words.gates i ≢ 2
-open_frees p q j a i free two = elim (cases_eq i j) [
+open_frees {p} {q} {j} a i free two = elim (cases_eq i j) [
   | inl same ↦ zero_there (world_at a.makes).now.words.gates j
       (sym (ap (λ (k : ℕ). slice_index (slice_set (world_at a.makes).now.words.gates j 0) k) same)
       ∙ sym (ap (λ (w : World). slice_index w.now.words.gates i) a.world) ∙ two)
-  | inr other ↦ a.turn.other_gates i (free other) (sym (open_elsewhere p q j a i other) ∙ two)
+  | inr other ↦ a.turn.other_gates i (free other) (sym (open_elsewhere a i other) ∙ two)
 ]
 
-pub hold_leaves : (p q : PassState) (j : ℕ) → Acts p (Step.Hold j) q → NoneHeld p → OnlyHeld j q
-hold_leaves p q j a h i lt other = hold_frees p q j a i other (h i (within p q (Step.Hold j) a i lt))
+pub hold_leaves : {p q : PassState} {j : ℕ} → Acts p (Step.Hold j) q → NoneHeld p → OnlyHeld j q
+hold_leaves {p} {q} {j} a h i lt other = hold_frees a i other (h i (within p q (Step.Hold j) a i lt))
 
-pub look_leaves : (p q : PassState) (j : ℕ) (x : Word) → Acts p (Step.Look x) q → OnlyHeld j p → OnlyHeld j q
-look_leaves p q j x a h i lt other two = grind (arith, within)
+pub look_leaves : {p q : PassState} (j : ℕ) {x : Word} → Acts p (Step.Look x) q → OnlyHeld j p → OnlyHeld j q
+look_leaves j a h i lt other two = grind (arith, within)
 
-pub open_leaves : (p q : PassState) (j : ℕ) → Acts p (Step.Open j) q → OnlyHeld j p → NoneHeld q
-open_leaves p q j a h i lt = open_frees p q j a i (h i (within p q (Step.Open j) a i lt))
+pub open_leaves : {p q : PassState} {j : ℕ} → Acts p (Step.Open j) q → OnlyHeld j p → NoneHeld q
+open_leaves {p} {q} {j} a h i lt = open_frees a i (h i (within p q (Step.Open j) a i lt))
 
 -- a `hold` that finds the caller in its call holds nothing
-pub miss_leaves : (p q : PassState) (j : ℕ) → Acts p (Step.Hold j) q → is_held (now_of q).words j ≡ false → NoneHeld p
+pub miss_leaves : {p q : PassState} {j : ℕ} → Acts p (Step.Hold j) q → is_held (now_of q).words j ≡ false → NoneHeld p
     → NoneHeld q
-miss_leaves p q j a not_held h i lt two = elim (cases_eq i j) [
+miss_leaves {p} {q} {j} a not_held h i lt two = elim (cases_eq i j) [
   | inl same ↦ eqb-false _ 2 not_held (sym (ap (λ (k : ℕ). slice_index (now_of q).words.gates k) same) ∙ two)
-  | inr other ↦ hold_leaves p q j a h i lt other two
+  | inr other ↦ hold_leaves a h i lt other two
 ]
 
-pub settled : (p : PassState) → MayGiveBack p → Settled p
-settled p x = record { seat = x.seat; phase = x.phase; freed = x.freed; held = x.held; fresh = x.fresh }
+pub settled : {p : PassState} → MayGiveBack p → Settled p
+settled x = record { seat = x.seat; phase = x.phase; freed = x.freed; held = x.held; fresh = x.fresh }
 
-pub given_back : (p : PassState) → Settled p → NoneHeld p → MayGiveBack p
-given_back p x h = grind (arith, is_none_held)
+pub given_back : {p : PassState} → Settled p → NoneHeld p → MayGiveBack p
+given_back x h = grind (arith, is_none_held)
 
 -- a gate that is held stays so
-pub look_holds : (p q : PassState) (j : ℕ) (x : Word) → Acts p (Step.Look x) q → is_held (now_of p).words j ≡ true
+pub look_holds : {p q : PassState} (j : ℕ) {x : Word} → Acts p (Step.Look x) q → is_held (now_of p).words j ≡ true
     → is_held (now_of q).words j ≡ true
-look_holds p q j x a held = grind (arith, eq-eqb, eqb-true)
+look_holds j a held = grind (arith, eq-eqb, eqb-true)
 
 -- The tallies of what was counted stay tidy.
 
@@ -141,20 +141,20 @@ counts_nothing : (c : Config) (w : World) (s : Step) → leaves_steady s ≡ tru
     → CountsNothing c w (record { seat = Host; step = s })
 counts_nothing c w s h = grind (arith, steady_behind, steady_no_end)
 
-tidy_behind_others : (c : Config) (es fs : List Event) → steady_of (left c fs) ≡ steady_of (left c es)
+tidy_behind_others : {c : Config} {es fs : List Event} → steady_of (left c fs) ≡ steady_of (left c es)
     → CountsAreLeft c es fs → TalliesAreTidy c es → TalliesAreTidy c fs
-tidy_behind_others c es fs same counts t = grind arith
+tidy_behind_others same counts t = grind arith
 
-pub tidy_kept : (p q : PassState) (s : Step) → Acts p s q → p.seat ≡ Host → leaves_steady s ≡ true
+pub tidy_kept : {p q : PassState} {s : Step} → Acts p s q → p.seat ≡ Host → leaves_steady s ≡ true
     → TalliesAreTidy p.table.config p.seen → TalliesAreTidy q.table.config q.seen
-tidy_kept p q s a host h t =
+tidy_kept {p} {q} {s} a host h t =
     let c : Config = p.table.config in
     let fs : List Event = p.seen ++ a.makes.others in
     let e : Event = record { seat = Host; step = s } in
     let behind : TalliesAreTidy c (fs ++ e ∷ []) =
-    counts_tidy_more c fs e (counts_nothing c _ s h) (tidy_behind_others c _ fs a.turn.steady a.counts t) in
+    counts_tidy_more c fs e (counts_nothing c _ s h) (tidy_behind_others a.turn.steady a.counts t) in
     let seen_is : q.seen ≡ fs ++ e ∷ [] = cc (a.makes.is, host) in
-    subst (λ (d : Config). TalliesAreTidy d q.seen) (sym (config_kept p q s a))
+    subst (λ (d : Config). TalliesAreTidy d q.seen) (sym (config_kept a))
     (subst (λ (es : List Event). TalliesAreTidy c es) (sym seen_is) behind)
 
 -- The host may make the step, in its turn.
@@ -177,32 +177,31 @@ look_may p j r host holds lt few held = grind (arith, host_step, and_from, lt-lt
 not_closed : (n : ℕ) → has_phase n Step.Give ≡ true → not (n == 3) ≡ true
 not_closed n h = ap not (ne_eqb n 3 (λ three. true≢false (sym h ∙ ap (λ (k : ℕ). has_phase k Step.Give) three)))
 
-pub open_may : (p : PassState) (j : ℕ) → Settled p → Holds p.table.config (now_of p) p.seat → j < p.table.config.callers
+pub open_may : {p : PassState} (j : ℕ) → Settled p → Holds p.table.config (now_of p) p.seat → j < p.table.config.callers
     → is_held (now_of p).words j ≡ true → IsEnabledTo p (Step.Open j)
-open_may p j x holds lt held = grind (arith, host_step, and_from, lt-ltb, not_closed)
+open_may j x holds lt held = grind (arith, host_step, and_from, lt-ltb, not_closed)
 
 -- Gates are held one after the other, and opened so.
 
-stays_held : (p q : PassState) (s : Step) (a : Acts p s q) (i : ℕ)
-    → slice_index (now_of q).words.gates i ≡ slice_index (world_at a.makes).now.words.gates i
-    → is_held (now_of p).words i ≡ true → is_held (now_of q).words i ≡ true
-stays_held p q s a i same held = grind (arith, eq-eqb, eqb-true)
+stays_held : {p q : PassState} {s : Step} (a : Acts p s q) (i : ℕ) → slice_index (now_of q).words.gates i ≡ slice_index
+    (world_at a.makes).now.words.gates i → is_held (now_of p).words i ≡ true → is_held (now_of q).words i ≡ true
+stays_held a i same held = grind (arith, eq-eqb, eqb-true)
 
-pub holds_one_more : (p q : PassState) (j : ℕ) → HoldsBelow p j → Acts p (Step.Hold j) q
+pub holds_one_more : {p q : PassState} {j : ℕ} → HoldsBelow p j → Acts p (Step.Hold j) q
     → is_held (now_of q).words j ≡ true → HoldsBelow q (j + 1)
-holds_one_more p q j h a now = record {
+holds_one_more {p} {q} {j} h a now = record {
   held = λ i lt. elim (cases_eq i j) [
     | inl same ↦ subst (λ (k : ℕ). is_held (now_of q).words k ≡ true) (sym same) now
-    | inr other ↦ stays_held p q (Step.Hold j) a i (hold_elsewhere p q j a i other) (h.held i (omega arith))
+    | inr other ↦ stays_held a i (hold_elsewhere a i other) (h.held i (omega arith))
   ];
-  free = λ i le lt. hold_frees p q j a i (λ e. omega arith) (h.free i (omega arith) (within p q (Step.Hold j) a i lt));
+  free = λ i le lt. hold_frees a i (λ e. omega arith) (h.free i (omega arith) (within p q (Step.Hold j) a i lt));
 }
 
-pub opens_last : (p q : PassState) (j : ℕ) → HoldsBelow p (j + 1) → Acts p (Step.Open j) q → HoldsBelow q j
-opens_last p q j h a = record {
+pub opens_last : {p q : PassState} {j : ℕ} → HoldsBelow p (j + 1) → Acts p (Step.Open j) q → HoldsBelow q j
+opens_last {p} {q} {j} h a = record {
   held = λ i lt. (let other : i ≢ j = λ e. omega arith in
-      stays_held p q (Step.Open j) a i (open_elsewhere p q j a i other) (h.held i (omega arith)));
-  free = λ i le lt. open_frees p q j a i (λ other. h.free i (omega arith) (within p q (Step.Open j) a i lt));
+      stays_held a i (open_elsewhere a i other) (h.held i (omega arith)));
+  free = λ i le lt. open_frees a i (λ other. h.free i (omega arith) (within p q (Step.Open j) a i lt));
 }
 
 -- The gates of the callers below one are held, and all else is as at first.
@@ -213,26 +212,26 @@ pub record HoldsSoFar (t : WordsState) (first now : PassState) (caller : ℕ) : 
   pub holds : HoldsBelow now caller
   pub tidy : StaysTidy first now
 
-pub holds_on : {t : WordsState} {first p q : PassState} {k j : ℕ} (s : Step) → Acts p s q → leaves_steady s ≡ true
+pub holds_on : {t : WordsState} {first p q : PassState} {k j : ℕ} {s : Step} → Acts p s q → leaves_steady s ≡ true
     → HoldsSoFar t first p k → j ≤ t.config.callers → HoldsBelow q j → HoldsSoFar t first q j
-holds_on s a alone before within holds = record {
+holds_on {s = s} a alone before within holds = record {
   one_table = ap (λ (r : PassState). r.table) a.makes.is ∙ before.one_table;
-  settled = settled_kept _ _ s a alone before.settled;
+  settled = settled_kept a alone before.settled;
   within = within;
   holds = holds;
-  tidy = λ t. tidy_kept _ _ s a before.settled.seat alone (before.tidy t);
+  tidy = λ t. tidy_kept a before.settled.seat alone (before.tidy t);
 }
 
 pub holds_none : (p : PassState) → none_is_held p.table.config.callers (now_of p).words ≡ true → HoldsBelow p 0
 holds_none p h = record { held = λ i lt. absurd (omega arith); free = λ i le lt. none_held_is p h i lt }
 
-pub none_below : (p : PassState) → Settled p → HoldsBelow p 0 → MayGiveBack p
-none_below p x h = given_back p x (λ i lt. h.free i (omega arith) lt)
+pub none_below : {p : PassState} → Settled p → HoldsBelow p 0 → MayGiveBack p
+none_below {p} x h = given_back x (λ i lt. h.free i (omega arith) lt)
 
 pub all_are_held : (p : PassState) → p.seat ≡ Host → HoldsBelow p p.table.config.callers
     → others_are_held p.table.config.callers (now_of p).words p.seat ≡ true
 all_are_held p host h = grind (arith, all_from)
 
-pub others_may_open : (p : PassState) → Settled p → Holds p.table.config (now_of p) p.seat
+pub others_may_open : {p : PassState} → Settled p → Holds p.table.config (now_of p) p.seat
     → HoldsBelow p p.table.config.callers → OthersMayOpen p 0
-others_may_open p x holds h j le lt other = open_may p j x holds lt (h.held j lt)
+others_may_open {p} x holds h j le lt other = open_may j x holds lt (h.held j lt)

@@ -1,6 +1,6 @@
 use Rattle.std.proofs.{Common.{arith, sym, ◌∙◌}, lemmas.Grind.common_steps}
 use Rattle.mk_books.proofs.FreeRangeLemmas.{first-end, first-here, first-known, first-skip, free_range_from-free}
-use Rattle.mk_books.proofs.{FreeRangeLemmas.free_range_from-taken, PlaceLemmas.resident_from-end}
+use Rattle.mk_books.{proofs.FreeRangeLemmas.{free_range_from-taken}, proofs.PlaceLemmas.{resident_from-end}}
 use Rattle.mk_books.proofs.fitting.large_fit.Goals.{else-not-is_free+else-number-range}
 use Rattle.mk_books.proofs.fitting.large_fit.Goals.{else-not-is_free+then-number-range, then-not-is_free}
 use Rattle.mk_books.proofs.fitting.large_fit.Goals as goal
@@ -22,8 +22,7 @@ loop-number-preserved c =
             short = λ none. omega (arith, c.requires.some);
             first = rw (w.range-is, w.first-is)
                 (sym (first-skip c.loop-number.first c.loop-number.range n c.args.count pages before.begun
-                c.loop-number-test.true (omega (arith, ends, before.free)) before.short)
-                ∙ before.first);
+                c.loop-number-test.true (omega (arith, ends, before.free)) before.short) ∙ before.first);
           }
       | else-not-is_free+then-number-range w ↦
           let goes_on = free_range_from-free n pages _ c.loop-number-test.true (sym c.is_free.ensures
@@ -37,8 +36,7 @@ loop-number-preserved c =
                 (first-known c.loop-number.first c.loop-number.range (sym (w.first-is ∙ w.or-first.ensures) ∙ none));
             first = rw (w.range-is, w.first-is, w.or-first.ensures)
                 (sym (first-here c.loop-number.first c.loop-number.range c.args.count pages c.requires.some
-                (omega (arith, goes_on, before.free, w.if-number-range.true)))
-                ∙ before.first);
+                (omega (arith, goes_on, before.free, w.if-number-range.true))) ∙ before.first);
           }
       | else-not-is_free+else-number-range w ↦
           let goes_on = free_range_from-free n pages _ c.loop-number-test.true (sym c.is_free.ensures

@@ -1,5 +1,5 @@
-use Rattle.std.proofs.{Common.{ap, arith, false, sym, true, ◌+◌, ◌∙◌}, lemmas.Grind.common_steps}
-use Rattle.std.specs.Option.{option_or}
+use Rattle.std.{proofs.Common.ap, proofs.Common.arith, proofs.Common.false, proofs.Common.sym, proofs.Common.true}
+use Rattle.std.{proofs.Common.◌+◌, proofs.Common.◌∙◌, proofs.lemmas.Grind.common_steps, specs.Option.option_or}
 use Rattle.mk_books.proofs.PlaceLemmas.{cell_from-next, free_page_from, free_page_from-here, free_page_from-next}
 use Rattle.mk_books.proofs.PlaceLemmas.{or_known, resident_from-next}
 use Rattle.mk_books.proofs.fitting.small_fit.Goals.{else-is_free, else-is_resident, then-is_free, then-is_resident}
@@ -31,9 +31,8 @@ loop-number-preserved c =
             )
       ];
       free = elim c.if-is_free.branch [
-        | then-is_free w ↦ rw (w.first_free-is, w.or-first_free.ensures)
-            (sym (or_known c.loop-number.first_free n (free_page_from (n + 1) pages))
-            ∙ ap (option_or c.loop-number.first_free)
+        | then-is_free w ↦ rw (w.first_free-is, w.or-first_free.ensures) (sym (or_known c.loop-number.first_free n
+            (free_page_from (n + 1) pages)) ∙ ap (option_or c.loop-number.first_free)
             (sym (free_page_from-here n pages _ within (sym c.is_free.ensures ∙ w.if-is_free.true))) ∙ before.free)
         | else-is_free w ↦ rw w.first_free-is (ap (option_or c.loop-number.first_free)
             (sym (free_page_from-next n pages _ within (sym c.is_free.ensures ∙ w.if-is_free.false))) ∙ before.free)

@@ -8,6 +8,5 @@ returns-clause-called c =
     c.global_load-value.ensures.moves in
     record {
       word = c.global_load-value.result;
-      called = called
-          (go_on one (stores c.global_load-value.result) refl refl c.store_and_leave.ensures) refl;
+      called = called (go_on one (stores c.global_load-value.result) refl refl c.store_and_leave.ensures) refl;
     }

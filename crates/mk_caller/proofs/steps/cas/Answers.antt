@@ -7,7 +7,6 @@ cas-requires-clause-enabled c = (may_access c.requires.underway _ Step.Cas c.req
 
 pub returns : goal.returns
 returns c = record {
-  moves = moves c.requires.underway c.cas.ensures.goes
-      (write_next _ _ _ (ap (λ (s : Stage). is_written s) c.requires.stage)
-      (met c.requires.underway Stage.Cas c.requires.stage c.requires.access refl refl refl));
+  moves = moves c.requires.underway c.cas.ensures.goes (write_next _ _ _ (ap (λ (s : Stage). is_written s)
+      c.requires.stage) (met c.requires.underway Stage.Cas c.requires.stage c.requires.access refl refl refl));
 }

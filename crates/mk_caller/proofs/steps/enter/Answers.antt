@@ -1,4 +1,4 @@
-use Rattle.mk_caller.proofs.{Enabling.enter_enabled, Entering.{entered, held}}
+use Rattle.mk_caller.proofs.{Enabling.enter_enabled, Entering.entered, Entering.held}
 use Rattle.mk_caller.proofs.steps.enter.Goals as goal
 
 pub enter-requires-clause-enabled : goal.enter-requires-clause-enabled

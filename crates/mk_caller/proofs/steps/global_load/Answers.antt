@@ -1,4 +1,4 @@
-use Rattle.mk_caller.proofs.{Onward.{getg_next, moves}, Stepping.may_getg}
+use Rattle.mk_caller.proofs.{Onward.getg_next, Onward.moves, Stepping.may_getg}
 use Rattle.mk_caller.proofs.steps.global_load.Goals as goal
 
 pub global_load-requires-clause-admitted : goal.global_load-requires-clause-admitted

@@ -1,4 +1,4 @@
-use Rattle.mk_caller.proofs.{Onward.{moves, setg_next}, Stepping.may_setg}
+use Rattle.mk_caller.proofs.{Onward.moves, Onward.setg_next, Stepping.may_setg}
 use Rattle.mk_caller.proofs.steps.global_store.Goals as goal
 
 pub global_store-requires-clause-admitted : goal.global_store-requires-clause-admitted

@@ -1,5 +1,5 @@
 use Rattle.mk_laws.proofs.Vocabulary.{sym, ◌∙◌}
-use Rattle.mk_caller.proofs.{Onward.{load_next, moves}, Stepping.{may_load, null_is}}
+use Rattle.mk_caller.proofs.{Onward.load_next, Onward.moves, Stepping.may_load, Stepping.null_is}
 use Rattle.mk_caller.proofs.steps.load.Goals as goal
 
 pub reg_load-requires-clause-admitted : goal.reg_load-requires-clause-admitted

@@ -1,6 +1,6 @@
 use Rattle.mk_laws.proofs.Vocabulary.{Stage, Step, arith, refl, sym, ◌∙◌}
 use Rattle.mk_caller.proofs.Stepping.{may_access, met, met_bounds, probe_passed, probe_refused}
-use Rattle.mk_caller.proofs.{Onward.{moves, probe_next}, Probing.{probes_a_word, probes_unmapped}}
+use Rattle.mk_caller.proofs.{Onward.moves, Onward.probe_next, Probing.probes_a_word, Probing.probes_unmapped}
 use Rattle.mk_caller.proofs.steps.probe.Goals as goal
 
 pub overflow_sub-word : goal.overflow_sub-word

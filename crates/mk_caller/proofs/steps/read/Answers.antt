@@ -1,5 +1,5 @@
 use Rattle.mk_laws.proofs.Vocabulary.{Step, refl}
-use Rattle.mk_caller.proofs.{Onward.{moves, read_next}, Stepping.may_access}
+use Rattle.mk_caller.proofs.{Onward.moves, Onward.read_next, Stepping.may_access}
 use Rattle.mk_caller.proofs.steps.read.Goals as goal
 
 pub read-requires-clause-enabled : goal.read-requires-clause-enabled

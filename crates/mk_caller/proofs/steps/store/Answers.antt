@@ -1,4 +1,4 @@
-use Rattle.mk_caller.proofs.{Onward.{moves, store_goes_on}, Stepping.may_store}
+use Rattle.mk_caller.proofs.{Onward.moves, Onward.store_goes_on, Stepping.may_store}
 use Rattle.mk_caller.proofs.steps.store.Goals as goal
 
 pub reg_store-requires-clause-admitted : goal.reg_store-requires-clause-admitted

@@ -8,7 +8,6 @@ write-requires-clause-enabled c =
 
 pub returns : goal.returns
 returns c = record {
-  moves = moves c.requires.underway c.write.ensures.goes
-      (write_next _ _ _ (ap (λ (s : Stage). is_written s) c.requires.stage)
-      (met c.requires.underway Stage.Write c.requires.stage c.requires.access refl refl refl));
+  moves = moves c.requires.underway c.write.ensures.goes (write_next _ _ _ (ap (λ (s : Stage). is_written s)
+      c.requires.stage) (met c.requires.underway Stage.Write c.requires.stage c.requires.access refl refl refl));
 }

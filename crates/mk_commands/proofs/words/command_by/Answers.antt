@@ -1,6 +1,6 @@
 use Rattle.std.proofs.Common.{None, Option, Some, map, refl, string_bytes, subst}
 use Rattle.clap.specs.{Words.app_of, declared.parser.matches.ArgMatches.ArgMatches}
-use Rattle.mk_commands.{proofs.Taken.{Finds, answer_is}, specs.Naming.{form_of, made_of}}
+use Rattle.mk_commands.{proofs.Taken.Finds, proofs.Taken.answer_is, specs.Naming.form_of, specs.Naming.made_of}
 use Rattle.mk_commands.proofs.words.command_by.Goals as goal
 
 pub returns-in-Some : goal.returns-in-Some

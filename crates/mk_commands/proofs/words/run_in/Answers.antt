@@ -1,8 +1,8 @@
 use Rattle.std.proofs.Common.{Bool, None, Some, ℕ, arith, false, nat_lt, refl, true, ◌≡◌}
 use Rattle.std.proofs.lemmas.Bool.Decides.{nat_tests}
 use Rattle.mk_commands.proofs.{Getting.flag_is, words.run_in.Goals.else-sweep-via-else-sweep}
-use Rattle.mk_commands.specs.{declared.commands.Command.TheVariants.OnText, Commands.run_with}
-use Rattle.mk_commands.specs.declared.commands.TextCommand.TheVariants.{Run}
+use Rattle.mk_commands.specs.declared.commands.Command.TheVariants.{OnText}
+use Rattle.mk_commands.specs.{Commands.run_with, declared.commands.TextCommand.TheVariants.Run}
 use Rattle.mk_commands.proofs.words.run_in.Goals as goal
 
 pub returns-in_err-markers : goal.returns-in_err-markers

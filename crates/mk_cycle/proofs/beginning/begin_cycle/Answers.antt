@@ -3,8 +3,8 @@ use Rattle.mk_cycle.proofs.Vocabulary.{WordsState, clears, does_sweep, only_seen
 use Rattle.mk_cycle.proofs.Allowed.{in_turn_after, in_turn_before, tally_allowed}
 use Rattle.mk_cycle.proofs.BeginSteps.{IsCleared, begin_allowed, begins_cycle, begun_free}
 use Rattle.mk_cycle.proofs.CleaningSteps.{clean_stays, cleaned_turn, cleans_then, tallied}
-use Rattle.mk_cycle.proofs.{Begun.{begin_begun, begins_none, begun_then, does_begin_none}, Sweepless.marks_nothing}
-use Rattle.mk_cycle.proofs.{Undirty.undirty_later, beginning.begin_cycle.Goals.After-tally}
+use Rattle.mk_cycle.proofs.{Begun.begin_begun, Begun.begins_none, Begun.begun_then, Begun.does_begin_none}
+use Rattle.mk_cycle.proofs.{Sweepless.marks_nothing, Undirty.undirty_later, beginning.begin_cycle.Goals.After-tally}
 use Rattle.mk_cycle.proofs.beginning.begin_cycle.Goals as goal
 
 pub tally-requires-clause-enabled : goal.tally-requires-clause-enabled
@@ -33,8 +33,7 @@ begin-requires-clause-one_table g c =
     (cleared g (goal.at.begin-requires-clause-one_table g c).After-tally).turn.one_table
 
 pub begin-requires-clause-enabled : goal.begin-requires-clause-enabled
-begin-requires-clause-enabled g c =
-    begin_allowed (cleared g (goal.at.begin-requires-clause-enabled g c).After-tally)
+begin-requires-clause-enabled g c = begin_allowed (cleared g (goal.at.begin-requires-clause-enabled g c).After-tally)
 
 pub begin-requires-2-clause-free : goal.begin-requires-2-clause-free
 begin-requires-2-clause-free g c =

@@ -1,6 +1,6 @@
-use Rattle.mk_laws.proofs.Vocabulary.{subst, sym, ◌∙◌}
-use Rattle.mk_cycle.proofs.{Vocabulary.{Cleans, now_of}, CleaningSteps.cleans_then}
-use Rattle.mk_cycle.proofs.cleaning.clean_free.Goals.{After-clear_black}
+use Rattle.mk_laws.proofs.Vocabulary.{arith, subst, sym, ◌∙◌}
+use Rattle.mk_cycle.proofs.Vocabulary.{Cleans, now_of}
+use Rattle.mk_cycle.proofs.{CleaningSteps.cleans_then, cleaning.clean_free.Goals.After-clear_black}
 use Rattle.mk_words.specs.{PageMaps.HasNoMarks, States.TurnState}
 use Rattle.mk_cycle.proofs.cleaning.clean_free.Goals as goal
 
@@ -22,10 +22,7 @@ pub cleaned-requires-clause-none : goal.cleaned-requires-clause-none
 cleaned-requires-clause-none c = bare (goal.at.cleaned-requires-clause-none c).After-clear_black
 
 pub returns-clause-cleans : goal.returns-clause-cleans
-returns-clause-cleans c =
-    subst (λ (t : TurnState). Cleans c.args.turn.now.pass t.pass) (sym c.cleaned.ensures.same)
-    (cleans_then c.look_before-marks.ensures.cleans (cleans_then c.look_before-blacks.ensures.cleans
-    (cleans_then c.clear_marks.ensures.cleans c.clear_black.ensures.cleans)))
+returns-clause-cleans c = grind (arith, cleans_then, Cleans)
 
 pub returns-clause-bare : goal.returns-clause-bare
 returns-clause-bare c =

@@ -1,5 +1,5 @@
-use Rattle.mk_cycle.proofs.{Undirty.{undirty_earlier, undirty_later}, CleanedPages.clean_ready}
-use Rattle.mk_cycle.proofs.CleaningSteps.{cleans_then}
+use Rattle.mk_cycle.proofs.Undirty.{undirty_earlier, undirty_later}
+use Rattle.mk_cycle.proofs.{CleanedPages.clean_ready, CleaningSteps.cleans_then}
 use Rattle.mk_cycle.proofs.cleaning.clean_pages.Goals as goal
 
 pub returns-clause-cleans : goal.returns-clause-cleans

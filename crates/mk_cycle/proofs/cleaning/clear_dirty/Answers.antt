@@ -1,4 +1,4 @@
-use Rattle.mk_cycle.proofs.{CleaningSteps.undirtied, Undirty.{undirty_behind, undirty_now}}
+use Rattle.mk_cycle.proofs.{CleaningSteps.undirtied, Undirty.undirty_behind, Undirty.undirty_now}
 use Rattle.mk_cycle.proofs.cleaning.clear_dirty.Goals as goal
 
 pub returns-then-dirty-ne0-clause-cleans : goal.returns-then-dirty-ne0-clause-cleans

@@ -1,8 +1,8 @@
 use Rattle.mk_laws.proofs.Vocabulary.{Config, Step, ap, is_end, refl, subst, ◌<◌, ◌∙◌}
-use Rattle.mk_cycle.proofs.Vocabulary.{PassState, does_step, only_seen_by, sets_tallies}
+use Rattle.mk_cycle.{proofs.Vocabulary.{PassState, does_step, only_seen_by}, specs.Closing.{ClosesAsPromised}}
 use Rattle.mk_cycle.proofs.FinishedCycles.{ended_free, finishes_cycle, gives_call, gives_free, has_released}
 use Rattle.mk_cycle.proofs.{finishing.finish_cycle.Goals.After-count_cycle, ClosedBy.promised_later}
-use Rattle.mk_cycle.{proofs.{EndSteps.end_allowed, KeptInParts.same_config}, specs.Closing.{ClosesAsPromised}}
+use Rattle.mk_cycle.proofs.{EndSteps.end_allowed, KeptInParts.same_config}
 use Rattle.mk_cycle.proofs.finishing.finish_cycle.Goals as goal
 
 pub end-requires-clause-enabled : goal.end-requires-clause-enabled
@@ -34,11 +34,9 @@ promised g c =
     let same = (gives_call c.give_all_back-turn.ensures.gives).pass in
     let end = c.end.ensures.makes in
     let e = c.end.new.self.pass in
-    promised_later sets_tallies (λ page v. refl)
-    (only_seen_by _ e Step.End end ∙ ap (λ (x : PassState). record x { seen = e.seen }) same)
-    c.count_cycle.ensures.does
-    (promised_later is_end (λ page v. refl) same (does_step is_end _ e Step.End end refl)
-    c.give_all_back-turn.ensures.promised)
+    promised_later (λ page v. refl) (only_seen_by _ e Step.End end ∙ ap
+    (λ (x : PassState). record x { seen = e.seen }) same) c.count_cycle.ensures.does (promised_later
+    (λ page v. refl) same (does_step is_end _ e Step.End end refl) c.give_all_back-turn.ensures.promised)
 
 pub returns-clause-reached : goal.returns-clause-reached
 returns-clause-reached g c = (promised g (goal.at.returns-clause-reached g c).After-count_cycle).reached

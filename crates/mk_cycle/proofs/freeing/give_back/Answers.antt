@@ -4,8 +4,8 @@ use Rattle.mk_cycle.proofs.Vocabulary.{Acts, AreFreeCells, GivesNothingBack, IsT
 use Rattle.mk_cycle.proofs.GiveBack.{GivesCells, drops_here, gives_all, gives_here, gone_too, turn_d}
 use Rattle.mk_cycle.proofs.GivingSteps.{look_frees, none_then, quar_allowed, used_allowed}
 use Rattle.mk_cycle.proofs.freeing.give_back.Goals.{After-look_among-used, After-used, After-wipe_released}
-use Rattle.mk_cycle.proofs.{Allowed.{in_turn_after, in_turn_before}, FreeingSteps.freed_turn, MayAct.calm_admitted}
-use Rattle.mk_cycle.proofs.{PageSteps.same_used, SettledPages.{some_free, still_free}}
+use Rattle.mk_cycle.proofs.{Allowed.in_turn_after, Allowed.in_turn_before, FreeingSteps.freed_turn}
+use Rattle.mk_cycle.proofs.{MayAct.calm_admitted, PageSteps.same_used, SettledPages.some_free, SettledPages.still_free}
 use Rattle.mk_cycle.proofs.freeing.give_back.Goals as goal
 
 -- The look gives nothing back, nor does the wiping.
@@ -16,9 +16,8 @@ looked c = look_frees c.requires.turn c.look_among-used.ensures.acts
 wiped : (c : After-wipe_released) → GivesNothingBack c.args.turn.now.pass c.wipe_released.new.turn.pass
 wiped c = none_then (look_frees c.requires.turn c.look_among-used.ensures.acts) c.wipe_released.ensures.frees
 
-given : (c : After-used)
-    → GivesCells c.args.words.now c.args.turn.now.pass c.wipe_released.new.turn.pass c.used.new.self.pass c.args.page
-    c.look_among-used.result c.args.gone c.args.quarantine
+given : (c : After-used) → GivesCells c.args.words.now c.args.turn.now.pass c.wipe_released.new.turn.pass
+    c.used.new.self.pass c.args.page c.look_among-used.result c.args.gone c.args.quarantine
 given c =
     let look = c.look_among-used in
     let first = look_frees c.requires.turn look.ensures.acts in
@@ -81,7 +80,6 @@ quar-requires-clause-admitted c =
 
 pub returns : goal.returns
 returns c =
-    gives_all (given (goal.at.returns c).After-used)
-    (subst (λ (n : ℕ). Acts c.used.new.self.pass
+    gives_all (given (goal.at.returns c).After-used) (subst (λ (n : ℕ). Acts c.used.new.self.pass
     (Step.Quar c.args.page (quarantine_word n (c.args.quarantine / 2 ^ 32 - c.args.gone))) c.quar.new.self.pass)
     c.without-freed.ensures c.quar.ensures)

@@ -1,11 +1,11 @@
 -- A page's quarantine and mark words are looked at once each, and say what is released on it.
 use Rattle.mk_laws.proofs.Vocabulary.{ap, header_at, sym, ◌/◌, ◌^◌, ◌∙◌, ◌≡◌}
 use Rattle.mk_cycle.proofs.Vocabulary.{GivesNothingBack, PassState, Released, held_unmarked, left_unmarked, now_of}
-use Rattle.mk_cycle.proofs.{Vocabulary.released_on, CountedPages.{counted_on, held_by_header, none_held, nothing_on}}
-use Rattle.mk_cycle.proofs.{CountedPages.snapshot_told, SettledPages.{free_cells_stay, gives_none, gives_then}}
-use Rattle.mk_cycle.proofs.{SettledPages.{marked_gone, none_left_on}, FreeingSteps.freed_turn}
-use Rattle.mk_cycle.proofs.{GivingSteps.{none_at_once, none_then}, PageSteps.same_header}
-use Rattle.mk_cycle.proofs.freeing.release_cells.Goals.{After-without-gone}
+use Rattle.mk_cycle.proofs.Vocabulary.{released_on}
+use Rattle.mk_cycle.proofs.CountedPages.{counted_on, held_by_header, none_held, nothing_on, snapshot_told}
+use Rattle.mk_cycle.proofs.SettledPages.{free_cells_stay, gives_none, gives_then, marked_gone, none_left_on}
+use Rattle.mk_cycle.proofs.{FreeingSteps.freed_turn, GivingSteps.none_at_once, GivingSteps.none_then}
+use Rattle.mk_cycle.proofs.{PageSteps.same_header, freeing.release_cells.Goals.After-without-gone}
 use Rattle.mk_cycle.proofs.freeing.release_cells.Goals as goal
 
 pub returns-then-snapshot-eq0-clause-released : goal.returns-then-snapshot-eq0-clause-released

@@ -1,8 +1,8 @@
 use Rattle.mk_laws.proofs.Vocabulary.{head_page, refl, subst, sym, ◌<◌, ◌∙◌}
-use Rattle.mk_cycle.proofs.Vocabulary.{Frees, HoldsGates, WordsState, is_giving_back, now_of}
-use Rattle.mk_cycle.proofs.{ClosedBy.{promised_later, promised_when_held}, GivingAll.{all_held, all_told}}
-use Rattle.mk_cycle.proofs.{GivingAll.gives_all_back, SettledPages.{free_cells_stay, same_occupied}}
-use Rattle.mk_cycle.proofs.{FreeingSteps.frees_then, giving.give_all_back.Goals.After-settle_pages-settled}
+use Rattle.mk_cycle.proofs.{Vocabulary.{HoldsGates, WordsState, now_of}, ClosedBy.{promised_later, promised_when_held}}
+use Rattle.mk_cycle.proofs.GivingAll.{all_held, all_told, gives_all_back}
+use Rattle.mk_cycle.proofs.{SettledPages.{free_cells_stay, same_occupied}, FreeingSteps.frees_then}
+use Rattle.mk_cycle.proofs.giving.give_all_back.Goals.{After-settle_pages-settled}
 use Rattle.mk_words.specs.States.{TurnState}
 use Rattle.mk_cycle.proofs.giving.give_all_back.Goals as goal
 
@@ -14,20 +14,14 @@ settle_pages-settled-requires-clause-cells g c page lt =
 pub settle_pages-settled-requires-clause-occupied : goal.settle_pages-settled-requires-clause-occupied
 settle_pages-settled-requires-clause-occupied g c page =
     let opens = c.open_gates-turn.ensures.opens in
-    same_occupied c.release_unmarked.new.stop.pass c.open_gates-turn.result.pass page (opens.same page)
-    (opens.same (head_page (now_of c.release_unmarked.new.stop.pass).words page))
-    ∙ c.release_unmarked.ensures.occupied page
+    same_occupied c.release_unmarked.new.stop.pass c.open_gates-turn.result.pass page (opens.same page) (opens.same
+    (head_page (now_of c.release_unmarked.new.stop.pass).words page)) ∙ c.release_unmarked.ensures.occupied page
 
 -- the gates that are held for the stop
 holds_gates_at : (g : _) (c : After-settle_pages-settled g) → HoldsGates c.args.turn.pass c.stopped-stop.result.pass
 holds_gates_at g c =
     subst (λ (t : TurnState). HoldsGates c.args.turn.pass t.pass) (sym c.stopped-stop.ensures)
     c.hold_gates.ensures.holds
-
--- what is given back after it
-all_frees : (g : _) (c : After-settle_pages-settled g)
-    → Frees c.release_unmarked.new.stop.pass c.settle_pages-settled.new.turn.pass
-all_frees g c = frees_then c.open_gates-turn.ensures.opens.frees c.settle_pages-settled.ensures.frees
 
 pub returns-clause-gives : goal.returns-clause-gives
 returns-clause-gives g c =
@@ -52,5 +46,7 @@ returns-clause-held g c =
 pub returns-clause-promised : goal.returns-clause-promised
 returns-clause-promised g c =
     let x = (goal.at.returns-clause-promised g c).After-settle_pages-settled in
-    promised_when_held (holds_gates_at g x) (promised_later is_giving_back (λ page v. refl)
-    c.release_unmarked.ensures.releases.call.pass (all_frees g x).does c.release_unmarked.ensures.promised)
+    promised_when_held (holds_gates_at g x) (promised_later (λ page v. refl)
+    c.release_unmarked.ensures.releases.call.pass
+    (frees_then x.open_gates-turn.ensures.opens.frees x.settle_pages-settled.ensures.frees).does
+    c.release_unmarked.ensures.promised)

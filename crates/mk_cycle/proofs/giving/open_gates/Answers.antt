@@ -1,4 +1,4 @@
-use Rattle.mk_cycle.proofs.{Allowed.in_turn, OpeningSteps.{opens_frees, others_may_open}}
+use Rattle.mk_cycle.proofs.{Allowed.in_turn, OpeningSteps.opens_frees, OpeningSteps.others_may_open}
 use Rattle.mk_cycle.proofs.giving.open_gates.Goals as goal
 
 pub open_all-turn-requires-clause-enabled : goal.open_all-turn-requires-clause-enabled

@@ -1,4 +1,3 @@
-use Rattle.mk_laws.proofs.Vocabulary.{refl, ◌∙◌}
 use Rattle.mk_cycle.proofs.{Vocabulary.HoldsGates, HoldingSteps.{held_free, holds_nothing, holds_then, look_holds}}
 use Rattle.mk_cycle.proofs.holding.hold_gate.Goals.{After-look}
 use Rattle.mk_cycle.proofs.holding.hold_gate.Goals as goal

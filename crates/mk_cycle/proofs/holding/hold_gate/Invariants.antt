@@ -1,4 +1,3 @@
-use Rattle.mk_laws.proofs.Vocabulary.{◌≡◌}
 use Rattle.mk_cycle.proofs.Vocabulary.{HoldsGates}
 use Rattle.mk_cycle.proofs.holding.hold_gate.Given as goal
 

@@ -1,4 +1,4 @@
-use Rattle.mk_laws.proofs.Vocabulary.{Page, ℕ, ap, arith, header_in, in_a_word, refl, run_count, ◌+◌, ◌<◌, ◌∙◌, ◌≡◌}
+use Rattle.mk_laws.proofs.Vocabulary.{Page, ℕ, ap, arith, header_in, in_a_word, run_count, ◌+◌, ◌<◌, ◌∙◌, ◌≡◌}
 use Rattle.mk_cycle.proofs.{Vocabulary.{PassState, now_of}, PageByPage.{AreSettledBelow, settled_more, settled_none}}
 use Rattle.mk_cycle.proofs.{PageByPage.settled_to, settling.settle_pages.Goals.{After-known_page-word, In_default}}
 use Rattle.mk_cycle.proofs.FreeingSteps.{freed_table}
@@ -15,9 +15,8 @@ loop-page-init c = record {
 }
 
 -- up to the next page that may be unsettled
-to_next : (c : After-known_page-word)
-    → AreSettledBelow c.args.turn.now.pass c.loop-page.turn.pass c.args.words.now.config.pages c.in-Some.page
-    c.loop-page.end c.loop-page.all c.loop-page.held
+to_next : (c : After-known_page-word) → AreSettledBelow c.args.turn.now.pass c.loop-page.turn.pass
+    c.args.words.now.config.pages c.in-Some.page c.loop-page.end c.loop-page.all c.loop-page.held
 to_next c =
     let next = c.in-Some.ensures.next in
     let i = c.loop-page.invariant in

@@ -1,7 +1,7 @@
 use Rattle.mk_laws.proofs.Vocabulary.{Word, lt-ltb, refl, subst, sym, true, ◌*◌, ◌≡◌}
-use Rattle.mk_cycle.proofs.{Vocabulary.WordsState, Allowed.{in_turn_after, look_allowed}, GivingSteps.look_frees}
-use Rattle.mk_cycle.proofs.MayAct.{calm_admitted}
+use Rattle.mk_cycle.proofs.Vocabulary.{WordsState}
 use Rattle.mk_core.specs.Ranges.{is_word}
+use Rattle.mk_cycle.proofs.{Allowed.in_turn_after, Allowed.look_allowed, GivingSteps.look_frees, MayAct.calm_admitted}
 use Rattle.mk_cycle.proofs.wiping.look_at_heap.Goals as goal
 
 pub look_on_page-requires-clause-enabled : goal.look_on_page-requires-clause-enabled

@@ -1,4 +1,4 @@
-use Rattle.mk_laws.proofs.Vocabulary.{ℕ, arith, refl, subst, ◌*◌, ◌+◌, ◌<◌, ◌∙◌, ◌≡◌}
+use Rattle.mk_laws.proofs.Vocabulary.{ℕ, arith, subst, ◌*◌, ◌+◌, ◌<◌, ◌≡◌}
 use Rattle.mk_cycle.proofs.Vocabulary.{GivesNothingBack, IsUnmappedWord, IsZero, PassState, below_more}
 use Rattle.mk_cycle.proofs.GivingSteps.{none_at_once, none_then, still_unmapped_word}
 use Rattle.mk_cycle.proofs.wiping.wipe_cell.Goals as goal
@@ -7,9 +7,8 @@ pub loop-i-init : goal.loop-i-init
 loop-i-init c = record { frees = none_at_once c.args.turn.now.pass; zeros = λ k lt. absurd (omega arith) }
 
 -- a word of these pairs, where nothing was given back since
-unmapped_still : {p q : PassState} (first pairs : ℕ) → GivesNothingBack p q
-    → ((i : ℕ) → i < 2 * pairs → IsUnmappedWord p (2 * first + i)) → (i n : ℕ) → i < 2 * pairs → 2 * first + i ≡ n
-    → IsUnmappedWord q n
+unmapped_still : {p q : PassState} (first pairs : ℕ) → GivesNothingBack p q → ((i : ℕ) → i < 2 * pairs
+    → IsUnmappedWord p (2 * first + i)) → (i n : ℕ) → i < 2 * pairs → 2 * first + i ≡ n → IsUnmappedWord q n
 unmapped_still {q = q} first pairs none unmapped i n lt is =
     subst (λ (n : ℕ). IsUnmappedWord q n) is (still_unmapped_word none.frees (unmapped i lt))
 

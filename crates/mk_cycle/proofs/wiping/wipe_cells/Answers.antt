@@ -1,6 +1,6 @@
 use Rattle.std.proofs.Math.Nat.{mul_left_comm}
-use Rattle.mk_laws.proofs.Vocabulary.{ℕ, ap, arith, cases_Bool, false, has_bit, inl, inr, no_bit, refl, subst, sym}
-use Rattle.mk_laws.proofs.Vocabulary.{true, true≢false, without, ◌*◌, ◌+◌, ◌<◌, ◌^◌, ◌∙◌, ◌≡◌, ◌⊎◌}
+use Rattle.mk_laws.proofs.Vocabulary.{ℕ, ap, arith, cases_Bool, false, has_bit, inl, inr, no_bit, subst, sym, true}
+use Rattle.mk_laws.proofs.Vocabulary.{true≢false, without, ◌*◌, ◌+◌, ◌<◌, ◌^◌, ◌∙◌, ◌≡◌, ◌⊎◌}
 use Rattle.mk_cycle.proofs.{Vocabulary.{IsUnmappedWord, IsZero}, GivingSteps.{none_at_once, none_then}}
 use Rattle.mk_cycle.proofs.{GivingSteps.still_unmapped_word, RestBits.{fewer_left, left_among, taken_or_gone}}
 use Rattle.mk_cycle.proofs.wiping.wipe_cells.Goals as goal
@@ -26,9 +26,8 @@ wipe_cell-requires-clause-unmapped c i lt =
 pub loop-rest-smaller : goal.loop-rest-smaller
 loop-rest-smaller c =
     let index = c.lowest_bit-index in
-    subst (λ (n : ℕ). n < c.loop-rest.rest)
-    (sym (c.without-rest.ensures ∙ ap (λ (n : ℕ). without c.loop-rest.rest n) c.bit.ensures))
-    (fewer_left c.loop-rest.rest index.result index.ensures.within index.ensures.one)
+    subst (λ (n : ℕ). n < c.loop-rest.rest) (sym (c.without-rest.ensures ∙ ap (λ (n : ℕ). without c.loop-rest.rest n)
+    c.bit.ensures)) (fewer_left c.loop-rest.rest index.result index.ensures.within index.ensures.one)
 
 pub loop-rest-preserved : goal.loop-rest-preserved
 loop-rest-preserved c =

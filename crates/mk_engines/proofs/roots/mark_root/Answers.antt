@@ -6,10 +6,8 @@ use Rattle.mk_engines.proofs.roots.mark_root.Goals as goal
 pub returns-clause-on : goal.returns-clause-on
 returns-clause-on c =
     let value = c.look_at_root-value.result in
-    root_then c.look_at_root-value.ensures.finds c.mark_value.ensures.on
-    (ap (λ (w : WordsState). points_well w.config.pages (now_of c.mark_value.new.turn.pass).words value)
-    c.requires.one_table ∙ c.mark_value.ensures.well)
+    root_then c.look_at_root-value.ensures.finds c.mark_value.ensures.on (ap (λ (w : WordsState). points_well
+    w.config.pages (now_of c.mark_value.new.turn.pass).words value) c.requires.one_table ∙ c.mark_value.ensures.well)
 
 pub returns-clause-looked : goal.returns-clause-looked
-returns-clause-looked c =
-    root_looked c.look_at_root-value.ensures.finds c.mark_value.ensures.on c.requires.root
+returns-clause-looked c = root_looked c.look_at_root-value.ensures.finds c.mark_value.ensures.on c.requires.root

@@ -1,6 +1,6 @@
 use Rattle.mk_laws.proofs.Vocabulary.{refl, subst, sym, true, ◌≡◌}
 use Rattle.mk_core.specs.Ranges.{is_word}
-use Rattle.mk_cycle.proofs.{Allowed.{in_turn, look_allowed}, MayAct.calm_admitted}
+use Rattle.mk_cycle.proofs.{Allowed.in_turn, Allowed.look_allowed, MayAct.calm_admitted}
 use Rattle.mk_engines.proofs.BesideSteps.{goes_look, no_register}
 use Rattle.mk_words.specs.States.{WordsState}
 use Rattle.mk_engines.proofs.steps.look_at.Goals as goal
@@ -18,5 +18,4 @@ look-requires-clause-admitted c may =
     calm_admitted c.args.turn.now.pass _ c.is_in_order.ensures.history refl c.requires.beside.free.decided
 
 pub returns-clause-on : goal.returns-clause-on
-returns-clause-on c =
-    goes_look c.args.turn.now c.look.new.self c.requires.beside c.look.ensures.acts c.requires.plain
+returns-clause-on c = goes_look c.args.turn.now c.look.new.self c.requires.beside c.look.ensures.acts c.requires.plain

@@ -24,6 +24,5 @@ returns-clause-on c =
 
 pub returns-clause-marked : goal.returns-clause-marked
 returns-clause-marked c =
-    marked_there c.args.turn.now c.mark.new.self c.requires.beside (subst (λ v. Acts
-    c.args.turn.now.pass (Step.Mark c.args.cell.page v) c.mark.new.self.pass) c.bit.ensures c.mark.ensures)
-    c.requires.reached
+    marked_there c.args.turn.now c.mark.new.self c.requires.beside (subst (λ v. Acts c.args.turn.now.pass
+    (Step.Mark c.args.cell.page v) c.mark.new.self.pass) c.bit.ensures c.mark.ensures) c.requires.reached

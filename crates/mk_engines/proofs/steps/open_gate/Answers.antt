@@ -11,8 +11,7 @@ open_gate-requires-clause-enabled c =
     (sym c.requires.one_table) c.requires.within) c.requires.another c.requires.held
 
 pub returns-clause-on : goal.returns-clause-on
-returns-clause-on c =
-    goes_open c.args.turn.now c.open_gate.new.self c.requires.beside c.open_gate.ensures
+returns-clause-on c = goes_open c.args.turn.now c.open_gate.new.self c.requires.beside c.open_gate.ensures
 
 pub returns-clause-others : goal.returns-clause-others
 returns-clause-others c = open_others c.open_gate.ensures

@@ -13,8 +13,7 @@ try_hold-requires-clause-enabled c =
     c.requires.another c.requires.open
 
 pub returns-clause-on : goal.returns-clause-on
-returns-clause-on c =
-    goes_hold c.args.turn.now c.try_hold.new.self c.requires.beside c.try_hold.ensures.acts
+returns-clause-on c = goes_hold c.args.turn.now c.try_hold.new.self c.requires.beside c.try_hold.ensures.acts
 
 pub returns-clause-others : goal.returns-clause-others
 returns-clause-others c = hold_others c.try_hold.ensures.acts

@@ -1,4 +1,4 @@
-use Rattle.mk_engines.proofs.{Sweepless.sweepless_rule, TracedMarks.{closes_by_tracing, ready_of}}
+use Rattle.mk_engines.proofs.{Sweepless.sweepless_rule, TracedMarks.closes_by_tracing, TracedMarks.ready_of}
 use Rattle.mk_engines.proofs.stopping.close_by_tracing.Goals as goal
 
 pub close_marks-requires-clause-ready : goal.close_marks-requires-clause-ready

@@ -6,9 +6,7 @@ pub pages-init : goal.pages-init
 pages-init c = looked_at_none c.args.pass.now c.args.first c.requires.between
 
 pub returns-in-Some-clause-some : goal.returns-in-Some-clause-some
-returns-in-Some-clause-some c =
-    sees_then c.args.pass.now c.args.first c.pages.page c.pages.pass c.in-Some.cell c.find_on_page.new.pass
-    c.pages.invariant c.in-Some.ensures.some
+returns-in-Some-clause-some c = sees_then c.pages.invariant c.in-Some.ensures.some
 
 pub pages-preserved : goal.pages-preserved
 pages-preserved c = grind (arith, looked_on, cases_lt)

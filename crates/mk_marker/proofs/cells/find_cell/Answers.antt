@@ -8,5 +8,4 @@ returns-in-None-clause-none c = grind (arith, none_both, cases_lt)
 pub returns-in-None-clause-some : goal.returns-in-None-clause-some
 returns-in-None-clause-some c =
     let f = c.find_between-in-None in
-    some_then f.result c.args.pass.now c.args.first c.pages.result c.find_between.new.pass f.new.pass
-    c.in-None.ensures.none f.ensures.some
+    some_then f.result f.new.pass c.in-None.ensures.none f.ensures.some

@@ -1,4 +1,4 @@
-use Rattle.mk_laws.proofs.Vocabulary.{Step, Word, refl}
+use Rattle.mk_laws.proofs.Vocabulary.{refl}
 use Rattle.mk_marker.proofs.Scanned.{goes_once, goes_then}
 use Rattle.mk_marker.proofs.scans.mark_target.Goals as goal
 
@@ -7,6 +7,4 @@ returns-in-Some-clause-goes c =
     let p = c.args.pass.now in
     let q = c.look-header.new.pass in
     let r = c.mark.new.pass in
-    goes_then p 0 q 0 r (goes_once p (Step.Mlook
-    (Word.Head c.args.page)) c.look-header.result q refl refl c.look-header.ensures.moves)
-    (goes_once q Step.Mmark c.mark.ensures.0 r refl refl c.mark.ensures.1)
+    goes_then (goes_once refl refl c.look-header.ensures.moves) (goes_once refl refl c.mark.ensures.1)

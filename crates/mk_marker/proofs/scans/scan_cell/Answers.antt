@@ -3,6 +3,5 @@ use Rattle.mk_marker.proofs.scans.scan_cell.Goals as goal
 
 pub returns-clause-scans : goal.returns-clause-scans
 returns-clause-scans c =
-    scanned c.args.pass.now c.args.cell c.claim.new.pass c.words_scanned.result c.scan_words.new.pass
-    c.blacken.new.pass c.claim.ensures.claims
-    c.scan_words.ensures.goes c.words_scanned.ensures.exact c.blacken.ensures.moves
+    scanned c.blacken.new.pass c.claim.ensures.claims c.scan_words.ensures.goes c.words_scanned.ensures.exact
+    c.blacken.ensures.moves

@@ -6,4 +6,4 @@ returns-in-Some-clause-goes c =
     let p = c.args.pass.now in
     let q = c.load-value.new.pass in
     let r = c.mark_target.new.pass in
-    goes_then p 1 q 0 r (loads_once p c.load-value.result q c.load-value.ensures) c.mark_target.ensures.goes
+    goes_then (loads_once c.load-value.ensures) c.mark_target.ensures.goes

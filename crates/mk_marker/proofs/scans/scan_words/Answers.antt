@@ -1,5 +1,5 @@
 use Rattle.mk_laws.proofs.Vocabulary.{arith}
-use Rattle.mk_marker.proofs.{Did.still_of, Scanned.{goes_nowhere, goes_then}}
+use Rattle.mk_marker.proofs.{Did.still_of, Scanned.goes_nowhere, Scanned.goes_then}
 use Rattle.mk_marker.proofs.scans.scan_words.Goals as goal
 
 pub words-init : goal.words-init

@@ -1,14 +1,12 @@
-use Rattle.mk_laws.proofs.Vocabulary.{Step, subst, sym, ◌<◌}
+use Rattle.mk_laws.proofs.Vocabulary.{subst, sym, ◌<◌}
 use Rattle.mk_marker.proofs.Moving.{blackened, moved}
 use Rattle.mk_words.specs.States.{WordsState}
 use Rattle.mk_marker.proofs.steps.blacken.Goals as goal
 
 pub returns-clause-moves : goal.returns-clause-moves
-returns-clause-moves c = moved c.args.pass.now Step.Mblack c.marker_black.new.self c.marker_black.ensures.makes
-    c.marker_black.ensures.marker
+returns-clause-moves c = moved c.marker_black.ensures.makes c.marker_black.ensures.marker
 
 pub returns-clause-black : goal.returns-clause-black
 returns-clause-black c =
-    blackened c.args.pass.now c.args.cell.page c.args.cell.index c.marker_black.new.self c.marker_black.ensures.makes
-    c.requires.cell (subst (λ (w : WordsState). c.args.cell.page < w.config.pages)
-    (sym c.requires.marker.one_table) c.requires.page) c.requires.index
+    blackened c.marker_black.ensures.makes c.requires.cell (subst (λ (w : WordsState). c.args.cell.page
+    < w.config.pages) (sym c.requires.marker.one_table) c.requires.page) c.requires.index

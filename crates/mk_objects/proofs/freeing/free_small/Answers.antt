@@ -1,6 +1,6 @@
 use Rattle.mk_laws.proofs.Vocabulary.{Steady, ap, sym, ◌+◌, ◌-◌, ◌^◌, ◌∙◌, ◌≡◌}
-use Rattle.mk_objects.proofs.{Vocabulary.{PassState, min, now_of}, JoinedLooks.looks_left}
-use Rattle.mk_objects.proofs.SmallFrees.{freed_now, frees_small}
+use Rattle.mk_objects.proofs.Vocabulary.{PassState, min, now_of}
+use Rattle.mk_objects.proofs.{JoinedLooks.looks_left, SmallFrees.freed_now, SmallFrees.frees_small}
 use Rattle.mk_objects.proofs.freeing.free_small.Goals as goal
 
 pub returns : goal.returns

@@ -21,18 +21,16 @@ clear_run-requires-clause-mapped c =
 
 pub overflow_sub-held : goal.overflow_sub-held
 overflow_sub-held c =
-    let found : c.look_at.result ≡ (now_of c.args.turn.now.pass).words.held =
-    c.look_at.ensures.finds ∙ c.clear_run.ensures.held ∙ ap (λ (x : Steady). x.held)
-    (freed_now c.quarantine.ensures.freed).steady in
+    let found : c.look_at.result ≡ (now_of c.args.turn.now.pass).words.held = c.look_at.ensures.finds
+    ∙ c.clear_run.ensures.held ∙ ap (λ (x : Steady). x.held) (freed_now c.quarantine.ensures.freed).steady in
     let sum = held_then c.args.count c.requires.may c.is_in_order.ensures.history c.requires.run in
     omega arith
 
 pub returns : goal.returns
 returns c =
     let p : PassState = c.args.turn.now.pass in
-    let found : c.look_at.result ≡ (now_of c.args.turn.now.pass).words.held =
-    c.look_at.ensures.finds ∙ c.clear_run.ensures.held ∙ ap (λ (x : Steady). x.held)
-    (freed_now c.quarantine.ensures.freed).steady in
+    let found : c.look_at.result ≡ (now_of c.args.turn.now.pass).words.held = c.look_at.ensures.finds
+    ∙ c.clear_run.ensures.held ∙ ap (λ (x : Steady). x.held) (freed_now c.quarantine.ensures.freed).steady in
     let sum = held_then c.args.count c.requires.may c.is_in_order.ensures.history c.requires.run in
     let taken : c.look_at.result - 64 * c.args.count + 64 * c.args.count ≡ (now_of p).words.held = omega arith in
     let fits : c.look_at.result - 64 * c.args.count < 2 ^ 64 = omega (arith, c.look_at.type_inv) in

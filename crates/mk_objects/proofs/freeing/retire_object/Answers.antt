@@ -14,9 +14,8 @@ returns-then-value-eq0-clause-freed g c =
     c.is_in_order.ensures.turn.holds
 
 -- what the register points into
-found : (g : _) (c : After-is_in_order-3 g)
-    → IsFound c.args.turn.now.pass c.find_cell-cell.new.turn.pass c.args.p c.load_freed-value.result
-    c.find_cell-cell.result
+found : (g : _) (c : After-is_in_order-3 g) → IsFound c.args.turn.now.pass c.find_cell-cell.new.turn.pass c.args.p
+    c.load_freed-value.result c.find_cell-cell.result
 found g c =
     let u : ℕ = c.load_freed-value.result in
     let some = ne_eqb u 0 c.if-value-eq0.false in
@@ -51,9 +50,8 @@ may : (g : _) (c : After-is_freed g)
     c.find_cell-cell.result → is_freed (now_of c.find_cell-cell.new.turn.pass).words c.find_cell-cell.result ≡ false
     → MayFree c.look_at_quarantine-quar.new.turn.pass c.args.p c.load_freed-value.result c.find_cell-cell.result
 may g c found bit =
-    may_free c.requires.unloaded found c.look_at_quarantine-quar.ensures.seen
-    (c.look_at_quarantine-quar.ensures.keeps bit c.args.p c.requires.unloaded.small) bit c.requires.phase
-    c.requires.nothing_done c.requires.exact
+    may_free c.requires.unloaded found c.look_at_quarantine-quar.ensures.seen (c.look_at_quarantine-quar.ensures.keeps
+    bit c.args.p c.requires.unloaded.small) bit c.requires.phase c.requires.nothing_done c.requires.exact
 
 pub free_found-due-requires-clause-may : goal.free_found-due-requires-clause-may
 free_found-due-requires-clause-may g c =

@@ -22,9 +22,8 @@ loop-caller-preserved g c =
     let q : PassState = c.loop-caller.turn.pass in
     let n = c.loop-caller.caller in
     let seat = set_seat c.loop-caller.invariant.sets in
-    let one : SetsGate is_holding q n (all_others p.seat n) c.hold_other.new.turn.pass =
-    subst (λ (s : Seat). SetsGate is_holding q n (all_others s n) c.hold_other.new.turn.pass) seat
-    c.hold_other.ensures.sets in
+    let one : SetsGate is_holding q n (all_others p.seat n) c.hold_other.new.turn.pass = subst (λ (s : Seat). SetsGate
+    is_holding q n (all_others s n) c.hold_other.new.turn.pass) seat c.hold_other.ensures.sets in
     record {
       sets = sets_more is_holding p q _ _ _ n _ c.loop-caller.invariant.sets one (λ j ne. held_next p.seat n j ne)
           (held_so_far _ (n + 1) n (omega arith));

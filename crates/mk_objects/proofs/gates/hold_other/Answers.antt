@@ -1,6 +1,6 @@
 use Rattle.mk_laws.proofs.Vocabulary.{Bool, Seat, ap, false, not, subst, sym, true, ◌∙◌, ◌≡◌}
-use Rattle.mk_objects.proofs.{Vocabulary.{SetsGate, all_others, is_holding}, SetGates.set_nothing}
-use Rattle.mk_objects.proofs.gates.hold_other.Goals.{After-is_own}
+use Rattle.mk_objects.proofs.Vocabulary.{SetsGate, all_others, is_holding}
+use Rattle.mk_objects.proofs.{SetGates.set_nothing, gates.hold_other.Goals.After-is_own}
 use Rattle.mk_objects.proofs.gates.hold_other.Goals as goal
 
 -- The gate is another's where it isn't the holder's own.

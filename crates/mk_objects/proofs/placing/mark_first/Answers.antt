@@ -18,9 +18,8 @@ is_on c = eqb-true _ 1 (sym c.requires.marking ∙ c.if-marking.true)
 bits_are : (c : After-bits) → c.bits.result ≡ bits_made (object_for c.args.turn.now.pass)
 bits_are c = c.bits.ensures ∙ ap (λ (o : Object). bits_made o) c.requires.shape
 
-marks : (c : After-mark) → c.bits.result ≡ bits_made (object_for c.args.turn.now.pass)
-    → Acts c.args.turn.now.pass (Step.Mark c.args.place.page (bits_made (object_for c.args.turn.now.pass)))
-    c.mark.new.self.pass
+marks : (c : After-mark) → c.bits.result ≡ bits_made (object_for c.args.turn.now.pass) → Acts c.args.turn.now.pass
+    (Step.Mark c.args.place.page (bits_made (object_for c.args.turn.now.pass))) c.mark.new.self.pass
 marks c is = subst (λ n. Acts c.args.turn.now.pass (Step.Mark c.args.place.page n) c.mark.new.self.pass) is
     c.mark.ensures
 

@@ -5,9 +5,8 @@ use Rattle.mk_objects.proofs.{PlacedNews.{goes_behind, looks_sweep, place_found}
 use Rattle.mk_objects.proofs.placing.place_apart.Goals as goal
 
 -- the place that was sought is where it fits
-fit : (c : After-seek)
-    → place_on_pages c.args.turn.now.pass.table.config.resident (now_of c.args.turn.now.pass).words.pages
-    (object_for c.args.turn.now.pass) ≡ c.seek.result
+fit : (c : After-seek) → place_on_pages c.args.turn.now.pass.table.config.resident
+    (now_of c.args.turn.now.pass).words.pages (object_for c.args.turn.now.pass) ≡ c.seek.result
 fit c = grind (arith, fit_found)
 
 pub page-page-requires : goal.page-page-requires

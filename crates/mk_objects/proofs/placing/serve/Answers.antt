@@ -76,9 +76,8 @@ returns-clause-held c =
     let k = knows x.After-is_in_order in
     let size : c.storage.result ≡ words_made (object_for p) =
     c.storage.ensures ∙ ap (λ (o : Object). words_made o) c.requires.shape in
-    counted_held c.requires.goes k (c.requires.held ∙ c.requires.exact) size
-    (tally_on c.requires.goes k (granted x.After-grant k (taken x.After-used k)) c.tally.ensures
-    c.is_in_order.ensures.history)
+    counted_held c.requires.goes k (c.requires.held ∙ c.requires.exact) size (tally_on c.requires.goes k
+    (granted x.After-grant k (taken x.After-used k)) c.tally.ensures c.is_in_order.ensures.history)
 
 pub returns-clause-reached : goal.returns-clause-reached
 returns-clause-reached c =

@@ -1,7 +1,7 @@
 use Rattle.mk_laws.proofs.Vocabulary.{arith}
 use Rattle.mk_objects.proofs.FreeSteps.{quarantine_fits, quarantine_may, quarantine_once, quarantine_reaches}
-use Rattle.mk_objects.proofs.{LoadedFrees.{free_step_admits, loaded_undecided}, Looks.acting_caller}
-use Rattle.mk_objects.proofs.MayAct.{free_is_acting}
+use Rattle.mk_objects.proofs.LoadedFrees.{free_step_admits, loaded_undecided}
+use Rattle.mk_objects.proofs.{Looks.acting_caller, MayAct.free_is_acting}
 use Rattle.mk_objects.proofs.retiring.quarantine.Goals as goal
 
 pub quar-requires-clause-enabled : goal.quar-requires-clause-enabled

@@ -5,9 +5,8 @@ use Rattle.mk_page_map.specs.Laws.{free_cell_on}
 use Rattle.mk_objects.proofs.seeking.free_cell.Goals as goal
 
 -- the lowest free cell by the used word is that of the page
-told : (c : After-lowest_free)
-    → option_map (λ index. record { page = c.args.page; index = index; carve = false }) c.lowest_free.result
-    ≡ free_cell_on c.args.class c.args.leaf (now_of c.args.turn.now.pass).words.pages c.args.page
+told : (c : After-lowest_free) → option_map (λ index. record { page = c.args.page; index = index; carve = false })
+    c.lowest_free.result ≡ free_cell_on c.args.class c.args.leaf (now_of c.args.turn.now.pass).words.pages c.args.page
 told c =
     cell_told (now_of c.args.turn.now.pass).words.pages _ c.args.class c.args.leaf c.requires.class (ap (λ (p : Page).
     p.used) c.page.ensures) c.requires.block c.lowest_free.ensures

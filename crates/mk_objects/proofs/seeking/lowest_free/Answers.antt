@@ -1,4 +1,4 @@
-use Rattle.std.{proofs.{Common.w64, Math.Nat.div-le_self}, specs.{Bool.then_some, Int.trailing_ones}}
+use Rattle.std.{proofs.Common.w64, proofs.Math.Nat.div-le_self, specs.Bool.then_some, specs.Int.trailing_ones}
 use Rattle.mk_laws.proofs.Vocabulary.{ap, nat_lt, sym, ◌∙◌}
 use Rattle.mk_books.proofs.UsedBitLemmas.{first_where-bits_of}
 use Rattle.mk_objects.proofs.seeking.lowest_free.Goals as goal

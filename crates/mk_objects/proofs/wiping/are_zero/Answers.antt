@@ -35,9 +35,8 @@ loop-i-preserved c =
           let before : c.loop-i.all ≡ 0 =
           let most = le_or_l c.loop-i.all found in omega (arith, most, none) in
           let here : found ≡ 0 = let most = le_or_r c.loop-i.all found in omega (arith, most, none) in
-          subst (λ n. WipesTo p c.args.run n q) next
-          (found_wiped c.is_in_order.ensures.turn c.requires.may (seen word (i.zero before))
-          c.look_on_page-all.ensures.finds here);
+          subst (λ n. WipesTo p c.args.run n q) next (found_wiped c.is_in_order.ensures.turn c.requires.may
+          (seen word (i.zero before)) c.look_on_page-all.ensures.finds here);
     }
 
 pub returns-clause-zero : goal.returns-clause-zero

@@ -16,9 +16,8 @@ look_on_page-found-requires-clause-page c = omega (arith, c.requires.part, c.loo
 pub wipe-requires-clause-enabled : goal.wipe-requires-clause-enabled
 wipe-requires-clause-enabled c =
     let near : c.loop-word.word < 64 * c.args.run.count = omega (arith, c.requires.group, c.loop-word-test.true) in
-    wipe_may c.is_in_order.ensures.turn c.requires.may
-    (looks_then c.is_in_order.ensures.turn c.requires.may c.loop-word.word c.loop-word.invariant.wiped near
-    c.look_on_page-found.ensures.acts) near
+    wipe_may c.is_in_order.ensures.turn c.requires.may (looks_then c.is_in_order.ensures.turn c.requires.may
+    c.loop-word.word c.loop-word.invariant.wiped near c.look_on_page-found.ensures.acts) near
 
 pub loop-word-preserved : goal.loop-word-preserved
 loop-word-preserved c =

@@ -4,22 +4,6 @@ use Rattle.mk_page_map.proofs.sorting.sort_by_header.Goals as goal
 
 -- a page that becomes free
 
-pub returns-then-is_free-clause-sorted : goal.returns-then-is_free-clause-sorted
-returns-then-is_free-clause-sorted c =
-    let free = sym (c.is_free-is_free.ensures c.args.used ∙ c.if-is_free.true) in
-    each_set (λ s. is_member c.put_free.new.sets s c.args.page ≡ is_of_set s (use_of_kind c.args.after c.args.used))
-    (λ s block.
-    c.put_free.ensures.other_sets s (omega arith) (λ same. absurd (omega arith)) (λ same. absurd (omega arith))
-    ∙ c.join_blocks.ensures.joined s block) (c.put_free.ensures.free ∙ free) (c.put_free.ensures.in_use ∙ ap not free)
-
-pub returns-then-is_free-clause-other_sets : goal.returns-then-is_free-clause-other_sets
-returns-then-is_free-clause-other_sets c s above is_set = grind arith
-
-pub returns-then-is_free-clause-other_pages : goal.returns-then-is_free-clause-other_pages
-returns-then-is_free-clause-other_pages c s number is_set few differ = grind arith
-
--- and one that is so no more
-
 pub returns-then-was_free-clause-sorted : goal.returns-then-was_free-clause-sorted
 returns-then-was_free-clause-sorted c =
     let free = sym (c.is_free-is_free.ensures c.args.used ∙ c.if-is_free.false) in

@@ -1,7 +1,7 @@
 use Rattle.mk_laws.proofs.Vocabulary.{Bool, false, is_under_turn, true, ◌≡◌}
 use Rattle.mk_run.proofs.Vocabulary.{Answers, calls_sweep_nothing, nothing_sweeps, rules, sweep_nothing_where_held}
-use Rattle.mk_run.proofs.{BesideTurns.{held_beside, stays_still}, PutOff.{held_put_off, turn_put_off}}
-use Rattle.mk_run.proofs.ScriptCalls.{answered_by_call}
+use Rattle.mk_run.proofs.BesideTurns.{held_beside, stays_still}
+use Rattle.mk_run.proofs.{PutOff.held_put_off, PutOff.turn_put_off, ScriptCalls.answered_by_call}
 use Rattle.mk_run.proofs.answers.answer_at_once.Goals as goal
 
 pub returns-in-New : goal.returns-in-New
@@ -22,7 +22,7 @@ returns-in-Ok c =
     let called = c.in-Ok.ensures.called in
     let entered : is_under_turn c.args.op ≡ false = search rules in
     let answers : (on : Bool) → Answers on p c.args.op c.in-Ok.told q =
-    λ on. answered_by_call on p c.args.op c.in-Ok.told q c.is_idle.ensures.own entered called in
+    λ on. answered_by_call on c.is_idle.ensures.own entered called in
     record {
       home = c.call.ensures.home;
       answers = answers;
@@ -40,7 +40,7 @@ returns-in-Err c =
     record {
       home = c.call.ensures.home;
       answers = tt;
-      put_off = held_put_off p c.args.op q entered held;
-      beside = held_beside p c.args.op q held;
+      put_off = held_put_off entered held;
+      beside = held_beside held;
       reached = sweep_nothing_where_held p c.args.op q c.is_idle.ensures.own held;
     }

@@ -1,4 +1,4 @@
-use Rattle.mk_laws.proofs.Vocabulary.{Answer, false, is_under_turn, refl, ◌≡◌}
+use Rattle.mk_laws.proofs.Vocabulary.{false, is_under_turn, refl, ◌≡◌}
 use Rattle.mk_run.proofs.Vocabulary.{calls_sweep_nothing, rules, sweep_nothing_where_held}
 use Rattle.mk_run.proofs.ScriptCalls.{answered_by_call, answered_free, answered_new, makes_none, type_exists}
 use Rattle.mk_run.proofs.KeptScripts.{beside_begun}
@@ -10,23 +10,19 @@ new_object-requires-clause-ty g c κs within =
 
 pub returns-in-Ok-clause-answers : goal.returns-in-Ok-clause-answers
 returns-in-Ok-clause-answers g c =
-    answered_new g.E.Engine.on c.args.caller.now.pass c.args.op c.in-New.d c.in-New.ty c.in-New.full Answer.Done
-    c.new_object.new.caller.pass c.is_idle.ensures.own c.in-New.is c.in-Ok.ensures.made
+    answered_new c.args.op c.in-New.full c.is_idle.ensures.own c.in-New.is c.in-Ok.ensures.made
 
 pub returns-in-Err-clause-answers : goal.returns-in-Err-clause-answers
 returns-in-Err-clause-answers g c =
-    answered_new g.E.Engine.on c.args.caller.now.pass c.args.op c.in-New.d c.in-New.ty c.in-New.full Answer.Full
-    c.new_object.new.caller.pass c.is_idle.ensures.own c.in-New.is c.in-Err.ensures.full.called
+    answered_new c.args.op c.in-New.full c.is_idle.ensures.own c.in-New.is c.in-Err.ensures.full.called
 
 pub returns-in-Ok-free_object-clause-answers : goal.returns-in-Ok-free_object-clause-answers
 returns-in-Ok-free_object-clause-answers g c =
-    answered_free g.E.Engine.on c.args.caller.now.pass c.args.op c.in-Free.p Answer.Done
-    c.free_object.new.caller.pass c.is_idle.ensures.own c.in-Free.is c.in-Ok-free_object.ensures.freed.called
+    answered_free c.args.op c.is_idle.ensures.own c.in-Free.is c.in-Ok-free_object.ensures.freed.called
 
 pub returns-in-Err-free_object-clause-answers : goal.returns-in-Err-free_object-clause-answers
 returns-in-Err-free_object-clause-answers g c =
-    answered_free g.E.Engine.on c.args.caller.now.pass c.args.op c.in-Free.p Answer.Double
-    c.free_object.new.caller.pass c.is_idle.ensures.own c.in-Free.is c.in-Err-free_object.ensures.double.called
+    answered_free c.args.op c.is_idle.ensures.own c.in-Free.is c.in-Err-free_object.ensures.double.called
 
 pub returns-in-Ok-call : goal.returns-in-Ok-call
 returns-in-Ok-call g c =
@@ -34,8 +30,7 @@ returns-in-Ok-call g c =
     let q = c.call.new.caller.pass in
     let called = c.in-Ok-call.ensures.called in
     let entered : is_under_turn c.args.op ≡ false = search rules in
-    let answers =
-    answered_by_call g.E.Engine.on p c.args.op _ q c.is_idle.ensures.own entered called in
+    let answers = answered_by_call g.E.Engine.on c.is_idle.ensures.own entered called in
     record {
       home = c.call.ensures.home;
       made_for = refl;
@@ -44,7 +39,7 @@ returns-in-Ok-call g c =
       beside = tt;
       held = tt;
       reached = λ off. calls_sweep_nothing p c.args.op called.answer q called.called;
-      begun = beside_begun g.E.Engine.begins p q (answers.beside entered);
+      begun = beside_begun g.E.Engine.begins (answers.beside entered);
     }
 
 pub returns-in-Err-call : goal.returns-in-Err-call
@@ -53,7 +48,7 @@ returns-in-Err-call g c =
     let q = c.call.new.caller.pass in
     let held = c.in-Err-call.ensures.held in
     let entered : is_under_turn c.args.op ≡ false = search rules in
-    let none = makes_none g.E.Engine.on p c.args.op q held in
+    let none = makes_none g.E.Engine.on held in
     record {
       home = c.call.ensures.home;
       made_for = refl;
@@ -62,5 +57,5 @@ returns-in-Err-call g c =
       beside = entered;
       held = held;
       reached = λ off. sweep_nothing_where_held p c.args.op q c.is_idle.ensures.own held;
-      begun = beside_begun g.E.Engine.begins p q none.beside;
+      begun = beside_begun g.E.Engine.begins none.beside;
     }

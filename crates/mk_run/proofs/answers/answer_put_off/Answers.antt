@@ -1,4 +1,4 @@
-use Rattle.mk_laws.proofs.Vocabulary.{Answer, false, is_under_turn, refl, ◌≡◌}
+use Rattle.mk_laws.proofs.Vocabulary.{false, is_under_turn, refl, ◌≡◌}
 use Rattle.mk_run.proofs.{Vocabulary.rules, ScriptCalls.{answered_free, answered_new, type_exists}}
 use Rattle.mk_run.proofs.KeptScripts.{beside_begun}
 use Rattle.mk_run.proofs.answers.answer_put_off.Goals as goal
@@ -11,36 +11,26 @@ new_object-requires-clause-ty g c κs within =
 
 pub returns-in-Ok-clause-answers : goal.returns-in-Ok-clause-answers
 returns-in-Ok-clause-answers g c =
-    answered_new g.E.Engine.on c.args.caller.now.pass c.args.op c.in-New.d c.in-New.ty c.in-New.full Answer.Done
-    c.new_object.new.caller.pass c.is_idle.ensures.own c.in-New.is c.in-Ok.ensures.made
+    answered_new c.args.op c.in-New.full c.is_idle.ensures.own c.in-New.is c.in-Ok.ensures.made
 
 pub returns-in-Err-clause-answers : goal.returns-in-Err-clause-answers
 returns-in-Err-clause-answers g c =
-    answered_new g.E.Engine.on c.args.caller.now.pass c.args.op c.in-New.d c.in-New.ty c.in-New.full Answer.Full
-    c.new_object.new.caller.pass c.is_idle.ensures.own c.in-New.is c.in-Err.ensures.full.called
+    answered_new c.args.op c.in-New.full c.is_idle.ensures.own c.in-New.is c.in-Err.ensures.full.called
 
 pub returns-in-Ok-free_object-clause-answers : goal.returns-in-Ok-free_object-clause-answers
 returns-in-Ok-free_object-clause-answers g c =
-    answered_free g.E.Engine.on c.args.caller.now.pass c.args.op c.in-Free.p Answer.Done
-    c.free_object.new.caller.pass c.is_idle-in-Free.ensures.own c.in-Free.is c.in-Ok-free_object.ensures.freed.called
+    answered_free c.args.op c.is_idle-in-Free.ensures.own c.in-Free.is c.in-Ok-free_object.ensures.freed.called
 
 pub returns-in-Err-free_object-clause-answers : goal.returns-in-Err-free_object-clause-answers
 returns-in-Err-free_object-clause-answers g c =
-    answered_free g.E.Engine.on c.args.caller.now.pass c.args.op c.in-Free.p Answer.Double
-    c.free_object.new.caller.pass c.is_idle-in-Free.ensures.own c.in-Free.is c.in-Err-free_object.ensures.double.called
+    answered_free c.args.op c.is_idle-in-Free.ensures.own c.in-Free.is c.in-Err-free_object.ensures.double.called
 
 pub answer_when_open-requires : goal.answer_when_open-requires
-answer_when_open-requires g c =
-    record {
-      home = c.requires.home;
-      exists = c.requires.exists;
-      asks = record {
-        op = c.args.op;
-        asks = c.requires.asks;
-        beside = search rules;
-        admitted = c.requires.admitted;
-      };
-    }
+answer_when_open-requires g c = record {
+  home = c.requires.home;
+  exists = c.requires.exists;
+  asks = record { op = c.args.op; asks = c.requires.asks; beside = search rules; admitted = c.requires.admitted };
+}
 
 pub returns-in_default : goal.returns-in_default
 returns-in_default g c =
@@ -53,5 +43,5 @@ returns-in_default g c =
       made_for = refl;
       answers = answers;
       reached = λ off. c.answer_when_open.ensures.reached;
-      begun = beside_begun g.E.Engine.begins p q (answers.beside entered);
+      begun = beside_begun g.E.Engine.begins (answers.beside entered);
     }

@@ -1,22 +1,21 @@
-use Rattle.mk_laws.proofs.Vocabulary.{refl, subst, sym, true, ◌<◌}
+use Rattle.mk_laws.proofs.Vocabulary.{arith, subst, sym, true, ◌<◌}
 use Rattle.mk_run.proofs.{Vocabulary.{PassState, sweeps_then}, ScriptCalls.{makes_none, none_then_answers}}
 use Rattle.mk_run.proofs.{ScriptCalls.stays_admitted_after, KeptScripts.beside_begun}
 use Rattle.mk_caller.specs.States.{caller_of_pass}
 use Rattle.mk_run.proofs.answers.answer_to.Goals as goal
 
 pub answer_now-requires-clause-admitted : goal.answer_now-requires-clause-admitted
-answer_now-requires-clause-admitted g c κs within =
-    c.requires.admitted c.args.caller.now.pass.seen c.is_idle.ensures.history refl
+answer_now-requires-clause-admitted g c x2 within = grind arith
 
 pub call_until_open-requires : goal.call_until_open-requires
 call_until_open-requires g c =
     let p = c.args.caller.now.pass in
-    let none = makes_none true p c.args.op c.answer_now.new.caller.pass c.in-Err.ensures.held in
+    let none = makes_none true c.in-Err.ensures.held in
     record {
       home = c.answer_now.ensures.home;
       exists = subst (λ (q : PassState). caller_of_pass q < q.table.config.callers) (sym none.is) c.requires.exists;
       entered = c.in-Err.ensures.beside;
-      admitted = stays_admitted_after true p c.args.op c.answer_now.new.caller.pass c.requires.admitted none;
+      admitted = stays_admitted_after c.args.op c.requires.admitted none;
     }
 
 pub returns-in-Err : goal.returns-in-Err
@@ -24,13 +23,12 @@ returns-in-Err g c =
     let p = c.args.caller.now.pass in
     let q = c.answer_now.new.caller.pass in
     let r = c.call_until_open.new.caller.pass in
-    let none = makes_none g.E.Engine.on p c.args.op q c.in-Err.ensures.held in
-    let answers = none_then_answers g.E.Engine.on p q c.args.op c.call_until_open.result r none c.in-Err.ensures.beside
-    (c.call_until_open.ensures.answers g.E.Engine.on) in
+    let none = makes_none g.E.Engine.on c.in-Err.ensures.held in
+    let answers = none_then_answers none c.in-Err.ensures.beside (c.call_until_open.ensures.answers g.E.Engine.on) in
     record {
       home = c.call_until_open.ensures.home;
       made_for = c.answer_now.ensures.made_for;
       answers = answers;
       reached = λ off. sweeps_then p q r none.is (c.answer_now.ensures.reached off) c.call_until_open.ensures.reached;
-      begun = beside_begun g.E.Engine.begins p r (answers.beside c.in-Err.ensures.beside);
+      begun = beside_begun g.E.Engine.begins (answers.beside c.in-Err.ensures.beside);
     }

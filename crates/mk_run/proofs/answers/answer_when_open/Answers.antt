@@ -1,5 +1,5 @@
 use Rattle.mk_laws.proofs.Vocabulary.{Op, false, is_under_turn, subst, sym, ◌∙◌, ◌≡◌}
-use Rattle.mk_run.proofs.{Vocabulary.{Answers, IsAdmittedByOwnCalls}, AskedOps.asked_op}
+use Rattle.mk_run.proofs.{Vocabulary.IsAdmittedByOwnCalls, AskedOps.asked_op}
 use Rattle.mk_run.proofs.answers.answer_when_open.Goals as goal
 
 pub unreachable-requires : goal.unreachable-requires
@@ -11,7 +11,7 @@ unreachable-requires g c =
 
 pub call_until_open-requires : goal.call_until_open-requires
 call_until_open-requires g c =
-    let e = asked_op c.args.feed.now c.requires.asks.op c.in-Some.op c.requires.asks.asks c.in-Some.ensures.next in
+    let e = asked_op c.in-Some.op c.requires.asks.asks c.in-Some.ensures.next in
     record {
       home = c.requires.home;
       exists = c.requires.exists;
@@ -21,5 +21,5 @@ call_until_open-requires g c =
 
 pub returns-clause-answers : goal.returns-clause-answers
 returns-clause-answers g c = λ o on asks.
-    let e = asked_op c.args.feed.now o c.in-Some.op asks c.in-Some.ensures.next in
+    let e = asked_op c.in-Some.op asks c.in-Some.ensures.next in
     rw e at (c.call_until_open.ensures.answers on)

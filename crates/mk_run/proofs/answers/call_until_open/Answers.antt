@@ -6,21 +6,16 @@ use Rattle.mk_run.proofs.answers.call_until_open.Goals as goal
 
 pub call-requires-clause-admitted : goal.call-requires-clause-admitted
 call-requires-clause-admitted g c =
-    still_admitted true _ _ _ c.requires.admitted (c.held.invariant.none true) c.is_idle.ensures.history
+    still_admitted _ c.requires.admitted (c.held.invariant.none true) c.is_idle.ensures.history
 
 pub returns-in-Ok-clause-answers : goal.returns-in-Ok-clause-answers
-returns-in-Ok-clause-answers g c = λ on.
-    none_then_answers on c.args.caller.now.pass c.held.caller.pass c.args.op c.in-Ok.told c.call.new.caller.pass
-    (c.held.invariant.none on) c.requires.entered
-    (answered_by_call on c.held.caller.pass c.args.op c.in-Ok.told c.call.new.caller.pass c.is_idle.ensures.own
-    c.requires.entered c.in-Ok.ensures.called)
+returns-in-Ok-clause-answers g c = λ on. none_then_answers (c.held.invariant.none on) c.requires.entered
+    (answered_by_call on c.is_idle.ensures.own c.requires.entered c.in-Ok.ensures.called)
 
 pub held-preserved : goal.held-preserved
 held-preserved g c = record {
   home = c.call.ensures.home;
-  none = λ on.
-      none_then_none on c.args.caller.now.pass c.held.caller.pass c.call.new.caller.pass (c.held.invariant.none on)
-      (makes_none on c.held.caller.pass c.args.op c.call.new.caller.pass c.in-Err.ensures.held);
+  none = λ on. none_then_none (c.held.invariant.none on) (makes_none on c.in-Err.ensures.held);
   reached =
       sweeps_then _ _ _ (c.held.invariant.none true).is c.held.invariant.reached (sweep_nothing_where_held _ _ _
       c.is_idle.ensures.own c.in-Err.ensures.held);
@@ -35,11 +30,6 @@ returns-in-Ok-clause-reached g c =
 pub held-init : goal.held-init
 held-init g c = record {
   home = c.requires.home;
-  none = λ on. record {
-    is = refl;
-    entries = refl;
-    exact = λ e. e;
-    beside = stays_still c.args.caller.now.pass;
-  };
+  none = λ on. record { is = refl; entries = refl; exact = λ e. e; beside = stays_still c.args.caller.now.pass };
   reached = nothing_sweeps c.args.caller.now.pass;
 }

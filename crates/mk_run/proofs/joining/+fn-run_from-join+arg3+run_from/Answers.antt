@@ -1,9 +1,9 @@
 use Rattle.mk_laws.proofs.Vocabulary.{Caller, Config, Host, ap, arith, length, subst, sym, ◌+◌, ◌<◌, ◌∙◌, ◌≡◌}
-use Rattle.mk_run.proofs.Vocabulary.{AreReadyFrom, Grows, Has, HasJoined, HasMade, HostState, IsFirstPass}
-use Rattle.mk_run.proofs.Vocabulary.{IsReadyScript, IsScript, has_left, rules, script_names, with_joined}
+use Rattle.mk_run.proofs.Vocabulary.{AreReadyFrom, Grows, HasMade, HostState, IsFirstPass, IsReadyScript, IsScript}
+use Rattle.mk_run.{proofs.Vocabulary.{has_left, rules, script_names, with_joined}, specs.Joining.{AreJoined, HasRun}}
 use Rattle.mk_run.proofs.{HostTurns.{host_is_still, unseen_by_host}, JoinedScripts.{first_pass, next_made, one_joined}}
 use Rattle.mk_run.proofs.{JoinedScripts.texts_joined, KeptScripts.{none_joined, others_on, script_joined, scripts_on}}
-use Rattle.mk_run.{proofs.{LaterLists.of_one, ReadyScripts.ready_first}, specs.Joining.{AreJoined, HasRun}}
+use Rattle.mk_run.proofs.{LaterLists.of_one, ReadyScripts.ready_first}
 use denote.Param.Send.{Quiet-if}
 use mir.Syntax.{of_param}
 use Rattle.mk_run.proofs.joining.+fn-run_from-join+arg3+run_from.Goals as goal
@@ -27,7 +27,7 @@ join-ran-requires-after_bounds g t c κs within =
     omega (arith, c.in-Some.ensures.cases, c.args.scripts.ok, c.requires.scripts.count, scripts) in
     let first : IsFirstPass w k c.finish-pass.result = grind (arith, first_pass) in
     let next : HasMade w (k + 1) c.caller.new.self =
-    subst (λ (h : HostState). HasMade w (k + 1) h) (sym c.caller.ensures.host) (next_made w k host c.requires.host) in
+    subst (λ (h : HostState). HasMade w (k + 1) h) (sym c.caller.ensures.host) (next_made c.requires.host) in
     -- What the bounds of the type parameters say of the two closures: by hand, since a search doesn't look so far.
     let shared = c.requires.shared in (
       (
@@ -96,22 +96,21 @@ returns g t c =
     record {
       joined = record {
         is_host =
-            rw is (one_joined on program w k old pass new.pass.seen joined.is_host own ran.alone came ran.follows);
+            rw is (one_joined k pass joined.is_host own ran.alone came ran.follows);
         own = rw is (has_left old.pass.seats pass.seats Host joined.own);
-        without_host = host_is_still old.pass.seats old.pass.seen new.pass.seen joined.own own joined.without_host;
+        without_host = host_is_still joined.own own joined.without_host;
         before_over = c.join_caller.ensures.overs ∙ joined.before_over;
         same_markers =
             ap (λ (h : HostState). h.markers) is ∙ joined.same_markers ∙ ap (λ (h : HostState). h.markers)
             c.caller.ensures.host;
         texts =
-            texts_joined on program w k old pass _ joined.is_host own ran.alone came (λ texts. texts.items)
+            texts_joined k pass joined.is_host own ran.alone came (λ texts. texts.items)
             c.join-ran.result.0.text c.join-ran.result.1.texts c.with_first.result c.with_first.ensures.first
             c.with_first.ensures.others c.with_first.ensures.items ran.ends ran.is_text joined.texts few;
       };
       keep =
-          script_joined program k _ pass.seats pass.seen _ ran.alone came c.join-ran.ensures.first.1 (scripts_on program
-          (k + 1) _ _ _ (others_on _ Host _ _ _ joined.own own) (λ j le is. of_one old.pass.seats (Caller j)
-          old.pass.seen new.pass.seen (joined.is_host.seats j le is) own) c.join-ran.ensures.second.1);
+          script_joined ran.alone came c.join-ran.ensures.first.1 (scripts_on _ (others_on _ Host _ _ _ joined.own own)
+          (λ j le is. of_one (Caller j) (joined.is_host.seats j le is) own) c.join-ran.ensures.second.1);
     }
 
 pub returns-in_default-clause-joined : goal.returns-in_default-clause-joined

@@ -1,6 +1,6 @@
-use Rattle.mk_laws.proofs.Vocabulary.{Seat, ap, subst, sym, [], ◌∙◌, ◌∷◌, ◌≡◌}
-use Rattle.mk_run.proofs.{Vocabulary.{CallerState, PassState}, JoinedScripts.{follows_at_first, no_answers}}
-use Rattle.mk_run.proofs.KeptScripts.{script_keeps}
+use Rattle.mk_laws.proofs.Vocabulary.{ap, arith, ◌∙◌}
+use Rattle.mk_run.proofs.Vocabulary.{CallerState}
+use Rattle.mk_run.proofs.{JoinedScripts.follows_at_first, JoinedScripts.no_answers, KeptScripts.script_keeps}
 use Rattle.mk_run.proofs.joining.run_alone.Goals as goal
 
 pub new-caller-requires-clause-idle : goal.new-caller-requires-clause-idle
@@ -13,18 +13,13 @@ run_script-text-requires-clause-follows g c κs within =
     (ap (λ (s : CallerState). s.pass.seen) c.new-caller.ensures ∙ c.requires.pass.seen)
 
 pub run_script-text-requires-clause-no_call : goal.run_script-text-requires-clause-no_call
-run_script-text-requires-clause-no_call g c κs within =
-    let p = c.new-caller.result.pass in
-    no_answers _ c.args.k _ (ap (λ (s : CallerState). s.pass.seen) c.new-caller.ensures ∙ c.requires.pass.seen)
+run_script-text-requires-clause-no_call g c x2 within = grind (arith, no_answers)
 
 pub run_script-text-requires-clause-alone : goal.run_script-text-requires-clause-alone
-run_script-text-requires-clause-alone g c κs within =
-    let is = ap (λ (s : CallerState). s.pass) c.new-caller.ensures in
-    rw is (c.requires.pass.alone ∙ ap (λ (s : Seat). s ∷ []) (sym c.requires.pass.seat))
+run_script-text-requires-clause-alone g c x2 within = grind arith
 
 pub returns-clause-keeps : goal.returns-clause-keeps
 returns-clause-keeps g c =
-    script_keeps c.args.run.now.heap.now c.args.k c.args.pass c.new-caller.result c.run_script-text.new.caller.pass
-    c.finish.result c.requires.pass c.new-caller.ensures
-    (record { unswept = c.run_script-text.ensures.reached; begun = c.run_script-text.ensures.begun })
-    c.finish.ensures.pass
+    script_keeps c.new-caller.result c.run_script-text.new.caller.pass c.finish.result c.requires.pass
+    c.new-caller.ensures (record
+    { unswept = c.run_script-text.ensures.reached; begun = c.run_script-text.ensures.begun }) c.finish.ensures.pass

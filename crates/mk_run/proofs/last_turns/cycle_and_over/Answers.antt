@@ -1,12 +1,11 @@
-use Rattle.mk_laws.proofs.Vocabulary.{ap, subst, sym, ◌∙◌}
-use Rattle.mk_run.proofs.Vocabulary.{Has, HasCallers, HostState, TakesLastTurns, WordsState, begun_then, sweeps_then}
-use Rattle.mk_run.proofs.{HostTurns.both_begin, LastTurns.{last_turns, own_seat, still_behind_both}}
-use Rattle.mk_heap.{proofs.BegunHosts.{over_begun}, specs.{Ending.CallersAreJoined, Hosts.with_seen}}
+use Rattle.mk_laws.proofs.Vocabulary.{ap, arith, subst, sym, ◌∙◌}
+use Rattle.mk_run.proofs.Vocabulary.{HasCallers, HostState, WordsState, begun_then, sweeps_then}
+use Rattle.mk_heap.{proofs.BegunHosts.over_begun, specs.Hosts.with_seen}
+use Rattle.mk_run.proofs.{HostTurns.both_begin, LastTurns.last_turns, LastTurns.own_seat, LastTurns.still_behind_both}
 use Rattle.mk_run.proofs.last_turns.cycle_and_over.Goals as goal
 
 pub over-requires-clause-joined : goal.over-requires-clause-joined
-over-requires-clause-joined g c κs within =
-    subst (λ (h : HostState). CallersAreJoined h) (sym c.cycle.ensures.host) c.requires.all_home.joined
+over-requires-clause-joined g c x2 within = grind arith
 
 pub returns : goal.returns
 returns g c =
@@ -20,8 +19,7 @@ returns g c =
     record {
       host = record {
         is = c.over.ensures.host ∙ ap (λ (x : HostState). with_seen x over.pass.seen) c.cycle.ensures.host;
-        still = still_behind_both (g.E.Engine.tells c.cycle.new.engine) c.args.heap.now h cycled over at.seat
-            c.cycle.ensures.host told c.over.ensures.over;
+        still = still_behind_both c.args.heap.now h cycled over at.seat c.cycle.ensures.host told c.over.ensures.over;
         keeps = record {
           unswept = λ off. sweeps_then h.pass cycled.pass over.pass moved (c.cycle.ensures.reached off)
               (c.over.ensures.reached off);
@@ -30,9 +28,8 @@ returns g c =
         };
       };
       turns =
-          rw (c.over.ensures.engine c.cycle.ensures.idle)
-          (last_turns (g.E.Engine.tells c.cycle.new.engine) c.args.heap.now h cycled over at.seat c.cycle.ensures.host
-          told c.over.ensures.over at.table at.callers c.cycle.ensures.own c.over.ensures.host);
+          rw (c.over.ensures.engine c.cycle.ensures.idle) (last_turns c.args.heap.now h cycled over at.seat
+          c.cycle.ensures.host told c.over.ensures.over at.table at.callers c.cycle.ensures.own c.over.ensures.host);
       cycles =
           both_begin h cycled over at.seat at.own
           (subst (λ (w : WordsState). HasCallers w.config h.pass.seats) (sym at.table) at.callers)

@@ -14,7 +14,7 @@ join-pass-requires-after_bounds g t c κs within =
     let few : number < 8 = omega (arith, c.args.run.now.few) in
     let pass : IsMarkersPass w number c.finish-pass.result = grind (arith, first_marker) in
     let made : HasMade w 0 new =
-    subst (λ (h : HostState). HasMade w 0 h) (sym c.marker.ensures.host) (marker_made w host c.requires.host) in
+    subst (λ (h : HostState). HasMade w 0 h) (sym c.marker.ensures.host) (marker_made c.requires.host) in
     let count : new.markers ≡ number + 1 =
     ap (λ (h : HostState). h.markers) c.marker.ensures.host ∙ ap (λ n. n + 1) c.requires.number in
     let fewer : c.args.run.now.markers - (number + 1) < t = omega (arith, c.decreases) in
@@ -34,14 +34,11 @@ returns g t c =
     let own = c.join_marker.ensures.own in
     record {
       over =
-          marker_joined g.E.Engine.on with_cycle program c.args.run.now.markers w number c.join-pass.result.0 joined
-          (record { host = new; texts = joined.texts }) c.args.run.now.made_for before c.join_marker.ensures.host own
-          pass.alone c.is_in_order.ensures.history refl;
-      turns = λ asked. last_turns_joined (g.E.Engine.tells c.join-pass.result.1.engine) w old new c.join-pass.result.0
+          marker_joined c.args.run.now.markers number c.join-pass.result.0 (record { host = new; texts = joined.texts })
+          c.args.run.now.made_for before c.join_marker.ensures.host own pass.alone c.is_in_order.ensures.history refl;
+      turns = λ asked. last_turns_joined old new c.join-pass.result.0
           c.join_marker.ensures.host own (c.join-pass.ensures.second.1.0 asked);
       keep =
-          scripts_on program 0 w.config old.pass.seen new.pass.seen
-          (others_on w.config Host old.pass.seats old.pass.seen new.pass.seen before.own own)
-          (λ j le is. of_one old.pass.seats (Caller j) old.pass.seen new.pass.seen (before.is_host.seats j le is) own)
-          c.join-pass.ensures.second.1.1;
+          scripts_on new.pass.seen (others_on w.config Host old.pass.seats old.pass.seen new.pass.seen before.own own)
+          (λ j le is. of_one (Caller j) (before.is_host.seats j le is) own) c.join-pass.ensures.second.1.1;
     }

@@ -2,7 +2,7 @@ use Rattle.std.proofs.lemmas.Result.{IfOk-weaker}
 use Rattle.mk_laws.proofs.Vocabulary.{Host, ap, arith, subst, sym, ◌∙◌, ◌≡◌}
 use Rattle.mk_run.proofs.Vocabulary.{AreTextsFrom, Has, HasJoined, HostState}
 use Rattle.mk_run.proofs.WholeRuns.{all_callers_home, all_callers_joined, still_joined, still_texts}
-use Rattle.mk_run.proofs.{HostTurns.comes_last, KeptScripts.{host_on, scripts_on}}
+use Rattle.mk_run.proofs.{HostTurns.comes_last, KeptScripts.host_on, KeptScripts.scripts_on}
 use Rattle.mk_run.proofs.marking.run_scripts.Goals as goal
 
 pub take_last_turns-requires-clause-all_home : goal.take_last_turns-requires-clause-all_home
@@ -32,22 +32,19 @@ returns g c =
       over = record {
         is_host =
             subst (λ (x : HostState). HasJoined on program w 0 x) (sym last.host.is)
-            (still_joined on program w h new.pass.seen joined.is_host last.host.still h.pass.seats (λ k has. has));
+            (still_joined new.pass.seen joined.is_host last.host.still h.pass.seats (λ k has. has));
         own = subst (λ (x : HostState). Has x.pass.seats Host) (sym last.host.is) joined.own;
         last =
-            comes_last w.config c.args.run.now.with_cycle h.pass new.pass.seen
-            (all_callers_home on program c.args.run.now.markers w h c.args.run.now.made_for joined.is_host)
+            comes_last w.config h.pass (all_callers_home c.args.run.now.markers c.args.run.now.made_for joined.is_host)
             joined.without_host last.host.still last.cycles;
         markers = λ i le lt. absurd (omega arith);
         texts =
             IfOk-weaker c.run_from-host.result.texts (λ texts. AreTextsFrom program 0 w.config h.pass.seen texts.items)
             (λ texts. AreTextsFrom program 0 w.config new.pass.seen texts.items)
-            (λ texts t. still_texts on program w h new.pass.seen joined.is_host last.host.still texts.items t)
-            joined.texts;
+            (λ texts t. still_texts new.pass.seen joined.is_host last.host.still t) joined.texts;
       };
       turns = last.turns;
       keep =
-          scripts_on program 0 w.config h.pass.seen new.pass.seen
-          (host_on w h.pass new.pass joined.is_host.table joined.is_host.seat last.host.keeps)
+          scripts_on new.pass.seen (host_on w joined.is_host.table joined.is_host.seat last.host.keeps)
           (λ j le is. last.host.still j (joined.is_host.seats j le is)) c.run_from-host.ensures.keep;
     }

@@ -1,13 +1,11 @@
-use Rattle.mk_laws.proofs.Vocabulary.{Config, arith, subst, sym, ◌∙◌, ◌≡◌}
+use Rattle.mk_laws.proofs.Vocabulary.{arith, ◌∙◌, ◌≡◌}
 use Rattle.mk_run.proofs.{Vocabulary.{AreTextsFrom, config_of}, KeptScripts.{run_is_begun, run_is_unswept}}
-use Rattle.mk_run.{proofs.{LastOvers.run_ends_with_cycle, WholeRuns.{all_joined, is_run}}, specs.Ready.{IsReadyRun}}
+use Rattle.mk_run.proofs.{LastOvers.run_ends_with_cycle, WholeRuns.{all_joined, is_run}}
 use Rattle.mk_heap.specs.Reports as report
 use Rattle.mk_run.proofs.running.run_and_close.Goals as goal
 
 pub close-report-requires-clause-joined : goal.close-report-requires-clause-joined
-close-report-requires-clause-joined g c =
-    all_joined g.E.Engine.on c.args.with_cycle c.args.program.now c.in_ok-heap.heap c.run_beside-joined.result.joined
-    c.run_beside-joined.ensures.over
+close-report-requires-clause-joined g c = all_joined c.run_beside-joined.ensures.over
 
 pub returns : goal.returns
 returns g c =
@@ -21,12 +19,10 @@ returns g c =
     let texts : AreTextsFrom program 0 w.config h.pass.seen c.in_ok-texts.field-0.items = grind arith in
     record {
       runs =
-          is_run g.E.Engine.on c.args.with_cycle program markers w h
-          (record { texts = c.in_ok-texts.field-0; report = c.close-report.result }) made beside.over.is_host
-          beside.over.last texts end.history end.config end.whole end.counts;
-      cycle = λ asked. run_ends_with_cycle (g.E.Engine.tells c.run_beside-joined.result.engine)
-          (config_of program markers) w h.pass c.close-report.result made (beside.turns asked) end.history end.config
-          end.whole;
+          is_run markers (record { texts = c.in_ok-texts.field-0; report = c.close-report.result }) made
+          beside.over.is_host beside.over.last texts end.history end.config end.whole end.counts;
+      cycle = λ asked. run_ends_with_cycle (config_of program markers) c.close-report.result made
+          (beside.turns asked) end.history end.config end.whole;
       reached = run_is_unswept program markers made end.config end.history end.whole beside.keep;
       begun = run_is_begun program markers made end.config end.history end.whole beside.keep;
     }

@@ -1,4 +1,4 @@
-use Rattle.mk_laws.proofs.Vocabulary.{ap, arith, subst, sym, [], ◌∙◌, ◌∷◌, ◌≡◌}
+use Rattle.mk_laws.proofs.Vocabulary.{ap, arith, sym, ◌∙◌, ◌≡◌}
 use Rattle.mk_run.proofs.Vocabulary.{IsAdmittedByOwnCalls, IsChecked, PassState, answers_in, begun_then, nothing_sweeps}
 use Rattle.mk_run.proofs.{Vocabulary.{rules, sweeps_then}, PutOff.{IsAnsweredAs, answered_at_once, answered_later}}
 use Rattle.mk_run.proofs.{PutOff.{put_off_admitted, put_off_is}, ScriptCalls.{asked_stays_admitted, exists_on}}
@@ -18,18 +18,16 @@ next_admitted g c =
     let run = c.instructions.invariant.running in
     let known = c.program-well_typed.ensures in
     let checked : IsChecked program = record { well_typed = known.well_typed; of_some_text = known.of_some_text } in
-    asked_stays_admitted g.E.Engine.on program k p q _ run (seat_is p q k run.is c.is_idle.ensures.idle
-    c.requires.number) c.in-Some.op (sym (c.in-Some.ensures.next program k _ run.fed.feed)) checked c.requires.script
-    c.requires.config
+    asked_stays_admitted run (seat_is p k run.is c.is_idle.ensures.idle c.requires.number) c.in-Some.op
+    (sym (c.in-Some.ensures.next program k _ run.fed.feed)) checked c.requires.script c.requires.config
 
 pub answer_at_once-requires-clause-admitted : goal.answer_at_once-requires-clause-admitted
 answer_at_once-requires-clause-admitted g c =
     next_admitted g (goal.at.answer_at_once-requires-clause-admitted g c).In-Some
 
 -- the operation is answered, at once or later
-joined : (g : _) (c : Joined-answer_at_once g)
-    → IsAnsweredAs g.E.Engine.on g.E.Engine.sweeps g.E.Engine.begins c.instructions.caller.pass c.in-Some.op
-    c.match-answer_at_once.answer c.match-answer_at_once.caller
+joined : (g : _) (c : Joined-answer_at_once g) → IsAnsweredAs g.E.Engine.on g.E.Engine.sweeps g.E.Engine.begins
+    c.instructions.caller.pass c.in-Some.op c.match-answer_at_once.answer c.match-answer_at_once.caller
 joined g c =
     let p = c.instructions.caller.pass in
     let q = c.answer_at_once.new.caller in
@@ -41,9 +39,8 @@ joined g c =
           w.in-Some-answer_at_once.answer q now.home w.in-Some-answer_at_once.ensures.answers now.beside now.reached)
       | in-None w ↦
           let later = w.answer_put_off-answer in
-          rw (w.caller-is, w.answer-is)
-          (answered_later g.E.Engine.on g.E.Engine.sweeps g.E.Engine.begins p c.in-Some.op later.result q
-          later.new.caller w.in-None.ensures.put_off now.beside now.reached later.ensures.home
+          rw (w.caller-is, w.answer-is) (answered_later g.E.Engine.on g.E.Engine.sweeps g.E.Engine.begins p c.in-Some.op
+          later.result q later.new.caller w.in-None.ensures.put_off now.beside now.reached later.ensures.home
           later.ensures.answers later.ensures.reached later.ensures.begun)
     ]
 
@@ -54,7 +51,7 @@ put_off g c = grind (arith, then_seen, put_off_is)
 
 pub answer_put_off-answer-requires-clause-admitted : goal.answer_put_off-answer-requires-clause-admitted
 answer_put_off-answer-requires-clause-admitted g c κs within =
-    put_off_admitted _ c.in-Some.op _ c.in-None.ensures.put_off (next_admitted g
+    put_off_admitted c.in-None.ensures.put_off (next_admitted g
     (goal.at.answer_put_off-answer-requires-clause-admitted g c).In-Some)
 
 pub answer_put_off-answer-requires-clause-asks : goal.answer_put_off-answer-requires-clause-asks
@@ -96,10 +93,9 @@ instructions-preserved g c =
     let j = joined g (goal.at.instructions-preserved g c).Joined-answer_at_once in
     let r = c.match-answer_at_once.caller.pass in
     let after = script_of c.take_answer.new.feed c.take_answer.new.counts in
-    let on = runs_on g.E.Engine.on program k p q (script_of c.instructions.feed c.instructions.counts) run
-    (seat_is p q k run.is c.is_idle.ensures.idle c.requires.number) c.in-Some.op
-    (sym (c.in-Some.ensures.next program k (answers_in p.table.config k q.seen) run.fed.feed))
-    c.match-answer_at_once.answer r after j.answers c.in_ok-take_answer.ensures.takes in
+    let on = runs_on run (seat_is p k run.is c.is_idle.ensures.idle c.requires.number) c.in-Some.op
+    (sym (c.in-Some.ensures.next program k (answers_in p.table.config k q.seen) run.fed.feed)) after j.answers
+    c.in_ok-take_answer.ensures.takes in
     record {
       home = j.home;
       running = on;
@@ -107,7 +103,7 @@ instructions-preserved g c =
         | in-Some-answer_at_once w ↦ rw w.engine-is c.instructions.invariant.made_for
         | in-None w ↦ cc (w.engine-is, w.answer_put_off-answer.ensures.made_for, c.instructions.invariant.made_for)
       ];
-      refused = refused_within program k (answers_in p.table.config k r.seen) after on.fed;
+      refused = refused_within on.fed;
       reached = λ none. sweeps_then p q r run.is (c.instructions.invariant.reached none) (j.reached none);
       begun = begun_then g.E.Engine.begins p q r run.is c.instructions.invariant.begun j.begun;
     }
@@ -124,9 +120,8 @@ returns-in_err-take_answer g c =
     record {
       home = j.home;
       pass = then_seen p q r run.is j.answers.is;
-      follows = follows_now g.E.Engine.on program k p q _ run (seat_is p q k run.is c.is_idle.ensures.idle
-          c.requires.number) c.in-Some.op (sym (c.in-Some.ensures.next program k _ run.fed.feed))
-          c.match-answer_at_once.answer r j.answers;
+      follows = follows_now run (seat_is p k run.is c.is_idle.ensures.idle c.requires.number) c.in-Some.op
+          (sym (c.in-Some.ensures.next program k _ run.fed.feed)) j.answers;
       ends = search rules;
       text = search rules;
       reached = λ none. sweeps_then p q r run.is (c.instructions.invariant.reached none) (j.reached none);

@@ -1,5 +1,4 @@
 use Rattle.mk_run.proofs.{Vocabulary.config_of, LastOvers.ends_weaker}
-use Rattle.mk_heap.specs.Reports.{history_of}
 use Rattle.mk_run.proofs.why.run_why.Goals as goal
 
 pub returns-clause-kept : goal.returns-clause-kept

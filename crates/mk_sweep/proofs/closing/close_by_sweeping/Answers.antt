@@ -1,7 +1,7 @@
 use Rattle.mk_sweep.proofs.Vocabulary.{CellsAreClosed, PageIsBlack, PointWell, SweepsOn, TurnState, WordsState}
 use Rattle.mk_sweep.proofs.{Vocabulary.{still_words, words_below}, SweptMarks.{SweepsInStop, closes, sweeping_behind}}
 use Rattle.mk_sweep.proofs.{SweptMarks.sweeps, Kept.ready_of, closing.close_by_sweeping.Goals.After-is_in_order-3}
-use Rattle.mk_laws.proofs.Vocabulary.{ℕ, ap, length, slice_index, subst, sym, ◌<◌, ◌∙◌, ◌≡◌}
+use Rattle.mk_laws.proofs.Vocabulary.{ℕ, ap, arith, length, slice_index, subst, sym, ◌<◌, ◌∙◌, ◌≡◌}
 use Rattle.mk_sweep.proofs.closing.close_by_sweeping.Goals as goal
 
 pub want_and_wait-requires-clause-ready : goal.want_and_wait-requires-clause-ready
@@ -17,13 +17,7 @@ sweep_in_stop-looks-requires-clause-sweeping g c =
 swept_on : (words : WordsState) {t u : TurnState} → t.pass.table ≡ words
     → SweepsOn t u (words_below (still_words t.pass) words.config.pages)
     → SweepsOn t u (words_below (still_words t.pass) t.pass.table.config.pages)
-swept_on words {t} {u} table on =
-    subst (λ (x : WordsState). SweepsOn t u (words_below (still_words t.pass) x.config.pages)) (sym table) on
-
-closed_on : (words : WordsState) (u : TurnState) → u.pass.table ≡ words
-    → CellsAreClosed words.config (still_words u.pass) → CellsAreClosed u.pass.table.config (still_words u.pass)
-closed_on words u table closed =
-    subst (λ (x : WordsState). CellsAreClosed x.config (still_words u.pass)) (sym table) closed
+swept_on words table on = grind arith
 
 well_on : (words : WordsState) (t u : TurnState) → t.pass.table ≡ words → u.pass.table ≡ words
     → PointWell words.config.pages (still_words u.pass) (words_below (still_words t.pass) words.config.pages)
@@ -31,9 +25,8 @@ well_on : (words : WordsState) (t u : TurnState) → t.pass.table ≡ words → 
     (words_below (still_words t.pass) t.pass.table.config.pages)
 well_on words t u before behind well =
     subst (λ (x : WordsState). PointWell u.pass.table.config.pages (still_words u.pass)
-    (words_below (still_words t.pass) x.config.pages)) (sym before)
-    (subst (λ (x : WordsState). PointWell x.config.pages (still_words u.pass)
-    (words_below (still_words t.pass) words.config.pages)) (sym behind) well)
+    (words_below (still_words t.pass) x.config.pages)) (sym before) (subst (λ (x : WordsState). PointWell x.config.pages
+    (still_words u.pass) (words_below (still_words t.pass) words.config.pages)) (sym behind) well)
 
 -- the sweep, in the stop
 in_stop : (g : _) (c : After-is_in_order-3 g)
@@ -51,7 +44,8 @@ in_stop g c =
       early = c.is_in_order-2.ensures.history;
       history = c.is_in_order-3.ensures.history;
       on = swept_on words before sweep.ensures.on;
-      closed = closed_on words sweep.new.stop behind sweep.ensures.closed;
+      closed = subst (λ (x : WordsState). CellsAreClosed x.config (still_words sweep.new.stop.pass)) (sym behind)
+          sweep.ensures.closed;
       well = well_on words t sweep.new.stop before behind sweep.ensures.well;
     }
 
@@ -71,6 +65,5 @@ pub returns-clause-sweeps : goal.returns-clause-sweeps
 returns-clause-sweeps g c =
     let t = c.want_and_wait.new.stop in
     sweeps (in_stop g (goal.at.returns-clause-sweeps g c).After-is_in_order-3) c.sweep_in_stop-looks.result
-    (c.sweep_in_stop-looks.ensures.looks
-    ∙ sym (ap (λ (x : WordsState). length (words_below (still_words t.pass) x.config.pages))
-    (c.want_and_wait.ensures.table ∙ c.requires.one_table)))
+    (c.sweep_in_stop-looks.ensures.looks ∙ sym (ap (λ (x : WordsState). length
+    (words_below (still_words t.pass) x.config.pages)) (c.want_and_wait.ensures.table ∙ c.requires.one_table)))

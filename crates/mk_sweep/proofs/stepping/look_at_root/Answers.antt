@@ -12,11 +12,9 @@ look-requires-clause-enabled c =
 pub returns-clause-on : goal.returns-clause-on
 returns-clause-on c =
     on_root c.args.stop.now c.look.new.self c.requires.sweeping
-    (c.is_in_order.ensures.turn.holds, c.is_in_order.ensures.gates) c.args.x
-    c.look.ensures.acts c.requires.root
+    (c.is_in_order.ensures.turn.holds, c.is_in_order.ensures.gates) c.args.x c.look.ensures.acts c.requires.root
 
 pub returns-clause-hand : goal.returns-clause-hand
 returns-clause-hand c =
-    root_in_hand c.requires.sweeping.wanted
-    (c.is_in_order.ensures.turn.holds, c.is_in_order.ensures.gates) c.args.x c.look.ensures.acts c.look.result
-    c.look.ensures.finds c.requires.root
+    root_in_hand c.requires.sweeping.wanted (c.is_in_order.ensures.turn.holds, c.is_in_order.ensures.gates) c.args.x
+    c.look.ensures.acts c.look.result c.look.ensures.finds c.requires.root

@@ -1,6 +1,6 @@
-use Rattle.mk_sweep.proofs.{Vocabulary.{IsScannedWord, WordsState, world_of}, SweepSteps.{on_word, word_in_hand}}
-use Rattle.mk_sweep.proofs.SweepSteps.{word_named}
+use Rattle.mk_sweep.proofs.Vocabulary.{IsScannedWord, WordsState, world_of}
 use Rattle.mk_laws.proofs.Vocabulary.{Word, refl, subst, sym}
+use Rattle.mk_sweep.proofs.SweepSteps.{on_word, word_in_hand, word_named}
 use Rattle.mk_tracing.proofs.{MaySteps.may_look, Stilled.look_finds}
 use Rattle.mk_sweep.proofs.stepping.look_at_word.Goals as goal
 
@@ -11,9 +11,8 @@ look-requires-clause-enabled c =
     subst (λ (t : WordsState). IsScannedWord t.config (world_of p).allocations c.args.word)
     (sym c.requires.one_table) c.requires.scanned in
     may_look p c.requires.sweeping.wanted (c.is_in_order.ensures.turn.holds, c.is_in_order.ensures.gates)
-    (Word.Heap c.args.word)
-    (word_named p p c.requires.sweeping (c.is_in_order.ensures.turn.holds, c.is_in_order.ensures.gates)
-    c.is_in_order.ensures.history c.args.word scanned)
+    (Word.Heap c.args.word) (word_named p p c.requires.sweeping
+    (c.is_in_order.ensures.turn.holds, c.is_in_order.ensures.gates) c.is_in_order.ensures.history c.args.word scanned)
 
 pub returns-clause-on : goal.returns-clause-on
 returns-clause-on c =

@@ -23,9 +23,8 @@ sweep_if_used-looks-requires-clause-scanned c used i lt =
     subst (λ k. IsScannedWord p.table.config (world_of p).allocations (64 * c.args.page + c.loop-index.index * k + i))
     size word in
     word_alike c.args.words.now.config (world_of p) (world_of c.loop-index.stop.pass)
-    (sym c.loop-index.invariant.sweeps.on.traces.untouched)
-    (64 * c.args.page + c.loop-index.index * c.words_under-size.result + i)
-    (subst (λ (t : WordsState). IsScannedWord t.config (world_of p).allocations
+    (sym c.loop-index.invariant.sweeps.on.traces.untouched) (64 * c.args.page + c.loop-index.index
+    * c.words_under-size.result + i) (subst (λ (t : WordsState). IsScannedWord t.config (world_of p).allocations
     (64 * c.args.page + c.loop-index.index * c.words_under-size.result + i)) c.requires.one_table sized)
 
 pub loop-index-preserved : goal.loop-index-preserved
@@ -57,11 +56,10 @@ returns-clause-sweeps c =
     let end = c.loop-index-test.false in
     let at : c.loop-index.index ≡ c.cells_under-index-end.result = let most = c.loop-index.auto.index-end in omega
     arith in
-    same_words (ap (λ k. words_of_cells c.args.page c.words_under-size.result c.args.used k) at
-    ∙ words_of_scanned (still_words c.args.stop.now.pass) c.args.page c.args.header c.args.used
-    c.words_under-size.result c.cells_under-index-end.result c.requires.header c.requires.used
-    c.words_under-size.ensures.exact c.cells_under-index-end.ensures.exact c.requires.scanned)
-    c.loop-index.invariant.sweeps
+    same_words (ap (λ k. words_of_cells c.args.page c.words_under-size.result c.args.used k) at ∙ words_of_scanned
+    (still_words c.args.stop.now.pass) c.args.page c.args.header c.args.used c.words_under-size.result
+    c.cells_under-index-end.result c.requires.header c.requires.used c.words_under-size.ensures.exact
+    c.cells_under-index-end.ensures.exact c.requires.scanned) c.loop-index.invariant.sweeps
 
 pub returns-clause-looks : goal.returns-clause-looks
 returns-clause-looks c = grind (arith, words_of_scanned)

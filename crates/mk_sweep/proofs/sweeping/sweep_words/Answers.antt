@@ -9,9 +9,8 @@ loop-i-init c = no_words c.requires.sweeping
 
 pub look_at_word-value-requires-clause-scanned : goal.look_at_word-value-requires-clause-scanned
 look_at_word-value-requires-clause-scanned c =
-    word_alike c.args.words.now.config (world_of c.args.stop.now.pass) (world_of c.loop-i.stop.pass)
-    (sym c.loop-i.invariant.on.traces.untouched) (c.args.first + c.loop-i.i)
-    (c.requires.scanned c.loop-i.i (omega arith))
+    word_alike c.args.words.now.config (world_of c.args.stop.now.pass) (world_of c.loop-i.stop.pass) (sym
+    c.loop-i.invariant.on.traces.untouched) (c.args.first + c.loop-i.i) (c.requires.scanned c.loop-i.i (omega arith))
 
 pub loop-i-preserved : goal.loop-i-preserved
 loop-i-preserved c =

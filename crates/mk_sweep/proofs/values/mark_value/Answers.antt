@@ -1,8 +1,8 @@
 use Rattle.mk_sweep.proofs.Vocabulary.{SweepsOn, Words, WordsState, now_of, pointed_cell, still_words}
-use Rattle.mk_sweep.proofs.SweepSteps.{hand_kept, may_look_at_headers, quiet_then, sweeps_for_cell, words_for_cell}
-use Rattle.mk_sweep.proofs.values.mark_value.Goals.{After-cell_pointed, After-is_marked}
 use Rattle.mk_laws.proofs.Vocabulary.{Some, ap, sym, [], ◌∙◌, ◌≡◌}
 use Rattle.mk_core.proofs.PointedPages.{pointed_within}
+use Rattle.mk_sweep.proofs.SweepSteps.{hand_kept, may_look_at_headers, quiet_then, sweeps_for_cell, words_for_cell}
+use Rattle.mk_sweep.proofs.values.mark_value.Goals.{After-cell_pointed, After-is_marked}
 use Rattle.mk_tracing.proofs.MoreMarks.{marks_length, more_same, then_more, then_well}
 use Rattle.mk_sweep.proofs.values.mark_value.Goals as goal
 
@@ -47,9 +47,8 @@ unchanged c =
     c.is_marked.ensures.words ∙ words_for_cell c.cell_pointed.ensures.looks c.requires.sweeping
     (c.is_in_order.ensures.turn.holds, c.is_in_order.ensures.gates)
 
-points : (c : After-is_marked)
-    → pointed_cell c.args.words.now.config.pages (still_words c.args.stop.now.pass).pages c.args.value
-    ≡ Some c.in-Some.cell
+points : (c : After-is_marked) → pointed_cell c.args.words.now.config.pages
+    (still_words c.args.stop.now.pass).pages c.args.value ≡ Some c.in-Some.cell
 points c =
     ap (λ (w : Words). pointed_cell c.args.words.now.config.pages w.pages c.args.value)
     (sym (words_for_cell c.cell_pointed.ensures.looks c.requires.sweeping

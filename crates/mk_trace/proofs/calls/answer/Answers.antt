@@ -7,8 +7,7 @@ use Rattle.mk_trace.proofs.calls.answer.Goals as goal
 
 pub returns-in_ok-settle-clause-keeps : goal.returns-in_ok-settle-clause-keeps
 returns-in_ok-settle-clause-keeps g c =
-    keeps_behind _ _ c.object_to_free-freed.new.host.pass.seen c.call-told.new.host.pass.seen
-    c.look-now.new.host.pass.seen _ _ _ c.note.new.self _ c.object_to_free-freed.result
+    keeps_behind
     c.object_to_free-freed.ensures.looks (subst (λ (x : WordsState). IsHistory x.config
     c.object_to_free-freed.new.host.pass.seen) c.object_to_free-freed.ensures.home.table c.is_in_order.ensures.history)
     (subst (λ (x : WordsState). IsHistory x.config c.call-told.new.host.pass.seen) c.call-told.ensures.home.table

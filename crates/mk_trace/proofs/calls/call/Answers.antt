@@ -14,20 +14,19 @@ answer_to-answer-requires-clause-alone g c x2 within = grind (arith, made_alone)
 
 pub answer_to-answer-requires-clause-admitted : goal.answer_to-answer-requires-clause-admitted
 answer_to-answer-requires-clause-admitted g c κs within =
-    made_admits c.args.heap.now c.args.host.now c.requires.home c.caller_again-caller.result
+    made_admits c.requires.home c.caller_again-caller.result
     c.caller_again-caller.ensures.caller c.args.op c.requires.admitted c.is_idle.ensures.history
 
 pub returns-clause-home : goal.returns-clause-home
 returns-clause-home g c =
     joined_home c.caller_again-caller.new.self c.join_caller.new.self c.finish.result c.requires.home
     c.caller_again-caller.ensures.host c.join_caller.ensures.host (ap (λ (p : PassState). p.seats) c.finish.ensures.pass
-    ∙ ap (λ (p : PassState). p.seats) c.answer_to-answer.ensures.answers.is ∙ made_seats _ _ c.requires.home
+    ∙ ap (λ (p : PassState). p.seats) c.answer_to-answer.ensures.answers.is ∙ made_seats c.requires.home
     c.caller_again-caller.result c.caller_again-caller.ensures.caller) c.join_caller.ensures.overs
 
 -- The caller was made again, and is joined.
-joined : (g : _) (c : After-is_in_order g)
-    → Joined g.E.Engine.on c.args.host.now c.args.op c.answer_to-answer.result c.answer_to-answer.new.caller.pass
-    c.join_caller.new.self.pass.seen
+joined : (g : _) (c : After-is_in_order g) → Joined g.E.Engine.on c.args.host.now c.args.op c.answer_to-answer.result
+    c.answer_to-answer.new.caller.pass c.join_caller.new.self.pass.seen
 joined g c = record {
   answers =
       subst (λ (x : CallerState). Answers g.E.Engine.on x.pass c.args.op c.answer_to-answer.result
@@ -47,9 +46,8 @@ joined g c = record {
       ∙ ap (λ (x : HostState). x.pass.table) c.caller_again-caller.ensures.host) c.is_in_order.ensures.history;
 }
 
-did : (g : _) (c : After-is_in_order g)
-    → Does g.E.Engine.on c.args.heap.now.config c.args.host.now.pass.seen c.args.op c.answer_to-answer.result
-    c.join_caller.new.self.pass.seen
+did : (g : _) (c : After-is_in_order g) → Does g.E.Engine.on c.args.heap.now.config c.args.host.now.pass.seen c.args.op
+    c.answer_to-answer.result c.join_caller.new.self.pass.seen
 did g c = call_does c.args.heap.now c.requires.home (joined g c)
 
 pub returns-clause-calls : goal.returns-clause-calls
@@ -71,8 +69,7 @@ pub returns-clause-flags : goal.returns-clause-flags
 returns-clause-flags g c = (did g (goal.at.returns-clause-flags g c).After-is_in_order).flags
 
 pub returns-clause-exact : goal.returns-clause-exact
-returns-clause-exact g c = λ off unswept.
-    subst (λ (x : WordsState). StayExact x.config c.args.host.now.pass.seen c.join_caller.new.self.pass.seen)
-    c.requires.home.table (call_stays_exact (joined g (goal.at.returns-clause-exact g c).After-is_in_order)
-    (subst (λ (x : CallerState). SweepsNothing x.pass c.answer_to-answer.new.caller.pass)
+returns-clause-exact g c = λ off unswept. subst (λ (x : WordsState). StayExact x.config c.args.host.now.pass.seen
+    c.join_caller.new.self.pass.seen) c.requires.home.table (call_stays_exact (joined g (goal.at.returns-clause-exact g
+    c).After-is_in_order) (subst (λ (x : CallerState). SweepsNothing x.pass c.answer_to-answer.new.caller.pass)
     c.caller_again-caller.ensures.caller (c.answer_to-answer.ensures.reached unswept)) off)

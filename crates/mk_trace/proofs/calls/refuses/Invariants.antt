@@ -1,6 +1,6 @@
 use Rattle.mk_trace.proofs.Vocabulary.{CallerIsHome, IsBetweenCycles, Keeps, StayExact, ends, most_held}
-use Rattle.mk_trace.proofs.LaterOps.{AreCalled}
 use Rattle.mk_laws.proofs.Vocabulary.{◌+◌, ◌≡◌, ◌≤◌}
+use Rattle.mk_trace.proofs.LaterOps.{AreCalled}
 use Rattle.mk_trace.proofs.calls.refuses.Given as goal
 
 -- the first operation was called, and this many of those after it

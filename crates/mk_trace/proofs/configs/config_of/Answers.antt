@@ -9,8 +9,7 @@ slot_globals-requires c =
 
 pub returns-clause-limits : goal.returns-clause-limits
 returns-clause-limits c =
-    subst IsWithinLimits (config_is c.args.trace.now c.pages.result c.resident.result (length c.slots-slots.result.now)
-    c.slots-slots.result.now
-    c.in_ok-slot_types.field-0 c.in_ok-slot_globals.field-0 c.pages.ensures.pages c.resident.ensures.resident
-    c.slots-slots.ensures.slots c.in_ok-slot_types.ensures refl c.in_ok-slot_globals.ensures)
-    (is_playable c.args.trace.now c.slots-slots.ensures.of_some_text).heap
+    subst IsWithinLimits (config_is c.args.trace.now c.pages.result c.resident.result
+    (length c.slots-slots.result.now) c.slots-slots.result.now c.in_ok-slot_types.field-0 c.in_ok-slot_globals.field-0
+    c.pages.ensures.pages c.resident.ensures.resident c.slots-slots.ensures.slots c.in_ok-slot_types.ensures refl
+    c.in_ok-slot_globals.ensures) (is_playable c.args.trace.now c.slots-slots.ensures.of_some_text).heap

@@ -11,7 +11,6 @@ loop-slot-preserved c =
     let count = c.loop-slot.invariant.count in
     record {
       count = omega (arith, ap length added, length-append old (i ∷ []), count);
-      whole = ap (λ (l : List ℕ). l ++ rest) added ∙ append_assoc old (i ∷ []) rest
-          ∙ sym (ap (λ (l : List ℕ). old ++ l) (range_more i c.args.count c.loop-slot-test.true))
-          ∙ c.loop-slot.invariant.whole;
+      whole = ap (λ (l : List ℕ). l ++ rest) added ∙ append_assoc old (i ∷ []) rest ∙ sym (ap (λ (l : List ℕ). old ++ l)
+          (range_more i c.args.count c.loop-slot-test.true)) ∙ c.loop-slot.invariant.whole;
     }

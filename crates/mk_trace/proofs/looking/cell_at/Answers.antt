@@ -1,6 +1,6 @@
 use Rattle.mk_trace.proofs.Vocabulary.{WordsState, cell_at, header_at, is_heap_address, left}
-use Rattle.mk_trace.proofs.FoundCells.{cell_found, nothing_found}
 use Rattle.mk_laws.proofs.Vocabulary.{ℕ, ap, false, subst, ◌∙◌, ◌≡◌}
+use Rattle.mk_trace.proofs.FoundCells.{cell_found, nothing_found}
 use Rattle.mk_trace.proofs.looking.cell_at.Goals as goal
 
 pub returns-in_err-page-clause-finds : goal.returns-in_err-page-clause-finds

@@ -7,9 +7,8 @@ pub returns-clause-home : goal.returns-clause-home
 returns-clause-home g c =
     told_home c.tell-found.new.self c.requires.home c.tell-found.ensures.host c.tell-found.ensures.overs
 
-told : (g : _) (c : After-is_in_order-2 g)
-    → Reports c.args.heap.now.config c.args.host.now.pass.seen c.args.word c.tell-found.result
-    c.tell-found.new.self.pass.seen
+told : (g : _) (c : After-is_in_order-2 g) → Reports c.args.heap.now.config c.args.host.now.pass.seen c.args.word
+    c.tell-found.result c.tell-found.new.self.pass.seen
 told g c =
     reports c.requires.home c.is_in_order.ensures.seat c.tell-found.new.self c.tell-found.ensures.tells
     (subst (λ (w : WordsState). IsHistory w.config c.tell-found.new.self.pass.seen)

@@ -1,6 +1,6 @@
 use Rattle.mk_trace.proofs.Vocabulary.{CallerIsHome, CallerState, Config, HostState, WordsState}
-use Rattle.mk_trace.proofs.{HeldCalls.opened_empty, OneCaller.first_home, Played.{first_seats, joined_first}}
 use Rattle.mk_laws.proofs.Vocabulary.{ap, ◌∙◌}
+use Rattle.mk_trace.proofs.{HeldCalls.opened_empty, OneCaller.first_home, Played.first_seats, Played.joined_first}
 use Rattle.mk_trace.proofs.playing.opened.Goals as goal
 
 pub returns : goal.returns
@@ -11,9 +11,8 @@ returns c =
     let one = ap (λ (d : Config). d.callers) c.in_ok-heap.ensures.config ∙ c.requires.one in
     let seats = first_seats w h c.caller.result c.finish-caller.result c.in_ok-heap.ensures.host c.caller.ensures.caller
     c.finish-caller.ensures.pass in
-    let home : CallerIsHome w k =
-    first_home w h c.caller.new.self k c.finish-caller.result one c.in_ok-heap.ensures.host c.caller.ensures.host
-    c.join_caller.ensures.host seats c.join_caller.ensures.overs in
+    let home : CallerIsHome w k = first_home w h c.caller.new.self k c.finish-caller.result one
+    c.in_ok-heap.ensures.host c.caller.ensures.host c.join_caller.ensures.host seats c.join_caller.ensures.overs in
     record {
       config = c.in_ok-heap.ensures.config;
       home = home;

@@ -1,8 +1,8 @@
 use Rattle.mk_trace.proofs.Vocabulary.{AllTurnsAreExact, Config, quarantined_words, reserved_words}
-use Rattle.mk_trace.proofs.LedgerCalls.{ages_of, first_held, first_idle, first_keeps, most_of, peaks_by}
-use Rattle.mk_trace.proofs.{Played.{closed, refused_at}, ExactPlays.first_exact, FewEvents.none_ended}
-use Rattle.mk_trace.proofs.{HeldCalls.most_told, OneCaller.home_joined}
 use Rattle.mk_laws.proofs.Vocabulary.{ap, arith, length, subst, ◌∙◌}
+use Rattle.mk_trace.proofs.LedgerCalls.{ages_of, first_held, first_idle, first_keeps, most_of, peaks_by}
+use Rattle.mk_trace.proofs.Played.{closed, refused_at}
+use Rattle.mk_trace.proofs.{ExactPlays.first_exact, FewEvents.none_ended, HeldCalls.most_told, OneCaller.home_joined}
 use Rattle.mk_trace.proofs.playing.play_by.Goals as goal
 
 pub close-report-requires-clause-joined : goal.close-report-requires-clause-joined
@@ -12,9 +12,8 @@ played : goal.returns-clause-played
 played g c =
     let es = c.play_events.new.host.pass.seen in
     let at = c.in_ok-heap.ensures.config ∙ c.in_ok-config.ensures.config in
-    closed c.close-report.ensures.history (c.close-report.ensures.config ∙ at)
-    c.in_ok-refused.ensures.played c.close-report.ensures.whole (subst (λ (d : Config). AllTurnsAreExact d es) at
-    (c.in_ok-refused.ensures.exact
+    closed c.close-report.ensures.history (c.close-report.ensures.config ∙ at) c.in_ok-refused.ensures.played
+    c.close-report.ensures.whole (subst (λ (d : Config). AllTurnsAreExact d es) at (c.in_ok-refused.ensures.exact
     (first_exact c.in_ok-heap.heap.config c.in_ok-heap.host.pass.seen c.in_ok-heap.ensures.empty)))
 
 pub returns-clause-played : goal.returns-clause-played
@@ -48,9 +47,8 @@ play_events-requires-clause-held g c x2 within = grind (arith, first_held)
 pub play_events-requires-clause-keeps : goal.play_events-requires-clause-keeps
 play_events-requires-clause-keeps g c κs within =
     first_keeps c.in_ok-heap.heap.config c.in_ok-heap.host.pass.seen c.new-ledger.result.freed
-    c.in_ok-heap.ensures.empty
-    c.new-ledger.ensures.quarantined c.new-ledger.ensures.reserved c.new-ledger.ensures.objects
-    c.new-ledger.ensures.ages c.new-ledger.ensures.ends
+    c.in_ok-heap.ensures.empty c.new-ledger.ensures.quarantined c.new-ledger.ensures.reserved
+    c.new-ledger.ensures.objects c.new-ledger.ensures.ages c.new-ledger.ensures.ends
 
 pub play_events-requires-clause-none_ended : goal.play_events-requires-clause-none_ended
 play_events-requires-clause-none_ended g c κs within = none_ended c.in_ok-heap.host.pass.seen c.in_ok-heap.ensures.empty

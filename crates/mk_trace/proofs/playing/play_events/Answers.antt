@@ -16,7 +16,7 @@ here : (g : _) (c : After-is_in_order g)
 here g c =
     let events = c.events-events.result.now in
     let i = c.loop-event.event-index in
-    event_at c.args.trace.now events i (get_or events i (A 0)) (playable g c) c.events-events.ensures.events
+    event_at events i (get_or events i (A 0)) (playable g c) c.events-events.ensures.events
     c.loop-event-test.true (get_or_default events i (A 0) (get_or events i (A 0)) c.loop-event-test.true)
 
 before : (g : _) (c : After-is_in_order g) → IsHistory c.args.heap.now.config c.loop-event.host.pass.seen
@@ -40,7 +40,7 @@ loop-event-init g c = record {
 pub refuses-requires-clause-slot : goal.refuses-requires-clause-slot
 refuses-requires-clause-slot g c κs within =
     let x = (goal.at.refuses-requires-clause-slot g c).After-is_in_order in
-    slot_is_global c.args.trace.now _ (playable g x) (here g x)
+    slot_is_global _ (playable g x) (here g x)
 
 pub refuses-requires-clause-frees : goal.refuses-requires-clause-frees
 refuses-requires-clause-frees g c κs within =
@@ -71,10 +71,9 @@ loop-event-preserved g c =
       exact = λ before'. c.in_ok-is_refused.ensures.exact (c.loop-event.invariant.exact before');
       held = c.in_ok-is_refused.ensures.held;
       played =
-          next_played events i c.with_refusal-refused.result
-          c.requires.config (playable g x) (before g x) c.loop-event-test.true
-          (get_or_default events i (A 0) event c.loop-event-test.true) (here g x)
-          c.loop-event.invariant.played c.in_ok-is_refused.ensures.plays
+          next_played events i c.with_refusal-refused.result c.requires.config (playable g x)
+          (before g x) c.loop-event-test.true (get_or_default events i (A 0) event c.loop-event-test.true)
+          (here g x) c.loop-event.invariant.played c.in_ok-is_refused.ensures.plays
           (one_counted is_refused c.loop-event.refused c.with_refusal-refused.result c.with_refusal-refused.ensures);
       ends =
           (let so_far = c.loop-event.invariant.ends in

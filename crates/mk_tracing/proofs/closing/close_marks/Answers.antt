@@ -1,5 +1,5 @@
 use Rattle.mk_laws.proofs.Vocabulary.{arith, ◌≡◌}
-use Rattle.mk_tracing.proofs.{Closes.{marks_closed_now, may_close_now}, Wants.wanted_once_then}
+use Rattle.mk_tracing.proofs.{Closes.marks_closed_now, Closes.may_close_now, Wants.wanted_once_then}
 use Rattle.mk_tracing.specs.Grays.{TracesReached}
 use Rattle.mk_tracing.proofs.closing.close_marks.Goals as goal
 

@@ -8,11 +8,10 @@ returns-clause-on c = on_then (on_then c.clean_dirty.ensures.on c.mark_roots.ens
 pub returns-clause-clean : goal.returns-clause-clean
 returns-clause-clean c p lt =
     ap (λ (w : Words). slice_index w.dirty p) c.trace.ensures.more.is
-    ∙ ap (λ (w : Words). slice_index w.dirty p) c.mark_roots.ensures.marks.more.is
-    ∙ c.clean_dirty.ensures.clean p lt
+    ∙ ap (λ (w : Words). slice_index w.dirty p) c.mark_roots.ensures.marks.more.is ∙ c.clean_dirty.ensures.clean p lt
 
 pub returns-clause-roots : goal.returns-clause-roots
-returns-clause-roots c = roots_more _ _ _ c.trace.ensures.more c.mark_roots.ensures.roots
+returns-clause-roots c = roots_more c.trace.ensures.more c.mark_roots.ensures.roots
 
 pub trace-requires-clause-noted : goal.trace-requires-clause-noted
 trace-requires-clause-noted c = c.mark_roots.ensures.marks.noted (c.forget.ensures.none _ _)

@@ -1,5 +1,5 @@
 use Rattle.mk_laws.proofs.Vocabulary.{arith, slice_index, ◌≡◌}
-use Rattle.mk_tracing.proofs.{Clearing.pages_then, FreePages.clean_past, StopSteps.{on_from, on_then}}
+use Rattle.mk_tracing.proofs.{Clearing.pages_then, FreePages.clean_past, StopSteps.on_from, StopSteps.on_then}
 use Rattle.mk_tracing.specs.Stops.{still_words}
 use Rattle.mk_tracing.proofs.dirty.clean_dirty.Goals as goal
 

@@ -1,30 +1,30 @@
 use Rattle.mk_laws.proofs.Vocabulary.{sym, ◌∙◌}
-use Rattle.mk_tracing.proofs.{Clearing.{dirt_cleared, dirt_stays, same_dirt}, StopSteps.on_then}
+use Rattle.mk_tracing.proofs.{Clearing.dirt_cleared, Clearing.dirt_stays, Clearing.same_dirt, StopSteps.on_then}
 use Rattle.mk_tracing.proofs.dirty.clean_if_dirty.Goals as goal
 
 pub undirty_page-requires-clause-own : goal.undirty_page-requires-clause-own
 undirty_page-requires-clause-own c =
     let u = c.unblack_if_dirty.ensures in
-    u.unscanned.own (λ z. u.dirty c.if-unblack_if_dirty.true (sym (same_dirt _ _ c.args.page u.fewer) ∙ z))
+    u.unscanned.own (λ z. u.dirty c.if-unblack_if_dirty.true (sym (same_dirt c.args.page u.fewer) ∙ z))
 
 pub undirty_page-requires-clause-head : goal.undirty_page-requires-clause-head
 undirty_page-requires-clause-head c =
     let u = c.unblack_if_dirty.ensures in
-    u.unscanned.head (λ z. u.dirty c.if-unblack_if_dirty.true (sym (same_dirt _ _ c.args.page u.fewer) ∙ z))
+    u.unscanned.head (λ z. u.dirty c.if-unblack_if_dirty.true (sym (same_dirt c.args.page u.fewer) ∙ z))
 
 pub returns-then-unblack_if_dirty-clause-on : goal.returns-then-unblack_if_dirty-clause-on
 returns-then-unblack_if_dirty-clause-on c = on_then c.unblack_if_dirty.ensures.on c.undirty_page.ensures.on
 
 pub returns-then-unblack_if_dirty-clause-fewer : goal.returns-then-unblack_if_dirty-clause-fewer
 returns-then-unblack_if_dirty-clause-fewer c p z =
-    dirt_stays _ _ c.args.page c.undirty_page.ensures.words p (same_dirt _ _ p c.unblack_if_dirty.ensures.fewer ∙ z)
+    dirt_stays _ _ c.args.page c.undirty_page.ensures.words p (same_dirt p c.unblack_if_dirty.ensures.fewer ∙ z)
 
 pub returns-then-unblack_if_dirty-clause-clean : goal.returns-then-unblack_if_dirty-clause-clean
 returns-then-unblack_if_dirty-clause-clean c = dirt_cleared _ _ c.args.page c.undirty_page.ensures.words
 
 pub returns-else-unblack_if_dirty-clause-fewer : goal.returns-else-unblack_if_dirty-clause-fewer
-returns-else-unblack_if_dirty-clause-fewer c p z = same_dirt _ _ p c.unblack_if_dirty.ensures.fewer ∙ z
+returns-else-unblack_if_dirty-clause-fewer c p z = same_dirt p c.unblack_if_dirty.ensures.fewer ∙ z
 
 pub returns-else-unblack_if_dirty-clause-clean : goal.returns-else-unblack_if_dirty-clause-clean
 returns-else-unblack_if_dirty-clause-clean c =
-    same_dirt _ _ _ c.unblack_if_dirty.ensures.fewer ∙ c.unblack_if_dirty.ensures.clean c.if-unblack_if_dirty.false
+    same_dirt _ c.unblack_if_dirty.ensures.fewer ∙ c.unblack_if_dirty.ensures.clean c.if-unblack_if_dirty.false

@@ -25,8 +25,7 @@ head c w same =
     ∙ ap (λ (y : Words). head_page y c.args.page) look.looks.words
     ∙ ap (λ h. head_page_under (header_of h) c.args.page) (sym look.found) ∙ sym c.head_page_under-head.ensures.exact
 
-is_dirty : (c : After-look_at-header)
-    → slice_index (still_words c.look_at-header.new.stop.pass).dirty c.args.page ≢ 0
+is_dirty : (c : After-look_at-header) → slice_index (still_words c.look_at-header.new.stop.pass).dirty c.args.page ≢ 0
 is_dirty c z =
     let same = c.look_at-header.ensures.looks.words ∙ c.look_at.ensures.looks.words in
     c.if-look_at-eq0.false
@@ -52,7 +51,6 @@ unblack_page-requires-clause-part c =
 pub unblack_page-requires-2-clause-part : goal.unblack_page-requires-2-clause-part
 unblack_page-requires-2-clause-part c =
     let q = c.look_at-header.new.stop.pass in
-    part_kept _ _ c.head_page_under-head.result (blacks_cleared _ _ c.args.page c.unblack_page.ensures.words)
-    (head_part q c.args.page c.head_page_under-head.result
-    (is_dirty (goal.at.unblack_page-requires-2-clause-part c).After-look_at-header)
+    part_kept (blacks_cleared _ _ c.args.page c.unblack_page.ensures.words) (head_part q c.args.page
+    c.head_page_under-head.result (is_dirty (goal.at.unblack_page-requires-2-clause-part c).After-look_at-header)
     (head (goal.at.unblack_page-requires-2-clause-part c).After-head_page_under-head (still_words q) refl))

@@ -1,5 +1,5 @@
 use Rattle.mk_laws.proofs.Vocabulary.{ℕ, ◌-◌, ◌<◌, ◌≤◌}
-use Rattle.mk_tracing.specs.{Grays.{HasNoGray, LooksOn}, Stops.still_words}
+use Rattle.mk_tracing.specs.{Grays.HasNoGray, Grays.LooksOn, Stops.still_words}
 use Rattle.mk_tracing.proofs.grays.gray_between.Given as goal
 
 abbrev pub invariant-loop-page : goal.invariant-loop-page

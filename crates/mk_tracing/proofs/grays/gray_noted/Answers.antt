@@ -1,4 +1,4 @@
-use Rattle.mk_tracing.proofs.{NotedCells.one_same, StopSteps.{looks_from, looks_then}}
+use Rattle.mk_tracing.proofs.{NotedCells.one_same, StopSteps.looks_from, StopSteps.looks_then}
 use Rattle.mk_tracing.proofs.grays.gray_noted.Goals as goal
 
 pub loop-noted-init : goal.loop-noted-init

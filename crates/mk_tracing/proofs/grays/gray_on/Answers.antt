@@ -1,5 +1,5 @@
 use Rattle.mk_laws.proofs.Vocabulary.{Words, ap, slice_index, sym, ◌∙◌}
-use Rattle.mk_tracing.{proofs.{FirstBits.no_gray_there, StopSteps.looks_then}, specs.Stops.{still_words}}
+use Rattle.mk_tracing.{proofs.FirstBits.no_gray_there, proofs.StopSteps.looks_then, specs.Stops.still_words}
 use Rattle.mk_tracing.proofs.grays.gray_on.Goals as goal
 
 pub returns-then-without-eq0-clause-looks : goal.returns-then-without-eq0-clause-looks

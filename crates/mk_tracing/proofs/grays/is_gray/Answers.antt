@@ -1,5 +1,5 @@
 use Rattle.mk_laws.proofs.Vocabulary.{Bool, false, not, refl, sym, true, ◌∙◌, ◌≡◌}
-use Rattle.mk_tracing.{proofs.NotedCells.{noted_gray}, specs.Stops.{still_words}}
+use Rattle.mk_tracing.proofs.NotedCells.{noted_gray}
 use Rattle.mk_tracing.proofs.grays.is_gray.Goals as goal
 
 isnt : (b : Bool) → not b ≡ true → b ≡ false
@@ -8,5 +8,5 @@ isnt false e = refl
 
 pub returns-clause-gray : goal.returns-clause-gray
 returns-clause-gray c is =
-    noted_gray c.args.table.pages (still_words c.args.stop.now.pass) c.args.noted c.look_at.result
+    noted_gray c.look_at.result
     c.requires.noted c.look_at.ensures.found (sym c.has_cell.ensures ∙ isnt c.has_cell.result is)

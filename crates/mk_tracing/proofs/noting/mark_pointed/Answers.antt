@@ -1,8 +1,8 @@
 use Rattle.mk_laws.proofs.Vocabulary.{Words, arith, pointed_cell, subst, sym, ◌%◌, ◌-◌, ◌/◌, ◌∙◌, ◌≡◌}
 use Rattle.mk_geom.specs.Addresses.{cell_of_block}
 use Rattle.mk_tracing.proofs.PointedCells.{hand_points, pointed_here, points_on, well_marked, well_nowhere}
-use Rattle.mk_tracing.proofs.{ScannedWords.{looks_alone, marks_alone, notes_then}, FirstBits.if_told}
-use Rattle.mk_tracing.proofs.{NotedCells.noted_marked, noting.mark_pointed.Goals.After-in_block}
+use Rattle.mk_tracing.proofs.ScannedWords.{looks_alone, marks_alone, notes_then}
+use Rattle.mk_tracing.proofs.{FirstBits.if_told, NotedCells.noted_marked, noting.mark_pointed.Goals.After-in_block}
 use Rattle.mk_tracing.specs.{Grays.MarksMore, Stops.still_words}
 use Rattle.mk_tracing.proofs.noting.mark_pointed.Goals as goal
 
@@ -28,7 +28,7 @@ returns-in_default-clause-well c =
 pub mark_white-requires-clause-reached : goal.mark_white-requires-clause-reached
 mark_white-requires-clause-reached c =
     let look = c.look_at-header.ensures in
-    points_on c.in-Some.noted.cell look.looks look.hand
+    points_on look.looks look.hand
     (hand_points c.args.stop.now.pass c.args.table.pages c.args.value c.in-Some.noted.cell (grind arith) c.requires.hand
     (under (goal.at.mark_white-requires-clause-reached c).After-in_block ∙ c.in-Some.ensures.some))
 

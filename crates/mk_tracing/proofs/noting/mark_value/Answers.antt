@@ -1,4 +1,4 @@
-use Rattle.mk_tracing.{proofs.{MoreMarks.well_none, ScannedWords.marks_nothing}, specs.Stops.{still_words}}
+use Rattle.mk_tracing.{proofs.MoreMarks.well_none, proofs.ScannedWords.marks_nothing, specs.Stops.still_words}
 use Rattle.mk_turns.proofs.PointedCells.{outside_none}
 use Rattle.mk_tracing.proofs.noting.mark_value.Goals as goal
 

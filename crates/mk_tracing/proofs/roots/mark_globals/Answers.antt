@@ -1,5 +1,5 @@
 use Rattle.mk_laws.proofs.Vocabulary.{arith}
-use Rattle.mk_tracing.proofs.{RootMarks.groups_then, ScannedWords.{marks_nothing, notes_then}}
+use Rattle.mk_tracing.proofs.{RootMarks.groups_then, ScannedWords.marks_nothing, ScannedWords.notes_then}
 use Rattle.mk_tracing.proofs.roots.mark_globals.Goals as goal
 
 pub loop-group-init : goal.loop-group-init
@@ -11,7 +11,7 @@ loop-group-preserved c =
     let mark = c.mark_group.ensures in
     record {
       marks = notes_then before.marks mark.marks;
-      well = groups_then _ _ _ _ c.loop-group.group before.marks.more mark.marks.more before.well mark.well;
+      well = groups_then _ c.loop-group.group before.marks.more mark.marks.more before.well mark.well;
     }
 
 pub returns-clause-well : goal.returns-clause-well

@@ -1,6 +1,6 @@
 use Rattle.mk_laws.proofs.Vocabulary.{ℕ, arith, first_word, slice_index, subst, ◌*◌, ◌+◌, ◌-◌, ◌<◌, ◌≡◌}
-use Rattle.mk_tracing.proofs.{RootMarks.before_well, ScannedWords.{due_same, looks_alone, none_scanned, scans_then}}
-use Rattle.mk_tracing.specs.Stops.{still_words}
+use Rattle.mk_tracing.{proofs.RootMarks.before_well, proofs.ScannedWords.due_same, proofs.ScannedWords.looks_alone}
+use Rattle.mk_tracing.{proofs.ScannedWords.none_scanned, proofs.ScannedWords.scans_then, specs.Stops.still_words}
 use Rattle.mk_tracing.proofs.scanning.scan_group.Goals as goal
 
 pub are_before_heap-requires-clause-part : goal.are_before_heap-requires-clause-part

@@ -4,5 +4,4 @@ use Rattle.mk_tracing.proofs.stepping.blacken_cell.Goals as goal
 pub returns-clause-on : goal.returns-clause-on
 returns-clause-on c =
     on_black c.requires.may.wanted
-    (c.is_in_order.ensures.turn.holds, c.is_in_order.ensures.gates) c.is_in_order.ensures.own
-    c.args.cell.page c.bit.result c.black_among.ensures
+    (c.is_in_order.ensures.turn.holds, c.is_in_order.ensures.gates) c.is_in_order.ensures.own c.black_among.ensures

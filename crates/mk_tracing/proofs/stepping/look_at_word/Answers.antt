@@ -11,22 +11,22 @@ look_on_page-requires-clause-page c = grind (arith, page_of_word)
 
 pub returns-clause-looks : goal.returns-clause-looks
 returns-clause-looks c =
-    looks_word c.requires.may.wanted
-    (c.is_in_order.ensures.turn.holds, c.is_in_order.ensures.gates) c.is_in_order.ensures.own
-    _ c.look_on_page.ensures.acts
-    (gray_word c.args.stop.now.pass c.is_in_order.ensures.history c.args.table.pages (grind arith) c.args.gray c.args.i
-    c.requires.due c.requires.within)
+    looks_word c.requires.may.wanted (c.is_in_order.ensures.turn.holds, c.is_in_order.ensures.gates)
+    c.is_in_order.ensures.own c.look_on_page.ensures.acts (gray_word c.args.stop.now.pass c.is_in_order.ensures.history
+    c.args.table.pages (grind arith) c.args.gray c.args.i c.requires.due c.requires.within)
 
 pub returns-clause-found : goal.returns-clause-found
 returns-clause-found c =
     word_found c.args.stop.now.pass c.is_in_order.ensures.history c.args.table.pages (grind arith) c.args.gray c.args.i
-    c.requires.due c.requires.within
-    c.requires.may.wanted (c.is_in_order.ensures.turn.holds, c.is_in_order.ensures.gates)
-    c.look_on_page.ensures.acts c.look_on_page.ensures.finds
+    c.requires.due c.requires.within c.requires.may.wanted (
+      c.is_in_order.ensures.turn.holds,
+      c.is_in_order.ensures.gates,
+    ) c.look_on_page.ensures.acts c.look_on_page.ensures.finds
 
 pub returns-clause-hand : goal.returns-clause-hand
 returns-clause-hand c =
     word_hand c.args.stop.now.pass c.is_in_order.ensures.history c.args.table.pages (grind arith) c.args.gray c.args.i
-    c.requires.due c.requires.within
-    c.requires.may.wanted (c.is_in_order.ensures.turn.holds, c.is_in_order.ensures.gates)
-    c.look_on_page.ensures.acts c.look_on_page.ensures.finds
+    c.requires.due c.requires.within c.requires.may.wanted (
+      c.is_in_order.ensures.turn.holds,
+      c.is_in_order.ensures.gates,
+    ) c.look_on_page.ensures.acts c.look_on_page.ensures.finds

@@ -3,17 +3,16 @@ use Rattle.mk_tracing.proofs.{StopSteps.{on_mark, reached_in_use, reached_within
 use Rattle.mk_tracing.proofs.stepping.mark_cell.Goals as goal
 
 pub bit-requires : goal.bit-requires
-bit-requires c = (reached_within _ c.args.cell c.requires.reached).1
+bit-requires c = (reached_within c.requires.reached).1
 
 pub mark_in_use-requires-clause-in_use : goal.mark_in_use-requires-clause-in_use
 mark_in_use-requires-clause-in_use c =
-    reached_in_use _ c.args.cell c.is_in_order.ensures.history c.requires.may.wanted c.requires.reached
+    reached_in_use c.is_in_order.ensures.history c.requires.may.wanted c.requires.reached
 
 pub mark_in_use-requires-clause-enabled : goal.mark_in_use-requires-clause-enabled
 mark_in_use-requires-clause-enabled c = grind (arith, may_mark_cell, reached_within)
 
 pub returns-clause-on : goal.returns-clause-on
 returns-clause-on c =
-    on_mark c.requires.may.wanted
-    (c.is_in_order.ensures.turn.holds, c.is_in_order.ensures.gates) c.is_in_order.ensures.own
-    c.args.cell (rw c.bit.ensures at c.mark_in_use.ensures) c.requires.reached
+    on_mark c.requires.may.wanted (c.is_in_order.ensures.turn.holds, c.is_in_order.ensures.gates)
+    c.is_in_order.ensures.own (rw c.bit.ensures at c.mark_in_use.ensures) c.requires.reached

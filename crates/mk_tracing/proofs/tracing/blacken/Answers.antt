@@ -1,6 +1,6 @@
 use Rattle.mk_laws.proofs.Vocabulary.{arith}
-use Rattle.mk_tracing.proofs.{Blackened.{blackens_one, cells_few}, NotedCells.{last_black, noted_black}}
-use Rattle.mk_tracing.proofs.StopSteps.{on_then}
+use Rattle.mk_tracing.proofs.Blackened.{blackens_one, cells_few}
+use Rattle.mk_tracing.proofs.{NotedCells.last_black, NotedCells.noted_black, StopSteps.on_then}
 use Rattle.mk_tracing.proofs.tracing.blacken.Goals as goal
 
 pub blacken_cell-requires-clause-index : goal.blacken_cell-requires-clause-index

@@ -1,8 +1,8 @@
 use Rattle.mk_laws.proofs.Vocabulary.{Bool, Cell, Words, ℕ, arith, cell_words, false, has_no_pointers, header_in}
 use Rattle.mk_laws.proofs.Vocabulary.{if◌then◌else◌, inl, inr, refl, subst, sym, true, ◌<◌, ◌∙◌, ◌≡◌, ◌⊎◌}
 use Rattle.mk_core.specs.Cells.{words_point_well}
-use Rattle.mk_tracing.proofs.{Blackened.{gray_turns, scan_done}, MoreMarks.more_same, ScannedWords.marks_nothing}
-use Rattle.mk_tracing.specs.{Grays.words_scanned, Stops.still_words}
+use Rattle.mk_tracing.{proofs.Blackened.gray_turns, proofs.Blackened.scan_done, proofs.MoreMarks.more_same}
+use Rattle.mk_tracing.{proofs.ScannedWords.marks_nothing, specs.Grays.words_scanned, specs.Stops.still_words}
 use Rattle.mk_tracing.proofs.tracing.scan_if_due.Goals as goal
 
 -- Where no word of a cell is scanned, it has no pointers, or no words.
@@ -14,7 +14,7 @@ none_scanned pages w cell none = by (has_no_pointers (header_in w cell.page)) re
         → (has_no_pointers (header_in w cell.page) ≡ true) ⊎ (words_point_well pages w cell ≡ true)
     by true is e = inl is
     by false is e =
-        inr (scan_done pages w w cell (more_same w w refl)
+        inr (scan_done pages cell (more_same w w refl)
         (λ j lt. absurd (let bad : j < 0 = subst (λ n. j < n) e lt in omega arith)))
 
 pub returns-then-gray-eq0-clause-marks : goal.returns-then-gray-eq0-clause-marks
@@ -23,9 +23,8 @@ returns-then-gray-eq0-clause-marks c = marks_nothing c.requires.may.wanted
 pub returns-then-gray-eq0-clause-turns : goal.returns-then-gray-eq0-clause-turns
 returns-then-gray-eq0-clause-turns c =
     let w = still_words c.args.stop.now.pass in
-    gray_turns c.args.table.pages w w c.args.gray.cell c.requires.gray.gray (more_same w w refl)
+    gray_turns c.requires.gray.gray (more_same w w refl)
     (none_scanned c.args.table.pages w c.args.gray.cell (sym c.requires.gray.words ∙ c.if-gray-eq0.true))
 
 pub returns-clause-turns : goal.returns-clause-turns
-returns-clause-turns c =
-    gray_turns _ _ _ c.args.gray.cell c.requires.gray.gray c.scan.ensures.marks.more (inr c.scan.ensures.well)
+returns-clause-turns c = gray_turns c.requires.gray.gray c.scan.ensures.marks.more (inr c.scan.ensures.well)

@@ -15,9 +15,8 @@ pub loop-gray-smaller : goal.loop-gray-smaller
 loop-gray-smaller c =
     let p = c.loop-gray.stop.pass in
     let sized : c.args.table.pages ≡ p.table.config.pages = grind arith in
-    one_fewer_white c.args.table.pages _ _ _ c.in-Some.gray.cell c.in-Some.ensures.gray.gray
-    (sized ∙ sym (histories_keep_lengths p.table.config p.seen).blacks) c.next_gray.ensures.looks.words
-    c.blacken-last.ensures.one
+    one_fewer_white c.in-Some.ensures.gray.gray (sized ∙ sym
+    (histories_keep_lengths p.table.config p.seen).blacks) c.next_gray.ensures.looks.words c.blacken-last.ensures.one
 
 pub loop-gray-preserved : goal.loop-gray-preserved
 loop-gray-preserved c =
@@ -26,7 +25,7 @@ loop-gray-preserved c =
     let black = c.blacken-last.ensures in
     record {
       on = on_then (on_then c.loop-gray.invariant.on looks.on) black.on;
-      more = colours_then w _ _ c.in-Some.gray.cell
+      more = colours_then w
           (subst (λ (y : Words). ColoursMore w y) (sym looks.words) c.loop-gray.invariant.more) black.one;
       last = black.last;
       noted = black.noted c.next_gray.ensures.noted;

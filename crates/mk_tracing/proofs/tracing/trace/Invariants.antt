@@ -1,6 +1,6 @@
 use Rattle.std.proofs.Common.{IfSome}
 use Rattle.mk_tracing.proofs.Blackened.{white_cells}
-use Rattle.mk_tracing.specs.{Grays.{ColoursMore, MarksOn}, Noted.{AreNoted, IsNoted}, Stops.still_words}
+use Rattle.mk_tracing.specs.{Grays.ColoursMore, Grays.MarksOn, Noted.AreNoted, Noted.IsNoted, Stops.still_words}
 use Rattle.mk_tracing.proofs.tracing.trace.Given as goal
 
 abbrev pub invariant-loop-gray : goal.invariant-loop-gray

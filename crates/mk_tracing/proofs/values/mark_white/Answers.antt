@@ -6,17 +6,16 @@ use Rattle.mk_tracing.proofs.values.mark_white.Goals as goal
 pub is_marked-requires-clause-page : goal.is_marked-requires-clause-page
 is_marked-requires-clause-page c =
     let sized : c.args.table.pages ≡ c.args.stop.now.pass.table.config.pages = grind arith in
-    rw sized (reached_within _ c.args.cell c.requires.reached).0
+    rw sized (reached_within c.requires.reached).0
 
 pub is_marked-requires-clause-index : goal.is_marked-requires-clause-index
-is_marked-requires-clause-index c = (reached_within _ c.args.cell c.requires.reached).1
+is_marked-requires-clause-index c = (reached_within c.requires.reached).1
 
 pub returns-then-is_marked-clause-more : goal.returns-then-is_marked-clause-more
 returns-then-is_marked-clause-more c = more_same _ _ c.is_marked.ensures.looks.words
 
 pub mark_cell-requires-clause-reached : goal.mark_cell-requires-clause-reached
-mark_cell-requires-clause-reached c =
-    points_on c.args.cell c.is_marked.ensures.looks c.is_marked.ensures.hand c.requires.reached
+mark_cell-requires-clause-reached c = points_on c.is_marked.ensures.looks c.is_marked.ensures.hand c.requires.reached
 
 pub returns-clause-on : goal.returns-clause-on
 returns-clause-on c = on_then c.is_marked.ensures.looks.on c.mark_cell.ensures.on
@@ -33,6 +32,6 @@ returns-clause-more c =
 
 pub returns-clause-marked : goal.returns-clause-marked
 returns-clause-marked c =
-    let within = reached_within _ c.args.cell c.requires.reached in
+    let within = reached_within c.requires.reached in
     marked_now _ _ c.args.cell (subst (λ n. c.args.cell.page < n) (sym (marks_length c.args.stop.now.pass)) within.0)
     within.1 (marked_from _ _ _ c.args.cell c.is_marked.ensures.looks.words c.mark_cell.ensures.words)

@@ -1,15 +1,9 @@
-use Rattle.std.proofs.Common.{ap, false, subst, sym, ◌∙◌, ◌≡◌}
-use Rattle.mk_geom.specs.Addresses.{cell_at, is_heap_address}
+use Rattle.std.proofs.Common.{ap, sym, ◌∙◌}
+use Rattle.mk_geom.specs.Addresses.{cell_at}
 use Rattle.mk_core.specs.Words.{header_at}
-use Rattle.mk_turns.proofs.PointedCells.{found_by_header, found_there, outside_none}
+use Rattle.mk_turns.proofs.PointedCells.{found_by_header, found_there}
 use Rattle.mk_words.specs.States.{now_of}
 use Rattle.mk_turns.proofs.pointing.cell_pointed.Goals as goal
-
-pub returns-in_err-page-clause-points : goal.returns-in_err-page-clause-points
-returns-in_err-page-clause-points g c =
-    c.from_residual.ensures
-    ∙ sym (outside_none c.args.words.now.config.pages (now_of c.args.turn.now.pass).words.pages c.args.value
-    (subst (λ n. is_heap_address n c.args.value ≡ false) c.pages.ensures c.in_err-page.ensures.outside))
 
 pub returns-clause-points : goal.returns-clause-points
 returns-clause-points g c =

@@ -1,6 +1,6 @@
 use Rattle.mk_why.proofs.Vocabulary.{view_by}
-use Rattle.mk_why.proofs.Lists.{cells_more, has_kept_at, kept_at, lists_cell, lists_nothing, lists_then}
 use Rattle.mk_laws.proofs.Vocabulary.{ℕ, arith, sym, ◌∙◌}
+use Rattle.mk_why.proofs.Lists.{cells_more, has_kept_at, kept_at, lists_cell, lists_nothing, lists_then}
 use Rattle.mk_why.proofs.listing.list_cells.Goals as goal
 
 pub loop-index-init : goal.loop-index-init
@@ -8,7 +8,7 @@ loop-index-init c = grind (arith, lists_nothing)
 
 pub list_cell-requires-clause-within : goal.list_cell-requires-clause-within
 list_cell-requires-clause-within c in_snapshot marked =
-    let x = kept_at c.args.stop.now.pass c.is_in_order.ensures.history c.requires.still c.args.words.now
+    let x = kept_at c.is_in_order.ensures.history c.requires.still c.args.words.now
     c.requires.one_table c.args.page c.args.header c.args.snapshot c.args.marks c.words_under-size.result
     c.requires.header c.requires.snapshot c.requires.marks c.words_under-size.ensures.exact c.loop-index.index
     (sym c.has_bit.ensures ∙ in_snapshot) (sym c.has_bit-in-loop-index.ensures ∙ marked) in
@@ -24,27 +24,24 @@ loop-index-preserved c =
     let s = c.list_cell.new.tables in
     let index : ℕ = c.loop-index.index in
     let one = lists_cell k v r s (record { page = c.args.page; index = c.loop-index.index }) c.words_under-size.result
-    c.has_bit.result c.has_bit-in-loop-index.result c.loop-index.invariant.on.of_kept
-    (c.loop-index.invariant.on.size ∙ c.requires.size)
-    (λ in_snapshot marked. kept_at c.args.stop.now.pass c.is_in_order.ensures.history c.requires.still
-    c.args.words.now c.requires.one_table c.args.page c.args.header c.args.snapshot c.args.marks
-    c.words_under-size.result c.requires.header c.requires.snapshot c.requires.marks
-    c.words_under-size.ensures.exact c.loop-index.index (sym c.has_bit.ensures ∙ in_snapshot)
-    (sym c.has_bit-in-loop-index.ensures ∙ marked))
-    c.list_cell.ensures.found c.list_cell.ensures.kept c.list_cell.ensures.outside c.list_cell.ensures.unmarked in
+    c.has_bit.result c.has_bit-in-loop-index.result c.loop-index.invariant.on.of_kept (c.loop-index.invariant.on.size
+    ∙ c.requires.size) (λ in_snapshot marked. kept_at c.is_in_order.ensures.history c.requires.still c.args.words.now
+    c.requires.one_table c.args.page c.args.header c.args.snapshot c.args.marks c.words_under-size.result
+    c.requires.header c.requires.snapshot c.requires.marks c.words_under-size.ensures.exact c.loop-index.index
+    (sym c.has_bit.ensures ∙ in_snapshot) (sym c.has_bit-in-loop-index.ensures ∙ marked)) c.list_cell.ensures.found
+    c.list_cell.ensures.kept c.list_cell.ensures.outside c.list_cell.ensures.unmarked in
     record {
       on = lists_then c.loop-index.invariant.on one.on;
-      listed = cells_more c.args.page c.words_under-size.result _ c.args.snapshot c.args.marks
-          c.loop-index.index c.has_bit.ensures c.has_bit-in-loop-index.ensures
-          (has_kept_at c.args.stop.now.pass c.is_in_order.ensures.history c.requires.still c.args.words.now
-          c.requires.one_table c.args.page c.args.header c.args.snapshot c.args.marks c.words_under-size.result
-          c.requires.header c.requires.snapshot c.requires.marks c.words_under-size.ensures.exact)
-          c.loop-index.invariant.listed one;
+      listed = cells_more c.args.page c.words_under-size.result _ c.args.snapshot c.args.marks c.loop-index.index
+          c.has_bit.ensures c.has_bit-in-loop-index.ensures
+          (has_kept_at c.is_in_order.ensures.history c.requires.still c.args.words.now c.requires.one_table c.args.page
+          c.args.header c.args.snapshot c.args.marks c.words_under-size.result c.requires.header c.requires.snapshot
+          c.requires.marks c.words_under-size.ensures.exact) c.loop-index.invariant.listed one;
     }
 
 pub returns-clause-listed : goal.returns-clause-listed
 returns-clause-listed c b kept at_page =
-    let x = has_kept_at c.args.stop.now.pass c.is_in_order.ensures.history c.requires.still c.args.words.now
+    let x = has_kept_at c.is_in_order.ensures.history c.requires.still c.args.words.now
     c.requires.one_table c.args.page c.args.header c.args.snapshot c.args.marks c.words_under-size.result
     c.requires.header c.requires.snapshot c.requires.marks c.words_under-size.ensures.exact b kept at_page in
     let low = x.known in

@@ -12,9 +12,7 @@ base c = queue_read c.args.tables.now c.args.place c.index-base.result.now c.ind
 low : (c : After-index-base) → c.index-base.result.now < length c.args.tables.now.found.items
 low c =
     let r = c.args.tables.now in
-    subst (λ n. n < length r.found.items) (sym (base c))
-    (queued_within c.args.words.now.config (view_by c.args.stop.now.pass) r c.args.place
-    (links_of r c.args.place + 1) c.requires.search c.requires.place)
+    subst (λ n. n < length r.found.items) (sym (base c)) (queued_within c.args.place c.requires.search c.requires.place)
 
 -- what was found there
 there : (c : In-Some) → c.index-base.result.now < length c.args.tables.now.found.items
@@ -34,8 +32,7 @@ scanned_size-size-requires-clause-base c =
     let r = c.args.tables.now in
     let v = view_by c.args.stop.now.pass in
     subst (λ n. IsFirstWord v n) (sym (base (goal.at.scanned_size-size-requires-clause-base c).After-index-base))
-    (queued_base c.args.words.now.config v r c.args.place (links_of r c.args.place + 1) c.requires.search
-    c.requires.place)
+    (queued_base c.args.place c.requires.search c.requires.place)
 
 pub search_words-requires-clause-scanned : goal.search_words-requires-clause-scanned
 search_words-requires-clause-scanned c =
@@ -59,9 +56,8 @@ pub search_words-requires-clause-shallow : goal.search_words-requires-clause-sha
 search_words-requires-clause-shallow c =
     let x = goal.at.search_words-requires-clause-shallow c in
     let r = c.args.tables.now in
-    one_more_fits c.args.words.now.config (view_by c.args.stop.now.pass) r c.args.place (links_of r c.args.place + 1)
-    c.requires.search c.requires.place c.index-base.result.now (base x.After-index-base) c.in-Some.found
-    (there x.In-Some (low x.After-index-base))
+    one_more_fits c.args.place c.requires.search c.requires.place c.index-base.result.now
+    (base x.After-index-base) c.in-Some.found (there x.In-Some (low x.After-index-base))
 
 pub returns-clause-on : goal.returns-clause-on
 returns-clause-on c =

@@ -26,12 +26,11 @@ loop-place-preserved c =
       limit = links_of r place + 1;
       search = behind;
       grows = grows_then x.grows c.search_from.ensures.on.grows;
-      near = near_next k v r s place x.limit known x.search behind c.search_from.ensures.on.grows;
-      done = done_more k v r s place x.limit known x.search behind c.search_from.ensures.on.grows x.done here;
+      near = near_next place known x.search behind c.search_from.ensures.on.grows;
+      done = done_more place known x.search behind c.search_from.ensures.on.grows x.done here;
     }
 
 pub returns-clause-done : goal.returns-clause-done
 returns-clause-done c =
     let x = c.loop-place.invariant in
-    all_done c.args.words.now.config (view_by c.args.stop.now.pass) c.loop-place.tables x.limit c.loop-place.place
-    x.search (let end = c.loop-place-test.false in omega arith) x.done
+    all_done c.loop-place.place x.search (let end = c.loop-place-test.false in omega arith) x.done

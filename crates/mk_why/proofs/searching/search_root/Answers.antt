@@ -1,6 +1,6 @@
 use Rattle.mk_why.proofs.Vocabulary.{IsNoted, IsWay, PointsIntoAllocation, Start, View, is_still_word, is_word}
-use Rattle.mk_why.{proofs.Vocabulary.{named_word, view_by, word_of_root, world_in}, proofs.Explored.{root_named}}
-use Rattle.mk_why.proofs.{Searches.{view_search, looks_search, part_noted}, Explored.{root_is_still, root_is_word}}
+use Rattle.mk_why.{proofs.Vocabulary.{named_word, view_by, word_of_root, world_in}, proofs.Searches.{view_search}}
+use Rattle.mk_why.proofs.{Explored.{root_is_still, root_is_word, root_named}, Searches.{looks_search, part_noted}}
 use Rattle.mk_laws.proofs.Vocabulary.{ap, refl, subst, sym, ◌∙◌, ◌≡◌}
 use Rattle.mk_why.proofs.searching.search_root.Goals as goal
 

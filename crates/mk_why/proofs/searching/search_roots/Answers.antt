@@ -1,7 +1,7 @@
-use Rattle.mk_why.proofs.{Vocabulary.{IsNoted, Root, view_by, word_of_root}, Explored.{numbered_root, root_at}}
-use Rattle.mk_why.proofs.Searches.{root_noted, searches_nothing, searches_then, view_search}
-use Rattle.mk_why.proofs.searching.search_roots.Goals.{After-root_numbered}
+use Rattle.mk_why.proofs.Vocabulary.{IsNoted, view_by, word_of_root}
 use Rattle.mk_laws.proofs.Vocabulary.{ap, arith, subst, sym, ◌∙◌, ◌≡◌}
+use Rattle.mk_why.proofs.Searches.{root_noted, searches_nothing, searches_then, view_search}
+use Rattle.mk_why.proofs.{Explored.numbered_root, Explored.root_at, searching.search_roots.Goals.After-root_numbered}
 use Rattle.mk_why.specs.{Chains.IsRoot, Searching.root_numbered}
 use Rattle.mk_why.proofs.searching.search_roots.Goals as goal
 

@@ -26,7 +26,7 @@ returns-in_default-clause-on c = looks (goal.at.returns-in_default-clause-on c).
 pub returns-in_default-clause-points : goal.returns-in_default-clause-points
 returns-in_default-clause-points c =
     let x = (goal.at.returns-in_default-clause-points c).After-cell_pointed in
-    none_at c.args.stop.now.pass c.is_in_order.ensures.history c.requires.still c.args.words.now
+    none_at c.is_in_order.ensures.history c.requires.still c.args.words.now
     c.requires.one_table c.args.value (here x None c.in_default.ensures.points)
 
 -- where the cell lies

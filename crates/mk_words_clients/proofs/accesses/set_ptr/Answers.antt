@@ -26,9 +26,8 @@ entered c = grind (arith, enters)
 own : (c : After-is_in_order-2) → c.reg_load-to.result ≡ register_of c.args.pass.now c.args.q
 own c = c.reg_load-to.ensures.own ∙ c.enter.ensures.registers c.args.q c.requires.to
 
-found : (c : After-is_in_order-2) → let o =
-    Op.SetPtr c.args.q c.args.i c.args.p in IsMidCall c.enter.new.self o (begun o)
-    → IsMidCall c.reg_load-to.new.self o (at_load o c.reg_load-to.result)
+found : (c : After-is_in_order-2) → let o = Op.SetPtr c.args.q c.args.i c.args.p in IsMidCall c.enter.new.self o
+    (begun o) → IsMidCall c.reg_load-to.new.self o (at_load o c.reg_load-to.result)
 found c at =
     let o : Op = Op.SetPtr c.args.q c.args.i c.args.p in
     let n : ℕ = c.reg_load-to.result in
@@ -36,9 +35,8 @@ found c at =
     let least = c.requires.points.least in
     let some : n ≢ 0 = λ z. omega arith in
     goes_on c.enter.new.self c.reg_load-to.new.self Step.Reg _ o (begun o) (at_load o n) at c.reg_load-to.ensures.goes
-    (ap (λ (f : Flight). (progress_reg f f.stage n).flight) at.call
-    ∙ ap (λ (b : Bool). (if b then refused (record (begun o) { q = n }) Answer.Null
-    else onward (record (begun o) { q = n }) None).flight) (ne_eqb n 0 some))
+    (ap (λ (f : Flight). (progress_reg f f.stage n).flight) at.call ∙ ap (λ (b : Bool). (if b then refused
+    (record (begun o) { q = n }) Answer.Null else onward (record (begun o) { q = n }) None).flight) (ne_eqb n 0 some))
 
 loaded : (c : After-is_in_order-3) → let o = Op.SetPtr c.args.q c.args.i c.args.p in
     IsMidCall c.reg_load-to.new.self o (at_load o c.reg_load-to.result)
@@ -61,16 +59,14 @@ probed c at =
     ∙ ap (λ (x : Bool). (if x then refused before Answer.Fault else onward before None).flight)
     (sym c.is_unmapped.ensures ∙ c.if-is_unmapped.false))
 
-written : (c : After-write) → let o = Op.SetPtr c.args.q c.args.i c.args.p in
-    let f = at_probe o c.reg_load-to.result c.reg_load-value.result in
-    IsMidCall c.probe-header.new.self o (record f { stage = Write })
+written : (c : After-write) → let o = Op.SetPtr c.args.q c.args.i c.args.p in let f = at_probe o c.reg_load-to.result
+    c.reg_load-value.result in IsMidCall c.probe-header.new.self o (record f { stage = Write })
     → IsMidCall c.write.new.self o (record f { stage = Dirty })
 written c at =
     let o : Op = Op.SetPtr c.args.q c.args.i c.args.p in
     let f : Flight = at_probe o c.reg_load-to.result c.reg_load-value.result in
-    goes_on c.probe-header.new.self c.write.new.self Step.Write _ o (record f { stage = Write })
-    (record f { stage = Dirty }) at c.write.ensures.goes
-    (ap (λ (f : Flight). (onward f (Some Answer.Done)).flight) at.call)
+    goes_on c.probe-header.new.self c.write.new.self Step.Write _ o (record f { stage = Write }) (record f
+    { stage = Dirty }) at c.write.ensures.goes (ap (λ (f : Flight). (onward f (Some Answer.Done)).flight) at.call)
 
 -- the word that it accesses is in the heap
 met : (c : After-is_in_order-4) (t : WordsState) → c.reg_load-to.result ≡ register_of c.args.pass.now c.args.q
@@ -111,9 +107,8 @@ write-requires-clause-enabled c =
     let x = goal.at.write-requires-clause-enabled c in
     let at = probed x.After-is_in_order-4
     (loaded x.After-is_in_order-3 (found x.After-is_in_order-2 (entered x.After-is_in_order))) in
-    next_may _ _ _ Step.Write at refl refl
-    (λ _. met x.After-is_in_order-4 c.probe-header.new.self.table (own x.After-is_in_order-2)
-    (probed_table x.After-is_in_order-4))
+    next_may _ _ _ Step.Write at refl refl (λ _. met x.After-is_in_order-4 c.probe-header.new.self.table
+    (own x.After-is_in_order-2) (probed_table x.After-is_in_order-4))
 
 pub write-requires-clause-admitted : goal.write-requires-clause-admitted
 write-requires-clause-admitted c =

@@ -5,5 +5,5 @@ use Rattle.mk_words_clients.proofs.calls.clear.Goals as goal
 pub reg_store-requires-clause-admitted : goal.reg_store-requires-clause-admitted
 reg_store-requires-clause-admitted c =
     let entered = c.in_ok-enter.ensures.goes in
-    own_step _ (Step.Enter (Op.Clear c.args.d)) c.enter.new.self Step.Reg (Op.Clear c.args.d) c.requires.admitted
+    own_step Step.Reg (Op.Clear c.args.d) c.requires.admitted
     entered.makes c.is_in_order-2.ensures.history (ap (λ (f : Flight). f.op) entered.call) (λ a. refl)

@@ -42,8 +42,7 @@ close-requires-clause-home c s exists =
           (elim (cases_Bool (is_same_seat (Marker 0) s)) [
             | inl same ↦ has_right less (Marker 0 ∷ []) s
                 (subst (λ (x : Seat). Has (Marker 0 ∷ []) x) (same_seat (Marker 0) s same) (has_first (Marker 0) []))
-            | inr neither ↦ has_left less (Marker 0 ∷ []) s
-                (without_keeps (Marker 0) (without_seat (Caller 0) first) s neither
-                (without_keeps (Caller 0) first s other all))
+            | inr neither ↦ has_left less (Marker 0 ∷ []) s (without_keeps (Marker 0)
+                (without_seat (Caller 0) first) s neither (without_keeps (Caller 0) first s other all))
           ])
     ])

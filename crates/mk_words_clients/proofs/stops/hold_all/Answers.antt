@@ -1,4 +1,4 @@
-use Rattle.mk_laws.proofs.Vocabulary.{Step, ℕ, arith, refl}
+use Rattle.mk_laws.proofs.Vocabulary.{ℕ, arith, refl}
 use Rattle.mk_words_clients.proofs.TurnFacts.{holds_none, holds_on, holds_one_more, settled, tidy_kept}
 use Rattle.mk_words_clients.proofs.stops.hold_all.Goals as goal
 
@@ -12,7 +12,7 @@ loop-caller-preserved c =
     let a = c.try_hold.ensures.acts in
     let lt = c.loop-caller-test.true in
     let few = c.callers.ensures in
-    holds_on (Step.Hold j) a refl inv (omega arith) (holds_one_more _ _ j inv.holds a c.in-Ok.ensures.held)
+    holds_on a refl inv (omega arith) (holds_one_more inv.holds a c.in-Ok.ensures.held)
 
 pub loop-caller-smaller : goal.loop-caller-smaller
 loop-caller-smaller c = grind arith
@@ -20,6 +20,4 @@ loop-caller-smaller c = grind arith
 pub returns-in-Err-clause-tidy : goal.returns-in-Err-clause-tidy
 returns-in-Err-clause-tidy c = λ t.
     let inv = c.loop-caller.invariant in
-    c.open_below.ensures.tidy
-    (tidy_kept c.loop-caller.turn.pass c.try_hold.new.self.pass (Step.Hold c.loop-caller.caller) c.try_hold.ensures.acts
-    inv.settled.seat refl (inv.tidy t))
+    c.open_below.ensures.tidy (tidy_kept c.try_hold.ensures.acts inv.settled.seat refl (inv.tidy t))

@@ -1,4 +1,4 @@
-use Rattle.mk_laws.proofs.Vocabulary.{Step, ℕ, arith, refl, subst, ◌+◌, ◌-◌, ◌≡◌}
+use Rattle.mk_laws.proofs.Vocabulary.{ℕ, arith, refl, subst, ◌+◌, ◌-◌, ◌≡◌}
 use Rattle.mk_words_clients.{proofs.TurnFacts.{holds_on, none_below, opens_last}, specs.Clients.{HoldsBelow}}
 use Rattle.mk_words_clients.proofs.stops.open_below.Goals as goal
 
@@ -10,8 +10,8 @@ loop-caller-preserved c =
     let some = c.loop-caller-test.true in
     let within = inv.within in
     let above : c.loop-caller.caller ≡ j + 1 = omega arith in
-    holds_on (Step.Open j) a refl inv (omega arith)
-    (opens_last _ _ j (subst (λ (n : ℕ). HoldsBelow c.loop-caller.turn.pass n) above inv.holds) a)
+    holds_on a refl inv (omega arith)
+    (opens_last (subst (λ (n : ℕ). HoldsBelow c.loop-caller.turn.pass n) above inv.holds) a)
 
 pub returns-clause-free : goal.returns-clause-free
 returns-clause-free c = grind (arith, none_below)

@@ -7,6 +7,5 @@ pub stopped-stopped-requires : goal.stopped-stopped-requires
 stopped-stopped-requires c =
     let p : PassState = c.hold_all.new.turn.pass in
     let settled : Settled p = c.hold_all.ensures.settled c.if-hold_all.true in
-    all_are_held p settled.seat
-    (subst (λ (t : WordsState). HoldsBelow p t.config.callers) (sym c.hold_all.ensures.one_table)
-    (c.hold_all.ensures.holds c.if-hold_all.true))
+    all_are_held p settled.seat (subst (λ (t : WordsState). HoldsBelow p t.config.callers)
+    (sym c.hold_all.ensures.one_table) (c.hold_all.ensures.holds c.if-hold_all.true))

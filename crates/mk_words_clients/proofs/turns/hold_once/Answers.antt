@@ -1,4 +1,4 @@
-use Rattle.mk_laws.proofs.Vocabulary.{Step, Word, ℕ, refl, subst, sym, ◌<◌}
+use Rattle.mk_laws.proofs.Vocabulary.{ℕ, refl, subst, sym, ◌<◌}
 use Rattle.mk_words.specs.States.{PassState, WordsState}
 use Rattle.mk_words_clients.proofs.TurnFacts.{given_back, hold_leaves, hold_may, look_leaves, miss_leaves, none_held_is}
 use Rattle.mk_words_clients.proofs.TurnFacts.{open_leaves, settled, settled_kept, tidy_kept}
@@ -23,9 +23,9 @@ returns-in-Ok-clause-free c =
     let held = c.try_hold.ensures.acts in
     let looked = c.look.ensures.acts in
     let opened = c.open_gate.ensures in
-    let only = look_leaves q r j (Word.Reg j 0) looked (hold_leaves p q j held (none_held_is p free.gates)) in
-    given_back z (settled_kept r z (Step.Open j) opened refl (settled_kept q r (Step.Look (Word.Reg j 0)) looked refl
-    (settled_kept p q (Step.Hold j) held refl (settled p free)))) (open_leaves r z j opened only)
+    let only = look_leaves j looked (hold_leaves held (none_held_is p free.gates)) in
+    given_back (settled_kept opened refl (settled_kept looked refl
+    (settled_kept held refl (settled free)))) (open_leaves opened only)
 
 pub returns-in-Ok-clause-tidy : goal.returns-in-Ok-clause-tidy
 returns-in-Ok-clause-tidy c = λ tidy.
@@ -34,14 +34,12 @@ returns-in-Ok-clause-tidy c = λ tidy.
     let q : PassState = c.try_hold.new.self.pass in
     let r : PassState = c.look.new.self.pass in
     let z : PassState = c.open_gate.new.self.pass in
-    let there = settled p c.requires.free in
+    let there = settled c.requires.free in
     let held = c.try_hold.ensures.acts in
     let looked = c.look.ensures.acts in
-    let at_q = settled_kept p q (Step.Hold j) held refl there in
-    let at_r = settled_kept q r (Step.Look (Word.Reg j 0)) looked refl at_q in
-    tidy_kept r z (Step.Open j) c.open_gate.ensures at_r.seat refl
-    (tidy_kept q r (Step.Look (Word.Reg j 0)) looked at_q.seat refl
-    (tidy_kept p q (Step.Hold j) held there.seat refl tidy))
+    let at_q = settled_kept held refl there in
+    let at_r = settled_kept looked refl at_q in
+    tidy_kept c.open_gate.ensures at_r.seat refl (tidy_kept looked at_q.seat refl (tidy_kept held there.seat refl tidy))
 
 pub returns-in-Err-clause-free : goal.returns-in-Err-clause-free
 returns-in-Err-clause-free c =
@@ -50,10 +48,8 @@ returns-in-Err-clause-free c =
     let q : PassState = c.try_hold.new.self.pass in
     let free = c.requires.free in
     let missed = c.try_hold.ensures.acts in
-    given_back q (settled_kept p q (Step.Hold j) missed refl (settled p free))
-    (miss_leaves p q j missed c.in-Err.ensures.not_held (none_held_is p free.gates))
+    given_back (settled_kept missed refl (settled free))
+    (miss_leaves missed c.in-Err.ensures.not_held (none_held_is p free.gates))
 
 pub returns-in-Err-clause-tidy : goal.returns-in-Err-clause-tidy
-returns-in-Err-clause-tidy c = λ tidy.
-    tidy_kept c.args.turn.now.pass c.try_hold.new.self.pass (Step.Hold c.args.caller) c.try_hold.ensures.acts
-    c.requires.free.seat refl tidy
+returns-in-Err-clause-tidy c = λ tidy. tidy_kept c.try_hold.ensures.acts c.requires.free.seat refl tidy

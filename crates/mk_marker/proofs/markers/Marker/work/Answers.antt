@@ -7,14 +7,12 @@ pub returns-in-Some-clause-cause : goal.returns-in-Some-clause-cause
 returns-in-Some-clause-cause c =
     let a = c.look in
     subst (λ (p : PassState). ScansACell p c.scan_cell.new.pass) c.self.view_is
-    (scans_a_cell c.self.inside.pass a.result a.new.pass c.find_cell.new.pass c.scan_cell.new.pass c.in-Some.cell
-    a.ensures.moves (eqb-false (a.result % 8) 2 (sym c.is_in.ensures ∙ c.if-is_in.false))
+    (scans_a_cell a.ensures.moves (eqb-false (a.result % 8) 2 (sym c.is_in.ensures ∙ c.if-is_in.false))
     c.in-Some.ensures.some c.scan_cell.ensures.scans c.scan_cell.ensures.black)
 
 pub returns-in-None-clause-cause : goal.returns-in-None-clause-cause
 returns-in-None-clause-cause c =
     let a = c.look in
     subst (λ (p : PassState). FindsNoWork p c.find_cell.new.pass) c.self.view_is
-    (finds_no_work c.self.inside.pass a.result a.new.pass c.find_cell.new.pass c.self.inside.words.now.config.pages
-    a.ensures.moves (eqb-false (a.result % 8) 2 (sym c.is_in.ensures ∙ c.if-is_in.false))
+    (finds_no_work a.ensures.moves (eqb-false (a.result % 8) 2 (sym c.is_in.ensures ∙ c.if-is_in.false))
     (sym (ap (λ (w : WordsState). w.config.pages) c.self.invariant.one_table)) c.in-None.ensures.none)

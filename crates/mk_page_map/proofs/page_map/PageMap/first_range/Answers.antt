@@ -23,9 +23,8 @@ found c = c.in-Some.ensures.sorted (omega arith)
 -- the range that begins with it
 range : (c : After-unwrap_or-end) → IsRange (held c) c.in-Some.start c.unwrap_or-end.result
 range c = subst (λ (end : ℕ). IsRange (held c) c.in-Some.start end)
-    (sym (c.unwrap_or-end.ensures ∙ ap (unwrap_or c.next_of-in-Some.result) (count c)))
-    (range_from (held c) c.next_of-in-Some.result (found c).1 (found c).2
-    (c.next_of-in-Some.ensures.sorted (omega arith)))
+    (sym (c.unwrap_or-end.ensures ∙ ap (unwrap_or c.next_of-in-Some.result) (count c))) (range_from
+    (held c) c.next_of-in-Some.result (found c).1 (found c).2 (c.next_of-in-Some.ensures.sorted (omega arith)))
 
 -- no range before it is one
 from_there : (c : After-unwrap_or-end)
@@ -37,9 +36,6 @@ returns-then-end-start c pages freed shows =
     let x = (goal.at.returns-then-end-start c).After-unwrap_or-end in
     sym (range_is_long c.args.count c.requires (range x) c.if-end-start.true) ∙ from_there x
     ∙ ap (λ ps. range_start c.args.count (uses_of_pages ps)) shows.page_by_page
-
-pub loop-start-smaller : goal.loop-start-smaller
-loop-start-smaller c = grind (arith, range, found)
 
 pub loop-start-preserved : goal.loop-start-preserved
 loop-start-preserved c =

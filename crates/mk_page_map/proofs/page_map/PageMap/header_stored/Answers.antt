@@ -12,9 +12,8 @@ now c = record { header = c.args.header; used = c.index.result.now.used }
 within : (c : After-from) → c.args.page < length c.self.inside.pages.items
 within c = grind (arith, page_within)
 
-stores : (c : After-from)
-    → Stores c.self.inside.pages.items c.self.inside.sets.items c.deref_mut.result.now c.sort_by_header.new.sets
-    c.self.inside.resident c.args.page (now c)
+stores : (c : After-from) → Stores c.self.inside.pages.items c.self.inside.sets.items c.deref_mut.result.now
+    c.sort_by_header.new.sets c.self.inside.resident c.args.page (now c)
 stores c = grind (arith, within)
 
 was_counted : (c : After-from)
@@ -31,9 +30,8 @@ enough c = counted_anew c.self.inside.pages.items c.args.page c.self.inside.resi
 pub overflow_sub-self : goal.overflow_sub-self
 overflow_sub-self c = enough c
 
-same_sets : (c : After-from) → take c.self.inside.sets.len
-    (c.sort_by_header.new.sets ++ drop (length c.sort_by_header.new.sets) c.self.inside.sets.items)
-    ≡ c.sort_by_header.new.sets
+same_sets : (c : After-from) → take c.self.inside.sets.len (c.sort_by_header.new.sets ++ drop
+    (length c.sort_by_header.new.sets) c.self.inside.sets.items) ≡ c.sort_by_header.new.sets
 same_sets c = grind (arith, written, within)
 
 pub invariant_of-self : goal.invariant_of-self
@@ -61,6 +59,5 @@ pub returns-clause-others : goal.returns-clause-others
 returns-clause-others c number differ =
     let x = (goal.at.returns-clause-others c).After-from in
     others_kept c.args.self.now c.self.inside.pages.items (set c.self.inside.pages.items c.args.page (now x))
-    c.self.inside.sets.items _ number c.self.view_is
-    c.deref_mut.ensures.value (same_sets x) (length-set c.self.inside.pages.items c.args.page (now x))
-    c.self.invariant.few c.sort_by_header.ensures.other_pages differ
+    c.self.inside.sets.items _ number c.self.view_is c.deref_mut.ensures.value (same_sets x) (length-set
+    c.self.inside.pages.items c.args.page (now x)) c.self.invariant.few c.sort_by_header.ensures.other_pages differ

@@ -6,14 +6,12 @@ use Rattle.mk_page_map.proofs.page_map.PageMap.put_uncleaned.Goals as goal
 within : (c : After-put) → c.args.page < length c.self.inside.pages.items
 within c = grind (arith, page_within)
 
-changes : (c : After-put)
-    → ChangesUncleaned c.self.inside.pages.items c.self.inside.sets.items c.deref_mut.result.now c.put.new.sets
-    c.self.inside.resident c.args.page
+changes : (c : After-put) → ChangesUncleaned c.self.inside.pages.items c.self.inside.sets.items c.deref_mut.result.now
+    c.put.new.sets c.self.inside.resident c.args.page
 changes c = grind (arith, within)
 
-same_sets : (c : After-put)
-    → take c.self.inside.sets.len (c.put.new.sets ++ drop (length c.put.new.sets) c.self.inside.sets.items)
-    ≡ c.put.new.sets
+same_sets : (c : After-put) → take c.self.inside.sets.len
+    (c.put.new.sets ++ drop (length c.put.new.sets) c.self.inside.sets.items) ≡ c.put.new.sets
 same_sets c = grind (arith, written, within)
 
 pub invariant_of-self : goal.invariant_of-self

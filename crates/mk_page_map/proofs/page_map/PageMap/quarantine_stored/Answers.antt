@@ -8,9 +8,8 @@ use Rattle.mk_page_map.proofs.page_map.PageMap.quarantine_stored.Goals as goal
 within : (c : After-sort_by_quarantine) → c.args.page < length c.self.inside.pages.items
 within c = grind (arith, page_within)
 
-same_sets : (c : After-sort_by_quarantine) → take c.self.inside.sets.len
-    (c.sort_by_quarantine.new.sets ++ drop (length c.sort_by_quarantine.new.sets) c.self.inside.sets.items)
-    ≡ c.sort_by_quarantine.new.sets
+same_sets : (c : After-sort_by_quarantine) → take c.self.inside.sets.len (c.sort_by_quarantine.new.sets ++ drop
+    (length c.sort_by_quarantine.new.sets) c.self.inside.sets.items) ≡ c.sort_by_quarantine.new.sets
 same_sets c = grind (arith, written, within)
 
 others : (c : After-sort_by_quarantine) → OthersStay c.self.inside.sets.items c.sort_by_quarantine.new.sets c.args.page
@@ -19,10 +18,9 @@ others c = grind arith
 pub invariant_of-self : goal.invariant_of-self
 invariant_of-self c =
     let x = (goal.at.invariant_of-self c).After-sort_by_quarantine in
-    subst (λ (xs : List ℕ). FitPages c.self.inside.pages.items xs c.self.inside.resident) (sym (same_sets x))
-    (fit_again c.self.invariant c.sort_by_quarantine.ensures.sets (within x)
-    (λ s is_set. c.sort_by_quarantine.ensures.other_sets s is_set ∙ ap (λ xs. is_member xs s c.args.page)
-    c.deref_mut.ensures.value) (others x))
+    subst (λ (xs : List ℕ). FitPages c.self.inside.pages.items xs c.self.inside.resident) (sym (same_sets x)) (fit_again
+    c.self.invariant c.sort_by_quarantine.ensures.sets (within x) (λ s is_set. c.sort_by_quarantine.ensures.other_sets s
+    is_set ∙ ap (λ xs. is_member xs s c.args.page) c.deref_mut.ensures.value) (others x))
 
 pub returns-clause-shows : goal.returns-clause-shows
 returns-clause-shows c pages freed_words shows =

@@ -13,9 +13,6 @@ within c = grind (arith, page_within)
 read : (c : After-sort_by_used) → c.index.result.now ≡ page_at c.self.inside.pages.items c.args.page
 read c = page_read c.self.inside.pages.items c.args.page c.index.result.now (within c) c.index.ensures
 
-pub sort_by_used-requires-clause-sorted : goal.sort_by_used-requires-clause-sorted
-sort_by_used-requires-clause-sorted c s is_set = grind (arith, page_within, page_read)
-
 stores : (c : After-sort_by_used)
     → Stores c.self.inside.pages.items c.self.inside.sets.items c.deref_mut.result.now c.sort_by_used.new.sets
     c.self.inside.resident c.args.page (now c)

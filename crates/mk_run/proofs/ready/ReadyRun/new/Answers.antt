@@ -1,7 +1,7 @@
 use Rattle.std.proofs.Common.{slice_get}
 use Rattle.mk_laws.proofs.Vocabulary.{Some, arith, length, subst, ◌+◌, ◌≡◌}
-use Rattle.mk_run.proofs.{Vocabulary.IsReadyScript, ReadyScripts.one_more}
-use Rattle.mk_run.specs.declared.ready.ReadyScript.{ReadyScript}
+use Rattle.mk_run.proofs.Vocabulary.{IsReadyScript}
+use Rattle.mk_run.{proofs.ReadyScripts.one_more, specs.declared.ready.ReadyScript.ReadyScript}
 use Rattle.mk_run.proofs.ready.ReadyRun.new.Goals as goal
 
 pub loop-script-preserved : goal.loop-script-preserved
@@ -16,8 +16,7 @@ loop-script-preserved g c =
     let is : IsReadyScript made_for program pages (0 + length old.items) last = grind arith in
     record {
       count = omega (arith, c.in_ok-push_back.ensures, invariant.count, old.ok, new.ok);
-      each = λ i ready at.
-          one_more made_for program pages 0 old.items last invariant.each is i ready
+      each = λ i ready at. one_more made_for program pages 0 old.items last invariant.each is i ready
           (subst (λ scripts. slice_get scripts i ≡ Some ready) c.in_ok-push_back.ensures.items at);
     }
 

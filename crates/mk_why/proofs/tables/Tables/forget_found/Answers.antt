@@ -1,4 +1,4 @@
-use Rattle.std.{proofs.{Common.rules, lemmas.Grind.common_steps}, specs.Vec.{with_items}}
+use Rattle.std.{proofs.Common.rules, proofs.lemmas.Grind.common_steps, specs.Vec.with_items}
 use Rattle.mk_laws.proofs.Vocabulary.{arith}
 use Rattle.mk_why.proofs.Counts.{none_counted}
 use Rattle.mk_why.proofs.tables.Tables.forget_found.Goals as goal

@@ -21,8 +21,7 @@ list_kept-requires-clause-one_table g c = grind arith
 
 pub returns-clause-law : goal.returns-clause-law
 returns-clause-law g c =
-    law_kept c.args.stop.now.pass c.close_marks.new.stop c.list_kept.new.stop c.close_marks.ensures.law
-    (looks_then c.search.ensures.on c.list_kept.ensures.looks)
+    law_kept c.close_marks.ensures.law (looks_then c.search.ensures.on c.list_kept.ensures.looks)
     (in_turn _ c.is_in_order-2.ensures.own c.is_in_order-2.ensures.turn c.is_in_order-2.ensures.history)
     c.is_in_order-2.ensures.gates
 
@@ -37,15 +36,12 @@ returns-clause-told g c =
     let t = c.close_marks.new.stop in
     let r = c.list_kept.new.stop in
     let still = still_closed c.close_marks.ensures.law c.requires.free in
-    let tables = told_by c.search.new.tables
-    c.search.ensures.on c.search.ensures.explored (apart t.pass c.is_in_order.ensures.history still)
-    c.forget_kept.ensures.found c.list_kept.ensures.on c.list_kept.ensures.each in
-    told_of _ k t r (looks_then c.search.ensures.on c.list_kept.ensures.looks)
-    c.is_in_order.ensures.history c.close_marks.ensures.told
-    (ap (λ (p : PassState). p.table) c.close_marks.ensures.law.keeps.call.pass ∙ c.requires.one_table)
-    c.list_kept.new.tables.found.items c.list_kept.new.tables.kept.items tables
-    (in_turn _ c.is_in_order-2.ensures.own c.is_in_order-2.ensures.turn c.is_in_order-2.ensures.history)
-    c.is_in_order-2.ensures.gates
+    let tables = told_by c.search.new.tables c.search.ensures.on c.search.ensures.explored (apart t.pass
+    c.is_in_order.ensures.history still) c.forget_kept.ensures.found c.list_kept.ensures.on c.list_kept.ensures.each in
+    told_of _ k (looks_then c.search.ensures.on c.list_kept.ensures.looks) c.is_in_order.ensures.history
+    c.close_marks.ensures.told (ap (λ (p : PassState). p.table) c.close_marks.ensures.law.keeps.call.pass
+    ∙ c.requires.one_table) tables (in_turn _ c.is_in_order-2.ensures.own c.is_in_order-2.ensures.turn
+    c.is_in_order-2.ensures.history) c.is_in_order-2.ensures.gates
 
 pub returns-clause-closed : goal.returns-clause-closed
 returns-clause-closed g c = grind (arith, looks_then)

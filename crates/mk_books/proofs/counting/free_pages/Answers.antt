@@ -1,9 +1,0 @@
-use Rattle.std.proofs.Common.{count_by, rules, sym, ◌∙◌, ◌≡◌}
-use Rattle.mk_geom.specs.{PageUses.is_free_page, PageWords.use_of_page}
-use Rattle.mk_books.proofs.PlaceLemmas.{count_by-map}
-use Rattle.mk_books.proofs.counting.free_pages.Goals as goal
-
-pub returns : goal.returns
-returns c =
-    let counted : c.count.result ≡ count_by (λ page. is_free_page (use_of_page page)) c.args.pages.now = search rules in
-    counted ∙ sym (count_by-map is_free_page use_of_page c.args.pages.now)
