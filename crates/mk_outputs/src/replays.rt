@@ -26,7 +26,6 @@ pub fn replayed(alloc: Global, text: &[u8]) -> Result<Vec<u8>, Status>
 }
 
 /// What the program's scripts have printed after the schedule.
-#[tactic(auto, using(crate::proofs::PrintedTexts::texts_are_printed))]
 fn run(alloc: Global, program: Program, schedule: &Schedule) -> Result<Vec<u8>, Status>
     ensures printed { IfOk result (λ bytes. bytes.items ≡ output program (config_of program 8)
         (history_of program schedule.now)) }
