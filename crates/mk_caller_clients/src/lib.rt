@@ -1,6 +1,6 @@
 //! Small programs over the calls of a caller: what the contracts suffice for.
 //!
-//! Each says what its caller gets back whatever others do. Start with `moves_through_memory`.
+//! Each says what its caller gets back whatever others do. Start with `moves_through_memory` below.
 #![tactic(auto)]
 
 mod threads;
@@ -17,17 +17,14 @@ use mk_core::Seat;
 use mk_words::{Held, Pass, Words};
 pub use threads::clear_at_once;
 
-/// A number that is stored is what is loaded, where no other caller stores in between.
-pub fn moves_through_memory(caller: &mut Caller, q: u8, i: u64, n: u64) -> Result<u64, Refusal>
+/// A pointer that is moved to another register is the same there.
+pub fn moves_through_registers(caller: &mut Caller, d: u8, q: u8) -> Result<bool, Held>
     requires home { caller.old.home ≡ true }
-    requires admitted { Admits caller.old.pass (op.SetNum q i n) }
-    ensures { IfOk result (λ loaded. IsOnlyStore caller.old.pass q i n caller.new.pass → loaded ≡ n) }
+    requires admitted { Admits caller.old.pass (op.Move d q) }
+    ensures { IfOk result (λ same. same ≡ true) }
 {
-    caller.set_num(q, i, n)?;
-    caller.is_idle();
-    let loaded = caller.get_num(q, i)?;
-    caller.is_idle();
-    Ok(loaded)
+    caller.move_ptr(d, q)?;
+    caller.same(d, q)
 }
 
 /// A pointer that is moved through a global is the same, where no other caller sets that global in between.
@@ -56,14 +53,17 @@ pub fn takes_out_of_global(caller: &mut Caller, d: u8, g: u8, x: u8) -> Result<b
     caller.same(d, x)
 }
 
-/// A pointer that is moved to another register is the same there.
-pub fn moves_through_registers(caller: &mut Caller, d: u8, q: u8) -> Result<bool, Held>
+/// A number that is stored is what is loaded, where no other caller stores in between.
+pub fn moves_through_memory(caller: &mut Caller, q: u8, i: u64, n: u64) -> Result<u64, Refusal>
     requires home { caller.old.home ≡ true }
-    requires admitted { Admits caller.old.pass (op.Move d q) }
-    ensures { IfOk result (λ same. same ≡ true) }
+    requires admitted { Admits caller.old.pass (op.SetNum q i n) }
+    ensures { IfOk result (λ loaded. IsOnlyStore caller.old.pass q i n caller.new.pass → loaded ≡ n) }
 {
-    caller.move_ptr(d, q)?;
-    caller.same(d, q)
+    caller.set_num(q, i, n)?;
+    caller.is_idle();
+    let loaded = caller.get_num(q, i)?;
+    caller.is_idle();
+    Ok(loaded)
 }
 
 /// A caller's first call, of a heap that nobody has used: its register is null.
