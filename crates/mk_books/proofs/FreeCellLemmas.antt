@@ -1,33 +1,16 @@
 -- The free cells of each class, page by page.
-use Rattle.std.proofs.Common.{Bool, List, None, Option, Some, ℕ, ap, arith, count_by, eq-eqb, false, get_or}
-use Rattle.std.proofs.Common.{get_or-set_other, get_or-set_same, if◌then◌else◌, inl, inr, length, length-set}
-use Rattle.std.proofs.Common.{length-take-le, map, nat_eq, ne_eqb, not, refl, set, suc, sym, take, true, zero, [], ◌*◌}
-use Rattle.std.{proofs.Common.{◌++◌, ◌+◌, ◌-◌, ◌<◌, ◌^◌, ◌∙◌, ◌∷◌, ◌≡◌, ◌≢◌, ◌≤◌}, specs.List.{range_with_len}}
-use Rattle.std.proofs.lemmas.List.{get_or-append_right, get_or_append_left, map_more, same_lists, set-append_left}
-use Rattle.std.{proofs.lemmas.List.{set-append_right}, proofs.lemmas.Bool.{and_right, cases_eq}}
+use Rattle.std.proofs.Common.{Bool, List, Option, ℕ, ap, arith, count_by, eq-eqb, false, get_or, if◌then◌else◌, length}
+use Rattle.std.proofs.Common.{length-take-le, ne_eqb, not, refl, set, sym, take, true, [], ◌*◌, ◌++◌, ◌+◌, ◌-◌, ◌<◌}
+use Rattle.std.proofs.{Common.{◌^◌, ◌∙◌, ◌∷◌, ◌≡◌, ◌≢◌, ◌≤◌}, lemmas.List.{get_or-append_right, get_or_append_left}}
+use Rattle.std.proofs.lemmas.List.{map_more, same_lists, set-append_left, set-append_right}
 use Rattle.std.proofs.lemmas.List.FromFn.{get_or-map-range_with_len, length-map-range_with_len}
 use Rattle.std.proofs.{lemmas.List.Sums.{count_by-le-length, sum_by-cons, sum_by_push}, Math.Bool.beq}
-use Rattle.mk_geom.specs.PageUses.{Cells, PageUse, cells_taken, free_cells_among, is_same_sort}
-use Rattle.mk_geom.specs.PageWords.{bits_of, use_of_page, use_under, uses_of_pages}
-use Rattle.mk_geom.specs.declared.headers.Header.TheVariants.{Block, Free, Later, LeafBlock, LeafRun, Run}
-use Rattle.mk_geom.specs.{Classes.cells_of, Headers.header_of, declared.headers.Header.Header, declared.pages.Page.Page}
+use Rattle.std.proofs.lemmas.Bool.{and_right}
+use Rattle.mk_geom.specs.{PageWords.{bits_of, use_of_page, use_under, uses_of_pages}, Classes.cells_of}
+use Rattle.mk_geom.specs.{Headers.header_of, PageUses.{Cells, PageUse, cells_taken, free_cells_among}}
+use Rattle.mk_geom.specs.{declared.headers.Header.Header, declared.pages.Page.Page}
 use Rattle.mk_books.proofs.UsedBitLemmas.{length-bits_of}
 use Rattle.mk_books.specs.FreeCells.{HasNoCells, class_place, free_cells_by_class, free_cells_of_sort}
-
--- a list made from a function that differs at one place alone
-map_range-set : (f g : ℕ → ℕ) (n k y : ℕ) → k < n → g k ≡ y → ((j : ℕ) → j ≢ k → g j ≡ f j)
-    → map g (range_with_len 0 n) ≡ set (map f (range_with_len 0 n)) k y
-map_range-set f g n k y within here others =
-    let xs = map f (range_with_len 0 n) in
-    let long : length xs ≡ n = length-map-range_with_len f 0 n in
-    same_lists (map g (range_with_len 0 n)) (set xs k y)
-    (length-map-range_with_len g 0 n ∙ sym (length-set xs k y ∙ long)) (λ j d below.
-    let low : j < n = omega (arith, length-map-range_with_len g 0 n) in
-    get_or-map-range_with_len g 0 n j j d low (omega arith) ∙ elim (cases_eq j k) [
-      | inl same ↦ ap g same ∙ here ∙ sym (rw same (get_or-set_same xs k y d (omega (arith, long))))
-      | inr other ↦ others j other
-          ∙ sym (get_or-set_other xs k j y d other ∙ get_or-map-range_with_len f 0 n j j d low (omega arith))
-    ])
 
 free_cells_among-push : (leaf : Bool) (pages : List PageUse) (page : PageUse) (class : ℕ) → free_cells_among leaf
     (pages ++ page ∷ []) class ≡ free_cells_among leaf pages class + count_by not (cells_taken class leaf page)
@@ -41,12 +24,8 @@ get_or-free_cells_of_sort : (leaf : Bool) (pages : List PageUse) (class d : ℕ)
 get_or-free_cells_of_sort leaf pages class d within =
     get_or-map-range_with_len (free_cells_among leaf pages) 0 8 class class d within (omega arith)
 
-same_sort : (leaf : Bool) → is_same_sort leaf leaf ≡ true
-same_sort true = refl
-same_sort false = refl
-
 same_class : (leaf : Bool) (taken : List Bool) (class : ℕ) → cells_taken class leaf (Cells class leaf taken) ≡ taken
-same_class leaf taken class = rw (eq-eqb class class refl, same_sort leaf) refl
+same_class leaf taken class = grind (arith, eq-eqb)
 
 other_class : (leaf : Bool) (taken : List Bool) (class other : ℕ) → other ≢ class
     → cells_taken other leaf (Cells class leaf taken) ≡ []
@@ -54,14 +33,10 @@ other_class leaf taken class other differ = rw (ne_eqb other class differ) refl
 
 other_sort : (leaf : Bool) (taken : List Bool) (class other : ℕ)
     → cells_taken other (not leaf) (Cells class leaf taken) ≡ []
-other_sort true taken class other = rw (and_right (nat_eq other class) false refl) refl
-other_sort false taken class other = rw (and_right (nat_eq other class) false refl) refl
+other_sort x0 taken class other = grind (arith, and_right)
 
 pub same_flags : (a b : Bool) → beq a b ≡ true → a ≡ b
-same_flags true true same = refl
-same_flags true false same = sym same
-same_flags false true same = same
-same_flags false false same = refl
+same_flags x0 x1 same = grind arith
 
 -- the cells of a page, at the class and sort that it has
 pub cells_taken_alike : (page : PageUse) (class class' : ℕ) (leaf leaf' : Bool) (used : ℕ)
@@ -74,7 +49,16 @@ of_sort-push : (leaf : Bool) (pages : List PageUse) (class : ℕ) (taken : List 
     → free_cells_of_sort leaf (pages ++ Cells class leaf taken ∷ [])
     ≡ set (free_cells_of_sort leaf pages) class (get_or (free_cells_of_sort leaf pages) class 0 + count_by not taken)
 of_sort-push leaf pages class taken within =
-    grind (arith, map_range-set, free_cells_among-push, same_class, get_or-free_cells_of_sort, other_class)
+    grind (
+      arith,
+      free_cells_among-push,
+      same_class,
+      get_or-free_cells_of_sort,
+      other_class,
+      length-map-range_with_len,
+      same_lists,
+      get_or-map-range_with_len,
+    )
 
 -- one page more that has none of the sort's cells
 of_sort-push_other : (leaf : Bool) (pages : List PageUse) (page : PageUse) → ((class : ℕ)
@@ -119,11 +103,6 @@ by_class-push pages class true taken within =
     (get_or leaves class 0 + count_by not taken) true long within) ∙ ap (λ count. set (blocks ++ leaves) (8 + class)
     (count + count_by not taken)) (sym (get_or-halves blocks leaves class true long within))
 
--- one page more, and no block
-by_class-push_other : (pages : List PageUse) (page : PageUse) → HasNoCells page
-    → free_cells_by_class (pages ++ page ∷ []) ≡ free_cells_by_class pages
-by_class-push_other pages page none = grind (arith, of_sort-push_other)
-
 get_or-by_class : (pages : List PageUse) (class : ℕ) (leaf : Bool) → class < 8
     → get_or (free_cells_by_class pages) (class_place class leaf) 0 ≡ free_cells_among leaf pages class
 get_or-by_class pages class false within =
@@ -135,29 +114,14 @@ get_or-by_class pages class true within =
 
 -- a page has at most 32 cells
 cells_of-le : (class : ℕ) → cells_of class ≤ 32
-cells_of-le zero = omega arith
-cells_of-le (suc zero) = omega arith
-cells_of-le (suc (suc zero)) = omega arith
-cells_of-le (suc (suc (suc zero))) = omega arith
-cells_of-le (suc (suc (suc (suc zero)))) = omega arith
-cells_of-le (suc (suc (suc (suc (suc zero))))) = omega arith
-cells_of-le (suc (suc (suc (suc (suc (suc zero)))))) = omega arith
-cells_of-le (suc (suc (suc (suc (suc (suc (suc zero))))))) = omega arith
-cells_of-le (suc (suc (suc (suc (suc (suc (suc (suc class)))))))) = omega arith
+cells_of-le x0 = grind arith
 
 cells_if : (test : Bool) (cells used : ℕ) → cells ≤ 32 → length (if test then bits_of cells used else []) ≤ 32
-cells_if true cells used few = omega (arith, length-bits_of cells used)
-cells_if false cells used few = omega arith
+cells_if x0 cells used few = grind (arith, length-bits_of)
 
 length-cells_taken-le : (class : ℕ) (leaf : Bool) (header : Option Header) (used : ℕ)
     → length (cells_taken class leaf (use_under header used)) ≤ 32
-length-cells_taken-le class leaf None used = omega arith
-length-cells_taken-le class leaf (Some Free) used = omega arith
-length-cells_taken-le class leaf (Some (Block other)) used = grind (arith, cells_if, cells_of-le)
-length-cells_taken-le class leaf (Some (Run pages mapped)) used = omega arith
-length-cells_taken-le class leaf (Some (Later distance mapped)) used = omega arith
-length-cells_taken-le class leaf (Some (LeafBlock other)) used = grind (arith, cells_if, cells_of-le)
-length-cells_taken-le class leaf (Some (LeafRun pages)) used = omega arith
+length-cells_taken-le class leaf x2 used = grind (arith, cells_if, cells_of-le)
 
 -- the free cells of one page more are at most 32
 free_cells_among-le : (class : ℕ) (leaf : Bool) (pages : List Page)
@@ -225,4 +189,4 @@ pub by_class-more_other : (pages : List Page) (i : ℕ) (d : Page) → i < lengt
     → HasNoCells (use_of_page (get_or pages i d))
     → free_cells_by_class (uses_of_pages (take i pages)) ≡ free_cells_by_class (uses_of_pages (take (i + 1) pages))
 by_class-more_other pages i d within none = sym (ap free_cells_by_class (map_more use_of_page pages i d within)
-    ∙ by_class-push_other (uses_of_pages (take i pages)) (use_of_page (get_or pages i d)) none)
+    ∙ (grind (arith, of_sort-push_other)))

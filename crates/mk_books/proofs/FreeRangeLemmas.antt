@@ -43,12 +43,10 @@ range_start-here count [] some long = absurd (omega arith)
 range_start-here count (page ∷ pages) some long = rw (le-leb count (free_range (page ∷ pages)) long) refl
 
 range-le : (free : Bool) (m n : ℕ) → m ≤ n → (if free then m + 1 else 0) ≤ n + 1
-range-le true m n below = omega arith
-range-le false m n below = omega arith
+range-le x0 m n below = grind arith
 
 range-suc : (free : Bool) (m n : ℕ) → (if free then m + 1 else 0) ≡ suc n → m ≡ n
-range-suc true m n longer = omega arith
-range-suc false m n longer = absurd (omega arith)
+range-suc x0 m n longer = grind arith
 
 free_range-le-length : (pages : List PageUse) → free_range pages ≤ length pages
 free_range-le-length [] = omega arith
@@ -64,8 +62,7 @@ range_start-none count (page ∷ pages) few =
 
 shifted_twice : (n : ℕ) (first : Option ℕ)
     → option_map (λ m. m + 1) (option_map (λ m. m + n) first) ≡ option_map (λ m. m + suc n) first
-shifted_twice n None = refl
-shifted_twice n (Some first) = let same : first + n + 1 ≡ first + suc n = omega arith in ap Some same
+shifted_twice n x1 = grind arith
 
 -- a range that is too short, and the page after it
 range_start-skip : (count n : ℕ) (pages : List PageUse) → free_range pages ≡ n → n < count → n < length pages
@@ -96,8 +93,7 @@ free_range_from-taken n pages d within taken =
 
 from_shifted : (first : Option ℕ) (n m k : ℕ) → n + m ≡ k
     → option_map (λ p. p + n) (option_map (λ p. p + m) first) ≡ option_map (λ p. p + k) first
-from_shifted None n m k sum = refl
-from_shifted (Some first) n m k sum = let same : first + m + n ≡ first + k = omega arith in ap Some same
+from_shifted x0 n m k sum = grind arith
 
 -- the range that ends before page n, which isn't free, is too short
 range_start_from-skip : (range n count : ℕ) (pages : List Page) → range ≤ n → n < length pages
@@ -114,10 +110,6 @@ range_start_from-skip range n count pages begun within ends short =
     uses_of_pages (drop-drop (suc m) range pages ∙ ap (λ k. drop k pages) next))) ∙ from_shifted (range_start count
     (uses_of_pages (drop (n + 1) pages))) range _ (n + 1) next
 
-range_start_from-here : (range count : ℕ) (pages : List Page) → 1 ≤ count → count ≤ free_range_from range pages
-    → range_start_from range count pages ≡ Some range
-range_start_from-here range count pages some long = grind (arith, range_start-here)
-
 range_start_from-end : (range count : ℕ) (pages : List Page) → range ≤ length pages → length pages < range + count
     → range_start_from range count pages ≡ None
 range_start_from-end range count pages begun short =
@@ -130,20 +122,17 @@ range_start_from-end range count pages begun short =
 pub first-skip : (first : Option ℕ) (range n count : ℕ) (pages : List Page) → range ≤ n → n < length pages
     → free_range_from range pages + range ≡ n → (first ≡ None → n < range + count)
     → option_or first (range_start_from range count pages) ≡ option_or first (range_start_from (n + 1) count pages)
-first-skip None range n count pages begun within ends short = grind (arith, range_start_from-skip)
-first-skip (Some first) range n count pages begun within ends short = refl
+first-skip x0 range n count pages begun within ends short = grind (arith, range_start_from-skip)
 
 pub first-here : (first : Option ℕ) (range count : ℕ) (pages : List Page) → 1 ≤ count
     → count ≤ free_range_from range pages → option_or first (range_start_from range count pages)
     ≡ option_or (option_or first (Some range)) (range_start_from range count pages)
-first-here None range count pages some long = range_start_from-here range count pages some long
+first-here None range count pages some long = grind (arith, range_start-here)
 first-here (Some first) range count pages some long = refl
 
 pub first-end : (first : Option ℕ) (range count : ℕ) (pages : List Page) → range ≤ length pages
     → (first ≡ None → length pages < range + count) → option_or first (range_start_from range count pages) ≡ first
-first-end None range count pages begun short = range_start_from-end range count pages begun (short refl)
-first-end (Some first) range count pages begun short = refl
+first-end x0 range count pages begun short = grind (arith, range_start_from-end)
 
 pub first-known : (first : Option ℕ) (range : ℕ) → option_or first (Some range) ≡ None → ⊥
-first-known None range none = cc
-first-known (Some first) range none = cc
+first-known x0 range none = grind arith

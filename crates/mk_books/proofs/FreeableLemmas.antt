@@ -8,23 +8,17 @@ use Rattle.mk_books.specs.Quarantine.{IsFreeable}
 abbrev pub freeable_cells : ℕ → ℕ → ℕ → ℕ
 freeable_cells used quar mark = bit_and (bit_and used (quar / 2 ^ 32)) (bit_not w64 mark)
 
-bit_at-div_pow : (n m i : ℕ) → bit_at (n / 2 ^ m) i ≡ bit_at n (m + i)
-bit_at-div_pow n m i = ap (λ x. x % 2) (div-div-eq-div-mul n (2 ^ m) (2 ^ i) ∙ ap (λ x. n / x) (sym (pow-add 2 m i)))
-
 bit_at-freeable_cells : (used quar mark k : ℕ) → mark < 2 ^ 64 → k < 64
     → bit_at (freeable_cells used quar mark) k ≡ min (min (bit_at used k) (bit_at quar (32 + k))) (1 - bit_at mark k)
 bit_at-freeable_cells used quar mark k fits within = bit_at_and (bit_and used (quar / 2 ^ 32)) (bit_not w64 mark) k
     ∙ ap (λ x. min x (bit_at (bit_not w64 mark) k)) (bit_at_and used (quar / 2 ^ 32) k)
-    ∙ ap (λ x. min (min (bit_at used k) x) (bit_at (bit_not w64 mark) k)) (bit_at-div_pow quar 32 k)
+    ∙ ap (λ x. min (min (bit_at used k) x) (bit_at (bit_not w64 mark) k)) (
+    ap (λ x. x % 2) (div-div-eq-div-mul quar (2 ^ 32) (2 ^ k) ∙ ap (λ x. quar / x) (sym (pow-add 2 32 k))))
     ∙ ap (λ x. min (min (bit_at used k) (bit_at quar (32 + k))) x) (bit_at_not w64 mark k fits within)
-
--- a bit is 1 exactly where the three are so
-all_three : (a b c : ℕ) → a < 2 → b < 2 → c < 2 → (min (min a b) (1 - c) ≡ 1) ↔ ((a ≡ 1) × (b ≡ 1) × (c ≡ 0))
-all_three a b c a_bit b_bit c_bit = (λ one. (omega arith, omega arith, omega arith), λ all. omega arith)
 
 pub freeable_cells-is : (used quar mark k : ℕ) → mark < 2 ^ 64 → k < 32
     → (bit_at (freeable_cells used quar mark) k ≡ 1) ↔ IsFreeable used quar mark k
-freeable_cells-is used quar mark k fits within = grind (arith, bit_at-freeable_cells, all_three, bit_at-lt)
+freeable_cells-is used quar mark k fits within = grind (arith, bit_at-freeable_cells, bit_at-lt)
 
 pub freeable_cells-none : (used quar mark k : ℕ) → quar < 2 ^ 64 → 32 ≤ k → bit_at (freeable_cells used quar mark) k ≡ 0
 freeable_cells-none used quar mark k fits above =

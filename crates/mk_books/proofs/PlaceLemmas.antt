@@ -22,13 +22,11 @@ free_page_from n pages = option_map (λ page. page + n) (first_where is_free_pag
 
 place_behind-suc : (n : ℕ) (place : Option Place)
     → option_map (place_behind n) (option_map page_behind place) ≡ option_map (place_behind (n + 1)) place
-place_behind-suc n None = refl
-place_behind-suc n (Some place) = grind arith
+place_behind-suc n x1 = grind arith
 
 behind-suc : (n : ℕ) (page : Option ℕ)
     → option_map (λ page. page + n) (option_map (λ page. page + 1) page) ≡ option_map (λ page. page + (n + 1)) page
-behind-suc n None = refl
-behind-suc n (Some page) = let same : page + 1 + n ≡ page + (n + 1) = omega arith in ap Some same
+behind-suc n x1 = grind arith
 
 pub cell_from-next : (n class : ℕ) (leaf : Bool) (pages : List Page) (d : Page) → n < length pages
     → first_where not (cells_taken class leaf (use_of_page (get_or pages n d))) ≡ None
@@ -63,8 +61,7 @@ free_page_from-here n pages d within free =
 -- the first of three, of which two are known
 pub or_known : (first : Option ℕ) (n : ℕ) (rest : Option ℕ)
     → option_or first (Some n) ≡ option_or (option_or first (Some n)) rest
-or_known None n rest = refl
-or_known (Some first) n rest = refl
+or_known x0 n rest = grind arith
 
 pub count_by-map : {A B : Type 0} (p : B → Bool) (f : A → B) (xs : List A)
     → count_by p (map f xs) ≡ count_by (λ x. p (f x)) xs

@@ -1,7 +1,7 @@
 -- The low bits of a used word.
 use Rattle.std.proofs.Common.{Bool, List, ℕ, ap, arith, bit_and, cond, count_by, count_ones, eq-eqb, false, get_or, inl}
-use Rattle.std.proofs.Common.{inr, le-ltb, length, lt-ltb, map-id, min, nat_eq, nat_lt, not, refl, suc, sym, w64, zero}
-use Rattle.std.proofs.Common.{[], ◌+◌, ◌-◌, ◌<◌, ◌^◌, ◌∙◌, ◌∷◌, ◌≡◌, ◌≤◌}
+use Rattle.std.proofs.Common.{inr, le-ltb, length, lt-ltb, map-id, min, nat_eq, nat_lt, not, refl, sym, w64, [], ◌+◌}
+use Rattle.std.proofs.Common.{◌-◌, ◌<◌, ◌^◌, ◌∙◌, ◌∷◌, ◌≡◌, ◌≤◌}
 use Rattle.std.proofs.lemmas.List.FromFn.{get_or-map-range_with_len, length-map-range_with_len}
 use Rattle.std.proofs.lemmas.Nat.Bits.{bit_at-lt, bit_at-trailing_ones, bit_at_and, bit_at_ones, bit_at_ones_above}
 use Rattle.std.proofs.{lemmas.Nat.Bits.same_from_bits, lemmas.Simd.{bit_mask_l, ones-mask_l}, lemmas.Bool.cases_lt}
@@ -23,26 +23,23 @@ record LowestZero (word place : ℕ) : Type 0 where
   below : (k : ℕ) → k < place → k < 64 → bit_at word k ≡ 1
   here : place < 64 → bit_at word place ≡ 0
 
-trailing_ones_is : (word : ℕ) → word < 2 ^ 64 → LowestZero word (trailing_ones w64 word)
-trailing_ones_is word fits = elim (cases_lt (word + 1) (2 ^ 64)) as (λ _. LowestZero word (trailing_ones w64 word)) [
-  | inl less ↦
-      let place = bit_at-trailing_ones w64 word less in
-      record { below = λ k lower within. place.2 k lower; here = λ within. place.1 }
-  | inr most ↦
-      let all : word ≡ 2 ^ 64 - 1 = omega arith in
-      let none : bit_not w64 word ≡ 0 = omega arith in
-      let end : trailing_ones w64 word ≡ 64 = ap (trailing_zeros w64) none ∙ trailing_of_zero 64 in
-      record {
-        below = λ k lower within. rw all (bit_at_ones 64 k within);
-        here = λ within. absurd (omega (arith, end));
-      }
-]
-
 pub first_where-bits_of : (count word : ℕ) → count ≤ 64 → word < 2 ^ 64
     → first_where not (bits_of count word) ≡ then_some (nat_lt (trailing_ones w64 word) count) (trailing_ones w64 word)
 first_where-bits_of count word short fits =
     let place = trailing_ones w64 word in
-    let lowest = trailing_ones_is word fits in
+    let lowest = elim (cases_lt (word + 1) (2 ^ 64)) as (λ _. LowestZero word (trailing_ones w64 word)) [
+      | inl less ↦
+          let place = bit_at-trailing_ones w64 word less in
+          record { below = λ k lower within. place.2 k lower; here = λ within. place.1 }
+      | inr most ↦
+          let all : word ≡ 2 ^ 64 - 1 = omega arith in
+          let none : bit_not w64 word ≡ 0 = omega arith in
+          let end : trailing_ones w64 word ≡ 64 = ap (trailing_zeros w64) none ∙ trailing_of_zero 64 in
+          record {
+            below = λ k lower within. rw all (bit_at_ones 64 k within);
+            here = λ within. absurd (omega (arith, end));
+          }
+    ] in
     let bits = bits_of count word in
     let taken : (k : ℕ) → k < place → k < count → not (get_or bits k false) ≡ false
     = grind (arith, get_or-bits_of, eq-eqb) in
@@ -55,13 +52,13 @@ first_where-bits_of count word short fits =
     ]
 
 bit_is : (b : ℕ) → b < 2 → min b 1 ≡ cond (nat_eq b 1) 1 0
-bit_is zero bit = λ i. 0
-bit_is (suc n) bit = let none : n ≡ 0 = omega arith in rw none
+bit_is x0 bit = grind arith
 
--- the bits of the word, as a mask has them
-masked : (count word k : ℕ) → bit_at (bit_and word (2 ^ count - 1)) k ≡ cond (get_or (bits_of count word) k false) 1 0
-masked count word k =
-    grind (
+pub count_ones-masked : (count word : ℕ)
+    → count_ones (bit_and word (2 ^ count - 1)) ≡ count_by (λ bit. bit) (bits_of count word)
+count_ones-masked count word =
+    ap count_ones (same_from_bits (bit_and word (2 ^ count - 1)) (mask_l (bits_of count word))
+    (λ k. (grind (
       arith,
       bit_at_and,
       cases_lt,
@@ -72,13 +69,7 @@ masked count word k =
       bit_at_ones_above,
       get_or_past,
       length-bits_of,
-    )
-
-pub count_ones-masked : (count word : ℕ)
-    → count_ones (bit_and word (2 ^ count - 1)) ≡ count_by (λ bit. bit) (bits_of count word)
-count_ones-masked count word =
-    ap count_ones (same_from_bits (bit_and word (2 ^ count - 1)) (mask_l (bits_of count word))
-    (λ k. masked count word k ∙ sym (bit_mask_l (bits_of count word) k))) ∙ ap (λ bits. count_ones (mask_l bits))
+    )) ∙ sym (bit_mask_l (bits_of count word) k))) ∙ ap (λ bits. count_ones (mask_l bits))
     (sym (map-id (bits_of count word))) ∙ ones-mask_l (λ bit. bit) (bits_of count word)
 
 -- the bits that are 1, and the rest

@@ -1,8 +1,8 @@
 -- The bits that a word has and another hasn't.
 use Rattle.std.proofs.{lemmas.Nat.Bits.{bit_at-lt, bit_at-suc, bit_at_and, bit_at_lowest, same_from_bits}, Common.min}
 use Rattle.std.{proofs.lemmas.Nat.{and_le_l}, specs.Int.{bit_at}}
-use Rattle.mk_core.proofs.Vocabulary.{ℕ, ap, arith, bit_and, not, refl, suc, sym, zero, ◌%◌, ◌&&◌, ◌-◌, ◌/◌, ◌<◌, ◌==◌}
-use Rattle.mk_core.{proofs.Vocabulary.{◌∙◌, ◌≡◌, ◌≤◌}, specs.HistoryLaws.{BitsWithout}}
+use Rattle.mk_core.proofs.Vocabulary.{ℕ, ap, arith, bit_and, suc, sym, zero, ◌%◌, ◌-◌, ◌/◌, ◌∙◌, ◌≡◌, ◌≤◌}
+use Rattle.mk_core.specs.HistoryLaws.{BitsWithout}
 
 half_and : (a b : ℕ) → bit_and a b / 2 ≡ bit_and (a / 2) (b / 2)
 half_and a b = same_from_bits (bit_and a b / 2) (bit_and (a / 2) (b / 2))
@@ -26,12 +26,5 @@ bit_without a b (suc k) =
     ∙ bit_without (a / 2) (b / 2) k ∙ ap (λ x. min x (1 - bit_at (b / 2) k)) (sym (bit_at-suc a k))
     ∙ ap (λ y. min (bit_at a (suc k)) (1 - y)) (sym (bit_at-suc b k))
 
-bit_tests : (x y : ℕ) → x < 2 → y < 2 → (min x (1 - y) == 1) ≡ ((x == 1) && not (y == 1))
-bit_tests zero y lx ly = let none : min 0 (1 - y) ≡ 0 = omega arith in ap (λ n. n == 1) none
-bit_tests (suc zero) zero lx ly = refl
-bit_tests (suc zero) (suc zero) lx ly = refl
-bit_tests (suc zero) (suc (suc y)) lx ly = absurd (omega arith)
-bit_tests (suc (suc x)) y lx ly = absurd (omega arith)
-
 pub has_bit_without : BitsWithout
-has_bit_without word other k = grind (arith, bit_without, bit_tests, bit_at-lt)
+has_bit_without word other k = grind (arith, bit_without, bit_at-lt)

@@ -1,11 +1,10 @@
 -- The cell in which an allocation stands.
 use Rattle.std.proofs.Common.{eq-eqb}
-use Rattle.mk_core.proofs.Vocabulary.{BeginsAtCell, Block, Cell, Config, Free, HasItsHeaders, Header, IsSized}
-use Rattle.mk_core.proofs.Vocabulary.{IsWithinLimits, Later, LeafBlock, LeafRun, None, Option, PlacedAllocation, Run}
-use Rattle.mk_core.proofs.Vocabulary.{Some, StandsOnHeap, Words, ℕ, and_from, and_parts, ap, arith, cell_ends}
-use Rattle.mk_core.proofs.Vocabulary.{cell_of_storage, cells_made, cells_of, cells_under, class_words_of, eqb-true}
-use Rattle.mk_core.proofs.Vocabulary.{false, first_word, header_in, not-true, object_placed, stands_in, storage_of}
-use Rattle.mk_core.proofs.Vocabulary.{true, words_made, words_under, ◌*◌, ◌/◌, ◌<◌, ◌∙◌, ◌≡◌}
+use Rattle.mk_core.proofs.Vocabulary.{BeginsAtCell, Cell, Config, HasItsHeaders, Header, IsSized, IsWithinLimits}
+use Rattle.mk_core.proofs.Vocabulary.{Option, PlacedAllocation, StandsOnHeap, Words, ℕ, and_from, and_parts, ap, arith}
+use Rattle.mk_core.proofs.Vocabulary.{cell_ends, cell_of_storage, cells_made, cells_of, cells_under, class_words_of}
+use Rattle.mk_core.proofs.Vocabulary.{eqb-true, false, first_word, header_in, not-true, object_placed, stands_in}
+use Rattle.mk_core.proofs.Vocabulary.{storage_of, true, words_made, words_under, ◌*◌, ◌/◌, ◌<◌, ◌∙◌, ◌≡◌}
 use Rattle.mk_core.proofs.StandingAllocations.{cells_begin, first_page_shows, placed_cell}
 use Rattle.mk_core.proofs.ObjectHeaders.{part_cells, part_words}
 
@@ -17,13 +16,7 @@ run_on_page : (words index : ℕ) → index < 1 → index * words < 64
 run_on_page words index known = grind arith
 
 cell_on_page : (x : Option Header) (index : ℕ) → index < cells_under x → index * words_under x < 64
-cell_on_page None index known = absurd (omega arith)
-cell_on_page (Some Free) index known = absurd (omega arith)
-cell_on_page (Some (Block class)) index known = block_on_page class index known
-cell_on_page (Some (LeafBlock class)) index known = block_on_page class index known
-cell_on_page (Some (Run count mapped)) index known = run_on_page (64 * count) index known
-cell_on_page (Some (LeafRun count)) index known = run_on_page (64 * count) index known
-cell_on_page (Some (Later distance mapped)) index known = absurd (omega arith)
+cell_on_page x0 index known = grind (arith, block_on_page, run_on_page)
 
 -- A cell that begins at the base of an allocation is its cell.
 pub cell_from_base : (c : Config) (w : Words) (a : PlacedAllocation) (cell : Cell) → IsSized (object_placed c a)
@@ -35,8 +28,6 @@ cell_from_base c w a cell sized has known first =
     let part = first_page_shows c w a sized has in
     let cells : cells_under (header_in w cell.page) ≡ cells_made (object_placed c a) = grind (arith, part_cells) in
     let words : words_under (header_in w cell.page) ≡ words_made (object_placed c a) = grind (arith, part_words) in
-    let product : cell.index * words_under (header_in w cell.page) ≡ cell.index * words_made (object_placed c a) =
-    ap (λ n. cell.index * n) words in
     let b : BeginsAtCell (object_placed c a) a.base = grind arith in
     placed_cell c a sized b ∙ ap (λ (p : ℕ). record { page = p; index = cell.index }) page
 

@@ -1,11 +1,10 @@
 -- Allocations that change one by one, and stay at their places.
-use Rattle.mk_core.proofs.Vocabulary.{Bool, Cell, Config, HasItsHeaders, IsHeaderOf, List, None, Option}
-use Rattle.mk_core.proofs.Vocabulary.{PlacedAllocation, Some, Words, ℕ, and-false, ap, false, get_or_append_left}
-use Rattle.mk_core.proofs.Vocabulary.{header_at, is_small_object, kinds_of, length, map, never_granted, not}
-use Rattle.mk_core.proofs.Vocabulary.{object_placed, pages_made, placed_at, refl, stands_in, storage_of, subst, sym}
-use Rattle.mk_core.proofs.Vocabulary.{true, unreleased_storage, [], ◌&&◌, ◌++◌, ◌+◌, ◌/◌, ◌<◌, ◌∙◌, ◌∷◌, ◌≡◌}
-use Rattle.mk_core.proofs.{Sizes.large_is_not_small, UnreleasedStorage.unreleased_kept}
-use Rattle.mk_never.specs.Types.{is_large}
+use Rattle.mk_core.proofs.Vocabulary.{Cell, Config, HasItsHeaders, IsHeaderOf, List, None, Option, PlacedAllocation}
+use Rattle.mk_core.proofs.Vocabulary.{Some, Words, ℕ, and-false, ap, arith, get_or_append_left, header_at}
+use Rattle.mk_core.proofs.Vocabulary.{is_small_object, kinds_of, length, map, never_granted, object_placed, pages_made}
+use Rattle.mk_core.proofs.Vocabulary.{placed_at, refl, stands_in, storage_of, subst, sym, true, unreleased_storage, []}
+use Rattle.mk_core.proofs.{Vocabulary.{◌++◌, ◌+◌, ◌/◌, ◌<◌, ◌∷◌, ◌≡◌}, Sizes.large_is_not_small}
+use Rattle.mk_core.proofs.UnreleasedStorage.{unreleased_kept}
 use Rattle.mk_core.specs.{Allocations.{freed_where_it_stands, no_longer_fresh, with_released}, NewPlaces.object_of}
 use Rattle.std.proofs.{Math.ListN.get_or-map as get_or-map-default, Math.Seq.get_or-append_seam, lemmas.Bool.cond_both}
 
@@ -35,12 +34,7 @@ freed_or_not w cell a P freed not_freed =
 
 -- The three changes leave the places,
 pub freed_leaves : (w : Words) (cell : Option Cell) → LeavesPlaces (freed_where_it_stands w cell)
-freed_leaves w None = record { base = λ a. refl; ty = λ a. refl; none = refl }
-freed_leaves w (Some cell) = record {
-  base = λ a. freed_or_not w cell a (λ x. x.base ≡ a.base) refl refl;
-  ty = λ a. freed_or_not w cell a (λ x. x.ty ≡ a.ty) refl refl;
-  none = refl;
-}
+freed_leaves w x1 = grind (arith, freed_or_not)
 
 pub released_leaves : (c : Config) (w : Words) → LeavesPlaces (with_released c w)
 released_leaves c w = record { base = λ a. refl; ty = λ a. refl; none = refl }
@@ -57,15 +51,7 @@ freed_released w (Some cell) a = freed_or_not w cell a (λ x. x.released ≡ a.r
 -- nor changes the storage of a small object.
 pub freed_storage : (c : Config) (w : Words) (cell : Option Cell) (a : PlacedAllocation)
     → is_small_object (object_placed c a) ≡ true → storage_of c (freed_where_it_stands w cell a) ≡ storage_of c a
-freed_storage c w None a small = refl
-freed_storage c w (Some cell) a small =
-    freed_or_not w cell a (λ x. storage_of c x ≡ storage_of c a) (cc (never_large true, never_large a.freed)) refl
-  where
-    never_large : (freed : Bool)
-        → (not a.released && not (freed && is_large (kinds_of c.types a.ty))) ≡ (not a.released && true)
-    never_large freed =
-        let large : is_large (kinds_of c.types a.ty) ≡ false = cc (large_is_not_small (kinds_of c.types a.ty), small) in
-        ap (λ b. not a.released && not (freed && b)) large ∙ ap (λ b. not a.released && not b) (and-false freed)
+freed_storage c w x2 a small = grind (arith, freed_or_not, large_is_not_small, and-false)
 
 -- Where nothing is freed, nothing changes.
 pub none_freed : (w : Words) (xs : List PlacedAllocation) → map (freed_where_it_stands w None) xs ≡ xs

@@ -1,19 +1,12 @@
 -- What each condition says of an enabled event.
-use Rattle.mk_core.proofs.Vocabulary.{Bool, Config, Event, IsEnabled, Moment, Seat, ℕ, and_parts, arith, false}
-use Rattle.mk_core.proofs.Vocabulary.{if◌then◌else◌, refl, true, ◌≡◌}
+use Rattle.mk_core.proofs.Vocabulary.{Bool, Config, Event, IsEnabled, Moment, Seat, ℕ, and_parts, arith, if◌then◌else◌}
+use Rattle.mk_core.proofs.Vocabulary.{refl, true, ◌≡◌}
 use Rattle.mk_core.specs.{Enabled.EnabledEventsMeetAll, Enabled.MeetsAll, Enabled.marker_may, Moments.marker_of}
 
 all_hold : (a b c d e f g : Bool) → ◌≡◌ {A = ℕ} (if a then (if b
     then (if c then (if d then (if e then (if f then (if g then 0 else 7) else 6) else 5) else 4) else 3) else 2)
     else 1) 0 → (a ≡ true) × (b ≡ true) × (c ≡ true) × (d ≡ true) × (e ≡ true) × (f ≡ true) × (g ≡ true)
-all_hold true true true true true true true h = (refl, refl, refl, refl, refl, refl, refl)
-all_hold false b c d e f g h = absurd (omega arith)
-all_hold true false c d e f g h = absurd (omega arith)
-all_hold true true false d e f g h = absurd (omega arith)
-all_hold true true true false e f g h = absurd (omega arith)
-all_hold true true true true false f g h = absurd (omega arith)
-all_hold true true true true true false g h = absurd (omega arith)
-all_hold true true true true true true false h = absurd (omega arith)
+all_hold x0 b c d e f g h = grind arith
 
 pub enabled_meets : (c : Config) (m : Moment) (e : Event) → IsEnabled c m e → MeetsAll c m e
 enabled_meets c m e h = grind (arith, all_hold, and_parts)

@@ -1,7 +1,7 @@
 -- What the schedules leave, counted: allocations, held and fresh words, tallies, and frees that are due.
 use Rattle.mk_core.proofs.Vocabulary.{Config, Event, List, Step, ℕ, all_below, ap, arith, calls_from, drop, false}
 use Rattle.mk_core.proofs.Vocabulary.{false≢true, is_give, left, left_from, may_turn_black, pointed_cell, refl, take}
-use Rattle.mk_core.proofs.{Vocabulary.{true, unreleased_storage, [], ◌<◌, ◌∷◌, ◌≡◌}, EventsAt.{Also, AtEach, at_each}}
+use Rattle.mk_core.proofs.{Vocabulary.{true, unreleased_storage, [], ◌∷◌, ◌≡◌}, EventsAt.{Also, AtEach, at_each}}
 use Rattle.mk_core.proofs.{EventsAt.{event_number, ◌and◌}, Schedules.{blackened_before_the_move, by, c0}}
 use Rattle.mk_core.proofs.Schedules.{freed_after_begin, host, m0, one_page, pointer_page}
 use Rattle.mk_core.proofs.MoreSchedules.{a_quarter_and_all, full_then_reused, two_pages}
@@ -53,9 +53,7 @@ freed_is_not_tidy h = let wrong : ◌≡◌ {A = ℕ} 0 2 = h.cycles in omega ar
 
 pub freed_has_untidy_give : IsTidy one_page freed_after_begin → ⊥
 unfolding by c0 host freed_after_begin event_number
-freed_has_untidy_give h =
-    freed_is_not_tidy (h (take 55 freed_after_begin) (event_number 55 freed_after_begin) (drop 56 freed_after_begin)
-    refl refl)
+freed_has_untidy_give h = freed_is_not_tidy (h (take 55 freed_after_begin) _ (drop 56 freed_after_begin) refl refl)
 
 -- Here every tally is stored before its `give`.
 pub full_is_tidy : IsTidy one_page full_then_reused
@@ -88,11 +86,8 @@ pub dues_of_a_quarter : (IsDue two_pages (take 14 a_quarter_and_all) (record { s
     × (IsDue two_pages (take 19 a_quarter_and_all) (record { seat = c0; step = Step.Quar 1 1 }))
 unfolding by c0 all_below pointed_cell two_pages a_quarter_and_all left_from unreleased_storage
 dues_of_a_quarter = (
-  λ h. let wrong : 8 < 8 = h.quarter in omega arith,
-  record {
-    decides = refl;
-    quarter = omega arith;
-  },
+  λ h. let wrong = h.quarter in omega arith,
+  record { decides = refl; quarter = omega arith },
 )
 
 -- The step that takes the snapshot frees nothing, though half of the held words is fresh after it.

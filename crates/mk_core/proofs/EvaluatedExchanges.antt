@@ -32,9 +32,6 @@ compares_there c es q i p r number place is there same k' q' i' p' r' is_event i
     (Caller 0)).op ≡ Op.CasPtr q' i' p' r'). subst (λ (o : Op). ComparesValues c es 0 (q_of o) (i_of o) (p_of o))
     (sym is ∙ here) (record { number = number; place = place; target = there; answered = same })) is'
 
-answered_zero : Some (Answer.Num 0) ≡ Some (Answer.Num 1) → ⊥
-answered_zero h = let no : ◌≡◌ {A = ℕ} 0 1 = cc in omega arith
-
 is_null : Value → Bool
 is_null Null = true
 is_null _ = false
@@ -52,7 +49,7 @@ first_exchange = compares_there pointer_page (take 16 exchanged) 0 0 2 1 0 0 ref
 second_exchange : ExchangeCompares pointer_page (take 24 exchanged) (record { seat = c0; step = Step.Cas })
 unfolding by c0 all_below pointed_cell pointer_page exchanged left_from calls_from
 second_exchange = compares_there pointer_page (take 24 exchanged) 0 0 2 1 0 0 refl refl
-    ((λ h. absurd (answered_zero h)), (λ h. absurd (not_null 1 0 0 h)))
+    ((λ h. absurd (let no : ◌≡◌ {A = ℕ} 0 1 = cc in omega arith)), (λ h. absurd (not_null 1 0 0 h)))
 
 pub exchanges_compare : ExchangesCompareValues pointer_page exchanged
 unfolding by c0 exchanged AtEach Also

@@ -1,12 +1,12 @@
 -- What headers and freed bits tell after a small history: the one freed bit is that of the third object.
-use Rattle.std.proofs.{Common.ap₂, lemmas.Nat.Bits.{bit_at-pow_other, bit_at-zero}}
+use Rattle.std.proofs.{Common.ap₂, lemmas.Nat.Bits.bit_at-pow_other, lemmas.Nat.Bits.bit_at-zero}
 use Rattle.mk_core.proofs.Vocabulary.{Bool, Cell, Later, Some, World, ℕ, all_below, ap, arith, cases_eq, cells_under}
-use Rattle.mk_core.proofs.Vocabulary.{eqb-false, eqb-true, false, false≢true, first_moment, has_bit, header_at}
-use Rattle.mk_core.proofs.Vocabulary.{header_in, inl, inr, left, left_from, ltb-true, placed_at, pointed_cell, refl}
-use Rattle.mk_core.proofs.Vocabulary.{stands_in, subst, suc, sym, true, zero, zero_words_of, [], ◌*◌, ◌+◌, ◌<◌, ◌==◌}
-use Rattle.mk_core.proofs.{Vocabulary.{◌∙◌, ◌∷◌, ◌≡◌}, SmallCycles.{small, three_objects}}
+use Rattle.mk_core.proofs.Vocabulary.{eqb-false, eqb-true, false, false≢true, first_moment, header_at, header_in, inl}
+use Rattle.mk_core.proofs.Vocabulary.{inr, left, left_from, ltb-true, placed_at, pointed_cell, refl, stands_in, subst}
+use Rattle.mk_core.proofs.Vocabulary.{suc, sym, true, zero, zero_words_of, [], ◌<◌, ◌==◌, ◌∙◌, ◌∷◌, ◌≡◌}
 use Rattle.mk_geom.specs.Headers.{IsHeaderWord}
-use Rattle.mk_core.specs.{Cells.is_freed, Readings.{IsTaken, WordsTellWhatStands}}
+use Rattle.mk_core.proofs.SmallCycles.{small, three_objects}
+use Rattle.mk_core.specs.{Cells.is_freed, Readings.IsTaken, Readings.WordsTellWhatStands}
 
 abbrev pub second_cell : Cell
 second_cell = record { page = 0; index = 1 }
@@ -40,26 +40,16 @@ only_third zero index h = elim (cases_eq index 2) [
 ]
 only_third (suc page) index h = absurd (false≢true (sym (ap (λ b. b == 1) (bit_at-zero index)) ∙ h))
 
-cell_is : (cell : Cell) → (cell.page ≡ 0) × (cell.index ≡ 2) → cell ≡ third_cell
-cell_is cell h = ap₂ (λ (p i : ℕ). record { page = p; index = i }) h.0 h.1
-
 freed_number : (number : ℕ) → (placed_at (left small three_objects).allocations number).freed ≡ true → number ≡ 2
 unfolding left_from all_below pointed_cell three_objects
-freed_number zero h = absurd (false≢true h)
-freed_number (suc zero) h = absurd (false≢true h)
-freed_number (suc (suc zero)) h = refl
-freed_number (suc (suc (suc n))) h = absurd (false≢true h)
+freed_number x0 h = grind arith
 
 cell_of_third : (page index : ℕ) → index < cells_under (header_in (left small three_objects).now.words page)
     → stands_in (left small three_objects).now.words (record { page = page; index = index })
     (placed_at (left small three_objects).allocations 2) ≡ true
     → is_freed (left small three_objects).now.words (record { page = page; index = index }) ≡ true
 unfolding left_from all_below pointed_cell three_objects
-cell_of_third zero index lt h =
-    let e : 4 ≡ 64 * 0 + index * 2 = eqb-true 4 (64 * 0 + index * 2) h in
-    let is : index ≡ 2 = omega arith in
-    ap (λ i. has_bit 4 i) is
-cell_of_third (suc page) index lt h = absurd (omega arith)
+cell_of_third x0 index lt h = grind (arith, eqb-true)
 
 no_later : (p distance : ℕ) (mapped : Bool)
     → header_in (left small three_objects).now.words p ≡ Some (Later distance mapped) → ⊥
@@ -78,7 +68,8 @@ words_tell_what_stands =
       headers = headers;
       later = λ settled p distance mapped h. absurd (no_later p distance mapped h);
       freed = λ settled cell h. subst (λ x. (a : IsTaken w x) × ((placed_at w.allocations a.number).freed ≡ true))
-          (sym (cell_is cell (only_third cell.page cell.index h))) (third_is_taken, third_was_freed);
+          (sym (ap₂ (λ (p i : ℕ). record { page = p; index = i }) (only_third cell.page cell.index h).0
+          (only_third cell.page cell.index h).1)) (third_is_taken, third_was_freed);
       quarantined = λ cell a h. cell_of_third cell.page cell.index a.in_range (subst
           (λ i. stands_in w.now.words cell (placed_at w.allocations i) ≡ true) (freed_number a.number h) a.stands);
     }
@@ -90,8 +81,5 @@ bare = record {
   allocations = [];
 }
 
-nothing_is_taken : {cell : Cell} → IsTaken bare cell → ⊥
-nothing_is_taken a = false≢true a.stands
-
 bare_tells_wrong : WordsTellWhatStands bare → ⊥
-bare_tells_wrong tells = nothing_is_taken (tells.freed (eqb-false 0 4 refl) third_cell refl).0
+bare_tells_wrong tells = false≢true (tells.freed (eqb-false 0 4 refl) third_cell refl).0.stands

@@ -1,11 +1,11 @@
 -- What guards the words of black objects while a caller writes beside a marker: a marked target, a dirty page, and a
 -- call that owes the dirty mark. And a moment that no history leaves, where nothing does.
-use Rattle.mk_core.proofs.Vocabulary.{Moment, ℕ, all_below, arith, false, false≢true, first_moment, inl, left}
-use Rattle.mk_core.proofs.Vocabulary.{left_from, ltb-true, pointed_cell, points_well, refl, replicate, slice_index, suc}
-use Rattle.mk_core.proofs.Vocabulary.{true, word_points_well, zero, zero_words_of, [], ◌*◌, ◌++◌, ◌+◌, ◌/◌, ◌<◌, ◌∷◌}
-use Rattle.mk_core.proofs.{Vocabulary.◌≡◌, SmallCycles.{marked_beside, page_dirtied, small, three_objects}}
-use Rattle.mk_core.proofs.{SmallCycles.written_beside, ListTests.list_all-at}
+use Rattle.mk_core.proofs.Vocabulary.{Moment, ℕ, all_below, arith, false, first_moment, inl, left, left_from, ltb-true}
+use Rattle.mk_core.proofs.Vocabulary.{pointed_cell, points_well, refl, replicate, slice_index, suc, true}
+use Rattle.mk_core.proofs.Vocabulary.{word_points_well, zero, zero_words_of, [], ◌*◌, ◌++◌, ◌+◌, ◌/◌, ◌∷◌, ◌≡◌}
 use Rattle.mk_geom.specs.Addresses.{address_of}
+use Rattle.mk_core.proofs.SmallCycles.{marked_beside, page_dirtied, small, three_objects, written_beside}
+use Rattle.mk_core.proofs.ListTests.{list_all-at}
 use Rattle.mk_core.specs.ClosedMarks.{DirtyIsOwed, IsGuarded, MarkingIsGuarded, OwesDirty, PageIsDirty, PointsWell}
 
 -- After the `write` heap word 0, of a black object, points to an unmarked one, and its page isn't dirty yet.
@@ -26,8 +26,6 @@ guarded_by_call = DirtyIsOwed 0 (refl, refl)
 pub writing_is_guarded : MarkingIsGuarded small (left small written_beside).now
 unfolding left_from all_below pointed_cell written_beside three_objects
 writing_is_guarded marks zero k i cell black scanned word =
-    let less : k < 32 = cell in
-    let inside : i < 2 = word in
     let page : 0 ≡ (64 * 0 + k * 2 + i) / 64 = omega arith in
     DirtyIsOwed 0 (refl, page)
 writing_is_guarded marks (suc p) k i cell black scanned word = absurd (omega arith)
@@ -73,9 +71,7 @@ none_owes (suc k) page owes = absurd cc
 
 pub word_is_unguarded : IsGuarded small unguarded 0 → ⊥
 unfolding pointed_cell
-word_is_unguarded (PointsWell well) = false≢true well
-word_is_unguarded (PageIsDirty dirty) = absurd (omega arith)
-word_is_unguarded (DirtyIsOwed k owes) = none_owes k 0 owes
+word_is_unguarded x0 = grind (arith, none_owes)
 
 pub marking_is_unguarded : MarkingIsGuarded small unguarded → ⊥
 marking_is_unguarded guarded =

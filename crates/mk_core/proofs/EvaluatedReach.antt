@@ -1,12 +1,12 @@
 -- What is reached after a small history: by a register, by a word of another object, and not at all.
-use Rattle.mk_core.proofs.Vocabulary.{Bool, NeverState, Null, Ptr, Value, ℕ, all_below, and_parts, ap, calls_from}
+use Rattle.mk_core.proofs.Vocabulary.{Bool, NeverState, Null, Ptr, Value, ℕ, all_below, and_parts, arith, calls_from}
 use Rattle.mk_core.proofs.Vocabulary.{false, false≢true, left_from, list_all, never_behind, not, pointed_cell, refl}
-use Rattle.mk_core.proofs.Vocabulary.{replicate, subst, suc, sym, true, zero, [], ◌&&◌, ◌||◌, ◌∙◌, ◌∷◌, ◌≡◌}
+use Rattle.mk_core.proofs.Vocabulary.{replicate, subst, suc, sym, true, zero, [], ◌&&◌, ◌||◌, ◌∷◌, ◌≡◌}
 use Rattle.mk_core.proofs.ListTests.{implied, list_all-at, numbered_all, numbered_all-at}
 use Rattle.mk_core.proofs.SmallCycles.{begun_in_stop, small, three_objects}
-use Rattle.mk_never.{proofs.Reached.{reached_is_in}, specs.declared.values.Value.TheVariants.{Num}}
-use Rattle.mk_never.specs.NeverHeap.{Allocation, allocation_at, is_unmapped, no_allocation, word_at}
+use Rattle.mk_never.{proofs.Reached.{reached_is_in}, specs.NeverHeap.{Allocation, is_unmapped, no_allocation}}
 use Rattle.mk_never.specs.Reach.{IsClosedUnderPointers, IsReachable, LeadsTo, by_register, by_word}
+use Rattle.mk_never.specs.declared.values.Value.TheVariants.{Num}
 
 -- A set is closed under pointers, as a test.
 
@@ -23,35 +23,29 @@ is_closed_under_pointers n S = list_all (leads_into S) n.registers && list_all (
     && numbered_all (words_lead_into S) n.allocations
 
 pub led_into : (S : ℕ → Bool) (v : Value) (number : ℕ) → leads_into S v ≡ true → LeadsTo v number → S number ≡ true
-led_into S Null number h leads = absurd leads
-led_into S (Num m) number h leads = absurd leads
-led_into S (Ptr number' ty offset) number h leads = ap S (sym leads) ∙ h
+led_into x0 x1 number h leads = grind arith
 
 of_none : (S : ℕ → Bool) (from : ℕ) → words_lead_into S from no_allocation ≡ true
-of_none S from = by (S from)
-  where
-    by : (b : Bool) → (not (b && true) || true) ≡ true
-    by true = refl
-    by false = refl
+of_none x0 from = grind arith
 
 both_are : (a b : Bool) → a ≡ true → b ≡ false → (a && not b) ≡ true
 both_are a b h k = rw (h, k) refl
 
 pub closed_by_test : (n : NeverState) (S : ℕ → Bool)
     → is_closed_under_pointers n S ≡ true → IsClosedUnderPointers n (λ number. S number ≡ true)
-closed_by_test n S h =
-    let outer = and_parts (list_all (leads_into S) n.registers && list_all (leads_into S) n.globals) _ h in
-    let roots = and_parts (list_all (leads_into S) n.registers) (list_all (leads_into S) n.globals) outer.0 in
-    record {
-      registers = λ r number leads. led_into S _ number (list_all-at (leads_into S) n.registers Null roots.0 refl r)
-          leads;
-      globals = λ g number leads. led_into S _ number (list_all-at (leads_into S) n.globals Null roots.1 refl g) leads;
-      words = λ from place number inside leads.
-          let each = numbered_all-at (words_lead_into S) n.allocations no_allocation outer.1 (of_none S) from in
-          let all = implied (S from && not (is_unmapped (allocation_at n from))) _ each (both_are _ _ inside leads.0) in
-          led_into S (word_at n from place) number
-          (list_all-at (leads_into S) (allocation_at n from).words Null all refl place) leads.1;
-    }
+closed_by_test n x1 h =
+    grind (
+      arith,
+      and_parts,
+      leads_into,
+      led_into,
+      list_all-at,
+      numbered_all-at,
+      words_lead_into,
+      of_none,
+      implied,
+      both_are,
+    )
 
 -- after a pointer that was written to the first object, and the second register cleared
 

@@ -3,9 +3,9 @@
 use Rattle.mk_core.proofs.Vocabulary.{Event, List, Moment, Op, Seat, Some, Step, ℕ, all_below, arith, eqb-false, false}
 use Rattle.mk_core.proofs.Vocabulary.{false≢true, first_moment, flight_of, leb-true, left, left_from, ltb-true, not}
 use Rattle.mk_core.proofs.Vocabulary.{not-true, pointed_cell, refl, slice_index, suc, sym, true, zero, zero_words_of}
-use Rattle.mk_core.proofs.Vocabulary.{[], ◌++◌, ◌+◌, ◌<◌, ◌↔◌, ◌∙◌, ◌∷◌, ◌≡◌, ◌≤◌}
-use Rattle.mk_core.proofs.SmallCycles.{begun_in_stop, by_caller, by_host, first_marked, marked_in_stop, marker_in}
-use Rattle.mk_core.proofs.{SmallCycles.{small, three_objects, written_beside}, ListTests.list_all-at}
+use Rattle.mk_core.proofs.{Vocabulary.{[], ◌++◌, ◌+◌, ◌<◌, ◌↔◌, ◌∷◌, ◌≡◌, ◌≤◌}, SmallCycles.{begun_in_stop, by_caller}}
+use Rattle.mk_core.proofs.SmallCycles.{by_host, first_marked, marked_in_stop, marker_in, small, three_objects}
+use Rattle.mk_core.proofs.{SmallCycles.written_beside, ListTests.list_all-at}
 use Rattle.mk_core.specs.Readings.{GateTells, Holds, NoneAttends, PhaseTells, TurnTells, WordsTellWhoHoldsWhat}
 use Rattle.mk_core.specs.{Readings.is_in_turn, StopConditions.{is_attending, none_attends}, HeldGates.is_gate_held_from}
 use Rattle.mk_core.specs.{Moments.outside, declared.seats.Marker.Marker}
@@ -21,10 +21,7 @@ sole_turn m h zero lt = h
 sole_turn m h (suc k) lt = absurd (omega arith)
 
 nobody_holds : (m : Moment) → CallerTells m → m.words.turn ≡ 0 → (s : Seat) → Holds small m s → ⊥
-nobody_holds m h free (Seat.Caller k) holds = let taken : m.words.turn ≡ 1 + k =
-    (sole_turn m h k holds.0).1 holds.1 in omega arith
-nobody_holds m h free (Seat.Marker k) holds = holds
-nobody_holds m h free Seat.Host holds = eqb-false 0 2 refl (sym free ∙ holds)
+nobody_holds m h free x3 holds = grind (arith, sole_turn, eqb-false)
 
 somebody_holds : (m : Moment) (turn : ℕ) → m.words.turn ≡ turn → CallerTells m → turn ≤ 2
     → ((s : Seat) → Holds small m s → ⊥) → m.words.turn ≡ 0

@@ -1,11 +1,12 @@
 -- What others leave besides, where calls are admitted, in small cases: to a caller in a call the objects that its
 -- registers point to, to the turn's holder all words outside the mapped objects, and to a marker all headers.
-use Rattle.mk_core.proofs.Vocabulary.{AreOfOthers, Event, IsWordOf, List, Null, Seat, Step, ℕ, all_below, calls_from}
-use Rattle.mk_core.proofs.Vocabulary.{false, false≢true, inl, leb-true, left, left_from, ltb-true, never_behind}
-use Rattle.mk_core.proofs.Vocabulary.{placed_at, pointed_cell, refl, slice_index, storage_of, subst, suc, true, zero}
-use Rattle.mk_core.proofs.{Vocabulary.{[], ◌*◌, ◌++◌, ◌+◌, ◌∷◌, ◌≡◌}, EvaluatedReach.{below_two, leads_into, led_into}}
-use Rattle.mk_core.proofs.SmallCycles.{by_marker, first_marked, pointer_written, small, three_objects}
-use Rattle.mk_core.{proofs.{EvaluatedFrames.{before_probe, turn_taken}, ListTests.list_all-at}, specs.Readings.{Holds}}
+use Rattle.mk_core.proofs.Vocabulary.{AreOfOthers, Event, IsWordOf, List, Null, Seat, Step, ℕ, all_below, arith}
+use Rattle.mk_core.proofs.Vocabulary.{calls_from, false, false≢true, inl, leb-true, left, left_from, ltb-true}
+use Rattle.mk_core.proofs.Vocabulary.{never_behind, placed_at, pointed_cell, refl, slice_index, storage_of, subst, suc}
+use Rattle.mk_core.{proofs.Vocabulary.{true, zero, [], ◌*◌, ◌++◌, ◌+◌, ◌∷◌, ◌≡◌}, specs.Readings.{Holds}}
+use Rattle.mk_core.proofs.{EvaluatedReach.{below_two, leads_into, led_into}, SmallCycles.{by_marker, first_marked}}
+use Rattle.mk_core.proofs.SmallCycles.{pointer_written, small, three_objects}
+use Rattle.mk_core.proofs.{EvaluatedFrames.{before_probe, turn_taken}, ListTests.list_all-at}
 use Rattle.mk_never.specs.{NeverHeap.register_at, Reach.LeadsTo}
 use Rattle.mk_core.specs.{Frames.{HeapIsLeft, IsLeft, IsLeftByAdmitted, TargetsAreLeft}, Allocations.is_mapped}
 
@@ -19,16 +20,12 @@ targets r a leads = led_into below_two (register_at (never_behind small before_p
 unreleased : (a : ℕ) → below_two a ≡ true
     → (placed_at (left small (before_probe ++ turn_taken)).allocations a).released ≡ false
 unfolding left_from all_below pointed_cell three_objects
-unreleased zero h = refl
-unreleased (suc zero) h = refl
-unreleased (suc (suc a)) h = absurd (false≢true h)
+unreleased x0 h = grind arith
 
 mapped : (a : ℕ) → below_two a ≡ true
     → is_mapped small (placed_at (left small (before_probe ++ turn_taken)).allocations a) ≡ true
 unfolding left_from all_below pointed_cell three_objects
-mapped zero h = refl
-mapped (suc zero) h = refl
-mapped (suc (suc a)) h = absurd (false≢true h)
+mapped x0 h = grind arith
 
 pub targets_are_left : TargetsAreLeft small before_probe (before_probe ++ turn_taken) 0
 unfolding left_from calls_from all_below pointed_cell three_objects

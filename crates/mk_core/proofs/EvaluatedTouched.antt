@@ -35,12 +35,7 @@ marking = record {
 }
 
 behind_begin : LeadsToMoment marking (through marking.begin)
-behind_begin = record {
-  done = [];
-  to_come = marked_in_stop;
-  of_the_cycle = refl;
-  is = sym (append-nil (through marking.begin));
-}
+behind_begin = record { done = []; to_come = marked_in_stop; of_the_cycle = refl; is = sym (append-nil _) }
 
 pub third_is_in_snapshot : IsInSnapshot small marking 2
 unfolding left_from all_below pointed_cell begun_in_stop three_objects

@@ -1,8 +1,8 @@
 -- What is granted stands at its New's place.
 use Rattle.mk_core.proofs.Vocabulary.{BeginsAtCell, Bool, Config, Flight, HasItsHeaders, IsSized, IsWithinLimits}
-use Rattle.mk_core.proofs.Vocabulary.{Moment, Object, Op, Place, PlacedAllocation, StandsOnHeap, Words, ℕ, and_parts}
-use Rattle.mk_core.proofs.Vocabulary.{ap, arith, base_made, cell_ends, cells_made, cond-false, cond-true, eqb-true}
-use Rattle.mk_core.proofs.Vocabulary.{false, header_at, header_made, inl, kinds_of, length, ltb-true, object_made}
+use Rattle.mk_core.proofs.Vocabulary.{Moment, Op, Place, PlacedAllocation, StandsOnHeap, Words, ℕ, and_parts, ap, arith}
+use Rattle.mk_core.proofs.Vocabulary.{base_made, cell_ends, cells_made, cond-false, cond-true, eqb-true, false}
+use Rattle.mk_core.proofs.Vocabulary.{header_at, header_made, inl, kinds_of, length, ltb-true, object_made}
 use Rattle.mk_core.proofs.Vocabulary.{object_placed, pages_made, subst, sym, true, words_made, [], ◌*◌, ◌+◌, ◌/◌, ◌<◌}
 use Rattle.mk_core.proofs.{Vocabulary.{◌∙◌, ◌≡◌, ◌≤◌}, Sizes.{large_words, small_cells, small_pages, small_words}}
 use Rattle.mk_core.proofs.{AllBelow.all_below-at, PlacesNow.undecided_new, StandingAllocations.made_begins}
@@ -33,12 +33,6 @@ pub new_sized : (c : Config) (f : Flight) → IsWithinLimits c → is_undecided_
     → IsSized (object_made c f.op)
 new_sized c f limits new h = grind (arith, undecided_new, made_is, typed_by)
 
--- The words of a place end with its pages.
-pub place_ends : (o : Object) (place : Place) → IsSized o → place.index < cells_made o
-    → base_made o place + words_made o ≤ 64 * (place.page + pages_made o)
-place_ends o place sized known =
-    grind (arith, small_cells, cell_ends, small_words, small_pages, cond-true, large_words, cond-false)
-
 -- The object of a place, as an allocation of its type with its base, stands there,
 pub placed_stands : (c : Config) (a : PlacedAllocation) (place : Place) → IsWithinLimits c → a.ty < length c.types
     → a.released ≡ false → a.base ≡ base_made (object_placed c a) place → place.index < cells_made (object_placed c a)
@@ -46,7 +40,9 @@ pub placed_stands : (c : Config) (a : PlacedAllocation) (place : Place) → IsWi
 placed_stands c a place limits typed unreleased base known within =
     let sized : IsSized (object_placed c a) = (limits.types a.ty [] typed).0 in
     let begins = (made_begins (object_placed c a) place sized known).0 in
-    let ends = place_ends (object_placed c a) place sized known in
+    let ends : base_made (object_placed c a) place + words_made
+    (object_placed c a) ≤ 64 * (place.page + pages_made (object_placed c a)) = grind
+    (arith, small_cells, cell_ends, small_words, small_pages, cond-true, large_words, cond-false) in
     let end : base_made (object_placed c a) place + words_made (object_placed c a) ≤ 64 * c.pages = omega arith in
     record {
       typed = typed;

@@ -1,13 +1,12 @@
 -- What the header of each page of an object shows.
-use Rattle.mk_core.proofs.Vocabulary.{Block, Bool, Free, Header, IsHeaderOf, IsSized, Later, LeafBlock, LeafRun, Object}
-use Rattle.mk_core.proofs.Vocabulary.{Option, Run, Some, ℕ, ap, arith, cases_Bool, cells_made, cells_under, class_made}
-use Rattle.mk_core.proofs.Vocabulary.{cond-false, cond-true, false, header_made, inl, inr, is_small_object, pages_made}
-use Rattle.mk_core.proofs.Vocabulary.{refl, subst, suc, sym, true, true≢false, unmapped_header, words_made, words_under}
-use Rattle.mk_core.proofs.Vocabulary.{zero, ◌&&◌, ◌+◌, ◌<◌, ◌||◌, ◌∙◌, ◌≡◌, ◌≢◌, ◌≤◌}
-use Rattle.mk_geom.{proofs.HeaderLemmas.header_of-word_of, specs.Addresses.head_page_under, specs.Headers.header_of}
-use Rattle.mk_geom.{specs.Headers.word_of, specs.Storages.block_header, specs.Storages.run_header}
-use Rattle.mk_core.proofs.Sizes.{class_known, large_cells, large_count, large_pages, large_words, small_cells}
-use Rattle.mk_core.proofs.Sizes.{small_pages, small_words}
+use Rattle.mk_core.proofs.Vocabulary.{Bool, Free, Header, IsHeaderOf, IsSized, Later, Object, Option, Some, ℕ, ap}
+use Rattle.mk_core.proofs.Vocabulary.{arith, cases_Bool, cells_made, cells_under, class_made, cond-false, cond-true}
+use Rattle.mk_core.proofs.Vocabulary.{false, header_made, inl, inr, is_small_object, pages_made, refl, subst, suc, sym}
+use Rattle.mk_core.proofs.Vocabulary.{true, unmapped_header, words_made, words_under, zero, ◌&&◌, ◌+◌, ◌<◌, ◌||◌, ◌∙◌}
+use Rattle.mk_core.proofs.{Vocabulary.{◌≡◌, ◌≢◌, ◌≤◌}, Sizes.{class_known, large_cells, large_count, large_pages}}
+use Rattle.mk_core.proofs.Sizes.{large_words, small_cells, small_pages, small_words}
+use Rattle.mk_geom.proofs.HeaderLemmas.{header_of-word_of}
+use Rattle.mk_geom.specs.{Addresses.head_page_under, Headers.{header_of, word_of}, Storages.{block_header, run_header}}
 use Rattle.mk_core.specs.ObjectHeaders.{FirstPartsHaveCells, OfBlock, OfLater, OfLeafBlock, OfLeafRun, OfRun, ShowsPart}
 use Rattle.mk_core.specs.Cells.{has_no_pointers, heads_run, is_unmapped_header}
 
@@ -21,32 +20,12 @@ large_header o distance large = grind (arith, cond-false, large_pages)
 
 block_part : (o : Object) (distance : ℕ) (leaf : Bool) → o.leaf ≡ leaf → class_made o < 8 → distance ≡ 0
     → is_small_object o ≡ true → ShowsPart o distance (header_of (word_of (block_header (class_made o) leaf)))
-block_part o distance true is known first small =
-    subst (λ (x : Option Header). ShowsPart o distance x) (sym (header_of-word_of (LeafBlock (class_made o)) known))
-    (OfLeafBlock first small is)
-block_part o distance false is known first small =
-    subst (λ (x : Option Header). ShowsPart o distance x) (sym (header_of-word_of (Block (class_made o)) known))
-    (OfBlock first small is)
+block_part o distance x2 is known first small = grind (arith, header_of-word_of, OfLeafBlock, OfBlock)
 
 run_part : (o : Object) (distance : ℕ) (mapped leaf : Bool) → (mapped && o.leaf) ≡ (mapped && leaf)
     → (1 ≤ pages_made o) × (pages_made o ≤ 64) → distance < pages_made o → is_small_object o ≡ false
     → ShowsPart o distance (header_of (word_of (run_header (pages_made o) mapped leaf distance)))
-run_part o zero true true is range lt large =
-    subst (λ (x : Option Header). ShowsPart o 0 x) (sym (header_of-word_of (LeafRun (pages_made o)) range))
-    (OfLeafRun refl large is)
-run_part o zero true false is range lt large =
-    subst (λ (x : Option Header). ShowsPart o 0 x) (sym (header_of-word_of (Run (pages_made o) true) range))
-    (OfRun true refl large is)
-run_part o zero false true is range lt large =
-    subst (λ (x : Option Header). ShowsPart o 0 x) (sym (header_of-word_of (Run (pages_made o) false) range))
-    (OfRun false refl large refl)
-run_part o zero false false is range lt large =
-    subst (λ (x : Option Header). ShowsPart o 0 x) (sym (header_of-word_of (Run (pages_made o) false) range))
-    (OfRun false refl large refl)
-run_part o (suc d) mapped leaf is range lt large =
-    let most = range.1 in
-    subst (λ (x : Option Header). ShowsPart o (suc d) x)
-    (sym (header_of-word_of (Later (suc d) mapped) (omega arith, omega arith))) (OfLater mapped (omega arith) large)
+run_part o x1 mapped leaf is range lt large = grind (arith, header_of-word_of, OfLeafRun, OfRun, OfLater)
 
 -- The header that is made shows its part,
 pub made_shows : (o : Object) (distance : ℕ) → IsSized o → distance < pages_made o
@@ -73,11 +52,7 @@ header_shows o distance header sized lt (inr unmapped) = grind (arith, unmapped_
 -- What shows a part names its head,
 pub part_head : (o : Object) (distance page : ℕ) (x : Option Header) → ShowsPart o distance x
     → head_page_under x (page + distance) ≡ page
-part_head o distance page x (OfBlock first small leaf) = omega arith
-part_head o distance page x (OfLeafBlock first small leaf) = omega arith
-part_head o distance page x (OfRun mapped first large leaf) = omega arith
-part_head o distance page x (OfLeafRun first large leaf) = omega arith
-part_head o distance page x (OfLater mapped some large) = omega arith
+part_head o distance page x x4 = grind arith
 
 -- isn't free,
 abbrev shows_free : Option Header → Bool
@@ -116,54 +91,29 @@ same_under f n o first later (suc d) x y px py = grind arith
 -- and none at a later one.
 pub later_part : (o : Object) (distance : ℕ) (x : Option Header) → ShowsPart o distance x → 1 ≤ distance
     → (mapped : Bool) × (x ≡ Some (Later distance mapped)) × (is_small_object o ≡ false)
-later_part o distance x (OfBlock first small leaf) some = absurd (omega arith)
-later_part o distance x (OfLeafBlock first small leaf) some = absurd (omega arith)
-later_part o distance x (OfRun mapped first large leaf) some = absurd (omega arith)
-later_part o distance x (OfLeafRun first large leaf) some = absurd (omega arith)
-later_part o distance x (OfLater mapped far large) some = (mapped, refl, large)
+later_part o distance x x3 some = grind arith
 
 pub later_cells : (o : Object) (distance : ℕ) (x : Option Header) → ShowsPart o distance x → 1 ≤ distance
     → cells_under x ≡ 0
 later_cells o distance x part some = let is = later_part o distance x part some in ap (λ y. cells_under y) is.1
 
-pub later_words : (o : Object) (distance : ℕ) (x : Option Header) → ShowsPart o distance x → 1 ≤ distance
-    → words_under x ≡ 0
-later_words o distance x part some = let is = later_part o distance x part some in ap (λ y. words_under y) is.1
-
 -- A later page's header is one of a large object's.
 pub shown_later : (o : Object) (distance d : ℕ) (mapped : Bool) (x : Option Header) → ShowsPart o distance x
     → x ≡ Some (Later d mapped) → (d ≡ distance) × (1 ≤ distance) × (is_small_object o ≡ false)
-shown_later o distance d mapped x (OfBlock first small leaf) is = cc
-shown_later o distance d mapped x (OfLeafBlock first small leaf) is = cc
-shown_later o distance d mapped x (OfRun m first large leaf) is = cc
-shown_later o distance d mapped x (OfLeafRun first large leaf) is = cc
-shown_later o distance d mapped x (OfLater m some large) is = (let e : d ≡ distance = cc in e, some, large)
+shown_later o distance d mapped x x5 is = grind arith
 
 -- A run has its head at the first page of a large object, and no page of a small one is unmapped.
 pub part_heads_run : (o : Object) (x : Option Header) → ShowsPart o 0 x → is_small_object o ≡ false → heads_run x ≡ true
-part_heads_run o x (OfBlock first small leaf) large = absurd (true≢false (sym small ∙ large))
-part_heads_run o x (OfLeafBlock first small leaf) large = absurd (true≢false (sym small ∙ large))
-part_heads_run o x (OfRun mapped first large' leaf) large = refl
-part_heads_run o x (OfLeafRun first large' leaf) large = refl
-part_heads_run o x (OfLater mapped some large') large = absurd (omega arith)
+part_heads_run o x x2 large = grind arith
 
 pub small_heads_none : (o : Object) (distance : ℕ) (x : Option Header) → ShowsPart o distance x
     → is_small_object o ≡ true → (heads_run x ≡ false) × (is_unmapped_header x ≡ false)
-small_heads_none o distance x (OfBlock first small leaf) is = (refl, refl)
-small_heads_none o distance x (OfLeafBlock first small leaf) is = (refl, refl)
-small_heads_none o distance x (OfRun mapped first large leaf) is = absurd (true≢false (sym is ∙ large))
-small_heads_none o distance x (OfLeafRun first large leaf) is = absurd (true≢false (sym is ∙ large))
-small_heads_none o distance x (OfLater mapped some large) is = absurd (true≢false (sym is ∙ large))
+small_heads_none o distance x x3 is = grind arith
 
 -- The object's cell is scanned where the object has a pointer and is mapped.
 pub part_has_no_pointers : (o : Object) (x : Option Header) → ShowsPart o 0 x
     → has_no_pointers x ≡ (o.leaf || is_unmapped_header x)
-part_has_no_pointers o x (OfBlock first small leaf) = ap (λ b. b || false) (sym leaf)
-part_has_no_pointers o x (OfLeafBlock first small leaf) = ap (λ b. b || false) (sym leaf)
-part_has_no_pointers o x (OfRun true first large leaf) = ap (λ b. b || false) (sym leaf)
-part_has_no_pointers o x (OfRun false first large leaf) = grind arith
-part_has_no_pointers o x (OfLeafRun first large leaf) = ap (λ b. b || false) (sym leaf)
-part_has_no_pointers o x (OfLater mapped some large) = absurd (omega arith)
+part_has_no_pointers o x x2 = grind arith
 
 pub first_part : FirstPartsHaveCells
 first_part o x part = (part_cells o x part, part_words o x part, part_has_no_pointers o x part)
@@ -175,25 +125,16 @@ same_cells o = same_under cells_under (cells_made o) o (part_cells o) (later_cel
 
 pub same_words : (o : Object) (distance : ℕ) (x y : Option Header) → ShowsPart o distance x → ShowsPart o distance y
     → words_under x ≡ words_under y
-same_words o = same_under words_under (words_made o) o (part_words o) (later_words o)
+same_words o = grind (arith, same_under, part_words, later_part)
 
 -- Which headers are unmapped.
 block_mapped : (class : ℕ) (leaf : Bool) → class < 8
     → is_unmapped_header (header_of (word_of (block_header class leaf))) ≡ false
-block_mapped class true known =
-    ap (λ (x : Option Header). is_unmapped_header x) (header_of-word_of (LeafBlock class) known)
-block_mapped class false known =
-    ap (λ (x : Option Header). is_unmapped_header x) (header_of-word_of (Block class) known)
+block_mapped class x1 known = grind (arith, header_of-word_of)
 
 run_mapped : (count distance : ℕ) (leaf : Bool) → (1 ≤ count) × (count ≤ 64) → distance < count
     → is_unmapped_header (header_of (word_of (run_header count true leaf distance))) ≡ false
-run_mapped count zero true range lt =
-    ap (λ (x : Option Header). is_unmapped_header x) (header_of-word_of (LeafRun count) range)
-run_mapped count zero false range lt =
-    ap (λ (x : Option Header). is_unmapped_header x) (header_of-word_of (Run count true) range)
-run_mapped count (suc d) leaf range lt =
-    let most = range.1 in
-    ap (λ (x : Option Header). is_unmapped_header x) (header_of-word_of (Later (suc d) true) (omega arith, omega arith))
+run_mapped count x1 leaf range lt = grind (arith, header_of-word_of)
 
 pub made_is_mapped : (o : Object) (distance : ℕ) → IsSized o → distance < pages_made o
     → is_unmapped_header (header_of (header_made o distance)) ≡ false
@@ -205,9 +146,4 @@ made_is_mapped o distance sized lt = elim (cases_Bool (is_small_object o)) [
 
 pub unmapped_is_unmapped : (count distance : ℕ) → (1 ≤ count) × (count ≤ 64) → distance < count
     → is_unmapped_header (header_of (unmapped_header count distance)) ≡ true
-unmapped_is_unmapped count zero range lt =
-    ap (λ (x : Option Header). is_unmapped_header x) (header_of-word_of (Run count false) range)
-unmapped_is_unmapped count (suc d) range lt =
-    let most = range.1 in
-    ap (λ (x : Option Header). is_unmapped_header x)
-    (header_of-word_of (Later (suc d) false) (omega arith, omega arith))
+unmapped_is_unmapped count x1 range lt = grind (arith, header_of-word_of)

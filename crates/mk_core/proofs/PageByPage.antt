@@ -74,14 +74,12 @@ heap_set (d ∷ ds) heap zero r v e li lr =
     ∙ ap (λ ys. take 64 (slice_set heap r v) ++ rest ys) (sym (drop-set-lt 64 heap r v lr))
     ∙ ap (λ k. page_by_page (d ∷ ds) (slice_set heap k v)) (omega arith)
 heap_set (d ∷ ds) heap (suc i) r v e li lr =
-    let left : length (drop 64 heap) ≡ 64 * length ds = omega (arith, length-drop 64 heap) in
     let place = 64 * i + r in
-    ap (λ k. slice_set (page_by_page (d ∷ ds) heap) k v) (omega arith) ∙ later_set d ds heap (72 * i + r) v e
-    ∙ ap (λ ys. take 64 heap ++ ((d ∷ gap 7) ++ ys)) (heap_set ds (drop 64 heap) i r v left (omega arith) lr)
-    ∙ ap (λ ys. take 64 heap ++ ((d ∷ gap 7) ++ page_by_page ds ys)) (sym (drop-set-add 64 heap place v))
-    ∙ ap (λ ys. ys ++ ((d ∷ gap 7) ++ page_by_page ds (drop 64 (slice_set heap (64 + place) v))))
-    (sym (take-set-le 64 heap (64 + place) v (omega arith)))
-    ∙ ap (λ k. page_by_page (d ∷ ds) (slice_set heap k v)) (omega arith)
+    ap (λ k. slice_set (page_by_page (d ∷ ds) heap) k v) (omega arith) ∙ later_set d ds heap (72 * i + r) v e ∙ ap
+    (λ ys. take 64 heap ++ ((d ∷ gap 7) ++ ys)) (heap_set ds (drop 64 heap) i r v (omega (arith, length-drop 64 heap))
+    (omega arith) lr) ∙ ap (λ ys. take 64 heap ++ ((d ∷ gap 7) ++ page_by_page ds ys)) (sym (drop-set-add 64 heap place
+    v)) ∙ ap (λ ys. ys ++ ((d ∷ gap 7) ++ page_by_page ds (drop 64 (slice_set heap (64 + place) v)))) (sym (take-set-le
+    64 heap (64 + place) v (omega arith))) ∙ ap (λ k. page_by_page (d ∷ ds) (slice_set heap k v)) (omega arith)
 
 pub dirty_set : (ds heap : List ℕ) (i v : ℕ) → length heap ≡ 64 * length ds → i < length ds
     → slice_set (page_by_page ds heap) (72 * i + 64) v ≡ page_by_page (slice_set ds i v) heap
@@ -101,10 +99,8 @@ unfolding page_by_page
 zeros zero = refl
 zeros (suc n) =
     let front : take 64 (gap (64 * suc n)) ≡ gap 64 = take-replicate 64 (64 * suc n) 0 (omega arith) in
-    let left : drop 64 (gap (64 * suc n)) ≡ gap (64 * n) = drop-replicate {X = ℕ} 64 (64 * suc n) 0
-    ∙ ap gap (omega arith) in
     ap (λ (xs : List ℕ). xs ++ ((0 ∷ gap 7) ++ page_by_page (gap n) (drop 64 (gap (64 * suc n))))) front
-    ∙ ap (λ (xs : List ℕ). gap 64 ++ ((0 ∷ gap 7) ++ page_by_page (gap n) xs)) left
-    ∙ ap (λ (xs : List ℕ). gap 64 ++ ((0 ∷ gap 7) ++ xs)) (zeros n)
+    ∙ ap (λ (xs : List ℕ). gap 64 ++ ((0 ∷ gap 7) ++ page_by_page (gap n) xs)) (drop-replicate {X = ℕ} 64 (64 * suc n) 0
+    ∙ ap gap (omega arith)) ∙ ap (λ (xs : List ℕ). gap 64 ++ ((0 ∷ gap 7) ++ xs)) (zeros n)
     ∙ ap (λ (xs : List ℕ). gap 64 ++ xs) (replicate-append-replicate {A = ℕ} 8 (72 * n) 0)
     ∙ replicate-append-replicate {A = ℕ} 64 (8 + 72 * n) 0 ∙ ap gap (omega arith)

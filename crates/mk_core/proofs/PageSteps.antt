@@ -1,15 +1,15 @@
 -- What the steps that change a page's header, used and quarantine words find and store.
-use Rattle.mk_core.proofs.Vocabulary.{Bool, Config, Flight, Moment, None, Option, Some, Words, ℕ, and_parts, ap}
-use Rattle.mk_core.proofs.Vocabulary.{bit_and, cases_Bool, cell_words, eqb-true, false, first_word, has_bit}
-use Rattle.mk_core.proofs.Vocabulary.{if◌then◌else◌, inl, inr, is_phase, not, not-true, object_made, place_now}
-use Rattle.mk_core.proofs.Vocabulary.{quarantine_word, refl, slice_index, sym, true, true≢false, unmapped_header}
-use Rattle.mk_core.proofs.Vocabulary.{words_are_zero, ◌%◌, ◌-◌, ◌/◌, ◌<◌, ◌^◌, ◌||◌, ◌∙◌, ◌≡◌, ◌⊎◌}
-use Rattle.mk_core.proofs.ServingSteps.{Carves, IsNextHeader, TakesCell, carves_is, four_hold, next_header, takes_is}
-use Rattle.mk_core.proofs.{WordBits.{fewer_bits, no_common, rest_bits, without_none}, AllBelow.all_below-at}
-use Rattle.mk_core.{proofs.BitsWithout.{has_bit_without}, specs.{Words.used_at, declared.seats.RunPages.RunPages}}
+use Rattle.mk_core.proofs.Vocabulary.{Bool, Config, Flight, Moment, None, Option, Some, Words, ℕ, and_parts, ap, arith}
+use Rattle.mk_core.proofs.Vocabulary.{bit_and, cell_words, eqb-true, false, first_word, has_bit, if◌then◌else◌, inl}
+use Rattle.mk_core.proofs.Vocabulary.{inr, is_phase, not, not-true, object_made, place_now, quarantine_word, refl}
+use Rattle.mk_core.proofs.Vocabulary.{slice_index, sym, true, unmapped_header, words_are_zero, ◌%◌, ◌-◌, ◌/◌, ◌<◌, ◌^◌}
+use Rattle.mk_core.proofs.{Vocabulary.{◌||◌, ◌∙◌, ◌≡◌, ◌⊎◌}, ServingSteps.{Carves, IsNextHeader, TakesCell, carves_is}}
+use Rattle.mk_core.proofs.{ServingSteps.{four_hold, next_header, takes_is}, WordBits.{fewer_bits, no_common, rest_bits}}
+use Rattle.mk_core.proofs.{WordBits.without_none, AllBelow.all_below-at, BitsWithout.has_bit_without}
 use Rattle.mk_core.specs.{Cells.{are_left_unmarked, head_page, left_unmarked}, TurnConditions.{are_wiped, carves}}
-use Rattle.mk_core.specs.TurnConditions.{drops, empties, frees, gives_back, is_used_once, may_head, may_quarantine}
-use Rattle.mk_core.specs.{TurnConditions.{may_use, takes_snapshot, unmaps}, Bits.without, NewPlaces.target}
+use Rattle.mk_core.specs.TurnConditions.{empties, frees, gives_back, is_used_once, may_head, may_quarantine, may_use}
+use Rattle.mk_core.specs.{TurnConditions.{takes_snapshot, unmaps}, Bits.without, NewPlaces.target, Words.used_at}
+use Rattle.mk_core.specs.declared.seats.RunPages.{RunPages}
 
 -- one of two tests holds
 either_holds : (a b : Bool) → (a || b) ≡ true → (a ≡ true) ⊎ (b ≡ true)
@@ -136,29 +136,6 @@ pub record Drops (w : Words) (page freed snapshot : ℕ) : Type 0 where
   pub gone : (k : ℕ) → has_bit (slice_index w.snapshot page) k ≡ true → has_bit snapshot k ≡ false
       → (has_bit (slice_index w.marks page) k ≡ false) × (has_bit (used_at w page) k ≡ false)
 
-pub drops_is : (w : Words) (page freed snapshot : ℕ) → drops w page freed snapshot ≡ true → Drops w page freed snapshot
-drops_is w page freed snapshot h =
-    let a = four_hold _ _ _ _ h in
-    let sub : bit_and snapshot (slice_index w.snapshot page) ≡ snapshot = eqb-true _ _ a.0 in
-    let none : bit_and (used_at w page) (slice_index w.snapshot page - snapshot) ≡ 0 = eqb-true _ 0 a.2 in
-    record {
-      fewer = sub;
-      left = a.1;
-      unused = none;
-      is = eqb-true _ _ a.3;
-      gone = λ k bit out.
-          let goes = rest_bits snapshot (slice_index w.snapshot page) k sub bit out in (
-            (left_bits w page (slice_index w.snapshot page - snapshot) k a.1 goes).1,
-            apart (used_at w page) (slice_index w.snapshot page - snapshot) k none goes,
-          );
-    }
-  where
-    apart : (n m k : ℕ) → bit_and n m ≡ 0 → has_bit m k ≡ true → has_bit n k ≡ false
-    apart n m k none bit = elim (cases_Bool (has_bit n k)) [
-      | inl has ↦ absurd (true≢false (sym bit ∙ no_common n m k none has))
-      | inr out ↦ out
-    ]
-
 -- A `quar` that may come frees the target of a Free, takes a snapshot, or drops cells.
 pub data QuarantineStep (c : Config) (m : Moment) (f : Flight) (page value : ℕ) : Type 0 where
   ItFrees : is_phase m.words 4 ≡ false → frees m.words (target c.pages m.words f) page value ≡ true
@@ -170,9 +147,17 @@ pub data QuarantineStep (c : Config) (m : Moment) (f : Flight) (page value : ℕ
 pub quarantine_step : (c : Config) (m : Moment) (f : Flight) (page value : ℕ) → may_quarantine c m f page value ≡ true
     → QuarantineStep c m f page value
 quarantine_step c m f page value h =
-    by_test _ _ _ h (λ is dropped. ItDrops is (drops_is m.words page (value % 2 ^ 32) (value / 2 ^ 32) dropped))
-    (λ is either. elim
-    (either_holds (frees m.words (target c.pages m.words f) page value) (takes_snapshot m.words page value) either) [
-      | inl x ↦ ItFrees is x
-      | inr x ↦ ItTakesSnapshot (takes_snapshot_is m.words page value x)
-    ])
+    grind (
+      arith,
+      by_test,
+      either_holds,
+      takes_snapshot_is,
+      ItDrops,
+      ItFrees,
+      ItTakesSnapshot,
+      four_hold,
+      eqb-true,
+      rest_bits,
+      left_bits,
+      no_common,
+    )

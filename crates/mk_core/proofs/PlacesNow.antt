@@ -1,13 +1,12 @@
 -- What is known where there is a place of a New, or a cell that a Free frees.
 use Rattle.mk_core.proofs.Vocabulary.{Bool, Cell, Config, Flight, List, Moment, None, Object, Op, Option, Page, Place}
-use Rattle.mk_core.proofs.Vocabulary.{Some, Words, ℕ, and_parts, ap, eqb-true, false, if◌then◌else◌, inl, inr, is_phase}
-use Rattle.mk_core.proofs.Vocabulary.{not, not-true, object_made, place_now, pointed_cell, quarantine_word, refl}
-use Rattle.mk_core.proofs.Vocabulary.{slice_index, subst, sym, true, ◌&&◌, ◌+◌, ◌^◌, ◌∙◌, ◌≡◌, ◌⊎◌}
-use Rattle.mk_core.specs.declared.seats.Placing.TheVariants.{Chosen, Granted, Unplaced, Used}
-use Rattle.mk_core.specs.{Cells.is_freed, Effects.chosen, Effects.taken, NewPlaces.is_free_at, NewPlaces.is_new_at}
-use Rattle.mk_core.specs.{NewPlaces.is_undecided_free, NewPlaces.is_undecided_new, NewPlaces.place_by_placing}
-use Rattle.mk_core.specs.{NewPlaces.place_on_pages, NewPlaces.target, TurnConditions.cell_freed, TurnConditions.frees}
-use Rattle.mk_core.specs.{declared.seats.Placing.Placing, declared.seats.Stage.Stage}
+use Rattle.mk_core.proofs.Vocabulary.{Some, Words, ℕ, and_parts, ap, arith, eqb-true, false, if◌then◌else◌, inl, inr}
+use Rattle.mk_core.proofs.Vocabulary.{is_phase, not, not-true, object_made, place_now, pointed_cell, quarantine_word}
+use Rattle.mk_core.proofs.Vocabulary.{refl, slice_index, sym, true, ◌&&◌, ◌+◌, ◌^◌, ◌∙◌, ◌≡◌, ◌⊎◌}
+use Rattle.mk_core.specs.NewPlaces.{is_free_at, is_undecided_free, is_undecided_new, place_by_placing, place_on_pages}
+use Rattle.mk_core.specs.{NewPlaces.target, declared.seats.Placing.TheVariants.{Chosen, Unplaced, Used}, Cells.is_freed}
+use Rattle.mk_core.specs.{Effects.{chosen, taken}, TurnConditions.{cell_freed, frees}, declared.seats.Placing.Placing}
+use Rattle.mk_core.specs.declared.seats.Stage.{Stage}
 
 -- what stands under a test, where something does
 some_under : {A : Type 0} (b : Bool) (o : Option A) (x : A) → (if b then o else None) ≡ Some x
@@ -29,16 +28,12 @@ pub record FreeAtTurn (s : Stage) (o : Op) : Type 0 where
   pub p : ℕ
   pub op : o ≡ Op.Free p
 
-new_at : (s : Stage) (o : Op) → is_new_at s o ≡ true → NewAtTurn s o
-new_at Stage.Turn (Op.New d ty full) h = record { stage = refl; d = d; ty = ty; full = full; op = refl }
-new_at _ _ h = cc
-
 free_at : (s : Stage) (o : Op) → is_free_at s o ≡ true → FreeAtTurn s o
 free_at Stage.Turn (Op.Free p) h = record { stage = refl; p = p; op = refl }
 free_at _ _ h = cc
 
 pub undecided_new : (f : Flight) → is_undecided_new f ≡ true → NewAtTurn f.stage f.op
-undecided_new f h = new_at f.stage f.op h
+undecided_new f h = grind arith
 
 pub undecided_free : (f : Flight) → is_undecided_free f ≡ true → FreeAtTurn f.stage f.op
 undecided_free f h = free_at f.stage f.op h
@@ -49,17 +44,6 @@ pub data IsPlaced (resident : ℕ) (pages : List Page) (o : Object) (place : Pla
   AsChosen : IsPlaced resident pages o place (Chosen place)
   AsUsed : IsPlaced resident pages o place (Used place)
 
-pub placed_in : (resident : ℕ) (pages : List Page) (o : Object) (placing : Placing) (place : Place)
-    → place_by_placing resident pages o placing ≡ Some place → IsPlaced resident pages o place placing
-placed_in resident pages o Unplaced place h = ByFit h
-placed_in resident pages o (Chosen found) place h =
-    let e : found ≡ place = cc in
-    subst (λ (x : Place). IsPlaced resident pages o place (Chosen x)) (sym e) AsChosen
-placed_in resident pages o (Used found) place h =
-    let e : found ≡ place = cc in
-    subst (λ (x : Place). IsPlaced resident pages o place (Used x)) (sym e) AsUsed
-placed_in resident pages o Granted place h = cc
-
 pub record PlacedNow (c : Config) (m : Moment) (f : Flight) (place : Place) : Type 0 where
   pub new : is_undecided_new f ≡ true
   pub at : place_by_placing c.resident m.words.pages (object_made c f.op) m.seats.holding.placing ≡ Some place
@@ -67,22 +51,11 @@ pub record PlacedNow (c : Config) (m : Moment) (f : Flight) (place : Place) : Ty
 
 pub placed_now : (c : Config) (m : Moment) (f : Flight) (place : Place) → place_now c m f ≡ Some place
     → PlacedNow c m f place
-placed_now c m f place h =
-    let parts = some_under (is_undecided_new f)
-    (place_by_placing c.resident m.words.pages (object_made c f.op) m.seats.holding.placing) place h in
-    record {
-      new = parts.0;
-      at = parts.1;
-      placed = placed_in c.resident m.words.pages (object_made c f.op) m.seats.holding.placing place parts.1;
-    }
+placed_now c m f place h = grind (arith, some_under, ByFit, AsChosen, AsUsed)
 
 pub chosen_used : (placing : Placing) (o : Option Place) (place : Place) → chosen placing o ≡ Used place
     → placing ≡ Used place
-chosen_used Unplaced (Some x) place h = cc
-chosen_used Unplaced None place h = cc
-chosen_used (Chosen x) o place h = cc
-chosen_used (Used x) o place h = h
-chosen_used Granted o place h = cc
+chosen_used x0 o place h = grind arith
 
 pub taken_is : (placing : Placing) (o : Option Place) (place : Place) → taken placing o ≡ Used place
     → (o ≡ Some place) ⊎ ((o ≡ None) × (placing ≡ Used place))

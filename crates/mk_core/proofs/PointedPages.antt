@@ -2,8 +2,8 @@
 use Rattle.std.proofs.{Common.option_and_then, Math.Nat.{div-le_self, div-lt_iff_lt-mul}}
 use Rattle.mk_core.proofs.Vocabulary.{Block, Bool, Cell, Free, Header, Later, LeafBlock, LeafRun, None, Option, Run}
 use Rattle.mk_core.proofs.Vocabulary.{Some, Words, ℕ, ap, arith, cells_of, cells_under, false, header_at, header_in}
-use Rattle.mk_core.proofs.Vocabulary.{if◌then◌else◌, inl, inr, ltb-true, nat_le, page_at_address, pointed_cell, refl}
-use Rattle.mk_core.{proofs.Vocabulary.{sym, true, ◌<◌, ◌∙◌, ◌≡◌, ◌≤◌, ◌⊎◌}, specs.Cells.{head_page}}
+use Rattle.mk_core.proofs.Vocabulary.{if◌then◌else◌, inr, ltb-true, page_at_address, pointed_cell, refl, sym, true, ◌<◌}
+use Rattle.mk_core.{proofs.Vocabulary.{◌∙◌, ◌≡◌, ◌≤◌, ◌⊎◌}, specs.Cells.{head_page}}
 use Rattle.mk_geom.{proofs.CellsOnPages.{is_address}, specs.{Addresses.word_at_address, Headers.header_of}}
 use Rattle.mk_geom.specs.Addresses.{cell_at, cell_of_block, cell_under, head_page_under, is_heap_address, run_of_page}
 
@@ -14,10 +14,6 @@ pub record LiesUnder (h : Header) (page : ℕ) (cell : Cell) : Type 0 where
   pub small : cell.index < 64
   pub known : (cells_under (Some h) ≡ 0) ⊎ (cell.index < cells_under (Some h))
 
-of_block : (class page word : ℕ) (cell : Cell) → cell_of_block class page word ≡ Some cell
-    → (cell.page ≡ page) × (cell.index < 64) × (cell.index < cells_of class)
-of_block class page word cell is = grind (arith, div-lt_iff_lt-mul, ltb-true, div-le_self)
-
 -- the run of a page lies at its head page, as cell 0
 abbrev IsRunOf : Header → ℕ → Cell → Type 0
 IsRunOf h page cell = (cell.page ≡ head_page_under (Some h) page) × (cell.index ≡ 0)
@@ -25,15 +21,10 @@ IsRunOf h page cell = (cell.page ≡ head_page_under (Some h) page) × (cell.ind
 of_run : (h : Header) (page : ℕ) (cell : Cell) → Some (run_of_page h page) ≡ Some cell → IsRunOf h page cell
 of_run h page cell is = grind arith
 
-of_later_page : (b : Bool) (h : Header) (page : ℕ) (cell : Cell)
-    → (if b then Some (run_of_page h page) else None) ≡ Some cell → IsRunOf h page cell
-of_later_page true h page cell is = of_run h page cell is
-of_later_page false h page cell is = cc
-
 block_lies : (class page word : ℕ) (cell : Cell) → cell_of_block class page word ≡ Some cell
     → LiesUnder (Block class) page cell
-block_lies class page word cell is = let at =
-    of_block class page word cell is in record { head = at.0; small = at.1; known = inr at.2 }
+block_lies class page word cell is = let at : (cell.page ≡ page) × (cell.index < 64) × (cell.index < cells_of class) =
+    grind (arith, div-lt_iff_lt-mul, ltb-true, div-le_self) in record { head = at.0; small = at.1; known = inr at.2 }
 
 pub lies_under : (h : Header) (page word : ℕ) (cell : Cell) → cell_under h page word ≡ Some cell → LiesUnder h page cell
 lies_under Free page word cell is = cc
@@ -49,10 +40,7 @@ lies_under (LeafRun pages) page word cell is =
     let at = of_run (LeafRun pages) page cell is in
     let index_is = at.1 in
     record { head = at.0; small = omega arith; known = inr (omega arith) }
-lies_under (Later distance mapped) page word cell is =
-    let at = of_later_page (nat_le distance page) (Later distance mapped) page cell is in
-    let index_is = at.1 in
-    record { head = at.0; small = omega arith; known = inl refl }
+lies_under (Later distance mapped) page word cell is = grind (arith, of_run)
 
 -- The value is an address of a page of the heap that has a header, and the cell lies there.
 pub record PointsTo (count : ℕ) (w : Words) (value : ℕ) (cell : Cell) : Type 0 where

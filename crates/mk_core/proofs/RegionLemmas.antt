@@ -100,19 +100,10 @@ begins {pages} {w} h =
 abbrev put : Words → ℕ → List ℕ → List ℕ
 put w j xs = joined (slice_set (regions w) j xs)
 
--- a page's other word stays
-headers_kept : (ps : List Page) (p v : ℕ) → map (λ (page : Page). page.header) (slice_set ps p
-    (record { header = (slice_index_or ps p free_page).header; used = v })) ≡ map (λ (page : Page). page.header) ps
-headers_kept ps p v = map-set_same (λ (page : Page). page.header) ps p
-    (record { header = (slice_index_or ps p free_page).header; used = v }) free_page refl
-
 used_kept : (ps : List Page) (p v : ℕ) → map (λ (page : Page). page.used) (slice_set ps p
     (record { header = v; used = (slice_index_or ps p free_page).used })) ≡ map (λ (page : Page). page.used) ps
 used_kept ps p v = map-set_same (λ (page : Page). page.used) ps p
     (record { header = v; used = (slice_index_or ps p free_page).used }) free_page refl
-
-quarantine_whole : (v : ℕ) → quarantine_word (v % 2 ^ 32) (v / 2 ^ 32) ≡ v
-quarantine_whole v = mod-add-div v (2 ^ 32)
 
 -- the word at index i is the one at k of region j
 record IsPlaceOf (w : Words) (i j k : ℕ) : Type 0 where
@@ -196,11 +187,13 @@ module _ {pages : ℕ} {w : Words} (h : AreOfPages pages w) (b : Begins pages w)
   named_changes (Word.Used p) v t =
       let page : Page = record { header = (slice_index_or w.pages p free_page).header; used = v } in
       let used = map (λ (x : Page). x.used) (slice_set w.pages p page) in
-      ap (λ hs. joined (slice_set (slice_set (regions w) 10 hs) 11 used)) (headers_kept w.pages p v)
+      ap (λ hs. joined (slice_set (slice_set (regions w) 10 hs) 11 used)) (
+      map-set_same (λ (page : Page). page.header) w.pages p
+      (record { header = (slice_index_or w.pages p free_page).header; used = v }) free_page refl)
       ∙ ap (λ us. put w 11 us) (map-set (λ (x : Page). x.used) w.pages p page) ∙ set_at v (used_place p t)
   named_changes (Word.Quar p) v t =
       ap (λ xs. put w 12 xs) (quarantine_set w.freed w.snapshot p (v % 2 ^ 32) (v / 2 ^ 32) (h.freed ∙ sym h.snapshot))
-      ∙ ap (λ x. put w 12 (slice_set (quarantine_words w.freed w.snapshot) p x)) (quarantine_whole v)
+      ∙ ap (λ x. put w 12 (slice_set (quarantine_words w.freed w.snapshot) p x)) (mod-add-div v (2 ^ 32))
       ∙ set_at v (quarantine_place p t)
   named_changes (Word.Mark p) v t = set_at v (mark_place p t)
   named_changes (Word.Black p) v t = set_at v (black_place p t)
@@ -249,15 +242,12 @@ pub first_are_zero : FirstWordsAreZero
 unfolding spread
 first_are_zero pages =
     let w = zero_words_of pages in
-    let counts : List ℕ = 1 ∷ 15 ∷ 1 ∷ 15 ∷ 5 ∷ 11 ∷ 256 ∷ 256 ∷ 64 ∷ 16 ∷ pages ∷ pages ∷ pages ∷ pages ∷ pages ∷ 16
-    ∷ 72 * pages ∷ [] in
-    ap (λ hs. put w 10 hs) (map_replicate (λ (page : Page). page.header) free_page pages)
-    ∙ ap (λ us. joined (slice_set (slice_set (regions w) 10 (gap pages)) 11 us))
-    (map_replicate (λ (page : Page). page.used) free_page pages)
+    ap (λ hs. put w 10 hs) (map_replicate (λ (page : Page). page.header) free_page pages) ∙ ap (λ us. joined (slice_set
+    (slice_set (regions w) 10 (gap pages)) 11 us)) (map_replicate (λ (page : Page). page.used) free_page pages)
     ∙ ap (λ qs. joined (slice_set (slice_set (slice_set (regions w) 10 (gap pages)) 11 (gap pages)) 12 qs))
-    (no_quarantine pages)
-    ∙ ap (λ ds. joined (slice_set (slice_set (slice_set (slice_set (regions w) 10 (gap pages)) 11 (gap pages)) 12
-    (gap pages)) 16 ds)) (zeros pages) ∙ joined_gaps counts ∙ ap gap (omega arith)
+    (no_quarantine pages) ∙ ap (λ ds. joined (slice_set (slice_set (slice_set (slice_set (regions w) 10 (gap pages)) 11
+    (gap pages)) 12 (gap pages)) 16 ds)) (zeros pages) ∙ joined_gaps (1 ∷ 15 ∷ 1 ∷ 15 ∷ 5 ∷ 11 ∷ 256 ∷ 256 ∷ 64 ∷ 16 ∷
+    pages ∷ pages ∷ pages ∷ pages ∷ pages ∷ 16 ∷ 72 * pages ∷ []) ∙ ap gap (omega arith)
 
 -- what an access makes of a word, made of the list's
 made : {pages : ℕ} {w : Words} (x : TableWord) (a : Access) → AreOfPages pages w → IsOfTable pages x

@@ -1,7 +1,7 @@
 -- What an access to a register or to a tally leaves alone.
 use Rattle.std.proofs.Common.{rules}
-use Rattle.mk_core.proofs.Vocabulary.{Access, Config, Flight, Load, Named, Op, Store, Tally, Word, Words, ℕ, and_parts}
-use Rattle.mk_core.proofs.Vocabulary.{ltb-true, nat_lt, refl, true, ◌<◌, ◌≡◌}
+use Rattle.mk_core.proofs.Vocabulary.{Access, Config, Flight, Load, Named, Store, Tally, Word, Words, ℕ, and_parts}
+use Rattle.mk_core.proofs.Vocabulary.{arith, ltb-true, nat_lt, refl, true, ◌<◌, ◌≡◌}
 use Rattle.mk_core.specs.Calls.{d_of, g_of, has_operands, has_type, p_of, q_of, r_of}
 use Rattle.mk_core.specs.{Accesses.register_met, Accesses.tally_word, Words.accessed, declared.seats.Stage.Stage}
 
@@ -48,18 +48,12 @@ tally_leaves_registers w _ v = refl
 
 -- The register that a `reg` step meets is one of the eight.
 pub register_is_small : (c : Config) (f : Flight) (s : Stage) → has_operands c f.op ≡ true → register_met f s < 8
-register_is_small c f s h = by f s (parts c f.op h)
+register_is_small c f s h = by f s (
+    let d = and_parts _ _ (and_parts _ (nat_lt (g_of f.op) 64) (and_parts _ (has_type c f.op) h).0).0 in
+    let r = and_parts _ (nat_lt (r_of f.op) 8) d.0 in
+    let p = and_parts (nat_lt (q_of f.op) 8) _ r.0 in
+    (ltb-true _ 8 p.0, ltb-true _ 8 p.1, ltb-true _ 8 r.1, ltb-true _ 8 d.1))
   where
-    parts : (c : Config) (o : Op) → has_operands c o ≡ true → (q_of o < 8) × (p_of o < 8) × (r_of o < 8) × (d_of o < 8)
-    parts c o h =
-        let d = and_parts _ _ (and_parts _ (nat_lt (g_of o) 64) (and_parts _ (has_type c o) h).0).0 in
-        let r = and_parts _ (nat_lt (r_of o) 8) d.0 in
-        let p = and_parts (nat_lt (q_of o) 8) _ r.0 in
-        (ltb-true _ 8 p.0, ltb-true _ 8 p.1, ltb-true _ 8 r.1, ltb-true _ 8 d.1)
-
     by : (f : Flight) (s : Stage) → (q_of f.op < 8) × (p_of f.op < 8) × (r_of f.op < 8) × (d_of f.op < 8)
         → register_met f s < 8
-    by f Stage.LoadQ h = h.0
-    by f Stage.LoadP h = h.1
-    by f Stage.LoadR h = h.2
-    by f _ h = h.3
+    by f x1 h = grind arith

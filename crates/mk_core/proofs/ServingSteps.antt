@@ -38,17 +38,6 @@ pub record IsCellTaken (w : Words) (o : Object) (place : Place) (page value : �
   pub unused : has_bit (used_at w page) place.index ≡ false
   pub is : value ≡ used_at w page + 2 ^ place.index
 
-pub cell_taken : (w : Words) (o : Object) (place : Place) (page value : ℕ)
-    → takes_cell w o (Some place) page value ≡ true → IsCellTaken w o place page value
-cell_taken w o place page value h =
-    let a = four_hold _ _ _ _ h in
-    record {
-      at = eqb-true _ _ a.0;
-      headers = λ k lt. eqb-true _ _ (all_below-at (pages_made o) k (stands w place.page (header_made o)) a.1 lt);
-      unused = not-true _ a.2;
-      is = eqb-true _ _ a.3;
-    }
-
 -- the bits of the cells of the place's first page, which has no header yet
 pub record IsPlaceMarked (w : Words) (o : Object) (place : Place) (page value : ℕ) : Type 0 where
   pub phase : is_phase w 1 ≡ true
@@ -90,7 +79,17 @@ pub takes_is : (w : Words) (o : Object) (found : Option Place) (page value : ℕ
     → TakesCell w o found page value
 takes_is w o None page value h = cc
 takes_is w o (Some place) page value h =
-    record { place = place; there = refl; taken = cell_taken w o place page value h }
+    record {
+      place = place;
+      there = refl;
+      taken = (let a = four_hold _ _ _ _ h in
+          record {
+            at = eqb-true _ _ a.0;
+            headers = λ k lt. eqb-true _ _ (all_below-at (pages_made o) k (stands w place.page (header_made o)) a.1 lt);
+            unused = not-true _ a.2;
+            is = eqb-true _ _ a.3;
+          });
+    }
 
 pub record MarksPlace (w : Words) (o : Object) (found : Option Place) (page value : ℕ) : Type 0 where
   pub place : Place

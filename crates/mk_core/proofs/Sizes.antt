@@ -3,17 +3,14 @@ use Rattle.std.proofs.{Common.{cond, le-ltb, lt-ltb, unwrap_or}, lemmas.Bool.{lt
 use Rattle.std.{proofs.lemmas.Bool.Decides.{leb_tells}, specs.List.{position_or_len}}
 use Rattle.mk_core.proofs.Vocabulary.{Bool, IsSized, List, Object, Some, ℕ, ap, arith, cases_Bool, cells_made, cells_of}
 use Rattle.mk_core.proofs.Vocabulary.{class_made, class_words_of, cond-false, cond-true, false, inl, inr}
-use Rattle.mk_core.proofs.Vocabulary.{is_small_object, le-leb, leb-true, length, list_any, nat_le, nat_lt, ne_eqb, not}
+use Rattle.mk_core.proofs.Vocabulary.{is_small_object, le-leb, leb-true, length, list_any, nat_le, ne_eqb, not}
 use Rattle.mk_core.proofs.Vocabulary.{pages_made, subst, sym, true, words_made, [], ◌*◌, ◌+◌, ◌<◌, ◌||◌, ◌∙◌, ◌∷◌, ◌≡◌}
 use Rattle.mk_core.{proofs.Vocabulary.{◌≤◌}, specs.HistoryLaws.{LargeIsNotSmall}}
 use Rattle.mk_geom.proofs.ClassTable.{class_for-some, class_words_within, some_cells}
 use Rattle.mk_geom.specs.Classes.{class_for, run_pages_of}
 
-over_is_not : (n : ℕ) → nat_lt 32 n ≡ not (nat_le n 32)
-over_is_not n = grind (arith, leb_tells, le-ltb, lt-ltb)
-
 pub large_is_not_small : LargeIsNotSmall
-large_is_not_small kinds = over_is_not (length kinds)
+large_is_not_small kinds = grind (arith, leb_tells, le-ltb, lt-ltb)
 
 -- by sort
 

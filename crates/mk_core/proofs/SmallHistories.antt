@@ -1,14 +1,12 @@
 -- The two lists of a small heap are histories: within limits, enabled, and of admitted calls.
-use Rattle.std.proofs.{Common.All, lemmas.List.Elements.{All-cons, All-nil}}
-use Rattle.mk_core.proofs.Vocabulary.{AreEnabledFrom, Config, Event, IsHistory, IsWithinLimits, List, Op, To, World, ℕ}
+use Rattle.mk_core.proofs.Vocabulary.{AreEnabledFrom, Config, Event, IsHistory, IsWithinLimits, List, Op, World}
 use Rattle.mk_core.proofs.Vocabulary.{all_below, and_parts, arith, asked, calls, calls_from, eqb-true, false}
 use Rattle.mk_core.proofs.Vocabulary.{first_world, leb-true, left_from, ltb-true, never_first, pointed_cell, refl}
-use Rattle.mk_core.proofs.Vocabulary.{subst, sym, true, world_behind, [], ◌++◌, ◌<◌, ◌∷◌, ◌≡◌}
+use Rattle.mk_core.proofs.Vocabulary.{subst, sym, true, world_behind, [], ◌++◌, ◌∷◌, ◌≡◌}
 use Rattle.mk_core.proofs.SmallCycles.{all_enabled, begun_in_stop, beside_are_enabled, marked_beside, marked_in_stop}
 use Rattle.mk_core.proofs.SmallCycles.{small, stopped_are_enabled, stopped_cycle, third_released, three_objects}
 use Rattle.mk_core.proofs.{SmallCycles.written_beside, EvaluatedHistories.admitted, EventsAt.◌and◌}
-use Rattle.mk_never.specs.{Admitted.AreAdmitted, NeverHeap.Call, declared.types.Kind.TheVariants.Num}
-use Rattle.mk_core.specs.Config.{IsAmong, IsTypeAmong}
+use Rattle.mk_never.specs.{Admitted.AreAdmitted, NeverHeap.Call}
 
 pub enabled_by_test : (c : Config) (w : World) (es : List Event) → all_enabled c w es ≡ true → AreEnabledFrom c w es
 unfolding AreEnabledFrom all_enabled
@@ -16,22 +14,8 @@ enabled_by_test c w [] h = tt
 enabled_by_test c w (e ∷ es) h =
     let both = and_parts _ _ h in (eqb-true _ 0 both.0, enabled_by_test c (world_behind c w e) es both.1)
 
-kinds_are_among : All (IsAmong small.types) (To 0 0 ∷ Num ∷ [])
-kinds_are_among = All-cons (IsAmong small.types) (To 0 0) (Num ∷ []) (ltb-true 0 1 refl, ltb-true 0 2 refl)
-    (All-cons (IsAmong small.types) Num [] tt (All-nil (IsAmong small.types)))
-
 pub small_is_within_limits : IsWithinLimits small
-small_is_within_limits = record {
-  pages = (leb-true 1 1 refl, leb-true 1 4096 refl);
-  resident = (leb-true 1 1 refl, leb-true 1 1 refl);
-  callers = (leb-true 1 1 refl, leb-true 1 16 refl);
-  markers = leb-true 1 8 refl;
-  type_count = leb-true 1 64 refl;
-  global_count = leb-true 0 64 refl;
-  types = All-cons (IsTypeAmong small.types) (To 0 0 ∷ Num ∷ []) []
-      ((leb-true 1 2 refl, leb-true 2 4096 refl), kinds_are_among) (All-nil (IsTypeAmong small.types));
-  globals = All-nil (λ (ty : ℕ). ty < 1);
-}
+small_is_within_limits = grind (arith, leb-true, small, ltb-true)
 
 -- the calls of both
 abbrev pub small_calls : List Call

@@ -60,12 +60,10 @@ spread_set (suc n) size between xs (suc i) r v e li lr =
     ap (λ m. slice_set (spread (suc n) size between xs) m v) (omega arith)
     ∙ set_later (take size xs) (gap between ++ spread n size between (drop size xs)) (length (gap between) + k) v
     ∙ ap (λ ys. take size xs ++ ys) (set_later (gap between) (spread n size between (drop size xs)) k v)
-    ∙ ap (λ ys. take size xs ++ (gap between ++ ys))
-    (spread_set n size between (drop size xs) i r v left (omega arith) lr)
-    ∙ ap (λ ys. take size xs ++ (gap between ++ spread n size between ys)) (sym (drop-set-add size xs place v))
-    ∙ ap (λ ys. ys ++ (gap between ++ spread n size between (drop size (slice_set xs (size + place) v))))
-    (sym (take-set-le size xs (size + place) v (omega arith)))
-    ∙ ap (λ m. spread (suc n) size between (slice_set xs m v)) (omega arith)
+    ∙ ap (λ ys. take size xs ++ (gap between ++ ys)) (spread_set n size between _ i r v left (omega arith) lr)
+    ∙ ap (λ ys. take size xs ++ (gap between ++ spread n size between ys)) (sym (drop-set-add size xs place v)) ∙ ap
+    (λ ys. ys ++ (gap between ++ spread n size between (drop size (slice_set xs (size + place) v)))) (sym (take-set-le
+    size xs (size + place) v (omega arith))) ∙ ap (λ m. spread (suc n) size between (slice_set xs m v)) (omega arith)
 
 -- words apart from each other, each with a gap of 15 after it
 

@@ -4,7 +4,7 @@ use Rattle.mk_core.proofs.Vocabulary.{IsWithinLimits, Object, Place, PlacedAlloc
 use Rattle.mk_core.proofs.Vocabulary.{base_made, cases_Bool, cell_ends, cell_of_storage, cells_made, cells_of}
 use Rattle.mk_core.proofs.Vocabulary.{cells_under, class_made, class_words_of, cond-false, cond-true, false, header_at}
 use Rattle.mk_core.proofs.Vocabulary.{header_in, inl, inr, is_small_object, length, object_placed, page_at_address}
-use Rattle.mk_core.proofs.Vocabulary.{pages_made, pointed_cell, refl, storage_of, subst, suc, sym, true, true≢false}
+use Rattle.mk_core.proofs.Vocabulary.{pages_made, pointed_cell, refl, storage_of, subst, sym, true, true≢false}
 use Rattle.mk_core.proofs.Vocabulary.{unmapped_header, words_made, words_under, zero, [], ◌%◌, ◌*◌, ◌+◌, ◌-◌, ◌/◌, ◌<◌}
 use Rattle.mk_core.proofs.{Vocabulary.{◌∙◌, ◌≡◌, ◌≤◌, ◌⊎◌}, Sizes.{class_known, large_cells, large_count}}
 use Rattle.mk_core.proofs.Sizes.{large_is_not_small, large_words, pages_some, small_cells, small_pages, small_words}
@@ -12,8 +12,8 @@ use Rattle.mk_core.proofs.Sizes.{words_are_small, words_hold, words_within}
 use Rattle.mk_core.proofs.ObjectHeaders.{header_shows, large_header, part_cells, part_words, small_header}
 use Rattle.mk_geom.proofs.PointedCells.{cell_first, cell_from_first, large_cell_of, points_into_cell, shows_cell}
 use Rattle.mk_geom.proofs.{PointedCells.{shows_run, stands_at_address}, ClassTable.class_words_within}
-use Rattle.mk_geom.{proofs.Standing.{stands_parts}, specs.StorageWords.{ShowsStorage}}
-use Rattle.mk_geom.specs.{Storages.{IsCell, IsRun, IsStorage, run_header, stands_on}, Headers.word_of}
+use Rattle.mk_geom.proofs.Standing.{stands_parts}
+use Rattle.mk_geom.specs.{Storages.{IsRun, IsStorage, run_header}, Headers.word_of, StorageWords.ShowsStorage}
 use Rattle.mk_core.specs.StandingAllocations.{CellsBeginAtBases, HeadersShowStorage, PointersHitAllocations}
 use Rattle.mk_core.specs.StandingAllocations.{StandingHasStorage, StorageHoldsObjects}
 use Rattle.mk_core.specs.{Allocations.{is_mapped, storage_words}, ObjectHeaders.ShowsPart}
@@ -88,19 +88,6 @@ standing_has_storage c a limits st = by (cases_Bool (is_small_object (object_pla
     sized : IsSized (object_placed c a)
     sized = typed_size c a limits st.typed
 
-    cell : is_small_object (object_placed c a) ≡ true → IsCell (storage_of c a)
-    cell small =
-        let words = small_words (object_placed c a) small in
-        record {
-          class = class_made (object_placed c a);
-          index = st.begins.index;
-          known = (class_known (object_placed c a) sized small).0;
-          words = words;
-          within = subst (λ n. st.begins.index < n) (small_cells (object_placed c a) small) st.begins.known;
-          first = st.begins.first ∙ ap (λ n. st.begins.index * n) words;
-          mapped = small_is_mapped c a st.unreleased small;
-        }
-
     run : is_small_object (object_placed c a) ≡ false → IsRun (storage_of c a)
     run large =
         let count = large_count (object_placed c a) sized large in
@@ -114,15 +101,25 @@ standing_has_storage c a limits st = by (cases_Bool (is_small_object (object_pla
 
     by : (is_small_object (object_placed c a) ≡ true) ⊎ (is_small_object (object_placed c a) ≡ false)
         → IsStorage c.pages (storage_of c a)
-    by (inl small) = (inl (cell small), st.within)
+    by (inl small) = (
+      inl (let words = small_words (object_placed c a) small in
+          record {
+            class = class_made (object_placed c a);
+            index = st.begins.index;
+            known = (class_known (object_placed c a) sized small).0;
+            words = words;
+            within = subst (λ n. st.begins.index < n) (small_cells (object_placed c a) small) st.begins.known;
+            first = st.begins.first ∙ ap (λ n. st.begins.index * n) words;
+            mapped = small_is_mapped c a st.unreleased small;
+          }),
+      st.within,
+    )
     by (inr large) = (inr (run large), st.within)
 
 -- the header of a run's page, once it is unmapped, leaf or not
 unmapped_run : (count distance : ℕ) (leaf : Bool)
     → unmapped_header count distance ≡ word_of (run_header count false leaf distance)
-unmapped_run count zero true = refl
-unmapped_run count zero false = refl
-unmapped_run count (suc distance) leaf = refl
+unmapped_run count x1 leaf = grind arith
 
 -- what a header of its shows
 module _ (c : Config) (a : PlacedAllocation) (sized : IsSized (object_placed c a))
@@ -154,23 +151,15 @@ pub header_shows_storage : (c : Config) (a : PlacedAllocation) (distance header 
 header_shows_storage c a distance header sized b near has =
     shows c a sized b distance header near (cases_Bool (is_small_object (object_placed c a))) has
 
--- how far after its first a page of its storage is
-page_near : (c : Config) (a : PlacedAllocation) (page : ℕ) → IsSized (object_placed c a)
-    → BeginsAtCell (object_placed c a) a.base → stands_on page (storage_of c a) ≡ true
-    → (a.base / 64 ≤ page) × (page - a.base / 64 < pages_made (object_placed c a))
-page_near c a page sized b stands =
-    let parts = stands_parts page (storage_of c a) stands in
-    let words = words_within (object_placed c a) sized in
-    let o = object_placed c a in let first = b.first in
-    elim (cases_Bool (is_small_object o)) [
-      | inl small ↦ (parts.0, omega (arith, small_pages o small, cell_ends_within o a.base sized small b))
-      | inr large ↦ (parts.0, omega (arith, large_words o large, run_begins o a.base large b))
-    ]
-
 pub headers_show_storage : HeadersShowStorage
 headers_show_storage c w a limits st has page stands =
     let sized = typed_size c a limits st.typed in
-    let near = page_near c a page sized st.begins stands in
+    let near : (a.base / 64 ≤ page) × (page - a.base / 64 < pages_made (object_placed c a)) = let parts = stands_parts
+    page (storage_of c a) stands in let words = words_within (object_placed c a) sized in let o = object_placed c a
+    in let first = st.begins.first in elim (cases_Bool (is_small_object o)) [
+      | inl small ↦ (parts.0, omega (arith, small_pages o small, cell_ends_within o a.base sized small st.begins))
+      | inr large ↦ (parts.0, omega (arith, large_words o large, run_begins o a.base large st.begins))
+    ] in
     let from = near.0 in
     let there : a.base / 64 + (page - a.base / 64) ≡ page = omega arith in
     subst (λ p. ShowsStorage (storage_of c a) p (header_at w p)) there (header_shows_storage c a (page - a.base / 64)

@@ -1,9 +1,9 @@
 -- What pages show is what the storages say that stand on them.
-use Rattle.std.proofs.Common.{Bool, List, Option, Some, ℕ, ap, arith, false, inl, inr, length, refl, slice_index_or}
-use Rattle.std.proofs.Common.{subst, suc, sym, true, zero, ◌-◌, ◌/◌, ◌<◌, ◌∙◌, ◌≡◌, ◌≤◌}
-use Rattle.std.proofs.{lemmas.Bool.{and_parts, cases_Bool, cond-false, cond-true}, lemmas.List.{get_or-map, length-map}}
-use Rattle.std.{proofs.lemmas.List.{same_lists}, proofs.lemmas.List.Elements.{All-contains}}
+use Rattle.std.proofs.Common.{Bool, List, Option, Some, ℕ, ap, arith, inl, inr, length, refl, slice_index_or, subst}
+use Rattle.std.proofs.{Common.{sym, true, ◌-◌, ◌/◌, ◌<◌, ◌∙◌, ◌≡◌, ◌≤◌}, lemmas.Bool.{and_parts, cases_Bool}}
+use Rattle.std.proofs.{lemmas.Bool.{cond-false, cond-true}, lemmas.List.{get_or-map, length-map, same_lists}}
 use Rattle.std.proofs.lemmas.List.FromFn.{get_or-map-range_with_len, length-map-range_with_len}
+use Rattle.std.proofs.lemmas.List.Elements.{All-contains}
 use Rattle.mk_geom.proofs.Standing.{class_of_cell, large_is_run, small_is_cell, stands_parts}
 use Rattle.mk_geom.{proofs.{HeaderLemmas.header_of-word_of, ListSearch.find_cases}, specs.declared.pages.Page.{Page}}
 use Rattle.mk_geom.proofs.{StoredWords.{words_by_large, words_by_small}, TakenCells.length-taken_cells}
@@ -25,13 +25,11 @@ shows_header : (h : Header) (used : ℕ) → IsInRange h
 shows_header h used in_range = grind (arith, header_of-word_of)
 
 pub block_in_range : (class : ℕ) (leaf : Bool) → class < 8 → IsInRange (block_header class leaf)
-block_in_range class true known = known
-block_in_range class false known = known
+block_in_range class x1 known = grind arith
 
 block_use : (class : ℕ) (leaf : Bool) (used : ℕ)
     → use_under (Some (block_header class leaf)) used ≡ Cells class leaf (bits_of (cells_of class) used)
-block_use class true used = refl
-block_use class false used = refl
+block_use class x1 used = grind arith
 
 pub block_shows : (class : ℕ) (leaf : Bool) (taken : List Bool) → class < 8 → length taken ≡ cells_of class
     → Shows (block_page class leaf (used_word taken)) (Cells class leaf taken)
@@ -44,13 +42,11 @@ block_shows class leaf taken known long =
 
 pub run_in_range : (pages : ℕ) (mapped leaf : Bool) (distance : ℕ) → 1 ≤ pages → pages ≤ 64 → distance ≤ 63
     → IsInRange (run_header pages mapped leaf distance)
-run_in_range pages mapped leaf zero some most near = grind (arith, cond-true, cond-false)
-run_in_range pages mapped leaf (suc distance) some most near = (omega arith, near)
+run_in_range pages mapped leaf x3 some most near = grind (arith, cond-true, cond-false)
 
 run_use : (pages : ℕ) (mapped leaf : Bool) (distance used : ℕ)
     → use_under (Some (run_header pages mapped leaf distance)) used ≡ PartOfRun mapped
-run_use pages mapped leaf zero used = grind (arith, cond-true, and_parts, cond-false)
-run_use pages mapped leaf (suc distance) used = refl
+run_use pages mapped leaf x3 used = grind (arith, cond-true, and_parts, cond-false)
 
 pub run_shows : (pages : ℕ) (mapped leaf : Bool) (distance : ℕ) → 1 ≤ pages → pages ≤ 64 → distance ≤ 63
     → Shows (run_page pages mapped leaf distance) (PartOfRun mapped)
@@ -98,20 +94,16 @@ page_shows pages storages stand page d within =
 
 pub same_uses : (pages : List Page) (storages : List Storage) → PagesStandFor pages storages
     → uses_of_pages pages ≡ uses_of_storages (length pages) storages
-same_uses pages storages stand = same_lists _ _ (shown_length ∙ sym said_length) each
+same_uses pages storages stand = same_lists _ _ (shown_length ∙ sym said_length) (λ k d below.
+    let within : k < length pages = omega (arith, shown_length) in
+    get_or-map use_of_page pages k free_page d within ∙ (page_shows pages storages stand k free_page within).1
+    ∙ sym (get_or-map-range_with_len (use_of_storages storages) 0 (length pages) k k d within (omega arith)))
   where
     shown_length : length (uses_of_pages pages) ≡ length pages
     shown_length = length-map pages use_of_page
 
     said_length : length (uses_of_storages (length pages) storages) ≡ length pages
     said_length = length-map-range_with_len (use_of_storages storages) 0 (length pages)
-
-    each : (k : ℕ) (d : PageUse) → k < length (uses_of_pages pages)
-        → slice_index_or (uses_of_pages pages) k d ≡ slice_index_or (uses_of_storages (length pages) storages) k d
-    each k d below =
-        let within : k < length pages = omega (arith, shown_length) in
-        get_or-map use_of_page pages k free_page d within ∙ (page_shows pages storages stand k free_page within).1
-        ∙ sym (get_or-map-range_with_len (use_of_storages storages) 0 (length pages) k k d within (omega arith))
 
 pub same_places : (pages : List Page) (storages : List Storage) (limit words : ℕ) (leaf : Bool)
     → PagesStandFor pages storages → place_on_uses limit words leaf (uses_of_pages pages)

@@ -1,9 +1,8 @@
 -- What values point into on pages that stand for storages: their cells, and nothing else that is taken.
-use Rattle.std.proofs.Common.{Contains, List, None, Some, ℕ, ap, arith, false, find, inl, inr, leb-true, length}
-use Rattle.std.proofs.Common.{ltb-true, nat_lt, refl, subst, sym, true, ◌%◌, ◌*◌, ◌+◌, ◌/◌, ◌<◌, ◌==◌, ◌↔◌, ◌∙◌, ◌≡◌}
-use Rattle.std.proofs.{Common.{◌≤◌, ◌⊎◌}, lemmas.Bool.{and_parts, cases_Bool, cond-false, cond-true}}
-use Rattle.std.proofs.{lemmas.Option.{cond_some, none-some, same_Some}, lemmas.Nat.{div_below, mod_below}}
-use Rattle.std.specs.Int.{bit_at}
+use Rattle.std.proofs.Common.{Contains, List, Some, ℕ, ap, arith, false, inl, inr, leb-true, length, ltb-true, nat_lt}
+use Rattle.std.proofs.Common.{refl, subst, sym, true, ◌%◌, ◌*◌, ◌+◌, ◌/◌, ◌<◌, ◌==◌, ◌↔◌, ◌∙◌, ◌≡◌, ◌≤◌, ◌⊎◌}
+use Rattle.std.proofs.{lemmas.Bool.{and_parts, cases_Bool, cond-false, cond-true}, lemmas.Option.{cond_some, none-some}}
+use Rattle.std.{proofs.{lemmas.Option.same_Some, lemmas.Nat.{div_below, mod_below}}, specs.Int.{bit_at}}
 use Rattle.mk_geom.proofs.{ClassTable.{cell_ends, class_words_within}, PointedCells.{cell_first, cell_from_first}}
 use Rattle.mk_geom.proofs.PointedCells.{cell_index, class_has_words, large_cell_of, large_lookup, looked_up}
 use Rattle.mk_geom.proofs.PointedCells.{points_into_cell, small_cell_of, small_lookup, stands_at_address}
@@ -11,16 +10,11 @@ use Rattle.mk_geom.proofs.Standing.{AreAlike, class_of_cell, has_words, large_is
 use Rattle.mk_geom.proofs.Standing.{small_is_cell, stands_at_first, stands_parts, storage_in}
 use Rattle.mk_geom.{proofs.StoredWords.{words_at, words_by_large, words_by_small}, proofs.UsedWords.{bit_at-used_word}}
 use Rattle.mk_geom.proofs.{TakenCells.{cell_taken_by, get_or-taken_cells, length-taken_cells}, ListSearch.find_cases}
-use Rattle.mk_geom.specs.StorageWords.{PointsInto, ShowsStorage, cell_of_storage, cell_on, header_shown, page_in}
+use Rattle.mk_geom.specs.StorageWords.{PointsInto, ShowsStorage, cell_of_storage, cell_on, page_in}
 use Rattle.mk_geom.specs.Storages.{AreLaidOut, IsStorage, PagesStandFor, Storage, class_of_storage, first_page}
 use Rattle.mk_geom.specs.Storages.{free_page, is_cell_taken, is_small, stands_on, taken_cells, used_word, words_by}
 use Rattle.mk_geom.specs.{Addresses.{cell_at, page_at_address, word_at_address}, Classes.{cells_of, class_words_of}}
 use Rattle.mk_geom.specs.{declared.addresses.Cell.Cell, declared.pages.Page.Page}
-
--- a storage's page has the header that it shows
-header_by : (xs : List Storage) (page : ℕ) (s : Storage)
-    → (words_by xs page (Some s)).header ≡ header_shown s page s.mapped
-header_by xs page s = grind (arith, words_by_small, cond-true, words_by_large, cond-false)
 
 -- a value that points into a cell is an address of a page of the heap
 pub is_address : (pages header u : ℕ) (k : Cell) → cell_at pages header u ≡ Some k
@@ -69,8 +63,11 @@ module _ (pages : List Page) (storages : List Storage) (stand : PagesStandFor pa
       → page < length pages → ShowsStorage s page (page_in pages page).header
   page_shows_storage page s inside stands within =
       let words = stand.words page free_page within
-      ∙ words_at (length pages) page storages s stand.laid_out inside stands in
-      (s.mapped, ap (λ (p : Page). p.header) words ∙ header_by storages page s)
+      ∙ words_at (length pages) page storages s stand.laid_out inside stands in (
+        s.mapped,
+        ap (λ (p : Page). p.header) words ∙
+            (grind (arith, words_by_small, cond-true, words_by_large, cond-false)),
+      )
 
   pub points_into_on_pages : (u : ℕ) (s : Storage) → Contains storages s → PointsInto u s
       → cell_on pages u ≡ Some (cell_of_storage s)
@@ -85,10 +82,6 @@ module _ (pages : List Page) (storages : List Storage) (stand : PagesStandFor pa
   address_within : (u : ℕ) (k : Cell) → cell_on pages u ≡ Some k → (65536 ≤ u) × (page_at_address u < length pages)
   address_within u k is = is_address (length pages) (page_in pages (page_at_address u)).header u k is
 
-  nothing_on_free : (u : ℕ) (k : Cell) → cell_on pages u ≡ Some k → find (stands_on (page_at_address u)) storages ≡ None
-      → ⊥
-  nothing_on_free u k is none = grind (arith, address_within, none-some, looked_up)
-
   pub cell_is_on : (u : ℕ) (k : Cell) → cell_on pages u ≡ Some k → (t : Storage) × IsCellOn storages u k t
   cell_is_on u k is =
       let page = page_at_address u in
@@ -100,18 +93,12 @@ module _ (pages : List Page) (storages : List Storage) (stand : PagesStandFor pa
               cell_is_shown (length pages) (page_in pages page).header u k storages t stand.laid_out inside stands
                   shows is,
             )
-        | inr (none, others) ↦ absurd (nothing_on_free u k is none)
+        | inr (none, others) ↦ absurd (grind (arith, address_within, none-some, looked_up))
       ]
-
--- the words of a cell of a page, by the quotient
-word_in_cell : (word index words : ℕ) → 1 ≤ words → word / words ≡ index
-    → (index * words ≤ word) × (word < index * words + words)
-word_in_cell word index words some is = grind (arith, mod_below)
 
 -- a storage that shares a page with a small one is small, and has as many words
 like_small : {s t : Storage} → (s ≡ t) ⊎ AreAlike s t → is_small t ≡ true → (is_small s ≡ true) × (s.words ≡ t.words)
-like_small (inl one) small = (ap is_small one ∙ small, ap (λ (x : Storage). x.words) one)
-like_small (inr alike) small = (alike.small, alike.words)
+like_small x0 small = grind arith
 
 -- two storages that begin on one page stand on it
 both_stand : (n : ℕ) (xs : List Storage) (s t : Storage) → AreLaidOut n xs → Contains xs s → Contains xs t
@@ -142,11 +129,7 @@ same_from_cells n xs s t laid s_in t_in same = elim (same_or_apart n xs s t laid
 small_back : (n u : ℕ) (s t : Storage) → IsStorage n s → is_small s ≡ true → 65536 ≤ u
     → first_page s ≡ page_at_address u → class_words_of (class_of_storage t) ≡ s.words
     → s.first % 64 / s.words ≡ word_at_address u / class_words_of (class_of_storage t) → PointsInto u s
-small_back n u s t is small low at words index = grind (arith, small_is_cell, has_words, cell_index, word_in_cell)
-
-run_back : (n u : ℕ) (s : Storage) → IsStorage n s → is_small s ≡ false → 65536 ≤ u
-    → stands_on (page_at_address u) s ≡ true → PointsInto u s
-run_back n u s is large low stands = grind (arith, large_is_run, stands_parts)
+small_back n u s t is small low at words index = grind (arith, small_is_cell, has_words, cell_index, mod_below)
 
 -- a value that points into a storage's cell is in the storage
 pub cell_has_value : (n u : ℕ) (xs : List Storage) (s t : Storage) → AreLaidOut n xs → Contains xs s
@@ -165,7 +148,7 @@ cell_has_value n u xs s t laid inside on =
           small_back n u s t s_is s_small on.low at (t_words ∙ sym words) index
       | inr (large, same) ↦
           let one = same_from_cells n xs s t laid inside on.inside same in
-          subst (λ (x : Storage). PointsInto u x) (sym one) (run_back n u t t_is large on.low on.stands)
+          subst (λ (x : Storage). PointsInto u x) (sym one) (grind (arith, large_is_run, stands_parts))
     ]
 
 pub shown_cell_has_value : (n header u : ℕ) (xs : List Storage) (s t : Storage) → AreLaidOut n xs → Contains xs s

@@ -1,31 +1,15 @@
 -- The classes, one by one, and the cells of a page.
-use Rattle.std.proofs.Common.{List, None, Option, Some, ℕ, ap, arith, get_or, leb-true, map, refl, slice_index, suc}
-use Rattle.std.{proofs.Common.{sym, zero, [], ◌*◌, ◌+◌, ◌-◌, ◌/◌, ◌<◌, ◌∙◌, ◌∷◌, ◌≡◌, ◌≤◌}, specs.List.{range_with_len}}
-use Rattle.std.proofs.{lemmas.Bool.{cond-false, cond-true}, lemmas.List.FromFn.get_or-map-range_with_len}
-use Rattle.std.proofs.{lemmas.List.Quantifiers.position-Some, lemmas.Nat.{le-div, mul-le}, lemmas.Option.none-some}
+use Rattle.std.proofs.Common.{List, None, Option, Some, ℕ, ap, arith, get_or, leb-true, map, refl, slice_index, sym, []}
+use Rattle.std.proofs.{Common.{◌*◌, ◌+◌, ◌-◌, ◌/◌, ◌<◌, ◌∙◌, ◌∷◌, ◌≡◌, ◌≤◌}, lemmas.Bool.{cond-false, cond-true}}
+use Rattle.std.proofs.{lemmas.List.FromFn.get_or-map-range_with_len, lemmas.List.Quantifiers.position-Some}
+use Rattle.std.{proofs.{lemmas.Nat.{le-div, mul-le}, lemmas.Option.none-some}, specs.List.{range_with_len}}
 use Rattle.mk_geom.specs.Classes.{cells_of, class_for, class_words_of}
 
 pub class_for-class_words_of : (class : ℕ) → class < 8 → class_for (class_words_of class) ≡ Some class
-class_for-class_words_of zero known = refl
-class_for-class_words_of (suc zero) known = refl
-class_for-class_words_of (suc (suc zero)) known = refl
-class_for-class_words_of (suc (suc (suc zero))) known = refl
-class_for-class_words_of (suc (suc (suc (suc zero)))) known = refl
-class_for-class_words_of (suc (suc (suc (suc (suc zero))))) known = refl
-class_for-class_words_of (suc (suc (suc (suc (suc (suc zero)))))) known = refl
-class_for-class_words_of (suc (suc (suc (suc (suc (suc (suc zero))))))) known = refl
-class_for-class_words_of (suc (suc (suc (suc (suc (suc (suc (suc n)))))))) known = absurd (omega arith)
+class_for-class_words_of x0 known = grind arith
 
 pub class_words_within : (class : ℕ) → class < 8 → (2 ≤ class_words_of class) × (class_words_of class ≤ 32)
-class_words_within zero known = (omega arith, omega arith)
-class_words_within (suc zero) known = (omega arith, omega arith)
-class_words_within (suc (suc zero)) known = (omega arith, omega arith)
-class_words_within (suc (suc (suc zero))) known = (omega arith, omega arith)
-class_words_within (suc (suc (suc (suc zero)))) known = (omega arith, omega arith)
-class_words_within (suc (suc (suc (suc (suc zero))))) known = (omega arith, omega arith)
-class_words_within (suc (suc (suc (suc (suc (suc zero)))))) known = (omega arith, omega arith)
-class_words_within (suc (suc (suc (suc (suc (suc (suc zero))))))) known = (omega arith, omega arith)
-class_words_within (suc (suc (suc (suc (suc (suc (suc (suc n)))))))) known = absurd (omega arith)
+class_words_within x0 known = grind arith
 
 -- the class of a small object, by its pairs of words
 abbrev pub class_by_pairs : List ℕ
@@ -47,28 +31,12 @@ classes_listed words some small =
 
 -- the cells of a block, by class
 pub cells_listed : (class : ℕ) → class < 8 → slice_index (32 ∷ 16 ∷ 10 ∷ 8 ∷ 5 ∷ 4 ∷ 2 ∷ 2 ∷ []) class ≡ cells_of class
-cells_listed zero known = refl
-cells_listed (suc zero) known = refl
-cells_listed (suc (suc zero)) known = refl
-cells_listed (suc (suc (suc zero))) known = refl
-cells_listed (suc (suc (suc (suc zero)))) known = refl
-cells_listed (suc (suc (suc (suc (suc zero))))) known = refl
-cells_listed (suc (suc (suc (suc (suc (suc zero)))))) known = refl
-cells_listed (suc (suc (suc (suc (suc (suc (suc zero))))))) known = refl
-cells_listed (suc (suc (suc (suc (suc (suc (suc (suc n)))))))) known = absurd (omega arith)
+cells_listed x0 known = grind arith
 
 -- a word of a page, divided by the words of a cell
 pub divided_by_shares : (class word : ℕ) → class < 8 → word < 64
     → word * slice_index (512 ∷ 256 ∷ 171 ∷ 128 ∷ 86 ∷ 64 ∷ 43 ∷ 32 ∷ []) class / 1024 ≡ word / class_words_of class
-divided_by_shares zero word known within = omega (arith, within)
-divided_by_shares (suc zero) word known within = omega (arith, within)
-divided_by_shares (suc (suc zero)) word known within = omega (arith, within)
-divided_by_shares (suc (suc (suc zero))) word known within = omega (arith, within)
-divided_by_shares (suc (suc (suc (suc zero)))) word known within = omega (arith, within)
-divided_by_shares (suc (suc (suc (suc (suc zero))))) word known within = omega (arith, within)
-divided_by_shares (suc (suc (suc (suc (suc (suc zero)))))) word known within = omega (arith, within)
-divided_by_shares (suc (suc (suc (suc (suc (suc (suc zero))))))) word known within = omega (arith, within)
-divided_by_shares (suc (suc (suc (suc (suc (suc (suc (suc n)))))))) word known within = absurd (omega arith)
+divided_by_shares x0 word known within = grind arith
 
 -- a cell of this many words ends within its page
 pub cell_ends : (index words : ℕ) → index < 64 / words → index * words + words ≤ 64

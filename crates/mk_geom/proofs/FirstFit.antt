@@ -7,24 +7,21 @@ use Rattle.std.proofs.{lemmas.Bool.{false≢true, lt-leb, not-true}, lemmas.Opti
 use Rattle.std.{proofs.lemmas.List.{get_or-map, length-map}, specs.List.{AllWithin}}
 use Rattle.mk_geom.proofs.{ClassTable.{class_for-some, class_words_within, some_cells}, Bridge.same_places}
 use Rattle.mk_geom.specs.{Classes.{cells_of, class_for, run_pages_of}, PageUses.{Cells, Nothing, PageUse, PartOfRun}}
-use Rattle.mk_geom.specs.PageUses.{carved, cell_place, cells_taken, first_where, free_range, is_free_page, is_same_sort}
-use Rattle.mk_geom.specs.PageUses.{large_place, or_else, page_behind, place_on_uses, range_start, resident_pages}
-use Rattle.mk_geom.specs.{PageUses.small_place, Places.{AreFree, IsCellPlace, IsRunPlace, MayTakeCell}}
+use Rattle.mk_geom.specs.PageUses.{carved, cell_place, cells_taken, first_where, free_range, is_free_page, large_place}
+use Rattle.mk_geom.specs.PageUses.{or_else, page_behind, place_on_uses, range_start, resident_pages, small_place}
+use Rattle.mk_geom.specs.Places.{AreFree, IsCellPlace, IsRunPlace, MayTakeCell}
 use Rattle.mk_geom.specs.{PageWords.{use_of_page, uses_of_pages}, Storages.{PagesStandFor, Storage}}
 use Rattle.mk_geom.specs.{Storages.place_among_storages, declared.pages.Page.Page, declared.pages.Place.Place}
 
 or_else_cases : {A : Type 0} (o p : Option A) (x : A) → or_else o p ≡ Some x → (o ≡ Some x) ⊎ (p ≡ Some x)
-or_else_cases (Some y) p x is = inl is
-or_else_cases None p x is = inr is
+or_else_cases x0 p x is = grind arith
 
 option_map_some : {A B : Type 0} (f : A → B) (o : Option A) (y : B) → option_map f o ≡ Some y
     → (x : A) × (o ≡ Some x) × (f x ≡ y)
-option_map_some f (Some x) y is = (x, refl, same_Some (f x) y is)
-option_map_some f None y is = absurd (none-some y is)
+option_map_some f x1 y is = grind (arith, same_Some, none-some)
 
 if_some : {A : Type 0} (b : Bool) (o : Option A) (x : A) → (if b then o else None) ≡ Some x → (b ≡ true) × (o ≡ Some x)
-if_some true o x is = (refl, is)
-if_some false o x is = absurd (none-some x is)
+if_some x0 o x is = grind (arith, none-some)
 
 first_where_passes : {A : Type 0} (p : A → Bool) (xs : List A) (i : ℕ) → first_where p xs ≡ Some i
     → (x : A) × (slice_get xs i ≡ Some x) × (p x ≡ true)
@@ -40,17 +37,13 @@ first_where_passes {A} p (x ∷ xs) i is = elim (cases_Bool (p x)) [
       let place : i ≡ suc n = omega arith in (y, ap (slice_get (x ∷ xs)) place ∙ at, passes)
 ]
 
-same_sort_is : (a b : Bool) → is_same_sort a b ≡ true → b ≡ a
-same_sort_is true b is = is
-same_sort_is false b is = not-true b is
-
 -- a cell that isn't taken on a page
 free_cell_is : (class : ℕ) (leaf : Bool) (u : PageUse) (index : ℕ) → first_where not (cells_taken class leaf u)
     ≡ Some index → MayTakeCell class leaf index u × (false ≡ is_free_page u)
 free_cell_is class leaf Nothing index is = absurd (none-some index is)
 free_cell_is class leaf (PartOfRun mapped) index is = absurd (none-some index is)
 free_cell_is class leaf (Cells class' leaf' taken) index is =
-    grind (arith, and_parts, first_where_passes, cond-true, eqb-true, same_sort_is, not-true, none-some, cond-false)
+    grind (arith, and_parts, first_where_passes, cond-true, eqb-true, not-true, none-some, cond-false)
 
 -- a page's use that is as the place says
 record FitsOn (class : ℕ) (leaf : Bool) (uses : List PageUse) (place : Place) : Type 0 where
@@ -90,9 +83,7 @@ cell_place_fits class leaf (u ∷ uses) place is =
     ]
 
 free_is_nothing : (u : PageUse) → is_free_page u ≡ true → u ≡ Nothing
-free_is_nothing Nothing free = refl
-free_is_nothing (Cells class leaf taken) free = absurd (false≢true free)
-free_is_nothing (PartOfRun mapped) free = absurd (false≢true free)
+free_is_nothing x0 free = grind arith
 
 small_place_fits : (limit class : ℕ) (leaf : Bool) (uses : List PageUse) (place : Place) → 0 < cells_of class
     → small_place limit class leaf uses ≡ Some place → FitsOn class leaf uses place × (place.carve ≡ true
@@ -107,17 +98,7 @@ small_place_fits limit class leaf uses place some is =
       | inr carve ↦
           let (room, found) = if_some (nat_lt (resident_pages uses) limit) free place carve in
           let (page, first, place_is) = option_map_some carved (first_where is_free_page uses) place found in
-          let (u, at, is_free) = first_where_passes is_free_page uses page first in
-          let nothing : Nothing ≡ u = sym (free_is_nothing u is_free) in (
-            subst (λ (x : Place). FitsOn class leaf uses x) place_is (record {
-              on = u;
-              at = at;
-              may_take = subst (λ (v : PageUse). MayTakeCell class leaf 0 v) nothing some;
-              carves = sym is_free;
-            }),
-            λ carves. sym (ap (λ (x : Place). x.index) place_is),
-            λ carves. ltb-true (resident_pages uses) limit room,
-          )
+          grind (arith, first_where_passes, free_is_nothing, ltb-true, Nothing)
     ]
 
 -- the pages at the front that are free
@@ -168,27 +149,12 @@ range_start_free count (u ∷ uses) start is = elim (cases_Bool (nat_le count (f
 
     behind : (n : ℕ) → AreFreeUses n count uses → (k : ℕ) (d : PageUse) → n < k → k < suc n + count
         → is_free_page (get_or (u ∷ uses) k d) ≡ true
-    behind n rest zero d low high = absurd (omega arith)
-    behind n rest (suc k) d low high = rest.free k d (omega arith) (omega arith)
+    behind n rest x2 d low high = grind arith
 
 -- from what stands on the pages to the pages
 use_of_some : (pages : List Page) (k : ℕ) (u : PageUse) → slice_get (uses_of_pages pages) k ≡ Some u
     → (p : Page) × (slice_get pages k ≡ Some p) × (use_of_page p ≡ u)
 use_of_some pages k u at = option_map_some use_of_page _ u (sym (slice_get-map use_of_page pages k) ∙ at)
-
-cell_place_on : (limit class : ℕ) (leaf : Bool) (pages : List Page) (place : Place)
-    → FitsOn class leaf (uses_of_pages pages) place → (place.carve ≡ true → place.index ≡ 0)
-    → (place.carve ≡ true → resident_pages (uses_of_pages pages) < limit) → IsCellPlace limit class leaf pages place
-cell_place_on limit class leaf pages place fits first room =
-    let (p, at, shows) = use_of_some pages place.page fits.on fits.at in
-    record {
-      page = p;
-      at = at;
-      may_take = subst (λ (u : PageUse). MayTakeCell class leaf place.index u) (sym shows) fits.may_take;
-      carves = fits.carves ∙ ap is_free_page (sym shows);
-      carves_first = first;
-      has_room = room;
-    }
 
 pub cell_place_is : (limit words class : ℕ) (leaf : Bool) (pages : List Page) (place : Place)
     → class_for words ≡ Some class → place_on_uses limit words leaf (uses_of_pages pages) ≡ Some place
@@ -200,7 +166,15 @@ cell_place_is limit words class leaf pages place class_is is =
     let small : nat_le words 32 ≡ true = le-leb words 32 (omega arith) in
     let found : small_place limit class leaf uses ≡ Some place = grind (arith, cond-true) in
     let (fits, first, room) = small_place_fits limit class leaf uses place (some_cells class known) found in
-    cell_place_on limit class leaf pages place fits first room
+    let (p, at, shows) = use_of_some pages place.page fits.on fits.at in
+    record {
+      page = p;
+      at = at;
+      may_take = subst (λ (u : PageUse). MayTakeCell class leaf place.index u) (sym shows) fits.may_take;
+      carves = fits.carves ∙ ap is_free_page (sym shows);
+      carves_first = first;
+      has_room = room;
+    }
 
 pub run_place_is : (limit words : ℕ) (leaf : Bool) (pages : List Page) (place : Place) → 32 < words
     → place_on_uses limit words leaf (uses_of_pages pages) ≡ Some place

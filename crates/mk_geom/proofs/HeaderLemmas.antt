@@ -14,5 +14,4 @@ header_of-word_of (LeafBlock class) in_range = grind (arith, common_steps)
 header_of-word_of (LeafRun pages) in_range = grind (arith, common_steps)
 
 pub word_of-header_of : (word : ℕ) (h : Header) → header_of word ≡ Some h → IsInRange h × (word_of h ≡ word)
-word_of-header_of word Free is = grind (arith, common_steps)
-word_of-header_of word _ is = grind (arith, common_steps)
+word_of-header_of word x1 is = grind (arith, common_steps)

@@ -41,9 +41,6 @@ sum_on_pages s n count ends within = sum_below-block (words_on s) (first_page s)
     (λ p low high. words_on_page s p (stands_from p s low (omega arith)))
     (λ p past. words_off_page s p (λ stands. let parts = stands_parts p s stands in omega arith)) n within
 
-large_there : (s : Storage) (pages : ℕ) → is_small s ≡ false → s.words ≡ 64 * pages → pages * words_there s ≡ held_by s
-large_there s pages large words = grind (arith, cond-false)
-
 small_there : (s : Storage) → is_small s ≡ true → words_there s ≡ held_by s
 small_there s small = ap (λ (n : ℕ). if s.mapped then n else 0) (cond-true (is_small s) s.words 64 small)
 
@@ -58,7 +55,7 @@ storage_sum n s is = elim (cases_Bool (is_small s)) [
   | inr large ↦
       let run = large_is_run n s is large in
       sum_on_pages s n run.pages (omega (arith, run.first, run.words, run.some))
-      (omega (arith, run.first, run.words, is.1)) ∙ large_there s run.pages large run.words
+      (omega (arith, run.first, run.words, is.1)) ∙ (grind (arith, cond-false))
 ]
 
 -- how many bits are set

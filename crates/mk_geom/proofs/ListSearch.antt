@@ -1,6 +1,6 @@
 -- What `find` and `list_any` say of the elements of a list.
 use Rattle.std.proofs.Common.{Bool, Contains, List, None, Some, arith, false, find, inl, inr, refl, subst, suc, sym}
-use Rattle.std.proofs.{Common.{true, zero, [], ◌∙◌, ◌∷◌, ◌≡◌, ◌⊎◌}, lemmas.Bool.{cases_Bool, false≢true, or_cases}}
+use Rattle.std.proofs.{Common.{true, [], ◌∙◌, ◌∷◌, ◌≡◌, ◌⊎◌}, lemmas.Bool.{cases_Bool, false≢true, or_cases}}
 use Rattle.std.specs.List.{list_any}
 
 pub Contains-head : {X : Type 0} (x : X) (xs : List X) → Contains (x ∷ xs) x
@@ -10,8 +10,7 @@ pub Contains-tail : {X : Type 0} (x : X) (xs : List X) (y : X) → Contains xs y
 Contains-tail x xs y (k, within, is) = (suc k, omega arith, is)
 
 pub Contains-cons_cases : {X : Type 0} (x : X) (xs : List X) (y : X) → Contains (x ∷ xs) y → (x ≡ y) ⊎ Contains xs y
-Contains-cons_cases x xs y (zero, within, is) = inl is
-Contains-cons_cases x xs y (suc k, within, is) = inr (k, omega arith, is)
+Contains-cons_cases x xs y x3 = grind arith
 
 pub Contains-nil : {X : Type 0} (y : X) → Contains [] y → ⊥
 Contains-nil y (k, within, is) = omega arith

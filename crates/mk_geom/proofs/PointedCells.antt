@@ -1,16 +1,15 @@
 -- What an address in a storage points into, and in which storage an address is that points into its cell.
-use Rattle.std.proofs.Common.{Bool, Option, Some, ℕ, ap, arith, false, inl, inr, le-leb, lt-ltb, refl, suc, sym, true}
-use Rattle.std.proofs.Common.{zero, ◌%◌, ◌*◌, ◌+◌, ◌-◌, ◌/◌, ◌<◌, ◌↔◌, ◌∙◌, ◌≡◌, ◌≤◌}
-use Rattle.std.proofs.lemmas.Bool.{and_from, cases_Bool, cond-false, cond-true, lt-leb}
-use Rattle.std.proofs.lemmas.Nat.{div-mul-add, mul-le}
+use Rattle.std.proofs.Common.{Bool, Option, Some, ℕ, ap, arith, false, inl, inr, le-leb, lt-ltb, sym, true, ◌%◌, ◌*◌}
+use Rattle.std.proofs.{Common.{◌+◌, ◌-◌, ◌/◌, ◌<◌, ◌↔◌, ◌∙◌, ◌≡◌, ◌≤◌}, lemmas.Bool.{and_from, cases_Bool, cond-false}}
+use Rattle.std.proofs.{lemmas.Bool.{cond-true, lt-leb}, lemmas.Nat.{div-mul-add, mul-le}}
 use Rattle.mk_geom.proofs.{Bridge.{block_in_range, run_in_range, run_near}, Standing.{cell_stands_at, class_of_cell}}
 use Rattle.mk_geom.proofs.Standing.{class_of_words, has_words, large_is_run, small_is_cell, stands_from, stands_parts}
 use Rattle.mk_geom.proofs.{ClassTable.{cell_ends, class_words_within}, HeaderLemmas.header_of-word_of}
-use Rattle.mk_geom.specs.Addresses.{address_of, cell_at, cell_of_block, cell_under, heap_word_at, page_at_address}
-use Rattle.mk_geom.specs.{Addresses.word_at_address, StorageWords.{IsWordOf, PointsInto, ShowsStorage, cell_of_storage}}
-use Rattle.mk_geom.specs.Storages.{IsCell, IsStorage, Storage, block_header, class_of_storage, first_page, is_small}
-use Rattle.mk_geom.specs.{Storages.{run_header, stands_on}, Classes.{cells_of, class_words_of}}
-use Rattle.mk_geom.specs.{Headers.{header_of, word_of}, declared.addresses.Cell.Cell, declared.headers.Header.Header}
+use Rattle.mk_geom.specs.Addresses.{address_of, cell_at, cell_of_block, cell_under, page_at_address, word_at_address}
+use Rattle.mk_geom.specs.{Headers.{header_of, word_of}, StorageWords.{IsWordOf, PointsInto, ShowsStorage}}
+use Rattle.mk_geom.specs.{StorageWords.cell_of_storage, Storages.{IsCell, IsStorage, Storage, block_header}}
+use Rattle.mk_geom.specs.Storages.{class_of_storage, first_page, is_small, run_header, stands_on}
+use Rattle.mk_geom.specs.{Classes.class_words_of, declared.addresses.Cell.Cell, declared.headers.Header.Header}
 
 -- a heap address whose page has this header
 pub looked_up : (pages header u : ℕ) (h : Header) → 65536 ≤ u → page_at_address u < pages → header_of header ≡ Some h
@@ -19,8 +18,7 @@ looked_up pages header u h low within is = grind (arith, and_from, le-leb, lt-lt
 
 block_under : (class : ℕ) (leaf : Bool) (page word : ℕ)
     → cell_under (block_header class leaf) page word ≡ cell_of_block class page word
-block_under class true page word = refl
-block_under class false page word = refl
+block_under class x1 page word = grind arith
 
 own_page : (page : ℕ)
     → ◌≡◌ {A = Option Cell} (Some (record { page = page; index = 0 })) (Some (record { page = page - 0; index = 0 }))
@@ -28,11 +26,7 @@ own_page page = let same : page ≡ page - 0 = omega arith in ap (λ p. Some (re
 
 run_under : (pages : ℕ) (mapped leaf : Bool) (distance page word : ℕ) → distance ≤ page
     → cell_under (run_header pages mapped leaf distance) page word ≡ Some (record { page = page - distance; index = 0 })
-run_under pages true true zero page word near = own_page page
-run_under pages true false zero page word near = own_page page
-run_under pages false true zero page word near = own_page page
-run_under pages false false zero page word near = own_page page
-run_under pages mapped leaf (suc distance) page word near = grind (arith, cond-true, le-leb)
+run_under pages mapped leaf x3 page word near = grind (arith, own_page, cond-true, le-leb)
 
 -- What an address points into whose page shows a storage that stands there.
 module _ (pages header u : ℕ) (s : Storage) (is : IsStorage pages s) (low : 65536 ≤ u)
@@ -103,26 +97,23 @@ cell_first pages s is = grind (arith, small_is_cell, small_cell_of, cell_index, 
 pub stands_at_address : (u : ℕ) (s : Storage) → PointsInto u s → stands_on (page_at_address u) s ≡ true
 stands_at_address u s (low, (from, to)) = stands_from (page_at_address u) s (omega arith) (omega arith)
 
--- the cell of a block that has one of its words
-block_cell : (class page index offset word : ℕ) → index < cells_of class → offset < class_words_of class
-    → word ≡ index * class_words_of class + offset
-    → cell_of_block class page word ≡ Some (record { page = page; index = index })
-block_cell class page index offset word within inside is = grind (arith, mul-le, div-mul-add, cond-true, lt-ltb)
-
 small_cell_at : (u : ℕ) (s : Storage) (cell : IsCell s) → is_small s ≡ true → PointsInto u s
     → cell_of_block (class_of_storage s) (page_at_address u) (word_at_address u) ≡ Some (cell_of_storage s)
 small_cell_at u s cell small into =
-    let at : page_at_address u ≡ first_page s = grind (arith, cell_stands_at, stands_at_address) in
-    let words = class_has_words s cell in
-    let within : cell.index < cells_of (class_of_storage s) = grind (arith, class_of_cell) in
-    let ends = cell_ends cell.index (class_words_of (class_of_storage s)) within in
-    let first : s.first % 64 ≡ cell.index * class_words_of (class_of_storage s) = first_in_page s cell in
-    let low = into.1.0 in
-    let high = into.1.1 in
-    let offset : heap_word_at u - s.first < class_words_of (class_of_storage s) = omega arith in
-    let word : word_at_address u ≡ cell.index * class_words_of (class_of_storage s) + (heap_word_at u - s.first) =
-    omega arith in
-    block_cell _ _ cell.index _ _ within offset word ∙ small_cell_is s cell _ small at
+    grind (
+      arith,
+      cell_stands_at,
+      stands_at_address,
+      class_has_words,
+      class_of_cell,
+      cell_ends,
+      first_in_page,
+      small_cell_is,
+      mul-le,
+      div-mul-add,
+      cond-true,
+      lt-ltb,
+    )
 
 -- what the header word of its page says, by a storage's numbers
 pub shows_cell : (s : Storage) (page header class : ℕ) → class < 8 → s.words ≡ class_words_of class

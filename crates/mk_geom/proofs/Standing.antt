@@ -17,23 +17,16 @@ class_of_words s class known words = rw (words, class_for-class_words_of class k
 pub class_of_cell : (s : Storage) (cell : IsCell s) → class_of_storage s ≡ cell.class
 class_of_cell s cell = class_of_words s cell.class cell.known cell.words
 
-pub cell_is_small : (s : Storage) → IsCell s → is_small s ≡ true
-cell_is_small s cell = le-leb s.words 32 (cell_within s cell).1
-
-pub run_is_large : (s : Storage) → IsRun s → is_small s ≡ false
-run_is_large s run = lt-leb s.words 32 (omega (arith, run.words, run.some))
-
 pub small_is_cell : (n : ℕ) (s : Storage) → IsStorage n s → is_small s ≡ true → IsCell s
 small_is_cell n s (inl cell, inside) small = cell
-small_is_cell n s (inr run, inside) small = absurd (false≢true (sym (run_is_large s run) ∙ small))
+small_is_cell n s (inr run, inside) small = grind (arith, lt-leb)
 
 pub large_is_run : (n : ℕ) (s : Storage) → IsStorage n s → is_small s ≡ false → IsRun s
-large_is_run n s (inl cell, inside) large = absurd (false≢true (sym large ∙ cell_is_small s cell))
+large_is_run n s (inl cell, inside) large = absurd (false≢true (sym large ∙ (le-leb s.words 32 (cell_within s cell).1)))
 large_is_run n s (inr run, inside) large = run
 
 pub has_words : (n : ℕ) (s : Storage) → IsStorage n s → 1 ≤ s.words
-has_words n s (inl cell, inside) = (cell_within s cell).0
-has_words n s (inr run, inside) = omega (arith, run.words, run.some)
+has_words n s x2 = grind (arith, cell_within)
 
 pub stands_parts : (page : ℕ) (s : Storage) → stands_on page s ≡ true
     → (s.first / 64 ≤ page) × (page ≤ (s.first + s.words - 1) / 64)

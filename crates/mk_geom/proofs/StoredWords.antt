@@ -1,7 +1,7 @@
 -- The words of a page, by any storage that stands on it.
 use Rattle.std.proofs.Common.{Contains, List, Some, ℕ, ap, arith, false, inl, inr, le-leb, sym, true, ◌*◌, ◌+◌, ◌-◌}
 use Rattle.std.proofs.{Common.{◌/◌, ◌<◌, ◌∙◌, ◌≡◌}, lemmas.Bool.{cond-false, cond-true, false≢true, lt-leb}}
-use Rattle.mk_geom.proofs.Standing.{AreAlike, class_of_words, same_or_alike, stands_at_first, stands_from, storage_in}
+use Rattle.mk_geom.proofs.Standing.{class_of_words, same_or_alike, stands_at_first, stands_from, storage_in}
 use Rattle.mk_geom.proofs.{ClassTable.{cell_ends, class_words_within}, ListSearch.find_cases}
 use Rattle.mk_geom.specs.Storages.{AreLaidOut, Storage, block_page, class_of_storage, first_page, free_page, is_small}
 use Rattle.mk_geom.specs.Storages.{run_page, stands_on, taken_cells, used_word, words_by, words_of_storages}
@@ -15,10 +15,6 @@ pub words_by_large : (page : ℕ) (xs : List Storage) (s : Storage) → is_small
     → words_by xs page (Some s) ≡ run_page (s.words / 64) s.mapped s.leaf (page - first_page s)
 words_by_large page xs s large = cond-false (is_small s) _ _ large
 
-words_by_alike : (page : ℕ) (xs : List Storage) (s t : Storage) → AreAlike s t
-    → words_by xs page (Some s) ≡ words_by xs page (Some t)
-words_by_alike page xs s t alike = grind (arith, words_by_small)
-
 -- Any storage on a page says what its words are, and where there is none they are 0.
 pub words_at : (n page : ℕ) (xs : List Storage) (s : Storage) → AreLaidOut n xs → Contains xs s
     → stands_on page s ≡ true → words_of_storages xs page ≡ words_by xs page (Some s)
@@ -26,7 +22,7 @@ words_at n page xs s laid inside stands = elim (find_cases (stands_on page) xs) 
   | inl (t, found, t_inside, t_stands) ↦
       ap (words_by xs page) found ∙ elim (same_or_alike n xs page t s laid t_inside inside t_stands stands) [
         | inl same ↦ ap (λ (x : Storage). words_by xs page (Some x)) same
-        | inr alike ↦ words_by_alike page xs t s alike
+        | inr alike ↦ grind (arith, words_by_small)
       ]
   | inr (none, others) ↦ absurd (false≢true (sym (others s inside) ∙ stands))
 ]

@@ -1,7 +1,7 @@
 -- The cells of a page that storages take.
 use Rattle.std.proofs.Common.{All, Bool, Contains, List, ℕ, arith, eq-eqb, eqb-true, false, get_or, get_or-set_other}
-use Rattle.std.proofs.Common.{get_or-set_same, inl, inr, length, length-set, refl, set, sym, true, ◌*◌, ◌+◌, ◌<◌, ◌==◌}
-use Rattle.std.proofs.{Common.{◌∙◌, ◌≡◌, ◌≢◌, ◌≤◌}, lemmas.Bool.{cases_eq, cases_order, false_from_ne_true, false≢true}}
+use Rattle.std.proofs.Common.{get_or-set_same, inl, inr, length, length-set, set, sym, true, ◌*◌, ◌+◌, ◌<◌, ◌==◌, ◌∙◌}
+use Rattle.std.proofs.{Common.{◌≡◌, ◌≢◌, ◌≤◌}, lemmas.Bool.{cases_eq, cases_order, false_from_ne_true, false≢true}}
 use Rattle.std.proofs.lemmas.List.FromFn.{get_or-map-range_with_len, length-map-range_with_len}
 use Rattle.std.proofs.{lemmas.List.same_lists, lemmas.List.Elements.All-contains, lemmas.Nat.mul-le}
 use Rattle.mk_geom.proofs.{ClassTable.{cell_ends, class_words_within}, ListSearch.{list_any_found, list_any_from}}
@@ -13,9 +13,7 @@ abbrev pub Carries : ℕ → List Storage → List Storage → Type 0
 Carries page xs ys = (s : Storage) → stands_on page s ≡ true → Contains xs s → Contains ys s
 
 pub same_from_both : (a b : Bool) → (a ≡ true → b ≡ true) → (b ≡ true → a ≡ true) → a ≡ b
-same_from_both true b there back = sym (there refl)
-same_from_both false true there back = back refl
-same_from_both false false there back = refl
+same_from_both x0 b there back = grind arith
 
 -- the storage that begins at a taken cell stands on the page
 pub cell_taken_by : (n page class k : ℕ) (xs : List Storage) → class < 8 → k < cells_of class → All (IsStorage n) xs
@@ -78,17 +76,12 @@ taken_cells-set page class index xs ys b here others = same_lists _ _ same_lengt
     same_length : length (taken_cells ys page class) ≡ length (set (taken_cells xs page class) index b)
     same_length = cc (length-taken_cells ys page class, length-taken_cells xs page class, length-set old index b)
 
-    changed : (k : ℕ) (d : Bool) → k < cells_of class → k ≡ index
-        → is_cell_taken ys page (class_words_of class) k ≡ get_or (set (taken_cells xs page class) index b) k d
-    changed k d within same =
-        cc (here, get_or-set_same old index b d (omega (arith, length-taken_cells xs page class, same)))
-
     each : (k : ℕ) (d : Bool) → k < length (taken_cells ys page class)
         → get_or (taken_cells ys page class) k d ≡ get_or (set (taken_cells xs page class) index b) k d
     each k d below =
         let within : k < cells_of class = omega (arith, length-taken_cells ys page class) in
         get_or-taken_cells ys page class k d within ∙ elim (cases_eq k index) [
-          | inl same ↦ changed k d within same
+          | inl same ↦ cc (here, get_or-set_same old index b d (omega (arith, length-taken_cells xs page class, same)))
           | inr other ↦ others k within other ∙ sym (get_or-taken_cells xs page class k d within)
               ∙ sym (get_or-set_other old index k b d other)
         ]
@@ -101,8 +94,6 @@ same_index words i j some same = grind (arith, cases_order, mul-le)
 pub none_taken : (n page class : ℕ) (xs : List Storage) → class < 8 → All (IsStorage n) xs
     → ((s : Storage) → Contains xs s → stands_on page s ≡ false) → (k : ℕ) → k < cells_of class
     → is_cell_taken xs page (class_words_of class) k ≡ false
-none_taken n page class xs known each none k within = false_from_ne_true _ not_taken
-  where
-    not_taken : is_cell_taken xs page (class_words_of class) k ≡ true → ⊥
-    not_taken taken = let (s, inside, first, stands) =
-        cell_taken_by n page class k xs known within each taken in false≢true (sym (none s inside) ∙ stands)
+none_taken n page class xs known each none k within = false_from_ne_true _ (λ taken.
+    let (s, inside, first, stands) =
+    cell_taken_by n page class k xs known within each taken in false≢true (sym (none s inside) ∙ stands))

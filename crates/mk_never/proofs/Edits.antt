@@ -2,21 +2,17 @@
 use Rattle.std.proofs.Common.{Bool, List, ℕ, ap, arith, false, get_or, if◌then◌else◌, length, refl, set, suc, true}
 use Rattle.std.proofs.{Common.{zero, [], ◌++◌, ◌<◌, ◌∷◌, ◌≡◌}, lemmas.Bool.false≢true}
 use Rattle.mk_never.specs.NeverHeap.{Allocation, NeverState, allocation_at, left_at, no_allocation, words_of}
-use Rattle.mk_never.specs.declared.values.Target.TheVariants.{Nothing, Unmapped, WordOf}
-use Rattle.mk_never.specs.declared.values.Target.{Target}
+use Rattle.mk_never.specs.{declared.values.Target.Target, declared.values.Target.TheVariants.WordOf}
 
 -- what holds where the access is refused and at each word that it reaches holds of what is left
 pub left_at_by : (P : NeverState → Type 0) (t : Target) (refused : NeverState) (at : ℕ → ℕ → NeverState)
     → P refused → ((number place : ℕ) → t ≡ WordOf number place → P (at number place)) → P (left_at t refused at)
-left_at_by P Nothing refused at kept reached = kept
-left_at_by P Unmapped refused at kept reached = kept
-left_at_by P (WordOf number place) refused at kept reached = reached number place refl
+left_at_by x0 x1 refused at kept reached = grind arith
 
 -- what holds of both holds of the one that is chosen
 pub if_by : {A : Type 0} (P : A → Type 0) (b : Bool) (x y : A) → (b ≡ true → P x) → (b ≡ false → P y)
     → P (if b then x else y)
-if_by P true x y at_true at_false = at_true refl
-if_by P false x y at_true at_false = at_false refl
+if_by x0 x1 x y at_true at_false = grind arith
 
 -- what holds of the new element at its place and of the old one holds of the element there
 pub set_by : {A : Type 0} (P : A → Type 0) (xs : List A) (i k : ℕ) (v d : A) → (k ≡ i → P v) → P (get_or xs k d)

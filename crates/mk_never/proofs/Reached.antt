@@ -1,6 +1,6 @@
 -- What is reached is the least set that is closed under pointers; and a small state, in which a freed large
 -- allocation ends the reach.
-use Rattle.std.proofs.Common.{Bool, ℕ, false, get_or, refl, replicate, subst, suc, sym, true, zero, [], ◌∷◌, ◌≡◌}
+use Rattle.std.proofs.Common.{Bool, ℕ, arith, false, get_or, refl, replicate, suc, true, zero, [], ◌∷◌, ◌≡◌}
 use Rattle.std.proofs.lemmas.Bool.{false≢true}
 use Rattle.mk_never.specs.Reach.{IsClosedUnderPointers, IsReachable, LeadsTo, ReachIsLeast, WordLeadsTo, by_global}
 use Rattle.mk_never.specs.{Reach.{by_register, by_word}, declared.values.Value.TheVariants.{Null, Num, Ptr}}
@@ -44,15 +44,11 @@ both (suc zero) = true
 both (suc (suc number)) = false
 
 lone_register : (r number : ℕ) → LeadsTo (get_or example.registers r Null) number → both number ≡ true
-lone_register zero number leads = subst (λ k. both k ≡ true) leads refl
-lone_register (suc r) number leads = absurd leads
+lone_register x0 number leads = grind (arith, both)
 
 words_lead_to_both : (from place number : ℕ) → both from ≡ true → WordLeadsTo example from place number
     → both number ≡ true
-words_lead_to_both zero zero number inside leads = subst (λ k. both k ≡ true) leads.1 refl
-words_lead_to_both zero (suc place) number inside leads = absurd leads.1
-words_lead_to_both (suc zero) place number inside leads = absurd (false≢true (sym leads.0))
-words_lead_to_both (suc (suc from)) place number inside leads = absurd (false≢true inside)
+words_lead_to_both x0 place number inside leads = grind (arith, both)
 
 pub third_is_not_reached : IsReachable example 2 → ⊥
 third_is_not_reached reached = false≢true (reach_is_least example both

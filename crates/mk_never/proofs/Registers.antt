@@ -1,11 +1,9 @@
 -- The calls of others leave a caller's registers.
 use Rattle.std.proofs.Common.{List, ℕ, arith, get_or-set_other, refl, [], ◌*◌, ◌+◌, ◌<◌, ◌∙◌, ◌∷◌, ◌≢◌}
-use Rattle.mk_never.{proofs.Edits.{if_by, left_at_by}, specs.declared.operations.Op.TheVariants.{SetNum, SetPtr}}
+use Rattle.mk_never.{proofs.Edits.{if_by, left_at_by}, specs.NeverHeap.{after_free, after_op, left_at, with_register}}
 use Rattle.mk_never.specs.{Admitted.{AreAdmitted, IsAdmitted, OperandsAreInRange}, Laws.{AreByOthers, AreNotBy}}
 use Rattle.mk_never.specs.{Laws.{DestinationIsInRange, KeepsRegisters}, NeverHeap.{Call, NeverState, after_calls}}
-use Rattle.mk_never.specs.NeverHeap.{after_free, after_op, left_at, register_at, with_register}
-use Rattle.mk_never.specs.declared.operations.Op.TheVariants.{CasPtr, Clear, Free, GetGlobal, GetPtr, Lea, Move, New}
-use Rattle.mk_never.specs.{declared.values.Value.TheVariants.{Null, Num, Ptr}, declared.operations.Op.Op}
+use Rattle.mk_never.specs.{declared.values.Value.TheVariants.Null, declared.operations.Op.Op}
 use Rattle.mk_never.specs.{declared.values.Target.Target, declared.values.Value.Value}
 
 -- a register of another caller
@@ -15,9 +13,7 @@ other_register n caller c d v other in_range r below =
     let apart : 8 * caller + r ≢ 8 * c + d = λ e. other (omega arith) in get_or-set_other n.registers _ _ v Null apart
 
 free_keeps : (n : NeverState) (caller : ℕ) (v : Value) → KeepsRegisters caller n (after_free n v)
-free_keeps n caller Null r below = refl
-free_keeps n caller (Num m) r below = refl
-free_keeps n caller (Ptr number ty offset) r below = refl
+free_keeps n caller x2 r below = grind arith
 
 access_keeps : (n : NeverState) (caller : ℕ) (t : Target) (refused : NeverState) (at : ℕ → ℕ → NeverState)
     → KeepsRegisters caller n refused → ((number place : ℕ) → KeepsRegisters caller n (at number place))
@@ -26,17 +22,7 @@ access_keeps n caller t refused at kept reached = grind (arith, left_at_by)
 
 pub op_keeps : (n : NeverState) (caller c : ℕ) (op : Op) → c ≢ caller → DestinationIsInRange op
     → KeepsRegisters caller n (after_op n c op)
-op_keeps n caller c (New d ty full) other in_range = grind (arith, if_by, other_register)
-op_keeps n caller c (Free p) other in_range = free_keeps n caller (register_at n c p)
-op_keeps n caller c (SetNum q i m) other in_range = grind (arith, access_keeps)
-op_keeps n caller c (GetPtr d q i) other in_range = grind (arith, access_keeps, other_register)
-op_keeps n caller c (SetPtr q i p) other in_range = grind (arith, access_keeps)
-op_keeps n caller c (CasPtr q i p r') other in_range = grind (arith, access_keeps, if_by)
-op_keeps n caller c (Lea d q i) other in_range = other_register n caller c d _ other in_range
-op_keeps n caller c (Move d q) other in_range = other_register n caller c d _ other in_range
-op_keeps n caller c (Clear d) other in_range = other_register n caller c d _ other in_range
-op_keeps n caller c (GetGlobal d g) other in_range = other_register n caller c d _ other in_range
-op_keeps n caller c _ other in_range = λ r below. refl
+op_keeps n caller c x3 other in_range = grind (arith, if_by, other_register, free_keeps, access_keeps)
 
 pub calls_keep : (n : NeverState) (caller : ℕ) (calls : List Call) → AreByOthers caller calls
     → KeepsRegisters caller n (after_calls n calls)
@@ -46,13 +32,7 @@ calls_keep n caller (x ∷ xs) others = λ r below. calls_keep (after_op n x.cal
 
 -- operands in range: so is the register that is set
 pub destination : (n : NeverState) (op : Op) → OperandsAreInRange n op → DestinationIsInRange op
-destination n (New d ty full) h = h.0
-destination n (GetPtr d q i) h = h.0
-destination n (Lea d q i) h = h.0
-destination n (Move d q) h = h.0
-destination n (Clear d) h = h
-destination n (GetGlobal d g) h = h.0
-destination n _ h = tt
+destination n x1 h = grind arith
 
 -- admitted calls set registers of their own callers
 pub by_others : (globals : List ℕ) (n : NeverState) (caller : ℕ) (calls : List Call) → AreAdmitted globals n calls

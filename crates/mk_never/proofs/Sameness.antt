@@ -1,24 +1,14 @@
 -- `is_same` says whether two values are equal.
-use Rattle.std.proofs.Common.{Bool, ℕ, ap, arith, eq-eqb, eqb-true, false, refl, true, ◌↔◌, ◌≡◌, ◌≢◌}
-use Rattle.std.proofs.lemmas.Bool.{and_from, and_parts, false_from_ne_true, false≢true}
-use Rattle.mk_never.specs.{NeverHeap.{NeverState, bit, is_same}, declared.values.Value.TheVariants.{Null, Num, Ptr}}
-use Rattle.mk_never.specs.{Laws.SameTells, declared.values.Value.Value}
+use Rattle.std.proofs.Common.{Bool, ℕ, arith, eq-eqb, eqb-true, false, true, ◌↔◌, ◌≡◌, ◌≢◌}
+use Rattle.std.proofs.lemmas.Bool.{and_from, and_parts, false_from_ne_true}
+use Rattle.mk_never.specs.NeverHeap.{NeverState, bit, is_same}
+use Rattle.mk_never.specs.{Laws.SameTells, declared.values.Value.Value, declared.values.Value.TheVariants.Ptr}
 
 pub equal_from_same : (v w : Value) → is_same v w ≡ true → v ≡ w
-equal_from_same Null Null h = refl
-equal_from_same Null (Num k) h = absurd (false≢true h)
-equal_from_same Null (Ptr number' ty' offset') h = absurd (false≢true h)
-equal_from_same (Num m) Null h = absurd (false≢true h)
-equal_from_same (Num m) (Num k) h = ap Num (eqb-true m k h)
-equal_from_same (Num m) (Ptr number' ty' offset') h = absurd (false≢true h)
-equal_from_same (Ptr number ty offset) Null h = absurd (false≢true h)
-equal_from_same (Ptr number ty offset) (Num k) h = absurd (false≢true h)
-equal_from_same (Ptr number ty offset) (Ptr number' ty' offset') h = grind (arith, and_parts, eqb-true)
+equal_from_same x0 x1 h = grind (arith, eqb-true, and_parts)
 
 same_itself : (v : Value) → is_same v v ≡ true
-same_itself Null = refl
-same_itself (Num m) = eq-eqb m m refl
-same_itself (Ptr number ty offset) = grind (arith, and_from, eq-eqb)
+same_itself x0 = grind (arith, eq-eqb, and_from)
 
 pub same_from_equal : (v w : Value) → v ≡ w → is_same v w ≡ true
 same_from_equal v w e = rw (← e) (same_itself v)
@@ -31,8 +21,7 @@ pub apart : (number number' ty ty' offset offset' : ℕ) → number ≢ number'
 apart number number' ty ty' offset offset' other = grind (arith, false_from_ne_true, equal_from_same)
 
 bit_one : (b : Bool) → bit b ≡ 1 → b ≡ true
-bit_one true h = refl
-bit_one false h = absurd (omega arith)
+bit_one x0 h = grind arith
 
 -- what a Same replies
 pub same_tells : (n : NeverState) (caller p q : ℕ) → SameTells n caller p q

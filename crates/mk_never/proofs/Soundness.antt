@@ -1,44 +1,34 @@
 -- Sound values stay sound, and suit the kinds that they are of.
-use Rattle.std.proofs.Common.{List, ℕ, arith, get_or, inl, inr, length, map, suc, sym, zero, [], ◌<◌, ◌∷◌}
-use Rattle.std.proofs.lemmas.Bool.{false≢true}
+use Rattle.std.proofs.Common.{List, ℕ, arith, get_or, length, map, suc, zero, [], ◌<◌, ◌∷◌}
 use Rattle.mk_never.specs.{Admitted.{IsNumber, IsOfKind, IsPointer, Meets}, NeverHeap.{Allocation, NeverState}}
-use Rattle.mk_never.specs.{NeverHeap.{allocation_at, moved_on}, Typed.{IsPlaceIn, IsSound, IsTypedAllocation, Suits}}
-use Rattle.mk_never.specs.{declared.values.Value.TheVariants.{Null, Num, Ptr}, Laws.Continues, Types.zero_of}
+use Rattle.mk_never.specs.{NeverHeap.{allocation_at, moved_on}, declared.values.Value.TheVariants.{Null, Num}}
+use Rattle.mk_never.specs.{Laws.Continues, Typed.{IsPlaceIn, IsSound, IsTypedAllocation, Suits}, Types.zero_of}
 use Rattle.mk_never.specs.{declared.types.Kind.Kind, declared.values.Value.Value}
 use Rattle.mk_never.specs.declared.types.Kind.TheVariants.{Num as Number, To}
 
 -- In a type that has words, a place is one of them.
 pub place_is_inside : (kinds : List Kind) (offset : ℕ) → IsPlaceIn kinds offset → 0 < length kinds
     → offset < length kinds
-place_is_inside kinds offset (inl first) some = omega arith
-place_is_inside kinds offset (inr inside) some = inside
+place_is_inside kinds offset x2 some = grind arith
 
 pub sound_kept : {n m : NeverState} → Continues n m → (v : Value) → IsSound n v → IsSound m v
-sound_kept stays Null sound = tt
-sound_kept stays (Num k) sound = sound
-sound_kept stays (Ptr number ty offset) sound = grind arith
+sound_kept stays x1 sound = grind arith
 
 pub suits_kept : {n m : NeverState} → Continues n m → (v : Value) (kind : Kind) → Suits n v kind → Suits m v kind
-suits_kept stays v Number suits = suits
-suits_kept {n} {m} stays v (To ty offset) suits = (sound_kept stays v suits.0, suits.1)
+suits_kept stays v x2 suits = grind (arith, sound_kept)
 
 pub allocation_kept : {n m : NeverState} → Continues n m → {a : Allocation} → IsTypedAllocation n a
     → IsTypedAllocation m a
 allocation_kept stays typed = grind (arith, suits_kept)
 
 pub number_suits : (n : NeverState) (m : ℕ) (kind : Kind) → IsNumber kind → Suits n (Num m) kind
-number_suits n m Number is = tt
-number_suits n m (To ty offset) is = absurd (false≢true is)
+number_suits n m x2 is = grind arith
 
 pub pointer_suits : (n : NeverState) (v : Value) (kind : Kind) → IsSound n v → IsOfKind v kind → Suits n v kind
-pointer_suits n Null Number sound of_kind = absurd of_kind
-pointer_suits n (Num m) Number sound of_kind = absurd of_kind
-pointer_suits n (Ptr number ty offset) Number sound of_kind = absurd of_kind
-pointer_suits n v (To ty offset) sound of_kind = (sound, of_kind)
+pointer_suits n v x2 sound of_kind = grind arith
 
 pub suited_is_sound : (n : NeverState) (v : Value) (kind : Kind) → IsPointer kind → Suits n v kind → IsSound n v
-suited_is_sound n v Number is suits = absurd (false≢true (sym is))
-suited_is_sound n v (To ty offset) is suits = suits.0
+suited_is_sound n v x2 is suits = grind arith
 
 -- a zero word suits its kind
 pub zero_suits : (n : NeverState) (kinds : List Kind) (place : ℕ) → place < length (map zero_of kinds)
@@ -52,6 +42,4 @@ zero_suits n (kind ∷ kinds) (suc place) h = zero_suits n kinds place (omega ar
 pub moved_is_sound : (n : NeverState) (v : Value) (i : ℕ) (P : Kind → Type 0)
     → ((number : ℕ) → number < length n.allocations → IsTypedAllocation n (allocation_at n number))
     → IsSound n v → Meets n v i P → IsSound n (moved_on v i)
-moved_is_sound n Null i P typed sound meets = tt
-moved_is_sound n (Num m) i P typed sound meets = tt
-moved_is_sound n (Ptr number ty offset) i P typed sound meets = grind arith
+moved_is_sound n x1 i x3 typed sound meets = grind arith

@@ -2,15 +2,14 @@
 use Rattle.std.proofs.Common.{List, ℕ, ap, arith, get_or, get_or-set_other, get_or-set_same, length, refl, sym, [], ◌*◌}
 use Rattle.std.proofs.{Common.{◌+◌, ◌<◌, ◌∙◌, ◌∷◌, ◌≡◌, ◌≢◌}, lemmas.List.get_or_append_left}
 use Rattle.mk_never.proofs.{Edits.{exists, if_by, left_at_by, set_by}, Later.op_stays}
-use Rattle.mk_never.{proofs.Sameness.{equal_from_same, same_from_equal}, specs.declared.values.Value.{Value}}
+use Rattle.mk_never.proofs.Sameness.{equal_from_same, same_from_equal}
 use Rattle.mk_never.specs.Laws.{Continues, LoadGivesStored, LoadsGive, Reaches, StoreIsInside, StoreLeaves, StoresTo}
 use Rattle.mk_never.specs.{Laws.UnstoredStays, NeverHeap.{Call, NeverState, after_free, after_op, left_at}}
-use Rattle.mk_never.specs.NeverHeap.{no_allocation, number_of, register_at, reply_at, with_freed, with_register}
-use Rattle.mk_never.specs.{NeverHeap.{with_word, word_at, words_of}, declared.operations.Op.TheVariants.{CasPtr, Free}}
-use Rattle.mk_never.specs.declared.operations.Op.TheVariants.{GetPtr, New, SetNum, SetPtr}
-use Rattle.mk_never.specs.{declared.values.Target.TheVariants.WordOf, declared.values.Value.TheVariants.{Null, Num}}
-use Rattle.mk_never.specs.{declared.values.Value.TheVariants.Ptr, Admitted.Meets, declared.operations.Op.Op}
+use Rattle.mk_never.specs.NeverHeap.{no_allocation, number_of, register_at, reply_at, with_register, with_word, word_at}
+use Rattle.mk_never.specs.{NeverHeap.words_of, declared.values.Value.TheVariants.{Null, Num, Ptr}, Admitted.Meets}
+use Rattle.mk_never.specs.{declared.operations.Op.Op, declared.operations.Op.TheVariants.New}
 use Rattle.mk_never.specs.{declared.operations.Reply.Reply, declared.types.Kind.Kind, declared.values.Target.Target}
+use Rattle.mk_never.specs.{declared.values.Target.TheVariants.WordOf, declared.values.Value.Value}
 use Rattle.mk_never.specs.declared.operations.Reply.TheVariants.{Num as Number, Val}
 
 -- The word is as it was.
@@ -33,27 +32,19 @@ this_word n number place v h =
     ap (λ b. get_or b.words place Null) (get_or-set_same n.allocations number _ no_allocation here)
     ∙ get_or-set_same (words_of n number) place v Null h
 
-freed_keeps : (n : NeverState) (a number place : ℕ) → WordStays number place n (with_freed n a)
-freed_keeps n a number place =
-    set_by (λ b. get_or b.words place Null ≡ word_at n number place) n.allocations a number _ no_allocation
-    (λ e. ap (λ k. word_at n k place) (sym e)) refl
-
 free_keeps : (n : NeverState) (v : Value) (number place : ℕ) → WordStays number place n (after_free n v)
 free_keeps n Null number place = refl
 free_keeps n (Num m) number place = refl
-free_keeps n (Ptr a ty offset) number place = freed_keeps n a number place
+free_keeps n (Ptr a ty offset) number place =
+    set_by (λ b. get_or b.words place Null ≡ word_at n number place) n.allocations a number _ no_allocation
+    (λ e. ap (λ k. word_at n k place) (sym e)) refl
 
 -- an operation that doesn't store to a word leaves it
 pub op_keeps : (n : NeverState) (c : ℕ) (op : Op) (number place : ℕ) → number < length n.allocations
     → (StoresTo n c op number place → ⊥) → WordStays number place n (after_op n c op)
 op_keeps n c (New d ty full) number place there none = if_by (λ m. WordStays number place n m) full _ _ (λ e. refl)
     (λ e. ap (λ a. get_or a.words place Null) (get_or_append_left n.allocations _ no_allocation number there))
-op_keeps n c (Free p) number place there none = free_keeps n (register_at n c p) number place
-op_keeps n c (SetNum q i m) number place there none = grind (arith, left_at_by, other_word)
-op_keeps n c (GetPtr d q i) number place there none = grind (arith, left_at_by)
-op_keeps n c (SetPtr q i p) number place there none = grind (arith, left_at_by, other_word)
-op_keeps n c (CasPtr q i p r) number place there none = grind (arith, left_at_by, if_by, equal_from_same, other_word)
-op_keeps n c _ number place there none = refl
+op_keeps n c x3 number place there none = grind (arith, free_keeps, left_at_by, other_word, if_by, equal_from_same)
 
 pub calls_keep : (n : NeverState) (calls : List Call) (number place : ℕ) → UnstoredStays n calls number place
 calls_keep n [] number place there none = refl
@@ -78,10 +69,7 @@ stored_in n m number place v h e = ap (λ m. word_at m number place) e ∙ this_
 
 -- an operation that stores to a word leaves its value there
 pub store_leaves : (n : NeverState) (c : ℕ) (op : Op) (number place : ℕ) → StoreLeaves n c op number place
-store_leaves n c (SetNum q i m) number place h stores = grind (arith, stored_in, left_reached)
-store_leaves n c (SetPtr q i p) number place h stores = grind (arith, stored_in, left_reached)
-store_leaves n c (CasPtr q i p r) number place h stores = grind (arith, same_from_equal, stored_in, left_reached)
-store_leaves n c _ number place h stores = absurd stores
+store_leaves n c x2 number place h stores = grind (arith, stored_in, left_reached, same_from_equal)
 
 -- a load from a word gives its value
 pub loads_give : (n : NeverState) (number place : ℕ) (v : Value) → word_at n number place ≡ v
@@ -103,12 +91,7 @@ load_gives_stored n c op calls number place h stores none =
 -- an admitted access reaches a word that exists
 reached_is_inside : (n : NeverState) (v : Value) (i : ℕ) (P : Kind → Type 0) (number place : ℕ) → Meets n v i P
     → Reaches n v i number place → place < length (words_of n number)
-reached_is_inside n Null i P number place meets reaches = cc
-reached_is_inside n (Num m) i P number place meets reaches = cc
-reached_is_inside n (Ptr a ty offset) i P number place meets reaches = grind (arith, if_by)
+reached_is_inside n x1 i x3 number place meets reaches = grind (arith, if_by)
 
 pub store_is_inside : (n : NeverState) (c : ℕ) (op : Op) (number place : ℕ) → StoreIsInside n c op number place
-store_is_inside n c (SetNum q i m) number place access stores = grind (arith, reached_is_inside)
-store_is_inside n c (SetPtr q i p) number place access stores = grind (arith, reached_is_inside)
-store_is_inside n c (CasPtr q i p r) number place access stores = grind (arith, reached_is_inside)
-store_is_inside n c _ number place access stores = absurd stores
+store_is_inside n c x2 number place access stores = grind (arith, reached_is_inside)

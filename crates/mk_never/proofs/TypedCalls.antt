@@ -1,13 +1,12 @@
 -- Admitted calls leave a typed state.
-use Rattle.std.proofs.Common.{Bool, IfSome, List, None, Option, Some, ℕ, arith, get_or, refl, replicate, slice_get}
-use Rattle.std.proofs.Common.{subst, suc, sym, zero, [], ◌*◌, ◌+◌, ◌∷◌, ◌≡◌}
+use Rattle.std.proofs.Common.{Bool, IfSome, List, Option, ℕ, arith, get_or, refl, replicate, slice_get, subst, suc, sym}
+use Rattle.std.proofs.Common.{zero, [], ◌*◌, ◌+◌, ◌∷◌, ◌≡◌}
 use Rattle.mk_never.proofs.{Soundness.{moved_is_sound, number_suits, pointer_suits, suited_is_sound}, Edits.if_by}
 use Rattle.mk_never.proofs.Typing.{new_is_sound, typed_access, typed_free, typed_global, typed_new, typed_register}
 use Rattle.mk_never.{proofs.Typing.{typed_word}, specs.Typed.{IsSound, IsTyped, KeepsTyped, StaysTyped}}
 use Rattle.mk_never.specs.Admitted.{AccessIsAdmitted, IsAdmitted, IsOfKind, OperandsAreInRange, StoreIsAdmitted}
 use Rattle.mk_never.specs.NeverHeap.{Call, NeverState, after_op, is_same, register_at, start_of, word_at}
-use Rattle.mk_never.specs.declared.operations.Op.TheVariants.{CasPtr, Clear, Free, GetGlobal, GetPtr, Lea, Move, New}
-use Rattle.mk_never.specs.declared.operations.Op.TheVariants.{SetGlobal, SetNum, SetPtr}
+use Rattle.mk_never.specs.declared.operations.Op.TheVariants.{CasPtr, GetPtr, Lea, New, SetNum, SetPtr}
 use Rattle.mk_never.specs.{declared.types.Kind.TheVariants.To, declared.operations.Op.Op, declared.types.Kind.Kind}
 use Rattle.mk_never.specs.declared.values.Value.TheVariants.{Null}
 
@@ -44,18 +43,20 @@ module _ (listed : List ℕ) (n : NeverState) (c : ℕ) (typed : IsTyped listed 
   lea_keeps d q i in_range access store = grind (arith, typed_register, moved_is_sound, register_is_sound)
 
   pub op_keeps : (op : Op) → Keeps op
-  op_keeps (New d ty full) = new_keeps d ty full
-  op_keeps (Free p) = λ in_range access store. typed_free typed (register_at n c p) (register_is_sound p)
-  op_keeps (SetNum q i m) = set_num_keeps q i m
-  op_keeps (GetPtr d q i) = get_ptr_keeps d q i
-  op_keeps (SetPtr q i p) = set_ptr_keeps q i p
-  op_keeps (CasPtr q i p r) = cas_ptr_keeps q i p r
-  op_keeps (Lea d q i) = lea_keeps d q i
-  op_keeps (Move d q) = λ in_range access store. typed_register typed c d _ (register_is_sound q)
-  op_keeps (Clear d) = λ in_range access store. typed_register typed c d Null tt
-  op_keeps (GetGlobal d g) = λ in_range access store. typed_register typed c d _ (typed.globals g)
-  op_keeps (SetGlobal g p) = λ in_range access store. typed_global typed g _ (register_is_sound p) store
-  op_keeps _ = λ in_range access store. typed
+  op_keeps x0 =
+      grind (
+        arith,
+        new_keeps,
+        typed_free,
+        register_is_sound,
+        set_num_keeps,
+        get_ptr_keeps,
+        set_ptr_keeps,
+        cas_ptr_keeps,
+        lea_keeps,
+        typed_register,
+        typed_global,
+      )
 
 pub calls_keep : (listed : List ℕ) (n : NeverState) (calls : List Call) → KeepsTyped listed n calls
 calls_keep listed n [] typed admitted = typed
@@ -70,8 +71,7 @@ null_at (suc count) zero = refl
 null_at (suc count) (suc k) = null_at count k
 
 always : (o : Option ℕ) → IfSome o (λ ty. Unit {0})
-always None = tt
-always (Some ty) = tt
+always x0 = grind arith
 
 pub start_is_typed : (listed : List ℕ) (types : List (List Kind)) (callers : ℕ)
     → IsTyped listed (start_of types callers)

@@ -4,7 +4,7 @@ use Rattle.std.proofs.{Common.{slice_get, subst, sym, [], ◌*◌, ◌+◌, ◌<
 use Rattle.mk_never.proofs.{Edits.{exists, if_by, push_by, set_by}, Later.{freed_stays, global_stays, new_stays}}
 use Rattle.mk_never.proofs.{Later.{register_stays, word_stays}, Soundness.{allocation_kept, sound_kept, zero_suits}}
 use Rattle.mk_never.specs.NeverHeap.{Allocation, NeverState, after_free, allocation_at, left_at, no_allocation}
-use Rattle.mk_never.specs.NeverHeap.{target_of, with_freed, with_global, with_new, with_register, with_word, words_of}
+use Rattle.mk_never.specs.NeverHeap.{target_of, with_global, with_new, with_register, with_word, words_of}
 use Rattle.mk_never.specs.Typed.{IsSound, IsTyped, IsTypedAllocation, Suits, kind_in}
 use Rattle.mk_never.specs.{declared.values.Value.TheVariants.{Null, Num, Ptr}, Admitted.{IsOfKind, Meets}}
 use Rattle.mk_never.specs.{Laws.Continues, Types.{kinds_of, zero_words}, declared.types.Kind.Kind}
@@ -62,9 +62,6 @@ module _ {listed : List ℕ} {n : NeverState} (typed : IsTyped listed n) where
             (before.words k (omega (arith, length-set (words_of n number) place v)));
       }
 
-  pub typed_freed : (number : ℕ) → number < length n.allocations → IsTyped listed (with_freed n number)
-  typed_freed number there = grind (arith, typed_edit, freed_stays)
-
   pub typed_new : (ty : ℕ) → ty < length n.types → IsTyped listed (with_new n ty)
   typed_new ty in_range =
       let stays = new_stays n ty in
@@ -82,16 +79,14 @@ module _ {listed : List ℕ} {n : NeverState} (typed : IsTyped listed n) where
   pub typed_free : (v : Value) → IsSound n v → IsTyped listed (after_free n v)
   typed_free Null sound = typed
   typed_free (Num m) sound = typed
-  typed_free (Ptr number ty offset) sound = typed_freed number sound.0
+  typed_free (Ptr number ty offset) sound = grind (arith, typed_edit, freed_stays)
 
   -- an access leaves a typed state where it does so at the word that it reaches
   pub typed_access : (v : Value) (i : ℕ) (Q : Kind → Type 0) {refused : NeverState} (at : ℕ → ℕ → NeverState)
       → Meets n v i Q → IsTyped listed refused → ((number place : ℕ) → number < length n.allocations
       → place < length (words_of n number) → Q (kind_in n (allocation_at n number) place)
       → IsTyped listed (at number place)) → IsTyped listed (left_at (target_of n v i) refused at)
-  typed_access Null i Q at meets kept reached = kept
-  typed_access (Num m) i Q at meets kept reached = kept
-  typed_access (Ptr number ty offset) i Q at meets kept reached = grind (arith, if_by, exists)
+  typed_access x0 i x2 at meets kept reached = grind (arith, if_by, exists)
 
 -- the pointer that a New gives
 pub new_is_sound : (n : NeverState) (ty : ℕ) → IsSound (with_new n ty) (Ptr (length n.allocations) ty 0)

@@ -1,11 +1,11 @@
 -- What isn't reached stays so: operations get their pointers from where reached ones stand.
 use Rattle.std.proofs.Common.{Bool, IsTrue, List, ℕ, arith, false, get_or, inl, inr, length, length-set, map, nat_lt}
-use Rattle.std.proofs.Common.{refl, set, subst, suc, sym, true, zero, [], ◌&&◌, ◌*◌, ◌++◌, ◌+◌, ◌<◌, ◌∷◌, ◌≡◌, ◌⊎◌}
+use Rattle.std.proofs.Common.{set, subst, suc, sym, true, zero, [], ◌&&◌, ◌*◌, ◌++◌, ◌+◌, ◌<◌, ◌∷◌, ◌≡◌, ◌⊎◌}
 use Rattle.std.proofs.lemmas.List.{get_or_past}
 use Rattle.mk_never.proofs.{Edits.{if_by, left_at_by, set_by}, Later.op_stays, Reached.reached_is_in}
 use Rattle.mk_never.specs.NeverHeap.{Allocation, Call, NeverState, after_free, after_op, allocation_at, grants_object}
-use Rattle.mk_never.specs.NeverHeap.{is_unmapped, left_at, moved_on, no_allocation, register_at, with_freed}
-use Rattle.mk_never.specs.NeverHeap.{with_global, with_new, with_register, with_word, word_at, words_of}
+use Rattle.mk_never.specs.NeverHeap.{is_unmapped, left_at, moved_on, no_allocation, register_at, with_global, with_new}
+use Rattle.mk_never.{specs.NeverHeap.{with_register, with_word, word_at, words_of}, specs.declared.values.Value.{Value}}
 use Rattle.mk_never.specs.Reach.{AccessIsToReached, IsReachable, LeadsTo, ReachGrowsByGrants, UnreachedStays}
 use Rattle.mk_never.specs.{Reach.{WordLeadsTo, by_global, by_register, by_word}, Types.{kinds_of, zero_of, zero_words}}
 use Rattle.mk_never.specs.{declared.operations.Op.Op, declared.operations.Op.TheVariants.{CasPtr, Clear, Free}}
@@ -13,7 +13,6 @@ use Rattle.mk_never.specs.declared.operations.Op.TheVariants.{GetGlobal, GetPtr,
 use Rattle.mk_never.specs.{declared.operations.Op.TheVariants.SetPtr, declared.values.Value.TheVariants.{Null, Num}}
 use Rattle.mk_never.specs.{declared.values.Value.TheVariants.Ptr, Laws.{Continues, Reaches}, declared.types.Kind.Kind}
 use Rattle.mk_never.specs.{declared.values.Target.Target, declared.values.Target.TheVariants.WordOf}
-use Rattle.mk_never.specs.declared.values.Value.{Value}
 use Rattle.mk_never.specs.declared.types.Kind.TheVariants.{Num as Number, To}
 
 -- The value leads to what is reached alone.
@@ -42,14 +41,11 @@ zeros_lead_nowhere (kind ∷ kinds) (suc place) number leads = zeros_lead_nowher
 -- an access gets to a word of the allocation that its pointer leads to, which isn't unmapped
 target_leads : (n : NeverState) (v : Value) (i number place : ℕ) → Reaches n v i number place
     → LeadsTo v number × (is_unmapped (allocation_at n number) ≡ false)
-target_leads n Null i number place reaches = absurd (cc)
-target_leads n (Num m) i number place reaches = absurd (cc)
-target_leads n (Ptr a ty offset) i number place reaches = grind (arith, if_by)
+target_leads n x1 i number place reaches = grind (arith, if_by)
 
 -- a large allocation that was not unmapped before it was freed
 was_mapped : (freed large : Bool) → (true && large) ≡ false → (freed && large) ≡ false
-was_mapped true large h = h
-was_mapped false large h = refl
+was_mapped x0 large h = grind arith
 
 module _ (n : NeverState) where
   register_leads : (k : ℕ) → LeadsToReached n (get_or n.registers k Null)
@@ -60,9 +56,7 @@ module _ (n : NeverState) where
       let target = target_leads n v i a w reaches in by_word a w number (only a target.0) (target.1, leads)
 
   moved_leads : (v : Value) (i : ℕ) → LeadsToReached n v → LeadsToReached n (moved_on v i)
-  moved_leads Null i only = only
-  moved_leads (Num m) i only = λ number leads. absurd leads
-  moved_leads (Ptr a ty offset) i only = only
+  moved_leads x0 i only = grind arith
 
   register_adds_none : (c d : ℕ) (v : Value) → LeadsToReached n v → ReachesNoMore n (with_register n c d v)
   register_adds_none c d v only = reached_is_in (with_register n c d v) (IsReachable n)
@@ -103,14 +97,11 @@ module _ (n : NeverState) where
       (λ leads. by_word a place number reached
       (subst (λ l. ((allocation_at n a).freed && nat_lt 32 l) ≡ false) (length-set (words_of n a) w v) mapped, leads)))
 
-  freed_adds_none : (a : ℕ) → ReachesNoMore n (with_freed n a)
-  freed_adds_none a = allocation_adds_none a _ (λ place number reached mapped leads.
-      by_word a place number reached (was_mapped _ _ mapped, leads))
-
   free_adds_none : (v : Value) → ReachesNoMore n (after_free n v)
   free_adds_none Null = λ number reached. reached
   free_adds_none (Num m) = λ number reached. reached
-  free_adds_none (Ptr a ty offset) = freed_adds_none a
+  free_adds_none (Ptr a ty offset) = allocation_adds_none a _ (λ place number reached mapped leads.
+      by_word a place number reached (was_mapped _ _ mapped, leads))
 
   -- A New's allocation and what was reached have the pointers after it.
   abbrev IsReachedOrNew : ℕ → Type 0
@@ -130,7 +121,10 @@ module _ (n : NeverState) where
             → IsReachedOrNew number) n.allocations
             record { ty = ty; words = zero_words (kinds_of n.types ty); freed = false } no_allocation from
             (λ mapped leads'. absurd (zeros_lead_nowhere (kinds_of n.types ty) place number leads'))
-            (λ mapped leads'. old_word from place number old (mapped, leads')) leads.0 leads.1;
+            (λ mapped leads'. elim old [
+              | inl reached ↦ inl (by_word from place number reached (mapped, leads'))
+              | inr new ↦ grind (arith, get_or_past)
+            ]) leads.0 leads.1;
       } where
         old_word : (from place number : ℕ) → IsReachedOrNew from → WordLeadsTo n from place number
             → IsReachedOrNew number
@@ -163,8 +157,7 @@ module _ (n : NeverState) (c : ℕ) where
   exchange_adds_none q i p r = grind (arith, access_adds_none, same_adds_none, if_by, word_adds_none, at_register)
 
   new_grows : (d ty : ℕ) (full : Bool) (number : ℕ) → ReachGrowsByGrants n c (New d ty full) number
-  new_grows d ty true number reached = inl reached
-  new_grows d ty false number reached = grind (arith, new_adds_one)
+  new_grows d ty x2 number reached = grind (arith, new_adds_one)
 
   pub reach_grows_by_grants : (op : Op) (number : ℕ) → ReachGrowsByGrants n c op number
   reach_grows_by_grants (New d ty full) number = new_grows d ty full number
@@ -192,8 +185,11 @@ unreached_stays n [] number there reached = reached
 unreached_stays n (x ∷ xs) number there reached =
     let stays : Continues n (after_op n x.caller x.op) = op_stays n x.caller x.op in
     let there' : number < length (after_op n x.caller x.op).allocations = omega (arith, stays.count) in
-    was_there (reach_grows_by_grants n x.caller x.op number
-    (unreached_stays (after_op n x.caller x.op) xs number there' reached)) where
+    (elim (reach_grows_by_grants n x.caller x.op number
+    (unreached_stays (after_op n x.caller x.op) xs number there' reached)) [
+      | inl old ↦ old
+      | inr granted ↦ let new : number ≡ length n.allocations = granted.1 in absurd (omega arith)
+    ]) where
       was_there : IsReachable n number ⊎ (IsTrue (grants_object x.op) × (number ≡ length n.allocations))
           → IsReachable n number
       was_there (inl old) = old

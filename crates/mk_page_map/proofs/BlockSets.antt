@@ -12,22 +12,16 @@ pub of_block_set : (set : ℕ) (use' : PageUse) → set < 16
     → is_of_set set use' ≡ has_free_cell (set % 8) (nat_le 8 set) use'
 of_block_set set use' block = cond-true (nat_lt set 16) _ _ (lt-ltb set 16 block)
 
-class_of_place : (class : ℕ) (leaf : Bool) → class < 8 → class_place class leaf % 8 ≡ class
-class_of_place class _ known = grind arith
-
 sort_of_place : (class : ℕ) (leaf : Bool) → class < 8 → nat_le 8 (class_place class leaf) ≡ leaf
 sort_of_place class _ known = grind (arith, le-leb, lt-leb)
 
 place_within : (class : ℕ) (leaf : Bool) → class < 8 → class_place class leaf < 16
 place_within class _ known = grind arith
 
-place_of_set : (set : ℕ) → set < 16 → class_place (set % 8) (nat_le 8 set) ≡ set
-place_of_set set block = grind (arith, cases_lt, lt-leb, le-leb)
-
 -- a block's own set
 pub of_own_set : (class : ℕ) (leaf : Bool) (use' : PageUse) → class < 8
     → is_of_set (class_place class leaf) use' ≡ has_free_cell class leaf use'
-of_own_set class leaf use' known = grind (arith, of_block_set, place_within, class_of_place, sort_of_place)
+of_own_set class leaf use' known = grind (arith, of_block_set, place_within, sort_of_place)
 
 pub free_in_own_set : (class : ℕ) (leaf : Bool) (used : ℕ) → class < 8 → is_of_set (class_place class leaf)
     (Cells class leaf (bits_of (cells_of class) used)) ≡ is_some (first_where not (bits_of (cells_of class) used))
@@ -42,7 +36,7 @@ same_sorts a b same = grind (arith, not-true)
 pub of_other_set : (set class : ℕ) (leaf : Bool) (taken : List Bool) → set < 16 → (set ≡ class_place class leaf → ⊥)
     → is_of_set set (Cells class leaf taken) ≡ false
 of_other_set set class leaf taken block other =
-    grind (arith, of_block_set, and_parts, place_of_set, eqb-true, same_sorts, cond-false)
+    grind (arith, of_block_set, and_parts, eqb-true, same_sorts, cond-false, cases_lt, lt-leb, le-leb)
 
 -- a free page is in no set of blocks
 pub nothing_of_set : (set : ℕ) → set < 16 → is_of_set set Nothing ≡ false

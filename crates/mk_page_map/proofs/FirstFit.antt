@@ -13,13 +13,9 @@ cell_here number index = record { page = number; index = index; carve = false }
 one_on : (class number : ℕ) (leaf : Bool) (page : Page) (pages : List Page) → option_map page_behind
     (free_cell_on class leaf pages number) ≡ free_cell_on class leaf (page ∷ pages) (number + 1)
 one_on class number leaf page pages =
-    moved (first_where not (cells_taken class leaf (use_of_page (page_at pages number))))
+    (grind arith)
     ∙ ap (λ p. option_map (cell_here (number + 1)) (first_where not (cells_taken class leaf (use_of_page p))))
     (ap (page_at (page ∷ pages)) (sym (add-one number)))
-  where
-    moved : (index : Option ℕ)
-        → option_map page_behind (option_map (cell_here number) index) ≡ option_map (cell_here (number + 1)) index
-    moved _ = grind arith
 
 -- the page, where it has a free cell, and the others
 by_page : (class : ℕ) (leaf : Bool) (page : Page) (pages : List Page) (index later : Option ℕ) → first_where not

@@ -66,12 +66,9 @@ one_at place within = let small : 2 ^ place < 2 ^ 64 = pow-lt within in omega (a
 turned : (word place k : ℕ) → place < 64 → bit_at (with_other word place) k ≡ (bit_at word k + bit_at (2 ^ place) k) % 2
 turned word place k within = grind (arith, bit_at_xor, one_at)
 
-other_bit : (bit : ℕ) → bit < 2 → nat_eq ((bit + 1) % 2) 1 ≡ not (nat_eq bit 1)
-other_bit bit few = grind arith
-
 pub turned_bit_is : (word place : ℕ) → place < 64
     → nat_eq (bit_at (with_other word place) place) 1 ≡ not (nat_eq (bit_at word place) 1)
-turned_bit_is word place within = grind (arith, turned, bit_at-pow_same, other_bit, bit_at-lt)
+turned_bit_is word place within = grind (arith, turned, bit_at-pow_same, bit_at-lt)
 
 pub turned_bit_others : (word place k : ℕ) → place < 64 → (k ≡ place → ⊥)
     → bit_at (with_other word place) k ≡ bit_at word k

@@ -31,14 +31,10 @@ next_of_sorted {held} set from next reads is_set found =
     subst (λ (k : KnownPages). IsNext (λ number. is_of_set set (use_of_page (page_at k.pages number))) from
     (length k.pages) next) reads.view (grind (arith, same_next))
 
-quarantined_at : (held : List Page) (sets : List ℕ) (number : ℕ) → number < length held
-    → is_quarantined_page (known_by held sets) number ≡ is_member sets 18 number
-quarantined_at held sets number within = member_at sets 18 (length held) number within
-
 pub next_of_quarantined : {known : KnownPages} {held : List Page} {sets slice : List ℕ} {resident count : ℕ}
     (from : ℕ) (next : Option ℕ) → Reads known held sets slice resident count
     → IsNext (is_member slice 18) from count next → IsNext (is_quarantined_page known) from (length known.pages) next
-next_of_quarantined from next reads found = grind (arith, same_next, known_by, quarantined_at)
+next_of_quarantined from next reads found = grind (arith, same_next, known_by, member_at)
 
 -- the first page of a set, among those that the map shows
 pub first_shown : {known : KnownPages} {pages : List Page} {freed : List ℕ} {next : Option ℕ} (set : ℕ)

@@ -1,8 +1,8 @@
 -- A store of a page's header or used word keeps a map in step.
 use Rattle.std.{proofs.{Common.slice_index_or, lemmas.List.get_or_read}, specs.Int.{from_bool}}
 use Rattle.mk_page_map.proofs.Vocabulary.{AreSets, Bool, FitPages, IsInItsSets, KnownPages, List, OthersStay, Page}
-use Rattle.mk_page_map.proofs.Vocabulary.{PageKind, Shows, ℕ, ap, arith, cond, free_page, is_member, is_resident_page}
-use Rattle.mk_page_map.proofs.Vocabulary.{length, page_at, resident_pages, set, subst, sym, use_of_kind, use_of_page}
+use Rattle.mk_page_map.proofs.Vocabulary.{PageKind, Shows, ℕ, ap, arith, free_page, is_member, is_resident_page, length}
+use Rattle.mk_page_map.proofs.Vocabulary.{page_at, resident_pages, set, subst, sym, use_of_kind, use_of_page}
 use Rattle.mk_page_map.proofs.{Vocabulary.{uses_of_pages, ◌+◌, ◌<◌, ◌∙◌, ◌≡◌, ◌≤◌}, Fitting.{Changes, fit_changed}}
 use Rattle.mk_page_map.proofs.{Fitting.{resident_changed, resident_one}, Showing.{changed_shows, known_by}}
 use Rattle.mk_geom.specs.{Headers.header_of, PageWords.use_under}
@@ -49,26 +49,18 @@ pub page_read : (held : List Page) (page : ℕ) (found : Page) → page < length
     → found ≡ slice_index_or held page found → found ≡ page_at held page
 page_read held page found within is = get_or_read held page found within is free_page
 
-byte_is : (b : Bool) → from_bool b ≡ cond b 1 0
-byte_is _ = grind arith
-
 -- the byte that the code counts a page by
 pub resident_byte : (page : Page) (is_resident : Bool) (byte : ℕ)
     → ((used : ℕ) → is_resident_page (use_under (header_of page.header) used) ≡ is_resident)
     → byte ≡ from_bool is_resident → byte ≡ resident_one page
-resident_byte page is_resident byte resident is = grind (arith, byte_is)
+resident_byte page is_resident byte resident is = grind arith
 
 -- one page more or less
 pub counted_anew : (held : List Page) (page resident was is : ℕ) (now : Page) → page < length held → was ≡ resident_one
     (page_at held page) → is ≡ resident_one now → resident ≡ resident_pages (uses_of_pages held) → was ≤ resident + is
 counted_anew held page resident was is now within old new counted = omega (arith, resident_changed held page now within)
 
--- a used word makes no page resident
-resident_by_kind : (kind : PageKind) (used other : ℕ)
-    → is_resident_page (use_of_kind kind used) ≡ is_resident_page (use_of_kind kind other)
-resident_by_kind _ used other = grind arith
-
 pub same_count : (held : List Page) (resident page : ℕ) (found : Page) (used : ℕ) (kind : PageKind)
     → found ≡ page_at held page → ((n : ℕ) → use_under (header_of found.header) n ≡ use_of_kind kind n) → resident
     + resident_one (page_at held page) ≡ resident + resident_one (record { header = found.header; used = used })
-same_count held resident page found used kind is is_kind = grind (arith, resident_one, resident_by_kind)
+same_count held resident page found used kind is is_kind = grind (arith, resident_one)
