@@ -56,7 +56,6 @@ pub on_its_pages : (c : Config) (a : PlacedAllocation) (p : ℕ) → IsSized (ob
 on_its_pages c a p sized b h =
     let parts = stands_parts p (storage_of c a) h in
     let low : a.base / 64 ≤ p = parts.0 in
-    let up : p ≤ (a.base + storage_words c a - 1) / 64 = parts.1 in
     let high = ends_on_pages (object_placed c a) a.base sized b in
     let some : 1 ≤ storage_words c a = (words_within (object_placed c a) sized).0 in
     (low, omega arith)
@@ -117,7 +116,6 @@ module _ {c : Config} {w : Words} {xs : List PlacedAllocation} {a b : PlacedAllo
         alike = λ p ha2 hb2.
             let ra = on_its_pages c a p x.shown.sized x.begins ha2 in
             let rb = on_its_pages c b p y.shown.sized y.begins hb2 in
-            let a0 = ra.0 in
             let a1 = ra.1 in
             let b0 = rb.0 in
             let b1 = rb.1 in
@@ -183,7 +181,7 @@ lie_in_pairs c (x ∷ xs) apart lie =
     let rest = lie_in_pairs c xs (rest_apart c None x xs apart) (λ i j. lie (suc i) (suc j)) in
     elim (cases_Bool x.released) [
       | inl gone ↦ rw (released_front c x xs gone) rest
-      | inr u ↦ rw (unreleased_front c x xs u) (cons u rest)
+      | inr u ↦ rw (unreleased_front c x xs u) (λ x3 x4 d li lj ne. grind (arith, beside))
     ]
   where
     beside : x.released ≡ false → (j : ℕ) (d : Storage) → j < length (unreleased_storage c xs)
@@ -191,7 +189,3 @@ lie_in_pairs c (x ∷ xs) apart lie =
     beside u j d lj =
         let h = storage_is_of c xs (get_or _ j d) (Contains-get_or (unreleased_storage c xs) j d lj) in
         rw h.storage (lie 0 (suc h.number) u h.unreleased (first_apart c None x xs u apart h.number h.unreleased))
-
-    cons : x.released ≡ false → LieInPairs (unreleased_storage c xs)
-        → LieInPairs (storage_of c x ∷ unreleased_storage c xs)
-    cons u rest x3 x4 d li lj ne = grind (arith, beside)

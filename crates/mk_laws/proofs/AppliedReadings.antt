@@ -20,7 +20,7 @@ use Rattle.mk_core.proofs.{EvaluatedFreed.{third_cell, third_is_freed}, EventsAt
 use Rattle.mk_core.proofs.MoreSchedules.{granted_while_marking, two_pages}
 use Rattle.mk_core.specs.{Cells.is_in_snapshot, Readings.SnapshotTells}
 use Rattle.mk_laws.specs.{UnmappedRuns.{IsOfUnmappedRun, is_resident_in}, Releases.allocation_behind}
-use Rattle.mk_laws.proofs.FreeCells as cells
+use Rattle.mk_laws.proofs.FreeWords as cells
 use Rattle.mk_laws.proofs.Snapshots as snapshots
 use Rattle.mk_laws.proofs.FreePages as pages
 use Rattle.mk_laws.proofs.UnmappedRuns as runs
@@ -51,18 +51,16 @@ three_is_history : IsHistory small three_objects
 unfolding begun_in_stop three_objects
 three_is_history = earlier_part_is_history small three_objects (drop 24 stopped_cycle) stopped_is_history
 
--- The one freed bit is that of a freed object,
-pub freed_bit_is_of_a_freed_one : (a : IsTaken (left small three_objects) third_cell)
-    × ((placed_at (left small three_objects).allocations a.number).freed ≡ true)
+-- The one freed bit is that of a freed object, which has it.
+pub freed_bit_is_of_a_freed_one : ((a : IsTaken (left small three_objects) third_cell)
+    × ((placed_at (left small three_objects).allocations a.number).freed ≡ true))
+    × (is_freed (left small three_objects).now.words third_cell ≡ true)
 unfolding left_from all_below pointed_cell three_objects
 freed_bit_is_of_a_freed_one =
-    (headers_and_quarantine_tell _ _ three_is_history).freed (λ e. eqb-false 0 4 refl e) third_cell third_is_freed
-
--- which has it.
-pub freed_one_has_its_bit : is_freed (left small three_objects).now.words third_cell ≡ true
-unfolding left_from all_below pointed_cell three_objects
-freed_one_has_its_bit = (headers_and_quarantine_tell _ _ three_is_history).quarantined third_cell
-    (record { number = 2; in_range = ltb-true 2 32 refl; stands = refl }) refl
+    let told = headers_and_quarantine_tell _ _ three_is_history in (
+      told.freed (λ e. eqb-false 0 4 refl e) third_cell third_is_freed,
+      told.quarantined third_cell (record { number = 2; in_range = ltb-true 2 32 refl; stands = refl }) refl,
+    )
 
 -- Before the `close` the third object's snapshot bit is set, and it is the one.
 
@@ -74,42 +72,34 @@ told : SnapshotTells small begun
 unfolding begun_in_stop three_objects marked_in_stop event_number at_number
 told = snapshots.snapshots_tell _ _ (stopped_front 47) begun refl
 
-pub third_in_snapshot : is_in_snapshot marked.now.words
-    (cell_of_allocation small (placed_at (left small begun.before).allocations 2)) ≡ true
+pub third_in_snapshot : (is_in_snapshot marked.now.words
+    (cell_of_allocation small (placed_at (left small begun.before).allocations 2)) ≡ true)
+    × ((i : ℕ) × (is_quarantined (placed_at (left small begun.before).allocations i) ≡ true)
+    × (cell_of_allocation small (placed_at (left small begun.before).allocations i) ≡ third_cell))
 unfolding left_from all_below pointed_cell begun_in_stop three_objects marked_in_stop event_number at_number
-third_in_snapshot = told.has 2 refl
-
-pub bit_is_of_a_quarantined_one : (i : ℕ) × (is_quarantined (placed_at (left small begun.before).allocations i) ≡ true)
-    × (cell_of_allocation small (placed_at (left small begun.before).allocations i) ≡ third_cell)
-unfolding left_from all_below pointed_cell begun_in_stop three_objects marked_in_stop event_number at_number
-bit_is_of_a_quarantined_one = told.is third_cell refl
+third_in_snapshot = (told.has 2 refl, told.is third_cell refl)
 
 -- The first `release` releases the object that was freed before the `begin`, and not the one freed after it.
 
-pub first_is_released : (allocation_behind one_page first_cycle.releasing 0).released ≡ true
+pub first_alone_is_released : ((allocation_behind one_page first_cycle.releasing 0).released ≡ true)
+    × ((allocation_behind one_page first_cycle.releasing 1).released ≡ true → ⊥)
 unfolding by c0 host all_below pointed_cell one_page freed_after_begin left_from event_number at_number first_cycle
-first_is_released = (releases_are_exact _ _ freed_is_history first_cycle.releasing 0 refl).1
-    (in_first_snapshot, refl)
-
-pub second_is_not_released : (allocation_behind one_page first_cycle.releasing 1).released ≡ true → ⊥
-unfolding by c0 host all_below pointed_cell one_page freed_after_begin left_from event_number at_number first_cycle
-second_is_not_released gone = not_in_first_snapshot
-    ((releases_are_exact _ _ freed_is_history first_cycle.releasing 1 refl).0 gone).0
+first_alone_is_released =
+    let exact = releases_are_exact _ _ freed_is_history first_cycle.releasing in
+    ((exact 0 refl).1 (in_first_snapshot, refl), λ gone. not_in_first_snapshot ((exact 1 refl).0 gone).0)
 
 -- The other schedule's keeps a freed object to which a word leads: it is marked, and it is reached.
 
-pub marked_is_not_released : (allocation_behind pointer_page cycle_of_blackened.releasing 2).released ≡ true → ⊥
-unfolding by c0 m0 host all_below pointed_cell may_turn_black pointer_page blackened_before_the_move left_from
-    event_number at_number cycle_of_blackened
-marked_is_not_released gone = false≢true
-    (sym ((releases_are_exact _ _ blackened_is_history cycle_of_blackened.releasing 2 refl).0 gone).1)
-
-pub reached_is_not_released : (allocation_behind pointer_page cycle_of_blackened.releasing 2).released ≡ false
+pub marked_is_not_released : ((allocation_behind pointer_page cycle_of_blackened.releasing 2).released ≡ true → ⊥)
+    × ((allocation_behind pointer_page cycle_of_blackened.releasing 2).released ≡ false)
 unfolding by c0 m0 host all_below pointed_cell may_turn_black pointer_page blackened_before_the_move left_from
     calls_from event_number at_number cycle_of_blackened
-reached_is_not_released =
-    releases_none_reached _ _ blackened_is_history cycle_of_blackened.releasing 2
-    (by_word 0 0 2 (by_register 0 0 refl) (refl, refl))
+marked_is_not_released = (
+  λ gone. false≢true
+      (sym ((releases_are_exact _ _ blackened_is_history cycle_of_blackened.releasing 2 refl).0 gone).1),
+  releases_none_reached _ _ blackened_is_history cycle_of_blackened.releasing 2
+      (by_word 0 0 2 (by_register 0 0 refl) (refl, refl)),
+)
 
 -- The `begin` of that cycle releases none.
 pub begin_releases_none : (placed_at (left one_page (take 16 freed_after_begin)).allocations 0).released ≡ false
@@ -137,17 +127,14 @@ unfolding by c0 all_below pointed_cell two_pages granted_while_marking left_from
 behind_cells_is_zero =
     cells.words_behind_cells_are_zero _ _ marking_is_history (λ e. eqb-false 1 4 refl e) 126 (leb-true 60 62 refl)
 
--- one of a free page,
-pub free_page_is_zero : slice_index (left three_pages large_freed).now.words.heap 150 ≡ 0
+-- one of a free page, and, once its run is wiped, the word that was written to of a freed large object.
+pub free_page_is_zero : (slice_index (left three_pages large_freed).now.words.heap 150 ≡ 0)
+    × (slice_index wiped.now.words.heap 64 ≡ 0)
 unfolding by c0 all_below pointed_cell three_pages large_freed left_from
-free_page_is_zero =
-    cells.words_behind_cells_are_zero _ _ large_is_history (λ e. eqb-false 0 4 refl e) 150 (leb-true 0 22 refl)
-
--- and, once its run is wiped, the word that was written to of a freed large object.
-
-pub wiped_is_zero : slice_index wiped.now.words.heap 64 ≡ 0
-unfolding by c0 all_below pointed_cell three_pages large_freed left_from
-wiped_is_zero = grind (arith, unmapped_words_are_zero, large_front, eqb-false)
+free_page_is_zero = (
+  cells.words_behind_cells_are_zero _ _ large_is_history (λ e. eqb-false 0 4 refl e) 150 (leb-true 0 22 refl),
+  grind (arith, unmapped_words_are_zero, large_front, eqb-false),
+)
 
 -- What is promised of pages, and of words that nobody has, on the schedule of a large object, read off from the
 -- theorems.

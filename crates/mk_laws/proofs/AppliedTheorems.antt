@@ -27,7 +27,7 @@ use Rattle.mk_core.specs.Placement.{FindsNoPlace, StandsAtItsPlace, before_serve
 use Rattle.mk_core.specs.{Cells.is_used, Counts.TalliesAreExact, Cycles.BeginsAndEndsIn, History.never_first}
 use Rattle.mk_laws.specs.Promises.{KeepsAllPromises}
 use Rattle.mk_laws.proofs.Quarantines as quarantines
-use Rattle.mk_laws.proofs.InvariantTheorems as theorems
+use Rattle.mk_laws.proofs.InvariantHistories as theorems
 
 -- The first events of a history are one.
 pub first_events : {c : Config} {es : List Event} (n : ℕ) → IsHistory c es → IsHistory c (take n es)
@@ -69,11 +69,12 @@ images_of_replies = sym (theorems.histories_refine_never _ _ freed_is_history) �
 begun_is_history : IsHistory small begun_in_stop
 begun_is_history = earlier_part_is_history small begun_in_stop _ stopped_is_history
 
-pub first_is_kept : (placed_at (left small begun_in_stop).allocations 0).released ≡ false
-first_is_kept = theorems.reach_is_kept _ _ begun_is_history 0 first_is_reached
-
-pub second_is_kept : (placed_at (left small begun_in_stop).allocations 1).released ≡ false
-second_is_kept = theorems.reach_is_kept _ _ begun_is_history 1 second_is_reached
+pub both_are_kept : ((placed_at (left small begun_in_stop).allocations 0).released ≡ false)
+    × ((placed_at (left small begun_in_stop).allocations 1).released ≡ false)
+both_are_kept = (
+  theorems.reach_is_kept _ _ begun_is_history 0 first_is_reached,
+  theorems.reach_is_kept _ _ begun_is_history 1 second_is_reached,
+)
 
 -- The first exchange is answered 1, so the values are equal; at the second they aren't, or it would be answered so too.
 
@@ -93,30 +94,23 @@ second_compares_unequal same = grind (arith, pointer_page, exchanged, exchanged_
 
 -- Two objects fill a page: each has its used bit, and no word of one is the other's.
 
-pub third_is_used : is_used full.now.words (cell_of_allocation one_page (placed_at full.allocations 2)) ≡ true
+pub two_fill_the_page : (is_used full.now.words (cell_of_allocation one_page (placed_at full.allocations 2)) ≡ true)
+    × (IsWordOf (storage_of one_page (placed_at full.allocations 2)) 10 → ⊥)
 unfolding by c0 all_below pointed_cell may_turn_black one_page full_then_reused left_from
-third_is_used = (theorems.allocations_stand _ _ full_is_history 2 refl).used
+two_fill_the_page = (
+  (theorems.allocations_stand _ _ full_is_history 2 refl).used,
+  λ word. grind (arith, eqb-false, one_page, full_then_reused, full_is_history, leb-true, ltb-true),
+)
 
-pub word_of_the_first_alone : IsWordOf (storage_of one_page (placed_at full.allocations 2)) 10 → ⊥
+-- The header and the used word of the page, told by the storage of the two, and no place among them, told by the words.
+pub full_page_told : (words_of_storages (unreleased_storage one_page full.allocations) 0
+    ≡ record { header = 125; used = 3 }) × (place_among_allocations one_page 32 true full.allocations ≡ None)
 unfolding by c0 all_below pointed_cell may_turn_black one_page full_then_reused left_from
-word_of_the_first_alone word = grind (arith, eqb-false, one_page, full_then_reused, full_is_history, leb-true, ltb-true)
-
-full_is_settled : IsSettled full
-unfolding by c0 all_below pointed_cell may_turn_black one_page full_then_reused left_from
-full_is_settled = record { releasing = refl; placing = refl; unmapped = refl }
-
--- The header and the used word of the page, told by the storage of the two,
-pub page_told_by_storage : words_of_storages (unreleased_storage one_page full.allocations) 0
-    ≡ record { header = 125; used = 3 }
-unfolding by c0 all_below pointed_cell may_turn_black one_page full_then_reused left_from
-page_told_by_storage =
-    sym ((theorems.pages_show_the_storage _ _ full_is_history full_is_settled).words 0 free_page (ltb-true 0 1 refl))
-
--- and no place among them, told by the words.
-pub no_place_told_by_words : place_among_allocations one_page 32 true full.allocations ≡ None
-unfolding by c0 all_below pointed_cell may_turn_black one_page full_then_reused left_from
-no_place_told_by_words = sym (theorems.first_fit_finds_the_place _ _ full_is_history
-    (record { words = 32; leaf = true }) full_is_settled)
+full_page_told =
+    let settled : IsSettled full = record { releasing = refl; placing = refl; unmapped = refl } in (
+      sym ((theorems.pages_show_the_storage _ _ full_is_history settled).words 0 free_page (ltb-true 0 1 refl)),
+      sym (theorems.first_fit_finds_the_place _ _ full_is_history (record { words = 32; leaf = true }) settled),
+    )
 
 -- A large object's pages are unmapped and its words aren't wiped yet. Its run is shown as unmapped, and the next object
 -- has its place after it.
@@ -124,26 +118,22 @@ no_place_told_by_words = sym (theorems.first_fit_finds_the_place _ _ full_is_his
 abbrev pub unmapped : World
 unmapped = left three_pages (take 19 large_freed)
 
-pub not_wiped_yet : is_run_gone unmapped.now.words unmapped.now.seats.holding.freed ≡ false
-unfolding by c0 all_below pointed_cell three_pages large_freed left_from
-not_wiped_yet = refl
-
 pub unmapped_is_settled : IsSettled unmapped
 unfolding by c0 all_below pointed_cell may_turn_black three_pages large_freed left_from
 unmapped_is_settled = record { releasing = refl; placing = refl; unmapped = refl }
 
-pub head_told_by_storage : words_of_storages (unreleased_storage three_pages unmapped.allocations) 0
-    ≡ record { header = 43; used = 1 }
+pub unmapped_run_told : (is_run_gone unmapped.now.words unmapped.now.seats.holding.freed ≡ false)
+    × (words_of_storages (unreleased_storage three_pages unmapped.allocations) 0 ≡ record { header = 43; used = 1 })
+    × (place_among_allocations three_pages 64 true unmapped.allocations
+    ≡ Some (record { page = 2; index = 0; carve = true }))
 unfolding by c0 all_below pointed_cell may_turn_black three_pages large_freed left_from
-head_told_by_storage = sym ((theorems.pages_show_the_storage _ _ (large_front 19)
-    unmapped_is_settled).words 0 free_page (ltb-true 0 3 refl))
-
-pub place_behind_told_by_words : place_among_allocations three_pages 64 true unmapped.allocations
-    ≡ Some (record { page = 2; index = 0; carve = true })
-unfolding by c0 all_below pointed_cell may_turn_black three_pages large_freed left_from
-place_behind_told_by_words =
-    sym (theorems.first_fit_finds_the_place _ _ (large_front 19)
-    (record { words = 64; leaf = true }) unmapped_is_settled)
+unmapped_run_told = (
+  refl,
+  sym ((theorems.pages_show_the_storage _ _ (large_front 19) unmapped_is_settled).words 0 free_page
+      (ltb-true 0 3 refl)),
+  sym (theorems.first_fit_finds_the_place _ _ (large_front 19) (record { words = 64; leaf = true })
+      unmapped_is_settled),
+)
 
 -- A word of a black object points to an unmarked one, and its page isn't dirty: so a call owes the page its dirty mark.
 
@@ -164,14 +154,13 @@ a_call_owes_dirty = grind (arith, written_is_guarded, written_points_badly, page
 
 -- Before a `close` the word that leads from the first object to the second points well, and after it too.
 
-pub word_points_well_at_close : word_points_well small.pages (stopped 47).now.words 0 ≡ true
+pub point_well_at_close : (word_points_well small.pages (stopped 47).now.words 0 ≡ true)
+    × (points_well small.pages (stopped 48).now.words (slice_index (stopped 48).now.words.registers 0) ≡ true)
 unfolding left_from all_below pointed_cell begun_in_stop three_objects marked_in_stop
-word_points_well_at_close = grind (arith, small, stopped_cycle, stopped_is_history, leb-true, ltb-true)
-
-pub register_points_well_behind : points_well small.pages (stopped 48).now.words
-    (slice_index (stopped 48).now.words.registers 0) ≡ true
-unfolding left_from all_below pointed_cell begun_in_stop three_objects marked_in_stop
-register_points_well_behind = (theorems.marks_stay_closed _ _ (stopped_front 48) refl).registers 0
+point_well_at_close = (
+  grind (arith, small, stopped_cycle, stopped_is_history, leb-true, ltb-true),
+  (theorems.marks_stay_closed _ _ (stopped_front 48) refl).registers 0,
+)
 
 -- Header words, and how many pages are resident.
 
@@ -185,18 +174,13 @@ one_is_resident = quarantines.few_pages_are_resident _ _ full_is_history
 -- Before the first `close` the first object, which was freed before the `begin`, has its snapshot bit; the second,
 -- freed after it, has none.
 
-begun_since : IsHistory one_page (take 31 freed_after_begin)
-begun_since = first_events 31 freed_is_history
-
-pub first_in_snapshot : has_bit_of one_page marking.now.words.snapshot (placed_at marking.allocations 0) ≡ true
+pub first_alone_in_snapshot : (has_bit_of one_page marking.now.words.snapshot (placed_at marking.allocations 0) ≡ true)
+    × (has_bit_of one_page marking.now.words.snapshot (placed_at marking.allocations 1) ≡ false)
 unfolding by c0 host all_below pointed_cell one_page freed_after_begin left_from event_number at_number
-first_in_snapshot = quarantines.snapshot_is_the_cycles _ _ begun_since
-    (at_number is_begin 15 (take 31 freed_after_begin) refl refl) refl refl 0 refl
-
-pub second_outside_snapshot : has_bit_of one_page marking.now.words.snapshot (placed_at marking.allocations 1) ≡ false
-unfolding by c0 host all_below pointed_cell one_page freed_after_begin left_from event_number at_number
-second_outside_snapshot = quarantines.snapshot_is_the_cycles _ _ begun_since
-    (at_number is_begin 15 (take 31 freed_after_begin) refl refl) refl refl 1 refl
+first_alone_in_snapshot =
+    let told = quarantines.snapshot_is_the_cycles _ _ (first_events 31 freed_is_history)
+    (at_number is_begin 15 (take 31 freed_after_begin) refl refl) refl refl in
+    (told 0 refl, told 1 refl)
 
 -- The promises on placement and tallies, applied to a small schedule: what each says there, read off.
 
@@ -247,10 +231,7 @@ unfolding by c0 event_number one_page full_then_reused
 third_give = kept.tallies (take 33 full_then_reused) (event_number 33 full_then_reused) (drop 34 full_then_reused) refl
     refl
 
-pub two_are_held : held_by_allocations one_page (left one_page (take 33 full_then_reused)).allocations ≡ 64
+pub two_are_held : (held_by_allocations one_page (left one_page (take 33 full_then_reused)).allocations ≡ 64)
+    × (in_a_word (fresh_words_of one_page (left one_page (take 33 full_then_reused)).allocations) ≡ 0)
 unfolding by c0 all_below pointed_cell may_turn_black one_page full_then_reused left_from
-two_are_held = sym third_give.held
-
-pub none_is_fresh : in_a_word (fresh_words_of one_page (left one_page (take 33 full_then_reused)).allocations) ≡ 0
-unfolding by c0 all_below pointed_cell may_turn_black one_page full_then_reused left_from
-none_is_fresh = sym third_give.fresh
+two_are_held = (sym third_give.held, sym third_give.fresh)

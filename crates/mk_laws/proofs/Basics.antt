@@ -1,15 +1,14 @@
 -- What most of these proofs name of the others: moments and moves, pages and claims, images and their moves.
-pub use Rattle.mk_laws.proofs.Actors.{Actor, AsHolder, AsMarker, InCallOf, Meets, grants_new, is_holders}
-pub use Rattle.mk_laws.proofs.{AllocationSteps.{Came, IsNew, Stayed}, Asked.others_held}
-pub use Rattle.mk_laws.proofs.{ChangedScenes.{changed_words, none_released}, Changes.{Table, headers_kind, is_head}}
-pub use Rattle.mk_laws.proofs.{Changes.{reg_table, tally_table}, Claims.{LeavesCells, claim_among, same_cell}}
-pub use Rattle.mk_laws.proofs.{Freed.{freeing_leaves, gone_terrain}, Induction.{along_others, KeptByEvents, before_it}}
-pub use Rattle.mk_laws.proofs.{Induction.holds_of_histories, ImagesBefore.{ready_of, unmapped_is, words_fit}}
-pub use Rattle.mk_laws.proofs.{HeapEdits.{base_at, exists_placed}, ImagesMoves.{Frees, Grants, Move, Releases, Renews}}
-pub use Rattle.mk_laws.proofs.{ImagesMoves.Writes, ImagesStands.{Stands, stands_of}, KeptGuard.Keeps}
-pub use Rattle.mk_laws.proofs.Known.{Known, known_at_first, known_behind, known_left, operands_of, register_small}
-pub use Rattle.mk_laws.proofs.{KnownWorlds.{KnownWorld, known_world}, LayoutBefore.{Before, is_releasing_behind}}
-pub use Rattle.mk_laws.proofs.LayoutBefore.{page_within, reg_leaves, reg_leaves_ground}
+pub use Rattle.mk_laws.proofs.Actors.{Actor, AsHolder, AsMarker, InCallOf, Meets, grants_new, is_holders, others_held}
+pub use Rattle.mk_laws.proofs.{Ground.{Came, IsNew, Stayed}, ChangedScenes.{changed_words, none_released}}
+pub use Rattle.mk_laws.proofs.Changes.{Table, headers_kind, is_head, reg_table, tally_table}
+pub use Rattle.mk_laws.proofs.{Claims.{LeavesCells, claim_among, same_cell}, Freed.{freeing_leaves, gone_terrain}}
+pub use Rattle.mk_laws.proofs.Induction.{along_others, KeptByEvents, before_it, holds_of_histories}
+pub use Rattle.mk_laws.proofs.ImagesBefore.{ready_of, unmapped_is, words_fit, Stands, stands_of}
+pub use Rattle.mk_laws.proofs.{ImagesKept.{base_at, exists_placed}, ImagesMoves.{Frees, Grants, Move, Releases, Renews}}
+pub use Rattle.mk_laws.proofs.{ImagesMoves.Writes, KeptGuard.Keeps, Known.{Known, known_at_first, known_behind}}
+pub use Rattle.mk_laws.proofs.{Known.{known_left, operands_of, register_small}, KnownWorlds.{KnownWorld, known_world}}
+pub use Rattle.mk_laws.proofs.LayoutBefore.{Before, is_releasing_behind, page_within, reg_leaves, reg_leaves_ground}
 pub use Rattle.mk_laws.proofs.LayoutHolders.{first_header, free_has_turn, holding_object, made_sized, new_has_turn}
 pub use Rattle.mk_laws.proofs.{LayoutHolders.{no_run, none_on_its_way, placed_undecided}, Serving.{apart_left, Laid}}
 pub use Rattle.mk_laws.proofs.{Serving.{own_claim, placed_claim}, LayoutReadings.{claimed, claimed_some, none_set}}

@@ -1,12 +1,11 @@
 -- One event: what stands on the pages after it.
-use Rattle.mk_laws.proofs.Vocabulary.{Bool, Chosen, Config, HasLayout, LayoutStands, Marker, Moment, None, Placing}
-use Rattle.mk_laws.proofs.Vocabulary.{Seat, Some, Step, World, arith, cases_Bool, cell_seen, eqb-true, false, ground_of}
-use Rattle.mk_laws.proofs.Vocabulary.{has_place, inl, inr, is_phase, is_some, marker_at, object_now, phase_of, refl}
-use Rattle.mk_laws.proofs.{Vocabulary.{true, ◌-◌, ◌≡◌, ◌⊎◌}, Basics.{Before, Known, Meets, WorldBehind, actor_of}}
-use Rattle.mk_laws.proofs.Basics.{held_place, is_releasing_behind, not_astray, reg_leaves, tally_keeps}
-use Rattle.mk_laws.proofs.{CyclePhases.{phase_asked, phase_moves}, Colours.colour_step, Dropped.unreleasing}
-use Rattle.mk_laws.proofs.{LayoutByKind.{by_kind, placeless}, NewPlace.new_was, OrderlyLists.orderly_behind}
-use Rattle.mk_laws.proofs.Sorts.{moves}
+use Rattle.mk_laws.proofs.Vocabulary.{Bool, Chosen, Config, HasLayout, LayoutStands, None, Placing, Seat, Some, Step}
+use Rattle.mk_laws.proofs.Vocabulary.{World, arith, cases_Bool, eqb-true, false, ground_of, has_place, inl, inr}
+use Rattle.mk_laws.proofs.{Vocabulary.{is_phase, object_now, refl, true, ◌-◌, ◌≡◌}, Basics.{Before, Known, Meets}}
+use Rattle.mk_laws.proofs.Basics.{WorldBehind, actor_of, held_place, is_releasing_behind, not_astray, reg_leaves}
+use Rattle.mk_laws.proofs.{Basics.tally_keeps, CyclePhases.{phase_asked, phase_moves}, Changes.colour_step}
+use Rattle.mk_laws.proofs.{Freed.unreleasing, LayoutByKind.{by_kind, placeless}, NewPlace.new_was}
+use Rattle.mk_laws.proofs.{OrderlyLists.orderly_behind, Sorts.moves}
 
 -- whether the phase is releasing
 
@@ -14,28 +13,18 @@ pub phase_kind : (c : Config) (w : World) (seat : Seat) (x : Step) → Meets c w
     → is_phase (WorldBehind c w seat x).now.words 4 ≡ is_releasing_behind x (is_phase w.now.words 4)
 phase_kind c w seat x h = grind (arith, phase_moves, phase_asked)
 
--- While released cells are there, no mark changes: nobody marks then.
-seen_attends : {c : Config} {m : Moment} (seat : Seat) → Known c m
-    → is_some (cell_seen c (marker_at m seat).seen (marker_at m seat).hand) ≡ true
-    → (phase_of m.words ≡ 1) ⊎ (phase_of m.words ≡ 2)
-seen_attends (Marker k) known some = grind arith
-seen_attends _ known some = cc
-
 pub releasing_marks : {c : Config} (w : World) (seat : Seat) (x : Step) → Known c w.now → Meets c w.now seat x
     → is_releasing_behind x (is_phase w.now.words 4) ≡ true
     → (WorldBehind c w seat x).now.words.marks ≡ w.now.words.marks
 releasing_marks w seat Step.Release known h on = refl
 releasing_marks w seat Step.End known h on = refl
-releasing_marks w seat x known h on = grind (arith, eqb-true, colour_step, seen_attends)
+releasing_marks w seat x known h on = grind (arith, eqb-true, colour_step)
 
 -- Where there is a place after, the turn is the same,
 turn_kind : (c : Config) (w : World) (seat : Seat) (x : Step) → Meets c w.now seat x
     → has_place (WorldBehind c w seat x).now.seats.holding.placing ≡ true
     → (WorldBehind c w seat x).now.words.turn ≡ w.now.words.turn
-turn_kind c w seat (Step.Take o) h has = grind arith
-turn_kind c w seat Step.Reg h has = (reg_leaves c w seat).turn
-turn_kind c w seat (Step.Tally n v) h has = (tally_keeps w.now.words n v).turn
-turn_kind c w seat _ h has = cc
+turn_kind c w seat x3 h has = grind (arith, reg_leaves, tally_keeps)
 
 -- and so is the object whose place it is.
 held_none : (p : Placing) → has_place p ≡ true → held_place p ≡ None → ⊥

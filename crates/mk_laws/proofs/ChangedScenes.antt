@@ -1,7 +1,7 @@
 -- What a change of the scene leaves to show, and steps that store to the heap.
 use Rattle.mk_laws.proofs.Vocabulary.{AreOfPages, Config, HasZeros, IsFreedWord, IsReleasedWord, IsWithinLimits}
 use Rattle.mk_laws.proofs.Vocabulary.{IsWordOfMapped, MayHold, OfFreedRun, OfMapped, OfReleased, OthersAreZero, Seat}
-use Rattle.mk_laws.proofs.Vocabulary.{Step, Words, World, ZeroScene, ℕ, and_parts, false, has_bit, is_phase}
+use Rattle.mk_laws.proofs.Vocabulary.{Step, Words, World, ZeroScene, ℕ, and_parts, arith, false, has_bit, is_phase}
 use Rattle.mk_laws.proofs.Vocabulary.{is_released_there, placed_at, refl, set_by, slice_index, slice_set, subst, sym}
 use Rattle.mk_laws.proofs.{Vocabulary.{true≢false, without, zero_scene_with, ◌∙◌, ◌≡◌, ◌≢◌}, Known.Known}
 use Rattle.mk_laws.{proofs.Released.{IsStanding, all_stand}, specs.ZeroLaws.{ZeroPremises}}
@@ -57,9 +57,7 @@ stored_words {c} s {j = j} v m z n some =
     (λ e ne. OfMapped (subst (IsWordOfMapped c s.allocations) (sym e) m)) (λ ne. moved (z n ne)) some
   where
     moved : MayHold c s n → MayHold c (record s { heap = slice_set s.heap j v }) n
-    moved (OfMapped x) = OfMapped x
-    moved (OfReleased r) = OfReleased r
-    moved (OfFreedRun f) = OfFreedRun f
+    moved x0 = grind arith
 
 -- `wipe`
 pub wiped_words : (c : Config) (s : ZeroScene) (j : ℕ) → OthersAreZero c s

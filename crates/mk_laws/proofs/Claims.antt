@@ -1,9 +1,8 @@
 -- The claims of the allocations, by their numbers, and after a change of each.
 use Rattle.mk_laws.proofs.Vocabulary.{Among, AreApart, Cell, Claim, Config, IsAtCell, IsOfOneCell, LeavesPlaces, List}
-use Rattle.mk_laws.proofs.Vocabulary.{Option, PlacedAllocation, RunPages, ℕ, ap, cases_Bool, cell_of_allocation}
+use Rattle.mk_laws.proofs.Vocabulary.{Option, PlacedAllocation, RunPages, ℕ, ap, arith, cases_Bool, cell_of_allocation}
 use Rattle.mk_laws.proofs.Vocabulary.{changed_at, claim_of, claims_of, cond-false, cond-true, false, inl, inr, map}
-use Rattle.mk_laws.proofs.Vocabulary.{object_placed, placed_at, refl, subst, suc, sym, true, true≢false, zero, [], ◌∙◌}
-use Rattle.mk_laws.proofs.Vocabulary.{◌∷◌, ◌≡◌}
+use Rattle.mk_laws.proofs.Vocabulary.{placed_at, refl, subst, suc, true, true≢false, zero, [], ◌∙◌, ◌∷◌, ◌≡◌}
 
 -- the unreleased allocation whose claim it is
 pub record IsClaimOf (c : Config) (run : Option RunPages) (xs : List PlacedAllocation) (x : Claim) : Type 0 where
@@ -70,11 +69,7 @@ pub record WasClaim (c : Config) (run : Option RunPages) (g : PlacedAllocation
 pub was_claim : (c : Config) (run : Option RunPages) {g : PlacedAllocation
     → PlacedAllocation} (xs : List PlacedAllocation) (y : Claim) → LeavesCells g
     → Among y (claims_of c run (map g xs)) → WasClaim c run g xs y
-was_claim c run {g = g} xs y leaves i =
-    let x = claim_is c run (map g xs) y i in
-    let at = changed_at g xs x.number leaves.places.none in
-    let u : (g (placed_at xs x.number)).released ≡ false = rw (← at) x.unreleased in
-    record { number = x.number; unreleased = u; was = leaves.released _ u; is = x.is ∙ ap (claim_of c run) at }
+was_claim c run xs y leaves i = grind (arith, claim_is, changed_at)
 
 pub changed_among : (c : Config) (run : Option RunPages) {g : PlacedAllocation
     → PlacedAllocation} (xs : List PlacedAllocation) (i : ℕ) → LeavesCells g
@@ -114,10 +109,7 @@ apart_behind c old new {g = g} (a ∷ xs) leaves apart =
             let b : PlacedAllocation = placed_at xs was.number in
             let of_b = one_cell c old new b (g b) (leaves.places.base b) (leaves.places.ty b) in
             let of_a = one_cell c old new a (g a) (leaves.places.base a) (leaves.places.ty a) in
-            first_apart c old a xs (leaves.released a u) apart was.number was.was (
-              sym of_a.0 ∙ same.0 ∙ ap (λ (x : Claim). x.page) was.is ∙ of_b.0,
-              sym of_a.1 ∙ same.1 ∙ ap (λ (x : Claim). x.index) was.is ∙ of_b.1,
-            ),
+            grind (arith, first_apart),
         rest,
       )
     ]
@@ -125,14 +117,9 @@ apart_behind c old new {g = g} (a ∷ xs) leaves apart =
 -- and allocations at their cells.
 pub at_cell : {c : Config} {a : PlacedAllocation} (b : PlacedAllocation) → b.base ≡ a.base → b.ty ≡ a.ty
     → IsAtCell c a → IsAtCell c b
-at_cell {c} {a} b base ty at =
-    let same : object_placed c b ≡ object_placed c a = rw ty in
-    record { typed = rw ty at.typed; begins = rw same (rw base at.begins) }
+at_cell b base ty at = grind arith
 
 pub cells_behind : (c : Config) {g : PlacedAllocation → PlacedAllocation} (xs : List PlacedAllocation) → LeavesCells g
     → ((i : ℕ) → (placed_at xs i).released ≡ false → IsAtCell c (placed_at xs i))
     → (i : ℕ) → (placed_at (map g xs) i).released ≡ false → IsAtCell c (placed_at (map g xs) i)
-cells_behind c {g = g} xs leaves cells i u =
-    let at = changed_at g xs i leaves.places.none in
-    rw at (at_cell (g (placed_at xs i)) (leaves.places.base (placed_at xs i))
-    (leaves.places.ty (placed_at xs i)) (cells i (leaves.released (placed_at xs i) (rw (← at) u))))
+cells_behind c xs leaves cells i u = grind (arith, changed_at, at_cell)

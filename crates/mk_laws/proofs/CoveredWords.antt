@@ -8,7 +8,7 @@ use Rattle.mk_laws.proofs.Vocabulary.{header_in, heads_run, inl, inr, mul-le, pa
 use Rattle.mk_laws.proofs.Vocabulary.{run_count, slice_index, storage_of, storage_words, sym, true, word_points}
 use Rattle.mk_laws.proofs.Vocabulary.{words_under, ◌*◌, ◌+◌, ◌-◌, ◌/◌, ◌<◌, ◌∙◌, ◌≡◌, ◌≢◌, ◌≤◌, ◌⊎◌}
 use Rattle.mk_core.proofs.PointedPages.{pointed_head}
-use Rattle.mk_laws.{proofs.Headers.free_shows, specs.Kept.LaterPagesAreKnown, specs.WholeRuns.RunsAreWhole}
+use Rattle.mk_laws.{proofs.FoundHeaders.free_shows, specs.Kept.LaterPagesAreKnown, specs.WholeRuns.RunsAreWhole}
 
 -- A number is in one of equal parts alone.
 pub one_part : (size i j n : ℕ) → i * size ≤ n → n < i * size + size → j * size ≤ n → n < j * size + size → i ≡ j
@@ -47,7 +47,6 @@ covered_word w p k i later lk scanned li some = elim (cell_on (header_in w p) k 
   | inl near ↦ own_head w p k lk _ (omega arith)
   | inr run ↦
       let none : k * words_under (header_in w p) ≡ 0 = rw run.1 (omega arith) in
-      let words = run.2 in
       elim (cases_eq (i / 64) 0) [
         | inl first ↦ own_head w p k lk _ (omega arith)
         | inr ne ↦
@@ -70,7 +69,6 @@ module _ (c : Config) (w : World) (runs : RunsAreWhole c w) (p k x : ℕ)
       elim (cell_on (header_in w.now.words p) k (x - start) known (omega arith)) [
         | inl near ↦ own_head w.now.words p k known x (omega arith)
         | inr run ↦
-            let none : k * words_under (header_in w.now.words p) ≡ 0 = rw run.1 (omega arith) in
             let words = run.2 in
             elim (cases_eq (x / 64) p) [
               | inl at ↦ own_head w.now.words p k known x at
@@ -95,7 +93,6 @@ module _ (c : Config) (w : World) (runs : RunsAreWhole c w) (p k x : ℕ)
       ap (λ q. words_under (header_in w.now.words q)) (sym page) ∙ begin.1 in
       let product : cell.index * words_under (header_in w.now.words cell.page) ≡ cell.index * words_under
       (header_in w.now.words p) = ap (λ q. cell.index * words_under (header_in w.now.words q)) page in
-      let first : 64 * cell.page + cell.index * words_under (header_in w.now.words cell.page) ≡ a.base = begin.0 in
       let low : a.base ≤ x = word.0 in
       let high : x < a.base + storage_words c a = word.1 in
       let index : cell.index ≡ k = one_part (words_under (header_in w.now.words p)) cell.index k (x - 64 * p)

@@ -115,9 +115,7 @@ stage_behind c b w e xs none before h order (Waits (y ∷ front) is at) =
     let same : e ≡ y = cc in
     let rest : xs ≡ front ++ b.event ∷ b.behind = cc in
     Waits front rest (ap (λ (z : Event). left_from c (world_behind c w z) front) same ∙ at)
-stage_behind c b w e xs none before h order (Begun out t) =
-    let parts = or_parts _ (list_any (λ (x : Event). is_begin x.step) xs) out in
-    Begun parts.1 (tells_behind e.seat e.step before h order.laid order.quarantined parts.0 t)
+stage_behind c b w e xs none before h order (Begun out t) = grind (arith, or_parts, tells_behind, Begun)
 
 pub snapshots_are_of_cycles : SnapshotsAreOfCycles
 unfolding LayoutPremisesFrom

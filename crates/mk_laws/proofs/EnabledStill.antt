@@ -17,8 +17,8 @@ use Rattle.mk_laws.proofs.Vocabulary.{◌&&◌, ◌++◌, ◌+◌, ◌-◌, ◌<
 use Rattle.mk_laws.proofs.Basics.{Behind, KnownWorld, Meets, actor_of, along_others, mapped_stays, reg_keeps}
 use Rattle.mk_laws.proofs.{Basics.tally_keeps, FramesHolders.{Asks, OfHolder, OfNone, asks, holds_is}}
 use Rattle.mk_laws.proofs.{LastEvents.{comes_last, stands}, Tests.{all_below_on, and_on, if_on, none_from, or_on}}
-use Rattle.mk_laws.proofs.{Tests.{some_on, without_on}, Asked.none_at, CoveredWords.has_cell, ForImages.laid_out}
-use Rattle.mk_laws.proofs.{InvariantJoined.told_to_images, ProtocolFrames.{other_seat, others_leave}}
+use Rattle.mk_laws.proofs.{Tests.{some_on, without_on}, Actors.none_at, CoveredWords.has_cell, ForImages.laid_out}
+use Rattle.mk_laws.proofs.{InvariantHistories.told_to_images, ProtocolFrames.{other_seat, others_leave}}
 use Rattle.mk_laws.proofs.RunsStill.{holder_finds}
 use Rattle.mk_core.proofs.{Conditions.meets_enabled, PageSteps.{gives_back_is, left_bits}}
 use Rattle.mk_core.specs.{StopConditions.{blackens, may_black, may_close}, TurnConditions.{are_wiped, is_in_gone_run}}
@@ -55,15 +55,7 @@ module _ (c : Config) {w v : World} (kept : TurnIsLeft w v) where
   gates_on s f (Step.Look (Word.Reg j r)) h = or_on _ _ (is_number_of s j) _ (λ e. e) (held_on j) h
   gates_on s f (Step.Head p n) h = or_on _ _ _ _ (λ e. e) (others_on s) h
   gates_on s f (Step.Quar p n) h = or_on _ _ _ _ (λ e. rw pages_same e) (others_on s) h
-  gates_on s f (Step.Hold j) h = free_on j h
-  gates_on s f (Step.Open j) h = held_on j h
-  gates_on s f Step.Close h = others_on s h
-  gates_on s f Step.Release h = others_on s h
-  gates_on s f Step.Want h = others_on s h
-  gates_on s f (Step.Undirty p) h = two_or s h
-  gates_on s f (Step.Black p n) h = others_on s h
-  gates_on s f (Step.Unblack p) h = two_or s h
-  gates_on s f _ h = cc
+  gates_on s f x h = grind (arith, free_on, held_on, others_on, two_or)
 
 module _ (c : Config) (w v : World) (kept : TurnIsLeft w v) (own : v.now.seats.holding ≡ w.now.seats.holding) where
   abbrev a : Words
@@ -191,20 +183,13 @@ module _ (c : Config) (w v : World) (kept : TurnIsLeft w v) (own : v.now.seats.h
   holder_on s f (Step.Wipe n) gates at written gone wiped h = or_on _ _ _ (is_in_gone_run b v.now.seats.holding.freed n)
       (λ e. rw pages (some_on _ _ _ released_on e)) (λ e. rw own (rw pages e)) h
   holder_on s f Step.Full gates at written gone wiped h = rw pages (rw own h)
-  holder_on s f Step.Begin gates at written gone wiped h =
-      let zero = eqb-true (phase_of a) 0 at in grind (arith, quiet)
   holder_on s f Step.Close gates at written gone wiped h = close_on (eqb-true (phase_of a) 2 at) (written gates) h
-  holder_on s f Step.End gates at written gone wiped h =
-      let four = eqb-true (phase_of a) 4 at in grind (arith, quiet, pages)
-  holder_on s f (Step.Undirty p) gates at written gone wiped h =
-      grind (arith, or_left, phase_is, eqb-true, and_parts, or_right, none_on, stopped, pages)
   holder_on s f (Step.Black p n) gates at written gone wiped h =
       black_on p n (eqb-true (phase_of a) 2 at) (written gates) h
-  holder_on s f (Step.Unblack p) gates at written gone wiped h =
-      grind (arith, or_left, phase_is, or_right, none_on, eqb-true)
   holder_on s f Step.Over gates at written gone wiped h =
       ap (λ (s : Steady). (s.turn == 1 + c.callers) && (s.phase == 0)) kept.steady ∙ h
-  holder_on s f _ gates at written gone wiped h = refl
+  holder_on s f x gates at written gone wiped h =
+      grind (arith, quiet, or_left, phase_is, eqb-true, and_parts, or_right, none_on, stopped, pages)
 
 -- The words of released cells are in no mapped allocation: what is wiped stays so.
 
@@ -257,10 +242,7 @@ module _ {c : Config} {w : World} (v : World) {n : NeverState} (known : KnownWor
 
 turn_after : (c : Config) (m : Moment) (seat : Seat) (x : Step) → Meets c m seat x → seat ≢ Host
     → m.words.turn ≢ 1 + c.callers → (Behind c m seat x).words.turn ≢ 1 + c.callers
-turn_after c m (Caller k) (Step.Take o) h ne out = grind (arith, ltb-true)
-turn_after c m (Marker k) (Step.Take o) h ne out = let kind = h.kind in cc
-turn_after c m Host (Step.Take o) h ne out = absurd (ne refl)
-turn_after c m seat x3 h ne out = grind (arith, reg_keeps, tally_keeps)
+turn_after c m seat x3 h ne out = grind (arith, ltb-true, reg_keeps, tally_keeps)
 
 host_stays_out : {c : Config} (es more : List Event) → IsHistory c (es ++ more) → AreOfOthers (Host ∷ []) more
     → (left c es).now.words.turn ≢ 1 + c.callers → (left c (es ++ more)).now.words.turn ≢ 1 + c.callers

@@ -1,31 +1,52 @@
 -- Each enabled and admitted event leads to what the images allow.
 use Rattle.mk_laws.proofs.Vocabulary.{AreAdmitted, Bool, Caller, Cell, Config, Event, Group, Host, ImagePremises}
 use Rattle.mk_laws.proofs.Vocabulary.{ImageScene, IsSafe, IsSafeSet, IsSound, IsTypedAllocation, Kind, List, Marker}
-use Rattle.mk_laws.proofs.Vocabulary.{MarksAreClosed, MeetsAll, Mirrors, NeverState, None, Null, Num, Number, Option}
-use Rattle.mk_laws.proofs.Vocabulary.{PlacedAllocation, Ptr, Seat, Some, Stage, Step, Suits, Tally, To, Value, World, ℕ}
-use Rattle.mk_laws.proofs.Vocabulary.{address_of, allocation_at, and_from, and_parts, and_right, answer_decided, ap}
-use Rattle.mk_laws.proofs.Vocabulary.{arith, asked, at_rest, bases_of, call_decided, caller_number, cases_Bool}
-use Rattle.mk_laws.proofs.Vocabulary.{cases_eq, cases_lt, cell_of_allocation, changed_at, eqb-true, false, false≢true}
-use Rattle.mk_laws.proofs.Vocabulary.{flight_among, flight_of, fresh_leaves, get_or_past, global_at, has_bit_without}
-use Rattle.mk_laws.proofs.Vocabulary.{if◌then◌else◌, image_of, image_scene_of, inl, inr, is_marked, is_none_or}
-use Rattle.mk_laws.proofs.Vocabulary.{is_open_to, is_past_probe, is_put, is_run_cell, is_unmapped, kinds_of, length}
-use Rattle.mk_laws.proofs.Vocabulary.{ltb-true, map, no_longer_fresh, none_freed, not, or_cases, or_parts}
+use Rattle.mk_laws.proofs.Vocabulary.{MarksAreClosed, MeetsAll, Mirrors, NeverState, None, Null, Num, Number, Op}
+use Rattle.mk_laws.proofs.Vocabulary.{Option, PlacedAllocation, Ptr, Seat, Some, Stage, Step, Suits, Tally, To, Value}
+use Rattle.mk_laws.proofs.Vocabulary.{World, ℕ, address_of, allocation_at, and_from, and_parts, and_right}
+use Rattle.mk_laws.proofs.Vocabulary.{answer_decided, ap, arith, asked, at_rest, bases_of, call_decided, caller_number}
+use Rattle.mk_laws.proofs.Vocabulary.{cases_Bool, cases_eq, cases_lt, cell_of_allocation, changed_at, eqb-true, false}
+use Rattle.mk_laws.proofs.Vocabulary.{false≢true, flight_among, flight_of, fresh_leaves, get_or_past, global_at}
+use Rattle.mk_laws.proofs.Vocabulary.{has_bit_without, if◌then◌else◌, image_of, image_scene_of, inl, inr, is_marked}
+use Rattle.mk_laws.proofs.Vocabulary.{is_none_or, is_open_to, is_past_probe, is_put, is_run_cell, is_unmapped, kinds_of}
+use Rattle.mk_laws.proofs.Vocabulary.{length, ltb-true, map, no_longer_fresh, none_freed, not, or_cases, or_parts}
 use Rattle.mk_laws.proofs.Vocabulary.{others_are_held, placed_at, pointed_cell, points_well, refl, released_leaves}
-use Rattle.mk_laws.proofs.Vocabulary.{set-get_or, slice_index, slice_index_or, slice_set, storage_holds, storage_words}
-use Rattle.mk_laws.proofs.Vocabulary.{sym, target, true, with_released, word_at, words_of, world_behind, ◌%◌, ◌&&◌, ◌+◌}
-use Rattle.mk_laws.proofs.{Vocabulary.{◌/◌, ◌<◌, ◌==◌, ◌||◌, ◌∙◌, ◌≡◌, ◌≢◌}, Basics.{KnownWorld, Leads, Move, Ready}}
-use Rattle.mk_laws.proofs.Basics.{Releases, Renews, Stands, at_its_stage, at_no_take, base_at, calls_stand}
-use Rattle.mk_laws.proofs.Basics.{exists_placed, grants_new, is_call_stage, not_astray, others_held, pointed_word}
-use Rattle.mk_laws.proofs.{Basics.{unmapped_is, words_fit}, CallSorts.{bare_on, begins, cas_leads_at, dirty_leads}}
-use Rattle.mk_laws.proofs.CallSorts.{enter_leads, getg_leads_at, leave_leads, probe_leads_at, read_leads_at}
-use Rattle.mk_laws.proofs.CallSorts.{reg_leads_at, setg_leads_at, write_leads_at}
-use Rattle.mk_laws.proofs.{ImagesBefore.{shown_in_call, type_is}, TurnMoves.{full_by, grant_by, look_by, quar_by}}
-use Rattle.mk_laws.proofs.{FreeMoves.same_places, GrantMoves.wiped_outside, ImagesHeldGates.others_idle}
+use Rattle.mk_laws.proofs.Vocabulary.{set-get_or, slice_index, slice_index_or, slice_set, storage_holds, sym, target}
+use Rattle.mk_laws.proofs.Vocabulary.{true, with_released, word_at, words_of, world_behind, ◌%◌, ◌&&◌, ◌+◌, ◌/◌, ◌<◌}
+use Rattle.mk_laws.proofs.{Vocabulary.{◌==◌, ◌||◌, ◌∙◌, ◌≡◌, ◌≢◌}, Basics.{KnownWorld, Leads, Move, Orderly, Ready}}
+use Rattle.mk_laws.proofs.Basics.{Releases, Renews, Stands, View, at_its_stage, at_no_take, base_at, calls_stand}
+use Rattle.mk_laws.proofs.Basics.{exists_placed, flight_in, gate_in, grants_new, is_call_stage, not_astray, others_held}
+use Rattle.mk_laws.proofs.{Basics.{pointed_word, standing_at, unmapped_is, words_fit}, CallSorts.{bare_on, begins}}
+use Rattle.mk_laws.proofs.CallSorts.{cas_leads_at, dirty_leads, enter_leads, getg_leads_at, leave_leads, probe_leads_at}
+use Rattle.mk_laws.proofs.CallSorts.{read_leads_at, reg_leads_at, setg_leads_at, write_leads_at}
+use Rattle.mk_laws.proofs.{Standings.{Resting, Shows, Standing}, TurnMoves.{full_by, grant_by, look_by, quar_by}}
+use Rattle.mk_laws.proofs.{GrantMoves.{same_places, wiped_outside}, ImagesBefore.{shown_in_call, type_is}}
 use Rattle.mk_laws.proofs.{ImagesMoves.{Rests, Wipes}, NextSteps.{at_take, of_turn}, Pairs.shows_plain}
 use Rattle.mk_laws.proofs.Stages.{is_turn_stage, new_stands}
 use Rattle.mk_never.specs.Types.{is_leaf, is_number}
 use Rattle.mk_core.proofs.{RegisterAccesses.{tally_leaves, tally_leaves_registers}, ListTests.list_all-at}
 use Rattle.mk_core.specs.ClosedMarks.{is_marked_allocation, is_scanned_allocation}
+
+-- A caller whose gate is held is between calls.
+
+pub resting_idle : (o : Op) (s : Stage) → standing_at s o ≡ Resting → s ≡ Stage.Idle
+resting_idle o Stage.Idle h = refl
+resting_idle o s h = grind arith
+
+held_resting : (t k : ℕ) (s : Standing) (g : ℕ) → g ≡ 2 → Shows t g k s → s ≡ Resting
+held_resting t k x3 g e h = grind arith
+
+pub held_idle : {c : Config} {v : View} (j : ℕ) → Orderly c v → j < c.callers → gate_in v j ≡ 2
+    → (flight_in v j).stage ≡ Stage.Idle
+held_idle {v} j p lt e = resting_idle _ _ (held_resting v.turn j _ (gate_in v j) e (p.each j lt))
+
+-- Where the gates of all others are held, all but one are idle.
+pub others_idle : {c : Config} {v : View} (k : ℕ) → Orderly c v → ((j : ℕ) → j < c.callers → k ≢ j → gate_in v j ≡ 2)
+    → (j : ℕ) → j ≢ k → (flight_in v j).stage ≡ Stage.Idle
+others_idle {c} {v} k p held j ne = elim (cases_lt j c.callers) [
+  | inl lt ↦ held_idle j p lt (held j lt (λ e. ne (sym e)))
+  | inr le ↦ rw (get_or_past v.flights j at_rest (let e = p.flights in omega (arith, e)))
+]
 
 -- A release cuts the safe set to the marked allocations.
 
@@ -57,16 +78,12 @@ module _ {c : Config} {w : World} {n : NeverState} (known : KnownWorld c w) (mir
       → IsSound n v → IsSafe safe v → IsSafe cut v
   root_cut x v well e sound is = value_cut v sound is (rw e at well)
 
-  some_words : (a : ℕ) → (placed a).released ≡ false → 0 < storage_words c (placed a)
-  some_words a u =
-      let lt = exists_placed w.allocations a u in
-      (storage_holds c (placed a) known.limits (type_is c w n known mirrors a lt)).1.0
-
   base_cell_is : (a : ℕ) → (placed a).released ≡ false
       → pointed_cell c.pages w.now.words.pages (address_of (placed a).base) ≡ Some (cell_of_allocation c (placed a))
   base_cell_is a u =
       let same : address_of (placed a).base ≡ address_of ((placed a).base + 0) = omega arith in
-      ap (pointed_cell c.pages w.now.words.pages) same ∙ st.cell a 0 u (some_words a u)
+      ap (pointed_cell c.pages w.now.words.pages) same ∙ st.cell a 0 u (let lt = exists_placed w.allocations a u in
+      (storage_holds c (placed a) known.limits (type_is c w n known mirrors a lt)).1.0)
 
   word_cut : (a i : ℕ) → safe a ≡ true → is_marked w.now.words (cell_of_allocation c (placed a)) ≡ true
       → is_unmapped (allocation_at n a) ≡ false → IsSafe cut (word_at n a i)
@@ -160,7 +177,7 @@ turn_plain : (s : Stage) → is_turn_stage s ≡ true → is_put s ≡ false
 turn_plain Stage.Put h = cc
 turn_plain _ h = refl
 
-idle_plain : (s : Stage) → s ≡ Stage.Idle → is_put s ≡ false
+pub idle_plain : (s : Stage) → s ≡ Stage.Idle → is_put s ≡ false
 idle_plain s e = ap is_put e
 
 abbrev no_cell : Option Cell
@@ -191,12 +208,6 @@ module _ {c : Config} {w : World} {n : NeverState} (known : KnownWorld c w) (mir
 
   still_moves : (seat : Seat) (x : Step) → is_still x ≡ true → MeetsOf c w seat x
       → Move safe (image_scene_of w) n (still_scene c w seat x) n
-  still_moves seat Step.Reg s h = absurd (false≢true s)
-  still_moves seat Step.Write s h = absurd (false≢true s)
-  still_moves seat Step.Cas s h = absurd (false≢true s)
-  still_moves seat Step.Setg s h = absurd (false≢true s)
-  still_moves seat (Step.Quar p v) s h = absurd (false≢true s)
-  still_moves seat Step.Grant s h = absurd (false≢true s)
   still_moves seat (Step.Tally t v) s h =
       let kept = tally_leaves w.now.words t v in
       rw (tally_leaves_registers w.now.words t v, kept.globals, kept.heap) Rests
@@ -206,7 +217,7 @@ module _ {c : Config} {w : World} {n : NeverState} (known : KnownWorld c w) (mir
       no_longer_fresh w.allocations a refl)) (λ a. rw (changed_at no_longer_fresh w.allocations a refl))
   still_moves seat Step.Release s h =
       releases known mirrors ready st (others.marks (eqb-true _ 3 h.phase)) (plain_at seat h.kind h)
-  still_moves seat _ s h = Rests
+  still_moves seat x s h = grind (arith, Rests)
 
   -- of a caller, whose flight stays
   still_leads : (k : ℕ) {t : ImageScene} → Move safe (image_scene_of w) n t n → t.flights ≡ w.now.seats.flights
@@ -270,11 +281,7 @@ module _ {c : Config} {w : World} {n : NeverState} (known : KnownWorld c w) (mir
   goes _ Step.Write h ad = absurd (false≢true h.kind)
   goes _ Step.Cas h ad = absurd (false≢true h.kind)
   goes _ Step.Setg h ad = absurd (false≢true h.kind)
-  goes Host Step.Grant h ad = absurd (no_holder _ h.order)
-    where
-      no_holder : (b : Bool) → (b && false) ≡ true → ⊥
-      no_holder true e = false≢true e
-      no_holder false e = false≢true e
+  goes Host Step.Grant h ad = absurd (false≢true (and_parts _ false h.order).1)
   goes Host (Step.Quar p v) h ad = (rw (none_target _) (rw (none_freed w.now.words w.allocations) Rests), λ more. refl)
   goes Host x h ad = (still_moves Host x refl h, λ more. refl)
   goes (Marker k) Step.Grant h ad = absurd (false≢true h.kind)

@@ -9,7 +9,7 @@ use Rattle.mk_laws.proofs.Vocabulary.{◌≤◌, ◌⊎◌}
 use Rattle.mk_geom.proofs.{FirstFit.cell_place_is, FirstFit.run_place_is, HeaderLemmas.word_of-header_of}
 use Rattle.mk_geom.specs.{PageUses.is_free_page, Places.MayTakeCell}
 use Rattle.mk_books.proofs.UsedBitLemmas.{length-bits_of}
-use Rattle.mk_core.proofs.{ObjectHeaders.small_header, Sizes.class_for_small, Sizes.large_pages}
+use Rattle.mk_core.proofs.{ObjectHeaders.small_header, Sizes.class_for_small}
 
 -- the pages of the place are free, and this many more may be resident
 pub record FitsOnFreePages (limit : ℕ) (pages : List Page) (o : Object) (place : Place) : Type 0 where
@@ -36,7 +36,6 @@ free_header h _ u is free = cc
 taken_from : (h u class index : ℕ) (leaf : Bool) (x : Option Header) → header_of h ≡ x
     → MayTakeCell class leaf index (use_under x u)
     → (h ≡ 0) ⊎ ((h ≡ word_of (block_header class leaf)) × (index < cells_of class))
-taken_from h u class index leaf (Some Free) is may = inl (zero_word h is)
 taken_from h u class index leaf (Some (Block k)) is may = inr (
   sym (word_of-header_of h (Block k) is).1 ∙ rw may.0 (ap (λ b. word_of (block_header class b)) may.1),
   rw (length-bits_of (cells_of k) u ∙ ap cells_of may.0) at (slice_get_within _ index false may.2),
@@ -45,7 +44,7 @@ taken_from h u class index leaf (Some (LeafBlock k)) is may = inr (
   sym (word_of-header_of h (LeafBlock k) is).1 ∙ rw may.0 (ap (λ b. word_of (block_header class b)) may.1),
   rw (length-bits_of (cells_of k) u ∙ ap cells_of may.0) at (slice_get_within _ index false may.2),
 )
-taken_from h u class index leaf _ is may = absurd may
+taken_from h u class index leaf x6 is may = grind (arith, zero_word)
 
 free_use : (h u : ℕ) → h ≡ 0 → is_free_page (use_under (header_of h) u) ≡ true
 free_use h u z = rw z
@@ -57,7 +56,6 @@ fits limit pages o place sized at = elim (cases_Bool (is_small_object o)) [ inl 
     large : is_small_object o ≡ false → FitsOnFreePages limit pages o place
     large l =
         let is = run_place_is limit o.words o.leaf pages place (leb-false o.words 32 l) at in
-        let count = large_pages o l in
         grind (arith, free_header)
 
     small : is_small_object o ≡ true → FitsOnFreePages limit pages o place ⊎ FitsInBlock pages o place

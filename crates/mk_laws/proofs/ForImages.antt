@@ -10,8 +10,8 @@ use Rattle.mk_laws.proofs.Vocabulary.{granted_type, ground_of, has_bit_without, 
 use Rattle.mk_laws.proofs.Vocabulary.{is_large, is_mapped, is_phase, is_released_cell, is_released_in, is_small_object}
 use Rattle.mk_laws.proofs.Vocabulary.{is_undecided_new, is_unmapping, kinds_of, large_is_not_small, length, lt-ltb}
 use Rattle.mk_laws.proofs.Vocabulary.{mode_of, not, object_made, object_now, object_placed, pages_made, pages_some}
-use Rattle.mk_laws.proofs.Vocabulary.{phase_of, place_claim, placed_at, pointed_cell, refl, run_of_allocation, stands}
-use Rattle.mk_laws.proofs.Vocabulary.{subst, suc, sym, true, true≢false, typed_size, unmapped_header, zero, [], ◌&&◌}
+use Rattle.mk_laws.proofs.Vocabulary.{phase_of, place_claim, placed_at, pointed_cell, refl, run_of_allocation}
+use Rattle.mk_laws.proofs.Vocabulary.{same_Some, stands, subst, suc, sym, true, typed_size, unmapped_header, zero, ◌&&◌}
 use Rattle.mk_laws.proofs.{Vocabulary.{◌+◌, ◌/◌, ◌<◌, ◌==◌, ◌∙◌, ◌∷◌, ◌≡◌, ◌≢◌, ◌≤◌}, Claims.{claim_among, claim_is}}
 use Rattle.mk_laws.proofs.{Claims.{first_apart, rest_apart}, LayoutHolders.{holding_object, new_has_turn}}
 use Rattle.mk_laws.proofs.{LayoutHolders.seat_operands, Released.{IsStanding, all_stand, place_index}}
@@ -28,24 +28,15 @@ use Rattle.mk_laws.specs.ImagePremises as images
 pub numbers_apart : (c : Config) (run : Option RunPages) (xs : List PlacedAllocation) (i j : ℕ)
     → AreApart (claims_of c run xs) → (placed_at xs i).released ≡ false → (placed_at xs j).released ≡ false
     → IsOfOneCell (claim_of c run (placed_at xs i)) (claim_of c run (placed_at xs j)) → i ≡ j
-numbers_apart c run [] i j apart u v same = absurd (true≢false u)
-numbers_apart c run (x ∷ xs) zero zero apart u v same = refl
-numbers_apart c run (x ∷ xs) zero (suc n) apart u v same = absurd (first_apart c run x xs u apart n v same)
-numbers_apart c run (x ∷ xs) (suc m) zero apart u v same =
-    absurd (first_apart c run x xs v apart m u (sym same.0, sym same.1))
 numbers_apart c run (x ∷ xs) (suc m) (suc n) apart u v same =
     ap suc (numbers_apart c run xs m n (rest_apart c run x xs apart) u v same)
+numbers_apart c run x3 i j apart u v same = grind (arith, first_apart)
 
 -- A large allocation that is freed isn't mapped.
 pub gone_is : (c : Config) (a : PlacedAllocation) → a.released ≡ false
     → is_mapped c a ≡ not (a.freed && not (is_small_object (object_placed c a)))
 gone_is c a u = ap (λ b. not b && not (a.freed && is_large (kinds_of c.types a.ty))) u
     ∙ ap (λ b. not (a.freed && b)) (large_is_not_small _)
-
-mode_mapped : (x going : Bool) (o : Object) (d h : ℕ) → not x ≡ true → HasHeader (mode_of x going) o d h
-    → h ≡ header_made o d
-mode_mapped true going o d h e has = cc
-mode_mapped false going o d h e has = has
 
 mode_unmapped : (x going : Bool) (o : Object) (d h : ℕ) → not x ≡ false → going ≡ false
     → HasHeader (mode_of x going) o d h → h ≡ unmapped_header (pages_made o) d
@@ -86,18 +77,7 @@ module _ (c : Config) (w : World) (known : KnownWorld c w) (laid : LayoutStands 
   freed_run r e =
       let x = run_of r e in
       let n = claim_is c run xs x.claim x.among in
-      let a : PlacedAllocation = placed_at xs n.number in
-      let gone = mode_unmapping _ _ (ap (λ (y : Claim). y.mode) (sym n.is) ∙ x.mode) in
-      let page : r.page ≡ a.base / 64 = sym x.page ∙ ap (λ (y : Claim). y.page) n.is in
-      let count = sym x.count ∙ ap (λ (y : Claim). pages_made y.object) n.is in
-      record {
-        number = n.number;
-        unreleased = n.unreleased;
-        large = ap (λ (y : Claim). is_small_object y.object) (sym n.is) ∙ x.large;
-        freed = (and_parts a.freed (not (is_small_object (object_placed c a))) gone).0;
-        is = ap (λ p. record { page = p; count = r.count }) page
-            ∙ ap (λ k. record { page = a.base / 64; count = k }) count;
-      }
+      grind (arith, xs, mode_unmapping, and_parts)
 
   not_going : (i : ℕ) → (placed_at xs i).released ≡ false → is_small_object (object_placed c (placed_at xs i)) ≡ false
       → run ≢ Some (run_of_allocation c (placed_at xs i)) → is_unmapping run ((placed_at xs i).base / 64) ≡ false
@@ -124,7 +104,7 @@ module _ (c : Config) (w : World) (known : KnownWorld c w) (laid : LayoutStands 
       ]
 
   pub laid_out : (i : ℕ) → (placed_at xs i).released ≡ false → images.IsLaidOut c w.now.words run (placed_at xs i)
-  laid_out i u = grind (arith, xs, gone_is, standing, mode_mapped, shown_claim, mode_unmapped, not_going)
+  laid_out i u = grind (arith, xs, gone_is, standing, shown_claim, mode_unmapped, not_going)
 
   -- The place of an undecided New
 
@@ -147,7 +127,6 @@ module _ (c : Config) (w : World) (known : KnownWorld c w) (laid : LayoutStands 
       let one = base_points c w.now.words a known.limits s.stands s.headers in
       let two = base_points c w.now.words b known.limits (placed_stands c b place known.limits typed v base cell pages)
       (placed_headers c w.now.words b place known.limits typed base cell stand) in
-      let both = sym one ∙ ap (λ n. pointed_cell c.pages w.now.words.pages (address_of n)) (same ∙ sym base) ∙ two in
       let cells : cell_of_allocation c a ≡ cell_of_allocation c b = cc in
       let at = place_index c b place (typed_size c b known.limits typed) base cell in
       let among : Among (place_claim (object_now c w.now) place)
@@ -194,8 +173,8 @@ module _ (c : Config) (w : World) (known : KnownWorld c w) (laid : LayoutStands 
         let sj = standing j v in
         let one = base_points c w.now.words _ known.limits si.stands si.headers in
         let two = base_points c w.now.words _ known.limits sj.stands sj.headers in
-        let both = sym one ∙ ap (λ n. pointed_cell c.pages w.now.words.pages (address_of n)) same ∙ two in
-        let cells : cell_of_allocation c (placed_at xs i) ≡ cell_of_allocation c (placed_at xs j) = cc in
+        let cells = same_Some _ _
+        (sym one ∙ ap (λ n. pointed_cell c.pages w.now.words.pages (address_of n)) same ∙ two) in
         ne (numbers_apart c run xs i j (apart_left _ _ laid.scene.apart) u v
         (ap (λ (x : Cell). x.page) cells, ap (λ (x : Cell). x.index) cells));
     taken = taken;

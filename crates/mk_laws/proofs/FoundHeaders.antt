@@ -1,24 +1,109 @@
--- What a `head` finds while a cycle marks, from what the layout says.
+-- A `head` while a cycle marks, by what it finds: headers go on, and what points well goes on doing so.
 use Rattle.std.proofs.{Common.option_and_then, Math.Bool.or-true, lemmas.Nat.Bits.bit_at_ones}
-use Rattle.mk_laws.proofs.Vocabulary.{Bool, Cell, Config, Flight, GuardPremises, Header, HeaderGoesOn, HeadStep}
-use Rattle.mk_laws.proofs.Vocabulary.{IsMarking, IsSized, IsWithinLimits, ItCarves, ItEmpties, ItUnmaps, None, Object}
-use Rattle.mk_laws.proofs.Vocabulary.{OfBlock, OfLater, OfLeafBlock, OfLeafRun, OfRun, Option, Place, RunPages, Seat}
-use Rattle.mk_laws.proofs.Vocabulary.{ShowsPart, Some, Step, Words, World, ℕ, and_parts, ap, arith, cases_Bool}
-use Rattle.mk_laws.proofs.Vocabulary.{cases_eq, cell_at, cell_ends, cells_made, cells_of, cells_under, class_known}
-use Rattle.mk_laws.proofs.Vocabulary.{class_made, cond-false, cond-true, eq-eqb, eqb-true, false, fewer_bits, flight_of}
-use Rattle.mk_laws.proofs.Vocabulary.{has_bit, has_operands, head_step, header_at, header_in, header_made, header_of}
-use Rattle.mk_laws.proofs.Vocabulary.{header_shows, if◌then◌else◌, inl, inr, is_heap_address, is_marked_first, is_phase}
-use Rattle.mk_laws.proofs.Vocabulary.{is_small_object, is_undecided_new, is_unmapped_header, large_cells, large_count}
-use Rattle.mk_laws.proofs.Vocabulary.{large_words, later_cells, le-leb, ltb-true, made_shows, nat_le, not-true}
-use Rattle.mk_laws.proofs.Vocabulary.{object_made, or_cases, page_at_address, pages_made, part_cells, part_head}
-use Rattle.mk_laws.proofs.Vocabulary.{part_not_free, part_words, phase_of, placed_now, refl, slice_index, small_cells}
+use Rattle.mk_laws.proofs.Vocabulary.{AreOfPages, Bool, Cell, Config, Flight, GuardPremises, Header, HeaderGoesOn}
+use Rattle.mk_laws.proofs.Vocabulary.{HeadStep, IsGuarded, IsMarking, IsSized, IsWithinLimits, ItCarves, ItEmpties}
+use Rattle.mk_laws.proofs.Vocabulary.{ItUnmaps, Moment, None, Object, OfBlock, OfLater, OfLeafBlock, OfLeafRun, OfRun}
+use Rattle.mk_laws.proofs.Vocabulary.{Option, Page, Place, RunPages, Seat, ShowsPart, Some, Step, Words, World, ℕ}
+use Rattle.mk_laws.proofs.Vocabulary.{and_parts, ap, arith, cases_Bool, cases_eq, cell_at, cell_ends, cells_made}
+use Rattle.mk_laws.proofs.Vocabulary.{cells_of, cells_under, class_known, class_made, cond-false, cond-true, eq-eqb}
+use Rattle.mk_laws.proofs.Vocabulary.{eqb-true, false, fewer_bits, flight_of, free_page, get_or-set_other}
+use Rattle.mk_laws.proofs.Vocabulary.{get_or-set_same, has_bit, has_operands, head_step, header_at, header_in}
+use Rattle.mk_laws.proofs.Vocabulary.{header_made, header_of, header_shows, if◌then◌else◌, inl, inr, is_heap_address}
+use Rattle.mk_laws.proofs.Vocabulary.{is_marked, is_marked_first, is_phase, is_small_object, is_undecided_new}
+use Rattle.mk_laws.proofs.Vocabulary.{is_unmapped_header, large_cells, large_count, large_words, later_cells, le-leb}
+use Rattle.mk_laws.proofs.Vocabulary.{ltb-true, made_shows, nat_le, none-some, not-true, object_made, or_cases}
+use Rattle.mk_laws.proofs.Vocabulary.{page_at_address, pages_made, part_cells, part_head, part_not_free, part_words}
+use Rattle.mk_laws.proofs.Vocabulary.{phase_of, placed_now, refl, slice_index, slice_index_or, slice_set, small_cells}
 use Rattle.mk_laws.proofs.Vocabulary.{small_pages, small_words, subst, sym, true, true≢false, undecided_new}
-use Rattle.mk_laws.proofs.Vocabulary.{unmapped_header, unmapped_is_unmapped, words_made, words_under, ◌*◌, ◌+◌, ◌-◌}
-use Rattle.mk_laws.proofs.{Vocabulary.{◌<◌, ◌==◌, ◌||◌, ◌∙◌, ◌≡◌, ◌⊎◌}, Basics.{Known, Meets, either_phase, new_holds}}
-use Rattle.mk_laws.{proofs.Headers.{Carved, HeadFinds, Unmapped}, specs.Kept.{PlaceIsBare, RunHasObject}}
+use Rattle.mk_laws.proofs.Vocabulary.{unmapped_header, unmapped_is_unmapped, used_at, words_made, words_under, ◌*◌, ◌+◌}
+use Rattle.mk_laws.proofs.{Vocabulary.{◌-◌, ◌<◌, ◌∙◌, ◌≡◌, ◌≢◌}, Basics.{Behind, Known, Meets, either_phase}}
+use Rattle.mk_laws.proofs.{Basics.{headers_kind, is_head, new_holds}, KeptGuard.{NewCellsAreGuarded, goes_same}}
+use Rattle.mk_laws.{proofs.Wells.{IsWell, bare_guarded}, specs.Kept.{PlaceIsBare, RunHasObject}}
 use Rattle.mk_geom.{proofs.ClassTable.{some_cells}, specs.Addresses.{cell_under, word_at_address}}
 use Rattle.mk_core.{proofs.{ObjectHeaders.{same_cells, same_words}, PageSteps.Unmaps}, specs.NewPlaces.{bits_made}}
 use Rattle.mk_core.proofs.{PointedPages.{found_under, lies_under}, ServingSteps.Carves, WordBits.without_none}
+
+-- It finds no header on its page, marked cells and words 0; or it unmaps, which shows the same.
+pub data HeadFinds (pages : ℕ) (w : Words) (p header : ℕ) : Type 0 where
+  Carved : header_at w p ≡ 0 → ((value : ℕ) (x : Cell) → page_at_address value ≡ p → cell_at pages header value ≡ Some x
+      → is_marked w x ≡ true) → ((k i : ℕ) → k < cells_under (header_of header) → i < words_under (header_of header)
+      → slice_index w.heap (64 * p + k * words_under (header_of header) + i) ≡ 0) → HeadFinds pages w p header
+  Unmapped : header ≢ 0 → HeaderGoesOn pages (header_at w p) header
+      → ((value : ℕ) (x : Cell) → page_at_address value ≡ p → cell_at pages header value ≡ Some x
+      → cell_at pages (header_at w p) value ≡ Some x)
+      → (cells_under (header_in w p) ≡ 0 → cells_under (header_of header) ≡ 0) → HeadFinds pages w p header
+
+pub free_shows : (pages v : ℕ) (y : Cell) → cell_at pages 0 v ≡ Some y → ⊥
+free_shows pages v y is = grind (arith, none-some)
+
+pub record HeadKeeps (c : Config) (m n : Moment) : Type 0 where
+  pub some : (p : ℕ) → header_at m.words p ≢ 0 → header_at n.words p ≢ 0
+  pub wells : (value : ℕ) → IsWell c m.words value → IsWell c n.words value
+  pub headers : (p : ℕ) → HeaderGoesOn c.pages (header_at m.words p) (header_at n.words p)
+  pub new : NewCellsAreGuarded c m n
+
+pub head_keeps : (c : Config) (m : Moment) (seat : Seat) (p n : ℕ) → AreOfPages c.pages m.words
+    → Meets c m seat (Step.Head p n) → HeadFinds c.pages m.words p n → HeadKeeps c m (Behind c m seat (Step.Head p n))
+head_keeps c m seat p n len h finds = record {
+  some = λ q not_free. elim (cases_eq q p) [
+    | inl e ↦ λ z. filled finds (subst (λ j. header_at m.words j ≢ 0) e not_free) (sym (here q e) ∙ z)
+    | inr ne ↦ λ z. not_free (sym (other q ne) ∙ z)
+  ];
+  wells = λ v is y at. elim (cases_eq (page_at_address v) p) [
+    | inl e ↦ well finds v e is y (subst (λ a. cell_at c.pages a v ≡ Some y) (here (page_at_address v) e) at)
+    | inr ne ↦ is y (subst (λ a. cell_at c.pages a v ≡ Some y) (other (page_at_address v) ne) at)
+  ];
+  headers = λ q. elim (cases_eq q p) [
+    | inl e ↦ subst (HeaderGoesOn c.pages (header_at m.words q)) (sym (here q e))
+        (subst (λ j. HeaderGoesOn c.pages (header_at m.words j) n) (sym e) (goes finds))
+    | inr ne ↦ subst (HeaderGoesOn c.pages (header_at m.words q)) (sym (other q ne)) (goes_same _ _)
+  ];
+  new = λ q k i none lt li. elim (cases_eq q p) [
+    | inl e ↦ made finds q k i e (subst (λ j. cells_under (header_in m.words j) ≡ 0) e none)
+        (subst (λ a. k < cells_under (header_of a)) (here q e) lt)
+        (subst (λ a. i < words_under (header_of a)) (here q e) li)
+    | inr ne ↦ let bad : k < 0 = subst (λ a. k < a) (ap (λ a. cells_under (header_of a)) (other q ne)
+        ∙ none) lt in absurd (omega arith)
+  ];
+}
+  where
+    here : (q : ℕ) → q ≡ p → header_at (Behind c m seat (Step.Head p n)).words q ≡ n
+    here q e = ap (λ j. (slice_index_or (slice_set m.words.pages p (record { header = n; used = used_at m.words p })) j
+        free_page).header) e ∙ ap (λ (y : Page). y.header)
+        (get_or-set_same m.words.pages p (record { header = n; used = used_at m.words p }) free_page
+        (omega (arith, ltb-true p c.pages h.range, len.pages)))
+
+    other : (q : ℕ) → q ≢ p → header_at (Behind c m seat (Step.Head p n)).words q ≡ header_at m.words q
+    other q ne = ap (λ (y : Page). y.header)
+        (get_or-set_other m.words.pages p q (record { header = n; used = used_at m.words p }) free_page ne)
+
+    filled : HeadFinds c.pages m.words p n → header_at m.words p ≢ 0 → n ≢ 0
+    filled (Carved free marked bare) not_free z = not_free free
+    filled (Unmapped some on back still) not_free z = some z
+
+    goes : HeadFinds c.pages m.words p n → HeaderGoesOn c.pages (header_at m.words p) n
+    goes (Carved free marked bare) = grind (arith, free_shows)
+    goes (Unmapped some on back still) = on
+
+    well : HeadFinds c.pages m.words p n → (v : ℕ) → page_at_address v ≡ p → IsWell c m.words v → (y : Cell)
+        → cell_at c.pages n v ≡ Some y → is_marked m.words y ≡ true
+    well (Carved free marked bare) v e is y at = marked v y e at
+    well (Unmapped some on back still) v e is y at =
+        is y (subst (λ j. cell_at c.pages (header_at m.words j) v ≡ Some y) (sym e) (back v y e at))
+
+    made : HeadFinds c.pages m.words p n → (q k i : ℕ) → q ≡ p → cells_under (header_in m.words p) ≡ 0
+        → k < cells_under (header_of n) → i < words_under (header_of n) → IsGuarded c (Behind c m seat (Step.Head p n))
+        (64 * q + k * words_under (header_in (Behind c m seat (Step.Head p n)).words q) + i)
+    made (Carved free marked bare) q k i e none lt li =
+        let first : 64 * q + k * words_under (header_in (Behind c m seat (Step.Head p n)).words q) + i
+        ≡ 64 * p + k * words_under (header_of n) + i = cc (here q e, e) in
+        bare_guarded c (Behind c m seat (Step.Head p n)) _ (ap (slice_index m.words.heap) first ∙ bare k i lt li)
+    made (Unmapped some on back still) q k i e none lt li = let z = still none in absurd (omega arith)
+
+-- no other kind makes cells
+pub no_new_cells : (c : Config) (m : Moment) (seat : Seat) (x : Step) → is_head x ≡ false
+    → NewCellsAreGuarded c m (Behind c m seat x)
+no_new_cells c m seat x no_head p k i none lt li = grind (arith, headers_kind)
 
 -- What an address on a page of a run points into: cell 0 of its first page.
 
@@ -200,17 +285,12 @@ new_sized : {c : Config} (f : Flight) → IsWithinLimits c → has_operands c f.
     → IsSized (object_made c f.op)
 new_sized f limits operands new = grind (arith, undecided_new, ltb-true, and_parts)
 
--- While a cycle marks, a `head` comes before the stop is wanted.
-marking_phase : (n : ℕ) → ((n == 0) || (n == 1) || (n == 4)) ≡ true → (n ≡ 1) ⊎ (n ≡ 2) → n ≡ 1
-marking_phase n h (inl e) = e
-marking_phase n h (inr two) = grind (arith, or_cases, either_phase, eqb-true)
-
 pub head_finds : (c : Config) (w : World) (seat : Seat) (p n : ℕ) → IsWithinLimits c → Known c w.now
     → IsMarking w.now.words → GuardPremises c w → Meets c w.now seat (Step.Head p n) → HeadFinds c.pages w.now.words p n
 head_finds c w seat p n limits known early say h = by (head_step c w.now (flight_of w.now seat) p n h.holder)
   where
     one : phase_of w.now.words ≡ 1
-    one = marking_phase _ h.phase early
+    one = grind (arith, or_cases, either_phase, eqb-true)
 
     by : HeadStep c w.now (flight_of w.now seat) p n → HeadFinds c.pages w.now.words p n
     by (ItCarves four k) =

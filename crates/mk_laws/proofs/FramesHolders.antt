@@ -19,11 +19,6 @@ pub record AsksNothing (c : Config) (m : Moment) (s : Seat) (f : Flight) (n : �
   pub phase : has_phase n x ≡ true
   pub holder : holder_may c m f x ≡ true
 
-call_asks_nothing : (c : Config) (m : Moment) (s : Seat) (f : Flight) (n : ℕ) (x : Step) → group_of x ≡ Group.Callers
-    → AsksNothing c m s f n x
-call_asks_nothing c m s f n Step.Leave g = record { gates = refl; phase = refl; holder = refl }
-call_asks_nothing c m s f n _ g = record { gates = cc; phase = cc; holder = cc }
-
 marker_asks_nothing : (c : Config) (m : Moment) (s : Seat) (f : Flight) (n : ℕ) (x : Step) → group_of x ≡ Group.Markers
     → AsksNothing c m s f n x
 marker_asks_nothing c m s f n Step.Attend g = record { gates = refl; phase = refl; holder = refl }
@@ -35,4 +30,4 @@ pub data Asks (c : Config) (m : Moment) (s : Seat) (x : Step) : Type 0 where
   OfNone : ((n : Moment) (f : Flight) (phase : ℕ) → AsksNothing c n s f phase x) → Asks c m s x
 
 pub asks : {c : Config} {m : Moment} {s : Seat} {x : Step} → Actor c m s x → Asks c m s x
-asks actor = grind (arith, call_asks_nothing, marker_asks_nothing)
+asks actor = grind (arith, marker_asks_nothing)

@@ -1,20 +1,119 @@
--- The law on longer lists.
-use Rattle.mk_laws.proofs.Vocabulary.{Answer, AreAdmitted, AreOfOthers, Bool, Caller, Cell, Config, Event, Flight}
-use Rattle.mk_laws.proofs.Vocabulary.{Holds, IsEnabled, IsHistory, IsInCall, IsLeft, IsTidy, List, Moment, None, Op}
-use Rattle.mk_laws.proofs.Vocabulary.{Option, Seat, Some, Stage, Steady, Step, TalliesAreTidy, TurnIsLeft, Word, Words}
-use Rattle.mk_laws.proofs.Vocabulary.{World, ℕ, answer_decided, ap, asked, begun, call_decided, cases_Bool, cell_freed}
-use Rattle.mk_laws.proofs.Vocabulary.{decided, enabled_meets, entry_of, false, flight_of, found, frees, header_in}
-use Rattle.mk_laws.proofs.Vocabulary.{header_of, if◌then◌else◌, in_a_word, inl, inr, is_some, is_unmapped_header, left}
-use Rattle.mk_laws.proofs.Vocabulary.{ltb-true, never_behind, not, onward, page_met, progress, progress_freed}
-use Rattle.mk_laws.proofs.Vocabulary.{progress_read, progress_reg, q_of, refl, refused, sees_double, still, subst, sym}
-use Rattle.mk_laws.proofs.Vocabulary.{target, true, word_accessed, [], ◌&&◌, ◌++◌, ◌<◌, ◌==◌, ◌∙◌, ◌∷◌, ◌≡◌}
-use Rattle.mk_laws.proofs.Basics.{Meets, actor_of, at_its_stage, calls_stand, in_call_told, is_call_stage, is_holders}
-use Rattle.mk_laws.proofs.{Basics.{not_astray, operands_of, register_small}, LastEvents.{Stands, comes_last}}
-use Rattle.mk_laws.proofs.{LastEvents.{goes_on_by, stands}, AdmittedStill.call_on}
-use Rattle.mk_laws.proofs.{CallSorts.{admitted_call, call_outside}, EnabledStill.{before, enabled_still, left_to}}
-use Rattle.mk_laws.proofs.{FramesHolders.{acts_as_holder, holds_is}, OtherCalls.{never_continues, registers_are_left}}
-use Rattle.mk_laws.proofs.{ProbesStill.probe_still, Reaching.{events_reach_the_table, others_leave_accesses}}
-use Rattle.mk_core.specs.{Counts.releases, Effects.begins_where_free, Frames.CountsAreLeft, LongerLists.LongerListsGoOn}
+-- The law on longer lists: what others' events leave of a caller's own calls, of what it is admitted, and of what an
+-- event of it asks and decides.
+use Rattle.std.proofs.{Common.filter, lemmas.List.Elements.filter-append}
+use Rattle.mk_laws.proofs.Vocabulary.{AccessIsAdmitted, Answer, AreAdmitted, Bool, Caller, Cell, Config, Continues}
+use Rattle.mk_laws.proofs.Vocabulary.{Decided, Event, Flight, Holds, IsAdmitted, IsEnabled, IsHistory, IsInCall, IsLeft}
+use Rattle.mk_laws.proofs.Vocabulary.{IsNumber, IsPointer, IsSound, IsTidy, IsTyped, KeepsRegisters, Kind, List, Stage}
+use Rattle.mk_laws.proofs.Vocabulary.{Steady, Step, TalliesAreTidy, TurnIsLeft, Value, Word, Words, World, ℕ}
+use Rattle.mk_laws.proofs.Vocabulary.{allocation_at, answer_decided, ap, append-nil, arith, asked, begun, call_decided}
+use Rattle.mk_laws.proofs.Vocabulary.{calls, cases_Bool, cell_freed, cond, decided, enabled_meets, entry_of, eq-eqb}
+use Rattle.mk_laws.proofs.Vocabulary.{false, flight_of, found, frees, header_in, header_of, if◌then◌else◌, in_a_word}
+use Rattle.mk_laws.proofs.Vocabulary.{inl, inr, is_some, is_unmapped_header, kinds_of, left, ltb-true, ne_eqb}
+use Rattle.mk_laws.proofs.Vocabulary.{never_behind, not, onward, page_met, progress, progress_freed, progress_read}
+use Rattle.mk_laws.proofs.Vocabulary.{progress_reg, q_of, refl, refused, register_at, sees_double, slice_index_or}
+use Rattle.mk_laws.proofs.Vocabulary.{still, subst, sym, target, true, word_accessed, world_behind, [], ◌&&◌, ◌*◌, ◌++◌}
+use Rattle.mk_laws.proofs.{Vocabulary.{◌+◌, ◌<◌, ◌==◌, ◌∙◌, ◌∷◌, ◌≡◌, ◌≢◌}, Basics.{Meets, actor_of, at_its_stage}}
+use Rattle.mk_laws.proofs.Basics.{calls_stand, in_call_told, is_call_stage, is_holders, not_astray, operands_of}
+use Rattle.mk_laws.proofs.{Basics.register_small, CallSorts.{admitted_call, call_outside}}
+use Rattle.mk_laws.proofs.{EnabledStill.{before, enabled_still, left_to}, FramesHolders.{acts_as_holder, holds_is}}
+use Rattle.mk_laws.proofs.LastEvents.{Stands, comes_last, goes_on_by, stands}
+use Rattle.mk_laws.proofs.{OtherCalls.{never_continues, registers_are_left}, ProbesStill.probe_still}
+use Rattle.mk_laws.proofs.{ProtocolFrames.other_seat, Reaching.{events_reach_the_table, others_leave_accesses}}
+use Rattle.mk_never.specs.Admitted.{IsBase, IsOfKind, OperandsAreInRange, StoreIsAdmitted}
+use Rattle.mk_core.{proofs.HistoryParts.{calls_in_parts}, specs.{History.calls_from, LongerLists.LongerListsGoOn}}
+use Rattle.mk_core.specs.{Counts.releases, Effects.begins_where_free, Frames.CountsAreLeft, Growing.AreOfOthers}
+use Rattle.mk_laws.proofs.Vocabulary.{Meets as MeetsWord, Moment, NeverState, None, Number, Op, Option, Ptr, Seat, Some}
+
+-- The calls of one caller: events of others have none of them.
+
+-- the calls of one caller among these
+abbrev pub calls_by : ℕ → List Decided → List Decided
+calls_by k xs = filter (λ (x : Decided). x.caller == k) xs
+
+pub by_append : (k : ℕ) (xs ys : List Decided) → calls_by k (xs ++ ys) ≡ calls_by k xs ++ calls_by k ys
+by_append k xs ys = filter-append (λ (x : Decided). x.caller == k) xs ys
+
+pub own_entry : (k : ℕ) (o : Op) (a : Option Answer) → calls_by k (entry_of k o a) ≡ entry_of k o a
+own_entry k o None = refl
+own_entry k o (Some a) = ap (λ (b : Bool). cond b (entry_of k o (Some a)) []) (eq-eqb k k refl)
+
+other_entry : (j k : ℕ) (o : Op) (a : Option Answer) → j ≢ k → calls_by k (entry_of j o a) ≡ []
+other_entry j k o None ne = refl
+other_entry j k o (Some a) ne = ap (λ (b : Bool). cond b (entry_of j o (Some a)) []) (ne_eqb j k ne)
+
+other_decided : (c : Config) (w : World) (seat : Seat) (x : Step) (k : ℕ) → seat ≢ Caller k
+    → calls_by k (call_decided c w.now (record { seat = seat; step = x })) ≡ []
+other_decided c w x2 x k ne = grind (arith, other_entry)
+
+calls_of_others : (c : Config) (k : ℕ) (w : World) (es : List Event) → AreOfOthers (Caller k ∷ []) es
+    → calls_by k (calls_from c w es) ≡ []
+unfolding calls_from AreOfOthers
+calls_of_others c k w [] others = refl
+calls_of_others c k w (e ∷ es) others =
+    by_append k (call_decided c w.now e) (calls_from c (world_behind c w e) es)
+    ∙ ap (λ (l : List Decided). l ++ calls_by k (calls_from c (world_behind c w e) es))
+    (other_decided c w e.seat e.step k (other_seat (Caller k) e.seat others.0))
+    ∙ calls_of_others c k (world_behind c w e) es others.1
+
+pub others_add_none : (c : Config) (k : ℕ) (es others : List Event) → AreOfOthers (Caller k ∷ []) others
+    → calls_by k (calls c (es ++ others)) ≡ calls_by k (calls c es)
+others_add_none c k es others of_others =
+    ap (λ (l : List Decided). calls_by k l) (calls_in_parts c es others)
+    ∙ by_append k (calls c es) (calls_from c (left c es) others)
+    ∙ ap (λ (l : List Decided). calls_by k (calls c es) ++ l) (calls_of_others c k (left c es) others of_others)
+    ∙ append-nil (calls_by k (calls c es))
+
+-- An operation that is admitted stays so, whatever others call.
+
+module _ (globals : List ℕ) (n m : NeverState) (k : ℕ) (on : Continues n m) (own : KeepsRegisters k n m)
+    (typed : IsTyped globals n) where
+  operands_on : (o : Op) → OperandsAreInRange n o → OperandsAreInRange m o
+  operands_on (Op.New d ty full) h = (h.0, rw on.types h.1)
+  operands_on (Op.GetGlobal d g) h = (h.0, rw on.globals h.1)
+  operands_on (Op.SetGlobal g p) h = (rw on.globals h.0, h.1)
+  operands_on _ h = h
+
+  meets_value : (v : Value) (i : ℕ) (P : Kind → Type 0) → IsSound n v → MeetsWord n v i P → MeetsWord m v i P
+  meets_value (Ptr a t o) i P sound h = (rw (on.size a sound.0) h.0, subst P kind h.1)
+    where
+      kind : slice_index_or (kinds_of n.types (allocation_at n a).ty) (o + i) Number
+          ≡ slice_index_or (kinds_of m.types (allocation_at m a).ty) (o + i) Number
+      kind = cc (on.types, on.ty a sound.0)
+  meets_value _ i P sound h = tt
+
+  pub meets_register : (q i : ℕ) (P : Kind → Type 0) → q < 8 → MeetsWord n (register_at n k q) i P
+      → MeetsWord m (register_at m k q) i P
+  meets_register q i P lt h = rw (own q lt) (meets_value _ i P (typed.registers (8 * k + q)) h)
+
+  access_on : (o : Op) → OperandsAreInRange n o → AccessIsAdmitted n k o → AccessIsAdmitted m k o
+  access_on (Op.GetNum q i) r h = meets_register q i IsNumber r h
+  access_on (Op.SetNum q i x) r h = meets_register q i IsNumber r h
+  access_on (Op.GetPtr d q i) r h = meets_register q i IsPointer r.1 h
+  access_on (Op.SetPtr q i p) r h = meets_register q i IsPointer r.0 h
+  access_on (Op.CasPtr q i p s) r h = meets_register q i IsPointer r.0 h
+  access_on (Op.Lea d q i) r h = meets_register q i (λ kind. Unit {0}) r.1 h
+  access_on _ r h = tt
+
+  store_on : (o : Op) → OperandsAreInRange n o → StoreIsAdmitted globals n k o → StoreIsAdmitted globals m k o
+  store_on (Op.Free p) r h = subst IsBase (sym (own p r)) h
+  store_on (Op.SetPtr q i p) r h = rw (own p r.1) (meets_register q i _ r.0 h)
+  store_on (Op.CasPtr q i p s) r h = rw (own p r.1) (rw (own s r.2)
+      (meets_register q i (λ kind. IsOfKind (register_at n k p) kind × IsOfKind (register_at n k s) kind) r.0 h))
+  store_on (Op.SetGlobal g p) r h = rw (own p r.1) h
+  store_on _ r h = tt
+
+  admitted_on : {o : Op} → IsAdmitted globals n k o → IsAdmitted globals m k o
+  admitted_on {o} h = record {
+    of_a_caller = rw on.registers h.of_a_caller;
+    in_range = operands_on o h.in_range;
+    access = access_on o h.in_range h.access;
+    store = store_on o h.in_range h.store;
+  }
+
+  pub call_on : (o : Op) (a : Option Answer) → AreAdmitted globals n (asked (entry_of k o a))
+      → AreAdmitted globals m (asked (entry_of k o a))
+  call_on o (Some a) h = (admitted_on h.0, tt)
+  call_on o None h = tt
 
 -- What a step asks of the heap that never reuses storage it asks after a longer list too: what it finds may differ,
 -- and so the answer, but not whether it decides, nor what for.
@@ -186,22 +285,18 @@ module _ (c : Config) (es more : List Event) (k : ℕ) (x : Step) (h : IsHistory
       (if probed v.now.words g then refused g Answer.Fault else onward g None).answer) kept.own.flight ∙ ap
       (λ (b : Bool). is_some (if b then refused f Answer.Fault else onward f None).answer) (probes_the_same is))
 
-pub still_admitted : {c : Config} (es more : List Event) (seat : Seat) (x : Step) → IsHistory c (es ++ more)
-    → AreOfOthers (seat ∷ []) more → IsEnabled c (left c es).now (record { seat = seat; step = x })
-    → AreAdmitted c.globals (never_behind c es)
-    (asked (call_decided c (left c es).now (record { seat = seat; step = x }))) → AreAdmitted c.globals
-    (never_behind c (es ++ more)) (asked (call_decided c (left c (es ++ more)).now (record { seat = seat; step = x })))
-still_admitted {c} es more (Caller k) x h others on admitted = caller_is_admitted c es more k x h others on admitted
-still_admitted es more _ x h others on admitted = tt
-
-pub still_decides : {c : Config} (es more : List Event) (seat : Seat) (x : Step) → IsHistory c (es ++ more)
+still_asks : {c : Config} (es more : List Event) (seat : Seat) (x : Step) → IsHistory c (es ++ more)
     → AreOfOthers (seat ∷ []) more → IsEnabled c (left c es).now (record { seat = seat; step = x }) → AreAdmitted
     c.globals (never_behind c es) (asked (call_decided c (left c es).now (record { seat = seat; step = x })))
-    → x ≡ Step.Probe → is_some (answer_decided c (left c (es ++ more)).now (record { seat = seat; step = x })) ≡ is_some
-    (answer_decided c (left c es).now (record { seat = seat; step = x }))
-still_decides {c} es more (Caller k) x h others on admitted is =
-    caller_decides_the_same c es more k x h others on admitted is
-still_decides es more _ x h others on admitted is = refl
+    → AreAdmitted c.globals (never_behind c (es ++ more))
+    (asked (call_decided c (left c (es ++ more)).now (record { seat = seat; step = x })))
+    × (x ≡ Step.Probe → is_some (answer_decided c (left c (es ++ more)).now (record { seat = seat; step = x }))
+    ≡ is_some (answer_decided c (left c es).now (record { seat = seat; step = x })))
+still_asks {c} es more (Caller k) x h others on admitted = (
+  caller_is_admitted c es more k x h others on admitted,
+  caller_decides_the_same c es more k x h others on admitted,
+)
+still_asks es more _ x h others on admitted = (tt, λ is. refl)
 
 -- A `give` that keeps a tidy list tidy does so after what others did since: they leave the tallies, and what these
 -- count.
@@ -259,13 +354,14 @@ longer_lists_go_on c es more e one h others =
     let last = comes_last c es e one in
     let on = enabled_still c es more e h others last.on in
     let reaches = others_leave_accesses c es more e h.within_limits h.enabled others last.on in
+    let asks = still_asks es more e.seat e.step h others last.on last.admitted in
     record {
-      history = goes_on_by c (es ++ more) e h on (still_admitted es more _ _ h others last.on last.admitted);
+      history = goes_on_by c (es ++ more) e h on asks.0;
       same = record {
         word = reaches.word;
         of_the_table = events_reach_the_table c es e h.within_limits last.before.enabled last.on;
         access = reaches.access;
-        decides = still_decides es more e.seat e.step h others last.on last.admitted;
+        decides = asks.1;
       };
       tidy = λ short long. tidy_by_last c (es ++ more) e long (give_finds es more e one h others short);
     }

@@ -5,19 +5,19 @@ use Rattle.mk_laws.proofs.Vocabulary.{IsWordOfMapped, Leaves, List, Moment, Neve
 use Rattle.mk_laws.proofs.Vocabulary.{PlacedAllocation, Seat, Stage, Step, World, ℕ, all_below-at, and_parts, ap, arith}
 use Rattle.mk_laws.proofs.Vocabulary.{at_rest, cases_eq, cases_lt, cells_under, comes_next, eqb-true, false, flight_of}
 use Rattle.mk_laws.proofs.Vocabulary.{found, get_or-set_other, get_or-set_same, get_or_past, has_bit, header_at}
-use Rattle.mk_laws.proofs.Vocabulary.{header_in, header_of, inl, inr, is_heap_store, is_release, left, left_from}
-use Rattle.mk_laws.proofs.Vocabulary.{ltb-true, never_behind, object_placed, page_met, phase_of, placed_at, progress}
-use Rattle.mk_laws.proofs.Vocabulary.{refl, set_by, slice_index, stage_behind, steps_of, storage_words, subst, sym}
-use Rattle.mk_laws.proofs.Vocabulary.{true, true≢false, word_met, words_made, [], ◌++◌, ◌+◌, ◌-◌, ◌/◌, ◌==◌, ◌∙◌, ◌∷◌}
-use Rattle.mk_laws.proofs.{Vocabulary.{◌≡◌, ◌≢◌, ◌⊎◌}, Basics.{Behind, InCall, KeptByEvents, Known, KnownWorld, Meets}}
-use Rattle.mk_laws.proofs.Basics.{Table, WorldBehind, at_first, at_its_stage, claimed_some, ends_on_pages}
-use Rattle.mk_laws.proofs.Basics.{holds_of_histories, known_world, mapped_stays, reg_table, shows_at, tally_table}
-use Rattle.mk_laws.proofs.{Basics.{view_of, zero_unless, zero_where_none}, CyclePhases.{phase_asked, phase_behind}}
-use Rattle.mk_laws.proofs.{CyclePhases.phase_moves, ForImages.{shown_claim, standing}}
-use Rattle.mk_laws.proofs.{InvariantHistories.{comes_last, histories_keep_the_invariant}, Known.{Begins, CallStep}}
-use Rattle.mk_laws.proofs.{Known.{Comes, Ends, GoesOn, Refused, Stays, Stores, call_step}, Changes.is_dirty}
-use Rattle.mk_laws.proofs.{GuardStopped.owes_in_call, InvariantJoined.told_to_zeros, LayoutReadings.free_unused}
-use Rattle.mk_laws.proofs.{Protocols.protocol_of, ReadingsKeptPlaces.put_step}
+use Rattle.mk_laws.proofs.Vocabulary.{header_of, inl, inr, is_heap_store, is_release, left, left_from, ltb-true}
+use Rattle.mk_laws.proofs.Vocabulary.{never_behind, object_placed, page_met, phase_of, placed_at, progress, refl}
+use Rattle.mk_laws.proofs.Vocabulary.{set_by, slice_index, stage_behind, steps_of, storage_words, subst, sym, true}
+use Rattle.mk_laws.proofs.Vocabulary.{true≢false, word_met, words_made, [], ◌++◌, ◌+◌, ◌-◌, ◌/◌, ◌==◌, ◌∙◌, ◌∷◌, ◌≡◌}
+use Rattle.mk_laws.proofs.Vocabulary.{◌≢◌, ◌⊎◌}
+use Rattle.mk_laws.proofs.Basics.{Behind, KeptByEvents, Known, KnownWorld, Meets, Table, WorldBehind, at_first}
+use Rattle.mk_laws.proofs.Basics.{at_its_stage, claimed_some, ends_on_pages, holds_of_histories, is_call_stage}
+use Rattle.mk_laws.proofs.Basics.{known_world, mapped_stays, reg_table, tally_table, zero_unless, zero_where_none}
+use Rattle.mk_laws.proofs.InvariantHistories.{comes_last, histories_keep_the_invariant, told_to_zeros}
+use Rattle.mk_laws.proofs.Known.{Begins, CallStep, Comes, Ends, GoesOn, Refused, Stays, Stores, call_step}
+use Rattle.mk_laws.proofs.{Changes.is_dirty, CyclePhases.phase_asked, CyclePhases.phase_behind, CyclePhases.phase_moves}
+use Rattle.mk_laws.proofs.{ForImages.shown_claim, ForImages.standing, GuardStopped.no_call, GuardStopped.owes_in_call}
+use Rattle.mk_laws.proofs.{LayoutReadings.free_unused, ReadingsKeptPlaces.put_step}
 use Rattle.mk_laws.specs.FreePages.{DirtyPagesHaveAllocations, FreePagesHaveNothing, HasNothing}
 
 -- Which steps bring a call to where it owes a dirty mark: a store and an exchange.
@@ -57,10 +57,7 @@ allocation_stays c w seat x p out a = grind (arith, put_step)
 -- While the marks are closed, up to the `release`, no call owes a mark.
 none_owes : {c : Config} {m : Moment} → Known c m → phase_of m.words ≡ 3 → (k : ℕ)
     → (flight_of m (Caller k)).stage ≡ Stage.Dirty → ⊥
-none_owes {c} {m} known three k at =
-    let call = owes_in_call k known at in
-    let shows = shows_at c (view_of m) k InCall known.orderly call.0 call.1 in
-    absurd (omega (arith, shows.0, (protocol_of c m known).stopped three k call.0 shows.1))
+none_owes known three k at = no_call known three k (owes_in_call k known at).0 (ap is_call_stage at)
 
 -- A page that is dirty after a step was so before, or the step is its dirty mark.
 dirty_since : (c : Config) (m : Moment) (seat : Seat) (x : Step) (p : ℕ)
@@ -80,9 +77,7 @@ dirty_since c m seat _ p some = inl some
 -- The step is of a caller that owes the mark.
 owes_now : (c : Config) (m : Moment) (seat : Seat) (x : Step) → Meets c m seat x → is_dirty x ≡ true
     → (k : ℕ) × (seat ≡ Caller k) × ((flight_of m (Caller k)).stage ≡ Stage.Dirty)
-owes_now c m (Caller k) Step.Dirty h is = (k, refl, at_its_stage _ _ Step.Dirty refl h.order)
-owes_now c m _ Step.Dirty h is = let kind = h.kind in cc
-owes_now c m seat _ h is = cc
+owes_now c m seat x3 h is = grind (arith, at_its_stage)
 
 -- A call that owes a mark after a step owed it before, or the step is its store.
 mark_since : {c : Config} {m : Moment} (seat : Seat) (x : Step) → Known c m → Meets c m seat x → (k : ℕ)
@@ -221,11 +216,8 @@ module _ (c : Config) (w : World) (n : NeverState) (known : KnownWorld c w) (all
       let there : a.base / 64 + (p - a.base / 64) ≡ p = omega arith in
       claimed_some w.now.words.pages _ _ shown (omega arith) (ap (header_at w.now.words) there ∙ z)
 
-  no_cells : (p : ℕ) → header_at w.now.words p ≡ 0 → cells_under (header_in w.now.words p) ≡ 0
-  no_cells p z = ap (λ h. cells_under (header_of h)) z
-
   none_freed : (p : ℕ) → header_at w.now.words p ≡ 0 → (k : ℕ) → has_bit (slice_index w.now.words.freed p) k ≡ true → ⊥
-  none_freed p z k bit = absurd (omega (arith, no_cells p z, all.order.known p k bit))
+  none_freed p z k bit = absurd (omega (arith, ap (λ h. cells_under (header_of h)) z, all.order.known p k bit))
 
   free_page : DirtyPagesHaveAllocations c w → (p : ℕ) → header_at w.now.words p ≡ 0 → HasNothing w.now.words p
   free_page dirty p z = record {

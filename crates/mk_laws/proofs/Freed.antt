@@ -1,23 +1,91 @@
--- `quar` (a) on the terrain: an object is freed, and the run that a call freed is gone.
+-- `quar` and `end` on the terrain: an object is freed, a freed run is gone, and released cells are dropped.
 use Rattle.std.proofs.Common.{map-id}
-use Rattle.mk_laws.proofs.Vocabulary.{Among, Bool, Cell, Claim, Config, Ground, HasHeader, HasLayout, Header}
-use Rattle.mk_laws.proofs.Vocabulary.{IsClaimedRun, IsShown, IsSized, IsWithinLimits, List, Mode, None, Object, OfLater}
-use Rattle.mk_laws.proofs.Vocabulary.{OfLeafRun, OfRun, Option, PlacedAllocation, RunPages, RunStands, ShowsPart, Some}
-use Rattle.mk_laws.proofs.Vocabulary.{Words, World, ℕ, all_below-at, ap, arith, cases_Bool, cell_of_allocation}
-use Rattle.mk_laws.proofs.Vocabulary.{cells_made, cells_under, claim_of, claims_of, claims_on, cond-true, eq-eqb}
-use Rattle.mk_laws.proofs.Vocabulary.{eqb-true, false, first_page_shows, freed_leaves, freed_released}
-use Rattle.mk_laws.proofs.Vocabulary.{freed_where_it_stands, ground_of, header_at, header_in, header_on, if◌then◌else◌}
-use Rattle.mk_laws.proofs.Vocabulary.{inl, inr, is_run_unmapped, is_small_object, is_unmapping, length, map, mode_of}
-use Rattle.mk_laws.proofs.Vocabulary.{not, not-true, object_placed, pages_made, pages_some, part_cells, placed_at, refl}
-use Rattle.mk_laws.proofs.Vocabulary.{run_headed, run_of_cell, small, stands, stands_in, stands_in_its_cell, subst, sym}
-use Rattle.mk_laws.proofs.Vocabulary.{true, true≢false, unmapped_header, ◌&&◌, ◌+◌, ◌/◌, ◌<◌, ◌==◌, ◌∙◌, ◌≡◌, ◌⊎◌}
+use Rattle.mk_laws.proofs.Vocabulary.{Among, Bool, Cell, Claim, Config, Drops, Ground, HasHeader, HasLayout, Header}
+use Rattle.mk_laws.proofs.Vocabulary.{IsClaimedRun, IsShown, IsWithinLimits, List, Mode, None, Object, Option}
+use Rattle.mk_laws.proofs.Vocabulary.{PlacedAllocation, RunPages, RunStands, ShowsPart, Some, Words, World, ℕ}
+use Rattle.mk_laws.proofs.Vocabulary.{all_below-at, and_parts, ap, arith, cases_Bool, cell_of_allocation, cells_under}
+use Rattle.mk_laws.proofs.Vocabulary.{claim_of, claims_of, claims_on, cond-true, eq-eqb, eqb-false, eqb-true, false}
+use Rattle.mk_laws.proofs.Vocabulary.{first_page_shows, freed_leaves, freed_released, freed_where_it_stands, ground_of}
+use Rattle.mk_laws.proofs.Vocabulary.{has_bit, has_bit_without, head_page, header_at, header_in, header_on}
+use Rattle.mk_laws.proofs.Vocabulary.{if◌then◌else◌, inl, inr, is_released_in, is_run_unmapped, is_small_object}
+use Rattle.mk_laws.proofs.Vocabulary.{is_unmapping, length, map, may_end, mode_of, no_bit, not, not-true, object_placed}
+use Rattle.mk_laws.proofs.Vocabulary.{or_cases, pages_made, pages_some, part_cells, placed_at, refl, run_headed}
+use Rattle.mk_laws.proofs.Vocabulary.{run_of_cell, set_by, slice_index, slice_set, small, stands, stands_in}
+use Rattle.mk_laws.proofs.Vocabulary.{stands_in_its_cell, subst, sym, true, true≢false, unmapped_header, used_at, ◌&&◌}
+use Rattle.mk_laws.proofs.Vocabulary.{◌+◌, ◌/◌, ◌<◌, ◌==◌, ◌||◌, ◌∙◌, ◌≡◌, ◌≢◌, ◌⊎◌}
+use Rattle.mk_laws.proofs.Claims.{LeavesCells, apart_behind, cells_behind, changed_among, claim_among, claim_is}
+use Rattle.mk_laws.proofs.{Claims.was_claim, Serving.{Laid, among_back, among_front, among_parts, apart_across}}
+use Rattle.mk_laws.proofs.Serving.{apart_joined, apart_left, apart_right, own_claim, placed_claim}
+use Rattle.mk_laws.proofs.{Unmapping.{layout_changed, shares_run}, LayoutReadings.one_claim}
+use Rattle.mk_laws.proofs.{Released.{IsStanding, all_stand}, Releasing.layout_ended}
 use Rattle.mk_core.proofs.CellsOfAllocations.{stands_in_no_other}
-use Rattle.mk_laws.proofs.Serving.{Laid, among_back, among_front, among_parts, apart_across, apart_joined, apart_left}
-use Rattle.mk_laws.proofs.Serving.{apart_right, own_claim, placed_claim}
-use Rattle.mk_laws.proofs.{Claims.LeavesCells, Claims.apart_behind, Claims.cells_behind, Claims.changed_among}
-use Rattle.mk_laws.proofs.{Claims.claim_among, Claims.claim_is, Claims.was_claim, LayoutReadings.one_claim}
-use Rattle.mk_laws.proofs.{Released.IsStanding, Released.all_stand, Unmapping.layout_changed, Unmapping.shares_run}
 use Rattle.mk_laws.specs.{LayoutScene.IsUnmappedHeaderOf, Terrain.IsCellOf}
+
+-- While the phase isn't releasing, no cell is released, whatever the snapshot, the freed cells and the marks.
+pub unreleasing : (c : Config) (o : Object) (marks other : List ℕ) (t : Ground) (freed snapshot : List ℕ)
+    → HasLayout c o false marks t → HasLayout c o false other (record t { freed = freed; snapshot = snapshot })
+unreleasing c o marks other t freed snapshot st = grind arith
+
+-- `quar` (c): released cells that aren't used are dropped
+pub dropped : (c : Config) (o : Object) (w : World) {p freed n : ℕ} → Laid c o true w (ground_of w)
+    → Drops w.now.words p freed n
+    → Laid c o true w (record (ground_of w) { snapshot = slice_set w.now.words.snapshot p n })
+dropped c o w {p = p} {n = n} st h =
+    let s = st.scene in
+    record {
+      scene = record {
+        shown = s.shown;
+        apart = s.apart;
+        used = λ q k bit. let u = s.used q k bit in (
+          u.0,
+          elim u.1 [
+            | inl own ↦ inl own
+            | inr r ↦ grind (arith, and_parts, stays)
+          ],
+        );
+        plot = s.plot;
+        occupied = s.occupied;
+        later = s.later;
+      };
+      gone = st.gone;
+      first = st.first;
+      cells = st.cells;
+    }
+  where
+    stays : (q k : ℕ) → has_bit (used_at w.now.words q) k ≡ true → has_bit (slice_index w.now.words.snapshot q) k ≡ true
+        → has_bit (slice_index (slice_set w.now.words.snapshot p n) q) k ≡ true
+    stays q k bit was =
+        set_by (λ v. has_bit v k ≡ true) w.now.words.snapshot p q n 0 (λ e. elim (cases_Bool (has_bit n k)) [
+          | inl is ↦ is
+          | inr out ↦ let lost = h.gone k (rw (← e) was) out in absurd (true≢false (sym bit ∙ rw e lost.1))
+        ]) was
+
+-- What `end` asks: no cell of a page is left, and one with a header has a used cell at its head.
+pub record IsSettledPage (w : Words) (p : ℕ) : Type 0 where
+  pub none : (k : ℕ) → is_released_in true w.snapshot w.marks p k ≡ false
+  pub used : header_at w p ≢ 0 → used_at w (head_page w p) ≢ 0
+
+pub settled_page : (w : Words) (count p : ℕ) → may_end count w ≡ true → p < count → IsSettledPage w p
+settled_page w count p h lt =
+    let occupied : Bool = (header_at w p == 0) || not (used_at w (head_page w p) == 0) in
+    let parts = and_parts _ occupied (all_below-at count p _ h lt) in
+    record {
+      none = λ k. sym (has_bit_without _ _ k) ∙ no_bit _ k (eqb-true _ 0 parts.0);
+      used = grind (arith, or_cases, eqb-true, eqb-false, not-true);
+    }
+
+-- `end`
+pub ended : (c : Config) (o : Object) (w : World) → length w.now.words.pages ≡ c.pages → Laid c o true w (ground_of w)
+    → may_end c.pages w.now.words ≡ true → Laid c o false w (ground_of w)
+ended c o w len st h = record {
+  scene = layout_ended st.scene (record {
+    none = λ p k lt. (settled_page w.now.words c.pages p h (omega (arith, len))).none k;
+    settled = λ p lt some empty. (settled_page w.now.words c.pages p h (omega (arith, len))).used some empty;
+  });
+  gone = st.gone;
+  first = st.first;
+  cells = st.cells;
+}
 
 -- Allocations whose claims change at most how far they are unmapped.
 
@@ -101,10 +169,7 @@ remoded {c} {o} {t} run g st r stands = record {
 -- the run that the header of an object's first page heads
 run_small : {o : Object} {x : Option Header} (p : ℕ) → ShowsPart o 0 x → is_small_object o ≡ true
     → run_headed x p ≡ None
-run_small p (OfRun m first large leaf) s = absurd (true≢false (sym s ∙ large))
-run_small p (OfLeafRun first large leaf) s = absurd (true≢false (sym s ∙ large))
-run_small p (OfLater m some large) s = absurd (omega arith)
-run_small p _ s = refl
+run_small p x1 s = grind arith
 
 pub run_large : {o : Object} {x : Option Header} (p : ℕ) → ShowsPart o 0 x → is_small_object o ≡ false
     → run_headed x p ≡ Some (record { page = p; count = pages_made o })
@@ -133,7 +198,6 @@ standing_cell {c} o w {cell = cell} len own st i u h =
     (first_page_shows c w.now.words a x.sized (all_stand c o false w len st own.number own.unreleased).headers) in
     let cells = part_cells (object_placed c a) (header_in w.now.words cell.page) part in
     let index : (cell_of_allocation c a).index ≡ cell.index = ap (λ (y : Cell). y.index) own.is in
-    let lt : (cell_of_allocation c a).index < cells_made (object_placed c a) = x.known in
     let known : cell.index < cells_under (header_in w.now.words cell.page) = omega arith in
     (stands_in_no_other c w.now.words (placed_at w.allocations i) cell (shown i u).sized
     (all_stand c o false w len st i u).headers known h).1
@@ -164,14 +228,11 @@ module _ (c : Config) (o : Object) (w : World) (cell : Cell) (limits : IsWithinL
       → Among (claim_of c w.now.seats.holding.freed (placed_at w.allocations i)) (claims_on c o (ground_of w))
   among i u = own_claim c o (ground_of w) _ (claim_among c w.now.seats.holding.freed w.allocations i u)
 
-  sized : IsSized (object_placed c a)
-  sized = (st.scene.shown (claim_of c w.now.seats.holding.freed a) (among own.number own.unreleased)).sized
-
   page : a.base / 64 ≡ cell.page
   page = ap (λ (x : Cell). x.page) own.is
 
   part : ShowsPart (object_placed c a) 0 (header_in w.now.words cell.page)
-  part = rw page at (first_page_shows c w.now.words a sized (stand own.number own.unreleased).headers)
+  part = grind (arith, page, first_page_shows, stand, among)
 
   cell_of : (i : ℕ) → (placed_at w.allocations i).released ≡ false → stands_in w.now.words cell
       (placed_at w.allocations i) ≡ true → cell_of_allocation c (placed_at w.allocations i) ≡ cell
@@ -194,12 +255,7 @@ module _ (c : Config) (o : Object) (w : World) (cell : Cell) (limits : IsWithinL
           → (stands_in w.now.words cell a ≡ true → is_small_object (object_placed c a) ≡ false → is_unmapping run
           (a.base / 64) ≡ true) → HasHeader (claim_of c None a).mode (object_placed c a) d h → HasHeader
           (claim_of c run (if b then record a { freed = true; fresh = true } else a)).mode (object_placed c a) d h
-      at a d h true is go has =
-          moves a.freed true (not (is_small_object (object_placed c a))) (is_unmapping run (a.base / 64))
-          (object_placed c a) d h (λ e. refl) (λ e f l. go is (not-true (is_small_object (object_placed c a)) l)) has
-      at a d h false is go has =
-          moves a.freed a.freed (not (is_small_object (object_placed c a))) (is_unmapping run (a.base / 64))
-          (object_placed c a) d h (λ e. e) (λ e f l. absurd (true≢false (sym f ∙ e))) has
+      at a d h x3 is go has = grind (arith, moves, not-true)
 
   by : (is_small_object (object_placed c a) ≡ true) ⊎ (is_small_object (object_placed c a) ≡ false) → Behind
   by (inl small) = rw (run_small cell.page part small) (remoded None frees st (modes None (λ i u h large.

@@ -1,27 +1,27 @@
 -- The run that a Free unmaps is what its register points to.
 use Rattle.mk_laws.proofs.Vocabulary.{Answer, AreAdmitted, Bool, Caller, CarriesOwn, Cell, Config, Event, Flight}
 use Rattle.mk_laws.proofs.Vocabulary.{Header, Holding, Host, ImagePremises, IsSafe, IsSound, Marker, Mirrors, Moment}
-use Rattle.mk_laws.proofs.Vocabulary.{NeverState, None, Null, Num, Op, Option, PlacedAllocation, Ptr, RunPages, Seat}
-use Rattle.mk_laws.proofs.Vocabulary.{Some, Stage, Step, Value, Words, World, ℕ, admitted_keep, after_calls, after_free}
-use Rattle.mk_laws.proofs.Vocabulary.{ap, arith, asked, at_rest, bases_of, call_decided, cases_Bool, cases_eq, cases_lt}
+use Rattle.mk_laws.proofs.Vocabulary.{NeverState, None, Null, Op, Option, PlacedAllocation, Ptr, RunPages, Seat, Some}
+use Rattle.mk_laws.proofs.Vocabulary.{Stage, Step, Value, Words, World, ℕ, admitted_keep, after_calls, after_free, ap}
+use Rattle.mk_laws.proofs.Vocabulary.{arith, asked, at_rest, bases_of, call_decided, cases_Bool, cases_eq, cases_lt}
 use Rattle.mk_laws.proofs.Vocabulary.{cell_freed, cell_of_allocation, entry_of, false, false≢true, first_page_shows}
 use Rattle.mk_laws.proofs.Vocabulary.{flight_of, found, freed_cell, get_or-set_other, get_or-set_same}
 use Rattle.mk_laws.proofs.Vocabulary.{get_or_append_left, get_or_past, header_in, heads_run, if◌then◌else◌, image_of}
 use Rattle.mk_laws.proofs.Vocabulary.{image_scene_of, inl, inr, is_decided_free, is_decided_free_at, is_small_object}
-use Rattle.mk_laws.proofs.Vocabulary.{is_undecided_free, is_undecided_new, length, length-map, ltb-true, nothing_done}
-use Rattle.mk_laws.proofs.Vocabulary.{object_placed, or_else, p_of, placed_at, pointed_cell, progress, progress_freed}
-use Rattle.mk_laws.proofs.Vocabulary.{refl, register_at, run_begins, run_headed, run_of_cell, set_by, slice_index_or}
+use Rattle.mk_laws.proofs.Vocabulary.{is_undecided_free, is_undecided_new, length, length-map, ltb-true, object_placed}
+use Rattle.mk_laws.proofs.Vocabulary.{or_else, p_of, placed_at, pointed_cell, progress, progress_freed, refl}
+use Rattle.mk_laws.proofs.Vocabulary.{register_at, run_begins, run_headed, run_of_cell, set_by, slice_index_or}
 use Rattle.mk_laws.proofs.Vocabulary.{slice_set, small_heads_none, still, subst, sym, true, typed_size, world_behind}
 use Rattle.mk_laws.proofs.Vocabulary.{◌%◌, ◌&&◌, ◌*◌, ◌+◌, ◌-◌, ◌/◌, ◌<◌, ◌∙◌, ◌≡◌, ◌≢◌, ◌⊎◌}
-use Rattle.mk_laws.proofs.Basics.{HoldsTurn, InCall, KnownWorld, Meets, Orderly, Ready, Stands, View, actor_of, base_at}
-use Rattle.mk_laws.proofs.Basics.{flight, flight_in, not_astray, ready_of, standing, standing_at, stands_of, view_of}
-use Rattle.mk_laws.proofs.{ProtocolMoves.{Takes, Works}, Standings.{Resting, Standing, UnderTurn}, Bases.IsLonger}
-use Rattle.mk_laws.proofs.{CallSorts.literal, FramesHolders.acts_as_holder, FreeMoves.pointer_cell}
-use Rattle.mk_laws.proofs.{Orderly.{holders_flight, same_holder}, Sorts.moves}
 use Rattle.mk_never.specs.Laws.{AreNotBy}
 use Rattle.mk_core.specs.{Effects.holding_behind, Order.is_of_any_holder}
+use Rattle.mk_laws.proofs.Basics.{HoldsTurn, InCall, KnownWorld, Meets, Orderly, Ready, Stands, View, actor_of, base_at}
+use Rattle.mk_laws.proofs.Basics.{flight, flight_in, not_astray, ready_of, standing, standing_at, stands_of, view_of}
+use Rattle.mk_laws.proofs.ProtocolMoves.{Enters, Gives, GoesOn, Holds, Leaves, Move as ProtocolMove, Takes, Works}
+use Rattle.mk_laws.proofs.{CallSorts.literal, FramesHolders.acts_as_holder, GrantMoves.pointer_cell}
+use Rattle.mk_laws.proofs.{ImagesBefore.page_in, ImagesMoves.IsLonger, Orderly.holders_flight, Orderly.same_holder}
+use Rattle.mk_laws.proofs.{Sorts.moves, Standings.Resting, Standings.Standing, Standings.UnderTurn}
 use Rattle.mk_laws.specs.Mirrors.{OwnsFreedRun, PointsAtRun}
-use Rattle.mk_laws.proofs.ProtocolMoves.{Enters, Gives, GoesOn, Holds, Leaves, Move as ProtocolMove, Opens, Phases}
 
 -- Only a Free that is decided unmaps a run, and that call holds the turn.
 
@@ -64,11 +64,6 @@ data WasFreed (c : Config) (w : World) (f : Flight) (run : RunPages) : Step → 
   Now : (p v : ℕ) → run_of_cell w.now.words (cell_freed c.pages w.now.words f p v) ≡ Some run
       → WasFreed c w f run (Step.Quar p v)
 
-take_freed : (b : Bool) (h : Holding) (run : RunPages) → (if b then nothing_done else h).freed ≡ Some run
-    → h.freed ≡ Some run
-take_freed true h run e = cc
-take_freed false h run e = e
-
 else_freed : (x y : Option RunPages) (run : RunPages) → or_else x y ≡ Some run → (x ≡ Some run) ⊎ (y ≡ Some run)
 else_freed None y run e = inr e
 else_freed (Some r) y run e = inl e
@@ -79,7 +74,7 @@ was_freed c w seat f (Step.Quar p v) run e = elim (else_freed _ w.now.seats.hold
   | inl new ↦ Now p v new
   | inr old ↦ Before old refl
 ]
-was_freed c w seat f x run e = grind (arith, take_freed, Before)
+was_freed c w seat f x run e = grind (arith, Before)
 
 -- Who is under the turn after a step of its own was so, where somebody had the turn.
 
@@ -101,9 +96,7 @@ was_under c v seat u k (Takes f z m) e t h = absurd (t z)
 was_under c v seat u k (Gives hold a b) e t h = holds_now c v seat k e hold
 was_under c v seat u k (Works f g hold s) e t h = holds_now c v seat k e hold
 was_under c v seat u k (Holds j hold a b d) e t h = holds_now c v seat k e hold
-was_under c v seat u k (Opens j hold a b d g) e t h = holds_now c v seat k e hold
-was_under c v seat u k (Phases g hold a b p) e t h = holds_now c v seat k e hold
-was_under c v seat u k _ e t h = h
+was_under c v seat u k x6 e t h = grind (arith, holds_now)
 
 -- At Give a holder's step but `give` leaves the call as it is.
 
@@ -114,10 +107,6 @@ give_still c m o q p r l n x h g = grind (arith, flight)
 no_run : (w : Words) (b : Bool) (run : RunPages) → run_of_cell w (if b && false then None else None) ≡ Some run → ⊥
 no_run w true run e = cc
 no_run w false run e = cc
-
-abbrev page_in : Option RunPages → ℕ
-page_in (Some r) = r.page
-page_in None = 0
 
 -- what heads a run
 headed : (h : Option Header) (page : ℕ) (run : RunPages) → run_headed h page ≡ Some run
@@ -146,7 +135,6 @@ module _ (c : Config) (w : World) (n : NeverState) (known : KnownWorld c w) (oth
       → PointsAtRun w n k r run → PointsAtRun (world_behind c w e) (never_after c w n e) k r run
   points_on e {k = k} {r = r} grows same h =
       let sound : IsSound n (Ptr h.number h.ty h.offset) = rw h.is at (mirrors.typed.registers (8 * k + r)) in
-      let there : h.number < length n.allocations = sound.0 in
       let longs = length-map w.allocations (λ (x : PlacedAllocation). x.base) in
       record {
         number = h.number;
@@ -162,8 +150,6 @@ module _ (c : Config) (w : World) (n : NeverState) (known : KnownWorld c w) (oth
       → IsSafe mirrors.safe.0 v → p ≡ image_of (bases_of w.allocations) v → p ≢ 0
       → pointed_cell c.pages w.now.words.pages p ≡ Some cell → run_of_cell w.now.words (Some cell) ≡ Some run
       → PointsAtRun w n k r run
-  run_target k r Null p cell run is sound s e ne points heads = absurd (ne e)
-  run_target k r (Num m) p cell run is sound s e ne points heads = absurd sound
   run_target k r (Ptr a t o) p cell run is sound s e ne points heads =
       let u = mirrors.safe.1.unreleased a s in
       let x = placed_at w.allocations a in
@@ -179,6 +165,7 @@ module _ (c : Config) (w : World) (n : NeverState) (known : KnownWorld c w) (oth
         | inr large ↦ (run_begins (object_placed c x) x.base large h.stands.begins).1
       ] in
       record { number = a; ty = t; offset = o; is = is; base = omega (arith, its.0) }
+  run_target k r x3 p cell run is sound s e ne points heads = grind arith
 
   new_by : (k : ℕ) (s : Stage) (o : Op) (q p r l : ℕ) (cell : Cell) (run : RunPages)
       → is_undecided_free (flight s o q p r l) ≡ true → pointed_cell c.pages w.now.words.pages p ≡ Some cell

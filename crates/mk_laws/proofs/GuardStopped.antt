@@ -1,17 +1,16 @@
 -- From `close` to `release` the marks stay closed: nothing changes but words that are wiped.
 use Rattle.std.{proofs.{Common.bit_and, lemmas.Nat.Bits.{bit_at_and, bit_at_ones}}, specs.List.{list_all}}
 use Rattle.mk_laws.proofs.Vocabulary.{AreOfPages, BlackIsGuarded, Caller, CellsAreClosed, Config, IsGuarded, Moment}
-use Rattle.mk_laws.proofs.Vocabulary.{Seat, Stage, Step, Words, ℕ, all_below, all_below-at, and_parts, ap, arith}
-use Rattle.mk_laws.proofs.Vocabulary.{cases_eq, cases_lt, cells_under, eq-eqb, eqb-true, fewer_bits, first_word}
-use Rattle.mk_laws.proofs.Vocabulary.{flight_of, get_or_past, has_bit, has_closed_page, header_at, header_in}
-use Rattle.mk_laws.proofs.Vocabulary.{holder_number, inl, inr, ltb-true, or_cases, phase_of, points_well}
-use Rattle.mk_laws.proofs.Vocabulary.{roots_point_well, slice_index, subst, sym, true, without, word_points_well, ◌<◌}
-use Rattle.mk_laws.proofs.{Vocabulary.{◌==◌, ◌||◌, ◌≡◌, ◌⊎◌}, Basics.{Behind, InCall, Known, Meets, Table}}
-use Rattle.mk_laws.proofs.Basics.{at_its_stage, at_reg, calls_stand, either_phase, headers_kind, is_astray}
-use Rattle.mk_laws.proofs.Basics.{is_call_stage, is_head, not_astray, others_held, reg_table, shows_at, standing}
-use Rattle.mk_laws.proofs.{Basics.{standing_at, tally_table, view_of, wells_from}, Changes.{at_owed, wiped}}
-use Rattle.mk_laws.proofs.{IdleMarkers.work_attends, NextSteps.{has_stage_of_its_own, stage_of}}
-use Rattle.mk_laws.proofs.Wells.{bare_word_well, is_well, well_is}
+use Rattle.mk_laws.proofs.Vocabulary.{Seat, Stage, Step, Words, ℕ, all_below, all_below-at, and_parts, arith, cases_eq}
+use Rattle.mk_laws.proofs.Vocabulary.{cases_lt, cells_under, eq-eqb, eqb-true, fewer_bits, first_word, flight_of}
+use Rattle.mk_laws.proofs.Vocabulary.{get_or_past, has_closed_page, header_at, header_in, holder_number, inl, inr}
+use Rattle.mk_laws.proofs.Vocabulary.{ltb-true, or_cases, phase_of, points_well, roots_point_well, slice_index, subst}
+use Rattle.mk_laws.proofs.Vocabulary.{sym, true, without, word_points_well, ◌<◌, ◌==◌, ◌||◌, ◌≡◌, ◌⊎◌}
+use Rattle.mk_laws.proofs.Basics.{Behind, InCall, Known, Meets, at_its_stage, at_reg, calls_stand, either_phase}
+use Rattle.mk_laws.proofs.Basics.{headers_kind, is_astray, is_call_stage, is_head, not_astray, others_held, reg_table}
+use Rattle.mk_laws.proofs.Basics.{shows_at, standing, standing_at, tally_table, view_of, wells_from}
+use Rattle.mk_laws.proofs.{Changes.{at_owed, wiped}, IdleMarkers.work_attends}
+use Rattle.mk_laws.proofs.{NextSteps.{has_stage_of_its_own, stage_of}, Wells.{bare_word_well, is_well, well_is}}
 use Rattle.mk_core.proofs.{ListTests.list_all-at, MarkTests.null_points_well, RegisterAccesses.tally_leaves_registers}
 use Rattle.mk_core.{proofs.WordBits.{without_none}, specs.Cells.{cell_bits}}
 
@@ -40,66 +39,47 @@ stays_closed {c} {w} v same h = record {
     word : (n : ℕ) → word_points_well c.pages w n ≡ true → word_points_well c.pages v n ≡ true
     word n is = elim (same.heap n) [ inl e ↦ rw e (over _ is) | inr z ↦ well_is c v _ (bare_word_well c v _ z) ]
 
--- At this phase no caller is in a call outside the turn.
-
-no_call : {c : Config} {m : Moment} (k : ℕ) → Known c m → phase_of m.words ≡ 3 → k < c.callers
-    → is_call_stage (flight_of m (Caller k)).stage ≡ true → ⊥
-no_call k known three lt at = grind (arith, shows_at, view_of, calls_stand, not_astray)
-
-no_step : {c : Config} {m : Moment} (seat : Seat) (x : Step) → Known c m → phase_of m.words ≡ 3 → Meets c m seat x
-    → has_stage_of_its_own x ≡ true → is_call_stage (stage_of x) ≡ true → ⊥
-no_step {c} {m} (Caller k) x known three h own at =
-    no_call k known three (ltb-true k c.callers h.seat) (subst (λ (s : Stage). is_call_stage s ≡ true)
-    (sym (at_its_stage _ _ x own h.order)) at)
-no_step seat x known three h own at = grind arith
-
-reg_still : {c : Config} {m : Moment} (seat : Seat) → Known c m → phase_of m.words ≡ 3 → Meets c m seat Step.Reg
-    → (Behind c m seat Step.Reg).words.registers ≡ m.words.registers
-reg_still (Caller k) known three h = grind (arith, is_call_stage, no_call, ltb-true, at_reg)
-reg_still _ known three h = let kind = h.kind in cc
-
-registers_still : {c : Config} {m : Moment} (seat : Seat) (x : Step) → Known c m → phase_of m.words ≡ 3
-    → Meets c m seat x → (Behind c m seat x).words.registers ≡ m.words.registers
-registers_still {c} {m} seat Step.Reg known three h = reg_still seat known three h
-registers_still seat x3 known three h = grind (arith, tally_leaves_registers, either_phase)
-
-globals_still : {c : Config} {m : Moment} (seat : Seat) (x : Step) → Known c m → phase_of m.words ≡ 3 → Meets c m seat x
-    → (Behind c m seat x).words.globals ≡ m.words.globals
-globals_still seat x4 known three h = grind (arith, reg_table, tally_table, no_step)
-
-heap_still : {c : Config} {m : Moment} (seat : Seat) (x : Step) → Known c m → phase_of m.words ≡ 3 → Meets c m seat x
-    → (n : ℕ) → (slice_index (Behind c m seat x).words.heap n ≡ slice_index m.words.heap n)
-    ⊎ (slice_index (Behind c m seat x).words.heap n ≡ 0)
-heap_still seat x4 known three h n = grind (arith, reg_table, tally_table, no_step, wiped)
-
-marks_still : {c : Config} {m : Moment} (seat : Seat) (x : Step) → Known c m → phase_of m.words ≡ 3 → Meets c m seat x
-    → (Behind c m seat x).words.marks ≡ m.words.marks
-marks_still {c} {m} seat Step.Reg known three h = ap (λ (t : Table). t.marks) (reg_table c m seat)
-marks_still seat x3 known three h = grind (arith, tally_table, eqb-true, either_phase, work_attends)
-
 -- no header is stored
 no_head : (n : ℕ) → n ≡ 3 → ((n == 0) || (n == 1) || (n == 4)) ≡ true → ⊥
 no_head n three h = grind (arith, or_cases, either_phase, eqb-true)
 
-headers_still : (c : Config) (m : Moment) (seat : Seat) (x : Step) → phase_of m.words ≡ 3 → Meets c m seat x → (p : ℕ)
-    → header_at (Behind c m seat x).words p ≡ header_at m.words p
-headers_still c m seat (Step.Head q n) three h p = absurd (no_head _ three h.phase)
-headers_still c m seat x three h p = grind (arith, is_head, headers_kind)
+module _ {c : Config} {m : Moment} (known : Known c m) (three : phase_of m.words ≡ 3) where
+  -- At this phase no caller is in a call outside the turn.
+  pub no_call : (k : ℕ) → k < c.callers → is_call_stage (flight_of m (Caller k)).stage ≡ true → ⊥
+  no_call k lt at = grind (arith, shows_at, view_of, calls_stand, not_astray)
 
-pub leaves_closed : {c : Config} {m : Moment} (seat : Seat) (x : Step) → Known c m → phase_of m.words ≡ 3
-    → Meets c m seat x → LeavesClosed m.words (Behind c m seat x).words
-leaves_closed seat x known three h =
-    grind (arith, registers_still, globals_still, headers_still, marks_still, heap_still)
+  no_step : (seat : Seat) (x : Step) → Meets c m seat x → has_stage_of_its_own x ≡ true
+      → is_call_stage (stage_of x) ≡ true → ⊥
+  no_step (Caller k) x h own at = no_call k (ltb-true k c.callers h.seat)
+      (subst (λ (s : Stage). is_call_stage s ≡ true) (sym (at_its_stage _ _ x own h.order)) at)
+  no_step seat x h own at = grind arith
+
+  reg_still : (seat : Seat) → Meets c m seat Step.Reg → (Behind c m seat Step.Reg).words.registers ≡ m.words.registers
+  reg_still (Caller k) h = grind (arith, is_call_stage, no_call, ltb-true, at_reg)
+  reg_still _ h = let kind = h.kind in cc
+
+  registers_still : (seat : Seat) (x : Step) → Meets c m seat x
+      → (Behind c m seat x).words.registers ≡ m.words.registers
+  registers_still seat Step.Reg h = reg_still seat h
+  registers_still seat x3 h = grind (arith, tally_leaves_registers, either_phase)
+
+  pub leaves_closed : (seat : Seat) (x : Step) → Meets c m seat x → LeavesClosed m.words (Behind c m seat x).words
+  leaves_closed seat Step.Reg h = grind (arith, registers_still, reg_table)
+  leaves_closed seat (Step.Head q n) h = absurd (no_head _ three h.phase)
+  leaves_closed seat x h = record {
+    registers = registers_still seat x h;
+    globals = grind (arith, tally_table, no_step);
+    headers = λ p. grind (arith, is_head, headers_kind);
+    marks = grind (arith, tally_table, eqb-true, either_phase, work_attends);
+    heap = λ n. grind (arith, tally_table, no_step, wiped);
+  }
 
 -- `close`: no dirty word, nothing owed, marked cells black; so the marks are closed.
 
 -- A call that owes a dirty mark is a caller's, outside the turn.
 pub owes_in_call : {c : Config} {m : Moment} (j : ℕ) → Known c m → (flight_of m (Caller j)).stage ≡ Stage.Dirty
     → (j < c.callers) × (standing (flight_of m (Caller j)) ≡ InCall)
-owes_in_call {c} j known at = elim (cases_lt j c.callers) [
-  | inr past ↦ grind (arith, get_or_past)
-  | inl lt ↦ grind (arith, is_astray, standing_at, not_astray, calls_stand)
-]
+owes_in_call j known at = grind (arith, cases_lt, get_or_past, is_astray, standing_at, not_astray, calls_stand)
 
 -- where a `close` is enabled, no call owes a dirty word
 none_owes : {c : Config} {m : Moment} (seat : Seat) (j : ℕ) → Known c m → Meets c m seat Step.Close
@@ -126,10 +106,6 @@ record ClosedPage (w : Words) (p : ℕ) : Type 0 where
 closed_page : (w : Words) (p : ℕ) → has_closed_page w p ≡ true → ClosedPage w p
 closed_page w p h = record { black = eqb-true _ 0 (and_parts _ _ h).0; clean = eqb-true _ 0 (and_parts _ _ h).1 }
 
-black_bit : {w : Words} {p : ℕ} (k : ℕ) → ClosedPage w p → k < cells_under (header_in w p)
-    → has_bit (slice_index w.marks p) k ≡ true → has_bit (slice_index w.blacks p) k ≡ true
-black_bit k h lt is = grind (arith, fewer_bits, without_none, eq-eqb, bit_at_and, bit_at_ones, eqb-true)
-
 pub closed : (c : Config) (m : Moment) (seat : Seat) → Known c m → AreOfPages c.pages m.words
     → Meets c m seat Step.Close → BlackIsGuarded c m → CellsAreClosed c m.words
 closed c m seat known len h black = record {
@@ -137,7 +113,8 @@ closed c m seat known len h black = record {
   globals = λ g. list_all-at _ m.words.globals 0 roots.1 (null_points_well c m.words) g;
   words = λ cell i lt is scanned li.
       let there = page cell.page (in_heap cell.page cell.index lt) in
-      settled _ (black cell.page cell.index i lt (black_bit cell.index there lt is) scanned li);
+      settled _ (black cell.page cell.index i lt (
+      grind (arith, fewer_bits, without_none, eq-eqb, bit_at_and, bit_at_ones, eqb-true)) scanned li);
 }
   where
     parts : (all_below c.pages (has_closed_page m.words) ≡ true) × (roots_point_well c.pages m.words ≡ true)
@@ -153,8 +130,5 @@ closed c m seat known len h black = record {
     in_heap : (p k : ℕ) → k < cells_under (header_in m.words p) → p < c.pages
     in_heap p k lt = grind (arith, cases_lt, get_or_past)
 
-    dirty : (p : ℕ) → slice_index m.words.dirty p ≡ 1 → ⊥
-    dirty p one = grind (arith, cases_lt, page, get_or_past)
-
     settled : (n : ℕ) → IsGuarded c m n → word_points_well c.pages m.words n ≡ true
-    settled n x2 = grind (arith, dirty, none_owes)
+    settled n x2 = grind (arith, none_owes, cases_lt, page, get_or_past)

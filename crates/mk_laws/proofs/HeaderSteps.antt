@@ -1,7 +1,7 @@
 -- What an event may do to headers while a call of another seat is in flight outside the turn: it unmaps no page.
-use Rattle.mk_laws.proofs.Vocabulary.{Caller, Config, List, Moment, Page, Seat, Step, Tally, Words, ℕ, all_below-at, ap}
-use Rattle.mk_laws.proofs.Vocabulary.{arith, cases_eq, cases_lt, eqb-true, false, free_page, get_or-set_other}
-use Rattle.mk_laws.proofs.Vocabulary.{get_or-set_same, header_at, header_in, header_of, inl, inr, is_held, is_number_of}
+use Rattle.mk_laws.proofs.Vocabulary.{Caller, Config, List, Moment, Page, Seat, Step, Words, ℕ, all_below-at, ap, arith}
+use Rattle.mk_laws.proofs.Vocabulary.{cases_eq, cases_lt, eqb-true, false, free_page, get_or-set_other, get_or-set_same}
+use Rattle.mk_laws.proofs.Vocabulary.{header_at, header_in, header_of, inl, inr, is_held, is_number_of}
 use Rattle.mk_laws.proofs.Vocabulary.{is_unmapped_header, length, not, not-true, or_cases, others_are_held, set_by}
 use Rattle.mk_laws.proofs.Vocabulary.{set_past, slice_index, slice_index_or, slice_set, true, used_at, ◌<◌, ◌||◌, ◌∙◌}
 use Rattle.mk_laws.proofs.{Vocabulary.{◌≡◌, ◌≢◌}, Basics.{Behind, Meets}}
@@ -34,10 +34,7 @@ not_unmapped c w seat k v lt ne one h = elim (or_cases _ _ h) [
 pub header_step : (c : Config) (m : Moment) (seat : Seat) (x : Step) (k : ℕ) → Meets c m seat x → k < c.callers
     → seat ≢ Caller k → slice_index m.words.gates k ≡ 1 → HeaderStep m.words (Behind c m seat x).words.pages
 header_step c m seat (Step.Head p v) k h lt ne one = SetsHeader p v (not_unmapped c m.words seat k v lt ne one h.gates)
-header_step c m seat (Step.Used p v) k h lt ne one = SetsUsed p v
-header_step c m seat (Step.Tally n v) k h lt ne one = rw (tally_leaves m.words n v).pages KeepsPages
-header_step c m seat Step.Reg k h lt ne one = rw (register_leaves m.words _ _ _).pages KeepsPages
-header_step c m seat _ k h lt ne one = KeepsPages
+header_step c m seat x4 k h lt ne one = grind (arith, tally_leaves, register_leaves, SetsUsed, KeepsPages)
 
 -- a page's header after a change of one page
 pub page_set : (ps : List Page) (p q : ℕ) (x : Page) → (P : ℕ → Type 0) → (p < length ps → P x.header)

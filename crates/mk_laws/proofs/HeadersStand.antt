@@ -8,9 +8,9 @@ use Rattle.mk_laws.proofs.Vocabulary.{cells_under, claim_of, claims_of, class_kn
 use Rattle.mk_laws.proofs.Vocabulary.{false_from_ne_true, free_page, get_or, has_bit, header_at, header_made, inl, inr}
 use Rattle.mk_laws.proofs.Vocabulary.{is_mapped, is_released_in, is_small_object, large_cells, large_is_not_small}
 use Rattle.mk_laws.proofs.Vocabulary.{large_words, later_cells, length, mode_of, not, object_placed, pages_made}
-use Rattle.mk_laws.proofs.Vocabulary.{pages_some, placed_at, refl, run_begins, run_header, shows_on, slice_index_or}
-use Rattle.mk_laws.proofs.Vocabulary.{small, small_cells, small_pages, small_words, standing_has_storage, stands}
-use Rattle.mk_laws.proofs.Vocabulary.{stands_on, storage_is_of, storage_of, storage_words, subst, suc, sym, taken, true}
+use Rattle.mk_laws.proofs.Vocabulary.{pages_some, placed_at, refl, run_header, shows_on, slice_index_or, small}
+use Rattle.mk_laws.proofs.Vocabulary.{small_cells, small_pages, small_words, standing_has_storage, stands, stands_on}
+use Rattle.mk_laws.proofs.Vocabulary.{storage_is_of, storage_of, storage_words, subst, suc, sym, taken, true}
 use Rattle.mk_laws.proofs.Vocabulary.{true≢false, unreleased_storage, used_at, word_of, words_within, zero, [], ◌%◌}
 use Rattle.mk_laws.proofs.Vocabulary.{◌&&◌, ◌*◌, ◌+◌, ◌-◌, ◌/◌, ◌<◌, ◌^◌, ◌∙◌, ◌∷◌, ◌≡◌, ◌≤◌, ◌⊎◌}
 use Rattle.mk_laws.proofs.Apart.{Lies, Rests, index_is, lie_apart, lie_in_pairs, lies, on_its_pages, quiet_scene}
@@ -40,10 +40,7 @@ laid_out {c} {w} {xs} r = record {
 one_bit : (n : ℕ) → has_bit n 0 ≡ true → ((k : ℕ) → has_bit n k ≡ true → k ≡ 0) → n ≡ 1
 one_bit n low only = same_from_bits n 1 (λ k. elim (cases_eq k 0) [
   | inl z ↦ ap (bit_at n) z ∙ bit_is_one n 0 low ∙ sym (bit_at_lowest 1) ∙ ap (bit_at 1) (sym z)
-  | inr ne ↦ elim (cases_Bool (has_bit n k)) [
-    | inl is ↦ absurd (ne (only k is))
-    | inr out ↦ bit_is_none n k out ∙ sym (bit_at_above 1 1 k (omega arith) (omega arith))
-  ]
+  | inr ne ↦ grind (arith, bit_is_none, bit_at_above)
 ])
 
 unmapped_run : (count : ℕ) (leaf : Bool) (d : ℕ) → run_header count false false d ≡ run_header count false leaf d
@@ -123,7 +120,6 @@ module _ (c : Config) (w : Words) (xs : List PlacedAllocation) (i p : ℕ) (r : 
   run_words : (d : ℕ) → is_small_object o ≡ false → d < pages_made o → a.base / 64 + d ≡ p → PageStands
   run_words d large ld at =
       let s : Storage = storage_of c a in
-      let first = (run_begins o a.base large x.begins).1 in
       let words : storage_words c a ≡ 64 * pages_made o = large_words o large in
       let count : s.words / 64 ≡ pages_made o = omega arith in
       let distance : p - first_page s ≡ d = omega arith in
@@ -241,8 +237,6 @@ nothing_there {c} {w} {xs} p r z s inside stands =
     let a : PlacedAllocation = placed_at xs h.number in
     let x = lies r h.number h.unreleased in
     let range = on_its_pages c a p x.shown.sized x.begins (rw h.storage at stands) in
-    let low = range.0 in
-    let high = range.1 in
     let at : a.base / 64 + (p - a.base / 64) ≡ p = omega arith in
     claimed_some w.pages _ _ x.shown (omega arith) (ap (header_at w) at ∙ z)
 

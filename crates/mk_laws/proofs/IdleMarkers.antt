@@ -1,14 +1,10 @@
 -- A marker that doesn't attend is in the middle of nothing, and stays so.
-use Rattle.mk_laws.proofs.Vocabulary.{Word, ℕ, and_parts, ap, behind_mlook, cases_Bool, cell_seen, false, has_next_word}
-use Rattle.mk_laws.proofs.Vocabulary.{inl, inr, is_attending, is_scanned, is_some, marker_behind, marker_may, refl, sym}
-use Rattle.mk_laws.proofs.{Vocabulary.{true, ◌∙◌, ◌≡◌}, ProtocolMoves.IdlesOutside}
-use Rattle.mk_laws.proofs.Vocabulary.{Bool, Config, IsIdle, MarkerState as Marker, None, Option, SeenHeader, Some, Step}
+use Rattle.mk_laws.proofs.Vocabulary.{Bool, Config, IsIdle, MarkerState as Marker, Step, Word, ℕ, and_parts, ap, arith}
+use Rattle.mk_laws.proofs.Vocabulary.{behind_mlook, cases_Bool, false, has_next_word, inl, inr, is_attending}
+use Rattle.mk_laws.proofs.Vocabulary.{is_scanned, marker_behind, marker_may, refl, sym, true, ◌∙◌, ◌≡◌}
+use Rattle.mk_laws.proofs.ProtocolMoves.{IdlesOutside}
 
 -- what a marker has only while it attends
-
-none_seen : (c : Config) (s : Option SeenHeader) → is_some (cell_seen c s None) ≡ false
-none_seen c (Some s) = refl
-none_seen c None = refl
 
 attends : (x : Marker) → IdlesOutside x → (b : Bool) → b ≡ true → (IsIdle x → b ≡ false)
     → is_attending x.presence ≡ true
@@ -29,8 +25,7 @@ pub work_attends : (c : Config) (x : Marker) (s : Step) → IdlesOutside x → m
 work_attends c x (Step.Mlook w) h m k = (and_parts _ _ m).0
 work_attends c x (Step.Claim p i) h m k = (and_parts _ _ (and_parts _ _ m).0).0
 work_attends c x Step.Mload h m k = attends x h _ (and_parts _ _ m).0 (λ i. ap has_next_word i.scan)
-work_attends c x Step.Mmark h m k =
-    attends x h _ m (λ i. ap (λ (v : Option ℕ). is_some (cell_seen c x.seen v)) i.hand ∙ none_seen c x.seen)
+work_attends c x Step.Mmark h m k = grind (arith, attends)
 work_attends c x Step.Mblack h m k = attends x h _ (and_parts _ _ m).0 (λ i. ap is_scanned i.scan)
 work_attends c x _ h m k = cc
 

@@ -1,10 +1,10 @@
--- The moves of the images: what an event may do to what they read.
+-- The moves of the images: what an event may do to what they read. Bases are added after the others, and stay.
 use Rattle.mk_laws.proofs.Vocabulary.{Bool, CarriesOwn, Flight, ImageScene, IsSafe, IsSafeSet, List, NeverState}
 use Rattle.mk_laws.proofs.Vocabulary.{PlacedAllocation, ProbedOwn, Ptr, Stage, Value, ℕ, address_of, allocation_at}
-use Rattle.mk_laws.proofs.Vocabulary.{bases_of, d_of, false, flight_among, image_of, is_past_probe, is_put, is_unmapped}
-use Rattle.mk_laws.proofs.Vocabulary.{kinds_of, length, list_any, placed_at, shown, slice_index, slice_set, true}
-use Rattle.mk_laws.proofs.Vocabulary.{with_freed, with_global, with_new, with_register, with_word, words_of, [], ◌*◌}
-use Rattle.mk_laws.proofs.Vocabulary.{◌++◌, ◌+◌, ◌<◌, ◌∷◌, ◌≡◌, ◌≢◌}
+use Rattle.mk_laws.proofs.Vocabulary.{append-nil, arith, bases_of, d_of, false, flight_among, image_of, is_past_probe}
+use Rattle.mk_laws.proofs.Vocabulary.{is_put, is_unmapped, kinds_of, length, list_any, map-append, placed_at, shown}
+use Rattle.mk_laws.proofs.Vocabulary.{slice_index, slice_set, sym, true, with_freed, with_global, with_new}
+use Rattle.mk_laws.proofs.Vocabulary.{with_register, with_word, words_of, [], ◌*◌, ◌++◌, ◌+◌, ◌<◌, ◌∙◌, ◌∷◌, ◌≡◌, ◌≢◌}
 use Rattle.mk_core.specs.Calls.{is_same_stage}
 
 -- nothing is carried, and nothing owed
@@ -84,3 +84,14 @@ pub data Move (safe : ℕ → Bool) (s : ImageScene) (n : NeverState) : ImageSce
       → ((a : ℕ) → (placed_at xs a).released ≡ false → (placed_at s.allocations a).released ≡ false)
       → SameFreed s.allocations xs → (kept : ℕ → Bool) → IsSafeSet kept xs n
       → Move safe s n (record s { allocations = xs }) n
+
+pub record IsLonger (xs ys : List ℕ) : Type 0 where
+  pub more : List ℕ
+  pub is : ys ≡ xs ++ more
+
+same : (xs ys : List ℕ) → ys ≡ xs → IsLonger xs ys
+same xs ys e = record { more = []; is = e ∙ sym (append-nil xs) }
+
+pub bases_grow : {safe : ℕ → Bool} {s t : ImageScene} {n m : NeverState} → Move safe s n t m
+    → IsLonger (bases_of s.allocations) (bases_of t.allocations)
+bases_grow x0 = grind (arith, map-append, same, append-nil)

@@ -96,11 +96,10 @@ pub black_kept : {c : Config} {m n : Moment} → Keeps c m n → NewCellsAreGuar
     ⊎ ((i : ℕ) → k < cells_under (header_in m.words p) → has_no_pointers (header_in m.words p) ≡ false
     → i < words_under (header_in m.words p) → IsGuarded c m (64 * p + k * words_under (header_in m.words p) + i)))
     → BlackIsGuarded c m → BlackIsGuarded c n
-black_kept {c} {m} {n} keeps new more h p k i cell is scanned lt = elim
-    (cases_eq (cells_under (header_in m.words p)) 0) [
-      | inl none ↦ new p k i none cell lt
-      | inr some ↦ elim (more p k is) [
-        | inl old ↦ cell_kept p k i keeps some (λ a b d. h p k i a old b d) cell scanned lt
-        | inr guarded ↦ cell_kept p k i keeps some (guarded i) cell scanned lt
-      ]
-    ]
+black_kept {c} {m} {n} keeps new more h p k i cell is scanned lt = elim (cases_eq _ 0) [
+  | inl none ↦ new p k i none cell lt
+  | inr some ↦ elim (more p k is) [
+    | inl old ↦ cell_kept p k i keeps some (λ a b d. h p k i a old b d) cell scanned lt
+    | inr guarded ↦ cell_kept p k i keeps some (guarded i) cell scanned lt
+  ]
+]

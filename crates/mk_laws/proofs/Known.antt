@@ -1,16 +1,16 @@
 -- All that is known of a moment after an enabled list, of whatever calls.
-use Rattle.mk_laws.proofs.Vocabulary.{Answer, AreEnabled, AreEnabledFrom, AreOfPages, Bool, Caller, Cell, Config, Event}
-use Rattle.mk_laws.proofs.Vocabulary.{Flight, Holds, IsEnabled, IsWithinLimits, List, Moment, None, Op, Option}
-use Rattle.mk_laws.proofs.Vocabulary.{Progress, Seat, Some, Stage, Step, World, ℕ, access, accessed_lengths, and_parts}
-use Rattle.mk_laws.proofs.Vocabulary.{at_rest, begun, d_of, enabled_meets, false, first_moment, first_world, flight_of}
-use Rattle.mk_laws.proofs.Vocabulary.{found, g_of, has_operands, if◌then◌else◌, inl, inr, is_heap_store, is_in_range}
-use Rattle.mk_laws.proofs.Vocabulary.{left, left_from, ltb-true, onward, p_of, progress, progress_freed, progress_p}
-use Rattle.mk_laws.proofs.Vocabulary.{progress_q, progress_read, progress_reg, q_of, r_of, refl, refused, register_met}
-use Rattle.mk_laws.proofs.Vocabulary.{set_by, slice_index_or, true, word_accessed, world_behind, zero_lengths, [], ◌<◌}
-use Rattle.mk_laws.proofs.{Vocabulary.{◌==◌, ◌∙◌, ◌∷◌, ◌≡◌, ◌≢◌, ◌≤◌, ◌⊎◌}, OrderlyLists.{at_first, not_astray}}
+use Rattle.mk_laws.proofs.Vocabulary.{Answer, AreEnabled, AreEnabledFrom, AreOfPages, Bool, Caller, Config, Event}
+use Rattle.mk_laws.proofs.Vocabulary.{Flight, Holds, IsEnabled, IsWithinLimits, List, Moment, None, Op, Progress, Seat}
+use Rattle.mk_laws.proofs.Vocabulary.{Some, Stage, Step, World, ℕ, access, accessed_lengths, and_parts, arith, at_rest}
+use Rattle.mk_laws.proofs.Vocabulary.{begun, d_of, enabled_meets, false, first_moment, first_world, flight_of, found}
+use Rattle.mk_laws.proofs.Vocabulary.{g_of, has_operands, if◌then◌else◌, inl, inr, is_heap_store, is_in_range, left}
+use Rattle.mk_laws.proofs.Vocabulary.{left_from, ltb-true, onward, p_of, progress, progress_p, progress_q}
+use Rattle.mk_laws.proofs.Vocabulary.{progress_read, progress_reg, q_of, r_of, refl, refused, register_met, set_by}
+use Rattle.mk_laws.proofs.Vocabulary.{slice_index_or, true, word_accessed, world_behind, zero_lengths, [], ◌<◌, ◌==◌}
+use Rattle.mk_laws.proofs.{Vocabulary.{◌∙◌, ◌∷◌, ◌≡◌, ◌≢◌, ◌≤◌, ◌⊎◌}, OrderlyLists.{at_first, not_astray}}
 use Rattle.mk_laws.proofs.{OrderlyLists.{orderly_at_first, orderly_behind}, Standings.{in_turn_told, under_turn_is}}
 use Rattle.mk_laws.proofs.{Actors.Meets, Orderly.Orderly, SameWords.Behind, Views.{HoldsTurn, view_of}}
-use Rattle.mk_core.specs.{Calls.has_type, Effects.moment_behind}
+use Rattle.mk_core.specs.Effects.{moment_behind}
 
 -- The operands of each call in flight are in range.
 
@@ -56,10 +56,6 @@ read_step : (f : Flight) (x : Step) (o : Op) (n : ℕ) → is_heap_store x ≡ f
 read_step f x (Op.GetPtr d q i) n off = GoesOn (record f { loaded = n }) refl refl off
 read_step f x _ n off = GoesOn f refl refl off
 
-freed_step : (f : Flight) (x : Step) (cell : Option Cell) → CallStep f x (progress_freed f cell).flight
-freed_step f x (Some cell) = Comes f Stage.Give refl (λ e. cc)
-freed_step f x None = Stays
-
 -- all kinds
 pub call_step : (c : Config) (m : Moment) (f : Flight) (n : ℕ) (x : Step) → CallStep f x (progress c m f n x).flight
 call_step c m f n (Step.Enter o) = either (n == 0) _ _ (Begins o (inl refl)) Stays
@@ -75,7 +71,7 @@ call_step c m f n Step.Getg = GoesOn (record f { loaded = n }) refl refl refl
 call_step c m f n Step.Setg = GoesOn f refl refl refl
 call_step c m f n Step.Dirty = GoesOn f refl refl refl
 call_step c m f n (Step.Look x) = either _ _ _ (Comes f Stage.Give refl (λ e. cc)) Stays
-call_step c m f n (Step.Quar p v) = freed_step f (Step.Quar p v) _
+call_step c m f n (Step.Quar p v) = grind (arith, Comes, Stays)
 call_step c m f n Step.Grant = Comes f Stage.Give refl (λ e. cc)
 call_step c m f n Step.Full = Comes f Stage.Give refl (λ e. cc)
 call_step c m f n _ = Stays
@@ -110,25 +106,11 @@ pub record Operands (o : Op) : Type 0 where
   pub g : g_of o < 64
 
 pub operands_of : (c : Config) (o : Op) → has_operands c o ≡ true → Operands o
-operands_of c o h =
-    let g = and_parts _ _ (and_parts _ (has_type c o) h).0 in
-    let d = and_parts _ _ g.0 in
-    let r = and_parts _ _ d.0 in
-    let p = and_parts _ _ r.0 in
-    record {
-      q = ltb-true (q_of o) 8 p.0;
-      p = ltb-true (p_of o) 8 p.1;
-      r = ltb-true (r_of o) 8 r.1;
-      d = ltb-true (d_of o) 8 d.1;
-      g = ltb-true (g_of o) 64 g.1;
-    }
+operands_of c o h = grind (arith, and_parts, ltb-true)
 
 -- the register that a `reg` step meets is one of the eight
 pub register_small : (f : Flight) (s : Stage) → Operands f.op → register_met f s < 8
-register_small f Stage.LoadQ h = h.q
-register_small f Stage.LoadP h = h.p
-register_small f Stage.LoadR h = h.r
-register_small f _ h = h.d
+register_small f x1 h = grind arith
 
 pub record Known (c : Config) (m : Moment) : Type 0 where
   pub small : c.callers ≤ 16

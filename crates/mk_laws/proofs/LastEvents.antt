@@ -1,4 +1,5 @@
 -- What is known of the last event of a history, and of what it leaves.
+use Rattle.std.proofs.Common.{arith}
 use Rattle.mk_laws.proofs.Vocabulary.{AreAdmitted, AreEnabledFrom, Config, Decided, Event, Invariant, IsEnabled}
 use Rattle.mk_laws.proofs.Vocabulary.{IsHistory, List, MeetsAll, admitted_in_parts, append-nil, asked, call_decided}
 use Rattle.mk_laws.proofs.Vocabulary.{calls_from, earlier_part_is_history, enabled_in_parts, enabled_meets, left}

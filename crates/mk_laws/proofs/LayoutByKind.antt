@@ -16,10 +16,11 @@ use Rattle.mk_laws.proofs.{Vocabulary.{◌==◌, ◌^◌, ◌∙◌, ◌∷◌, 
 use Rattle.mk_laws.proofs.Basics.{WorldBehind, first_header, free_has_turn, gone_terrain, grants_new, holding_object}
 use Rattle.mk_laws.proofs.Basics.{made_sized, new_has_turn, no_run, none_on_its_way, page_within, placed_undecided}
 use Rattle.mk_laws.proofs.Basics.{reg_leaves_ground, tally_ground, with_header_on, with_used_on}
-use Rattle.mk_laws.proofs.{Dropped.{dropped, ended, unreleasing}, LayoutHolders.{giver_has_turn, seat_operands}}
-use Rattle.mk_laws.proofs.Serving.{head_carves, head_empties, head_unmaps, mark_places, used_gives_back, used_takes}
-use Rattle.mk_laws.proofs.{Claims.cells_behind, Freed.freed_terrain, Granted.granted_terrain, Ground.with_quarantine}
-use Rattle.mk_laws.proofs.{LayoutBefore.{LaidBehind, LaidNow}, Released.released_terrain, Sorts.chosen_none}
+use Rattle.mk_laws.proofs.Freed.{dropped, ended, freed_terrain, unreleasing}
+use Rattle.mk_laws.proofs.{LayoutHolders.{giver_has_turn, seat_operands}, Serving.{head_carves, head_empties}}
+use Rattle.mk_laws.proofs.{Serving.{head_unmaps, mark_places, used_gives_back, used_takes}, Claims.cells_behind}
+use Rattle.mk_laws.proofs.{Granted.granted_terrain, Ground.with_quarantine, LayoutBefore.{LaidBehind, LaidNow}}
+use Rattle.mk_laws.proofs.{Released.released_terrain, Sorts.chosen_none}
 use Rattle.mk_core.proofs.RegisterAccesses.{LeavesTable}
 
 -- with another quarantine word of a page

@@ -3,10 +3,10 @@ use Rattle.mk_laws.proofs.Vocabulary.{Caller, Config, IsSized, IsWithinLimits, M
 use Rattle.mk_laws.proofs.Vocabulary.{Some, Stage, Step, arith, flight_of, has_operands, has_place, header_made}
 use Rattle.mk_laws.proofs.Vocabulary.{is_undecided_free, is_undecided_new, ltb-true, made_shows, object_made}
 use Rattle.mk_laws.proofs.Vocabulary.{object_now, pages_some, part_not_free, refl, seat_exists, sym, true, ◌-◌, ◌∙◌}
-use Rattle.mk_laws.proofs.{Vocabulary.{◌≡◌, ◌≢◌}, Actors.{Actor, AsHolder, AsMarker, InCallOf, Meets, is_holders}}
-use Rattle.mk_laws.proofs.{Views.{HoldsTurn, flight_is, view_of}, Known.Known, Orderly.holders_flight}
-use Rattle.mk_laws.proofs.{OrderlyLists.actor_of, Stages.new_stands}
+use Rattle.mk_laws.proofs.Vocabulary.{◌≡◌, ◌≢◌}
 use Rattle.mk_core.proofs.GrantedAllocations.{new_sized}
+use Rattle.mk_laws.proofs.{Actors.Actor, Actors.Meets, Actors.is_holders, Known.Known, Orderly.holders_flight}
+use Rattle.mk_laws.proofs.{OrderlyLists.actor_of, Stages.new_stands, Views.HoldsTurn, Views.flight_is, Views.view_of}
 
 pub new_has_turn : (c : Config) (m : Moment) (seat : Seat) → seat_exists c seat ≡ true
     → is_undecided_new (flight_of m seat) ≡ true → HoldsTurn c (view_of m) seat
@@ -22,10 +22,7 @@ free_has_turn c m _ there u = cc
 
 pub acts_as_holder : (c : Config) (m : Moment) (seat : Seat) (x : Step) → Actor c m seat x → is_holders x ≡ true
     → HoldsTurn c (view_of m) seat
-acts_as_holder c m seat x (InCallOf k _ lt g) is = grind arith
-acts_as_holder c m seat x (AsMarker k _ lt g) is = grind arith
-acts_as_holder c m seat x (AsHolder _ _ t n) is = t
-acts_as_holder c m seat x _ is = cc
+acts_as_holder c m seat x x4 is = grind arith
 
 pub giver_has_turn : (c : Config) (m : Moment) (seat : Seat) → Known c m → Meets c m seat Step.Give
     → HoldsTurn c (view_of m) seat

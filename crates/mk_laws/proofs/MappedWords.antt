@@ -34,7 +34,6 @@ pub word_of_unreleased : {c : Config} (w : Words) {xs : List PlacedAllocation} {
     → IsWordOfMapped c (map (with_released c w) xs) n
 word_of_unreleased {c} w {xs = xs} {n = n} limits m stands headers kept =
     let a : PlacedAllocation = placed_at xs m.number in
-    let stays = released_where_left c w a limits stands headers ∙ kept in
     let unmapped : Bool = a.freed && is_large (kinds_of c.types a.ty) in
-    word_of_changed (released_leaves c w) m (and_from _ (not unmapped) (ap not stays)
-    (and_parts _ (not unmapped) m.mapped).1)
+    word_of_changed (released_leaves c w) m (and_from _ (not unmapped)
+    (ap not (released_where_left c w a limits stands headers ∙ kept)) (and_parts _ (not unmapped) m.mapped).1)

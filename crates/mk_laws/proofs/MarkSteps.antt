@@ -11,7 +11,7 @@ use Rattle.mk_laws.proofs.Vocabulary.{seen_page, shown, slice_index, slice_index
 use Rattle.mk_laws.proofs.Vocabulary.{words_within, zero, ◌%◌, ◌*◌, ◌+◌, ◌/◌, ◌<◌, ◌^◌, ◌||◌, ◌∙◌, ◌≡◌}
 use Rattle.mk_laws.proofs.Basics.{Behind, Came, IsNew, Stayed, Table, WorldBehind, reg_table, same_cell, tally_table}
 use Rattle.mk_laws.proofs.Precise.{IsPrecise, PointsOnlyInto, Steps, came_behind, points_before}
-use Rattle.mk_laws.proofs.{Worlds.{comes_back, headers, sized, stands}, GuardOneEvent.{left_fails, seen_cell}}
+use Rattle.mk_laws.proofs.{Worlds.{comes_back, headers, sized, stands}, GuardHistories.{left_fails, seen_cell}}
 use Rattle.mk_geom.proofs.PointedCells.{address_points_into}
 use Rattle.mk_core.proofs.{WordBits.{bit_of_cell, bit_of_power, more_bits}, ChangedAllocations.granted_at}
 use Rattle.mk_core.proofs.{RegisterAccesses.register_is_small, ServingSteps.place_marked}

@@ -1,18 +1,17 @@
 -- The place of an undecided New lies in the heap.
 use Rattle.std.proofs.Common.{leb-false}
-use Rattle.mk_laws.proofs.Vocabulary.{Bool, Caller, Chosen, Config, Flight, Granted, Ground, Holding, List, Moment}
-use Rattle.mk_laws.proofs.Vocabulary.{None, Op, Option, Page, Place, Placing, Seat, Some, Stage, Step, Unplaced, Used}
-use Rattle.mk_laws.proofs.Vocabulary.{World, ℕ, ap, at_rest, chosen, false, flight_of, holder_number, if◌then◌else◌}
-use Rattle.mk_laws.proofs.Vocabulary.{inl, inr, is_new_at, is_small_object, is_undecided_new, length, ltb-true}
-use Rattle.mk_laws.proofs.Vocabulary.{none-some, object_made, place_by_placing, place_now, refl, run_pages_of, set_by}
-use Rattle.mk_laws.proofs.Vocabulary.{slice_index_or, slice_set, sym, taken, true, ◌+◌, ◌<◌, ◌∙◌, ◌≡◌, ◌≤◌, ◌⊎◌}
-use Rattle.mk_laws.proofs.Ground.{Carves, Gives, Grants, GroundStep, Places, Starts, TakesCell, Unmaps, ground_step}
-use Rattle.mk_laws.proofs.{OrderlyLists.event_moves, Standings.{InCall, UnderTurn, standing}, Views.{View, flight_at}}
-use Rattle.mk_laws.proofs.{Views.{flight_in, flights_with, view_of}, Actors.Meets, Known.Known, Orderly.same_holder}
-use Rattle.mk_laws.proofs.{OthersMoves.WorldBehind, Stages.new_stands}
+use Rattle.mk_laws.proofs.Vocabulary.{Caller, Chosen, Config, Flight, Ground, Holding, List, Moment, None, Op, Option}
+use Rattle.mk_laws.proofs.Vocabulary.{Page, Place, Placing, Seat, Some, Stage, Step, Used, World, ℕ, ap, arith, at_rest}
+use Rattle.mk_laws.proofs.Vocabulary.{chosen, false, flight_of, holder_number, inl, inr, is_new_at, is_small_object}
+use Rattle.mk_laws.proofs.Vocabulary.{is_undecided_new, length, ltb-true, none-some, object_made, place_by_placing}
+use Rattle.mk_laws.proofs.Vocabulary.{place_now, refl, run_pages_of, set_by, slice_index_or, slice_set, sym, taken}
+use Rattle.mk_laws.proofs.{Vocabulary.{true, ◌+◌, ◌<◌, ◌∙◌, ◌≡◌, ◌≤◌, ◌⊎◌}, Ground.{Carves, Gives, Grants, GroundStep}}
+use Rattle.mk_laws.proofs.{Ground.{Places, Starts, TakesCell, Unmaps, ground_step}, Standings.{InCall, UnderTurn}}
+use Rattle.mk_laws.proofs.{Standings.standing, Views.{View, flight_at, flight_in, flights_with, view_of}, Actors.Meets}
+use Rattle.mk_laws.proofs.{Known.Known, Orderly.same_holder, OrderlyLists.event_moves, OthersMoves.WorldBehind}
+use Rattle.mk_laws.proofs.{Services.Service, Stages.new_stands}
 use Rattle.mk_geom.proofs.FirstFit.{run_place_is}
 use Rattle.mk_laws.proofs.ProtocolMoves.{Enters, Gives as GivesTurn, GoesOn, Leaves, Move, Takes, Works}
-use Rattle.mk_laws.proofs.Services.{Goes, Loads, Places as PlacesNew, Service}
 
 abbrev pub held_place : Placing → Option Place
 held_place (Chosen place) = Some place
@@ -33,23 +32,13 @@ PlacesFit c m = (k : ℕ) → k < c.callers → is_undecided_new (flight_of m (C
 in_fits : (c : Config) (pages : List Page) (o : Op) (placing : Placing) (place : Place) → length pages ≡ c.pages
     → ((y : Place) → held_place placing ≡ Some y → PlaceFits c o y)
     → place_by_placing c.resident pages (object_made c o) placing ≡ Some place → PlaceFits c o place
-in_fits c pages o Unplaced place count held is = λ large. rw count at (run_place_is c.resident (object_made c o).words
-    (object_made c o).leaf pages place (leb-false _ 32 large) is).free.within
-in_fits c pages o Granted place count held is = cc
-in_fits c pages o _ place count held is = held place is
+in_fits c pages o x3 place count held is = grind (arith, run_place_is, leb-false)
 
 -- a place that is held was held, or is that of the step
 
 chosen_held : (p : Placing) (place : Option Place) (x : Place) → held_place (chosen p place) ≡ Some x
     → (held_place p ≡ Some x) ⊎ (place ≡ Some x)
-chosen_held Unplaced (Some y) x h = inr h
-chosen_held Unplaced None x h = inl h
-chosen_held _ place x h = inl h
-
-taken_held : (p : Placing) (place : Option Place) (x : Place) → held_place (taken p place) ≡ Some x
-    → (held_place p ≡ Some x) ⊎ (place ≡ Some x)
-taken_held p (Some y) x h = inr h
-taken_held p None x h = inl h
+chosen_held x0 place x h = grind arith
 
 ground_place : {c : Config} {w : World} {f : Flight} {g : Ground} (x : Place) → GroundStep c w f g
     → held_place g.placing ≡ Some x → (held_place w.now.seats.holding.placing ≡ Some x) ⊎ (place_now c w.now f ≡ Some x)
@@ -57,7 +46,7 @@ ground_place x (Starts z idle) h = cc
 ground_place x (Gives own at) h = cc
 ground_place {w} x (Carves p n own at) h = chosen_held w.now.seats.holding.placing _ x h
 ground_place {w} x (Unmaps p n own at) h = chosen_held w.now.seats.holding.placing _ x h
-ground_place {w} x (TakesCell p n once own at) h = taken_held w.now.seats.holding.placing _ x h
+ground_place {w} x (TakesCell p n once own at) h = grind arith
 ground_place {w} x (Places p n own) h = chosen_held w.now.seats.holding.placing _ x h
 ground_place x (Grants new once) h = cc
 ground_place x _ h = inl h
@@ -79,10 +68,7 @@ give_no_new o h = cc
 
 pub service_new : {f : Flight} {h : Holding} {g : Flight} {i : Holding} → Service f h g i → is_undecided_new g ≡ true
     → g ≡ f
-service_new (Goes _ p q) new = refl
-service_new (Loads _ at stands no_new) new = let e : true ≡ false = sym new ∙ no_new in cc
-service_new (PlacesNew _ was p q) new = refl
-service_new {f} _ new = absurd (give_no_new f.op new)
+service_new x0 new = grind (arith, give_no_new)
 
 -- the call of a seat is set, if it has one
 set_call : (fs : List Flight) (s : Seat) (j : ℕ) (f : Flight) → (is_undecided_new f ≡ true → f ≡ flight_at fs s)
@@ -116,13 +102,7 @@ new_holds c m _ x h new = cc
 -- the place of a step
 now_is : (c : Config) (m : Moment) (f : Flight) (place : Place) → place_now c m f ≡ Some place → (is_undecided_new f
     ≡ true) × (place_by_placing c.resident m.words.pages (object_made c f.op) m.seats.holding.placing ≡ Some place)
-now_is c m f place e = by (is_undecided_new f) refl e
-  where
-    by : (b : Bool) → is_undecided_new f ≡ b → (if b then place_by_placing c.resident m.words.pages
-        (object_made c f.op) m.seats.holding.placing else None) ≡ Some place → (is_undecided_new f ≡ true) ×
-        (place_by_placing c.resident m.words.pages (object_made c f.op) m.seats.holding.placing ≡ Some place)
-    by true is h = (is, h)
-    by false is h = cc
+now_is c m f place e = grind arith
 
 pub place_fits_now : (c : Config) (m : Moment) (seat : Seat) (x : Step) (place : Place) → length m.words.pages ≡ c.pages
     → PlacesFit c m → Meets c m seat x → place_now c m (flight_of m seat) ≡ Some place
@@ -130,8 +110,7 @@ pub place_fits_now : (c : Config) (m : Moment) (seat : Seat) (x : Step) (place :
 place_fits_now c m seat x place count fits h now =
     let is = now_is c m (flight_of m seat) place now in
     let own = new_holds c m seat x h is.0 in
-    let own_new : is_undecided_new (flight_of m (Caller own.0)) ≡ true = rw own.2 at is.0 in
-    in_fits c _ _ _ place count (λ y old. rw own.2 (fits own.0 own.1 own_new y old)) is.1
+    in_fits c _ _ _ place count (λ y old. rw own.2 (fits own.0 own.1 (rw own.2 at is.0) y old)) is.1
 
 pub places_behind : {c : Config} (w : World) (seat : Seat) (x : Step) → Known c w.now → length w.now.words.pages
     ≡ c.pages → PlacesFit c w.now → Meets c w.now seat x → PlacesFit c (WorldBehind c w seat x).now

@@ -10,7 +10,7 @@ use Rattle.mk_laws.proofs.Vocabulary.{true, unmapped_is_unmapped, ◌+◌, ◌-�
 use Rattle.mk_core.proofs.ChangedAllocations.{granted_at}
 use Rattle.mk_laws.proofs.Basics.{Came, IsNew, Meets, Stayed, WorldBehind, headers_kind, is_head}
 use Rattle.mk_laws.proofs.Precise.{HasNoLeaf, Steps, came_behind, precision_scene_of, same_leaf}
-use Rattle.mk_laws.proofs.{InvariantJoined.told_to_guard, Worlds.Told, Worlds.headers, Worlds.not_leaf, Worlds.sized}
+use Rattle.mk_laws.proofs.{InvariantHistories.told_to_guard, Worlds.Told, Worlds.headers, Worlds.not_leaf, Worlds.sized}
 
 -- What a header that is scanned shows.
 pub scanned_has_none : {c : Config} {w : World} {n : NeverState} (p : ℕ) → Told c w n

@@ -1,9 +1,9 @@
 -- Allocations after events that grant none: what is unreleased was so before, and each keeps its place.
 use Rattle.mk_laws.proofs.Vocabulary.{Config, Event, IsHistory, List, PlacedAllocation, Seat, Step, World, ℕ, ap, false}
 use Rattle.mk_laws.proofs.Vocabulary.{flight_of, is_release, left, length, placed_at, refl, sym, true≢false, ◌++◌, ◌<◌}
-use Rattle.mk_laws.proofs.{Vocabulary.{◌∙◌, ◌≡◌}, AllocationSteps.{AreOfOne, GoesOn, allocation_step, goes_on}}
-use Rattle.mk_laws.proofs.{AllocationSteps.of_one_joined, Basics.{Came, IsNew, Stayed, WorldBehind, is_grant}}
-use Rattle.mk_laws.proofs.{Marking.one_more, Precise.came_behind, Stretches.{None_of, along_without}}
+use Rattle.mk_laws.proofs.{Vocabulary.{◌∙◌, ◌≡◌}, Basics.{Came, IsNew, Stayed, WorldBehind, is_grant}}
+use Rattle.mk_laws.proofs.{Ground.{AreOfOne, GoesOn, allocation_step, goes_on, of_one_joined}, Marking.one_more}
+use Rattle.mk_laws.proofs.{Precise.came_behind, Stretches.{None_of, along_without}}
 
 pub record AreOlder (xs ys : List PlacedAllocation) : Type 0 where
   pub was : (j : ℕ) → (placed_at ys j).released ≡ false → (placed_at xs j).released ≡ false

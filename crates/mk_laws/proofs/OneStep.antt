@@ -9,11 +9,11 @@ use Rattle.mk_laws.proofs.Vocabulary.{if◌then◌else◌, image_of, inl, inr, i
 use Rattle.mk_laws.proofs.Vocabulary.{is_unmarked, ltb-true, marker_of, nat_lt, no_bit, none-some, or_cases, or_else}
 use Rattle.mk_laws.proofs.Vocabulary.{placed_at, pointed_cell, refl, register_word, same_Some, slice_index}
 use Rattle.mk_laws.proofs.Vocabulary.{slice_index_or, subst, sym, true, true≢false, word_points, ◌&&◌, ◌*◌, ◌+◌, ◌/◌}
-use Rattle.mk_laws.proofs.{Vocabulary.{◌∙◌, ◌≡◌, ◌≢◌, ◌≤◌, ◌⊎◌}, Basics.{Behind, KnownWorld, Meets, WorldBehind}}
-use Rattle.mk_laws.proofs.Precise.{IsPrecise, MarkerIsPrecise, PointsOnlyInto, PrecisionScene, Steps}
-use Rattle.mk_laws.proofs.{Precise.precision_scene_of, Worlds.{Told, headers, held, not_leaf, stands}}
-use Rattle.mk_laws.proofs.{ImagesHeldGates.held_idle, MarkSteps.{marked_behind, points_behind}}
-use Rattle.mk_laws.proofs.{MarkerSteps.{idle_is_precise, markers_behind}, Pairs.shows_plain}
+use Rattle.mk_laws.proofs.{Vocabulary.{◌∙◌, ◌≡◌, ◌≢◌, ◌≤◌, ◌⊎◌}, Worlds.{Told, headers, held, not_leaf, stands}}
+use Rattle.mk_laws.proofs.{Basics.{Behind, KnownWorld, Meets, WorldBehind}, EventSorts.held_idle}
+use Rattle.mk_laws.proofs.{MarkSteps.{marked_behind, points_behind}, MarkerSteps.{idle_is_precise, markers_behind}}
+use Rattle.mk_laws.proofs.{Pairs.shows_plain, Precise.{IsPrecise, MarkerIsPrecise, PointsOnlyInto, PrecisionScene}}
+use Rattle.mk_laws.proofs.Precise.{Steps, precision_scene_of}
 use Rattle.mk_core.specs.Effects.{hand_given, hand_of_cell, is_in_stop, is_mapped_cell}
 use Rattle.mk_core.specs.{declared.seats.Source.TheVariants.{Marked, Root, Unmarked}, Touched.PointsIntoAllocation}
 

@@ -2,7 +2,7 @@
 use Rattle.std.proofs.{Common.replicate, lemmas.List.get_or-replicate, lemmas.List.length-replicate}
 use Rattle.mk_laws.proofs.Vocabulary.{Caller, Config, MarkerState as Marker, Moment, Seat, Step, ℕ, ap, arith, at_rest}
 use Rattle.mk_laws.proofs.Vocabulary.{cases_lt, false, first_moment, flight_of, get_or_past, inl, inr, is_attending}
-use Rattle.mk_laws.proofs.Vocabulary.{outside, refl, slice_index_or, sym, true, ◌<◌, ◌∙◌, ◌≡◌, ◌≤◌}
+use Rattle.mk_laws.proofs.Vocabulary.{outside, refl, slice_index_or, sym, ◌<◌, ◌∙◌, ◌≡◌, ◌≤◌}
 use Rattle.mk_laws.proofs.Standings.{is_astray, shown_not_astray, standing}
 use Rattle.mk_laws.proofs.{Actors.Actor, Actors.Meets, Actors.acts, Orderly.Orderly, ProtocolKept.kept}
 use Rattle.mk_laws.proofs.{ProtocolMoves.Move, SameWords.Behind, Services.nothing_served, Sorts.moves, Views.view_of}
@@ -46,7 +46,6 @@ orderly_at_first c small = record {
   low = omega arith;
   cycle = λ a b. absurd (omega arith);
   stopped = λ e. absurd (omega arith);
-  attends = λ k a. let e : false ≡ true = ap (λ (x : Marker). is_attending x.presence) (sym (at_first 8 k outside))
-      ∙ a in cc;
+  attends = λ k a. let e = ap (λ (x : Marker). is_attending x.presence) (sym (at_first 8 k outside)) ∙ a in cc;
   idle = grind (arith, at_first);
 }

@@ -1,12 +1,11 @@
 -- While a seat holds the turn, no other ends a cycle, and none is answered Full.
 use Rattle.std.proofs.{Common.count_by, lemmas.List.Sums.sum_by-append}
 use Rattle.mk_laws.proofs.Vocabulary.{Answer, Bool, Caller, Config, Decided, Flight, Group, List, Moment, None, Op}
-use Rattle.mk_laws.proofs.Vocabulary.{Option, Progress, Seat, Some, Stage, Step, ℕ, answer_decided, answered, begun}
-use Rattle.mk_laws.proofs.Vocabulary.{cond, entry_of, false, flight_of, found, group_of, header_of, if◌then◌else◌}
-use Rattle.mk_laws.proofs.Vocabulary.{is_end, is_some_and, is_unmapped_header, map-append, onward, progress, progress_p}
-use Rattle.mk_laws.proofs.Vocabulary.{progress_q, progress_read, progress_reg, refl, refused, still, true, ◌++◌, ◌+◌}
-use Rattle.mk_laws.proofs.{Vocabulary.{◌==◌, ◌≡◌}, Basics.{Actor, AsHolder, AsMarker, HoldsTurn, InCallOf, view_of}}
-use Rattle.mk_laws.proofs.Actors.{CallTakes, HostTakes}
+use Rattle.mk_laws.proofs.Vocabulary.{Option, Progress, Seat, Some, Stage, Step, ℕ, answer_decided, answered, arith}
+use Rattle.mk_laws.proofs.Vocabulary.{begun, cond, entry_of, false, flight_of, group_of, if◌then◌else◌, is_end}
+use Rattle.mk_laws.proofs.Vocabulary.{is_some_and, map-append, progress_read, progress_reg, refl, still, true, ◌++◌}
+use Rattle.mk_laws.proofs.{Vocabulary.{◌+◌, ◌==◌, ◌≡◌}, Basics.{Actor, AsHolder, AsMarker, HoldsTurn, InCallOf}}
+use Rattle.mk_laws.proofs.{Basics.view_of, Actors.{CallTakes, HostTakes}}
 use Rattle.mk_core.specs.Counts.{is_full_answer}
 
 abbrev pub answers_full : Option Answer → Bool
@@ -17,49 +16,25 @@ either_answer : (b : Bool) (p q : Progress) → answers_full p.answer ≡ false 
 either_answer true p q hp hq = hp
 either_answer false p q hp hq = hq
 
-q_answer : (f : Flight) (o : Op) (n : ℕ) → answers_full (progress_q f o n).answer ≡ false
-q_answer f (Op.Move d q) n = refl
-q_answer f (Op.Same p q) n = refl
-q_answer f _ n = either_answer (n == 0) _ _ refl refl
-
-p_answer : (f : Flight) (o : Op) (n : ℕ) → answers_full (progress_p f o n).answer ≡ false
-p_answer f (Op.Free p) n = either_answer (n == 0) _ _ refl refl
-p_answer f _ n = cc
-
 reg_answer : (f : Flight) (s : Stage) (n : ℕ) → answers_full (progress_reg f s n).answer ≡ false
-reg_answer f Stage.LoadQ n = q_answer f f.op n
-reg_answer f Stage.LoadP n = p_answer f f.op n
+reg_answer f Stage.LoadQ n = grind (arith, either_answer)
+reg_answer f Stage.LoadP n = grind (arith, either_answer)
 reg_answer f _ n = refl
 
 read_answer : (f : Flight) (o : Op) (n : ℕ) → answers_full (progress_read f o n).answer ≡ false
 read_answer f (Op.GetPtr d q i) n = refl
 read_answer f _ n = refl
 
-call_answer : (c : Config) (m : Moment) (f : Flight) (n : ℕ) (x : Step) → group_of x ≡ Group.Callers
-    → answers_full (progress c m f n x).answer ≡ false
-call_answer c m f n (Step.Enter o) g = either_answer (n == 0) (record { flight = begun o; answer = None })
-    (still f) refl refl
-call_answer c m f n Step.Reg g = reg_answer f f.stage n
-call_answer c m f n Step.Probe g = either_answer (is_unmapped_header (header_of n)) (refused f Answer.Fault)
-    (onward f None) refl refl
-call_answer c m f n Step.Read g = read_answer f f.op n
-call_answer c m f n _ g = cc
-
 call_no_end : (x : Step) → group_of x ≡ Group.Callers → is_end x ≡ false
 call_no_end Step.End g = cc
 call_no_end _ g = refl
-
-marker_no_end : (x : Step) → group_of x ≡ Group.Markers → is_end x ≡ false
-marker_no_end Step.End g = cc
-marker_no_end _ g = refl
 
 -- one event of a seat that doesn't hold the turn
 pub counts_nothing : (c : Config) (m : Moment) (seat : Seat) (x : Step) → (HoldsTurn c (view_of m) seat → ⊥)
     → Actor c m seat x
     → (is_end x ≡ false) × (answers_full (answer_decided c m (record { seat = seat; step = x })) ≡ false)
-counts_nothing c m seat x out (InCallOf k _ lt g) =
-    (call_no_end x g, call_answer c m (flight_of m (Caller k)) (found c m (record { seat = Caller k; step = x })) x g)
-counts_nothing c m seat x out (AsMarker k _ lt g) = (marker_no_end x g, refl)
+counts_nothing c m seat x out (InCallOf k _ lt g) = grind (arith, call_no_end, either_answer, reg_answer, read_answer)
+counts_nothing c m seat x out (AsMarker k _ lt g) = grind arith
 counts_nothing c m seat x out (CallTakes k o lt idle is) = (
   refl,
   either_answer (m.words.turn == 0) (record { flight = begun o; answer = None })

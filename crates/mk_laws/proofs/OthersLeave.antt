@@ -1,13 +1,13 @@
 -- Events of others take no header back while a marker attends, and what points well still does.
 use Rattle.mk_laws.proofs.Vocabulary.{AreEnabledFrom, AreOfOthers, AreOfPages, Config, Event, GuardPremises}
 use Rattle.mk_laws.proofs.Vocabulary.{GuardPremisesFrom, IsMarking, IsWithinLimits, List, Marker, Moment, Page, Seat}
-use Rattle.mk_laws.proofs.Vocabulary.{Steady, Step, World, access, accessed_lengths, ap, enabled_meets, enabled_parts}
-use Rattle.mk_laws.proofs.Vocabulary.{false, first_world, free_page, histories_keep_lengths, left, left_append}
-use Rattle.mk_laws.proofs.Vocabulary.{left_from, refl, slice_index_or, sym, word_accessed, world_behind, [], ◌++◌, ◌∙◌}
-use Rattle.mk_laws.proofs.{Vocabulary.{◌∷◌, ◌≡◌}, Basics.{Known, Meets, WorldBehind, headers_kind, is_head}}
-use Rattle.mk_laws.proofs.{Basics.{known_behind, known_left, wells_from}, ProtocolFrames.{left_after, other_seat}}
-use Rattle.mk_laws.proofs.{ProtocolFrames.{others_leave, still_attends}, Wells.{is_well, well_is}, Changes.marks_kind}
-use Rattle.mk_laws.proofs.{FoundHeaders.head_finds, Headers.head_keeps}
+use Rattle.mk_laws.proofs.Vocabulary.{Steady, Step, World, access, accessed_lengths, ap, arith, enabled_meets}
+use Rattle.mk_laws.proofs.Vocabulary.{enabled_parts, false, first_world, free_page, histories_keep_lengths, left}
+use Rattle.mk_laws.proofs.Vocabulary.{left_append, left_from, refl, slice_index_or, sym, word_accessed, world_behind}
+use Rattle.mk_laws.proofs.{Vocabulary.{[], ◌++◌, ◌∙◌, ◌∷◌, ◌≡◌}, Basics.{Known, Meets, WorldBehind, headers_kind}}
+use Rattle.mk_laws.proofs.Basics.{is_head, known_behind, known_left, wells_from}
+use Rattle.mk_laws.proofs.{FoundHeaders.{head_finds, head_keeps}, ProtocolFrames.{left_after, other_seat, others_leave}}
+use Rattle.mk_laws.proofs.{ProtocolFrames.still_attends, Changes.marks_kind, Wells.{is_well, well_is}}
 use Rattle.mk_core.specs.Frames.{Attends, HeadersAreLeft}
 use Rattle.mk_laws.specs.Left.{OthersLeaveHeaders, OthersLeaveWells}
 
@@ -47,14 +47,11 @@ attended : {c : Config} {m : Moment} (s : Seat) → Known c m → Attends m s �
 attended (Marker k) known a = known.orderly.attends k a
 attended _ known a = absurd a
 
-headers_same : (c : Config) (w : World) → HeadersAreLeft c w w
-headers_same c w = record { some = λ p n. n; cells = λ p u cell is. is; well = λ u is. is }
-
 headers_from : {c : Config} (w : World) (s : Seat) (es : List Event) → IsWithinLimits c → Known c w.now
     → AreOfPages c.pages w.now.words → AreEnabledFrom c w es
     → AreOfOthers (s ∷ []) es → GuardPremisesFrom c w es → Attends w.now s → HeadersAreLeft c w (left_from c w es)
 unfolding left_from AreEnabledFrom AreOfOthers GuardPremisesFrom
-headers_from {c} w s [] limits known len on others say a = headers_same c w
+headers_from {c} w s [] limits known len on others say a = grind arith
 headers_from {c} w s (e ∷ es) limits known len on others say a =
     let h = enabled_meets c w.now e on.0 in
     let own = (left_after c w e.seat s e.step known h (other_seat s e.seat others.0)).own in

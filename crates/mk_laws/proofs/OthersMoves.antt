@@ -1,16 +1,16 @@
 -- What an event may do whose seat doesn't hold the turn, while another holds it.
-use Rattle.mk_laws.proofs.Vocabulary.{Bool, Caller, Config, Flight, Group, Host, Marker, MarkerState, Moment, Named}
-use Rattle.mk_laws.proofs.Vocabulary.{None, Op, Seat, Some, Stage, Step, Word, Words, World, ℕ, accessed, arith}
-use Rattle.mk_laws.proofs.Vocabulary.{at_rest, begun, bit_or, cases_eq, eq-eqb, false, flight_of, found, group_of}
-use Rattle.mk_laws.proofs.Vocabulary.{if◌then◌else◌, inl, inr, is_attending, is_in, marker_of, ne_eqb, outside, refl}
-use Rattle.mk_laws.proofs.Vocabulary.{reg_access, register_met, set-get_or, slice_index, slice_set, still, sym, true}
-use Rattle.mk_laws.proofs.Vocabulary.{true≢false, world_behind, ◌%◌, ◌*◌, ◌+◌, ◌-◌, ◌<◌, ◌^◌, ◌∙◌, ◌≡◌, ◌≢◌, ◌≤◌}
-use Rattle.mk_laws.proofs.Actors.{Actor, AsHolder, AsMarker, CallTakes, HostTakes, InCallOf, Meets}
-use Rattle.mk_laws.proofs.{Known.{Known, Operands, operands_of, register_small}, NextSteps.{at_its_stage, at_reg}}
-use Rattle.mk_laws.proofs.{NextSteps.{has_stage_of_its_own, is_take, stage_of}, Stages.{calls_stand, is_call_stage}}
-use Rattle.mk_laws.proofs.{Stages.{is_reg_stage, regs_work}, IdleMarkers.{look_stays, work_attends}}
-use Rattle.mk_laws.proofs.{Orderly.{count_in-at, shows_at, turn_of}, OrderlyLists.{actor_of, not_astray}}
-use Rattle.mk_laws.proofs.{Sorts.attends_at, Standings.{InCall, is_astray, standing}, Views.{HoldsTurn, view_of}}
+use Rattle.mk_laws.proofs.Vocabulary.{Bool, Caller, Config, Flight, Group, Marker, MarkerState, Moment, Named, None, Op}
+use Rattle.mk_laws.proofs.Vocabulary.{Seat, Stage, Step, Word, Words, World, ℕ, accessed, arith, at_rest, begun, bit_or}
+use Rattle.mk_laws.proofs.Vocabulary.{cases_eq, eq-eqb, false, flight_of, found, group_of, if◌then◌else◌, inl, inr}
+use Rattle.mk_laws.proofs.Vocabulary.{is_attending, is_in, marker_of, ne_eqb, outside, refl, reg_access, register_met}
+use Rattle.mk_laws.proofs.Vocabulary.{set-get_or, slice_index, slice_set, still, sym, true, true≢false, world_behind}
+use Rattle.mk_laws.proofs.{Vocabulary.{◌%◌, ◌*◌, ◌+◌, ◌-◌, ◌<◌, ◌^◌, ◌∙◌, ◌≡◌, ◌≢◌, ◌≤◌}, Actors.{Actor, AsHolder}}
+use Rattle.mk_laws.proofs.{Actors.{AsMarker, CallTakes, HostTakes, InCallOf, Meets}, Known.{Known, Operands}}
+use Rattle.mk_laws.proofs.{Known.{operands_of, register_small}, NextSteps.{at_its_stage, at_reg, has_stage_of_its_own}}
+use Rattle.mk_laws.proofs.{NextSteps.{is_take, stage_of}, Stages.{calls_stand, is_call_stage, is_reg_stage, regs_work}}
+use Rattle.mk_laws.proofs.{IdleMarkers.{look_stays, work_attends}, Orderly.{count_in-at, shows_at, turn_of}}
+use Rattle.mk_laws.proofs.{OrderlyLists.{actor_of, not_astray}, Sorts.attends_at, Standings.{InCall, is_astray}}
+use Rattle.mk_laws.proofs.{Standings.standing, Views.{HoldsTurn, view_of}}
 use Rattle.mk_core.specs.Moments.{Seats}
 
 -- the words and the seats of a world are others
@@ -82,13 +82,6 @@ enter_out c w k o lt = elim (cases_eq (slice_index w.now.words.gates k) 0) [
   | inr ne ↦ rw (ne_eqb _ 0 ne) (rw (set-get_or w.now.words.gates k 0) (waits_flight c w k))
 ]
 
--- the turn is held, so nobody takes it
-take_out : (c : Config) (w : World) (k : ℕ) (o : Op) → w.now.words.turn ≢ 0 → Outs c w (Caller k) (Step.Take (Some o))
-take_out c w k o ne = rw (ne_eqb w.now.words.turn 0 ne) (waits_flight c w k)
-
-host_take_out : (c : Config) (w : World) → w.now.words.turn ≢ 0 → Outs c w Host (Step.Take None)
-host_take_out c w ne = rw (ne_eqb w.now.words.turn 0 ne) Waits
-
 -- the gate of a caller in a call
 
 pub gate_one : {c : Config} {m : Moment} (k : ℕ) → Known c m → k < c.callers
@@ -109,10 +102,6 @@ reg_write : (w : Words) (k : ℕ) (f : Flight) (s : Stage) → Operands f.op
 reg_write w k f s o = grind (arith, register_small, SetsRegister, CallLoads)
 
 ruleset call_out_facts = (at_reg, reg_write, operands_of, Calls, SetsGate, CallLoads, SetsHeap, SetsGlobal, SetsDirty)
-
-call_out : {c : Config} (w : World) (k : ℕ) (x : Step) → Known c w.now → (HoldsTurn c (view_of w.now) (Caller k) → ⊥)
-    → k < c.callers → group_of x ≡ Group.Callers → Meets c w.now (Caller k) x → Outs c w (Caller k) x
-call_out w k x known out lt g h = grind (arith, call_out_facts, enter_out, in_call, reg_in_call)
 
 -- markers, whoever holds the turn
 
@@ -138,10 +127,10 @@ moves_out {c} w seat x known held out h = by seat x (actor_of c w.now seat x kno
   where
     by : (seat : Seat) (x : Step) → Actor c w.now seat x → (is_take x ≡ true → w.now.words.turn ≢ 0)
         → (HoldsTurn c (view_of w.now) seat → ⊥) → Meets c w.now seat x → Outs c w seat x
-    by seat x (InCallOf k _ lt g) held out h = call_out w k x known out lt g h
+    by seat x (InCallOf k _ lt g) held out h = grind (arith, call_out_facts, enter_out, in_call, reg_in_call)
     by seat x (AsMarker k _ lt g) held out h = marker_out w k x known lt g h
-    by seat x (CallTakes k o lt idle is) held out h = take_out c w k o (held refl)
-    by seat x (HostTakes free) held out h = host_take_out c w (held refl)
+    by seat x (CallTakes k o lt idle is) held out h = rw (ne_eqb w.now.words.turn 0 (held refl)) (waits_flight c w k)
+    by seat x (HostTakes free) held out h = rw (ne_eqb w.now.words.turn 0 (held refl)) Waits
     by seat x (AsHolder _ _ t n) held out h = absurd (out t)
 
 pub others_move : (c : Config) (w : World) (seat : Seat) (x : Step) → Known c w.now → w.now.words.turn ≢ 0

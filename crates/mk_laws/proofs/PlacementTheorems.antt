@@ -8,7 +8,7 @@ use Rattle.mk_laws.proofs.Vocabulary.{place_on_pages, refl, subst, sym, true, â—
 use Rattle.mk_core.specs.{Placement.FindsNoPlace, Placement.FullsFitNowhere, Placement.GrantsStandAtTheirPlaces}
 use Rattle.mk_core.specs.{Placement.StandsAtItsPlace, Placement.object_at, declared.seats.OwnCycle.TheVariants.Ended}
 use Rattle.mk_laws.proofs.Basics.{Meets, before_it, grants_new, held_place, new_holds}
-use Rattle.mk_laws.proofs.{Actors.fills_new, InvariantTheorems.first_fit_finds_the_place, OwnCycles.HasCycle}
+use Rattle.mk_laws.proofs.{Actors.fills_new, InvariantHistories.first_fit_finds_the_place, OwnCycles.HasCycle}
 use Rattle.mk_laws.proofs.{Tracked.HasPlace, Tracked.news_are_tracked, Tracked.unplaced_settles, Undecided.HasNew}
 
 -- What holds where a caller with an undecided New makes a step of this kind holds where any seat makes it.

@@ -104,7 +104,6 @@ layout_carved {s} first o d laid plotted off next =
         | inl same ↦ let at = shown_later o d e m (header_of (header_made o d)) part
             (rw (← (headed_here s.pages (first + d) (header_made o d) lt))
             (ap (λ i. shows_on (with_header_on s.pages (first + d) (header_made o d)) i) (sym same) ∙ is)) in
-            let e_is : e ≡ d = at.0 in
             let some : 1 ≤ d = at.1 in
             let back : q - e ≡ first = omega arith in
             let zero : first + 0 ≡ first = omega arith in
@@ -220,9 +219,6 @@ module _ (s : LayoutScene) (x : Claim) (n : ℕ) (laid : IsLaidOn s) (t : Takes 
       let at : x.page + (q - x.page) ≡ q = omega arith in
       grind (arith, after, claimed_head, own, none_set, here_set)
 
-  new : (y z : Claim) → Among y s.claims → Among z (x ∷ []) → IsOfOneCell y z → ⊥
-  new y z i h same = grind arith
-
   pub layout_taken : IsLaidOn (Taken s x n)
   layout_taken = record {
     shown = λ y among. elim (among_parts s.claims (x ∷ []) y among) [
@@ -230,7 +226,7 @@ module _ (s : LayoutScene) (x : Claim) (n : ℕ) (laid : IsLaidOn s) (t : Takes 
       | inr (inl e) ↦ rw e own
       | inr (inr out) ↦ absurd out
     ];
-    apart = apart_joined s.claims (x ∷ []) laid.apart (λ y i. absurd i, tt) new;
+    apart = apart_joined s.claims (x ∷ []) laid.apart (λ y i. absurd i, tt) (λ y z i h same. grind arith);
     used = used;
     plot = tt;
     occupied = λ q some empty. elim (laid.occupied q (λ z. some (used_header s.pages x.page n q lt ∙ z)) (

@@ -3,8 +3,8 @@ use Rattle.mk_laws.proofs.Vocabulary.{Page, PlacedAllocation, PointsInto, Scan, 
 use Rattle.mk_laws.proofs.Vocabulary.{arith, bases_of, cell_of_allocation, cells_under, false, flight_of}
 use Rattle.mk_laws.proofs.Vocabulary.{has_no_pointers, header_of, image_of, is_leaf_header, is_marked, is_unmarked}
 use Rattle.mk_laws.proofs.Vocabulary.{marker_of, placed_at, shows_on, slice_index, slice_index_or, storage_of}
-use Rattle.mk_laws.{proofs.Vocabulary.{storage_words, true, ◌/◌, ◌<◌, ◌≡◌, ◌≢◌}, proofs.Worlds.{Told}}
-use Rattle.mk_laws.proofs.{AllocationSteps.{AreOfOne, allocation_step, came}, Basics.{Came, Meets, WorldBehind}}
+use Rattle.mk_laws.proofs.{Vocabulary.{storage_words, true, ◌/◌, ◌<◌, ◌≡◌, ◌≢◌}, Basics.{Came, Meets, WorldBehind}}
+use Rattle.mk_laws.proofs.{Ground.{AreOfOne, allocation_step, came}, Worlds.Told}
 use Rattle.mk_core.specs.{Cycles.sweeps, Touched.IsWordOfAllocation}
 use Rattle.mk_laws.proofs.Vocabulary.{Config, Hand, IsMarking, IsWordOf, List, MarkerState as Marker, NeverState, Null}
 

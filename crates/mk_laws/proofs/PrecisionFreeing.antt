@@ -7,12 +7,12 @@ use Rattle.mk_laws.proofs.Vocabulary.{inr, is_end, is_small, left, not, not-true
 use Rattle.mk_laws.proofs.Vocabulary.{standing_has_storage, stands_on, storage_is_of, storage_of, storage_words, subst}
 use Rattle.mk_laws.proofs.Vocabulary.{sym, through_release, true, unreleased_storage, [], ◌%◌, ◌*◌, ◌++◌, ◌+◌, ◌==◌}
 use Rattle.mk_laws.proofs.{Vocabulary.{◌∙◌, ◌∷◌, ◌≡◌, ◌≤◌}, Basics.{WorldBehind, begin_is, is_grant, release_is}}
-use Rattle.mk_laws.proofs.OlderAllocations.{AreOlder, IsKept, kept_along, older_behind, older_joined, older_same}
-use Rattle.mk_laws.proofs.{Precise.{same_word, same_words}, PrecisionStopped.{AtRelease, at_the_release, last_begin}}
-use Rattle.mk_laws.proofs.{PrecisionStopped.releases_the_untouched, Stretches.{along_without, at_end, at_release}}
-use Rattle.mk_laws.proofs.{Stretches.history_through, AllocationSteps.is_there}
-use Rattle.mk_laws.proofs.{InvariantTheorems.allocations_are_disjoint, Marking.{one_more, told}}
-use Rattle.mk_laws.proofs.{PhaseSteps.releasing_waits, ProtocolStepKinds.end_is, Worlds.stands}
+use Rattle.mk_laws.proofs.{Marking.{one_more, told}, OlderAllocations.{AreOlder, IsKept, kept_along, older_behind}}
+use Rattle.mk_laws.proofs.{OlderAllocations.{older_joined, older_same}, PrecisionStopped.{AtRelease, at_the_release}}
+use Rattle.mk_laws.proofs.{PrecisionStopped.{last_begin, releases_the_untouched}, Stretches.{along_without, at_end}}
+use Rattle.mk_laws.proofs.{Stretches.{at_release, history_through}, Ground.is_there}
+use Rattle.mk_laws.proofs.{InvariantHistories.allocations_are_disjoint, PhaseSteps.releasing_waits}
+use Rattle.mk_laws.proofs.{Precise.{same_word, same_words}, ProtocolStepKinds.end_is, Worlds.stands}
 use Rattle.mk_geom.proofs.{Standing.{has_words, large_is_run, stands_parts}, ListSearch.{find_cases, list_any_found}}
 use Rattle.mk_geom.specs.Storages.{IsRun, is_cell_taken}
 use Rattle.mk_core.specs.Cycles.{before_begin, before_end}

@@ -6,8 +6,8 @@ use Rattle.mk_laws.proofs.Vocabulary.{before_release, cell_of_allocation, change
 use Rattle.mk_laws.proofs.Vocabulary.{enabled_in_parts, eqb-true, false, has_bit_of, has_bit_without, is_begin}
 use Rattle.mk_laws.proofs.Vocabulary.{is_close, is_cycling, is_left_unmarked, is_marked, is_release, left, list_any}
 use Rattle.mk_laws.proofs.Vocabulary.{not, or_from, or_parts, phase_of, placed_at, refl, released_where_left, sym}
-use Rattle.mk_laws.proofs.Vocabulary.{through, through_release, true, true≢false, with_released, [], ◌&&◌, ◌++◌, ◌∙◌}
-use Rattle.mk_laws.proofs.{Vocabulary.{◌∷◌, ◌≡◌}, Basics.{Known, Meets, WorldBehind, is_grant, release_is, same_cell}}
+use Rattle.mk_laws.proofs.Vocabulary.{through, through_release, true, with_released, [], ◌&&◌, ◌++◌, ◌∙◌, ◌∷◌, ◌≡◌}
+use Rattle.mk_laws.proofs.Basics.{Known, Meets, WorldBehind, is_grant, release_is, same_cell}
 use Rattle.mk_laws.proofs.{Marking.{marked_at_close, one_more, told}, Stretches.{None_of, along_without, at_close}}
 use Rattle.mk_laws.proofs.{Stretches.{at_release, history_through, none_joined}, Worlds.{headers, stands}}
 use Rattle.mk_laws.proofs.{CyclePhases.none_is_released, GuardStopped.leaves_closed, PhaseSteps.stopped_waits}
@@ -25,14 +25,11 @@ record AtStop (c : Config) (T : ℕ → Type 0) (es : List Event) : Type 0 where
   phase : phase_of (left c es).now.words ≡ 3
   marked : IsMarkedOnly c (left c es) T
 
-not_granted : (x : Step) → is_grant x ≡ false → x ≡ Step.Grant → ⊥
-not_granted x out is = true≢false (sym (ap is_grant is) ∙ out)
-
 -- one event that isn't the `release`
 stop_behind : {c : Config} (w : World) (seat : Seat) (x : Step) (T : ℕ → Type 0) → Known c w.now → phase_of w.now.words
     ≡ 3 → Meets c w.now seat x → is_release x ≡ false → IsMarkedOnly c w T → IsMarkedOnly c (WorldBehind c w seat x) T
 stop_behind w seat x T known three h other marked b u is =
-    grind (arith, came_behind, not_granted, stopped_waits, leaves_closed, same_cell)
+    grind (arith, came_behind, stopped_waits, leaves_closed, same_cell, is_grant)
 
 stop_goes_on : (c : Config) (T : ℕ → Type 0) (es : List Event) (e : Event) → IsHistory c (es ++ e ∷ [])
     → is_release e.step ≡ false → AtStop c T es → AtStop c T (es ++ e ∷ [])

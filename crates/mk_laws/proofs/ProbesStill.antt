@@ -1,30 +1,18 @@
 -- A run that a `probe` finds unmapped stays so: the call's own register points into its allocation.
-use Rattle.mk_laws.proofs.Vocabulary.{AccessIsAdmitted, Bool, Caller, CarriesOwn, Config, Continues, Flight}
-use Rattle.mk_laws.proofs.Vocabulary.{ImagePremises, Invariant, IsAdmitted, IsMet, IsSound, Meets, NeverState, Op, Ptr}
-use Rattle.mk_laws.proofs.Vocabulary.{Stage, Unmapped, Value, WordOf, World, ℕ, allocation_at, and_from, and_parts, ap}
-use Rattle.mk_laws.proofs.Vocabulary.{bases_of, cases_Bool, false, flight_of, header_at, header_in, i_of, if◌then◌else◌}
-use Rattle.mk_laws.proofs.Vocabulary.{image_scene_of, inl, inr, is_large, is_unmapped, is_unmapped_header, page_met}
-use Rattle.mk_laws.proofs.Vocabulary.{q_of, refl, register_at, subst, sym, target_of, true, true≢false, words_of, ◌*◌}
-use Rattle.mk_laws.proofs.{Vocabulary.{◌+◌, ◌<◌, ◌∙◌, ◌≡◌}, Basics.{InCall, KnownWorld, PagesShow, Ready, Stands}}
-use Rattle.mk_laws.proofs.Basics.{calls_stand, flight, is_astray, is_call_stage, not_astray, ready_of, standing}
-use Rattle.mk_laws.proofs.{Basics.{standing_at, stands_of}, ImagesCallMoves.{access_meets, at_probe}}
-use Rattle.mk_laws.proofs.{Reached.{mapped_met, unmapped_target}, CallSorts.literal, ImagesBefore.shown_in_call}
-use Rattle.mk_laws.proofs.InvariantJoined.{told_to_images}
-
-target_unmapped : (n : NeverState) (a t o i : ℕ) → target_of n (Ptr a t o) i ≡ Unmapped
-    → is_unmapped (allocation_at n a) ≡ true
-target_unmapped n a t o i is = by (is_unmapped (allocation_at n a)) is
-  where
-    by : (b : Bool) → (if b then Unmapped else WordOf a (o + i)) ≡ Unmapped → b ≡ true
-    by true e = refl
-    by false e = cc
+use Rattle.mk_laws.proofs.Vocabulary.{AccessIsAdmitted, Caller, CarriesOwn, Config, Continues, Flight, ImagePremises}
+use Rattle.mk_laws.proofs.Vocabulary.{Invariant, IsAdmitted, IsMet, IsSound, Meets, NeverState, Op, Ptr, Stage}
+use Rattle.mk_laws.proofs.Vocabulary.{Unmapped, Value, World, ℕ, and_from, and_parts, ap, arith, bases_of, cases_Bool}
+use Rattle.mk_laws.proofs.Vocabulary.{false, flight_of, header_at, header_in, i_of, image_scene_of, inl, inr}
+use Rattle.mk_laws.proofs.Vocabulary.{is_unmapped_header, page_met, q_of, refl, register_at, subst, target_of, true}
+use Rattle.mk_laws.proofs.Vocabulary.{◌*◌, ◌+◌, ◌<◌, ◌∙◌, ◌≡◌}
+use Rattle.mk_laws.proofs.Basics.{InCall, KnownWorld, PagesShow, Ready, Stands, calls_stand, flight, is_astray}
+use Rattle.mk_laws.proofs.Basics.{is_call_stage, not_astray, ready_of, standing, standing_at, stands_of}
+use Rattle.mk_laws.proofs.{CallSorts.access_meets, CallSorts.at_probe, CallSorts.literal, ImagesBefore.shown_in_call}
+use Rattle.mk_laws.proofs.{InvariantHistories.told_to_images, Reached.mapped_met, Reached.unmapped_target}
 
 clash : {n m : NeverState} (v : Value) (i : ℕ) → Continues n m → IsSound n v → Meets n v i (λ kind. Unit {0})
     → target_of n v i ≡ Unmapped → IsMet m v i → ⊥
-clash {n} {m} (Ptr a t o) i on sound meets is met =
-    true≢false (sym (let parts = and_parts _ (is_large (words_of n a)) (target_unmapped n a t o i is) in
-    and_from _ (is_large (words_of m a)) (on.freed a parts.0) (rw (on.size a sound.0) parts.1))
-    ∙ met (rw (on.size a sound.0) meets.0))
+clash {n} {m} (Ptr a t o) i on sound meets is met = grind (arith, and_parts, and_from, Unmapped)
 clash _ i on sound meets is met = cc
 
 module _ (c : Config) (w : World) (n : NeverState) (known : KnownWorld c w) (all : Invariant c w n) where

@@ -1,7 +1,7 @@
 -- All promises, from the theorems.
 use Rattle.mk_laws.proofs.Vocabulary.{Config, Event, IsHistory, List, OfHistories, earlier_part_is_history, subst}
-use Rattle.mk_laws.proofs.FreeCells.{free_cells_are_zero, words_behind_cells_are_zero}
 use Rattle.mk_laws.proofs.FreePages.{dirty_pages_have_allocations, free_pages_have_nothing}
+use Rattle.mk_laws.proofs.FreeWords.{free_cells_are_zero, words_behind_cells_are_zero}
 use Rattle.mk_laws.proofs.PlacementTheorems.{fulls_fit_nowhere, grants_stand_at_their_places}
 use Rattle.mk_laws.proofs.Releases.{no_others_release, releases_are_exact, releases_none_reached}
 use Rattle.mk_laws.proofs.UnsetWords.{registers_of_no_caller_are_zero, unset_globals_are_zero}
@@ -10,7 +10,7 @@ use Rattle.mk_laws.proofs.{Quarantines.few_pages_are_resident, ReadingsStands.he
 use Rattle.mk_laws.proofs.{ReleasedCycles.releases_are_of_cycles, Snapshots.snapshots_tell}
 use Rattle.mk_laws.proofs.{Tallies.tallies_are_exact_at_gives, UnmappedRuns.unmapped_runs_take_no_memory}
 use Rattle.mk_laws.specs.Promises.{AtEachMoment, KeepsAllPromises}
-use Rattle.mk_laws.proofs.InvariantTheorems as invariant
+use Rattle.mk_laws.proofs.InvariantHistories as invariant
 
 at_each : (claim : Config → List Event → Type 0) → OfHistories claim → OfHistories (AtEachMoment claim)
 at_each claim of c es h front more is = of c front (earlier_part_is_history c front more (subst (IsHistory c) is h))

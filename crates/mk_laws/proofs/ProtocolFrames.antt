@@ -1,22 +1,21 @@
 -- The frame law: what the events of other seats leave, for one event and for many.
 use Rattle.std.proofs.lemmas.List.Sums.{sum_by-append}
 use Rattle.mk_laws.proofs.Vocabulary.{AreEnabledFrom, AreOfOthers, Caller, Config, Event, Flight, Holds, IsInCall}
-use Rattle.mk_laws.proofs.Vocabulary.{IsLeft, List, Marker, MarkerState, Moment, Named, OnlyGrow, Protocol, Seat, Stage}
-use Rattle.mk_laws.proofs.Vocabulary.{Steady, Step, TurnIsLeft, Word, Words, World, ℕ, accessed, ap, arith, at_rest}
-use Rattle.mk_laws.proofs.Vocabulary.{calls_from, cases_lt, enabled_meets, enabled_parts, ends, eq-eqb, false}
-use Rattle.mk_laws.proofs.Vocabulary.{first_world, flight_of, get_or-set_other, get_or_past, header_in, inl, inr}
-use Rattle.mk_laws.proofs.Vocabulary.{is_one_of, is_unmapped_header, left, left_append, left_from, marker_at}
-use Rattle.mk_laws.proofs.Vocabulary.{others_are_held, outside, refl, reg_access, register_met, slice_index, slice_set}
-use Rattle.mk_laws.proofs.Vocabulary.{sym, true, world_behind, [], ◌*◌, ◌++◌, ◌+◌, ◌/◌, ◌<◌, ◌∙◌, ◌∷◌, ◌≡◌, ◌≢◌, ◌≤◌}
+use Rattle.mk_laws.proofs.Vocabulary.{IsLeft, List, Marker, Moment, Named, OnlyGrow, Protocol, Seat, Stage, Steady}
+use Rattle.mk_laws.proofs.Vocabulary.{Step, TurnIsLeft, Word, Words, World, ℕ, accessed, ap, arith, at_rest, calls_from}
+use Rattle.mk_laws.proofs.Vocabulary.{cases_lt, enabled_meets, enabled_parts, ends, eq-eqb, false, first_world}
+use Rattle.mk_laws.proofs.Vocabulary.{flight_of, get_or-set_other, get_or_past, header_in, inl, inr, is_one_of}
+use Rattle.mk_laws.proofs.Vocabulary.{is_unmapped_header, left, left_append, left_from, marker_at, others_are_held}
+use Rattle.mk_laws.proofs.Vocabulary.{outside, refl, reg_access, register_met, slice_index, slice_set, sym, true}
+use Rattle.mk_laws.proofs.Vocabulary.{world_behind, [], ◌*◌, ◌++◌, ◌+◌, ◌/◌, ◌<◌, ◌∙◌, ◌∷◌, ◌≡◌, ◌≢◌, ◌≤◌}
 use Rattle.mk_laws.proofs.Basics.{Behind, Known, Meets, WorldBehind, actor_of, grants_new, in_call_told, known_behind}
 use Rattle.mk_laws.proofs.Basics.{known_left, not_astray, operands_of, others_held, register_small, same_holder}
-use Rattle.mk_laws.proofs.{Basics.{standing, turn_of, view_of}, Colours.{attending_grows, colour_step}}
-use Rattle.mk_laws.proofs.{Known.{HaveOperands, Operands, holds_turn}, OthersCounts.{counts_nothing, entry_fulls}}
-use Rattle.mk_laws.proofs.{OthersCounts.{fulls_append, fulls_of}, OthersMoves.{MarkerWrite, OthersMove, gate_one}}
-use Rattle.mk_laws.proofs.{OthersMoves.{others_move, with_words_seats}, TurnFrame.{holding_out, turn_after}}
-use Rattle.mk_laws.proofs.{TurnFrame.{turn_joined, turn_same}, Growth.{grows_joined, grows_same}}
-use Rattle.mk_laws.proofs.{HeaderSteps.{header_step, stays_mapped}, ProtocolReadings.in_counts, Protocols.protocol_of}
-use Rattle.mk_laws.proofs.Standings.{InCall, in_call_is}
+use Rattle.mk_laws.proofs.{Basics.{standing, turn_of, view_of}, Changes.{attending_grows, colour_step, grows_joined}}
+use Rattle.mk_laws.proofs.{Changes.grows_same, OthersCounts.{counts_nothing, entry_fulls, fulls_append, fulls_of}}
+use Rattle.mk_laws.proofs.TurnFrame.{holding_out, turn_after, turn_joined, turn_same}
+use Rattle.mk_laws.proofs.{HeaderSteps.{header_step, stays_mapped}, Known.{HaveOperands, Operands, holds_turn}}
+use Rattle.mk_laws.proofs.{OthersMoves.{OthersMove, gate_one, others_move}, ProtocolReadings.in_counts}
+use Rattle.mk_laws.proofs.{Protocols.protocol_of, Standings.{InCall, in_call_is}}
 use Rattle.mk_core.proofs.{Histories.calls_append, RegisterAccesses.tally_leaves_registers}
 use Rattle.mk_core.specs.Frames.{Attends, CountsAreLeft, HoldsAll, IsIn, OthersLeave, OwnIsLeft, written_of}
 use Rattle.mk_core.specs.{Growing.is_same_seat, Readings.is_in_call}
@@ -96,15 +95,10 @@ mapped_after {c} w seat (Caller k) x known h ne call p is =
     stays_mapped p (header_step c w.now seat x k h g.0 ne g.1) is
 mapped_after w seat _ x known h ne call p is = absurd call
 
--- Where all other gates are held, callers do nothing, and markers don't change what callers do.
-marks_leave : (w : World) {k : ℕ} {y : MarkerState} (ms : List MarkerState) {x : Words} → MarkerWrite k w.now y x
-    → written_of (with_words_seats w x (record w.now.seats { markers = ms })) ≡ written_of w
-marks_leave w ms h = grind arith
-
 stop_out : {c : Config} {w : World} {seat : Seat} (s : Seat) {v : World} → OthersMove c w seat v → seat ≢ s
     → Holds c w.now s
     → others_are_held c.callers w.now.words s ≡ true → written_of v ≡ written_of w
-stop_out s h ne holds all = grind (arith, others_held, marks_leave)
+stop_out s h ne holds all = grind (arith, others_held)
 
 scan_after : {c : Config} (w : World) (seat s : Seat) (x : Step) → Known c w.now → Meets c w.now seat x
     → Attends w.now s → OnlyGrow w.now.words.marks (WorldBehind c w seat x).now.words.marks

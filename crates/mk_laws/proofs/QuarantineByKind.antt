@@ -12,10 +12,10 @@ use Rattle.mk_laws.proofs.Vocabulary.{set-get_or, slice_index, slice_set, stands
 use Rattle.mk_laws.proofs.Vocabulary.{undecided_free, undecided_new, used_step, ◌%◌, ◌/◌, ◌<◌, ◌==◌, ◌^◌, ◌||◌, ◌∙◌}
 use Rattle.mk_laws.proofs.{Vocabulary.◌≡◌, Basics.{Before, Laid, Meets, WorldBehind, all_stand, claim_among}}
 use Rattle.mk_laws.proofs.Basics.{free_has_turn, is_releasing_behind, none_set, own_claim, placed_undecided}
-use Rattle.mk_laws.proofs.{Basics.{reg_leaves_ground, tally_ground}, Ground.{KeepsGround, with_quarantine}}
+use Rattle.mk_laws.proofs.{Basics.{reg_leaves_ground, tally_ground}, Freed.{settled_page, standing_cell}}
 use Rattle.mk_laws.proofs.QuarantineChanges.{FreesHere, begin_kept, free_kept, grant_kept, index_small, release_kept}
 use Rattle.mk_laws.proofs.QuarantineSteps.{drop_kept, end_kept, released_bits, replaced, snapshot_kept, take_kept}
-use Rattle.mk_laws.proofs.{Dropped.settled_page, Freed.standing_cell, LayoutByKind.{off_at, with_halves}}
+use Rattle.mk_laws.proofs.{Ground.{KeepsGround, with_quarantine}, LayoutByKind.{off_at, with_halves}}
 use Rattle.mk_core.proofs.{EvaluatedPlaces.full, PlacesNow.{FreesCell, chosen_used}}
 
 abbrev pub QuarantinedAs : Config → Bool → World → Ground → Type 0

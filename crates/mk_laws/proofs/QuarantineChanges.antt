@@ -191,13 +191,7 @@ free_kept {c} {w} {cell} run {n = n} x q = record {
         → IsFreedCell c (map (freed_where_it_stands w.now.words (Some cell)) w.allocations) i k
     was i k h = elim (q.owned i k h) [ inl o ↦ still i k o | inr r ↦ absurd (true≢false (sym r)) ]
 
-    new : IsFreedCell c (map (freed_where_it_stands w.now.words (Some cell)) w.allocations) cell.page cell.index
-    new = grind (arith, changed_at, leaves, cond-true)
-
     owned : (i k : ℕ) → has_bit (slice_index (slice_set w.now.words.freed cell.page (n % 2 ^ 32)) i) k ≡ true
         → IsFreedCell c (map (freed_where_it_stands w.now.words (Some cell)) w.allocations) i k
         ⊎ (is_released_in false (slice_set w.now.words.snapshot cell.page (n / 2 ^ 32)) w.now.words.marks i k ≡ true)
-    owned i k h = elim (bit_cases w.now.words.freed cell.page (n % 2 ^ 32) i k x.page) [
-      | inr other ↦ inl (was i k (sym other.1 ∙ h))
-      | inl here ↦ grind (arith, new, was, added_other, low)
-    ]
+    owned i k h = grind (arith, bit_cases, was, added_other, low, changed_at, leaves, cond-true)

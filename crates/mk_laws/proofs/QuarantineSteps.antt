@@ -1,22 +1,20 @@
 -- The quarantine after each kind of step.
-use Rattle.std.proofs.{Common.bit_and, lemmas.Nat.and_le_r, lemmas.Nat.Bits.{bit_at_and, same_from_bits}}
+use Rattle.std.proofs.{Common.bit_and, lemmas.Nat.and_le_r, lemmas.Nat.Bits.bit_at_and, lemmas.Nat.Bits.same_from_bits}
 use Rattle.mk_laws.proofs.Vocabulary.{Among, Bool, Claim, Config, Drops, Ground, HasQuarantine, List, Object, Option}
 use Rattle.mk_laws.proofs.Vocabulary.{Page, Place, Placing, RunPages, Used, World, ℕ, and_parts, and_right, ap, arith}
-use Rattle.mk_laws.proofs.Vocabulary.{cases_eq, cell_of_allocation, claims_on, claims_placed, false, false_from_ne_true}
-use Rattle.mk_laws.proofs.Vocabulary.{fewer_bits, get_or-set_other, get_or-set_same, ground_of, has_bit}
-use Rattle.mk_laws.proofs.Vocabulary.{has_bit_without, inl, inr, is_released_in, length, not, not-true, placed_at, refl}
-use Rattle.mk_laws.proofs.Vocabulary.{slice_index, slice_set, sym, true, used_on, without, ◌&&◌, ◌-◌, ◌<◌, ◌^◌, ◌∙◌}
-use Rattle.mk_laws.proofs.{Vocabulary.{◌≡◌, ◌≢◌, ◌⊎◌}, Claims.claim_is, Serving.among_parts}
+use Rattle.mk_laws.proofs.Vocabulary.{cases_eq, cell_of_allocation, claims_on, false, false_from_ne_true, fewer_bits}
+use Rattle.mk_laws.proofs.Vocabulary.{get_or-set_other, get_or-set_same, ground_of, has_bit, has_bit_without, inl, inr}
+use Rattle.mk_laws.proofs.Vocabulary.{is_released_in, length, not, not-true, placed_at, refl, slice_index, slice_set}
+use Rattle.mk_laws.proofs.Vocabulary.{sym, true, used_on, without, ◌&&◌, ◌-◌, ◌<◌, ◌^◌, ◌∙◌, ◌≡◌, ◌≢◌, ◌⊎◌}
 use Rattle.mk_core.proofs.{PageSteps.left_bits, WordBits.rest_bits}
+use Rattle.mk_laws.proofs.{Claims.claim_is, Serving.among_parts}
 
 -- the bits of a word that another hasn't, where the other's are all its own
 rest_bit : (n m k : ℕ) → bit_and n m ≡ n → has_bit (m - n) k ≡ (has_bit m k && not (has_bit n k))
 rest_bit n m k sub =
-    let same : m - n ≡ without m n = ap (λ x. m - x) (sym turned) in
+    let same : m - n ≡ without m n = ap (λ x. m - x) (sym
+    (same_from_bits _ _ (λ i. bit_at_and m n i ∙ (omega arith) ∙ sym (bit_at_and n m i)) ∙ sub)) in
     rw same (has_bit_without m n k)
-  where
-    turned : bit_and m n ≡ n
-    turned = same_from_bits _ _ (λ i. bit_at_and m n i ∙ (omega arith) ∙ sym (bit_at_and n m i)) ∙ sub
 
 pub and_both : (a b : Bool) → a ≡ true → b ≡ false → (a && not b) ≡ true
 and_both a b x y = rw x (ap not y)
@@ -129,9 +127,5 @@ none_released c o marks t q x i = elim (among_parts _ _ x i) [
   | inl j ↦
       let n = claim_is c t.run t.allocations x j in
       rw n.is (q.kept refl n.number n.unreleased)
-  | inr j ↦ by t.placing refl j
+  | inr j ↦ grind (arith, false_from_ne_true, released_bits)
 ]
-  where
-    by : (placing : Placing) → t.placing ≡ placing → Among x (claims_placed o placing)
-        → is_released_in true t.snapshot marks x.page x.index ≡ false
-    by placing is j = grind (arith, false_from_ne_true, released_bits)

@@ -1,9 +1,9 @@
 -- What the layout and the quarantine say of all histories.
 use Rattle.mk_laws.proofs.Vocabulary.{Config, Event, IsHistory, LayoutPremisesFrom, List, OfHistories, World}
 use Rattle.mk_laws.proofs.Vocabulary.{append_assoc, earlier_part_is_history, histories_keep_lengths, left, left_from}
-use Rattle.mk_laws.proofs.{Vocabulary.{left_in_parts, subst, sym, [], ◌++◌, ◌∷◌, ◌≡◌}, Basics.known_world}
-use Rattle.mk_laws.proofs.{CycleSnapshots.snapshots_are_of_cycles, InvariantHistories.histories_keep_the_invariant}
-use Rattle.mk_laws.proofs.{InvariantJoined.told_to_layout, ResidentPages.resident_few}
+use Rattle.mk_laws.proofs.Vocabulary.{left_in_parts, subst, sym, [], ◌++◌, ◌∷◌, ◌≡◌}
+use Rattle.mk_laws.proofs.InvariantHistories.{histories_keep_the_invariant, told_to_layout}
+use Rattle.mk_laws.proofs.{Basics.known_world, CycleSnapshots.snapshots_are_of_cycles, ResidentPages.resident_few}
 use Rattle.mk_laws.specs.Theorems.{FewPagesAreResident, PagesHaveHeaderWords, SnapshotIsTheCycles}
 
 pub pages_have_header_words : OfHistories PagesHaveHeaderWords

@@ -4,7 +4,7 @@ use Rattle.mk_laws.proofs.Vocabulary.{Meets, NeverState, Null, Num, PlacedAlloca
 use Rattle.mk_laws.proofs.Vocabulary.{WordOf, ℕ, allocation_at, ap, arith, bases_of, false, header_of, image_of}
 use Rattle.mk_laws.proofs.Vocabulary.{is_unmapped, is_unmapped_header, kind_in, length, length-map, number_of}
 use Rattle.mk_laws.proofs.Vocabulary.{placed_at, sym, target_of, true, word_at, words_of, ◌++◌, ◌+◌, ◌-◌, ◌/◌, ◌<◌, ◌∙◌}
-use Rattle.mk_laws.proofs.{Vocabulary.{◌≡◌, ◌≢◌}, HeapEdits.base_at, Pairs.image_more, Ready.Ready}
+use Rattle.mk_laws.proofs.{Vocabulary.{◌≡◌, ◌≢◌}, ImagesKept.base_at, Pairs.image_more, Ready.Ready}
 
 -- the access through the value, i words on, whose address is in q
 pub record Reaches (safe : ℕ → Bool) (s : ImageScene) (n : NeverState) (v : Value) (q i : ℕ) (P : Kind

@@ -1,8 +1,8 @@
 -- An unreleased allocation keeps its place, and stays unreleased, up to a `release`.
 use Rattle.mk_laws.proofs.Vocabulary.{Config, Event, List, PlacedAllocation, Seat, Step, World, ℕ, cell_of_allocation}
 use Rattle.mk_laws.proofs.Vocabulary.{false, flight_of, is_release, left_from, list_any, or_parts, placed_at, refl}
-use Rattle.mk_laws.proofs.{Vocabulary.{world_behind, [], ◌∙◌, ◌∷◌, ◌≡◌}, AllocationSteps.{allocation_step, goes_on}}
-use Rattle.mk_laws.proofs.{AllocationSteps.is_there, Basics.{WorldBehind, same_cell}}
+use Rattle.mk_laws.proofs.{Vocabulary.{world_behind, [], ◌∙◌, ◌∷◌, ◌≡◌}, Ground.{allocation_step, goes_on, is_there}}
+use Rattle.mk_laws.proofs.Basics.{WorldBehind, same_cell}
 
 pub record StaysPut (a b : PlacedAllocation) : Type 0 where
   pub base : b.base ≡ a.base

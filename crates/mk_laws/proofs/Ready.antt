@@ -4,8 +4,8 @@ use Rattle.mk_laws.proofs.Vocabulary.{Null, Op, Option, Progress, Ptr, Some, Val
 use Rattle.mk_laws.proofs.Vocabulary.{answers_of, ap, arith, asked, bases_of, bit, cases_Bool, cases_eq, entry_of}
 use Rattle.mk_laws.proofs.Vocabulary.{eq-eqb, false, flagged, if◌then◌else◌, image_of, inl, inr, is_same, kinds_of}
 use Rattle.mk_laws.proofs.Vocabulary.{length, ne_eqb, one_if, placed_at, refl, replies_of, slice_set, sym, true}
-use Rattle.mk_laws.proofs.{Vocabulary.{words_of, [], ◌++◌, ◌+◌, ◌<◌, ◌==◌, ◌^◌, ◌∙◌, ◌∷◌, ◌≡◌}, HeapEdits.base_at}
-use Rattle.mk_laws.{proofs.{ImagesKept.{AreApart, AreSmall}, ImagesMoves.Move}, specs.Images.{AreImages}}
+use Rattle.mk_laws.proofs.Vocabulary.{words_of, [], ◌++◌, ◌+◌, ◌<◌, ◌==◌, ◌^◌, ◌∙◌, ◌∷◌, ◌≡◌}
+use Rattle.mk_laws.{proofs.{ImagesKept.{AreApart, AreSmall, base_at}, ImagesMoves.Move}, specs.Images.{AreImages}}
 use Rattle.mk_never.proofs.{Sameness.{equal_from_same, same_from_equal}, Soundness.place_is_inside}
 use Rattle.mk_never.specs.NeverHeap.{reply_of}
 
@@ -35,11 +35,10 @@ pub image_same : {listed : List ℕ} {safe : ℕ → Bool} {s : ImageScene} {n :
 image_same {listed} {safe} {s} {n} h (Ptr a t o) (Ptr b u i) su sv fu fv e =
     let ea = base_at s.allocations a in
     let eb = base_at s.allocations b in
-    let places : (placed_at s.allocations a).base + o ≡ (placed_at s.allocations b).base + i = omega arith in
     elim (cases_eq a b) [
       | inl ab ↦ grind arith
       | inr ne ↦ absurd (h.apart a b o i (h.set.unreleased a fu) (h.set.unreleased b fv)
-          (pointed_word listed safe s n h a t o su) (pointed_word listed safe s n h b u i sv) ne places)
+          (pointed_word listed safe s n h a t o su) (pointed_word listed safe s n h b u i sv) ne (omega arith))
     ]
 image_same h u v su sv fu fv e = grind (arith, image_zero)
 

@@ -5,7 +5,7 @@ use Rattle.mk_laws.proofs.Vocabulary.{length, list_any, q_of, register_at, slice
 use Rattle.mk_laws.proofs.{Vocabulary.{target_of, true, with_register, ◌*◌, ◌+◌, ◌<◌, ◌≡◌}, ImagesMoves.{Flies, Move}}
 use Rattle.mk_laws.proofs.{ImagesMoves.{Owes, is_bare}, Pairs.{bare_carries, bare_owes_nothing, bare_unprobed}}
 use Rattle.mk_laws.proofs.{Pairs.shows_plain, Ready.{Leads, one_right}}
-use Rattle.mk_never.specs.{NeverHeap.{after_op, left_at, reply_at, reply_of}, declared.operations.Reply.Reply}
+use Rattle.mk_never.specs.{NeverHeap.{after_op, reply_at, reply_of}, declared.operations.Reply.Reply}
 use Rattle.mk_never.specs.declared.values.Target.{Target}
 use Rattle.mk_core.specs.Calls.{is_same_stage}
 
@@ -41,10 +41,6 @@ refused_reply : (x t : Target) (at : ℕ → ℕ → Reply) → x ≡ t → is_w
     → reply_at x at ≡ reply_at t (λ a w. Done)
 refused_reply x t at e none = grind (arith, is_word)
 
-refused_left : (x t : Target) (left : NeverState) (at : ℕ → ℕ → NeverState) → x ≡ t → is_word t ≡ false
-    → left_at x left at ≡ left
-refused_left x t left at e none = grind (arith, is_word)
-
 abbrev flight : Stage → Op → ℕ → ℕ → ℕ → ℕ → Flight
 flight st o q p r l = record { stage = st; op = o; q = q; p = p; r = r; loaded = l }
 
@@ -57,4 +53,4 @@ pub refuses : (safe : ℕ → Bool) (s : ImageScene) (n : NeverState) (k : ℕ) 
       flights = slice_set s.flights k (record { stage = stage_refused o; op = o; q = q; p = p; r = r; loaded = 0 });
     }) (Some a)
 refuses safe s n k o q p r a t is there long was ld none e answer =
-    grind (arith, decides_nothing, refused_reply, refused_left, owes_null)
+    grind (arith, decides_nothing, refused_reply, is_word, owes_null)

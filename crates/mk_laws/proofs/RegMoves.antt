@@ -1,16 +1,15 @@
 -- `reg` leads to what the images allow, at each stage.
-use Rattle.mk_laws.proofs.Vocabulary.{Answer, AreAdmitted, Bool, Carries, CarriesOwn, Done, Flight, ImageScene}
-use Rattle.mk_laws.proofs.Vocabulary.{IsAdmitted, IsSafe, IsSound, List, Meets, NeverState, None, Null, Num, Op}
-use Rattle.mk_laws.proofs.Vocabulary.{ProbedOwn, Ptr, Some, Stage, Value, ℕ, answer_of, ap, arith, asked, bases_of}
-use Rattle.mk_laws.proofs.Vocabulary.{d_of, entry_of, eqb-false, eqb-true, false, false≢true, flight_among, has_p}
-use Rattle.mk_laws.proofs.Vocabulary.{has_r, has_some_p, if◌then◌else◌, image_of, is_past_probe, is_put, is_same}
-use Rattle.mk_laws.proofs.Vocabulary.{length, one_if, onward, p_of, progress_p, progress_q, progress_reg, q_of, r_of}
-use Rattle.mk_laws.proofs.Vocabulary.{refl, refused, register_at, register_met, slice_set, stage_behind, steps_of, sym}
-use Rattle.mk_laws.proofs.Vocabulary.{true, ◌%◌, ◌*◌, ◌++◌, ◌+◌, ◌<◌, ◌==◌, ◌^◌, ◌∙◌, ◌≡◌, ◌≢◌}
+use Rattle.mk_laws.proofs.Vocabulary.{Answer, AreAdmitted, Bool, Carries, CarriesOwn, Done, Flight, ImageScene, IsSafe}
+use Rattle.mk_laws.proofs.Vocabulary.{IsSound, List, Meets, NeverState, None, Null, Num, Op, ProbedOwn, Ptr, Some}
+use Rattle.mk_laws.proofs.Vocabulary.{Stage, Value, ℕ, answer_of, ap, arith, asked, bases_of, d_of, entry_of, eqb-false}
+use Rattle.mk_laws.proofs.Vocabulary.{eqb-true, false, false≢true, flight_among, has_p, has_r, has_some_p}
+use Rattle.mk_laws.proofs.Vocabulary.{if◌then◌else◌, image_of, is_past_probe, is_put, is_same, length, one_if, onward}
+use Rattle.mk_laws.proofs.Vocabulary.{p_of, progress_p, progress_q, progress_reg, q_of, r_of, refl, refused}
+use Rattle.mk_laws.proofs.Vocabulary.{register_at, register_met, slice_set, stage_behind, steps_of, sym, true, ◌%◌, ◌*◌}
+use Rattle.mk_laws.proofs.{Vocabulary.{◌+◌, ◌<◌, ◌==◌, ◌^◌, ◌∙◌, ◌≡◌, ◌≢◌}, ImagesMoves.{Flies, Move, Pays, Stores}}
 use Rattle.mk_laws.proofs.Ready.{Leads, LeadsBy, Ready, bit_is, either_leads, image_test, image_zero, one_right}
-use Rattle.mk_laws.proofs.{Refusals.{accesses, decides_nothing, owes_null, refuses}, HeapEdits.base_at}
-use Rattle.mk_laws.proofs.{ImagesMoves.{Flies, Move, Pays, Stores}, Pairs.shows_plain, Stages.is_reg_stage}
-use Rattle.mk_laws.proofs.Standings.{is_astray, standing_at}
+use Rattle.mk_laws.proofs.{Refusals.{accesses, decides_nothing, owes_null, refuses}, Standings.{is_astray, standing_at}}
+use Rattle.mk_laws.proofs.{ImagesKept.base_at, Pairs.shows_plain, Stages.is_reg_stage}
 use Rattle.mk_never.specs.{NeverHeap.{free_reply, lea_reply, moved_on}, declared.values.Target.TheVariants.Nothing}
 use Rattle.mk_core.specs.Calls.{value_for}
 
@@ -29,9 +28,6 @@ record BehindLoadQ (s : Stage) (o : Op) : Type 0 where
   pub r : has_r s o ≡ false
   pub put : is_put s ≡ false
   pub probed : is_past_probe s ≡ false
-
-behind_load_q : (o : Op) → accesses o ≡ true → BehindLoadQ (stage_behind Stage.LoadQ (steps_of o)) o
-behind_load_q o h = grind arith
 
 -- a flight that goes on undecided
 pub flies_on : (safe : ℕ → Bool) (s : ImageScene) (n : NeverState) (k : ℕ) (o : Op) (f : Flight) → is_put
@@ -71,13 +67,10 @@ module _ (listed : List ℕ) (safe : ℕ → Bool) (s : ImageScene) (n : NeverSt
         else onward (flight Stage.LoadQ o x p r l) None)
     load_q o q p r l x access is ld e =
         let was = ap (λ (f : Flight). is_put f.stage) is in
-        let next = behind_load_q o access in
-        either_leads safe s n k o s (x == 0) _ _
-        (λ z. refuses safe s n k o x p r Answer.Null Nothing access there long was ld refl
-        (rw (null_at (q_of o) x e z)) (λ bs. refl))
-        (λ nz. flies_on safe s n k o (flight (stage_behind Stage.LoadQ (steps_of o)) o x p r l) was next.put
-        (carries_q _ _ _ _ _ e (eqb-false x 0 nz) next.p next.some_p next.r)
-        (λ y. absurd (false≢true (sym next.probed ∙ y))))
+        let next : BehindLoadQ (stage_behind Stage.LoadQ (steps_of o)) o = grind arith in
+        either_leads safe s n k o s (x == 0) _ _ (λ z. refuses safe s n k o x p r Answer.Null Nothing access there long
+        was ld refl (rw (null_at (q_of o) x e z)) (λ bs. refl)) (λ nz. flies_on safe s n k o _ was next.put (carries_q _
+        _ _ _ _ e (eqb-false x 0 nz) next.p next.some_p next.r) (λ y. absurd (false≢true (sym next.probed ∙ y))))
 
     reg_q : (o : Op) (q p r l x : ℕ) → flight_among s.flights k ≡ flight Stage.LoadQ o q p r l → d_of o < 8
         → is_astray (standing_at Stage.LoadQ o) ≡ false → CarriesOwn bases n k (flight Stage.LoadQ o q p r l)
@@ -121,8 +114,7 @@ module _ (listed : List ℕ) (safe : ℕ → Bool) (s : ImageScene) (n : NeverSt
         let v = register_at n k p' in
         let tests : (x == 0) ≡ is_same v Null = rw e
         (image_test h v Null (h.typed.registers (8 * k + p')) tt (h.set.registers (8 * k + p')) tt) in
-        decides_nothing safe s n k (Op.IsNull p') _ (Answer.Num (one_if (x == 0))) refl (rw is) refl refl
-        (λ bs. rw tests (ap Answer.Num (bit_is _)))
+        decides_nothing safe s n k (Op.IsNull p') _ _ refl (rw is) refl refl (λ bs. rw tests (ap Answer.Num (bit_is _)))
     reg_p (Op.Free p') q p r l x is a car e =
         let was = ap (λ (f : Flight). is_put f.stage) is in
         either_leads safe s n k (Op.Free p') s (x == 0) _ _
@@ -145,23 +137,8 @@ module _ (listed : List ℕ) (safe : ℕ → Bool) (s : ImageScene) (n : NeverSt
         → AreAdmitted listed n (asked (entry_of k o (Some Answer.Done))) → LeadsBy safe s n k o
         (record s { registers = slice_set s.registers (8 * k + d_of o) (value_for (flight Stage.Store o q p r l) o) })
         (onward (flight Stage.Store o q p r l) (Some Answer.Done))
-    reg_store (Op.Lea d q' i) q p r l is ld a car ad =
-        let admitted : IsAdmitted listed n k (Op.Lea d q' i) = ad.0 in
-        let lea = lea_value h (register_at n k q') q i (h.typed.registers (8 * k + q'))
-        (h.set.registers (8 * k + q')) (car.q refl) (car.some_q refl) admitted.access in (
-          Stores k d _ (flight Stage.Leave (Op.Lea d q' i) q p r l) (moved_on (register_at n k q') i)
-              (record { there = there; registers = long; was = rw is; bare = refl }) longs ld lea.0 lea.1,
-          λ more. one_right (bases_of s.allocations ++ more) Answer.Done n k (Op.Lea d q' i)
-              (ap (answer_of (bases_of s.allocations ++ more)) (sym lea.2)),
-        )
+    reg_store (Op.Lea d q' i) q p r l is ld a car ad = grind (arith, lea_value, flight, one_right, Stores)
     reg_store o q p r l is ld a car ad = grind (arith, flight, Stores)
-
-    reg_put : (o : Op) (q p r l : ℕ) → flight_among s.flights k ≡ flight Stage.Put o q p r l → d_of o < 8
-        → Leads safe s n k o (record s {
-          registers = slice_set s.registers (8 * k + d_of o) l;
-          flights = slice_set s.flights k (flight Stage.Leave o q p r l);
-        }) None
-    reg_put o q p r l is ld = grind (arith, flight, Pays)
 
     pub reg_leads : (st : Stage) (o : Op) (q p r l x : ℕ) → flight_among s.flights k ≡ flight st o q p r l → d_of o < 8
         → is_reg_stage st ≡ true → is_astray (standing_at st o) ≡ false → CarriesOwn bases n k (flight st o q p r l)
@@ -173,5 +150,5 @@ module _ (listed : List ℕ) (safe : ℕ → Bool) (s : ImageScene) (n : NeverSt
     reg_leads Stage.LoadP o q p r l x is ld rs a car e ad = reg_p o q p r l x is a car (e refl)
     reg_leads Stage.LoadR o q p r l x is ld rs a car e ad = reg_r o q p r l x is a car (e refl)
     reg_leads Stage.Store o q p r l x is ld rs a car e ad = reg_store o q p r l is ld a car ad
-    reg_leads Stage.Put o q p r l x is ld rs a car e ad = reg_put o q p r l is ld
+    reg_leads Stage.Put o q p r l x is ld rs a car e ad = grind (arith, flight, Pays)
     reg_leads _ o q p r l x is ld rs a car e ad = cc

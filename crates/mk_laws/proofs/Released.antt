@@ -18,11 +18,9 @@ use Rattle.mk_core.proofs.StandingAllocations.{cell_ends_within, made_begins, pl
 -- The words of an object end with its pages.
 pub ends_on_pages : (o : Object) (base : ℕ) → IsSized o → BeginsAtCell o base
     → base + words_made o ≤ 64 * (base / 64 + pages_made o)
-ends_on_pages o base sized b = elim (cases_Bool (is_small_object o)) [
-  | inl small ↦
-      omega (arith, cell_ends_within o base sized small b, small_pages o small, b.first)
-  | inr large ↦
-      omega (arith, large_words o large, (run_begins o base large b).1)
+ends_on_pages o base sized b = elim (cases_Bool _) [
+  | inl small ↦ omega (arith, cell_ends_within o base sized small b, small_pages o small, b.first)
+  | inr large ↦ omega (arith, large_words o large, (run_begins o base large b).1)
 ]
 
 -- what mk_core asks of an allocation
@@ -52,18 +50,18 @@ pub place_index : (c : Config) (a : PlacedAllocation) (place : Place) → IsSize
     → a.base ≡ base_made (object_placed c a) place → place.index < cells_made (object_placed c a)
     → (a.base / 64 ≡ place.page) × ((cell_of_allocation c a).index ≡ place.index)
 place_index c a place sized base lt =
-    let made = made_begins (object_placed c a) place sized lt in
-    let begins : BeginsAtCell (object_placed c a) a.base =
-    record { index = made.0.index; known = made.0.known; first = rw base made.0.first } in
-    (rw base made.2, ap (λ (x : Cell). x.index) (placed_cell c a sized begins) ∙ made.1)
+    let made = made_begins (object_placed c a) place sized lt in (
+      rw base made.2,
+      ap (λ (x : Cell). x.index) (placed_cell c a sized
+          (record { index = made.0.index; known = made.0.known; first = rw base made.0.first })) ∙ made.1,
+    )
 
 -- The unreleased allocations stand on the heap, with their headers.
 pub all_stand : (c : Config) (o : Object) (releasing : Bool) (w : World) → length w.now.words.pages ≡ c.pages
     → Laid c o releasing w (ground_of w)
     → (i : ℕ) → (placed_at w.allocations i).released ≡ false → IsStanding c w.now.words (placed_at w.allocations i)
 all_stand c o releasing w len st i u =
-    let a : PlacedAllocation = placed_at w.allocations i in
-    let x : Claim = claim_of c w.now.seats.holding.freed a in
+    let x : Claim = claim_of c w.now.seats.holding.freed (placed_at w.allocations i) in
     stands_there w.now.seats.holding.freed w.now.words len (st.scene.shown x
     (own_claim c o (ground_of w) x (claim_among c w.now.seats.holding.freed w.allocations i u))) u (st.cells i u)
 

@@ -1,21 +1,20 @@
 -- What a cycle's `release` releases.
-use Rattle.mk_laws.proofs.Vocabulary.{AreEnabledFrom, At, Bool, Config, Event, IsHistory, List, Moment, NeverState}
-use Rattle.mk_laws.proofs.Vocabulary.{OfHistories, PlacedAllocation, Releasing, Step, World, ℕ, and_from, and_parts, ap}
-use Rattle.mk_laws.proofs.Vocabulary.{append_assoc, arith, before_release, call_decided, calls_from, cell_of_allocation}
-use Rattle.mk_laws.proofs.Vocabulary.{changed_at, earlier_part_is_history, enabled_in_parts, enabled_parts, false}
-use Rattle.mk_laws.proofs.Vocabulary.{flight_of, has_bit_of, has_bit_without, is_begin, is_close, is_marked}
-use Rattle.mk_laws.proofs.Vocabulary.{is_quarantined, is_release, left, left_from, left_in_parts, list_any}
-use Rattle.mk_laws.proofs.Vocabulary.{list_any-append, map, never_behind, never_in_parts, not, not-true, phase_of}
-use Rattle.mk_laws.proofs.Vocabulary.{placed_at, released_leaves, released_where_left, subst, sym, true, with_released}
-use Rattle.mk_laws.proofs.{Vocabulary.{[], ◌&&◌, ◌++◌, ◌↔◌, ◌∙◌, ◌∷◌, ◌≡◌}, CyclePhases.{AsksPhase, IsUnreleased}}
-use Rattle.mk_laws.proofs.CyclePhases.{begin_is, close_is, marking_goes_on, moves_phase, none_is_released, phase_behind}
-use Rattle.mk_laws.proofs.{CyclePhases.release_is, InvariantTheorems.{allocations_stand, reach_is_kept}}
-use Rattle.mk_laws.proofs.{Quarantines.snapshot_is_the_cycles, ReadingsKeptPlaces.stays_put}
-use Rattle.mk_laws.proofs.{Snapshots.{enabled_at, unreleased_cycles}, Stretches.{at_release, history_through}}
+use Rattle.mk_laws.proofs.Vocabulary.{AreEnabledFrom, At, Bool, Config, Event, IsHistory, List, NeverState, OfHistories}
+use Rattle.mk_laws.proofs.Vocabulary.{PlacedAllocation, Releasing, Step, World, ℕ, and_from, and_parts, ap}
+use Rattle.mk_laws.proofs.Vocabulary.{append_assoc, arith, before_release, calls_from, cell_of_allocation, changed_at}
+use Rattle.mk_laws.proofs.Vocabulary.{earlier_part_is_history, enabled_in_parts, enabled_parts, false, flight_of}
+use Rattle.mk_laws.proofs.Vocabulary.{has_bit_of, has_bit_without, is_begin, is_close, is_marked, is_quarantined}
+use Rattle.mk_laws.proofs.Vocabulary.{is_release, left, left_from, left_in_parts, list_any, list_any-append, map}
+use Rattle.mk_laws.proofs.Vocabulary.{never_behind, never_in_parts, not, not-true, phase_of, placed_at, released_leaves}
+use Rattle.mk_laws.proofs.Vocabulary.{released_where_left, subst, sym, true, with_released, [], ◌&&◌, ◌++◌, ◌↔◌, ◌∙◌}
+use Rattle.mk_laws.proofs.{Vocabulary.{◌∷◌, ◌≡◌}, CyclePhases.{AsksPhase, IsUnreleased, begin_is, close_is}}
+use Rattle.mk_laws.proofs.CyclePhases.{marking_goes_on, moves_phase, none_is_released, phase_behind, release_is}
+use Rattle.mk_laws.proofs.{InvariantHistories.{allocations_stand, reach_is_kept}, Quarantines.snapshot_is_the_cycles}
+use Rattle.mk_laws.proofs.{ReadingsKeptPlaces.stays_put, Snapshots.{enabled_at, unreleased_cycles}}
+use Rattle.mk_laws.{proofs.Stretches.{at_release, history_through}, specs.Releases.{allocation_behind}}
 use Rattle.mk_never.specs.Reach.{IsReachable}
 use Rattle.mk_core.specs.Allocations.{allocations_by}
 use Rattle.mk_laws.specs.Releases.{NoOthersRelease, ReleasesAreExact, ReleasesNoneReached, allocation_before}
-use Rattle.mk_laws.specs.Releases.{allocation_behind}
 
 -- No other cycle begins between a `begin` and its `release`.
 none_begins : (c : Config) (w : World) (b x : Event) (ys zs : List Event) → AreEnabledFrom c w (b ∷ (ys ++ x ∷ zs))
@@ -27,14 +26,10 @@ none_begins c w b x ys zs on begins no_close closes no_release =
     let parts = enabled_parts c _ ys (x ∷ zs) first.2 in
     grind (arith, marking_goes_on, moves_phase, phase_behind, close_is, list_any-append, none_is_released)
 
--- A `release` decides no call.
-none_decided : (c : Config) (m : Moment) (e : Event) → e.step ≡ Step.Release → call_decided c m e ≡ []
-none_decided c m e is = grind arith
-
 never_stays : (c : Config) (es : List Event) (e : Event) → is_release e.step ≡ true
     → never_behind c (es ++ e ∷ []) ≡ never_behind c es
 unfolding calls_from
-never_stays c es e is = grind (arith, none_decided, release_is, never_in_parts)
+never_stays c es e is = grind (arith, release_is, never_in_parts)
 
 module _ (c : Config) (es : List Event) (h : IsHistory c es) (r : Releasing es) where
   abbrev begin : At is_begin es

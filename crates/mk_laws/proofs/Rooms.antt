@@ -109,12 +109,9 @@ used_room : (c : Config) (w : World) (p n : ℕ) (four : Bool) (found : Option P
     else taken w.now.seats.holding.placing found)
 used_room c w p n four found room = by four found
   where
-    same : RoomOn c (object_now c w.now) (with_used_on w.now.words.pages p n) w.now.seats.holding.placing
-    same = grind (arith, room_same, with_used_on, or_left, is_resident, resident_used)
-
     by : (four : Bool) (found : Option Place) → RoomOn c (object_now c w.now) (with_used_on w.now.words.pages p n)
         (if four then w.now.seats.holding.placing else taken w.now.seats.holding.placing found)
-    by four found = grind (arith, same, room_unplaced, with_used_on, resident_used)
+    by four found = grind (arith, room_unplaced, with_used_on, resident_used, room_same, or_left, is_resident)
 
 -- each kind of event, whatever the seat
 room_by_kind : {c : Config} {w : World} (seat : Seat) (x : Step) → Before c w → Meets c w.now seat x → LayoutStands c w

@@ -5,9 +5,9 @@ use Rattle.mk_laws.proofs.Vocabulary.{LayoutStands, List, None, Option, RunPages
 use Rattle.mk_laws.proofs.Vocabulary.{ap, cases_Bool, false, flight_of, inl, inr, is_heap_store, is_one_of, is_run_gone}
 use Rattle.mk_laws.proofs.Vocabulary.{left, refl, slice_index, true, word_met, [], ◌++◌, ◌∙◌, ◌∷◌, ◌≡◌}
 use Rattle.mk_laws.proofs.Basics.{HoldsTurn, KnownWorld, Meets, WorldBehind, actor_of, along_others, is_holders}
-use Rattle.mk_laws.proofs.{Basics.{same_holder, view_of}, FramesHolders.acts_as_holder, InvariantJoined.told_to_zeros}
-use Rattle.mk_laws.proofs.{Known.holds_turn, LastEvents.{comes_last, stands}, ProtocolFrames.{left_after, other_seat}}
-use Rattle.mk_laws.proofs.RunWords.{gone_behind, heap_after, is_wipe}
+use Rattle.mk_laws.proofs.{Basics.{same_holder, view_of}, FramesHolders.acts_as_holder}
+use Rattle.mk_laws.proofs.{InvariantHistories.told_to_zeros, Known.holds_turn, LastEvents.{comes_last, stands}}
+use Rattle.mk_laws.proofs.{ProtocolFrames.{left_after, other_seat}, RunWords.{gone_behind, heap_after, is_wipe}}
 
 -- Only the turn's holder wipes.
 wipe_is_holders : (x : Step) → is_wipe x ≡ true → is_holders x ≡ true

@@ -11,8 +11,8 @@ use Rattle.mk_laws.proofs.Vocabulary.{◌+◌, ◌-◌, ◌/◌, ◌∙◌, ◌�
 use Rattle.mk_core.{proofs.PlacesNow.target_is, proofs.StandingAllocations.run_cell, specs.Calls.is_same_stage}
 use Rattle.mk_laws.proofs.Basics.{KnownWorld, Ready, Stands, at_its_stage, exists_placed, flight, is_astray}
 use Rattle.mk_laws.proofs.Basics.{is_call_stage, not_astray, ready_of, standing_at, stands_of, unmapped_is, words_fit}
-use Rattle.mk_laws.proofs.{CallSorts.admitted_call, CallSorts.call_outside, FreeMoves.pointer_cell}
-use Rattle.mk_laws.proofs.{FreedRuns.decided_free_gives, ImagesKept.own_plain, NextSteps.has_stage_of_its_own}
+use Rattle.mk_laws.proofs.{CallSorts.admitted_call, CallSorts.call_outside, FreedRuns.decided_free_gives}
+use Rattle.mk_laws.proofs.{GrantMoves.pointer_cell, ImagesKept.own_plain, NextSteps.has_stage_of_its_own}
 use Rattle.mk_laws.proofs.{NextSteps.stage_of, Protocols.protocol_of, Reached.Reaches, Reached.reaches}
 use Rattle.mk_laws.specs.ImagesSay.{IsCellOfUnreleased, IsMappedWord}
 

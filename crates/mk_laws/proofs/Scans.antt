@@ -8,14 +8,11 @@ use Rattle.mk_laws.proofs.Vocabulary.{is_marked, is_scanned, lt-ltb, ltb-true, n
 use Rattle.mk_laws.proofs.Vocabulary.{refl, same_Some, scan_begun, scan_claimed, scan_onward, slice_index, subst, sym}
 use Rattle.mk_laws.proofs.Vocabulary.{true, true≢false, words_under, ◌*◌, ◌+◌, ◌<◌, ◌==◌, ◌∙◌, ◌≡◌, ◌≢◌, ◌≤◌, ◌⊎◌}
 use Rattle.mk_core.specs.Effects.{hand_behind_look, open_hand}
-use Rattle.mk_laws.{proofs.KeptGuard.goes_same, proofs.Wells.IsWell, proofs.Wells.well_guarded, specs.Guard.EndsItsCell}
+use Rattle.mk_laws.proofs.{KeptGuard.goes_same, Wells.IsWell, Wells.well_guarded}
 
 -- outside the heap a value points into nothing
 outside_well : (c : Config) (w : Words) (v : ℕ) → is_heap_address c.pages v ≡ false → IsWell c w v
-outside_well c w v out y is = absurd (by (is_heap_address c.pages v) _ out is)
-  where
-    by : (b : Bool) (x : Option Cell) → b ≡ false → (if b then x else None) ≡ Some y → ⊥
-    by b x e is = grind (arith, none-some)
+outside_well c w v out y is = grind (arith, none-some)
 
 -- the same scan, with another hand
 other_hand : {c : Config} {m : Moment} {hand : Option ℕ} (new : Option ℕ) {x : Scan} → ScanStands c m hand x
@@ -36,8 +33,7 @@ look_passes : (c : Config) (m : Moment) (p : ℕ) (hand : Option ℕ) (n : ℕ)
     → IsGuarded c m n ⊎ (hand_behind_look c p (header_at m.words p) hand ≡ Some (slice_index m.words.heap n))
 look_passes c m p hand n (inl g) = inl g
 look_passes c m p None n (inr e) = absurd (none-some _ e)
-look_passes c m p (Some value) n (inr e) =
-    by (p == page_at_address value) (cell_at c.pages (header_at m.words p) value) refl refl
+look_passes c m p (Some value) n (inr e) = by _ (cell_at c.pages (header_at m.words p) value) refl refl
   where
     by : (b : Bool) (x : Option Cell) → (p == page_at_address value) ≡ b
         → cell_at c.pages (header_at m.words p) value ≡ x → IsGuarded c m n
@@ -81,7 +77,7 @@ begun_stands c m hand p k header lt is go = record {
   marked = is;
   start = rw first (omega arith);
   next = omega arith;
-  end = ends (has_no_pointers (header_of header)) refl;
+  end = grind (arith, first, some);
   passed = λ f n le l. (let low = rw first at le in absurd (omega arith));
 }
   where
@@ -90,10 +86,6 @@ begun_stands c m hand p k header lt is go = record {
 
     first : 64 * p + k * words_under (header_in m.words p) ≡ 64 * p + k * words_under (header_of header)
     first = rw (go.words some)
-
-    ends : (b : Bool) → has_no_pointers (header_of header) ≡ b → EndsItsCell m.words (record (scan_begun p k header)
-        { end = 64 * p + k * words_under (header_of header) + (if b then 0 else words_under (header_of header)) })
-    ends b e = grind (arith, first, some)
 
 pub claim_stands : {c : Config} {m : Moment} {x : Marker} (p k : ℕ) → has_seen_cell x.seen p k ≡ true
     → MarkerStands c m x → MarkerStands c m (record x { scan = scan_claimed p k (slice_index m.words.marks p) x.seen })
@@ -185,9 +177,8 @@ pub scanned_guarded : (c : Config) (m : Moment) (x : Scan) → ScanStands c m No
 scanned_guarded c m x st done f i lt = elim st.end [
   | inr e ↦ absurd (true≢false (sym e.1 ∙ f))
   | inl e ↦
-      let le = past _ refl done in
       by (64 * x.page + x.index * words_under (header_in m.words x.page) + i) (st.passed f _ (omega arith)
-      (omega (arith, le, st.next, e, lt)))
+      (omega (arith, past _ refl done, st.next, e, lt)))
 ]
   where
     past : (b : Bool) → nat_lt x.next x.end ≡ b → not b ≡ true → x.end ≤ x.next

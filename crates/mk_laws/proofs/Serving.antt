@@ -70,9 +70,7 @@ chosen_free : (c : Config) {o : Object} (releasing : Bool) (w : World) {place : 
     → FitsOnFreePages c.resident w.now.words.pages o place
     → Laid c o releasing w (record (ground_of w) { placing = Chosen place })
 chosen_free c {o = o} releasing w {place = place} st is sized fit = record {
-  scene =
-      layout_chosen place.page o
-      (placed_as c o releasing w (ground_of w) Unplaced is st).scene refl sized fit.within fit.free;
+  scene = layout_chosen place.page o (placed_as c o releasing w _ Unplaced is st).scene refl sized fit.within fit.free;
   gone = st.gone;
   first = fit.index;
   cells = st.cells;
@@ -84,7 +82,6 @@ carved_on : (c : Config) (o : Object) (w : World) (place : Place) {p n : ℕ}
     → IsNextHeader w.now.words place.page (pages_made o) (header_made o) p n
     → Laid c o false w (record (ground_of w) { pages = with_header_on w.now.words.pages p n; placing = Chosen place })
 carved_on c o w place {p = p} {n = n} st next =
-    let low = next.from in
     let at : place.page + (p - place.page) ≡ p = omega arith in
     record {
       scene = subst (λ q. IsLaidOn (layout_scene_of c o false w.now.words.marks
@@ -124,9 +121,7 @@ placed_for c {o = o} releasing w {place = place} st sized placed = by w.now.seat
 pub not_again : (o : Object) (w : World) (place : Place) {p n : ℕ}
     → ((d : ℕ) → d < pages_made o → header_at w.now.words (place.page + d) ≡ header_made o d)
     → IsNextHeader w.now.words place.page (pages_made o) (header_made o) p n → ⊥
-not_again o w place {p = p} headers next =
-    let there : place.page + (p - place.page) ≡ p = omega (arith, next.from) in
-    next.not_yet (ap (λ q. header_at w.now.words q) (sym there) ∙ headers _ next.near)
+not_again o w place {p = p} headers next = grind arith
 
 -- `head` (a) and (b): a page of the place gets its header
 pub head_carves : (c : Config) {o : Object} (w : World) {place : Place} {p n : ℕ} → Laid c o false w (ground_of w)

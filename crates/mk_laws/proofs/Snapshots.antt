@@ -4,12 +4,12 @@ use Rattle.mk_laws.proofs.Vocabulary.{KeepsTheInvariant, List, OfHistories, Plac
 use Rattle.mk_laws.proofs.Vocabulary.{and_parts, ap, arith, cell_of_allocation, enabled_in_parts, false, has_bit_of}
 use Rattle.mk_laws.proofs.Vocabulary.{is_begin, is_cycling, is_quarantined, is_release, le-leb, left, left_from}
 use Rattle.mk_laws.proofs.Vocabulary.{left_in_parts, list_any, never_behind, not-true, or_parts, phase_of, placed_at}
-use Rattle.mk_laws.proofs.Vocabulary.{refl, sym, true, world_behind, [], ◌||◌, ◌∙◌, ◌∷◌, ◌≡◌, ◌≢◌}
-use Rattle.mk_laws.proofs.CyclePhases.{IsUnreleased, NoneIsReleased, begin_is, moves_phase, none_is_released}
-use Rattle.mk_laws.proofs.{CyclePhases.phase_behind, InvariantHistories.histories_keep_the_invariant}
-use Rattle.mk_laws.proofs.{ReadingsKeptPlaces.{StaysPut, keeps_cell, stays_put}, Basics.known_world}
-use Rattle.mk_laws.proofs.{Quarantines.snapshot_is_the_cycles, ReadingsStands.freed_cell}
-use Rattle.mk_core.specs.{Cells.is_in_snapshot, Readings.{SnapshotsTell, SnapshotTells}}
+use Rattle.mk_laws.proofs.Vocabulary.{refl, sym, true, [], ◌||◌, ◌∙◌, ◌∷◌, ◌≡◌, ◌≢◌}
+use Rattle.mk_core.specs.{Cells.is_in_snapshot, Readings.SnapshotsTell, Readings.SnapshotTells}
+use Rattle.mk_laws.proofs.CyclePhases.{IsUnreleased, begin_is, moves_phase, none_is_released, phase_behind}
+use Rattle.mk_laws.proofs.InvariantHistories.{histories_keep_the_invariant}
+use Rattle.mk_laws.proofs.ReadingsKeptPlaces.{StaysPut, keeps_cell, stays_put}
+use Rattle.mk_laws.proofs.{Basics.known_world, Quarantines.snapshot_is_the_cycles, ReadingsStands.freed_cell}
 
 -- the events from a `begin` on, as a part of the list
 
@@ -20,11 +20,6 @@ enabled_at at h = grind (arith, enabled_in_parts)
 -- An unreleased phase is one of a cycle's.
 pub unreleased_cycles : (p : ℕ) → IsUnreleased p → (is_cycling p ≡ true) × (p ≢ 4)
 unreleased_cycles p u = grind (arith, and_from, le-leb)
-
--- what stands after a `begin` where nothing was released since
-pub begun_world : (c : Config) (w : World) (e : Event) (es : List Event) → AreEnabledFrom c w (e ∷ es) → is_begin
-    e.step ≡ true → list_any (λ (x : Event). is_release x.step) es ≡ false → NoneIsReleased c (world_behind c w e) es
-begun_world c w e es on is none = grind (arith, moves_phase, phase_behind, begin_is, none_is_released)
 
 either_kind : (es : List Event) → list_any (λ (e : Event). is_begin e.step || is_release e.step) es ≡ false
     → (list_any (λ (e : Event). is_begin e.step) es ≡ false) × (list_any (λ (e : Event). is_release e.step) es ≡ false)
@@ -55,7 +50,7 @@ module _ (c : Config) (es : List Event) (h : IsHistory c es) (begin : At is_begi
   unfolding left_from
   phase =
       let on = enabled_at begin h in
-      grind (arith, begun_world, no_release, since)
+      grind (arith, no_release, since, moves_phase, phase_behind, begin_is, none_is_released)
 
   all : KeepsTheInvariant c es
   all = histories_keep_the_invariant c es h

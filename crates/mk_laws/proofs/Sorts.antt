@@ -1,27 +1,26 @@
 -- Each enabled event is one of the moves of the protocol.
 use Rattle.std.proofs.lemmas.Bool.{not_from_true}
-use Rattle.mk_laws.proofs.Vocabulary.{Answer, Bool, Caller, Cell, Config, Event, Flight, Group, Hand, Holding, Host}
-use Rattle.mk_laws.proofs.Vocabulary.{List, Marker, Moment, None, Object, Op, Option, OwnCycle, Page, Place, Placing}
-use Rattle.mk_laws.proofs.Vocabulary.{Seat, Some, Stage, Step, Unplaced, Word, Words, ℕ, and_parts, ap, arith, at_rest}
-use Rattle.mk_laws.proofs.Vocabulary.{begun, cases_Bool, cases_eq, cell_freed, chosen, decided, eq-eqb, eqb-false}
-use Rattle.mk_laws.proofs.Vocabulary.{eqb-true, false, flight_of, found, freed_cell, group_of, host_has_turn}
-use Rattle.mk_laws.proofs.Vocabulary.{if◌then◌else◌, inl, inr, is_attending, is_in, is_phase, is_some}
-use Rattle.mk_laws.proofs.Vocabulary.{is_undecided_free, is_under_turn, marker_of, marks_place, may_answer_full, ne_eqb}
-use Rattle.mk_laws.proofs.Vocabulary.{not-true, nothing_done, object_made, onward, or_else, phase_of, place_now}
-use Rattle.mk_laws.proofs.Vocabulary.{placed_now, progress, progress_freed, progress_reg, refl, run_of_cell}
-use Rattle.mk_laws.proofs.Vocabulary.{sees_double, set-get_or, slice_index, slice_set, stage_behind, steps_of, still}
-use Rattle.mk_laws.proofs.Vocabulary.{subst, sym, taken, target, true, ◌%◌, ◌+◌, ◌<◌, ◌==◌, ◌∙◌, ◌≡◌}
-use Rattle.mk_laws.proofs.Actors.{Actor, AsHolder, AsMarker, CallTakes, HostTakes, InCallOf, Meets, fills_new}
-use Rattle.mk_laws.proofs.{Actors.{grants_new, is_holders}, Asked.{closing_alone, give_phase, none_at, none_held}}
-use Rattle.mk_laws.proofs.{Asked.{other_caller, others_held}, NextSteps.{at_enter, at_its_stage, at_reg}}
-use Rattle.mk_laws.proofs.{NextSteps.{has_stage_of_its_own, stage_of}, ProtocolMoves.{Attends, Begins, Closes, Ends}}
-use Rattle.mk_laws.proofs.ProtocolMoves.{Enters, Gives, GoesOn, Holds, Leaves, Move, Opens, Phases, Quits, Releases}
-use Rattle.mk_laws.proofs.{ProtocolMoves.{Scans, Stays, Stops, Takes, Wants, Works}, SameWords.{Behind, Moves, finds}}
-use Rattle.mk_laws.proofs.{SameWords.{reg_keeps, tally_keeps, with_words}, Services.{Fills, Frees, Goes, Grants, Loads}}
-use Rattle.mk_laws.proofs.{Services.{Places, Service}, Stages.{begun_in_call, begun_under_turn, calls_stand}}
-use Rattle.mk_laws.proofs.Stages.{either_stands, goes_on, is_call_stage, is_reg_stage, loads_under_turn, onward_stands}
-use Rattle.mk_laws.proofs.Stages.{read_stands, refused_stands, reg_no_new, reg_stands, regs_work}
-use Rattle.mk_laws.proofs.Standings.{Astray, InCall, Resting, Standing, UnderTurn, is_astray, standing, standing_at}
+use Rattle.mk_laws.proofs.Vocabulary.{Answer, Bool, Caller, Config, Event, Flight, Group, Hand, Holding, Host, List}
+use Rattle.mk_laws.proofs.Vocabulary.{Marker, Moment, None, Object, Op, Option, OwnCycle, Page, Place, Placing, Seat}
+use Rattle.mk_laws.proofs.Vocabulary.{Some, Stage, Step, Unplaced, Word, Words, ℕ, and_parts, ap, arith, at_rest, begun}
+use Rattle.mk_laws.proofs.Vocabulary.{cases_eq, cell_freed, chosen, decided, eq-eqb, eqb-false, eqb-true, false}
+use Rattle.mk_laws.proofs.Vocabulary.{flight_of, found, freed_cell, group_of, host_has_turn, if◌then◌else◌, inl, inr}
+use Rattle.mk_laws.proofs.Vocabulary.{is_attending, is_in, is_phase, is_some, is_undecided_free, is_under_turn}
+use Rattle.mk_laws.proofs.Vocabulary.{marker_of, may_answer_full, ne_eqb, not-true, nothing_done, object_made, onward}
+use Rattle.mk_laws.proofs.Vocabulary.{or_else, phase_of, place_now, placed_now, progress, progress_freed, progress_reg}
+use Rattle.mk_laws.proofs.Vocabulary.{refl, run_of_cell, sees_double, set-get_or, slice_index, slice_set, stage_behind}
+use Rattle.mk_laws.proofs.Vocabulary.{steps_of, still, subst, sym, taken, target, true, ◌%◌, ◌+◌, ◌<◌, ◌==◌, ◌∙◌, ◌≡◌}
+use Rattle.mk_laws.proofs.Actors.{Actor, AsHolder, AsMarker, CallTakes, HostTakes, InCallOf, Meets, closing_alone}
+use Rattle.mk_laws.proofs.Actors.{fills_new, give_phase, grants_new, is_holders, none_at, none_held, other_caller}
+use Rattle.mk_laws.proofs.{Actors.others_held, NextSteps.{at_enter, at_its_stage, at_reg, has_stage_of_its_own}}
+use Rattle.mk_laws.proofs.{NextSteps.stage_of, ProtocolMoves.{Attends, Begins, Closes, Ends, Enters, Gives, GoesOn}}
+use Rattle.mk_laws.proofs.ProtocolMoves.{Holds, Leaves, Move, Opens, Phases, Quits, Releases, Scans, Stays, Stops}
+use Rattle.mk_laws.proofs.{ProtocolMoves.{Takes, Wants, Works}, SameWords.{Behind, Moves, finds, reg_keeps}}
+use Rattle.mk_laws.proofs.{SameWords.{tally_keeps, with_words}, Services.{Fills, Frees, Goes, Grants, Loads, Places}}
+use Rattle.mk_laws.proofs.{Services.Service, Stages.{begun_in_call, begun_under_turn, calls_stand, either_stands}}
+use Rattle.mk_laws.proofs.Stages.{goes_on, is_call_stage, is_reg_stage, loads_under_turn, onward_stands, read_stands}
+use Rattle.mk_laws.proofs.{Stages.{refused_stands, reg_no_new, reg_stands, regs_work}, Standings.{Astray, InCall}}
+use Rattle.mk_laws.proofs.Standings.{Resting, Standing, UnderTurn, is_astray, standing, standing_at}
 use Rattle.mk_laws.proofs.Views.{HoldsTurn, View, flight_in, flight_is, flights_with, gate_in, view_of}
 use Rattle.mk_laws.{proofs.IdleMarkers.{work_idles, work_stays}, specs.Protocol.{is_granted}}
 use Rattle.mk_core.specs.declared.seats.Presence.TheVariants.{Attending, Visiting}
@@ -38,11 +37,6 @@ where_some false x h = cc
 pub target_free : (pages : ℕ) (w : Words) (f : Flight) → is_some (target pages w f) ≡ true → is_undecided_free f ≡ true
 target_free pages w f h = (where_some _ _ h).0
 
-double_some : (w : Words) (cell : Option Cell) (x : Word) → sees_double w cell x ≡ true → is_some cell ≡ true
-double_some w (Some cell) x h = refl
-double_some w None (Word.Quar p) h = cc
-double_some w None _ h = cc
-
 -- `look`
 pub looks : (pages : ℕ) (w : Words) (f : Flight) (h : Holding) (x : Word) (hand : Option Hand) → Service f h
     (if sees_double w (target pages w f) x then decided f Answer.Double else still f).flight (record h { hand = hand })
@@ -50,7 +44,7 @@ looks pages w f h x hand = by (sees_double w (target pages w f) x) refl
   where
     by : (b : Bool) → sees_double w (target pages w f) x ≡ b
         → Service f h (if b then decided f Answer.Double else still f).flight (record h { hand = hand })
-    by b e = grind (arith, target_free, double_some, Frees, Goes)
+    by b e = grind (arith, target_free, Frees, Goes)
 
 -- a place is chosen, or taken
 
@@ -81,12 +75,7 @@ either_place false p q x y = y
 -- `quar`
 pub quarantines : (pages : ℕ) (w : Words) (f : Flight) (h : Holding) (p v : ℕ) → Service f h (progress_freed f
     (cell_freed pages w f p v)).flight (record h { freed = or_else (run_of_cell w (cell_freed pages w f p v)) h.freed })
-quarantines pages w f h p v = by (cell_freed pages w f p v) refl
-  where
-    by : (cell : Option Cell) → cell_freed pages w f p v ≡ cell
-        → Service f h (progress_freed f cell).flight (record h { freed = or_else (run_of_cell w cell) h.freed })
-    by (Some cell) e = Frees _ (freed_cell pages w f p v cell e).free refl
-    by None e = Goes _ refl refl
+quarantines pages w f h p v = grind (arith, freed_cell, Frees, Goes)
 
 -- `full` comes where there is no place
 pub full_unplaced : (resident : ℕ) (pages : List Page) (o : Object) (placing : Placing) (cycle : OwnCycle)
@@ -151,19 +140,14 @@ reg_move c m k lt is a = with_words _ m.seats.holding m.seats.markers
 on : (c : Config) (m : Moment) (k : ℕ) (x : Step) → Meets c m (Caller k) x → has_stage_of_its_own x ≡ true
     → is_call_stage (stage_of x) ≡ true → is_astray (standing (flight_of m (Caller k))) ≡ false
     → standing (flight_of m (Caller k)) ≡ InCall
-on c m k x h own is a =
-    let f = flight_of m (Caller k) in
-    calls_stand f.stage f.op (ap is_call_stage (at_its_stage f.stage f.op x own h.order) ∙ is) a
+on c m k x h own is a = grind (arith, calls_stand, is_call_stage, at_its_stage)
 
 -- and so after them, but for `leave`
 goes : (c : Config) (m : Moment) (k : ℕ) (x : Step) → Meets c m (Caller k) x → has_stage_of_its_own x ≡ true
     → is_call_stage (stage_of x) ≡ true → goes_on (stage_of x) ≡ true → is_astray (standing (flight_of m (Caller k)))
     ≡ false → (standing (flight_of m (Caller k)) ≡ InCall) × (standing_at (stage_behind (flight_of m (Caller k)).stage
     (steps_of (flight_of m (Caller k)).op)) (flight_of m (Caller k)).op ≡ InCall)
-goes c m k x h own is further a =
-    let f = flight_of m (Caller k) in
-    let was = on c m k x h own is a in
-    (was, onward_stands f.stage f.op was (ap goes_on (at_its_stage f.stage f.op x own h.order) ∙ further))
+goes c m k x h own is further a = grind (arith, on, onward_stands, goes_on, at_its_stage)
 
 pub call_moves : (c : Config) (m : Moment) (k : ℕ) (x : Step) → k < c.callers → group_of x ≡ Group.Callers
     → is_astray (standing (flight_of m (Caller k))) ≡ false → Meets c m (Caller k) x → Moves c m (Caller k) x
@@ -193,10 +177,7 @@ attends_in true = refl
 attends_in false = refl
 
 pub attends_at : (n : ℕ) → is_attending (if n % 8 == 1 then Attending else Visiting) ≡ true → n % 8 ≡ 1
-attends_at n h = elim (cases_Bool (n % 8 == 1)) [
-  | inl e ↦ eqb-true (n % 8) 1 e
-  | inr e ↦ let f : false ≡ true = ap (λ (b : Bool). is_attending (if b then Attending else Visiting)) (sym e) ∙ h in cc
-]
+attends_at n h = grind (arith, eqb-true)
 
 pub marker_moves : (c : Config) (m : Moment) (k : ℕ) (x : Step) → k < 8 → group_of x ≡ Group.Markers
     → Meets c m (Marker k) x → Moves c m (Marker k) x
@@ -207,11 +188,8 @@ marker_moves c m k Step.Quit lt g h = Quits lt h.marker
 marker_moves c m k (Step.Mlook w) lt g h =
     Scans _ lt (work_stays c (finds c m (Marker k) (Step.Mlook w)) (Step.Mlook w) (marker_of m k) refl)
     (work_idles c (finds c m (Marker k) (Step.Mlook w)) (Step.Mlook w) (marker_of m k) h.marker refl)
-marker_moves c m k (Step.Claim p i) lt g h =
-    Scans _ lt refl (work_idles c (finds c m (Marker k) (Step.Claim p i)) (Step.Claim p i) (marker_of m k) h.marker
-    refl)
-marker_moves c m k Step.Mload lt g h =
-    Scans _ lt refl (work_idles c (finds c m (Marker k) Step.Mload) Step.Mload (marker_of m k) h.marker refl)
+marker_moves c m k (Step.Claim p i) lt g h = Scans _ lt refl (grind (arith, work_idles, finds))
+marker_moves c m k Step.Mload lt g h = Scans _ lt refl (work_idles c _ Step.Mload (marker_of m k) h.marker refl)
 marker_moves c m k Step.Mmark lt g h =
     Scans _ lt refl (work_idles c (finds c m (Marker k) Step.Mmark) Step.Mmark (marker_of m k) h.marker refl)
 marker_moves c m k Step.Mblack lt g h =
@@ -282,14 +260,11 @@ by_kind : (c : Config) (m : Moment) (seat : Seat) (x : Step) → HoldsTurn c (vi
     → Meets c m seat x → HolderMoves c m seat x
 by_kind c m seat Step.Give t n h = Gives t (none_held c m.words h.gates) (give_phase (phase_of m.words) h.phase)
 by_kind c m seat (Step.Look w) t n h = works c m seat t (looks c.pages m.words (flight_of m seat) m.seats.holding w _)
-by_kind c m seat (Step.Head p v) t n h = works c m seat t (either_place (is_phase m.words 4) m.seats.holding.placing
-    (chosen m.seats.holding.placing (place_now c m (flight_of m seat))) (Goes m.seats.holding refl refl)
-    (place_changes c m (flight_of m seat) chosen chosen_none granted_chosen))
-by_kind c m seat (Step.Used p v) t n h = works c m seat t (either_place (is_phase m.words 4) m.seats.holding.placing
-    (taken m.seats.holding.placing (place_now c m (flight_of m seat))) (Goes m.seats.holding refl refl)
-    (place_changes c m (flight_of m seat) taken (λ p. refl) (λ p place g. cc)))
-by_kind c m seat (Step.Quar p v) t n h =
-    works c m seat t (quarantines c.pages m.words (flight_of m seat) m.seats.holding p v)
+by_kind c m seat (Step.Head p v) t n h = works c m seat t (either_place (is_phase m.words 4) m.seats.holding.placing _
+    (Goes m.seats.holding refl refl) (place_changes c m (flight_of m seat) chosen chosen_none granted_chosen))
+by_kind c m seat (Step.Used p v) t n h = works c m seat t (either_place (is_phase m.words 4) m.seats.holding.placing _
+    (Goes m.seats.holding refl refl) (place_changes c m (flight_of m seat) taken (λ p. refl) (λ p place g. cc)))
+by_kind c m seat (Step.Quar p v) t n h = works c m seat t (quarantines c.pages m.words _ m.seats.holding p v)
 by_kind c m seat Step.Grant t n h = works c m seat t (Grants (grants_new c m seat h))
 by_kind c m seat (Step.Tally n v) t _ h =
     with_words _ m.seats.holding m.seats.markers (tally_keeps m.words n v) (works_on c m seat t)
@@ -301,13 +276,11 @@ by_kind c m seat (Step.Hold j) t n h =
     ])
 by_kind c m seat (Step.Open j) t n h =
     let o = other_caller c seat j h.range in
-    stays_at c m seat (view_of (Behind c m seat (Step.Open j)))
-    (Opens j t o.0 o.1 (eqb-true (slice_index m.words.gates j) 2 h.gates)
+    stays_at c m seat (view_of (Behind c m seat (Step.Open j))) (Opens j t o.0 o.1 (eqb-true _ 2 h.gates)
     (eqb-false (phase_of m.words) 3 (not-true (phase_of m.words == 3) h.phase)))
 by_kind c m seat (Step.Clear p) t n h = works_on c m seat t
-by_kind c m seat (Step.Mark p v) t n h = works c m seat t (either_place
-    (marks_place m.words (object_made c (flight_of m seat).op) (place_now c m (flight_of m seat)) p v)
-    (chosen m.seats.holding.placing (place_now c m (flight_of m seat))) m.seats.holding.placing
+by_kind c m seat (Step.Mark p v) t n h = works c m seat t
+    (either_place _ (chosen m.seats.holding.placing (place_now c m (flight_of m seat))) m.seats.holding.placing
     (place_changes c m (flight_of m seat) chosen chosen_none granted_chosen) (Goes m.seats.holding refl refl))
 by_kind c m seat (Step.Wipe i) t n h = works_on c m seat t
 by_kind c m seat Step.Full t n h = works c m seat t (Fills (fills_new c m seat h) (full_unplaced c.resident

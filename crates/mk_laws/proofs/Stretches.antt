@@ -1,8 +1,8 @@
 -- The parts of a list around the events of a cycle, and what stands along one.
 use Rattle.mk_laws.proofs.Vocabulary.{Bool, Config, Cycle, Event, IsHistory, List, Marking, Releasing, Step, ap}
-use Rattle.mk_laws.proofs.Vocabulary.{append-nil, append_assoc, before_close, before_release, earlier_part_is_history}
-use Rattle.mk_laws.proofs.Vocabulary.{false, list_any, list_any-append, or_from, or_parts, subst, sym, [], ◌++◌, ◌∙◌}
-use Rattle.mk_laws.proofs.Vocabulary.{◌∷◌, ◌≡◌}
+use Rattle.mk_laws.proofs.Vocabulary.{append-nil, append_assoc, arith, before_close, before_release}
+use Rattle.mk_laws.proofs.Vocabulary.{earlier_part_is_history, false, list_any, list_any-append, or_from, or_parts}
+use Rattle.mk_laws.proofs.Vocabulary.{subst, sym, [], ◌++◌, ◌∙◌, ◌∷◌, ◌≡◌}
 use Rattle.mk_core.specs.Cycles.{before_end}
 
 -- none of a kind
@@ -21,9 +21,7 @@ next_part es xs ys zs e f behind is at =
     is ∙ ap (λ (b : List Event). xs ++ e ∷ b) at ∙ sym (append_assoc xs (e ∷ ys) (f ∷ zs))
 
 pub at_close : {es : List Event} (k : Marking es) → es ≡ before_close k ++ k.close.at.event ∷ k.close.at.behind
-at_close {es} k =
-    next_part es k.begin.before k.close.at.before k.close.at.behind k.begin.event k.close.at.event k.begin.behind
-    k.begin.is k.close.at.is ∙ rw (← (append_assoc k.begin.before (k.begin.event ∷ []) k.close.at.before))
+at_close {es} k = grind (arith, next_part, append_assoc)
 
 pub at_release : {es : List Event} (k : Releasing es)
     → es ≡ before_release k ++ k.release.at.event ∷ k.release.at.behind

@@ -9,11 +9,11 @@ use Rattle.mk_laws.proofs.Vocabulary.{left, left_from, left_more, ne_eqb, refl, 
 use Rattle.mk_laws.proofs.Vocabulary.{undecided_new, unreleased_storage, world_behind, [], ◌++◌, ◌+◌, ◌==◌, ◌∙◌, ◌∷◌}
 use Rattle.mk_laws.proofs.{Vocabulary.{◌≡◌, ◌≤◌, ◌⊎◌}, Basics.{Before, KeptByEvents, Known, Meets, before_it}}
 use Rattle.mk_laws.proofs.Basics.{holds_of_histories, known_left, known_world, placed_undecided}
-use Rattle.mk_laws.proofs.{FreshSteps.{FreshTold, fresh_told_behind}, InvariantHistories.histories_keep_the_invariant}
+use Rattle.mk_laws.proofs.InvariantHistories.{histories_keep_the_invariant, pages_show_the_storage, told_to_layout}
 use Rattle.mk_laws.proofs.{OthersCounts.{entry_fulls, fulls_append, fulls_of}, TallySteps.{CountsNothing, Gives}}
 use Rattle.mk_laws.proofs.TallySteps.{Leaves, Takes, TurnStep, give_counts_nothing, others_count_nothing, turn_step}
-use Rattle.mk_laws.proofs.{Asked.give_phase, InvariantJoined.told_to_layout, InvariantTheorems.pages_show_the_storage}
-use Rattle.mk_laws.proofs.{LayoutHistories.known_before, LayoutHolders.giver_has_turn, Settled.gone_is_unmapped}
+use Rattle.mk_laws.proofs.{Actors.give_phase, FreshWords.{FreshTold, fresh_told_behind}, LayoutHistories.known_before}
+use Rattle.mk_laws.proofs.{LayoutHolders.giver_has_turn, Settled.gone_is_unmapped}
 use Rattle.mk_geom.proofs.HeldWords.{pages_hold_mapped_words}
 use Rattle.mk_core.{proofs.Histories.{calls_more}, specs.Readings.{TalliesTell}}
 use Rattle.mk_core.specs.{Allocations.held_by_allocations, Counts.{TalliesAreExact, full_answers, releases}}

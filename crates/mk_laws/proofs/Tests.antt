@@ -33,13 +33,10 @@ all_below_on n p q f h = all_below_from n q (λ k lt. f k lt (all_below-at n k p
 -- Bits that are all in one word are in one that has its bits.
 pub without_on : (bits m n : ℕ) → ((k : ℕ) → has_bit m k ≡ true → has_bit n k ≡ true) → (without bits m == 0) ≡ true
     → (without bits n == 0) ≡ true
-without_on bits m n grow h = eq-eqb _ 0 (zero_from_bits _ (λ k. has_bit_without bits n k ∙ by k (has_bit bits k) refl))
+without_on bits m n grow h = eq-eqb _ 0 (zero_from_bits _ (λ k. has_bit_without bits n k ∙ (grind (arith, none))))
   where
     none : (k : ℕ) → (has_bit bits k && not (has_bit m k)) ≡ false
     none k = sym (has_bit_without bits m k) ∙ no_bit _ k (eqb-true _ 0 h)
-
-    by : (k : ℕ) (b : Bool) → has_bit bits k ≡ b → (b && not (has_bit n k)) ≡ false
-    by k b is = grind (arith, none)
 
 -- each marker of a list
 pub none_from : (xs : List Marker) → ((k : ℕ) → is_attending (slice_index_or xs k outside).presence ≡ false)

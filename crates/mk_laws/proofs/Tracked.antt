@@ -12,7 +12,7 @@ use Rattle.mk_laws.proofs.Basics.{holds_of_histories, known_left, none_on_its_wa
 use Rattle.mk_laws.proofs.Longer.{gives_turn, left_in_turn, longer_first, longer_turn, none_serves_more, taken}
 use Rattle.mk_laws.proofs.OwnCycles.{HasCycle, cycle_more, cycle_step}
 use Rattle.mk_laws.proofs.Undecided.{HasNew, IsTaken, NewCame, WasNew, new_came, new_holds_turn, new_object}
-use Rattle.mk_laws.proofs.{InvariantTheorems.first_fit_finds_the_place, Placings.PlacingStep, Placings.places_at}
+use Rattle.mk_laws.proofs.{InvariantHistories.first_fit_finds_the_place, Placings.PlacingStep, Placings.places_at}
 
 -- A step of the turn has served its New first, where the place was this one.
 pub record ServedFirst (c : Config) (s : Seat) {es : List Event} (t : TurnOf c s es) (o : Object) (place : Place)

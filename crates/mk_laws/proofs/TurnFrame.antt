@@ -4,7 +4,7 @@ use Rattle.mk_laws.proofs.Vocabulary.{arith, false, get_or-set_other, is_attendi
 use Rattle.mk_laws.proofs.Vocabulary.{slice_index, slice_index_or, slice_set, ◌%◌, ◌+◌, ◌-◌, ◌^◌, ◌≡◌, ◌≢◌, ◌≤◌}
 use Rattle.mk_laws.proofs.OthersMoves.{AddsBlacks, AddsMarks, Calls, CallWrite, ComesIn, GoesOut, MarkerLoads}
 use Rattle.mk_laws.proofs.OthersMoves.{MarkerWrite, Marks, OthersMove, SetsDirty, SetsGate, SetsRegister, Waits}
-use Rattle.mk_laws.proofs.{OthersMoves.with_words_seats, Basics.Known, Growth.{grows_joined, grows_more, grows_same}}
+use Rattle.mk_laws.proofs.{OthersMoves.with_words_seats, Basics.Known, Changes.{grows_joined, grows_more, grows_same}}
 use Rattle.mk_core.specs.{Frames.steady_of, Readings.NoneAttends}
 
 -- the phase
@@ -16,16 +16,12 @@ down p le = omega arith
 
 -- what none but the holder changes
 
-steady_call : (w : World) {k : ℕ} (fs : List Flight) {x : Words} → CallWrite k w.now.words x
-    → steady_of (with_words_seats w x (record w.now.seats { flights = fs })) ≡ steady_of w
-steady_call w fs h = grind arith
-
 steady_mark : (w : World) {k : ℕ} {y : MarkerState} (ms : List MarkerState) {x : Words} → MarkerWrite k w.now y x
     → steady_of (with_words_seats w x (record w.now.seats { markers = ms })) ≡ steady_of w
 steady_mark w ms h = grind (arith, up, down)
 
 pub steady_out : (c : Config) (w : World) (seat : Seat) (v : World) → OthersMove c w seat v → steady_of v ≡ steady_of w
-steady_out c w seat v h = grind (arith, steady_call, steady_mark)
+steady_out c w seat v h = grind (arith, steady_mark)
 
 pub holding_out : {c : Config} {w : World} {seat : Seat} {v : World} → OthersMove c w seat v
     → v.now.seats.holding ≡ w.now.seats.holding

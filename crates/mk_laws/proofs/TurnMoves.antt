@@ -11,8 +11,8 @@ use Rattle.mk_laws.proofs.Vocabulary.{pointed_cell, progress_freed, refl, regist
 use Rattle.mk_laws.proofs.Vocabulary.{storage_holds, subst, sym, target, true, with_new, with_register, [], ◌%◌, ◌*◌}
 use Rattle.mk_laws.proofs.{Vocabulary.{◌++◌, ◌+◌, ◌<◌, ◌^◌, ◌∙◌, ◌∷◌, ◌≡◌, ◌≢◌}, Basics.{Grants, HoldsTurn, KnownWorld}}
 use Rattle.mk_laws.proofs.Basics.{Leads, Move, Ready, Stands, either_leads, flight, goes_bare, operands_of, view_of}
-use Rattle.mk_laws.proofs.{CallSorts.{own_registers, own_words, stays, there_is}, FreeMoves.{double_by, free_by}}
-use Rattle.mk_laws.proofs.{FreedRuns.new_frees_none, GrantMoves.{fills_cell, place_is_zero}, HeapEdits.fresh_one}
+use Rattle.mk_laws.proofs.{CallSorts.{own_registers, own_words, stays, there_is}, GrantMoves.{double_by, fills_cell}}
+use Rattle.mk_laws.proofs.{GrantMoves.{free_by, place_is_zero}, FreedRuns.new_frees_none, ImagesKept.fresh_one}
 use Rattle.mk_laws.proofs.Ready.{one_right}
 use Rattle.mk_core.{proofs.PlacesNow.{target_is}, specs.{Allocations.type_made, Effects.progress_look}}
 

@@ -53,8 +53,7 @@ pub apart_of_plot : {s : LayoutScene} (x : Claim) (d : ℕ) {first : ℕ} (e : �
     → d < pages_made x.object → IsPlotShown s.pages first o → e < pages_made o → first + e ≢ x.page + d
 apart_of_plot {s} x d {first = first} e {o = o} laid ix ld plot le at =
     let sx = laid.shown x ix in
-    let head : head_on s.pages (first + e) ≡ x.page = ap (head_on s.pages) at ∙ claimed_head s.pages x d sx ld in
-    by head (plot.headers e le)
+    by (ap (head_on s.pages) at ∙ claimed_head s.pages x d sx ld) (plot.headers e le)
   where
     by : head_on s.pages (first + e) ≡ x.page
         → (header_on s.pages (first + e) ≡ 0) ⊎ (header_on s.pages (first + e) ≡ header_made o e) → ⊥

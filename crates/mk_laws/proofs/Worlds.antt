@@ -8,7 +8,7 @@ use Rattle.mk_laws.proofs.Vocabulary.{pages_made, part_has_no_pointers, phase_of
 use Rattle.mk_laws.proofs.Vocabulary.{run_count, shown, slice_index, standing_has_storage, stands_on, storage_of}
 use Rattle.mk_laws.proofs.Vocabulary.{storage_words, subst, sym, true, typed_size, ◌*◌, ◌-◌, ◌/◌, ◌<◌, ◌∙◌, ◌≡◌, ◌≢◌}
 use Rattle.mk_laws.proofs.{Vocabulary.◌⊎◌, Unmapping.{part_count, small_count}, Basics.KnownWorld, FreeWords.of_one}
-use Rattle.mk_laws.proofs.InvariantJoined.{told_to_images}
+use Rattle.mk_laws.proofs.InvariantHistories.{told_to_images}
 use Rattle.mk_geom.proofs.Standing.{stands_at_first, stands_from}
 use Rattle.mk_core.proofs.{PointedPages.{PointsTo, points_to}, PointedAllocations.pointers_come_back}
 use Rattle.mk_core.proofs.StandingAllocations.{pointers_hit}

@@ -15,7 +15,7 @@ use Rattle.mk_laws.proofs.Basics.{changed_words, is_releasing_behind, known_at_f
 use Rattle.mk_laws.proofs.{Basics.{mapped_stays, none_released}, Behind.{phase_kind, releasing_marks}}
 use Rattle.mk_laws.proofs.ChangedScenes.{Before, early_words, here, kept_heap, standing, stored_words, wiped_words}
 use Rattle.mk_laws.proofs.MappedWords.{word_of_fresh, word_of_longer, word_of_unreleased}
-use Rattle.mk_laws.proofs.{ZerosPageKinds.{gone_word, head_kind, quar_kind, used_kind}, Dropped.settled_page}
+use Rattle.mk_laws.proofs.{ZerosPageKinds.{gone_word, head_kind, quar_kind, used_kind}, Freed.settled_page}
 use Rattle.mk_laws.proofs.{LayoutByKind.off_at, LayoutHistories.histories_are_laid_out, QuarantineByKind.shown_at}
 use Rattle.mk_laws.proofs.QuarantineChanges.{index_small}
 use Rattle.mk_core.proofs.{PointedPages.pointed_within, RegisterAccesses.{register_leaves, tally_leaves}}

@@ -23,7 +23,7 @@ pub fn what_is_reached_stays()
 {}
 
 /// A compare and exchange compares values: storage that is used again isn't taken for what stood there before.
-#[tactic(auto, using(crate::proofs::Exchanges::histories_compare))]
+#[tactic(auto, using(crate::proofs::ImagesHistories::histories_compare))]
 pub fn exchanges_compare_values()
     ensures { HistoriesCompareValues }
 {}

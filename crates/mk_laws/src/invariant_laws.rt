@@ -15,32 +15,32 @@ pub fn histories_keep_the_invariant()
 {}
 
 /// The heap refines the one that never reuses storage: all answers are the images of its replies.
-#[tactic(auto, using(crate::proofs::InvariantTheorems::histories_refine_never))]
+#[tactic(auto, using(crate::proofs::InvariantHistories::histories_refine_never))]
 pub fn answers_refine_never()
     ensures { OfHistories RefinesNever }
 {}
 
 /// What a program can get to isn't released.
-#[tactic(auto, using(crate::proofs::InvariantTheorems::reach_is_kept))]
+#[tactic(auto, using(crate::proofs::InvariantHistories::reach_is_kept))]
 pub fn reach_is_kept()
     ensures { OfHistories KeepsTheReach }
 {}
 
 /// No ABA: a compare and exchange compares values, though storage is used again.
-#[tactic(auto, using(crate::proofs::InvariantTheorems::exchanges_compare))]
+#[tactic(auto, using(crate::proofs::InvariantHistories::exchanges_compare))]
 pub fn exchanges_compare_values()
     ensures { OfHistories ExchangesCompareValues }
 {}
 
 /// Unreleased allocations stand on the heap, and no two have a word in common.
-#[tactic(auto, using(crate::proofs::InvariantTheorems::allocations_stand))]
+#[tactic(auto, using(crate::proofs::InvariantHistories::allocations_stand))]
 pub fn allocations_stand_apart()
     ensures stand { OfHistories AllocationsStand }
     ensures disjoint { OfHistories AllocationsAreDisjoint }
 {}
 
 /// Where nothing is on its way, the pages show the unreleased storage, and first fit over them finds the place.
-#[tactic(auto, using(crate::proofs::InvariantTheorems::pages_show_the_storage, crate::proofs::InvariantTheorems::first_fit_finds_the_place))]
+#[tactic(auto, using(crate::proofs::InvariantHistories::pages_show_the_storage, crate::proofs::InvariantHistories::first_fit_finds_the_place))]
 pub fn pages_show_the_storage()
     ensures shown { OfHistories PagesShowTheStorage }
     ensures first_fit { OfHistories FirstFitFindsThePlace }
@@ -52,7 +52,7 @@ pub fn black_cells_are_guarded()
 {}
 
 /// Each `close` finds the marks closed, and they stay so up to the `release`.
-#[tactic(auto, using(crate::proofs::InvariantTheorems::closes_find_marks_closed, crate::proofs::InvariantTheorems::marks_stay_closed))]
+#[tactic(auto, using(crate::proofs::InvariantHistories::closes_find_marks_closed, crate::proofs::InvariantHistories::marks_stay_closed))]
 pub fn marks_are_closed()
     ensures at_close { OfHistories ClosesFindMarksClosed }
     ensures stopped { OfHistories MarksStayClosed }

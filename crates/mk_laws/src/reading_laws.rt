@@ -34,7 +34,7 @@ pub fn releases_are_exact()
 
 /// While the phase isn't releasing, words are 0 in cells without an allocation, after the cells of a page, and on
 /// free pages.
-#[tactic(auto, using(crate::proofs::FreeWords::words_of_none_are_zero, crate::proofs::FreeWords::unmapped_words_are_zero, crate::proofs::FreeCells::free_cells_are_zero, crate::proofs::FreeCells::words_behind_cells_are_zero))]
+#[tactic(auto, using(crate::proofs::FreeWords::words_of_none_are_zero, crate::proofs::FreeWords::unmapped_words_are_zero, crate::proofs::FreeWords::free_cells_are_zero, crate::proofs::FreeWords::words_behind_cells_are_zero))]
 pub fn free_cells_are_zero()
     ensures of_none { OfHistories (Leaves WordsOfNoneAreZero) }
     ensures unmapped { OfHistories (Leaves UnmappedWordsAreZero) }
