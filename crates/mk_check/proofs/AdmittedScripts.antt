@@ -2,7 +2,7 @@
 use Rattle.std.proofs.{lemmas.List.Elements.{All-head, All-nil, All-push, All-tail}, Common.{eq-eqb, eqb-true, ◌≢◌}}
 use Rattle.std.proofs.lemmas.List.{get_or-replicate}
 use Rattle.mk_check.proofs.Vocabulary.{All, Answer, Blocks, Bool, Fed, HasFew, IfSome, IsOfKind, Item, Line, List}
-use Rattle.mk_check.proofs.Vocabulary.{NeverState, None, Op, Option, Scope, Some, Value, ℕ, ap, append-nil, arith}
+use Rattle.mk_check.proofs.Vocabulary.{NeverState, None, Op, Option, Scope, Some, Value, ℕ, append-nil, arith}
 use Rattle.mk_check.proofs.Vocabulary.{blocks_from, false, false≢true, fed_before_answers, fed_before_lines, feed}
 use Rattle.mk_check.proofs.Vocabulary.{flagged, globals_of, if◌then◌else◌, length, length-replicate, next_op, note}
 use Rattle.mk_check.proofs.Vocabulary.{number_of_name, op_of, option_map, pointer_names, refl, run, scope_of}
@@ -179,19 +179,13 @@ ops_push caller (y ∷ calls) x = by_test (y.caller == caller) (ops_push caller 
         same then y.op ∷ ops_of_caller caller calls else ops_of_caller caller calls) ++ ops_of_caller caller (x ∷ [])
     by_test x0 e = grind arith
 
-own_op : (caller : ℕ) (o : Op) → ops_of_caller caller (record { caller = caller; op = o } ∷ []) ≡ o ∷ []
-own_op caller o = ap (λ (same : Bool). if same then o ∷ [] else []) (eq-eqb caller caller refl)
-
-other_op : (caller : ℕ) (x : Call) → x.caller ≢ caller → ops_of_caller caller (x ∷ []) ≡ []
-other_op caller x differs = grind (arith, eqb-true)
-
 pub answers_are_noted : (program : List Item) (k : ℕ) (answers : List Answer) (calls : List Call)
     → AreNotedBy program k answers calls → AnswersAreNoted program k answers calls
-answers_are_noted program k answers calls are o a e = grind (arith, ops_push, own_op, ops-feed_push)
+answers_are_noted program k answers calls are o a e = grind (arith, ops_push, ops-feed_push, eq-eqb)
 
 pub others_are_ignored : (program : List Item) (k : ℕ) (answers : List Answer) (calls : List Call)
     → AreNotedBy program k answers calls → OthersAreIgnored program k answers calls
-others_are_ignored program k answers calls are call differs = grind (arith, ops_push, other_op, append-nil)
+others_are_ignored program k answers calls are call differs = grind (arith, ops_push, append-nil, eqb-true)
 
 feed_asked : {program : List Item} (k : ℕ) (answers : List Answer) → IsChecked program
     → All (IsAsked program (lines_of program k)) (feed program k answers).ops

@@ -8,8 +8,8 @@ use Rattle.mk_check.proofs.Vocabulary.{is_print, is_some, kept_in, length, lengt
 use Rattle.mk_check.proofs.Vocabulary.{slice_get, slice_get_within, steps_at, steps_from, subst, suc, sym, take}
 use Rattle.mk_check.proofs.Vocabulary.{take_all, take_more, trees, true, with_kept, zero, [], ◌&&◌, ◌++◌, ◌+◌, ◌-◌, ◌<◌}
 use Rattle.mk_check.proofs.{Vocabulary.{◌∙◌, ◌∷◌, ◌≡◌}, Moves.{FramesAreWithin_pop, asks_at, end_goes_on, line_goes_on}}
-use Rattle.mk_check.{proofs.TreeNodes.{IsAt, IsAtBlock, steps_at-trees}, specs.Trees.{resumed_node}}
-use Rattle.mk_check.specs.Trees.{LeavesBlock, MovesToOp, node_after, node_to_go_on, place_behind_block, place_in_block}
+use Rattle.mk_check.proofs.TreeNodes.{IsAt, IsAtBlock, steps_at-trees}
+use Rattle.mk_check.specs.Trees.{LeavesBlock, MovesToOp, node_after, node_to_go_on, place_in_block, resumed_node}
 
 pub asked_so : (numbers : List ℕ) (instruction : Instruction)
     → is_some (op_asked numbers instruction) ≡ is_asking instruction
@@ -17,9 +17,6 @@ asked_so numbers x1 = grind arith
 
 pub asks_here : (a b c : Bool) → a ≡ true → (a || (not b && c)) ≡ true
 asks_here x0 b c e = grind arith
-
-pub asks_later : (a b c : Bool) → a ≡ false → b ≡ false → (a || (not b && c)) ≡ c
-asks_later x0 x1 c e f = grind arith
 
 no_print : (a b c : Bool) → a ≡ false → (a || (not b && c)) ≡ true → b ≡ false
 no_print x0 x1 c e h = grind arith
@@ -90,9 +87,6 @@ branch_left p q next e is = record {
   is = is;
 }
 
-at_after : (p : Place) (f : Frame) → (place_behind_block p f).at ≡ node_after f
-at_after p x1 = grind arith
-
 node_after_within : (count : ℕ) (f : Frame) → FrameIsWithin count f → node_after f < count
 node_after_within count x1 w = grind arith
 
@@ -117,7 +111,7 @@ module _ (nodes : List Node) where
       → asks_first (steps_at (trees nodes) p.at) ≡ asks_first (steps_at (trees nodes) next)
   first_later {instruction} {next} at asks prints =
       first_from at
-      ∙ asks_later (is_asking instruction) (is_print instruction) (asks_first (steps_at (trees nodes) next)) asks prints
+      ∙ (grind arith)
 
   pub first_done : {p : Place} → IsAt nodes p Node.Done → asks_first (steps_at (trees nodes) p.at) ≡ false
   first_done at = first_from at
@@ -156,10 +150,6 @@ module _ (nodes : List Node) where
       → IsAt nodes p (Node.Line line instruction next) → is_asking instruction ≡ true → HasStopped nodes p p
   stops_at_op {p} {instruction} at asks = asks_at nodes at (asked_so p.numbers instruction ∙ asks)
 
-  stays_to_op : {p : Place} (q : Place) → PlaceIsWithin (length nodes) p
-      → asks_first (steps_at (trees nodes) p.at) ≡ true → q ≡ p → MovesToOp nodes p q
-  stays_to_op q w first same = grind arith
-
   -- the end of a block, after which an operation comes first
   pub left_to_op : {p : Place} (q : Place) (left : Bool) → IsAt nodes p Node.Done
       → asks_first (steps_at (trees nodes) (resumed_node nodes p)) ≡ true
@@ -169,11 +159,11 @@ module _ (nodes : List Node) where
       let moves = end_goes_on nodes at block in
       let last : innermost p.frames ≡ Some block.frame = grind (arith, innermost_push) in
       let resumed : resumed_node nodes p ≡ node_after block.frame = grind arith in
-      let here : q.at ≡ node_after block.frame = grind (arith, at_after) in
+      let here : q.at ≡ node_after block.frame = grind arith in
       record {
         within = moves.within;
         run = moves.run;
         first = ap (λ (k : ℕ). asks_first (steps_at (trees nodes) k)) (here ∙ sym resumed) ∙ first;
         fits = moves.fits;
       }
-  left_to_op {p} q false at first leaves none = grind (arith, stays_to_op)
+  left_to_op {p} q false at first leaves none = grind arith

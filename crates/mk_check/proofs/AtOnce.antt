@@ -1,23 +1,17 @@
 -- An answer at which nothing is printed, where the next line asks: the script stops there.
 use Rattle.mk_check.proofs.Vocabulary.{Answer, Bool, FeedState, HasStopped, Instruction, IsFeed, IsTree, IsWaiting}
 use Rattle.mk_check.proofs.Vocabulary.{KeptState, List, Node, Place, PlaceFits, PlaceIsWithin, StopsAt, TakesAnswer, ℕ}
-use Rattle.mk_check.proofs.Vocabulary.{after_answer, and_parts, ap, append-nil, arith, asks_at, false, is_some, kept_in}
-use Rattle.mk_check.proofs.Vocabulary.{left_in, length, node_at, not, op_asked, op_of_node, refusal_line, refusal_text}
+use Rattle.mk_check.proofs.Vocabulary.{after_answer, and_parts, append-nil, arith, asks_at, false, is_some, kept_in}
+use Rattle.mk_check.proofs.Vocabulary.{left_in, length, node_at, op_asked, op_of_node, refusal_line, refusal_text}
 use Rattle.mk_check.proofs.Vocabulary.{stop_on_answer, stopped_in, true, with_kept, with_text, work_left, [], ◌++◌, ◌<◌}
-use Rattle.mk_check.proofs.{Vocabulary.{◌∙◌, ◌∷◌, ◌≡◌}, AsksFirst.asked_so, Moves.{line_fits, unfolded_line}}
+use Rattle.mk_check.proofs.{Vocabulary.{◌∷◌, ◌≡◌}, AsksFirst.asked_so, Moves.{line_fits, unfolded_line}}
 use Rattle.mk_check.proofs.{Stands.{answer_stands, waits_for_answer}, TreeNodes.{IsAt, is_at}, WorkLaws.answer_nearer}
-use Rattle.mk_check.specs.{Feed.is_refusal, Steps.{is_show, is_silent}}
+use Rattle.mk_check.specs.Steps.{is_silent}
 use Rattle.mk_check.proofs.Moves as moves
-
-no_text : (a : Answer) → not (is_refusal a) ≡ true → refusal_text a ≡ []
-no_text x0 h = grind arith
 
 silent_kept : (line : ℕ) (instruction : Instruction) (a : Answer) (k : KeptState) → is_silent instruction a ≡ true
     → with_text k (refusal_line line (refusal_text a)) ≡ k
-silent_kept line instruction a k h =
-    ap (λ (t : List ℕ). with_text k (refusal_line line t))
-    (no_text a (and_parts (not (is_refusal a)) (not (is_show instruction)) h).0)
-    ∙ ap (λ (t : List ℕ). let kept : KeptState = record k { text = t } in kept) (append-nil k.text)
+silent_kept line instruction a k h = grind (arith, and_parts, append-nil)
 
 pub stopped_here : (nodes : List Node) (p : Place) (n : Node) → IsTree nodes → PlaceIsWithin (length nodes) p
     → node_at nodes p.at ≡ n → is_some (op_of_node p.numbers n) ≡ true → HasStopped nodes p p

@@ -3,9 +3,9 @@ use Rattle.std.proofs.{lemmas.List.{length-reverse, reverse-append, reverse-reve
 use Rattle.std.proofs.lemmas.Grind.{reverse_onto}
 use Rattle.mk_check.proofs.Vocabulary.{Bool, Item, List, Part, PartCount, ℕ, ap, append_assoc, arith}
 use Rattle.mk_check.proofs.Vocabulary.{before_next_script, branch, cases_lt, counts_of, drop, drop_more, false, get_or}
-use Rattle.mk_check.proofs.Vocabulary.{get_or_at, if◌then◌else◌, is_script, length, length-append, max}
-use Rattle.mk_check.proofs.Vocabulary.{outermost_blocks, refl, reverse, suc, take, take_more, true, with_item, zero, []}
-use Rattle.mk_check.{proofs.Vocabulary.{◌*◌, ◌++◌, ◌+◌, ◌-◌, ◌<◌, ◌∙◌, ◌∷◌, ◌≡◌}, specs.Lengths.{length_of}}
+use Rattle.mk_check.proofs.Vocabulary.{get_or_at, if◌then◌else◌, is_script, length, length-append, outermost_blocks}
+use Rattle.mk_check.proofs.Vocabulary.{refl, reverse, suc, take, take_more, true, with_item, zero, [], ◌*◌, ◌++◌, ◌+◌}
+use Rattle.mk_check.{proofs.Vocabulary.{◌-◌, ◌<◌, ◌∙◌, ◌∷◌, ◌≡◌}, specs.Lengths.{length_of}}
 use Rattle.mk_check.specs.Counts.{counts_with, innermost_count, saturated_count, with_count, with_innermost}
 use Rattle.mk_script.specs.{declared.items.Item.TheVariants.{Else, End, If, Repeat}, Scopes.is_instruction}
 
@@ -18,10 +18,6 @@ saturated_count-repeat : (rounds body rest : ℕ) → saturated_count (1 + round
     ≡ saturated_count (saturated_count rest + saturated_count (1 + rounds * (1 + saturated_count body)))
 saturated_count-repeat rounds body rest = omega (arith, saturated_count-rounds rounds body)
 
-saturated_count-if : (first second rest : ℕ) → saturated_count (1 + max first second + rest) ≡ saturated_count
-    (saturated_count rest + saturated_count (1 + max (saturated_count first) (saturated_count second)))
-saturated_count-if first second rest = omega arith
-
 with_lines : Part → List Part → ℕ → List PartCount
 with_lines part parts n = record { lines = n; second = saturated_count (length_of (branch part.second)) }
     ∷ counts_of parts
@@ -30,15 +26,13 @@ counts-with_line : (instruction : Bool) (part : Part) (parts : List Part)
     → with_lines part parts (saturated_count ((if instruction then 1 else 0) + length_of part.blocks))
     ≡ (if instruction then with_count 1 (counts_of (part ∷ parts)) else counts_of (part ∷ parts))
 unfolding with_lines
-counts-with_line true part parts = ap (with_lines part parts) (omega arith)
-counts-with_line false part parts = ap (with_lines part parts) (ap saturated_count (omega arith))
+counts-with_line x0 part parts = grind (arith, with_lines)
 
 -- what is kept of the open parts is what is kept of them with an item before
 pub counts-with_item : (line : ℕ) (item : Item) (parts : List Part)
     → counts_of (with_item line item parts) ≡ counts_with item (counts_of parts)
 unfolding with_lines
-counts-with_item line item parts =
-    grind (arith, with_lines, saturated_count-repeat, saturated_count-if, counts-with_line)
+counts-with_item line item parts = grind (arith, with_lines, saturated_count-repeat, counts-with_line)
 
 -- the items that open and end no part
 pub counts_with-line : (item : Item) (counts : List PartCount) → ((rounds : ℕ) → item ≡ Repeat rounds → ⊥)
@@ -82,17 +76,13 @@ lines-innermost x0 = grind arith
 
 -- Where a script ends.
 
-before_next_script-script : (item : Item) (items : List Item) → is_script item ≡ true
-    → before_next_script (item ∷ items) ≡ []
-before_next_script-script item items h = grind arith
-
 before_next_script-other : (item : Item) (items : List Item) → is_script item ≡ false
     → before_next_script (item ∷ items) ≡ item ∷ before_next_script items
 before_next_script-other item items h = grind arith
 
 module _ (items : List Item) (i : ℕ) (item : Item) (within : i < length items) (read : item ≡ get_or items i item) where
   pub before_next_script-end : is_script item ≡ true → before_next_script (drop i items) ≡ []
-  before_next_script-end h = grind (arith, drop_more, before_next_script-script)
+  before_next_script-end h = grind (arith, drop_more)
 
   pub before_next_script-more : is_script item ≡ false → take i items ++ before_next_script (drop i items)
       ≡ take (i + 1) items ++ before_next_script (drop (i + 1) items)

@@ -1,13 +1,13 @@
 -- A caller's call is decided once, before its last step.
 use Rattle.std.specs.List.{list_any}
 use Rattle.mk_check.proofs.Vocabulary.{Answer, Bool, Config, None, Op, Option, Some, ℕ, and_parts, arith, false}
-use Rattle.mk_check.proofs.Vocabulary.{if◌then◌else◌, not, refl, subst, sym, true, [], ◌+◌, ◌==◌, ◌∷◌, ◌≡◌}
-use Rattle.mk_geom.specs.{Headers.header_of, declared.addresses.Cell.Cell}
-use Rattle.mk_core.specs.Calls.{begun, is_same_stage, onward, progress_p, progress_q, progress_reg, refused}
-use Rattle.mk_core.specs.{Calls.{stage_behind, stage_refused, steps_of, still}, Effects.{decided, progress}}
-use Rattle.mk_core.specs.{Effects.{progress_freed, sees_double}, Order.{comes_next, is_of_any_holder, may_decide_new}}
-use Rattle.mk_core.specs.{Cells.is_unmapped_header, Enabled.holder_may, Moments.Moment, TurnConditions.is_decided}
-use Rattle.mk_core.specs.{Words.Words, declared.events.Step.Step, declared.events.Word.Word}
+use Rattle.mk_check.proofs.Vocabulary.{if◌then◌else◌, not, refl, true, [], ◌+◌, ◌==◌, ◌∷◌, ◌≡◌}
+use Rattle.mk_geom.specs.Headers.{header_of}
+use Rattle.mk_core.specs.Effects.{decided, progress, progress_freed, sees_double}
+use Rattle.mk_core.specs.{Calls.begun, Calls.is_same_stage, Calls.onward, Calls.progress_q, Calls.progress_reg}
+use Rattle.mk_core.specs.{Calls.refused, Calls.stage_behind, Calls.steps_of, Calls.still, Cells.is_unmapped_header}
+use Rattle.mk_core.specs.{Enabled.holder_may, Moments.Moment, Order.comes_next, Order.is_of_any_holder}
+use Rattle.mk_core.specs.{Order.may_decide_new, Words.Words, declared.events.Step.Step, declared.events.Word.Word}
 use Rattle.mk_core.specs.{declared.seats.Flight.Flight, declared.seats.Progress.Progress, declared.seats.Stage.Stage}
 use Rattle.mk_check.specs.Output.{ends_call}
 
@@ -35,8 +35,7 @@ abbrev flight : Stage → Op → ℕ → ℕ → ℕ → ℕ → Flight
 flight s o q p r l = record { stage = s; op = o; q = q; p = p; r = r; loaded = l }
 
 either : (b : Bool) {f : Flight} {x y : Progress} → Goes f x → Goes f y → Goes f (if b then x else y)
-either true h k = h
-either false h k = k
+either x0 h k = grind arith
 
 still_goes : (s : Stage) (o : Op) (q p r l : ℕ) → has_stage o s ≡ true
     → Goes (flight s o q p r l) (still (flight s o q p r l))
@@ -58,23 +57,16 @@ decides s o =
 next_stage : (s : Stage) (o : Op) → has_stage o s ≡ true → has_stage o (stage_behind s (steps_of o)) ≡ true
 next_stage x0 x1 h = grind arith
 
-next_pending : (s : Stage) (o : Op) → goes_on s ≡ true → has_stage o s ≡ true
-    → pending (stage_behind s (steps_of o)) ≡ pending s + decides s o
-next_pending x0 x1 g h = grind arith
-
 onward_goes : (s : Stage) (o : Op) (q p r l q' p' r' l' : ℕ) (a : Option Answer) → goes_on s ≡ true
     → has_stage o s ≡ true → count a ≡ decides s o → Goes (flight s o q p r l) (onward (flight s o q' p' r' l') a)
-onward_goes s o q p r l q' p' r' l' a g h e = grind (arith, next_stage, pending, next_pending)
+onward_goes s o q p r l q' p' r' l' a g h e = grind (arith, next_stage, pending)
 
 abbrev may_refuse : Stage → Bool
 may_refuse s = list_any (is_same_stage s) (Stage.LoadQ ∷ Stage.Probe ∷ [])
 
-refused_pending : (s : Stage) (o : Op) → may_refuse s ≡ true → pending (stage_refused o) ≡ pending s + 1
-refused_pending x0 x1 m = grind arith
-
 refused_goes : (s : Stage) (o : Op) (q p r l q' p' r' l' : ℕ) (a : Answer) → may_refuse s ≡ true → has_stage o s ≡ true
     → Goes (flight s o q p r l) (refused (flight s o q' p' r' l') a)
-refused_goes s o q p r l q' p' r' l' a m h = record { stage = grind arith; pending = refused_pending s o m }
+refused_goes s o q p r l q' p' r' l' a m h = record { stage = grind arith; pending = (grind arith) }
 
 -- `reg`
 
@@ -82,17 +74,13 @@ q_goes : (o : Op) (q p r l found : ℕ) → has_stage o Stage.LoadQ ≡ true
     → Goes (flight Stage.LoadQ o q p r l) (progress_q (flight Stage.LoadQ o q p r l) o found)
 q_goes o q p r l found h = grind (arith, onward_goes, either, refused_goes)
 
-p_goes : (o : Op) (q p r l found : ℕ) → has_stage o Stage.LoadP ≡ true
-    → Goes (flight Stage.LoadP o q p r l) (progress_p (flight Stage.LoadP o q p r l) o found)
-p_goes o q p r l found h = grind (arith, onward_goes, either, pending)
-
 -- after a `put` comes `leave`
 leave_stage : (o : Op) → has_stage o Stage.Put ≡ true → has_stage o Stage.Leave ≡ true
 leave_stage x0 h = grind arith
 
 reg_goes : (s : Stage) (o : Op) (q p r l found : ℕ) → has_stage o s ≡ true → comes_next s o Step.Reg ≡ true
     → Goes (flight s o q p r l) (progress_reg (flight s o q p r l) s found)
-reg_goes s o q p r l found h n = grind (arith, q_goes, p_goes, onward_goes, leave_stage, pending, still_goes)
+reg_goes s o q p r l found h n = grind (arith, q_goes, onward_goes, leave_stage, pending, still_goes, either)
 
 -- the stage of a step that has one of its own
 
@@ -134,21 +122,11 @@ decided_goes o q p r l a h = record { stage = grind arith; pending = refl }
 sees_none : (w : Words) (x : Word) → sees_double w None x ≡ false
 sees_none w x1 = grind arith
 
-freed_goes : (o : Op) (q p r l : ℕ) (cell : Option Cell) → has_stage o Stage.Turn ≡ true
-    → Goes (flight Stage.Turn o q p r l) (progress_freed (flight Stage.Turn o q p r l) cell)
-freed_goes o q p r l x5 h = grind (arith, decided_goes, still_goes)
-
 -- nothing is freed where the Free is decided
 freed_none : (b : Bool) (f : Flight) → progress_freed f (if b then None else None) ≡ still f
 freed_none x0 f = grind arith
 
 -- a New is granted, or refused, while it is undecided
-
-grants_at_turn : (s : Stage) (o : Op) → comes_next s o Step.Grant ≡ true → s ≡ Stage.Turn
-grants_at_turn x0 o n = grind arith
-
-fulls_at_turn : (s : Stage) (o : Op) → comes_next s o Step.Full ≡ true → s ≡ Stage.Turn
-fulls_at_turn x0 o n = grind arith
 
 abbrev pub At : Config → Moment → Op → ℕ → ℕ → ℕ → ℕ → ℕ → Step → Stage → Type 0
 At c m o q p r l found x s = Goes (flight s o q p r l) (progress c m (flight s o q p r l) found x)
@@ -184,21 +162,11 @@ goes c m s o q p r l found Step.Setg h n e =
 goes c m s o q p r l found Step.Dirty h n e =
     own c m s o q p r l found Step.Dirty refl h n (λ i. onward_goes Stage.Dirty o q p r l q p r l None refl i refl)
 goes c m s o q p r l found (Step.Look x) h n e = grind (arith, either, flight, decided_goes, still_goes, sees_none)
-goes c m s o q p r l found (Step.Quar page v) h n e = grind (arith, freed_goes, flight, freed_none, still_goes)
-goes c m s o q p r l found Step.Grant h n e =
-    let is = grants_at_turn s o n in
-    subst (At c m o q p r l found Step.Grant) (sym is)
-    (decided_goes o q p r l Answer.Done (subst (λ (t : Stage). has_stage o t ≡ true) is h))
-goes c m s o q p r l found Step.Full h n e =
-    let is = fulls_at_turn s o n in
-    subst (At c m o q p r l found Step.Full) (sym is)
-    (decided_goes o q p r l Answer.Full (subst (λ (t : Stage). has_stage o t ≡ true) is h))
+goes c m s o q p r l found (Step.Quar page v) h n e = grind (arith, flight, freed_none, still_goes, decided_goes)
+goes c m s o q p r l found Step.Grant h n e = grind (arith, decided_goes, has_stage)
+goes c m s o q p r l found Step.Full h n e = grind (arith, decided_goes, has_stage)
 goes c m s o q p r l found _ h n e = still_goes s o q p r l h
-
--- At its call's last step the answer is decided.
-gives_decided : (s : Stage) (o : Op) → comes_next s o Step.Give ≡ true → is_decided s ≡ true → pending s ≡ 1
-gives_decided x0 o n d = grind arith
 
 pub ends : (c : Config) (m : Moment) (f : Flight) (x : Step) → comes_next f.stage f.op x ≡ true
     → holder_may c m f x ≡ true → ends_call x ≡ true → pending f.stage ≡ 1
-ends c m f x3 n h e = grind (arith, pending, own_stage, gives_decided, and_parts)
+ends c m f x3 n h e = grind (arith, pending, own_stage, and_parts)

@@ -75,8 +75,7 @@ module _ {X : Type 0} where
       where
         by_said : (said : Option (List ℕ × X)) → cons_option (option_map (λ (d : List ℕ × X). d.0) said)
             (names_in (filter_map says items)) ≡ names_in (cons_option said (filter_map says items))
-        by_said None = refl
-        by_said (Some d) = refl
+        by_said x0 = grind arith
 
     pub declared_at : {Y : Type 0} (f : X → Y) (name : List ℕ) (items : List Item) (x : X) → value_of name
         (filter_map says items) ≡ Some x → slice_get (map (λ (d : List ℕ × X). f d.1) (filter_map says items))

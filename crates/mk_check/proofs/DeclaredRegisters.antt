@@ -100,15 +100,11 @@ record IsTypedWord (n : NeverState) (number place : ℕ) (Q : Kind → Type 0) :
   inside : place < length (words_of n number)
   is : Q (kind_in n (allocation_at n number) place)
 
-is_typed_word : (n : NeverState) (v : Value) (i : ℕ) (Q : Kind → Type 0) (number place : ℕ) → Meets n v i Q
-    → target_of n v i ≡ WordOf number place → IsTypedWord n number place Q
-is_typed_word n x1 i x3 number place meets e = grind (arith, if_by, exists)
-
 -- a pointer word that is loaded points to where it is declared to
 pub loaded_word : (program : List Item) {n : NeverState} (v : Value) (i : ℕ) (at : At) (number place : ℕ) → IsTyped
     (globals_of program) n → Meets n v i (λ kind. kind ≡ kind_at program at) → target_of n v i ≡ WordOf number place
     → IsOfKind (word_at n number place) (kind_at program at)
-loaded_word program v i at number place typed meets e = grind (arith, is_typed_word, kind_at)
+loaded_word program v i at number place typed meets e = grind (arith, kind_at, if_by, exists)
 
 -- a pointer that is moved on points to where its place is moved on to
 pub moved_word : (program : List Item) (v : Value) (i : ℕ) (at : At) → IsOfKind v (kind_at program at)

@@ -3,7 +3,7 @@ use Rattle.mk_check.proofs.Vocabulary.{ArePassed, Blocks, Choice, Done, Item, Li
 use Rattle.mk_check.proofs.Vocabulary.{ap, arith, before_next_script, blocks_from, branch, depth_of, fold_push}
 use Rattle.mk_check.proofs.Vocabulary.{is_whole, length, limit_fault, max, numbered, outermost_blocks, parts_from, refl}
 use Rattle.mk_check.proofs.Vocabulary.{script_of, subst, with_line, [], ◌++◌, ◌+◌, ◌-◌, ◌∷◌, ◌≡◌, ◌≤◌}
-use Rattle.mk_check.{proofs.GrammarLemmas.{at_most-None, of_script}, specs.Blocks.{with_else, with_if, with_repeat}}
+use Rattle.mk_check.{proofs.GrammarLemmas.{at_most-None, of_script}, specs.Blocks.{with_else, with_if}}
 use Rattle.mk_script.specs.{Scopes.{behind_else, behind_end, open_behind, open_blocks}, Grammar.IsOfSomeText}
 use Rattle.mk_script.specs.declared.scope.OpenBlock.{OpenBlock}
 
@@ -32,10 +32,6 @@ PartsFit around (part ∷ parts) =
 line_fits : (around line : ℕ) (item : Item) (parts : List Part) → PartsFit around parts
     → PartsFit around (with_line line item parts)
 line_fits around line item x3 h = grind arith
-
-repeat_fits : (around rounds : ℕ) (parts : List Part) → PartsFit (around + 1) parts
-    → PartsFit around (with_repeat rounds parts)
-repeat_fits around rounds x2 h = grind arith
 
 if_fits : (around : ℕ) (number : List ℕ) (parts : List Part) → PartsFit (around + 1) parts
     → PartsFit around (with_if number parts)
@@ -79,7 +75,6 @@ module _ (before more : List Item) (line : ℕ) where
   parts_before item few h =
       grind (
         arith,
-        repeat_fits,
         opened,
         around_it,
         opened_push,

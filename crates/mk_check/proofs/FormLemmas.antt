@@ -1,15 +1,14 @@
 -- A type has a word.
-use Rattle.std.{proofs.Common.{leb-true, nat_le, option_and_then}, specs.List.{list_all}}
-use Rattle.mk_check.proofs.Vocabulary.{At, Bool, Item, List, None, Ok, Option, Result, Some, TypeWord, ℕ, and_parts, ap}
-use Rattle.mk_check.proofs.Vocabulary.{arith, false, false≢true, if◌then◌else◌, is_some, length, length-append}
-use Rattle.mk_check.proofs.Vocabulary.{option_map, refl, replicate, suc, sym, true, unwrap_or, [], ◌&&◌, ◌∙◌, ◌∷◌, ◌≡◌}
-use Rattle.mk_check.proofs.{Vocabulary.◌≤◌, GrammarLemmas.{heap_line-item, passed_then}}
-use Rattle.mk_script.specs.{Keywords.has_word_count, Operands.{field_of, fields_of, have_form, item_from, name, number}}
-use Rattle.mk_script.specs.Operands.{number_field, numbers, pointer_field, ◌>>=◌}
-use Rattle.mk_script.specs.declared.items.TypeWord.TheVariants.{Number, Pointer}
-use Rattle.mk_script.specs.{declared.keywords.Keyword.TheVariants.{Casp, TypeLine}, Lines.{is_placed, line_item}}
-use Rattle.mk_script.specs.{Lines.placed_item, declared.faults.LineFault.LineFault}
-use Rattle.mk_script.specs.{declared.items.Item.TheVariants.TypeLine as TypeItem, declared.keywords.Keyword.Keyword}
+use Rattle.std.{proofs.Common.{leb-true, nat_le}, specs.List.{list_all}}
+use Rattle.mk_check.proofs.Vocabulary.{Bool, Item, List, None, Ok, Option, Result, Some, TypeWord, ℕ, and_parts, ap}
+use Rattle.mk_check.proofs.Vocabulary.{arith, false, false≢true, if◌then◌else◌, is_some, length, length-append, refl}
+use Rattle.mk_check.proofs.Vocabulary.{replicate, suc, sym, true, unwrap_or, [], ◌&&◌, ◌∙◌, ◌∷◌, ◌≡◌, ◌≤◌}
+use Rattle.mk_check.proofs.GrammarLemmas.{heap_line-item, passed_then}
+use Rattle.mk_script.specs.Operands.{field_of, fields_of, have_form, item_from, name, number, number_field}
+use Rattle.mk_script.specs.{Operands.{pointer_field, ◌>>=◌}, declared.keywords.Keyword.TheVariants.{Casp, TypeLine}}
+use Rattle.mk_script.specs.{Keywords.has_word_count, Lines.{is_placed, line_item, placed_item}}
+use Rattle.mk_script.specs.{declared.items.TypeWord.TheVariants.Number, declared.keywords.Keyword.Keyword}
+use Rattle.mk_script.specs.{declared.faults.LineFault.LineFault, declared.items.Item.TheVariants.TypeLine as TypeItem}
 
 -- The words of a field, where it has a form.
 
@@ -27,17 +26,11 @@ replicate-HasWord : (count : ℕ) (b : Bool) → b ≡ nat_le 1 count
     → HasWord (if b then Some (replicate count Number) else None)
 replicate-HasWord count x1 h some = grind (arith, leb-true)
 
-counted-HasWord : (count : Option ℕ) → HasWord (option_and_then numbers count)
-counted-HasWord x0 = grind (arith, none-HasWord, replicate-HasWord)
-
 number_field-HasWord : (bytes : List ℕ) → HasWord (number_field bytes)
-number_field-HasWord x0 = grind (arith, if-HasWord, counted-HasWord, none-HasWord)
-
-pointer-HasWord : (place : Option At) → HasWord (option_map (λ a. Pointer a ∷ []) place)
-pointer-HasWord x0 some = grind arith
+number_field-HasWord x0 = grind (arith, if-HasWord, none-HasWord, replicate-HasWord)
 
 pointer_field-HasWord : (bytes : List ℕ) → HasWord (pointer_field bytes)
-pointer_field-HasWord x0 = grind (arith, none-HasWord, if-HasWord, pointer-HasWord)
+pointer_field-HasWord x0 = grind (arith, none-HasWord, if-HasWord)
 
 field-HasWord : (field : List ℕ) → HasWord (field_of field)
 field-HasWord x0 = grind (arith, none-HasWord, if-HasWord, number_field-HasWord, pointer_field-HasWord)

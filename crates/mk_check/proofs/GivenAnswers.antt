@@ -51,9 +51,6 @@ same_number j = eq-eqb j j refl
 pub other_number : (j k : ℕ) → j ≢ k → (j == k) ≡ false
 other_number j k ne = grind (arith, nat_tests)
 
-among_mine : (k : ℕ) (o : Op) (a : Option Answer) → answers_among k (entry_of k o a) ≡ as_list a
-among_mine k o x2 = grind (arith, same_number)
-
 among_others : (k j : ℕ) (o : Op) (a : Option Answer) → j ≢ k → answers_among k (entry_of j o a) ≡ []
 among_others k j o x3 ne = grind (arith, other_number)
 
@@ -165,7 +162,7 @@ serves_more c m {k = k} {n = n} {answers = answers} Host x enabled h = others_mo
 event_among : (c : Config) (m : Moment) (k : ℕ) (seat : Seat) (x : Step)
     → answers_among k (call_decided c m (record { seat = seat; step = x }))
     ≡ (if is_same_seat (Caller k) seat then as_list (answer_decided c m (record { seat = seat; step = x })) else [])
-event_among c m k x3 x = grind (arith, same_number, as_list, among_mine, other_number, among_others)
+event_among c m k x3 x = grind (arith, same_number, as_list, other_number, among_others)
 
 counts_more : (n : ℕ) (b : Bool) → n + (if b then 1 else 0) ≡ counted n b
 counts_more n x1 = grind arith

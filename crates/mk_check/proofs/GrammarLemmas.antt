@@ -63,12 +63,10 @@ few_names s most fits {items = items} program =
     )) [] items program.lines (omega arith)
 
 pub length-global_names : {items : List Item} → IsWhole items → length (global_names items) ≤ 64
-length-global_names {items} program = few_names Sort.Global 64 (λ before item within h. grind (arith, at_most-None))
-    program
+length-global_names program = grind (arith, few_names, at_most-None)
 
 pub length-type_names : {items : List Item} → IsWhole items → length (type_names items) ≤ 64
-length-type_names {items} program =
-    few_names Sort.Type 64 (λ before item within h. grind (arith, at_most-None, or-None)) program
+length-type_names program = grind (arith, few_names, at_most-None, or-None)
 
 some_script : (items : List Item) → has_script items ≡ true → 1 ≤ length (script_names items)
 some_script [] has = absurd (false≢true has)
@@ -76,10 +74,7 @@ some_script (Script name ∷ items) has = omega arith
 some_script (item ∷ items) has = some_script items has
 
 pub length-script_names : {items : List Item} → IsWhole items → IsBetween 1 16 (length (script_names items))
-length-script_names {items} program = (
-  some_script items program.script,
-  few_names Sort.Script 16 (λ before item within h. grind (arith, at_most-None)) program,
-)
+length-script_names program = grind (arith, some_script, few_names, at_most-None)
 
 -- The pages of the heap.
 

@@ -1,7 +1,7 @@
 -- What names stand for with one more line.
 use Rattle.std.proofs.{Common.Bor, Common.cond, lemmas.Bool.cases_Bool}
 use Rattle.std.specs.{Cmp.Lexicographic.nat_list_eq_equiv, Option.option_copied}
-use Rattle.mk_check.proofs.Vocabulary.{Bool, Item, List, None, OnOk, Option, Result, Some, ℕ, arith, bytes_eq}
+use Rattle.mk_check.proofs.Vocabulary.{Item, List, None, OnOk, Option, Result, Some, ℕ, arith, bytes_eq}
 use Rattle.mk_check.proofs.Vocabulary.{bytes_eq-Decides, false, if◌then◌else◌, is_script, is_some, option_or, refl}
 use Rattle.mk_check.proofs.Vocabulary.{subst, sym, true, ⊎_elim, ◌∙◌, ◌≡◌}
 use Rattle.mk_script.specs.declared.items.Item.TheVariants.{Script}
@@ -25,18 +25,13 @@ module _ {X : Type 0} (old new : List ℕ → Option X) (name : List ℕ) (value
       let back : bytes_eq other name ≡ false = nat_list_eq_equiv.symm other name ∙ differs in
       updated other ∙ rw (differs, back) (sym (option_or-none (old other)))) (cases_Bool (bytes_eq name other))
 
-copied-or : {X : Type 0} (o : Option (Bor X)) (b : Bool) (x : Bor X) → option_copied
-    (option_or o (if b then Some x else None)) ≡ option_or (option_copied o) (if b then Some x.now else None)
-copied-or x0 b x = grind arith
-
 -- a line that declares a name, where the names before are known
 pub known-more : {X : Type 0} (old new : List ℕ → Option (Bor X)) (before behind : List ℕ → Option X) (name : List ℕ)
     (value : Bor X) → ((other : List ℕ) → new other ≡ option_or (old other) (if bytes_eq other name then Some value else
     None)) → ((other : List ℕ) → option_copied (old other) ≡ before other) → ((other : List ℕ)
     → behind other ≡ option_or (before other) (if bytes_eq other name then Some value.now else None)) → (other : List ℕ)
     → option_copied (new other) ≡ behind other
-known-more old new before behind name value adds known more other =
-    cc (adds other, copied-or (old other) (bytes_eq other name) value, known other, more other)
+known-more old new before behind name value adds known more other = grind arith
 
 pub is_script-other : (item : Item) → ((name : List ℕ) → item ≡ Script name → ⊥) → is_script item ≡ false
 is_script-other item differs = grind arith

@@ -1,10 +1,9 @@
 -- The end of a block after which an operation comes: the script stops there.
 use Rattle.mk_check.proofs.Vocabulary.{Frame, FrameIsWithin, FramesAreWithin, HasStopped, IsTree, KeptState, List, Node}
 use Rattle.mk_check.proofs.Vocabulary.{Place, PlaceIsWithin, Some, ℕ, ap, arith, asks_at, innermost, kept_in, length}
-use Rattle.mk_check.proofs.Vocabulary.{node_at, refl, subst, sym, take, true, with_kept, ◌-◌, ◌∙◌, ◌≡◌}
-use Rattle.mk_check.proofs.AtOnce.{asks_so, stopped_here}
-use Rattle.mk_check.proofs.{AsksFirst.split_last, Moves.FramesAreWithin_pop, Moves.end_goes_on, TreeNodes.is_at}
-use Rattle.mk_check.specs.Trees.{LeavesBlock, place_behind_block}
+use Rattle.mk_check.proofs.Vocabulary.{node_at, refl, subst, take, true, with_kept, ◌-◌, ◌∙◌, ◌≡◌}
+use Rattle.mk_check.{proofs.{AtOnce.{asks_so, stopped_here}, AsksFirst.split_last}, specs.Trees.{LeavesBlock}}
+use Rattle.mk_check.proofs.{Moves.{FramesAreWithin_pop, end_goes_on}, TreeNodes.is_at}
 
 pub innermost_within : (count : ℕ) (frames : List Frame) (f : Frame) → FramesAreWithin count frames
     → innermost frames ≡ Some f → FrameIsWithin count f
@@ -27,22 +26,10 @@ stops_behind_block nodes {t = t} tree w e leaves asks =
 
 -- what is kept stays where a block is left
 
-kept_behind_block : (p : Place) (f : Frame) → kept_in (place_behind_block p f) ≡ kept_in p
-kept_behind_block p x1 = grind arith
-
 pub kept_left : {p q : Place} → LeavesBlock p q → kept_in q ≡ kept_in p
-kept_left {p} l = ap kept_in l.is ∙ kept_behind_block (record p { frames = l.frames }) l.frame
-
-behind_with : (p : Place) (next : ℕ) (k : KeptState) (f : Frame)
-    → place_behind_block (with_kept (record p { at = next }) k) f ≡ with_kept (place_behind_block p f) k
-behind_with p next k x3 = grind arith
+kept_left {p} l = ap kept_in l.is ∙ (grind arith)
 
 -- nor does it matter to how a block is left
 pub left_with : {p q : Place} (next : ℕ) (k : KeptState) → LeavesBlock p q
     → LeavesBlock (with_kept (record p { at = next }) k) (with_kept q k)
-left_with {p} next k l = record {
-  frame = l.frame;
-  frames = l.frames;
-  was = l.was;
-  is = ap (λ (x : Place). with_kept x k) l.is ∙ sym (behind_with (record p { frames = l.frames }) next k l.frame);
-}
+left_with {p} next k l = grind arith

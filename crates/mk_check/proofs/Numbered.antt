@@ -28,9 +28,6 @@ pub op_of-asked : (scope : Scope) (fed : Fed) (item : Item)
     → op_of scope fed item ≡ op_asked fed.numbers (instruction_of scope item)
 op_of-asked scope fed item = grind arith
 
-ops-run_line : (scope : Scope) (fed : Fed) (item : Item) → (run_line scope fed item).ops ≡ fed.ops
-ops-run_line scope fed item = grind arith
-
 pub kept_of-with_answer : (scope : Scope) (fed : Fed) (item : Item) (a : Answer)
     → kept_of (with_answer scope fed item a) ≡ after_answer (instruction_of scope item) a (kept_of fed)
 kept_of-with_answer scope fed item a = grind arith
@@ -44,23 +41,13 @@ pub record Agrees (scope : Scope) (fed : Fed) (stopped : Stopped) (ops : List Op
   pub stop : stopped_of scope fed ≡ stopped
   pub answers : fed.ops ≡ ops
 
-then_run_agrees : (scope : Scope) (fed : Fed) (go : Fed → Fed) (rest : Blocks) (go' : KeptState → Stopped)
-    → ((f : Fed) → Agrees scope (go f) (go' (kept_of f)) f.ops)
-    → Agrees scope (then_run fed go rest) (stop_behind (stopped_of scope fed) go' (numbered scope rest)) fed.ops
-then_run_agrees scope fed go rest go' h =
-    grind (arith, stopped_of, kept_of, steps_of-followed_by, Done, Line, Rounds, Choice)
-
 -- a part that agrees, and then the rest
 then_agrees : {scope : Scope} {fed : Fed} (go : Fed → Fed) (rest : Blocks) {stopped : Stopped} (go' : KeptState
     → Stopped) {ops : List Op} → Agrees scope fed stopped ops
     → ((f : Fed) → Agrees scope (go f) (go' (kept_of f)) f.ops)
     → Agrees scope (then_run fed go rest) (stop_behind stopped go' (numbered scope rest)) ops
 then_agrees {scope} {fed} go rest go' a h =
-    let b = then_run_agrees scope fed go rest go' h in
-    record {
-      stop = b.stop ∙ ap (λ (s : Stopped). stop_behind s go' (numbered scope rest)) a.stop;
-      answers = b.answers ∙ a.answers;
-    }
+    grind (arith, stopped_of, kept_of, steps_of-followed_by, Done, Line, Rounds, Choice)
 
 run_rounds_agrees : (scope : Scope) (rounds : ℕ) (body : Blocks) (go : Fed → Fed) (go' : KeptState → Stopped)
     → ((f : Fed) → Agrees scope (go f) (go' (kept_of f)) f.ops) → (fed : Fed) → Agrees scope
@@ -80,7 +67,7 @@ run_agrees scope (Line line item rest) fed =
     (let a = run_agrees scope rest (run_line scope fed item) in
     record {
       stop = a.stop ∙ ap (stop_of (numbered scope rest)) (grind arith);
-      answers = a.answers ∙ ops-run_line scope fed item;
+      answers = a.answers ∙ (grind arith);
     })
   where
     by_test : (s t : Bool) → s ≡ t → Agrees scope (run scope rest (run_line scope fed item))

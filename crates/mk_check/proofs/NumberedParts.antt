@@ -1,16 +1,11 @@
 -- The parts of a script, with numbers for their names.
 use Rattle.std.proofs.Common.{slice_index_or}
-use Rattle.mk_check.proofs.Vocabulary.{Element, Item, List, Part, Scope, ℕ, arith, drop, drop_more, element_of}
-use Rattle.mk_check.proofs.Vocabulary.{instruction_of, length, map, parts_from, with_element, with_item, with_line, ◌+◌}
-use Rattle.mk_check.{proofs.Vocabulary.{◌<◌, ◌≡◌}, specs.Building.{part_of}}
-
-line_of_parts : (scope : Scope) (line : ℕ) (item : Item) (parts : List Part) → map (part_of scope) (with_line line item
-    parts) ≡ with_element line (Element.Line (instruction_of scope item)) (map (part_of scope) parts)
-line_of_parts scope line item x3 = grind arith
+use Rattle.mk_check.proofs.Vocabulary.{Item, List, Part, Scope, ℕ, arith, drop, drop_more, element_of, length, map}
+use Rattle.mk_check.{proofs.Vocabulary.{parts_from, with_element, with_item, ◌+◌, ◌<◌, ◌≡◌}, specs.Building.{part_of}}
 
 pub part_of-with_item : (scope : Scope) (line : ℕ) (item : Item) (parts : List Part) → map (part_of scope)
     (with_item line item parts) ≡ with_element line (element_of scope item) (map (part_of scope) parts)
-part_of-with_item scope line item parts = grind (arith, line_of_parts)
+part_of-with_item scope line item parts = grind arith
 
 -- the parts from an item are those after it, with the item before them
 pub parts_from_more : (scope : Scope) (line i next : ℕ) (items : List Item) (item : Item) → i < length items

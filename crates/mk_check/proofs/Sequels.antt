@@ -1,20 +1,14 @@
 -- What is told of what comes after a line, and where a script then stops.
 use Rattle.mk_check.proofs.Vocabulary.{Answer, Bool, HasStopped, Instruction, IsTree, KeptState, List, Node, None}
 use Rattle.mk_check.proofs.Vocabulary.{Option, Place, PlaceIsWithin, Sequel, Some, TakesLine, ℕ, after_answer, ap}
-use Rattle.mk_check.proofs.Vocabulary.{arith, asks_at, false, if◌then◌else◌, kept_in, length, node_at, not, refl}
-use Rattle.mk_check.proofs.Vocabulary.{sequel_to, sequels_of, subst, sym, true, with_kept, ◌&&◌, ◌∙◌, ◌≡◌}
+use Rattle.mk_check.proofs.Vocabulary.{arith, asks_at, false, kept_in, length, node_at, not, refl, sequel_to}
+use Rattle.mk_check.proofs.Vocabulary.{sequels_of, subst, sym, true, with_kept, ◌&&◌, ◌∙◌, ◌≡◌}
 use Rattle.mk_check.proofs.{NextRounds.{kept_left, left_with, stops_behind_block}, AtOnce.{asks_so, stopped_here}}
 use Rattle.mk_check.proofs.{Moves.below_length, TreeNodes.is_at}
 use Rattle.mk_check.specs.{AtOnce.{LeavesToOp, TakesAtOnce}, Steps.{is_show, is_silent, keeping_register, with_value}}
 use Rattle.mk_check.specs.{Feed.is_refusal, Spots.sequels_by, declared.feeding.tree.Sequels.Sequels}
 
 -- what is next, where that is told
-
-asks_if : (b : Bool) → (if b then Sequel.Asks else Sequel.Other) ≡ Sequel.Asks → b ≡ true
-asks_if x0 e = grind arith
-
-ends_not : (b : Bool) (n : Node) → (if b then Sequel.Asks else Sequel.Other) ≡ Sequel.Ends → n ≡ Node.Done
-ends_not x0 n e = grind arith
 
 -- The node is a line before this one, whose answer this register keeps, if any does, and this comes next.
 record IsLine (nodes : List Node) (n : Node) (next : ℕ) (kept : Option ℕ) (s : Sequel) : Type 0 where
@@ -109,7 +103,7 @@ module _ (nodes : List Node) {p : Place} (tree : IsTree nodes) (w : PlaceIsWithi
     next = next;
     here = l.is;
     taken = stops_at_line nodes p next l.instruction tree (within_next l.line l.instruction next l.is) a t
-        (silent l.instruction a accepted l.shown) (grind (arith, asks_if))
+        (silent l.instruction a accepted l.shown) (grind arith)
         (is ∙ ap (λ (x : KeptState). with_kept (record p { at = next }) x) (sym after));
   }
 
@@ -122,7 +116,7 @@ module _ (nodes : List Node) {p : Place} (tree : IsTree nodes) (w : PlaceIsWithi
     next = next;
     here = l.is;
     taken = stops_behind nodes p next l.instruction tree (within_next l.line l.instruction next l.is) a t
-        (silent l.instruction a accepted l.shown) (grind (arith, ends_not)) leaves
+        (silent l.instruction a accepted l.shown) (grind arith) leaves
         (is ∙ ap (λ (x : KeptState). with_kept q x) (sym after));
   }
 

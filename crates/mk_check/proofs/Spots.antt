@@ -32,10 +32,6 @@ same_mark nodes more (Node.Line line instruction next) below =
     ap (λ (m : Node). sequels_before next m instruction) (get_or_append_left nodes more Node.Done next below)
 same_mark nodes more _ below = refl
 
-same_mark_pushed : (spots : List Spot) (s : Spot) (n : Node) → IsBelow (length spots) n
-    → sequels_of (nodes_of spots) n ≡ sequels_of (nodes_of (spots ++ s ∷ [])) n
-same_mark_pushed spots s n below = grind (arith, length-nodes_of, nodes_of_push, same_mark)
-
 -- the node of a spot names nodes before it
 spot_below : (spots : List Spot) (at : ℕ) → IsMarkedTree spots → at < length spots
     → IsBelow (length spots) (spot_at spots at).node
@@ -50,7 +46,7 @@ same_steps_pushed spots s n below = grind (arith, length-nodes_of, steps_from_sa
 -- what is known at a place stays so
 marked_still : (spots : List Spot) (s : Spot) {x : Spot} → IsBelow (length spots) x.node → IsMarked (nodes_of spots) x
     → IsMarked (nodes_of (spots ++ s ∷ [])) x
-marked_still spots s below m = grind (arith, same_mark_pushed, same_steps_pushed)
+marked_still spots s below m = grind (arith, same_steps_pushed, length-nodes_of, nodes_of_push, same_mark)
 
 pub IsMarkedTree_push : {spots : List Spot} (s : Spot) → IsMarkedTree spots → IsBelow (length (nodes_of spots)) s.node
     → IsMarked (nodes_of spots) s → IsMarkedTree (spots ++ s ∷ [])

@@ -139,16 +139,7 @@ answered_from program k answers a line item rest s is taken some stop =
     let scope = script_scope program k in
     let fed = feed program k answers in
     let agrees = answer_agrees scope fed line item rest a some in
-    let at : feed program k (answers ++ a ∷ []) ≡ take_answer scope fed (Line line item rest) a =
-    feed_push program k answers a ∙ ap (λ (b : Blocks). take_answer scope fed b a) is in
-    let same : stopped_in s.nodes s.place ≡ stopped_of scope (feed program k (answers ++ a ∷ [])) =
-    cc (stop, is, agrees.stop, at) in
-    record {
-      taken = ap (λ (f : Fed). length f.ops) at ∙ (agrees.more ∙ omega (arith, taken, length_push answers a));
-      left = ap (λ (t : Stopped). t.left) same;
-      numbers = ap (λ (t : Stopped). t.kept.numbers) same;
-      text = ap (λ (t : Stopped). t.kept.text) same;
-    }
+    grind (arith, feed_push, stopped_of, length_push, Line)
 
 pub answer_stands : {program : List Item} {k : ℕ} {answers : List Answer} (a : Answer) {s : FeedState} (t : FeedState)
     (line : ℕ) (instruction : Instruction) (next : ℕ) → IsTree s.nodes → PlaceIsWithin (length s.nodes) s.place

@@ -38,16 +38,10 @@ stop_of-then_steps (Choice number first second rest) b k =
     let s : Stopped = if slice_index k.numbers number == 0 then stop_of second k else stop_of first k in
     then_ran_then s.left s.kept rest b (stop_of-then_steps rest b)
 
--- rounds after the first, which may have stopped
-rounds_behind : (left : Steps) (kept : KeptState) (more : ℕ) (body rest : Steps) → stop_behind (stop_behind (record
-    { left = left; kept = kept }) (stop_of_rounds more body (stop_of body)) (Rounds more body Done)) (stop_of rest) rest
-    ≡ stop_behind (record { left = left; kept = kept }) (stop_of (Rounds more body rest)) (Rounds more body rest)
-rounds_behind x0 kept more body rest = grind (arith, then_steps_assoc)
-
 -- A round more is the body, and then the other rounds.
 pub stop_of-round : (more : ℕ) (body rest : Steps) (k : KeptState)
     → stop_of (Rounds (suc more) body rest) k ≡ stop_of (then_steps body (Rounds more body rest)) k
-stop_of-round more body rest k = grind (arith, rounds_behind, stop_of-then_steps, Rounds)
+stop_of-round more body rest k = grind (arith, stop_of-then_steps, Rounds, then_steps_assoc)
 
 pub stop_of-choice_zero : (number : ℕ) (first second rest : Steps) (k : KeptState) → (slice_index k.numbers number == 0)
     ≡ true → stop_of (Choice number first second rest) k ≡ stop_of (then_steps second rest) k
@@ -96,8 +90,7 @@ stop_of-text text (Line line instruction rest) k =
               behind_text text k;
         } else stop_of rest (after_line instruction (behind_text text k))) ≡ stopped_behind_text text
         (if t then record { left = Line line instruction rest; kept = k } else stop_of rest (after_line instruction k))
-    by_test true h = refl
-    by_test false h = h
+    by_test x0 h = grind arith
 stop_of-text text (Rounds rounds body rest) k =
     let s = stop_of_rounds rounds body (stop_of body) k in
     ap (λ (t : Stopped). stop_behind t (stop_of rest) rest) (stop_of_rounds-text text rounds body (stop_of body)

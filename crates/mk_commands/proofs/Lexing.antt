@@ -116,17 +116,6 @@ says_long word id v e l = by (name_view id)
         → said word ≡ said_long id v
     named name same says = cc (shape)
 
-    markers_says : (u : Option Text) → said (45 ∷ 45 ∷ (codes "markers" ++ tail_of u)) ≡ markers_said u
-    markers_says None = refl
-    markers_says (Some x) = refl
-
-    flag_says : (flag : Flag) (u : Option Text)
-        → said (45 ∷ 45 ∷ (flag_name flag ++ tail_of u)) ≡ said_long (flag_name flag) u
-    flag_says sweep_flag None = refl
-    flag_says sweep_flag (Some x) = refl
-    flag_says why_flag None = refl
-    flag_says why_flag (Some x) = refl
-
     -- a word of another name
     is_not : (name other : Text) (u : Option Text) → bytes_eq name id ≡ false → long_of other ≡ Some (name, u)
         → word ≡ other → ⊥
@@ -161,6 +150,6 @@ says_long word id v e l = by (name_view id)
         ) (ap (λ (u : Text). said_dashed (behind (codes "-") u)) shape ∙ unknown_dashed (id ++ tail_of v))
 
     by : NameView id → said word ≡ said_long id v
-    by (is_markers same) = named (codes "markers") same (markers_says v)
-    by (is_flag flag same) = named (flag_name flag) same (flag_says flag v)
+    by (is_markers same) = grind (arith, named)
+    by (is_flag flag same) = grind (arith, named)
     by (is_other m s w) = rw (m, s, w) (other m s w)

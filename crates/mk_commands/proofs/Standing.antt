@@ -1,6 +1,6 @@
 -- Where the walk of clap stands, with what its rows hold, and a word more that is a number.
-use Rattle.std.proofs.Common.{Bool, List, None, Option, Some, ap, codes, false, if◌then◌else◌, is_some, option_and_then}
-use Rattle.std.proofs.{Common.{refl, subst, sym, true, [], ◌++◌, ◌∙◌, ◌∷◌, ◌≡◌}, Math.Bool.{and-false, or-false}}
+use Rattle.std.proofs.Common.{Bool, List, None, Option, Some, ap, arith, codes, false, if◌then◌else◌, is_some}
+use Rattle.std.proofs.{Common.{option_and_then, refl, sym, true, [], ◌∙◌, ◌∷◌, ◌≡◌}, Math.Bool.{and-false, or-false}}
 use Rattle.std.specs.Str.{bytes_eq}
 use Rattle.clap.specs.{Faults.{settle_fault, step_fault, word_fault}, Walk.{Held, Row, Step, Text, Waiting, Walk}}
 use Rattle.clap.specs.Walk.{after_step, has_row, idle, is_pending, option, settled_rows, value, with_values, without}
@@ -54,10 +54,6 @@ same_id start_id (flag_id sweep_flag) e = cc
 same_id count_id (flag_id sweep_flag) e = cc
 same_id _ _ e = cc
 
-as_some : (m : Option Text) → is_some (as_entry m) ≡ is_some m
-as_some None = refl
-as_some (Some v) = refl
-
 pub flag_some : (b : Bool) → is_some (if b then Some (codes "true") else None) ≡ b
 flag_some false = refl
 flag_some true = refl
@@ -69,23 +65,14 @@ still_holds rows t a e h k = h k
 
 module _ (rows : List Row) (t : Given) (h : Holds rows t) where
   pub has_id : (k : Id) → has_row (text_of k) rows ≡ is_some (given_for k t)
-  has_id k = has_entry (text_of k) rows ∙ ap is_some (h k) ∙ as_some (given_for k t)
+  has_id k = grind (arith, has_entry, text_of, given_for)
 
   -- The row of an id that had none is set, and the others stay.
   pub holds_set : (k : Id) (v : Text) (u : Given) → given_for k t ≡ None → given_for k u ≡ Some v
       → ((j : Id) → bytes_eq (text_of k) (text_of j) ≡ false → given_for j u ≡ given_for j t)
       → Holds (with_values (text_of k) AsWritten CommandLine (v ∷ []) (without (text_of k) rows)) u
   holds_set k v u none some others j =
-      rw (values_set (text_of k) AsWritten CommandLine (v ∷ []) rows (has_id k ∙ ap is_some none))
-      (by (bytes_eq (text_of k) (text_of j)) refl)
-    where
-      by : (b : Bool) → bytes_eq (text_of k) (text_of j) ≡ b
-          → entry (text_of j) (rows ++ row (text_of k) AsWritten CommandLine (v ∷ []) ∷ []) ≡ as_entry (given_for j u)
-      by false e = entry_other (text_of j) _ rows e ∙ h j ∙ ap as_entry (sym (others j e))
-      by true e =
-          let same = same_id k j e in
-          entry_same (text_of j) _ rows e (h j ∙ ap as_entry (ap (λ i. given_for i t) (sym same) ∙ none))
-          ∙ ap as_entry (sym (ap (λ i. given_for i u) (sym same) ∙ some))
+      grind (arith, values_set, text_of, has_id, entry, row, as_entry, given_for, entry_other, same_id, entry_same)
 
 -- ---- where the walk stands
 
@@ -117,11 +104,7 @@ pub passes_on : (form : Form) (name : Text) (w : Walk) (word : Text) (words : Li
     ≡ (h, step) → word_fault (shape form name) [] w.is_trailing w.waiting word w.held ≡ []
     → step_fault (shape form name) w.position h step ≡ []
     → TellsAs form name (after_step (rules form) word w h step) words o → TellsAs form name w (word ∷ words) o
-passes_on form name w word words h step None s met passes fits tells =
-    λ e. tells ((goes_on form name w word words h step s met passes fits).0 ∙ e)
-passes_on form name w word words h step (Some t) s met passes fits tells =
-    let on = goes_on form name w word words h step s met passes fits in
-    (sym on.0 ∙ tells.0, subst (λ (rows : List Row). Holds rows t) on.1 tells.1)
+passes_on form name w word words h step x7 s met passes fits tells = grind (arith, goes_on)
 
 -- the next word is told so
 pub told_awaiting : (form : Form) (t : Given) (word : Text) → t.awaits ≡ true

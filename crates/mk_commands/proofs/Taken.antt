@@ -1,13 +1,13 @@
 -- What clap takes and finds, of a whole command line.
-use Rattle.std.proofs.Common.{Bool, List, MatchOption, None, Option, Some, ap, codes, drop, false, fold, if◌then◌else◌}
-use Rattle.std.proofs.Common.{is_some, option_and_then, refl, subst, sym, true, [], ◌||◌, ◌∙◌, ◌∷◌, ◌≡◌, ◌≢◌}
+use Rattle.std.proofs.Common.{Bool, List, MatchOption, None, Option, Some, ap, arith, codes, drop, false, fold}
+use Rattle.std.proofs.Common.{if◌then◌else◌, option_and_then, refl, subst, sym, true, [], ◌||◌, ◌∙◌, ◌∷◌, ◌≡◌, ◌≢◌}
 use Rattle.std.specs.Str.{bytes_eq}
-use Rattle.clap.{proofs.FaultLemmas.{leaf_fault}, specs.Walk.{nothing_held, one_of, rows_of, with_default, with_values}}
-use Rattle.clap.specs.Faults.{check_fault, default_fault, defaults_fault, fault_of, given_default_fault, settle_fault}
-use Rattle.clap.specs.{Simple.{App, built, matches_of}, declared.builder.value_parser.Reading.TheVariants.AsWritten}
-use Rattle.clap.specs.{declared.parser.matches.ValueSource.TheVariants.DefaultValue, Kinds.{Kinds, or_else}}
-use Rattle.clap.specs.{Matches.found_of, Values.bool_text, Walk.{Row, Rule, Text, first_of, has_row, idle}}
-use Rattle.clap.specs.declared.parser.matches.ArgMatches.{ArgMatches}
+use Rattle.clap.{proofs.FaultLemmas.{leaf_fault}, specs.declared.builder.value_parser.Reading.TheVariants.{AsWritten}}
+use Rattle.clap.specs.{Faults.{check_fault, default_fault, defaults_fault, fault_of}, Walk.{Row, Rule, Text, first_of}}
+use Rattle.clap.specs.Walk.{has_row, idle, nothing_held, one_of, rows_of, with_default, with_values}
+use Rattle.clap.specs.{declared.parser.matches.ArgMatches.ArgMatches, Kinds.{Kinds, or_else}, Matches.found_of}
+use Rattle.clap.specs.{Simple.{App, built, matches_of}, Values.bool_text}
+use Rattle.clap.specs.declared.parser.matches.ValueSource.TheVariants.{DefaultValue}
 use Rattle.mk_commands.proofs.Standing.{Holds, Id, TellsAs, as_entry, count_id, flag_id, given_for, markers_id}
 use Rattle.mk_commands.proofs.{Standing.{start_id, text_of}, Walking.{count_filled, flag_filled, markers_filled}}
 use Rattle.mk_commands.proofs.Walking.{rest_fault, rest_rows, rules, shape, standing, start_filled}
@@ -35,11 +35,7 @@ flag_other id other rows e = by_test (has_row id rows) refl
 flag_same : (id : Text) (rows : List Row) (b : Bool) → bytes_eq id id ≡ true
     → entry id rows ≡ as_entry (if b then Some (codes "true") else None)
     → entry id (with_default rows (flag_filled id)) ≡ Some (bool_text b ∷ [], AsWritten)
-flag_same id rows true e h = let has : has_row id rows ≡ true = has_entry id rows ∙ ap is_some h in rw has h
-flag_same id rows false e h =
-    let has : has_row id rows ≡ false = has_entry id rows ∙ ap is_some h in
-    rw has (ap (entry id) (values_added id AsWritten DefaultValue (codes "false" ∷ []) rows has)
-    ∙ entry_same id (row id AsWritten DefaultValue (codes "false" ∷ [])) rows e h)
+flag_same id rows x2 e h = grind (arith, has_entry, entry, values_added, entry_same, row)
 
 abbrev defaulted : Form → List Row → List Row
 defaulted runs rows = with_default (with_default rows (flag_filled (codes "sweep"))) (flag_filled (codes "why"))
@@ -60,10 +56,6 @@ defaulted_is bare rows = refl
 
 -- ---- what the getters find
 
-first_found : (id : Text) (rows : List Row) (m : Option Text) → entry id rows ≡ as_entry m → first_of id rows ≡ m
-first_found id rows None e = cc (first_of_entry id rows)
-first_found id rows (Some v) e = cc (first_of_entry id rows)
-
 flag_found : (id : Text) (rows : List Row) (b : Bool) → entry id rows ≡ Some (bool_text b ∷ [], AsWritten)
     → one_of id rows ≡ Some (bool_text b)
 flag_found id rows b e = cc (one_of_entry id rows)
@@ -73,12 +65,7 @@ stays : (form : Form) (rows : List Row) (t : Given) → Holds rows t → (k : Id
     → bytes_eq (codes "sweep") (text_of k) ≡ false → bytes_eq (codes "why") (text_of k) ≡ false
     → first_of (text_of k) (with_defaults form rows) ≡ given_for k t
 stays form rows t h k not_sweep not_why =
-    first_found (text_of k) (with_defaults form rows) (given_for k t)
-    (ap (entry (text_of k)) (defaulted_is form rows) ∙ by form ∙ h k)
-  where
-    by : (f : Form) → entry (text_of k) (defaulted f rows) ≡ entry (text_of k) rows
-    by runs = flag_other (codes "why") (text_of k) _ not_why ∙ flag_other (codes "sweep") (text_of k) rows not_sweep
-    by _ = refl
+    grind (arith, text_of, with_defaults, given_for, entry, defaulted_is, defaulted, flag_other, first_of_entry)
 
 has_given : (form : Form) (rows : List Row) (t : Given) → Holds rows t → HasGiven form (with_defaults form rows) t
 has_given form rows t h = record {
@@ -106,19 +93,12 @@ no_kinds = []
 two_empty : (a b : Kinds) → a ≡ [] → b ≡ [] → or_else a b ≡ []
 two_empty a b e f = rw (e, f) refl
 
-any_default : (b : Bool) (ks : Kinds) → (if b || true then [] else ks) ≡ []
-any_default true ks = refl
-any_default false ks = refl
-
 flag_default : (b : Bool) → (if b || false then no_kinds else no_kinds) ≡ no_kinds
 flag_default true = refl
 flag_default false = refl
 
 none_default : (a : Rule) → a.defaults ≡ [] → (rows : List Row) → default_fault rows a ≡ []
-none_default a e rows = rw e (any_default (has_row a.id rows) (given_default_fault a []))
-
-flag_none : (id : Text) (rows : List Row) → default_fault rows (flag_filled id) ≡ []
-flag_none id rows = flag_default (has_row id rows)
+none_default a e rows = grind arith
 
 no_defaults_fault : (form : Form) (name : Text) (rows : List Row) → defaults_fault rows (shape form name).rules ≡ []
 unfolding defaults_fault
@@ -127,10 +107,7 @@ no_defaults_fault gens name rows =
     let one = with_default rows markers_filled in
     two_empty _ _ (none_default markers_filled refl rows) (two_empty _ _ (none_default start_filled refl one)
     (two_empty _ _ (none_default count_filled refl (with_default one start_filled)) refl))
-no_defaults_fault runs name rows =
-    let one = with_default rows markers_filled in
-    two_empty _ _ (none_default markers_filled refl rows) (two_empty _ _ (flag_none (codes "sweep") one)
-    (two_empty _ _ (flag_none (codes "why") (with_default one (flag_filled (codes "sweep")))) refl))
+no_defaults_fault runs name rows = grind (arith, markers_filled, two_empty, none_default, flag_filled, flag_default)
 
 no_check_fault : (form : Form) (name : Text) (rows : List Row) → check_fault (shape form name) rows false ≡ []
 no_check_fault bare name rows = refl
@@ -166,12 +143,9 @@ TakesGiven form name words None = fault_of (app_named form name) words ≢ []
 TakesGiven form name words (Some t) = (fault_of (app_named form name) words ≡ [])
     × HasGiven form (matches_of (app_named form name) words) t
 
-nothing_pending : (form : Form) → settle_fault (rules form) false nothing_held ≡ []
-nothing_pending form = refl
-
 taken : (form : Form) (name : Text) (words : List Text) → TakesGiven form name words (given_by form (drop 1 words))
 taken form name words = by_told (given_by form (drop 1 words)) (tells form name
-    (drop 1 words) false nothing_given [] None no_number false refl refl (nothing_pending form, holds_nothing, refl))
+    (drop 1 words) false nothing_given [] None no_number false refl refl (refl, holds_nothing, refl))
   where
     by_told : (o : Option Given) → TellsAs form name (standing [] None idle 1 false) (drop 1 words) o
         → TakesGiven form name words o
@@ -200,8 +174,4 @@ answer_is form read name app words found answer is finds answers =
   where
     by_given : (f : Option ArgMatches) → Finds (app_named form name) words f → Answers form read f answer
         → (o : Option Given) → TakesGiven form name words o → answer ≡ option_and_then read o
-    by_given None refused none None t = none
-    by_given None refused none (Some t) takes = absurd (refused takes.0)
-    by_given (Some m) found reads None refuses = absurd (refuses found.0)
-    by_given (Some m) found reads (Some t) takes =
-        reads t (subst (λ (r : List Row). HasGiven form r t) (sym found.1) takes.1)
+    by_given x0 refused none x3 t = grind arith

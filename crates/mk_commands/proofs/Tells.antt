@@ -1,18 +1,17 @@
 -- What clap takes and finds is what the words say.
-use Rattle.std.proofs.Common.{Bool, List, None, Option, Some, ap, codes, false, inl, inr, is_some, option_and_then}
-use Rattle.std.proofs.Common.{refl, subst, sym, true, [], ◌∙◌, ◌∷◌, ◌≡◌}
+use Rattle.std.proofs.Common.{Bool, List, None, Option, Some, ap, arith, codes, false, inl, inr, is_some}
+use Rattle.std.proofs.Common.{option_and_then, refl, subst, sym, true, [], ◌∙◌, ◌∷◌, ◌≡◌}
 use Rattle.clap.specs.declared.builder.value_parser.Reading.TheVariants.{AsWritten}
 use Rattle.clap.specs.{declared.error.kind.ErrorKind.ErrorKind, Faults.{settle_fault, walk_fault}, Walk.{Row, Text}}
 use Rattle.clap.specs.Walk.{arg_by_long, has_row, idle, next, option, plain_word, settled_rows, trailing, with_values}
 use Rattle.clap.specs.{Walk.without, declared.parser.matches.ValueSource.TheVariants.CommandLine}
-use Rattle.mk_commands.proofs.Lexing.{NameView, flag_long, is_flag, is_markers, is_other, name_view, said_long}
-use Rattle.mk_commands.proofs.{Lexing.{says_dashed, says_long}, Standing.{Holds, IsAt, More, TellsAs, has_id}}
-use Rattle.mk_commands.proofs.Standing.{holds_set, markers_id, number_tells, passes_on, still_holds, told_awaiting}
-use Rattle.mk_commands.proofs.{Standing.{told_ended, told_free}, Walking.{PassesBy, View, bundle_is, bundle_stops}}
-use Rattle.mk_commands.proofs.Walking.{holding, is_bundle, is_ends, is_long, is_odd, is_plain, long_is, long_stops}
-use Rattle.mk_commands.proofs.Walking.{lost, odd_passes, plain_passes, position_of, rules, standing, view, word_stops}
 use Rattle.mk_commands.proofs.OptionWords.{Awaiting, Free, at_value, conflict_if, is_none, long_go, markers_alone}
-use Rattle.mk_commands.proofs.OptionWords.{some_markers}
+use Rattle.mk_commands.proofs.{OptionWords.some_markers, Standing.{Holds, IsAt, More, TellsAs, has_id, holds_set}}
+use Rattle.mk_commands.proofs.Standing.{markers_id, number_tells, passes_on, still_holds, told_awaiting, told_ended}
+use Rattle.mk_commands.proofs.{Standing.told_free, Walking.{PassesBy, View, bundle_is, bundle_stops, holding}}
+use Rattle.mk_commands.proofs.Walking.{is_bundle, is_ends, is_long, is_odd, is_plain, long_is, long_stops, lost}
+use Rattle.mk_commands.proofs.Walking.{odd_passes, plain_passes, position_of, rules, standing, view, word_stops}
+use Rattle.mk_commands.proofs.Lexing.{NameView, flag_long, name_view, said_long, says_dashed, says_long}
 use Rattle.mk_commands.specs.Given.{Form, Given, Numbers, Said, bare, ends, given_awaited, given_said, given_with_word}
 use Rattle.mk_commands.specs.Given.{plain, runs, said, takes_markers, unknown, with_markers, with_words}
 
@@ -79,10 +78,7 @@ never_long : (id : Text) (v : Option Text) (word : Text) (t : Given) → given_a
 never_long id v word t = by (name_view id) v
   where
     by : NameView id → (u : Option Text) → given_awaited (said_long id u) word t ≡ None
-    by (is_markers same) u = rw same refl
-    by (is_flag flag same) None = rw (same, flag_long flag None) refl
-    by (is_flag flag same) (Some x) = rw (same, flag_long flag (Some x)) refl
-    by (is_other m s w) u = rw (m, s, w) refl
+    by x0 u = grind (arith, flag_long)
 
 awaiting_tells : (form : Form) (name word : Text) (words : List Text) (t : Given) (rows : List Row) (ns : Numbers)
     → t.numbers ≡ ns → Holds rows t → t.awaits ≡ true → t.ended ≡ false → takes_markers form ≡ true
@@ -146,10 +142,7 @@ awaiting_tells form name word words t rows ns is h a en k more = on_view (view w
 
 no_words : (form : Form) (name : Text) → More form name []
 unfolding walk_fault
-no_words form name false t rows p ns tr is en i =
-    let told : with_words form [] t ≡ Some t = rw i.2 refl in
-    subst (TellsAs form name (standing rows p idle (position_of ns) tr) []) (sym told) (i.0, i.1)
-no_words form name true t rows p ns tr is en i = rw i.2 (λ e. none_awaited form i.4 rows (rw i.0 at e))
+no_words form name x2 t rows p ns tr is en i = grind (arith, standing, position_of, none_awaited)
 
 pub tells : (form : Form) (name : Text) (words : List Text) → More form name words
 tells form name [] = no_words form name

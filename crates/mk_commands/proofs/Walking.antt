@@ -1,17 +1,16 @@
 -- The walk of clap over the words, word by word.
-use Rattle.std.proofs.Common.{Bool, List, None, Option, Some, ℕ, ap, codes, drop, encode_utf8, false, fold, inl, inr}
-use Rattle.std.proofs.{Common.{length, refl, slice_get, subst, sym, true, [], ◌∙◌, ◌∷◌, ◌≡◌, ◌⊎◌}, Math.Bool.and-false}
+use Rattle.std.proofs.Common.{Bool, List, None, Option, Some, ℕ, ap, arith, codes, false, fold, inl, inr, length, refl}
+use Rattle.std.proofs.{Common.{slice_get, subst, sym, true, [], ◌∙◌, ◌∷◌, ◌≡◌, ◌⊎◌}, Math.Bool.and-false}
 use Rattle.std.specs.Str.{bytes_eq, chars}
 use Rattle.clap.proofs.{FaultLemmas.fault_ends, WalkLemmas.bundle_ends}
-use Rattle.clap.specs.Faults.{bundle_fault, flags_fault, long_fault, settle_fault, short_fault, step_fault, turn_fault}
-use Rattle.clap.specs.{Faults.{walk_fault, word_fault}, Walk.{Held, Row, Rule, Step, Text, Waiting, Walk, after_step}}
-use Rattle.clap.specs.Walk.{arg_by_long, arg_by_short, idle, takes_values, trailing, value, walked, word_met}
-use Rattle.clap.specs.{Kinds.{Kinds, or_else}, Lexer.{long_of, short_of}, Simple.{Shape, built, filled, filled_from}}
-use Rattle.clap.specs.{Simple.with_index, declared.error.kind.ErrorKind.ErrorKind}
+use Rattle.clap.specs.Faults.{bundle_fault, flags_fault, long_fault, settle_fault, step_fault, turn_fault, walk_fault}
+use Rattle.clap.specs.{Faults.word_fault, Simple.{Shape, built, filled, filled_from, with_index}, Walk.{Held, Row}}
+use Rattle.clap.specs.Walk.{Rule, Step, Text, Waiting, Walk, after_step, arg_by_long, idle, is_pending, walked}
+use Rattle.clap.specs.{Walk.word_met, Kinds.{Kinds, or_else}, Lexer.{long_of, short_of}}
 use Rattle.mk_commands.proofs.Lexing.{says_dashed}
 use Rattle.mk_commands.specs.Given.{Form, Numbers, bare, gens, no_number, one_number, plain, said, two_numbers}
 use Rattle.mk_commands.specs.Told.{app_named, flag_rule, markers_rule, positional_rule, rules_of}
-use Rattle.clap.specs.Walk.{is_pending, long_word, plain as no_flag, plain_word, settled_rows, subcommand_met}
+use Rattle.clap.specs.Walk.{long_word, plain as no_flag, plain_word, settled_rows, subcommand_met, trailing, value}
 
 -- ---- the commands as clap builds them
 
@@ -121,14 +120,7 @@ position_of (two_numbers a b) = 3
 -- a pending argument that is refused is so at each flag
 pub long_stops : (c : List Rule) (found : Option Rule) (v : Option Text) (h : Held) → (settle_fault c false h ≡ [] → ⊥)
     → long_fault c false found v h ≡ [] → ⊥
-long_stops c None v h bad e = cc
-long_stops c (Some a) v h bad e = by_takes (takes_values a) refl v e
-  where
-    by_takes : (t : Bool) → takes_values a ≡ t → (u : Option Text) → long_fault c false (Some a) u h ≡ [] → ⊥
-    by_takes true t None e = bad (rw t at e)
-    by_takes true t (Some x) e = bad (first_empty (settle_fault c false h) _ (rw t at e))
-    by_takes false t None e = bad (first_empty (settle_fault c false h) _ (rw t at e))
-    by_takes false t (Some x) e = let no : ErrorKind.TooManyValues ∷ [] ≡ [] = rw t at e in cc
+long_stops c x1 v h bad e = grind (arith, first_empty)
 
 -- and at each number
 number_stops : (form : Form) (name : Text) (ns : Numbers) (rows : List Row) (p : Option (Text × List Text))
@@ -142,14 +134,7 @@ number_stops _ name ns rows p bad e = cc
 pub bundle_stops : (form : Form) (x : ℕ) (flags : Text) (h : Held) → slice_get (chars flags) 0 ≡ Some x → h.skip ≡ 0
     → bundle_fault (rules form) false flags h ≡ [] → ⊥
 unfolding chars flags_fault
-bundle_stops form x [] h first skip e = let no : None ≡ Some x = first in cc
-bundle_stops form x (b ∷ flags) h first skip e = by_form form (rw (first, skip) at e)
-  where
-    by_form : (f : Form) → short_fault (rules f) false (arg_by_short (rules f) x)
-        (drop (length (encode_utf8 x)) (b ∷ flags)) (record h { skip = 0 })
-        (flags_fault (rules f) false (length flags) (drop (length (encode_utf8 x)) (b ∷ flags)) 0) ≡ [] → ⊥
-    by_form bare e = cc
-    by_form _ e = cc
+bundle_stops form x x2 h first skip e = grind arith
 
 -- ---- what a word is to clap
 

@@ -1,16 +1,12 @@
 -- The numbers of each command are in their bounds.
-use Rattle.std.proofs.Common.{Bool, IfSome, List, None, Option, Some, ℕ, arith, false, if◌then◌else◌, nat_le, nat_lt}
-use Rattle.std.proofs.{Common.{option_and_then, true, [], ◌∷◌, ◌≡◌, ◌≤◌}, lemmas.Bool.Decides.nat_tests}
+use Rattle.std.proofs.Common.{Bool, IfSome, List, None, Option, Some, ℕ, arith, false, if◌then◌else◌, nat_lt, true, []}
+use Rattle.std.proofs.{Common.{◌∷◌, ◌≡◌, ◌≤◌}, lemmas.Bool.Decides.nat_tests}
 use Rattle.mk_commands.specs.{Commands.{IsWithin, command_of, gen_of, gen_with, markers_of, run_of}, Given.Given}
 use Rattle.mk_commands.specs.declared.commands.Command.{Command}
 
-few_if : (n : ℕ) (b : Bool) → nat_le n 8 ≡ b → IfSome (if b then Some n else None) (λ m. m ≤ 8)
-few_if n true e = grind (arith, nat_tests)
-few_if n false e = tt
-
 few_markers : (o : Option (List ℕ)) → IfSome (markers_of o) (λ m. m ≤ 8)
 few_markers None = omega arith
-few_markers (Some digits) = grind (arith, few_if)
+few_markers (Some digits) = grind (arith, nat_tests)
 
 within_if : (b : Bool) (x y : Option Command) → IfSome x IsWithin → IfSome y IsWithin
     → IfSome (if b then x else y) IsWithin
@@ -29,11 +25,6 @@ within_bounds markers start count few false false e f = grind (arith, nat_tests)
 within_gen : (g : Given) → IfSome (gen_of g) IsWithin
 within_gen g = grind (arith, few_markers, within_bounds)
 
-within_read : (read : Given → Option Command) → ((g : Given) → IfSome (read g) IsWithin) → (o : Option Given)
-    → IfSome (option_and_then read o) IsWithin
-within_read read h None = tt
-within_read read h (Some g) = h g
-
 pub within : (words : List (List ℕ)) → IfSome (command_of words) IsWithin
 within [] = tt
-within (name ∷ words) = grind (arith, within_if, within_read, within_run, within_gen)
+within (name ∷ words) = grind (arith, within_if, within_run, within_gen)

@@ -81,13 +81,10 @@ module _ (scope : Scope) where
       recounted (omega arith) (left_then (run_rounds more body go) (Rounds more body Done) (goes fed) (plain, tt) behind
       (is_end_of_block (go fed).left) refl)
 
-  line_keeps : (fed : Fed) (item : Item) → (run_line scope fed item).ops ≡ fed.ops
-  line_keeps fed item = grind arith
-
   line_left : (line : ℕ) (item : Item) (rest : Blocks) (fed : Fed) {after : Fed} → HasNoIf rest
       → IsLeft (calls_of rest) (run_line scope fed item) after → (test : Bool) → test ≡ is_call item
       → IsLeft (calls_of (Line line item rest)) fed (if test then record fed { left = Line line item rest } else after)
-  line_left line item rest fed plain behind x7 is = grind (arith, line_keeps)
+  line_left line item rest fed plain behind x7 is = grind arith
 
   run_left : (b : Blocks) → HasNoIf b → (fed : Fed) → IsLeft (calls_of b) fed (run scope b fed)
   run_left Done plain fed = record { ops = refl; calls_are = refl; plain = tt }
@@ -100,9 +97,6 @@ module _ (scope : Scope) where
       left_then (run scope rest) rest (rounds_left rounds body (run scope body) plain.0 (run_left body plain.0) fed)
       plain.1 (run_left rest plain.1) (is_end_of_block all.left) refl
   run_left (Choice number first second rest) plain fed = absurd plain
-
-  answer_keeps : (fed : Fed) (item : Item) (a : Answer) → (with_answer scope fed item a).ops ≡ fed.ops
-  answer_keeps fed item a = grind arith
 
   noted : (fed : Fed) (o : Option Op) (line : ℕ) (a : Answer)
       → length (note fed o line a).ops ≡ length fed.ops + (if is_some o then 1 else 0)
@@ -118,7 +112,7 @@ module _ (scope : Scope) where
       let after = note fed (op_of scope fed item) line a in
       let behind = run_left rest plain (with_answer scope after item a) in
       let ops : length (with_answer scope after item a).ops ≡ length fed.ops + (if is_call item then 1 else 0) =
-      ap length (answer_keeps after item a) ∙ noted fed (op_of scope fed item) line a ∙ rw (asks scope fed item) refl in
+      ap length (grind arith) ∙ noted fed (op_of scope fed item) line a ∙ rw (asks scope fed item) refl in
       (omega (arith, behind.ops, behind.calls_are, ops), behind.plain)
   answer_left fed b a is plain = (ap (λ left. length fed.ops + calls_of left) (sym is), subst HasNoIf is plain)
 

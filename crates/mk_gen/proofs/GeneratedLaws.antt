@@ -2,10 +2,10 @@
 use Rattle.std.proofs.Common.{map}
 use Rattle.mk_gen.proofs.Vocabulary.{Item, List, Number, Ok, ℕ, ap, arith, blocks_from, count_of_numbers}
 use Rattle.mk_gen.proofs.Vocabulary.{generated_text, program_of, refl, replicate, script_body, suc, turns_of, zero, []}
-use Rattle.mk_gen.proofs.{Vocabulary.{◌*◌, ◌+◌, ◌∷◌, ◌≡◌, ◌≤◌}, Calls.{HasNoIf, calls_of, ended_calls}}
+use Rattle.mk_gen.proofs.{Vocabulary.{◌*◌, ◌∷◌, ◌≡◌, ◌≤◌}, Calls.{HasNoIf, calls_of, ended_calls}}
 use Rattle.mk_gen.proofs.{ReadText.program_of-generated_text, TypedProgram.generated_is_well_typed}
 use Rattle.mk_never.specs.declared.types.Kind.TheVariants.{Num, To}
-use Rattle.mk_check.specs.{Blocks.script_of, Declarations.kind_of, Laws.{IsChecked, IsScript}, Lengths.length_of}
+use Rattle.mk_check.specs.{Blocks.script_of, Declarations.kind_of, Laws.{IsChecked, IsScript}}
 use Rattle.mk_gen.specs.{Generated.{buf, generated_program, node}, Laws.{DeclaresNodes, MakesTurns}}
 
 pub generated_is_of_its_text : (start count : ℕ) → count ≤ 3000000
@@ -34,10 +34,6 @@ generated_declares_nodes start count = record {
   scripts = refl;
 }
 
-body_instructions : (line turns number place : ℕ)
-    → length_of (blocks_from line (script_body turns number place)) ≡ 1 + 14 * turns
-body_instructions line turns number place = omega arith
-
 body_calls : (line turns number place : ℕ) → calls_of (blocks_from line (script_body turns number place)) ≡ 12 * turns
 body_calls line turns number place = omega arith
 
@@ -48,7 +44,7 @@ body_has_no_if line turns number place = (tt, tt)
 body_makes_turns : (program : List Item) (k line turns number place : ℕ) → (script_of program k).line ≡ line
     → (script_of program k).items ≡ script_body turns number place → MakesTurns program k turns
 body_makes_turns program k line turns number place starts is =
-    grind (arith, body_has_no_if, body_instructions, ended_calls, calls_of, body_calls)
+    grind (arith, body_has_no_if, ended_calls, calls_of, body_calls)
 
 pub generated_makes_turns : (start count k : ℕ) → IsScript (generated_program start count) k
     → MakesTurns (generated_program start count) k (turns_of count)

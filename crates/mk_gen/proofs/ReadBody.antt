@@ -42,16 +42,13 @@ pub body_is_read : (turns number place : ℕ) → turns < 2 ^ 64 → number < 2 
     → AreRead (Script [] ∷ []) (body_lines turns number place) (script_body turns number place)
 unfolding item_from
 body_is_read turns number place t a i =
-    plain refl refl refl and plain refl refl refl and plain refl refl refl and plain refl refl refl
-    and plain refl refl refl
-    and by_words (codes "repeat" ∷ decimal turns ∷ []) (ends_with (codes "repeat ") (decimal turns))
-    (refl, (is_word-decimal turns t, tt)) (read_number turns t _ refl) refl (omega (arith, length-decimal turns t))
-    and plain refl refl refl
-    and by_words (codes "const" ∷ codes "n" ∷ decimal number ∷ []) (ends_with (codes "const n ") (decimal number))
-    (refl, (refl, (is_word-decimal number a, tt)))
-    (read_number number a _ refl) refl (omega (arith, length-decimal number a)) and plain refl refl refl
-    and plain refl refl refl and plain refl refl refl and plain refl refl refl and plain refl refl refl
-    and plain refl refl refl and by_words (codes "setn" ∷ codes "b" ∷ decimal place ∷ codes "n" ∷ []) refl
-    (refl, (refl, (is_word-decimal place i, (refl, tt)))) (read_number place i _ refl) refl
-    (omega (arith, length-decimal place i, length-append (decimal place) (codes " n"))) and plain refl refl refl
-    and plain refl refl refl and plain refl refl refl and plain refl refl refl and plain refl refl refl and tt
+    plain refl refl refl and plain refl refl refl and plain refl refl refl and plain refl refl refl and plain refl refl
+    refl and by_words (codes "repeat" ∷ decimal turns ∷ []) (ends_with (codes "repeat ") (decimal turns))
+    (refl, (is_word-decimal turns t, tt)) (read_number turns t _ refl) refl (omega (arith, length-decimal turns t)) and
+    plain refl refl refl and by_words (codes "const" ∷ codes "n" ∷ decimal number ∷ []) (ends_with (codes "const n ") _)
+    (refl, (refl, (is_word-decimal number a, tt))) (read_number number a _ refl) refl
+    (omega (arith, length-decimal number a)) and plain refl refl refl and plain refl refl refl and plain refl refl refl
+    and plain refl refl refl and plain refl refl refl and plain refl refl refl and by_words (codes "setn" ∷ codes "b" ∷
+    decimal place ∷ codes "n" ∷ []) refl (refl, (refl, (is_word-decimal place i, (refl, tt)))) (read_number place i _
+    refl) refl (omega (arith, length-decimal place i, length-append (decimal place) (codes " n"))) and plain refl refl
+    refl and plain refl refl refl and plain refl refl refl and plain refl refl refl and plain refl refl refl and tt

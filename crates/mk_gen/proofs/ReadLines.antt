@@ -1,11 +1,11 @@
 -- A text is read as these items, where each line is, after those before it.
-use Rattle.std.proofs.{Common.{length-append, nat_eq, nat_lt}, lemmas.Bool.cond-true, lemmas.List.Splits.slice_split_at}
-use Rattle.std.specs.List.{All, slice_split}
+use Rattle.std.{proofs.Common.length-append, proofs.Common.nat_eq, proofs.Common.nat_lt, proofs.lemmas.Bool.cond-true}
+use Rattle.std.{proofs.lemmas.List.Splits.slice_split_at, specs.List.All, specs.List.slice_split}
 use Rattle.mk_gen.proofs.Vocabulary.{Item, List, Ok, ℕ, ap, append-nil, append_assoc, arith, checked_item, false}
 use Rattle.mk_gen.proofs.Vocabulary.{le-leb, leb-true, length, line_item, nat_le, program_of, refl, subst, sym}
 use Rattle.mk_gen.proofs.Vocabulary.{text_of_lines, true, words_of_line, [], ◌*◌, ◌++◌, ◌+◌, ◌∙◌, ◌∷◌, ◌≡◌, ◌≤◌}
 use Rattle.mk_script.proofs.{CanonicalLines.without_last, Said.then_again}
-use Rattle.mk_script.specs.{Grammar.{at_end, go_on, items_behind}, Lines.line_of, Words.{lines_of, without_empty_last}}
+use Rattle.mk_script.specs.{Grammar.at_end, Grammar.go_on, Grammar.items_behind, Lines.line_of}
 
 -- a line of at most 40 bytes, without a newline, which is read as the item
 pub record IsRead (before : List Item) (line : List ℕ) (item : Item) : Type 0 where
@@ -40,10 +40,6 @@ split_lines (line ∷ lines) before (item ∷ items) are =
     slice_split_at (λ byte. nat_eq byte 10) line 10 (text_of_lines lines) are.0.is_whole refl
     ∙ ap (λ rest. line ∷ rest) (split_lines lines (before ++ item ∷ []) items are.1)
 
-lines_of-text : (lines : List (List ℕ)) (before items : List Item) → AreRead before lines items
-    → lines_of (text_of_lines lines) ≡ lines
-lines_of-text lines before items are = ap without_empty_last (split_lines lines before items are) ∙ without_last lines
-
 length-text : (lines : List (List ℕ)) (before items : List Item) → AreRead before lines items
     → length (text_of_lines lines) ≤ 41 * length lines
 length-text [] before items are = omega arith
@@ -70,4 +66,4 @@ items_are (line ∷ lines) before (item ∷ items) are end =
 pub program_of-lines : (lines : List (List ℕ)) (items : List Item) → AreRead [] lines items → at_end items ≡ Ok items
     → nat_lt 0 (length lines) ≡ true → nat_le (length lines) 1000 ≡ true → program_of (text_of_lines lines) ≡ Ok items
 program_of-lines x0 items are end some few =
-    grind (arith, length-text, leb-true, cond-true, le-leb, lines_of-text, items_are)
+    grind (arith, length-text, leb-true, cond-true, le-leb, items_are, split_lines, without_last)

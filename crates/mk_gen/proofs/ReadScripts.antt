@@ -39,16 +39,13 @@ first_is_read {before} name ready may =
     (refl, (is_word-name name begins.0, tt)) (script_says before name ready.some begins.0)
     (rw (ready.names_are, not-true _ begins.1, parts.1, ready.closed) refl) (omega (arith, short))
 
-has_lines-append : (items behind : List Item) → has_lines items ≡ true → has_lines (items ++ behind) ≡ true
-has_lines-append x0 behind some = grind arith
-
 module _ (turns number place : ℕ) where
   abbrev pub script_items : List ℕ → List Item
   script_items name = Script name ∷ script_body turns number place
 
   ready_behind : {before : List Item} {names : List (List ℕ)} (name : List ℕ) → AreReady before names
       → AreReady (before ++ script_items name) (names ++ name ∷ [])
-  ready_behind name ready = grind (arith, has_lines-append, script_items, names_of-append, fold-append)
+  ready_behind name ready = grind (arith, script_items, names_of-append, fold-append)
 
   script_is_read : turns < 2 ^ 64 → number < 2 ^ 64 → place < 2 ^ 64 → {before : List Item} {names : List (List ℕ)}
       (name : List ℕ) → AreReady before names → may_begin names name ≡ true

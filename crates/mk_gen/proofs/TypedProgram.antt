@@ -1,17 +1,11 @@
 -- The generated program is well typed.
-use Rattle.mk_gen.proofs.Vocabulary.{Item, List, None, Number, Script, ℕ, all_names, arith, blocks_from}
-use Rattle.mk_gen.proofs.Vocabulary.{count_of_numbers, declarations, draw, le-leb, next_state, refl, replicate}
-use Rattle.mk_gen.proofs.Vocabulary.{script_body, scripts, suc, this_script, this_script-push, turns_of, zero, [], ◌++◌}
-use Rattle.mk_gen.proofs.{Vocabulary.{◌+◌, ◌<◌, ◌∷◌, ◌≡◌, ◌≤◌}, ReadScripts.draw-lt, ReadText.numbers_some}
-use Rattle.mk_gen.proofs.{TypedBody.body_is_typed, TypedLines.{go_on, typed_then}}
-use Rattle.mk_check.specs.Typing.{Around, IsWellTyped, fault_from, length_fault, offsets_fault, pointers_fault}
-use Rattle.mk_check.specs.{Typing.typing_fault, Blocks.before_next_script, Lengths.length_of}
-use Rattle.mk_gen.specs.Generated.{generated_program}
-
--- A turn is 14 instructions with its own, so 62,500 turns are 875,000.
-body_is_short : (line turns number place : ℕ) → turns ≤ 62500
-    → length_of (blocks_from line (script_body turns number place)) ≤ 875001
-body_is_short line turns number place few = omega (arith, few)
+use Rattle.mk_gen.proofs.Vocabulary.{Item, List, None, Number, Script, ℕ, all_names, arith, count_of_numbers}
+use Rattle.mk_gen.proofs.Vocabulary.{declarations, draw, le-leb, next_state, refl, replicate, script_body, scripts, suc}
+use Rattle.mk_gen.proofs.Vocabulary.{this_script, this_script-push, turns_of, zero, [], ◌++◌, ◌+◌, ◌<◌, ◌∷◌, ◌≡◌, ◌≤◌}
+use Rattle.mk_check.specs.{Blocks.before_next_script, Typing.Around, Typing.IsWellTyped, Typing.fault_from}
+use Rattle.mk_check.specs.{Typing.length_fault, Typing.offsets_fault, Typing.pointers_fault, Typing.typing_fault}
+use Rattle.mk_gen.{proofs.ReadScripts.draw-lt, proofs.ReadText.numbers_some, proofs.TypedBody.body_is_typed}
+use Rattle.mk_gen.{proofs.TypedLines.go_on, proofs.TypedLines.typed_then, specs.Generated.generated_program}
 
 none_before_scripts : (turns numbers x : ℕ) (names : List (List ℕ))
     → before_next_script (scripts turns numbers x names) ≡ []
@@ -24,7 +18,7 @@ length_fault-none count small = rw (le-leb count 1000000 small) refl
 -- the first line of a script
 first_is_typed : (a : Around) (line turns number place : ℕ) (more : List Item) (name : List ℕ) → turns ≤ 62500
     → before_next_script more ≡ [] → typing_fault a line (script_body turns number place ++ more) (Script name) ≡ None
-first_is_typed a line turns number place more name few none = grind (arith, body_is_short, length_fault-none)
+first_is_typed a line turns number place more name few none = grind (arith, length_fault-none)
 
 module _ (turns numbers : ℕ) (rest : List Item) (few : turns ≤ 62500) (some : 0 < numbers) where
   program : List Item

@@ -28,13 +28,9 @@ asked_more xs ys = map-append _ xs ys
 
 -- A caller's event is its script's: where it begins a call, it carries what the script asks for next.
 
-no_new_enters : (s : Stage) (f : Op) (d ty : ℕ) (full : Bool) → comes_next s f (Step.Enter (Op.New d ty full)) ≡ true
-    → ⊥
-no_new_enters s f d ty full h = grind arith
-
 begins_so : (program : List Item) (k : ℕ) (given : List Answer) (x : Step) (o : Option Op) (s : Stage) (f : Op)
     → next_op program k given ≡ o → comes_next s f (step_of x o) ≡ true → BeginsAsAsked program k given (step_of x o)
-begins_so program k given x o s f next order = grind (arith, no_new_enters)
+begins_so program k given x o s f next order = grind arith
 
 -- what caller k has called after a history, as its script asks for it
 abbrev pub AsksBehind : List Item → List Event → ℕ → Type 0

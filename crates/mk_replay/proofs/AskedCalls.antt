@@ -5,8 +5,8 @@ use Rattle.mk_replay.proofs.Vocabulary.{Step, asked, at_rest, calls, comes_next,
 use Rattle.mk_replay.proofs.Vocabulary.{length-append, progress, take_all}
 use Rattle.mk_laws.proofs.Vocabulary.{Bool, Call, Cell, List, None, Option, Progress, Some, ℕ, ap, append-nil, arith}
 use Rattle.mk_laws.proofs.Vocabulary.{begun, false, flagged, if◌then◌else◌, length, progress_freed, progress_p}
-use Rattle.mk_laws.proofs.Vocabulary.{progress_q, progress_read, progress_reg, refl, still, subst, sym, take, true, []}
-use Rattle.mk_laws.proofs.Vocabulary.{◌++◌, ◌+◌, ◌==◌, ◌∙◌, ◌∷◌, ◌≡◌, ◌≢◌, ◌≤◌}
+use Rattle.mk_laws.proofs.Vocabulary.{progress_reg, refl, still, subst, sym, take, true, [], ◌++◌, ◌+◌, ◌==◌, ◌∙◌, ◌∷◌}
+use Rattle.mk_laws.proofs.Vocabulary.{◌≡◌, ◌≢◌, ◌≤◌}
 use Rattle.mk_check.proofs.GivenAnswers.{Serves, as_list, counted, serves}
 use Rattle.mk_check.proofs.AdmittedScripts.{answers_are_noted, others_are_ignored}
 use Rattle.mk_check.specs.{Feeding.next_op, Laws.AreNotedBy, Output.answers_among, Output.ended_calls}
@@ -23,24 +23,18 @@ either_op : (b : Bool) (x y : Progress) (o : Op) → x.flight.op ≡ o → y.fli
     → (if b then x else y).flight.op ≡ o
 either_op x0 x y o a b = grind arith
 
-q_op : (f : Flight) (o : Op) (n : ℕ) → (progress_q f o n).flight.op ≡ f.op
-q_op f x1 n = grind (arith, either_op)
-
 p_op : (f : Flight) (o : Op) (n : ℕ) → (progress_p f o n).flight.op ≡ f.op
 p_op f x1 n = grind (arith, either_op)
 
 reg_op : (f : Flight) (s : Stage) (n : ℕ) → (progress_reg f s n).flight.op ≡ f.op
-reg_op f x1 n = grind (arith, q_op, p_op)
-
-read_op : (f : Flight) (o : Op) (n : ℕ) → (progress_read f o n).flight.op ≡ f.op
-read_op f x1 n = grind arith
+reg_op f x1 n = grind (arith, p_op, either_op)
 
 freed_op : (f : Flight) (x : Option Cell) → (progress_freed f x).flight.op ≡ f.op
 freed_op f x1 = grind arith
 
 op_stays : (c : Config) (m : Moment) (f : Flight) (n : ℕ) (x : Step) → begins_call x ≡ false → ends_call x ≡ false
     → (progress c m f n x).flight.op ≡ f.op
-op_stays c m f n x4 b e = grind (arith, reg_op, either_op, read_op, freed_op)
+op_stays c m f n x4 b e = grind (arith, reg_op, either_op, freed_op)
 
 -- Where n calls of a caller have ended, n of its answers are decided, or one more.
 

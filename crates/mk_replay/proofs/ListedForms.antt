@@ -2,8 +2,8 @@
 use Rattle.std.proofs.Common.{codes, ok_or}
 use Rattle.std.specs.{Option.option_map, Result.IsErrAnd, Str.bytes_eq, declared.result.Result.Result}
 use Rattle.mk_replay.proofs.Vocabulary.{Err, Ok, Step, value_among}
-use Rattle.mk_laws.proofs.Vocabulary.{Bool, List, None, Option, Some, ℕ, ap, false, if◌then◌else◌, map, refl, true, []}
-use Rattle.mk_laws.proofs.Vocabulary.{◌∙◌, ◌∷◌, ◌≡◌}
+use Rattle.mk_laws.proofs.Vocabulary.{Bool, List, None, Option, Some, ℕ, ap, arith, false, if◌then◌else◌, map, refl}
+use Rattle.mk_laws.proofs.Vocabulary.{true, [], ◌∙◌, ◌∷◌, ◌≡◌}
 use Rattle.mk_replay.specs.Forms.{both, forms_of_numbers, number, two_operands}
 use Rattle.mk_replay.specs.declared.forms.FormOfNumbers.TheVariants.{Black, Claim, Head, Mark, Quar, Used}
 use Rattle.mk_replay.specs.{Numbered.form_of_numbers, declared.forms.FormOfNumbers.FormOfNumbers}
@@ -30,9 +30,7 @@ was_some (Some y) x is = cc
 
 unnumbered : (f : ℕ → ℕ → Step) (v w : Option ℕ) (e : TextKind) → ok_or v TextKind.Number ≡ Err e
     → both f (ok_or v TextKind.Number) (ok_or w TextKind.Number) ≡ Err e
-unnumbered f None None e is = cc
-unnumbered f None (Some n) e is = cc
-unnumbered f (Some m) w e is = cc
+unnumbered f x1 w e is = grind arith
 
 -- the first of two words that should be numbers is none
 pub first_is_no_number : (name v w : List ℕ) (form : FormOfNumbers) (e : TextKind) → bytes_eq name (codes "tally")

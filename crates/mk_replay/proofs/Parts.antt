@@ -3,15 +3,12 @@ use Rattle.std.{proofs.Common.{length-take}, specs.List.{drop-map, take-map}}
 use Rattle.mk_replay.proofs.{Vocabulary.{Bor, length-drop, take_all, text_length, texts_of}, ScriptPart.lines_before}
 use Rattle.mk_laws.proofs.Vocabulary.{List, ℕ, ap, arith, cond-true, drop, le-leb, length, sym, take, ◌+◌, ◌-◌, ◌∙◌}
 use Rattle.mk_laws.proofs.Vocabulary.{◌≡◌, ◌≤◌}
-use Rattle.mk_replay.specs.{Reading.StandsAt, Schedules.{entries_of_lines, replay_of, replay_of_lines, schedule_behind}}
-use Rattle.mk_replay.specs.Schedules.{schedule_lines, script_lines, with_schedule}
+use Rattle.mk_replay.specs.{Reading.StandsAt, Schedules.{entries_of_lines, replay_of, schedule_behind, schedule_lines}}
+use Rattle.mk_replay.specs.Schedules.{script_lines, with_schedule}
 use Rattle.mk_script.specs.{Grammar.{items_of_lines, program_of}, Words.lines_of}
 
 not_too_long : (text : List ℕ) → length text ≤ 1048576 → program_of text ≡ items_of_lines (lines_of text)
 not_too_long text short = cond-true _ _ _ (le-leb _ _ short)
-
-replay_short : (text : List ℕ) → length text ≤ 1048576 → replay_of text ≡ replay_of_lines (lines_of text)
-replay_short text short = cond-true _ _ _ (le-leb _ _ short)
 
 -- lines of a text that are borrowed: the first of them, and those after them
 taken : (lines : List (Bor (List ℕ))) (text : List ℕ) (count : ℕ) → texts_of lines ≡ lines_of text
@@ -39,10 +36,8 @@ program_before text {place = place} short stands =
 entries_behind : {lines : List (List ℕ)} {place : ℕ} → StandsAt lines place → schedule_behind
     (length (script_lines lines)) (schedule_lines lines) ≡ entries_of_lines (place + 2) (drop (place + 1) lines)
 entries_behind {lines} {place} stands =
-    let count : length (script_lines lines) ≡ place =
-    omega (arith, ap length stands.before, length-take place lines, stands.inside) in
-    ap (schedule_behind (length (script_lines lines))) stands.behind
-    ∙ ap (λ n. entries_of_lines (n + 2) (drop (place + 1) lines)) count
+    ap (schedule_behind (length (script_lines lines))) stands.behind ∙ ap (λ n. entries_of_lines (n + 2)
+    (drop (place + 1) lines)) (omega (arith, ap length stands.before, length-take place lines, stands.inside))
 
 -- A text is read as its bytes before the schedule line and as the lines after it.
 pub two_parts : (lines : List (Bor (List ℕ))) (text : List ℕ) {place : ℕ} (end : ℕ) → length text ≤ 1048576
@@ -50,4 +45,4 @@ pub two_parts : (lines : List (Bor (List ℕ))) (text : List ℕ) {place : ℕ} 
     → replay_of text ≡ with_schedule (program_of (take end text))
     (entries_of_lines (place + 2) (texts_of (take (length lines - (place + 1)) (drop (place + 1) lines))))
 two_parts lines text {place} end short are stands ends =
-    grind (arith, taken, replay_short, program_before, entries_behind, dropped)
+    grind (arith, taken, program_before, entries_behind, dropped, cond-true, le-leb)

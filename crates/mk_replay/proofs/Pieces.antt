@@ -12,12 +12,9 @@ abbrev pub glue : List ℕ → List (List ℕ) → List (List ℕ)
 glue text [] = text ∷ []
 glue text (piece ∷ pieces) = (text ++ piece) ∷ pieces
 
-glue_none : (byte : ℕ) (pieces : List (List ℕ)) → glue [] (in_front byte pieces) ≡ in_front byte pieces
-glue_none byte x1 = grind arith
-
 glue_nothing : (is_cut : Bool) (byte : ℕ) (cut uncut : List (List ℕ))
     → glue [] (if is_cut then [] ∷ cut else in_front byte uncut) ≡ (if is_cut then [] ∷ cut else in_front byte uncut)
-glue_nothing x0 byte cut uncut = grind (arith, glue_none, uncut)
+glue_nothing x0 byte cut uncut = grind (arith, uncut)
 
 pub glue_first : (text : List ℕ) → pieces_of text ≡ glue [] (pieces_of text)
 unfolding pieces_of
@@ -53,15 +50,13 @@ long x0 is = grind arith
 -- the end of a piece
 pub ends : (text : List ℕ) (i : ℕ) → i < length text → is_cut (drop i text) ≡ true
     → pieces_of text ≡ glue (take i text) (pieces_of (drop i text)) → IsEndOfPiece text i
-ends text i inside is so_far =
-    let room = long (drop i text) is in
-    record {
-      inside = omega (arith, room, length-drop i text);
-      pieces =
-          so_far ∙ ap (glue (take i text)) (cut (drop i text) is)
-          ∙ ap (λ front. front ∷ pieces_of (drop 2 (drop i text))) (append-nil (take i text))
-          ∙ ap (λ rest. take i text ∷ pieces_of rest) (drop-drop 2 i text);
-    }
+ends text i inside is so_far = record {
+  inside = omega (arith, long (drop i text) is, length-drop i text);
+  pieces =
+      so_far ∙ ap (glue (take i text)) (cut (drop i text) is)
+      ∙ ap (λ front. front ∷ pieces_of (drop 2 (drop i text))) (append-nil (take i text))
+      ∙ ap (λ rest. take i text ∷ pieces_of rest) (drop-drop 2 i text);
+}
 
 -- a line with no cut
 pub no_end : (text : List ℕ) (i : ℕ) → length text ≤ i → pieces_of text ≡ glue (take i text) (pieces_of (drop i text))

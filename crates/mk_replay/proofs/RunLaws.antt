@@ -32,14 +32,10 @@ first_answer : List Decided → Option Answer
 first_answer [] = None
 first_answer (x ∷ xs) = Some x.answer
 
-answer_of_entry : (caller : ℕ) (o : Op) (a : Option Answer) → first_answer (entry_of caller o a) ≡ a
-unfolding first_answer
-answer_of_entry caller o x2 = grind arith
-
 -- The answer that makes this history's calls is the one that the event decides.
 pub answer_is : (c : Config) (es : List Event) (e : Event) (caller : ℕ) (o : Op) (a : Option Answer)
     → calls c (es ++ e ∷ []) ≡ calls c es ++ entry_of caller o a → a ≡ answer_decided c (left c es).now e
-answer_is c es e caller o a h = grind (arith, append_cancel_left, calls_more, answer_of_entry, first_answer)
+answer_is c es e caller o a h = grind (arith, append_cancel_left, calls_more, first_answer)
 
 mine : (players : List Player) (j : ℕ) (old new : Player) (e : Event) (a : Option Answer) → j < length players
     → old ≡ slice_index_or players j old → e.seat ≡ Seat.Caller j → TakesStep (ends_call e.step) a old new

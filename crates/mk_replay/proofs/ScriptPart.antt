@@ -34,17 +34,6 @@ record BeginsWith (text : List ℕ) : Type 0 where
   without : All (λ byte. is_newline byte ≡ false) line
   is_newline : newline == 10 ≡ true
 
-first_line : (text : List ℕ) → position_or_len is_newline text < length text → BeginsWith text
-first_line text inside = record {
-  line = before_first is_newline text;
-  newline = get_or text (position_or_len is_newline text) 0;
-  rest = after_first is_newline text;
-  whole = split_at_first is_newline text 0 inside;
-  without = λ k d m. let fails = fails_before_first is_newline text k d (grind (arith, common_steps)) in grind
-      (arith, common_steps);
-  is_newline = passes_at_first is_newline text 0 inside;
-}
-
 take_line : (line : List ℕ) (newline : ℕ) (text : List ℕ) (size : ℕ)
     → take (length line + 1 + size) (line ++ newline ∷ text) ≡ line ++ newline ∷ take size text
 take_line [] newline text size = grind arith
@@ -65,21 +54,28 @@ cut line newline {text = text} {before = before} without is inner = record {
 at_most_one : (is_empty : Bool) (line : List ℕ) → length (if is_empty then [] else line ∷ []) ≤ 1
 at_most_one x0 line = grind arith
 
--- a text without a newline has no line after its first
-one_line : (text : List ℕ) → length text ≤ position_or_len is_newline text → length (lines_of text) ≤ 1
-one_line text none = grind (arith, is_newline, fails_before_first, slice_split_none, at_most_one)
-
 pub lines_before : (place : ℕ) (text : List ℕ) → place < length (lines_of text)
     → IsCut text (take place (lines_of text))
 lines_before zero text inside = record { within = omega arith; lines = refl }
 lines_before (suc place) text inside = elim (cases_lt (position_or_len is_newline text) (length text)) [
   | inl some ↦
-      let first = first_line text some in
+      let first : BeginsWith text = record {
+        line = before_first is_newline text;
+        newline = get_or text (position_or_len
+            is_newline text) 0;
+        rest = after_first is_newline text;
+        whole = split_at_first is_newline text 0 some;
+        without
+            = λ k d m. let fails = fails_before_first is_newline text k d (grind (arith, common_steps)) in grind
+            (arith, common_steps);
+        is_newline = passes_at_first is_newline text 0 some;
+      } in
       let lines : lines_of text ≡ first.line ∷ lines_of first.rest = ap lines_of first.whole
       ∙ lines_of_line first.line first.newline first.rest first.without first.is_newline in
       let inside' : place < length (lines_of first.rest) = omega (arith, ap length lines) in
       let whole = cut first.line first.newline first.without first.is_newline (lines_before place first.rest inside') in
       subst (λ ls. IsCut text (take (suc place) ls)) (sym lines)
       (subst (λ t. IsCut t (first.line ∷ take place (lines_of first.rest))) (sym first.whole) whole)
-  | inr none ↦ let few = one_line text none in absurd (omega arith)
+  | inr none ↦ let few : length (lines_of text) ≤ 1 = grind
+      (arith, is_newline, fails_before_first, slice_split_none, at_most_one) in absurd (omega arith)
 ]

@@ -1,8 +1,8 @@
 -- What a caller was served, with one event more.
 use Rattle.mk_replay.proofs.Vocabulary.{Answer, AreEnabled, Caller, Config, Event, answer_decided, answers_given}
 use Rattle.mk_replay.proofs.Vocabulary.{ends_call, is_same_seat, left, served_to}
-use Rattle.mk_laws.proofs.Vocabulary.{Bool, List, None, Option, ℕ, append-nil, false, if◌then◌else◌, refl, true, []}
-use Rattle.mk_laws.proofs.Vocabulary.{◌++◌, ◌∙◌, ◌∷◌, ◌≡◌}
+use Rattle.mk_laws.proofs.Vocabulary.{Bool, List, None, Option, ℕ, append-nil, arith, if◌then◌else◌, refl, [], ◌++◌}
+use Rattle.mk_laws.proofs.Vocabulary.{◌∷◌, ◌≡◌}
 use Rattle.mk_core.specs.History.{calls_from}
 use Rattle.mk_check.proofs.GivenAnswers.{given_by, given_more, waiting_by, waiting_more}
 use Rattle.mk_check.specs.Output.{answer_waiting}
@@ -12,9 +12,7 @@ both_by : (b b' : Bool) (decided : Option Answer) (xs answers : List Answer) (wa
     → answers ≡ xs ++ given_by b b' decided was → kept ≡ waiting_by b b' decided was
     → ◌≡◌ {A = Served} (record { answers = answers; kept = kept })
     (if b then served_behind b' decided (record { answers = xs; kept = was }) else record { answers = xs; kept = was })
-both_by true true decided xs answers was kept h i = cc
-both_by true false decided xs answers was kept h i = let j = h ∙ append-nil xs in cc
-both_by false b' decided xs answers was kept h i = let j = h ∙ append-nil xs in cc
+both_by x0 b' decided xs answers was kept h i = grind (arith, append-nil)
 
 pub served_more : (c : Config) (es : List Event) (k : ℕ) (e : Event) → AreEnabled c (es ++ e ∷ [])
     → served_to c (es ++ e ∷ []) k ≡ served_by k e (answer_decided c (left c es).now e) (served_to c es k)

@@ -1,10 +1,8 @@
 pub mod CanonicalLines
 pub mod ClosedBlocks
-pub mod PrintedFields
 pub mod PrintedForms
-pub mod PrintedOperands
+pub mod Layouts
 pub mod LineWords
-pub mod LinesAgain
 pub mod PassedLines
 pub mod PrintedNumbers
 pub mod RoundTrip

@@ -1,6 +1,6 @@
 -- What was written, and the lines of the scripts that are left, are the text.
-use Rattle.std.{proofs.Common.Bor, specs.String.string_bytes}
-use Rattle.mk_gen.proofs.Vocabulary.{List, ℕ, all_names, ap, codes, draw, next_state, turns_of, [], ◌+◌, ◌∙◌, ◌∷◌}
+use Rattle.std.specs.String.{string_bytes}
+use Rattle.mk_gen.proofs.Vocabulary.{all_names, ap, codes, draw, next_state, turns_of, [], ◌+◌, ◌∙◌, ◌∷◌}
 use Rattle.mk_gen.proofs.Written.{all_scripts_left, name_read, one_script_more}
 use Rattle.mk_gen.proofs.text.generated_text.Goals as goal
 
@@ -12,13 +12,13 @@ loop-name-init c =
 
 pub loop-name-preserved : goal.loop-name-preserved
 loop-name-preserved c =
-    let names : List (Bor (List ℕ)) =
-    record { ref_ptr = _; now = codes "s0" } ∷
-    record { ref_ptr = _; now = codes "s1" } ∷
-    record { ref_ptr = _; now = codes "s2" } ∷
-    record { ref_ptr = _; now = codes "s3" } ∷ [] in
     one_script_more (turns_of c.args.count) (1 + c.below-numbers.result) c.loop-name.draws c.below-number.result
     c.below-number.new.self c.below-place.result c.below-place.new.self c.loop-name.name-index all_names _
     (string_bytes c.loop-name.text) (string_bytes c.push_script.new.text) _ c.below-number.ensures.drawn
     c.below-number.ensures.state c.below-place.ensures.drawn c.below-place.ensures.state c.loop-name-test.true
-    c.loop-name.invariant c.in_ok-push_script.ensures (name_read names c.loop-name.name-index _ c.loop-name-test.true)
+    c.loop-name.invariant c.in_ok-push_script.ensures (name_read
+    (record { ref_ptr = _; now = codes "s0" } ∷ record { ref_ptr = _; now = codes "s1" } ∷ record {
+      ref_ptr = _;
+      now =
+          codes "s2";
+    } ∷ record { ref_ptr = _; now = codes "s3" } ∷ []) c.loop-name.name-index _ c.loop-name-test.true)

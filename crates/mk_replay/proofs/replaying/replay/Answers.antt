@@ -1,7 +1,7 @@
 use Rattle.std.{proofs.Common.{Result}, specs.Result.{IfErr, IsErrAnd}}
 use Rattle.mk_replay.proofs.{Vocabulary.{Err, Ok, history_of, rules}, UnderWay.{next_under_way, over, refused_here}}
 use Rattle.mk_replay.proofs.{UnderWay.room_of, AdmittedSchedules.{schedule_is_history, schedule_keeps_all_promises}}
-use Rattle.mk_laws.proofs.Vocabulary.{Some, subst, sym, ◌<◌, ◌≡◌, ◌≢◌}
+use Rattle.mk_laws.proofs.Vocabulary.{Some, subst, sym, ◌≡◌, ◌≢◌}
 use Rattle.mk_check.specs.Laws.{IsChecked}
 use Rattle.mk_replay.specs.{Replays.refusal_of, declared.replaying.ReplayStop.TheVariants.NoMemory}
 use Rattle.mk_replay.proofs.replaying.replay.Goals as goal
@@ -13,9 +13,7 @@ handed_on (Ok x) stop P is told = absurd is
 handed_on (Err handed) stop P is told = subst P (sym is) told
 
 pub step-requires : goal.step-requires
-step-requires c =
-    let few : c.loop-entry.entry-index < 18446744073709551615 = search rules in
-    room_of c.loop-entry.invariant few
+step-requires c = room_of c.loop-entry.invariant (search rules)
 
 pub returns-in_err-step-clause-not_enabled : goal.returns-in_err-step-clause-not_enabled
 returns-in_err-step-clause-not_enabled c =
