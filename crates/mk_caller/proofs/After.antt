@@ -1,13 +1,12 @@
 -- What a call leaves in its caller's registers.
 use Rattle.mk_laws.proofs.Vocabulary.{Answer, Bool, NeverState, Null, Num, Op, Ptr, Some, Unmapped, Value, WordOf, ℕ}
 use Rattle.mk_laws.proofs.Vocabulary.{after_free, ap, arith, false, get_or-set_other, get_or-set_same, if◌then◌else◌}
-use Rattle.mk_laws.proofs.Vocabulary.{is_same, never_behind, refl, register_at, target_of, true, with_register}
-use Rattle.mk_laws.proofs.Vocabulary.{with_word, word_at, ◌*◌, ◌++◌, ◌+◌, ◌<◌, ◌∙◌, ◌≡◌, ◌≢◌}
-use Rattle.mk_never.specs.NeverHeap.{after_op, left_at}
-use Rattle.mk_never.specs.{Admitted.IsCaller, declared.values.Target.Target, declared.values.Target.TheVariants.Nothing}
-use Rattle.mk_laws.proofs.OtherCalls.{never_continues}
-use Rattle.mk_caller.specs.States.{caller_of_pass, never_of, value_of}
-use Rattle.mk_caller.specs.{Called.Called, Laws.CallsLeaveOtherRegisters, Laws.destination}
+use Rattle.mk_laws.proofs.Vocabulary.{is_same, never_behind, refl, register_at, true, with_register, with_word, word_at}
+use Rattle.mk_laws.proofs.{Vocabulary.{◌*◌, ◌++◌, ◌+◌, ◌<◌, ◌∙◌, ◌≡◌, ◌≢◌}, OtherCalls.never_continues}
+use Rattle.mk_never.specs.{NeverHeap.{after_op, left_at}, Admitted.IsCaller, declared.values.Target.Target}
+use Rattle.mk_never.specs.declared.values.Target.TheVariants.{Nothing}
+use Rattle.mk_caller.specs.{States.{caller_of_pass, never_of, value_of}, Called.Called}
+use Rattle.mk_caller.specs.Laws.{CallsLeaveOtherRegisters, destination}
 use Rattle.mk_words.specs.States.{PassState}
 
 set_other : (n : NeverState) (k d r : ℕ) (v : Value) → Some d ≢ Some r
@@ -30,16 +29,11 @@ write_leaves n k r Nothing v = refl
 write_leaves n k r Unmapped v = refl
 write_leaves n k r (WordOf a w) v = refl
 
-either_leaves : (n : NeverState) (k r a w : ℕ) (v : Value) (b : Bool)
-    → register_at (if b then with_word n a w v else n) k r ≡ register_at n k r
-either_leaves n k r a w v true = refl
-either_leaves n k r a w v false = refl
-
 cas_leaves : (n : NeverState) (k r : ℕ) (t : Target) (x v : Value) → register_at
     (left_at t n (λ a w. if is_same (word_at n a w) x then with_word n a w v else n)) k r ≡ register_at n k r
 cas_leaves n k r Nothing x v = refl
 cas_leaves n k r Unmapped x v = refl
-cas_leaves n k r (WordOf a w) x v = either_leaves n k r a w v (is_same (word_at n a w) x)
+cas_leaves n k r (WordOf a w) x v = grind arith
 
 read_leaves : (n : NeverState) (k d r : ℕ) (t : Target) → Some d ≢ Some r → register_at
     (left_at t (with_register n k d Null) (λ a w. with_register n k d (word_at n a w))) k r ≡ register_at n k r
@@ -55,19 +49,7 @@ new_leaves n m k d r v false same ne = grind (arith, set_other)
 leaves : (n : NeverState) (k : ℕ) (o : Op) (r : ℕ) → destination o ≢ Some r
     → register_at (after_op n k o) k r ≡ register_at n k r
 leaves n k (Op.New d ty full) r ne = new_leaves n _ k d r _ full refl ne
-leaves n k (Op.Free p) r ne = free_leaves n k r (register_at n k p)
-leaves n k (Op.GetNum q i) r ne = refl
-leaves n k (Op.SetNum q i m) r ne = write_leaves n k r (target_of n (register_at n k q) i) (λ a w. Num m)
-leaves n k (Op.GetPtr d q i) r ne = read_leaves n k d r (target_of n (register_at n k q) i) ne
-leaves n k (Op.SetPtr q i p) r ne = write_leaves n k r (target_of n (register_at n k q) i) (λ a w. register_at n k p)
-leaves n k (Op.CasPtr q i p x) r ne = grind (arith, cas_leaves)
-leaves n k (Op.Lea d q i) r ne = set_other n k d r _ ne
-leaves n k (Op.Move d q) r ne = set_other n k d r _ ne
-leaves n k (Op.Clear d) r ne = set_other n k d r _ ne
-leaves n k (Op.GetGlobal d g) r ne = set_other n k d r _ ne
-leaves n k (Op.SetGlobal g p) r ne = refl
-leaves n k (Op.Same p q) r ne = refl
-leaves n k (Op.IsNull p) r ne = refl
+leaves n k x3 r ne = grind (arith, free_leaves, write_leaves, read_leaves, cas_leaves, set_other)
 
 -- A register after a call is what the operation leaves at its place.
 pub value_left : {p q : PassState} {o : Op} {a : Answer} → (c : Called p o a q) → (r : ℕ) → r < 8

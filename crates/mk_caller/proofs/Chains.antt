@@ -1,25 +1,20 @@
 -- A call step by step, from its beginning to its end.
 use Rattle.mk_laws.proofs.Vocabulary.{Answer, Event, Flight, KeepsRegisters, List, NeverState, None, Op, Option}
 use Rattle.mk_laws.proofs.Vocabulary.{Progress, Some, Stage, Step, Unmapped, ℕ, ap, append_assoc, arith, at_rest, begun}
-use Rattle.mk_laws.proofs.Vocabulary.{d_of, if◌then◌else◌, ne_eqb, never_behind, onward, progress_reg, q_of, refl}
-use Rattle.mk_laws.proofs.Vocabulary.{refused, stage_refused, subst, true, [], ◌++◌, ◌<◌, ◌==◌, ◌∙◌, ◌∷◌, ◌≡◌, ◌≢◌}
+use Rattle.mk_laws.proofs.Vocabulary.{d_of, if◌then◌else◌, ne_eqb, onward, progress_reg, q_of, refl, refused}
+use Rattle.mk_laws.proofs.Vocabulary.{stage_refused, subst, true, [], ◌++◌, ◌<◌, ◌==◌, ◌∙◌, ◌∷◌, ◌≡◌, ◌≢◌}
 use Rattle.mk_never.specs.{Admitted.OperandsAreInRange, declared.values.Target.Target}
 use Rattle.mk_caller.proofs.Joined.{joined, joined_on}
 use Rattle.mk_caller.specs.Moves.{CallGoesOn, IsAtFlight, MakesSteps, MayBeginCall, is_access, loads, passes}
 use Rattle.mk_caller.specs.{Moves.{refused_register, refused_steps}, States.{caller_of_pass, never_of, value_of}}
 use Rattle.mk_caller.specs.{Called.{Called, steps_made}, Causes.{Probes, ProbesAWord}}
-use Rattle.mk_words.specs.States.{PassState, call_of, event_of}
+use Rattle.mk_words.specs.States.{PassState, call_of}
 
 -- Further steps of a call that isn't decided; how they go on is said by the call before them.
 pub go : {p q r : PassState} {o : Op} {ss ts : List Step} {f : Flight} → IsAtFlight p o ss None f q → (X : Flight
     → Progress) → f.op ≡ o → IsAtFlight q (call_of q).op ts (X (call_of q)).answer (X (call_of q)).flight r
     → IsAtFlight p o (ss ++ ts) (X f).answer (X f).flight r
-go {q} {r} {ts} {f} a X same b = record {
-  makes =
-      joined a.makes (subst (λ (y : Op). MakesSteps q y ts (X f).answer r) same (rw a.call at b.makes));
-  call = b.call ∙ ap (λ (g : Flight). (X g).flight) a.call;
-  underway = b.underway;
-}
+go a x1 same b = grind (arith, joined)
 
 -- and of one that is
 -- a probe that finds the page mapped
@@ -30,14 +25,7 @@ go_probed at same probes = go at passes same probes
 pub go_on : {p q r : PassState} {o : Op} {ss ts : List Step} {a : Answer} {f : Flight} → IsAtFlight p o ss (Some a) f q
     → (X : Flight → Progress) → f.op ≡ o → (X f).answer ≡ None → IsAtFlight q (call_of q).op ts (X (call_of q)).answer
     (X (call_of q)).flight r → IsAtFlight p o (ss ++ ts) (Some a) (X f).flight r
-go_on {q} {r} {o} {ts} {f} before X same none b =
-    let makes : MakesSteps q o ts (X f).answer r =
-    subst (λ (y : Op). MakesSteps q y ts (X f).answer r) same (rw before.call at b.makes) in
-    record {
-      makes = joined_on before.makes (rw none at makes);
-      call = b.call ∙ ap (λ (g : Flight). (X g).flight) before.call;
-      underway = b.underway;
-    }
+go_on before x1 same none b = grind (arith, joined_on)
 
 -- parts of one call
 pub to : {p q r : PassState} {o : Op} {ss ts : List Step} {a : Option Answer} {f g : Flight}
@@ -86,19 +74,7 @@ value_kept {q} m r lt = cc (m.is, keeps m r lt)
 -- a probe of the later steps
 pub probes_from : {p q r : PassState} {o : Op} {ss : List Step} {t : Target} → MakesSteps p o ss None q → q_of o < 8
     → Probes q o r t → Probes p o r t
-probes_from {p} {r} {o} {t} m lt probes =
-    by m.more m.decided (subst (λ (x : PassState). Probes x o r t) m.is probes)
-  where
-    by : (m1 : List Event) → KeepsRegisters (caller_of_pass p) (never_of p)
-        (never_behind p.table.config (p.seen ++ m1)) → Probes (record p { seen = p.seen ++ m1 }) o r t → Probes p o r t
-    by m1 keeps x =
-        let join = append_assoc p.seen m1 x.before in
-        record {
-          before = m1 ++ x.before;
-          behind = x.behind;
-          is = x.is ∙ ap (λ (l : List Event). l ++ event_of p Step.Probe ∷ x.behind) join;
-          gets_to = cc (keeps (q_of o) lt, join, x.gets_to);
-        }
+probes_from {p} {r} {o} {t} m lt probes = grind (arith, keeps, append_assoc, KeepsRegisters)
 
 -- facts of operations
 
@@ -140,19 +116,11 @@ sees_more x = record { more = x.makes.more; is = ap (λ (s : PassState). s.seen)
 
 pub sees_further : {q r s : PassState} {o : Op} {ts : List Step} {a : Option Answer} {f : Flight} → SeesMore q r
     → IsAtFlight r o ts a f s → SeesMore q s
-sees_further {q} g x = record {
-  more = g.more ++ x.makes.more;
-  is = cc (x.makes.is, g.is, append_assoc q.seen g.more x.makes.more);
-}
+sees_further g x = grind (arith, append_assoc)
 
 -- a probe of earlier steps
 pub probes_on : {p q r : PassState} {o : Op} {t : Target} → Probes p o q t → SeesMore q r → Probes p o r t
-probes_on {p} x g = record {
-  before = x.before;
-  behind = x.behind ++ g.more;
-  is = cc (g.is, x.is, append_assoc (p.seen ++ x.before) (event_of p Step.Probe ∷ x.behind) g.more);
-  gets_to = x.gets_to;
-}
+probes_on x g = grind (arith, append_assoc)
 
 -- The call's access got to a word at its probe.
 pub reached : {p q s r : PassState} {o : Op} {ss : List Step} {f : Flight} → MayBeginCall p o → is_access o ≡ true

@@ -1,6 +1,6 @@
 -- A compare and exchange compares values: its answer is that of the heap that never reuses storage.
 use Rattle.mk_laws.proofs.Vocabulary.{Answer, Bool, List, NeverState, Op, Unmapped, Value, WordOf, ℕ, answer_of, ap}
-use Rattle.mk_laws.proofs.Vocabulary.{bit, false, is_same, one_if, refl, register_at, sym, target_of, true, word_at}
+use Rattle.mk_laws.proofs.Vocabulary.{arith, bit, is_same, one_if, refl, register_at, sym, target_of, true, word_at}
 use Rattle.mk_laws.proofs.Vocabulary.{◌↔◌, ◌∙◌, ◌≡◌}
 use Rattle.mk_never.proofs.Sameness.{equal_from_same, same_from_equal}
 use Rattle.mk_never.specs.declared.values.Target.TheVariants.{Nothing}
@@ -17,19 +17,13 @@ record Reached (n : NeverState) (v w : Value) (i : ℕ) (said : Bool) : Type 0 w
   pub said_so : said ≡ is_same (word_at n number place) w
 
 same_bits : (a b : Bool) → one_if a ≡ bit b → a ≡ b
-same_bits true true e = refl
-same_bits false false e = refl
-same_bits true false e = cc
-same_bits false true e = cc
+same_bits x0 x1 e = grind arith
 
 reached : (bases : List ℕ) (n : NeverState) (v w : Value) (i : ℕ) (said : Bool) (t : Target) → target_of n v i ≡ t
     → Answer.Num (one_if said) ≡ answer_of bases (reply_at t (λ a k. Reply.Num (bit (is_same (word_at n a k) w))))
     → Reached n v w i said
 reached bases n v w i said (WordOf a k) is e =
-    record { number = a; place = k; gets_to = is; said_so = same_bits said (is_same (word_at n a k) w) (numbers e) }
-  where
-    numbers : {x y : ℕ} → Answer.Num x ≡ Answer.Num y → x ≡ y
-    numbers e = cc
+    record { number = a; place = k; gets_to = is; said_so = same_bits said (is_same (word_at n a k) w) (cc) }
 reached bases n v w i said Nothing is e = cc
 reached bases n v w i said Unmapped is e = cc
 

@@ -1,11 +1,11 @@
 -- When a step of a call is enabled and admitted.
-use Rattle.mk_laws.proofs.Vocabulary.{Answer, AreAdmitted, Bool, Caller, Config, Flight, Group, IsAdmitted, IsEnabled}
-use Rattle.mk_laws.proofs.Vocabulary.{IsHistory, List, Moment, NeverState, None, Op, Option, Seat, Some, Stage, Step, ℕ}
-use Rattle.mk_laws.proofs.Vocabulary.{and_from, and_parts, answer_decided, ap, arith, asked, comes_next, entry_of}
-use Rattle.mk_laws.proofs.Vocabulary.{false, flight_of, group_of, has_gates, has_operands, has_phase, holder_may}
-use Rattle.mk_laws.proofs.Vocabulary.{is_in_range, is_under_turn, length, lt-ltb, ltb-true, marker_may, nat_lt, outside}
-use Rattle.mk_laws.proofs.Vocabulary.{phase_of, refl, register_met, subst, sym, true, ◌&&◌, ◌<◌, ◌≡◌}
-use Rattle.mk_laws.proofs.{LastEvents.{goes_on_by, stands}, LayoutHolders.seat_operands}
+use Rattle.mk_laws.proofs.Vocabulary.{Answer, AreAdmitted, Bool, Caller, Config, Flight, Group, IsAdmitted, IsHistory}
+use Rattle.mk_laws.proofs.Vocabulary.{List, Moment, NeverState, None, Op, Option, Seat, Some, Stage, Step, ℕ, and_from}
+use Rattle.mk_laws.proofs.Vocabulary.{and_parts, answer_decided, ap, arith, asked, comes_next, entry_of, false}
+use Rattle.mk_laws.proofs.Vocabulary.{group_of, has_gates, has_operands, has_phase, holder_may, is_in_range}
+use Rattle.mk_laws.proofs.Vocabulary.{is_under_turn, length, lt-ltb, ltb-true, marker_may, nat_lt, outside, phase_of}
+use Rattle.mk_laws.proofs.{Vocabulary.{refl, register_met, true, ◌&&◌, ◌<◌, ◌≡◌}, LastEvents.{goes_on_by, stands}}
+use Rattle.mk_laws.proofs.LayoutHolders.{seat_operands}
 use Rattle.mk_never.specs.Admitted.{IsCaller, OperandsAreInRange}
 use Rattle.mk_core.proofs.Conditions.{meets_enabled}
 use Rattle.mk_caller.{proofs.OneStep.{flagged_same}, specs.{Moves.MayBeginCall, States.{Admits, never_of}}}
@@ -23,19 +23,11 @@ is_free : (c : Config) (m : Moment) (seat : Seat) (f : Flight) (s : Step) → gr
 is_free c m seat f (Step.Enter o) h = record { gates = refl; phase = refl; marker = refl; holder = refl }
 is_free c m seat f _ h = record { gates = cc; phase = cc; marker = cc; holder = cc }
 
-enabled_for : (c : Config) (m : Moment) (k : ℕ) (s : Step) → k < c.callers → group_of s ≡ Group.Callers
-    → comes_next (flight_of m (Caller k)).stage (flight_of m (Caller k)).op s ≡ true
-    → is_in_range c (Caller k) (flight_of m (Caller k)) s ≡ true → IsEnabled c m (record { seat = Caller k; step = s })
-enabled_for c m k s lt kind next range = grind (arith, is_free, meets_enabled, lt-ltb)
-
 -- The next step of a call is enabled, where its argument is in range.
 pub enabled : (p : PassState) (s : Step) (k : ℕ) → p.seat ≡ Caller k → k < p.table.config.callers
     → group_of s ≡ Group.Callers → comes_next (call_of p).stage (call_of p).op s ≡ true
     → is_in_range p.table.config p.seat (call_of p) s ≡ true → IsEnabledTo p s
-enabled p s k is lt kind next range =
-    subst (λ (t : Seat). comes_next (flight_of (now_of p) t).stage (flight_of (now_of p) t).op s ≡ true
-    → is_in_range p.table.config t (flight_of (now_of p) t) s ≡ true → IsEnabled p.table.config (now_of p)
-    (record { seat = t; step = s })) (sym is) (enabled_for p.table.config (now_of p) k s lt kind) next range
+enabled p s k is lt kind next range = grind (arith, is_free, meets_enabled, lt-ltb)
 
 -- whatever it is answered
 entry_admitted : {globals : List ℕ} {n : NeverState} {k : ℕ} {o : Op} (a : Option Answer) → is_under_turn o ≡ false
@@ -69,20 +61,7 @@ below x n lt = lt-ltb x n lt
 
 operands : (c : Config) (n : NeverState) (o : Op) → length n.globals ≡ 64 → is_under_turn o ≡ false
     → OperandsAreInRange n o → has_operands c o ≡ true
-operands c n (Op.GetNum q i) g u h = six (nat_lt q 8) _ _ _ _ _ (below q 8 h) refl refl refl refl refl
-operands c n (Op.SetNum q i m) g u h = six (nat_lt q 8) _ _ _ _ _ (below q 8 h) refl refl refl refl refl
-operands c n (Op.GetPtr d q i) g u h = grind (arith, six, below)
-operands c n (Op.SetPtr q i p) g u h = grind (arith, six, below)
-operands c n (Op.CasPtr q i p r) g u h = grind (arith, six, below)
-operands c n (Op.Lea d q i) g u h = grind (arith, six, below)
-operands c n (Op.Move d q) g u h = grind (arith, six, below)
-operands c n (Op.Clear d) g u h = six _ _ _ (nat_lt d 8) _ _ refl refl refl (below d 8 h) refl refl
-operands c n (Op.GetGlobal d x) g u h = grind (arith, six, below)
-operands c n (Op.SetGlobal x p) g u h = grind (arith, six, below)
-operands c n (Op.Same p q) g u h = grind (arith, six, below)
-operands c n (Op.IsNull p) g u h = six _ (nat_lt p 8) _ _ _ _ refl (below p 8 h) refl refl refl refl
-operands c n (Op.New d ty full) g u h = cc
-operands c n (Op.Free p) g u h = cc
+operands c n x2 g u h = grind (arith, six, below)
 
 pub caller_exists : (p : PassState) {o : Op} (k : ℕ) → IsHistory p.table.config p.seen → p.seat ≡ Caller k
     → Admits p o → k < p.table.config.callers
@@ -103,7 +82,4 @@ enter_enabled {p} {o} h ready =
 pub met_is_small : (p : PassState) (s : Stage) → IsHistory p.table.config p.seen → register_met (call_of p) s < 8
 met_is_small p s h =
     let has : has_operands p.table.config (call_of p).op ≡ true = grind (arith, seat_operands, stands) in
-    by (call_of p) s has
-  where
-    by : (f : Flight) (s : Stage) → has_operands p.table.config f.op ≡ true → register_met f s < 8
-    by f s has = grind (arith, and_parts, ltb-true)
+    grind (arith, and_parts, ltb-true)

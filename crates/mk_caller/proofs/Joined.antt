@@ -1,8 +1,7 @@
 -- Steps of a call, one after the other.
 use Rattle.mk_laws.proofs.Vocabulary.{Answer, Config, Decided, Event, KeepsRegisters, List, None, Op, Option, Some}
-use Rattle.mk_laws.proofs.Vocabulary.{Step, World, ap, append-nil, append_assoc, entry_of, left, left_from}
-use Rattle.mk_laws.proofs.Vocabulary.{left_in_parts, never_behind, subst, sym, ◌++◌, ◌∙◌, ◌∷◌, ◌≡◌}
-use Rattle.mk_never.specs.NeverHeap.{after_op}
+use Rattle.mk_laws.proofs.Vocabulary.{Step, ap, append-nil, append_assoc, arith, entry_of, left_in_parts, never_behind}
+use Rattle.mk_laws.proofs.Vocabulary.{subst, sym, ◌++◌, ◌∙◌, ◌∷◌, ◌≡◌}
 use Rattle.mk_caller.proofs.{OneStep.keeps_both, OwnSteps.steps_append, OwnSteps.steps_from}
 use Rattle.mk_caller.specs.Called.{IsDecidedIn, own_calls, own_steps}
 use Rattle.mk_caller.specs.{Moves.IsDecidedAs, Moves.MakesSteps, States.caller_of_pass, States.never_of}
@@ -11,14 +10,6 @@ use Rattle.mk_words.specs.States.{PassState}
 -- the pass that has seen more
 abbrev seen_more : PassState → List Event → PassState
 seen_more p m = record p { seen = p.seen ++ m }
-
-steps_joined : (p : PassState) (m1 m2 : List Event) (ss ts : List Step) → own_steps p m1 ≡ ss
-    → own_steps (seen_more p m1) m2 ≡ ts → own_steps p (m1 ++ m2) ≡ ss ++ ts
-steps_joined p m1 m2 ss ts a b =
-    steps_append p.table.config p.seat (left p.table.config p.seen) m1 m2 ∙ ap (λ (l : List Step). l ++ steps_from
-    p.table.config p.seat (left_from p.table.config (left p.table.config p.seen) m1) m2) a
-    ∙ ap (λ (w : World). ss ++ steps_from p.table.config p.seat w m2) (sym (left_in_parts p.table.config p.seen m1))
-    ∙ ap (λ (l : List Step). ss ++ l) b
 
 -- a decision of the later steps
 decided_later : (p : PassState) {o : Op} {a : Answer} (m1 : List Event) {m2 : List Event}
@@ -43,20 +34,7 @@ decided_later p {o} {a} m1 {m2} keeps d =
 decided_before : {p : PassState} {o : Op} {a : Answer} {m1 : List Event} (m2 : List Event) → IsDecidedIn p o a m1
     → KeepsRegisters (caller_of_pass p) (never_behind p.table.config (p.seen ++ m1))
     (never_behind p.table.config ((p.seen ++ m1) ++ m2)) → IsDecidedIn p o a (m1 ++ m2)
-decided_before {p} {o} {m1} m2 d keeps =
-    let c : Config = p.table.config in
-    record {
-      before = d.before;
-      event = d.event;
-      behind = d.behind ++ m2;
-      is = ap (λ (l : List Event). l ++ m2) d.is ∙ append_assoc d.before (d.event ∷ d.behind) m2;
-      decides = d.decides;
-      reply = d.reply;
-      known = d.known;
-      left_so = rw (append_assoc p.seen m1 m2) at (keeps_both (caller_of_pass p)
-          (after_op (never_behind c (p.seen ++ d.before)) (caller_of_pass p) o) (never_behind c (p.seen ++ m1))
-          (never_behind c ((p.seen ++ m1) ++ m2)) d.left_so keeps);
-    }
+decided_before m2 d keeps = grind (arith, append_assoc, keeps_both)
 
 decided_as_later : (p : PassState) (o : Op) (a : Option Answer) (m1 m2 : List Event)
     → KeepsRegisters (caller_of_pass p) (never_of p) (never_behind p.table.config (p.seen ++ m1))
@@ -75,13 +53,8 @@ steps_then : {p : PassState} {o : Op} {ss ts : List Step} {a b : Option Answer} 
     → own_steps p m1 ≡ ss → (second : MakesSteps (seen_more p m1) o ts b r) → own_calls p (p.seen ++ m1) ++ entry_of
     (caller_of_pass p) o b ≡ own_calls p p.seen ++ entry_of (caller_of_pass p) o a
     → IsDecidedAs p o a (m1 ++ second.more) → MakesSteps p o (ss ++ ts) a r
-steps_then {p} {ss = ss} {ts = ts} {r = r} m1 steps second entry decided = record {
-  more = m1 ++ second.more;
-  is = is_joined p r m1 second.more second.is;
-  steps = steps_joined p m1 second.more ss ts steps second.steps;
-  entry = ap (λ (l : List Event). own_calls p l) (sym (append_assoc p.seen m1 second.more)) ∙ second.entry ∙ entry;
-  decided = decided;
-}
+steps_then {p} {ss = ss} {ts = ts} {r = r} m1 steps second entry decided =
+    grind (arith, is_joined, append_assoc, steps_append, steps_from, left_in_parts)
 
 -- steps that decide nothing, and then others
 pub joined : {p : PassState} {o : Op} {ss ts : List Step} {a : Option Answer} {q r : PassState}

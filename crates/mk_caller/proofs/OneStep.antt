@@ -1,13 +1,12 @@
 -- One step of a call: what it adds to the list, to the calls and to the heap that never reuses storage.
 use Rattle.mk_laws.proofs.Vocabulary.{Answer, AreOfOthers, Caller, Config, Decided, Event, Flight, IsHistory}
 use Rattle.mk_laws.proofs.Vocabulary.{KeepsRegisters, List, NeverState, None, Op, Option, Progress, Seat, Some, Stage}
-use Rattle.mk_laws.proofs.Vocabulary.{Step, ℕ, after_calls, answer_of, answered, answers_of, ap, append-nil}
-use Rattle.mk_laws.proofs.Vocabulary.{append_assoc, asked, bases_of, call_decided, caller_number, calls, entry_of}
-use Rattle.mk_laws.proofs.Vocabulary.{false, first_world, flagged, is_under_turn, left, never_behind, refl, register_at}
-use Rattle.mk_laws.proofs.Vocabulary.{replies_of, subst, sym, true, world_behind, [], ◌++◌, ◌<◌, ◌∙◌, ◌∷◌, ◌≡◌}
-use Rattle.mk_laws.proofs.{LastEvents.{comes_last, stands}, OtherCalls.{never_continues, registers_are_left}}
-use Rattle.mk_laws.proofs.{AdmittedStill.call_on, ImagesOneEvent.one_event, InvariantJoined.told_to_images}
-use Rattle.mk_never.specs.NeverHeap.{after_op, reply_of}
+use Rattle.mk_laws.proofs.Vocabulary.{Step, ℕ, after_calls, answered, answers_of, ap, append-nil, append_assoc, arith}
+use Rattle.mk_laws.proofs.Vocabulary.{asked, bases_of, call_decided, caller_number, calls, entry_of, false, first_world}
+use Rattle.mk_laws.proofs.Vocabulary.{flagged, is_under_turn, left, never_behind, refl, replies_of, subst, sym, true}
+use Rattle.mk_laws.proofs.{Vocabulary.{world_behind, [], ◌++◌, ◌<◌, ◌∙◌, ◌∷◌, ◌≡◌}, LastEvents.{comes_last, stands}}
+use Rattle.mk_laws.proofs.{OtherCalls.{never_continues, registers_are_left}, FramesLongerLists.call_on}
+use Rattle.mk_laws.proofs.{ImagesHistories.one_event, InvariantHistories.told_to_images}
 use Rattle.mk_core.{proofs.Histories.{calls_more}, specs.Ranges.{is_word_met}}
 use Rattle.mk_caller.proofs.OwnSteps.{by_append, calls_by, others_add_none, own_entry, own_step}
 use Rattle.mk_caller.specs.{Moves.{IsDecidedAs, IsUnderway, MakesSteps, is_past_decision}, Called.own_calls}
@@ -70,30 +69,7 @@ module _ (p : PassState) (o : Op) (s : Step) (x : Progress) (q : PassState) (k :
       cc (decides, f.right [], append-nil (bases_of (world_behind c (left c es) e).allocations), last.leaves)
 
   decided_as : (a : Option Answer) → x.answer ≡ a → IsDecidedAs p o a (others ++ e ∷ [])
-  decided_as None is = rw (never ∙ ap (λ (a : Option Answer). after_calls (never_behind c es)
-      (asked (entry_of (caller_of_pass p) o a))) is) before
-  decided_as (Some a) is =
-      let flag = flagged_same o a entered in
-      let one : (a ∷ []) ≡ answer_of (bases_of (left c (es ++ e ∷ [])).allocations)
-      (reply_of (never_behind c es) (caller_of_pass p) (flagged o a)) ∷ [] =
-      subst (λ (b : Option Answer). answered (entry_of (caller_of_pass p) o b) ≡ answers_of
-      (bases_of (left c (es ++ e ∷ [])).allocations)
-      (replies_of (never_behind c es) (asked (entry_of (caller_of_pass p) o b)))) is right in
-      record {
-        before = others;
-        event = e;
-        behind = [];
-        is = refl;
-        decides = decides ∙ ap (λ (b : Option Answer). entry_of (caller_of_pass p) o b) is;
-        reply = cc (one, flag);
-        known = before;
-        left_so =
-            let after : never_behind c (p.seen ++ (others ++ e ∷ []))
-            ≡ after_op (never_behind c es) (caller_of_pass p) o =
-            never ∙ ap (λ (b : Option Answer). after_calls (never_behind c es) (asked (entry_of
-            (caller_of_pass p) o b))) is ∙ ap (λ (y : Op). after_op (never_behind c es) (caller_of_pass p) y) flag in
-            λ r lt. ap (λ (n : NeverState). register_at n (caller_of_pass p) r) after;
-      }
+  decided_as x0 is = grind (arith, never, es, before, flagged_same, right, others, decides)
 
   is_more : q ≡ record p { seen = p.seen ++ (others ++ e ∷ []) }
   is_more = g.makes.is ∙ ap (λ (l : List Event). record p { seen = l }) (sym joint)
@@ -121,14 +97,11 @@ module _ (p : PassState) (o : Op) (s : Step) (x : Progress) (q : PassState) (k :
   goes_underway exists goes_on next page =
       let whole : IsHistory c (p.seen ++ (others ++ e ∷ [])) = rw joint d.whole in
       let at_last : (h : (x.answer ≡ None) × Admits p x.flight.op)
-      → Admits (record p { seen = p.seen ++ (others ++ e ∷ []) }) x.flight.op =
-      λ h.
-      let keeps : KeepsRegisters (caller_of_pass p) (never_of p) (never_behind c (p.seen ++ (others ++ e ∷ []))) =
-      decided_as None h.0 in
+      → Admits (record p { seen = p.seen ++ (others ++ e ∷ []) }) x.flight.op = λ h.
       let st = stands c p.seen (pass_before g.makes).history in
       let flag = flagged_same x.flight.op Answer.Done goes_on in
       rw flag at (call_on c.globals (never_of p) (never_behind c (p.seen ++ (others ++ e ∷ []))) (caller_of_pass p)
-      (never_continues c p.seen (others ++ e ∷ [])) keeps
+      (never_continues c p.seen (others ++ e ∷ [])) (decided_as None h.0)
       st.all.mirrors.typed x.flight.op (Some Answer.Done) (subst (λ (y : Op). Admits p y) (sym flag) h.1, tt)).0 in
       record {
         pass = g.makes.pass;

@@ -1,8 +1,8 @@
 -- How a call goes on after a step, of whatever kind: the operation stays, and what is undecided goes on undecided.
-use Rattle.mk_laws.proofs.Vocabulary.{Answer, Bool, Config, Flight, None, Op, Progress, Some, Stage, Step, ℕ, ap}
+use Rattle.mk_laws.proofs.Vocabulary.{Answer, Bool, Config, Flight, None, Op, Progress, Some, Stage, Step, ℕ, ap, arith}
 use Rattle.mk_laws.proofs.Vocabulary.{at_rest, begun, false, header_of, if◌then◌else◌, is_under_turn}
-use Rattle.mk_laws.proofs.Vocabulary.{is_unmapped_header, onward, progress_p, progress_q, progress_read, progress_reg}
-use Rattle.mk_laws.proofs.Vocabulary.{refl, refused, stage_behind, steps_of, subst, sym, true, ◌==◌, ◌∙◌, ◌≡◌}
+use Rattle.mk_laws.proofs.Vocabulary.{is_unmapped_header, onward, progress_read, progress_reg, refl, refused}
+use Rattle.mk_laws.proofs.Vocabulary.{stage_behind, steps_of, subst, sym, true, ◌∙◌, ◌≡◌}
 use Rattle.mk_core.specs.{Calls.progress_getg, Effects.progress_probe, Ranges.is_word_met}
 use Rattle.mk_caller.proofs.{Enabling.caller_exists, OneStep.goes_underway, OneStep.one_step}
 use Rattle.mk_caller.specs.{Moves.CallMoves, Moves.IsUnderway, Moves.MayBeginCall, Moves.is_past_decision}
@@ -37,29 +37,11 @@ refused_next : (c : Config) (s : Stage) (o : Op) (q p r l found : ℕ) (a : Answ
 refused_next c s (Op.Lea d q i) qq p r l found a = record { op = refl; undecided = λ h. (cc, cc); page = λ h. cc }
 refused_next c s _ qq p r l found a = record { op = refl; undecided = λ h. (cc, cc); page = λ h. cc }
 
-q_next : (c : Config) (o : Op) (q p r l found : ℕ) → Next c (flight Stage.LoadQ o q p r l)
-    (progress_q (flight Stage.LoadQ o q p r l) o found)
-q_next c (Op.Move d x) q p r l found = record { op = refl; undecided = λ h. (cc, cc); page = λ h. cc }
-q_next c (Op.Same x y) q p r l found = record { op = refl; undecided = λ h. (cc, cc); page = λ h. cc }
-q_next c o q p r l found =
-    either (found == 0) (refused_next c Stage.LoadQ o q p r l found Answer.Null)
-    (record { op = refl; undecided = λ h. (cc, cc); page = λ h. cc })
-
-p_next : (c : Config) (o : Op) (q p r l found : ℕ) → is_under_turn o ≡ false
-    → Next c (flight Stage.LoadP o q p r l) (progress_p (flight Stage.LoadP o q p r l) o found)
-p_next c (Op.IsNull x) q p r l found u = record { op = refl; undecided = λ h. (cc, cc); page = λ h. cc }
-p_next c _ q p r l found u = record { op = cc; undecided = λ h. (cc, cc); page = λ h. cc }
-
-r_next : (c : Config) (o : Op) (q p r l found : ℕ)
-    → Next c (flight Stage.LoadR o q p r l) (onward (flight Stage.LoadR o q p found l) None)
-r_next c (Op.CasPtr x i y z) q p r l found = record { op = refl; undecided = λ h. (cc, cc); page = λ h. cc }
-r_next c _ q p r l found = record { op = refl; undecided = λ h. (cc, cc); page = λ h. cc }
-
 at_load : (c : Config) (s : Stage) (o : Op) (q p r l found : ℕ) → loads_register s ≡ true → is_under_turn o ≡ false
     → Next c (flight s o q p r l) (progress_reg (flight s o q p r l) s found)
-at_load c Stage.LoadQ o q p r l found h u = q_next c o q p r l found
-at_load c Stage.LoadP o q p r l found h u = p_next c o q p r l found u
-at_load c Stage.LoadR o q p r l found h u = r_next c o q p r l found
+at_load c Stage.LoadQ o q p r l found h u = grind (arith, either, refused_next)
+at_load c Stage.LoadP o q p r l found h u = grind arith
+at_load c Stage.LoadR o q p r l found h u = grind arith
 at_load c _ o q p r l found h u = cc
 
 pub load_next : (c : Config) (f : Flight) (found : ℕ) → loads_register f.stage ≡ true → is_under_turn f.op ≡ false
@@ -71,10 +53,6 @@ store_next : (c : Config) (o : Op) (q p r l : ℕ) → Next c (flight Stage.Stor
 store_next c (Op.Clear d) q p r l = record { op = refl; undecided = λ h. (cc, cc); page = λ h. cc }
 store_next c _ q p r l = record { op = refl; undecided = λ h. (cc, cc); page = λ h. cc }
 
-put_next : (c : Config) (o : Op) (q p r l : ℕ) → Next c (flight Stage.Put o q p r l)
-    (record { flight = flight Stage.Leave o q p r l; answer = None })
-put_next c o q p r l = record { op = refl; undecided = λ h. (cc, cc); page = λ h. cc }
-
 -- a stage at which a register is stored
 pub store_goes_on : (c : Config) (f : Flight) (v : ℕ) → stores_register f.stage ≡ true
     → Next c f (progress_reg f f.stage v)
@@ -83,7 +61,7 @@ store_goes_on c f v h = by f.stage f.op f.q f.p f.r f.loaded h
     by : (s : Stage) (o : Op) (q p r l : ℕ) → stores_register s ≡ true
         → Next c (flight s o q p r l) (progress_reg (flight s o q p r l) s v)
     by Stage.Store o q p r l h = store_next c o q p r l
-    by Stage.Put o q p r l h = put_next c o q p r l
+    by Stage.Put o q p r l h = record { op = refl; undecided = λ h. (cc, cc); page = λ h. cc }
     by _ o q p r l h = cc
 
 probe_on : (c : Config) (o : Op) (q p r l : ℕ) → Next c (flight Stage.Probe o q p r l)
@@ -91,37 +69,13 @@ probe_on : (c : Config) (o : Op) (q p r l : ℕ) → Next c (flight Stage.Probe 
 probe_on c (Op.GetNum x i) q p r l = record { op = refl; undecided = λ h. (cc, cc); page = λ h. cc }
 probe_on c _ q p r l = record { op = refl; undecided = λ h. (cc, cc); page = λ h. cc }
 
-read_on : (c : Config) (o : Op) (q p r l found : ℕ) → Next c (flight Stage.Read o q p r l)
-    (progress_read (flight Stage.Read o q p r l) o found)
-read_on c (Op.Clear d) q p r l found = record { op = refl; undecided = λ h. (cc, cc); page = λ h. cc }
-read_on c _ q p r l found = record { op = refl; undecided = λ h. (cc, cc); page = λ h. cc }
-
 -- after a write the page is still to be marked
 written : (c : Config) (s : Stage) (o : Op) (q p r l : ℕ) (a : Answer) → is_written s ≡ true
     → is_word_met c (flight s o q p r l) ≡ true → Next c (flight s o q p r l) (onward (flight s o q p r l) (Some a))
 written c s o q p r l a h met = record { op = refl; undecided = λ u. absurd (by s o h u); page = λ e. met }
   where
     by : (s : Stage) (o : Op) → is_written s ≡ true → is_past_decision (stage_behind s (steps_of o)) ≡ false → ⊥
-    by Stage.Write (Op.Clear d) h u = cc
-    by Stage.Write _ h u = cc
-    by Stage.Cas (Op.Clear d) h u = cc
-    by Stage.Cas _ h u = cc
-    by _ o h u = cc
-
-getg_on : (c : Config) (o : Op) (q p r l found : ℕ) → Next c (flight Stage.Getg o q p r l)
-    (progress_getg (flight Stage.Getg o q p r l) found)
-getg_on c (Op.Clear d) q p r l found = record { op = refl; undecided = λ h. (cc, cc); page = λ h. cc }
-getg_on c _ q p r l found = record { op = refl; undecided = λ h. (cc, cc); page = λ h. cc }
-
-setg_on : (c : Config) (o : Op) (q p r l : ℕ) → Next c (flight Stage.Setg o q p r l)
-    (onward (flight Stage.Setg o q p r l) (Some Answer.Done))
-setg_on c (Op.Clear d) q p r l = record { op = refl; undecided = λ h. (cc, cc); page = λ h. cc }
-setg_on c _ q p r l = record { op = refl; undecided = λ h. (cc, cc); page = λ h. cc }
-
-dirty_on : (c : Config) (o : Op) (q p r l : ℕ) → Next c (flight Stage.Dirty o q p r l)
-    (onward (flight Stage.Dirty o q p r l) None)
-dirty_on c (Op.Clear d) q p r l = record { op = refl; undecided = λ h. (cc, cc); page = λ h. cc }
-dirty_on c _ q p r l = record { op = refl; undecided = λ h. (cc, cc); page = λ h. cc }
+    by x0 o h u = grind arith
 
 -- the call at this stage
 at_stage : (f : Flight) (s : Stage) → f.stage ≡ s → f ≡ flight s f.op f.q f.p f.r f.loaded
@@ -134,20 +88,20 @@ probe_next c f header e =
     Answer.Fault) (probe_on c f.op f.q f.p f.r f.loaded))
 
 pub read_next : (c : Config) (f : Flight) (found : ℕ) → f.stage ≡ Stage.Read → Next c f (progress_read f f.op found)
-read_next c f found e = rw (at_stage f Stage.Read e) (read_on c f.op f.q f.p f.r f.loaded found)
+read_next c f found e = grind (arith, at_stage)
 
 pub write_next : (c : Config) (f : Flight) (a : Answer) → is_written f.stage ≡ true → is_word_met c f ≡ true
     → Next c f (onward f (Some a))
 write_next c f a h met = written c f.stage f.op f.q f.p f.r f.loaded a h met
 
 pub getg_next : (c : Config) (f : Flight) (found : ℕ) → f.stage ≡ Stage.Getg → Next c f (progress_getg f found)
-getg_next c f found e = rw (at_stage f Stage.Getg e) (getg_on c f.op f.q f.p f.r f.loaded found)
+getg_next c f found e = grind (arith, at_stage)
 
 pub setg_next : (c : Config) (f : Flight) → f.stage ≡ Stage.Setg → Next c f (onward f (Some Answer.Done))
-setg_next c f e = rw (at_stage f Stage.Setg e) (setg_on c f.op f.q f.p f.r f.loaded)
+setg_next c f e = grind (arith, at_stage)
 
 pub dirty_next : (c : Config) (f : Flight) → f.stage ≡ Stage.Dirty → Next c f (onward f None)
-dirty_next c f e = rw (at_stage f Stage.Dirty e) (dirty_on c f.op f.q f.p f.r f.loaded)
+dirty_next c f e = grind (arith, at_stage)
 
 -- the last step
 pub leaves : {p : PassState} {q : PassState} → IsUnderway p

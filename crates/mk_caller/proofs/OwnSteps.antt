@@ -1,6 +1,6 @@
 -- The own steps of a list in parts: events of others have none of them. Its own calls are those of mk_laws.
-pub use Rattle.mk_laws.proofs.CallsBy.{by_append, calls_by, others_add_none, own_entry}
-use Rattle.std.proofs.{Common.filter, lemmas.List.Elements.filter-append}
+pub use Rattle.mk_laws.proofs.FramesLongerLists.{by_append, calls_by, others_add_none, own_entry}
+use Rattle.std.proofs.{Common.{arith, filter}, lemmas.List.Elements.filter-append}
 use Rattle.mk_laws.proofs.Vocabulary.{Answer, Bool, Caller, Config, Decided, Event, Host, List, Marker, None, Op}
 use Rattle.mk_laws.proofs.Vocabulary.{Option, Seat, Some, Step, World, ℕ, answer_decided, ap, append-nil, call_decided}
 use Rattle.mk_laws.proofs.Vocabulary.{calls, cond, entry_of, eq-eqb, false, flight_of, found, if◌then◌else◌, is_one_of}

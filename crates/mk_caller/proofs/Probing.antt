@@ -5,8 +5,8 @@ use Rattle.mk_laws.proofs.Vocabulary.{Value, WordOf, World, ℕ, ap, bases_of, c
 use Rattle.mk_laws.proofs.Vocabulary.{header_in, header_of, i_of, if◌then◌else◌, image_scene_of, is_unmapped_header}
 use Rattle.mk_laws.proofs.Vocabulary.{left, never_behind, page_met, q_of, refl, register_at, subst, sym, target_of}
 use Rattle.mk_laws.proofs.Vocabulary.{true, [], ◌*◌, ◌++◌, ◌+◌, ◌<◌, ◌∙◌, ◌∷◌, ◌≡◌, ◌≢◌}
-use Rattle.mk_laws.proofs.{OtherCalls.{never_continues, registers_are_left}, AdmittedStill.meets_register}
-use Rattle.mk_laws.proofs.{LastEvents.{Stands, stands}, OrderlyLists.not_astray, ProbesStill.{pages_tell, ready}}
+use Rattle.mk_laws.proofs.{FramesLongerLists.meets_register, LastEvents.{Stands, stands}, OrderlyLists.not_astray}
+use Rattle.mk_laws.proofs.{OtherCalls.{never_continues, registers_are_left}, ProbesStill.{pages_tell, ready}}
 use Rattle.mk_laws.proofs.{Reached.{mapped_met, unmapped_target}, Stages.{calls_stand, is_call_stage}}
 use Rattle.mk_laws.{proofs.Standings.{InCall, standing}, specs.Images.{has_q, has_some_q}}
 use Rattle.mk_caller.proofs.{Enabling.met_is_small, OneStep.own_seat, WordsMet.access_meets}
@@ -125,16 +125,12 @@ module _ (p : PassState) (q : PassState) (n : ℕ) (u : IsUnderway p) (finds : F
       (access_meets (never_of p) (caller_of_pass p) o through
       (u.admits (ap (λ (s : Stage). Rattle.mk_caller.specs.Moves.is_past_decision s) at)).access)
 
-  finds_header : is_unmapped_header (header_of n) ≡ is_unmapped_header
-      (header_in (left p.table.config es).now.words (page_met (flight_of (left p.table.config es).now p.seat)))
-  finds_header = ap (λ x. is_unmapped_header (header_of x)) finds.finds
-
   gets : (b : Bool) → is_unmapped_header (header_of n) ≡ b
       → GetsTo b (never_behind p.table.config es) (value_of p (q_of o)) (i_of o)
   gets b is =
       subst (λ (x : Value). GetsTo b (never_behind p.table.config es) x (i_of o)) (keeps (q_of o) small)
       (rw same at (gets_to_for p.seat u.caller u.seat d.history u.exists (ap (λ (f : Flight). f.stage) same ∙ at)
-      (rw same meets) b (sym finds_header ∙ is)))
+      (rw same meets) b (sym (ap (λ x. is_unmapped_header (header_of x)) finds.finds) ∙ is)))
 
   seen : q.seen ≡ p.seen ++ finds.makes.others ++ event_of p Step.Probe ∷ []
   seen = ap (λ (r : PassState). r.seen) finds.makes.is

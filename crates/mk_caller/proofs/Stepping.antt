@@ -1,5 +1,5 @@
 -- Each step of a call, from what is known of a call on its way: it may be made, and the call goes on.
-use Rattle.mk_laws.proofs.Vocabulary.{Answer, Bool, Group, None, Null, Op, Stage, Step, ℕ, and_parts, arith, comes_next}
+use Rattle.mk_laws.proofs.Vocabulary.{Answer, Bool, Group, None, Null, Stage, Step, ℕ, and_parts, arith, comes_next}
 use Rattle.mk_laws.proofs.Vocabulary.{false, group_of, header_of, i_of, if◌then◌else◌, is_in_range, is_put}
 use Rattle.mk_laws.proofs.Vocabulary.{is_unmapped_header, leb-true, ltb-true, onward, refl, refused, register_met, true}
 use Rattle.mk_laws.proofs.Vocabulary.{word_met, ◌*◌, ◌+◌, ◌-◌, ◌/◌, ◌<◌, ◌^◌, ◌↔◌, ◌≡◌, ◌≤◌}
@@ -10,17 +10,8 @@ use Rattle.mk_caller.{proofs.WordsMet.{null_tells, word_is_met}, specs.States.{v
 use Rattle.mk_caller.specs.Moves.{CallMoves, IsUnderway, is_access, is_past_decision, loads_register, stores_register}
 use Rattle.mk_words.specs.{States.{PassState, call_of}, CallSteps.register_of, Steps.{IsAdmittedTo, IsEnabledTo}}
 
-load_comes : (s : Stage) (o : Op) → loads_register s ≡ true → comes_next s o Step.Reg ≡ true
-load_comes Stage.LoadQ o h = refl
-load_comes Stage.LoadP o h = refl
-load_comes Stage.LoadR o h = refl
-load_comes _ o h = cc
-
 load_undecided : (s : Stage) → loads_register s ≡ true → (is_past_decision s ≡ false) × (is_put s ≡ false)
-load_undecided Stage.LoadQ h = (refl, refl)
-load_undecided Stage.LoadP h = (refl, refl)
-load_undecided Stage.LoadR h = (refl, refl)
-load_undecided _ h = cc
+load_undecided x0 h = grind arith
 
 -- the step by which a call accesses its word, at the stage of that
 abbrev pub accesses_at : Stage → Step → Bool
@@ -39,7 +30,7 @@ module _ {p : PassState} (u : IsUnderway p) where
   admitted_step s undecided on = admitted p s u.pass.history on u.entered (u.admits undecided)
 
   pub may_load : loads_register (call_of p).stage ≡ true → IsAdmittedTo p Step.Reg
-  may_load is = grind (arith, admitted_step, load_undecided, enabled_step, load_comes)
+  may_load is = grind (arith, admitted_step, load_undecided, enabled_step)
 
   pub may_store : stores_register (call_of p).stage ≡ true → IsAdmittedTo p Step.Reg
   may_store is = grind (arith, admitted_step, enabled_step, idly_admitted, put_decides_nothing)
@@ -110,8 +101,4 @@ pub moved_within : {p : PassState} (u : IsUnderway p) {value offset : ℕ} → (
 moved_within u {value} {offset} at access has some v i =
     let m = met u Stage.Store at access refl has some in
     let b = met_bounds u value offset v i m in
-    let pages = u.pass.history.within_limits.pages.1 in
-    let low = b.0 in
-    let word = b.1 in
-    let is = b.2 in
     omega arith

@@ -1,14 +1,14 @@
 -- What the words that a call loads show of its registers' values, and the heap word that it accesses.
-use Rattle.mk_laws.proofs.Vocabulary.{AccessIsAdmitted, Caller, CarriesOwn, Config, Event, Flight, IsHistory, IsNumber}
-use Rattle.mk_laws.proofs.Vocabulary.{IsPointer, IsSafe, IsSound, Kind, List, Meets, NeverState, Null, Num, Op, Ptr}
-use Rattle.mk_laws.proofs.Vocabulary.{Value, World, ℕ, and_from, ap, arith, bases_of, false, flight_of}
-use Rattle.mk_laws.proofs.Vocabulary.{histories_keep_lengths, i_of, image_of, is_put, le-leb, left, lt-ltb}
-use Rattle.mk_laws.proofs.Vocabulary.{never_behind, q_of, register_at, register_word, sym, true, ◌%◌, ◌*◌, ◌+◌, ◌/◌}
-use Rattle.mk_laws.proofs.{Vocabulary.{◌<◌, ◌↔◌, ◌∙◌, ◌≡◌}, ImagesKept.base_at, LastEvents.stands, Pairs.shows_plain}
-use Rattle.mk_laws.{proofs.{ProbesStill.ready, Ready.image_zero}, specs.Images.{has_q, has_some_q}}
+use Rattle.mk_laws.proofs.Vocabulary.{AccessIsAdmitted, Caller, CarriesOwn, Config, Event, Flight, IsHistory, IsSafe}
+use Rattle.mk_laws.proofs.Vocabulary.{IsSound, Kind, List, Meets, NeverState, Null, Num, Op, Ptr, Value, World, ℕ}
+use Rattle.mk_laws.proofs.Vocabulary.{and_from, ap, arith, bases_of, false, flight_of, histories_keep_lengths, i_of}
+use Rattle.mk_laws.proofs.Vocabulary.{image_of, is_put, le-leb, left, lt-ltb, never_behind, q_of, register_at}
+use Rattle.mk_laws.proofs.Vocabulary.{register_word, sym, true, ◌%◌, ◌*◌, ◌+◌, ◌/◌, ◌<◌, ◌↔◌, ◌∙◌, ◌≡◌}
 use Rattle.mk_core.specs.Ranges.{is_word_met}
-use Rattle.mk_caller.specs.{Moves.is_access, States.{Admits, value_of}}
-use Rattle.mk_words.specs.{CallSteps.register_of, States.{PassState, call_of}}
+use Rattle.mk_laws.{proofs.ImagesKept.base_at, proofs.LastEvents.stands, proofs.Pairs.shows_plain}
+use Rattle.mk_laws.{proofs.ProbesStill.ready, proofs.Ready.image_zero, specs.Images.has_q, specs.Images.has_some_q}
+use Rattle.mk_caller.specs.{Moves.is_access, States.Admits, States.value_of}
+use Rattle.mk_words.specs.{CallSteps.register_of, States.PassState, States.call_of}
 
 meets_some : (n : NeverState) (v : Value) (i : ℕ) (P : Kind → Type 0) → Meets n v i P → Meets n v i (λ kind. Unit {0})
 meets_some n Null i P h = tt
@@ -18,30 +18,16 @@ meets_some n (Ptr a t o) i P h = (h.0, tt)
 -- the access of an operation through q
 pub access_meets : (n : NeverState) (k : ℕ) (o : Op) → is_access o ≡ true → AccessIsAdmitted n k o
     → Meets n (register_at n k (q_of o)) (i_of o) (λ kind. Unit {0})
-access_meets n k (Op.GetNum q i) a h = meets_some n (register_at n k q) i IsNumber h
-access_meets n k (Op.SetNum q i m) a h = meets_some n (register_at n k q) i IsNumber h
-access_meets n k (Op.GetPtr d q i) a h = meets_some n (register_at n k q) i IsPointer h
-access_meets n k (Op.SetPtr q i p) a h = meets_some n (register_at n k q) i IsPointer h
-access_meets n k (Op.CasPtr q i p r) a h = meets_some n (register_at n k q) i IsPointer h
-access_meets n k (Op.Lea d q i) a h = h
-access_meets n k _ a h = cc
-
--- A register, where nothing is owed to it, is the image of its value.
-own_image : {c : Config} {es : List Event} (k r : ℕ) → IsHistory c es → r < 8
-    → is_put (flight_of (left c es).now (Caller k)).stage ≡ false → register_word (left c es).now.words k r
-    ≡ image_of (bases_of (left c es).allocations) (register_at (never_behind c es) k r)
-own_image {c} {es} k r h lt plain =
-    let m = (stands c es h).all.mirrors.images.registers (8 * k + r) in
-    let at : (8 * k + r) / 8 ≡ k = omega arith in
-    let in_it : (8 * k + r) % 8 ≡ r = omega arith in
-    let f : Flight = flight_of (left c es).now (Caller k) in
-    cc (shows_plain f r (register_word (left c es).now.words k r) plain, in_it, at, m)
+access_meets n k x2 a h = grind (arith, meets_some)
 
 null_for : {c : Config} {es : List Event} (k r : ℕ) → IsHistory c es → r < 8
     → is_put (flight_of (left c es).now (Caller k)).stage ≡ false
     → (register_word (left c es).now.words k r ≡ 0) ↔ (register_at (never_behind c es) k r ≡ Null)
 null_for {c} {es} k r h lt plain =
-    let is = own_image k r h lt plain in
+    let is : register_word (left c es).now.words k r ≡ image_of (bases_of (left c es).allocations) (register_at
+    (never_behind c es) k r) = let m = (stands c es h).all.mirrors.images.registers (8 * k + r) in let at : (8 * k
+    + r) / 8 ≡ k = omega arith in let in_it : (8 * k + r) % 8 ≡ r = omega arith in let f : Flight = flight_of (left
+    c es).now (Caller k) in cc (shows_plain f r (register_word (left c es).now.words k r) plain, in_it, at, m) in
     let bases = bases_of (left c es).allocations in (
       λ zero. image_zero (never_behind c es) bases (register_at (never_behind c es) k r)
           ((stands c es h).all.mirrors.typed.registers (8 * k + r)) (sym is ∙ zero),

@@ -1,8 +1,7 @@
 -- A caller's pass of a heap that nobody has used.
 use Rattle.std.proofs.lemmas.List.{length-replicate}
-use Rattle.mk_laws.proofs.Vocabulary.{Caller, Config, Null, Op, World, ap, arith, at_rest, first_world, flight_of}
-use Rattle.mk_laws.proofs.Vocabulary.{is_same, left, length, never_behind, refl, subst, sym, true, [], ◌*◌, ◌∙◌, ◌∷◌}
-use Rattle.mk_laws.proofs.{Vocabulary.{◌≡◌, ◌≤◌}, OrderlyLists.at_first}
+use Rattle.mk_laws.proofs.Vocabulary.{Caller, Config, Null, Op, arith, first_world, is_same, left, length, never_behind}
+use Rattle.mk_laws.proofs.{Vocabulary.{refl, subst, sym, true, [], ◌*◌, ◌∷◌, ◌≡◌, ◌≤◌}, OrderlyLists.at_first}
 use Rattle.mk_core.specs.History.{calls_from, left_from, never_first}
 use Rattle.mk_caller.specs.States.{Admits, IsIdleCaller, value_of}
 use Rattle.mk_words.specs.States.{PassState, WordsState}
@@ -19,29 +18,19 @@ none_called c = refl
 abbrev pub first_pass : WordsState → PassState
 first_pass w = record { table = w; seat = Caller 0; seats = Caller 0 ∷ []; seen = [] }
 
-idle_at_first : (w : WordsState) → IsIdleCaller (first_pass w)
-idle_at_first w = record {
-  caller = 0;
-  seat = refl;
-  rest = ap (λ (x : World). flight_of x.now (Caller 0)) (none_left w.config) ∙ at_first w.config.callers 0 at_rest;
-}
-
-admits_at_first : (w : WordsState) → 1 ≤ w.config.callers → Admits (first_pass w) (Op.IsNull 0)
-admits_at_first w some =
-    let count : length (never_behind w.config []).registers ≡ 8 * w.config.callers =
-    cc (none_called w.config, length-replicate (8 * w.config.callers) Null) in
-    record { of_a_caller = omega arith; in_range = omega arith; access = tt; store = tt }
-
 null_at_first : (w : WordsState) → value_of (first_pass w) 0 ≡ Null
 null_at_first w = cc (none_called w.config, at_first (8 * w.config.callers) 0 Null)
 
 -- The same for a pass that is this one.
 
 pub idle : (p : PassState) (w : WordsState) → p ≡ first_pass w → IsIdleCaller p
-idle p w is = subst (λ (x : PassState). IsIdleCaller x) (sym is) (idle_at_first w)
+idle p w is = grind (arith, none_left, at_first)
 
 pub admits : (p : PassState) (w : WordsState) → p ≡ first_pass w → 1 ≤ w.config.callers → Admits p (Op.IsNull 0)
-admits p w is some = subst (λ (x : PassState). Admits x (Op.IsNull 0)) (sym is) (admits_at_first w some)
+admits p w is some = subst (λ (x : PassState). Admits x (Op.IsNull 0)) (sym is) (
+    let count : length (never_behind w.config []).registers ≡ 8 * w.config.callers =
+    cc (none_called w.config, length-replicate (8 * w.config.callers) Null) in
+    record { of_a_caller = omega arith; in_range = omega arith; access = tt; store = tt })
 
 pub tells_null : (p : PassState) (w : WordsState) → p ≡ first_pass w → is_same (value_of p 0) Null ≡ true
 tells_null p w is = cc (null_at_first w)

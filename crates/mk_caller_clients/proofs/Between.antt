@@ -106,24 +106,22 @@ module _ {p0 p1 r1 p2 : PassState} {o1 o2 : Op} {a1 a2 : Answer} (first : Called
     own_passes : picked test (entry ∷ []) ≡ entry ∷ []
     own_passes = ap (λ (b : Bool). cond b (entry ∷ []) []) passes
 
-    parts : picked test (calls c es)
-        ≡ (picked test (calls c p0.seen) ++ picked test z) ++ (entry ∷ []) ++ picked test between ++ picked test y
-    parts =
-        ap (λ (l : List Event). picked test (calls c l)) whole
-        ∙ ap (λ (l : List Decided). picked test l) (calls_in_parts c (decided ++ others) tail)
-        ∙ pick_append test (calls c (decided ++ others)) y
-        ∙ ap (λ (l : List Decided). picked test l ++ picked test y) (calls_in_parts c decided others)
-        ∙ ap (λ (l : List Decided). l ++ picked test y) (pick_append test (calls c decided) between)
-        ∙ ap (λ (l : List Decided). picked test l ++ picked test between ++ picked test y) calls_there
-        ∙ ap (λ (l : List Decided). l ++ picked test between ++ picked test y)
-        (pick_append test (calls c before) (entry ∷ []))
-        ∙ ap (λ (l : List Decided). l ++ picked test (entry ∷ []) ++ picked test between ++ picked test y)
-        (ap (λ (l : List Decided). picked test l) (calls_in_parts c p0.seen first.decided.before)
-        ∙ pick_append test (calls c p0.seen) z)
-        ∙ ap (λ (l : List Decided). (picked test (calls c p0.seen) ++ picked test z) ++ l ++ picked test between ++
-        picked test y) own_passes
-
     -- Where the first call is the only one that passes the test since it began, none in between does.
     pub none_between : picked test (calls c es) ≡ picked test (calls c p0.seen) ++ entry ∷ [] → picked test between ≡ []
-    none_between only = none_left (picked test (calls c p0.seen)) (picked test z) (picked test between)
-        (picked test y) entry (sym parts ∙ only)
+    none_between only =
+        grind (
+          arith,
+          none_left,
+          picked,
+          between,
+          entry,
+          whole,
+          calls_in_parts,
+          decided,
+          others,
+          tail,
+          pick_append,
+          calls_there,
+          before,
+          own_passes,
+        )

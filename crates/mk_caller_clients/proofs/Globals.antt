@@ -1,9 +1,9 @@
 -- A global stays as it is set, up to the next call that sets it.
 use Rattle.std.proofs.Common.{filter}
 use Rattle.mk_laws.proofs.Vocabulary.{Bool, Decided, List, NeverState, Null, Num, Op, Ptr, Unmapped, Value, WordOf, ℕ}
-use Rattle.mk_laws.proofs.Vocabulary.{after_calls, after_free, asked, cond, eq-eqb, false, get_or-set_other}
-use Rattle.mk_laws.proofs.Vocabulary.{get_or-set_same, global_at, if◌then◌else◌, is_same, length, refl, register_at}
-use Rattle.mk_laws.proofs.Vocabulary.{sym, target_of, true, with_register, with_word, word_at, [], ◌<◌, ◌∙◌, ◌∷◌, ◌≡◌}
+use Rattle.mk_laws.proofs.Vocabulary.{after_calls, after_free, arith, asked, cond, eq-eqb, false, get_or-set_other}
+use Rattle.mk_laws.proofs.Vocabulary.{get_or-set_same, global_at, if◌then◌else◌, length, refl, register_at, sym, true}
+use Rattle.mk_laws.proofs.Vocabulary.{with_register, with_word, word_at, [], ◌<◌, ◌∙◌, ◌∷◌, ◌≡◌}
 use Rattle.mk_never.specs.NeverHeap.{after_op, left_at}
 use Rattle.mk_never.specs.{declared.values.Target.Target, declared.values.Target.TheVariants.Nothing}
 use Rattle.mk_caller_clients.specs.Setters.{is_set_of}
@@ -23,11 +23,6 @@ left_keeps n m g Nothing f x y = x
 left_keeps n m g Unmapped f x y = x
 left_keeps n m g (WordOf a w) f x y = y a w
 
-either_keeps : (n m : NeverState) (g : ℕ) (b : Bool) → global_at m g ≡ global_at n g
-    → global_at (if b then m else n) g ≡ global_at n g
-either_keeps n m g true x = x
-either_keeps n m g false x = refl
-
 new_keeps : (n m : NeverState) (g : ℕ) (full : Bool) → global_at m g ≡ global_at n g
     → global_at (if full then n else m) g ≡ global_at n g
 new_keeps n m g true x = refl
@@ -41,10 +36,7 @@ op_keeps n k (Op.GetNum q i) g h = refl
 op_keeps n k (Op.SetNum q i m) g h = left_keeps n n g _ (λ a w. with_word n a w (Num m)) refl (λ a w. refl)
 op_keeps n k (Op.GetPtr d q i) g h = left_keeps n _ g _ (λ a w. with_register n k d (word_at n a w)) refl (λ a w. refl)
 op_keeps n k (Op.SetPtr q i p) g h = left_keeps n n g _ (λ a w. with_word n a w (register_at n k p)) refl (λ a w. refl)
-op_keeps n k (Op.CasPtr q i p r) g h =
-    left_keeps n n g (target_of n (register_at n k q) i)
-    (λ a w. if is_same (word_at n a w) (register_at n k p) then with_word n a w (register_at n k r) else n) refl
-    (λ a w. either_keeps n (with_word n a w (register_at n k r)) g (is_same (word_at n a w) (register_at n k p)) refl)
+op_keeps n k (Op.CasPtr q i p r) g h = grind (arith, left_keeps)
 op_keeps n k (Op.SetGlobal x p) g h =
     get_or-set_other n.globals x g (register_at n k p) Null
     (λ e. (let t : true ≡ false = sym (eq-eqb x g (sym e)) ∙ h in cc))

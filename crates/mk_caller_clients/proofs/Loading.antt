@@ -1,10 +1,11 @@
 -- What is loaded after a store.
 use Rattle.mk_laws.proofs.Vocabulary.{Answer, AreAdmitted, Bool, Config, Decided, Event, IsHistory, IsNumber}
 use Rattle.mk_laws.proofs.Vocabulary.{KeepsRegisters, List, Meets, NeverState, Null, Num, Op, Ptr, Unmapped, Value}
-use Rattle.mk_laws.proofs.Vocabulary.{WordOf, ℕ, after_calls, allocation_at, answer_of, ap, append-nil, append_assoc}
-use Rattle.mk_laws.proofs.Vocabulary.{asked, bases_of, cond, earlier_part_is_history, false, if◌then◌else◌, is_unmapped}
-use Rattle.mk_laws.proofs.Vocabulary.{target_of, true, word_at, [], ◌++◌, ◌+◌, ◌<◌, ◌∙◌, ◌∷◌, ◌≡◌}
-use Rattle.mk_laws.proofs.{LastEvents.{comes_last, stands}, AdmittedStill.meets_register, OtherCalls.never_continues}
+use Rattle.mk_laws.proofs.Vocabulary.{WordOf, ℕ, after_calls, answer_of, ap, append-nil, append_assoc, arith, asked}
+use Rattle.mk_laws.proofs.Vocabulary.{bases_of, cond, earlier_part_is_history, false, left, never_behind, refl}
+use Rattle.mk_laws.proofs.Vocabulary.{register_at, subst, sym, target_of, true, [], ◌++◌, ◌+◌, ◌<◌, ◌∙◌, ◌∷◌, ◌≡◌}
+use Rattle.mk_laws.proofs.{LastEvents.{comes_last, stands}, FramesLongerLists.meets_register}
+use Rattle.mk_laws.proofs.OtherCalls.{never_continues}
 use Rattle.mk_never.proofs.Stores.{load_gives_stored, store_is_inside}
 use Rattle.mk_never.specs.{NeverHeap.{after_op, reply_at, reply_of}, Laws.{NoneStoresTo, StoresTo}}
 use Rattle.mk_never.specs.{declared.operations.Reply.Reply, declared.values.Target.Target}
@@ -14,14 +15,10 @@ use Rattle.mk_caller.specs.{Called.Called, States.{Admits, caller_of_pass, never
 use Rattle.mk_caller_clients.proofs.Between.{at_once, before, between, never_later, never_there, none_between, picked}
 use Rattle.mk_caller_clients.{proofs.Between.{place, same_config, same_number}, specs.Setters.{IsOnlyStore, is_store}}
 use Rattle.mk_words.specs.States.{PassState}
-use Rattle.mk_laws.proofs.Vocabulary.{left, never_behind, number_of as number_in, refl, register_at, subst, sym}
 
 -- Calls that don't store store to no word.
 stores_nothing : (n : NeverState) (k : ℕ) (o : Op) (number at : ℕ) → is_store o ≡ false → StoresTo n k o number at → ⊥
-stores_nothing n k (Op.SetNum q i x) number at h s = cc
-stores_nothing n k (Op.SetPtr q i p) number at h s = cc
-stores_nothing n k (Op.CasPtr q i p r) number at h s = cc
-stores_nothing n k _ number at h s = s
+stores_nothing n k x2 number at h s = grind arith
 
 unpicked : (test : Op → Bool) (x : Decided) (xs : List Decided) → picked test (x ∷ xs) ≡ []
     → (test x.op ≡ false) × (picked test xs ≡ [])
@@ -51,19 +48,8 @@ done_gets bases n v i (WordOf a w) is e = record { number = a; at = w; is = is }
 done_gets bases n v i Nothing is e = cc
 done_gets bases n v i Unmapped is e = cc
 
-number_gets : (bases : List ℕ) (n : NeverState) (v : Value) (i r : ℕ) (f : ℕ → ℕ → ℕ) (t : Target) → target_of n v i ≡ t
-    → Answer.Num r ≡ answer_of bases (reply_at t (λ a w. Reply.Num (f a w))) → Word n v i
-number_gets bases n v i r f (WordOf a w) is e = record { number = a; at = w; is = is }
-number_gets bases n v i r f Nothing is e = cc
-number_gets bases n v i r f Unmapped is e = cc
-
 pointer_word : (n : NeverState) (a t o i : ℕ) → Word n (Ptr a t o) i → target_of n (Ptr a t o) i ≡ WordOf a (o + i)
-pointer_word n a t o i x = by (is_unmapped (allocation_at n a)) refl x.is
-  where
-    by : (b : Bool) → is_unmapped (allocation_at n a) ≡ b → (if b then Unmapped else WordOf a (o + i))
-        ≡ WordOf x.number x.at → (if b then Unmapped else WordOf a (o + i)) ≡ WordOf a (o + i)
-    by false is e = refl
-    by true is e = cc
+pointer_word n a t o i x = grind (arith, Unmapped)
 
 -- It is the same word after other calls.
 same_word : (n m : NeverState) (v : Value) (i : ℕ) (x : Word n v i) → Word m v i
@@ -109,12 +95,9 @@ module _ {p0 p1 p2 : PassState} (x i n loaded : ℕ) (lt : x < 8) (h : IsHistory
   -- the register, at both places
   register : register_at n2 k x ≡ register_at n1 k x
   register =
-      ap (λ (m : NeverState). register_at m k x) (sym there)
-      ∙ ap (λ j. register_at (never_behind p1.table.config (p1.seen ++ get.decided.before)) j x)
-      (sym (same_number set (at_once p1) get))
-      ∙ get.decided.known x lt
-      ∙ calls_leave_other_registers p0 (Op.SetNum x i n) Answer.Done p1 x set lt (λ e. cc)
-      ∙ sym (set.decided.known x lt)
+      ap (λ (m : NeverState). register_at m k x) (sym there) ∙ ap (λ j. register_at (never_behind p1.table.config
+      (p1.seen ++ get.decided.before)) j x) (sym (same_number set (at_once p1) get)) ∙ get.decided.known x lt
+      ∙ calls_leave_other_registers p0 _ Answer.Done p1 x set lt (λ e. cc) ∙ sym (set.decided.known x lt)
 
   stored_to : Word n1 (register_at n1 k x) i
   stored_to = done_gets _ n1 (register_at n1 k x) i (target_of n1 (register_at n1 k x) i) refl set.decided.reply
@@ -124,7 +107,7 @@ module _ {p0 p1 p2 : PassState} (x i n loaded : ℕ) (lt : x < 8) (h : IsHistory
   answered = cc (get.decided.reply, there, same_number set (at_once p1) get)
 
   loaded_from : Word n2 (register_at n2 k x) i
-  loaded_from = number_gets _ n2 _ i loaded (λ a w. number_in (word_at n2 a w)) _ refl answered
+  loaded_from = grind (arith, n2, answered)
 
   reaches : target_of n2 (register_at n2 k x) i ≡ WordOf stored_to.number stored_to.at
   reaches =

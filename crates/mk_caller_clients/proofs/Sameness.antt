@@ -1,13 +1,13 @@
 -- What the registers of the clients hold after their calls.
 use Rattle.std.proofs.Common.{Err, IfOk, Ok, Result}
-use Rattle.mk_laws.proofs.Vocabulary.{Answer, Bool, Config, Event, List, NeverState, Op, ℕ, ap, cases_eq, eq-eqb}
-use Rattle.mk_laws.proofs.Vocabulary.{global_at, inl, inr, is_same, length, never_behind, one_if, refl, subst, sym}
-use Rattle.mk_laws.proofs.{Vocabulary.{true, ◌++◌, ◌<◌, ◌∙◌, ◌≡◌, ◌≢◌}, OtherCalls.never_continues}
+use Rattle.mk_laws.proofs.Vocabulary.{Answer, Bool, Config, Event, List, NeverState, Op, ℕ, ap, arith, cases_eq, eq-eqb}
+use Rattle.mk_laws.proofs.Vocabulary.{global_at, inl, inr, is_same, never_behind, one_if, refl, subst, sym, true, ◌++◌}
+use Rattle.mk_laws.proofs.{Vocabulary.{◌<◌, ◌∙◌, ◌≡◌, ◌≢◌}, OtherCalls.never_continues}
 use Rattle.mk_never.{proofs.Sameness.{same_from_equal}, specs.Admitted.{IsCaller}}
 use Rattle.mk_caller.proofs.After.{caller_there, calls_leave_other_registers, set_same, still_caller, value_left}
 use Rattle.mk_caller.specs.{States.{Admits, caller_of_pass, never_of, value_of}, Called.{Called, IsAnswered}}
 use Rattle.mk_caller_clients.proofs.Between.{at_once, before, between, decided, never_later, never_there, none_between}
-use Rattle.mk_caller_clients.proofs.{Between.{others, place, same_config}, Globals.{calls_keep, set_gives}}
+use Rattle.mk_caller_clients.proofs.{Between.{place, same_config}, Globals.{calls_keep, set_gives}}
 use Rattle.mk_caller_clients.specs.Setters.{HasSeenAllOf, IsOnlySetter, TakesOut, is_set_of}
 use Rattle.mk_words.specs.{States.PassState, declared.call_steps.Held.Held}
 
@@ -41,10 +41,7 @@ may_compare x y is lx ly c = record { of_a_caller = still_caller c is; in_range 
 
 pub may_get : {p q : PassState} (d g r : ℕ) → Admits p (Op.SetGlobal g r) → d < 8
     → Called p (Op.SetGlobal g r) Answer.Done q → Admits q (Op.GetGlobal d g)
-may_get {p} {q} d g r ad lt c =
-    let on = never_continues p.table.config p.seen c.more in
-    let there : g < length (never_of q).globals = rw c.is (subst (λ count. g < count) (sym on.globals) ad.in_range.0) in
-    record { of_a_caller = still_caller c ad.of_a_caller; in_range = (lt, there); access = tt; store = tt }
+may_get d g r ad lt c = grind (arith, never_continues, still_caller)
 
 module _ {p0 p1 r1 p2 p3 : PassState} (d g r : ℕ) (word : ℕ) (a : Answer) (o : Op) (ad : Admits p0 (Op.SetGlobal g r))
     (may : Admits r1 (Op.GetGlobal d g)) (set : Called p0 (Op.SetGlobal g r) Answer.Done p1) (later : HasSeenAllOf p1
@@ -55,18 +52,6 @@ module _ {p0 p1 r1 p2 p3 : PassState} (d g r : ℕ) (word : ℕ) (a : Answer) (o
   abbrev n1 : NeverState
   n1 = never_behind c (before set later get)
 
-  global_there : IsOnlySetter p0 g r p3 → global_at (never_behind c (decided set later get ++ others set later get)) g
-      ≡ value_of p0 r
-  global_there only =
-      ap (λ (n : NeverState). global_at n g) (never_later set later get)
-      ∙ calls_keep (never_behind c (decided set later get)) g (between set later get)
-      (none_between set later get (is_set_of g) p3.seen last.more (ap (λ (x : PassState). x.seen) last.is)
-      (eq-eqb g g refl) only)
-      ∙ ap (λ (n : NeverState). global_at n g) (never_there set later get)
-      ∙ set_gives n1 (caller_of_pass p0) g r
-      (subst (λ count. g < count) (sym (never_continues c p0.seen set.decided.before).globals) ad.in_range.0)
-      ∙ set.decided.known r ad.in_range.1
-
   -- The register that is loaded holds what the other one held.
   pub got : IsOnlySetter p0 g r p3 → value_of p2 d ≡ value_of p0 r
   got only =
@@ -75,7 +60,14 @@ module _ {p0 p1 r1 p2 p3 : PassState} (d g r : ℕ) (word : ℕ) (a : Answer) (o
       (caller_there get may.of_a_caller) may.in_range.0
       ∙ ap (λ (k : Config). global_at (never_behind k (r1.seen ++ get.decided.before)) g) (same_config set later get)
       ∙ ap (λ (l : List Event). global_at (never_behind c l) g) (place set later get)
-      ∙ global_there only
+      ∙ (ap (λ (n : NeverState). global_at n g) (never_later set later get)
+      ∙ calls_keep (never_behind c (decided set later get)) g (between set later get)
+      (none_between set later get (is_set_of g) p3.seen last.more (ap (λ (x : PassState). x.seen) last.is)
+      (eq-eqb g g refl) only)
+      ∙ ap (λ (n : NeverState). global_at n g) (never_there set later get)
+      ∙ set_gives n1 (caller_of_pass p0) g r
+      (subst (λ count. g < count) (sym (never_continues c p0.seen set.decided.before).globals) ad.in_range.0)
+      ∙ set.decided.known r ad.in_range.1)
 
   -- Another register stays as it is while the global is loaded.
   pub kept : (x : ℕ) → x < 8 → d ≢ x → value_of p2 x ≡ value_of r1 x

@@ -7,11 +7,10 @@ use Rattle.mk_laws.proofs.Vocabulary.{no_longer_fresh, not, refl, slice_index, s
 use Rattle.mk_laws.proofs.Vocabulary.{[], ◌%◌, ◌&&◌, ◌+◌, ◌/◌, ◌<◌, ◌==◌, ◌^◌, ◌∙◌, ◌∷◌, ◌≡◌, ◌≤◌}
 use Rattle.mk_cycle.proofs.Vocabulary.{Acts, Cleans, CountsAreLeft, InTurn, IsAtPhase, IsClean, IsEnabledTo}
 use Rattle.mk_cycle.proofs.Vocabulary.{IsFreeForCycle, IsGone, IsTurnAt, KeepsGates, PassState, WasUndirty, WordsState}
-use Rattle.mk_cycle.proofs.Vocabulary.{call_of, count_by-le-length, done_of, held_by_allocations, made, now_of}
-use Rattle.mk_cycle.{proofs.Vocabulary.{releases, stands, steady_of, world_at, world_of}, proofs.MayAct.{may_act}}
-use Rattle.mk_cycle.proofs.{KeptInParts.{gates_behind, gates_then, same_config}, OwnSteps.{done_in, keeps_counts}}
-use Rattle.mk_cycle.proofs.{OwnSteps.{same_call, same_pass, still_gone}, Allowed.{in_turn_after, protocol}}
-use Rattle.mk_geom.specs.StorageWords.{held_by_storages}
+use Rattle.mk_cycle.proofs.Vocabulary.{call_of, count_by-le-length, done_of, made, now_of, stands, steady_of, world_at}
+use Rattle.mk_cycle.proofs.{Vocabulary.world_of, KeptInParts.{gates_behind, gates_then, same_config}}
+use Rattle.mk_cycle.proofs.OwnSteps.{done_in, keeps_counts, same_call, same_pass, still_gone}
+use Rattle.mk_cycle.proofs.{Allowed.{in_turn_after, protocol}, MayAct.may_act}
 use Rattle.mk_books.proofs.PlaceLemmas.{count_by-map}
 use Rattle.mk_core.specs.{Allocations.unreleased_storage, Counts.TalliesAreExact, Moments.none_is_held}
 use Rattle.mk_core.specs.declared.seats.OwnCycle.TheVariants.{Begun}
@@ -64,10 +63,6 @@ stale_storage c [] = refl
 stale_storage c (a ∷ xs) =
     ap (λ (ys : List Storage). if a.released then ys else storage_of c a ∷ ys) (stale_storage c xs)
 
-pub stale_held : (c : Config) (xs : List PlacedAllocation)
-    → held_by_allocations c (map no_longer_fresh xs) ≡ held_by_allocations c xs
-stale_held c xs = ap (λ (ys : List Storage). held_by_storages ys) (stale_storage c xs)
-
 never_both : (b : Bool) → (b && false) ≡ false
 never_both x0 = grind arith
 
@@ -76,20 +71,14 @@ none_fresh : (c : Config) (xs : List PlacedAllocation)
 none_fresh c [] = refl
 none_fresh c (a ∷ xs) = cc (never_both (is_mapped c a), none_fresh c xs)
 
-pub stale_releases : (xs : List PlacedAllocation) → releases (map no_longer_fresh xs) ≡ releases xs
-stale_releases xs = count_by-map (λ (a : PlacedAllocation). a.released) no_longer_fresh xs
-
 module _ {p q : PassState} (t : InTurn p) (free : IsFreeForCycle p) (none : IsAtPhase p 0) (u : InTurn q)
     (a : Acts p Step.Begin q) where
   abbrev w : World
   w = world_at a.makes
 
-  phase_there : (w.now.words.phase + 1) % 2 ^ 64 % 8 ≡ 1
-  phase_there = grind (arith, made, protocol, count_by-le-length, begun_phase)
-
   pub steady_begun : steady_of (world_of q) ≡ record (steady_of (world_of p))
       { phase = 1; fresh_words = 0; allocations = map no_longer_fresh (world_of p).allocations }
-  steady_begun = grind (arith, phase_there)
+  steady_begun = grind (arith, made, protocol, count_by-le-length, begun_phase)
 
   pub begun_call : call_of q ≡ call_of p
   begun_call = same_call p Step.Begin q a t.own t.holds u.history (λ n. refl)
@@ -119,7 +108,7 @@ snapshot_is {b} t clean =
 -- the allocations and tallies, from all that only the holder changes
 exact_from : (p q : PassState) → q ≡ record p { seen = q.seen } → steady_of (world_of q) ≡ with_cycle_begun
     (steady_of (world_of p)) → TalliesAreExact p.table.config p.seen → TalliesAreExact q.table.config q.seen
-exact_from p q is steady x = grind (arith, same_config, stale_held, none_fresh)
+exact_from p q is steady x = grind (arith, same_config, none_fresh, stale_storage)
 
 pub counts_then : (p q r : PassState) → q.table.config ≡ p.table.config → CountsAreLeft p.table.config p.seen q.seen
     → CountsAreLeft q.table.config q.seen r.seen → CountsAreLeft p.table.config p.seen r.seen
@@ -159,7 +148,7 @@ begins_cycle {p = p} {b = b} {d = d} {q = q} x undirty a law =
           (begun_gates t free none u a) law.gates);
       gone = law.keeps.call.gone (begun_gone t free none u a free.gone);
       exact = exact_from p q pass steady;
-      tidy = λ x. grind (arith, same_config, stale_releases);
+      tidy = λ x. grind (arith, same_config, count_by-map);
     }
 
 -- No gate is held where none was, by the same holder.

@@ -1,9 +1,9 @@
 -- What an engine does after each `begin`, in parts, by kinds of step, and at the `begin` itself.
 use Rattle.std.proofs.{Common.⊎_elim, lemmas.List.append_cancel_left, lemmas.List.Folds.list_all-append}
 use Rattle.mk_laws.proofs.Vocabulary.{At, Bool, Config, Event, List, Seat, Step, World, and_parts, ap, append-nil}
-use Rattle.mk_laws.proofs.Vocabulary.{append_assoc, arith, false, found, if◌then◌else◌, is_begin, left, left_from}
-use Rattle.mk_laws.proofs.Vocabulary.{list_any, not, not-true, or_from, refl, subst, sym, through, true, true≢false}
-use Rattle.mk_laws.proofs.Vocabulary.{world_behind, [], ◌&&◌, ◌++◌, ◌∙◌, ◌∷◌, ◌≡◌}
+use Rattle.mk_laws.proofs.Vocabulary.{append_assoc, arith, false, found, if◌then◌else◌, is_begin, left, list_any, not}
+use Rattle.mk_laws.proofs.Vocabulary.{not-true, or_from, refl, subst, sym, through, true, true≢false, world_behind, []}
+use Rattle.mk_laws.proofs.Vocabulary.{◌&&◌, ◌++◌, ◌∙◌, ◌∷◌, ◌≡◌}
 use Rattle.mk_cycle.proofs.Vocabulary.{Has, Makes, PassState, does_step, event_of, holds_gates, is_giving_back}
 use Rattle.mk_cycle.proofs.{Vocabulary.{only_seen_by, sets_tallies}, InParts.{InFirst, InSecond, in_parts}}
 use Rattle.mk_core.specs.{Cycles.is_give, Growing.{AreOfOthers, Finding, is_same_seat, own_from}}
@@ -21,22 +21,11 @@ begins_none kinds none x2 h = grind arith
 
 -- The own events of a list are of these kinds.
 
-first_kind : (kinds : Step → Bool) (b : Bool) (x : Finding) (rest : List Finding) → b ≡ true
-    → are_of kinds (if b then x ∷ rest else rest) ≡ true → kinds x.event.step ≡ true
-first_kind kinds x1 x rest h all = grind (arith, and_parts)
-
 own_kind : (kinds : Step → Bool) (c : Config) (s : Seat) (w : World) (before : List Event) (e : Event)
     (behind : List Event) → are_of kinds (own_from c s w (before ++ e ∷ behind)) ≡ true → is_same_seat s e.seat ≡ true
     → kinds e.step ≡ true
 unfolding own_from
-own_kind kinds c s w before e behind all same =
-    let rest : World = left_from c w before in
-    let last : are_of kinds (own_from c s rest (e ∷ behind)) ≡ true =
-    (and_parts (are_of kinds (own_from c s w before)) (are_of kinds (own_from c s rest (e ∷ behind))) (sym
-    (list_all-append (λ (x : Finding). kinds x.event.step) (own_from c s w before) (own_from c s rest (e ∷ behind)))
-    ∙ ap (λ (xs : List Finding). are_of kinds xs) (sym (own_in_parts c s w before (e ∷ behind))) ∙ all)).1 in
-    first_kind kinds (is_same_seat s e.seat) (record { event = e; found = found c rest.now e })
-    (own_from c s (world_behind c rest e) behind) same last
+own_kind kinds c s w before e behind all same = grind (arith, and_parts, list_all-append, own_in_parts)
 
 pub its_own : (s : Seat) (e : Event) → e.seat ≡ s → is_same_seat s e.seat ≡ true
 its_own s e is = subst (λ (t : Seat). is_same_seat s t ≡ true) (sym is) (same_self s)
@@ -177,13 +166,6 @@ module _ (begins : Config → Seat → List Event → List Event → Type 0) whe
           of_kind = b.of_kind;
         }) (is ∙ sym seat_is)
 
-    -- and the turn isn't given back.
-    no_give : list_any (λ (x : Event). is_same_seat p.seat x.seat && is_give x.step) part.more ≡ false
-    no_give =
-        subst (λ (l : List Event). list_any (λ (x : Event). is_same_seat p.seat x.seat && is_give x.step) l ≡ false)
-        same_more (subst (λ (s : Seat). list_any (λ (x : Event). is_same_seat s x.seat && is_give x.step) does.more
-        ≡ false) seat_is (kinds_give_none begins_marking _ _ _ does.more marking_gives_none does.of_kinds))
-
     done : begins c p.seat (p.seen ++ (m.others ++ e ∷ [])) part.more
     done =
         subst (λ (l : List Event). begins c p.seat l part.more) (append_assoc p.seen m.others (e ∷ []))
@@ -193,13 +175,7 @@ module _ (begins : Config → Seat → List Event → List Event → Type 0) whe
         → before ≡ m.others ++ rest
         → e ∷ part.more ≡ rest ++ x ∷ behind → IsBegunFirst begins c p.seat (p.seen ++ (before ++ x ∷ [])) behind
     here x before [] behind of_kind is first second =
-        let same : e ≡ x = cc in
-        let tail : part.more ≡ behind = cc in
-        subst (λ (l : List Event). IsBegunFirst begins c p.seat (p.seen ++ (before ++ x ∷ [])) l) tail
-        (subst (λ (y : Event). IsBegunFirst begins c p.seat (p.seen ++ (before ++ y ∷ [])) part.more) same
-        (subst (λ (l : List Event). IsBegunFirst begins c p.seat (p.seen ++ (l ++ e ∷ [])) part.more)
-        (sym (first ∙ append-nil m.others))
-        (record { first = part.more; rest = []; is = sym (append-nil part.more); part = done; in_turn = no_give })))
+        grind (arith, append-nil, done, same_more, seat_is, kinds_give_none, marking_gives_none)
     here x before (y ∷ ys) behind of_kind is first second =
         let tail : part.more ≡ ys ++ x ∷ behind = cc in
         absurd (no_more (record { before = ys; event = x; behind = behind; is = tail; of_kind = of_kind }) is)

@@ -1,11 +1,9 @@
 -- Steps of the turn's holder that go on with its call and with what it has done in its turn as they were.
-use Rattle.mk_laws.proofs.Vocabulary.{Bool, Cell, Config, Flight, Holding, Moment, None, Op, Option, Seat, Stage, Step}
-use Rattle.mk_laws.proofs.Vocabulary.{Word, Words, ℕ, ap, arith, cell_freed, false, if◌then◌else◌, is_end, is_free_at}
-use Rattle.mk_laws.proofs.Vocabulary.{is_heap_store, is_phase, not, pointed_cell, progress, sees_double, still, target}
-use Rattle.mk_laws.proofs.Vocabulary.{true, ◌&&◌, ◌≡◌}
-use Rattle.mk_cycle.proofs.Vocabulary.{holding_behind, is_pending_free}
+use Rattle.mk_laws.proofs.Vocabulary.{Bool, Cell, Config, Flight, Holding, Moment, None, Option, Seat, Step, Word}
+use Rattle.mk_laws.proofs.Vocabulary.{Words, ℕ, arith, cell_freed, false, if◌then◌else◌, is_end, is_heap_store}
+use Rattle.mk_laws.proofs.Vocabulary.{is_phase, not, progress, sees_double, still, target, true, ◌&&◌, ◌≡◌}
+use Rattle.mk_cycle.proofs.{Vocabulary.{holding_behind, is_pending_free}, OwnSteps.done_in}
 use Rattle.mk_core.specs.Effects.{progress_look}
-use Rattle.mk_cycle.{proofs.OwnSteps.done_in, specs.EngineLaw.is_pending_free_at}
 
 -- these kinds
 abbrev pub is_calm : Step → Bool
@@ -26,12 +24,8 @@ is_calm _ = false
 
 -- A call that isn't an undecided Free has no target.
 
-not_undecided : (o : Op) (x : Stage) → is_pending_free_at o x ≡ false → is_free_at x o ≡ false
-not_undecided o x h = grind arith
-
 pub no_target : (pages : ℕ) (w : Words) (f : Flight) → is_pending_free f ≡ false → target pages w f ≡ None
-no_target pages w f h = ap (λ (b : Bool). if b then pointed_cell pages w.pages f.p else None)
-    (not_undecided f.op f.stage h)
+no_target pages w f h = grind arith
 
 sees_none : (w : Words) (x : Word) → sees_double w None x ≡ false
 sees_none w x = grind arith

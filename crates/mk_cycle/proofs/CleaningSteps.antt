@@ -195,15 +195,12 @@ module _ {p q : PassState} {y : WordsState} (turn : IsTurnAt 0 y p) where
     pub has_snapshot : HasTakenSnapshot q page
     unfolding w
     has_snapshot =
-        let long = subst (λ (n : ℕ). page < n) (sym known.known.lengths.snapshot) lt in
         let long' = subst (λ (n : ℕ). page < n) (sym known.known.lengths.freed) lt in
         let little = subst (λ (n : ℕ). n < 2 ^ 32) same_freed small in
-        ap (λ (x : World). slice_index x.now.words.snapshot page) a.world
-        ∙ get_or-set_same w.now.words.snapshot page (v / 2 ^ 32) 0 long
-        ∙ ap (λ (n : ℕ). n / 2 ^ 32) is ∙ high_half _ little
-        ∙ sym (ap (λ (x : World). slice_index x.now.words.freed page) a.world
-        ∙ get_or-set_same w.now.words.freed page (v % 2 ^ 32) 0 long'
-        ∙ ap (λ (n : ℕ). n % 2 ^ 32) is ∙ low_half _ little)
+        ap (λ (x : World). slice_index x.now.words.snapshot page) a.world ∙ get_or-set_same w.now.words.snapshot page (v
+        / 2 ^ 32) 0 (subst (λ (n : ℕ). page < n) (sym known.known.lengths.snapshot) lt) ∙ ap (λ (n : ℕ). n / 2 ^ 32) is
+        ∙ high_half _ little ∙ sym (ap (λ (x : World). slice_index x.now.words.freed page) a.world ∙ get_or-set_same
+        w.now.words.freed page (v % 2 ^ 32) 0 long' ∙ ap (λ (n : ℕ). n % 2 ^ 32) is ∙ low_half _ little)
 
 pub clean_stays : {p q : PassState} {page : ℕ} → Cleans p q → IsClean p page → IsClean q page
 clean_stays k h = grind arith

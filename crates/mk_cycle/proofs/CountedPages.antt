@@ -1,6 +1,6 @@
 -- What was released is counted page by page.
 use Rattle.std.proofs.{Common.count_ones, lemmas.Nat.ones_le_self}
-use Rattle.mk_laws.proofs.Vocabulary.{Bool, Words, ℕ, ap, arith, header_at, header_in, header_of, if◌then◌else◌}
+use Rattle.mk_laws.proofs.Vocabulary.{Words, ℕ, ap, arith, header_at, header_in, header_of, if◌then◌else◌}
 use Rattle.mk_laws.proofs.Vocabulary.{is_unmapped_header, quarantine_word, refl, slice_index, suc, without, words_under}
 use Rattle.mk_laws.proofs.Vocabulary.{zero, ◌*◌, ◌+◌, ◌/◌, ◌^◌, ◌∙◌, ◌≡◌}
 use Rattle.mk_cycle.proofs.Vocabulary.{GivesNothingBack, InTurn, PassState, Released, SamePage, bit_and, held_below}
@@ -82,11 +82,8 @@ held_by_header w page header words is counted = grind arith
 pub none_held : (w : Words) (page : ℕ) → record { count = 0; words = 0; kept = 0 } ≡ released_on w page
     → 0 ≡ held_unmarked w page
 none_held w page none =
-    either (is_unmapped_header (header_in w page))
+    (grind arith)
     ∙ ap (λ (r : Released). if is_unmapped_header (header_in w page) then 0 else r.words) none
-  where
-    either : (b : Bool) → ◌≡◌ {A = ℕ} 0 (if b then 0 else 0)
-    either x0 = grind arith
 
 pub held_same : (p q : PassState) (page : ℕ) → (now_of q).words.marks ≡ (now_of p).words.marks → SamePage p q page
     → held_unmarked (now_of q).words page ≡ held_unmarked (now_of p).words page

@@ -1,7 +1,7 @@
 -- The `end` of a cycle.
 use Rattle.std.proofs.lemmas.List.Sums.{sum_by-append}
-use Rattle.mk_laws.proofs.Vocabulary.{Step, World, ℕ, ap, arith, ends, eq-eqb, refl, [], ◌%◌, ◌++◌, ◌+◌, ◌-◌, ◌/◌, ◌<◌}
-use Rattle.mk_laws.proofs.Vocabulary.{◌^◌, ◌∷◌, ◌≡◌, ◌≤◌}
+use Rattle.mk_laws.proofs.Vocabulary.{Step, World, ℕ, ap, arith, ends, eq-eqb, refl, [], ◌%◌, ◌++◌, ◌+◌, ◌-◌, ◌<◌, ◌^◌}
+use Rattle.mk_laws.proofs.Vocabulary.{◌∷◌, ◌≡◌}
 use Rattle.mk_cycle.proofs.Vocabulary.{Acts, InTurn, IsAtPhase, IsEnabledTo, IsFreeForCycle, IsGone, IsSettledPage}
 use Rattle.mk_cycle.proofs.Vocabulary.{KeepsGates, PassState, call_of, count_by-le-length, done_of, event_of}
 use Rattle.mk_cycle.proofs.Vocabulary.{full_answers, made, now_of, steady_of, world_at, world_of}
@@ -14,15 +14,12 @@ pub end_allowed : {p : PassState} → InTurn p → IsFreeForCycle p → IsAtPhas
 end_allowed {p} t free at settled =
     may_act p Step.End (protocol p t free) t.holds free.decided refl refl refl (eq-eqb _ 4 at) (all_from _ _ settled)
 
-ended_phase : (n markers : ℕ) → n % 8 ≡ 4 → n / 8 ≡ markers → markers ≤ 8 → (n + (2 ^ 64 - 4)) % 2 ^ 64 % 8 ≡ 0
-ended_phase n markers now high few = omega arith
-
 module _ {p q : PassState} (t : InTurn p) (at : IsAtPhase p 4) (u : InTurn q) (a : Acts p Step.End q) where
   abbrev w : World
   w = world_at a.makes
 
   phase_there : (w.now.words.phase + (2 ^ 64 - 4)) % 2 ^ 64 % 8 ≡ 0
-  phase_there = grind (arith, made, protocol, count_by-le-length, ended_phase)
+  phase_there = grind (arith, made, protocol, count_by-le-length)
 
   pub steady_ended : steady_of (world_of q) ≡ record (steady_of (world_of p)) { phase = 0 }
   steady_ended = grind (arith, phase_there)

@@ -1,7 +1,7 @@
 -- All of a finish: what was released is given back, the cycle ends, and the tallies are set.
 use Rattle.mk_laws.proofs.Vocabulary.{Config, PlacedAllocation, Steady, Step, TalliesAreTidy, Words, ℕ, all_below-at}
-use Rattle.mk_laws.proofs.Vocabulary.{ap, arith, ends, fresh_words_of, has_place, in_a_word, is_held, map, not, refl}
-use Rattle.mk_laws.proofs.Vocabulary.{subst, sym, true, with_released, [], ◌+◌, ◌-◌, ◌<◌, ◌∙◌, ◌≡◌}
+use Rattle.mk_laws.proofs.Vocabulary.{ap, arith, ends, has_place, in_a_word, is_held, map, not, refl, subst, sym, true}
+use Rattle.mk_laws.proofs.Vocabulary.{with_released, [], ◌+◌, ◌-◌, ◌<◌, ◌∙◌, ◌≡◌}
 use Rattle.mk_cycle.proofs.Vocabulary.{Acts, CountsAreLeft, Done, HasReleased, HoldsFewer, InTurn, IsAtPhase}
 use Rattle.mk_cycle.proofs.Vocabulary.{IsFreeForCycle, KeepsCall, KeepsGates, PassState, Released, done_of}
 use Rattle.mk_cycle.proofs.Vocabulary.{full_answers, is_pending_free, now_of, releases, steady_of, world_of}
@@ -103,12 +103,9 @@ module _ {p g e q : PassState} {r : Released} (gives : GivesAllBack p g) (free :
   tallies_g : but_given (steady_of (world_of g)) ≡ but_given (steady_of (world_of p))
   tallies_g = gives_steady gives
 
-  fresh_same : fresh_words_of c (world_of q).allocations ≡ fresh_words_of c (world_of p).allocations
-  fresh_same = grind (arith, same_config, same_g)
-
   exact_q : TalliesAreExact p.table.config p.seen → TalliesAreExact q.table.config q.seen
   unfolding but_given
-  exact_q x = grind (arith, same_config, pass_q, steady_e, tallies_g, held_alike, pass_g, same_g, steady_q, fresh_same)
+  exact_q x = grind (arith, same_config, pass_q, steady_e, tallies_g, held_alike, pass_g, same_g, steady_q)
 
   ends_q : ends q.seen ≡ ends p.seen + 1
   ends_q = cc (sets.counts.ends, one_more_end t gives.phase u a, (gives_counts gives).ends)

@@ -52,11 +52,8 @@ module _ {w : WordsState} {p b d : PassState} {page used gone quarantine : ℕ}
   half : Halves p page quarantine
   half = halves page quarantine x.begun x.word
 
-  marks_d : slice_index (now_of d).words.marks page ≡ slice_index (now_of p).words.marks page
-  marks_d = ap (λ (ms : List ℕ). slice_index ms page) (gives_page.frees.marks ∙ x.wiped.frees.marks)
-
   gone_there : gone ≡ without (quarantine / 2 ^ 32) (slice_index (now_of d).words.marks page)
-  gone_there = grind (arith, half, marks_d)
+  gone_there = grind (arith, half, gives_page)
 
   freed_small : without (quarantine % 2 ^ 32) gone < 2 ^ 32
   freed_small = let le = and_le_l (quarantine % 2 ^ 32) gone in omega arith

@@ -25,9 +25,6 @@ held_free p q k free = free_then p q k.keeps.call free
 pub held_table : (p q : PassState) (w : WordsState) → HoldsGates p q → p.table ≡ w → q.table ≡ w
 held_table p q w k is = ap (λ (x : PassState). x.table) k.keeps.call.pass ∙ is
 
-pub held_seat : {p q : PassState} → HoldsGates p q → q.seat ≡ p.seat
-held_seat k = ap (λ (x : PassState). x.seat) k.keeps.call.pass
-
 pub hold_allowed : (p : PassState) → InTurn p → IsFreeForCycle p → (j : ℕ) → j < p.table.config.callers
     → is_number_of p.seat j ≡ false → is_held (now_of p).words j ≡ false → IsEnabledTo p (Step.Hold j)
 hold_allowed p t free j lt other none =
@@ -71,4 +68,4 @@ pub all_held_below : (p : PassState) (callers : ℕ) → ((j : ℕ) → j < call
 all_held_below p callers h = all_from callers (λ j. is_number_of p.seat j || is_held (now_of p).words j) h
 
 pub still_held_or_own : {p q : PassState} (j : ℕ) → HoldsGates p q → IsHeldOrOwn p j → IsHeldOrOwn q j
-still_held_or_own j k h = grind (arith, held_seat)
+still_held_or_own j k h = grind arith

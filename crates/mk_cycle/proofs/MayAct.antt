@@ -1,9 +1,9 @@
 -- A turn that is free for a cycle may make every step of any holder whose conditions on words are met.
 use Rattle.mk_laws.proofs.Vocabulary.{AreAdmitted, Bool, Config, Decided, Group, Holds, IsHistory, List, MarkerState}
 use Rattle.mk_laws.proofs.Vocabulary.{Moment, Op, Protocol, Seat, Stage, Step, ℕ, arith, asked, comes_next, eq-eqb}
-use Rattle.mk_laws.proofs.Vocabulary.{false, flight_of, group_of, has_gates, has_phase, holder_may, is_in_range}
-use Rattle.mk_laws.proofs.Vocabulary.{is_of_turn, is_open_to, is_under_turn, lt-ltb, marker_at, marker_may, not}
-use Rattle.mk_laws.{proofs.Vocabulary.{phase_of, seat_exists, subst, sym, true, ◌&&◌, ◌≡◌}, specs.Protocol.{has_stage}}
+use Rattle.mk_laws.proofs.Vocabulary.{false, flight_of, has_gates, has_phase, holder_may, is_in_range, is_of_turn}
+use Rattle.mk_laws.proofs.Vocabulary.{is_open_to, is_under_turn, lt-ltb, marker_may, not, phase_of, seat_exists, subst}
+use Rattle.mk_laws.{proofs.Vocabulary.{sym, true, ◌&&◌, ◌≡◌}, specs.Protocol.{has_stage}}
 use Rattle.mk_cycle.proofs.Vocabulary.{IsEnabledTo, PassState, call_of, event_of, is_pending_free, now_of}
 use Rattle.mk_cycle.proofs.{Calm.{calm_still, is_calm}, OwnSteps.{no_more_calls, undecided}}
 use Rattle.mk_core.{proofs.Conditions.{meets_enabled}, specs.{History.never_first, Readings.is_idle}}
@@ -23,13 +23,7 @@ comes Stage.Idle (Op.New d ty full) s has turn pending h = cc
 comes x (Op.New d ty full) s has turn pending h = cc
 comes Stage.Give (Op.Free p) s has turn pending h = h
 comes x (Op.Free p) s has turn pending h = cc
-comes x o s has turn pending h = absurd (never (not (is_idle x)) turn)
-  where
-    never : (b : Bool) → (b && false) ≡ true → ⊥
-    never x0 e = grind arith
-
-any_is : (s : Step) → is_of_any_holder s ≡ true → is_of_turn (group_of s) ≡ true
-any_is s h = grind arith
+comes x o s has turn pending h = absurd (grind arith)
 
 is_turn : (g : Group) → is_of_turn g ≡ true → g ≡ Group.Turn
 is_turn x0 h = grind arith
@@ -57,16 +51,7 @@ pub may_act : (p : PassState) (s : Step) → Protocol p.table.config (now_of p) 
     → has_phase (phase_of (now_of p).words) s ≡ true → holder_may p.table.config (now_of p) (call_of p) s ≡ true
     → IsEnabledTo p s
 may_act p s protocol holds pending any range gates phase holder =
-    meets_enabled p.table.config (now_of p) (event_of p s) (record {
-      seat = exists p.table.config (now_of p) p.seat holds;
-      kind = cc (is_turn (group_of s) (any_is s any), opens p.table.config (now_of p) p.seat holds);
-      order = orders p.seat s protocol holds pending any;
-      range = range;
-      gates = gates;
-      phase = phase;
-      marker = no_markers p.table.config (marker_at (now_of p) p.seat) s any;
-      holder = holder;
-    })
+    grind (arith, meets_enabled, exists, is_turn, opens, orders, no_markers)
 
 -- A step that decides nothing is admitted.
 pub calm_admitted : (p : PassState) (s : Step) → IsHistory p.table.config p.seen → is_calm s ≡ true

@@ -44,23 +44,17 @@ module _ (f : PlacedAllocation → PlacedAllocation) where
       let split = sum_by-cons (λ x. cond (is_new x) 1 0) a ys in
       omega arith
 
-  sum_cons : (g : PlacedAllocation → ℕ) (b : Bool) (a : PlacedAllocation) (ys : List PlacedAllocation)
-      → sum_by g (if b then a ∷ ys else ys) ≡ cond b (g a) 0 + sum_by g ys
-  sum_cons g x1 a ys = grind (arith, sum_by-cons)
-
   pub newly_weighed : (g : PlacedAllocation → ℕ) → ((a : PlacedAllocation) → g (f a) ≡ g a) → (xs : List
       PlacedAllocation) → sum_by g (newly_released xs (map f xs)) ≡ sum_by (λ x. cond (is_new x) (g x) 0) xs
   newly_weighed g same [] = refl
   newly_weighed g same (a ∷ ys) =
-      let first = sum_cons g (is_new a) (f a) (newly_released ys (map f ys)) in
+      let first : sum_by g (if (is_new a) then (f a) ∷ (newly_released ys (map f ys)) else (newly_released ys (map f
+      ys))) ≡ cond (is_new a) (g (f a)) 0 + sum_by g (newly_released ys (map f ys)) = grind (arith, sum_by-cons) in
       let weight : cond (is_new a) (g (f a)) 0
       ≡ cond (is_new a) (g a) 0 = ap (λ (n : ℕ). cond (is_new a) n 0) (same a) in
       let rest = newly_weighed g same ys in
       let split = sum_by-cons (λ x. cond (is_new x) (g x) 0) a ys in
       omega arith
-
-  one_more : (was is : Bool) → (was ≡ true → is ≡ true) → cond {A = ℕ} is 1 0 ≡ cond was 1 0 + cond (not was && is) 1 0
-  one_more x0 x1 stays = grind arith
 
   -- Released allocations stay so, and the new ones come to them.
   pub newly_added : ((a : PlacedAllocation) → a.released ≡ true → (f a).released ≡ true) → (xs : List PlacedAllocation)
@@ -70,7 +64,8 @@ module _ (f : PlacedAllocation → PlacedAllocation) where
       let mapped = sum_by-cons (λ (x : PlacedAllocation). cond {A = ℕ} x.released 1 0) (f a) (map f ys) in
       let old = sum_by-cons (λ (x : PlacedAllocation). cond {A = ℕ} x.released 1 0) a ys in
       let new = length_cons (is_new a) (f a) (newly_released ys (map f ys)) in
-      let here = one_more a.released (f a).released (stays a) in
+      let here : cond {A = ℕ} (f a).released 1 0 ≡ cond a.released 1 0 + cond
+      (not a.released && (f a).released) 1 0 = grind arith in
       let rest = newly_added stays ys in
       omega arith
 

@@ -2,13 +2,13 @@
 use Rattle.std.proofs.lemmas.List.Sums.{sum_by-append}
 use Rattle.mk_laws.proofs.Vocabulary.{Caller, Config, Event, Holding, Holds, Host, IsHistory, List, Marker, Moment}
 use Rattle.mk_laws.proofs.Vocabulary.{None, Option, Progress, Protocol, RunPages, Seat, Some, Steady, Step, World, ℕ}
-use Rattle.mk_laws.proofs.Vocabulary.{answer_decided, ap, append-nil, arith, at_rest, calls, ends, false, flight_of}
+use Rattle.mk_laws.proofs.Vocabulary.{answer_decided, ap, append-nil, arith, at_rest, calls, false, flight_of}
 use Rattle.mk_laws.proofs.Vocabulary.{get_or-set_same, is_end, is_heap_store, is_run_gone, left, length, progress, refl}
 use Rattle.mk_laws.proofs.Vocabulary.{still, subst, sym, true, true≢false, world_behind, [], ◌++◌, ◌+◌, ◌<◌, ◌∙◌, ◌∷◌}
 use Rattle.mk_laws.proofs.{Vocabulary.◌≡◌, RunWords.gone_behind}
-use Rattle.mk_cycle.proofs.Vocabulary.{Acts, CountsAreLeft, Done, Has, IsGone, KeepsCall, PassState, call_of, done_of}
-use Rattle.mk_cycle.proofs.Vocabulary.{event_of, holder_finds, holding_behind, made, now_of, stands, steady_of}
-use Rattle.mk_cycle.proofs.Vocabulary.{world_at, world_of}
+use Rattle.mk_cycle.proofs.Vocabulary.{Acts, CountsAreLeft, Done, Has, IsGone, KeepsCall, PassState, call_of, event_of}
+use Rattle.mk_cycle.proofs.Vocabulary.{holder_finds, holding_behind, made, now_of, stands, steady_of, world_at}
+use Rattle.mk_cycle.proofs.Vocabulary.{world_of}
 use Rattle.mk_core.{proofs.Histories.{calls_more}, specs.Effects.{moment_behind}}
 use Rattle.mk_words.proofs.Made.{Made}
 
@@ -36,9 +36,6 @@ pub no_more_calls : (c : Config) (es : List Event) (e : Event) → answer_decide
     → calls c (es ++ e ∷ []) ≡ calls c es
 no_more_calls c es e none = grind (arith, calls_more, append-nil)
 
-no_end_more : (e : Event) → is_end e.step ≡ false → (es : List Event) → ends (es ++ e ∷ []) ≡ ends es
-no_end_more e none es = grind (arith, sum_by-append)
-
 module _ (p : PassState) (s : Step) (q : PassState) (a : Acts p s q) (own : Has p.seats p.seat)
     (holds : Holds p.table.config (now_of p) p.seat) (history : IsHistory q.table.config q.seen) where
   abbrev pub c : Config
@@ -53,25 +50,16 @@ module _ (p : PassState) (s : Step) (q : PassState) (a : Acts p s q) (own : Has 
   pub same_pass : q ≡ record p { seen = q.seen }
   same_pass = a.makes.is ∙ ap (λ (r : PassState). record p { seen = r.seen }) (sym a.makes.is)
 
-  pub holds_there : Holds p.table.config (world_at a.makes).now p.seat
-  holds_there = (a.own.holding holds).0
-
   pub same_call : ((n : ℕ) → progress c m (flight_of m p.seat) n s ≡ still (flight_of m p.seat)) → call_of q ≡ call_of p
-  same_call st = grind (arith, flight_behind, holds_there)
-
-  same_done : ((n : ℕ) → done_in (holding_behind c m p.seat (flight_of m p.seat) n s m.seats.holding)
-      ≡ done_in m.seats.holding) → done_of (now_of q) ≡ done_of (now_of p)
-  same_done k = ap (λ (w : World). done_of w.now) a.world ∙ k _ ∙ ap (λ (h : Holding). done_in h) a.holding
+  same_call st = grind (arith, flight_behind)
 
   pub still_gone : ((n : ℕ) → (holding_behind c m p.seat (flight_of m p.seat) n s m.seats.holding).freed
       ≡ m.seats.holding.freed) → is_heap_store s ≡ false → IsGone p → IsGone q
   still_gone k none gone =
       let at = holder_finds c p.seat p.seen a.makes.others d.history d.others holds in
       let here : is_run_gone m.words m.seats.holding.freed ≡ true = grind arith in
-      let behind : is_run_gone (moment_behind c m (event_of p s)).words m.seats.holding.freed ≡ true =
-      gone_on m.seats.holding.freed refl here in
-      ap (λ (w : World). is_run_gone w.now.words w.now.seats.holding.freed) a.world
-      ∙ ap (λ (x : Option RunPages). is_run_gone (moment_behind c m (event_of p s)).words x) (k _) ∙ behind
+      ap (λ (w : World). is_run_gone w.now.words w.now.seats.holding.freed) a.world ∙ ap (λ (x : Option RunPages).
+      is_run_gone (moment_behind c m (event_of p s)).words x) (k _) ∙ (gone_on m.seats.holding.freed refl here)
     where
       gone_on : (freed : Option RunPages) → m.seats.holding.freed ≡ freed → is_run_gone m.words m.seats.holding.freed
           ≡ true → is_run_gone (moment_behind c m (event_of p s)).words freed ≡ true
@@ -84,14 +72,14 @@ module _ (p : PassState) (s : Step) (q : PassState) (a : Acts p s q) (own : Has 
   pub keeps_call : ((n : ℕ) → progress c m (flight_of m p.seat) n s ≡ still (flight_of m p.seat))
       → ((n : ℕ) → done_in (holding_behind c m p.seat (flight_of m p.seat) n s m.seats.holding)
       ≡ done_in m.seats.holding) → is_heap_store s ≡ false → KeepsCall p q
-  keeps_call st k none = grind (arith, same_pass, same_call, same_done, still_gone)
+  keeps_call st k none = grind (arith, same_pass, same_call, still_gone, done_in)
 
   seen_is : q.seen ≡ (p.seen ++ a.makes.others) ++ event_of p s ∷ []
   seen_is = ap (λ (r : PassState). r.seen) a.makes.is
 
   pub keeps_counts : ((n : ℕ) → progress c m (flight_of m p.seat) n s ≡ still (flight_of m p.seat)) → is_end s ≡ false
       → CountsAreLeft c p.seen q.seen
-  keeps_counts st none = grind (arith, seen_is, no_more_calls, undecided, no_end_more)
+  keeps_counts st none = grind (arith, seen_is, no_more_calls, undecided, sum_by-append)
 
   pub steady_behind : (view : Steady → Steady)
       → ((w : World) → view (steady_of (world_behind c w (event_of p s))) ≡ view (steady_of w))

@@ -104,9 +104,6 @@ module _ (p : PassState) {q : PassState} (t : InTurn q) (n m end pages : ℕ) (l
   bare_there : (r : ℕ) → n ≤ r → r < m → has_freed_cells (now_of q).words.freed r ≡ false
   bare_there r after lt = (or_parts _ _ (out r after lt)).1
 
-  past_end : (r : ℕ) → n ≤ r → r < m → end ≤ r
-  past_end r after lt = ltb-false r end (or_parts _ _ (out r after lt)).0
-
   counted_past : ((r : ℕ) → n ≤ r → SamePage p q r)
       → released_below (now_of p).words n ≡ released_below (now_of p).words m
   counted_past same =
@@ -126,7 +123,7 @@ module _ (p : PassState) {q : PassState} (t : InTurn q) (n m end pages : ℕ) (l
         elim (cases_lt r n) [
           | inl below ↦ before.settled r below
           | inr above ↦ bare_is_settled t r (bare_there r above lt)
-              (before.occupied r above (past_end r above lt) (omega (arith, lt, few)))
+              (before.occupied r above (ltb-false r end (or_parts _ _ (out r above lt)).0) (omega (arith, lt, few)))
         ];
     cells = λ r after lt. before.cells r (omega (arith, le, after)) lt;
     same = λ r after. before.same r (omega (arith, le, after));

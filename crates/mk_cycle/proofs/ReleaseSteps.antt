@@ -1,6 +1,6 @@
 -- The `close` and the `release` of a cycle.
 use Rattle.mk_laws.proofs.Vocabulary.{Config, Steady, Step, Words, World, ℕ, ap, arith, fresh_words_of, map, phase_of}
-use Rattle.mk_laws.proofs.Vocabulary.{refl, subst, with_released, [], ◌%◌, ◌+◌, ◌/◌, ◌<◌, ◌^◌, ◌∙◌, ◌≡◌, ◌≤◌}
+use Rattle.mk_laws.proofs.Vocabulary.{refl, subst, with_released, [], ◌%◌, ◌+◌, ◌<◌, ◌^◌, ◌∙◌, ◌≡◌}
 use Rattle.mk_cycle.proofs.Vocabulary.{Acts, InTurn, IsAtPhase, IsFreeForCycle, LeavesTurn, PassState}
 use Rattle.mk_cycle.proofs.Vocabulary.{count_by-le-length, made, steady_of, world_at, world_of}
 use Rattle.mk_cycle.proofs.{Allowed.protocol, BeginSteps.counts_then, CleaningSteps.calm_keeps, KeptInParts.calls_then}
@@ -8,15 +8,10 @@ use Rattle.mk_cycle.proofs.{KeptInParts.free_then, KeptInParts.same_config, Rele
 use Rattle.mk_cycle.specs.{EngineLaw.ClosesMarks, Releasing.ReleasesUnmarked, TurnKeeps.but_phase}
 use Rattle.mk_words.specs.Steps.{moment_of}
 
--- One is added to the phase.
-phase_more : (n markers phase : ℕ) → n % 8 ≡ phase → phase < 7 → n / 8 ≡ markers → markers ≤ 8
-    → (n + 1) % 2 ^ 64 % 8 ≡ phase + 1
-phase_more n markers phase now small high few = omega arith
-
 -- the phase where the step is made
 pub phase_at : {p : PassState} {s : Step} {q : PassState} (a : Acts p s q) → InTurn p → InTurn q → (phase : ℕ)
     → IsAtPhase p phase → phase < 7 → ((world_at a.makes).now.words.phase + 1) % 2 ^ 64 % 8 ≡ phase + 1
-phase_at a t u phase at small = grind (arith, made, protocol, count_by-le-length, phase_more)
+phase_at a t u phase at small = grind (arith, made, protocol, count_by-le-length)
 
 pub close_leaves : {p q : PassState} → InTurn p → IsFreeForCycle p → IsAtPhase p 2 → Acts p Step.Close q → InTurn q
     → LeavesTurn but_phase p q × IsAtPhase q 3

@@ -1,6 +1,6 @@
 -- After a `release` the released cells have no word of a mapped allocation.
 use Rattle.std.proofs.Math.Bool.{and-false}
-use Rattle.mk_cycle.proofs.Vocabulary.{Acts, AreFreeCells, HasFreeCells, InTurn, IsAtPhase, IsGone, IsOccupied, IsZero}
+use Rattle.mk_cycle.proofs.Vocabulary.{Acts, AreFreeCells, HasFreeCells, InTurn, IsAtPhase, IsGone, IsOccupied}
 use Rattle.mk_cycle.proofs.Vocabulary.{PassState, allocations_stand, holder_finds, left_unmarked, made, now_of, stands}
 use Rattle.mk_cycle.{proofs.Vocabulary.{world_at}, specs.Freeing.{is_occupied_page}}
 use Rattle.mk_laws.proofs.Vocabulary.{Bool, Config, Event, Header, InPlot, IsFreedCell, IsHistory, IsWordOf}
@@ -13,7 +13,7 @@ use Rattle.mk_laws.proofs.Vocabulary.{not, object_placed, or_right, pages_made, 
 use Rattle.mk_laws.proofs.Vocabulary.{plot_of, refl, released_where_left, slice_index, storage_of, subst, sym, true}
 use Rattle.mk_laws.proofs.Vocabulary.{true≢false, typed_size, used_at, with_released, words_under, ◌&&◌, ◌*◌, ◌++◌, ◌+◌}
 use Rattle.mk_laws.proofs.{Vocabulary.{◌/◌, ◌<◌, ◌==◌, ◌||◌, ◌∙◌, ◌≡◌}, FreeWords.unmapped_words_are_zero}
-use Rattle.mk_laws.proofs.{InvariantTheorems.allocations_are_disjoint, MappedWords.mapped_stays}
+use Rattle.mk_laws.proofs.{InvariantHistories.allocations_are_disjoint, MappedWords.mapped_stays}
 use Rattle.mk_core.proofs.StandingAllocations.{placed_cell}
 use Rattle.mk_laws.specs.FreeWords.{IsOfNoneMapped}
 
@@ -65,7 +65,7 @@ module _ {d q : PassState} (t : InTurn d) (u : InTurn q) (at : IsAtPhase d 3) (a
       changed_at (with_released c w.now.words) w.allocations m.number refl in
       let mapped : is_mapped c (with_released c w.now.words x) ≡ true = grind arith in
       let kept : (with_released c w.now.words x).released ≡ false = grind (arith, and_parts) in
-      let unreleased : x.released ≡ false = first_of_or x.released _ kept in
+      let unreleased : x.released ≡ false = grind arith in
       let there : IsWordOf (storage_of c x) n = grind arith in
       let number : m.number ≡ f.number =
       allocations_are_disjoint c es history m.number f.number n unreleased f.unreleased there word in
@@ -73,9 +73,6 @@ module _ {d q : PassState} (t : InTurn d) (u : InTurn q) (at : IsAtPhase d 3) (a
       let gone : (with_released c w.now.words y).released ≡ true = grind (arith, released_where_left) in
       true≢false (sym gone
       ∙ ap (λ (i : ℕ). (with_released c w.now.words (placed_at w.allocations i)).released) (sym number) ∙ kept)
-    where
-      first_of_or : (b e : Bool) → (b || e) ≡ false → b ≡ false
-      first_of_or x0 e h = grind arith
 
   -- The allocation of a cell whose header is that of an unmapped run isn't mapped,
   unmapped_owner : {page k : ℕ} (f : IsFreedCell c w.allocations page k)
@@ -126,13 +123,6 @@ module _ {d q : PassState} (t : InTurn d) (u : InTurn q) (at : IsAtPhase d 3) (a
       (storage_of c (placed_at w.allocations f.number)) (word_of page k i)
   owned_word i has small f = grind (arith, made, allocations_stand, es, cells_begin)
 
-  zero_there : IsGone d → (page k i : ℕ) → is_unmapped_header (header_in w.now.words page) ≡ true
-      → has_bit (left_unmarked w.now.words page) k ≡ true → i < size page → IsZero q (word_of page k i)
-  zero_there gone page k i unmapped has small =
-      let f = owner page k has in
-      ap (λ (x : World). slice_index x.now.words.heap (word_of page k i)) a.world
-      ∙ unmapped_is_zero gone (word_of page k i) f unmapped (owned_word i has small f).1
-
   pub cells_are_free : IsGone d → (page : ℕ) → HasFreeCells q page
   cells_are_free gone page =
       subst (λ (x : World). AreFreeCells q page (header_at x.now.words page) (left_unmarked x.now.words page)) (sym
@@ -148,7 +138,10 @@ module _ {d q : PassState} (t : InTurn d) (u : InTurn q) (at : IsAtPhase d 3) (a
                   same_table (subst (λ (xs : List PlacedAllocation). IsWordOfMapped q.table.config xs n)
                   (ap (λ (x : World). x.allocations) a.world) m));
             };
-        wiped = λ unmapped k i. zero_there gone page k i unmapped;
+        wiped = λ unmapped k i. λ has small.
+            let f = owner page k has in
+            ap (λ (x : World). slice_index x.now.words.heap (word_of page k i)) a.world
+            ∙ unmapped_is_zero gone (word_of page k i) f unmapped (owned_word i has small f).1;
       })
 
   -- A page with a header has a used cell, a run's at its head: no New has a place.

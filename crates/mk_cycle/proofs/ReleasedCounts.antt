@@ -14,10 +14,6 @@ use Rattle.mk_cycle.proofs.NewlyReleased.{is_new, left_filtered, newly_counted, 
 use Rattle.mk_cycle.proofs.{NewlyReleased.same_at_each, CellBits.has_bit_and}
 use Rattle.mk_cycle.specs.{FinishCycle.is_in_snapshot_of_cycle, ReleasedPages.{cells_marked, left_marked}}
 
--- what is left of a bit of the snapshot that isn't left unmarked is marked
-marked_rest : (s m : Bool) → (s && not (s && not m)) ≡ (s && m)
-marked_rest x0 m = grind arith
-
 -- a history whose next event may be a `release`
 module _ {c : Config} {es : List Event} (h : IsHistory c es) (at : phase_of (left c es).now.words ≡ 3) where
   abbrev w : Words
@@ -83,7 +79,7 @@ module _ {c : Config} {es : List Event} (h : IsHistory c es) (at : phase_of (lef
   -- what is in the snapshot and marked, by what is released
   rest_is : (a : PlacedAllocation) (b m : Bool) → a.released ≡ false → a.freed ≡ true
       → b ≡ (a.freed && not a.fresh) → (f a).released ≡ (b && not m) → is_kept a ≡ (b && m)
-  rest_is a b m u freed snapshot gone = grind (arith, marked_rest)
+  rest_is a b m u freed snapshot gone = grind arith
 
   marked_are : AreTheirBits c es is_kept (left_marked w)
   marked_are = record {

@@ -4,25 +4,16 @@ use Rattle.mk_laws.proofs.Vocabulary.{true≢false, without, ◌&&◌, ◌<◌, 
 use Rattle.mk_cycle.proofs.Vocabulary.{and_le_l, bit_and}
 use Rattle.mk_core.proofs.WordBits.{bit_for_has, bit_for_small, bit_of_power}
 
-both_left : (x y : Bool) → (x && not y) ≡ true → x ≡ true
-both_left x0 y h = grind arith
-
-and_gone : (x y : Bool) → (x && not y) ≡ false → x ≡ true → y ≡ true
-and_gone x0 y h is = grind arith
-
 not_both : (x y : Bool) → y ≡ true → (x && not y) ≡ false
 not_both x0 y is = grind arith
 
 -- what is left was there
 pub left_among : (n k j : ℕ) → has_bit (without n (2 ^ k)) j ≡ true → has_bit n j ≡ true
-left_among n k j has = both_left (has_bit n j) (has_bit (2 ^ k) j) (sym (has_bit_without n (2 ^ k) j) ∙ has)
+left_among n k j has = grind (arith, has_bit_without)
 
 -- what was there and is not left was taken
 pub taken_or_gone : (n k j : ℕ) → has_bit (without n (2 ^ k)) j ≡ false → has_bit n j ≡ true → j ≡ k
-taken_or_gone n k j gone has = grind (arith, bit_of_power, and_gone, has_bit_without)
-
-power_has : (k : ℕ) → k < 64 → has_bit (2 ^ k) k ≡ true
-power_has k lt = subst (λ (n : ℕ). has_bit n k ≡ true) (bit_for_small k lt) (bit_for_has k lt)
+taken_or_gone n k j gone has = grind (arith, bit_of_power, has_bit_without)
 
 -- so less is left
 pub fewer_left : (n k : ℕ) → k < 64 → has_bit n k ≡ true → without n (2 ^ k) < n
@@ -30,5 +21,10 @@ fewer_left n k lt has =
     let le = and_le_l n (2 ^ k) in
     let some : bit_and n (2 ^ k) ≡ 0 → ⊥ = λ none. true≢false (sym has ∙
     (let same : without n (2 ^ k) ≡ n = omega arith in
-    cc (same, has_bit_without n (2 ^ k) k, not_both (has_bit n k) (has_bit (2 ^ k) k) (power_has k lt)))) in
+    cc (
+      same,
+      has_bit_without n (2 ^ k) k,
+      not_both (has_bit n k) (has_bit (2 ^ k) k) (
+          subst (λ (n : ℕ). has_bit n k ≡ true) (bit_for_small k lt) (bit_for_has k lt)),
+    ))) in
     omega (arith, le, some)

@@ -5,12 +5,12 @@ use Rattle.mk_cycle.proofs.Vocabulary.{left_unmarked, now_of, page_state, stands
 use Rattle.mk_cycle.proofs.PageSteps.{page_at_once, page_then, same_header, same_left, same_used}
 use Rattle.mk_cycle.proofs.{CleaningSteps.halves, GivingSteps.still_unmapped_word}
 use Rattle.mk_laws.proofs.Vocabulary.{Bool, Header, IsFreedCell, Option, Some, Words, ℕ, and_from, and_parts, ap, arith}
-use Rattle.mk_laws.proofs.Vocabulary.{cases_eq, empties, eq-eqb, eqb-false, eqb-true, false, false_from_ne_true}
-use Rattle.mk_laws.proofs.Vocabulary.{has_bit, has_bit_without, head_page, head_page_under, header_at, header_in}
-use Rattle.mk_laws.proofs.Vocabulary.{header_of, inl, inr, is_phase, is_released_in, ne_eqb, no_bit, not, not-true}
-use Rattle.mk_laws.proofs.Vocabulary.{or_cases, quarantine_word, refl, run_count, slice_index, subst, sym, true}
-use Rattle.mk_laws.proofs.Vocabulary.{true≢false, used_at, without, ◌&&◌, ◌+◌, ◌-◌, ◌/◌, ◌<◌, ◌==◌, ◌^◌, ◌||◌, ◌∙◌, ◌≡◌}
-use Rattle.mk_laws.proofs.{Vocabulary.{◌≢◌, ◌≤◌, ◌⊎◌}, FreePages.free_pages_have_nothing}
+use Rattle.mk_laws.proofs.Vocabulary.{empties, eq-eqb, eqb-false, eqb-true, false, false_from_ne_true, has_bit}
+use Rattle.mk_laws.proofs.Vocabulary.{has_bit_without, head_page, head_page_under, header_at, header_in, header_of, inl}
+use Rattle.mk_laws.proofs.Vocabulary.{inr, is_phase, is_released_in, ne_eqb, no_bit, not, not-true, or_cases}
+use Rattle.mk_laws.proofs.Vocabulary.{quarantine_word, refl, run_count, slice_index, subst, sym, true, true≢false}
+use Rattle.mk_laws.proofs.Vocabulary.{used_at, without, ◌&&◌, ◌+◌, ◌-◌, ◌/◌, ◌<◌, ◌==◌, ◌^◌, ◌||◌, ◌∙◌, ◌≡◌, ◌≢◌, ◌≤◌}
+use Rattle.mk_laws.proofs.{Vocabulary.◌⊎◌, FreePages.free_pages_have_nothing}
 use Rattle.mk_core.proofs.WordBits.{zero_from_bits}
 use Rattle.mk_cycle.specs.Freeing.{GivesBack, is_occupied_page}
 
@@ -96,25 +96,14 @@ none_left p page none = grind arith
 or_left : (a b : Bool) → a ≡ true → (a || b) ≡ true
 or_left a b h = ap (λ (x : Bool). x || b) h
 
-pub settled_bare : (p : PassState) (page : ℕ) → left_unmarked (now_of p).words page ≡ 0
-    → header_at (now_of p).words page ≡ 0 → IsSettledPage p page
-settled_bare p page none bare = grind (arith, and_from, eq-eqb, or_left)
-
 -- The head of a page's run isn't after it.
 pub head_before : (x : Option Header) (page : ℕ) → head_page_under x page ≤ page
 head_before x0 page = grind arith
 
-pub head_near : (w : Words) (page : ℕ) → head_page w page ≤ page
-head_near w page = head_before (header_in w page) page
-
-pub head_stays : (p q : PassState) (page : ℕ) → SamePage p q page
-    → head_page (now_of q).words page ≡ head_page (now_of p).words page
-head_stays p q page same = ap (λ (n : ℕ). head_page_under (header_of n) page) (same_header p q page same)
-
 -- A page stays as it is in this while it and its head do.
 pub same_occupied : (p q : PassState) (r : ℕ) → SamePage p q r → SamePage p q (head_page (now_of p).words r)
     → is_occupied_page (now_of q).words r ≡ is_occupied_page (now_of p).words r
-same_occupied p q r same head_same = grind (arith, same_header, head_stays, same_used)
+same_occupied p q r same head_same = grind (arith, same_header, same_used)
 
 -- A later page of a run isn't past it.
 pub head_elsewhere : {q : PassState} → InTurn q → (n r : ℕ) → n < r
@@ -147,7 +136,7 @@ head_elsewhere {q} t n r after past occupied = by (header_in (now_of q).words r)
 -- Settled pages stay so while a later one changes.
 pub still_settled : {p q : PassState} {page : ℕ} (r : ℕ) → FreesPage page p q → r < page → IsSettledPage p r
     → IsSettledPage q r
-still_settled r k lt h = grind (arith, head_near, same_left, same_occupied)
+still_settled r k lt h = grind (arith, same_left, same_occupied, head_before)
 
 -- what two looks say of the released cells
 pub marked_gone : {a b : PassState} (page quarantine marks : ℕ) → InTurn a → GivesNothingBack a b
@@ -166,13 +155,9 @@ none_left_on page quarantine t word none = grind (arith, none_left, halves)
 -- No cell is released at the head of the page's run: it is the page itself, or one that is settled.
 pub none_at : {p q : PassState} {page : ℕ} (h : ℕ) → GivesBack page p q → h ≤ page
     → ((r : ℕ) → r < page → IsSettledPage p r) → left_unmarked (now_of q).words h ≡ 0
-none_at {p} {q} {page} h g le settled = elim (cases_eq h page) [
-  | inl e ↦ ap (λ (n : ℕ). left_unmarked (now_of q).words n) e ∙ g.none_left
-  | inr ne ↦ same_left p q h (g.frees.others h ne) g.frees.frees.marks ∙
-      (eqb-true _ 0 (and_parts (left_unmarked (now_of p).words h == 0) _ (settled h (omega arith))).0)
-]
+none_at h g le settled = grind (arith, same_left, eqb-true, and_parts)
 
 pub freed_settles : {a q : PassState} {page : ℕ} (used : ℕ) → FreesPage page a q
     → page_state q page ≡ record (page_state a page) { page = record { header = 0; used = used } }
     → left_unmarked (now_of a).words page ≡ 0 → IsSettledPage q page
-freed_settles used k state none = grind (arith, settled_bare)
+freed_settles used k state none = grind (arith, and_from, eq-eqb, or_left)

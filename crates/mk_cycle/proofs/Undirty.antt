@@ -1,7 +1,6 @@
 -- A dirty word was 0 at a moment, from wider parts of a turn.
-use Rattle.mk_laws.proofs.Vocabulary.{Event, List, Step, ℕ, ap, append-nil, append_assoc, arith, cases_lt}
-use Rattle.mk_laws.proofs.Vocabulary.{get_or-set_same, get_or_past, inl, inr, length, set_past, slice_index, slice_set}
-use Rattle.mk_laws.proofs.Vocabulary.{◌++◌, ◌∙◌, ◌≡◌}
+use Rattle.mk_laws.proofs.Vocabulary.{List, Step, ℕ, ap, append-nil, append_assoc, arith, cases_lt, get_or-set_same}
+use Rattle.mk_laws.proofs.Vocabulary.{get_or_past, inl, inr, length, set_past, slice_index, slice_set, ◌∙◌, ◌≡◌}
 use Rattle.mk_cycle.proofs.Vocabulary.{Acts, Cleans, PassState, WasUndirty, now_of}
 
 -- where it is 0 now
@@ -14,17 +13,8 @@ undirty_now page k x2 = grind (arith, append-nil)
 pub undirty_later : {p q r : PassState} {page : ℕ} → WasUndirty page p q → Cleans q r → WasUndirty page p r
 undirty_later u k = grind (arith, append_assoc)
 
-undirty_at : (o : PassState) (more : List Event) (q : PassState) (page : ℕ)
-    → WasUndirty page (record o { seen = o.seen ++ more }) q → WasUndirty page o q
-undirty_at o more q page u = record {
-  before = more ++ u.before;
-  behind = u.behind;
-  is = cc (u.is, append_assoc o.seen more (u.before ++ u.behind), append_assoc more u.before u.behind);
-  zero = cc (append_assoc o.seen more u.before, u.zero);
-}
-
 pub undirty_earlier : {o p q : PassState} {page : ℕ} → Cleans o p → WasUndirty page p q → WasUndirty page o q
-undirty_earlier k u = grind (arith, undirty_at)
+undirty_earlier k u = grind (arith, append_assoc)
 
 -- after a store of 0
 

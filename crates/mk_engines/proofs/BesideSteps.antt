@@ -23,7 +23,7 @@ use Rattle.mk_engines.specs.Beside.{FindsInRoot, GoesBeside, IsBeside, IsOpenToL
 use Rattle.mk_engines.specs.Beside.{found_well, gives_no_hand, looks_at_root}
 use Rattle.mk_marker.proofs.PointedCells.{pointed_is_cell}
 use Rattle.mk_tracing.proofs.{MaySteps.marks_by, MoreMarks.marked_now}
-use Rattle.mk_tracing.specs.{Grays.{HandPointsInto, IsInHand, MarksReached, TracesReached}, Stops.{hand_of, is_root}}
+use Rattle.mk_tracing.specs.{Grays.{HandPointsInto, IsInHand, TracesReached}, Stops.{hand_of, is_root}}
 use Rattle.mk_turns.proofs.{Doing.does_step, PointedCells.{found_there, looked_for}}
 use Rattle.mk_turns.specs.Pointing.{LooksForCell, MayLookAtHeaders}
 use Rattle.mk_words.{proofs.Made.{own_before, stands_behind_others}, specs.{Steps.found_by, TurnSteps.{Acts, world_at}}}
@@ -152,14 +152,10 @@ module _ (t u : TurnState) (b : IsBeside t.pass) where
 -- the hand after a look
 
 module _ {p q : PassState} {x : Word} (a : Acts p (Step.Look x) q) where
-  hand_now : hand_of q ≡ or_else (hand_given p.table.config (world_at a.makes).now p.seat x
-      (found p.table.config (world_at a.makes).now (event_of p (Step.Look x)))) (hand_of p)
-  hand_now = grind arith
-
   pub root_hand : (n : ℕ) → Finds p (Step.Look x) n q → is_root x ≡ true → IsInHand q n
   root_hand n f root = record {
     hand = record { value = found p.table.config (world_at a.makes).now (event_of p (Step.Look x)); source = Root };
-    is = hand_now ∙ by x (found p.table.config (world_at a.makes).now (event_of p (Step.Look x))) root;
+    is = (grind arith) ∙ by x (found p.table.config (world_at a.makes).now (event_of p (Step.Look x))) root;
     value = ap (λ (w : World). named_word w.now.words x) (sym a.world) ∙ found_there p q x n f;
     reached = refl;
   }
@@ -197,15 +193,12 @@ module _ (t u : TurnState) (b : IsBeside t.pass)
   points_there : pointed_cell t.pass.table.config.pages (world_at a.makes).now.words.pages r.value ≡ Some cell
   points_there = ap (λ (x : Steady). pointed_cell t.pass.table.config.pages x.pages r.value) a.turn.steady ∙ r.points
 
-  phase_then : phase_of (world_at a.makes).now.words ≡ 1
-  phase_then = ap (λ (x : Steady). x.phase) a.turn.steady ∙ b.marking
-
   has_header : header_at (world_at a.makes).now.words cell.page ≢ 0
   has_header z =
       let d = stands_behind_others t.pass u.pass (Step.Mark cell.page (2 ^ cell.index)) a.makes in
       let known = stands t.pass.table.config (t.pass.seen ++ a.makes.others) d.history in
       let lt = pointed_is_cell t.pass.table.config (world_at a.makes) known.all.order.laid
-      (ap (λ (n : ℕ). n == 4) phase_then) r.value cell points_there in
+      (ap (λ (n : ℕ). n == 4) (ap (λ (x : Steady). x.phase) a.turn.steady ∙ b.marking)) r.value cell points_there in
       let none = no_header (header_at (world_at a.makes).now.words cell.page) z in
       absurd (omega arith)
 
@@ -231,16 +224,13 @@ module _ (t u : TurnState) (b : IsBeside t.pass)
   hand_there : (world_at a.makes).now.seats.holding.hand ≡ Some r.in_hand.hand
   hand_there = ap (λ (h : Holding). h.hand) a.holding ∙ r.in_hand.is
 
-  marks_reached : MarksReached t.pass.table.config (world_at a.makes).now cell.page (2 ^ cell.index)
-  marks_reached = record {
+  pub goes_mark : GoesBeside t u
+  goes_mark = goes_step t u (Step.Mark cell.page (2 ^ cell.index)) a b refl refl refl mark_keeps (record {
     by_hand =
         marks_by t.pass.table.config.pages (world_at a.makes).now.words (world_at a.makes).now.seats.holding.hand
         r.value cell r.in_hand.hand hand_there r.in_hand.value points_there;
     reached = cc (hand_there, r.in_hand.reached);
-  }
-
-  pub goes_mark : GoesBeside t u
-  goes_mark = goes_step t u (Step.Mark cell.page (2 ^ cell.index)) a b refl refl refl mark_keeps marks_reached
+  })
 
   pub marked_there : is_marked (now_of u.pass).words cell ≡ true
   marked_there =

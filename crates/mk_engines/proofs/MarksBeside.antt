@@ -1,7 +1,7 @@
 -- What is marked beside others, in parts.
 use Rattle.std.{proofs.{Common.below_more, lemmas.List.Folds.list_all-append}, specs.List.{list_all}}
-use Rattle.mk_laws.proofs.Vocabulary.{Bool, Event, List, Step, Word, Words, ℕ, and_from, and_parts, ap, arith, eq-eqb}
-use Rattle.mk_laws.proofs.Vocabulary.{false, is_held, is_number_of, list_any, list_any-append, ltb-true, not, or_right}
+use Rattle.mk_laws.proofs.Vocabulary.{Bool, Event, List, Step, Word, ℕ, and_from, and_parts, ap, arith, eq-eqb, false}
+use Rattle.mk_laws.proofs.Vocabulary.{is_held, is_number_of, list_any, list_any-append, ltb-true, not, or_right}
 use Rattle.mk_laws.proofs.Vocabulary.{points_well, refl, subst, sym, true, [], ◌++◌, ◌+◌, ◌<◌, ◌==◌, ◌||◌, ◌∙◌, ◌∷◌}
 use Rattle.mk_laws.proofs.Vocabulary.{◌≡◌}
 use Rattle.mk_core.specs.{Growing.Finding, Ranges.is_word}
@@ -18,11 +18,8 @@ use Rattle.mk_words.specs.States.{PassState, TurnState, event_of, now_of}
 pub still_beside : {p q : PassState} → IsBeside p → LeavesTurn unchanged p q → IsBeside q
 still_beside b k = grind (arith, free_then)
 
-pub beside_nothing : (p : PassState) → MarksBeside p p
-beside_nothing p = grind (arith, does_nothing, keeps_at_once, nothing_keeps, nothing_done)
-
 pub goes_nowhere : (t : TurnState) → IsBeside t.pass → GoesBeside t t
-goes_nowhere t b = record { table = refl; beside = b; marks = beside_nothing t.pass }
+goes_nowhere t b = grind (arith, does_nothing, keeps_at_once, nothing_keeps, nothing_done)
 
 -- What is found points well after more marks.
 
@@ -36,10 +33,6 @@ all_on test more h (x ∷ xs) is =
 or_on : (a b more : Bool) → (b ≡ true → more ≡ true) → (a || b) ≡ true → (a || more) ≡ true
 or_on true b more h is = refl
 or_on false b more h is = h is
-
-found_on : (pages : ℕ) (w v : Words) → ((u : ℕ) → points_well pages w u ≡ true → points_well pages v u ≡ true)
-    → (xs : List Finding) → list_all (found_well pages w) xs ≡ true → list_all (found_well pages v) xs ≡ true
-found_on pages w v well xs is = grind (arith, all_on, or_on)
 
 -- Two parts, where the first is of these events.
 module _ (p : PassState) (xs : List Event) (r : PassState) where
@@ -63,9 +56,7 @@ module _ (p : PassState) (xs : List Event) (r : PassState) where
   }
 
   two_parts : MarksBeside p q → MarksBeside q r → MarksBeside p r
-  two_parts a b =
-      joined a.does a.keeps a.reached a.well
-      (found_on p.table.config.pages (now_of q).words (now_of r).words b.well (done_since p q) a.found) b
+  two_parts a b = grind (arith, joined, all_on, or_on)
 
   root_part : (x : Word) (n : ℕ) → Does begins_marking p q → LeavesTurn unchanged p q → MarksReachedAlone p q
       → StaysWell p q → done_since p q ≡ record { event = event_of p (Step.Look x); found = n } ∷ []

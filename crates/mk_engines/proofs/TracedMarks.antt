@@ -1,38 +1,24 @@
 -- Tracing in the stop meets the law of engines. Most of it holds of each engine that marks in the stop alone.
 use Rattle.std.proofs.{Common.count_by, lemmas.List.Sums.sum_by-cons}
-use Rattle.mk_laws.proofs.Vocabulary.{Bool, Caller, Config, Flight, Holds, Host, IsHistory, List, Marker}
-use Rattle.mk_laws.proofs.Vocabulary.{MarksAreClosed, Moment, Op, Protocol, Seat, Stage, Steady, Step, Words, ℕ, ap}
-use Rattle.mk_laws.proofs.Vocabulary.{at_rest, cond, false, flight_of, is_run_gone, is_under_turn, not, refl}
-use Rattle.mk_laws.proofs.Vocabulary.{slice_index_or, sym, true, [], ◌&&◌, ◌+◌, ◌∙◌, ◌∷◌, ◌≡◌}
-use Rattle.mk_laws.{proofs.Protocols.{lists_keep_the_protocol}, specs.Protocol.{has_stage}}
-use Rattle.mk_core.specs.{Frames.CountsAreLeft, Growing.Finding, Readings.is_idle}
+use Rattle.mk_laws.proofs.Vocabulary.{Bool, Caller, Config, Holds, Host, IsHistory, List, Marker, MarksAreClosed}
+use Rattle.mk_laws.proofs.Vocabulary.{Moment, Protocol, Seat, Steady, Step, Words, ℕ, ap, arith, cond, false, flight_of}
+use Rattle.mk_laws.proofs.Vocabulary.{is_run_gone, refl, sym, true, [], ◌&&◌, ◌+◌, ◌∙◌, ◌∷◌, ◌≡◌}
+use Rattle.mk_core.specs.{Frames.CountsAreLeft, Growing.Finding}
+use Rattle.mk_laws.proofs.Protocols.{lists_keep_the_protocol}
 use Rattle.mk_cycle.proofs.KeptInParts.{keeps_at_once}
-use Rattle.mk_cycle.specs.EngineLaw.{BeginsMarking, ClosesMarks, IsFreeForCycle, is_pending_free, is_pending_free_at}
+use Rattle.mk_cycle.specs.EngineLaw.{BeginsMarking, ClosesMarks, IsFreeForCycle, is_pending_free}
 use Rattle.mk_cycle.specs.TurnKeeps.{Done, KeepsCall, LeavesTurn, but_phase, unchanged}
-use Rattle.mk_tracing.specs.{Stops.{HolderIsLoaded, IsWanted, is_loaded, is_loaded_at}, Tracing.{Counted, Traces}}
-use Rattle.mk_tracing.specs.{Tracing.{Untouched, is_tracing, is_want, untouched_of}, Grays.TracesReached}
-use Rattle.mk_turns.{proofs.Doing.{does_nothing}, specs.Doing.{Does, are_of, done_in}}
-use Rattle.mk_words.specs.{States.{PassState, now_of, world_of}, Steps.IsEnabledTo}
 use Rattle.mk_cycle.specs.Kinds.{begins_marking, closes_marks, is_want as is_wish}
+use Rattle.mk_tracing.specs.Tracing.{Counted, Traces, Untouched, is_tracing, is_want, untouched_of}
+use Rattle.mk_tracing.specs.{Grays.TracesReached, Stops.HolderIsLoaded, Stops.IsWanted, Stops.is_loaded}
+use Rattle.mk_turns.{proofs.Doing.does_nothing, specs.Doing.Does, specs.Doing.are_of, specs.Doing.done_in}
+use Rattle.mk_words.specs.{States.PassState, States.now_of, States.world_of, Steps.IsEnabledTo}
 
 -- A call that is free for a cycle has loaded what it loads.
 
-loaded_at : (x : Stage) (o : Op) → has_stage o x ≡ true → (not (is_idle x) && is_under_turn o) ≡ true
-    → is_pending_free_at o x ≡ false → is_loaded_at x ≡ true
-loaded_at Stage.Turn o has turn decided = refl
-loaded_at Stage.Give o has turn decided = refl
-loaded_at x (Op.New d ty full) has turn decided = cc
-loaded_at x (Op.Free p) has turn decided = cc
-loaded_at x o has turn decided = absurd (never (not (is_idle x)) turn)
-  where
-    never : (b : Bool) → (b && false) ≡ true → ⊥
-    never true e = cc
-    never false e = cc
-
 loaded_of : {c : Config} {m : Moment} (seat : Seat) → Protocol c m → Holds c m seat
     → is_pending_free (flight_of m seat) ≡ false → is_loaded seat (flight_of m seat) ≡ true
-loaded_of {m} (Caller k) p holds decided =
-    loaded_at (flight_of m (Caller k)).stage (flight_of m (Caller k)).op (p.stage k holds.0) holds.1 decided
+loaded_of {m} (Caller k) p holds decided = grind arith
 loaded_of (Marker k) p holds decided = refl
 loaded_of Host p holds decided = refl
 
@@ -45,13 +31,7 @@ ready_of p history holds free =
 -- Its kinds are those of the law.
 
 pub closing_kind : (s : Step) → is_tracing s ≡ true → closes_marks s ≡ true
-closing_kind Step.Want h = refl
-closing_kind (Step.Look x) h = refl
-closing_kind (Step.Mark p v) h = refl
-closing_kind (Step.Undirty p) h = refl
-closing_kind (Step.Black p v) h = refl
-closing_kind (Step.Unblack p) h = refl
-closing_kind _ h = cc
+closing_kind x0 h = grind arith
 
 both_parts : (a b : Bool) → (a && b) ≡ true → (a ≡ true) × (b ≡ true)
 both_parts true b h = (refl, h)
@@ -87,11 +67,6 @@ module _ (p q : PassState) (pass : q ≡ record p { seen = q.seen })
   flights : (now_of q).seats.flights ≡ (now_of p).seats.flights
   flights = ap (λ (x : Untouched). x.flights) same
 
-  same_flight : (seat : Seat) → flight_of (now_of q) seat ≡ flight_of (now_of p) seat
-  same_flight (Caller k) = ap (λ (fs : List Flight). slice_index_or fs k at_rest) flights
-  same_flight (Marker k) = refl
-  same_flight Host = refl
-
   done_as : Untouched → Done
   done_as x = record { placing = x.placing; freed = x.freed_run; cycle = x.cycle }
 
@@ -105,12 +80,7 @@ module _ (p q : PassState) (pass : q ≡ record p { seen = q.seen })
 
   pub keeps_call : KeepsCall p q
   unfolding done_as
-  keeps_call = record {
-    pass = pass;
-    call = ap (λ (x : PassState). flight_of (now_of q) x.seat) pass ∙ same_flight p.seat;
-    done = ap done_as same;
-    gone = λ g. same_gone ∙ g;
-  }
+  keeps_call = grind (arith, done_as, same_gone, flights)
 
   steady_as : Untouched → Steady
   steady_as x = record {

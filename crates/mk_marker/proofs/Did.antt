@@ -1,5 +1,6 @@
 -- What is done in parts.
-use Rattle.mk_laws.proofs.Vocabulary.{Event, List, ap, append-nil, append_assoc, refl, subst, sym, [], ◌++◌, ◌∙◌, ◌≡◌}
+use Rattle.mk_laws.proofs.Vocabulary.{Event, List, ap, append-nil, append_assoc, arith, refl, subst, sym, [], ◌++◌, ◌∙◌}
+use Rattle.mk_laws.proofs.Vocabulary.{◌≡◌}
 use Rattle.mk_core.specs.Growing.{Finding, own_from}
 use Rattle.mk_marker.specs.{Doing.Did, Steps.IsOf}
 use Rattle.mk_turns.{proofs.Doing.{done_in_parts, own_or_others_in_parts}, specs.Doing.{AreOwnOrOfOthers, done_in}}
@@ -24,14 +25,8 @@ did_then {p} {xs} {ys} {r} d e = then_at p d.more xs ys d.own_or_others d.done r
 pub seat_kept : {p : PassState} {xs : List Finding} {q : PassState} → Did p xs q → q.seat ≡ p.seat
 seat_kept d = ap (λ (x : PassState). x.seat) d.is
 
-pub table_kept : {p : PassState} {xs : List Finding} {q : PassState} → Did p xs q → q.table ≡ p.table
-table_kept d = ap (λ (x : PassState). x.table) d.is
-
 pub still_of : {w : WordsState} {p : PassState} {xs : List Finding} {q : PassState} → IsOf w p → Did p xs q → IsOf w q
-still_of {p} {xs} {q} o d = record {
-  one_table = table_kept d ∙ o.one_table;
-  marker = record { number = o.marker.number; exists = o.marker.exists; seat = seat_kept d ∙ o.marker.seat };
-}
+still_of {p} {xs} {q} o d = grind (arith, seat_kept)
 
 pub did_nothing : (p : PassState) → Did p [] p
 unfolding AreOwnOrOfOthers own_from

@@ -66,10 +66,7 @@ sees_then {p} {q} {cell} {r} one two =
         looks = one.steps ++ sees.looks;
         marks = sees.marks;
         blacks = sees.blacks;
-        is =
-            ap (λ (zs : List Finding). one.steps ++ zs) sees.is ∙ sym (append_assoc one.steps sees.looks
-            (looking p.seat (Word.Mark cell.page) sees.marks ∷ looking p.seat
-            (Word.Black cell.page) sees.blacks ∷ looking p.seat (Word.Head cell.page) cell.header ∷ []));
+        is = ap (λ (zs : List Finding). one.steps ++ zs) sees.is ∙ sym (append_assoc one.steps sees.looks _);
         are_looks = of_kinds_in_parts is_markers_look one.steps sees.looks one.looks sees.are_looks;
         marked = sees.marked;
         not_black = sees.not_black;

@@ -1,12 +1,11 @@
 -- What an event leaves of the marks while a cycle marks: each is of a cell, or of one that a New is to carve.
-use Rattle.mk_laws.proofs.Vocabulary.{AsChosen, AsUsed, Bool, ByFit, Chosen, Config, Granted, HeaderGoesOn, Holding}
-use Rattle.mk_laws.proofs.Vocabulary.{IsMarking, IsPlaced, IsSized, IsWithinLimits, ItGivesBack, ItTakes, Moment}
-use Rattle.mk_laws.proofs.Vocabulary.{Object, Option, Place, Placing, Seat, Stage, Step, Unplaced, Used, UsedStep}
-use Rattle.mk_laws.proofs.Vocabulary.{World, ℕ, and_parts, ap, arith, cells_made, cells_under, chosen, eqb-true, false}
-use Rattle.mk_laws.proofs.Vocabulary.{flight_of, has_bit, has_place, header_at, header_in, header_made, header_of}
-use Rattle.mk_laws.proofs.Vocabulary.{held_by_pages, if◌then◌else◌, inl, inr, is_decided, is_phase, is_run_gone}
-use Rattle.mk_laws.proofs.Vocabulary.{is_used_once, made_shows, ne_eqb, nothing_done, object_made, object_now}
-use Rattle.mk_laws.proofs.Vocabulary.{pages_some, part_cells, phase_of, place_now, placed_now, slice_index, subst, sym}
+use Rattle.mk_laws.proofs.Vocabulary.{Bool, Chosen, Config, HeaderGoesOn, Holding, IsMarking, IsPlaced, IsSized}
+use Rattle.mk_laws.proofs.Vocabulary.{IsWithinLimits, ItGivesBack, ItTakes, Moment, Object, Place, Placing, Seat, Stage}
+use Rattle.mk_laws.proofs.Vocabulary.{Step, Unplaced, Used, UsedStep, World, ℕ, and_parts, ap, arith, cells_made}
+use Rattle.mk_laws.proofs.Vocabulary.{cells_under, chosen, eqb-true, false, flight_of, has_bit, has_place, header_at}
+use Rattle.mk_laws.proofs.Vocabulary.{header_in, header_made, header_of, held_by_pages, if◌then◌else◌, inl, inr}
+use Rattle.mk_laws.proofs.Vocabulary.{is_decided, is_run_gone, made_shows, ne_eqb, nothing_done, object_made}
+use Rattle.mk_laws.proofs.Vocabulary.{object_now, pages_some, part_cells, phase_of, placed_now, slice_index, subst, sym}
 use Rattle.mk_laws.proofs.Vocabulary.{true, true≢false, undecided_new, used_step, ◌&&◌, ◌+◌, ◌<◌, ◌==◌, ◌∙◌, ◌≡◌, ◌⊎◌}
 use Rattle.mk_laws.proofs.LayoutHolders.{giver_has_turn, holding_object, made_sized, new_has_turn, placed_undecided}
 use Rattle.mk_laws.proofs.{Actors.Meets, Behind.object_kind, Known.Known, OthersMoves.WorldBehind}
@@ -40,23 +39,9 @@ either : (b : Bool) (h : Holding) (place : Place) → h.placing ≡ Chosen place
 either true h place is none = grind arith
 either false h place is none = is
 
-still_chosen : (b : Bool) (p : Placing) (o : Option Place) (place : Place) → p ≡ Chosen place
-    → (if b then p else chosen p o) ≡ Chosen place
-still_chosen true p o place is = is
-still_chosen false p o place is = ap (λ (x : Placing). chosen x o) is
-
-chosen_still : (b : Bool) (p : Placing) (o : Option Place) (place : Place) → p ≡ Chosen place
-    → (if b then chosen p o else p) ≡ Chosen place
-chosen_still true p o place is = ap (λ (x : Placing). chosen x o) is
-chosen_still false p o place is = is
-
 undecided : (s : Stage) → s ≡ Stage.Turn → is_decided s ≡ true → ⊥
 undecided Stage.Turn at h = cc
 undecided _ at h = cc
-
-not_used : (p : Placing) (place : Place) → p ≡ Chosen place → is_used_once p ≡ true → ⊥
-not_used (Chosen x) place is h = cc
-not_used _ place is h = cc
 
 pub marking_not_four : (n : ℕ) → (n ≡ 1) ⊎ (n ≡ 2) → (n == 4) ≡ false
 marking_not_four n early = ne_eqb n 4 (λ e. elim early [ inl x ↦ omega arith | inr x ↦ omega arith ])
@@ -68,18 +53,6 @@ StaysChosen c w seat place x =
 
 module _ {c : Config} (w : World) (seat : Seat) (limits : IsWithinLimits c) (known : Known c w.now)
     (early : IsMarking w.now.words) (place : Place) (is : w.now.seats.holding.placing ≡ Chosen place) where
-  gives_not : Meets c w.now seat Step.Give → ⊥
-  gives_not h =
-      let t = giver_has_turn c w.now seat known h in
-      let new = placed_undecided c w.now seat known t (ap (λ (x : Placing). has_place x) is) in
-      let decided = is_decided (flight_of w.now seat).stage in
-      let gone = is_run_gone w.now.words w.now.seats.holding.freed in
-      let held = w.now.words.held == held_by_pages w.now.words in
-      let a = and_parts (decided && gone && held) (w.now.words.fresh == w.now.fresh_words) h.holder in
-      let b = and_parts (decided && gone) held a.0 in
-      let d = and_parts decided gone b.0 in
-      undecided (flight_of w.now seat).stage (undecided_new (flight_of w.now seat) new).stage d.0
-
   takes : {p n : ℕ} → Meets c w.now seat (Step.Used p n) → UsedStep c w.now (flight_of w.now seat) p n
       → StaysChosen c w seat place (Step.Used p n)
   takes h (ItTakes four once t) =
@@ -100,20 +73,24 @@ module _ {c : Config} (w : World) (seat : Seat) (limits : IsWithinLimits c) (kno
     where
       by : (x : Placing) → x ≡ Chosen place → IsPlaced c.resident w.now.words.pages
           (object_made c (flight_of w.now seat).op) t.place x → t.place ≡ place
-      by Unplaced e (ByFit f) = cc
-      by (Chosen y) e AsChosen = cc
-      by (Used y) e AsUsed = cc
-      by Granted e x4 = elim x4 [ ]
+      by x0 e x4 = grind arith
   takes h (ItGivesBack four g) = absurd (true≢false (sym four ∙ marking_not_four (phase_of w.now.words) early))
 
   pub stays_chosen : (x : Step) → Meets c w.now seat x → StaysChosen c w seat place x
   stays_chosen (Step.Take o) h = grind (arith, either, eqb-true)
-  stays_chosen Step.Give h = absurd (gives_not h)
-  stays_chosen (Step.Head p n) h = inl (still_chosen (is_phase w.now.words 4) w.now.seats.holding.placing
-      (place_now c w.now (flight_of w.now seat)) place is)
+  stays_chosen Step.Give h = absurd (let t = giver_has_turn c w.now seat known h in
+      let new = placed_undecided c w.now seat known t (ap (λ (x : Placing). has_place x) is) in
+      let decided = is_decided (flight_of w.now seat).stage in
+      let gone = is_run_gone w.now.words w.now.seats.holding.freed in
+      let held = w.now.words.held == held_by_pages w.now.words in
+      let a = and_parts (decided && gone && held) (w.now.words.fresh == w.now.fresh_words) h.holder in
+      let b = and_parts (decided && gone) held a.0 in
+      let d = and_parts decided gone b.0 in
+      undecided (flight_of w.now seat).stage (undecided_new (flight_of w.now seat) new).stage d.0)
+  stays_chosen (Step.Head p n) h = grind arith
   stays_chosen (Step.Used p n) h = takes h (used_step c w.now (flight_of w.now seat) p n h.holder)
-  stays_chosen Step.Grant h = absurd (not_used w.now.seats.holding.placing place is h.holder)
-  stays_chosen (Step.Mark p n) h = grind (arith, chosen_still)
+  stays_chosen Step.Grant h = grind arith
+  stays_chosen (Step.Mark p n) h = grind arith
   stays_chosen _ h = inl is
 
 -- So a mark that was of a cell is of one after a step: headers go on.

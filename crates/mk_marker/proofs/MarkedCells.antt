@@ -7,8 +7,8 @@ use Rattle.mk_laws.proofs.Vocabulary.{has_bit, has_clean_page, header_at, header
 use Rattle.mk_laws.proofs.Vocabulary.{never_behind, no_bit, object_now, pages_some, phase_of, plot_of, refl}
 use Rattle.mk_laws.proofs.Vocabulary.{slice_index, subst, sym, true, true≢false, [], ◌&&◌, ◌++◌, ◌+◌, ◌<◌, ◌==◌, ◌∙◌}
 use Rattle.mk_laws.proofs.{Vocabulary.{◌∷◌, ◌≡◌, ◌≢◌, ◌⊎◌}, Phases.{is_phase_step, over_phase, phase_stays}}
-use Rattle.mk_laws.proofs.{Actors.Meets, Changes.{headers_kind, is_head}, FoundHeaders.head_finds, Headers.head_keeps}
-use Rattle.mk_laws.proofs.{InvariantJoined.told_to_guard, KeptGuard.goes_equal, Known.Known}
+use Rattle.mk_laws.proofs.{Actors.Meets, Changes.{headers_kind, is_head}, FoundHeaders.{head_finds, head_keeps}}
+use Rattle.mk_laws.proofs.{InvariantHistories.told_to_guard, KeptGuard.goes_equal, Known.Known}
 use Rattle.mk_laws.{proofs.{LastEvents.{comes_last, stands}, OthersMoves.WorldBehind}, specs.Guard.{Guard, MarksStand}}
 use Rattle.mk_core.specs.History.{left_from}
 use Rattle.mk_marker.proofs.MarkBits.{IsCell, IsToCarve, MarksAreOfCells, made_has, marking_not_four, still_a_cell}

@@ -9,8 +9,8 @@ use Rattle.mk_core.proofs.{Conditions.meets_enabled, WordBits.{bit_for_has, bits
 use Rattle.mk_core.specs.{Accesses.scan_bit, Bits.bit_for, Frames.{Attends, ScanIsLeft}, Growing.own_from}
 use Rattle.mk_core.specs.{Words.named_word, declared.seats.Presence.TheVariants.Attending}
 use Rattle.mk_marker.specs.Steps.{ClaimsMarked, IsMarkedIn, IsOf, IsScanning, IsScanOf, MarksGrow, Moved, MovesMarker}
-use Rattle.mk_marker.specs.{Steps.words_left, Doing.{Did, finding}, Markers.{attends, between_scans}}
-use Rattle.mk_marker.specs.{Scanning.words_scanned, Working.IsBlackIn, declared.cells.MarkedCell.MarkedCell}
+use Rattle.mk_marker.specs.{Steps.words_left, Doing.finding, Markers.{attends, between_scans}, Scanning.words_scanned}
+use Rattle.mk_marker.specs.{Working.IsBlackIn, declared.cells.MarkedCell.MarkedCell}
 use Rattle.mk_turns.proofs.Doing.{done_in_parts, none_own, others_are_so, own_or_others_in_parts}
 use Rattle.mk_turns.specs.Doing.{AreOwnOrOfOthers}
 use Rattle.mk_words.proofs.{Made.{made, own_before}, Seats.same_self}
@@ -29,20 +29,6 @@ itself : (s : Seat) (seats : List Seat) (x : Step) → Has seats s
 unfolding AreOwnOrOfOthers
 itself s seats x has = (has ∙ sym (same_self s), tt)
 
-pub did_step : (p : PassState) (s : Step) (n : ℕ) (q : PassState) → Finds p s n q → Did p (finding p.seat s n ∷ []) q
-did_step p s n q f =
-    grind (
-      arith,
-      own_before,
-      append_assoc,
-      own_or_others_in_parts,
-      others_are_so,
-      itself,
-      done_in_parts,
-      none_own,
-      one_own,
-    )
-
 -- who attends is a marker
 pub attends_there : (m : Moment) (s : Seat) → is_attending (marker_at m s).presence ≡ true → Attends m s
 attends_there m (Marker k) h = h
@@ -58,10 +44,12 @@ marks_grow {p} {s} {q} makes on page k is =
     (marks_kind p.table.config (left p.table.config (p.seen ++ makes.others)).now p.seat s scan.phase d.meets page k
     (scan.marks page k is))
 
+ruleset moves_facts = (own_before, append_assoc, own_or_others_in_parts, others_are_so, itself, done_in_parts, none_own)
+
 pub moves : (p : PassState) (s : Step) (n : ℕ) (q : PassState) → Marks p s n q → MovesMarker p s n q
 moves p s n q m = record {
   pass = m.finds.makes.pass;
-  did = did_step p s n q m.finds;
+  did = grind (arith, moves_facts, one_own);
   marker = m.marker;
   marks = marks_grow m.finds.makes;
 }
@@ -95,16 +83,6 @@ still_marked p page k n q on is f =
     let scan = d.frame.scan (attends_there (now_of p) p.seat on) in
     ap (λ (i : ℕ). has_bit i k) f.finds ∙ scan.marks page k is
 
-scan_of : (c : Config) (page k header n : ℕ) → has_bit n k ≡ true → marker_behind c n (Step.Claim page k)
-    (between_scans (Some (record { page = page; header = header }))) ≡ record {
-      presence = Attending;
-      scan = Some
-          (scan_begun page k header);
-      hand = None;
-      seen = Some (record { page = page; header = header });
-    }
-scan_of c page k header n is = grind arith
-
 pub claimed : {p : PassState} (cell : MarkedCell) {n : ℕ} {q : PassState} → marker_in p ≡ between_scans
     (Some (record { page = cell.page; header = cell.header })) → IsMarkedIn p cell.page cell.index
     → Marks p (Step.Claim cell.page cell.index) n q → ClaimsMarked p cell q × IsScanning (marker_in q) × IsScanOf
@@ -120,7 +98,7 @@ claimed {p} cell {n = n} {q = q} at is m =
     } in
     let now : marker_in q ≡ x =
     m.marker ∙ ap (λ (y : MarkerState). marker_behind p.table.config n (Step.Claim cell.page cell.index) y) at
-    ∙ scan_of p.table.config cell.page cell.index cell.header n marked in (
+    ∙ (grind arith) in (
       record { found = n; moves = moves p (Step.Claim cell.page cell.index) n q m; marked = marked },
       record {
         scan = scan_begun cell.page cell.index cell.header;

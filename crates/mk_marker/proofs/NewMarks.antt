@@ -11,9 +11,9 @@ use Rattle.mk_laws.proofs.Vocabulary.{is_attending, is_phase, is_small_object, i
 use Rattle.mk_laws.proofs.Vocabulary.{marks_place, object_made, object_now, or_cases, page_at_address, pages_some}
 use Rattle.mk_laws.proofs.Vocabulary.{place_claim, place_now, placed_now, pointed_cell, refl, seen_bit, seen_page}
 use Rattle.mk_laws.proofs.Vocabulary.{slice_index, subst, sym, true, true≢false, ◌+◌, ◌-◌, ◌<◌, ◌==◌, ◌^◌, ◌∙◌, ◌≡◌}
-use Rattle.mk_laws.proofs.{Vocabulary.◌⊎◌, LayoutHolders.{first_header, holding_object, new_has_turn}, Actors.Meets}
-use Rattle.mk_laws.proofs.{Behind.object_kind, Changes.{Table, reg_table, tally_table}, Known.Known}
-use Rattle.mk_laws.proofs.{OthersMoves.WorldBehind, Serving.placed_claim}
+use Rattle.mk_laws.proofs.{Vocabulary.◌⊎◌, Changes.{reg_table, tally_table}}
+use Rattle.mk_laws.proofs.{LayoutHolders.{first_header, holding_object, new_has_turn}, Actors.Meets, Behind.object_kind}
+use Rattle.mk_laws.proofs.{Known.Known, OthersMoves.WorldBehind, Serving.placed_claim}
 use Rattle.mk_core.proofs.{WordBits.{bit_is_one, bit_of_cell, bit_of_power, more_bits}, PlacesNow.PlacedNow}
 use Rattle.mk_core.proofs.ServingSteps.{MarksPlace}
 use Rattle.mk_core.specs.{NewPlaces.bits_made, StopConditions.{is_bit_of, marks_by_hand}}
@@ -28,12 +28,7 @@ is_marking_step _ = false
 
 marks_same : (c : Config) (w : World) (seat : Seat) (x : Step) → is_marking_step x ≡ false
     → (WorldBehind c w seat x).now.words.marks ≡ w.now.words.marks
-marks_same c w seat Step.Reg u = ap (λ (t : Table). t.marks) (reg_table c w.now seat)
-marks_same c w seat (Step.Tally n v) u = ap (λ (t : Table). t.marks) (tally_table w.now.words n v)
-marks_same c w seat (Step.Mark p n) u = cc
-marks_same c w seat Step.Mmark u = cc
-marks_same c w seat (Step.Clear p) u = cc
-marks_same c w seat _ u = refl
+marks_same c w seat x3 u = grind (arith, reg_table, tally_table)
 
 -- the bits of a New's cells
 bits_of_cells : (o : Object) (k : ℕ) → has_bit (bits_made o) k ≡ true → k < cells_made o

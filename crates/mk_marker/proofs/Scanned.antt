@@ -1,7 +1,7 @@
 -- The steps of a scan, one after the other.
 use Rattle.std.proofs.lemmas.List.Sums.{sum_by-append}
-use Rattle.mk_laws.proofs.Vocabulary.{Bool, List, Seat, Step, ℕ, ap, cond, false, refl, subst, true, [], ◌&&◌, ◌++◌}
-use Rattle.mk_laws.proofs.Vocabulary.{◌+◌, ◌∙◌, ◌∷◌, ◌≡◌}
+use Rattle.mk_laws.proofs.Vocabulary.{List, Seat, Step, ℕ, ap, arith, cond, false, refl, subst, true, [], ◌++◌, ◌+◌}
+use Rattle.mk_laws.proofs.Vocabulary.{◌∙◌, ◌∷◌, ◌≡◌}
 use Rattle.mk_core.specs.Growing.{Finding}
 use Rattle.mk_marker.{proofs.Did.{did_nothing, did_then, seat_kept}, specs.declared.cells.MarkedCell.{MarkedCell}}
 use Rattle.mk_marker.specs.{Doing.{Did, count_loads, finding, is_markers_load, is_of_scan}, Steps.{ClaimsMarked, Moved}}
@@ -27,12 +27,7 @@ goes_then {p} {i} {q} {r} a b = record {
 
 pub goes_once : {p : PassState} {s : Step} {n : ℕ} {q : PassState} → is_of_scan s ≡ true → is_markers_load s ≡ false
     → MovesMarker p s n q → ScansOn p 0 q
-goes_once {p} {s} {n} allowed silent m = record {
-  steps = finding p.seat s n ∷ [];
-  did = m.did;
-  of_scan = ap (λ (b : Bool). b && true) allowed;
-  has_loads = ap (λ (b : Bool). 0 + cond {A = ℕ} b 1 0) silent;
-}
+goes_once allowed silent m = grind arith
 
 pub loads_once : {p : PassState} {n : ℕ} {q : PassState} → MovesMarker p Step.Mload n q → ScansOn p 1 q
 loads_once {p} {n} m =

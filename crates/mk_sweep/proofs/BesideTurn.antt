@@ -2,14 +2,14 @@
 -- holder.
 use Rattle.std.specs.Prelude.{⊤}
 use Rattle.mk_sweep.proofs.Vocabulary.{Caller, Cell, Config, Event, HasMarkers, Holds, Host, Marker, Moment, Seat}
-use Rattle.mk_sweep.proofs.Vocabulary.{Steady, Step, Words, World, has_bit, is_marked, world_behind}
+use Rattle.mk_sweep.proofs.Vocabulary.{Steady, Step, World, has_bit, is_marked, world_behind}
 use Rattle.mk_laws.proofs.Vocabulary.{Bool, IsEnabled, List, ℕ, ap, arith, cases_Bool, enabled_meets, false}
 use Rattle.mk_laws.proofs.Vocabulary.{false_from_ne_true, holder_number, inl, inr, is_one_of, list_any, refl}
 use Rattle.mk_laws.proofs.Vocabulary.{slice_index, subst, sym, true, true≢false, [], ◌++◌, ◌+◌, ◌<◌, ◌∙◌, ◌∷◌, ◌≡◌, ◌≢◌}
-use Rattle.mk_laws.proofs.{Known.{Known, holds_turn, known_behind}, OthersMoves.{CallWrite, OthersMove, WorldBehind}}
-use Rattle.mk_laws.proofs.{OthersMoves.others_move, Actors.is_holders, FramesHolders.acts_as_holder}
-use Rattle.mk_laws.proofs.{Orderly.{same_holder, turn_of}, OrderlyLists.actor_of, PrecisionStepKinds.both_fail}
-use Rattle.mk_laws.proofs.{Protocols.protocol_of, Stretches.None_of, TurnFrame.turn_after, Views.{HoldsTurn, view_of}}
+use Rattle.mk_laws.proofs.{Known.{Known, holds_turn, known_behind}, OthersMoves.{OthersMove, WorldBehind, others_move}}
+use Rattle.mk_laws.proofs.{Actors.is_holders, FramesHolders.acts_as_holder, Orderly.{same_holder, turn_of}}
+use Rattle.mk_laws.proofs.{OrderlyLists.actor_of, PrecisionStepKinds.both_fail, Protocols.protocol_of}
+use Rattle.mk_laws.proofs.{Stretches.None_of, TurnFrame.turn_after, Views.{HoldsTurn, view_of}}
 use Rattle.mk_core.specs.{Growing.is_same_seat, History.{AreEnabledFrom, left_from}}
 use Rattle.mk_sweep.specs.Unswept.{LeaveUnmarked, OthersLeaveUnmarked}
 use Rattle.mk_tracing.specs.Tracing.{OwnStepsKeep}
@@ -23,9 +23,6 @@ MayHold c (Caller k) = k < c.callers
 MayHold c (Marker k) = ⊥
 MayHold c Host = ⊤
 
-holder_may_hold : (c : Config) (m : Moment) (s : Seat) → Holds c m s → MayHold c s
-holder_may_hold c m x2 h = grind arith
-
 holds_by_name : {c : Config} {m : Moment} (s : Seat) → Known c m → MayHold c s
     → m.words.turn ≡ 1 + holder_number c s → Holds c m s
 holds_by_name x0 known may is = grind (arith, protocol_of)
@@ -34,7 +31,7 @@ holds_by_name x0 known may is = grind (arith, protocol_of)
 pub holds_still : {c : Config} (s : Seat) (w v : World) → Known c w.now → Known c v.now
     → v.now.words.turn ≡ w.now.words.turn → Holds c w.now s → Holds c v.now s
 holds_still {c} s w v known next same h =
-    holds_by_name s next (holder_may_hold c w.now s h)
+    holds_by_name s next (grind arith)
     (same ∙ turn_of c (view_of w.now) s known.orderly (holds_turn c w.now s known.orderly h))
 
 -- one event of another seat
@@ -44,12 +41,9 @@ record IsBeside (c : Config) (w : World) (e : Event) : Type 0 where
   turn : (world_behind c w e).now.words.turn ≡ w.now.words.turn
   kind : is_holders e.step ≡ false
 
-call_marks : {k : ℕ} {w x : Words} → CallWrite k w x → x.marks ≡ w.marks
-call_marks x0 = grind arith
-
 move_marks : {c : Config} {w : World} {seat : Seat} {v : World} → OthersMove c w seat v
     → ((k : ℕ) → seat ≡ Marker k → k < 8 → ⊥) → v.now.words.marks ≡ w.now.words.marks
-move_marks x0 none = grind (arith, call_marks)
+move_marks x0 none = grind arith
 
 one_beside : {c : Config} (s : Seat) (seats : List Seat) (w : World) (e : Event) → HasMarkers seats → Known c w.now
     → IsEnabled c w.now e → Holds c w.now s → is_one_of seats e.seat ≡ false → is_same_seat s e.seat ≡ false

@@ -1,22 +1,18 @@
 -- Marked cells are blackened, one after the other.
 use Rattle.mk_sweep.proofs.Vocabulary.{BlacksMore, Cell, CellsAreClosed, Config, PageIsBlack, PassState, Words}
 use Rattle.mk_sweep.proofs.Vocabulary.{cells_under, has_bit, has_no_pointers, header_in, is_marked, still_words}
-use Rattle.mk_laws.proofs.Vocabulary.{Bool, List, ℕ, and_from, ap, arith, cases_lt, false, histories_keep_lengths}
-use Rattle.mk_laws.proofs.Vocabulary.{length, lt-ltb, nat_lt, refl, subst, sym, true, ◌&&◌, ◌+◌, ◌<◌, ◌^◌, ◌||◌, ◌∙◌}
-use Rattle.mk_laws.proofs.{Vocabulary.◌≡◌, Tests.all_below_from}
+use Rattle.mk_laws.proofs.Vocabulary.{Bool, ℕ, and_from, ap, arith, cases_lt, false, histories_keep_lengths, length}
+use Rattle.mk_laws.proofs.Vocabulary.{lt-ltb, nat_lt, refl, subst, sym, true, ◌&&◌, ◌+◌, ◌<◌, ◌^◌, ◌||◌, ◌∙◌, ◌≡◌}
 use Rattle.mk_core.proofs.WordBits.{bit_for_has, bit_for_small, bits_added, bits_stay}
 use Rattle.mk_core.specs.{Cells.words_point_well, StopConditions.may_turn_black}
+use Rattle.mk_laws.proofs.Tests.{all_below_from}
 use Rattle.mk_tracing.specs.Grays.{is_black, with_blacks}
-
--- a record with the black words of another
-abbrev blackened_as : Words → List ℕ → Words
-blackened_as w bs = record w { blacks = bs }
 
 pub blacks_same : (w v : Words) → v ≡ w → BlacksMore w v
 blacks_same w v e = subst (BlacksMore w) (sym e) (record { is = refl; grow = λ p k h. h })
 
 pub blacks_then : {u v w : Words} → BlacksMore u v → BlacksMore v w → BlacksMore u w
-blacks_then {w} one two = grind (arith, blackened_as)
+blacks_then {w} one two = grind arith
 
 pub blacks_added : (w v : Words) (page bits : ℕ) → v ≡ with_blacks page bits w → BlacksMore w v
 blacks_added w v page bits e = grind (arith, bits_stay)

@@ -43,13 +43,10 @@ pub range_outside : (a len n : ℕ) → (n < a) ⊎ (a + len ≤ n) → times n 
 range_outside a zero n out = refl
 range_outside a (suc len) n out =
     let first = times_first n a (range_with_len (a + 1) len) in
-    let other = other_is_none a n (λ e. not_here out e) in
+    let other = other_is_none a n (λ e. grind arith) in
     let rest = range_outside (a + 1) len n (further out) in
     omega arith
   where
-    not_here : (n < a) ⊎ (a + suc len ≤ n) → a ≡ n → ⊥
-    not_here x0 e = grind arith
-
     further : (n < a) ⊎ (a + suc len ≤ n) → (n < a + 1) ⊎ (a + 1 + len ≤ n)
     further x0 = grind arith
 

@@ -9,7 +9,7 @@ use Rattle.mk_sweep.{proofs.CountedWords.{pages_once, same_length, times, times_
 use Rattle.mk_sweep.proofs.ScannedCells.{scanned_stands, used_cell}
 use Rattle.mk_laws.proofs.Vocabulary.{Bool, List, ℕ, and_from, and_parts, ap, arith, cases_eq, false, inl, inr, length}
 use Rattle.mk_laws.proofs.Vocabulary.{never_granted, refl, sym, true, true≢false, ◌&&◌, ◌*◌, ◌+◌, ◌<◌, ◌∙◌, ◌≡◌, ◌≢◌}
-use Rattle.mk_laws.proofs.{Vocabulary.◌≤◌, InvariantTheorems.{allocations_are_disjoint, allocations_stand}}
+use Rattle.mk_laws.proofs.{Vocabulary.◌≤◌, InvariantHistories.{allocations_are_disjoint, allocations_stand}}
 use Rattle.mk_laws.proofs.MappedWords.{mapped_stays}
 use Rattle.mk_core.specs.ClosedMarks.{is_scanned_allocation}
 use Rattle.mk_cycle.proofs.SumsBelow.{one_if_any}

@@ -4,8 +4,7 @@ use Rattle.std.specs.List.{list_all}
 use Rattle.mk_sweep.proofs.Vocabulary.{Config, Event, InRegister, InWord, IsSwept, IsSweptValue, Step, World, left}
 use Rattle.mk_sweep.proofs.Vocabulary.{placed_at}
 use Rattle.mk_laws.proofs.Vocabulary.{Bool, List, None, Op, Some, Tally, Word, ℕ, and_parts, arith, false, false≢true}
-use Rattle.mk_laws.proofs.Vocabulary.{leb-true, ltb-true, refl, slice_index, small, suc, true, zero, [], ◌&&◌, ◌++◌}
-use Rattle.mk_laws.proofs.Vocabulary.{◌∷◌, ◌≡◌}
+use Rattle.mk_laws.proofs.Vocabulary.{leb-true, ltb-true, refl, small, suc, true, zero, [], ◌&&◌, ◌++◌, ◌∷◌, ◌≡◌}
 use Rattle.mk_core.proofs.Schedules.{by, c0, fault, first_fault, host, pointer_page}
 use Rattle.mk_core.proofs.SmallCycles.{begun_in_stop, by_host, marked_in_stop, three_objects}
 use Rattle.mk_core.proofs.{EvaluatedReach.below_two, ListTests.list_all-at, ListTests.numbered_all}
@@ -29,14 +28,8 @@ module _ (c : Config) (w : World) (S : ℕ → Bool) (h : all_are_into c w S ≡
   roots : (all_into c w S w.now.words.registers ≡ true) × (all_into c w S w.now.words.globals ≡ true)
   roots = and_parts (all_into c w S w.now.words.registers) (all_into c w S w.now.words.globals) outer.0
 
-  pub register_into : (i : ℕ) → is_into_members c w S (slice_index w.now.words.registers i) ≡ true
-  register_into i = list_all-at (is_into_members c w S) w.now.words.registers 0 roots.0 refl i
-
-  pub global_into : (g : ℕ) → is_into_members c w S (slice_index w.now.words.globals g) ≡ true
-  global_into g = list_all-at (is_into_members c w S) w.now.words.globals 0 roots.1 refl g
-
   value_into : {u : ℕ} → IsSweptValue c w u → is_into_members c w S u ≡ true
-  value_into x0 = grind (arith, is_into_members, register_into, global_into, list_all-at, outer)
+  value_into x0 = grind (arith, is_into_members, list_all-at, outer, roots)
 
   pub swept_by_test : {b : ℕ} → IsSwept c w b → S b ≡ true
   swept_by_test {b} swept = points_into c w S swept.value b (value_into swept.found) swept.points

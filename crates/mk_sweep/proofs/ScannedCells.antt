@@ -12,9 +12,9 @@ use Rattle.mk_laws.proofs.Vocabulary.{kinds_of, large_count, large_is_not_small,
 use Rattle.mk_laws.proofs.Vocabulary.{object_now, object_placed, pages_made, pages_some, part_has_no_pointers, refl}
 use Rattle.mk_laws.proofs.Vocabulary.{small_heads_none, subst, sym, true, true≢false, typed_size, unmapped_is_unmapped}
 use Rattle.mk_laws.proofs.Vocabulary.{words_are_zero, words_within, ◌&&◌, ◌++◌, ◌+◌, ◌/◌, ◌<◌, ◌==◌, ◌||◌, ◌∙◌, ◌≡◌}
-use Rattle.mk_laws.proofs.{Vocabulary.{◌≢◌, ◌⊎◌}, KnownWorlds.{KnownWorld, known_world}, Claims.{claim_among, claim_is}}
-use Rattle.mk_laws.proofs.{FreeCells.free_cells_are_zero, Freed.gone_terrain}
-use Rattle.mk_laws.proofs.{InvariantHistories.histories_keep_the_invariant, InvariantTheorems.allocations_stand}
+use Rattle.mk_laws.proofs.{Vocabulary.{◌≢◌, ◌⊎◌}, Claims.{claim_among, claim_is}}
+use Rattle.mk_laws.proofs.InvariantHistories.{allocations_stand, histories_keep_the_invariant}
+use Rattle.mk_laws.proofs.{FreeWords.free_cells_are_zero, Freed.gone_terrain, KnownWorlds.{KnownWorld, known_world}}
 use Rattle.mk_laws.proofs.{MappedWords.mapped_stays, ReadingsStands.freed_cell, Serving.{Laid, own_claim}}
 use Rattle.mk_laws.proofs.{Settled.{unmapped_run, unreleased_are_apart}, TellGuard.guard_in}
 use Rattle.mk_core.proofs.{PointedAllocations.{cell_word_is_its_own, taken_cell_is}, StandingAllocations.cell_is_known}

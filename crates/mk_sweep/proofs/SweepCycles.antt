@@ -280,9 +280,6 @@ module _ {p : PassState} {looks : ℕ} {es : List Event} (has : Has p.seats p.se
       others_leave c k.swept k.waited s closing_history.within_limits closing_history.enabled
       (others_own p.seats s k.waited has k.while_waiting)
 
-  swept_at_close : {i : ℕ} → IsSwept c (left c k.held) i → IsSwept c (left c (before_close cycle.marking)) i
-  swept_at_close x = grind (arith, closing_is, swept_alike, closing, waited_leaves, swept_holds, gates_held)
-
   -- The allocation is unreleased as the sweep begins, and its cell is unmarked.
   module _ (i : ℕ) (snapshot : IsInSnapshot c cycle.marking i) where
     abbrev at_start : PlacedAllocation
@@ -335,7 +332,8 @@ module _ {p : PassState} {looks : ℕ} {es : List Event} (has : Has p.seats p.se
         since_sweep i history held_history release_is (held_phase (record p { seen = start })
         (record p { seen = k.held }) 1 k.holds (ap (λ (w : World). phase_of w.now.words) last_begin.leaves
         ∙ phase_moves c first.now s Step.Begin last_begin.meets)) snapshot unreleased_there
-        (λ x. out (swept_at_close x)) (subst (λ (x : Cell). is_marked (left c k.held).now.words x ≡ false)
+        (λ x. out (grind (arith, closing_is, swept_alike, closing, waited_leaves, swept_holds, gates_held)))
+        (subst (λ (x : Cell). is_marked (left c k.held).now.words x ≡ false)
         (sym same_cell) unmarked_there) (subst (λ (x : Cell). OthersLeaveUnmarked c s x (left c k.held) sweeping)
         (sym same_cell) (others_mark_none is_tracing tracing_leaves_turn c s p.seats cell sweeping_part))
         (subst (λ (x : Cell). LeaveUnmarked c x (left c k.swept) since_sweep) (sym same_cell)

@@ -10,7 +10,7 @@ use Rattle.mk_laws.proofs.Vocabulary.{Bool, Hand, Holding, List, None, Option, S
 use Rattle.mk_laws.proofs.Vocabulary.{and_parts, ap, append-nil, arith, eq-eqb, false, found, if◌then◌else◌, lt-ltb}
 use Rattle.mk_laws.proofs.Vocabulary.{ne_eqb, or_else, page_at_address, refl, slice_index, subst, sym, true}
 use Rattle.mk_laws.proofs.Vocabulary.{word_points, [], ◌&&◌, ◌*◌, ◌++◌, ◌+◌, ◌<◌, ◌^◌, ◌∙◌, ◌∷◌, ◌≡◌}
-use Rattle.mk_laws.proofs.{InvariantTheorems.allocations_stand, MappedWords.mapped_stays}
+use Rattle.mk_laws.proofs.{InvariantHistories.allocations_stand, MappedWords.mapped_stays}
 use Rattle.mk_core.proofs.PointedPages.{pointed_within}
 use Rattle.mk_core.specs.{Effects.{hand_given, is_in_stop, is_mapped_cell}, Frames.HoldsAll, Ranges.is_word}
 use Rattle.mk_core.specs.{Words.named_word, declared.seats.Source.TheVariants.{Marked, Unmarked}}

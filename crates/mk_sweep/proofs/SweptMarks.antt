@@ -7,7 +7,7 @@ use Rattle.mk_sweep.proofs.{Vocabulary.{still_words, words_below, world_of}, Eac
 use Rattle.mk_sweep.proofs.{EachOnce.never_twice, SweepSteps.{rule_alike, settled_kept, word_alike}}
 use Rattle.mk_sweep.proofs.{CountedWords.{some_there, times}, Done.{looks_in_parts, looks_of_waiting}}
 use Rattle.mk_laws.proofs.Vocabulary.{ℕ, ap, arith, length, ne_eqb, slice_index, subst, sym, true, ◌++◌, ◌+◌, ◌<◌, ◌∙◌}
-use Rattle.mk_laws.proofs.{Vocabulary.{◌≡◌, ◌≤◌}, InvariantTheorems.allocations_stand, Settled.gone_is_unmapped}
+use Rattle.mk_laws.proofs.{Vocabulary.{◌≡◌, ◌≤◌}, InvariantHistories.allocations_stand, Settled.gone_is_unmapped}
 use Rattle.mk_core.proofs.PointedAllocations.{marked_where_its_cell_is, points_well_where_marked}
 use Rattle.mk_core.specs.{ClosedMarks.is_marked_allocation, Frames.HoldsAll}
 use Rattle.mk_cycle.specs.{EngineLaw.{ClosesMarks, IsFreeForCycle}, Kinds.closes_marks}

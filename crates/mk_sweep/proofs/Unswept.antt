@@ -41,17 +41,19 @@ unswept_stays_unmarked p q n s i history one unreleased out was others =
     let c : Config = p.table.config in
     let w : World = world_of p in
     let d = s.traces.does in
-    let cell : Cell = cell_of_allocation c (placed_at w.allocations i) in
-    let behind = list_leaves c w w p.seat cell d.more (kinds_keep is_tracing IsTracing c p.seat w d.more
-    (λ m x kind. kind) d.of_kinds) s.traces.keeps others (λ x. out (record {
-      value = x.value;
-      found = x.found;
-      points = (
-        unreleased,
-        comes_back c w (never_behind c p.seen) (record {
-          known = known_world c p.seen history.within_limits history.enabled;
-          all = histories_keep_the_invariant c p.seen history;
-        }) (inl one) i x.value unreleased x.points,
-      );
-    })) was in
-    cc (d.is, left_in_parts c p.seen d.more, behind)
+    cc (
+      d.is,
+      left_in_parts c p.seen d.more,
+      list_leaves c w w p.seat (cell_of_allocation c (placed_at w.allocations i)) d.more (kinds_keep is_tracing
+          IsTracing c p.seat w d.more (λ m x kind. kind) d.of_kinds) s.traces.keeps others (λ x. out (record {
+            value = x.value;
+            found = x.found;
+            points = (
+              unreleased,
+              comes_back c w (never_behind c p.seen) (record {
+                known = known_world c p.seen history.within_limits history.enabled;
+                all = histories_keep_the_invariant c p.seen history;
+              }) (inl one) i x.value unreleased x.points,
+            );
+          })) was,
+    )

@@ -1,17 +1,11 @@
 -- The parts of a whole cycle, read off what beginning and finishing it ensure.
 use Rattle.mk_sweep.proofs.Vocabulary.{AreOfOthers, Event, Has, HasMarkers, IsEnabledTo, IsHistory, PassState, Step}
 use Rattle.mk_sweep.proofs.{Vocabulary.{Sweeps, event_of}, SweepCycles.{SweepParts, cycle, is_released_by_it}}
-use Rattle.mk_laws.proofs.Vocabulary.{List, ℕ, ap, append-nil, append_assoc, subst, [], ◌++◌, ◌∙◌, ◌∷◌, ◌≡◌}
+use Rattle.mk_laws.proofs.Vocabulary.{List, ℕ, ap, append-nil, append_assoc, arith, subst, [], ◌++◌, ◌∙◌, ◌∷◌, ◌≡◌}
 use Rattle.mk_cycle.specs.{Begun.{DoesNothing, IsBegunLast}, Closing.IsClosedBy, Holding.HoldsGates}
 use Rattle.mk_cycle.specs.Releasing.{MakesRelease}
 use Rattle.mk_sweep.specs.SweepCycle.{ReleasesUnswept}
 use Rattle.mk_turns.proofs.Sweeping.{only_seen_by}
-
-stretches : {X : Type 0} (xs ws zs rest : List X) (b r : X)
-    → ((((xs ++ ws) ++ b ∷ []) ++ zs) ++ r ∷ []) ++ rest ≡ xs ++ (ws ++ b ∷ (zs ++ r ∷ rest))
-stretches xs ws zs rest b r =
-    append_assoc (((xs ++ ws) ++ b ∷ []) ++ zs) (r ∷ []) rest ∙ append_assoc ((xs ++ ws) ++ b ∷ []) zs (r ∷ rest)
-    ∙ append_assoc (xs ++ ws) (b ∷ []) (zs ++ r ∷ rest) ∙ append_assoc xs ws (b ∷ (zs ++ r ∷ rest))
 
 module _ (p b q : PassState) (looks : ℕ) (same : b ≡ record p { seen = b.seen })
     (last : IsBegunLast DoesNothing p b) (closed : IsClosedBy (λ x y. Sweeps x y looks) b q) where
@@ -28,15 +22,8 @@ module _ (p b q : PassState) (looks : ℕ) (same : b ≡ record p { seen = b.see
   abbrev front : List Event
   front = (p.seen ++ last.before.more) ++ last.begin.others
 
-  begun_is : last.begun ≡ record p { seen = front ++ begin ∷ [] }
-  begun_is =
-      last.begin.is ∙ ap
-      (λ (x : PassState). record x { seen = x.seen ++ last.begin.others ++ event_of x Step.Begin ∷ [] }) last.before.is
-
   start_is : b ≡ record p { seen = front ++ begin ∷ [] }
-  start_is =
-      same ∙ ap (λ (xs : List Event). record p { seen = xs }) (last.part.is ∙ ap (λ (xs : List Event). last.begun.seen
-      ++ xs) last.part.part ∙ append-nil last.begun.seen ∙ ap (λ (x : PassState). x.seen) begun_is)
+  start_is = grind (arith, append-nil)
 
   held_is : closed.held ≡ record p { seen = closed.held.seen }
   held_is = closed.holds.keeps.call.pass ∙ ap (λ (x : PassState). record x { seen = closed.held.seen }) same
@@ -56,14 +43,6 @@ module _ (p b q : PassState) (looks : ℕ) (same : b ≡ record p { seen = b.see
   abbrev stopped : List Event
   stopped = makes.release.others
 
-  seen_is : q.seen ≡ makes.closing.seen ++ (waited ++ close ∷ (stopped ++ release ∷ closed.rest))
-  seen_is =
-      closed.is ∙ ap (λ (x : PassState). x.seen ++ closed.rest) makes.release.is ∙ ap
-      (λ (x : PassState). ((makes.closed.seen ++ stopped) ++ event_of x Step.Release ∷ []) ++ closed.rest) closed_is
-      ∙ ap (λ (x : PassState). ((x.seen ++ stopped) ++ release ∷ []) ++ closed.rest) makes.close.is ∙ ap
-      (λ (x : PassState). ((((makes.closing.seen ++ waited) ++ event_of x Step.Close ∷ []) ++ stopped) ++ release ∷ [])
-      ++ closed.rest) closing_is ∙ stretches makes.closing.seen waited stopped closed.rest close release
-
   abbrev parts : SweepParts p looks q.seen
   parts = record {
     front = front;
@@ -79,7 +58,7 @@ module _ (p b q : PassState) (looks : ℕ) (same : b ≡ record p { seen = b.see
     may_close = subst (λ (x : PassState). IsEnabledTo x Step.Close) closing_is makes.marks.close;
     while_waiting = subst (λ (x : PassState). AreOfOthers x.seats waited) closing_is makes.close.of_others;
     while_stopped = subst (λ (x : PassState). AreOfOthers x.seats stopped) closed_is makes.release.of_others;
-    is = seen_is;
+    is = grind (arith, makes, stopped, closed_is, release, waited, closing_is, close, append_assoc);
   }
 
   pub releases_unswept : Has p.seats p.seat → HasMarkers p.seats → IsHistory p.table.config q.seen → ReleasesUnswept p q

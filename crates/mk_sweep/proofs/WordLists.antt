@@ -3,17 +3,14 @@ use Rattle.std.{proofs.lemmas.List.Elements.{Contains-append_cases, Contains-pus
 use Rattle.mk_sweep.proofs.Vocabulary.{MarksMore, PointWell, Words, cells_under, has_bit, has_no_pointers, head_page}
 use Rattle.mk_sweep.proofs.Vocabulary.{header_at, header_in, header_of, points_well, used_at, words_below, words_if}
 use Rattle.mk_sweep.proofs.Vocabulary.{words_of_cells, words_on, words_under}
-use Rattle.mk_laws.proofs.Vocabulary.{Header, List, Option, ℕ, ap, arith, false, head_page_under, inl, inr, slice_index}
-use Rattle.mk_laws.proofs.Vocabulary.{suc, sym, true, zero, [], ◌*◌, ◌++◌, ◌+◌, ◌∙◌, ◌∷◌, ◌≡◌, ◌≤◌}
+use Rattle.mk_laws.proofs.Vocabulary.{List, ℕ, ap, arith, false, inl, inr, slice_index, suc, sym, true, zero, [], ◌*◌}
+use Rattle.mk_laws.proofs.Vocabulary.{◌++◌, ◌+◌, ◌∙◌, ◌∷◌, ◌≡◌, ◌≤◌}
 use Rattle.mk_tracing.proofs.MoreMarks.{well_more}
 
 -- The head of a page's run doesn't lie after it.
 
-head_under : (x : Option Header) (p : ℕ) → head_page_under x p ≤ p
-head_under x0 p = grind arith
-
 pub head_is_near : (w : Words) (p : ℕ) → head_page w p ≤ p
-head_is_near w p = head_under (header_in w p) p
+head_is_near w p = grind arith
 
 -- one word more, one cell more and one page more
 

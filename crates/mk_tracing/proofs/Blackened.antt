@@ -1,11 +1,9 @@
 -- A cell that is blackened: its words point well, and one fewer is white.
-use Rattle.std.proofs.Common.{lit≤}
-use Rattle.mk_laws.proofs.Vocabulary.{Block, Bool, Cell, Free, Header, Later, LeafBlock, LeafRun, List, None, Option}
-use Rattle.mk_laws.proofs.Vocabulary.{Run, Some, Words, ℕ, and_from, ap, arith, bit_or, cases_lt, cell_words, cells_of}
-use Rattle.mk_laws.proofs.Vocabulary.{cells_under, false, first_word, has_bit, has_no_pointers, header_in}
-use Rattle.mk_laws.proofs.Vocabulary.{if◌then◌else◌, inl, inr, is_marked, length, lt-ltb, nat_lt, points_well, refl}
-use Rattle.mk_laws.proofs.Vocabulary.{slice_index, slice_set, subst, suc, sym, true, true≢false, zero, ◌&&◌, ◌+◌, ◌<◌}
-use Rattle.mk_laws.proofs.{Vocabulary.{◌^◌, ◌||◌, ◌∙◌, ◌≡◌, ◌≤◌, ◌⊎◌}, Tests.all_below_from}
+use Rattle.mk_laws.proofs.Vocabulary.{Bool, Cell, Header, List, Option, Words, ℕ, and_from, ap, arith, bit_or, cases_lt}
+use Rattle.mk_laws.proofs.Vocabulary.{cell_words, cells_of, cells_under, false, first_word, has_bit, has_no_pointers}
+use Rattle.mk_laws.proofs.Vocabulary.{header_in, if◌then◌else◌, inl, inr, is_marked, length, lt-ltb, nat_lt}
+use Rattle.mk_laws.proofs.Vocabulary.{points_well, refl, slice_index, slice_set, subst, suc, sym, true, zero, ◌&&◌, ◌+◌}
+use Rattle.mk_laws.proofs.{Vocabulary.{◌<◌, ◌^◌, ◌||◌, ◌∙◌, ◌≡◌, ◌≤◌, ◌⊎◌}, Tests.all_below_from}
 use Rattle.mk_core.proofs.WordBits.{bit_for_has, bit_for_small, bits_added, bits_stay}
 use Rattle.mk_core.specs.{Cells.words_point_well, StopConditions.may_turn_black}
 use Rattle.mk_tracing.specs.Grays.{BlackensOne, ColoursMore, IsGray, MarksMore}
@@ -28,10 +26,7 @@ pub white_cells : ℕ → List ℕ → ℕ
 white_cells pages blacks = sum_below pages (λ p. misses 32 (has_bit (slice_index blacks p)))
 
 less_where_more : (a b : Bool) → (a ≡ true → b ≡ true) → one_unless b ≤ one_unless a
-less_where_more true true h = omega arith
-less_where_more true false h = absurd (true≢false (sym (h refl)))
-less_where_more false true h = omega arith
-less_where_more false false h = omega arith
+less_where_more x0 x1 h = grind arith
 
 misses_less : (n : ℕ) (before after : ℕ → Bool) → ((k : ℕ) → before k ≡ true → after k ≡ true)
     → misses n after ≤ misses n before
@@ -81,13 +76,10 @@ pub fewer_white : (pages page index : ℕ) (blacks : List ℕ) → page < pages 
 unfolding white_cells
 fewer_white pages page index blacks lt within small white =
     let after : List ℕ = slice_set blacks page (bit_or (slice_index blacks page) (2 ^ index)) in
-    sums_fewer pages page (λ p. misses 32 (has_bit (slice_index blacks p)))
-    (λ p. misses 32 (has_bit (slice_index after p)))
-    (λ p. misses_less 32 (has_bit (slice_index blacks p)) (has_bit (slice_index after p))
-    (λ k h. bits_stay blacks page (2 ^ index) p k h)) lt
-    (misses_fewer 32 index (has_bit (slice_index blacks page)) (has_bit (slice_index after page))
-    (λ k h. bits_stay blacks page (2 ^ index) page k h) small white
-    (bits_added blacks page (2 ^ index) index within
+    sums_fewer pages page (λ p. misses 32 _) (λ p. misses 32 (has_bit (slice_index after p))) (λ p. misses_less 32
+    (has_bit (slice_index blacks p)) (has_bit (slice_index after p)) (λ k h. bits_stay blacks page (2 ^ index) p k h))
+    lt (misses_fewer 32 index (has_bit (slice_index blacks page)) (has_bit (slice_index after page))
+    (λ k h. bits_stay blacks page (2 ^ index) page k h) small white (bits_added blacks page (2 ^ index) index within
     (subst (λ n. has_bit n index ≡ true) (bit_for_small index (omega arith)) (bit_for_has index (omega arith)))))
 
 -- A gray cell goes on being marked, with its header; it may turn black.
@@ -104,12 +96,7 @@ gray_turns {pages} {w} {v} {cell} gray more either =
   where
     by : (has_no_pointers (header_in w cell.page) ≡ true) ⊎ (words_point_well pages v cell ≡ true)
         → (has_no_pointers (header_in v cell.page) || words_point_well pages v cell) ≡ true
-    by (inl bare) = grind arith
-    by (inr well) = by_second (has_no_pointers (header_in v cell.page)) (words_point_well pages v cell) well
-      where
-        by_second : (a b : Bool) → b ≡ true → (a || b) ≡ true
-        by_second true b e = refl
-        by_second false b e = e
+    by x0 = grind arith
 
 -- A gray cell stays one after marks, with its header and its words.
 pub gray_kept : {pages : ℕ} {w v : Words} {cell : Cell} → IsGray pages w cell → MarksMore w v → IsGray pages v cell
@@ -128,24 +115,10 @@ cell_kept cell i more = ap (λ (y : Words). slice_index y.heap (first_word y cel
 -- A page has at most 32 cells.
 
 few_of_class : (k : ℕ) → cells_of k ≤ 32
-few_of_class zero = lit≤ tt
-few_of_class (suc zero) = lit≤ tt
-few_of_class (suc (suc zero)) = lit≤ tt
-few_of_class (suc (suc (suc zero))) = lit≤ tt
-few_of_class (suc (suc (suc (suc zero)))) = lit≤ tt
-few_of_class (suc (suc (suc (suc (suc zero))))) = lit≤ tt
-few_of_class (suc (suc (suc (suc (suc (suc zero)))))) = lit≤ tt
-few_of_class (suc (suc (suc (suc (suc (suc (suc zero))))))) = lit≤ tt
-few_of_class (suc (suc (suc (suc (suc (suc (suc (suc k)))))))) = lit≤ tt
+few_of_class x0 = grind arith
 
 pub cells_few : (x : Option Header) → cells_under x ≤ 32
-cells_few (Some (Block class)) = few_of_class class
-cells_few (Some (LeafBlock class)) = few_of_class class
-cells_few (Some (Run count mapped)) = lit≤ tt
-cells_few (Some (LeafRun count)) = lit≤ tt
-cells_few (Some Free) = lit≤ tt
-cells_few (Some (Later distance mapped)) = lit≤ tt
-cells_few None = lit≤ tt
+cells_few x0 = grind (arith, few_of_class)
 
 -- A cell is blackened after marks.
 pub blackens_one : {w x : Words} (v : Words) (cell : Cell) → MarksMore w x
@@ -158,11 +131,8 @@ blackens_one v cell more is = grind arith
 pub colours_same : (w : Words) → ColoursMore w w
 colours_same w = record { is = refl; marks = λ p k h. h; blacks = λ p k h. h }
 
-abbrev coloured_as : Words → List ℕ → List ℕ → Words
-coloured_as w ms bs = record w { marks = ms; blacks = bs }
-
 pub colours_then : (w : Words) {v x : Words} {cell : Cell} → ColoursMore w v → BlackensOne v cell x → ColoursMore w x
-colours_then w one two = grind (arith, coloured_as, bits_stay)
+colours_then w one two = grind (arith, bits_stay)
 
 -- one fewer is white
 pub one_fewer_white : {pages : ℕ} {w v x : Words} {cell : Cell} → IsGray pages w cell → pages ≡ length w.blacks → v ≡ w

@@ -1,19 +1,19 @@
 -- A word of a scanned cell lies in the heap, and a lookup finds the cell there, where the word isn't 0.
-use Rattle.std.proofs.{Math.Nat.mul_comm, lemmas.Nat.{div-mul-add, mul-add-lt}}
+use Rattle.std.proofs.{Math.Nat.mul_comm, lemmas.Nat.div-mul-add, lemmas.Nat.mul-add-lt}
 use Rattle.mk_laws.proofs.Vocabulary.{Block, Bool, Cell, Config, Event, Free, Header, Invariant, IsHistory, Later}
 use Rattle.mk_laws.proofs.Vocabulary.{LeafBlock, LeafRun, List, None, Object, OfBlock, OfLater, OfLeafBlock, OfLeafRun}
 use Rattle.mk_laws.proofs.Vocabulary.{OfRun, Option, Run, ShowsPart, Some, Words, World, ℕ, address_of, and_from, ap}
-use Rattle.mk_laws.proofs.Vocabulary.{arith, cell_ends, cell_words, cells_of, cells_under, class_words_of, false}
-use Rattle.mk_laws.proofs.Vocabulary.{first_word, ground_of, has_no_pointers, head_page, header_in, if◌then◌else◌, inl}
-use Rattle.mk_laws.proofs.Vocabulary.{inr, is_heap_address, is_phase, le-leb, left, lt-ltb, nat_lt, ne_eqb}
-use Rattle.mk_laws.proofs.Vocabulary.{never_behind, object_now, page_at_address, phase_of, refl, slice_index, subst}
-use Rattle.mk_laws.proofs.Vocabulary.{sym, true, true≢false, words_under, ◌%◌, ◌*◌, ◌+◌, ◌-◌, ◌/◌, ◌<◌, ◌∙◌, ◌≡◌, ◌≢◌}
-use Rattle.mk_laws.proofs.{Vocabulary.{◌≤◌, ◌⊎◌}, BarePages.{Unreleasing, on_allocation, shown_there}}
-use Rattle.mk_laws.proofs.{CoveredWords.covered_word, InHeap.in_heap_left}
-use Rattle.mk_laws.proofs.{InvariantHistories.histories_keep_the_invariant, LayoutReadings.{claimed, claimed_head}}
-use Rattle.mk_laws.proofs.{RunsInHeap.RunsFit, Serving.Laid, TellGuard.later_pages}
+use Rattle.mk_laws.proofs.Vocabulary.{arith, cell_ends, cell_words, cells_under, class_words_of, false, first_word}
+use Rattle.mk_laws.proofs.Vocabulary.{ground_of, has_no_pointers, head_page, header_in, if◌then◌else◌, inl, inr}
+use Rattle.mk_laws.proofs.Vocabulary.{is_heap_address, is_phase, le-leb, left, lt-ltb, ne_eqb, never_behind, object_now}
+use Rattle.mk_laws.proofs.Vocabulary.{page_at_address, phase_of, refl, slice_index, subst, sym, true, true≢false}
+use Rattle.mk_laws.proofs.Vocabulary.{words_under, ◌%◌, ◌*◌, ◌+◌, ◌-◌, ◌/◌, ◌<◌, ◌∙◌, ◌≡◌, ◌≢◌, ◌≤◌, ◌⊎◌}
 use Rattle.mk_geom.specs.Addresses.{cell_of_block, cell_under, word_at_address}
 use Rattle.mk_core.specs.Cells.{pointed_cell}
+use Rattle.mk_laws.proofs.BarePages.{Unreleasing, on_allocation, shown_there}
+use Rattle.mk_laws.proofs.CoveredWords.{covered_word}
+use Rattle.mk_laws.proofs.{InHeap.in_heap_left, InvariantHistories.histories_keep_the_invariant, LayoutReadings.claimed}
+use Rattle.mk_laws.proofs.{LayoutReadings.claimed_head, RunsInHeap.RunsFit, Serving.Laid, TellGuard.later_pages}
 
 -- the page is after its head as its header says
 abbrev LiesBehind : Words → ℕ → ℕ → Type 0
@@ -34,23 +34,9 @@ behind_head : {c : Config} {w : World} (n p : ℕ) → Unreleasing c w → slice
 behind_head {c} {w} n p q some head =
     let x = on_allocation c w n q some in
     let shown = shown_there c w x.claim q x.among in
-    let at = x.at in
     let page : x.claim.page ≡ p = grind (arith, claimed_head) in
-    part_behind w.now.words p (n / 64)
-    (claimed w.now.words.pages x.claim x.distance shown x.near) (ap (λ i. header_in w.now.words i) (sym at))
-    (omega arith)
-
-unreleasing_behind : {c : Config} {es : List Event} → IsHistory c es → phase_of (left c es).now.words ≡ 2
-    → Unreleasing c (left c es)
-unreleasing_behind {c} {es} h two =
-    let all : Invariant c (left c es) (never_behind c es) = histories_keep_the_invariant c es h in
-    let w : World = left c es in
-    let off : is_phase w.now.words 4 ≡ false = ne_eqb (phase_of w.now.words) 4 (λ e. omega arith) in
-    record {
-      off = off;
-      laid = subst (λ four. Laid c (object_now c w.now) four w (ground_of w)) off all.order.laid;
-      zeros = all.zeros;
-    }
+    part_behind w.now.words p (n / 64) (claimed w.now.words.pages x.claim x.distance shown x.near)
+    (ap (λ i. header_in w.now.words i) (sym x.at)) (omega arith)
 
 -- where a lookup at a heap word goes
 
@@ -74,27 +60,17 @@ cell_of p k = record { page = p; index = k }
 abbrev some_where : Bool → Cell → Option Cell
 some_where b cell = if b then Some cell else None
 
-block_there : (size cells p k i : ℕ) → k < cells → i < size
-    → some_where (nat_lt (k * size + i) (cells * size)) (cell_of p ((k * size + i) / size)) ≡ Some (cell_of p k)
-block_there size cells p k i lk li = grind (arith, some_where, cell_of, lt-ltb, mul_comm, mul-add-lt, div-mul-add)
-
 -- The cell's words lie in the heap.
 
 in_heap_under : (c : Config) (w : Words) (p k i : ℕ) (x : Option Header) → RunsFit c w.pages → header_in w p ≡ x
     → p < c.pages → k < cells_under x
     → has_no_pointers x ≡ false → i < words_under x → 64 * p + k * words_under x + i < 64 * c.pages
-in_heap_under c w p k i (Some (Block class)) fit is lt lk scanned li = grind (arith, cell_ends)
 in_heap_under c w p k i (Some (Run count true)) fit is lt lk scanned li =
     let near : p + count ≤ c.pages = fit p count is in
     let zero : k ≡ 0 = omega arith in
     let none : k * (64 * count) ≡ 0 = ap (λ j. j * (64 * count)) zero ∙ omega arith in
     omega arith
-in_heap_under c w p k i (Some (Run count false)) fit is lt lk scanned li = absurd (true≢false scanned)
-in_heap_under c w p k i (Some (LeafBlock class)) fit is lt lk scanned li = absurd (true≢false scanned)
-in_heap_under c w p k i (Some (LeafRun count)) fit is lt lk scanned li = absurd (true≢false scanned)
-in_heap_under c w p k i (Some Free) fit is lt lk scanned li = absurd (omega arith)
-in_heap_under c w p k i (Some (Later d m)) fit is lt lk scanned li = absurd (omega arith)
-in_heap_under c w p k i None fit is lt lk scanned li = absurd (omega arith)
+in_heap_under c w p k i x6 fit is lt lk scanned li = grind (arith, cell_ends)
 
 pub words_in_heap : {c : Config} {es : List Event} (cell : Cell) (i : ℕ) → IsHistory c es → cell.page < c.pages
     → cell.index < cells_under (header_in (left c es).now.words cell.page)
@@ -108,13 +84,7 @@ words_in_heap {c} {es} cell i h lt lk scanned li =
 
 page_under : (p k i : ℕ) (x : Option Header) → k < cells_under x → i < words_under x
     → p + i / 64 ≡ (64 * p + k * words_under x + i) / 64
-page_under p k i (Some (Block class)) lk li = let ends = cell_ends k (class_words_of class) lk in omega arith
-page_under p k i (Some (LeafBlock class)) lk li = let ends = cell_ends k (class_words_of class) lk in omega arith
-page_under p k i (Some (Run count mapped)) lk li = grind arith
-page_under p k i (Some (LeafRun count)) lk li = grind arith
-page_under p k i (Some Free) lk li = absurd (omega arith)
-page_under p k i (Some (Later d m)) lk li = absurd (omega arith)
-page_under p k i None lk li = absurd (omega arith)
+page_under p k i x3 lk li = grind (arith, cell_ends)
 
 pub page_of_word : (w : Words) (cell : Cell) (i size : ℕ) → cell.index < cells_under (header_in w cell.page)
     → size ≡ cell_words w cell → i < size → cell.page + i / 64 ≡ (64 * cell.page + cell.index * size + i) / 64
@@ -144,7 +114,8 @@ cell_under_word {c} {v} p k i (Some (Block class)) q is lk scanned li within som
     let place : n % 64 ≡ k * size + i = omega arith in
     found_at c.pages v.now.words n (Block class) (record { page = p; index = k }) within
     (ap (λ j. header_in v.now.words j) page ∙ is) (ap (λ j. cell_of_block class j (n % 64)) page ∙ ap
-    (λ j. cell_of_block class p j) place ∙ block_there size (cells_of class) p k i lk li)
+    (λ j. cell_of_block class p j) place ∙
+    (grind (arith, some_where, cell_of, lt-ltb, mul_comm, mul-add-lt, div-mul-add)))
 cell_under_word {c} {v} p k i (Some (Run count true)) q is lk scanned li within some head =
     let n = 64 * p + k * (64 * count) + i in
     let zero : 0 ≡ k = omega arith in
@@ -166,6 +137,13 @@ pub cell_of_word : {c : Config} {es : List Event} (cell : Cell) (i : ℕ) → Is
     ≡ Some cell
 cell_of_word {c} {es} cell i h two lt lk scanned li some =
     let v : World = left c es in
-    let q = unreleasing_behind h two in
+    let q : Unreleasing c (left c es) = let all : Invariant c (left c es) (never_behind c es) =
+    histories_keep_the_invariant c es h in let w : World = left c es in let off : is_phase w.now.words 4
+    ≡ false = ne_eqb (phase_of w.now.words) 4 (λ e. omega arith) in record {
+      off = off;
+      laid = subst
+          (λ four. Laid c (object_now c w.now) four w (ground_of w)) off all.order.laid;
+      zeros = all.zeros;
+    } in
     cell_under_word cell.page cell.index i (header_in v.now.words cell.page) q refl lk scanned li (words_in_heap cell i
     h lt lk scanned li) some (covered_word v.now.words cell.page cell.index i (later_pages c v q) lk scanned li some)

@@ -1,13 +1,13 @@
 -- The marks may be closed, and are closed.
 use Rattle.std.specs.List.{list_all}
 use Rattle.mk_laws.proofs.Vocabulary.{Bool, Config, Event, IsHistory, List, MarksAreClosed, Step, Words, ℕ, all_below}
-use Rattle.mk_laws.proofs.Vocabulary.{and_from, ap, enabled_in_parts, eq-eqb, has_closed_page, none_attends, phase_of}
-use Rattle.mk_laws.proofs.Vocabulary.{points_well, refl, roots_point_well, slice_index, suc, true, [], ◌&&◌, ◌++◌, ◌<◌}
-use Rattle.mk_laws.proofs.{Vocabulary.{◌==◌, ◌∙◌, ◌∷◌, ◌≡◌}, InvariantTheorems.closes_find_marks_closed}
+use Rattle.mk_laws.proofs.Vocabulary.{and_from, arith, enabled_in_parts, eq-eqb, has_closed_page, none_attends}
+use Rattle.mk_laws.proofs.Vocabulary.{phase_of, points_well, refl, roots_point_well, slice_index, suc, true, [], ◌&&◌}
+use Rattle.mk_laws.proofs.{Vocabulary.{◌++◌, ◌<◌, ◌==◌, ◌∷◌, ◌≡◌}, InvariantHistories.closes_find_marks_closed}
 use Rattle.mk_laws.proofs.Tests.{all_below_from, none_from}
 use Rattle.mk_core.specs.{Frames.HoldsAll, History.AreEnabledFrom}
 use Rattle.mk_tracing.proofs.{MoreMarks.{marked_as, well_more}, Steps.may_step}
-use Rattle.mk_tracing.specs.{Grays.{ColoursMore, HasNoGray, MarksMore, RootsPointWell}, Stops.{IsWanted, still_words}}
+use Rattle.mk_tracing.specs.{Grays.{ColoursMore, HasNoGray, RootsPointWell}, Stops.{IsWanted, still_words}}
 use Rattle.mk_words.proofs.Undecided.{undecided_admitted}
 use Rattle.mk_words.specs.{States.{PassState, event_of, now_of, world_of}, Steps.IsEnabledTo}
 
@@ -17,18 +17,7 @@ all_from test (x ∷ xs) each = and_from (test x) (list_all test xs) (each 0) (a
 
 -- Roots go on pointing well while marks and black bits are added.
 pub roots_more : {pages : ℕ} {w v : Words} → ColoursMore w v → RootsPointWell pages w → RootsPointWell pages v
-roots_more {pages} {w} {v} more roots = record {
-  registers = λ i. ap (λ (y : Words). points_well pages v (slice_index y.registers i)) more.is ∙ well
-      (slice_index w.registers i) (roots.registers i);
-  globals = λ g. ap (λ (y : Words). points_well pages v (slice_index y.globals g)) more.is ∙ well
-      (slice_index w.globals g) (roots.globals g);
-}
-  where
-    marks : MarksMore w (marked_as w v.marks)
-    marks = record { is = refl; grow = more.marks }
-
-    well : (u : ℕ) → points_well pages w u ≡ true → points_well pages v u ≡ true
-    well u h = cc (more.is, well_more pages w (marked_as w v.marks) u marks h)
+roots_more more roots = grind (arith, marked_as, well_more)
 
 pub may_close_now : (p : PassState) → IsWanted p → HoldsAll p.table.config (now_of p) p.seat
     → ((pg : ℕ) → pg < p.table.config.pages → HasNoGray (still_words p) pg)
@@ -51,9 +40,10 @@ unfolding AreEnabledFrom
 marks_closed_now p history on =
     let c : Config = p.table.config in
     let e : Event = event_of p Step.Close in
-    let whole : IsHistory c (p.seen ++ e ∷ []) = record {
+    closes_find_marks_closed c (p.seen ++ e ∷ []) (record {
       within_limits = history.within_limits;
-      enabled = (enabled_in_parts c p.seen (e ∷ [])).1 (history.enabled, (on, tt));
-      admitted = undecided_admitted p Step.Close history (λ h. cc);
-    } in
-    closes_find_marks_closed c (p.seen ++ e ∷ []) whole p.seen [] p.seat refl
+      enabled =
+          (enabled_in_parts c p.seen (e ∷ [])).1 (history.enabled, (on, tt));
+      admitted = undecided_admitted p Step.Close
+          history (λ h. cc);
+    }) p.seen [] p.seat refl

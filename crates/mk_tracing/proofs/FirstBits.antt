@@ -29,11 +29,9 @@ first_is_one cells x n o some fits lowest is =
 pub none_is_first : (cells x n : ℕ) (o : Option ℕ) → 0 < cells → cells < 2 ^ 64 → x ≡ trailing_zeros w64 cells
     → o ≡ then_some (nat_lt x n) x → IfNone o ((k : ℕ) → k < n → has_bit cells k ≡ false)
 none_is_first cells x n o some fits lowest is =
-    if_untold ((k : ℕ) → k < n → has_bit cells k ≡ false) (nat_lt x n) x o is
-    (λ more k lt.
+    if_untold ((k : ℕ) → k < n → has_bit cells k ≡ false) (nat_lt x n) x o is (λ more k lt.
     let far : n ≤ x = ltb-false x n more in
-    let none = (bit_at-trailing_zeros w64 cells some fits).2 k (omega arith) in
-    ap (λ b. b == 1) none)
+    ap (λ b. b == 1) ((bit_at-trailing_zeros w64 cells some fits).2 k (omega arith)))
 
 -- Each marked cell is black where no cell is marked, or none that isn't black.
 
@@ -42,9 +40,6 @@ pub ungray_are_black : (marks blacks n : ℕ) → ((k : ℕ) → k < n → has_b
 ungray_are_black marks blacks n none k lt marked = grind (arith, has_bit_without)
 
 -- A gray cell is marked and isn't black.
-
-pub gray_is_marked : (marks blacks k : ℕ) → has_bit (without marks blacks) k ≡ true → has_bit marks k ≡ true
-gray_is_marked marks blacks k one = grind (arith, has_bit_without)
 
 pub gray_is_not_black : (marks blacks k : ℕ) → has_bit (without marks blacks) k ≡ true → has_bit blacks k ≡ false
 gray_is_not_black marks blacks k one = grind (arith, has_bit_without)
@@ -68,4 +63,4 @@ no_gray_under w p header marks blacks h m b none =
 pub gray_there : (pages : ℕ) (w : Words) (p k header marks blacks : ℕ) → p < pages → header ≡ header_at w p
     → marks ≡ slice_index w.marks p → blacks ≡ slice_index w.blacks p → k < cells_under (header_of header)
     → has_bit (without marks blacks) k ≡ true → IsGray pages w (record { page = p; index = k })
-gray_there pages w p k header marks blacks within h m b known one = grind (arith, gray_is_marked, gray_is_not_black)
+gray_there pages w p k header marks blacks within h m b known one = grind (arith, gray_is_not_black, has_bit_without)

@@ -1,21 +1,15 @@
 -- Free pages are passed over: none has a gray cell, and none is dirty.
-use Rattle.mk_laws.proofs.Vocabulary.{Block, Free, Header, IsHistory, Later, LeafBlock, LeafRun, None, Option, Run}
-use Rattle.mk_laws.proofs.Vocabulary.{Some, Words, ℕ, arith, cases_lt, false, header_at, header_of, not, refl}
-use Rattle.mk_laws.proofs.Vocabulary.{slice_index, sym, use_under, used_at, ◌<◌, ◌≡◌, ◌≤◌}
-use Rattle.mk_geom.{proofs.HeaderLemmas.word_of-header_of, specs.PageUses.is_free_page}
+use Rattle.mk_laws.proofs.Vocabulary.{Free, Header, IsHistory, Option, Some, Words, ℕ, arith, cases_lt, false}
+use Rattle.mk_laws.proofs.Vocabulary.{header_at, header_of, not, refl, slice_index, sym, use_under, used_at, ◌<◌, ◌≡◌}
+use Rattle.mk_laws.proofs.{Vocabulary.◌≤◌, FreePages.free_pages_have_nothing}
+use Rattle.mk_geom.{proofs.HeaderLemmas.{word_of-header_of}, specs.PageUses.{is_free_page}}
 use Rattle.mk_page_map.specs.Members.{is_in_use}
-use Rattle.mk_laws.proofs.FreePages.{free_pages_have_nothing}
-use Rattle.mk_tracing.{proofs.NoGrays.no_gray, specs.Grays.HasNoGray, specs.Stops.still_words}
+use Rattle.mk_tracing.{proofs.NoGrays.{no_gray}, specs.{Grays.HasNoGray, Stops.still_words}}
 use Rattle.mk_words.specs.States.{PassState}
 
 no_header : (h : ℕ) (x : Option Header) (u : ℕ) → header_of h ≡ x → not (is_free_page (use_under x u)) ≡ false → h ≡ 0
 no_header h (Some Free) u is free = sym (word_of-header_of h Free is).1
-no_header h None u is free = cc
-no_header h (Some (Block class)) u is free = cc
-no_header h (Some (LeafBlock class)) u is free = cc
-no_header h (Some (Run n m)) u is free = cc
-no_header h (Some (LeafRun n)) u is free = cc
-no_header h (Some (Later d m)) u is free = cc
+no_header h x2 u is free = grind arith
 
 free_header : (w : Words) (p : ℕ) → is_in_use w.pages p ≡ false → header_at w p ≡ 0
 free_header w p free = no_header (header_at w p) (header_of (header_at w p)) (used_at w p) refl free

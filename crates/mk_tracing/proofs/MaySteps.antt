@@ -1,9 +1,9 @@
 -- Which steps may come in the stop.
 use Rattle.mk_laws.proofs.Vocabulary.{Bool, Cell, Config, Flight, Hand, Moment, Option, Seat, Some, Step, Word, Words}
-use Rattle.mk_laws.proofs.Vocabulary.{ℕ, all_below, all_below-at, and_from, and_parts, ap, eq-eqb, false, has_gates}
-use Rattle.mk_laws.proofs.Vocabulary.{head_page, is_held, is_number_of, is_phase, lt-ltb, ltb-true, nat_lt}
-use Rattle.mk_laws.proofs.Vocabulary.{none_attends, not, others_are_held, phase_of, pointed_cell, refl, slice_index}
-use Rattle.mk_laws.proofs.{Vocabulary.{true, ◌&&◌, ◌<◌, ◌==◌, ◌^◌, ◌||◌, ◌∙◌, ◌≡◌}, Tests.none_from}
+use Rattle.mk_laws.proofs.Vocabulary.{ℕ, all_below-at, and_from, and_parts, ap, eq-eqb, false, has_gates, head_page}
+use Rattle.mk_laws.proofs.Vocabulary.{is_held, is_number_of, is_phase, lt-ltb, ltb-true, nat_lt, none_attends, not}
+use Rattle.mk_laws.proofs.Vocabulary.{others_are_held, phase_of, pointed_cell, refl, slice_index, true, ◌&&◌, ◌<◌, ◌==◌}
+use Rattle.mk_laws.proofs.{Vocabulary.{◌^◌, ◌||◌, ◌∙◌, ◌≡◌}, Tests.none_from}
 use Rattle.mk_core.{proofs.AllBelow.{all_below_not_is}, specs.{Ranges.is_word, Readings.NoneAttends}}
 use Rattle.mk_core.specs.{StopConditions.{blackens, is_bit_of, marks_by_hand, may_turn_black}, Frames.HoldsAll}
 use Rattle.mk_tracing.{proofs.Steps.{may_step}, specs.{Grays.HandPointsInto, Stops.{IsWanted, hand_of, still_words}}}
@@ -69,15 +69,11 @@ module _ (p : PassState) (wanted : IsWanted p) (all : HoldsAll p.table.config (n
       → may_turn_black p.table.config.pages (still_words p) cell ≡ true
       → IsEnabledTo p (Step.Black cell.page (2 ^ cell.index))
   may_black_cell cell lt small turns =
-      may_step p (Step.Black cell.page (2 ^ cell.index)) wanted.ready all.0 refl
-      (lt-ltb cell.page p.table.config.pages lt) all.1 phase_two refl
-      (and_from (none_attends (now_of p).seats.markers) (not (all_below 32
-      (λ k. not (blackens p.table.config.pages (now_of p).words cell.page (2 ^ cell.index) k))))
-      (none_by_test (now_of p) wanted.none)
-      (ap not (all_below_not_is 32 cell.index (λ k. not (blackens p.table.config.pages (now_of p).words cell.page
-      (2 ^ cell.index) k)) small
-      (ap not (and_from (2 ^ cell.index == 2 ^ cell.index) (may_turn_black p.table.config.pages (now_of p).words cell)
-      (eq-eqb (2 ^ cell.index) (2 ^ cell.index) refl) (turns_now p cell turns))))))
+      may_step p (Step.Black cell.page (2 ^ cell.index)) wanted.ready all.0 refl (lt-ltb cell.page p.table.config.pages
+      lt) all.1 phase_two refl (and_from (none_attends (now_of p).seats.markers) _ (none_by_test (now_of p) wanted.none)
+      (ap not (all_below_not_is 32 cell.index (λ k. not (blackens p.table.config.pages (now_of p).words cell.page (2 ^
+      cell.index) k)) small (ap not (and_from (2 ^ cell.index == 2 ^ cell.index) (may_turn_black p.table.config.pages
+      (now_of p).words cell) (eq-eqb (2 ^ cell.index) (2 ^ cell.index) refl) (turns_now p cell turns))))))
 
   pub may_unblack_page : (page : ℕ) → page < p.table.config.pages → IsEnabledTo p (Step.Unblack page)
   may_unblack_page page lt =
@@ -89,12 +85,9 @@ module _ (p : PassState) (wanted : IsWanted p) (all : HoldsAll p.table.config (n
   pub may_undirty_page : (page : ℕ) → page < p.table.config.pages → slice_index (still_words p).blacks page ≡ 0
       → slice_index (still_words p).blacks (head_page (still_words p) page) ≡ 0 → IsEnabledTo p (Step.Undirty page)
   may_undirty_page page lt own head =
-      may_step p (Step.Undirty page) wanted.ready all.0 refl (lt-ltb page p.table.config.pages lt)
-      (or_second (not (is_phase (now_of p).words 2)) _ all.1)
+      may_step p (Step.Undirty page) wanted.ready all.0 refl (lt-ltb page p.table.config.pages lt) (or_second _ _ all.1)
       (or_second (phase_of (now_of p).words == 0) (phase_of (now_of p).words == 2) phase_two) refl
-      (or_second (not (is_phase (now_of p).words 2)) _
-      (and_from (none_attends (now_of p).seats.markers && (slice_index (now_of p).words.blacks page == 0))
-      (slice_index (now_of p).words.blacks (head_page (now_of p).words page) == 0)
+      (or_second (not (is_phase (now_of p).words 2)) _ (and_from (none_attends (now_of p).seats.markers && (slice_index
+      (now_of p).words.blacks page == 0)) (slice_index (now_of p).words.blacks (head_page (now_of p).words page) == 0)
       (and_from (none_attends (now_of p).seats.markers) (slice_index (now_of p).words.blacks page == 0)
-      (none_by_test (now_of p) wanted.none) (eq-eqb _ 0 own))
-      (eq-eqb _ 0 head)))
+      (none_by_test (now_of p) wanted.none) (eq-eqb _ 0 own)) (eq-eqb _ 0 head)))

@@ -1,5 +1,5 @@
 -- Marks that are added: what points well goes on doing so.
-use Rattle.mk_laws.proofs.Vocabulary.{Cell, List, None, Option, Page, Some, Words, ℕ, ap, bit_or, has_bit}
+use Rattle.mk_laws.proofs.Vocabulary.{Cell, List, None, Option, Page, Some, Words, ℕ, ap, arith, bit_or, has_bit}
 use Rattle.mk_laws.proofs.Vocabulary.{histories_keep_lengths, is_marked, is_none_or, length, pointed_cell, points_well}
 use Rattle.mk_laws.proofs.Vocabulary.{refl, slice_index, slice_set, subst, sym, true, ◌<◌, ◌^◌, ◌∙◌, ◌≡◌, ◌≢◌}
 use Rattle.mk_core.proofs.{WordBits.{bit_for_has, bit_for_small, bits_added, bits_stay}, PointedPages.pointed_within}
@@ -27,15 +27,9 @@ more_marked w v page value e = subst (λ (x : Words). MarksMore w x) (sym e) (re
   grow = λ p k h. bits_stay w.marks page value p k h;
 })
 
-none_or_on : (o : Option Cell) (w v : Words) → ((x : Cell) → is_marked w x ≡ true → is_marked v x ≡ true)
-    → is_none_or (is_marked w) o ≡ true → is_none_or (is_marked v) o ≡ true
-none_or_on None w v f h = refl
-none_or_on (Some x) w v f h = f x h
-
 pub well_more : (pages : ℕ) (w v : Words) (u : ℕ) → MarksMore w v → points_well pages w u ≡ true
     → points_well pages v u ≡ true
-well_more pages w v u more h =
-    cc (more.is, none_or_on (pointed_cell pages w.pages u) w v (λ x m. more.grow x.page x.index m) h)
+well_more pages w v u more h = grind arith
 
 -- a value that points into nothing, or into a marked cell
 pub well_none : (pages : ℕ) (w : Words) (u : ℕ) → pointed_cell pages w.pages u ≡ None → points_well pages w u ≡ true

@@ -1,6 +1,6 @@
 -- Pages without gray cells, and pages with one.
 use Rattle.std.proofs.{lemmas.Nat.Bits.{bit_at-lt, bit_at_above, bit_at_and}, Common.bit_and, Math.Pow.pow_pos}
-use Rattle.mk_laws.proofs.Vocabulary.{Bool, Words, ℕ, ap, arith, bit_at, cases_lt, cells_under, eq-eqb, false, has_bit}
+use Rattle.mk_laws.proofs.Vocabulary.{Bool, Words, ℕ, arith, bit_at, cases_lt, cells_under, eq-eqb, false, has_bit}
 use Rattle.mk_laws.proofs.Vocabulary.{has_bit_without, header_at, header_in, header_of, not, refl, slice_index, true}
 use Rattle.mk_laws.proofs.Vocabulary.{without, ◌&&◌, ◌-◌, ◌<◌, ◌^◌, ◌∙◌, ◌≡◌}
 use Rattle.mk_core.proofs.WordBits.{bit_is_one, zero_from_bits}
@@ -13,15 +13,12 @@ no_gray_bits marks blacks n none =
     zero_from_bits (without (bit_and marks (2 ^ n - 1)) blacks)
     (λ k. has_bit_without (bit_and marks (2 ^ n - 1)) blacks k ∙ by k (has_bit (bit_and marks (2 ^ n - 1)) k) refl)
   where
-    both : (k : ℕ) → has_bit (bit_and marks (2 ^ n - 1)) k ≡ true → (bit_at marks k ≡ 1) × (bit_at (2 ^ n - 1) k ≡ 1)
-    both k h = grind (arith, bit_at_and, bit_is_one, bit_at-lt)
-
     below : (k : ℕ) → bit_at (2 ^ n - 1) k ≡ 1 → k < n
     below k one = grind (arith, cases_lt, pow_pos, bit_at_above)
 
     by : (k : ℕ) (b : Bool) → has_bit (bit_and marks (2 ^ n - 1)) k ≡ b → (b && not (has_bit blacks k)) ≡ false
     by k false is = refl
-    by k true is = let h = both k is in ap not (none k (below k h.1) (eq-eqb (bit_at marks k) 1 h.0))
+    by k true is = grind (arith, below, eq-eqb, bit_at_and, bit_is_one, bit_at-lt)
 
 pub no_gray : (w : Words) (p : ℕ)
     → ((k : ℕ) → k < cells_under (header_in w p) → has_bit (slice_index w.marks p) k ≡ true

@@ -20,11 +20,6 @@ black_stays page bits w v is = grind arith
 one_stays : (pages : ℕ) {w v : Words} (noted : Noted) → Stays w v → IsNoted pages w noted → IsNoted pages v noted
 one_stays pages noted stays is = grind arith
 
-last_stays : (pages : ℕ) {w v : Words} (last : Option Noted) → Stays w v → IfSome last (IsNoted pages w)
-    → IfSome last (IsNoted pages v)
-last_stays pages None stays noted = noted
-last_stays pages {w = w} {v = v} (Some last) stays noted = one_stays pages last stays noted
-
 pub noted_same : {w v : Words} (pages : ℕ) (work : Worklist) → v ≡ w → AreNoted pages w work → AreNoted pages v work
 noted_same pages work same noted = subst (λ (y : Words). AreNoted pages y work) (sym same) noted
 
@@ -44,7 +39,7 @@ one_more {pages} {w} {v} {noted} more = one_stays pages noted (more_stays more)
 
 pub last_black : (pages page bits : ℕ) (w v : Words) (last : Option Noted) → v ≡ with_blacks page bits w
     → IfSome last (IsNoted pages w) → IfSome last (IsNoted pages v)
-last_black pages page bits w v last is = last_stays pages last (black_stays page bits w v is)
+last_black pages page bits w v last is = grind (arith, black_stays, one_stays)
 
 -- A cell is noted that is marked, by the header word that was found at its page.
 

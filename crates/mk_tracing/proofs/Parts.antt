@@ -84,10 +84,6 @@ count_in_parts : (test : Finding → Bool) (xs ys : List Finding)
     → count_by test (xs ++ ys) ≡ count_by test xs + count_by test ys
 count_in_parts test xs ys = sum_by-append (λ (x : Finding). cond (test x) 1 0) xs ys
 
-count_first : (test : Finding → Bool) (x : Finding) (xs : List Finding) → test x ≡ false
-    → count_by test (x ∷ xs) ≡ count_by test xs
-count_first test x xs unlike = grind (arith, count_in_parts)
-
 module _ (kinds : Step → Bool) (rule : Config → Moment → Step → Type 0) (kind : Step → Bool) where
   then_at : (p : PassState) (xs : List Event) → AreOwnOrOfOthers p.seat p.seats xs → are_of kinds (done_in p xs) ≡ true
       → OwnStepsKeep rule p.table.config p.seat (world_of p) xs → untouched_of
@@ -149,7 +145,7 @@ none_counted : (kinds kind : Step → Bool) (xs : List Finding) → ((s : Step) 
 none_counted kinds kind [] none h = refl
 none_counted kinds kind (x ∷ xs) none h =
     let parts = and_parts (kinds x.event.step) (are_of kinds xs) h in
-    count_first (λ (y : Finding). kind y.event.step) x xs (none _ parts.0) ∙ none_counted kinds kind xs none parts.1
+    (grind (arith, count_in_parts)) ∙ none_counted kinds kind xs none parts.1
 
 abbrev wider_traces : (kinds more : Step → Bool) (rule : Config → Moment → Step → Type 0) (p q : PassState)
     → ((s : Step) → kinds s ≡ true → more s ≡ true) → Traces kinds rule p q → Traces more rule p q

@@ -40,9 +40,6 @@ pointed_under pages w u header is = ap (λ h. cell_at pages h u) is ∙ found_by
 pub block_header : (class : ℕ) → class < 8 → header_of (1 + class) ≡ Some (Block class)
 block_header class known = header_of-word_of (Block class) known
 
-inside_far : (pages u : ℕ) → is_heap_address pages u ≡ true → 65536 ≤ u
-inside_far pages u inside = leb-true 65536 u (and_parts (nat_le 65536 u) (nat_lt u (65536 + 512 * pages)) inside).0
-
 -- What a value points into, in a block of this class.
 pub pointed_in_block : (pages : ℕ) (w : Words) (u class : ℕ) → class < 8 → is_heap_address pages u ≡ true
     → 1 + class ≡ header_at w (page_at_address u)
@@ -50,7 +47,7 @@ pub pointed_in_block : (pages : ℕ) (w : Words) (u class : ℕ) → class < 8 �
 pointed_in_block pages w u class known inside is =
     let find : Option Header → Option Cell = λ (o : Option Header). option_and_then
     (λ h. cell_under h (page_at_address u) (word_at_address u)) o in
-    let far = inside_far pages u inside in
+    let far = leb-true 65536 u (and_parts (nat_le 65536 u) (nat_lt u (65536 + 512 * pages)) inside).0 in
     let word : u / 8 % 64 ≡ word_at_address u = omega arith in
     cc (word, inside, block_header class known, pointed_under pages w u (1 + class) is)
 

@@ -114,7 +114,12 @@ roots_well : (p : PassState) (pages : ℕ) (w : Words) → IsHistory p.table.con
     → ((g : ℕ) → g < 64 → points_well pages w (slice_index (now_of p).words.globals g) ≡ true) → RootsPointWell pages w
 roots_well p pages w h same registers globals rs gs = record {
   registers = λ i. ap (λ (xs : List ℕ). points_well pages w (slice_index xs i)) registers ∙ register i;
-  globals = λ g. ap (λ (xs : List ℕ). points_well pages w (slice_index xs g)) globals ∙ global g;
+  globals = λ g. ap (λ (xs : List ℕ). points_well pages w (slice_index xs g)) globals ∙ (elim (cases_lt g 64) [
+    | inl lt ↦ gs g lt
+    | inr past ↦
+        null (slice_index (now_of p).words.globals g) (get_or_past (now_of p).words.globals g 0 (let long =
+        (histories_keep_lengths p.table.config p.seen).globals in omega arith))
+  ]);
 }
   where
     null : (n : ℕ) → n ≡ 0 → points_well pages w n ≡ true
@@ -126,14 +131,6 @@ roots_well p pages w h same registers globals rs gs = record {
           let at : 8 * (i / 8) + i % 8 ≡ i = omega arith in
           cc (at, rs (i / 8) (i % 8) (omega arith) (omega arith))
       | inr past ↦ null (slice_index (now_of p).words.registers i) (register_past i h past)
-    ]
-
-    global : (g : ℕ) → points_well pages w (slice_index (now_of p).words.globals g) ≡ true
-    global g = elim (cases_lt g 64) [
-      | inl lt ↦ gs g lt
-      | inr past ↦
-          null (slice_index (now_of p).words.globals g) (get_or_past (now_of p).words.globals g 0 (let long =
-          (histories_keep_lengths p.table.config p.seen).globals in omega arith))
     ]
 
 -- The registers point well after the first marks, and the globals after more.

@@ -1,97 +1,45 @@
 -- One step of tracing: it may come, and leaves alone what tracing doesn't touch.
 use Rattle.std.proofs.lemmas.List.Sums.{sum_by-append}
-use Rattle.mk_laws.proofs.Vocabulary.{Bool, Caller, Cell, Config, Event, Flight, Group, Holding, Holds, Host, List}
-use Rattle.mk_laws.proofs.Vocabulary.{Marker, Moment, None, Object, Op, Option, Place, Seat, Some, Stage, Steady, Step}
-use Rattle.mk_laws.proofs.Vocabulary.{Word, Words, World, Written, ℕ, and_from, answer_decided, ap, append-nil, arith}
-use Rattle.mk_laws.proofs.Vocabulary.{at_rest, calls, comes_next, ends, eq-eqb, false, flight_of, group_of, has_gates}
-use Rattle.mk_laws.proofs.Vocabulary.{has_phase, holder_may, is_end, is_in_range, is_of_turn, is_open_to, is_phase}
-use Rattle.mk_laws.proofs.Vocabulary.{left, lt-ltb, marker_at, marker_may, marks_place, not, not-true, outside}
-use Rattle.mk_laws.proofs.Vocabulary.{phase_of, progress, refl, seat_exists, sees_double, set-get_or, still, subst, sym}
-use Rattle.mk_laws.proofs.Vocabulary.{true, world_behind, [], ◌++◌, ◌+◌, ◌∙◌, ◌∷◌, ◌≡◌}
-use Rattle.mk_core.proofs.{Conditions.meets_enabled, Histories.calls_more}
-use Rattle.mk_core.specs.Order.{comes_next_to_host, is_in_order, is_of_any_holder, may_decide_new}
-use Rattle.mk_core.specs.{Effects.flights_behind, Frames.CountsAreLeft, Frames.HoldsAll}
-use Rattle.mk_tracing.specs.Stops.{HolderIsLoaded, is_loaded, is_loaded_at}
-use Rattle.mk_tracing.specs.Tracing.{Untouched, is_tracing, untouched_of}
-use Rattle.mk_words.proofs.Undecided.{decides_nothing}
-use Rattle.mk_words.specs.{States.PassState, States.call_of, States.now_of, States.world_of, Steps.IsEnabledTo}
-use Rattle.mk_words.specs.{Steps.Makes, Steps.may_decide as may_decide_call, TurnSteps.Acts, TurnSteps.world_at}
-
--- what tracing doesn't touch, from what the frame law speaks of
-abbrev untouched_by : Steady → Written → Holding → Untouched
-untouched_by s y h = record {
-  turn = s.turn;
-  held = s.held;
-  fresh = s.fresh;
-  cycles = s.cycles;
-  released = s.released;
-  full = s.full;
-  gates = y.gates;
-  registers = y.registers;
-  globals = y.globals;
-  pages = s.pages;
-  freed = s.freed;
-  snapshot = s.snapshot;
-  heap = y.heap;
-  flights = y.flights;
-  placing = h.placing;
-  freed_run = h.freed;
-  cycle = h.cycle;
-  fresh_words = s.fresh_words;
-  allocations = s.allocations;
-}
+use Rattle.mk_laws.proofs.Vocabulary.{Bool, Caller, Config, Event, Flight, Holds, Host, List, Marker, Moment, None}
+use Rattle.mk_laws.proofs.Vocabulary.{Object, Op, Option, Place, Seat, Some, Stage, Step, Word, Words, World, ℕ}
+use Rattle.mk_laws.proofs.Vocabulary.{and_from, answer_decided, ap, append-nil, arith, at_rest, calls, comes_next, ends}
+use Rattle.mk_laws.proofs.Vocabulary.{eq-eqb, false, flight_of, group_of, has_gates, has_phase, holder_may, is_end}
+use Rattle.mk_laws.proofs.Vocabulary.{is_in_range, is_of_turn, is_phase, left, lt-ltb, marker_at, marker_may}
+use Rattle.mk_laws.proofs.Vocabulary.{marks_place, not, not-true, outside, phase_of, progress, refl, seat_exists}
+use Rattle.mk_laws.proofs.Vocabulary.{set-get_or, still, subst, sym, true, [], ◌++◌, ◌+◌, ◌∙◌, ◌∷◌, ◌≡◌}
+use Rattle.mk_core.{proofs.{Conditions.meets_enabled, Histories.calls_more}, specs.Frames.{CountsAreLeft, HoldsAll}}
+use Rattle.mk_core.specs.{Order.{comes_next_to_host, is_in_order, is_of_any_holder}, Effects.flights_behind}
+use Rattle.mk_tracing.specs.{Stops.{HolderIsLoaded, is_loaded, is_loaded_at}, Tracing.{is_tracing, untouched_of}}
+use Rattle.mk_words.{proofs.Undecided.{decides_nothing}, specs.TurnSteps.{Acts, world_at}}
+use Rattle.mk_words.specs.{States.{PassState, call_of, now_of, world_of}, Steps.{IsEnabledTo, Makes}}
 
 pub others_leave_untouched : {p q : PassState} {s : Step} (a : Acts p s q) → HoldsAll p.table.config (now_of p) p.seat
     → untouched_of (world_at a.makes) ≡ untouched_of (world_of p)
-others_leave_untouched a all = grind (arith, untouched_by)
+others_leave_untouched a all = grind arith
 
 -- Any step of a holder comes next, where the call has loaded what it loads.
 
-any_decides : (o : Op) (s : Step) → is_of_any_holder s ≡ true → may_decide_new o s ≡ true
-any_decides (Op.New d ty full) Step.Grant h = refl
-any_decides (Op.New d ty full) Step.Full h = refl
-any_decides o s h = h
-
 next_at : (t : Stage) (o : Op) (s : Step) → is_loaded_at t ≡ true → is_of_any_holder s ≡ true → comes_next t o s ≡ true
-next_at Stage.Turn o s l h = any_decides o s h
+next_at Stage.Turn o s l h = grind arith
 next_at Stage.Give o s l h = h
 next_at _ o s l h = cc
 
 host_next : (b : Bool) (s : Step) → b ≡ true → is_of_any_holder s ≡ true → comes_next_to_host b s ≡ true
-host_next b (Step.Take o) e h = cc
-host_next b Step.Over e h = refl
-host_next b s e h = and_from b (is_of_any_holder s) e h
+host_next b s e h = grind (arith, and_from)
 
 in_order_of : (c : Config) (m : Moment) (seat : Seat) (s : Step) → Holds c m seat
     → is_loaded seat (flight_of m seat) ≡ true → is_of_any_holder s ≡ true → is_in_order c m seat s ≡ true
-in_order_of c m (Caller k) s holds loaded any = grind (arith, next_at)
-in_order_of c m (Marker k) s holds loaded any = absurd holds
-in_order_of c m Host s holds loaded any = grind (arith, host_next, eq-eqb)
+in_order_of c m x2 s holds loaded any = grind (arith, next_at, host_next, eq-eqb)
 
 any_turn : (s : Step) → is_of_any_holder s ≡ true → is_of_turn (group_of s) ≡ true
-any_turn (Step.Take o) h = cc
-any_turn Step.Grant h = refl
-any_turn Step.Full h = refl
-any_turn s h = h
+any_turn s h = grind arith
 
 pub exists_of : (c : Config) (m : Moment) (seat : Seat) → Holds c m seat → seat_exists c seat ≡ true
-exists_of c m (Caller k) holds = lt-ltb k c.callers holds.0
-exists_of c m (Marker k) holds = absurd holds
-exists_of c m Host holds = refl
-
-open_of : (c : Config) (m : Moment) (seat : Seat) (g : Group) → Holds c m seat → is_of_turn g ≡ true
-    → is_open_to seat g ≡ true
-open_of c m (Caller k) Group.Turn holds h = refl
-open_of c m (Caller k) _ holds h = cc
-open_of c m (Marker k) g holds h = absurd holds
-open_of c m Host Group.Turn holds h = refl
-open_of c m Host _ holds h = cc
+exists_of c m x2 holds = grind (arith, lt-ltb)
 
 no_marker : (c : Config) (m : Moment) (seat : Seat) (s : Step) → Holds c m seat
     → ((x : Seat) → marker_may c outside s ≡ true) → marker_may c (marker_at m seat) s ≡ true
-no_marker c m (Caller k) s holds h = h (Caller k)
-no_marker c m (Marker k) s holds h = absurd holds
-no_marker c m Host s holds h = h Host
+no_marker c m x2 s holds h = grind arith
 
 pub may_step : (p : PassState) (s : Step) → HolderIsLoaded p → Holds p.table.config (now_of p) p.seat
     → is_of_any_holder s ≡ true
@@ -100,7 +48,7 @@ pub may_step : (p : PassState) (s : Step) → HolderIsLoaded p → Holds p.table
     → has_phase (phase_of (now_of p).words) s ≡ true → marker_may p.table.config outside s ≡ true
     → holder_may p.table.config (now_of p) (call_of p) s ≡ true → IsEnabledTo p s
 may_step p s ready holds any range gates phase marker own =
-    grind (arith, meets_enabled, exists_of, open_of, any_turn, in_order_of, no_marker)
+    grind (arith, meets_enabled, exists_of, any_turn, in_order_of, no_marker)
 
 -- A step that doesn't go on with the call leaves the calls.
 
@@ -115,14 +63,9 @@ abbrev pub is_quiet : Step → Bool
 is_quiet (Step.Look (Word.Quar p)) = false
 is_quiet s = is_tracing s
 
-sees_nothing : (w : Words) (cell : Option Cell) (x : Word) → is_quiet (Step.Look x) ≡ true
-    → sees_double w cell x ≡ false
-sees_nothing w cell (Word.Quar p) h = cc
-sees_nothing w cell _ h = refl
-
 look_still : (c : Config) (m : Moment) (x : Word) (n : ℕ) → is_quiet (Step.Look x) ≡ true → (f : Flight)
     → (progress c m f n (Step.Look x)).flight ≡ f
-look_still c m x n h f = grind (arith, sees_nothing)
+look_still c m x n h f = grind arith
 
 -- no place gets marks in the stop
 no_place_marked : (w : Words) (o : Object) (place : Option Place) (page value : ℕ) → is_phase w 1 ≡ false
@@ -139,17 +82,6 @@ abbrev pub is_late : Words → Step → Bool
 is_late w (Step.Mark p v) = not (is_phase w 1)
 is_late w _ = true
 
-untouched_behind : (c : Config) (w : World) (seat : Seat) (s : Step) → is_quiet s ≡ true → is_late w.now.words s ≡ true
-    → untouched_of (world_behind c w (record { seat = seat; step = s })) ≡ untouched_of w
-untouched_behind c w seat (Step.Look (Word.Quar p)) h late = cc
-untouched_behind c w seat (Step.Look x) h late = grind (arith, with_flights, flights_stay, look_still)
-untouched_behind c w seat Step.Want h late = grind (arith, with_flights, flights_stay)
-untouched_behind c w seat (Step.Mark p v) h late = grind (arith, no_place_marked, not-true, with_flights, flights_stay)
-untouched_behind c w seat (Step.Undirty p) h late = grind (arith, with_flights, flights_stay)
-untouched_behind c w seat (Step.Black p v) h late = grind (arith, with_flights, flights_stay)
-untouched_behind c w seat (Step.Unblack p) h late = grind (arith, with_flights, flights_stay)
-untouched_behind c w seat _ h late = cc
-
 -- No cycle ends, and no call is decided.
 
 ends_more : (es : List Event) (e : Event) → is_end e.step ≡ false → ends (es ++ e ∷ []) ≡ ends es
@@ -159,24 +91,13 @@ no_call_more : (c : Config) (es : List Event) (e : Event) → answer_decided c (
     → calls c (es ++ e ∷ []) ≡ calls c es
 no_call_more c es e none = grind (arith, calls_more, append-nil)
 
-quiet_decides_nothing : (s : Step) → is_quiet s ≡ true → may_decide_call s ≡ false
-quiet_decides_nothing (Step.Look (Word.Quar p)) h = cc
-quiet_decides_nothing (Step.Look x) h = refl
-quiet_decides_nothing Step.Want h = refl
-quiet_decides_nothing (Step.Mark p v) h = refl
-quiet_decides_nothing (Step.Undirty p) h = refl
-quiet_decides_nothing (Step.Black p v) h = refl
-quiet_decides_nothing (Step.Unblack p) h = refl
-quiet_decides_nothing _ h = cc
-
 quiet_ends_nothing : (s : Step) → is_quiet s ≡ true → is_end s ≡ false
 quiet_ends_nothing Step.End h = cc
 quiet_ends_nothing _ h = refl
 
 counts_more : (c : Config) (es : List Event) (seat : Seat) (s : Step) → is_quiet s ≡ true
     → CountsAreLeft c es (es ++ record { seat = seat; step = s } ∷ [])
-counts_more c es seat s h =
-    grind (arith, ends_more, quiet_ends_nothing, no_call_more, decides_nothing, quiet_decides_nothing)
+counts_more c es seat s h = grind (arith, ends_more, quiet_ends_nothing, no_call_more, decides_nothing)
 
 module _ (p q : PassState) (s : Step) (a : Acts p s q) (quiet : is_quiet s ≡ true) where
   pub step_counts : CountsAreLeft p.table.config p.seen q.seen
@@ -188,7 +109,15 @@ module _ (p q : PassState) (s : Step) (a : Acts p s q) (quiet : is_quiet s ≡ t
 
   pub step_untouched : HoldsAll p.table.config (now_of p) p.seat → is_late (world_at a.makes).now.words s ≡ true
       → untouched_of (world_of q) ≡ untouched_of (world_of p)
-  step_untouched all late = grind (arith, untouched_behind, others_leave_untouched)
+  step_untouched all late = grind (
+    arith,
+    others_leave_untouched,
+    with_flights,
+    flights_stay,
+    look_still,
+    no_place_marked,
+    not-true,
+  )
 
 -- the seat is as it was, and its call
 pub still_ready : {p q : PassState} {s : Step} (m : Makes p s q) → untouched_of (world_of q) ≡ untouched_of (world_of p)

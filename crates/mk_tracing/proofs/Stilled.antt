@@ -1,11 +1,11 @@
 -- In the stop, where no marker attends, the words are at each step as they were left, but for the phase.
-use Rattle.mk_laws.proofs.Vocabulary.{Bool, Caller, Cell, Config, Hand, Holds, Host, List, Marker, MarkerState, Moment}
-use Rattle.mk_laws.proofs.Vocabulary.{Option, Seat, Some, Steady, Step, TurnIsLeft, Word, Words, World, Written, ℕ}
-use Rattle.mk_laws.proofs.Vocabulary.{address_of, ap, arith, false, found, has_no_pointers, header_in, is_attending}
-use Rattle.mk_laws.proofs.Vocabulary.{is_marked, ne_eqb, or_else, outside, phase_of, pointed_cell, refl, slice_index_or}
-use Rattle.mk_laws.proofs.Vocabulary.{sym, true, world_behind, ◌∙◌, ◌≡◌}
-use Rattle.mk_core.specs.{Effects.{hand_given, hand_of_cell, is_in_stop, markers_behind}, Frames.{HoldsAll, written_of}}
-use Rattle.mk_core.specs.{Readings.NoneAttends, Words.named_word, declared.seats.Source.TheVariants.Marked}
+use Rattle.mk_laws.proofs.Vocabulary.{Bool, Cell, Config, Hand, List, MarkerState, Moment, Option, Seat, Some, Steady}
+use Rattle.mk_laws.proofs.Vocabulary.{Step, TurnIsLeft, Word, Words, World, Written, ℕ, address_of, ap, arith, false}
+use Rattle.mk_laws.proofs.Vocabulary.{found, has_no_pointers, header_in, is_attending, is_marked, ne_eqb, or_else}
+use Rattle.mk_laws.proofs.Vocabulary.{outside, phase_of, pointed_cell, refl, slice_index_or, sym, true, world_behind}
+use Rattle.mk_laws.proofs.Vocabulary.{◌∙◌, ◌≡◌}
+use Rattle.mk_core.specs.{Effects.hand_given, Frames.{HoldsAll, written_of}, Readings.NoneAttends, Words.named_word}
+use Rattle.mk_core.specs.declared.seats.Source.TheVariants.{Marked}
 use Rattle.mk_tracing.proofs.{Steps.{is_late, is_quiet, step_counts, step_untouched, still_ready}, Parts.traces_step}
 use Rattle.mk_tracing.specs.Grays.{IsInHand, MarksOn, TracesReached, with_blacks, with_marks, without_blacks}
 use Rattle.mk_tracing.specs.{Grays.without_dirty, Stops.{IsWanted, hand_of, is_root, is_still_word, still_words}}
@@ -54,19 +54,7 @@ quiet_of s h = h
 
 phase_behind : (c : Config) (w : World) (seat : Seat) (s : Step) → is_stopped_step s ≡ true
     → (world_behind c w (record { seat = seat; step = s })).now.words.phase ≡ w.now.words.phase
-phase_behind c w seat (Step.Look (Word.Quar p)) h = cc
-phase_behind c w seat (Step.Look x) h = refl
-phase_behind c w seat (Step.Mark p v) h = refl
-phase_behind c w seat (Step.Undirty p) h = refl
-phase_behind c w seat (Step.Black p v) h = refl
-phase_behind c w seat (Step.Unblack p) h = refl
-phase_behind c w seat _ h = cc
-
-markers_stay : (c : Config) (m : Moment) (seat : Seat) (n : ℕ) (s : Step) (l : Moment) → Holds c l seat
-    → markers_behind c m seat n s ≡ m.seats.markers
-markers_stay c m (Caller k) n s l holds = refl
-markers_stay c m (Marker k) n s l holds = absurd holds
-markers_stay c m Host n s l holds = refl
+phase_behind c w seat x3 h = grind arith
 
 abbrev NoneOf : List MarkerState → Type 0
 NoneOf xs = (k : ℕ) → is_attending (slice_index_or xs k outside).presence ≡ false
@@ -81,15 +69,12 @@ module _ (p q : PassState) (s : Step) (a : Acts p s q) (wanted : IsWanted p)
 
   -- none attends after it either
   pub none_after : NoneAttends (now_of q)
-  none_after = grind (arith, markers_stay)
+  none_after = grind arith
 
 module _ (p q : PassState) (s : Step) (a : Acts p s q) (wanted : IsWanted p)
     (all : HoldsAll p.table.config (now_of p) p.seat) (stopped : is_stopped_step s ≡ true) where
-  late : is_late (world_at a.makes).now.words s ≡ true
-  late = grind (arith, is_late, ne_eqb, phase_there)
-
   untouched : untouched_of (world_of q) ≡ untouched_of (world_of p)
-  untouched = step_untouched p q s a (quiet_of s stopped) all late
+  untouched = step_untouched p q s a (quiet_of s stopped) all (grind (arith, is_late, ne_eqb, phase_there))
 
   pub still_wanted : IsWanted q
   still_wanted = grind (arith, still_ready, untouched, phase_behind, phase_there, none_after)
@@ -129,10 +114,7 @@ module _ (p q : PassState) (wanted : IsWanted p) (all : HoldsAll p.table.config 
   }
     where
       marking : (x : Step) → is_stopped_step x ≡ true → is_marking x ≡ true
-      marking (Step.Look (Word.Quar pg)) h = cc
-      marking (Step.Look x) h = refl
-      marking Step.Want h = cc
-      marking x h = h
+      marking x h = grind arith
 
 -- what a look finds, and the hand that it gives
 
@@ -178,10 +160,6 @@ marked_hand {p} {q} wanted all {i = i} a n finds cell pointed marked scanned = r
     pointed_now : pointed_cell p.table.config.pages m'.words.pages (address_of i) ≡ Some cell
     pointed_now = ap (λ (w : Words). pointed_cell p.table.config.pages w.pages (address_of i)) same ∙ pointed
 
-    of_cell : (value : ℕ) → hand_of_cell m'.words (is_in_stop p.table.config.callers m'.words p.seat)
-        m'.seats.holding.placing cell value ≡ Some (record { value = value; source = Marked })
-    of_cell value = grind (arith, m', same)
-
     given : (value : ℕ) → hand_given p.table.config m' p.seat (Word.Heap i) value
         ≡ Some (record { value = value; source = Marked })
-    given value = grind (arith, m', pointed_now, of_cell)
+    given value = grind (arith, m', pointed_now, same)

@@ -51,9 +51,6 @@ root_quiet _ h = refl
 gray_there : {pages n : ℕ} (w : Words) {v : Words} → but_phase w ≡ v → IsGrayWord pages v n → IsGrayWord pages w n
 gray_there w same h = grind arith
 
-dirty_there : {page : ℕ} (w : Words) {v : Words} → but_phase w ≡ v → HasDirtyPart v page → HasDirtyPart w page
-dirty_there w same h = grind arith
-
 reached_there : {p : PassState} (w : World) {cell : Cell} → but_phase w.now.words ≡ still_words p → w.now.seats.holding
     ≡ (now_of p).seats.holding → HandPointsInto p cell → MarksReached p.table.config w.now cell.page (2 ^ cell.index)
 reached_there w same holding r = grind (arith, marks_by)
@@ -86,7 +83,7 @@ module _ {t u : TurnState} (wanted : IsWanted t.pass) (all : HoldsAll t.pass.tab
 
   pub on_unblack : {page : ℕ} → Acts t.pass (Step.Unblack page) u.pass → HasDirtyPart (still_words t.pass) page
       → MarksOn t u
-  on_unblack {page} a part = marks_on t.pass u.pass wanted all own a refl (λ w e h. dirty_there w.now.words e part)
+  on_unblack {page} a part = marks_on t.pass u.pass wanted all own a refl (λ w e h. grind arith)
 
   pub on_undirty : {page : ℕ} → Acts t.pass (Step.Undirty page) u.pass → MarksOn t u
   on_undirty {page} a = marks_on t.pass u.pass wanted all own a refl (λ w e h. tt)

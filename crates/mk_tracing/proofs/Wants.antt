@@ -22,14 +22,11 @@ module _ {t u : TurnState} (a : Acts t.pass Step.Want u.pass) (own : Has t.pass.
   untouched : untouched_of (world_of u.pass) ≡ untouched_of (world_of t.pass)
   untouched = step_untouched t.pass u.pass Step.Want a refl all refl
 
-  want_phase : phase_of (now_of t.pass).words ≡ 1 → phase_of (now_of u.pass).words ≡ 2
-  want_phase one = grind (arith, one_more, phase_there)
-
   pub want_waits : phase_of (now_of t.pass).words ≡ 1 → WaitsForMarkers t u 1
   want_waits one = record {
     table = ap (λ (p : PassState). p.table) a.makes.is;
     ready = still_ready a.makes untouched ready;
-    phase = want_phase one;
+    phase = grind (arith, one_more, phase_there);
     traces = traces_step is_waiting TracesReached is_want t.pass u.pass Step.Want a.makes 1 own refl tt untouched
         (step_counts t.pass u.pass Step.Want a refl) refl;
   }
@@ -68,9 +65,7 @@ waits_then one none = record {
 }
 
 waiting_traces : (s : Step) → is_waiting s ≡ true → is_tracing s ≡ true
-waiting_traces Step.Want h = refl
-waiting_traces (Step.Look x) h = refl
-waiting_traces _ h = cc
+waiting_traces x0 h = grind arith
 
 marking_traces : (s : Step) → is_marking s ≡ true → is_tracing s ≡ true
 marking_traces Step.Want h = refl

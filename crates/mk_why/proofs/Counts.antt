@@ -32,11 +32,8 @@ none_counted {A} (y ∷ ys) none =
 
 -- Tables that fit the inner engine.
 
-of_pages : (inner size n : ℕ) → pages_for inner size ≡ n → 1 ≤ n → n ≤ 4096 → (inner ≡ n) × (size ≡ 64 * n)
-of_pages inner size n is some few = grind (arith, eqb-true)
-
 -- the inner engine and the table of the fields, where what contracts see of them is made for this many pages
 pub of_state : {E : Type 0} (made_for : E → ℕ) (fields state : WhyState E) (n : ℕ) → fields ≡ state
     → pages_for (made_for state.inner) (length state.found) ≡ n → 1 ≤ n → n ≤ 4096
     → (made_for fields.inner ≡ n) × (length fields.found ≡ 64 * n)
-of_state {E} made_for fields state n same is = grind (arith, of_pages)
+of_state {E} made_for fields state n same is = grind (arith, eqb-true)

@@ -9,7 +9,7 @@ use Rattle.mk_laws.proofs.Vocabulary.{cases_eq, cases_lt, cell_words, cells_begi
 use Rattle.mk_laws.proofs.Vocabulary.{get_or-set_same, inl, inr, is_cycling, is_marked, length, length-set, not}
 use Rattle.mk_laws.proofs.Vocabulary.{not-true, refl, slice_index, slice_set, subst, sym, true, typed_size}
 use Rattle.mk_laws.proofs.Vocabulary.{words_within, ◌&&◌, ◌*◌, ◌+◌, ◌/◌, ◌<◌, ◌^◌, ◌∙◌, ◌≡◌, ◌≢◌}
-use Rattle.mk_laws.proofs.{InvariantHistories.histories_keep_the_invariant, InvariantTheorems.allocations_stand}
+use Rattle.mk_laws.proofs.InvariantHistories.{allocations_stand, histories_keep_the_invariant}
 use Rattle.mk_laws.{proofs.{KnownWorlds.known_world, ReadingsStands.freed_cell}, specs.SettledPages.{StandsUsed}}
 use Rattle.mk_core.proofs.{PointedAllocations.marked_where_its_cell_is, StandingAllocations.cell_is_known}
 use Rattle.mk_core.specs.ClosedMarks.{is_marked_allocation}
@@ -113,15 +113,10 @@ module _ {p : PassState} (history : IsHistory p.table.config p.seen) (still : Is
       (kept_cell p history still (record { page = page; index = index })
       (ap (λ n. has_bit n index) (sym snapshots) ∙ in_snapshot) (ap (λ n. has_bit n index) (sym bits) ∙ marked)))
 
-  has_kept_on : (b : ℕ) → is_kept p.table.config (world_in (view_by p)) b ≡ true
-      → (cell_of_allocation p.table.config (placed_at (world_of p).allocations b)).page ≡ page
-      → HasKeptCell p.table.config (view_by p) b page size (cells_under (header_of header)) snapshot marks
-  has_kept_on b kept at_page = grind (arith, has_kept_cell, size_is)
-
   pub has_kept_at : (b : ℕ) → is_kept k.config (world_in (view_by p)) b ≡ true
       → (cell_of_allocation k.config (placed_at (view_by p).allocations b)).page ≡ page
       → HasKeptCell k.config (view_by p) b page size (cells_under (header_of header)) snapshot marks
-  has_kept_at b = grind (arith, has_kept_on)
+  has_kept_at b = grind (arith, has_kept_cell, size_is)
 
 -- One cell more.
 
@@ -151,35 +146,31 @@ module _ (c : Config) (v : View) (r s : Tables) (cell : Cell) (size : ℕ) (of_k
       ∙ get_or-set_same r.kept.items base (Some storage) None within
 
   elsewhere : (k : ℕ) → k ≢ base → entry_at s.kept.items k ≡ entry_at r.kept.items k
-  elsewhere k ne =
-      ap (λ (xs : List (Option Storage)). entry_at xs k) set
-      ∙ get_or-set_other r.kept.items base k (Some storage) None ne
+  elsewhere k ne = ap (λ (xs : List _). entry_at xs k) set ∙ get_or-set_other r.kept.items base k (Some storage) None ne
 
   sets_cell : ListsCell c v r s base true true
-  sets_cell =
-      record {
-        on = record {
-          size = ap length set ∙ length-set r.kept.items base (Some storage);
-          of_kept = λ k x is. elim (cases_eq k base) [
-            | inl e ↦
-                let both : Some x ≡ Some storage = sym is ∙ ap (λ n. entry_at s.kept.items n) e ∙ there in
-                let same : x ≡ storage = cc in
-                subst (IsKeptAt c v k) (sym same) (record {
-                  number = kept.number;
-                  is = kept.is ∙ sym e;
-                  storage = record {
-                    kept = kept.kept;
-                    address = ap (λ n. 65536 + 8 * n) (sym kept.is);
-                    words = kept.words;
-                  };
-                })
-            | inr ne ↦ of_kept k x (sym (elsewhere k ne) ∙ is)
-          ];
-          stays = stays;
-          found = found;
-        };
-        listed = λ one two. record { storage = storage; there = there };
-      }
+  sets_cell = record {
+    on = record {
+      size = ap length set ∙ length-set r.kept.items base (Some storage);
+      of_kept = λ k x is. elim (cases_eq k base) [
+        | inl e ↦
+            let both : Some x ≡ Some storage = sym is ∙ ap (λ n. entry_at s.kept.items n) e ∙ there in
+            subst (IsKeptAt c v k) (sym cc) (record {
+              number = kept.number;
+              is = kept.is ∙ sym e;
+              storage = record {
+                kept = kept.kept;
+                address = ap (λ n. 65536 + 8 * n) (sym kept.is);
+                words = kept.words;
+              };
+            })
+        | inr ne ↦ of_kept k x (sym (elsewhere k ne) ∙ is)
+      ];
+      stays = stays;
+      found = found;
+    };
+    listed = λ one two. record { storage = storage; there = there };
+  }
     where
       stays : (k : ℕ) → IsListed r.kept.items k → IsListed s.kept.items k
       stays k x = elim (cases_eq k base) [

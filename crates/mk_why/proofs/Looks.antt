@@ -1,8 +1,7 @@
 -- Looks leave the view as it is, and so does what others do in the stop; after an engine's marks they leave its law.
 use Rattle.std.proofs.{lemmas.List.Sums.{sum_by-append, sum_by-cons}, Common.count_by, lemmas.List.append_cancel_left}
-use Rattle.mk_why.proofs.Vocabulary.{Config, Event, IsHistory, IsStill, LooksWhileStill, PassState, PlacedAllocation}
-use Rattle.mk_why.proofs.Vocabulary.{TurnState, View, Words, World, is_word, left, now_of, others_are_held, phase_of}
-use Rattle.mk_why.{proofs.Vocabulary.{view_by, view_of}, specs.Stops.{is_look}}
+use Rattle.mk_why.proofs.Vocabulary.{Config, Event, IsHistory, IsStill, LooksWhileStill, PassState, TurnState, View}
+use Rattle.mk_why.proofs.Vocabulary.{World, is_word, left, now_of, others_are_held, phase_of, view_by, view_of}
 use Rattle.mk_laws.proofs.Vocabulary.{AreOfOthers, Bool, List, MarkerState, Moment, Step, TurnIsLeft, Word, ℕ}
 use Rattle.mk_laws.proofs.Vocabulary.{all_below, and_from, and_parts, ap, append_assoc, arith, cond, enabled_meets}
 use Rattle.mk_laws.proofs.Vocabulary.{eq-eqb, false, has_closed_page, is_attending, lt-ltb, none_attends, not, not-true}
@@ -18,16 +17,14 @@ use Rattle.mk_tracing.{proofs.Steps.{may_step}, specs.Stops.{IsWanted}}
 use Rattle.mk_turns.proofs.{Doing.{does_nothing, does_step, does_then, done_in_parts}, PointedCells.looked_for}
 use Rattle.mk_turns.{proofs.Sweeping.{does_sweep, sweeps_then}, specs.Sweeping.{HaveNoMark, SweepsNothing}}
 use Rattle.mk_turns.specs.{Doing.{Does, are_of, count_done, done_in}, Pointing.{LooksForCell, MayLookAtHeaders}}
+use Rattle.mk_why.specs.Stops.{is_look}
 use Rattle.mk_words.{proofs.Seats.{others_own}, specs.{Steps.{IsAdmittedTo, IsEnabledTo}, TurnSteps.Acts}}
 
 -- Looks leave the view as it is, and so does what others do in the stop.
 
-abbrev view_from : Words → List PlacedAllocation → View
-view_from w xs = record { words = w; allocations = xs }
-
 pub view_left : {w v : World} → TurnIsLeft w v → written_of v ≡ written_of w → phase_of w.now.words ≡ 2
     → NoneAttends w.now → view_of v ≡ view_of w
-view_left {w} {v} turn written two none = grind (arith, view_from, words_left)
+view_left {w} {v} turn written two none = grind (arith, words_left)
 
 -- Any word may be looked at.
 module _ {p : PassState} (turn : InTurn p) (gates : others_are_held p.table.config.callers (now_of p).words p.seat
@@ -44,9 +41,6 @@ module _ {p : PassState} (turn : InTurn p) (gates : others_are_held p.table.conf
 -- A look leaves all still.
 module _ (t u : TurnState) {x : Word} (a : Acts t.pass (Step.Look x) u.pass) (gates : others_are_held
     t.pass.table.config.callers (now_of t.pass).words t.pass.seat ≡ true) (still : IsStill t.pass) where
-  wanted : IsWanted t.pass
-  wanted = wanted_now (in_turn_before a) gates still
-
   keeps : LeavesTurn but_phase t.pass u.pass
   keeps =
       calm_keeps t.pass (Step.Look x) u.pass a (in_turn_before a) a.makes.pass.history refl still.free but_phase refl
@@ -57,7 +51,7 @@ module _ (t u : TurnState) {x : Word} (a : Acts t.pass (Step.Look x) u.pass) (ga
     does = does_step is_look t.pass u.pass (Step.Look x) a.makes refl;
     keeps = keeps;
     view = ap view_of a.world ∙ view_left a.turn (a.stop (a.holds, gates)) still.wanted still.none;
-    still = grind (arith, free_then, keeps, wanted, phase_there, none_after);
+    still = grind (arith, free_then, keeps, phase_there, none_after, wanted_now, in_turn_before);
   }
 
 -- Nothing is looked at, and one part is after the other.

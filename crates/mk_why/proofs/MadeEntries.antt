@@ -1,15 +1,15 @@
 -- Chains followed back, and the entries of the kept allocations.
 use Rattle.std.proofs.lemmas.List.{get_or_read_under, length-reverse, reverse-append}
 use Rattle.std.proofs.lemmas.List.Elements.{Contains-append_left, Contains-push, Contains-push_cases}
-use Rattle.std.proofs.{Common.{length-append, reverse}, Math.ListN.get_or-append, Math.Seq.get_or-append_seam}
+use Rattle.std.proofs.{Common.length-append, Common.reverse, Math.ListN.get_or-append, Math.Seq.get_or-append_seam}
 use Rattle.std.specs.List.Sorted.{IsStrictlyIncreasing}
 use Rattle.mk_why.proofs.Vocabulary.{AreEntriesBelow, AreWays, BeginApart, Config, Found, IsLedBack, IsTold, IsWay}
 use Rattle.mk_why.proofs.Vocabulary.{IsWhy, Link, LinksLead, Root, Start, Storage, View, base_at, entry_at, is_kept}
-use Rattle.mk_why.proofs.Vocabulary.{is_scanned_allocation, placed_at, world_in}
+use Rattle.mk_why.proofs.Vocabulary.{placed_at, world_in}
 use Rattle.mk_laws.proofs.Vocabulary.{List, None, Option, Some, ℕ, and_parts, ap, arith, cases_lt, false, inl, inr}
-use Rattle.mk_laws.proofs.Vocabulary.{is_some, length, length-map, lt-ltb, map, map-append, not-true, refl, slice_index}
-use Rattle.mk_laws.proofs.Vocabulary.{slice_index_or, subst, sym, true, true≢false, [], ◌*◌, ◌++◌, ◌+◌, ◌<◌, ◌∙◌, ◌∷◌}
-use Rattle.mk_laws.proofs.{Vocabulary.◌≡◌, MappedWords.mapped_stays}
+use Rattle.mk_laws.proofs.Vocabulary.{length, length-map, lt-ltb, map, map-append, not-true, refl, slice_index}
+use Rattle.mk_laws.proofs.Vocabulary.{slice_index_or, subst, sym, true, [], ◌*◌, ◌++◌, ◌+◌, ◌<◌, ◌∙◌, ◌∷◌, ◌≡◌}
+use Rattle.mk_laws.proofs.MappedWords.{mapped_stays}
 use Rattle.mk_why.specs.Entries.{IsLed, IsMadeOf, IsOneMore, IsToldWhy, IsWayOf, back_to, root_of, step_back}
 use Rattle.mk_why.specs.{Chains.IsEntryOf, Listing.IsKeptAt, declared.found.Way.Way, declared.kept.Kept.Kept}
 
@@ -39,18 +39,11 @@ pair_is : (a : ℕ) (x : Found) (b : ℕ) (y : Found) (p : Option (ℕ × Found)
 unfolding first_of_pair second_of_pair
 pair_is a x b y p one two = (ap first_of_pair (sym one ∙ two), ap (second_of_pair x) (sym one ∙ two))
 
-pair_is_some : (a : ℕ) (x : Found) (p : Option (ℕ × Found)) → p ≡ Some (a, x) → p ≡ None → ⊥
-pair_is_some a x p one two = true≢false (ap (is_some {T = ℕ × Found}) (sym one ∙ two))
-
 pub led_first : (c : Config) (v : View) (found : List (Option Found)) (f : Found) (b : ℕ)
     → IsWay c v found f.way f.links b → IsLedBack c v found f [] b f.links
 led_first c v found f b way = record { number = b; way = way; leads = refl; sum = omega arith }
 
 module _ (c : Config) (v : View) (found : List (Option Found)) (ways : AreWays c v found) (apart : BeginApart v) where
-  unreleased_of : (a : ℕ) → is_scanned_allocation c (placed_at v.allocations a) ≡ true
-      → (placed_at v.allocations a).released ≡ false
-  unreleased_of a is = grind (arith, mapped_stays, and_parts)
-
   led_by : (way : Way) (links : ℕ) (pushed : List ℕ) (b count x : ℕ) → IsWay c v found way links x
       → LinksLead c (world_in v) x (reverse pushed) b → length pushed + links ≡ count → (link : ℕ) (before : Found)
       → step_back found (record { way = way; links = links }) ≡ Some (link, before)
@@ -66,7 +59,7 @@ module _ (c : Config) (v : View) (found : List (Option Found)) (ways : AreWays c
       (subst (λ n. IsLedBack c v found on.before (pushed ++ n ∷ []) b count) same.0 (record {
         number = on.number;
         way = let y = ways from on.before on.there in
-            let same : y.number ≡ on.number = grind (arith, unreleased_of) in
+            let same : y.number ≡ on.number = grind (arith, mapped_stays, and_parts) in
             subst (λ n. IsWay c v found on.before.way on.before.links n) same y.way;
         leads = subst (λ ls. LinksLead c (world_in v) on.number ls b) (sym (reverse-append pushed (to ∷ [])))
             (x, on.onward, leads);
@@ -87,7 +80,7 @@ module _ (c : Config) (v : View) (found : List (Option Found)) (ways : AreWays c
     chain = record { first = x; there = way.1; points = way.2; leads = leads };
     as_many = let none = way.0 in let size = length-reverse pushed in omega arith;
   }
-  ends_by (Link to from) links pushed b count x on leads sum is = grind (arith, pair_is_some, some_back)
+  ends_by (Link to from) links pushed b count x on leads sum is = grind (arith, some_back)
 
   pub led_to_root : {f : Found} {pushed : List ℕ} {b count : ℕ} → IsLedBack c v found f pushed b count
       → step_back found f ≡ None → IsLed c v b count (root_of f.way) (reverse pushed)

@@ -7,11 +7,10 @@ use Rattle.mk_why.proofs.Vocabulary.{storage_of, storage_words, used_at, view_by
 use Rattle.mk_laws.proofs.Vocabulary.{IsSettled, None, Option, Some, ℕ, and_parts, ap, arith, cells_begin, false}
 use Rattle.mk_laws.proofs.Vocabulary.{has_no_pointers, inr, ne_eqb, not, pointed_cell, subst, sym, true, true≢false}
 use Rattle.mk_laws.proofs.Vocabulary.{typed_size, words_within, ◌*◌, ◌+◌, ◌/◌, ◌<◌, ◌∙◌, ◌≡◌, ◌≤◌}
-use Rattle.mk_laws.proofs.{InvariantTheorems.{allocations_are_disjoint, allocations_stand}, Worlds.{Told, comes_back}}
-use Rattle.mk_laws.proofs.{Worlds.hits, InvariantHistories.histories_keep_the_invariant, KnownWorlds.known_world}
-use Rattle.mk_laws.proofs.{MappedWords.mapped_stays, Settled.{gone_is_unmapped, unreleased_are_apart}}
+use Rattle.mk_laws.proofs.InvariantHistories.{allocations_are_disjoint, allocations_stand, histories_keep_the_invariant}
+use Rattle.mk_laws.{proofs.{KnownWorlds.known_world, MappedWords.mapped_stays}, specs.SettledPages.{StandsUsed}}
+use Rattle.mk_laws.proofs.{Settled.{gone_is_unmapped, unreleased_are_apart}, Worlds.{Told, comes_back, hits}}
 use Rattle.mk_core.specs.Cells.{is_used}
-use Rattle.mk_laws.specs.SettledPages.{StandsUsed}
 use Rattle.mk_sweep.proofs.ScannedCells.{scanned_stands, used_cell, used_is_taken}
 use Rattle.mk_why.specs.Searching.{AreScannedFrom, IsBasePointed, PointsAtBase}
 
@@ -74,11 +73,6 @@ module _ (p : PassState) (history : IsHistory p.table.config p.seen) (still : Is
             x.number points.0 x.unreleased (same_cell value b cell is points ∙ sym x.is);
       }
 
-  -- What is scanned has a header that says so.
-  scanned_header : (b : ℕ) → is_scanned_allocation c (a b) ≡ true
-      → has_no_pointers (header_in (now_of p).words ((a b).base / 64)) ≡ false
-  scanned_header b is = (scanned_stands c p.seen history settled b is).scanned
-
   words_there : (b : ℕ) → (a b).released ≡ false
       → words_under (header_in (now_of p).words ((a b).base / 64)) ≡ storage_words c (a b)
   words_there b u =
@@ -89,10 +83,6 @@ module _ (p : PassState) (history : IsHistory p.table.config p.seen) (still : Is
   unreleased_of b is = mapped_stays c (a b) (and_parts (is_mapped c (a b)) (not (storage_of c (a b)).leaf) is).0
 
   module _ {base : ℕ} (is : IsFirstWord (view_by p) base) where
-    pub bare_whole : has_no_pointers (header_in (now_of p).words (base / 64)) ≡ true → (b : ℕ)
-        → base_at (view_by p) b ≡ base → is_scanned_allocation c (a b) ≡ true → 0 ≡ storage_words c (a b)
-    bare_whole bare b at scanned = grind (arith, scanned_header)
-
     pub scanned_whole : (b : ℕ) → base_at (view_by p) b ≡ base → is_scanned_allocation c (a b) ≡ true
         → words_under (header_in (now_of p).words (base / 64)) ≡ storage_words c (a b)
     scanned_whole b at scanned = grind (arith, words_there, unreleased_of)
@@ -111,12 +101,6 @@ module _ (p : PassState) (history : IsHistory p.table.config p.seen) (still : Is
         scanned_whole b is.is scanned in
         let begins : (a b).base ≡ base = is.is in
         (b, is.is, scanned, (omega arith, omega arith))
-
-    pub within_heap : base + words_under (header_in (now_of p).words (base / 64)) ≤ 64 * c.pages
-    within_heap = grind (arith, words_there, stands)
-
-    pub begins_within : base < 64 * c.pages
-    begins_within = grind (arith, stands, words_within, typed_size)
 
   pub apart : BeginApart (view_by p)
   apart i j u v same =
@@ -150,16 +134,13 @@ module _ {p : PassState} (history : IsHistory p.table.config p.seen) (still : Is
 module _ {p : PassState} (history : IsHistory p.table.config p.seen) (still : IsStill p) (k : WordsState)
     (same : p.table ≡ k) (base : ℕ) (is : IsFirstWord (view_by p) base) where
   pub begins_at : base < 64 * k.config.pages
-  begins_at = subst (λ (t : WordsState). base < 64 * t.config.pages) same (begins_within p history still is)
+  begins_at = grind (arith, stands, words_within, typed_size)
 
   module _ (header : ℕ) (shown : header ≡ header_at (view_by p).words (base / 64)) where
     pub bare_at : has_no_pointers (header_of header) ≡ true → (b : ℕ) → base_at (view_by p) b ≡ base
         → is_scanned_allocation k.config (placed_at (view_by p).allocations b) ≡ true
         → 0 ≡ storage_words k.config (placed_at (view_by p).allocations b)
-    bare_at bare =
-        subst (λ (t : WordsState). (b : ℕ) → base_at (view_by p) b ≡ base → is_scanned_allocation t.config
-        (placed_at (view_by p).allocations b) ≡ true → 0 ≡ storage_words t.config (placed_at (view_by p).allocations b))
-        same (bare_whole p history still is (ap (λ h. has_no_pointers (header_of h)) (sym shown) ∙ bare))
+    bare_at bare = grind (arith, scanned_stands, settled)
 
     size_is : (size : ℕ) → size ≡ words_under (header_of header)
         → size ≡ words_under (header_in (now_of p).words (base / 64))
@@ -181,6 +162,4 @@ module _ {p : PassState} (history : IsHistory p.table.config p.seen) (still : Is
         (λ b at scanned. size_is size under ∙ scanned_whole p history still is b at scanned)
 
     pub within_at : (size : ℕ) → size ≡ words_under (header_of header) → base + size ≤ 64 * k.config.pages
-    within_at size under =
-        subst (λ (t : WordsState). base + size ≤ 64 * t.config.pages) same
-        (subst (λ n. base + n ≤ 64 * p.table.config.pages) (sym (size_is size under)) (within_heap p history still is))
+    within_at size under = grind (arith, size_is, words_there, stands)

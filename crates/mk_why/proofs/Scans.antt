@@ -23,10 +23,6 @@ pub done_from : (c : Config) (v : View) {found : List (Option Found)} {base : �
     → ((i : ℕ) → i < size → IsNoted c v found (slice_index v.words.heap (base + i)) (links + 1))
     → IsSearched c v found base
 done_from c v {found} {base} size {links} through whole noted a n begins scanned word =
-    let all = whole a begins scanned in
-    let low = word.0 in
-    let high = word.1 in
-    let first : (placed_at v.allocations a).base ≡ base = begins in
     let here : base + (n - base) ≡ n = omega arith in
     let few : n - base < size = omega arith in
     let same : links_in (entry_at found base) ≡ links = ap links_in through.there ∙ through.through in
@@ -52,14 +48,10 @@ module _ {c : Config} {v : View} {r : Tables} (place : ℕ) {limit : ℕ} (searc
     pub one_more_fits : f.links + 1 ≤ r.count
     one_more_fits = let few = search.shallow place known in let same = links_there in omega arith
 
--- The queue has room for all that was found.
-pub count_fits : (r : Tables) → r.count ≤ length r.queue.items
-count_fits r = grind (arith, count_by-le-length)
-
 -- what is read there
 pub queue_read : (r : Tables) (place x : ℕ) → x ≡ slice_index_or r.queue.items place x → place < r.count
     → x ≡ slice_index r.queue.items place
-queue_read r place x is known = grind (arith, count_fits, get_or_read_under)
+queue_read r place x is known = grind (arith, get_or_read_under, count_by-le-length)
 
 pub entry_read : (r : Tables) (base : ℕ) (o : Option Found) (f : Found) → o ≡ slice_index_or r.found.items base o
     → base < length r.found.items → o ≡ Some f → entry_at r.found.items base ≡ Some f

@@ -23,13 +23,9 @@ found_stays : (c : Config) (v : View) (found more : List (Option Found)) → Sta
     → IsFoundAt c v found base f → IsFoundAt c v more base f
 found_stays c v found more stays base f x = grind (arith, way_stays)
 
-pub within_stays : {found : List (Option Found)} (more : List (Option Found)) → Stays found more → {base limit : ℕ}
-    → IsFoundWithin found base limit → IsFoundWithin more base limit
-within_stays more stays {base} x = grind arith
-
 pub noted_stays : (c : Config) (v : View) (found more : List (Option Found)) → Stays found more → (value limit : ℕ)
     → IsNoted c v found value limit → IsNoted c v more value limit
-noted_stays c v found more stays value limit x b points = within_stays more stays (x b points)
+noted_stays c v found more stays value limit x b points = grind arith
 
 pub through_stays : (found more : List (Option Found)) → Stays found more → (base links : ℕ)
     → IsFoundThrough found base links → IsFoundThrough more base links
@@ -110,9 +106,6 @@ module _ (c : Config) (v : View) (r s : Tables) (base : ℕ) (f : Found) (search
   elsewhere k ne =
       ap (λ (xs : List (Option Found)). entry_at xs k) found ∙ get_or-set_other r.found.items base k (Some f) None ne
 
-  not_there : (k : ℕ) (g : Found) → entry_at r.found.items k ≡ Some g → k ≢ base
-  not_there k g h e = true≢false (ap is_some (sym h) ∙ ap (λ n. is_some (entry_at r.found.items n)) e ∙ none)
-
   last : slice_index s.queue.items r.count ≡ base
   last =
       ap (λ (xs : List ℕ). slice_index xs r.count) queue ∙ get_or-set_same r.queue.items r.count base 0
@@ -124,20 +117,17 @@ module _ (c : Config) (v : View) (r s : Tables) (base : ℕ) (f : Found) (search
       ∙ get_or-set_other r.queue.items r.count i base 0 (λ e. absurd (omega arith))
 
   pub note_grows : FindsMore r s
-  note_grows = grind (arith, elsewhere, not_there, earlier)
+  note_grows = grind (arith, elsewhere, earlier)
 
   links_before : (i : ℕ) → i < r.count → links_of s i ≡ links_of r i
   links_before i few = links_stay note_grows i few (search.entries i few)
-
-  links_last : links_of s r.count ≡ f.links
-  links_last = ap (λ n. links_in (entry_at s.found.items n)) last ∙ ap links_in there
 
   in_queue : (i : ℕ) → i < s.count → (i < r.count) ⊎ (i ≡ r.count)
   in_queue i few = grind (arith, cases_lt)
 
   links_there : (i : ℕ) → i < s.count
       → ((i < r.count) × (links_of s i ≡ links_of r i)) ⊎ ((i ≡ r.count) × (links_of s i ≡ f.links))
-  links_there i few = grind (arith, in_queue, links_before, links_last)
+  links_there i few = grind (arith, in_queue, links_before, last, there)
 
   note_search : f.links ≤ r.count → IsFoundAt c v r.found.items base f → IsSearch c v s f.links
   note_search shallow way =

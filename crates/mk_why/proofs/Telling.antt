@@ -1,24 +1,18 @@
 -- What is told after the looks, whatever others do.
-use Rattle.mk_why.proofs.Vocabulary.{AreOfKept, BeginApart, Config, Event, Found, IsHistory, IsListed, IsTold, ListsOn}
-use Rattle.mk_why.proofs.Vocabulary.{LooksWhileStill, PassState, Storage, Tables, TurnState, View, WordsState, World}
-use Rattle.mk_why.proofs.Vocabulary.{base_at, is_kept, left, now_of, others_are_held, view_by, view_of, world_in}
-use Rattle.mk_why.{proofs.{Vocabulary.world_of, Looks.others_still}, specs.{Searching.IsExplored, Stops.IsToldBefore}}
-use Rattle.mk_laws.proofs.Vocabulary.{List, Option, ℕ, ap, append-nil, subst, sym, true, [], ◌++◌, ◌∙◌, ◌≡◌}
+use Rattle.mk_why.proofs.Vocabulary.{BeginApart, Config, Event, Found, IsHistory, IsListed, IsTold, ListsOn}
+use Rattle.mk_why.proofs.Vocabulary.{LooksWhileStill, PassState, Storage, Tables, TurnState, WordsState, World, base_at}
+use Rattle.mk_why.proofs.Vocabulary.{is_kept, left, now_of, others_are_held, view_by, view_of, world_in, world_of}
+use Rattle.mk_laws.proofs.Vocabulary.{List, Option, ℕ, append-nil, arith, subst, sym, true, [], ◌++◌, ◌∙◌, ◌≡◌}
 use Rattle.mk_core.specs.Growing.{AreOfOthers}
 use Rattle.mk_cycle.specs.{Telling.IsToldOf, TurnKeeps.InTurn}
+use Rattle.mk_why.{proofs.Looks.others_still, specs.Searching.IsExplored, specs.Stops.IsToldBefore}
 
 -- the two tables, of the view after the engine's marks
 pub told_by : {k : Config} {t u : TurnState} (a : Tables) {b d : Tables} → LooksWhileStill t u
     → IsExplored k (view_by t.pass) a.found.items → BeginApart (view_by t.pass) → b.found ≡ a.found
     → ListsOn k (view_by u.pass) b d → ((n : ℕ) → is_kept k (world_in (view_by u.pass)) n ≡ true
     → IsListed d.kept.items (base_at (view_by u.pass) n)) → IsTold k d.found.items d.kept.items (view_by t.pass)
-told_by {k} {t} a {d} on explored apart same lists each = record {
-  explored = subst (IsExplored k (view_by t.pass)) (sym (ap (λ x. x.items) (lists.found ∙ same))) explored;
-  apart = apart;
-  of_kept = subst (λ (v : View). AreOfKept k v d.kept.items) on.view lists.of_kept;
-  each = subst (λ (v : View). (n : ℕ) → is_kept k (world_in v) n ≡ true → IsListed d.kept.items (base_at v n))
-      on.view each;
-}
+told_by a on explored apart same lists each = grind arith
 
 -- nothing that others did is nothing
 nothing_of_others : (p : PassState) → AreOfOthers p.seats []
@@ -42,11 +36,13 @@ module _ (tells : Config → World → Type 0) (k : WordsState) {t u : TurnState
       let table : u.pass.table ≡ k = on.table ∙ same in
       let view : view_of (left c (u.pass.seen ++ others)) ≡ view_by t.pass =
       others_still turn gates on.still others of_others more ∙ on.view in
-      let first : tells c (world_of t.pass) =
-      subst (λ (x : WordsState). tells x.config (world_of t.pass)) (sym on.table) (told_now tells t.pass history told)
-      in
       let second : IsTold c found kept (view_by t.pass) =
       subst (λ (x : WordsState). IsTold x.config found kept (view_by t.pass)) (sym table) tables in (
-        record { before = world_of t.pass; told = first; view = view },
+        record {
+          before = world_of t.pass;
+          told = subst (λ (x : WordsState). tells x.config (world_of t.pass))
+              (sym on.table) (told_now tells t.pass history told);
+          view = view;
+        },
         subst (IsTold c found kept) (sym view) second,
       )

@@ -83,13 +83,6 @@ register_behind p s q m r =
     let d = made p s q m in
     cc (d.seat, d.world)
 
--- A step whose access leaves the registers alone leaves those of its seat as the pass knew them.
-pub keeps_registers : (p : PassState) (s : Step) (q : PassState) (m : Makes p s q) → (k : ℕ) → p.seat ≡ Caller k
-    → (moment_behind p.table.config (moment_of m) (event_of p s)).words.registers ≡ (moment_of m).words.registers
-    → LeavesRegisters p q
-keeps_registers p s q m k is same r lt =
-    cc (register_behind p s q m r, number_is p.seat k is, registers_before p s q m k is r lt)
-
 -- The same, from what a call says.
 module _ {p : PassState} {s : Step} {n : ℕ} {q : PassState} (t : Tells p s n q)
     (kind : group_of s ≡ Group.Callers) where
@@ -102,7 +95,8 @@ module _ {p : PassState} {s : Step} {n : ℕ} {q : PassState} (t : Tells p s n q
 
   pub keeps : (moment_behind p.table.config (moment_of t.makes) (event_of p s)).words.registers
       ≡ (moment_of t.makes).words.registers → LeavesRegisters p q
-  keeps same = let k = caller_is in keeps_registers p s q t.makes k.0 k.1 same
+  keeps same = let k = caller_is in λ r lt. cc
+      (register_behind p s q t.makes r, number_is p.seat k.0 k.1, registers_before p s q t.makes k.0 k.1 r lt)
 
   pub same_call : flight_of (moment_of t.makes) p.seat ≡ call_of p
   same_call = (made p s q t.makes).frame.own.flight
@@ -131,11 +125,6 @@ reg_access_is : (p : PassState) (q : PassState) (m : Makes p Step.Reg q) (a : Ac
     → access p.table.config (moment_of m) (event_of p Step.Reg) ≡ a
 reg_access_is p q m a same is = ap (λ (f : Flight). reg_access f f.stage) same ∙ is
 
-reg_reaches : (p : PassState) (q : PassState) (m : Makes p Step.Reg q) (r : ℕ)
-    → flight_of (moment_of m) p.seat ≡ call_of p → r ≡ register_met (call_of p) (call_of p).stage
-    → word_accessed p.table.config (moment_of m) (event_of p Step.Reg) ≡ Named (Word.Reg (caller_number p.seat) r)
-reg_reaches p q m r same is = grind arith
-
 reg_goes : (p : PassState) (q : PassState) (m : Makes p Step.Reg q) (n : ℕ) → n ≡ found_by m → progress p.table.config
     (moment_of m) (call_of p) (found_by m) Step.Reg ≡ progress_reg (call_of p) (call_of p).stage n
 reg_goes p q m n is = ap (λ (i : ℕ). progress_reg (call_of p) (call_of p).stage i) (sym is)
@@ -147,7 +136,7 @@ module _ {p : PassState} {n : ℕ} {q : PassState} (t : Tells p Step.Reg n q) (r
 
   reaches : word_accessed p.table.config (moment_of t.makes) (event_of p Step.Reg)
       ≡ Named (Word.Reg (caller_number p.seat) r)
-  reaches = reg_reaches p q t.makes r same met
+  reaches = grind (arith, same)
 
   small : r < 8
   small = (subst (λ (x : TableWord). IsOfTable p.table.config.pages x) reaches (made p Step.Reg q t.makes).of_table).1

@@ -3,9 +3,8 @@ use Rattle.std.proofs.{Common.count_ones, Math.Nat.add-mul-mod_self_left}
 use Rattle.mk_laws.proofs.Vocabulary.{AreOfPages, Config, Event, List, Named, Word, Words, ℕ, ap, arith}
 use Rattle.mk_laws.proofs.Vocabulary.{histories_keep_lengths, left, refl, slice_index, subst, suc, sym, zero, [], ◌%◌}
 use Rattle.mk_laws.proofs.Vocabulary.{◌+◌, ◌<◌, ◌^◌, ◌∙◌, ◌∷◌, ◌≡◌, ◌≤◌}
-use Rattle.mk_core.{proofs.RegionLemmas.{words_stand}, specs.declared.accesses.TableWord.{TableWord}}
-use Rattle.mk_core.specs.{Layout.{IsOfTable, in_order, index_of, index_of_named}, Words.word_in}
-use Rattle.mk_words.specs.{Finals.{HasTallies, freed_bits_in, freed_cells}, declared.finals.Final.Final}
+use Rattle.mk_core.{proofs.RegionLemmas.words_stand, specs.Layout.in_order, specs.Layout.index_of_named}
+use Rattle.mk_words.specs.{Finals.HasTallies, Finals.freed_bits_in, Finals.freed_cells, declared.finals.Final.Final}
 use mathlib.Core.Option.{some, some-injective, some-ne-none}
 use lib.ListN.{get_elem?}
 
@@ -32,10 +31,6 @@ freed_are pages w (suc n) of le =
     ∙ ap (λ (k : ℕ). freed_cells w n + count_ones k)
     (add-mul-mod_self_left (slice_index w.freed n) (2 ^ 32) (slice_index w.snapshot n))
 
-tally_at : (pages : ℕ) (w : Words) (ws : List ℕ) (x : TableWord) (n : ℕ) → AreOfPages pages w → IsOfTable pages x
-    → ws ≡ in_order w → n ≡ slice_index ws (index_of pages x) → n ≡ word_in w x
-tally_at pages w ws x n of table is at = grind (arith, words_stand)
-
 -- a tally, of which every table has one at the same index
 abbrev last_of : List ℕ → Word → ℕ
 last_of ws tally = slice_index ws (index_of_named 0 tally)
@@ -51,7 +46,7 @@ pub record AreRead (ws : List ℕ) (pages : ℕ) (f : Final) : Type 0 where
 
 tallies_are : (c : Config) (es : List Event) (ws : List ℕ) (f : Final) → ws ≡ in_order (left c es).now.words
     → AreRead ws c.pages f → HasTallies (left c es).now.words c.pages f
-tallies_are c es ws f is read = grind (arith, histories_keep_lengths, tally_at, freed_are)
+tallies_are c es ws f is read = grind (arith, histories_keep_lengths, freed_are, words_stand)
 
 -- The same, where a call names the configuration and the list in its own way.
 pub tallies_told : {c of_pass of_words : Config} {es seen : List Event} {ws : List ℕ} {f : Final} → of_pass ≡ c

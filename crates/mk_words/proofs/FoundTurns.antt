@@ -1,11 +1,11 @@
 -- What a `take` finds: another holder, and then all is as it was; or a free turn, and then the tallies are those of the
 -- counts.
-use Rattle.mk_laws.proofs.Vocabulary.{Bool, Caller, Config, Event, Flight, Holding, Host, IsEnabled, IsTidy, List}
-use Rattle.mk_laws.proofs.Vocabulary.{Marker, Moment, None, Op, Option, Seat, Some, Step, TalliesAreTidy, World, ℕ, ap}
-use Rattle.mk_laws.proofs.Vocabulary.{at_rest, flight_of, group_of, holder_number, if◌then◌else◌, is_open_to, left}
-use Rattle.mk_laws.proofs.Vocabulary.{ne_eqb, nothing_done, refl, set-get_or, slice_set, subst, sym, true, [], ◌++◌}
-use Rattle.mk_laws.proofs.{Vocabulary.{◌+◌, ◌∙◌, ◌∷◌, ◌≡◌, ◌≢◌}, Tallies.{counts_tidy_more, exact_more, tallies_tell}}
-use Rattle.mk_laws.proofs.{NextSteps.at_no_take, SameWords.Behind, TallySteps.others_count_nothing}
+use Rattle.mk_laws.proofs.Vocabulary.{Bool, Caller, Config, Event, Holding, IsEnabled, IsTidy, List, Moment, Op, Option}
+use Rattle.mk_laws.proofs.Vocabulary.{Seat, Step, TalliesAreTidy, World, ℕ, ap, arith, at_rest, flight_of, group_of}
+use Rattle.mk_laws.proofs.Vocabulary.{holder_number, if◌then◌else◌, is_open_to, left, ne_eqb, nothing_done, refl}
+use Rattle.mk_laws.proofs.Vocabulary.{set-get_or, slice_set, subst, sym, true, [], ◌++◌, ◌+◌, ◌∙◌, ◌∷◌, ◌≡◌, ◌≢◌}
+use Rattle.mk_laws.proofs.{Tallies.{counts_tidy_more, exact_more, tallies_tell}, NextSteps.at_no_take, SameWords.Behind}
+use Rattle.mk_laws.proofs.TallySteps.{others_count_nothing}
 use Rattle.mk_core.proofs.Conditions.{meets_enabled}
 use Rattle.mk_core.specs.{Counts.TalliesAreExact, Effects.begins_where_free, Order.is_in_order}
 use Rattle.mk_words.proofs.{CallSteps.waits, Made.made, Tidy.tidy_part}
@@ -39,14 +39,7 @@ missed c m seat o kind order some =
               (Behind c m seat (Step.Take o)).seats { holding = m.seats.holding };
           fresh_words = m.fresh_words;
         } ≡ m
-    by (Caller k) (Some o) kind order = ap (λ (fs : List Flight). record {
-      words = m.words;
-      seats = record m.seats { flights = fs };
-      fresh_words = m.fresh_words;
-    }) (same_flights c m k o m.words.turn some)
-    by (Caller k) None kind order = absurd (at_no_take (flight_of m (Caller k)).stage (flight_of m (Caller k)).op order)
-    by (Marker k) o kind order = cc
-    by Host o kind order = refl
+    by x0 o kind order = grind (arith, same_flights, at_no_take)
 
 pub take_waits : (p : PassState) (o : Option Op) (n : ℕ) (q : PassState) → Tells p (Step.Take o) n q → n ≢ 0
     → (call_of q ≡ call_of p) × IsEnabledTo q (Step.Take o)

@@ -85,11 +85,7 @@ no_take _ h = refl
 -- The turn word is another only after `take` and `give`.
 pub turn_word_stays : (c : Config) (m : Moment) (seat : Seat) (s : Step) → is_handing s ≡ false
     → (Behind c m seat s).words.turn ≡ m.words.turn
-turn_word_stays c m seat (Step.Take o) h = cc
-turn_word_stays c m seat Step.Give h = cc
-turn_word_stays c m seat Step.Reg h = grind (arith, reg_keeps)
-turn_word_stays c m seat (Step.Tally n v) h = (tally_keeps m.words n v).turn
-turn_word_stays c m seat _ h = refl
+turn_word_stays c m seat x3 h = grind (arith, reg_keeps, tally_keeps)
 
 -- The event found the turn free, left the pages as they were, and is no `mark`.
 pub record FreeStays (c : Config) (es : List Event) (e : Event) : Type 0 where

@@ -1,7 +1,7 @@
 -- What is known of a step that was made, of whatever kind.
 use Rattle.mk_laws.proofs.Vocabulary.{AreOfOthers, Config, Event, IsHistory, IsLeft, List, MeetsAll, Protocol, Step, ap}
-use Rattle.mk_laws.proofs.Vocabulary.{earlier_part_is_history, enabled_meets, first_world, left, left_more, subst}
-use Rattle.mk_laws.proofs.Vocabulary.{word_accessed, world_behind, [], ◌++◌, ◌∙◌, ◌∷◌, ◌≡◌}
+use Rattle.mk_laws.proofs.Vocabulary.{arith, earlier_part_is_history, enabled_meets, first_world, left, left_more}
+use Rattle.mk_laws.proofs.Vocabulary.{subst, word_accessed, world_behind, [], ◌++◌, ◌∙◌, ◌∷◌, ◌≡◌}
 use Rattle.mk_core.{proofs.Histories.last_enabled, specs.Layout.IsOfTable}
 use Rattle.mk_laws.proofs.{Known.Known, Known.known_left, ProtocolFrames.others_leave, Protocols.protocol_of}
 use Rattle.mk_laws.proofs.{Reaching.events_reach_the_table, SeatFrames.admitted_others_leave}
@@ -53,10 +53,7 @@ made p s q m =
 
 -- What the pass had seen before the step was a history.
 pub pass_before : {p : PassState} {s : Step} {q : PassState} → Makes p s q → IsPass p
-pass_before {p} {s} {q} m = record {
-  own = own_before m;
-  history = earlier_part_is_history p.table.config p.seen m.others (made p s q m).history;
-}
+pass_before m = grind (arith, own_before, earlier_part_is_history, made)
 
 pub stands_behind_others : StepsStandBehindOthers
 stands_behind_others p q s m =

@@ -151,11 +151,7 @@ shows_told _ is a told within shows = cc
 
 -- It leaves the gates where they are, and the turn.
 pub told_stays : (s : Step) → is_told s ≡ true → gates_stay s ≡ true
-told_stays (Step.Head p v) is = refl
-told_stays (Step.Used p v) is = refl
-told_stays (Step.Quar p v) is = refl
-told_stays (Step.Mark p v) is = refl
-told_stays _ is = cc
+told_stays x0 is = grind arith
 
 -- A mark on a page with a header needn't be told.
 pub untold_mark : (map : KnownPages) (w : Words) (page : ℕ) → header_at w page ≢ 0 → IsMapOf map w
@@ -205,11 +201,7 @@ page_known p page map lt shows =
 
 told_range : (c : Config) (seat : Seat) (f : Flight) (s : Step) → is_told s ≡ true
     → is_in_range c seat f s ≡ nat_lt (page_told s) c.pages
-told_range c seat f (Step.Head p v) is = refl
-told_range c seat f (Step.Used p v) is = refl
-told_range c seat f (Step.Quar p v) is = refl
-told_range c seat f (Step.Mark p v) is = refl
-told_range c seat f _ is = cc
+told_range c seat f x3 is = grind arith
 
 -- So has the page of a step that it is told of.
 pub told_page : (p : PassState) (s : Step) {map : KnownPages} → is_told s ≡ true → IsEnabledTo p s

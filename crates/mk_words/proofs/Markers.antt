@@ -1,31 +1,16 @@
 -- What a seat is at as a marker, after its own steps and those of others.
-use Rattle.mk_laws.proofs.Vocabulary.{Caller, Config, Flight, Group, Host, Marker, MarkerState, Moment, Placing, Seat}
-use Rattle.mk_laws.proofs.Vocabulary.{Step, World, ℕ, ap, arith, enabled_meets, found, get_or-set_same, group_of}
-use Rattle.mk_laws.proofs.Vocabulary.{is_open_to, length, ltb-true, marker_at, marker_behind, marker_may, outside, refl}
-use Rattle.mk_laws.proofs.Vocabulary.{seat_exists, subst, sym, true, ◌<◌, ◌∙◌, ◌≡◌}
-use Rattle.mk_core.specs.{Accesses.access_by, Effects.moment_behind}
-use Rattle.mk_words.{proofs.Made.{Made, made}, specs.{Rule.told_by, States.{PassState, event_of, now_of}}}
-use Rattle.mk_words.specs.{Markers.{Marks, is_markers, marker_in}, Steps.{IsEnabledTo, Tells, found_by, moment_of}}
-
--- no access of a marker's is a store
-told_found : (c : Config) (n : ℕ) (f : Flight) (placing : Placing) (x : MarkerState) (s : Step) (k : ℕ)
-    → is_markers (group_of s) ≡ true → told_by (access_by c n f placing x s) k ≡ k
-told_found c n f placing x Step.Attend k h = refl
-told_found c n f placing x Step.Quit k h = refl
-told_found c n f placing x (Step.Mlook w) k h = refl
-told_found c n f placing x (Step.Claim p i) k h = refl
-told_found c n f placing x Step.Mload k h = refl
-told_found c n f placing x Step.Mmark k h = refl
-told_found c n f placing x Step.Mblack k h = refl
-told_found c n f placing x _ k h = cc
+use Rattle.mk_laws.proofs.Vocabulary.{Caller, Config, Group, Host, Marker, MarkerState, Moment, Seat, Step, World, ℕ}
+use Rattle.mk_laws.proofs.Vocabulary.{ap, arith, enabled_meets, found, get_or-set_same, group_of, is_open_to, length}
+use Rattle.mk_laws.proofs.Vocabulary.{ltb-true, marker_at, marker_behind, marker_may, outside, seat_exists, subst, sym}
+use Rattle.mk_laws.proofs.Vocabulary.{true, ◌<◌, ◌∙◌, ◌≡◌}
+use Rattle.mk_core.specs.Effects.{moment_behind}
+use Rattle.mk_words.{proofs.Made.{Made, made}, specs.Steps.{IsEnabledTo, Tells, found_by, moment_of}}
+use Rattle.mk_words.specs.{Markers.{Marks, is_markers, marker_in}, States.{PassState, event_of, now_of}}
 
 -- a marker's step is a marker's
 
 marker_steps : (seat : Seat) (g : Group) → is_markers g ≡ true → is_open_to seat g ≡ true → (k : ℕ) × (seat ≡ Marker k)
-marker_steps (Marker k) Group.Markers m h = (k, refl)
-marker_steps (Caller k) Group.Markers m h = cc
-marker_steps Host Group.Markers m h = cc
-marker_steps seat _ m h = cc
+marker_steps seat x1 m h = grind arith
 
 behind_own : (c : Config) (m : Moment) (seat : Seat) (k : ℕ) (s : Step) → seat ≡ Marker k → k < length m.seats.markers
     → marker_at (moment_behind c m (record { seat = seat; step = s })) seat
@@ -43,7 +28,7 @@ module _ (p : PassState) (s : Step) (n : ℕ) (q : PassState) (t : Tells p s n q
       let c : Config = p.table.config in
       let k = marker_steps p.seat (group_of s) kind d.meets.kind in
       let lt : k.0 < 8 = ltb-true k.0 8 (subst (λ (x : Seat). seat_exists c x ≡ true) k.1 d.meets.seat) in
-      let found_is : n ≡ found_by t.makes = grind (arith, told_found) in
+      let found_is : n ≡ found_by t.makes = grind arith in
       record {
         finds = record { makes = t.makes; finds = found_is };
         marker =

@@ -1,14 +1,14 @@
 -- All gates are opened, one after the other.
 use Rattle.std.proofs.Common.{⊎_elim}
 use Rattle.mk_laws.proofs.Vocabulary.{Caller, Config, Event, Flight, Holds, Host, IsEnabled, IsHistory, List, Marker}
-use Rattle.mk_laws.proofs.Vocabulary.{MarkerState, MeetsAll, Moment, Protocol, Seat, Step, World, ℕ, answer_decided, ap}
-use Rattle.mk_laws.proofs.Vocabulary.{append-nil, append_assoc, arith, at_rest, cases_Bool, cases_eq, cases_lt}
-use Rattle.mk_laws.proofs.Vocabulary.{enabled_meets, ends, eqb-false, eqb-true, false, false_from_ne_true, first_world}
-use Rattle.mk_laws.proofs.Vocabulary.{flight_of, get_or-set_other, get_or-set_same, get_or_past, inl, inr, is_held}
-use Rattle.mk_laws.proofs.Vocabulary.{is_number_of, left, length, length-set, ne_eqb, not, outside, refl, set-get_or}
-use Rattle.mk_laws.proofs.Vocabulary.{slice_index, slice_set, subst, sym, true, [], ◌++◌, ◌+◌, ◌<◌, ◌==◌, ◌∙◌, ◌∷◌, ◌≡◌}
-use Rattle.mk_laws.proofs.{Vocabulary.{◌≢◌, ◌≤◌, ◌⊎◌}, Tallies.{same_ends, same_fulls}, OthersCounts.answers_full}
-use Rattle.mk_laws.proofs.{Protocols.lists_keep_the_protocol, TallySteps.CountsNothing}
+use Rattle.mk_laws.proofs.Vocabulary.{MarkerState, MeetsAll, Moment, Protocol, Seat, Step, World, ℕ, ap, append-nil}
+use Rattle.mk_laws.proofs.Vocabulary.{append_assoc, arith, at_rest, cases_Bool, cases_eq, cases_lt, enabled_meets, ends}
+use Rattle.mk_laws.proofs.Vocabulary.{eqb-false, eqb-true, false, false_from_ne_true, first_world, flight_of}
+use Rattle.mk_laws.proofs.Vocabulary.{get_or-set_other, get_or-set_same, get_or_past, inl, inr, is_held, is_number_of}
+use Rattle.mk_laws.proofs.Vocabulary.{left, length, length-set, ne_eqb, not, outside, refl, set-get_or, slice_index}
+use Rattle.mk_laws.proofs.Vocabulary.{slice_set, subst, sym, true, [], ◌++◌, ◌+◌, ◌<◌, ◌==◌, ◌∙◌, ◌∷◌, ◌≡◌, ◌≢◌, ◌≤◌}
+use Rattle.mk_laws.proofs.{Vocabulary.◌⊎◌, Tallies.{same_ends, same_fulls}, Protocols.lists_keep_the_protocol}
+use Rattle.mk_laws.proofs.TallySteps.{CountsNothing}
 use Rattle.mk_core.proofs.{Conditions.meets_enabled, Histories.last_enabled}
 use Rattle.mk_core.specs.{Frames.{CountsAreLeft, steady_of}, Counts.full_answers, Effects.moment_behind}
 use Rattle.mk_core.specs.{Growing.AreOfOthers, Moments.none_is_held}
@@ -62,15 +62,9 @@ opens_none p = grind (arith, append-nil)
 
 -- An `open` counts nothing.
 
-open_answers : (c : Config) (m : Moment) (seat : Seat) (k : ℕ)
-    → answers_full (answer_decided c m (record { seat = seat; step = Step.Open k })) ≡ false
-open_answers c m (Caller i) k = refl
-open_answers c m (Marker i) k = refl
-open_answers c m Host k = refl
-
 open_counts_nothing : (c : Config) (w : World) (seat : Seat) (k : ℕ)
     → CountsNothing c w (record { seat = seat; step = Step.Open k })
-open_counts_nothing c w seat k = grind (arith, open_answers)
+open_counts_nothing c w seat k = grind arith
 
 opens_more : (p q r : PassState) (k : ℕ) → Opens p q → Acts q (Step.Open k) r → Opens p r
 opens_more p q r k o a =
@@ -213,10 +207,4 @@ all_opened p q opens opened t history =
 
     own_held : (s : Seat) (j : ℕ) → is_number_of s j ≡ true → Holds q.table.config (now_of q) s
         → j < p.table.config.callers → slice_index (now_of q).words.gates j ≡ 2 → ⊥
-    own_held (Caller i) j mine holds lt two =
-        let e : i ≡ j = eqb-true i j mine in
-        let named = (protocol.holder i holds.0).1 holds.1 in
-        let k : j < q.table.config.callers = subst (λ (c : Config). j < c.callers) (sym same) lt in
-        (protocol.held j k two).1 (named ∙ ap (λ (n : ℕ). 1 + n) e)
-    own_held (Marker i) j mine holds lt two = cc
-    own_held Host j mine holds lt two = cc
+    own_held x0 j mine holds lt two = grind (arith, eqb-true, protocol, same)

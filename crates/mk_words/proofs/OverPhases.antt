@@ -7,13 +7,7 @@ use Rattle.mk_laws.proofs.CyclePhases.{moves_phase, phase_behind}
 use Rattle.mk_words.specs.{Laws.EndIsBehindOver, Seats.has_over, Seats.is_over}
 
 not_over : (x : Step) (p : ℕ) → is_over x ≡ false → p ≢ 5 → phase_behind x p ≢ 5
-not_over Step.Begin p out ne = λ h. absurd (omega arith)
-not_over Step.Want p out ne = λ h. absurd (omega arith)
-not_over Step.Close p out ne = λ h. absurd (omega arith)
-not_over Step.Release p out ne = λ h. absurd (omega arith)
-not_over Step.End p out ne = λ h. absurd (omega arith)
-not_over Step.Over p out ne = cc
-not_over _ p out ne = ne
+not_over x0 p out ne = grind arith
 
 never_over : (c : Config) (w : World) (es : List Event) → AreEnabledFrom c w es → has_over es ≡ false
     → phase_of w.now.words ≢ 5 → phase_of (left_from c w es).now.words ≢ 5

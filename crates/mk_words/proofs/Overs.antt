@@ -1,9 +1,9 @@
 -- An `over` is the host's, who has the seats of all callers then, so no caller steps after one.
 use Rattle.std.proofs.Common.{set, ⊎_elim}
-use Rattle.mk_laws.proofs.Vocabulary.{Bool, Caller, Config, Event, Group, Host, IsEnabled, List, Marker, Moment, Seat}
-use Rattle.mk_laws.proofs.Vocabulary.{Step, World, ℕ, ap, enabled_meets, false, false_from_ne_true, group_of, inl, inr}
-use Rattle.mk_laws.proofs.Vocabulary.{is_open_to, list_any-append, or_cases, refl, subst, suc, sym, true, world_behind}
-use Rattle.mk_laws.proofs.Vocabulary.{zero, [], ◌++◌, ◌||◌, ◌∙◌, ◌∷◌, ◌≡◌, ◌≢◌, ◌⊎◌}
+use Rattle.mk_laws.proofs.Vocabulary.{Bool, Caller, Config, Event, Host, IsEnabled, List, Moment, Seat, Step, World, ℕ}
+use Rattle.mk_laws.proofs.Vocabulary.{ap, arith, enabled_meets, false, false_from_ne_true, inl, inr, list_any-append}
+use Rattle.mk_laws.proofs.Vocabulary.{or_cases, refl, subst, suc, sym, true, world_behind, zero, [], ◌++◌, ◌||◌, ◌∙◌}
+use Rattle.mk_laws.proofs.Vocabulary.{◌∷◌, ◌≡◌, ◌≢◌, ◌⊎◌}
 use Rattle.mk_core.specs.{Growing.AreOfOthers, History.AreEnabledFrom}
 use Rattle.atomic_table.proofs.Lists.{at_set}
 use Rattle.mk_words.{proofs.Seats.not_both, specs.Rule.seats_of, specs.Seats.CallersAreBeforeOver, specs.Seats.Has}
@@ -15,15 +15,8 @@ over_step : (s : Step) → is_over s ≡ true → s ≡ Step.Over
 over_step Step.Over h = refl
 over_step _ h = cc
 
-hosts_alone : (s : Seat) → is_open_to s Group.Host ≡ true → s ≡ Host
-hosts_alone (Caller k) h = cc
-hosts_alone (Marker k) h = cc
-hosts_alone Host h = refl
-
 pub over_is_hosts : (c : Config) (m : Moment) (e : Event) → IsEnabled c m e → is_over e.step ≡ true → e.seat ≡ Host
-over_is_hosts c m e on h =
-    hosts_alone e.seat (ap (λ (s : Step). is_open_to e.seat (group_of s)) (sym (over_step e.step h))
-    ∙ (enabled_meets c m e on).kind)
+over_is_hosts c m e on h = grind (arith, over_step, enabled_meets)
 
 neither : (a b : Bool) → a ≡ false → b ≡ false → (a || b) ≡ false
 neither a b one two = ap (λ (x : Bool). x || b) one ∙ two

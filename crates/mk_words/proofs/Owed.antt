@@ -203,10 +203,10 @@ pub record Joined (tid : TableId) (me from n : Mine) (seat : Seat) : Type 0 wher
   pub came : Grows from.0.own.seats from.0.own.seen n.0.own.seen
   pub order : IsInOrder n seat
 
-joined_as : (tid : TableId) (me from n : Mine) (seat : Seat) (slots : List (ℕ × KnownPages)) → (answer : ℕ)
-    → IsInOrder me seat → settles no_step (beside me.0 from.0, slots) answer n → Joined tid me from n seat
-joined_as tid me from n seat slots answer order on =
-    let s = on.1 in
+pub joined : (tid : TableId) (me from m n : Mine) (seat : Seat) (answer : ℕ) → IsInOrder me seat
+    → m ≡ (beside me.0 from.0, me.1) → settles no_step m answer n → Joined tid me from n seat
+joined tid me from m n seat answer order is on =
+    let s = (subst (λ (x : Mine). settles no_step x answer n) is on).1 in
     record {
       pass = ap (λ (w : View). state_of tid (w, []) seat) s.is;
       own = s.own;
@@ -220,8 +220,3 @@ joined_as tid me from n seat slots answer order on =
             (sym s.is) s.before_over;
       };
     }
-
-pub joined : (tid : TableId) (me from m n : Mine) (seat : Seat) (answer : ℕ) → IsInOrder me seat
-    → m ≡ (beside me.0 from.0, me.1) → settles no_step m answer n → Joined tid me from n seat
-joined tid me from m n seat answer order is on =
-    joined_as tid me from n seat me.1 answer order (subst (λ (x : Mine). settles no_step x answer n) is on)

@@ -8,10 +8,7 @@ use Rattle.mk_core.specs.Growing.{AreOfOthers, is_same_seat}
 use Rattle.mk_words.specs.Seats.{Has, HasAll, all_seats, callers_below, markers_below, without_seat}
 
 pub same_seat : (a b : Seat) → is_same_seat a b ≡ true → a ≡ b
-same_seat (Caller j) (Caller k) h = ap (λ i. Caller i) (eqb-true j k h)
-same_seat (Marker j) (Marker k) h = ap (λ i. Marker i) (eqb-true j k h)
-same_seat Host Host h = refl
-same_seat _ _ h = cc
+same_seat x0 x1 h = grind (arith, eqb-true)
 
 pub same_self : (a : Seat) → is_same_seat a a ≡ true
 same_self (Caller k) = eq-eqb k k refl
@@ -78,10 +75,7 @@ without_keeps x (y ∷ ys) s ne h = by (is_same_seat x y) refl (λ u. without_ke
   where
     by : (b : Bool) → is_same_seat x y ≡ b → (Has ys s → Has (without_seat x ys) s) → (s ≡ y) ⊎ Has ys s
         → Has (if b then without_seat x ys else y ∷ without_seat x ys) s
-    by true is next (inl t) = grind arith
-    by true is next (inr t) = next t
-    by false is next (inl t) = subst (λ (z : Seat). Has (z ∷ without_seat x ys) s) t (has_first s (without_seat x ys))
-    by false is next (inr t) = has_later y (without_seat x ys) s (next t)
+    by x0 is next x3 = grind (arith, has_first, has_later)
 
 -- events of others
 

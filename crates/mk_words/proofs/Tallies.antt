@@ -3,7 +3,7 @@ use Rattle.mk_laws.proofs.Vocabulary.{Config, Event, Holding, IsHistory, IsSettl
 use Rattle.mk_laws.proofs.Vocabulary.{has_place, held_by_pages, left, ne_eqb, phase_of, ◌≡◌}
 use Rattle.mk_geom.proofs.HeldWords.{pages_hold_mapped_words}
 use Rattle.mk_core.specs.Counts.{TalliesAreExact}
-use Rattle.mk_laws.proofs.{InvariantTheorems.pages_show_the_storage, Tallies.fresh_is_told, Tallies.tallies_tell}
+use Rattle.mk_laws.proofs.{InvariantHistories.pages_show_the_storage, Tallies.fresh_is_told, Tallies.tallies_tell}
 use Rattle.mk_laws.specs.SettledPages.{is_freed_unmapped}
 
 -- Where nothing is under way, exact tallies are those of the words;
@@ -19,9 +19,10 @@ pub free_tallies : (c : Config) (es : List Event) → IsHistory c es → Protoco
 free_tallies c es h protocol free =
     let m : Moment = (left c es).now in
     let nothing = protocol.free free in
-    let settled : IsSettled (left c es) = record {
-      releasing = ne_eqb (phase_of m.words) 4 (λ four. protocol.cycle (omega arith) (omega arith) free);
+    settled_tallies c es h (record {
+      releasing = ne_eqb (phase_of m.words) 4 (λ four. protocol.cycle (omega arith)
+          (omega arith) free);
       placing = ap (λ (x : Holding). has_place x.placing) nothing;
-      unmapped = ap (λ (x : Holding). is_freed_unmapped m.words x.freed) nothing;
-    } in
-    settled_tallies c es h settled (tallies_tell c es h free).0
+      unmapped = ap
+          (λ (x : Holding). is_freed_unmapped m.words x.freed) nothing;
+    }) (tallies_tell c es h free).0

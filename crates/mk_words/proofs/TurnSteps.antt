@@ -1,13 +1,12 @@
 -- What the steps of the turn's holder leave.
-use Rattle.mk_laws.proofs.Vocabulary.{Bool, Caller, Config, Holds, Host, List, Marker, Moment, None, Op, Option}
-use Rattle.mk_laws.proofs.Vocabulary.{Progress, Protocol, Seat, Some, Step, World, ℕ, and_from, and_parts, ap, arith}
-use Rattle.mk_laws.proofs.Vocabulary.{at_rest, eq-eqb, eqb-false, false, flight_of, found, get_or-set_same, group_of}
-use Rattle.mk_laws.proofs.Vocabulary.{has_phase, held_by_pages, histories_keep_lengths, holder_number, if◌then◌else◌}
-use Rattle.mk_laws.proofs.Vocabulary.{is_held, is_number_of, is_open_to, length, ltb-true, ne_eqb, not-true}
-use Rattle.mk_laws.proofs.Vocabulary.{nothing_done, others_are_held, phase_of, refl, seat_exists, slice_index, subst}
-use Rattle.mk_laws.proofs.Vocabulary.{suc, sym, true, zero, ◌++◌, ◌+◌, ◌<◌, ◌==◌, ◌||◌, ◌∙◌, ◌≡◌, ◌≢◌}
-use Rattle.mk_laws.proofs.{SameWords.{Behind, reg_keeps, tally_keeps}, NextSteps.at_no_take}
-use Rattle.mk_laws.proofs.Protocols.{lists_keep_the_protocol}
+use Rattle.mk_laws.proofs.Vocabulary.{Bool, Caller, Config, Holds, Host, List, Marker, Moment, Op, Option, Progress}
+use Rattle.mk_laws.proofs.Vocabulary.{Protocol, Seat, Some, Step, World, ℕ, and_from, and_parts, ap, arith, at_rest}
+use Rattle.mk_laws.proofs.Vocabulary.{eq-eqb, eqb-false, false, flight_of, found, get_or-set_same, group_of, has_phase}
+use Rattle.mk_laws.proofs.Vocabulary.{held_by_pages, histories_keep_lengths, holder_number, if◌then◌else◌, is_held}
+use Rattle.mk_laws.proofs.Vocabulary.{is_number_of, is_open_to, length, ltb-true, ne_eqb, not-true, nothing_done}
+use Rattle.mk_laws.proofs.Vocabulary.{others_are_held, phase_of, refl, seat_exists, slice_index, subst, suc, sym, true}
+use Rattle.mk_laws.proofs.{Vocabulary.{zero, ◌++◌, ◌+◌, ◌<◌, ◌==◌, ◌||◌, ◌∙◌, ◌≡◌, ◌≢◌}, SameWords.{Behind, reg_keeps}}
+use Rattle.mk_laws.proofs.{SameWords.tally_keeps, NextSteps.at_no_take, Protocols.lists_keep_the_protocol}
 use Rattle.mk_core.specs.{Bounded.all_below, Frames.HoldsAll, Moments.none_is_held, Order.is_in_order}
 use Rattle.mk_words.proofs.{CallSteps.{begins, goes}, FreeTurns.{hands_none, turn_word_stays}, Made.{Made, made}}
 use Rattle.mk_words.{proofs.Tallies.{free_tallies}, specs.Steps.{moment_of}}
@@ -31,22 +30,6 @@ named_holds : (c : Config) (m : Moment) (seat : Seat) → Protocol c m → seat_
 named_holds c m (Caller k) p exists one named = let lt = ltb-true k c.callers exists in (lt, (p.holder k lt).0 named)
 named_holds c m (Marker k) p exists one named = cc
 named_holds c m Host p exists one named = named
-
-holder_is_no_marker : (c : Config) (m : Moment) (seat : Seat) → Holds c m seat → is_marker seat ≡ false
-holder_is_no_marker c m (Caller k) h = refl
-holder_is_no_marker c m (Marker k) h = absurd h
-holder_is_no_marker c m Host h = refl
-
--- No gate is changed but by `enter`, `leave`, `hold` and `open`.
-gates_are_kept : (c : Config) (m : Moment) (seat : Seat) (s : Step) → gates_stay s ≡ true
-    → (Behind c m seat s).words.gates ≡ m.words.gates
-gates_are_kept c m seat (Step.Enter o) h = cc
-gates_are_kept c m seat Step.Leave h = cc
-gates_are_kept c m seat (Step.Hold j) h = cc
-gates_are_kept c m seat (Step.Open j) h = cc
-gates_are_kept c m seat Step.Reg h = grind (arith, reg_keeps)
-gates_are_kept c m seat (Step.Tally n v) h = (tally_keeps m.words n v).gates
-gates_are_kept c m seat _ h = refl
 
 -- the step of whoever holds the turn
 module _ (p : PassState) (s : Step) (q : PassState) (m : Makes p s q) where
@@ -82,7 +65,7 @@ module _ (p : PassState) (s : Step) (q : PassState) (m : Makes p s q) where
       let named : (world_of q).now.words.turn ≡ 1 + holder_number c p.seat =
       ap (λ (w : World). w.now.words.turn) d.world ∙ turn_word_stays c (moment_of m) p.seat s (hands_none s stays)
       ∙ holds_named c (moment_of m) p.seat d.protocol (holds_then t.holds) in
-      let holds : Holds c (world_of q).now p.seat = grind (arith, named_holds, protocol_now, holder_is_no_marker) in
+      let holds : Holds c (world_of q).now p.seat = grind (arith, named_holds, protocol_now) in
       record { holds = subst (λ (r : PassState). Holds r.table.config (world_of q).now r.seat) (sym m.is) holds }
 
 -- After a step of the holder that isn't its last the seat still holds the turn.
@@ -93,7 +76,7 @@ holds_after {p} {s} {q} a stays = (still_turn p s q a.makes stays (record { hold
 -- the gates, while they stay
 pub gates_left : (p : PassState) (s : Step) (q : PassState) → Acts p s q → gates_stay s ≡ true
     → HoldsAll p.table.config (now_of p) p.seat → (world_of q).now.words.gates ≡ (now_of p).words.gates
-gates_left p s q a stays all = grind (arith, gates_are_kept)
+gates_left p s q a stays all = grind (arith, reg_keeps, tally_keeps)
 
 pub still_stopped : (p : PassState) (s : Step) (q : PassState) → Acts p s q → gates_stay s ≡ true
     → others_are_held p.table.config.callers (now_of p).words p.seat ≡ true
@@ -170,10 +153,7 @@ takes_call c m (Caller k) (Some o) p exists kind order free =
     let lt : k < length m.seats.flights = subst (λ (i : ℕ). k < i) (sym p.callers) (ltb-true k c.callers exists) in
     get_or-set_same m.seats.flights k _ at_rest lt
     ∙ ap (λ (x : Progress). x.flight) (begins (flight_of m (Caller k)) o m.words.turn m.words.turn refl free)
-takes_call c m (Caller k) None p exists kind order free = grind (arith, at_no_take)
-takes_call c m (Marker k) o p exists kind order free = cc
-takes_call c m Host None p exists kind order free = refl
-takes_call c m Host (Some o) p exists kind order free = grind arith
+takes_call c m x3 o p exists kind order free = grind (arith, at_no_take)
 
 -- no gate is held while nobody has the turn
 none_held_free : (c : Config) (m : Moment) → Protocol c m → m.words.turn ≡ 0 → none_is_held c.callers m.words ≡ true
@@ -203,10 +183,7 @@ module _ (p : PassState) (o : Option Op) (n : ℕ) (q : PassState) (t : Tells p 
         ∙ ap (λ (b : Bool). if b then 1 + holder_number c p.seat else m.words.turn) (eq-eqb m.words.turn 0 free) in
         let holds : Holds c (world_of q).now p.seat = named_holds c (world_of q).now p.seat (protocol_now p
         (Step.Take o) q t.makes) e.meets.seat (takes_for c m p.seat o e.meets.kind e.meets.order) named in
-        record {
-          holds =
-              subst (λ (r : PassState). Holds r.table.config (world_of q).now r.seat) (sym t.makes.is) holds;
-        }
+        grind (arith, Holds)
 
     pub takes_fresh : IsFresh q o
     takes_fresh =

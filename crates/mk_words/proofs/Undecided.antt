@@ -1,7 +1,7 @@
 -- A step that decides no call is admitted.
 use Rattle.mk_laws.proofs.Vocabulary.{Answer, AreAdmitted, Bool, Config, Decided, Event, Flight, IsHistory, List}
-use Rattle.mk_laws.proofs.Vocabulary.{Moment, None, Op, Option, Seat, Some, Step, Word, ℕ, answer_decided, ap}
-use Rattle.mk_laws.proofs.Vocabulary.{append-nil, asked, caller_number, calls, cases_Bool, entry_of, false, flight_of}
+use Rattle.mk_laws.proofs.Vocabulary.{Moment, None, Op, Option, Seat, Step, ℕ, answer_decided, ap, append-nil, arith}
+use Rattle.mk_laws.proofs.Vocabulary.{asked, caller_number, calls, cases_Bool, entry_of, false, flight_of}
 use Rattle.mk_laws.proofs.Vocabulary.{if◌then◌else◌, inl, inr, left, progress, refl, subst, sym, true, [], ◌++◌, ◌==◌}
 use Rattle.mk_laws.proofs.Vocabulary.{◌∙◌, ◌∷◌, ◌≡◌}
 use Rattle.mk_core.{proofs.Histories.calls_more, specs.Effects.begins_where_free, specs.History.never_first}
@@ -16,21 +16,7 @@ begins_undecided f o n = by (n == 0)
 
 goes_undecided : (c : Config) (m : Moment) (f : Flight) (n : ℕ) (s : Step) → may_decide s ≡ false
     → (progress c m f n s).answer ≡ None
-goes_undecided c m f n (Step.Enter o) h = begins_undecided f o n
-goes_undecided c m f n (Step.Take (Some o)) h = begins_undecided f o n
-goes_undecided c m f n (Step.Look (Word.Quar p)) h = cc
-goes_undecided c m f n (Step.Look x) h = refl
-goes_undecided c m f n Step.Reg h = cc
-goes_undecided c m f n Step.Probe h = cc
-goes_undecided c m f n Step.Read h = cc
-goes_undecided c m f n Step.Write h = cc
-goes_undecided c m f n Step.Cas h = cc
-goes_undecided c m f n Step.Getg h = cc
-goes_undecided c m f n Step.Setg h = cc
-goes_undecided c m f n (Step.Quar p v) h = cc
-goes_undecided c m f n Step.Grant h = cc
-goes_undecided c m f n Step.Full h = cc
-goes_undecided c m f n _ h = refl
+goes_undecided c m f n x4 h = grind (arith, begins_undecided)
 
 pub decides_nothing : (c : Config) (m : Moment) (s : Seat) (x : Step) → may_decide x ≡ false
     → answer_decided c m (record { seat = s; step = x }) ≡ None

@@ -1,15 +1,15 @@
 -- A page without a header gets no marks, but by a `mark` of the turn's holder, which comes before its header.
-use Rattle.mk_laws.proofs.Vocabulary.{Block, Bool, Caller, Cell, Config, Event, Free, Group, Header, Host, IsHistory}
+use Rattle.mk_laws.proofs.Vocabulary.{Block, Bool, Caller, Cell, Config, Event, Free, Header, Host, IsHistory}
 use Rattle.mk_laws.proofs.Vocabulary.{IsMarking, Later, LeafBlock, LeafRun, List, Marker, MarkerStands, MarkerState}
 use Rattle.mk_laws.proofs.Vocabulary.{Moment, None, Option, Run, RunPages, Scan, Seat, SeenHeader, Some, Step, Words, ℕ}
 use Rattle.mk_laws.proofs.Vocabulary.{and_parts, ap, arith, cases_eq, cases_lt, cell_at, cell_seen}
 use Rattle.mk_laws.proofs.Vocabulary.{earlier_part_is_history, enabled_meets, eqb-true, false, first_world}
-use Rattle.mk_laws.proofs.Vocabulary.{get_or-set_other, get_or-set_same, group_of, header_at, header_in, header_of}
-use Rattle.mk_laws.proofs.Vocabulary.{if◌then◌else◌, inl, inr, is_attending, is_none, is_scanned, is_some, left, length}
-use Rattle.mk_laws.proofs.Vocabulary.{ltb-true, marker_at, marker_of, not, page_at_address, phase_of, refl, run_headed}
-use Rattle.mk_laws.proofs.Vocabulary.{scan_page, seen_page, set_past, slice_index, slice_set, subst, suc, sym, true}
-use Rattle.mk_laws.proofs.{Vocabulary.{zero, [], ◌&&◌, ◌++◌, ◌-◌, ◌==◌, ◌∙◌, ◌∷◌, ◌≡◌, ◌≢◌}, Actors.{Actor, AsHolder}}
-use Rattle.mk_laws.proofs.{Actors.{AsMarker, CallTakes, HostTakes, InCallOf, Meets}, Changes.{reg_table, tally_table}}
+use Rattle.mk_laws.proofs.Vocabulary.{get_or-set_other, get_or-set_same, header_at, header_in, header_of, inl, inr}
+use Rattle.mk_laws.proofs.Vocabulary.{is_attending, is_none, is_scanned, is_some, left, length, ltb-true, marker_at}
+use Rattle.mk_laws.proofs.Vocabulary.{marker_of, not, page_at_address, phase_of, refl, run_headed, scan_page, seen_page}
+use Rattle.mk_laws.proofs.Vocabulary.{set_past, slice_index, slice_set, subst, suc, sym, true, zero, [], ◌&&◌, ◌++◌}
+use Rattle.mk_laws.proofs.{Vocabulary.{◌-◌, ◌∙◌, ◌∷◌, ◌≡◌, ◌≢◌}, Actors.{Actor, AsHolder, AsMarker, CallTakes}}
+use Rattle.mk_laws.proofs.{Actors.{HostTakes, InCallOf, Meets}, Changes.{reg_table, tally_table}}
 use Rattle.mk_laws.proofs.{InvariantHistories.histories_keep_the_invariant, IdleMarkers.work_attends}
 use Rattle.mk_laws.proofs.{Known.{Known, known_left}, OrderlyLists.actor_of, ReadingsStands.headers_and_quarantine_tell}
 use Rattle.mk_laws.proofs.{SameWords.Behind, Views.{HoldsTurn, view_of}}
@@ -102,33 +102,13 @@ cell_has_header w page word cell (LeafBlock class) later shown is bare =
     let e : Some Free ≡ Some (LeafBlock class) =
     free_there w page cell (LeafBlock class) shown (lies_under (LeafBlock class) page word cell is).head bare in
     cc
-cell_has_header w page word cell (Run pages mapped) later shown is bare =
-    let e : Some Free ≡ Some (Run pages mapped) =
-    free_there w page cell (Run pages mapped) shown (lies_under (Run pages mapped) page word cell is).head bare in
-    cc
-cell_has_header w page word cell (LeafRun pages) later shown is bare =
-    let e : Some Free ≡ Some (LeafRun pages) =
-    free_there w page cell (LeafRun pages) shown (lies_under (LeafRun pages) page word cell is).head bare in
-    cc
+cell_has_header w page word cell (Run pages mapped) later shown is bare = cc
+cell_has_header w page word cell (LeafRun pages) later shown is bare = cc
 
 seen_where : (c : Config) (seen : Option SeenHeader) (hand : Option ℕ) → is_some (cell_seen c seen hand) ≡ true
     → (s : SeenHeader) × (v : ℕ) × (cell : Cell) × (seen ≡ Some s) × (s.page ≡ page_at_address v)
     × (cell_at c.pages s.header v ≡ Some cell) × (cell_seen c seen hand ≡ Some cell)
-seen_where c (Some s) (Some v) is = by (s.page == page_at_address v) refl is
-  where
-    by : (b : Bool) → (s.page == page_at_address v) ≡ b → is_some (if b then cell_at c.pages s.header v else None)
-        ≡ true → (t : SeenHeader) × (u : ℕ) × (cell : Cell) × (Some s ≡ Some t) × (t.page ≡ page_at_address u) ×
-        (cell_at c.pages t.header u ≡ Some cell) × (cell_seen c (Some s) (Some v) ≡ Some cell)
-    by false at some = cc
-    by true at some = found (cell_at c.pages s.header v) refl some
-      where
-        found : (o : Option Cell) → cell_at c.pages s.header v ≡ o → is_some o ≡ true
-            → (t : SeenHeader) × (u : ℕ) × (cell : Cell) × (Some s ≡ Some t) × (t.page ≡ page_at_address u)
-            × (cell_at c.pages t.header u ≡ Some cell) × (cell_seen c (Some s) (Some v) ≡ Some cell)
-        found None shows some = cc
-        found (Some cell) shows some = grind (arith, eqb-true)
-seen_where c (Some s) None is = cc
-seen_where c None hand is = cc
+seen_where c x1 hand is = grind (arith, eqb-true)
 
 module _ (c : Config) (es : List Event) (h : IsHistory c es) where
   abbrev pub m : Moment
@@ -197,22 +177,13 @@ module _ (c : Config) (es : List Event) (h : IsHistory c es) where
   coloured_has_header Host Step.Mblack p meets unmarks is = let kind = meets.kind in cc
   coloured_has_header seat _ p meets unmarks is = cc
 
--- Nobody but the turn's holder makes a `mark`.
-of_callers : (s : Step) → group_of s ≡ Group.Callers → is_mark s ≡ false
-of_callers (Step.Mark p v) is = cc
-of_callers _ is = refl
-
-of_markers : (s : Step) → group_of s ≡ Group.Markers → is_mark s ≡ false
-of_markers (Step.Mark p v) is = cc
-of_markers _ is = refl
-
 pub others_unmark : (c : Config) (m : Moment) (seat : Seat) (s : Step) → Known c m → Meets c m seat s
     → (HoldsTurn c (view_of m) seat → ⊥) → is_mark s ≡ false
 others_unmark c m seat s known meets out = by seat s (actor_of c m seat s known.orderly meets) out
   where
     by : (seat : Seat) (s : Step) → Actor c m seat s → (HoldsTurn c (view_of m) seat → ⊥) → is_mark s ≡ false
-    by seat s (InCallOf k _ lt g) out = of_callers s g
-    by seat s (AsMarker k _ lt g) out = of_markers s g
+    by seat s (InCallOf k _ lt g) out = grind arith
+    by seat s (AsMarker k _ lt g) out = grind arith
     by seat s (CallTakes k o lt idle is) out = refl
     by seat s (HostTakes free) out = refl
     by seat s (AsHolder _ _ t n) out = absurd (out t)

@@ -1,18 +1,12 @@
 -- What a marker's steps need, and leave of the marker.
-use Rattle.mk_laws.proofs.Vocabulary.{Block, Config, Flight, Group, Header, IsEnabled, Marker, MarkerState, Moment}
-use Rattle.mk_laws.proofs.Vocabulary.{Option, Seat, Some, Step, Word, Words, ℕ, and_from, ap, at_rest, cell_seen}
-use Rattle.mk_laws.proofs.Vocabulary.{cells_of, cells_under, eq-eqb, group_of, has_gates, has_next_word, has_phase}
-use Rattle.mk_laws.proofs.Vocabulary.{has_seen_cell, header_of, holder_may, is_attending, is_in_range, is_none}
-use Rattle.mk_laws.proofs.Vocabulary.{is_open_to, is_some, lt-ltb, marker_at, marker_may, outside, phase_of, refl}
+use Rattle.mk_laws.proofs.Vocabulary.{Block, Config, Flight, Group, Header, Marker, MarkerState, Moment, Option, Some}
+use Rattle.mk_laws.proofs.Vocabulary.{Step, Word, ℕ, and_from, ap, arith, at_rest, cell_seen, cells_of, cells_under}
+use Rattle.mk_laws.proofs.Vocabulary.{eq-eqb, group_of, has_next_word, has_phase, has_seen_cell, header_of, holder_may}
+use Rattle.mk_laws.proofs.Vocabulary.{is_attending, is_in_range, is_none, is_some, lt-ltb, marker_may, outside, refl}
 use Rattle.mk_laws.proofs.Vocabulary.{subst, sym, true, ◌%◌, ◌<◌, ◌==◌, ◌∙◌, ◌≡◌}
 use Rattle.mk_core.proofs.Conditions.{meets_enabled}
-use Rattle.mk_words.specs.{Markers.{Marks, marker_in}, States.{PassState, now_of}, Steps.{IsEnabledTo, Makes}}
+use Rattle.mk_words.specs.{Markers.Marks, Markers.marker_in, States.PassState, Steps.IsEnabledTo, Steps.Makes}
 use Rattle.mk_words_clients.specs.Clients.{IsAttending, IsOutside}
-
-markers_gates : (c : Config) (w : Words) (seat : Seat) (f : Flight) (s : Step) → group_of s ≡ Group.Markers
-    → has_gates c w seat f s ≡ true
-markers_gates c w seat f Step.Attend h = refl
-markers_gates c w seat f _ h = cc
 
 markers_phase : (n : ℕ) (s : Step) → group_of s ≡ Group.Markers → has_phase n s ≡ true
 markers_phase n Step.Attend h = refl
@@ -27,20 +21,7 @@ markers_holder c m f _ h = cc
 pub marker_step : (p : PassState) (s : Step) (k : ℕ) → p.seat ≡ Marker k → k < 8 → group_of s ≡ Group.Markers
     → is_in_range p.table.config (Marker k) at_rest s ≡ true → marker_may p.table.config (marker_in p) s ≡ true
     → IsEnabledTo p s
-marker_step p s k seat_is few kind range may =
-    let c : Config = p.table.config in
-    let m : Moment = now_of p in
-    subst (λ (x : Seat). IsEnabled c m (record { seat = x; step = s })) (sym seat_is)
-    (meets_enabled c m (record { seat = Marker k; step = s }) (record {
-      seat = lt-ltb k 8 few;
-      kind = ap (λ (g : Group). is_open_to (Marker k) g) kind;
-      order = refl;
-      range = range;
-      gates = markers_gates c m.words (Marker k) at_rest s kind;
-      phase = markers_phase (phase_of m.words) s kind;
-      marker = ap (λ (x : Seat). marker_may c (marker_at m x) s) (sym seat_is) ∙ may;
-      holder = markers_holder c m at_rest s kind;
-    }))
+marker_step p s k seat_is few kind range may = grind (arith, meets_enabled, lt-ltb, markers_phase, markers_holder)
 
 -- what a marker's step leaves
 
@@ -66,13 +47,7 @@ pub mark_may : (p : PassState) (k : ℕ) → p.seat ≡ Marker k → k < 8
 mark_may p k seat few some = marker_step p Step.Mmark k seat few refl refl some
 
 pub attended : {p q : PassState} {n : ℕ} → IsOutside p → Marks p Step.Attend n q → n % 8 ≡ 1 → IsAttending q
-attended {p} {q} {n} o m is = record {
-  number = o.number;
-  seat = seat_kept m.finds.makes ∙ o.seat;
-  few = o.few;
-  attends = cc (m.marker, eq-eqb (n % 8) 1 is);
-  hand = ap (λ (y : MarkerState). y.hand) m.marker;
-}
+attended o m is = grind (arith, seat_kept, eq-eqb)
 
 pub is_outside : {p q : PassState} {s : Step} (k : ℕ) → p.seat ≡ Marker k → k < 8 → Makes p s q → marker_in q ≡ outside
     → IsOutside q

@@ -2,15 +2,15 @@
 use Rattle.mk_laws.proofs.Vocabulary.{Bool, Config, Event, Holding, Holds, Host, List, Seat, Step, TalliesAreTidy, Word}
 use Rattle.mk_laws.proofs.Vocabulary.{World, ℕ, and_from, ap, arith, at_rest, cases_eq, cases_lt, eq-eqb, eqb-false}
 use Rattle.mk_laws.proofs.Vocabulary.{eqb-true, false, get_or-set_other, get_or-set_same, get_or_past, group_of}
-use Rattle.mk_laws.proofs.Vocabulary.{has_gates, has_phase, holder_may, inl, inr, is_end, is_held, is_in_range}
-use Rattle.mk_laws.proofs.Vocabulary.{is_open_to, left, length, length-set, lt-ltb, marker_may, ne_eqb, not}
-use Rattle.mk_laws.proofs.Vocabulary.{others_are_held, outside, phase_of, refl, slice_index, slice_set, subst, sym}
-use Rattle.mk_laws.proofs.Vocabulary.{true, true≢false, world_behind, [], ◌++◌, ◌+◌, ◌<◌, ◌==◌, ◌∙◌, ◌∷◌, ◌≡◌, ◌≢◌, ◌≤◌}
-use Rattle.mk_laws.proofs.{Vocabulary.◌⊎◌, Asked.none_held, Tallies.counts_tidy_more, TallySteps.CountsNothing}
+use Rattle.mk_laws.proofs.Vocabulary.{has_gates, has_phase, holder_may, inl, inr, is_held, is_in_range, is_open_to}
+use Rattle.mk_laws.proofs.Vocabulary.{left, length, length-set, lt-ltb, marker_may, ne_eqb, not, others_are_held}
+use Rattle.mk_laws.proofs.Vocabulary.{outside, phase_of, refl, slice_index, slice_set, subst, sym, true, true≢false}
+use Rattle.mk_laws.proofs.Vocabulary.{world_behind, [], ◌++◌, ◌+◌, ◌<◌, ◌==◌, ◌∙◌, ◌∷◌, ◌≡◌, ◌≢◌, ◌≤◌, ◌⊎◌}
+use Rattle.mk_laws.proofs.{Actors.none_held, Tallies.counts_tidy_more, TallySteps.CountsNothing}
 use Rattle.mk_core.proofs.Conditions.{meets_enabled}
 use Rattle.mk_core.specs.{Frames.{CountsAreLeft, steady_of}, Moments.none_is_held, Order.comes_next_to_host}
 use Rattle.mk_words.{proofs.TurnSteps.{all_from}, specs.TurnSteps.{Acts, world_at}}
-use Rattle.mk_words.specs.{States.{PassState, WordsState, now_of, world_of}, Opening.OthersMayOpen, Steps.IsEnabledTo}
+use Rattle.mk_words.specs.{States.{PassState, WordsState, now_of}, Opening.OthersMayOpen, Steps.IsEnabledTo}
 use Rattle.mk_words_clients.specs.Clients.{HoldsBelow, MayGiveBack, Settled, StaysTidy}
 
 -- kinds that leave the steady words, the allocations and the freed run alone
@@ -36,10 +36,6 @@ freed_behind : (c : Config) (w : World) (seat : Seat) (s : Step) → leaves_stea
 freed_behind c w seat (Step.Look x) h = refl
 freed_behind c w seat _ h = cc
 
-pub steady_kept : {p q : PassState} {s : Step} → Acts p s q → leaves_steady s ≡ true
-    → steady_of (world_of q) ≡ steady_of (world_of p)
-steady_kept a h = grind (arith, steady_behind)
-
 pub freed_kept : {p q : PassState} {s : Step} → Acts p s q → leaves_steady s ≡ true
     → (now_of q).seats.holding.freed ≡ (now_of p).seats.holding.freed
 freed_kept {p} {s} a h =
@@ -47,7 +43,7 @@ freed_kept {p} {s} a h =
     ∙ ap (λ (x : Holding). x.freed) a.holding
 
 pub settled_kept : {p q : PassState} {s : Step} → Acts p s q → leaves_steady s ≡ true → Settled p → Settled q
-settled_kept a h x = grind (arith, steady_kept, freed_kept)
+settled_kept a h x = grind (arith, freed_kept, steady_behind)
 
 -- gates that aren't held
 
@@ -59,9 +55,6 @@ OnlyHeld j p = (i : ℕ) → i < p.table.config.callers → i ≢ j → slice_in
 
 pub none_held_is : (p : PassState) → none_is_held p.table.config.callers (now_of p).words ≡ true → NoneHeld p
 none_held_is p h = none_held p.table.config (now_of p).words h
-
-pub is_none_held : (p : PassState) → NoneHeld p → none_is_held p.table.config.callers (now_of p).words ≡ true
-is_none_held p h = grind (arith, all_from, ne_eqb)
 
 config_kept : {p q : PassState} {s : Step} → Acts p s q → q.table.config ≡ p.table.config
 config_kept a = ap (λ (r : PassState). r.table.config) a.makes.is
@@ -124,7 +117,7 @@ pub settled : {p : PassState} → MayGiveBack p → Settled p
 settled x = record { seat = x.seat; phase = x.phase; freed = x.freed; held = x.held; fresh = x.fresh }
 
 pub given_back : {p : PassState} → Settled p → NoneHeld p → MayGiveBack p
-given_back x h = grind (arith, is_none_held)
+given_back x h = grind (arith, all_from, ne_eqb)
 
 -- a gate that is held stays so
 pub look_holds : {p q : PassState} (j : ℕ) {x : Word} → Acts p (Step.Look x) q → is_held (now_of p).words j ≡ true
@@ -133,13 +126,9 @@ look_holds j a held = grind (arith, eq-eqb, eqb-true)
 
 -- The tallies of what was counted stay tidy.
 
-steady_no_end : (s : Step) → leaves_steady s ≡ true → is_end s ≡ false
-steady_no_end Step.End h = cc
-steady_no_end _ h = refl
-
 counts_nothing : (c : Config) (w : World) (s : Step) → leaves_steady s ≡ true
     → CountsNothing c w (record { seat = Host; step = s })
-counts_nothing c w s h = grind (arith, steady_behind, steady_no_end)
+counts_nothing c w s h = grind (arith, steady_behind)
 
 tidy_behind_others : {c : Config} {es fs : List Event} → steady_of (left c fs) ≡ steady_of (left c es)
     → CountsAreLeft c es fs → TalliesAreTidy c es → TalliesAreTidy c fs
@@ -176,10 +165,6 @@ look_may p j r host holds lt few held = grind (arith, host_step, and_from, lt-lt
 
 not_closed : (n : ℕ) → has_phase n Step.Give ≡ true → not (n == 3) ≡ true
 not_closed n h = ap not (ne_eqb n 3 (λ three. true≢false (sym h ∙ ap (λ (k : ℕ). has_phase k Step.Give) three)))
-
-pub open_may : {p : PassState} (j : ℕ) → Settled p → Holds p.table.config (now_of p) p.seat → j < p.table.config.callers
-    → is_held (now_of p).words j ≡ true → IsEnabledTo p (Step.Open j)
-open_may j x holds lt held = grind (arith, host_step, and_from, lt-ltb, not_closed)
 
 -- Gates are held one after the other, and opened so.
 
@@ -234,4 +219,4 @@ all_are_held p host h = grind (arith, all_from)
 
 pub others_may_open : {p : PassState} → Settled p → Holds p.table.config (now_of p) p.seat
     → HoldsBelow p p.table.config.callers → OthersMayOpen p 0
-others_may_open {p} x holds h j le lt other = open_may j x holds lt (h.held j lt)
+others_may_open {p} x holds h j le lt other = grind (arith, host_step, and_from, lt-ltb, not_closed)

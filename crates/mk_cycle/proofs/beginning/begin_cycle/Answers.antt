@@ -76,12 +76,10 @@ returns-clause-begun g c =
     c.begin-2.ensures.law.does c.begin-2.ensures.begun)
 
 pub returns-clause-last : goal.returns-clause-last
-returns-clause-last g c =
-    let all = (cleared g (goal.at.returns-clause-last g c).After-tally).cleans in
-    record {
-      cleared = c.tally.new.self.pass;
-      begun = c.begin.new.self.pass;
-      before = all.does;
-      begin = c.begin.ensures.makes;
-      part = c.begin-2.ensures.begun;
-    }
+returns-clause-last g c = record {
+  cleared = c.tally.new.self.pass;
+  begun = c.begin.new.self.pass;
+  before = ((cleared g (goal.at.returns-clause-last g c).After-tally).cleans).does;
+  begin = c.begin.ensures.makes;
+  part = c.begin-2.ensures.begun;
+}

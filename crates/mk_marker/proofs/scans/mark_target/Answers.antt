@@ -4,7 +4,4 @@ use Rattle.mk_marker.proofs.scans.mark_target.Goals as goal
 
 pub returns-in-Some-clause-goes : goal.returns-in-Some-clause-goes
 returns-in-Some-clause-goes c =
-    let p = c.args.pass.now in
-    let q = c.look-header.new.pass in
-    let r = c.mark.new.pass in
     goes_then (goes_once refl refl c.look-header.ensures.moves) (goes_once refl refl c.mark.ensures.1)

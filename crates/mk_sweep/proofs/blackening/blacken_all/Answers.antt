@@ -1,6 +1,6 @@
-use Rattle.mk_sweep.proofs.{Vocabulary.still_words, Blacks.{blacks_same, blacks_then, cells_then, closed_kept}}
-use Rattle.mk_sweep.proofs.{Blacks.page_stays_black, SweepSteps.{quiet_then, sweeps_from}}
 use Rattle.mk_laws.proofs.Vocabulary.{arith}
+use Rattle.mk_sweep.proofs.Blacks.{blacks_same, blacks_then, cells_then, closed_kept, page_stays_black}
+use Rattle.mk_sweep.proofs.SweepSteps.{quiet_then, sweeps_from}
 use Rattle.mk_sweep.proofs.blackening.blacken_all.Goals as goal
 
 pub loop-page-init : goal.loop-page-init
@@ -11,8 +11,6 @@ blacken_page-requires-clause-closed c = closed_kept c.loop-page.invariant.more c
 
 pub loop-page-preserved : goal.loop-page-preserved
 loop-page-preserved c =
-    let v = still_words c.loop-page.stop.pass in
-    let x = still_words c.blacken_page.new.stop.pass in
     record {
       on = quiet_then c.loop-page.invariant.on c.blacken_page.ensures.on;
       more = blacks_then c.loop-page.invariant.more c.blacken_page.ensures.more;

@@ -1,6 +1,6 @@
-use Rattle.mk_sweep.proofs.Vocabulary.{CellsAreClosed, PageIsBlack, PointWell, SweepsOn, TurnState, WordsState}
-use Rattle.mk_sweep.proofs.{Vocabulary.{still_words, words_below}, SweptMarks.{SweepsInStop, closes, sweeping_behind}}
-use Rattle.mk_sweep.proofs.{SweptMarks.sweeps, Kept.ready_of, closing.close_by_sweeping.Goals.After-is_in_order-3}
+use Rattle.mk_sweep.proofs.Vocabulary.{CellsAreClosed, PageIsBlack, PointWell, TurnState, WordsState, still_words}
+use Rattle.mk_sweep.proofs.{Vocabulary.words_below, SweptMarks.{SweepsInStop, closes, sweeping_behind, sweeps}}
+use Rattle.mk_sweep.proofs.{Kept.ready_of, closing.close_by_sweeping.Goals.After-is_in_order-3}
 use Rattle.mk_laws.proofs.Vocabulary.{ℕ, ap, arith, length, slice_index, subst, sym, ◌<◌, ◌∙◌, ◌≡◌}
 use Rattle.mk_sweep.proofs.closing.close_by_sweeping.Goals as goal
 
@@ -13,11 +13,6 @@ sweep_in_stop-looks-requires-clause-sweeping g c =
     sweeping_behind c.want_and_wait.ensures.traces c.want_and_wait.ensures.wanted c.requires.free c.requires.marking
 
 -- What is known by the table of the words, by that of the passes.
-
-swept_on : (words : WordsState) {t u : TurnState} → t.pass.table ≡ words
-    → SweepsOn t u (words_below (still_words t.pass) words.config.pages)
-    → SweepsOn t u (words_below (still_words t.pass) t.pass.table.config.pages)
-swept_on words table on = grind arith
 
 well_on : (words : WordsState) (t u : TurnState) → t.pass.table ≡ words → u.pass.table ≡ words
     → PointWell words.config.pages (still_words u.pass) (words_below (still_words t.pass) words.config.pages)
@@ -43,7 +38,7 @@ in_stop g c =
           c.requires.marking;
       early = c.is_in_order-2.ensures.history;
       history = c.is_in_order-3.ensures.history;
-      on = swept_on words before sweep.ensures.on;
+      on = grind arith;
       closed = subst (λ (x : WordsState). CellsAreClosed x.config (still_words sweep.new.stop.pass)) (sym behind)
           sweep.ensures.closed;
       well = well_on words t sweep.new.stop before behind sweep.ensures.well;

@@ -7,12 +7,10 @@ use Rattle.mk_sweep.proofs.stepping.look_at_word.Goals as goal
 pub look-requires-clause-enabled : goal.look-requires-clause-enabled
 look-requires-clause-enabled c =
     let p = c.args.stop.now.pass in
-    let scanned : IsScannedWord p.table.config (world_of p).allocations c.args.word =
-    subst (λ (t : WordsState). IsScannedWord t.config (world_of p).allocations c.args.word)
-    (sym c.requires.one_table) c.requires.scanned in
-    may_look p c.requires.sweeping.wanted (c.is_in_order.ensures.turn.holds, c.is_in_order.ensures.gates)
-    (Word.Heap c.args.word) (word_named p p c.requires.sweeping
-    (c.is_in_order.ensures.turn.holds, c.is_in_order.ensures.gates) c.is_in_order.ensures.history c.args.word scanned)
+    may_look p c.requires.sweeping.wanted (c.is_in_order.ensures.turn.holds, c.is_in_order.ensures.gates) (Word.Heap
+    c.args.word) (word_named p p c.requires.sweeping (c.is_in_order.ensures.turn.holds, c.is_in_order.ensures.gates)
+    c.is_in_order.ensures.history c.args.word (subst (λ (t : WordsState). IsScannedWord t.config
+    (world_of p).allocations c.args.word) (sym c.requires.one_table) c.requires.scanned))
 
 pub returns-clause-on : goal.returns-clause-on
 returns-clause-on c =

@@ -18,14 +18,11 @@ sweep_if_used-looks-requires-clause-scanned c used i lt =
     let word = used_word p.table.config p.seen c.is_in_order.ensures.history c.requires.sweeping.settled c.args.page
     c.loop-index.index i (ap (λ n. has_bit n c.loop-index.index) (sym c.requires.used) ∙ sym c.has_bit.ensures ∙ used)
     c.requires.scanned (subst (λ k. i < k) (sym size) lt) in
-    let sized : IsScannedWord p.table.config (world_of p).allocations
-    (64 * c.args.page + c.loop-index.index * c.words_under-size.result + i) =
-    subst (λ k. IsScannedWord p.table.config (world_of p).allocations (64 * c.args.page + c.loop-index.index * k + i))
-    size word in
     word_alike c.args.words.now.config (world_of p) (world_of c.loop-index.stop.pass)
     (sym c.loop-index.invariant.sweeps.on.traces.untouched) (64 * c.args.page + c.loop-index.index
-    * c.words_under-size.result + i) (subst (λ (t : WordsState). IsScannedWord t.config (world_of p).allocations
-    (64 * c.args.page + c.loop-index.index * c.words_under-size.result + i)) c.requires.one_table sized)
+    * c.words_under-size.result + i) (subst (λ (t : WordsState). IsScannedWord t.config (world_of p).allocations (64
+    * c.args.page + c.loop-index.index * c.words_under-size.result + i)) c.requires.one_table (subst (λ k. IsScannedWord
+    p.table.config (world_of p).allocations (64 * c.args.page + c.loop-index.index * k + i)) size word))
 
 pub loop-index-preserved : goal.loop-index-preserved
 loop-index-preserved c =
@@ -44,11 +41,7 @@ loop-index-preserved c =
           ap (λ k. k + c.sweep_if_used-looks.result) c.loop-index.invariant.looks ∙ ap (λ k. length before + k)
           (c.sweep_if_used-looks.ensures.looks ∙ ap (λ (b : Bool). length (if_used b)) c.has_bit.ensures)
           ∙ sym (length-append before here) ∙ ap length more;
-      few =
-          let so_far = c.loop-index.invariant.few in
-          let here_few = c.sweep_if_used-looks.ensures.few in
-          let most = c.words_under-size.ensures.few in
-          omega arith;
+      few = omega arith;
     }
 
 pub returns-clause-sweeps : goal.returns-clause-sweeps

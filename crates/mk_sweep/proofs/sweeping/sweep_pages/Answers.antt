@@ -19,18 +19,13 @@ loop-page-preserved c =
       sweeps = same_words more
           (words_then c.loop-page.invariant.sweeps (same_words same c.sweep_page-looks.ensures.sweeps));
       looks = cc (c.loop-page.invariant.looks, c.sweep_page-looks.ensures.looks, same, length-append before here, more);
-      few =
-          let so_far = c.loop-page.invariant.few in
-          let here_few = c.sweep_page-looks.ensures.few in
-          omega arith;
+      few = omega arith;
     }
 
 pub returns-clause-sweeps : goal.returns-clause-sweeps
 returns-clause-sweeps c =
-    let end = c.loop-page-test.false in
     let pages : ℕ = c.args.words.now.config.pages in
-    let at : c.loop-page.page ≡ pages =
-    let most = c.loop-page.auto.page-end in let is = c.pages-page-end.ensures in omega arith in
+    let at : c.loop-page.page ≡ pages = omega arith in
     subst (λ (k : ℕ). SweepsWords pages c.args.stop.now c.loop-page.stop
     (words_below (still_words c.args.stop.now.pass) k)) at c.loop-page.invariant.sweeps
 

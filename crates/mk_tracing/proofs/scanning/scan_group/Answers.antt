@@ -1,4 +1,4 @@
-use Rattle.mk_laws.proofs.Vocabulary.{ℕ, arith, first_word, slice_index, subst, ◌*◌, ◌+◌, ◌-◌, ◌<◌, ◌≡◌}
+use Rattle.mk_laws.proofs.Vocabulary.{ℕ, arith, first_word, slice_index, subst, ◌*◌, ◌+◌, ◌-◌, ◌<◌}
 use Rattle.mk_tracing.{proofs.RootMarks.before_well, proofs.ScannedWords.due_same, proofs.ScannedWords.looks_alone}
 use Rattle.mk_tracing.{proofs.ScannedWords.none_scanned, proofs.ScannedWords.scans_then, specs.Stops.still_words}
 use Rattle.mk_tracing.proofs.scanning.scan_group.Goals as goal
@@ -13,10 +13,8 @@ returns-then-are_before_heap c =
     let first : ℕ = 8 * c.args.group in
     record {
       marks = looks_alone look.looks;
-      well = λ k le lt.
-          let at : first + (k - first) ≡ k = omega arith in
-          before_well c.args.table.pages (still_words c.are_before_heap.new.stop.pass) _
-          (subst (λ i. slice_index w.heap (first_word w c.args.gray.cell + i) < 65536) at
+      well = λ k le lt. before_well c.args.table.pages (still_words c.are_before_heap.new.stop.pass) _
+          (subst (λ i. slice_index w.heap (first_word w c.args.gray.cell + i) < 65536) (omega arith)
           (look.before c.if-are_before_heap.true (k - first) (omega arith)));
     }
 

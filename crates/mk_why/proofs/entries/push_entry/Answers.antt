@@ -1,15 +1,13 @@
 use Rattle.mk_why.{proofs.{Vocabulary.{Found, Storage, entry_at}, MadeEntries.read_at}, specs.Entries.{IsMadeOf}}
-use Rattle.mk_laws.proofs.Vocabulary.{Option, Some, arith, length, subst, sym, ◌<◌, ◌∙◌, ◌≡◌}
+use Rattle.mk_laws.proofs.Vocabulary.{Option, arith, subst, sym, ◌≡◌}
 use Rattle.mk_why.proofs.entries.push_entry.Goals as goal
 
 pub returns-clause-more : goal.returns-clause-more
 returns-clause-more c s is =
     let found = c.args.tables.now.found.items in
     let kept = c.args.tables.now.kept.items in
-    let low : c.args.base < length kept = let keeps = c.args.tables.now.keeps in let lt = c.requires in omega arith in
     let read : c.index.result.now ≡ entry_at kept c.args.base = grind (arith, read_at) in
     let way : c.index-2.result.now ≡ entry_at found c.args.base = grind (arith, read_at) in
-    let both : Some s ≡ Some c.in-Some.storage = sym is ∙ sym read ∙ c.in-Some.is in
     let same : s ≡ c.in-Some.storage = cc in
     record {
       entry = c.in_ok-kept.kept;

@@ -12,8 +12,6 @@ list_cell-requires-clause-within c in_snapshot marked =
     c.requires.one_table c.args.page c.args.header c.args.snapshot c.args.marks c.words_under-size.result
     c.requires.header c.requires.snapshot c.requires.marks c.words_under-size.ensures.exact c.loop-index.index
     (sym c.has_bit.ensures ∙ in_snapshot) (sym c.has_bit-in-loop-index.ensures ∙ marked) in
-    let low = x.within in
-    let size = c.loop-index.invariant.on.size ∙ c.requires.size in
     omega arith
 
 pub loop-index-preserved : goal.loop-index-preserved
@@ -44,7 +42,4 @@ returns-clause-listed c b kept at_page =
     let x = has_kept_at c.is_in_order.ensures.history c.requires.still c.args.words.now
     c.requires.one_table c.args.page c.args.header c.args.snapshot c.args.marks c.words_under-size.result
     c.requires.header c.requires.snapshot c.requires.marks c.words_under-size.ensures.exact b kept at_page in
-    let low = x.known in
-    let count = c.cells_under-index-end.ensures.exact in
-    let end = c.loop-index-test.false in
     c.loop-index.invariant.listed b kept at_page (omega arith)

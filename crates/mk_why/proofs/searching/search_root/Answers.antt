@@ -1,7 +1,7 @@
 use Rattle.mk_why.proofs.Vocabulary.{IsNoted, IsWay, PointsIntoAllocation, Start, View, is_still_word, is_word}
-use Rattle.mk_why.{proofs.Vocabulary.{named_word, view_by, word_of_root, world_in}, proofs.Searches.{view_search}}
-use Rattle.mk_why.proofs.{Explored.{root_is_still, root_is_word, root_named}, Searches.{looks_search, part_noted}}
-use Rattle.mk_laws.proofs.Vocabulary.{ap, refl, subst, sym, ◌∙◌, ◌≡◌}
+use Rattle.mk_why.proofs.{Vocabulary.{named_word, view_by, world_in}, Explored.{root_is_still, root_is_word}}
+use Rattle.mk_why.proofs.{Explored.root_named, Searches.{looks_search, part_noted, view_search}}
+use Rattle.mk_laws.proofs.Vocabulary.{ap, refl, subst, sym, ◌∙◌}
 use Rattle.mk_why.proofs.searching.search_root.Goals as goal
 
 pub look_at-value-requires-clause-word : goal.look_at-value-requires-clause-word
@@ -19,15 +19,13 @@ pub note_value-requires-clause-way : goal.note_value-requires-clause-way
 note_value-requires-clause-way c b points =
     let k = c.args.words.now.config in
     let v = view_by c.args.stop.now.pass in
-    let value : c.look_at-value.result ≡ word_of_root v.words c.args.root =
-    c.look_at-value.ensures.found ∙ ap (named_word v.words) c.root_word.ensures ∙ root_named v.words c.args.root in
     subst (λ (y : View). IsWay k y c.args.tables.now.found.items (Start c.args.root) 0 b)
     (sym c.look_at-value.ensures.on.view) (
       refl,
       c.requires.root,
-      subst (λ u. PointsIntoAllocation k (world_in v) u b) value
-          (subst (λ (y : View). PointsIntoAllocation k (world_in y) c.look_at-value.result b)
-          c.look_at-value.ensures.on.view points),
+      subst (λ u. PointsIntoAllocation k (world_in v) u b) (c.look_at-value.ensures.found ∙ ap (named_word v.words)
+          c.root_word.ensures ∙ root_named v.words c.args.root) (subst (λ (y : View). PointsIntoAllocation k
+          (world_in y) c.look_at-value.result b) c.look_at-value.ensures.on.view points),
     )
 
 pub returns-clause-on : goal.returns-clause-on
@@ -37,8 +35,6 @@ pub returns-clause-noted : goal.returns-clause-noted
 returns-clause-noted c =
     let k = c.args.words.now.config in
     let v = view_by c.args.stop.now.pass in
-    let value : c.look_at-value.result ≡ word_of_root v.words c.args.root =
-    c.look_at-value.ensures.found ∙ ap (named_word v.words) c.root_word.ensures ∙ root_named v.words c.args.root in
-    subst (λ u. IsNoted k v c.note_value.new.tables.found.items u 0) value
-    (part_noted k c.note_value.new.tables.found.items
+    subst (λ u. IsNoted k v c.note_value.new.tables.found.items u 0) (c.look_at-value.ensures.found ∙ ap (named_word
+    v.words) c.root_word.ensures ∙ root_named v.words c.args.root) (part_noted k c.note_value.new.tables.found.items
     (λ y. c.look_at-value.result) 0 c.look_at-value.ensures.on c.note_value.ensures.noted)

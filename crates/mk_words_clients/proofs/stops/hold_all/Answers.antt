@@ -1,4 +1,4 @@
-use Rattle.mk_laws.proofs.Vocabulary.{ℕ, arith, refl}
+use Rattle.mk_laws.proofs.Vocabulary.{arith, refl}
 use Rattle.mk_words_clients.proofs.TurnFacts.{holds_none, holds_on, holds_one_more, settled, tidy_kept}
 use Rattle.mk_words_clients.proofs.stops.hold_all.Goals as goal
 
@@ -8,10 +8,7 @@ loop-caller-init c = grind (arith, settled, holds_none)
 pub loop-caller-preserved : goal.loop-caller-preserved
 loop-caller-preserved c =
     let inv = c.loop-caller.invariant in
-    let j : ℕ = c.loop-caller.caller in
     let a = c.try_hold.ensures.acts in
-    let lt = c.loop-caller-test.true in
-    let few = c.callers.ensures in
     holds_on a refl inv (omega arith) (holds_one_more inv.holds a c.in-Ok.ensures.held)
 
 pub loop-caller-smaller : goal.loop-caller-smaller

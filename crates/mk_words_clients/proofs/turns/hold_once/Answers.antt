@@ -16,9 +16,6 @@ pub returns-in-Ok-clause-free : goal.returns-in-Ok-clause-free
 returns-in-Ok-clause-free c =
     let p : PassState = c.args.turn.now.pass in
     let j : ℕ = c.args.caller in
-    let q : PassState = c.try_hold.new.self.pass in
-    let r : PassState = c.look.new.self.pass in
-    let z : PassState = c.open_gate.new.self.pass in
     let free = c.requires.free in
     let held = c.try_hold.ensures.acts in
     let looked = c.look.ensures.acts in
@@ -29,11 +26,6 @@ returns-in-Ok-clause-free c =
 
 pub returns-in-Ok-clause-tidy : goal.returns-in-Ok-clause-tidy
 returns-in-Ok-clause-tidy c = λ tidy.
-    let p : PassState = c.args.turn.now.pass in
-    let j : ℕ = c.args.caller in
-    let q : PassState = c.try_hold.new.self.pass in
-    let r : PassState = c.look.new.self.pass in
-    let z : PassState = c.open_gate.new.self.pass in
     let there = settled c.requires.free in
     let held = c.try_hold.ensures.acts in
     let looked = c.look.ensures.acts in
