@@ -1,19 +1,18 @@
 -- A call under the turn, from its parts: its caller has one entry more, which one event decides.
 use Rattle.mk_alloc.proofs.Vocabulary.{Answer, AreOfOthers, Bool, CalledInTurn, Caller, Config, Decided, Event, Flight}
-use Rattle.mk_alloc.proofs.Vocabulary.{Has, InTurn, IsEnabled, IsEnabledTo, IsFresh, IsHistory, IsOutOfStop}
-use Rattle.mk_alloc.proofs.Vocabulary.{KeepsRegisters, List, Makes, Moment, Op, PassState, Seat, Some, Step, TakesTurn}
-use Rattle.mk_alloc.proofs.Vocabulary.{TurnGoesOn, TurnOf, World, ℕ, and_parts, ap, append-nil, append_assoc, arith}
-use Rattle.mk_alloc.proofs.Vocabulary.{at_rest, call_of, caller_of_pass, calls_by, entry_of, event_of, false, flight_of}
-use Rattle.mk_alloc.proofs.Vocabulary.{has_operands, is_one_of, is_same_seat, is_take, left, list_all, lt-ltb, made}
-use Rattle.mk_alloc.proofs.Vocabulary.{meets_enabled, no_more_calls, not, not-true, not_both, now_of, only_one}
-use Rattle.mk_alloc.proofs.Vocabulary.{only_seen, only_seen_by, or_cases, others_add_none, others_one, own_before}
-use Rattle.mk_alloc.proofs.Vocabulary.{own_calls, own_seat, pass_before, phase_of, refl, subst, sym, true, turn_stays}
-use Rattle.mk_alloc.proofs.Vocabulary.{waits_for, [], ⊎_elim, ◌&&◌, ◌++◌, ◌<◌, ◌∙◌, ◌∷◌, ◌≡◌, ◌⊎◌}
-use Rattle.mk_alloc.proofs.{Decisions.{decided_in, own_more, registers_stay}, OwnGives.{GivesNone, doing_gives}}
-use Rattle.mk_alloc.proofs.{OwnGives.{gives_append, others_give}, Parts.{IsHolders, in_turn_then, others_lack}}
-use Rattle.mk_alloc.proofs.{Parts.{seen_after, seen_by, seen_then}, Going.IsCallers, ListParts.{Lacks, SomeKind}}
-use Rattle.mk_laws.proofs.{Vocabulary.{is_under_turn, ◌≤◌}, Asked.give_phase}
-use Rattle.mk_alloc.specs.TurnCycles.{CallIsExact}
+use Rattle.mk_alloc.proofs.Vocabulary.{Has, InTurn, IsEnabledTo, IsFresh, IsHistory, IsOutOfStop, KeepsRegisters, List}
+use Rattle.mk_alloc.proofs.Vocabulary.{Makes, Op, PassState, Seat, Some, Step, TakesTurn, TurnGoesOn, TurnOf, World, ℕ}
+use Rattle.mk_alloc.proofs.Vocabulary.{and_parts, ap, append-nil, append_assoc, arith, at_rest, call_of, caller_of_pass}
+use Rattle.mk_alloc.proofs.Vocabulary.{calls_by, entry_of, event_of, false, has_operands, is_one_of, is_same_seat}
+use Rattle.mk_alloc.proofs.Vocabulary.{is_take, left, list_all, lt-ltb, made, meets_enabled, no_more_calls, not}
+use Rattle.mk_alloc.proofs.Vocabulary.{not-true, not_both, now_of, only_one, only_seen, only_seen_by, or_cases}
+use Rattle.mk_alloc.proofs.Vocabulary.{others_add_none, others_one, own_before, own_calls, own_seat, pass_before}
+use Rattle.mk_alloc.proofs.Vocabulary.{phase_of, refl, subst, sym, true, turn_stays, waits_for, [], ⊎_elim, ◌&&◌, ◌++◌}
+use Rattle.mk_alloc.proofs.{Vocabulary.{◌<◌, ◌∙◌, ◌∷◌, ◌≡◌, ◌⊎◌}, Decisions.{decided_in, own_more, registers_stay}}
+use Rattle.mk_alloc.proofs.OwnGives.{GivesNone, doing_gives, gives_append, others_give}
+use Rattle.mk_alloc.proofs.Parts.{IsHolders, in_turn_then, others_lack, seen_after, seen_by, seen_then}
+use Rattle.mk_alloc.{proofs.{Going.IsCallers, ListParts.{Lacks, SomeKind}}, specs.TurnCycles.{CallIsExact}}
+use Rattle.mk_laws.proofs.{Vocabulary.{is_under_turn, ◌≤◌}, Actors.give_phase}
 use Rattle.mk_caller.specs.States.{IsIdleCaller, never_of}
 use Rattle.mk_words.{proofs.OverPhases.{end_is_behind_over}, specs.{Seats.CallersAreBeforeOver, Steps.may_decide}}
 use Rattle.mk_words.proofs.{Seats.others_own, TurnSteps.takes as takes_turn, Undecided.decides_nothing}
@@ -45,8 +44,8 @@ waits_add p es (e ∷ rest) seat own all =
     ap (λ (l : List Event). own_calls p l) (sym (append_assoc es (e ∷ []) rest)) ∙ waits_add p (es ++ e ∷ []) rest seat
     own parts.1 ∙ ⊎_elim (λ (out : not (is_one_of p.seats e.seat) ≡ true). others_add_none p.table.config
     (caller_of_pass p) es (e ∷ []) (others_one (Caller (caller_of_pass p) ∷ []) e
-    (λ has. not_both p.seats e.seat (not-true (is_one_of p.seats e.seat) out) (subst (λ (s : Seat). Has p.seats s)
-    (seat ∙ sym (only_one (Caller (caller_of_pass p)) e.seat has)) own)))) (λ (take : (is_take e.step && is_same_seat
+    (λ has. not_both p.seats e.seat (not-true (is_one_of p.seats e.seat) out) (rw (seat ∙ sym (only_one (Caller
+    (caller_of_pass p)) e.seat has)) at own)))) (λ (take : (is_take e.step && is_same_seat
     e.seat p.seat) ≡ true). ap (λ (l : List Decided). calls_by (caller_of_pass p) l) (no_more_calls p.table.config es e
     (decides_nothing p.table.config (left p.table.config es).now e.seat e.step (grind arith))))
     (or_cases (not (is_one_of p.seats e.seat)) (is_take e.step && is_same_seat e.seat p.seat) parts.0)
@@ -101,8 +100,7 @@ module _ {o : Op} {p taken : PassState} (x : Taken o p taken) where
   registers_taken =
       let c : Config = p.table.config in
       let k : ℕ = caller_of_pass p in
-      let whole : IsHistory c (p.seen ++ to_taken) = subst (λ (l : List Event). IsHistory c l) taken_seen
-      (subst (λ (y : PassState). IsHistory y.table.config taken.seen) taken_is taking.pass.history) in
+      let whole : IsHistory c (p.seen ++ to_taken) = rw taken_seen at (rw taken_is at taking.pass.history) in
       let none = own_more c k p.seen to_taken [] (ap (λ (l : List Event). own_calls p l) (sym taken_seen) ∙ taken_adds
       ∙ sym (append-nil (own_calls p p.seen))) in
       grind (arith, taken_is, taken_seen, registers_stay, to_taken, whole, KeepsRegisters)
@@ -179,9 +177,8 @@ module _ {o : Op} {a : Answer} {p taken done q : PassState} (g : GivenBack o a p
 
   pub turn_goes_on : GivesNone p.seat in_turn
   turn_goes_on =
-      gives_append p.seat g.on.does.more g.gives.others (subst (λ (y : PassState). GivesNone y.seat g.on.does.more)
-      (taken_is g.took) (doing_gives taken done g.on.does)) (subst (λ (y : PassState). GivesNone y.seat g.gives.others)
-      done_is (others_give done.seat done.seats g.gives.others (own_before g.gives) g.gives.of_others))
+      gives_append p.seat g.on.does.more g.gives.others (rw (taken_is g.took) at (doing_gives taken done g.on.does)) (rw
+      done_is at (others_give done.seat done.seats g.gives.others (own_before g.gives) g.gives.of_others))
 
   -- Taking it leaves the phase.
   pub phase_taken : phase_of (left p.table.config took_at).now.words ≡ phase_of (now_of taken).words
@@ -227,14 +224,9 @@ pub took_by : {home p taken : PassState} {o : Op} → home ≡ p → IsIdleCalle
     → TakesTurn home (Some o) taken → Taken o p taken
 took_by {p = p} {taken = taken} {o = o} same idle own takes = grind (arith, callers)
 
-take_for : (c : Config) (m : Moment) (k : ℕ) (o : Op) → k < c.callers → flight_of m (Caller k) ≡ at_rest
-    → is_under_turn o ≡ true
-    → has_operands c o ≡ true → IsEnabled c m (record { seat = Caller k; step = Step.Take (Some o) })
-take_for c m k o lt rest under operands = grind (arith, meets_enabled, lt-ltb)
-
 pub take_allowed : {p : PassState} (o : Op) → IsIdleCaller p → caller_of_pass p < p.table.config.callers
     → is_under_turn o ≡ true → has_operands p.table.config o ≡ true → IsEnabledTo p (Step.Take (Some o))
-take_allowed o idle lt under operands = grind (arith, callers, take_for)
+take_allowed o idle lt under operands = grind (arith, callers, meets_enabled, lt-ltb)
 
 at_most_one : (n : ℕ) → n ≤ 1 → (n ≡ 0) ⊎ (n ≡ 1)
 at_most_one x0 le = grind arith

@@ -1,9 +1,9 @@
 -- Stretches of a turn that isn't for an undecided Free, in which nothing is granted and no New is full: no call of the
 -- holder's is decided, and up to a `release` the unreleased storage stays as it is.
 use Rattle.mk_laws.proofs.{Vocabulary.{group_of, is_of_turn}, Protocols.protocol_of}
-use Rattle.mk_alloc.proofs.Vocabulary.{AreOfOthers, Caller, Config, Decided, Event, Flight, Has, List, Moment}
-use Rattle.mk_alloc.proofs.Vocabulary.{PassState, PlacedAllocation, Steady, Step, Storage, World, ℕ, allocations_by, ap}
-use Rattle.mk_alloc.proofs.Vocabulary.{arith, caller_of_pass, calls_by, event_of, false, flight_of, frees_none}
+use Rattle.mk_alloc.proofs.Vocabulary.{AreOfOthers, Caller, Config, Event, Flight, Has, List, Moment, PassState}
+use Rattle.mk_alloc.proofs.Vocabulary.{PlacedAllocation, Steady, Step, Storage, World, ℕ, allocations_by, ap, arith}
+use Rattle.mk_alloc.proofs.Vocabulary.{caller_of_pass, calls_by, event_of, false, flight_of, frees_none}
 use Rattle.mk_alloc.proofs.Vocabulary.{is_pending_free, left, left_after, no_more_calls, none_freed, only_one}
 use Rattle.mk_alloc.proofs.Vocabulary.{others_add_none, others_one, own_calls, progress, refl, still, sym, true}
 use Rattle.mk_alloc.proofs.{Vocabulary.{unreleased_storage, [], ◌++◌, ◌∙◌, ◌∷◌, ◌≡◌, ◌≢◌}, Stretches.{AreOfTurn, Here}}
@@ -53,16 +53,8 @@ module _ (p : PassState) (seat : p.seat ≡ Caller (caller_of_pass p)) (own : Ha
   -- nor does one of its own.
   pub own_undecided : {es : List Event} (x : Step) → Here p es (event_of p x) → is_of_cycles x ≡ true
       → is_pending_free (call_in p es) ≡ false → GoesUndecided p es (es ++ event_of p x ∷ [])
-  own_undecided {es} x h kind free =
-      let c : Config = p.table.config in
-      let m : Moment = (left c es).now in
-      let st : (n : ℕ) → progress c m (flight_of m p.seat) n x ≡ still (flight_of m p.seat) = λ n.
-      cycle_still c m (flight_of m p.seat) n x kind free in
-      record {
-        call = cc (h.behind, flight_behind c m p.seat x (protocol_of c m h.known) h.holds st);
-        calls = ap (λ (l : List Decided). calls_by (caller_of_pass p) l)
-            (no_more_calls c es (event_of p x) (undecided c m p.seat x st));
-      }
+  own_undecided x h kind free =
+      grind (arith, cycle_still, flight_behind, protocol_of, calls_by, no_more_calls, undecided)
 
   undecided_then : {es fs gs : List Event} → GoesUndecided p es fs → GoesUndecided p fs gs → GoesUndecided p es gs
   undecided_then a b = record { call = b.call ∙ a.call; calls = b.calls ∙ a.calls }

@@ -1,32 +1,27 @@
 -- The three steps of a Full: the tally is looked at, raised, and the New decided.
 use Rattle.std.proofs.Common.{min}
 use Rattle.mk_alloc.proofs.Vocabulary.{Acts, Answer, AnswersFull, BeginsNone, Caller, Config, Decided, Does, Done}
-use Rattle.mk_alloc.proofs.Vocabulary.{Ended, Event, Flight, Holding, Holds, InTurn, IsAtPhase, IsEnabled, IsEnabledTo}
-use Rattle.mk_alloc.proofs.Vocabulary.{IsHistory, IsQuiet, IsTurn, IsUnplaced, LeavesTurn, List, Moment, None, Op}
-use Rattle.mk_alloc.proofs.Vocabulary.{Option, PassState, Placing, RunPages, Seat, Some, Stage, Steady, Step, World, ℕ}
-use Rattle.mk_alloc.proofs.Vocabulary.{acting_caller, answer_decided, ap, arith, asked, by_append, call_decided}
-use Rattle.mk_alloc.proofs.Vocabulary.{call_of, caller_of_pass, calls, calls_by, calls_more, calm_keeps, comes_next}
-use Rattle.mk_alloc.proofs.Vocabulary.{ends, entry_of, eq-eqb, event_of, false, first_world, flight_of, free_then}
-use Rattle.mk_alloc.proofs.Vocabulary.{full_answers, fulls_append, fulls_of, gates_behind, has_operands, has_place}
-use Rattle.mk_alloc.proofs.Vocabulary.{in_a_word, is_pending_free_at, is_run_gone, is_undecided_new, known_left, left}
-use Rattle.mk_alloc.proofs.Vocabulary.{lt-ltb, made, meets_enabled, new_is_acting, now_of, object_for, object_made}
-use Rattle.mk_alloc.proofs.Vocabulary.{others_add_none, own_before, own_calls, phase_of, place_now_for, refl}
-use Rattle.mk_alloc.proofs.Vocabulary.{same_config, steady_of, subst, sum_by_push, sym, true, unchanged, undecided_new}
-use Rattle.mk_alloc.proofs.{Vocabulary.{world_of, [], ◌++◌, ◌+◌, ◌<◌, ◌∙◌, ◌∷◌, ◌≡◌}, Going.{IsCallers, but_full}}
-use Rattle.mk_alloc.proofs.{Going.{exact_kept, same_phase, tidy_kept}, SeekingTurns.{new_callers, still_nowhere}}
-use Rattle.mk_alloc.proofs.{SeekingTurns.unplaced_kept, Stretches.{SomeKinds, does_both, does_once, widened}}
-use Rattle.mk_alloc.proofs.{CalledTurns.{of_others_alone, step_adds_none}, FreedTurns.given_is_decided}
+use Rattle.mk_alloc.proofs.Vocabulary.{Ended, Event, Flight, Holding, Holds, InTurn, IsAtPhase, IsEnabledTo, IsQuiet}
+use Rattle.mk_alloc.proofs.Vocabulary.{IsUnplaced, LeavesTurn, List, Moment, None, Op, Option, PassState, Placing}
+use Rattle.mk_alloc.proofs.Vocabulary.{RunPages, Seat, Some, Stage, Steady, Step, World, ℕ, acting_caller}
+use Rattle.mk_alloc.proofs.Vocabulary.{answer_decided, ap, arith, call_decided, call_of, caller_of_pass, calls_more}
+use Rattle.mk_alloc.proofs.Vocabulary.{calm_keeps, comes_next, ends, entry_of, eq-eqb, event_of, false, flight_of}
+use Rattle.mk_alloc.proofs.Vocabulary.{free_then, full_answers, fulls_append, fulls_of, gates_behind, has_operands}
+use Rattle.mk_alloc.proofs.Vocabulary.{has_place, in_a_word, is_pending_free_at, is_run_gone, is_undecided_new}
+use Rattle.mk_alloc.proofs.Vocabulary.{known_left, left, lt-ltb, made, meets_enabled, new_is_acting, now_of, object_for}
+use Rattle.mk_alloc.proofs.Vocabulary.{own_before, own_calls, place_now_for, refl, same_config, steady_of, subst}
+use Rattle.mk_alloc.proofs.Vocabulary.{sum_by_push, sym, true, unchanged, world_of, [], ◌++◌, ◌+◌, ◌∙◌, ◌∷◌, ◌≡◌}
+use Rattle.mk_alloc.proofs.Going.{IsCallers, but_full, exact_kept, same_phase, tidy_kept}
+use Rattle.mk_alloc.proofs.{SeekingTurns.{new_callers, still_nowhere, unplaced_kept}, Stretches.{SomeKinds, does_both}}
+use Rattle.mk_alloc.proofs.{Stretches.{does_once, widened}, CalledTurns.step_adds_none, FreedTurns.given_is_decided}
 use Rattle.mk_alloc.proofs.{FullLeaves.{leaves_then, made_leaves}, GrantParts.{calm_last, room_lacks}}
 use Rattle.mk_alloc.proofs.{OneCycles.begins_none_by, Parts.{Part, before_act}, PlacedTurns.none_freed_yet}
-use Rattle.mk_laws.proofs.Vocabulary.{AreAdmitted, Call, Tally, Unplaced, Word, is_new_at, map-append, place_on_pages}
-use Rattle.mk_laws.proofs.{Vocabulary.{◌-◌, ◌^◌}, InvariantTheorems.first_fit_finds_the_place}
+use Rattle.mk_laws.proofs.{Vocabulary.{Tally, Word, is_new_at, ◌-◌, ◌^◌}, InvariantHistories.first_fit_finds_the_place}
 use Rattle.mk_laws.proofs.LayoutHolders.{seat_operands}
-use Rattle.mk_never.proofs.Parts.{admitted_join}
-use Rattle.mk_core.specs.History.{IsAdmittedBehind, never_first}
-use Rattle.mk_caller.proofs.OwnSteps.{own_entry}
+use Rattle.mk_core.specs.History.{IsAdmittedBehind}
 use Rattle.mk_cycle.{proofs.{BeginSteps.none_held_kept, KeptInParts.gates_then}, specs.TurnKeeps.{done_of}}
-use Rattle.mk_objects.proofs.{Looks.acting_now, MayAct.{new_admitted, new_in_range}, Takes.unplaced_settled}
-use Rattle.mk_words.specs.Steps.{Finds, IsAdmittedTo}
+use Rattle.mk_objects.proofs.{Looks.acting_now, MayAct.new_step_admitted, Reaching.own_adds, Takes.unplaced_settled}
+use Rattle.mk_words.{proofs.Seats.{others_own}, specs.Steps.{Finds, IsAdmittedTo}}
 
 abbrev counts_full : SomeKinds
 counts_full (Step.Look x) = true
@@ -46,9 +41,7 @@ raised_so n v f g is raised more = omega arith
 module _ {p p1 p2 : PassState} {n v : ℕ} (quiet : IsQuiet p) (u : IsUnplaced p) (look : Acts p (Step.Look Word.Full) p1)
     (finds : Finds p (Step.Look Word.Full) n p1) (tallies : Acts p1 (Step.Tally Tally.Full v) p2) where
   k1 : LeavesTurn unchanged p p1
-  k1 =
-      calm_keeps p (Step.Look Word.Full) p1 look
-      (before_act look) look.makes.pass.history refl quiet.free unchanged refl
+  k1 = calm_keeps p _ p1 look (before_act look) look.makes.pass.history refl quiet.free unchanged refl
 
   k2 : LeavesTurn but_full p1 p2
   k2 = calm_keeps p1 (Step.Tally Tally.Full v) p2 tallies (before_act tallies) tallies.makes.pass.history refl
@@ -61,9 +54,7 @@ module _ {p p1 p2 : PassState} {n v : ℕ} (quiet : IsQuiet p) (u : IsUnplaced p
   same_pass = k2.call.pass ∙ ap (λ (x : PassState). record x { seen = p2.seen }) k1.call.pass
 
   found : n ≡ (now_of p).words.full
-  found =
-      finds.finds ∙ ap (λ (s : Steady). s.full)
-      (((made p (Step.Look Word.Full) p1 finds.makes).frame.turn look.holds).0).steady
+  found = finds.finds ∙ ap (λ (s : Steady). s.full) (((made p _ p1 finds.makes).frame.turn look.holds).0).steady
 
   call_same : call_of p2 ≡ call_of p
   call_same = k2.call.call ∙ k1.call.call
@@ -111,9 +102,6 @@ module _ {p p1 p2 : PassState} {n v : ℕ} (quiet : IsQuiet p) (u : IsUnplaced p
     seen_q : q.seen ≡ es ++ e ∷ []
     seen_q = ap (λ (x : PassState). x.seen) full.makes.is
 
-    config2 : p2.table.config ≡ p.table.config
-    config2 = ap (λ (x : PassState). x.table.config) same_pass
-
     decides : call_decided p2.table.config (left p2.table.config es).now e
         ≡ entry_of (caller_of_pass p2) (call_of p2).op (Some Answer.Full)
     decides = grind (arith, es, answers, seat2)
@@ -122,29 +110,18 @@ module _ {p p1 p2 : PassState} {n v : ℕ} (quiet : IsQuiet p) (u : IsUnplaced p
     ends_q = grind (arith, es, sum_by_push, seen_q, k2, k1)
 
     fulls_q : full_answers p.table.config q.seen ≡ full_answers p.table.config p.seen + 1
-    fulls_q = grind (arith, es, fulls_of, decides, calls_more, fulls_append, same_config, k2, k1, config2, seen_q)
+    fulls_q = grind (arith, es, fulls_of, decides, calls_more, fulls_append, same_config, k2, k1, seen_q, same_pass)
 
     entry : own_calls p q.seen ≡ own_calls p p.seen ++ entry_of (caller_of_pass p) (call_of p).op (Some Answer.Full)
     entry =
-        sym (ap (λ (x : PassState). own_calls x q.seen) same_pass)
-        ∙ ap (λ (l : List Event). own_calls p2 l) seen_q
-        ∙ ap (λ (l : List Decided). calls_by (caller_of_pass p2) l)
-        (calls_more p2.table.config (first_world p2.table.config) es e)
-        ∙ by_append (caller_of_pass p2) (calls p2.table.config es)
-        (call_decided p2.table.config (left p2.table.config es).now e)
-        ∙ ap (λ (l : List Decided). l ++ calls_by (caller_of_pass p2)
-        (call_decided p2.table.config (left p2.table.config es).now e))
-        (others_add_none p2.table.config (caller_of_pass p2) p2.seen full.makes.others
-        (of_others_alone p2 full.makes.others seat2 (own_before full.makes) full.makes.of_others))
-        ∙ ap (λ (l : List Decided). own_calls p2 p2.seen ++ calls_by (caller_of_pass p2) l) decides
-        ∙ ap (λ (l : List Decided). own_calls p2 p2.seen ++ l)
-        (own_entry (caller_of_pass p2) (call_of p2).op (Some Answer.Full))
-        ∙ ap (λ (f : Flight). own_calls p2 p2.seen ++ entry_of (caller_of_pass p2) f.op (Some Answer.Full)) call_same
+        sym (ap (λ (x : PassState). own_calls x q.seen) same_pass) ∙ ap (λ (l : List Event). own_calls p2 l) seen_q
+        ∙ own_adds p2 seat2 p2.seen full.makes.others Step.Full
+        (others_own p2.seats p2.seat full.makes.others (own_before full.makes) full.makes.of_others)
+        (answers p2.table.config (left p2.table.config es).now p2.seat (caller_of_pass p2) seat2)
+        (ap (λ (f : Flight). entry_of (caller_of_pass p2) f.op (Some Answer.Full)) (full.own.flight ∙ call_same))
         ∙ ap (λ (x : PassState). own_calls x p2.seen ++ entry_of (caller_of_pass x) (call_of p).op (Some Answer.Full))
-        same_pass
-        ∙ ap (λ (l : List Decided). l ++ entry_of (caller_of_pass p) (call_of p).op (Some Answer.Full))
-        (sym (ap (λ (x : PassState). own_calls x p2.seen) k1.call.pass)
-        ∙ step_adds_none tallies.makes
+        same_pass ∙ ap (λ (l : List Decided). l ++ entry_of (caller_of_pass p) (call_of p).op (Some Answer.Full))
+        (sym (ap (λ (x : PassState). own_calls x p2.seen) k1.call.pass) ∙ step_adds_none tallies.makes
         (subst (λ (x : PassState). IsCallers x) (sym k1.call.pass) seat) (own_before tallies.makes) refl
         ∙ ap (λ (x : PassState). own_calls x p1.seen) k1.call.pass
         ∙ step_adds_none look.makes seat (own_before look.makes) refl)
@@ -154,9 +131,6 @@ module _ {p p1 p2 : PassState} {n v : ℕ} (quiet : IsQuiet p) (u : IsUnplaced p
 
     allocations_q : (world_of q).allocations ≡ (world_of p).allocations
     allocations_q = ap (λ (s : Steady). s.allocations) all_steady
-
-    config_q : q.table.config ≡ p.table.config
-    config_q = ap (λ (x : PassState). x.table.config) pass_q
 
     quiet_q : IsQuiet q
     quiet_q = record {
@@ -178,7 +152,8 @@ module _ {p p1 p2 : PassState} {n v : ℕ} (quiet : IsQuiet p) (u : IsUnplaced p
       tidy = tidy_kept p q all_steady ends_q (ap (λ (s : Steady). s.full) steady_q
           ∙ (ap (λ (w : World). w.now.words.full) tallies.world) ∙ raised_so n v (full_answers p.table.config p.seen)
           (full_answers p.table.config q.seen) (found ∙ quiet.tidy.full) raised fulls_q ∙ ap
-          (λ (c : Config). in_a_word (full_answers c q.seen)) (sym config_q)) quiet.tidy;
+          (λ (c : Config). in_a_word (full_answers c q.seen)) (sym
+          (ap (λ (x : PassState). x.table.config) pass_q))) quiet.tidy;
     }
 
     does : Does counts_full p q
@@ -222,56 +197,14 @@ full_next : (s : Stage) (o : Op) → is_new_at s o ≡ true → comes_next s o S
 full_next Stage.Turn (Op.New d ty full) h = refl
 full_next _ _ h = cc
 
-full_for : (c : Config) (m : Moment) (k : ℕ) → k < c.callers → is_undecided_new (flight_of m (Caller k)) ≡ true
-    → phase_of m.words ≡ 0 → m.seats.holding.placing ≡ Unplaced → m.seats.holding.cycle ≡ Ended
-    → place_on_pages c.resident m.words.pages (object_made c (flight_of m (Caller k)).op) ≡ None
-    → IsEnabled c m (record { seat = Caller k; step = Step.Full })
-full_for c m k lt new idle placing ended none =
-    let o = object_made c (flight_of m (Caller k)).op in
-    meets_enabled c m (record { seat = Caller k; step = Step.Full }) (record {
-      seat = lt-ltb k c.callers lt;
-      kind = refl;
-      order = full_next (flight_of m (Caller k)).stage (flight_of m (Caller k)).op new;
-      range = refl;
-      gates = refl;
-      phase = eq-eqb (phase_of m.words) 0 idle;
-      marker = refl;
-      holder = cc (placing, ended, none);
-    })
+ruleset full_allowed_facts = (new_is_acting, first_fit_finds_the_place, unplaced_settled, acting_caller, meets_enabled)
 
 pub full_allowed : {p : PassState} → InTurn p → IsUnplaced p → IsAtPhase p 0
     → (now_of p).seats.holding.cycle ≡ Ended → place_now_for p ≡ None → IsEnabledTo p Step.Full
 full_allowed {p} t u idle ended none =
-    let turn : IsTurn p = record { holds = t.holds } in
-    let acts = new_is_acting (call_of p) u.new in
-    let fits = first_fit_finds_the_place p.table.config p.seen t.history (object_for p)
-    (unplaced_settled (acting_now turn acts) (acting_caller p acts) u t.history) ∙ none in
-    let seat = new_callers u in
-    subst (λ (s : Seat). caller_of_pass p < p.table.config.callers → is_undecided_new (flight_of (now_of p) s) ≡ true
-    → place_on_pages p.table.config.resident (now_of p).words.pages (object_made p.table.config
-    (flight_of (now_of p) s).op) ≡ None → IsEnabled p.table.config (now_of p) (record { seat = s; step = Step.Full }))
-    (sym seat) (λ lt new fit. full_for p.table.config (now_of p) (caller_of_pass p) lt new idle u.placing ended fit)
-    ((subst (λ (s : Seat). Holds p.table.config (now_of p) s) seat t.holds).0) u.new fits
+    grind (arith, full_allowed_facts, acting_now, new_callers, Holds, lt-ltb, full_next, eq-eqb)
 
 -- and admitted.
-
-admitted_for : {c : Config} {es : List Event} (k : ℕ) → IsHistory c es → k < c.callers → is_undecided_new
-    (flight_of (left c es).now (Caller k)) ≡ true → has_operands c (flight_of (left c es).now (Caller k)).op ≡ true
-    → IsAdmittedBehind c es (record { seat = Caller k; step = Step.Full })
-admitted_for {c} {es} k h lt new operands =
-    let f : Flight = flight_of (left c es).now (Caller k) in
-    let n = undecided_new f new in
-    let ranges = new_in_range c n.d n.ty n.full n.op operands in
-    let more : asked (calls c (es ++ record { seat = Caller k; step = Step.Full } ∷ [])) ≡ asked
-    (calls c es) ++ record { caller = k; op = Op.New n.d n.ty true } ∷ [] =
-    ap (λ (ds : List Decided). asked ds) (calls_more c (first_world c) es
-    (record { seat = Caller k; step = Step.Full }))
-    ∙ map-append (λ (x : Decided). record { caller = x.caller; op = x.op }) (calls c es)
-    (entry_of k f.op (Some Answer.Full))
-    ∙ ap (λ (x : Op). asked (calls c es) ++ asked (entry_of k x (Some Answer.Full))) n.op in
-    subst (λ (xs : List Call). AreAdmitted c.globals (never_first c) xs) (sym more) (admitted_join c.globals
-    (never_first c) (asked (calls c es)) (record { caller = k; op = Op.New n.d n.ty true } ∷ [])
-    (h.admitted, (new_admitted c k n.d n.ty true (asked (calls c es)) lt ranges.0 ranges.1, tt)))
 
 pub full_admitted : {p : PassState} → InTurn p → IsUnplaced p → IsAdmittedTo p Step.Full
 full_admitted {p} t u =
@@ -280,5 +213,5 @@ full_admitted {p} t u =
     (known_left p.table.config p.seen t.history.within_limits t.history.enabled) in
     subst (λ (s : Seat). is_undecided_new (flight_of (now_of p) s) ≡ true → has_operands p.table.config
     (flight_of (now_of p) s).op ≡ true → Holds p.table.config (now_of p) s → IsAdmittedBehind p.table.config p.seen
-    (record { seat = s; step = Step.Full })) (sym seat)
-    (λ new range holds. admitted_for (caller_of_pass p) t.history holds.0 new range) u.new operands t.holds
+    (record { seat = s; step = Step.Full })) (sym seat) (λ new range holds. new_step_admitted
+    (caller_of_pass p) Step.Full Answer.Full t.history holds.0 new range refl) u.new operands t.holds

@@ -1,9 +1,9 @@
 -- The events of a cycle's parts: where its `begin` stands, and where it is closed, released and ended.
 use Rattle.mk_alloc.proofs.Vocabulary.{BeginsCycle, Does, Event, FinishesCycle, Has, InTurn, IsHistory, List, PassState}
 use Rattle.mk_alloc.proofs.Vocabulary.{Step, ap, append_assoc, arith, begins_marking, clears, event_of, false, finishes}
-use Rattle.mk_alloc.proofs.Vocabulary.{is_begin, is_close, is_end, is_giving_back, is_release, pass_before, refl}
-use Rattle.mk_alloc.proofs.{Vocabulary.{sets_tallies, sym, true, [], ◌++◌, ◌∙◌, ◌∷◌, ◌≡◌}, Parts.{IsHolders, Part}}
-use Rattle.mk_alloc.proofs.Parts.{behind_part, nothing_part, part_lacks, seen_behind, seen_then, step_behind}
+use Rattle.mk_alloc.proofs.Vocabulary.{is_begin, is_close, is_end, is_giving_back, is_release, pass_before, refl, sym}
+use Rattle.mk_alloc.proofs.{Vocabulary.{true, [], ◌++◌, ◌∙◌, ◌∷◌, ◌≡◌}, Parts.{IsHolders, Part, behind_part}}
+use Rattle.mk_alloc.proofs.Parts.{nothing_part, part_lacks, seen_by, seen_then, step_behind}
 use Rattle.mk_alloc.proofs.{Stretches.{SomeKinds, does_both, does_once, widened}, CalmStretches.is_of_cycles}
 use Rattle.mk_alloc.proofs.ListParts.{Lacks, lacks_in_parts}
 
@@ -108,7 +108,7 @@ finish_in p q own law t history =
     let is : q.seen ≡ p.seen ++ more = seen_then p.seen r.closed.seen q.seen
     (x.before ++ event_of r.closing Step.Close ∷ []) _ x.is (seen_then r.closed.seen m.released.seen q.seen
     (y.before ++ event_of r.closed Step.Release ∷ []) _ y.is (seen_then m.released.seen m.ended.seen q.seen
-    (z.before ++ event_of m.freed Step.End ∷ []) m.behind.more z.is (seen_behind sets_tallies m.ended q m.behind)))
+    (z.before ++ event_of m.freed Step.End ∷ []) m.behind.more z.is (seen_by m.behind)))
     ∙ ap (λ (l : List Event). p.seen ++ l) (three x.before y.before z.before m.behind.more _ _ _) in
     let first = part_closing law t in
     let last = part_behind_closing law t history in
@@ -132,9 +132,8 @@ finish_in p q own law t history =
         none_ended = z.lacks is_end (λ x h. grind arith) (λ x h. grind arith);
       };
       begins_none = lacks_in_parts is_begin p.seen first.does.more last.does.more more (sym is ∙ seen_then p.seen
-          r.closing.seen q.seen first.does.more last.does.more (seen_behind ends_marking p r.closing first.does)
-          (seen_behind gives_room r.closing q last.does)) (part_lacks is_begin first begins_held (λ x h. grind arith))
-          (part_lacks is_begin last begins_held (λ x h. grind arith));
+          r.closing.seen q.seen first.does.more last.does.more (seen_by first.does) (seen_by last.does)) (part_lacks
+          is_begin first begins_held (λ x h. grind arith)) (part_lacks is_begin last begins_held (λ x h. grind arith));
     }
 
 -- One `begin`, and no end of a cycle.
@@ -172,8 +171,8 @@ begin_in p q own law t history =
       before = x.before;
       begin = e;
       behind = m.behind.more;
-      is = seen_then p.seen m.begun.seen q.seen (x.before ++ e ∷ []) m.behind.more x.is (seen_behind begins_marking
-          m.begun q m.behind) ∙ ap (λ (l : List Event). p.seen ++ l) (append_assoc x.before (e ∷ []) m.behind.more);
+      is = seen_then p.seen m.begun.seen q.seen (x.before ++ e ∷ []) m.behind.more x.is (seen_by
+          m.behind) ∙ ap (λ (l : List Event). p.seen ++ l) (append_assoc x.before (e ∷ []) m.behind.more);
       begins = refl;
       none_before = x.lacks is_begin begins_held (λ x h. grind arith);
       none_behind = part_lacks is_begin marking begins_held (λ x h. grind arith);

@@ -1,14 +1,13 @@
 -- One entry more among a caller's calls is that of one event, which decides it. What the other events decide is of
 -- other callers, and leaves the caller its registers.
-use Rattle.mk_laws.proofs.Vocabulary.{NeverState, admitted_in_parts, admitted_keep, answered, answers_of, bases_of}
-use Rattle.mk_laws.proofs.{Vocabulary.{flagged, never_in_parts, replies_of}, ImagesOneEvent.one_event}
-use Rattle.mk_alloc.proofs.Vocabulary.{Answer, Bool, Config, Decided, Event, IsHistory, KeepsRegisters, List, None, Op}
-use Rattle.mk_alloc.proofs.Vocabulary.{Option, PassState, Some, World, ℕ, after_calls, answer_decided, ap, append-nil}
-use Rattle.mk_alloc.proofs.Vocabulary.{append_assoc, asked, by_append, call_decided, caller_number, caller_of_pass}
-use Rattle.mk_alloc.proofs.Vocabulary.{calls, calls_by, calls_in_parts, comes_last, earlier_part_is_history, entry_of}
-use Rattle.mk_alloc.proofs.Vocabulary.{eq-eqb, false, flight_of, if◌then◌else◌, left, left_in_parts, never_behind}
-use Rattle.mk_alloc.proofs.Vocabulary.{own_calls, refl, stands, subst, sym, told_to_images, true, true≢false}
-use Rattle.mk_alloc.proofs.Vocabulary.{world_behind, [], ◌++◌, ◌==◌, ◌∙◌, ◌∷◌, ◌≡◌}
+use Rattle.mk_laws.proofs.Vocabulary.{admitted_in_parts, admitted_keep, answered, answers_of, bases_of, flagged}
+use Rattle.mk_laws.proofs.{Vocabulary.{never_in_parts, replies_of}, ImagesHistories.one_event}
+use Rattle.mk_alloc.proofs.Vocabulary.{Answer, Bool, Config, Decided, Event, IsHistory, KeepsRegisters, List, Op}
+use Rattle.mk_alloc.proofs.Vocabulary.{PassState, Some, World, ℕ, after_calls, ap, append-nil, append_assoc, arith}
+use Rattle.mk_alloc.proofs.Vocabulary.{asked, by_append, call_decided, caller_of_pass, calls, calls_by, calls_in_parts}
+use Rattle.mk_alloc.proofs.Vocabulary.{comes_last, earlier_part_is_history, entry_of, eq-eqb, false, if◌then◌else◌}
+use Rattle.mk_alloc.proofs.Vocabulary.{left, left_in_parts, never_behind, own_calls, refl, stands, subst, sym}
+use Rattle.mk_alloc.proofs.Vocabulary.{told_to_images, true, true≢false, world_behind, [], ◌++◌, ◌==◌, ◌∙◌, ◌∷◌, ◌≡◌}
 use Rattle.mk_never.specs.{Laws.AreNotBy, NeverHeap.after_op}
 use Rattle.mk_core.specs.History.{calls_from, left_from}
 use Rattle.mk_caller.specs.Called.{IsDecidedIn}
@@ -79,16 +78,6 @@ decision c k w (e ∷ rest) x h =
           none_behind = none.1;
         }
 
--- An event decides one call at most.
-only_entry : (k j : ℕ) (o : Op) (a : Option Answer) (x : Decided) → calls_by k (entry_of j o a) ≡ x ∷ []
-    → entry_of j o a ≡ x ∷ []
-only_entry k j o None x h = cc
-only_entry k j o (Some a) x h = by (j == k) h
-  where
-    by : (b : Bool) → (if b then entry_of j o (Some a) else []) ≡ x ∷ [] → entry_of j o (Some a) ≡ x ∷ []
-    by true h = h
-    by false h = cc
-
 -- Calls among which the caller has none are of others.
 pub none_by : (k : ℕ) (xs : List Decided) → calls_by k xs ≡ [] → AreNotBy k (asked xs)
 none_by k [] h = tt
@@ -103,14 +92,11 @@ none_by k (x ∷ xs) h = by (x.caller == k) refl h (none_by k xs)
 pub registers_stay : {c : Config} (es more : List Event) (k : ℕ) → IsHistory c (es ++ more) → calls_by k
     (calls_from c (left c es) more) ≡ [] → KeepsRegisters k (never_behind c es) (never_behind c (es ++ more))
 registers_stay {c} es more k h none =
-    subst (λ (m : NeverState). KeepsRegisters k (never_behind c es) m) (sym (never_in_parts c es more))
-    (admitted_keep c.globals (never_behind c es) k (asked (calls_from c (left c es) more))
+    rw (never_in_parts c es more) (admitted_keep c.globals (never_behind c es) k (asked (calls_from c (left c es) more))
     ((admitted_in_parts c es more).0 h.admitted).1 (none_by k (calls_from c (left c es) more) none))
 
 flagged_once : (o : Op) (a : Answer) → flagged (flagged o a) a ≡ flagged o a
-flagged_once (Op.New d ty full) Answer.Full = refl
-flagged_once (Op.New d ty full) _ = refl
-flagged_once _ a = refl
+flagged_once x0 a = grind arith
 
 module _ (p : PassState) (o : Op) (a : Answer) (more : List Event) (history : IsHistory p.table.config (p.seen ++ more))
     (entry : own_calls p (p.seen ++ more) ≡ own_calls p p.seen ++ entry_of (caller_of_pass p) o (Some a)) where
@@ -144,10 +130,7 @@ module _ (p : PassState) (o : Op) (a : Answer) (more : List Event) (history : Is
   through = earlier_part_is_history c (es ++ found.event ∷ []) found.behind whole
 
   decides : call_decided c (left c es).now found.event ≡ x ∷ []
-  decides =
-      only_entry k (caller_number found.event.seat) (flight_of (left c es).now found.event.seat).op
-      (answer_decided c (left c es).now found.event) x
-      (ap (λ (w : World). calls_by k (call_decided c w.now found.event)) there ∙ found.own)
+  decides = grind (arith, found, es, calls_by, there)
 
   never : never_behind c (es ++ found.event ∷ []) ≡ after_op (never_behind c es) k (flagged o a)
   never =
@@ -178,7 +161,5 @@ module _ (p : PassState) (o : Op) (a : Answer) (more : List Event) (history : Is
         (replies_of (never_behind c es) (asked l))) decides in cc one;
     known = registers_stay p.seen found.before k (comes_last c es found.event through).before found.none_before;
     left_so =
-        subst (λ (n : NeverState). KeepsRegisters k n (never_behind c (p.seen ++ more))) never
-        (subst (λ (l : List Event). KeepsRegisters k (never_behind c (es ++ found.event ∷ [])) (never_behind c l))
-        (sym cut) (registers_stay (es ++ found.event ∷ []) found.behind k whole behind_none));
+        rw never at (rw (← cut) at (registers_stay (es ++ found.event ∷ []) found.behind k whole behind_none));
   }

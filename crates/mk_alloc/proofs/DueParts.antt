@@ -2,14 +2,13 @@
 use Rattle.mk_alloc.proofs.Vocabulary.{At, Bool, EndsOlder, Event, FinishesCycle, InTurn, IsAtPhase, IsHistory, IsQuiet}
 use Rattle.mk_alloc.proofs.Vocabulary.{List, None, PassState, TurnGoesOn, ap, append-nil, append_assoc, arith}
 use Rattle.mk_alloc.proofs.Vocabulary.{cases_Bool, false, finishes, has_step, inl, inr, is_begin, is_close, is_end}
-use Rattle.mk_alloc.proofs.Vocabulary.{is_look, or_from, or_parts, refl, subst, sym, true, true≢false, [], ◌++◌, ◌∙◌}
-use Rattle.mk_alloc.proofs.{Vocabulary.{◌∷◌, ◌≡◌}, CycleParts.{BeginIn, EndsIn, begin_done, begin_in, begins_held}}
-use Rattle.mk_alloc.proofs.{CycleParts.{finish_done, finish_in}, Going.{IsCallers, begun_on, callers_then, finished_on}}
-use Rattle.mk_alloc.proofs.{Going.{look_part, looked_on, on_then, quiet_looked}, ListParts.{Lacks, SomeKind}}
-use Rattle.mk_alloc.proofs.{ListParts.lacks_append, Parts.{behind_part, history_before, in_turn_then, part_lacks}}
-use Rattle.mk_alloc.proofs.{Parts.{seen_behind, seen_then}, CalmStretches.{cycles_in_turn, is_of_cycles}}
+use Rattle.mk_alloc.proofs.Vocabulary.{or_from, or_parts, refl, subst, sym, true, true≢false, [], ◌++◌, ◌∙◌, ◌∷◌, ◌≡◌}
+use Rattle.mk_alloc.proofs.CycleParts.{BeginIn, EndsIn, begin_done, begin_in, begins_held, finish_done, finish_in}
+use Rattle.mk_alloc.proofs.Going.{IsCallers, begun_on, callers_then, finished_on, look_part, looked_on, on_then}
+use Rattle.mk_alloc.proofs.{Going.quiet_looked, ListParts.{Lacks, SomeKind, lacks_append}}
+use Rattle.mk_alloc.proofs.Parts.{behind_part, history_before, in_turn_then, part_lacks, seen_by, seen_then}
+use Rattle.mk_alloc.{proofs.CalmStretches.{cycles_in_turn, is_of_cycles}, specs.DueCycles.{RunsCycle}}
 use Rattle.mk_laws.proofs.Longer.{longer_at}
-use Rattle.mk_alloc.specs.DueCycles.{RunsCycle}
 
 pub at_behind : {kind : SomeKind} (xs : List Event) {ys : List Event} → At kind ys → At kind (xs ++ ys)
 at_behind xs at = record {
@@ -78,7 +77,7 @@ older_in {p} {q} t seat quiet e history = elim quiet.phase [
         turn = behind_part look;
         on = looked_on t seat quiet e.looks h;
         more = look.does.more;
-        is = seen_behind is_look p e.looked look.does;
+        is = seen_by look.does;
         begins_none = part_lacks is_begin look begins_held (λ x h. grind arith);
         ended = λ (one : IsAtPhase p 1). absurd (omega arith);
       })
@@ -91,8 +90,7 @@ older_in {p} {q} t seat quiet e history = elim quiet.phase [
         on = on_then (looked_on t seat quiet e.looks look.history)
             (finished_on t1 (callers_then look.does seat) (quiet_looked quiet e.looks) law history);
         more = look.does.more ++ f.more;
-        is = seen_then p.seen e.looked.seen q.seen look.does.more f.more (seen_behind is_look p e.looked look.does)
-            f.is;
+        is = seen_then p.seen e.looked.seen q.seen look.does.more f.more (seen_by look.does) f.is;
         begins_none = lacks_append is_begin look.does.more f.more (part_lacks is_begin look begins_held
             (λ x h. grind arith)) f.begins_none;
         ended = λ here. at_behind look.does.more (end_at f.ends);

@@ -1,22 +1,21 @@
 -- The turns of a caller stay exact, whatever its next call is.
-use Rattle.mk_alloc.proofs.Vocabulary.{Bool, EndsExactly, Event, List, PassState, Some, Step, TurnsOfAreExact, ap}
-use Rattle.mk_alloc.proofs.Vocabulary.{append_assoc, arith, event_of, only_seen, own_before, refl, subst, sym, [], ◌++◌}
-use Rattle.mk_alloc.proofs.{Vocabulary.{◌∙◌, ◌∷◌, ◌≡◌}, OwnGives.{GivesNone, calls_give, does_give_none, doing_gives}}
-use Rattle.mk_alloc.{proofs.OwnGives.{none_more, one_gives, one_more, others_give}, specs.Laws.{StayExactWhereHeld}}
+use Rattle.mk_alloc.proofs.Vocabulary.{Bool, EndsExactly, Event, List, PassState, Some, Step, ap, append_assoc, arith}
+use Rattle.mk_alloc.proofs.Vocabulary.{event_of, only_seen, own_before, refl, subst, sym, [], ◌++◌, ◌∙◌, ◌∷◌, ◌≡◌}
+use Rattle.mk_alloc.proofs.OwnGives.{GivesNone, calls_give, does_give_none, doing_gives, none_more, one_gives, one_more}
+use Rattle.mk_alloc.{proofs.OwnGives.{others_give}, specs.Laws.{StayExactWhereHeld}}
 use Rattle.mk_alloc.specs.Laws.{OwnAreExact, StayExactBehindCalls, StayExactBehindOthers, StayExactBehindTurns}
 use Rattle.mk_waiting.proofs.TakesAlone.{taking_does}
 
 pub stay_exact_behind_calls : StayExactBehindCalls
 stay_exact_behind_calls on p o a q own called exact =
-    subst (λ (x : PassState). OwnAreExact on x) (sym called.is)
-    (none_more on p.table.config p.seat p.seen called.more (calls_give p o a called.more called.steps) exact)
+    rw called.is (none_more on p.table.config p.seat p.seen called.more (calls_give p o a called.more called.steps)
+    exact)
 
 pub stay_exact_where_held : StayExactWhereHeld
 stay_exact_where_held on p o q own held exact =
     let m = held.finds.makes in
-    subst (λ (x : PassState). OwnAreExact on x) (sym m.is) (subst (λ (l : List Event). TurnsOfAreExact on p.table.config
-    p.seat l) (sym (append_assoc p.seen m.others (event_of p (Step.Enter o) ∷ []))) (none_more on p.table.config p.seat
-    p.seen (m.others ++ event_of p (Step.Enter o) ∷ []) (one_gives m own refl) exact))
+    rw m.is (rw (← (append_assoc p.seen m.others (event_of p (Step.Enter o) ∷ []))) at (none_more on p.table.config
+    p.seat p.seen (m.others ++ event_of p (Step.Enter o) ∷ []) (one_gives m own refl) exact))
 
 -- after more that a pass has seen, in which its seat gave nothing back
 goes_on : (on : Bool) (p q : PassState) (more : List Event) → q ≡ record p { seen = p.seen ++ more }
@@ -42,5 +41,4 @@ stay_exact_behind_turns on p o a q own called exact =
 
 pub stay_exact_behind_others : StayExactBehindOthers
 stay_exact_behind_others on c s seats es fs has grows exact =
-    subst (λ (l : List Event). TurnsOfAreExact on c s l) (sym grows.is)
-    (none_more on c s es grows.more (others_give s seats grows.more has grows.of_others) exact)
+    rw grows.is (none_more on c s es grows.more (others_give s seats grows.more has grows.of_others) exact)

@@ -1,23 +1,23 @@
 -- What a Free is answered, and that its turn may go on and be given back.
-use Rattle.mk_alloc.proofs.Vocabulary.{Answer, At, BeginsTurn, Bool, Config, DecidesFree, Event, Flight, FreeIsExact}
+use Rattle.mk_alloc.proofs.Vocabulary.{Answer, At, BeginsTurn, Bool, Config, DecidesFree, Event, FreeIsExact}
 use Rattle.mk_alloc.proofs.Vocabulary.{FreesFirst, FreesObject, Has, Holding, InTurn, IsAnsweredDouble, IsDue, IsDueIn}
-use Rattle.mk_alloc.proofs.Vocabulary.{IsDueSince, IsFresh, IsHistory, IsOutOfStop, List, Makes, Moment, Op, PassState}
-use Rattle.mk_alloc.proofs.Vocabulary.{Placing, RunsIfDue, Seat, Some, Stage, Step, TakesTurn, TalliesAreTidy}
-use Rattle.mk_alloc.proofs.Vocabulary.{TurnGoesOn, TurnOf, Value, ℕ, ap, append_assoc, append_cancel_left, arith}
-use Rattle.mk_alloc.proofs.Vocabulary.{at_rest, call_of, caller_of_pass, cases_Bool, does_wider, false, finishes}
-use Rattle.mk_alloc.proofs.Vocabulary.{flight_of, has_place, has_step, inl, inr, is_begin, is_end, is_freeing}
-use Rattle.mk_alloc.proofs.Vocabulary.{is_loading, is_of_cycle, is_pending_free_at, left, none_is_held, now_of, or_from}
-use Rattle.mk_alloc.proofs.Vocabulary.{or_parts, pass_before, phase_of, refl, same_config, subst, sym, true, turn_stays}
-use Rattle.mk_alloc.proofs.{Vocabulary.{[], ⊎_elim, ◌++◌, ◌<◌, ◌∙◌, ◌∷◌, ◌≡◌}, CalledTurns.{GivenBack, Taken, called}}
-use Rattle.mk_alloc.proofs.CalledTurns.{lacks_given, phase_taken, registers_taken, taken_callers, taken_is, taken_turn}
-use Rattle.mk_alloc.proofs.{CalledTurns.{turn_of, within_is}, DueParts.{RunIn, at_behind, end_at, ends_before, run_in}}
-use Rattle.mk_alloc.proofs.{DueParts.run_list, Going.{IsCallers, callers_then, same_phase, then_on}}
-use Rattle.mk_alloc.proofs.ListParts.{InFirst, InSecond, IsAt, Lacks, SomeKind, cycle_in, lacks_append, lacks_at}
-use Rattle.mk_alloc.proofs.{ListParts.{lacks_first, none_at, only_at, stands}, Parts.{Part, part_lacks, seen_by}}
-use Rattle.mk_alloc.proofs.{Parts.seen_then, CycleParts.{EndsIn, begins_held}, Stretches.{SomeKinds, Within}}
+use Rattle.mk_alloc.proofs.Vocabulary.{IsDueSince, IsFresh, IsHistory, IsOutOfStop, List, Makes, Op, PassState, Placing}
+use Rattle.mk_alloc.proofs.Vocabulary.{RunsIfDue, Seat, Some, Stage, Step, TakesTurn, TalliesAreTidy, TurnGoesOn}
+use Rattle.mk_alloc.proofs.Vocabulary.{TurnOf, ℕ, ap, append_assoc, append_cancel_left, arith, at_rest, call_of}
+use Rattle.mk_alloc.proofs.Vocabulary.{caller_of_pass, cases_Bool, does_wider, false, finishes, has_place, has_step}
+use Rattle.mk_alloc.proofs.Vocabulary.{inl, inr, is_begin, is_end, is_freeing, is_loading, is_of_cycle}
+use Rattle.mk_alloc.proofs.Vocabulary.{is_pending_free_at, none_is_held, now_of, or_from, or_parts, pass_before}
+use Rattle.mk_alloc.proofs.Vocabulary.{phase_of, refl, same_config, subst, sym, true, turn_stays, [], ⊎_elim, ◌++◌, ◌<◌}
+use Rattle.mk_alloc.proofs.{Vocabulary.{◌∙◌, ◌∷◌, ◌≡◌}, CalledTurns.{GivenBack, Taken, called, lacks_given}}
+use Rattle.mk_alloc.proofs.CalledTurns.{phase_taken, registers_taken, taken_callers, taken_is, taken_turn, turn_of}
+use Rattle.mk_alloc.proofs.{CalledTurns.within_is, DueParts.{RunIn, at_behind, end_at, ends_before, run_in, run_list}}
+use Rattle.mk_alloc.proofs.{Going.{IsCallers, callers_then, same_phase, then_on}, ListParts.{InFirst, InSecond, IsAt}}
+use Rattle.mk_alloc.proofs.ListParts.{Lacks, SomeKind, cycle_in, lacks_append, lacks_at, lacks_first, none_at, only_at}
+use Rattle.mk_alloc.proofs.{ListParts.stands, Parts.{Part, part_lacks, seen_by, seen_then}}
+use Rattle.mk_alloc.proofs.{CycleParts.{EndsIn, begins_held}, Stretches.{SomeKinds, Within}}
 use Rattle.mk_laws.proofs.Vocabulary.{register_at}
 use Rattle.mk_never.specs.Admitted.{IsBase}
-use Rattle.mk_core.specs.{Counts.decides_freed, Cycles.{BeginsAndEndsIn, BeginsIn}}
+use Rattle.mk_core.specs.Cycles.{BeginsAndEndsIn, BeginsIn}
 use Rattle.mk_alloc.specs.TurnCycles.{CycleIsOn}
 use Rattle.mk_objects.specs.{Retired.{FindsFreed, Retires}, Retiring.IsUnloaded}
 use Rattle.mk_caller.specs.States as caller
@@ -28,16 +28,9 @@ abbrev pub is_quar : SomeKind
 is_quar (Step.Quar p v) = true
 is_quar _ = false
 
--- Only a `quar` frees.
-due_is_quar : (c : Config) (m : Moment) (f : Flight) (x : Step) → decides_freed c m f x ≡ true → is_quar x ≡ true
-due_is_quar c m f (Step.Quar p v) h = refl
-due_is_quar c m f _ h = cc
-
 pub not_due_without : {c : Config} {es : List Event} (more before : List Event) {e : Event} (behind : List Event)
     → Lacks is_quar more → more ≡ before ++ e ∷ behind → IsDue c es e → ⊥
-not_due_without {c} {es} more before {e = e} behind none is due =
-    lacks_at is_quar more before e behind none is (due_is_quar c (left c es).now
-    (flight_of (left c es).now e.seat) e.step due.decides)
+not_due_without {c} {es} more before {e = e} behind none is due = grind (arith, lacks_at, is_quar)
 
 begins_none : (es : List Event) → Lacks is_of_cycle es → Lacks is_begin es
 begins_none [] h = refl
@@ -227,8 +220,7 @@ unloaded {p} {taken} {r} seat own takes fresh history lt base =
     record {
       call = fresh.call;
       small = lt;
-      base = subst (λ (x : PassState). IsBase (caller.value_of (record x { seen = taken.seen }) r))
-          (sym (taken_is took)) (subst (λ (v : Value). IsBase v) (sym (same r lt)) base);
+      base = rw (taken_is took) (rw (← (same r lt)) at base);
     }
   where
     took : Taken (Op.Free r) p taken

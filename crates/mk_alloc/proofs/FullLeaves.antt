@@ -1,25 +1,22 @@
 -- Each own event of a call that is answered Full leaves all but what is released.
-use Rattle.mk_laws.proofs.Vocabulary.{Named, Store, Tally, Words, accessed, changed_at, get_or-set_other, holder_may}
-use Rattle.mk_laws.proofs.Vocabulary.{is_mapped, kinds_of, length-map, no_longer_fresh, placed_at, tally_word}
-use Rattle.mk_laws.proofs.{Vocabulary.with_released, Basics.{WorldBehind, exists_placed, stands_of, unmapped_is}}
-use Rattle.mk_laws.proofs.{GrantMoves.wiped_outside, ImagesBefore.words_are}
+use Rattle.mk_laws.proofs.Vocabulary.{changed_at, get_or-set_other, holder_may, is_mapped, kinds_of, length-map}
+use Rattle.mk_laws.proofs.{Vocabulary.{no_longer_fresh, placed_at, with_released}, Basics.{WorldBehind, exists_placed}}
+use Rattle.mk_laws.proofs.{Basics.{stands_of, unmapped_is}, GrantMoves.wiped_outside, ImagesBefore.words_are}
 use Rattle.mk_alloc.proofs.Vocabulary.{Bool, Cell, Config, Event, Flight, Has, IsHistory, List, Makes, Moment, Op}
 use Rattle.mk_alloc.proofs.Vocabulary.{Option, OwnLeaveAllButReleased, PassState, PlacedAllocation, Seat, Some, Step}
 use Rattle.mk_alloc.proofs.Vocabulary.{TakesTurn, World, ℕ, allocations_by, and_parts, ap, append_assoc, arith, call_of}
 use Rattle.mk_alloc.proofs.Vocabulary.{comes_last, event_of, false, flight_of, freed_where_it_stands, frees_none, inl}
-use Rattle.mk_alloc.proofs.Vocabulary.{inr, is_pending_free, is_same_seat, is_take, left, left_in_parts, length}
-use Rattle.mk_alloc.proofs.Vocabulary.{list_all, made, map, never_behind, none_freed, not, not-true, only_seen, or_left}
-use Rattle.mk_alloc.proofs.Vocabulary.{own_before, refl, same_seat, slice_index, stands, subst, sym, told_to_images}
-use Rattle.mk_alloc.proofs.Vocabulary.{true, true≢false, waits_for, world_behind, world_of, [], ◌++◌, ◌+◌, ◌<◌, ◌∙◌}
-use Rattle.mk_alloc.proofs.{Vocabulary.{◌∷◌, ◌≡◌, ◌≢◌, ◌⊎◌}, CalmStretches.{cycles_in_turn, goes_undecided}}
-use Rattle.mk_alloc.proofs.{CalmStretches.is_of_cycles, Stretches.{First, IsOwn, Stretch, Within, call_in}}
-use Rattle.mk_alloc.proofs.{Stretches.{does_stretch, first_of, first_part}, FreedTurns.is_quar, Going.IsCallers}
-use Rattle.mk_alloc.proofs.Parts.{Part, seen_after, seen_by}
+use Rattle.mk_alloc.proofs.Vocabulary.{inr, is_pending_free, is_same_seat, left, left_in_parts, length, list_all, made}
+use Rattle.mk_alloc.proofs.Vocabulary.{map, never_behind, none_freed, not, not-true, only_seen, or_left, own_before}
+use Rattle.mk_alloc.proofs.Vocabulary.{refl, same_seat, slice_index, stands, subst, sym, told_to_images, true}
+use Rattle.mk_alloc.proofs.Vocabulary.{true≢false, waits_for, world_behind, world_of, [], ◌++◌, ◌+◌, ◌<◌, ◌∙◌, ◌∷◌, ◌≡◌}
+use Rattle.mk_alloc.proofs.{Vocabulary.{◌≢◌, ◌⊎◌}, CalmStretches.{cycles_in_turn, goes_undecided, is_of_cycles}}
+use Rattle.mk_alloc.proofs.Stretches.{First, IsOwn, Stretch, Within, call_in, does_stretch, first_of, first_part}
+use Rattle.mk_alloc.proofs.{FreedTurns.is_quar, Going.IsCallers, Parts.{Part, seen_after, seen_by}}
 use Rattle.mk_core.proofs.RegisterAccesses.{tally_leaves_registers}
 use Rattle.mk_core.specs.{Growing.AreOfOthers, History.left_from, TurnConditions.may_wipe}
 use Rattle.mk_alloc.specs.Leaving.{KeepsItsWords, LeavesAllButReleased, OwnLeaveFrom, StaysOrIsReleased}
 use Rattle.mk_turns.proofs.Doing.{not_own}
-use Rattle.mk_waiting.proofs.TakesAlone.{own_take}
 
 -- the kinds of the call's own steps
 
@@ -31,31 +28,18 @@ is_of_full x = is_of_cycles x
 
 -- One step
 
-tally_globals : (w : Words) (n : Tally) (v : ℕ) → (accessed w (Named (tally_word n)) (Store v)).globals ≡ w.globals
-tally_globals w x1 v = grind arith
-
-tally_heap : (w : Words) (n : Tally) (v : ℕ) → (accessed w (Named (tally_word n)) (Store v)).heap ≡ w.heap
-tally_heap w x1 v = grind arith
-
 registers_stay : (c : Config) (w : World) (s : Seat) (x : Step) → is_of_full x ≡ true
     → (WorldBehind c w s x).now.words.registers ≡ w.now.words.registers
 registers_stay c w s x3 h = grind (arith, tally_leaves_registers)
 
 globals_stay : (c : Config) (w : World) (s : Seat) (x : Step) → is_of_full x ≡ true
     → (WorldBehind c w s x).now.words.globals ≡ w.now.words.globals
-globals_stay c w s x3 h = grind (arith, tally_globals)
+globals_stay c w s x3 h = grind arith
 
 -- allocations
 
 same_each : (xs ys : List PlacedAllocation) → ys ≡ xs → (a : ℕ) → StaysOrIsReleased (placed_at xs a) (placed_at ys a)
-same_each xs ys is a =
-    subst (λ (l : List PlacedAllocation). StaysOrIsReleased (placed_at xs a) (placed_at l a)) (sym is)
-    (record { same = refl; released = λ h. h })
-
-changed_each : (change : PlacedAllocation → PlacedAllocation) (xs : List PlacedAllocation) (a : ℕ) → StaysOrIsReleased
-    (placed_at xs a) (change (placed_at xs a)) → placed_at (map change xs) a ≡ change (placed_at xs a)
-    → StaysOrIsReleased (placed_at xs a) (placed_at (map change xs) a)
-changed_each change xs a h is = subst (λ (b : PlacedAllocation). StaysOrIsReleased (placed_at xs a) b) (sym is) h
+same_each xs ys is a = rw is (record { same = refl; released = λ h. h })
 
 each_stays : (c : Config) (m : Moment) (f : Flight) (x : Step) (xs : List PlacedAllocation) → is_of_full x ≡ true
     → (is_quar x ≡ true → is_pending_free f ≡ false) → (a : ℕ)
@@ -63,7 +47,7 @@ each_stays : (c : Config) (m : Moment) (f : Flight) (x : Step) (xs : List Placed
 each_stays c m f (Step.Quar p v) xs h free a =
     same_each xs (allocations_by c m f (Step.Quar p v) xs) (ap (λ (cell : Option Cell). map
     (freed_where_it_stands m.words cell) xs) (frees_none c.pages m.words f p v (free refl)) ∙ none_freed m.words xs) a
-each_stays c m f x4 xs h free a = grind (arith, changed_each, changed_at, or_left, same_each)
+each_stays c m f x4 xs h free a = grind (arith, changed_at, or_left, same_each)
 
 count_stays : (c : Config) (m : Moment) (f : Flight) (x : Step) (xs : List PlacedAllocation) → is_of_full x ≡ true
     → length (allocations_by c m f x xs) ≡ length xs
@@ -104,7 +88,7 @@ module _ (c : Config) (es : List Event) (s : Seat) (x : Step) (history : IsHisto
       by (Step.Wipe n) k may =
           get_or-set_other w.now.words.heap n ((placed_at w.allocations a).base + i) 0 0
           (wiped_apart n may a i mapped lt)
-      by x1 k may = grind (arith, tally_heap)
+      by x1 k may = grind arith
 
   pub step_leaves : is_of_full x ≡ true → (is_quar x ≡ true → is_pending_free (flight_of w.now s) ≡ false)
       → LeavesAllButReleased c w (WorldBehind c w s x)
@@ -115,10 +99,6 @@ module _ (c : Config) (es : List Event) (s : Seat) (x : Step) (history : IsHisto
     each = each_stays c w.now (flight_of w.now s) x w.allocations kind free;
     words = words_stay kind;
   }
-
-take_leaves : (c : Config) (w : World) (s : Seat) (x : Step) → is_take x ≡ true
-    → LeavesAllButReleased c w (WorldBehind c w s x)
-take_leaves c w s x3 h = grind (arith, same_each)
 
 -- lists
 
@@ -148,7 +128,7 @@ unfolding OwnLeaveFrom
 waits_own p w [] has all = tt
 waits_own p w (e ∷ es) has all =
     let parts = and_parts (waits_for p e) (list_all (waits_for p) es) all in (
-      λ same. take_leaves p.table.config w e.seat e.step (own_take p e has parts.0 same),
+      λ same. grind (arith, same_each),
       waits_own p (world_behind p.table.config w e) es has parts.1,
     )
 
@@ -157,8 +137,8 @@ last_own : {c : Config} (s : Seat) (es xs : List Event) (e : Event) → OwnLeave
     → LeavesAllButReleased c (left c (es ++ xs)) (world_behind c (left c (es ++ xs)) e)
     → OwnLeaveFrom c s (left c es) (xs ++ e ∷ [])
 last_own {c} s es xs e first last =
-    own_append c s (left c es) xs (e ∷ []) first (subst (λ (w : World). OwnLeaveFrom c s w (e ∷ []))
-    (left_in_parts c es xs) (one_own c s (left c (es ++ xs)) e (λ same. last)))
+    own_append c s (left c es) xs (e ∷ []) first (rw (left_in_parts c es xs) at (one_own c s (left c (es ++ xs)) e
+    (λ same. last)))
 
 -- parts of a turn
 
@@ -199,8 +179,7 @@ unfolding OwnLeaveFrom
 cycles_left seat own es [] free s = tt
 cycles_left {p} seat own es (e ∷ rest) free s = (
   λ same. leaves same f.who,
-  subst (λ (w : World). OwnLeaveFrom c p.seat w rest) f.at.behind
-      (cycles_left seat own (es ++ e ∷ []) rest (ap (λ (x : Flight). is_pending_free x)
+  rw f.at.behind at (cycles_left seat own (es ++ e ∷ []) rest (ap (λ (x : Flight). is_pending_free x)
       (goes_undecided p seat own free (first_part p is_of_cycles es (e ∷ []) rest s)).call ∙ free) f.on),
 )
   where

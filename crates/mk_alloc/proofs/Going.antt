@@ -1,15 +1,15 @@
 -- Parts of a turn in which it goes on: the parts of cycles decide nothing, and what goes on in two parts goes on.
 use Rattle.mk_alloc.proofs.Vocabulary.{Acts, Answer, BeginsCycle, Bool, Caller, Config, Decided, Does, Done, Event}
 use Rattle.mk_alloc.proofs.Vocabulary.{FinishesCycle, Flight, InTurn, IsEnabledTo, IsHistory, IsOutOfStop, IsQuiet}
-use Rattle.mk_alloc.proofs.Vocabulary.{KeepsGates, LeavesTurn, List, Looks, Moment, None, Op, Option, PassState}
+use Rattle.mk_alloc.proofs.Vocabulary.{KeepsGates, LeavesTurn, List, Looks, None, Op, Option, PassState}
 use Rattle.mk_alloc.proofs.Vocabulary.{PlacedAllocation, Some, Stage, Steady, Step, TalliesAreTidy, TurnGoesOn, ℕ}
 use Rattle.mk_alloc.proofs.Vocabulary.{and_from, ap, append-nil, arith, call_of, caller_of_pass, calm_keeps}
 use Rattle.mk_alloc.proofs.Vocabulary.{does_nothing, ends, entry_of, eq-eqb, free_then, fresh_words_of, full_answers}
 use Rattle.mk_alloc.proofs.Vocabulary.{gates_behind, gone_is_unmapped, has_place, held_by_allocations, in_a_word, inl}
-use Rattle.mk_alloc.proofs.Vocabulary.{inr, is_look, is_pending_free, is_run_gone, now_of, off_four, or_left, own_calls}
-use Rattle.mk_alloc.proofs.Vocabulary.{phase_of, refl, releases, same_config, steady_of, subst, sym, true, turn_stays}
-use Rattle.mk_alloc.proofs.Vocabulary.{unchanged, world_of, ◌&&◌, ◌++◌, ◌==◌, ◌||◌, ◌∙◌, ◌≡◌, ◌⊎◌}
-use Rattle.mk_laws.proofs.Vocabulary.{IsSettled, Word, held_by_pages, is_decided}
+use Rattle.mk_alloc.proofs.Vocabulary.{inr, is_look, is_pending_free, now_of, off_four, or_left, own_calls, phase_of}
+use Rattle.mk_alloc.proofs.Vocabulary.{refl, releases, same_config, steady_of, subst, sym, true, turn_stays, unchanged}
+use Rattle.mk_alloc.proofs.Vocabulary.{world_of, ◌++◌, ◌==◌, ◌||◌, ◌∙◌, ◌≡◌, ◌⊎◌}
+use Rattle.mk_laws.proofs.Vocabulary.{Word}
 use Rattle.mk_core.specs.Counts.{TalliesAreExact}
 use Rattle.mk_alloc.proofs.CalmStretches.{cycles_in_turn, goes_undecided, is_of_cycles}
 use Rattle.mk_alloc.proofs.Stretches.{does_both, does_once, does_stretch, widened}
@@ -73,15 +73,8 @@ same_phase p q e (inr one) = inr (e ∙ one)
 -- So a turn stays quiet
 
 pub quiet_kept : {p q : PassState} → IsQuiet p → LeavesTurn unchanged p q → KeepsGates p q → IsQuiet q
-quiet_kept {p} {q} quiet k gates = record {
-  free = free_then p q k.call quiet.free;
-  phase = same_phase p q (ap (λ (s : Steady). s.phase) k.steady) quiet.phase;
-  gates = none_held_kept p q k.call.pass gates quiet.gates;
-  exact = exact_kept p q k.call.pass (ap but_full k.steady) quiet.exact;
-  tidy = tidy_kept p q (ap but_full k.steady) k.counts.ends
-      (ap (λ (s : Steady). s.full) k.steady ∙ quiet.tidy.full ∙ ap in_a_word (sym k.counts.fulls)
-      ∙ ap (λ (c : Config). in_a_word (full_answers c q.seen)) (sym (same_config p q k.call.pass))) quiet.tidy;
-}
+quiet_kept quiet k gates =
+    grind (arith, free_then, same_phase, none_held_kept, exact_kept, but_full, tidy_kept, same_config)
 
 -- where it looks, begins a cycle, or finishes one.
 
@@ -121,20 +114,8 @@ give_phase n (inl none) = or_left ((n == 0) || (n == 1)) (n == 5) (or_left (n ==
 give_phase n (inr one) = ap (λ (i : ℕ). (i == 0) || (i == 1) || (i == 5)) one
 
 pub give_allowed : {p : PassState} → InTurn p → IsQuiet p → (call_of p).stage ≡ Stage.Give → IsEnabledTo p Step.Give
-give_allowed {p} t quiet decided =
-    let m : Moment = now_of p in
-    let settled : IsSettled (world_of p) = record {
-      releasing = off_four m quiet.phase;
-      placing = quiet.free.unplaced;
-      unmapped = gone_is_unmapped m.words m.seats.holding.freed quiet.free.gone;
-    } in
-    let told = settled_tallies p.table.config p.seen t.history settled quiet.exact in
-    may_act p Step.Give (protocol p t quiet.free) t.holds quiet.free.decided refl refl quiet.gates
-    (give_phase _ quiet.phase) (and_from (is_decided (call_of p).stage && is_run_gone m.words m.seats.holding.freed
-    && (m.words.held == held_by_pages m.words)) (m.words.fresh == m.fresh_words) (and_from
-    (is_decided (call_of p).stage && is_run_gone m.words m.seats.holding.freed) (m.words.held == held_by_pages m.words)
-    (and_from (is_decided (call_of p).stage) _ (ap (λ (s : Stage). is_decided s) decided) quiet.free.gone)
-    (eq-eqb m.words.held _ told.0)) (eq-eqb m.words.fresh m.fresh_words told.1))
+give_allowed t quiet decided =
+    grind (arith, off_four, gone_is_unmapped, settled_tallies, may_act, protocol, give_phase, and_from, eq-eqb)
 
 -- the pass of a caller
 abbrev pub IsCallers : PassState → Type 0

@@ -1,14 +1,13 @@
 -- Parts of a New's turn: what was granted in them, and what is let go after that.
-use Rattle.std.proofs.Common.{IsSome}
 use Rattle.mk_alloc.proofs.Vocabulary.{AsksRoom, At, BeginsCycle, Config, Does, Event, FinishesCycle, GrantsNone}
-use Rattle.mk_alloc.proofs.Vocabulary.{HasNoPlace, InTurn, IsHistory, List, None, Object, Option, PassState, Place}
-use Rattle.mk_alloc.proofs.Vocabulary.{Storage, ap, append-nil, append_assoc, append_cancel_left, arith, asks_room}
-use Rattle.mk_alloc.proofs.Vocabulary.{call_of, false, has_step, is_grant, is_pending_free, lets_go, place_after, refl}
-use Rattle.mk_alloc.{proofs.Vocabulary.{subst, sym, [], ⊎_elim, ◌++◌, ◌∙◌, ◌∷◌, ◌≡◌}, specs.Rooms.{GrantsLast}}
-use Rattle.mk_alloc.proofs.CycleParts.{closing, gives_room_back, part_behind_closing, part_closing}
-use Rattle.mk_alloc.proofs.ListParts.{InFirst, InSecond, Lacks, lacks_append, lacks_at, lacks_second, stands}
-use Rattle.mk_alloc.proofs.Parts.{AreApart, Part, part_lacks, seen_behind, seen_by, seen_by_both}
-use Rattle.mk_alloc.proofs.Stretches.{SomeKinds, Stretch, does_both, does_once, does_stretch, first_part, widened}
+use Rattle.mk_alloc.proofs.Vocabulary.{HasNoPlace, InTurn, IsHistory, List, None, Object, PassState, Storage, ap}
+use Rattle.mk_alloc.proofs.Vocabulary.{append-nil, append_assoc, append_cancel_left, arith, asks_room, call_of, false}
+use Rattle.mk_alloc.proofs.Vocabulary.{has_step, is_grant, is_pending_free, lets_go, place_after, refl, sym, [], ⊎_elim}
+use Rattle.mk_alloc.proofs.{Vocabulary.{◌++◌, ◌∙◌, ◌∷◌, ◌≡◌}, CycleParts.{closing, gives_room_back}}
+use Rattle.mk_alloc.proofs.{CycleParts.{part_behind_closing, part_closing}, ListParts.{InFirst, InSecond, Lacks}}
+use Rattle.mk_alloc.proofs.{ListParts.{lacks_append, lacks_at, lacks_second, stands}, Parts.{AreApart, Part}}
+use Rattle.mk_alloc.proofs.{Parts.{part_lacks, seen_by, seen_by_both}, Stretches.{SomeKinds, does_both, does_once}}
+use Rattle.mk_alloc.{proofs.Stretches.{does_stretch, first_part, widened}, specs.Rooms.{GrantsLast}}
 use Rattle.mk_alloc.proofs.{CalmStretches.{releases_none, stays_reserved}, Going.IsCallers}
 use Rattle.mk_geom.specs.Storages.{Fits}
 
@@ -81,8 +80,7 @@ module _ {first second : SomeKinds} {p q r : PassState} (one : Does first p q) (
 
   pub last_behind : GrantsNone p q → GrantsLast q r → GrantsLast p r
   last_behind none last all is =
-      subst (λ (l : List Event). LastIn l) (sym (both_are all is))
-      (last_then one.more two.more (none one.more (seen_by one)) (last two.more (seen_by two)))
+      rw (both_are all is) (last_then one.more two.more (none one.more (seen_by one)) (last two.more (seen_by two)))
 
 -- Where a New asks for room: its cycle's begin and its end come while its object has no place.
 
@@ -91,17 +89,11 @@ module _ {first second : SomeKinds} {p q r : PassState} (one : Does first p q) (
 abbrev NoRoom : Config → Object → List Storage → Type 0
 NoRoom c o xs = Fits c.pages c.resident o.words o.leaf xs → ⊥
 
-none_fits : (x : Option Place) → x ≡ None → IsSome x → ⊥
-none_fits x0 is h = grind arith
-
-fits_none : (x : Option Place) → (IsSome x → ⊥) → x ≡ None
-fits_none x0 h = grind arith
-
 pub no_place : (c : Config) (es : List Event) (o : Object) → place_after c es o ≡ None → HasNoPlace c o es
-no_place c es o none fits = none_fits (place_after c es o) none fits
+no_place c es o none fits = grind arith
 
 pub nowhere_then : (c : Config) (es : List Event) (o : Object) → HasNoPlace c o es → place_after c es o ≡ None
-nowhere_then c es o none = fits_none (place_after c es o) none
+nowhere_then c es o none = grind arith
 
 -- Where all that was seen since asks for no room, or the object has no place at each of it.
 
@@ -110,15 +102,14 @@ pub room_lacks : {kinds : SomeKinds} {p q : PassState} (o : Object) → Part kin
 room_lacks {kinds} {p} {q} o x apart part e behind is asks =
     absurd (lacks_at asks_room x.does.more part e behind (part_lacks asks_room x (λ x h. grind arith) apart)
     (append_cancel_left p.seen x.does.more (part ++ e ∷ behind)
-    (sym (seen_behind kinds p q x.does) ∙ is ∙ append_assoc p.seen part (e ∷ behind))) asks)
+    (sym (seen_by x.does) ∙ is ∙ append_assoc p.seen part (e ∷ behind))) asks)
 
 pub room_then : {first second : SomeKinds} {p q r : PassState} (o : Object) → Does first p q → Does second q r
     → AsksRoom o p q → AsksRoom o q r → AsksRoom o p r
 room_then {first} {second} {p} {q} {r} o one two a b part e behind is asks =
-    let seen = seen_behind second q r two in
+    let seen = seen_by two in
     ⊎_elim (λ (x : InFirst q.seen (p.seen ++ part) e). a part e x.behind x.is asks) (λ (x : InSecond q.seen two.more
-    (p.seen ++ part) e behind). subst (λ (l : List Event). HasNoPlace p.table.config o l) (sym x.first)
-    (subst (λ (c : Config). HasNoPlace c o (q.seen ++ x.rest)) (ap (λ (y : PassState). y.table.config) one.is) (b x.rest
+    (p.seen ++ part) e behind). rw x.first (rw (ap (λ (y : PassState). y.table.config) one.is) at (b x.rest
     e behind (seen ∙ ap (λ (l : List Event). q.seen ++ l) x.is ∙ sym (append_assoc q.seen x.rest (e ∷ behind))) asks)))
     (stands _ two.more (p.seen ++ part) e behind (sym seen ∙ is))
 
@@ -127,19 +118,16 @@ module _ {p q : PassState} (o : Object) (seat : IsCallers p) (free : is_pending_
     (none : HasNoPlace p.table.config o p.seen) (x : Part releases_none p q) where
   none_there : (part rest : List Event) → x.does.more ≡ part ++ rest → HasNoPlace p.table.config o (p.seen ++ part)
   none_there part rest is =
-      subst (λ (xs : List Storage). NoRoom p.table.config o xs) (sym (stays_reserved p seat x.turn.own free
-      (first_part p releases_none p.seen part rest (subst (λ (l : List Event). Stretch p releases_none p.seen l) is
-      (does_stretch x.does x.history x.turn.holds)))).storage) none
+      rw ((stays_reserved p seat x.turn.own free (first_part p releases_none p.seen part rest
+      (rw is at (does_stretch x.does x.history x.turn.holds)))).storage) none
 
   pub room_kept : AsksRoom o p q
   room_kept part e behind is asks =
       none_there part (e ∷ behind) (append_cancel_left p.seen x.does.more (part ++ e ∷ behind)
-      (sym (seen_behind releases_none p q x.does) ∙ is ∙ append_assoc p.seen part (e ∷ behind)))
+      (sym (seen_by x.does) ∙ is ∙ append_assoc p.seen part (e ∷ behind)))
 
   pub none_behind : HasNoPlace p.table.config o q.seen
-  none_behind =
-      subst (λ (l : List Event). HasNoPlace p.table.config o l) (sym (seen_behind releases_none p q x.does))
-      (none_there x.does.more [] (sym (append-nil x.does.more)))
+  none_behind = rw (seen_by x.does) (none_there x.does.more [] (sym (append-nil x.does.more)))
 
 -- So it is after a `begin`, and up to the `close` of a cycle.
 pub part_begun : {p q : PassState} → BeginsCycle p q → InTurn p → IsHistory q.table.config q.seen

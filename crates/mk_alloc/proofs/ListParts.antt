@@ -79,10 +79,7 @@ only_at kind xs e ys none_before none_behind at =
   where
     by : (rest : List Event) → at.before ≡ xs ++ rest → e ∷ ys ≡ rest ++ at.event ∷ at.behind
         → IsAt xs ys at.before at.behind
-    by [] first is = record {
-      before_is = first ∙ append-nil xs;
-      behind_is = sym (let tail : ys ≡ at.behind = cc in tail);
-    }
+    by [] first is = record { before_is = first ∙ append-nil xs; behind_is = sym (cc) }
     by (r ∷ rs) first is =
         let tail : ys ≡ rs ++ at.event ∷ at.behind = cc in
         absurd (lacks_at kind ys rs at.event at.behind none_behind tail at.of_kind)

@@ -1,39 +1,29 @@
 -- What the turn of a New does with cycles, and what it is answered.
 use Rattle.mk_laws.proofs.Vocabulary.{Page, histories_keep_lengths, or_right, uses_of_pages}
-use Rattle.mk_laws.proofs.{InvariantTheorems.pages_show_the_storage, PlacementTheorems.fulls_fit_nowhere}
+use Rattle.mk_laws.proofs.{InvariantHistories.pages_show_the_storage, PlacementTheorems.fulls_fit_nowhere}
 use Rattle.mk_alloc.proofs.Vocabulary.{Answer, AnswersFull, At, BeginsTurn, Bool, CalledInTurn, Config, Event, Flight}
-use Rattle.mk_alloc.proofs.Vocabulary.{HasNoPlace, Holding, InTurn, IsAnsweredFull, IsHistory, IsQuiet, IsUnplaced}
-use Rattle.mk_alloc.proofs.Vocabulary.{List, Makes, Misfits, Object, Op, PassState, PlacedAllocation, RunsOne}
-use Rattle.mk_alloc.proofs.Vocabulary.{RunsOneCycle, Seeks, Some, Steady, Step, TurnOf, World, ℕ, and_from, ap}
-use Rattle.mk_alloc.proofs.Vocabulary.{append_assoc, append_cancel_left, arith, asks_room, at_rest, call_of, event_of}
-use Rattle.mk_alloc.proofs.Vocabulary.{false, gone_is_unmapped, has_operands, has_place, is_begin, is_grant}
-use Rattle.mk_alloc.proofs.Vocabulary.{is_pending_free, is_run_gone, is_undecided_new, is_want, length, lets_go, lt-ltb}
-use Rattle.mk_alloc.proofs.Vocabulary.{made, now_of, object_for, object_made, off_four, only_seen, only_seen_by}
-use Rattle.mk_alloc.proofs.Vocabulary.{or_left, pass_before, refl, subst, sym, true, turn_stays, unreleased_storage}
-use Rattle.mk_alloc.proofs.Vocabulary.{within_turn, world_of, [], ⊎_elim, ◌&&◌, ◌++◌, ◌<◌, ◌∙◌, ◌∷◌, ◌≡◌}
-use Rattle.mk_alloc.proofs.CalledTurns.{GivenBack, Taken, called, done_is, given_turn, lacks_given, taken_is}
-use Rattle.mk_alloc.proofs.{CalledTurns.{taken_turn, turn_of, within_is}, FullLeaves.{leaves_then, made_leaves}}
-use Rattle.mk_alloc.proofs.{FullLeaves.taking_leaves, ListParts.{InFirst, InSecond, SomeKind, lacks_at, stands}}
-use Rattle.mk_alloc.proofs.{Parts.{history_before, in_turn_then, seen_after, seen_by}, CycleParts.begins_held}
-use Rattle.mk_alloc.{proofs.{GrantParts.last_before, OneCycles.one_before}, specs.TurnCycles.{NewIsExact}}
+use Rattle.mk_alloc.proofs.Vocabulary.{HasNoPlace, Holding, InTurn, IsAnsweredFull, IsQuiet, IsUnplaced, List, Makes}
+use Rattle.mk_alloc.proofs.Vocabulary.{Misfits, Object, Op, PassState, PlacedAllocation, RunsOne, RunsOneCycle, Seeks}
+use Rattle.mk_alloc.proofs.Vocabulary.{Some, Steady, Step, TurnOf, World, ℕ, and_from, ap, append_assoc}
+use Rattle.mk_alloc.proofs.Vocabulary.{append_cancel_left, arith, asks_room, at_rest, call_of, event_of, false}
+use Rattle.mk_alloc.proofs.Vocabulary.{gone_is_unmapped, has_operands, is_begin, is_grant, is_undecided_new, is_want}
+use Rattle.mk_alloc.proofs.Vocabulary.{length, lets_go, lt-ltb, made, now_of, object_for, object_made, off_four}
+use Rattle.mk_alloc.proofs.Vocabulary.{only_seen, only_seen_by, or_left, pass_before, refl, subst, sym, true}
+use Rattle.mk_alloc.proofs.Vocabulary.{turn_stays, unreleased_storage, within_turn, world_of, [], ⊎_elim, ◌&&◌, ◌++◌}
+use Rattle.mk_alloc.proofs.{Vocabulary.{◌<◌, ◌∙◌, ◌∷◌, ◌≡◌}, CalledTurns.{GivenBack, Taken, called, done_is}}
+use Rattle.mk_alloc.proofs.CalledTurns.{given_turn, lacks_given, taken_is, taken_turn, turn_of, within_is}
+use Rattle.mk_alloc.proofs.{FullLeaves.{leaves_then, made_leaves, taking_leaves}, ListParts.{InFirst, InSecond}}
+use Rattle.mk_alloc.proofs.{ListParts.{SomeKind, lacks_at, stands}, Parts.{history_before, in_turn_then, seen_after}}
+use Rattle.mk_alloc.proofs.{Parts.seen_by, CycleParts.begins_held, GrantParts.last_before, OneCycles.one_before}
 use Rattle.mk_geom.proofs.Bridge.{same_census}
 use Rattle.mk_geom.specs.{PageUses.census_among, Storages.census_of, declared.pages.Census.Census}
 use Rattle.mk_core.specs.Allocations.{census_of_allocations}
+use Rattle.mk_alloc.specs.TurnCycles.{NewIsExact}
 
 -- Directly after its `take` the turn of a New is quiet, and its object has no place yet.
 
 pub begun_quiet : {p : PassState} {d ty : ℕ} {full : Bool} → BeginsTurn (Op.New d ty full) p → IsQuiet p
-begun_quiet {p} b = record {
-  free = record {
-    decided = ap (λ (f : Flight). is_pending_free f) b.fresh.call;
-    unplaced = ap (λ (h : Holding). has_place h.placing) b.fresh.holding;
-    gone = ap (λ (h : Holding). is_run_gone (now_of p).words h.freed) b.fresh.holding;
-  };
-  phase = b.phase;
-  gates = b.fresh.gates;
-  exact = b.exact;
-  tidy = b.tidy;
-}
+begun_quiet b = grind arith
 
 pub begun_unplaced : {p : PassState} {d ty : ℕ} {full : Bool} → BeginsTurn (Op.New d ty full) p → IsUnplaced p
 begun_unplaced b = record {
@@ -107,13 +97,14 @@ pub census_told : {p : PassState} {pages : List Page} {census : Census} → InTu
 census_told {p} t quiet shows is =
     let c : Config = p.table.config in
     let pages : List Page = (now_of p).words.pages in
-    let shown = pages_show_the_storage c p.seen t.history (record {
+    is ∙ ap (λ (xs : List Page). census_among (uses_of_pages xs)) shows
+    ∙ same_census pages (unreleased_storage c (world_of p).allocations) (pages_show_the_storage c p.seen t.history
+    (record {
       releasing = off_four (now_of p) quiet.phase;
       placing = quiet.free.unplaced;
-      unmapped = gone_is_unmapped (now_of p).words (now_of p).seats.holding.freed quiet.free.gone;
-    }) in
-    is ∙ ap (λ (xs : List Page). census_among (uses_of_pages xs)) shows
-    ∙ same_census pages (unreleased_storage c (world_of p).allocations) shown ∙ ap
+      unmapped = gone_is_unmapped
+          (now_of p).words (now_of p).seats.holding.freed quiet.free.gone;
+    })) ∙ ap
     (λ (n : ℕ). census_of n (unreleased_storage c (world_of p).allocations)) (histories_keep_lengths c p.seen).pages
 
 -- Giving the turn back leaves the allocations.
@@ -153,8 +144,8 @@ module _ {d ty : ℕ} {p taken last done q : PassState} (m : NewGiven d ty Answe
     before = full.before;
     behind = behind;
     is = seen_is;
-    full = fulls_fit_nowhere p.table.config q.seen (subst (λ (x : PassState). IsHistory x.table.config q.seen) q_is
-        m.gives.pass.history) full.before (event_of p Step.Full) behind seen_is refl;
+    full = fulls_fit_nowhere p.table.config q.seen (rw q_is at m.gives.pass.history) full.before (event_of p Step.Full)
+        behind seen_is refl;
     counts =
         told ∙ ap (λ (x : PassState). census_of_allocations x.table.config (world_of last).allocations) last_is
         ∙ ap (λ (xs : List PlacedAllocation). census_of_allocations p.table.config xs)

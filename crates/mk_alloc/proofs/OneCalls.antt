@@ -1,7 +1,7 @@
 -- The one call of a pass's caller among some events: what comes before the event that decides it, and after it, is of
 -- others.
 use Rattle.std.proofs.Common.{length-append}
-use Rattle.mk_laws.proofs.Vocabulary.{calls_from, first_world, flagged, length}
+use Rattle.mk_laws.proofs.Vocabulary.{calls_from, flagged, length}
 use Rattle.mk_alloc.proofs.Vocabulary.{Answer, Bool, Config, Decided, Event, IsHistory, List, Op, PassState, ℕ, ap}
 use Rattle.mk_alloc.proofs.Vocabulary.{append_assoc, arith, by_append, call_decided, caller_of_pass, calls, calls_by}
 use Rattle.mk_alloc.proofs.Vocabulary.{calls_in_parts, calls_more, earlier_part_is_history, eq-eqb, if◌then◌else◌, left}
@@ -62,20 +62,16 @@ module _ {p : PassState} {o : Op} {a : Answer} {more : List Event} (once : flagg
 
   own_through : own_calls p (through_call d) ≡ (own_calls p p.seen ++ earlier) ++ calls_by k (x ∷ [])
   own_through =
-      ap (λ (l : List Decided). calls_by k l) (calls_more c (first_world c) (before_call d) d.event
-      ∙ ap (λ (l : List Decided). calls c (before_call d) ++ l) decides
-      ∙ ap (λ (l : List Decided). l ++ x ∷ []) (calls_in_parts c p.seen d.before))
-      ∙ by_append k (calls c p.seen ++ calls_from c (left c p.seen) d.before) (x ∷ [])
-      ∙ ap (λ (l : List Decided). l ++ calls_by k (x ∷ []))
-      (by_append k (calls c p.seen) (calls_from c (left c p.seen) d.before))
-
-  own_one : calls_by k (x ∷ []) ≡ x ∷ []
-  own_one = ap (λ (b : Bool). if b then x ∷ [] else []) (eq-eqb k k refl)
+      ap (λ (l : List Decided). calls_by k l) (calls_more c _ (before_call d) d.event ∙ ap (λ (l : List Decided). calls
+      c (before_call d) ++ l) decides ∙ ap (λ (l : List Decided). l ++ x ∷ []) (calls_in_parts c p.seen d.before))
+      ∙ by_append k (calls c p.seen ++ calls_from c (left c p.seen) d.before) (x ∷ []) ∙ ap (λ (l : List Decided). l ++
+      calls_by k (x ∷ [])) (by_append k (calls c p.seen) (calls_from c (left c p.seen) d.before))
 
   none : (earlier ≡ []) × (later ≡ [])
   none =
       only_one _ earlier later x (ap (λ (l : List Decided). l ++ later) (sym
-      (own_through ∙ ap (λ (l : List Decided). (own_calls p p.seen ++ earlier) ++ l) own_one)) ∙ sym (by_append k (calls
+      (own_through ∙ ap (λ (l : List Decided). (own_calls p p.seen ++ earlier) ++ l)
+      (ap (λ (b : Bool). if b then x ∷ [] else []) (eq-eqb k k refl)))) ∙ sym (by_append k (calls
       c (through_call d)) (calls_from c (left c (through_call d)) d.behind)) ∙ ap (λ (l : List Decided). calls_by k l)
       (sym (calls_in_parts c (through_call d) d.behind)) ∙ ap (λ (l : List Event). own_calls p l) (sym cut) ∙ entry)
 

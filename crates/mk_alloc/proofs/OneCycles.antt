@@ -4,7 +4,7 @@ use Rattle.mk_alloc.proofs.Vocabulary.{IsPlaced, List, PassState, RunsOne, RunsO
 use Rattle.mk_alloc.proofs.Vocabulary.{has_step, is_begin, is_end, is_look, subst, sym, ⊎_elim, ◌++◌, ◌∙◌, ◌∷◌, ◌≡◌}
 use Rattle.mk_alloc.proofs.{CycleParts.{begin_in, begins_held, finish_in}, DueParts.{at_behind, end_at}}
 use Rattle.mk_alloc.proofs.ListParts.{InFirst, InSecond, Lacks, lacks_append, lacks_at, none_at, only_at, stands}
-use Rattle.mk_alloc.proofs.{Parts.{AreApart, Part, part_lacks, seen_behind, seen_then}, Going.look_part}
+use Rattle.mk_alloc.proofs.{Parts.{AreApart, Part, part_lacks, seen_by, seen_then}, Going.look_part}
 use Rattle.mk_alloc.proofs.{GrantParts.first_behind, PlacedTurns.place_part, Stretches.SomeKinds}
 use Rattle.mk_laws.proofs.Longer.{longer_at}
 use Rattle.mk_alloc.specs.Rooms.{EndsOnly}
@@ -48,7 +48,7 @@ one_run xs e {ys = ys} none_before none_behind ended b =
 pub begins_none_by : {kinds : SomeKinds} {p q : PassState} → Part kinds p q → AreApart kinds is_begin → BeginsNone p q
 begins_none_by {kinds} {p} {q} x apart = record {
   more = x.does.more;
-  is = seen_behind kinds p q x.does;
+  is = seen_by x.does;
   none = part_lacks is_begin x begins_held apart;
 }
 

@@ -6,9 +6,9 @@ use Rattle.mk_alloc.proofs.Vocabulary.{PassState, Seat, Stage, Step, TurnsOfAreE
 use Rattle.mk_alloc.proofs.Vocabulary.{append-nil, are_of, arith, event_of, false, found, if◌then◌else◌, is_same_seat}
 use Rattle.mk_alloc.proofs.Vocabulary.{list_all, list_any-append, map, not, not-true, not_both, or_from, or_parts}
 use Rattle.mk_alloc.proofs.Vocabulary.{own_steps, refl, same_seat, same_self, stages_made, step_at, subst, sym, true}
-use Rattle.mk_alloc.proofs.Vocabulary.{true≢false, turn_stays, world_behind, world_of, [], ⊎_elim, ◌&&◌, ◌++◌, ◌∙◌, ◌∷◌}
-use Rattle.mk_alloc.proofs.{Vocabulary.◌≡◌, ListParts.{InFirst, InSecond, stands}}
-use Rattle.mk_core.specs.{Cycles.is_give, Growing.{AreOfOthers, own_from}}
+use Rattle.mk_alloc.proofs.Vocabulary.{turn_stays, world_behind, world_of, [], ⊎_elim, ◌&&◌, ◌++◌, ◌∙◌, ◌∷◌, ◌≡◌}
+use Rattle.mk_core.specs.{Cycles.is_give, Growing.AreOfOthers, Growing.own_from}
+use Rattle.mk_alloc.proofs.ListParts.{InFirst, InSecond, stands}
 use Rattle.mk_caller.specs.Called.{steps_made}
 use Rattle.mk_turns.specs.Doing.{done_in}
 
@@ -22,18 +22,10 @@ pub gives_append : (s : Seat) (xs ys : List Event) → GivesNone s xs → GivesN
 gives_append s xs ys one two =
     list_any-append (own_give s) xs ys ∙ or_from (list_any (own_give s) xs) (list_any (own_give s) ys) one two
 
-is_own_give : (s : Seat) (e : Event) → e.step ≡ Step.Give → e.seat ≡ s → own_give s e ≡ true
-is_own_give s e give same =
-    and_from (is_same_seat s e.seat) (is_give e.step)
-    (subst (λ (t : Seat). is_same_seat s t ≡ true) (sym same) (same_self s)) (ap (λ (x : Step). is_give x) give)
-
 gives_at : (s : Seat) (es before : List Event) (e : Event) (behind : List Event) → GivesNone s es → es
     ≡ before ++ e ∷ behind → e.step ≡ Step.Give → e.seat ≡ s → ⊥
 gives_at s es before e behind none is give same =
-    let whole : GivesNone s (before ++ e ∷ behind) = subst (λ (l : List Event). GivesNone s l) is none in
-    let parts = or_parts (list_any (own_give s) before) (list_any (own_give s) (e ∷ behind))
-    (sym (list_any-append (own_give s) before (e ∷ behind)) ∙ whole) in
-    true≢false (sym (is_own_give s e give same) ∙ (or_parts (own_give s e) (list_any (own_give s) behind) parts.1).0)
+    grind (arith, or_parts, own_give, list_any-append, and_from, same_self)
 
 -- Turns stay exact where none more is given back,
 pub none_more : (on : Bool) (c : Config) (s : Seat) (es more : List Event) → GivesNone s more
@@ -129,7 +121,4 @@ calls_give p o a more steps =
 -- What is made by one step, which isn't a `give`.
 pub one_gives : {p : PassState} {x : Step} {q : PassState} (m : Makes p x q) → Has p.seats p.seat → is_give x ≡ false
     → GivesNone p.seat (m.others ++ event_of p x ∷ [])
-one_gives {p} {x} m has none =
-    gives_append p.seat m.others (event_of p x ∷ []) (others_give p.seat p.seats m.others has m.of_others)
-    (or_from (own_give p.seat (event_of p x)) false
-    (ap (λ (b : Bool). is_same_seat p.seat p.seat && b) none ∙ and-false (is_same_seat p.seat p.seat)) refl)
+one_gives m has none = grind (arith, gives_append, others_give, or_from, own_give, and-false)

@@ -1,9 +1,9 @@
 -- Parts of a turn, one after the other: each pass knows whose turn it is, and what its part lacks.
-use Rattle.mk_alloc.proofs.Vocabulary.{Acts, Does, Event, Has, Holds, InTurn, IsHistory, List, Makes, Moment, PassState}
-use Rattle.mk_alloc.proofs.Vocabulary.{Step, actor_of, ap, append_assoc, cases_Bool, does_nothing, does_step}
-use Rattle.mk_alloc.proofs.Vocabulary.{earlier_part_is_history, event_of, false, has_step, inl, inr, left, now_of}
-use Rattle.mk_alloc.proofs.Vocabulary.{or_from, own_before, pass_before, refl, subst, sym, true, turn_stays, [], ⊎_elim}
-use Rattle.mk_alloc.proofs.{Vocabulary.{◌++◌, ◌∙◌, ◌∷◌, ◌≡◌, ◌≢◌}, Stretches.{AreOfTurn, IsOwn, SomeKinds, Stretch}}
+use Rattle.mk_alloc.proofs.Vocabulary.{Acts, Does, Event, Has, InTurn, IsHistory, List, Makes, Moment, PassState, Step}
+use Rattle.mk_alloc.proofs.Vocabulary.{actor_of, ap, append_assoc, cases_Bool, does_nothing, does_step}
+use Rattle.mk_alloc.proofs.Vocabulary.{earlier_part_is_history, event_of, false, has_step, inl, inr, left, or_from}
+use Rattle.mk_alloc.proofs.Vocabulary.{own_before, pass_before, refl, subst, sym, true, turn_stays, [], ⊎_elim, ◌++◌}
+use Rattle.mk_alloc.proofs.{Vocabulary.{◌∙◌, ◌∷◌, ◌≡◌, ◌≢◌}, Stretches.{AreOfTurn, IsOwn, SomeKinds, Stretch}}
 use Rattle.mk_alloc.proofs.Stretches.{does_once, does_stretch, first_of, holds_behind, holds_none, no_kinds}
 use Rattle.mk_alloc.proofs.{Stretches.others_stretch, ListParts.{Lacks, SomeKind, lacks_append}}
 use Rattle.mk_laws.proofs.{Basics.is_holders, FramesHolders.acts_as_holder}
@@ -76,8 +76,7 @@ pub in_turn_then : (kinds : SomeKinds) (p q : PassState) → AreOfTurn kinds →
     → IsHistory q.table.config q.seen → InTurn q
 in_turn_then kinds p q stays t d history = record {
   own = has_then kinds p q d t.own;
-  holds = subst (λ (x : PassState). Holds x.table.config (now_of x) x.seat) (sym d.is)
-      (holds_behind p kinds stays t.own (does_stretch d history t.holds));
+  holds = rw d.is (holds_behind p kinds stays t.own (does_stretch d history t.holds));
   history = history;
 }
 
@@ -127,7 +126,7 @@ pub step_behind : {kinds : SomeKinds} {p r : PassState} {s : Step} {q : PassStat
 step_behind {kinds} {p} {r} {s} {q} x m stays = record {
   before = x.does.more ++ m.others;
   is =
-      seen_then p.seen r.seen q.seen x.does.more _ (seen_behind kinds p r x.does) (seen_made r q s m)
+      seen_then p.seen r.seen q.seen x.does.more _ (seen_by x.does) (seen_after m)
       ∙ ap (λ (l : List Event). p.seen ++ l) (sym (append_assoc x.does.more m.others (event_of r s ∷ [])));
   turn = behind_step (behind_part x) m stays;
   lacks = λ kind holders apart. lacks_append kind x.does.more m.others (part_lacks kind x holders apart)

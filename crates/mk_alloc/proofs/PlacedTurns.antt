@@ -5,12 +5,13 @@ use Rattle.mk_alloc.proofs.Vocabulary.{None, OnlyLooks, PassState, PlacedAllocat
 use Rattle.mk_alloc.proofs.Vocabulary.{Step, TurnGoesOn, World, ℕ, actor_of, answer_decided, ap, arith, call_of, ends}
 use Rattle.mk_alloc.proofs.Vocabulary.{event_of, false, fresh_words_of, full_answers, has_place, holds_turn}
 use Rattle.mk_alloc.proofs.Vocabulary.{if◌then◌else◌, in_a_word, is_end, is_held, is_pending_free_at, is_placing}
-use Rattle.mk_alloc.proofs.Vocabulary.{is_undecided_new, known_left, left, left_after, looks_left, now_of, progress}
-use Rattle.mk_alloc.proofs.Vocabulary.{refl, releases, same_config, steady_of, subst, sum_by_push, sym, true, unchanged}
+use Rattle.mk_alloc.proofs.Vocabulary.{is_undecided_new, known_left, left, left_after, looks_left, now_of, refl}
+use Rattle.mk_alloc.proofs.Vocabulary.{releases, same_config, steady_of, subst, sum_by_push, sym, true, unchanged}
 use Rattle.mk_alloc.proofs.Vocabulary.{undecided_new, world_of, [], ◌++◌, ◌+◌, ◌∙◌, ◌∷◌, ◌≡◌}
-use Rattle.mk_alloc.proofs.{Going.{quiet_kept, same_phase}, Stretches.{Here, Stretch, along, does_stretch, holds_none}}
-use Rattle.mk_alloc.proofs.{Stretches.widened, FreedTurns.given_is_decided, Parts.{Part, seen_behind}}
-use Rattle.mk_laws.proofs.{Vocabulary.Progress, Basics.{Behind, none_on_its_way, tally_keeps}, FreshWords.fresh_pushed}
+use Rattle.mk_alloc.proofs.{Parts.{Part, seen_behind, seen_by}, Stretches.{Here, Stretch, along, does_stretch}}
+use Rattle.mk_alloc.proofs.{Stretches.{holds_none, widened}, FreedTurns.given_is_decided}
+use Rattle.mk_alloc.proofs.Going.{quiet_kept, same_phase}
+use Rattle.mk_laws.proofs.{Vocabulary.Progress, Basics.{none_on_its_way, tally_keeps}, FreshWords.fresh_pushed}
 use Rattle.mk_laws.proofs.OthersCounts.{answers_full, counts_nothing}
 use Rattle.mk_core.specs.Effects.{holding_behind}
 use Rattle.mk_cycle.{proofs.{BeginSteps.none_held_kept, KeptInParts.held_so}, specs.TurnKeeps.{IsGone}}
@@ -18,10 +19,6 @@ use Rattle.mk_objects.proofs.{JoinedLooks.looks_call, Reaching.counts_more}
 use Rattle.mk_objects.specs.{Placing.object_at_place, Unchanged.IsAsLeft}
 
 -- Stretches of a turn in which no gate is held or opened, no cycle ends, no New is full and no object is freed.
-
-placing_gates : (c : Config) (m : Moment) (seat : Seat) (x : Step) → is_placing x ≡ true
-    → (Behind c m seat x).words.gates ≡ m.words.gates
-placing_gates c m seat x3 h = grind (arith, tally_keeps)
 
 placing_frees_none : (c : Config) (m : Moment) (seat : Seat) (f : Flight) (n : ℕ) (x : Step) (h : Holding)
     → is_placing x ≡ true → (holding_behind c m seat f n x h).freed ≡ h.freed
@@ -34,13 +31,9 @@ either_answer : (b : Bool) (x y : Progress) → answers_full x.answer ≡ false 
     → answers_full (if b then x else y).answer ≡ false
 either_answer x0 x y one two = grind arith
 
-placing_answers : (c : Config) (m : Moment) (f : Flight) (n : ℕ) (x : Step) → is_placing x ≡ true
-    → answers_full (progress c m f n x).answer ≡ false
-placing_answers c m f n x4 h = grind (arith, either_answer)
-
 placing_decides : (c : Config) (m : Moment) (seat : Seat) (x : Step) → is_placing x ≡ true
     → answers_full (answer_decided c m (record { seat = seat; step = x })) ≡ false
-placing_decides c m x2 x h = grind (arith, placing_answers)
+placing_decides c m x2 x h = grind (arith, either_answer)
 
 -- Gates are held as before, the counts are as before, and so is the run that the call has freed.
 pub record LeavesBeside (p : PassState) (es fs : List Event) : Type 0 where
@@ -54,7 +47,7 @@ beside_then gs a b = grind arith
 
 own_beside : {p : PassState} {es : List Event} (x : Step) → Here p es (event_of p x) → is_placing x ≡ true
     → LeavesBeside p es (es ++ event_of p x ∷ [])
-own_beside x h kind = grind (arith, placing_gates, counts_more, placing_ends_none, placing_decides, placing_frees_none)
+own_beside x h kind = grind (arith, counts_more, placing_ends_none, placing_decides, placing_frees_none, tally_keeps)
 
 pub leaves_beside : {p : PassState} {es more : List Event} → Has p.seats p.seat → Stretch p is_placing es more
     → LeavesBeside p es (es ++ more)
@@ -88,7 +81,7 @@ module _ {p q : PassState} (t : InTurn p) (d : Does is_placing p q) (history : I
 
   world_there : world_of q ≡ left p.table.config q.seen
   world_there = ap (λ (c : Config). left c q.seen) (same_config p q
-      (d.is ∙ ap (λ (l : List Event). record p { seen = l }) (sym (seen_behind is_placing p q d))))
+      (d.is ∙ ap (λ (l : List Event). record p { seen = l }) (sym (seen_by d))))
 
   pub gates_beside : KeepsGates p q
   gates_beside j lt = ap (λ (w : World). is_held w.now.words j) world_there ∙ beside.gates j

@@ -1,5 +1,5 @@
 -- A New seeks room: the parts of its turn one after the other.
-use Rattle.mk_laws.proofs.Vocabulary.{eqb-false, inl, inr, is_undecided_new}
+use Rattle.mk_laws.proofs.Vocabulary.{eqb-false, inr, is_undecided_new}
 use Rattle.mk_alloc.proofs.Vocabulary.{Answer, AsksRoom, BeginsCycle, Config, Does, Done, FinishesCycle, FitsNowhere}
 use Rattle.mk_alloc.proofs.Vocabulary.{Flight, HasNoPlace, InTurn, IsAtPhase, IsHistory, IsOutOfStop, IsPlaced, IsQuiet}
 use Rattle.mk_alloc.proofs.Vocabulary.{IsUnplaced, List, Looks, Misfits, None, Object, OnlyLooks, Option, PassState}
@@ -151,11 +151,7 @@ module _ {w : WordsState} {p : PassState} {request : Request} (asked : SeeksRoom
         (finish_room (object_for p) seat asked.quiet.free.decided no_place_now f asked.turn history)
 
     pub room_finished : {q : PassState} → FinishesCycle p q → InTurn q → SeeksRoom w q request
-    room_finished f turn = still_seeks asked turn (seeks_finished f turn.history) (record {
-      new = ap is_undecided_new f.call ∙ asked.unplaced.new;
-      placing = ap (λ (x : Done). x.placing) f.done ∙ asked.unplaced.placing;
-      phase = inl f.phase;
-    })
+    room_finished f turn = grind (arith, still_seeks, seeks_finished, Done)
 
     pub misfits_finished : {q r : PassState} → FinishesCycle p q → IsHistory q.table.config q.seen → Misfits q r
         → OnlyLooks q r → MisfitsIdly p r

@@ -85,20 +85,20 @@ holds_none {p} {es} h ne out =
 holds_own : (p : PassState) (es : List Event) (x : Step) → Has p.seats p.seat → Here p es (event_of p x)
     → turn_stays x ≡ true → Holds p.table.config (left p.table.config (es ++ event_of p x ∷ [])).now p.seat
 holds_own p es x own h stays =
-    let m : Makes (seeing p es) x (seeing p (es ++ event_of p x ∷ [])) = record {
+    let t : IsTurn (seeing p es) = record { holds = h.holds } in
+    (still_turn (seeing p es) x (seeing p (es ++ event_of p x ∷ [])) (record {
       others = [];
       of_others = others_none p.seats;
-      is = ap (λ (l : List Event). seeing p (l ++ event_of p x ∷ [])) (sym (append-nil es));
+      is = ap (λ (l : List Event). seeing p (l ++ event_of p x ∷ []))
+          (sym (append-nil es));
       pass = record { own = own; history = h.whole };
-    } in
-    let t : IsTurn (seeing p es) = record { holds = h.holds } in
-    (still_turn (seeing p es) x (seeing p (es ++ event_of p x ∷ [])) m stays t).holds
+    }) stays t).holds
 
 holds_other : (p : PassState) (es : List Event) (e : Event) → Here p es e → e.seat ≢ p.seat
     → Holds p.table.config (left p.table.config (es ++ e ∷ [])).now p.seat
 holds_other p es e h ne =
-    subst (λ (w : World). Holds p.table.config w.now p.seat) (sym h.behind)
-    ((left_after p.table.config (left p.table.config es) e.seat p.seat e.step h.known h.meets ne).own.holding h.holds).0
+    rw h.behind ((left_after p.table.config (left p.table.config es) e.seat p.seat e.step h.known h.meets
+    ne).own.holding h.holds).0
 
 -- the first event, and the stretch after it
 pub record First (p : PassState) (kinds : SomeKinds) (es : List Event) (e : Event) (rest : List Event) : Type 0 where

@@ -3,10 +3,9 @@ use Rattle.mk_alloc.proofs.Vocabulary.{Acts, Answer, BeginsNone, Bool, Config, D
 use Rattle.mk_alloc.proofs.Vocabulary.{EndsOlder, Event, Has, IsAtPhase, IsOutOfStop, List, Looks, Op, PassState, Seat}
 use Rattle.mk_alloc.proofs.Vocabulary.{Some, Stage, Step, SweepsNothing, ap, arith, begun_then, false}
 use Rattle.mk_alloc.proofs.Vocabulary.{finish_begins_none, is_begin, is_freeing, is_loading, is_look, is_take, not}
-use Rattle.mk_alloc.proofs.Vocabulary.{not-true, now_of, only_seen, own_before, refl, step_at, subst, sweeps_then, sym}
-use Rattle.mk_alloc.proofs.{Vocabulary.{true, world_of, ⊎_elim, ◌≡◌}, CalledTurns.{GivenBack, taken_is}}
-use Rattle.mk_alloc.proofs.{ListParts.none_at, OwnGives.steps_are, Parts.has_then}
-use Rattle.mk_alloc.specs.Laws.{CallsSweepNothing, SweepNothingWhereHeld}
+use Rattle.mk_alloc.proofs.Vocabulary.{not-true, now_of, only_seen, own_before, refl, step_at, sweeps_then, true}
+use Rattle.mk_alloc.proofs.{Vocabulary.{world_of, ⊎_elim, ◌≡◌}, CalledTurns.{GivenBack, taken_is}, ListParts.none_at}
+use Rattle.mk_alloc.{proofs.{OwnGives.steps_are, Parts.has_then}, specs.Laws.{CallsSweepNothing, SweepNothingWhereHeld}}
 use Rattle.mk_cycle.proofs.Begun.{does_begin_none, step_begins_none}
 use Rattle.mk_turns.proofs.Sweeping.{does_sweep, kinds_sweep, other_step_sweeps, step_then_sweeps}
 use Rattle.mk_turns.specs.Sweeping.{HaveNoMark, is_mark}
@@ -95,8 +94,7 @@ module _ {begins : Config → Seat → List Event → List Event → Type 0} whe
   older_begun {p} {q} own phase older =
       let d = older.looks.does in
       let looking = does_begin_none begins is_look p older.looked (λ x h. grind arith) d in
-      ⊎_elim (λ (none : IsAtPhase p 0). subst (λ (x : PassState). EachIsBegun begins p x)
-      (sym (older.none none)) looking) (λ (on : IsAtPhase p 1). part_then_begun d looking
+      ⊎_elim (λ (none : IsAtPhase p 0). rw (older.none none) looking) (λ (on : IsAtPhase p 1). part_then_begun d looking
       (finish_begins_none begins older.looked q (has_then is_look p older.looked d own) (older.on on))) phase
 
   -- the parts of a Free that aren't of cycles

@@ -5,7 +5,7 @@ pub use Rattle.mk_core.proofs.{Conditions.meets_enabled, Histories.calls_more, H
 pub use Rattle.mk_core.specs.{Allocations.{allocations_by, held_by_allocations}, Counts.{IsDue, full_answers, releases}}
 pub use Rattle.mk_core.specs.{Effects.cycle_ended, Frames.{CountsAreLeft, steady_of}, Growing.{Finding, is_same_seat}}
 pub use Rattle.mk_core.specs.{Moments.none_is_held, Placement.place_after, declared.seats.OwnCycle.TheVariants.Ended}
-pub use Rattle.mk_laws.proofs.{Basics.{HoldsTurn, actor_of, known_left, view_of}, InvariantJoined.told_to_images}
+pub use Rattle.mk_laws.proofs.{Basics.{HoldsTurn, actor_of, known_left, view_of}, InvariantHistories.told_to_images}
 pub use Rattle.mk_laws.proofs.{Known.holds_turn, LastEvents.{comes_last, stands}, OthersCounts.{fulls_append, fulls_of}}
 pub use Rattle.mk_laws.proofs.{ProtocolFrames.left_after, Settled.gone_is_unmapped, Vocabulary.{Answer, AreOfOthers}}
 pub use Rattle.mk_laws.proofs.Vocabulary.{At, Bool, Caller, Cell, Config, Decided, Event, Flight, Holding, Holds, Host}
@@ -41,9 +41,9 @@ pub use Rattle.mk_cycle.specs.Kinds.{closes_marks, holds_gates, is_giving_back, 
 pub use Rattle.mk_cycle.specs.TurnKeeps.{Done, InTurn, KeepsGates, LeavesTurn, unchanged}
 pub use Rattle.mk_waiting.specs.Taking.{TakesTurn, is_take, waits_for}
 pub use Rattle.mk_objects.proofs.{JoinedLooks.{does_wider, looks_left}, Looks.acting_caller}
-pub use Rattle.mk_objects.{proofs.MayAct.{new_is_acting, off_four}, specs.Placing.{object_for, place_now_for}}
-pub use Rattle.mk_objects.specs.{Retired.{DecidesFree, IsDueSince}, Retiring.{is_freeing, is_loading}}
-pub use Rattle.mk_objects.specs.Placing.{FitsNowhere, IsOutOfStop, IsPlaced, IsUnplaced, OnlyLooks, is_look, is_placing}
+pub use Rattle.mk_objects.{proofs.MayAct.{new_is_acting, off_four}, specs.Retiring.{is_freeing, is_loading}}
+pub use Rattle.mk_objects.specs.Placing.{object_for, place_now_for, FitsNowhere, IsOutOfStop, IsPlaced, IsUnplaced}
+pub use Rattle.mk_objects.specs.{Placing.{OnlyLooks, is_look, is_placing}, Retired.{DecidesFree, IsDueSince}}
 pub use Rattle.mk_alloc.specs.{DueCycles.{EndsOlder, RunsIfDue}, Leaving.OwnLeaveAllButReleased}
 pub use Rattle.mk_alloc.specs.Rooms.{AnswersFull, AsksRoom, BeginsNone, GrantsNone, Misfits, RunsOne, Seeks, asks_room}
 pub use Rattle.mk_alloc.specs.TurnCalls.{CalledInTurn, FreesObject, IsAnsweredDouble, IsAnsweredFull}

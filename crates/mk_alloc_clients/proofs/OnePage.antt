@@ -8,8 +8,8 @@ use Rattle.mk_laws.proofs.Vocabulary.{Answer, Bool, Config, IsHistory, IsWithinL
 use Rattle.mk_laws.proofs.Vocabulary.{Op, Option, Page, Place, Some, Steady, Step, TalliesAreTidy, ℕ, ap, append-nil}
 use Rattle.mk_laws.proofs.Vocabulary.{arith, block_header, false, free_page, get_or_past, header_of}
 use Rattle.mk_laws.proofs.Vocabulary.{histories_keep_lengths, if◌then◌else◌, kinds_of, length, lt-ltb, ltb-true, nat_lt}
-use Rattle.mk_laws.proofs.Vocabulary.{not, or_else, phase_of, place_on_pages, refl, resident_pages, slice_index_or}
-use Rattle.mk_laws.proofs.Vocabulary.{subst, sym, true, use_under, word_of, [], ◌<◌, ◌^◌, ◌∙◌, ◌∷◌, ◌≡◌, ◌≢◌}
+use Rattle.mk_laws.proofs.Vocabulary.{not, or_else, phase_of, place_on_pages, refl, resident_pages, slice_index_or, sym}
+use Rattle.mk_laws.proofs.Vocabulary.{true, use_under, word_of, [], ◌<◌, ◌^◌, ◌∙◌, ◌∷◌, ◌≡◌, ◌≢◌}
 use Rattle.mk_geom.specs.{PageUses.{carved, cells_taken, first_where, small_place}, PageWords.use_of_page}
 use Rattle.mk_books.proofs.UsedBitLemmas.{first_where-bits_of}
 use Rattle.mk_core.specs.{Counts.TalliesAreExact, Words.page_of}
@@ -40,8 +40,7 @@ pub free_page_place : (page : Page) → page.header ≡ 0
 free_page_place page z = sym (ap (λ h. small_place 1 0 true (use_under (header_of h) page.used ∷ [])) z)
 
 none_behind : (b : Bool) → None ≡ (if b then option_map carved None else None)
-none_behind true = refl
-none_behind false = refl
+none_behind x0 = grind arith
 
 -- one that is no block of numbers has no place,
 pub other_page_place : (page : Page) → page.header ≢ 0 → page.header ≢ word_of (block_header 0 true)
@@ -50,9 +49,7 @@ other_page_place page some other = grind (arith, none_behind, place_by, cells_un
 
 cell_or_none : (here few : Bool) (index : ℕ) → then_some here (at_cell index)
     ≡ or_else (or_else (option_map at_cell (then_some here index)) None) (if few then option_map carved None else None)
-cell_or_none true few index = refl
-cell_or_none false true index = refl
-cell_or_none false false index = refl
+cell_or_none x0 few index = grind arith
 
 -- and a block of numbers the lowest cell that isn't used.
 pub block_place : (page : Page) → page.used < 2 ^ 64 → page.header ≢ 0 → page.header ≡ word_of (block_header 0 true)
@@ -78,7 +75,6 @@ pub fit_on_page : (p : PassState) (page : Page) → IsHistory p.table.config p.s
     → place_on_pages p.table.config.resident (now_of p).words.pages (object_for p) ≡ place_on page
 fit_on_page p page h one number is =
     let c : Config = p.table.config in
-    let limits = h.within_limits.resident in
     let resident : c.resident ≡ 1 = omega arith in
     let lengths = (histories_keep_lengths c p.seen).pages in
     ap (λ (o : Object). place_on_pages c.resident (now_of p).words.pages o) number
@@ -107,10 +103,6 @@ first_page p w table limits = grind (arith, lt-ltb)
 pub type_exists : (types : List (List Kind)) (ty : ℕ) → kinds_of types ty ≡ Number ∷ [] → ty < length types
 type_exists types ty is = grind (arith, ltb-true, ltb-false, get_or_past)
 
--- A turn that is taken at once is taken.
-pub taken_at_once : (p q : PassState) (o : Option Op) → Finds p (Step.Take o) 0 q → TakesTurn p o q
-taken_at_once p q o f = grind (arith, append-nil)
-
 -- The place of a number, from what a look round says, and what comes of it.
 
 pub record HasSeen (p q : PassState) (page : Page) : Type 0 where
@@ -138,8 +130,7 @@ module _ {p q : PassState} {page : Page} (s : HasSeen p q page) {found : Option 
     sees_page =
         let within = fit_within place s.turn s.history s.unplaced (fit ∙ there) in
         let lengths = (histories_keep_lengths p.table.config p.seen).pages in
-        let first : 0 ≡ place.page = omega (arith, s.one) in
-        s.sees ∙ ap (λ i. page_of (now_of q).words i) first
+        s.sees ∙ ap (λ i. page_of (now_of q).words i) (omega (arith, s.one))
 
     pub placed : {r : PassState} → IsGranted q place r → HeldIsExact r → IsPlaced p r
     placed granted held = record {
@@ -167,7 +158,7 @@ module _ {p : PassState} (d ty : ℕ) (idle : IsIdleCaller p) (exists : caller_o
       → TalliesAreTidy taken.table.config taken.seen
       → CallersAreBeforeOver taken.table.config taken.seats taken.seen → TakenNew p d ty taken
   taken_new {taken} alone finds fresh exact tidy before =
-      let takes = taken_at_once p taken (Some (Op.New d ty false)) finds in
+      let takes : TakesTurn p (Some (Op.New d ty false)) taken = grind (arith, append-nil) in
       let own = own_before finds.makes in
       record {
         took = record { seat = callers idle; own = own; takes = takes };
@@ -183,5 +174,4 @@ module _ {p : PassState} (d ty : ℕ) (idle : IsIdleCaller p) (exists : caller_o
 pub made_owns : {on : Bool} {p q : PassState} (d ty : ℕ) → CalledInTurn on p (Op.New d ty false) Answer.Done q
     → IsHistory q.table.config q.seen → kinds_of p.table.config.types ty ≡ Number ∷ [] → HasNumber q d 0
 made_owns {p = p} d ty c h kinds =
-    subst (λ (r : PassState). HasNumber r d 0) (sym c.is)
-    (granted p d ty c.more (subst (λ (r : PassState). IsHistory r.table.config r.seen) c.is h) c.entry c.decided kinds)
+    rw c.is (granted p d ty c.more (rw c.is at h) c.entry c.decided kinds)

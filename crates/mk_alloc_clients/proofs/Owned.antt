@@ -1,21 +1,20 @@
 -- A number that a caller owns: what other callers leave of it, and what its own calls do.
 use Rattle.std.proofs.Common.{ltb-false, set}
 use Rattle.mk_laws.proofs.Vocabulary.{AreAdmitted, Call, Continues, IsAdmitted, IsNumber, IsSound, IsTyped, Kind, List}
-use Rattle.mk_laws.proofs.Vocabulary.{Meets, NeverAllocation as Allocation, NeverState, Null, Num, Number, Op, Ptr}
 use Rattle.mk_laws.proofs.Vocabulary.{Suits, To, Value, WordOf, ℕ, after_calls, after_free, allocation_at, ap, arith}
 use Rattle.mk_laws.proofs.Vocabulary.{cases_Bool, false, get_or, get_or-set_other, get_or-set_same, get_or_append_left}
-use Rattle.mk_laws.proofs.Vocabulary.{get_or_past, inl, inr, is_same, kinds_of, length, length-set, ltb-true, map}
-use Rattle.mk_laws.proofs.Vocabulary.{nat_lt, no_allocation, number_of as number_in, refl, register_at, set_by, subst}
-use Rattle.mk_laws.proofs.Vocabulary.{suc, sym, target_of, with_freed, with_global, with_new, with_register, with_word}
-use Rattle.mk_laws.proofs.Vocabulary.{word_at, words_of, zero, [], ◌*◌, ◌++◌, ◌+◌, ◌<◌, ◌∙◌, ◌∷◌, ◌≡◌, ◌≢◌}
-use Rattle.mk_never.proofs.Edits.{exists, if_by, left_at_by}
-use Rattle.mk_never.proofs.{Fresh.new_adds, Later.op_stays, Registers.destination, Registers.op_keeps}
-use Rattle.mk_never.specs.NeverHeap.{after_op, left_at, moved_on, reply_at, reply_of}
+use Rattle.mk_laws.proofs.Vocabulary.{get_or_past, inl, inr, is_same, kinds_of, length, length-set, ltb-true, map, suc}
+use Rattle.mk_laws.proofs.Vocabulary.{sym, target_of, with_freed, with_global, with_register, with_word, word_at}
+use Rattle.mk_laws.proofs.Vocabulary.{words_of, zero, [], ◌*◌, ◌++◌, ◌+◌, ◌<◌, ◌∙◌, ◌∷◌, ◌≡◌, ◌≢◌}
+use Rattle.mk_never.proofs.{Edits.{exists, if_by, left_at_by}, Fresh.new_adds, Later.op_stays}
+use Rattle.mk_never.{proofs.Registers.{destination, op_keeps}, specs.NeverHeap.{after_op, left_at, reply_at, reply_of}}
 use Rattle.mk_never.specs.declared.operations.Op.TheVariants.{CasPtr, Clear, Free, GetGlobal, GetNum, GetPtr, IsNull}
 use Rattle.mk_never.specs.declared.operations.Op.TheVariants.{Lea, Move, New, Same, SetGlobal, SetNum, SetPtr}
-use Rattle.mk_never.specs.{Admitted.IsCaller, Admitted.OperandsAreInRange, Laws.AreNotBy, Reach.LeadsTo, Types.zero_of}
+use Rattle.mk_never.specs.{Admitted.{IsCaller, OperandsAreInRange}, Laws.AreNotBy, Reach.LeadsTo, Types.zero_of}
 use Rattle.mk_never.specs.{declared.operations.Reply.Reply, declared.values.Target.Target}
 use Rattle.mk_alloc_clients.specs.Owned.{IsKnownToAlone, IsRegisterOf, OwnsNumberIn, number_behind}
+use Rattle.mk_laws.proofs.Vocabulary.{Meets, NeverAllocation as Allocation, NeverState, Null, Num, Number, Op, Ptr}
+use Rattle.mk_laws.proofs.Vocabulary.{nat_lt, no_allocation, number_of as number_in, refl, register_at, set_by, subst}
 
 -- What other callers' operations leave of an object that one caller alone knows of: all of it.
 
@@ -38,9 +37,7 @@ zeros_lead_nowhere (kind ∷ kinds) (suc place) number leads = zeros_lead_nowher
 -- an access gets to a word of the allocation that its pointer leads to
 target_leads : (n : NeverState) (v : Value) (i number place : ℕ) → target_of n v i ≡ WordOf number place
     → LeadsTo v number
-target_leads n Null i number place reaches = absurd (cc)
-target_leads n (Num m) i number place reaches = absurd (cc)
-target_leads n (Ptr a ty offset) i number place reaches = grind (arith, if_by)
+target_leads n x1 i number place reaches = grind (arith, if_by)
 
 -- After an operation only the caller knows of the allocation, and that is as it was.
 pub record StaysAlone (n : NeverState) (k number : ℕ) (m : NeverState) : Type 0 where
@@ -53,11 +50,6 @@ module _ {n : NeverState} {k number : ℕ} (own : IsKnownToAlone n k number) (th
 
   abbrev Stays : NeverState → Type 0
   Stays m = StaysAlone n k number m
-
-  moved_elsewhere : (v : Value) (i : ℕ) → LeadsElsewhere v → LeadsElsewhere (moved_on v i)
-  moved_elsewhere Null i none = none
-  moved_elsewhere (Num m) i none = λ leads. leads
-  moved_elsewhere (Ptr a ty offset) i none = none
 
   pub nothing_stays : Stays n
   nothing_stays = record { alone = own; same = refl }
@@ -115,20 +107,6 @@ module _ {n : NeverState} {k number : ℕ} (own : IsKnownToAlone n k number) (th
   free_stays (Num m) none = nothing_stays
   free_stays (Ptr a ty offset) none = freed_stays a none
 
-  new_stays : (c d ty : ℕ) → Stays (with_register (with_new n ty) c d (Ptr (length n.allocations) ty 0))
-  new_stays c d ty = record {
-    alone = record {
-      registers = λ j. set_by (λ x. LeadsTo x number → IsRegisterOf k j) n.registers (8 * c + d) j
-          (Ptr (length n.allocations) ty 0) Null
-          (λ e leads. absurd (let same : length n.allocations ≡ number = leads in omega arith)) (own.registers j);
-      globals = own.globals;
-      words = λ from place.
-          push_keeps (λ (x : Allocation). LeadsTo (get_or x.words place Null) number → ⊥) n.allocations _
-          no_allocation from (zeros_lead_nowhere (kinds_of n.types ty) place number) (own.words from place);
-    };
-    same = get_or_append_left n.allocations _ no_allocation number there;
-  }
-
   module _ (c : ℕ) (other : c ≢ k) where
     register_elsewhere : (r : ℕ) → r < 8 → LeadsElsewhere (register_at n c r)
     register_elsewhere r lt leads = let at = own.registers (8 * c + r) leads in other (omega arith)
@@ -137,14 +115,19 @@ module _ {n : NeverState} {k number : ℕ} (own : IsKnownToAlone n k number) (th
     reached_other : (q i a w : ℕ) → q < 8 → target_of n (register_at n c q) i ≡ WordOf a w → a ≢ number
     reached_other q i a w lt got same = grind (arith, register_elsewhere, target_leads)
 
-    exchange_stays : (q i p r : ℕ) → q < 8 → r < 8 → Stays (after_op n c (CasPtr q i p r))
-    exchange_stays q i p r lt lr =
-        left_at_by (λ m. Stays m) _ n _ nothing_stays (λ a w got. if_by (λ m. Stays m) (is_same (word_at n a w)
-        (register_at n c p)) _ _ (λ e. word_stays a w (register_at n c r) (reached_other q i a w lt got)
-        (register_elsewhere r lr)) (λ e. nothing_stays))
-
     pub op_stays_alone : (o : Op) → OperandsAreInRange n o → Stays (after_op n c o)
-    op_stays_alone (New d ty full) h = if_by (λ m. Stays m) full _ _ (λ e. nothing_stays) (λ e. new_stays c d ty)
+    op_stays_alone (New d ty full) h = if_by (λ m. Stays m) full _ _ (λ e. nothing_stays) (λ e. record {
+      alone = record {
+        registers = λ j. set_by (λ x. LeadsTo x number → IsRegisterOf k j) n.registers (8 * c + d) j
+            (Ptr (length n.allocations) ty 0) Null
+            (λ e leads. absurd (let same : length n.allocations ≡ number = leads in omega arith)) (own.registers j);
+        globals = own.globals;
+        words = λ from place.
+            push_keeps (λ (x : Allocation). LeadsTo (get_or x.words place Null) number → ⊥) n.allocations _
+            no_allocation from (zeros_lead_nowhere (kinds_of n.types ty) place number) (own.words from place);
+      };
+      same = get_or_append_left n.allocations _ no_allocation number there;
+    })
     op_stays_alone (Free p) h = free_stays (register_at n c p) (register_elsewhere p h)
     op_stays_alone (GetNum q i) h = nothing_stays
     op_stays_alone (SetNum q i m) h =
@@ -154,8 +137,11 @@ module _ {n : NeverState} {k number : ℕ} (own : IsKnownToAlone n k number) (th
     op_stays_alone (SetPtr q i p) h =
         left_at_by (λ m. Stays m) (target_of n (register_at n c q) i) n _ nothing_stays
         (λ a w got. word_stays a w (register_at n c p) (reached_other q i a w h.0 got) (register_elsewhere p h.1))
-    op_stays_alone (CasPtr q i p r) h = exchange_stays q i p r h.0 h.2
-    op_stays_alone (Lea d q i) h = grind (arith, register_stays, moved_elsewhere, register_elsewhere)
+    op_stays_alone (CasPtr q i p r) h =
+        left_at_by (λ m. Stays m) _ n _ nothing_stays (λ a w got. if_by (λ m. Stays m) (is_same (word_at n a w)
+        (register_at n c p)) _ _ (λ e. word_stays a w (register_at n c r) (reached_other q i a w h.0 got)
+        (register_elsewhere r h.2)) (λ e. nothing_stays))
+    op_stays_alone (Lea d q i) h = grind (arith, register_stays, register_elsewhere)
     op_stays_alone (Move d q) h = register_stays c d _ (register_elsewhere q h.1)
     op_stays_alone (Clear d) h = register_stays c d Null (λ leads. leads)
     op_stays_alone (GetGlobal d g) h = register_stays c d _ (own.globals g)
@@ -168,9 +154,6 @@ pub record KeepsNumber (n : NeverState) (k d : ℕ) (m : NeverState) : Type 0 wh
   pub owns : OwnsNumberIn m k d
   pub same : number_behind m (register_at m k d) ≡ number_behind n (register_at n k d)
 
-pub keeps_nothing : {n : NeverState} {k d : ℕ} → OwnsNumberIn n k d → KeepsNumber n k d n
-keeps_nothing owns = record { owns = owns; same = refl }
-
 -- where it stands
 pub number_is : (n : NeverState) (k d number ty : ℕ) → register_at n k d ≡ Ptr number ty 0
     → number_behind n (register_at n k d) ≡ number_in (word_at n number 0)
@@ -181,8 +164,7 @@ keeps_by_other : {globals : List ℕ} {n : NeverState} {k d c : ℕ} {o : Op} �
     → IsAdmitted globals n c o → KeepsNumber n k d (after_op n c o)
 keeps_by_other {n} {k} {d} {c} {o} owns other admitted =
     let m : NeverState = after_op n c o in
-    let there : owns.number < length n.allocations = exists n owns.number 0 owns.some in
-    let stays = op_stays_alone owns.alone there c other o admitted.in_range in
+    let stays = op_stays_alone owns.alone (exists n owns.number 0 owns.some) c other o admitted.in_range in
     let on : Continues n m = op_stays n c o in
     let pointer : register_at m k d ≡ Ptr owns.number owns.ty 0 = grind (arith, op_keeps, destination) in
     record {
@@ -207,11 +189,10 @@ keeps_by_other {n} {k} {d} {c} {o} owns other admitted =
 -- and so do all that are of others.
 pub keeps_by_others : (globals : List ℕ) {n : NeverState} {k d : ℕ} (calls : List Call) → OwnsNumberIn n k d
     → AreAdmitted globals n calls → AreNotBy k calls → KeepsNumber n k d (after_calls n calls)
-keeps_by_others globals {n = n} {k = k} {d = d} [] owns admitted others = keeps_nothing owns
+keeps_by_others globals {n = n} {k = k} {d = d} [] owns admitted others = record { owns = owns; same = refl }
 keeps_by_others globals {n = n} {k = k} {d = d} (x ∷ xs) owns admitted others =
-    let m : NeverState = after_op n x.caller x.op in
     let first = keeps_by_other owns others.0 admitted.0 in
-    let rest = keeps_by_others globals {n = m} xs first.owns admitted.1 others.1 in
+    let rest = keeps_by_others globals {n = (after_op n x.caller x.op)} xs first.owns admitted.1 others.1 in
     record { owns = rest.owns; same = rest.same ∙ first.same }
 
 -- An access by the register gets to the number.
@@ -255,14 +236,12 @@ stores_in {n} {k} {d} x owns =
         unfreed = ap (λ (b : Allocation). b.freed) now ∙ owns.unfreed;
         alone = word_alone owns.alone there a 0 (Num x) (λ leads. leads);
       };
-      stored =
-          cc (number_is m k d a owns.ty owns.pointer, now, get_or-set_same (words_of n a) 0 (Num x) Null owns.some);
+      stored = cc (number_is m k d a owns.ty owns.pointer, now, get_or-set_same _ 0 (Num x) Null owns.some);
     }
 
 pub store_leaves : (n : NeverState) (k d x : ℕ) → OwnsNumberIn n k d → HasStored k d x (after_op n k (Op.SetNum d 0 x))
 store_leaves n k d x owns =
-    subst (λ (m : NeverState). HasStored k d x m)
-    (sym (ap (λ (t : Target). left_at t n (λ a w. with_word n a w (Num x))) (gets_to owns))) (stores_in x owns)
+    rw (ap (λ (t : Target). left_at t n (λ a w. with_word n a w (Num x))) (gets_to owns)) (stores_in x owns)
 
 -- Both are admitted.
 pub access_admitted : (n : NeverState) (k d : ℕ) → OwnsNumberIn n k d → Meets n (register_at n k d) 0 IsNumber
@@ -270,24 +249,18 @@ access_admitted n k d owns = subst (λ (v : Value). Meets n v 0 IsNumber) (sym o
 
 -- What is sound leads to allocations that exist.
 sound_leads : (n : NeverState) (v : Value) (number : ℕ) → IsSound n v → LeadsTo v number → number < length n.allocations
-sound_leads n Null number sound leads = absurd leads
-sound_leads n (Num m) number sound leads = absurd leads
-sound_leads n (Ptr a ty offset) number sound leads = subst (λ x. x < length n.allocations) leads sound.0
+sound_leads n x1 number sound leads = grind arith
 
 suited_leads : (n : NeverState) (v : Value) (kind : Kind) (number : ℕ) → Suits n v kind → LeadsTo v number
     → number < length n.allocations
-suited_leads n Null Number number suits leads = absurd leads
-suited_leads n (Num m) Number number suits leads = absurd leads
-suited_leads n (Ptr a ty offset) Number number suits leads = absurd suits
-suited_leads n v (To ty offset) number suits leads = sound_leads n v number suits.0 leads
+suited_leads n v x2 number suits leads = grind (arith, sound_leads)
 
 word_leads : {globals : List ℕ} {n : NeverState} → IsTyped globals n → (from place number : ℕ)
     → LeadsTo (word_at n from place) number → number < length n.allocations
 word_leads {n} typed from place number leads = elim (cases_Bool (nat_lt place (length (words_of n from)))) [
   | inl inside ↦
       let lt = ltb-true place (length (words_of n from)) inside in
-      suited_leads n (word_at n from place) _ number
-      ((typed.allocations from (exists n from place lt)).words place lt) leads
+      suited_leads n _ _ number ((typed.allocations from (exists n from place lt)).words place lt) leads
   | inr outside ↦
       let past = ltb-false place (length (words_of n from)) outside in
       absurd (subst (λ (v : Value). LeadsTo v number) (get_or_past (words_of n from) place Null past) leads)
@@ -300,11 +273,10 @@ new_owns {globals} {n} k d ty typed caller lt kinds =
     let a = length n.allocations in
     let m : NeverState = after_op n k (Op.New d ty false) in
     let adds = new_adds n k d ty caller lt in
-    let on : Continues n m = op_stays n k (Op.New d ty false) in
     let words : words_of m a ≡ Num 0 ∷ [] = grind arith in
     record {
       owns = record {
-        caller = subst (λ count. 8 * k + 7 < count) (sym on.registers) caller;
+        caller = subst (λ count. 8 * k + 7 < count) (sym (op_stays n k (Op.New d ty false)).registers) caller;
         register = lt;
         number = a;
         ty = ty;

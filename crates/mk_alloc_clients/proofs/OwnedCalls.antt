@@ -1,5 +1,5 @@
 -- A number that is owned, along a history: other callers' calls keep it, and the caller's own are answered by it.
-use Rattle.std.proofs.Common.{Err, IfOk, Ok, OnOk, Result}
+use Rattle.std.proofs.Common.{IfOk, OnOk, Result}
 use Rattle.mk_laws.proofs.Vocabulary.{Answer, AreAdmitted, Config, Decided, Event, IsHistory, Kind, List, NeverState}
 use Rattle.mk_laws.proofs.Vocabulary.{Number, Op, Some, Step, ℕ, admitted_in_parts, answer_of, ap, append-nil}
 use Rattle.mk_laws.proofs.Vocabulary.{append_assoc, arith, asked, bases_of, calls_from, entry_of, false, kinds_of, left}
@@ -38,9 +38,7 @@ module _ {p : PassState} {o : Op} {a : Answer} {more : List Event} {decided : Is
 
   pub admitted_before : AreAdmitted c.globals (never_behind c (before_call decided))
       (asked (record { caller = caller_of_pass p; op = o; answer = a } ∷ []))
-  admitted_before =
-      subst (λ (l : List Decided). AreAdmitted c.globals (never_behind c (before_call decided)) (asked l)) one.decides
-      (comes_last c (before_call decided) decided.event one.through).admitted
+  admitted_before = rw one.decides at (comes_last c (before_call decided) decided.event one.through).admitted
 
   module _ {d : ℕ} where
     -- The caller's number is kept up to the event,
@@ -51,14 +49,12 @@ module _ {p : PassState} {o : Op} {a : Answer} {more : List Event} {decided : Is
     kept_later : OwnsNumberIn (never_behind c (through_call decided)) k d → KeepsNumber
         (never_behind c (through_call decided)) k d (never_behind c (through_call decided ++ decided.behind))
     kept_later owns =
-        kept (through_call decided) decided.behind (subst (λ (l : List Event). IsHistory c l) one.cut history)
-        one.none_behind owns
+        kept _ decided.behind (subst (λ (l : List Event). IsHistory c l) one.cut history) one.none_behind owns
 
     -- So it has the number that the operation leaves.
     pub number_left : (n : ℕ) → HasStored k d n (after_op (never_behind c (before_call decided)) k o)
         → HasNumber (record p { seen = p.seen ++ more }) d n
-    number_left n stored =
-        let cut = one.cut in grind (arith, through_call, never_through, kept_later, cut)
+    number_left n stored = grind (arith, through_call, never_through, kept_later, one.cut)
 
 -- A store is done, and the number is that one;
 pub record IsStored (a : Answer) (q : PassState) (d n : ℕ) : Type 0 where
@@ -97,8 +93,7 @@ module _ {p q : PassState} {a : Answer} (d : ℕ) (owns : OwnsNumber p d) (h : I
         tells =
             c.decided.reply ∙ ap (λ (r : Reply). answer_of (bases c) r) (load_replies there.owns)
             ∙ ap Answer.Num there.same;
-        has = subst (λ (r : PassState). HasNumber r d (number_owned p d)) (sym c.is)
-            (number_left one (seen_history c) (number_owned p d) (record { owns = there.owns; stored = there.same }));
+        has = rw c.is (number_left one (seen_history c) _ (record { owns = there.owns; stored = there.same }));
       }
 
 -- So neither is refused, but where the gate is held: then there is no call.
@@ -108,10 +103,9 @@ held_keeps {p} {q} {o} d owns h f =
     let more : List Event = f.finds.makes.others ++ event_of p (Step.Enter o) ∷ [] in
     let c : Config = p.table.config in
     let is : q ≡ record p { seen = p.seen ++ more } = grind (arith, append_assoc) in
-    let whole : IsHistory c (p.seen ++ more) = subst (λ (r : PassState). IsHistory r.table.config r.seen) is h in
     let none = own_more c (caller_of_pass p) p.seen more [] (ap (λ (r : PassState). own_calls p r.seen) (sym is)
     ∙ f.entries ∙ sym (append-nil (own_calls p p.seen))) in
-    let keeps = kept p.seen more whole none owns in
+    let keeps = kept p.seen more (subst (λ (r : PassState). IsHistory r.table.config r.seen) is h) none owns in
     subst (λ (r : PassState). HasNumber r d (number_owned p d)) (sym is) (record { owns = keeps.owns; is = keeps.same })
 
 -- A New of one number that was granted gives its caller that number, which is 0.
@@ -120,7 +114,6 @@ pub granted : (p : PassState) (d ty : ℕ) (more : List Event) → IsHistory p.t
     → IsDecidedIn p (Op.New d ty false) Answer.Done more → kinds_of p.table.config.types ty ≡ Number ∷ []
     → HasNumber (record p { seen = p.seen ++ more }) d 0
 granted p d ty more history entry decided kinds =
-    let o : Op = Op.New d ty false in
     let c : Config = p.table.config in
     let one = one_call {p = p} refl history entry decided in
     let all = (stands c (before_call decided) one.before).all.mirrors in
@@ -140,9 +133,8 @@ may_load p d owns = grind (arith, access_admitted)
 pub owned_numbers_stay : OwnedNumbersStay
 owned_numbers_stay p more d h others owns =
     let c : Config = p.table.config in
-    let none = own_more c (caller_of_pass p) p.seen more []
-    (others_add_none c (caller_of_pass p) p.seen more others ∙ sym (append-nil (own_calls p p.seen))) in
-    let keeps = kept p.seen more h none owns in
+    let keeps = kept p.seen more h (own_more c (caller_of_pass p) p.seen more []
+    (others_add_none c (caller_of_pass p) p.seen more others ∙ sym (append-nil (own_calls p p.seen)))) owns in
     record { owns = keeps.owns; is = keeps.same }
 
 -- One entry more, said of the pass as it is now
@@ -154,14 +146,12 @@ entry_now p q more x is entry = ap (λ (r : PassState). own_calls r r.seen) is �
 
 pub loads_stored : {b : PassState} {d n : ℕ} (r : Result ℕ Held) → HasNumber b d n → IfOk r (λ x. x ≡ number_owned b d)
     → IfOk r (λ x. x ≡ n)
-loads_stored (Ok x) has is = is ∙ has.is
-loads_stored (Err e) has is = tt
+loads_stored x0 has is = grind arith
 
 pub both_done : {p b : PassState} (q : PassState) {d n : ℕ} (r : Result ℕ Held) → Called p
     (Op.SetNum d 0 n) Answer.Done b → IfOk r (λ x. x ≡ n) → IfOk r (λ x. Called b (Op.GetNum d 0) (Answer.Num x) q)
     → OnOk r (own_calls q q.seen ≡ own_calls p p.seen ++ store_then_load (caller_of_pass p) d n)
-both_done q (Err e) set is get = tt
-both_done q (Ok x) set is get = grind (arith, entry_now, append_assoc)
+both_done q x1 set is get = grind (arith, entry_now, append_assoc)
 
 -- after what was done before
 pub done_behind : (l l1 l2 : List Decided) (x : Decided) (xs : List Decided) → l1 ≡ l ++ x ∷ [] → l2 ≡ l1 ++ xs

@@ -1,15 +1,15 @@
 -- What the client's calls ask.
 use Rattle.std.proofs.lemmas.List.{length-replicate}
-use Rattle.mk_laws.proofs.Vocabulary.{Bool, Caller, Config, Event, IsWithinLimits, List, Null, Op, Step, ℕ, ap, arith}
-use Rattle.mk_laws.proofs.Vocabulary.{asked, calls, length, list_any-append, never_behind, refl, subst, sym, true, []}
-use Rattle.mk_laws.proofs.Vocabulary.{◌*◌, ◌++◌, ◌+◌, ◌<◌, ◌||◌, ◌∙◌, ◌∷◌, ◌≡◌}
+use Rattle.mk_laws.proofs.Vocabulary.{Caller, Config, Event, IsWithinLimits, List, Null, Op, Step, ℕ, ap, arith, asked}
+use Rattle.mk_laws.proofs.Vocabulary.{calls, length, list_any-append, never_behind, refl, subst, sym, true, [], ◌*◌}
+use Rattle.mk_laws.proofs.Vocabulary.{◌<◌, ◌∙◌, ◌∷◌, ◌≡◌}
 use Rattle.mk_never.proofs.Later.{calls_stay}
 use Rattle.mk_core.specs.History.{never_first}
 use Rattle.mk_caller.specs.States.{Admits, CallerState, at_home}
 use Rattle.mk_heap.specs.Hosts.{AllAreJoined, HostState, first_host, pass_for, with_caller_made, with_joined, with_seen}
 use Rattle.mk_heap.specs.{Clients.IsPassOf, Ending.SaysOver}
-use Rattle.mk_words.{proofs.Seats.has_right, specs.Seats.Has, specs.Seats.has_over, specs.Seats.is_over}
-use Rattle.mk_words.{specs.States.PassState, specs.States.WordsState, specs.States.event_of, specs.Steps.Makes}
+use Rattle.mk_words.proofs.Seats.{has_right}
+use Rattle.mk_words.specs.{Seats.Has, Seats.has_over, Seats.is_over, States.PassState, States.WordsState, Steps.Makes}
 
 -- Each caller has eight registers, whatever happened.
 registers_are : (c : Config) (es : List Event) → length (never_behind c es).registers ≡ 8 * c.callers
@@ -52,23 +52,17 @@ one_is_joined w first made h joined over p seen later is_first is_made is seats 
     let callers : h.callers ≡ 1 = ap (λ (g : HostState). g.callers) begun in
     let markers : h.markers ≡ 0 = ap (λ (g : HostState). g.markers) begun in
     let has : Has p.seats (Caller 0) = grind arith in
-    subst (λ (g : HostState). AllAreJoined g) (sym (is_over ∙ ap (λ (g : HostState). with_seen g later) is_joined))
-    (record {
+    rw (is_over ∙ ap (λ (g : HostState). with_seen g later) is_joined) (record {
       callers = λ k lt.
           let zeroth : k ≡ 0 = omega arith in
-          has_right h.pass.seats p.seats (Caller k) (subst (λ (i : ℕ). Has p.seats (Caller i)) (sym zeroth) has);
+          has_right h.pass.seats p.seats (Caller k) (rw (← zeroth) at has);
       markers = λ k lt. absurd (omega arith);
     })
 
 -- After a call that says so, an `over` is among what was seen.
 
-over_before : (xs ys : List Event) → has_over xs ≡ true → has_over (xs ++ ys) ≡ true
-over_before xs ys h = list_any-append (λ (e : Event). is_over e.step) xs ys ∙ ap (λ (b : Bool). b || has_over ys) h
-
 over_last : {p q : PassState} → Makes p Step.Over q → has_over q.seen ≡ true
 over_last m = grind (arith, list_any-append)
 
 pub has_said_over : {p q : PassState} → SaysOver p q → has_over q.seen ≡ true
-has_said_over o =
-    ap (λ (r : PassState). has_over r.seen) o.gives.is ∙ over_before (o.said.seen ++ o.gives.others)
-    (event_of o.said Step.Give ∷ []) (over_before o.said.seen o.gives.others (over_last o.says))
+has_said_over o = grind (arith, over_last, list_any-append)

@@ -8,7 +8,7 @@ use Rattle.mk_laws.proofs.Vocabulary.{zero, ◌%◌, ◌+◌, ◌-◌, ◌<◌, 
 use Rattle.mk_laws.proofs.{InvariantHistories.histories_keep_the_invariant, Known.known_left, Protocols.protocol_of}
 use Rattle.mk_laws.proofs.Tallies.{tallies_tell}
 use Rattle.mk_core.specs.Readings.{is_in_turn}
-use Rattle.mk_cycle.{proofs.CellCounts.{AreTheirBits, cells_are_as_many}, specs.ReleasedPages.{sum_below}}
+use Rattle.mk_cycle.{proofs.CellCounts.{cells_are_as_many}, specs.ReleasedPages.{sum_below}}
 use Rattle.mk_heap.{proofs.HostsKept.{all_home}, specs.declared.reports.Report.{Report}}
 use Rattle.mk_heap.specs.{Hosts.{AllAreJoined, HostState, IsHost, Rests}, Reports.{HasCounts, IsWhole, quarantined}}
 use Rattle.mk_words.specs.{Finals.{HasTallies, freed_cells}, Seats.{Has, HasAll}, States.{WordsState, now_of}}
@@ -31,9 +31,12 @@ cells_summed w small (suc n) =
     omega arith
 
 module _ {c : Config} {es : List Event} (h : IsHistory c es) (quiet : phase_of (left c es).now.words ≢ 4) where
-  freed_are : AreTheirBits c es is_quarantined (freed_bits (left c es).now.words)
-  freed_are =
+  pub freed_cells_are_quarantined : freed_cells (left c es).now.words c.pages ≡ quarantined (left c es).allocations
+  freed_cells_are_quarantined =
       let known = (histories_keep_the_invariant c es h).order.quarantined in
+      cells_summed (left c es).now.words (λ p. (known.small p).0) c.pages
+      ∙ cells_are_as_many c es h quiet is_quarantined (freed_bits (left c es).now.words)
+      (let known = (histories_keep_the_invariant c es h).order.quarantined in
       record {
         none = refl;
         small = λ p. (known.small p).0;
@@ -45,13 +48,7 @@ module _ {c : Config} {es : List Event} (h : IsHistory c es) (quiet : phase_of (
         same = λ i unreleased freed.
             let a : PlacedAllocation = placed_at (left c es).allocations i in
             and_from a.freed (not a.released) freed (ap not unreleased) ∙ sym (known.shown i unreleased freed);
-      }
-
-  pub freed_cells_are_quarantined : freed_cells (left c es).now.words c.pages ≡ quarantined (left c es).allocations
-  freed_cells_are_quarantined =
-      let known = (histories_keep_the_invariant c es h).order.quarantined in
-      cells_summed (left c es).now.words (λ p. (known.small p).0) c.pages
-      ∙ cells_are_as_many c es h quiet is_quarantined (freed_bits (left c es).now.words) freed_are
+      })
 
 -- the report of a table that has ended
 abbrev pub report_of : Final → Report
@@ -123,7 +120,6 @@ module _ {h : HostState} {w : WordsState} (host : HasAllHome h w) where
         → HasCounts (final.config_of f) (final.history_of f) (report_of f)
     ends_counted told =
         let r : Report = report_of f in
-        subst (λ (c : Config). HasCounts c (final.history_of f) r) (ap (λ (x : WordsState). x.config) host.table ∙
-        sym config) (subst (λ (es : List Event). HasCounts h.pass.table.config es r) (sym seen) (counts_told f
-        history tidy host.is.no_turn all_rest (subst (λ (x : WordsState). HasTallies (now_of h.pass).words
-        x.config.pages f) (sym host.table) told)))
+        rw (ap (λ (x : WordsState). x.config) host.table ∙
+        sym config) at (rw (← seen) at (counts_told f
+        history tidy host.is.no_turn all_rest (rw (← host.table) at told)))

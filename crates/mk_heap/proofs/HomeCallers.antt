@@ -28,21 +28,12 @@ no_more_overs : (es more : List Event) → has_over more ≡ false → has_over 
 no_more_overs es more none =
     list_any-append (λ (e : Event). is_over e.step) es more ∙ none_besides (has_over es) (has_over more) none
 
--- The events of others have none.
-pub others_overs : (c : Config) {seats : List Seat} {es fs : List Event} → IsHistory c fs → Grows seats es fs
-    → Has seats Host → has_over fs ≡ has_over es
-others_overs c h g has = grind (arith, enabled_in_parts, no_more_overs, none_over)
-
 -- Nor has a step that isn't one, with the events of others before it.
 pub step_overs : {p q : PassState} {s : Step} → Makes p s q → Has p.seats Host → is_over s ≡ false
     → has_over q.seen ≡ has_over p.seen
 step_overs m has out = grind (arith, enabled_in_parts, earlier_part_is_history, no_more_overs, none_besides, none_over)
 
 -- No one comes while the host waits for the turn.
-
-no_take_is_over : (s : Step) → is_take s ≡ true → is_over s ≡ true → ⊥
-no_take_is_over (Step.Take o) t h = cc
-no_take_is_over _ t h = cc
 
 none_over_waiting : (p : PassState) (c : Config) (w : World) (es : List Event) → Has p.seats Host
     → list_all (waits_for p) es ≡ true → AreEnabledFrom c w es → has_over es ≡ false
@@ -56,7 +47,7 @@ none_over_waiting p c w (e ∷ es) has only on =
     by : is_over e.step ≡ true
         → (not (is_one_of p.seats e.seat) ≡ true) ⊎ ((is_take e.step && is_same_seat e.seat p.seat) ≡ true) → ⊥
     by over (inl other) = grind (arith, over_is_hosts, not-true)
-    by over (inr mine) = no_take_is_over e.step (and_parts (is_take e.step) (is_same_seat e.seat p.seat) mine).0 over
+    by over (inr mine) = grind (arith, and_parts)
 
 pub taken_overs : {p q : PassState} → TakesTurn p None q → Has p.seats Host → IsHistory q.table.config q.seen
     → has_over q.seen ≡ has_over p.seen
@@ -70,19 +61,6 @@ taken_overs {p} {q} t has history =
 
 -- After an `over` the phase says so for ever.
 
-five_stays : (x : Step) (n : ℕ) → AsksPhase x n → n ≡ 5 → phase_behind x n ≡ 5
-five_stays Step.Begin n asks five = absurd (omega arith)
-five_stays Step.Want n asks five = absurd (omega arith)
-five_stays Step.Close n asks five = absurd (omega arith)
-five_stays Step.Release n asks five = absurd (omega arith)
-five_stays Step.End n asks five = absurd (omega arith)
-five_stays Step.Over n asks five = refl
-five_stays _ n asks five = five
-
-five_behind : (x : Step) (n : ℕ) → is_over x ≡ true → phase_behind x n ≡ 5
-five_behind Step.Over n h = refl
-five_behind _ n h = cc
-
 over_lasts : (c : Config) (w : World) (es : List Event) → AreEnabledFrom c w es
     → (phase_of w.now.words ≡ 5) ⊎ (has_over es ≡ true) → phase_of (left_from c w es).now.words ≡ 5
 unfolding left_from
@@ -95,8 +73,8 @@ over_lasts c w (e ∷ es) on h =
     by : AsksPhase e.step (phase_of w.now.words) → phase_of (world_behind c w e).now.words ≡ phase_behind e.step
         (phase_of w.now.words) → (phase_of w.now.words ≡ 5) ⊎ (has_over (e ∷ es) ≡ true)
         → (phase_of (world_behind c w e).now.words ≡ 5) ⊎ (has_over es ≡ true)
-    by asks moved (inl five) = inl (moved ∙ five_stays e.step (phase_of w.now.words) asks five)
-    by asks moved (inr has) = grind (arith, or_cases, five_behind)
+    by asks moved (inl five) = grind arith
+    by asks moved (inr has) = grind (arith, or_cases)
 
 pub none_by_phase : {c : Config} {es : List Event} → IsHistory c es → phase_of (left c es).now.words ≢ 5
     → has_over es ≡ false
@@ -113,9 +91,7 @@ hosts_seat {h} is own v =
 pub joined_overs : {h : HostState} {q : PassState} (p : PassState) → IsHost h → Has h.pass.seats h.pass.seat
     → q ≡ (with_joined h p q.seen).pass → IsHistory q.table.config q.seen → Grows h.pass.seats h.pass.seen q.seen
     → has_over q.seen ≡ has_over h.pass.seen
-joined_overs {h} {q} p is own joined history grows =
-    others_overs _ (subst (λ (x : PassState). IsHistory x.table.config q.seen) joined history) grows (subst (λ (s
-    : Seat). Has h.pass.seats s) is.seat own)
+joined_overs {h} {q} p is own joined history grows = grind (arith, enabled_in_parts, no_more_overs, none_over)
 
 -- Callers that weren't made are home, and those that were are joined.
 pub callers_home : {h : HostState} → IsHost h → CallersAreJoined h → HasCallers h.pass.table.config h.pass.seats
@@ -126,12 +102,6 @@ callers_home {h} is joined = λ k lt.
 abbrev pub HoldersStepNone : List Event → Type 0
 HoldersStepNone es = list_any (λ (e : Event). is_holders e.step) es ≡ false
 
-markers_hold_none : (k : ℕ) (x : Step) → is_open_to (Marker k) (group_of x) ≡ true → is_holders x ≡ false
-markers_hold_none k x may = grind arith
-
-take_is_none : (x : Step) → is_take x ≡ true → is_holders x ≡ false
-take_is_none x h = grind arith
-
 module _ (p : PassState) (c : Config) (host : Has p.seats Host) (callers : HasCallers c p.seats) where
   not_home : (s : Seat) → Has p.seats s → not (is_one_of p.seats s) ≡ true → ⊥
   not_home s has out = true≢false (sym has ∙ not-true (is_one_of p.seats s) out)
@@ -139,13 +109,13 @@ module _ (p : PassState) (c : Config) (host : Has p.seats Host) (callers : HasCa
   waiting : (m : Moment) (e : Event) → Meets c m e.seat e.step → waits_for p e ≡ true → is_holders e.step ≡ false
   waiting m e meets waits =
       ⊎_elim (by e.seat meets.seat meets.kind) (λ (mine : (is_take e.step && is_same_seat e.seat p.seat) ≡ true).
-      take_is_none e.step (and_parts (is_take e.step) (is_same_seat e.seat p.seat) mine).0)
+      grind arith)
       (or_cases (not (is_one_of p.seats e.seat)) (is_take e.step && is_same_seat e.seat p.seat) waits)
     where
       by : (s : Seat) → seat_exists c s ≡ true → is_open_to s (group_of e.step) ≡ true
           → not (is_one_of p.seats s) ≡ true → is_holders e.step ≡ false
       by (Caller k) exists may out = absurd (not_home (Caller k) (callers k (ltb-true k c.callers exists)) out)
-      by (Marker k) exists may out = markers_hold_none k e.step may
+      by (Marker k) exists may out = grind arith
       by Host exists may out = absurd (not_home Host host out)
 
   pub waiting_holds_none : (w : World) (es : List Event) → list_all (waits_for p) es ≡ true → AreEnabledFrom c w es
@@ -170,13 +140,7 @@ module _ (p : PassState) (c : Config) (host : Has p.seats Host) (callers : HasCa
 -- The phase stays where no holder steps.
 
 stays_there : (x : Step) (n : ℕ) → is_holders x ≡ false → phase_behind x n ≡ n
-stays_there Step.Begin n h = cc
-stays_there Step.Want n h = cc
-stays_there Step.Close n h = cc
-stays_there Step.Release n h = cc
-stays_there Step.End n h = cc
-stays_there Step.Over n h = cc
-stays_there _ n h = refl
+stays_there x0 n h = grind arith
 
 pub phase_kept : (c : Config) (w : World) (es : List Event) → AreEnabledFrom c w es → HoldersStepNone es
     → phase_of (left_from c w es).now.words ≡ phase_of w.now.words

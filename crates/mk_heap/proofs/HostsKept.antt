@@ -1,7 +1,7 @@
 -- What always holds of the host holds of the first, and is kept where a caller or a marker is made or joined.
 use Rattle.std.proofs.{Common.{IsSome, replicate, ⊎_elim}, lemmas.List.{get_or-replicate, length-replicate}}
 use Rattle.mk_laws.proofs.Vocabulary.{Bool, Caller, Config, Event, Host, IsEnabled, IsHistory, IsWithinLimits, List}
-use Rattle.mk_laws.proofs.Vocabulary.{Marker, Moment, None, Option, Seat, Some, Step, ℕ, ap, arith, at_rest, cases_lt}
+use Rattle.mk_laws.proofs.Vocabulary.{Marker, Moment, None, Option, Seat, Some, Step, ℕ, ap, arith, cases_lt}
 use Rattle.mk_laws.proofs.Vocabulary.{earlier_part_is_history, enabled_meets, false, first_moment, first_world, get_or}
 use Rattle.mk_laws.proofs.Vocabulary.{get_or_past, host_has_turn, left, lt-ltb, ltb-true, marker_at, ne_eqb, not}
 use Rattle.mk_laws.proofs.Vocabulary.{outside, refl, subst, sym, true, [], ◌++◌, ◌+◌, ◌<◌, ◌∙◌, ◌∷◌, ◌≡◌, ◌≤◌}
@@ -70,8 +70,7 @@ still_rests {c} seats es {fs = fs} {s = s} h g has rests =
     let whole = begins h g in
     let kept = others_leave c es g.more s whole.within_limits whole.enabled (others_own seats s g.more has g.of_others)
     in
-    subst (λ (l : List Event). Rests (left c l).now s) (sym g.is)
-    (record { call = kept.own.flight ∙ rests.call; out = kept.own.marker ∙ rests.out })
+    rw g.is (record { call = kept.own.flight ∙ rests.call; out = kept.own.marker ∙ rests.out })
 
 -- and the host hasn't got the turn by them.
 pub still_no_turn : (id : TableId) {c : Config} {seats : List Seat} {es fs : List Event} → IsHistory c fs
@@ -102,9 +101,7 @@ all_same n k x =
     (subst (λ (i : ℕ). i ≤ k) (sym (length-replicate n x)) t)) (cases_lt k n)
 
 first_rests : (c : Config) (s : Seat) → Rests (first_moment c) s
-first_rests c (Caller k) = record { call = all_same c.callers k at_rest; out = refl }
-first_rests c (Marker k) = record { call = refl; out = all_same 8 k outside }
-first_rests c Host = record { call = refl; out = refl }
+first_rests c x1 = grind (arith, all_same)
 
 pub first_is_host : (w : WordsState) → IsHost (first_host w)
 unfolding left_from
@@ -158,21 +155,16 @@ joined_is_host {h} {p} {q} is own done table joined whole mine theirs =
       no_turn = still_no_turn h.pass.table.id history mine
           (subst (λ (s : Seat). Has h.pass.seats s) is.seat own) is.no_turn;
       rests = λ s has. ⊎_elim (λ (t : Has h.pass.seats s). still_rests h.pass.seats h.pass.seen history mine t
-          (is.rests s t)) (λ (t : Has p.seats s). still_rests p.seats p.seen history theirs t (came s t))
+          (is.rests s t)) (λ (t : Has p.seats s). still_rests p.seats p.seen history theirs t (grind (arith, only_one)))
           (has_either h.pass.seats p.seats s has);
       callers = λ k le lt. has_left h.pass.seats p.seats (Caller k) (is.callers k le lt);
       markers = λ k le lt. has_left h.pass.seats p.seats (Marker k) (is.markers k le lt);
     })
-  where
-    came : (s : Seat) → Has p.seats s → Rests (left h.pass.table.config p.seen).now s
-    came s has = grind (arith, only_one)
 
 -- Where all are joined, every seat is home.
 pub all_home : {h : HostState} → IsHost h → Has h.pass.seats h.pass.seat → AllAreJoined h
     → HasAll h.pass.table.config h.pass.seats
-all_home {h} is own joined (Caller k) exists = grind (arith, ltb-true, cases_lt)
-all_home {h} is own joined (Marker k) exists = grind (arith, ltb-true, cases_lt)
-all_home {h} is own joined Host exists = subst (λ (s : Seat). Has h.pass.seats s) is.seat own
+all_home is own joined x3 exists = grind (arith, ltb-true, cases_lt)
 
 -- The next caller has no call in flight.
 pub next_is_idle : {h : HostState} → IsHost h → h.callers < h.pass.table.config.callers

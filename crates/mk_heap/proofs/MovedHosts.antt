@@ -1,9 +1,9 @@
 -- The host's pass goes on: it waits for the turn, and makes steps of its own.
 use Rattle.std.specs.List.{list_all}
 use Rattle.mk_laws.proofs.Vocabulary.{Bool, Caller, Event, Host, IsHistory, List, Marker, None, Seat, Step, Word}
-use Rattle.mk_laws.proofs.Vocabulary.{and_parts, ap, append_assoc, false, host_has_turn, inl, inr, is_one_of, left, not}
-use Rattle.mk_laws.proofs.Vocabulary.{not-true, or_cases, refl, subst, sym, true, true≢false, [], ◌&&◌, ◌++◌, ◌||◌, ◌∙◌}
-use Rattle.mk_laws.proofs.Vocabulary.{◌∷◌, ◌≡◌, ◌⊎◌}
+use Rattle.mk_laws.proofs.Vocabulary.{and_parts, ap, append_assoc, arith, false, host_has_turn, inl, inr, is_one_of}
+use Rattle.mk_laws.proofs.Vocabulary.{left, not, not-true, or_cases, refl, subst, sym, true, true≢false, [], ◌&&◌, ◌++◌}
+use Rattle.mk_laws.proofs.Vocabulary.{◌||◌, ◌∙◌, ◌∷◌, ◌≡◌, ◌⊎◌}
 use Rattle.mk_core.specs.Growing.{AreOfOthers, is_same_seat}
 use Rattle.mk_cycle.specs.Kinds.{begins_marking, clears, closes_marks, holds_gates, is_giving_back, sets_tallies}
 use Rattle.mk_cycle.specs.{BeginCycle.BeginsCycle, FinishCycle.FinishesCycle}
@@ -20,17 +20,15 @@ pub record MovesOn (p q : PassState) : Type 0 where
   pub leaves : (s : Seat) → Has p.seats s → is_same_seat s p.seat ≡ false → AreOfOthers (s ∷ []) more
 
 pub moves_more : (p q r : PassState) (s : Step) → MovesOn p q → Makes q s r → MovesOn p r
-moves_more p q r s v m =
-    let others : AreOfOthers p.seats m.others =
-    subst (λ (x : PassState). AreOfOthers x.seats m.others) v.is m.of_others in
-    record {
-      more = v.more ++ (m.others ++ event_of p s ∷ []);
-      is = joined_lists p q r v.more s v.is m;
-      leaves = λ x has other. others_append (x ∷ []) v.more (m.others ++ event_of p s ∷ []) (v.leaves x has other)
-          (others_append (x ∷ []) m.others (event_of p s ∷ []) (others_own p.seats x m.others has others)
-          (others_one (x ∷ []) (event_of p s) (λ own. true≢false (sym
-          (subst (λ (y : Seat). is_same_seat x y ≡ true) (sym (only_one x p.seat own)) (same_self x)) ∙ other))));
-    }
+moves_more p q r s v m = record {
+  more = v.more ++ (m.others ++ event_of p s ∷ []);
+  is = joined_lists p q r v.more s v.is m;
+  leaves = λ x has other. others_append (x ∷ []) v.more (m.others ++ event_of p s ∷ []) (v.leaves x has other)
+      (others_append (x ∷ []) m.others (event_of p s ∷ [])
+      (others_own p.seats x m.others has (subst (λ (x : PassState). AreOfOthers x.seats m.others) v.is m.of_others))
+      (others_one (x ∷ []) (event_of p s) (λ own. true≢false
+      (sym (subst (λ (y : Seat). is_same_seat x y ≡ true) (sym (only_one x p.seat own)) (same_self x)) ∙ other))));
+}
 
 -- While it waits it makes no step but that.
 waits_leave : (p : PassState) (x : Seat) (es : List Event) → Has p.seats x → is_same_seat x p.seat ≡ false
@@ -46,11 +44,7 @@ waits_leave p x (e ∷ es) has other h =
   where
     by : e.seat ≡ x → (not (is_one_of p.seats e.seat) ≡ true) ⊎ ((is_take e.step && is_same_seat e.seat p.seat) ≡ true)
         → ⊥
-    by same (inl out) =
-        true≢false (sym (subst (λ (y : Seat). Has p.seats y) (sym same) has) ∙ not-true (is_one_of p.seats e.seat) out)
-    by same (inr mine) =
-        true≢false (sym (and_parts (is_take e.step) (is_same_seat e.seat p.seat) mine).1
-        ∙ ap (λ (y : Seat). is_same_seat y p.seat) same ∙ other)
+    by same x1 = grind (arith, not-true, and_parts)
 
 pub waits_move : {p q : PassState} → Waits p q → MovesOn p q
 waits_move {p} w = record { more = w.more; is = w.is; leaves = λ x has other. waits_leave p x w.more has other w.only }

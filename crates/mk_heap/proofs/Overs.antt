@@ -1,10 +1,10 @@
 -- The host says that all is over, and gives its turn back.
 use Rattle.std.proofs.lemmas.List.Sums.{count_by-le-length}
-use Rattle.mk_laws.proofs.Vocabulary.{Config, Event, Host, IsHistory, List, None, Steady, Step, TalliesAreTidy, Word}
-use Rattle.mk_laws.proofs.Vocabulary.{World, ℕ, and_from, ap, append-nil, arith, eq-eqb, false, has_phase}
-use Rattle.mk_laws.proofs.Vocabulary.{host_has_turn, inl, inr, left, ne_eqb, phase_of, refl, suc, true, zero, ◌%◌, ◌+◌}
-use Rattle.mk_laws.proofs.{Vocabulary.{◌/◌, ◌^◌, ◌∙◌, ◌≡◌, ◌≤◌, ◌⊎◌}, Asked.give_phase, Settled.gone_is_unmapped}
-use Rattle.mk_laws.proofs.{Tallies.counts_tidy_more, TallySteps.CountsNothing}
+use Rattle.mk_laws.proofs.Vocabulary.{Config, Event, Host, IsHistory, List, None, Seat, Steady, Step, TalliesAreTidy}
+use Rattle.mk_laws.proofs.Vocabulary.{Word, World, ℕ, and_from, ap, append-nil, arith, eq-eqb, false, has_phase}
+use Rattle.mk_laws.proofs.Vocabulary.{host_has_turn, inl, inr, left, ne_eqb, phase_of, refl, subst, true, ◌%◌, ◌+◌, ◌/◌}
+use Rattle.mk_laws.proofs.{Vocabulary.{◌^◌, ◌∙◌, ◌≡◌, ◌≤◌, ◌⊎◌}, Actors.give_phase, Settled.gone_is_unmapped}
+use Rattle.mk_laws.proofs.Tallies.{counts_tidy_more}
 use Rattle.mk_core.proofs.Histories.{calls_more}
 use Rattle.mk_core.specs.{Counts.TalliesAreExact, Frames.{CountsAreLeft, steady_of}, Moments.none_is_held}
 use Rattle.mk_cycle.proofs.KeptInParts.{free_then, gates_behind, keeps_less, same_config}
@@ -12,17 +12,16 @@ use Rattle.mk_cycle.proofs.{OwnSteps.{keeps_call, keeps_counts, steady_behind}, 
 use Rattle.mk_cycle.proofs.{BeginSteps.none_held_kept, CleaningSteps.calm_keeps, MayAct.may_act}
 use Rattle.mk_cycle.specs.{EngineLaw.{IsAtPhase, IsFreeForCycle}, TurnKeeps.{InTurn, LeavesTurn, but_phase, unchanged}}
 use Rattle.mk_cycle.specs.{BeginCycle.BeginsCycle, FinishCycle.FinishesCycle}
-use Rattle.mk_heap.specs.Ending.{EndsCycle, IsIdleTurn}
+use Rattle.mk_heap.{proofs.{HomeCallers.taken_overs, MovedHosts.turn_moves}, specs.Ending.{IsIdleTurn, TakesIdleTurn}}
+use Rattle.mk_waiting.specs.Taking.{TakesTurn}
 use Rattle.mk_words.proofs.{Made.made, OverPhases.end_is_behind_over, Tallies.settled_tallies}
-use Rattle.mk_words.specs.{Seats.has_over, States.{PassState, now_of}, Steps.{Finds, IsAdmittedTo, IsEnabledTo}}
+use Rattle.mk_words.specs.{Seats.{Has, has_over}, States.{PassState, now_of}, Steps.{Finds, IsAdmittedTo, IsEnabledTo}}
 use Rattle.mk_words.specs.TurnSteps.{Acts, IsFresh, world_at}
 
 -- The host's turn before an `over`: whether a cycle is on, and that none is after the end of one.
 
 at_most_one : (n : ℕ) → n ≤ 1 → (n ≡ 0) ⊎ (n ≡ 1)
-at_most_one zero le = inl refl
-at_most_one (suc zero) le = inr refl
-at_most_one (suc (suc n)) le = absurd (omega arith)
+at_most_one x0 le = grind arith
 
 -- Directly after its `take` a turn has a cycle on or none, and is free for one.
 
@@ -33,33 +32,11 @@ fresh_phase f history before = grind (arith, give_phase, at_most_one, end_is_beh
 pub fresh_free : {p : PassState} → IsFresh p None → IsFreeForCycle p
 fresh_free f = grind arith
 
--- The look at the phase finds it, and keeps all.
-
-pub phase_found : {p : PassState} (q : PassState) (n : ℕ) → InTurn p → Finds p (Step.Look Word.Phase) n q
-    → n % 8 ≡ phase_of (now_of p).words
-phase_found {p} q n t f =
-    let there = made p (Step.Look Word.Phase) q f.makes in
-    ap (λ (i : ℕ). i % 8) f.finds ∙ ap (λ (s : Steady). s.phase) ((there.frame.turn t.holds).0).steady
+-- The look at the phase keeps all.
 
 pub look_keeps : {p q : PassState} → InTurn p → IsFreeForCycle p → Acts p (Step.Look Word.Phase) q
     → LeavesTurn unchanged p q
 look_keeps {p} {q} t free a = calm_keeps p (Step.Look Word.Phase) q a t a.makes.pass.history refl free unchanged refl
-
--- So it reports whether a cycle is on, which is finished then.
-
-pub none_is_on : {p : PassState} (q : PassState) (n : ℕ) → InTurn p → IsFresh p None → has_over p.seen ≡ false
-    → Finds p (Step.Look Word.Phase) n q → (n % 8 ≡ 1 → ⊥) → IsAtPhase p 0
-none_is_on q n t fresh before f other = elim (fresh_phase fresh t.history before) [
-  | inl none ↦ none
-  | inr on ↦ absurd (other (phase_found q n t f ∙ on))
-]
-
-pub ends_none : (p q : PassState) (n : ℕ) → Finds p (Step.Look Word.Phase) n q → IsAtPhase p 0 → EndsCycle p q
-ends_none p q n f none = grind arith
-
-pub ends_one : (p : PassState) {q r : PassState} (n : ℕ) → Finds p (Step.Look Word.Phase) n q → IsAtPhase p 1
-    → FinishesCycle q r → EndsCycle p r
-ends_one p n f on law = grind arith
 
 -- What is exact and tidy stays so where all but the phase is kept.
 
@@ -73,23 +50,72 @@ tidy_kept k x = grind (arith, same_config)
 
 -- What is idle: a turn in which the look found no cycle on, and one in which a cycle was finished.
 
-pub looked_idle : {p q : PassState} → p.seat ≡ Host → InTurn p → IsFresh p None → Acts p (Step.Look Word.Phase) q
-    → IsAtPhase p 0 → TalliesAreExact p.table.config p.seen → TalliesAreTidy p.table.config p.seen → IsIdleTurn q
-looked_idle {p} {q} host t f a none exact tidy =
-    let keeps = look_keeps t (fresh_free f) a in
-    let less = keeps_less unchanged but_phase p q keeps in
-    record {
-      seat = ap (λ (r : PassState). r.seat) keeps.call.pass ∙ host;
-      phase = ap (λ (s : Steady). s.phase) keeps.steady ∙ none;
-      free = free_then p q keeps.call (fresh_free f);
-      gates = none_held_kept p q keeps.call.pass (gates_behind p (Step.Look Word.Phase) q a refl) f.gates;
-      exact = exact_kept less exact;
-      tidy = tidy_kept less tidy;
-    }
-
-pub finished_idle : {p q : PassState} → p.seat ≡ Host → IsFreeForCycle p → FinishesCycle p q
+finished_idle : {p q : PassState} → p.seat ≡ Host → IsFreeForCycle p → FinishesCycle p q
     → TalliesAreExact p.table.config p.seen → TalliesAreTidy p.table.config p.seen → IsIdleTurn q
 finished_idle host free f exact tidy = grind (arith, same_config)
+
+-- The host took the turn, before its `over`, and looked at the phase.
+pub record HasLooked (h p : PassState) (n : ℕ) (q : PassState) : Type 0 where
+  pub own : Has h.seats h.seat
+  pub host : h.seat ≡ Host
+  pub before_over : has_over h.seen ≡ false
+  pub takes : TakesTurn h None p
+  pub fresh : IsFresh p None
+  pub exact : TalliesAreExact p.table.config p.seen
+  pub tidy : TalliesAreTidy p.table.config p.seen
+  pub turn : InTurn p
+  pub finds : Finds p (Step.Look Word.Phase) n q
+  pub acts : Acts p (Step.Look Word.Phase) q
+
+module _ {h p : PassState} {n : ℕ} {q : PassState} (l : HasLooked h p n q) where
+  pub host_has : Has h.seats Host
+  host_has = subst (λ (s : Seat). Has h.seats s) l.host l.own
+
+  pub looked : LeavesTurn unchanged p q
+  looked = look_keeps l.turn (fresh_free l.fresh) l.acts
+
+  less : LeavesTurn but_phase p q
+  less = keeps_less unchanged but_phase p q looked
+
+  seat : q.seat ≡ Host
+  seat = ap (λ (r : PassState). r.seat) (looked.call.pass) ∙ ap (λ (r : PassState). r.seat)
+      (turn_moves h p l.takes).is ∙ l.host
+
+  pub phase_found : n % 8 ≡ phase_of (now_of p).words
+  phase_found =
+      ap (λ (i : ℕ). i % 8) l.finds.finds ∙ ap (λ (s : Steady). s.phase)
+      (((made p (Step.Look Word.Phase) q l.finds.makes).frame.turn l.turn.holds).0).steady
+
+  -- It finds whether a cycle is on: where none is the turn is idle,
+  module _ (other : n % 8 ≡ 1 → ⊥) where
+    none : IsAtPhase p 0
+    none = elim (fresh_phase l.fresh l.turn.history (taken_overs l.takes host_has l.turn.history ∙ l.before_over)) [
+      | inl idle ↦ idle
+      | inr on ↦ absurd (other (phase_found ∙ on))
+    ]
+
+    pub found_none : TakesIdleTurn h q
+    found_none = grind (arith, none)
+
+    pub looked_idle : IsIdleTurn q
+    looked_idle = record {
+      seat = seat;
+      phase = ap (λ (s : Steady). s.phase) looked.steady ∙ none;
+      free = free_then p q looked.call (fresh_free l.fresh);
+      gates = none_held_kept p q looked.call.pass (gates_behind p (Step.Look Word.Phase) q l.acts refl) l.fresh.gates;
+      exact = exact_kept less l.exact;
+      tidy = tidy_kept less l.tidy;
+    }
+
+  -- and else once it is finished.
+  module _ {r : PassState} (law : FinishesCycle q r) where
+    pub found_one : n % 8 ≡ 1 → TakesIdleTurn h r
+    found_one on = grind (arith, phase_found)
+
+    pub finished : IsIdleTurn r
+    finished =
+        finished_idle seat (free_then p q looked.call (fresh_free l.fresh)) law (exact_kept less l.exact)
+        (tidy_kept less l.tidy)
 
 -- A cycle that was begun in an idle turn may be finished there.
 pub begun_free : {p q : PassState} → IsFreeForCycle p → BeginsCycle p q → IsFreeForCycle q
@@ -105,11 +131,8 @@ module _ (p q : PassState) (t : InTurn p) (idle : IsIdleTurn p) (u : InTurn q) (
   abbrev w : World
   w = world_at a.makes
 
-  phase_there : (w.now.words.phase + 5) % 2 ^ 64 % 8 ≡ 5
-  phase_there = grind (arith, made, protocol, count_by-le-length, over_phase)
-
   pub over_at_five : IsAtPhase q 5
-  over_at_five = ap (λ (x : World). phase_of x.now.words) a.world ∙ phase_there
+  over_at_five = grind (arith, made, protocol, count_by-le-length, over_phase)
 
   pub over_keeps : LeavesTurn but_phase p q
   over_keeps = record {
@@ -153,10 +176,6 @@ pub look_admitted : (p : PassState) (x : Word) → p.seat ≡ Host → IsHistory
     → IsAdmittedTo p (Step.Look x)
 look_admitted p x host h = grind (arith, calls_more, append-nil)
 
-look_counts_nothing : (c : Config) (w : World) (x : Word)
-    → CountsNothing c w (record { seat = Host; step = Step.Look x })
-look_counts_nothing c w x = grind arith
-
 tidy_behind_others : {c : Config} {es fs : List Event} → steady_of (left c fs) ≡ steady_of (left c es)
     → CountsAreLeft c es fs → TalliesAreTidy c es → TalliesAreTidy c fs
 tidy_behind_others same counts t = grind arith
@@ -164,7 +183,7 @@ tidy_behind_others same counts t = grind arith
 -- A look leaves the tallies what they count (as in the clients of the shared words).
 pub look_tidy : {p q : PassState} {x : Word} → Acts p (Step.Look x) q → p.seat ≡ Host
     → TalliesAreTidy p.table.config p.seen → TalliesAreTidy q.table.config q.seen
-look_tidy a host t = grind (arith, counts_tidy_more, look_counts_nothing, tidy_behind_others)
+look_tidy a host t = grind (arith, counts_tidy_more, tidy_behind_others)
 
 -- After a `give` the host hasn't the turn.
 pub given_no_turn : {p q : PassState} → Acts p Step.Give q → host_has_turn q.table.config (now_of q) ≡ false

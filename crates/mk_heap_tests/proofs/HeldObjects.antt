@@ -1,17 +1,17 @@
 -- Callers that make and free objects keep to pointers to first words.
 use Rattle.std.proofs.Common.{IfErr, IfOk, OnErr}
-use Rattle.mk_laws.proofs.Vocabulary.{Answer, Bool, Event, List, NeverState, Null, Num, Op, Ptr, Seat, Value, ℕ}
-use Rattle.mk_laws.proofs.Vocabulary.{after_free, ap, arith, caller_number, cases_eq, false, flagged, get_or-set_other}
-use Rattle.mk_laws.proofs.Vocabulary.{inl, inr, length, refl, register_at, subst, sym, true, [], ◌*◌, ◌+◌, ◌<◌, ◌∙◌}
-use Rattle.mk_laws.proofs.{Vocabulary.{◌∷◌, ◌≡◌, ◌≢◌}, OtherCalls.never_continues}
-use Rattle.mk_heap_tests.proofs.Vocabulary.{BothMayAllocate, CallerState, Err, IsCaller, IsIdleCaller, IsPassOfObjects}
+use Rattle.mk_laws.proofs.Vocabulary.{Answer, Bool, Event, List, NeverState, Null, Op, Seat, Value, ℕ, after_free, ap}
+use Rattle.mk_laws.proofs.Vocabulary.{arith, cases_eq, false, flagged, get_or-set_other, inl, inr, length, refl}
+use Rattle.mk_laws.proofs.Vocabulary.{register_at, subst, sym, true, [], ◌*◌, ◌+◌, ◌<◌, ◌∙◌, ◌∷◌, ◌≡◌, ◌≢◌}
+use Rattle.mk_heap_tests.proofs.Vocabulary.{BothMayAllocate, CallerState, Err, IsIdleCaller, IsPassOfObjects}
 use Rattle.mk_heap_tests.proofs.Vocabulary.{MayAllocate, Ok, OnOk, PassState, Result, WordsState, at_home}
-use Rattle.mk_heap_tests.proofs.{Vocabulary.{caller_of_pass, value_of}, JoinedHosts.{has_registers, null_at_first}}
-use Rattle.mk_heap_tests.proofs.JoinedHosts.{pass_after}
+use Rattle.mk_heap_tests.proofs.Vocabulary.{caller_of_pass, value_of}
 use Rattle.mk_never.specs.{Admitted.IsBase, NeverHeap.after_op}
+use Rattle.mk_laws.proofs.OtherCalls.{never_continues}
 use Rattle.mk_alloc.specs.TurnCalls.{CalledInTurn, FreesObject, IsAnsweredDouble, IsAnsweredFull}
 use Rattle.mk_alloc.specs.declared.making.Full.{Full}
-use Rattle.mk_caller.{proofs.After.{set_same}, specs.States.{never_then}}
+use Rattle.mk_caller.{proofs.After.set_same, specs.States.never_then}
+use Rattle.mk_heap_tests.proofs.JoinedHosts.{has_registers, null_at_first, pass_after}
 use Rattle.mk_heap_tests.specs.HeldObjects.{BothGoOn, GoesOn, HoldsObjects, MayMakeObjects}
 use Rattle.mk_objects.specs.{declared.freeing.Double.Double, declared.freeing.Freed.Freed}
 use Rattle.mk_run.specs.Joining.{IsFirstPass}
@@ -19,10 +19,7 @@ use Rattle.mk_run.specs.Joining.{IsFirstPass}
 -- what calls ask of such a caller
 
 pub number_is : {m : ℕ} {s : CallerState} → MayAllocate m s → caller_of_pass s.pass < s.pass.table.config.callers
-number_is {s = s} may =
-    let number : caller_number s.pass.seat ≡ may.ready.number = ap caller_number may.ready.seat in
-    let exists = may.ready.exists in
-    omega arith
+number_is may = grind arith
 
 pub is_alone : {m : ℕ} {s : CallerState} → MayAllocate m s → s.pass.seats ≡ s.pass.seat ∷ []
 is_alone may = may.ready.alone ∙ ap (λ (x : Seat). x ∷ []) (sym may.ready.seat)
@@ -34,17 +31,9 @@ left_there : {on : Bool} {p q : PassState} {o : Op} {a : Answer} → (c : Called
     (caller_of_pass p) r
 left_there {on} {p} c r lt = ap (λ (x : PassState). value_of x r) c.is ∙ c.decided.left_so r lt
 
-has_registers_there : {on : Bool} {p q : PassState} {o : Op} {a : Answer} → (c : CalledInTurn on p o a q)
-    → caller_of_pass p < p.table.config.callers → IsCaller (never_then p c.decided.before) (caller_of_pass p)
-has_registers_there {on} {p} c exists =
-    let on_it = never_continues p.table.config p.seen c.decided.before in
-    subst (λ (count : ℕ). 8 * caller_of_pass p + 7 < count) (sym on_it.registers) (has_registers p exists)
-
 new_sets : {on : Bool} {p q : PassState} {d ty : ℕ} → CalledInTurn on p (Op.New d ty false) Answer.Done q
     → caller_of_pass p < p.table.config.callers → d < 8 → IsBase (value_of q d)
-new_sets {on} {p} {q} {d} {ty} c exists lt =
-    let n : NeverState = never_then p c.decided.before in
-    subst (λ (v : Value). IsBase v) (sym (left_there c d lt ∙ set_same n _ d _ (has_registers_there c exists) lt)) refl
+new_sets {on} {p} {q} {d} {ty} c exists lt = grind (arith, left_there, set_same, never_continues, has_registers)
 
 new_leaves : {on : Bool} {p q : PassState} {d ty : ℕ} → (c : CalledInTurn on p (Op.New d ty false) Answer.Done q)
     → (r : ℕ) → r < 8 → r ≢ d → value_of q r ≡ value_of p r
@@ -60,14 +49,8 @@ new_keeps {on} {p} {q} {d} c exists small h r lt = elim (cases_eq r d) [
   | inr other ↦ subst (λ (v : Value). IsBase v) (sym (new_leaves c r lt other)) (h r lt)
 ]
 
-full_keeps : {on : Bool} {p q : PassState} {d ty : ℕ} → CalledInTurn on p (Op.New d ty false) Answer.Full q
-    → HoldsObjects p → HoldsObjects q
-full_keeps c h r lt = subst (λ (v : Value). IsBase v) (sym (left_there c r lt ∙ c.decided.known r lt)) (h r lt)
-
 free_leaves : (n : NeverState) (k r : ℕ) (v : Value) → register_at (after_free n v) k r ≡ register_at n k r
-free_leaves n k r Null = refl
-free_leaves n k r (Num m) = refl
-free_leaves n k r (Ptr a t o) = refl
+free_leaves n k r x3 = grind arith
 
 pub free_keeps : {on : Bool} {a : Answer} {p q : PassState} {x : ℕ} → CalledInTurn on p (Op.Free x) a q
     → HoldsObjects p → HoldsObjects q
@@ -108,7 +91,9 @@ module _ {m n : ℕ} {s : CallerState} (t : CallerState) (may : MayAllocate m s)
       → IfErr x (λ full. IsAnsweredFull on s.pass (Op.New d 0 false) full.census t.pass) → GoesOn n s t
   made_on on d (Ok u) small made full =
       goes_on (seen_only made) (new_keeps made (number_is may) small may.ready.objects)
-  made_on on d (Err e) small made full = goes_on (seen_only full.called) (full_keeps full.called may.ready.objects)
+  made_on on d (Err e) small made full = goes_on (seen_only full.called)
+      (λ r lt. subst (λ (v : Value). IsBase v) (sym (left_there full.called r lt ∙ full.called.decided.known r lt))
+      (may.ready.objects r lt))
 
   pub freed_on : (on : Bool) (x : ℕ) (y : Result Freed Double) → IfOk y
       (λ freed. FreesObject on s.pass x freed.due t.pass) → OnErr y (IsAnsweredDouble on s.pass x t.pass) → GoesOn n s t
@@ -152,11 +137,7 @@ module _ {m n : ℕ} {s t : CallerState} (both : BothMayAllocate m s t) where
       }
 
 pub both_then : {m n : ℕ} {s t u v x y : CallerState} → BothGoOn m s t u v → BothGoOn n u v x y → BothGoOn n s t x y
-both_then {x = x} {y = y} one two = record {
-  may = two.may;
-  first = two.first ∙ ap (λ (p : PassState). record p { seen = x.pass.seen }) one.first;
-  second = two.second ∙ ap (λ (p : PassState). record p { seen = y.pass.seen }) one.second;
-}
+both_then one two = grind arith
 
 -- Callers before their first call may make objects.
 
@@ -188,7 +169,4 @@ both_may first second is_s is_t two ty engine = record {
 pub pass_of_objects : {w : WordsState} {k : ℕ} {p q : PassState} {s t : CallerState} → IsFirstPass w k p
     → s ≡ at_home p → t.pass ≡ record s.pass { seen = t.pass.seen } → MayMakeObjects t → q ≡ t.pass
     → IsIdleCaller t.pass → IsPassOfObjects w k q
-pass_of_objects {w} {k} first is_s is_t ready is_q idle = record {
-  pass = pass_after first is_s is_t is_q idle;
-  objects = subst (λ (r : PassState). HoldsObjects r) (sym is_q) ready.objects;
-}
+pass_of_objects first is_s is_t ready is_q idle = grind (arith, pass_after)

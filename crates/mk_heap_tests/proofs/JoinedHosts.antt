@@ -2,8 +2,8 @@
 use Rattle.std.proofs.lemmas.List.{length-replicate}
 use Rattle.mk_laws.proofs.Vocabulary.{Caller, Config, Event, Host, List, Null, Seat, ℕ, all_below-at, ap, arith, asked}
 use Rattle.mk_laws.proofs.Vocabulary.{calls, false, host_has_turn, inl, inr, is_held, length, lt-ltb, never_behind, not}
-use Rattle.mk_laws.proofs.Vocabulary.{not-true, refl, subst, suc, sym, true, zero, [], ◌*◌, ◌++◌, ◌+◌, ◌<◌, ◌∙◌, ◌∷◌}
-use Rattle.mk_laws.proofs.{Vocabulary.{◌≡◌, ◌⊎◌}, OrderlyLists.at_first}
+use Rattle.mk_laws.proofs.Vocabulary.{not-true, refl, subst, sym, true, [], ◌*◌, ◌++◌, ◌+◌, ◌<◌, ◌∙◌, ◌∷◌, ◌≡◌, ◌⊎◌}
+use Rattle.mk_laws.proofs.OrderlyLists.{at_first}
 use Rattle.mk_heap_tests.proofs.Vocabulary.{CallerState, Has, HoldsNull, HostState, IsCaller, IsIdleCaller, IsPassFor}
 use Rattle.mk_heap_tests.proofs.Vocabulary.{PassState, WordsState, at_home, caller_of_pass, has_all, now_of, pass_for}
 use Rattle.mk_heap_tests.{proofs.Vocabulary.{value_of}, specs.Passes.{HasJoinedOne}}
@@ -39,22 +39,12 @@ null_at_first p r is =
     cc (is, none_called c, at_first (8 * c.callers) (8 * caller_of_pass p + r) Null)
 
 pub holds_null : {w : WordsState} {k : ℕ} {p : PassState} → IsFirstPass w k p → k < w.config.callers → HoldsNull p
-holds_null {k} {p} first lt = record {
-  number = k;
-  seat = first.seat;
-  exists = subst (λ (v : WordsState). k < v.config.callers) (sym first.table) lt;
-  null = null_at_first p 1 first.seen;
-}
+holds_null first lt = grind (arith, null_at_first)
 
 -- A pass after its caller's calls.
 pub pass_after : {w : WordsState} {k : ℕ} {p q r : PassState} {s : CallerState} → IsFirstPass w k p → s ≡ at_home p
     → r ≡ record s.pass { seen = r.seen } → q ≡ r → IsIdleCaller r → IsPassFor w k q
-pass_after {w} {k} first is_s is_r is_q idle = subst (λ (x : PassState). IsPassFor w k x) (sym is_q) (record {
-  table = cc (is_r, is_s, first.table);
-  seat = cc (is_r, is_s, first.seat);
-  alone = cc (is_r, is_s, first.alone);
-  idle = idle;
-})
+pass_after first is_s is_r is_q idle = grind arith
 
 -- A pass before its caller's first call.
 pub first_for : {w : WordsState} {k : ℕ} {p : PassState} → IsFirstPass w k p → IsPassFor w k p
@@ -97,29 +87,25 @@ pub has_joined : (xs ys : List Seat) (s : Seat) → ys ≡ s ∷ [] → Has (xs 
 has_joined xs ys s is = has_right xs ys s (subst (λ (l : List Seat). Has l s) (sym is) (has_first s []))
 
 zero_or_one : (k : ℕ) → k < 2 → (k ≡ 0) ⊎ (k ≡ 1)
-zero_or_one zero lt = inl refl
-zero_or_one (suc zero) lt = inr refl
-zero_or_one (suc (suc k)) lt = absurd (omega arith)
+zero_or_one x0 lt = grind arith
 
 -- of a host that made two callers, and joins the second, and then the first
 pub two_are_joined : {w : WordsState} {h a b : HostState} {p q : PassState} (es fs : List Event)
     → h ≡ with_caller_made (with_caller_made (first_host w)) → IsPassFor w 1 p → IsPassFor w 0 q
     → a ≡ with_joined h p es → b ≡ with_joined a q fs → AllAreJoined b
 two_are_joined {w} {h} {a} {b} {p} {q} es fs is second first is_a is_b =
-    let seats : b.pass.seats ≡ (h.pass.seats ++ p.seats) ++ q.seats =
-    ap (λ (x : HostState). x.pass.seats) is_b ∙ ap (λ (x : HostState). x.pass.seats ++ q.seats) is_a in
+    let seats = ap (λ (x : HostState). x.pass.seats) is_b ∙ ap (λ (x : HostState). x.pass.seats ++ q.seats) is_a in
     let callers : b.callers ≡ 2 = ap (λ (x : HostState). x.callers) is_b ∙ ap (λ (x : HostState). x.callers) is_a
     ∙ ap (λ (x : HostState). x.callers) is in
     let markers : b.markers ≡ 0 = ap (λ (x : HostState). x.markers) is_b ∙ ap (λ (x : HostState). x.markers) is_a
     ∙ ap (λ (x : HostState). x.markers) is in
-    let zeroth : Has b.pass.seats (Caller 0) =
-    subst (λ (l : List Seat). Has l (Caller 0)) (sym seats) (has_joined (h.pass.seats ++ p.seats) _ _ first.alone) in
-    let other : Has b.pass.seats (Caller 1) = subst (λ (l : List Seat). Has l (Caller 1)) (sym seats)
-    (has_left (h.pass.seats ++ p.seats) q.seats (Caller 1) (has_joined h.pass.seats p.seats (Caller 1) second.alone)) in
+    let zeroth : Has b.pass.seats (Caller 0) = rw seats (has_joined (h.pass.seats ++ p.seats) _ _ first.alone) in
+    let other : Has b.pass.seats (Caller 1) = rw seats (has_left (h.pass.seats ++ p.seats) q.seats (Caller 1)
+    (has_joined h.pass.seats p.seats (Caller 1) second.alone)) in
     record {
       callers = λ k lt. elim (zero_or_one k (omega arith)) [
-        | inl e ↦ subst (λ (i : ℕ). Has b.pass.seats (Caller i)) (sym e) zeroth
-        | inr e ↦ subst (λ (i : ℕ). Has b.pass.seats (Caller i)) (sym e) other
+        | inl e ↦ rw e zeroth
+        | inr e ↦ rw e other
       ];
       markers = λ k lt. absurd (omega arith);
     }
@@ -189,13 +175,7 @@ first_split {w} k {h = h} p u some is =
 -- the caller's pass, as its calls ask for it
 pub pass_of : {w : WordsState} {k : ℕ} {p : PassState} (s : CallerState) → IsFirstPass w k p → k < w.config.callers
     → s ≡ at_home p → IsPassOf s.pass.table s.pass
-pass_of {k} s pass few is = subst (λ (x : CallerState). IsPassOf x.pass.table x.pass) (sym is) (record {
-  number = k;
-  exists = subst (λ (v : WordsState). k < v.config.callers) (sym pass.table) few;
-  table = refl;
-  seat = pass.seat;
-  seats = pass.alone;
-})
+pass_of s pass few is = grind arith
 
 pub none_is_held_at : (p : PassState) (j : ℕ) → j < p.table.config.callers
     → none_is_held p.table.config.callers (now_of p).words ≡ true → is_held (now_of p).words j ≡ false

@@ -1,9 +1,8 @@
 -- A marker that is out, or comes in, the host's turn and cycle beside it, and the caller that was joined.
 use Rattle.std.specs.Result.{is_err}
-use Rattle.mk_laws.proofs.Vocabulary.{Caller, Config, Event, Host, IsEnabled, List, Marker, MarkerState, None, Presence}
-use Rattle.mk_laws.proofs.Vocabulary.{Seat, Steady, Step, Word, ℕ, ap, arith, eq-eqb, false, is_attending, is_held}
-use Rattle.mk_laws.proofs.Vocabulary.{is_number_of, marker_at, others_are_held, outside, phase_of, refl, subst, sym}
-use Rattle.mk_laws.proofs.Vocabulary.{true, [], ◌%◌, ◌<◌, ◌∙◌, ◌∷◌, ◌≡◌}
+use Rattle.mk_laws.proofs.Vocabulary.{Caller, Config, Event, Host, List, Marker, MarkerState, None, Seat, Steady, Step}
+use Rattle.mk_laws.proofs.Vocabulary.{ℕ, ap, arith, eq-eqb, false, is_held, is_number_of, marker_at, others_are_held}
+use Rattle.mk_laws.proofs.Vocabulary.{outside, phase_of, refl, subst, sym, true, [], ◌%◌, ◌∙◌, ◌∷◌, ◌≡◌}
 use Rattle.mk_heap_tests.proofs.Vocabulary.{CallerState, Err, Has, HostState, InTurn, IsEnabledTo, Ok, OnOk, PassState}
 use Rattle.mk_heap_tests.proofs.Vocabulary.{Result, WordsState, at_home, has_all, now_of, pass_for}
 use Rattle.mk_heap_tests.proofs.JoinedHosts.{IsUnused, free_at_first, has_joined, none_is_held_at, only_zero, split_is}
@@ -12,40 +11,28 @@ use Rattle.mk_core.specs.{History.left_from, MarkerConditions.is_out}
 use Rattle.mk_cycle.proofs.HoldingSteps.{all_held_below, held_free, held_table, hold_allowed, hold_holds}
 use Rattle.mk_cycle.proofs.{Allowed.{or_true, protocol}, BeginSteps.none_held_kept, MayAct.may_act}
 use Rattle.mk_cycle.specs.{BeginCycle.BeginsCycle, EngineLaw.IsFreeForCycle, Holding.HoldsGates}
-use Rattle.mk_heap.proofs.{HostsKept.{first_is_host, host_may_take}, Overs.{begun_free, fresh_free, look_keeps}}
-use Rattle.mk_heap.proofs.{Overs.{looked_idle, none_is_on}, HomeCallers.taken_overs, MovedHosts.turn_moves}
+use Rattle.mk_heap.proofs.{Overs.{HasLooked, begun_free, looked, looked_idle}, HostsKept.{first_is_host, host_may_take}}
+use Rattle.mk_heap.proofs.MovedHosts.{turn_moves}
 use Rattle.mk_heap.specs.Hosts.{IsHost, first_host, with_caller_made, with_joined, with_marker_made}
-use Rattle.mk_heap.specs.Ending.{IsIdleTurn}
-use Rattle.mk_heap_tests.specs.{Passes.{HasJoinedOne, HostIsMarking, IsHostsPass, IsMarkerOut}, Taken.IsTaken}
+use Rattle.mk_heap_tests.specs.Passes.{HasJoinedOne, HostIsMarking, IsHostsPass, IsMarkerOut}
 use Rattle.mk_marker.specs.Markers.{IsOut, attends}
-use Rattle.mk_words.proofs.Seats.{without_keeps}
-use Rattle.mk_words.specs.{Markers.marker_in, Seats.{all_seats, has_over, without_seat}, Steps.Finds, TurnSteps.Acts}
-
-out_attends_not : (x : Presence) → is_out x ≡ true → is_attending x ≡ false
-out_attends_not Presence.Out h = refl
-out_attends_not Presence.Visiting h = refl
-out_attends_not Presence.Attending h = cc
+use Rattle.mk_words.{proofs.Seats.{without_keeps}, specs.{Seats.{all_seats, has_over, without_seat}, TurnSteps.Acts}}
 
 pub attends_not : (p : PassState) → IsOut p → attends p ≡ false
-attends_not p out = out_attends_not (marker_in p).presence out
+attends_not p out = grind arith
 
 -- The marker of a heap that nobody has used.
 
-out_at_first : (w : WordsState) (p : PassState)
-    → p ≡ record { table = w; seat = Marker 0; seats = Marker 0 ∷ []; seen = [] } → IsMarkerOut w p
-out_at_first w p is =
-    let host : IsHost (first_host w) = first_is_host w in
-    subst (λ (q : PassState). IsMarkerOut w q) (sym is) (record {
+pub marker_split : {w : WordsState} {h : PassState} (m : PassState) → IsUnused w h
+    → m ≡ record h { seat = Marker 0; seats = Marker 0 ∷ [] } → IsMarkerOut w m
+marker_split {w} {h} m u is = let host : IsHost (first_host w) = first_is_host w in
+    subst (λ (q : PassState). IsMarkerOut w q) (sym (split_is m (Marker 0) u is)) (record {
       table = refl;
       seat = refl;
       alone = refl;
       out = ap (λ (x : MarkerState). is_out x.presence)
           (host.rests (Marker 0) (host.markers 0 (omega arith) (omega arith))).out;
     })
-
-pub marker_split : {w : WordsState} {h : PassState} (m : PassState) → IsUnused w h
-    → m ≡ record h { seat = Marker 0; seats = Marker 0 ∷ [] } → IsMarkerOut w m
-marker_split {w} {h} m u is = out_at_first w m (split_is m (Marker 0) u is)
 
 -- The host of a table that nobody has used, which split off its first caller and then its first marker.
 
@@ -63,56 +50,32 @@ marker_is_home c h g first less =
     subst (λ (xs : List Seat). Has xs (Marker 0)) (sym less) (without_keeps (Caller 0) h.seats (Marker 0) refl
     (subst (λ (xs : List Seat). Has xs (Marker 0)) (sym first) (has_all c (Marker 0) refl)))
 
-pub host_at_first : {w : WordsState} {p : PassState} → IsUnused w p → IsHostsPass w p
-host_at_first {w} {p} u =
-    record { table = u.table; seat = u.seat; without = free_at_first u; before_over = ap has_over u.seen }
-
 -- after two splits
 pub host_after_splits : {w : WordsState} {h g j : PassState} {xs ys zs : List Seat}
     → h ≡ record { table = w; seat = Host; seats = xs; seen = [] } → g ≡ record h { seats = ys }
     → j ≡ record g { seats = zs } → IsHostsPass w j
-host_after_splits is one two = host_at_first (still_unused (still_unused (unused is) one) two)
+host_after_splits is one two = grind (arith, still_unused, unused, free_at_first)
 
 pub host_may : {w : WordsState} {p : PassState} → IsHostsPass w p → IsEnabledTo p (Step.Take None)
 host_may {p} host =
-    subst (λ (s : Seat). IsEnabled p.table.config (now_of p) (record { seat = s; step = Step.Take None }))
-    (sym host.seat) (host_may_take p.table.config (now_of p) host.without)
+    rw host.seat (host_may_take p.table.config (now_of p) host.without)
 
 -- The turn that it took for no operation, and its cycle.
-pub record HasLooked (w : WordsState) (h p : PassState) (n : ℕ) (q : PassState) : Type 0 where
-  pub host : IsHostsPass w h
-  pub taken : IsTaken h None p
-  pub finds : Finds p (Step.Look Word.Phase) n q
-  pub acts : Acts p (Step.Look Word.Phase) q
+module _ {w : WordsState} {h p : PassState} {n : ℕ} {q : PassState} (host : IsHostsPass w h) (l : HasLooked h p n q)
+  where
+    pub looked_table : q.table ≡ w
+    looked_table = cc ((looked l).call.pass, (turn_moves h p l.takes).is, host.table)
 
-module _ {w : WordsState} {h p : PassState} {n : ℕ} {q : PassState} (l : HasLooked w h p n q) where
-  pub looked_table : q.table ≡ w
-  looked_table =
-      cc (
-        (look_keeps l.taken.turn (fresh_free l.taken.fresh) l.acts).call.pass,
-        (turn_moves h p l.taken.takes).is,
-        l.host.table,
-      )
-
-  module _ (none : n % 8 ≡ 1 → ⊥) where
-    before : has_over p.seen ≡ false
-    before =
-        taken_overs l.taken.takes (subst (λ (s : Seat). Has h.seats s) l.host.seat l.taken.own) l.taken.turn.history
-        ∙ l.host.before_over
-
-    pub idle : IsIdleTurn q
-    idle =
-        looked_idle (ap (λ (x : PassState). x.seat) (turn_moves h p l.taken.takes).is ∙ l.host.seat) l.taken.turn
-        l.taken.fresh l.acts (none_is_on q n l.taken.turn l.taken.fresh before l.finds none) l.taken.exact l.taken.tidy
-
-    pub marking : {r : PassState} → BeginsCycle q r → HostIsMarking w r
-    marking {r} begins = record {
-      table = ap (λ (x : PassState). x.table) begins.pass ∙ looked_table;
-      seat = ap (λ (x : PassState). x.seat) begins.pass ∙ idle.seat;
-      phase = ap (λ (s : Steady). s.phase) begins.steady;
-      free = begun_free idle.free begins;
-      gates = none_held_kept q r begins.pass begins.gates idle.gates;
-    }
+    pub marking : (n % 8 ≡ 1 → ⊥) → {r : PassState} → BeginsCycle q r → HostIsMarking w r
+    marking none {r} begins =
+        let idle = looked_idle l none in
+        record {
+          table = ap (λ (x : PassState). x.table) begins.pass ∙ looked_table;
+          seat = ap (λ (x : PassState). x.seat) begins.pass ∙ idle.seat;
+          phase = ap (λ (s : Steady). s.phase) begins.steady;
+          free = begun_free idle.free begins;
+          gates = none_held_kept q r begins.pass begins.gates idle.gates;
+        }
 
 pub on_ok : {A B : Type 0} (x : Result A B) (P : Type 0) → is_err x ≡ false → OnOk x P → P
 on_ok (Ok a) P is h = h
@@ -123,12 +86,8 @@ module _ (w : WordsState) {p : PassState} (m : HostIsMarking w p) (one : w.confi
   one_caller : p.table.config.callers ≡ 1
   one_caller = ap (λ (v : WordsState). v.config.callers) m.table ∙ one
 
-  there : 0 < p.table.config.callers
-  there = let is = one_caller in omega arith
-
   pub may_hold : IsEnabledTo p (Step.Hold 0)
-  may_hold = hold_allowed p t m.free 0 there (ap (λ (s : Seat). is_number_of s 0) m.seat)
-      (none_is_held_at p 0 there m.gates)
+  may_hold = grind (arith, hold_allowed, none_is_held_at, one_caller)
 
 -- It held the caller's gate.
 pub record HasHeld (w : WordsState) (p q : PassState) : Type 0 where
@@ -173,8 +132,7 @@ joined_one w f g h j p is_f is_g is_h is_j alone overs =
       before_over = overs ∙ ap (λ (x : HostState). has_over x.pass.seen) all;
       callers = ap (λ (x : HostState). x.callers) is_j ∙ ap (λ (x : HostState). x.callers) all;
       joined =
-          subst (λ (l : List Seat). Has l (Caller 0)) (sym (ap (λ (x : HostState). x.pass.seats) is_j))
-          (has_joined h.pass.seats p.seats (Caller 0) alone);
+          rw (ap (λ (x : HostState). x.pass.seats) is_j) (has_joined h.pass.seats p.seats (Caller 0) alone);
       markers = ap (λ (x : HostState). x.markers) is_j ∙ ap (λ (x : HostState). x.markers) all;
     }
 

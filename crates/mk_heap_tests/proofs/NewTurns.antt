@@ -1,6 +1,6 @@
 -- A caller's turn for a New, from its `take` to its `give`.
-use Rattle.mk_laws.proofs.Vocabulary.{Answer, Bool, IsHistory, Op, Some, Step, ℕ, ap, arith, at_rest, caller_number}
-use Rattle.mk_laws.proofs.Vocabulary.{false, has_operands, length, lt-ltb, refl, subst, sym, true, ◌&&◌, ◌<◌, ◌∙◌, ◌≡◌}
+use Rattle.mk_laws.proofs.Vocabulary.{Answer, Bool, IsHistory, Op, Some, Step, ℕ, ap, arith, at_rest, false, length}
+use Rattle.mk_laws.proofs.Vocabulary.{lt-ltb, refl, ◌<◌, ◌∙◌, ◌≡◌}
 use Rattle.mk_heap_tests.proofs.Vocabulary.{InTurn, IsEnabledTo, IsPassFor, IsPassOfObjects, PassState, WordsState}
 use Rattle.mk_heap_tests.proofs.Vocabulary.{caller_of_pass, now_of}
 use Rattle.mk_alloc.proofs.CalledTurns.{Taken, callers, take_allowed, taken_phase, taken_same}
@@ -17,24 +17,14 @@ abbrev pub first_new : Op
 first_new = Op.New 0 0 false
 
 module _ {w : WordsState} {k : ℕ} {p : PassState} (is : IsPassFor w k p) where
-  number : caller_of_pass p ≡ k
-  number = ap caller_number is.seat
-
   pub exists : k < w.config.callers → caller_of_pass p < p.table.config.callers
-  exists few =
-      subst (λ (v : WordsState). caller_of_pass p < v.config.callers) (sym is.table)
-      (subst (λ (n : ℕ). n < w.config.callers) (sym number) few)
+  exists few = grind arith
 
   pub may_free : k < w.config.callers → IsEnabledTo p (Step.Take (Some (Op.Free 0)))
   may_free few = take_allowed (Op.Free 0) is.idle (exists few) refl refl
 
-  operands : 0 < length w.config.types → has_operands p.table.config first_new ≡ true
-  operands typed =
-      operands_of p.table.config 0 0 (omega arith)
-      (subst (λ (v : WordsState). 0 < length v.config.types) (sym is.table) typed)
-
   pub may_make : k < w.config.callers → 0 < length w.config.types → IsEnabledTo p (Step.Take (Some first_new))
-  may_make few typed = take_allowed first_new is.idle (exists few) refl (operands typed)
+  may_make few typed = grind (arith, take_allowed, first_new, exists, operands_of)
 
 module _ {w : WordsState} {k : ℕ} {o : Op} {p q : PassState} (is : IsPassFor w k p) (t : IsTaken p (Some o) q) where
   taken_is : q ≡ record p { seen = q.seen }
@@ -89,9 +79,7 @@ module _ {w : WordsState} {k : ℕ} {p q : PassState} (is : IsPassFor w k p) (fe
 
 pub may_retire : {w : WordsState} {k r : ℕ} {p : PassState} → IsPassOfObjects w k p → k < w.config.callers → r < 8
     → IsEnabledTo p (Step.Take (Some (Op.Free r)))
-may_retire {r = r} is few small =
-    take_allowed (Op.Free r) is.pass.idle (exists is.pass few) refl
-    (ap (λ (b : Bool). true && b && true && true && true && true) (lt-ltb r 8 small))
+may_retire is few small = grind (arith, take_allowed, lt-ltb)
 
 module _ {w : WordsState} {k r : ℕ} {p q : PassState} (of : IsPassOfObjects w k p) (few : k < w.config.callers)
     (t : IsTaken p (Some (Op.Free r)) q) where

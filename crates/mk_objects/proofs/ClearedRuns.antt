@@ -1,15 +1,15 @@
 -- A run is unmapped and wiped, and then the gates are opened.
-use Rattle.mk_laws.proofs.Vocabulary.{Bool, Config, Event, Holding, Holds, IsHistory, List, None, Option, RunPages}
-use Rattle.mk_laws.proofs.Vocabulary.{Seat, Some, Steady, Step, World, ℕ, ap, arith, false, is_held, is_number_of}
-use Rattle.mk_laws.proofs.Vocabulary.{is_run_gone, left, not, others_are_held, refl, subst, sym, true, world_behind, []}
-use Rattle.mk_laws.proofs.{Vocabulary.{◌++◌, ◌<◌, ◌||◌, ◌∙◌, ◌∷◌, ◌≡◌}, LastEvents.{ComesLast, comes_last, stands}}
-use Rattle.mk_laws.proofs.{RunWords.gone_behind, RunsStill.holder_finds}
+use Rattle.mk_laws.proofs.Vocabulary.{Config, Event, Holding, Holds, IsHistory, List, None, Option, RunPages, Seat}
+use Rattle.mk_laws.proofs.Vocabulary.{Some, Steady, Step, World, ℕ, ap, arith, is_held, is_number_of, is_run_gone, left}
+use Rattle.mk_laws.proofs.Vocabulary.{others_are_held, refl, subst, sym, true, world_behind, [], ◌++◌, ◌<◌, ◌||◌, ◌∙◌}
+use Rattle.mk_laws.proofs.{Vocabulary.{◌∷◌, ◌≡◌}, LastEvents.{ComesLast, comes_last, stands}, RunWords.gone_behind}
+use Rattle.mk_laws.proofs.RunsStill.{holder_finds}
 use Rattle.mk_objects.proofs.Vocabulary.{Does, PassState, RunIsUnmapped, RunIsWiped, SetsGates, Unmaps, Wipes}
-use Rattle.mk_objects.proofs.Vocabulary.{WordsState, all_below_from, all_others, is_clearing, is_settling, now_of}
-use Rattle.mk_objects.proofs.{Vocabulary.world_of, DecidedFrees.{Stays, gates_stay, stays_then, unmaps_stay}}
-use Rattle.mk_objects.proofs.{DecidedFrees.wipes_stay, FreedOnce.{Another, KeptInTurn, Own, along_turn}}
-use Rattle.mk_objects.{proofs.JoinedLooks.{reached_world}, specs.{Deciding.ClearsRun, FreeParts.no_gate}}
+use Rattle.mk_objects.proofs.Vocabulary.{all_below_from, all_others, is_clearing, is_settling, now_of, world_of}
+use Rattle.mk_objects.proofs.DecidedFrees.{Stays, gates_stay, stays_then, unmaps_stay, wipes_stay}
+use Rattle.mk_objects.proofs.{FreedOnce.{Another, KeptInTurn, Own, along_turn}, JoinedLooks.reached_world}
 use Rattle.mk_core.specs.Growing.{AreOfOthers}
+use Rattle.mk_objects.specs.{Deciding.ClearsRun, FreeParts.no_gate}
 
 -- A run that the call has unmapped and wiped stays so, while gates are opened and tallies set.
 
@@ -51,10 +51,7 @@ pub stopped_by : (p : PassState)
     → others_are_held p.table.config.callers (now_of p).words p.seat ≡ true
 stopped_by p held =
     all_below_from p.table.config.callers (λ j. is_number_of p.seat j || is_held (now_of p).words j)
-    (λ j lt. ap (λ b. is_number_of p.seat j || b) (held j lt) ∙ either (is_number_of p.seat j))
-  where
-    either : (b : Bool) → (b || not b) ≡ true
-    either x0 = grind arith
+    (λ j lt. ap (λ b. is_number_of p.seat j || b) (held j lt) ∙ (grind arith))
 
 -- what each part leaves
 
@@ -85,6 +82,5 @@ clears {p} {b} {q} unmaps wipes opens gone =
       fresh = ap (λ (x : Steady). x.fresh) three.but_gates.steady ∙ ap (λ (x : Steady). x.fresh) two.changes.steady
           ∙ ap (λ (x : Steady). x.fresh) one.changes.steady;
       gone = gone;
-      gates = subst (λ (t : WordsState). (j : ℕ) → j < t.config.callers → is_held (now_of q).words j ≡ false) table
-          (λ j lt. three.held j lt);
+      gates = rw (← table) (λ j lt. three.held j lt);
     }

@@ -1,11 +1,10 @@
 -- A Free is decided, and parts of its turn come before that and after it.
-use Rattle.mk_laws.proofs.Vocabulary.{Answer, Bool, Cell, Config, Flight, Holding, Holds, IsHistory, List, Page}
+use Rattle.mk_laws.proofs.Vocabulary.{Answer, Bool, Cell, Flight, Holding, Holds, IsHistory, List, Page}
 use Rattle.mk_laws.proofs.Vocabulary.{PlacedAllocation, RunPages, Seat, Some, Steady, Step, Tally, Words, World, ℕ}
-use Rattle.mk_laws.proofs.Vocabulary.{all_below-at, ap, arith, cond, false, flight_of, freed_released}
-use Rattle.mk_laws.proofs.Vocabulary.{freed_where_it_stands, is_held, map, not, refl, subst, sym, true, [], ◌+◌, ◌<◌}
-use Rattle.mk_laws.proofs.Vocabulary.{◌↔◌, ◌∙◌, ◌∷◌, ◌≡◌}
-use Rattle.mk_objects.proofs.Vocabulary.{Changes, ComesTo, FreesCell, HasFreed, IsFreedAt, IsOverQuarter, IsTrue}
-use Rattle.mk_objects.proofs.Vocabulary.{OnlyLooks, PassState, SetsGates, SetsTally, StaysSo, Unmaps, Wipes, WordsState}
+use Rattle.mk_laws.proofs.Vocabulary.{all_below-at, ap, arith, cond, flight_of, freed_released, freed_where_it_stands}
+use Rattle.mk_laws.proofs.Vocabulary.{is_held, map, not, refl, sym, true, [], ◌+◌, ◌↔◌, ◌∙◌, ◌∷◌, ◌≡◌}
+use Rattle.mk_objects.proofs.Vocabulary.{Changes, ComesTo, FreesCell, HasFreed, IsOverQuarter, IsTrue, OnlyLooks}
+use Rattle.mk_objects.proofs.Vocabulary.{PassState, SetsGates, SetsTally, StaysSo, Unmaps, Wipes, WordsState}
 use Rattle.mk_objects.proofs.Vocabulary.{all_below_from, entry_for, is_clearing, is_following, is_freeing, is_look}
 use Rattle.mk_objects.proofs.Vocabulary.{is_settling, none_is_held, now_of, steady_of, sum_by-cons, world_of}
 use Rattle.mk_core.specs.Counts.{releases}
@@ -80,14 +79,11 @@ freed_releases w cell (a ∷ xs) =
     ∙ ap (λ n. cond {A = ℕ} (freed_where_it_stands w (Some cell) a).released 1 0 + n) (freed_releases w cell xs)
     ∙ ap (λ b. cond {A = ℕ} b 1 0 + releases xs) (freed_released w (Some cell) a) ∙ sym (one a xs)
 
-decided_by : {c : Config} {s : Seat} {cell : Cell} {w v : World} → IsFreedAt c s cell w v → IsDecidedAt s w v
-decided_by at = grind (arith, freed_releases)
-
 abbrev pub Decides : (Step → Bool) → PassState → Answer → PassState → Type 0
 Decides kinds p a q = ComesTo kinds p (IsDecidedAt p.seat (world_of p)) (entry_for p a) q
 
 pub freed_decides : {p q : PassState} {cell : Cell} → HasFreed p cell q → Decides is_freeing p Answer.Done q
-freed_decides a = reaches_so a (λ at. decided_by at)
+freed_decides a = grind (arith, reaches_so, freed_releases)
 
 -- what follows leaves it decided,
 
@@ -159,10 +155,9 @@ module _ {kinds : Step → Bool} {p q : PassState} (a : Prepares kinds p q) wher
         (freed_where_it_stands (now_of p).words (Some cell)) xs) (ap (λ (x : Steady). x.allocations) now.steady);
     once = once_behind not a.does h holds f.once;
     gone = f.gone;
-    gates = subst (λ (t : WordsState). (j : ℕ) → j < t.config.callers → is_held (now_of r).words j ≡ false)
-        (sym prepared_table) f.gates;
+    gates = rw prepared_table f.gates;
     exact = f.exact;
-    exactly = subst (λ (t : WordsState). IsExactly t due (world_of r).allocations) (sym prepared_table) f.exactly;
+    exactly = rw prepared_table f.exactly;
   }
 
 -- No gate is held after it where none was.

@@ -8,10 +8,10 @@ use Rattle.mk_laws.proofs.Vocabulary.{Run, Some, Storage, ℕ, ap, arith, bit_at
 use Rattle.mk_laws.proofs.Vocabulary.{class_made, cond-false, cond-true, false, free_page, has_bit, header_of}
 use Rattle.mk_laws.proofs.Vocabulary.{header_on, histories_keep_lengths, if◌then◌else◌, inl, inr, is_small_object}
 use Rattle.mk_laws.proofs.Vocabulary.{is_some, leb-true, left, length, length-map, ne_eqb, none-some, not, or_else}
-use Rattle.mk_laws.proofs.Vocabulary.{pages_some, place_on_pages, refl, resident_pages, same_Some, slice_index_or}
-use Rattle.mk_laws.proofs.Vocabulary.{storage_words, subst, sym, true, unreleased_storage, use_under, used_on}
-use Rattle.mk_laws.proofs.Vocabulary.{uses_of_pages, word_of, [], ◌*◌, ◌++◌, ◌+◌, ◌<◌, ◌==◌, ◌∙◌, ◌∷◌, ◌≡◌, ◌≢◌, ◌≤◌}
-use Rattle.mk_laws.proofs.InvariantTheorems.{pages_show_the_storage}
+use Rattle.mk_laws.proofs.Vocabulary.{place_on_pages, refl, resident_pages, same_Some, slice_index_or, storage_words}
+use Rattle.mk_laws.proofs.Vocabulary.{subst, sym, true, unreleased_storage, use_under, used_on, uses_of_pages, word_of}
+use Rattle.mk_laws.proofs.Vocabulary.{[], ◌*◌, ◌++◌, ◌+◌, ◌<◌, ◌==◌, ◌∙◌, ◌∷◌, ◌≡◌, ◌≢◌, ◌≤◌}
+use Rattle.mk_laws.proofs.InvariantHistories.{pages_show_the_storage}
 use Rattle.mk_objects.proofs.Vocabulary.{held_by_allocations, option_map, sum_by-cons}
 use Rattle.mk_geom.proofs.{HeaderLemmas.{header_of-word_of, word_of-header_of}, FirstFit.{cell_place_is, run_place_is}}
 use Rattle.mk_geom.proofs.HeldWords.{pages_hold_mapped_words}
@@ -19,7 +19,7 @@ use Rattle.mk_geom.specs.PageUses.{Cells, PageUse, cells_taken, first_where, hel
 use Rattle.mk_geom.specs.{PageUses.small_place, PageWords.{bits_of, use_of_page}, Places.MayTakeCell}
 use Rattle.mk_books.proofs.{FreeCellLemmas.cells_taken_alike, UsedBitLemmas.length-bits_of}
 use Rattle.mk_page_map.specs.{Laws.{LowestBlockHasThePlace, free_cell_on}, Members.{has_free_cell, page_at}}
-use Rattle.mk_core.proofs.{Sizes.{class_for_small, large_pages}, UnreleasedStorage.unreleased_more}
+use Rattle.mk_core.proofs.{Sizes.class_for_small, UnreleasedStorage.unreleased_more}
 
 -- What the answers of the page map say of an object's place.
 
@@ -123,10 +123,8 @@ pub cell_is_there : (pages : List Page) (page class : ℕ) (leaf : Bool) (found 
     ≡ free_cell_on class leaf pages page
     → has_free_cell class leaf (use_of_page (page_at pages page)) ≡ true → (index : ℕ) × (found ≡ Some index)
 cell_is_there pages page class leaf found told free =
-    some_index (λ index. record { page = page; index = index; carve = false }) found
-    (ap (λ (place : Option Place). is_some place) told
-    ∙ mapped_some (λ index. record { page = page; index = index; carve = false })
-    (first_where not (cells_taken class leaf (use_of_page (page_at pages page)))) ∙ free)
+    some_index (λ index. record { page = page; index = index; carve = false }) found (ap (λ (place : Option
+    Place). is_some place) told ∙ mapped_some (λ index. record { page = page; index = index; carve = false }) _ ∙ free)
 
 -- The place is in that block.
 
@@ -175,8 +173,6 @@ found_clear limit pages o place sized at some = elim (cases_Bool (is_small_objec
       some (ap (λ (x : Page). x.header) page ∙ z)) is.may_take
   | inr l ↦
       let is = run_place_is limit o.words o.leaf pages place (leb-false o.words 32 l) at in
-      let many = pages_some o sized in
-      let count = large_pages o l in
       absurd (some (free_is_zero (header_on pages place.page) (header_of (header_on pages place.page))
       (used_on pages place.page) refl (is.free.free place.page free_page (omega arith) (omega arith))))
 ]

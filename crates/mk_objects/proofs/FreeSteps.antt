@@ -1,21 +1,21 @@
 -- The target of a Free is quarantined.
 use Rattle.std.proofs.{Math.Pow.pow-lt, lemmas.Nat.or_lt}
-use Rattle.mk_laws.proofs.Vocabulary.{Answer, Bool, Caller, Cell, Config, Flight, Holding, Holds, IsHistory, List}
-use Rattle.mk_laws.proofs.Vocabulary.{Moment, None, Op, Option, Page, PlacedAllocation, Progress, Seat, Some, Stage}
-use Rattle.mk_laws.proofs.Vocabulary.{Steady, Step, Word, Words, World, ℕ, and_from, answer_decided, ap, arith, bit_or}
-use Rattle.mk_laws.proofs.Vocabulary.{caller_number, cell_freed, entry_of, eq-eqb, false, flight_of}
-use Rattle.mk_laws.proofs.Vocabulary.{freed_where_it_stands, frees, has_bit, header_in, heads_run, if◌then◌else◌}
-use Rattle.mk_laws.proofs.Vocabulary.{is_freed, is_run_cell, is_some, is_undecided_free, length, map, not, or_else}
-use Rattle.mk_laws.proofs.Vocabulary.{others_are_held, pointed_cell, progress_freed, quarantine_word, refl, run_of_cell}
-use Rattle.mk_laws.proofs.Vocabulary.{sees_double, set-get_or, slice_index, slice_set, subst, sym, target, true}
-use Rattle.mk_laws.proofs.Vocabulary.{world_behind, [], ◌%◌, ◌&&◌, ◌*◌, ◌+◌, ◌-◌, ◌/◌, ◌<◌, ◌^◌, ◌||◌, ◌∙◌, ◌≡◌}
+use Rattle.mk_laws.proofs.Vocabulary.{Answer, Bool, Caller, Cell, Config, Flight, Holding, IsHistory, List, None, Op}
+use Rattle.mk_laws.proofs.Vocabulary.{Option, Page, PlacedAllocation, Progress, Seat, Some, Stage, Steady, Step, Word}
+use Rattle.mk_laws.proofs.Vocabulary.{Words, World, ℕ, and_from, answer_decided, ap, arith, bit_or, caller_number}
+use Rattle.mk_laws.proofs.Vocabulary.{cell_freed, entry_of, eq-eqb, false, flight_of, freed_where_it_stands, frees}
+use Rattle.mk_laws.proofs.Vocabulary.{has_bit, header_in, heads_run, if◌then◌else◌, is_freed, is_run_cell, is_some}
+use Rattle.mk_laws.proofs.Vocabulary.{is_undecided_free, map, not, or_else, others_are_held, pointed_cell}
+use Rattle.mk_laws.proofs.Vocabulary.{progress_freed, quarantine_word, refl, run_of_cell, sees_double, set-get_or}
+use Rattle.mk_laws.proofs.Vocabulary.{slice_index, slice_set, target, true, world_behind, [], ◌%◌, ◌&&◌, ◌*◌, ◌+◌, ◌-◌}
+use Rattle.mk_laws.proofs.Vocabulary.{◌/◌, ◌<◌, ◌^◌, ◌||◌, ◌∙◌, ◌≡◌}
 use Rattle.mk_objects.proofs.Vocabulary.{Acts, CallIsAt, FreesOnce, HasFreed, IsAsLeft, IsEnabledTo, IsFreedAt}
-use Rattle.mk_objects.proofs.Vocabulary.{IsOutOfStop, IsTurn, Known, MayFree, PassState, answers_full, call_of}
-use Rattle.mk_objects.proofs.Vocabulary.{histories_keep_the_invariant, is_freeing, is_loading, min, now_of, steady_of}
-use Rattle.mk_objects.proofs.{Vocabulary.{value_of, words_freed, world_of}, MayAct.{free_is_acting, may_free, off_four}}
+use Rattle.mk_objects.proofs.Vocabulary.{IsOutOfStop, IsTurn, MayFree, PassState, answers_full, call_of}
+use Rattle.mk_objects.proofs.Vocabulary.{histories_keep_the_invariant, min, now_of, steady_of, value_of, words_freed}
+use Rattle.mk_objects.proofs.{Vocabulary.world_of, Looks.{acting_caller, acting_now, caller_has_call}}
+use Rattle.mk_objects.proofs.{MayAct.{free_is_acting, may_free, off_four}, Unchanged.{HasCall, OfCaller, call_behind}}
 use Rattle.mk_objects.proofs.{FreedOnce.frees_now, LoadedFrees.{loaded_undecided, value_kept}}
-use Rattle.mk_objects.proofs.{Looks.{acting_caller, acting_now}, Reaching.{made_in, reaches_nothing, reaches_on}}
-use Rattle.mk_objects.proofs.{Serves.out_of_stop, Takes.one_bit_more, Unchanged.call_behind}
+use Rattle.mk_objects.proofs.{Reaching.{made_in, reaches_at_once}, Serves.out_of_stop, Takes.one_bit_more}
 use Rattle.mk_core.specs.Words.{named_word}
 use Rattle.mk_objects.specs.Retiring.{HasSeen, answer_seen, seen_free}
 
@@ -32,13 +32,13 @@ pub freed_same : (w v : Words) (cell : Cell) → v.freed ≡ w.freed → is_free
 freed_same w v cell same = ap (λ (xs : List ℕ). has_bit (slice_index xs cell.page) cell.index) same
 
 -- what is seen of the target in a world that is as it was left
-seen_now : (c : Config) {k : ℕ} (cell : Cell) {w v : World} → IsAsLeft (Caller k) w v
-    → target c.pages w.now.words (flight_of w.now (Caller k)) ≡ Some cell → sees_double v.now.words
-    (target c.pages v.now.words (flight_of v.now (Caller k))) (Word.Quar cell.page) ≡ is_freed w.now.words cell
-seen_now c {k} cell {w} {v} kept at =
-    let there : target c.pages v.now.words (flight_of v.now (Caller k)) ≡ Some cell =
+seen_now : (c : Config) {s : Seat} (cell : Cell) {w v : World} → IsAsLeft s w v
+    → target c.pages w.now.words (flight_of w.now s) ≡ Some cell → sees_double v.now.words
+    (target c.pages v.now.words (flight_of v.now s)) (Word.Quar cell.page) ≡ is_freed w.now.words cell
+seen_now c {s} cell {w} {v} kept at =
+    let there : target c.pages v.now.words (flight_of v.now s) ≡ Some cell =
     ap (λ (f : Flight). target c.pages v.now.words f) kept.call ∙ target_same c.pages w.now.words v.now.words
-    (flight_of w.now (Caller k)) (ap (λ (x : Steady). x.pages) kept.steady) ∙ at in
+    (flight_of w.now s) (ap (λ (x : Steady). x.pages) kept.steady) ∙ at in
     ap (λ (x : Option Cell). sees_double v.now.words x (Word.Quar cell.page)) there ∙ seen_at v.now.words cell
     ∙ freed_same w.now.words v.now.words cell (ap (λ (x : Steady). x.freed) kept.steady)
 
@@ -54,15 +54,15 @@ seen_answer : (f : Flight) (b : Bool) → (progress_seen f b).answer ≡ answer_
 seen_answer f true = refl
 seen_answer f false = refl
 
-pub record SeesBy (c : Config) (k : ℕ) (cell : Cell) (w v : World) : Type 0 where
-  pub at : CallIsAt (Caller k) (seen_free (flight_of w.now (Caller k)) (is_freed w.now.words cell)) w
-      (world_behind c v (record { seat = Caller k; step = Step.Look (Word.Quar cell.page) }))
-  pub answer : answer_decided c v.now (record { seat = Caller k; step = Step.Look (Word.Quar cell.page) })
+record SeesBy (c : Config) (s : Seat) (cell : Cell) (w v : World) : Type 0 where
+  at : CallIsAt s (seen_free (flight_of w.now s) (is_freed w.now.words cell)) w
+      (world_behind c v (record { seat = s; step = Step.Look (Word.Quar cell.page) }))
+  answer : answer_decided c v.now (record { seat = s; step = Step.Look (Word.Quar cell.page) })
       ≡ answer_seen (is_freed w.now.words cell)
 
-pub sees_by : (c : Config) {k : ℕ} (cell : Cell) {w v : World} → k < length v.now.seats.flights → IsAsLeft
-    (Caller k) w v → target c.pages w.now.words (flight_of w.now (Caller k)) ≡ Some cell → SeesBy c k cell w v
-sees_by c {k} cell {w} {v} lt kept at =
+sees_by : (c : Config) {s : Seat} (cell : Cell) {w v : World} → HasCall c v.now s → IsAsLeft s w v
+    → target c.pages w.now.words (flight_of w.now s) ≡ Some cell → SeesBy c s cell w v
+sees_by c cell {w} {v} (OfCaller k lt) kept at =
     let seen = seen_now c cell kept at in
     record {
       at = record {
@@ -83,28 +83,10 @@ seen_no_full : (b : Bool) → answers_full (answer_seen b) ≡ false
 seen_no_full true = refl
 seen_no_full false = refl
 
--- at the seat of a pass
 seen_entry : (k : ℕ) (o : Op) (b : Bool)
     → entry_of k o (answer_seen b) ≡ (if b then entry_of k o (Some Answer.Double) else [])
 seen_entry k o true = refl
 seen_entry k o false = refl
-
-module _ (p : PassState) (cell : Cell) (v : World) (known : Known p.table.config v.now) where
-  abbrev Sees : Seat → Type 0
-  Sees s =
-      CallIsAt s (seen_free (flight_of (now_of p) s) (is_freed (now_of p).words cell)) (world_of p)
-      (world_behind p.table.config v (record { seat = s; step = Step.Look (Word.Quar cell.page) }))
-      × (answer_decided p.table.config v.now (record { seat = s; step = Step.Look (Word.Quar cell.page) })
-      ≡ answer_seen (is_freed (now_of p).words cell))
-
-  sees : {s : Seat} (k : ℕ) → s ≡ Caller k → IsAsLeft s (world_of p) v → Holds p.table.config (now_of p) s
-      → target p.table.config.pages (now_of p).words (flight_of (now_of p) s) ≡ Some cell → Sees s
-  sees k e kept holds at =
-      let lt : k < p.table.config.callers = (subst (λ (x : Seat). Holds p.table.config (now_of p) x) e holds).0 in
-      let there : k < length v.now.seats.flights = subst (λ i. k < i) (sym known.orderly.flights) lt in
-      let by = sees_by p.table.config cell there (subst (λ (x : Seat). IsAsLeft x (world_of p) v) e kept)
-      (ap (λ (x : Seat). target p.table.config.pages (now_of p).words (flight_of (now_of p) x)) (sym e) ∙ at) in
-      subst (λ (x : Seat). Sees x) (sym e) (by.at, by.answer)
 
 pub see_reaches : {p q : PassState} (cell : Cell) → IsTurn p → is_undecided_free (call_of p) ≡ true
     → target p.table.config.pages (now_of p).words (call_of p) ≡ Some cell → Acts p (Step.Look (Word.Quar cell.page)) q
@@ -112,18 +94,16 @@ pub see_reaches : {p q : PassState} (cell : Cell) → IsTurn p → is_undecided_
 see_reaches {p} cell turn free at a =
     let caller = acting_caller p (free_is_acting (call_of p) free) in
     let double : Bool = is_freed (now_of p).words cell in
-    reaches_on (λ w. w ≡ world_of p) (CallIsAt p.seat (seen_free (call_of p) double) (world_of p))
-    (reaches_nothing is_loading p (λ w. w ≡ world_of p) refl) a refl refl caller (λ w v first kept known pages.
-    let kept : IsAsLeft p.seat (world_of p) v = subst (λ (x : World). IsAsLeft p.seat x v) first kept in
-    let to = sees p cell v known caller.number caller.is kept turn.holds at in
+    reaches_at_once (CallIsAt p.seat (seen_free (call_of p) double) (world_of p)) a refl refl caller
+    (λ v kept known pages.
+    let to = sees_by p.table.config cell (caller_has_call v caller turn known) kept at in
     record {
-      world = to.0;
+      world = to.at;
       answer = answer_seen double;
-      decides = to.1;
+      decides = to.answer;
       no_full = seen_no_full double;
-      entry = λ k is.
-          ap (λ (f : Flight). entry_of k f.op (answer_seen double)) kept.call ∙ seen_entry k (call_of p).op double
-          ∙ ap (λ i. if double then entry_of i (call_of p).op (Some Answer.Double) else []) (sym (ap caller_number is));
+      entry = ap (λ (f : Flight). entry_of (caller_number p.seat) f.op (answer_seen double)) kept.call
+          ∙ seen_entry (caller_number p.seat) (call_of p).op double;
     })
 
 -- A look that finds its target unfreed decides nothing.
@@ -132,8 +112,8 @@ pub see_keeps : {p q : PassState} (r : ℕ) (cell : Cell) → r < 8 → IsTurn p
     → is_freed (now_of p).words cell ≡ false → Acts p (Step.Look (Word.Quar cell.page)) q → value_of q r ≡ value_of p r
 see_keeps {p} r cell small turn free at live a =
     let caller = acting_caller p (free_is_acting (call_of p) free) in
-    value_kept r caller small a
-    (λ v kept known. (sees p cell v known caller.number caller.is kept turn.holds at).1 ∙ ap answer_seen live)
+    value_kept r caller small a (λ v kept known.
+    (sees_by p.table.config cell (caller_has_call v caller turn known) kept at).answer ∙ ap answer_seen live)
 
 -- the word that the step stores
 abbrev pub freed_word : Words → Cell → ℕ
@@ -143,16 +123,10 @@ pub frees_it : (w : Words) (cell : Cell) → is_freed w cell ≡ false
     → frees w (Some cell) cell.page (freed_word w cell) ≡ true
 frees_it w cell clear = grind (arith, and_from, eq-eqb, freed_word)
 
--- so it frees the target
-freed_target : (c : Config) (m : Moment) (f : Flight) (cell : Cell) {value : ℕ} → IsOutOfStop m
-    → target c.pages m.words f ≡ Some cell → is_freed m.words cell ≡ false → value ≡ freed_word m.words cell
-    → cell_freed c.pages m.words f cell.page value ≡ Some cell
-freed_target c m f cell low at clear is = grind (arith, freed_word, off_four, frees_it)
-
 freed_left : (c : Config) {s : Seat} (cell : Cell) {value : ℕ} {w v : World} → IsAsLeft s w v → IsOutOfStop v.now
     → target c.pages w.now.words (flight_of w.now s) ≡ Some cell → is_freed w.now.words cell ≡ false → value
     ≡ freed_word w.now.words cell → cell_freed c.pages v.now.words (flight_of v.now s) cell.page value ≡ Some cell
-freed_left c cell kept low at clear is = grind (arith, target_same, freed_word, freed_target, freed_same)
+freed_left c cell kept low at clear is = grind (arith, target_same, freed_word, freed_same, off_four, frees_it)
 
 -- Both halves of the word are apart.
 pub low_half : (f s : ℕ) → f < 2 ^ 32 → quarantine_word f s % 2 ^ 32 ≡ f
@@ -161,13 +135,12 @@ low_half f s lt = omega arith
 high_half : (f s : ℕ) → f < 2 ^ 32 → quarantine_word f s / 2 ^ 32 ≡ s
 high_half f s lt = omega arith
 
-pub quar_behind : (c : Config) {k : ℕ} (cell : Cell) {value : ℕ} {w v : World} → k < length v.now.seats.flights
-    → IsAsLeft (Caller k) w v → IsOutOfStop v.now → target c.pages w.now.words (flight_of w.now (Caller k)) ≡ Some cell
-    → is_freed w.now.words cell ≡ false → value ≡ freed_word w.now.words cell
-    → slice_index w.now.words.freed cell.page + 2 ^ cell.index < 2 ^ 32
-    → IsFreedAt c (Caller k) cell w (world_behind c v (record { seat = Caller k; step = Step.Quar cell.page value }))
-    × (answer_decided c v.now (record { seat = Caller k; step = Step.Quar cell.page value }) ≡ Some Answer.Done)
-quar_behind c {k} cell {value} {w} {v} lt kept low at clear is small =
+quar_behind : (c : Config) {s : Seat} (cell : Cell) {value : ℕ} {w v : World} → HasCall c v.now s → IsAsLeft s w v
+    → IsOutOfStop v.now → target c.pages w.now.words (flight_of w.now s) ≡ Some cell → is_freed w.now.words cell ≡ false
+    → value ≡ freed_word w.now.words cell → slice_index w.now.words.freed cell.page + 2 ^ cell.index < 2 ^ 32
+    → IsFreedAt c s cell w (world_behind c v (record { seat = s; step = Step.Quar cell.page value })) ×
+    (answer_decided c v.now (record { seat = s; step = Step.Quar cell.page value }) ≡ Some Answer.Done)
+quar_behind c cell {value} {w} {v} (OfCaller k lt) kept low at clear is small =
     let pages : v.now.words.pages ≡ w.now.words.pages = ap (λ (x : Steady). x.pages) kept.steady in
     let freeds : v.now.words.freed ≡ w.now.words.freed = ap (λ (x : Steady). x.freed) kept.steady in
     let snapshots : v.now.words.snapshot ≡ w.now.words.snapshot = ap (λ (x : Steady). x.snapshot) kept.steady in
@@ -218,27 +191,6 @@ quar_behind c {k} cell {value} {w} {v} lt kept low at clear is small =
       ap (λ (x : Option Cell). (progress_freed f x).answer) frees,
     )
 
--- at the seat of a pass
-module _ (p : PassState) (cell : Cell) (value : ℕ) (v : World) (known : Known p.table.config v.now)
-    (low : IsOutOfStop (now_of p)) where
-  abbrev Frees : Seat → Type 0
-  Frees s =
-      IsFreedAt p.table.config s cell (world_of p)
-      (world_behind p.table.config v (record { seat = s; step = Step.Quar cell.page value }))
-      × (answer_decided p.table.config v.now (record { seat = s; step = Step.Quar cell.page value }) ≡ Some Answer.Done)
-
-  frees_at : {s : Seat} (k : ℕ) → s ≡ Caller k → IsAsLeft s (world_of p) v → Holds p.table.config (now_of p) s
-      → target p.table.config.pages (now_of p).words (flight_of (now_of p) s) ≡ Some cell
-      → is_freed (now_of p).words cell ≡ false → value ≡ freed_word (now_of p).words cell
-      → slice_index (now_of p).words.freed cell.page + 2 ^ cell.index < 2 ^ 32 → Frees s
-  frees_at k e kept holds at clear is small =
-      let lt : k < p.table.config.callers = (subst (λ (x : Seat). Holds p.table.config (now_of p) x) e holds).0 in
-      let there : k < length v.now.seats.flights = subst (λ i. k < i) (sym known.orderly.flights) lt in
-      let by = quar_behind p.table.config cell there (subst (λ (x : Seat). IsAsLeft x (world_of p) v) e kept)
-      (out_of_stop (now_of p) v.now (ap (λ (x : Steady). x.phase) kept.steady) low) (ap (λ (x : Seat). target
-      p.table.config.pages (now_of p).words (flight_of (now_of p) x)) (sym e) ∙ at) clear is small in
-      subst (λ (x : Seat). Frees x) (sym e) by
-
 -- the word that is made of both halves of the one that was found
 pub freed_word_made : (f s i : ℕ) → f < 2 ^ 32 → i < 32 → has_bit f i ≡ false → {quar : ℕ} → quar ≡ quarantine_word f s
     → 4294967296 * (quar / 4294967296) + bit_or (quar % 4294967296) (1 * 2 ^ i % 2 ^ 64) ≡ quarantine_word (f + 2 ^ i) s
@@ -276,6 +228,9 @@ module _ {p : PassState} {r u : ℕ} {cell : Cell} {quar : ℕ} (may : MayFree p
   half : f + 2 ^ cell.index < 2 ^ 32
   half = freed_half f cell.index small.0 may.index may.live
 
+  low_there : {v : World} → IsAsLeft p.seat (world_of p) v → IsOutOfStop v.now
+  low_there {v} kept = out_of_stop (now_of p) v.now (ap (λ (x : Steady). x.phase) kept.steady) may.phase
+
   pub quarantine_fits : stored < 2 ^ 64
   quarantine_fits = let high = small.1 in omega (arith, made, half)
 
@@ -292,23 +247,19 @@ module _ {p : PassState} {r u : ℕ} {cell : Cell} {quar : ℕ} (may : MayFree p
     pub quarantine_reaches : HasFreed p cell q
     quarantine_reaches =
         let caller = acting_caller p (free_is_acting (call_of p) undecided) in
-        reaches_on (λ w. w ≡ world_of p) (IsFreedAt p.table.config p.seat cell (world_of p))
-        (reaches_nothing is_freeing p (λ w. w ≡ world_of p) refl) a refl refl caller (λ w v first kept known pages.
-        let kept : IsAsLeft p.seat (world_of p) v = subst (λ (x : World). IsAsLeft p.seat x v) first kept in
-        let to = frees_at p cell stored v known may.phase caller.number caller.is kept turn.holds may.target may.live
-        made half in
+        reaches_at_once (IsFreedAt p.table.config p.seat cell (world_of p)) a refl refl caller (λ v kept known pages.
+        let to = quar_behind p.table.config cell (caller_has_call v caller turn known) kept (low_there kept) may.target
+        may.live made half in
         record {
           world = to.0;
           answer = Some Answer.Done;
           decides = to.1;
           no_full = refl;
-          entry = λ k is. ap (λ (f : Flight). entry_of k f.op (Some Answer.Done)) kept.call
-              ∙ ap (λ i. entry_of i (call_of p).op (Some Answer.Done)) (sym (ap caller_number is));
+          entry = ap (λ (f : Flight). entry_of (caller_number p.seat) f.op (Some Answer.Done)) kept.call;
         })
 
     -- and frees once
     pub quarantine_once : FreesOnce p q
     quarantine_once =
         frees_now (made_in p _ a) a.makes.pass.history turn.holds (λ v kept. ap (λ (x : Option Cell). is_some x)
-        (freed_left p.table.config cell kept (out_of_stop (now_of p) v.now (ap (λ (x : Steady). x.phase) kept.steady)
-        may.phase) may.target may.live made))
+        (freed_left p.table.config cell kept (low_there kept) may.target may.live made))

@@ -16,18 +16,17 @@ use Rattle.mk_laws.proofs.Vocabulary.{page_at_address, pages_made, placed_at, po
 use Rattle.mk_laws.proofs.Vocabulary.{run_begins, slice_set, small_cells, small_heads_none, stands_in}
 use Rattle.mk_laws.proofs.Vocabulary.{stands_in_its_cell, storage_words, sym, target, true, true≢false, typed_size}
 use Rattle.mk_laws.proofs.Vocabulary.{unmapped_header, unmapped_is_unmapped, words_under, words_within, ◌*◌, ◌+◌, ◌/◌}
-use Rattle.mk_laws.proofs.Vocabulary.{◌<◌, ◌==◌, ◌∙◌, ◌≡◌, ◌≢◌, ◌≤◌}
+use Rattle.mk_laws.proofs.{Vocabulary.{◌<◌, ◌==◌, ◌∙◌, ◌≡◌, ◌≢◌, ◌≤◌}, ImagesBefore.{Stands, ready_of, stands_of}}
+use Rattle.mk_laws.proofs.InvariantHistories.{allocations_stand, told_to_images}
+use Rattle.mk_laws.proofs.{KnownWorlds.{KnownWorld, known_world}, GrantMoves.pointer_cell, Ready.Ready, RegMoves.flight}
+use Rattle.mk_laws.{proofs.Settled.{unreleased_are_apart}, specs.{ImagePremises.IsLaidOut, SettledPages.StandsUsed}}
 use Rattle.mk_objects.proofs.Vocabulary.{IsFreeAt, IsOutOfStop, PassState, call_of, freed_and_fresh}
 use Rattle.mk_objects.proofs.Vocabulary.{held_by_allocations, histories_keep_the_invariant, loaded_free, now_of}
-use Rattle.mk_objects.proofs.Vocabulary.{value_of, world_of}
+use Rattle.mk_objects.proofs.{Vocabulary.{value_of, world_of}, HeldFreed.{freed_one, held_part, held_set, large_part}}
+use Rattle.mk_objects.proofs.{HeldFreed.{live_part, small_part}, LoadedFrees.loaded_undecided, Looks.acting_caller}
+use Rattle.mk_objects.proofs.MayAct.{free_is_acting, off_four}
 use Rattle.mk_geom.proofs.ClassTable.{class_words_within}
 use Rattle.mk_core.proofs.{ObjectHeaders.part_heads_run, StandingAllocations.placed_cell}
-use Rattle.mk_laws.proofs.{FreeMoves.pointer_cell, ImagesBefore.ready_of, ImagesStands.Stands, ImagesStands.stands_of}
-use Rattle.mk_laws.proofs.{InvariantJoined.told_to_images, InvariantTheorems.allocations_stand, KnownWorlds.KnownWorld}
-use Rattle.mk_laws.proofs.{KnownWorlds.known_world, Ready.Ready, RegMoves.flight, Settled.unreleased_are_apart}
-use Rattle.mk_laws.specs.{ImagePremises.IsLaidOut, SettledPages.StandsUsed}
-use Rattle.mk_objects.proofs.HeldFreed.{freed_one, held_part, held_set, large_part, live_part, small_part}
-use Rattle.mk_objects.proofs.{LoadedFrees.loaded_undecided, Looks.acting_caller, MayAct.free_is_acting, MayAct.off_four}
 
 -- What the register of an undecided Free points into: the cell of an unreleased allocation.
 

@@ -14,8 +14,7 @@ use Rattle.mk_core.specs.{Growing.{AreOfOthers, Finding, is_same_seat, own_from}
 use Rattle.mk_core.specs.Counts.{decides_freed}
 use Rattle.mk_objects.specs.{Dues.{FreesOnly, event_frees}, Retired.IsDueSince}
 use Rattle.mk_turns.{proofs.Doing.{none_own}, specs.Doing.{are_of}}
-use Rattle.mk_words.proofs.{Seats.{only_one, same_seat, same_self}, TurnSteps.still_turn}
-use Rattle.mk_words.specs.{Seats.Has, Steps.Makes}
+use Rattle.mk_words.{proofs.{Seats.{only_one, same_seat, same_self}, TurnSteps.still_turn}, specs.Seats.{Has}}
 
 -- Two ways to part one list.
 
@@ -37,12 +36,8 @@ in_parts (a ∷ xs) more (y ∷ ys) x zs is =
     let first : a ≡ y = cc in
     let rest : xs ++ more ≡ ys ++ x ∷ zs = cc in
     elim (in_parts xs more ys x zs rest) [
-      | inl l ↦
-          let front : a ∷ xs ≡ y ∷ (ys ++ x ∷ l.rest) = ap (λ c. c ∷ xs) first ∙ ap (λ l. y ∷ l) l.is in
-          inl (record { rest = l.rest; is = front })
-      | inr b ↦
-          let front : y ∷ ys ≡ a ∷ (xs ++ b.rest) = ap (λ c. c ∷ ys) (sym first) ∙ ap (λ l. a ∷ l) b.is in
-          inr (record { rest = b.rest; is = front })
+      | inl l ↦ inl (record { rest = l.rest; is = (ap (λ c. c ∷ xs) first ∙ ap (λ l. y ∷ l) l.is) })
+      | inr b ↦ inr (record { rest = b.rest; is = (ap (λ c. c ∷ ys) (sym first) ∙ ap (λ l. a ∷ l) b.is) })
     ]
 
 -- No element stands after a whole list,
@@ -100,32 +95,29 @@ module _ (p : PassState) (kinds : Step → Bool) (stays : (x : Step) → kinds x
       ((others_leave c es (e ∷ []) p.seat before.within_limits h.enabled (other, tt)).own.holding holds).0
   holds_more es {e} h holds (Own same of_kind) =
       let it : event_of p e.step ≡ e = ap (λ (s : Seat). record { seat = s; step = e.step }) (sym same) in
-      let makes : Makes (seeing es) e.step (seeing (es ++ event_of p e.step ∷ [])) = record {
+      subst (λ (x : Event). Holds c (left c (es ++ x ∷ [])).now p.seat) it
+      (still_turn (seeing es) e.step (seeing (es ++ event_of p e.step ∷ [])) (record {
         others = [];
         of_others = tt;
-        is = ap (λ (xs : List Event). seeing (xs ++ event_of p e.step ∷ [])) (sym (append-nil es));
+        is =
+            ap (λ (xs : List Event). seeing (xs ++ event_of p e.step ∷ [])) (sym (append-nil es));
         pass = record {
-          own = ap (λ b. b || false) (same_self p.seat);
+          own = ap
+              (λ b. b || false) (same_self p.seat);
           history = subst (λ (x : Event). IsHistory c (es ++ x ∷ [])) (sym it) h;
         };
-      } in
-      subst (λ (x : Event). Holds c (left c (es ++ x ∷ [])).now p.seat) it (still_turn (seeing es) e.step
-      (seeing (es ++ event_of p e.step ∷ [])) makes (stays e.step of_kind) (record { holds = holds })).holds
+      }) (stays e.step of_kind) (record { holds = holds })).holds
 
   comes_by : (e : Event) → (is_same_seat p.seat e.seat ≡ true → kinds e.step ≡ true) → ComesBy p.seat kinds e
-  comes_by e of_kind = elim (cases_Bool (is_same_seat p.seat e.seat)) [
-    | inl same ↦ Own (sym (same_seat p.seat e.seat same)) (of_kind same)
-    | inr other ↦ Another (false_from_ne_true (is_one_of (p.seat ∷ []) e.seat) (λ is. true≢false (sym (same_self p.seat)
-        ∙ ap (λ (s : Seat). is_same_seat p.seat s) (sym (only_one p.seat e.seat is)) ∙ other)))
-  ]
+  comes_by e of_kind = grind (arith, same_seat, false_from_ne_true, same_self, only_one, Own, Another)
 
   along : (es more : List Event) → IsHistory c (es ++ more) → Holds c (left c es).now p.seat
       → are_of kinds (own_from c p.seat (left c es) more) ≡ true → claim es → claim (es ++ more)
   unfolding own_from
-  along es [] h holds of_kinds there = subst (λ (xs : List Event). claim xs) (sym (append-nil es)) there
+  along es [] h holds of_kinds there = rw (append-nil es) there
   along es (e ∷ more) h holds of_kinds there =
       let split : (es ++ e ∷ []) ++ more ≡ es ++ e ∷ more = append_assoc es (e ∷ []) more in
-      let whole : IsHistory c ((es ++ e ∷ []) ++ more) = subst (λ (xs : List Event). IsHistory c xs) (sym split) h in
+      let whole : IsHistory c ((es ++ e ∷ []) ++ more) = rw split h in
       let first : IsHistory c (es ++ e ∷ []) = earlier_part_is_history c (es ++ e ∷ []) more whole in
       let on : World = world_behind c (left c es) e in
       let kinds_of = comes_first (is_same_seat p.seat e.seat) (record { event = e; found = found c (left c es).now e })
@@ -133,15 +125,13 @@ module _ (p : PassState) (kinds : Step → Bool) (stays : (x : Step) → kinds x
       let comes = comes_by e kinds_of.0 in
       let rest : are_of kinds (own_from c p.seat (left c (es ++ e ∷ [])) more) ≡ true =
       ap (λ (w : World). are_of kinds (own_from c p.seat w more)) (left_more c (first_world c) es e) ∙ kinds_of.1 in
-      subst (λ (xs : List Event). claim xs) split
-      (along (es ++ e ∷ []) more whole (holds_more es first holds comes) rest (kept es e first holds comes there))
+      rw split at (along (es ++ e ∷ []) more whole (holds_more es first holds comes) rest (kept es e first holds comes
+      there))
 
   -- from what the pass had seen to what it has seen now
   pub along_turn : {q : PassState} → Does kinds p q → IsHistory q.table.config q.seen → Holds c (now_of p) p.seat
       → claim p.seen → claim q.seen
-  along_turn d h holds there =
-      subst (λ (x : PassState). claim x.seen) (sym d.is)
-      (along p.seen d.more (subst (λ (x : PassState). IsHistory x.table.config x.seen) d.is h) holds d.of_kinds there)
+  along_turn d h holds there = rw d.is (along p.seen d.more (rw d.is at h) holds d.of_kinds there)
 
   -- and over events of others alone
   pub along_others : (others : List Event) → IsHistory c (p.seen ++ others) → Holds c (now_of p) p.seat

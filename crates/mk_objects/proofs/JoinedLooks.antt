@@ -1,12 +1,12 @@
--- Looks one after the other, and a part of a turn after looks.
+-- A part of a turn after another, and after looks.
 use Rattle.mk_laws.proofs.Vocabulary.{Answer, Bool, Config, Decided, Flight, Holding, List, Op, Place, Seat, Some}
 use Rattle.mk_laws.proofs.Vocabulary.{Steady, Step, World, and_from, and_parts, ap, append-nil, append_assoc, arith}
 use Rattle.mk_laws.proofs.Vocabulary.{caller_number, entry_of, flight_of, is_undecided_new, left, phase_of}
 use Rattle.mk_laws.proofs.Vocabulary.{place_on_pages, refl, subst, sym, true, [], ◌++◌, ◌∙◌, ◌∷◌, ◌≡◌}
 use Rattle.mk_objects.proofs.Vocabulary.{ComesTo, Does, GoesTo, IsAsLeft, IsGrantedAt, IsOutOfStop, IsUnplaced}
-use Rattle.mk_objects.proofs.Vocabulary.{OnlyLooks, PassState, call_of, does_then, entry_for, is_look, is_placing}
-use Rattle.mk_objects.proofs.Vocabulary.{now_of, object_for, own_calls, world_of}
-use Rattle.mk_objects.proofs.{Reaching.{counts_then, reaches_nothing, seeing}, Unchanged.{left_joined, left_same}}
+use Rattle.mk_objects.proofs.Vocabulary.{OnlyLooks, PassState, call_of, does_then, entry_for, is_look, now_of}
+use Rattle.mk_objects.proofs.{Vocabulary.{object_for, own_calls, world_of}, Reaching.{counts_then, reaches_nothing}}
+use Rattle.mk_objects.proofs.{Reaching.seeing, Unchanged.{left_joined, left_same}}
 use Rattle.mk_core.specs.Growing.{Finding}
 use Rattle.mk_objects.specs.Placing.{HeldIsExact, IsGranted}
 use Rattle.mk_turns.specs.Doing.{are_of}
@@ -26,79 +26,6 @@ does_wider narrow wide widens p q d = record {
   own_or_others = d.own_or_others;
   of_kinds = are_wider narrow wide widens _ d.of_kinds;
 }
-
-pub looks_nothing : (p : PassState) → OnlyLooks p p
-looks_nothing p = reaches_nothing is_look p (IsAsLeft p.seat (world_of p)) (left_same p.seat (world_of p))
-
--- after looks all is as it was
-pub looks_left : (p q : PassState) → OnlyLooks p q → IsAsLeft p.seat (world_of p) (world_of q)
-looks_left p q a = subst (λ (x : PassState). IsAsLeft p.seat (world_of p) (world_of x)) (sym a.same) a.world
-
-pub looks_call : {p q : PassState} → OnlyLooks p q → call_of q ≡ call_of p
-looks_call a = ap (λ (x : PassState). call_of x) a.same ∙ a.world.call
-
-pub looks_table : {p q : PassState} → OnlyLooks p q → q.table ≡ p.table
-looks_table a = ap (λ (x : PassState). x.table) a.same
-
-pub looks_joined : {p q r : PassState} → OnlyLooks p q → OnlyLooks q r → OnlyLooks p r
-looks_joined {p} {q} {r} a b = by (subst (λ (x : PassState). OnlyLooks x r) a.same b)
-  where
-    by : OnlyLooks (seeing p q.seen) r → OnlyLooks p r
-    by b = record {
-      same = b.same;
-      does = does_then is_look p q r a.does (subst (λ (x : PassState). Does is_look x r) (sym a.same) b.does);
-      calls = b.calls ∙ append-nil (own_calls p q.seen) ∙ a.calls;
-      world = left_joined a.world b.world;
-      counts = counts_then a.counts b.counts;
-    }
-
--- What is granted after looks is granted.
-granted_over : {c : Config} {s : Seat} {place : Place} {w u v : World} → IsAsLeft s w u → IsGrantedAt c s place u v
-    → IsGrantedAt c s place w v
-granted_over a b = grind arith
-
-pub granted_behind_looks : {p q r : PassState} {place : Place} → OnlyLooks p q → IsGranted q place r
-    → IsGranted p place r
-granted_behind_looks {p} {q} {r} {place} a b = by (subst (λ (x : PassState). IsGranted x place r) a.same b)
-  where
-    by : IsGranted (seeing p q.seen) place r → IsGranted p place r
-    by b = record {
-      same = b.same;
-      does = does_then is_placing p q r (does_wider is_look is_placing (λ x h. grind arith) p q a.does)
-          (subst (λ (x : PassState). Does is_placing x r) (sym a.same) b.does);
-      calls = cc (b.calls, a.calls, append-nil (own_calls p p.seen), a.world.call);
-      world = granted_over a.world b.world;
-      counts = counts_then a.counts b.counts;
-    }
-
--- Looks leave a New unplaced, and the tally as it is.
-pub looks_unplaced : {p : PassState} (q : PassState) → OnlyLooks p q → IsUnplaced p → IsUnplaced q
-looks_unplaced {p} q a u =
-    let kept = looks_left p q a in
-    record {
-      new = ap (λ (f : Flight). is_undecided_new f) (looks_call a) ∙ u.new;
-      placing = ap (λ (h : Holding). h.placing) kept.holding ∙ u.placing;
-      phase = phase_same (ap (λ (x : Steady). x.phase) kept.steady) u.phase;
-    }
-  where
-    phase_same : phase_of (now_of q).words ≡ phase_of (now_of p).words → IsOutOfStop (now_of p) → IsOutOfStop (now_of q)
-    phase_same e x1 = grind arith
-
-pub looks_exact : {p q : PassState} → OnlyLooks p q → HeldIsExact p → HeldIsExact q
-looks_exact a exact = grind (arith, looks_left, looks_table)
-
-pub looks_object : (p q : PassState) → OnlyLooks p q → object_for q ≡ object_for p
-looks_object p q a = cc (looks_table a, looks_call a)
-
-pub looks_pages : {p q : PassState} → OnlyLooks p q → (now_of q).words.pages ≡ (now_of p).words.pages
-looks_pages {p} {q} a = ap (λ (x : Steady). x.pages) (looks_left p q a).steady
-
--- the first fit on the pages is where an unplaced New goes
-pub goes_to : {p : PassState} (place : Place) → IsUnplaced p → place_on_pages p.table.config.resident
-    (now_of p).words.pages (object_for p) ≡ Some place → GoesTo p place
-goes_to place u fit = grind arith
-
--- A part of a turn after another, and what a part that is reached says of the pass.
 
 -- Each kind of the one is of the other.
 abbrev pub AreAmong : (Step → Bool) → (Step → Bool) → Type 0
@@ -143,13 +70,7 @@ module _ {one two kinds : Step → Bool} (ones : AreAmong one kinds) (twos : Are
 -- A part of some kinds is one of more kinds.
 pub reaches_wider : {narrow wide : Step → Bool} → AreAmong narrow wide → {p q : PassState} {A : World → Type 0}
     {ds : List Decided} → ComesTo narrow p A ds q → ComesTo wide p A ds q
-reaches_wider {narrow} {wide} widens {p} {q} a = record {
-  same = a.same;
-  does = does_wider narrow wide widens p q a.does;
-  calls = a.calls;
-  world = a.world;
-  counts = a.counts;
-}
+reaches_wider widens a = grind (arith, does_wider)
 
 -- The later part answers the call, whose operation the earlier one has left.
 pub reaches_answered : {one two kinds : Step → Bool} → AreAmong one kinds → AreAmong two kinds
@@ -171,3 +92,60 @@ module _ {kinds : Step → Bool} {p q : PassState} {A : World → Type 0} {ds : 
 
     pub reached_world : A (world_of q)
     reached_world = subst (λ (x : PassState). A (world_of x)) (sym a.same) a.world
+
+-- Looks, and what is granted after them.
+
+pub looks_nothing : (p : PassState) → OnlyLooks p p
+looks_nothing p = reaches_nothing is_look p (IsAsLeft p.seat (world_of p)) (left_same p.seat (world_of p))
+
+-- after looks all is as it was
+pub looks_left : (p q : PassState) → OnlyLooks p q → IsAsLeft p.seat (world_of p) (world_of q)
+looks_left p q a = subst (λ (x : PassState). IsAsLeft p.seat (world_of p) (world_of x)) (sym a.same) a.world
+
+pub looks_call : {p q : PassState} → OnlyLooks p q → call_of q ≡ call_of p
+looks_call a = ap (λ (x : PassState). call_of x) a.same ∙ a.world.call
+
+pub looks_table : {p q : PassState} → OnlyLooks p q → q.table ≡ p.table
+looks_table a = ap (λ (x : PassState). x.table) a.same
+
+pub looks_joined : {p q r : PassState} → OnlyLooks p q → OnlyLooks q r → OnlyLooks p r
+looks_joined a b =
+    reaches_after (λ x h. h) (λ x h. h) (λ x. IsAsLeft x.seat (world_of x)) a b (λ v a b. left_joined a b)
+
+-- What is granted after looks is granted.
+granted_over : {c : Config} {s : Seat} {place : Place} {w u v : World} → IsAsLeft s w u → IsGrantedAt c s place u v
+    → IsGrantedAt c s place w v
+granted_over a b = grind arith
+
+pub granted_behind_looks : {p q r : PassState} {place : Place} → OnlyLooks p q → IsGranted q place r
+    → IsGranted p place r
+granted_behind_looks {p} {place = place} a b =
+    reaches_answered (λ x h. grind arith) (λ x h. h) (λ x. IsGrantedAt x.table.config x.seat place (world_of x))
+    Answer.Done a (ap (λ (f : Flight). f.op) a.world.call) b (λ v a b. granted_over a b)
+
+-- Looks leave a New unplaced, and the tally as it is.
+pub looks_unplaced : {p : PassState} (q : PassState) → OnlyLooks p q → IsUnplaced p → IsUnplaced q
+looks_unplaced {p} q a u =
+    let kept = looks_left p q a in
+    record {
+      new = ap (λ (f : Flight). is_undecided_new f) (looks_call a) ∙ u.new;
+      placing = ap (λ (h : Holding). h.placing) kept.holding ∙ u.placing;
+      phase = phase_same (ap (λ (x : Steady). x.phase) kept.steady) u.phase;
+    }
+  where
+    phase_same : phase_of (now_of q).words ≡ phase_of (now_of p).words → IsOutOfStop (now_of p) → IsOutOfStop (now_of q)
+    phase_same e x1 = grind arith
+
+pub looks_exact : {p q : PassState} → OnlyLooks p q → HeldIsExact p → HeldIsExact q
+looks_exact a exact = grind (arith, looks_left, looks_table)
+
+pub looks_object : (p q : PassState) → OnlyLooks p q → object_for q ≡ object_for p
+looks_object p q a = cc (looks_table a, looks_call a)
+
+pub looks_pages : {p q : PassState} → OnlyLooks p q → (now_of q).words.pages ≡ (now_of p).words.pages
+looks_pages {p} {q} a = ap (λ (x : Steady). x.pages) (looks_left p q a).steady
+
+-- the first fit on the pages is where an unplaced New goes
+pub goes_to : {p : PassState} (place : Place) → IsUnplaced p → place_on_pages p.table.config.resident
+    (now_of p).words.pages (object_for p) ≡ Some place → GoesTo p place
+goes_to place u fit = grind arith

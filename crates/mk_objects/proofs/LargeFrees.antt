@@ -21,10 +21,6 @@ same_count : (page n count : ℕ) → ◌≡◌ {A = Option RunPages} (Some (rec
     (Some (record { page = page; count = count })) → n ≡ count
 same_count page n count is = grind arith
 
-heads_by : (x : Option Header) (page count : ℕ) → run_headed x page ≡ Some (record { page = page; count = count })
-    → HeadsRun x count
-heads_by x0 page count is = grind (arith, same_count)
-
 -- and what heads none
 pub heads_none : (x : Option Header) (page : ℕ) → run_headed x page ≡ None → heads_run x ≡ false
 heads_none x0 page is = grind arith
@@ -36,7 +32,7 @@ module _ {p : PassState} {reg u : ℕ} {cell : Cell} (count : ℕ) (may : MayFre
   object = object_at u cell before may.free may.some may.target
 
   heads : HeadsRun (header_in (now_of p).words cell.page) count
-  heads = heads_by (header_in (now_of p).words cell.page) cell.page count run
+  heads = grind (arith, same_count)
 
   live : (own p reg cell before object).freed ≡ false
   live = sym (its_freed p reg cell before object may.phase) ∙ may.live

@@ -1,20 +1,20 @@
 -- The register of a Free is loaded.
 use Rattle.std.proofs.lemmas.List.{length-replicate}
 use Rattle.mk_laws.proofs.Vocabulary.{Answer, AreAdmitted, AreOfOthers, Bool, Call, Caller, Config, Event, Flight}
-use Rattle.mk_laws.proofs.Vocabulary.{Holds, IsAdmitted, IsEnabled, IsHistory, List, Load, Moment, None, Null, Op}
-use Rattle.mk_laws.proofs.Vocabulary.{Option, Progress, Seat, Some, Stage, Step, Value, Words, World, ℕ, after_calls}
-use Rattle.mk_laws.proofs.Vocabulary.{answer_decided, ap, append-nil, arith, asked, bases_of, begun, call_decided}
-use Rattle.mk_laws.proofs.Vocabulary.{caller_number, calls, earlier_part_is_history, entry_of, eqb-true, false}
-use Rattle.mk_laws.proofs.Vocabulary.{flight_of, found, if◌then◌else◌, image_of, is_held, is_undecided_free, left}
-use Rattle.mk_laws.proofs.Vocabulary.{length, lt-ltb, map-append, never_behind, progress_reg, refl, reg_access}
-use Rattle.mk_laws.proofs.Vocabulary.{register_at, register_met, register_word, shown, subst, sym, true, world_behind}
-use Rattle.mk_laws.proofs.Vocabulary.{[], ◌%◌, ◌*◌, ◌++◌, ◌+◌, ◌/◌, ◌<◌, ◌==◌, ◌∙◌, ◌∷◌, ◌≡◌}
-use Rattle.mk_laws.proofs.SeatFrames.{admitted_others_leave}
+use Rattle.mk_laws.proofs.Vocabulary.{Holds, IsAdmitted, IsHistory, List, Load, Moment, None, Null, Op, Option}
+use Rattle.mk_laws.proofs.Vocabulary.{Progress, Seat, Some, Stage, Step, Value, Words, World, ℕ, after_calls}
+use Rattle.mk_laws.proofs.Vocabulary.{answer_decided, ap, append-nil, arith, asked, bases_of, begun, caller_number}
+use Rattle.mk_laws.proofs.Vocabulary.{calls, earlier_part_is_history, entry_of, eqb-true, false, flight_of, found}
+use Rattle.mk_laws.proofs.Vocabulary.{if◌then◌else◌, image_of, is_held, is_undecided_free, left, lt-ltb, never_behind}
+use Rattle.mk_laws.proofs.Vocabulary.{progress_reg, refl, reg_access, register_at, register_met, register_word, shown}
+use Rattle.mk_laws.proofs.Vocabulary.{subst, sym, true, world_behind, [], ◌%◌, ◌*◌, ◌++◌, ◌+◌, ◌/◌, ◌<◌, ◌==◌, ◌∙◌, ◌∷◌}
+use Rattle.mk_laws.proofs.{Vocabulary.◌≡◌, SeatFrames.admitted_others_leave}
 use Rattle.mk_objects.proofs.Vocabulary.{Acts, CallIsAt, IsAdmittedBehind, IsAsLeft, IsBase, IsEnabledTo, IsFreeAt}
-use Rattle.mk_objects.proofs.Vocabulary.{IsTurn, Known, PassState, answers_full, call_of, calls_more, event_of}
-use Rattle.mk_objects.proofs.Vocabulary.{histories_keep_the_invariant, is_loading, loaded_free, now_of, steady_of}
-use Rattle.mk_objects.proofs.{Vocabulary.{value_of, world_of}, Reaching.{IsCallers, made_in, reaches_nothing}}
-use Rattle.mk_objects.{proofs.{Reaching.reaches_on, Unchanged.call_behind}, specs.Retiring.{HasLoaded, IsUnloaded}}
+use Rattle.mk_objects.proofs.Vocabulary.{IsTurn, Known, PassState, answers_full, call_of, event_of}
+use Rattle.mk_objects.proofs.Vocabulary.{histories_keep_the_invariant, loaded_free, now_of, steady_of, value_of}
+use Rattle.mk_objects.proofs.{Vocabulary.world_of, Reaching.{IsCallers, made_in, reaches_at_once}}
+use Rattle.mk_objects.proofs.{Unchanged.{HasCall, OfCaller, call_behind}, Looks.caller_has_call}
+use Rattle.mk_objects.{proofs.MayAct.{asked_more, step_admits}, specs.Retiring.{HasLoaded, IsUnloaded}}
 use Rattle.mk_never.proofs.{Later.calls_stay, Parts.admitted_join}
 use Rattle.mk_core.{proofs.Conditions.{meets_enabled}, specs.{Effects.moment_behind, History.never_first}}
 use Rattle.mk_words.specs.{CallSteps.register_of, Steps.IsAdmittedTo}
@@ -39,14 +39,10 @@ free_call : (c : Config) (k r : ℕ) (xs : List Call) (a : Option Answer) → k 
     → AreAdmitted c.globals (after_calls (never_first c) xs) (asked (entry_of k (Op.Free r) a))
 free_call c k r xs x4 lt small base = grind (arith, free_admitted)
 
-asked_more : (c : Config) (es : List Event) (e : Event)
-    → asked (calls c (es ++ e ∷ [])) ≡ asked (calls c es) ++ asked (call_decided c (left c es).now e)
-asked_more c es e = grind (arith, calls_more, map-append)
-
 pub free_admits : {c : Config} {es : List Event} (k r : ℕ) (x : Step) → IsHistory c es → k < c.callers → r < 8
     → (flight_of (left c es).now (Caller k)).op ≡ Op.Free r → IsBase (register_at (never_behind c es) k r)
     → IsAdmittedBehind c es (record { seat = Caller k; step = x })
-free_admits k r x h lt small is base = grind (arith, asked_more, admitted_join, free_call)
+free_admits k r x h lt small is base = grind (arith, step_admits, free_call)
 
 -- A caller keeps its registers in the heap that never reuses storage over events of others and a step of its own that
 -- decides nothing.
@@ -65,7 +61,7 @@ registers_kept {c} es others k x whole of_others none r lt =
 -- Any step of a Free is admitted.
 pub free_step_admits : {p : PassState} {r : ℕ} (x : Step) {f : Flight} → IsCallers p → Holds p.table.config
     (now_of p) p.seat → IsHistory p.table.config p.seen → IsFreeAt p r f → f.op ≡ Op.Free r → IsAdmittedTo p x
-free_step_admits x caller holds h u is = grind (arith, free_admits)
+free_step_admits x caller holds h u is = grind (arith, asked_more, admitted_join, free_call)
 
 -- Its register keeps its value over a step that decides nothing.
 pub value_kept : {p q : PassState} (r : ℕ) {x : Step} → IsCallers p → r < 8 → Acts p x q
@@ -94,10 +90,6 @@ value_kept {p} r {x} caller small a none =
 pub unloaded_caller : (p : PassState) (r : ℕ) → call_of p ≡ begun (Op.Free r) → IsCallers p
 unloaded_caller p r call = grind arith
 
-reg_enabled : (c : Config) (m : Moment) (k r : ℕ) → k < c.callers → flight_of m (Caller k) ≡ begun (Op.Free r)
-    → IsEnabled c m (record { seat = Caller k; step = Step.Reg })
-reg_enabled c m k r lt call = grind (arith, meets_enabled, lt-ltb)
-
 module _ {p : PassState} {r : ℕ} (u : IsUnloaded p r) where
   loader : IsCallers p
   loader = unloaded_caller p r u.call
@@ -109,7 +101,7 @@ module _ {p : PassState} {r : ℕ} (u : IsUnloaded p r) where
   loads_within is holds = (subst (λ (x : Seat). Holds p.table.config (now_of p) x) is holds).0
 
   pub load_may : IsTurn p → IsEnabledTo p Step.Reg
-  load_may turn = grind (arith, loader, loading, reg_enabled, loads_within)
+  load_may turn = grind (arith, loader, loading, loads_within, meets_enabled, lt-ltb)
 
   -- whether it decides the Free or not
   pub load_admits : IsTurn p → IsHistory p.table.config p.seen → IsAdmittedTo p Step.Reg
@@ -147,15 +139,14 @@ loaded_words : (c : Config) (m : Moment) (k r : ℕ) → flight_of m (Caller k) 
     → (moment_behind c m (record { seat = Caller k; step = Step.Reg })).words ≡ m.words
 loaded_words c m k r call = grind arith
 
-record LoadsTo (c : Config) (k r n : ℕ) (w v : World) : Type 0 where
-  at : CallIsAt (Caller k) (loaded_free r n) w (world_behind c v (record { seat = Caller k; step = Step.Reg }))
-  answer : answer_decided c v.now (record { seat = Caller k; step = Step.Reg })
-      ≡ (if n == 0 then Some Answer.Done else None)
+record LoadsTo (c : Config) (s : Seat) (r n : ℕ) (w v : World) : Type 0 where
+  at : CallIsAt s (loaded_free r n) w (world_behind c v (record { seat = s; step = Step.Reg }))
+  answer : answer_decided c v.now (record { seat = s; step = Step.Reg }) ≡ (if n == 0 then Some Answer.Done else None)
 
-load_steps : (c : Config) {k : ℕ} (r : ℕ) {n : ℕ} {w v : World} → k < length v.now.seats.flights
-    → IsAsLeft (Caller k) w v
-    → flight_of w.now (Caller k) ≡ begun (Op.Free r) → r < 8 → n ≡ register_word w.now.words k r → LoadsTo c k r n w v
-load_steps c {k} r {n} {v} lt kept call small is =
+load_steps : (c : Config) {s : Seat} (r : ℕ) {n : ℕ} {w v : World} → HasCall c v.now s → IsAsLeft s w v
+    → flight_of w.now s ≡ begun (Op.Free r) → r < 8 → n ≡ register_word w.now.words (caller_number s) r
+    → LoadsTo c s r n w v
+load_steps c r {n} {v} (OfCaller k lt) kept call small is =
     let e : Event = record { seat = Caller k; step = Step.Reg } in
     let here : flight_of v.now (Caller k) ≡ begun (Op.Free r) = kept.call ∙ call in
     let same : found c v.now e ≡ n = (ap (λ (f : Flight). register_word v.now.words k (register_met f f.stage)) here)
@@ -172,50 +163,28 @@ load_steps c {k} r {n} {v} lt kept call small is =
       answer = cc (here, same, loads_answer r n);
     }
 
--- at the seat of a pass
-module _ (p : PassState) (r n : ℕ) (v : World) (small : r < 8) (known : Known p.table.config v.now) where
-  abbrev Lands : Seat → Type 0
-  Lands s =
-      CallIsAt s (loaded_free r n) (world_of p) (world_behind p.table.config v (record { seat = s; step = Step.Reg }))
-      × (answer_decided p.table.config v.now (record { seat = s; step = Step.Reg })
-      ≡ (if n == 0 then Some Answer.Done else None))
-
-  lands : {s : Seat} (k : ℕ) → s ≡ Caller k → IsAsLeft s (world_of p) v → Holds p.table.config (now_of p) s
-      → flight_of (now_of p) s ≡ begun (Op.Free r) → n ≡ register_word (now_of p).words k r → Lands s
-  lands k e kept holds call is =
-      let lt : k < p.table.config.callers = (subst (λ (x : Seat). Holds p.table.config (now_of p) x) e holds).0 in
-      let there : k < length v.now.seats.flights = subst (λ i. k < i) (sym known.orderly.flights) lt in
-      let to = load_steps p.table.config r there (subst (λ (x : Seat). IsAsLeft x (world_of p) v) e kept)
-      (ap (λ (x : Seat). flight_of (now_of p) x) (sym e) ∙ call) small is in
-      subst (λ (x : Seat). Lands x) (sym e) (to.at, to.answer)
-
 pub load_reaches : {p q : PassState} {r n : ℕ} → r < 8 → IsTurn p → IsUnloaded p r → Acts p Step.Reg q
     → n ≡ register_of p r → HasLoaded p r n q
 load_reaches {p} {r} {n} small turn u a is =
     let caller = unloaded_caller p r u.call in
-    let here : n ≡ register_word (now_of p).words caller.number r = grind arith in
-    reaches_on (λ w. w ≡ world_of p) (CallIsAt p.seat (loaded_free r n) (world_of p))
-    (reaches_nothing is_loading p (λ w. w ≡ world_of p) refl) a refl refl caller (λ w v first kept known pages.
-    let kept : IsAsLeft p.seat (world_of p) v = subst (λ (x : World). IsAsLeft p.seat x v) first kept in
-    let to = lands p r n v small known caller.number caller.is kept turn.holds u.call here in
+    reaches_at_once (CallIsAt p.seat (loaded_free r n) (world_of p)) a refl refl caller (λ v kept known pages.
+    let to = load_steps p.table.config r (caller_has_call v caller turn known) kept u.call small is in
     record {
-      world = to.0;
+      world = to.at;
       answer = if n == 0 then Some Answer.Done else None;
-      decides = to.1;
+      decides = to.answer;
       no_full = loaded_no_full (n == 0);
-      entry = λ k is. ap (λ (f : Flight). entry_of k f.op (if n == 0 then Some Answer.Done else None)) kept.call
-          ∙ loaded_entry k (call_of p).op (n == 0) ∙ ap (λ i. if n == 0 then entry_of i (call_of p).op
-          (Some Answer.Done) else []) (sym (ap caller_number is));
+      entry = ap (λ (f : Flight). entry_of (caller_number p.seat) f.op (if n == 0 then Some Answer.Done else None))
+          kept.call ∙ loaded_entry (caller_number p.seat) (call_of p).op (n == 0);
     })
 
 -- A load that finds a pointer decides nothing.
 pub load_keeps : {p q : PassState} {r n : ℕ} → r < 8 → IsTurn p → IsUnloaded p r → Acts p Step.Reg q
     → n ≡ register_of p r → (n == 0) ≡ false → value_of q r ≡ value_of p r
-load_keeps {p} {r} {n} small turn u a is some =
+load_keeps {p} {r} small turn u a is some =
     let caller = unloaded_caller p r u.call in
-    let here : n ≡ register_word (now_of p).words caller.number r = grind arith in
-    value_kept r caller small a (λ v kept known. (lands p r n v small known caller.number caller.is kept turn.holds
-    u.call here).1 ∙ ap (λ (b : Bool). if b then Some Answer.Done else None) some)
+    value_kept r caller small a (λ v kept known. (load_steps p.table.config r (caller_has_call v caller turn known) kept
+    u.call small is).answer ∙ ap (λ (b : Bool). if b then Some Answer.Done else None) some)
 
 -- A Free that has loaded a pointer isn't decided.
 pub loaded_undecided : {p : PassState} {r : ℕ} (u : ℕ) → IsFreeAt p r (loaded_free r u) → (u == 0) ≡ false

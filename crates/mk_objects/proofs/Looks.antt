@@ -1,34 +1,34 @@
 -- What a look of the turn's holder finds, and that it leaves all as it was.
-use Rattle.mk_laws.proofs.Vocabulary.{Caller, Config, Flight, Holds, Host, Marker, Moment, Seat, Steady, Step, Word}
-use Rattle.mk_laws.proofs.Vocabulary.{World, ℕ, ap, false, flight_of, free_page, left, lt-ltb, phase_of}
-use Rattle.mk_laws.proofs.Vocabulary.{quarantine_word, refl, seat_exists, slice_index, slice_index_or, true}
-use Rattle.mk_laws.proofs.Vocabulary.{world_behind, ◌%◌, ◌++◌, ◌∙◌, ◌≡◌}
-use Rattle.mk_objects.proofs.Vocabulary.{Acts, IsAsLeft, IsTurn, OnlyLooks, PassState, call_of, is_acting, is_look}
-use Rattle.mk_objects.proofs.{Vocabulary.{is_steady_word, now_of, steady_of, world_of}, Reaching.{GoesOn, IsCallers}}
-use Rattle.mk_objects.proofs.{Reaching.{reaches_nothing, reaches_still}, Unchanged.{IsPlain, OfFresh, OfHead, OfHeld}}
-use Rattle.mk_objects.proofs.Unchanged.{OfPhase, OfUsed, acting_has_call, left_joined, left_same, look_leaves}
-use Rattle.mk_objects.proofs.MayAct.{IsActing}
+use Rattle.mk_objects.proofs.Vocabulary.{Acts, IsAsLeft, IsTurn, Known, OnlyLooks, PassState, call_of, is_acting}
+use Rattle.mk_objects.proofs.Vocabulary.{is_look, is_steady_word, now_of, steady_of, world_of}
+use Rattle.mk_objects.proofs.Reaching.{GoesOn, IsCallers, reaches_nothing, reaches_still}
+use Rattle.mk_objects.proofs.Unchanged.{HasCall, IsPlain, OfCaller, acting_has_call, left_joined, left_same}
+use Rattle.mk_objects.proofs.{Unchanged.look_leaves, MayAct.IsActing}
+use Rattle.mk_laws.proofs.Vocabulary.{Config, Flight, Seat, Steady, Step, Word, World, ℕ, ap, arith, false, flight_of}
+use Rattle.mk_laws.proofs.Vocabulary.{left, lt-ltb, phase_of, quarantine_word, refl, slice_index, true, world_behind}
+use Rattle.mk_laws.proofs.Vocabulary.{◌%◌, ◌++◌, ◌<◌, ◌∙◌, ◌≡◌}
 use Rattle.mk_core.specs.Words.{named_word}
 use Rattle.mk_words.{proofs.Made.{made}, specs.Steps.{Finds, may_decide, moment_of}}
 
 -- Who holds the turn exists, and is a caller where it is acting.
 
-holder_exists : (c : Config) (m : Moment) (s : Seat) → Holds c m s → seat_exists c s ≡ true
-holder_exists c m (Caller k) h = lt-ltb k c.callers h.0
-holder_exists c m (Marker k) h = absurd h
-holder_exists c m Host h = refl
-
 pub acting_now : {p : PassState} → IsTurn p → is_acting (call_of p).stage ≡ true
     → IsActing p.table.config (now_of p) p.seat
-acting_now {p} turn acts = record { there = holder_exists p.table.config (now_of p) p.seat turn.holds; acts = acts }
+acting_now {p} turn acts = grind (arith, lt-ltb)
 
 pub acting_caller : (p : PassState) → is_acting (call_of p).stage ≡ true → IsCallers p
 acting_caller p acts = by p.seat refl acts
   where
     by : (s : Seat) → p.seat ≡ s → is_acting (flight_of (now_of p) s).stage ≡ true → IsCallers p
-    by (Caller k) is h = record { number = k; is = is }
-    by (Marker k) is h = cc
-    by Host is h = cc
+    by x0 is h = grind arith
+
+-- A caller that holds the turn has a call.
+pub caller_has_call : {p : PassState} (v : World) → IsCallers p → IsTurn p → Known p.table.config v.now
+    → HasCall p.table.config v.now p.seat
+caller_has_call {p} v caller turn known =
+    let exists : caller.number < p.table.config.callers =
+    (rw caller.is at turn.holds).0 in
+    rw caller.is (OfCaller caller.number (rw (← known.orderly.flights) at exists))
 
 -- where its call is the same, it is acting still
 pub acts_there : {c : Config} {s : Seat} (w v : World) → IsActing c w.now s → flight_of v.now s ≡ flight_of w.now s
@@ -48,11 +48,7 @@ looks_on p at plain w v before kept known pages =
 
 -- Such a look decides nothing.
 pub plain_is_idle : {x : Word} → IsPlain x → may_decide (Step.Look x) ≡ false
-plain_is_idle (OfHead p) = refl
-plain_is_idle (OfUsed p) = refl
-plain_is_idle OfHeld = refl
-plain_is_idle OfFresh = refl
-plain_is_idle OfPhase = refl
+plain_is_idle x0 = grind arith
 
 pub look_reaches : {p q : PassState} {x : Word} → IsTurn p → is_acting (call_of p).stage ≡ true
     → IsPlain x → Acts p (Step.Look x) q → OnlyLooks p q
@@ -69,11 +65,7 @@ module _ (p q : PassState) (x : Word) (n : ℕ) (turn : IsTurn p) (f : Finds p (
   found_steady steady = f.finds ∙ by x steady
     where
       by : (y : Word) → is_steady_word y ≡ true → named_word (moment_of f.makes).words y ≡ named_word (now_of p).words y
-      by (Word.Head i) h = ap (λ (t : Steady). (slice_index_or t.pages i free_page).header) same
-      by (Word.Used i) h = ap (λ (t : Steady). (slice_index_or t.pages i free_page).used) same
-      by Word.Held h = ap (λ (t : Steady). t.held) same
-      by Word.Fresh h = ap (λ (t : Steady). t.fresh) same
-      by _ h = cc
+      by x0 h = grind (arith, same)
 
 pub found_phase : {p q : PassState} {n : ℕ} → IsTurn p → Finds p (Step.Look Word.Phase) n q
     → n % 8 ≡ phase_of (now_of p).words

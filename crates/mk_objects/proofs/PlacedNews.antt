@@ -1,13 +1,13 @@
 -- What is asked of a New, and where it goes, by what its turn says.
-use Rattle.mk_laws.proofs.Vocabulary.{Config, IsHistory, List, Op, Option, Page, Place, Some, Steady, Step, ℕ}
-use Rattle.mk_laws.proofs.Vocabulary.{and_parts, and_right, ap, arith, false, free_page, has_operands, header_at}
-use Rattle.mk_laws.proofs.Vocabulary.{length, not, object_made, phase_of, place_on_pages, refl, slice_index_or, sym}
-use Rattle.mk_laws.proofs.Vocabulary.{true, uses_of_pages, ◌<◌, ◌∙◌, ◌≡◌}
+use Rattle.mk_laws.proofs.Vocabulary.{IsHistory, List, Op, Option, Page, Place, Some, Steady, Step, ℕ, and_parts}
+use Rattle.mk_laws.proofs.Vocabulary.{and_right, ap, arith, eqb-true, false, free_page, header_at, length, not}
+use Rattle.mk_laws.proofs.Vocabulary.{object_made, phase_of, place_on_pages, refl, slice_index_or, true, uses_of_pages}
+use Rattle.mk_laws.proofs.Vocabulary.{◌<◌, ◌==◌, ◌∙◌, ◌≡◌}
 use Rattle.mk_objects.proofs.Vocabulary.{Acts, GoesTo, HasCarved, IsTurn, IsUnplaced, MayTake, OnlyLooks, PassState}
 use Rattle.mk_objects.proofs.Vocabulary.{WordsState, bits_made, call_of, is_look, known_left, now_of, object_for}
 use Rattle.mk_geom.specs.PageUses.{place_on_uses}
 use Rattle.mk_core.specs.Calls.{has_type}
-use Rattle.mk_laws.proofs.{InvariantTheorems.first_fit_finds_the_place, LayoutHolders.seat_operands}
+use Rattle.mk_laws.proofs.{InvariantHistories.first_fit_finds_the_place, LayoutHolders.seat_operands}
 use Rattle.mk_objects.proofs.JoinedLooks.{goes_to, looks_object, looks_pages, looks_table, looks_unplaced}
 use Rattle.mk_objects.proofs.Looks.{acting_caller, acting_now}
 use Rattle.mk_objects.proofs.{MayAct.new_is_acting, Reaching.kept_by, Serves.KnowsPlace, Serves.knows_place}
@@ -28,15 +28,15 @@ pub looks_then_sweep : {p q r : PassState} → OnlyLooks p q → SweepsNothing q
 looks_then_sweep {p} {q} {r} looks rest = sweeps_then p q r looks.same (looks_sweep looks) rest
 
 -- the mark of the place's first page
-pub first_mark_sweeps : {p : PassState} {place : Place} (k : KnowsPlace p place) {q : PassState}
-    → header_at (now_of p).words place.page ≡ 0
-    → phase_of (now_of p).words ≡ 1 → Acts p (Step.Mark place.page (bits_made (object_for p))) q → SweepsNothing p q
-first_mark_sweeps {p} {place} k {q} free one a =
+pub first_mark_sweeps : {p : PassState} {place : Place} (k : KnowsPlace p place) → header_at (now_of p).words place.page
+    ≡ 0 → {bits : ℕ} → bits ≡ bits_made (object_for p) → (phase_of (now_of p).words == 1) ≡ true
+    → {q : PassState} → Acts p (Step.Mark place.page bits) q → SweepsNothing p q
+first_mark_sweeps {p} {place} k free {bits} are marking {q} a =
     let kept = kept_by a in
-    let serving = serving_left k.serving kept in
-    let marks = serving_marks serving (ap (λ (x : Steady). x.phase) kept.steady ∙ one)
+    let one = eqb-true (phase_of (now_of p).words) 1 marking in
+    let marks = serving_marks (serving_left k.serving kept) (ap (λ (x : Steady). x.phase) kept.steady ∙ one)
     (ap (λ (x : Steady). (slice_index_or x.pages place.page free_page).header) kept.steady ∙ free) in
-    step_sweeps p q (Step.Mark place.page (bits_made (object_for p))) a.makes (and_right _ _ (ap not marks))
+    step_sweeps p q (Step.Mark place.page bits) a.makes (and_right _ _ (ap not (rw (← are) at marks)))
 
 -- a header more
 pub head_sweeps : {p q r : PassState} {place : Place} {n page value : ℕ} → HasCarved p place n q → SweepsNothing p q
@@ -52,13 +52,10 @@ serving_sweeps {p} {q} {r} {s} {t} {x} {y} {z} ready before a b d first second t
     sweeps_then p q t ready.same before (step_then_sweeps q r t x a.makes first
     (step_then_sweeps r s t y b.makes second (other_step_sweeps s t z d.makes third)))
 
-type_of : (c : Config) (o : Op) → has_operands c o ≡ true → has_type c o ≡ true
-type_of c o h = grind (arith, and_parts)
-
 -- The type that is asked for exists,
 pub type_asked : (p : PassState) {w : WordsState} {o : Op} → p.table ≡ w → IsHistory p.table.config p.seen
     → (call_of p).op ≡ o → has_type w.config o ≡ true
-type_asked p table h is = grind (arith, type_of, seat_operands, known_left)
+type_asked p table h is = grind (arith, seat_operands, known_left, and_parts)
 
 -- and its shape is that of the object.
 pub shape_asked : (p : PassState) {w : WordsState} {o : Op} (shape : Shape) → p.table ≡ w → (call_of p).op ≡ o
@@ -80,16 +77,12 @@ goes_behind place a u fit = grind (arith, goes_to, looks_unplaced, looks_table, 
 -- and the place among the allocations.
 pub place_found : {p : PassState} {found : Option Place} → IsTurn p → IsHistory p.table.config p.seen → IsUnplaced p
     → place_on_pages p.table.config.resident (now_of p).words.pages (object_for p) ≡ found → place_now_for p ≡ found
-place_found {p} turn h u fit =
-    let acts = new_is_acting (call_of p) u.new in
-    sym (first_fit_finds_the_place p.table.config p.seen h (object_for p)
-    (unplaced_settled (acting_now turn acts) (acting_caller p acts) u h)) ∙ fit
+place_found turn h u fit =
+    grind (arith, new_is_acting, first_fit_finds_the_place, unplaced_settled, acting_now, acting_caller)
 
 pub fit_within : {p : PassState} (place : Place) → IsTurn p → IsHistory p.table.config p.seen
     → IsUnplaced p → place_on_pages p.table.config.resident (now_of p).words.pages (object_for p) ≡ Some place
     → place.page < length (now_of p).words.pages
 fit_within place turn h u fit =
     let k = knows_place turn h (goes_to place u fit) in
-    let within = k.within in
-    let lengths = k.serving.pages in
     omega arith

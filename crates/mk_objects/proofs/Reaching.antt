@@ -1,14 +1,14 @@
 -- The turn's holder goes on by a step.
 use Rattle.std.proofs.lemmas.List.Sums.{sum_by_push}
 use Rattle.mk_laws.proofs.Vocabulary.{Answer, AreOfOthers, AreOfPages, Bool, Caller, Config, Decided, Event, List, None}
-use Rattle.mk_laws.proofs.Vocabulary.{Op, Option, Seat, Step, World, ℕ, answer_decided, ap, append-nil, append_assoc}
-use Rattle.mk_laws.proofs.Vocabulary.{arith, call_decided, calls, cases_eq, ends, entry_of, eq-eqb, false, first_world}
-use Rattle.mk_laws.proofs.Vocabulary.{flight_of, histories_keep_lengths, inl, inr, is_end, left, ne_eqb, refl, subst}
-use Rattle.mk_laws.proofs.Vocabulary.{sym, true, world_behind, [], ◌++◌, ◌+◌, ◌==◌, ◌∙◌, ◌∷◌, ◌≡◌, ◌≢◌}
+use Rattle.mk_laws.proofs.Vocabulary.{Option, Seat, Step, World, ℕ, answer_decided, ap, append-nil, append_assoc, arith}
+use Rattle.mk_laws.proofs.Vocabulary.{call_decided, caller_number, calls, ends, entry_of, eq-eqb, false, first_world}
+use Rattle.mk_laws.proofs.Vocabulary.{flight_of, histories_keep_lengths, is_end, left, ne_eqb, refl, subst, sym, true}
+use Rattle.mk_laws.proofs.Vocabulary.{world_behind, [], ◌++◌, ◌+◌, ◌==◌, ◌∙◌, ◌∷◌, ◌≡◌, ◌≢◌}
 use Rattle.mk_objects.proofs.Vocabulary.{Acts, ComesTo, Does, IsAsLeft, Known, PassState, answers_full, calls_more}
 use Rattle.mk_objects.proofs.Vocabulary.{decides_nothing, does_then, event_of, own_calls, world_of}
 use Rattle.mk_core.specs.Frames.{CountsAreLeft, HoldsAll, written_of}
-use Rattle.mk_laws.proofs.CallsBy.{by_append, calls_by, others_add_none, own_entry}
+use Rattle.mk_laws.proofs.FramesLongerLists.{by_append, calls_by, others_add_none, own_entry}
 use Rattle.mk_laws.proofs.OthersCounts.{entry_fulls, fulls_append, fulls_of}
 use Rattle.mk_turns.proofs.Doing.{does_nothing, does_step}
 use Rattle.mk_words.{proofs.Made.made, specs.Steps.may_decide, specs.TurnSteps.world_at}
@@ -24,31 +24,29 @@ pub counts_more : (c : Config) (es : List Event) (e : Event) → is_end e.step �
 counts_more c es e no_end no_full = grind (arith, sum_by_push, fulls_of, entry_fulls, calls_more, fulls_append)
 
 -- A caller's step after events of others adds the entry that it decides, if it decides one.
-
-pub own_step_adds : (c : Config) (k : ℕ) (es others : List Event) (x : Step) {o : Op} {a : Option Answer}
-    → AreOfOthers (Caller k ∷ []) others → (flight_of (left c (es ++ others)).now (Caller k)).op ≡ o
-    → answer_decided c (left c (es ++ others)).now (record { seat = Caller k; step = x }) ≡ a → calls_by k
-    (calls c (es ++ others ++ record { seat = Caller k; step = x } ∷ [])) ≡ calls_by k (calls c es) ++ entry_of k o a
-own_step_adds c k es others x {o} {a} of_others same decides =
-    ap (λ (l : List Decided). calls_by k l) (calls_more c (first_world c) (es ++ others) e) ∙ by_append k
-    (calls c (es ++ others)) (call_decided c (left c (es ++ others)).now e) ∙ ap (λ (l : List Decided). l ++ calls_by k
-    (call_decided c (left c (es ++ others)).now e)) (others_add_none c k es others of_others) ∙ ap (λ (y : Op). calls_by
-    k (calls c es) ++ calls_by k (entry_of k y (answer_decided c (left c (es ++ others)).now e))) same
-    ∙ ap (λ (y : Option Answer). calls_by k (calls c es) ++ calls_by k (entry_of k o y)) decides
-    ∙ ap (λ (l : List Decided). calls_by k (calls c es) ++ l) (own_entry k o a)
-  where
-    e : Event
-    e = record { seat = Caller k; step = x }
+pub own_adds : (p : PassState) {k : ℕ} → p.seat ≡ Caller k → (es others : List Event) (x : Step) {a : Option Answer}
+    {ds : List Decided} → AreOfOthers (p.seat ∷ []) others
+    → answer_decided p.table.config (left p.table.config (es ++ others)).now (event_of p x) ≡ a
+    → entry_of (caller_number p.seat) (flight_of (left p.table.config (es ++ others)).now p.seat).op a ≡ ds
+    → own_calls p (es ++ others ++ event_of p x ∷ []) ≡ own_calls p es ++ ds
+own_adds p is es others x {a} of_others answer entry =
+    let c : Config = p.table.config in
+    let k : ℕ = caller_number p.seat in
+    let w : World = left c (es ++ others) in
+    let own : p.seat ≡ Caller k = is ∙ ap (λ (s : Seat). Caller (caller_number s)) (sym is) in
+    ap (λ (l : List Decided). calls_by k l) (calls_more c (first_world c) (es ++ others) (event_of p x))
+    ∙ by_append k (calls c (es ++ others)) (call_decided c w.now (event_of p x))
+    ∙ ap (λ (l : List Decided). l ++ calls_by k (call_decided c w.now (event_of p x)))
+    (others_add_none c k es others (subst (λ (s : Seat). AreOfOthers (s ∷ []) others) own of_others))
+    ∙ ap (λ (l : List Decided). own_calls p es ++ l) (ap (λ (y : Option Answer). calls_by k (entry_of k
+    (flight_of w.now p.seat).op y)) answer ∙ own_entry k (flight_of w.now p.seat).op a ∙ entry)
 
 -- the pass, where it has seen these
 abbrev pub seeing : PassState → List Event → PassState
 seeing p es = record p { seen = es }
 
 held_so : {a : ℕ} (b : ℕ) → (a ≡ 2 → b ≡ 2) → (a ≢ 2 → b ≢ 2) → (b == 2) ≡ (a == 2)
-held_so {a} b held free = elim (cases_eq a 2) [
-  | inl e ↦ eq-eqb b 2 (held e) ∙ sym (eq-eqb a 2 e)
-  | inr ne ↦ ne_eqb b 2 (free ne) ∙ sym (ne_eqb a 2 ne)
-]
+held_so b held free = grind (arith, eq-eqb, ne_eqb)
 
 -- The step was made in this world, which others had left the holder its own.
 pub record MadeIn (p : PassState) (es : List Event) (s : Step) (r : PassState) : Type 0 where
@@ -91,13 +89,7 @@ made_in p es {s} {r} a =
 
 pub reaches_nothing : (kinds : Step → Bool) (p : PassState) (A : World → Type 0) → A (world_of p)
     → ComesTo kinds p A [] p
-reaches_nothing kinds p A here = record {
-  same = refl;
-  does = does_nothing kinds p;
-  calls = sym (append-nil (own_calls p p.seen));
-  world = here;
-  counts = record { ends = refl; fulls = refl };
-}
+reaches_nothing kinds p x2 here = grind (arith, does_nothing, append-nil)
 
 -- What a step that is made in a world comes to, and the entry that it adds to the calls of its own.
 pub record StepsTo (p : PassState) (s : Step) (B : World → Type 0) (es : List Decided) (v : World) : Type 0 where
@@ -105,23 +97,11 @@ pub record StepsTo (p : PassState) (s : Step) (B : World → Type 0) (es : List 
   pub answer : Option Answer
   pub decides : answer_decided p.table.config v.now (event_of p s) ≡ answer
   pub no_full : answers_full answer ≡ false
-  pub entry : (k : ℕ) → p.seat ≡ Caller k → entry_of k (flight_of v.now p.seat).op answer ≡ es
+  pub entry : entry_of (caller_number p.seat) (flight_of v.now p.seat).op answer ≡ es
 
 pub record IsCallers (p : PassState) : Type 0 where
   pub number : ℕ
   pub is : p.seat ≡ Caller number
-
-own_adds : (p : PassState) (k : ℕ) → p.seat ≡ Caller k → (seen others : List Event) (s : Step) {es : List Decided}
-    → AreOfOthers (p.seat ∷ []) others
-    → {a : Option Answer} → answer_decided p.table.config (left p.table.config (seen ++ others)).now (event_of p s) ≡ a
-    → entry_of k (flight_of (left p.table.config (seen ++ others)).now p.seat).op a ≡ es
-    → own_calls p (seen ++ others ++ event_of p s ∷ []) ≡ own_calls p seen ++ es
-own_adds p k is seen others s {es} of_others {a} answer entry =
-    subst (λ (x : Seat). AreOfOthers (x ∷ []) others → answer_decided p.table.config (left p.table.config (seen ++
-    others)).now (record { seat = x; step = s }) ≡ a → entry_of k (flight_of (left p.table.config (seen ++ others)).now
-    x).op a ≡ es → own_calls (record p { seat = x }) (seen ++ others ++ record { seat = x; step = s } ∷ []) ≡ own_calls
-    (record p { seat = x }) seen ++ es) (sym is) (λ o d e. own_step_adds p.table.config k seen others s o refl d ∙ ap
-    (λ (l : List Decided). own_calls (record p { seat = Caller k }) seen ++ l) e) of_others answer entry
 
 -- what is known of the world in which the holder makes a step, where it had come to such a one
 abbrev pub GoesOn : (p : PassState) (A : World → Type 0) (C : World → Type 0) → Type 0
@@ -151,8 +131,8 @@ reaches_in_stop {kinds} {p} {q} {r} A B {ds} {es} {s} reached acts allowed no_en
       same = m.same ∙ ap (λ (l : List Event). seeing p l) (sym seen);
       does = does_then kinds p q r reached.does
           (subst (λ (x : PassState). Does kinds x r) (sym reached.same) (m.does kinds allowed));
-      calls = ap (λ (l : List Event). own_calls p l) seen ∙ own_adds p caller.number caller.is q.seen m.others s
-          m.of_others on.decides (on.entry caller.number caller.is) ∙ ap (λ (l : List Decided). l ++ es) reached.calls
+      calls = ap (λ (l : List Event). own_calls p l) seen ∙ own_adds p caller.is q.seen m.others s
+          m.of_others on.decides on.entry ∙ ap (λ (l : List Decided). l ++ es) reached.calls
           ∙ append_assoc (own_calls p p.seen) ds es;
       world = subst B (sym m.behind ∙ ap (λ (x : PassState). world_of x) m.same
           ∙ ap (λ (l : List Event). left c l) (sym seen)) on.world;
@@ -175,7 +155,7 @@ idle_steps p s B v idle there = record {
   answer = None;
   decides = decides_nothing p.table.config v.now p.seat s idle;
   no_full = refl;
-  entry = λ k is. refl;
+  entry = refl;
 }
 
 pub reaches_still_in_stop : {kinds : Step → Bool} {p q r : PassState} (A B : World → Type 0) {ds : List Decided}
@@ -193,11 +173,19 @@ reaches_still A B reached acts allowed no_end caller idle next =
     (λ w v a kept stop known pages. next w v a kept known pages)
 
 -- the first step of a part
+
+pub reaches_at_once : {kinds : Step → Bool} {p r : PassState} (B : World → Type 0) {es : List Decided} {s : Step}
+    → Acts p s r → kinds s ≡ true → is_end s ≡ false → IsCallers p → ((v : World) → IsAsLeft p.seat (world_of p) v
+    → Known p.table.config v.now → AreOfPages p.table.config.pages v.now.words → StepsTo p s B es v)
+    → ComesTo kinds p B es r
+reaches_at_once {kinds} {p} B acts allowed no_end caller next =
+    reaches_on (λ w. w ≡ world_of p) B (reaches_nothing kinds p (λ w. w ≡ world_of p) refl) acts allowed no_end caller
+    (λ w v first kept known pages. next v (subst (λ (x : World). IsAsLeft p.seat x v) first kept) known pages)
+
 pub reaches_first : {kinds : Step → Bool} {p r : PassState} (B : World → Type 0) {s : Step} → Acts p s r
     → kinds s ≡ true → is_end s ≡ false → IsCallers p → may_decide s ≡ false → ((v : World)
     → IsAsLeft p.seat (world_of p) v → Known p.table.config v.now → AreOfPages p.table.config.pages v.now.words
     → B (world_behind p.table.config v (event_of p s))) → ComesTo kinds p B [] r
-reaches_first {kinds} {p} B acts allowed no_end caller idle next =
-    reaches_still (λ w. w ≡ world_of p) B (reaches_nothing kinds p (λ w. w ≡ world_of p) refl) acts
-    allowed no_end caller idle
-    (λ w v first kept known pages. next v (subst (λ (x : World). IsAsLeft p.seat x v) first kept) known pages)
+reaches_first {p = p} B {s = s} acts allowed no_end caller idle next =
+    reaches_at_once B acts allowed no_end caller
+    (λ v kept known pages. idle_steps p s B v idle (next v kept known pages))

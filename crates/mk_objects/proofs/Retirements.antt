@@ -1,17 +1,17 @@
 -- A Free's whole turn: its register was null, or its object was freed, or found freed.
-use Rattle.mk_laws.proofs.Vocabulary.{Answer, Bool, Cell, Flight, Holding, Holds, IsHistory, List, Null}
-use Rattle.mk_laws.proofs.Vocabulary.{PlacedAllocation, Ptr, Seat, Some, Stage, Steady, Step, TalliesAreTidy, Value}
-use Rattle.mk_laws.proofs.Vocabulary.{World, ℕ, allocation_at, ap, arith, false, flight_of, freed_where_it_stands}
-use Rattle.mk_laws.proofs.Vocabulary.{has_bit, if◌then◌else◌, is_freed, is_held, is_run_gone, length, map, never_behind}
-use Rattle.mk_laws.proofs.Vocabulary.{nothing_done, quarantine_word, refl, slice_index, subst, sym, target, true}
-use Rattle.mk_laws.proofs.Vocabulary.{true≢false, [], ◌%◌, ◌<◌, ◌==◌, ◌^◌, ◌∙◌, ◌≡◌}
+use Rattle.mk_laws.proofs.Vocabulary.{Answer, Bool, Cell, Flight, Holds, IsHistory, List, Null, PlacedAllocation, Ptr}
+use Rattle.mk_laws.proofs.Vocabulary.{Seat, Some, Stage, Steady, Step, Value, World, ℕ, allocation_at, ap, arith, false}
+use Rattle.mk_laws.proofs.Vocabulary.{flight_of, freed_where_it_stands, has_bit, if◌then◌else◌, is_freed, is_held}
+use Rattle.mk_laws.proofs.Vocabulary.{is_run_gone, length, map, never_behind, nothing_done, quarantine_word, refl}
+use Rattle.mk_laws.proofs.Vocabulary.{slice_index, subst, sym, target, true, true≢false, [], ◌%◌, ◌<◌, ◌==◌, ◌^◌, ◌∙◌}
+use Rattle.mk_laws.proofs.Vocabulary.{◌≡◌}
 use Rattle.mk_objects.proofs.Vocabulary.{CallIsAt, ComesTo, FreesCell, IsAsLeft, IsBase, IsFreeAt, IsOutOfStop, MayFree}
 use Rattle.mk_objects.proofs.Vocabulary.{OnlyLooks, PassState, WordsState, all_below_from, call_of, entry_for}
 use Rattle.mk_objects.proofs.Vocabulary.{histories_keep_the_invariant, is_freeing, is_loading, loaded_free}
-use Rattle.mk_objects.proofs.{Vocabulary.{none_is_held, now_of, value_of, world_of}, DecidedFrees.{Decides, IsExactly}}
-use Rattle.mk_objects.proofs.{DecidedFrees.{decided_behind, still_open}, FreeSteps.{freed_same, low_half, target_same}}
-use Rattle.mk_objects.proofs.FreedObjects.{IsObjectAt, granted, it_is_freed, its_freed, object_at}
-use Rattle.mk_objects.proofs.FreedOnce.{due_since, due_then, none_due, once_behind}
+use Rattle.mk_objects.proofs.Vocabulary.{none_is_held, now_of, value_of, world_of}
+use Rattle.mk_objects.proofs.{DecidedFrees.{Decides, decided_behind, still_open}, FreeSteps.{freed_same, low_half}}
+use Rattle.mk_objects.proofs.{FreeSteps.target_same, FreedObjects.{IsObjectAt, granted, it_is_freed, its_freed}}
+use Rattle.mk_objects.proofs.{FreedObjects.object_at, FreedOnce.{due_since, due_then, none_due, once_behind}}
 use Rattle.mk_objects.proofs.JoinedLooks.{looks_call, looks_left, looks_table, reached_table, reached_world}
 use Rattle.mk_objects.proofs.JoinedLooks.{reaches_after, reaches_answered, reaches_named, reaches_so, reaches_wider}
 use Rattle.mk_objects.proofs.{Serves.out_of_stop, SmallFrees.{exact_still, none_held}}
@@ -24,9 +24,6 @@ use Rattle.mk_objects.specs.Deciding.{IsDecidedAt, counted}
 
 abbrev pub Comes : PassState → Flight → PassState → Type 0
 Comes p f q = ComesTo is_loading p (CallIsAt p.seat f (world_of p)) [] q
-
-pub at_named : {s : Seat} {f g : Flight} {w v : World} → CallIsAt s f w v → f ≡ g → CallIsAt s g w v
-at_named {s} {w} {v} at same = subst (λ (x : Flight). CallIsAt s x w v) same at
 
 pub is_at_then : {s : Seat} {f g : Flight} {w u v : World} → CallIsAt s f w u → CallIsAt s g u v → CallIsAt s g w v
 is_at_then a b = record {
@@ -70,7 +67,7 @@ module _ {p q : PassState} {f : Flight} (a : Comes p f q) where
 pub seen_at : {p q r : PassState} {f g : Flight} (cell : Cell) {double : Bool} → Comes p f q → HasSeen q cell r
     → is_freed (now_of q).words cell ≡ double → seen_free f double ≡ g
     → ComesTo is_loading q (CallIsAt q.seat g (world_of q)) (entry_seen q double) r
-seen_at cell a b freed to = grind (arith, reaches_named, reaches_so, at_named)
+seen_at cell a b freed to = grind (arith, reaches_named, reaches_so)
 
 pub comes_seeing : {p q r : PassState} {f : Flight} (cell : Cell) → Comes p f q → HasSeen q cell r
     → is_freed (now_of q).words cell ≡ false → Comes p f r
@@ -80,26 +77,12 @@ comes_seeing {f} cell a b live =
 
 -- a decided call
 
-decided_at : {s : Seat} {f : Flight} {w v : World} → CallIsAt s f w v → f.stage ≡ Stage.Give
-    → f.op ≡ (flight_of w.now s).op → IsDecidedAt s w v
-decided_at at give same = record {
-  stage = ap (λ (x : Flight). x.stage) at.call ∙ give;
-  op = ap (λ (x : Flight). x.op) at.call ∙ same;
-  placing = ap (λ (h : Holding). h.placing) at.holding;
-  cycle = ap (λ (h : Holding). h.cycle) at.holding;
-  counted = ap counted at.steady;
-}
-
 -- What a turn that is decided leaves.
-
-tidy_by : {kinds : Step → Bool} {p q : PassState} {a : Answer} → Decides kinds p a q
-    → TalliesAreTidy p.table.config p.seen → TalliesAreTidy q.table.config q.seen
-tidy_by d tidy = grind arith
 
 pub decides_free : {kinds : Step → Bool} {p q : PassState} {a : Answer} → Decides kinds p a q
     → is_run_gone (now_of q).words (now_of q).seats.holding.freed ≡ true → ((j : ℕ) → j < p.table.config.callers
     → is_held (now_of q).words j ≡ false) → TalliesAreExact q.table.config q.seen → DecidesFree kinds a p q
-decides_free d gone gates exact = grind (arith, reached_world, all_below_from, tidy_by)
+decides_free d gone gates exact = grind (arith, reached_world, all_below_from)
 
 -- Where the turn had done nothing, and the call only came to be decided
 module _ {kinds : Step → Bool} {p q : PassState} {f : Flight} (a : Answer)
@@ -110,10 +93,7 @@ module _ {kinds : Step → Bool} {p q : PassState} {f : Flight} (a : Answer)
   here = reached_world at
 
   pub leaves_all : DecidesFree kinds a p q
-  leaves_all =
-      decides_free (reaches_so at (λ x. decided_at x give same))
-      (ap (λ (h : Holding). is_run_gone (now_of q).words h.freed) (here.holding ∙ nothing))
-      (λ j lt. here.gates j ∙ none_held p gates j lt) (exact_still p q (sym (reached_table at)) here.steady exact)
+  leaves_all = grind (arith, decides_free, reaches_so, here, none_held, exact_still, reached_table)
 
   pub same_allocations : (world_of q).allocations ≡ (world_of p).allocations
   same_allocations = ap (λ (x : Steady). x.allocations) here.steady
@@ -274,10 +254,9 @@ retires {p} {q} {t} {r} {u} {cell} {due} unloaded come may keeps low f before h 
     x.seat (world_of x)) Answer.Done come (ap (λ (x : Flight). x.op) come.world.call ∙ same) f.reaches (λ v a
     b. decided_behind (world_of p) (ap (λ (x : Flight). x.op) a.call ∙ same) a.holding (ap counted a.steady) b) in
     let once = once_behind (λ x h. grind arith) come.does h holds f.once in
-    let exactly = subst (λ (y : WordsState). IsExactly y due (world_of t).allocations) (sym table) f.exactly in
+    let exactly = rw (← table) at f.exactly in
     record {
-      decides = decides_free d f.gone (subst (λ (y : WordsState). (j : ℕ) → j < y.config.callers
-          → is_held (now_of t).words j ≡ false) (sym table) f.gates) f.exact;
+      decides = decides_free d f.gone (rw (← table) at f.gates) f.exact;
       unfreed = not_never_freed p q r g cell come before h object keeps low may.live;
       allocations = f.allocations ∙ with_it_freed p q r g cell come before h object keeps low;
       is_due = λ is. due_since once (exactly.0 is);

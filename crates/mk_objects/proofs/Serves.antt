@@ -1,11 +1,11 @@
 -- The turn's holder serves its New, step by step.
 use Rattle.mk_laws.proofs.Vocabulary.{Config, Flight, IsHistory, IsSized, List, Moment, Object, Page, Place, Seat, Some}
-use Rattle.mk_laws.proofs.Vocabulary.{Steady, Step, Unplaced, World, ℕ, ap, arith, false, flight_of, ground_of, has_bit}
-use Rattle.mk_laws.proofs.Vocabulary.{header_at, header_made, histories_keep_lengths, inl, inr, is_phase}
-use Rattle.mk_laws.proofs.Vocabulary.{is_undecided_new, is_used_once, layout_scene_of, left, length, made_is_mapped}
-use Rattle.mk_laws.proofs.Vocabulary.{made_shows, no_bit, object_made, object_now, pages_made, pages_some}
-use Rattle.mk_laws.proofs.Vocabulary.{part_not_free, phase_of, place_now, place_on_pages, refl, small_pages, subst, sym}
-use Rattle.mk_laws.proofs.Vocabulary.{true, used_at, ◌+◌, ◌<◌, ◌∙◌, ◌≡◌, ◌≢◌, ◌⊎◌}
+use Rattle.mk_laws.proofs.Vocabulary.{Steady, Step, Unplaced, World, ℕ, ap, arith, eqb-false, eqb-true, false}
+use Rattle.mk_laws.proofs.Vocabulary.{flight_of, ground_of, has_bit, header_at, header_made, histories_keep_lengths}
+use Rattle.mk_laws.proofs.Vocabulary.{inl, inr, is_phase, is_undecided_new, is_used_once, layout_scene_of, left, length}
+use Rattle.mk_laws.proofs.Vocabulary.{made_is_mapped, made_shows, no_bit, object_made, object_now, pages_made}
+use Rattle.mk_laws.proofs.Vocabulary.{pages_some, part_not_free, phase_of, place_now, place_on_pages, refl, small_pages}
+use Rattle.mk_laws.proofs.Vocabulary.{subst, sym, true, used_at, ◌+◌, ◌<◌, ◌==◌, ◌∙◌, ◌≡◌, ◌≢◌, ◌⊎◌}
 use Rattle.mk_laws.proofs.{Fits.{FitsInBlock, FitsOnFreePages, fits}, LayoutHolders.made_sized}
 use Rattle.mk_laws.proofs.LayoutReadings.{free_unused}
 use Rattle.mk_objects.proofs.Vocabulary.{Acts, Carving, GoesTo, HasCarved, IsAsLeft, IsCellReady, IsEnabledTo}
@@ -16,10 +16,12 @@ use Rattle.mk_objects.proofs.MayAct.{IsActing, may_carve, may_mark_place, new_is
 use Rattle.mk_objects.proofs.Reaching.{IsCallers, reaches_first, reaches_nothing, reaches_still}
 use Rattle.mk_objects.proofs.Serving.{carving_carves, carving_left, carving_marked, carving_more, carving_unmarked}
 use Rattle.mk_objects.proofs.{Serving.{ready_carved, serving_left, serving_marks}, FoundPlaces.found_clear}
-use Rattle.mk_objects.proofs.Unchanged.{acting_has_call}
+use Rattle.mk_objects.proofs.{JoinedLooks.reaches_so, Unchanged.acting_has_call}
 
 -- What is known of the place before the first step that serves.
 pub record KnowsPlace (p : PassState) (place : Place) : Type 0 where
+  pub goes : GoesTo p place
+  pub history : IsHistory p.table.config p.seen
   pub acting : IsActing p.table.config (now_of p) p.seat
   pub caller : IsCallers p
   pub sized : IsSized (object_for p)
@@ -52,6 +54,8 @@ knows_place {p} {place} turn h goes =
     let found = fits c.resident (now_of p).words.pages (object_for p) place sized fit in
     let order = (histories_keep_the_invariant c p.seen h).order in
     record {
+      goes = goes;
+      history = h;
       acting = acting_now turn acts;
       caller = acting_caller p acts;
       sized = sized;
@@ -106,67 +110,70 @@ pub served_new : {p : PassState} {place : Place} {v : World} → GoesTo p place 
     (object_for p) place (world_of p) v → is_undecided_new (flight_of v.now p.seat) ≡ true
 served_new goes at = ap (λ (f : Flight). is_undecided_new f) at.call ∙ goes.unplaced.new
 
--- `mark`
-module _ {p : PassState} {place : Place} (goes : GoesTo p place) (k : KnowsPlace p place)
-    (free : header_at (now_of p).words place.page ≡ 0) where
-  frees : FitsOnFreePages p.table.config.resident (now_of p).words.pages (object_for p) place
-  frees = free_pages_of k free
+module _ {p : PassState} {place : Place} (k : KnowsPlace p place) (free : header_at (now_of p).words place.page ≡ 0)
+  where
+    frees : FitsOnFreePages p.table.config.resident (now_of p).words.pages (object_for p) place
+    frees = free_pages_of k free
 
-  pub mark_may : phase_of (now_of p).words ≡ 1 → IsEnabledTo p (Step.Mark place.page (bits_made (object_for p)))
-  mark_may one = grind (arith, may_mark_place, serving_marks)
+    -- `mark`
+    module _ {bits : ℕ} (are : bits ≡ bits_made (object_for p))
+        (marking : (phase_of (now_of p).words == 1) ≡ true) where
+      one : phase_of (now_of p).words ≡ 1
+      one = eqb-true (phase_of (now_of p).words) 1 marking
 
-  pub marks_first : {q : PassState} → phase_of (now_of p).words ≡ 1
-      → Acts p (Step.Mark place.page (bits_made (object_for p))) q → HasCarved p place 0 q
-  marks_first one a =
-      reaches_first (λ w. Carving p.table.config p.seat (object_for p) place (world_of p) w 0) a refl refl k.caller refl
-      (λ v kept known pages.
-      let serving = serving_left k.serving kept in
-      let call = acting_has_call known.orderly.flights (served_acting k serving) in
-      let some = pages_some (object_for p) k.sized in
-      carving_marked serving call (served_new goes serving) (ap (λ (x : Steady). x.phase) kept.steady ∙ one)
-      (λ d lt. grind (arith, frees)) some (let marks = pages.marks in let within = k.within in omega arith))
+      pub mark_may : IsEnabledTo p (Step.Mark place.page bits)
+      mark_may =
+          subst (λ n. IsEnabledTo p (Step.Mark place.page n)) (sym are) (may_mark_place k.acting place.page
+          (bits_made (object_for p)) k.within one (serving_marks k.serving one free))
 
-  pub marks_none : phase_of (now_of p).words ≢ 1 → HasCarved p place 0 p
-  marks_none other =
-      reaches_nothing is_placing p (λ w. Carving p.table.config p.seat (object_for p) place (world_of p) w 0)
-      (carving_unmarked k.serving (none goes.unplaced.phase) (λ d lt. frees.free d lt))
-    where
-      none : IsOutOfStop (now_of p) → phase_of (now_of p).words ≡ 0
-      none x0 = grind arith
+      pub marks_first : {q : PassState} → Acts p (Step.Mark place.page bits) q → HasCarved p place 0 q
+      marks_first {q} a =
+          reaches_first (λ w. Carving p.table.config p.seat (object_for p) place (world_of p) w 0)
+          (subst (λ n. Acts p (Step.Mark place.page n) q) are a) refl refl k.caller refl (λ v kept known pages.
+          let serving = serving_left k.serving kept in
+          let call = acting_has_call known.orderly.flights (served_acting k serving) in
+          let some = pages_some (object_for p) k.sized in
+          carving_marked serving call (served_new k.goes serving) (ap (λ (x : Steady). x.phase) kept.steady ∙ one)
+          (λ d lt. grind (arith, frees)) some (let marks = pages.marks in let within = k.within in omega arith))
 
-  -- `head`
-  pub head_may : {q : PassState} {n : ℕ} → HasCarved p place n q → n < pages_made (object_for p)
-      → IsEnabledTo q (Step.Head (place.page + n) (header_made (object_for p) n))
-  head_may {q} {n} reached lt =
-      let w : World = left p.table.config q.seen in
-      let ends = frees.within in
-      let lengths = k.serving.pages in
-      subst (λ (x : PassState). IsEnabledTo x (Step.Head (place.page + n) (header_made (object_for p) n))) (sym
-      reached.same) (may_carve (served_acting k reached.world.serving) (place.page + n) (header_made (object_for p) n)
-      (omega arith) (out_of_stop (now_of p) w.now (ap (λ (x : Steady). x.phase) reached.world.serving.steady)
-      goes.unplaced.phase) (made_is_mapped (object_for p) n k.sized lt) (carving_carves k.sized reached.world lt))
+    pub marks_none : (phase_of (now_of p).words == 1) ≡ false → HasCarved p place 0 p
+    marks_none other =
+        reaches_nothing is_placing p (λ w. Carving p.table.config p.seat (object_for p) place (world_of p) w 0)
+        (carving_unmarked k.serving (none k.goes.unplaced.phase) (λ d lt. frees.free d lt))
+      where
+        none : IsOutOfStop (now_of p) → phase_of (now_of p).words ≡ 0
+        none x0 = grind (arith, eqb-false)
 
-  pub heads_on : {q r : PassState} {n : ℕ} → HasCarved p place n q → n < pages_made (object_for p)
-      → Acts q (Step.Head (place.page + n) (header_made (object_for p) n)) r → HasCarved p place (n + 1) r
-  heads_on {n} reached lt a =
-      let ends = frees.within in
-      let lengths = k.serving.pages in
-      reaches_still (λ w. Carving p.table.config p.seat (object_for p) place (world_of p) w n)
-      (λ w. Carving p.table.config p.seat (object_for p) place (world_of p) w (n + 1)) reached a refl refl k.caller refl
-      (λ w v here kept known pages.
-      let on = carving_left here kept in
-      let call = acting_has_call known.orderly.flights (served_acting k on.serving) in
-      carving_more on call (served_new goes on.serving) (out_of_stop (now_of p) v.now
-      (ap (λ (x : Steady). x.phase) on.serving.steady) goes.unplaced.phase) lt (omega arith))
+    -- `head`
+    module _ {n page header : ℕ} (there : page ≡ place.page + n) (made : header ≡ header_made (object_for p) n)
+        (lt : n < pages_made (object_for p)) {q : PassState} (reached : HasCarved p place n q) where
+      pub head_may : IsEnabledTo q (Step.Head page header)
+      head_may =
+          let w : World = left p.table.config q.seen in
+          let ends = frees.within in
+          let lengths = k.serving.pages in
+          subst (λ i. IsEnabledTo q (Step.Head i header)) (sym there) (subst (λ i. IsEnabledTo q (Step.Head
+          (place.page + n) i)) (sym made) (subst (λ (x : PassState). IsEnabledTo x (Step.Head (place.page + n)
+          (header_made (object_for p) n))) (sym reached.same) (may_carve (served_acting k reached.world.serving)
+          (place.page + n) (header_made (object_for p) n) (omega arith) (out_of_stop (now_of p) w.now
+          (ap (λ (x : Steady). x.phase) reached.world.serving.steady) k.goes.unplaced.phase)
+          (made_is_mapped (object_for p) n k.sized lt) (carving_carves k.sized reached.world lt))))
 
-  pub carved_all : {q : PassState} → HasCarved p place (pages_made (object_for p)) q → MayTake p place q
-  carved_all reached = record {
-    same = reached.same;
-    does = reached.does;
-    calls = reached.calls;
-    world = ready_carved reached.world;
-    counts = reached.counts;
-  }
+      pub heads_on : {r : PassState} → Acts q (Step.Head page header) r → HasCarved p place (n + 1) r
+      heads_on {r} a =
+          let ends = frees.within in
+          let lengths = k.serving.pages in
+          reaches_still (λ w. Carving p.table.config p.seat (object_for p) place (world_of p) w n)
+          (λ w. Carving p.table.config p.seat (object_for p) place (world_of p) w (n + 1)) reached (subst
+          (λ i. Acts q (Step.Head (place.page + n) i) r) made (subst (λ i. Acts q (Step.Head i header) r) there a))
+          refl refl k.caller refl (λ w v here kept known pages.
+          let on = carving_left here kept in
+          let call = acting_has_call known.orderly.flights (served_acting k on.serving) in
+          carving_more on call (served_new k.goes on.serving) (out_of_stop (now_of p) v.now
+          (ap (λ (x : Steady). x.phase) on.serving.steady) k.goes.unplaced.phase) lt (omega arith))
+
+    pub carved_all : {q : PassState} → HasCarved p place (pages_made (object_for p)) q → MayTake p place q
+    carved_all reached = reaches_so reached (λ at. ready_carved at)
 
 -- A block is ready.
 pub block_ready : {p : PassState} {place : Place} → KnowsPlace p place → header_at (now_of p).words place.page ≢ 0

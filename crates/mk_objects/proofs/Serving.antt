@@ -7,10 +7,10 @@ use Rattle.mk_laws.proofs.Vocabulary.{cases_eq, cases_lt, chosen, d_of, eq-eqb, 
 use Rattle.mk_laws.proofs.Vocabulary.{get_or-set_other, get_or-set_same, granted_base, has_bit, header_at, header_made}
 use Rattle.mk_laws.proofs.Vocabulary.{inl, inr, is_next_header, is_phase, is_undecided_new, is_used_once, le-leb}
 use Rattle.mk_laws.proofs.Vocabulary.{length, length-set, lt-ltb, made_shows, marks_place, ne_eqb, not, object_made}
-use Rattle.mk_laws.proofs.Vocabulary.{or_left, or_right, pages_made, part_not_free, phase_of, place_by_placing}
-use Rattle.mk_laws.proofs.Vocabulary.{place_now, refl, set_past, slice_index, slice_index_or, slice_set, sym, taken}
-use Rattle.mk_laws.proofs.Vocabulary.{takes_cell, true, used_at, without, world_behind, [], ◌%◌, ◌*◌, ◌++◌, ◌+◌, ◌-◌}
-use Rattle.mk_laws.proofs.{Vocabulary.{◌<◌, ◌==◌, ◌^◌, ◌∙◌, ◌∷◌, ◌≡◌, ◌≢◌, ◌≤◌}, Tests.{or_on, without_on}}
+use Rattle.mk_laws.proofs.Vocabulary.{or_left, or_right, pages_made, part_not_free, phase_of, place_now, refl, set_past}
+use Rattle.mk_laws.proofs.Vocabulary.{slice_index, slice_index_or, slice_set, sym, taken, takes_cell, true, used_at}
+use Rattle.mk_laws.proofs.Vocabulary.{without, world_behind, [], ◌%◌, ◌*◌, ◌++◌, ◌+◌, ◌-◌, ◌<◌, ◌==◌, ◌^◌, ◌∙◌, ◌∷◌}
+use Rattle.mk_laws.proofs.{Vocabulary.{◌≡◌, ◌≢◌, ◌≤◌}, Tests.{or_on, without_on}}
 use Rattle.mk_objects.proofs.Vocabulary.{Carving, HasCarved, IsAsLeft, IsCellReady, IsGrantedAt, IsOutOfStop, Serving}
 use Rattle.mk_objects.proofs.Vocabulary.{TurnState, all_below_from, bits_made, object_at_place, steady_of}
 use Rattle.mk_objects.proofs.{MayAct.off_four, Unchanged.{HasCall, OfCaller, call_behind}}
@@ -35,27 +35,14 @@ serving_left at left = grind (arith, place_same)
 
 pub carving_left : {c : Config} {s : Seat} {o : Object} {place : Place} {w u v : World} {n : ℕ}
     → Carving c s o place w u n → IsAsLeft s u v → Carving c s o place w v n
-carving_left {o} {place} {u} {v} at left =
-    let pages : v.now.words.pages ≡ u.now.words.pages = ap (λ (x : Steady). x.pages) left.steady in
-    let header : (p : ℕ) → header_at v.now.words p ≡ header_at u.now.words p = grind arith in
-    record {
-      serving = serving_left at.serving left;
-      stand = λ d lt. header (place.page + d) ∙ at.stand d lt;
-      free = λ d le lt. header (place.page + d) ∙ at.free d le lt;
-      marked = grind (arith, or_on, without_on);
-    }
+carving_left at left = grind (arith, serving_left, or_on, without_on)
 
 -- The first step that serves fixes the place.
-
-chosen_place : (resident : ℕ) (pages : List Page) (o : Object) (placing : Placing) (place : Place)
-    → place_by_placing resident pages o placing ≡ Some place
-    → is_used_once placing ≡ false → chosen placing (Some place) ≡ Chosen place
-chosen_place resident pages o x3 place h once = grind arith
 
 pub new_placed : (c : Config) (m : Moment) (f : Flight) (place : Place) → is_undecided_new f ≡ true
     → place_now c m f ≡ Some place
     → is_used_once m.seats.holding.placing ≡ false → chosen m.seats.holding.placing (place_now c m f) ≡ Chosen place
-new_placed c m f place new placed once = grind (arith, chosen_place)
+new_placed c m f place new placed once = grind arith
 
 pub chosen_now : (c : Config) (m : Moment) (f : Flight) (place : Place) → is_undecided_new f ≡ true
     → m.seats.holding.placing ≡ Chosen place → place_now c m f ≡ Some place
@@ -240,8 +227,6 @@ pub granted_behind : {c : Config} {s : Seat} {o : Object} {place : Place} {w v :
 granted_behind {c} {place} {w} {v} at (OfCaller k lt) room =
     let call = call_behind c v.now k Step.Grant lt in
     let f : Flight = flight_of w.now (Caller k) in
-    let base : granted_base c (flight_of v.now (Caller k)) v.now.seats.holding.placing
-    ≡ base_made (object_made c f.op) place = grind arith in
     let u : World = world_behind c v (record { seat = Caller k; step = Step.Grant }) in
     record {
       call = call ∙ ap (λ (g : Flight). record g { stage = Stage.Give }) at.call;
@@ -257,7 +242,7 @@ granted_behind {c} {place} {w} {v} at (OfCaller k lt) room =
                   fresh = false;
                   released = false;
                 } ∷ [];
-          }) base ∙ ap (λ (g : Flight). record (steady_of w) {
+          }) (grind arith) ∙ ap (λ (g : Flight). record (steady_of w) {
             pages = v.now.words.pages;
             allocations = v.allocations ++ record {
               base = base_made (object_made c f.op) place;

@@ -3,14 +3,14 @@ use Rattle.std.{proofs.Common.{OnErr, OnOk, is_ok, le-ltb}, specs.declared.resul
 use Rattle.mk_laws.proofs.Vocabulary.{Bool, Caller, Config, List, Seat, Steady, Step, Tally, World, ℕ, all_below-at, ap}
 use Rattle.mk_laws.proofs.Vocabulary.{arith, cases_eq, cases_lt, false, flight_of, get_or-set_other, get_or-set_same}
 use Rattle.mk_laws.proofs.Vocabulary.{inl, inr, is_held, is_number_of, length, lt-ltb, nat_lt, not, not-true, refl}
-use Rattle.mk_laws.proofs.Vocabulary.{slice_index, subst, sym, true, world_behind, ◌&&◌, ◌+◌, ◌<◌, ◌==◌, ◌∙◌, ◌≡◌, ◌≢◌}
+use Rattle.mk_laws.proofs.Vocabulary.{slice_index, sym, true, world_behind, ◌&&◌, ◌+◌, ◌<◌, ◌==◌, ◌∙◌, ◌≡◌, ◌≢◌}
 use Rattle.mk_objects.proofs.Vocabulary.{Acts, Changes, HasGates, IsAsLeft, IsOutOfStop, IsTurn, PassState, SetsGate}
 use Rattle.mk_objects.proofs.Vocabulary.{SetsGates, SetsTally, WordsState, all_others, call_of, held_from, held_to}
 use Rattle.mk_objects.proofs.Vocabulary.{is_acting, is_holding, is_settling, none_is_held, now_of, steady_of}
-use Rattle.mk_objects.proofs.{Vocabulary.{with_tally, world_of}, Looks.{acting_caller, acting_now, still_acting}}
-use Rattle.mk_objects.proofs.{Reaching.{reaches_first, reaches_nothing, seeing}, Unchanged.{HasCall, OfCaller}}
-use Rattle.mk_objects.proofs.{Unchanged.{acting_has_call, call_behind}, JoinedLooks.{reaches_after, reaches_so}}
-use Rattle.mk_objects.{proofs.Serves.{out_of_stop}, specs.FreeParts.{GateIsSet, IsButGates}}
+use Rattle.mk_objects.proofs.{Vocabulary.{with_tally, world_of}, Unchanged.{HasCall, OfCaller, acting_has_call}}
+use Rattle.mk_objects.proofs.{Unchanged.call_behind, JoinedLooks.{reaches_after, reaches_so}}
+use Rattle.mk_objects.{proofs.Looks.{acting_caller, acting_now, still_acting}, specs.FreeParts.{GateIsSet, IsButGates}}
+use Rattle.mk_objects.proofs.{Reaching.{reaches_first, reaches_nothing}, Serves.out_of_stop}
 
 -- A tally is set.
 
@@ -33,11 +33,7 @@ tally_behind {c} {w} {v} t n kept (OfCaller k lt) = by t (call_behind c v.now k 
 
     by : (t : Tally) → flight_of (after t).now (Caller k) ≡ flight_of v.now (Caller k)
         → Changes (Caller k) (with_tally t n) w (after t)
-    by Tally.Held call = changed_by (with_tally Tally.Held n) kept call refl refl refl
-    by Tally.Fresh call = changed_by (with_tally Tally.Fresh n) kept call refl refl refl
-    by Tally.Cycles call = changed_by (with_tally Tally.Cycles n) kept call refl refl refl
-    by Tally.Released call = changed_by (with_tally Tally.Released n) kept call refl refl refl
-    by Tally.Full call = changed_by (with_tally Tally.Full n) kept call refl refl refl
+    by x0 call = grind (arith, changed_by)
 
 pub sets_tally : {p q : PassState} {t : Tally} {n : ℕ} → IsTurn p → is_acting (call_of p).stage ≡ true
     → Acts p (Step.Tally t n) q → SetsTally p t n q
@@ -94,8 +90,6 @@ module _ {p : PassState} (q : PassState) (gate : ℕ) (turn : IsTurn p) (acts : 
   sets_open a within =
       reaches_first (GateIsSet p.seat gate false (world_of p)) a refl refl (acting_caller p acts) refl
       (λ v kept known pages.
-      let few = known.small in
-      let many = pages.gates in
       open_behind gate kept (has_call kept known.orderly.flights) (omega arith))
 
 -- one part after another
@@ -196,15 +190,6 @@ set_held a j lt = ap (λ (x : PassState). is_held (now_of x).words j) a.same ∙
 pub set_phase : {kinds : Step → Bool} {p q : PassState} {gates : ℕ → Bool} → SetsGates kinds p gates q
     → IsOutOfStop (now_of p) → IsOutOfStop (now_of q)
 set_phase a low = grind (arith, out_of_stop)
-
--- What is asked of a pass is asked of the pass after it.
-pub one_there : {kinds : Step → Bool} {p q : PassState} {gate : ℕ} {held : Bool} → SetsGate kinds p gate held q
-    → (claim : PassState → Type 0) → claim (seeing p q.seen) → claim q
-one_there a claim there = subst claim (sym a.same) there
-
-pub set_there : {kinds : Step → Bool} {p q : PassState} {gates : ℕ → Bool} → SetsGates kinds p gates q
-    → (claim : PassState → Type 0) → claim (seeing p q.seen) → claim q
-set_there a claim there = subst claim (sym a.same) there
 
 pub set_seat : {kinds : Step → Bool} {p q : PassState} {gates : ℕ → Bool} → SetsGates kinds p gates q
     → ◌≡◌ {A = Seat} q.seat p.seat

@@ -5,19 +5,18 @@ use Rattle.mk_laws.proofs.Vocabulary.{Seat, Some, Steady, Step, Tally, World, �
 use Rattle.mk_laws.proofs.Vocabulary.{base_made, bit_or, caller_number, cells_made, cond-false, cond-true, d_of}
 use Rattle.mk_laws.proofs.Vocabulary.{entry_of, false, flight_of, granted_base_is, granted_object, has_bit}
 use Rattle.mk_laws.proofs.Vocabulary.{has_operands, is_undecided_new, left, length, ltb-true, phase_of, refl}
-use Rattle.mk_laws.proofs.Vocabulary.{storage_words, subst, sym, true, used_at, words_made, [], ◌%◌, ◌*◌, ◌+◌, ◌<◌, ◌^◌}
-use Rattle.mk_laws.proofs.{Vocabulary.{◌∙◌, ◌≡◌, ◌≤◌}, Tracked.unplaced_settles}
-use Rattle.mk_objects.proofs.Vocabulary.{Acts, ComesTo, GoesTo, IsCellReady, IsEnabledTo, IsGrantedAt, IsOutOfStop}
-use Rattle.mk_objects.proofs.Vocabulary.{IsUnplaced, Known, MayTake, PassState, call_of, entry_for, held_by_allocations}
-use Rattle.mk_objects.proofs.Vocabulary.{is_acting, is_placing, known_left, now_of, object_at_place, object_for}
-use Rattle.mk_objects.proofs.{Vocabulary.world_of, FoundPlaces.{held_is_little, held_one_more}}
-use Rattle.mk_objects.proofs.MayAct.{IsActing, grant_admitted, may_grant, may_take, may_tally, off_four, register_small}
-use Rattle.mk_objects.proofs.{Reaching.{IsCallers, reaches_on, reaches_still}, Serves.{KnowsPlace, block_of}}
-use Rattle.mk_objects.proofs.Serves.{free_pages_of, out_of_stop, place_unused, served_acting}
-use Rattle.mk_objects.proofs.Serving.{IsTakenAt, granted_behind, granted_left, ready_left, ready_takes, taken_behind}
-use Rattle.mk_objects.proofs.{Serving.{taken_left, tallied_behind}, Looks.acts_there, Unchanged.acting_has_call}
+use Rattle.mk_laws.proofs.Vocabulary.{storage_words, sym, true, used_at, words_made, [], ◌%◌, ◌*◌, ◌+◌, ◌<◌, ◌^◌, ◌∙◌}
+use Rattle.mk_laws.proofs.{Vocabulary.{◌≡◌, ◌≤◌}, Tracked.unplaced_settles}
+use Rattle.mk_objects.proofs.Vocabulary.{Acts, ComesTo, IsCellReady, IsEnabledTo, IsGrantedAt, IsOutOfStop, IsUnplaced}
+use Rattle.mk_objects.proofs.Vocabulary.{Known, MayTake, PassState, call_of, entry_for, held_by_allocations, is_acting}
+use Rattle.mk_objects.proofs.Vocabulary.{is_placing, known_left, now_of, object_at_place, object_for, world_of}
+use Rattle.mk_objects.proofs.{FoundPlaces.{held_is_little, held_one_more}, MayAct.{IsActing, grant_admitted, may_grant}}
+use Rattle.mk_objects.proofs.{MayAct.{may_take, may_tally, off_four, register_small}, Reaching.{IsCallers, reaches_on}}
+use Rattle.mk_objects.proofs.{Reaching.reaches_still, Serves.{KnowsPlace, block_of, free_pages_of, out_of_stop}}
+use Rattle.mk_objects.proofs.{Serves.{place_unused, served_acting}, Serving.{IsTakenAt, granted_behind, granted_left}}
+use Rattle.mk_objects.proofs.Serving.{ready_left, ready_takes, taken_behind, taken_left, tallied_behind}
+use Rattle.mk_objects.{proofs.{Looks.acts_there, Unchanged.acting_has_call}, specs.Placing.{HeldIsExact}}
 use Rattle.mk_core.{proofs.WordBits.{bit_for_small, bit_is_none, bit_of_power, zero_from_bits}, specs.Bits.{bit_for}}
-use Rattle.mk_objects.specs.Placing.{HeldIsExact}
 use Rattle.mk_words.specs.{Steps.IsAdmittedTo, TurnSteps.granted_address}
 
 -- A bit more, where it wasn't set.
@@ -38,16 +37,16 @@ pub unplaced_settled : {p : PassState} → IsActing p.table.config (now_of p) p.
     → IsHistory p.table.config p.seen → IsSettled (world_of p)
 unplaced_settled at caller unplaced h = grind (arith, unplaced_settles, ltb-true, off_four)
 
-pub few_held : {p : PassState} {place : Place} → KnowsPlace p place → GoesTo p place → IsHistory p.table.config p.seen
+pub few_held : {p : PassState} {place : Place} → KnowsPlace p place
     → held_by_allocations p.table.config (world_of p).allocations ≤ 64 * p.table.config.pages
-few_held {p} k goes h = held_is_little h (unplaced_settled k.acting k.caller goes.unplaced h)
+few_held k = held_is_little k.history (unplaced_settled k.acting k.caller k.goes.unplaced k.history)
 
-module _ {p : PassState} {place : Place} (goes : GoesTo p place) (k : KnowsPlace p place) where
+module _ {p : PassState} {place : Place} (k : KnowsPlace p place) where
   abbrev pub c : Config
   c = p.table.config
 
   low_still : (w : World) → phase_of w.now.words ≡ phase_of (now_of p).words → IsOutOfStop w.now
-  low_still w same = out_of_stop (now_of p) w.now same goes.unplaced.phase
+  low_still w same = out_of_stop (now_of p) w.now same k.goes.unplaced.phase
 
   -- `used`
   abbrev pub HasTaken : PassState → Type 0
@@ -58,8 +57,7 @@ module _ {p : PassState} {place : Place} (goes : GoesTo p place) (k : KnowsPlace
   used_may {q} {used} reached known =
       let w : World = left c q.seen in
       let unused : has_bit used place.index ≡ false = sym (ap (λ n. has_bit n place.index) known) ∙ place_unused k in
-      subst (λ (x : PassState). IsEnabledTo x (Step.Used place.page (used + 2 ^ place.index))) (sym reached.same)
-      (may_take (served_acting k reached.world.serving) place.page (used + 2 ^ place.index) k.within
+      rw reached.same (may_take (served_acting k reached.world.serving) place.page (used + 2 ^ place.index) k.within
       (low_still w (ap (λ (x : Steady). x.phase) reached.world.serving.steady)) reached.world.serving.once
       (ready_takes reached.world known unused))
 
@@ -77,7 +75,7 @@ module _ {p : PassState} {place : Place} (goes : GoesTo p place) (k : KnowsPlace
 
   taken_new : {v : World} → IsTakenAt c p.seat (object_for p) place (world_of p) v
       → is_undecided_new (flight_of v.now p.seat) ≡ true
-  taken_new at = ap (λ (f : Flight). is_undecided_new f) at.call ∙ goes.unplaced.new
+  taken_new at = ap (λ (f : Flight). is_undecided_new f) at.call ∙ k.goes.unplaced.new
 
   pub grant_may : {q : PassState} → HasTaken q → IsEnabledTo q Step.Grant
   grant_may reached = grind (arith, may_grant, taken_acting, taken_new, low_still)
@@ -90,18 +88,17 @@ module _ {p : PassState} {place : Place} (goes : GoesTo p place) (k : KnowsPlace
       → granted_address q ≡ address_of (base_made (object_for p) place) % 2 ^ 64
   grant_address reached = grind (arith, granted_base_is)
 
-  operands : IsHistory c p.seen → has_operands c (call_of p).op ≡ true
-  operands h = cc (k.caller.is, (known_left c p.seen h.within_limits h.enabled).operands k.caller.number)
+  operands : has_operands c (call_of p).op ≡ true
+  operands = cc (k.caller.is, (known_left c p.seen k.history.within_limits k.history.enabled).operands k.caller.number)
 
-  pub grant_admits : {q : PassState} → HasTaken q → IsHistory q.table.config q.seen → IsHistory c p.seen
-      → IsAdmittedTo q Step.Grant
-  grant_admits reached history h = grind (arith, taken_new, operands, grant_admitted, ltb-true)
+  pub grant_admits : {q : PassState} → HasTaken q → IsHistory q.table.config q.seen → IsAdmittedTo q Step.Grant
+  grant_admits reached history = grind (arith, taken_new, operands, grant_admitted, ltb-true)
 
   abbrev pub HasGranted : PassState → Type 0
   HasGranted q = ComesTo is_placing p (IsGrantedAt p.table.config p.seat place (world_of p)) (entry_for p Answer.Done) q
 
-  pub grant_on : {q r : PassState} → HasTaken q → Acts q Step.Grant r → IsHistory c p.seen → HasGranted r
-  grant_on reached a h =
+  pub grant_on : {q r : PassState} → HasTaken q → Acts q Step.Grant r → HasGranted r
+  grant_on reached a =
       reaches_on (IsTakenAt c p.seat (object_for p) place (world_of p)) (IsGrantedAt c p.seat place (world_of p))
       reached a refl refl k.caller (λ w v here kept known pages.
       let on = taken_left here kept in
@@ -111,8 +108,7 @@ module _ {p : PassState} {place : Place} (goes : GoesTo p place) (k : KnowsPlace
         answer = Some Answer.Done;
         decides = ap (λ (x : Seat). answer_decided c v.now (record { seat = x; step = Step.Grant })) k.caller.is;
         no_full = refl;
-        entry = λ j is. ap (λ (f : Flight). entry_of j f.op (Some Answer.Done)) on.call
-            ∙ ap (λ n. entry_of n (call_of p).op (Some Answer.Done)) (sym (ap (λ (x : Seat). caller_number x) is));
+        entry = ap (λ (f : Flight). entry_of (caller_number p.seat) f.op (Some Answer.Done)) on.call;
       })
     where
       room : (v : World) (j : ℕ) → p.seat ≡ Caller j → Known c v.now → AreOfPages c.pages v.now.words
@@ -130,20 +126,24 @@ module _ {p : PassState} {place : Place} (goes : GoesTo p place) (k : KnowsPlace
   HasCounted n q = ComesTo is_placing p (λ w. IsGrantedAt p.table.config p.seat place (world_of p) w ×
       (w.now.words.held ≡ n)) (entry_for p Answer.Done) q
 
-  pub tally_on : {q r : PassState} {n : ℕ} → HasGranted q → Acts q (Step.Tally Tally.Held n) r
-      → IsHistory c p.seen → HasCounted n r
-  tally_on {n} reached a h =
+  pub tally_on : {q r : PassState} {n : ℕ} → HasGranted q → Acts q (Step.Tally Tally.Held n) r → HasCounted n r
+  tally_on {n} reached a =
       reaches_still (IsGrantedAt c p.seat place (world_of p)) (λ w. IsGrantedAt c p.seat place (world_of p) w
       × (w.now.words.held ≡ n)) reached a refl refl k.caller refl (λ w v here kept known pages.
-      let on = granted_left (register_small c (call_of p) goes.unplaced.new (operands h)) here kept in
+      let on = granted_left (register_small c (call_of p) k.goes.unplaced.new operands) here kept in
       let call = acting_has_call known.orderly.flights (granted_acting on) in
       (tallied_behind n on call, refl))
+
+  -- all three
+  pub served : {q r s t : PassState} {value n : ℕ} → MayTake p place q → Acts q (Step.Used place.page value) r
+      → Acts r Step.Grant s → Acts s (Step.Tally Tally.Held n) t → HasCounted n t
+  served ready uses grants tallies = tally_on (grant_on (used_on ready uses) grants) tallies
 
   pub counted : {r : PassState} {n : ℕ} → HasCounted n r → HasGranted r
   counted reached = grind arith
 
   object_words : storage_words c (object_at_place c (call_of p) place) ≡ words_made (object_for p)
-  object_words = ap (λ (o : Object). words_made o) (granted_object c (now_of p) (call_of p) goes.unplaced.new)
+  object_words = ap (λ (o : Object). words_made o) (granted_object c (now_of p) (call_of p) k.goes.unplaced.new)
 
   pub counted_held : {r : PassState} {held size : ℕ} → held ≡ held_by_allocations c (world_of p).allocations → size
       ≡ words_made (object_for p) → HasCounted (held + size) r → HeldIsExact r

@@ -1,9 +1,8 @@
 -- What stays as it was: after looks, and one part after the other.
-use Rattle.mk_laws.proofs.Vocabulary.{Caller, Config, Host, Marker, Moment, OnlyGrow, Seat, Step, Word, Words, World, ℕ}
-use Rattle.mk_laws.proofs.Vocabulary.{ap, at_rest, flight_of, found, get_or-set_same, is_held, length, ltb-true}
-use Rattle.mk_laws.proofs.Vocabulary.{progress, refl, register_word, seat_exists, subst, sym, true, world_behind, ◌<◌}
-use Rattle.mk_laws.proofs.{Vocabulary.{◌∙◌, ◌≡◌}, Growth.{grows_joined, grows_same}}
-use Rattle.mk_objects.proofs.{Vocabulary.{IsAsLeft, is_acting, is_steady_word, steady_of}, MayAct.IsActing}
+use Rattle.mk_laws.proofs.Vocabulary.{Caller, Config, Moment, Seat, Step, Word, World, ℕ, arith, at_rest, flight_of}
+use Rattle.mk_laws.proofs.Vocabulary.{found, get_or-set_same, length, ltb-true, progress, refl, true, world_behind, ◌<◌}
+use Rattle.mk_laws.proofs.{Vocabulary.◌≡◌, Changes.{grows_joined, grows_same}}
+use Rattle.mk_objects.proofs.{Vocabulary.{IsAsLeft, is_steady_word, steady_of}, MayAct.IsActing}
 use Rattle.mk_core.specs.Effects.{moment_behind}
 
 pub left_same : (s : Seat) (w : World) → IsAsLeft s w w
@@ -17,14 +16,7 @@ left_same s w = record {
 }
 
 pub left_joined : {s : Seat} {w u v : World} → IsAsLeft s w u → IsAsLeft s u v → IsAsLeft s w v
-left_joined {w} {u} {v} a b = record {
-  call = b.call ∙ a.call;
-  holding = b.holding ∙ a.holding;
-  steady = b.steady ∙ a.steady;
-  marks = grows_joined w.now.words.marks u.now.words.marks v.now.words.marks a.marks b.marks;
-  registers = λ k r is lt. b.registers k r is lt ∙ a.registers k r is lt;
-  gates = λ j. b.gates j ∙ a.gates j;
-}
+left_joined a b = grind (arith, grows_joined)
 
 -- After a step of its own a caller's call is what the step makes of it.
 pub call_behind : (c : Config) (m : Moment) (k : ℕ) (x : Step) → k < length m.seats.flights
@@ -39,12 +31,7 @@ pub data HasCall (c : Config) (m : Moment) : Seat → Type 0 where
 
 pub acting_has_call : {c : Config} {m : Moment} {s : Seat} → length m.seats.flights ≡ c.callers → IsActing c m s
     → HasCall c m s
-acting_has_call {c} {m} {s} all at = by s at.there at.acts
-  where
-    by : (s : Seat) → seat_exists c s ≡ true → is_acting (flight_of m s).stage ≡ true → HasCall c m s
-    by (Caller k) there acts = OfCaller k (subst (λ n. k < n) (sym all) (ltb-true k c.callers there))
-    by (Marker k) there acts = cc
-    by Host there acts = cc
+acting_has_call {c} {m} {s} all at = grind (arith, ltb-true, OfCaller)
 
 -- Looks at steady words and at the phase leave all as it was.
 
@@ -56,23 +43,12 @@ pub data IsPlain : Word → Type 0 where
   OfPhase : IsPlain Word.Phase
 
 pub steady_is_plain : (x : Word) → is_steady_word x ≡ true → IsPlain x
-steady_is_plain (Word.Head p) h = OfHead p
-steady_is_plain (Word.Used p) h = OfUsed p
-steady_is_plain Word.Held h = OfHeld
-steady_is_plain Word.Fresh h = OfFresh
-steady_is_plain _ h = cc
+steady_is_plain x0 h = grind (arith, OfHead, OfUsed, OfHeld, OfFresh)
 
 -- all words are as they were
 left_by : {s : Seat} {w v : World} → flight_of v.now s ≡ flight_of w.now s → v.now.seats.holding ≡ w.now.seats.holding
     → steady_of v ≡ steady_of w → v.now.words ≡ w.now.words → IsAsLeft s w v
-left_by {w = w} call holding steady words = record {
-  call = call;
-  holding = holding;
-  steady = steady;
-  marks = subst (λ (x : Words). OnlyGrow w.now.words.marks x.marks) (sym words) (grows_same w.now.words.marks);
-  registers = λ k r is lt. ap (λ (x : Words). register_word x k r) words;
-  gates = λ j. ap (λ (x : Words). is_held x j) words;
-}
+left_by call holding steady words = grind (arith, grows_same)
 
 pub look_leaves : {c : Config} (w : World) {s : Seat} {x : Word} → HasCall c w.now s → IsPlain x
     → IsAsLeft s w (world_behind c w (record { seat = s; step = Step.Look x }))

@@ -7,16 +7,15 @@ use Rattle.mk_laws.proofs.Vocabulary.{header_in, header_of, if◌then◌else◌,
 use Rattle.mk_laws.proofs.Vocabulary.{is_run_unmapped, is_undecided_new, le-leb, left, length, lt-ltb, or_else}
 use Rattle.mk_laws.proofs.Vocabulary.{others_are_held, page_at_address, phase_of, place_now, refl, run_header}
 use Rattle.mk_laws.proofs.Vocabulary.{same_Some, slice_index, stands, subst, sym, true, unmapped_header, unmaps}
-use Rattle.mk_laws.proofs.Vocabulary.{world_behind, [], ◌*◌, ◌+◌, ◌-◌, ◌/◌, ◌<◌, ◌==◌, ◌∙◌, ◌≡◌, ◌≤◌}
-use Rattle.mk_laws.proofs.Sorts.{chosen_none}
-use Rattle.mk_objects.proofs.Vocabulary.{Acts, Changes, ComesTo, IsAsLeft, IsEnabledTo, IsOutOfStop, IsTurn, PassState}
-use Rattle.mk_objects.proofs.Vocabulary.{Unmaps, Wipes, WipesTo, all_below_from, call_of, is_acting, is_clearing}
-use Rattle.mk_objects.proofs.Vocabulary.{now_of, option_and_then, world_of}
-use Rattle.mk_objects.proofs.JoinedLooks.{reached_there, reached_world, reaches_after, reaches_so}
-use Rattle.mk_objects.proofs.{Looks.{acting_caller, acting_now, acts_there}, MayAct.{IsActing, may_look_heap}}
-use Rattle.mk_objects.proofs.{MayAct.{may_unmap, may_wipe, off_four}, Reaching.{reaches_nothing, reaches_still}}
-use Rattle.mk_objects.proofs.{Reaching.reaches_still_in_stop, Unchanged.{HasCall, OfCaller, acting_has_call}}
-use Rattle.mk_objects.proofs.{Unchanged.call_behind, Serves.out_of_stop, Serving.{header_here, header_set, next_is}}
+use Rattle.mk_laws.proofs.{Vocabulary.{world_behind, [], ◌*◌, ◌+◌, ◌-◌, ◌/◌, ◌<◌, ◌∙◌, ◌≡◌, ◌≤◌}, Sorts.chosen_none}
+use Rattle.mk_objects.proofs.Vocabulary.{Acts, ComesTo, IsAsLeft, IsEnabledTo, IsOutOfStop, IsTurn, PassState, Unmaps}
+use Rattle.mk_objects.proofs.Vocabulary.{Wipes, WipesTo, all_below_from, call_of, is_acting, is_clearing, now_of}
+use Rattle.mk_objects.proofs.{Vocabulary.{option_and_then, world_of}, JoinedLooks.{reached_there, reached_world}}
+use Rattle.mk_objects.proofs.{JoinedLooks.{reaches_after, reaches_so}, Looks.{acting_caller, acting_now, acts_there}}
+use Rattle.mk_objects.proofs.MayAct.{IsActing, may_look_heap, may_unmap, may_wipe, off_four}
+use Rattle.mk_objects.proofs.Reaching.{reaches_nothing, reaches_still, reaches_still_in_stop}
+use Rattle.mk_objects.proofs.{Unchanged.{HasCall, OfCaller, acting_has_call, call_behind}, Serves.out_of_stop}
+use Rattle.mk_objects.proofs.Serving.{header_here, header_set, next_is}
 use Rattle.mk_geom.proofs.{Bridge.run_in_range, HeaderLemmas.header_of-word_of}
 use Rattle.mk_geom.specs.Addresses.{cell_under, word_at_address}
 use Rattle.mk_core.specs.{Effects.{hand_given, hand_of_cell, is_in_stop}, Cells.pointed_cell}
@@ -37,9 +36,6 @@ no_place c m f is = rw (no_new f is) refl
 
 pub give_acts : (f : Flight) → f.stage ≡ Stage.Give → is_acting f.stage ≡ true
 give_acts f is = ap is_acting is
-
-pub changes_nothing : (s : Seat) (w : World) → Changes s (λ x. x) w w
-changes_nothing s w = record { call = refl; holding = refl; steady = refl; gates = λ j. refl }
 
 pub still_stopped : (p : PassState) (v : World) → ((j : ℕ) → is_held v.now.words j ≡ is_held (now_of p).words j)
     → others_are_held p.table.config.callers (now_of p).words p.seat ≡ true
@@ -63,8 +59,7 @@ unmapped_more {c} {s} {run} {v} {n} at (OfCaller k lt) give low near room =
         call = call_behind c v.now k x lt ∙ at.changes.call;
         holding = ap (λ (y : Placing). record v.now.seats.holding { placing = y }) (rw (
           off_four v.now low,
-          no_place c
-              v.now (flight_of v.now s) give,
+          no_place c v.now (flight_of v.now s) give,
         ) (chosen_none v.now.seats.holding.placing)) ∙ at.changes.holding;
         steady = ap (λ (y : Steady). record y { pages = u.now.words.pages }) at.changes.steady;
         gates = at.changes.gates;
@@ -90,12 +85,9 @@ module _ {p : PassState} (run : RunPages) (turn : IsTurn p) (give : (call_of p).
     rest = λ d le lt. mapped d lt;
   })
 
-  acting : IsActing p.table.config (now_of p) p.seat
-  acting = acting_now turn (give_acts (call_of p) give)
-
   there_acting : (v : World) → flight_of v.now p.seat ≡ flight_of (now_of p) p.seat
       → IsActing p.table.config v.now p.seat
-  there_acting v same = acts_there (world_of p) v acting same
+  there_acting v same = grind (arith, acts_there, acting_now, give_acts)
 
   there_low : (v : World) → phase_of v.now.words ≡ phase_of (now_of p).words → IsOutOfStop v.now
   there_low v same = out_of_stop (now_of p) v.now same low
@@ -143,14 +135,10 @@ unmapped_at w run d unmapped few lt =
 cell_tested : (b : Bool) (x cell : Cell) → (if b then Some x else None) ≡ Some cell → x.page ≡ cell.page
 cell_tested x0 x cell e = grind (arith, same_Some)
 
-cell_tested_twice : (a b : Bool) (x cell : Cell) → (if a then (if b then Some x else None) else None) ≡ Some cell
-    → x.page ≡ cell.page
-cell_tested_twice x0 b x cell e = grind (arith, cell_tested)
-
 -- It is the run's head.
 cell_is_head : (head : ℕ) (count pages : ℕ) {page : ℕ} (word d : ℕ) (b : Bool) (cell : Cell) → page ≡ head + d
     → (if b then cell_under (run_header count false false d) page word else None) ≡ Some cell → cell.page ≡ head
-cell_is_head head count pages word x4 b cell at e = grind (arith, cell_tested, cell_tested_twice)
+cell_is_head head count pages word x4 b cell at e = grind (arith, cell_tested)
 
 gone_cell : (w : Words) (run : RunPages) (pages address d : ℕ) (cell : Cell) → is_run_unmapped w run ≡ true
     → run.count ≤ 64 → d < run.count → page_at_address address ≡ run.page + d
@@ -159,10 +147,8 @@ unfolding pointed_cell
 gone_cell w run pages address d cell unmapped few near at is =
     let header : Some (run_header run.count false false d) ≡ header_of (header_at w (page_at_address address)) =
     sym (unmapped_at w run d unmapped few near) ∙ ap (λ (i : ℕ). header_of (header_at w i)) (sym at) in
-    let under : (if is_heap_address pages address then cell_under (run_header run.count false false d)
-    (page_at_address address) (word_at_address address) else None) ≡ Some cell = grind arith in
     let head = cell_is_head run.page run.count pages (word_at_address address) d
-    (is_heap_address pages address) cell at under in
+    (is_heap_address pages address) cell at (grind arith) in
     let first : cell.page ≡ run.page + 0 = omega (arith, head) in
     cc (first, unmapped_at w run 0 unmapped few (omega (arith, near)))
 
@@ -226,12 +212,9 @@ pub still_unmapped : (p : PassState) {run : RunPages} {v : World} {n : ℕ} → 
 still_unmapped p at unmapped = grind arith
 
 module _ {p : PassState} {run : RunPages} (turn : IsTurn p) (may : MayWipe p run) where
-  wiping : IsActing p.table.config (now_of p) p.seat
-  wiping = acting_now turn (give_acts (call_of p) may.decided)
-
   there_wiping : (v : World) → flight_of v.now p.seat ≡ flight_of (now_of p) p.seat
       → IsActing p.table.config v.now p.seat
-  there_wiping v same = acts_there (world_of p) v wiping same
+  there_wiping v same = grind (arith, acts_there, acting_now, give_acts)
 
   pub look_may : {q : PassState} {n : ℕ} (k : ℕ) → WipesTo p run n q → k < 64 * run.count
       → IsEnabledTo q (Step.Look (Word.Heap (64 * run.page + k)))
@@ -257,8 +240,8 @@ module _ {p : PassState} {run : RunPages} (turn : IsTurn p) (may : MayWipe p run
   pub found_wiped : {q r : PassState} {n value : ℕ} → WipesTo p run n r
       → Finds q (Step.Look (Word.Heap (64 * run.page + n))) value r → value ≡ 0 → WipesTo p run (n + 1) r
   found_wiped {q} {r} {n} {value} reached f none =
-      reaches_so reached (λ at. wiped_already at (subst (λ (x : PassState). slice_index (now_of x).words.heap
-      (64 * run.page + n) ≡ 0) reached.same (found_there q r (Word.Heap (64 * run.page + n)) value f ∙ none)))
+      reaches_so reached (λ at. wiped_already at (rw reached.same at (found_there q r (Word.Heap (64 * run.page + n))
+      value f ∙ none)))
 
   pub wipe_may : {q : PassState} {n : ℕ} → WipesTo p run n q → n < 64 * run.count
       → IsEnabledTo q (Step.Wipe (64 * run.page + n))
@@ -278,7 +261,7 @@ module _ {p : PassState} {run : RunPages} (turn : IsTurn p) (may : MayWipe p run
 pub wiped_from : (p : PassState) {run : RunPages} {n : ℕ} → AreWiped (now_of p).words run n → WipesTo p run n p
 wiped_from p {run} {n} wiped =
     reaches_nothing is_clearing p (λ v. WipedTo p.seat run (world_of p) v n)
-    (record { changes = changes_nothing p.seat (world_of p); zeros = wiped })
+    (record { changes = record { call = refl; holding = refl; steady = refl; gates = λ j. refl }; zeros = wiped })
 
 pub wiped_now : {p q : PassState} {run : RunPages} {n : ℕ} → WipesTo p run n q → AreWiped (now_of q).words run n
 wiped_now a = (reached_world a).zeros
@@ -300,20 +283,7 @@ pub wipes_named : {p q : PassState} {run : RunPages} {n k : ℕ} → WipesTo p r
 wipes_named {p} {q} {run} wipes same = subst (λ i. WipesTo p run i q) same wipes
 
 pub wiped_all : {p q : PassState} {run : RunPages} → WipesTo p run (64 * run.count) q → Wipes p run q
-wiped_all {run} reached = reaches_so reached (λ at. record {
-  changes = at.changes;
-  wiped = all_below_from (64 * run.count) (λ i. slice_index _ (64 * run.page + i) == 0)
-      (λ i lt. eq-eqb _ 0 (at.zeros i lt));
-})
+wiped_all reached = grind (arith, reaches_so, all_below_from, eq-eqb)
 
 pub still_may : {p q : PassState} {run : RunPages} {n : ℕ} → WipesTo p run n q → MayWipe p run → MayWipe q run
-still_may {p} {q} {run} a may =
-    let at = a.world in
-    reached_there a (λ (x : PassState). MayWipe x run) (record {
-      decided = ap (λ (f : Flight). f.stage) at.changes.call ∙ may.decided;
-      stopped = still_stopped p (left p.table.config q.seen) at.changes.gates may.stopped;
-      freed = ap (λ (h : Holding). h.freed) at.changes.holding ∙ may.freed;
-      unmapped = still_unmapped p at may.unmapped;
-      few = may.few;
-      within = may.within;
-    })
+still_may a may = grind (arith, reached_there, still_stopped, still_unmapped)

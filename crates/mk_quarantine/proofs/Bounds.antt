@@ -27,13 +27,11 @@ module _ (c : Config) (es front more : List Event) (is : es ≡ front ++ more) w
   split before e behind at = is ∙ ap (λ (l : List Event). l ++ more) at ∙ append_assoc before (e ∷ behind) more
 
   exact_before : (on : Bool) → CallersAreExact on c es → CallersAreExact on c front
-  exact_before on exact k lt before e behind at give same =
-      exact k lt before e (behind ++ more) (split before e behind at) give same
+  exact_before on exact k lt before e behind at give same = exact k lt before e _ (split before e behind at) give same
 
   host_before : HostBeginsLast c es → HostBeginsLast c front
   host_before last before e behind at begins host k lt =
-      others_first (Caller k ∷ []) behind more
-      (last before e (behind ++ more) (split before e behind at) begins host k lt)
+      others_first _ behind more (last before e (behind ++ more) (split before e behind at) begins host k lt)
 
 quarter_in_turn : (on : Bool) {c : Config} {es : List Event} → IsHistory c es → CallersAreExact on c es
     → (left c es).now.words.turn ≡ 0 → FreshIsQuarterWhereReleasedInTurn c es
@@ -70,6 +68,5 @@ quarantines_are_bounded on c es h exact last = record {
 pub quarantine_of_one_is_bounded : (on : Bool) (c : Config) (es : List Event) → c.callers ≡ 1 → IsHistory c es
     → TurnsOfAreExact on c (Caller 0) es → list_any is_hosts_cycle es ≡ false → QuarantineIsBounded on c es
 quarantine_of_one_is_bounded on c es one h exact idle =
-    quarantines_are_bounded on c es h
-    (λ k lt. subst (λ (j : ℕ). TurnsOfAreExact on c (Caller j) es) (let first : 0 ≡ k = omega arith in first) exact)
-    (λ before e behind is begins host k lt. grind (arith, none_at, is_hosts_cycle, and_from, begin_is_of_cycle))
+    quarantines_are_bounded on c es h (λ k lt. subst (λ (j : ℕ). TurnsOfAreExact on c (Caller j) es) (omega arith)
+    exact) (λ before e behind is begins host k lt. grind (arith, none_at, is_hosts_cycle, and_from, begin_is_of_cycle))

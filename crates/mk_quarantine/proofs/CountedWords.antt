@@ -24,7 +24,6 @@ filtered_in_parts f p q r each xs =
         + sum_by (λ (a : PlacedAllocation). if r a then f a else 0) xs
     in_parts [] = omega arith
     in_parts (a ∷ xs) =
-        let here = each a in
         let rest = in_parts xs in
         let all = sum_by-cons (λ (b : PlacedAllocation). if p b then f b else 0) a xs in
         let one = sum_by-cons (λ (b : PlacedAllocation). if q b then f b else 0) a xs in
@@ -39,10 +38,6 @@ given_part c w a = if is_given_back c w a then storage_words c a else 0
 released_part : (n : ℕ) (released more mapped : Bool) → (if not (released || more) && mapped then n else 0)
     + (if (not released && mapped) && (released || more) then n else 0) ≡ (if not released && mapped then n else 0)
 released_part n released more mapped = grind arith
-
-stays_stale : (n : ℕ) (released more mapped fresh : Bool) → (if
-    (not (released || more) && mapped) && fresh then n else 0) ≤ (if (not released && mapped) && fresh then n else 0)
-stays_stale n released more mapped fresh = grind arith
 
 module _ (c : Config) (w : World) where
   abbrev released : PlacedAllocation → PlacedAllocation
@@ -60,8 +55,7 @@ module _ (c : Config) (w : World) where
   sums_released (a ∷ xs) =
       let one = released_part (storage_words c a) a.released (more_of a) (mapped_of a) in
       let behind = sum_by-cons (held_part c) (released a) (map released xs) in
-      let given = sum_by-cons (given_part c w) a xs in
-      omega (arith, one, behind, given, sum_by-cons (held_part c) a xs, sums_released xs)
+      omega (arith, one, behind, sum_by-cons (given_part c w) a xs, sum_by-cons (held_part c) a xs, sums_released xs)
 
   held_released : held_by_allocations c (map released w.allocations) + words_given_back c w
       ≡ held_by_allocations c w.allocations
@@ -70,7 +64,8 @@ module _ (c : Config) (w : World) where
   sums_stale : (xs : List PlacedAllocation) → sum_by (fresh_part c) (map released xs) ≤ sum_by (fresh_part c) xs
   sums_stale [] = omega arith
   sums_stale (a ∷ xs) =
-      let one = stays_stale (storage_words c a) a.released (more_of a) (mapped_of a) a.fresh in
+      let one : (if (not (a.released || (more_of a)) && (mapped_of a)) && a.fresh then (storage_words c a) else 0) ≤
+      (if (not a.released && (mapped_of a)) && a.fresh then (storage_words c a) else 0) = grind arith in
       let behind = sum_by-cons (fresh_part c) (released a) (map released xs) in
       omega (arith, one, behind, sum_by-cons (fresh_part c) a xs, sums_stale xs)
 

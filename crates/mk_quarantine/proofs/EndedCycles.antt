@@ -1,6 +1,6 @@
 -- Where calls end the cycles that they begin, no `release` stands in a later turn than its `begin`.
 use Rattle.mk_laws.proofs.{Vocabulary.{is_one_of, is_under_turn, left_from}, CyclePhases.{moves_phase, phases_go_on}}
-use Rattle.mk_laws.proofs.NextSteps.{at_take}
+use Rattle.mk_laws.proofs.{NextSteps.at_take, ProtocolStepKinds.end_is}
 use Rattle.mk_alloc.proofs.{Vocabulary.RunsOneCycle, ListParts.lacks_second}
 use Rattle.mk_quarantine.proofs.Vocabulary.{AsksPhase, At, Caller, CallIsExact, Config, EndsExactly, Event}
 use Rattle.mk_quarantine.proofs.Vocabulary.{FreshIsQuarterOfHeld, HoldsTurn, Host, HostBeginsLast, IsHistory, Lacks}
@@ -24,16 +24,6 @@ Rests p = (p ≡ 0) ⊎ (p ≡ 5)
 rest_step : (x : Step) {p : ℕ} → AsksPhase x p → Rests p → is_begin x ≡ false
     → Rests (phase_behind x p) × (is_release x ≡ false)
 rest_step x asks rests none = grind arith
-
-end_is : (x : Step) → is_end x ≡ true → x ≡ Step.End
-end_is x1 is = grind arith
-
-released_no_more : (c : Config) (es : List Event) (end : Event) (more : List Event) → IsHistory c (es ++ end ∷ more)
-    → is_end end.step ≡ true → Lacks is_begin more → Lacks is_release more
-released_no_more c es end more h ends none =
-    let moves = moves_phase c (left c es) end more ((enabled_in_parts c es (end ∷ more)).0 h.enabled).1 in
-    let zero : phase_of (world_behind c (left c es) end).now.words ≡ 0 = grind (arith, phase_behind, end_is) in
-    (phases_go_on Rests is_begin is_release rest_step c (world_behind c (left c es) end) more moves.2 (inl zero) none).1
 
 -- Each event of these is of other seats, and so are all after it.
 
@@ -67,10 +57,9 @@ runs_one {c} {k} {es} h ends = by ends.turn.op refl
         (subst (λ (x : Option Op). comes_next f.stage f.op (Step.Take x) ≡ true) is meets.order)).1 in
         is_for o under ends.turn (subst (λ (x : Option Op). CallIsExact false ends.turn x) is ends.exact)
     by None is =
-        let meets = (before_it c es ends.turn.before (taken ends.turn) ends.turn.behind h ends.turn.is).1 in
         let f = flight_of (left c ends.turn.before).now (Caller k) in
-        absurd (at_no_take f.stage f.op
-        (subst (λ (x : Option Op). comes_next f.stage f.op (Step.Take x) ≡ true) is meets.order))
+        absurd (at_no_take f.stage f.op (subst (λ (x : Option Op). comes_next f.stage f.op (Step.Take x) ≡ true) is
+        ((before_it c es ends.turn.before (taken ends.turn) ends.turn.behind h ends.turn.is).1).order))
 
 module _ {c : Config} {es : List Event} (h : IsHistory c es) (exact : CallersAreExact false c es) (l : IsLate es) where
   abbrev b : At is_begin es
@@ -95,11 +84,13 @@ module _ {c : Config} {es : List Event} (h : IsHistory c es) (exact : CallersAre
   no_release end =
       let tail : List Event = end.behind ++ given.at.event ∷ later in
       let split : b.behind ≡ end.before ++ end.event ∷ tail = grind (arith, parts, append_assoc, given, later) in
-      let all : es ≡ (through b ++ end.before) ++ end.event ∷ tail = grind (arith, whole, append_assoc) in
       let last : Lacks is_begin (end.event ∷ tail) = grind (arith, lacks_second) in
-      let none = released_no_more c (through b ++ end.before) end.event tail
-      (subst (λ (xs : List Event). IsHistory c xs) all h) end.of_kind
-      (or_parts (is_begin end.event.step) (has_step is_begin tail) last).1 in
+      let none : Lacks is_release tail = let moves = moves_phase c (left c (through b ++ end.before)) end.event tail
+      ((enabled_in_parts c (through b ++ end.before) (end.event ∷ tail)).0 (subst (λ (xs : List Event). IsHistory c xs)
+      (grind (arith, whole, append_assoc)) h).enabled).1 in let zero : phase_of (world_behind c
+      (left c (through b ++ end.before)) end.event).now.words ≡ 0 = grind (arith, phase_behind, end_is) in
+      (phases_go_on Rests is_begin is_release rest_step c (world_behind c (left c (through b ++ end.before))
+      end.event) tail moves.2 (inl zero) (or_parts (is_begin end.event.step) (has_step is_begin tail) last).1).1 in
       lacks_at is_release tail (end.behind ++ given.at.event ∷ given.at.behind) _ _ none (sym (append_assoc end.behind
       (given.at.event ∷ given.at.behind) (l.release.event ∷ l.release.behind))) l.release.of_kind
 
@@ -107,14 +98,11 @@ module _ {c : Config} {es : List Event} (h : IsHistory c es) (exact : CallersAre
   by_caller : (k : ℕ) → b.event.seat ≡ Caller k → ⊥
   by_caller k seat =
       let here = before_it c es b.before b.event b.behind h b.is in
-      let holds : HoldsTurn c (view_of (left c b.before).now) (Caller k) =
-      subst (λ (s : Seat). HoldsTurn c (view_of (left c b.before).now) s) seat (beginner_holds b h) in
-      let turn = turn_of c (view_of (left c b.before).now) (Caller k)
-      (known_left c b.before here.0.within_limits here.0.enabled).orderly holds in
-      let kept = turn_stays_taken c b.before (b.event ∷ []) (λ z. omega arith)
-      (or_from (is_give b.event.step) false (begin_gives_none b.event.step b.of_kind) refl) in
+      let holds = subst (λ (s : Seat). HoldsTurn c (view_of (left c b.before).now) s) seat (beginner_holds b h) in
+      let turn = turn_of c _ (Caller k) (known_left c b.before here.0.within_limits here.0.enabled).orderly holds in
       let giver = first_giver c (through b) k (subst (λ (xs : List Event). IsHistory c xs) whole h) holds.0
-      (kept ∙ turn) (record {
+      ((turn_stays_taken c b.before (b.event ∷ []) (λ z. omega arith)
+      (or_from (is_give b.event.step) false (begin_gives_none b.event.step b.of_kind) refl)) ∙ turn) (record {
         at = record {
           before = given.at.before;
           event = given.at.event;

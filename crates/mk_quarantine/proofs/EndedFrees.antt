@@ -113,8 +113,7 @@ module _ (on : Bool) (c : Config) (es before : List Event) (e : Event) (behind :
     given : Next is_give behind
     given =
         next_of is_give behind (λ lacks.
-        let kept = turn_stays_held (before ++ e ∷ []) behind k whole lt turn_behind
-        (lacks_own (Caller k) behind lacks) in
+        let kept = turn_stays_held _ behind k whole lt turn_behind (lacks_own (Caller k) behind lacks) in
         grind (arith, parts))
 
     by_caller : EndedFree on c before e behind

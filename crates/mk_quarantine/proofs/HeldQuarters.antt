@@ -1,38 +1,19 @@
 -- What was freed since the last `begin` is a quarter of what is held alone, where no `release` came in a later turn.
 use Rattle.mk_quarantine.proofs.Vocabulary.{At, Bool, Caller, Config, Event, IsHistory, KeptByEvents, Lacks, List}
-use Rattle.mk_quarantine.proofs.Vocabulary.{Meets, OfHistories, Seat, Step, TurnOf, World, ℕ, ap, append_assoc, arith}
+use Rattle.mk_quarantine.proofs.Vocabulary.{Meets, OfHistories, Step, TurnOf, World, ℕ, ap, append_assoc, arith}
 use Rattle.mk_quarantine.proofs.Vocabulary.{before_it, cases_Bool, decides_freed, false, first_world, flight_of}
 use Rattle.mk_quarantine.proofs.Vocabulary.{fresh_after, fresh_words_of, has_step, holds_of_histories, inl, inr}
 use Rattle.mk_quarantine.proofs.Vocabulary.{is_begin, is_give, is_of_cycle, is_release, lacks_append, lacks_at}
 use Rattle.mk_quarantine.proofs.Vocabulary.{lacks_first, lacks_one, left, left_in_parts, left_more, list_any}
-use Rattle.mk_quarantine.proofs.Vocabulary.{list_any-append, longer_at, or_from, or_parts, own_give, phase_asked, refl}
-use Rattle.mk_quarantine.proofs.Vocabulary.{subst, sym, through, true, true≢false, world_behind, [], ⊎_elim, ◌++◌, ◌∙◌}
-use Rattle.mk_quarantine.proofs.{Vocabulary.{◌∷◌, ◌≡◌, ◌⊎◌}, CountedWords.{IsQuarter, given_at, none_fresh_begun}}
-use Rattle.mk_quarantine.proofs.CountedWords.{none_fresh_stays, quarter_stays}
+use Rattle.mk_quarantine.proofs.Vocabulary.{list_any-append, longer_at, or_parts, own_give, phase_asked, refl, subst}
+use Rattle.mk_quarantine.proofs.Vocabulary.{sym, through, true, world_behind, [], ⊎_elim, ◌++◌, ◌∙◌, ◌∷◌, ◌≡◌, ◌⊎◌}
+use Rattle.mk_quarantine.proofs.CountedWords.{IsQuarter, given_at, none_fresh_begun, none_fresh_stays, quarter_stays}
 use Rattle.mk_quarantine.proofs.EndedFrees.{CallersAreExact, EndedFree, ended_free}
 use Rattle.mk_quarantine.proofs.Quarters.{IsPending, begin_is_of_cycle, cycles_later, freed_or_due, none_pending}
-use Rattle.mk_quarantine.proofs.{Quarters.pending_longer, HeldTurns.{BeginsInTurn, begun_in_turn, one_later}}
+use Rattle.mk_quarantine.proofs.{Quarters.pending_longer, HeldTurns.{BeginsInTurn, begun_in_turn, last_of}}
 use Rattle.mk_core.specs.{Cycles.BeginsIn, History.left_from}
-use Rattle.mk_laws.proofs.{CyclePhases.release_is, ReleasedCycles.{HasClosed, cycle_so_far}}
+use Rattle.mk_laws.proofs.{CyclePhases.release_is, ReleasedCycles.cycle_so_far}
 use Rattle.mk_alloc.proofs.ListParts.{none_at}
-
--- the last event of a kind, if there is one
-
-pub record Last (kind : Step → Bool) (es : List Event) : Type 0 where
-  pub at : At kind es
-  pub none : Lacks kind at.behind
-
-pub last_of : (kind : Step → Bool) (es : List Event) → (Lacks kind es → ⊥) → Last kind es
-last_of kind [] some = absurd (some refl)
-last_of kind (e ∷ es) some = elim (cases_Bool (has_step kind es)) [
-  | inl has ↦
-      let rest = last_of kind es (λ lacks. true≢false (sym has ∙ lacks)) in
-      record { at = one_later e rest.at; none = rest.none }
-  | inr lacks ↦ elim (cases_Bool (kind e.step)) [
-    | inl is ↦ record { at = record { before = []; event = e; behind = es; is = refl; of_kind = is }; none = lacks }
-    | inr off ↦ absurd (some (or_from (kind e.step) (has_step kind es) off lacks))
-  ]
-]
 
 -- A list frees something, or leaves nothing fresh where nothing was.
 
@@ -66,12 +47,11 @@ pub since_begin : (c : Config) {es : List Event} (b : At is_begin es)
     → (fresh_after c es ≡ 0) ⊎ FreesIn c (left c (through b)) b.behind
 since_begin c {es = es} b =
     let start = left_more c (first_world c) b.before b.event in
-    let stale : fresh_words_of c (left c (through b)).allocations ≡ 0 = grind (arith, none_fresh_begun) in
     let whole : left_from c (left c (through b)) b.behind ≡ left c es =
     cc (left_in_parts c (through b) b.behind, append_assoc b.before (b.event ∷ []) b.behind, b.is) in
     ⊎_elim (λ (z : fresh_words_of c (left_from c (left c (through b)) b.behind).allocations ≡ 0). inl (ap (λ (w :
     World). fresh_words_of c w.allocations) (sym whole) ∙ z)) (λ (f : FreesIn c (left c (through b)) b.behind). inr f)
-    (frees_or_stale c _ _ stale)
+    (frees_or_stale c _ _ (grind (arith, none_fresh_begun)))
 
 -- A `release` since the last `begin` stands in a later turn.
 pub record IsLate (es : List Event) : Type 0 where
@@ -109,8 +89,7 @@ pub data HeldQuarters (c : Config) (es : List Event) : Type 0 where
 
 to_longer : (c : Config) (es : List Event) (e : Event) → IsQuarter c (world_behind c (left c es) e) 0
     → HeldQuarters c (es ++ e ∷ [])
-to_longer c es e quarter =
-    Quarter (subst (λ (w : World). IsQuarter c w 0) (sym (left_more c (first_world c) es e)) quarter)
+to_longer c es e quarter = Quarter (subst (λ (w : World). IsQuarter c w 0) (sym (left_more c _ es e)) quarter)
 
 begun : (c : Config) (es : List Event) (e : Event) → is_begin e.step ≡ true → HeldQuarters c (es ++ e ∷ [])
 begun c es e begins =
@@ -121,16 +100,11 @@ freed : (c : Config) (es : List Event) (e : Event)
     → decides_freed c (left c es).now (flight_of (left c es).now e.seat) e.step ≡ true → HeldQuarters c (es ++ e ∷ [])
 freed c es e frees = grind (arith, to_longer, freed_or_due)
 
-released_none : (c : Config) (w : World) (seat : Seat) (x : Step) → is_release x ≡ true
-    → decides_freed c w.now (flight_of w.now seat) x ≡ false
-released_none c w seat x4 is = grind arith
-
 released : {c : Config} {es : List Event} (e : Event) → IsHistory c es → Meets c (left c es).now e.seat e.step
     → is_release e.step ≡ true → HeldQuarters c (es ++ e ∷ [])
 released {c} {es} e h meets is =
     let asked = subst (λ (x : Step). Meets c (left c es).now e.seat x) (release_is e.step is) meets in
-    let closed : HasClosed es =
-    (cycle_so_far c es h).closed (phase_asked c (left c es).now e.seat Step.Release asked) in
+    let closed = (cycle_so_far c es h).closed (phase_asked c (left c es).now e.seat Step.Release asked) in
     let b = last_of is_begin es (λ lacks. none_at is_begin es lacks closed.marking.begin) in
     elim (cases_Bool (has_step is_give b.at.behind)) [
       | inl later ↦
@@ -141,8 +115,8 @@ released {c} {es} e h meets is =
             later = later;
           })
       | inr none ↦
-          ⊎_elim (λ (stale : fresh_after c es ≡ 0). (let none_freed = released_none c (left c es) e.seat e.step is in
-          let now = none_fresh_stays c (left c es) e.seat e.step none_freed stale in
+          ⊎_elim (λ (stale : fresh_after c es ≡ 0). (let now = none_fresh_stays c (left c es) e.seat e.step
+          (grind arith) stale in
           to_longer c es e (omega arith))) (λ (f : FreesIn c (left c (through b.at)) b.at.behind). Early
           (early_longer c es e (record { begin = b.at; free = f; in_turn = in_front f none }))) (since_begin c b.at)
     ]
@@ -154,18 +128,17 @@ released {c} {es} e h meets is =
     in_front {ys = ys} f none = grind (arith, lacks_first)
 
 held_kept : KeptByEvents HeldQuarters
-held_kept c es e h (Quarter quarter) = elim
-    (cases_Bool (decides_freed c (left c es).now (flight_of (left c es).now e.seat) e.step)) [
-      | inl frees ↦ freed c es e frees
-      | inr none ↦ elim (cases_Bool (is_release e.step)) [
-        | inl is ↦
-            let here = before_it c (es ++ e ∷ []) es e [] h refl in
-            released e here.0 here.1 is
-        | inr off ↦
-            to_longer c es e (subst (λ n. IsQuarter c (world_behind c (left c es) e) n)
-            (given_at c (left c es) e.step off) (quarter_stays c (left c es) e.seat e.step 0 none quarter))
-      ]
-    ]
+held_kept c es e h (Quarter quarter) = elim (cases_Bool _) [
+  | inl frees ↦ freed c es e frees
+  | inr none ↦ elim (cases_Bool (is_release e.step)) [
+    | inl is ↦
+        let here = before_it c (es ++ e ∷ []) es e [] h refl in
+        released e here.0 here.1 is
+    | inr off ↦
+        to_longer c es e (rw (given_at c (left c es) e.step off) at (quarter_stays c (left c es) e.seat e.step 0
+        none quarter))
+  ]
+]
 held_kept c es e h (Pending p) = elim (cases_Bool (is_begin e.step)) [
   | inl begins ↦ begun c es e begins
   | inr none ↦ Pending (pending_longer e none p)

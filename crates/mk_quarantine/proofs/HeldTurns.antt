@@ -29,14 +29,28 @@ one_later e at = record {
 pub next_of : (kind : Step → Bool) (es : List Event) → (Lacks kind es → ⊥) → Next kind es
 next_of kind [] some = absurd (some refl)
 next_of kind (e ∷ es) some = elim (cases_Bool (kind e.step)) [
-  | inl is ↦
-      record { at = record { before = []; event = e; behind = es; is = refl; of_kind = is }; none_before = refl }
+  | inl is ↦ record { at = record { before = []; event = e; behind = es; is = refl; of_kind = is }; none_before = refl }
   | inr none ↦
       let rest = next_of kind es (λ lacks. some (or_from (kind e.step) (has_step kind es) none lacks)) in
-      record {
-        at = one_later e rest.at;
-        none_before = or_from (kind e.step) (has_step kind rest.at.before) none rest.none_before;
-      }
+      record { at = one_later e rest.at; none_before = or_from _ (has_step kind rest.at.before) none rest.none_before }
+]
+
+-- the last event of a kind, if there is one
+
+pub record Last (kind : Step → Bool) (es : List Event) : Type 0 where
+  pub at : At kind es
+  pub none : Lacks kind at.behind
+
+pub last_of : (kind : Step → Bool) (es : List Event) → (Lacks kind es → ⊥) → Last kind es
+last_of kind [] some = absurd (some refl)
+last_of kind (e ∷ es) some = elim (cases_Bool (has_step kind es)) [
+  | inl has ↦
+      let rest = last_of kind es (λ lacks. true≢false (sym has ∙ lacks)) in
+      record { at = one_later e rest.at; none = rest.none }
+  | inr lacks ↦ elim (cases_Bool (kind e.step)) [
+    | inl is ↦ record { at = record { before = []; event = e; behind = es; is = refl; of_kind = is }; none = lacks }
+    | inr off ↦ absurd (some (or_from (kind e.step) (has_step kind es) off lacks))
+  ]
 ]
 
 -- One event: a turn that is held stays so, unless it is given back.
@@ -108,14 +122,12 @@ pub first_giver : (c : Config) (es : List Event) {more : List Event} (k : ℕ) �
     → (left c es).now.words.turn ≡ 1 + k → (g : Next is_give more)
     → (g.at.event.step ≡ Step.Give) × (g.at.event.seat ≡ Caller k)
 first_giver c es {more = more} k h lt turn g =
-    let split : es ++ more ≡ (es ++ g.at.before) ++ g.at.event ∷ g.at.behind = grind (arith, append_assoc) in
-    let here = before_it c (es ++ more) (es ++ g.at.before) g.at.event g.at.behind h split in
+    let here = before_it c (es ++ more) (es ++ g.at.before) g.at.event g.at.behind h (grind (arith, append_assoc)) in
     let gives = give_is g.at.event.step g.at.of_kind in
     let held = turn_stays_held es g.at.before k here.0 lt turn (lacks_own (Caller k) g.at.before g.none_before) in (
       gives,
-      giver_is (left c (es ++ g.at.before)) g.at.event.seat k
-          (known_left c (es ++ g.at.before) here.0.within_limits here.0.enabled) lt held
-          (subst (λ (x : Step). Meets c (left c (es ++ g.at.before)).now g.at.event.seat x) gives here.1),
+      giver_is (left c _) g.at.event.seat k (known_left c (es ++ g.at.before) here.0.within_limits here.0.enabled) lt
+          held (subst (λ (x : Step). Meets c (left c (es ++ g.at.before)).now g.at.event.seat x) gives here.1),
     )
 
 -- After a list a caller is in one turn: where it took it, for what, and what came then.
@@ -124,18 +136,14 @@ module _ {c : Config} {k : ℕ} {es : List Event} (h : IsHistory c es) (t : Turn
   pub taker_exists : k < c.callers
   taker_exists = ltb-true k c.callers (before_it c es t.before (taken t) t.behind h t.is).1.seat
 
-  turn_taken : (left c (t.before ++ taken t ∷ [])).now.words.turn ≡ 1 + k
-  turn_taken = grind (arith, left_more, taken, eq-eqb)
-
   -- up to any event of the turn
   pub turn_held_in : (part rest : List Event) → t.behind ≡ part ++ rest
       → (left c (t.before ++ taken t ∷ part)).now.words.turn ≡ 1 + k
   turn_held_in part rest is =
       let whole : es ≡ (t.before ++ taken t ∷ part) ++ rest = grind (arith, append_assoc, taken) in
       let first : IsHistory c (t.before ++ taken t ∷ part) = grind (arith, earlier_part_is_history, taken) in
-      let split : (t.before ++ taken t ∷ []) ++ part ≡ t.before ++ taken t ∷ part =
-      append_assoc t.before (taken t ∷ []) part in
-      grind (arith, or_parts, own_give, list_any-append, turn_stays_held, taken, taker_exists, turn_taken)
+      let split = append_assoc t.before (taken t ∷ []) part in
+      grind (arith, or_parts, own_give, list_any-append, turn_stays_held, taken, taker_exists, left_more, eq-eqb)
 
 pub record IsSameTurn (c : Config) (k : ℕ) (es : List Event) (t u : TurnOf c (Caller k) es) : Type 0 where
   pub before : u.before ≡ t.before
@@ -149,8 +157,7 @@ apart c k es t u h part is =
     let whole : u.before ++ taken u ∷ u.behind ≡ u.before ++ taken u ∷ (part ++ taken t ∷ t.behind) =
     cc (u.is, t.is, is, append_assoc u.before (taken u ∷ part) (taken t ∷ t.behind)) in
     let same : taken u ∷ u.behind ≡ taken u ∷ (part ++ taken t ∷ t.behind) = grind (arith, append_cancel_left, taken) in
-    let parts : u.behind ≡ part ++ taken t ∷ t.behind = cc in
-    let held = turn_held_in h u part (taken t ∷ t.behind) parts in
+    let held = turn_held_in h u part (taken t ∷ t.behind) cc in
     grind (arith, taken)
 
 pub one_turn : {c : Config} {k : ℕ} {es : List Event} (t u : TurnOf c (Caller k) es) → IsHistory c es
@@ -163,9 +170,7 @@ one_turn {c} {k} {es} t u h =
     by : (rest : List Event) → u.before ≡ t.before ++ rest → taken t ∷ t.behind ≡ rest ++ taken u ∷ u.behind
         → IsSameTurn c k es t u
     by [] first is = grind (arith, taken, append-nil)
-    by (y ∷ ys) first is =
-        let take : taken t ≡ y = cc in
-        absurd (apart c k es u t h ys (first ∙ ap (λ (e : Event). t.before ++ e ∷ ys) (sym take)))
+    by (y ∷ ys) first is = absurd (apart c k es u t h ys (first ∙ ap (λ (e : Event). t.before ++ e ∷ ys) (sym cc)))
 
 -- Who begins a cycle holds the turn, so a turn that was taken before goes on over the `begin`.
 
@@ -173,9 +178,8 @@ pub beginner_holds : {c : Config} {es : List Event} (b : At is_begin es) → IsH
     → HoldsTurn c (view_of (left c b.before).now) b.event.seat
 beginner_holds {c} {es} b h =
     let here = before_it c es b.before b.event b.behind h b.is in
-    let known = known_left c b.before here.0.within_limits here.0.enabled in
-    acts_as_holder c (left c b.before).now _ _ (actor_of c (left c b.before).now _ _ known.orderly here.1)
-    (ap is_holders (begin_is _ b.of_kind))
+    acts_as_holder c (left c b.before).now _ _ (actor_of c (left c b.before).now _ _
+    (known_left c b.before here.0.within_limits here.0.enabled).orderly here.1) (ap is_holders (begin_is _ b.of_kind))
 
 pub begun_under_turn : {c : Config} {es : List Event} (b : At is_begin es) → IsHistory c es
     → (left c b.before).now.words.turn ≢ 0

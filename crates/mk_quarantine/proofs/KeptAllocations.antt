@@ -1,20 +1,21 @@
 -- What is in quarantine where no cycle is on: what was freed since the last `begin`, or what the last cycle kept.
-use Rattle.mk_laws.proofs.Vocabulary.{Releasing, Words, freed_released, not-true, through_release}
-use Rattle.mk_laws.proofs.{AllocationSteps.{allocation_step, goes_on}, CyclePhases.phase_moves}
-use Rattle.mk_laws.proofs.{Longer.{longer_next, next_at_end}, PrecisionStopped.keeps_only_the_touched}
-use Rattle.mk_laws.proofs.{Stretches.at_release, UnmappedRuns.unmapped_runs_take_no_memory}
-use Rattle.mk_quarantine.proofs.Vocabulary.{AsksPhase, At, Cell, Config, Event, IsHistory, IsKeptByLastCycle, Lacks}
-use Rattle.mk_quarantine.proofs.Vocabulary.{List, Meets, Next, OfHistories, Option, PlacedAllocation, Seat, Step, World}
-use Rattle.mk_quarantine.proofs.Vocabulary.{WorldBehind, ℕ, and_parts, append-nil, append_assoc, arith, before_it}
-use Rattle.mk_quarantine.proofs.Vocabulary.{cases_Bool, cases_eq, cases_lt, changed_at, earlier_at, false}
-use Rattle.mk_quarantine.proofs.Vocabulary.{false_from_ne_true, first_world, flight_of, freed_leaves}
-use Rattle.mk_quarantine.proofs.Vocabulary.{freed_where_it_stands, get_or_past, holds_of_histories, inl, inr, is_begin}
-use Rattle.mk_quarantine.proofs.Vocabulary.{is_close, is_end, is_quarantined, is_release, known_left, lacks_append}
-use Rattle.mk_quarantine.proofs.Vocabulary.{lacks_one, left, left_in_parts, left_more, length, length-append, longer_at}
-use Rattle.mk_quarantine.proofs.Vocabulary.{never_granted, not, phase_asked, phase_behind, phase_of, placed_at, refl}
-use Rattle.mk_quarantine.proofs.Vocabulary.{subst, sym, true, true≢false, world_behind, [], ◌++◌, ◌<◌, ◌∙◌, ◌∷◌, ◌≡◌}
-use Rattle.mk_quarantine.proofs.Vocabulary.{◌⊎◌}
+use Rattle.mk_laws.proofs.Vocabulary.{AreEnabledFrom, Releasing, Words, enabled_parts, freed_released, left_append}
+use Rattle.mk_laws.proofs.{Vocabulary.{not-true, through_release}, CyclePhases.{begin_is, close_is, moves_phase}}
+use Rattle.mk_laws.proofs.{CyclePhases.{phases_go_on, release_is}, Ground.{allocation_step, goes_on}}
+use Rattle.mk_laws.proofs.{PrecisionStopped.keeps_only_the_touched, ProtocolStepKinds.end_is, Stretches.at_release}
+use Rattle.mk_laws.proofs.UnmappedRuns.{unmapped_runs_take_no_memory}
+use Rattle.mk_quarantine.proofs.Vocabulary.{AsksPhase, At, Bool, Cell, Config, Event, IsHistory, IsKeptByLastCycle}
+use Rattle.mk_quarantine.proofs.Vocabulary.{Lacks, List, Next, OfHistories, Option, PlacedAllocation, Seat, Step, World}
+use Rattle.mk_quarantine.proofs.Vocabulary.{WorldBehind, ℕ, and_parts, ap, append-nil, append_assoc, arith, cases_Bool}
+use Rattle.mk_quarantine.proofs.Vocabulary.{cases_eq, cases_lt, changed_at, earlier_at, false, false_from_ne_true}
+use Rattle.mk_quarantine.proofs.Vocabulary.{first_world, flight_of, freed_leaves, freed_where_it_stands, get_or_past}
+use Rattle.mk_quarantine.proofs.Vocabulary.{has_step, inl, inr, is_begin, is_close, is_end, is_quarantined, is_release}
+use Rattle.mk_quarantine.proofs.Vocabulary.{known_left, left, left_in_parts, length, length-append, never_granted, not}
+use Rattle.mk_quarantine.proofs.Vocabulary.{or_parts, phase_behind, phase_of, placed_at, refl, subst, sym, true}
+use Rattle.mk_quarantine.proofs.Vocabulary.{true≢false, world_behind, [], ◌++◌, ◌<◌, ◌∙◌, ◌∷◌, ◌≡◌, ◌⊎◌}
+use Rattle.mk_quarantine.proofs.HeldTurns.{Last, last_of, next_of}
 use Rattle.mk_core.{proofs.ChangedAllocations.{granted_at}, specs.{Cycles.before_begin, History.left_from}}
+use Rattle.mk_alloc.proofs.ListParts.{lacks_second}
 use Rattle.mk_quarantine.specs.{KeptAllocations.{KeptAreTouched, QuarantineIsFreshOrKept}, Bounds.FreedRunsTakeNoMemory}
 
 -- Where the turn is free, a freed large allocation takes no memory: no Free is unmapping a run.
@@ -63,14 +64,10 @@ released_from c w (e ∷ es) i there is =
 quarantined_is_there : (w : World) (i : ℕ) → is_quarantined (placed_at w.allocations i) ≡ true → IsThere w i
 quarantined_is_there w i h = grind (arith, cases_lt, get_or_past)
 
--- What comes up to a `release` begins with what came before the cycle.
-from_begin : {X : Type 0} (a p q s : List X) (x : X) → (((a ++ x ∷ []) ++ p) ++ q) ++ s ≡ a ++ (((x ∷ p) ++ q) ++ s)
-from_begin a p q s x = simp append_assoc
-
 module _ (c : Config) {es : List Event} (r : Releasing es) (i : ℕ)
     (snapshot : is_quarantined (placed_at (left c (before_begin r.marking)).allocations i) ≡ true) where
   there_at_release : IsThere (left c (through_release r)) i
-  there_at_release = search (from_begin, left_in_parts, there_from, quarantined_is_there)
+  there_at_release = search (append_assoc, left_in_parts, there_from, quarantined_is_there)
 
   -- Released at the `release`, it is so in the end.
   released_in_the_end : IsReleased (left c (through_release r)) i → IsReleased (left c es) i
@@ -81,82 +78,10 @@ module _ (c : Config) {es : List Event} (r : Releasing es) (i : ℕ)
 pub kept_are_touched : OfHistories KeptAreTouched
 kept_are_touched c es h i k unswept =
     let r : Releasing es = k.cycle.releasing in
-    keeps_only_the_touched c es h r unswept i k.snapshot
-    (false_from_ne_true (placed_at (left c (through_release r)).allocations i).released
-    (λ released. true≢false (sym (released_in_the_end c r i k.snapshot released) ∙ k.unreleased)))
+    keeps_only_the_touched c es h r unswept i k.snapshot (false_from_ne_true (placed_at (left c _).allocations
+    i).released (λ released. true≢false (sym (released_in_the_end c r i k.snapshot released) ∙ k.unreleased)))
 
--- the cycle of a `begin` by the events after it, and the phase
-
-data CycleSoFar (phase : ℕ) (es : List Event) : Type 0 where
-  Marks : (phase ≡ 1) ⊎ (phase ≡ 2) → Lacks is_close es → CycleSoFar phase es
-  Stops : phase ≡ 3 → (k : Next is_close es) → Lacks is_release k.at.behind → CycleSoFar phase es
-  Releases : phase ≡ 4 → (k : Next is_close es) (r : Next is_release k.at.behind) → Lacks is_end r.at.behind
-      → CycleSoFar phase es
-  Ended : (phase ≡ 0) ⊎ (phase ≡ 5) → (k : Next is_close es) (r : Next is_release k.at.behind)
-      (e : Next is_end r.at.behind) → Lacks is_end e.at.behind → CycleSoFar phase es
-
--- an event that no cycle waits for
-quiet : {p : ℕ} {es : List Event} (e : Event) → is_close e.step ≡ false → is_release e.step ≡ false
-    → is_end e.step ≡ false → CycleSoFar p es → CycleSoFar p (es ++ e ∷ [])
-quiet e close release end (Marks at none) = grind (arith, lacks_append, lacks_one)
-quiet e close release end (Stops at k none) =
-    Stops at (longer_next (e ∷ []) k)
-    (lacks_append is_release k.at.behind (e ∷ []) none (lacks_one is_release e release))
-quiet e close release end (Releases at k r none) =
-    Releases at (longer_next (e ∷ []) k) (longer_next (e ∷ []) r)
-    (lacks_append is_end r.at.behind (e ∷ []) none (lacks_one is_end e end))
-quiet e close release end (Ended at k r x none) =
-    Ended at (longer_next (e ∷ []) k) (longer_next (e ∷ []) r) (longer_next (e ∷ []) x)
-    (lacks_append is_end x.at.behind (e ∷ []) none (lacks_one is_end e end))
-
--- the events that it waits for
-module _ (seat : Seat) (p : ℕ) (es : List Event) where
-  wants : p ≡ 1 → CycleSoFar p es → CycleSoFar 2 (es ++ record { seat = seat; step = Step.Want } ∷ [])
-  wants asks k = grind (arith, lacks_append)
-
-  closes : p ≡ 2 → CycleSoFar p es → CycleSoFar 3 (es ++ record { seat = seat; step = Step.Close } ∷ [])
-  closes asks (Marks at none) = Stops refl (next_at_end es (record { seat = seat; step = Step.Close }) none refl) refl
-  closes asks (Stops at k none) = absurd (omega arith)
-  closes asks (Releases at k r none) = absurd (omega arith)
-  closes asks (Ended at k r x none) = absurd (grind arith)
-
-  releases : p ≡ 3 → CycleSoFar p es → CycleSoFar 4 (es ++ record { seat = seat; step = Step.Release } ∷ [])
-  releases asks (Stops at k none) =
-      Releases refl (longer_next (record { seat = seat; step = Step.Release } ∷ []) k)
-      (next_at_end k.at.behind (record { seat = seat; step = Step.Release }) none refl) refl
-  releases asks (Marks at none) = absurd (grind arith)
-  releases asks (Releases at k r none) = absurd (omega arith)
-  releases asks (Ended at k r x none) = absurd (grind arith)
-
-  ends : p ≡ 4 → CycleSoFar p es → CycleSoFar 0 (es ++ record { seat = seat; step = Step.End } ∷ [])
-  ends asks (Releases at k r none) =
-      Ended (inl refl) (longer_next (record { seat = seat; step = Step.End } ∷ []) k)
-      (longer_next (record { seat = seat; step = Step.End } ∷ []) r)
-      (next_at_end r.at.behind (record { seat = seat; step = Step.End }) none refl) refl
-  ends asks (Marks at none) = absurd (grind arith)
-  ends asks (Stops at k none) = absurd (omega arith)
-  ends asks (Ended at k r x none) = absurd (grind arith)
-
-  overs : p ≡ 0 → CycleSoFar p es → CycleSoFar 5 (es ++ record { seat = seat; step = Step.Over } ∷ [])
-  overs asks (Ended at k r x none) =
-      let more : List Event = record { seat = seat; step = Step.Over } ∷ [] in
-      Ended (inr refl) (longer_next more k) (longer_next more r) (longer_next more x)
-      (lacks_append is_end x.at.behind more none refl)
-  overs asks (Marks at none) = absurd (grind arith)
-  overs asks (Stops at k none) = absurd (omega arith)
-  overs asks (Releases at k r none) = absurd (omega arith)
-
-so_far : (seat : Seat) (x : Step) {p : ℕ} {es : List Event} → AsksPhase x p → is_begin x ≡ false → CycleSoFar p es
-    → CycleSoFar (phase_behind x p) (es ++ record { seat = seat; step = x } ∷ [])
-so_far seat Step.Begin asks none k = cc
-so_far seat Step.Want {p = p} {es = es} asks none k = wants seat p es asks k
-so_far seat Step.Close {p = p} {es = es} asks none k = closes seat p es asks k
-so_far seat Step.Release {p = p} {es = es} asks none k = releases seat p es asks k
-so_far seat Step.End {p = p} {es = es} asks none k = ends seat p es asks k
-so_far seat Step.Over {p = p} {es = es} asks none k = overs seat p es asks k
-so_far seat _ {p = p} {es = es} asks none k = quiet _ refl refl refl k
-
--- What is in quarantine and was freed before the last `begin` was so before each event, but a `begin`.
+-- What is in quarantine and was freed before the last `begin` was so right after that.
 
 record IsStale (a : PlacedAllocation) : Type 0 where
   quarantined : is_quarantined a ≡ true
@@ -165,15 +90,12 @@ record IsStale (a : PlacedAllocation) : Type 0 where
 none_stale : IsStale never_granted → ⊥
 none_stale h = let q : false ≡ true = h.quarantined in true≢false (sym q)
 
-unfreed_not_stale : {a : PlacedAllocation} → a.freed ≡ false → IsStale a → ⊥
-unfreed_not_stale {a} live h = true≢false (sym (and_parts a.freed (not a.released) h.quarantined).0 ∙ live)
-
 stale_granted : (xs : List PlacedAllocation) (a : PlacedAllocation) (i : ℕ) → a.freed ≡ false
     → IsStale (placed_at (xs ++ a ∷ []) i) → IsStale (placed_at xs i)
 stale_granted xs a i live h = elim (cases_lt i (length xs)) [
   | inl lt ↦ subst IsStale (earlier_at xs a i lt) h
   | inr past ↦ elim (cases_eq i (length xs)) [
-    | inl own ↦ grind (arith, unfreed_not_stale, granted_at)
+    | inl own ↦ grind (arith, granted_at, and_parts)
     | inr ne ↦
         absurd (none_stale (subst IsStale (get_or_past (xs ++ a ∷ []) i never_granted
         (let both = length-append xs (a ∷ []) in omega arith)) h))
@@ -188,78 +110,102 @@ stale_was : (c : Config) (w : World) (seat : Seat) (x : Step) (i : ℕ) → is_b
     → IsStale (placed_at (WorldBehind c w seat x).allocations i) → IsStale (placed_at w.allocations i)
 stale_was c w seat x4 i none h = grind (arith, stale_granted, stale_freed, changed_at, freed_leaves)
 
--- After every history: no cycle was begun and all in quarantine is fresh, or what isn't fresh is in the snapshot of the
--- last one.
-
-abbrev StaleAre : World → (ℕ → Type 0) → Type 0
-StaleAre w claim = (i : ℕ) → IsStale (placed_at w.allocations i) → claim i
-
-abbrev IsQuarantinedIn : World → ℕ → Type 0
-IsQuarantinedIn w i = is_quarantined (placed_at w.allocations i) ≡ true
-
-data SinceBegin (c : Config) (es : List Event) (w : World) : Type 0 where
-  NeverBegun : StaleAre w (λ i. ⊥) → SinceBegin c es w
-  Begun : (b : At is_begin es) → CycleSoFar (phase_of w.now.words) b.behind
-      → StaleAre w (IsQuarantinedIn (left c b.before)) → SinceBegin c es w
-
-abbrev SinceLastBegin : Config → List Event → Type 0
-SinceLastBegin c es = SinceBegin c es (left c es)
-
-since_behind : (c : Config) (es : List Event) (e : Event) → Meets c (left c es).now e.seat e.step → SinceLastBegin c es
-    → SinceBegin c (es ++ e ∷ []) (world_behind c (left c es) e)
-since_behind c es e meets since = elim (cases_Bool (is_begin e.step)) [
-  | inl begins ↦
-      Begun (record { before = es; event = e; behind = []; is = refl; of_kind = begins }) (Marks (inl (phase_moves c
-      (left c es).now e.seat e.step meets ∙ begun_phase e.step begins)) refl) (λ i h. grind (arith, changed_at))
-  | inr none ↦ by none since
-]
-  where
-    begun_phase : (x : Step) → is_begin x ≡ true → phase_behind x (phase_of (left c es).now.words) ≡ 1
-    begun_phase x1 is = grind arith
-
-    by : is_begin e.step ≡ false → SinceLastBegin c es → SinceBegin c (es ++ e ∷ []) (world_behind c (left c es) e)
-    by none (NeverBegun stale) = NeverBegun (λ i h. stale i (stale_was c (left c es) e.seat e.step i none h))
-    by none (Begun b cycle stale) =
-        Begun (longer_at (e ∷ []) b) (subst (λ p. CycleSoFar p (b.behind ++ e ∷ [])) (sym (phase_moves c (left c es).now
-        e.seat e.step meets)) (so_far e.seat e.step (phase_asked c (left c es).now e.seat e.step meets) none cycle))
-        (λ i h. stale i (stale_was c (left c es) e.seat e.step i none h))
-
-since_first : (c : Config) → SinceLastBegin c []
+stale_from : (c : Config) (w : World) (es : List Event) (i : ℕ) → Lacks is_begin es
+    → IsStale (placed_at (left_from c w es).allocations i) → IsStale (placed_at w.allocations i)
 unfolding left_from
-since_first c = NeverBegun (λ i h. none_stale h)
+stale_from c w [] i none h = h
+stale_from c w (e ∷ es) i none h =
+    let parts = or_parts (is_begin e.step) (has_step is_begin es) none in
+    stale_was c w e.seat e.step i parts.0 (stale_from c (world_behind c w e) es i parts.1 h)
 
-since_last_begin : OfHistories SinceLastBegin
-since_last_begin = holds_of_histories SinceLastBegin since_first (λ c es e h since.
-    let here = before_it c (es ++ e ∷ []) es e [] h refl in
-    subst (λ (w : World). SinceBegin c (es ++ e ∷ []) w) (sym (left_more c (first_world c) es e))
-    (since_behind c es e here.1 since))
+-- Where no cycle is on, the last `begin` has a `close`, `release` and `end`: its phases are left by these alone.
+
+abbrev Either : ℕ → ℕ → ℕ → Type 0
+Either n k p = (p ≡ n) ⊎ (p ≡ k)
+
+abbrev world_at : Config → World → {kind : Step → Bool} {es : List Event} → At kind es → World
+world_at c w e = world_behind c (left_from c w e.before) e.event
+
+record Leads (c : Config) (w : World) (p : ℕ) (es : List Event) : Type 0 where
+  on : AreEnabledFrom c w es
+  phase : phase_of w.now.words ≡ p
+  idle : Either 0 5 (phase_of (left_from c w es).now.words)
+
+leads : (c : Config) (w : World) {kind : Step → Bool} {es : List Event} (one : At kind es) (now : ℕ)
+    → ((p : ℕ) → phase_behind one.event.step p ≡ now) → AreEnabledFrom c w es
+    → Either 0 5 (phase_of (left_from c w es).now.words) → Leads c (world_at c w one) now one.behind
+unfolding left_from
+leads c w one now to on idle =
+    let moves = moves_phase c (left_from c w one.before) one.event one.behind (enabled_parts c w one.before
+    (one.event ∷ one.behind) (subst (λ (xs : List Event). AreEnabledFrom c w xs) one.is on)).1 in
+    record {
+      on = moves.2;
+      phase = moves.1 ∙ to _;
+      idle =
+          subst (λ (v : World). Either 0 5 (phase_of v.now.words)) (ap (λ (xs : List Event). left_from c w xs) one.is
+          ∙ left_append c w one.before (one.event ∷ one.behind)) idle;
+    }
+
+record GoesOn (c : Config) (w : World) (es : List Event) (kind : Step → Bool) (now : ℕ) : Type 0 where
+  next : Next kind es
+  rest : Leads c (world_at c w next.at) now next.at.behind
+
+goes_to : (kind : Step → Bool) (n k now : ℕ)
+    → ((x : Step) (p : ℕ) → AsksPhase x p → Either n k p → kind x ≡ false → Either n k (phase_behind x p))
+    → ((x : Step) (p : ℕ) → kind x ≡ true → phase_behind x p ≡ now) → ((p : ℕ) → Either n k p → Either 0 5 p → ⊥)
+    → {c : Config} {w : World} {es : List Event} → Leads c w n es → GoesOn c w es kind now
+goes_to kind n k now stay to apart {c} {w} {es} l =
+    let next = next_of kind es (λ lacks. apart _ (phases_go_on (Either n k) kind (λ x. false) (λ x p asks was none.
+    (stay x p asks was none, refl)) c w es l.on (inl l.phase) lacks).0 l.idle) in
+    record { next = next; rest = leads c w next.at now (λ p. to next.at.event.step p next.at.of_kind) l.on l.idle }
+
+rests : (x : Step) (p : ℕ) → AsksPhase x p → Either 0 5 p → is_begin x ≡ false
+    → Either 0 5 (phase_behind x p) × (is_end x ≡ false)
+rests x p asks was none = grind arith
+
+lacks_behind : {kind : Step → Bool} {es : List Event} (e : At kind es) → Lacks is_begin es → Lacks is_begin e.behind
+lacks_behind e none = grind (arith, lacks_second, or_parts)
+
+kept_by_last : (c : Config) {es : List Event} (h : IsHistory c es) (b : Last is_begin es) (i : ℕ) → Either 0 5
+    (phase_of (left c es).now.words) → IsStale (placed_at (left c es).allocations i) → IsKeptByLastCycle c es i
+unfolding left_from
+kept_by_last c {es} h b i idle stale =
+    let begin = leads c (first_world c) b.at 1 (λ p. rw (begin_is b.at.event.step b.at.of_kind) refl) h.enabled idle in
+    let close = goes_to is_close 1 2 3 (λ x p asks was none. grind arith) (λ x p is. rw (close_is x is) refl) (λ p was
+    idle. grind arith) begin in
+    let release = goes_to is_release 3 3 4 (λ x p asks was none. grind arith) (λ x p is. rw (release_is x is) refl)
+    (λ p was idle. grind arith) close.rest in
+    let end = goes_to is_end 4 4 0 (λ x p asks was none. grind arith) (λ x p is. rw (end_is x is) refl)
+    (λ p was idle. grind arith) release.rest in
+    let begun = stale_from c (world_at c (first_world c) b.at) b.at.behind i b.none
+    (subst (λ (w : World). IsStale (placed_at w.allocations i)) (ap (λ (xs : List Event). left c xs) b.at.is
+    ∙ left_append c (first_world c) b.at.before (b.at.event ∷ b.at.behind)) stale) in
+    let a : PlacedAllocation = placed_at (left c es).allocations i in
+    record {
+      cycle = record {
+        releasing = record { marking = record { begin = b.at; close = close.next }; release = release.next };
+        end = end.next;
+      };
+      last =
+          (phases_go_on (Either 0 5) is_begin is_end rests c _ end.next.at.behind end.rest.on (inl end.rest.phase)
+          (lacks_behind end.next.at (lacks_behind release.next.at (lacks_behind close.next.at b.none)))).1;
+      snapshot = snapshot b.at.event.step b.at.of_kind begun;
+      unreleased = not-true a.released (and_parts a.freed (not a.released) stale.quarantined).1;
+    }
+  where
+    w : World
+    w = left c b.at.before
+
+    snapshot : (x : Step) → is_begin x ≡ true → IsStale (placed_at (WorldBehind c w b.at.event.seat x).allocations i)
+        → is_quarantined (placed_at w.allocations i) ≡ true
+    snapshot x is begun = grind (arith, changed_at)
 
 pub quarantine_is_fresh_or_kept : OfHistories QuarantineIsFreshOrKept
+unfolding left_from
 quarantine_is_fresh_or_kept c es h idle i quarantined = elim (cases_Bool (placed_at (left c es).allocations i).fresh) [
   | inl fresh ↦ inl fresh
-  | inr stale ↦ inr (by idle (record { quarantined = quarantined; stale = stale }) (since_last_begin c es h))
+  | inr old ↦
+      let stale : IsStale (placed_at (left c es).allocations i) = record { quarantined = quarantined; stale = old } in
+      let b = last_of is_begin es (λ none. none_stale (stale_from c (first_world c) es i none stale)) in
+      inr (kept_by_last c h b i idle stale)
 ]
-  where
-    a : PlacedAllocation
-    a = placed_at (left c es).allocations i
-
-    ended : (b : At is_begin es) → (phase_of (left c es).now.words ≡ 0) ⊎ (phase_of (left c es).now.words ≡ 5)
-        → IsQuarantinedIn (left c b.before) i
-        → CycleSoFar (phase_of (left c es).now.words) b.behind → IsKeptByLastCycle c es i
-    ended b idle snapshot (Ended at k r e none) = record {
-      cycle = record {
-        releasing = record { marking = record { begin = b; close = k }; release = r };
-        end = e;
-      };
-      last = none;
-      snapshot = snapshot;
-      unreleased = not-true a.released (and_parts a.freed (not a.released) quarantined).1;
-    }
-    ended b idle snapshot (Marks at none) = absurd (grind arith)
-    ended b idle snapshot (Stops at k none) = absurd (grind arith)
-    ended b idle snapshot (Releases at k r none) = absurd (grind arith)
-
-    by : (phase_of (left c es).now.words ≡ 0) ⊎ (phase_of (left c es).now.words ≡ 5) → IsStale a
-        → SinceLastBegin c es → IsKeptByLastCycle c es i
-    by idle h (NeverBegun stale) = absurd (stale i h)
-    by idle h (Begun b cycle stale) = ended b idle (stale i h) cycle

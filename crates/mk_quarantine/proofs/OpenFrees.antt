@@ -10,12 +10,12 @@ use Rattle.mk_laws.proofs.Standings.{UnderTurn}
 use Rattle.mk_quarantine.proofs.Vocabulary.{Bool, Caller, Cell, Config, Event, Flight, Holding, Host, IsHistory}
 use Rattle.mk_quarantine.proofs.Vocabulary.{KeptByEvents, Known, List, Marker, Meets, None, OfHistories, Op, Option}
 use Rattle.mk_quarantine.proofs.Vocabulary.{Seat, Some, Step, TurnOf, World, WorldBehind, ℕ, and_parts, ap, arith}
-use Rattle.mk_quarantine.proofs.Vocabulary.{at_no_take, before_it, cases_eq, cases_lt, cell_freed, comes_next}
-use Rattle.mk_quarantine.proofs.Vocabulary.{decides_freed, eq-eqb, false, false_from_ne_true, first_world, flight_of}
-use Rattle.mk_quarantine.proofs.Vocabulary.{free_has_turn, holds_of_histories, if◌then◌else◌, inl, inr, is_give}
-use Rattle.mk_quarantine.proofs.Vocabulary.{is_some, is_undecided_free, known_left, left, left_more, length, refl}
-use Rattle.mk_quarantine.proofs.Vocabulary.{reg_leaves, subst, sym, taken, tally_keeps, true, true≢false, view_of}
-use Rattle.mk_quarantine.proofs.Vocabulary.{world_behind, [], ◌&&◌, ◌++◌, ◌+◌, ◌<◌, ◌∙◌, ◌∷◌, ◌≡◌}
+use Rattle.mk_quarantine.proofs.Vocabulary.{at_no_take, before_it, cases_eq, cases_lt, comes_next, decides_freed}
+use Rattle.mk_quarantine.proofs.Vocabulary.{eq-eqb, false, false_from_ne_true, first_world, flight_of, free_has_turn}
+use Rattle.mk_quarantine.proofs.Vocabulary.{holds_of_histories, if◌then◌else◌, inl, inr, is_give, is_some}
+use Rattle.mk_quarantine.proofs.Vocabulary.{is_undecided_free, known_left, left, left_more, length, refl, reg_leaves}
+use Rattle.mk_quarantine.proofs.Vocabulary.{subst, sym, taken, tally_keeps, true, true≢false, view_of, world_behind, []}
+use Rattle.mk_quarantine.proofs.Vocabulary.{◌&&◌, ◌++◌, ◌+◌, ◌<◌, ◌∙◌, ◌∷◌, ◌≡◌}
 use Rattle.mk_core.specs.History.{left_from}
 
 -- before the event that decides it
@@ -101,9 +101,6 @@ data FreeCame (c : Config) (w : World) (seat : Seat) (x : Step) (k : ℕ) : Type
       → (flight_of (WorldBehind c w seat x).now (Caller k)).op ≡ (flight_of w.now (Caller k)).op
       → FreeCame c w seat x k
 
-load_is_open : (o : Op) → standing_at Stage.LoadP o ≡ UnderTurn → is_open_at Stage.LoadP o ≡ true
-load_is_open x1 h = grind arith
-
 load_by_reg : (o : Op) (x : Step) → comes_next Stage.LoadP o x ≡ true → x ≡ Step.Reg
 load_by_reg o x1 h = grind arith
 
@@ -124,7 +121,7 @@ module _ (c : Config) (w : World) (k : ℕ) (known : Known c w.now) (lt : k < c.
 
   loaded : f.stage ≡ Stage.LoadP → standing f ≡ UnderTurn → FreeCame c w (Caller k) Step.Reg k
   loaded at stands =
-      WasOpen (grind (arith, is_open_at, load_is_open, standing_at)) (ap (λ (g : Flight). g.op)
+      WasOpen (grind (arith, is_open_at, standing_at)) (ap (λ (g : Flight). g.op)
       (get_or-set_same w.now.seats.flights k _ at_rest within) ∙ ap (λ (s : Stage). (progress_reg f s
       (found c w.now (record { seat = Caller k; step = Step.Reg }))).flight.op) at ∙ (grind arith))
 
@@ -164,8 +161,7 @@ freer_has_free c w seat x4 h = grind (arith, freed_cell)
 decided_gives : (c : Config) (w : World) (k : ℕ) (x : Step) → k < length w.now.seats.flights
     → decides_freed c w.now (flight_of w.now (Caller k)) x ≡ true → HasOpen (WorldBehind c w (Caller k) x) k → ⊥
 decided_gives c w k (Step.Quar p v) within h waits =
-    by (cell_freed c.pages w.now.words (flight_of w.now (Caller k)) p v) h
-    (ap (λ (g : Flight). is_open_free g) (sym (get_or-set_same w.now.seats.flights k _ at_rest within)) ∙ waits)
+    by _ h (ap (λ (g : Flight). is_open_free g) (sym (get_or-set_same w.now.seats.flights k _ at_rest within)) ∙ waits)
   where
     by : (cell : Option Cell) → is_some cell ≡ true
         → is_open_free (progress_freed (flight_of w.now (Caller k)) cell).flight ≡ true → ⊥
@@ -192,8 +188,7 @@ gives_off {c} w (Caller j) x k known lt waits =
     by : (j : ℕ) (x : Step) → k ≡ j → is_give x ≡ true → HasOpen (WorldBehind c w (Caller j) x) k → ⊥
     by j Step.Give own is waits =
         let rests = get_or-set_same w.now.seats.flights k at_rest at_rest (omega (arith, known.orderly.flights)) in
-        let mine : HasOpen (WorldBehind c w (Caller k) Step.Give) k = grind arith in
-        true≢false (sym mine ∙ ap (λ (g : Flight). is_open_free g) rests)
+        true≢false (sym (grind arith) ∙ ap (λ (g : Flight). is_open_free g) rests)
     by j _ own is waits = cc
 gives_off w _ x k known lt waits = refl
 

@@ -1,5 +1,5 @@
 -- What was freed since the last `begin` is a quarter, unless a free that is due waits for its `begin`.
-use Rattle.mk_alloc.proofs.Vocabulary.{FreesFirst, IsDue, IsDueIn, within_turn}
+use Rattle.mk_alloc.proofs.Vocabulary.{FreesFirst, IsDue, IsDueIn}
 use Rattle.mk_quarantine.proofs.Vocabulary.{Bool, Config, Event, InFirst, InSecond, IsHistory, KeptByEvents, Lacks}
 use Rattle.mk_quarantine.proofs.Vocabulary.{List, OfHistories, PlacedAllocation, Step, World, ℕ, ap, append_assoc}
 use Rattle.mk_quarantine.proofs.Vocabulary.{arith, cases_Bool, cases_lt, decides_freed, false, flight_of}
@@ -48,13 +48,12 @@ to_longer c es e quarter = grind (arith, given_more, left_more)
 
 quarters_kept : KeptByEvents Quarters
 unfolding Quarters
-quarters_kept c es e h (inl quarter) = elim
-    (cases_Bool (decides_freed c (left c es).now (flight_of (left c es).now e.seat) e.step)) [
-      | inl frees ↦
-          ⊎_elim (λ (now : IsQuarter c (world_behind c (left c es) e) 0). inl (to_longer c es e (omega arith)))
-          (λ (p : IsPending c (es ++ e ∷ [])). inr p) (freed_or_due c es e frees)
-      | inr none ↦ inl (to_longer c es e (quarter_stays c (left c es) e.seat e.step (given_back c es) none quarter))
-    ]
+quarters_kept c es e h (inl quarter) = elim (cases_Bool _) [
+  | inl frees ↦
+      ⊎_elim (λ (now : IsQuarter c (world_behind c (left c es) e) 0). inl (to_longer c es e (omega arith)))
+      (λ (p : IsPending c (es ++ e ∷ [])). inr p) (freed_or_due c es e frees)
+  | inr none ↦ inl (to_longer c es e (quarter_stays c (left c es) e.seat e.step (given_back c es) none quarter))
+]
 quarters_kept c es e h (inr p) = elim (cases_Bool (is_begin e.step)) [
   | inl begins ↦
       let stale = none_fresh_begun c (left c es) e.seat e.step begins in
@@ -87,11 +86,9 @@ module _ {on : Bool} {c : Config} {before : List Event} {e : Event} {behind : Li
           let start : List Event = f.turn.before ++ taken f.turn ∷ [] in
           let off = frees_none_at c (left c start) first.due.before first.due.event s.behind
           (subst (λ (l : List Event). FreesNoneFrom c (left c start) l) s.is f.none) in
-          let same : left_from c (left c start) first.due.before ≡ left c (within_turn f.turn first.due.before) =
-          sym (left_in_parts c start first.due.before)
-          ∙ ap (λ (l : List Event). left c l) (append_assoc f.turn.before (taken f.turn ∷ []) first.due.before) in
-          true≢false (sym first.due.due.decides ∙ ap (λ (w : World). decides_freed c w.now
-          (flight_of w.now first.due.event.seat) first.due.event.step) (sym same) ∙ off)
+          true≢false (sym first.due.due.decides ∙ ap (λ (w : World). decides_freed c w.now (flight_of w.now
+          first.due.event.seat) first.due.event.step) (sym (sym (left_in_parts c start first.due.before) ∙ ap
+          (λ (l : List Event). left c l) (append_assoc f.turn.before (taken f.turn ∷ []) first.due.before))) ∙ off)
 
 pub begin_is_of_cycle : (x : Step) → is_begin x ≡ true → is_of_cycle x ≡ true
 begin_is_of_cycle x1 is = grind arith
@@ -108,12 +105,11 @@ none_pending on {c = c} {es = es} h exact free p =
       is = f.parts;
       due = subst (λ (l : List Event). IsDue c l p.event) f.first p.due;
     } in
-    let later = cycles_later f due in
     let b = f.exact.begins.1 due in
     let none : Lacks is_begin f.more =
     lacks_first is_begin f.more f.rest (ap (λ (l : List Event). has_step is_begin l) (sym f.is) ∙ p.none) in
-    ⊎_elim (λ (s : InFirst f.done b.before b.event). lacks_at is_of_cycle f.done b.before b.event s.behind later s.is
-    (begin_is_of_cycle b.event.step b.of_kind))
+    ⊎_elim (λ (s : InFirst f.done b.before b.event). lacks_at is_of_cycle f.done b.before b.event s.behind
+    (cycles_later f due) s.is (begin_is_of_cycle b.event.step b.of_kind))
     (λ (s : InSecond f.done (p.event ∷ f.more) b.before b.event b.behind). by b.event b.behind b.of_kind f.more none
     s.rest s.is) (stands f.done (p.event ∷ f.more) b.before b.event b.behind (sym f.parts ∙ b.is))
   where

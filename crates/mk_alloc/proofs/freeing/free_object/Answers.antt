@@ -1,5 +1,4 @@
-use Rattle.mk_alloc.proofs.Vocabulary.{CallerState, EachIsBegun, FreesObject, IsAnsweredDouble, Op, PassState}
-use Rattle.mk_alloc.proofs.Vocabulary.{SweepsNothing, ap, in_turn, refl, subst, sym, ◌∙◌}
+use Rattle.mk_alloc.proofs.Vocabulary.{CallerState, Op, PassState, ap, in_turn, refl, sym, ◌∙◌}
 use Rattle.mk_alloc.proofs.{CalledTurns.{Taken, taken_is, taken_turn, took_by}, FreedTurns.{Frees, Refuses}}
 use Rattle.mk_alloc.proofs.FreedTurns.{double_answered, freed, freed_object, given, given_double, unloaded}
 use Rattle.mk_alloc.proofs.UnsweptTurns.{freeing_then_begun, freeing_then_sweeps, loading_begun, loading_sweeps}
@@ -62,23 +61,20 @@ back-requires-clause-one_table g c =
 pub returns-in-Ok-clause-freed : goal.returns-in-Ok-clause-freed
 returns-in-Ok-clause-freed g c =
     let x = goal.at.returns-in-Ok-clause-freed g c in
-    let p : PassState = c.args.caller.now.pass in
-    subst (λ (x : CallerState). FreesObject g.E.Engine.on p c.args.p c.in-Ok.freed.due x.pass) (sym c.back.ensures)
-    (freed_object (frees g x.After-is_in_order-in-Ok (took g x.After-take-turn)) c.give.ensures.gives
+    rw c.back.ensures (freed_object (frees g x.After-is_in_order-in-Ok (took g x.After-take-turn)) c.give.ensures.gives
     c.give.ensures.rests)
 
 pub returns-in-Ok-clause-reached : goal.returns-in-Ok-clause-reached
 returns-in-Ok-clause-reached g c =
     let x = goal.at.returns-in-Ok-clause-reached g c in
-    λ none. subst (λ (x : CallerState). SweepsNothing c.args.caller.now.pass x.pass) (sym c.back.ensures) (turn_sweeps
+    λ none. rw c.back.ensures (turn_sweeps
     (given (frees g x.After-is_in_order-in-Ok (took g x.After-take-turn)) c.give.ensures.gives c.give.ensures.rests)
     (freeing_then_sweeps c.in-Ok.ensures.freed.decides (c.run_if_due-turn.ensures.reached none)))
 
 pub returns-in-Ok-clause-begun : goal.returns-in-Ok-clause-begun
 returns-in-Ok-clause-begun g c =
     let x = goal.at.returns-in-Ok-clause-begun g c in
-    let begins = g.E.Engine.begins in
-    subst (λ (x : CallerState). EachIsBegun begins c.args.caller.now.pass x.pass) (sym c.back.ensures) (turn_begun
+    rw c.back.ensures (turn_begun
     (given (frees g x.After-is_in_order-in-Ok (took g x.After-take-turn)) c.give.ensures.gives c.give.ensures.rests)
     (freeing_then_begun c.in-Ok.ensures.freed.decides c.run_if_due-turn.ensures.begun))
 
@@ -90,22 +86,17 @@ refuses g c finds = record { took = took g c; begins = c.take-turn.ensures.begin
 pub returns-in-Err-clause-double : goal.returns-in-Err-clause-double
 returns-in-Err-clause-double g c =
     let x = goal.at.returns-in-Err-clause-double g c in
-    let p : PassState = c.args.caller.now.pass in
-    subst (λ (x : CallerState). IsAnsweredDouble g.E.Engine.on p c.args.p x.pass) (sym c.back-in-Err.ensures)
-    (double_answered g.E.Engine.on (refuses g x.After-take-turn c.in-Err.ensures.double) c.give-in-Err.ensures.gives
-    c.give-in-Err.ensures.rests)
+    rw c.back-in-Err.ensures (double_answered g.E.Engine.on
+    (refuses g x.After-take-turn c.in-Err.ensures.double) c.give-in-Err.ensures.gives c.give-in-Err.ensures.rests)
 
 pub returns-in-Err-clause-reached : goal.returns-in-Err-clause-reached
 returns-in-Err-clause-reached g c =
     let x = goal.at.returns-in-Err-clause-reached g c in
-    λ none. subst (λ (x : CallerState). SweepsNothing c.args.caller.now.pass x.pass) (sym c.back-in-Err.ensures)
-    (turn_sweeps (given_double (refuses g x.After-take-turn c.in-Err.ensures.double) c.give-in-Err.ensures.gives
-    c.give-in-Err.ensures.rests) (loading_sweeps c.in-Err.ensures.double.decides))
+    λ none. rw c.back-in-Err.ensures (turn_sweeps (given_double (refuses g x.After-take-turn c.in-Err.ensures.double)
+    c.give-in-Err.ensures.gives c.give-in-Err.ensures.rests) (loading_sweeps c.in-Err.ensures.double.decides))
 
 pub returns-in-Err-clause-begun : goal.returns-in-Err-clause-begun
 returns-in-Err-clause-begun g c =
     let x = goal.at.returns-in-Err-clause-begun g c in
-    let begins = g.E.Engine.begins in
-    subst (λ (x : CallerState). EachIsBegun begins c.args.caller.now.pass x.pass) (sym c.back-in-Err.ensures)
-    (turn_begun (given_double (refuses g x.After-take-turn c.in-Err.ensures.double) c.give-in-Err.ensures.gives
-    c.give-in-Err.ensures.rests) (loading_begun c.in-Err.ensures.double.decides))
+    rw c.back-in-Err.ensures (turn_begun (given_double (refuses g x.After-take-turn c.in-Err.ensures.double)
+    c.give-in-Err.ensures.gives c.give-in-Err.ensures.rests) (loading_begun c.in-Err.ensures.double.decides))

@@ -1,14 +1,12 @@
-use Rattle.std.proofs.Common.{IfSome}
-use Rattle.mk_alloc.proofs.Vocabulary.{Answer, Bool, CalledInTurn, CallerState, EachIsBegun, Flight, IsAnsweredFull}
-use Rattle.mk_alloc.proofs.Vocabulary.{Misfits, Op, Option, PassState, SweepsNothing, ℕ, ap, arith, false, refl, subst}
-use Rattle.mk_alloc.proofs.{Vocabulary.{sym, ◌≡◌}, NewTurns.{NewGiven, begun_quiet, begun_unplaced, census_told, given}}
+use Rattle.mk_alloc.proofs.Vocabulary.{Answer, Bool, EachIsBegun, Flight, IsAnsweredFull, Misfits, Op, PassState}
+use Rattle.mk_alloc.proofs.{Vocabulary.{SweepsNothing, ℕ, ap, arith, false, refl, ◌≡◌}, CalledTurns.{Taken, taken_turn}}
+use Rattle.mk_alloc.proofs.{CalledTurns.took_by, NewTurns.{NewGiven, begun_quiet, begun_unplaced, census_told, given}}
 use Rattle.mk_alloc.proofs.NewTurns.{is_answered_full, last_turn, new_called}
 use Rattle.mk_alloc.proofs.SeekingTurns.{misfit_seeks, misfits_then, seeks_then}
 use Rattle.mk_alloc.proofs.UnsweptTurns.{none_begun, part_then_begun, part_then_sweeps, turn_begun, turn_sweeps}
 use Rattle.mk_alloc.proofs.making.new_object.Goals.{After-give, After-give-2, After-take-turn}
-use Rattle.mk_alloc.proofs.{CalledTurns.{Taken, taken_turn, took_by}, OneCycles.{none_runs_one, none_then_one}}
+use Rattle.mk_alloc.{proofs.OneCycles.{none_runs_one, none_then_one}, specs.Rooms.{CountsFull, SeeksRoom, answer_with}}
 use Rattle.mk_geom.specs.declared.pages.Census.{Census}
-use Rattle.mk_alloc.specs.Rooms.{CountsFull, SeeksRoom, answer_with}
 use Rattle.mk_alloc.proofs.making.new_object.Goals as goal
 
 -- the turn of the call, as it was taken
@@ -51,22 +49,19 @@ at_once g c took = record {
 pub returns-then-try_place-clause-made : goal.returns-then-try_place-clause-made
 returns-then-try_place-clause-made g c =
     let x = goal.at.returns-then-try_place-clause-made g c in
-    let o = Op.New c.args.d c.args.ty false in
-    subst (λ (x : CallerState). CalledInTurn g.E.Engine.on c.args.caller.now.pass o Answer.Done x.pass)
-    (sym c.back.ensures) (new_called (at_once g x.After-give (took g x.After-take-turn)) g.E.Engine.on)
+    rw c.back.ensures (new_called (at_once g x.After-give (took g x.After-take-turn)) g.E.Engine.on)
 
 pub returns-then-try_place-clause-reached : goal.returns-then-try_place-clause-reached
 returns-then-try_place-clause-reached g c =
     let x = goal.at.returns-then-try_place-clause-reached g c in
-    λ none. subst (λ (x : CallerState). SweepsNothing c.args.caller.now.pass x.pass) (sym c.back.ensures)
-    (turn_sweeps (given (at_once g x.After-give (took g x.After-take-turn))) c.try_place.ensures.reached)
+    λ none. rw c.back.ensures (turn_sweeps (given (at_once g x.After-give (took g x.After-take-turn)))
+    c.try_place.ensures.reached)
 
 pub returns-then-try_place-clause-begun : goal.returns-then-try_place-clause-begun
 returns-then-try_place-clause-begun g c =
     let x = goal.at.returns-then-try_place-clause-begun g c in
-    let begins = g.E.Engine.begins in
-    subst (λ (x : CallerState). EachIsBegun begins c.args.caller.now.pass x.pass) (sym c.back.ensures)
-    (turn_begun (given (at_once g x.After-give (took g x.After-take-turn))) (none_begun c.try_place.ensures.begins))
+    rw c.back.ensures (turn_begun (given (at_once g x.After-give (took g x.After-take-turn))) (none_begun
+    c.try_place.ensures.begins))
 
 -- or it isn't, and room is made, or the answer is Full.
 later : (g : _) (c : After-give-2 g) → Taken (Op.New c.args.d c.args.ty false) c.args.caller.now.pass
@@ -100,33 +95,28 @@ returns-in-None-clause-made g c =
     let x = goal.at.returns-in-None-clause-made g c in
     let o = Op.New c.args.d c.args.ty false in
     let p : PassState = c.args.caller.now.pass in
-    subst (λ (x : CallerState). CalledInTurn g.E.Engine.on p o Answer.Done x.pass) (sym c.back-2.ensures)
-    (subst (λ (r : Option Census). CalledInTurn g.E.Engine.on p o (answer_with r) c.give-2.result) c.in-None.is
-    (new_called (later g x.After-give-2 (took g x.After-take-turn)) g.E.Engine.on))
+    rw c.back-2.ensures (rw c.in-None.is at (new_called (later g x.After-give-2 (took g x.After-take-turn))
+    g.E.Engine.on))
 
 pub returns-in-None-clause-reached : goal.returns-in-None-clause-reached
 returns-in-None-clause-reached g c =
     let x = goal.at.returns-in-None-clause-reached g c in
-    λ none. subst (λ (x : CallerState). SweepsNothing c.args.caller.now.pass x.pass) (sym c.back-2.ensures)
-    (later_sweeps g x.After-give-2 (took g x.After-take-turn) none)
+    λ none. rw c.back-2.ensures (later_sweeps g x.After-give-2 (took g x.After-take-turn) none)
 
 pub returns-in-None-clause-begun : goal.returns-in-None-clause-begun
 returns-in-None-clause-begun g c =
     let x = goal.at.returns-in-None-clause-begun g c in
-    subst (λ (x : CallerState). EachIsBegun g.E.Engine.begins c.args.caller.now.pass x.pass) (sym c.back-2.ensures)
-    (later_begun g x.After-give-2 (took g x.After-take-turn))
+    rw c.back-2.ensures (later_begun g x.After-give-2 (took g x.After-take-turn))
 
 pub returns-in-Some-clause-reached : goal.returns-in-Some-clause-reached
 returns-in-Some-clause-reached g c =
     let x = goal.at.returns-in-Some-clause-reached g c in
-    λ none. subst (λ (x : CallerState). SweepsNothing c.args.caller.now.pass x.pass) (sym c.back-2.ensures)
-    (later_sweeps g x.After-give-2 (took g x.After-take-turn) none)
+    λ none. rw c.back-2.ensures (later_sweeps g x.After-give-2 (took g x.After-take-turn) none)
 
 pub returns-in-Some-clause-begun : goal.returns-in-Some-clause-begun
 returns-in-Some-clause-begun g c =
     let x = goal.at.returns-in-Some-clause-begun g c in
-    subst (λ (x : CallerState). EachIsBegun g.E.Engine.begins c.args.caller.now.pass x.pass) (sym c.back-2.ensures)
-    (later_begun g x.After-give-2 (took g x.After-take-turn))
+    rw c.back-2.ensures (later_begun g x.After-give-2 (took g x.After-take-turn))
 
 -- With Full come the counts of the pages where it misfits at last.
 full_is : {on : Bool} {d ty : ℕ} {p taken tried done q : PassState} {census : Census}
@@ -140,15 +130,11 @@ full_is {on = on} {taken = taken} {tried = tried} m first full =
 pub returns-in-Some-clause-full : goal.returns-in-Some-clause-full
 returns-in-Some-clause-full g c =
     let x = goal.at.returns-in-Some-clause-full g c in
-    let o = Op.New c.args.d c.args.ty false in
     let p : PassState = c.args.caller.now.pass in
     let taken : PassState = c.take-turn.result.pass in
     let tried : PassState = c.try_place.new.turn.pass in
     let done : PassState = c.make_room_or_count-turn.result.0.pass in
     let q : PassState = c.give-2.result in
-    let m = subst (λ (r : Option Census). NewGiven c.args.d c.args.ty (answer_with r) p taken done q) c.in-Some.is
-    (later g x.After-give-2 (took g x.After-take-turn)) in
-    let full = subst (λ (r : Option Census). IfSome r (CountsFull tried done)) c.in-Some.is
-    c.make_room_or_count-turn.ensures.full in
-    subst (λ (x : CallerState). IsAnsweredFull g.E.Engine.on p o c.in-Some.census x.pass) (sym c.back-2.ensures)
-    (full_is {on = g.E.Engine.on} m (c.try_place.ensures.misfits c.if-try_place.false) full)
+    let m = rw c.in-Some.is at (later g x.After-give-2 (took g x.After-take-turn)) in
+    let full = rw c.in-Some.is at c.make_room_or_count-turn.ensures.full in
+    rw c.back-2.ensures (full_is {on = g.E.Engine.on} m (c.try_place.ensures.misfits c.if-try_place.false) full)

@@ -8,8 +8,6 @@ take_turn-turn-requires-clause-enabled g c =
 
 pub returns-clause-begins : goal.returns-clause-begins
 returns-clause-begins g c =
-    let p : PassState = c.args.home in
-    let q : PassState = c.take_turn-turn.result.pass in
     let e = c.take_turn-turn.ensures in
     record {
       fresh = e.fresh;

@@ -1,16 +1,14 @@
-use Rattle.mk_alloc.proofs.Vocabulary.{CalledInTurn, CallerState, IsEnabledTo, PassState, Seeks, in_turn}
+use Rattle.mk_alloc.proofs.Vocabulary.{CalledInTurn, IsEnabledTo, PassState, Seeks, in_turn}
 use Rattle.mk_alloc.{proofs.NewTurns.{begun_quiet, begun_unplaced, new_called}, proofs.SeekingTurns.{seeks_placed}}
 use Rattle.mk_alloc.proofs.{OneCycles.{none_runs_one, placed_begins_none}, CalledTurns.taken_turn, Going.give_allowed}
 use Rattle.mk_laws.proofs.Vocabulary.{Answer, Bool, Flight, Op, Some, Step, ap, d_of, false, refl, subst, sym, true}
-use Rattle.mk_alloc_clients.{proofs.OnePage.{TakenNew, made_owns, may_take, taken_new}, specs.Owned.{HasNumber}}
+use Rattle.mk_alloc_clients.proofs.OnePage.{TakenNew, made_owns, may_take, taken_new}
 use Rattle.mk_alloc_clients.proofs.making.make_number.Goals.{After-give-home, After-is_in_order}
 use Rattle.mk_alloc_clients.proofs.making.make_number.Goals.{After-is_in_order-in-Ok}
-use Rattle.mk_words.specs.Steps.{Finds}
 use Rattle.mk_alloc_clients.proofs.making.make_number.Goals as goal
 
 pub try_take-requires-clause-enabled : goal.try_take-requires-clause-enabled
 try_take-requires-clause-enabled c =
-    let p : PassState = c.args.caller.now.pass in
     subst (λ (x : PassState). IsEnabledTo x (Step.Take (Some (Op.New c.args.d c.args.ty false)))) (sym
     c.lend-home.ensures.pass) (may_take c.args.d _ c.is_idle.ensures.idle c.requires.suits.exists
     c.requires.suits.register c.requires.suits.number)
@@ -18,17 +16,14 @@ try_take-requires-clause-enabled c =
 -- the turn, as it was taken
 taken : (c : After-is_in_order) → TakenNew c.args.caller.now.pass c.args.d c.args.ty c.in-Ok.turn.pass
 taken c =
-    let p : PassState = c.args.caller.now.pass in
     let e = c.in-Ok.ensures in
     let i = c.is_in_order.ensures in
     taken_new c.args.d _ c.is_idle.ensures.idle c.requires.suits.exists c.requires.suits.alone
-    (subst (λ (x : PassState). Finds x (Step.Take (Some (Op.New c.args.d c.args.ty false))) 0 c.in-Ok.turn.pass)
-    c.lend-home.ensures.pass e.made) e.fresh e.exact e.tidy i.before_over
+    (rw c.lend-home.ensures.pass at e.made) e.fresh e.exact e.tidy i.before_over
 
 pub place_number-requires-clause-unplaced : goal.place_number-requires-clause-unplaced
 place_number-requires-clause-unplaced c =
-    let x = goal.at.place_number-requires-clause-unplaced c in
-    begun_unplaced (taken x.After-is_in_order).begins
+    begun_unplaced (taken (goal.at.place_number-requires-clause-unplaced c).After-is_in_order).begins
 
 pub place_number-requires-clause-register : goal.place_number-requires-clause-register
 place_number-requires-clause-register c = sym (ap (λ (f : Flight). d_of f.op) (c.in-Ok.ensures.fresh).call)
@@ -37,7 +32,6 @@ place_number-requires-clause-register c = sym (ap (λ (f : Flight). d_of f.op) (
 seeks : (c : After-is_in_order-in-Ok) → TakenNew c.args.caller.now.pass c.args.d c.args.ty c.in-Ok.turn.pass
     → Seeks (Some Answer.Done) c.in-Ok.turn.pass c.place_number.new.turn.pass
 seeks c t =
-    let taken : PassState = c.in-Ok.turn.pass in
     seeks_placed (taken_turn t.took) (begun_unplaced t.begins) (begun_quiet t.begins)
     (c.place_number.ensures.placed c.if-not-place_number.false) c.is_in_order-in-Ok.ensures.history
 
@@ -45,9 +39,8 @@ pub give-home-requires-clause-enabled : goal.give-home-requires-clause-enabled
 give-home-requires-clause-enabled c =
     let x = goal.at.give-home-requires-clause-enabled c in
     let k = c.is_in_order-in-Ok.ensures in
-    let done : PassState = c.place_number.new.turn.pass in
     let on = (seeks x.After-is_in_order-in-Ok (taken x.After-is_in_order)).on in
-    give_allowed (in_turn done k.own k.turn k.history) on.quiet (on.decided refl)
+    give_allowed (in_turn c.place_number.new.turn.pass k.own k.turn k.history) on.quiet (on.decided refl)
 
 pub give-home-requires-clause-tidy : goal.give-home-requires-clause-tidy
 give-home-requires-clause-tidy c =
@@ -58,8 +51,6 @@ called : (c : After-give-home) → TakenNew c.args.caller.now.pass c.args.d c.ar
     → Seeks (Some Answer.Done) c.in-Ok.turn.pass c.place_number.new.turn.pass → (on : Bool)
     → CalledInTurn on c.args.caller.now.pass (Op.New c.args.d c.args.ty false) Answer.Done c.give-home.result
 called c t seeks on =
-    let taken : PassState = c.in-Ok.turn.pass in
-    let done : PassState = c.place_number.new.turn.pass in
     new_called (record {
       took = t.took;
       begins = t.begins;
@@ -73,15 +64,12 @@ called c t seeks on =
 pub returns-else-not-place_number-clause-made : goal.returns-else-not-place_number-clause-made
 returns-else-not-place_number-clause-made c =
     let x = goal.at.returns-else-not-place_number-clause-made c in
-    let o = Op.New c.args.d c.args.ty false in
     let t = taken x.After-is_in_order in
-    λ on. subst (λ (x : CallerState). CalledInTurn on c.args.caller.now.pass o Answer.Done x.pass)
-    (sym c.back-in-Ok.ensures) (called x.After-give-home t (seeks x.After-is_in_order-in-Ok t) on)
+    λ on. rw c.back-in-Ok.ensures (called x.After-give-home t (seeks x.After-is_in_order-in-Ok t) on)
 
 pub returns-else-not-place_number-clause-owned : goal.returns-else-not-place_number-clause-owned
 returns-else-not-place_number-clause-owned c =
     let x = goal.at.returns-else-not-place_number-clause-owned c in
     let t = taken x.After-is_in_order in
-    subst (λ (x : CallerState). HasNumber x.pass c.args.d 0) (sym c.back-in-Ok.ensures)
-    (made_owns c.args.d c.args.ty (called x.After-give-home t (seeks x.After-is_in_order-in-Ok t) true)
-    c.give-home.ensures.acts.makes.pass.history c.requires.suits.number)
+    rw c.back-in-Ok.ensures (made_owns c.args.d c.args.ty (called x.After-give-home t
+    (seeks x.After-is_in_order-in-Ok t) true) c.give-home.ensures.acts.makes.pass.history c.requires.suits.number)

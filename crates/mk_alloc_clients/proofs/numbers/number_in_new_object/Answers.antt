@@ -7,7 +7,6 @@ pub returns-in-Ok-store_and_load-clause-did : goal.returns-in-Ok-store_and_load-
 returns-in-Ok-store_and_load-clause-did c =
     let p : PassState = c.args.caller.now.pass in
     let b : PassState = c.make_number.new.caller.pass in
-    let q : PassState = c.store_and_load.new.caller.pass in
     let called = c.in-Ok.ensures.made true in
     done_behind _ _ _ _ _ (entry_now p b called.more _ called.is called.entry) (c.in-Ok-store_and_load.ensures.did ∙ ap
     (λ k. own_calls b b.seen ++ store_then_load k c.args.d c.args.n) (ap (λ (r : PassState). caller_of_pass r)

@@ -1,4 +1,3 @@
-use Rattle.mk_alloc.proofs.Vocabulary.{PassState}
 use Rattle.mk_alloc_clients.proofs.OwnedCalls.{both_done, loads_stored}
 use Rattle.mk_alloc_clients.proofs.numbers.store_and_load.Goals as goal
 
@@ -7,6 +6,5 @@ returns-clause-loaded c = loads_stored c.load.result c.in_ok-store.ensures.store
 
 pub returns-clause-did : goal.returns-clause-did
 returns-clause-did c =
-    let b : PassState = c.store.new.caller.pass in
     both_done c.load.new.caller.pass c.load.result c.in_ok-store.ensures.called
     (loads_stored c.load.result c.in_ok-store.ensures.stored c.load.ensures.loaded) c.load.ensures.called

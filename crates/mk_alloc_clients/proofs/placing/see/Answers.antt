@@ -28,9 +28,8 @@ returns-clause-page c =
 
 pub returns-clause-held : goal.returns-clause-held
 returns-clause-held c =
-    let p : PassState = c.args.turn.now.pass in
     let e : PassState = c.is_marking-marking.new.turn.pass in
-    c.look_at-held.ensures.finds ∙ held_kept p e (looks_joined c.look_at-held.ensures.looks
+    c.look_at-held.ensures.finds ∙ held_kept c.args.turn.now.pass e (looks_joined c.look_at-held.ensures.looks
     c.is_marking-marking.ensures.looks)
 
 pub returns-clause-marking : goal.returns-clause-marking

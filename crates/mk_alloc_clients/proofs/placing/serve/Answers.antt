@@ -1,77 +1,58 @@
-use Rattle.mk_laws.proofs.Vocabulary.{Object, ap, arith, sym, words_made, words_within, ◌∙◌, ◌≡◌}
-use Rattle.mk_alloc.proofs.Vocabulary.{PassState, object_for}
-use Rattle.mk_alloc_clients.proofs.placing.serve.Goals.{After-grant, After-is_in_order, After-used}
-use Rattle.mk_objects.proofs.Takes.{HasGranted, HasTaken, counted, counted_held, few_held, grant_address, grant_admits}
-use Rattle.mk_objects.proofs.Takes.{grant_may, grant_on, grant_register, one_bit_more, small_index, tally_may, tally_on}
-use Rattle.mk_objects.proofs.{Takes.{used_may, used_on}, Serves.{KnowsPlace, knows_place, place_unused}}
+use Rattle.mk_laws.proofs.Vocabulary.{Object, ap, arith, sym, words_made, words_within, ◌∙◌}
+use Rattle.mk_objects.proofs.Takes.{counted, counted_held, few_held, grant_address, grant_admits, grant_may, grant_on}
+use Rattle.mk_objects.proofs.Takes.{grant_register, one_bit_more, served, small_index, tally_may, used_may, used_on}
+use Rattle.mk_objects.proofs.Serves.{knows_place, place_unused}
 use Rattle.mk_alloc_clients.proofs.placing.serve.Goals as goal
 
--- what is known of the place
-knows : (c : After-is_in_order) → KnowsPlace c.args.turn.now.pass c.args.place
-knows c = knows_place c.is_in_order.ensures.turn c.is_in_order.ensures.history c.requires.goes
-
--- its cell is taken
-taken : (c : After-used) (k : KnowsPlace c.args.turn.now.pass c.args.place)
-    → HasTaken c.requires.goes k c.used.new.self.pass
-taken c k = used_on c.requires.goes k c.make_ready.ensures c.used.ensures
-
--- and the object is granted
-granted : (c : After-grant) (k : KnowsPlace c.args.turn.now.pass c.args.place)
-    → HasTaken c.requires.goes k c.used.new.self.pass → HasGranted c.requires.goes k c.grant.new.self.pass
-granted c k taken = grant_on c.requires.goes k taken c.grant.ensures c.is_in_order.ensures.history
-
 pub overflow_shl-place : goal.overflow_shl-place
-overflow_shl-place c = small_index (knows (goal.at.overflow_shl-place c).After-is_in_order)
+overflow_shl-place c =
+    small_index (knows_place c.is_in_order.ensures.turn c.is_in_order.ensures.history c.requires.goes)
 
 pub used-requires-clause-enabled : goal.used-requires-clause-enabled
-used-requires-clause-enabled c = grind (arith, knows, place_unused, one_bit_more, small_index, used_may)
+used-requires-clause-enabled c = grind (arith, knows_place, place_unused, one_bit_more, small_index, used_may)
 
 pub grant-requires-clause-enabled : goal.grant-requires-clause-enabled
-grant-requires-clause-enabled c = grind (arith, knows, grant_may, taken)
+grant-requires-clause-enabled c = grind (arith, knows_place, grant_may, used_on)
 
 pub grant-requires-clause-admitted : goal.grant-requires-clause-admitted
 grant-requires-clause-admitted c =
-    let x = goal.at.grant-requires-clause-admitted c in
-    let k = knows x.After-is_in_order in
-    grant_admits c.requires.goes k
-    (taken x.After-used k) c.used.ensures.makes.pass.history c.is_in_order.ensures.history
+    let k = knows_place c.is_in_order.ensures.turn c.is_in_order.ensures.history c.requires.goes in
+    grant_admits k (used_on k c.make_ready.ensures c.used.ensures) c.used.ensures.makes.pass.history
 
 pub grant-requires-clause-register : goal.grant-requires-clause-register
-grant-requires-clause-register c = grind (arith, knows, grant_register, taken)
+grant-requires-clause-register c = grind (arith, knows_place, grant_register, used_on)
 
 pub grant-requires-clause-address : goal.grant-requires-clause-address
 grant-requires-clause-address c =
-    let x = goal.at.grant-requires-clause-address c in
-    let k = knows x.After-is_in_order in
-    cc (c.address.ensures, c.requires.number, grant_address c.requires.goes k (taken x.After-used k))
+    let k = knows_place c.is_in_order.ensures.turn c.is_in_order.ensures.history c.requires.goes in
+    cc (c.address.ensures, c.requires.number, grant_address k (used_on k c.make_ready.ensures c.used.ensures))
 
 pub address-requires-clause-page : goal.address-requires-clause-page
 address-requires-clause-page c =
-    let k = knows (goal.at.address-requires-clause-page c).After-is_in_order in
-    omega (arith, k.within, c.is_in_order.ensures.history.within_limits.pages.1)
+    let k = knows_place c.is_in_order.ensures.turn c.is_in_order.ensures.history c.requires.goes in
+    omega (arith, k.within, k.history.within_limits.pages.1)
 
 pub address-requires-clause-index : goal.address-requires-clause-index
-address-requires-clause-index c = small_index (knows (goal.at.address-requires-clause-index c).After-is_in_order)
+address-requires-clause-index c =
+    small_index (knows_place c.is_in_order.ensures.turn c.is_in_order.ensures.history c.requires.goes)
 
 pub overflow_add-seen : goal.overflow_add-seen
-overflow_add-seen c = grind (arith, knows, few_held, words_within)
+overflow_add-seen c = grind (arith, knows_place, few_held, words_within)
 
 pub tally-requires-clause-enabled : goal.tally-requires-clause-enabled
-tally-requires-clause-enabled c = grind (arith, knows, tally_may, granted, taken)
+tally-requires-clause-enabled c =
+    let k = knows_place c.is_in_order.ensures.turn c.is_in_order.ensures.history c.requires.goes in
+    tally_may k _ (grant_on k (used_on k c.make_ready.ensures c.used.ensures) c.grant.ensures)
 
 -- the last step, and the tally
+
 pub returns-clause-granted : goal.returns-clause-granted
 returns-clause-granted c =
-    let x = goal.at.returns-clause-granted c in
-    let k = knows x.After-is_in_order in
-    counted c.requires.goes k (tally_on c.requires.goes k (granted x.After-grant k (taken x.After-used k))
-    c.tally.ensures c.is_in_order.ensures.history)
+    let k = knows_place c.is_in_order.ensures.turn c.is_in_order.ensures.history c.requires.goes in
+    counted k (served k c.make_ready.ensures c.used.ensures c.grant.ensures c.tally.ensures)
 
 pub returns-clause-held : goal.returns-clause-held
 returns-clause-held c =
-    let x = goal.at.returns-clause-held c in
-    let p : PassState = c.args.turn.now.pass in
-    let k = knows x.After-is_in_order in
-    let size : 2 ≡ words_made (object_for p) = sym (ap (λ (o : Object). words_made o) c.requires.number) in
-    counted_held c.requires.goes k (c.requires.held ∙ c.requires.exact) size (tally_on c.requires.goes k
-    (granted x.After-grant k (taken x.After-used k)) c.tally.ensures c.is_in_order.ensures.history)
+    let k = knows_place c.is_in_order.ensures.turn c.is_in_order.ensures.history c.requires.goes in
+    counted_held k (c.requires.held ∙ c.requires.exact) (sym (ap (λ (o : Object). words_made o) c.requires.number))
+    (served k c.make_ready.ensures c.used.ensures c.grant.ensures c.tally.ensures)

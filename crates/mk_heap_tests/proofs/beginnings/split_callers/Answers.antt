@@ -1,6 +1,6 @@
 use Rattle.mk_laws.proofs.Vocabulary.{Caller, Config, ap, arith, length, refl, subst, sym, ◌<◌, ◌∙◌}
-use Rattle.mk_heap_tests.proofs.{Vocabulary.{Has, PassState}, JoinedHosts.{caller_is_home, first_split, still_unused}}
-use Rattle.mk_heap_tests.proofs.{JoinedHosts.unused, LateMarkers.host_after_splits}
+use Rattle.mk_heap_tests.proofs.JoinedHosts.{caller_is_home, first_split, still_unused, unused}
+use Rattle.mk_heap_tests.proofs.LateMarkers.{host_after_splits}
 use Rattle.mk_words.proofs.Seats.{without_keeps}
 use Rattle.mk_heap_tests.proofs.beginnings.split_callers.Goals as goal
 
@@ -10,8 +10,7 @@ split-first-requires-clause-here c =
 
 pub split-second-requires-clause-here : goal.split-second-requires-clause-here
 split-second-requires-clause-here c =
-    subst (λ (x : PassState). Has x.seats (Caller 1)) (sym c.split-first.ensures.pass)
-    (without_keeps (Caller 0) c.in_ok-words.host.seats (Caller 1) refl
+    rw c.split-first.ensures.pass (without_keeps (Caller 0) c.in_ok-words.host.seats (Caller 1) refl
     (caller_is_home c.args.config.now 1 (let two = c.requires.two in omega arith) c.in_ok-words.ensures.pass))
 
 pub returns-clause-host : goal.returns-clause-host

@@ -1,11 +1,9 @@
-use Rattle.mk_laws.proofs.Vocabulary.{subst, sym}
-use Rattle.mk_heap_tests.proofs.{Vocabulary.{CallerState, HoldsNull}, JoinedHosts.{holds_null, pass_after}}
+use Rattle.mk_heap_tests.proofs.JoinedHosts.{holds_null, pass_after}
 use Rattle.mk_heap_tests.proofs.callers.make_alone.Goals as goal
 
 pub make_rounds-fine-requires-clause-null : goal.make_rounds-fine-requires-clause-null
 make_rounds-fine-requires-clause-null c =
-    subst (λ (s : CallerState). HoldsNull s.pass) (sym c.new-caller.ensures)
-    (holds_null c.requires.pass c.requires.exists)
+    rw c.new-caller.ensures (holds_null c.requires.pass c.requires.exists)
 
 pub returns : goal.returns
 returns c =

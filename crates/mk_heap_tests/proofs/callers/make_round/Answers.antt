@@ -1,26 +1,35 @@
 use Rattle.mk_heap_tests.proofs.{Vocabulary.HoldsNull, NullCalls.{may_compare, may_load, may_move, may_read, may_store}}
-use Rattle.mk_heap_tests.proofs.NullCalls.{stays_compared, stays_loaded, stays_moved, stays_read_through, stays_stored}
-use Rattle.mk_heap_tests.{proofs.NullCalls.{stays_then}, specs.Passes.{StaysNull}}
+use Rattle.mk_heap_tests.proofs.NullCalls.{stays_answered, stays_done, stays_read, stays_said, stays_then}
 use Rattle.mk_heap_tests.proofs.callers.make_round.Goals.{After-get_global-loaded, After-move_ptr-moved}
 use Rattle.mk_heap_tests.proofs.callers.make_round.Goals.{After-same-same, After-set_global-stored}
+use Rattle.mk_laws.proofs.Vocabulary.{Answer, Op, arith}
+use Rattle.mk_heap_tests.specs.Passes.{StaysNull}
 use Rattle.mk_heap_tests.proofs.callers.make_round.Goals as goal
 
 -- The register is null after each call, as it was before.
 
 moved : (c : After-move_ptr-moved) → StaysNull c.args.caller.now.pass c.move_ptr-moved.new.self.pass
-moved c = let m = c.move_ptr-moved in stays_moved m.result m.ensures.called m.ensures.held c.requires.null
+moved c =
+    let m = c.move_ptr-moved in
+    stays_done _ (Op.Move 0 1) Answer.Done m.result m.ensures.called m.ensures.held (λ e. grind arith) c.requires.null
 
 stored : (c : After-set_global-stored) → HoldsNull c.move_ptr-moved.new.self.pass
     → StaysNull c.move_ptr-moved.new.self.pass c.set_global-stored.new.self.pass
-stored c = let s = c.set_global-stored in stays_stored s.result s.ensures.called s.ensures.held
+stored c =
+    let s = c.set_global-stored in
+    stays_done _ (Op.SetGlobal 0 1) Answer.Done s.result s.ensures.called s.ensures.held (λ e. grind arith)
 
 loaded : (c : After-get_global-loaded) → HoldsNull c.set_global-stored.new.self.pass
     → StaysNull c.set_global-stored.new.self.pass c.get_global-loaded.new.self.pass
-loaded c = let l = c.get_global-loaded in stays_loaded l.result l.ensures.called l.ensures.held
+loaded c =
+    let l = c.get_global-loaded in
+    stays_answered _ (Op.GetGlobal 2 0) l.result l.ensures.called l.ensures.held (λ e. grind arith)
 
 compared : (c : After-same-same) → HoldsNull c.get_global-loaded.new.self.pass
     → StaysNull c.get_global-loaded.new.self.pass c.same-same.new.self.pass
-compared c = let x = c.same-same in stays_compared x.result x.ensures.called x.ensures.held
+compared c =
+    let x = c.same-same in
+    stays_said _ (Op.Same 1 2) x.result x.ensures.called x.ensures.held (λ e. grind arith)
 
 pub move_ptr-moved-requires-clause-admitted : goal.move_ptr-moved-requires-clause-admitted
 move_ptr-moved-requires-clause-admitted c = may_move c.requires.null
@@ -56,4 +65,4 @@ returns-clause-stays c =
     let l = loaded x.After-get_global-loaded s.null in
     let e = compared x.After-same-same l.null in
     stays_then (stays_then (stays_then (stays_then m s) l) e)
-    (stays_read_through n.result n.ensures.called n.ensures.refused e.null)
+    (stays_read _ (Op.GetNum 1 0) n.result n.ensures.called n.ensures.refused (λ e. grind arith) e.null)

@@ -1,4 +1,4 @@
-use Rattle.mk_laws.proofs.Vocabulary.{Config, ap, subst, sym, ◌<◌}
+use Rattle.mk_laws.proofs.Vocabulary.{ap}
 use Rattle.mk_heap_tests.proofs.{Vocabulary.PassState, JoinedHosts.{caller_is_home, first_split, still_unused, unused}}
 use Rattle.mk_heap_tests.proofs.LateMarkers.{host_after_splits, marker_is_home, marker_is_outside, marker_split}
 use Rattle.mk_heap_tests.proofs.late_markers.split_for_one.Goals as goal
@@ -23,8 +23,8 @@ returns-clause-host c =
 
 pub returns-clause-caller : goal.returns-clause-caller
 returns-clause-caller c =
-    first_split 0 c.split-caller.result (unused c.in_ok-words.ensures.pass) (subst (λ (d : Config). 0 < d.callers)
-    (sym c.in_ok-words.ensures.config) c.requires.limits.callers.0) c.split-caller.ensures.made
+    first_split 0 c.split-caller.result (unused c.in_ok-words.ensures.pass) (rw (←
+    c.in_ok-words.ensures.config) at c.requires.limits.callers.0) c.split-caller.ensures.made
 
 pub returns-clause-marker : goal.returns-clause-marker
 returns-clause-marker c =

@@ -1,7 +1,6 @@
-use Rattle.mk_laws.proofs.Vocabulary.{Step, is_held, subst, sym, true, ◌∙◌, ◌≡◌}
-use Rattle.mk_heap_tests.proofs.Vocabulary.{IsEnabledTo, in_turn, now_of}
-use Rattle.mk_heap_tests.proofs.LateMarkers.{HasHeld, all_held, may_hold, may_want, on_ok, stop_table}
-use Rattle.mk_heap_tests.proofs.late_markers.want_close.Goals.{After-is_in_order-2}
+use Rattle.mk_laws.proofs.Vocabulary.{is_held, sym, true, ◌∙◌, ◌≡◌}
+use Rattle.mk_heap_tests.proofs.{Vocabulary.{in_turn, now_of}, LateMarkers.{HasHeld, all_held, may_hold, may_want}}
+use Rattle.mk_heap_tests.proofs.{LateMarkers.{on_ok, stop_table}, late_markers.want_close.Goals.After-is_in_order-2}
 use Rattle.mk_words.specs.States.{TurnState}
 use Rattle.mk_heap_tests.proofs.late_markers.want_close.Goals as goal
 
@@ -34,5 +33,4 @@ want-requires-clause-one_table c =
 
 pub want-requires-clause-enabled : goal.want-requires-clause-enabled
 want-requires-clause-enabled c =
-    subst (λ (s : TurnState). IsEnabledTo s.pass Step.Want) (sym c.stopped-stop.ensures)
-    (may_want (held (goal.at.want-requires-clause-enabled c).After-is_in_order-2))
+    rw c.stopped-stop.ensures (may_want (held (goal.at.want-requires-clause-enabled c).After-is_in_order-2))

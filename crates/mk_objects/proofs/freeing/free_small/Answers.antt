@@ -9,12 +9,10 @@ returns c =
     let q : PassState = c.quarantine.new.turn.pass in
     let found : c.look_at.result ≡ (now_of p).words.fresh =
     c.look_at.ensures.finds ∙ ap (λ (x : Steady). x.fresh) (freed_now c.quarantine.ensures.freed).steady in
-    let held : c.look_at-held.result ≡ (now_of c.look_at-held.new.turn.pass).words.held =
-    c.look_at-held.ensures.finds ∙ sym (ap (λ (x : Steady). x.held)
-    (looks_left c.set_tally.new.turn.pass c.look_at-held.new.turn.pass c.look_at-held.ensures.looks).steady) in
     frees_small p q c.look_at.new.turn.pass c.set_tally.new.turn.pass c.look_at-held.new.turn.pass c.args.register
     c.args.value c.args.cell _ c.requires.may c.is_in_order.ensures.history c.quarantine.ensures.freed
     c.look_at.ensures.looks c.set_tally.ensures c.look_at-held.ensures.looks c.requires.gates c.requires.small
     c.due.result c.quarantine.ensures.once c.is_in_order-2.ensures.turn.holds c.is_in_order-3.ensures.history found
-    (c.saturating_add-fresh.ensures ∙ ap (λ n. min (c.look_at.result + n) (2 ^ 64 - 1)) c.requires.size) held
-    c.look_at-held.type_inv c.due.ensures
+    (c.saturating_add-fresh.ensures ∙ ap (λ n. min (c.look_at.result + n) (2 ^ 64 - 1)) c.requires.size)
+    (c.look_at-held.ensures.finds ∙ sym (ap (λ (x : Steady). x.held) (looks_left c.set_tally.new.turn.pass
+    c.look_at-held.new.turn.pass c.look_at-held.ensures.looks).steady)) c.look_at-held.type_inv c.due.ensures

@@ -1,4 +1,4 @@
-use Rattle.mk_laws.proofs.Vocabulary.{Steady, ap, arith, or_right, subst, sym, ◌*◌, ◌+◌, ◌-◌, ◌<◌, ◌^◌, ◌∙◌, ◌≡◌, ◌≤◌}
+use Rattle.mk_laws.proofs.Vocabulary.{Steady, ap, arith, or_right, sym, ◌*◌, ◌+◌, ◌-◌, ◌<◌, ◌^◌, ◌∙◌, ◌≡◌}
 use Rattle.mk_objects.proofs.{Vocabulary.{PassState, now_of}, LargeFrees.{frees_large, held_then, run_is, run_mapped}}
 use Rattle.mk_objects.proofs.{ClearedRuns.stopped_by, JoinedLooks.looks_left, SmallFrees.freed_now}
 use Rattle.mk_objects.proofs.freeing.free_stopped.Goals as goal
@@ -12,8 +12,7 @@ clear_run-requires-clause-held c = grind (arith, freed_now)
 pub clear_run-requires-clause-within : goal.clear_run-requires-clause-within
 clear_run-requires-clause-within c =
     let run = run_is c.args.count c.requires.may c.is_in_order.ensures.history c.requires.run in
-    subst (λ (x : PassState). c.args.cell.page + c.args.count ≤ x.table.config.pages)
-    (sym c.quarantine.ensures.freed.same) run.within
+    rw c.quarantine.ensures.freed.same run.within
 
 pub clear_run-requires-clause-mapped : goal.clear_run-requires-clause-mapped
 clear_run-requires-clause-mapped c =

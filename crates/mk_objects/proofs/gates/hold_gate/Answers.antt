@@ -1,6 +1,6 @@
-use Rattle.mk_laws.proofs.Vocabulary.{false, is_held, is_number_of, refl, subst, ◌<◌, ◌∙◌, ◌≡◌}
+use Rattle.mk_laws.proofs.Vocabulary.{false, is_held, is_number_of, refl, ◌<◌, ◌∙◌, ◌≡◌}
 use Rattle.mk_objects.proofs.Vocabulary.{PassState, SetsGate, is_holding, now_of}
-use Rattle.mk_objects.proofs.SetGates.{one_acting, one_there, set_nothing, sets_again}
+use Rattle.mk_objects.proofs.{JoinedLooks.reached_there, SetGates.one_acting, SetGates.set_nothing, SetGates.sets_again}
 use Rattle.mk_objects.proofs.gates.hold_gate.Goals as goal
 
 pub trying-init : goal.trying-init
@@ -14,29 +14,28 @@ try_hold-requires-clause-acting g c = one_acting c.trying.invariant.sets c.requi
 
 pub try_hold-requires-clause-within : goal.try_hold-requires-clause-within
 try_hold-requires-clause-within g c =
-    one_there c.trying.invariant.sets (λ (x : PassState). c.args.caller < x.table.config.callers) c.requires.within
+    reached_there c.trying.invariant.sets (λ (x : PassState). c.args.caller < x.table.config.callers) c.requires.within
 
 pub try_hold-requires-clause-another : goal.try_hold-requires-clause-another
 try_hold-requires-clause-another g c =
-    one_there c.trying.invariant.sets (λ (x : PassState). is_number_of x.seat c.args.caller ≡ false) c.requires.another
+    reached_there c.trying.invariant.sets
+    (λ (x : PassState). is_number_of x.seat c.args.caller ≡ false) c.requires.another
 
 pub try_hold-requires-clause-open : goal.try_hold-requires-clause-open
 try_hold-requires-clause-open g c =
-    one_there c.trying.invariant.sets (λ (x : PassState). is_held (now_of x).words c.args.caller ≡ false)
+    reached_there c.trying.invariant.sets (λ (x : PassState). is_held (now_of x).words c.args.caller ≡ false)
     c.trying.invariant.sets.world.set
 
 pub returns-then-try_hold-clause-sets : goal.returns-then-try_hold-clause-sets
 returns-then-try_hold-clause-sets g c =
     let tried : SetsGate is_holding c.trying.turn.pass c.args.caller _ c.try_hold.new.turn.pass =
-    subst (λ b. SetsGate is_holding c.trying.turn.pass c.args.caller b c.try_hold.new.turn.pass) c.if-try_hold.true
-    c.try_hold.ensures.sets in
+    rw c.if-try_hold.true at c.try_hold.ensures.sets in
     sets_again c.trying.invariant.sets tried
 
 pub trying-preserved : goal.trying-preserved
 trying-preserved g c =
     let tried : SetsGate is_holding c.trying.turn.pass c.args.caller _ c.try_hold.new.turn.pass =
-    subst (λ b. SetsGate is_holding c.trying.turn.pass c.args.caller b c.try_hold.new.turn.pass) c.if-try_hold.false
-    c.try_hold.ensures.sets in
+    rw c.if-try_hold.false at c.try_hold.ensures.sets in
     record {
       sets = sets_again c.trying.invariant.sets tried;
       keeps = λ r lt. c.try_hold.ensures.keeps r lt ∙ c.trying.invariant.keeps r lt;

@@ -1,5 +1,5 @@
-use Rattle.mk_laws.proofs.Vocabulary.{Bool, Seat, ap, false, not, subst, sym, true, ◌∙◌, ◌≡◌}
-use Rattle.mk_objects.proofs.Vocabulary.{SetsGate, all_others, is_holding}
+use Rattle.mk_laws.proofs.Vocabulary.{Seat, ap, false, not, sym, true, ◌∙◌, ◌≡◌}
+use Rattle.mk_objects.proofs.Vocabulary.{all_others, is_holding}
 use Rattle.mk_objects.proofs.{SetGates.set_nothing, gates.hold_other.Goals.After-is_own}
 use Rattle.mk_objects.proofs.gates.hold_other.Goals as goal
 
@@ -9,8 +9,7 @@ others_gate g c = ap (λ (s : Seat). all_others s c.args.caller) (sym c.seat.ens
 
 pub returns-then-not-is_own-clause-sets : goal.returns-then-not-is_own-clause-sets
 returns-then-not-is_own-clause-sets g c =
-    subst (λ (b : Bool). SetsGate is_holding c.args.turn.now.pass c.args.caller b c.hold_gate.new.turn.pass)
-    (sym (others_gate g (goal.at.returns-then-not-is_own-clause-sets g c).After-is_own ∙ ap not c.if-not-is_own.true))
+    rw (others_gate g (goal.at.returns-then-not-is_own-clause-sets g c).After-is_own ∙ ap not c.if-not-is_own.true)
     c.hold_gate.ensures.sets
 
 pub returns-else-not-is_own-clause-sets : goal.returns-else-not-is_own-clause-sets

@@ -1,7 +1,7 @@
 use Rattle.mk_laws.proofs.Vocabulary.{arith, ◌+◌}
-use Rattle.mk_objects.proofs.Vocabulary.{PassState, is_settling}
-use Rattle.mk_objects.proofs.SetGates.{all_yet_held, caller_within, opened_next, opened_so_far, opens_none, set_acting}
-use Rattle.mk_objects.proofs.SetGates.{set_held, set_phase, set_seat, set_there, sets_more, sets_named}
+use Rattle.mk_objects.proofs.{Vocabulary.{PassState, is_settling}, SetGates.{all_yet_held, caller_within, opened_next}}
+use Rattle.mk_objects.proofs.SetGates.{opened_so_far, opens_none, set_acting, set_held, set_phase, set_seat, sets_more}
+use Rattle.mk_objects.proofs.{SetGates.sets_named, JoinedLooks.reached_there}
 use Rattle.mk_objects.proofs.gates.open_gates.Goals as goal
 
 pub loop-caller-init : goal.loop-caller-init
@@ -14,7 +14,7 @@ pub open_other-requires-clause-phase : goal.open_other-requires-clause-phase
 open_other-requires-clause-phase c = set_phase c.loop-caller.invariant.sets c.requires.phase
 
 pub open_other-requires-clause-within : goal.open_other-requires-clause-within
-open_other-requires-clause-within c = grind (arith, set_there, caller_within)
+open_other-requires-clause-within c = grind (arith, reached_there, caller_within)
 
 pub open_other-requires-clause-held : goal.open_other-requires-clause-held
 open_other-requires-clause-held c = grind (arith, set_held, caller_within, all_yet_held, set_seat)

@@ -1,6 +1,6 @@
 use Rattle.mk_laws.proofs.Vocabulary.{ap, false, is_number_of, is_run_gone, not, true, ◌∙◌, ◌≡◌}
-use Rattle.mk_objects.proofs.{Vocabulary.{PassState, is_settling, now_of}, SetGates.{one_there, set_nothing, sets_open}}
-use Rattle.mk_objects.proofs.{ClearedRuns.still_gone, Looks.acting_now, MayAct.may_open}
+use Rattle.mk_objects.proofs.{Vocabulary.{PassState, is_settling, now_of}, SetGates.{set_nothing, sets_open}}
+use Rattle.mk_objects.proofs.{ClearedRuns.still_gone, JoinedLooks.reached_there, Looks.acting_now, MayAct.may_open}
 use Rattle.mk_objects.proofs.gates.open_other.Goals as goal
 
 pub open_gate-requires-clause-enabled : goal.open_gate-requires-clause-enabled
@@ -19,7 +19,7 @@ returns-then-not-is_own-clause-sets c =
 pub returns-then-not-is_own-clause-gone : goal.returns-then-not-is_own-clause-gone
 returns-then-not-is_own-clause-gone c =
     let sets = returns-then-not-is_own-clause-sets c in
-    one_there sets (λ (x : PassState). is_run_gone (now_of x).words (now_of x).seats.holding.freed ≡ true)
+    reached_there sets (λ (x : PassState). is_run_gone (now_of x).words (now_of x).seats.holding.freed ≡ true)
     (still_gone sets.does c.open_gate.ensures.makes.pass.history c.is_in_order.ensures.turn.holds c.requires.gone)
 
 pub returns-else-not-is_own-clause-sets : goal.returns-else-not-is_own-clause-sets

@@ -1,5 +1,4 @@
-use Rattle.mk_laws.proofs.Vocabulary.{Kind, List, Some, arith, histories_keep_lengths, length, ltb-true, place_on_pages}
-use Rattle.mk_laws.proofs.Vocabulary.{subst, sym, ◌<◌, ◌≡◌}
+use Rattle.mk_laws.proofs.Vocabulary.{Some, arith, histories_keep_lengths, ltb-true, place_on_pages, ◌≡◌}
 use Rattle.mk_objects.{proofs.Vocabulary.{PassState, now_of, object_for}, specs.Shapes.{object_shaped}}
 use Rattle.mk_objects.proofs.{JoinedLooks.{granted_behind_looks, looks_nothing}, PlacedNews.{fit_found, fit_within}}
 use Rattle.mk_objects.proofs.PlacedNews.{goes_behind, place_found, shape_asked, type_asked}
@@ -20,8 +19,7 @@ pub shape_of-shape-requires : goal.shape_of-shape-requires
 shape_of-shape-requires c =
     let has = type_asked c.args.turn.now.pass c.requires.one_table c.is_in_order.ensures.history
     c.requires.requested.op in
-    subst (λ (ts : List (List Kind)). c.args.request.ty < length ts) (sym c.types.ensures)
-    (ltb-true c.args.request.ty _ has)
+    rw c.types.ensures (ltb-true c.args.request.ty _ has)
 
 pub page-used-requires : goal.page-used-requires
 page-used-requires c =

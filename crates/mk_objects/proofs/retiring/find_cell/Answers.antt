@@ -37,8 +37,7 @@ pub returns-clause-within : goal.returns-clause-within
 returns-clause-within c =
     let x = goal.at.returns-clause-within c in
     let t = pointed x.After-is_in_order in
-    subst (λ (y : Cell). y.page < c.args.turn.now.pass.table.config.pages)
-    (same_cell (found x.After-lookup t) c.in-Some.is) t.within
+    rw (same_cell (found x.After-lookup t) c.in-Some.is) at t.within
 
 pub returns-clause-index : goal.returns-clause-index
 returns-clause-index c =

@@ -1,15 +1,13 @@
-use Rattle.mk_laws.proofs.Vocabulary.{arith, subst, ◌*◌, ◌≡◌}
+use Rattle.mk_laws.proofs.Vocabulary.{arith, subst}
 use Rattle.mk_objects.proofs.{Vocabulary.now_of, WipedRuns.{still_may, wiped_from, wiped_now, wipes_named, wipes_then}}
 use Rattle.mk_objects.specs.Unmapping.{AreWiped}
 use Rattle.mk_objects.proofs.wiping.wipe_page.Goals as goal
 
 pub loop-group-init : goal.loop-group-init
-loop-group-init c =
-    let start : 64 * c.args.part ≡ 8 * (8 * c.args.part) = omega arith in
-    record {
-      wiped = wiped_from c.args.turn.now.pass
-          (subst (λ n. AreWiped (now_of c.args.turn.now.pass).words c.args.run n) start c.requires.wiped);
-    }
+loop-group-init c = record {
+  wiped = wiped_from c.args.turn.now.pass
+      (subst (λ n. AreWiped (now_of c.args.turn.now.pass).words c.args.run n) (omega arith) c.requires.wiped);
+}
 
 pub wipe_group-requires-clause-may : goal.wipe_group-requires-clause-may
 wipe_group-requires-clause-may c = still_may c.loop-group.invariant.wiped c.requires.may

@@ -1,7 +1,6 @@
-use Rattle.mk_laws.proofs.Vocabulary.{arith, subst, sym, ◌*◌, ◌+◌, ◌<◌}
-use Rattle.mk_objects.proofs.Vocabulary.{PassState, TurnState, WipesTo}
-use Rattle.mk_objects.proofs.WipedRuns.{found_wiped, look_may, looks_then, wipe_may, wiped_from, wipes_on}
-use Rattle.mk_objects.proofs.wiping.wipe_words.Goals.{else-found-ne0, then-found-ne0}
+use Rattle.mk_laws.proofs.Vocabulary.{arith, ◌*◌, ◌<◌}
+use Rattle.mk_objects.proofs.{Vocabulary.PassState, WipedRuns.{found_wiped, look_may, looks_then, wipe_may, wiped_from}}
+use Rattle.mk_objects.proofs.{WipedRuns.wipes_on, wiping.wipe_words.Goals.{else-found-ne0, then-found-ne0}}
 use Rattle.mk_objects.proofs.wiping.wipe_words.Goals as goal
 
 pub loop-word-init : goal.loop-word-init
@@ -31,13 +30,11 @@ loop-word-preserved c =
     elim c.if-found-ne0.branch [
       | then-found-ne0 w ↦
           record {
-            wiped = subst (λ (t : TurnState). WipesTo p c.args.run (n + 1) t.pass) (sym w.turn-is)
-                (wipes_on turn may seen near w.wipe.ensures);
+            wiped = rw w.turn-is (wipes_on turn may seen near w.wipe.ensures);
           }
       | else-found-ne0 w ↦
           record {
-            wiped = subst (λ (t : TurnState). WipesTo p c.args.run (n + 1) t.pass) (sym w.turn-is)
-                (found_wiped turn may seen c.look_on_page-found.ensures.finds w.if-found-ne0.false);
+            wiped = rw w.turn-is (found_wiped turn may seen c.look_on_page-found.ensures.finds w.if-found-ne0.false);
           }
     ]
 

@@ -1,16 +1,13 @@
 use Rattle.mk_laws.proofs.Vocabulary.{subst, sym, ◌<◌}
-use Rattle.mk_caller.specs.States.{IsIdleCaller}
 use Rattle.mk_heap.proofs.HostsKept.{caller_made_is_host, home_is, home_view, is_home, next_is_idle, still_host}
-use Rattle.mk_heap.specs.Hosts.{HostState}
-use Rattle.mk_words.specs.States.{PassState, WordsState}
+use Rattle.mk_words.specs.States.{WordsState}
 use Rattle.mk_heap.proofs.hosts.Host.caller.Goals as goal
 
 pub new-requires-clause-idle : goal.new-requires-clause-idle
 new-requires-clause-idle c =
     let view = home_view c.take_home-home.ensures c.self.view_is in
-    subst (λ (p : PassState). IsIdleCaller p) (sym c.split-pass.ensures.made)
-    (next_is_idle (home_is c.take_home-home.ensures c.self.invariant)
-    (subst (λ (g : HostState). g.callers < g.pass.table.config.callers) (sym view) (subst
+    rw c.split-pass.ensures.made (next_is_idle (home_is c.take_home-home.ensures c.self.invariant)
+    (rw (← view) at (subst
     (λ (w : WordsState). c.args.self.now.callers < w.config.callers) (sym c.requires.one_table) c.requires.more)))
 
 pub invariant_of-self : goal.invariant_of-self

@@ -1,16 +1,13 @@
-use Rattle.mk_laws.proofs.Vocabulary.{Caller, subst, sym, ◌<◌}
-use Rattle.mk_caller.specs.States.{IsIdleCaller}
+use Rattle.mk_laws.proofs.Vocabulary.{subst, sym, ◌<◌}
 use Rattle.mk_heap.proofs.HostsKept.{caller_out_is_host, home_is, home_view, is_home, joined_is_idle, still_host}
 use Rattle.mk_heap.specs.Hosts.{HostState}
-use Rattle.mk_words.specs.{Seats.Has, States.PassState}
 use Rattle.mk_heap.proofs.hosts.Host.caller_again.Goals as goal
 
 pub new-requires-clause-idle : goal.new-requires-clause-idle
 new-requires-clause-idle c =
     let view = home_view c.take_home-home.ensures c.self.view_is in
-    subst (λ (p : PassState). IsIdleCaller p) (sym c.split-pass.ensures.made)
-    (joined_is_idle c.args.caller (home_is c.take_home-home.ensures c.self.invariant)
-    (subst (λ (g : HostState). Has g.pass.seats (Caller c.args.caller)) (sym view) c.requires.joined))
+    rw c.split-pass.ensures.made (joined_is_idle c.args.caller (home_is c.take_home-home.ensures c.self.invariant)
+    (rw (← view) at c.requires.joined))
 
 pub invariant_of-self : goal.invariant_of-self
 invariant_of-self c =

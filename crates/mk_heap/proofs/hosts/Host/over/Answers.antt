@@ -58,8 +58,6 @@ returns-clause-over g c =
 pub returns-clause-reached : goal.returns-clause-reached
 returns-clause-reached g c =
     let view = home_view c.take_home-home.ensures c.self.view_is in
-    let p : PassState = c.take_idle_turn-turn.result.pass in
-    let q : PassState = c.over.new.self.pass in
     let r : PassState = c.give-back.result in
     λ none. subst (λ (h : HostState). SweepsNothing h.pass r) view
     (idle_then_sweeps c.take_idle_turn-turn.ensures.takes (c.take_idle_turn-turn.ensures.reached none)

@@ -52,8 +52,6 @@ returns-clause-overs g c =
 pub returns-clause-reached : goal.returns-clause-reached
 returns-clause-reached g c =
     let view = home_view c.take_home-home.ensures c.self.view_is in
-    let p : PassState = c.take_turn-turn.result.pass in
-    let q : PassState = c.look-found.new.self.pass in
     let r : PassState = c.give-back.result in
     subst (λ (h : HostState). SweepsNothing h.pass r) view (taken_then_sweeps c.is_in_order.ensures.own
     c.take_turn-turn.ensures.takes (given_sweeps c.look-found.ensures.acts.makes c.give-back.ensures.acts.makes refl))
