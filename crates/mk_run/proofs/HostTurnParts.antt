@@ -2,27 +2,22 @@
 use Rattle.mk_laws.proofs.Vocabulary.{AreEnabledFrom, Config, Event, IsHistory, List, None, Step, Word, World, ℕ, ap}
 use Rattle.mk_laws.proofs.Vocabulary.{arith, earlier_part_is_history, enabled_in_parts, false, inl, inr, is_begin}
 use Rattle.mk_laws.proofs.Vocabulary.{is_close, left, or_from, or_parts, phase_of, refl, subst, sym, true, world_behind}
-use Rattle.mk_laws.proofs.Vocabulary.{[], ◌++◌, ◌∙◌, ◌∷◌, ◌≡◌, ◌≤◌}
+use Rattle.mk_laws.proofs.{Vocabulary.{[], ◌++◌, ◌∙◌, ◌∷◌, ◌≡◌, ◌≤◌}, CyclePhases.{close_is, moves_phase, phase_behind}}
 use Rattle.mk_run.proofs.Vocabulary.{Has, Lacks, PassState, finish_does, has_step, has_then, history_before}
 use Rattle.mk_run.proofs.Vocabulary.{in_turn_then, is_of_cycles, turn_moves, turn_stays}
-use Rattle.mk_laws.proofs.CyclePhases.{AsksPhase, close_is, moves_phase, phase_behind}
 use Rattle.mk_alloc.proofs.{CalmStretches.cycles_in_turn, ListParts.SomeKind, Parts.made_as}
 use Rattle.mk_alloc.specs.TurnCycles.{finishes}
-use Rattle.mk_cycle.{proofs.Allowed.in_turn, specs.TurnKeeps.InTurn}
+use Rattle.mk_cycle.{proofs.Allowed.{in_turn}, specs.TurnKeeps.{InTurn}}
 use Rattle.mk_heap.specs.Ending.{EndsCycle}
 use Rattle.mk_objects.proofs.JoinedLooks.{does_wider}
-use Rattle.mk_turns.{proofs.Doing.does_then, specs.Doing.Does}
+use Rattle.mk_turns.{proofs.Doing.{does_then}, specs.Doing.{Does}}
 use Rattle.mk_waiting.specs.Taking.{TakesTurn}
-use Rattle.mk_words.{proofs.TurnSteps.takes, specs.Steps.Makes}
+use Rattle.mk_words.{proofs.TurnSteps.{takes}, specs.Steps.{Makes}}
 
 -- Outside of phases 1 and 2 no cycle is closed before another is begun.
 
 abbrev pub IsBeside : ℕ → Type 0
 IsBeside n = 1 ≤ n → n ≤ 2 → ⊥
-
-beside_step : (x : Step) (n : ℕ) → AsksPhase x n → IsBeside n → is_begin x ≡ false
-    → IsBeside (phase_behind x n) × (is_close x ≡ false)
-beside_step x0 n asks out none = grind arith
 
 closes_none : (c : Config) (w : World) (es : List Event) → AreEnabledFrom c w es → IsBeside (phase_of w.now.words)
     → Lacks is_begin es → Lacks is_close es
@@ -30,7 +25,7 @@ closes_none c w [] on out none = refl
 closes_none c w (e ∷ es) on out none =
     let parts = or_parts (is_begin e.step) (has_step is_begin es) none in
     let moves = moves_phase c w e es on in
-    let one = beside_step e.step (phase_of w.now.words) moves.0 out parts.0 in
+    let one : IsBeside (phase_behind e.step (phase_of w.now.words)) × (is_close e.step ≡ false) = grind arith in
     or_from _ _ one.1 (closes_none c (world_behind c w e) es moves.2 (subst IsBeside (sym moves.1) one.0) parts.1)
 
 -- Directly after a `close` it is so.
@@ -48,10 +43,7 @@ pub unfinished_unclosed : (es : List Event) → Lacks finishes es → Lacks is_c
 unfinished_unclosed [] h = refl
 unfinished_unclosed (e ∷ es) h =
     let parts = or_parts (finishes e.step) (has_step finishes es) h in
-    or_from (is_close e.step) (has_step is_close es) (by e.step parts.0) (unfinished_unclosed es parts.1)
-  where
-    by : (x : Step) → finishes x ≡ false → is_close x ≡ false
-    by x0 h = grind arith
+    or_from (is_close e.step) (has_step is_close es) (grind arith) (unfinished_unclosed es parts.1)
 
 -- what is after the first event
 pub behind_first : (kind : SomeKind) (e : Event) (es : List Event) → Lacks kind (e ∷ es) → Lacks kind es
@@ -67,8 +59,6 @@ before_made p q s m history = grind (arith, earlier_part_is_history)
 pub turn_taken : {p taken : PassState} → Has p.seats p.seat → TakesTurn p None taken
     → IsHistory taken.table.config taken.seen → InTurn taken
 turn_taken {p} {taken} own t history =
-    let waited_own : Has t.waited.seats t.waited.seat =
-    subst (λ (r : PassState). Has r.seats r.seat) (sym t.waits.is) own in
     let taken_own : Has taken.seats taken.seat =
     subst (λ (r : PassState). Has r.seats r.seat) (sym (turn_moves p taken t).is) own in
     in_turn taken taken_own

@@ -49,8 +49,6 @@ record Begins (n : ℕ) (p q : PassState) : Type 0 where
 
 begins_then : {m : ℕ} (n : ℕ) {p q : PassState} (r : PassState) → Begins m p q → Begins n q r → Begins (m + n) p r
 begins_then n {p = p} {q = q} r one two =
-    let a = one.count in
-    let b = two.count in
     record {
       more = one.more ++ two.more;
       is = seen_then p.seen q.seen r.seen one.more two.more one.is two.is;
@@ -65,11 +63,7 @@ begins_one b =
     let before = none_begun b.before b.none_before in
     let one = sum_by-cons begins b.begin b.behind ∙ by_one (is_begin b.begin.step) (cycles_begun b.behind) b.begins
     (none_begun b.behind b.none_behind) in
-    record {
-      more = b.before ++ b.begin ∷ b.behind;
-      is = b.is;
-      count = begun_append b.before (b.begin ∷ b.behind) ∙ omega arith;
-    }
+    record { more = b.before ++ b.begin ∷ b.behind; is = b.is; count = begun_append b.before _ ∙ omega arith }
 
 -- The host makes one cycle.
 cycle_begins : {p q : PassState} → Has p.seats p.seat → Has p.seats Host → HasCallers p.table.config p.seats

@@ -1,8 +1,8 @@
 -- What an engine keeps to in the steps of the scripts' callers and of the host, up to the whole run.
-use Rattle.mk_laws.proofs.Vocabulary.{At, Bool, Caller, Config, Event, Host, IsHistory, List, Marker, Seat, Step, ℕ}
-use Rattle.mk_laws.proofs.Vocabulary.{arith, enabled_in_parts, enabled_meets, false, first_world, group_of, is_begin}
-use Rattle.mk_laws.proofs.Vocabulary.{is_open_to, left, length, ltb-true, refl, seat_exists, subst, sym, through, true}
-use Rattle.mk_laws.proofs.Vocabulary.{true≢false, [], ◌++◌, ◌+◌, ◌∙◌, ◌∷◌, ◌≡◌, ◌≤◌}
+use Rattle.mk_laws.proofs.Vocabulary.{At, Bool, Caller, Config, Event, Host, IsHistory, List, Marker, Seat, ℕ, arith}
+use Rattle.mk_laws.proofs.Vocabulary.{enabled_in_parts, enabled_meets, false, group_of, is_begin, is_open_to, left}
+use Rattle.mk_laws.proofs.Vocabulary.{length, ltb-true, refl, seat_exists, subst, sym, through, true, true≢false, []}
+use Rattle.mk_laws.proofs.Vocabulary.{◌++◌, ◌+◌, ◌∙◌, ◌∷◌, ◌≡◌, ◌≤◌}
 use Rattle.mk_run.proofs.Vocabulary.{CallerState, EachIsBegun, Grows, Has, IsFirstPass, IsScript, IsWhole, Item}
 use Rattle.mk_run.proofs.Vocabulary.{PassState, StaysBeside, WordsState, at_home, config_of, has_first, script_names}
 use Rattle.mk_run.proofs.{Vocabulary.⊎_elim, JoinedScripts.same_or_later, UnsweptHistories.{markers_sweep, none_sweeps}}
@@ -10,14 +10,10 @@ use Rattle.mk_core.specs.History.{AreEnabledFrom}
 use Rattle.mk_cycle.proofs.Begun.{HaveNoBegin, begun_append, kinds_begin_none, others_begin_none}
 use Rattle.mk_cycle.specs.Begun.{AreBegunFirst, CyclesAreBegun, IsBegunFirst}
 use Rattle.mk_run.specs.{Keeping.{PassKeeps, ScriptsKeep, SeatKeeps}, Scripts.is_beside_turns, Unswept.IsUnswept}
-use Rattle.mk_turns.specs.Sweeping.{SweepsNothingFrom}
 use Rattle.mk_run.proofs.UnsweptScripts.{first_sweeps, others_on as others_sweep_on, seat_on as seat_sweeps_on}
 
 beside_begins_none : HaveNoBegin is_beside_turns
 beside_begins_none x0 h = grind arith
-
-marker_begins_none : (j : ℕ) (x : Step) → is_open_to (Marker j) (group_of x) ≡ true → is_begin x ≡ false
-marker_begins_none j x1 h = grind arith
 
 nowhere : (before : List Event) (e : Event) (behind : List Event) → [] ≡ before ++ e ∷ behind → ⊥
 nowhere [] e behind is = cc
@@ -125,11 +121,8 @@ module _ {sweeps : Bool} {begins : Config → Seat → List Event → List Event
             → IsBegunFirst begins c s (through b) b.behind
         by (Caller j) exists may is =
             (scripts.callers j (omega arith) (ltb-true j (length (script_names program)) exists)).begun b is
-        by (Marker j) exists may is = absurd (true≢false (sym b.of_kind ∙ marker_begins_none j b.event.step may))
+        by (Marker j) exists may is = absurd (true≢false (sym b.of_kind ∙ (grind arith)))
         by Host exists may is = scripts.host.begun b is
 
-    each_seat : sweeps ≡ false → (s : Seat) → seat_exists c s ≡ true → SweepsNothingFrom c s (first_world c) es
-    each_seat off x1 exists = grind (arith, scripts, ltb-true, markers_sweep, history)
-
     pub run_is_unswept : sweeps ≡ false → IsUnswept c es
-    run_is_unswept off = none_sweeps c (first_world c) es history.enabled (each_seat off)
+    run_is_unswept off = grind (arith, none_sweeps, history, scripts, ltb-true, markers_sweep)

@@ -221,11 +221,9 @@ module _ {p q : PassState} (m : MakesCycle p q) (own : Has p.seats p.seat) (hist
 
     finished_closes_none : Lacks is_close finished
     finished_closes_none =
-        closes_no_more ended.table.config (begun.seen ++ ends.ends.to_close) ends.ends.close finished
-        (subst (λ (l : List Event). IsHistory ended.table.config l)
-        (ends.is ∙ ap (λ (l : List Event). begun.seen ++ l) ends.ends.is
-        ∙ sym (append_assoc begun.seen ends.ends.to_close (ends.ends.close ∷ finished)))
-        h_ended) ends.ends.closes finished_begins_none
+        closes_no_more ended.table.config _ ends.ends.close finished (subst (λ (l : List Event). IsHistory
+        ended.table.config l) (ends.is ∙ ap (λ (l : List Event). begun.seen ++ l) ends.ends.is ∙ sym (append_assoc
+        begun.seen ends.ends.to_close (ends.ends.close ∷ finished))) h_ended) ends.ends.closes finished_begins_none
 
     -- No caller whose seat is home steps in the turn.
 
@@ -239,11 +237,8 @@ module _ {p q : PassState} (m : MakesCycle p q) (own : Has p.seats p.seat) (hist
           leaves = λ s has other. others_none (s ∷ []);
         }) d_turn) m.gives
 
-    give_is : event_of ended Step.Give ≡ give_of p.seat
-    give_is = cc (d_turn.is, taken_moves.is)
-
     q_is : q.seen ≡ (ended.seen ++ given) ++ give_of p.seat ∷ []
-    q_is = ap (λ (r : PassState). r.seen) m.gives.is ∙ ap (λ (e : Event). (ended.seen ++ given) ++ e ∷ []) give_is
+    q_is = grind (arith, ended, given, d_turn, taken_moves)
 
     turn_moves_is : ended_moves.more ≡ inside ++ give_of p.seat ∷ []
     turn_moves_is =
@@ -262,11 +257,8 @@ module _ {p q : PassState} (m : MakesCycle p q) (own : Has p.seats p.seat) (hist
             event = event_of begun Step.Close;
             behind = told.behind;
             is =
-                sym ends.ends.is
-                ∙ append_cancel_left begun.seen ends.more
-                (told.before ++ event_of begun Step.Close ∷ told.behind)
-                (sym ends.is ∙ told.is
-                ∙ append_assoc begun.seen told.before (event_of begun Step.Close ∷ told.behind));
+                sym ends.ends.is ∙ append_cancel_left begun.seen ends.more _
+                (sym ends.is ∙ told.is ∙ append_assoc begun.seen told.before (event_of begun Step.Close ∷ told.behind));
             of_kind = refl;
           })
 
@@ -282,16 +274,6 @@ module _ {p q : PassState} (m : MakesCycle p q) (own : Has p.seats p.seat) (hist
       module _ (host : p.seat ≡ Host) (home : HasCallers p.table.config p.seats) (tail : List Event)
           (whole : IsHistory p.table.config (q.seen ++ tail)) (begins_no_more : Lacks is_begin tail)
           (still : (k : ℕ) → k < p.table.config.callers → AreOfOthers (Caller k ∷ []) tail) where
-        callers_still : (k : ℕ) → k < p.table.config.callers
-            → AreOfOthers (Caller k ∷ []) (inside ++ give_of p.seat ∷ tail)
-        callers_still k lt =
-            subst (λ (l : List Event). AreOfOthers (Caller k ∷ []) l) (append_assoc inside (give_of p.seat ∷ []) tail)
-            (others_append (Caller k ∷ []) (inside ++ give_of p.seat ∷ []) tail
-            (rw turn_moves_is at (ended_moves.leaves (Caller k)
-            (subst (λ (r : PassState). Has r.seats (Caller k)) (sym taken_moves.is) (home k lt))
-            (ap (λ (s : Seat). is_same_seat (Caller k) s) (ap (λ (r : PassState). r.seat) taken_moves.is ∙ host))))
-            (still k lt))
-
         list_is : q.seen ++ tail ≡ (ended.seen ++ given) ++ give_of p.seat ∷ tail
         list_is =
             ap (λ (l : List Event). l ++ tail) q_is ∙ append_assoc (ended.seen ++ given) (give_of p.seat ∷ []) tail
@@ -318,7 +300,11 @@ module _ {p q : PassState} (m : MakesCycle p q) (own : Has p.seats p.seat) (hist
           behind = tail;
           is = list_is;
           turn = the_turn;
-          callers = callers_still;
+          callers = λ k lt. subst (λ (l : List Event). AreOfOthers (Caller k ∷ []) l) (append_assoc inside _ tail)
+              (others_append (Caller k ∷ []) (inside ++ give_of p.seat ∷ []) tail
+              (rw turn_moves_is at (ended_moves.leaves (Caller k) (subst (λ (r : PassState). Has r.seats (Caller k))
+              (sym taken_moves.is) (home k lt)) (ap (λ (s : Seat). is_same_seat (Caller k) s)
+              (ap (λ (r : PassState). r.seat) taken_moves.is ∙ host)))) (still k lt));
           cycle = the_cycle;
           last =
               lacks_append is_close behind_close tail

@@ -118,8 +118,7 @@ ends_with_cycle {tells} {p} t history =
     let c : Config = a.table.config in
     let more : List Event = t.behind.more in
     let own : Has a.seats a.seat = subst (λ (x : Seat). Has a.seats x) (sym t.seat) t.own in
-    let callers : HasCallers c a.seats =
-    subst (λ (x : WordsState). HasCallers x.config a.seats) (sym t.table) t.callers in
+    let callers = subst (λ (x : WordsState). HasCallers x.config a.seats) (sym t.table) t.callers in
     let made = (cycle_moves t.cycle.makes).is in
     let said = (over_moves b s t.over).is in
     let b_seat : b.seat ≡ Host = ap (λ (r : PassState). r.seat) made ∙ t.seat in
@@ -142,8 +141,7 @@ ends_with_cycle {tells} {p} t history =
     let none : Lacks is_begin tail =
     lacks_append is_begin over.more more over.none (unheld_unbegun more (others_hold_none a c t.own callers _ more
     t.behind.of_others ((enabled_in_parts c s.seen more).0 long.enabled).1)) in
-    let still : (k : ℕ) → k < c.callers → AreOfOthers (Caller k ∷ []) tail =
-    λ k lt.
+    let still : (k : ℕ) → k < c.callers → AreOfOthers (Caller k ∷ []) tail = λ k lt.
     let said_still = still_behind_over b_seat t.over k
     (subst (λ (r : PassState). Has r.seats (Caller k)) (sym made) (callers k lt)) in
     others_append (Caller k ∷ []) over.more more
@@ -159,10 +157,8 @@ pub run_ends_with_cycle : {tells : Config → World → Type 0} (c : Config) {w 
     → IsWhole (report.config_of r) (report.history_of r) → EndsWithCycle tells c (report.history_of r)
 run_ends_with_cycle {tells} c {w = w} {p = p} r made t history config whole =
     let es : List Event = report.history_of r in
-    let seen : IsHistory w.config p.seen =
-    rw history at (subst (λ (d : Config). IsHistory d es) config whole.history) in
-    subst (λ (d : Config). EndsWithCycle tells d es) made
-    (subst (λ (l : List Event). EndsWithCycle tells w.config l) (sym history) (ends_with_cycle t seen))
+    subst (λ (d : Config). EndsWithCycle tells d es) made (subst (λ (l : List Event). EndsWithCycle tells w.config l)
+    (sym history) (ends_with_cycle t (rw history at (subst (λ (d : Config). IsHistory d es) config whole.history))))
 
 -- What is told may tell more.
 pub ends_weaker : (tells others : Config → World → Type 0) (c : Config) (es : List Event)

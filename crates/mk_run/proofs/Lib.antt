@@ -1,12 +1,9 @@
-mod BesideTurns
-mod FedScripts
 mod HostTurns
 mod JoinedScripts
 mod LaterLists
 mod ReadyScripts
 pub mod MarkersBeside
 mod AskedOps
-mod NotedCalls
 mod ScriptCalls
 mod WholeRuns
 pub mod BoundedRuns

@@ -48,9 +48,7 @@ marker_joined {on} {with_cycle} {program} markers {w = w} j p {before = before} 
       last =
           still_last w.config h.pass over.own (all_callers_home markers made over.is_host) own
           (subst (λ (t : WordsState). IsHistory t.config fs) table history) over.last;
-      is_host =
-          rw is (still_joined fs over.is_host still (h.pass.seats ++ p.seats)
-          (λ k has. has_left h.pass.seats p.seats (Caller k) has));
+      is_host = rw is (still_joined fs over.is_host still _ (λ k has. has_left h.pass.seats p.seats (Caller k) has));
       markers = λ i le lt. rw seats (⊎_elim (λ (e : i ≡ j). has_right h.pass.seats p.seats (Marker i)
           (subst (λ (n : ℕ). Has p.seats (Marker n)) (sym e) mine)) (λ (later : j + 1 ≤ i). has_left h.pass.seats
           p.seats (Marker i) (over.markers i later (omega arith))) (same_or_later j i le));

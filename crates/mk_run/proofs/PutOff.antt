@@ -13,11 +13,8 @@ pub held_put_off : {p : PassState} {o : Op} {q : PassState} → is_under_turn o 
 held_put_off beside held = record { turn = λ under. absurd (true≢false (sym under ∙ beside)); held = λ is. held }
 
 module _ {p : PassState} {o : Op} {q : PassState} (h : IsPutOff p o q) where
-  is_by_test : (b : Bool) → is_under_turn o ≡ b → q ≡ record p { seen = q.seen }
-  is_by_test x0 under = grind (arith, makes_none)
-
   pub put_off_is : q ≡ record p { seen = q.seen }
-  put_off_is = is_by_test (is_under_turn o) refl
+  put_off_is = grind (arith, makes_none)
 
   admitted_by_test : (b : Bool) → is_under_turn o ≡ b → IsAdmittedByOwnCalls p o → IsAdmittedByOwnCalls q o
   admitted_by_test true under stays = subst (λ (r : PassState). IsAdmittedByOwnCalls r o) (sym (h.turn under)) stays

@@ -1,21 +1,163 @@
 -- A script's caller makes one call more, or finds its gate held, and what is known then.
-use Rattle.std.proofs.{Common.length-append, lemmas.List.Sums.count_by-le-length}
-use Rattle.mk_laws.proofs.Vocabulary.{Answer, Bool, Caller, Config, Event, IsHistory, List, Op, Seat, Some, ℕ, ap}
-use Rattle.mk_laws.proofs.Vocabulary.{arith, asked, caller_number, calls, entry_of, false, flagged, is_under_turn}
-use Rattle.mk_laws.proofs.Vocabulary.{length, refl, subst, sym, true, true≢false, [], ◌++◌, ◌+◌, ◌<◌, ◌∙◌, ◌∷◌, ◌≡◌}
-use Rattle.mk_laws.proofs.Vocabulary.{◌≤◌}
+use Rattle.std.proofs.{Common.length-append, lemmas.List.Sums.{count_by-le-length, sum_by_push}}
+use Rattle.std.specs.List.{list_all}
+use Rattle.mk_laws.proofs.Vocabulary.{Answer, Bool, Caller, Config, Decided, Event, IsAdmitted, IsHistory, List, Op}
+use Rattle.mk_laws.proofs.Vocabulary.{Option, Seat, Some, Stage, Step, ℕ, and_from, ap, append-nil, arith, asked}
+use Rattle.mk_laws.proofs.Vocabulary.{caller_number, calls, entry_of, false, flagged, if◌then◌else◌, is_under_turn}
+use Rattle.mk_laws.proofs.Vocabulary.{length, map, map-append, never_behind, refl, subst, sym, true, true≢false, []}
+use Rattle.mk_laws.proofs.Vocabulary.{◌&&◌, ◌++◌, ◌+◌, ◌<◌, ◌==◌, ◌∙◌, ◌∷◌, ◌≡◌, ◌≤◌}
 use Rattle.mk_run.proofs.Vocabulary.{Answers, FindsGateHeld, FollowsScript, Has, IsAdmittedByOwnCalls, IsChecked}
-use Rattle.mk_run.proofs.Vocabulary.{IsFedWith, IsScript, Item, PassState, answers_in, calls_by, config_of, is_refusal}
-use Rattle.mk_run.proofs.{Vocabulary.next_op, BesideTurns.{beside_then, called_beside, held_beside}}
-use Rattle.mk_run.proofs.NotedCalls.{next_admitted, one_answer_more, one_more_noted, same_answers, still_noted}
-use Rattle.mk_run.proofs.FedScripts.{fed_as_told}
+use Rattle.mk_run.proofs.Vocabulary.{IsFedWith, IsScript, Item, PassState, StaysBeside, answers_in, calls_by, config_of}
+use Rattle.mk_run.{proofs.Vocabulary.{feed, is_refusal, next_op, script_names, seen_then}, specs.Scripts.{unflagged}}
 use Rattle.mk_never.proofs.Later.{calls_stay}
+use Rattle.mk_core.specs.Growing.{Finding, own_from}
 use Rattle.mk_alloc.proofs.ExactTurns.{stay_exact_behind_calls, stay_exact_behind_turns, stay_exact_where_held}
 use Rattle.mk_alloc.specs.{TurnCalls.CalledInTurn, TurnCycles.TurnsOfAreExact}
-use Rattle.mk_caller.specs.{Called.own_calls, States.{Admits, IsIdleCaller, caller_of_pass}}
-use Rattle.mk_check.specs.Laws.{AreNotedBy}
-use Rattle.mk_run.specs.Scripts.{IsCalled, IsRunning, MakesNoCall, Script, ScriptTakesAnswer, as_told, unflagged}
+use Rattle.mk_caller.specs.{Called.{Called, own_calls, stages_made, step_at}, States.{Admits, IsIdleCaller}}
+use Rattle.mk_caller.specs.States.{caller_of_pass}
+use Rattle.mk_check.proofs.{AdmittedScripts.next_is_admitted, FeedLaws.{feed_push, ops-feed_push}}
+use Rattle.mk_check.specs.{Feed.{Fed, Scope, note, take_answer}, Blocks.Blocks, Declarations.globals_of}
+use Rattle.mk_check.specs.{Feeding.{FeedStandsFor, FeedState}, Laws.{AreNotedBy, ops_of_caller}, Output.answers_among}
+use Rattle.mk_run.specs.Scripts.{IsCalled, IsRunning, MakesNoCall, Script, ScriptTakesAnswer, as_told, is_beside_turns}
+use Rattle.mk_turns.{proofs.Doing.{does_step, done_in_parts, of_kinds_in_parts}, specs.Doing.{are_of, done_in}}
 use Rattle.mk_words.proofs.Made.{own_before}
+
+-- Calls that need no turn, and those that find their gate held, make only steps beside all turns.
+
+nothing_done : (p : PassState) → are_of is_beside_turns (done_in p []) ≡ true
+unfolding own_from
+nothing_done p = refl
+
+pub stays_still : (p : PassState) → StaysBeside p p
+stays_still p = record { more = []; is = sym (append-nil p.seen); steps = nothing_done p }
+
+pub beside_then : {p q r : PassState} → q ≡ record p { seen = q.seen } → StaysBeside p q → StaysBeside q r
+    → StaysBeside p r
+beside_then {p} {q} {r} same x y = record {
+  more = x.more ++ y.more;
+  is = seen_then p.seen q.seen r.seen x.more y.more x.is y.is;
+  steps =
+      ap (λ (l : List Finding). are_of is_beside_turns l) (done_in_parts p x.more y.more)
+      ∙ of_kinds_in_parts is_beside_turns (done_in p x.more) (done_in (record p { seen = p.seen ++ x.more }) y.more)
+      x.steps (rw (same ∙ ap (λ (l : List Event). record p { seen = l }) x.is) at y.steps);
+}
+
+steps_of_all : (xs : List Finding)
+    → list_all is_beside_turns (map (λ (x : Finding). x.event.step) xs) ≡ are_of is_beside_turns xs
+steps_of_all [] = refl
+steps_of_all (x ∷ xs) = ap (λ (b : Bool). is_beside_turns x.event.step && b) (steps_of_all xs)
+
+stages_beside : (xs : List Stage) → list_all is_beside_turns (map step_at xs) ≡ true
+stages_beside [] = refl
+stages_beside (x ∷ xs) = and_from _ _ (grind arith) (stages_beside xs)
+
+pub called_beside : {p : PassState} {o : Op} {a : Answer} {q : PassState} → Called p o a q → StaysBeside p q
+called_beside {p} {o} {a} called = record {
+  more = called.more;
+  is = ap (λ (x : PassState). x.seen) called.is;
+  steps = sym (steps_of_all (done_in p called.more))
+      ∙ (ap (λ (l : List Step). list_all is_beside_turns l) called.steps ∙ stages_beside (stages_made o a));
+}
+
+pub held_beside : {p : PassState} {o : Op} {q : PassState} → FindsGateHeld p o q → StaysBeside p q
+held_beside {p} {o} {q} held =
+    let d = does_step is_beside_turns p q (Step.Enter o) held.finds.makes refl in
+    record { more = d.more; is = ap (λ (x : PassState). x.seen) d.is; steps = d.of_kinds }
+
+-- The calls of one caller among all: what its script notes of them, and what one call more makes of that.
+
+abbrev answers_to : List Decided → List Answer
+answers_to xs = map (λ (x : Decided). x.answer) xs
+
+abbrev ops_of : List Decided → List Op
+ops_of xs = map (λ (x : Decided). x.op) xs
+
+-- the caller's operations are those of its calls
+ops_are : (k : ℕ) (xs : List Decided) → ops_of_caller k (asked xs) ≡ ops_of (calls_by k xs)
+ops_are k [] = refl
+ops_are k (x ∷ xs) = by_test (x.caller == k) (ops_are k xs)
+  where
+    by_test : (same : Bool) → ops_of_caller k (asked xs) ≡ ops_of (calls_by k xs) → (if same then x.op ∷ ops_of_caller k
+        (asked xs) else ops_of_caller k (asked xs)) ≡ ops_of (if same then x ∷ calls_by k xs else calls_by k xs)
+    by_test x0 e = grind arith
+
+abbrev pub IsNoted : List Item → ℕ → List Decided → Type 0
+IsNoted program k xs = AreNotedBy program k (answers_among k xs) (asked xs)
+
+-- While the caller makes no call, its script has noted all.
+
+pub same_answers : (k : ℕ) (xs ys : List Decided) → calls_by k ys ≡ calls_by k xs
+    → answers_among k ys ≡ answers_among k xs
+same_answers k xs ys same = ap answers_to same
+
+pub still_noted : (program : List Item) (k : ℕ) (xs ys : List Decided) → calls_by k ys ≡ calls_by k xs
+    → IsNoted program k xs → IsNoted program k ys
+still_noted program k xs ys same noted = grind (arith, ops_are, ops_of, same_answers)
+
+-- One call more, which is what the script asks for next.
+
+pub one_answer_more : (k : ℕ) (xs ys : List Decided) (o : Op) (a : Answer)
+    → calls_by k ys ≡ calls_by k xs ++ entry_of k o (Some a) → answers_among k ys ≡ answers_among k xs ++ a ∷ []
+one_answer_more k xs ys o a more =
+    ap answers_to more ∙ map-append (λ (x : Decided). x.answer) (calls_by k xs) (entry_of k o (Some a))
+
+pub one_more_noted : (program : List Item) (k : ℕ) (xs ys : List Decided) (o : Op) (a : Answer)
+    → calls_by k ys ≡ calls_by k xs ++ entry_of k o (Some a) → next_op program k (answers_among k xs) ≡ Some o
+    → IsNoted program k xs → IsNoted program k ys
+one_more_noted program k xs ys o a more next noted =
+    grind (arith, ops_are, ops_of, map-append, calls_by, ops-feed_push, one_answer_more)
+
+-- What the script asks for next is admitted.
+
+next_fits : {program : List Item} (markers k : ℕ) {es : List Event} (answers : List Answer) (o : Op) → IsChecked program
+    → IsScript program k → IsHistory (config_of program markers) es
+    → AreNotedBy program k answers (asked (calls (config_of program markers) es)) → next_op program k answers ≡ Some o
+    → IsAdmitted (globals_of program) (never_behind (config_of program markers) es) k o
+next_fits {program} markers k {es = es} answers o checked is_script history noted next =
+    let enough : length (script_names program) ≤ length (script_names program) = omega arith in
+    (next_is_admitted program (length (script_names program)) (asked (calls (config_of program markers) es)) k answers
+    checked enough is_script history.admitted noted).asked o next
+
+pub next_admitted : {program : List Item} {c : Config} (k : ℕ) {es : List Event} (answers : List Answer) (o : Op)
+    → IsChecked program → IsScript program k → c ≡ config_of program c.markers → IsHistory c es
+    → AreNotedBy program k answers (asked (calls c es)) → next_op program k answers ≡ Some o
+    → IsAdmitted c.globals (never_behind c es) k o
+next_admitted {program} {c} k {es = es} answers o checked is_script is history noted next =
+    subst (λ (d : Config). IsHistory d es → AreNotedBy program k answers (asked (calls d es)) → IsAdmitted d.globals
+    (never_behind d es) k o) (sym is) (λ h n. next_fits c.markers k answers o checked is_script h n next) history noted
+
+-- A script that is fed with what its caller is told of the answers.
+
+-- What is said of an answer does to a script what the answer does.
+
+flagged_so : (o : Op) (a : Answer) → flagged o (as_told a) ≡ flagged o a
+flagged_so o x1 = grind arith
+
+noted_so : (fed : Fed) (o : Option Op) (line : ℕ) (w : ℕ)
+    → note fed o line (Answer.Word 0) ≡ note fed o line (Answer.Word w)
+noted_so fed x1 line w = grind arith
+
+told_taken : (scope : Scope) (fed : Fed) (left : Blocks) (a : Answer)
+    → take_answer scope fed left (as_told a) ≡ take_answer scope fed left a
+told_taken scope fed left x3 = grind (arith, noted_so)
+
+told_refuses : (a : Answer) → is_refusal (as_told a) ≡ is_refusal a
+told_refuses x0 = grind arith
+
+same_length : (answers : List Answer) (a b : Answer) → length (answers ++ a ∷ []) ≡ length (answers ++ b ∷ [])
+same_length answers a b = length-append answers (a ∷ []) ∙ sym (length-append answers (b ∷ []))
+
+same_feed : {program : List Item} {k : ℕ} {s : FeedState} {xs : List Answer} (ys : List Answer)
+    → feed program k xs ≡ feed program k ys
+    → length xs ≡ length ys → FeedStandsFor program k s xs → FeedStandsFor program k s ys
+same_feed ys same long h = grind arith
+
+ruleset fed_as_told_facts = (same_feed, same_length, told_refuses, sum_by_push, feed_push, told_taken)
+
+-- one answer more, as it was told
+pub fed_as_told : (program : List Item) (k : ℕ) (answers : List Answer) (a : Answer) (s : Script)
+    → IsFedWith program k (answers ++ as_told a ∷ []) s → IsFedWith program k (answers ++ a ∷ []) s
+fed_as_told program k answers a s h = grind (arith, fed_as_told_facts)
 
 -- The calls that a pass makes.
 
@@ -142,8 +284,6 @@ module _ (on : Bool) (program : List Item) (k : ℕ) (p : PassState) (seat : p.s
   pub next_stays_admitted : IsChecked program → IsScript program k → c ≡ config_of program c.markers
       → FollowsScript on program k c es → (o : Op) → next_op program k answers ≡ Some o → IsAdmittedByOwnCalls now o
   next_stays_admitted checked is_script config follows o next = λ fs history same.
-      let mine : calls_by k (calls c fs) ≡ calls_by k (calls c es) =
-      subst (λ (j : ℕ). calls_by j (calls c fs) ≡ calls_by j (calls c es)) number same in
       let noted : AreNotedBy program k answers (asked (calls c fs)) = grind (arith, same_answers, still_noted) in
       rw number (next_admitted k answers o checked is_script config history noted next)
 

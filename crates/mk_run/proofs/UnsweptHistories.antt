@@ -1,18 +1,15 @@
 -- A history none of whose seats makes a sweeping mark has none, nor has a cycle of it.
-use Rattle.mk_laws.proofs.Vocabulary.{Config, Event, List, Marker, Marking, Seat, Step, World, ℕ, append_assoc, arith}
-use Rattle.mk_laws.proofs.Vocabulary.{false, first_world, flight_of, group_of, is_open_to, left, seat_exists, subst}
-use Rattle.mk_laws.proofs.Vocabulary.{sym, through, true, world_behind, [], ◌++◌, ◌∙◌, ◌∷◌, ◌≡◌}
+use Rattle.mk_laws.proofs.Vocabulary.{Config, Event, List, Marker, Marking, Seat, World, ℕ, append_assoc, arith}
+use Rattle.mk_laws.proofs.Vocabulary.{first_world, flight_of, left, seat_exists, subst, sym, through, true}
+use Rattle.mk_laws.proofs.Vocabulary.{world_behind, [], ◌++◌, ◌∙◌, ◌∷◌, ◌≡◌}
 use Rattle.mk_core.proofs.Conditions.{enabled_events_meet_all}
 use Rattle.mk_core.specs.{Cycles.NoneSweeps, Cycles.NoneSweepsFrom, History.AreEnabledFrom, History.left_from}
 use Rattle.mk_laws.specs.{Precision.CyclesArePrecise, Promises.KeepsAllPromises}
 use Rattle.mk_run.specs.Unswept.{IsUnswept}
-use Rattle.mk_turns.{proofs.Sweeping.other_steps_sweep, specs.Sweeping.SweepsNothingFrom, specs.Sweeping.is_mark}
-use Rattle.mk_words.proofs.Seats.{same_seat, same_self}
+use Rattle.mk_turns.{proofs.Sweeping.other_steps_sweep, specs.Sweeping.SweepsNothingFrom}
+use Rattle.mk_words.proofs.Seats.{same_self}
 
 -- A marker makes none: its marks are of a kind of their own.
-
-markers_kind : (j : ℕ) (x : Step) → is_open_to (Marker j) (group_of x) ≡ true → is_mark x ≡ false
-markers_kind j x1 h = grind arith
 
 pub markers_sweep : (c : Config) (j : ℕ) (w : World) (es : List Event) → AreEnabledFrom c w es
     → SweepsNothingFrom c (Marker j) w es
@@ -20,8 +17,7 @@ unfolding SweepsNothingFrom AreEnabledFrom
 markers_sweep c j w [] enabled = tt
 markers_sweep c j w (e ∷ es) enabled =
     let meets = (enabled_events_meet_all c w.now e).0 enabled.0 in (
-      λ same. other_steps_sweep c w.now (flight_of w.now e.seat) e.step (markers_kind j e.step
-          (rw (same_seat (Marker j) e.seat same) meets.kind)),
+      λ same. other_steps_sweep c w.now (flight_of w.now e.seat) e.step (grind arith),
       markers_sweep c j (world_behind c w e) es enabled.1,
     )
 

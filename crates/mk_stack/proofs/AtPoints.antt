@@ -9,11 +9,5 @@ pub may_on : (ty : ℕ) (v w : Value) → w ≡ v → MayPointTo ty v → MayPoi
 may_on ty v w e h = subst (MayPointTo ty) (sym e) h
 
 module _ {f g : ℕ → Value} (same : (x : ℕ) → x < 8 → g x ≡ f x) where
-  points : {ty : ℕ} (x : ℕ) → x < 8 → IsPointerTo ty (f x) → IsPointerTo ty (g x)
-  points x lt h = points_on (g x) (same x lt) h
-
-  may : (ty x : ℕ) → x < 8 → MayPointTo ty (f x) → MayPointTo ty (g x)
-  may ty x lt h = may_on ty (f x) (g x) (same x lt) h
-
   pub holds_still : (t : Point) → HoldsAt f t → HoldsAt g t
-  holds_still x0 h = grind (arith, points, may)
+  holds_still x0 h = grind (arith, points_on, may_on)

@@ -39,14 +39,8 @@ module _ {callers : ℕ} {n : NeverState} {top : Option ℕ} {role : ℕ → Rol
   pub words_stay : (b : ℕ) → b ≢ t → words_of m b ≡ words_of n b
   words_stay b other = other_words n t 0 b v other
 
-  keeps_here : (k : ℕ) → k ≢ c → RoleKeeps k (role a) r (words_of m a ≡ words_of n a)
-  keeps_here k other = grind (arith, words_stay, node_is_no_top)
-
-  keeps_there : (k b : ℕ) → RoleKeeps k (role b) (role b) (words_of m b ≡ words_of n b)
-  keeps_there k b = grind (arith, same_role, words_stay)
-
   exchange_leaves : (k : ℕ) → k ≢ c → Leaves n top role m top now k
-  exchange_leaves k other = grind (arith, roles_put, keeps_here, keeps_there)
+  exchange_leaves k other = grind (arith, roles_put, words_stay, node_is_no_top, same_role)
 
   -- both roles are of nodes that aren't freed
   alike : (size_of r ≡ size_of (role a)) × (is_gone r ≡ is_gone (role a)) × (r ≢ Unborn) × (r ≢ Base)

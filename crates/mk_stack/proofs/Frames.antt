@@ -1,8 +1,8 @@
 -- What a step of one caller leaves of what holds of another.
-use Rattle.mk_stack.proofs.Vocabulary.{Done, Empty, Founding, Job, NeverState, Null, Point, Value, done_without}
-use Rattle.mk_stack.proofs.{Vocabulary.{register_at, word_at, words_of}, Invariant.{HasBase, HasFilled, HasFollowed}}
-use Rattle.mk_stack.proofs.Invariant.{HasFreed, HasLinked, HasOwn, HasSeen, HasTaken, HasTop, Local}
-use Rattle.mk_stack.proofs.Roles.{Base, Role, RoleKeeps, private_keeps, published_keeps, taken_keeps}
+use Rattle.mk_stack.proofs.Vocabulary.{Done, Empty, Founding, NeverState, Null, Point, Value, register_at, word_at}
+use Rattle.mk_stack.proofs.{Vocabulary.words_of, Invariant.{HasBase, HasFilled, HasFollowed, HasFreed, HasLinked}}
+use Rattle.mk_stack.proofs.{Invariant.{HasOwn, HasSeen, HasTaken, Local}, Roles.{Base, Role, RoleKeeps, private_keeps}}
+use Rattle.mk_stack.proofs.Roles.{published_keeps, taken_keeps}
 use Rattle.mk_laws.proofs.Vocabulary.{List, None, Option, Some, ℕ, ap, arith, get_or, ◌<◌, ◌∙◌, ◌≡◌, ◌⊎◌}
 
 -- What a step leaves as it was for caller k. The caller that founds the stack is the first, so no other relies on the
@@ -19,10 +19,6 @@ module _ {n : NeverState} {top : Option ℕ} {role : ℕ → Role} {m : NeverSta
     {k : ℕ} (leaves : Leaves n top role m top' role' k) where
   word_same : (a i : ℕ) → words_of m a ≡ words_of n a → word_at m a i ≡ word_at n a i
   word_same a i e = ap (λ (ws : List Value). get_or ws i Null) e
-
-  top_stays : HasTop n top k → HasTop m top' k
-  top_stays h =
-      record { t = h.t; is = leaves.same_top h.t h.is; register = leaves.registers 0 (omega arith) ∙ h.register }
 
   own_stays : HasOwn n role k → HasOwn m role' k
   own_stays h =
@@ -52,29 +48,12 @@ module _ {n : NeverState} {top : Option ℕ} {role : ℕ → Role} {m : NeverSta
   base_stays : k ≡ 0 → top ≡ None → HasBase n role k → HasBase m role' k
   base_stays first none h = grind (arith, word_same)
 
-  checked_stays : (j : Job) (u : Option Done)
-      → ((register_at n k 0 ≡ Null) × (u ≡ Some (done_without j))) ⊎ ((u ≡ None) × HasTop n top k)
-      → ((register_at m k 0 ≡ Null) × (u ≡ Some (done_without j))) ⊎ ((u ≡ None) × HasTop m top' k)
-  checked_stays j u x2 = grind (arith, top_stays)
-
   tested_stays : (u : Option Done) → ((register_at n k 2 ≡ Null) × (u ≡ Some Empty)) ⊎ ((u ≡ None) × HasSeen n role k)
       → ((register_at m k 2 ≡ Null) × (u ≡ Some Empty)) ⊎ ((u ≡ None) × HasSeen m role' k)
   tested_stays u x1 = grind (arith, seen_stays)
 
+  ruleset local_stays_facts = (filled_stays, linked_stays, followed_stays, taken_stays, freed_stays, tested_stays)
+
   pub local_stays : (s : Point) (u : Option Done) → Local n top role k s u → Local m top' role' k s u
   local_stays Founding u h = (h.0, leaves.none h.0 h.1)
-  local_stays _ u h =
-      grind (
-        arith,
-        top_stays,
-        own_stays,
-        filled_stays,
-        linked_stays,
-        seen_stays,
-        followed_stays,
-        taken_stays,
-        freed_stays,
-        base_stays,
-        checked_stays,
-        tested_stays,
-      )
+  local_stays _ u h = grind (arith, local_stays_facts, own_stays, seen_stays, base_stays)

@@ -2,11 +2,10 @@
 use Rattle.mk_stack.proofs.Vocabulary.{Done, Freeing, IsOneOf, NeverState, Null, Op, Ptr, Reading, Replied, Value, bit}
 use Rattle.mk_stack.proofs.{Vocabulary.{freed_by, register_at, with_freed, word_at}, Assembly.{Stepped, assemble}}
 use Rattle.mk_stack.proofs.{Assembly.{moved, nothing}, Heaps.{freed_flag, freed_type, freed_words, other_flag}}
-use Rattle.mk_stack.proofs.Invariant.{AllHeld, Core, Fits, HasChain, HasFreed, HasTaken, Inv, IsHeld, Work}
-use Rattle.mk_stack.proofs.Roles.{Freed, Private, Role, Stacked, Taken, Unborn, is_gone, put, put_by, put_other}
-use Rattle.mk_stack.proofs.{Roles.{put_same, same_role, size_of}, Chains.{all_numbers_stay, has_chain_stays}}
-use Rattle.mk_stack.proofs.{Exchanges.{put_before, roles_put}, Frames.Leaves, Writes.{base_taken, granted}}
-use Rattle.mk_stack.proofs.Writes.{taken_stacked, unborn_taken}
+use Rattle.mk_stack.proofs.{Invariant.{AllHeld, Core, Fits, HasFreed, HasTaken, Inv, Work}, Roles.{Freed, Private}}
+use Rattle.mk_stack.proofs.Roles.{Role, Stacked, Taken, is_gone, put, put_by, put_other, put_same, same_role, size_of}
+use Rattle.mk_stack.proofs.{Chains.{all_numbers_stay, has_chain_stays}, Exchanges.{put_before, roles_put}}
+use Rattle.mk_stack.proofs.{Frames.Leaves, Writes.{base_taken, granted, taken_stacked, unborn_taken}}
 use Rattle.mk_laws.proofs.Vocabulary.{List, None, Option, ℕ, ap, arith, get_or, length, length-set, sym, ◌+◌, ◌<◌, ◌∙◌}
 use Rattle.mk_laws.proofs.Vocabulary.{◌≡◌, ◌≢◌}
 
@@ -15,9 +14,6 @@ freed_private k e = cc
 
 freed_taken : (k : ℕ) → Freed ≡ Taken k → ⊥
 freed_taken k e = cc
-
-freed_unborn : Freed ≡ Unborn → ⊥
-freed_unborn e = cc
 
 module _ {callers : ℕ} {n : NeverState} {top : Option ℕ} {role : ℕ → Role} {nodes : List ℕ} {W : ℕ → Work}
     (inv : Inv callers n top role nodes W) {c : ℕ} {u : Option Done} (own : HasTaken n role c u)
@@ -40,19 +36,13 @@ module _ {callers : ℕ} {n : NeverState} {top : Option ℕ} {role : ℕ → Rol
   free_leaves : (k : ℕ) → k ≢ c → Leaves n top role m top now k
   free_leaves k other = grind (arith, put_other, base_taken, freed_words, roles_put, same_role)
 
-  still_other : (b : ℕ) (r : Role) → role b ≡ r → (r ≡ Taken c → ⊥) → now b ≡ r
-  still_other b r is differs = put_other role a Freed b (λ same. differs (sym is ∙ ap role same ∙ own.has)) ∙ is
-
-  free_chain : HasChain m top now nodes
-  free_chain = grind (arith, has_chain_stays, now, still_other, base_taken, word, taken_stacked)
-
   count : length m.allocations ≡ length n.allocations
   count = length-set n.allocations a _
 
   freed_fits : Fits m a Freed
   freed_fits = record {
     unborn = λ ge. absurd (omega (arith, count, there, ge));
-    born = λ lt e. freed_unborn e;
+    born = λ lt e. cc;
     size = ap length (freed_words n a a) ∙ (inv.core.fits a).size ∙ ap size_of own.has;
     freed = freed_flag n a there;
     base = λ e. absurd (cc);
@@ -67,20 +57,11 @@ module _ {callers : ℕ} {n : NeverState} {top : Option ℕ} {role : ℕ → Rol
     fits = put_by (λ (b : ℕ) (x : Role). Fits m b x) role a Freed freed_fits other_fits;
     stacked = put_by (λ (b : ℕ) (x : Role). x ≡ Stacked → IsOneOf b nodes) role a Freed
         (λ e. absurd (cc)) (λ b ne e. inv.core.stacked b e);
-    chain = free_chain;
+    chain = grind (arith, has_chain_stays, now, base_taken, word, taken_stacked, put_other, Freed);
   }
 
   freed : HasFreed m now c u
   freed = grind (arith, put_same, word)
-
-  no_longer : (b : ℕ) → IsHeld m (now b) c b Reading
-  no_longer b = record {
-    pushing = put_by (λ (z : ℕ) (r : Role). r ≡ Private c → ⊥ × (register_at m c 1 ≡ Ptr z 0 0)) role a Freed
-        (λ e. absurd (freed_private c e)) (λ z ne e. absurd ((held z).pushing e).0) b;
-    freeing = put_by (λ (z : ℕ) (r : Role). r ≡ Taken c → ⊥ × (register_at m c 2 ≡ Ptr z 0 0)) role a Freed
-        (λ e. absurd (freed_taken c e)) (λ z ne e. absurd (ne (
-        let same : Ptr z 0 0 ≡ Ptr a 0 0 = sym ((held z).freeing e).1 ∙ own.register in cc))) b;
-  }
 
   -- It is freed by this.
   pub by_free : (o : Op) (rest : List Replied) → freed_by a n c o ≡ 1 → ((b : ℕ) → b ≢ a → freed_by b n c o ≡ 0)
@@ -92,13 +73,17 @@ module _ {callers : ℕ} {n : NeverState} {top : Option ℕ} {role : ℕ → Rol
     decided = u;
     decision = None;
     inv = assemble inv c (moved (W c) Reading u rest) free_core free_leaves
-        (λ k b other. put_before role a Freed k b (λ e. freed_private k e) (λ e. freed_taken k e)) freed no_longer;
+        (λ k b other. put_before role a Freed k b (λ e. freed_private k e) (λ e. freed_taken k e)) freed (λ b.
+        record {
+          pushing = put_by (λ (z : ℕ) (r : Role). r ≡ Private c → ⊥ × (register_at m c 1 ≡ Ptr z 0 0)) role a Freed
+              (λ e. absurd (freed_private c e)) (λ z ne e. absurd ((held z).pushing e).0) b;
+          freeing = put_by (λ (z : ℕ) (r : Role). r ≡ Taken c → ⊥ × (register_at m c 2 ≡ Ptr z 0 0)) role a Freed
+              (λ e. absurd (freed_taken c e)) (λ z ne e. absurd (ne (
+              let same : Ptr z 0 0 ≡ Ptr a 0 0 = sym ((held z).freeing e).1 ∙ own.register in cc))) b;
+        });
     left = all_numbers_stay n m top role nodes (λ b e. word b 0) inv.core.chain;
     decides = nothing;
     frees = put_by (λ (b : ℕ) (x : Role). bit (is_gone x) ≡ bit (is_gone (role b)) + freed_by b n c o) role a Freed
         (sym (ap (λ (r : Role). bit (is_gone r) + freed_by a n c o) own.has ∙
-        (omega (arith, once)))) (λ b ne. none_more b ne);
+        (omega (arith, once)))) (λ b ne. omega (arith, others b ne));
   }
-    where
-      none_more : (b : ℕ) → b ≢ a → bit (is_gone (role b)) ≡ bit (is_gone (role b)) + freed_by b n c o
-      none_more b ne = omega (arith, others b ne)

@@ -63,13 +63,11 @@ module _ {callers : ℕ} {n : NeverState} {top : Option ℕ} {role : ℕ → Rol
   new_fits : Fits m a r
   new_fits = grind (arith, count, made)
 
-  other_fits : (b : ℕ) → b ≢ a → Fits m b (role b)
-  other_fits b ne = let was = inv.core.fits b in grind (arith, count, other)
-
   grant_core : Core callers m top now nodes
   grant_core = record {
     shape = rw (length-set n.registers (8 * c + d) (Ptr a ty 0)) inv.core.shape;
-    fits = put_by (λ (b : ℕ) (x : Role). Fits m b x) role a r new_fits other_fits;
+    fits = put_by (λ (b : ℕ) (x : Role). Fits m b x) role a r new_fits
+        (λ b ne. let was = inv.core.fits b in grind (arith, count, other));
     stacked = put_by (λ (b : ℕ) (x : Role). x ≡ Stacked → IsOneOf b nodes) role a r
         (λ e. absurd (fits.not_stacked e)) (λ b ne e. inv.core.stacked b e);
     chain = has_chain_stays n m top role now nodes refl

@@ -1,7 +1,7 @@
 -- Where operations lead: from points of a job to points of that job.
 use Rattle.mk_stack.proofs.Vocabulary.{Asks, Done, Empty, Ended, Founded, Founding, Full, Job, Leads, NeverState, Op}
-use Rattle.mk_stack.proofs.Vocabulary.{Placing, Point, Pop, Popped, Push, Pushed, Replied, Reply, Starting}
-use Rattle.mk_stack.proofs.Vocabulary.{done_without, fail, find_no_room, found, lack, miss, op_at, place, publish, read}
+use Rattle.mk_stack.proofs.Vocabulary.{Placing, Point, Pop, Popped, Push, Pushed, Replied, Reply, Starting, fail}
+use Rattle.mk_stack.proofs.Vocabulary.{find_no_room, found, lack, miss, op_at, place, publish, read}
 use Rattle.mk_stack.proofs.{Invariant.{IsFreeing, IsPushing, Local}, Assembly.{IsOfJob, job_at}, Roles.Role}
 use Rattle.mk_laws.proofs.Vocabulary.{List, None, Option, Some, ℕ, arith, refl, subst, sym, [], ◌∙◌, ◌∷◌, ◌≡◌}
 use Rattle.mk_stack.specs.Advancing.{IsFit, IsGoal}
@@ -51,11 +51,8 @@ abbrev IsAtJob : Job → Point → Type 0
 IsAtJob j (Ended d) = IsFit j d
 IsAtJob j s = job_at s ≡ j
 
-fit_without : (j j' : Job) → j ≡ j' → IsFit j' (done_without j)
-fit_without x0 j' is = grind arith
-
 job_stays : {s : Point} {o : Op} {r : Reply} {next : Point} → Asks s o r next → (j : Job) → IsAtJob j s → IsAtJob j next
-job_stays (lack {j = i}) j is = fit_without i j is
+job_stays (lack {j = i}) j is = grind arith
 job_stays (fail {n = x}) j is = subst (λ (k : Job). IsFit k Full) is tt
 job_stays (publish {n = x}) j is = subst (λ (k : Job). IsFit k Pushed) is tt
 job_stays miss j is = subst (λ (k : Job). IsFit k Empty) is tt

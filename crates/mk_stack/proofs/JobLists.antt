@@ -29,9 +29,7 @@ does_more {p} {q} r {jobs} {dones} job done before does =
       is = does.is ∙ ap (λ (s : PassState). record s { seen = r.seen }) before.is;
       runs = before.runs ++ more.run ∷ [];
       are_runs = one_run_more before.runs more.run before.are_runs more.is_run;
-      same_jobs =
-          one_job_more before.runs more.run
-          ∙ both (jobs_of before.runs) jobs more.run.job job before.same_jobs more.same_job;
+      same_jobs = one_job_more before.runs more.run ∙ both _ jobs more.run.job job before.same_jobs more.same_job;
       same_dones =
           one_done_more before.runs more.run
           ∙ both (dones_of before.runs) dones more.run.done done before.same_dones more.same_done;

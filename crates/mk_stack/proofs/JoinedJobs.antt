@@ -64,15 +64,6 @@ next_unasked s made is = unasked s.pass (ap (λ (r : CallerState). r.pass.seen) 
 
 -- A caller did its jobs.
 
-pub done_by : {w : WordsState} {k : ℕ} {p q : PassState} {jobs : List Job} {dones : List Done} → IsBetweenJobs w k p
-    → DoesJobs p jobs dones q → HasDone w.config q.seen (replied_to p) k jobs dones
-done_by {w} {k} {p} {q} ready does = grind arith
-
-pub all_done_by : {w : WordsState} {k : ℕ} {p : PassState} (q : PassState) (jobs : List Job)
-    (dones : Result Dones NoMemory) → IsBetweenJobs w k p → IfOk dones (λ ds. DoesJobs p jobs ds.list.items q)
-    → IfOk dones (λ ds. HasDone w.config q.seen (replied_to p) k jobs ds.list.items)
-all_done_by q jobs x2 ready does = grind (arith, done_by)
-
 pub no_lists : (lists : List Jobs) → length lists ≡ 0 → lists ≡ []
 no_lists [] e = refl
 no_lists (x ∷ xs) e = absurd (omega (arith, e))
@@ -147,7 +138,7 @@ pub has_worked : {w : WordsState} {k : ℕ} {p : PassState} (s : CallerState) {q
     (jobs : List Job) (dones : Result Dones NoMemory) → IsBetweenJobs w k p → s ≡ at_home p
     → q ≡ record s.pass { seen = q.seen } → IfOk dones (λ ds. DoesJobs s.pass jobs ds.list.items q) → r ≡ q
     → IsIdleCaller q → HasWorked w (replied_to p) k jobs (record { pass = r; dones = dones })
-has_worked {w} {k} {p} s {q} r jobs dones ready home is does same idle = grind (arith, is_ready, all_done_by)
+has_worked {w} {k} {p} s {q} r jobs dones ready home is does same idle = grind (arith, is_ready)
 
 -- A caller between two jobs may do the next one.
 pub ready_between : {E : Type 0} {made_for : E → ℕ} {w : WordsState} {k : ℕ} {s : CallerState} {b : E}

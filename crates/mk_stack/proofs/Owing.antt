@@ -6,7 +6,7 @@ use Rattle.mk_stack.proofs.{Assembly.{Decides, IsLeft, IsOfJob, job_at, nothing,
 use Rattle.mk_stack.proofs.{Invariant.{IsFreeing, IsPushing, Local, Work}, Roles.{Private, Role, Taken, is_gone}}
 use Rattle.mk_stack.proofs.JobGoals.{goal_frees_nothing, goal_pushes_nothing}
 use Rattle.mk_laws.proofs.Vocabulary.{List, None, Option, Some, ℕ, arith, drop, eq-eqb, length, ne_eqb, refl}
-use Rattle.mk_laws.proofs.Vocabulary.{replies_of, subst, sym, take, [], ◌++◌, ◌+◌, ◌∙◌, ◌∷◌, ◌≡◌, ◌≢◌}
+use Rattle.mk_laws.proofs.Vocabulary.{replies_of, subst, sym, take, [], ◌++◌, ◌+◌, ◌∷◌, ◌≡◌, ◌≢◌}
 use Rattle.mk_stack.specs.{Advancing.IsGoal, Jobs.IsJobRun, Laws.{NoneIsDouble, times_freed}, Orders.left_by_all}
 
 -- what a caller still has to do
@@ -133,11 +133,6 @@ pub explained_more : (d : Option Ordered) (xs ys : List ℕ) (zs : List ℕ) (ds
     → left_by_all ys (order_of ds) ≡ Some zs → left_by_all xs (order_of (d ∷ ds)) ≡ Some zs
 explained_more x0 xs ys zs ds left rest = grind arith
 
--- The same is owed after a step that decides nothing,
-pub owed_same : (c : ℕ) (s next : Point) (u : Option Done) (g : Point) → (u ≡ None → job_at next ≡ job_at s)
-    → owed c next u g ≡ owed c s u g
-owed_same c s next x3 x4 same = grind arith
-
 -- and nothing after one that decides the job.
 pub record IsOnceMore (c : ℕ) (s : Point) (u : Option Done) (d : Option Ordered) (g : Point) (ds : List
     (Option Ordered)) : Type 0 where
@@ -147,8 +142,4 @@ pub record IsOnceMore (c : ℕ) (s : Point) (u : Option Done) (d : Option Ordere
 pub once_more : {c : ℕ} {s : Point} (next : Point) {u : Option Done} {d : Option Ordered} {u' : Option Done} (g : Point)
     (ds : List (Option Ordered)) → Decides c s u d u' → (u' ≡ None → job_at next ≡ job_at s)
     → IsGoal g → (IsOfJob s → g ≢ Founded) → Agrees u' g → order_of ds ≡ owed c next u' g → IsOnceMore c s u d g ds
-once_more {c} {s} next {u' = u'} g ds (nothing {u = x}) same goal of_job agrees first =
-    record { agrees = agrees; first = first ∙ owed_same c s next u' g same }
-once_more next (Ended e) ds (settles {d = y} h) same goal of_job agrees first = grind (arith, entry)
-once_more next Founded ds (settles {d = y} h) same goal of_job agrees first = absurd (of_job h refl)
-once_more next _ ds (settles {d = y} h) same goal of_job agrees first = absurd goal
+once_more next g ds x3 same goal of_job agrees first = grind (arith, entry)

@@ -2,20 +2,20 @@
 use Rattle.std.proofs.Common.{IfSome}
 use Rattle.mk_stack.proofs.Vocabulary.{Answer, Asks, Checking, Ended, Filling, Following, Founded, Founding, Freeing}
 use Rattle.mk_stack.proofs.Vocabulary.{Full, HoldsAt, IsPointerTo, Kind, Linking, Looking, Making, MayPointTo}
-use Rattle.mk_stack.proofs.Vocabulary.{NeverState, Null, Num, Number, Op, Peeking, Placing, Point, Pop, Ptr, Publishing}
-use Rattle.mk_stack.proofs.Vocabulary.{Push, Reading, Reply, Starting, Taking, Testing, To, Value, after_op}
-use Rattle.mk_stack.proofs.Vocabulary.{allocation_at, answer_of, bit, fail, fill, find_no_room, flagged, follow, found}
-use Rattle.mk_stack.proofs.Vocabulary.{free, free_again, global_at, go_pop, go_push, is_same, kinds_of, lack, left_at}
-use Rattle.mk_stack.proofs.Vocabulary.{link, look, make, meet, miss, next_point, node_kinds, op_at, peek, place}
-use Rattle.mk_stack.proofs.Vocabulary.{pop_again, publish, push_again, read, register_at, reply_at, reply_of, start}
-use Rattle.mk_stack.proofs.Vocabulary.{target_of, top_kinds, unlink, with_new, with_register, with_word, word_at}
+use Rattle.mk_stack.proofs.Vocabulary.{NeverState, Num, Number, Op, Peeking, Placing, Point, Pop, Ptr, Publishing, Push}
+use Rattle.mk_stack.proofs.Vocabulary.{Reading, Reply, Starting, Taking, Testing, Value, after_op, allocation_at}
+use Rattle.mk_stack.proofs.Vocabulary.{answer_of, bit, fail, fill, find_no_room, flagged, follow, found, free}
+use Rattle.mk_stack.proofs.Vocabulary.{free_again, global_at, go_pop, go_push, is_same, kinds_of, lack, left_at, link}
+use Rattle.mk_stack.proofs.Vocabulary.{look, make, meet, miss, next_point, node_kinds, op_at, peek, place, pop_again}
+use Rattle.mk_stack.proofs.Vocabulary.{publish, push_again, read, register_at, reply_at, reply_of, start, target_of}
+use Rattle.mk_stack.proofs.Vocabulary.{unlink, with_new, with_register, with_word, word_at}
 use Rattle.mk_stack.proofs.{AtPoints.{holds_still, may_on, points_on}, NodeKinds.{IsStackState, gets_to, global_kind}}
 use Rattle.mk_stack.proofs.NodeKinds.{may_point, meets, node_link, not_null_points, top_word}
 use Rattle.mk_stack.{proofs.Heaps.{other_register, set_register}, specs.Advancing.{says_full, says_yes}}
-use Rattle.mk_laws.proofs.Vocabulary.{AccessIsAdmitted, Bool, IsAdmitted, IsPointer, List, Meets, ℕ, ap, arith, false}
-use Rattle.mk_laws.proofs.Vocabulary.{false≢true, get_or, if◌then◌else◌, length, refl, suc, sym, true, zero, [], ◌*◌}
-use Rattle.mk_laws.proofs.Vocabulary.{◌+◌, ◌<◌, ◌∙◌, ◌∷◌, ◌≡◌, ◌≢◌}
-use Rattle.mk_never.specs.Admitted.{IsOfKind, OperandsAreInRange, StoreIsAdmitted}
+use Rattle.mk_laws.proofs.Vocabulary.{AccessIsAdmitted, Bool, IsAdmitted, IsPointer, List, Meets, ℕ, arith, false}
+use Rattle.mk_laws.proofs.Vocabulary.{get_or, if◌then◌else◌, length, refl, suc, true, zero, [], ◌*◌, ◌+◌, ◌<◌, ◌∷◌, ◌≡◌}
+use Rattle.mk_laws.proofs.Vocabulary.{◌≢◌}
+use Rattle.mk_never.specs.Admitted.{OperandsAreInRange, StoreIsAdmitted}
 use Rattle.mk_run.specs.Scripts.{as_told}
 
 -- Where an operation is replied yes or no, its answer leads to this point or that.
@@ -49,9 +49,6 @@ module _ {globals : List ℕ} {n : NeverState} {k : ℕ} (state : IsStackState g
 
   -- an access to the top's word, and to a word of a node
 
-  top_meets : (P : Kind → Type 0) → IsPointerTo 1 (register_at n k 0) → P (To 0 0) → Meets n (register_at n k 0) 0 P
-  top_meets P h holds = meets state P 0 0 top_kinds state.top h (omega arith) holds
-
   node_meets : (P : Kind → Type 0) (r i : ℕ) → IsPointerTo 0 (register_at n k r) → i < 2
       → P (get_or node_kinds i Number) → Meets n (register_at n k r) i P
   node_meets P r i h lt holds = meets state P r i node_kinds state.node h lt holds
@@ -62,18 +59,11 @@ module _ {globals : List ℕ} {n : NeverState} {k : ℕ} (state : IsStackState g
   pub may_follow : (d : ℕ) → d < 8 → IsPointerTo 0 (register_at n k 2) → IsAdmitted globals n k (Op.GetPtr d 2 1)
   may_follow d lt h = admitted (Op.GetPtr d 2 1) (lt, omega arith) (node_meets IsPointer 2 1 h (omega arith) refl) tt
 
-  may_exchange : (r : ℕ) → r < 8 → IsPointerTo 1 (register_at n k 0) → MayPointTo 0 (register_at n k 2)
-      → MayPointTo 0 (register_at n k r) → IsAdmitted globals n k (Op.CasPtr 0 0 2 r)
-  may_exchange r lt h was now =
-      admitted (Op.CasPtr 0 0 2 r) (omega arith, omega arith, lt) (top_meets IsPointer h refl)
-      (top_meets (λ (kind : Kind). IsOfKind (register_at n k 2) kind × IsOfKind (register_at n k r) kind) h (was, now))
-
   may_place : IsPointerTo 1 (register_at n k 0) → IsAdmitted globals n k (Op.SetGlobal 0 0)
   may_place h = grind (arith, admitted, may_point)
 
   pub admits : (s : Point) → At s → IfSome (op_at s) (IsAdmitted globals n k)
-  admits x0 h =
-      grind (arith, admitted, type_exists, may_place, node_meets, top_meets, may_exchange, may_point, may_follow)
+  admits x0 h = grind (arith, admitted, type_exists, may_place, node_meets, may_point, may_follow, meets)
 
   -- What is left, and where it leads
 
@@ -103,12 +93,6 @@ module _ {globals : List ℕ} {n : NeverState} {k : ℕ} (state : IsStackState g
       → A (reply_at (target_of n (register_at n k r) i) at) (left_at (target_of n (register_at n k r) i) refused left)
   at_node r i x2 at refused left h there = grind (arith, gets_to)
 
-  -- A register that is said not to be null
-  pub is_pointer : (ty r : ℕ) → MayPointTo ty (register_at n k r) → is_same (register_at n k r) Null ≡ false
-      → IsPointerTo ty (register_at n k r)
-  is_pointer ty r may differs =
-      not_null_points ty (register_at n k r) may (λ e. false≢true (sym differs ∙ ap (λ (v : Value). is_same v Null) e))
-
   -- The operation o is replied r, leaves m, is answered by its image, and leads on from s.
   abbrev Step : Point → Op → Answer → List ℕ → Reply → NeverState → Type 0
   Step s o a bases r m =
@@ -127,7 +111,7 @@ module _ {globals : List ℕ} {n : NeverState} {k : ℕ} (state : IsStackState g
       → MayPointTo ty (register_at n k i) → A (Op.IsNull i) (Reply.Num 1) so → (IsPointerTo ty (register_at n k i)
       → A (Op.IsNull i) (Reply.Num 0) not_so) → a ≡ answer_of bases (reply_of n k (Op.IsNull i))
       → A (Op.IsNull i) (reply_of n k (Op.IsNull i)) (if says_yes (as_told a) then so else not_so)
-  tested x0 i ty a bases may so not_so = grind (arith, yes_no, is_pointer)
+  tested x0 i ty a bases may so not_so = grind (arith, yes_no, not_null_points)
 
   -- an exchange of the uppermost node
   exchanged : {s : Point} {r : ℕ} {so not_so : Point} (a : Answer) (bases : List ℕ)
@@ -147,9 +131,7 @@ module _ {globals : List ℕ} {n : NeverState} {k : ℕ} (state : IsStackState g
           (if says_yes (as_told a) then so else not_so) × HoldsAt (register_at
           (if b then with_word n h.number 0 (register_at n k r) else n) k) (if says_yes (as_told a) then so else not_so)
       by b =
-          let still : (t : Point) → At t
-          → HoldsAt (register_at (if b then with_word n h.number 0 (register_at n k r) else n) k) t =
-          holds_still (λ x lt. exchange_leaves b n h.number 0 (register_at n k r) k x) in
+          let still = holds_still (λ x lt. exchange_leaves b n h.number 0 (register_at n k r) k x) in
           yes_no (λ x t. Asks s (Op.CasPtr 0 0 2 r) x t
           × HoldsAt (register_at (if b then with_word n h.number 0 (register_at n k r) else n) k) t) b a bases
           (λ e. (asks_yes, still so at_yes)) (λ e. (asks_no, still not_so at_no))

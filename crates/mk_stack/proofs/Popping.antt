@@ -6,8 +6,8 @@ use Rattle.mk_stack.proofs.{Exchanges.words_stay, Invariant.{AllHeld, HasChain, 
 use Rattle.mk_stack.proofs.Roles.{Role, Stacked, Taken, put, put_by, put_other, put_same, size_of}
 use Rattle.mk_stack.proofs.Writes.{base_stacked, granted, private_taken, taken_stacked, unborn_base}
 use Rattle.mk_stack.proofs.{Assembly.{Stepped, settles}, Heaps.written}
-use Rattle.mk_laws.proofs.Vocabulary.{Bool, List, None, Option, Some, ℕ, ap, arith, cond, eq-eqb, get_or, inr, length}
-use Rattle.mk_laws.proofs.Vocabulary.{refl, subst, sym, ◌∙◌, ◌∷◌, ◌≡◌, ◌≢◌}
+use Rattle.mk_laws.proofs.Vocabulary.{Bool, List, None, Option, Some, ℕ, ap, arith, cond, eq-eqb, get_or, inr, refl}
+use Rattle.mk_laws.proofs.Vocabulary.{subst, sym, ◌∙◌, ◌∷◌, ◌≡◌, ◌≢◌}
 
 module _ {callers : ℕ} {n : NeverState} {top : Option ℕ} {role : ℕ → Role} {a : ℕ} {nodes : List ℕ} {W : ℕ
     → Work} (inv : Inv callers n top role (a ∷ nodes) W) (c t : ℕ) (v : Value) (is : top ≡ Some t)
@@ -33,13 +33,10 @@ module _ {callers : ℕ} {n : NeverState} {top : Option ℕ} {role : ℕ → Rol
   no_top : (b : ℕ) → role b ≡ Stacked → b ≢ t
   no_top b e same = base_stacked (sym chain.1 ∙ sym (ap role same) ∙ e)
 
-  top_word : word_at m t 0 ≡ v
-  top_word =
-      let one : length (words_of n t) ≡ 1 = (inv.core.fits t).size ∙ ap size_of chain.1 in
-      written n t 0 v (granted t inv.core (λ e. unborn_base (e ∙ chain.1))) (omega (arith, one))
+  ruleset popped_chain_facts = (put_other, chain_stays, not_one_of, no_top, size_of, written, granted, unborn_base)
 
   popped_chain : HasChain m top now nodes
-  popped_chain = grind (arith, now, chain, put_other, apart, top_word, chain_stays, not_one_of, word, no_top)
+  popped_chain = grind (arith, popped_chain_facts, now, chain, apart, word)
 
   abbrev y : ℕ
   y = number_of (word_at n a 0)
@@ -50,14 +47,11 @@ module _ {callers : ℕ} {n : NeverState} {top : Option ℕ} {role : ℕ → Rol
   now_held : (b : ℕ) → IsHeld m (now b) c b Freeing
   now_held b = grind (arith, put_by, private_taken)
 
-  only_below : (b : ℕ) → b ≢ a → IsOneOf b (a ∷ nodes) → IsOneOf b nodes
-  only_below b ne x2 = grind arith
-
   pub by_pop : (o : Op) (rest : List Replied) → ((b : ℕ) → freed_by b n c o ≡ 0)
       → Stepped callers n role (a ∷ nodes) W c Taking None o Freeing rest m
   by_pop o rest frees =
       by_exchange inv c t a v (Taken c) is chain.1 (inr (chain.2.1, refl)) nodes o Freeing rest
       (put_by (λ (b : ℕ) (r : Role). r ≡ Stacked → IsOneOf b nodes) role a (Taken c) (λ e. absurd (taken_stacked c e))
-      (λ b ne e. only_below b ne (inv.core.stacked b e))) popped_chain taken now_held (ap (λ (b : Bool). cond b
+      (λ b ne e. grind arith)) popped_chain taken now_held (ap (λ (b : Bool). cond b
       (Some (numbers_in n nodes)) None) (eq-eqb y y refl) ∙ ap Some (sym
       (numbers_stay n m role (word_at n a 1) nodes (λ b e. word b 0 (no_top b e)) chain.2.3))) (settles tt) frees

@@ -3,12 +3,12 @@ use Rattle.std.proofs.Common.{ap₂}
 use Rattle.mk_stack.proofs.Vocabulary.{Ended, IsOneOf, NeverState, Null, Op, Ptr, Publishing, Pushed, Replied, Value}
 use Rattle.mk_stack.proofs.Vocabulary.{freed_by, number_of, register_at, with_word, word_at, words_of}
 use Rattle.mk_stack.proofs.{Chains.{chain_stays, numbers_stay, other_role}, Exchanges.{by_exchange, node_is_no_top}}
-use Rattle.mk_stack.proofs.{Exchanges.words_stay, Invariant.{AllHeld, HasChain, HasLinked, Inv, IsChain, IsHeld, Work}}
+use Rattle.mk_stack.proofs.{Exchanges.words_stay, Invariant.{AllHeld, HasChain, HasLinked, Inv, IsHeld, Work}}
 use Rattle.mk_stack.proofs.Roles.{Role, Stacked, put, put_by, put_other, put_same, size_of}
 use Rattle.mk_stack.proofs.Writes.{base_stacked, granted, private_stacked, taken_stacked, unborn_base}
 use Rattle.mk_stack.proofs.{Assembly.{Stepped, settles}, Heaps.written}
-use Rattle.mk_laws.proofs.Vocabulary.{List, None, Option, Some, ℕ, ap, arith, get_or, inl, inr, length, refl, subst}
-use Rattle.mk_laws.proofs.Vocabulary.{sym, ◌∙◌, ◌∷◌, ◌≡◌, ◌≢◌}
+use Rattle.mk_laws.proofs.Vocabulary.{List, None, Option, Some, ℕ, ap, arith, get_or, inl, inr, refl, subst, sym, ◌∙◌}
+use Rattle.mk_laws.proofs.Vocabulary.{◌∷◌, ◌≡◌, ◌≢◌}
 
 module _ {callers : ℕ} {n : NeverState} {top : Option ℕ} {role : ℕ → Role} {nodes : List ℕ} {W : ℕ → Work}
     (inv : Inv callers n top role nodes W) (c t x : ℕ) (is : top ≡ Some t) (own : HasLinked n role c x)
@@ -37,16 +37,10 @@ module _ {callers : ℕ} {n : NeverState} {top : Option ℕ} {role : ℕ → Rol
   no_top : (b : ℕ) → role b ≡ Stacked → b ≢ t
   no_top b e same = base_stacked (sym chain.1 ∙ sym (ap role same) ∙ e)
 
-  top_word : word_at m t 0 ≡ Ptr a 0 0
-  top_word =
-      let one : length (words_of n t) ≡ 1 = (inv.core.fits t).size ∙ ap size_of chain.1 in
-      written n t 0 (Ptr a 0 0) (granted t inv.core (λ e. unborn_base (e ∙ chain.1))) (omega (arith, one))
-
-  below : IsChain m now (word_at m a 1) nodes
-  below = grind (arith, now, word, apart, chain_stays, put_other, private_stacked, no_top, chain)
+  ruleset pushed_chain_facts = (put_other, put_same, other_role, private_stacked, size_of, unborn_base, chain_stays)
 
   pushed_chain : HasChain m top now (a ∷ nodes)
-  pushed_chain = grind (arith, now, chain, put_other, apart, top_word, put_same, other_role, private_stacked, below)
+  pushed_chain = grind (arith, pushed_chain_facts, now, chain, apart, written, granted, word, no_top)
 
   no_longer : (b : ℕ) → IsHeld m (now b) c b (Ended Pushed)
   no_longer b = grind (arith, put_by, private_stacked, taken_stacked)

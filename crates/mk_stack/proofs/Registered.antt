@@ -1,9 +1,9 @@
 -- Steps that leave all allocations: a register that is set, a global, or nothing.
 use Rattle.mk_stack.proofs.Vocabulary.{Done, NeverState, Null, Op, Ordered, Point, Ptr, Replied, Value, freed_by}
 use Rattle.mk_stack.proofs.{Vocabulary.{numbers_in, with_global, with_register, word_at}, Assembly.{Decides, IsLeft}}
-use Rattle.mk_stack.proofs.{Assembly.{Stepped, nothing, same_roles}, Invariant.{AllHeld, Core, HasChain, Inv, IsChain}}
-use Rattle.mk_stack.proofs.{Invariant.{Local, Work}, Roles.{Base, Role, same_role}}
-use Rattle.mk_stack.proofs.{Chains.{all_numbers_stay, has_chain_stays}, Frames.Leaves, Heaps.register_of_other}
+use Rattle.mk_stack.proofs.{Assembly.{Stepped, nothing, same_roles}, Invariant.{AllHeld, Core, Inv, IsChain, Local}}
+use Rattle.mk_stack.proofs.{Invariant.Work, Roles.{Base, Role, same_role}, Chains.{all_numbers_stay, has_chain_stays}}
+use Rattle.mk_stack.proofs.{Frames.Leaves, Heaps.register_of_other}
 use Rattle.mk_laws.proofs.Vocabulary.{List, None, Option, Some, ℕ, arith, get_or-set_same, length, length-set, refl}
 use Rattle.mk_laws.proofs.Vocabulary.{subst, sym, [], ◌*◌, ◌+◌, ◌<◌, ◌≡◌, ◌≢◌}
 
@@ -51,15 +51,12 @@ module _ {callers : ℕ} {n : NeverState} {top : Option ℕ} {role : ℕ → Rol
     abbrev g : NeverState
     g = with_global n 0 (Ptr t 1 0)
 
-    no_nodes : (x : Option ℕ) → x ≡ None → HasChain n x role nodes → nodes ≡ []
-    no_nodes x0 e chain = grind (arith, none_some)
-
     global_leaves : (k : ℕ) → k ≢ c → Leaves n top role g (Some t) role k
     global_leaves k other = grind (arith, none_some, same_role)
 
     global_core : Core callers g (Some t) role nodes
     global_core =
-        let nil : nodes ≡ [] = no_nodes top none inv.core.chain in
+        let nil : nodes ≡ [] = grind (arith, none_some) in
         record {
           shape = rw (length-set n.globals 0 (Ptr t 1 0)) inv.core.shape;
           fits = inv.core.fits;

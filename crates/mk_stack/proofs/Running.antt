@@ -10,9 +10,6 @@ use Rattle.mk_stack.proofs.{Roles.{Role, put, put_by, put_other, put_same}, Step
 use Rattle.mk_laws.proofs.Vocabulary.{List, None, Option, ℕ, ap, arith, drop, length, refl, subst, suc, sym, take, []}
 use Rattle.mk_laws.proofs.Vocabulary.{◌++◌, ◌<◌, ◌∙◌, ◌∷◌, ◌≡◌, ◌≢◌}
 
-cons_head : (a b : Replied) (xs ys : List Replied) → a ∷ xs ≡ b ∷ ys → a ≡ b
-cons_head a b xs ys e = cc
-
 cons_tail : (a b : Replied) (xs ys : List Replied) → a ∷ xs ≡ b ∷ ys → xs ≡ ys
 cons_tail a b xs ys e = cc
 
@@ -44,9 +41,7 @@ module _ {callers : ℕ} {n : NeverState} {top : Option ℕ} {role : ℕ → Rol
     leads = subst (λ (r : List Replied). Leads (W c).point r (W c).goal) rest_is (works c).leads
 
     asks : Asks (W c).point o (reply_of n c o) leads.0
-    asks =
-        subst (λ (z : Replied). Asks (W c).point z.op z.reply leads.0)
-        (sym (cons_head _ y (own_replied c m xs) (ys ++ all_of (W c).later) own_is)) leads.1
+    asks = grind (arith, leads, own_is)
 
     stepped : Stepped callers n role nodes W c (W c).point (W c).decided o leads.0 ys m
     stepped = steps inv c exists asks (W c).decided ys (inv.local c) (λ a. inv.held c a) refl
@@ -146,11 +141,6 @@ module _ {callers : ℕ} {n : NeverState} {top : Option ℕ} {role : ℕ → Rol
       single = ran.single;
     }
 
--- A caller that is between jobs, and has none left, asks nothing.
-none_is_asked : (c : ℕ) (o : Op) (n : NeverState) (xs : List Call) (rest : List Replied) (later : List JobRun)
-    → rest ≡ [] → later ≡ [] → own_replied c n (record { caller = c; op = o } ∷ xs) ≡ rest ++ all_of later → ⊥
-none_is_asked c o n xs rest later nil none own = grind (arith, mine)
-
 -- The first operation of a list, where all later ones are known
 run_more : {callers : ℕ} {n : NeverState} {top : Option ℕ} {role : ℕ → Role} {nodes : List ℕ} {W : ℕ → Work}
     → Inv callers n top role nodes W → (c : ℕ) (o : Op) (xs : List Call) → c < callers
@@ -160,7 +150,7 @@ run_more {callers} {n} {role} {nodes} {W} inv c o xs exists works run = by (W c)
   where
     open_next : (W c).rest ≡ [] → (rs : List JobRun) → (W c).later ≡ rs
         → Ran callers n role nodes W (record { caller = c; op = o } ∷ xs)
-    open_next nil [] is = absurd (none_is_asked c o n xs (W c).rest (W c).later nil is (works c).own)
+    open_next nil [] is = absurd (grind (arith, mine))
     open_next nil (r ∷ rs) is = began inv c o xs exists works nil r rs is (begin r.all refl)
       where
         begin : (l : List Replied) → r.all ≡ l

@@ -2,11 +2,11 @@
 use Rattle.mk_stack.proofs.Vocabulary.{Asks, Checking, Done, Empty, Ended, Filling, Following, Freeing, Job, Linking}
 use Rattle.mk_stack.proofs.Vocabulary.{Looking, NeverState, Null, Num, Op, Peeking, Placing, Point, Pop, Popped, Ptr}
 use Rattle.mk_stack.proofs.Vocabulary.{Publishing, Push, Pushed, Reading, Replied, Reply, Starting, Taking, Target}
-use Rattle.mk_stack.proofs.Vocabulary.{Testing, Value, after_free, after_op, clear, done_without, fail, fill}
-use Rattle.mk_stack.proofs.Vocabulary.{find_no_room, follow, found, free, free_again, freed_by, global_at, go_pop}
-use Rattle.mk_stack.proofs.Vocabulary.{go_push, lack, left_at, left_by, link, look, make, meet, miss, number_of}
-use Rattle.mk_stack.proofs.Vocabulary.{numbers_in, peek, place, pop_again, publish, push_again, read, register_at}
-use Rattle.mk_stack.proofs.Vocabulary.{reply_of, start, unlink, with_new, with_register, with_word, word_at, words_of}
+use Rattle.mk_stack.proofs.Vocabulary.{Testing, Value, after_op, clear, done_without, fail, fill, find_no_room, follow}
+use Rattle.mk_stack.proofs.Vocabulary.{found, free, free_again, freed_by, global_at, go_pop, go_push, lack, left_at}
+use Rattle.mk_stack.proofs.Vocabulary.{left_by, link, look, make, meet, miss, number_of, numbers_in, peek, place}
+use Rattle.mk_stack.proofs.Vocabulary.{pop_again, publish, push_again, read, register_at, reply_of, start, unlink}
+use Rattle.mk_stack.proofs.Vocabulary.{with_new, with_register, with_word, word_at, words_of}
 use Rattle.mk_stack.proofs.{Assembly.{Stepped, held_on, nothing, settles}, Heaps.{other_register, other_word}}
 use Rattle.mk_stack.proofs.{Heaps.{set_register, written}, Invariant.{AllHeld, HasChain, HasFilled, HasLinked, HasSeen}}
 use Rattle.mk_stack.proofs.Invariant.{HasTaken, HasTop, Inv, IsChain, IsFreeing, IsHeld, IsPushing, Local, Work}
@@ -51,23 +51,14 @@ module _ {callers : ℕ} {n : NeverState} {top : Option ℕ} {role : ℕ → Rol
   empty_left : (xs : List ℕ) → xs ≡ [] → left_by xs Pop Empty ≡ Some xs
   empty_left xs e = without_left inv c exists Pop xs e
 
-  met : (u : Option Done) → ((register_at n c 2 ≡ Null) × (u ≡ Some Empty)) ⊎ ((u ≡ None) × HasSeen n role c)
-      → reply_of n c (Op.IsNull 2) ≡ Reply.Num 0 → (u ≡ None) × HasSeen n role c
-  met u x1 said = grind (arith, other_is_not)
-
   -- The Free of a node that was taken is done: no one else frees it.
   module _ {u : Option Done} (own : HasTaken n role c u) where
     free_replies : reply_of n c (Op.Free 2) ≡ Reply.Done
     free_replies = cc (own.register, (inv.core.fits own.a).freed, own.has)
 
-    freed_once : freed_by own.a n c (Op.Free 2) ≡ 1
-    freed_once = grind (arith, eq-eqb, free_replies)
-
   free_steps : (u : Option Done) (rest : List Replied) → Local n top role c Freeing u → AllHeld n role c Freeing
       → Goal Freeing u (Op.Free 2) Reading rest (after_op n c (Op.Free 2))
-  free_steps u rest local held =
-      subst (Goal Freeing u (Op.Free 2) Reading rest) (sym (ap (after_free n) local.register))
-      (by_free inv local held (Op.Free 2) rest (freed_once local) (λ ne. grind (arith, ne_eqb)))
+  free_steps u rest local held = grind (arith, by_free, ne_eqb, eq-eqb, free_replies)
 
   -- a step that leaves all as it was, and decides nothing
   stays : {s next : Point} {u : Option Done} {o : Op} {rest : List Replied} → AllHeld n role c s → (IsPushing s → ⊥)
@@ -81,7 +72,6 @@ module _ {callers : ℕ} {n : NeverState} {top : Option ℕ} {role : ℕ → Rol
       → Local n top role c s u → AllHeld n role c s → reply_of n c o ≡ r → Goal s u o next rest (after_op n c o)
   steps found u rest local held said =
       let a = length n.allocations in
-      let m : NeverState = with_register (with_new n 1) c 0 (Ptr a 1 0) in
       by_grant inv 0 (omega arith) base_fits (
         local.0,
         local.1,
@@ -91,8 +81,7 @@ module _ {callers : ℕ} {n : NeverState} {top : Option ℕ} {role : ℕ → Rol
           has = put_same role a Base;
           word = cc (made inv 0 (omega arith) base_fits, inv.core.shape.top);
         },
-      )
-      (put_held inv c exists m a Base Placing
+      ) (put_held inv c exists (with_register (with_new n 1) c 0 (Ptr a 1 0)) a Base Placing
       (record { pushing = λ e. absurd (base_private c e); freeing = λ e. absurd (base_taken c e) })
       (idle inv c exists held (λ p. p) (λ f. f))) (λ b. refl)
   steps find_no_room u rest local held said = stays held (λ p. p) (λ f. f) tt (λ b. refl)
@@ -122,14 +111,12 @@ module _ {callers : ℕ} {n : NeverState} {top : Option ℕ} {role : ℕ → Rol
   steps (make {n = x}) u rest local held said =
       let a = length n.allocations in
       let m : NeverState = with_register (with_new n 0) c 1 (Ptr a 0 0) in
-      let set : register_at m c 1 ≡ Ptr a 0 0 = set_register (with_new n 0) c 1 (Ptr a 0 0)
-      (there inv c exists 1 (omega arith)) in
+      let set = set_register (with_new n 0) c 1 (Ptr a 0 0) (there inv c exists 1 (omega arith)) in
       by_grant inv 1 (omega arith) node_fits (
         local.0,
         keeps_top inv c exists m (other_register (with_new n 0) c 1 0 (Ptr a 0 0) (omega arith)) local.1,
         record { a = a; register = set; has = put_same role a (Private c) },
-      )
-      (put_held inv c exists m a (Private c) (Filling x)
+      ) (put_held inv c exists m a (Private c) (Filling x)
       (record { pushing = λ e. (tt, set); freeing = λ e. absurd (private_taken c c e) })
       (idle inv c exists held (λ p. p) (λ f. f))) (λ b. refl)
   steps (fail {n = x}) u rest local held said =
@@ -210,7 +197,7 @@ module _ {callers : ℕ} {n : NeverState} {top : Option ℕ} {role : ℕ → Rol
     | inr h ↦ absurd (ptr_is_not_null h.1.a 0 (sym h.1.register ∙ null_is_null inv c exists 2 said))
   ]) (λ b. refl)
   steps meet u rest local held said =
-      let seen = met u local.1 said in
+      let seen : (u ≡ None) × HasSeen n role c = grind (arith, other_is_not) in
       stays held (λ p. p) (λ f. f) (seen.0, local.0, seen.1) (λ b. refl)
   steps {next = next} (follow {v = y}) u rest local held said =
       let seen : HasSeen n role c = local.2 in

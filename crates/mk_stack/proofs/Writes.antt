@@ -1,11 +1,11 @@
 -- A caller writes to a node of its own.
 use Rattle.mk_stack.proofs.Vocabulary.{Done, NeverState, Null, Op, Point, Replied, Value, freed_by, with_word, word_at}
-use Rattle.mk_stack.proofs.{Vocabulary.words_of, Invariant.{AllHeld, Core, HasChain, Inv, Local, Work}}
-use Rattle.mk_stack.proofs.Roles.{Base, Private, Role, RoleKeeps, Stacked, Taken, Unborn, same_role}
-use Rattle.mk_stack.proofs.{Assembly.{Stepped, nothing, same_roles}, Chains.{all_numbers_stay, has_chain_stays}}
-use Rattle.mk_stack.proofs.{Fitting.written_fits, Frames.Leaves, Heaps.other_words}
-use Rattle.mk_laws.proofs.Vocabulary.{List, None, Option, ℕ, ap, arith, cases_eq, cases_lt, get_or, length, sym, ◌<◌}
-use Rattle.mk_laws.proofs.Vocabulary.{◌∙◌, ◌≡◌, ◌≢◌, ◌⊎◌}
+use Rattle.mk_stack.proofs.{Vocabulary.words_of, Invariant.{AllHeld, Core, Inv, Local, Work}, Roles.{Base, Private}}
+use Rattle.mk_stack.proofs.{Roles.{Role, Stacked, Taken, Unborn, same_role}, Assembly.{Stepped, nothing, same_roles}}
+use Rattle.mk_stack.proofs.{Chains.{all_numbers_stay, has_chain_stays}, Fitting.written_fits, Frames.Leaves}
+use Rattle.mk_stack.proofs.Heaps.{other_words}
+use Rattle.mk_laws.proofs.Vocabulary.{List, None, Option, ℕ, ap, arith, cases_lt, get_or, length, sym, ◌<◌, ◌∙◌, ◌≡◌}
+use Rattle.mk_laws.proofs.Vocabulary.{◌≢◌}
 
 -- Roles are apart.
 
@@ -62,24 +62,15 @@ module _ {callers : ℕ} {n : NeverState} {top : Option ℕ} {role : ℕ → Rol
   word_stays : (b j : ℕ) (r : Role) → role b ≡ r → (r ≡ Private c → ⊥) → word_at m b j ≡ word_at n b j
   word_stays b j r is differs = ap (λ (ws : List Value). get_or ws j Null) (apart b r is differs)
 
-  write_role : (k : ℕ) → k ≢ c → (b : ℕ) → RoleKeeps k (role b) (role b) (words_of m b ≡ words_of n b)
-  write_role k other b = by (cases_eq b a)
-    where
-      by : (b ≡ a) ⊎ (b ≡ a → ⊥) → RoleKeeps k (role b) (role b) (words_of m b ≡ words_of n b)
-      by x0 = grind (arith, same_role, other_words)
-
   write_leaves : (k : ℕ) → k ≢ c → Leaves n top role m top role k
-  write_leaves k other = grind (arith, apart, base_private, write_role, Base)
-
-  write_chain : HasChain m top role nodes
-  write_chain = grind (arith, has_chain_stays, word_stays, base_private, private_stacked, Base, Stacked)
+  write_leaves k other = grind (arith, apart, base_private, Base, same_role, other_words)
 
   write_core : Core callers m top role nodes
   write_core = record {
     shape = inv.core.shape;
     fits = λ b. written_fits n a i b v (inv.core.fits b);
     stacked = inv.core.stacked;
-    chain = write_chain;
+    chain = grind (arith, has_chain_stays, word_stays, base_private, private_stacked, Base, Stacked);
   }
 
   pub by_write : {s : Point} {u : Option Done} {o : Op} {next : Point} {rest : List Replied} → Local m top role c next u

@@ -3,9 +3,9 @@ use Rattle.std.proofs.{Common.{set, slice_get}, lemmas.List.FromFn.{get_or-range
 use Rattle.std.proofs.{lemmas.List.Elements.All-get_or, lemmas.Option.slice_get-get_or}
 use Rattle.mk_trace.proofs.Vocabulary.{A, AreAdmitted, C, Config, Contents, F, IsAdmitted, IsBetween, IsEventOf}
 use Rattle.mk_trace.proofs.Vocabulary.{IsPlayable, IsSound, K, Kind, NeverState, Null, Num, Op, Ptr, To, TraceEvent}
-use Rattle.mk_trace.proofs.Vocabulary.{Value, W, after_calls, after_free, allocation_at, asked, calls, calls_of_caller}
-use Rattle.mk_trace.proofs.Vocabulary.{config_of, global_at, kinds_of, length-replicate, never_behind, never_first}
-use Rattle.mk_trace.proofs.Vocabulary.{ops_of, range_with_len, register_at, replicate, types_from}
+use Rattle.mk_trace.proofs.Vocabulary.{Value, W, after_calls, allocation_at, asked, calls, calls_of_caller, config_of}
+use Rattle.mk_trace.proofs.Vocabulary.{global_at, kinds_of, length-replicate, never_behind, never_first, ops_of}
+use Rattle.mk_trace.proofs.Vocabulary.{range_with_len, register_at, replicate, types_from}
 use Rattle.mk_trace.{proofs.SlotTypes.{length-types_from}, specs.{Calls.EventsAreAdmitted, Playing.slot_type}}
 use Rattle.mk_laws.proofs.Vocabulary.{AccessIsAdmitted, Bool, IsTyped, IsTypedAllocation, List, Meets, get_or-set_same}
 use Rattle.mk_laws.proofs.Vocabulary.{length, refl, subst, suc, sym, true, words_of, zero, [], ◌*◌, ◌+◌, ◌-◌, ◌<◌, ◌∙◌}
@@ -154,9 +154,6 @@ module _ (slots : List ℕ) where
     linked_same : (n : NeverState) (r : ℕ) → register_at (after_op n 0 (SetPtr 0 0 1)) 0 r ≡ register_at n 0 r
     linked_same n r = left_at_by (λ m. register_at m 0 r ≡ register_at n 0 r) _ n _ refl (λ number place e. refl)
 
-    freed_same : (n : NeverState) (v : Value) (r : ℕ) → register_at (after_free n v) 0 r ≡ register_at n 0 r
-    freed_same n x1 r = grind arith
-
     -- and which registers they leave null
 
     new_clear : (n : NeverState) → ClearFrom n 0 → ClearFrom (after_op n 0 (New 0 slot false)) 1
@@ -215,7 +212,7 @@ module _ (slots : List ℕ) where
         let m = after_op n 0 (GetGlobal 0 slot) in
         then_all s (get_admitted n 0 (omega arith) s) (λ t. then_all t (admitted_by m (Free 0) t (omega arith) tt
         (base_of_kind (register_at m 0 0) (got_points n 0 (omega arith) s))) (λ u. one_clear (after_op m 0 (Free 0)) u
-        (λ r above. freed_same m (register_at m 0 0) r ∙ got_clear n 0 clear r above)))
+        (λ r above. (grind arith) ∙ got_clear n 0 clear r above)))
 
     cleared_fine : (n : NeverState) → Stands n → ClearFrom n 0 → AreFine n (SetGlobal slot 0 ∷ [])
     cleared_fine n s clear = then_all s (set_admitted n s (by_value (clear 0 (omega arith)) tt)) (λ t. none_left clear)

@@ -78,10 +78,6 @@ set_is xs i y lt =
 
 -- one pair
 
-same_one : (p : ℕ × ℕ) (pairs : List (ℕ × ℕ)) (age : ℕ) → age ≡ p.0
-    → with_one (p ∷ pairs) age ≡ (age, in_a_word (p.1 + 1)) ∷ pairs
-same_one p pairs age same = grind (arith, nat_tests)
-
 -- at a place of the list
 
 module _ (first now : List (ℕ × ℕ)) (i age : ℕ) (p : ℕ × ℕ) (same : now ≡ first)
@@ -90,13 +86,5 @@ module _ (first now : List (ℕ × ℕ)) (i age : ℕ) (p : ℕ × ℕ) (same : 
     there : i < length first
     there = subst (λ (l : List (ℕ × ℕ)). i < length l) same lt
 
-    left : drop i first ≡ p ∷ drop (i + 1) first
-    left = cc (drop_more first i p there, at, same)
-
     pub set_there : (n : ℕ) → age ≡ p.0 → n ≡ in_a_word (p.1 + 1) → slice_set now i (p.0, n) ≡ with_one first age
-    set_there n equal is = cc (
-      same,
-      set_is first i (p.0, n) there,
-      same_one p (drop (i + 1) first) age equal,
-      rest ∙ ap (λ (l : List (ℕ × ℕ)). take i first ++ with_one l age) left,
-    )
+    set_there n equal is = grind (arith, set_is, there, drop_more, nat_tests)

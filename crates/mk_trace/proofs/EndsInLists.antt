@@ -1,11 +1,10 @@
 -- What ends find in a list of events that has one cycle at most.
-use Rattle.mk_trace.proofs.Vocabulary.{AreEnabledFrom, Config, EndsNone, EndsOne, EndsTell, Event, FreesNone}
-use Rattle.mk_trace.proofs.Vocabulary.{IsBetweenCycles, LeavesAllocations, ReleasesNone, Step, World, ends, has_step}
-use Rattle.mk_trace.proofs.Vocabulary.{is_begin, is_end, is_grant, is_of_cycle, left, lets_go, moves_phase, none_at}
-use Rattle.mk_trace.proofs.{Vocabulary.{phase_of, world_behind, ⊎_elim}, FoundByEnds.{EndsOnce, FreesNoneFrom, Rests}}
-use Rattle.mk_trace.proofs.FoundByEnds.{ends-append, ends_once, found-append, found-none, frees_behind, frees_second}
-use Rattle.mk_trace.{proofs.FoundByEnds.{grows_by, is_over, no_end-cons, rests}, specs.Peaks.{found_by_ends_from}}
-use Rattle.mk_trace.proofs.FlagSteps.{releases_then, same_releases}
+use Rattle.mk_trace.proofs.Vocabulary.{AreEnabledFrom, Config, EndsNone, EndsOne, EndsTell, Event, IsBetweenCycles}
+use Rattle.mk_trace.proofs.Vocabulary.{LeavesAllocations, Step, World, ends, has_step, is_begin, is_end, is_grant}
+use Rattle.mk_trace.proofs.Vocabulary.{is_of_cycle, left, lets_go, moves_phase, none_at, phase_of, world_behind, ⊎_elim}
+use Rattle.mk_trace.proofs.FoundByEnds.{EndsOnce, FreesNoneFrom, Rests, ends-append, ends_once, found-append}
+use Rattle.mk_trace.proofs.FoundByEnds.{found-none, frees_behind, frees_second, grows_by, is_over, no_end-cons, rests}
+use Rattle.mk_trace.{proofs.FlagSteps.{releases_then, same_releases}, specs.Peaks.{found_by_ends_from}}
 use Rattle.mk_laws.proofs.Vocabulary.{Bool, List, ℕ, ap, append-nil, append_assoc, arith, cases_Bool, enabled_parts}
 use Rattle.mk_laws.proofs.Vocabulary.{false, inl, inr, left_append, left_in_parts, or_from, or_parts, refl, subst, sym}
 use Rattle.mk_laws.proofs.Vocabulary.{true, true≢false, [], ◌++◌, ◌+◌, ◌||◌, ◌∙◌, ◌∷◌, ◌≡◌, ◌⊎◌}
@@ -26,9 +25,6 @@ lacks_by kind other each (e ∷ es) none =
 pub first_at : (kind : Step → Bool) (es : List Event) → has_step kind es ≡ true → Next kind es
 first_at kind es some = next_of kind es (λ none. true≢false (sym some ∙ none))
 
-begins_no_end : (s : Step) → is_begin s ≡ true → is_end s ≡ false
-begins_no_end x0 h = grind arith
-
 module _ (c : Config) (w : World) (xs : List Event) (b : Event) (ys : List Event)
     (on : AreEnabledFrom c w (xs ++ b ∷ ys)) (idle : phase_of w.now.words ≡ 0) (begins : is_begin b.step ≡ true)
     (none_before : has_step is_begin xs ≡ false) (none_behind : has_step is_begin ys ≡ false)
@@ -42,39 +38,22 @@ module _ (c : Config) (w : World) (xs : List Event) (b : Event) (ys : List Event
   parts : AreEnabledFrom c w xs × AreEnabledFrom c first (b ∷ ys)
   parts = enabled_parts c w xs (b ∷ ys) on
 
-  resting : Rests c w xs
-  resting = rests c w xs parts.0 idle none_before (lacks_first is_over xs (b ∷ ys) overs)
-
-  marking : (phase_of begun.now.words ≡ 1) × AreEnabledFrom c begun ys
-  marking = grind (arith, moves_phase, first, parts, phase_behind, begin_is)
+  ruleset later_facts = (ends_once, or_parts, is_over, lacks_second, moves_phase, parts, phase_behind, begin_is)
 
   later : FreesNoneFrom c begun ys → has_step is_end ys ≡ true → EndsOnce c begun ys
-  later frees ends_in = grind (arith, ends_once, begun, marking, or_parts, is_over, lacks_second)
+  later frees ends_in = grind (arith, later_facts, begun, first)
 
   left_is : left_from c w (xs ++ b ∷ ys) ≡ left_from c begun ys
   unfolding left_from
   left_is = left_append c w xs (b ∷ ys)
 
+  ruleset one_cycle_facts = (later, left_is, found-append, found-none, ends-append, no_end-cons, grows_by, lacks_first)
+
   -- A cycle begins in the list, and ends in it.
   pub one_cycle : FreesNoneFrom c begun ys → has_step is_end ys ≡ true → EndsOnce c w (xs ++ b ∷ ys)
-  one_cycle frees ends_in =
-      let rest = later frees ends_in in
-      let none = begins_no_end b.step begins in
-      record {
-        finds = rest.finds;
-        phase = ap (λ (x : World). phase_of x.now.words) left_is ∙ rest.phase;
-        found = cc (found-append c w xs (b ∷ ys), resting.found, found-none c first b ys none, rest.found);
-        count = ends-append xs (b ∷ ys) ∙ ap (λ (n : ℕ). n + ends (b ∷ ys)) resting.count
-            ∙ (omega (arith, no_end-cons b ys none, rest.count));
-        earlier = omega (arith, resting.released.count, grows_by c first b, rest.earlier);
-        freed = subst (λ (x : World). FreesNone rest.finds x.allocations) (sym left_is) rest.freed;
-        released = subst (λ (x : World). ReleasesNone rest.finds x.allocations) (sym left_is) rest.released;
-      }
+  one_cycle frees ends_in = grind (arith, one_cycle_facts, first, rests, parts, is_over)
 
 -- One part after another.
-
-one_behind_none : {c : Config} {es fs gs : List Event} → EndsNone c es fs → EndsOne c fs gs → EndsOne c es gs
-one_behind_none h g = grind arith
 
 -- From one list to a longer one.
 
@@ -137,7 +116,7 @@ module _ (c : Config) (es xs ys : List Event) (on : AreEnabledFrom c (left c es)
       subst (λ (l : List Event). IsBetweenCycles c l × (EndsNone c es l ⊎ EndsOne c es l)) (append_assoc es xs ys) (
         told.0,
         ⊎_elim (λ (second : EndsNone c (es ++ xs) ((es ++ xs) ++ ys)). inl (grind (arith, releases_then)))
-            (λ (second : EndsOne c (es ++ xs) ((es ++ xs) ++ ys)). inr (one_behind_none first second)) told.1,
+            (λ (second : EndsOne c (es ++ xs) ((es ++ xs) ++ ys)). inr (grind arith)) told.1,
       )
 
 -- Steps that neither move a cycle on nor change allocations.

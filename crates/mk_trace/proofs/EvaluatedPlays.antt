@@ -68,14 +68,7 @@ parts = refl
 ends_exactly : EndsExactly false (config_of stored_and_made) (Caller 0) upto_give
 unfolding by c0 all_below pointed_cell stored_and_made stored making left_from
 ends_exactly = record {
-  turn = record {
-    before = stored;
-    op = Some (Op.New 0 0 false);
-    behind = making;
-    is = refl;
-    took = refl;
-    goes_on = refl;
-  };
+  turn = record { before = stored; op = Some _; behind = making; is = refl; took = refl; goes_on = refl };
   exact = record {
     begins = λ b. absurd (none_at is_begin making refl b);
     ends = λ w. absurd (none_at is_want making refl w);

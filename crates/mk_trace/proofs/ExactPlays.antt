@@ -8,9 +8,8 @@ use Rattle.mk_laws.proofs.Vocabulary.{Bool, List, ℕ, ap, arith, false, list_an
 use Rattle.mk_laws.proofs.Vocabulary.{or_parts, refl, subst, sym, true, [], ◌&&◌, ◌++◌, ◌∙◌, ◌∷◌, ◌≡◌}
 use Rattle.mk_core.specs.Growing.{AreOfOthers}
 use Rattle.mk_alloc.{proofs.ExactTurns.{stay_exact_behind_others}, specs.{Laws.OwnAreExact, TurnCycles.TurnsOfAreExact}}
-use Rattle.mk_run.proofs.UnsweptScripts.{first_sweeps, others_on, seat_on}
+use Rattle.mk_run.{proofs.UnsweptScripts.{first_sweeps, others_on, seat_on}, specs.Unswept.{IsUnswept}}
 use Rattle.mk_run.proofs.UnsweptHistories.{markers_sweep, none_sweeps}
-use Rattle.mk_run.specs.{Unswept.IsUnswept, UnsweptSeats.SeatSweepsNothing}
 use Rattle.mk_trace.specs.Playing.{MakesNoCycle}
 use Rattle.mk_turns.{proofs.Doing.{not_own}, specs.Sweeping.{SweepsNothingFrom}}
 use Rattle.mk_words.proofs.Seats.{without_keeps}
@@ -74,8 +73,7 @@ module _ {p q : PassState} {x : Word} {n : ℕ} (l : Looked p x n q) (host : p.s
         others_on c (Caller 0) (Caller 0 ∷ []) p.seen q.seen (has_first (Caller 0) []) caller_is_still
         before.caller_unswept;
     host_unswept =
-        subst (λ (s : Seat). SeatSweepsNothing c s q.seen) host
-        (seat_on p q sweeps (subst (λ (s : Seat). SeatSweepsNothing c s p.seen) (sym host) before.host_unswept));
+        rw host at (seat_on p q sweeps (rw (← host) at before.host_unswept));
   }
 
 -- The caller makes one call, and is joined again.

@@ -72,13 +72,11 @@ no_more [] = omega arith
 no_more (x ∷ []) = last_by (length x == 0) x
 no_more (x ∷ y ∷ lines) = let rest = no_more (y ∷ lines) in omega (arith, rest)
 
-few_lines : (text : List ℕ) → length (lines_of text) ≤ length text + 1
-few_lines text = grind (arith, no_more, length-slice_split, count_by-le-length)
-
 pub few_events : (trace : Contents) → IsOfSomeTraceText trace → length trace.events ≤ 1048577
 few_events trace (text, h) =
     let parts = passed_then (nat_le (length text) 1048576) _ _ trace h in
     let short : length text ≤ 1048576 = grind (arith, nat_tests, parts.0) in
-    let lines = few_lines text in
+    let lines : length (lines_of text) ≤ length text + 1 = grind
+    (arith, no_more, length-slice_split, count_by-le-length) in
     let events = of_lines (lines_of text) trace parts.1 in
     omega (arith, short, lines, events)

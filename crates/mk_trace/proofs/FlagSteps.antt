@@ -45,7 +45,7 @@ more xs a = record {
   released = λ i lt is. ap (λ (x : PlacedAllocation). x.released) (earlier_at xs a i lt) ∙ is;
 }
 
-step_later : (c : Config) (m : Moment) (f : Flight) (s : Step) (xs : List PlacedAllocation)
+pub step_later : (c : Config) (m : Moment) (f : Flight) (s : Step) (xs : List PlacedAllocation)
     → AreLater xs (allocations_by c m f s xs)
 step_later c m f Step.Grant xs = more xs (granted c m f)
 step_later c m f (Step.Quar p v) xs =
@@ -89,16 +89,12 @@ changed_releases change xs none keeps = record {
   released = λ n lt. ap (λ (a : PlacedAllocation). a.released) (changed_at change xs n none) ∙ keeps (placed_at xs n);
 }
 
-changed_frees : (change : PlacedAllocation → PlacedAllocation) (xs : List PlacedAllocation) → change never_granted
-    ≡ never_granted → ((a : PlacedAllocation) → (change a).freed ≡ a.freed) → FreesNone xs (map change xs)
-changed_frees change xs none keeps n = grind (arith, changed_at)
-
 -- one step
 
 pub releases_by : (c : Config) (m : Moment) (f : Flight) (s : Step) (xs : List PlacedAllocation) → is_release s ≡ false
     → ReleasesNone xs (allocations_by c m f s xs)
 releases_by c m f Step.Grant xs none = record {
-  count = omega (arith, length-append xs ((granted c m f) ∷ []));
+  count = (more xs (granted c m f)).count;
   released = λ n lt. ap (λ (x : PlacedAllocation). x.released) (earlier_at xs (granted c m f) n lt);
 }
 releases_by c m f (Step.Quar p v) xs none =
@@ -116,7 +112,7 @@ unfreed_all w x1 xs none = grind (arith, none_freed)
 
 pub frees_by : (c : Config) (m : Moment) (f : Flight) (s : Step) (xs : List PlacedAllocation)
     → decides_freed c m f s ≡ false → FreesNone xs (allocations_by c m f s xs)
-frees_by c m f x3 xs none = grind (arith, more_frees, unfreed_all, changed_frees)
+frees_by c m f x3 xs none = grind (arith, more_frees, unfreed_all, changed_at)
 
 -- Where nothing is released, flags stay over a list.
 pub same_released : (c : Config) (w : World) (es : List Event) → has_step is_release es ≡ false
@@ -133,16 +129,13 @@ same_released c w (e ∷ es) none = λ i lt.
 pub twins : {c : Config} {es : List Event} → IsHistory c es → AreTwins (left c es).allocations (never_behind c es)
 twins {c} {es} history = (histories_keep_the_invariant c es history).mirrors.twins
 
-none_past : (xs : List PlacedAllocation) (i : ℕ) → length xs ≤ i → (placed_at xs i).freed ≡ false
+pub none_past : (xs : List PlacedAllocation) (i : ℕ) → length xs ≤ i → (placed_at xs i).freed ≡ false
 none_past xs i le = ap (λ (a : PlacedAllocation). a.freed) (get_or_past xs i never_granted le)
-
-no_allocation_past : (xs : NeverState) (i : ℕ) → length xs.allocations ≤ i → (allocation_at xs i).freed ≡ false
-no_allocation_past n i le = ap (λ (a : Allocation). a.freed) (get_or_past n.allocations i no_allocation le)
 
 -- Whether it is freed, of any number.
 pub is_freed_there : {c : Config} {es : List Event} → IsHistory c es → (i : ℕ)
     → (placed_at (left c es).allocations i).freed ≡ (allocation_at (never_behind c es) i).freed
-is_freed_there {c} {es} history i = grind (arith, cases_lt, twins, none_past, no_allocation_past)
+is_freed_there {c} {es} history i = grind (arith, cases_lt, twins, none_past, get_or_past)
 
 -- What a Free does to the flags.
 

@@ -1,16 +1,15 @@
 -- What ends find in a list of events that begins without a cycle, or in one.
 use Rattle.mk_trace.proofs.Vocabulary.{AreEnabledFrom, Config, Event, FreesNone, PlacedAllocation, ReleasesNone, Step}
-use Rattle.mk_trace.proofs.Vocabulary.{World, allocations_by, calls_append, cell_freed, decides_freed, ends, flight_of}
-use Rattle.mk_trace.proofs.Vocabulary.{freed_where_it_stands, granted, has_step, is_begin, is_end, is_release}
-use Rattle.mk_trace.proofs.Vocabulary.{length-append, moves_phase, no_longer_fresh, phase_of, sum_by-append}
-use Rattle.mk_trace.proofs.Vocabulary.{sum_by-cons, with_released, world_behind, ⊎_elim}
-use Rattle.mk_trace.proofs.FlagSteps.{frees_by, frees_then, releases_by, releases_then, same_releases}
-use Rattle.mk_trace.{proofs.FreeCalls.{frees_decide, is_free_call}, specs.Peaks.{found_by_ends_from}}
+use Rattle.mk_trace.proofs.Vocabulary.{World, calls_append, decides_freed, ends, flight_of, has_step, is_begin, is_end}
+use Rattle.mk_trace.proofs.Vocabulary.{is_release, moves_phase, phase_of, sum_by-append, sum_by-cons, world_behind}
+use Rattle.mk_trace.proofs.{Vocabulary.⊎_elim, FlagSteps.{frees_by, frees_then, releases_by, releases_then}}
+use Rattle.mk_trace.proofs.{FlagSteps.{same_releases, step_later}, FreeCalls.{frees_decide, is_free_call}}
 use Rattle.mk_laws.proofs.Vocabulary.{Bool, List, ℕ, ap, arith, cases_Bool, cond, false, false_from_ne_true}
-use Rattle.mk_laws.proofs.Vocabulary.{if◌then◌else◌, length, length-map, list_any, list_any-append, or_parts, refl}
-use Rattle.mk_laws.proofs.Vocabulary.{subst, sym, true, true≢false, [], ◌++◌, ◌+◌, ◌||◌, ◌∙◌, ◌∷◌, ◌≡◌, ◌≤◌}
-use Rattle.mk_laws.proofs.CyclePhases.{AsksPhase, phase_behind}
+use Rattle.mk_laws.proofs.Vocabulary.{if◌then◌else◌, length, list_any, list_any-append, or_parts, refl, subst, sym}
+use Rattle.mk_laws.proofs.Vocabulary.{true, true≢false, [], ◌++◌, ◌+◌, ◌||◌, ◌∙◌, ◌∷◌, ◌≡◌, ◌≤◌}
+use Rattle.mk_laws.proofs.CyclePhases.{phase_behind}
 use Rattle.mk_core.specs.History.{calls_from, left_from}
+use Rattle.mk_trace.specs.Peaks.{found_by_ends_from}
 
 abbrev pub is_over : Step → Bool
 is_over Step.Over = true
@@ -23,10 +22,6 @@ counts_one b n m is one = grind arith
 
 pub no_end-cons : (e : Event) (es : List Event) → is_end e.step ≡ false → ends (e ∷ es) ≡ ends es
 no_end-cons e es none = grind arith
-
-end-cons : (e : Event) (es : List Event) → is_end e.step ≡ true → ends (e ∷ es) ≡ 1 + ends es
-end-cons e es is = counts_one (is_end e.step) (ends (e ∷ es)) (ends es) (
-    sum_by-cons (λ (x : Event). cond (is_end x.step) 1 0) e es) is
 
 pub none_end : (es : List Event) → has_step is_end es ≡ false → ends es ≡ 0
 none_end [] none = refl
@@ -90,10 +85,6 @@ pub record Rests (c : Config) (w : World) (es : List Event) : Type 0 where
   pub count : ends es ≡ 0
   pub released : ReleasesNone w.allocations (left_from c w es).allocations
 
-idle_step : (s : Step) → AsksPhase s 0 → is_begin s ≡ false → is_over s ≡ false
-    → (phase_behind s 0 ≡ 0) × (is_end s ≡ false) × (is_release s ≡ false)
-idle_step x0 asks begin over = grind arith
-
 pub rests : (c : Config) (w : World) (es : List Event) → AreEnabledFrom c w es → phase_of w.now.words ≡ 0
     → has_step is_begin es ≡ false → has_step is_over es ≡ false → Rests c w es
 unfolding left_from found_by_ends_from
@@ -103,7 +94,7 @@ rests c w (e ∷ es) on idle begins overs =
     let begin = or_parts (is_begin e.step) (has_step is_begin es) begins in
     let over = or_parts (is_over e.step) (has_step is_over es) overs in
     let moves = moves_phase c w e es on in
-    let one = idle_step e.step (subst (AsksPhase e.step) idle moves.0) begin.0 over.0 in
+    let one : (phase_behind e.step 0 ≡ 0) × (is_end e.step ≡ false) × (is_release e.step ≡ false) = grind arith in
     let next = moves.1 ∙ ap (phase_behind e.step) idle ∙ one.0 in
     let rest = rests c behind es moves.2 next begin.1 over.1 in
     record {
@@ -129,18 +120,7 @@ pub record IsOn (phase : ℕ) : Type 0 where
   pub most : phase ≤ 4
 
 pub grows_by : (c : Config) (w : World) (e : Event) → length w.allocations ≤ length (world_behind c w e).allocations
-grows_by c w e = by e.step
-  where
-    by : (s : Step) → length w.allocations ≤ length (allocations_by c w.now (flight_of w.now e.seat) s w.allocations)
-    by Step.Grant = omega (arith, length-append w.allocations (granted c w.now (flight_of w.now e.seat) ∷ []))
-    by (Step.Quar p v) = omega (
-      arith,
-      length-map w.allocations
-          (freed_where_it_stands w.now.words (cell_freed c.pages w.now.words (flight_of w.now e.seat) p v)),
-    )
-    by Step.Begin = omega (arith, length-map w.allocations no_longer_fresh)
-    by Step.Release = omega (arith, length-map w.allocations (with_released c w.now.words))
-    by _ = omega arith
+grows_by c w e = (step_later c w.now (flight_of w.now e.seat) e.step w.allocations).count
 
 module _ (c : Config) (w : World) (e : Event) (es : List Event) (on : AreEnabledFrom c w (e ∷ es)) (begins : has_step
     is_begin (e ∷ es) ≡ false) (overs : has_step is_over (e ∷ es) ≡ false) (frees : FreesNoneFrom c w (e ∷ es)) where
@@ -157,7 +137,8 @@ module _ (c : Config) (w : World) (e : Event) (es : List Event) (on : AreEnabled
         finds = w.allocations;
         phase = rest.phase;
         found = found-one c w e es is ∙ ap (λ (l : List (List PlacedAllocation)). w.allocations ∷ l) rest.found;
-        count = end-cons e es is ∙ ap (λ (n : ℕ). 1 + n) rest.count;
+        count = (counts_one (is_end e.step) (ends (e ∷ es)) (ends es) (
+            sum_by-cons (λ (x : Event). cond (is_end x.step) 1 0) e es) is) ∙ ap (λ (n : ℕ). 1 + n) rest.count;
         earlier = omega arith;
         freed = none_freed_from c w (e ∷ es) frees;
         released =

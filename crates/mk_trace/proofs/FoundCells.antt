@@ -97,12 +97,7 @@ module _ (c : Config) (es : List Event) (history : IsHistory c es) where
       abbrev a : PlacedAllocation
       a = placed_at xs it.number
 
-      same_object : (object : FreedObject) → object.cell ≡ cell → object.storage ≡ cell_words w cell
-          → object.reserved ≡ (if not (nat_le object.storage 32) then object.storage else 0) → object.age ≡ 0
-          → object ≡ freed_object_of c xs it.number
-      same_object object at words large young = grind (arith, it, xs)
-
       pub unfreed_object : (object : FreedObject) → false ≡ is_freed w cell → object.cell ≡ cell → object.storage
           ≡ cell_words w cell → object.reserved ≡ (if not (nat_le object.storage 32) then object.storage else 0)
           → object.age ≡ 0 → Some object ≡ found
-      unfreed_object object is at words large young = cc (same_object object at words large young, by_bit false is)
+      unfreed_object object is at words large young = grind (arith, by_bit, it, xs)

@@ -6,14 +6,14 @@ use Rattle.mk_trace.proofs.Vocabulary.{cell_of_allocation, cell_words, exists_pl
 use Rattle.mk_trace.proofs.Vocabulary.{histories_keep_the_invariant, is_freed, is_large, is_phase, kinds_of, left}
 use Rattle.mk_trace.proofs.Vocabulary.{never_behind, never_granted, phase_of, placed_at, reach_is_kept, storage_words}
 use Rattle.mk_trace.proofs.Vocabulary.{unfreed, ⊎_elim}
-use Rattle.mk_laws.proofs.Vocabulary.{Bool, IsFreedCell, IsQuarantined, IsWordOf, List, Mirrors, None, Some, ℕ, ap}
-use Rattle.mk_laws.proofs.Vocabulary.{arith, bases_of, cases_Bool, cells_begin, eqb-true, false, false_from_ne_true}
+use Rattle.mk_laws.proofs.Vocabulary.{Bool, IsFreedCell, IsQuarantined, List, Mirrors, None, Some, ℕ, ap, arith}
+use Rattle.mk_laws.proofs.Vocabulary.{bases_of, cases_Bool, cells_begin, eqb-true, false, false_from_ne_true}
 use Rattle.mk_laws.proofs.Vocabulary.{if◌then◌else◌, image_of, inl, inr, is_released_in, large_is_not_small, length}
-use Rattle.mk_laws.proofs.Vocabulary.{nat_le, not, object_placed, refl, slice_index, storage_holds, storage_of, subst}
-use Rattle.mk_laws.proofs.Vocabulary.{sym, true, true≢false, typed_size, word_points, ◌+◌, ◌<◌, ◌∙◌, ◌≡◌, ◌≢◌}
+use Rattle.mk_laws.proofs.Vocabulary.{nat_le, not, object_placed, refl, slice_index, storage_holds, subst, sym, true}
+use Rattle.mk_laws.proofs.Vocabulary.{true≢false, typed_size, word_points, ◌+◌, ◌<◌, ◌∙◌, ◌≡◌, ◌≢◌}
 use Rattle.mk_never.specs.{Reach.LeadsTo, Reach.IsReachable.by_global, Typed.IsPlaceIn}
 use Rattle.mk_core.{proofs.Sizes.words_are_small, specs.Cells.pointed_cell}
-use Rattle.mk_laws.proofs.{InvariantTheorems.allocations_stand, Settled.unreleased_are_apart}
+use Rattle.mk_laws.proofs.{InvariantHistories.allocations_stand, Settled.unreleased_are_apart}
 use Rattle.mk_laws.specs.SettledPages.{StandsUsed}
 
 -- Freed bits between calls: those of the allocations that are freed and unreleased, and no others.
@@ -116,20 +116,14 @@ module _ (c : Config) (es : List Event) (history : IsHistory c es) (slot : ℕ) 
     stands : StandsUsed c (left c es) a
     stands = allocations_stand c es history number unreleased
 
-    as_many : length (kinds_of n.types ty) ≡ length (kinds_of c.types a.ty)
-    as_many = cc (mirrors.types, sound_pointer.1 ∙ sym (mirrors.twins.ty number (exists_placed xs number unreleased)))
-
     within : IsPlaceIn (kinds_of n.types ty) offset → offset < storage_words c a
-    within x0 = grind (arith, storage_holds, stands, as_many)
-
-    is_word : IsWordOf (storage_of c a) (a.base + offset)
-    is_word = let lt = within sound_pointer.2 in (omega arith, omega arith)
+    within x0 = grind (arith, storage_holds, stands, mirrors, sound_pointer, exists_placed, xs, unreleased)
 
     image_is : slice_index w.globals slot ≡ address_of (a.base + offset)
     image_is = cc (shows_image, points, get_or-map-default (λ (x : PlacedAllocation). x.base) xs number never_granted)
 
     pub points_into : pointed_cell c.pages w.pages (slice_index w.globals slot) ≡ Some (cell_of_allocation c a)
-    points_into = grind (arith, image_is, word_points, stands, is_word)
+    points_into = grind (arith, image_is, word_points, stands, within, sound_pointer)
 
     pub words_shown : cell_words w (cell_of_allocation c a) ≡ storage_words c a
     words_shown = (cells_begin c w a history.within_limits stands.stands stands.headers).1

@@ -1,9 +1,8 @@
 -- What frees an object decides a Free.
 use Rattle.mk_trace.proofs.Vocabulary.{Answer, Cell, Config, Decided, Flight, Moment, Op, Seat, Stage, Step}
-use Rattle.mk_trace.proofs.Vocabulary.{call_decided, cell_freed, decides_freed, entry_of, flagged, flight_of, is_phase}
-use Rattle.mk_trace.proofs.Vocabulary.{pointed_cell}
-use Rattle.mk_laws.proofs.Vocabulary.{Bool, None, Option, ℕ, arith, false, frees, if◌then◌else◌, is_free_at, is_some}
-use Rattle.mk_laws.proofs.Vocabulary.{is_undecided_free, list_any, not, progress_freed, target, true, ◌&&◌, ◌≡◌}
+use Rattle.mk_trace.proofs.Vocabulary.{call_decided, decides_freed, entry_of, flagged, flight_of}
+use Rattle.mk_laws.proofs.Vocabulary.{Bool, None, Option, ℕ, arith, false, if◌then◌else◌, is_free_at, is_some, list_any}
+use Rattle.mk_laws.proofs.Vocabulary.{progress_freed, true, ◌≡◌}
 
 abbrev pub is_free : Op → Bool
 is_free (Op.Free p) = true
@@ -21,25 +20,13 @@ frees_at x0 x1 h = grind arith
 some_by_test : (b : Bool) (x : Option Cell) → is_some (if b then x else None) ≡ true → (b ≡ true) × (is_some x ≡ true)
 some_by_test x0 x h = grind arith
 
-freed_by_free : (c : Config) (m : Moment) (f : Flight) (p v : ℕ) → is_some (cell_freed c.pages m.words f p v) ≡ true
-    → is_free f.op ≡ true
-freed_by_free c m f p v some =
-    let target_some = (some_by_test
-    (not (is_phase m.words 4) && frees m.words (target c.pages m.words f) p v) (target c.pages m.words f) some).1 in
-    frees_at f.stage f.op (some_by_test (is_undecided_free f) (pointed_cell c.pages m.words.pages f.p) target_some).0
-
 decided_by_cell : (k : ℕ) (f : Flight) (cell : Option Cell) → is_some cell ≡ true → is_free f.op ≡ true
     → list_any is_free_call (entry_of k f.op (progress_freed f cell).answer) ≡ true
 decided_by_cell k f x2 some free = grind (arith, flagged_free)
 
-quar_decides : (c : Config) (m : Moment) (seat : Seat) (p v : ℕ)
-    → is_some (cell_freed c.pages m.words (flight_of m seat) p v) ≡ true
-    → list_any is_free_call (call_decided c m (record { seat = seat; step = Step.Quar p v })) ≡ true
-quar_decides c m x2 p v some = grind (arith, decided_by_cell, freed_by_free)
-
 pub frees_decide : (c : Config) (m : Moment) (seat : Seat) (s : Step) → decides_freed c m (flight_of m seat) s ≡ true
     → list_any is_free_call (call_decided c m (record { seat = seat; step = s })) ≡ true
-frees_decide c m seat x3 h = grind (arith, quar_decides)
+frees_decide c m seat x3 h = grind (arith, decided_by_cell, some_by_test, frees_at)
 
 -- What frees is a `quar`.
 pub freeing_is : (kind : Step → Bool) → ((p v : ℕ) → kind (Step.Quar p v) ≡ false) → (c : Config) (m : Moment)

@@ -1,14 +1,14 @@
 -- What is freed and quarantined over a call of the caller, and all that the call does.
 use Rattle.mk_trace.proofs.Vocabulary.{Answer, AreLater, CallerIsHome, Calls, Config, EndsTell, Event, FlagsBehind}
-use Rattle.mk_trace.proofs.Vocabulary.{FlagsBehindCall, HoldsMostAtEnd, HostState, IsHistory, IsMostWhereFreed}
-use Rattle.mk_trace.proofs.Vocabulary.{LeavesAllocations, NeverState, Op, PassState, PlacedAllocation}
-use Rattle.mk_trace.proofs.Vocabulary.{QuarantinesMostWhereFreed, Step, WordsState, World, after_free, allocation_at}
-use Rattle.mk_trace.proofs.Vocabulary.{calls_from, entry_of, exists_placed, has_step, is_begin, is_of_cycle, is_release}
-use Rattle.mk_trace.proofs.Vocabulary.{is_under_turn, lacks_append, left, never_behind, none_at, number_freed}
-use Rattle.mk_trace.proofs.Vocabulary.{placed_at, reach_is_kept, register_at, unflagged, world_behind}
+use Rattle.mk_trace.proofs.Vocabulary.{FlagsBehindCall, HoldsMostAtEnd, HostState, IsHistory, LeavesAllocations}
+use Rattle.mk_trace.proofs.Vocabulary.{NeverState, Op, PassState, PlacedAllocation, QuarantinesMostWhereFreed, Step}
+use Rattle.mk_trace.proofs.Vocabulary.{WordsState, World, after_free, allocation_at, calls_from, entry_of}
+use Rattle.mk_trace.proofs.Vocabulary.{exists_placed, has_step, is_begin, is_of_cycle, is_release, is_under_turn}
+use Rattle.mk_trace.proofs.Vocabulary.{lacks_append, left, never_behind, none_at, number_freed, placed_at}
+use Rattle.mk_trace.proofs.Vocabulary.{reach_is_kept, register_at, unflagged, world_behind}
 use Rattle.mk_trace.proofs.{EndsInLists.{first_at, lacks_by}, FlagSteps.{is_freed_behind, is_freed_there, later_left}}
 use Rattle.mk_trace.{proofs.FlagSteps.{others_kept, points_there, twins, was_unfreed}, specs.Peaks.{greatest_from}}
-use Rattle.mk_trace.proofs.{FreeCalls.{flagged_free, is_free, is_free_call}, FreedMost.{FreesBefore, MostWhereFreed}}
+use Rattle.mk_trace.proofs.{FreeCalls.{flagged_free, is_free_call}, FreedMost.{FreesBefore, MostWhereFreed}}
 use Rattle.mk_trace.proofs.FreedMost.{ReleasesLate, free_most, no_more_without_free}
 use Rattle.mk_trace.proofs.FreedWords.{large_weight, quarantined_is, reserved_is, storage_weight, weighed}
 use Rattle.mk_trace.proofs.JoinedCalls.{InTurn, Joined, acts, before, before_lacks, beside_leaves, called, decided}
@@ -33,9 +33,6 @@ module _ (c : Config) (es more : List Event) (whole : IsHistory c (es ++ more)) 
   later =
       subst (λ (w : World). AreLater xs w.allocations) (sym (left_in_parts c es more)) (later_left c (left c es) more)
 
-  none_by : (n : NeverState) (o : Op) → is_free o ≡ false → (i : ℕ) → number_freed n o ≡ Some i → ⊥
-  none_by n o other i is = grind arith
-
   pub flags_behind : (o : Op) (a : Answer) → calls_from c (left c es) more ≡ entry_of 0 o (Some a)
       → FlagsBehind xs ys (number_freed (never_behind c es) o)
   flags_behind (Op.Free r) a one = let n : NeverState = never_behind c es in
@@ -57,7 +54,7 @@ module _ (c : Config) (es more : List Event) (whole : IsHistory c (es ++ more)) 
               behind = there i ∙ is_freed_behind n v i is (omega (arith, lt, (twins before).count));
             });
       }
-  flags_behind o a one = grind (arith, later, left_in_parts, es, none_freed_from, is_free_call, flagged_free, none_by)
+  flags_behind o a one = grind (arith, later, left_in_parts, es, none_freed_from, is_free_call, flagged_free)
 
 -- What is seen of a Free's call: where something is released, an event before that frees.
 
@@ -119,15 +116,10 @@ unfolding greatest_from
 greatest_alike c f g same w [] = same w.allocations
 greatest_alike c f g same w (e ∷ es) = cc (same w.allocations, greatest_alike c f g same (world_behind c w e) es)
 
-in_other_words : (c : Config) (measure : List PlacedAllocation → ℕ) (weight : ℕ → ℕ)
-    → ((xs : List PlacedAllocation) → measure xs ≡ weighed weight xs) → (es : List Event) (o : Op) (fs : List Event)
-    → MostWhereFreed weight c es o fs → IsMostWhereFreed c measure (λ (a : PlacedAllocation). weight a.ty) es o fs
-in_other_words c measure weight same es o fs most = grind (arith, greatest_alike, weighed)
-
 quarantines_most : (c : Config) (es : List Event) (o : Op) (fs : List Event)
     → ((weight : ℕ → ℕ) → MostWhereFreed weight c es o fs) → QuarantinesMostWhereFreed c es o fs
 quarantines_most c es o fs most =
-    grind (arith, in_other_words, storage_weight, quarantined_is, large_weight, reserved_is)
+    grind (arith, storage_weight, quarantined_is, large_weight, reserved_is, greatest_alike, weighed)
 
 module _ {on : Bool} {h : HostState} {o : Op} {told : Answer} {q : PassState} {fs : List Event}
     (j : Joined on h o told q fs) where

@@ -1,21 +1,21 @@
 -- The most words that were quarantined over a call.
 use Rattle.mk_trace.proofs.Vocabulary.{Answer, AreLater, Cell, Config, Decided, Event, Flight, IsHistory, Moment}
-use Rattle.mk_trace.proofs.Vocabulary.{NeverState, Op, PlacedAllocation, Step, Value, Words, World, after_calls}
-use Rattle.mk_trace.proofs.Vocabulary.{after_free, allocations_by, asked, call_decided, calls_append, decides_freed}
-use Rattle.mk_trace.proofs.Vocabulary.{entry_of, first_world, flight_of, freed_where_it_stands, granted, greatest}
-use Rattle.mk_trace.proofs.Vocabulary.{has_step, is_release, lacks_append, lacks_one, left, max, never_behind}
-use Rattle.mk_trace.proofs.Vocabulary.{number_freed, register_at, sum_by-append, sum_by-cons, unfreed, words_of_some}
-use Rattle.mk_trace.proofs.{Vocabulary.world_behind, FlagSteps.{SameReleased, later_left, points_there, same_released}}
-use Rattle.mk_trace.proofs.{FlagSteps.unfreed_all, FreeCalls.{flagged_free, freeing_is, frees_decide, is_free}}
-use Rattle.mk_trace.proofs.{FreeCalls.is_free_call, FreedWords.{freed_adds, part, sum_falls, sum_rises, weighed}}
-use Rattle.mk_trace.proofs.{PeakParts.{first_below, from-append, last_below}, FoundByEnds.{FreesNoneFrom, free_parts}}
+use Rattle.mk_trace.proofs.Vocabulary.{NeverState, Op, PlacedAllocation, Value, Words, World, after_calls, after_free}
+use Rattle.mk_trace.proofs.Vocabulary.{asked, call_decided, calls_append, decides_freed, entry_of, first_world}
+use Rattle.mk_trace.proofs.Vocabulary.{flight_of, freed_where_it_stands, granted, greatest, has_step, is_release}
+use Rattle.mk_trace.proofs.Vocabulary.{lacks_append, lacks_one, left, max, never_behind, number_freed, register_at}
+use Rattle.mk_trace.proofs.Vocabulary.{sum_by-append, sum_by-cons, unfreed, words_of_some, world_behind}
+use Rattle.mk_trace.proofs.FlagSteps.{SameReleased, later_left, points_there, same_released, unfreed_all}
+use Rattle.mk_trace.proofs.FreeCalls.{flagged_free, freeing_is, frees_decide, is_free, is_free_call}
+use Rattle.mk_trace.{proofs.FreedWords.{freed_adds, part, sum_falls, sum_rises, weighed}, specs.Peaks.{greatest_from}}
+use Rattle.mk_trace.proofs.PeakParts.{falls_by, from-append, last_below, rises_by}
+use Rattle.mk_trace.proofs.FoundByEnds.{FreesNoneFrom, free_parts}
 use Rattle.mk_laws.proofs.Vocabulary.{Bool, List, None, Option, Some, ℕ, ap, append-nil, append_assoc, arith}
 use Rattle.mk_laws.proofs.Vocabulary.{earlier_part_is_history, false, if◌then◌else◌, inl, inr, left_in_parts, list_any}
-use Rattle.mk_laws.proofs.Vocabulary.{never_in_parts, not, or_parts, refl, subst, sym, true, true≢false, [], ◌&&◌, ◌*◌}
-use Rattle.mk_laws.proofs.Vocabulary.{◌++◌, ◌+◌, ◌||◌, ◌∙◌, ◌∷◌, ◌≡◌, ◌≤◌, ◌⊎◌}
+use Rattle.mk_laws.proofs.Vocabulary.{never_in_parts, not, refl, subst, sym, true, true≢false, [], ◌&&◌, ◌*◌, ◌++◌, ◌+◌}
+use Rattle.mk_laws.proofs.Vocabulary.{◌||◌, ◌∙◌, ◌∷◌, ◌≡◌, ◌≤◌, ◌⊎◌}
 use Rattle.mk_never.specs.{Reach.IsReachable, Reach.IsReachable.by_register}
 use Rattle.mk_core.specs.History.{calls_from, left_from}
-use Rattle.mk_trace.specs.Peaks.{greatest_from}
 
 -- What events do to the words of the quarantined allocations: a free alone makes them more, and a release alone less.
 
@@ -40,39 +40,15 @@ module _ (weight : ℕ → ℕ) where
 
   -- One step.
 
-  step_falls : (c : Config) (m : Moment) (f : Flight) (s : Step) (xs : List PlacedAllocation)
-      → decides_freed c m f s ≡ false → weighed weight (allocations_by c m f s xs) ≤ weighed weight xs
-  step_falls c m f s xs none = grind (arith, grant_adds_none, weighed, unfreed_all, sum_falls, part, released_part)
-
-  step_rises : (c : Config) (m : Moment) (f : Flight) (s : Step) (xs : List PlacedAllocation) → is_release s ≡ false
-      → weighed weight xs ≤ weighed weight (allocations_by c m f s xs)
-  step_rises c m f s xs none = grind (arith, grant_adds_none, sum_rises, part, free_rises)
-
   -- Lists of events.
 
   module _ (c : Config) where
     -- Where no Free is decided, the most was at the first.
     pub falls_without_free : (w : World) (es : List Event) → FreesNoneFrom c w es
         → greatest_from c w (weighed weight) es ≡ weighed weight w.allocations
-    unfolding greatest_from
-    falls_without_free w [] none = refl
-    falls_without_free w (e ∷ es) none =
+    falls_without_free w es none = falls_by c (weighed weight) (FreesNoneFrom c) (λ w e es none.
         let parts = free_parts c w e es none in
-        let one = step_falls c w.now (flight_of w.now e.seat) e.step w.allocations parts.0 in
-        let rest = falls_without_free (world_behind c w e) es parts.1 in
-        omega arith
-
-    -- Where nothing is released, it is at the end.
-    pub rises_without_release : (w : World) (es : List Event) → has_step is_release es ≡ false
-        → greatest_from c w (weighed weight) es ≡ weighed weight (left_from c w es).allocations
-    unfolding greatest_from left_from
-    rises_without_release w [] none = refl
-    rises_without_release w (e ∷ es) none =
-        let parts = or_parts (is_release e.step) (has_step is_release es) none in
-        let one = step_rises c w.now (flight_of w.now e.seat) e.step w.allocations parts.0 in
-        let rest = rises_without_release (world_behind c w e) es parts.1 in
-        let below = first_below c (weighed weight) (world_behind c w e) es in
-        omega arith
+        (grind (arith, grant_adds_none, weighed, unfreed_all, sum_falls, part, released_part), parts.1)) w es none
 
 -- The most words that were quarantined over a call: a Free alone makes them more, before it releases any.
 
@@ -135,14 +111,10 @@ module _ (weight : ℕ → ℕ) {c : Config} (es more : List Event) (r : ℕ) (a
       (subst (λ (w : World). SameReleased (left c es).allocations w.allocations) (sym (left_in_parts c es more))
       (same_released c _ more none)) weight
 
+  ruleset most_of_free_facts = (from-append, weighed, left_in_parts, rises_by, grant_adds_none, sum_rises, free_rises)
+
   pub most_of_free : has_step is_release more ≡ false → MostWhereFreed weight c es (Op.Free r) (es ++ more)
-  most_of_free none =
-      let parts = from-append c (weighed weight) (first_world c) es more in
-      let rises = rises_without_release weight c (left c es) more none in
-      let same : weighed weight (left c (es ++ more)).allocations
-      ≡ weighed weight (left_from c (left c es) more).allocations = grind (arith, weighed, left_in_parts) in
-      let sum = adds none in
-      omega arith
+  most_of_free none = grind (arith, most_of_free_facts, adds, part)
 
 -- Where a Free releases, it freed before.
 

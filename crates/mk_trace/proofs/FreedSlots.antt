@@ -4,8 +4,8 @@ use Rattle.mk_trace.proofs.Vocabulary.{A, C, Config, Event, F, IsHistory, K, Nev
 use Rattle.mk_trace.proofs.Vocabulary.{after_calls, calls_of_caller, drop_more, global_at, histories_keep_the_invariant}
 use Rattle.mk_trace.proofs.Vocabulary.{length-drop, never_behind, ops_of, register_at}
 use Rattle.mk_laws.proofs.Vocabulary.{Bool, List, ℕ, ap, arith, drop, false, get_or, get_or-set_same, length, list_any}
-use Rattle.mk_laws.proofs.Vocabulary.{list_any-append, or_parts, refl, subst, sym, take, [], ◌*◌, ◌++◌, ◌+◌, ◌<◌, ◌∙◌}
-use Rattle.mk_laws.proofs.Vocabulary.{◌∷◌, ◌≡◌}
+use Rattle.mk_laws.proofs.Vocabulary.{list_any-append, or_parts, refl, sym, take, [], ◌*◌, ◌++◌, ◌+◌, ◌<◌, ◌∙◌, ◌∷◌}
+use Rattle.mk_laws.proofs.Vocabulary.{◌≡◌}
 use Rattle.mk_trace.proofs.{FreeCalls.is_free, LaterOps.AreCalled, LaterOps.either_way, OneCaller.never_behind_all}
 use Rattle.mk_trace.specs.{Freeing.FreesItsSlot, Freeing.FreesSlot, Traces.slot_of}
 
@@ -64,5 +64,4 @@ frees_now {event} {items} {i} h o within here frees =
     let at : get_or ops (i + 1) o ≡ o = ap (λ (k : ℕ). get_or ops k o) (omega arith) ∙ sym (get_or-drop 1 ops i o)
     ∙ sym (ap (λ (l : List Op). get_or l i o) h.items_are) ∙ sym here in
     let split : ops ≡ take (i + 1) ops ++ o ∷ drop (i + 1 + 1) ops = grind (arith, drop_more) in
-    subst (λ (n : NeverState). FreesSlot n (slot_of event) o) (sym (never_behind_all h.calls))
-    (frees h.full (take (i + 1) ops) o (drop (i + 1 + 1) ops) split)
+    rw (never_behind_all h.calls) (frees h.full (take (i + 1) ops) o (drop (i + 1 + 1) ops) split)

@@ -1,4 +1,5 @@
 -- The words of quarantined allocations, and of held ones, where a type says how many words one has.
+use Rattle.std.proofs.lemmas.List.Sums.{sum_by-le-sum_by}
 use Rattle.mk_trace.proofs.Vocabulary.{AreLater, Cell, Config, Event, Flight, IsHistory, Moment, NeverState}
 use Rattle.mk_trace.proofs.Vocabulary.{PlacedAllocation, Step, Value, Words, World, after_free, allocations_by}
 use Rattle.mk_trace.proofs.Vocabulary.{exists_placed, flight_of, freed_where_it_stands, held_by_allocations, is_grant}
@@ -38,22 +39,10 @@ sum_alike f g same (x ∷ xs) = omega (arith, sum_by-cons f x xs, sum_by-cons g 
 pub quarantined_is : (c : Config) (xs : List PlacedAllocation) → quarantined_words c xs ≡ weighed (storage_weight c) xs
 quarantined_is c xs = sum_filtered (λ (a : PlacedAllocation). storage_weight c a.ty) is_quarantined xs
 
-both_tests : (b large : Bool) (n : ℕ) → (if b && large then n else 0) ≡ (if b then if large then n else 0 else 0)
-both_tests b large n = grind arith
-
 pub reserved_is : (c : Config) (xs : List PlacedAllocation) → reserved_words c xs ≡ weighed (large_weight c) xs
-reserved_is c xs = grind (arith, sum_filtered, storage_weight, sum_alike, part, large_weight, both_tests)
+reserved_is c xs = grind (arith, sum_filtered, storage_weight, sum_alike, part, large_weight)
 
 -- Lists of as many that add the same at each place, or at each but one.
-
-pub same_sums : (f : PlacedAllocation → ℕ) (xs ys : List PlacedAllocation) → length xs ≡ length ys
-    → ((i : ℕ) → f (placed_at xs i) ≡ f (placed_at ys i)) → sum_by f xs ≡ sum_by f ys
-same_sums f [] [] count same = refl
-same_sums f [] (y ∷ ys) count same = absurd (omega (arith, count))
-same_sums f (x ∷ xs) [] count same = absurd (omega (arith, count))
-same_sums f (x ∷ xs) (y ∷ ys) count same =
-    let rest = same_sums f xs ys (omega (arith, count)) (λ i. same (suc i)) in
-    omega (arith, sum_by-cons f x xs, sum_by-cons f y ys, same 0, rest)
 
 pub sums_but_one : (f : PlacedAllocation → ℕ) (n : ℕ) (xs ys : List PlacedAllocation) → length xs ≡ length ys
     → ((i : ℕ) → i ≢ n → f (placed_at xs i) ≡ f (placed_at ys i))
@@ -62,35 +51,40 @@ sums_but_one f n [] [] count same = refl
 sums_but_one f n [] (y ∷ ys) count same = absurd (omega (arith, count))
 sums_but_one f n (x ∷ xs) [] count same = absurd (omega (arith, count))
 sums_but_one f zero (x ∷ xs) (y ∷ ys) count same =
-    let rest : sum_by f xs ≡ sum_by f ys =
-    same_sums f xs ys (omega (arith, count)) (λ i. same (suc i) (λ (e : suc i ≡ 0). omega (arith, e))) in
-    omega (arith, rest, sum_by-cons f x xs, sum_by-cons f y ys)
+    let rest = sums_but_one f zero xs ys (omega (arith, count)) (λ i ne. same (suc i) (λ e. omega (arith, e))) in
+    let next : f (placed_at xs 0) ≡ f (placed_at ys 0) = same 1 (λ e. omega (arith, e)) in
+    omega (arith, rest, next, sum_by-cons f x xs, sum_by-cons f y ys)
 sums_but_one f (suc n) (x ∷ xs) (y ∷ ys) count same =
     let first : f x ≡ f y = same 0 (λ (e : 0 ≡ suc n). omega (arith, e)) in
     let rest = sums_but_one f n xs ys (omega (arith, count))
     (λ i ne. same (suc i) (λ (e : suc i ≡ suc n). ne (omega (arith, e)))) in
     omega (arith, first, rest, sum_by-cons f x xs, sum_by-cons f y ys)
 
+pub same_sums : (f : PlacedAllocation → ℕ) (xs ys : List PlacedAllocation) → length xs ≡ length ys
+    → ((i : ℕ) → f (placed_at xs i) ≡ f (placed_at ys i)) → sum_by f xs ≡ sum_by f ys
+same_sums f xs ys count same = omega (arith, sums_but_one f 0 xs ys count (λ i ne. same i), same 0)
+
 -- Changes one by one.
+
+pub sum_mapped : {X Y : Type 0} (f : Y → ℕ) (change : X → Y) (xs : List X)
+    → sum_by f (map change xs) ≡ sum_by (λ (x : X). f (change x)) xs
+sum_mapped f change [] = refl
+sum_mapped {X} f change (x ∷ xs) = omega (
+  arith,
+  sum_by-cons f (change x) (map change xs),
+  sum_by-cons (λ (y : X). f (change y)) x xs,
+  sum_mapped f change xs,
+)
 
 pub sum_falls : (f : PlacedAllocation → ℕ) (change : PlacedAllocation → PlacedAllocation) → ((a : PlacedAllocation)
     → f (change a) ≤ f a) → (xs : List PlacedAllocation) → sum_by f (map change xs) ≤ sum_by f xs
-sum_falls f change falls [] = omega arith
-sum_falls f change falls (a ∷ xs) =
-    omega (arith, sum_by-cons f a xs, sum_by-cons f (change a) (map change xs), falls a, sum_falls f change falls xs)
+sum_falls f change falls xs = rw (sum_mapped f change xs) (sum_by-le-sum_by _ f xs falls)
 
 pub sum_rises : (f : PlacedAllocation → ℕ) (change : PlacedAllocation → PlacedAllocation) → ((a : PlacedAllocation)
     → f a ≤ f (change a)) → (xs : List PlacedAllocation) → sum_by f xs ≤ sum_by f (map change xs)
-sum_rises f change rises [] = omega arith
-sum_rises f change rises (a ∷ xs) =
-    omega (arith, sum_by-cons f a xs, sum_by-cons f (change a) (map change xs), rises a, sum_rises f change rises xs)
+sum_rises f change rises xs = rw (sum_mapped f change xs) (sum_by-le-sum_by f _ xs rises)
 
 -- What a Free adds to the words of the quarantined allocations, where nothing is released meanwhile.
-
--- What an allocation adds follows from its flags and its type.
-pub part_by : (weight : ℕ → ℕ) (a b : PlacedAllocation) → a.freed ≡ b.freed → a.released ≡ b.released → a.ty ≡ b.ty
-    → part weight a ≡ part weight b
-part_by weight a b freed released ty = cc
 
 module _ (c : Config) (es fs : List Event) (history : IsHistory c es) (whole : IsHistory c fs) (v : Value)
     (reached : (number : ℕ) → unfreed (never_behind c es) v ≡ Some number → IsReachable (never_behind c es) number)
@@ -108,42 +102,40 @@ module _ (c : Config) (es fs : List Event) (history : IsHistory c es) (whole : I
   count : length xs ≡ length ys
   count = cc ((twins history).count, as_many_behind n v, never, (twins whole).count)
 
-  freed_kept : (i : ℕ) → (unfreed n v ≡ Some i → ⊥) → (placed_at xs i).freed ≡ (placed_at ys i).freed
-  freed_kept i out = cc (is_freed_there history i, others_kept n v i out, never, is_freed_there whole i)
-
   past_both : (i : ℕ) → length xs ≤ i → placed_at xs i ≡ placed_at ys i
   past_both i le = get_or_past xs i never_granted le ∙ sym (get_or_past ys i never_granted (omega (arith, le, count)))
 
   module _ (weight : ℕ → ℕ) where
     part_kept : (i : ℕ) → (unfreed n v ≡ Some i → ⊥) → part weight (placed_at xs i) ≡ part weight (placed_at ys i)
-    part_kept i out = grind (arith, cases_lt, xs, part_by, ys, freed_kept, part, past_both)
-
-    unreleased : (number : ℕ) → unfreed n v ≡ Some number → (placed_at xs number).released ≡ false
-    unreleased number is = reach_is_kept c es history number (reached number is)
+    part_kept i out = grind (arith, cases_lt, xs, ys, part, past_both, is_freed_there, others_kept)
 
     none_before : (number : ℕ) → unfreed n v ≡ Some number → part weight (placed_at xs number) ≡ 0
     none_before number is = cc (is_freed_there history number, was_unfreed n v number is)
 
-    all_behind : (number : ℕ) → unfreed n v ≡ Some number
-        → part weight (placed_at ys number) ≡ weight (placed_at xs number).ty
-    all_behind number is =
-        grind (arith, xs, exists_placed, unreleased, ys, is_freed_there, is_freed_behind, twins, count)
-
     by_number : (x : Option ℕ) → unfreed n v ≡ x
         → weighed weight ys ≡ weighed weight xs + words_of_some (λ (a : PlacedAllocation). weight a.ty) xs x
     by_number None is = grind (arith, weighed, xs, ys, same_sums, part, count, part_kept)
-    by_number (Some number) is = grind (arith, sums_but_one, part, xs, ys, count, part_kept, none_before, all_behind)
+    by_number (Some number) is = grind (
+      arith,
+      sums_but_one,
+      part,
+      xs,
+      ys,
+      count,
+      part_kept,
+      none_before,
+      exists_placed,
+      is_freed_there,
+      is_freed_behind,
+      twins,
+      reach_is_kept,
+    )
 
     pub freed_adds : weighed weight ys
         ≡ weighed weight xs + words_of_some (λ (a : PlacedAllocation). weight a.ty) xs (unfreed n v)
     freed_adds = by_number (unfreed n v) refl
 
 -- What events do to the held words: a grant alone makes them more, and a free or a release alone makes them less.
-
-held_falls : (c : Config) (change : PlacedAllocation → PlacedAllocation)
-    → ((a : PlacedAllocation) → held_part c (change a) ≤ held_part c a)
-    → (xs : List PlacedAllocation) → held_by_allocations c (map change xs) ≤ held_by_allocations c xs
-held_falls c change falls xs = grind (arith, held_sum, sum_falls, held_part)
 
 freed_part : (n : ℕ) (released freed large : Bool)
     → (if not released && not (true && large) then n else 0) ≤ (if not released && not (freed && large) then n else 0)
@@ -166,10 +158,6 @@ release_falls c w a = released_part _ a.released (not (a.freed && is_large (kind
 
 -- One step.
 
-step_falls : (c : Config) (m : Moment) (f : Flight) (s : Step) (xs : List PlacedAllocation) → is_grant s ≡ false
-    → held_by_allocations c (allocations_by c m f s xs) ≤ held_by_allocations c xs
-step_falls c m f s xs h = grind (arith, held_falls, free_falls, release_falls)
-
 step_rises : (c : Config) (m : Moment) (f : Flight) (s : Step) (xs : List PlacedAllocation) → lets_go s ≡ false
     → held_by_allocations c xs ≤ held_by_allocations c (allocations_by c m f s xs)
 step_rises c m f s xs h = grind (arith, held_sum, sum_by-append, held_part, sum_rises)
@@ -178,7 +166,7 @@ step_rises c m f s xs h = grind (arith, held_sum, sum_by-append, held_part, sum_
 
 pub held_falls_at : (c : Config) (w : World) (e : Event) → is_grant e.step ≡ false
     → held_by_allocations c (world_behind c w e).allocations ≤ held_by_allocations c w.allocations
-held_falls_at c w e none = step_falls c w.now (flight_of w.now e.seat) e.step w.allocations none
+held_falls_at c w e none = grind (arith, free_falls, release_falls, held_sum, sum_falls, held_part)
 
 pub held_rises_at : (c : Config) (w : World) (e : Event) → lets_go e.step ≡ false
     → held_by_allocations c w.allocations ≤ held_by_allocations c (world_behind c w e).allocations

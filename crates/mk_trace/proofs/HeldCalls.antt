@@ -20,9 +20,6 @@ is_new _ = false
 abbrev is_new_call : Decided → Bool
 is_new_call x = is_new x.op
 
-grant_is : (s : Step) → is_grant s ≡ true → s ≡ Step.Grant
-grant_is x0 h = grind arith
-
 grants_new : (at : Stage) (o : Op) → comes_next at o Step.Grant ≡ true → is_new o ≡ true
 grants_new x0 x1 h = grind arith
 
@@ -46,7 +43,7 @@ grants_decide c w (e ∷ es) on none =
     let parts = or_parts (list_any is_new_call first) (list_any is_new_call later)
     (sym (list_any-append is_new_call first later) ∙ none) in
     or_from (is_grant e.step) (has_step is_grant es) (false_from_ne_true (is_grant e.step)
-    (λ is. true≢false (sym (grind (arith, is_new_call, grant_is, decides_new, enabled_meets)) ∙ parts.0)))
+    (λ is. true≢false (sym (grind (arith, is_new_call, decides_new, enabled_meets)) ∙ parts.0)))
     (grants_decide c (world_behind c w e) es on.1 parts.1)
 
 -- Events in which one call was decided, which isn't a New, grant nothing.

@@ -110,21 +110,10 @@ module _ {p q : PassState} {x : Word} {n : ℕ} (l : Looked p x n q) where
       lacks_append kind es (e ∷ [])
       (others_lack kind c [] p.seats es l.all (mine_parts c [] es (e ∷ []) whole).0 others) (lacks_one kind e none)
 
+  ruleset behind_lacks_facts = (mine_parts, mine, lacks_append, others_none, of_pass, taken_same, looked_same)
+
   pub behind_lacks : {kind : Step → Bool} → IsApart kind → has_step kind behind ≡ false
-  behind_lacks apart =
-      grind (
-        arith,
-        mine_parts,
-        looking,
-        giving,
-        mine,
-        lacks_append,
-        others_none,
-        taken,
-        of_pass,
-        taken_same,
-        looked_same,
-      )
+  behind_lacks apart = grind (arith, behind_lacks_facts, looking, giving, taken)
 
   pub first_lacks : (kind : Step → Bool) → IsApart kind → has_step kind first ≡ false
   first_lacks kind apart =

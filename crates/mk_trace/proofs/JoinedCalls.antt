@@ -1,27 +1,89 @@
 -- A call of the one caller, which the host makes again and then joins: all that came meanwhile is what the call made.
 use Rattle.std.proofs.lemmas.List.{append_cancel_left}
-use Rattle.mk_laws.proofs.Vocabulary.{Bool, List, Option, Some, ℕ, ap, append-nil, append_assoc, arith, cases_Bool}
-use Rattle.mk_laws.proofs.Vocabulary.{earlier_part_is_history, enabled_in_parts, false, inl, inr, left_from}
-use Rattle.mk_laws.proofs.Vocabulary.{left_in_parts, list_any, or_parts, refl, subst, sym, true, [], ◌++◌, ◌+◌, ◌||◌}
-use Rattle.mk_laws.proofs.Vocabulary.{◌∙◌, ◌∷◌, ◌≡◌}
-use Rattle.mk_trace.proofs.Vocabulary.{Answer, AreEnabledFrom, AreOfOthers, Caller, Calls, Config, Decided, EndsTell}
-use Rattle.mk_trace.proofs.Vocabulary.{Event, Grows, HasAll, HoldsMostAtEnd, HostState, IsHistory, LeavesAllocations}
-use Rattle.mk_trace.proofs.Vocabulary.{Op, PassState, Seat, Step, World, calls, calls_from, decides_freed, entry_of}
-use Rattle.mk_trace.proofs.Vocabulary.{flight_of, has_step, is_begin, is_grant, is_of_cycle, is_under_turn}
+use Rattle.mk_trace.proofs.Vocabulary.{Answer, AreOfOthers, Caller, Calls, Config, Decided, EndsTell, Event, Grows}
+use Rattle.mk_trace.proofs.Vocabulary.{HasAll, HoldsMostAtEnd, HostState, IsHistory, LeavesAllocations, Op, PassState}
+use Rattle.mk_trace.proofs.Vocabulary.{Seat, Step, World, call_decided, calls, calls_append, decides_freed, entry_of}
+use Rattle.mk_trace.proofs.Vocabulary.{flagged, flight_of, has_step, is_begin, is_grant, is_of_cycle, is_under_turn}
 use Rattle.mk_trace.proofs.Vocabulary.{lacks_append, lacks_one, left, none_at, object_made, pass_for, unflagged}
-use Rattle.mk_trace.proofs.{Vocabulary.without_seat, EndsInCalls.{beside_lacks, flagged_new, freed_list, lacks_over}}
-use Rattle.mk_trace.proofs.{EndsInCalls.none_behind_free, EndsInLists.{changes, first_at, lacks_by, leaves_tell}}
-use Rattle.mk_trace.proofs.EndsInLists.{leaves_then, tells_behind_none, tells_ends, tells_none}
-use Rattle.mk_trace.proofs.{FreeCalls.{freeing_is, frees_decide, is_free_call}, OwnPieces.{AreMine, OneSeat, all_again}}
-use Rattle.mk_trace.proofs.OwnPieces.{are_mine, before_turn, before_turn_lacks, giving, mine_parts, none_of_others}
-use Rattle.mk_trace.proofs.{OwnPieces.{turn_seen, within_is}, FoundByEnds.{FreesNoneFrom, is_over}}
-use Rattle.mk_trace.proofs.{FreedWords.{held_falls_at, held_rises_at}, HeldCalls.{is_new, others_grant_none}}
+use Rattle.mk_trace.proofs.{Vocabulary.{without_seat, world_behind}, EndsInLists.{changes, first_at, lacks_by}}
+use Rattle.mk_trace.proofs.EndsInLists.{leaves_tell, leaves_then, tells_behind_none, tells_ends, tells_none}
+use Rattle.mk_trace.proofs.{FoundByEnds.{FreesNoneFrom, is_over}, FreeCalls.{freeing_is, frees_decide, is_free}}
+use Rattle.mk_trace.proofs.{FreeCalls.is_free_call, FreedWords.{held_falls_at, held_rises_at}}
+use Rattle.mk_trace.proofs.{HeldCalls.{is_new, others_grant_none}, OwnPieces.{AreMine, OneSeat, all_again, are_mine}}
+use Rattle.mk_trace.proofs.OwnPieces.{before_turn, before_turn_lacks, giving, has_mine, is_mine, mine_parts}
+use Rattle.mk_trace.proofs.{OwnPieces.{none_of_others, turn_seen, within_is}, FreedMost.one_of_three}
 use Rattle.mk_trace.proofs.{OneCaller.{calls_are_own, none_called}, PeakParts.most_then}
+use Rattle.mk_laws.proofs.Vocabulary.{Bool, List, Option, Some, ℕ, and_parts, ap, append-nil, append_assoc, arith}
+use Rattle.mk_laws.proofs.Vocabulary.{cases_Bool, earlier_part_is_history, enabled_in_parts, false, inl, inr}
+use Rattle.mk_laws.proofs.Vocabulary.{left_append, left_in_parts, list_any, or_from, or_parts, refl, subst, sym, true}
+use Rattle.mk_laws.proofs.Vocabulary.{[], ◌&&◌, ◌++◌, ◌+◌, ◌||◌, ◌∙◌, ◌∷◌, ◌≡◌}
 use Rattle.mk_core.proofs.HistoryParts.{calls_in_parts}
+use Rattle.mk_core.specs.{Growing.own_from, History.{AreEnabledFrom, calls_from, left_from}}
 use Rattle.mk_alloc.proofs.{GrantParts.{LastIn, last_before, last_then}, OneCycles.{one_before, one_behind}}
 use Rattle.mk_alloc.specs.TurnCycles.{CallIsExact, FreeIsExact, NewIsExact, RunsOneCycle, finishes, within_turn}
 use Rattle.mk_alloc.specs.TurnCalls.{CalledInTurn}
-use Rattle.mk_run.specs.Scripts.{Answers}
+use Rattle.mk_run.specs.Scripts.{Answers, is_beside_turns}
+use Rattle.mk_turns.specs.Doing.{are_of}
+use Rattle.mk_words.proofs.Seats.{only_one, same_self}
+
+-- What events of the one caller lack, and what is decided among those of its call.
+
+-- Where all events are of the one caller.
+
+seat_is : (c : Config) (away : List Seat) (e : Event) (es : List Event) → OneSeat c away
+    → AreMine c away (e ∷ es) → e.seat ≡ Caller 0
+seat_is c away e es all own =
+    only_one (Caller 0) e.seat
+    (has_mine c away (Caller 0 ∷ []) e all (and_parts (is_mine c away e) true (mine_parts c away (e ∷ []) es own).0).0)
+
+never_over : (c : Config) (w : World) (e : Event) (es : List Event) → AreEnabledFrom c w (e ∷ es)
+    → e.seat ≡ Caller 0 → is_over e.step ≡ false
+unfolding AreEnabledFrom
+never_over c w e es on seat = grind arith
+
+pub lacks_over : (c : Config) (w : World) (away : List Seat) (es : List Event) → OneSeat c away
+    → AreEnabledFrom c w es → AreMine c away es → has_step is_over es ≡ false
+unfolding AreEnabledFrom
+lacks_over c w away [] all on own = refl
+lacks_over c w away (e ∷ es) all on own =
+    or_from (is_over e.step) (has_step is_over es) (never_over c w e es on (seat_is c away e es all own))
+    (lacks_over c (world_behind c w e) away es all on.1 (mine_parts c away (e ∷ []) es own).1)
+
+-- What the caller does beside its turns changes no allocation.
+
+own_all : (c : Config) (w : World) (e : Event) (es : List Event) → e.seat ≡ Caller 0
+    → are_of is_beside_turns (own_from c (Caller 0) w (e ∷ es))
+    ≡ is_beside_turns e.step && are_of is_beside_turns (own_from c (Caller 0) (world_behind c w e) es)
+unfolding own_from
+own_all c w e es seat = cc (seat, same_self (Caller 0))
+
+pub beside_lacks : (c : Config) (w : World) (away : List Seat) (es : List Event) → OneSeat c away
+    → AreMine c away es → are_of is_beside_turns (own_from c (Caller 0) w es) ≡ true → has_step changes es ≡ false
+beside_lacks c w away [] all own beside = refl
+beside_lacks c w away (e ∷ es) all own beside =
+    let parts = and_parts (is_beside_turns e.step) (are_of is_beside_turns
+    (own_from c (Caller 0) (world_behind c w e) es)) (sym (own_all c w e es (seat_is c away e es all own)) ∙ beside) in
+    or_from (changes e.step) (has_step changes es) (grind arith)
+    (beside_lacks c (world_behind c w e) away es all (mine_parts c away (e ∷ []) es own).1 parts.1)
+
+-- Of calls of which one is decided, none is decided after the event that decides it.
+
+pub none_behind_free : (c : Config) (w : World) (xs : List Event) (e : Event) (ys : List Event) (x : Decided)
+    → calls_from c w (xs ++ e ∷ ys) ≡ x ∷ [] → list_any is_free_call (call_decided c (left_from c w xs).now e) ≡ true
+    → FreesNoneFrom c (left_from c w (xs ++ e ∷ [])) ys
+unfolding calls_from left_from
+none_behind_free c w xs e ys x is some =
+    ap (list_any is_free_call) (ap (λ (v : World). calls_from c v ys) (left_append c w xs (e ∷ []))
+    ∙ (one_of_three (calls_from c w xs) (call_decided c (left_from c w xs).now e)
+    (calls_from c (world_behind c (left_from c w xs) e) ys) x (sym (calls_append c w xs (e ∷ ys)) ∙ is) some).2)
+
+pub flagged_new : (d ty : ℕ) (full : Bool) (a : Answer) → is_free (flagged (Op.New d ty full) a) ≡ false
+flagged_new d ty full x3 = grind arith
+
+-- the lists of a turn that frees
+pub freed_list : (xs ys zs gs : List Event) (e : Event)
+    → xs ++ ((ys ++ e ∷ zs) ++ gs) ≡ ((xs ++ ys) ++ e ∷ []) ++ (zs ++ gs)
+freed_list xs ys zs gs e = simp append_assoc
 
 pub record Joined (on : Bool) (h : HostState) (o : Op) (told : Answer) (q : PassState) (fs : List Event) : Type 0 where
   pub answers : Answers on (pass_for h (Caller 0)) o told q
@@ -66,16 +128,14 @@ module _ {on : Bool} {h : HostState} {o : Op} {told : Answer} {q : PassState} {f
   -- It is the caller's one call.
 
   pub called : c.callers ≡ 1 → Calls c es o told fs
-  called one =
-      let grown : Grows (Caller 0 ∷ []) q.seen fs =
-      subst (λ (p : PassState). Grows p.seats q.seen fs) j.answers.is j.came in
-      record {
-        answer = j.answers.answer;
-        is_told = j.answers.is_told;
-        entry =
-            sym (calls_are_own one j.history) ∙ none_called c grown ∙ j.answers.entry ∙ ap (λ (l : List Decided). l ++
-            entry_of 0 o (Some j.answers.answer)) (calls_are_own one (earlier_part_is_history c es j.own.more whole));
-      }
+  called one = record {
+    answer = j.answers.answer;
+    is_told = j.answers.is_told;
+    entry =
+        sym (calls_are_own one j.history) ∙ none_called c (rw j.answers.is at j.came) ∙ j.answers.entry ∙ ap
+        (λ (l : List Decided). l ++ entry_of 0 o
+        (Some j.answers.answer)) (calls_are_own one (earlier_part_is_history c es j.own.more whole));
+  }
 
   pub decided : (made : Calls c es o told fs) → calls_from c (left c es) j.own.more ≡ entry_of 0 o (Some made.answer)
   decided made =
@@ -156,18 +216,17 @@ module _ {on : Bool} {h : HostState} {o : Op} {told : Answer} {q : PassState} {f
             ap (left c) (within_is turn d.before) ∙ left_in_parts c es xs in
             let freed : decides_freed c (left_from c w xs).now (flight_of (left_from c w xs).now d.event.seat)
             d.event.step ≡ true =
-            subst (λ (v : World). decides_freed c v.now (flight_of v.now d.event.seat) d.event.step ≡ true) there
-            d.due.decides in
+            rw there at d.due.decides in
             let none = none_behind_free c w xs d.event ys a (sym (ap (calls_from c w) (is ∙ append_assoc xs
             (d.event ∷ []) ys)) ∙ decides) (frees_decide c (left_from c w xs).now d.event.seat d.event.step freed) in
-            subst (λ (l : List Event). EndsTell c es (es ++ l)) (sym is) (tells_behind_none c es (xs ++ d.event ∷ []) ys
+            rw is (tells_behind_none c es (xs ++ d.event ∷ []) ys
             (subst (AreEnabledFrom c w) is enabled) (sym (ap (has_step is_over) is) ∙ overs) (lacks_append is_begin xs
             (d.event ∷ []) (lacks_append is_begin (before x turn) d.before (before_lacks x turn is_begin (λ y. refl))
             (lacks_by is_of_cycle is_begin (λ y none'. (or_parts (is_begin y) (finishes y) none').0) d.before
             (exactly.first (exactly.begins.0 (first_at is_begin (acts x turn) has).at)).no_cycle)) (lacks_one is_begin
             d.event (freeing_is is_begin (λ p v. refl) c (left_from c w xs).now (flight_of (left_from c w xs).now
             d.event.seat) d.event.step freed))) (subst RunsOneCycle is (one_in_call (exactly.one off)))
-            (subst (λ (v : World). FreesNoneFrom c v ys) (sym (left_in_parts c es (xs ++ d.event ∷ []))) none))
+            (rw (← (left_in_parts c es (xs ++ d.event ∷ []))) at none))
         | inr none ↦ tells_none c es more enabled overs (ap (has_step is_begin) (in_parts x turn)
             ∙ lacks_append is_begin (before x turn) (acts x turn ++ last x turn)
             (before_lacks x turn is_begin (λ y. refl)) (lacks_append is_begin (acts x turn) (last x turn) none refl))
@@ -176,10 +235,7 @@ module _ {on : Bool} {h : HostState} {o : Op} {told : Answer} {q : PassState} {f
   -- Beside the turn no allocation changes.
   pub beside_leaves : is_under_turn o ≡ false → LeavesAllocations c es fs
   beside_leaves out =
-      let b = j.answers.beside out in
-      let is = only b.more b.is in
-      subst (LeavesAllocations c es) (sym j.own.is) (leaves_then c es more enabled (ap (has_step changes) is ∙
-      beside_lacks c _ elsewhere b.more the_rest (subst (AreMine c elsewhere) is mine) b.steps))
+      grind (arith, only, es, leaves_then, more, enabled, changes, beside_lacks, elsewhere, the_rest, mine)
 
   told_by : (x : Op) (said : Answer) → on ≡ false → (is_under_turn x ≡ true → InTurn (unflagged x))
       → (is_under_turn x ≡ false → LeavesAllocations c es fs)

@@ -1,33 +1,22 @@
 -- All is kept of freed objects after a call, once what it freed is noted, and what it released is let go.
 use Rattle.std.proofs.lemmas.List.Sums.{sum_by_push}
-use Rattle.mk_trace.proofs.Vocabulary.{AreAgesOf, AreFound, AreObjectsOf, Config, EndsNone, EndsOne, Event}
-use Rattle.mk_trace.proofs.Vocabulary.{FlagsBehindCall, Freed, FreedObject, IsBetweenCycles, IsHistory}
-use Rattle.mk_trace.proofs.Vocabulary.{IsMostWhereFreed, Keeps, Op, PlacedAllocation, QuarantinesMostWhereFreed}
-use Rattle.mk_trace.proofs.Vocabulary.{SettlesFreed, Words, age_in_a_word, age_of, aged, ends, fold, freed_object_of}
-use Rattle.mk_trace.proofs.Vocabulary.{freed_words, greatest, in_a_word, is_quarantined, left, never_behind}
-use Rattle.mk_trace.proofs.Vocabulary.{number_freed, objects_kept, option_map, phase_of, placed_at, quarantined_words}
-use Rattle.mk_trace.proofs.Vocabulary.{reserved_words, still_kept, sum_by, sum_by-append, sum_by-cons, with_one}
-use Rattle.mk_trace.proofs.{Vocabulary.words_of_some, FoundAges.{kept_age, none_ages, none_found, one_ages, one_found}}
-use Rattle.mk_trace.proofs.FreedWords.{large_weight, quarantined_is, reserved_is, storage_weight, sum_alike, weighed}
-use Rattle.mk_trace.proofs.KeptObjects.{ages_gone, let_go, none_released, noted, was_kept}
-use Rattle.mk_trace.proofs.NumberLists.{words_of_numbers}
+use Rattle.mk_trace.proofs.Vocabulary.{AreAgesOf, AreObjectsOf, Config, EndsNone, EndsOne, Event, FlagsBehindCall}
+use Rattle.mk_trace.proofs.Vocabulary.{Freed, FreedObject, IsBetweenCycles, IsHistory, IsMostWhereFreed, Keeps, Op}
+use Rattle.mk_trace.proofs.Vocabulary.{PlacedAllocation, QuarantinesMostWhereFreed, SettlesFreed, Words, age_in_a_word}
+use Rattle.mk_trace.proofs.Vocabulary.{age_of, aged, ends, fold, freed_object_of, greatest, in_a_word, left}
+use Rattle.mk_trace.proofs.Vocabulary.{never_behind, number_freed, objects_kept, option_map, phase_of, placed_at}
+use Rattle.mk_trace.proofs.Vocabulary.{quarantined_words, reserved_words, still_kept, sum_by, sum_by-append, with_one}
+use Rattle.mk_trace.proofs.{Vocabulary.words_of_some, FreedWords.{large_weight, quarantined_is, reserved_is}}
+use Rattle.mk_trace.proofs.FreedWords.{storage_weight, sum_alike, sum_mapped, weighed}
+use Rattle.mk_trace.proofs.KeptObjects.{ages_gone, kept_age, let_go, none_ages, none_found, none_released, noted}
+use Rattle.mk_trace.proofs.{KeptObjects.{one_ages, one_found, was_kept}, NumberLists.words_of_numbers}
 use Rattle.mk_laws.proofs.Vocabulary.{Bool, List, None, Option, Some, ℕ, ap, arith, eq-eqb, eqb-true, false, inl, inr}
 use Rattle.mk_laws.proofs.Vocabulary.{map, refl, subst, sym, true, [], ◌++◌, ◌+◌, ◌<◌, ◌==◌, ◌∙◌, ◌∷◌, ◌≡◌, ◌≢◌, ◌⊎◌}
-use Rattle.mk_trace.specs.Ledgers.{IsPeakOf, Notes, SettlesWhere, aged_object, is_count_same, one_or_none, risen}
-use Rattle.mk_trace.specs.{Ledgers.{some_words, weighed_anew}, Peaks.found_by_ends, declared.ledger.Peak.Peak}
+use Rattle.mk_trace.specs.Ledgers.{AreQuarantinedObjects, IsPeakOf, Notes, SettlesWhere, aged_object, is_count_same}
+use Rattle.mk_trace.specs.{Ledgers.{one_or_none, risen, some_words, weighed_anew}, Peaks.found_by_ends}
+use Rattle.mk_trace.specs.declared.ledger.Peak.{Peak}
 
 -- sums
-
-sum_mapped : (words : FreedObject → ℕ) (f : ℕ → FreedObject) (numbers : List ℕ)
-    → sum_by words (map f numbers) ≡ sum_by (λ (i : ℕ). words (f i)) numbers
-sum_mapped words f [] = refl
-sum_mapped words f (x ∷ numbers) =
-    let one = sum_by-cons (λ (i : ℕ). words (f i)) x numbers in
-    omega (arith, one, sum_by-cons words (f x) (map f numbers), sum_mapped words f numbers)
-
-sum_noted : (words : FreedObject → ℕ) (objects : List FreedObject) (x : Option FreedObject)
-    → sum_by words (objects ++ one_or_none x) ≡ sum_by words objects + some_words words x
-sum_noted words objects x2 = grind (arith, sum_by-append, sum_by_push)
 
 -- counts
 
@@ -41,7 +30,7 @@ module _ (c : Config) (measure : List PlacedAllocation → ℕ) (words : FreedOb
     (words_is : (ys : List PlacedAllocation) (i age : ℕ)
     → words (record (freed_object_of c ys i) { age = age }) ≡ weight (placed_at ys i).ty) where
   total : {found : List (List PlacedAllocation)} {ys : List PlacedAllocation} {objects : List FreedObject}
-      → AreObjectsOf c found ys (λ (i : ℕ). is_quarantined (placed_at ys i)) objects → sum_by words objects ≡ measure ys
+      → AreQuarantinedObjects c found ys objects → sum_by words objects ≡ measure ys
   total {found} {ys} kept =
       ap (sum_by words) kept.are ∙ sum_mapped words (aged_object c found ys) kept.numbers
       ∙ sum_alike _ (λ (i : ℕ). weight (placed_at ys i).ty) (λ i. words_is ys i (age_in_a_word found i)) kept.numbers
@@ -56,24 +45,22 @@ module _ (c : Config) (measure : List PlacedAllocation → ℕ) (words : FreedOb
       (is : x ≡ option_map (freed_object_of c (left c es).allocations) (number_freed (never_behind c es) o))
       (peak : IsPeakOf c measure es first) (rises : second ≡ risen first (some_words words x))
       (most : IsMostWhereFreed c measure (λ (a : PlacedAllocation). weight a.ty) es o fs) where
-    adds : some_words words x ≡ freed_words c (λ (a : PlacedAllocation). weight a.ty) es o
-    adds = ap (some_words words) is ∙ some_is (left c es).allocations (number_freed (never_behind c es) o)
-
     now_is : second.now ≡ in_a_word (measure (left c es).allocations + some_words words x)
     now_is = grind arith
 
     most_is : second.most ≡ in_a_word (greatest c measure fs)
-    most_is = grind (arith, adds)
+    most_is = grind (arith, some_is)
 
     -- Nothing was released.
-    pub peak_stays : {found : List (List PlacedAllocation)} {objects : List FreedObject} → AreObjectsOf c found
-        (left c es).allocations (λ (i : ℕ). is_quarantined (placed_at (left c es).allocations i)) objects
-        → AreObjectsOf c found (left c fs).allocations (λ (i : ℕ). is_quarantined (placed_at (left c fs).allocations i))
-        (objects ++ one_or_none x) → third ≡ second → IsPeakOf c measure fs third
+    pub peak_stays : {found : List (List PlacedAllocation)} {objects : List FreedObject}
+        → AreQuarantinedObjects c found (left c es).allocations objects
+        → AreQuarantinedObjects c found (left c fs).allocations (objects ++ one_or_none x)
+        → third ≡ second → IsPeakOf c measure fs third
     peak_stays {found} {objects} was kept same =
         let before = total was in
         let behind = total kept in
-        let sums = sum_noted words objects x in
+        let sums : sum_by words (objects ++ one_or_none x) ≡ sum_by words objects + some_words words x = grind
+        (arith, sum_by-append, sum_by_push) in
         record {
           now = ap (λ (p : Peak). p.now) same ∙ now_is ∙ (omega (arith, before, behind, sums));
           most = ap (λ (p : Peak). p.most) same ∙ most_is;
@@ -81,8 +68,8 @@ module _ (c : Config) (measure : List PlacedAllocation → ℕ) (words : FreedOb
 
     -- What was released was let go.
     pub peak_anew : {found : List (List PlacedAllocation)} {rest : List FreedObject}
-        → AreObjectsOf c found (left c fs).allocations (λ (i : ℕ). is_quarantined (placed_at (left c fs).allocations i))
-        rest → third ≡ weighed_anew words rest second → IsPeakOf c measure fs third
+        → AreQuarantinedObjects c found (left c fs).allocations rest → third ≡ weighed_anew words rest second
+        → IsPeakOf c measure fs third
     peak_anew {found} {rest} kept anew = record {
       now = ap (λ (p : Peak). p.now) anew ∙ ap in_a_word (total kept);
       most = ap (λ (p : Peak). p.most) anew ∙ most_is;
@@ -111,7 +98,7 @@ module _ (c : Config) (es fs : List Event) (o : Op) (before : IsHistory c es) (b
   x_number = number_freed (never_behind c es) o
 
   abbrev Kept : List (List PlacedAllocation) → List FreedObject → Type 0
-  Kept ends objects = AreObjectsOf c ends ys (λ (i : ℕ). is_quarantined (placed_at ys i)) objects
+  Kept ends objects = AreQuarantinedObjects c ends ys objects
 
   out : phase_of w ≢ 4
   out four = omega (arith, four, idle)
@@ -138,15 +125,12 @@ module _ (c : Config) (es fs : List Event) (o : Op) (before : IsHistory c es) (b
           (λ zs i age. refl) fs o second.reserved third.reserved x is keeps.reserved
           notes.reserved most.reserved keeps.objects none_gone s.1;
       objects =
-          subst (Kept (found_by_ends c fs)) (sym (s.2 ∙ notes.objects)) (subst (λ (f : List
-          (List PlacedAllocation)). Kept f (objects_kept first ++ one_or_none x)) (sym none.found) none_gone);
+          subst (Kept (found_by_ends c fs)) (sym (s.2 ∙ notes.objects)) (rw (← none.found) at none_gone);
       ages =
-          subst (λ (f : List (List PlacedAllocation)). AreAgesOf f ys third.ages.items) (sym none.found)
-          (none_ages c es fs x_number flags none.released.released found third.ages.items
+          rw none.found (none_ages c es fs x_number flags none.released.released found third.ages.items
           (subst (AreAgesOf found xs) (sym (s.3 ∙ notes.ages)) keeps.ages));
       found =
-          subst (λ (f : List (List PlacedAllocation)). AreFound f ys) (sym none.found)
-          (none_found c es fs x_number flags none.released.released keeps.found);
+          rw none.found (none_found c es fs x_number flags none.released.released keeps.found);
       ends = settles.ends;
     }
 
@@ -171,17 +155,15 @@ module _ (c : Config) (es fs : List Event) (o : Op) (before : IsHistory c es) (b
           peak_anew c (reserved_words c) (λ (y : FreedObject). y.reserved) (large_weight c) (reserved_is c) (λ zs i
           age. refl) fs o second.reserved third.reserved x is keeps.reserved notes.reserved most.reserved rest_kept s.1;
       objects =
-          subst (Kept (found_by_ends c fs)) (sym s.2) (subst (λ (f : List (List PlacedAllocation)). Kept f
-          (still_kept w.freed (map aged (objects_kept second)))) (sym one.found) rest_kept);
+          subst (Kept (found_by_ends c fs)) (sym s.2) (rw (← one.found) at rest_kept);
       ages =
-          subst (λ (f : List (List PlacedAllocation)). AreAgesOf f ys third.ages.items) (sym one.found)
+          rw one.found
           (one_ages c es fs x_number flags found one.finds one.freed one.released keeps.found second.ages.items
           third.ages.items noted_objects.numbers (subst (AreAgesOf found xs) (sym notes.ages) keeps.ages)
           noted_objects.those (s.3 ∙ ap (fold with_one second.ages.items)
           (ages_gone c es fs x_number flags before behind out found later older (objects_kept second) noted_objects)));
       found =
-          subst (λ (f : List (List PlacedAllocation)). AreFound f ys) (sym one.found)
-          (one_found c es fs x_number flags found one.finds one.freed one.released keeps.found);
+          rw one.found (one_found c es fs x_number flags found one.finds one.freed one.released keeps.found);
       ends = settles.ends;
     }
 

@@ -1,7 +1,7 @@
 -- The operations of events: of one more, and those after the first one.
 use Rattle.std.proofs.{Common.get_or-drop, Common.length-take, lemmas.List.drop-append-le, lemmas.List.take-append-le}
 use Rattle.std.specs.List.{list_all}
-use Rattle.mk_trace.proofs.Vocabulary.{A, Answer, AreAdmitted, Calls, Config, Event, K, Op, TraceEvent, begins_full}
+use Rattle.mk_trace.proofs.Vocabulary.{Answer, AreAdmitted, Calls, Config, Event, Op, TraceEvent, begins_full}
 use Rattle.mk_trace.proofs.Vocabulary.{calls_of_caller, drop_more, flagged, is_refusal, length-append, length-drop}
 use Rattle.mk_trace.proofs.Vocabulary.{never_behind, one_if, ops_of, refused_events, take-append-drop, take_all}
 use Rattle.mk_trace.proofs.Vocabulary.{take_more}
@@ -17,10 +17,6 @@ use Rattle.mk_trace.specs.{Calls.CallsAll, Calls.MayCome, Calls.PlaysEvent, Play
 -- Full or not
 pub either_way : (P : Bool → Type 0) → P true → P false → (full : Bool) → P full
 either_way x0 one two x3 = grind arith
-
--- an event has an operation
-pub some_ops : (full : Bool) (event : TraceEvent) → 1 ≤ length (ops_of full event)
-some_ops x0 x1 = grind arith
 
 counted_more : (refused : Bool) (later behind n : ℕ) → behind ≡ later + n
     → (if refused then behind + 1 else behind) ≡ (if refused then later + 1 else later) + n
@@ -49,7 +45,7 @@ module _ (x : TraceEvent) (events : List TraceEvent) (answers : List Answer)
   within = omega (arith, total)
 
   alike : (more : List Answer) → begins_full (answers ++ more) ≡ begins_full answers
-  alike more = begins_alike answers more (omega (arith, some_ops (begins_full answers) x, total))
+  alike more = grind (arith, begins_alike, total)
 
 module _ (event : TraceEvent) (more : List Answer) where
   abbrev next : List Op
@@ -91,20 +87,12 @@ module _ (event : TraceEvent) (more : List Answer) where
 
 -- An event's operations are its first one and those after it.
 
-made_first : (slot : ℕ) (a : Answer)
-    → ops_of (is_full_answer a) (A slot) ≡ flagged (Op.New 0 slot false) a ∷ drop 1 (ops_of (is_full_answer a) (A slot))
-made_first slot a = grind arith
-
-linked_first : (slot : ℕ) (a : Answer)
-    → ops_of (is_full_answer a) (K slot) ≡ flagged (Op.New 0 slot false) a ∷ drop 1 (ops_of (is_full_answer a) (K slot))
-linked_first slot a = grind arith
-
 abbrev BeginsWith : Op → TraceEvent → Bool → Type 0
 BeginsWith o event full = ops_of full event ≡ o ∷ drop 1 (ops_of full event)
 
 first_of : (o : Op) (a : Answer) (event : TraceEvent) → ops_of false event ≡ o ∷ drop 1 (ops_of false event)
     → ops_of (is_full_answer a) event ≡ flagged o a ∷ drop 1 (ops_of (is_full_answer a) event)
-first_of o a x2 is = grind (arith, made_first, linked_first, either_way)
+first_of o a x2 is = grind (arith, either_way)
 
 -- The operation is noted as it is, whatever its answer.
 abbrev IsPlain : Op → Type 0
@@ -139,9 +127,9 @@ module _ (c : Config) (es : List Event) (full : Bool) (event : TraceEvent) (i : 
       → CallsAll c es full (take (i + 1) ops) refused fs → Calls c fs o told gs
       → CallsAll c es full (take (i + 1 + 1) ops) (refused || is_refusal told) gs
   later_call {refused} {fs} {told} {gs} h g =
-      subst (λ (l : List Op). CallsAll c es full l (refused || is_refusal told) gs)
-      (ap (λ (x : Op). take (i + 1) ops ++ x ∷ []) (plain g.answer) ∙ sym (take_more ops (i + 1) o inside ∙ ap
-      (λ (x : Op). take (i + 1) ops ++ x ∷ []) here)) (calls_more h g (omega (arith, length-take (i + 1) ops, inside)))
+      rw (ap (λ (x : Op). take (i + 1) ops ++ x ∷ []) (plain g.answer) ∙ sym (take_more ops (i + 1) o inside ∙ ap
+      (λ (x : Op). take (i + 1) ops ++ x ∷ []) here)) at (calls_more h g (omega
+      (arith, length-take (i + 1) ops, inside)))
 
   pub later_may_come : {refused : Bool} {fs : List Event} → CallsAll c es full (take (i + 1) ops) refused fs
       → AreAdmitted c.globals (never_behind c es) (calls_of_caller ops) → MayCome c fs o
@@ -155,19 +143,12 @@ pub later_all : {c : Config} {es : List Event} {full : Bool} (event : TraceEvent
     (i : ℕ) {refused : Bool} {fs : List Event} → length (drop 1 (ops_of full event)) ≤ i → CallsAll c es full
     (take (i + 1) (ops_of full event)) refused fs → CallsAll c es full (ops_of full event) refused fs
 later_all {c} {es} {full} event i {refused} {fs} past h =
-    subst (λ (l : List Op). CallsAll c es full l refused fs)
-    (take_all (i + 1) (ops_of full event) (omega (arith, past, length-drop 1 (ops_of full event)))) h
-
--- the first one
-pub first_all : {c : Config} {es : List Event} {full : Bool} (event : TraceEvent) (o : Op) {refused : Bool}
-    {fs : List Event} → ops_of full event ≡ o ∷ drop 1 (ops_of full event)
-    → CallsAll c es full (o ∷ []) refused fs → CallsAll c es full (take (0 + 1) (ops_of full event)) refused fs
-first_all {c} {es} {full} event o {refused} {fs} is h = grind arith
+    rw (take_all (i + 1) (ops_of full event) (omega (arith, past, length-drop 1 (ops_of full event)))) at h
 
 pub begun : {c : Config} {es : List Event} (event : TraceEvent) {o : Op} {told : Answer} {fs : List Event}
     → ops_of false event ≡ o ∷ drop 1 (ops_of false event) → Calls c es o told fs
     → CallsAll c es (is_full_answer told) (take (0 + 1) (ops_of (is_full_answer told) event)) (is_refusal told) fs
-begun event {o} {told} is g = grind (arith, full_as_told, first_of, first_all, calls_first)
+begun event {o} {told} is g = grind (arith, full_as_told, first_of, calls_first)
 
 -- What the calls of an event come to.
 pub plays_event : {c : Config} {es : List Event} (event : TraceEvent) {refused : Bool} {fs : List Event} {full : Bool}

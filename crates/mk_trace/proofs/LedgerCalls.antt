@@ -1,18 +1,15 @@
 -- What the ledger keeps: before any event, over a call, and at the end.
-use Rattle.mk_trace.proofs.Vocabulary.{AreAgesOf, Config, Contents, Decided, EndsNone, EndsOne, EndsTell, Event}
-use Rattle.mk_trace.proofs.Vocabulary.{FlagsBehindCall, Freed, FreedObject, HoldsMostAtEnd, HostOnlyLooks}
-use Rattle.mk_trace.proofs.Vocabulary.{IsBetweenCycles, IsHistory, IsMostWhereFreed, Keeps, LeavesAllocations, Op}
-use Rattle.mk_trace.proofs.Vocabulary.{PlacedAllocation, QuarantinesMostWhereFreed, SettlesFreed, after_calls, asked}
-use Rattle.mk_trace.proofs.Vocabulary.{config_of, ends, freed_object_of, freed_words, greatest, in_a_word}
-use Rattle.mk_trace.proofs.Vocabulary.{is_under_turn, large_words, left, most_held, never_behind, never_first}
-use Rattle.mk_trace.proofs.Vocabulary.{number_freed, objects_kept, option_map, peaks_of, quarantined_words}
-use Rattle.mk_trace.proofs.Vocabulary.{reserved_words, storage_words}
+use Rattle.mk_trace.proofs.Vocabulary.{AreAgesOf, Config, Contents, EndsNone, EndsOne, EndsTell, Event, FlagsBehindCall}
+use Rattle.mk_trace.proofs.Vocabulary.{Freed, FreedObject, HoldsMostAtEnd, HostOnlyLooks, IsBetweenCycles, IsHistory}
+use Rattle.mk_trace.proofs.Vocabulary.{Keeps, LeavesAllocations, Op, PlacedAllocation, QuarantinesMostWhereFreed}
+use Rattle.mk_trace.proofs.Vocabulary.{SettlesFreed, config_of, ends, freed_object_of, freed_words, greatest, in_a_word}
+use Rattle.mk_trace.proofs.Vocabulary.{is_under_turn, left, most_held, never_behind, number_freed, objects_kept}
+use Rattle.mk_trace.proofs.{Vocabulary.{option_map, peaks_of, quarantined_words, reserved_words}, KeptPeaks.keeps_on}
+use Rattle.mk_trace.proofs.{PeakParts.last_below, ReleasedAreFreed.ages_counted}
 use Rattle.mk_laws.proofs.Vocabulary.{List, Option, ℕ, ap, arith, false, refl, subst, sym, [], ◌+◌, ◌<◌, ◌∙◌, ◌≡◌, ◌≤◌}
 use Rattle.mk_laws.proofs.Vocabulary.{◌⊎◌}
 use Rattle.mk_core.specs.{Allocations.unreleased_storage, History.left_from}
-use Rattle.mk_trace.proofs.{KeptPeaks.keeps_on, PeakParts.last_below, ReleasedAreFreed.ages_counted}
-use Rattle.mk_trace.specs.Peaks.{HistoryPeaks, found_by_ends, found_by_ends_from, greatest_from}
-use Rattle.mk_trace.specs.{Ledgers.IsPeakOf, Ledgers.Notes, declared.ledger.Peak.Peak}
+use Rattle.mk_trace.specs.{Peaks.{HistoryPeaks, found_by_ends, found_by_ends_from, greatest_from}, Ledgers.Notes}
 
 -- The ledger before any event, and what it comes to at the end.
 
@@ -40,8 +37,7 @@ pub ages_of : (trace : Contents) (c : Config) (es : List Event) {fs : List Event
     → AreAgesOf (found_by_ends c es) (left c es).allocations pairs → pairs ≡ (peaks_of (config_of trace) fs).ages
 ages_of trace c es {pairs} same config history h =
     ages_counted history
-    (subst (λ (l : List Event). AreAgesOf (found_by_ends (config_of trace) l) (left (config_of trace) l).allocations
-    pairs) (sym same) (subst (λ (d : Config). AreAgesOf (found_by_ends d es) (left d es).allocations pairs) config h))
+    (rw (← same) at (rw config at h))
 
 pub peaks_by : (p is : HistoryPeaks) → p.held ≡ is.held → p.quarantined ≡ is.quarantined → p.reserved ≡ is.reserved
     → p.cycles ≡ is.cycles → p.ages ≡ is.ages → p ≡ is
@@ -51,15 +47,10 @@ peaks_by p is held quarantined reserved cycles ages = grind arith
 
 -- What leaves the allocations and the cycles leaves what is kept.
 
-peak_left : {c : Config} {measure : List PlacedAllocation → ℕ} {es fs : List Event} {peak : Peak}
-    → LeavesAllocations c es fs → greatest c measure fs ≡ greatest c measure es → IsPeakOf c measure es peak
-    → IsPeakOf c measure fs peak
-peak_left {measure} leaves most h = grind arith
-
 keeps_left : {c : Config} {es fs : List Event} {f : Freed} → LeavesAllocations c es fs
     → greatest c (quarantined_words c) fs ≡ greatest c (quarantined_words c) es
     → greatest c (reserved_words c) fs ≡ greatest c (reserved_words c) es → Keeps c es f → Keeps c fs f
-keeps_left {c} {es} {fs} {f} leaves quarantined reserved h = grind (arith, peak_left)
+keeps_left {c} {es} {fs} {f} leaves quarantined reserved h = grind arith
 
 -- So does a look.
 keeps_looked : {c : Config} {es fs : List Event} {f : Freed} → HostOnlyLooks c es fs → Keeps c es f → Keeps c fs f
@@ -71,16 +62,9 @@ frees_nothing : (c : Config) (words : PlacedAllocation → ℕ) (es : List Event
     → freed_words c words es o ≡ 0
 frees_nothing c words es o beside = grind arith
 
-most_beside : (c : Config) (measure : List PlacedAllocation → ℕ) (words : PlacedAllocation → ℕ) (es : List Event)
-    (o : Op) (fs : List Event) → is_under_turn o ≡ false → IsMostWhereFreed c measure words es o fs
-    → greatest c measure fs ≡ greatest c measure es
-most_beside c measure words es o fs beside most = grind (arith, frees_nothing, last_below)
-
 pub keeps_beside : {c : Config} {es : List Event} {o : Op} {fs : List Event} {f : Freed} → is_under_turn o ≡ false
     → LeavesAllocations c es fs → QuarantinesMostWhereFreed c es o fs → Keeps c es f → Keeps c fs f
-keeps_beside {c} {es} {o} {fs} beside leaves most h =
-    keeps_left leaves (most_beside c (quarantined_words c) (storage_words c) es o fs beside most.quarantined)
-    (most_beside c (reserved_words c) (large_words c) es o fs beside most.reserved) h
+keeps_beside {c} {es} {o} {fs} beside leaves most h = grind (arith, keeps_left, frees_nothing, last_below)
 
 -- What was held at most stays too.
 pub held_beside : {c : Config} {es fs : List Event} (held : ℕ) → LeavesAllocations c es fs → HoldsMostAtEnd c es fs
@@ -92,9 +76,6 @@ held_beside {c} {es} held leaves most is = grind (arith, last_below)
 pub idle_looked : {c : Config} {es fs : List Event} → HostOnlyLooks c es fs → IsBetweenCycles c es
     → IsBetweenCycles c fs
 idle_looked looks idle = looks.leaves.phase ∙ idle
-
-pub never_looked : {c : Config} {es fs : List Event} → HostOnlyLooks c es fs → never_behind c fs ≡ never_behind c es
-never_looked {c} looks = ap (λ (l : List Decided). after_calls (never_first c) (asked l)) looks.calls
 
 -- One call
 module _ {c : Config} {es0 es1 es2 es3 es4 : List Event} {o : Op} {first second third : Freed}
@@ -109,7 +90,7 @@ module _ {c : Config} {es0 es1 es2 es3 es4 : List Event} {o : Op} {first second 
   told = tells (idle_looked before idle)
 
   is_now : x ≡ option_map (freed_object_of c (left c es1).allocations) (number_freed (never_behind c es1) o)
-  is_now = cc (is, before.table.allocations, never_looked before)
+  is_now = grind arith
 
   pub keeps_behind : Keeps c es4 third
   keeps_behind =

@@ -1,7 +1,6 @@
 pub mod Vocabulary
 pub mod AdmittedEvents
 pub mod CountedAges
-pub mod EndsInCalls
 pub mod EndsInLists
 pub mod EvaluatedPeaks
 pub mod EvaluatedPlays
@@ -9,7 +8,6 @@ pub mod EvaluatedTraces
 pub mod ExactPlays
 pub mod FewEvents
 pub mod FlagSteps
-pub mod FoundAges
 pub mod FoundByEnds
 pub mod FoundCells
 pub mod FoundObjects
@@ -29,7 +27,6 @@ pub mod LookedTables
 pub mod NumberLists
 pub mod OneCaller
 pub mod OwnPieces
-pub mod PeakBounds
 pub mod PeakParts
 pub mod Playable
 pub mod Played

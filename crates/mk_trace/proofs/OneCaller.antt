@@ -3,10 +3,10 @@ use Rattle.mk_trace.proofs.Vocabulary.{Answer, AreAdmitted, Caller, CallerIsHome
 use Rattle.mk_trace.proofs.Vocabulary.{Event, Grows, Has, HasAll, HostState, IsAdmitted, IsHistory, NeverState, Op}
 use Rattle.mk_trace.proofs.Vocabulary.{PassState, Seat, WordsState, after_calls, answered, asked, begins_full, calls}
 use Rattle.mk_trace.proofs.Vocabulary.{calls_of_caller, first_host, flagged, has_first, is_refusal, never_behind}
-use Rattle.mk_trace.proofs.{Vocabulary.{never_first, pass_for, without_seat}, OwnPieces.all_again}
+use Rattle.mk_trace.proofs.{Vocabulary.{pass_for, without_seat}, OwnPieces.all_again}
 use Rattle.mk_laws.proofs.Vocabulary.{Bool, List, ℕ, ap, append_assoc, arith, eq-eqb, false, if◌then◌else◌, length}
-use Rattle.mk_laws.proofs.Vocabulary.{length-map, list_any, list_any-append, map-append, refl, subst, sym, true, []}
-use Rattle.mk_laws.proofs.Vocabulary.{◌++◌, ◌<◌, ◌==◌, ◌||◌, ◌∙◌, ◌∷◌, ◌≡◌, ◌≤◌}
+use Rattle.mk_laws.proofs.Vocabulary.{length-map, list_any-append, map-append, refl, subst, sym, true, [], ◌++◌, ◌<◌}
+use Rattle.mk_laws.proofs.Vocabulary.{◌==◌, ◌||◌, ◌∙◌, ◌∷◌, ◌≡◌, ◌≤◌}
 use Rattle.mk_never.proofs.{Later.op_stays, Parts.{admitted_split, after_append}}
 use Rattle.mk_never.specs.{Admitted.IsCaller, NeverHeap.after_op}
 use Rattle.mk_core.specs.Counts.{is_full_answer}
@@ -67,10 +67,6 @@ as_many xs ops is =
     sym (length-map ops (λ (o : Op). record { caller = 0; op = o })) ∙ ap length (sym is) ∙ length-map xs
     (λ (x : Decided). record { caller = x.caller; op = x.op }) ∙ sym (length-map xs (λ (x : Decided). x.answer))
 
-any_more : (xs : List Answer) (told a : Answer) → told ≡ as_told a
-    → list_any is_refusal (xs ++ a ∷ []) ≡ list_any is_refusal xs || is_refusal told
-any_more xs told a is = cc (list_any-append is_refusal xs (a ∷ []), or_none (is_refusal a), refused_as_told a, is)
-
 -- the first call of all
 pub calls_first : {c : Config} {es : List Event} {o : Op} {told : Answer} {fs : List Event} → (g : Calls c es o told fs)
     → CallsAll c es (is_full_answer told) (flagged o g.answer ∷ []) (is_refusal told) fs
@@ -83,8 +79,10 @@ begins_alike x0 more some = grind arith
 -- and one more
 module _ {c : Config} {es : List Event} {full : Bool} {ops : List Op} {refused : Bool} {fs : List Event}
     (h : CallsAll c es full ops refused fs) {o : Op} {told : Answer} {gs : List Event} (g : Calls c fs o told gs) where
+  ruleset calls_more_facts = (map-append, begins_alike, as_many, append_assoc, list_any-append, refused_as_told)
+
   pub calls_more : 1 ≤ length ops → CallsAll c es full (ops ++ flagged o g.answer ∷ []) (refused || is_refusal told) gs
-  calls_more some = grind (arith, map-append, begins_alike, as_many, append_assoc, any_more)
+  calls_more some = grind (arith, calls_more_facts, or_none)
 
 -- What comes next of operations that may come.
 pub next_may_come : {c : Config} {es : List Event} {full : Bool} {ops : List Op} {refused : Bool} {fs : List Event}
@@ -132,8 +130,7 @@ admits {h} home o comes history = λ es later same.
     let c = h.pass.table.config in
     let one = callers_at_home home in
     let all : calls c es ≡ calls c h.pass.seen = sym (calls_are_own one later) ∙ same ∙ calls_are_own one history in
-    subst (λ (xs : List Decided). IsAdmitted c.globals (after_calls (never_first c) (asked xs)) 0 o) (sym all)
-    (subst (λ (x : WordsState). MayCome x.config h.pass.seen o) (sym home.table) comes)
+    rw all (rw (← home.table) at comes)
 
 module _ {w : WordsState} {h : HostState} (home : CallerIsHome w h) (s : CallerState)
     (made : s ≡ at_home (pass_for h (Caller 0))) where
@@ -149,8 +146,7 @@ module _ {w : WordsState} {h : HostState} (home : CallerIsHome w h) (s : CallerS
   pub made_admits : (o : Op) → MayCome w.config h.pass.seen o → IsHistory s.pass.table.config s.pass.seen
       → IsAdmittedByOwnCalls s.pass o
   made_admits o comes history =
-      subst (λ (x : CallerState). IsAdmittedByOwnCalls x.pass o) (sym made)
-      (admits home o comes (subst (λ (x : CallerState). IsHistory x.pass.table.config x.pass.seen) made history))
+      rw made (admits home o comes (rw made at history))
 
 -- The caller that the host makes first, and joins at once.
 pub first_home : (w : WordsState) (h made joined : HostState) (q : PassState) → w.config.callers ≡ 1 → h ≡ first_host w

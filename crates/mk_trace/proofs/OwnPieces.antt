@@ -10,7 +10,6 @@ use Rattle.mk_core.specs.{Growing.AreOfOthers, History.AreEnabledFrom}
 use Rattle.mk_alloc.{proofs.Parts.{seen_behind, seen_then}, specs.{TurnCalls.CalledInTurn, TurnCycles.within_turn}}
 use Rattle.mk_waiting.specs.Taking.{is_take, waits_for}
 use Rattle.mk_words.proofs.Seats.{has_either, has_left, has_right, not_both, same_seat, without_keeps}
-use Rattle.mk_words.specs.TurnSteps.{turn_stays}
 
 -- What a pass may have seen since: events of seats that there are, and none of those that are elsewhere.
 
@@ -105,16 +104,8 @@ module _ {on : Bool} {p : PassState} {o : Op} {a : Answer} {q : PassState} (h : 
   abbrev pub giving : List Event
   giving = event_of h.done Step.Give ∷ []
 
-  taken_seen : h.taken.seen ≡ p.seen ++ before_turn
-  taken_seen =
-      seen_then p.seen h.takes.waited.seen h.taken.seen waits taking (ap (λ (x : PassState). x.seen) h.takes.waits.is)
-      (seen_made h.takes.waited h.taken (Step.Take (Some o)) h.takes.takes.makes)
-
   done_seen : h.done.seen ++ h.gives.others ≡ (p.seen ++ before_turn) ++ h.ends.turn.behind
-  done_seen =
-      ap (λ (l : List Event). l ++ h.gives.others) (seen_behind turn_stays h.taken h.done h.acts) ∙ append_assoc
-      h.taken.seen h.acts.more h.gives.others ∙ ap (λ (l : List Event). l ++ (h.acts.more ++ h.gives.others)) taken_seen
-      ∙ ap (λ (l : List Event). (p.seen ++ before_turn) ++ l) (sym h.turn_part)
+  done_seen = grind (arith, seen_behind, append_assoc, before_turn, seen_then, waits, taking, seen_made)
 
   pub turn_seen : q.seen ≡ p.seen ++ (before_turn ++ (h.ends.turn.behind ++ giving))
   turn_seen =
@@ -142,5 +133,5 @@ module _ {on : Bool} {p : PassState} {o : Op} {a : Answer} {q : PassState} (h : 
       lacks_append kind waits taking (waiting_lacks kind p.table.config elsewhere p waits apart all parts.0
       h.takes.waits.only) (lacks_append kind h.takes.takes.makes.others (event_of h.takes.waited (Step.Take (Some o)) ∷
       []) (others_lack kind p.table.config elsewhere p.seats h.takes.takes.makes.others all taken.0
-      (subst (λ (x : PassState). AreOfOthers x.seats h.takes.takes.makes.others) h.takes.waits.is
-      h.takes.takes.makes.of_others)) (lacks_one kind (event_of h.takes.waited (Step.Take (Some o))) (apart (Some o))))
+      (rw h.takes.waits.is at h.takes.takes.makes.of_others)) (lacks_one kind
+      (event_of h.takes.waited (Step.Take (Some o))) (apart (Some o))))

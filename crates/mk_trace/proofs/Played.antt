@@ -1,12 +1,11 @@
 -- What was played so far, with one event more, and at the end.
 use Rattle.mk_trace.proofs.Vocabulary.{AllTurnsAreExact, Answer, Caller, CallerState, Config, Contents, Decided, Event}
-use Rattle.mk_trace.proofs.Vocabulary.{Grows, HostState, IsEventOf, IsHistory, IsPlayable, NeverState, Null, PassState}
-use Rattle.mk_trace.proofs.Vocabulary.{TraceEvent, WordsState, after_calls, answered, asked, begins_full, calls}
-use Rattle.mk_trace.proofs.Vocabulary.{calls_of_caller, config_of, first_host, is_refusal, never_behind, never_first}
-use Rattle.mk_trace.proofs.Vocabulary.{one_if, ops_of, pass_for, refused_events, register_at, take_all, take_more}
-use Rattle.mk_trace.proofs.{LaterOps.{ops-played_more, refused_more}, OneCaller.{as_many, calls_are_own}}
-use Rattle.mk_trace.proofs.{OneCaller.{never_then_calls, none_called}, AdmittedEvents.events_are_admitted}
-use Rattle.mk_trace.{proofs.ExactPlays.{play_is_unswept}, specs.{Playing.{IsPlayed, ops_played}, Traces.slot_of}}
+use Rattle.mk_trace.proofs.Vocabulary.{Grows, HostState, IsEventOf, IsHistory, IsPlayable, PassState, TraceEvent}
+use Rattle.mk_trace.proofs.Vocabulary.{WordsState, after_calls, answered, asked, begins_full, calls, calls_of_caller}
+use Rattle.mk_trace.proofs.Vocabulary.{config_of, first_host, is_refusal, never_behind, one_if, pass_for}
+use Rattle.mk_trace.proofs.{Vocabulary.{refused_events, take_all, take_more}, LaterOps.{ops-played_more, refused_more}}
+use Rattle.mk_trace.proofs.OneCaller.{as_many, calls_are_own, never_then_calls, none_called}
+use Rattle.mk_trace.proofs.{AdmittedEvents.events_are_admitted, ExactPlays.play_is_unswept}
 use Rattle.mk_laws.proofs.Vocabulary.{Bool, List, ℕ, ap, arith, false, get_or, if◌then◌else◌, length, list_any}
 use Rattle.mk_laws.proofs.Vocabulary.{map-append, refl, subst, sym, take, [], ◌++◌, ◌+◌, ◌<◌, ◌∙◌, ◌∷◌, ◌≡◌, ◌≤◌}
 use Rattle.mk_laws.proofs.Promises.{histories_keep_all_promises}
@@ -16,6 +15,7 @@ use Rattle.mk_heap.specs.Reports.{IsWhole}
 use Rattle.mk_quarantine.proofs.Bounds.{quarantine_of_one_is_bounded}
 use Rattle.mk_run.proofs.UnsweptHistories.{unswept_is_precise}
 use Rattle.mk_trace.specs.Calls.{AreNull, EventsAreAdmitted, HasPlayed, MayBePlayed, PlaysEvent, SameCalls}
+use Rattle.mk_trace.specs.{Playing.{IsPlayed, ops_played}, Traces.slot_of}
 
 -- Before the first event.
 pub played_none : (trace : Contents) → HasPlayed trace [] 0 []
@@ -48,13 +48,11 @@ module _ (trace : Contents) (events : List TraceEvent) (refused : ℕ) (es : Lis
   played_more admitted history of_slots = record {
     ops = ops;
     refuses =
-        ap (λ (b : Bool). refused + one_if b) (sym p.refuses)
-        ∙ ap (λ (n : ℕ). n + one_if (list_any is_refusal more)) h.refuses
-        ∙ sym (refused_more event more events answers count
-        (sym (as_many p.more (ops_of (begins_full more) event) p.asks)))
+        ap (λ (b : Bool). refused + one_if b) (sym p.refuses) ∙ ap (λ (n : ℕ). n + one_if (list_any is_refusal more))
+        h.refuses ∙ sym (refused_more event more events answers count (sym (as_many p.more _ p.asks)))
         ∙ ap (refused_events (events ++ event ∷ [])) (sym answered_more);
-    clear = λ r. subst (λ (n : NeverState). register_at n 0 r ≡ Null) (sym
-        (never_then_calls c es fs p.more p.is ∙ ap (after_calls (never_behind c es)) p.asks))
+    clear = λ r. rw (sym
+        (never_then_calls c es fs p.more p.is ∙ ap (after_calls (never_behind c es)) p.asks)) at
         ((admitted es history h.clear event of_slots (begins_full more)).1 r);
   }
 
@@ -82,23 +80,10 @@ pub may_be_played : {trace : Contents} {c : Config} {es : List Event} (fs : List
     → IsEventOf trace.slots event → SameCalls c es fs → MayBePlayed c fs event
 may_be_played fs event config playable history null of_slots same full = grind (arith, events_are_admitted)
 
-pub slot_within : (slots : List ℕ) (event : TraceEvent) → IsEventOf slots event → slot_of event < length slots
-slot_within slots x1 h = grind arith
-
 -- A slot is a global.
 pub slot_is_global : {trace : Contents} (event : TraceEvent) → IsPlayable trace → IsEventOf trace.slots event
     → slot_of event < 64
-slot_is_global {trace} event playable h = omega (arith, slot_within trace.slots event h, playable.slot_count.1)
-
--- The same calls were played.
-pub played_same : {trace : Contents} {events : List TraceEvent} {refused : ℕ} {es : List Event} (fs : List Event)
-    → SameCalls (config_of trace) es fs → HasPlayed trace events refused es → HasPlayed trace events refused fs
-played_same {trace} {events} {refused} fs same h = record {
-  ops = subst (λ (l : List Decided). asked l ≡ calls_of_caller (ops_played events (answered l))) (sym same) h.ops;
-  refuses = subst (λ (l : List Decided). refused ≡ refused_events events (answered l)) (sym same) h.refuses;
-  clear = subst (λ (l : List Decided). AreNull (after_calls (never_first (config_of trace)) (asked l)))
-      (sym same) h.clear;
-}
+slot_is_global {trace} event playable h = grind arith
 
 -- The caller was made, and joined at once: it made no call.
 no_call_first : {c : Config} {es : List Event} → c.callers ≡ 1 → IsHistory c es → Grows (Caller 0 ∷ []) [] es
@@ -108,7 +93,7 @@ no_call_first {c} one history g = sym (calls_are_own one history) ∙ none_calle
 
 pub played_first : (trace : Contents) (c : Config) (events : List TraceEvent) (es : List Event) → c ≡ config_of trace
     → SameCalls c [] es → HasPlayed trace (take 0 events) 0 es
-played_first trace c events es config same = grind (arith, played_same, played_none)
+played_first trace c events es config same = grind (arith, played_none)
 
 -- The next event of some was played.
 pub next_played : {trace : Contents} {c : Config} (events : List TraceEvent) (i : ℕ) {refused : ℕ}
@@ -119,10 +104,9 @@ pub next_played : {trace : Contents} {c : Config} (events : List TraceEvent) (i 
 next_played {trace} events i {refused} count {es} {fs} {event} {is_refused} config playable history within here of_slots
     h p is =
     let plays : PlaysEvent (config_of trace) es event is_refused fs = grind arith in
-    let of_trace : IsHistory (config_of trace) es = subst (λ (d : Config). IsHistory d es) config history in
+    let of_trace : IsHistory (config_of trace) es = rw config at history in
     let next : take (i + 1) events ≡ take i events ++ event ∷ [] = grind (arith, take_more) in
-    subst (λ (l : List TraceEvent). HasPlayed trace l count fs) (sym next)
-    (subst (λ (n : ℕ). HasPlayed trace (take i events ++ event ∷ []) n fs) (sym is) (played_more trace
+    rw next (rw (← is) at (played_more trace
     (take i events) refused es h event is_refused fs plays (events_are_admitted playable) of_trace of_slots))
 
 pub one_counted : (b : Bool) (n m : ℕ) → m ≡ (if b then n + 1 else n) → m ≡ n + one_if b

@@ -88,11 +88,9 @@ pub read_whole : (text : List ℕ) (lines : List (Bor (List ℕ))) (d : Bor (Lis
     → written_from 2 (texts_of (take (length lines - 1) (drop 1 lines))) nothing_written ≡ Ok written
     → trace_of text ≡ contents_of heap written
 read_whole text lines d heap written small are some header rest =
-    let whole : take (length lines - 1) (drop 1 lines) ≡ drop 1 lines =
-    take_all (length lines - 1) (drop 1 lines) (omega (arith, length-drop 1 lines)) in
-    short text small ∙ ap trace_of_lines (sym are ∙ at_drop_more texts_of lines 0 d some)
-    ∙ read (get_or lines 0 d).now (texts_of (drop 1 lines)) heap written header
-    (ap (λ left. written_from 2 (texts_of left) nothing_written) (sym whole) ∙ rest)
+    short text small ∙ ap trace_of_lines (sym are ∙ at_drop_more texts_of lines 0 d some) ∙ read (get_or lines 0 d).now
+    (texts_of (drop 1 lines)) heap written header (ap (λ left. written_from 2 (texts_of left) nothing_written)
+    (sym (take_all (length lines - 1) (drop 1 lines) (omega (arith, length-drop 1 lines)))) ∙ rest)
 
 -- what stops at the end stops the whole
 pub stops_whole : {X : Type 0} (found : Result X TraceStop) (expected whole : Result Contents TraceStop)

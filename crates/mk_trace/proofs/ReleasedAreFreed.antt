@@ -10,7 +10,7 @@ use Rattle.mk_laws.proofs.Vocabulary.{inr, left_more, length, length-map, map, n
 use Rattle.mk_laws.proofs.Vocabulary.{released_where_left, slice_index, subst, suc, sym, true, true≢false, zero, []}
 use Rattle.mk_laws.proofs.Vocabulary.{◌&&◌, ◌++◌, ◌+◌, ◌<◌, ◌∙◌, ◌∷◌, ◌≡◌}
 use Rattle.mk_core.{proofs.ChangedAllocations.earlier_at, proofs.ChangedAllocations.granted_at, specs.History.left_from}
-use Rattle.mk_laws.proofs.{CyclePhases.AsksPhase, InvariantTheorems.allocations_stand, Snapshots.unreleased_cycles}
+use Rattle.mk_laws.proofs.{CyclePhases.AsksPhase, InvariantHistories.allocations_stand, Snapshots.unreleased_cycles}
 use Rattle.mk_trace.{proofs.CountedAges.same_counted, specs.Ledgers.is_gone, specs.Peaks.released_ages}
 
 abbrev pub AreFreed : List PlacedAllocation → Type 0

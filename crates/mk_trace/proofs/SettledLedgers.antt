@@ -2,8 +2,8 @@
 use Rattle.std.proofs.{lemmas.List.Elements.filter-append, lemmas.List.Sums.{fold-append, sum_by_more}}
 use Rattle.mk_trace.proofs.Vocabulary.{Freed, FreedObject, SettlesFreed, aged, fold, in_a_word, objects_kept}
 use Rattle.mk_trace.proofs.{Vocabulary.{still_kept, sum_by, take_all, take_more, with_one}, NumberLists.unequal_is}
-use Rattle.mk_laws.proofs.Vocabulary.{Bool, List, ℕ, ap, arith, get_or, if◌then◌else◌, length, map, map-append, not}
-use Rattle.mk_laws.proofs.Vocabulary.{subst, sym, take, [], ◌++◌, ◌+◌, ◌<◌, ◌∙◌, ◌∷◌, ◌≡◌, ◌≤◌}
+use Rattle.mk_laws.proofs.Vocabulary.{Bool, List, ℕ, ap, arith, get_or, if◌then◌else◌, length, map, map-append, subst}
+use Rattle.mk_laws.proofs.Vocabulary.{sym, take, [], ◌++◌, ◌+◌, ◌<◌, ◌∙◌, ◌∷◌, ◌≡◌, ◌≤◌}
 use Rattle.mk_trace.specs.Ledgers.{SettlesWhere, ages_let_go, is_freed_among, weighed_anew}
 
 -- Words of kept objects, summed up one by one, where a number above 2^64 - 1 stands as 2^64 - 1.
@@ -45,10 +45,6 @@ let_go_one : (freed : List ℕ) (objects : List FreedObject) (x : FreedObject) �
     ≡ ages_let_go freed objects ++ ages_let_go freed (x ∷ [])
 let_go_one freed objects x = grind (arith, filter-append, map-append)
 
-one_by : (pairs : List (ℕ × ℕ)) (x : FreedObject) (b : Bool) → (if b then pairs else with_one pairs x.age)
-    ≡ fold with_one pairs (map (λ (y : FreedObject). y.age) (if not b then x ∷ [] else []))
-one_by pairs x x2 = grind arith
-
 pub ages_more : (freed : List ℕ) (found : List FreedObject) (i : ℕ) (d x : FreedObject)
     (first ages now : List (ℕ × ℕ)) (b : Bool) → i < length found
     → ages ≡ fold with_one first (ages_let_go freed (map aged (take i found))) → x ≡ aged (get_or found i d)
@@ -60,7 +56,7 @@ ages_more freed found i d x first ages now b lt so_far same is more =
     more ∙ ap (λ (l : List (ℕ × ℕ)). if b then l else with_one l x.age) so_far ∙ ap
     (λ (z : FreedObject). if b then fold with_one first before else with_one (fold with_one first before) z.age) same
     ∙ ap (λ (z : Bool). if z then fold with_one first before else with_one (fold with_one first before) y.age) is
-    ∙ one_by (fold with_one first before) y (is_freed_among freed y.cell) ∙ sym (fold-append with_one first before
+    ∙ (grind arith) ∙ sym (fold-append with_one first before
     (ages_let_go freed (y ∷ []))) ∙ ap (fold with_one first) (sym (let_go_one freed (map aged (take i found)) y))
     ∙ ap (λ (l : List FreedObject). fold with_one first (ages_let_go freed l)) (sym (all_aged found i d lt))
 

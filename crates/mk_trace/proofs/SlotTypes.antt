@@ -12,21 +12,6 @@ pub length-types_from : (slot : ℕ) (slots : List ℕ) → length (types_from s
 length-types_from slot [] = refl
 length-types_from slot (words ∷ slots) = ap (λ n. suc n) (length-types_from (slot + 1) slots)
 
--- a slot's type stands at its number among the types
-type_among : (types before behind : List (List Kind)) (words : ℕ) → types ≡ before ++ slot_type
-    (length before) words ∷ behind → IsBetween 1 4096 words → IsTypeAmong types (slot_type (length before) words)
-type_among types before behind words is within =
-    let slot = length before in
-    let size : length (slot_type slot words) ≡ words = omega (arith, within.0, length-replicate (words - 1) Num) in
-    let here : kinds_of types slot ≡ slot_type slot words = grind (arith, get_or-append_seam) in
-    let inside : slot < length types = omega
-    (arith, ap length is, length-append before (slot_type slot words ∷ behind)) in
-    let points : 0 < length (kinds_of types slot) = omega (arith, ap length here) in (
-      (omega (arith, size, within.0), omega (arith, size, within.1)),
-      All-cons (IsAmong types) (To slot 0) (replicate (words - 1) Num) (inside, points)
-          (All-replicate (IsAmong types) (words - 1) Num tt),
-    )
-
 pub types_among : (types before : List (List Kind)) (slot : ℕ) (slots : List ℕ) → slot ≡ length before → types
     ≡ before ++ types_from slot slots → All (IsBetween 1 4096) slots → All (IsTypeAmong types) (types_from slot slots)
 types_among types before slot [] at is within = All-nil (IsTypeAmong types)
@@ -34,12 +19,28 @@ types_among types before slot (words ∷ slots) at is within =
     let first : IsBetween 1 4096 words = All-head (IsBetween 1 4096) words slots within in
     let others = All-tail (IsBetween 1 4096) words slots within in
     let behind = types_from (slot + 1) slots in
-    let next : slot + 1 ≡ length (before ++ slot_type slot words ∷ []) = omega
-    (arith, at, length-append before (slot_type slot words ∷ [])) in
     All-cons (IsTypeAmong types) (slot_type slot words) behind (subst (λ n. IsTypeAmong types (slot_type n words))
-    (sym at) (type_among types before behind words (is ∙ ap (λ n. before ++ slot_type n words ∷ behind) at) first))
-    (types_among types (before ++ slot_type slot words ∷ []) (slot + 1) slots next
-    (is ∙ sym (append_assoc before (slot_type slot words ∷ []) behind)) others)
+    (sym at) (let slot = length before in
+    let size : length (slot_type slot words) ≡ words = omega (arith, first.0, length-replicate (words - 1) Num) in
+    let here : kinds_of types slot ≡ slot_type slot words = grind (arith, get_or-append_seam) in
+    let points : 0 < length (kinds_of types slot) = omega (arith, ap length here) in (
+      (omega (arith, size, first.0), omega (arith, size, first.1)),
+      All-cons (IsAmong types) (To slot 0) (replicate (words - 1) Num) (
+        (omega (
+          arith,
+          ap length (is ∙ ap (λ n. before ++ slot_type n words ∷ behind) at),
+          length-append
+              before (slot_type slot words ∷ behind),
+        )),
+        points,
+      ) (All-replicate (IsAmong types) (words - 1) Num tt),
+    )))
+    (types_among types (before ++ slot_type slot words ∷ []) (slot + 1) slots (omega (
+      arith,
+      at,
+      length-append before
+          (slot_type slot words ∷ []),
+    )) (is ∙ sym (append_assoc before (slot_type slot words ∷ []) behind)) others)
 
 pub range_below : (first count limit : ℕ) → first + count ≤ limit → All (λ n. n < limit) (range_with_len first count)
 range_below first zero limit h = All-nil (λ n. n < limit)

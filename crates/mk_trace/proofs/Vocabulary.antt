@@ -7,7 +7,7 @@ pub use Rattle.std.specs.List.{range_with_len}
 pub use Rattle.mk_core.{proofs.Histories.{calls_append}, specs.{Growing.{Grows, is_same_seat}, History.never_first}}
 pub use Rattle.mk_core.specs.{Allocations.{allocations_by, held_by_allocations}, Config.IsBetween, Counts.decides_freed}
 pub use Rattle.mk_laws.proofs.{CyclePhases.moves_phase, ImagesKept.exists_placed}
-pub use Rattle.mk_laws.proofs.{InvariantHistories.histories_keep_the_invariant, InvariantTheorems.reach_is_kept}
+pub use Rattle.mk_laws.proofs.InvariantHistories.{histories_keep_the_invariant, reach_is_kept}
 pub use Rattle.mk_laws.proofs.Vocabulary.{Answer, AreAdmitted, AreEnabledFrom, AreOfOthers, Call, Caller, Cell, Config}
 pub use Rattle.mk_laws.proofs.Vocabulary.{Decided, Event, Flight, Host, IsAdmitted, IsHistory, IsSound, IsTidy}
 pub use Rattle.mk_laws.proofs.Vocabulary.{IsWithinLimits, Kind, Marker, Moment, NeverState, Null, Num, Op}

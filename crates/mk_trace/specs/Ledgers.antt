@@ -47,6 +47,11 @@ pub record AreObjectsOf (c : Config) (found : List (List PlacedAllocation)) (xs 
   pub are : objects ≡ map (aged_object c found xs) numbers
   pub those : AreThose test numbers
 
+-- They are those of the quarantined allocations.
+abbrev pub AreQuarantinedObjects : Config → List (List PlacedAllocation) → List PlacedAllocation → List FreedObject
+    → Type 0
+AreQuarantinedObjects c found xs objects = AreObjectsOf c found xs (λ (i : ℕ). is_quarantined (placed_at xs i)) objects
+
 -- It was freed, and is released. (What is no allocation counts as released.)
 abbrev pub is_gone : PlacedAllocation → Bool
 is_gone a = a.freed && a.released
@@ -76,8 +81,7 @@ pub record IsPeakOf (c : Config) (measure : List PlacedAllocation → ℕ) (es :
 pub record Keeps (c : Config) (es : List Event) (f : Freed) : Type 0 where
   pub quarantined : IsPeakOf c (quarantined_words c) es f.quarantined
   pub reserved : IsPeakOf c (reserved_words c) es f.reserved
-  pub objects : AreObjectsOf c (found_by_ends c es) (left c es).allocations
-      (λ (i : ℕ). is_quarantined (placed_at (left c es).allocations i)) (objects_kept f)
+  pub objects : AreQuarantinedObjects c (found_by_ends c es) (left c es).allocations (objects_kept f)
   pub ages : AreAgesOf (found_by_ends c es) (left c es).allocations f.ages.items
   pub found : AreFound (found_by_ends c es) (left c es).allocations
   pub ends : f.ends ≡ in_a_word (ends es)

@@ -1,7 +1,6 @@
 use Rattle.mk_laws.proofs.Vocabulary.{Bool, false, is_under_turn, true, ◌≡◌}
 use Rattle.mk_run.proofs.Vocabulary.{Answers, calls_sweep_nothing, nothing_sweeps, rules, sweep_nothing_where_held}
-use Rattle.mk_run.proofs.BesideTurns.{held_beside, stays_still}
-use Rattle.mk_run.proofs.{PutOff.held_put_off, PutOff.turn_put_off, ScriptCalls.answered_by_call}
+use Rattle.mk_run.proofs.{ScriptCalls.{answered_by_call, held_beside, stays_still}, PutOff.{held_put_off, turn_put_off}}
 use Rattle.mk_run.proofs.answers.answer_at_once.Goals as goal
 
 pub returns-in-New : goal.returns-in-New

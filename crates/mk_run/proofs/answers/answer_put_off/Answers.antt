@@ -34,8 +34,6 @@ answer_when_open-requires g c = record {
 
 pub returns-in_default : goal.returns-in_default
 returns-in_default g c =
-    let p = c.args.caller.now.pass in
-    let q = c.answer_when_open.new.caller.pass in
     let entered : is_under_turn c.args.op ≡ false = search rules in
     let answers = c.answer_when_open.ensures.answers c.args.op g.E.Engine.on c.requires.asks in
     record {

@@ -1,7 +1,7 @@
 use Rattle.mk_laws.proofs.Vocabulary.{refl, true}
 use Rattle.mk_run.proofs.Vocabulary.{calls_sweep_nothing, nothing_sweeps, sweep_nothing_where_held, sweeps_then}
-use Rattle.mk_run.proofs.ScriptCalls.{answered_by_call, makes_none, none_then_answers, none_then_none, still_admitted}
-use Rattle.mk_run.proofs.BesideTurns.{stays_still}
+use Rattle.mk_run.proofs.ScriptCalls.{answered_by_call, makes_none, none_then_answers, none_then_none, stays_still}
+use Rattle.mk_run.proofs.ScriptCalls.{still_admitted}
 use Rattle.mk_run.proofs.answers.call_until_open.Goals as goal
 
 pub call-requires-clause-admitted : goal.call-requires-clause-admitted

@@ -1,4 +1,4 @@
-use Rattle.mk_laws.proofs.Vocabulary.{Caller, Config, Host, ap, arith, length, subst, sym, ◌+◌, ◌<◌, ◌∙◌, ◌≡◌}
+use Rattle.mk_laws.proofs.Vocabulary.{Caller, Config, Host, ap, arith, length, subst, sym, ◌+◌, ◌∙◌, ◌≡◌}
 use Rattle.mk_run.proofs.Vocabulary.{AreReadyFrom, Grows, HasMade, HostState, IsFirstPass, IsReadyScript, IsScript}
 use Rattle.mk_run.{proofs.Vocabulary.{has_left, rules, script_names, with_joined}, specs.Joining.{AreJoined, HasRun}}
 use Rattle.mk_run.proofs.{HostTurns.{host_is_still, unseen_by_host}, JoinedScripts.{first_pass, next_made, one_joined}}
@@ -14,8 +14,6 @@ join-ran-requires-after_bounds g t c κs within =
     let k = c.args.k in
     let rest = c.pop_front.new.self.items in
     let host = c.args.host in
-    let shorter : length rest < length c.args.scripts.items =
-    omega (arith, c.in-Some.ensures.cases, c.args.scripts.ok, c.pop_front.new.self.ok) in
     let made_for = g.E.Engine.made_for in
     let program = c.args.run.now.program.now in
     let made = ready_first made_for program w.config k c.in-Some.ready rest

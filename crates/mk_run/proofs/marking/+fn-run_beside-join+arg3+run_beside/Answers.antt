@@ -1,4 +1,4 @@
-use Rattle.mk_laws.proofs.Vocabulary.{Caller, Host, ap, arith, refl, subst, sym, ◌+◌, ◌-◌, ◌<◌, ◌∙◌, ◌≡◌}
+use Rattle.mk_laws.proofs.Vocabulary.{Caller, Host, arith, refl, subst, sym, ◌+◌, ◌-◌, ◌<◌}
 use Rattle.mk_run.proofs.{Vocabulary.{HasMade, HostState, IsOver, rules}, MarkersBeside.{first_marker, marker_joined}}
 use Rattle.mk_run.proofs.{MarkersBeside.marker_made, KeptScripts.{others_on, scripts_on}, LastTurns.last_turns_joined}
 use Rattle.mk_run.{proofs.LaterLists.{of_one}, specs.Marking.{IsMarkersPass}}
@@ -15,8 +15,6 @@ join-pass-requires-after_bounds g t c κs within =
     let pass : IsMarkersPass w number c.finish-pass.result = grind (arith, first_marker) in
     let made : HasMade w 0 new =
     subst (λ (h : HostState). HasMade w 0 h) (sym c.marker.ensures.host) (marker_made c.requires.host) in
-    let count : new.markers ≡ number + 1 =
-    ap (λ (h : HostState). h.markers) c.marker.ensures.host ∙ ap (λ n. n + 1) c.requires.number in
     let fewer : c.args.run.now.markers - (number + 1) < t = omega (arith, c.decreases) in
     search rules
 

@@ -13,16 +13,14 @@ join-worked-requires-after_bounds g t c κs within =
     let given = c.requires.callers in
     let next : HasHandedOut w c.args.host.markers (k + 1 + 1) c.caller.new.self =
     subst (HasHandedOut w c.args.host.markers (k + 1 + 1)) (sym c.caller.ensures.host) (next_made c.requires.host) in
-    let ready : IsBetweenJobs w (k + 1) c.finish-next_pass.result =
-    subst (IsBetweenJobs w (k + 1)) (sym c.finish-next_pass.ensures.pass)
-    (next_ready c.caller.result c.requires.host c.caller.ensures.caller c.finish-next_pass.ensures.idle) in
     let made = All-pop (λ engine. g.E.Engine.made_for engine ≡ w.config.pages) c.args.callers.engines.others.items rest
     (Some c.in-Some.second) c.in-Some.ensures.items given.engines.others in
     let callers : AreCallersFrom g.E.Engine.made_for w (k + 1) (record {
       pass = c.finish-next_pass.result;
       engines = record { first = c.in-Some.second; others = c.pop.new.self };
     }) = record {
-      pass = ready;
+      pass = subst (IsBetweenJobs w (k + 1)) (sym c.finish-next_pass.ensures.pass)
+          (next_ready c.caller.result c.requires.host c.caller.ensures.caller c.finish-next_pass.ensures.idle);
       engines = record {
         count = omega (arith, c.in-Some.ensures.cases, given.engines.count);
         first = made.1;
@@ -46,13 +44,11 @@ returns g t c =
     let begun : replied_to c.finish-next_pass.result ≡ [] =
     cc (c.finish-next_pass.ensures.pass, next_unasked c.caller.result c.requires.host c.caller.ensures.caller) in
     let markers = c.args.host.markers in
-    let one : HasWorked w first k list.jobs.list.items c.join-worked.result.0 =
-    rw list.there at c.join-worked.ensures.first in
+    let one = rw list.there at c.join-worked.ensures.first in
     let joined : HaveWorked w markers (replied_to c.finish-next_pass.result) (k + 1) others c.join-worked.result.1 =
     rw c.caller.ensures.host at c.join-worked.ensures.second in
     record {
-      joined =
-          rw list.rest (c.join_worked-2.ensures markers first k list.jobs others one (rw begun at joined));
+      joined = rw list.rest (c.join_worked-2.ensures markers first k list.jobs others one (rw begun at joined));
     }
 
 -- the last caller

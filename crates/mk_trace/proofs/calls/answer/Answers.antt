@@ -1,6 +1,5 @@
-use Rattle.mk_trace.proofs.{Vocabulary.{IsHistory, WordsState}, LedgerCalls.{ends_over, held_beside, keeps_behind}}
-use Rattle.mk_trace.proofs.{LedgerCalls.keeps_beside, ExactPlays.exact_over}
-use Rattle.mk_laws.proofs.Vocabulary.{arith, subst, sym, ◌∙◌}
+use Rattle.mk_laws.proofs.Vocabulary.{arith, sym, ◌∙◌}
+use Rattle.mk_trace.proofs.{LedgerCalls.{ends_over, held_beside, keeps_behind, keeps_beside}, ExactPlays.exact_over}
 use Rattle.mk_trace.proofs.calls.answer.Goals as goal
 
 -- under the turn
@@ -8,11 +7,10 @@ use Rattle.mk_trace.proofs.calls.answer.Goals as goal
 pub returns-in_ok-settle-clause-keeps : goal.returns-in_ok-settle-clause-keeps
 returns-in_ok-settle-clause-keeps g c =
     keeps_behind
-    c.object_to_free-freed.ensures.looks (subst (λ (x : WordsState). IsHistory x.config
-    c.object_to_free-freed.new.host.pass.seen) c.object_to_free-freed.ensures.home.table c.is_in_order.ensures.history)
-    (subst (λ (x : WordsState). IsHistory x.config c.call-told.new.host.pass.seen) c.call-told.ensures.home.table
-    c.is_in_order-then-is_under_turn.ensures.history) c.requires.few c.requires.idle (c.call-told.ensures.ends
-    c.requires.off) c.call-told.ensures.quarantines c.call-told.ensures.flags c.look-now.ensures.looks
+    c.object_to_free-freed.ensures.looks (rw c.object_to_free-freed.ensures.home.table at c.is_in_order.ensures.history)
+    (rw c.call-told.ensures.home.table at c.is_in_order-then-is_under_turn.ensures.history) c.requires.few
+    c.requires.idle (c.call-told.ensures.ends c.requires.off) c.call-told.ensures.quarantines
+    c.call-told.ensures.flags c.look-now.ensures.looks
     c.settle.ensures.looks c.object_to_free-freed.ensures.finds c.requires.keeps c.in_ok-note.ensures
     c.in_ok-settle.ensures.settles
 

@@ -1,9 +1,7 @@
-use Rattle.mk_trace.proofs.Vocabulary.{CallerState, Grows, HasAll, HostState, IsHistory, PassState, StayExact}
-use Rattle.mk_trace.proofs.{Vocabulary.{SweepsNothing, WordsState}, FreedCalls.{Does, call_does}}
+use Rattle.mk_trace.proofs.{Vocabulary.{HostState, PassState}, FreedCalls.{Does, call_does}}
 use Rattle.mk_trace.proofs.OneCaller.{joined_home, made_admits, made_alone, made_exists, made_seats}
 use Rattle.mk_trace.proofs.{ExactPlays.call_stays_exact, JoinedCalls.Joined, calls.call.Goals.After-is_in_order}
-use Rattle.mk_laws.proofs.Vocabulary.{ap, arith, subst, sym, ◌∙◌}
-use Rattle.mk_run.specs.Scripts.{Answers}
+use Rattle.mk_laws.proofs.Vocabulary.{ap, arith, ◌∙◌}
 use Rattle.mk_trace.proofs.calls.call.Goals as goal
 
 pub answer_to-answer-requires-clause-exists : goal.answer_to-answer-requires-clause-exists
@@ -29,21 +27,16 @@ joined : (g : _) (c : After-is_in_order g) → Joined g.E.Engine.on c.args.host.
     c.answer_to-answer.new.caller.pass c.join_caller.new.self.pass.seen
 joined g c = record {
   answers =
-      subst (λ (x : CallerState). Answers g.E.Engine.on x.pass c.args.op c.answer_to-answer.result
-      c.answer_to-answer.new.caller.pass) c.caller_again-caller.ensures.caller c.answer_to-answer.ensures.answers;
+      rw c.caller_again-caller.ensures.caller at c.answer_to-answer.ensures.answers;
   own =
-      subst (λ (x : HostState). Grows x.pass.seats x.pass.seen c.join_caller.new.self.pass.seen)
-      c.caller_again-caller.ensures.host c.join_caller.ensures.own;
+      rw c.caller_again-caller.ensures.host at c.join_caller.ensures.own;
   came =
-      subst (λ (r : PassState). Grows r.seats r.seen c.join_caller.new.self.pass.seen) c.finish.ensures.pass
-      c.join_caller.ensures.came;
+      rw c.finish.ensures.pass at c.join_caller.ensures.came;
   all =
-      subst (λ (x : WordsState). HasAll x.config c.args.host.now.pass.seats) (sym c.requires.home.table)
-      c.requires.home.all;
+      rw c.requires.home.table c.requires.home.all;
   history =
-      subst (λ (x : WordsState). IsHistory x.config c.join_caller.new.self.pass.seen)
-      (ap (λ (x : HostState). x.pass.table) c.join_caller.ensures.host
-      ∙ ap (λ (x : HostState). x.pass.table) c.caller_again-caller.ensures.host) c.is_in_order.ensures.history;
+      rw (ap (λ (x : HostState). x.pass.table) c.join_caller.ensures.host
+      ∙ ap (λ (x : HostState). x.pass.table) c.caller_again-caller.ensures.host) at c.is_in_order.ensures.history;
 }
 
 did : (g : _) (c : After-is_in_order g) → Does g.E.Engine.on c.args.heap.now.config c.args.host.now.pass.seen c.args.op
@@ -69,7 +62,6 @@ pub returns-clause-flags : goal.returns-clause-flags
 returns-clause-flags g c = (did g (goal.at.returns-clause-flags g c).After-is_in_order).flags
 
 pub returns-clause-exact : goal.returns-clause-exact
-returns-clause-exact g c = λ off unswept. subst (λ (x : WordsState). StayExact x.config c.args.host.now.pass.seen
-    c.join_caller.new.self.pass.seen) c.requires.home.table (call_stays_exact (joined g (goal.at.returns-clause-exact g
-    c).After-is_in_order) (subst (λ (x : CallerState). SweepsNothing x.pass c.answer_to-answer.new.caller.pass)
-    c.caller_again-caller.ensures.caller (c.answer_to-answer.ensures.reached unswept)) off)
+returns-clause-exact g c =
+    λ off unswept. rw c.requires.home.table at (call_stays_exact (joined g (goal.at.returns-clause-exact g
+    c).After-is_in_order) (rw c.caller_again-caller.ensures.caller at (c.answer_to-answer.ensures.reached unswept)) off)

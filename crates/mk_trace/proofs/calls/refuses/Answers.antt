@@ -1,9 +1,8 @@
 use Rattle.std.proofs.lemmas.List.{get_or_default}
-use Rattle.mk_trace.proofs.{Vocabulary.{Op, never_behind}, LaterOps.{called_all, called_first, called_one_more}}
-use Rattle.mk_trace.proofs.{LaterOps.may_come_now, FewEvents.few_later, FreedSlots.frees_now}
-use Rattle.mk_laws.proofs.Vocabulary.{Bool, List, ℕ, ap, arith, false, get_or, subst, sym, ◌||◌, ◌∙◌}
+use Rattle.mk_trace.proofs.{Vocabulary.Op, LaterOps.{called_all, called_first, called_one_more, may_come_now}}
+use Rattle.mk_trace.proofs.{FewEvents.few_later, FreedSlots.frees_now}
+use Rattle.mk_laws.proofs.Vocabulary.{Bool, List, ap, arith, false, get_or, ◌||◌, ◌∙◌}
 use Rattle.mk_never.specs.declared.operations.Op.TheVariants.{New}
-use Rattle.mk_trace.specs.Freeing.{FreesSlot}
 use Rattle.mk_trace.proofs.calls.refuses.Goals as goal
 
 pub loop-op-init : goal.loop-op-init
@@ -27,8 +26,7 @@ answer-requires-in-loop-op-clause-points g c κs within =
     let i = c.loop-op.op-index in
     let o : Op = get_or ops i (New 0 0 false) in
     let there = get_or_default ops i (New 0 0 false) o c.loop-op-test.true in
-    subst (λ (s : ℕ). FreesSlot (never_behind c.args.heap.now.config c.loop-op.host.pass.seen) s o)
-    (sym c.slot-slot.ensures) (frees_now c.loop-op.invariant.calls o c.loop-op-test.true there c.requires.frees)
+    rw c.slot-slot.ensures (frees_now c.loop-op.invariant.calls o c.loop-op-test.true there c.requires.frees)
 
 pub answer-requires-in-loop-op-clause-admitted : goal.answer-requires-in-loop-op-clause-admitted
 answer-requires-in-loop-op-clause-admitted g c κs within =
@@ -62,9 +60,7 @@ loop-op-preserved g c =
       idle = c.answer-in-loop-op.ensures.idle;
       made_for = c.answer-in-loop-op.ensures.made_for ∙ c.loop-op.invariant.made_for;
       held = c.in_ok-later.ensures.held;
-      ends =
-          (let so_far = c.loop-op.invariant.ends in
-          let one = c.in_ok-later.ensures.ends in omega (arith, so_far, one));
+      ends = (let one = c.in_ok-later.ensures.ends in omega (arith, c.loop-op.invariant.ends, one));
       keeps = c.in_ok-later.ensures.keeps;
       exact = λ before. c.in_ok-later.ensures.exact (c.loop-op.invariant.exact before);
       calls =

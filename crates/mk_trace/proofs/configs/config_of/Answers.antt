@@ -1,11 +1,10 @@
 use Rattle.mk_trace.proofs.{Vocabulary.IsWithinLimits, Playable.is_playable, SlotTypes.config_is}
-use Rattle.mk_laws.proofs.Vocabulary.{List, ℕ, length, refl, subst, sym, ◌≤◌}
+use Rattle.mk_laws.proofs.Vocabulary.{length, refl, subst}
 use Rattle.mk_trace.proofs.configs.config_of.Goals as goal
 
 pub slot_globals-requires : goal.slot_globals-requires
 slot_globals-requires c =
-    subst (λ (slots : List ℕ). length slots ≤ 64) (sym c.slots-slots.ensures.slots)
-    (is_playable c.args.trace.now c.slots-slots.ensures.of_some_text).slot_count.1
+    rw c.slots-slots.ensures.slots (is_playable c.args.trace.now c.slots-slots.ensures.of_some_text).slot_count.1
 
 pub returns-clause-limits : goal.returns-clause-limits
 returns-clause-limits c =

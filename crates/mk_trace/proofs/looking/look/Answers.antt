@@ -1,6 +1,6 @@
-use Rattle.mk_trace.proofs.{Vocabulary.{HostState, IsHistory, IsTidy, WordsState}, ToldWords.{Reports, reports}}
-use Rattle.mk_trace.proofs.{OneCaller.told_home, looking.look.Goals.After-is_in_order-2}
-use Rattle.mk_laws.proofs.Vocabulary.{ap, subst}
+use Rattle.mk_trace.proofs.{Vocabulary.HostState, ToldWords.{Reports, reports}, OneCaller.told_home}
+use Rattle.mk_trace.proofs.looking.look.Goals.{After-is_in_order-2}
+use Rattle.mk_laws.proofs.Vocabulary.{ap}
 use Rattle.mk_trace.proofs.looking.look.Goals as goal
 
 pub returns-clause-home : goal.returns-clause-home
@@ -11,8 +11,7 @@ told : (g : _) (c : After-is_in_order-2 g) → Reports c.args.heap.now.config c.
     c.tell-found.result c.tell-found.new.self.pass.seen
 told g c =
     reports c.requires.home c.is_in_order.ensures.seat c.tell-found.new.self c.tell-found.ensures.tells
-    (subst (λ (w : WordsState). IsHistory w.config c.tell-found.new.self.pass.seen)
-    (ap (λ (x : HostState). x.pass.table) c.tell-found.ensures.host) c.is_in_order-2.ensures.history)
+    (rw (ap (λ (x : HostState). x.pass.table) c.tell-found.ensures.host) at c.is_in_order-2.ensures.history)
     c.tell-found.ensures.reached
 
 pub returns-clause-looks : goal.returns-clause-looks
@@ -27,6 +26,5 @@ returns-clause-holds g c = (told g (goal.at.returns-clause-holds g c).After-is_i
 pub returns-clause-counts : goal.returns-clause-counts
 returns-clause-counts g c =
     (told g (goal.at.returns-clause-counts g c).After-is_in_order-2).counts
-    (subst (λ (w : WordsState). IsTidy w.config c.tell-found.new.self.pass.seen) c.requires.home.table
-    (subst (λ (w : WordsState). IsTidy w.config c.tell-found.new.self.pass.seen)
-    (ap (λ (x : HostState). x.pass.table) c.tell-found.ensures.host) c.is_in_order-2.ensures.tidy))
+    (rw c.requires.home.table at
+    (rw (ap (λ (x : HostState). x.pass.table) c.tell-found.ensures.host) at c.is_in_order-2.ensures.tidy))

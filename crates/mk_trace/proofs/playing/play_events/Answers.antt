@@ -75,9 +75,7 @@ loop-event-preserved g c =
           (before g x) c.loop-event-test.true (get_or_default events i (A 0) event c.loop-event-test.true)
           (here g x) c.loop-event.invariant.played c.in_ok-is_refused.ensures.plays
           (one_counted is_refused c.loop-event.refused c.with_refusal-refused.result c.with_refusal-refused.ensures);
-      ends =
-          (let so_far = c.loop-event.invariant.ends in
-          let one = c.in_ok-is_refused.ensures.ends in omega (arith, so_far, one));
+      ends = (let one = c.in_ok-is_refused.ensures.ends in omega (arith, c.loop-event.invariant.ends, one));
       few =
           still_few is_refused c.loop-event.refused c.with_refusal-refused.result i c.with_refusal-refused.ensures
           c.loop-event.invariant.few;
