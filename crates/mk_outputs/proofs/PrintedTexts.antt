@@ -18,9 +18,8 @@ pieces : {X A : Type 0} (f : X → List A) (g : ℕ → List A) (a : ℕ) (xs : 
     → f (slice_index_or xs k d) ≡ g (a + k)) → flat_map f xs ≡ flat_map g (range_with_len a (length xs))
 pieces f g a [] each = refl
 pieces f g a (x ∷ xs) each =
-    let first : f x ≡ g a = each 0 x (omega arith) ∙ ap g (omega arith) in
     let rest = pieces f g (a + 1) xs (λ k d less. each (suc k) d (omega (arith, less)) ∙ ap g (omega arith)) in
-    ap (λ piece. piece ++ flat_map f xs) first ∙ ap (λ more. g a ++ more) rest
+    ap (λ piece. piece ++ flat_map f xs) (each 0 x (omega arith) ∙ ap g (omega arith)) ∙ ap (λ more. g a ++ more) rest
 
 pub texts_are_printed : (program : List Item) (es : List Event) (texts : List Text) → AreTextsOf program es texts
     → flat_map (λ text. text.bytes.items) texts ≡ output program (config_of program 8) es

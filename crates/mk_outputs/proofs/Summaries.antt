@@ -3,8 +3,8 @@ use Rattle.std.proofs.{Common.codes, Common.slice_get, Common.sum_by, lemmas.Fmt
 use Rattle.std.proofs.{lemmas.List.Sums.sum_by-cons, lemmas.Option.slice_get_within}
 use Rattle.std.specs.{Fmt.decimal, List.flat_map, List.range_with_len}
 use Rattle.mk_laws.proofs.Vocabulary.{Config, Event, List, Some, ℕ, ap, append-nil, append_assoc, arith, drop, false}
-use Rattle.mk_laws.proofs.Vocabulary.{get_or, length, refl, slice_index_or, suc, sym, true, zero, [], ◌++◌, ◌+◌, ◌<◌}
-use Rattle.mk_laws.proofs.Vocabulary.{◌∙◌, ◌∷◌, ◌≡◌, ◌≤◌}
+use Rattle.mk_laws.proofs.Vocabulary.{get_or, length, refl, slice_index_or, suc, sym, true, [], ◌++◌, ◌+◌, ◌<◌, ◌∙◌}
+use Rattle.mk_laws.proofs.Vocabulary.{◌∷◌, ◌≡◌, ◌≤◌}
 use Rattle.mk_check.specs.{Declarations.config_of, Laws.IsScript, declared.text.Text.Text}
 use Rattle.mk_engines.specs.Roots.{CyclesMarkRootsFirst}
 use Rattle.mk_gen.proofs.GeneratedLaws.{generated_declares_nodes, generated_makes_turns}
@@ -25,10 +25,9 @@ lines_are g k [] each = refl
 lines_are g k (text ∷ texts) each =
     let here : k ≡ k + 0 = omega arith in
     let first : line_of_text k text ≡ g k = cc (here, each 0 text refl) in
-    let rest = lines_are g (k + 1) texts (λ i next is.
-    let there : (k + 1) + i ≡ k + suc i = omega arith in
-    ap (λ (j : ℕ). line_of_text j next) there ∙ each (suc i) next is ∙ ap g (sym there)) in
-    ap (λ (line : List ℕ). line ++ lines_from (k + 1) texts) first ∙ ap (λ (more : List ℕ). g k ++ more) rest
+    ap (λ (line : List ℕ). line ++ lines_from (k + 1) texts) first
+    ∙ ap (λ (more : List ℕ). g k ++ more) (lines_are g (k + 1) texts (λ i next is. let there : (k + 1) + i ≡ k + suc
+    i = omega arith in ap (λ (j : ℕ). line_of_text j next) there ∙ each (suc i) next is ∙ ap g (sym there)))
 
 sums_are : (g : ℕ → ℕ) (k : ℕ) (texts : List Text) → ((i : ℕ) (text : Text) → slice_get texts i ≡ Some text
     → text.ops ≡ g (k + i)) → all_ops texts ≡ sum_by g (range_with_len k (length texts))
@@ -46,9 +45,8 @@ pub lines_more : (texts : List Text) (i : ℕ) (text : Text) (front line : List 
     → text ≡ get_or texts i text → line ≡ front ++ line_of_text i text
     → front ++ lines_from i (drop i texts) ≡ line ++ lines_from (i + 1) (drop (i + 1) texts)
 lines_more texts i text front line inside is made =
-    ap (λ (left : List Text). front ++ lines_from i left) (drop_next texts i text inside is)
-    ∙ (sym (append_assoc front (line_of_text i text) (lines_from (i + 1) (drop (i + 1) texts)))
-    ∙ ap (λ (l : List ℕ). l ++ lines_from (i + 1) (drop (i + 1) texts)) (sym made))
+    ap (λ (left : List Text). front ++ lines_from i left) (drop_next texts i text inside is) ∙ (sym (append_assoc front
+    (line_of_text i text) _) ∙ ap (λ (l : List ℕ). l ++ lines_from (i + 1) (drop (i + 1) texts)) (sym made))
 
 pub ops_more : (texts : List Text) (i : ℕ) (text : Text) → i < length texts → text ≡ get_or texts i text
     → all_ops (drop i texts) ≡ text.ops + all_ops (drop (i + 1) texts)
@@ -65,11 +63,7 @@ pub ops_done : (texts : List Text) (i : ℕ) → length texts ≤ i → all_ops 
 ops_done texts i past = ap all_ops (drop_all i texts past)
 
 name_is : (k : ℕ) → k < 4 → codes "s" ++ decimal k ≡ slice_index_or all_names k []
-name_is zero h = rw (decimal_digit 0 (omega arith)) refl
-name_is (suc zero) h = rw (decimal_digit 1 (omega arith)) refl
-name_is (suc (suc zero)) h = rw (decimal_digit 2 (omega arith)) refl
-name_is (suc (suc (suc zero))) h = rw (decimal_digit 3 (omega arith)) refl
-name_is (suc (suc (suc (suc k)))) h = absurd (omega arith)
+name_is x0 h = grind (arith, decimal_digit)
 
 module _ (start count markers : ℕ) (outcome : Outcome)
     (runs : IsRunOf (cycles_go_on markers) false (generated_program start count) markers outcome) where
@@ -91,35 +85,28 @@ module _ (start count markers : ℕ) (outcome : Outcome)
   is_script : (k : ℕ) (text : Text) → slice_get outcome.texts.items k ≡ Some text → IsScript program k
   is_script k text is =
       let inside = slice_get_within outcome.texts.items k text is in
-      let count = runs.count in
       omega arith
 
   pub are_few : count ≤ 3000000 → AreFew outcome.texts.items
   are_few most k text is =
       let script = is_script k text is in
       let ends = runs_to_its_end (cycles_go_on markers) false program markers outcome k runs script in
-      let left = ends.none_left in
       let made = (generated_makes_turns start count k script).calls (answers_in c k es) ends.ended in
       let ops = (runs.texts k text is).ops in
       omega arith
-
-  line_is : (k : ℕ) (text : Text) → slice_get outcome.texts.items k ≡ Some text
-      → line_of_text k text ≡ line_of_script program c es k
-  line_is k text is =
-      let t = runs.texts k text is in
-      let script = is_script k text is in
-      let inside = slice_get_within outcome.texts.items k text is in
-      let e = four in
-      let name : codes "s" ++ decimal k ≡ slice_index_or (script_names program) k [] =
-      name_is k (omega arith) ∙ ap (λ (xs : List (List ℕ)). slice_index_or xs k []) (sym names) in
-      cc (name, t.ops, t.refused)
 
   summary_is : summary_of_texts outcome.texts.items ≡ summary program c es
   summary_is =
       let texts = outcome.texts.items in
       let lines = lines_are (line_of_script program c es) 0 texts (λ k text is.
       let same : 0 + k ≡ k = omega arith in
-      ap (λ (j : ℕ). line_of_text j text) same ∙ line_is k text is ∙ ap (line_of_script program c es) (sym same)) in
+      ap (λ (j : ℕ). line_of_text j text) same ∙ (let t = runs.texts k text is in
+      let script = is_script k text is in
+      let inside = slice_get_within outcome.texts.items k text is in
+      let e = four in
+      let name : codes "s" ++ decimal k ≡ slice_index_or (script_names program) k [] =
+      name_is k (omega arith) ∙ ap (λ (xs : List (List ℕ)). slice_index_or xs k []) (sym names) in
+      cc (name, t.ops, t.refused)) ∙ ap (line_of_script program c es) (sym same)) in
       let sums = sums_are (calls_made c es) 0 texts (λ k text is.
       (runs.texts k text is).ops ∙ ap (calls_made c es) (omega arith)) in
       let counted = runs.count in

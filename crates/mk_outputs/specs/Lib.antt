@@ -1,4 +1,3 @@
-pub mod DeclaredNames
 pub mod KeptText
 pub mod Outputs
 pub mod Statuses

@@ -1,30 +1,9 @@
 //! The names of scripts, globals and registers, by their numbers.
-ghost use Rattle.std.specs.{Prelude.{◌≡◌, [], slice_index_or}, Option.option_copied};
-ghost use Rattle.mk_script.specs.Scopes.{script_names, global_names, pointer_names};
+ghost use Rattle.std.specs.Prelude.{◌≡◌, [], slice_index_or};
+ghost use Rattle.mk_script.specs.Scopes.{names_of, script_names, global_names, pointer_names};
 ghost use Rattle.mk_check.specs.Blocks.{script_of, before_next_script};
-ghost use Rattle.mk_outputs.specs.DeclaredNames.{declared_name, names_of};
 
-use mk_script::{Item, Name};
-
-/// What has a name.
-#[derive(Clone, Copy)]
-enum Sort {
-    Script,
-    Global,
-    Pointer,
-}
-
-/// The name that a line declares, of this sort.
-fn declared(sort: Sort, item: &Item) -> Option<&Name>
-    ensures { option_copied result ≡ declared_name sort item.now }
-{
-    match (sort, item) {
-        (Sort::Script, Item::Script { name })
-        | (Sort::Global, Item::Global { name, .. })
-        | (Sort::Pointer, Item::Ptr { name, .. }) => Some(name),
-        _ => None,
-    }
-}
+use mk_script::{Item, Sort, declared_name};
 
 /// The name of this number among those of a sort, or no byte where there are not this many.
 fn name_among(sort: Sort, items: &[Item], number: u64) -> &[u8]
@@ -32,7 +11,7 @@ fn name_among(sort: Sort, items: &[Item], number: u64) -> &[u8]
 {
     let mut left = number;
     for item in items {
-        if let Some(name) = declared(sort, item) {
+        if let Some(name) = declared_name(sort, item) {
             if left == 0 {
                 return name.as_bytes();
             }

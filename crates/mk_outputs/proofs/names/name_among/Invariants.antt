@@ -1,5 +1,5 @@
 use Rattle.mk_laws.proofs.Vocabulary.{drop, slice_index_or, [], ◌≡◌}
-use Rattle.mk_outputs.specs.DeclaredNames.{names_of}
+use Rattle.mk_script.specs.Scopes.{names_of}
 use Rattle.mk_outputs.proofs.names.name_among.Given as goal
 
 -- the name among the lines that are left

@@ -12,21 +12,18 @@ returns-in-Some g c =
     let ran = c.in_ok-outcome.ensures in
     let front = c.in_ok-bytes.bytes.items in
     let tells = rw c.in-Some.is at ran.kept in
-    let texts = c.in_ok-bytes.ensures
-    ∙ ap (λ texts. flat_map (λ (text : Text). text.bytes.items) texts) c.deref.ensures.value in
     let lines =
     ap (λ (program : List Item). front ++ kept_text program c.deref-in-Some.result.now) c.program.ensures.program
     ∙ ap (λ (entries : List Kept). front ++ kept_text c.args.program.now entries) c.deref-in-Some.ensures.value in
     told_why options.why c.args.program.now options.markers options.sweep c.in_ok-outcome.outcome front _
-    c.in-Some.kept.items tells.0 ran.runs ran.begun ran.reached tells.1 texts
-    (c.in_ok-push_kept-in-Some.ensures ∙ lines)
+    c.in-Some.kept.items tells.0 ran.runs ran.begun ran.reached tells.1 (c.in_ok-bytes.ensures ∙ ap (λ texts. flat_map
+    (λ (text : Text). text.bytes.items) texts) c.deref.ensures.value) (c.in_ok-push_kept-in-Some.ensures ∙ lines)
 
 pub returns : goal.returns
 returns g c =
     let options = c.args.options in
     let ran = c.in_ok-outcome.ensures in
-    let tells = rw c.in-None.is at ran.kept in
     let texts = c.in_ok-bytes.ensures
     ∙ ap (λ texts. flat_map (λ (text : Text). text.bytes.items) texts) c.deref.ensures.value in
     told_texts options.why c.args.program.now options.markers options.sweep c.in_ok-outcome.outcome
-    c.in_ok-bytes.bytes.items tells ran.runs ran.begun ran.reached texts
+    c.in_ok-bytes.bytes.items (rw c.in-None.is at ran.kept) ran.runs ran.begun ran.reached texts
