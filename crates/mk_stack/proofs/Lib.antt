@@ -23,12 +23,15 @@ pub mod Replies
 pub mod NodeKinds
 pub mod AtPoints
 pub mod PointSteps
+pub mod Advances
 pub mod Going
 pub mod StackHistories
 pub mod JobLists
 pub mod Walks
 pub mod WalkSteps
+pub mod OwnCalls
 pub mod JoinedJobs
+pub mod StackRuns
 pub mod Readers
 pub mod EndedRuns
 pub mod StackConfigs

@@ -27,6 +27,7 @@ pub mod LookedTables
 pub mod NumberLists
 pub mod OneCaller
 pub mod OwnPieces
+pub mod PeakBounds
 pub mod PeakParts
 pub mod Playable
 pub mod Played

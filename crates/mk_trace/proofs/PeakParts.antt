@@ -1,40 +1,11 @@
 -- The greatest measure over a history: over its beginnings, and in two parts.
-use Rattle.mk_trace.proofs.Vocabulary.{Config, Event, IsHistory, PlacedAllocation, Step, World, first_world, greatest}
-use Rattle.mk_trace.proofs.Vocabulary.{has_step, held_by_allocations, is_grant, left, lets_go, max, nat_tests, peaks_of}
-use Rattle.mk_trace.proofs.{Vocabulary.{quarantined_words, reserved_words, world_behind, ⊎_elim}, PeakParts.is_greatest}
-use Rattle.mk_laws.proofs.Vocabulary.{Bool, List, ℕ, ap, arith, cases_Bool, earlier_part_is_history, false}
-use Rattle.mk_laws.proofs.Vocabulary.{if◌then◌else◌, left_in_parts, nat_le, not, or_parts, refl, subst, sym, true, []}
-use Rattle.mk_laws.proofs.Vocabulary.{◌&&◌, ◌++◌, ◌+◌, ◌∙◌, ◌∷◌, ◌≡◌, ◌≤◌}
+use Rattle.mk_trace.proofs.Vocabulary.{Config, Event, PlacedAllocation, Step, World, first_world, greatest, has_step}
+use Rattle.mk_trace.proofs.Vocabulary.{is_grant, left, lets_go, max, nat_tests, world_behind, ⊎_elim}
+use Rattle.mk_laws.proofs.Vocabulary.{Bool, List, ℕ, ap, arith, cases_Bool, false, left_in_parts, nat_le, or_parts}
+use Rattle.mk_laws.proofs.Vocabulary.{refl, subst, sym, true, [], ◌++◌, ◌∙◌, ◌∷◌, ◌≡◌, ◌≤◌}
 use Rattle.mk_core.specs.History.{left_from}
 use Rattle.mk_alloc.proofs.GrantParts.{LastIn}
-use Rattle.mk_quarantine.proofs.{CountedWords.filtered_in_parts, LittleHeld.held_is_little_where_free}
-use Rattle.mk_quarantine.proofs.Quarters.{quarantined_is_fresh_or_kept}
-use Rattle.mk_quarantine.specs.{Bounds.{QuarantineIsBounded, held_after}, KeptAllocations.quarantined_mapped}
-use Rattle.mk_trace.specs.{Laws.IsGreatest, PeakBounds.BoundsMeetPeaks, Peaks.greatest_from}
-
--- The peaks bound what quarantine costs.
-
--- What is quarantined is reserved, or mapped; and what is mapped is fresh, or was freed before the last `begin`.
-
-reserved_or_mapped : (n : ℕ) (released freed large : Bool) → (if freed && not released then n else 0) ≤ (if
-    (freed && not released) && large then n else 0) + (if (not released && not (freed && large)) && freed then n else 0)
-reserved_or_mapped n x1 x2 large = grind arith
-
-quarantined_in_parts : (c : Config) (xs : List PlacedAllocation)
-    → quarantined_words c xs ≤ reserved_words c xs + quarantined_mapped c xs
-quarantined_in_parts c xs = grind (arith, filtered_in_parts, reserved_or_mapped)
-
-module _ {c : Config} {es : List Event} (front more : List Event) (h : IsHistory c es)
-    (bounded : QuarantineIsBounded false c es)
-    (is : es ≡ front ++ more) (free : (left c front).now.words.turn ≡ 0) where
-  held_below_peak : held_after c front ≤ (peaks_of c es).held
-  held_below_peak =
-      let first = earlier_part_is_history c front more (subst (IsHistory c) is h) in
-      let above = (is_greatest c (held_by_allocations c) es).above front more is in
-      omega (arith, above, held_is_little_where_free c front first free, h.within_limits.pages.1)
-
-pub bounds_meet_peaks : BoundsMeetPeaks
-bounds_meet_peaks c es h bounded = grind (arith, quarantined_is_fresh_or_kept, quarantined_in_parts, held_below_peak)
+use Rattle.mk_trace.specs.{Laws.IsGreatest, Peaks.greatest_from}
 
 -- The greatest measure over a history in two parts.
 
@@ -98,7 +69,8 @@ module _ (c : Config) (measure : List PlacedAllocation → ℕ) where
       let r = reached (first_world c) es in
       record {
         reached = record { before = r.before; behind = r.behind; is = r.is; same = r.same };
-        above = λ before behind is. rw is (above (first_world c) before behind);
+        above = λ before behind is. subst (λ (all : List Event). measure (left_from c (first_world c)
+            before).allocations ≤ greatest c measure all) (sym is) (above (first_world c) before behind);
       }
 
 -- The greatest measure over a history in two parts, where a grant alone makes the measure more, and what lets storage

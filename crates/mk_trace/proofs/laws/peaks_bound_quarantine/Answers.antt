@@ -1,4 +1,4 @@
-use Rattle.mk_trace.proofs.PeakParts.{bounds_meet_peaks}
+use Rattle.mk_trace.proofs.PeakBounds.{bounds_meet_peaks}
 use Rattle.mk_trace.proofs.laws.peaks_bound_quarantine.Goals as goal
 
 pub returns : goal.returns

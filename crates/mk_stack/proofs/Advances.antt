@@ -1,0 +1,104 @@
+-- Each call of a job is its next operation, and what its caller's registers hold after it.
+use Rattle.std.proofs.Common.{IfSome}
+use Rattle.mk_stack.proofs.Vocabulary.{Answer, Asks, Called, CallerState, Ended, HasStackTypes, HoldsAt, IsHistory}
+use Rattle.mk_stack.proofs.Vocabulary.{Kind, Op, PassState, Point, Reply, after_op, caller_of_pass, clear, flagged}
+use Rattle.mk_stack.proofs.Vocabulary.{kinds_of, never_of, next_point, op_at, register_at, replied_to, reply_of}
+use Rattle.mk_stack.proofs.{Vocabulary.value_of, Replies.{Happens, from_called, from_turn}, AtPoints.holds_still}
+use Rattle.mk_stack.proofs.{NodeKinds.IsStackState, PointSteps.{admits, asks}}
+use Rattle.mk_laws.proofs.Vocabulary.{Bool, List, Option, Some, ℕ, ap, arith, false, is_under_turn, refl, subst, sym}
+use Rattle.mk_laws.proofs.{Vocabulary.{true, [], ◌++◌, ◌+◌, ◌<◌, ◌∙◌, ◌∷◌, ◌≡◌}, CallSorts.flag_is, LastEvents.stands}
+use Rattle.mk_caller.specs.States.{Admits}
+use Rattle.mk_run.specs.Scripts.{Answers, IsCalled, as_told, unflagged}
+use Rattle.mk_stack.specs.{Advancing.StaysEnded, Ready.IsReady}
+
+-- The state at which an operation was decided
+pub place_state : {p q : PassState} {o : Op} {a : Answer} → HasStackTypes p.table.config → (h : Happens p o a q)
+    → IsStackState p.table.config.globals h.n (caller_of_pass p)
+place_state types h = grind arith
+
+-- The state after what the pass of a caller has seen
+pub ready_state : {s : CallerState} → IsReady s → IsHistory s.pass.table.config s.pass.seen
+    → IsStackState s.pass.table.config.globals (never_of s.pass) (caller_of_pass s.pass)
+ready_state {s} ready history =
+    let mirrors = (stands s.pass.table.config s.pass.seen history).all.mirrors in
+    record {
+      typed = mirrors.typed;
+      node = ap (λ (ts : List (List Kind)). kinds_of ts 0) mirrors.types ∙ ready.types.node;
+      top = ap (λ (ts : List (List Kind)). kinds_of ts 1) mirrors.types ∙ ready.types.top;
+      global = ready.types.global;
+      count = mirrors.global_count;
+      caller = omega (arith, ready.exists, mirrors.register_count);
+    }
+
+-- What holds of the operation that is asked
+pub of_asked : (P : Op → Type 0) {x : Option Op} {o : Op} → x ≡ Some o → IfSome x P → P o
+of_asked P is h = subst (λ (y : Option Op). IfSome y P) is h
+
+pub may_ask : {s : CallerState} (t : Point) {o : Op} → IsReady s → IsHistory s.pass.table.config s.pass.seen
+    → op_at t ≡ Some o → HoldsAt (value_of s.pass) t → Admits s.pass o
+may_ask {s} t ready history is holds = of_asked (Admits s.pass) is (admits (ready_state ready history) t holds)
+
+-- One operation of a caller, which leads to t; what the registers hold there is what they hold at this point of a job.
+pub record Steps {S : Type 0} (Asked : Op → Reply → S → Type 0) (point : S → Point) (p q : PassState) (t : S)
+    : Type 0 where
+  pub is : q ≡ record p { seen = q.seen }
+  pub op : Op
+  pub reply : Reply
+  pub asked : Asked op reply t
+  pub did : replied_to q ≡ replied_to p ++ record { op = op; reply = reply } ∷ []
+  pub holds : HoldsAt (value_of q) (point t)
+
+pub steps_so : {S : Type 0} {Asked : Op → Reply → S → Type 0} {point : S → Point} {p q : PassState} {o : Op}
+    {a : Answer} {t : S} → (h : Happens p o a q) → Asked o (reply_of h.n (caller_of_pass p) o) t × HoldsAt
+    (register_at (after_op h.n (caller_of_pass p) o) (caller_of_pass p)) (point t) → Steps Asked point p q t
+steps_so {point} {p} {o} {t} h leads = grind (arith, holds_still)
+
+abbrev pub Advances : PassState → Point → PassState → Point → Type 0
+Advances p s q t = Steps (Asks s) (λ (x : Point). x) p q t
+
+-- Where a call was decided, and what its caller is told
+record Told (p : PassState) (o : Op) (told : Answer) (q : PassState) : Type 0 where
+  pub answer : Answer
+  pub is_told : told ≡ as_told answer
+  pub happens : Happens p (flagged o answer) answer q
+
+flagged_alike : (o : Op) (a : Answer) → flagged (unflagged o) a ≡ flagged o a
+flagged_alike x0 a = grind arith
+
+told_so : {on : Bool} {p q : PassState} {o : Op} {told : Answer} → IsHistory q.table.config q.seen
+    → Answers on p o told q → (is_under_turn o ≡ false → IsCalled p o told q) → Told p o told q
+told_so {p} {q} {o} {told} history answers called = by (is_under_turn o) refl
+  where
+    by : (b : Bool) → is_under_turn o ≡ b → Told p o told q
+    by true e = record {
+      answer = answers.answer;
+      is_told = answers.is_told;
+      happens = rw (flagged_alike o answers.answer) at (from_turn (answers.in_turn e) history);
+    }
+    by false e =
+        let c = called e in
+        record {
+          answer = c.answer;
+          is_told = c.is_told;
+          happens = rw (flag_is o c.answer e) (from_called c.called (flag_is o c.answer e) history);
+        }
+
+pub advances : {on : Bool} {p q : PassState} (s : Point) {t : Point} {o : Op} {told : Answer} → t ≡ next_point s told
+    → HasStackTypes p.table.config → IsHistory q.table.config q.seen → op_at s ≡ Some o → HoldsAt (value_of p) s
+    → Answers on p o told q → (is_under_turn o ≡ false → IsCalled p o told q) → Advances p s q t
+advances {p} {q} s {told} leads types history is holds answers called =
+    let t = told_so history answers called in
+    let h = t.happens in
+    let next = of_asked _ is (asks (place_state types h) s (holds_still h.before s holds)) in
+    subst (Advances p s q) (ap (next_point s) (sym t.is_told) ∙ sym leads) (steps_so h (next t.answer h.bases h.image))
+
+pub clears : {p q : PassState} (r : ℕ) → r < 8 → IsHistory q.table.config q.seen → Called p (Op.Clear r) Answer.Done q
+    → StaysEnded p q
+clears {p} {q} r lt history called d =
+    let h = from_called called refl history in
+    record {
+      is = h.is;
+      all = record { op = Op.Clear r; reply = Reply.Done } ∷ [];
+      leads = (Ended d, clear lt, refl);
+      did = h.did;
+    }

@@ -1,0 +1,34 @@
+-- The peaks bound what quarantine costs.
+use Rattle.mk_trace.proofs.Vocabulary.{Config, Event, IsHistory, PlacedAllocation, held_by_allocations, left, peaks_of}
+use Rattle.mk_trace.proofs.{Vocabulary.{quarantined_words, reserved_words}, PeakParts.is_greatest}
+use Rattle.mk_laws.proofs.Vocabulary.{Bool, List, ℕ, arith, earlier_part_is_history, false, if◌then◌else◌, not, refl}
+use Rattle.mk_laws.proofs.Vocabulary.{subst, ◌&&◌, ◌++◌, ◌+◌, ◌≡◌, ◌≤◌}
+use Rattle.mk_quarantine.proofs.{CountedWords.filtered_in_parts, LittleHeld.held_is_little_where_free}
+use Rattle.mk_quarantine.proofs.Quarters.{quarantined_is_fresh_or_kept}
+use Rattle.mk_quarantine.specs.{Bounds.{QuarantineIsBounded, held_after}, KeptAllocations.quarantined_mapped}
+use Rattle.mk_trace.specs.PeakBounds.{BoundsMeetPeaks, FreshIsQuarterOfPeak}
+
+-- What is quarantined is reserved, or mapped; and what is mapped is fresh, or was freed before the last `begin`.
+
+reserved_or_mapped : (n : ℕ) (released freed large : Bool) → (if freed && not released then n else 0) ≤ (if
+    (freed && not released) && large then n else 0) + (if (not released && not (freed && large)) && freed then n else 0)
+reserved_or_mapped n x1 x2 large = grind arith
+
+quarantined_in_parts : (c : Config) (xs : List PlacedAllocation)
+    → quarantined_words c xs ≤ reserved_words c xs + quarantined_mapped c xs
+quarantined_in_parts c xs = grind (arith, filtered_in_parts, reserved_or_mapped)
+
+module _ {c : Config} {es : List Event} (front more : List Event) (h : IsHistory c es)
+    (bounded : QuarantineIsBounded false c es)
+    (is : es ≡ front ++ more) (free : (left c front).now.words.turn ≡ 0) where
+  held_below_peak : held_after c front ≤ (peaks_of c es).held
+  held_below_peak =
+      let first = earlier_part_is_history c front more (subst (IsHistory c) is h) in
+      let above = (is_greatest c (held_by_allocations c) es).above front more is in
+      omega (arith, above, held_is_little_where_free c front first free, h.within_limits.pages.1)
+
+  fresh_below_peak : FreshIsQuarterOfPeak (peaks_of c es) c front
+  fresh_below_peak = omega (arith, bounded.of_held refl front more is free, held_below_peak)
+
+pub bounds_meet_peaks : BoundsMeetPeaks
+bounds_meet_peaks c es h bounded = grind (arith, quarantined_is_fresh_or_kept, fresh_below_peak, quarantined_in_parts)
