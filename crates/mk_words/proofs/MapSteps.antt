@@ -7,12 +7,12 @@ use Rattle.mk_laws.proofs.Vocabulary.{is_in_range, length, ltb-true, nat_lt, ref
 use Rattle.mk_laws.proofs.{Vocabulary.{◌++◌, ◌<◌, ◌∙◌, ◌∷◌, ◌≡◌, ◌≢◌}, SameWords.Behind}
 use Rattle.mk_page_map.specs.KnownPages.{KnownPages, Shows, is_uncleaned, with_header, with_used}
 use Rattle.mk_page_map.specs.Members.{IsNext, page_at}
-use Rattle.mk_words.proofs.{FreeTurns.{map_left, map_stays, page_words}, TurnSteps.{acts, gates_still, still_turn}}
-use Rattle.mk_words.proofs.{TurnSteps.turn_stays_too, Made.own_before, Seats.others_own}
-use Rattle.mk_words.{proofs.Unmarked.{is_mark, stays_unmarked}, specs.Steps.{IsEnabledTo, Makes}}
+use Rattle.mk_words.proofs.{FreeTurns.{map_left, map_stays, page_words}, TurnSteps.{acts, gates_still}, Made.own_before}
+use Rattle.mk_words.proofs.{Seats.others_own, Unmarked.{is_mark, stays_unmarked}}
 use Rattle.mk_words.specs.PageMaps.{HasNoMarks, HeaderIsTold, IsMapOf, IsNextUncleaned, IsToldOf, MarkIsTold}
-use Rattle.mk_words.specs.{PageMaps.{UsedIsTold, is_told, page_told}, States.{PassState, TurnState, call_of, event_of}}
-use Rattle.mk_words.specs.{States.now_of, TurnSteps.{Acts, IsTurnWithMap, gates_stay, turn_stays, world_at}}
+use Rattle.mk_words.specs.{PageMaps.{UsedIsTold, is_told, page_told}, States.{IsTurn, PassState, TurnState, call_of}}
+use Rattle.mk_words.specs.{States.{event_of, now_of}, TurnSteps.{Acts, HasMap, gates_stay, world_at}}
+use Rattle.mk_words.specs.{OneProof.turn_prop, Steps.{IsEnabledTo, Makes}}
 
 no_mark : (s : Step) → is_told s ≡ false → is_mark s ≡ false
 no_mark (Step.Mark p v) untold = cc
@@ -162,32 +162,29 @@ untold_mark map w page some shows = grind arith
 pub shows_that : (w : Words) (map same : KnownPages) → same ≡ map → IsMapOf map w → IsMapOf same w
 shows_that w map same is shows = subst (λ (m : KnownPages). IsMapOf m w) (sym is) shows
 
-pub turn_that : {held : Bool} {p : PassState} {map same : KnownPages} → same ≡ map → IsTurnWithMap held p map
-    → IsTurnWithMap held p same
-turn_that {held} {p} is turn = subst (λ (m : KnownPages). IsTurnWithMap held p m) (sym is) turn
+pub map_that : {held : Bool} {p : PassState} {map same : KnownPages} → same ≡ map → HasMap held p map
+    → HasMap held p same
+map_that {held} {p} is has = subst (λ (m : KnownPages). HasMap held p m) (sym is) has
 
--- A step leaves the turn, where its map shows what is left then, and the gates are as known.
-pub turn_goes_on : {held : Bool} {p : PassState} {s : Step} {q : PassState} {old new : KnownPages}
-    → turn_stays s ≡ true → (held ≡ true → gates_stay s ≡ true) → Makes p s q → IsTurnWithMap held p old
-    → (Acts p s q → IsMapOf new (now_of q).words) → IsTurnWithMap held q new
-turn_goes_on {held} {p} {s} {q} stays gates makes turn shows =
-    let a = acts p s q makes turn.turn.holds in
-    record {
-      turn = still_turn _ _ _ makes stays turn.turn;
-      shows = shows a;
-      gates = gates_still held (record { pass = p }) s (record { pass = q }) a gates turn.gates;
-    }
-
--- A step of which the map is told, and which leaves the gates.
-pub told_turn : {held : Bool} {p : PassState} {s : Step} {q : PassState} {old new : KnownPages} → gates_stay s ≡ true
-    → Makes p s q → IsTurnWithMap held p old → (Acts p s q → IsMapOf new (now_of q).words) → IsTurnWithMap held q new
-told_turn {s = s} stays makes turn shows = turn_goes_on (turn_stays_too s stays) (λ held. stays) makes turn shows
+-- A step of the turn leaves the gates as known, and its map shows what is left then.
+pub map_goes_on : {held : Bool} {p : PassState} {s : Step} {q : PassState} {old new : KnownPages}
+    → (held ≡ true → gates_stay s ≡ true) → Acts p s q → HasMap held p old → IsMapOf new (now_of q).words
+    → HasMap held q new
+map_goes_on {held} {p} {s} {q} gates a has shows =
+    record { shows = shows; gates = gates_still held p s q a gates has.gates }
 
 -- What was done in a turn, by another name of it.
-pub acted : {held : Bool} {t v : TurnState} {s : Step} {q : PassState} {map : KnownPages} → t ≡ v
-    → IsTurnWithMap held t.pass map → Makes t.pass s q → Acts v.pass s q
-acted {t = t} {s = s} {q = q} is turn makes =
-    subst (λ (x : TurnState). Acts x.pass s q) is (acts t.pass s q makes turn.turn.holds)
+pub acted : {t v : TurnState} {s : Step} {q : PassState} → t ≡ v → Makes t.pass s q → Acts v.pass s q
+acted {t} {v} {s} {q} is makes =
+    subst (λ (x : TurnState). Acts x.pass s q) is (acts t.pass s q makes t.in_order.holds)
+
+-- Two turns of one pass are the same.
+pub same_turn : {p q : PassState} (h : IsTurn p) (k : IsTurn q) → p ≡ q
+    → ◌≡◌ {A = TurnState} (record { pass = p; in_order = h }) (record { pass = q; in_order = k })
+same_turn {p} {q} h k is =
+    subst (λ (r : PassState). (x : IsTurn r)
+    → ◌≡◌ {A = TurnState} (record { pass = p; in_order = h }) (record { pass = r; in_order = x })) is
+    (λ x. ap (λ (y : IsTurn p). record { pass = p; in_order = y }) (turn_prop p h x)) k
 
 -- The map has all pages of the heap.
 

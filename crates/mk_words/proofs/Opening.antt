@@ -1,20 +1,19 @@
 -- All gates are opened, one after the other.
 use Rattle.std.proofs.Common.{⊎_elim}
-use Rattle.mk_laws.proofs.Vocabulary.{Caller, Config, Event, Flight, Holds, Host, IsEnabled, IsHistory, List, Marker}
-use Rattle.mk_laws.proofs.Vocabulary.{MarkerState, MeetsAll, Moment, Protocol, Seat, Step, World, ℕ, ap, append-nil}
-use Rattle.mk_laws.proofs.Vocabulary.{append_assoc, arith, at_rest, cases_Bool, cases_eq, cases_lt, enabled_meets, ends}
-use Rattle.mk_laws.proofs.Vocabulary.{eqb-false, eqb-true, false, false_from_ne_true, first_world, flight_of}
-use Rattle.mk_laws.proofs.Vocabulary.{get_or-set_other, get_or-set_same, get_or_past, inl, inr, is_held, is_number_of}
-use Rattle.mk_laws.proofs.Vocabulary.{left, length, length-set, ne_eqb, not, outside, refl, set-get_or, slice_index}
-use Rattle.mk_laws.proofs.Vocabulary.{slice_set, subst, sym, true, [], ◌++◌, ◌+◌, ◌<◌, ◌==◌, ◌∙◌, ◌∷◌, ◌≡◌, ◌≢◌, ◌≤◌}
-use Rattle.mk_laws.proofs.{Vocabulary.◌⊎◌, Tallies.{same_ends, same_fulls}, Protocols.lists_keep_the_protocol}
-use Rattle.mk_laws.proofs.TallySteps.{CountsNothing}
+use Rattle.mk_laws.proofs.Vocabulary.{Caller, Config, Event, Flight, Holds, Host, IsEnabled, List, Marker, MarkerState}
+use Rattle.mk_laws.proofs.Vocabulary.{MeetsAll, Moment, Protocol, Seat, Step, World, ℕ, ap, append-nil, append_assoc}
+use Rattle.mk_laws.proofs.Vocabulary.{arith, at_rest, cases_Bool, cases_eq, cases_lt, enabled_meets, ends, eqb-false}
+use Rattle.mk_laws.proofs.Vocabulary.{eqb-true, false, false_from_ne_true, first_world, flight_of, get_or-set_other}
+use Rattle.mk_laws.proofs.Vocabulary.{get_or-set_same, get_or_past, inl, inr, is_held, is_number_of, left, length}
+use Rattle.mk_laws.proofs.Vocabulary.{length-set, ne_eqb, not, outside, refl, set-get_or, slice_index, slice_set, subst}
+use Rattle.mk_laws.proofs.Vocabulary.{sym, true, [], ◌++◌, ◌+◌, ◌<◌, ◌==◌, ◌∙◌, ◌∷◌, ◌≡◌, ◌≢◌, ◌≤◌, ◌⊎◌}
+use Rattle.mk_laws.proofs.{Tallies.{same_ends, same_fulls}, Protocols.lists_keep_the_protocol, TallySteps.CountsNothing}
 use Rattle.mk_core.proofs.{Conditions.meets_enabled, Histories.last_enabled}
 use Rattle.mk_core.specs.{Frames.{CountsAreLeft, steady_of}, Counts.full_answers, Effects.moment_behind}
 use Rattle.mk_core.specs.{Growing.AreOfOthers, Moments.none_is_held}
 use Rattle.mk_words.proofs.{Made.{made, pass_before}, LongerLists.longer_lists, Owed.history_more, TurnSteps.all_from}
-use Rattle.mk_words.specs.{Opening.{AreOpened, OnlyOpen, Opens, OthersMayOpen}, States.{PassState, event_of, now_of}}
-use Rattle.mk_words.specs.{Steps.IsEnabledTo, TurnSteps.{Acts, IsTurn, world_at}}
+use Rattle.mk_words.specs.{Opening.{AreOpened, OnlyOpen, Opens, OthersMayOpen}, States.{IsTurn, PassState, event_of}}
+use Rattle.mk_words.specs.{States.now_of, Steps.IsEnabledTo, TurnSteps.{Acts, world_at}}
 
 -- one gate that is opened leaves the others to be opened
 
@@ -190,8 +189,8 @@ one_round p q r k o may opened acts same = elim (cases_Bool (is_number_of q.seat
 
 -- at the end
 pub all_opened : (p q : PassState) → Opens p q → AreOpened q p.table.config.callers → IsTurn q
-    → IsHistory q.table.config q.seen → none_is_held p.table.config.callers (now_of q).words ≡ true
-all_opened p q opens opened t history =
+    → none_is_held p.table.config.callers (now_of q).words ≡ true
+all_opened p q opens opened t =
     all_from p.table.config.callers (λ j. not (is_held (now_of q).words j))
     (λ j lt. ap not (elim (cases_Bool (is_number_of q.seat j)) [
       | inl mine ↦ false_from_ne_true (is_held (now_of q).words j)
@@ -203,7 +202,7 @@ all_opened p q opens opened t history =
     same = ap (λ (x : PassState). x.table.config) opens.is
 
     protocol : Protocol q.table.config (now_of q)
-    protocol = lists_keep_the_protocol q.table.config q.seen history.within_limits history.enabled
+    protocol = lists_keep_the_protocol q.table.config q.seen t.history.within_limits t.history.enabled
 
     own_held : (s : Seat) (j : ℕ) → is_number_of s j ≡ true → Holds q.table.config (now_of q) s
         → j < p.table.config.callers → slice_index (now_of q).words.gates j ≡ 2 → ⊥

@@ -9,9 +9,9 @@ use Rattle.mk_laws.proofs.{Vocabulary.{zero, ◌++◌, ◌+◌, ◌<◌, ◌==�
 use Rattle.mk_laws.proofs.{SameWords.tally_keeps, NextSteps.at_no_take, Protocols.lists_keep_the_protocol}
 use Rattle.mk_core.specs.{Bounded.all_below, Frames.HoldsAll, Moments.none_is_held, Order.is_in_order}
 use Rattle.mk_words.proofs.{CallSteps.{begins, goes}, FreeTurns.{hands_none, turn_word_stays}, Made.{Made, made}}
-use Rattle.mk_words.{proofs.Tallies.{free_tallies}, specs.Steps.{moment_of}}
-use Rattle.mk_words.specs.{States.{PassState, TurnState, call_of, now_of, world_of}, TurnSteps.{Acts, GatesAre}}
-use Rattle.mk_words.specs.{TurnSteps.{IsFresh, IsTurn, begun_for, gates_stay, turn_stays}, Steps.{Finds, Makes, Tells}}
+use Rattle.mk_words.proofs.Tallies.{free_tallies}
+use Rattle.mk_words.specs.{States.{IsTurn, PassState, call_of, now_of, world_of}, TurnSteps.{Acts, GatesAre, IsFresh}}
+use Rattle.mk_words.specs.{TurnSteps.{begun_for, gates_stay, turn_stays}, Steps.{Finds, Makes, Tells, moment_of}}
 
 -- who holds the turn, by the turn word
 
@@ -59,19 +59,22 @@ module _ (p : PassState) (s : Step) (q : PassState) (m : Makes p s q) where
   holds_then : Holds p.table.config (now_of p) p.seat → Holds p.table.config (moment_of m) p.seat
   holds_then h = (d.frame.own.holding h).0
 
-  pub still_turn : turn_stays s ≡ true → IsTurn p → IsTurn q
-  still_turn stays t =
+  holds_still : turn_stays s ≡ true → Holds p.table.config (now_of p) p.seat → Holds q.table.config (now_of q) q.seat
+  holds_still stays h =
       let c : Config = p.table.config in
       let named : (world_of q).now.words.turn ≡ 1 + holder_number c p.seat =
       ap (λ (w : World). w.now.words.turn) d.world ∙ turn_word_stays c (moment_of m) p.seat s (hands_none s stays)
-      ∙ holds_named c (moment_of m) p.seat d.protocol (holds_then t.holds) in
+      ∙ holds_named c (moment_of m) p.seat d.protocol (holds_then h) in
       let holds : Holds c (world_of q).now p.seat = grind (arith, named_holds, protocol_now) in
-      record { holds = subst (λ (r : PassState). Holds r.table.config (world_of q).now r.seat) (sym m.is) holds }
+      subst (λ (r : PassState). Holds r.table.config (world_of q).now r.seat) (sym m.is) holds
+
+  pub still_turn : turn_stays s ≡ true → IsTurn p → IsTurn q
+  still_turn stays t = record { own = m.pass.own; holds = holds_still stays t.holds; history = m.pass.history }
 
 -- After a step of the holder that isn't its last the seat still holds the turn.
 pub holds_after : {p : PassState} {s : Step} {q : PassState} → Acts p s q → turn_stays s ≡ true
     → Holds q.table.config (now_of q) q.seat
-holds_after {p} {s} {q} a stays = (still_turn p s q a.makes stays (record { holds = a.holds })).holds
+holds_after {p} {s} {q} a stays = holds_still p s q a.makes stays a.holds
 
 -- the gates, while they stay
 pub gates_left : (p : PassState) (s : Step) (q : PassState) → Acts p s q → gates_stay s ≡ true
@@ -87,10 +90,10 @@ still_stopped p s q a stays all =
     (gates_left p s q a stays (a.holds, all)) ∙ all
 
 -- So what is known of the gates stays known.
-pub gates_still : (held : Bool) (t : TurnState) (s : Step) (u : TurnState) → Acts t.pass s u.pass
-    → (held ≡ true → gates_stay s ≡ true) → GatesAre held t → GatesAre held u
-gates_still true t s u a stays all = still_stopped t.pass s u.pass a (stays refl) all
-gates_still false t s u a stays any = any
+pub gates_still : (held : Bool) (p : PassState) (s : Step) (q : PassState) → Acts p s q
+    → (held ≡ true → gates_stay s ≡ true) → GatesAre held p → GatesAre held q
+gates_still true p s q a stays all = still_stopped p s q a (stays refl) all
+gates_still false p s q a stays any = any
 
 pub turn_stays_too : (s : Step) → gates_stay s ≡ true → turn_stays s ≡ true
 turn_stays_too (Step.Hold j) h = cc
@@ -183,7 +186,7 @@ module _ (p : PassState) (o : Option Op) (n : ℕ) (q : PassState) (t : Tells p 
         ∙ ap (λ (b : Bool). if b then 1 + holder_number c p.seat else m.words.turn) (eq-eqb m.words.turn 0 free) in
         let holds : Holds c (world_of q).now p.seat = named_holds c (world_of q).now p.seat (protocol_now p
         (Step.Take o) q t.makes) e.meets.seat (takes_for c m p.seat o e.meets.kind e.meets.order) named in
-        grind (arith, Holds)
+        record { own = t.makes.pass.own; holds = grind (arith, Holds); history = t.makes.pass.history }
 
     pub takes_fresh : IsFresh q o
     takes_fresh =

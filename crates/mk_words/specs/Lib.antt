@@ -2,6 +2,7 @@ pub mod Indexes
 pub mod PageMaps
 pub mod Seats
 pub mod States
+pub mod OneProof
 pub mod Rule
 pub mod Passes
 pub mod Steps

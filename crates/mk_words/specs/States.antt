@@ -4,7 +4,7 @@ use Rattle.atomic_table.specs.Seated.{TableId}
 use Rattle.mk_never.specs.declared.operations.Op.{Op}
 use Rattle.mk_core.specs.{declared.config.Config.Config, declared.events.Seat.Seat, declared.events.Step.Step}
 use Rattle.mk_core.specs.{declared.events.Event.Event, declared.seats.Flight.Flight, Moments.{Moment, flight_of}}
-use Rattle.mk_core.specs.History.{World, left, IsHistory}
+use Rattle.mk_core.specs.{History.{World, left, IsHistory}, Readings.Holds}
 use Rattle.mk_words.specs.Seats.{Has}
 
 -- which table it is, and the configuration that it was made for
@@ -24,16 +24,23 @@ pub record IsPass (p : PassState) : Type 0 where
   pub own : Has p.seats p.seat
   pub history : IsHistory p.table.config p.seen
 
--- A turn has its holder's pass.
-pub record TurnState : Type 0 where
-  pub pass : PassState
-
 -- what is left after all that a pass has seen
 abbrev pub world_of : PassState → World
 world_of p = left p.table.config p.seen
 
 abbrev pub now_of : PassState → Moment
 now_of p = (world_of p).now
+
+-- What holds of every turn: it has the pass of a seat, which holds the turn.
+pub record IsTurn (p : PassState) : Type 0 where
+  pub own : Has p.seats p.seat
+  pub holds : Holds p.table.config (now_of p) p.seat
+  pub history : IsHistory p.table.config p.seen
+
+-- A turn has its holder's pass, of which that holds.
+pub record TurnState : Type 0 where
+  pub pass : PassState
+  pub in_order : IsTurn pass
 
 -- the call of its seat
 abbrev pub call_of : PassState → Flight

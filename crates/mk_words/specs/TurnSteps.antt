@@ -8,13 +8,9 @@ use Rattle.mk_core.specs.{Moments.{nothing_done, none_is_held, others_are_held},
 use Rattle.mk_core.specs.{TurnConditions.held_by_pages, Readings.Holds, History.{World, world_behind, left}}
 use Rattle.mk_core.specs.{Frames.{OwnIsLeft, HoldsAll, TurnIsLeft, CountsAreLeft, written_of}, Effects.progress}
 use Rattle.mk_page_map.specs.KnownPages.{KnownPages}
-use Rattle.mk_words.specs.{PageMaps.{IsMapOf, is_told}, States.{PassState, TurnState, world_of, now_of, call_of}}
+use Rattle.mk_words.specs.{PageMaps.{IsMapOf, is_told}, States.{PassState, world_of, now_of, call_of}}
 use Rattle.mk_words.specs.{States.event_of, Steps.{Makes, found_by}}
 use Rattle.mk_core.specs.declared.events.Step.TheVariants as step
-
--- The pass's seat holds the turn.
-pub record IsTurn (p : PassState) : Type 0 where
-  pub holds : Holds p.table.config (now_of p) p.seat
 
 -- the call that a `take` with this operation begins
 abbrev pub begun_for : Option Op → Flight
@@ -71,21 +67,19 @@ pub record StaysTurn (held : Bool) (s : Step) : Type 0 where
   pub map : is_told s ≡ false
 
 -- all gates but that of the turn's holder are held
-abbrev pub IsStopped : TurnState → Type 0
-IsStopped t = others_are_held t.pass.table.config.callers (now_of t.pass).words t.pass.seat ≡ true
+abbrev pub IsStopped : PassState → Type 0
+IsStopped p = others_are_held p.table.config.callers (now_of p).words p.seat ≡ true
 
 -- what is known of the gates: that they are held so, or nothing
-abbrev pub GatesAre : Bool → TurnState → Type 0
-GatesAre true t = IsStopped t
-GatesAre false t = Unit {0}
+abbrev pub GatesAre : Bool → PassState → Type 0
+GatesAre true p = IsStopped p
+GatesAre false p = Unit {0}
 
 -- the address that a `grant` stores, of the object of the New whose cell is taken
 abbrev pub granted_address : PassState → ℕ
 granted_address p = address_of (granted_base p.table.config (call_of p) (now_of p).seats.holding.placing) % 2 ^ 64
 
--- The pass's seat holds the turn. Its map shows what is left after all that the pass has seen, and the gates are held,
--- where that is known.
-pub record IsTurnWithMap (held : Bool) (p : PassState) (map : KnownPages) : Type 0 where
-  pub turn : IsTurn p
+-- A turn's map shows what is left after all that the pass has seen, and the gates are held, where that is known.
+pub record HasMap (held : Bool) (p : PassState) (map : KnownPages) : Type 0 where
   pub shows : IsMapOf map (now_of p).words
-  pub gates : GatesAre held (record { pass = p })
+  pub gates : GatesAre held p

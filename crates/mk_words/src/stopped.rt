@@ -1,7 +1,8 @@
 //! The steps of the turn's holder that it takes only while the gates of all other callers are held.
 ghost use Rattle.std.specs.Prelude.{◌≡◌, true, false};
 ghost use Rattle.mk_core.specs.Moments.{none_is_held, is_number_of};
-ghost use Rattle.mk_words.specs.{Opening.{OthersMayOpen, Opens}, States.now_of, Steps.IsEnabledTo, TurnSteps.Acts};
+ghost use Rattle.mk_words.specs.{Opening.{OthersMayOpen, Opens}, States.now_of, Steps.IsEnabledTo};
+ghost use Rattle.mk_words.specs.TurnSteps.{Acts, IsStopped};
 ghost use Rattle.mk_core.specs.declared.events.Step.TheVariants as step;
 
 use crate::gates::AnyGates;
@@ -11,6 +12,14 @@ use mk_core::{Access, Seat, Step, TableWord, Word};
 use std::marker::PhantomData;
 
 impl Stopped {
+    /// The gates of all callers but its holder are held. It does nothing.
+    #[inline(always)]
+    pub fn holds_gates(&self)
+        ensures { IsStopped self.now.pass }
+    {
+        let _gates = &self.gates;
+    }
+
     /// Wants the close.
     pub fn want(&mut self, words: &Words)
         requires one_table { self.old.pass.table ≡ words.now }
@@ -100,7 +109,6 @@ impl Stopped {
             open_other(&mut turn, words, caller);
             caller += 1;
         }
-        turn.is_in_order();
         turn
     }
 }

@@ -2,10 +2,10 @@
 ghost use Rattle.std.specs.Prelude.{◌≡◌, ◌+◌, ◌<◌, IfOk, IfErr, length, true};
 ghost use Rattle.mk_core.specs.{Calls.at_rest};
 ghost use Rattle.mk_core.specs.{Counts.{TalliesAreExact, TalliesAreTidy, IsTidy}, History.IsHistory};
-ghost use Rattle.mk_words.specs.{Indexes.IsOnPage, Seats.{CallersAreBeforeOver, Has}, States.call_of};
-ghost use Rattle.mk_words.specs.PageMaps.{IsToldOf, is_told, page_told};
+ghost use Rattle.mk_words.specs.{Indexes.IsOnPage, Seats.{CallersAreBeforeOver, Has}, States.{IsTurn, call_of}};
+ghost use Rattle.mk_words.specs.{OneProof.turn_prop, PageMaps.{IsToldOf, is_told, page_told}};
 ghost use Rattle.mk_words.specs.{Steps.{IsEnabledTo, MayPerform, Finds, Tells}};
-ghost use Rattle.mk_words.specs.TurnSteps.{IsTurn, IsFresh, StaysTurn, GatesAre, Acts};
+ghost use Rattle.mk_words.specs.TurnSteps.{IsFresh, StaysTurn, GatesAre, Acts};
 ghost use Rattle.mk_core.specs.declared.events.Step.TheVariants as step;
 
 use crate::gates::{AllHeld, AnyGates, Gates};
@@ -25,6 +25,7 @@ pub struct TurnAt<G: Gates> {
     pub(crate) pass: TurnToken,
     pub(crate) map: Box<PageMap>,
     pub(crate) gates: PhantomData<G>,
+    ghost in_order: { IsTurn pass } by { turn_prop pass },
 }
 
 /// The turn of a table.
@@ -34,15 +35,16 @@ pub type Turn = TurnAt<AnyGates>;
 pub type Stopped = TurnAt<AllHeld>;
 
 impl<G: Gates> Model for TurnAt<G> {
-    ghost use Rattle.mk_words.specs.States.{TurnState};
+    ghost use Rattle.std.specs.Coded.{codes};
+    ghost use Rattle.mk_words.specs.{OneProof.turn_prop, States.TurnState, TurnSteps.HasMap};
 
     ghost Value = { TurnState };
 
-    ghost use Rattle.mk_words.specs.TurnSteps.{IsTurnWithMap};
+    ghost coded = { Prim.hlevel (codes, turn_prop) };
 
-    ghost view = { λ t. record { pass = t.pass } };
+    ghost view = { λ t. record { pass = t.pass; in_order = t.in_order } };
 
-    ghost invariant = { λ t. IsTurnWithMap G.are_held t.pass t.map.value };
+    ghost invariant = { λ t. HasMap G.are_held t.pass t.map.value };
 }
 
 /// Another seat has the turn, by its number: a caller's own, or for the host the number of callers.
@@ -82,14 +84,11 @@ impl Pass {
     {
         let Pass { own } = self;
         match own.take(words, op) {
-            Ok((pass, map)) => {
-                pass.is_in_order();
-                Ok(TurnAt {
-                    pass,
-                    map,
-                    gates: PhantomData,
-                })
-            }
+            Ok((pass, map)) => Ok(TurnAt {
+                pass,
+                map,
+                gates: PhantomData,
+            }),
             Err((own, found)) => Err((Pass { own }, Busy { holder: found - 1 })),
         }
     }
@@ -111,7 +110,7 @@ impl<G: Gates> TurnAt<G> {
         ensures history { IsHistory self.now.pass.table.config self.now.pass.seen }
         ensures before_over { CallersAreBeforeOver self.now.pass.table.config self.now.pass.seats self.now.pass.seen }
         ensures tidy { IsTidy self.now.pass.table.config self.now.pass.seen }
-        ensures gates { GatesAre G.are_held self.now }
+        ensures gates { GatesAre G.are_held self.now.pass }
     {
         self.pass.is_in_order();
     }

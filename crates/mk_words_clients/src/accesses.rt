@@ -21,18 +21,14 @@ pub fn set_ptr(words: &Words, pass: &mut Pass, q: u8, i: u64, p: u8) -> Result<(
     let caller = pass.caller();
     let pages = words.pages();
     pass.enter(words, caller, Op::SetPtr { q, i, p })?;
-    pass.is_in_order();
     let to = pass.reg_load(words, caller, q);
-    pass.is_in_order();
     let value = pass.reg_load(words, caller, p);
-    pass.is_in_order();
     let word = (to - HEAP_START) / WORD_BYTES + i;
     let header = pass.probe(words, word / PAGE_WORDS);
     if is_unmapped(header) {
         pass.leave(words, caller);
         return Ok(());
     }
-    pass.is_in_order();
     pass.write(words, pages, word, value);
     pass.dirty(words, pages, word / PAGE_WORDS);
     pass.leave(words, caller);

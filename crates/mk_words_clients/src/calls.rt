@@ -15,10 +15,8 @@ pub fn clear(words: &Words, pass: &mut Pass, d: u8) -> Result<(), Held>
     ensures table { pass.new.table ≡ words.now }
     ensures callers { IsCallers pass.new }
 {
-    pass.is_in_order();
     let caller = pass.caller();
     pass.enter(words, caller, Op::Clear { d })?;
-    pass.is_in_order();
     pass.reg_store(words, caller, d, 0);
     pass.leave(words, caller);
     Ok(())

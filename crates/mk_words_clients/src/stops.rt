@@ -16,7 +16,6 @@ fn open_below(words: &Words, turn: &mut Turn, end: u64)
 {
     let mut caller = end;
     while caller > 0 {
-        turn.is_in_order();
         caller -= 1;
         turn.open_gate(words, caller);
     }
@@ -34,7 +33,6 @@ fn hold_all(words: &Words, turn: &mut Turn) -> bool
 {
     let mut caller = 0;
     while caller < words.callers() {
-        turn.is_in_order();
         match turn.try_hold(words, caller) {
             Ok(()) => {}
             Err(_) => {
@@ -57,7 +55,6 @@ pub fn stop_once(words: &Words, mut turn: Turn) -> Turn
 {
     if hold_all(words, &mut turn) {
         let stopped = turn.stopped();
-        stopped.is_in_order();
         stopped.open_all(words)
     } else {
         turn

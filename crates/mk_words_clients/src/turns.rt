@@ -16,10 +16,8 @@ fn hold_once(words: &Words, turn: &mut Turn, caller: u64)
     ensures tidy { TalliesAreTidy turn.old.pass.table.config turn.old.pass.seen
         → TalliesAreTidy turn.new.pass.table.config turn.new.pass.seen }
 {
-    turn.is_in_order();
     match turn.try_hold(words, caller) {
         Ok(()) => {
-            turn.is_in_order();
             turn.look(
                 words,
                 Word::Reg {
@@ -27,7 +25,6 @@ fn hold_once(words: &Words, turn: &mut Turn, caller: u64)
                     register: 0,
                 },
             );
-            turn.is_in_order();
             turn.open_gate(words, caller);
         }
         Err(_) => {}
@@ -42,12 +39,9 @@ pub fn one_turn(words: &Words, pass: Pass, caller: u64) -> Pass
     ensures one_table { result.table ≡ words.now }
     ensures host { IsHosts result }
 {
-    pass.is_in_order();
     match pass.try_take(words, None) {
         Ok(mut turn) => {
-            turn.is_in_order();
             hold_once(words, &mut turn, caller);
-            turn.is_in_order();
             turn.give(words)
         }
         Err((back, _)) => back,

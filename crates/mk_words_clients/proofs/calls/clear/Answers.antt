@@ -6,4 +6,4 @@ pub reg_store-requires-clause-admitted : goal.reg_store-requires-clause-admitted
 reg_store-requires-clause-admitted c =
     let entered = c.in_ok-enter.ensures.goes in
     own_step Step.Reg (Op.Clear c.args.d) c.requires.admitted
-    entered.makes c.is_in_order-2.ensures.history (ap (λ (f : Flight). f.op) entered.call) (λ a. refl)
+    entered.makes entered.makes.pass.history (ap (λ (f : Flight). f.op) entered.call) (λ a. refl)

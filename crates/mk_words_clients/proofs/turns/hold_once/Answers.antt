@@ -8,7 +8,7 @@ pub try_hold-requires-clause-enabled : goal.try_hold-requires-clause-enabled
 try_hold-requires-clause-enabled c =
     let p : PassState = c.args.turn.now.pass in
     let free = c.requires.free in
-    hold_may p c.args.caller free.seat c.is_in_order.ensures.turn.holds
+    hold_may p c.args.caller free.seat c.args.turn.now.in_order.holds
     (subst (λ (t : WordsState). c.args.caller < t.config.callers) (sym c.requires.one_table) c.requires.caller)
     (none_held_is p free.gates)
 

@@ -1,10 +1,9 @@
 use Rattle.mk_laws.proofs.Vocabulary.{arith, refl, sym}
-use Rattle.mk_words.proofs.TurnSteps.{take_finds, takes, takes_fresh}
-use Rattle.mk_words.proofs.{FoundTurns.take_counts, FoundTurns.take_waits, MapSteps.shows_that}
+use Rattle.mk_words.proofs.{TurnSteps.{take_finds, takes, takes_fresh}, FoundTurns.{take_counts, take_waits}}
 use Rattle.mk_words.proofs.passes.Pass.try_take.Goals as goal
 
 pub invariant_of-result : goal.invariant_of-result
-invariant_of-result c = grind (arith, takes, shows_that)
+invariant_of-result c = (takes c.self.inside.own c.args.op 0 c.in-Ok.pass c.in-Ok.ensures.taken refl, tt)
 
 pub returns-in-Ok-clause-made : goal.returns-in-Ok-clause-made
 returns-in-Ok-clause-made c =

@@ -21,4 +21,4 @@ returns-clause-gates c =
     ∙ sym (ap (λ (w : WordsState). w.config.callers) c.requires.one_table) in
     let past : c.callers-callers.result ≤ c.loop-caller.caller = c.loop-caller-test.false in
     all_opened c.args.self.pass c.loop-caller.turn.pass inv.opens
-    (λ j lt other. inv.opened j (omega arith) other) c.is_in_order.ensures.turn c.is_in_order.ensures.history
+    (λ j lt other. inv.opened j (omega arith) other) c.loop-caller.turn.in_order

@@ -7,7 +7,7 @@ returns-clause-acts c =
     let f = c.give-own in
     let t = c.self.inside in
     subst (λ (v : TurnState). Acts v.pass Step.Give f.result) c.self.view_is
-    (acts t.pass Step.Give f.result f.ensures c.self.invariant.turn.holds)
+    (acts t.pass Step.Give f.result f.ensures c.self.inside.in_order.holds)
 
 pub returns-clause-rests : goal.returns-clause-rests
 returns-clause-rests c = gives_rest c.self.inside.pass c.give-own.result c.give-own.ensures

@@ -1,8 +1,8 @@
 use Rattle.mk_laws.proofs.Vocabulary.{sym}
-use Rattle.mk_words.proofs.MapSteps.{next_known, turn_that}
+use Rattle.mk_words.proofs.MapSteps.{map_that, next_known}
 use Rattle.mk_words.proofs.turns.TurnAt.next_quarantined.Goals as goal
 
 pub returns : goal.returns
 returns g c =
     rw (sym c.self.view_is) (next_known c.self.inside.pass _ c.args.from _ (c.next_quarantined.ensures _ _
-    (turn_that c.deref.ensures c.self.invariant).shows.words))
+    (map_that c.deref.ensures c.self.invariant).shows.words))

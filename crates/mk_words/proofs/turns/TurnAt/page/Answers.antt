@@ -1,11 +1,11 @@
 use Rattle.mk_laws.proofs.Vocabulary.{sym}
-use Rattle.mk_words.proofs.MapSteps.{page_known, turn_that}
+use Rattle.mk_words.proofs.MapSteps.{map_that, page_known}
 use Rattle.mk_words.proofs.turns.TurnAt.page.Goals as goal
 
 pub page-requires : goal.page-requires
 page-requires g c =
     page_known c.self.inside.pass c.args.page _ (rw (sym c.self.view_is) at c.requires)
-    (turn_that c.deref.ensures c.self.invariant).shows
+    (map_that c.deref.ensures c.self.invariant).shows
 
 pub returns : goal.returns
-returns g c = rw (sym c.self.view_is) (c.page.ensures _ _ (turn_that c.deref.ensures c.self.invariant).shows.words)
+returns g c = rw (sym c.self.view_is) (c.page.ensures _ _ (map_that c.deref.ensures c.self.invariant).shows.words)
