@@ -60,6 +60,7 @@ called at steps = record {
   entry = at.makes.entry;
   decided = at.makes.decided;
   rest = at.call;
+  pass = at.underway.pass;
 }
 
 -- While nothing is decided the caller's registers keep their values.

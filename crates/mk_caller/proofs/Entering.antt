@@ -21,4 +21,5 @@ held {p} {o} q (Err e) ready finds stays =
       entries = ap (λ (r : PassState). own_calls p r.seen) m.is ∙ m.entry ∙ append-nil (own_calls p p.seen);
       registers = rw m.is m.decided;
       rest = stays.call ∙ ready.rest;
+      pass = stays.makes.pass;
     }

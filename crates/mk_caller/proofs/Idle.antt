@@ -1,11 +1,11 @@
--- What holds of a caller whose pass is home.
-use Rattle.mk_laws.proofs.Vocabulary.{None, Option, Some, ℕ, ap, subst, true, ◌∙◌, ◌≡◌}
-use Rattle.mk_caller.specs.States.{CallerState, IsIdleCaller, IsPassAtRest, caller_of}
-use Rattle.mk_words.specs.States.{PassState, WordsState}
+-- A caller whose pass is home is in no call.
+use Rattle.mk_laws.proofs.Vocabulary.{Caller, Seat, caller_number, refl, true, ◌≡◌}
+use Rattle.mk_caller.specs.States.{IsAtRest, IsIdleCaller, caller_of_pass}
+use Rattle.mk_words.specs.{Seats.is_caller, States.PassState}
 
-pub idle : (w : WordsState) (k : ℕ) (x : Option PassState) (s : CallerState) → caller_of w k x ≡ s → IsPassAtRest w k x
-    → s.home ≡ true → IsIdleCaller s.pass
-idle w k (Some p) s is whole home =
-    subst (λ (y : CallerState). IsIdleCaller y.pass) is (record { caller = k; seat = whole.1; rest = whole.2 })
-idle w k None s is whole home =
-    absurd (let e : Rattle.std.specs.Prelude.false ≡ true = ap (λ (y : CallerState). y.home) is ∙ home in cc)
+pub idle : {p : PassState} → IsAtRest p → IsIdleCaller p
+idle {p} rests = record { caller = caller_of_pass p; seat = is p.seat rests.caller; rest = rests.rest }
+  where
+    is : (s : Seat) → is_caller s ≡ true → s ≡ Caller (caller_number s)
+    is (Caller k) h = refl
+    is _ h = cc

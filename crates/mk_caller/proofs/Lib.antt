@@ -9,6 +9,6 @@ pub mod Stepping
 pub mod Probing
 pub mod Chains
 pub mod Accessing
-pub mod Idle
 pub mod After
 pub mod Comparing
+pub mod Idle

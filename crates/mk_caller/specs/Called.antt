@@ -5,7 +5,7 @@ use Rattle.mk_core.specs.{declared.events.Answer.Answer, declared.events.Event.E
 use Rattle.mk_core.specs.{declared.seats.Stage.Stage, Calls.{at_rest, one_if, steps_of, is_same_stage, stage_refused}}
 use Rattle.mk_core.specs.{Decided.{Decided, entry_of}, Growing.{Finding, in_this_call}, History.{left, calls}}
 use Rattle.mk_core.specs.{History.{call_decided, bases_of}, Image.answer_of}
-use Rattle.mk_words.specs.States.{PassState, call_of}
+use Rattle.mk_words.specs.States.{IsPass, PassState, call_of}
 use Rattle.mk_caller.specs.States.{caller_of_pass, never_of, never_then}
 use Rattle.mk_core.specs.declared.events.Answer.TheVariants as answer
 use Rattle.mk_core.specs.declared.events.Step.TheVariants as step
@@ -75,6 +75,7 @@ pub record Called (p : PassState) (o : Op) (a : Answer) (q : PassState) : Type 0
   pub entry : own_calls p (p.seen ++ more) ≡ own_calls p p.seen ++ entry_of (caller_of_pass p) o (Some a)
   pub decided : IsDecidedIn p o a more
   pub rest : call_of q ≡ at_rest
+  pub pass : IsPass q
 
 -- It was answered yes or no.
 abbrev pub Says : PassState → Op → Bool → PassState → Type 0

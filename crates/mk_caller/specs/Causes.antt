@@ -3,7 +3,7 @@ use Rattle.std.specs.Prelude.{◌≡◌, ℕ, List, ◌∷◌, ◌++◌}
 use Rattle.mk_never.specs.{declared.operations.Op.Op, declared.values.Target.Target, Laws.KeepsRegisters}
 use Rattle.mk_never.specs.{declared.values.Target.TheVariants.{Unmapped, WordOf}, NeverHeap.target_of}
 use Rattle.mk_core.specs.{declared.events.Event.Event, Calls.{at_rest, q_of, i_of}}
-use Rattle.mk_words.specs.{States.{PassState, call_of, event_of}, CallSteps.FindsHeld}
+use Rattle.mk_words.specs.{States.{IsPass, PassState, call_of, event_of}, CallSteps.FindsHeld}
 use Rattle.mk_caller.specs.{declared.refusals.Refusal.Refusal, declared.refusals.Refusal.TheVariants.{Fault, Null}}
 use Rattle.mk_caller.specs.{declared.refusals.Refusal.TheVariants.Held, States.{caller_of_pass, never_of, never_then}}
 use Rattle.mk_caller.specs.{States.value_of, Called.{own_calls, Called}}
@@ -31,6 +31,7 @@ pub record FindsGateHeld (p : PassState) (o : Op) (q : PassState) : Type 0 where
   pub entries : own_calls p q.seen ≡ own_calls p p.seen
   pub registers : KeepsRegisters (caller_of_pass p) (never_of p) (never_of q)
   pub rest : call_of q ≡ at_rest
+  pub pass : IsPass q
 
 -- Each refusal has its cause: the register's allocation is large and was freed before the probe, the register is null,
 -- or the gate was held.

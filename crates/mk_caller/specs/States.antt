@@ -1,21 +1,33 @@
 -- What contracts see of a caller.
-use Rattle.std.specs.Prelude.{◌≡◌, ℕ, Bool, true, false, List, [], ◌++◌, Option, Some, None}
+use Rattle.std.specs.{Prelude.{◌≡◌, ℕ, Bool, true, false, List, [], ◌++◌, Option, Some, None, is_some}, Coded.codes}
 use Rattle.mk_never.specs.{declared.operations.Op.Op, declared.values.Value.Value, NeverHeap.{NeverState, register_at}}
 use Rattle.mk_never.specs.Admitted.{IsAdmitted}
 use Rattle.mk_core.specs.{Accesses.caller_number, History.never_behind, Calls.at_rest, declared.events.Event.Event}
-use Rattle.mk_core.specs.declared.events.Seat.TheVariants.{Caller}
-use Rattle.mk_words.specs.States.{WordsState, PassState, call_of}
+use Rattle.mk_core.specs.{declared.events.Seat.TheVariants.Caller, declared.seats.Flight.Flight}
+use Rattle.mk_words.specs.{Seats.is_caller, OneProof.pass_prop, States.{WordsState, IsPass, PassState, call_of}}
+use denote.Struct.Props.{props}
+
+-- What holds of a caller's pass that is home: it is that of a caller, and no call of it is in flight.
+pub record IsAtRest (p : PassState) : Type 0 where
+  pub pass : IsPass p
+  pub caller : is_caller p.seat ≡ true
+  pub rest : call_of p ≡ at_rest
 
 -- Its pass, and whether that is home. Of a pass that was lent the table and the seat are known, and no event.
 pub record CallerState : Type 0 where
   pub pass : PassState
   pub home : Bool
+  pub in_order : home ≡ true → IsAtRest pass
 
-abbrev pub lent : PassState → CallerState
-lent p = record { pass = record p { seats = []; seen = [] }; home = false }
+-- The caller's pass is this one, and home,
+pub record IsAtHome (s : CallerState) (p : PassState) : Type 0 where
+  pub pass : s.pass ≡ p
+  pub home : s.home ≡ true
 
-abbrev pub at_home : PassState → CallerState
-at_home p = record { pass = p; home = true }
+-- or it was this one, and is lent.
+pub record IsLent (s : CallerState) (p : PassState) : Type 0 where
+  pub pass : s.pass ≡ record p { seats = []; seen = [] }
+  pub away : s.home ≡ false
 
 abbrev pub caller_of_pass : PassState → ℕ
 caller_of_pass p = caller_number p.seat
@@ -48,10 +60,34 @@ IsPassOfCaller w k p = (p.table ≡ w) × (k ≡ caller_of_pass p)
 
 -- What a caller is made of: its words, its number and its pass, if that is home.
 
-abbrev pub caller_of : WordsState → ℕ → Option PassState → CallerState
-caller_of w k (Some p) = at_home p
-caller_of w k None = record { pass = record { table = w; seat = Caller k; seats = []; seen = [] }; home = false }
+abbrev pub pass_of : WordsState → ℕ → Option PassState → PassState
+pass_of w k (Some p) = p
+pass_of w k None = record { table = w; seat = Caller k; seats = []; seen = [] }
 
-abbrev pub IsPassAtRest : WordsState → ℕ → Option PassState → Type 0
-IsPassAtRest w k (Some p) = (p.table ≡ w) × (p.seat ≡ Caller k) × (call_of p ≡ at_rest)
-IsPassAtRest w k None = Unit {0}
+pub record IsOfCaller (w : WordsState) (k : ℕ) (x : Option PassState) : Type 0 where
+  pub table : (pass_of w k x).table ≡ w
+  pub seat : (pass_of w k x).seat ≡ Caller k
+
+abbrev pub IsResting : WordsState → ℕ → Option PassState → Type 0
+IsResting w k x = is_some x ≡ true → IsAtRest (pass_of w k x)
+
+-- That has one proof at most.
+
+at_rest_prop : (p : PassState) → IsProp (IsAtRest p)
+at_rest_prop p x y i = record {
+  pass = pass_prop p x.pass y.pass i;
+  caller = known_prop (is_caller p.seat) x.caller y.caller i;
+  rest = flight_prop (call_of p) x.rest y.rest i;
+}
+  where
+    known_prop : (b : Bool) → IsProp (b ≡ true)
+    known_prop b = hlevel props
+
+    flight_prop : (f : Flight) → IsProp (f ≡ at_rest)
+    flight_prop f = hlevel (codes, props)
+
+pub home_prop : (home : Bool) (p : PassState) → IsProp (home ≡ true → IsAtRest p)
+home_prop home p = hlevel (props, at_rest_prop)
+
+pub rest_prop : (w : WordsState) (k : ℕ) (x : Option PassState) → IsProp (IsResting w k x)
+rest_prop w k x = home_prop (is_some x) (pass_of w k x)

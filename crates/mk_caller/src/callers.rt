@@ -1,9 +1,10 @@
 //! A script's end of the heap.
 ghost use Rattle.std.specs.Prelude.{◌≡◌, ◌≢◌, IfOk, OnOk, OnErr, IfErr, true, false};
 ghost use Rattle.mk_never.specs.{declared.values.Value.TheVariants.Null, NeverHeap.is_same};
-ghost use Rattle.mk_core.specs.{Calls.at_rest, History.IsHistory};
-ghost use Rattle.mk_words.specs.{Seats.Has, States.call_of};
-ghost use Rattle.mk_caller.specs.States.{at_home, lent, caller_of_pass, value_of, Admits, IsIdleCaller};
+ghost use Rattle.mk_core.specs.Calls.{at_rest};
+ghost use Rattle.mk_words.specs.States.{call_of};
+ghost use Rattle.mk_caller.specs.States.{Admits, IsAtHome, IsIdleCaller, IsLent, IsResting, caller_of_pass, rest_prop};
+ghost use Rattle.mk_caller.specs.States.{value_of};
 ghost use Rattle.mk_caller.specs.{Called.{Called, Says, IsAnswered}, Causes.{FindsGateHeld, IsRefused, ProbesAWord}};
 ghost use Rattle.mk_caller.specs.Comparing.{CallComparesValues};
 ghost use Rattle.mk_never.specs.declared.operations.Op.TheVariants as op;
@@ -22,16 +23,24 @@ use std::marker::Model;
 pub struct Caller<'h> {
     table: CallerTable<'h>,
     pass: Option<Pass>,
+    ghost in_order: { IsResting table.words.now table.caller pass } by { rest_prop table.words.now table.caller pass },
 }
 
 impl<'h> Model for Caller<'h> {
-    ghost use Rattle.mk_caller.specs.States.{CallerState, caller_of, IsPassAtRest};
+    ghost use Rattle.std.specs.{Coded.codes, Prelude.is_some};
+    ghost use Rattle.mk_caller.specs.States.{CallerState, IsOfCaller, home_prop, pass_of};
 
     ghost Value = { CallerState };
 
-    ghost view = { λ c. caller_of c.table.words.now c.table.caller c.pass };
+    ghost coded = { Prim.hlevel (codes, home_prop) };
 
-    ghost invariant = { λ c. IsPassAtRest c.table.words.now c.table.caller c.pass };
+    ghost view = { λ c. record {
+      pass = pass_of c.table.words.now c.table.caller c.pass;
+      home = is_some c.pass;
+      in_order = c.in_order;
+    } };
+
+    ghost invariant = { λ c. IsOfCaller c.table.words.now c.table.caller c.pass };
 }
 
 /// Does something with a caller's pass, which is home.
@@ -49,7 +58,7 @@ impl<'h> Caller<'h> {
     pub fn new(words: &'h Words, pass: Pass) -> Caller<'h>
         requires one_table { pass.table ≡ words.now }
         requires idle { IsIdleCaller pass }
-        ensures { result ≡ at_home pass }
+        ensures { IsAtHome result pass }
     {
         let number = match pass.seat() {
             Seat::Caller(number) => number,
@@ -75,23 +84,12 @@ impl<'h> Caller<'h> {
         self.table.words
     }
 
-    /// What holds of every caller whose pass is home. It does nothing.
-    #[inline(always)]
-    pub fn is_idle(&self)
-        requires home { self.now.home ≡ true }
-        ensures idle { IsIdleCaller self.now.pass }
-        ensures own { Has self.now.pass.seats self.now.pass.seat }
-        ensures history { IsHistory self.now.pass.table.config self.now.pass.seen }
-    {
-        at_home!(&self.pass, pass => pass.is_in_order())
-    }
-
     /// Hands the pass out, for calls under the turn.
     pub fn lend(&mut self) -> Pass
         requires home { self.old.home ≡ true }
         ensures pass { result ≡ self.old.pass }
         ensures idle { IsIdleCaller result }
-        ensures lent { self.new ≡ lent self.old.pass }
+        ensures lent { IsLent self.new self.old.pass }
     {
         at_home!(self.pass.take(), pass => pass)
     }
@@ -102,7 +100,7 @@ impl<'h> Caller<'h> {
         requires one_table { pass.table ≡ self.old.pass.table }
         requires own { pass.seat ≡ self.old.pass.seat }
         requires rest { call_of pass ≡ at_rest }
-        ensures { self.new ≡ at_home pass }
+        ensures { IsAtHome self.new pass }
     {
         self.pass = Some(pass);
     }
@@ -113,7 +111,8 @@ impl<'h> Caller<'h> {
         ensures pass { result ≡ self.entry.pass }
         ensures idle { IsIdleCaller self.entry.pass }
     {
-        at_home!(self.pass, pass => pass)
+        let Caller { pass, .. } = self;
+        at_home!(pass, pass => pass)
     }
 
     /// The number in the word `i` words after the pointer in `q`.

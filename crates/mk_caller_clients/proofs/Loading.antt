@@ -1,4 +1,5 @@
 -- What is loaded after a store.
+use Rattle.std.proofs.Common.{Err, IfOk, Ok, Result}
 use Rattle.mk_laws.proofs.Vocabulary.{Answer, AreAdmitted, Bool, Config, Decided, Event, IsHistory, IsNumber}
 use Rattle.mk_laws.proofs.Vocabulary.{KeepsRegisters, List, Meets, NeverState, Null, Num, Op, Ptr, Unmapped, Value}
 use Rattle.mk_laws.proofs.Vocabulary.{WordOf, ℕ, after_calls, answer_of, ap, append-nil, append_assoc, arith, asked}
@@ -11,7 +12,8 @@ use Rattle.mk_never.specs.{NeverHeap.{after_op, reply_at, reply_of}, Laws.{NoneS
 use Rattle.mk_never.specs.{declared.operations.Reply.Reply, declared.values.Target.Target}
 use Rattle.mk_never.specs.declared.values.Target.TheVariants.{Nothing}
 use Rattle.mk_caller.proofs.After.{calls_leave_other_registers, still_caller}
-use Rattle.mk_caller.specs.{Called.Called, States.{Admits, caller_of_pass, never_of, value_of}}
+use Rattle.mk_caller.specs.{States.{Admits, caller_of_pass, never_of, value_of}, Called.Called}
+use Rattle.mk_caller.specs.declared.refusals.Refusal.{Refusal}
 use Rattle.mk_caller_clients.proofs.Between.{at_once, before, between, never_later, never_there, none_between, picked}
 use Rattle.mk_caller_clients.{proofs.Between.{place, same_config, same_number}, specs.Setters.{IsOnlyStore, is_store}}
 use Rattle.mk_words.specs.States.{PassState}
@@ -59,20 +61,20 @@ same_word n m (Num u) i x y = let e = x.is in cc
 same_word n m (Ptr a t o) i x y = pointer_word m a t o i y ∙ sym (pointer_word n a t o i x) ∙ x.is
 
 -- The deciding call of a history is admitted at its place.
-admitted_there : {p q : PassState} {o : Op} {a : Answer} → (c : Called p o a q) → IsHistory q.table.config q.seen
+admitted_there : {p q : PassState} {o : Op} {a : Answer} → (c : Called p o a q)
     → AreAdmitted p.table.config.globals (never_behind p.table.config (p.seen ++ c.decided.before))
     (asked (Rattle.mk_core.specs.Decided.entry_of (caller_of_pass p) o (Rattle.std.specs.Prelude.Some a)))
-admitted_there {p} {q} {o} {a} c h =
+admitted_there {p} {q} {o} {a} c =
     let es : List Event = p.seen ++ c.decided.before in
     let whole : q.seen ≡ (es ++ c.decided.event ∷ []) ++ c.decided.behind = ap (λ (x : PassState). x.seen) c.is
     ∙ ap (λ (l : List Event). p.seen ++ l) c.decided.is ∙ sym (append_assoc p.seen c.decided.before
     (c.decided.event ∷ c.decided.behind)) ∙ sym (append_assoc es (c.decided.event ∷ []) c.decided.behind) in
-    let all : IsHistory p.table.config q.seen = rw (ap (λ (x : PassState). x.table.config) c.is) at h in
+    let all : IsHistory p.table.config q.seen = rw (ap (λ (x : PassState). x.table.config) c.is) at c.pass.history in
     let last = comes_last p.table.config es c.decided.event (earlier_part_is_history p.table.config
     (es ++ c.decided.event ∷ []) c.decided.behind (subst (λ (l : List Event). IsHistory p.table.config l) whole all)) in
     rw c.decided.decides at last.admitted
 
-module _ {p0 p1 p2 : PassState} (x i n loaded : ℕ) (lt : x < 8) (h : IsHistory p1.table.config p1.seen)
+module _ {p0 p1 p2 : PassState} (x i n loaded : ℕ) (lt : x < 8)
     (set : Called p0 (Op.SetNum x i n) Answer.Done p1) (get : Called p1 (Op.GetNum x i) (Answer.Num loaded) p2) where
   abbrev c : Config
   c = p0.table.config
@@ -117,7 +119,7 @@ module _ {p0 p1 p2 : PassState} (x i n loaded : ℕ) (lt : x < 8) (h : IsHistory
   pub load_gives : IsOnlyStore p0 x i n p2 → loaded ≡ n
   load_gives only =
       let none = none_between set (at_once p1) get is_store p2.seen [] (sym (append-nil p2.seen)) refl only in
-      let ad = (admitted_there set h).0 in
+      let ad = (admitted_there set).0 in
       let inside = store_is_inside n1 k (Op.SetNum x i n) stored_to.number stored_to.at ad.access stored_to.is in
       let gives = load_gives_stored n1 k (Op.SetNum x i n)
       (asked (between set (at_once p1) get)) stored_to.number stored_to.at inside stored_to.is (none_store
@@ -129,12 +131,19 @@ module _ {p0 p1 p2 : PassState} (x i n loaded : ℕ) (lt : x < 8) (h : IsHistory
       numbers : Answer.Num loaded ≡ Answer.Num n → loaded ≡ n
       numbers e = cc
 
+-- So a load that comes to a number gives the one that was stored.
+pub loads_stored : {p q : PassState} (r : PassState) (x i n : ℕ) → x < 8 → Called p (Op.SetNum x i n) Answer.Done q
+    → (loaded : Result ℕ Refusal) → IfOk loaded (λ m. Called q (Op.GetNum x i) (Answer.Num m) r)
+    → IfOk loaded (λ m. IsOnlyStore p x i n r → m ≡ n)
+loads_stored r x i n lt set (Ok m) get = load_gives x i n m lt set get
+loads_stored r x i n lt set (Err e) get = tt
+
 -- What was admitted for the store is for the load.
-pub may_load : {p q : PassState} (x i n : ℕ) → Admits p (Op.SetNum x i n) → IsHistory q.table.config q.seen
+pub may_load : {p q : PassState} (x i n : ℕ) → Admits p (Op.SetNum x i n)
     → Called p (Op.SetNum x i n) Answer.Done q → Admits q (Op.GetNum x i)
-may_load {p} {q} x i n ad h c =
+may_load {p} {q} x i n ad c =
     let whole : IsHistory p.table.config (p.seen ++ c.more) = subst
-    (λ (r : PassState). IsHistory r.table.config r.seen) c.is h in
+    (λ (r : PassState). IsHistory r.table.config r.seen) c.is c.pass.history in
     let keeps : KeepsRegisters (caller_of_pass p) (never_of p) (never_behind p.table.config (p.seen ++ c.more)) =
     λ r lt. sym (ap (λ (y : PassState). value_of y r) c.is)
     ∙ calls_leave_other_registers p (Op.SetNum x i n) Answer.Done q r c lt (λ e. cc) in

@@ -60,10 +60,7 @@ pub fn moves_through_memory(caller: &mut Caller, q: u8, i: u64, n: u64) -> Resul
     ensures { IfOk result (λ loaded. IsOnlyStore caller.old.pass q i n caller.new.pass → loaded ≡ n) }
 {
     caller.set_num(q, i, n)?;
-    caller.is_idle();
-    let loaded = caller.get_num(q, i)?;
-    caller.is_idle();
-    Ok(loaded)
+    caller.get_num(q, i)
 }
 
 /// A caller's first call, of a heap that nobody has used: its register is null.

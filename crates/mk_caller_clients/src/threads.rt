@@ -16,7 +16,6 @@ fn clears_alone(words: &Words, pass: Pass, d: u8) -> Pass
 {
     let mut caller = Caller::new(words, pass);
     let _ = caller.clear(d);
-    caller.is_idle();
     caller.finish()
 }
 

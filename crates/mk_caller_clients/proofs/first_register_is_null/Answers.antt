@@ -1,5 +1,4 @@
-use Rattle.mk_laws.proofs.Vocabulary.{ap, ◌∙◌}
-use Rattle.mk_caller.specs.States.{CallerState}
+use Rattle.mk_laws.proofs.Vocabulary.{◌∙◌}
 use Rattle.mk_caller_clients.proofs.{Beginnings.{admits, given, idle, tells_null}, Sameness.told}
 use Rattle.mk_caller_clients.proofs.first_register_is_null.Goals as goal
 
@@ -14,7 +13,7 @@ is_null-requires-clause-admitted c =
     let w = c.args.words.now in
     let is = given c.args.host.now c.split-pass.result w c.requires.one_table c.requires.first
     c.split-pass.ensures.made in
-    admits c.new-caller.result.pass w (ap (λ (s : CallerState). s.pass) c.new-caller.ensures ∙ is)
+    admits c.new-caller.result.pass w (c.new-caller.ensures.pass ∙ is)
     c.is_within_limits.ensures.callers.0
 
 pub returns : goal.returns
@@ -23,4 +22,4 @@ returns c =
     let is = given c.args.host.now c.split-pass.result w c.requires.one_table c.requires.first
     c.split-pass.ensures.made in
     told c.is_null.result _ c.is_null.ensures.tells (tells_null c.new-caller.result.pass w
-    (ap (λ (s : CallerState). s.pass) c.new-caller.ensures ∙ is))
+    (c.new-caller.ensures.pass ∙ is))
