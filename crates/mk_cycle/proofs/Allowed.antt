@@ -1,15 +1,14 @@
 -- The steps that a turn which is free for a cycle may make at phase 0.
-use Rattle.mk_laws.proofs.Vocabulary.{Bool, Cell, Config, Flight, IsHistory, None, Option, Protocol, Seat, Step, Tally}
-use Rattle.mk_laws.proofs.Vocabulary.{Word, Words, ℕ, ap, arith, eq-eqb, false, frees, has_gates, if◌then◌else◌}
-use Rattle.mk_laws.proofs.Vocabulary.{is_phase, is_run_cell, lt-ltb, nat_lt, not, others_are_held, phase_of}
-use Rattle.mk_laws.proofs.Vocabulary.{quarantine_word, refl, slice_index, subst, sym, target, true, ◌%◌, ◌&&◌, ◌/◌, ◌<◌}
-use Rattle.mk_laws.proofs.{Vocabulary.{◌==◌, ◌^◌, ◌||◌, ◌∙◌, ◌≡◌}, Protocols.lists_keep_the_protocol}
-use Rattle.mk_cycle.proofs.Vocabulary.{Acts, Has, InTurn, IsEnabledTo, IsFreeForCycle, IsTurnAt, PassState, WordsState}
+use Rattle.mk_laws.proofs.Vocabulary.{Bool, Cell, Config, Flight, None, Option, Protocol, Seat, Step, Tally, Word}
+use Rattle.mk_laws.proofs.Vocabulary.{Words, ℕ, ap, arith, eq-eqb, false, frees, has_gates, if◌then◌else◌, is_phase}
+use Rattle.mk_laws.proofs.Vocabulary.{is_run_cell, lt-ltb, nat_lt, not, others_are_held, phase_of, quarantine_word}
+use Rattle.mk_laws.proofs.Vocabulary.{refl, slice_index, subst, sym, target, true, ◌%◌, ◌&&◌, ◌/◌, ◌<◌, ◌==◌, ◌^◌, ◌||◌}
+use Rattle.mk_laws.proofs.{Vocabulary.{◌∙◌, ◌≡◌}, Protocols.lists_keep_the_protocol}
+use Rattle.mk_cycle.proofs.Vocabulary.{Acts, IsEnabledTo, IsFreeForCycle, IsTurn, IsTurnAt, PassState, WordsState}
 use Rattle.mk_cycle.proofs.{Vocabulary.{call_of, drops, now_of}, Calm.no_target, MayAct.may_act}
 use Rattle.mk_core.specs.{Ranges.is_word, TurnConditions.takes_snapshot}
 use Rattle.mk_cycle.specs.EngineLaw.{is_register}
-use Rattle.mk_words.proofs.{Made.{own_before, pass_before}, TurnSteps.holds_after}
-use Rattle.mk_words.specs.TurnSteps.{IsTurn, turn_stays}
+use Rattle.mk_words.{proofs.{Made.{own_before, pass_before}, TurnSteps.holds_after}, specs.TurnSteps.{turn_stays}}
 
 look_gates : (c : Config) (w : Words) (seat : Seat) (f : Flight) (x : Word) → is_register x ≡ false
     → has_gates c w seat f (Step.Look x) ≡ true
@@ -18,7 +17,7 @@ look_gates c w seat f x4 h = grind arith
 pub or_true : (a b : Bool) → b ≡ true → (a || b) ≡ true
 or_true x0 b h = grind arith
 
-module _ (p : PassState) (t : InTurn p) (free : IsFreeForCycle p) where
+module _ (p : PassState) (t : IsTurn p) (free : IsFreeForCycle p) where
   pub protocol : Protocol p.table.config (now_of p)
   protocol = lists_keep_the_protocol p.table.config p.seen t.history.within_limits t.history.enabled
 
@@ -38,7 +37,7 @@ or_left : (a b : Bool) → a ≡ true → (a || b) ≡ true
 or_left a b h = ap (λ (x : Bool). x || b) h
 
 -- What is made at phase 0 of the words of a page.
-module _ {p : PassState} {w : WordsState} (t : InTurn p) (turn : IsTurnAt 0 w p) (page : ℕ)
+module _ {p : PassState} {w : WordsState} (t : IsTurn p) (turn : IsTurnAt 0 w p) (page : ℕ)
     (within : page < w.config.pages) where
   range : nat_lt page p.table.config.pages ≡ true
   range = lt-ltb page _ (on_table p turn.one_table within)
@@ -76,14 +75,10 @@ module _ {p : PassState} {w : WordsState} (t : InTurn p) (turn : IsTurnAt 0 w p)
       turn.phase ∙ or_true _ _ (ap (λ (b : Bool). b
       && (v == quarantine_word (slice_index w.freed page) (slice_index w.freed page))) at_zero ∙ eq-eqb v _ is))
 
--- what `is_in_order` says of a turn
-pub in_turn : (p : PassState) → Has p.seats p.seat → IsTurn p → IsHistory p.table.config p.seen → InTurn p
-in_turn p own turn history = record { own = own; holds = turn.holds; history = history }
-
 -- before a step of the turn
-pub in_turn_before : {p : PassState} {s : Step} {q : PassState} → Acts p s q → InTurn p
+pub in_turn_before : {p : PassState} {s : Step} {q : PassState} → Acts p s q → IsTurn p
 in_turn_before a = record { own = own_before a.makes; holds = a.holds; history = (pass_before a.makes).history }
 
 -- after a step of the turn that isn't its last
-pub in_turn_after : {p : PassState} {s : Step} {q : PassState} → Acts p s q → turn_stays s ≡ true → InTurn q
+pub in_turn_after : {p : PassState} {s : Step} {q : PassState} → Acts p s q → turn_stays s ≡ true → IsTurn q
 in_turn_after a stays = record { own = a.makes.pass.own; holds = holds_after a stays; history = a.makes.pass.history }

@@ -5,16 +5,16 @@ use Rattle.mk_laws.proofs.Vocabulary.{all_below-at, all_below_more_is, all_below
 use Rattle.mk_laws.proofs.Vocabulary.{false, has_clean_page, if◌then◌else◌, is_held, is_mapped, length, map}
 use Rattle.mk_laws.proofs.Vocabulary.{no_longer_fresh, not, refl, slice_index, storage_of, subst, suc, sym, true, zero}
 use Rattle.mk_laws.proofs.Vocabulary.{[], ◌%◌, ◌&&◌, ◌+◌, ◌/◌, ◌<◌, ◌==◌, ◌^◌, ◌∙◌, ◌∷◌, ◌≡◌, ◌≤◌}
-use Rattle.mk_cycle.proofs.Vocabulary.{Acts, Cleans, CountsAreLeft, InTurn, IsAtPhase, IsClean, IsEnabledTo}
-use Rattle.mk_cycle.proofs.Vocabulary.{IsFreeForCycle, IsGone, IsTurnAt, KeepsGates, PassState, WasUndirty, WordsState}
-use Rattle.mk_cycle.proofs.Vocabulary.{call_of, count_by-le-length, done_of, made, now_of, stands, steady_of, world_at}
-use Rattle.mk_cycle.proofs.{Vocabulary.world_of, KeptInParts.{gates_behind, gates_then, same_config}}
-use Rattle.mk_cycle.proofs.OwnSteps.{done_in, keeps_counts, same_call, same_pass, still_gone}
-use Rattle.mk_cycle.proofs.{Allowed.{in_turn_after, protocol}, MayAct.may_act}
+use Rattle.mk_cycle.proofs.Vocabulary.{Acts, Cleans, CountsAreLeft, IsAtPhase, IsClean, IsEnabledTo, IsFreeForCycle}
+use Rattle.mk_cycle.proofs.Vocabulary.{IsGone, IsTurn, IsTurnAt, KeepsGates, PassState, WasUndirty, WordsState, call_of}
+use Rattle.mk_cycle.proofs.Vocabulary.{count_by-le-length, done_of, made, now_of, stands, steady_of, world_at, world_of}
 use Rattle.mk_books.proofs.PlaceLemmas.{count_by-map}
-use Rattle.mk_core.specs.{Allocations.unreleased_storage, Counts.TalliesAreExact, Moments.none_is_held}
-use Rattle.mk_core.specs.declared.seats.OwnCycle.TheVariants.{Begun}
-use Rattle.mk_cycle.specs.{BeginCycle.{BeginsCycle, with_cycle_begun}, EngineLaw.BeginsMarking}
+use Rattle.mk_core.specs.Allocations.{unreleased_storage}
+use Rattle.mk_core.specs.{Counts.TalliesAreExact, Moments.none_is_held, declared.seats.OwnCycle.TheVariants.Begun}
+use Rattle.mk_cycle.proofs.KeptInParts.{gates_behind, gates_then, same_config}
+use Rattle.mk_cycle.proofs.OwnSteps.{done_in, keeps_counts, same_call, same_pass, still_gone}
+use Rattle.mk_cycle.proofs.{Allowed.in_turn_after, Allowed.protocol, MayAct.may_act}
+use Rattle.mk_cycle.specs.{BeginCycle.BeginsCycle, BeginCycle.with_cycle_begun, EngineLaw.BeginsMarking}
 
 pub all_from : (n : ℕ) (test : ℕ → Bool) → ((k : ℕ) → k < n → test k ≡ true) → all_below n test ≡ true
 all_from zero test h = all_below_zero_is test
@@ -29,7 +29,7 @@ clean_page h = grind (arith, and_from, eq-eqb)
 pub record IsCleared (w : WordsState) (p b : PassState) : Type 0 where
   pub cleans : Cleans p b
   pub turn : IsTurnAt 0 w b
-  pub holds : InTurn b
+  pub holds : IsTurn b
   pub clean : (page : ℕ) → page < b.table.config.pages → IsClean b page
   pub fresh : (now_of b).words.fresh ≡ 0
 
@@ -71,7 +71,7 @@ none_fresh : (c : Config) (xs : List PlacedAllocation)
 none_fresh c [] = refl
 none_fresh c (a ∷ xs) = cc (never_both (is_mapped c a), none_fresh c xs)
 
-module _ {p q : PassState} (t : InTurn p) (free : IsFreeForCycle p) (none : IsAtPhase p 0) (u : InTurn q)
+module _ {p q : PassState} (t : IsTurn p) (free : IsFreeForCycle p) (none : IsAtPhase p 0) (u : IsTurn q)
     (a : Acts p Step.Begin q) where
   abbrev w : World
   w = world_at a.makes
@@ -98,7 +98,7 @@ module _ {p q : PassState} (t : InTurn p) (free : IsFreeForCycle p) (none : IsAt
   pub begun_free : IsFreeForCycle q
   begun_free = grind (arith, begun_call, begun_done, begun_gone)
 
-snapshot_is : {b : PassState} → InTurn b → ((page : ℕ) → page < b.table.config.pages → IsClean b page)
+snapshot_is : {b : PassState} → IsTurn b → ((page : ℕ) → page < b.table.config.pages → IsClean b page)
     → (now_of b).words.snapshot ≡ (now_of b).words.freed
 snapshot_is {b} t clean =
     let lengths = (stands b.table.config b.seen t.history).known.lengths in
@@ -119,8 +119,8 @@ pub begins_cycle : {w : WordsState} {p b d q : PassState} → IsCleared w p b �
     → WasUndirty page p b) → Acts b Step.Begin d → BeginsMarking d q → BeginsCycle p q
 begins_cycle {p = p} {b = b} {d = d} {q = q} x undirty a law =
     let k = x.cleans in
-    let t : InTurn b = x.holds in
-    let u : InTurn d = in_turn_after a refl in
+    let t : IsTurn b = x.holds in
+    let u : IsTurn d = in_turn_after a refl in
     let free : IsFreeForCycle b = x.turn.free in
     let none = x.turn.phase in
     let begun = steady_begun t free none u a in

@@ -1,7 +1,7 @@
 -- Pages are cleaned one by one, and others are passed over: what is known of those before goes on.
 use Rattle.mk_laws.proofs.Vocabulary.{Steady, ℕ, ap, arith, cases_lt, false, header_at, sym, ◌+◌, ◌<◌, ◌∙◌, ◌≡◌, ◌≤◌}
 use Rattle.mk_laws.proofs.FreePages.{free_pages_have_nothing}
-use Rattle.mk_cycle.proofs.Vocabulary.{Cleans, InTurn, IsClean, PassState, WasUndirty, WordsState, below_more, now_of}
+use Rattle.mk_cycle.proofs.Vocabulary.{Cleans, IsClean, IsTurn, PassState, WasUndirty, WordsState, below_more, now_of}
 use Rattle.mk_cycle.proofs.CleaningSteps.{cleaned_table, cleans_nothing, cleans_then}
 use Rattle.mk_cycle.proofs.{Undirty.{undirty_earlier, undirty_later, undirty_now}, PageByPage.no_header}
 use Rattle.mk_cycle.{proofs.SettledPages.{no_cells, no_snapshot}, specs.Cleaning.{HasTakenSnapshot, IsCleanedPage}}
@@ -66,7 +66,7 @@ ready_more {o} {p} {q} {n} first k before bare undirty =
     below_more _ _ (λ page lt. ready_stays k (before page lt))
     (record { bare = bare; undirty = undirty_earlier first undirty })
 
-pub ready_past : {o p : PassState} (from n pages : ℕ) → InTurn p → Cleans o p → FreeAreBare o pages → n ≤ pages
+pub ready_past : {o p : PassState} (from n pages : ℕ) → IsTurn p → Cleans o p → FreeAreBare o pages → n ≤ pages
     → AreReady o p from
     → ((page : ℕ) → from ≤ page → page < n → is_in_use (now_of p).words.pages page ≡ false) → AreReady o p n
 ready_past from n pages t k free few before more page lt =
@@ -79,7 +79,7 @@ AreTaken p n = (page : ℕ) → page < n → HasTakenSnapshot p page
 pub taken_more : {p q : PassState} (n : ℕ) → Cleans p q → AreTaken p n → HasTakenSnapshot q n → AreTaken q (n + 1)
 taken_more n k before here = below_more _ _ (λ page lt. k.snapshot page (before page lt)) here
 
-pub taken_past : {p : PassState} (from n : ℕ) → InTurn p → AreTaken p from
+pub taken_past : {p : PassState} (from n : ℕ) → IsTurn p → AreTaken p from
     → ((page : ℕ) → from ≤ page → page < n → has_freed_cells (now_of p).words.freed page ≡ false) → AreTaken p n
 taken_past from n t before more page lt = grind (arith, cases_lt, no_cells, no_snapshot)
 

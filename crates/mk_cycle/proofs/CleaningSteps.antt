@@ -1,5 +1,5 @@
 -- Pages are cleaned step by step.
-use Rattle.mk_cycle.proofs.Vocabulary.{Acts, Cleans, InTurn, IsClean, IsFreeForCycle, IsTurnAt, LeavesTurn, PassState}
+use Rattle.mk_cycle.proofs.Vocabulary.{Acts, Cleans, IsClean, IsFreeForCycle, IsTurn, IsTurnAt, LeavesTurn, PassState}
 use Rattle.mk_cycle.proofs.Vocabulary.{WordsState, clears, does_nothing, does_step, does_then, event_of}
 use Rattle.mk_cycle.proofs.Vocabulary.{is_pending_free, made, now_of, stands, steady_of, world_at}
 use Rattle.mk_cycle.proofs.Calm.{calm_done, calm_still, ends_none, frees_none, is_calm, stores_none}
@@ -37,7 +37,7 @@ zero_stays xs i r h = elim (cases_eq r i) [
 ]
 
 -- A calm step of a turn that is free for a cycle.
-module _ (p : PassState) (s : Step) (q : PassState) (a : Acts p s q) (t : InTurn p)
+module _ (p : PassState) (s : Step) (q : PassState) (a : Acts p s q) (t : IsTurn p)
     (history : IsHistory q.table.config q.seen) (kind : is_calm s ≡ true) (free : IsFreeForCycle p) where
   still_pending : is_pending_free (flight_of (world_at a.makes).now p.seat) ≡ false
   still_pending = ap is_pending_free a.own.flight ∙ free.decided
@@ -210,7 +210,7 @@ pub record Halves (p : PassState) (page n : ℕ) : Type 0 where
   pub freed : n % 2 ^ 32 ≡ slice_index (now_of p).words.freed page
   pub snapshot : n / 2 ^ 32 ≡ slice_index (now_of p).words.snapshot page
 
-pub halves : {p : PassState} (page n : ℕ) → InTurn p → n ≡ quarantine_word (slice_index (now_of p).words.freed page)
+pub halves : {p : PassState} (page n : ℕ) → IsTurn p → n ≡ quarantine_word (slice_index (now_of p).words.freed page)
     (slice_index (now_of p).words.snapshot page) → Halves p page n
 halves {p} page n t is =
     let known = stands p.table.config p.seen t.history in

@@ -3,7 +3,7 @@ use Rattle.std.proofs.{Common.count_ones, lemmas.Nat.ones_le_self}
 use Rattle.mk_laws.proofs.Vocabulary.{Words, ℕ, ap, arith, header_at, header_in, header_of, if◌then◌else◌}
 use Rattle.mk_laws.proofs.Vocabulary.{is_unmapped_header, quarantine_word, refl, slice_index, suc, without, words_under}
 use Rattle.mk_laws.proofs.Vocabulary.{zero, ◌*◌, ◌+◌, ◌/◌, ◌^◌, ◌∙◌, ◌≡◌}
-use Rattle.mk_cycle.proofs.Vocabulary.{GivesNothingBack, InTurn, PassState, Released, SamePage, bit_and, held_below}
+use Rattle.mk_cycle.proofs.Vocabulary.{GivesNothingBack, IsTurn, PassState, Released, SamePage, bit_and, held_below}
 use Rattle.mk_cycle.proofs.Vocabulary.{held_unmarked, now_of, released_below, released_on, words_unmarked}
 use Rattle.mk_cycle.proofs.{CleaningSteps.halves, GivingSteps.none_then, PageSteps.same_header, SumsBelow.sum_same}
 
@@ -31,7 +31,7 @@ counted_on page snapshot marks header r first second is mark head count words ke
     grind (arith, told_by, same_header, none_then)
 
 -- what a look at the quarantine word says of it
-pub snapshot_told : {p a : PassState} (page quarantine : ℕ) → InTurn a → GivesNothingBack p a → quarantine
+pub snapshot_told : {p a : PassState} (page quarantine : ℕ) → IsTurn a → GivesNothingBack p a → quarantine
     ≡ quarantine_word (slice_index (now_of a).words.freed page) (slice_index (now_of a).words.snapshot page)
     → quarantine / 2 ^ 32 ≡ slice_index (now_of p).words.snapshot page
 snapshot_told page quarantine t first word = grind (arith, halves)

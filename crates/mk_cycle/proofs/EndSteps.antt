@@ -2,19 +2,19 @@
 use Rattle.std.proofs.lemmas.List.Sums.{sum_by-append}
 use Rattle.mk_laws.proofs.Vocabulary.{Step, World, ℕ, ap, arith, ends, eq-eqb, refl, [], ◌%◌, ◌++◌, ◌+◌, ◌-◌, ◌<◌, ◌^◌}
 use Rattle.mk_laws.proofs.Vocabulary.{◌∷◌, ◌≡◌}
-use Rattle.mk_cycle.proofs.Vocabulary.{Acts, InTurn, IsAtPhase, IsEnabledTo, IsFreeForCycle, IsGone, IsSettledPage}
+use Rattle.mk_cycle.proofs.Vocabulary.{Acts, IsAtPhase, IsEnabledTo, IsFreeForCycle, IsGone, IsSettledPage, IsTurn}
 use Rattle.mk_cycle.proofs.Vocabulary.{KeepsGates, PassState, call_of, count_by-le-length, done_of, event_of}
 use Rattle.mk_cycle.proofs.Vocabulary.{full_answers, made, now_of, steady_of, world_at, world_of}
 use Rattle.mk_core.specs.Effects.{cycle_ended}
 use Rattle.mk_cycle.proofs.OwnSteps.{done_in, no_more_calls, same_call, still_gone, undecided}
 use Rattle.mk_cycle.proofs.{Allowed.protocol, BeginSteps.all_from, KeptInParts.gates_behind, MayAct.may_act}
 
-pub end_allowed : {p : PassState} → InTurn p → IsFreeForCycle p → IsAtPhase p 4
+pub end_allowed : {p : PassState} → IsTurn p → IsFreeForCycle p → IsAtPhase p 4
     → ((page : ℕ) → page < p.table.config.pages → IsSettledPage p page) → IsEnabledTo p Step.End
 end_allowed {p} t free at settled =
     may_act p Step.End (protocol p t free) t.holds free.decided refl refl refl (eq-eqb _ 4 at) (all_from _ _ settled)
 
-module _ {p q : PassState} (t : InTurn p) (at : IsAtPhase p 4) (u : InTurn q) (a : Acts p Step.End q) where
+module _ {p q : PassState} (t : IsTurn p) (at : IsAtPhase p 4) (u : IsTurn q) (a : Acts p Step.End q) where
   abbrev w : World
   w = world_at a.makes
 

@@ -1,10 +1,10 @@
 -- All of a finish: what was released is given back, the cycle ends, and the tallies are set.
 use Rattle.mk_laws.proofs.Vocabulary.{Config, PlacedAllocation, Steady, Step, TalliesAreTidy, Words, ℕ, all_below-at}
 use Rattle.mk_laws.proofs.Vocabulary.{ap, arith, ends, has_place, in_a_word, is_held, map, not, refl, subst, sym, true}
-use Rattle.mk_laws.proofs.Vocabulary.{with_released, [], ◌+◌, ◌-◌, ◌<◌, ◌∙◌, ◌≡◌}
-use Rattle.mk_cycle.proofs.Vocabulary.{Acts, CountsAreLeft, Done, HasReleased, HoldsFewer, InTurn, IsAtPhase}
-use Rattle.mk_cycle.proofs.Vocabulary.{IsFreeForCycle, KeepsCall, KeepsGates, PassState, Released, done_of}
-use Rattle.mk_cycle.proofs.Vocabulary.{full_answers, is_pending_free, now_of, releases, steady_of, world_of}
+use Rattle.mk_laws.proofs.Vocabulary.{with_released, [], ◌+◌, ◌<◌, ◌∙◌, ◌≡◌}
+use Rattle.mk_cycle.proofs.Vocabulary.{Acts, CountsAreLeft, Done, HasReleased, HoldsFewer, IsAtPhase, IsFreeForCycle}
+use Rattle.mk_cycle.proofs.Vocabulary.{IsTurn, KeepsCall, KeepsGates, PassState, Released, done_of, full_answers}
+use Rattle.mk_cycle.proofs.Vocabulary.{is_pending_free, now_of, releases, steady_of, world_of}
 use Rattle.mk_cycle.proofs.{Allowed.{in_turn_after, in_turn_before}, EndSteps.{as_many_fulls, ended_call, ended_done}}
 use Rattle.mk_cycle.proofs.EndSteps.{ended_gates, ended_gone, one_more_end, steady_ended}
 use Rattle.mk_cycle.proofs.KeptInParts.{calls_then, free_then, gates_then, same_config}
@@ -29,10 +29,10 @@ ended_free {g} {e} at a free = record {
   gone = ended_gone t at u a free.gone;
 }
   where
-    t : InTurn g
+    t : IsTurn g
     t = in_turn_before a
 
-    u : InTurn e
+    u : IsTurn e
     u = in_turn_after a refl
 
 -- without what is released and given back
@@ -57,10 +57,10 @@ none_held callers v w same h =
 module _ {p g e q : PassState} {r : Released} (gives : GivesAllBack p g) (free : IsFreeForCycle p)
     (a : Acts g Step.End e) (held : ℕ) (sets : Sets (with_cycle_counted (now_of e).words held r.count) e q)
     (told : HasReleased p g r) (fewer : HoldsFewer p g held) where
-  t : InTurn g
+  t : IsTurn g
   t = in_turn_before a
 
-  u : InTurn e
+  u : IsTurn e
   u = in_turn_after a refl
 
   abbrev c : Config

@@ -6,7 +6,7 @@ use Rattle.mk_laws.proofs.Vocabulary.{get_or-set_same, inl, inr, is_held, is_pha
 use Rattle.mk_laws.proofs.Vocabulary.{progress, refl, set_past, slice_index, slice_set, still, subst, sym, true}
 use Rattle.mk_laws.proofs.{Vocabulary.{world_behind, ◌++◌, ◌∙◌, ◌≡◌, ◌≢◌}, ProtocolFrames.others_leave}
 use Rattle.mk_laws.proofs.RunsStill.{HolderFinds}
-use Rattle.mk_cycle.proofs.Vocabulary.{Acts, Frees, InTurn, IsAtPhase, IsFreeForCycle, IsTurnAt, LeavesTurn, PassState}
+use Rattle.mk_cycle.proofs.Vocabulary.{Acts, Frees, IsAtPhase, IsFreeForCycle, IsTurn, IsTurnAt, LeavesTurn, PassState}
 use Rattle.mk_cycle.proofs.Vocabulary.{WordsState, does_nothing, does_step, does_then, event_of, holder_finds}
 use Rattle.mk_cycle.proofs.Vocabulary.{holding_behind, is_giving_back, is_pending_free, made, now_of, steady_of}
 use Rattle.mk_cycle.proofs.{Vocabulary.{world_at, world_of}, Calm.{calm_done, calm_still, ends_none, is_calm}}
@@ -76,7 +76,7 @@ open_stays : (p q : PassState)
     → (j : ℕ) → is_held (now_of p).words j ≡ false → is_held (now_of q).words j ≡ false
 open_stays p q h j e = ne_eqb _ 2 (h j (eqb-false _ 2 e))
 
-module _ {p : PassState} {s : Step} {q : PassState} (a : Acts p s q) (t : InTurn p) (u : InTurn q) (kind : frees_calmly
+module _ {p : PassState} {s : Step} {q : PassState} (a : Acts p s q) (t : IsTurn p) (u : IsTurn q) (kind : frees_calmly
     s ≡ true) (gives : is_giving_back s ≡ true) (free : IsFreeForCycle p) (at : IsAtPhase p 4) where
   pub frees_step : FreesAt (world_at a.makes) (world_behind p.table.config (world_at a.makes) (event_of p s))
       → Frees p q
@@ -147,7 +147,7 @@ pub open_gives : (c : Config) (w : World) (seat : Seat) (j : ℕ)
 open_gives c w seat j = record { steady = refl; marks = refl; gates = still_open w.now.words.gates j; zeros = λ n h. h }
 
 -- what others leave is left
-pub others_free : {p : PassState} (more : List Event) → InTurn p → AreOfOthers p.seats more
+pub others_free : {p : PassState} (more : List Event) → IsTurn p → AreOfOthers p.seats more
     → IsHistory p.table.config (p.seen ++ more) → IsAtPhase p 4 → Frees p (record p { seen = p.seen ++ more })
 others_free {p} more t others history at =
     let c : Config = p.table.config in

@@ -2,7 +2,7 @@
 use Rattle.mk_laws.proofs.Vocabulary.{List, Step, ℕ, and_parts, ap, arith, gives_back, has_bit, header_at, header_in}
 use Rattle.mk_laws.proofs.Vocabulary.{quarantine_word, slice_index, sym, true, used_at, without, words_under, ◌%◌, ◌*◌}
 use Rattle.mk_laws.proofs.Vocabulary.{◌+◌, ◌-◌, ◌/◌, ◌<◌, ◌^◌, ◌∙◌, ◌≡◌}
-use Rattle.mk_cycle.proofs.Vocabulary.{Acts, FreesPage, GivesNothingBack, InTurn, IsTurnAt, IsZero, PageState}
+use Rattle.mk_cycle.proofs.Vocabulary.{Acts, FreesPage, GivesNothingBack, IsTurn, IsTurnAt, IsZero, PageState}
 use Rattle.mk_cycle.proofs.Vocabulary.{PassState, WordsState, and_le_l, bit_and, drops, left_unmarked, now_of}
 use Rattle.mk_cycle.proofs.{Vocabulary.page_state, CellBits.{has_bit_and, high_part, low_part, none_in_both}}
 use Rattle.mk_cycle.proofs.GivingSteps.{quar_frees, quar_state, used_frees, used_state}
@@ -23,7 +23,7 @@ gives_here page used gone size k is_used is_gone is_size zeros =
 
 -- The cells of a page that are used and gone are given back, by its used word.
 pub record GivesCells (w : WordsState) (p b d : PassState) (page used gone quarantine : ℕ) : Type 0 where
-  pub begun : InTurn p
+  pub begun : IsTurn p
   pub wiped : GivesNothingBack p b
   pub turn : IsTurnAt 4 w p
   pub within : page < w.config.pages

@@ -1,5 +1,5 @@
 -- What the steps that give back make of a page's words.
-use Rattle.mk_cycle.proofs.Vocabulary.{Acts, Frees, FreesPage, GivesNothingBack, InTurn, IsEnabledTo, IsTurnAt}
+use Rattle.mk_cycle.proofs.Vocabulary.{Acts, Frees, FreesPage, GivesNothingBack, IsEnabledTo, IsTurn, IsTurnAt}
 use Rattle.mk_cycle.proofs.Vocabulary.{IsUnmappedWord, IsZero, PageState, PassState, WordsState, call_of, drops}
 use Rattle.mk_cycle.proofs.Vocabulary.{event_of, is_giving_back, is_pending_free, made, now_of, page_state, stands}
 use Rattle.mk_cycle.proofs.{Vocabulary.{world_at, world_of}, Allowed.{in_turn_after, in_turn_before, on_table, or_true}}
@@ -59,7 +59,7 @@ module _ {p q : PassState} {y : WordsState} (turn : IsTurnAt 4 y p) where
 four_or : (a b : Bool) (n : ℕ) → n ≡ 4 → (a || b || (n == 4)) ≡ true
 four_or a b n h = or_true (a || b) (n == 4) (eq-eqb n 4 h)
 
-module _ {p : PassState} {y : WordsState} (t : InTurn p) (turn : IsTurnAt 4 y p) where
+module _ {p : PassState} {y : WordsState} (t : IsTurn p) (turn : IsTurnAt 4 y p) where
   abbrev c : Config
   c = p.table.config
 

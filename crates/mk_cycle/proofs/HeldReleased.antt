@@ -11,7 +11,7 @@ use Rattle.mk_laws.proofs.Vocabulary.{storage_of, storage_words, subst, suc, sym
 use Rattle.mk_laws.proofs.Vocabulary.{use_under, used_at, with_released, words_under, words_within, zero, [], ◌&&◌, ◌*◌}
 use Rattle.mk_laws.proofs.{Vocabulary.{◌+◌, ◌/◌, ◌||◌, ◌∙◌, ◌∷◌, ◌≡◌}, Settled.{gone_is_unmapped, unmapped_run}}
 use Rattle.mk_laws.proofs.{ForImages.gone_is, UnmappedRuns.unmapped_runs_take_no_memory}
-use Rattle.mk_cycle.proofs.Vocabulary.{Acts, HoldsFewer, InTurn, IsAtPhase, IsGone, PassState, allocations_stand}
+use Rattle.mk_cycle.proofs.Vocabulary.{Acts, HoldsFewer, IsAtPhase, IsGone, IsTurn, PassState, allocations_stand}
 use Rattle.mk_cycle.proofs.Vocabulary.{cells_unmarked, held_below, held_by_allocations, left_unmarked, made, now_of}
 use Rattle.mk_cycle.proofs.Vocabulary.{sum_below, sum_by, sum_by-cons, world_of}
 use Rattle.mk_cycle.proofs.ReleasedCells.{gone_there, plus_zero, unmapped_is_large}
@@ -164,6 +164,6 @@ pub held_alike : (p q : PassState) → q.table.config ≡ p.table.config
 held_alike p q table same = grind arith
 
 -- A pass that made the `release` knows it so.
-module _ {d q : PassState} (t : InTurn d) (u : InTurn q) (at : IsAtPhase d 3) (a : Acts d Step.Release q) where
+module _ {d q : PassState} (t : IsTurn d) (u : IsTurn q) (at : IsAtPhase d 3) (a : Acts d Step.Release q) where
   pub release_holds : IsGone d → HoldsFewer d q (held_below (now_of q).words d.table.config.pages)
   release_holds gone = grind (arith, held_told, made, phase_there, gone_there, same_before)

@@ -3,7 +3,7 @@ use Rattle.mk_laws.proofs.Vocabulary.{Bool, List, Step, Word, World, ℕ, and_fr
 use Rattle.mk_laws.proofs.Vocabulary.{eqb-true, false, get_or-set_other, get_or-set_same, if◌then◌else◌, inl, inr}
 use Rattle.mk_laws.proofs.Vocabulary.{is_held, is_number_of, length, lt-ltb, ne_eqb, not, others_are_held, refl}
 use Rattle.mk_laws.proofs.Vocabulary.{set_past, slice_index, slice_set, sym, true, ◌<◌, ◌==◌, ◌||◌, ◌∙◌, ◌≡◌}
-use Rattle.mk_cycle.proofs.Vocabulary.{Acts, HoldsGates, InTurn, IsEnabledTo, IsFreeForCycle, PassState, WordsState}
+use Rattle.mk_cycle.proofs.Vocabulary.{Acts, HoldsGates, IsEnabledTo, IsFreeForCycle, IsTurn, PassState, WordsState}
 use Rattle.mk_cycle.proofs.Vocabulary.{does_nothing, does_step, does_then, holds_gates, now_of, world_at}
 use Rattle.mk_cycle.proofs.{Allowed.in_turn_before, Allowed.protocol, BeginSteps.all_from, CleaningSteps.calm_keeps}
 use Rattle.mk_cycle.proofs.{KeptInParts.free_then, KeptInParts.keeps_at_once, KeptInParts.keeps_then, MayAct.may_act}
@@ -25,7 +25,7 @@ held_free p q k free = free_then p q k.keeps.call free
 pub held_table : (p q : PassState) (w : WordsState) → HoldsGates p q → p.table ≡ w → q.table ≡ w
 held_table p q w k is = ap (λ (x : PassState). x.table) k.keeps.call.pass ∙ is
 
-pub hold_allowed : (p : PassState) → InTurn p → IsFreeForCycle p → (j : ℕ) → j < p.table.config.callers
+pub hold_allowed : (p : PassState) → IsTurn p → IsFreeForCycle p → (j : ℕ) → j < p.table.config.callers
     → is_number_of p.seat j ≡ false → is_held (now_of p).words j ≡ false → IsEnabledTo p (Step.Hold j)
 hold_allowed p t free j lt other none =
     may_act p (Step.Hold j) (protocol p t free) t.holds free.decided refl
@@ -54,7 +54,7 @@ look_holds {p} {q} {j} free a = record {
       ∙ a.turn.held_gates i (eqb-true _ 2 h));
 }
 
-pub hold_holds : (p q : PassState) (t : InTurn p) (free : IsFreeForCycle p) (u : InTurn q) (j : ℕ)
+pub hold_holds : (p q : PassState) (t : IsTurn p) (free : IsFreeForCycle p) (u : IsTurn q) (j : ℕ)
     → Acts p (Step.Hold j) q → HoldsGates p q
 hold_holds p q t free u j a = record {
   does = does_step holds_gates p q (Step.Hold j) a.makes refl;

@@ -5,7 +5,7 @@ use Rattle.mk_laws.proofs.Vocabulary.{inl, inr, is_held, is_number_of, is_one_of
 use Rattle.mk_laws.proofs.Vocabulary.{slice_index, subst, sym, true, [], ◌++◌, ◌==◌, ◌||◌, ◌∙◌, ◌∷◌, ◌≡◌}
 use Rattle.mk_laws.proofs.{Actors.is_holders, FramesHolders.acts_as_holder, Known.holds_turn, LastEvents.comes_last}
 use Rattle.mk_laws.proofs.{Orderly.same_holder, OrderlyLists.actor_of, ProtocolFrames.others_leave, Views.view_of}
-use Rattle.mk_cycle.proofs.Vocabulary.{GivesNothingBack, InTurn, IsAtPhase, IsFreeForCycle, Makes, PassState, event_of}
+use Rattle.mk_cycle.proofs.Vocabulary.{GivesNothingBack, IsAtPhase, IsFreeForCycle, IsTurn, Makes, PassState, event_of}
 use Rattle.mk_cycle.proofs.{Vocabulary.{now_of, stands, world_at}, FreeingSteps.{freed_free, freed_phase, frees_step}}
 use Rattle.mk_cycle.proofs.{FreeingSteps.{open_gives, others_free}, GivingSteps.{none_at_once, none_then, state_there}}
 use Rattle.mk_cycle.proofs.{Allowed.protocol, MayAct.may_act}
@@ -17,7 +17,7 @@ open_is_holders : (x : Step) → is_open x ≡ true → is_holders x ≡ true
 open_is_holders x0 h = grind arith
 
 -- Only the turn's holder opens a gate.
-opens_itself : {p : PassState} (e : Event) → InTurn p → IsHistory p.table.config (p.seen ++ e ∷ [])
+opens_itself : {p : PassState} (e : Event) → IsTurn p → IsHistory p.table.config (p.seen ++ e ∷ [])
     → is_open e.step ≡ true → e.seat ≡ p.seat
 opens_itself {p} e t h is =
     let c : Config = p.table.config in
@@ -30,17 +30,17 @@ opens_itself {p} e t h is =
 -- one event further
 record Further (p q : PassState) : Type 0 where
   none : GivesNothingBack p q
-  turn : InTurn q
+  turn : IsTurn q
 
 behind : PassState → List Event → PassState
 behind p es = record p { seen = p.seen ++ es }
 
-by_another : {p : PassState} (e : Event) → InTurn p → IsAtPhase p 4 → IsHistory p.table.config (p.seen ++ e ∷ [])
+by_another : {p : PassState} (e : Event) → IsTurn p → IsAtPhase p 4 → IsHistory p.table.config (p.seen ++ e ∷ [])
     → is_one_of p.seats e.seat ≡ false → Further p (behind p (e ∷ []))
 unfolding behind AreOfOthers
 by_another e t at h other = grind (arith, earlier_part_is_history, others_leave, others_own, others_free, state_there)
 
-by_itself : {p : PassState} (j : ℕ) → InTurn p → IsFreeForCycle p → IsAtPhase p 4 → IsHistory p.table.config
+by_itself : {p : PassState} (j : ℕ) → IsTurn p → IsFreeForCycle p → IsAtPhase p 4 → IsHistory p.table.config
     (p.seen ++ event_of p (Step.Open j) ∷ []) → Further p (behind p (event_of p (Step.Open j) ∷ []))
 unfolding behind AreOfOthers
 by_itself {p} j t free at h =
@@ -53,8 +53,7 @@ by_itself {p} j t free at h =
       pass = record { own = t.own; history = h };
     } in
     let a = acts p (Step.Open j) q makes t.holds in
-    let turn = still_turn p (Step.Open j) q makes refl (record { holds = t.holds }) in
-    let next : InTurn q = record { own = t.own; holds = turn.holds; history = h } in
+    let next : IsTurn q = still_turn p (Step.Open j) q makes refl t in
     record {
       none = record {
         frees = frees_step a t next refl refl free at (open_gives p.table.config (world_at a.makes) p.seat j);
@@ -67,7 +66,7 @@ by_itself {p} j t free at h =
       turn = next;
     }
 
-opens_one : {p : PassState} (e : Event) → InTurn p → IsFreeForCycle p → IsAtPhase p 4
+opens_one : {p : PassState} (e : Event) → IsTurn p → IsFreeForCycle p → IsAtPhase p 4
     → IsHistory p.table.config (p.seen ++ e ∷ []) → is_open e.step ≡ true → Further p (behind p (e ∷ []))
 opens_one {p} e t free at h is = by e.step refl is (opens_itself e t h is)
   where
@@ -79,7 +78,7 @@ opens_one {p} e t free at h is = by e.step refl is (opens_itself e t h is)
         (by_itself j t free at (subst (λ (f : Event). IsHistory p.table.config (p.seen ++ f ∷ [])) (sym it) h))
     by _ at_step kind same = cc
 
-opens_all : (more : List Event) (p : PassState) → InTurn p → IsFreeForCycle p → IsAtPhase p 4 → OnlyOpen p.seats more
+opens_all : (more : List Event) (p : PassState) → IsTurn p → IsFreeForCycle p → IsAtPhase p 4 → OnlyOpen p.seats more
     → IsHistory p.table.config (p.seen ++ more) → GivesNothingBack p (behind p more)
 unfolding behind OnlyOpen
 opens_all [] p t free at only h =
@@ -97,13 +96,13 @@ opens_all (e ∷ es) p t free at only h =
     (freed_phase one.none.frees at) only.1 whole in
     subst (λ (xs : List Event). GivesNothingBack p (record p { seen = xs })) split (none_then one.none rest)
 
-pub opens_frees : {p q : PassState} → InTurn p → IsFreeForCycle p → IsAtPhase p 4 → Opens p q
+pub opens_frees : {p q : PassState} → IsTurn p → IsFreeForCycle p → IsAtPhase p 4 → Opens p q
     → IsHistory q.table.config q.seen → GivesNothingBack p q
 unfolding behind
 opens_frees t free at o h = grind (arith, opens_all)
 
 -- While all is stopped and the run that the call freed is gone, each gate may be opened.
-pub others_may_open : {p : PassState} → InTurn p → IsFreeForCycle p → IsAtPhase p 4
+pub others_may_open : {p : PassState} → IsTurn p → IsFreeForCycle p → IsAtPhase p 4
     → others_are_held p.table.config.callers (now_of p).words p.seat ≡ true → OthersMayOpen p 0
 others_may_open {p} t free at held j le lt other =
     let w : Words = (now_of p).words in

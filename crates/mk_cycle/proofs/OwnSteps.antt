@@ -4,12 +4,12 @@ use Rattle.mk_laws.proofs.Vocabulary.{Caller, Config, Event, Holding, Holds, Hos
 use Rattle.mk_laws.proofs.Vocabulary.{None, Option, Progress, Protocol, RunPages, Seat, Some, Steady, Step, World, ℕ}
 use Rattle.mk_laws.proofs.Vocabulary.{answer_decided, ap, append-nil, arith, at_rest, calls, false, flight_of}
 use Rattle.mk_laws.proofs.Vocabulary.{get_or-set_same, is_end, is_heap_store, is_run_gone, left, length, progress, refl}
-use Rattle.mk_laws.proofs.Vocabulary.{still, subst, sym, true, true≢false, world_behind, [], ◌++◌, ◌+◌, ◌<◌, ◌∙◌, ◌∷◌}
-use Rattle.mk_laws.proofs.{Vocabulary.◌≡◌, RunWords.gone_behind}
+use Rattle.mk_laws.proofs.Vocabulary.{still, subst, sym, true, true≢false, world_behind, [], ◌++◌, ◌<◌, ◌∙◌, ◌∷◌, ◌≡◌}
 use Rattle.mk_cycle.proofs.Vocabulary.{Acts, CountsAreLeft, Done, Has, IsGone, KeepsCall, PassState, call_of, event_of}
 use Rattle.mk_cycle.proofs.Vocabulary.{holder_finds, holding_behind, made, now_of, stands, steady_of, world_at}
 use Rattle.mk_cycle.proofs.Vocabulary.{world_of}
-use Rattle.mk_core.{proofs.Histories.{calls_more}, specs.Effects.{moment_behind}}
+use Rattle.mk_core.{proofs.Histories.calls_more, specs.Effects.moment_behind}
+use Rattle.mk_laws.proofs.RunWords.{gone_behind}
 use Rattle.mk_words.proofs.Made.{Made}
 
 -- what a holding shows of what was done

@@ -4,7 +4,7 @@ use Rattle.std.proofs.Common.{le-ltb, ltb-false}
 use Rattle.mk_laws.proofs.Vocabulary.{Free, Header, Option, Some, Words, ℕ, and_from, ap, arith, cases_lt, eq-eqb}
 use Rattle.mk_laws.proofs.Vocabulary.{false, header_at, header_in, header_of, inl, inr, lt-ltb, not, or_parts, refl}
 use Rattle.mk_laws.proofs.Vocabulary.{run_count, slice_index, sym, use_under, used_at, ◌+◌, ◌<◌, ◌∙◌, ◌≡◌, ◌≤◌}
-use Rattle.mk_cycle.proofs.Vocabulary.{Frees, FreesPage, HasFreeCells, InTurn, IsOccupied, IsSettledPage, PassState}
+use Rattle.mk_cycle.proofs.Vocabulary.{Frees, FreesPage, HasFreeCells, IsOccupied, IsSettledPage, IsTurn, PassState}
 use Rattle.mk_cycle.proofs.Vocabulary.{Released, SamePage, below_more, held_below, held_unmarked, now_of}
 use Rattle.mk_cycle.proofs.{Vocabulary.{released_below, released_on}, CountedPages.{counted_more, held_more, held_same}}
 use Rattle.mk_cycle.{proofs.CountedPages.{none_held, nothing_on, same_released, told_same}, proofs.SumsBelow.{sum_past}}
@@ -51,7 +51,7 @@ module _ (p : PassState) {q r : PassState} {n : ℕ} (pages : ℕ) (page : Frees
   same_on before s le = page.others s (λ e. absurd (omega (arith, e, le))) ∙ before s (omega (arith, le))
 
   -- A page past the run that is headed there has its head elsewhere, so it stays occupied.
-  occupied_on : InTurn q → (end now : ℕ) → end ≤ now → ((s : ℕ) → now ≤ s → n < s → s < pages
+  occupied_on : IsTurn q → (end now : ℕ) → end ≤ now → ((s : ℕ) → now ≤ s → n < s → s < pages
       → n + run_count (header_in (now_of q).words n) ≤ s) → ((s : ℕ) → n ≤ s → end ≤ s → s < pages → IsOccupied q s)
       → (s : ℕ) → n + 1 ≤ s → now ≤ s → s < pages → IsOccupied r s
   occupied_on t end now le past before s after far few =
@@ -60,7 +60,7 @@ module _ (p : PassState) {q r : PassState} {n : ℕ} (pages : ℕ) (page : Frees
       same_occupied q r s (page.others s (λ e. absurd (omega (arith, e, after))))
       (page.others _ (head_elsewhere t n s lt (past s far lt few) was)) ∙ was
 
-  pub settled_more : InTurn q → {end : ℕ} (now : ℕ) → end ≤ now → ((s : ℕ) → now ≤ s → n < s → s < pages
+  pub settled_more : IsTurn q → {end : ℕ} (now : ℕ) → end ≤ now → ((s : ℕ) → now ≤ s → n < s → s < pages
       → n + run_count (header_in (now_of q).words n) ≤ s) → {all : Released} (here : Released) {held : ℕ} (more : ℕ)
       → AreSettledBelow p q pages n end all held → IsSettledPage r n → here ≡ released_on (now_of q).words n
       → more ≡ held_unmarked (now_of q).words n → AreSettledBelow p r pages (n + 1) now (record
@@ -87,7 +87,7 @@ pub no_header : (w : Words) (n : ℕ) → is_in_use w.pages n ≡ false → head
 no_header w n free = free_header (header_at w n) (header_of (header_at w n)) (used_at w n) refl free
 
 -- A page without freed cells that is occupied is settled, and nothing was released on it.
-module _ {q : PassState} (t : InTurn q) (n : ℕ) (bare : has_freed_cells (now_of q).words.freed n ≡ false) where
+module _ {q : PassState} (t : IsTurn q) (n : ℕ) (bare : has_freed_cells (now_of q).words.freed n ≡ false) where
   snapshot_none : slice_index (now_of q).words.snapshot n ≡ 0
   snapshot_none = no_snapshot t n (no_cells (slice_index (now_of q).words.freed n) bare)
 
@@ -99,7 +99,7 @@ module _ {q : PassState} (t : InTurn q) (n : ℕ) (bare : has_freed_cells (now_o
   nothing_released p same = grind (arith, nothing_on, snapshot_none)
 
 -- Pages that aren't unsettled are passed over.
-module _ (p : PassState) {q : PassState} (t : InTurn q) (n m end pages : ℕ) (le : n ≤ m) (few : m ≤ pages)
+module _ (p : PassState) {q : PassState} (t : IsTurn q) (n m end pages : ℕ) (le : n ≤ m) (few : m ≤ pages)
     (out : (r : ℕ) → n ≤ r → r < m → may_be_unsettled (now_of q).words end r ≡ false) where
   bare_there : (r : ℕ) → n ≤ r → r < m → has_freed_cells (now_of q).words.freed r ≡ false
   bare_there r after lt = (or_parts _ _ (out r after lt)).1

@@ -1,7 +1,7 @@
 -- The `close` and the `release` of a cycle.
 use Rattle.mk_laws.proofs.Vocabulary.{Config, Steady, Step, Words, World, ℕ, ap, arith, fresh_words_of, map, phase_of}
 use Rattle.mk_laws.proofs.Vocabulary.{refl, subst, with_released, [], ◌%◌, ◌+◌, ◌<◌, ◌^◌, ◌∙◌, ◌≡◌}
-use Rattle.mk_cycle.proofs.Vocabulary.{Acts, InTurn, IsAtPhase, IsFreeForCycle, LeavesTurn, PassState}
+use Rattle.mk_cycle.proofs.Vocabulary.{Acts, IsAtPhase, IsFreeForCycle, IsTurn, LeavesTurn, PassState}
 use Rattle.mk_cycle.proofs.Vocabulary.{count_by-le-length, made, steady_of, world_at, world_of}
 use Rattle.mk_cycle.proofs.{Allowed.protocol, BeginSteps.counts_then, CleaningSteps.calm_keeps, KeptInParts.calls_then}
 use Rattle.mk_cycle.proofs.{KeptInParts.free_then, KeptInParts.same_config, ReleasedCounts.fresh_words_stay}
@@ -9,11 +9,11 @@ use Rattle.mk_cycle.specs.{EngineLaw.ClosesMarks, Releasing.ReleasesUnmarked, Tu
 use Rattle.mk_words.specs.Steps.{moment_of}
 
 -- the phase where the step is made
-pub phase_at : {p : PassState} {s : Step} {q : PassState} (a : Acts p s q) → InTurn p → InTurn q → (phase : ℕ)
+pub phase_at : {p : PassState} {s : Step} {q : PassState} (a : Acts p s q) → IsTurn p → IsTurn q → (phase : ℕ)
     → IsAtPhase p phase → phase < 7 → ((world_at a.makes).now.words.phase + 1) % 2 ^ 64 % 8 ≡ phase + 1
 phase_at a t u phase at small = grind (arith, made, protocol, count_by-le-length)
 
-pub close_leaves : {p q : PassState} → InTurn p → IsFreeForCycle p → IsAtPhase p 2 → Acts p Step.Close q → InTurn q
+pub close_leaves : {p q : PassState} → IsTurn p → IsFreeForCycle p → IsAtPhase p 2 → Acts p Step.Close q → IsTurn q
     → LeavesTurn but_phase p q × IsAtPhase q 3
 close_leaves {p} {q} t free at a u = (
   calm_keeps p Step.Close q a t u.history refl free but_phase refl,
@@ -23,8 +23,8 @@ close_leaves {p} {q} t free at a u = (
 but_release : Steady → Steady
 but_release s = record s { phase = 0; allocations = [] }
 
-pub releases_unmarked : {p b d q : PassState} → InTurn p → IsFreeForCycle p → ClosesMarks p b → InTurn b
-    → Acts b Step.Close d → InTurn d → Acts d Step.Release q → InTurn q → ReleasesUnmarked p q
+pub releases_unmarked : {p b d q : PassState} → IsTurn p → IsFreeForCycle p → ClosesMarks p b → IsTurn b
+    → Acts b Step.Close d → IsTurn d → Acts d Step.Release q → IsTurn q → ReleasesUnmarked p q
 unfolding but_release
 releases_unmarked {p} {b} {d} {q} t free marks tb close td release tq =
     let free_b = free_then p b marks.keeps.call free in

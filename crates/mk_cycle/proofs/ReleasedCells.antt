@@ -1,6 +1,6 @@
 -- After a `release` the released cells have no word of a mapped allocation.
 use Rattle.std.proofs.Math.Bool.{and-false}
-use Rattle.mk_cycle.proofs.Vocabulary.{Acts, AreFreeCells, HasFreeCells, InTurn, IsAtPhase, IsGone, IsOccupied}
+use Rattle.mk_cycle.proofs.Vocabulary.{Acts, AreFreeCells, HasFreeCells, IsAtPhase, IsGone, IsOccupied, IsTurn}
 use Rattle.mk_cycle.proofs.Vocabulary.{PassState, allocations_stand, holder_finds, left_unmarked, made, now_of, stands}
 use Rattle.mk_cycle.{proofs.Vocabulary.{world_at}, specs.Freeing.{is_occupied_page}}
 use Rattle.mk_laws.proofs.Vocabulary.{Bool, Config, Event, Header, InPlot, IsFreedCell, IsHistory, IsWordOf}
@@ -25,7 +25,7 @@ pub unmapped_is_large : {o : Object} {x : Option Header} → ShowsPart o 0 x →
     → is_small_object o ≡ false
 unmapped_is_large x0 h = grind arith
 
-module _ {d q : PassState} (t : InTurn d) (u : InTurn q) (at : IsAtPhase d 3) (a : Acts d Step.Release q) where
+module _ {d q : PassState} (t : IsTurn d) (u : IsTurn q) (at : IsAtPhase d 3) (a : Acts d Step.Release q) where
   abbrev c : Config
   c = d.table.config
 

@@ -6,7 +6,7 @@ use Rattle.mk_laws.proofs.Vocabulary.{is_cycling, is_large, is_mapped, is_quaran
 use Rattle.mk_laws.proofs.Vocabulary.{never_granted, not, not-true, phase_of, placed_at, refl, released_where_left}
 use Rattle.mk_laws.proofs.Vocabulary.{slice_index, storage_words, sym, true, true≢false, with_released, words_under}
 use Rattle.mk_laws.proofs.Vocabulary.{◌&&◌, ◌++◌, ◌+◌, ◌||◌, ◌∙◌, ◌≡◌, ◌≢◌}
-use Rattle.mk_cycle.proofs.Vocabulary.{Acts, HasReleased, InTurn, IsAtPhase, PassState, Released, allocations_stand}
+use Rattle.mk_cycle.proofs.Vocabulary.{Acts, HasReleased, IsAtPhase, IsTurn, PassState, Released, allocations_stand}
 use Rattle.mk_cycle.proofs.Vocabulary.{and_le_l, cells_unmarked, count_by, left_unmarked, made, newly_released, now_of}
 use Rattle.mk_cycle.proofs.Vocabulary.{released_below, stands, sum_below, sum_by, words_unmarked, world_at, world_of}
 use Rattle.mk_cycle.proofs.CellCounts.{AreTheirBits, cells_are_as_many, cells_weigh_as_much}
@@ -174,7 +174,7 @@ module _ {c : Config} {es : List Event} (h : IsHistory c es) (at : phase_of (lef
       none a isnt = by a.released _ (not (a.freed && is_large (kinds_of c.types a.ty))) a.fresh isnt
 
 -- A pass that made the `release` knows it so.
-module _ {d q : PassState} (t : InTurn d) (u : InTurn q) (at : IsAtPhase d 3) (a : Acts d Step.Release q) where
+module _ {d q : PassState} (t : IsTurn d) (u : IsTurn q) (at : IsAtPhase d 3) (a : Acts d Step.Release q) where
   there : IsHistory d.table.config (d.seen ++ a.makes.others)
   there = (made d Step.Release q a.makes).history
 

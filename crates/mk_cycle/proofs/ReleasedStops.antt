@@ -1,7 +1,7 @@
 -- A stop in which the marks are closed, and what they leave unmarked is released.
 use Rattle.mk_laws.proofs.Vocabulary.{Config, Steady, Step, ℕ, ap, refl, subst, sym, ◌∙◌, ◌≡◌}
-use Rattle.mk_cycle.proofs.Vocabulary.{Acts, HasFreeCells, HasReleased, HoldsFewer, InTurn, IsAtPhase, IsFreeForCycle}
-use Rattle.mk_cycle.proofs.Vocabulary.{IsOccupied, LeavesTurn, PassState, WordsState, held_below, now_of}
+use Rattle.mk_cycle.proofs.Vocabulary.{Acts, HasFreeCells, HasReleased, HoldsFewer, IsAtPhase, IsFreeForCycle}
+use Rattle.mk_cycle.proofs.Vocabulary.{IsOccupied, IsTurn, LeavesTurn, PassState, WordsState, held_below, now_of}
 use Rattle.mk_cycle.proofs.Vocabulary.{released_below, world_of}
 use Rattle.mk_cycle.proofs.HeldReleased.{held_alike, release_holds}
 use Rattle.mk_cycle.proofs.{Allowed.in_turn_after, KeptInParts.free_then, KeptInParts.same_config}
@@ -11,12 +11,12 @@ use Rattle.mk_cycle.specs.{EngineLaw.ClosesMarks, Releasing.ReleasesUnmarked, Tu
 
 -- The engine closes the marks, and the turn's holder makes the `close` and the `release`.
 pub record StopReleases (p b d q : PassState) : Type 0 where
-  pub begun : InTurn p
+  pub begun : IsTurn p
   pub free : IsFreeForCycle p
   pub marks : ClosesMarks p b
-  pub marked : InTurn b
+  pub marked : IsTurn b
   pub close : Acts b Step.Close d
-  pub closed : InTurn d
+  pub closed : IsTurn d
   pub release : Acts d Step.Release q
 
 module _ {p b d q : PassState} (s : StopReleases p b d q) where
@@ -29,7 +29,7 @@ module _ {p b d q : PassState} (s : StopReleases p b d q) where
   free_closed : IsFreeForCycle d
   free_closed = free_then b d closes.0.call free_marked
 
-  released : InTurn q
+  released : IsTurn q
   released = in_turn_after s.release refl
 
   same : d.table.config ≡ p.table.config

@@ -1,6 +1,6 @@
 -- Pages are settled one after the other.
-use Rattle.mk_cycle.proofs.Vocabulary.{AreFreeCells, Frees, FreesPage, GivesNothingBack, HasFreeCells, InTurn}
-use Rattle.mk_cycle.proofs.Vocabulary.{IsAtPhase, IsOccupied, IsSettledPage, PassState, SamePage, allocations_stand}
+use Rattle.mk_cycle.proofs.Vocabulary.{AreFreeCells, Frees, FreesPage, GivesNothingBack, HasFreeCells, IsAtPhase}
+use Rattle.mk_cycle.proofs.Vocabulary.{IsOccupied, IsSettledPage, IsTurn, PassState, SamePage, allocations_stand}
 use Rattle.mk_cycle.proofs.Vocabulary.{left_unmarked, now_of, page_state, stands, world_of}
 use Rattle.mk_cycle.proofs.PageSteps.{page_at_once, page_then, same_header, same_left, same_used}
 use Rattle.mk_cycle.proofs.{CleaningSteps.halves, GivingSteps.still_unmapped_word}
@@ -47,7 +47,7 @@ gives_none page {p = p} {b = b} k none =
     record { frees = page_at_once page k; header = same_header p b page (k.same page); none_left = none }
 
 -- Where no cell is used and none is released, none is freed.
-unused_freed : {p : PassState} → InTurn p → IsAtPhase p 4 → (h : ℕ) → used_at (now_of p).words h ≡ 0
+unused_freed : {p : PassState} → IsTurn p → IsAtPhase p 4 → (h : ℕ) → used_at (now_of p).words h ≡ 0
     → left_unmarked (now_of p).words h ≡ 0 → (k : ℕ) → has_bit (slice_index (now_of p).words.freed h) k ≡ false
 unused_freed {p} t at h unused none k =
     false_from_ne_true (has_bit (slice_index (now_of p).words.freed h) k)
@@ -63,7 +63,7 @@ unused_freed {p} t at h unused none k =
         parts.0 in
         true≢false (sym (has_bit_without _ _ k ∙ and_from _ _ first.1 parts.1) ∙ no_bit _ k none)
 
-pub empties_here : {p : PassState} → InTurn p → IsAtPhase p 4 → (page h : ℕ) → h ≡ head_page (now_of p).words page
+pub empties_here : {p : PassState} → IsTurn p → IsAtPhase p 4 → (page h : ℕ) → h ≡ head_page (now_of p).words page
     → used_at (now_of p).words h ≡ 0 → left_unmarked (now_of p).words h ≡ 0 → empties (now_of p).words page 0 ≡ true
 empties_here {p} t at page h is unused none =
     let w : Words = (now_of p).words in
@@ -76,7 +76,7 @@ empties_here {p} t at page h is unused none =
     (and_from _ _ (and_from _ _ (and_from _ _ refl (eq-eqb _ 0 unused)) (eq-eqb _ 0 freed)) (eq-eqb _ 0 snapshot))
 
 -- A page without freed cells has none in its snapshot.
-pub no_snapshot : {p : PassState} → InTurn p → (page : ℕ) → slice_index (now_of p).words.freed page ≡ 0
+pub no_snapshot : {p : PassState} → IsTurn p → (page : ℕ) → slice_index (now_of p).words.freed page ≡ 0
     → slice_index (now_of p).words.snapshot page ≡ 0
 no_snapshot {p} t page none =
     let w : Words = (now_of p).words in
@@ -106,7 +106,7 @@ pub same_occupied : (p q : PassState) (r : ℕ) → SamePage p q r → SamePage 
 same_occupied p q r same head_same = grind (arith, same_header, same_used)
 
 -- A later page of a run isn't past it.
-pub head_elsewhere : {q : PassState} → InTurn q → (n r : ℕ) → n < r
+pub head_elsewhere : {q : PassState} → IsTurn q → (n r : ℕ) → n < r
     → n + run_count (header_in (now_of q).words n) ≤ r → IsOccupied q r → head_page (now_of q).words r ≢ n
 head_elsewhere {q} t n r after past occupied = by (header_in (now_of q).words r) refl
   where
@@ -139,7 +139,7 @@ pub still_settled : {p q : PassState} {page : ℕ} (r : ℕ) → FreesPage page 
 still_settled r k lt h = grind (arith, same_left, same_occupied, head_before)
 
 -- what two looks say of the released cells
-pub marked_gone : {a b : PassState} (page quarantine marks : ℕ) → InTurn a → GivesNothingBack a b
+pub marked_gone : {a b : PassState} (page quarantine marks : ℕ) → IsTurn a → GivesNothingBack a b
     → quarantine ≡ quarantine_word (slice_index (now_of a).words.freed page)
     (slice_index (now_of a).words.snapshot page)
     → marks ≡ slice_index (now_of b).words.marks page
@@ -147,7 +147,7 @@ pub marked_gone : {a b : PassState} (page quarantine marks : ℕ) → InTurn a �
 marked_gone page quarantine marks t k word is = grind (arith, halves)
 
 -- where the snapshot is empty
-pub none_left_on : {a : PassState} (page quarantine : ℕ) → InTurn a → quarantine ≡ quarantine_word
+pub none_left_on : {a : PassState} (page quarantine : ℕ) → IsTurn a → quarantine ≡ quarantine_word
     (slice_index (now_of a).words.freed page) (slice_index (now_of a).words.snapshot page) → quarantine / 2 ^ 32 ≡ 0
     → left_unmarked (now_of a).words page ≡ 0
 none_left_on page quarantine t word none = grind (arith, none_left, halves)

@@ -7,12 +7,12 @@ pub use Rattle.mk_laws.proofs.{InvariantHistories.allocations_stand, LastEvents.
 pub use Rattle.mk_turns.proofs.{Doing.{does_nothing, does_step, does_then}, Sweeping.{does_sweep, only_seen_by}}
 pub use Rattle.mk_turns.proofs.Sweeping.{other_step_sweeps, sweeps_then}
 pub use Rattle.mk_words.{proofs.Made.{made}, specs.{Steps.{IsEnabledTo, Makes}, TurnSteps.{Acts, world_at}, Seats.Has}}
-pub use Rattle.mk_words.specs.States.{PassState, WordsState, call_of, event_of, now_of, world_of}
+pub use Rattle.mk_words.specs.States.{IsTurn, PassState, WordsState, call_of, event_of, now_of, world_of}
 pub use Rattle.mk_cycle.specs.{Cleaning.{Cleans, IsClean, WasUndirty}, EngineLaw.{IsAtPhase, IsFreeForCycle, IsTurnAt}}
 pub use Rattle.mk_cycle.specs.{EngineLaw.is_pending_free, FinishCycle.{HasReleased, HoldsFewer, newly_released}}
 pub use Rattle.mk_cycle.specs.Freeing.{AreFreeCells, Frees, FreesPage, GivesNothingBack, HasFreeCells, IsOccupied}
 pub use Rattle.mk_cycle.specs.Freeing.{IsSettledPage, IsUnmappedWord, IsZero, PageState, SamePage, page_state}
 pub use Rattle.mk_cycle.specs.{Holding.HoldsGates, Kinds.{clears, holds_gates, is_giving_back, sets_tallies}}
 pub use Rattle.mk_cycle.specs.ReleasedPages.{cells_unmarked, held_below, held_unmarked, released_below, released_on}
-pub use Rattle.mk_cycle.specs.{ReleasedPages.{sum_below, words_unmarked}, TurnKeeps.{Done, InTurn, IsGone, KeepsCall}}
+pub use Rattle.mk_cycle.specs.{ReleasedPages.{sum_below, words_unmarked}, TurnKeeps.{Done, IsGone, KeepsCall}}
 pub use Rattle.mk_cycle.specs.{TurnKeeps.{KeepsGates, LeavesTurn, done_of}, declared.finishing.Released.Released}

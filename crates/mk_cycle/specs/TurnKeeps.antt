@@ -2,8 +2,8 @@
 use Rattle.std.specs.Prelude.{◌≡◌, ℕ, ◌<◌, true, [], Option}
 use Rattle.mk_core.specs.{declared.seats.Placing.Placing, declared.seats.OwnCycle.OwnCycle}
 use Rattle.mk_core.specs.{declared.seats.RunPages.RunPages, Frames.{Steady, steady_of, CountsAreLeft}}
-use Rattle.mk_core.specs.{Moments.{Moment, is_held}, NewPlaces.is_run_gone, Readings.Holds, History.IsHistory}
-use Rattle.mk_words.specs.{Seats.Has, States.{PassState, world_of, now_of, call_of}}
+use Rattle.mk_core.specs.{Moments.{Moment, is_held}, NewPlaces.is_run_gone}
+use Rattle.mk_words.specs.States.{PassState, world_of, now_of, call_of}
 
 -- what was done in the turn, but for the last look: the place of a New, the run that a Free freed, and the own cycle
 pub record Done : Type 0 where
@@ -36,12 +36,6 @@ pub record LeavesTurn (view : Steady → Steady) (p q : PassState) : Type 0 wher
 -- The holder holds the same gates.
 abbrev pub KeepsGates : PassState → PassState → Type 0
 KeepsGates p q = (j : ℕ) → j < p.table.config.callers → is_held (now_of q).words j ≡ is_held (now_of p).words j
-
--- Of a turn it is known whose it is, and that what it has seen is a history.
-pub record InTurn (p : PassState) : Type 0 where
-  pub own : Has p.seats p.seat
-  pub holds : Holds p.table.config (now_of p) p.seat
-  pub history : IsHistory p.table.config p.seen
 
 -- views
 

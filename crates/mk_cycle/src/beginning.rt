@@ -6,7 +6,6 @@ ghost use Rattle.mk_cycle.specs.EngineLaw.{IsFreeForCycle, IsAtPhase};
 
 use crate::cleaning::clean_pages;
 use crate::engine::Engine;
-use crate::turn_steps::in_turn;
 use mk_core::Tally;
 use mk_words::{Turn, Words};
 use std::sync::Wait;
@@ -30,7 +29,6 @@ pub fn begin_cycle<E: Engine, R: Threads + Wait + Sync>(
     ensures last { IsBegunLast E.begins turn.old.pass turn.new.pass }
 {
     clean_pages(turn, words);
-    in_turn(turn);
     turn.tally(words, Tally::Fresh, 0);
     turn.begin(words);
     engine.begin(rt, words, turn);

@@ -8,7 +8,7 @@ ghost use Rattle.mk_cycle.specs.Cleaning.{Cleans, IsUnmarked, IsUnscanned, HasTa
 ghost use Rattle.mk_cycle.specs.{Cleaning.WasUndirty, EngineLaw.{IsTurnAt, is_register}};
 
 use crate::bits::FREED_END;
-use crate::turn_steps::{in_turn, look, look_among, next_in_use, next_quarantined, next_uncleaned};
+use crate::turn_steps::{look, look_among};
 use mk_core::Word;
 use mk_words::{Turn, Words};
 
@@ -35,7 +35,6 @@ fn clear_marks(turn: &mut Turn, words: &Words, page: u64, marks: u64)
     ensures unmarked { IsUnmarked turn.new.pass page }
 {
     if marks != 0 {
-        in_turn(turn);
         turn.clear(words, page);
     }
 }
@@ -50,7 +49,6 @@ fn clear_black(turn: &mut Turn, words: &Words, page: u64, blacks: u64)
     ensures unscanned { IsUnscanned turn.new.pass page }
 {
     if blacks != 0 {
-        in_turn(turn);
         turn.unblack(words, page);
     }
 }
@@ -64,7 +62,6 @@ fn clear_dirty(turn: &mut Turn, words: &Words, page: u64, dirty: u64)
     ensures undirty { dirty ≢ 0 → WasUndirty page turn.old.pass turn.new.pass }
 {
     if dirty != 0 {
-        in_turn(turn);
         turn.undirty(words, page);
     }
 }
@@ -153,7 +150,7 @@ fn clean_free_pages(turn: &mut Turn, words: &Words)
 {
     words.is_within_limits();
     let mut from = 0;
-    while let Some(page) = next_uncleaned(turn, from) {
+    while let Some(page) = turn.next_uncleaned(from) {
         clean_free(turn, words, page);
         from = page + 1;
     }
@@ -170,7 +167,7 @@ fn clean_pages_in_use(turn: &mut Turn, words: &Words)
     words.is_within_limits();
     let pages = words.pages();
     let mut from = 0;
-    while let Some(page) = next_in_use(turn, from) {
+    while let Some(page) = turn.next_in_use(from) {
         clean_page(turn, words, pages, page);
         from = page + 1;
     }
@@ -184,7 +181,7 @@ fn take_snapshots(turn: &mut Turn, words: &Words)
 {
     words.is_within_limits();
     let mut from = 0;
-    while let Some(page) = next_quarantined(turn, from) {
+    while let Some(page) = turn.next_quarantined(from) {
         copy_freed(turn, words, page);
         from = page + 1;
     }

@@ -6,7 +6,7 @@ ghost use Rattle.mk_core.specs.Words.{named_word};
 ghost use Rattle.mk_geom.specs.Headers.{header_of};
 ghost use Rattle.mk_words.specs.States.{now_of};
 ghost use Rattle.mk_cycle.specs.{ReleasedPages.IsOfOnePage, EngineLaw.{IsTurnAt, is_register}};
-ghost use Rattle.mk_cycle.specs.{Freeing.GivesNothingBack, TurnKeeps.InTurn};
+ghost use Rattle.mk_cycle.specs.Freeing.{GivesNothingBack};
 
 use crate::finishing::Released;
 use crate::reading::ReadHeader;
@@ -39,7 +39,6 @@ pub(crate) fn held_words(header: &ReadHeader, words: u64) -> u64
 }
 
 /// Looks at a word that is no register, while nothing is given back, in a table of this many pages.
-#[tactic(auto, using(crate::proofs::Allowed::in_turn_after))]
 #[inline(always)]
 pub(crate) fn look(turn: &mut Turn, words: &Words, pages: u64, x: Word) -> u64
     requires turn { IsTurnAt 4 words.now turn.old.pass }
@@ -47,7 +46,6 @@ pub(crate) fn look(turn: &mut Turn, words: &Words, pages: u64, x: Word) -> u64
     requires in_range { is_word words.now.config x ≡ true }
     requires no_register { is_register x ≡ false }
     ensures frees { GivesNothingBack turn.old.pass turn.new.pass }
-    ensures is { InTurn turn.new.pass }
     ensures reads { result ≡ named_word (now_of turn.new.pass).words x }
 {
     turn_steps::look_among(turn, words, pages, x)

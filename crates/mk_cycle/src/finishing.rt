@@ -8,7 +8,6 @@ use crate::engine::Engine;
 use crate::giving::give_all_back;
 use crate::settling::Settled;
 use crate::tallying::count_cycle;
-use crate::turn_steps::in_turn;
 use mk_words::{Turn, Words};
 use std::sync::Wait;
 use std::thread::Threads;
@@ -42,7 +41,6 @@ pub fn finish_cycle<E: Engine, R: Threads + Wait + Sync>(
 {
     let (mut turn, settled) = give_all_back(rt, words, turn, engine);
     let Settled { released, held } = settled;
-    in_turn(&turn);
     turn.end(words);
     count_cycle(&mut turn, words, held, released.count);
     (turn, released)

@@ -10,7 +10,7 @@ use crate::counting::{self, held_words, released_cells};
 use crate::finishing::Released;
 use crate::reading::ReadHeader;
 use crate::settling::Settled;
-use crate::turn_steps::{in_turn, look_among};
+use crate::turn_steps::look_among;
 use crate::wiping::wipe_released;
 use mk_core::{Word, without};
 use mk_words::{Turn, Words};
@@ -36,7 +36,6 @@ fn give_back(
 {
     let used = look_among(turn, words, pages, Word::Used(page));
     wipe_released(turn, words, pages, page, header, used & gone);
-    in_turn(turn);
     turn.used(words, page, without(used, gone));
     let freed = without(quarantine % FREED_END, gone);
     let snapshot = quarantine / FREED_END - gone;

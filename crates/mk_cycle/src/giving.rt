@@ -22,10 +22,8 @@ fn open_gates(words: &Words, stop: Stopped) -> Turn
     ensures opens { GivesNothingBack stop.pass result.pass }
     ensures gates { none_is_held stop.pass.table.config.callers (now_of result.pass).words ≡ true }
 {
-    stop.is_in_order();
-    let turn = stop.open_all(words);
-    turn.is_in_order();
-    turn
+    stop.holds_gates();
+    stop.open_all(words)
 }
 
 /// Stops all other callers, closes the marks, releases what is unmarked, opens the gates, and gives back what was

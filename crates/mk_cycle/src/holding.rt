@@ -4,7 +4,7 @@ ghost use Rattle.mk_core.specs.Moments.{is_held, is_number_of, others_are_held};
 ghost use Rattle.mk_words.specs.States.{now_of};
 ghost use Rattle.mk_cycle.specs.{EngineLaw.IsFreeForCycle, Holding.{HoldsGates, IsHeldOrOwn}};
 
-use crate::turn_steps::{in_turn, look};
+use crate::turn_steps::look;
 use crossbeam_utils::Backoff;
 use mk_core::{Seat, Word};
 use mk_words::{Turn, Words};
@@ -23,7 +23,6 @@ fn try_hold(turn: &mut Turn, words: &Words, caller: u64) -> bool
     ensures holds { HoldsGates turn.old.pass turn.new.pass }
     ensures held { result ≡ true → is_held (now_of turn.new.pass).words caller ≡ true }
 {
-    in_turn(turn);
     turn.try_hold(words, caller).is_ok()
 }
 

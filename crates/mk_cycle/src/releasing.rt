@@ -32,10 +32,7 @@ pub(crate) fn release_unmarked<E: Engine, R: Threads + Wait + Sync>(
     ensures promised { ClosesAsPromised E.sweeps (E.tells engine.new)
         (E.closes engine.new) stop.old.pass stop.new.pass }
 {
-    stop.is_in_order();
     engine.close_marks(rt, words, stop);
-    stop.is_in_order();
     stop.close_phase(words);
-    stop.is_in_order();
     stop.release(words);
 }

@@ -6,12 +6,11 @@ ghost use Rattle.mk_page_map.specs.Members.{IsNext};
 ghost use Rattle.mk_words.specs.States.{now_of};
 ghost use Rattle.mk_cycle.specs.{EngineLaw.IsTurnAt, Freeing.{Frees, FreesPage, HasFreeCells, IsOccupied}};
 ghost use Rattle.mk_cycle.specs.{Freeing.{IsSettledPage, may_be_unsettled}, ReleasedPages.{IsOfOnePage, held_below}};
-ghost use Rattle.mk_cycle.specs.{ReleasedPages.{held_unmarked, released_below, released_on}, TurnKeeps.InTurn};
+ghost use Rattle.mk_cycle.specs.ReleasedPages.{held_unmarked, released_below, released_on};
 
 use crate::finishing::Released;
 use crate::freeing::release_cells;
 use crate::reading::ReadHeader;
-use crate::turn_steps::{known_page, next_quarantined};
 use mk_words::{Turn, Words};
 
 /// What was released, and how many of its words were held until then.
@@ -32,7 +31,7 @@ fn free_unused(turn: &mut Turn, words: &Words, page: u64, head: u64)
     ensures frees { FreesPage page turn.old.pass turn.new.pass }
     ensures settled { IsSettledPage turn.new.pass page }
 {
-    if known_page(turn, head).used == 0 {
+    if turn.page(head).used == 0 {
         turn.head(words, page, 0);
     }
 }
@@ -69,11 +68,10 @@ fn settle_taken(
 #[inline(always)]
 fn next_to_settle(turn: &Turn, pages: u64, from: u64, end: u64) -> Option<u64>
     requires pages { pages ≡ turn.now.pass.table.config.pages }
-    ensures is { InTurn turn.now.pass }
-    ensures next { IsNext (may_be_unsettled (now_of turn.now.pass).words end) from turn.now.pass.table.config.pages
+    ensures { IsNext (may_be_unsettled (now_of turn.now.pass).words end) from turn.now.pass.table.config.pages
         result }
 {
-    let next = next_quarantined(turn, from);
+    let next = turn.next_quarantined(from);
     let known = end.min(pages);
     if from < known {
         return Some(from);
@@ -104,7 +102,7 @@ pub(crate) fn settle_pages(turn: &mut Turn, words: &Words) -> Settled
     let mut from = 0;
     let mut end = 0;
     while let Some(page) = next_to_settle(turn, pages, from, end) {
-        let word = known_page(turn, page).header;
+        let word = turn.page(page).header;
         let header = ReadHeader::of(word);
         let here = settle_taken(turn, words, pages, page, &header);
         all.count += here.released.count;

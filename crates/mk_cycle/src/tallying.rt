@@ -5,7 +5,7 @@ ghost use Rattle.mk_words.specs.States.{now_of};
 ghost use Rattle.mk_cycle.specs.{EngineLaw.{IsFreeForCycle, is_register}, Tallying.{Sets, with_cycle_counted}};
 ghost use Rattle.mk_cycle.specs.{Tallying.with_tally, TurnKeeps.unchanged};
 
-use crate::turn_steps::{self, in_turn};
+use crate::turn_steps;
 use mk_core::{Tally, Word};
 use mk_words::{Turn, Words};
 
@@ -29,7 +29,6 @@ fn set(turn: &mut Turn, words: &Words, n: Tally, v: u64)
     requires free { IsFreeForCycle turn.old.pass }
     ensures { Sets (with_tally n v) turn.old.pass turn.new.pass }
 {
-    in_turn(turn);
     turn.tally(words, n, v);
 }
 

@@ -4,11 +4,9 @@ ghost use Rattle.mk_core.specs.{Bits.has_bit, Cells.words_under};
 ghost use Rattle.mk_geom.specs.Headers.{header_of};
 ghost use Rattle.mk_words.specs.States.{now_of};
 ghost use Rattle.mk_cycle.specs.{EngineLaw.IsTurnAt, Freeing.{AreFreeCells, GivesNothingBack, IsZero, IsUnmappedWord}};
-ghost use Rattle.mk_cycle.specs.TurnKeeps.{InTurn};
 
 use crate::bits::lowest_bit;
 use crate::reading::ReadHeader;
-use crate::turn_steps::in_turn;
 use mk_core::{Word, bit, without};
 use mk_words::{Turn, Words};
 
@@ -23,10 +21,8 @@ fn look_at_heap(turn: &mut Turn, words: &Words, pages: u64, page: u64, word: u64
     requires within { word < 64 * words.now.config.pages }
     requires page { page ≡ word / 64 }
     ensures frees { GivesNothingBack turn.old.pass turn.new.pass }
-    ensures is { InTurn turn.new.pass }
     ensures reads { result ≡ slice_index (now_of turn.new.pass).words.heap word }
 {
-    in_turn(turn);
     turn.look_on_page(words, pages, page, Word::Heap(word))
 }
 

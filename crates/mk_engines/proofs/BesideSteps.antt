@@ -16,8 +16,8 @@ use Rattle.mk_core.specs.{Effects.hand_given, Frames.steady_of, Growing.Finding,
 use Rattle.mk_core.specs.{StopConditions.marks_by_hand, Words.named_word, declared.seats.Source.TheVariants.Root}
 use Rattle.mk_cycle.proofs.{Allowed.{in_turn_before, look_allowed, protocol}, OwnSteps.{done_in, keeps_call}}
 use Rattle.mk_cycle.proofs.{OwnSteps.keeps_counts, CleaningSteps.calm_keeps, KeptInParts.{gates_behind, held_so}}
-use Rattle.mk_cycle.{proofs.MayAct.{may_act}, specs.Kinds.{begins_marking}}
-use Rattle.mk_cycle.specs.{TurnKeeps.{InTurn, KeepsGates, LeavesTurn, unchanged}, EngineLaw.is_register}
+use Rattle.mk_cycle.proofs.MayAct.{may_act}
+use Rattle.mk_cycle.specs.{TurnKeeps.{KeepsGates, LeavesTurn, unchanged}, EngineLaw.is_register, Kinds.begins_marking}
 use Rattle.mk_engines.proofs.{MarksBeside.{gates_at_once, goes_nowhere, still_beside}, Since.{done_step, keeps_step}}
 use Rattle.mk_engines.specs.Beside.{FindsInRoot, GoesBeside, IsBeside, IsOpenToLook, KeepsOtherGates, StaysWell}
 use Rattle.mk_engines.specs.Beside.{found_well, gives_no_hand, looks_at_root}
@@ -27,7 +27,7 @@ use Rattle.mk_tracing.specs.{Grays.{HandPointsInto, IsInHand, TracesReached}, St
 use Rattle.mk_turns.proofs.{Doing.does_step, PointedCells.{found_there, looked_for}}
 use Rattle.mk_turns.specs.Pointing.{LooksForCell, MayLookAtHeaders}
 use Rattle.mk_words.{proofs.Made.{own_before, stands_behind_others}, specs.{Steps.found_by, TurnSteps.{Acts, world_at}}}
-use Rattle.mk_words.specs.{States.{PassState, TurnState, call_of, event_of, now_of}, Steps.{Finds, IsEnabledTo}}
+use Rattle.mk_words.specs.{States.{IsTurn, PassState, TurnState, call_of, event_of, now_of}, Steps.{Finds, IsEnabledTo}}
 
 -- words that give no hand
 
@@ -50,7 +50,7 @@ root_is_no_heap_word c m _ h = tt
 
 -- Which steps may come.
 
-module _ {p : PassState} (t : InTurn p) (b : IsBeside p) where
+module _ {p : PassState} (t : IsTurn p) (b : IsBeside p) where
   pub may_look_at_root : (x : Word) → is_word p.table.config x ≡ true → is_root x ≡ true → IsOpenToLook p x
       → IsEnabledTo p (Step.Look x)
   may_look_at_root x range root seen =
@@ -168,7 +168,7 @@ module _ {p q : PassState} {x : Word} (a : Acts p (Step.Look x) q) where
 
 -- The cell into which a value points is looked for.
 
-pub may_look_at_headers : {p : PassState} → InTurn p → IsBeside p → MayLookAtHeaders p
+pub may_look_at_headers : {p : PassState} → IsTurn p → IsBeside p → MayLookAtHeaders p
 may_look_at_headers {p} t b page lt = look_allowed p t b.free (Word.Head page) (lt-ltb page _ lt) refl
 
 module _ {value : ℕ} {t u : TurnState} (l : LooksForCell value t u) where

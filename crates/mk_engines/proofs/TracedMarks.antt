@@ -1,8 +1,8 @@
 -- Tracing in the stop meets the law of engines. Most of it holds of each engine that marks in the stop alone.
 use Rattle.std.proofs.{Common.count_by, lemmas.List.Sums.sum_by-cons}
-use Rattle.mk_laws.proofs.Vocabulary.{Bool, Caller, Config, Holds, Host, IsHistory, List, Marker, MarksAreClosed}
-use Rattle.mk_laws.proofs.Vocabulary.{Moment, Protocol, Seat, Steady, Step, Words, ℕ, ap, arith, cond, false, flight_of}
-use Rattle.mk_laws.proofs.Vocabulary.{is_run_gone, refl, sym, true, [], ◌&&◌, ◌+◌, ◌∙◌, ◌∷◌, ◌≡◌}
+use Rattle.mk_laws.proofs.Vocabulary.{Bool, Caller, Config, Holds, Host, List, Marker, MarksAreClosed, Moment, Protocol}
+use Rattle.mk_laws.proofs.Vocabulary.{Seat, Steady, Step, Words, ℕ, ap, arith, cond, false, flight_of, is_run_gone}
+use Rattle.mk_laws.proofs.Vocabulary.{refl, sym, true, [], ◌&&◌, ◌+◌, ◌∙◌, ◌∷◌, ◌≡◌}
 use Rattle.mk_core.specs.{Frames.CountsAreLeft, Growing.Finding}
 use Rattle.mk_laws.proofs.Protocols.{lists_keep_the_protocol}
 use Rattle.mk_cycle.proofs.KeptInParts.{keeps_at_once}
@@ -12,7 +12,7 @@ use Rattle.mk_cycle.specs.Kinds.{begins_marking, closes_marks, is_want as is_wis
 use Rattle.mk_tracing.specs.Tracing.{Counted, Traces, Untouched, is_tracing, is_want, untouched_of}
 use Rattle.mk_tracing.specs.{Grays.TracesReached, Stops.HolderIsLoaded, Stops.IsWanted, Stops.is_loaded}
 use Rattle.mk_turns.{proofs.Doing.does_nothing, specs.Doing.Does, specs.Doing.are_of, specs.Doing.done_in}
-use Rattle.mk_words.specs.{States.PassState, States.now_of, States.world_of, Steps.IsEnabledTo}
+use Rattle.mk_words.specs.{States.IsTurn, States.PassState, States.now_of, States.world_of, Steps.IsEnabledTo}
 
 -- A call that is free for a cycle has loaded what it loads.
 
@@ -22,11 +22,10 @@ loaded_of {m} (Caller k) p holds decided = grind arith
 loaded_of (Marker k) p holds decided = refl
 loaded_of Host p holds decided = refl
 
-pub ready_of : (p : PassState) → IsHistory p.table.config p.seen → Holds p.table.config (now_of p) p.seat
-    → IsFreeForCycle p → HolderIsLoaded p
-ready_of p history holds free =
-    let protocol = lists_keep_the_protocol p.table.config p.seen history.within_limits history.enabled in
-    record { loaded = loaded_of p.seat protocol holds free.decided }
+pub ready_of : {p : PassState} → IsTurn p → IsFreeForCycle p → HolderIsLoaded p
+ready_of {p} t free =
+    let protocol = lists_keep_the_protocol p.table.config p.seen t.history.within_limits t.history.enabled in
+    record { loaded = loaded_of p.seat protocol t.holds free.decided }
 
 -- Its kinds are those of the law.
 

@@ -23,7 +23,6 @@ pub(crate) fn look_at(words: &Words, turn: &mut Turn, x: Word) -> u64
     ensures hand { hand_of turn.new.pass ≡ hand_of turn.old.pass }
     ensures reads { result ≡ named_word (now_of turn.new.pass).words x }
 {
-    turn.is_in_order();
     turn.look(words, x)
 }
 
@@ -39,7 +38,6 @@ pub(crate) fn look_at_root(words: &Words, turn: &mut Turn, x: Word) -> u64
     ensures gates { KeepsGates turn.old.pass turn.new.pass }
     ensures hand { IsInHand turn.new.pass result }
 {
-    turn.is_in_order();
     turn.look(words, x)
 }
 
@@ -52,7 +50,6 @@ pub(crate) fn mark_cell(words: &Words, turn: &mut Turn, cell: Cell)
     ensures gates { KeepsGates turn.old.pass turn.new.pass }
     ensures marked { is_marked (now_of turn.new.pass).words cell ≡ true }
 {
-    turn.is_in_order();
     turn.mark(words, cell.page, bit(cell.index));
 }
 
@@ -67,7 +64,6 @@ pub(crate) fn try_hold(words: &Words, turn: &mut Turn, caller: u64) -> bool
     ensures others { KeepsOtherGates caller turn.old.pass turn.new.pass }
     ensures held { is_held (now_of turn.new.pass).words caller ≡ result }
 {
-    turn.is_in_order();
     turn.try_hold(words, caller).is_ok()
 }
 
@@ -82,6 +78,5 @@ pub(crate) fn open_gate(words: &Words, turn: &mut Turn, caller: u64)
     ensures others { KeepsOtherGates caller turn.old.pass turn.new.pass }
     ensures opened { is_held (now_of turn.new.pass).words caller ≡ false }
 {
-    turn.is_in_order();
     turn.open_gate(words, caller);
 }

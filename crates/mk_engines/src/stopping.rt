@@ -26,6 +26,5 @@ pub(crate) fn close_by_tracing<R: Wait>(
     ensures reached { SweepsNothing stop.old.pass stop.new.pass }
     ensures traces { Traces is_tracing TracesReached stop.old.pass stop.new.pass }
 {
-    stop.is_in_order();
     close_marks(rt, words, stop, work);
 }

@@ -35,7 +35,6 @@ pub(crate) fn mark_value(words: &Words, turn: &mut Turn, value: u64)
     ensures gates { KeepsGates turn.old.pass turn.new.pass }
     ensures well { points_well words.now.config.pages (now_of turn.new.pass).words value ≡ true }
 {
-    turn.is_in_order();
     let Some(cell) = cell_pointed(words, turn, value) else {
         return;
     };

@@ -5,7 +5,7 @@ use Rattle.mk_sweep.proofs.Vocabulary.{Caller, Cell, Config, Event, HasMarkers, 
 use Rattle.mk_sweep.proofs.Vocabulary.{Steady, Step, World, has_bit, is_marked, world_behind}
 use Rattle.mk_laws.proofs.Vocabulary.{Bool, IsEnabled, List, ℕ, ap, arith, cases_Bool, enabled_meets, false}
 use Rattle.mk_laws.proofs.Vocabulary.{false_from_ne_true, holder_number, inl, inr, is_one_of, list_any, refl}
-use Rattle.mk_laws.proofs.Vocabulary.{slice_index, subst, sym, true, true≢false, [], ◌++◌, ◌+◌, ◌<◌, ◌∙◌, ◌∷◌, ◌≡◌, ◌≢◌}
+use Rattle.mk_laws.proofs.Vocabulary.{slice_index, subst, sym, true, true≢false, [], ◌++◌, ◌+◌, ◌<◌, ◌∙◌, ◌∷◌, ◌≡◌}
 use Rattle.mk_laws.proofs.{Known.{Known, holds_turn, known_behind}, OthersMoves.{OthersMove, WorldBehind, others_move}}
 use Rattle.mk_laws.proofs.{Actors.is_holders, FramesHolders.acts_as_holder, Orderly.{same_holder, turn_of}}
 use Rattle.mk_laws.proofs.{OrderlyLists.actor_of, PrecisionStepKinds.both_fail, Protocols.protocol_of}

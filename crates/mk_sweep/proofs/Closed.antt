@@ -52,18 +52,17 @@ closed_still closed = grind arith
 pub roots_now : {pages : ℕ} (w : Words) → RootsPointWell pages (record w { phase = 0 }) → RootsPointWell pages w
 roots_now w roots = record { registers = roots.registers; globals = roots.globals }
 
-pub closed_behind : (words : WordsState) (t u : TurnState) → words ≡ u.pass.table
-    → IsHistory u.pass.table.config u.pass.seen → IsSettled (world_of u.pass)
+pub closed_behind : (words : WordsState) (t u : TurnState) → words ≡ u.pass.table → IsSettled (world_of u.pass)
     → MarksMore (still_words t.pass) (still_words u.pass) → RootsPointWell words.config.pages (still_words t.pass)
     → PointWell words.config.pages (still_words u.pass) (words_below (still_words t.pass) words.config.pages)
     → CellsAreClosed words.config (still_words u.pass)
-closed_behind words t u table history settled more roots well =
+closed_behind words t u table settled more roots well =
     let w : Words = (now_of u.pass).words in
     let same : words_below (still_words t.pass) words.config.pages ≡ words_below w words.config.pages = grind arith in
     let well_there : PointWell u.pass.table.config.pages w (words_below w u.pass.table.config.pages) = grind arith in
     let roots_there : RootsPointWell u.pass.table.config.pages w = grind (arith, roots_now, roots_stay) in
     subst (λ (x : WordsState). CellsAreClosed x.config (still_words u.pass)) (sym table)
-    (closed_still (cells_closed u.pass.table.config u.pass.seen history settled well_there roots_there))
+    (closed_still (cells_closed u.pass.table.config u.pass.seen u.in_order.history settled well_there roots_there))
 
 -- Black bits leave what points well.
 pub well_when_black : (pages : ℕ) {w v : Words} (ns : List ℕ) → BlacksMore w v → PointWell pages w ns

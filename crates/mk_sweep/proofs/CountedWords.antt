@@ -6,7 +6,7 @@ use Rattle.mk_sweep.proofs.Vocabulary.{words_if, words_of_cells, words_on, words
 use Rattle.mk_laws.proofs.Vocabulary.{Bool, List, ℕ, and_from, and_parts, ap, arith, cases_eq, cases_lt, cond, eq-eqb}
 use Rattle.mk_laws.proofs.Vocabulary.{false, get_or, if◌then◌else◌, inl, inr, le-leb, leb-true, length, lt-ltb}
 use Rattle.mk_laws.proofs.Vocabulary.{ltb-true, nat_le, nat_lt, ne_eqb, refl, subst, suc, sym, true, true≢false, zero}
-use Rattle.mk_laws.proofs.Vocabulary.{[], ◌&&◌, ◌*◌, ◌++◌, ◌+◌, ◌-◌, ◌<◌, ◌==◌, ◌∙◌, ◌∷◌, ◌≡◌, ◌≢◌, ◌≤◌, ◌⊎◌}
+use Rattle.mk_laws.proofs.Vocabulary.{[], ◌&&◌, ◌*◌, ◌++◌, ◌+◌, ◌<◌, ◌==◌, ◌∙◌, ◌∷◌, ◌≡◌, ◌≢◌, ◌≤◌, ◌⊎◌}
 use Rattle.mk_laws.proofs.CoveredWords.{one_part}
 use Rattle.mk_cycle.{proofs.SumsBelow.{counted_by_key, sum_same}, specs.ReleasedPages.{sum_below}}
 

@@ -1,11 +1,11 @@
 -- Which heap words were looked at: in parts, and by one step.
-use Rattle.std.proofs.lemmas.List.{append_cancel_left}
-use Rattle.mk_sweep.proofs.Vocabulary.{Config, Event, Has, Moment, PassState, Step, event_of, heap_looks}
+use Rattle.mk_sweep.proofs.Vocabulary.{Event, PassState, Step, heap_looks}
 use Rattle.mk_laws.proofs.Vocabulary.{Bool, List, and_parts, ap, append-nil, append_assoc, arith, refl, sym, true, []}
 use Rattle.mk_laws.proofs.Vocabulary.{◌++◌, ◌∙◌, ◌∷◌, ◌≡◌}
 use Rattle.mk_core.specs.Growing.{Finding, own_from}
 use Rattle.mk_sweep.specs.Sweeping.{word_looked_at, words_looked_at}
-use Rattle.mk_tracing.{proofs.Parts.done_by_one, specs.Tracing.is_waiting}
+use Rattle.mk_tracing.proofs.Parts.{done_by_one, more_in_parts, more_of_nothing, more_of_step}
+use Rattle.mk_tracing.specs.Tracing.{is_waiting}
 use Rattle.mk_turns.{proofs.Doing.done_in_parts, specs.Doing.Does, specs.Doing.are_of, specs.Doing.done_in}
 use Rattle.mk_words.specs.Steps.{Makes}
 
@@ -14,42 +14,26 @@ looked_at_in_parts [] ys = refl
 looked_at_in_parts (x ∷ xs) ys =
     cc (looked_at_in_parts xs ys, append_assoc (word_looked_at x.event.step) (words_looked_at xs) (words_looked_at ys))
 
--- what is done from one pass to another is one list of events, whichever kinds are allowed
-done_is : {kinds : Step → Bool} {p q : PassState} (d : Does kinds p q) (es : List Event)
-    → q ≡ record p { seen = p.seen ++ es } → d.more ≡ es
-done_is {p} d es is = append_cancel_left p.seen d.more es (ap (λ (x : PassState). x.seen) (sym d.is ∙ is))
-
 none_done : (p : PassState) → words_looked_at (done_in p []) ≡ []
 unfolding own_from
 none_done p = refl
 
 pub looks_of_nothing : {kinds : Step → Bool} {p : PassState} (d : Does kinds p p) → heap_looks d ≡ []
-looks_of_nothing {p} d =
-    cc (done_is d [] (sym (ap (λ (es : List Event). record p { seen = es }) (append-nil p.seen))), none_done p)
+looks_of_nothing {p} d = cc (more_of_nothing d, none_done p)
 
 pub looks_in_parts : {kinds more both : Step → Bool} {p q r : PassState} (d : Does kinds p q) (e : Does more q r)
     (f : Does both p r) → heap_looks f ≡ heap_looks d ++ heap_looks e
 looks_in_parts {p} {r} d e f =
-    ap (λ (es : List Event). words_looked_at (done_in p es)) (done_is f (d.more ++ e.more)
-    (cc (e.is, d.is, append_assoc p.seen d.more e.more)))
+    ap (λ (es : List Event). words_looked_at (done_in p es)) (more_in_parts d e f)
     ∙ ap words_looked_at (done_in_parts p d.more e.more)
     ∙ looked_at_in_parts (done_in p d.more) (done_in (record p { seen = p.seen ++ d.more }) e.more)
     ∙ ap (λ (x : PassState). heap_looks d ++ words_looked_at (done_in x e.more)) (sym d.is)
 
-no_rule : Config → Moment → Step → Type 0
-no_rule c m s = ⊥
-
-no_kind : Step → Bool
-no_kind s = true
-
 pub looks_of_step : {kinds : Step → Bool} {p q : PassState} {s : Step} (m : Makes p s q) (d : Does kinds p q)
-    → Has p.seats p.seat → heap_looks d ≡ word_looked_at s
-looks_of_step {kinds} {p} {q} {s} m d has =
-    ap (λ (es : List Event). words_looked_at (done_in p es)) (done_is d (m.others ++ event_of p s ∷ []) is)
-    ∙ ap words_looked_at (done_by_one kinds no_rule no_kind p q s m has) ∙ append-nil (word_looked_at s)
-  where
-    is : q ≡ record p { seen = p.seen ++ (m.others ++ event_of p s ∷ []) }
-    is = m.is ∙ ap (λ (es : List Event). record p { seen = es }) (append_assoc p.seen m.others (event_of p s ∷ []))
+    → heap_looks d ≡ word_looked_at s
+looks_of_step {p} {s} m d =
+    ap (λ (es : List Event). words_looked_at (done_in p es)) (more_of_step m d)
+    ∙ ap words_looked_at (done_by_one m) ∙ append-nil (word_looked_at s)
 
 -- Waiting for the markers looks at none.
 

@@ -1,5 +1,4 @@
 -- What the law of engines asks on entry, and what a stop keeps of it.
-use Rattle.std.proofs.Common.{arith}
 use Rattle.mk_sweep.proofs.Vocabulary.{PassState, Untouched, Words, now_of, untouched_of, world_of}
 use Rattle.mk_laws.{proofs.Vocabulary.{Bool, ap, true, ◌∙◌, ◌≡◌}, specs.SettledPages.{is_freed_unmapped}}
 pub use Rattle.mk_engines.proofs.TracedMarks.{ready_of}

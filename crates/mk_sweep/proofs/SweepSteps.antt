@@ -1,19 +1,18 @@
 -- Each step of a sweep goes on with it.
-use Rattle.mk_sweep.proofs.Vocabulary.{Acts, Cell, Config, InGlobal, InRegister, InWord, IsEnabledTo, IsHistory}
-use Rattle.mk_sweep.proofs.Vocabulary.{IsScannedWord, IsSettled, IsSweptValue, Moment, PassState, PlacedAllocation}
-use Rattle.mk_sweep.proofs.Vocabulary.{Step, SweepsBy, SweepsOn, TurnState, Untouched, Words, WordsState, World}
-use Rattle.mk_sweep.proofs.Vocabulary.{cell_of_allocation, event_of, has_no_pointers, header_in, is_marked, now_of}
-use Rattle.mk_sweep.proofs.Vocabulary.{others_are_held, phase_of, placed_at, pointed_cell, still_words, untouched_of}
-use Rattle.mk_sweep.proofs.{Vocabulary.world_of, Done.{looks_in_parts, looks_of_nothing, looks_of_step}}
-use Rattle.mk_sweep.proofs.{Kept.unmapped_kept, ScannedCells.{mapped_cell, scanned_stands}}
+use Rattle.mk_sweep.proofs.Vocabulary.{Acts, Cell, Config, InGlobal, InRegister, InWord, IsEnabledTo, IsScannedWord}
+use Rattle.mk_sweep.proofs.Vocabulary.{IsSettled, IsSweptValue, Moment, PassState, PlacedAllocation, Step, SweepsBy}
+use Rattle.mk_sweep.proofs.Vocabulary.{SweepsOn, TurnState, Untouched, Words, WordsState, World, cell_of_allocation}
+use Rattle.mk_sweep.proofs.Vocabulary.{event_of, has_no_pointers, header_in, is_marked, now_of, others_are_held}
+use Rattle.mk_sweep.proofs.Vocabulary.{phase_of, placed_at, pointed_cell, still_words, untouched_of, world_of}
+use Rattle.mk_sweep.proofs.{Done.{looks_in_parts, looks_of_nothing, looks_of_step}, Kept.unmapped_kept}
+use Rattle.mk_sweep.proofs.ScannedCells.{mapped_cell, scanned_stands}
 use Rattle.mk_laws.proofs.Vocabulary.{Bool, Hand, Holding, List, None, Option, Some, Word, ℕ, address_of, and_from}
 use Rattle.mk_laws.proofs.Vocabulary.{and_parts, ap, append-nil, arith, eq-eqb, false, found, if◌then◌else◌, lt-ltb}
 use Rattle.mk_laws.proofs.Vocabulary.{ne_eqb, or_else, page_at_address, refl, slice_index, subst, sym, true}
 use Rattle.mk_laws.proofs.Vocabulary.{word_points, [], ◌&&◌, ◌*◌, ◌++◌, ◌+◌, ◌<◌, ◌^◌, ◌∙◌, ◌∷◌, ◌≡◌}
 use Rattle.mk_laws.proofs.{InvariantHistories.allocations_stand, MappedWords.mapped_stays}
-use Rattle.mk_core.proofs.PointedPages.{pointed_within}
-use Rattle.mk_core.specs.{Effects.{hand_given, is_in_stop, is_mapped_cell}, Frames.HoldsAll, Ranges.is_word}
-use Rattle.mk_core.specs.{Words.named_word, declared.seats.Source.TheVariants.{Marked, Unmarked}}
+use Rattle.mk_core.{proofs.PointedPages.{pointed_within}, specs.declared.seats.Source.TheVariants.{Marked, Unmarked}}
+use Rattle.mk_core.specs.{Effects.{hand_given, is_in_stop, is_mapped_cell}, Ranges.is_word, Words.named_word}
 use Rattle.mk_sweep.specs.{Sweeping.{HasInHand, IsReachedCell, IsSweeping, word_looked_at}, Swept.IsSweptCell}
 use Rattle.mk_tracing.proofs.{MaySteps.{marks_by, may_look, may_mark_by_hand}, Stilled.{but_phase, found_now, hand_now}}
 use Rattle.mk_tracing.proofs.Stilled.{is_stopped_step, look_words, phase_there, root_hand, still_wanted, stopped_traces}
@@ -21,7 +20,7 @@ use Rattle.mk_tracing.proofs.{Stilled.words_there, Parts.{traces_alike, traces_n
 use Rattle.mk_tracing.proofs.Steps.{step_untouched}
 use Rattle.mk_tracing.specs.{Stops.{IsWanted, hand_of, is_page_word, is_root}, Tracing.{Traces, is_marking}}
 use Rattle.mk_turns.{proofs.PointedCells.{found_there, looked_for}, specs.Pointing.{LooksForCell, MayLookAtHeaders}}
-use Rattle.mk_words.{proofs.Made.{own_before}, specs.{Steps.Finds, TurnSteps.world_at}}
+use Rattle.mk_words.specs.{Steps.Finds, TurnSteps.world_at}
 
 -- Where values and allocations are the same, so is what a sweep looks at and marks.
 module _ (c : Config) (v w : World) (same : untouched_of v ≡ untouched_of w) where
@@ -76,15 +75,12 @@ pub settled_kept : (p q : PassState) → q ≡ record p { seen = q.seen } → un
     (world_of p) → phase_of (now_of q).words ≡ 2 → IsSettled (world_of p) → IsSettled (world_of q)
 settled_kept p q pass same two settled = grind (arith, ne_eqb, unmapped_kept)
 
-module _ (t u : TurnState) (sweeping : IsSweeping t.pass)
-    (all : HoldsAll t.pass.table.config (now_of t.pass) t.pass.seat) where
+module _ {t u : TurnState} (sweeping : IsSweeping t.pass) where
   pub sweeps_by_step : {s : Step} (a : Acts t.pass s u.pass) → is_stopped_step s ≡ true → is_marking s ≡ true
       → SweepsBy (world_of t.pass) t.pass.table.config (world_at a.makes).now s → SweepsOn t u (word_looked_at s)
   sweeps_by_step {s} a stopped kind ruled =
-      let own = own_before a.makes in
-      let traces = stopped_traces t.pass u.pass s a sweeping.wanted all stopped own (SweepsBy (world_of t.pass))
-      kind ruled in
-      let wanted = still_wanted t.pass u.pass s a sweeping.wanted all stopped in
+      let traces = stopped_traces a sweeping.wanted stopped (SweepsBy (world_of t.pass)) kind ruled in
+      let wanted = still_wanted a sweeping.wanted stopped in
       record {
         table = ap (λ (x : PassState). x.table) a.makes.is;
         sweeping = record {
@@ -93,7 +89,7 @@ module _ (t u : TurnState) (sweeping : IsSweeping t.pass)
               (sym a.makes.is)) traces.untouched wanted.phase sweeping.settled;
         };
         traces = traces;
-        looked = looks_of_step a.makes traces.does own;
+        looked = looks_of_step a.makes traces.does;
       }
 
   pub on_plain : (x : Word) → Acts t.pass (Step.Look x) u.pass → is_page_word x ≡ true → SweepsOn t u []
@@ -132,16 +128,14 @@ module _ (t u : TurnState) (sweeping : IsSweeping t.pass)
 
 -- The cell into which a value points is looked for.
 
-pub may_look_at_headers : {p : PassState} → IsSweeping p → HoldsAll p.table.config (now_of p) p.seat
-    → MayLookAtHeaders p
-may_look_at_headers {p} sweeping all page lt = may_look p sweeping.wanted all (Word.Head page) (lt-ltb page _ lt)
+pub may_look_at_headers : (t : TurnState) → IsSweeping t.pass → MayLookAtHeaders t.pass
+may_look_at_headers t sweeping page lt = may_look t sweeping.wanted (Word.Head page) (lt-ltb page _ lt)
 
-module _ {value : ℕ} {t u : TurnState} (l : LooksForCell value t u) (sweeping : IsSweeping t.pass)
-    (all : HoldsAll t.pass.table.config (now_of t.pass) t.pass.seat) where
+module _ {value : ℕ} {t u : TurnState} (l : LooksForCell value t u) (sweeping : IsSweeping t.pass) where
   pub sweeps_for_cell : SweepsOn t u []
   sweeps_for_cell =
       looked_for (λ (v : TurnState). SweepsOn t v []) l (sweeps_from t sweeping)
-      (λ a. on_plain t u sweeping all (Word.Head (page_at_address value)) a refl)
+      (λ a. on_plain sweeping (Word.Head (page_at_address value)) a refl)
 
   pub words_for_cell : still_words u.pass ≡ still_words t.pass
   words_for_cell = grind (arith, looked_for, look_words)
@@ -161,18 +155,18 @@ pub reached_within : {p : PassState} {cell : Cell} → IsReachedCell p cell
     → (cell.page < p.table.config.pages) × (cell.index < 64)
 reached_within {p} {cell} r = pointed_within p.table.config.pages (still_words p) r.value cell r.points
 
-pub may_mark_reached : {p : PassState} {cell : Cell} → IsWanted p → HoldsAll p.table.config (now_of p) p.seat
-    → IsReachedCell p cell → IsEnabledTo p (Step.Mark cell.page (2 ^ cell.index))
-may_mark_reached {p} {cell} wanted all r =
-    may_mark_by_hand p wanted all cell (marks_by _ (now_of p).words _ r.value cell r.in_hand.hand r.in_hand.is
+pub may_mark_reached : (t : TurnState) {cell : Cell} → IsWanted t.pass → IsReachedCell t.pass cell
+    → IsEnabledTo t.pass (Step.Mark cell.page (2 ^ cell.index))
+may_mark_reached t {cell} wanted r =
+    may_mark_by_hand t wanted cell (marks_by _ (now_of t.pass).words _ r.value cell r.in_hand.hand r.in_hand.is
     r.in_hand.value r.points) (reached_within r).0
 
 -- what a look at a root gives, and one at a scanned word
 
-pub root_in_hand : {p q : PassState} → IsWanted p → HoldsAll p.table.config (now_of p) p.seat → (x : Word)
-    → (a : Acts p (Step.Look x) q) (n : ℕ) → Finds p (Step.Look x) n q → is_root x ≡ true → HasInHand q n
-root_in_hand {p} {q} wanted all x a n finds root =
-    let h = root_hand p q wanted all x a n finds root in
+pub root_in_hand : {p q : PassState} → IsWanted p → {x : Word} → Acts p (Step.Look x) q → {n : ℕ}
+    → Finds p (Step.Look x) n q → is_root x ≡ true → HasInHand q n
+root_in_hand {p} {q} wanted {x} a {n} finds root =
+    let h = root_hand wanted a finds root in
     record { hand = h.hand; is = h.is; value = h.value; found = by x root (found_there p q x n finds) }
   where
     by : (y : Word) → is_root y ≡ true → named_word (now_of q).words y ≡ n → IsSweptValue q.table.config (world_of q) n
@@ -180,9 +174,10 @@ root_in_hand {p} {q} wanted all x a n finds root =
     by (Word.Global g) e is = InGlobal g is
     by _ e is = cc
 
-module _ (p q : PassState) (sweeping : IsSweeping p) (all : HoldsAll p.table.config (now_of p) p.seat)
-    (history : IsHistory p.table.config p.seen) (n : ℕ)
-    (scanned : IsScannedWord p.table.config (world_of p).allocations n) where
+module _ (t : TurnState) (n : ℕ) (scanned : IsScannedWord t.pass.table.config (world_of t.pass).allocations n) where
+  abbrev p : PassState
+  p = t.pass
+
   abbrev a : PlacedAllocation
   a = placed_at (world_of p).allocations scanned.number
 
@@ -190,14 +185,14 @@ module _ (p q : PassState) (sweeping : IsSweeping p) (all : HoldsAll p.table.con
   cell = cell_of_allocation p.table.config (placed_at (world_of p).allocations scanned.number)
 
   pub word_named : is_word p.table.config (Word.Heap n) ≡ true
-  word_named = grind (arith, and_parts, allocations_stand, mapped_stays, lt-ltb)
+  word_named = grind (arith, and_parts, allocations_stand, mapped_stays, lt-ltb, t.in_order)
 
-  module _ (acts : Acts p (Step.Look (Word.Heap n)) q) where
+  module _ {q : PassState} (sweeping : IsSweeping p) (acts : Acts p (Step.Look (Word.Heap n)) q) where
     abbrev m : Moment
     m = (world_at acts.makes).now
 
     still : but_phase (world_at acts.makes).now.words ≡ still_words p
-    still = words_there p q (Step.Look (Word.Heap n)) acts sweeping.wanted all
+    still = words_there acts sweeping.wanted
 
     abbrev gives : Bool → Bool → Bool → ℕ → Option Hand
     gives bare marked mapped value =
@@ -207,21 +202,21 @@ module _ (p q : PassState) (sweeping : IsSweeping p) (all : HoldsAll p.table.con
     pointed_now : pointed_cell p.table.config.pages (world_at acts.makes).now.words.pages (address_of n)
         ≡ Some (cell_of_allocation p.table.config (placed_at (world_of p).allocations scanned.number))
     pointed_now = ap (λ (w : Words). pointed_cell p.table.config.pages w.pages (address_of n)) still ∙
-        (grind (arith, and_parts, allocations_stand, mapped_stays, word_points))
+        (grind (arith, and_parts, allocations_stand, mapped_stays, word_points, t.in_order))
 
     bare_now : has_no_pointers (header_in (world_at acts.makes).now.words
         (cell_of_allocation p.table.config (placed_at (world_of p).allocations scanned.number)).page) ≡ false
-    bare_now = grind (arith, cell, still, scanned_stands)
+    bare_now = grind (arith, cell, still, scanned_stands, t.in_order)
 
     mapped_now : (is_in_stop p.table.config.callers (world_at acts.makes).now.words p.seat
         && is_mapped_cell (world_at acts.makes).now.words (world_at acts.makes).now.seats.holding.placing
         (cell_of_allocation p.table.config (placed_at (world_of p).allocations scanned.number))) ≡ true
     mapped_now =
-        and_from _ _ (and_from _ _ (eq-eqb _ 2 (phase_there p q (Step.Look (Word.Heap n)) acts sweeping.wanted all))
-        (ap (λ (w : Words). others_are_held p.table.config.callers w p.seat) still ∙ all.1))
+        and_from _ _ (and_from _ _ (eq-eqb _ 2 (phase_there acts sweeping.wanted))
+        (ap (λ (w : Words). others_are_held p.table.config.callers w p.seat) still ∙ sweeping.wanted.gates))
         (ap (λ (w : Words). is_mapped_cell w m.seats.holding.placing cell) still
-        ∙ ap (λ (x : Holding). is_mapped_cell (now_of p).words x.placing cell) acts.holding ∙ mapped_cell _ _ history
-        sweeping.settled scanned.number scanned.scanned)
+        ∙ ap (λ (x : Holding). is_mapped_cell (now_of p).words x.placing cell) acts.holding ∙ mapped_cell _ _
+        t.in_order.history sweeping.settled scanned.number scanned.scanned)
 
     -- some hand, whether the cell is marked or not
     given : (value : ℕ) → (h : Hand) × (hand_given p.table.config (world_at acts.makes).now p.seat (Word.Heap n) value
@@ -239,18 +234,17 @@ module _ (p q : PassState) (sweeping : IsSweeping p) (all : HoldsAll p.table.con
         by false e =
             (record { value = value; source = Unmarked }, to_cell ∙ ap (λ (b : Bool). gives false b true value) e, refl)
 
-    pub word_in_hand : (k : ℕ) → Finds p (Step.Look (Word.Heap n)) k q → HasInHand q k
-    word_in_hand k finds =
+    pub word_in_hand : {k : ℕ} → Finds p (Step.Look (Word.Heap n)) k q → HasInHand q k
+    word_in_hand {k} finds =
         let value : ℕ = found p.table.config m (event_of p (Step.Look (Word.Heap n))) in
         let g = given value in
-        let same = step_untouched p q (Step.Look (Word.Heap n)) acts refl all refl in
+        let same = step_untouched acts refl sweeping.wanted.gates refl in
         let there : IsScannedWord p.table.config (world_of q).allocations n =
         word_alike p.table.config (world_of p) (world_of q) (sym same) n scanned in
         record {
           hand = g.0;
-          is = hand_now p q sweeping.wanted all (Word.Heap n) acts k finds ∙ ap (λ (o : Option Hand). or_else o
-              (hand_of p)) g.1;
-          value = g.2 ∙ found_now p q sweeping.wanted all (Word.Heap n) acts k finds;
+          is = hand_now sweeping.wanted acts finds ∙ ap (λ (o : Option Hand). or_else o (hand_of p)) g.1;
+          value = g.2 ∙ found_now sweeping.wanted acts finds;
           found = InWord n (subst (λ (x : WordsState). IsScannedWord x.config (world_of q).allocations n)
               (sym (ap (λ (x : PassState). x.table) acts.makes.is)) there) (found_there p q (Word.Heap n) k finds);
         }

@@ -1,18 +1,17 @@
 -- A sweep meets the law of engines, and makes what it promises.
-use Rattle.mk_sweep.proofs.Vocabulary.{CellsAreClosed, Config, InGlobal, InRegister, InWord, IsHistory, IsScannedWord}
-use Rattle.mk_sweep.proofs.Vocabulary.{IsSwept, IsSweptValue, Moment, PageIsBlack, PassState, PlacedAllocation}
-use Rattle.mk_sweep.proofs.Vocabulary.{PointWell, Step, Sweeps, SweepsBy, SweepsOn, TurnState, Untouched, WordsState}
-use Rattle.mk_sweep.proofs.Vocabulary.{World, heap_looks, is_tracing, now_of, phase_of, placed_at, points_well}
-use Rattle.mk_sweep.proofs.{Vocabulary.{still_words, words_below, world_of}, EachOnce.{as_many, looked_at_once}}
-use Rattle.mk_sweep.proofs.{EachOnce.never_twice, SweepSteps.{rule_alike, settled_kept, word_alike}}
-use Rattle.mk_sweep.proofs.{CountedWords.{some_there, times}, Done.{looks_in_parts, looks_of_waiting}}
-use Rattle.mk_laws.proofs.Vocabulary.{ℕ, ap, arith, length, ne_eqb, slice_index, subst, sym, true, ◌++◌, ◌+◌, ◌<◌, ◌∙◌}
-use Rattle.mk_laws.proofs.{Vocabulary.{◌≡◌, ◌≤◌}, InvariantHistories.allocations_stand, Settled.gone_is_unmapped}
+use Rattle.mk_sweep.proofs.Vocabulary.{CellsAreClosed, Config, InGlobal, InRegister, InWord, IsScannedWord, IsSwept}
+use Rattle.mk_sweep.proofs.Vocabulary.{IsSweptValue, Moment, PageIsBlack, PassState, PlacedAllocation, PointWell, Step}
+use Rattle.mk_sweep.proofs.Vocabulary.{Sweeps, SweepsBy, SweepsOn, TurnState, Untouched, WordsState, World, heap_looks}
+use Rattle.mk_sweep.proofs.Vocabulary.{is_tracing, now_of, phase_of, placed_at, points_well, still_words, words_below}
+use Rattle.mk_sweep.proofs.{Vocabulary.world_of, EachOnce.{as_many, looked_at_once, never_twice}}
+use Rattle.mk_sweep.proofs.{SweepSteps.{rule_alike, settled_kept, word_alike}, CountedWords.{some_there, times}}
+use Rattle.mk_sweep.{proofs.Done.{looks_in_parts, looks_of_waiting}, specs.{Sweeping.IsSweeping, Swept.scanned_words}}
+use Rattle.mk_laws.proofs.Vocabulary.{ℕ, ap, arith, length, ne_eqb, slice_index, subst, sym, true, ◌++◌, ◌<◌, ◌∙◌, ◌≡◌}
+use Rattle.mk_laws.proofs.{Vocabulary.◌≤◌, InvariantHistories.allocations_stand, Settled.gone_is_unmapped}
 use Rattle.mk_core.proofs.PointedAllocations.{marked_where_its_cell_is, points_well_where_marked}
-use Rattle.mk_core.specs.{ClosedMarks.is_marked_allocation, Frames.HoldsAll}
+use Rattle.mk_core.specs.ClosedMarks.{is_marked_allocation}
 use Rattle.mk_cycle.specs.{EngineLaw.{ClosesMarks, IsFreeForCycle}, Kinds.closes_marks}
 use Rattle.mk_engines.proofs.TracedMarks.{closing_kind, keeps_turn, same_count}
-use Rattle.mk_sweep.specs.{Sweeping.IsSweeping, Swept.scanned_words}
 use Rattle.mk_tracing.proofs.Parts.{counted_by_kinds, counted_wider, traces_alike}
 use Rattle.mk_tracing.proofs.{Closes.{marks_closed_now, may_close_now}, NoGrays.no_gray, Wants.wanted_once_then}
 use Rattle.mk_tracing.specs.{Tracing.{Counted, is_marking, is_waiting, is_want}, Grays.TracesReached, Stops.IsWanted}
@@ -31,8 +30,6 @@ sweeping_behind {p} {q} waited wanted free one = grind (arith, settled_kept, ne_
 pub record SweepsInStop (p : PassState) (t u : TurnState) : Type 0 where
   pub waited : Counted is_waiting TracesReached is_want p t.pass 1
   pub sweeping : IsSweeping t.pass
-  pub early : IsHistory t.pass.table.config t.pass.seen
-  pub history : IsHistory u.pass.table.config u.pass.seen
   pub on : SweepsOn t u (words_below (still_words t.pass) t.pass.table.config.pages)
   pub closed : CellsAreClosed u.pass.table.config (still_words u.pass)
   pub well : PointWell u.pass.table.config.pages (still_words u.pass)
@@ -59,8 +56,9 @@ module _ {p : PassState} {t u : TurnState} (s : SweepsInStop p t u) where
   all_words_are : length (words_below (still_words t.pass) t.pass.table.config.pages)
       ≡ scanned_words p.table.config (world_of p).allocations
   all_words_are =
-      as_many s.early s.sweeping.settled ∙ ap (λ (y : WordsState). scanned_words y.config (world_of t.pass).allocations)
-      table ∙ ap (λ (x : Untouched). scanned_words p.table.config x.allocations) s.waited.traces.untouched
+      as_many t.in_order.history s.sweeping.settled
+      ∙ ap (λ (y : WordsState). scanned_words y.config (world_of t.pass).allocations) table
+      ∙ ap (λ (x : Untouched). scanned_words p.table.config x.allocations) s.waited.traces.untouched
 
   value_well : {v : ℕ} → IsSweptValue u.pass.table.config (world_of u.pass) v
       → points_well u.pass.table.config.pages (now_of u.pass).words v ≡ true
@@ -69,7 +67,7 @@ module _ {p : PassState} {t u : TurnState} (s : SweepsInStop p t u) where
   value_well (InWord k scanned is) =
       ap (λ j. points_well u.pass.table.config.pages (now_of u.pass).words j) (sym is)
       ∙ s.well k (some_there (words_below (still_words t.pass) t.pass.table.config.pages) k (λ z.
-      let one = looked_at_once s.early s.sweeping.settled (scanned_before scanned) in
+      let one = looked_at_once t.in_order.history s.sweeping.settled (scanned_before scanned) in
       omega arith))
 
   swept_is_marked : {i : ℕ} → IsSwept u.pass.table.config (world_of u.pass) i → is_marked_allocation u.pass.table.config
@@ -77,29 +75,32 @@ module _ {p : PassState} {t u : TurnState} (s : SweepsInStop p t u) where
   swept_is_marked {i} x =
       let c : Config = u.pass.table.config in
       let a : PlacedAllocation = placed_at (world_of u.pass).allocations i in
-      let st = allocations_stand c u.pass.seen s.history i x.points.0 in
-      marked_where_its_cell_is c (now_of u.pass).words a s.history.within_limits st.stands st.headers
-      ∙ sym (points_well_where_marked c (now_of u.pass).words a s.history.within_limits st.stands st.headers x.value
-      x.points.1) ∙ value_well x.found
+      let limits = u.in_order.history.within_limits in
+      let st = allocations_stand c u.pass.seen u.in_order.history i x.points.0 in
+      marked_where_its_cell_is c (now_of u.pass).words a limits st.stands st.headers
+      ∙ sym (points_well_where_marked c (now_of u.pass).words a limits st.stands st.headers x.value x.points.1)
+      ∙ value_well x.found
 
   pub sweeps : (n : ℕ) → n ≡ length (words_below (still_words t.pass) t.pass.table.config.pages) → Sweeps p u.pass n
-  sweeps n is = record {
-    traces = whole.traces;
-    never_twice = λ k. subst (λ ns. times k ns ≤ 1) (sym words_of_all) (never_twice s.early s.sweeping.settled k);
-    each = λ k x. ap (λ ns. times k ns) words_of_all ∙ looked_at_once s.early s.sweeping.settled (
-        grind (arith, table, word_alike));
-    counted = is ∙ sym (ap length words_of_all);
-    words = is ∙ all_words_are;
-    swept = λ i x. swept_is_marked x;
-  }
+  sweeps n is =
+      let early = t.in_order.history in
+      record {
+        traces = whole.traces;
+        never_twice = λ k. subst (λ ns. times k ns ≤ 1) (sym words_of_all) (never_twice early s.sweeping.settled k);
+        each = λ k x. ap (λ ns. times k ns) words_of_all
+            ∙ looked_at_once early s.sweeping.settled (grind (arith, table, word_alike));
+        counted = is ∙ sym (ap length words_of_all);
+        words = is ∙ all_words_are;
+        swept = λ i x. swept_is_marked x;
+      }
 
-  pub closes : HoldsAll u.pass.table.config (now_of u.pass) u.pass.seat
-      → ((pg : ℕ) → pg < u.pass.table.config.pages → PageIsBlack (still_words u.pass) pg) → ((pg : ℕ)
-      → pg < u.pass.table.config.pages → slice_index (still_words u.pass).dirty pg ≡ 0) → ClosesMarks p u.pass
-  closes all black clean =
+  pub closes : ((pg : ℕ) → pg < u.pass.table.config.pages → PageIsBlack (still_words u.pass) pg)
+      → ((pg : ℕ) → pg < u.pass.table.config.pages → slice_index (still_words u.pass).dirty pg ≡ 0)
+      → ClosesMarks p u.pass
+  closes black clean =
       let d : Does is_tracing p u.pass = whole.traces.does in
       let wider = counted_wider is_tracing closes_marks (SweepsBy (world_of p)) is_want p u.pass 1 closing_kind whole in
-      let close = may_close_now u.pass s.on.sweeping.wanted all (λ pg lt. no_gray (still_words u.pass) pg (black pg lt))
+      let close = may_close_now u s.on.sweeping.wanted (λ pg lt. no_gray (still_words u.pass) pg (black pg lt))
       clean (record { registers = s.closed.registers; globals = s.closed.globals }) in
       record {
         does = wider.traces.does;
@@ -108,5 +109,5 @@ module _ {p : PassState} {t u : TurnState} (s : SweepsInStop p t u) where
             whole.traces.untouched whole.traces.counts;
         phase = s.on.sweeping.wanted.phase;
         close = close;
-        closed = marks_closed_now u.pass s.history close;
+        closed = marks_closed_now u close;
       }

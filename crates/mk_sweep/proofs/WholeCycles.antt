@@ -61,10 +61,14 @@ module _ (p b q : PassState) (looks : ℕ) (same : b ≡ record p { seen = b.see
     is = grind (arith, makes, stopped, closed_is, release, waited, closing_is, close, append_assoc);
   }
 
-  pub releases_unswept : Has p.seats p.seat → HasMarkers p.seats → IsHistory p.table.config q.seen → ReleasesUnswept p q
-  releases_unswept own markers history = record {
-    cycle = cycle own markers history parts;
-    more = last.before.more ++ last.begin.others;
-    since = append_assoc p.seen last.before.more last.begin.others;
-    each = is_released_by_it own markers history parts;
-  }
+  pub releases_unswept : Has p.seats p.seat → HasMarkers p.seats → q ≡ record b { seen = q.seen }
+      → IsHistory q.table.config q.seen → ReleasesUnswept p q
+  releases_unswept own markers behind seen =
+      let history : IsHistory p.table.config q.seen = subst (λ (x : PassState). IsHistory x.table.config q.seen)
+      (behind ∙ ap (λ (x : PassState). record x { seen = q.seen }) same) seen in
+      record {
+        cycle = cycle own markers history parts;
+        more = last.before.more ++ last.begin.others;
+        since = append_assoc p.seen last.before.more last.begin.others;
+        each = is_released_by_it own markers history parts;
+      }

@@ -24,7 +24,6 @@ fn blacken_if_marked(words: &Words, stop: &mut Stopped, marked: bool, cell: Cell
     if !marked {
         return;
     }
-    stop.is_in_order();
     stop.black(words, cell.page, bit(cell.index));
 }
 

@@ -14,7 +14,6 @@ pub(crate) fn unblack_all(words: &Words, stop: &mut Stopped)
     ensures none { (p : ℕ) → p < words.now.config.pages → slice_index (still_words stop.new.pass).blacks p ≡ 0 }
 {
     for page in 0..words.pages() {
-        stop.is_in_order();
         stop.unblack(words, page);
     }
 }
@@ -29,7 +28,6 @@ pub(crate) fn undirty_all(words: &Words, stop: &mut Stopped)
     ensures clean { (p : ℕ) → p < words.now.config.pages → slice_index (still_words stop.new.pass).dirty p ≡ 0 }
 {
     for page in 0..words.pages() {
-        stop.is_in_order();
         stop.undirty(words, page);
     }
 }

@@ -30,7 +30,6 @@ fn sweep_in_stop(words: &Words, stop: &mut Stopped) -> u64
     undirty_all(words, stop);
     mark_roots(words, stop);
     let looks = sweep_pages(words, stop);
-    stop.is_in_order();
     blacken_all(words, stop);
     looks
 }
@@ -43,10 +42,6 @@ pub(crate) fn close_by_sweeping<R: Wait>(rt: &R, words: &Words, stop: &mut Stopp
     ensures law { ClosesMarks stop.old.pass stop.new.pass }
     ensures sweeps { Sweeps stop.old.pass stop.new.pass result }
 {
-    stop.is_in_order();
     want_and_wait(rt, words, stop);
-    stop.is_in_order();
-    let looks = sweep_in_stop(words, stop);
-    stop.is_in_order();
-    looks
+    sweep_in_stop(words, stop)
 }

@@ -27,10 +27,8 @@ pub fn sweep_cycle<R: Threads + Wait + Sync>(
     ensures cycle { MakesWholeCycle turn.pass result.0.pass result.1 }
     ensures unswept { ReleasesUnswept turn.pass result.0.pass }
 {
-    turn.is_in_order();
     let mut turn = turn;
     begin_cycle(rt, words, &mut turn, engine);
     let (turn, released) = finish_cycle(rt, words, turn, engine);
-    turn.is_in_order();
     (turn, released)
 }

@@ -79,7 +79,6 @@ pub(crate) fn mark_roots(words: &Words, stop: &mut Stopped)
     ensures more { MarksMore (still_words stop.old.pass) (still_words stop.new.pass) }
     ensures roots { RootsPointWell words.now.config.pages (still_words stop.new.pass) }
 {
-    stop.is_in_order();
     mark_registers(words, stop);
     mark_globals(words, stop);
 }

@@ -21,7 +21,6 @@ pub(crate) fn look_at(words: &Words, stop: &mut Stopped, x: Word) -> u64
     ensures hand { hand_of stop.new.pass ≡ hand_of stop.old.pass }
     ensures found { result ≡ named_word (still_words stop.old.pass) x }
 {
-    stop.is_in_order();
     stop.look(words, x)
 }
 
@@ -37,7 +36,6 @@ pub(crate) fn look_at_root(words: &Words, stop: &mut Stopped, x: Word) -> u64
     ensures hand { HasInHand stop.new.pass result }
     ensures found { result ≡ named_word (still_words stop.old.pass) x }
 {
-    stop.is_in_order();
     stop.look(words, x)
 }
 
@@ -52,7 +50,6 @@ pub(crate) fn look_at_word(words: &Words, stop: &mut Stopped, word: u64) -> u64
     ensures hand { HasInHand stop.new.pass result }
     ensures found { result ≡ slice_index (still_words stop.old.pass).heap word }
 {
-    stop.is_in_order();
     stop.look(words, Word::Heap(word))
 }
 
@@ -64,6 +61,5 @@ pub(crate) fn mark_cell(words: &Words, stop: &mut Stopped, cell: Cell)
     ensures on { SweepsOn stop.old stop.new [] }
     ensures words { still_words stop.new.pass ≡ with_marks cell.page (2 ^ cell.index) (still_words stop.old.pass) }
 {
-    stop.is_in_order();
     stop.mark(words, cell.page, bit(cell.index));
 }

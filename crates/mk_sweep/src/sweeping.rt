@@ -59,7 +59,6 @@ fn sweep_cells(words: &Words, stop: &mut Stopped, page: u64, header: u64, used: 
     ensures few { result ≤ 131072 }
 {
     words.is_within_limits();
-    stop.is_in_order();
     let size = words_under(header);
     let mut looks = 0;
     for index in 0..cells_under(header) {

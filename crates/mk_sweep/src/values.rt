@@ -33,7 +33,6 @@ pub(crate) fn mark_value(words: &Words, stop: &mut Stopped, value: u64)
     ensures more { MarksMore (still_words stop.old.pass) (still_words stop.new.pass) }
     ensures well { points_well words.now.config.pages (still_words stop.new.pass) value ≡ true }
 {
-    stop.is_in_order();
     let Some(cell) = cell_pointed(words, stop, value) else {
         return;
     };

@@ -1,15 +1,15 @@
 -- The marks may be closed, and are closed.
 use Rattle.std.specs.List.{list_all}
-use Rattle.mk_laws.proofs.Vocabulary.{Bool, Config, Event, IsHistory, List, MarksAreClosed, Step, Words, ℕ, all_below}
-use Rattle.mk_laws.proofs.Vocabulary.{and_from, arith, enabled_in_parts, eq-eqb, has_closed_page, none_attends}
-use Rattle.mk_laws.proofs.Vocabulary.{phase_of, points_well, refl, roots_point_well, slice_index, suc, true, [], ◌&&◌}
-use Rattle.mk_laws.proofs.{Vocabulary.{◌++◌, ◌<◌, ◌==◌, ◌∷◌, ◌≡◌}, InvariantHistories.closes_find_marks_closed}
+use Rattle.mk_laws.proofs.Vocabulary.{Bool, Config, Event, List, MarksAreClosed, Step, Words, ℕ, all_below, and_from}
+use Rattle.mk_laws.proofs.Vocabulary.{arith, enabled_in_parts, eq-eqb, has_closed_page, none_attends, phase_of}
+use Rattle.mk_laws.proofs.Vocabulary.{points_well, refl, roots_point_well, slice_index, suc, true, [], ◌&&◌, ◌++◌, ◌<◌}
+use Rattle.mk_laws.proofs.{Vocabulary.{◌==◌, ◌∷◌, ◌≡◌}, InvariantHistories.closes_find_marks_closed}
 use Rattle.mk_laws.proofs.Tests.{all_below_from, none_from}
-use Rattle.mk_core.specs.{Frames.HoldsAll, History.AreEnabledFrom}
+use Rattle.mk_core.specs.History.{AreEnabledFrom}
 use Rattle.mk_tracing.proofs.{MoreMarks.{marked_as, well_more}, Steps.may_step}
 use Rattle.mk_tracing.specs.{Grays.{ColoursMore, HasNoGray, RootsPointWell}, Stops.{IsWanted, still_words}}
 use Rattle.mk_words.proofs.Undecided.{undecided_admitted}
-use Rattle.mk_words.specs.{States.{PassState, event_of, now_of, world_of}, Steps.IsEnabledTo}
+use Rattle.mk_words.specs.{States.{PassState, TurnState, event_of, now_of, world_of}, Steps.IsEnabledTo}
 
 all_from : (test : ℕ → Bool) (xs : List ℕ) → ((i : ℕ) → test (slice_index xs i) ≡ true) → list_all test xs ≡ true
 all_from test [] each = refl
@@ -19,14 +19,15 @@ all_from test (x ∷ xs) each = and_from (test x) (list_all test xs) (each 0) (a
 pub roots_more : {pages : ℕ} {w v : Words} → ColoursMore w v → RootsPointWell pages w → RootsPointWell pages v
 roots_more more roots = grind (arith, marked_as, well_more)
 
-pub may_close_now : (p : PassState) → IsWanted p → HoldsAll p.table.config (now_of p) p.seat
-    → ((pg : ℕ) → pg < p.table.config.pages → HasNoGray (still_words p) pg)
-    → ((pg : ℕ) → pg < p.table.config.pages → slice_index (still_words p).dirty pg ≡ 0)
-    → RootsPointWell p.table.config.pages (still_words p) → IsEnabledTo p Step.Close
-may_close_now p wanted all black clean roots =
+pub may_close_now : (t : TurnState) → IsWanted t.pass
+    → ((pg : ℕ) → pg < t.pass.table.config.pages → HasNoGray (still_words t.pass) pg)
+    → ((pg : ℕ) → pg < t.pass.table.config.pages → slice_index (still_words t.pass).dirty pg ≡ 0)
+    → RootsPointWell t.pass.table.config.pages (still_words t.pass) → IsEnabledTo t.pass Step.Close
+may_close_now t wanted black clean roots =
+    let p : PassState = t.pass in
     let w : Words = (now_of p).words in
     let pages : ℕ = p.table.config.pages in
-    may_step p Step.Close wanted.ready all.0 refl refl all.1 (eq-eqb (phase_of w) 2 wanted.phase) refl
+    may_step t Step.Close wanted.ready refl refl wanted.gates (eq-eqb (phase_of w) 2 wanted.phase) refl
     (and_from (none_attends (now_of p).seats.markers && all_below pages (has_closed_page w)) (roots_point_well pages w)
     (and_from (none_attends (now_of p).seats.markers) (all_below pages (has_closed_page w))
     (none_from (now_of p).seats.markers wanted.none) (all_below_from pages (has_closed_page w) (λ pg lt. and_from _
@@ -34,10 +35,12 @@ may_close_now p wanted all black clean roots =
     (and_from (list_all (points_well pages w) w.registers) (list_all (points_well pages w) w.globals) (all_from
     (points_well pages w) w.registers roots.registers) (all_from (points_well pages w) w.globals roots.globals)))
 
-pub marks_closed_now : (p : PassState) → IsHistory p.table.config p.seen → IsEnabledTo p Step.Close
-    → MarksAreClosed p.table.config (world_of p)
+pub marks_closed_now : (t : TurnState) → IsEnabledTo t.pass Step.Close
+    → MarksAreClosed t.pass.table.config (world_of t.pass)
 unfolding AreEnabledFrom
-marks_closed_now p history on =
+marks_closed_now t on =
+    let p : PassState = t.pass in
+    let history = t.in_order.history in
     let c : Config = p.table.config in
     let e : Event = event_of p Step.Close in
     closes_find_marks_closed c (p.seen ++ e ∷ []) (record {

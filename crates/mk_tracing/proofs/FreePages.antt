@@ -1,11 +1,11 @@
 -- Free pages are passed over: none has a gray cell, and none is dirty.
-use Rattle.mk_laws.proofs.Vocabulary.{Free, Header, IsHistory, Option, Some, Words, ℕ, arith, cases_lt, false}
-use Rattle.mk_laws.proofs.Vocabulary.{header_at, header_of, not, refl, slice_index, sym, use_under, used_at, ◌<◌, ◌≡◌}
-use Rattle.mk_laws.proofs.{Vocabulary.◌≤◌, FreePages.free_pages_have_nothing}
-use Rattle.mk_geom.{proofs.HeaderLemmas.{word_of-header_of}, specs.PageUses.{is_free_page}}
+use Rattle.mk_laws.proofs.Vocabulary.{Free, Header, Option, Some, Words, ℕ, arith, cases_lt, false, header_at}
+use Rattle.mk_laws.proofs.Vocabulary.{header_of, not, refl, slice_index, sym, use_under, used_at, ◌<◌, ◌≡◌, ◌≤◌}
+use Rattle.mk_geom.{proofs.HeaderLemmas.word_of-header_of, specs.PageUses.is_free_page}
 use Rattle.mk_page_map.specs.Members.{is_in_use}
-use Rattle.mk_tracing.{proofs.NoGrays.{no_gray}, specs.{Grays.HasNoGray, Stops.still_words}}
-use Rattle.mk_words.specs.States.{PassState}
+use Rattle.mk_laws.proofs.FreePages.{free_pages_have_nothing}
+use Rattle.mk_tracing.{proofs.NoGrays.no_gray, specs.Grays.HasNoGray, specs.Stops.still_words}
+use Rattle.mk_words.specs.States.{TurnState}
 
 no_header : (h : ℕ) (x : Option Header) (u : ℕ) → header_of h ≡ x → not (is_free_page (use_under x u)) ≡ false → h ≡ 0
 no_header h (Some Free) u is free = sym (word_of-header_of h Free is).1
@@ -17,9 +17,9 @@ free_header w p free = no_header (header_at w p) (header_of (header_at w p)) (us
 free_has_no_gray : (w : Words) (p : ℕ) → is_in_use w.pages p ≡ false → HasNoGray w p
 free_has_no_gray w p free = grind (arith, free_header, no_gray)
 
-free_is_clean : (p : PassState) → IsHistory p.table.config p.seen → (n : ℕ)
-    → is_in_use (still_words p).pages n ≡ false → slice_index (still_words p).dirty n ≡ 0
-free_is_clean p history n free = grind (arith, free_pages_have_nothing, free_header)
+free_is_clean : (t : TurnState) (n : ℕ) → is_in_use (still_words t.pass).pages n ≡ false
+    → slice_index (still_words t.pass).dirty n ≡ 0
+free_is_clean t n free = grind (arith, free_pages_have_nothing, free_header, t.in_order)
 
 -- What is known up to one page is known up to the next page in use: of pages without gray cells,
 pub none_past : (w v : Words) (from next page : ℕ) → v ≡ w → ((p : ℕ) → from ≤ p → p < next → HasNoGray w p)
@@ -28,8 +28,8 @@ pub none_past : (w v : Words) (from next page : ℕ) → v ≡ w → ((p : ℕ) 
 none_past w v from next page same before free p low high = grind (arith, cases_lt, free_has_no_gray)
 
 -- and of pages that aren't dirty.
-pub clean_past : (p : PassState) → IsHistory p.table.config p.seen → (from page : ℕ)
-    → ((n : ℕ) → n < from → slice_index (still_words p).dirty n ≡ 0)
-    → ((n : ℕ) → from ≤ n → n < page → is_in_use (still_words p).pages n ≡ false)
-    → (n : ℕ) → n < page → slice_index (still_words p).dirty n ≡ 0
-clean_past p history from page before free n high = grind (arith, cases_lt, free_is_clean)
+pub clean_past : (t : TurnState) (from page : ℕ)
+    → ((n : ℕ) → n < from → slice_index (still_words t.pass).dirty n ≡ 0)
+    → ((n : ℕ) → from ≤ n → n < page → is_in_use (still_words t.pass).pages n ≡ false)
+    → (n : ℕ) → n < page → slice_index (still_words t.pass).dirty n ≡ 0
+clean_past t from page before free n high = grind (arith, cases_lt, free_is_clean)

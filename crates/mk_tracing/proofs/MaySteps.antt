@@ -4,10 +4,10 @@ use Rattle.mk_laws.proofs.Vocabulary.{ℕ, all_below-at, and_from, and_parts, ap
 use Rattle.mk_laws.proofs.Vocabulary.{is_held, is_number_of, is_phase, lt-ltb, ltb-true, nat_lt, none_attends, not}
 use Rattle.mk_laws.proofs.Vocabulary.{others_are_held, phase_of, pointed_cell, refl, slice_index, true, ◌&&◌, ◌<◌, ◌==◌}
 use Rattle.mk_laws.proofs.{Vocabulary.{◌^◌, ◌||◌, ◌∙◌, ◌≡◌}, Tests.none_from}
-use Rattle.mk_core.{proofs.AllBelow.{all_below_not_is}, specs.{Ranges.is_word, Readings.NoneAttends}}
-use Rattle.mk_core.specs.{StopConditions.{blackens, is_bit_of, marks_by_hand, may_turn_black}, Frames.HoldsAll}
+use Rattle.mk_core.{proofs.AllBelow.{all_below_not_is}, specs.Readings.{NoneAttends}}
+use Rattle.mk_core.specs.{StopConditions.{blackens, is_bit_of, marks_by_hand, may_turn_black}, Ranges.is_word}
 use Rattle.mk_tracing.{proofs.Steps.{may_step}, specs.{Grays.HandPointsInto, Stops.{IsWanted, hand_of, still_words}}}
-use Rattle.mk_words.specs.{States.{PassState, call_of, now_of}, Steps.IsEnabledTo}
+use Rattle.mk_words.specs.{States.{PassState, TurnState, call_of, now_of}, Steps.IsEnabledTo}
 
 look_gates : (c : Config) (w : Words) (seat : Seat) (f : Flight) (x : Word) → others_are_held c.callers w seat ≡ true
     → is_word c x ≡ true → has_gates c w seat f (Step.Look x) ≡ true
@@ -46,19 +46,22 @@ turns_now : (p : PassState) (cell : Cell) → may_turn_black p.table.config.page
 unfolding may_turn_black
 turns_now p cell h = h
 
-module _ (p : PassState) (wanted : IsWanted p) (all : HoldsAll p.table.config (now_of p) p.seat) where
+module _ (t : TurnState) (wanted : IsWanted t.pass) where
+  abbrev p : PassState
+  p = t.pass
+
   phase_two : is_phase (now_of p).words 2 ≡ true
   phase_two = eq-eqb (phase_of (now_of p).words) 2 wanted.phase
 
   pub may_look : (x : Word) → is_word p.table.config x ≡ true → IsEnabledTo p (Step.Look x)
-  may_look x is = may_step p (Step.Look x) wanted.ready all.0 refl is
-      (look_gates p.table.config (now_of p).words p.seat (call_of p) x all.1 is) refl refl refl
+  may_look x is = may_step t (Step.Look x) wanted.ready refl is
+      (look_gates p.table.config (now_of p).words p.seat (call_of p) x wanted.gates is) refl refl refl
 
   -- whatever the hand's value stood in
   pub may_mark_by_hand : (cell : Cell) → marks_by_hand p.table.config.pages (now_of p).words (hand_of p) cell.page
       (2 ^ cell.index) ≡ true → cell.page < p.table.config.pages → IsEnabledTo p (Step.Mark cell.page (2 ^ cell.index))
   may_mark_by_hand cell by_hand lt =
-      may_step p (Step.Mark cell.page (2 ^ cell.index)) wanted.ready all.0 refl (lt-ltb cell.page _ lt) refl
+      may_step t (Step.Mark cell.page (2 ^ cell.index)) wanted.ready refl (lt-ltb cell.page _ lt) refl
       (or_second _ _ phase_two) refl (or_first _ _ by_hand)
 
   pub may_mark_cell : {cell : Cell} → HandPointsInto p cell → cell.page < p.table.config.pages
@@ -69,23 +72,25 @@ module _ (p : PassState) (wanted : IsWanted p) (all : HoldsAll p.table.config (n
       → may_turn_black p.table.config.pages (still_words p) cell ≡ true
       → IsEnabledTo p (Step.Black cell.page (2 ^ cell.index))
   may_black_cell cell lt small turns =
-      may_step p (Step.Black cell.page (2 ^ cell.index)) wanted.ready all.0 refl (lt-ltb cell.page p.table.config.pages
-      lt) all.1 phase_two refl (and_from (none_attends (now_of p).seats.markers) _ (none_by_test (now_of p) wanted.none)
-      (ap not (all_below_not_is 32 cell.index (λ k. not (blackens p.table.config.pages (now_of p).words cell.page (2 ^
-      cell.index) k)) small (ap not (and_from (2 ^ cell.index == 2 ^ cell.index) (may_turn_black p.table.config.pages
-      (now_of p).words cell) (eq-eqb (2 ^ cell.index) (2 ^ cell.index) refl) (turns_now p cell turns))))))
+      may_step t (Step.Black cell.page (2 ^ cell.index)) wanted.ready refl (lt-ltb cell.page p.table.config.pages lt)
+      wanted.gates phase_two refl (and_from (none_attends (now_of p).seats.markers) _
+      (none_by_test (now_of p) wanted.none) (ap not (all_below_not_is 32 cell.index
+      (λ k. not (blackens p.table.config.pages (now_of p).words cell.page (2 ^ cell.index) k)) small (ap not
+      (and_from (2 ^ cell.index == 2 ^ cell.index) (may_turn_black p.table.config.pages (now_of p).words cell)
+      (eq-eqb (2 ^ cell.index) (2 ^ cell.index) refl) (turns_now p cell turns))))))
 
   pub may_unblack_page : (page : ℕ) → page < p.table.config.pages → IsEnabledTo p (Step.Unblack page)
   may_unblack_page page lt =
-      may_step p (Step.Unblack page) wanted.ready all.0 refl (lt-ltb page p.table.config.pages lt)
-      (or_second (not (is_phase (now_of p).words 2)) _ all.1)
+      may_step t (Step.Unblack page) wanted.ready refl (lt-ltb page p.table.config.pages lt)
+      (or_second (not (is_phase (now_of p).words 2)) _ wanted.gates)
       (or_second (phase_of (now_of p).words == 0) (phase_of (now_of p).words == 2) phase_two) refl (or_second
       (not (is_phase (now_of p).words 2)) (none_attends (now_of p).seats.markers) (none_by_test (now_of p) wanted.none))
 
   pub may_undirty_page : (page : ℕ) → page < p.table.config.pages → slice_index (still_words p).blacks page ≡ 0
       → slice_index (still_words p).blacks (head_page (still_words p) page) ≡ 0 → IsEnabledTo p (Step.Undirty page)
   may_undirty_page page lt own head =
-      may_step p (Step.Undirty page) wanted.ready all.0 refl (lt-ltb page p.table.config.pages lt) (or_second _ _ all.1)
+      may_step t (Step.Undirty page) wanted.ready refl (lt-ltb page p.table.config.pages lt)
+      (or_second _ _ wanted.gates)
       (or_second (phase_of (now_of p).words == 0) (phase_of (now_of p).words == 2) phase_two) refl
       (or_second (not (is_phase (now_of p).words 2)) _ (and_from (none_attends (now_of p).seats.markers && (slice_index
       (now_of p).words.blacks page == 0)) (slice_index (now_of p).words.blacks (head_page (now_of p).words page) == 0)

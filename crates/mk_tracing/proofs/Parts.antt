@@ -1,15 +1,14 @@
 -- Tracing in parts: nothing, one part after another, and one step.
-use Rattle.std.proofs.{Common.count_by, lemmas.List.Sums.sum_by-append}
+use Rattle.std.proofs.{Common.count_by, lemmas.List.append_cancel_left, lemmas.List.Sums.sum_by-append}
 use Rattle.mk_laws.proofs.Vocabulary.{Bool, Config, Event, List, Moment, Seat, Step, World, ℕ, and_from, and_parts, ap}
-use Rattle.mk_laws.proofs.Vocabulary.{append-nil, append_assoc, arith, cond, false, found, if◌then◌else◌, left}
-use Rattle.mk_laws.proofs.Vocabulary.{left_in_parts, refl, subst, sym, true, true≢false, world_behind, [], ◌++◌, ◌+◌}
-use Rattle.mk_laws.proofs.Vocabulary.{◌∙◌, ◌∷◌, ◌≡◌}
+use Rattle.mk_laws.proofs.Vocabulary.{append-nil, append_assoc, arith, cond, false, found, if◌then◌else◌, left_in_parts}
+use Rattle.mk_laws.proofs.Vocabulary.{refl, subst, sym, true, true≢false, world_behind, [], ◌++◌, ◌+◌, ◌∙◌, ◌∷◌, ◌≡◌}
 use Rattle.mk_core.specs.{Growing.{AreOfOthers, Finding, is_same_seat, own_from}, Frames.CountsAreLeft}
 use Rattle.mk_core.specs.History.{left_from}
 use Rattle.mk_tracing.specs.Tracing.{Counted, OwnStepsKeep, Traces, untouched_of}
-use Rattle.mk_turns.proofs.Doing.{done_in_parts, none_own, of_kinds_in_parts, others_are_so, own_or_others_in_parts}
-use Rattle.mk_turns.specs.Doing.{AreOwnOrOfOthers, are_of, count_done, done_in}
-use Rattle.mk_words.proofs.Seats.{not_both, same_seat, same_self}
+use Rattle.mk_turns.proofs.Doing.{does_nothing, does_step, does_then, done_in_parts, none_own}
+use Rattle.mk_turns.specs.Doing.{Does, are_of, count_done, done_in}
+use Rattle.mk_words.proofs.{Made.own_before, Seats.{not_both, same_seat, same_self}}
 use Rattle.mk_words.specs.{States.{PassState, event_of, world_of}, Seats.Has, Steps.Makes, TurnSteps.world_at}
 
 -- the rule, over a list in two parts
@@ -41,19 +40,25 @@ pub one_own : (c : Config) (s : Seat) (w : World) (e : Event) → is_same_seat s
 unfolding own_from
 one_own c s w e same = ap (λ (b : Bool). if b then record { event = e; found = found c w.now e } ∷ [] else []) same
 
-itself : (s : Seat) (seats : List Seat) (e : Event) → e.seat ≡ s → Has seats s → AreOwnOrOfOthers s seats (e ∷ [])
-unfolding AreOwnOrOfOthers
-itself s seats e same has = grind (arith, same_self)
+-- What is done from one pass to another is one list of events, whichever kinds are allowed.
+pub more_is : {kinds : Step → Bool} {p q : PassState} (d : Does kinds p q) (es : List Event)
+    → q ≡ record p { seen = p.seen ++ es } → d.more ≡ es
+more_is {p} d es is = append_cancel_left p.seen d.more es (ap (λ (x : PassState). x.seen) (sym d.is ∙ is))
+
+pub more_of_nothing : {kinds : Step → Bool} {p : PassState} (d : Does kinds p p) → d.more ≡ []
+more_of_nothing {p} d = more_is d [] (sym (ap (λ (es : List Event). record p { seen = es }) (append-nil p.seen)))
+
+pub more_in_parts : {kinds more both : Step → Bool} {p q r : PassState} (d : Does kinds p q) (e : Does more q r)
+    (f : Does both p r) → f.more ≡ d.more ++ e.more
+more_in_parts {p} d e f = more_is f (d.more ++ e.more) (cc (e.is, d.is, append_assoc p.seen d.more e.more))
+
+pub more_of_step : {kinds : Step → Bool} {p q : PassState} {s : Step} (m : Makes p s q) (d : Does kinds p q)
+    → d.more ≡ m.others ++ event_of p s ∷ []
+more_of_step {p} {s} m d =
+    more_is d (m.others ++ event_of p s ∷ []) (m.is
+    ∙ ap (λ (es : List Event). record p { seen = es }) (append_assoc p.seen m.others (event_of p s ∷ [])))
 
 -- Nothing is traced.
-
-none_done : (p : PassState) → done_in p [] ≡ []
-unfolding own_from
-none_done p = refl
-
-nothing_own : (s : Seat) (seats : List Seat) → AreOwnOrOfOthers s seats []
-unfolding AreOwnOrOfOthers
-nothing_own s seats = tt
 
 nothing_keeps : (rule : Config → Moment → Step → Type 0) (c : Config) (s : Seat) (w : World)
     → OwnStepsKeep rule c s w []
@@ -62,17 +67,14 @@ nothing_keeps rule c s w = tt
 
 pub traces_nothing : (kinds : Step → Bool) (rule : Config → Moment → Step → Type 0) (p : PassState)
     → Traces kinds rule p p
-traces_nothing kinds rule p = record {
-  does = record {
-    more = [];
-    is = sym (ap (λ (es : List Event). record p { seen = es }) (append-nil p.seen));
-    own_or_others = nothing_own p.seat p.seats;
-    of_kinds = ap (λ (xs : List Finding). are_of kinds xs) (none_done p);
-  };
-  keeps = nothing_keeps rule p.table.config p.seat (world_of p);
-  untouched = refl;
-  counts = record { ends = refl; fulls = refl };
-}
+traces_nothing kinds rule p =
+    let d = does_nothing kinds p in
+    record {
+      does = d;
+      keeps = rw (more_of_nothing d) (nothing_keeps rule p.table.config p.seat (world_of p));
+      untouched = refl;
+      counts = record { ends = refl; fulls = refl };
+    }
 
 -- One part is traced after another, and what is done of a kind adds up.
 
@@ -84,46 +86,35 @@ count_in_parts : (test : Finding → Bool) (xs ys : List Finding)
     → count_by test (xs ++ ys) ≡ count_by test xs + count_by test ys
 count_in_parts test xs ys = sum_by-append (λ (x : Finding). cond (test x) 1 0) xs ys
 
-module _ (kinds : Step → Bool) (rule : Config → Moment → Step → Type 0) (kind : Step → Bool) where
-  then_at : (p : PassState) (xs : List Event) → AreOwnOrOfOthers p.seat p.seats xs → are_of kinds (done_in p xs) ≡ true
-      → OwnStepsKeep rule p.table.config p.seat (world_of p) xs → untouched_of
-      (left p.table.config (p.seen ++ xs)) ≡ untouched_of (world_of p) → CountsAreLeft p.table.config p.seen
-      (p.seen ++ xs) → (n m : ℕ) → count_by (λ (x : Finding). kind x.event.step) (done_in p xs) ≡ n → (r : PassState)
-      → Counted kinds rule kind (record p { seen = p.seen ++ xs }) r m → Counted kinds rule kind p r (n + m)
-  then_at p xs own of_kinds keeps untouched counts n m before r on =
-      let d = on.traces.does in
-      let test : Finding → Bool = λ (x : Finding). kind x.event.step in
-      record {
-        traces = record {
-          does = record {
-            more = xs ++ d.more;
-            is = d.is ∙ ap (λ (es : List Event). record p { seen = es }) (append_assoc p.seen xs d.more);
-            own_or_others = own_or_others_in_parts p.seat p.seats xs d.more own d.own_or_others;
-            of_kinds =
-                ap (λ (zs : List Finding). are_of kinds zs) (done_in_parts p xs d.more) ∙ of_kinds_in_parts kinds
-                (done_in p xs) (done_in (record p { seen = p.seen ++ xs }) d.more) of_kinds d.of_kinds;
-          };
-          keeps =
-              keep_in_parts rule _ _ _ xs d.more keeps (subst
-              (λ (w : World). OwnStepsKeep rule p.table.config p.seat w d.more) (left_in_parts _ _ xs) on.traces.keeps);
-          untouched = on.traces.untouched ∙ untouched;
-          counts = counts_then counts on.traces.counts;
-        };
-        count =
-            ap (λ (zs : List Finding). count_by test zs) (done_in_parts p xs d.more)
-            ∙ count_in_parts test (done_in p xs) (done_in (record p { seen = p.seen ++ xs }) d.more) ∙ ap (λ k. k
-            + count_by test (done_in (record p { seen = p.seen ++ xs }) d.more)) before ∙ ap (λ k. n + k) on.count;
-      }
-
-  pub counted_then : (p q r : PassState) (n m : ℕ) → Counted kinds rule kind p q n → Counted kinds rule kind q r m
-      → Counted kinds rule kind p r (n + m)
-  counted_then p q r n m one two =
-      let t = one.traces in
-      let d = t.does in
-      then_at p d.more d.own_or_others d.of_kinds t.keeps
-      (subst (λ (x : PassState). untouched_of (world_of x) ≡ untouched_of (world_of p)) d.is t.untouched)
-      (subst (λ (x : PassState). CountsAreLeft p.table.config p.seen x.seen) d.is t.counts) n m one.count r
-      (subst (λ (x : PassState). Counted kinds rule kind x r m) d.is two)
+pub counted_then : (kinds : Step → Bool) (rule : Config → Moment → Step → Type 0) (kind : Step → Bool)
+    (p q r : PassState) (n m : ℕ) → Counted kinds rule kind p q n → Counted kinds rule kind q r m
+    → Counted kinds rule kind p r (n + m)
+counted_then kinds rule kind p q r n m one two =
+    let t = one.traces in
+    let d = t.does in
+    let next = subst (λ (x : PassState). Counted kinds rule kind x r m) d.is two in
+    let e = next.traces.does in
+    let f = does_then kinds p q r d two.traces.does in
+    let is : f.more ≡ d.more ++ e.more = more_is f (d.more ++ e.more) (e.is
+    ∙ ap (λ (es : List Event). record p { seen = es }) (append_assoc p.seen d.more e.more)) in
+    let test : Finding → Bool = λ (x : Finding). kind x.event.step in
+    record {
+      traces = record {
+        does = f;
+        keeps =
+            rw is (keep_in_parts rule _ _ _ d.more e.more t.keeps (subst (λ (w : World). OwnStepsKeep rule
+            p.table.config p.seat w e.more) (left_in_parts _ _ d.more) next.traces.keeps));
+        untouched = two.traces.untouched ∙ t.untouched;
+        counts = counts_then (subst (λ (x : PassState). CountsAreLeft p.table.config p.seen x.seen) d.is t.counts)
+            next.traces.counts;
+      };
+      count =
+          ap (λ (es : List Event). count_by test (done_in p es)) is
+          ∙ ap (λ (zs : List Finding). count_by test zs) (done_in_parts p d.more e.more)
+          ∙ count_in_parts test (done_in p d.more) (done_in (record p { seen = p.seen ++ d.more }) e.more)
+          ∙ ap (λ k. k + count_by test (done_in (record p { seen = p.seen ++ d.more }) e.more)) one.count
+          ∙ ap (λ k. n + k) next.count;
+    }
 
 pub traces_then : (kinds : Step → Bool) (rule : Config → Moment → Step → Type 0) (p q r : PassState)
     → Traces kinds rule p q → Traces kinds rule q r → Traces kinds rule p r
@@ -239,37 +230,31 @@ counted_by_kinds kinds rule other kind p q n follows one =
     }
 
 -- One step is made.
-module _ (kinds : Step → Bool) (rule : Config → Moment → Step → Type 0) (kind : Step → Bool) (p q : PassState)
-    (s : Step) (m : Makes p s q) where
-  pub done_by_one : Has p.seats p.seat → done_in p (m.others ++ event_of p s ∷ [])
+module _ {p q : PassState} {s : Step} (m : Makes p s q) where
+  pub done_by_one : done_in p (m.others ++ event_of p s ∷ [])
       ≡ record { event = event_of p s; found = found p.table.config (world_at m).now (event_of p s) } ∷ []
-  done_by_one has = grind (arith, done_in_parts, none_own, one_own, same_self)
+  done_by_one = grind (arith, done_in_parts, none_own, one_own, same_self, own_before m)
 
-  pub traces_step : (n : ℕ) → Has p.seats p.seat → kinds s ≡ true → rule p.table.config (world_at m).now s
+  pub traces_step : (kinds : Step → Bool) (rule : Config → Moment → Step → Type 0) (kind : Step → Bool) (n : ℕ)
+      → kinds s ≡ true → rule p.table.config (world_at m).now s
       → untouched_of (world_of q) ≡ untouched_of (world_of p) → CountsAreLeft p.table.config p.seen q.seen
       → 0 + cond (kind s) 1 0 ≡ n → Counted kinds rule kind p q n
-  traces_step n has allowed ruled untouched counts number =
+  traces_step kinds rule kind n allowed ruled untouched counts number =
       let e : Event = event_of p s in
+      let has = own_before m in
+      let d = does_step kinds p q s m allowed in
+      let is = more_of_step m d in
       record {
         traces = record {
-          does = record {
-            more = m.others ++ e ∷ [];
-            is = m.is ∙ ap (λ (es : List Event). record p { seen = es }) (append_assoc p.seen m.others (e ∷ []));
-            own_or_others =
-                own_or_others_in_parts p.seat p.seats m.others (e ∷ [])
-                (others_are_so p.seats p.seat m.others has m.of_others) (itself p.seat p.seats e refl has);
-            of_kinds = ap (λ (zs : List Finding). are_of kinds zs) (done_by_one has) ∙ and_from
-                (kinds s) true allowed refl;
-          };
+          does = d;
           keeps =
-              keep_in_parts rule p.table.config p.seat (world_of p) m.others (e ∷ [])
+              rw is (keep_in_parts rule p.table.config p.seat (world_of p) m.others (e ∷ [])
               (others_keep rule p.table.config p.seat p.seats (world_of p) m.others has m.of_others)
               (one_keeps rule p.table.config p.seat (left_from p.table.config (world_of p) m.others) e (subst
-              (λ (w : World). rule p.table.config w.now s) (left_in_parts p.table.config p.seen m.others) ruled));
+              (λ (w : World). rule p.table.config w.now s) (left_in_parts p.table.config p.seen m.others) ruled)));
           untouched = untouched;
           counts = counts;
         };
-        count = ap (λ (zs : List Finding). count_by (λ (x : Finding). kind x.event.step) zs) (done_by_one has) ∙ number;
+        count = ap (λ (es : List Event). count_by (λ (x : Finding). kind x.event.step) (done_in p es)) is
+            ∙ ap (λ (zs : List Finding). count_by (λ (x : Finding). kind x.event.step) zs) done_by_one ∙ number;
       }
-
--- The table, the seat and its seats stay.

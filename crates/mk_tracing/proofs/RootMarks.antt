@@ -3,7 +3,7 @@ use Rattle.std.proofs.lemmas.Nat.{le_or_l, le_or_r}
 use Rattle.mk_laws.proofs.Vocabulary.{Config, Event, IsHistory, List, Null, Word, Words, ℕ, ap, arith, at_rest, bit_or}
 use Rattle.mk_laws.proofs.Vocabulary.{cases_lt, flight_among, get_or_past, histories_keep_lengths, inl, inr, leb-true}
 use Rattle.mk_laws.proofs.Vocabulary.{left, never_behind, points_well, register_word, slice_index, slice_index_or}
-use Rattle.mk_laws.proofs.Vocabulary.{subst, true, ◌%◌, ◌*◌, ◌+◌, ◌-◌, ◌/◌, ◌<◌, ◌∙◌, ◌≡◌, ◌≤◌}
+use Rattle.mk_laws.proofs.Vocabulary.{subst, true, ◌%◌, ◌*◌, ◌+◌, ◌/◌, ◌<◌, ◌∙◌, ◌≡◌, ◌≤◌}
 use Rattle.mk_core.specs.Words.{named_word}
 use Rattle.mk_laws.proofs.{InvariantHistories.histories_keep_the_invariant, Protocols.lists_keep_the_protocol}
 use Rattle.mk_tracing.proofs.MoreMarks.{marked_as, more_then, well_more, well_none, zero_none}
@@ -134,8 +134,9 @@ roots_well p pages w h same registers globals rs gs = record {
     ]
 
 -- The registers point well after the first marks, and the globals after more.
-pub all_roots_well : (p q r : PassState) {t : WordsState} → p.table ≡ t → IsHistory p.table.config p.seen
-    → MarksMore (still_words p) (still_words q) → MarksMore (still_words q) (still_words r)
-    → ((k : ℕ) → k < t.config.callers → RegistersAreWell t.config p q k)
-    → ((g : ℕ) → g < 64 → GlobalIsWell t.config q r g) → RootsPointWell t.config.pages (still_words r)
-all_roots_well p q r {t} table h one two registers globals = grind (arith, more_then, roots_well, well_more)
+pub all_roots_well : (t : TurnState) (q r : PassState) {k : WordsState} → t.pass.table ≡ k
+    → MarksMore (still_words t.pass) (still_words q) → MarksMore (still_words q) (still_words r)
+    → ((j : ℕ) → j < k.config.callers → RegistersAreWell k.config t.pass q j)
+    → ((g : ℕ) → g < 64 → GlobalIsWell k.config q r g) → RootsPointWell k.config.pages (still_words r)
+all_roots_well t q r {k} table one two registers globals =
+    grind (arith, more_then, roots_well, well_more, t.in_order)

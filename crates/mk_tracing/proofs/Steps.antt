@@ -6,16 +6,16 @@ use Rattle.mk_laws.proofs.Vocabulary.{and_from, answer_decided, ap, append-nil, 
 use Rattle.mk_laws.proofs.Vocabulary.{eq-eqb, false, flight_of, group_of, has_gates, has_phase, holder_may, is_end}
 use Rattle.mk_laws.proofs.Vocabulary.{is_in_range, is_of_turn, is_phase, left, lt-ltb, marker_at, marker_may}
 use Rattle.mk_laws.proofs.Vocabulary.{marks_place, not, not-true, outside, phase_of, progress, refl, seat_exists}
-use Rattle.mk_laws.proofs.Vocabulary.{set-get_or, still, subst, sym, true, [], ◌++◌, ◌+◌, ◌∙◌, ◌∷◌, ◌≡◌}
-use Rattle.mk_core.{proofs.{Conditions.meets_enabled, Histories.calls_more}, specs.Frames.{CountsAreLeft, HoldsAll}}
+use Rattle.mk_laws.proofs.Vocabulary.{set-get_or, still, subst, sym, true, [], ◌++◌, ◌∙◌, ◌∷◌, ◌≡◌}
+use Rattle.mk_core.{proofs.{Conditions.meets_enabled, Histories.calls_more}, specs.Frames.{CountsAreLeft}}
 use Rattle.mk_core.specs.{Order.{comes_next_to_host, is_in_order, is_of_any_holder}, Effects.flights_behind}
 use Rattle.mk_tracing.specs.{Stops.{HolderIsLoaded, is_loaded, is_loaded_at}, Tracing.{is_tracing, untouched_of}}
-use Rattle.mk_words.{proofs.Undecided.{decides_nothing}, specs.TurnSteps.{Acts, world_at}}
-use Rattle.mk_words.specs.{States.{PassState, call_of, now_of, world_of}, Steps.{IsEnabledTo, Makes}}
+use Rattle.mk_words.{proofs.Undecided.{decides_nothing}, specs.TurnSteps.{Acts, IsStopped, world_at}}
+use Rattle.mk_words.specs.{States.{PassState, TurnState, call_of, now_of, world_of}, Steps.{IsEnabledTo, Makes}}
 
-pub others_leave_untouched : {p q : PassState} {s : Step} (a : Acts p s q) → HoldsAll p.table.config (now_of p) p.seat
+pub others_leave_untouched : {p q : PassState} {s : Step} (a : Acts p s q) → IsStopped p
     → untouched_of (world_at a.makes) ≡ untouched_of (world_of p)
-others_leave_untouched a all = grind arith
+others_leave_untouched a gates = grind (arith, a.stop (a.holds, gates))
 
 -- Any step of a holder comes next, where the call has loaded what it loads.
 
@@ -41,14 +41,17 @@ no_marker : (c : Config) (m : Moment) (seat : Seat) (s : Step) → Holds c m sea
     → ((x : Seat) → marker_may c outside s ≡ true) → marker_may c (marker_at m seat) s ≡ true
 no_marker c m x2 s holds h = grind arith
 
-pub may_step : (p : PassState) (s : Step) → HolderIsLoaded p → Holds p.table.config (now_of p) p.seat
-    → is_of_any_holder s ≡ true
-    → is_in_range p.table.config p.seat (call_of p) s ≡ true
-    → has_gates p.table.config (now_of p).words p.seat (call_of p) s ≡ true
-    → has_phase (phase_of (now_of p).words) s ≡ true → marker_may p.table.config outside s ≡ true
-    → holder_may p.table.config (now_of p) (call_of p) s ≡ true → IsEnabledTo p s
-may_step p s ready holds any range gates phase marker own =
-    grind (arith, meets_enabled, exists_of, any_turn, in_order_of, no_marker)
+module _ (t : TurnState) (s : Step) where
+  abbrev pass : PassState
+  pass = t.pass
+
+  pub may_step : HolderIsLoaded pass → is_of_any_holder s ≡ true
+      → is_in_range pass.table.config pass.seat (call_of pass) s ≡ true
+      → has_gates pass.table.config (now_of pass).words pass.seat (call_of pass) s ≡ true
+      → has_phase (phase_of (now_of pass).words) s ≡ true → marker_may pass.table.config outside s ≡ true
+      → holder_may pass.table.config (now_of pass) (call_of pass) s ≡ true → IsEnabledTo pass s
+  may_step ready any range gates phase marker own =
+      grind (arith, meets_enabled, exists_of, any_turn, in_order_of, no_marker, t.in_order)
 
 -- A step that doesn't go on with the call leaves the calls.
 
@@ -99,7 +102,7 @@ counts_more : (c : Config) (es : List Event) (seat : Seat) (s : Step) → is_qui
     → CountsAreLeft c es (es ++ record { seat = seat; step = s } ∷ [])
 counts_more c es seat s h = grind (arith, ends_more, quiet_ends_nothing, no_call_more, decides_nothing)
 
-module _ (p q : PassState) (s : Step) (a : Acts p s q) (quiet : is_quiet s ≡ true) where
+module _ {p q : PassState} {s : Step} (a : Acts p s q) (quiet : is_quiet s ≡ true) where
   pub step_counts : CountsAreLeft p.table.config p.seen q.seen
   step_counts =
       let es : List Event = p.seen ++ a.makes.others in
@@ -107,9 +110,9 @@ module _ (p q : PassState) (s : Step) (a : Acts p s q) (quiet : is_quiet s ≡ t
       subst (λ (x : PassState). CountsAreLeft p.table.config p.seen x.seen) (sym a.makes.is)
       (record { ends = more.ends ∙ a.counts.ends; fulls = more.fulls ∙ a.counts.fulls })
 
-  pub step_untouched : HoldsAll p.table.config (now_of p) p.seat → is_late (world_at a.makes).now.words s ≡ true
+  pub step_untouched : IsStopped p → is_late (world_at a.makes).now.words s ≡ true
       → untouched_of (world_of q) ≡ untouched_of (world_of p)
-  step_untouched all late = grind (
+  step_untouched gates late = grind (
     arith,
     others_leave_untouched,
     with_flights,

@@ -4,15 +4,15 @@ use Rattle.mk_laws.proofs.Vocabulary.{Step, TurnIsLeft, Word, Words, World, Writ
 use Rattle.mk_laws.proofs.Vocabulary.{found, has_no_pointers, header_in, is_attending, is_marked, ne_eqb, or_else}
 use Rattle.mk_laws.proofs.Vocabulary.{outside, phase_of, pointed_cell, refl, slice_index_or, sym, true, world_behind}
 use Rattle.mk_laws.proofs.Vocabulary.{◌∙◌, ◌≡◌}
-use Rattle.mk_core.specs.{Effects.hand_given, Frames.{HoldsAll, written_of}, Readings.NoneAttends, Words.named_word}
-use Rattle.mk_core.specs.declared.seats.Source.TheVariants.{Marked}
+use Rattle.mk_core.specs.{declared.seats.Source.TheVariants.Marked, Effects.hand_given, Frames.written_of}
+use Rattle.mk_core.specs.{Readings.NoneAttends, Words.named_word}
 use Rattle.mk_tracing.proofs.{Steps.{is_late, is_quiet, step_counts, step_untouched, still_ready}, Parts.traces_step}
 use Rattle.mk_tracing.specs.Grays.{IsInHand, MarksOn, TracesReached, with_blacks, with_marks, without_blacks}
 use Rattle.mk_tracing.specs.{Grays.without_dirty, Stops.{IsWanted, hand_of, is_root, is_still_word, still_words}}
 use Rattle.mk_tracing.specs.Tracing.{Traces, is_marking, untouched_of}
 use Rattle.mk_turns.proofs.PointedCells.{found_there}
-use Rattle.mk_words.specs.{States.{PassState, event_of, now_of, world_of}, Seats.Has, Steps.Finds}
-use Rattle.mk_words.specs.TurnSteps.{Acts, world_at}
+use Rattle.mk_words.{proofs.TurnSteps.{still_stopped}, specs.TurnSteps.{Acts, world_at}}
+use Rattle.mk_words.specs.{States.{PassState, TurnState, event_of, now_of, world_of}, Steps.Finds}
 
 abbrev words_by : Steady → Written → List ℕ → List ℕ → Words
 words_by s y marks blacks = record {
@@ -59,62 +59,60 @@ phase_behind c w seat x3 h = grind arith
 abbrev NoneOf : List MarkerState → Type 0
 NoneOf xs = (k : ℕ) → is_attending (slice_index_or xs k outside).presence ≡ false
 
-module _ (p q : PassState) (s : Step) (a : Acts p s q) (wanted : IsWanted p)
-    (all : HoldsAll p.table.config (now_of p) p.seat) where
+module _ {p q : PassState} {s : Step} (a : Acts p s q) (wanted : IsWanted p) where
   pub phase_there : phase_of (world_at a.makes).now.words ≡ 2
   phase_there = ap (λ (x : Steady). x.phase) a.turn.steady ∙ wanted.phase
 
   pub words_there : but_phase (world_at a.makes).now.words ≡ still_words p
-  words_there = words_left a.turn (a.stop all) wanted.phase wanted.none
+  words_there = words_left a.turn (a.stop (a.holds, wanted.gates)) wanted.phase wanted.none
 
   -- none attends after it either
   pub none_after : NoneAttends (now_of q)
-  none_after = grind arith
+  none_after = grind (arith, a.stop (a.holds, wanted.gates))
 
-module _ (p q : PassState) (s : Step) (a : Acts p s q) (wanted : IsWanted p)
-    (all : HoldsAll p.table.config (now_of p) p.seat) (stopped : is_stopped_step s ≡ true) where
+module _ {p q : PassState} {s : Step} (a : Acts p s q) (wanted : IsWanted p) (stopped : is_stopped_step s ≡ true) where
   untouched : untouched_of (world_of q) ≡ untouched_of (world_of p)
-  untouched = step_untouched p q s a (quiet_of s stopped) all (grind (arith, is_late, ne_eqb, phase_there))
+  untouched = step_untouched a (quiet_of s stopped) wanted.gates (grind (arith, is_late, ne_eqb, phase_there))
 
   pub still_wanted : IsWanted q
-  still_wanted = grind (arith, still_ready, untouched, phase_behind, phase_there, none_after)
+  still_wanted = grind (arith, still_ready, still_stopped, untouched, phase_behind, phase_there, none_after)
 
-  pub stopped_traces : Has p.seats p.seat → (rule : Config → Moment → Step → Type 0) → is_marking s ≡ true
+  pub stopped_traces : (rule : Config → Moment → Step → Type 0) → is_marking s ≡ true
       → rule p.table.config (world_at a.makes).now s → Traces is_marking rule p q
-  stopped_traces own rule kind ruled =
-      (traces_step is_marking rule (λ (x : Step). false) p q s a.makes 0 own kind ruled untouched
-      (step_counts p q s a (quiet_of s stopped)) refl).traces
+  stopped_traces rule kind ruled =
+      (traces_step a.makes is_marking rule (λ (x : Step). false) 0 kind ruled untouched
+      (step_counts a (quiet_of s stopped)) refl).traces
 
 -- what each step leaves
 
-module _ (p q : PassState) (wanted : IsWanted p) (all : HoldsAll p.table.config (now_of p) p.seat) where
-  pub look_words : (x : Word) → Acts p (Step.Look x) q → still_words q ≡ still_words p
-  look_words x a = grind (arith, but_phase, words_there)
+module _ {p q : PassState} (wanted : IsWanted p) where
+  pub look_words : {x : Word} → Acts p (Step.Look x) q → still_words q ≡ still_words p
+  look_words a = grind (arith, but_phase, words_there)
 
-  pub mark_words : (pg v : ℕ) → Acts p (Step.Mark pg v) q → still_words q ≡ with_marks pg v (still_words p)
-  mark_words pg v a = grind (arith, but_phase, words_there)
+  pub mark_words : {pg v : ℕ} → Acts p (Step.Mark pg v) q → still_words q ≡ with_marks pg v (still_words p)
+  mark_words a = grind (arith, but_phase, words_there)
 
-  pub black_words : (pg v : ℕ) → Acts p (Step.Black pg v) q → still_words q ≡ with_blacks pg v (still_words p)
-  black_words pg v a = grind (arith, but_phase, words_there)
+  pub black_words : {pg v : ℕ} → Acts p (Step.Black pg v) q → still_words q ≡ with_blacks pg v (still_words p)
+  black_words a = grind (arith, but_phase, words_there)
 
-  pub unblack_words : (pg : ℕ) → Acts p (Step.Unblack pg) q → still_words q ≡ without_blacks pg (still_words p)
-  unblack_words pg a = grind (arith, but_phase, words_there)
+  pub unblack_words : {pg : ℕ} → Acts p (Step.Unblack pg) q → still_words q ≡ without_blacks pg (still_words p)
+  unblack_words a = grind (arith, but_phase, words_there)
 
-  pub undirty_words : (pg : ℕ) → Acts p (Step.Undirty pg) q → still_words q ≡ without_dirty pg (still_words p)
-  undirty_words pg a = grind (arith, but_phase, words_there)
+  pub undirty_words : {pg : ℕ} → Acts p (Step.Undirty pg) q → still_words q ≡ without_dirty pg (still_words p)
+  undirty_words a = grind (arith, but_phase, words_there)
 
-  pub marks_on : Has p.seats p.seat → {s : Step} → Acts p s q → is_stopped_step s ≡ true
-      → ((w : World) → but_phase w.now.words ≡ still_words p → w.now.seats.holding ≡ (now_of p).seats.holding
-      → TracesReached p.table.config w.now s) → MarksOn (record { pass = p }) (record { pass = q })
-  marks_on own {s = s} a stopped ruled = record {
-    table = ap (λ (x : PassState). x.table) a.makes.is;
-    wanted = still_wanted p q s a wanted all stopped;
-    traces = stopped_traces p q s a wanted all stopped own TracesReached (marking s stopped)
-        (ruled (world_at a.makes) (words_there p q s a wanted all) a.holding);
-  }
-    where
-      marking : (x : Step) → is_stopped_step x ≡ true → is_marking x ≡ true
-      marking x h = grind arith
+pub marks_on : {t u : TurnState} → IsWanted t.pass → {s : Step} → Acts t.pass s u.pass → is_stopped_step s ≡ true
+    → ((w : World) → but_phase w.now.words ≡ still_words t.pass → w.now.seats.holding ≡ (now_of t.pass).seats.holding
+    → TracesReached t.pass.table.config w.now s) → MarksOn t u
+marks_on {t} {u} wanted {s} a stopped ruled = record {
+  table = ap (λ (x : PassState). x.table) a.makes.is;
+  wanted = still_wanted a wanted stopped;
+  traces = stopped_traces a wanted stopped TracesReached (marking s stopped)
+      (ruled (world_at a.makes) (words_there a wanted) a.holding);
+}
+  where
+    marking : (x : Step) → is_stopped_step x ≡ true → is_marking x ≡ true
+    marking x h = grind arith
 
 -- what a look finds, and the hand that it gives
 
@@ -122,10 +120,10 @@ pub still_name : (w : Words) (x : Word) → is_still_word x ≡ true → named_w
 still_name w Word.Phase h = cc
 still_name w _ h = refl
 
-module _ (p q : PassState) (wanted : IsWanted p) (all : HoldsAll p.table.config (now_of p) p.seat) (x : Word)
-    (a : Acts p (Step.Look x) q) (n : ℕ) (finds : Finds p (Step.Look x) n q) where
+module _ {p q : PassState} (wanted : IsWanted p) {x : Word} (a : Acts p (Step.Look x) q) {n : ℕ}
+    (finds : Finds p (Step.Look x) n q) where
   pub look_finds : is_still_word x ≡ true → n ≡ named_word (still_words p) x
-  look_finds name = cc (found_there p q x n finds, still_name (now_of q).words x name, look_words p q wanted all x a)
+  look_finds name = cc (found_there p q x n finds, still_name (now_of q).words x name, look_words wanted a)
 
   pub found_now : found p.table.config (world_at a.makes).now (event_of p (Step.Look x)) ≡ n
   found_now = ap (λ (w : World). named_word w.now.words x) (sym a.world) ∙ found_there p q x n finds
@@ -138,15 +136,15 @@ module _ (p q : PassState) (wanted : IsWanted p) (all : HoldsAll p.table.config 
   root_hand root = grind (arith, hand_now, found_now)
 
 -- a word of a marked cell that is scanned
-pub marked_hand : {p q : PassState} → IsWanted p → HoldsAll p.table.config (now_of p) p.seat
-    → {i : ℕ} (a : Acts p (Step.Look (Word.Heap i)) q) (n : ℕ) → Finds p (Step.Look (Word.Heap i)) n q → (cell : Cell)
+pub marked_hand : {p q : PassState} → IsWanted p → {i : ℕ} (a : Acts p (Step.Look (Word.Heap i)) q) {n : ℕ}
+    → Finds p (Step.Look (Word.Heap i)) n q → (cell : Cell)
     → pointed_cell p.table.config.pages (still_words p).pages (address_of i) ≡ Some cell → is_marked
     (still_words p) cell ≡ true → has_no_pointers (header_in (still_words p) cell.page) ≡ false → IsInHand q n
-marked_hand {p} {q} wanted all {i = i} a n finds cell pointed marked scanned = record {
+marked_hand {p} {q} wanted {i = i} a {n = n} finds cell pointed marked scanned = record {
   hand = record { value = n; source = Marked };
-  is = hand_now p q wanted all (Word.Heap i) a n finds ∙ ap (λ (o : Option Hand). or_else o (hand_of p))
+  is = hand_now wanted a finds ∙ ap (λ (o : Option Hand). or_else o (hand_of p))
       (given (found p.table.config (world_at a.makes).now (event_of p (Step.Look (Word.Heap i)))))
-      ∙ ap (λ (v : ℕ). Some (record { value = v; source = Marked })) (found_now p q wanted all (Word.Heap i) a n finds);
+      ∙ ap (λ (v : ℕ). Some (record { value = v; source = Marked })) (found_now wanted a finds);
   value = refl;
   reached = refl;
 }
@@ -155,7 +153,7 @@ marked_hand {p} {q} wanted all {i = i} a n finds cell pointed marked scanned = r
     m' = (world_at a.makes).now
 
     same : but_phase m'.words ≡ still_words p
-    same = words_there p q (Step.Look (Word.Heap i)) a wanted all
+    same = words_there a wanted
 
     pointed_now : pointed_cell p.table.config.pages m'.words.pages (address_of i) ≡ Some cell
     pointed_now = ap (λ (w : Words). pointed_cell p.table.config.pages w.pages (address_of i)) same ∙ pointed

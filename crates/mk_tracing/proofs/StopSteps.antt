@@ -1,8 +1,8 @@
 -- Each step in the stop goes on with the marking.
-use Rattle.mk_laws.proofs.Vocabulary.{Cell, Config, IsHistory, Moment, Step, Word, Words, World, ℕ, address_of, ap}
-use Rattle.mk_laws.proofs.Vocabulary.{arith, cell_words, first_word, header_at, lt-ltb, pointed_cell, refl, slice_index}
-use Rattle.mk_laws.proofs.Vocabulary.{subst, sym, true, ◌*◌, ◌+◌, ◌<◌, ◌^◌, ◌∙◌, ◌≡◌, ◌≢◌}
-use Rattle.mk_core.{proofs.PointedPages.{pointed_within}, specs.{Frames.HoldsAll, Ranges.is_word}}
+use Rattle.mk_laws.proofs.Vocabulary.{Cell, Config, Moment, Step, Word, Words, World, ℕ, address_of, ap, arith}
+use Rattle.mk_laws.proofs.Vocabulary.{cell_words, first_word, header_at, lt-ltb, pointed_cell, refl, slice_index, subst}
+use Rattle.mk_laws.proofs.Vocabulary.{sym, true, ◌*◌, ◌+◌, ◌<◌, ◌^◌, ◌∙◌, ◌≡◌, ◌≢◌}
+use Rattle.mk_core.{proofs.PointedPages.{pointed_within}, specs.Ranges.{is_word}}
 use Rattle.mk_tracing.proofs.{CellWords.{cell_of_word, words_in_heap}, Stilled.{but_phase, look_finds, look_words}}
 use Rattle.mk_tracing.proofs.{Stilled.{marked_hand, marks_on}, MaySteps.marks_by, Parts.{traces_nothing, traces_then}}
 use Rattle.mk_tracing.{proofs.Steps.{is_quiet}, specs.Grays.{MarksReached, ReachedMarksSweepNothing, TracesReached}}
@@ -10,7 +10,7 @@ use Rattle.mk_tracing.specs.Grays.{HandPointsInto, HasDirtyPart, IsGray, IsGrayW
 use Rattle.mk_tracing.specs.{Stops.{IsWanted, is_page_word, is_root, still_words}, Noted.IsDue}
 use Rattle.mk_tracing.specs.declared.noted.Noted.{Noted}
 use Rattle.mk_words.proofs.Unmarked.{pointed_has_header}
-use Rattle.mk_words.specs.{Seats.Has, States.{PassState, TurnState, now_of}, Steps.Finds, TurnSteps.Acts}
+use Rattle.mk_words.specs.{States.{PassState, TurnState, now_of}, Steps.Finds, TurnSteps.Acts}
 
 -- The marking goes on, and on, and so do looks.
 
@@ -55,13 +55,12 @@ reached_there : {p : PassState} (w : World) {cell : Cell} → but_phase w.now.wo
     ≡ (now_of p).seats.holding → HandPointsInto p cell → MarksReached p.table.config w.now cell.page (2 ^ cell.index)
 reached_there w same holding r = grind (arith, marks_by)
 
-module _ {t u : TurnState} (wanted : IsWanted t.pass) (all : HoldsAll t.pass.table.config (now_of t.pass) t.pass.seat)
-    (own : Has t.pass.seats t.pass.seat) where
+module _ {t u : TurnState} (wanted : IsWanted t.pass) where
   looks_on : {x : Word} → Acts t.pass (Step.Look x) u.pass → is_quiet (Step.Look x) ≡ true → ((w : World) → but_phase
       w.now.words ≡ still_words t.pass → TracesReached t.pass.table.config w.now (Step.Look x)) → LooksOn t u
   looks_on {x} a quiet ruled = record {
-    on = marks_on t.pass u.pass wanted all own a quiet (λ w e h. ruled w e);
-    words = look_words t.pass u.pass wanted all x a;
+    on = marks_on wanted a quiet (λ w e h. ruled w e);
+    words = look_words wanted a;
   }
 
   pub looks_plain : {x : Word} → Acts t.pass (Step.Look x) u.pass → is_page_word x ≡ true → LooksOn t u
@@ -76,21 +75,24 @@ module _ {t u : TurnState} (wanted : IsWanted t.pass) (all : HoldsAll t.pass.tab
 
   pub on_mark : {cell : Cell} → Acts t.pass (Step.Mark cell.page (2 ^ cell.index)) u.pass → HandPointsInto t.pass cell
       → MarksOn t u
-  on_mark {cell} a reached = marks_on t.pass u.pass wanted all own a refl (λ w e h. reached_there w e h reached)
+  on_mark {cell} a reached = marks_on wanted a refl (λ w e h. reached_there w e h reached)
 
   pub on_black : {page value : ℕ} → Acts t.pass (Step.Black page value) u.pass → MarksOn t u
-  on_black {page} {value} a = marks_on _ _ wanted all own a refl (λ w e h. tt)
+  on_black {page} {value} a = marks_on wanted a refl (λ w e h. tt)
 
   pub on_unblack : {page : ℕ} → Acts t.pass (Step.Unblack page) u.pass → HasDirtyPart (still_words t.pass) page
       → MarksOn t u
-  on_unblack {page} a part = marks_on t.pass u.pass wanted all own a refl (λ w e h. grind arith)
+  on_unblack {page} a part = marks_on wanted a refl (λ w e h. grind arith)
 
   pub on_undirty : {page : ℕ} → Acts t.pass (Step.Undirty page) u.pass → MarksOn t u
-  on_undirty {page} a = marks_on t.pass u.pass wanted all own a refl (λ w e h. tt)
+  on_undirty {page} a = marks_on wanted a refl (λ w e h. tt)
 
 -- A word of a gray cell.
-module _ (p : PassState) (history : IsHistory p.table.config p.seen) (pages : ℕ) (sized : pages ≡ p.table.config.pages)
-    (noted : Noted) (i : ℕ) (due : IsDue pages (still_words p) noted) (lt : i < noted.words) where
+module _ (t : TurnState) (pages : ℕ) (sized : pages ≡ t.pass.table.config.pages) {noted : Noted} (i : ℕ)
+    (due : IsDue pages (still_words t.pass) noted) (lt : i < noted.words) where
+  abbrev p : PassState
+  p = t.pass
+
   abbrev cell : Cell
   cell = noted.cell
 
@@ -112,25 +114,25 @@ module _ (p : PassState) (history : IsHistory p.table.config p.seen) (pages : �
   in_heap : n < 64 * p.table.config.pages
   in_heap =
       subst (λ k. k < 64 * p.table.config.pages) (sym same_word)
-      (words_in_heap cell i history gray.page gray.index due.scanned within)
+      (words_in_heap cell i t.in_order.history gray.page gray.index due.scanned within)
 
   pub word_named : is_word p.table.config (Word.Heap (64 * cell.page + cell.index * noted.words + i)) ≡ true
   word_named = lt-ltb n (64 * p.table.config.pages) in_heap
 
   pub word_near : 64 * cell.page + cell.index * noted.words + i < 262144
-  word_near = let near = in_heap in let few = history.within_limits.pages.1 in omega arith
+  word_near = let near = in_heap in let few = t.in_order.history.within_limits.pages.1 in omega arith
 
-  module _ {q : PassState} {v : ℕ} (wanted : IsWanted p) (all : HoldsAll p.table.config (now_of p) p.seat)
+  module _ {q : PassState} {v : ℕ} (wanted : IsWanted p)
       (a : Acts p (Step.Look (Word.Heap (64 * cell.page + cell.index * noted.words + i))) q)
       (finds : Finds p (Step.Look (Word.Heap (64 * cell.page + cell.index * noted.words + i))) v q) where
     pub word_found : v ≡ slice_index (still_words p).heap (first_word (still_words p) cell + i)
-    word_found = cc (look_finds p q wanted all (Word.Heap n) a v finds refl, same_word)
+    word_found = cc (look_finds wanted a finds refl, same_word)
 
     pub word_hand : v ≢ 0 → IsInHand q v
     word_hand some =
-        marked_hand wanted all a v finds cell (ap (λ k. pointed_cell p.table.config.pages (still_words p).pages
-        (address_of k)) same_word ∙ cell_of_word cell i history wanted.phase gray.page gray.index due.scanned within
-        (λ z. some (word_found ∙ z))) gray.marked due.scanned
+        marked_hand wanted a finds cell (ap (λ k. pointed_cell p.table.config.pages (still_words p).pages
+        (address_of k)) same_word ∙ cell_of_word cell i t.in_order.history wanted.phase gray.page gray.index due.scanned
+        within (λ z. some (word_found ∙ z))) gray.marked due.scanned
 
 -- The cell into which the hand points lies in the heap.
 pub reached_within : {p : PassState} {cell : Cell} → HandPointsInto p cell
@@ -138,9 +140,9 @@ pub reached_within : {p : PassState} {cell : Cell} → HandPointsInto p cell
 reached_within {p} {cell} r = pointed_within p.table.config.pages (still_words p) r.value cell r.points
 
 -- Its page has a header.
-pub reached_in_use : {p : PassState} {cell : Cell} → IsHistory p.table.config p.seen → IsWanted p
-    → HandPointsInto p cell → header_at (now_of p).words cell.page ≢ 0
-reached_in_use history wanted r = grind (arith, pointed_has_header)
+pub reached_in_use : (t : TurnState) {cell : Cell} → IsWanted t.pass → HandPointsInto t.pass cell
+    → header_at (now_of t.pass).words cell.page ≢ 0
+reached_in_use t wanted r = grind (arith, pointed_has_header, t.in_order)
 
 -- A mark by what stood in a root or a marked cell isn't sweeping.
 pub reached_marks_sweep_nothing : ReachedMarksSweepNothing

@@ -8,7 +8,7 @@ use Rattle.mk_core.specs.{Words.{Words, phase_of, register_word}, Cells.{header_
 use Rattle.mk_core.specs.Cells.{first_word, cell_words, is_marked, has_no_pointers, pointed_cell, points_well}
 use Rattle.mk_core.specs.{Cells.words_under, Cycles.{is_unmarked, sweeps}, Frames.OnlyGrow, Moments.Moment}
 use Rattle.mk_core.specs.StopConditions.{marks_by_hand}
-use Rattle.mk_words.specs.States.{PassState, TurnState, now_of}
+use Rattle.mk_words.specs.{States.{PassState, TurnState, now_of}, TurnSteps.IsStopped}
 use Rattle.mk_tracing.specs.{Stops.{HolderIsLoaded, IsWanted, hand_of, still_words}, Tracing.{Counted, Traces}}
 use Rattle.mk_tracing.specs.Tracing.{is_marking, is_waiting, is_want}
 use Rattle.mk_core.specs.declared.events.Step.TheVariants as step
@@ -64,10 +64,12 @@ pub record LooksOn (t u : TurnState) : Type 0 where
   pub on : MarksOn t u
   pub words : still_words u.pass ≡ still_words t.pass
 
--- The close is wanted, by this many steps between, and the holder looks until no marker is in. All else is as it was.
+-- The close is wanted, by this many steps between, and the holder looks until no marker is in, while the gates of all
+-- others are held. All else is as it was.
 pub record WaitsForMarkers (t u : TurnState) (wishes : ℕ) : Type 0 where
   pub table : u.pass.table ≡ t.pass.table
   pub ready : HolderIsLoaded u.pass
+  pub gates : IsStopped u.pass
   pub phase : phase_of (now_of u.pass).words ≡ 2
   pub traces : Counted is_waiting TracesReached is_want t.pass u.pass wishes
 

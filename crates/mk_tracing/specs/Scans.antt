@@ -1,5 +1,5 @@
 -- What the marking from words leaves: marks, and what is noted of the cells that are still to be scanned.
-use Rattle.std.specs.Prelude.{◌≡◌, ℕ, ◌<◌, ◌≤◌, true}
+use Rattle.std.specs.Prelude.{ℕ, ◌<◌, ◌≤◌}
 use Rattle.mk_geom.specs.declared.addresses.Cell.{Cell}
 use Rattle.mk_words.specs.States.{TurnState}
 use Rattle.mk_tracing.specs.{declared.worklist.Worklist.Worklist, Grays.{MarksMore, MarksOn, WordIsWell}}

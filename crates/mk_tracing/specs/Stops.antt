@@ -3,7 +3,7 @@ use Rattle.std.specs.Prelude.{◌≡◌, Bool, true, false, Option}
 use Rattle.mk_core.specs.{declared.events.Seat.Seat, declared.events.Seat.TheVariants.Caller, declared.events.Word.Word}
 use Rattle.mk_core.specs.{declared.seats.Flight.Flight, declared.seats.Hand.Hand, declared.seats.Stage.Stage}
 use Rattle.mk_core.specs.{Words.{Words, phase_of}, Readings.NoneAttends}
-use Rattle.mk_words.specs.States.{PassState, WordsState, now_of, call_of}
+use Rattle.mk_words.specs.{States.{PassState, WordsState, now_of, call_of}, TurnSteps.IsStopped}
 use Rattle.mk_core.specs.declared.events.Word.TheVariants as word
 use Rattle.mk_core.specs.declared.seats.Stage.TheVariants as stage
 
@@ -22,9 +22,10 @@ is_loaded _ f = true
 pub record HolderIsLoaded (p : PassState) : Type 0 where
   pub loaded : is_loaded p.seat (call_of p) ≡ true
 
--- The close is wanted, and no marker attends, nor will one.
+-- The close is wanted while the gates of all others are held, and no marker attends, nor will one.
 pub record IsWanted (p : PassState) : Type 0 where
   pub ready : HolderIsLoaded p
+  pub gates : IsStopped p
   pub phase : phase_of (now_of p).words ≡ 2
   pub none : NoneAttends (now_of p)
 

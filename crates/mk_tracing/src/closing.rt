@@ -44,5 +44,4 @@ pub fn close_marks<R: Wait>(rt: &R, words: &Words, stop: &mut Stopped, work: &mu
 {
     want_and_wait(rt, words, stop);
     mark_in_stop(Table::of(words), stop, work);
-    stop.is_in_order();
 }

@@ -4,7 +4,7 @@ ghost use Rattle.std.specs.Prelude.{◌≡◌, ◌≢◌, ℕ, ◌<◌, true, fa
 ghost use Rattle.mk_tracing.specs.Grays.{BlacksFewer, HasDirtyPart, IsCleaner, DirtyIsUnscanned, MarksOn};
 ghost use Rattle.mk_tracing.specs.{Grays.without_blacks, Stops.{MayTrace, still_words}};
 
-use crate::stepping::{clear_black, look_at, next_in_use, undirty_page};
+use crate::stepping::{clear_black, look_at, undirty_page};
 use crate::tables::Table;
 use mk_core::Word;
 use mk_geom::head_page_under;
@@ -67,7 +67,7 @@ pub(crate) fn clean_dirty(table: Table, stop: &mut Stopped)
     ensures clean { (p : ℕ) → p < table.entry.pages → slice_index (still_words stop.new.pass).dirty p ≡ 0 }
 {
     let mut from = 0;
-    while let Some(page) = next_in_use(stop, from) {
+    while let Some(page) = stop.next_in_use(from) {
         clean_if_dirty(table, stop, page);
         from = page + 1;
     }

@@ -6,7 +6,7 @@ ghost use Rattle.mk_tracing.specs.{Grays.{HasNoGray, LooksOn}, Noted.{AreNoted, 
 ghost use Rattle.mk_tracing.specs.Stops.{MayTrace, still_words};
 
 use crate::noted::{Noted, words_scanned};
-use crate::stepping::{look_at, next_in_use};
+use crate::stepping::look_at;
 use crate::tables::Table;
 use crate::worklist::Worklist;
 use mk_core::{Word, cells_under, has_cell, without};
@@ -78,7 +78,7 @@ fn gray_between(table: Table, stop: &mut Stopped, from: u64, to: u64) -> Option<
     ensures none { IfNone result ((p : ℕ) → from ≤ p → p < to → HasNoGray (still_words stop.old.pass) p) }
 {
     let mut next = from;
-    while let Some(page) = next_in_use(stop, next) {
+    while let Some(page) = stop.next_in_use(next) {
         if page >= to {
             return None;
         }

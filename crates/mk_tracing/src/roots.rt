@@ -106,7 +106,6 @@ pub(crate) fn mark_roots(table: Table, stop: &mut Stopped, work: &mut Worklist)
     ensures marks { MarksAndNotes table.entry.pages stop.old work.old stop.new work.new }
     ensures roots { RootsPointWell table.entry.pages (still_words stop.new.pass) }
 {
-    stop.is_in_order();
     mark_registers(table, stop, work);
     mark_globals(table, stop, work);
 }

@@ -1,8 +1,7 @@
 //! Steps in the stop, when the close is wanted and no marker attends.
 ghost use Rattle.std.specs.Prelude.{◌≡◌, ◌/◌, ◌≢◌, ◌+◌, ◌<◌, ◌^◌, true, slice_index};
-ghost use Rattle.mk_core.specs.{Cells.{first_word, head_page}, History.IsHistory, Ranges.is_word};
+ghost use Rattle.mk_core.specs.{Cells.{first_word, head_page}, Ranges.is_word};
 ghost use Rattle.mk_core.specs.{StopConditions.may_turn_black, Words.named_word};
-ghost use Rattle.mk_page_map.specs.Members.{IsNext, is_in_use};
 ghost use Rattle.mk_tracing.specs.Grays.{with_marks, with_blacks, without_blacks, without_dirty, HasDirtyPart};
 ghost use Rattle.mk_tracing.specs.{Grays.{IsInHand, HandPointsInto, MarksOn, LooksOn}, Noted.IsDue};
 ghost use Rattle.mk_tracing.specs.Stops.{MayTrace, hand_of, is_page_word, is_root, still_words};
@@ -23,18 +22,7 @@ pub(crate) fn look_at(table: Table, stop: &mut Stopped, x: Word) -> u64
     ensures hand { hand_of stop.new.pass ≡ hand_of stop.old.pass }
     ensures found { result ≡ named_word (still_words stop.old.pass) x }
 {
-    stop.is_in_order();
     stop.look_among(table.words, table.pages, x)
-}
-
-/// The lowest page that isn't free, of those from this one on. The page map knows it.
-#[inline(always)]
-pub(crate) fn next_in_use(stop: &Stopped, from: u64) -> Option<u64>
-    ensures history { IsHistory stop.now.pass.table.config stop.now.pass.seen }
-    ensures next { IsNext (is_in_use (still_words stop.now.pass).pages) from stop.now.pass.table.config.pages result }
-{
-    stop.is_in_order();
-    stop.next_in_use(from)
 }
 
 /// Looks at a register or a global, whose value is then the hand.
@@ -48,7 +36,6 @@ pub(crate) fn look_at_root(table: Table, stop: &mut Stopped, x: Word) -> u64
     ensures hand { IsInHand stop.new.pass result }
     ensures found { result ≡ named_word (still_words stop.old.pass) x }
 {
-    stop.is_in_order();
     stop.look_among(table.words, table.pages, x)
 }
 
@@ -66,7 +53,6 @@ pub(crate) fn look_at_word(table: Table, stop: &mut Stopped, gray: Noted, part: 
     ensures found { result
         ≡ slice_index (still_words stop.old.pass).heap (first_word (still_words stop.old.pass) gray.cell + i) }
 {
-    stop.is_in_order();
     let Cell { page, index } = gray.cell;
     let word = PAGE_WORDS * page + index * gray.words + i;
     stop.look_on_page(table.words, table.pages, page + part, Word::Heap(word))
@@ -81,7 +67,6 @@ pub(crate) fn mark_cell(table: Table, stop: &mut Stopped, cell: Cell)
     ensures on { MarksOn stop.old stop.new }
     ensures words { still_words stop.new.pass ≡ with_marks cell.page (2 ^ cell.index) (still_words stop.old.pass) }
 {
-    stop.is_in_order();
     stop.mark_in_use(table.words, table.pages, cell.page, bit(cell.index));
 }
 
@@ -96,7 +81,6 @@ pub(crate) fn blacken_cell(table: Table, stop: &mut Stopped, cell: Cell)
     ensures on { MarksOn stop.old stop.new }
     ensures words { still_words stop.new.pass ≡ with_blacks cell.page (2 ^ cell.index) (still_words stop.old.pass) }
 {
-    stop.is_in_order();
     stop.black_among(table.words, table.pages, cell.page, bit(cell.index));
 }
 
@@ -109,7 +93,6 @@ pub(crate) fn clear_black(table: Table, stop: &mut Stopped, page: u64)
     ensures on { MarksOn stop.old stop.new }
     ensures words { still_words stop.new.pass ≡ without_blacks page (still_words stop.old.pass) }
 {
-    stop.is_in_order();
     stop.unblack(table.words, page);
 }
 
@@ -123,6 +106,5 @@ pub(crate) fn undirty_page(table: Table, stop: &mut Stopped, page: u64)
     ensures on { MarksOn stop.old stop.new }
     ensures words { still_words stop.new.pass ≡ without_dirty page (still_words stop.old.pass) }
 {
-    stop.is_in_order();
     stop.undirty(table.words, page);
 }

@@ -1,7 +1,7 @@
 //! Wanting the close, and waiting for the markers.
 ghost use Rattle.std.specs.Prelude.{◌≡◌, ◌<◌};
 ghost use Rattle.mk_core.specs.Words.{phase_of};
-ghost use Rattle.mk_words.specs.States.{now_of};
+ghost use Rattle.mk_words.specs.{States.now_of, TurnSteps.IsStopped};
 ghost use Rattle.mk_tracing.specs.{Grays.{TracesReached, WaitsForMarkers}, Stops.{HolderIsLoaded, IsWanted}};
 ghost use Rattle.mk_tracing.specs.Tracing.{Counted, is_waiting, is_want};
 
@@ -17,7 +17,7 @@ fn want(words: &Words, stop: &mut Stopped)
     requires phase { phase_of (now_of stop.old.pass).words ≡ 1 }
     ensures { WaitsForMarkers stop.old stop.new 1 }
 {
-    stop.is_in_order();
+    stop.holds_gates();
     stop.want(words);
 }
 
@@ -25,14 +25,12 @@ fn want(words: &Words, stop: &mut Stopped)
 fn look_at_phase(words: &Words, stop: &mut Stopped) -> u64
     requires one_table { stop.old.pass.table ≡ words.now }
     requires ready { HolderIsLoaded stop.old.pass }
+    requires gates { IsStopped stop.old.pass }
     requires phase { phase_of (now_of stop.old.pass).words ≡ 2 }
     ensures waits { WaitsForMarkers stop.old stop.new 0 }
     ensures wanted { result < 8 → IsWanted stop.new.pass }
 {
-    stop.is_in_order();
-    let found = stop.look(words, Word::Phase);
-    stop.is_in_order();
-    found
+    stop.look(words, Word::Phase)
 }
 
 /// Wants the close, and waits until no marker is in. All gates of others are held all the while.

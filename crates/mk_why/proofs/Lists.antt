@@ -1,9 +1,9 @@
 -- The kept allocations are those of the cells that are in the snapshot and marked.
 use Rattle.mk_why.proofs.Vocabulary.{AreOfKept, Cell, Config, IsHistory, IsListed, IsStill, ListsOn, PassState}
-use Rattle.mk_why.proofs.Vocabulary.{PlacedAllocation, Storage, Tables, View, WordsState, base_at, cell_of_allocation}
-use Rattle.mk_why.proofs.Vocabulary.{entry_at, first_word, has_bit, header_at, header_in, header_of, is_kept}
-use Rattle.mk_why.proofs.Vocabulary.{never_behind, now_of, placed_at, storage_words, view_by, words_under, world_in}
-use Rattle.mk_why.{proofs.Vocabulary.{world_of}, specs.Listing.{IsKeptAt}}
+use Rattle.mk_why.proofs.Vocabulary.{PlacedAllocation, Storage, Tables, TurnState, View, WordsState, base_at}
+use Rattle.mk_why.proofs.Vocabulary.{cell_of_allocation, entry_at, first_word, has_bit, header_at, header_in, header_of}
+use Rattle.mk_why.proofs.Vocabulary.{is_kept, never_behind, now_of, placed_at, storage_words, view_by, words_under}
+use Rattle.mk_why.{proofs.Vocabulary.{world_in, world_of}, specs.Listing.{IsKeptAt}}
 use Rattle.mk_laws.proofs.Vocabulary.{Bool, Invariant, List, None, Option, Some, ℕ, and_from, and_parts, ap, arith}
 use Rattle.mk_laws.proofs.Vocabulary.{cases_eq, cases_lt, cell_words, cells_begin, cells_under, false, get_or-set_other}
 use Rattle.mk_laws.proofs.Vocabulary.{get_or-set_same, inl, inr, is_cycling, is_marked, length, length-set, not}
@@ -30,7 +30,13 @@ pub record HasKeptCell (c : Config) (v : View) (b page size count snapshot marks
   pub marked : has_bit marks (cell_of_allocation c (placed_at v.allocations b)).index ≡ true
   pub is : base_at v b ≡ 64 * page + (cell_of_allocation c (placed_at v.allocations b)).index * size
 
-module _ (p : PassState) (history : IsHistory p.table.config p.seen) (still : IsStill p) where
+module _ (t : TurnState) (still : IsStill t.pass) where
+  abbrev p : PassState
+  p = t.pass
+
+  abbrev history : IsHistory t.pass.table.config t.pass.seen
+  history = t.in_order.history
+
   abbrev c : Config
   c = p.table.config
 
@@ -98,24 +104,24 @@ module _ (p : PassState) (history : IsHistory p.table.config p.seen) (still : Is
       }
 
 -- By the configuration of the words, and what looks found of the view.
-module _ {p : PassState} (history : IsHistory p.table.config p.seen) (still : IsStill p) (k : WordsState)
-    (same : p.table ≡ k) (page header snapshot marks size : ℕ) (shown : header ≡ header_at (view_by p).words page)
-    (snapshots : snapshot ≡ slice_index (view_by p).words.snapshot page)
-    (bits : marks ≡ slice_index (view_by p).words.marks page) (under : size ≡ words_under (header_of header)) where
-  size_is : size ≡ words_under (header_in (now_of p).words page)
+module _ (t : TurnState) (still : IsStill t.pass) {k : WordsState} (same : t.pass.table ≡ k) (page : ℕ)
+    {header snapshot marks size : ℕ} (shown : header ≡ header_at (view_by t.pass).words page)
+    (snapshots : snapshot ≡ slice_index (view_by t.pass).words.snapshot page)
+    (bits : marks ≡ slice_index (view_by t.pass).words.marks page) (under : size ≡ words_under (header_of header)) where
+  size_is : size ≡ words_under (header_in (now_of t.pass).words page)
   size_is = under ∙ ap (λ h. words_under (header_of h)) shown
 
   pub kept_at : (index : ℕ) → has_bit snapshot index ≡ true → has_bit marks index ≡ true
-      → IsKeptCell k.config (view_by p) (record { page = page; index = index }) size
+      → IsKeptCell k.config (view_by t.pass) (record { page = page; index = index }) size
   kept_at index in_snapshot marked =
-      subst (λ (t : WordsState). IsKeptCell t.config (view_by p) (record { page = page; index = index }) size) same
-      (subst (λ n. IsKeptCell p.table.config (view_by p) (record { page = page; index = index }) n) (sym size_is)
-      (kept_cell p history still (record { page = page; index = index })
+      let cell : Cell = record { page = page; index = index } in
+      subst (λ (x : WordsState). IsKeptCell x.config (view_by t.pass) cell size) same
+      (subst (λ n. IsKeptCell t.pass.table.config (view_by t.pass) cell n) (sym size_is) (kept_cell t still cell
       (ap (λ n. has_bit n index) (sym snapshots) ∙ in_snapshot) (ap (λ n. has_bit n index) (sym bits) ∙ marked)))
 
-  pub has_kept_at : (b : ℕ) → is_kept k.config (world_in (view_by p)) b ≡ true
-      → (cell_of_allocation k.config (placed_at (view_by p).allocations b)).page ≡ page
-      → HasKeptCell k.config (view_by p) b page size (cells_under (header_of header)) snapshot marks
+  pub has_kept_at : (b : ℕ) → is_kept k.config (world_in (view_by t.pass)) b ≡ true
+      → (cell_of_allocation k.config (placed_at (view_by t.pass).allocations b)).page ≡ page
+      → HasKeptCell k.config (view_by t.pass) b page size (cells_under (header_of header)) snapshot marks
   has_kept_at b = grind (arith, has_kept_cell, size_is)
 
 -- One cell more.
@@ -210,18 +216,19 @@ cells_more {c} {v} {s} page size count snapshot marks index is_in is_marked has 
     ]
 
 -- the snapshot's half of a quarantine word
-pub snapshot_read : (p : PassState) → IsHistory p.table.config p.seen → (page n : ℕ)
-    → n ≡ slice_index (view_by p).words.freed page + 2 ^ 32 * slice_index (view_by p).words.snapshot page
-    → n / 4294967296 ≡ slice_index (view_by p).words.snapshot page
-snapshot_read p history page n is =
-    let small = ((histories_keep_the_invariant p.table.config p.seen history).order.quarantined.small page).0 in
+pub snapshot_read : (t : TurnState) (page n : ℕ)
+    → n ≡ slice_index (view_by t.pass).words.freed page + 2 ^ 32 * slice_index (view_by t.pass).words.snapshot page
+    → n / 4294967296 ≡ slice_index (view_by t.pass).words.snapshot page
+snapshot_read t page n is =
+    let small = ((histories_keep_the_invariant _ _ t.in_order.history).order.quarantined.small page).0 in
     omega arith
 
 -- A kept allocation begins on a page that there is.
-pub kept_page : (p : PassState) → IsHistory p.table.config p.seen → (k : WordsState) → p.table ≡ k → (b : ℕ)
-    → is_kept k.config (world_in (view_by p)) b ≡ true
-    → (cell_of_allocation k.config (placed_at (view_by p).allocations b)).page < k.config.pages
-kept_page p history k same b = grind (arith, and_parts, not-true, allocations_stand, words_within, typed_size)
+pub kept_page : (t : TurnState) (k : WordsState) → t.pass.table ≡ k → (b : ℕ)
+    → is_kept k.config (world_in (view_by t.pass)) b ≡ true
+    → (cell_of_allocation k.config (placed_at (view_by t.pass).allocations b)).page < k.config.pages
+kept_page t k same b =
+    grind (arith, and_parts, not-true, allocations_stand, words_within, typed_size, t.in_order)
 
 pub none_listed : (c : Config) (v : View) (kept : List (Option Storage)) → ((base : ℕ) → entry_at kept base ≡ None)
     → AreOfKept c v kept

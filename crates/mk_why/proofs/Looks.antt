@@ -2,15 +2,15 @@
 use Rattle.std.proofs.{lemmas.List.Sums.{sum_by-append, sum_by-cons}, Common.count_by, lemmas.List.append_cancel_left}
 use Rattle.mk_why.proofs.Vocabulary.{Config, Event, IsHistory, IsStill, LooksWhileStill, PassState, TurnState, View}
 use Rattle.mk_why.proofs.Vocabulary.{World, is_word, left, now_of, others_are_held, phase_of, view_by, view_of}
-use Rattle.mk_laws.proofs.Vocabulary.{AreOfOthers, Bool, List, MarkerState, Moment, Step, TurnIsLeft, Word, ℕ}
+use Rattle.mk_laws.proofs.Vocabulary.{AreOfOthers, Bool, List, MarkerState, Moment, Seat, Step, TurnIsLeft, Word, ℕ}
 use Rattle.mk_laws.proofs.Vocabulary.{all_below, and_from, and_parts, ap, append_assoc, arith, cond, enabled_meets}
 use Rattle.mk_laws.proofs.Vocabulary.{eq-eqb, false, has_closed_page, is_attending, lt-ltb, none_attends, not, not-true}
 use Rattle.mk_laws.proofs.Vocabulary.{outside, refl, roots_point_well, slice_index_or, suc, true, zero, [], ◌&&◌, ◌++◌}
 use Rattle.mk_laws.proofs.{Vocabulary.{◌+◌, ◌∙◌, ◌∷◌, ◌≡◌}, ProtocolFrames.others_leave, Tests.none_from}
 use Rattle.mk_core.specs.{Frames.written_of, Growing.Finding, Readings.NoneAttends}
 use Rattle.mk_cycle.proofs.{KeptInParts.{free_then, keeps_at_once, keeps_then}, Allowed.in_turn_before}
-use Rattle.mk_cycle.{proofs.{CleaningSteps.calm_keeps, MayAct.calm_admitted}, specs.Kinds.{closes_marks, is_want}}
-use Rattle.mk_cycle.specs.{TurnKeeps.{InTurn, LeavesTurn, but_phase}, EngineLaw.{ClosesMarks, IsFreeForCycle}}
+use Rattle.mk_cycle.{proofs.{CleaningSteps.calm_keeps, MayAct.calm_admitted}, specs.TurnKeeps.{LeavesTurn, but_phase}}
+use Rattle.mk_cycle.specs.{EngineLaw.{ClosesMarks, IsFreeForCycle}, Kinds.{closes_marks, is_want}}
 use Rattle.mk_sweep.proofs.Kept.{ready_of}
 use Rattle.mk_tracing.proofs.{Stilled.{none_after, phase_there, words_left}, Closes.marks_closed_now, MaySteps.may_look}
 use Rattle.mk_tracing.{proofs.Steps.{may_step}, specs.Stops.{IsWanted}}
@@ -18,7 +18,8 @@ use Rattle.mk_turns.proofs.{Doing.{does_nothing, does_step, does_then, done_in_p
 use Rattle.mk_turns.{proofs.Sweeping.{does_sweep, sweeps_then}, specs.Sweeping.{HaveNoMark, SweepsNothing}}
 use Rattle.mk_turns.specs.{Doing.{Does, are_of, count_done, done_in}, Pointing.{LooksForCell, MayLookAtHeaders}}
 use Rattle.mk_why.specs.Stops.{is_look}
-use Rattle.mk_words.{proofs.Seats.{others_own}, specs.{Steps.{IsAdmittedTo, IsEnabledTo}, TurnSteps.Acts}}
+use Rattle.mk_words.proofs.{Seats.others_own, TurnSteps.still_stopped}
+use Rattle.mk_words.specs.{States.event_of, Steps.{IsAdmittedTo, IsEnabledTo}, TurnSteps.Acts}
 
 -- Looks leave the view as it is, and so does what others do in the stop.
 
@@ -27,20 +28,23 @@ pub view_left : {w v : World} → TurnIsLeft w v → written_of v ≡ written_of
 view_left {w} {v} turn written two none = grind (arith, words_left)
 
 -- Any word may be looked at.
-module _ {p : PassState} (turn : InTurn p) (gates : others_are_held p.table.config.callers (now_of p).words p.seat
-    ≡ true) (still : IsStill p) where
-  pub wanted_now : IsWanted p
-  wanted_now = record { ready = ready_of p turn.history turn.holds still.free; phase = still.wanted; none = still.none }
+module _ (t : TurnState) (still : IsStill t.pass) where
+  pub wanted_now : IsWanted t.pass
+  wanted_now = record {
+    ready = ready_of t.in_order still.free;
+    gates = still.gates;
+    phase = still.wanted;
+    none = still.none;
+  }
 
-  pub look_enabled : (x : Word) → is_word p.table.config x ≡ true → IsEnabledTo p (Step.Look x)
-  look_enabled x is = may_look p wanted_now (turn.holds, gates) x is
+  pub look_enabled : (x : Word) → is_word t.pass.table.config x ≡ true → IsEnabledTo t.pass (Step.Look x)
+  look_enabled x is = may_look t wanted_now x is
 
-  pub look_admitted : (x : Word) → IsAdmittedTo p (Step.Look x)
-  look_admitted x = calm_admitted p (Step.Look x) turn.history refl still.free.decided
+  pub look_admitted : (x : Word) → IsAdmittedTo t.pass (Step.Look x)
+  look_admitted x = calm_admitted t.pass (Step.Look x) t.in_order.history refl still.free.decided
 
 -- A look leaves all still.
-module _ (t u : TurnState) {x : Word} (a : Acts t.pass (Step.Look x) u.pass) (gates : others_are_held
-    t.pass.table.config.callers (now_of t.pass).words t.pass.seat ≡ true) (still : IsStill t.pass) where
+module _ (t u : TurnState) {x : Word} (a : Acts t.pass (Step.Look x) u.pass) (still : IsStill t.pass) where
   keeps : LeavesTurn but_phase t.pass u.pass
   keeps =
       calm_keeps t.pass (Step.Look x) u.pass a (in_turn_before a) a.makes.pass.history refl still.free but_phase refl
@@ -50,8 +54,9 @@ module _ (t u : TurnState) {x : Word} (a : Acts t.pass (Step.Look x) u.pass) (ga
     table = ap (λ (y : PassState). y.table) a.makes.is;
     does = does_step is_look t.pass u.pass (Step.Look x) a.makes refl;
     keeps = keeps;
-    view = ap view_of a.world ∙ view_left a.turn (a.stop (a.holds, gates)) still.wanted still.none;
-    still = grind (arith, free_then, keeps, phase_there, none_after, wanted_now, in_turn_before);
+    view = ap view_of a.world ∙ view_left a.turn (a.stop (a.holds, still.gates)) still.wanted still.none;
+    still = let wanted = wanted_now t still in
+        grind (arith, free_then, keeps, still_stopped, phase_there a wanted, none_after a wanted);
   }
 
 -- Nothing is looked at, and one part is after the other.
@@ -64,15 +69,12 @@ looks_then {t} {u} {v} one two = grind (arith, does_then, keeps_then)
 
 -- The cell into which a value points is looked for.
 
-pub may_look_at_headers : {p : PassState} → InTurn p
-    → others_are_held p.table.config.callers (now_of p).words p.seat ≡ true → IsStill p → MayLookAtHeaders p
-may_look_at_headers {p} turn gates still page lt = look_enabled turn gates still (Word.Head page) (lt-ltb page _ lt)
+pub may_look_at_headers : (t : TurnState) → IsStill t.pass → MayLookAtHeaders t.pass
+may_look_at_headers t still page lt = look_enabled t still (Word.Head page) (lt-ltb page _ lt)
 
-pub looks_for_cell : {value : ℕ} {t u : TurnState} → LooksForCell value t u
-    → others_are_held t.pass.table.config.callers (now_of t.pass).words t.pass.seat ≡ true → IsStill t.pass
-    → LooksWhileStill t u
-looks_for_cell {value} {t} {u} l gates still =
-    looked_for (λ (v : TurnState). LooksWhileStill t v) l (looks_at_nothing t still) (λ a. look_on t u a gates still)
+pub looks_for_cell : {value : ℕ} {t u : TurnState} → LooksForCell value t u → IsStill t.pass → LooksWhileStill t u
+looks_for_cell {value} {t} {u} l still =
+    looked_for (λ (v : TurnState). LooksWhileStill t v) l (looks_at_nothing t still) (λ a. look_on t u a still)
 
 -- Looks after an engine's marks leave its law, and what is said of the view.
 
@@ -91,26 +93,28 @@ roots_close : ℕ → View → Bool
 roots_close pages v = roots_point_well pages v.words
 
 -- what the close asks of the view
-record ClosesBy (c : Config) (m : Moment) (v : View) : Type 0 where
+record ClosesBy (c : Config) (m : Moment) (seat : Seat) (v : View) : Type 0 where
+  gates : others_are_held c.callers m.words seat ≡ true
   none : none_attends m.seats.markers ≡ true
   pages : pages_close c.pages v ≡ true
   roots : roots_close c.pages v ≡ true
 
-closes_by : (p : PassState) → IsEnabledTo p Step.Close → ClosesBy p.table.config (now_of p) (view_by p)
+closes_by : (p : PassState) → IsEnabledTo p Step.Close → ClosesBy p.table.config (now_of p) p.seat (view_by p)
 unfolding pages_close roots_close
-closes_by p on = grind (arith, enabled_meets, and_parts)
+closes_by p on =
+    let meets = enabled_meets p.table.config (now_of p) (event_of p Step.Close) on in
+    grind (arith, meets.gates, meets.holder, and_parts)
 
 pub still_closed : {p q : PassState} → ClosesMarks p q → IsFreeForCycle p → IsStill q
 still_closed {p} {q} law free = grind (arith, free_then, each_not, closes_by)
 
-may_close_by : {p : PassState} (turn : InTurn p) → others_are_held p.table.config.callers (now_of p).words p.seat ≡ true
-    → IsStill p → pages_close p.table.config.pages (view_by p) ≡ true
-    → roots_close p.table.config.pages (view_by p) ≡ true → IsEnabledTo p Step.Close
+may_close_by : (t : TurnState) → IsStill t.pass → pages_close t.pass.table.config.pages (view_by t.pass) ≡ true
+    → roots_close t.pass.table.config.pages (view_by t.pass) ≡ true → IsEnabledTo t.pass Step.Close
 unfolding pages_close roots_close
-may_close_by {p} turn gates still pages roots =
-    let c : Config = p.table.config in
-    let m : Moment = now_of p in
-    may_step p Step.Close (wanted_now turn gates still).ready turn.holds refl refl gates
+may_close_by t still pages roots =
+    let c : Config = t.pass.table.config in
+    let m : Moment = now_of t.pass in
+    may_step t Step.Close (wanted_now t still).ready refl refl still.gates
     (eq-eqb (phase_of m.words) 2 still.wanted) refl (and_from (none_attends m.seats.markers && all_below c.pages
     (has_closed_page m.words)) (roots_point_well c.pages m.words) (and_from (none_attends m.seats.markers)
     (all_below c.pages (has_closed_page m.words)) (none_from m.seats.markers still.none) pages) roots)
@@ -146,10 +150,9 @@ counts_then : (kind : Step → Bool) {kinds more both : Step → Bool} {p q r : 
     (e : Does more q r) (f : Does both p r) → count_done kind f ≡ count_done kind d + count_done kind e
 counts_then kind {p} {r} d e f = grind (arith, done_in_parts, sum_by-append, append_assoc, append_cancel_left)
 
-module _ {p : PassState} {t u : TurnState} (law : ClosesMarks p t.pass) (on : LooksWhileStill t u) (turn : InTurn
-    u.pass) (gates : others_are_held u.pass.table.config.callers (now_of u.pass).words u.pass.seat ≡ true) where
+module _ {p : PassState} {t u : TurnState} (law : ClosesMarks p t.pass) (on : LooksWhileStill t u) where
   close_now : IsEnabledTo u.pass Step.Close
-  close_now = grind (arith, closes_by, may_close_by, pages_close, roots_close)
+  close_now = grind (arith, closes_by, may_close_by u, pages_close, roots_close)
 
   pub law_kept : ClosesMarks p u.pass
   law_kept =
@@ -163,7 +166,7 @@ module _ {p : PassState} {t u : TurnState} (law : ClosesMarks p t.pass) (on : Lo
         keeps = keeps_then but_phase p t.pass u.pass law.keeps on.keeps;
         phase = on.still.wanted;
         close = close_now;
-        closed = marks_closed_now u.pass turn.history close_now;
+        closed = marks_closed_now u close_now;
       }
 
 look_marks : HaveNoMark is_look
@@ -175,10 +178,12 @@ sweepless_kept {p} {t} {u} law on one =
     sweeps_then p t.pass u.pass law.keeps.call.pass one (does_sweep is_look t.pass u.pass look_marks on.does)
 
 -- What others do leaves the view.
-pub others_still : {p : PassState} → InTurn p → others_are_held p.table.config.callers (now_of p).words p.seat ≡ true
-    → IsStill p → (others : List Event) → AreOfOthers p.seats others → IsHistory p.table.config (p.seen ++ others)
-    → view_of (left p.table.config (p.seen ++ others)) ≡ view_by p
-others_still {p} turn gates still others of_others history =
+pub others_still : (t : TurnState) → IsStill t.pass → (others : List Event) → AreOfOthers t.pass.seats others
+    → IsHistory t.pass.table.config (t.pass.seen ++ others)
+    → view_of (left t.pass.table.config (t.pass.seen ++ others)) ≡ view_by t.pass
+others_still t still others of_others history =
+    let p : PassState = t.pass in
+    let holds = t.in_order.holds in
     let x = others_leave p.table.config p.seen others p.seat history.within_limits history.enabled
-    (others_own p.seats p.seat others turn.own of_others) in
-    view_left (x.turn turn.holds).0 (x.stop (turn.holds, gates)) still.wanted still.none
+    (others_own p.seats p.seat others t.in_order.own of_others) in
+    view_left (x.turn holds).0 (x.stop (holds, still.gates)) still.wanted still.none

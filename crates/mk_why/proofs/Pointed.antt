@@ -1,6 +1,6 @@
 -- What values point into, by lookup and used bits, and what is scanned of an allocation, by the header of its page.
 use Rattle.mk_why.proofs.Vocabulary.{BeginApart, Cell, Config, IsFirstWord, IsHistory, IsStill, PassState}
-use Rattle.mk_why.proofs.Vocabulary.{PlacedAllocation, PointsIntoAllocation, WordsState, World, base_at}
+use Rattle.mk_why.proofs.Vocabulary.{PlacedAllocation, PointsIntoAllocation, TurnState, WordsState, World, base_at}
 use Rattle.mk_why.proofs.Vocabulary.{cell_of_allocation, first_word, has_bit, header_at, header_in, header_of}
 use Rattle.mk_why.proofs.Vocabulary.{is_mapped, is_scanned_allocation, never_behind, now_of, object_placed, placed_at}
 use Rattle.mk_why.proofs.Vocabulary.{storage_of, storage_words, used_at, view_by, words_under, world_of}
@@ -14,7 +14,13 @@ use Rattle.mk_core.specs.Cells.{is_used}
 use Rattle.mk_sweep.proofs.ScannedCells.{scanned_stands, used_cell, used_is_taken}
 use Rattle.mk_why.specs.Searching.{AreScannedFrom, IsBasePointed, PointsAtBase}
 
-module _ (p : PassState) (history : IsHistory p.table.config p.seen) (still : IsStill p) where
+module _ (t : TurnState) (still : IsStill t.pass) where
+  abbrev p : PassState
+  p = t.pass
+
+  abbrev history : IsHistory t.pass.table.config t.pass.seen
+  history = t.in_order.history
+
   abbrev c : Config
   c = p.table.config
 
@@ -111,55 +117,51 @@ module _ (p : PassState) (history : IsHistory p.table.config p.seen) (still : Is
       allocations_are_disjoint c p.seen history i j (a i).base u v (omega arith, omega arith) (omega arith, omega arith)
 
 -- By the configuration of the words, and what looks found of the view.
-module _ {p : PassState} (history : IsHistory p.table.config p.seen) (still : IsStill p) (k : WordsState)
-    (same : p.table ≡ k) (value : ℕ) where
-  pointed_here : (cell : Option Cell) → cell ≡ pointed_cell k.config.pages (view_by p).words.pages value
-      → pointed_cell p.table.config.pages (now_of p).words.pages value ≡ cell
+module _ (t : TurnState) (still : IsStill t.pass) {k : WordsState} (same : t.pass.table ≡ k) (value : ℕ) where
+  pointed_here : (cell : Option Cell) → cell ≡ pointed_cell k.config.pages (view_by t.pass).words.pages value
+      → pointed_cell t.pass.table.config.pages (now_of t.pass).words.pages value ≡ cell
   pointed_here cell is = grind arith
 
-  pub none_at : None ≡ pointed_cell k.config.pages (view_by p).words.pages value
-      → IsBasePointed k.config (view_by p) value None
+  pub none_at : None ≡ pointed_cell k.config.pages (view_by t.pass).words.pages value
+      → IsBasePointed k.config (view_by t.pass) value None
   none_at is = grind (arith, none_pointed, pointed_here)
 
-  module _ (cell : Cell) (is : Some cell ≡ pointed_cell k.config.pages (view_by p).words.pages value) (used : ℕ)
-      (found : used ≡ used_at (view_by p).words cell.page) where
-    pub none_at_unused : has_bit used cell.index ≡ false → IsBasePointed k.config (view_by p) value None
+  module _ (cell : Cell) (is : Some cell ≡ pointed_cell k.config.pages (view_by t.pass).words.pages value) (used : ℕ)
+      (found : used ≡ used_at (view_by t.pass).words cell.page) where
+    pub none_at_unused : has_bit used cell.index ≡ false → IsBasePointed k.config (view_by t.pass) value None
     none_at_unused unused = grind (arith, unused_pointed, pointed_here)
 
     pub some_at_used : has_bit used cell.index ≡ true → (header size : ℕ)
-        → header ≡ header_at (view_by p).words cell.page → size ≡ words_under (header_of header)
-        → PointsAtBase k.config (view_by p) value (64 * cell.page + cell.index * size)
+        → header ≡ header_at (view_by t.pass).words cell.page → size ≡ words_under (header_of header)
+        → PointsAtBase k.config (view_by t.pass) value (64 * cell.page + cell.index * size)
     some_at_used has header size shown under = grind (arith, used_pointed, pointed_here)
 
-module _ {p : PassState} (history : IsHistory p.table.config p.seen) (still : IsStill p) (k : WordsState)
-    (same : p.table ≡ k) (base : ℕ) (is : IsFirstWord (view_by p) base) where
+module _ (t : TurnState) (still : IsStill t.pass) {k : WordsState} (same : t.pass.table ≡ k) {base : ℕ}
+    (is : IsFirstWord (view_by t.pass) base) where
   pub begins_at : base < 64 * k.config.pages
   begins_at = grind (arith, stands, words_within, typed_size)
 
-  module _ (header : ℕ) (shown : header ≡ header_at (view_by p).words (base / 64)) where
-    pub bare_at : has_no_pointers (header_of header) ≡ true → (b : ℕ) → base_at (view_by p) b ≡ base
-        → is_scanned_allocation k.config (placed_at (view_by p).allocations b) ≡ true
-        → 0 ≡ storage_words k.config (placed_at (view_by p).allocations b)
+  module _ {header : ℕ} (shown : header ≡ header_at (view_by t.pass).words (base / 64)) where
+    pub bare_at : has_no_pointers (header_of header) ≡ true → (b : ℕ) → base_at (view_by t.pass) b ≡ base
+        → is_scanned_allocation k.config (placed_at (view_by t.pass).allocations b) ≡ true
+        → 0 ≡ storage_words k.config (placed_at (view_by t.pass).allocations b)
     bare_at bare = grind (arith, scanned_stands, settled)
 
-    size_is : (size : ℕ) → size ≡ words_under (header_of header)
-        → size ≡ words_under (header_in (now_of p).words (base / 64))
-    size_is size under = under ∙ ap (λ h. words_under (header_of h)) shown
+    size_is : {size : ℕ} → size ≡ words_under (header_of header)
+        → size ≡ words_under (header_in (now_of t.pass).words (base / 64))
+    size_is under = under ∙ ap (λ h. words_under (header_of h)) shown
 
-    pub scanned_at : has_no_pointers (header_of header) ≡ false → (size : ℕ) → size ≡ words_under (header_of header)
-        → AreScannedFrom k.config (view_by p) base size
-    scanned_at bare size under =
-        subst (λ (t : WordsState). AreScannedFrom t.config (view_by p) base size) same
-        (subst (λ n. AreScannedFrom p.table.config (view_by p) base n) (sym (size_is size under))
-        (scanned_from p history still is (ap (λ h. has_no_pointers (header_of h)) (sym shown) ∙ bare)))
+    pub scanned_at : has_no_pointers (header_of header) ≡ false → {size : ℕ} → size ≡ words_under (header_of header)
+        → AreScannedFrom k.config (view_by t.pass) base size
+    scanned_at bare {size} under =
+        subst (λ (x : WordsState). AreScannedFrom x.config (view_by t.pass) base size) same
+        (subst (λ n. AreScannedFrom t.pass.table.config (view_by t.pass) base n) (sym (size_is under))
+        (scanned_from t still is (ap (λ h. has_no_pointers (header_of h)) (sym shown) ∙ bare)))
 
-    pub whole_at : (size : ℕ) → size ≡ words_under (header_of header) → (b : ℕ) → base_at (view_by p) b ≡ base
-        → is_scanned_allocation k.config (placed_at (view_by p).allocations b) ≡ true
-        → size ≡ storage_words k.config (placed_at (view_by p).allocations b)
-    whole_at size under =
-        subst (λ (t : WordsState). (b : ℕ) → base_at (view_by p) b ≡ base → is_scanned_allocation t.config (placed_at
-        (view_by p).allocations b) ≡ true → size ≡ storage_words t.config (placed_at (view_by p).allocations b)) same
-        (λ b at scanned. size_is size under ∙ scanned_whole p history still is b at scanned)
+    pub whole_at : {size : ℕ} → size ≡ words_under (header_of header) → (b : ℕ) → base_at (view_by t.pass) b ≡ base
+        → is_scanned_allocation k.config (placed_at (view_by t.pass).allocations b) ≡ true
+        → size ≡ storage_words k.config (placed_at (view_by t.pass).allocations b)
+    whole_at {size} under = grind (arith, scanned_whole t still, size_is)
 
-    pub within_at : (size : ℕ) → size ≡ words_under (header_of header) → base + size ≤ 64 * k.config.pages
-    within_at size under = grind (arith, size_is, words_there, stands)
+    pub within_at : {size : ℕ} → size ≡ words_under (header_of header) → base + size ≤ 64 * k.config.pages
+    within_at under = grind (arith, size_is, words_there, stands)

@@ -1,10 +1,10 @@
 -- What is told after the looks, whatever others do.
 use Rattle.mk_why.proofs.Vocabulary.{BeginApart, Config, Event, Found, IsHistory, IsListed, IsTold, ListsOn}
 use Rattle.mk_why.proofs.Vocabulary.{LooksWhileStill, PassState, Storage, Tables, TurnState, WordsState, World, base_at}
-use Rattle.mk_why.proofs.Vocabulary.{is_kept, left, now_of, others_are_held, view_by, view_of, world_in, world_of}
+use Rattle.mk_why.proofs.Vocabulary.{is_kept, left, view_by, view_of, world_in, world_of}
 use Rattle.mk_laws.proofs.Vocabulary.{List, Option, ℕ, append-nil, arith, subst, sym, true, [], ◌++◌, ◌∙◌, ◌≡◌}
 use Rattle.mk_core.specs.Growing.{AreOfOthers}
-use Rattle.mk_cycle.specs.{Telling.IsToldOf, TurnKeeps.InTurn}
+use Rattle.mk_cycle.specs.Telling.{IsToldOf}
 use Rattle.mk_why.{proofs.Looks.others_still, specs.Searching.IsExplored, specs.Stops.IsToldBefore}
 
 -- the two tables, of the view after the engine's marks
@@ -19,29 +19,28 @@ nothing_of_others : (p : PassState) → AreOfOthers p.seats []
 unfolding AreOfOthers
 nothing_of_others p = tt
 
-told_now : (tells : Config → World → Type 0) (p : PassState) → IsHistory p.table.config p.seen → IsToldOf tells p
-    → tells p.table.config (world_of p)
-told_now tells p history told =
+told_now : (tells : Config → World → Type 0) (t : TurnState) → IsToldOf tells t.pass
+    → tells t.pass.table.config (world_of t.pass)
+told_now tells t told =
+    let p : PassState = t.pass in
     subst (λ (es : List Event). tells p.table.config (left p.table.config es)) (append-nil p.seen)
-    (told [] (nothing_of_others p) (subst (IsHistory p.table.config) (sym (append-nil p.seen)) history))
+    (told [] (nothing_of_others p) (subst (IsHistory p.table.config) (sym (append-nil p.seen)) t.in_order.history))
 
 module _ (tells : Config → World → Type 0) (k : WordsState) {t u : TurnState} (on : LooksWhileStill t u)
-    (history : IsHistory t.pass.table.config t.pass.seen) (told : IsToldOf tells t.pass) (same : t.pass.table ≡ k)
-    {found : List (Option Found)} {kept : List (Option Storage)}
-    (tables : IsTold k.config found kept (view_by t.pass)) (turn : InTurn u.pass)
-    (gates : others_are_held u.pass.table.config.callers (now_of u.pass).words u.pass.seat ≡ true) where
+    (told : IsToldOf tells t.pass) (same : t.pass.table ≡ k) {found : List (Option Found)}
+    {kept : List (Option Storage)} (tables : IsTold k.config found kept (view_by t.pass)) where
   pub told_of : IsToldOf (λ c w. IsToldBefore tells c w × IsTold c found kept (view_of w)) u.pass
   told_of others of_others more =
       let c : Config = u.pass.table.config in
       let table : u.pass.table ≡ k = on.table ∙ same in
       let view : view_of (left c (u.pass.seen ++ others)) ≡ view_by t.pass =
-      others_still turn gates on.still others of_others more ∙ on.view in
+      others_still u on.still others of_others more ∙ on.view in
       let second : IsTold c found kept (view_by t.pass) =
       subst (λ (x : WordsState). IsTold x.config found kept (view_by t.pass)) (sym table) tables in (
         record {
           before = world_of t.pass;
           told = subst (λ (x : WordsState). tells x.config (world_of t.pass))
-              (sym on.table) (told_now tells t.pass history told);
+              (sym on.table) (told_now tells t told);
           view = view;
         },
         subst (IsTold c found kept) (sym view) second,

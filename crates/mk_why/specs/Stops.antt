@@ -4,7 +4,7 @@ use Rattle.std.specs.Prelude.{◌≡◌, ℕ, Bool, true, false, List, []}
 use Rattle.mk_core.specs.{declared.events.Step.Step, declared.config.Config.Config}
 use Rattle.mk_core.specs.{Allocations.{PlacedAllocation, placed_at}, History.World, Moments.nothing_done}
 use Rattle.mk_core.specs.{Readings.NoneAttends, Words.Words}
-use Rattle.mk_words.specs.States.{PassState, TurnState, now_of, world_of}
+use Rattle.mk_words.specs.{States.{PassState, TurnState, now_of, world_of}, TurnSteps.IsStopped}
 use Rattle.mk_turns.specs.Doing.{Does}
 use Rattle.mk_cycle.specs.{EngineLaw.{IsAtPhase, IsFreeForCycle}, TurnKeeps.{LeavesTurn, but_phase}}
 use Rattle.mk_core.specs.declared.events.Step.TheVariants as step
@@ -36,9 +36,10 @@ world_in v =
 abbrev pub base_at : View → ℕ → ℕ
 base_at v b = (placed_at v.allocations b).base
 
--- The close is wanted, no marker attends, and the turn is free for a cycle.
+-- The close is wanted while the gates of all others are held, no marker attends, and the turn is free for a cycle.
 pub record IsStill (p : PassState) : Type 0 where
   pub free : IsFreeForCycle p
+  pub gates : IsStopped p
   pub wanted : IsAtPhase p 2
   pub none : NoneAttends (now_of p)
 

@@ -65,7 +65,6 @@ fn list_cells(
         → IsListed tables.new.kept.items (base_at (view_by stop.now.pass) b) }
 {
     words.is_within_limits();
-    stop.is_in_order();
     let size = words_under(header);
     for index in 0..cells_under(header) {
         let cell = Cell { page, index };
@@ -92,7 +91,6 @@ fn list_page(words: &Words, stop: &mut Stopped, tables: &mut Tables, page: u64)
         → (cell_of_allocation words.now.config (placed_at (view_by stop.old.pass).allocations b)).page ≡ page
         → IsListed tables.new.kept.items (base_at (view_by stop.old.pass) b) }
 {
-    stop.is_in_order();
     let header = look_at(words, stop, Word::Head(page));
     let quarantine = look_at(words, stop, Word::Quar(page));
     let marks = look_at(words, stop, Word::Mark(page));
@@ -118,9 +116,7 @@ pub(crate) fn list_kept(words: &Words, stop: &mut Stopped, tables: &mut Tables)
     ensures each { (b : ℕ) → is_kept words.now.config (world_in (view_by stop.old.pass)) b ≡ true
         → IsListed tables.new.kept.items (base_at (view_by stop.old.pass) b) }
 {
-    stop.is_in_order();
     for page in 0..words.pages() {
         list_page(words, stop, tables, page);
     }
-    stop.is_in_order();
 }

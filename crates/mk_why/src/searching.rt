@@ -34,7 +34,6 @@ fn note_value(words: &Words, stop: &mut Stopped, tables: &mut Tables, value: u64
     ensures noted { IsNoted words.now.config (view_by stop.old.pass) tables.new.found.items value found.links }
 {
     words.is_within_limits();
-    stop.is_in_order();
     let Some(base) = base_pointed(words, stop, value) else {
         return;
     };

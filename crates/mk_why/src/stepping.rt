@@ -16,6 +16,5 @@ pub(crate) fn look_at(words: &Words, stop: &mut Stopped, x: Word) -> u64
     ensures on { LooksWhileStill stop.old stop.new }
     ensures found { result ≡ named_word (view_by stop.old.pass).words x }
 {
-    stop.is_in_order();
     stop.look(words, x)
 }

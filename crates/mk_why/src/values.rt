@@ -19,7 +19,6 @@ pub(crate) fn base_pointed(words: &Words, stop: &mut Stopped, value: u64) -> Opt
     ensures points { IsBasePointed words.now.config (view_by stop.old.pass) value result }
 {
     words.is_within_limits();
-    stop.is_in_order();
     let Some(cell) = cell_pointed(words, stop, value) else {
         return None;
     };
@@ -44,7 +43,6 @@ pub(crate) fn scanned_size(words: &Words, stop: &mut Stopped, base: u64) -> u64
     ensures within { base + result ≤ 64 * words.now.config.pages }
 {
     words.is_within_limits();
-    stop.is_in_order();
     let header = look_at(words, stop, Word::Head(base / PAGE_WORDS));
     if has_no_pointers(header) {
         return 0;

@@ -93,11 +93,9 @@ impl<E: Engine> Engine for Why<E> {
     fn close_marks<R: Threads + Wait + Sync>(&mut self, rt: &R, words: &Words, stop: &mut Stopped) {
         words.is_within_limits();
         self.inner.close_marks(rt, words, stop);
-        stop.is_in_order();
         self.tables.forget_found();
         search(words, stop, &mut self.tables);
         self.tables.forget_kept();
         list_kept(words, stop, &mut self.tables);
-        stop.is_in_order();
     }
 }

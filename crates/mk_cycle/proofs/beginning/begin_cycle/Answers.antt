@@ -1,15 +1,14 @@
 use Rattle.mk_laws.proofs.Vocabulary.{Step, World, ap, refl, subst, ◌<◌}
 use Rattle.mk_cycle.proofs.Vocabulary.{WordsState, clears, does_sweep, only_seen_by, other_step_sweeps, sweeps_then}
-use Rattle.mk_cycle.proofs.Allowed.{in_turn_after, in_turn_before, tally_allowed}
-use Rattle.mk_cycle.proofs.BeginSteps.{IsCleared, begin_allowed, begins_cycle, begun_free}
-use Rattle.mk_cycle.proofs.CleaningSteps.{clean_stays, cleaned_turn, cleans_then, tallied}
-use Rattle.mk_cycle.proofs.{Begun.begin_begun, Begun.begins_none, Begun.begun_then, Begun.does_begin_none}
-use Rattle.mk_cycle.proofs.{Sweepless.marks_nothing, Undirty.undirty_later, beginning.begin_cycle.Goals.After-tally}
+use Rattle.mk_cycle.proofs.{Allowed.tally_allowed, BeginSteps.{IsCleared, begin_allowed, begins_cycle, begun_free}}
+use Rattle.mk_cycle.proofs.Begun.{begin_begun, begins_none, begun_then, does_begin_none}
+use Rattle.mk_cycle.proofs.{CleaningSteps.{clean_stays, cleaned_turn, cleans_then, tallied}, Sweepless.marks_nothing}
+use Rattle.mk_cycle.proofs.{Undirty.undirty_later, beginning.begin_cycle.Goals.After-tally}
 use Rattle.mk_cycle.proofs.beginning.begin_cycle.Goals as goal
 
 pub tally-requires-clause-enabled : goal.tally-requires-clause-enabled
 tally-requires-clause-enabled g c =
-    tally_allowed _ c.in_turn.ensures (cleaned_turn c.clean_pages.ensures.cleans
+    tally_allowed _ c.clean_pages.new.turn.in_order (cleaned_turn c.clean_pages.ensures.cleans
     (record { one_table = c.requires.one_table; free = c.requires.free; phase = c.requires.phase })).free _ _
 
 -- All words are cleaned, and nothing is fresh.
@@ -22,7 +21,7 @@ cleared g c =
     record {
       cleans = cleans_then c.clean_pages.ensures.cleans next;
       turn = turn;
-      holds = in_turn_after c.tally.ensures refl;
+      holds = c.tally.new.self.in_order;
       clean = λ page lt. clean_stays next (c.clean_pages.ensures.clean page
           (subst (λ (w : WordsState). page < w.config.pages) turn.one_table lt));
       fresh = ap (λ (w : World). w.now.words.fresh) c.tally.ensures.world;
@@ -38,7 +37,7 @@ begin-requires-clause-enabled g c = begin_allowed (cleared g (goal.at.begin-requ
 pub begin-requires-2-clause-free : goal.begin-requires-2-clause-free
 begin-requires-2-clause-free g c =
     let x = cleared g (goal.at.begin-requires-2-clause-free g c).After-tally in
-    begun_free x.holds x.turn.free x.turn.phase (in_turn_after c.begin.ensures refl) c.begin.ensures
+    begun_free x.holds x.turn.free x.turn.phase c.begin.new.self.in_order c.begin.ensures
 
 pub returns-clause-law : goal.returns-clause-law
 returns-clause-law g c =
@@ -72,7 +71,7 @@ returns-clause-begun g c =
     let all = (cleared g (goal.at.returns-clause-begun g c).After-tally).cleans in
     let begins = g.E.Engine.begins in
     begun_then begins p b q all.keeps.call.pass (does_begin_none begins clears p b (begins_none clears refl) all.does)
-    (begin_begun begins b c.begin.new.self.pass q (in_turn_before c.begin.ensures).own c.begin.ensures.makes
+    (begin_begun begins b c.begin.new.self.pass q c.tally.new.self.in_order.own c.begin.ensures.makes
     c.begin-2.ensures.law.does c.begin-2.ensures.begun)
 
 pub returns-clause-last : goal.returns-clause-last

@@ -9,7 +9,7 @@ pub loop-page-preserved : goal.loop-page-preserved
 loop-page-preserved c =
     let i = c.loop-page.invariant in
     let x = c.clean_free.ensures in
-    let next = c.in-Some.ensures.next in
+    let next = c.in-Some.ensures in
     let q = c.loop-page.turn.pass in
     let n = c.in-Some.page in
     record {

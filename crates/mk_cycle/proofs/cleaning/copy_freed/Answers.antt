@@ -1,5 +1,5 @@
 use Rattle.mk_laws.proofs.Vocabulary.{ℕ, ap, quarantine_word, refl, sym, ◌∙◌}
-use Rattle.mk_cycle.proofs.{Vocabulary.{Cleans, IsTurnAt}, Allowed.{in_turn_after, snapshot_allowed}}
+use Rattle.mk_cycle.proofs.{Vocabulary.{Cleans, IsTurnAt}, Allowed.snapshot_allowed}
 use Rattle.mk_cycle.proofs.CleaningSteps.{Halves, cleaned_turn, cleans_then, halves, has_snapshot, looked}
 use Rattle.mk_cycle.proofs.{CleaningSteps.snapshot_taken, MayAct.calm_admitted}
 use Rattle.mk_cycle.proofs.cleaning.copy_freed.Goals.{After-look-quarantine}
@@ -13,17 +13,17 @@ turn : (c : After-look-quarantine) → IsTurnAt 0 c.args.words.now c.look-quaran
 turn c = cleaned_turn (first c) c.requires.turn
 
 half : (c : After-look-quarantine) → Halves c.look-quarantine.new.turn.pass c.args.page c.look-quarantine.result
-half c = halves _ _ (in_turn_after c.look-quarantine.ensures.acts refl) c.look-quarantine.ensures.reads
+half c = halves _ _ c.look-quarantine.new.turn.in_order c.look-quarantine.ensures.reads
 
 pub quar-requires-clause-enabled : goal.quar-requires-clause-enabled
 quar-requires-clause-enabled c =
     let x = (goal.at.quar-requires-clause-enabled c).After-look-quarantine in
-    snapshot_allowed (in_turn_after c.look-quarantine.ensures.acts refl) (turn x) _ c.requires.within _
+    snapshot_allowed c.look-quarantine.new.turn.in_order (turn x) _ c.requires.within _
     (ap (λ (n : ℕ). quarantine_word n n) (half x).freed)
 
 pub quar-requires-clause-admitted : goal.quar-requires-clause-admitted
 quar-requires-clause-admitted c =
-    calm_admitted c.look-quarantine.new.turn.pass _ c.look-quarantine.ensures.acts.makes.pass.history refl
+    calm_admitted c.look-quarantine.new.turn.pass _ c.look-quarantine.new.turn.in_order.history refl
     (turn (goal.at.quar-requires-clause-admitted c).After-look-quarantine).free.decided
 
 pub returns-then-quarantine-freed-clause-cleans : goal.returns-then-quarantine-freed-clause-cleans

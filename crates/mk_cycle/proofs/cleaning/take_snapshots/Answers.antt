@@ -9,16 +9,16 @@ pub loop-page-preserved : goal.loop-page-preserved
 loop-page-preserved c =
     let i = c.loop-page.invariant in
     let x = c.copy_freed.ensures in
-    let next = c.in-Some.ensures.next in
+    let next = c.in-Some.ensures in
     let n = c.in-Some.page in
     record {
       pages = cleans_past c.requires.turn.one_table i.pages next.1 x.cleans;
-      below = taken_more n x.cleans (taken_past c.loop-page.from n c.in-Some.ensures.is i.below next.3) x.snapshot;
+      below = taken_more n x.cleans (taken_past c.loop-page.from n c.loop-page.turn.in_order i.below next.3) x.snapshot;
     }
 
 pub returns-clause-snapshot : goal.returns-clause-snapshot
 returns-clause-snapshot c =
     let i = c.loop-page.invariant in
     let same = same_pages c.requires.turn.one_table i.pages in
-    taken_past c.loop-page.from c.args.words.now.config.pages c.in_default.ensures.is i.below
-    (λ page low high. c.in_default.ensures.next page low (omega arith))
+    taken_past c.loop-page.from c.args.words.now.config.pages c.loop-page.turn.in_order i.below
+    (λ page low high. c.in_default.ensures page low (omega arith))

@@ -8,7 +8,8 @@ use Rattle.mk_cycle.proofs.finishing.finish_cycle.Goals as goal
 pub end-requires-clause-enabled : goal.end-requires-clause-enabled
 end-requires-clause-enabled g c =
     let gives = c.give_all_back-turn.ensures.gives in
-    end_allowed c.in_turn.ensures (gives_free gives c.requires.free) gives.phase (λ page lt. gives.settled page
+    end_allowed c.give_all_back-turn.result.0.in_order (gives_free gives c.requires.free) gives.phase
+    (λ page lt. gives.settled page
     (subst (λ (x : Config). page < x.pages) (same_config c.args.turn.pass c.give_all_back-turn.result.0.pass
     (gives_call gives).pass) lt))
 

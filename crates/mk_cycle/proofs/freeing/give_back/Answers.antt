@@ -3,9 +3,9 @@ use Rattle.mk_laws.proofs.Vocabulary.{true, words_under, ◌-◌, ◌/◌, ◌^�
 use Rattle.mk_cycle.proofs.Vocabulary.{Acts, AreFreeCells, GivesNothingBack, IsTurnAt, bit_and, now_of}
 use Rattle.mk_cycle.proofs.GiveBack.{GivesCells, drops_here, gives_all, gives_here, gone_too, turn_d}
 use Rattle.mk_cycle.proofs.GivingSteps.{look_frees, none_then, quar_allowed, used_allowed}
+use Rattle.mk_cycle.proofs.SettledPages.{some_free, still_free}
 use Rattle.mk_cycle.proofs.freeing.give_back.Goals.{After-look_among-used, After-used, After-wipe_released}
-use Rattle.mk_cycle.proofs.{Allowed.in_turn_after, Allowed.in_turn_before, FreeingSteps.freed_turn}
-use Rattle.mk_cycle.proofs.{MayAct.calm_admitted, PageSteps.same_used, SettledPages.some_free, SettledPages.still_free}
+use Rattle.mk_cycle.proofs.{FreeingSteps.freed_turn, MayAct.calm_admitted, PageSteps.same_used}
 use Rattle.mk_cycle.proofs.freeing.give_back.Goals as goal
 
 -- The look gives nothing back, nor does the wiping.
@@ -22,7 +22,7 @@ given c =
     let look = c.look_among-used in
     let first = look_frees c.requires.turn look.ensures.acts in
     record {
-      begun = in_turn_before look.ensures.acts;
+      begun = c.args.turn.now.in_order;
       wiped = none_then first c.wipe_released.ensures.frees;
       turn = c.requires.turn;
       within = c.requires.within;
@@ -58,7 +58,7 @@ used-requires-clause-enabled c =
     let first = looked at.After-look_among-used in
     let p = c.args.turn.now.pass in
     let b = c.wipe_released.new.turn.pass in
-    used_allowed c.in_turn.ensures (turn at.After-wipe_released) _ _ c.requires.within
+    used_allowed c.wipe_released.new.turn.in_order (turn at.After-wipe_released) _ _ c.requires.within
     (ap (λ (n : ℕ). gives_back (now_of b).words c.args.page n) c.without.ensures
     ∙ gives_here _ c.look_among-used.result c.args.gone _ (wiped at.After-wipe_released)
     (c.look_among-used.ensures.reads ∙ same_used p c.look_among-used.new.turn.pass _ (first.same _)) c.requires.gone
@@ -70,12 +70,12 @@ quar-requires-clause-one_table c = (turn_d (given (goal.at.quar-requires-clause-
 pub quar-requires-clause-enabled : goal.quar-requires-clause-enabled
 quar-requires-clause-enabled c =
     let x = given (goal.at.quar-requires-clause-enabled c).After-used in
-    quar_allowed (in_turn_after c.used.ensures refl) (turn_d x) _ _ c.requires.within
+    quar_allowed c.used.new.self.in_order (turn_d x) _ _ c.requires.within
     (cc (c.without-freed.ensures, drops_here x))
 
 pub quar-requires-clause-admitted : goal.quar-requires-clause-admitted
 quar-requires-clause-admitted c =
-    calm_admitted c.used.new.self.pass _ c.used.ensures.makes.pass.history refl
+    calm_admitted c.used.new.self.pass _ c.used.new.self.in_order.history refl
     (turn_d (given (goal.at.quar-requires-clause-admitted c).After-used)).free.decided
 
 pub returns : goal.returns

@@ -12,18 +12,21 @@ pub returns-then-snapshot-eq0-clause-released : goal.returns-then-snapshot-eq0-c
 returns-then-snapshot-eq0-clause-released c =
     let x = c.look-quarantine.ensures in
     nothing_on (now_of c.args.turn.now.pass).words _
-    (sym (snapshot_told _ c.look-quarantine.result x.is x.frees x.reads) ∙ c.if-snapshot-eq0.true)
+    (sym (snapshot_told _ c.look-quarantine.result c.look-quarantine.new.turn.in_order x.frees x.reads)
+    ∙ c.if-snapshot-eq0.true)
 
 pub returns-then-snapshot-eq0-clause-held : goal.returns-then-snapshot-eq0-clause-held
 returns-then-snapshot-eq0-clause-held c =
     let x = c.look-quarantine.ensures in
     none_held (now_of c.args.turn.now.pass).words _ (nothing_on (now_of c.args.turn.now.pass).words _
-    (sym (snapshot_told _ c.look-quarantine.result x.is x.frees x.reads) ∙ c.if-snapshot-eq0.true))
+    (sym (snapshot_told _ c.look-quarantine.result c.look-quarantine.new.turn.in_order x.frees x.reads)
+    ∙ c.if-snapshot-eq0.true))
 
 pub returns-then-snapshot-eq0-clause-gives : goal.returns-then-snapshot-eq0-clause-gives
 returns-then-snapshot-eq0-clause-gives c =
     let x = c.look-quarantine.ensures in
-    gives_none _ x.frees (none_left_on _ c.look-quarantine.result x.is x.reads c.if-snapshot-eq0.true)
+    gives_none _ x.frees
+    (none_left_on _ c.look-quarantine.result c.look-quarantine.new.turn.in_order x.reads c.if-snapshot-eq0.true)
 
 -- with both words
 both : (c : After-without-gone) → GivesNothingBack c.args.turn.now.pass c.look-marks.new.turn.pass
@@ -39,7 +42,8 @@ gone : (c : After-without-gone)
 gone c =
     let x = c.look-quarantine.ensures in
     let y = c.look-marks.ensures in
-    c.without-gone.ensures ∙ marked_gone _ c.look-quarantine.result c.look-marks.result x.is y.frees x.reads y.reads
+    c.without-gone.ensures ∙ marked_gone _ c.look-quarantine.result c.look-marks.result
+    c.look-quarantine.new.turn.in_order y.frees x.reads y.reads
 
 counted : (c : After-without-gone)
     → c.released_cells-released.result ≡ released_on (now_of c.args.turn.now.pass).words c.args.page
@@ -50,7 +54,8 @@ counted c =
     let r = c.released_cells-released.ensures in
     counted_on c.args.page (c.look-quarantine.result / 2 ^ 32) c.look-marks.result c.args.header.now
     c.released_cells-released.result (both c) (none_at_once b)
-    (snapshot_told c.args.page c.look-quarantine.result x.is x.frees x.reads) y.reads (header c) r.count r.words r.kept
+    (snapshot_told c.args.page c.look-quarantine.result c.look-quarantine.new.turn.in_order x.frees x.reads) y.reads
+    (header c) r.count r.words r.kept
 
 held : (c : After-without-gone)
     → c.held_words-held.result ≡ held_unmarked (now_of c.args.turn.now.pass).words c.args.page

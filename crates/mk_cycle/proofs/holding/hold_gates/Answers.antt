@@ -1,4 +1,4 @@
-use Rattle.std.proofs.Common.{refl, ◌∙◌, arith, below_more}
+use Rattle.std.proofs.Common.{arith, below_more}
 use Rattle.mk_cycle.proofs.HoldingSteps.{all_held_below, holds_nothing, holds_then, still_held_or_own}
 use Rattle.mk_cycle.proofs.holding.hold_gates.Goals as goal
 

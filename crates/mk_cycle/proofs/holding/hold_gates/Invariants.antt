@@ -1,4 +1,4 @@
-use Rattle.std.proofs.Common.{◌≡◌, ℕ, ◌<◌}
+use Rattle.std.proofs.Common.{ℕ, ◌<◌}
 use Rattle.mk_cycle.specs.Holding.{HoldsGates, IsHeldOrOwn}
 use Rattle.mk_cycle.proofs.holding.hold_gates.Given as goal
 

@@ -2,25 +2,21 @@ use Rattle.mk_laws.proofs.Vocabulary.{Step, ap, append_assoc, refl, ◌∙◌}
 use Rattle.mk_cycle.proofs.Vocabulary.{PassState, only_seen_by, other_step_sweeps, sweeps_then}
 use Rattle.mk_cycle.proofs.ReleasedStops.{StopReleases, stop_holds, stop_leaves_cells, stop_leaves_occupied}
 use Rattle.mk_cycle.proofs.{ReleasedStops.{stop_releases, stop_tells}, Told.{told_closing, told_earlier, told_later}}
-use Rattle.mk_cycle.proofs.{Allowed.in_turn, ClosedBy.closed_in_stop, releasing.release_unmarked.Goals.After-release}
+use Rattle.mk_cycle.proofs.{ClosedBy.closed_in_stop, releasing.release_unmarked.Goals.After-release}
 use Rattle.mk_cycle.proofs.releasing.release_unmarked.Goals as goal
 
 -- the three parts
 parts : (g : _) (c : After-release g)
     → StopReleases c.args.stop.now.pass c.close_marks.new.stop.pass c.close_phase.new.self.pass c.release.new.self.pass
-parts g c =
-    let before = c.is_in_order.ensures in
-    let marked = c.is_in_order-2.ensures in
-    let closed = c.is_in_order-3.ensures in
-    record {
-      begun = in_turn _ before.own before.turn before.history;
-      free = c.requires.free;
-      marks = c.close_marks.ensures.law;
-      marked = in_turn _ marked.own marked.turn marked.history;
-      close = c.close_phase.ensures;
-      closed = in_turn _ closed.own closed.turn closed.history;
-      release = c.release.ensures;
-    }
+parts g c = record {
+  begun = c.args.stop.now.in_order;
+  free = c.requires.free;
+  marks = c.close_marks.ensures.law;
+  marked = c.close_marks.new.stop.in_order;
+  close = c.close_phase.ensures;
+  closed = c.close_phase.new.self.in_order;
+  release = c.release.ensures;
+}
 
 pub returns-clause-releases : goal.returns-clause-releases
 returns-clause-releases g c = stop_releases (parts g (goal.at.returns-clause-releases g c).After-release)
@@ -52,7 +48,7 @@ returns-clause-promised g c =
           (other_step_sweeps d q Step.Release release refl));
       told = told_earlier p marks.law.does.more marks.law.does.is
           (told_later q _ (ap (λ (x : PassState). x.seen) release.is ∙ append_assoc d.seen _ _)
-          (told_closing _ c.is_in_order-2.ensures.own close c.is_in_order-3.ensures.history marks.told));
+          (told_closing _ c.close_marks.new.stop.in_order.own close close.pass.history marks.told));
       closed = closed_in_stop _ p q
           (record { closing = b; closed = d; marks = marks.law; close = close; release = release }) marks.closed;
     }

@@ -8,17 +8,17 @@ head-requires-clause-one_table c = c.requires.turn.one_table
 
 pub head-requires-clause-enabled : goal.head-requires-clause-enabled
 head-requires-clause-enabled c =
-    head_allowed c.known_page.ensures.is c.requires.turn c.args.page c.requires.within
-    (empties_here c.known_page.ensures.is c.requires.turn.phase c.args.page c.args.head c.requires.head
-    (sym (ap (λ (x : Page). x.used) c.known_page.ensures.page) ∙ c.if-known_page-eq0.true) c.requires.none_at_head)
+    head_allowed c.args.turn.now.in_order c.requires.turn c.args.page c.requires.within
+    (empties_here c.args.turn.now.in_order c.requires.turn.phase c.args.page c.args.head c.requires.head
+    (sym (ap (λ (x : Page). x.used) c.page.ensures) ∙ c.if-page-eq0.true) c.requires.none_at_head)
 
-pub returns-then-known_page-eq0-clause-frees : goal.returns-then-known_page-eq0-clause-frees
-returns-then-known_page-eq0-clause-frees c = head_frees c.requires.turn c.requires.within c.head.ensures
+pub returns-then-page-eq0-clause-frees : goal.returns-then-page-eq0-clause-frees
+returns-then-page-eq0-clause-frees c = head_frees c.requires.turn c.requires.within c.head.ensures
 
-pub returns-then-known_page-eq0-clause-settled : goal.returns-then-known_page-eq0-clause-settled
-returns-then-known_page-eq0-clause-settled c =
+pub returns-then-page-eq0-clause-settled : goal.returns-then-page-eq0-clause-settled
+returns-then-page-eq0-clause-settled c =
     freed_settles _ (head_frees c.requires.turn c.requires.within c.head.ensures)
     (head_state c.requires.turn c.requires.within c.head.ensures) c.requires.none_left
 
-pub returns-else-known_page-eq0-clause-frees : goal.returns-else-known_page-eq0-clause-frees
-returns-else-known_page-eq0-clause-frees c = page_at_once c.args.page (none_at_once c.args.turn.now.pass)
+pub returns-else-page-eq0-clause-frees : goal.returns-else-page-eq0-clause-frees
+returns-else-page-eq0-clause-frees c = page_at_once c.args.page (none_at_once c.args.turn.now.pass)

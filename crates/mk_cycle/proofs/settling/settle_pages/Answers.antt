@@ -1,6 +1,6 @@
 use Rattle.mk_laws.proofs.Vocabulary.{Page, ℕ, ap, arith, header_in, in_a_word, run_count, ◌+◌, ◌<◌, ◌∙◌, ◌≡◌}
 use Rattle.mk_cycle.proofs.{Vocabulary.{PassState, now_of}, PageByPage.{AreSettledBelow, settled_more, settled_none}}
-use Rattle.mk_cycle.proofs.{PageByPage.settled_to, settling.settle_pages.Goals.{After-known_page-word, In_default}}
+use Rattle.mk_cycle.proofs.{PageByPage.settled_to, settling.settle_pages.Goals.{After-page-word, In_default}}
 use Rattle.mk_cycle.proofs.FreeingSteps.{freed_table}
 use Rattle.mk_cycle.proofs.settling.settle_pages.Goals as goal
 
@@ -15,15 +15,15 @@ loop-page-init c = record {
 }
 
 -- up to the next page that may be unsettled
-to_next : (c : After-known_page-word) → AreSettledBelow c.args.turn.now.pass c.loop-page.turn.pass
+to_next : (c : After-page-word) → AreSettledBelow c.args.turn.now.pass c.loop-page.turn.pass
     c.args.words.now.config.pages c.in-Some.page c.loop-page.end c.loop-page.all c.loop-page.held
 to_next c =
-    let next = c.in-Some.ensures.next in
+    let next = c.in-Some.ensures in
     let i = c.loop-page.invariant in
     let same_pages : c.loop-page.turn.pass.table.config.pages ≡ c.args.words.now.config.pages =
     grind (arith, freed_table) in
     let within = next.1 in
-    settled_to _ c.in-Some.ensures.is c.loop-page.from c.in-Some.page c.loop-page.end _ next.0
+    settled_to _ c.loop-page.turn.in_order c.loop-page.from c.in-Some.page c.loop-page.end _ next.0
     (omega (arith, within, same_pages)) next.3 i.settled
 
 pub settle_taken-here-requires-clause-settled : goal.settle_taken-here-requires-clause-settled
@@ -37,17 +37,17 @@ loop-page-preserved c =
     let q : PassState = c.loop-page.turn.pass in
     let n : ℕ = c.in-Some.page in
     let pages : ℕ = c.args.words.now.config.pages in
-    let before = to_next (goal.at.loop-page-preserved c).After-known_page-word in
-    let after = c.in-Some.ensures.next.0 in
+    let before = to_next (goal.at.loop-page-preserved c).After-page-word in
+    let after = c.in-Some.ensures.0 in
     let same_pages : q.table.config.pages ≡ pages = grind (arith, freed_table) in
-    let within : n < q.table.config.pages = c.in-Some.ensures.next.1 in
-    let known = c.of-header.ensures ∙ ap (λ (y : Page). y.header) c.known_page-word.ensures.page in
+    let within : n < q.table.config.pages = c.in-Some.ensures.1 in
+    let known = c.of-header.ensures ∙ ap (λ (y : Page). y.header) c.page-word.ensures in
     let end : c.run_end.result ≡ in_a_word (n + run_count (header_in (now_of q).words n)) = grind arith in
     let furthest = c.max-end.ensures in
     let limits = c.is_within_limits.ensures in
     record {
       begun = omega (arith, within, same_pages);
-      settled = settled_more p pages x.frees c.in-Some.ensures.is c.max-end.result (omega (arith, furthest))
+      settled = settled_more p pages x.frees c.loop-page.turn.in_order c.max-end.result (omega (arith, furthest))
           (λ s far lt few. omega (arith, end, furthest, far, few, limits)) c.settle_taken-here.result.released
           c.settle_taken-here.result.held before x.settled x.released x.held;
       count = omega (arith, i.count, x.few.count, after);
@@ -63,8 +63,8 @@ same_pages c = grind (arith, freed_table)
 to_end : (c : In_default) → AreSettledBelow c.args.turn.now.pass c.loop-page.turn.pass c.args.words.now.config.pages
     c.args.words.now.config.pages c.loop-page.end c.loop-page.all c.loop-page.held
 to_end c =
-    settled_to _ c.in_default.ensures.is c.loop-page.from _ c.loop-page.end _
-    c.loop-page.invariant.begun (omega arith) (λ r le lt. c.in_default.ensures.next r le (omega (
+    settled_to _ c.loop-page.turn.in_order c.loop-page.from _ c.loop-page.end _
+    c.loop-page.invariant.begun (omega arith) (λ r le lt. c.in_default.ensures r le (omega (
       arith,
       lt,
       same_pages c,

@@ -9,7 +9,7 @@ wipe-requires-clause-one_table c = (freed_turn c.look_at_heap.ensures.frees.free
 pub wipe-requires-clause-enabled : goal.wipe-requires-clause-enabled
 wipe-requires-clause-enabled c =
     let first = c.look_at_heap.ensures.frees.frees in
-    wipe_allowed c.look_at_heap.ensures.is (freed_turn first c.requires.turn)
+    wipe_allowed c.look_at_heap.new.turn.in_order (freed_turn first c.requires.turn)
     (still_unmapped_word first c.requires.unmapped) (λ z. c.if-look_at_heap-ne0.true (c.look_at_heap.ensures.reads ∙ z))
 
 pub returns-then-look_at_heap-ne0-clause-frees : goal.returns-then-look_at_heap-ne0-clause-frees

@@ -1,21 +1,19 @@
 use Rattle.mk_laws.proofs.Vocabulary.{refl, subst, sym, true, ◌≡◌}
 use Rattle.mk_core.specs.Ranges.{is_word}
-use Rattle.mk_cycle.proofs.{Allowed.in_turn, Allowed.look_allowed, MayAct.calm_admitted}
+use Rattle.mk_cycle.proofs.{Allowed.look_allowed, MayAct.calm_admitted}
 use Rattle.mk_engines.proofs.BesideSteps.{goes_look, no_register}
 use Rattle.mk_words.specs.States.{WordsState}
 use Rattle.mk_engines.proofs.steps.look_at.Goals as goal
 
 pub look-requires-clause-enabled : goal.look-requires-clause-enabled
 look-requires-clause-enabled c =
-    look_allowed c.args.turn.now.pass
-    (in_turn _ c.is_in_order.ensures.own c.is_in_order.ensures.turn c.is_in_order.ensures.history)
-    c.requires.beside.free c.args.x
+    look_allowed c.args.turn.now.pass c.args.turn.now.in_order c.requires.beside.free c.args.x
     (subst (λ (w : WordsState). is_word w.config c.args.x ≡ true) (sym c.requires.one_table) c.requires.in_range)
     (no_register c.args.x c.requires.plain)
 
 pub look-requires-clause-admitted : goal.look-requires-clause-admitted
 look-requires-clause-admitted c may =
-    calm_admitted c.args.turn.now.pass _ c.is_in_order.ensures.history refl c.requires.beside.free.decided
+    calm_admitted c.args.turn.now.pass _ c.args.turn.now.in_order.history refl c.requires.beside.free.decided
 
 pub returns-clause-on : goal.returns-clause-on
 returns-clause-on c = goes_look c.args.turn.now c.look.new.self c.requires.beside c.look.ensures.acts c.requires.plain

@@ -1,19 +1,19 @@
 use Rattle.mk_laws.proofs.Vocabulary.{refl, subst, sym, true, ◌≡◌}
 use Rattle.mk_core.specs.Ranges.{is_word}
-use Rattle.mk_cycle.proofs.{Allowed.in_turn, MayAct.calm_admitted}
+use Rattle.mk_cycle.proofs.MayAct.{calm_admitted}
 use Rattle.mk_engines.proofs.BesideSteps.{finds_in_root, may_look_at_root, root_hand}
 use Rattle.mk_words.specs.States.{WordsState}
 use Rattle.mk_engines.proofs.steps.look_at_root.Goals as goal
 
 pub look-requires-clause-enabled : goal.look-requires-clause-enabled
 look-requires-clause-enabled c =
-    may_look_at_root (in_turn _ c.is_in_order.ensures.own c.is_in_order.ensures.turn c.is_in_order.ensures.history)
-    c.requires.beside c.args.x (subst (λ (w : WordsState). is_word w.config c.args.x ≡ true)
-    (sym c.requires.one_table) c.requires.in_range) c.requires.root c.requires.seen
+    may_look_at_root c.args.turn.now.in_order c.requires.beside c.args.x
+    (subst (λ (w : WordsState). is_word w.config c.args.x ≡ true) (sym c.requires.one_table) c.requires.in_range)
+    c.requires.root c.requires.seen
 
 pub look-requires-clause-admitted : goal.look-requires-clause-admitted
 look-requires-clause-admitted c may =
-    calm_admitted c.args.turn.now.pass _ c.is_in_order.ensures.history refl c.requires.beside.free.decided
+    calm_admitted c.args.turn.now.pass _ c.args.turn.now.in_order.history refl c.requires.beside.free.decided
 
 pub returns-clause-finds : goal.returns-clause-finds
 returns-clause-finds c =

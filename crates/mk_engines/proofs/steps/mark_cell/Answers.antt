@@ -1,6 +1,5 @@
 use Rattle.mk_laws.proofs.Vocabulary.{Step, subst, sym}
 use Rattle.mk_core.proofs.PointedPages.{pointed_within}
-use Rattle.mk_cycle.proofs.Allowed.{in_turn}
 use Rattle.mk_engines.proofs.BesideSteps.{goes_mark, marked_there, may_mark_beside}
 use Rattle.mk_words.specs.{States.now_of, Steps.IsEnabledTo, TurnSteps.Acts}
 use Rattle.mk_engines.proofs.steps.mark_cell.Goals as goal
@@ -14,8 +13,7 @@ bit-requires c =
 pub mark-requires-clause-enabled : goal.mark-requires-clause-enabled
 mark-requires-clause-enabled c =
     subst (λ v. IsEnabledTo c.args.turn.now.pass (Step.Mark c.args.cell.page v)) (sym c.bit.ensures)
-    (may_mark_beside (in_turn _ c.is_in_order.ensures.own c.is_in_order.ensures.turn c.is_in_order.ensures.history)
-    c.requires.beside c.requires.reached)
+    (may_mark_beside c.args.turn.now.in_order c.requires.beside c.requires.reached)
 
 pub returns-clause-on : goal.returns-clause-on
 returns-clause-on c =

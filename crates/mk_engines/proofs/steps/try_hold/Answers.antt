@@ -1,14 +1,12 @@
 use Rattle.mk_laws.proofs.Vocabulary.{subst, sym, ◌<◌}
-use Rattle.mk_cycle.proofs.{Allowed.in_turn, HoldingSteps.hold_allowed}
+use Rattle.mk_cycle.proofs.HoldingSteps.{hold_allowed}
 use Rattle.mk_engines.proofs.BesideSteps.{goes_hold, hold_others}
 use Rattle.mk_words.specs.States.{WordsState}
 use Rattle.mk_engines.proofs.steps.try_hold.Goals as goal
 
 pub try_hold-requires-clause-enabled : goal.try_hold-requires-clause-enabled
 try_hold-requires-clause-enabled c =
-    hold_allowed c.args.turn.now.pass
-    (in_turn _ c.is_in_order.ensures.own c.is_in_order.ensures.turn c.is_in_order.ensures.history)
-    c.requires.beside.free c.args.caller
+    hold_allowed c.args.turn.now.pass c.args.turn.now.in_order c.requires.beside.free c.args.caller
     (subst (λ (w : WordsState). c.args.caller < w.config.callers) (sym c.requires.one_table) c.requires.within)
     c.requires.another c.requires.open
 

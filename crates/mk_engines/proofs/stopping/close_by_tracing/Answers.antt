@@ -2,8 +2,7 @@ use Rattle.mk_engines.proofs.{Sweepless.sweepless_rule, TracedMarks.closes_by_tr
 use Rattle.mk_engines.proofs.stopping.close_by_tracing.Goals as goal
 
 pub close_marks-requires-clause-ready : goal.close_marks-requires-clause-ready
-close_marks-requires-clause-ready g c =
-    ready_of c.args.stop.now.pass c.is_in_order.ensures.history c.is_in_order.ensures.turn.holds c.requires.free
+close_marks-requires-clause-ready g c = ready_of c.args.stop.now.in_order c.requires.free
 
 pub returns-clause-law : goal.returns-clause-law
 returns-clause-law g c =

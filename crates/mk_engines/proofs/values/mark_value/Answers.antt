@@ -1,15 +1,12 @@
 use Rattle.mk_laws.proofs.Vocabulary.{sym}
 use Rattle.mk_core.proofs.PointedPages.{pointed_within}
-use Rattle.mk_cycle.proofs.Allowed.{in_turn}
 use Rattle.mk_engines.proofs.BesideSteps.{gates_for_cell, goes_for_cell, may_look_at_headers}
 use Rattle.mk_engines.proofs.MarksBeside.{gates_on, goes_then}
 use Rattle.mk_words.specs.States.{now_of}
 use Rattle.mk_engines.proofs.values.mark_value.Goals as goal
 
 pub cell_pointed-requires-clause-may : goal.cell_pointed-requires-clause-may
-cell_pointed-requires-clause-may c =
-    may_look_at_headers
-    (in_turn _ c.is_in_order.ensures.own c.is_in_order.ensures.turn c.is_in_order.ensures.history) c.requires.beside
+cell_pointed-requires-clause-may c = may_look_at_headers c.args.turn.now.in_order c.requires.beside
 
 pub returns-in_default-clause-on : goal.returns-in_default-clause-on
 returns-in_default-clause-on c = goes_for_cell c.cell_pointed.ensures.looks c.requires.beside

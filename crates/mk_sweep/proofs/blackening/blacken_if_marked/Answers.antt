@@ -1,8 +1,8 @@
-use Rattle.mk_sweep.proofs.{Vocabulary.{WordsState, still_words}, Blacks.{black_now, blacks_added, blacks_length}}
-use Rattle.mk_sweep.proofs.{Blacks.blacks_same, SweepSteps.{on_black, sweeps_from}}
-use Rattle.mk_sweep.proofs.blackening.blacken_if_marked.Goals.{After-black, After-is_in_order}
+use Rattle.mk_sweep.proofs.Vocabulary.{WordsState, still_words}
 use Rattle.mk_laws.proofs.Vocabulary.{arith, subst, sym, ◌<◌, ◌^◌, ◌≡◌}
-use Rattle.mk_tracing.{proofs.{MaySteps.may_black_cell, Stilled.black_words}, specs.Grays.{with_blacks}}
+use Rattle.mk_sweep.proofs.Blacks.{black_now, blacks_added, blacks_length, blacks_same}
+use Rattle.mk_sweep.proofs.{SweepSteps.on_black, SweepSteps.sweeps_from, blackening.blacken_if_marked.Goals.After-black}
+use Rattle.mk_tracing.{proofs.MaySteps.may_black_cell, proofs.Stilled.black_words, specs.Grays.with_blacks}
 use Rattle.mk_sweep.proofs.blackening.blacken_if_marked.Goals as goal
 
 pub returns-then-not-marked-clause-on : goal.returns-then-not-marked-clause-on
@@ -11,17 +11,11 @@ returns-then-not-marked-clause-on c = sweeps_from c.args.stop.now c.requires.swe
 pub returns-then-not-marked-clause-more : goal.returns-then-not-marked-clause-more
 returns-then-not-marked-clause-more c = grind (arith, blacks_same)
 
--- the cell is on a page
-near : (c : After-is_in_order) → c.args.cell.page < c.args.stop.now.pass.table.config.pages
-near c = subst (λ (t : WordsState). c.args.cell.page < t.config.pages) (sym c.requires.one_table) c.requires.page
-
 pub black-requires-clause-enabled : goal.black-requires-clause-enabled
-black-requires-clause-enabled c = grind (arith, may_black_cell, near)
+black-requires-clause-enabled c = grind (arith, may_black_cell)
 
 pub returns-clause-on : goal.returns-clause-on
-returns-clause-on c =
-    on_black c.args.stop.now c.black.new.self c.requires.sweeping
-    (c.is_in_order.ensures.turn.holds, c.is_in_order.ensures.gates) c.black.ensures
+returns-clause-on c = on_black c.requires.sweeping c.black.ensures
 
 blackened : (c : After-black) → still_words c.black.new.self.pass
     ≡ with_blacks c.args.cell.page (2 ^ c.args.cell.index) (still_words c.args.stop.now.pass)
@@ -35,5 +29,6 @@ returns-clause-black c marked =
     let x = goal.at.returns-clause-black c in
     let p = c.args.stop.now.pass in
     black_now (still_words p) (still_words c.black.new.self.pass) c.args.cell
-    (subst (λ n. c.args.cell.page < n) (sym (blacks_length p)) (near x.After-is_in_order))
+    (subst (λ n. c.args.cell.page < n) (sym (blacks_length p)) (subst
+    (λ (t : WordsState). c.args.cell.page < t.config.pages) (sym c.requires.one_table) c.requires.page))
     (let small = c.requires.index in omega arith) (blackened x.After-black)

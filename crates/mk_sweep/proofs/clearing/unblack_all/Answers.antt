@@ -18,12 +18,10 @@ loop-page-preserved c =
     let v = still_words t.pass in
     let x = still_words u.pass in
     let sweeping = c.loop-page.invariant.on.sweeping in
-    let gone = unblack_words t.pass u.pass sweeping.wanted
-    (c.is_in_order.ensures.turn.holds, c.is_in_order.ensures.gates) c.loop-page.page c.unblack.ensures in
+    let gone = unblack_words sweeping.wanted c.unblack.ensures in
     let fewer = blacks_cleared v x c.loop-page.page gone in
     record {
-      on = quiet_then c.loop-page.invariant.on (on_unblack t u sweeping
-          (c.is_in_order.ensures.turn.holds, c.is_in_order.ensures.gates) c.unblack.ensures);
+      on = quiet_then c.loop-page.invariant.on (on_unblack sweeping c.unblack.ensures);
       fewer = blacks_then w v x c.loop-page.invariant.fewer fewer;
       none = pages_then (λ p. slice_index v.blacks p ≡ 0) (λ p. slice_index x.blacks p ≡ 0) c.loop-page.page
           fewer.fewer c.loop-page.invariant.none (black_cleared v x c.loop-page.page gone);

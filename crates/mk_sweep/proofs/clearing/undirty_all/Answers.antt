@@ -9,7 +9,8 @@ pub loop-page-init : goal.loop-page-init
 loop-page-init c = grind (arith, sweeps_from, dirty_same)
 
 pub undirty-requires-clause-enabled : goal.undirty-requires-clause-enabled
-undirty-requires-clause-enabled c = grind (arith, head_is_near, may_undirty_page)
+undirty-requires-clause-enabled c =
+    grind (arith, head_is_near, may_undirty_page c.loop-page.stop c.loop-page.invariant.on.sweeping.wanted)
 
 pub loop-page-preserved : goal.loop-page-preserved
 loop-page-preserved c =
@@ -19,12 +20,10 @@ loop-page-preserved c =
     let v = still_words t.pass in
     let x = still_words u.pass in
     let sweeping = c.loop-page.invariant.on.sweeping in
-    let gone = undirty_words t.pass u.pass sweeping.wanted
-    (c.is_in_order.ensures.turn.holds, c.is_in_order.ensures.gates) c.loop-page.page c.undirty.ensures in
+    let gone = undirty_words sweeping.wanted c.undirty.ensures in
     let fewer = dirty_cleared v x c.loop-page.page gone in
     record {
-      on = quiet_then c.loop-page.invariant.on (on_undirty t u sweeping
-          (c.is_in_order.ensures.turn.holds, c.is_in_order.ensures.gates) c.undirty.ensures);
+      on = quiet_then c.loop-page.invariant.on (on_undirty sweeping c.undirty.ensures);
       fewer = dirty_then w v x c.loop-page.invariant.fewer fewer;
       clean = pages_then (λ p. slice_index v.dirty p ≡ 0) (λ p. slice_index x.dirty p ≡ 0) c.loop-page.page
           fewer.fewer c.loop-page.invariant.clean (dirt_cleared v x c.loop-page.page gone);

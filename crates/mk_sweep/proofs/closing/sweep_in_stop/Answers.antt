@@ -8,7 +8,7 @@ pub blacken_all-requires-clause-closed : goal.blacken_all-requires-clause-closed
 blacken_all-requires-clause-closed c =
     closed_behind _ c.mark_roots.new.stop c.sweep_pages-looks.new.stop (sym (c.sweep_pages-looks.ensures.sweeps.on.table
     ∙ c.mark_roots.ensures.on.table ∙ c.undirty_all.ensures.on.table ∙ c.unblack_all.ensures.on.table
-    ∙ c.requires.one_table)) c.is_in_order.ensures.history c.sweep_pages-looks.ensures.sweeps.on.sweeping.settled
+    ∙ c.requires.one_table)) c.sweep_pages-looks.ensures.sweeps.on.sweeping.settled
     c.sweep_pages-looks.ensures.sweeps.more c.mark_roots.ensures.roots c.sweep_pages-looks.ensures.sweeps.well
 
 pub returns-clause-on : goal.returns-clause-on
@@ -38,7 +38,7 @@ pub returns-clause-closed : goal.returns-clause-closed
 returns-clause-closed c =
     closed_kept c.blacken_all.ensures.more (closed_behind _ c.mark_roots.new.stop c.sweep_pages-looks.new.stop
     (sym (c.sweep_pages-looks.ensures.sweeps.on.table ∙ c.mark_roots.ensures.on.table ∙ c.undirty_all.ensures.on.table
-    ∙ c.unblack_all.ensures.on.table ∙ c.requires.one_table)) c.is_in_order.ensures.history
+    ∙ c.unblack_all.ensures.on.table ∙ c.requires.one_table))
     c.sweep_pages-looks.ensures.sweeps.on.sweeping.settled c.sweep_pages-looks.ensures.sweeps.more
     c.mark_roots.ensures.roots c.sweep_pages-looks.ensures.sweeps.well)
 

@@ -9,6 +9,5 @@ pub returns-clause-roots : goal.returns-clause-roots
 returns-clause-roots c =
     let registers = c.mark_registers in
     let globals = c.mark_globals in
-    all_roots_well c.args.stop.now.pass registers.new.stop.pass globals.new.stop.pass c.requires.one_table
-    c.is_in_order.ensures.history registers.ensures.more globals.ensures.more registers.ensures.well
-    globals.ensures.well
+    all_roots_well c.args.stop.now registers.new.stop.pass globals.new.stop.pass c.requires.one_table
+    registers.ensures.more globals.ensures.more registers.ensures.well globals.ensures.well

@@ -6,15 +6,12 @@ use Rattle.mk_sweep.proofs.stepping.look_at_root.Goals as goal
 
 pub look-requires-clause-enabled : goal.look-requires-clause-enabled
 look-requires-clause-enabled c =
-    may_look _ c.requires.sweeping.wanted (c.is_in_order.ensures.turn.holds, c.is_in_order.ensures.gates) c.args.x
+    may_look c.args.stop.now c.requires.sweeping.wanted c.args.x
     (subst (λ (t : WordsState). is_word t.config c.args.x ≡ true) (sym c.requires.one_table) c.requires.word)
 
 pub returns-clause-on : goal.returns-clause-on
-returns-clause-on c =
-    on_root c.args.stop.now c.look.new.self c.requires.sweeping
-    (c.is_in_order.ensures.turn.holds, c.is_in_order.ensures.gates) c.args.x c.look.ensures.acts c.requires.root
+returns-clause-on c = on_root c.requires.sweeping _ c.look.ensures.acts c.requires.root
 
 pub returns-clause-hand : goal.returns-clause-hand
 returns-clause-hand c =
-    root_in_hand c.requires.sweeping.wanted (c.is_in_order.ensures.turn.holds, c.is_in_order.ensures.gates) c.args.x
-    c.look.ensures.acts c.look.result c.look.ensures.finds c.requires.root
+    root_in_hand c.requires.sweeping.wanted c.look.ensures.acts c.look.ensures.finds c.requires.root

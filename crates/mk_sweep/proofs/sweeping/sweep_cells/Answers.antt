@@ -15,7 +15,7 @@ sweep_if_used-looks-requires-clause-scanned c used i lt =
     let w = still_words p in
     let size : words_under (header_in w c.args.page) ≡ c.words_under-size.result =
     sym (c.words_under-size.ensures.exact ∙ ap (λ h. words_under (header_of h)) c.requires.header) in
-    let word = used_word p.table.config p.seen c.is_in_order.ensures.history c.requires.sweeping.settled c.args.page
+    let word = used_word p.table.config p.seen c.args.stop.now.in_order.history c.requires.sweeping.settled c.args.page
     c.loop-index.index i (ap (λ n. has_bit n c.loop-index.index) (sym c.requires.used) ∙ sym c.has_bit.ensures ∙ used)
     c.requires.scanned (subst (λ k. i < k) (sym size) lt) in
     word_alike c.args.words.now.config (world_of p) (world_of c.loop-index.stop.pass)

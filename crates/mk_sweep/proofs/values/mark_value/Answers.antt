@@ -7,18 +7,15 @@ use Rattle.mk_tracing.proofs.MoreMarks.{marks_length, more_same, then_more, then
 use Rattle.mk_sweep.proofs.values.mark_value.Goals as goal
 
 pub cell_pointed-requires-clause-may : goal.cell_pointed-requires-clause-may
-cell_pointed-requires-clause-may c =
-    may_look_at_headers c.requires.sweeping (c.is_in_order.ensures.turn.holds, c.is_in_order.ensures.gates)
+cell_pointed-requires-clause-may c = may_look_at_headers c.args.stop.now c.requires.sweeping
 
 -- what looking for the cell leaves
 
 looks : (c : After-cell_pointed) → SweepsOn c.args.stop.now c.cell_pointed.new.turn []
 looks c = sweeps_for_cell c.cell_pointed.ensures.looks c.requires.sweeping
-    (c.is_in_order.ensures.turn.holds, c.is_in_order.ensures.gates)
 
 same : (c : After-cell_pointed) → still_words c.cell_pointed.new.turn.pass ≡ still_words c.args.stop.now.pass
 same c = words_for_cell c.cell_pointed.ensures.looks c.requires.sweeping
-    (c.is_in_order.ensures.turn.holds, c.is_in_order.ensures.gates)
 
 pub returns-in_default-clause-on : goal.returns-in_default-clause-on
 returns-in_default-clause-on c = looks (goal.at.returns-in_default-clause-on c).After-cell_pointed
@@ -39,20 +36,17 @@ is_marked-requires-clause-page c =
 
 seen : (c : After-is_marked) → SweepsOn c.args.stop.now c.is_marked.new.stop []
 seen c =
-    quiet_then (sweeps_for_cell c.cell_pointed.ensures.looks c.requires.sweeping
-    (c.is_in_order.ensures.turn.holds, c.is_in_order.ensures.gates)) c.is_marked.ensures.on
+    quiet_then (sweeps_for_cell c.cell_pointed.ensures.looks c.requires.sweeping) c.is_marked.ensures.on
 
 unchanged : (c : After-is_marked) → still_words c.is_marked.new.stop.pass ≡ still_words c.args.stop.now.pass
 unchanged c =
     c.is_marked.ensures.words ∙ words_for_cell c.cell_pointed.ensures.looks c.requires.sweeping
-    (c.is_in_order.ensures.turn.holds, c.is_in_order.ensures.gates)
 
 points : (c : After-is_marked) → pointed_cell c.args.words.now.config.pages
     (still_words c.args.stop.now.pass).pages c.args.value ≡ Some c.in-Some.cell
 points c =
     ap (λ (w : Words). pointed_cell c.args.words.now.config.pages w.pages c.args.value)
-    (sym (words_for_cell c.cell_pointed.ensures.looks c.requires.sweeping
-    (c.is_in_order.ensures.turn.holds, c.is_in_order.ensures.gates))) ∙ sym c.in-Some.ensures.points
+    (sym (words_for_cell c.cell_pointed.ensures.looks c.requires.sweeping)) ∙ sym c.in-Some.ensures.points
 
 pub returns-then-is_marked-clause-on : goal.returns-then-is_marked-clause-on
 returns-then-is_marked-clause-on c = seen (goal.at.returns-then-is_marked-clause-on c).After-is_marked

@@ -9,12 +9,11 @@ returns-clause-traces g c =
 
 pub returns-clause-closes : goal.returns-clause-closes
 returns-clause-closes g c =
-    let p = c.mark_in_stop.new.stop.pass in
+    let t = c.mark_in_stop.new.stop in
     let m = c.mark_in_stop.ensures in
-    let sized : c.of.result.pages ≡ p.table.config.pages = grind arith in
-    may_close_now p m.on.wanted (c.is_in_order.ensures.turn.holds, c.is_in_order.ensures.gates)
-    (λ pg lt. m.black pg (rw sized lt)) (λ pg lt. m.clean pg (rw sized lt)) (rw sized at m.roots)
+    let sized : c.of.result.pages ≡ t.pass.table.config.pages = grind arith in
+    may_close_now t m.on.wanted (λ pg lt. m.black pg (rw sized lt)) (λ pg lt. m.clean pg (rw sized lt))
+    (rw sized at m.roots)
 
 pub returns-clause-closed : goal.returns-clause-closed
-returns-clause-closed g c = marks_closed_now c.mark_in_stop.new.stop.pass c.is_in_order.ensures.history
-    (returns-clause-closes g c)
+returns-clause-closed g c = marks_closed_now c.mark_in_stop.new.stop (returns-clause-closes g c)

@@ -9,17 +9,16 @@ loop-page-init c = record { on = on_from c.requires.may.wanted; clean = λ p lt.
 pub loop-page-preserved : goal.loop-page-preserved
 loop-page-preserved c =
     let x = still_words c.clean_if_dirty.new.stop.pass in
-    let found = c.in-Some.ensures in
     record {
       on = on_then c.loop-page.invariant.on c.clean_if_dirty.ensures.on;
       clean = pages_then (λ p. slice_index (still_words c.loop-page.stop.pass).dirty p ≡ 0) (λ p. slice_index x.dirty p
-          ≡ 0) c.in-Some.page c.clean_if_dirty.ensures.fewer (clean_past c.loop-page.stop.pass found.history
-          c.loop-page.from c.in-Some.page c.loop-page.invariant.clean found.next.3) c.clean_if_dirty.ensures.clean;
+          ≡ 0) c.in-Some.page c.clean_if_dirty.ensures.fewer (clean_past c.loop-page.stop c.loop-page.from
+          c.in-Some.page c.loop-page.invariant.clean c.in-Some.ensures.3) c.clean_if_dirty.ensures.clean;
     }
 
 pub returns-clause-clean : goal.returns-clause-clean
 returns-clause-clean c =
-    let q = c.loop-page.stop.pass in
-    let pages : q.table.config.pages ≡ c.args.table.pages = grind arith in
-    clean_past q c.in_default.ensures.history c.loop-page.from c.args.table.pages
-    c.loop-page.invariant.clean (λ n low high. c.in_default.ensures.next n low (omega (arith, high, pages)))
+    let t = c.loop-page.stop in
+    let pages : t.pass.table.config.pages ≡ c.args.table.pages = grind arith in
+    clean_past t c.loop-page.from c.args.table.pages
+    c.loop-page.invariant.clean (λ n low high. c.in_default.ensures n low (omega (arith, high, pages)))

@@ -13,7 +13,7 @@ loop-page-init c = record { looks = looks_from c.requires.may.wanted; none = λ 
 pub returns-then-page-to-clause-none : goal.returns-then-page-to-clause-none
 returns-then-page-to-clause-none c p low high =
     none_past _ _ c.args.from c.loop-page.next c.in-Some.page c.loop-page.invariant.looks.words
-    c.loop-page.invariant.none c.in-Some.ensures.next.3 p low (omega (arith, high, c.if-page-to.true))
+    c.loop-page.invariant.none c.in-Some.ensures.3 p low (omega (arith, high, c.if-page-to.true))
 
 pub returns-in-Some-found-clause-looks : goal.returns-in-Some-found-clause-looks
 returns-in-Some-found-clause-looks c = looks_then c.loop-page.invariant.looks c.gray_on-found.ensures.looks
@@ -24,6 +24,6 @@ loop-page-preserved c =
     record {
       looks = looks_then i.looks c.gray_on-found.ensures.looks;
       none = none_on _ _ c.args.from c.in-Some.page i.looks.words
-          (none_past _ _ c.args.from c.loop-page.next c.in-Some.page i.looks.words i.none c.in-Some.ensures.next.3)
+          (none_past _ _ c.args.from c.loop-page.next c.in-Some.page i.looks.words i.none c.in-Some.ensures.3)
           c.in_default-found.ensures.none;
     }

@@ -10,6 +10,6 @@ returns-clause-roots c =
     let registers = c.mark_registers.ensures in
     let globals = c.mark_globals.ensures in
     let sized : c.args.table.pages ≡ c.args.table.words.now.config.pages = grind arith in
-    rw sized (all_roots_well c.args.stop.now.pass c.mark_registers.new.stop.pass c.mark_globals.new.stop.pass
-    {t = c.args.table.words.now} c.requires.may.one_table c.is_in_order.ensures.history
-    registers.marks.more globals.marks.more registers.well globals.well)
+    rw sized (all_roots_well c.args.stop.now c.mark_registers.new.stop.pass c.mark_globals.new.stop.pass
+    {k = c.args.table.words.now} c.requires.may.one_table registers.marks.more globals.marks.more registers.well
+    globals.well)

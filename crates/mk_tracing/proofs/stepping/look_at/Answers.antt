@@ -2,6 +2,4 @@ use Rattle.mk_tracing.proofs.StopSteps.{looks_plain}
 use Rattle.mk_tracing.proofs.stepping.look_at.Goals as goal
 
 pub returns-clause-looks : goal.returns-clause-looks
-returns-clause-looks c =
-    looks_plain c.requires.may.wanted (c.is_in_order.ensures.turn.holds, c.is_in_order.ensures.gates)
-    c.is_in_order.ensures.own c.look_among.ensures.acts c.requires.plain
+returns-clause-looks c = looks_plain c.requires.may.wanted c.look_among.ensures.acts c.requires.plain

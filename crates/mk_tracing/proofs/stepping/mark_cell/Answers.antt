@@ -6,13 +6,11 @@ pub bit-requires : goal.bit-requires
 bit-requires c = (reached_within c.requires.reached).1
 
 pub mark_in_use-requires-clause-in_use : goal.mark_in_use-requires-clause-in_use
-mark_in_use-requires-clause-in_use c =
-    reached_in_use c.is_in_order.ensures.history c.requires.may.wanted c.requires.reached
+mark_in_use-requires-clause-in_use c = reached_in_use c.args.stop.now c.requires.may.wanted c.requires.reached
 
 pub mark_in_use-requires-clause-enabled : goal.mark_in_use-requires-clause-enabled
 mark_in_use-requires-clause-enabled c = grind (arith, may_mark_cell, reached_within)
 
 pub returns-clause-on : goal.returns-clause-on
 returns-clause-on c =
-    on_mark c.requires.may.wanted (c.is_in_order.ensures.turn.holds, c.is_in_order.ensures.gates)
-    c.is_in_order.ensures.own (rw c.bit.ensures at c.mark_in_use.ensures) c.requires.reached
+    on_mark c.requires.may.wanted (rw c.bit.ensures at c.mark_in_use.ensures) c.requires.reached

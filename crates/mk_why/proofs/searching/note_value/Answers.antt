@@ -12,8 +12,8 @@ returns-in_default-clause-on c = grind (arith, grows_nothing)
 pub note-requires : goal.note-requires
 note-requires c =
     let x = c.in-Some.ensures.points in
-    let low = begins_at c.is_in_order.ensures.history c.requires.still c.args.words.now
-    c.requires.one_table c.in-Some.base (record { number = x.number; unreleased = x.points.0; is = x.is }) in
+    let low = begins_at c.args.stop.now c.requires.still c.requires.one_table
+    (record { number = x.number; unreleased = x.points.0; is = x.is }) in
     let size = c.requires.search.size in
     omega arith
 
@@ -22,8 +22,8 @@ noted : (c : After-note) → Notes c.args.words.now.config
     (view_by c.args.stop.now.pass) c.args.tables.now c.note.new.self c.in-Some.base c.args.found.links
 noted c =
     let x = c.in-Some.ensures.points in
-    let low = begins_at c.is_in_order.ensures.history c.requires.still c.args.words.now
-    c.requires.one_table c.in-Some.base (record { number = x.number; unreleased = x.points.0; is = x.is }) in
+    let low = begins_at c.args.stop.now c.requires.still c.requires.one_table
+    (record { number = x.number; unreleased = x.points.0; is = x.is }) in
     let size = c.requires.search.size in
     notes c.note.new.self c.requires.search (omega arith)
     c.note.ensures.known c.note.ensures.noted c.note.ensures.last c.note.ensures.more c.note.ensures.room

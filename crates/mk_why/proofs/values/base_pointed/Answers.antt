@@ -4,16 +4,15 @@ use Rattle.mk_why.proofs.{Looks.may_look_at_headers, Pointed.{none_at, none_at_u
 use Rattle.mk_why.proofs.values.base_pointed.Goals.{After-cell_pointed, In-Some}
 use Rattle.mk_laws.proofs.Vocabulary.{None, Option, arith, lt-ltb, pointed_cell, ◌*◌, ◌<◌, ◌≡◌, ◌≤◌}
 use Rattle.mk_core.proofs.PointedPages.{pointed_within}
-use Rattle.mk_cycle.proofs.Allowed.{in_turn}
 use Rattle.mk_why.proofs.values.base_pointed.Goals as goal
 
 pub cell_pointed-requires-clause-may : goal.cell_pointed-requires-clause-may
-cell_pointed-requires-clause-may c = grind (arith, may_look_at_headers, in_turn)
+cell_pointed-requires-clause-may c = may_look_at_headers c.args.stop.now c.requires.still
 
 -- what looking for the cell leaves, and what the value points into by the view as it was
 
 looks : (c : After-cell_pointed) → LooksWhileStill c.args.stop.now c.cell_pointed.new.turn
-looks c = looks_for_cell c.cell_pointed.ensures.looks c.is_in_order.ensures.gates c.requires.still
+looks c = looks_for_cell c.cell_pointed.ensures.looks c.requires.still
 
 here : (c : After-cell_pointed) (cell : Option Cell)
     → cell ≡ pointed_cell c.args.words.now.config.pages (now_of c.cell_pointed.new.turn.pass).words.pages c.args.value
@@ -26,8 +25,7 @@ returns-in_default-clause-on c = looks (goal.at.returns-in_default-clause-on c).
 pub returns-in_default-clause-points : goal.returns-in_default-clause-points
 returns-in_default-clause-points c =
     let x = (goal.at.returns-in_default-clause-points c).After-cell_pointed in
-    none_at c.is_in_order.ensures.history c.requires.still c.args.words.now
-    c.requires.one_table c.args.value (here x None c.in_default.ensures.points)
+    none_at c.args.stop.now c.requires.still c.requires.one_table c.args.value (here x None c.in_default.ensures.points)
 
 -- where the cell lies
 within : (c : In-Some) → (c.in-Some.cell.page < c.args.words.now.config.pages) × (c.in-Some.cell.index < 64)
@@ -50,7 +48,8 @@ pub returns-then-not-has_bit-clause-on : goal.returns-then-not-has_bit-clause-on
 returns-then-not-has_bit-clause-on c = grind (arith, looks_then, looks)
 
 pub returns-then-not-has_bit-clause-points : goal.returns-then-not-has_bit-clause-points
-returns-then-not-has_bit-clause-points c = grind (arith, none_at_unused, here, looks)
+returns-then-not-has_bit-clause-points c =
+    grind (arith, none_at_unused c.args.stop.now c.requires.still c.requires.one_table, here, looks)
 
 pub overflow_mul-result : goal.overflow_mul-result
 overflow_mul-result c =
@@ -80,4 +79,6 @@ returns-clause-on c =
     c.look_at-header.ensures.on
 
 pub returns-clause-points : goal.returns-clause-points
-returns-clause-points c = grind (arith, looks, some_at_used, here)
+returns-clause-points c =
+    let x = (goal.at.returns-clause-points c).After-cell_pointed in
+    grind (arith, some_at_used c.args.stop.now c.requires.still c.requires.one_table, here x, looks x)

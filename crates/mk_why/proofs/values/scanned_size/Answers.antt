@@ -4,8 +4,7 @@ use Rattle.mk_why.proofs.values.scanned_size.Goals as goal
 
 pub look_at-header-requires-clause-word : goal.look_at-header-requires-clause-word
 look_at-header-requires-clause-word c =
-    let low = begins_at c.is_in_order.ensures.history c.requires.still c.args.words.now
-    c.requires.one_table c.args.base c.requires.base in
+    let low = begins_at c.args.stop.now c.requires.still c.requires.one_table c.requires.base in
     lt-ltb (c.args.base / 64) c.args.words.now.config.pages (omega arith)
 
 pub returns-then-has_no_pointers-clause-scanned : goal.returns-then-has_no_pointers-clause-scanned
@@ -16,24 +15,20 @@ returns-then-has_no_pointers-clause-whole c = grind (arith, bare_at)
 
 pub returns-then-has_no_pointers-clause-within : goal.returns-then-has_no_pointers-clause-within
 returns-then-has_no_pointers-clause-within c =
-    let low = begins_at c.is_in_order.ensures.history c.requires.still c.args.words.now
-    c.requires.one_table c.args.base c.requires.base in
+    let low = begins_at c.args.stop.now c.requires.still c.requires.one_table c.requires.base in
     omega arith
 
 pub returns-clause-scanned : goal.returns-clause-scanned
 returns-clause-scanned c =
-    scanned_at c.is_in_order.ensures.history c.requires.still c.args.words.now
-    c.requires.one_table c.args.base c.requires.base c.look_at-header.result c.look_at-header.ensures.found
-    (sym c.has_no_pointers.ensures ∙ c.if-has_no_pointers.false) c.words_under.result c.words_under.ensures.exact
+    scanned_at c.args.stop.now c.requires.still c.requires.one_table c.requires.base c.look_at-header.ensures.found
+    (sym c.has_no_pointers.ensures ∙ c.if-has_no_pointers.false) c.words_under.ensures.exact
 
 pub returns-clause-whole : goal.returns-clause-whole
 returns-clause-whole c =
-    whole_at c.is_in_order.ensures.history c.requires.still c.args.words.now
-    c.requires.one_table c.args.base c.requires.base c.look_at-header.result c.look_at-header.ensures.found
-    c.words_under.result c.words_under.ensures.exact
+    whole_at c.args.stop.now c.requires.still c.requires.one_table c.requires.base c.look_at-header.ensures.found
+    c.words_under.ensures.exact
 
 pub returns-clause-within : goal.returns-clause-within
 returns-clause-within c =
-    within_at c.is_in_order.ensures.history c.requires.still c.args.words.now
-    c.requires.one_table c.args.base c.requires.base c.look_at-header.result c.look_at-header.ensures.found
-    c.words_under.result c.words_under.ensures.exact
+    within_at c.args.stop.now c.requires.still c.requires.one_table c.requires.base c.look_at-header.ensures.found
+    c.words_under.ensures.exact

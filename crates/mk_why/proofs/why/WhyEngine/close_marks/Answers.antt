@@ -1,7 +1,6 @@
-use Rattle.mk_why.proofs.{Vocabulary.PassState, Looks.{law_kept, looks_then, still_closed, sweepless_kept}}
-use Rattle.mk_why.proofs.{Counts.of_state, Pointed.apart, Telling.{told_by, told_of}}
-use Rattle.mk_laws.proofs.Vocabulary.{ap, arith, ◌∙◌}
-use Rattle.mk_cycle.proofs.Allowed.{in_turn}
+use Rattle.mk_laws.proofs.Vocabulary.{arith, ◌≡◌}
+use Rattle.mk_why.proofs.Looks.{law_kept, looks_then, still_closed, sweepless_kept}
+use Rattle.mk_why.proofs.{Counts.of_state, Pointed.apart, Telling.told_by, Telling.told_of}
 use Rattle.mk_why.proofs.why.WhyEngine.close_marks.Goals as goal
 
 pub close_marks-requires-clause-made_for : goal.close_marks-requires-clause-made_for
@@ -22,8 +21,6 @@ list_kept-requires-clause-one_table g c = grind arith
 pub returns-clause-law : goal.returns-clause-law
 returns-clause-law g c =
     law_kept c.close_marks.ensures.law (looks_then c.search.ensures.on c.list_kept.ensures.looks)
-    (in_turn _ c.is_in_order-2.ensures.own c.is_in_order-2.ensures.turn c.is_in_order-2.ensures.history)
-    c.is_in_order-2.ensures.gates
 
 pub returns-clause-reached : goal.returns-clause-reached
 returns-clause-reached g c none =
@@ -34,14 +31,11 @@ pub returns-clause-told : goal.returns-clause-told
 returns-clause-told g c =
     let k = c.args.words.now in
     let t = c.close_marks.new.stop in
-    let r = c.list_kept.new.stop in
     let still = still_closed c.close_marks.ensures.law c.requires.free in
-    let tables = told_by c.search.new.tables c.search.ensures.on c.search.ensures.explored (apart t.pass
-    c.is_in_order.ensures.history still) c.forget_kept.ensures.found c.list_kept.ensures.on c.list_kept.ensures.each in
-    told_of _ k (looks_then c.search.ensures.on c.list_kept.ensures.looks) c.is_in_order.ensures.history
-    c.close_marks.ensures.told (ap (λ (p : PassState). p.table) c.close_marks.ensures.law.keeps.call.pass
-    ∙ c.requires.one_table) tables (in_turn _ c.is_in_order-2.ensures.own c.is_in_order-2.ensures.turn
-    c.is_in_order-2.ensures.history) c.is_in_order-2.ensures.gates
+    let tables = told_by c.search.new.tables c.search.ensures.on c.search.ensures.explored (apart t still)
+    c.forget_kept.ensures.found c.list_kept.ensures.on c.list_kept.ensures.each in
+    let same : t.pass.table ≡ k = grind arith in
+    told_of _ k (looks_then c.search.ensures.on c.list_kept.ensures.looks) c.close_marks.ensures.told same tables
 
 pub returns-clause-closed : goal.returns-clause-closed
 returns-clause-closed g c = grind (arith, looks_then)
