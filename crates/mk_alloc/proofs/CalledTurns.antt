@@ -1,6 +1,6 @@
 -- A call under the turn, from its parts: its caller has one entry more, which one event decides.
 use Rattle.mk_alloc.proofs.Vocabulary.{Answer, AreOfOthers, Bool, CalledInTurn, Caller, Config, Decided, Event, Flight}
-use Rattle.mk_alloc.proofs.Vocabulary.{Has, InTurn, IsEnabledTo, IsFresh, IsHistory, IsOutOfStop, KeepsRegisters, List}
+use Rattle.mk_alloc.proofs.Vocabulary.{Has, IsEnabledTo, IsFresh, IsHistory, IsOutOfStop, IsTurn, KeepsRegisters, List}
 use Rattle.mk_alloc.proofs.Vocabulary.{Makes, Op, PassState, Seat, Some, Step, TakesTurn, TurnGoesOn, TurnOf, World, ℕ}
 use Rattle.mk_alloc.proofs.Vocabulary.{and_parts, ap, append-nil, append_assoc, arith, at_rest, call_of, caller_of_pass}
 use Rattle.mk_alloc.proofs.Vocabulary.{calls_by, entry_of, event_of, false, has_operands, is_one_of, is_same_seat}
@@ -13,7 +13,7 @@ use Rattle.mk_alloc.proofs.OwnGives.{GivesNone, doing_gives, gives_append, other
 use Rattle.mk_alloc.proofs.Parts.{IsHolders, in_turn_then, others_lack, seen_after, seen_by, seen_then}
 use Rattle.mk_alloc.{proofs.{Going.IsCallers, ListParts.{Lacks, SomeKind}}, specs.TurnCycles.{CallIsExact}}
 use Rattle.mk_laws.proofs.{Vocabulary.{is_under_turn, ◌≤◌}, Actors.give_phase}
-use Rattle.mk_caller.specs.States.{IsIdleCaller, never_of}
+use Rattle.mk_caller.{proofs.Idle.{idle}, specs.States.{IsAtRest, IsIdleCaller, never_of}}
 use Rattle.mk_words.{proofs.OverPhases.{end_is_behind_over}, specs.{Seats.CallersAreBeforeOver, Steps.may_decide}}
 use Rattle.mk_words.proofs.{Seats.others_own, TurnSteps.takes as takes_turn, Undecided.decides_nothing}
 
@@ -80,7 +80,7 @@ module _ {o : Op} {p taken : PassState} (x : Taken o p taken) where
       x.takes.waits.is ∙ waits_add p p.seen x.takes.waits.more x.seat x.own x.takes.waits.only
 
   -- It has the turn then.
-  pub taken_turn : InTurn taken
+  pub taken_turn : IsTurn taken
   taken_turn = record {
     own = taking.pass.own;
     holds = (takes_turn waited (Some o) 0 taken (record { makes = taking; tells = x.takes.takes.finds }) refl).holds;
@@ -164,7 +164,7 @@ module _ {o : Op} {a : Answer} {p taken done q : PassState} (g : GivenBack o a p
   pub turn_is : done.seen ++ g.gives.others ≡ took_at ++ record { seat = p.seat; step = Step.Take (Some o) } ∷ in_turn
   turn_is = cc (seen_by g.on.does, append_assoc taken.seen g.on.does.more g.gives.others, within_is in_turn)
 
-  pub given_turn : InTurn done
+  pub given_turn : IsTurn done
   given_turn = in_turn_then turn_stays taken done (λ y h. h) (taken_turn g.took) g.on.does (pass_before g.gives).history
 
   pub lacks_given : (kind : SomeKind) → IsHolders kind → Lacks kind g.gives.others
@@ -220,9 +220,9 @@ pub callers : {p : PassState} → IsIdleCaller p → IsCallers p
 callers {p} idle = own_seat p idle.caller idle.seat
 
 -- the turn that an idle caller took, from the pass that it lent
-pub took_by : {home p taken : PassState} {o : Op} → home ≡ p → IsIdleCaller p → Has p.seats p.seat
+pub took_by : {home p taken : PassState} {o : Op} → home ≡ p → IsAtRest p
     → TakesTurn home (Some o) taken → Taken o p taken
-took_by {p = p} {taken = taken} {o = o} same idle own takes = grind (arith, callers)
+took_by {p = p} {taken = taken} {o = o} same rests takes = grind (arith, callers, idle)
 
 pub take_allowed : {p : PassState} (o : Op) → IsIdleCaller p → caller_of_pass p < p.table.config.callers
     → is_under_turn o ≡ true → has_operands p.table.config o ≡ true → IsEnabledTo p (Step.Take (Some o))

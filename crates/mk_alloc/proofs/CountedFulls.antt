@@ -1,7 +1,7 @@
 -- The three steps of a Full: the tally is looked at, raised, and the New decided.
 use Rattle.std.proofs.Common.{min}
 use Rattle.mk_alloc.proofs.Vocabulary.{Acts, Answer, AnswersFull, BeginsNone, Caller, Config, Decided, Does, Done}
-use Rattle.mk_alloc.proofs.Vocabulary.{Ended, Event, Flight, Holding, Holds, InTurn, IsAtPhase, IsEnabledTo, IsQuiet}
+use Rattle.mk_alloc.proofs.Vocabulary.{Ended, Event, Flight, Holding, Holds, IsAtPhase, IsEnabledTo, IsQuiet, IsTurn}
 use Rattle.mk_alloc.proofs.Vocabulary.{IsUnplaced, LeavesTurn, List, Moment, None, Op, Option, PassState, Placing}
 use Rattle.mk_alloc.proofs.Vocabulary.{RunPages, Seat, Some, Stage, Steady, Step, World, ℕ, acting_caller}
 use Rattle.mk_alloc.proofs.Vocabulary.{answer_decided, ap, arith, call_decided, call_of, caller_of_pass, calls_more}
@@ -199,14 +199,14 @@ full_next _ _ h = cc
 
 ruleset full_allowed_facts = (new_is_acting, first_fit_finds_the_place, unplaced_settled, acting_caller, meets_enabled)
 
-pub full_allowed : {p : PassState} → InTurn p → IsUnplaced p → IsAtPhase p 0
+pub full_allowed : {p : PassState} → IsTurn p → IsUnplaced p → IsAtPhase p 0
     → (now_of p).seats.holding.cycle ≡ Ended → place_now_for p ≡ None → IsEnabledTo p Step.Full
 full_allowed {p} t u idle ended none =
     grind (arith, full_allowed_facts, acting_now, new_callers, Holds, lt-ltb, full_next, eq-eqb)
 
 -- and admitted.
 
-pub full_admitted : {p : PassState} → InTurn p → IsUnplaced p → IsAdmittedTo p Step.Full
+pub full_admitted : {p : PassState} → IsTurn p → IsUnplaced p → IsAdmittedTo p Step.Full
 full_admitted {p} t u =
     let seat = new_callers u in
     let operands = seat_operands p.table.config (now_of p) p.seat

@@ -1,5 +1,5 @@
 -- The events of a cycle's parts: where its `begin` stands, and where it is closed, released and ended.
-use Rattle.mk_alloc.proofs.Vocabulary.{BeginsCycle, Does, Event, FinishesCycle, Has, InTurn, IsHistory, List, PassState}
+use Rattle.mk_alloc.proofs.Vocabulary.{BeginsCycle, Does, Event, FinishesCycle, Has, IsHistory, IsTurn, List, PassState}
 use Rattle.mk_alloc.proofs.Vocabulary.{Step, ap, append_assoc, arith, begins_marking, clears, event_of, false, finishes}
 use Rattle.mk_alloc.proofs.Vocabulary.{is_begin, is_close, is_end, is_giving_back, is_release, pass_before, refl, sym}
 use Rattle.mk_alloc.proofs.{Vocabulary.{true, [], ◌++◌, ◌∙◌, ◌∷◌, ◌≡◌}, Parts.{IsHolders, Part, behind_part}}
@@ -65,7 +65,7 @@ module _ {p q : PassState} (law : FinishesCycle p q) where
       does_both (does_once r.close refl) (does_both (does_once r.release refl) (does_both (widened
       (λ x h. grind arith) m.frees) (does_both (does_once m.end refl) (widened (λ x h. grind arith) m.behind))))
 
-  pub part_closing : InTurn p → Part ends_marking p closing
+  pub part_closing : IsTurn p → Part ends_marking p closing
   part_closing t = record {
     turn = t;
     stays = λ x h. grind arith;
@@ -80,7 +80,7 @@ finish_done law = does_both (widened (λ x h. grind arith) (ends_marks law))
 pub finish_does : (p q : PassState) → Has p.seats p.seat → FinishesCycle p q → Does is_of_cycles p q
 finish_does p q own law = finish_done law
 
-pub part_behind_closing : {p q : PassState} (law : FinishesCycle p q) → InTurn p → IsHistory q.table.config q.seen
+pub part_behind_closing : {p q : PassState} (law : FinishesCycle p q) → IsTurn p → IsHistory q.table.config q.seen
     → Part gives_room (closing law) q
 part_behind_closing law t history = record {
   turn = behind_part (part_closing law t);
@@ -93,7 +93,7 @@ three : (a b d z : List Event) (x y w : Event)
     → (a ++ x ∷ []) ++ ((b ++ y ∷ []) ++ ((d ++ w ∷ []) ++ z)) ≡ a ++ x ∷ (b ++ y ∷ (d ++ w ∷ z))
 three a b d z x y w = simp append_assoc
 
-pub finish_in : (p q : PassState) → Has p.seats p.seat → FinishesCycle p q → InTurn p
+pub finish_in : (p q : PassState) → Has p.seats p.seat → FinishesCycle p q → IsTurn p
     → IsHistory q.table.config q.seen → FinishIn p q
 finish_in p q own law t history =
     let m = law.makes in
@@ -157,7 +157,7 @@ begin_done law =
 pub begin_does : (p q : PassState) → Has p.seats p.seat → BeginsCycle p q → Does is_of_cycles p q
 begin_does p q own law = begin_done law
 
-pub begin_in : (p q : PassState) → Has p.seats p.seat → BeginsCycle p q → InTurn p
+pub begin_in : (p q : PassState) → Has p.seats p.seat → BeginsCycle p q → IsTurn p
     → IsHistory q.table.config q.seen → BeginIn p q
 begin_in p q own law t history =
     let m = law.makes in

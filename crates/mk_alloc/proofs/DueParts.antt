@@ -1,5 +1,5 @@
 -- The events of the cycle that a due Free begins, after one that was on.
-use Rattle.mk_alloc.proofs.Vocabulary.{At, Bool, EndsOlder, Event, FinishesCycle, InTurn, IsAtPhase, IsHistory, IsQuiet}
+use Rattle.mk_alloc.proofs.Vocabulary.{At, Bool, EndsOlder, Event, FinishesCycle, IsAtPhase, IsHistory, IsQuiet, IsTurn}
 use Rattle.mk_alloc.proofs.Vocabulary.{List, None, PassState, TurnGoesOn, ap, append-nil, append_assoc, arith}
 use Rattle.mk_alloc.proofs.Vocabulary.{cases_Bool, false, finishes, has_step, inl, inr, is_begin, is_close, is_end}
 use Rattle.mk_alloc.proofs.Vocabulary.{or_from, or_parts, refl, subst, sym, true, true≢false, [], ◌++◌, ◌∙◌, ◌∷◌, ◌≡◌}
@@ -60,14 +60,14 @@ run_list a b d e x = simp append_assoc
 
 -- An older cycle is ended, if one was on.
 record OlderIn (p q : PassState) : Type 0 where
-  turn : InTurn q
+  turn : IsTurn q
   on : TurnGoesOn None p q
   more : List Event
   is : q.seen ≡ p.seen ++ more
   begins_none : Lacks is_begin more
   ended : IsAtPhase p 1 → At is_end more
 
-older_in : {p q : PassState} → InTurn p → IsCallers p → IsQuiet p → EndsOlder p q → IsHistory q.table.config q.seen
+older_in : {p q : PassState} → IsTurn p → IsCallers p → IsQuiet p → EndsOlder p q → IsHistory q.table.config q.seen
     → OlderIn p q
 older_in {p} {q} t seat quiet e history = elim quiet.phase [
   | inl none ↦ let same : q ≡ e.looked = e.none none in
@@ -117,7 +117,7 @@ no_close (e ∷ es) h =
     let parts = or_parts (finishes e.step) (has_step finishes es) h in
     or_from (is_close e.step) (has_step is_close es) (grind arith) (no_close es parts.1)
 
-module _ {on : Bool} {p q : PassState} (t : InTurn p) (seat : IsCallers p) (quiet : IsQuiet p)
+module _ {on : Bool} {p q : PassState} (t : IsTurn p) (seat : IsCallers p) (quiet : IsQuiet p)
     (run : RunsCycle on p q) (history : IsHistory q.table.config q.seen) where
   h_begun : IsHistory run.begun.table.config run.begun.seen
   h_begun = elim (cases_Bool on) [

@@ -1,11 +1,11 @@
 -- What a Free is answered, and that its turn may go on and be given back.
 use Rattle.mk_alloc.proofs.Vocabulary.{Answer, At, BeginsTurn, Bool, Config, DecidesFree, Event, FreeIsExact}
-use Rattle.mk_alloc.proofs.Vocabulary.{FreesFirst, FreesObject, Has, Holding, InTurn, IsAnsweredDouble, IsDue, IsDueIn}
-use Rattle.mk_alloc.proofs.Vocabulary.{IsDueSince, IsFresh, IsHistory, IsOutOfStop, List, Makes, Op, PassState, Placing}
-use Rattle.mk_alloc.proofs.Vocabulary.{RunsIfDue, Seat, Some, Stage, Step, TakesTurn, TalliesAreTidy, TurnGoesOn}
-use Rattle.mk_alloc.proofs.Vocabulary.{TurnOf, ℕ, ap, append_assoc, append_cancel_left, arith, at_rest, call_of}
-use Rattle.mk_alloc.proofs.Vocabulary.{caller_of_pass, cases_Bool, does_wider, false, finishes, has_place, has_step}
-use Rattle.mk_alloc.proofs.Vocabulary.{inl, inr, is_begin, is_end, is_freeing, is_loading, is_of_cycle}
+use Rattle.mk_alloc.proofs.Vocabulary.{FreesFirst, FreesObject, Has, Holding, IsAnsweredDouble, IsDue, IsDueIn}
+use Rattle.mk_alloc.proofs.Vocabulary.{IsDueSince, IsFresh, IsHistory, IsOutOfStop, IsTurn, List, Makes, Op, PassState}
+use Rattle.mk_alloc.proofs.Vocabulary.{Placing, RunsIfDue, Seat, Some, Stage, Step, TakesTurn, TalliesAreTidy}
+use Rattle.mk_alloc.proofs.Vocabulary.{TurnGoesOn, TurnOf, ℕ, ap, append_assoc, append_cancel_left, arith, at_rest}
+use Rattle.mk_alloc.proofs.Vocabulary.{call_of, caller_of_pass, cases_Bool, does_wider, false, finishes, has_place}
+use Rattle.mk_alloc.proofs.Vocabulary.{has_step, inl, inr, is_begin, is_end, is_freeing, is_loading, is_of_cycle}
 use Rattle.mk_alloc.proofs.Vocabulary.{is_pending_free_at, none_is_held, now_of, or_from, or_parts, pass_before}
 use Rattle.mk_alloc.proofs.Vocabulary.{phase_of, refl, same_config, subst, sym, true, turn_stays, [], ⊎_elim, ◌++◌, ◌<◌}
 use Rattle.mk_alloc.proofs.{Vocabulary.{◌∙◌, ◌∷◌, ◌≡◌}, CalledTurns.{GivenBack, Taken, called, lacks_given}}
@@ -117,7 +117,7 @@ module _ {taken : PassState} {r : ℕ} (fresh : IsFresh taken (Some (Op.Free r))
   }
 
 -- After a Free that is decided a cycle runs, if it is due.
-pub run_or_rest : {flag due : Bool} {a : Answer} {taken p q : PassState} → TurnGoesOn (Some a) taken p → InTurn p
+pub run_or_rest : {flag due : Bool} {a : Answer} {taken p q : PassState} → TurnGoesOn (Some a) taken p → IsTurn p
     → IsCallers p → RunsIfDue flag due p q → IsHistory q.table.config q.seen → TurnGoesOn (Some a) taken q
 run_or_rest {flag} {due} {a} {taken} {p} {q} x t seat run history = elim (cases_Bool due) [
   | inl runs ↦ then_on x (run_in t seat x.quiet (run.runs runs) history).goes
@@ -237,7 +237,7 @@ pub record Frees (flag due : Bool) (r : ℕ) (p taken retired done : PassState) 
   pub took : Taken (Op.Free r) p taken
   pub begins : BeginsTurn (Op.Free r) taken
   pub retires : Retires taken r due retired
-  pub decided : InTurn retired
+  pub decided : IsTurn retired
   pub run : RunsIfDue flag due retired done
   pub history : IsHistory done.table.config done.seen
 

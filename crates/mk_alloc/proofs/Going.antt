@@ -1,6 +1,6 @@
 -- Parts of a turn in which it goes on: the parts of cycles decide nothing, and what goes on in two parts goes on.
 use Rattle.mk_alloc.proofs.Vocabulary.{Acts, Answer, BeginsCycle, Bool, Caller, Config, Decided, Does, Done, Event}
-use Rattle.mk_alloc.proofs.Vocabulary.{FinishesCycle, Flight, InTurn, IsEnabledTo, IsHistory, IsOutOfStop, IsQuiet}
+use Rattle.mk_alloc.proofs.Vocabulary.{FinishesCycle, Flight, IsEnabledTo, IsHistory, IsOutOfStop, IsQuiet, IsTurn}
 use Rattle.mk_alloc.proofs.Vocabulary.{KeepsGates, LeavesTurn, List, Looks, None, Op, Option, PassState}
 use Rattle.mk_alloc.proofs.Vocabulary.{PlacedAllocation, Some, Stage, Steady, Step, TalliesAreTidy, TurnGoesOn, ℕ}
 use Rattle.mk_alloc.proofs.Vocabulary.{and_from, ap, append-nil, arith, call_of, caller_of_pass, calm_keeps}
@@ -22,14 +22,13 @@ use Rattle.mk_words.proofs.Tallies.{settled_tallies}
 
 -- the look at the phase
 
-pub phase_allowed : {p : PassState} → InTurn p → IsFreeForCycle p → IsEnabledTo p (Step.Look Word.Phase)
+pub phase_allowed : {p : PassState} → IsTurn p → IsFreeForCycle p → IsEnabledTo p (Step.Look Word.Phase)
 phase_allowed {p} t free = look_allowed p t free Word.Phase refl refl
 
-pub looked : {p q : PassState} → InTurn p → IsFreeForCycle p → IsHistory q.table.config q.seen
-    → Acts p (Step.Look Word.Phase) q → Looks p q
-looked {p} {q} t free history a = record {
+pub looked : {p q : PassState} → IsTurn p → IsFreeForCycle p → Acts p (Step.Look Word.Phase) q → Looks p q
+looked {p} {q} t free a = record {
   does = does_once a.makes refl;
-  keeps = calm_keeps p (Step.Look Word.Phase) q a t history refl free unchanged refl;
+  keeps = calm_keeps p (Step.Look Word.Phase) q a t a.makes.pass.history refl free unchanged refl;
   gates = gates_behind p (Step.Look Word.Phase) q a refl;
 }
 
@@ -113,7 +112,7 @@ give_phase : (n : ℕ) → (n ≡ 0) ⊎ (n ≡ 1) → ((n == 0) || (n == 1) || 
 give_phase n (inl none) = or_left ((n == 0) || (n == 1)) (n == 5) (or_left (n == 0) (n == 1) (eq-eqb n 0 none))
 give_phase n (inr one) = ap (λ (i : ℕ). (i == 0) || (i == 1) || (i == 5)) one
 
-pub give_allowed : {p : PassState} → InTurn p → IsQuiet p → (call_of p).stage ≡ Stage.Give → IsEnabledTo p Step.Give
+pub give_allowed : {p : PassState} → IsTurn p → IsQuiet p → (call_of p).stage ≡ Stage.Give → IsEnabledTo p Step.Give
 give_allowed t quiet decided =
     grind (arith, off_four, gone_is_unmapped, settled_tallies, may_act, protocol, give_phase, and_from, eq-eqb)
 
@@ -131,25 +130,25 @@ own_calls_same : {kinds : Step → Bool} {p q : PassState} → Does kinds p q �
     ≡ own_calls p es
 own_calls_same d es = ap (λ (x : PassState). own_calls x es) d.is
 
-pub look_part : {p q : PassState} → InTurn p → Does is_look p q → IsHistory q.table.config q.seen → Part is_look p q
+pub look_part : {p q : PassState} → IsTurn p → Does is_look p q → IsHistory q.table.config q.seen → Part is_look p q
 look_part t d history = record { turn = t; stays = λ x h. grind arith; does = d; history = history }
 
 -- A part of a turn that is free for a cycle, of steps of cycles alone
-pub undecided_part : {p q : PassState} → InTurn p → IsCallers p → IsQuiet p → IsQuiet q → (d : Does is_of_cycles p q)
+pub undecided_part : {p q : PassState} → IsTurn p → IsCallers p → IsQuiet p → IsQuiet q → (d : Does is_of_cycles p q)
     → IsHistory q.table.config q.seen → call_of q ≡ call_of p → TurnGoesOn None p q
 undecided_part t seat quiet after d history call =
     grind (arith, widened, cycles_in_turn, seen_behind, is_of_cycles, goes_undecided, does_stretch, append-nil)
 
-pub looked_on : {p q : PassState} → InTurn p → IsCallers p → IsQuiet p → Looks p q → IsHistory q.table.config q.seen
+pub looked_on : {p q : PassState} → IsTurn p → IsCallers p → IsQuiet p → Looks p q → IsHistory q.table.config q.seen
     → TurnGoesOn None p q
 looked_on t seat quiet k history =
     undecided_part t seat quiet (quiet_looked quiet k) (widened (λ x h. grind arith) k.does) history k.keeps.call.call
 
-pub begun_on : {p q : PassState} → InTurn p → IsCallers p → IsQuiet p → BeginsCycle p q
+pub begun_on : {p q : PassState} → IsTurn p → IsCallers p → IsQuiet p → BeginsCycle p q
     → IsHistory q.table.config q.seen → TurnGoesOn None p q
 begun_on t seat quiet b history = undecided_part t seat quiet (quiet_begun quiet b) (begin_done b) history b.call
 
-pub finished_on : {p q : PassState} → InTurn p → IsCallers p → IsQuiet p → FinishesCycle p q
+pub finished_on : {p q : PassState} → IsTurn p → IsCallers p → IsQuiet p → FinishesCycle p q
     → IsHistory q.table.config q.seen → TurnGoesOn None p q
 finished_on t seat quiet f history = undecided_part t seat quiet (quiet_finished quiet f) (finish_done f) history f.call
 

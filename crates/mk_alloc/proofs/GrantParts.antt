@@ -1,6 +1,6 @@
 -- Parts of a New's turn: what was granted in them, and what is let go after that.
 use Rattle.mk_alloc.proofs.Vocabulary.{AsksRoom, At, BeginsCycle, Config, Does, Event, FinishesCycle, GrantsNone}
-use Rattle.mk_alloc.proofs.Vocabulary.{HasNoPlace, InTurn, IsHistory, List, None, Object, PassState, Storage, ap}
+use Rattle.mk_alloc.proofs.Vocabulary.{HasNoPlace, IsHistory, IsTurn, List, None, Object, PassState, Storage, ap}
 use Rattle.mk_alloc.proofs.Vocabulary.{append-nil, append_assoc, append_cancel_left, arith, asks_room, call_of, false}
 use Rattle.mk_alloc.proofs.Vocabulary.{has_step, is_grant, is_pending_free, lets_go, place_after, refl, sym, [], ⊎_elim}
 use Rattle.mk_alloc.proofs.{Vocabulary.{◌++◌, ◌∙◌, ◌∷◌, ◌≡◌}, CycleParts.{closing, gives_room_back}}
@@ -130,7 +130,7 @@ module _ {p q : PassState} (o : Object) (seat : IsCallers p) (free : is_pending_
   none_behind = rw (seen_by x.does) (none_there x.does.more [] (sym (append-nil x.does.more)))
 
 -- So it is after a `begin`, and up to the `close` of a cycle.
-pub part_begun : {p q : PassState} → BeginsCycle p q → InTurn p → IsHistory q.table.config q.seen
+pub part_begun : {p q : PassState} → BeginsCycle p q → IsTurn p → IsHistory q.table.config q.seen
     → Part releases_none p q
 part_begun {p} {q} law t history =
     let m = law.makes in
@@ -143,7 +143,7 @@ part_begun {p} {q} law t history =
     }
 
 pub finish_room : {p q : PassState} (o : Object) → IsCallers p → is_pending_free (call_of p) ≡ false
-    → HasNoPlace p.table.config o p.seen → FinishesCycle p q → InTurn p → IsHistory q.table.config q.seen
+    → HasNoPlace p.table.config o p.seen → FinishesCycle p q → IsTurn p → IsHistory q.table.config q.seen
     → AsksRoom o p q
 finish_room {p} {q} o seat free none law t history =
     let x = part_closing law t in

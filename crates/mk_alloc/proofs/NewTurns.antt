@@ -2,19 +2,18 @@
 use Rattle.mk_laws.proofs.Vocabulary.{Page, histories_keep_lengths, or_right, uses_of_pages}
 use Rattle.mk_laws.proofs.{InvariantHistories.pages_show_the_storage, PlacementTheorems.fulls_fit_nowhere}
 use Rattle.mk_alloc.proofs.Vocabulary.{Answer, AnswersFull, At, BeginsTurn, Bool, CalledInTurn, Config, Event, Flight}
-use Rattle.mk_alloc.proofs.Vocabulary.{HasNoPlace, Holding, InTurn, IsAnsweredFull, IsQuiet, IsUnplaced, List, Makes}
+use Rattle.mk_alloc.proofs.Vocabulary.{HasNoPlace, Holding, IsAnsweredFull, IsQuiet, IsTurn, IsUnplaced, List, Makes}
 use Rattle.mk_alloc.proofs.Vocabulary.{Misfits, Object, Op, PassState, PlacedAllocation, RunsOne, RunsOneCycle, Seeks}
 use Rattle.mk_alloc.proofs.Vocabulary.{Some, Steady, Step, TurnOf, World, ℕ, and_from, ap, append_assoc}
 use Rattle.mk_alloc.proofs.Vocabulary.{append_cancel_left, arith, asks_room, at_rest, call_of, event_of, false}
 use Rattle.mk_alloc.proofs.Vocabulary.{gone_is_unmapped, has_operands, is_begin, is_grant, is_undecided_new, is_want}
 use Rattle.mk_alloc.proofs.Vocabulary.{length, lets_go, lt-ltb, made, now_of, object_for, object_made, off_four}
-use Rattle.mk_alloc.proofs.Vocabulary.{only_seen, only_seen_by, or_left, pass_before, refl, subst, sym, true}
-use Rattle.mk_alloc.proofs.Vocabulary.{turn_stays, unreleased_storage, within_turn, world_of, [], ⊎_elim, ◌&&◌, ◌++◌}
-use Rattle.mk_alloc.proofs.{Vocabulary.{◌<◌, ◌∙◌, ◌∷◌, ◌≡◌}, CalledTurns.{GivenBack, Taken, called, done_is}}
-use Rattle.mk_alloc.proofs.CalledTurns.{given_turn, lacks_given, taken_is, taken_turn, turn_of, within_is}
-use Rattle.mk_alloc.proofs.{FullLeaves.{leaves_then, made_leaves, taking_leaves}, ListParts.{InFirst, InSecond}}
-use Rattle.mk_alloc.proofs.{ListParts.{SomeKind, lacks_at, stands}, Parts.{history_before, in_turn_then, seen_after}}
-use Rattle.mk_alloc.proofs.{Parts.seen_by, CycleParts.begins_held, GrantParts.last_before, OneCycles.one_before}
+use Rattle.mk_alloc.proofs.Vocabulary.{only_seen, only_seen_by, or_left, refl, subst, sym, true, unreleased_storage}
+use Rattle.mk_alloc.proofs.Vocabulary.{within_turn, world_of, [], ⊎_elim, ◌&&◌, ◌++◌, ◌<◌, ◌∙◌, ◌∷◌, ◌≡◌}
+use Rattle.mk_alloc.proofs.CalledTurns.{GivenBack, Taken, called, done_is, given_turn, lacks_given, taken_is, turn_of}
+use Rattle.mk_alloc.proofs.{CalledTurns.within_is, FullLeaves.{leaves_then, made_leaves, taking_leaves}}
+use Rattle.mk_alloc.proofs.{ListParts.{InFirst, InSecond, SomeKind, lacks_at, stands}, Parts.{seen_after, seen_by}}
+use Rattle.mk_alloc.proofs.{CycleParts.begins_held, GrantParts.last_before, OneCycles.one_before}
 use Rattle.mk_geom.proofs.Bridge.{same_census}
 use Rattle.mk_geom.specs.{PageUses.census_among, Storages.census_of, declared.pages.Census.Census}
 use Rattle.mk_core.specs.Allocations.{census_of_allocations}
@@ -91,7 +90,7 @@ module _ {d ty : ℕ} {a : Answer} {p taken done q : PassState} (m : NewGiven d 
   new_called flag = called given flag exact
 
 -- the counts of the pages, where all is quiet
-pub census_told : {p : PassState} {pages : List Page} {census : Census} → InTurn p → IsQuiet p
+pub census_told : {p : PassState} {pages : List Page} {census : Census} → IsTurn p → IsQuiet p
     → pages ≡ (now_of p).words.pages → census ≡ census_among (uses_of_pages pages)
     → census ≡ census_of_allocations p.table.config (world_of p).allocations
 census_told {p} t quiet shows is =
@@ -108,7 +107,7 @@ census_told {p} t quiet shows is =
     (λ (n : ℕ). census_of n (unreleased_storage c (world_of p).allocations)) (histories_keep_lengths c p.seen).pages
 
 -- Giving the turn back leaves the allocations.
-given_allocations : {p q : PassState} → InTurn p → Makes p Step.Give q
+given_allocations : {p q : PassState} → IsTurn p → Makes p Step.Give q
     → (world_of q).allocations ≡ (world_of p).allocations
 given_allocations {p} {q} t m =
     let d = made p Step.Give q m in
@@ -117,11 +116,6 @@ given_allocations {p} {q} t m =
 -- It is answered Full, where it fits nowhere last.
 module _ {d ty : ℕ} {p taken last done q : PassState} (m : NewGiven d ty Answer.Full p taken done q)
     (misfits : Misfits taken last) (full : AnswersFull last done) where
-  pub last_turn : InTurn last
-  last_turn =
-      in_turn_then turn_stays taken last (λ x h. h) (taken_turn m.took) misfits.seeks.on.does
-      (history_before turn_stays last done full.seeks.on.does (pass_before m.gives).history)
-
   last_is : last ≡ record p { seen = last.seen }
   last_is = cc (only_seen taken last misfits.seeks.on.does.more misfits.seeks.on.does.is, taken_is m.took)
 

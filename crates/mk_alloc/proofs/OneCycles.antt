@@ -1,6 +1,6 @@
 -- One cycle at most: in lists, and in parts of a turn.
-use Rattle.mk_alloc.proofs.Vocabulary.{At, BeginsCycle, BeginsNone, Does, Event, FinishesCycle, InTurn, IsHistory}
-use Rattle.mk_alloc.proofs.Vocabulary.{IsPlaced, List, PassState, RunsOne, RunsOneCycle, ap, append_assoc, arith, false}
+use Rattle.mk_alloc.proofs.Vocabulary.{At, BeginsCycle, BeginsNone, Does, Event, FinishesCycle, IsHistory, IsPlaced}
+use Rattle.mk_alloc.proofs.Vocabulary.{IsTurn, List, PassState, RunsOne, RunsOneCycle, ap, append_assoc, arith, false}
 use Rattle.mk_alloc.proofs.Vocabulary.{has_step, is_begin, is_end, is_look, subst, sym, ⊎_elim, ◌++◌, ◌∙◌, ◌∷◌, ◌≡◌}
 use Rattle.mk_alloc.proofs.{CycleParts.{begin_in, begins_held, finish_in}, DueParts.{at_behind, end_at}}
 use Rattle.mk_alloc.proofs.ListParts.{InFirst, InSecond, Lacks, lacks_append, lacks_at, none_at, only_at, stands}
@@ -52,10 +52,10 @@ begins_none_by {kinds} {p} {q} x apart = record {
   none = part_lacks is_begin x begins_held apart;
 }
 
-pub placed_begins_none : {p q : PassState} → InTurn p → IsPlaced p q → IsHistory q.table.config q.seen → BeginsNone p q
+pub placed_begins_none : {p q : PassState} → IsTurn p → IsPlaced p q → IsHistory q.table.config q.seen → BeginsNone p q
 placed_begins_none t placed history = begins_none_by (place_part t placed.granted.does history) (λ x h. grind arith)
 
-pub looks_begins_none : {p q : PassState} → InTurn p → Does is_look p q → IsHistory q.table.config q.seen
+pub looks_begins_none : {p q : PassState} → IsTurn p → Does is_look p q → IsHistory q.table.config q.seen
     → BeginsNone p q
 looks_begins_none t d history = begins_none_by (look_part t d history) (λ x h. grind arith)
 
@@ -71,7 +71,7 @@ none_then_none {p} {q} {r} x y = record {
 pub ends_none : {p q : PassState} → EndsOnly p q → BeginsNone p q
 ends_none x = record { more = x.more; is = x.is; none = x.none }
 
-pub finish_then_none : {p q r : PassState} → InTurn p → FinishesCycle p q → IsHistory q.table.config q.seen
+pub finish_then_none : {p q r : PassState} → IsTurn p → FinishesCycle p q → IsHistory q.table.config q.seen
     → BeginsNone q r → EndsOnly p r
 finish_then_none {p} {q} {r} t law history y =
     let f = finish_in p q t.own law t history in
@@ -82,7 +82,7 @@ finish_then_none {p} {q} {r} t law history y =
       ended = longer_at y.more (end_at f.ends);
     }
 
-pub begin_then_ends : {p q r : PassState} → InTurn p → BeginsCycle p q → IsHistory q.table.config q.seen
+pub begin_then_ends : {p q r : PassState} → IsTurn p → BeginsCycle p q → IsHistory q.table.config q.seen
     → EndsOnly q r → RunsOne p r
 begin_then_ends {p} {q} {r} t law history y =
     let b = begin_in p q t.own law t history in

@@ -1,5 +1,5 @@
 -- Parts of a turn, one after the other: each pass knows whose turn it is, and what its part lacks.
-use Rattle.mk_alloc.proofs.Vocabulary.{Acts, Does, Event, Has, InTurn, IsHistory, List, Makes, Moment, PassState, Step}
+use Rattle.mk_alloc.proofs.Vocabulary.{Acts, Does, Event, Has, IsHistory, IsTurn, List, Makes, Moment, PassState, Step}
 use Rattle.mk_alloc.proofs.Vocabulary.{actor_of, ap, append_assoc, cases_Bool, does_nothing, does_step}
 use Rattle.mk_alloc.proofs.Vocabulary.{earlier_part_is_history, event_of, false, has_step, inl, inr, left, or_from}
 use Rattle.mk_alloc.proofs.Vocabulary.{own_before, pass_before, refl, subst, sym, true, turn_stays, [], ⊎_elim, ◌++◌}
@@ -72,8 +72,8 @@ pub has_then : (kinds : SomeKinds) (p q : PassState) → Does kinds p q → Has 
 has_then kinds p q d own = subst (λ (x : PassState). Has x.seats x.seat) (sym d.is) own
 
 -- and what it knows after
-pub in_turn_then : (kinds : SomeKinds) (p q : PassState) → AreOfTurn kinds → InTurn p → Does kinds p q
-    → IsHistory q.table.config q.seen → InTurn q
+pub in_turn_then : (kinds : SomeKinds) (p q : PassState) → AreOfTurn kinds → IsTurn p → Does kinds p q
+    → IsHistory q.table.config q.seen → IsTurn q
 in_turn_then kinds p q stays t d history = record {
   own = has_then kinds p q d t.own;
   holds = rw d.is (holds_behind p kinds stays t.own (does_stretch d history t.holds));
@@ -82,22 +82,22 @@ in_turn_then kinds p q stays t d history = record {
 
 -- A part of a turn: its holder took only steps of these kinds.
 pub record Part (kinds : SomeKinds) (p q : PassState) : Type 0 where
-  pub turn : InTurn p
+  pub turn : IsTurn p
   pub stays : AreOfTurn kinds
   pub does : Does kinds p q
   pub history : IsHistory q.table.config q.seen
 
-pub nothing_part : {p : PassState} → InTurn p → Part no_kinds p p
+pub nothing_part : {p : PassState} → IsTurn p → Part no_kinds p p
 nothing_part {p} t = record { turn = t; stays = λ x h. cc; does = does_nothing no_kinds p; history = t.history }
 
-pub behind_part : {kinds : SomeKinds} {p q : PassState} → Part kinds p q → InTurn q
+pub behind_part : {kinds : SomeKinds} {p q : PassState} → Part kinds p q → IsTurn q
 behind_part {kinds} {p} {q} x = in_turn_then kinds p q x.stays x.turn x.does x.history
 
-pub behind_step : {p : PassState} {s : Step} {q : PassState} → InTurn p → Makes p s q → turn_stays s ≡ true → InTurn q
+pub behind_step : {p : PassState} {s : Step} {q : PassState} → IsTurn p → Makes p s q → turn_stays s ≡ true → IsTurn q
 behind_step {p} {s} {q} t m stays = in_turn_then turn_stays p q (λ x h. h) t (does_once m stays) m.pass.history
 
 -- before a step of the turn's holder
-pub before_act : {p : PassState} {s : Step} {q : PassState} → Acts p s q → InTurn p
+pub before_act : {p : PassState} {s : Step} {q : PassState} → Acts p s q → IsTurn p
 before_act a = record { own = own_before a.makes; holds = a.holds; history = (pass_before a.makes).history }
 
 -- what a part lacks
@@ -107,7 +107,7 @@ pub part_lacks : {kinds : SomeKinds} {p q : PassState} (kind : SomeKind) (x : Pa
 part_lacks {kinds} {p} {q} kind x holders apart =
     lacks p kinds kind p.seen x.does.more x.stays x.turn.own holders apart (does_stretch x.does x.history x.turn.holds)
 
-pub others_lack : (kind : SomeKind) (p q : PassState) (s : Step) → IsHolders kind → InTurn p → (m : Makes p s q)
+pub others_lack : (kind : SomeKind) (p q : PassState) (s : Step) → IsHolders kind → IsTurn p → (m : Makes p s q)
     → IsHistory q.table.config q.seen → Lacks kind m.others
 others_lack kind p q s holders t m history =
     lacks p no_kinds kind p.seen m.others (λ x h. cc) t.own holders (λ x h. cc) (others_stretch p p.seen m.others t.own
@@ -118,7 +118,7 @@ others_lack kind p q s holders t m history =
 pub record StepBehind (kinds : SomeKinds) (p r : PassState) (s : Step) (q : PassState) : Type 0 where
   pub before : List Event
   pub is : q.seen ≡ p.seen ++ (before ++ event_of r s ∷ [])
-  pub turn : InTurn q
+  pub turn : IsTurn q
   pub lacks : (kind : SomeKind) → IsHolders kind → AreApart kinds kind → Lacks kind before
 
 pub step_behind : {kinds : SomeKinds} {p r : PassState} {s : Step} {q : PassState} → Part kinds p r → Makes r s q

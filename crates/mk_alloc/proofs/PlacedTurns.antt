@@ -1,16 +1,15 @@
 -- A turn stays quiet where its New's object is granted, and where it only looks.
-use Rattle.mk_alloc.proofs.Vocabulary.{Answer, Bool, Config, CountsAreLeft, Does, Event, Flight, Has, Holding, InTurn}
-use Rattle.mk_alloc.proofs.Vocabulary.{IsHistory, IsPlaced, IsQuiet, IsUnplaced, KeepsGates, LeavesTurn, List, Moment}
-use Rattle.mk_alloc.proofs.Vocabulary.{None, OnlyLooks, PassState, PlacedAllocation, Placing, Seat, Some, Stage, Steady}
-use Rattle.mk_alloc.proofs.Vocabulary.{Step, TurnGoesOn, World, ℕ, actor_of, answer_decided, ap, arith, call_of, ends}
+use Rattle.mk_alloc.proofs.Vocabulary.{Answer, Bool, Config, CountsAreLeft, Does, Event, Flight, Has, Holding}
+use Rattle.mk_alloc.proofs.Vocabulary.{IsHistory, IsPlaced, IsQuiet, IsTurn, IsUnplaced, KeepsGates, LeavesTurn, List}
+use Rattle.mk_alloc.proofs.Vocabulary.{Moment, None, OnlyLooks, PassState, PlacedAllocation, Placing, Seat, Some, Stage}
+use Rattle.mk_alloc.proofs.Vocabulary.{Steady, Step, TurnGoesOn, World, ℕ, actor_of, answer_decided, ap, arith, call_of}
 use Rattle.mk_alloc.proofs.Vocabulary.{event_of, false, fresh_words_of, full_answers, has_place, holds_turn}
 use Rattle.mk_alloc.proofs.Vocabulary.{if◌then◌else◌, in_a_word, is_end, is_held, is_pending_free_at, is_placing}
 use Rattle.mk_alloc.proofs.Vocabulary.{is_undecided_new, known_left, left, left_after, looks_left, now_of, refl}
 use Rattle.mk_alloc.proofs.Vocabulary.{releases, same_config, steady_of, subst, sum_by_push, sym, true, unchanged}
-use Rattle.mk_alloc.proofs.Vocabulary.{undecided_new, world_of, [], ◌++◌, ◌+◌, ◌∙◌, ◌∷◌, ◌≡◌}
-use Rattle.mk_alloc.proofs.{Parts.{Part, seen_behind, seen_by}, Stretches.{Here, Stretch, along, does_stretch}}
-use Rattle.mk_alloc.proofs.{Stretches.{holds_none, widened}, FreedTurns.given_is_decided}
-use Rattle.mk_alloc.proofs.Going.{quiet_kept, same_phase}
+use Rattle.mk_alloc.proofs.{Vocabulary.{undecided_new, world_of, [], ◌++◌, ◌∙◌, ◌∷◌, ◌≡◌}, Parts.{Part, seen_behind}}
+use Rattle.mk_alloc.proofs.{Parts.seen_by, Stretches.{Here, Stretch, along, does_stretch, holds_none, widened}}
+use Rattle.mk_alloc.proofs.{FreedTurns.given_is_decided, Going.{quiet_kept, same_phase}}
 use Rattle.mk_laws.proofs.{Vocabulary.Progress, Basics.{none_on_its_way, tally_keeps}, FreshWords.fresh_pushed}
 use Rattle.mk_laws.proofs.OthersCounts.{answers_full, counts_nothing}
 use Rattle.mk_core.specs.Effects.{holding_behind}
@@ -66,16 +65,16 @@ leaves_beside {p} {es} {more} own s =
       freed = cc (h.behind, (l.own.holding h.holds).1);
     })) es more s (record { gates = λ j. refl; counts = record { ends = refl; fulls = refl }; freed = refl })
 
-pub place_part : {p q : PassState} → InTurn p → Does is_placing p q → IsHistory q.table.config q.seen
+pub place_part : {p q : PassState} → IsTurn p → Does is_placing p q → IsHistory q.table.config q.seen
     → Part is_placing p q
 place_part t d history = record { turn = t; stays = λ x h. grind arith; does = d; history = history }
 
 -- An undecided New has freed no run.
-pub none_freed_yet : {p : PassState} → InTurn p → is_undecided_new (call_of p) ≡ true → (now_of p).seats.holding.freed
+pub none_freed_yet : {p : PassState} → IsTurn p → is_undecided_new (call_of p) ≡ true → (now_of p).seats.holding.freed
     ≡ None
 none_freed_yet t new = grind (arith, known_left, none_on_its_way, holds_turn, undecided_new)
 
-module _ {p q : PassState} (t : InTurn p) (d : Does is_placing p q) (history : IsHistory q.table.config q.seen) where
+module _ {p q : PassState} (t : IsTurn p) (d : Does is_placing p q) (history : IsHistory q.table.config q.seen) where
   beside : LeavesBeside p p.seen q.seen
   beside = grind (arith, seen_behind, leaves_beside, does_stretch)
 
@@ -93,14 +92,14 @@ module _ {p q : PassState} (t : InTurn p) (d : Does is_placing p q) (history : I
   gone_beside none = grind (arith, world_there, beside)
 
 -- where it only looks
-module _ (p q : PassState) (t : InTurn p) (u : IsUnplaced p) (quiet : IsQuiet p) (looks : OnlyLooks p q)
+module _ (p q : PassState) (t : IsTurn p) (u : IsUnplaced p) (quiet : IsQuiet p) (looks : OnlyLooks p q)
     (history : IsHistory q.table.config q.seen) where
   d : Does is_placing p q
   d = widened (λ x h. grind arith) looks.does
 
   kept : LeavesTurn unchanged p q
   kept =
-      let l : IsAsLeft p.seat (world_of p) (world_of q) = looks_left p q looks in
+      let l : IsAsLeft p.seat (world_of p) (world_of q) = looks_left looks in
       record {
         call = record {
           pass = looks.same;
@@ -123,7 +122,7 @@ module _ (p q : PassState) (t : InTurn p) (u : IsUnplaced p) (quiet : IsQuiet p)
   }
 
 -- where the object is granted
-module _ {p q : PassState} (t : InTurn p) (u : IsUnplaced p) (quiet : IsQuiet p) (placed : IsPlaced p q)
+module _ {p q : PassState} (t : IsTurn p) (u : IsUnplaced p) (quiet : IsQuiet p) (placed : IsPlaced p q)
     (history : IsHistory q.table.config q.seen) where
   there : world_of q ≡ left p.table.config q.seen
   there = ap (λ (c : Config). left c q.seen) (same_config p q placed.granted.same)

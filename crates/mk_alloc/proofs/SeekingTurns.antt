@@ -1,19 +1,19 @@
 -- A New seeks room: the parts of its turn one after the other.
 use Rattle.mk_laws.proofs.Vocabulary.{eqb-false, inr, is_undecided_new}
 use Rattle.mk_alloc.proofs.Vocabulary.{Answer, AsksRoom, BeginsCycle, Config, Does, Done, FinishesCycle, FitsNowhere}
-use Rattle.mk_alloc.proofs.Vocabulary.{Flight, HasNoPlace, InTurn, IsAtPhase, IsHistory, IsOutOfStop, IsPlaced, IsQuiet}
+use Rattle.mk_alloc.proofs.Vocabulary.{Flight, HasNoPlace, IsAtPhase, IsHistory, IsOutOfStop, IsPlaced, IsQuiet, IsTurn}
 use Rattle.mk_alloc.proofs.Vocabulary.{IsUnplaced, List, Looks, Misfits, None, Object, OnlyLooks, Option, PassState}
 use Rattle.mk_alloc.proofs.Vocabulary.{PlacedAllocation, Seeks, Some, Steady, TurnGoesOn, ℕ, acting_caller, ap, arith}
 use Rattle.mk_alloc.proofs.Vocabulary.{call_of, false, is_look, looks_left, new_is_acting, now_of, object_for}
 use Rattle.mk_alloc.proofs.Vocabulary.{object_made, only_seen, own_seat, phase_of, place_after, place_now_for, refl}
-use Rattle.mk_alloc.proofs.{Vocabulary.{subst, world_of, ◌==◌, ◌∙◌, ◌≡◌}, CalmStretches.{cycles_in_turn, is_of_cycles}}
-use Rattle.mk_alloc.proofs.Going.{IsCallers, begun_on, finished_on, look_part, looked_on, on_then, same_phase}
-use Rattle.mk_alloc.proofs.GrantParts.{calm_last, finish_room, grants_none, last_behind, no_place, none_behind}
-use Rattle.mk_alloc.proofs.GrantParts.{none_last, none_then, nowhere_then, part_begun, room_kept, room_lacks, room_then}
-use Rattle.mk_alloc.proofs.{PlacedTurns.{looked_beside, place_part, placed_on}, CycleParts.{begin_done, finish_done}}
-use Rattle.mk_alloc.proofs.{FullLeaves.{cycles_leave, leaves_then}, Parts.{Part, in_turn_then}, Stretches.widened}
+use Rattle.mk_alloc.proofs.{Vocabulary.{subst, world_of, ◌==◌, ◌∙◌, ◌≡◌}, Going.{IsCallers, begun_on, finished_on}}
+use Rattle.mk_alloc.proofs.{Going.{look_part, looked_on, on_then, same_phase}, GrantParts.{calm_last, finish_room}}
+use Rattle.mk_alloc.proofs.GrantParts.{grants_none, last_behind, no_place, none_behind, none_last, none_then}
+use Rattle.mk_alloc.proofs.GrantParts.{nowhere_then, part_begun, room_kept, room_lacks, room_then}
+use Rattle.mk_alloc.proofs.{CalmStretches.{cycles_in_turn, is_of_cycles}, CycleParts.{begin_done, finish_done}}
+use Rattle.mk_alloc.proofs.{FullLeaves.{cycles_leave, leaves_then}, Parts.Part, PlacedTurns.{looked_beside, place_part}}
+use Rattle.mk_alloc.{proofs.{PlacedTurns.placed_on, Stretches.widened}, specs.Rooms.{MisfitsIdly, SeeksRoom}}
 use Rattle.mk_core.specs.Allocations.{place_among_allocations}
-use Rattle.mk_alloc.specs.Rooms.{MisfitsIdly, SeeksRoom}
 use Rattle.mk_objects.{proofs.JoinedLooks.{looks_object, looks_unplaced}, specs.declared.objects.Request.{Request}}
 use Rattle.mk_words.specs.States.{WordsState}
 
@@ -54,7 +54,7 @@ pub unplaced_kept : {p q : PassState} → IsUnplaced p → call_of q ≡ call_of
 unplaced_kept u call placing phase = grind (arith, same_phase)
 
 -- Where the object is granted no room is asked for.
-pub seeks_placed : {p q : PassState} → InTurn p → IsUnplaced p → IsQuiet p → IsPlaced p q
+pub seeks_placed : {p q : PassState} → IsTurn p → IsUnplaced p → IsQuiet p → IsPlaced p q
     → IsHistory q.table.config q.seen → Seeks (Some Answer.Done) p q
 seeks_placed {p} t u quiet placed history =
     let x = place_part t placed.granted.does history in
@@ -67,7 +67,7 @@ seeks_placed {p} t u quiet placed history =
     }
 
 -- What seeks room still does, after a part that decided nothing.
-pub still_seeks : {w : WordsState} {p q : PassState} {request : Request} → SeeksRoom w p request → InTurn q
+pub still_seeks : {w : WordsState} {p q : PassState} {request : Request} → SeeksRoom w p request → IsTurn q
     → Seeks None p q
     → IsUnplaced q → SeeksRoom w q request
 still_seeks room turn seeks unplaced = record {
@@ -105,17 +105,14 @@ module _ {w : WordsState} {p : PassState} {request : Request} (asked : SeeksRoom
       undecided on (widened (λ x h. grind arith) d) history
       (room_lacks (object_for p) (look_part asked.turn d history) (λ x h. grind arith))
 
-  still_in_turn : {q : PassState} → Does is_look p q → IsHistory q.table.config q.seen → InTurn q
-  still_in_turn {q} d history = in_turn_then is_look p q (λ y h. grind arith) asked.turn d history
-
-  pub misfits_here : {q : PassState} → FitsNowhere p q → IsHistory q.table.config q.seen → Misfits p q
-  misfits_here {q} f history = record {
-    turn = still_in_turn f.looks.does history;
-    seeks = looked_undecided (looked_beside p q asked.turn asked.unplaced asked.quiet f.looks history) f.looks.does
-        history;
-    unplaced = looks_unplaced q f.looks asked.unplaced;
-    nowhere = still_nowhere p q (ap (λ (s : Steady). s.allocations) (looks_left p q f.looks).steady)
-        (ap (λ (x : PassState). x.table.config) f.looks.same) (looks_object p q f.looks) f.nowhere;
+  pub misfits_here : {q : PassState} → FitsNowhere p q → IsTurn q → Misfits p q
+  misfits_here {q} f turn = record {
+    turn = turn;
+    seeks = looked_undecided (looked_beside p q asked.turn asked.unplaced asked.quiet f.looks turn.history) f.looks.does
+        turn.history;
+    unplaced = looks_unplaced f.looks asked.unplaced;
+    nowhere = still_nowhere p q (ap (λ (s : Steady). s.allocations) (looks_left f.looks).steady)
+        (ap (λ (x : PassState). x.table.config) f.looks.same) (looks_object f.looks) f.nowhere;
   }
 
   module _ (none : place_now_for p ≡ None) where
@@ -123,7 +120,7 @@ module _ {w : WordsState} {p : PassState} {request : Request} (asked : SeeksRoom
     no_place_now = no_place p.table.config p.seen (object_for p) none
 
     -- where a cycle is begun, after which it has no place either,
-    pub misfits_begun : {q : PassState} → BeginsCycle p q → InTurn q → Misfits p q
+    pub misfits_begun : {q : PassState} → BeginsCycle p q → IsTurn q → Misfits p q
     misfits_begun {q} b turn =
         let seat = new_callers asked.unplaced in
         let part = part_begun b asked.turn turn.history in
@@ -150,23 +147,23 @@ module _ {w : WordsState} {p : PassState} {request : Request} (asked : SeeksRoom
         undecided (finished_on asked.turn seat asked.quiet f history) (finish_done f) history
         (finish_room (object_for p) seat asked.quiet.free.decided no_place_now f asked.turn history)
 
-    pub room_finished : {q : PassState} → FinishesCycle p q → InTurn q → SeeksRoom w q request
+    pub room_finished : {q : PassState} → FinishesCycle p q → IsTurn q → SeeksRoom w q request
     room_finished f turn = grind (arith, still_seeks, seeks_finished, Done)
 
     pub misfits_finished : {q r : PassState} → FinishesCycle p q → IsHistory q.table.config q.seen → Misfits q r
         → OnlyLooks q r → MisfitsIdly p r
     misfits_finished {q} {r} f history m looks = record {
       misfits = misfits_then (seeks_finished f history) m;
-      idle = ap (λ (s : Steady). s.phase) (looks_left q r looks).steady ∙ f.phase;
+      idle = ap (λ (s : Steady). s.phase) (looks_left looks).steady ∙ f.phase;
     }
 
     -- and where it looked at the phase.
-    pub misfits_seen : {q : PassState} → Looks p q → IsHistory q.table.config q.seen → Misfits p q
-    misfits_seen {q} k history =
-        let on = looked_on asked.turn (new_callers asked.unplaced) asked.quiet k history in
+    pub misfits_seen : {q : PassState} → Looks p q → IsTurn q → Misfits p q
+    misfits_seen {q} k turn =
+        let on = looked_on asked.turn (new_callers asked.unplaced) asked.quiet k turn.history in
         record {
-          turn = still_in_turn k.does history;
-          seeks = looked_undecided on k.does history;
+          turn = turn;
+          seeks = looked_undecided on k.does turn.history;
           unplaced = unplaced_kept asked.unplaced k.keeps.call.call
               (ap (λ (x : Done). x.placing) k.keeps.call.done) (ap (λ (s : Steady). s.phase) k.keeps.steady);
           nowhere = still_nowhere p q (ap (λ (s : Steady). s.allocations) k.keeps.steady)

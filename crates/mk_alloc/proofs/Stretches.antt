@@ -85,7 +85,7 @@ holds_none {p} {es} h ne out =
 holds_own : (p : PassState) (es : List Event) (x : Step) → Has p.seats p.seat → Here p es (event_of p x)
     → turn_stays x ≡ true → Holds p.table.config (left p.table.config (es ++ event_of p x ∷ [])).now p.seat
 holds_own p es x own h stays =
-    let t : IsTurn (seeing p es) = record { holds = h.holds } in
+    let t : IsTurn (seeing p es) = record { own = own; holds = h.holds; history = h.history } in
     (still_turn (seeing p es) x (seeing p (es ++ event_of p x ∷ [])) (record {
       others = [];
       of_others = others_none p.seats;

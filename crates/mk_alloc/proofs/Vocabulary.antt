@@ -25,25 +25,24 @@ pub use Rattle.mk_laws.proofs.Vocabulary.{undecided_new, unreleased_storage, wor
 pub use Rattle.mk_laws.proofs.Vocabulary.{◌==◌, ◌||◌, ◌∙◌, ◌∷◌, ◌≡◌, ◌≢◌, ◌⊎◌}
 pub use Rattle.mk_words.proofs.{Made.{made, own_before, pass_before}, Seats.{not_both, only_one, others_one, same_seat}}
 pub use Rattle.mk_words.proofs.Seats.{same_self}
-pub use Rattle.mk_words.specs.{Seats.Has, States.{PassState, call_of, event_of, now_of, world_of}}
-pub use Rattle.mk_words.specs.{Steps.{IsEnabledTo, Makes}, TurnSteps.{Acts, IsFresh, IsTurn, turn_stays}}
+pub use Rattle.mk_words.specs.{Seats.Has, States.{IsTurn, PassState, call_of, event_of, now_of, world_of}}
+pub use Rattle.mk_words.specs.{Steps.{IsEnabledTo, Makes}, TurnSteps.{Acts, IsFresh, turn_stays}}
 pub use Rattle.mk_caller.proofs.{OneStep.own_seat, OwnSteps.{by_append, calls_by, others_add_none}}
 pub use Rattle.mk_caller.specs.Called.{own_calls, own_steps, stages_made, step_at}
 pub use Rattle.mk_caller.specs.States.{CallerState, caller_of_pass}
 pub use Rattle.mk_turns.proofs.{Doing.{does_nothing, does_step, does_then}, Sweeping.{only_seen, only_seen_by}}
 pub use Rattle.mk_turns.{proofs.Sweeping.{sweeps_then}, specs.{Doing.{Does, are_of}, Sweeping.SweepsNothing}}
-pub use Rattle.mk_cycle.proofs.{Allowed.in_turn, Begun.{begun_then, finish_begins_none}, Calm.frees_none}
-pub use Rattle.mk_cycle.proofs.{CleaningSteps.calm_keeps, KeptInParts.{free_then, gates_behind, same_config}}
-pub use Rattle.mk_cycle.proofs.OwnSteps.{no_more_calls}
+pub use Rattle.mk_cycle.proofs.{Begun.{begun_then, finish_begins_none}, Calm.frees_none, CleaningSteps.calm_keeps}
+pub use Rattle.mk_cycle.proofs.{KeptInParts.{free_then, gates_behind, same_config}, OwnSteps.no_more_calls}
 pub use Rattle.mk_cycle.specs.{BeginCycle.BeginsCycle, Begun.EachIsBegun, EngineLaw.{IsAtPhase, is_pending_free}}
 pub use Rattle.mk_cycle.specs.{EngineLaw.is_pending_free_at, FinishCycle.FinishesCycle, Kinds.{begins_marking, clears}}
 pub use Rattle.mk_cycle.specs.Kinds.{closes_marks, holds_gates, is_giving_back, sets_tallies}
-pub use Rattle.mk_cycle.specs.TurnKeeps.{Done, InTurn, KeepsGates, LeavesTurn, unchanged}
+pub use Rattle.mk_cycle.specs.TurnKeeps.{Done, KeepsGates, LeavesTurn, unchanged}
 pub use Rattle.mk_waiting.specs.Taking.{TakesTurn, is_take, waits_for}
 pub use Rattle.mk_objects.proofs.{JoinedLooks.{does_wider, looks_left}, Looks.acting_caller}
-pub use Rattle.mk_objects.{proofs.MayAct.{new_is_acting, off_four}, specs.Retiring.{is_freeing, is_loading}}
-pub use Rattle.mk_objects.specs.Placing.{object_for, place_now_for, FitsNowhere, IsOutOfStop, IsPlaced, IsUnplaced}
-pub use Rattle.mk_objects.specs.{Placing.{OnlyLooks, is_look, is_placing}, Retired.{DecidesFree, IsDueSince}}
+pub use Rattle.mk_objects.{proofs.MayAct.{new_is_acting, off_four}, specs.Retired.{DecidesFree, IsDueSince}}
+pub use Rattle.mk_objects.specs.{Retiring.{is_freeing, is_loading}, Placing.{object_for, place_now_for, FitsNowhere}}
+pub use Rattle.mk_objects.specs.Placing.{IsOutOfStop, IsPlaced, IsUnplaced, OnlyLooks, is_look, is_placing}
 pub use Rattle.mk_alloc.specs.{DueCycles.{EndsOlder, RunsIfDue}, Leaving.OwnLeaveAllButReleased}
 pub use Rattle.mk_alloc.specs.Rooms.{AnswersFull, AsksRoom, BeginsNone, GrantsNone, Misfits, RunsOne, Seeks, asks_room}
 pub use Rattle.mk_alloc.specs.TurnCalls.{CalledInTurn, FreesObject, IsAnsweredDouble, IsAnsweredFull}

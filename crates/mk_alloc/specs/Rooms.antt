@@ -4,8 +4,8 @@ use Rattle.mk_core.specs.{declared.events.Answer.Answer, declared.events.Event.E
 use Rattle.mk_core.specs.{declared.seats.Object.Object, declared.seats.OwnCycle.TheVariants.Ended}
 use Rattle.mk_core.specs.Cycles.{At, is_begin, is_end}
 use Rattle.mk_geom.specs.{declared.pages.Census.Census, PageUses.census_among, PageWords.uses_of_pages}
-use Rattle.mk_words.specs.States.{PassState, WordsState, event_of, now_of, world_of}
-use Rattle.mk_cycle.specs.{EngineLaw.IsAtPhase, TurnKeeps.InTurn}
+use Rattle.mk_words.specs.States.{IsTurn, PassState, WordsState, event_of, now_of, world_of}
+use Rattle.mk_cycle.specs.EngineLaw.{IsAtPhase}
 use Rattle.mk_objects.specs.Placing.{IsUnplaced, Requests, object_for, place_now_for}
 use Rattle.mk_objects.specs.declared.objects.Request.{Request}
 use Rattle.mk_alloc.specs.{Leaving.OwnLeaveAllButReleased, TurnCycles.{HasNoPlace, RunsOneCycle, has_step, is_grant}}
@@ -55,7 +55,7 @@ pub record RunsOne (p q : PassState) : Type 0 where
 -- The turn of this table is for a New that requests this, isn't decided and has no place yet, and nothing is under way.
 pub record SeeksRoom (w : WordsState) (p : PassState) (request : Request) : Type 0 where
   pub one_table : p.table ≡ w
-  pub turn : InTurn p
+  pub turn : IsTurn p
   pub requested : Requests p request
   pub quiet : IsQuiet p
   pub unplaced : IsUnplaced p
@@ -71,7 +71,7 @@ pub record Seeks (a : Option Answer) (p q : PassState) : Type 0 where
 
 -- It isn't decided, and its object has no place now.
 pub record Misfits (p q : PassState) : Type 0 where
-  pub turn : InTurn q
+  pub turn : IsTurn q
   pub seeks : Seeks None p q
   pub unplaced : IsUnplaced q
   pub nowhere : place_now_for q ≡ None

@@ -37,15 +37,12 @@ pub fn free_object<E: Engine, R: Threads + Wait + Sync>(
     ensures reached { E.sweeps ≡ false → SweepsNothing caller.old.pass caller.new.pass }
     ensures begun { EachIsBegun E.begins caller.old.pass caller.new.pass }
 {
-    caller.is_idle();
     let words = caller.words();
     let home = caller.lend();
     let mut turn = take(rt, words, home, Op::Free { p });
     match retire_object(rt, words, &mut turn, p) {
         Ok(freed) => {
-            turn.is_in_order();
             let turn = run_if_due(rt, words, turn, engine, freed.due);
-            turn.is_in_order();
             caller.back(give(words, turn));
             Ok(freed)
         }

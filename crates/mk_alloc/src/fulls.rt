@@ -22,7 +22,6 @@ pub(crate) fn answer_full(words: &Words, turn: &mut Turn)
     ensures begins { BeginsNone turn.old.pass turn.new.pass }
     ensures reached { SweepsNothing turn.old.pass turn.new.pass }
 {
-    turn.is_in_order();
     let count = turn.look(words, Word::Full);
     turn.tally(words, Tally::Full, count.saturating_add(1));
     turn.full(words);

@@ -82,7 +82,6 @@ pub fn new_object<E: Engine, R: Threads + Wait + Sync>(
     ensures reached { E.sweeps ≡ false → SweepsNothing caller.old.pass caller.new.pass }
     ensures begun { EachIsBegun E.begins caller.old.pass caller.new.pass }
 {
-    caller.is_idle();
     let words = caller.words();
     let home = caller.lend();
     let op = Op::New { d, ty, full: false };

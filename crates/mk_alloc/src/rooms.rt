@@ -26,9 +26,7 @@ pub(crate) fn try_place(words: &Words, turn: &mut Turn, request: Request) -> boo
     ensures begins { BeginsNone turn.old.pass turn.new.pass }
     ensures reached { SweepsNothing turn.old.pass turn.new.pass }
 {
-    let placed = place_object(words, turn, request);
-    turn.is_in_order();
-    placed
+    place_object(words, turn, request)
 }
 
 /// Finishes the cycle that is on, and grants the object where it fits then.
@@ -54,7 +52,6 @@ fn finish_and_place<E: Engine, R: Threads + Wait + Sync>(
     ensures reached { E.sweeps ≡ false → SweepsNothing turn.pass result.0.pass }
 {
     let (mut turn, _) = finish_cycle(rt, words, turn, engine);
-    turn.is_in_order();
     let placed = try_place(words, &mut turn, request);
     (turn, placed)
 }
@@ -78,7 +75,6 @@ fn place_behind_older<E: Engine, R: Threads + Wait + Sync>(
 {
     let mut turn = turn;
     let is_on = is_cycle_on(words, &mut turn);
-    turn.is_in_order();
     if !is_on {
         return (turn, false);
     }
@@ -108,7 +104,6 @@ fn place_behind_cycle<E: Engine, R: Threads + Wait + Sync>(
 {
     let mut turn = turn;
     begin_cycle(rt, words, &mut turn, engine);
-    turn.is_in_order();
     finish_and_place(rt, words, turn, request, engine)
 }
 

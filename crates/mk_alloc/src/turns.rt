@@ -38,7 +38,6 @@ pub(crate) fn is_cycle_on(words: &Words, turn: &mut Turn) -> bool
     ensures looks { Looks turn.old.pass turn.new.pass }
     ensures on { result ≡ (phase_of (now_of turn.old.pass).words == 1) }
 {
-    turn.is_in_order();
     let found = turn.look(words, Word::Phase);
     Phase::Marking.is_in(found)
 }
@@ -52,6 +51,5 @@ pub(crate) fn give(words: &Words, turn: Turn) -> Pass
     ensures gives { Makes turn.pass step.Give result }
     ensures rests { call_of result ≡ at_rest }
 {
-    turn.is_in_order();
     turn.give(words)
 }

@@ -4,12 +4,12 @@ use Rattle.mk_alloc.proofs.Vocabulary.{BeginsTurn, CalledInTurn, FitsNowhere, Is
 use Rattle.mk_alloc.proofs.Vocabulary.{IsUnplaced, OnlyLooks, PassState, TakesTurn, caller_of_pass, looks_left, now_of}
 use Rattle.mk_alloc.proofs.{Vocabulary.{object_for, own_before}, CalledTurns.{Taken, callers, take_allowed}}
 use Rattle.mk_alloc.proofs.{CalledTurns.taken_phase, NewTurns.operands_of}
-use Rattle.mk_laws.proofs.Vocabulary.{Answer, Bool, Config, IsHistory, IsWithinLimits, Kind, List, None, Number, Object}
-use Rattle.mk_laws.proofs.Vocabulary.{Op, Option, Page, Place, Some, Steady, Step, TalliesAreTidy, ℕ, ap, append-nil}
-use Rattle.mk_laws.proofs.Vocabulary.{arith, block_header, false, free_page, get_or_past, header_of}
-use Rattle.mk_laws.proofs.Vocabulary.{histories_keep_lengths, if◌then◌else◌, kinds_of, length, lt-ltb, ltb-true, nat_lt}
-use Rattle.mk_laws.proofs.Vocabulary.{not, or_else, phase_of, place_on_pages, refl, resident_pages, slice_index_or, sym}
-use Rattle.mk_laws.proofs.Vocabulary.{true, use_under, word_of, [], ◌<◌, ◌^◌, ◌∙◌, ◌∷◌, ◌≡◌, ◌≢◌}
+use Rattle.mk_laws.proofs.Vocabulary.{Answer, Bool, Config, IsHistory, Kind, List, None, Number, Object, Op, Option}
+use Rattle.mk_laws.proofs.Vocabulary.{Page, Place, Some, Steady, Step, TalliesAreTidy, ℕ, ap, append-nil, arith}
+use Rattle.mk_laws.proofs.Vocabulary.{block_header, false, free_page, get_or_past, header_of, histories_keep_lengths}
+use Rattle.mk_laws.proofs.Vocabulary.{if◌then◌else◌, kinds_of, length, ltb-true, nat_lt, not, or_else, phase_of}
+use Rattle.mk_laws.proofs.Vocabulary.{place_on_pages, refl, resident_pages, slice_index_or, sym, true, use_under}
+use Rattle.mk_laws.proofs.Vocabulary.{word_of, [], ◌<◌, ◌^◌, ◌∙◌, ◌∷◌, ◌≡◌, ◌≢◌}
 use Rattle.mk_geom.specs.{PageUses.{carved, cells_taken, first_where, small_place}, PageWords.use_of_page}
 use Rattle.mk_books.proofs.UsedBitLemmas.{first_where-bits_of}
 use Rattle.mk_core.specs.{Counts.TalliesAreExact, Words.page_of}
@@ -19,7 +19,7 @@ use Rattle.mk_objects.proofs.FoundPlaces.{cells_under_other, cells_under_wanted,
 use Rattle.mk_objects.proofs.PlacedNews.{fit_within, goes_behind, place_found}
 use Rattle.mk_objects.proofs.JoinedLooks.{granted_behind_looks, looks_pages}
 use Rattle.mk_objects.specs.Placing.{GoesTo, HeldIsExact, IsGranted}
-use Rattle.mk_words.specs.{Seats.CallersAreBeforeOver, States.WordsState, Steps.Finds}
+use Rattle.mk_words.specs.{Seats.CallersAreBeforeOver, Steps.Finds}
 
 -- where a number goes on a heap of this page alone
 abbrev pub place_on : Page → Option Place
@@ -85,19 +85,14 @@ fit_on_page p page h one number is =
 
 -- Looks leave what was seen.
 
-pub page_kept : (p q : PassState) → OnlyLooks p q → page_of (now_of p).words 0 ≡ page_of (now_of q).words 0
-page_kept p q a = ap (λ (ps : List Page). slice_index_or ps 0 free_page) (sym (looks_pages a))
+pub page_kept : {p q : PassState} → OnlyLooks p q → page_of (now_of p).words 0 ≡ page_of (now_of q).words 0
+page_kept a = ap (λ (ps : List Page). slice_index_or ps 0 free_page) (sym (looks_pages a))
 
-pub held_kept : (p q : PassState) → OnlyLooks p q → (now_of p).words.held ≡ (now_of q).words.held
-held_kept p q a = sym (ap (λ (x : Steady). x.held) (looks_left p q a).steady)
+pub held_kept : {p q : PassState} → OnlyLooks p q → (now_of p).words.held ≡ (now_of q).words.held
+held_kept a = sym (ap (λ (x : Steady). x.held) (looks_left a).steady)
 
-pub phase_kept : (p q : PassState) → OnlyLooks p q → phase_of (now_of p).words ≡ phase_of (now_of q).words
-phase_kept p q a = sym (ap (λ (x : Steady). x.phase) (looks_left p q a).steady)
-
--- There is a first page.
-pub first_page : (p : PassState) (w : WordsState) → p.table ≡ w → IsWithinLimits w.config
-    → nat_lt 0 p.table.config.pages ≡ true
-first_page p w table limits = grind (arith, lt-ltb)
+pub phase_kept : {p q : PassState} → OnlyLooks p q → phase_of (now_of p).words ≡ phase_of (now_of q).words
+phase_kept a = sym (ap (λ (x : Steady). x.phase) (looks_left a).steady)
 
 -- The type of one number exists,
 pub type_exists : (types : List (List Kind)) (ty : ℕ) → kinds_of types ty ≡ Number ∷ [] → ty < length types
@@ -107,7 +102,6 @@ type_exists types ty is = grind (arith, ltb-true, ltb-false, get_or_past)
 
 pub record HasSeen (p q : PassState) (page : Page) : Type 0 where
   pub turn : IsTurn p
-  pub history : IsHistory p.table.config p.seen
   pub unplaced : IsUnplaced p
   pub one : p.table.config.pages ≡ 1
   pub number : object_for p ≡ one_number
@@ -117,10 +111,10 @@ pub record HasSeen (p q : PassState) (page : Page) : Type 0 where
 module _ {p q : PassState} {page : Page} (s : HasSeen p q page) {found : Option Place}
     (is : found ≡ place_on page) where
   fit : place_on_pages p.table.config.resident (now_of p).words.pages (object_for p) ≡ found
-  fit = fit_on_page p page s.history s.one s.number (s.sees ∙ sym (page_kept p q s.looks)) ∙ sym is
+  fit = fit_on_page p page s.turn.history s.one s.number (s.sees ∙ sym (page_kept s.looks)) ∙ sym is
 
   pub nowhere : found ≡ None → FitsNowhere p q
-  nowhere none = record { nowhere = place_found s.turn s.history s.unplaced (fit ∙ none); looks = s.looks }
+  nowhere none = record { nowhere = place_found s.turn s.unplaced (fit ∙ none); looks = s.looks }
 
   module _ {place : Place} (there : found ≡ Some place) where
     pub goes : GoesTo q place
@@ -128,14 +122,14 @@ module _ {p q : PassState} {page : Page} (s : HasSeen p q page) {found : Option 
 
     pub sees_page : page ≡ page_of (now_of q).words place.page
     sees_page =
-        let within = fit_within place s.turn s.history s.unplaced (fit ∙ there) in
+        let within = fit_within place s.turn s.unplaced (fit ∙ there) in
         let lengths = (histories_keep_lengths p.table.config p.seen).pages in
         s.sees ∙ ap (λ i. page_of (now_of q).words i) (omega (arith, s.one))
 
     pub placed : {r : PassState} → IsGranted q place r → HeldIsExact r → IsPlaced p r
     placed granted held = record {
       place = place;
-      fits = place_found s.turn s.history s.unplaced (fit ∙ there);
+      fits = place_found s.turn s.unplaced (fit ∙ there);
       granted = granted_behind_looks s.looks granted;
       held = held;
     }

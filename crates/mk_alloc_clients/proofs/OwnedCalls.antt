@@ -66,9 +66,9 @@ pub record IsLoaded (a : Answer) (q : PassState) (d n : ℕ) : Type 0 where
   pub tells : a ≡ Answer.Num n
   pub has : HasNumber q d n
 
-module _ {p q : PassState} {a : Answer} (d : ℕ) (owns : OwnsNumber p d) (h : IsHistory q.table.config q.seen) where
+module _ {p q : PassState} {a : Answer} (d : ℕ) (owns : OwnsNumber p d) where
   seen_history : {o : Op} → (c : Called p o a q) → IsHistory p.table.config (p.seen ++ c.more)
-  seen_history c = subst (λ (r : PassState). IsHistory r.table.config r.seen) c.is h
+  seen_history c = subst (λ (r : PassState). IsHistory r.table.config r.seen) c.is c.pass.history
 
   bases : {o : Op} → Called p o a q → List ℕ
   bases c = bases_of (left p.table.config (p.seen ++ c.decided.before ++ c.decided.event ∷ [])).allocations
@@ -97,15 +97,16 @@ module _ {p q : PassState} {a : Answer} (d : ℕ) (owns : OwnsNumber p d) (h : I
       }
 
 -- So neither is refused, but where the gate is held: then there is no call.
-pub held_keeps : {p q : PassState} {o : Op} (d : ℕ) → OwnsNumber p d → IsHistory q.table.config q.seen
+pub held_keeps : {p q : PassState} {o : Op} (d : ℕ) → OwnsNumber p d
     → FindsGateHeld p o q → HasNumber q d (number_owned p d)
-held_keeps {p} {q} {o} d owns h f =
+held_keeps {p} {q} {o} d owns f =
     let more : List Event = f.finds.makes.others ++ event_of p (Step.Enter o) ∷ [] in
     let c : Config = p.table.config in
     let is : q ≡ record p { seen = p.seen ++ more } = grind (arith, append_assoc) in
     let none = own_more c (caller_of_pass p) p.seen more [] (ap (λ (r : PassState). own_calls p r.seen) (sym is)
     ∙ f.entries ∙ sym (append-nil (own_calls p p.seen))) in
-    let keeps = kept p.seen more (subst (λ (r : PassState). IsHistory r.table.config r.seen) is h) none owns in
+    let keeps = kept p.seen more
+    (subst (λ (r : PassState). IsHistory r.table.config r.seen) is f.pass.history) none owns in
     subst (λ (r : PassState). HasNumber r d (number_owned p d)) (sym is) (record { owns = keeps.owns; is = keeps.same })
 
 -- A New of one number that was granted gives its caller that number, which is 0.

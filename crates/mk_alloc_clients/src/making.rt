@@ -20,7 +20,6 @@ pub fn make_number(caller: &mut Caller, d: u8, ty: u64) -> Result<(), Unmade>
     ensures owned { OnOk result (HasNumber caller.new.pass d 0) }
     ensures unmade { IfErr result (λ e. IsUnmade caller.old.pass (op.New d ty false) e caller.new) }
 {
-    caller.is_idle();
     let words = caller.words();
     let home = caller.lend();
     let op = Op::New { d, ty, full: false };
@@ -34,7 +33,6 @@ pub fn make_number(caller: &mut Caller, d: u8, ty: u64) -> Result<(), Unmade>
             if !place_number(words, &mut turn, d) {
                 return Err(Unmade::NoRoom(turn));
             }
-            turn.is_in_order();
             let home = turn.give(words);
             caller.back(home);
             Ok(())

@@ -21,9 +21,7 @@ pub fn store(caller: &mut Caller, d: u8, n: u64) -> Result<(), Held>
     ensures held { OnErr result (FindsGateHeld caller.old.pass (op.SetNum d 0 n) caller.new.pass) }
     ensures still { OnErr result (HasNumber caller.new.pass d (number_owned caller.old.pass d)) }
 {
-    let stored = caller.set_num(d, 0, n);
-    caller.is_idle();
-    match stored {
+    match caller.set_num(d, 0, n) {
         Ok(()) => Ok(()),
         Err(refusal) => match refusal {
             Refusal::Held => Err(Held),
@@ -43,9 +41,7 @@ pub fn load(caller: &mut Caller, d: u8) -> Result<u64, Held>
     ensures held { OnErr result (FindsGateHeld caller.old.pass (op.GetNum d 0) caller.new.pass) }
     ensures still { HasNumber caller.new.pass d (number_owned caller.old.pass d) }
 {
-    let loaded = caller.get_num(d, 0);
-    caller.is_idle();
-    match loaded {
+    match caller.get_num(d, 0) {
         Ok(n) => Ok(n),
         Err(refusal) => match refusal {
             Refusal::Held => Err(Held),

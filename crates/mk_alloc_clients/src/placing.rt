@@ -38,7 +38,6 @@ fn see(words: &Words, turn: &mut Turn) -> Seen
     ensures held { result.held ≡ (now_of turn.new.pass).words.held }
     ensures marking { result.marking ≡ (phase_of (now_of turn.new.pass).words == 1) }
 {
-    words.is_within_limits();
     let page = turn.page(0);
     let held = look_at(words, turn, Word::Held);
     let marking = is_marking(words, turn);
@@ -87,7 +86,6 @@ fn mark_first(words: &Words, turn: &mut Turn, place: Place, marking: bool)
     requires marking { marking ≡ (phase_of (now_of turn.old.pass).words == 1) }
     ensures { HasCarved turn.old.pass place 0 turn.new.pass }
 {
-    turn.is_in_order();
     if marking {
         turn.mark(words, place.page, ALL_CELLS);
     }
@@ -102,7 +100,6 @@ fn make_ready(words: &Words, turn: &mut Turn, place: Place, seen: Seen)
     requires marking { seen.marking ≡ (phase_of (now_of turn.old.pass).words == 1) }
     ensures { MayTake turn.old.pass place turn.new.pass }
 {
-    turn.is_in_order();
     if seen.page.header == 0 {
         mark_first(words, turn, place, seen.marking);
         turn.head(words, place.page, block_word());
@@ -131,7 +128,6 @@ fn serve(words: &Words, turn: &mut Turn, register: u8, place: Place, seen: Seen)
     ensures granted { IsGranted turn.old.pass place turn.new.pass }
     ensures held { HeldIsExact turn.new.pass }
 {
-    turn.is_in_order();
     make_ready(words, turn, place, seen);
     turn.used(words, place.page, seen.page.used | 1 << place.index);
     turn.grant(words, register, address(place));
@@ -149,7 +145,6 @@ pub(crate) fn place_number(words: &Words, turn: &mut Turn, register: u8) -> bool
     ensures placed { result ≡ true → IsPlaced turn.old.pass turn.new.pass }
     ensures nowhere { result ≡ false → FitsNowhere turn.old.pass turn.new.pass }
 {
-    turn.is_in_order();
     let seen = see(words, turn);
     match place_on(seen.page.header, seen.page.used) {
         None => false,

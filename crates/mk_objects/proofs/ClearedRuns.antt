@@ -1,10 +1,10 @@
 -- A run is unmapped and wiped, and then the gates are opened.
-use Rattle.mk_laws.proofs.Vocabulary.{Config, Event, Holding, Holds, IsHistory, List, None, Option, RunPages, Seat}
-use Rattle.mk_laws.proofs.Vocabulary.{Some, Steady, Step, World, ℕ, ap, arith, is_held, is_number_of, is_run_gone, left}
+use Rattle.mk_laws.proofs.Vocabulary.{Config, Event, Holding, IsHistory, List, None, Option, RunPages, Seat, Some}
+use Rattle.mk_laws.proofs.Vocabulary.{Steady, Step, World, ℕ, ap, arith, is_held, is_number_of, is_run_gone, left}
 use Rattle.mk_laws.proofs.Vocabulary.{others_are_held, refl, subst, sym, true, world_behind, [], ◌++◌, ◌<◌, ◌||◌, ◌∙◌}
 use Rattle.mk_laws.proofs.{Vocabulary.{◌∷◌, ◌≡◌}, LastEvents.{ComesLast, comes_last, stands}, RunWords.gone_behind}
 use Rattle.mk_laws.proofs.RunsStill.{holder_finds}
-use Rattle.mk_objects.proofs.Vocabulary.{Does, PassState, RunIsUnmapped, RunIsWiped, SetsGates, Unmaps, Wipes}
+use Rattle.mk_objects.proofs.Vocabulary.{Does, IsTurn, PassState, RunIsUnmapped, RunIsWiped, SetsGates, Unmaps, Wipes}
 use Rattle.mk_objects.proofs.Vocabulary.{all_below_from, all_others, is_clearing, is_settling, now_of, world_of}
 use Rattle.mk_objects.proofs.DecidedFrees.{Stays, gates_stay, stays_then, unmaps_stay, wipes_stay}
 use Rattle.mk_objects.proofs.{FreedOnce.{Another, KeptInTurn, Own, along_turn}, JoinedLooks.reached_world}
@@ -39,11 +39,11 @@ gone_kept c s es e h holds (Another other) gone =
     let found = holder_finds c s es (e ∷ []) h (other, tt) holds in
     ap (λ (y : Holding). is_run_gone (left c (es ++ e ∷ [])).now.words y.freed) found.holding ∙ found.gone gone
 
-pub still_gone : {p q : PassState} → Does is_settling p q → IsHistory q.table.config q.seen → Holds p.table.config
-    (now_of p) p.seat → IsGoneIn (left p.table.config p.seen) → IsGoneIn (left p.table.config q.seen)
-still_gone {p} d h holds gone =
-    along_turn p is_settling (λ x kind. grind arith) (λ es. IsGoneIn (left p.table.config es)) (gone_kept _ _) d h holds
-    gone
+pub still_gone : {p q : PassState} → Does is_settling p q → IsTurn p → IsTurn q
+    → IsGoneIn (left p.table.config p.seen) → IsGoneIn (left p.table.config q.seen)
+still_gone {p} d turn behind gone =
+    along_turn p is_settling (λ x kind. grind arith) (λ es. IsGoneIn (left p.table.config es)) (gone_kept _ _) d turn
+    behind gone
 
 -- Where the others' gates are held, all but the own one are.
 pub stopped_by : (p : PassState)

@@ -1,10 +1,10 @@
 -- A Free is decided, and parts of its turn come before that and after it.
-use Rattle.mk_laws.proofs.Vocabulary.{Answer, Bool, Cell, Flight, Holding, Holds, IsHistory, List, Page}
-use Rattle.mk_laws.proofs.Vocabulary.{PlacedAllocation, RunPages, Seat, Some, Steady, Step, Tally, Words, World, ℕ}
-use Rattle.mk_laws.proofs.Vocabulary.{all_below-at, ap, arith, cond, flight_of, freed_released, freed_where_it_stands}
-use Rattle.mk_laws.proofs.Vocabulary.{is_held, map, not, refl, sym, true, [], ◌+◌, ◌↔◌, ◌∙◌, ◌∷◌, ◌≡◌}
-use Rattle.mk_objects.proofs.Vocabulary.{Changes, ComesTo, FreesCell, HasFreed, IsOverQuarter, IsTrue, OnlyLooks}
-use Rattle.mk_objects.proofs.Vocabulary.{PassState, SetsGates, SetsTally, StaysSo, Unmaps, Wipes, WordsState}
+use Rattle.mk_laws.proofs.Vocabulary.{Answer, Bool, Cell, Flight, Holding, List, Page, PlacedAllocation, RunPages, Seat}
+use Rattle.mk_laws.proofs.Vocabulary.{Some, Steady, Step, Tally, Words, World, ℕ, all_below-at, ap, arith, cond}
+use Rattle.mk_laws.proofs.Vocabulary.{flight_of, freed_released, freed_where_it_stands, is_held, map, not, refl, sym}
+use Rattle.mk_laws.proofs.Vocabulary.{true, [], ◌+◌, ◌↔◌, ◌∙◌, ◌∷◌, ◌≡◌}
+use Rattle.mk_objects.proofs.Vocabulary.{Changes, ComesTo, FreesCell, HasFreed, IsOverQuarter, IsTrue, IsTurn}
+use Rattle.mk_objects.proofs.Vocabulary.{OnlyLooks, PassState, SetsGates, SetsTally, StaysSo, Unmaps, Wipes, WordsState}
 use Rattle.mk_objects.proofs.Vocabulary.{all_below_from, entry_for, is_clearing, is_following, is_freeing, is_look}
 use Rattle.mk_objects.proofs.Vocabulary.{is_settling, none_is_held, now_of, steady_of, sum_by-cons, world_of}
 use Rattle.mk_core.specs.Counts.{releases}
@@ -145,15 +145,14 @@ module _ {kinds : Step → Bool} {p q : PassState} (a : Prepares kinds p q) wher
   so = reaches_so a (λ at. stays_by _ _ _ (λ x. x) at.call at.holding at.steady refl refl refl)
 
   pub frees_behind : {r : PassState} {cell : Cell} {due : Bool} → AreAmong kinds is_freeing → FreesNot kinds
-      → IsHistory q.table.config q.seen
-      → Holds p.table.config (now_of p) p.seat → FreesCell q cell due r → FreesCell p cell due r
-  frees_behind {r} {cell} {due} among not h holds f = record {
+      → IsTurn p → IsTurn q → FreesCell q cell due r → FreesCell p cell due r
+  frees_behind {r} {cell} {due} among not turn behind f = record {
     reaches = decides_behind among so f.reaches;
     allocations = f.allocations ∙ ap (λ (ps : List Page). map (freed_where_it_stands
         (record (now_of q).words { pages = ps }) (Some cell)) (world_of q).allocations)
         (ap (λ (x : Steady). x.pages) now.steady) ∙ ap (λ (xs : List PlacedAllocation). map
         (freed_where_it_stands (now_of p).words (Some cell)) xs) (ap (λ (x : Steady). x.allocations) now.steady);
-    once = once_behind not a.does h holds f.once;
+    once = once_behind not a.does turn behind f.once;
     gone = f.gone;
     gates = rw prepared_table f.gates;
     exact = f.exact;

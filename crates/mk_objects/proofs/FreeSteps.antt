@@ -1,10 +1,10 @@
 -- The target of a Free is quarantined.
 use Rattle.std.proofs.{Math.Pow.pow-lt, lemmas.Nat.or_lt}
-use Rattle.mk_laws.proofs.Vocabulary.{Answer, Bool, Caller, Cell, Config, Flight, Holding, IsHistory, List, None, Op}
-use Rattle.mk_laws.proofs.Vocabulary.{Option, Page, PlacedAllocation, Progress, Seat, Some, Stage, Steady, Step, Word}
-use Rattle.mk_laws.proofs.Vocabulary.{Words, World, ℕ, and_from, answer_decided, ap, arith, bit_or, caller_number}
-use Rattle.mk_laws.proofs.Vocabulary.{cell_freed, entry_of, eq-eqb, false, flight_of, freed_where_it_stands, frees}
-use Rattle.mk_laws.proofs.Vocabulary.{has_bit, header_in, heads_run, if◌then◌else◌, is_freed, is_run_cell, is_some}
+use Rattle.mk_laws.proofs.Vocabulary.{Answer, Bool, Caller, Cell, Config, Flight, Holding, List, None, Op, Option, Page}
+use Rattle.mk_laws.proofs.Vocabulary.{PlacedAllocation, Progress, Seat, Some, Stage, Steady, Step, Word, Words, World}
+use Rattle.mk_laws.proofs.Vocabulary.{ℕ, and_from, answer_decided, ap, arith, bit_or, caller_number, cell_freed}
+use Rattle.mk_laws.proofs.Vocabulary.{entry_of, eq-eqb, false, flight_of, freed_where_it_stands, frees, has_bit}
+use Rattle.mk_laws.proofs.Vocabulary.{header_in, heads_run, if◌then◌else◌, is_freed, is_run_cell, is_some}
 use Rattle.mk_laws.proofs.Vocabulary.{is_undecided_free, map, not, or_else, others_are_held, pointed_cell}
 use Rattle.mk_laws.proofs.Vocabulary.{progress_freed, quarantine_word, refl, run_of_cell, sees_double, set-get_or}
 use Rattle.mk_laws.proofs.Vocabulary.{slice_index, slice_set, target, true, world_behind, [], ◌%◌, ◌&&◌, ◌*◌, ◌+◌, ◌-◌}
@@ -206,7 +206,7 @@ freed_half f i lt near clear =
 
 -- The holder may free what its Free has found, and stores the word that is made of both halves of the one found.
 module _ {p : PassState} {r u : ℕ} {cell : Cell} {quar : ℕ} (may : MayFree p r u cell) (turn : IsTurn p)
-    (h : IsHistory p.table.config p.seen) (is : quar ≡ named_word (now_of p).words (Word.Quar cell.page)) where
+    (is : quar ≡ named_word (now_of p).words (Word.Quar cell.page)) where
   abbrev stored : ℕ
   stored = 4294967296 * (quar / 4294967296) + bit_or (quar % 4294967296) (1 * 2 ^ cell.index % 2 ^ 64)
 
@@ -220,7 +220,7 @@ module _ {p : PassState} {r u : ℕ} {cell : Cell} {quar : ℕ} (may : MayFree p
   undecided = loaded_undecided u may.free may.some
 
   small : (f < 2 ^ 32) × (s < 2 ^ 32)
-  small = (histories_keep_the_invariant p.table.config p.seen h).order.quarantined.small cell.page
+  small = (histories_keep_the_invariant p.table.config p.seen turn.history).order.quarantined.small cell.page
 
   made : stored ≡ freed_word (now_of p).words cell
   made = freed_word_made f s cell.index small.0 may.index may.live is
@@ -261,5 +261,5 @@ module _ {p : PassState} {r u : ℕ} {cell : Cell} {quar : ℕ} (may : MayFree p
     -- and frees once
     pub quarantine_once : FreesOnce p q
     quarantine_once =
-        frees_now (made_in p _ a) a.makes.pass.history turn.holds (λ v kept. ap (λ (x : Option Cell). is_some x)
+        frees_now (made_in p _ a) a.makes.pass.history turn (λ v kept. ap (λ (x : Option Cell). is_some x)
         (freed_left p.table.config cell kept (low_there kept) may.target may.live made))

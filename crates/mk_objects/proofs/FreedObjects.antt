@@ -20,7 +20,7 @@ use Rattle.mk_laws.proofs.{Vocabulary.{◌<◌, ◌==◌, ◌∙◌, ◌≡◌, 
 use Rattle.mk_laws.proofs.InvariantHistories.{allocations_stand, told_to_images}
 use Rattle.mk_laws.proofs.{KnownWorlds.{KnownWorld, known_world}, GrantMoves.pointer_cell, Ready.Ready, RegMoves.flight}
 use Rattle.mk_laws.{proofs.Settled.{unreleased_are_apart}, specs.{ImagePremises.IsLaidOut, SettledPages.StandsUsed}}
-use Rattle.mk_objects.proofs.Vocabulary.{IsFreeAt, IsOutOfStop, PassState, call_of, freed_and_fresh}
+use Rattle.mk_objects.proofs.Vocabulary.{IsFreeAt, IsOutOfStop, IsTurn, PassState, call_of, freed_and_fresh}
 use Rattle.mk_objects.proofs.Vocabulary.{held_by_allocations, histories_keep_the_invariant, loaded_free, now_of}
 use Rattle.mk_objects.proofs.{Vocabulary.{value_of, world_of}, HeldFreed.{freed_one, held_part, held_set, large_part}}
 use Rattle.mk_objects.proofs.{HeldFreed.{live_part, small_part}, LoadedFrees.loaded_undecided, Looks.acting_caller}
@@ -91,9 +91,9 @@ pub record InHeap (pages u : ℕ) : Type 0 where
 pub pointed_in_heap : (pages header u : ℕ) (cell : Cell) → cell_at pages header u ≡ Some cell → InHeap pages u
 pointed_in_heap pages header u cell is = grind (arith, and_parts, leb-true, ltb-true, cond-false)
 
-pub points_now : (p : PassState) (k : ℕ) → p.seat ≡ Caller k → IsHistory p.table.config p.seen → is_undecided_free
-    (call_of p) ≡ true → PointsAt p.table.config (world_of p) (never_behind p.table.config p.seen) k (call_of p)
-points_now p k is h undecided = grind (arith, free_points_at)
+pub points_now : {p : PassState} (k : ℕ) → p.seat ≡ Caller k → IsTurn p → is_undecided_free (call_of p) ≡ true
+    → PointsAt p.table.config (world_of p) (never_behind p.table.config p.seen) k (call_of p)
+points_now k is turn undecided = grind (arith, free_points_at)
 
 -- what points into a cell by the words does so by its page's header
 pub pointed_by_header : (p : PassState) (u : ℕ) {x : Option Cell} → pointed_cell p.table.config.pages
@@ -139,11 +139,12 @@ cell_index {c} {a} limits s =
     let few = cells_few (object_placed c a) sized in
     omega arith
 
-pub pointed_now : (p : PassState) {u : ℕ} → IsHistory p.table.config p.seen → is_undecided_free (call_of p) ≡ true
-    → (call_of p).p ≡ u → IsPointed p u
-pointed_now p {u} h free is =
+pub pointed_now : {p : PassState} {u : ℕ} → IsTurn p → is_undecided_free (call_of p) ≡ true → (call_of p).p ≡ u
+    → IsPointed p u
+pointed_now {p} {u} turn free is =
+    let h = turn.history in
     let caller = acting_caller p (free_is_acting (call_of p) free) in
-    let t = points_now p caller.number caller.is h free in
+    let t = points_now caller.number caller.is turn free in
     let cell : Cell = cell_of_allocation p.table.config (placed_at (world_of p).allocations t.number) in
     let pointed : pointed_cell p.table.config.pages (now_of p).words.pages u ≡ Some cell = grind arith in
     let by_header = pointed_by_header p u pointed in
@@ -194,13 +195,12 @@ pub record IsObjectAt (p : PassState) (r : ℕ) (cell : Cell) : Type 0 where
   pub unreleased : (placed_at (world_of p).allocations number).released ≡ false
   pub is : cell_of_allocation p.table.config (placed_at (world_of p).allocations number) ≡ cell
 
-pub object_at : {p : PassState} {r : ℕ} (u : ℕ) (cell : Cell) → IsHistory p.table.config p.seen
-    → IsFreeAt p r (loaded_free r u) → (u == 0) ≡ false
-    → target p.table.config.pages (now_of p).words (call_of p) ≡ Some cell → IsObjectAt p r cell
-object_at {p} {r} u cell h at some is =
+pub object_at : {p : PassState} {r : ℕ} (u : ℕ) (cell : Cell) → IsTurn p → IsFreeAt p r (loaded_free r u)
+    → (u == 0) ≡ false → target p.table.config.pages (now_of p).words (call_of p) ≡ Some cell → IsObjectAt p r cell
+object_at {p} {r} u cell turn at some is =
     let free = loaded_undecided u at some in
     let caller = acting_caller p (free_is_acting (call_of p) free) in
-    let t = points_now p caller.number caller.is h free in
+    let t = points_now caller.number caller.is turn free in
     let own : Cell = cell_of_allocation p.table.config (placed_at (world_of p).allocations t.number) in
     let there : Some own ≡ Some cell = grind (arith, target_of) in
     record {
@@ -214,7 +214,7 @@ object_at {p} {r} u cell h at some is =
       is = cc there;
     }
 
-module _ (p : PassState) (r : ℕ) (cell : Cell) (h : IsHistory p.table.config p.seen) (x : IsObjectAt p r cell) where
+module _ {p : PassState} {r : ℕ} {cell : Cell} (turn : IsTurn p) (x : IsObjectAt p r cell) where
   abbrev pub own : PlacedAllocation
   own = placed_at (world_of p).allocations x.number
 
@@ -222,19 +222,21 @@ module _ (p : PassState) (r : ℕ) (cell : Cell) (h : IsHistory p.table.config p
   object = object_placed p.table.config own
 
   others : ImagePremises p.table.config (world_of p)
-  others = told_to_images _ _ _ (known_world _ _ h.within_limits h.enabled) (histories_keep_the_invariant _ _ h)
+  others = told_to_images _ _ _ (known_world _ _ turn.history.within_limits turn.history.enabled)
+      (histories_keep_the_invariant _ _ turn.history)
 
   laid : IsLaidOut p.table.config (now_of p).words (now_of p).seats.holding.freed own
   laid = others.laid_out x.number x.unreleased
 
   sized : IsSized object
-  sized = typed_size p.table.config own h.within_limits laid.stands.typed
+  sized = typed_size p.table.config own turn.history.within_limits laid.stands.typed
 
   pub its_freed : IsOutOfStop (now_of p) → is_freed (now_of p).words cell ≡ own.freed
   its_freed low = grind (arith, freed_told, off_four)
 
   pub its_words : words_under (header_in (now_of p).words cell.page) ≡ storage_words p.table.config own
-  its_words = cc (x.is, (cells_begin p.table.config (now_of p).words own h.within_limits laid.stands laid.headers).1)
+  its_words =
+      cc (x.is, (cells_begin p.table.config (now_of p).words own turn.history.within_limits laid.stands laid.headers).1)
 
   part : ShowsPart object 0 (header_in (now_of p).words cell.page)
   part = grind (arith, object, first_page_shows, own, sized, laid)

@@ -8,8 +8,8 @@ use Rattle.mk_laws.proofs.Vocabulary.{subst, sym, true, true≢false, world_behi
 use Rattle.mk_laws.proofs.{Vocabulary.◌⊎◌, LastEvents.{comes_last, stands}, Actors.is_holders}
 use Rattle.mk_laws.proofs.{FramesHolders.acts_as_holder, Known.holds_turn, Orderly.same_holder, OrderlyLists.actor_of}
 use Rattle.mk_laws.proofs.{ProtocolFrames.{other_seat, others_leave}, Views.view_of}
-use Rattle.mk_objects.proofs.Vocabulary.{Does, FreesOnce, IsAsLeft, IsOverQuarter, PassState, WordsState, event_of}
-use Rattle.mk_objects.proofs.{Vocabulary.{now_of, turn_stays, world_of}, Reaching.MadeIn}
+use Rattle.mk_objects.proofs.Vocabulary.{Does, FreesOnce, IsAsLeft, IsOverQuarter, IsTurn, PassState, WordsState}
+use Rattle.mk_objects.proofs.{Vocabulary.{event_of, now_of, turn_stays, world_of}, Reaching.MadeIn}
 use Rattle.mk_core.specs.{Growing.{AreOfOthers, Finding, is_same_seat, own_from}, Allocations.unreleased_storage}
 use Rattle.mk_core.specs.Counts.{decides_freed}
 use Rattle.mk_objects.specs.{Dues.{FreesOnly, event_frees}, Retired.IsDueSince}
@@ -87,6 +87,9 @@ module _ (p : PassState) (kinds : Step → Bool) (stays : (x : Step) → kinds x
   abbrev seeing : List Event → PassState
   seeing es = record p { seats = p.seat ∷ []; seen = es }
 
+  own_here : Has (p.seat ∷ []) p.seat
+  own_here = ap (λ b. b || false) (same_self p.seat)
+
   holds_more : (es : List Event) {e : Event} → IsHistory c (es ++ e ∷ []) → Holds c (left c es).now p.seat
       → ComesBy p.seat kinds e → Holds c (left c (es ++ e ∷ [])).now p.seat
   unfolding AreOfOthers
@@ -99,14 +102,13 @@ module _ (p : PassState) (kinds : Step → Bool) (stays : (x : Step) → kinds x
       (still_turn (seeing es) e.step (seeing (es ++ event_of p e.step ∷ [])) (record {
         others = [];
         of_others = tt;
-        is =
-            ap (λ (xs : List Event). seeing (xs ++ event_of p e.step ∷ [])) (sym (append-nil es));
-        pass = record {
-          own = ap
-              (λ b. b || false) (same_self p.seat);
-          history = subst (λ (x : Event). IsHistory c (es ++ x ∷ [])) (sym it) h;
-        };
-      }) (stays e.step of_kind) (record { holds = holds })).holds
+        is = ap (λ (xs : List Event). seeing (xs ++ event_of p e.step ∷ [])) (sym (append-nil es));
+        pass = record { own = own_here; history = subst (λ (x : Event). IsHistory c (es ++ x ∷ [])) (sym it) h };
+      }) (stays e.step of_kind) (record {
+        own = own_here;
+        holds = holds;
+        history = earlier_part_is_history c es (e ∷ []) h;
+      })).holds
 
   comes_by : (e : Event) → (is_same_seat p.seat e.seat ≡ true → kinds e.step ≡ true) → ComesBy p.seat kinds e
   comes_by e of_kind = grind (arith, same_seat, false_from_ne_true, same_self, only_one, Own, Another)
@@ -129,17 +131,15 @@ module _ (p : PassState) (kinds : Step → Bool) (stays : (x : Step) → kinds x
       there))
 
   -- from what the pass had seen to what it has seen now
-  pub along_turn : {q : PassState} → Does kinds p q → IsHistory q.table.config q.seen → Holds c (now_of p) p.seat
-      → claim p.seen → claim q.seen
-  along_turn d h holds there = rw d.is (along p.seen d.more (rw d.is at h) holds d.of_kinds there)
+  pub along_turn : {q : PassState} → Does kinds p q → IsTurn p → IsTurn q → claim p.seen → claim q.seen
+  along_turn d turn behind there = rw d.is (along p.seen d.more (rw d.is at behind.history) turn.holds d.of_kinds there)
 
   -- and over events of others alone
   pub along_others : (others : List Event) → IsHistory c (p.seen ++ others) → Holds c (now_of p) p.seat
       → AreOfOthers (p.seat ∷ []) others → claim p.seen → claim (p.seen ++ others)
   along_others others h holds of_others there =
-      let own : Has (p.seat ∷ []) p.seat = ap (λ b. b || false) (same_self p.seat) in
       along p.seen others h holds (ap (λ (xs : List Finding). are_of kinds xs)
-      (none_own c (p.seat ∷ []) p.seat (left c p.seen) others own of_others)) there
+      (none_own c (p.seat ∷ []) p.seat (left c p.seen) others own_here of_others)) there
 
 abbrev pub is_quar : Step → Bool
 is_quar (Step.Quar p v) = true
@@ -207,11 +207,10 @@ none_kept c s kinds seen xs no_quar es e h holds comes only =
     kind x0 = grind (arith, others_free_none)
 
 none_frees : {kinds : Step → Bool} {p q : PassState} (xs : List PlacedAllocation) → FreesNot kinds → Does kinds p q
-    → IsHistory q.table.config q.seen → Holds p.table.config (now_of p) p.seat
-    → FreesOnly p.table.config p.seen xs q.seen
-none_frees {kinds} {p} xs not_one d h holds =
+    → IsTurn p → IsTurn q → FreesOnly p.table.config p.seen xs q.seen
+none_frees {kinds} {p} xs not_one d turn behind =
     along_turn p kinds (λ x kind. (and_parts _ _ (not_one x kind)).0) _ (none_kept _ _ kinds _ xs (λ x kind. not-true _
-    (and_parts _ _ (not_one x kind)).1)) d h holds (frees_at_once _ _ xs)
+    (and_parts _ _ (not_one x kind)).1)) d turn behind (frees_at_once _ _ xs)
 
 -- The `quar` frees once,
 
@@ -222,9 +221,9 @@ abbrev FreesAt : PassState → Step → Type 0
 FreesAt p x =
     (v : World) → IsAsLeft p.seat (world_of p) v → decides_freed p.table.config v.now (flight_of v.now p.seat) x ≡ true
 
-pub frees_now : {p q : PassState} {x : Step} → MadeIn p p.seen x q → IsHistory q.table.config q.seen
-    → Holds p.table.config (now_of p) p.seat → FreesAt p x → FreesOnce p q
-frees_now {p} {q} {x} m h holds frees =
+pub frees_now : {p q : PassState} {x : Step} → MadeIn p p.seen x q → IsHistory q.table.config q.seen → IsTurn p
+    → FreesAt p x → FreesOnce p q
+frees_now {p} {q} {x} m h turn frees =
     let c : Config = p.table.config in
     let e : Event = event_of p x in
     let es : List Event = p.seen ++ m.others in
@@ -234,7 +233,7 @@ frees_now {p} {q} {x} m h holds frees =
     let xs : List PlacedAllocation = (world_of q).allocations in
     let before : FreesOnly c p.seen xs es = along_others p none (λ y (no : none y ≡ true). absurd (true≢false (sym no)))
     (FreesOnly c p.seen xs) (none_kept c p.seat none p.seen xs (λ y (no : none y ≡ true). absurd (true≢false (sym no))))
-    m.others (earlier_part_is_history c es (e ∷ []) whole) holds m.of_others (frees_at_once c p.seen xs) in
+    m.others (earlier_part_is_history c es (e ∷ []) whole) turn.holds m.of_others (frees_at_once c p.seen xs) in
     record {
       before = m.others;
       event = e;
@@ -247,15 +246,15 @@ frees_now {p} {q} {x} m h holds frees =
 
 -- with a part of the turn before it,
 
-pub once_behind : {kinds : Step → Bool} {p q r : PassState} → FreesNot kinds → Does kinds p q
-    → IsHistory q.table.config q.seen → Holds p.table.config (now_of p) p.seat → FreesOnce q r → FreesOnce p r
-once_behind {p} {q} {r} not d h holds o =
+pub once_behind : {kinds : Step → Bool} {p q r : PassState} → FreesNot kinds → Does kinds p q → IsTurn p → IsTurn q
+    → FreesOnce q r → FreesOnce p r
+once_behind {p} {q} {r} not d turn behind o =
     let c : Config = p.table.config in
     let xs : List PlacedAllocation = (world_of r).allocations in
     let more : List Event = d.more in
     let there : FreesOnce (record p { seen = p.seen ++ more }) r = subst (λ (x : PassState). FreesOnce x r) d.is o in
     let first : FreesOnly c p.seen xs (p.seen ++ more) = subst (λ (l : List Event). FreesOnly c p.seen xs l)
-    (ap (λ (x : PassState). x.seen) d.is) (none_frees xs not d h holds) in
+    (ap (λ (x : PassState). x.seen) d.is) (none_frees xs not d turn behind) in
     let rest : List Event = there.before ++ there.event ∷ there.behind in
     let parts : (p.seen ++ more) ++ rest ≡ r.seen = grind (arith, append_assoc) in
     let joined : p.seen ++ (more ++ there.before) ≡ p.seen ++ more ++ there.before = grind (arith, append_assoc) in
@@ -272,15 +271,14 @@ once_behind {p} {q} {r} not d h holds o =
 
 -- and with one after it, which leaves the allocations.
 pub once_before : {kinds : Step → Bool} {p q r : PassState} → FreesNot kinds → FreesOnce p q → p.table ≡ q.table
-    → Does kinds q r → IsHistory r.table.config r.seen → Holds q.table.config (now_of q) q.seat
-    → (world_of r).allocations ≡ (world_of q).allocations → FreesOnce p r
-once_before {p} {q} {r} not o table d h holds same =
+    → Does kinds q r → IsTurn q → IsTurn r → (world_of r).allocations ≡ (world_of q).allocations → FreesOnce p r
+once_before {p} {q} {r} not o table d turn behind same =
     let c : Config = p.table.config in
     let xs : List PlacedAllocation = (world_of r).allocations in
     let seen : r.seen ≡ q.seen ++ d.more = ap (λ (x : PassState). x.seen) d.is in
     let was : q.seen ≡ p.seen ++ (o.before ++ o.event ∷ o.behind) = grind (arith, append_assoc) in
     let second : FreesOnly c q.seen xs r.seen =
-    subst (λ (t : WordsState). FreesOnly t.config q.seen xs r.seen) (sym table) (none_frees xs not d h holds) in
+    subst (λ (t : WordsState). FreesOnly t.config q.seen xs r.seen) (sym table) (none_frees xs not d turn behind) in
     record {
       before = o.before;
       event = o.event;
@@ -312,8 +310,8 @@ no_quarter : (c : Config) → IsOverQuarter c [] → ⊥
 unfolding unreleased_storage
 no_quarter c q = absurd (omega arith)
 
-pub none_due : {kinds : Step → Bool} {p q : PassState} → FreesNot kinds → Does kinds p q
-    → IsHistory q.table.config q.seen → Holds p.table.config (now_of p) p.seat → IsDueSince p q → ⊥
-none_due {p} not d h holds x =
-    let free = none_frees [] not d h holds x.before x.event x.behind x.is x.due.decides in
+pub none_due : {kinds : Step → Bool} {p q : PassState} → FreesNot kinds → Does kinds p q → IsTurn p → IsTurn q
+    → IsDueSince p q → ⊥
+none_due {p} not d turn behind x =
+    let free = none_frees [] not d turn behind x.before x.event x.behind x.is x.due.decides in
     no_quarter _ (subst (λ (xs : List PlacedAllocation). IsOverQuarter p.table.config xs) free x.due.quarter)

@@ -99,8 +99,8 @@ pub looks_nothing : (p : PassState) → OnlyLooks p p
 looks_nothing p = reaches_nothing is_look p (IsAsLeft p.seat (world_of p)) (left_same p.seat (world_of p))
 
 -- after looks all is as it was
-pub looks_left : (p q : PassState) → OnlyLooks p q → IsAsLeft p.seat (world_of p) (world_of q)
-looks_left p q a = subst (λ (x : PassState). IsAsLeft p.seat (world_of p) (world_of x)) (sym a.same) a.world
+pub looks_left : {p q : PassState} → OnlyLooks p q → IsAsLeft p.seat (world_of p) (world_of q)
+looks_left {p} a = subst (λ (x : PassState). IsAsLeft p.seat (world_of p) (world_of x)) (sym a.same) a.world
 
 pub looks_call : {p q : PassState} → OnlyLooks p q → call_of q ≡ call_of p
 looks_call a = ap (λ (x : PassState). call_of x) a.same ∙ a.world.call
@@ -124,9 +124,9 @@ granted_behind_looks {p} {place = place} a b =
     Answer.Done a (ap (λ (f : Flight). f.op) a.world.call) b (λ v a b. granted_over a b)
 
 -- Looks leave a New unplaced, and the tally as it is.
-pub looks_unplaced : {p : PassState} (q : PassState) → OnlyLooks p q → IsUnplaced p → IsUnplaced q
-looks_unplaced {p} q a u =
-    let kept = looks_left p q a in
+pub looks_unplaced : {p q : PassState} → OnlyLooks p q → IsUnplaced p → IsUnplaced q
+looks_unplaced {p} {q} a u =
+    let kept = looks_left a in
     record {
       new = ap (λ (f : Flight). is_undecided_new f) (looks_call a) ∙ u.new;
       placing = ap (λ (h : Holding). h.placing) kept.holding ∙ u.placing;
@@ -139,11 +139,11 @@ looks_unplaced {p} q a u =
 pub looks_exact : {p q : PassState} → OnlyLooks p q → HeldIsExact p → HeldIsExact q
 looks_exact a exact = grind (arith, looks_left, looks_table)
 
-pub looks_object : (p q : PassState) → OnlyLooks p q → object_for q ≡ object_for p
-looks_object p q a = cc (looks_table a, looks_call a)
+pub looks_object : {p q : PassState} → OnlyLooks p q → object_for q ≡ object_for p
+looks_object a = cc (looks_table a, looks_call a)
 
 pub looks_pages : {p q : PassState} → OnlyLooks p q → (now_of q).words.pages ≡ (now_of p).words.pages
-looks_pages {p} {q} a = ap (λ (x : Steady). x.pages) (looks_left p q a).steady
+looks_pages a = ap (λ (x : Steady). x.pages) (looks_left a).steady
 
 -- the first fit on the pages is where an unplaced New goes
 pub goes_to : {p : PassState} (place : Place) → IsUnplaced p → place_on_pages p.table.config.resident

@@ -1,11 +1,11 @@
 -- A large object is freed and counted, while all others are stopped.
-use Rattle.mk_laws.proofs.Vocabulary.{Bool, Cell, Header, Holds, IsHistory, None, Option, RunPages, Some, Steady, Tally}
-use Rattle.mk_laws.proofs.Vocabulary.{ℕ, ap, arith, false, freed_where_it_stands, fresh_words_of, header_in, heads_run}
-use Rattle.mk_laws.proofs.Vocabulary.{if◌then◌else◌, in_a_word, is_held, map, run_headed, subst, sym, true, words_under}
-use Rattle.mk_laws.proofs.Vocabulary.{◌*◌, ◌+◌, ◌<◌, ◌^◌, ◌↔◌, ◌∙◌, ◌≡◌}
-use Rattle.mk_objects.proofs.Vocabulary.{Changes, FreesCell, FreesOnce, HasFreed, IsFreedAt, IsTrue, MayFree, OnlyLooks}
-use Rattle.mk_objects.proofs.Vocabulary.{PassState, SetsTally, StaysSo, held_by_allocations, is_following, now_of}
-use Rattle.mk_objects.proofs.{Vocabulary.{with_tally, world_of}, ClearedRuns.{IsGoneIn, still_gone}}
+use Rattle.mk_laws.proofs.Vocabulary.{Bool, Cell, Header, None, Option, RunPages, Some, Steady, Tally, ℕ, ap, arith}
+use Rattle.mk_laws.proofs.Vocabulary.{false, freed_where_it_stands, fresh_words_of, header_in, heads_run, if◌then◌else◌}
+use Rattle.mk_laws.proofs.Vocabulary.{in_a_word, is_held, map, run_headed, subst, sym, true, words_under, ◌*◌, ◌+◌, ◌<◌}
+use Rattle.mk_laws.proofs.Vocabulary.{◌^◌, ◌↔◌, ◌∙◌, ◌≡◌}
+use Rattle.mk_objects.proofs.Vocabulary.{Changes, FreesCell, FreesOnce, HasFreed, IsFreedAt, IsTrue, IsTurn, MayFree}
+use Rattle.mk_objects.proofs.Vocabulary.{OnlyLooks, PassState, SetsTally, StaysSo, held_by_allocations, is_following}
+use Rattle.mk_objects.proofs.{Vocabulary.{now_of, with_tally, world_of}, ClearedRuns.{IsGoneIn, still_gone}}
 use Rattle.mk_objects.proofs.DecidedFrees.{Stays, held_stays, stays_now, stays_then}
 use Rattle.mk_objects.proofs.FreedObjects.{HasRun, IsObjectAt, its_freed, its_run, large_held, object_at, own}
 use Rattle.mk_objects.proofs.SmallFrees.{freed_now, frees_counted, fresh_told_by, tally_between}
@@ -25,25 +25,25 @@ same_count page n count is = grind arith
 pub heads_none : (x : Option Header) (page : ℕ) → run_headed x page ≡ None → heads_run x ≡ false
 heads_none x0 page is = grind arith
 
-module _ {p : PassState} {reg u : ℕ} {cell : Cell} (count : ℕ) (may : MayFree p reg u cell)
-    (before : IsHistory p.table.config p.seen) (run : run_headed (header_in (now_of p).words cell.page) cell.page
+module _ {p : PassState} {reg u : ℕ} {cell : Cell} (count : ℕ) (may : MayFree p reg u cell) (turn : IsTurn p)
+    (run : run_headed (header_in (now_of p).words cell.page) cell.page
     ≡ Some (record { page = cell.page; count = count })) where
   abbrev pub object : IsObjectAt p reg cell
-  object = object_at u cell before may.free may.some may.target
+  object = object_at u cell turn may.free may.some may.target
 
   heads : HeadsRun (header_in (now_of p).words cell.page) count
   heads = grind (arith, same_count)
 
-  live : (own p reg cell before object).freed ≡ false
-  live = sym (its_freed p reg cell before object may.phase) ∙ may.live
+  live : (own turn object).freed ≡ false
+  live = sym (its_freed turn object may.phase) ∙ may.live
 
-  pub run_is : HasRun p reg cell before object count
-  run_is = its_run p reg cell before object count heads.heads live (sym heads.words)
+  pub run_is : HasRun turn object count
+  run_is = its_run turn object count heads.heads live (sym heads.words)
 
   pub held_then : held_by_allocations p.table.config (map (freed_where_it_stands (now_of p).words (Some cell))
       (world_of p).allocations) + 64 * count ≡ (now_of p).words.held
   held_then =
-      let sum = large_held p reg cell before object heads.heads live in
+      let sum = large_held turn object heads.heads live in
       let words = heads.words in
       let exact = may.exact.held in
       omega arith
@@ -75,16 +75,15 @@ module _ {p : PassState} {reg u : ℕ} {cell : Cell} (count : ℕ) (may : MayFre
       none_held_now : (j : ℕ) → j < p.table.config.callers → is_held (now_of r).words j ≡ false
       none_held_now j lt = grind (arith, changed, reached_table)
 
-      module _ (due : Bool) {fresh : ℕ} (once : FreesOnce p q) (holds : Holds q.table.config (now_of q) q.seat)
-          (holds_then : Holds a.table.config (now_of a) a.seat)
-          (behind : IsHistory r.table.config r.seen) (is : n + 64 * count ≡ (now_of p).words.held)
+      module _ (due : Bool) {fresh : ℕ} (once : FreesOnce p q) (behind : IsTurn q) (cleared : IsTurn a)
+          (last : IsTurn r) (is : n + 64 * count ≡ (now_of p).words.held)
           (found : fresh ≡ (now_of r).words.fresh) (fits : n < 2 ^ 64) (is_due : IsTrue due ↔ (n < 4 * fresh)) where
         held_exact : n ≡ held_by_allocations p.table.config (world_of r).allocations
         held_exact = grind (arith, held_then, stays, now)
 
         fresh_exact : (now_of r).words.fresh ≡ in_a_word (fresh_words_of p.table.config (world_of r).allocations)
         fresh_exact =
-            let told = fresh_told_by p r cell before behind (sym (reached_table freed) ∙ sym (reached_table follows))
+            let told = fresh_told_by cell turn last (sym (reached_table freed) ∙ sym (reached_table follows))
             may.exact (stays.fresh_words ∙ now.fresh) in
             let none = ap (λ b. if b then 0 else words_under (header_in (now_of p).words cell.page)) heads.heads in
             let was : (now_of r).words.fresh ≡ (now_of p).words.fresh =
@@ -94,6 +93,6 @@ module _ {p : PassState} {reg u : ℕ} {cell : Cell} (count : ℕ) (may : MayFre
 
         pub frees_large : FreesCell p cell due r
         frees_large =
-            frees_counted due freed follows once holds behind (subst (λ (x : PassState). IsGoneIn (world_of x))
-            (sym sets.same) (still_gone sets.does behind holds_then clears.gone)) none_held_now
+            frees_counted due freed follows once behind last (subst (λ (x : PassState). IsGoneIn (world_of x))
+            (sym sets.same) (still_gone sets.does cleared last clears.gone)) none_held_now
             (sym (ap (λ (x : Steady). x.held) changed.steady)) found held_exact (found ∙ fresh_exact) fits is_due

@@ -59,9 +59,9 @@ registers_kept {c} es others k x whole of_others none r lt =
     cc (same, (admitted_others_leave c es others (Caller k) before of_others).registers k r refl lt)
 
 -- Any step of a Free is admitted.
-pub free_step_admits : {p : PassState} {r : ℕ} (x : Step) {f : Flight} → IsCallers p → Holds p.table.config
-    (now_of p) p.seat → IsHistory p.table.config p.seen → IsFreeAt p r f → f.op ≡ Op.Free r → IsAdmittedTo p x
-free_step_admits x caller holds h u is = grind (arith, asked_more, admitted_join, free_call)
+pub free_step_admits : {p : PassState} {r : ℕ} (x : Step) {f : Flight} → IsCallers p → IsTurn p → IsFreeAt p r f
+    → f.op ≡ Op.Free r → IsAdmittedTo p x
+free_step_admits x caller turn u is = grind (arith, asked_more, admitted_join, free_call)
 
 -- Its register keeps its value over a step that decides nothing.
 pub value_kept : {p q : PassState} (r : ℕ) {x : Step} → IsCallers p → r < 8 → Acts p x q
@@ -104,8 +104,8 @@ module _ {p : PassState} {r : ℕ} (u : IsUnloaded p r) where
   load_may turn = grind (arith, loader, loading, loads_within, meets_enabled, lt-ltb)
 
   -- whether it decides the Free or not
-  pub load_admits : IsTurn p → IsHistory p.table.config p.seen → IsAdmittedTo p Step.Reg
-  load_admits turn h = free_step_admits Step.Reg loader turn.holds h u refl
+  pub load_admits : IsTurn p → IsAdmittedTo p Step.Reg
+  load_admits turn = free_step_admits Step.Reg loader turn u refl
 
   pub load_meets : r ≡ register_met (call_of p) (call_of p).stage
   load_meets = sym (ap (λ (f : Flight). register_met f f.stage) u.call)
@@ -206,6 +206,6 @@ null_at {c} {es} k r h small call base zero =
     (register_word (left c es).now.words k r) ≡ 0 = grind arith in
     null_by (bases_of (left c es).allocations) _ base (sym (images.registers (8 * k + r)) ∙ here)
 
-pub load_null : {p : PassState} {r n : ℕ} → IsHistory p.table.config p.seen → IsUnloaded p r → n ≡ register_of p r
-    → (n == 0) ≡ true → value_of p r ≡ Null
-load_null h u is none = grind (arith, unloaded_caller, eqb-true, null_at)
+pub load_null : {p : PassState} {r n : ℕ} → IsTurn p → IsUnloaded p r → n ≡ register_of p r → (n == 0) ≡ true
+    → value_of p r ≡ Null
+load_null turn u is none = grind (arith, unloaded_caller, eqb-true, null_at)

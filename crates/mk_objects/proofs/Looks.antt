@@ -57,7 +57,7 @@ look_reaches {p} turn acts plain a =
     plain) (looks_on p (acting_now turn acts) plain)
 
 -- What it finds is what the word is for the holder.
-module _ (p q : PassState) (x : Word) (n : ℕ) (turn : IsTurn p) (f : Finds p (Step.Look x) n q) where
+module _ {p q : PassState} {x : Word} {n : ℕ} (turn : IsTurn p) (f : Finds p (Step.Look x) n q) where
   same : steady_of (left p.table.config (p.seen ++ f.makes.others)) ≡ steady_of (world_of p)
   same = (((made p (Step.Look x) q f.makes).frame.turn turn.holds).0).steady
 
@@ -69,12 +69,10 @@ module _ (p q : PassState) (x : Word) (n : ℕ) (turn : IsTurn p) (f : Finds p (
 
 pub found_phase : {p q : PassState} {n : ℕ} → IsTurn p → Finds p (Step.Look Word.Phase) n q
     → n % 8 ≡ phase_of (now_of p).words
-found_phase {p} {q} turn f =
-    ap (λ i. i % 8) f.finds ∙ ap (λ (t : Steady). t.phase)
-    (((made p (Step.Look Word.Phase) q f.makes).frame.turn turn.holds).0).steady
+found_phase turn f = ap (λ i. i % 8) f.finds ∙ ap (λ (t : Steady). t.phase) (same turn f)
 
 pub found_quarantine : {p q : PassState} {page n : ℕ} → IsTurn p
     → Finds p (Step.Look (Word.Quar page)) n q → n ≡ named_word (now_of p).words (Word.Quar page)
-found_quarantine {p} {q} {page} turn f =
-    let same = (((made p (Step.Look (Word.Quar page)) q f.makes).frame.turn turn.holds).0).steady in
-    f.finds ∙ ap (λ (t : Steady). quarantine_word (slice_index t.freed page) (slice_index t.snapshot page)) same
+found_quarantine {page} turn f =
+    f.finds
+    ∙ ap (λ (t : Steady). quarantine_word (slice_index t.freed page) (slice_index t.snapshot page)) (same turn f)

@@ -1,8 +1,7 @@
 -- What is asked of a New, and where it goes, by what its turn says.
-use Rattle.mk_laws.proofs.Vocabulary.{IsHistory, List, Op, Option, Page, Place, Some, Steady, Step, ℕ, and_parts}
-use Rattle.mk_laws.proofs.Vocabulary.{and_right, ap, arith, eqb-true, false, free_page, header_at, length, not}
-use Rattle.mk_laws.proofs.Vocabulary.{object_made, phase_of, place_on_pages, refl, slice_index_or, true, uses_of_pages}
-use Rattle.mk_laws.proofs.Vocabulary.{◌<◌, ◌==◌, ◌∙◌, ◌≡◌}
+use Rattle.mk_laws.proofs.Vocabulary.{List, Op, Option, Page, Place, Some, Steady, Step, ℕ, and_parts, and_right, ap}
+use Rattle.mk_laws.proofs.Vocabulary.{arith, eqb-true, false, free_page, header_at, length, not, object_made, phase_of}
+use Rattle.mk_laws.proofs.Vocabulary.{place_on_pages, refl, slice_index_or, true, uses_of_pages, ◌<◌, ◌==◌, ◌∙◌, ◌≡◌}
 use Rattle.mk_objects.proofs.Vocabulary.{Acts, GoesTo, HasCarved, IsTurn, IsUnplaced, MayTake, OnlyLooks, PassState}
 use Rattle.mk_objects.proofs.Vocabulary.{WordsState, bits_made, call_of, is_look, known_left, now_of, object_for}
 use Rattle.mk_geom.specs.PageUses.{place_on_uses}
@@ -53,9 +52,9 @@ serving_sweeps {p} {q} {r} {s} {t} {x} {y} {z} ready before a b d first second t
     (step_then_sweeps r s t y b.makes second (other_step_sweeps s t z d.makes third)))
 
 -- The type that is asked for exists,
-pub type_asked : (p : PassState) {w : WordsState} {o : Op} → p.table ≡ w → IsHistory p.table.config p.seen
-    → (call_of p).op ≡ o → has_type w.config o ≡ true
-type_asked p table h is = grind (arith, seat_operands, known_left, and_parts)
+pub type_asked : {p : PassState} {w : WordsState} {o : Op} → p.table ≡ w → IsTurn p → (call_of p).op ≡ o
+    → has_type w.config o ≡ true
+type_asked table turn is = grind (arith, seat_operands, known_left, and_parts)
 
 -- and its shape is that of the object.
 pub shape_asked : (p : PassState) {w : WordsState} {o : Op} (shape : Shape) → p.table ≡ w → (call_of p).op ≡ o
@@ -75,14 +74,14 @@ pub goes_behind : {p q : PassState} (place : Place) → OnlyLooks p q → IsUnpl
 goes_behind place a u fit = grind (arith, goes_to, looks_unplaced, looks_table, looks_pages, looks_object)
 
 -- and the place among the allocations.
-pub place_found : {p : PassState} {found : Option Place} → IsTurn p → IsHistory p.table.config p.seen → IsUnplaced p
+pub place_found : {p : PassState} {found : Option Place} → IsTurn p → IsUnplaced p
     → place_on_pages p.table.config.resident (now_of p).words.pages (object_for p) ≡ found → place_now_for p ≡ found
-place_found turn h u fit =
+place_found turn u fit =
     grind (arith, new_is_acting, first_fit_finds_the_place, unplaced_settled, acting_now, acting_caller)
 
-pub fit_within : {p : PassState} (place : Place) → IsTurn p → IsHistory p.table.config p.seen
-    → IsUnplaced p → place_on_pages p.table.config.resident (now_of p).words.pages (object_for p) ≡ Some place
+pub fit_within : {p : PassState} (place : Place) → IsTurn p → IsUnplaced p
+    → place_on_pages p.table.config.resident (now_of p).words.pages (object_for p) ≡ Some place
     → place.page < length (now_of p).words.pages
-fit_within place turn h u fit =
-    let k = knows_place turn h (goes_to place u fit) in
+fit_within place turn u fit =
+    let k = knows_place turn (goes_to place u fit) in
     omega arith

@@ -2,9 +2,9 @@
 use Rattle.std.proofs.lemmas.List.Sums.{sum_by_push}
 use Rattle.mk_laws.proofs.Vocabulary.{Answer, AreOfOthers, AreOfPages, Bool, Caller, Config, Decided, Event, List, None}
 use Rattle.mk_laws.proofs.Vocabulary.{Option, Seat, Step, World, ℕ, answer_decided, ap, append-nil, append_assoc, arith}
-use Rattle.mk_laws.proofs.Vocabulary.{call_decided, caller_number, calls, ends, entry_of, eq-eqb, false, first_world}
+use Rattle.mk_laws.proofs.Vocabulary.{call_decided, caller_number, calls, entry_of, eq-eqb, false, first_world}
 use Rattle.mk_laws.proofs.Vocabulary.{flight_of, histories_keep_lengths, is_end, left, ne_eqb, refl, subst, sym, true}
-use Rattle.mk_laws.proofs.Vocabulary.{world_behind, [], ◌++◌, ◌+◌, ◌==◌, ◌∙◌, ◌∷◌, ◌≡◌, ◌≢◌}
+use Rattle.mk_laws.proofs.Vocabulary.{world_behind, [], ◌++◌, ◌==◌, ◌∙◌, ◌∷◌, ◌≡◌, ◌≢◌}
 use Rattle.mk_objects.proofs.Vocabulary.{Acts, ComesTo, Does, IsAsLeft, Known, PassState, answers_full, calls_more}
 use Rattle.mk_objects.proofs.Vocabulary.{decides_nothing, does_then, event_of, own_calls, world_of}
 use Rattle.mk_core.specs.Frames.{CountsAreLeft, HoldsAll, written_of}

@@ -1,12 +1,11 @@
 -- A Free's whole turn: its register was null, or its object was freed, or found freed.
-use Rattle.mk_laws.proofs.Vocabulary.{Answer, Bool, Cell, Flight, Holds, IsHistory, List, Null, PlacedAllocation, Ptr}
-use Rattle.mk_laws.proofs.Vocabulary.{Seat, Some, Stage, Steady, Step, Value, World, ℕ, allocation_at, ap, arith, false}
-use Rattle.mk_laws.proofs.Vocabulary.{flight_of, freed_where_it_stands, has_bit, if◌then◌else◌, is_freed, is_held}
-use Rattle.mk_laws.proofs.Vocabulary.{is_run_gone, length, map, never_behind, nothing_done, quarantine_word, refl}
-use Rattle.mk_laws.proofs.Vocabulary.{slice_index, subst, sym, target, true, true≢false, [], ◌%◌, ◌<◌, ◌==◌, ◌^◌, ◌∙◌}
-use Rattle.mk_laws.proofs.Vocabulary.{◌≡◌}
-use Rattle.mk_objects.proofs.Vocabulary.{CallIsAt, ComesTo, FreesCell, IsAsLeft, IsBase, IsFreeAt, IsOutOfStop, MayFree}
-use Rattle.mk_objects.proofs.Vocabulary.{OnlyLooks, PassState, WordsState, all_below_from, call_of, entry_for}
+use Rattle.mk_laws.proofs.Vocabulary.{Answer, Bool, Cell, Flight, List, Null, PlacedAllocation, Ptr, Seat, Some, Stage}
+use Rattle.mk_laws.proofs.Vocabulary.{Steady, Step, Value, World, ℕ, allocation_at, ap, arith, false, flight_of}
+use Rattle.mk_laws.proofs.Vocabulary.{freed_where_it_stands, has_bit, if◌then◌else◌, is_freed, is_held, is_run_gone}
+use Rattle.mk_laws.proofs.Vocabulary.{length, map, never_behind, nothing_done, quarantine_word, refl, slice_index}
+use Rattle.mk_laws.proofs.Vocabulary.{subst, sym, target, true, true≢false, [], ◌%◌, ◌<◌, ◌==◌, ◌^◌, ◌∙◌, ◌≡◌}
+use Rattle.mk_objects.proofs.Vocabulary.{CallIsAt, ComesTo, FreesCell, IsAsLeft, IsBase, IsFreeAt, IsOutOfStop, IsTurn}
+use Rattle.mk_objects.proofs.Vocabulary.{MayFree, OnlyLooks, PassState, WordsState, all_below_from, call_of, entry_for}
 use Rattle.mk_objects.proofs.Vocabulary.{histories_keep_the_invariant, is_freeing, is_loading, loaded_free}
 use Rattle.mk_objects.proofs.Vocabulary.{none_is_held, now_of, value_of, world_of}
 use Rattle.mk_objects.proofs.{DecidedFrees.{Decides, decided_behind, still_open}, FreeSteps.{freed_same, low_half}}
@@ -101,9 +100,8 @@ module _ {kinds : Step → Bool} {p q : PassState} {f : Flight} (a : Answer)
 -- The register was null.
 pub retires_null : {p q : PassState} {r u : ℕ} → IsUnloaded p r → HasLoaded p r u q → (u == 0) ≡ true → value_of p r
     ≡ Null → (now_of p).seats.holding ≡ nothing_done → none_is_held p.table.config.callers (now_of p).words ≡ true
-    → TalliesAreExact p.table.config p.seen → IsHistory q.table.config q.seen → Holds p.table.config (now_of p) p.seat
-    → Retires p r false q
-retires_null {p} {q} {r} {u} unloaded loaded none null nothing gates exact h holds =
+    → TalliesAreExact p.table.config p.seen → IsTurn p → IsTurn q → Retires p r false q
+retires_null {p} {q} {r} {u} unloaded loaded none null nothing gates exact turn behind =
     let f : Flight = loaded_free r u in
     let named : ComesTo is_freeing p (CallIsAt p.seat f (world_of p)) (entry_for p Answer.Done) q = reaches_wider
     (λ x h. grind arith) (reaches_named (ap (λ (b : Bool). if b then entry_for p Answer.Done else []) none) loaded) in
@@ -114,22 +112,21 @@ retires_null {p} {q} {r} {u} unloaded loaded none null nothing gates exact h hol
       unfreed = λ freed. subst (λ (v : Value). IsFreed (never_behind p.table.config p.seen) v) null freed;
       allocations = cc (same_allocations Answer.Done named give same nothing gates exact, null);
       is_due = λ yes_due. absurd (true≢false (sym yes_due));
-      not_due = λ is due. none_due (λ x h. grind arith) loaded.does h holds due;
+      not_due = λ is due. none_due (λ x h. grind arith) loaded.does turn behind due;
     }
 
 -- The freed bit of the word that was found is that of the cell.
-pub freed_by_word : (p : PassState) (cell : Cell) {quar : ℕ} → IsHistory p.table.config p.seen → quar
+pub freed_by_word : {p : PassState} (cell : Cell) {quar : ℕ} → IsTurn p → quar
     ≡ quarantine_word (slice_index (now_of p).words.freed cell.page) (slice_index (now_of p).words.snapshot cell.page)
     → has_bit (quar % 2 ^ 32) cell.index ≡ is_freed (now_of p).words cell
-freed_by_word p cell h is =
-    let small = (histories_keep_the_invariant p.table.config p.seen h).order.quarantined.small cell.page in
+freed_by_word {p} cell turn is =
+    let small = (histories_keep_the_invariant p.table.config p.seen turn.history).order.quarantined.small cell.page in
     ap (λ n. has_bit (n % 2 ^ 32) cell.index) is ∙ ap (λ n. has_bit n cell.index)
     (low_half (slice_index (now_of p).words.freed cell.page) (slice_index (now_of p).words.snapshot cell.page) small.0)
 
 -- The object is freed in the heap that never reuses storage exactly where its bit is set.
-module _ (p q : PassState) (r : ℕ) (f : Flight) (cell : Cell) (come : Comes p f q)
-    (hp : IsHistory p.table.config p.seen) (hq : IsHistory q.table.config q.seen) (x : IsObjectAt q r cell)
-    (keeps : value_of q r ≡ value_of p r) (low : IsOutOfStop (now_of p)) where
+module _ {p q : PassState} {r : ℕ} {f : Flight} {cell : Cell} (come : Comes p f q) (turn : IsTurn p) (behind : IsTurn q)
+    (x : IsObjectAt q r cell) (keeps : value_of q r ≡ value_of p r) (low : IsOutOfStop (now_of p)) where
   same_list : (world_of q).allocations ≡ (world_of p).allocations
   same_list = ap (λ (y : Steady). y.allocations) (come_now come).steady
 
@@ -140,11 +137,11 @@ module _ (p q : PassState) (r : ℕ) (f : Flight) (cell : Cell) (come : Comes p 
   pointed = sym keeps ∙ x.value
 
   within : x.number < length (world_of p).allocations
-  within = subst (λ (xs : List PlacedAllocation). x.number < length xs) same_list (granted q r cell hq x)
+  within = subst (λ (xs : List PlacedAllocation). x.number < length xs) same_list (granted behind x)
 
   pub never_freed : is_freed (now_of q).words cell ≡ (allocation_at (never_behind p.table.config p.seen) x.number).freed
-  never_freed = its_freed q r cell hq x low_there ∙
-      (cc (same_list, (histories_keep_the_invariant p.table.config p.seen hp).mirrors.twins.freed x.number within))
+  never_freed = its_freed behind x low_there ∙
+      (cc (same_list, (histories_keep_the_invariant _ _ turn.history).mirrors.twins.freed x.number within))
 
   pub is_never_freed : is_freed (now_of q).words cell ≡ true
       → IsFreed (never_behind p.table.config p.seen) (value_of p r)
@@ -159,7 +156,7 @@ module _ (p q : PassState) (r : ℕ) (f : Flight) (cell : Cell) (come : Comes p 
 
   pub with_it_freed : map (freed_where_it_stands (now_of q).words (Some cell)) (world_of q).allocations
       ≡ with_freed_object (value_of p r) (world_of p).allocations
-  with_it_freed = cc (it_is_freed q r cell hq x, same_list, pointed)
+  with_it_freed = cc (it_is_freed behind x, same_list, pointed)
 
 -- It was freed already.
 pub finds_freed : {p q s : PassState} {r : ℕ} (u : ℕ) (cell : Cell) → IsUnloaded p r → Comes p (loaded_free r u) q
@@ -198,8 +195,7 @@ found_so {l} {q} cell loaded some keeps looks still at within index =
       come = comes_looking (comes_loaded loaded some) looks;
       keeps = still ∙ keeps;
       some = some;
-      at = target_stays l q cell table (looks_call looks)
-          (ap (λ (x : Steady). x.pages) (looks_left l q looks).steady) at;
+      at = target_stays l q cell table (looks_call looks) (ap (λ (x : Steady). x.pages) (looks_left looks).steady) at;
       within = subst (λ (t : WordsState). cell.page < t.config.pages) table within;
       index = index;
     }
@@ -212,8 +208,8 @@ module _ {p q : PassState} {r u : ℕ} {cell : Cell} (unloaded : IsUnloaded p r)
     base = subst (λ (v : Value). IsBase v) (sym x.keeps) unloaded.base;
   }
 
-  abbrev pub object_found : IsHistory q.table.config q.seen → IsObjectAt q r cell
-  object_found h = object_at u cell h free x.some x.at
+  abbrev pub object_found : IsTurn q → IsObjectAt q r cell
+  object_found turn = object_at u cell turn free x.some x.at
 
   -- what is asked before the `quar`
   pub may_free : {s : PassState} → HasSeen q cell s → value_of s r ≡ value_of q r → is_freed (now_of q).words cell
@@ -243,22 +239,21 @@ none_held_there {p} {q} come none = still_open p q (come_table come) (come_now c
 -- Its object was freed.
 pub retires : {p q t : PassState} {r u : ℕ} {cell : Cell} {due : Bool} → IsUnloaded p r → Comes p (loaded_free r u) q
     → MayFree q r u cell → value_of q r ≡ value_of p r → IsOutOfStop (now_of p) → FreesCell q cell due t
-    → IsHistory p.table.config p.seen → IsHistory q.table.config q.seen → Holds p.table.config (now_of p) p.seat
-    → Retires p r due t
-retires {p} {q} {t} {r} {u} {cell} {due} unloaded come may keeps low f before h holds =
+    → IsTurn p → IsTurn q → Retires p r due t
+retires {p} {q} {t} {r} {u} {cell} {due} unloaded come may keeps low f turn behind =
     let g : Flight = loaded_free r u in
-    let object : IsObjectAt q r cell = object_at u cell h may.free may.some may.target in
+    let object : IsObjectAt q r cell = object_at u cell behind may.free may.some may.target in
     let same : g.op ≡ (call_of p).op = sym (ap (λ (x : Flight). x.op) unloaded.call) in
     let table = come_table come in
     let d : Decides is_freeing p Answer.Done t = reaches_answered (λ x h. grind arith) (λ x h. h) (λ x. IsDecidedAt
     x.seat (world_of x)) Answer.Done come (ap (λ (x : Flight). x.op) come.world.call ∙ same) f.reaches (λ v a
     b. decided_behind (world_of p) (ap (λ (x : Flight). x.op) a.call ∙ same) a.holding (ap counted a.steady) b) in
-    let once = once_behind (λ x h. grind arith) come.does h holds f.once in
+    let once = once_behind (λ x h. grind arith) come.does turn behind f.once in
     let exactly = rw (← table) at f.exactly in
     record {
       decides = decides_free d f.gone (rw (← table) at f.gates) f.exact;
-      unfreed = not_never_freed p q r g cell come before h object keeps low may.live;
-      allocations = f.allocations ∙ with_it_freed p q r g cell come before h object keeps low;
+      unfreed = not_never_freed come turn behind object keeps low may.live;
+      allocations = f.allocations ∙ with_it_freed come turn behind object keeps low;
       is_due = λ is. due_since once (exactly.0 is);
       not_due = λ is since. true≢false (sym (exactly.1 (due_then once since)) ∙ is);
     }

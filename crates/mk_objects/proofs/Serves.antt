@@ -41,10 +41,10 @@ within_of : (limit : ℕ) (pages : List Page) {o : Object} (place : Place) {n : 
     → FitsOnFreePages limit pages o place ⊎ FitsInBlock pages o place → place.page < n
 within_of limit pages place sized len x5 = grind (arith, pages_some)
 
-pub knows_place : {p : PassState} {place : Place} → IsTurn p → IsHistory p.table.config p.seen
-    → GoesTo p place → KnowsPlace p place
-knows_place {p} {place} turn h goes =
+pub knows_place : {p : PassState} {place : Place} → IsTurn p → GoesTo p place → KnowsPlace p place
+knows_place {p} {place} turn goes =
     let c : Config = p.table.config in
+    let h = turn.history in
     let known = known_left c p.seen h.within_limits h.enabled in
     let new = goes.unplaced.new in
     let acts = new_is_acting (call_of p) new in

@@ -9,8 +9,8 @@ use Rattle.mk_laws.proofs.Vocabulary.{inl, inr, is_next_header, is_phase, is_und
 use Rattle.mk_laws.proofs.Vocabulary.{length, length-set, lt-ltb, made_shows, marks_place, ne_eqb, not, object_made}
 use Rattle.mk_laws.proofs.Vocabulary.{or_left, or_right, pages_made, part_not_free, phase_of, place_now, refl, set_past}
 use Rattle.mk_laws.proofs.Vocabulary.{slice_index, slice_index_or, slice_set, sym, taken, takes_cell, true, used_at}
-use Rattle.mk_laws.proofs.Vocabulary.{without, world_behind, [], ◌%◌, ◌*◌, ◌++◌, ◌+◌, ◌-◌, ◌<◌, ◌==◌, ◌^◌, ◌∙◌, ◌∷◌}
-use Rattle.mk_laws.proofs.{Vocabulary.{◌≡◌, ◌≢◌, ◌≤◌}, Tests.{or_on, without_on}}
+use Rattle.mk_laws.proofs.Vocabulary.{without, world_behind, [], ◌%◌, ◌*◌, ◌++◌, ◌+◌, ◌<◌, ◌==◌, ◌^◌, ◌∙◌, ◌∷◌, ◌≡◌}
+use Rattle.mk_laws.proofs.{Vocabulary.{◌≢◌, ◌≤◌}, Tests.{or_on, without_on}}
 use Rattle.mk_objects.proofs.Vocabulary.{Carving, HasCarved, IsAsLeft, IsCellReady, IsGrantedAt, IsOutOfStop, Serving}
 use Rattle.mk_objects.proofs.Vocabulary.{TurnState, all_below_from, bits_made, object_at_place, steady_of}
 use Rattle.mk_objects.proofs.{MayAct.off_four, Unchanged.{HasCall, OfCaller, call_behind}}

@@ -70,14 +70,14 @@ open_behind {c} {v} gate kept (OfCaller k lt) room = record {
   others = λ j ne. ap (λ (n : ℕ). n == 2) (get_or-set_other v.now.words.gates gate j 0 0 ne) ∙ kept.gates j;
 }
 
-module _ {p : PassState} (q : PassState) (gate : ℕ) (turn : IsTurn p) (acts : is_acting (call_of p).stage ≡ true) where
+module _ {p : PassState} (turn : IsTurn p) (acts : is_acting (call_of p).stage ≡ true) where
   has_call : {v : World} → IsAsLeft p.seat (world_of p) v → length v.now.seats.flights ≡ p.table.config.callers
       → HasCall p.table.config v.now p.seat
   has_call kept count = acting_has_call count (still_acting (acting_now turn acts) kept)
 
-  pub sets_hold : {held : Bool} → Acts p (Step.Hold gate) q → is_held (now_of q).words gate ≡ held
-      → SetsGate is_holding p gate held q
-  sets_hold a is =
+  pub sets_hold : {q : PassState} {gate : ℕ} {held : Bool} → Acts p (Step.Hold gate) q
+      → is_held (now_of q).words gate ≡ held → SetsGate is_holding p gate held q
+  sets_hold {gate} a is =
       let step = reaches_first (AllButOne p.seat gate (world_of p)) a refl refl (acting_caller p acts) refl
       (λ v kept known pages. hold_behind gate kept (has_call kept known.orderly.flights)) in
       reaches_so step (λ all. record {
@@ -86,11 +86,11 @@ module _ {p : PassState} (q : PassState) (gate : ℕ) (turn : IsTurn p) (acts : 
         others = all.others;
       })
 
-  pub sets_open : Acts p (Step.Open gate) q → gate < p.table.config.callers → SetsGate is_settling p gate false q
-  sets_open a within =
+  pub sets_open : {q : PassState} {gate : ℕ} → Acts p (Step.Open gate) q → gate < p.table.config.callers
+      → SetsGate is_settling p gate false q
+  sets_open {gate} a within =
       reaches_first (GateIsSet p.seat gate false (world_of p)) a refl refl (acting_caller p acts) refl
-      (λ v kept known pages.
-      open_behind gate kept (has_call kept known.orderly.flights) (omega arith))
+      (λ v kept known pages. open_behind gate kept (has_call kept known.orderly.flights) (omega arith))
 
 -- one part after another
 

@@ -1,17 +1,16 @@
 -- A small object is freed and counted.
-use Rattle.mk_laws.proofs.Vocabulary.{Bool, Cell, Header, Holds, IsHistory, List, None, Option, PlacedAllocation, Some}
-use Rattle.mk_laws.proofs.Vocabulary.{Steady, Tally, ℕ, all_below-at, ap, arith, false, fresh_words_of, header_in}
-use Rattle.mk_laws.proofs.Vocabulary.{heads_run, if◌then◌else◌, in_a_word, is_held, not, not-true, run_headed, subst}
-use Rattle.mk_laws.proofs.Vocabulary.{sym, true, words_under, ◌*◌, ◌+◌, ◌-◌, ◌<◌, ◌^◌, ◌↔◌, ◌∙◌, ◌≡◌}
-use Rattle.mk_objects.proofs.Vocabulary.{Changes, FreesCell, FreesOnce, HasFreed, IsAsLeft, IsFreedAt, IsTrue, MayFree}
-use Rattle.mk_objects.proofs.Vocabulary.{OnlyLooks, PassState, SetsTally, StaysSo, held_by_allocations, is_following}
-use Rattle.mk_objects.proofs.Vocabulary.{min, none_is_held, now_of, steady_of, with_tally, words_freed, world_of}
-use Rattle.mk_core.specs.Counts.{TalliesAreExact}
-use Rattle.mk_laws.proofs.Tallies.{fresh_is_told}
-use Rattle.mk_objects.proofs.ClearedRuns.{IsGoneIn, still_gone}
+use Rattle.mk_laws.proofs.Vocabulary.{Bool, Cell, Header, List, None, Option, PlacedAllocation, Some, Steady, Tally, ℕ}
+use Rattle.mk_laws.proofs.Vocabulary.{all_below-at, ap, arith, false, fresh_words_of, header_in, heads_run}
+use Rattle.mk_laws.proofs.Vocabulary.{if◌then◌else◌, in_a_word, is_held, not, not-true, run_headed, subst, sym, true}
+use Rattle.mk_laws.proofs.{Vocabulary.{words_under, ◌*◌, ◌+◌, ◌-◌, ◌<◌, ◌^◌, ◌↔◌, ◌∙◌, ◌≡◌}, Tallies.fresh_is_told}
+use Rattle.mk_objects.proofs.Vocabulary.{Changes, FreesCell, FreesOnce, HasFreed, IsAsLeft, IsFreedAt, IsTrue, IsTurn}
+use Rattle.mk_objects.proofs.Vocabulary.{MayFree, OnlyLooks, PassState, SetsTally, StaysSo, held_by_allocations}
+use Rattle.mk_objects.proofs.Vocabulary.{is_following, min, none_is_held, now_of, steady_of, with_tally, words_freed}
+use Rattle.mk_objects.proofs.{Vocabulary.world_of, ClearedRuns.{IsGoneIn, still_gone}}
 use Rattle.mk_objects.proofs.DecidedFrees.{Stays, decides_before, freed_decides, fresh_stays, stays_now}
 use Rattle.mk_objects.proofs.JoinedLooks.{reached_table, reached_world, reaches_after, reaches_wider}
-use Rattle.mk_objects.proofs.{FreedObjects.object_at, FreedObjects.small_held, FreedOnce.once_before}
+use Rattle.mk_objects.proofs.{FreedObjects.{object_at, small_held}, FreedOnce.once_before}
+use Rattle.mk_core.specs.Counts.{TalliesAreExact}
 
 -- After a `quar` the call is decided.
 pub freed_now : {p q : PassState} {cell : Cell} → HasFreed p cell q
@@ -21,12 +20,12 @@ freed_now a = reached_world a
 -- the tallies after it
 
 -- The count of fresh words is as it was, and as much more as is freed.
-pub fresh_told_by : (p q : PassState) (cell : Cell) → IsHistory p.table.config p.seen → IsHistory q.table.config q.seen
-    → p.table ≡ q.table → TalliesAreExact p.table.config p.seen
+pub fresh_told_by : {p q : PassState} (cell : Cell) → IsTurn p → IsTurn q → p.table ≡ q.table
+    → TalliesAreExact p.table.config p.seen
     → (now_of q).fresh_words ≡ min ((now_of p).fresh_words + words_freed (now_of p).words (Some cell)) (2 ^ 64 - 1)
     → min ((now_of p).words.fresh + words_freed (now_of p).words (Some cell)) (2 ^ 64 - 1)
     ≡ in_a_word (fresh_words_of p.table.config (world_of q).allocations)
-fresh_told_by p q cell before behind table exact is = grind (arith, fresh_is_told)
+fresh_told_by cell turn behind table exact is = grind (arith, fresh_is_told)
 
 -- The tallies are exact by what is known from the pass before.
 pub exact_from : (p q : PassState) → p.table ≡ q.table
@@ -70,26 +69,26 @@ tally_between t n before sets behind =
 
 -- The object is freed and counted, once its `quar` and what follows that are done.
 pub frees_counted : {p q r : PassState} {cell : Cell} {held fresh : ℕ} (due : Bool) → HasFreed p cell q
-    → Stays is_following q r → FreesOnce p q → Holds q.table.config (now_of q) q.seat → IsHistory r.table.config r.seen
-    → IsGoneIn (world_of r) → ((j : ℕ) → j < p.table.config.callers → is_held (now_of r).words j ≡ false)
+    → Stays is_following q r → FreesOnce p q → IsTurn q → IsTurn r → IsGoneIn (world_of r)
+    → ((j : ℕ) → j < p.table.config.callers → is_held (now_of r).words j ≡ false)
     → held ≡ (now_of r).words.held → fresh ≡ (now_of r).words.fresh → held ≡ held_by_allocations p.table.config
     (world_of r).allocations → fresh ≡ in_a_word (fresh_words_of p.table.config (world_of r).allocations)
     → held < 2 ^ 64 → IsTrue due ↔ (held < 4 * fresh) → FreesCell p cell due r
-frees_counted {p} {q} {r} due freed follows once holds behind gone gates held fresh held_exact fresh_exact fits is_due =
+frees_counted {p} {q} {r} due freed follows once turn behind gone gates held fresh held_exact fresh_exact fits is_due =
     let table : p.table ≡ q.table = sym (reached_table freed) in
     let stays = stays_now follows in
     record {
       reaches = decides_before (freed_decides freed) follows;
       allocations = stays.allocations ∙ ap (λ (x : Steady). x.allocations) (freed_now freed).steady;
-      once = once_before (λ x h. grind arith) once table follows.does behind holds stays.allocations;
+      once = once_before (λ x h. grind arith) once table follows.does turn behind stays.allocations;
       gone = gone;
       gates = gates;
       exact = exact_from p r (table ∙ sym (reached_table follows)) (sym held ∙ held_exact) (sym fresh ∙ fresh_exact);
       exactly = grind arith;
     }
 
-module _ (p q a b r : PassState) (reg u : ℕ) (cell : Cell) (n : ℕ) (may : MayFree p reg u cell) (before : IsHistory
-    p.table.config p.seen) (freed : HasFreed p cell q) (looks : OnlyLooks q a) (tallied : SetsTally a Tally.Fresh n b)
+module _ {p q a b r : PassState} {reg u : ℕ} {cell : Cell} {n : ℕ} (may : MayFree p reg u cell) (turn : IsTurn p)
+    (freed : HasFreed p cell q) (looks : OnlyLooks q a) (tallied : SetsTally a Tally.Fresh n b)
     (looks_again : OnlyLooks b r) (gates : none_is_held p.table.config.callers (now_of p).words ≡ true) where
   sets : SetsTally q Tally.Fresh n r
   sets = tally_between Tally.Fresh _ looks tallied looks_again
@@ -110,8 +109,8 @@ module _ (p q a b r : PassState) (reg u : ℕ) (cell : Cell) (n : ℕ) (may : Ma
   none_held_now j lt = changed.gates j ∙ freed_there.gates j ∙ none_held p gates j lt
 
   module _ (small : heads_run (header_in (now_of p).words cell.page) ≡ false) where
-    module _ (due : Bool) {found held : ℕ} (once : FreesOnce p q) (holds : Holds q.table.config (now_of q) q.seat)
-        (behind : IsHistory r.table.config r.seen) (is_found : found ≡ (now_of p).words.fresh)
+    module _ (due : Bool) {found held : ℕ} (once : FreesOnce p q) (behind : IsTurn q) (last : IsTurn r)
+        (is_found : found ≡ (now_of p).words.fresh)
         (is : n ≡ min (found + words_under (header_in (now_of p).words cell.page)) (2 ^ 64 - 1))
         (found_held : held ≡ (now_of r).words.held) (fits : held < 2 ^ 64) (is_due : IsTrue due ↔ (held < 4 * n)) where
       fresh_exact : n ≡ in_a_word (fresh_words_of p.table.config (world_of r).allocations)
@@ -120,12 +119,12 @@ module _ (p q a b r : PassState) (reg u : ℕ) (cell : Cell) (n : ℕ) (may : Ma
       held_exact : (now_of r).words.held ≡ held_by_allocations p.table.config (world_of r).allocations
       held_exact =
           (ap (λ (x : Steady). x.held) changed.steady ∙ ap (λ (x : Steady). x.held) freed_there.steady) ∙ may.exact.held
-          ∙ sym (small_held p reg cell before (object_at u cell before may.free may.some may.target) small)
+          ∙ sym (small_held turn (object_at u cell turn may.free may.some may.target) small)
           ∙ ap (λ (xs : List PlacedAllocation). held_by_allocations p.table.config xs)
           (sym (stays.allocations ∙ ap (λ (x : Steady). x.allocations) freed_there.steady))
 
       pub frees_small : FreesCell p cell due r
       frees_small =
-          frees_counted due freed follows once holds behind (subst (λ (x : PassState). IsGoneIn (world_of x)) (sym
-          sets.same) (still_gone sets.does behind holds (grind (arith, freed_there, no_run)))) none_held_now found_held
+          frees_counted due freed follows once behind last (subst (λ (x : PassState). IsGoneIn (world_of x)) (sym
+          sets.same) (still_gone sets.does behind last (grind (arith, freed_there, no_run)))) none_held_now found_held
           (sym (ap (λ (x : Steady). x.fresh) changed.steady)) (found_held ∙ held_exact) fresh_exact fits is_due

@@ -7,7 +7,7 @@ use Rattle.mk_laws.proofs.Vocabulary.{header_in, header_of, if◌then◌else◌,
 use Rattle.mk_laws.proofs.Vocabulary.{is_run_unmapped, is_undecided_new, le-leb, left, length, lt-ltb, or_else}
 use Rattle.mk_laws.proofs.Vocabulary.{others_are_held, page_at_address, phase_of, place_now, refl, run_header}
 use Rattle.mk_laws.proofs.Vocabulary.{same_Some, slice_index, stands, subst, sym, true, unmapped_header, unmaps}
-use Rattle.mk_laws.proofs.{Vocabulary.{world_behind, [], ◌*◌, ◌+◌, ◌-◌, ◌/◌, ◌<◌, ◌∙◌, ◌≡◌, ◌≤◌}, Sorts.chosen_none}
+use Rattle.mk_laws.proofs.{Vocabulary.{world_behind, [], ◌*◌, ◌+◌, ◌/◌, ◌<◌, ◌∙◌, ◌≡◌, ◌≤◌}, Sorts.chosen_none}
 use Rattle.mk_objects.proofs.Vocabulary.{Acts, ComesTo, IsAsLeft, IsEnabledTo, IsOutOfStop, IsTurn, PassState, Unmaps}
 use Rattle.mk_objects.proofs.Vocabulary.{Wipes, WipesTo, all_below_from, call_of, is_acting, is_clearing, now_of}
 use Rattle.mk_objects.proofs.{Vocabulary.{option_and_then, world_of}, JoinedLooks.{reached_there, reached_world}}

@@ -36,7 +36,6 @@ fn set_tally(words: &Words, turn: &mut Turn, tally: Tally, value: u64)
     requires acting { is_acting (call_of turn.old.pass).stage ≡ true }
     ensures { SetsTally turn.old.pass tally value turn.new.pass }
 {
-    turn.is_in_order();
     turn.tally(words, tally, value);
 }
 
@@ -58,13 +57,10 @@ fn free_small(
     requires size { size ≡ words_under (header_in (now_of turn.old.pass).words cell.page) }
     ensures { FreesCell turn.old.pass cell result turn.new.pass }
 {
-    turn.is_in_order();
     quarantine(words, turn, register, value, cell, quar);
-    turn.is_in_order();
     let fresh = look_at(words, turn, Word::Fresh).saturating_add(size);
     set_tally(words, turn, Tally::Fresh, fresh);
     let held = look_at(words, turn, Word::Held);
-    turn.is_in_order();
     due(fresh, held)
 }
 
@@ -86,9 +82,7 @@ fn free_stopped(
     requires run { HasRunAt turn.old.pass cell.page count }
     ensures { FreesCell turn.old.pass cell result turn.new.pass }
 {
-    turn.is_in_order();
     quarantine(words, turn, register, value, cell, quar);
-    turn.is_in_order();
     clear_run(
         words,
         turn,
@@ -97,11 +91,9 @@ fn free_stopped(
             count,
         },
     );
-    turn.is_in_order();
     let held = look_at(words, turn, Word::Held) - PAGE_WORDS * count;
     set_tally(words, turn, Tally::Held, held);
     let fresh = look_at(words, turn, Word::Fresh);
-    turn.is_in_order();
     due(fresh, held)
 }
 
@@ -125,9 +117,7 @@ fn free_run<R: Wait>(
     requires run { HasRunAt turn.old.pass cell.page count }
     ensures { FreesCell turn.old.pass cell result turn.new.pass }
 {
-    turn.is_in_order();
     hold_gates(rt, words, turn);
-    turn.is_in_order();
     free_stopped(words, turn, register, value, cell, quar, count)
 }
 
@@ -157,9 +147,7 @@ fn free_found<R: Wait>(
     requires quar { quar ≡ named_word (now_of turn.old.pass).words (word.Quar cell.page) }
     ensures { FreesCell turn.old.pass cell result turn.new.pass }
 {
-    turn.is_in_order();
     let header = look_at(words, turn, Word::Head(cell.page));
-    turn.is_in_order();
     match run_under(header) {
         Some(count) => free_run(rt, words, turn, register, value, cell, quar, count),
         None => {
@@ -187,16 +175,12 @@ pub fn retire_object<R: Threads + Wait + Sync>(
     ensures freed { IfOk result (λ freed. Retires turn.old.pass p freed.due turn.new.pass) }
     ensures double { OnErr result (FindsFreed turn.old.pass p turn.new.pass) }
 {
-    turn.is_in_order();
     let value = load_freed(words, turn, p);
-    turn.is_in_order();
     if value == 0 {
         return Ok(Freed { due: false });
     }
     let cell = find_cell(words, turn, value);
-    turn.is_in_order();
     let quar = look_at_quarantine(words, turn, p, value, cell);
-    turn.is_in_order();
     if is_freed(quar, cell) {
         return Err(Double);
     }

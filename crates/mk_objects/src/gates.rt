@@ -31,7 +31,6 @@ fn try_hold(words: &Words, turn: &mut Turn, caller: u64) -> bool
     ensures sets { SetsGate is_holding turn.old.pass caller result turn.new.pass }
     ensures keeps { (r : ℕ) → r < 8 → value_of turn.new.pass r ≡ value_of turn.old.pass r }
 {
-    turn.is_in_order();
     turn.try_hold(words, caller).is_ok()
 }
 
@@ -93,7 +92,6 @@ fn open_other(words: &Words, turn: &mut Turn, caller: u64)
     ensures sets { SetsGate is_settling turn.old.pass caller false turn.new.pass }
     ensures gone { is_run_gone (now_of turn.new.pass).words (now_of turn.new.pass).seats.holding.freed ≡ true }
 {
-    turn.is_in_order();
     if !is_own(turn.seat(), caller) {
         turn.open_gate(words, caller);
     }

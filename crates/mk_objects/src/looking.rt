@@ -18,7 +18,6 @@ pub fn look_at(words: &Words, turn: &mut Turn, word: Word) -> u64
     ensures finds { result ≡ named_word (now_of turn.old.pass).words word }
     ensures keeps { (r : ℕ) → r < 8 → value_of turn.new.pass r ≡ value_of turn.old.pass r }
 {
-    turn.is_in_order();
     turn.look(words, word)
 }
 
@@ -29,7 +28,6 @@ pub fn is_marking(words: &Words, turn: &mut Turn) -> bool
     ensures looks { OnlyLooks turn.old.pass turn.new.pass }
     ensures finds { result ≡ (phase_of (now_of turn.old.pass).words == 1) }
 {
-    turn.is_in_order();
     let found = turn.look(words, Word::Phase);
     Phase::Marking.is_in(found)
 }

@@ -23,7 +23,6 @@ fn mark_first(words: &Words, turn: &mut Turn, shape: Shape, place: Place, markin
     ensures carved { HasCarved turn.old.pass place 0 turn.new.pass }
     ensures reached { SweepsNothing turn.old.pass turn.new.pass }
 {
-    turn.is_in_order();
     if marking {
         turn.mark(words, place.page, shape.bits());
     }
@@ -39,7 +38,6 @@ fn carve(words: &Words, turn: &mut Turn, shape: Shape, place: Place, marking: bo
     ensures ready { MayTake turn.old.pass place turn.new.pass }
     ensures reached { SweepsNothing turn.old.pass turn.new.pass }
 {
-    turn.is_in_order();
     let pages = shape.pages();
     mark_first(words, turn, shape, place, marking);
     for distance in 0..pages {
@@ -58,7 +56,6 @@ fn make_ready(words: &Words, turn: &mut Turn, shape: Shape, place: Place, free: 
     ensures ready { MayTake turn.old.pass place turn.new.pass }
     ensures reached { SweepsNothing turn.old.pass turn.new.pass }
 {
-    turn.is_in_order();
     if free {
         carve(words, turn, shape, place, marking);
     }
@@ -90,7 +87,6 @@ fn serve(
     ensures held { HeldIsExact turn.new.pass }
     ensures reached { SweepsNothing turn.old.pass turn.new.pass }
 {
-    turn.is_in_order();
     make_ready(words, turn, shape, place, free, marking);
     turn.used(words, place.page, used | 1 << place.index);
     turn.grant(words, register, shape.address(place));
@@ -139,7 +135,6 @@ fn place_apart(words: &Words, turn: &mut Turn, register: u8, shape: Shape) -> bo
     ensures nowhere { result ≡ false → FitsNowhere turn.old.pass turn.new.pass }
     ensures reached { SweepsNothing turn.old.pass turn.new.pass }
 {
-    turn.is_in_order();
     match seek(words, turn, shape) {
         None => false,
         Some(place) => {
@@ -170,7 +165,6 @@ pub fn place_object(words: &Words, turn: &mut Turn, request: Request) -> bool
     ensures nowhere { result ≡ false → FitsNowhere turn.old.pass turn.new.pass }
     ensures reached { SweepsNothing turn.old.pass turn.new.pass }
 {
-    turn.is_in_order();
     let Request { register, ty } = request;
     let shape = shape_of(words.types(), ty);
     match seek_cell(words, turn, shape) {

@@ -32,7 +32,6 @@ pub(crate) fn load_freed(words: &Words, turn: &mut Turn, register: u8) -> u64
     ensures null { (result == 0) ≡ true → value_of turn.old.pass register ≡ Null }
     ensures keeps { (result == 0) ≡ false → value_of turn.new.pass register ≡ value_of turn.old.pass register }
 {
-    turn.is_in_order();
     turn.reg_load(words, register)
 }
 
@@ -48,7 +47,6 @@ pub(crate) fn find_cell(words: &Words, turn: &mut Turn, value: u64) -> Cell
     ensures index { result.index < 32 }
     ensures keeps { (r : ℕ) → r < 8 → value_of turn.new.pass r ≡ value_of turn.old.pass r }
 {
-    turn.is_in_order();
     let page = page_at(value);
     let header = look_at(words, turn, Word::Head(page));
     let Some(cell) = lookup(words.pages(), header, value) else {
@@ -77,7 +75,6 @@ pub(crate) fn look_at_quarantine(
     ensures keeps { is_freed (now_of turn.old.pass).words cell ≡ false → (r : ℕ) → r < 8
         → value_of turn.new.pass r ≡ value_of turn.old.pass r }
 {
-    turn.is_in_order();
     turn.look(words, Word::Quar(cell.page))
 }
 
@@ -98,7 +95,6 @@ pub(crate) fn quarantine(
     ensures freed { HasFreed turn.old.pass cell turn.new.pass }
     ensures once { FreesOnce turn.old.pass turn.new.pass }
 {
-    turn.is_in_order();
     let freed = quar % HALF_WORD | 1 << cell.index;
     turn.quar(words, cell.page, HALF_WORD * (quar / HALF_WORD) + freed);
 }

@@ -88,7 +88,6 @@ fn seek_large(words: &Words, turn: &Turn, count: u64) -> Option<Place>
     ensures { result
         ≡ large_place words.now.config.resident count (uses_of_pages (now_of turn.now.pass).words.pages) }
 {
-    words.is_within_limits();
     if turn.resident() + count <= words.resident() {
         turn.first_range(count).map(free_from)
     } else {

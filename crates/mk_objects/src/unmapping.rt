@@ -50,7 +50,7 @@ pub(crate) fn unmap_run(words: &Words, turn: &mut Turn, run: RunPages)
     requires one_table { turn.old.pass.table ≡ words.now }
     requires decided { (call_of turn.old.pass).stage ≡ stage.Give }
     requires phase { IsOutOfStop (now_of turn.old.pass) }
-    requires stopped { IsStopped turn.old }
+    requires stopped { IsStopped turn.old.pass }
     requires freed { (now_of turn.old.pass).seats.holding.freed ≡ Some run }
     requires some { 1 ≤ run.count }
     requires few { run.count ≤ 64 }
@@ -58,7 +58,6 @@ pub(crate) fn unmap_run(words: &Words, turn: &mut Turn, run: RunPages)
     requires mapped { (d : ℕ) → d < run.count → IsStillMapped (now_of turn.old.pass).words run d }
     ensures { Unmaps turn.old.pass run turn.new.pass }
 {
-    turn.is_in_order();
     for distance in 0..run.count {
         turn.head(
             words,

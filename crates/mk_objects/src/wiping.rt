@@ -36,7 +36,6 @@ fn are_zero(
     ensures zero { result ≡ true → WipesTo turn.old.pass run (8 * group + 8) turn.new.pass }
 {
     words.is_within_limits();
-    turn.is_in_order();
     let first = GROUP * group;
     let mut all = 0;
     for i in 0..GROUP {
@@ -61,7 +60,6 @@ fn wipe_words(words: &Words, turn: &mut Turn, pages: u64, run: RunPages, part: u
     ensures { WipesTo turn.old.pass run (8 * group + 8) turn.new.pass }
 {
     words.is_within_limits();
-    turn.is_in_order();
     let first = GROUP * group;
     for word in first..first + GROUP {
         let at = Word::Heap(PAGE_WORDS * run.page + word);
@@ -108,7 +106,7 @@ fn wipe_page(words: &Words, turn: &mut Turn, pages: u64, run: RunPages, part: u6
 pub(crate) fn wipe_run(words: &Words, turn: &mut Turn, run: RunPages)
     requires one_table { turn.old.pass.table ≡ words.now }
     requires decided { (call_of turn.old.pass).stage ≡ stage.Give }
-    requires stopped { IsStopped turn.old }
+    requires stopped { IsStopped turn.old.pass }
     requires freed { (now_of turn.old.pass).seats.holding.freed ≡ Some run }
     requires unmapped { is_run_unmapped (now_of turn.old.pass).words run ≡ true }
     requires few { run.count ≤ 64 }

@@ -1,7 +1,5 @@
-use Rattle.mk_alloc.proofs.Vocabulary.{EachIsBegun, Has, PassState, begun_then, finish_begins_none, own_before, subst}
-use Rattle.mk_alloc.proofs.Vocabulary.{sweeps_then, ◌≡◌}
+use Rattle.mk_alloc.proofs.Vocabulary.{EachIsBegun, begun_then, finish_begins_none, sweeps_then, ◌≡◌}
 use Rattle.mk_alloc.proofs.{UnsweptTurns.older_begun, UnsweptTurns.older_same, cycles.run_cycle.Goals.After-begin_cycle}
-use Rattle.mk_cycle.proofs.Begun.{has_on}
 use Rattle.mk_alloc.proofs.cycles.run_cycle.Goals as goal
 
 -- up to the begin of the cycle
@@ -9,17 +7,9 @@ idle : (g : _) (c : After-begin_cycle g)
     → c.finish_older-turn.result.pass ≡ record c.args.turn.pass { seen = c.finish_older-turn.result.pass.seen }
 idle g c = older_same c.requires.quiet.phase c.finish_older-turn.ensures.ends
 
-own_idle : (g : _) (c : After-begin_cycle g)
-    → Has c.finish_older-turn.result.pass.seats c.finish_older-turn.result.pass.seat
-own_idle g c =
-    let m = c.begin_cycle.ensures.law.makes in
-    subst (λ (x : PassState). Has x.seats x.seat) m.before.is (own_before m.begin)
-
 older : (g : _) (c : After-begin_cycle g)
     → EachIsBegun g.E.Engine.begins c.args.turn.pass c.finish_older-turn.result.pass
-older g c =
-    older_begun (subst (λ (x : PassState). Has x.seats x.seat) (idle g c) (own_idle g c)) c.requires.quiet.phase
-    c.finish_older-turn.ensures.ends
+older g c = older_begun c.args.turn.in_order.own c.requires.quiet.phase c.finish_older-turn.ensures.ends
 
 pub returns-then-keeps_on-clause-reached : goal.returns-then-keeps_on-clause-reached
 returns-then-keeps_on-clause-reached g c =
@@ -52,4 +42,4 @@ returns-else-keeps_on-clause-begun g c =
     let law = c.begin_cycle.ensures.law in
     begun_then begins c.args.turn.pass from ended (idle g x) (older g x)
     (begun_then begins from begun ended law.pass c.begin_cycle.ensures.begun
-    (finish_begins_none begins begun ended (has_on from begun law.pass (own_idle g x)) c.finish_cycle-turn.ensures.law))
+    (finish_begins_none begins begun ended c.begin_cycle.new.turn.in_order.own c.finish_cycle-turn.ensures.law))

@@ -1,81 +1,78 @@
-use Rattle.mk_alloc.proofs.Vocabulary.{CallerState, Op, PassState, ap, in_turn, refl, sym, ◌∙◌}
-use Rattle.mk_alloc.proofs.{CalledTurns.{Taken, taken_is, taken_turn, took_by}, FreedTurns.{Frees, Refuses}}
-use Rattle.mk_alloc.proofs.FreedTurns.{double_answered, freed, freed_object, given, given_double, unloaded}
-use Rattle.mk_alloc.proofs.UnsweptTurns.{freeing_then_begun, freeing_then_sweeps, loading_begun, loading_sweeps}
-use Rattle.mk_alloc.proofs.UnsweptTurns.{turn_begun, turn_sweeps}
-use Rattle.mk_alloc.proofs.freeing.free_object.Goals.{After-is_in_order-in-Ok, After-take-turn}
+use Rattle.mk_alloc.proofs.{Vocabulary.{Op, PassState, ap, refl, sym, ◌∙◌}, CalledTurns.{Taken, taken_is, took_by}}
+use Rattle.mk_alloc.proofs.FreedTurns.{Frees, Refuses, double_answered, freed, freed_object, given, given_double}
+use Rattle.mk_alloc.proofs.{FreedTurns.unloaded, UnsweptTurns.{freeing_then_begun, freeing_then_sweeps, loading_begun}}
+use Rattle.mk_alloc.proofs.UnsweptTurns.{loading_sweeps, turn_begun, turn_sweeps}
+use Rattle.mk_alloc.proofs.freeing.free_object.Goals.{After-run_if_due-turn, After-take-turn}
 use Rattle.mk_objects.specs.Retired.{FindsFreed}
 use Rattle.mk_alloc.proofs.freeing.free_object.Goals as goal
 
 -- the turn of the call, as it was taken
 took : (g : _) (c : After-take-turn g) → Taken (Op.Free c.args.p) c.args.caller.now.pass c.take-turn.result.pass
-took g c = took_by c.lend-home.ensures.pass c.is_idle.ensures.idle c.is_idle.ensures.own c.take-turn.ensures.takes
+took g c = took_by c.lend-home.ensures.pass (c.args.caller.now.in_order c.requires.home) c.take-turn.ensures.takes
 
 pub retire_object-requires-clause-unloaded : goal.retire_object-requires-clause-unloaded
 retire_object-requires-clause-unloaded g c κs within =
     let x = took g (goal.at.retire_object-requires-clause-unloaded g c).After-take-turn in
-    unloaded x.seat x.own x.takes
-    c.take-turn.ensures.begins.fresh (taken_turn x).history c.requires.register c.requires.base
+    unloaded x.seat x.own x.takes c.take-turn.ensures.begins.fresh c.take-turn.result.in_order.history
+    c.requires.register c.requires.base
 
 -- The object was freed: the turn goes on to the end of a cycle that is due.
-frees : (g : _) (c : After-is_in_order-in-Ok g)
+frees : (g : _) (c : After-run_if_due-turn g)
     → Taken (Op.Free c.args.p) c.args.caller.now.pass c.take-turn.result.pass → Frees g.E.Engine.on c.in-Ok.freed.due
     c.args.p c.args.caller.now.pass c.take-turn.result.pass c.retire_object.new.turn.pass c.run_if_due-turn.result.pass
-frees g c took =
-    let i = c.is_in_order.ensures in
-    let j = c.is_in_order-in-Ok.ensures in
-    record {
-      took = took;
-      begins = c.take-turn.ensures.begins;
-      retires = c.in-Ok.ensures.freed;
-      decided = in_turn c.retire_object.new.turn.pass i.own i.turn i.history;
-      run = c.run_if_due-turn.ensures.runs;
-      history = j.history;
-    }
+frees g c took = record {
+  took = took;
+  begins = c.take-turn.ensures.begins;
+  retires = c.in-Ok.ensures.freed;
+  decided = c.retire_object.new.turn.in_order;
+  run = c.run_if_due-turn.ensures.runs;
+  history = c.run_if_due-turn.result.in_order.history;
+}
 
 pub give-requires-clause-one_table : goal.give-requires-clause-one_table
 give-requires-clause-one_table g c =
     let x = goal.at.give-requires-clause-one_table g c in
     let took = took g x.After-take-turn in
-    ap (λ (x : PassState). x.table) (freed (frees g x.After-is_in_order-in-Ok took)).does.is
+    ap (λ (x : PassState). x.table) (freed (frees g x.After-run_if_due-turn took)).does.is
     ∙ ap (λ (x : PassState). x.table) (taken_is took) ∙ sym c.words-words.ensures
 
 pub give-requires-clause-quiet : goal.give-requires-clause-quiet
 give-requires-clause-quiet g c =
     let x = goal.at.give-requires-clause-quiet g c in
-    (freed (frees g x.After-is_in_order-in-Ok (took g x.After-take-turn))).quiet
+    (freed (frees g x.After-run_if_due-turn (took g x.After-take-turn))).quiet
 
 pub give-requires-clause-decided : goal.give-requires-clause-decided
 give-requires-clause-decided g c =
     let x = goal.at.give-requires-clause-decided g c in
-    (freed (frees g x.After-is_in_order-in-Ok (took g x.After-take-turn))).decided refl
+    (freed (frees g x.After-run_if_due-turn (took g x.After-take-turn))).decided refl
 
 pub back-requires-clause-one_table : goal.back-requires-clause-one_table
 back-requires-clause-one_table g c =
     let x = goal.at.back-requires-clause-one_table g c in
     let took = took g x.After-take-turn in
     ap (λ (x : PassState). x.table) c.give.ensures.gives.is ∙ ap (λ (x : PassState). x.table)
-    (freed (frees g x.After-is_in_order-in-Ok took)).does.is ∙ ap (λ (x : PassState). x.table) (taken_is took)
-    ∙ sym (ap (λ (x : CallerState). x.pass.table) c.lend-home.ensures.lent)
+    (freed (frees g x.After-run_if_due-turn took)).does.is ∙ ap (λ (x : PassState). x.table) (taken_is took)
+    ∙ sym (ap (λ (x : PassState). x.table) c.lend-home.ensures.lent.pass)
 
 pub returns-in-Ok-clause-freed : goal.returns-in-Ok-clause-freed
 returns-in-Ok-clause-freed g c =
     let x = goal.at.returns-in-Ok-clause-freed g c in
-    rw c.back.ensures (freed_object (frees g x.After-is_in_order-in-Ok (took g x.After-take-turn)) c.give.ensures.gives
+    rw c.back.ensures.pass
+    (freed_object (frees g x.After-run_if_due-turn (took g x.After-take-turn)) c.give.ensures.gives
     c.give.ensures.rests)
 
 pub returns-in-Ok-clause-reached : goal.returns-in-Ok-clause-reached
 returns-in-Ok-clause-reached g c =
     let x = goal.at.returns-in-Ok-clause-reached g c in
-    λ none. rw c.back.ensures (turn_sweeps
-    (given (frees g x.After-is_in_order-in-Ok (took g x.After-take-turn)) c.give.ensures.gives c.give.ensures.rests)
+    λ none. rw c.back.ensures.pass (turn_sweeps
+    (given (frees g x.After-run_if_due-turn (took g x.After-take-turn)) c.give.ensures.gives c.give.ensures.rests)
     (freeing_then_sweeps c.in-Ok.ensures.freed.decides (c.run_if_due-turn.ensures.reached none)))
 
 pub returns-in-Ok-clause-begun : goal.returns-in-Ok-clause-begun
 returns-in-Ok-clause-begun g c =
     let x = goal.at.returns-in-Ok-clause-begun g c in
-    rw c.back.ensures (turn_begun
-    (given (frees g x.After-is_in_order-in-Ok (took g x.After-take-turn)) c.give.ensures.gives c.give.ensures.rests)
+    rw c.back.ensures.pass (turn_begun
+    (given (frees g x.After-run_if_due-turn (took g x.After-take-turn)) c.give.ensures.gives c.give.ensures.rests)
     (freeing_then_begun c.in-Ok.ensures.freed.decides c.run_if_due-turn.ensures.begun))
 
 -- It was freed before.
@@ -86,17 +83,18 @@ refuses g c finds = record { took = took g c; begins = c.take-turn.ensures.begin
 pub returns-in-Err-clause-double : goal.returns-in-Err-clause-double
 returns-in-Err-clause-double g c =
     let x = goal.at.returns-in-Err-clause-double g c in
-    rw c.back-in-Err.ensures (double_answered g.E.Engine.on
+    rw c.back-in-Err.ensures.pass (double_answered g.E.Engine.on
     (refuses g x.After-take-turn c.in-Err.ensures.double) c.give-in-Err.ensures.gives c.give-in-Err.ensures.rests)
 
 pub returns-in-Err-clause-reached : goal.returns-in-Err-clause-reached
 returns-in-Err-clause-reached g c =
     let x = goal.at.returns-in-Err-clause-reached g c in
-    λ none. rw c.back-in-Err.ensures (turn_sweeps (given_double (refuses g x.After-take-turn c.in-Err.ensures.double)
+    λ none. rw c.back-in-Err.ensures.pass
+    (turn_sweeps (given_double (refuses g x.After-take-turn c.in-Err.ensures.double)
     c.give-in-Err.ensures.gives c.give-in-Err.ensures.rests) (loading_sweeps c.in-Err.ensures.double.decides))
 
 pub returns-in-Err-clause-begun : goal.returns-in-Err-clause-begun
 returns-in-Err-clause-begun g c =
     let x = goal.at.returns-in-Err-clause-begun g c in
-    rw c.back-in-Err.ensures (turn_begun (given_double (refuses g x.After-take-turn c.in-Err.ensures.double)
+    rw c.back-in-Err.ensures.pass (turn_begun (given_double (refuses g x.After-take-turn c.in-Err.ensures.double)
     c.give-in-Err.ensures.gives c.give-in-Err.ensures.rests) (loading_begun c.in-Err.ensures.double.decides))

@@ -1,7 +1,6 @@
 use Rattle.mk_alloc.proofs.{Vocabulary.refl, CountedFulls.{answers_full, full_admitted, full_allowed, full_begins_none}}
 use Rattle.mk_alloc.proofs.CountedFulls.{tallied_ended, tallied_idle, tallied_nowhere, tallied_unplaced}
 use Rattle.mk_alloc.proofs.UnsweptTurns.{full_sweeps}
-use Rattle.mk_cycle.proofs.Allowed.{in_turn_after}
 use Rattle.mk_alloc.proofs.fulls.answer_full.Goals as goal
 
 pub full-requires-clause-enabled : goal.full-requires-clause-enabled
@@ -10,13 +9,13 @@ full-requires-clause-enabled c =
     let u = c.requires.unplaced in
     let look = c.look-count.ensures in
     let tallies = c.tally.ensures in
-    full_allowed (in_turn_after tallies refl) (tallied_unplaced quiet u look.acts look.finds tallies)
+    full_allowed c.tally.new.self.in_order (tallied_unplaced quiet u look.acts look.finds tallies)
     (tallied_idle quiet u look.acts look.finds tallies c.requires.idle) (tallied_ended quiet u look.acts look.finds
     tallies c.requires.ended) (tallied_nowhere quiet u look.acts look.finds tallies c.requires.nowhere)
 
 pub full-requires-clause-admitted : goal.full-requires-clause-admitted
 full-requires-clause-admitted c =
-    full_admitted (in_turn_after c.tally.ensures refl) (tallied_unplaced c.requires.quiet c.requires.unplaced
+    full_admitted c.tally.new.self.in_order (tallied_unplaced c.requires.quiet c.requires.unplaced
     c.look-count.ensures.acts c.look-count.ensures.finds c.tally.ensures)
 
 pub returns-clause-full : goal.returns-clause-full

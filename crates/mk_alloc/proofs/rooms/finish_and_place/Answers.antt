@@ -1,22 +1,22 @@
-use Rattle.mk_alloc.proofs.{Vocabulary.{in_turn, sweeps_then}, SeekingTurns.{misfits_finished, room_finished}}
-use Rattle.mk_alloc.proofs.{SeekingTurns.{seeks_finished, seeks_then}, OneCycles.finish_then_none}
+use Rattle.mk_alloc.proofs.{Vocabulary.sweeps_then, SeekingTurns.{misfits_finished, room_finished, seeks_finished}}
+use Rattle.mk_alloc.proofs.{SeekingTurns.seeks_then, OneCycles.finish_then_none}
 use Rattle.mk_alloc.proofs.rooms.finish_and_place.Goals as goal
 
 pub try_place-placed-requires : goal.try_place-placed-requires
 try_place-placed-requires g c =
-    let i = c.is_in_order.ensures in
     room_finished c.requires.seeks c.requires.nowhere c.finish_cycle-turn.ensures.law
-    (in_turn c.finish_cycle-turn.result.0.pass i.own i.turn i.history)
+    c.finish_cycle-turn.result.0.in_order
 
 pub returns-clause-placed : goal.returns-clause-placed
 returns-clause-placed g c placed =
     seeks_then (seeks_finished c.requires.seeks c.requires.nowhere c.finish_cycle-turn.ensures.law
-    c.is_in_order.ensures.history) (c.try_place-placed.ensures.placed placed)
+    c.finish_cycle-turn.result.0.in_order.history) (c.try_place-placed.ensures.placed placed)
 
 pub returns-clause-misfits : goal.returns-clause-misfits
 returns-clause-misfits g c misfits =
-    misfits_finished c.requires.seeks c.requires.nowhere c.finish_cycle-turn.ensures.law c.is_in_order.ensures.history
-    (c.try_place-placed.ensures.misfits misfits) (c.try_place-placed.ensures.looks misfits)
+    misfits_finished c.requires.seeks c.requires.nowhere c.finish_cycle-turn.ensures.law
+    c.finish_cycle-turn.result.0.in_order.history (c.try_place-placed.ensures.misfits misfits)
+    (c.try_place-placed.ensures.looks misfits)
 
 pub returns-clause-reached : goal.returns-clause-reached
 returns-clause-reached g c none =
@@ -25,5 +25,5 @@ returns-clause-reached g c none =
 
 pub returns-clause-ends : goal.returns-clause-ends
 returns-clause-ends g c =
-    finish_then_none c.requires.seeks.turn c.finish_cycle-turn.ensures.law c.is_in_order.ensures.history
+    finish_then_none c.requires.seeks.turn c.finish_cycle-turn.ensures.law c.finish_cycle-turn.result.0.in_order.history
     c.try_place-placed.ensures.begins

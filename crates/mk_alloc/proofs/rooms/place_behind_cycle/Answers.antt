@@ -1,35 +1,32 @@
-use Rattle.mk_alloc.proofs.Vocabulary.{Done, Misfits, PassState, ap, begun_then, cycle_ended, in_turn, sweeps_then, ◌∙◌}
+use Rattle.mk_alloc.proofs.Vocabulary.{Done, Misfits, PassState, ap, begun_then, cycle_ended, sweeps_then, ◌∙◌}
 use Rattle.mk_alloc.proofs.OneCycles.{begin_then_ends, ends_none}
 use Rattle.mk_alloc.proofs.SeekingTurns.{misfit_seeks, misfits_begun, misfits_then, seeks_then}
-use Rattle.mk_alloc.proofs.{UnsweptTurns.none_begun, rooms.place_behind_cycle.Goals.After-is_in_order}
+use Rattle.mk_alloc.proofs.{UnsweptTurns.none_begun, rooms.place_behind_cycle.Goals.After-begin_cycle}
 use Rattle.mk_alloc.proofs.rooms.place_behind_cycle.Goals as goal
 
 -- the cycle that begins
-begun : (g : _) (c : After-is_in_order g) → Misfits c.args.turn.pass c.begin_cycle.new.turn.pass
-begun g c =
-    let i = c.is_in_order.ensures in
-    misfits_begun c.requires.seeks c.requires.nowhere c.begin_cycle.ensures.law
-    (in_turn c.begin_cycle.new.turn.pass i.own i.turn i.history)
+begun : (g : _) (c : After-begin_cycle g) → Misfits c.args.turn.pass c.begin_cycle.new.turn.pass
+begun g c = misfits_begun c.requires.seeks c.requires.nowhere c.begin_cycle.ensures.law c.begin_cycle.new.turn.in_order
 
 pub finish_and_place-requires-clause-seeks : goal.finish_and_place-requires-clause-seeks
 finish_and_place-requires-clause-seeks g c κs within =
-    misfit_seeks c.requires.seeks (begun g (goal.at.finish_and_place-requires-clause-seeks g c).After-is_in_order)
+    misfit_seeks c.requires.seeks (begun g (goal.at.finish_and_place-requires-clause-seeks g c).After-begin_cycle)
 
 pub finish_and_place-requires-clause-nowhere : goal.finish_and_place-requires-clause-nowhere
 finish_and_place-requires-clause-nowhere g c κs within =
-    (begun g (goal.at.finish_and_place-requires-clause-nowhere g c).After-is_in_order).nowhere
+    (begun g (goal.at.finish_and_place-requires-clause-nowhere g c).After-begin_cycle).nowhere
 
 pub returns-clause-placed : goal.returns-clause-placed
 returns-clause-placed g c placed =
     let x = goal.at.returns-clause-placed g c in
-    seeks_then (begun g x.After-is_in_order).seeks (c.finish_and_place.ensures.placed placed)
+    seeks_then (begun g x.After-begin_cycle).seeks (c.finish_and_place.ensures.placed placed)
 
 pub returns-clause-misfits : goal.returns-clause-misfits
 returns-clause-misfits g c misfits =
     let x = goal.at.returns-clause-misfits g c in
     let m = c.finish_and_place.ensures.misfits misfits in
     record {
-      misfits = misfits_then (begun g x.After-is_in_order).seeks m.misfits;
+      misfits = misfits_then (begun g x.After-begin_cycle).seeks m.misfits;
       idle = m.idle;
       ended = c.finish_and_place.ensures.cycle misfits
           ∙ ap (λ (x : Done). cycle_ended x.cycle) c.begin_cycle.ensures.law.done;
@@ -42,7 +39,7 @@ returns-clause-reached g c none =
 
 pub returns-clause-one : goal.returns-clause-one
 returns-clause-one g c =
-    begin_then_ends c.requires.seeks.turn c.begin_cycle.ensures.law c.is_in_order.ensures.history
+    begin_then_ends c.requires.seeks.turn c.begin_cycle.ensures.law c.begin_cycle.new.turn.in_order.history
     c.finish_and_place.ensures.ends
 
 pub returns-clause-begun : goal.returns-clause-begun

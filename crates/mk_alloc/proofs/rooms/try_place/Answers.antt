@@ -5,18 +5,18 @@ use Rattle.mk_alloc.proofs.rooms.try_place.Goals as goal
 pub returns-clause-placed : goal.returns-clause-placed
 returns-clause-placed c placed =
     let room = c.requires in
-    seeks_placed room.turn room.unplaced room.quiet (c.place_object-placed.ensures.placed placed)
-    c.is_in_order.ensures.history
+    seeks_placed room.turn room.unplaced room.quiet (c.place_object.ensures.placed placed)
+    c.place_object.new.turn.in_order.history
 
 pub returns-clause-misfits : goal.returns-clause-misfits
 returns-clause-misfits c misfits =
-    misfits_here c.requires (c.place_object-placed.ensures.nowhere misfits) c.is_in_order.ensures.history
+    misfits_here c.requires (c.place_object.ensures.nowhere misfits) c.place_object.new.turn.in_order
 
 pub returns-clause-begins : goal.returns-clause-begins
 returns-clause-begins c =
-    let history = c.is_in_order.ensures.history in
-    elim (cases_Bool c.place_object-placed.result) [
-      | inl placed ↦ placed_begins_none c.requires.turn (c.place_object-placed.ensures.placed placed) history
+    let history = c.place_object.new.turn.in_order.history in
+    elim (cases_Bool c.place_object.result) [
+      | inl placed ↦ placed_begins_none c.requires.turn (c.place_object.ensures.placed placed) history
       | inr misfits ↦
-          looks_begins_none c.requires.turn (c.place_object-placed.ensures.nowhere misfits).looks.does history
+          looks_begins_none c.requires.turn (c.place_object.ensures.nowhere misfits).looks.does history
     ]

@@ -13,7 +13,7 @@ returns-clause-begins g c =
       fresh = e.fresh;
       phase = taken_phase (callers c.requires.idle) c.requires.exists c.requires.alone
           (subst (λ (x : PassState). Has x.seats x.seat) e.takes.waits.is (own_before e.takes.takes.makes))
-          e.takes e.fresh c.is_in_order.ensures.history c.is_in_order.ensures.before_over;
+          e.takes e.fresh c.take_turn-turn.result.in_order.history c.is_in_order.ensures.before_over;
       exact = e.exact;
       tidy = e.tidy;
     }

@@ -1,25 +1,26 @@
-use Rattle.mk_alloc.proofs.Vocabulary.{CalledInTurn, IsEnabledTo, PassState, Seeks, in_turn}
-use Rattle.mk_alloc.{proofs.NewTurns.{begun_quiet, begun_unplaced, new_called}, proofs.SeekingTurns.{seeks_placed}}
-use Rattle.mk_alloc.proofs.{OneCycles.{none_runs_one, placed_begins_none}, CalledTurns.taken_turn, Going.give_allowed}
+use Rattle.mk_alloc.proofs.Vocabulary.{CalledInTurn, IsEnabledTo, PassState, Seeks, ◌≡◌}
 use Rattle.mk_laws.proofs.Vocabulary.{Answer, Bool, Flight, Op, Some, Step, ap, d_of, false, refl, subst, sym, true}
+use Rattle.mk_alloc.proofs.{Going.give_allowed, NewTurns.begun_quiet, NewTurns.begun_unplaced, NewTurns.new_called}
+use Rattle.mk_alloc.proofs.{OneCycles.none_runs_one, OneCycles.placed_begins_none, SeekingTurns.seeks_placed}
 use Rattle.mk_alloc_clients.proofs.OnePage.{TakenNew, made_owns, may_take, taken_new}
-use Rattle.mk_alloc_clients.proofs.making.make_number.Goals.{After-give-home, After-is_in_order}
-use Rattle.mk_alloc_clients.proofs.making.make_number.Goals.{After-is_in_order-in-Ok}
+use Rattle.mk_alloc_clients.proofs.making.make_number.Goals.{After-give-home, After-is_in_order, After-place_number}
+use Rattle.mk_caller.proofs.Idle.{idle}
 use Rattle.mk_alloc_clients.proofs.making.make_number.Goals as goal
 
 pub try_take-requires-clause-enabled : goal.try_take-requires-clause-enabled
 try_take-requires-clause-enabled c =
     subst (λ (x : PassState). IsEnabledTo x (Step.Take (Some (Op.New c.args.d c.args.ty false)))) (sym
-    c.lend-home.ensures.pass) (may_take c.args.d _ c.is_idle.ensures.idle c.requires.suits.exists
+    c.lend-home.ensures.pass) (may_take c.args.d _
+    (idle (c.args.caller.now.in_order c.requires.home)) c.requires.suits.exists
     c.requires.suits.register c.requires.suits.number)
 
 -- the turn, as it was taken
 taken : (c : After-is_in_order) → TakenNew c.args.caller.now.pass c.args.d c.args.ty c.in-Ok.turn.pass
 taken c =
     let e = c.in-Ok.ensures in
-    let i = c.is_in_order.ensures in
-    taken_new c.args.d _ c.is_idle.ensures.idle c.requires.suits.exists c.requires.suits.alone
-    (rw c.lend-home.ensures.pass at e.made) e.fresh e.exact e.tidy i.before_over
+    taken_new c.args.d _
+    (idle (c.args.caller.now.in_order c.requires.home)) c.requires.suits.exists c.requires.suits.alone
+    (rw c.lend-home.ensures.pass at e.made) e.fresh e.exact e.tidy c.is_in_order.ensures.before_over
 
 pub place_number-requires-clause-unplaced : goal.place_number-requires-clause-unplaced
 place_number-requires-clause-unplaced c =
@@ -29,23 +30,23 @@ pub place_number-requires-clause-register : goal.place_number-requires-clause-re
 place_number-requires-clause-register c = sym (ap (λ (f : Flight). d_of f.op) (c.in-Ok.ensures.fresh).call)
 
 -- The object was placed.
-seeks : (c : After-is_in_order-in-Ok) → TakenNew c.args.caller.now.pass c.args.d c.args.ty c.in-Ok.turn.pass
+seeks : (c : After-place_number) → c.place_number.result ≡ true
+    → TakenNew c.args.caller.now.pass c.args.d c.args.ty c.in-Ok.turn.pass
     → Seeks (Some Answer.Done) c.in-Ok.turn.pass c.place_number.new.turn.pass
-seeks c t =
-    seeks_placed (taken_turn t.took) (begun_unplaced t.begins) (begun_quiet t.begins)
-    (c.place_number.ensures.placed c.if-not-place_number.false) c.is_in_order-in-Ok.ensures.history
+seeks c placed t =
+    seeks_placed c.in-Ok.turn.in_order (begun_unplaced t.begins) (begun_quiet t.begins)
+    (c.place_number.ensures.placed placed) c.place_number.new.turn.in_order.history
 
 pub give-home-requires-clause-enabled : goal.give-home-requires-clause-enabled
 give-home-requires-clause-enabled c =
     let x = goal.at.give-home-requires-clause-enabled c in
-    let k = c.is_in_order-in-Ok.ensures in
-    let on = (seeks x.After-is_in_order-in-Ok (taken x.After-is_in_order)).on in
-    give_allowed (in_turn c.place_number.new.turn.pass k.own k.turn k.history) on.quiet (on.decided refl)
+    let on = (seeks x.After-place_number c.if-not-place_number.false (taken x.After-is_in_order)).on in
+    give_allowed c.place_number.new.turn.in_order on.quiet (on.decided refl)
 
 pub give-home-requires-clause-tidy : goal.give-home-requires-clause-tidy
 give-home-requires-clause-tidy c =
     let x = goal.at.give-home-requires-clause-tidy c in
-    (seeks x.After-is_in_order-in-Ok (taken x.After-is_in_order)).on.quiet.tidy
+    (seeks x.After-place_number c.if-not-place_number.false (taken x.After-is_in_order)).on.quiet.tidy
 
 called : (c : After-give-home) → TakenNew c.args.caller.now.pass c.args.d c.args.ty c.in-Ok.turn.pass
     → Seeks (Some Answer.Done) c.in-Ok.turn.pass c.place_number.new.turn.pass → (on : Bool)
@@ -55,8 +56,8 @@ called c t seeks on =
       took = t.took;
       begins = t.begins;
       seeks = seeks;
-      runs = none_runs_one (placed_begins_none (taken_turn t.took)
-          (c.place_number.ensures.placed c.if-not-place_number.false) c.is_in_order-in-Ok.ensures.history);
+      runs = none_runs_one (placed_begins_none c.in-Ok.turn.in_order
+          (c.place_number.ensures.placed c.if-not-place_number.false) c.place_number.new.turn.in_order.history);
       gives = c.give-home.ensures.acts.makes;
       rests = c.give-home.ensures.rests;
     }) on
@@ -65,11 +66,13 @@ pub returns-else-not-place_number-clause-made : goal.returns-else-not-place_numb
 returns-else-not-place_number-clause-made c =
     let x = goal.at.returns-else-not-place_number-clause-made c in
     let t = taken x.After-is_in_order in
-    λ on. rw c.back-in-Ok.ensures (called x.After-give-home t (seeks x.After-is_in_order-in-Ok t) on)
+    λ on. rw c.back-in-Ok.ensures.pass (called x.After-give-home t
+    (seeks x.After-place_number c.if-not-place_number.false t) on)
 
 pub returns-else-not-place_number-clause-owned : goal.returns-else-not-place_number-clause-owned
 returns-else-not-place_number-clause-owned c =
     let x = goal.at.returns-else-not-place_number-clause-owned c in
     let t = taken x.After-is_in_order in
-    rw c.back-in-Ok.ensures (made_owns c.args.d c.args.ty (called x.After-give-home t
-    (seeks x.After-is_in_order-in-Ok t) true) c.give-home.ensures.acts.makes.pass.history c.requires.suits.number)
+    rw c.back-in-Ok.ensures.pass (made_owns c.args.d c.args.ty (called x.After-give-home t
+    (seeks x.After-place_number c.if-not-place_number.false t) true) c.give-home.ensures.acts.makes.pass.history
+    c.requires.suits.number)

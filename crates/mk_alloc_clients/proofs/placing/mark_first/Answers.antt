@@ -5,16 +5,15 @@ use Rattle.mk_alloc_clients.proofs.placing.mark_first.Goals as goal
 
 pub mark-requires-clause-enabled : goal.mark-requires-clause-enabled
 mark-requires-clause-enabled c =
-    mark_may (knows_place c.is_in_order.ensures.turn c.is_in_order.ensures.history c.requires.goes) c.requires.free
+    mark_may (knows_place c.args.turn.now.in_order c.requires.goes) c.requires.free
     (sym (ap (λ (o : Object). bits_made o) c.requires.number)) (sym c.requires.marking ∙ c.if-marking.true)
 
 pub returns-then-marking : goal.returns-then-marking
 returns-then-marking c =
-    marks_first (knows_place c.is_in_order.ensures.turn c.is_in_order.ensures.history c.requires.goes) c.requires.free
-    (sym (ap (λ (o : Object). bits_made o) c.requires.number))
-    (sym c.requires.marking ∙ c.if-marking.true) c.mark.ensures
+    marks_first (knows_place c.args.turn.now.in_order c.requires.goes) c.requires.free (sym (ap (λ (o : Object).
+    bits_made o) c.requires.number)) (sym c.requires.marking ∙ c.if-marking.true) c.mark.ensures
 
 pub returns-else-marking : goal.returns-else-marking
 returns-else-marking c =
-    marks_none (knows_place c.is_in_order.ensures.turn c.is_in_order.ensures.history c.requires.goes) c.requires.free
+    marks_none (knows_place c.args.turn.now.in_order c.requires.goes) c.requires.free
     (sym c.requires.marking ∙ c.if-marking.false)

@@ -7,8 +7,7 @@ use Rattle.mk_alloc_clients.proofs.placing.place_number.Goals as goal
 
 seen : (c : After-see-seen) → HasSeen c.args.turn.now.pass c.see-seen.new.turn.pass c.see-seen.result.page
 seen c = record {
-  turn = c.is_in_order.ensures.turn;
-  history = c.is_in_order.ensures.history;
+  turn = c.args.turn.now.in_order;
   unplaced = c.requires.unplaced;
   one = ap (λ (t : WordsState). t.config.pages) c.requires.one_table ∙ c.requires.one_page;
   number = c.requires.number;
@@ -21,8 +20,7 @@ serve-requires-clause-register c =
     c.requires.register ∙ sym (ap (λ (f : Flight). d_of f.op) (looks_call c.see-seen.ensures.looks))
 
 pub serve-requires-clause-number : goal.serve-requires-clause-number
-serve-requires-clause-number c =
-    looks_object c.args.turn.now.pass c.see-seen.new.turn.pass c.see-seen.ensures.looks ∙ c.requires.number
+serve-requires-clause-number c = looks_object c.see-seen.ensures.looks ∙ c.requires.number
 
 pub serve-requires-clause-goes : goal.serve-requires-clause-goes
 serve-requires-clause-goes c = goes (seen (goal.at.serve-requires-clause-goes c).After-see-seen) c.in-Some.ensures refl

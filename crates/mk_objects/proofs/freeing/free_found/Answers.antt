@@ -9,24 +9,22 @@ free_small-requires-clause-gates g c =
     let p : PassState = c.args.turn.now.pass in
     let q : PassState = c.look_at-header.new.turn.pass in
     still_open p q (sym (looks_table c.look_at-header.ensures.looks))
-    (looks_left p q c.look_at-header.ensures.looks).gates c.requires.gates
+    (looks_left c.look_at-header.ensures.looks).gates c.requires.gates
 
 pub free_small-requires-clause-small : goal.free_small-requires-clause-small
 free_small-requires-clause-small g c =
-    let p : PassState = c.args.turn.now.pass in
-    let q : PassState = c.look_at-header.new.turn.pass in
-    let found : header_at (now_of q).words c.args.cell.page ≡ c.look_at-header.result =
+    let found : header_at (now_of c.look_at-header.new.turn.pass).words c.args.cell.page ≡ c.look_at-header.result =
     ap (λ (x : Steady). (slice_index_or x.pages c.args.cell.page free_page).header)
-    (looks_left p q c.look_at-header.ensures.looks).steady ∙ sym c.look_at-header.ensures.finds in
+    (looks_left c.look_at-header.ensures.looks).steady ∙ sym c.look_at-header.ensures.finds in
     ap (λ (n : ℕ). heads_run (header_of n)) found ∙ heads_none (header_of c.look_at-header.result) 0
     (c.run_under.ensures 0 ∙ ap (λ (x : Option ℕ). option_map (λ n. record { page = 0; count = n }) x) c.in-None.is)
 
 pub returns-in-Some : goal.returns-in-Some
 returns-in-Some g c =
     frees_behind (looks_prepare c.look_at-header.ensures.looks) (λ x h. grind arith) (λ x h. grind arith)
-    c.is_in_order-2.ensures.history c.is_in_order.ensures.turn.holds c.free_run.ensures
+    c.args.turn.now.in_order c.look_at-header.new.turn.in_order c.free_run.ensures
 
 pub returns-in-None : goal.returns-in-None
 returns-in-None g c =
     frees_behind (looks_prepare c.look_at-header.ensures.looks) (λ x h. grind arith) (λ x h. grind arith)
-    c.is_in_order-2.ensures.history c.is_in_order.ensures.turn.holds c.free_small.ensures
+    c.args.turn.now.in_order c.look_at-header.new.turn.in_order c.free_small.ensures

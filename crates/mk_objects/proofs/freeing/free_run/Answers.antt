@@ -5,4 +5,4 @@ use Rattle.mk_objects.proofs.freeing.free_run.Goals as goal
 pub returns : goal.returns
 returns g c =
     frees_behind (gates_prepare c.hold_gates.ensures.sets) (λ x h. grind arith) (λ x h. grind arith)
-    c.is_in_order-2.ensures.history c.is_in_order.ensures.turn.holds c.free_stopped.ensures
+    c.args.turn.now.in_order c.hold_gates.new.turn.in_order c.free_stopped.ensures

@@ -1,20 +1,20 @@
 -- The whole of a Free: its register is loaded, its cell found, and the quarantine word of that looked at.
 use Rattle.mk_laws.proofs.Vocabulary.{Cell, ℕ, eq-eqb, false, is_freed, ne_eqb, sym, ◌∙◌, ◌≡◌}
-use Rattle.mk_objects.proofs.Vocabulary.{MayFree, PassState, loaded_free, now_of}
+use Rattle.mk_objects.proofs.Vocabulary.{MayFree, now_of}
 use Rattle.mk_objects.proofs.Retirements.{IsFound, comes_seeing, finds_freed, found_so, freed_by_word, is_never_freed}
 use Rattle.mk_objects.proofs.Retirements.{may_free, none_held_there, object_found, retires, retires_null}
-use Rattle.mk_objects.proofs.freeing.retire_object.Goals.{After-is_freed, After-is_in_order-3}
+use Rattle.mk_objects.proofs.freeing.retire_object.Goals.{After-find_cell-cell, After-is_freed}
 use Rattle.mk_objects.proofs.freeing.retire_object.Goals as goal
 
 pub returns-then-value-eq0-clause-freed : goal.returns-then-value-eq0-clause-freed
 returns-then-value-eq0-clause-freed g c =
     let none = eq-eqb c.load_freed-value.result 0 c.if-value-eq0.true in
     retires_null c.requires.unloaded c.load_freed-value.ensures.loaded none (c.load_freed-value.ensures.null none)
-    c.requires.nothing_done c.requires.gates c.requires.exact c.is_in_order-2.ensures.history
-    c.is_in_order.ensures.turn.holds
+    c.requires.nothing_done c.requires.gates c.requires.exact c.args.turn.now.in_order
+    c.load_freed-value.new.turn.in_order
 
 -- what the register points into
-found : (g : _) (c : After-is_in_order-3 g) → IsFound c.args.turn.now.pass c.find_cell-cell.new.turn.pass c.args.p
+found : (g : _) (c : After-find_cell-cell g) → IsFound c.args.turn.now.pass c.find_cell-cell.new.turn.pass c.args.p
     c.load_freed-value.result c.find_cell-cell.result
 found g c =
     let u : ℕ = c.load_freed-value.result in
@@ -27,22 +27,19 @@ found g c =
 by_word : (g : _) (c : After-is_freed g)
     → is_freed (now_of c.find_cell-cell.new.turn.pass).words c.find_cell-cell.result ≡ c.is_freed.result
 by_word g c =
-    sym (freed_by_word c.find_cell-cell.new.turn.pass c.find_cell-cell.result c.is_in_order-3.ensures.history
+    sym (freed_by_word c.find_cell-cell.result c.find_cell-cell.new.turn.in_order
     c.look_at_quarantine-quar.ensures.finds) ∙ sym c.is_freed.ensures
 
 pub returns-then-is_freed-clause-double : goal.returns-then-is_freed-clause-double
 returns-then-is_freed-clause-double g c =
     let x = goal.at.returns-then-is_freed-clause-double g c in
-    let p : PassState = c.args.turn.now.pass in
-    let q : PassState = c.find_cell-cell.new.turn.pass in
-    let cell : Cell = c.find_cell-cell.result in
-    let u : ℕ = c.load_freed-value.result in
-    let found = found g x.After-is_in_order-3 in
+    let there = c.find_cell-cell.new.turn.in_order in
+    let found = found g x.After-find_cell-cell in
     let bit = by_word g x.After-is_freed ∙ c.if-is_freed.true in
-    finds_freed u cell c.requires.unloaded found.come c.look_at_quarantine-quar.ensures.seen bit c.requires.nothing_done
-    c.requires.gates c.requires.exact (is_never_freed p q c.args.p (loaded_free c.args.p u) cell found.come
-    c.is_in_order.ensures.history c.is_in_order-3.ensures.history (object_found c.requires.unloaded found
-    c.is_in_order-3.ensures.history) found.keeps c.requires.phase bit)
+    finds_freed c.load_freed-value.result c.find_cell-cell.result c.requires.unloaded found.come
+    c.look_at_quarantine-quar.ensures.seen bit c.requires.nothing_done c.requires.gates c.requires.exact
+    (is_never_freed found.come c.args.turn.now.in_order there (object_found c.requires.unloaded found there)
+    found.keeps c.requires.phase bit)
 
 -- It isn't.
 may : (g : _) (c : After-is_freed g)
@@ -56,21 +53,21 @@ may g c found bit =
 pub free_found-due-requires-clause-may : goal.free_found-due-requires-clause-may
 free_found-due-requires-clause-may g c =
     let x = goal.at.free_found-due-requires-clause-may g c in
-    may g x.After-is_freed (found g x.After-is_in_order-3) (by_word g x.After-is_freed ∙ c.if-is_freed.false)
+    may g x.After-is_freed (found g x.After-find_cell-cell) (by_word g x.After-is_freed ∙ c.if-is_freed.false)
 
 pub free_found-due-requires-clause-gates : goal.free_found-due-requires-clause-gates
 free_found-due-requires-clause-gates g c =
     let x = goal.at.free_found-due-requires-clause-gates g c in
-    none_held_there (comes_seeing c.find_cell-cell.result (found g x.After-is_in_order-3).come
+    none_held_there (comes_seeing c.find_cell-cell.result (found g x.After-find_cell-cell).come
     c.look_at_quarantine-quar.ensures.seen (by_word g x.After-is_freed ∙ c.if-is_freed.false)) c.requires.gates
 
 pub returns-clause-freed : goal.returns-clause-freed
 returns-clause-freed g c =
     let x = goal.at.returns-clause-freed g c in
     let cell : Cell = c.find_cell-cell.result in
-    let found = found g x.After-is_in_order-3 in
+    let found = found g x.After-find_cell-cell in
     let bit = by_word g x.After-is_freed ∙ c.if-is_freed.false in
     retires c.requires.unloaded (comes_seeing cell found.come c.look_at_quarantine-quar.ensures.seen bit)
     (may g x.After-is_freed found bit) (c.look_at_quarantine-quar.ensures.keeps bit c.args.p c.requires.unloaded.small
-    ∙ found.keeps) c.requires.phase c.free_found-due.ensures c.is_in_order.ensures.history
-    c.is_in_order-4.ensures.history c.is_in_order.ensures.turn.holds
+    ∙ found.keeps) c.requires.phase c.free_found-due.ensures c.args.turn.now.in_order
+    c.look_at_quarantine-quar.new.turn.in_order

@@ -4,7 +4,7 @@ use Rattle.mk_objects.proofs.freeing.set_tally.Goals as goal
 pub tally-requires-clause-enabled : goal.tally-requires-clause-enabled
 tally-requires-clause-enabled c =
     let p : PassState = c.args.turn.now.pass in
-    may_tally (acting_now c.is_in_order.ensures.turn c.requires.acting) c.args.tally c.args.value
+    may_tally (acting_now c.args.turn.now.in_order c.requires.acting) c.args.tally c.args.value
 
 pub returns : goal.returns
-returns c = sets_tally c.is_in_order.ensures.turn c.requires.acting c.tally.ensures
+returns c = sets_tally c.args.turn.now.in_order c.requires.acting c.tally.ensures

@@ -1,4 +1,4 @@
-use Rattle.mk_laws.proofs.Vocabulary.{Seat, ap, false, not, sym, true, ◌∙◌, ◌≡◌}
+use Rattle.mk_laws.proofs.Vocabulary.{Seat, ap, not, sym, ◌∙◌, ◌≡◌}
 use Rattle.mk_objects.proofs.Vocabulary.{all_others, is_holding}
 use Rattle.mk_objects.proofs.{SetGates.set_nothing, gates.hold_other.Goals.After-is_own}
 use Rattle.mk_objects.proofs.gates.hold_other.Goals as goal

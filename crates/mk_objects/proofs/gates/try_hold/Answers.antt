@@ -6,7 +6,7 @@ use Rattle.mk_objects.proofs.gates.try_hold.Goals as goal
 pub try_hold-requires-clause-enabled : goal.try_hold-requires-clause-enabled
 try_hold-requires-clause-enabled c =
     let p : PassState = c.args.turn.now.pass in
-    may_hold (acting_now c.is_in_order.ensures.turn c.requires.acting) c.args.caller
+    may_hold (acting_now c.args.turn.now.in_order c.requires.acting) c.args.caller
     c.requires.within c.requires.another c.requires.open
 
 pub returns-clause-held : goal.returns-clause-held
@@ -15,8 +15,7 @@ returns-clause-held c =
 
 pub returns-clause-sets : goal.returns-clause-sets
 returns-clause-sets c =
-    sets_hold c.try_hold.new.self.pass c.args.caller c.is_in_order.ensures.turn c.requires.acting
-    c.try_hold.ensures.acts (returns-clause-held c)
+    sets_hold c.args.turn.now.in_order c.requires.acting c.try_hold.ensures.acts (returns-clause-held c)
 
 pub returns-clause-keeps : goal.returns-clause-keeps
 returns-clause-keeps c =

@@ -5,19 +5,15 @@ use Rattle.mk_objects.proofs.looking.look_at.Goals as goal
 
 pub look-requires-clause-enabled : goal.look-requires-clause-enabled
 look-requires-clause-enabled c =
-    let t = c.args.turn.now in
-    may_look (acting_now c.is_in_order.ensures.turn c.requires.acting) c.args.word c.requires.steady c.requires.in_range
+    may_look (acting_now c.args.turn.now.in_order c.requires.acting) c.args.word c.requires.steady c.requires.in_range
 
 pub returns-clause-looks : goal.returns-clause-looks
 returns-clause-looks c =
-    look_reaches c.is_in_order.ensures.turn c.requires.acting (steady_is_plain c.args.word c.requires.steady)
+    look_reaches c.args.turn.now.in_order c.requires.acting (steady_is_plain c.args.word c.requires.steady)
     c.look.ensures.acts
 
 pub returns-clause-finds : goal.returns-clause-finds
-returns-clause-finds c =
-    let t = c.args.turn.now in
-    found_steady t.pass c.look.new.self.pass c.args.word c.look.result c.is_in_order.ensures.turn
-    c.look.ensures.finds c.requires.steady
+returns-clause-finds c = found_steady c.args.turn.now.in_order c.look.ensures.finds c.requires.steady
 
 pub returns-clause-keeps : goal.returns-clause-keeps
 returns-clause-keeps c =

@@ -7,25 +7,23 @@ use Rattle.mk_objects.proofs.placing.mark_first.Goals as goal
 
 pub mark-requires-clause-enabled : goal.mark-requires-clause-enabled
 mark-requires-clause-enabled c =
-    mark_may (knows_place c.is_in_order.ensures.turn c.is_in_order.ensures.history c.requires.goes) c.requires.free
+    mark_may (knows_place c.args.turn.now.in_order c.requires.goes) c.requires.free
     (c.bits.ensures ∙ ap (λ (o : Object). bits_made o) c.requires.shape) (sym c.requires.marking ∙ c.if-marking.true)
 
 pub returns-then-marking-clause-carved : goal.returns-then-marking-clause-carved
 returns-then-marking-clause-carved c =
-    marks_first (knows_place c.is_in_order.ensures.turn c.is_in_order.ensures.history c.requires.goes) c.requires.free
-    (c.bits.ensures ∙ ap (λ (o : Object). bits_made o) c.requires.shape) (sym c.requires.marking ∙ c.if-marking.true)
-    c.mark.ensures
+    marks_first (knows_place c.args.turn.now.in_order c.requires.goes) c.requires.free (c.bits.ensures
+    ∙ ap (λ (o : Object). bits_made o) c.requires.shape) (sym c.requires.marking ∙ c.if-marking.true) c.mark.ensures
 
 pub returns-else-marking-clause-carved : goal.returns-else-marking-clause-carved
 returns-else-marking-clause-carved c =
-    marks_none (knows_place c.is_in_order.ensures.turn c.is_in_order.ensures.history c.requires.goes) c.requires.free
+    marks_none (knows_place c.args.turn.now.in_order c.requires.goes) c.requires.free
     (sym c.requires.marking ∙ c.if-marking.false)
 
 pub returns-then-marking-clause-reached : goal.returns-then-marking-clause-reached
 returns-then-marking-clause-reached c =
-    first_mark_sweeps (knows_place c.is_in_order.ensures.turn c.is_in_order.ensures.history c.requires.goes)
-    c.requires.free (c.bits.ensures ∙ ap (λ (o : Object). bits_made o) c.requires.shape)
-    (sym c.requires.marking ∙ c.if-marking.true) c.mark.ensures
+    first_mark_sweeps (knows_place c.args.turn.now.in_order c.requires.goes) c.requires.free (c.bits.ensures
+    ∙ ap (λ (o : Object). bits_made o) c.requires.shape) (sym c.requires.marking ∙ c.if-marking.true) c.mark.ensures
 
 pub returns-else-marking-clause-reached : goal.returns-else-marking-clause-reached
 returns-else-marking-clause-reached c = nothing_sweeps c.args.turn.now.pass

@@ -13,8 +13,8 @@ pub page-page-requires : goal.page-page-requires
 page-page-requires c =
     let x = goal.at.page-page-requires c in
     let p : PassState = c.args.turn.now.pass in
-    let within = fit_within c.in-Some.place c.is_in_order.ensures.turn
-    c.is_in_order.ensures.history c.requires.unplaced (fit x.After-seek ∙ c.in-Some.is) in
+    let within = fit_within c.in-Some.place c.args.turn.now.in_order c.requires.unplaced
+    (fit x.After-seek ∙ c.in-Some.is) in
     omega (arith, within, (histories_keep_lengths p.table.config p.seen).pages)
 
 pub serve_now-requires-clause-goes : goal.serve_now-requires-clause-goes
@@ -25,8 +25,7 @@ returns-in-None-clause-nowhere c =
     let x = goal.at.returns-in-None-clause-nowhere c in
     let p : PassState = c.args.turn.now.pass in
     λ h. record {
-      nowhere = place_found c.is_in_order.ensures.turn c.is_in_order.ensures.history c.requires.unplaced
-          (fit x.After-seek ∙ c.in-None.is);
+      nowhere = place_found c.args.turn.now.in_order c.requires.unplaced (fit x.After-seek ∙ c.in-None.is);
       looks = looks_nothing p;
     }
 
@@ -39,8 +38,7 @@ returns-in-Some-clause-placed c =
     let p : PassState = c.args.turn.now.pass in
     λ h. record {
       place = c.in-Some.place;
-      fits = place_found c.is_in_order.ensures.turn c.is_in_order.ensures.history c.requires.unplaced
-          (fit x.After-seek ∙ c.in-Some.is);
+      fits = place_found c.args.turn.now.in_order c.requires.unplaced (fit x.After-seek ∙ c.in-Some.is);
       granted = granted_behind_looks (looks_nothing p) c.serve_now.ensures.granted;
       held = c.serve_now.ensures.held;
     }

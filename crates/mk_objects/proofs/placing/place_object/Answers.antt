@@ -17,16 +17,15 @@ fit c is = grind (arith, fit_found)
 
 pub shape_of-shape-requires : goal.shape_of-shape-requires
 shape_of-shape-requires c =
-    let has = type_asked c.args.turn.now.pass c.requires.one_table c.is_in_order.ensures.history
-    c.requires.requested.op in
+    let has = type_asked c.requires.one_table c.args.turn.now.in_order c.requires.requested.op in
     rw c.types.ensures (ltb-true c.args.request.ty _ has)
 
 pub page-used-requires : goal.page-used-requires
 page-used-requires c =
     let x = goal.at.page-used-requires c in
     let p : PassState = c.args.turn.now.pass in
-    let within = fit_within c.in-Some.place c.is_in_order.ensures.turn c.is_in_order.ensures.history
-    c.requires.unplaced (fit x.In-Some (shape_is x.After-shape_of-shape)) in
+    let within = fit_within c.in-Some.place c.args.turn.now.in_order c.requires.unplaced
+    (fit x.In-Some (shape_is x.After-shape_of-shape)) in
     omega (arith, within, (histories_keep_lengths p.table.config p.seen).pages)
 
 pub place_apart-requires-clause-shape : goal.place_apart-requires-clause-shape
@@ -44,7 +43,7 @@ returns-in-Some-clause-placed c =
     let p : PassState = c.args.turn.now.pass in
     λ h. record {
       place = c.in-Some.place;
-      fits = place_found c.is_in_order.ensures.turn c.is_in_order.ensures.history c.requires.unplaced
+      fits = place_found c.args.turn.now.in_order c.requires.unplaced
           (fit x.In-Some (shape_is x.After-shape_of-shape));
       granted = granted_behind_looks (looks_nothing p) c.serve_now.ensures.granted;
       held = c.serve_now.ensures.held;

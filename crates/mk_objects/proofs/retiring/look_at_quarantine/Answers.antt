@@ -8,7 +8,7 @@ pub look-requires-clause-enabled : goal.look-requires-clause-enabled
 look-requires-clause-enabled c =
     let p : PassState = c.args.turn.now.pass in
     let free = loaded_undecided c.args.value c.requires.free c.requires.some in
-    may_look_quarantine (acting_now c.is_in_order.ensures.turn (free_is_acting (call_of p) free))
+    may_look_quarantine (acting_now c.args.turn.now.in_order (free_is_acting (call_of p) free))
     c.args.cell.page c.requires.within
 
 pub look-requires-clause-admitted : goal.look-requires-clause-admitted
@@ -16,18 +16,18 @@ look-requires-clause-admitted c =
     let p : PassState = c.args.turn.now.pass in
     let free = loaded_undecided c.args.value c.requires.free c.requires.some in
     λ decides. free_step_admits (Step.Look (Word.Quar c.args.cell.page))
-    (acting_caller p (free_is_acting (call_of p) free)) c.is_in_order.ensures.turn.holds c.is_in_order.ensures.history
+    (acting_caller p (free_is_acting (call_of p) free)) c.args.turn.now.in_order
     c.requires.free refl
 
 pub returns-clause-seen : goal.returns-clause-seen
 returns-clause-seen c =
     let free = loaded_undecided c.args.value c.requires.free c.requires.some in
-    see_reaches c.args.cell c.is_in_order.ensures.turn free c.requires.cell c.look.ensures.acts
+    see_reaches c.args.cell c.args.turn.now.in_order free c.requires.cell c.look.ensures.acts
 
 pub returns-clause-finds : goal.returns-clause-finds
-returns-clause-finds c = found_quarantine c.is_in_order.ensures.turn c.look.ensures.finds
+returns-clause-finds c = found_quarantine c.args.turn.now.in_order c.look.ensures.finds
 
 pub returns-clause-keeps : goal.returns-clause-keeps
 returns-clause-keeps c =
     let free = loaded_undecided c.args.value c.requires.free c.requires.some in
-    λ live r lt. see_keeps r c.args.cell lt c.is_in_order.ensures.turn free c.requires.cell live c.look.ensures.acts
+    λ live r lt. see_keeps r c.args.cell lt c.args.turn.now.in_order free c.requires.cell live c.look.ensures.acts

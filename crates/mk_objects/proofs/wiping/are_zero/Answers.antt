@@ -27,7 +27,7 @@ loop-i-preserved c =
     let q : PassState = c.look_on_page-all.new.self.pass in
     let found : ℕ = c.look_on_page-all.result in
     let seen : (n : ℕ) → WipesTo p c.args.run n c.loop-i.turn.pass → WipesTo p c.args.run n q =
-    λ n reached. looks_then c.is_in_order.ensures.turn c.requires.may word reached
+    λ n reached. looks_then c.args.turn.now.in_order c.requires.may word reached
     (omega (arith, group, c.loop-i-test.true)) c.look_on_page-all.ensures.acts in
     record {
       still = seen (8 * c.args.group) i.still;
@@ -35,7 +35,7 @@ loop-i-preserved c =
           let before : c.loop-i.all ≡ 0 =
           let most = le_or_l c.loop-i.all found in omega (arith, most, none) in
           let here : found ≡ 0 = let most = le_or_r c.loop-i.all found in omega (arith, most, none) in
-          subst (λ n. WipesTo p c.args.run n q) next (found_wiped c.is_in_order.ensures.turn c.requires.may
+          subst (λ n. WipesTo p c.args.run n q) next (found_wiped c.args.turn.now.in_order c.requires.may
           (seen word (i.zero before)) c.look_on_page-all.ensures.finds here);
     }
 

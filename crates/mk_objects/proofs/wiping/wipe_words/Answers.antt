@@ -15,7 +15,7 @@ look_on_page-found-requires-clause-page c = omega (arith, c.requires.part, c.loo
 pub wipe-requires-clause-enabled : goal.wipe-requires-clause-enabled
 wipe-requires-clause-enabled c =
     let near : c.loop-word.word < 64 * c.args.run.count = omega (arith, c.requires.group, c.loop-word-test.true) in
-    wipe_may c.is_in_order.ensures.turn c.requires.may (looks_then c.is_in_order.ensures.turn c.requires.may
+    wipe_may c.args.turn.now.in_order c.requires.may (looks_then c.args.turn.now.in_order c.requires.may
     c.loop-word.word c.loop-word.invariant.wiped near c.look_on_page-found.ensures.acts) near
 
 pub loop-word-preserved : goal.loop-word-preserved
@@ -24,7 +24,7 @@ loop-word-preserved c =
     let i = c.loop-word.invariant in
     let n = c.loop-word.word in
     let near : n < 64 * c.args.run.count = omega (arith, c.requires.group, c.loop-word-test.true) in
-    let turn = c.is_in_order.ensures.turn in
+    let turn = c.args.turn.now.in_order in
     let may = c.requires.may in
     let seen = looks_then turn may n i.wiped near c.look_on_page-found.ensures.acts in
     elim c.if-found-ne0.branch [
