@@ -4,7 +4,7 @@ use Rattle.mk_laws.proofs.Vocabulary.{Config, Event, List, None, Seat, Step, Wor
 use Rattle.mk_core.specs.Growing.{Grows}
 use Rattle.mk_cycle.proofs.Begun.{begun_then, does_begin_none, finish_begins_none, has_on, step_begins_none}
 use Rattle.mk_cycle.specs.{BeginCycle.BeginsCycle, Begun.EachIsBegun, EngineLaw.IsAtPhase, FinishCycle.FinishesCycle}
-use Rattle.mk_heap.proofs.MovedHosts.{MovesOn, idle_moves, turn_moves}
+use Rattle.mk_heap.proofs.MovedHosts.{MovesOn, idle_moves, taken_own, turn_moves}
 use Rattle.mk_heap.specs.Ending.{EndsCycle, SaysOver, TakesIdleTurn}
 use Rattle.mk_turns.proofs.Sweeping.{only_seen, only_seen_by, other_step_sweeps, others_sweep, step_then_sweeps}
 use Rattle.mk_turns.{proofs.Sweeping.{sweeps_then}, specs.Sweeping.{SweepsNothing, is_mark}}
@@ -24,31 +24,31 @@ module _ (begins : Config → Seat → List Event → List Event → Type 0) whe
   idle_same : {p idle : PassState} → TakesIdleTurn p idle → idle ≡ record p { seen = idle.seen }
   idle_same {p} {idle} takes = let m = idle_moves p idle takes in only_seen p idle m.more m.is
 
-  idle_begun : {p idle : PassState} → Has p.seats p.seat → TakesIdleTurn p idle → EachIsBegun begins p idle
-  idle_begun {p} {idle} own takes =
+  idle_begun : {p idle : PassState} → TakesIdleTurn p idle → EachIsBegun begins p idle
+  idle_begun {p} {idle} takes =
+      let own = taken_own takes.takes in
       let m = turn_moves p takes.taken takes.takes in
       let same = only_seen p takes.taken m.more m.is in
       begun_then begins p takes.taken idle same (does_begin_none begins is_take p takes.taken (λ x h. grind arith)
       (taking_does p None takes.taken own takes.takes)) (ending_begun (has_on p takes.taken same own) takes.ends)
 
   -- a whole cycle
-  pub cycle_begun : {p idle begun ended q : PassState} → Has p.seats p.seat → TakesIdleTurn p idle
-      → BeginsCycle idle begun → EachIsBegun begins idle begun → FinishesCycle begun ended → Makes ended Step.Give q
-      → EachIsBegun begins p q
-  cycle_begun {p} {idle} {begun} {ended} {q} own takes law part finishes gives =
-      let own_begun = has_on idle begun law.pass (has_on p idle (idle_same takes) own) in
-      begun_then begins p idle q (idle_same takes) (idle_begun own takes) (begun_then begins idle begun q law.pass part
+  pub cycle_begun : {p idle begun ended q : PassState} → TakesIdleTurn p idle → BeginsCycle idle begun
+      → EachIsBegun begins idle begun → FinishesCycle begun ended → Makes ended Step.Give q → EachIsBegun begins p q
+  cycle_begun {p} {idle} {begun} {ended} {q} takes law part finishes gives =
+      let own_begun = has_on idle begun law.pass (has_on p idle (idle_same takes) (taken_own takes.takes)) in
+      begun_then begins p idle q (idle_same takes) (idle_begun takes) (begun_then begins idle begun q law.pass part
       (begun_then begins begun ended q finishes.pass (finish_begins_none begins begun ended own_begun finishes)
       (step_begins_none begins ended q Step.Give (has_on begun ended finishes.pass own_begun) gives refl)))
 
   -- and an `over`, which begins none
-  pub over_begun : (p q : PassState) → Has p.seats p.seat → SaysOver p q → EachIsBegun begins p q
-  over_begun p q own over =
+  pub over_begun : (p q : PassState) → SaysOver p q → EachIsBegun begins p q
+  over_begun p q over =
       let takes : TakesIdleTurn p over.idle = record { taken = over.taken; takes = over.takes; ends = over.ends } in
       let same = idle_same takes in
       let same_said = only_seen_by over.idle over.said Step.Over over.says in
-      let own_idle = has_on p over.idle same own in
-      begun_then begins p over.idle q same (idle_begun own takes) (begun_then begins over.idle over.said q same_said
+      let own_idle = has_on p over.idle same (taken_own over.takes) in
+      begun_then begins p over.idle q same (idle_begun takes) (begun_then begins over.idle over.said q same_said
       (step_begins_none begins over.idle over.said Step.Over own_idle over.says refl)
       (step_begins_none begins over.said q Step.Give (has_on over.idle over.said same_said own_idle) over.gives refl))
 
@@ -58,10 +58,9 @@ pub moved_then_sweeps : {p q r : PassState} → MovesOn p q → SweepsNothing p 
 moved_then_sweeps {p} {q} {r} m one two = sweeps_then p q r (only_seen p q m.more m.is) one two
 
 -- It takes the turn, and then its parts sweep nothing.
-pub taken_then_sweeps : {p taken q : PassState} → Has p.seats p.seat → TakesTurn p None taken → SweepsNothing taken q
-    → SweepsNothing p q
-taken_then_sweeps {p} {taken} {q} own takes rest =
-    moved_then_sweeps (turn_moves p taken takes) (taking_sweeps p None taken own takes) rest
+pub taken_then_sweeps : {p taken q : PassState} → TakesTurn p None taken → SweepsNothing taken q → SweepsNothing p q
+taken_then_sweeps {p} {taken} takes rest =
+    moved_then_sweeps (turn_moves p taken takes) (taking_sweeps p None taken (taken_own takes) takes) rest
 
 -- with no cycle on
 pub idle_then_sweeps : {p idle q : PassState} → TakesIdleTurn p idle → SweepsNothing p idle → SweepsNothing idle q

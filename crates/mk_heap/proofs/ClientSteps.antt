@@ -5,7 +5,7 @@ use Rattle.mk_laws.proofs.Vocabulary.{calls, length, list_any-append, never_behi
 use Rattle.mk_laws.proofs.Vocabulary.{◌<◌, ◌∙◌, ◌∷◌, ◌≡◌}
 use Rattle.mk_never.proofs.Later.{calls_stay}
 use Rattle.mk_core.specs.History.{never_first}
-use Rattle.mk_caller.specs.States.{Admits, CallerState, at_home}
+use Rattle.mk_caller.specs.States.{Admits, CallerState, IsAtHome}
 use Rattle.mk_heap.specs.Hosts.{AllAreJoined, HostState, first_host, pass_for, with_caller_made, with_joined, with_seen}
 use Rattle.mk_heap.specs.{Clients.IsPassOf, Ending.SaysOver}
 use Rattle.mk_words.proofs.Seats.{has_right}
@@ -18,9 +18,9 @@ registers_are c es = (calls_stay (never_first c) (asked (calls c es))).registers
 pub may_clear : {p : PassState} (d : ℕ) → IsPassOf p.table p → d < 8 → Admits p (Op.Clear d)
 may_clear d of small = grind (arith, registers_are)
 
-pub pass_of_next : (h : HostState) (x : CallerState) (w : WordsState) → x ≡ at_home (pass_for h (Caller h.callers))
+pub pass_of_next : (h : HostState) (x : CallerState) (w : WordsState) → IsAtHome x (pass_for h (Caller h.callers))
     → h.pass.table ≡ w → h.callers < w.config.callers → IsPassOf x.pass.table x.pass
-pass_of_next h x w is table lt = subst (λ (y : CallerState). IsPassOf y.pass.table y.pass) (sym is) (record {
+pass_of_next h x w is table lt = subst (λ (p : PassState). IsPassOf p.table p) (sym is.pass) (record {
   number = h.callers;
   exists = subst (λ (v : WordsState). h.callers < v.config.callers) (sym table) lt;
   table = refl;
@@ -40,7 +40,7 @@ pass_of_later q is of = grind arith
 
 -- the first caller
 pub pass_of_first : (h : HostState) (x : CallerState) (w : WordsState) → h ≡ first_host w → IsWithinLimits w.config
-    → x ≡ at_home (pass_for h (Caller h.callers)) → IsPassOf x.pass.table x.pass
+    → IsAtHome x (pass_for h (Caller h.callers)) → IsPassOf x.pass.table x.pass
 pass_of_first h x w first limits is = grind (arith, pass_of_next)
 
 -- Where one caller was made, and no marker, all are joined when it is, whatever was seen since.

@@ -1,9 +1,9 @@
 -- The host's pass goes on: it waits for the turn, and makes steps of its own.
 use Rattle.std.specs.List.{list_all}
-use Rattle.mk_laws.proofs.Vocabulary.{Bool, Caller, Event, Host, IsHistory, List, Marker, None, Seat, Step, Word}
-use Rattle.mk_laws.proofs.Vocabulary.{and_parts, ap, append_assoc, arith, false, host_has_turn, inl, inr, is_one_of}
-use Rattle.mk_laws.proofs.Vocabulary.{left, not, not-true, or_cases, refl, subst, sym, true, true≢false, [], ◌&&◌, ◌++◌}
-use Rattle.mk_laws.proofs.Vocabulary.{◌||◌, ◌∙◌, ◌∷◌, ◌≡◌, ◌⊎◌}
+use Rattle.mk_laws.proofs.Vocabulary.{Bool, Caller, Event, Host, IsHistory, List, Marker, None, Op, Option, Seat, Step}
+use Rattle.mk_laws.proofs.Vocabulary.{Word, and_parts, ap, append_assoc, arith, false, host_has_turn, inl, inr}
+use Rattle.mk_laws.proofs.Vocabulary.{is_one_of, left, not, not-true, or_cases, refl, subst, sym, true, true≢false, []}
+use Rattle.mk_laws.proofs.Vocabulary.{◌&&◌, ◌++◌, ◌||◌, ◌∙◌, ◌∷◌, ◌≡◌, ◌⊎◌}
 use Rattle.mk_core.specs.Growing.{AreOfOthers, is_same_seat}
 use Rattle.mk_cycle.specs.Kinds.{begins_marking, clears, closes_marks, holds_gates, is_giving_back, sets_tallies}
 use Rattle.mk_cycle.specs.{BeginCycle.BeginsCycle, FinishCycle.FinishesCycle}
@@ -11,7 +11,7 @@ use Rattle.mk_heap.{proofs.HostsKept.{still_rests}, specs.{Ending.TakesIdleTurn,
 use Rattle.mk_turns.specs.Doing.{AreOwnOrOfOthers, Does}
 use Rattle.mk_waiting.{proofs.Waiting.{joined_lists, waits_more}, specs.Taking.{TakesTurn, Waits, is_take, waits_for}}
 use Rattle.mk_words.proofs.Seats.{has_not, only_one, others_append, others_one, others_own, same_seat, same_self}
-use Rattle.mk_words.specs.{Seats.Has, States.{PassState, event_of, now_of}, Steps.Makes}
+use Rattle.mk_words.{proofs.Made.{own_before}, specs.{Seats.Has, States.{PassState, event_of, now_of}, Steps.Makes}}
 
 -- The host's pass has seen more: no event of a seat that is home, but for its own.
 pub record MovesOn (p q : PassState) : Type 0 where
@@ -48,6 +48,10 @@ waits_leave p x (e ∷ es) has other h =
 
 pub waits_move : {p q : PassState} → Waits p q → MovesOn p q
 waits_move {p} w = record { more = w.more; is = w.is; leaves = λ x has other. waits_leave p x w.more has other w.only }
+
+-- It is one of its own seats.
+pub taken_own : {p q : PassState} {o : Option Op} → TakesTurn p o q → Has p.seats p.seat
+taken_own t = subst (λ (r : PassState). Has r.seats r.seat) t.waits.is (own_before t.takes.makes)
 
 pub turn_moves : (p q : PassState) → TakesTurn p None q → MovesOn p q
 turn_moves p q t = waits_move (waits_more p t.waited q None t.waits t.takes.makes)

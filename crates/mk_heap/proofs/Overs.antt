@@ -3,20 +3,21 @@ use Rattle.std.proofs.lemmas.List.Sums.{count_by-le-length}
 use Rattle.mk_laws.proofs.Vocabulary.{Config, Event, Host, IsHistory, List, None, Seat, Steady, Step, TalliesAreTidy}
 use Rattle.mk_laws.proofs.Vocabulary.{Word, World, ℕ, and_from, ap, append-nil, arith, eq-eqb, false, has_phase}
 use Rattle.mk_laws.proofs.Vocabulary.{host_has_turn, inl, inr, left, ne_eqb, phase_of, refl, subst, true, ◌%◌, ◌+◌, ◌/◌}
-use Rattle.mk_laws.proofs.{Vocabulary.{◌^◌, ◌∙◌, ◌≡◌, ◌≤◌, ◌⊎◌}, Actors.give_phase, Settled.gone_is_unmapped}
-use Rattle.mk_laws.proofs.Tallies.{counts_tidy_more}
+use Rattle.mk_laws.proofs.Vocabulary.{◌^◌, ◌∙◌, ◌≡◌, ◌≤◌, ◌⊎◌}
 use Rattle.mk_core.proofs.Histories.{calls_more}
-use Rattle.mk_core.specs.{Counts.TalliesAreExact, Frames.{CountsAreLeft, steady_of}, Moments.none_is_held}
+use Rattle.mk_core.specs.{Counts.TalliesAreExact, Frames.CountsAreLeft, Frames.steady_of, Moments.none_is_held}
+use Rattle.mk_laws.proofs.{Actors.give_phase, Settled.gone_is_unmapped, Tallies.counts_tidy_more}
 use Rattle.mk_cycle.proofs.KeptInParts.{free_then, gates_behind, keeps_less, same_config}
-use Rattle.mk_cycle.proofs.{OwnSteps.{keeps_call, keeps_counts, steady_behind}, Allowed.protocol}
-use Rattle.mk_cycle.proofs.{BeginSteps.none_held_kept, CleaningSteps.calm_keeps, MayAct.may_act}
-use Rattle.mk_cycle.specs.{EngineLaw.{IsAtPhase, IsFreeForCycle}, TurnKeeps.{InTurn, LeavesTurn, but_phase, unchanged}}
-use Rattle.mk_cycle.specs.{BeginCycle.BeginsCycle, FinishCycle.FinishesCycle}
-use Rattle.mk_heap.{proofs.{HomeCallers.taken_overs, MovedHosts.turn_moves}, specs.Ending.{IsIdleTurn, TakesIdleTurn}}
+use Rattle.mk_cycle.proofs.OwnSteps.{keeps_call, keeps_counts, steady_behind}
+use Rattle.mk_cycle.proofs.{Allowed.protocol, BeginSteps.none_held_kept, CleaningSteps.calm_keeps, MayAct.may_act}
+use Rattle.mk_cycle.specs.{BeginCycle.BeginsCycle, EngineLaw.IsAtPhase, EngineLaw.IsFreeForCycle}
+use Rattle.mk_cycle.specs.{FinishCycle.FinishesCycle, TurnKeeps.LeavesTurn, TurnKeeps.but_phase, TurnKeeps.unchanged}
+use Rattle.mk_heap.proofs.{HomeCallers.taken_overs, MovedHosts.taken_own, MovedHosts.turn_moves}
+use Rattle.mk_heap.specs.Ending.{IsIdleTurn, TakesIdleTurn}
 use Rattle.mk_waiting.specs.Taking.{TakesTurn}
 use Rattle.mk_words.proofs.{Made.made, OverPhases.end_is_behind_over, Tallies.settled_tallies}
-use Rattle.mk_words.specs.{Seats.{Has, has_over}, States.{PassState, now_of}, Steps.{Finds, IsAdmittedTo, IsEnabledTo}}
-use Rattle.mk_words.specs.TurnSteps.{Acts, IsFresh, world_at}
+use Rattle.mk_words.specs.{Seats.Has, Seats.has_over, States.IsTurn, States.PassState, States.now_of, Steps.Finds}
+use Rattle.mk_words.specs.{Steps.IsAdmittedTo, Steps.IsEnabledTo, TurnSteps.Acts, TurnSteps.IsFresh, TurnSteps.world_at}
 
 -- The host's turn before an `over`: whether a cycle is on, and that none is after the end of one.
 
@@ -34,7 +35,7 @@ fresh_free f = grind arith
 
 -- The look at the phase keeps all.
 
-pub look_keeps : {p q : PassState} → InTurn p → IsFreeForCycle p → Acts p (Step.Look Word.Phase) q
+pub look_keeps : {p q : PassState} → IsTurn p → IsFreeForCycle p → Acts p (Step.Look Word.Phase) q
     → LeavesTurn unchanged p q
 look_keeps {p} {q} t free a = calm_keeps p (Step.Look Word.Phase) q a t a.makes.pass.history refl free unchanged refl
 
@@ -56,20 +57,19 @@ finished_idle host free f exact tidy = grind (arith, same_config)
 
 -- The host took the turn, before its `over`, and looked at the phase.
 pub record HasLooked (h p : PassState) (n : ℕ) (q : PassState) : Type 0 where
-  pub own : Has h.seats h.seat
   pub host : h.seat ≡ Host
   pub before_over : has_over h.seen ≡ false
   pub takes : TakesTurn h None p
   pub fresh : IsFresh p None
   pub exact : TalliesAreExact p.table.config p.seen
   pub tidy : TalliesAreTidy p.table.config p.seen
-  pub turn : InTurn p
+  pub turn : IsTurn p
   pub finds : Finds p (Step.Look Word.Phase) n q
   pub acts : Acts p (Step.Look Word.Phase) q
 
 module _ {h p : PassState} {n : ℕ} {q : PassState} (l : HasLooked h p n q) where
   pub host_has : Has h.seats Host
-  host_has = subst (λ (s : Seat). Has h.seats s) l.host l.own
+  host_has = subst (λ (s : Seat). Has h.seats s) l.host (taken_own l.takes)
 
   pub looked : LeavesTurn unchanged p q
   looked = look_keeps l.turn (fresh_free l.fresh) l.acts
@@ -127,7 +127,7 @@ cycle_idle idle begins finishes = grind (arith, finished_idle, begun_free)
 over_phase : (n markers : ℕ) → n % 8 ≡ 0 → n / 8 ≡ markers → markers ≤ 8 → (n + 5) % 2 ^ 64 % 8 ≡ 5
 over_phase n markers none high few = omega arith
 
-module _ (p q : PassState) (t : InTurn p) (idle : IsIdleTurn p) (u : InTurn q) (a : Acts p Step.Over q) where
+module _ (p q : PassState) (t : IsTurn p) (idle : IsIdleTurn p) (u : IsTurn q) (a : Acts p Step.Over q) where
   abbrev w : World
   w = world_at a.makes
 
@@ -149,7 +149,7 @@ pub record MayGive (p : PassState) : Type 0 where
   pub gates : none_is_held p.table.config.callers (now_of p).words ≡ true
   pub exact : TalliesAreExact p.table.config p.seen
 
-pub give_allowed : {p : PassState} → InTurn p → MayGive p → IsEnabledTo p Step.Give
+pub give_allowed : {p : PassState} → IsTurn p → MayGive p → IsEnabledTo p Step.Give
 give_allowed t may =
     grind (arith, may_act, protocol, and_from, eq-eqb, ne_eqb, give_phase, gone_is_unmapped, settled_tallies)
 
@@ -158,7 +158,7 @@ give_allowed t may =
 pub idle_may_give : {p : PassState} → IsIdleTurn p → MayGive p
 idle_may_give idle = grind arith
 
-pub over_may_give : {p q : PassState} → InTurn p → IsIdleTurn p → InTurn q → Acts p Step.Over q → MayGive q
+pub over_may_give : {p q : PassState} → IsTurn p → IsIdleTurn p → IsTurn q → Acts p Step.Over q → MayGive q
 over_may_give {p} {q} t idle u a =
     let keeps = over_keeps p q t idle u a in
     record {
@@ -194,7 +194,7 @@ pub given_phase : {p q : PassState} → Acts p Step.Give q → phase_of (now_of 
 given_phase a = ap (λ (w : World). phase_of w.now.words) a.world ∙ ap (λ (s : Steady). s.phase) a.turn.steady
 
 -- A turn of the host's that is fresh but for a look may be given back.
-pub looked_may_give : {p q : PassState} {x : Word} → p.seat ≡ Host → InTurn p → IsFresh p None
+pub looked_may_give : {p q : PassState} {x : Word} → p.seat ≡ Host → IsTurn p → IsFresh p None
     → Acts p (Step.Look x) q → TalliesAreExact p.table.config p.seen → MayGive q
 looked_may_give {p} {q} {x} host t f a exact =
     let keeps = calm_keeps p (Step.Look x) q a t a.makes.pass.history refl (fresh_free f) unchanged refl in

@@ -21,7 +21,6 @@ fn clear(caller: &mut Caller, d: u8)
     ensures home { caller.new.home ≡ true }
     ensures pass { caller.new.pass ≡ record caller.old.pass { seen = caller.new.pass.seen } }
 {
-    caller.is_idle();
     let _ = caller.clear(d);
 }
 

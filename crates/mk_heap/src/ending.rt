@@ -34,7 +34,6 @@ impl Host {
         let words = &heap.words;
         let home = take_home(&mut self.pass);
         let mut turn = take_idle_turn(rt, words, home, engine);
-        turn.is_in_order();
         turn.over(words);
         let back = turn.give(words);
         self.pass = Some(back);
@@ -62,11 +61,9 @@ impl Host {
     {
         let words = &heap.words;
         let home = take_home(&mut self.pass);
-        home.is_in_order();
         let mut turn = take_idle_turn(rt, words, home, engine);
         begin_cycle(rt, words, &mut turn, engine);
         let (turn, _) = finish_cycle(rt, words, turn, engine);
-        turn.is_in_order();
         let back = turn.give(words);
         self.pass = Some(back);
     }
@@ -90,9 +87,7 @@ fn take_idle_turn<E: Engine, R: Threads + Wait + Sync>(
     ensures idle { IsIdleTurn result.pass }
     ensures reached { E.sweeps ≡ false → SweepsNothing home result.pass }
 {
-    home.is_in_order();
     let mut turn = take_turn(rt, words, home, None);
-    turn.is_in_order();
     let found = turn.look(words, Word::Phase);
     if Phase::Marking.is_in(found) {
         finish_cycle(rt, words, turn, engine).0

@@ -2,7 +2,7 @@
 ghost use Rattle.std.specs.Prelude.{◌≡◌, ◌<◌, [], ◌∷◌, Some, IsSome, true, false};
 ghost use Rattle.mk_core.specs.{Counts.IsTidy, Growing.Grows, History.IsHistory, Ranges.is_word};
 ghost use Rattle.mk_words.specs.Seats.{Has, has_over};
-ghost use Rattle.mk_caller.specs.States.{at_home, IsIdleCaller};
+ghost use Rattle.mk_caller.specs.States.{IsAtHome, IsIdleCaller};
 ghost use Rattle.mk_marker.specs.Markers.{IsMarkers, IsOut};
 ghost use Rattle.mk_turns.specs.Sweeping.{SweepsNothing};
 ghost use Rattle.mk_heap.specs.Hosts.{pass_for, with_caller_made, with_caller_out, with_marker_made, with_joined};
@@ -63,7 +63,7 @@ impl Host {
         requires more { self.old.callers < heap.now.config.callers }
         requires before_over { has_over self.old.pass.seen ≡ false }
         ensures host { self.new ≡ with_caller_made self.old }
-        ensures caller { result ≡ at_home (pass_for self.old (seat.Caller self.old.callers)) }
+        ensures caller { IsAtHome result (pass_for self.old (seat.Caller self.old.callers)) }
     {
         let words = &heap.words;
         words.is_within_limits();
@@ -81,7 +81,7 @@ impl Host {
         requires joined { Has self.old.pass.seats (seat.Caller caller) }
         requires before_over { has_over self.old.pass.seen ≡ false }
         ensures host { self.new ≡ with_caller_out self.old caller }
-        ensures caller { result ≡ at_home (pass_for self.old (seat.Caller caller)) }
+        ensures caller { IsAtHome result (pass_for self.old (seat.Caller caller)) }
     {
         let words = &heap.words;
         let mut home = take_home(&mut self.pass);
@@ -168,9 +168,7 @@ impl Host {
     {
         let words = &heap.words;
         let home = take_home(&mut self.pass);
-        home.is_in_order();
         let mut turn = take_turn(rt, words, home, None);
-        turn.is_in_order();
         let found = turn.look(words, x);
         let back = turn.give(words);
         self.pass = Some(back);

@@ -3,15 +3,14 @@ use Rattle.std.proofs.Common.{IfErr, IfOk, OnErr}
 use Rattle.mk_laws.proofs.Vocabulary.{Answer, Bool, Event, List, NeverState, Null, Op, Seat, Value, ℕ, after_free, ap}
 use Rattle.mk_laws.proofs.Vocabulary.{arith, cases_eq, false, flagged, get_or-set_other, inl, inr, length, refl}
 use Rattle.mk_laws.proofs.Vocabulary.{register_at, subst, sym, true, [], ◌*◌, ◌+◌, ◌<◌, ◌∙◌, ◌∷◌, ◌≡◌, ◌≢◌}
-use Rattle.mk_heap_tests.proofs.Vocabulary.{BothMayAllocate, CallerState, Err, IsIdleCaller, IsPassOfObjects}
-use Rattle.mk_heap_tests.proofs.Vocabulary.{MayAllocate, Ok, OnOk, PassState, Result, WordsState, at_home}
-use Rattle.mk_heap_tests.proofs.Vocabulary.{caller_of_pass, value_of}
-use Rattle.mk_never.specs.{Admitted.IsBase, NeverHeap.after_op}
 use Rattle.mk_laws.proofs.OtherCalls.{never_continues}
+use Rattle.mk_heap_tests.proofs.Vocabulary.{BothMayAllocate, CallerState, Err, IsAtHome, IsIdleCaller, IsPassOfObjects}
+use Rattle.mk_heap_tests.proofs.Vocabulary.{MayAllocate, Ok, OnOk, PassState, Result, WordsState, caller_of_pass}
+use Rattle.mk_heap_tests.proofs.{Vocabulary.value_of, JoinedHosts.{has_registers, null_at_first, pass_after}}
+use Rattle.mk_never.specs.{Admitted.IsBase, NeverHeap.after_op}
 use Rattle.mk_alloc.specs.TurnCalls.{CalledInTurn, FreesObject, IsAnsweredDouble, IsAnsweredFull}
 use Rattle.mk_alloc.specs.declared.making.Full.{Full}
-use Rattle.mk_caller.{proofs.After.set_same, specs.States.never_then}
-use Rattle.mk_heap_tests.proofs.JoinedHosts.{has_registers, null_at_first, pass_after}
+use Rattle.mk_caller.{proofs.After.{set_same}, specs.States.{never_then}}
 use Rattle.mk_heap_tests.specs.HeldObjects.{BothGoOn, GoesOn, HoldsObjects, MayMakeObjects}
 use Rattle.mk_objects.specs.{declared.freeing.Double.Double, declared.freeing.Freed.Freed}
 use Rattle.mk_run.specs.Joining.{IsFirstPass}
@@ -141,32 +140,34 @@ both_then one two = grind arith
 
 -- Callers before their first call may make objects.
 
-pub may_at_first : {w : WordsState} {k m : ℕ} {p : PassState} {s : CallerState} → IsFirstPass w k p → s ≡ at_home p
+pub may_at_first : {w : WordsState} {k m : ℕ} {p : PassState} {s : CallerState} → IsFirstPass w k p → IsAtHome s p
     → k < w.config.callers → 0 < length w.config.types → m ≡ w.config.pages → MayAllocate m s
-may_at_first {w} {k} {m} {p} first is exists ty engine = subst (λ (x : CallerState). MayAllocate m x) (sym is) (record {
-  ready = record {
-    number = k;
-    home = refl;
-    seat = first.seat;
-    exists = subst (λ (v : WordsState). k < v.config.callers) (sym first.table) exists;
-    alone = first.alone;
-    objects = λ r lt. subst (λ (v : Value). IsBase v) (sym (null_at_first p r first.seen)) tt;
-  };
-  ty = subst (λ (v : WordsState). 0 < length v.config.types) (sym first.table) ty;
-  engine = engine ∙ sym (ap (λ (v : WordsState). v.config.pages) first.table);
-})
+may_at_first {w} {k} {m} {p} {s} first is exists ty engine =
+    let table : s.pass.table ≡ w = ap (λ (q : PassState). q.table) is.pass ∙ first.table in
+    record {
+      ready = record {
+        number = k;
+        home = is.home;
+        seat = ap (λ (q : PassState). q.seat) is.pass ∙ first.seat;
+        exists = subst (λ (v : WordsState). k < v.config.callers) (sym table) exists;
+        alone = rw is.pass first.alone;
+        objects = λ r lt. subst (λ (v : Value). IsBase v) (sym (null_at_first s.pass r (rw is.pass first.seen))) tt;
+      };
+      ty = subst (λ (v : WordsState). 0 < length v.config.types) (sym table) ty;
+      engine = engine ∙ sym (ap (λ (v : WordsState). v.config.pages) table);
+    }
 
 pub both_may : {w : WordsState} {m : ℕ} {p q : PassState} {s t : CallerState} → IsFirstPass w 0 p → IsFirstPass w 1 q
-    → s ≡ at_home p → t ≡ at_home q → w.config.callers ≡ 2 → 0 < length w.config.types → m ≡ w.config.pages
+    → IsAtHome s p → IsAtHome t q → w.config.callers ≡ 2 → 0 < length w.config.types → m ≡ w.config.pages
     → BothMayAllocate m s t
 both_may first second is_s is_t two ty engine = record {
   first = may_at_first first is_s (omega arith) ty engine;
   second = may_at_first second is_t (omega arith) ty engine;
-  one_table = cc (is_s, is_t, first.table, second.table);
+  one_table = cc (is_s.pass, is_t.pass, first.table, second.table);
 }
 
 -- The pass of one that has made objects.
 pub pass_of_objects : {w : WordsState} {k : ℕ} {p q : PassState} {s t : CallerState} → IsFirstPass w k p
-    → s ≡ at_home p → t.pass ≡ record s.pass { seen = t.pass.seen } → MayMakeObjects t → q ≡ t.pass
+    → IsAtHome s p → t.pass ≡ record s.pass { seen = t.pass.seen } → MayMakeObjects t → q ≡ t.pass
     → IsIdleCaller t.pass → IsPassOfObjects w k q
 pass_of_objects first is_s is_t ready is_q idle = grind (arith, pass_after)

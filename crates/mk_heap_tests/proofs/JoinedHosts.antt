@@ -4,8 +4,8 @@ use Rattle.mk_laws.proofs.Vocabulary.{Caller, Config, Event, Host, List, Null, S
 use Rattle.mk_laws.proofs.Vocabulary.{calls, false, host_has_turn, inl, inr, is_held, length, lt-ltb, never_behind, not}
 use Rattle.mk_laws.proofs.Vocabulary.{not-true, refl, subst, sym, true, [], ◌*◌, ◌++◌, ◌+◌, ◌<◌, ◌∙◌, ◌∷◌, ◌≡◌, ◌⊎◌}
 use Rattle.mk_laws.proofs.OrderlyLists.{at_first}
-use Rattle.mk_heap_tests.proofs.Vocabulary.{CallerState, Has, HoldsNull, HostState, IsCaller, IsIdleCaller, IsPassFor}
-use Rattle.mk_heap_tests.proofs.Vocabulary.{PassState, WordsState, at_home, caller_of_pass, has_all, now_of, pass_for}
+use Rattle.mk_heap_tests.proofs.Vocabulary.{CallerState, Has, HoldsNull, HostState, IsAtHome, IsCaller, IsIdleCaller}
+use Rattle.mk_heap_tests.proofs.Vocabulary.{IsPassFor, PassState, WordsState, caller_of_pass, has_all, now_of, pass_for}
 use Rattle.mk_heap_tests.{proofs.Vocabulary.{value_of}, specs.Passes.{HasJoinedOne}}
 use Rattle.mk_never.proofs.Later.{calls_stay}
 use Rattle.mk_core.specs.{History.{calls_from, never_first}, Moments.none_is_held}
@@ -42,7 +42,7 @@ pub holds_null : {w : WordsState} {k : ℕ} {p : PassState} → IsFirstPass w k 
 holds_null first lt = grind (arith, null_at_first)
 
 -- A pass after its caller's calls.
-pub pass_after : {w : WordsState} {k : ℕ} {p q r : PassState} {s : CallerState} → IsFirstPass w k p → s ≡ at_home p
+pub pass_after : {w : WordsState} {k : ℕ} {p q r : PassState} {s : CallerState} → IsFirstPass w k p → IsAtHome s p
     → r ≡ record s.pass { seen = r.seen } → q ≡ r → IsIdleCaller r → IsPassFor w k q
 pass_after first is_s is_r is_q idle = grind arith
 
@@ -56,10 +56,10 @@ alone_in f = f.alone ∙ ap (λ (s : Seat). s ∷ []) (sym f.seat)
 -- A host's callers before their first call.
 
 pub first_pass : (w : WordsState) (k : ℕ) (h : HostState) (s : CallerState) (p : PassState) → h.pass.table ≡ w
-    → h.pass.seen ≡ [] → h.callers ≡ k → s ≡ at_home (pass_for h (Caller h.callers)) → p ≡ s.pass
+    → h.pass.seen ≡ [] → h.callers ≡ k → IsAtHome s (pass_for h (Caller h.callers)) → p ≡ s.pass
     → IsIdleCaller s.pass → IsFirstPass w k p
 first_pass w k h s p table seen count is same idle =
-    let next : s.pass ≡ pass_for h (Caller h.callers) = ap (λ (r : CallerState). r.pass) is in
+    let next : s.pass ≡ pass_for h (Caller h.callers) = is.pass in
     let seat : Caller h.callers ≡ Caller k = ap (λ (j : ℕ). Caller j) count in
     subst (λ (r : PassState). IsFirstPass w k r) (sym same) (record {
       table = ap (λ (r : PassState). r.table) next ∙ table;
@@ -70,12 +70,12 @@ first_pass w k h s p table seen count is same idle =
     })
 
 pub first_of : (w : WordsState) (h : HostState) (s : CallerState) (p : PassState) → h ≡ first_host w
-    → s ≡ at_home (pass_for h (Caller h.callers)) → p ≡ s.pass → IsIdleCaller s.pass → IsFirstPass w 0 p
+    → IsAtHome s (pass_for h (Caller h.callers)) → p ≡ s.pass → IsIdleCaller s.pass → IsFirstPass w 0 p
 first_of w h s p is = first_pass w 0 h s p (ap (λ (x : HostState). x.pass.table) is)
     (ap (λ (x : HostState). x.pass.seen) is) (ap (λ (x : HostState). x.callers) is)
 
 pub second_of : (w : WordsState) (h g : HostState) (s : CallerState) (p : PassState) → h ≡ first_host w
-    → g ≡ with_caller_made h → s ≡ at_home (pass_for g (Caller g.callers)) → p ≡ s.pass → IsIdleCaller s.pass
+    → g ≡ with_caller_made h → IsAtHome s (pass_for g (Caller g.callers)) → p ≡ s.pass → IsIdleCaller s.pass
     → IsFirstPass w 1 p
 second_of w h g s p is made =
     let all : g ≡ with_caller_made (first_host w) = made ∙ ap (λ (x : HostState). with_caller_made x) is in
@@ -174,7 +174,7 @@ first_split {w} k {h = h} p u some is =
 
 -- the caller's pass, as its calls ask for it
 pub pass_of : {w : WordsState} {k : ℕ} {p : PassState} (s : CallerState) → IsFirstPass w k p → k < w.config.callers
-    → s ≡ at_home p → IsPassOf s.pass.table s.pass
+    → IsAtHome s p → IsPassOf s.pass.table s.pass
 pass_of s pass few is = grind arith
 
 pub none_is_held_at : (p : PassState) (j : ℕ) → j < p.table.config.callers

@@ -3,8 +3,8 @@ use Rattle.std.specs.Result.{is_err}
 use Rattle.mk_laws.proofs.Vocabulary.{Caller, Config, Event, Host, List, Marker, MarkerState, None, Seat, Steady, Step}
 use Rattle.mk_laws.proofs.Vocabulary.{ℕ, ap, arith, eq-eqb, false, is_held, is_number_of, marker_at, others_are_held}
 use Rattle.mk_laws.proofs.Vocabulary.{outside, phase_of, refl, subst, sym, true, [], ◌%◌, ◌∙◌, ◌∷◌, ◌≡◌}
-use Rattle.mk_heap_tests.proofs.Vocabulary.{CallerState, Err, Has, HostState, InTurn, IsEnabledTo, Ok, OnOk, PassState}
-use Rattle.mk_heap_tests.proofs.Vocabulary.{Result, WordsState, at_home, has_all, now_of, pass_for}
+use Rattle.mk_heap_tests.proofs.Vocabulary.{CallerState, Err, Has, HostState, IsAtHome, IsEnabledTo, IsTurn, Ok, OnOk}
+use Rattle.mk_heap_tests.proofs.Vocabulary.{PassState, Result, WordsState, has_all, now_of, pass_for}
 use Rattle.mk_heap_tests.proofs.JoinedHosts.{IsUnused, free_at_first, has_joined, none_is_held_at, only_zero, split_is}
 use Rattle.mk_heap_tests.proofs.JoinedHosts.{still_unused, unused}
 use Rattle.mk_core.specs.{History.left_from, MarkerConditions.is_out}
@@ -82,7 +82,7 @@ on_ok (Ok a) P is h = h
 on_ok (Err e) P is h = cc
 
 -- The stop of the one caller, in which the close is wanted.
-module _ (w : WordsState) {p : PassState} (m : HostIsMarking w p) (one : w.config.callers ≡ 1) (t : InTurn p) where
+module _ (w : WordsState) {p : PassState} (m : HostIsMarking w p) (one : w.config.callers ≡ 1) (t : IsTurn p) where
   one_caller : p.table.config.callers ≡ 1
   one_caller = ap (λ (v : WordsState). v.config.callers) m.table ∙ one
 
@@ -93,8 +93,8 @@ module _ (w : WordsState) {p : PassState} (m : HostIsMarking w p) (one : w.confi
 pub record HasHeld (w : WordsState) (p q : PassState) : Type 0 where
   pub marking : HostIsMarking w p
   pub one : w.config.callers ≡ 1
-  pub turn : InTurn p
-  pub after : InTurn q
+  pub turn : IsTurn p
+  pub after : IsTurn q
   pub acts : Acts p (Step.Hold 0) q
   pub held : is_held (now_of q).words 0 ≡ true
 
@@ -138,7 +138,7 @@ joined_one w f g h j p is_f is_g is_h is_j alone overs =
 
 -- Its one caller's pass, which was made after the marker's.
 pub only_seat : (w : WordsState) (f g : HostState) (s : CallerState) (p : PassState) → f ≡ first_host w
-    → g ≡ with_marker_made f → s ≡ at_home (pass_for g (Caller g.callers)) → p ≡ s.pass → p.seats ≡ Caller 0 ∷ []
+    → g ≡ with_marker_made f → IsAtHome s (pass_for g (Caller g.callers)) → p ≡ s.pass → p.seats ≡ Caller 0 ∷ []
 only_seat w f g s p is_f is_g is_s is_p =
-    ap (λ (x : PassState). x.seats) is_p ∙ ap (λ (x : CallerState). x.pass.seats) is_s
+    ap (λ (x : PassState). x.seats) is_p ∙ ap (λ (x : PassState). x.seats) is_s.pass
     ∙ ap (λ (x : HostState). Caller x.callers ∷ []) (is_g ∙ ap (λ (x : HostState). with_marker_made x) is_f)

@@ -1,13 +1,14 @@
 -- A caller's turn for a New, from its `take` to its `give`.
 use Rattle.mk_laws.proofs.Vocabulary.{Answer, Bool, IsHistory, Op, Some, Step, ℕ, ap, arith, at_rest, false, length}
 use Rattle.mk_laws.proofs.Vocabulary.{lt-ltb, refl, ◌<◌, ◌∙◌, ◌≡◌}
-use Rattle.mk_heap_tests.proofs.Vocabulary.{InTurn, IsEnabledTo, IsPassFor, IsPassOfObjects, PassState, WordsState}
+use Rattle.mk_heap_tests.proofs.Vocabulary.{IsEnabledTo, IsPassFor, IsPassOfObjects, IsTurn, PassState, WordsState}
 use Rattle.mk_heap_tests.proofs.Vocabulary.{caller_of_pass, now_of}
 use Rattle.mk_alloc.proofs.CalledTurns.{Taken, callers, take_allowed, taken_phase, taken_same}
 use Rattle.mk_alloc.proofs.FreedTurns.{Frees, Refuses, double_answered, freed, freed_object, refused, unloaded}
 use Rattle.mk_alloc.proofs.NewTurns.{begun_quiet, begun_unplaced, operands_of}
 use Rattle.mk_alloc.proofs.{Going.give_allowed, SeekingTurns.seeks_placed}
 use Rattle.mk_alloc.specs.{Rooms.Seeks, TurnCalls.CalledInTurn, Underway.BeginsTurn, Underway.TurnGoesOn}
+use Rattle.mk_heap.proofs.MovedHosts.{taken_own}
 use Rattle.mk_heap_tests.{proofs.HeldObjects.free_keeps, proofs.JoinedHosts.alone_in, specs.Taken.IsTaken}
 use Rattle.mk_objects.specs.Placing.{IsOutOfStop, IsPlaced, IsUnplaced}
 use Rattle.mk_objects.specs.{Retired.FindsFreed, Retired.Retires, Retiring.IsUnloaded}
@@ -28,13 +29,15 @@ module _ {w : WordsState} {k : ℕ} {p : PassState} (is : IsPassFor w k p) where
 
 module _ {w : WordsState} {k : ℕ} {o : Op} {p q : PassState} (is : IsPassFor w k p) (t : IsTaken p (Some o) q) where
   taken_is : q ≡ record p { seen = q.seen }
-  taken_is = taken_same (callers is.idle) t.own t.takes
+  taken_is = taken_same (callers is.idle) (taken_own t.takes) t.takes
 
   pub taken_table : q.table ≡ w
   taken_table = ap (λ (x : PassState). x.table) taken_is ∙ is.table
 
   pub phase : k < w.config.callers → IsOutOfStop (now_of q)
-  phase few = taken_phase (callers is.idle) (exists is few) (alone_in is) t.own t.takes t.fresh t.turn.history t.before
+  phase few =
+      taken_phase (callers is.idle) (exists is few) (alone_in is)
+      (taken_own t.takes) t.takes t.fresh t.turn.history t.before
 
   begins : k < w.config.callers → BeginsTurn o q
   begins few = record { fresh = t.fresh; phase = phase few; exact = t.exact; tidy = t.tidy }
@@ -84,10 +87,11 @@ may_retire is few small = grind (arith, take_allowed, lt-ltb)
 module _ {w : WordsState} {k r : ℕ} {p q : PassState} (of : IsPassOfObjects w k p) (few : k < w.config.callers)
     (t : IsTaken p (Some (Op.Free r)) q) where
   took : Taken (Op.Free r) p q
-  took = record { seat = callers of.pass.idle; own = t.own; takes = t.takes }
+  took = record { seat = callers of.pass.idle; own = taken_own t.takes; takes = t.takes }
 
   pub is_unloaded : r < 8 → IsUnloaded q r
-  is_unloaded small = unloaded (callers of.pass.idle) t.own t.takes t.fresh t.turn.history small (of.objects r small)
+  is_unloaded small =
+      unloaded (callers of.pass.idle) (taken_own t.takes) t.takes t.fresh t.turn.history small (of.objects r small)
 
   -- The pass that is given back has its objects still.
   back_with_objects : {on : Bool} {a : Answer} {d : PassState} → TurnGoesOn (Some a) q d → (b : PassState)
@@ -96,7 +100,7 @@ module _ {w : WordsState} {k r : ℕ} {p q : PassState} (of : IsPassOfObjects w 
       record { pass = back_of of.pass t on b gives rests; objects = free_keeps called of.objects }
 
   -- It was freed, and that isn't due.
-  module _ {d : PassState} (retires : Retires q r false d) (u : InTurn d) where
+  module _ {d : PassState} (retires : Retires q r false d) (u : IsTurn d) where
     frees : Frees false false r p q d d
     frees = record {
       took = took;
@@ -114,7 +118,7 @@ module _ {w : WordsState} {k r : ℕ} {p q : PassState} (of : IsPassOfObjects w 
     freed_back {b} gives rests = back_with_objects (freed frees) b gives rests (freed_object frees gives rests).called
 
   -- It was freed already.
-  module _ {d : PassState} (finds : FindsFreed q r d) (u : InTurn d) where
+  module _ {d : PassState} (finds : FindsFreed q r d) (u : IsTurn d) where
     refuses : Refuses r p q d
     refuses = record { took = took; begins = begins of.pass t few; finds = finds }
 

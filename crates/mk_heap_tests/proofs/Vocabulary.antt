@@ -2,11 +2,10 @@
 pub use Rattle.std.proofs.Common.{Err, Ok, OnOk, Result}
 pub use Rattle.mk_never.specs.Admitted.{IsCaller}
 pub use Rattle.mk_core.specs.Counts.{TalliesAreExact}
-pub use Rattle.mk_caller.specs.States.{CallerState, IsIdleCaller, at_home, caller_of_pass, value_of}
-pub use Rattle.mk_cycle.{proofs.Allowed.{in_turn}, specs.TurnKeeps.{InTurn}}
+pub use Rattle.mk_caller.specs.States.{CallerState, IsAtHome, IsIdleCaller, caller_of_pass, value_of}
 pub use Rattle.mk_heap.specs.Hosts.{HostState, pass_for}
 pub use Rattle.mk_waiting.specs.Taking.{TakesTurn}
-pub use Rattle.mk_words.proofs.Seats.{has_all}
-pub use Rattle.mk_words.specs.{Seats.Has, States.{PassState, WordsState, now_of}, Steps.IsEnabledTo, TurnSteps.IsFresh}
+pub use Rattle.mk_words.{proofs.Seats.{has_all}, specs.TurnSteps.{IsFresh}}
+pub use Rattle.mk_words.specs.{Seats.Has, States.{IsTurn, PassState, WordsState, now_of}, Steps.IsEnabledTo}
 pub use Rattle.mk_heap_tests.specs.HeldObjects.{BothMayAllocate, IsPassOfObjects, MayAllocate}
 pub use Rattle.mk_heap_tests.specs.Passes.{HoldsNull, IsPassFor}

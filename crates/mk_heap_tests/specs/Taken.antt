@@ -2,16 +2,14 @@
 use Rattle.std.specs.Prelude.{Option}
 use Rattle.mk_never.specs.declared.operations.Op.{Op}
 use Rattle.mk_core.specs.Counts.{TalliesAreExact, TalliesAreTidy}
-use Rattle.mk_words.specs.{Seats.{CallersAreBeforeOver, Has}, States.PassState, TurnSteps.IsFresh}
+use Rattle.mk_words.specs.{Seats.CallersAreBeforeOver, States.{IsTurn, PassState}, TurnSteps.IsFresh}
 use Rattle.mk_waiting.specs.Taking.{TakesTurn}
-use Rattle.mk_cycle.specs.TurnKeeps.{InTurn}
 
 -- The pass has taken the turn for this, and has made no step in it.
 pub record IsTaken (p : PassState) (o : Option Op) (q : PassState) : Type 0 where
-  pub own : Has p.seats p.seat
   pub takes : TakesTurn p o q
   pub fresh : IsFresh q o
   pub exact : TalliesAreExact q.table.config q.seen
   pub tidy : TalliesAreTidy q.table.config q.seen
-  pub turn : InTurn q
+  pub turn : IsTurn q
   pub before : CallersAreBeforeOver q.table.config q.seats q.seen

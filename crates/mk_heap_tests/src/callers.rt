@@ -67,7 +67,6 @@ fn make_alone(heap: &Heap, pass: Pass, number: u64) -> Made
 {
     let mut caller = Caller::new(heap.words(), pass);
     let fine = make_rounds(&mut caller);
-    caller.is_idle();
     Made {
         pass: caller.finish(),
         fine,

@@ -13,7 +13,6 @@ fn clear(caller: &mut Caller) -> bool
     ensures home { caller.new.home ≡ true }
     ensures pass { caller.new.pass ≡ record caller.old.pass { seen = caller.new.pass.seen } }
 {
-    caller.is_idle();
     caller.clear(0).is_ok()
 }
 
@@ -38,7 +37,6 @@ pub(crate) fn hold_first(split: Split) -> Option<Made>
     let Ok(mut turn) = host.try_take(&words, None) else {
         return None;
     };
-    turn.is_in_order();
     if turn.try_hold(&words, 0).is_err() {
         return None;
     }

@@ -58,7 +58,6 @@ fn begin<E: Engine, R: Threads + Wait + Sync>(
 {
     let mut turn = take(rt, words, host, None);
     let found = turn.look(words, Word::Phase);
-    turn.is_in_order();
     if Phase::Marking.is_in(found) {
         return None;
     }
@@ -74,11 +73,9 @@ fn want_close(words: &Words, turn: Turn, marker: &mut Marker) -> Option<Work>
     requires attends { attends marker.old ≡ true }
 {
     let mut turn = turn;
-    turn.is_in_order();
     if turn.try_hold(words, 0).is_err() {
         return None;
     }
-    turn.is_in_order();
     let mut stop = turn.stopped();
     stop.want(words);
     let told = marker.work();
@@ -145,7 +142,6 @@ pub(crate) fn come_when_over<E: Engine, R: Threads + Wait + Sync>(
     let (heap, mut host) = Heap::new(alloc, config)?;
     let mut marker = host.marker(&heap);
     let caller = host.caller(&heap);
-    caller.is_idle();
     host.join_caller(&heap, caller.finish());
     host.over(rt, &heap, &mut engine);
     if !finds_phase(&mut marker, Phase::Over) {

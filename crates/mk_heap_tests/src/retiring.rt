@@ -29,16 +29,12 @@ fn retire<R: Threads + Wait + Sync>(
     let mut turn = take(rt, words, home, Some(Op::Free { p }));
     match retire_object(rt, words, &mut turn, p) {
         Ok(freed) => {
-            turn.is_in_order();
             if freed.due {
                 return (Ok(freed), None);
             }
             (Ok(freed), Some(turn.give(words)))
         }
-        Err(double) => {
-            turn.is_in_order();
-            (Err(double), Some(turn.give(words)))
-        }
+        Err(double) => (Err(double), Some(turn.give(words))),
     }
 }
 

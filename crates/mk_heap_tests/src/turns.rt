@@ -21,7 +21,6 @@ pub(crate) fn take<R: Wait>(rt: &R, words: &Words, home: Pass, op: Option<Op>) -
     requires enabled { IsEnabledTo home (step.Take op) }
     ensures { IsTaken home op result.pass }
 {
-    home.is_in_order();
     let turn = take_turn(rt, words, home, op);
     turn.is_in_order();
     turn
@@ -41,7 +40,6 @@ fn place<R: Wait>(rt: &R, words: &Words, home: Pass) -> Option<Pass>
     };
     let mut turn = take(rt, words, home, Some(op));
     let placed = place_object(words, &mut turn, Request { register: 0, ty: 0 });
-    turn.is_in_order();
     if !placed {
         return None;
     }

@@ -1,18 +1,17 @@
 -- What the turn of the host closes, and its steps up to where no cycle is on.
 use Rattle.mk_laws.proofs.Vocabulary.{AreEnabledFrom, Config, Event, IsHistory, List, None, Step, Word, World, ℕ, ap}
-use Rattle.mk_laws.proofs.Vocabulary.{arith, earlier_part_is_history, enabled_in_parts, false, inl, inr, is_begin}
-use Rattle.mk_laws.proofs.Vocabulary.{is_close, left, or_from, or_parts, phase_of, refl, subst, sym, true, world_behind}
-use Rattle.mk_laws.proofs.{Vocabulary.{[], ◌++◌, ◌∙◌, ◌∷◌, ◌≡◌, ◌≤◌}, CyclePhases.{close_is, moves_phase, phase_behind}}
-use Rattle.mk_run.proofs.Vocabulary.{Has, Lacks, PassState, finish_does, has_step, has_then, history_before}
-use Rattle.mk_run.proofs.Vocabulary.{in_turn_then, is_of_cycles, turn_moves, turn_stays}
+use Rattle.mk_laws.proofs.Vocabulary.{arith, enabled_in_parts, false, inl, inr, is_begin, is_close, left, or_from}
+use Rattle.mk_laws.proofs.Vocabulary.{or_parts, phase_of, refl, subst, sym, true, world_behind, [], ◌++◌, ◌∙◌, ◌∷◌, ◌≡◌}
+use Rattle.mk_laws.proofs.{Vocabulary.◌≤◌, CyclePhases.{close_is, moves_phase, phase_behind}}
+use Rattle.mk_run.proofs.Vocabulary.{Has, Lacks, PassState, finish_does, has_step, has_then, in_turn_then, is_of_cycles}
+use Rattle.mk_run.proofs.Vocabulary.{turn_stays}
 use Rattle.mk_alloc.proofs.{CalmStretches.cycles_in_turn, ListParts.SomeKind, Parts.made_as}
 use Rattle.mk_alloc.specs.TurnCycles.{finishes}
-use Rattle.mk_cycle.{proofs.Allowed.{in_turn}, specs.TurnKeeps.{InTurn}}
 use Rattle.mk_heap.specs.Ending.{EndsCycle}
 use Rattle.mk_objects.proofs.JoinedLooks.{does_wider}
 use Rattle.mk_turns.{proofs.Doing.{does_then}, specs.Doing.{Does}}
 use Rattle.mk_waiting.specs.Taking.{TakesTurn}
-use Rattle.mk_words.{proofs.TurnSteps.{takes}, specs.Steps.{Makes}}
+use Rattle.mk_words.{proofs.TurnSteps.{takes}, specs.States.{IsTurn}}
 
 -- Outside of phases 1 and 2 no cycle is closed before another is begun.
 
@@ -49,20 +48,11 @@ unfinished_unclosed (e ∷ es) h =
 pub behind_first : (kind : SomeKind) (e : Event) (es : List Event) → Lacks kind (e ∷ es) → Lacks kind es
 behind_first kind e es h = (or_parts (kind e.step) (has_step kind es) h).1
 
--- before a step
-pub before_made : (p q : PassState) (s : Step) → Makes p s q → IsHistory q.table.config q.seen
-    → IsHistory p.table.config p.seen
-before_made p q s m history = grind (arith, earlier_part_is_history)
-
 -- The host's turn, up to where no cycle is on.
 
-pub turn_taken : {p taken : PassState} → Has p.seats p.seat → TakesTurn p None taken
-    → IsHistory taken.table.config taken.seen → InTurn taken
-turn_taken {p} {taken} own t history =
-    let taken_own : Has taken.seats taken.seat =
-    subst (λ (r : PassState). Has r.seats r.seat) (sym (turn_moves p taken t).is) own in
-    in_turn taken taken_own
-    (takes t.waited None 0 taken (record { makes = t.takes.makes; tells = t.takes.finds }) refl) history
+pub turn_taken : {p taken : PassState} → TakesTurn p None taken → IsTurn taken
+turn_taken {taken = taken} t =
+    takes t.waited None 0 taken (record { makes = t.takes.makes; tells = t.takes.finds }) refl
 
 pub stays : (x : Step) → turn_stays x ≡ true → turn_stays x ≡ true
 stays x h = h
@@ -81,23 +71,12 @@ ends_does {taken} {idle} own ends =
           (finish_stays (finish_does ends.looked idle (has_then turn_stays taken ends.looked look own) (ends.on on)))
     ]
 
-module _ {p taken idle : PassState} (own : Has p.seats p.seat) (takes : TakesTurn p None taken)
-    (ends : EndsCycle taken idle) where
-  taken_own : Has taken.seats taken.seat
-  taken_own = subst (λ (r : PassState). Has r.seats r.seat) (sym (turn_moves p taken takes).is) own
-
+module _ {p taken idle : PassState} (takes : TakesTurn p None taken) (ends : EndsCycle taken idle) where
   pub to_idle : Does turn_stays taken idle
-  to_idle = ends_does taken_own ends
+  to_idle = ends_does (turn_taken takes).own ends
 
   pub idle_own : Has idle.seats idle.seat
-  idle_own = has_then turn_stays taken idle to_idle taken_own
+  idle_own = has_then turn_stays taken idle to_idle (turn_taken takes).own
 
-  module _ (history : IsHistory idle.table.config idle.seen) where
-    pub taken_history : IsHistory taken.table.config taken.seen
-    taken_history = history_before turn_stays taken idle to_idle history
-
-    pub taken_turn : InTurn taken
-    taken_turn = turn_taken own takes taken_history
-
-    pub idle_turn : InTurn idle
-    idle_turn = in_turn_then turn_stays taken idle stays taken_turn to_idle history
+  pub idle_turn : IsHistory idle.table.config idle.seen → IsTurn idle
+  idle_turn history = in_turn_then turn_stays taken idle stays (turn_taken takes) to_idle history

@@ -1,8 +1,8 @@
 -- What the host does in a run: it makes no step before the scripts are joined, and then begins the last cycle alone.
 use Rattle.std.proofs.{Math.Bool.cond, lemmas.List.Sums.sum_by-append, lemmas.List.Sums.sum_by-cons}
 use Rattle.mk_laws.proofs.Vocabulary.{AreOfOthers, Bool, Caller, Config, Event, Host, IsHistory, List, Seat, Step, ℕ}
-use Rattle.mk_laws.proofs.Vocabulary.{ap, append_assoc, arith, earlier_part_is_history, enabled_in_parts, false}
-use Rattle.mk_laws.proofs.Vocabulary.{is_begin, left, or_parts, refl, subst, sym, true, [], ◌++◌, ◌+◌, ◌∙◌, ◌∷◌, ◌≡◌}
+use Rattle.mk_laws.proofs.Vocabulary.{ap, append_assoc, arith, enabled_in_parts, false, is_begin, left, or_parts, refl}
+use Rattle.mk_laws.proofs.Vocabulary.{subst, sym, true, [], ◌++◌, ◌+◌, ◌∙◌, ◌∷◌, ◌≡◌}
 use Rattle.mk_run.proofs.Vocabulary.{CallersAreStill, Grows, Has, HasCallers, HostComesLast, HostState, Lacks}
 use Rattle.mk_run.proofs.Vocabulary.{PassState, SaysOver, append_cancel_left, has_step, others_append, others_none}
 use Rattle.mk_run.proofs.Vocabulary.{others_own, seen_then}
@@ -66,39 +66,31 @@ begins_one b =
     record { more = b.before ++ b.begin ∷ b.behind; is = b.is; count = begun_append b.before _ ∙ omega arith }
 
 -- The host makes one cycle.
-cycle_begins : {p q : PassState} → Has p.seats p.seat → Has p.seats Host → HasCallers p.table.config p.seats
-    → MakesCycle p q → IsHistory q.table.config q.seen → Begins 1 p q
-cycle_begins {p} {q} own host callers m history =
-    let finish = ends m own history in
-    begins_then 1 q (begins_none p m.idle (idle_unbegun own host callers m.takes m.ends (h_idle m own history)))
-    (begins_then 0 q (begins_one (begins_in m own history)) (begins_then 0 q
+cycle_begins : {p q : PassState} → Has p.seats Host → HasCallers p.table.config p.seats → MakesCycle p q → Begins 1 p q
+cycle_begins {p} {q} host callers m =
+    let finish = ends m in
+    begins_then 1 q (begins_none p m.idle (idle_unbegun host callers m.takes m.ends (h_idle m)))
+    (begins_then 0 q (begins_one (begins_in m)) (begins_then 0 q
     (begins_none m.begun m.ended (record { more = finish.more; is = finish.is; none = finish.begins_none }))
-    (begins_none m.ended q (unbegun_made q Step.Give (t_ended m own history) refl m.gives history))))
+    (begins_none m.ended q (unbegun_made q Step.Give (t_ended m) refl m.gives))))
 
 -- The host's last turns, without a cycle of its own and with one.
 
-pub over_begins : {p q : PassState} → p.seat ≡ Host → Has p.seats Host → HasCallers p.table.config p.seats
-    → SaysOver p q → IsHistory q.table.config q.seen → BeginsAsAsked false p.seen q.seen
-over_begins {p} {q} seat host callers over history =
-    let own : Has p.seats p.seat = subst (λ (s : Seat). Has p.seats s) (sym seat) host in
-    let u = over_unbegun own host callers over history in
+pub over_begins : {p q : PassState} → Has p.seats Host → HasCallers p.table.config p.seats → SaysOver p q
+    → BeginsAsAsked false p.seen q.seen
+over_begins host callers over =
+    let u = over_unbegun host callers over in
     record { more = u.more; is = u.is; cycles = none_begun u.more u.none }
 
-pub both_begin : (h g i : HostState) → h.pass.seat ≡ Host → Has h.pass.seats Host
-    → HasCallers h.pass.table.config h.pass.seats → g ≡ with_seen h g.pass.seen → i ≡ with_seen g i.pass.seen
-    → MakesCycle h.pass g.pass → SaysOver g.pass i.pass → IsHistory i.pass.table.config i.pass.seen
+pub both_begin : (h g i : HostState) → Has h.pass.seats Host → HasCallers h.pass.table.config h.pass.seats
+    → g ≡ with_seen h g.pass.seen → MakesCycle h.pass g.pass → SaysOver g.pass i.pass
     → BeginsAsAsked true h.pass.seen i.pass.seen
-both_begin h g i seat host callers is is' cycle over history =
-    let own : Has h.pass.seats h.pass.seat = subst (λ (s : Seat). Has h.pass.seats s) (sym seat) host in
-    let g_seat : g.pass.seat ≡ Host = ap (λ (x : HostState). x.pass.seat) is ∙ seat in
+both_begin h g i host callers is cycle over =
     let g_host : Has g.pass.seats Host = subst (λ (x : HostState). Has x.pass.seats Host) (sym is) host in
     let g_callers : HasCallers g.pass.table.config g.pass.seats =
     subst (λ (x : HostState). HasCallers x.pass.table.config x.pass.seats) (sym is) callers in
-    let after = over_begins g_seat g_host g_callers over history in
-    let same : i.pass.table.config ≡ g.pass.table.config = ap (λ (x : HostState). x.pass.table.config) is' in
-    let whole : IsHistory g.pass.table.config (g.pass.seen ++ after.more) = grind arith in
-    let g_history = earlier_part_is_history g.pass.table.config g.pass.seen after.more whole in
-    let both = begins_then 0 i.pass (cycle_begins own host callers cycle g_history)
+    let after = over_begins g_host g_callers over in
+    let both = begins_then 0 i.pass (cycle_begins host callers cycle)
     (record { more = after.more; is = after.is; count = after.cycles }) in
     record { more = both.more; is = both.is; cycles = both.count }
 

@@ -3,8 +3,8 @@ use Rattle.std.proofs.Common.{IsOk, OnOk, Result, slice_get}
 use Rattle.mk_laws.proofs.Vocabulary.{Bool, Caller, Config, Event, List, Seat, Some, ℕ, ap, arith, length, subst, suc}
 use Rattle.mk_laws.proofs.Vocabulary.{sym, zero, [], ◌++◌, ◌+◌, ◌<◌, ◌∷◌, ◌≡◌, ◌≤◌, ◌⊎◌}
 use Rattle.mk_run.proofs.Vocabulary.{AreTextsFrom, CallerState, EndsScript, FollowsScript, Grows, Has, HasJoined}
-use Rattle.mk_run.proofs.Vocabulary.{HasMade, HostState, IfOk, IsFirstPass, IsScript, IsTextOf, Item, PassState, Text}
-use Rattle.mk_run.proofs.Vocabulary.{WordsState, answers_in, at_home, has_first, has_left, script_names}
+use Rattle.mk_run.proofs.Vocabulary.{HasMade, HostState, IfOk, IsAtHome, IsFirstPass, IsScript, IsTextOf, Item}
+use Rattle.mk_run.proofs.Vocabulary.{PassState, Text, WordsState, answers_in, has_first, has_left, script_names}
 use Rattle.mk_run.proofs.Vocabulary.{slice_get_within, with_joined, ⊎_elim}
 use Rattle.mk_never.specs.declared.never_heap.NoMemory.{NoMemory}
 use Rattle.mk_core.specs.History.{calls_from}
@@ -39,7 +39,7 @@ pub next_made : {w : WordsState} {k : ℕ} {h : HostState} → HasMade w k h →
 next_made made = grind (arith, without_keeps)
 
 pub first_pass : {w : WordsState} {k : ℕ} {h : HostState} (s : CallerState) (p : PassState) → HasMade w k h
-    → s ≡ at_home (pass_for h (Caller h.callers)) → p ≡ s.pass → IsIdleCaller s.pass → IsFirstPass w k p
+    → IsAtHome s (pass_for h (Caller h.callers)) → p ≡ s.pass → IsIdleCaller s.pass → IsFirstPass w k p
 first_pass s p made is same idle = grind arith
 
 -- One more is joined.

@@ -3,8 +3,8 @@ use Rattle.mk_laws.proofs.Vocabulary.{At, Bool, Caller, Config, Event, Host, IsH
 use Rattle.mk_laws.proofs.Vocabulary.{enabled_in_parts, enabled_meets, false, group_of, is_begin, is_open_to, left}
 use Rattle.mk_laws.proofs.Vocabulary.{length, ltb-true, refl, seat_exists, subst, sym, through, true, true≢false, []}
 use Rattle.mk_laws.proofs.Vocabulary.{◌++◌, ◌+◌, ◌∙◌, ◌∷◌, ◌≡◌, ◌≤◌}
-use Rattle.mk_run.proofs.Vocabulary.{CallerState, EachIsBegun, Grows, Has, IsFirstPass, IsScript, IsWhole, Item}
-use Rattle.mk_run.proofs.Vocabulary.{PassState, StaysBeside, WordsState, at_home, config_of, has_first, script_names}
+use Rattle.mk_run.proofs.Vocabulary.{CallerState, EachIsBegun, Grows, Has, IsAtHome, IsFirstPass, IsScript, IsWhole}
+use Rattle.mk_run.proofs.Vocabulary.{Item, PassState, StaysBeside, WordsState, config_of, has_first, script_names}
 use Rattle.mk_run.proofs.{Vocabulary.⊎_elim, JoinedScripts.same_or_later, UnsweptHistories.{markers_sweep, none_sweeps}}
 use Rattle.mk_core.specs.History.{AreEnabledFrom}
 use Rattle.mk_cycle.proofs.Begun.{HaveNoBegin, begun_append, kinds_begin_none, others_begin_none}
@@ -64,7 +64,7 @@ module _ {sweeps : Bool} {begins : Config → Seat → List Event → List Event
 
   -- the run of one script, from its first pass
   pub script_keeps : {w : WordsState} {k : ℕ} {first : PassState} (s : CallerState) (q r : PassState)
-      → IsFirstPass w k first → s ≡ at_home first → PassKeeps sweeps begins s.pass q → r ≡ q
+      → IsFirstPass w k first → IsAtHome s first → PassKeeps sweeps begins s.pass q → r ≡ q
       → SeatKeeps sweeps begins w.config (Caller k) r.seen
   script_keeps s q r at is more same = grind (arith, first_keeps, seat_on)
 

@@ -4,19 +4,18 @@ use Rattle.mk_laws.proofs.Vocabulary.{World, ℕ, ap, append_assoc, before_close
 use Rattle.mk_laws.proofs.Vocabulary.{enabled_in_parts, false, inl, inr, is_begin, left, list_any, or_from, or_parts}
 use Rattle.mk_laws.proofs.{Vocabulary.{refl, subst, sym, [], ◌++◌, ◌<◌, ◌∙◌, ◌∷◌, ◌≡◌}, Actors.is_holders}
 use Rattle.mk_run.proofs.Vocabulary.{Has, HasCallers, IsWhole, Lacks, PassState, SaysOver, TakesLastTurns, WordsState}
-use Rattle.mk_run.proofs.Vocabulary.{append_cancel_left, finish_does, finish_in, has_step, has_then, history_before}
-use Rattle.mk_run.proofs.Vocabulary.{in_turn_then, is_of_cycles, others_append, others_own, seen_then, turn_stays}
-use Rattle.mk_run.proofs.HostTurnParts.{before_made, idle_turn, stays, taken_history, taken_turn}
-use Rattle.mk_run.proofs.{LastTurns.{cycle_moves, over_moves, still_behind_over}, LastCycles.last_cycle}
-use Rattle.mk_alloc.proofs.{Parts.{made_as, others_lack, seen_made}, CycleParts.begins_held}
+use Rattle.mk_run.proofs.Vocabulary.{append_cancel_left, finish_does, finish_in, has_step, has_then, in_turn_then}
+use Rattle.mk_run.proofs.Vocabulary.{is_of_cycles, others_append, others_own, seen_then, turn_stays}
+use Rattle.mk_run.proofs.{LastTurns.{cycle_moves, over_moves, still_behind_over}, HostTurnParts.{idle_turn, stays}}
+use Rattle.mk_run.proofs.{HostTurnParts.turn_taken, LastCycles.last_cycle}
+use Rattle.mk_alloc.proofs.{Parts.{behind_step, made_as, others_lack, seen_made}, CycleParts.begins_held}
 use Rattle.mk_alloc.{proofs.ListParts.{lacks_append, lacks_one}, specs.TurnCycles.{within_turn}}
-use Rattle.mk_cycle.specs.TurnKeeps.{InTurn}
 use Rattle.mk_heap.proofs.HomeCallers.{HoldersStepNone, others_hold_none, waiting_holds_none}
 use Rattle.mk_heap.specs.{Ending.EndsCycle, declared.reports.Report.Report}
 use Rattle.mk_run.specs.LastCycle.{EndsWithCycle, MakesLastCycle}
 use Rattle.mk_turns.specs.Doing.{Does}
 use Rattle.mk_waiting.{proofs.Waiting.{waits_more}, specs.Taking.{TakesTurn, Waits}}
-use Rattle.mk_words.specs.{States.event_of, Steps.Makes}
+use Rattle.mk_words.{proofs.Made.{pass_before}, specs.{States.{IsTurn, event_of}, Steps.Makes}}
 use Rattle.mk_heap.specs.Reports as report
 
 -- From what the one pass had seen to what the other has seen no cycle is begun.
@@ -32,13 +31,13 @@ unbegun_then {p} {q} r one two = record {
   none = lacks_append is_begin one.more two.more one.none two.none;
 }
 
-pub unbegun_made : {p : PassState} (q : PassState) (s : Step) → InTurn p → is_begin s ≡ false → Makes p s q
-    → IsHistory q.table.config q.seen → Unbegun p q
-unbegun_made {p} q s t other m history = record {
+pub unbegun_made : {p : PassState} (q : PassState) (s : Step) → IsTurn p → is_begin s ≡ false → Makes p s q
+    → Unbegun p q
+unbegun_made {p} q s t other m = record {
   more = m.others ++ event_of p s ∷ [];
   is = seen_made p q s m;
   none =
-      lacks_append is_begin m.others (event_of p s ∷ []) (others_lack is_begin p q s begins_held t m history)
+      lacks_append is_begin m.others (event_of p s ∷ []) (others_lack is_begin p q s begins_held t m m.pass.history)
       (lacks_one is_begin (event_of p s) other);
 }
 
@@ -50,18 +49,16 @@ unheld_unbegun (e ∷ es) h =
     or_from (is_begin e.step) (has_step is_begin es) (begins_held e.step parts.0) (unheld_unbegun es parts.1)
 
 -- A cycle that is on may be finished.
-pub ends_unbegun : {taken idle : PassState} → InTurn taken → EndsCycle taken idle
+pub ends_unbegun : {taken idle : PassState} → IsTurn taken → EndsCycle taken idle
     → IsHistory idle.table.config idle.seen → Unbegun taken idle
 ends_unbegun {taken} {idle} t ends history = elim ends.phase [
   | inl none ↦
-      let is : idle ≡ ends.looked = ends.none none in
-      rw is (look (subst (λ (r : PassState). IsHistory r.table.config r.seen) is history))
+      let is : idle ≡ ends.looked = ends.none none in rw is look
   | inr on ↦
       let does : Does is_of_cycles ends.looked idle = finish_does ends.looked idle looked_own (ends.on on) in
-      let there = history_before is_of_cycles ends.looked idle does history in
       let finish = finish_in ends.looked idle looked_own (ends.on on)
-      (in_turn_then turn_stays taken ends.looked stays t looks there) history in
-      unbegun_then idle (look there) (record { more = finish.more; is = finish.is; none = finish.begins_none })
+      (in_turn_then turn_stays taken ends.looked stays t looks ends.looks.pass.history) history in
+      unbegun_then idle look (record { more = finish.more; is = finish.is; none = finish.begins_none })
 ]
   where
     looks : Does turn_stays taken ends.looked
@@ -70,17 +67,17 @@ ends_unbegun {taken} {idle} t ends history = elim ends.phase [
     looked_own : Has ends.looked.seats ends.looked.seat
     looked_own = has_then turn_stays taken ends.looked looks t.own
 
-    look : IsHistory ends.looked.table.config ends.looked.seen → Unbegun taken ends.looked
-    look there = unbegun_made ends.looked (Step.Look Word.Phase) t refl ends.looks there
+    look : Unbegun taken ends.looked
+    look = unbegun_made ends.looked (Step.Look Word.Phase) t refl ends.looks
 
 -- While the host waits for the turn nobody begins one, and it takes the turn.
 pub wait_unbegun : {p taken : PassState} → Has p.seats Host → HasCallers p.table.config p.seats
-    → TakesTurn p None taken → IsHistory taken.table.config taken.seen → Unbegun p taken
-wait_unbegun {p} {taken} host callers takes history =
+    → TakesTurn p None taken → Unbegun p taken
+wait_unbegun {p} {taken} host callers takes =
     let c : Config = p.table.config in
     let w : Waits p taken = waits_more p takes.waited taken None takes.waits takes.takes.makes in
     let long : IsHistory c (p.seen ++ w.more) =
-    subst (λ (r : PassState). IsHistory r.table.config r.seen) w.is history in
+    subst (λ (r : PassState). IsHistory r.table.config r.seen) w.is takes.takes.makes.pass.history in
     let on = ((enabled_in_parts c p.seen w.more).0 long.enabled).1 in
     record {
       more = w.more;
@@ -89,24 +86,20 @@ wait_unbegun {p} {taken} host callers takes history =
     }
 
 -- So up to where no cycle is on.
-pub idle_unbegun : {p taken idle : PassState} → Has p.seats p.seat → Has p.seats Host
-    → HasCallers p.table.config p.seats → TakesTurn p None taken → EndsCycle taken idle
-    → IsHistory idle.table.config idle.seen → Unbegun p idle
-idle_unbegun {p} {taken} {idle} own host callers takes ends history =
-    unbegun_then idle (wait_unbegun host callers takes (taken_history own takes ends history))
-    (ends_unbegun (taken_turn own takes ends history) ends history)
+pub idle_unbegun : {p taken idle : PassState} → Has p.seats Host → HasCallers p.table.config p.seats
+    → TakesTurn p None taken → EndsCycle taken idle → IsHistory idle.table.config idle.seen → Unbegun p idle
+idle_unbegun {idle = idle} host callers takes ends history =
+    unbegun_then idle (wait_unbegun host callers takes) (ends_unbegun (turn_taken takes) ends history)
 
 -- The host says that all is over.
-pub over_unbegun : {p q : PassState} → Has p.seats p.seat → Has p.seats Host → HasCallers p.table.config p.seats
-    → SaysOver p q → IsHistory q.table.config q.seen → Unbegun p q
-over_unbegun {p} {q} own host callers o history =
-    let said = before_made o.said q Step.Give o.gives history in
-    let idle = before_made o.idle o.said Step.Over o.says said in
-    let t_idle = idle_turn own o.takes o.ends idle in
-    let t_said = in_turn_then turn_stays o.idle o.said stays t_idle
-    (made_as turn_stays o.idle o.said Step.Over t_idle.own o.says refl) said in
-    unbegun_then q (idle_unbegun own host callers o.takes o.ends idle) (unbegun_then q
-    (unbegun_made o.said Step.Over t_idle refl o.says said) (unbegun_made q Step.Give t_said refl o.gives history))
+pub over_unbegun : {p q : PassState} → Has p.seats Host → HasCallers p.table.config p.seats → SaysOver p q
+    → Unbegun p q
+over_unbegun {q = q} host callers o =
+    let idle = (pass_before o.says).history in
+    let t_idle = idle_turn o.takes o.ends idle in
+    unbegun_then q (idle_unbegun host callers o.takes o.ends idle) (unbegun_then q
+    (unbegun_made o.said Step.Over t_idle refl o.says) (unbegun_made q Step.Give (behind_step t_idle o.says refl) refl
+    o.gives))
 
 -- So the host's last turns end the list with their cycle.
 pub ends_with_cycle : {tells : Config → World → Type 0} {w : WordsState} {p : PassState} → TakesLastTurns tells w p
@@ -128,10 +121,7 @@ ends_with_cycle {tells} {p} t history =
     let long : IsHistory c (s.seen ++ more) = subst (λ (l : List Event). IsHistory c l) t.behind.is whole in
     let config : s.table.config ≡ c =
     ap (λ (r : PassState). r.table.config) said ∙ ap (λ (r : PassState). r.table.config) made in
-    let s_history : IsHistory s.table.config s.seen =
-    subst (λ (d : Config). IsHistory d s.seen) (sym config) (earlier_part_is_history c s.seen more long) in
-    let over = over_unbegun (subst (λ (r : PassState). Has r.seats r.seat) (sym made) own)
-    (subst (λ (r : PassState). Has r.seats Host) (sym made) t.own) b_callers t.over s_history in
+    let over = over_unbegun (subst (λ (r : PassState). Has r.seats Host) (sym made) t.own) b_callers t.over in
     let tail : List Event = over.more ++ more in
     let is : p.seen ≡ b.seen ++ tail =
     t.behind.is ∙ ap (λ (l : List Event). l ++ more) over.is ∙ append_assoc b.seen over.more more in
@@ -149,7 +139,7 @@ ends_with_cycle {tells} {p} t history =
     (others_own a.seats (Caller k) more (callers k lt) t.behind.of_others) in
     subst (λ (x : WordsState). EndsWithCycle tells x.config p.seen) t.table (subst (λ (l : List Event). EndsWithCycle
     tells c l) (sym is) (subst (λ (x : Seat). MakesLastCycle x tells c (b.seen ++ tail)) t.seat
-    (last_cycle t.cycle.makes own b_history t.cycle.at_close t.seat callers tail ends none still)))
+    (last_cycle t.cycle.makes t.cycle.at_close t.seat callers tail ends none still)))
 
 -- and that of the whole run, when the heap is closed.
 pub run_ends_with_cycle : {tells : Config → World → Type 0} (c : Config) {w : WordsState} {p : PassState} (r : Report)

@@ -8,10 +8,6 @@ use Rattle.mk_heap.proofs.MovedHosts.{MovesOn, begin_moves, finish_moves, idle_m
 use Rattle.mk_heap.specs.{Ending.MakesCycle, Ending.MakesToldCycle, Hosts.with_seen}
 use Rattle.mk_words.proofs.Seats.{others_fewer}
 
--- The host's own seat is home.
-pub own_seat : (h : HostState) → h.pass.seat ≡ Host → Has h.pass.seats Host → Has h.pass.seats h.pass.seat
-own_seat h seat own = subst (λ (s : Seat). Has h.pass.seats s) (sym seat) own
-
 -- Callers whose seats are home make no step in the host's turns.
 
 moved_still : {p q : PassState} → p.seat ≡ Host → MovesOn p q → CallersAreStill p q.seen

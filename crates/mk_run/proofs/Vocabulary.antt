@@ -4,7 +4,8 @@ pub use Rattle.mk_core.specs.Growing.{Grows}
 pub use Rattle.mk_alloc.proofs.{CalmStretches.is_of_cycles, CycleParts.{finish_does, finish_in}, ListParts.Lacks}
 pub use Rattle.mk_alloc.{proofs.Parts.{has_then, history_before, in_turn_then, seen_then}, specs.TurnCycles.{has_step}}
 pub use Rattle.mk_alloc.proofs.UnsweptTurns.{calls_sweep_nothing, sweep_nothing_where_held}
-pub use Rattle.mk_caller.{proofs.OwnSteps.{calls_by}, specs.{Causes.FindsGateHeld, States.{CallerState, at_home}}}
+pub use Rattle.mk_caller.proofs.OwnSteps.{calls_by}
+pub use Rattle.mk_caller.specs.{Causes.FindsGateHeld, States.{CallerState, IsAtHome, IsAtRest}}
 pub use Rattle.mk_check.specs.{Declarations.config_of, Feed.{feed, is_refusal}, Feeding.next_op}
 pub use Rattle.mk_check.specs.{Laws.{IsChecked, IsScript}, declared.text.Text.Text}
 pub use Rattle.mk_cycle.{proofs.Begun.{begun_then}, specs.Begun.{EachIsBegun}}

@@ -108,7 +108,6 @@ fn call_until_open<R: Wait>(rt: &R, caller: &mut Caller, op: Op) -> Answer
     let number = caller.number();
     let mut patience = Patience::new();
     'held: for _ in rt.forever() {
-        caller.is_idle();
         match call(caller, op) {
             Ok(told) => return told,
             Err(_) => patience.pause_for_gate(rt, words, number),
@@ -140,7 +139,6 @@ pub fn answer_now<E: Engine, R: Threads + Wait + Sync>(
     ensures reached { E.sweeps ≡ false → SweepsNothing caller.old.pass caller.new.pass }
     ensures begun { EachIsBegun E.begins caller.old.pass caller.new.pass }
 {
-    caller.is_idle();
     match op {
         Op::New { d, ty, .. } => match new_object(rt, caller, engine, d, ty) {
             Ok(()) => Ok(Answer::Done),
@@ -176,7 +174,6 @@ pub fn answer_to<E: Engine, R: Threads + Wait + Sync>(
     ensures reached { E.sweeps ≡ false → SweepsNothing caller.old.pass caller.new.pass }
     ensures begun { EachIsBegun E.begins caller.old.pass caller.new.pass }
 {
-    caller.is_idle();
     match answer_now(rt, caller, engine, op) {
         Ok(told) => told,
         Err(_) => call_until_open(rt, caller, op),
@@ -211,7 +208,6 @@ pub(crate) fn answer_at_once(caller: &mut Caller, op: Op) -> Option<Answer>
     ensures beside { StaysBeside caller.old.pass caller.new.pass }
     ensures reached { SweepsNothing caller.old.pass caller.new.pass }
 {
-    caller.is_idle();
     match op {
         Op::New { .. } | Op::Free { .. } => None,
         _ => match call(caller, op) {
@@ -246,14 +242,12 @@ pub(crate) fn answer_put_off<E: Engine, R: Threads + Wait + Sync>(
 {
     match op {
         Op::New { d, ty, .. } => {
-            caller.is_idle();
             match new_object(rt, caller, engine, d, ty) {
                 Ok(()) => Answer::Done,
                 Err(_) => Answer::Full,
             }
         }
         Op::Free { p } => {
-            caller.is_idle();
             match free_object(rt, caller, engine, p) {
                 Ok(_) => Answer::Done,
                 Err(_) => Answer::Double,

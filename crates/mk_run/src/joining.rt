@@ -52,7 +52,6 @@ fn run_alone<E: Engine, P: Pace, R: Threads + Wait + Sync>(
 {
     let mut caller = Caller::new(run.heap.words(), pass);
     let text = run_script(rt, run.alloc, &mut caller, ready, run.program, k, pace);
-    caller.is_idle();
     Ran {
         pass: caller.finish(),
         text,

@@ -22,7 +22,6 @@ fn cycle_and_over<E: Engine, R: Threads + Wait + Sync>(
 {
     host.cycle(rt, heap, engine);
     host.over(rt, heap, engine);
-    host.is_in_order();
 }
 
 /// Announces to the markers that all is over; where one is asked for, a last cycle comes before that.
@@ -43,6 +42,5 @@ pub(crate) fn take_last_turns<E: Engine, R: Threads + Wait + Sync>(
         cycle_and_over(rt, heap, host, engine);
     } else {
         host.over(rt, heap, engine);
-        host.is_in_order();
     }
 }

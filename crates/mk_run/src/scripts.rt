@@ -114,7 +114,6 @@ pub fn run_script<E: Engine, P: Pace, R: Threads + Wait + Sync>(
     } = ready;
     let mut counts = Counts { ops: 0, refused: 0 };
     'instructions: while counts.ops < u64::MAX {
-        caller.is_idle();
         let Some(op) = feed.op() else {
             return text_of(alloc, &feed, counts);
         };

@@ -6,7 +6,7 @@ use Rattle.mk_stack.proofs.Vocabulary.{kinds_of, never_of, next_point, op_at, re
 use Rattle.mk_stack.proofs.{Vocabulary.value_of, Replies.{Happens, from_called, from_turn}, AtPoints.holds_still}
 use Rattle.mk_stack.proofs.{NodeKinds.IsStackState, PointSteps.{admits, asks}}
 use Rattle.mk_laws.proofs.Vocabulary.{Bool, List, Option, Some, ℕ, ap, arith, false, is_under_turn, refl, subst, sym}
-use Rattle.mk_laws.proofs.{Vocabulary.{true, [], ◌++◌, ◌+◌, ◌<◌, ◌∙◌, ◌∷◌, ◌≡◌}, CallSorts.flag_is, LastEvents.stands}
+use Rattle.mk_laws.proofs.{Vocabulary.{true, [], ◌++◌, ◌<◌, ◌∙◌, ◌∷◌, ◌≡◌}, CallSorts.flag_is, LastEvents.stands}
 use Rattle.mk_caller.specs.States.{Admits}
 use Rattle.mk_run.specs.Scripts.{Answers, IsCalled, as_told, unflagged}
 use Rattle.mk_stack.specs.{Advancing.StaysEnded, Ready.IsReady}
@@ -17,10 +17,10 @@ pub place_state : {p q : PassState} {o : Op} {a : Answer} → HasStackTypes p.ta
 place_state types h = grind arith
 
 -- The state after what the pass of a caller has seen
-pub ready_state : {s : CallerState} → IsReady s → IsHistory s.pass.table.config s.pass.seen
+pub ready_state : {s : CallerState} → IsReady s
     → IsStackState s.pass.table.config.globals (never_of s.pass) (caller_of_pass s.pass)
-ready_state {s} ready history =
-    let mirrors = (stands s.pass.table.config s.pass.seen history).all.mirrors in
+ready_state {s} ready =
+    let mirrors = (stands s.pass.table.config s.pass.seen (s.in_order ready.home).pass.history).all.mirrors in
     record {
       typed = mirrors.typed;
       node = ap (λ (ts : List (List Kind)). kinds_of ts 0) mirrors.types ∙ ready.types.node;
@@ -34,9 +34,9 @@ ready_state {s} ready history =
 pub of_asked : (P : Op → Type 0) {x : Option Op} {o : Op} → x ≡ Some o → IfSome x P → P o
 of_asked P is h = subst (λ (y : Option Op). IfSome y P) is h
 
-pub may_ask : {s : CallerState} (t : Point) {o : Op} → IsReady s → IsHistory s.pass.table.config s.pass.seen
+pub may_ask : {s : CallerState} (t : Point) {o : Op} → IsReady s
     → op_at t ≡ Some o → HoldsAt (value_of s.pass) t → Admits s.pass o
-may_ask {s} t ready history is holds = of_asked (Admits s.pass) is (admits (ready_state ready history) t holds)
+may_ask {s} t ready is holds = of_asked (Admits s.pass) is (admits (ready_state ready) t holds)
 
 -- One operation of a caller, which leads to t; what the registers hold there is what they hold at this point of a job.
 pub record Steps {S : Type 0} (Asked : Op → Reply → S → Type 0) (point : S → Point) (p q : PassState) (t : S)
@@ -92,10 +92,10 @@ advances {p} {q} s {told} leads types history is holds answers called =
     let next = of_asked _ is (asks (place_state types h) s (holds_still h.before s holds)) in
     subst (Advances p s q) (ap (next_point s) (sym t.is_told) ∙ sym leads) (steps_so h (next t.answer h.bases h.image))
 
-pub clears : {p q : PassState} (r : ℕ) → r < 8 → IsHistory q.table.config q.seen → Called p (Op.Clear r) Answer.Done q
+pub clears : {p q : PassState} (r : ℕ) → r < 8 → Called p (Op.Clear r) Answer.Done q
     → StaysEnded p q
-clears {p} {q} r lt history called d =
-    let h = from_called called refl history in
+clears {p} {q} r lt called d =
+    let h = from_called called refl called.pass.history in
     record {
       is = h.is;
       all = record { op = Op.Clear r; reply = Reply.Done } ∷ [];

@@ -1,9 +1,9 @@
 -- All that happened on a stack: the founding, the jobs, the reading, and the end, with markers beside them.
 use Rattle.std.proofs.{Common.{Err, IfOk, Ok, Result, ⊎_elim}, lemmas.Result.IfOk-weaker}
 use Rattle.mk_stack.proofs.Vocabulary.{AreOfOthers, Caller, CallerState, Dones, Founded, Founding, GoesToPoint, Grows}
-use Rattle.mk_stack.proofs.Vocabulary.{Has, HasHandedOut, HasStackTypes, HaveDone, Host, HostState, IsHistory, Jobs}
-use Rattle.mk_stack.proofs.Vocabulary.{Joined, Leads, PassState, ReadsStack, Replied, Seat, WordsState, at_home}
-use Rattle.mk_stack.proofs.{Vocabulary.{pass_for, replied_to, with_joined}, JoinedJobs.{next_unasked, same_or_later}}
+use Rattle.mk_stack.proofs.Vocabulary.{Has, HasHandedOut, HasStackTypes, HaveDone, Host, HostState, IsAtHome, IsHistory}
+use Rattle.mk_stack.proofs.Vocabulary.{Jobs, Joined, Leads, PassState, ReadsStack, Replied, Seat, WordsState, pass_for}
+use Rattle.mk_stack.proofs.{Vocabulary.{replied_to, with_joined}, JoinedJobs.{next_unasked, same_or_later}}
 use Rattle.mk_stack.proofs.Readers.{by_reader, callers_home, host_home, its_replies, same_callers, same_markers}
 use Rattle.mk_stack.proofs.{Readers.{same_seat, same_table}, StackRuns.{is_stack_run, run_stands}}
 use Rattle.mk_laws.proofs.Vocabulary.{List, Marker, Presence, ℕ, ap, arith, earlier_part_is_history, false}
@@ -35,7 +35,7 @@ still_ok R S x y f = IfOk-weaker x (λ v. IfOk y (R v)) (λ v. IfOk y (S v)) (λ
 module _ (w : WordsState) (markers : ℕ) (lists : List Jobs) (joined : Joined) (g i : HostState)
     (types : HasStackTypes w.config) (count : length lists ≡ w.config.callers)
     (did : HaveFoundedAndWorked w markers lists joined) (reads : IsReader joined.host g) (over : SaysOver g.pass i.pass)
-    (is : i ≡ with_seen g i.pass.seen) (history : IsHistory i.pass.table.config i.pass.seen) where
+    (is : i ≡ with_seen g i.pass.seen) where
   abbrev h : HostState
   h = joined.host
 
@@ -46,7 +46,7 @@ module _ (w : WordsState) (markers : ℕ) (lists : List Jobs) (joined : Joined) 
   table = same_table h g reads ∙ did.worked.table
 
   last_history : IsHistory w.config i.pass.seen
-  last_history = rw (ap (λ (x : HostState). x.pass.table) is ∙ table) at history
+  last_history = rw (ap (λ (x : HostState). x.pass.table) is ∙ table) at over.gives.pass.history
 
   moves : MovesOn g.pass i.pass
   moves = over_moves g.pass i.pass over
@@ -90,7 +90,7 @@ module _ (w : WordsState) (markers : ℕ) (lists : List Jobs) (joined : Joined) 
 
 -- What the operations of the first caller lead to, before its jobs
 pub founds_stack : {w : WordsState} {markers : ℕ} {h : HostState} (s : CallerState) {q : PassState} (r : PassState)
-    → HasHandedOut w markers 0 h → s ≡ at_home (pass_for h (Caller h.callers)) → GoesToPoint s.pass Founding q Founded
+    → HasHandedOut w markers 0 h → IsAtHome s (pass_for h (Caller h.callers)) → GoesToPoint s.pass Founding q Founded
     → r ≡ q → Leads Founding (replied_to r) Founded
 founds_stack s r made is goes same =
     rw (ap replied_to same ∙ goes.did ∙ ap (λ (l : List Replied). l ++ goes.all) (next_unasked s made is)) goes.leads

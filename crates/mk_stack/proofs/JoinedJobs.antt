@@ -2,17 +2,17 @@
 use Rattle.std.proofs.{Common.{Err, IfOk, IsOk, Ok, OnOk, Result, slice_get}, lemmas.List.drop_more}
 use Rattle.std.proofs.lemmas.Option.{slice_get-get_or}
 use Rattle.mk_stack.proofs.Vocabulary.{Caller, CallerState, Config, DoesJobs, Done, Dones, Event, Grows, Has}
-use Rattle.mk_stack.proofs.Vocabulary.{HasHandedOut, HasStackTypes, HaveDone, HaveWorked, Host, HostState, Job, Jobs}
-use Rattle.mk_stack.proofs.Vocabulary.{Joined, PassState, Replied, Seat, WordsState, at_home, caller_of_pass, pass_for}
-use Rattle.mk_stack.proofs.{Vocabulary.{replied_in, replied_to, with_joined}, OwnCalls.none_of, Replies.same_replied}
+use Rattle.mk_stack.proofs.Vocabulary.{HasHandedOut, HasStackTypes, HaveDone, HaveWorked, Host, HostState, IsAtHome}
+use Rattle.mk_stack.proofs.Vocabulary.{Job, Jobs, Joined, PassState, Replied, Seat, WordsState, caller_of_pass}
+use Rattle.mk_stack.proofs.{Vocabulary.{pass_for, replied_in, replied_to, with_joined}, OwnCalls.none_of}
+use Rattle.mk_stack.{proofs.Replies.{same_replied}, specs.declared.joining.Worked.{Worked}}
 use Rattle.mk_laws.proofs.Vocabulary.{List, Some, ℕ, ap, arith, drop, get_or, length, refl, subst, sym, true, [], ◌++◌}
 use Rattle.mk_laws.proofs.Vocabulary.{◌+◌, ◌<◌, ◌∙◌, ◌∷◌, ◌≡◌, ◌≤◌, ◌⊎◌}
 use Rattle.mk_never.specs.declared.never_heap.NoMemory.{NoMemory}
 use Rattle.mk_core.specs.History.{calls_from}
-use Rattle.mk_caller.specs.States.{IsIdleCaller}
+use Rattle.mk_caller.{proofs.Idle.{idle}, specs.States.{IsIdleCaller}}
 use Rattle.mk_heap.specs.Hosts.{with_caller_made}
 use Rattle.mk_stack.specs.{Joining.{HasWorked, IsBetweenJobs}, JobLists.HasDone, Ready.IsReadyForJobs}
-use Rattle.mk_stack.specs.declared.joining.Worked.{Worked}
 use Rattle.mk_words.{proofs.Seats.{has_first, has_left, has_right, others_own, without_keeps}, specs.Seats.{has_over}}
 
 -- What a caller did stands where the list goes on by events of others.
@@ -55,12 +55,12 @@ pub is_ready : {w : WordsState} {k : ℕ} {p q : PassState} → IsBetweenJobs w 
 is_ready ready is idle = grind arith
 
 pub next_ready : {w : WordsState} {markers n : ℕ} {h : HostState} (s : CallerState) → HasHandedOut w markers n h
-    → s ≡ at_home (pass_for h (Caller h.callers)) → IsIdleCaller s.pass → IsBetweenJobs w n s.pass
-next_ready {n} {h} s made is idle = grind arith
+    → IsAtHome s (pass_for h (Caller h.callers)) → IsBetweenJobs w n s.pass
+next_ready {n} {h} s made is = let rests = s.in_order is.home in grind (arith, idle)
 
 pub next_unasked : {w : WordsState} {markers n : ℕ} {h : HostState} (s : CallerState) → HasHandedOut w markers n h
-    → s ≡ at_home (pass_for h (Caller h.callers)) → replied_to s.pass ≡ []
-next_unasked s made is = unasked s.pass (ap (λ (r : CallerState). r.pass.seen) is ∙ made.seen)
+    → IsAtHome s (pass_for h (Caller h.callers)) → replied_to s.pass ≡ []
+next_unasked s made is = unasked s.pass (ap (λ (r : PassState). r.seen) is.pass ∙ made.seen)
 
 -- A caller did its jobs.
 
@@ -135,7 +135,7 @@ one_joined {w} {first} {k} jobs {others} {worked} {joined} all one rest is own c
 
 -- The work of a caller's thread
 pub has_worked : {w : WordsState} {k : ℕ} {p : PassState} (s : CallerState) {q : PassState} (r : PassState)
-    (jobs : List Job) (dones : Result Dones NoMemory) → IsBetweenJobs w k p → s ≡ at_home p
+    (jobs : List Job) (dones : Result Dones NoMemory) → IsBetweenJobs w k p → IsAtHome s p
     → q ≡ record s.pass { seen = q.seen } → IfOk dones (λ ds. DoesJobs s.pass jobs ds.list.items q) → r ≡ q
     → IsIdleCaller q → HasWorked w (replied_to p) k jobs (record { pass = r; dones = dones })
 has_worked {w} {k} {p} s {q} r jobs dones ready home is does same idle = grind (arith, is_ready)

@@ -1,22 +1,22 @@
 -- The operation of a point: that it may be asked, where its answer leads, and what its caller's registers hold then.
 use Rattle.std.proofs.Common.{IfSome}
 use Rattle.mk_stack.proofs.Vocabulary.{Answer, Asks, Checking, Ended, Filling, Following, Founded, Founding, Freeing}
-use Rattle.mk_stack.proofs.Vocabulary.{Full, HoldsAt, IsPointerTo, Kind, Linking, Looking, Making, MayPointTo}
-use Rattle.mk_stack.proofs.Vocabulary.{NeverState, Num, Number, Op, Peeking, Placing, Point, Pop, Ptr, Publishing, Push}
-use Rattle.mk_stack.proofs.Vocabulary.{Reading, Reply, Starting, Taking, Testing, Value, after_op, allocation_at}
-use Rattle.mk_stack.proofs.Vocabulary.{answer_of, bit, fail, fill, find_no_room, flagged, follow, found, free}
-use Rattle.mk_stack.proofs.Vocabulary.{free_again, global_at, go_pop, go_push, is_same, kinds_of, lack, left_at, link}
-use Rattle.mk_stack.proofs.Vocabulary.{look, make, meet, miss, next_point, node_kinds, op_at, peek, place, pop_again}
-use Rattle.mk_stack.proofs.Vocabulary.{publish, push_again, read, register_at, reply_at, reply_of, start, target_of}
-use Rattle.mk_stack.proofs.Vocabulary.{unlink, with_new, with_register, with_word, word_at}
-use Rattle.mk_stack.proofs.{AtPoints.{holds_still, may_on, points_on}, NodeKinds.{IsStackState, gets_to, global_kind}}
-use Rattle.mk_stack.proofs.NodeKinds.{may_point, meets, node_link, not_null_points, top_word}
-use Rattle.mk_stack.{proofs.Heaps.{other_register, set_register}, specs.Advancing.{says_full, says_yes}}
+use Rattle.mk_stack.proofs.Vocabulary.{HoldsAt, IsPointerTo, Kind, Linking, Looking, Making, MayPointTo, NeverState}
+use Rattle.mk_stack.proofs.Vocabulary.{Num, Number, Op, Peeking, Placing, Point, Pop, Ptr, Publishing, Push, Reading}
+use Rattle.mk_stack.proofs.Vocabulary.{Reply, Starting, Taking, Testing, Value, after_op, allocation_at, answer_of, bit}
+use Rattle.mk_stack.proofs.Vocabulary.{fail, fill, find_no_room, flagged, follow, found, free, free_again, global_at}
+use Rattle.mk_stack.proofs.Vocabulary.{go_pop, go_push, is_same, kinds_of, lack, left_at, link, look, make, meet, miss}
+use Rattle.mk_stack.proofs.Vocabulary.{next_point, node_kinds, op_at, peek, place, pop_again, publish, push_again, read}
+use Rattle.mk_stack.proofs.Vocabulary.{register_at, reply_at, reply_of, start, target_of, unlink, with_new}
+use Rattle.mk_stack.proofs.{Vocabulary.{with_register, with_word, word_at}, AtPoints.{holds_still, may_on, points_on}}
+use Rattle.mk_stack.proofs.NodeKinds.{IsStackState, gets_to, global_kind, may_point, meets, node_link, not_null_points}
+use Rattle.mk_stack.proofs.{NodeKinds.top_word, Heaps.{other_register, set_register}}
 use Rattle.mk_laws.proofs.Vocabulary.{AccessIsAdmitted, Bool, IsAdmitted, IsPointer, List, Meets, ℕ, arith, false}
 use Rattle.mk_laws.proofs.Vocabulary.{get_or, if◌then◌else◌, length, refl, suc, true, zero, [], ◌*◌, ◌+◌, ◌<◌, ◌∷◌, ◌≡◌}
 use Rattle.mk_laws.proofs.Vocabulary.{◌≢◌}
 use Rattle.mk_never.specs.Admitted.{OperandsAreInRange, StoreIsAdmitted}
 use Rattle.mk_run.specs.Scripts.{as_told}
+use Rattle.mk_stack.specs.Advancing.{says_full, says_yes}
 
 -- Where an operation is replied yes or no, its answer leads to this point or that.
 pub yes_no : {S : Type 0} (P : Reply → S → Type 0) {so not_so : S} (b : Bool) (a : Answer) (bases : List ℕ)

@@ -1,9 +1,9 @@
 -- The first caller reads what is left on the stack, when all callers are joined, and is joined again.
 use Rattle.std.proofs.{Common.⊎_elim, lemmas.List.append_cancel_left}
 use Rattle.mk_stack.proofs.Vocabulary.{AreAllBy, AreBelow, Caller, CallerState, Config, Decided, Grows, Has, HasWalked}
-use Rattle.mk_stack.proofs.Vocabulary.{Host, HostState, IsHistory, PassState, ReadsStack, Seat, WordsState, asked}
-use Rattle.mk_stack.proofs.Vocabulary.{at_home, calls, calls_from, left, never_behind, never_first, own_replied}
-use Rattle.mk_stack.proofs.Vocabulary.{pass_for, replied_in, with_joined}
+use Rattle.mk_stack.proofs.Vocabulary.{Host, HostState, IsAtHome, IsHistory, PassState, ReadsStack, Seat, WordsState}
+use Rattle.mk_stack.proofs.Vocabulary.{asked, calls, calls_from, left, never_behind, never_first, own_replied, pass_for}
+use Rattle.mk_stack.proofs.Vocabulary.{replied_in, with_joined}
 use Rattle.mk_laws.proofs.Vocabulary.{List, ℕ, ap, arith, cases_eq, ne_eqb, refl, subst, sym, [], ◌++◌, ◌<◌, ◌∙◌, ◌∷◌}
 use Rattle.mk_laws.proofs.Vocabulary.{◌≡◌, ◌≢◌}
 use Rattle.mk_heap.specs.Hosts.{with_caller_out}
@@ -15,15 +15,15 @@ use Rattle.mk_words.specs.Seats.{has_over, without_seat}
 
 -- the reader's walk, when it is joined
 pub reads_stack : (w : WordsState) (h g : HostState) (s : CallerState) {q : PassState} (r : PassState) {numbers : List
-    ℕ} → h.pass.table ≡ w → s ≡ at_home (pass_for h (Caller 0)) → HasWalked s.pass numbers q WalkPoint.Ended → r ≡ q
+    ℕ} → h.pass.table ≡ w → IsAtHome s (pass_for h (Caller 0)) → HasWalked s.pass numbers q WalkPoint.Ended → r ≡ q
     → Grows r.seats r.seen g.pass.seen → ReadsStack w.config h numbers g
 reads_stack w h g s r table home walked same came = grind (arith, still_replied)
 
-pub is_reader : (h g k : HostState) (s : CallerState) (q r : PassState) → g ≡ with_caller_out h 0 → s ≡ at_home
+pub is_reader : (h g k : HostState) (s : CallerState) (q r : PassState) → g ≡ with_caller_out h 0 → IsAtHome s
     (pass_for h (Caller 0)) → q ≡ record s.pass { seen = q.seen } → r ≡ q → k ≡ with_joined g r k.pass.seen
     → Grows g.pass.seats g.pass.seen k.pass.seen → has_over k.pass.seen ≡ has_over g.pass.seen → IsReader h k
 is_reader h g k s q r out home is same joined own overs =
-    let first : s.pass ≡ pass_for h (Caller 0) = ap (λ (x : CallerState). x.pass) home in
+    let first : s.pass ≡ pass_for h (Caller 0) = home.pass in
     let seats : r.seats ≡ Caller 0 ∷ [] =
     ap (λ (x : PassState). x.seats) same ∙ ap (λ (x : PassState). x.seats) is ∙ ap (λ (x : PassState). x.seats) first in
     record {

@@ -1,6 +1,6 @@
 -- Each operation of a caller keeps the invariant, and decides its job where it should.
 use Rattle.mk_stack.proofs.Vocabulary.{Asks, Checking, Done, Empty, Ended, Filling, Following, Freeing, Job, Linking}
-use Rattle.mk_stack.proofs.Vocabulary.{Looking, NeverState, Null, Num, Op, Peeking, Placing, Point, Pop, Popped, Ptr}
+use Rattle.mk_stack.proofs.Vocabulary.{Looking, NeverState, Null, Op, Peeking, Placing, Point, Pop, Popped, Ptr}
 use Rattle.mk_stack.proofs.Vocabulary.{Publishing, Push, Pushed, Reading, Replied, Reply, Starting, Taking, Target}
 use Rattle.mk_stack.proofs.Vocabulary.{Testing, Value, after_op, clear, done_without, fail, fill, find_no_room, follow}
 use Rattle.mk_stack.proofs.Vocabulary.{found, free, free_again, freed_by, global_at, go_pop, go_push, lack, left_at}

@@ -1,5 +1,5 @@
 -- The words that the proofs of this crate share: they import them from here.
-pub use Rattle.mk_caller.specs.{Called.Called, States.{CallerState, at_home, caller_of_pass, never_of, value_of}}
+pub use Rattle.mk_caller.specs.{Called.Called, States.{CallerState, IsAtHome, caller_of_pass, never_of, value_of}}
 pub use Rattle.mk_laws.proofs.Vocabulary.{Decided, asked, flagged, AreOfOthers, IsHistory, calls, calls_from, left}
 pub use Rattle.mk_laws.proofs.Vocabulary.{never_behind, answer_of, Config, Answer, Event, Seat, Caller, Host}
 pub use Rattle.mk_laws.proofs.Vocabulary.{AreAdmitted, Call, NeverState, after_calls, after_free, allocation_at, bit}

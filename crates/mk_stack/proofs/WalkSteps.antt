@@ -1,18 +1,18 @@
 -- Each call of a walk is its next operation, and what its caller's registers hold after it.
 use Rattle.std.proofs.Common.{IfSome}
-use Rattle.mk_stack.proofs.Vocabulary.{Answer, CallerState, HasStackTypes, HasWalked, HoldsAt, IsHistory, LeadsDown}
-use Rattle.mk_stack.proofs.Vocabulary.{NeverState, Op, PassState, Point, Pop, Replied, Reply, after_op, answer_of}
-use Rattle.mk_stack.proofs.Vocabulary.{global_at, numbers_read, register_at, reply_of, value_of}
-use Rattle.mk_stack.proofs.Advances.{Steps, of_asked, place_state, ready_state, steps_so}
-use Rattle.mk_stack.proofs.{NodeKinds.{IsStackState, global_kind}, PointSteps.{admits, kept, loads_link, loads_number}}
-use Rattle.mk_stack.proofs.{PointSteps.{loads_top, may_follow, now_may, tested}, AtPoints.holds_still, Going.seen_then}
-use Rattle.mk_stack.{proofs.Replies.{Stays, from_called}, specs.declared.walking.WalkPoint.{WalkPoint}}
+use Rattle.mk_stack.proofs.Vocabulary.{Answer, CallerState, HasStackTypes, HasWalked, HoldsAt, LeadsDown, NeverState}
+use Rattle.mk_stack.proofs.Vocabulary.{Op, PassState, Point, Pop, Replied, Reply, after_op, answer_of, global_at}
+use Rattle.mk_stack.proofs.{Vocabulary.{numbers_read, register_at, reply_of, value_of}, Advances.{Steps, of_asked}}
+use Rattle.mk_stack.proofs.{Advances.{place_state, ready_state, steps_so}, NodeKinds.{IsStackState, global_kind}}
+use Rattle.mk_stack.proofs.PointSteps.{admits, kept, loads_link, loads_number, loads_top, may_follow, now_may, tested}
+use Rattle.mk_stack.proofs.{AtPoints.holds_still, Going.seen_then, Replies.{Stays, from_called}}
 use Rattle.mk_laws.proofs.Vocabulary.{IsAdmitted, List, Some, ℕ, ap, append-nil, append_assoc, arith, false}
 use Rattle.mk_laws.proofs.{Vocabulary.{is_under_turn, refl, subst, sym, [], ◌++◌, ◌∙◌, ◌∷◌, ◌≡◌}, CallSorts.flag_is}
 use Rattle.mk_caller.specs.States.{Admits}
 use Rattle.mk_run.specs.Scripts.{IsCalled, as_told}
 use Rattle.mk_stack.specs.Walks.{Walks, descend, found_down, go, lack, meet, number_read, op_down, peek, read, start}
 use Rattle.mk_stack.specs.{Walks.stop, Ready.IsReady, declared.walking.Found.Found}
+use Rattle.mk_stack.specs.declared.walking.WalkPoint.{WalkPoint}
 
 -- what the registers hold at a point is what they hold at this one of a pop
 abbrev pub as_pop : WalkPoint → Point
@@ -77,15 +77,15 @@ module _ {globals : List ℕ} {n : NeverState} {k : ℕ} (state : IsStackState g
 pub beside_turns : (s : WalkPoint) {o : Op} → op_down s ≡ Some o → is_under_turn o ≡ false
 beside_turns s is = grind (arith, of_asked)
 
-pub may_go_down : {s : CallerState} (t : WalkPoint) {o : Op} → IsReady s → IsHistory s.pass.table.config s.pass.seen
+pub may_go_down : {s : CallerState} (t : WalkPoint) {o : Op} → IsReady s
     → op_down t ≡ Some o → HoldsAt (value_of s.pass) (as_pop t) → Admits s.pass o
-may_go_down {s} t ready history is holds = of_asked (Admits s.pass) is (admits_down (ready_state ready history) t holds)
+may_go_down {s} t ready is holds = of_asked (Admits s.pass) is (admits_down (ready_state ready) t holds)
 
 pub steps_down : {p q : PassState} (s : WalkPoint) {f : Found} {o : Op} {told : Answer} → f ≡ found_down s told
-    → HasStackTypes p.table.config → IsHistory q.table.config q.seen → op_down s ≡ Some o
+    → HasStackTypes p.table.config → op_down s ≡ Some o
     → HoldsAt (value_of p) (as_pop s) → IsCalled p o told q → StepsDown p s q f
-steps_down {p} {q} s {o} leads types history is holds called =
-    let h = from_called called.called (flag_is o called.answer (beside_turns s is)) history in
+steps_down {p} {q} s {o} leads types is holds called =
+    let h = from_called called.called (flag_is o called.answer (beside_turns s is)) called.called.pass.history in
     let next = of_asked _ is (goes_down (place_state types h) s (holds_still h.before (as_pop s) holds)) in
     subst (StepsDown p s q) (ap (found_down s) (sym called.is_told) ∙ sym leads)
     (steps_so h (next called.answer h.bases h.image))

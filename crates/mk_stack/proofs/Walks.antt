@@ -1,6 +1,6 @@
 -- What a walk down a stack reads is what is on it.
-use Rattle.mk_stack.proofs.Vocabulary.{Allocation, AreAllBy, Call, LeadsDown, NeverState, Null, Num, Op, Ptr, Replied}
-use Rattle.mk_stack.proofs.Vocabulary.{Reply, Target, Unmapped, Value, WordOf, after_op, allocation_at, bit, global_at}
+use Rattle.mk_stack.proofs.Vocabulary.{Allocation, AreAllBy, Call, LeadsDown, NeverState, Null, Op, Ptr, Replied, Reply}
+use Rattle.mk_stack.proofs.Vocabulary.{Target, Unmapped, Value, WordOf, after_op, allocation_at, bit, global_at}
 use Rattle.mk_stack.proofs.Vocabulary.{is_same, is_unmapped, number_of, numbers_in, numbers_read, own_replied}
 use Rattle.mk_stack.proofs.Vocabulary.{register_at, reply_at, reply_of, target_of, with_register, word_at}
 use Rattle.mk_stack.{proofs.Heaps.{set_register}, specs.declared.walking.WalkPoint.{WalkPoint}}

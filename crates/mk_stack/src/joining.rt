@@ -57,7 +57,6 @@ fn work_alone<E: Engine, P: Pace, R: Threads + Wait + Sync>(
     let jobs = &run.lists[k as usize];
     let mut caller = Caller::new(run.heap.words(), pass);
     let dones = run_jobs(rt, run.alloc, &mut caller, &mut engine, &jobs.list, pace);
-    caller.is_idle();
     Worked {
         pass: caller.finish(),
         dones,

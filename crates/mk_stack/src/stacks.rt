@@ -38,10 +38,7 @@ fn go<E: Engine, R: Threads + Wait + Sync>(
         let Some(op) = op_at(point) else {
             return point;
         };
-        caller.is_idle();
-        let answer = answer_now(rt, caller, engine, op);
-        caller.is_idle();
-        match answer {
+        match answer_now(rt, caller, engine, op) {
             Ok(told) => point = next_point(point, told),
             Err(Held) => backoff.snooze(),
         }
@@ -70,10 +67,7 @@ fn forget<R: Wait>(rt: &R, caller: &mut Caller, register: u8)
 {
     let backoff = Backoff::new();
     'tries: for _ in rt.forever() {
-        caller.is_idle();
-        let cleared = caller.clear(register);
-        caller.is_idle();
-        match cleared {
+        match caller.clear(register) {
             Ok(()) => return,
             Err(Held) => backoff.snooze(),
         }

@@ -91,10 +91,7 @@ pub(crate) fn read_stack<R: Wait>(
         let Some(op) = op_down(point) else {
             return Ok(left);
         };
-        caller.is_idle();
-        let answer = call(caller, op);
-        caller.is_idle();
-        match answer {
+        match call(caller, op) {
             Ok(told) => match found_down(point, told) {
                 Found::To(next) => point = next,
                 Found::Number(n) => {

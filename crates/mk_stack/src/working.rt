@@ -42,9 +42,7 @@ fn found_and_work<E: Engine + Send, P: Pace + Sync, R: Threads + Wait + Sync>(
     ensures worked { HaveFoundedAndWorked run.now.heap.now host.markers run.now.lists.now result }
 {
     let mut first = host.caller(run.heap);
-    first.is_idle();
     found_stack(rt, &mut first, &mut engines.first);
-    first.is_idle();
     let pass = first.finish();
     run_from(rt, run, pace, 0, host, Callers { pass, engines })
 }
@@ -85,6 +83,5 @@ pub(crate) fn work<E: Engine + Send, P: Pace + Sync, R: Threads + Wait + Sync>(
     let Joined { mut host, dones } = found_and_work(rt, run, pace, host, callers);
     let left = read_left(rt, run, &mut host);
     host.over(rt, run.heap, &mut own);
-    host.is_in_order();
     Ended { host, dones, left }
 }

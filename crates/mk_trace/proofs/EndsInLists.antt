@@ -7,7 +7,7 @@ use Rattle.mk_trace.proofs.FoundByEnds.{found-none, frees_behind, frees_second, 
 use Rattle.mk_trace.{proofs.FlagSteps.{releases_then, same_releases}, specs.Peaks.{found_by_ends_from}}
 use Rattle.mk_laws.proofs.Vocabulary.{Bool, List, ℕ, ap, append-nil, append_assoc, arith, cases_Bool, enabled_parts}
 use Rattle.mk_laws.proofs.Vocabulary.{false, inl, inr, left_append, left_in_parts, or_from, or_parts, refl, subst, sym}
-use Rattle.mk_laws.proofs.Vocabulary.{true, true≢false, [], ◌++◌, ◌+◌, ◌||◌, ◌∙◌, ◌∷◌, ◌≡◌, ◌⊎◌}
+use Rattle.mk_laws.proofs.Vocabulary.{true, true≢false, [], ◌++◌, ◌||◌, ◌∙◌, ◌∷◌, ◌≡◌, ◌⊎◌}
 use Rattle.mk_laws.proofs.CyclePhases.{begin_is, phase_behind}
 use Rattle.mk_core.specs.{Cycles.Next, History.left_from}
 use Rattle.mk_alloc.{proofs.ListParts.{lacks_first, lacks_second}, specs.TurnCycles.{RunsOneCycle}}

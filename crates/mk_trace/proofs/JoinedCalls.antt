@@ -16,7 +16,7 @@ use Rattle.mk_trace.proofs.{OneCaller.{calls_are_own, none_called}, PeakParts.mo
 use Rattle.mk_laws.proofs.Vocabulary.{Bool, List, Option, Some, ℕ, and_parts, ap, append-nil, append_assoc, arith}
 use Rattle.mk_laws.proofs.Vocabulary.{cases_Bool, earlier_part_is_history, enabled_in_parts, false, inl, inr}
 use Rattle.mk_laws.proofs.Vocabulary.{left_append, left_in_parts, list_any, or_from, or_parts, refl, subst, sym, true}
-use Rattle.mk_laws.proofs.Vocabulary.{[], ◌&&◌, ◌++◌, ◌+◌, ◌||◌, ◌∙◌, ◌∷◌, ◌≡◌}
+use Rattle.mk_laws.proofs.Vocabulary.{[], ◌&&◌, ◌++◌, ◌||◌, ◌∙◌, ◌∷◌, ◌≡◌}
 use Rattle.mk_core.proofs.HistoryParts.{calls_in_parts}
 use Rattle.mk_core.specs.{Growing.own_from, History.{AreEnabledFrom, calls_from, left_from}}
 use Rattle.mk_alloc.proofs.{GrantParts.{LastIn, last_before, last_then}, OneCycles.{one_before, one_behind}}

@@ -10,7 +10,7 @@ use Rattle.mk_laws.proofs.Vocabulary.{◌==◌, ◌||◌, ◌∙◌, ◌∷◌, 
 use Rattle.mk_never.proofs.{Later.op_stays, Parts.{admitted_split, after_append}}
 use Rattle.mk_never.specs.{Admitted.IsCaller, NeverHeap.after_op}
 use Rattle.mk_core.specs.Counts.{is_full_answer}
-use Rattle.mk_caller.{proofs.OwnSteps.{calls_by, others_add_none}, specs.States.{at_home, caller_of_pass}}
+use Rattle.mk_caller.{proofs.OwnSteps.{calls_by, others_add_none}, specs.States.{IsAtHome, caller_of_pass}}
 use Rattle.mk_heap.specs.Hosts.{AllAreJoined, with_caller_made, with_caller_out, with_joined, with_seen}
 use Rattle.mk_run.specs.Scripts.{IsAdmittedByOwnCalls, as_told}
 use Rattle.mk_trace.specs.Calls.{CallsAll, MayCome, SameCalls}
@@ -97,14 +97,17 @@ next_may_come {c} {es} {ops} o rest h admitted =
 -- The host between calls.
 
 pub told_home : {w : WordsState} {h : HostState} (g : HostState) → CallerIsHome w h → g ≡ with_seen h g.pass.seen
-    → has_over g.pass.seen ≡ has_over h.pass.seen → CallerIsHome w g
-told_home {w} g home is overs = grind arith
+    → has_over g.pass.seen ≡ has_over h.pass.seen → IsHistory g.pass.table.config g.pass.seen → CallerIsHome w g
+told_home {w} g home is overs history = grind arith
 
 pub joined_home : {w : WordsState} {h : HostState} (out g : HostState) (q : PassState) → CallerIsHome w h
     → out ≡ with_caller_out h 0 → g ≡ with_joined out q g.pass.seen → q.seats ≡ Caller 0 ∷ []
-    → has_over g.pass.seen ≡ has_over out.pass.seen → CallerIsHome w g
-joined_home {w} {h} out g q home is joined seats overs = record {
+    → has_over g.pass.seen ≡ has_over out.pass.seen → IsHistory g.pass.table.config g.pass.seen → CallerIsHome w g
+joined_home {w} {h} out g q home is joined seats overs history = record {
   table = ap (λ (x : HostState). x.pass.table) joined ∙ ap (λ (x : HostState). x.pass.table) is ∙ home.table;
+  seat = ap (λ (x : HostState). x.pass.seat) joined ∙ ap (λ (x : HostState). x.pass.seat) is ∙ home.seat;
+  history = subst (λ (x : WordsState). IsHistory x.config g.pass.seen)
+      (ap (λ (x : HostState). x.pass.table) joined ∙ ap (λ (x : HostState). x.pass.table) is ∙ home.table) history;
   one = home.one;
   callers = ap (λ (x : HostState). x.callers) joined ∙ ap (λ (x : HostState). x.callers) is ∙ home.callers;
   markers = ap (λ (x : HostState). x.markers) joined ∙ ap (λ (x : HostState). x.markers) is ∙ home.markers;
@@ -125,34 +128,35 @@ callers_at_home home = ap (λ (x : WordsState). x.config.callers) home.table ∙
 
 -- What may come now may come while the caller makes no call.
 admits : {w : WordsState} {h : HostState} → CallerIsHome w h → (o : Op) → MayCome w.config h.pass.seen o
-    → IsHistory h.pass.table.config h.pass.seen → IsAdmittedByOwnCalls (pass_for h (Caller 0)) o
-admits {h} home o comes history = λ es later same.
+    → IsAdmittedByOwnCalls (pass_for h (Caller 0)) o
+admits {h} home o comes = λ es later same.
     let c = h.pass.table.config in
+    let history = subst (λ (x : WordsState). IsHistory x.config h.pass.seen) (sym home.table) home.history in
     let one = callers_at_home home in
     let all : calls c es ≡ calls c h.pass.seen = sym (calls_are_own one later) ∙ same ∙ calls_are_own one history in
     rw all (rw (← home.table) at comes)
 
 module _ {w : WordsState} {h : HostState} (home : CallerIsHome w h) (s : CallerState)
-    (made : s ≡ at_home (pass_for h (Caller 0))) where
+    (made : IsAtHome s (pass_for h (Caller 0))) where
   pub made_seats : s.pass.seats ≡ Caller 0 ∷ []
-  made_seats = ap (λ (x : CallerState). x.pass.seats) made
+  made_seats = ap (λ (p : PassState). p.seats) made.pass
 
   pub made_alone : s.pass.seats ≡ s.pass.seat ∷ []
-  made_alone = subst (λ (x : CallerState). x.pass.seats ≡ x.pass.seat ∷ []) (sym made) refl
+  made_alone = subst (λ (p : PassState). p.seats ≡ p.seat ∷ []) (sym made.pass) refl
 
   pub made_exists : caller_of_pass s.pass < s.pass.table.config.callers
   made_exists = grind (arith, callers_at_home)
 
-  pub made_admits : (o : Op) → MayCome w.config h.pass.seen o → IsHistory s.pass.table.config s.pass.seen
-      → IsAdmittedByOwnCalls s.pass o
-  made_admits o comes history =
-      rw made (admits home o comes (rw made at history))
+  pub made_admits : (o : Op) → MayCome w.config h.pass.seen o → IsAdmittedByOwnCalls s.pass o
+  made_admits o comes = rw made.pass (admits home o comes)
 
 -- The caller that the host makes first, and joins at once.
 pub first_home : (w : WordsState) (h made joined : HostState) (q : PassState) → w.config.callers ≡ 1 → h ≡ first_host w
     → made ≡ with_caller_made h → joined ≡ with_joined made q joined.pass.seen → q.seats ≡ Caller 0 ∷ []
-    → has_over joined.pass.seen ≡ has_over made.pass.seen → CallerIsHome w joined
-first_home w h made joined q one first is joins seats overs = grind (arith, has_right, has_first, all_again, has_all)
+    → has_over joined.pass.seen ≡ has_over made.pass.seen → IsHistory joined.pass.table.config joined.pass.seen
+    → CallerIsHome w joined
+first_home w h made joined q one first is joins seats overs history =
+    grind (arith, has_right, has_first, all_again, has_all)
 
 -- All are joined then.
 pub home_joined : {w : WordsState} {h : HostState} → CallerIsHome w h → AllAreJoined h

@@ -10,7 +10,7 @@ use Rattle.mk_laws.proofs.Vocabulary.{Bool, List, ℕ, ap, arith, false, get_or,
 use Rattle.mk_laws.proofs.Vocabulary.{map-append, refl, subst, sym, take, [], ◌++◌, ◌+◌, ◌<◌, ◌∙◌, ◌∷◌, ◌≡◌, ◌≤◌}
 use Rattle.mk_laws.proofs.Promises.{histories_keep_all_promises}
 use Rattle.mk_core.specs.History.{calls_from}
-use Rattle.mk_caller.specs.States.{at_home}
+use Rattle.mk_caller.specs.States.{IsAtHome}
 use Rattle.mk_heap.specs.Reports.{IsWhole}
 use Rattle.mk_quarantine.proofs.Bounds.{quarantine_of_one_is_bounded}
 use Rattle.mk_run.proofs.UnsweptHistories.{unswept_is_precise}
@@ -129,15 +129,15 @@ played_all {trace} events i {refused} {es} past is h =
 
 -- The pass that the host made first.
 first_pass : (w : WordsState) (h : HostState) (s : CallerState) (q : PassState) → h ≡ first_host w
-    → s ≡ at_home (pass_for h (Caller h.callers)) → q ≡ s.pass → q ≡ pass_for (first_host w) (Caller 0)
+    → IsAtHome s (pass_for h (Caller h.callers)) → q ≡ s.pass → q ≡ pass_for (first_host w) (Caller 0)
 first_pass w h s q first made is = grind arith
 
 pub first_seats : (w : WordsState) (h : HostState) (s : CallerState) (q : PassState) → h ≡ first_host w
-    → s ≡ at_home (pass_for h (Caller h.callers)) → q ≡ s.pass → q.seats ≡ Caller 0 ∷ []
+    → IsAtHome s (pass_for h (Caller h.callers)) → q ≡ s.pass → q.seats ≡ Caller 0 ∷ []
 first_seats w h s q first made is = ap (λ (p : PassState). p.seats) (first_pass w h s q first made is)
 
 pub joined_first : (w : WordsState) (h : HostState) (s : CallerState) (q : PassState) (k : HostState) (c : Config)
-    → h ≡ first_host w → s ≡ at_home (pass_for h (Caller h.callers)) → q ≡ s.pass
+    → h ≡ first_host w → IsAtHome s (pass_for h (Caller h.callers)) → q ≡ s.pass
     → Grows q.seats q.seen k.pass.seen → w.config ≡ c → c.callers ≡ 1 → k.pass.table ≡ w
     → IsHistory k.pass.table.config k.pass.seen → SameCalls c [] k.pass.seen
 joined_first w h s q k c first made is came config one table history = grind (arith, no_call_first, first_pass)

@@ -1,7 +1,7 @@
 -- The host looks at a word between calls: it is told the word, and leaves all as it is.
 use Rattle.mk_trace.proofs.Vocabulary.{Caller, CallerIsHome, Config, Event, Has, HasAll, Host, HostOnlyLooks, HostState}
 use Rattle.mk_trace.proofs.Vocabulary.{IsHistory, IsTidy, LeavesAllocations, PassState, PlacedAllocation, Step}
-use Rattle.mk_trace.proofs.Vocabulary.{SweepsNothing, TalliesAreTidy, Word, WordsState, World, calls, ends, event_of}
+use Rattle.mk_trace.proofs.Vocabulary.{SweepsNothing, TalliesAreTidy, Word, WordsState, World, ends, event_of}
 use Rattle.mk_trace.proofs.Vocabulary.{first_world, found, greatest, has_step, held_by_allocations, in_a_word, is_end}
 use Rattle.mk_trace.proofs.{Vocabulary.{left, seen_made}, FoundByEnds.{ends-append, no_end-cons, none_end}}
 use Rattle.mk_trace.proofs.HeldLooks.{IsApart, Looked, all_lack, behind, exact, first, first_lacks, giving, looked_same}
@@ -13,7 +13,7 @@ use Rattle.mk_trace.proofs.PeakParts.{from-append, last_below}
 use Rattle.mk_laws.proofs.Vocabulary.{List, ℕ, ap, append-nil, append_assoc, arith, earlier_part_is_history}
 use Rattle.mk_laws.proofs.Vocabulary.{enabled_in_parts, false, left_in_parts, left_more, refl, subst, sym, [], ◌++◌}
 use Rattle.mk_laws.proofs.Vocabulary.{◌∙◌, ◌∷◌, ◌≡◌}
-use Rattle.mk_heap.specs.Turns.{TellsWord}
+use Rattle.mk_heap.{proofs.MovedHosts.{taken_own}, specs.Turns.{TellsWord}}
 use Rattle.mk_trace.specs.{Calls.held_behind, Looking.{LeavesTable, word_behind}}
 
 -- With looks alone the most is as it was.
@@ -113,18 +113,18 @@ pub record Reports (c : Config) (es : List Event) (x : Word) (n : ℕ) (fs : Lis
   pub holds : x ≡ Word.Held → n ≡ held_behind c es
   pub counts : IsTidy c fs → x ≡ Word.Cycles → n ≡ in_a_word (ends es)
 
-pub reports : {w : WordsState} {h : HostState} → CallerIsHome w h → h.pass.seat ≡ Host
-    → {x : Word} {n : ℕ} (k : HostState) → TellsWord h.pass x n k.pass → IsHistory h.pass.table.config k.pass.seen
-    → SweepsNothing h.pass k.pass → Reports w.config h.pass.seen x n k.pass.seen
-reports {h} home host {x} {n} k tells history sweeps =
+pub reports : {w : WordsState} {h : HostState} → CallerIsHome w h → {x : Word} {n : ℕ} (k : HostState)
+    → CallerIsHome w k → TellsWord h.pass x n k.pass → SweepsNothing h.pass k.pass
+    → Reports w.config h.pass.seen x n k.pass.seen
+reports {h} home {x} {n} k after tells sweeps =
     let l : Looked h.pass x n k.pass = record {
       tells = tells;
-      own = subst (Has h.pass.seats) (sym host) (home.all Host refl);
+      own = taken_own tells.takes;
       all = subst (λ (y : WordsState). HasAll y.config h.pass.seats) (sym home.table) home.all;
-      history = history;
+      history = subst (λ (y : WordsState). IsHistory y.config k.pass.seen) (sym home.table) after.history;
     } in
     subst (λ (y : WordsState). Reports y.config h.pass.seen x n k.pass.seen) home.table (record {
-      looks = looks l host home.joined (callers_at_home home) sweeps;
+      looks = looks l home.seat home.joined (callers_at_home home) sweeps;
       tells = told_taken l ∙ word_left (leaves_taken l) x;
       holds = told_held l;
       counts = told_ends l;

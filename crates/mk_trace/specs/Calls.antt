@@ -4,7 +4,7 @@ use Rattle.std.specs.{Prelude.{◌≡◌, ℕ, max, Bool, false, List, ◌++◌,
 use Rattle.mk_never.specs.{declared.operations.Op.Op, NeverHeap.{NeverState, register_at, after_calls}}
 use Rattle.mk_never.specs.{declared.values.Value.TheVariants.Null, Admitted.{IsAdmitted, AreAdmitted}}
 use Rattle.mk_core.specs.{declared.config.Config.Config, declared.events.Answer.Answer, declared.events.Event.Event}
-use Rattle.mk_core.specs.{declared.events.Seat.TheVariants.Caller, Decided.{Decided, entry_of, asked, answered}}
+use Rattle.mk_core.specs.{declared.events.Seat.TheVariants.{Caller, Host}, Decided.{Decided, entry_of, asked, answered}}
 use Rattle.mk_core.specs.{Allocations.held_by_allocations, History.{calls, left, never_behind, IsHistory}}
 use Rattle.mk_words.specs.{Seats.{Has, HasAll, has_over}, States.WordsState}
 use Rattle.mk_heap.specs.Hosts.{HostState}
@@ -13,9 +13,12 @@ use Rattle.mk_trace.specs.{declared.trace.TraceEvent.TraceEvent, Laws.IsEventOf,
 use Rattle.mk_trace.specs.Playing.{config_of, ops_of, begins_full, calls_of_caller, is_refusal, ops_played}
 use Rattle.mk_trace.specs.{Playing.refused_events, Traces.Contents}
 
--- The heap has one caller, which was made, and whose seat is home in the host's pass, as all others are.
+-- The heap has one caller, which was made, and whose seat is home in the host's pass, as all others are. What the host
+-- has seen is a history.
 pub record CallerIsHome (w : WordsState) (h : HostState) : Type 0 where
   pub table : h.pass.table ≡ w
+  pub seat : h.pass.seat ≡ Host
+  pub history : IsHistory w.config h.pass.seen
   pub one : w.config.callers ≡ 1
   pub callers : h.callers ≡ 1
   pub markers : h.markers ≡ 0

@@ -45,9 +45,7 @@ fn call<E: Engine, R: Threads + Wait + Sync>(
         LeavesAllocations heap.now.config host.old.pass.seen host.new.pass.seen }
 {
     let mut caller = host.caller_again(heap, 0);
-    caller.is_idle();
     let answer = answer_to(rt, &mut caller, engine, op);
-    caller.is_idle();
     host.join_caller(heap, caller.finish());
     host.is_in_order();
     answer
@@ -88,9 +86,7 @@ fn answer<E: Engine, R: Threads + Wait + Sync>(
 {
     if is_under_turn(op) {
         let freed = object_to_free(rt, heap, host, slot, op);
-        host.is_in_order();
         let told = call(rt, heap, host, engine, op);
-        host.is_in_order();
         let now = look(rt, heap, host, Word::Held);
         ledger.held = ledger.held.max(now);
         ledger.freed.note(freed)?;

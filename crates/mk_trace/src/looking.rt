@@ -27,7 +27,6 @@ pub(crate) fn look<R: Wait>(rt: &R, heap: &Heap, host: &mut Host, word: Word) ->
     ensures holds { word ≡ table_word.Held → result ≡ held_behind heap.now.config host.old.pass.seen }
     ensures counts { word ≡ table_word.Cycles → result ≡ in_a_word (ends host.old.pass.seen) }
 {
-    host.is_in_order();
     let found = host.tell(rt, heap, word);
     host.is_in_order();
     found
@@ -54,7 +53,6 @@ pub(crate) fn is_quarantined<R: Wait>(rt: &R, heap: &Heap, host: &mut Host, cell
     ensures looks { HostOnlyLooks heap.now.config host.old.pass.seen host.new.pass.seen }
     ensures finds { result ≡ is_freed (left heap.now.config host.old.pass.seen).now.words cell }
 {
-    host.is_in_order();
     if cell.page < heap.words().pages() {
         let freed = look(rt, heap, host, Word::Quar(cell.page));
         has_bit(freed % 4294967296, cell.index)
@@ -75,7 +73,6 @@ fn object_of_slot<R: Wait>(rt: &R, heap: &Heap, host: &mut Host, slot: u64) -> O
         (unfreed (never_behind heap.now.config host.old.pass.seen)
         (global_at (never_behind heap.now.config host.old.pass.seen) slot)) }
 {
-    host.is_in_order();
     let address = look(rt, heap, host, Word::Global(slot));
     match cell_at(rt, heap, host, address) {
         Some(cell) => {

@@ -72,7 +72,6 @@ fn play_events<E: Engine, R: Threads + Wait + Sync>(
     let events = trace.events();
     let mut refused = 0;
     for event in events {
-        host.is_in_order();
         let is_refused = refuses(rt, alloc, heap, host, engine, ledger, *event)?;
         refused = with_refusal(refused, is_refused);
     }

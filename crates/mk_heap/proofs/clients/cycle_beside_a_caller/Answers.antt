@@ -1,5 +1,4 @@
 use Rattle.mk_laws.proofs.Vocabulary.{Caller, Config, IsWithinLimits, ap, subst, sym, [], ◌∙◌, ◌∷◌, ◌≡◌}
-use Rattle.mk_caller.specs.States.{CallerState}
 use Rattle.mk_heap.proofs.ClientSteps.{has_said_over, one_is_joined, pass_of_first, pass_of_later}
 use Rattle.mk_heap.specs.Hosts.{HostState}
 use Rattle.mk_words.specs.States.{PassState}
@@ -18,7 +17,7 @@ close-requires-clause-joined g c =
     let p : PassState = c.finish.result in
     let seats : p.seats ≡ Caller first.callers ∷ [] = ap (λ (r : PassState). r.seats)
     (c.finish.ensures.pass ∙ c.clear-2.ensures.pass) ∙ ap (λ (r : PassState). r.seats) c.clear.ensures.pass
-    ∙ ap (λ (x : CallerState). x.pass.seats) c.caller-caller.ensures.caller in
+    ∙ ap (λ (r : PassState). r.seats) c.caller-caller.ensures.caller.pass in
     one_is_joined c.in_ok-heap.heap first c.caller-caller.new.self c.cycle.new.self c.join_caller.new.self
     c.over.new.self p c.join_caller.new.self.pass.seen c.over.new.self.pass.seen c.in_ok-heap.ensures.host
     c.caller-caller.ensures.host c.cycle.ensures.host seats c.join_caller.ensures.host c.over.ensures.host

@@ -1,6 +1,5 @@
-use Rattle.mk_laws.proofs.Vocabulary.{arith, false, refl, ◌%◌, ◌∙◌, ◌≡◌}
+use Rattle.mk_laws.proofs.Vocabulary.{arith, refl, ◌%◌, ◌∙◌, ◌≡◌}
 use Rattle.mk_core.proofs.PhaseTests.{in_word, not_in_word}
-use Rattle.mk_cycle.proofs.Allowed.{in_turn}
 use Rattle.mk_heap.proofs.BegunHosts.{taken_then_sweeps}
 use Rattle.mk_heap.proofs.Overs.{HasLooked, finished, found_none, found_one, host_has, looked_idle, phase_found}
 use Rattle.mk_heap.proofs.{HomeCallers.taken_phase, ending.take_idle_turn.Goals.After-look-found}
@@ -11,17 +10,15 @@ use Rattle.mk_heap.proofs.ending.take_idle_turn.Goals as goal
 looked : (g : _) (c : After-look-found g)
     → HasLooked c.args.home c.take_turn-turn.result.pass c.look-found.result c.look-found.new.self.pass
 looked g c =
-    let o = c.is_in_order-2.ensures in
     let t = c.take_turn-turn.ensures in
     record {
-      own = c.is_in_order.ensures.own;
       host = c.requires.seat;
       before_over = c.requires.before_over;
       takes = t.takes;
       fresh = t.fresh;
       exact = t.exact;
       tidy = t.tidy;
-      turn = in_turn _ o.own o.turn o.history;
+      turn = c.take_turn-turn.result.in_order;
       finds = c.look-found.ensures.finds;
       acts = c.look-found.ensures.acts;
     }
@@ -54,10 +51,10 @@ returns-else-is_in-clause-idle g c =
 
 pub returns-then-is_in-clause-reached : goal.returns-then-is_in-clause-reached
 returns-then-is_in-clause-reached g c none =
-    taken_then_sweeps c.is_in_order.ensures.own c.take_turn-turn.ensures.takes (step_then_sweeps _
+    taken_then_sweeps c.take_turn-turn.ensures.takes (step_then_sweeps _
     c.look-found.new.self.pass _ _ c.look-found.ensures.acts.makes refl (c.finish_cycle.ensures.reached none))
 
 pub returns-else-is_in-clause-reached : goal.returns-else-is_in-clause-reached
 returns-else-is_in-clause-reached g c none =
-    taken_then_sweeps c.is_in_order.ensures.own c.take_turn-turn.ensures.takes
+    taken_then_sweeps c.take_turn-turn.ensures.takes
     (other_step_sweeps _ c.look-found.new.self.pass _ c.look-found.ensures.acts.makes refl)

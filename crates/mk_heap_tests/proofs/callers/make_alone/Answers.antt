@@ -3,7 +3,7 @@ use Rattle.mk_heap_tests.proofs.callers.make_alone.Goals as goal
 
 pub make_rounds-fine-requires-clause-null : goal.make_rounds-fine-requires-clause-null
 make_rounds-fine-requires-clause-null c =
-    rw c.new-caller.ensures (holds_null c.requires.pass c.requires.exists)
+    rw c.new-caller.ensures.pass (holds_null c.requires.pass c.requires.exists)
 
 pub returns : goal.returns
 returns c =

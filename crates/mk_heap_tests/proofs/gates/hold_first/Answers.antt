@@ -1,5 +1,5 @@
 use Rattle.mk_laws.proofs.Vocabulary.{Host, Seat, ap, arith, is_number_of, subst, sym, ◌<◌, ◌∙◌, ◌≡◌}
-use Rattle.mk_heap_tests.proofs.Vocabulary.{PassState, WordsState, in_turn}
+use Rattle.mk_heap_tests.proofs.Vocabulary.{PassState, WordsState}
 use Rattle.mk_cycle.proofs.HoldingSteps.{hold_allowed}
 use Rattle.mk_heap.proofs.{ClientSteps.pass_of_later, Overs.fresh_free}
 use Rattle.mk_heap_tests.proofs.{JoinedHosts.none_is_held_at, JoinedHosts.pass_of, LateMarkers.host_may}
@@ -16,13 +16,12 @@ pub try_hold-requires-clause-enabled : goal.try_hold-requires-clause-enabled
 try_hold-requires-clause-enabled c =
     let w : WordsState = c.args.split.0 in
     let q : PassState = c.in-Ok.turn.pass in
-    let o = c.is_in_order.ensures in
     let made = c.in-Ok.ensures.made.makes.is in
     let table : q.table ≡ w = ap (λ (x : PassState). x.table) made ∙ c.requires.host.table in
     let seat : q.seat ≡ Host = ap (λ (x : PassState). x.seat) made ∙ c.requires.host.seat in
     let some : 0 < q.table.config.callers =
     subst (λ (v : WordsState). 0 < v.config.callers) (sym table) (omega (arith, c.requires.callers.two)) in
-    hold_allowed q (in_turn q o.own o.turn o.history) (fresh_free c.in-Ok.ensures.fresh) 0 some
+    hold_allowed q c.in-Ok.turn.in_order (fresh_free c.in-Ok.ensures.fresh) 0 some
     (ap (λ (s : Seat). is_number_of s 0) seat) (none_is_held_at q 0 some c.in-Ok.ensures.fresh.gates)
 
 pub clear-requires-clause-whole : goal.clear-requires-clause-whole

@@ -12,7 +12,6 @@ looked : (g : _) (c : After-look-found g)
 looked g c =
     let t = c.take-turn.ensures in
     record {
-      own = t.own;
       host = c.requires.host.seat;
       before_over = c.requires.host.before_over;
       takes = t.takes;

@@ -1,6 +1,6 @@
 use Rattle.mk_laws.proofs.Vocabulary.{subst}
-use Rattle.mk_heap_tests.proofs.{Vocabulary.in_turn, NewTurns.{double_back, double_may_give, freed_back}}
-use Rattle.mk_heap_tests.proofs.NewTurns.{freed_may_give, is_unloaded, may_retire, phase, taken_table}
+use Rattle.mk_heap_tests.proofs.NewTurns.{double_back, double_may_give, freed_back, freed_may_give, is_unloaded}
+use Rattle.mk_heap_tests.proofs.NewTurns.{may_retire, phase, taken_table}
 use Rattle.mk_objects.specs.Retired.{Retires}
 use Rattle.mk_heap_tests.proofs.retiring.retire.Goals as goal
 
@@ -20,27 +20,23 @@ retire_object-requires-clause-phase g c κs within = phase c.requires.pass.pass 
 pub give-requires-clause-enabled : goal.give-requires-clause-enabled
 give-requires-clause-enabled g c =
     let d = c.retire_object.new.turn in
-    let k = c.is_in_order.ensures in
     freed_may_give c.requires.pass c.requires.exists c.take-turn.ensures
     (subst (λ b. Retires c.take-turn.result.pass c.args.p b d.pass) c.if-freed.false c.in-Ok.ensures.freed)
-    (in_turn d.pass k.own k.turn k.history)
+    d.in_order
 
 pub returns-else-freed : goal.returns-else-freed
 returns-else-freed g c =
     let d = c.retire_object.new.turn in
-    let k = c.is_in_order.ensures in
     freed_back c.requires.pass c.requires.exists c.take-turn.ensures
     (subst (λ b. Retires c.take-turn.result.pass c.args.p b d.pass) c.if-freed.false c.in-Ok.ensures.freed)
-    (in_turn d.pass k.own k.turn k.history) c.give.ensures.acts.makes c.give.ensures.rests
+    d.in_order c.give.ensures.acts.makes c.give.ensures.rests
 
 pub give-requires-in-Err-clause-enabled : goal.give-requires-in-Err-clause-enabled
 give-requires-in-Err-clause-enabled g c =
-    let k = c.is_in_order-in-Err.ensures in
     double_may_give c.requires.pass c.requires.exists c.take-turn.ensures c.in-Err.ensures.double
-    (in_turn c.retire_object.new.turn.pass k.own k.turn k.history)
+    c.retire_object.new.turn.in_order
 
 pub returns-in-Err : goal.returns-in-Err
 returns-in-Err g c =
-    let k = c.is_in_order-in-Err.ensures in
-    double_back c.requires.pass c.requires.exists c.take-turn.ensures c.in-Err.ensures.double (in_turn
-    c.retire_object.new.turn.pass k.own k.turn k.history) c.give-in-Err.ensures.acts.makes c.give-in-Err.ensures.rests
+    double_back c.requires.pass c.requires.exists c.take-turn.ensures c.in-Err.ensures.double
+    c.retire_object.new.turn.in_order c.give-in-Err.ensures.acts.makes c.give-in-Err.ensures.rests

@@ -1,5 +1,4 @@
 use Rattle.mk_laws.proofs.Vocabulary.{Flight, ap, false, refl}
-use Rattle.mk_heap_tests.proofs.Vocabulary.{in_turn}
 use Rattle.mk_alloc.proofs.Going.{give_allowed}
 use Rattle.mk_heap_tests.proofs.NewTurns.{may_make, passed_back, placed_table, seeks, taken_table, unplaced}
 use Rattle.mk_heap_tests.proofs.turns.place.Goals as goal
@@ -22,22 +21,22 @@ place_object-placed-requires-clause-unplaced g c = unplaced c.requires.pass c.re
 pub give-requires-clause-one_table : goal.give-requires-clause-one_table
 give-requires-clause-one_table g c =
     placed_table c.requires.pass c.requires.exists c.take-turn.ensures
-    (c.place_object-placed.ensures.placed c.if-not-placed.false) c.is_in_order.ensures.history
+    (c.place_object-placed.ensures.placed c.if-not-placed.false) c.place_object-placed.new.turn.in_order.history
 
 pub give-requires-clause-enabled : goal.give-requires-clause-enabled
 give-requires-clause-enabled g c =
-    let k = c.is_in_order.ensures in
     let s = seeks c.requires.pass c.requires.exists c.take-turn.ensures
-    (c.place_object-placed.ensures.placed c.if-not-placed.false) k.history in
-    give_allowed (in_turn c.place_object-placed.new.turn.pass k.own k.turn k.history) s.on.quiet (s.on.decided refl)
+    (c.place_object-placed.ensures.placed c.if-not-placed.false) c.place_object-placed.new.turn.in_order.history in
+    give_allowed c.place_object-placed.new.turn.in_order s.on.quiet (s.on.decided refl)
 
 pub give-requires-clause-tidy : goal.give-requires-clause-tidy
 give-requires-clause-tidy g c =
-    (seeks c.requires.pass c.requires.exists c.take-turn.ensures
-    (c.place_object-placed.ensures.placed c.if-not-placed.false) c.is_in_order.ensures.history).on.quiet.tidy
+    (seeks c.requires.pass c.requires.exists c.take-turn.ensures (c.place_object-placed.ensures.placed
+    c.if-not-placed.false) c.place_object-placed.new.turn.in_order.history).on.quiet.tidy
 
 pub returns : goal.returns
 returns g c = record {
   pass = passed_back c.requires.pass c.requires.exists c.take-turn.ensures (c.place_object-placed.ensures.placed
-      c.if-not-placed.false) c.is_in_order.ensures.history c.give.ensures.acts.makes c.give.ensures.rests;
+      c.if-not-placed.false) c.place_object-placed.new.turn.in_order.history c.give.ensures.acts.makes
+      c.give.ensures.rests;
 }

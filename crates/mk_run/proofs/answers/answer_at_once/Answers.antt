@@ -21,7 +21,7 @@ returns-in-Ok c =
     let called = c.in-Ok.ensures.called in
     let entered : is_under_turn c.args.op ≡ false = search rules in
     let answers : (on : Bool) → Answers on p c.args.op c.in-Ok.told q =
-    λ on. answered_by_call on c.is_idle.ensures.own entered called in
+    λ on. answered_by_call on (c.args.caller.now.in_order c.requires.home).pass.own entered called in
     record {
       home = c.call.ensures.home;
       answers = answers;
@@ -41,5 +41,5 @@ returns-in-Err c =
       answers = tt;
       put_off = held_put_off entered held;
       beside = held_beside held;
-      reached = sweep_nothing_where_held p c.args.op q c.is_idle.ensures.own held;
+      reached = sweep_nothing_where_held p c.args.op q (c.args.caller.now.in_order c.requires.home).pass.own held;
     }

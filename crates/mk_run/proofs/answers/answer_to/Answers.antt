@@ -5,7 +5,8 @@ use Rattle.mk_caller.specs.States.{caller_of_pass}
 use Rattle.mk_run.proofs.answers.answer_to.Goals as goal
 
 pub answer_now-requires-clause-admitted : goal.answer_now-requires-clause-admitted
-answer_now-requires-clause-admitted g c x2 within = grind arith
+answer_now-requires-clause-admitted g c x2 within =
+    let rests = c.args.caller.now.in_order c.requires.home in grind arith
 
 pub call_until_open-requires : goal.call_until_open-requires
 call_until_open-requires g c =

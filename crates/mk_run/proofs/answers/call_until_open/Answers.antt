@@ -6,11 +6,13 @@ use Rattle.mk_run.proofs.answers.call_until_open.Goals as goal
 
 pub call-requires-clause-admitted : goal.call-requires-clause-admitted
 call-requires-clause-admitted g c =
-    still_admitted _ c.requires.admitted (c.held.invariant.none true) c.is_idle.ensures.history
+    still_admitted _ c.requires.admitted (c.held.invariant.none true)
+    (c.held.caller.in_order c.held.invariant.home).pass.history
 
 pub returns-in-Ok-clause-answers : goal.returns-in-Ok-clause-answers
 returns-in-Ok-clause-answers g c = λ on. none_then_answers (c.held.invariant.none on) c.requires.entered
-    (answered_by_call on c.is_idle.ensures.own c.requires.entered c.in-Ok.ensures.called)
+    (answered_by_call on (c.held.caller.in_order c.held.invariant.home).pass.own c.requires.entered
+    c.in-Ok.ensures.called)
 
 pub held-preserved : goal.held-preserved
 held-preserved g c = record {
@@ -18,7 +20,7 @@ held-preserved g c = record {
   none = λ on. none_then_none (c.held.invariant.none on) (makes_none on c.in-Err.ensures.held);
   reached =
       sweeps_then _ _ _ (c.held.invariant.none true).is c.held.invariant.reached (sweep_nothing_where_held _ _ _
-      c.is_idle.ensures.own c.in-Err.ensures.held);
+      (c.held.caller.in_order c.held.invariant.home).pass.own c.in-Err.ensures.held);
 }
 
 pub returns-in-Ok-clause-reached : goal.returns-in-Ok-clause-reached

@@ -1,6 +1,5 @@
 use Rattle.mk_laws.proofs.Vocabulary.{ap, arith, ◌∙◌}
-use Rattle.mk_run.proofs.Vocabulary.{CallerState}
-use Rattle.mk_run.proofs.{JoinedScripts.follows_at_first, JoinedScripts.no_answers, KeptScripts.script_keeps}
+use Rattle.mk_run.proofs.{Vocabulary.PassState, JoinedScripts.{follows_at_first, no_answers}, KeptScripts.script_keeps}
 use Rattle.mk_run.proofs.joining.run_alone.Goals as goal
 
 pub new-caller-requires-clause-idle : goal.new-caller-requires-clause-idle
@@ -10,7 +9,7 @@ pub run_script-text-requires-clause-follows : goal.run_script-text-requires-clau
 run_script-text-requires-clause-follows g c κs within =
     let p = c.new-caller.result.pass in
     follows_at_first g.E.Engine.on c.args.run.now.program.now c.args.k p.table.config p.seen
-    (ap (λ (s : CallerState). s.pass.seen) c.new-caller.ensures ∙ c.requires.pass.seen)
+    (ap (λ (p : PassState). p.seen) c.new-caller.ensures.pass ∙ c.requires.pass.seen)
 
 pub run_script-text-requires-clause-no_call : goal.run_script-text-requires-clause-no_call
 run_script-text-requires-clause-no_call g c x2 within = grind (arith, no_answers)

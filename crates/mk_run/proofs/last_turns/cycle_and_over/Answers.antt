@@ -1,7 +1,7 @@
 use Rattle.mk_laws.proofs.Vocabulary.{ap, arith, subst, sym, ◌∙◌}
 use Rattle.mk_run.proofs.Vocabulary.{HasCallers, HostState, WordsState, begun_then, sweeps_then}
 use Rattle.mk_heap.{proofs.BegunHosts.over_begun, specs.Hosts.with_seen}
-use Rattle.mk_run.proofs.{HostTurns.both_begin, LastTurns.last_turns, LastTurns.own_seat, LastTurns.still_behind_both}
+use Rattle.mk_run.proofs.{HostTurns.both_begin, LastTurns.last_turns, LastTurns.still_behind_both}
 use Rattle.mk_run.proofs.last_turns.cycle_and_over.Goals as goal
 
 pub over-requires-clause-joined : goal.over-requires-clause-joined
@@ -24,14 +24,14 @@ returns g c =
           unswept = λ off. sweeps_then h.pass cycled.pass over.pass moved (c.cycle.ensures.reached off)
               (c.over.ensures.reached off);
           begun = begun_then begins _ cycled.pass over.pass moved c.cycle.ensures.begun (over_begun begins cycled.pass
-              over.pass (rw c.cycle.ensures.host (own_seat h at.seat at.own)) c.over.ensures.over);
+              over.pass c.over.ensures.over);
         };
       };
       turns =
           rw (c.over.ensures.engine c.cycle.ensures.idle) (last_turns c.args.heap.now h cycled over at.seat
           c.cycle.ensures.host told c.over.ensures.over at.table at.callers c.cycle.ensures.own c.over.ensures.host);
       cycles =
-          both_begin h cycled over at.seat at.own
+          both_begin h cycled over at.own
           (subst (λ (w : WordsState). HasCallers w.config h.pass.seats) (sym at.table) at.callers)
-          c.cycle.ensures.host c.over.ensures.host told.makes c.over.ensures.over c.is_in_order.ensures.history;
+          c.cycle.ensures.host told.makes c.over.ensures.over;
     }

@@ -1,7 +1,7 @@
 use Rattle.mk_laws.proofs.Vocabulary.{false, subst, sym, ◌≡◌}
 use Rattle.mk_run.proofs.Vocabulary.{HasCallers, WordsState, rules}
 use Rattle.mk_heap.proofs.BegunHosts.{over_begun}
-use Rattle.mk_run.proofs.{HostTurns.over_begins, LastTurns.own_seat, LastTurns.still_behind_over}
+use Rattle.mk_run.proofs.{HostTurns.over_begins, LastTurns.still_behind_over}
 use Rattle.mk_run.proofs.last_turns.take_last_turns.Goals as goal
 
 pub returns-else-with_cycle-clause-host : goal.returns-else-with_cycle-clause-host
@@ -14,7 +14,7 @@ returns-else-with_cycle-clause-host g c =
       still = still_behind_over at.seat c.over.ensures.over;
       keeps = record {
         unswept = c.over.ensures.reached;
-        begun = over_begun g.E.Engine.begins p q (own_seat c.args.host.now at.seat at.own) c.over.ensures.over;
+        begun = over_begun g.E.Engine.begins p q c.over.ensures.over;
       };
     }
 
@@ -22,5 +22,5 @@ pub returns-else-with_cycle-clause-cycles : goal.returns-else-with_cycle-clause-
 returns-else-with_cycle-clause-cycles g c =
     let at = c.requires.all_home in
     let unasked : c.args.with_cycle ≡ false = search rules in
-    rw unasked (over_begins at.seat at.own (subst (λ (w : WordsState). HasCallers w.config c.args.host.now.pass.seats)
-    (sym at.table) at.callers) c.over.ensures.over c.is_in_order.ensures.history)
+    rw unasked (over_begins at.own (subst (λ (w : WordsState). HasCallers w.config c.args.host.now.pass.seats)
+    (sym at.table) at.callers) c.over.ensures.over)

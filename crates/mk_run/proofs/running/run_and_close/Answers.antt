@@ -1,7 +1,6 @@
 use Rattle.mk_laws.proofs.Vocabulary.{arith, ◌∙◌, ◌≡◌}
 use Rattle.mk_run.proofs.{Vocabulary.{AreTextsFrom, config_of}, KeptScripts.{run_is_begun, run_is_unswept}}
 use Rattle.mk_run.proofs.{LastOvers.run_ends_with_cycle, WholeRuns.{all_joined, is_run}}
-use Rattle.mk_heap.specs.Reports as report
 use Rattle.mk_run.proofs.running.run_and_close.Goals as goal
 
 pub close-report-requires-clause-joined : goal.close-report-requires-clause-joined

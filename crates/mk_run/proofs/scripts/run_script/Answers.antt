@@ -18,7 +18,8 @@ next_admitted g c =
     let run = c.instructions.invariant.running in
     let known = c.program-well_typed.ensures in
     let checked : IsChecked program = record { well_typed = known.well_typed; of_some_text = known.of_some_text } in
-    asked_stays_admitted run (seat_is p k run.is c.is_idle.ensures.idle c.requires.number) c.in-Some.op
+    asked_stays_admitted run
+    (seat_is p k run.is (c.instructions.caller.in_order c.instructions.invariant.home) c.requires.number) c.in-Some.op
     (sym (c.in-Some.ensures.next program k _ run.fed.feed)) checked c.requires.script c.requires.config
 
 pub answer_at_once-requires-clause-admitted : goal.answer_at_once-requires-clause-admitted
@@ -93,7 +94,8 @@ instructions-preserved g c =
     let j = joined g (goal.at.instructions-preserved g c).Joined-answer_at_once in
     let r = c.match-answer_at_once.caller.pass in
     let after = script_of c.take_answer.new.feed c.take_answer.new.counts in
-    let on = runs_on run (seat_is p k run.is c.is_idle.ensures.idle c.requires.number) c.in-Some.op
+    let on = runs_on run
+    (seat_is p k run.is (c.instructions.caller.in_order c.instructions.invariant.home) c.requires.number) c.in-Some.op
     (sym (c.in-Some.ensures.next program k (answers_in p.table.config k q.seen) run.fed.feed)) after j.answers
     c.in_ok-take_answer.ensures.takes in
     record {
@@ -120,8 +122,10 @@ returns-in_err-take_answer g c =
     record {
       home = j.home;
       pass = then_seen p q r run.is j.answers.is;
-      follows = follows_now run (seat_is p k run.is c.is_idle.ensures.idle c.requires.number) c.in-Some.op
-          (sym (c.in-Some.ensures.next program k _ run.fed.feed)) j.answers;
+      follows =
+          follows_now run
+          (seat_is p k run.is (c.instructions.caller.in_order c.instructions.invariant.home) c.requires.number)
+          c.in-Some.op (sym (c.in-Some.ensures.next program k _ run.fed.feed)) j.answers;
       ends = search rules;
       text = search rules;
       reached = λ none. sweeps_then p q r run.is (c.instructions.invariant.reached none) (j.reached none);

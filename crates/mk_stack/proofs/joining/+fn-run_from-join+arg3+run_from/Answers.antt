@@ -20,7 +20,7 @@ join-worked-requires-after_bounds g t c κs within =
       engines = record { first = c.in-Some.second; others = c.pop.new.self };
     }) = record {
       pass = subst (IsBetweenJobs w (k + 1)) (sym c.finish-next_pass.ensures.pass)
-          (next_ready c.caller.result c.requires.host c.caller.ensures.caller c.finish-next_pass.ensures.idle);
+          (next_ready c.caller.result c.requires.host c.caller.ensures.caller);
       engines = record {
         count = omega (arith, c.in-Some.ensures.cases, given.engines.count);
         first = made.1;

@@ -1,5 +1,5 @@
 use Rattle.std.proofs.Common.{rules}
-use Rattle.mk_laws.proofs.Vocabulary.{arith, ◌-◌, ◌<◌}
+use Rattle.mk_laws.proofs.Vocabulary.{arith, ◌<◌}
 use Rattle.mk_run.proofs.MarkersBeside.{first_marker}
 use Rattle.mk_stack.proofs.EndedRuns.{is_not_attending, marker_made}
 use Rattle.mk_stack.proofs.marking.+fn-work_beside-join+arg3+work_beside.Goals as goal

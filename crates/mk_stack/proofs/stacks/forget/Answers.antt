@@ -2,17 +2,17 @@ use Rattle.mk_stack.proofs.{Vocabulary.Empty, Going.{goes_held, goes_through, re
 use Rattle.mk_stack.proofs.{Advances.{clears, ready_state}, PointSteps.may_clear, Replies.stays_held}
 use Rattle.mk_stack.proofs.stacks.forget.Goals as goal
 
-pub clear-cleared-requires-clause-admitted : goal.clear-cleared-requires-clause-admitted
-clear-cleared-requires-clause-admitted g c =
-    may_clear (ready_state c.tries.invariant.ready c.is_idle.ensures.history) c.args.register c.requires.register
+pub clear-requires-clause-admitted : goal.clear-requires-clause-admitted
+clear-requires-clause-admitted g c =
+    may_clear (ready_state c.tries.invariant.ready) c.args.register c.requires.register
 
 pub returns-in-Ok : goal.returns-in-Ok
 returns-in-Ok g c =
     let before = c.tries.invariant in
-    let on = clears c.args.register c.requires.register c.is_idle-in-tries.ensures.history c.in-Ok.ensures.called in
+    let on = clears c.args.register c.requires.register c.in-Ok.ensures.called in
     record {
-      ready = ready_on before.ready c.clear-cleared.ensures.home (on Empty).is;
-      pass = seen_then c.args.caller.now.pass c.tries.caller.pass c.clear-cleared.new.self.pass before.is (on Empty).is;
+      ready = ready_on before.ready c.clear.ensures.home (on Empty).is;
+      pass = seen_then c.args.caller.now.pass c.tries.caller.pass c.clear.new.self.pass before.is (on Empty).is;
       ended = λ d. goes_through (before.ended d) (on d);
     }
 
@@ -21,7 +21,7 @@ tries-preserved g c =
     let before = c.tries.invariant in
     let held = stays_held c.in-Err.ensures.held in
     record {
-      ready = ready_on before.ready c.clear-cleared.ensures.home held.is;
+      ready = ready_on before.ready c.clear.ensures.home held.is;
       ended = λ d. goes_held _ (before.ended d) held;
-      is = seen_then c.args.caller.now.pass c.tries.caller.pass c.clear-cleared.new.self.pass before.is held.is;
+      is = seen_then c.args.caller.now.pass c.tries.caller.pass c.clear.new.self.pass before.is held.is;
     }

@@ -3,9 +3,9 @@ use Rattle.mk_stack.proofs.{Advances.advances, Advances.may_ask, AtPoints.holds_
 use Rattle.mk_stack.proofs.{Going.jobs_on, JobGoals.is_goal, Replies.stays_held}
 use Rattle.mk_stack.proofs.stacks.go.Goals as goal
 
-pub answer_now-answer-requires-clause-admitted : goal.answer_now-answer-requires-clause-admitted
-answer_now-answer-requires-clause-admitted g c κs within =
-    may_ask c.points.point c.points.invariant.ready.ready c.is_idle.ensures.history
+pub answer_now-requires-clause-admitted : goal.answer_now-requires-clause-admitted
+answer_now-requires-clause-admitted g c κs within =
+    may_ask c.points.point c.points.invariant.ready.ready
     (sym c.op_at.ensures ∙ c.in-Some-op_at.is) c.points.invariant.holds
 
 pub returns-in_default-clause-goal : goal.returns-in_default-clause-goal
@@ -15,11 +15,11 @@ pub points-preserved-in-Ok : goal.points-preserved-in-Ok
 points-preserved-in-Ok g c =
     let before = c.points.invariant in
     let on = advances c.points.point c.next_point-point.ensures before.ready.ready.types
-    c.is_idle-in-points.ensures.history
+    (c.answer_now.new.caller.in_order c.answer_now.ensures.home).pass.history
     (sym c.op_at.ensures ∙ c.in-Some-op_at.is) before.holds c.in-Ok.ensures.answers c.in-Ok.ensures.called in
     record {
-      ready = jobs_on c.answer_now-answer.new.engine before.ready c.answer_now-answer.ensures.home on.is
-          (c.answer_now-answer.ensures.made_for ∙ before.ready.made);
+      ready = jobs_on c.answer_now.new.engine before.ready c.answer_now.ensures.home on.is
+          (c.answer_now.ensures.made_for ∙ before.ready.made);
       goes = goes_more before.goes on;
       holds = on.holds;
     }
@@ -29,8 +29,8 @@ points-preserved g c =
     let before = c.points.invariant in
     let on = stays_held c.in-Err.ensures.held in
     record {
-      ready = jobs_on c.answer_now-answer.new.engine before.ready c.answer_now-answer.ensures.home on.is
-          (c.answer_now-answer.ensures.made_for ∙ before.ready.made);
-      goes = goes_held c.answer_now-answer.new.caller.pass before.goes on;
+      ready = jobs_on c.answer_now.new.engine before.ready c.answer_now.ensures.home on.is
+          (c.answer_now.ensures.made_for ∙ before.ready.made);
+      goes = goes_held c.answer_now.new.caller.pass before.goes on;
       holds = holds_still on.registers c.points.point before.holds;
     }

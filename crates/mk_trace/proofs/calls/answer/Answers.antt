@@ -7,9 +7,9 @@ use Rattle.mk_trace.proofs.calls.answer.Goals as goal
 pub returns-in_ok-settle-clause-keeps : goal.returns-in_ok-settle-clause-keeps
 returns-in_ok-settle-clause-keeps g c =
     keeps_behind
-    c.object_to_free-freed.ensures.looks (rw c.object_to_free-freed.ensures.home.table at c.is_in_order.ensures.history)
-    (rw c.call-told.ensures.home.table at c.is_in_order-then-is_under_turn.ensures.history) c.requires.few
-    c.requires.idle (c.call-told.ensures.ends c.requires.off) c.call-told.ensures.quarantines
+    c.object_to_free-freed.ensures.looks c.object_to_free-freed.ensures.home.history
+    c.call-told.ensures.home.history c.requires.few c.requires.idle
+    (c.call-told.ensures.ends c.requires.off) c.call-told.ensures.quarantines
     c.call-told.ensures.flags c.look-now.ensures.looks
     c.settle.ensures.looks c.object_to_free-freed.ensures.finds c.requires.keeps c.in_ok-note.ensures
     c.in_ok-settle.ensures.settles

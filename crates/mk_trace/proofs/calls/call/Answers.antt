@@ -13,7 +13,7 @@ answer_to-answer-requires-clause-alone g c x2 within = grind (arith, made_alone)
 pub answer_to-answer-requires-clause-admitted : goal.answer_to-answer-requires-clause-admitted
 answer_to-answer-requires-clause-admitted g c κs within =
     made_admits c.requires.home c.caller_again-caller.result
-    c.caller_again-caller.ensures.caller c.args.op c.requires.admitted c.is_idle.ensures.history
+    c.caller_again-caller.ensures.caller c.args.op c.requires.admitted
 
 pub returns-clause-home : goal.returns-clause-home
 returns-clause-home g c =
@@ -21,13 +21,14 @@ returns-clause-home g c =
     c.caller_again-caller.ensures.host c.join_caller.ensures.host (ap (λ (p : PassState). p.seats) c.finish.ensures.pass
     ∙ ap (λ (p : PassState). p.seats) c.answer_to-answer.ensures.answers.is ∙ made_seats c.requires.home
     c.caller_again-caller.result c.caller_again-caller.ensures.caller) c.join_caller.ensures.overs
+    c.is_in_order.ensures.history
 
 -- The caller was made again, and is joined.
 joined : (g : _) (c : After-is_in_order g) → Joined g.E.Engine.on c.args.host.now c.args.op c.answer_to-answer.result
     c.answer_to-answer.new.caller.pass c.join_caller.new.self.pass.seen
 joined g c = record {
   answers =
-      rw c.caller_again-caller.ensures.caller at c.answer_to-answer.ensures.answers;
+      rw c.caller_again-caller.ensures.caller.pass at c.answer_to-answer.ensures.answers;
   own =
       rw c.caller_again-caller.ensures.host at c.join_caller.ensures.own;
   came =
@@ -64,4 +65,5 @@ returns-clause-flags g c = (did g (goal.at.returns-clause-flags g c).After-is_in
 pub returns-clause-exact : goal.returns-clause-exact
 returns-clause-exact g c =
     λ off unswept. rw c.requires.home.table at (call_stays_exact (joined g (goal.at.returns-clause-exact g
-    c).After-is_in_order) (rw c.caller_again-caller.ensures.caller at (c.answer_to-answer.ensures.reached unswept)) off)
+    c).After-is_in_order) (rw c.caller_again-caller.ensures.caller.pass at
+    (c.answer_to-answer.ensures.reached unswept)) off)

@@ -6,4 +6,4 @@ pub returns-then-cell-pages-clause-finds : goal.returns-then-cell-pages-clause-f
 returns-then-cell-pages-clause-finds g c = grind (arith, quarantine_tells)
 
 pub returns-else-cell-pages-clause-finds : goal.returns-else-cell-pages-clause-finds
-returns-else-cell-pages-clause-finds g c = grind (arith, none_freed_there)
+returns-else-cell-pages-clause-finds g c = grind (arith, none_freed_there, c.requires.home.history)

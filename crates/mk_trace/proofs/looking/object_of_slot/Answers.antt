@@ -1,14 +1,11 @@
-use Rattle.mk_trace.proofs.Vocabulary.{HostOnlyLooks, IsHistory, left, nat_tests, pointed_cell}
+use Rattle.mk_trace.proofs.Vocabulary.{HostOnlyLooks, left, nat_tests, pointed_cell}
 use Rattle.mk_laws.proofs.Vocabulary.{arith, slice_index, ◌≡◌}
 use Rattle.mk_trace.proofs.FoundCells.{cell_within, freed_looked, freed_object, header_looked, looks_twice, no_object}
 use Rattle.mk_trace.proofs.FoundCells.{pointed_looked, unfreed_object}
-use Rattle.mk_trace.proofs.looking.object_of_slot.Goals.{After-cell_at, After-is_in_order, After-is_quarantined}
+use Rattle.mk_trace.proofs.looking.object_of_slot.Goals.{After-cell_at, After-is_quarantined}
 use Rattle.mk_trace.proofs.looking.object_of_slot.Goals as goal
 
 -- Between the looks nothing changes, so the cell that was found is the one that the slot points into.
-
-before : (g : _) (c : After-is_in_order g) → IsHistory c.args.heap.now.config c.args.host.now.pass.seen
-before g c = grind arith
 
 found : (g : _) (c : After-cell_at g) → c.cell_at.result ≡ pointed_cell c.args.heap.now.config.pages
     (left c.args.heap.now.config c.args.host.now.pass.seen).now.words.pages
@@ -25,14 +22,15 @@ looked_last g c =
     looks_twice (looks_twice c.look-address.ensures.looks c.cell_at.ensures.looks) c.look-header.ensures.looks
 
 pub returns-in-None-clause-finds : goal.returns-in-None-clause-finds
-returns-in-None-clause-finds g c = grind (arith, no_object, before, found)
+returns-in-None-clause-finds g c = grind (arith, no_object, c.requires.home.history, found)
 
 pub look-header-requires-clause-word : goal.look-header-requires-clause-word
-look-header-requires-clause-word g c = grind (arith, cell_within, before, found, nat_tests)
+look-header-requires-clause-word g c = grind (arith, cell_within, c.requires.home.history, found, nat_tests)
 
 pub returns-then-is_quarantined-clause-finds : goal.returns-then-is_quarantined-clause-finds
-returns-then-is_quarantined-clause-finds g c = grind (arith, freed_object, before, found, freed_looked, looked_last)
+returns-then-is_quarantined-clause-finds g c =
+    grind (arith, freed_object, c.requires.home.history, found, freed_looked, looked_last)
 
 pub returns-else-is_quarantined-clause-finds : goal.returns-else-is_quarantined-clause-finds
 returns-else-is_quarantined-clause-finds g c =
-    grind (arith, unfreed_object, before, found, freed_looked, looked_last, header_looked, looked)
+    grind (arith, unfreed_object, c.requires.home.history, found, freed_looked, looked_last, header_looked, looked)

@@ -1,4 +1,4 @@
-use Rattle.mk_trace.proofs.Vocabulary.{CallerIsHome, CallerState, Config, HostState, WordsState}
+use Rattle.mk_trace.proofs.Vocabulary.{CallerIsHome, Config, HostState, WordsState}
 use Rattle.mk_laws.proofs.Vocabulary.{ap, ◌∙◌}
 use Rattle.mk_trace.proofs.{HeldCalls.opened_empty, OneCaller.first_home, Played.first_seats, Played.joined_first}
 use Rattle.mk_trace.proofs.playing.opened.Goals as goal
@@ -12,7 +12,8 @@ returns c =
     let seats = first_seats w h c.caller.result c.finish-caller.result c.in_ok-heap.ensures.host c.caller.ensures.caller
     c.finish-caller.ensures.pass in
     let home : CallerIsHome w k = first_home w h c.caller.new.self k c.finish-caller.result one
-    c.in_ok-heap.ensures.host c.caller.ensures.host c.join_caller.ensures.host seats c.join_caller.ensures.overs in
+    c.in_ok-heap.ensures.host c.caller.ensures.host c.join_caller.ensures.host seats c.join_caller.ensures.overs
+    c.is_in_order.ensures.history in
     record {
       config = c.in_ok-heap.ensures.config;
       home = home;
@@ -22,6 +23,6 @@ returns c =
           c.requires.one home.table c.is_in_order.ensures.history;
       empty =
           opened_empty w h c.caller.new.self c.finish-caller.result k _ c.in_ok-heap.ensures.host c.caller.ensures.host
-          c.join_caller.ensures.own c.join_caller.ensures.came (c.finish-caller.ensures.pass ∙ ap (λ (x : CallerState).
-          x.pass) c.caller.ensures.caller) c.in_ok-heap.ensures.config home.table c.is_in_order.ensures.history;
+          c.join_caller.ensures.own c.join_caller.ensures.came (c.finish-caller.ensures.pass
+          ∙ c.caller.ensures.caller.pass) c.in_ok-heap.ensures.config home.table c.is_in_order.ensures.history;
     }

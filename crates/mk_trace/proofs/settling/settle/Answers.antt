@@ -1,4 +1,4 @@
-use Rattle.mk_trace.proofs.{Vocabulary.{Words, ends, left, rules}, SettledLedgers.settles_anew}
+use Rattle.mk_trace.proofs.{Vocabulary.{Words, left, rules}, SettledLedgers.settles_anew}
 use Rattle.mk_laws.proofs.Vocabulary.{ap, refl, ◌≡◌}
 use Rattle.mk_trace.proofs.settling.settle.Goals as goal
 

@@ -1,17 +1,19 @@
 use Rattle.mk_laws.proofs.Vocabulary.{None, arith, refl, subst, sym, ◌∙◌}
-use Rattle.mk_cycle.{proofs.Allowed.{in_turn}, specs.{Begun.EachIsBegun, EngineLaw.IsAtPhase}}
+use Rattle.mk_cycle.specs.{Begun.EachIsBegun, EngineLaw.IsAtPhase}
 use Rattle.mk_heap.proofs.{HomeCallers.{hosts_seat, none_by_phase, step_overs}, MovedHosts.{MovesOn, begin_moves}}
-use Rattle.mk_heap.{proofs.MovedHosts.{finish_moves, idle_moves, moved_is_host, moves_more}, specs.Hosts.{HostState}}
+use Rattle.mk_heap.proofs.MovedHosts.{finish_moves, idle_moves, moved_is_host, moves_more, taken_own}
 use Rattle.mk_heap.proofs.Overs.{cycle_idle, give_allowed, given_no_turn, given_phase, idle_may_give}
 use Rattle.mk_heap.proofs.{BegunHosts.{cycle_begun, idle_then_sweeps}, HostsKept.{home_is, home_view, is_home}}
-use Rattle.mk_heap.proofs.hosts.Host.cycle.Goals.{After-finish_cycle-turn}
+use Rattle.mk_heap.{proofs.hosts.Host.cycle.Goals.{After-finish_cycle-turn}, specs.Hosts.{HostState}}
 use Rattle.mk_turns.{proofs.Sweeping.{other_step_sweeps, sweeps_then}, specs.Sweeping.{SweepsNothing}}
 use Rattle.mk_waiting.specs.Taking.{TakesTurn}
 use Rattle.mk_words.specs.States.{PassState}
 use Rattle.mk_heap.proofs.hosts.Host.cycle.Goals as goal
 
 pub give-back-requires-clause-enabled : goal.give-back-requires-clause-enabled
-give-back-requires-clause-enabled g c = grind (arith, cycle_idle, give_allowed, in_turn, idle_may_give)
+give-back-requires-clause-enabled g c =
+    give_allowed c.finish_cycle-turn.result.0.in_order (idle_may_give
+    (cycle_idle c.take_idle_turn-turn.ensures.idle c.begin_cycle.ensures.law c.finish_cycle-turn.ensures.law))
 
 -- the host's pass as the cycle left it
 ended : (g : _) (c : After-finish_cycle-turn g) → MovesOn c.take_home-home.result c.finish_cycle-turn.result.0.pass
@@ -26,7 +28,7 @@ invariant_of-self g c =
     c.give-back.ensures.acts.makes.pass.history (given_no_turn c.give-back.ensures.acts)
 
 pub returns-clause-own : goal.returns-clause-own
-returns-clause-own g c = grind (arith, hosts_seat, home_is, moves_more, ended)
+returns-clause-own g c = grind (arith, hosts_seat, home_is, moves_more, ended, taken_own)
 
 pub returns-clause-idle : goal.returns-clause-idle
 returns-clause-idle g c = grind (arith, given_phase)
@@ -55,8 +57,10 @@ returns-clause-overs g c =
     let r : PassState = c.finish_cycle-turn.result.0.pass in
     let none : IsAtPhase r 0 = c.finish_cycle-turn.ensures.law.phase in
     step_overs c.give-back.ensures.acts.makes (hosts_seat (home_is c.take_home-home.ensures c.self.invariant)
-    c.is_in_order.ensures.own (ended g (goal.at.returns-clause-overs g c).After-finish_cycle-turn)) refl ∙ none_by_phase
-    c.is_in_order-2.ensures.history (λ (five : IsAtPhase r 5). absurd (omega arith)) ∙ sym c.requires.before_over
+    (taken_own c.take_idle_turn-turn.ensures.takes.takes)
+    (ended g (goal.at.returns-clause-overs g c).After-finish_cycle-turn)) refl ∙ none_by_phase
+    c.finish_cycle-turn.result.0.in_order.history
+    (λ (five : IsAtPhase r 5). absurd (omega arith)) ∙ sym c.requires.before_over
 
 pub returns-clause-reached : goal.returns-clause-reached
 returns-clause-reached g c =
@@ -75,7 +79,7 @@ returns-clause-begun g c =
     let view = home_view c.take_home-home.ensures c.self.view_is in
     let q : PassState = c.give-back.result in
     subst (λ (h : HostState). EachIsBegun g.E.Engine.begins h.pass q) view (cycle_begun g.E.Engine.begins
-    c.is_in_order.ensures.own c.take_idle_turn-turn.ensures.takes c.begin_cycle.ensures.law c.begin_cycle.ensures.begun
+    c.take_idle_turn-turn.ensures.takes c.begin_cycle.ensures.law c.begin_cycle.ensures.begun
     c.finish_cycle-turn.ensures.law c.give-back.ensures.acts.makes)
 
 pub take_home-home-requires : goal.take_home-home-requires

@@ -1,5 +1,5 @@
 use Rattle.mk_laws.proofs.Vocabulary.{refl, subst, sym}
-use Rattle.mk_cycle.{proofs.Allowed.{in_turn, in_turn_after}, specs.EngineLaw.{IsAtPhase}}
+use Rattle.mk_cycle.specs.EngineLaw.{IsAtPhase}
 use Rattle.mk_heap.proofs.{HostsKept.{home_is, home_view, is_home}, MovedHosts.{idle_moves, moved_is_host, moves_more}}
 use Rattle.mk_heap.proofs.Overs.{give_allowed, given_no_turn, over_keeps, over_may_give, tidy_kept}
 use Rattle.mk_heap.proofs.{BegunHosts.{given_sweeps, idle_then_sweeps}, HomeCallers.callers_home}
@@ -10,22 +10,15 @@ use Rattle.mk_heap.proofs.hosts.Host.over.Goals as goal
 
 pub give-back-requires-clause-enabled : goal.give-back-requires-clause-enabled
 give-back-requires-clause-enabled g c =
-    let o = c.is_in_order.ensures in
-    let p : PassState = c.take_idle_turn-turn.result.pass in
-    let q : PassState = c.over.new.self.pass in
-    let t = in_turn p o.own o.turn o.history in
-    let u = in_turn_after c.over.ensures refl in
+    let t = c.take_idle_turn-turn.result.in_order in
+    let u = c.over.new.self.in_order in
     give_allowed u (over_may_give t c.take_idle_turn-turn.ensures.idle u c.over.ensures)
 
 pub give-back-requires-clause-tidy : goal.give-back-requires-clause-tidy
 give-back-requires-clause-tidy g c =
-    let o = c.is_in_order.ensures in
-    let p : PassState = c.take_idle_turn-turn.result.pass in
-    let q : PassState = c.over.new.self.pass in
     let idle = c.take_idle_turn-turn.ensures.idle in
-    let t = in_turn p o.own o.turn o.history in
-    let u = in_turn_after c.over.ensures refl in
-    tidy_kept (over_keeps p q t idle u c.over.ensures) idle.tidy
+    tidy_kept (over_keeps _ _ c.take_idle_turn-turn.result.in_order idle c.over.new.self.in_order c.over.ensures)
+    idle.tidy
 
 pub invariant_of-self : goal.invariant_of-self
 invariant_of-self g c =
