@@ -97,6 +97,7 @@ impl Host {
         requires alone { pass.seats ≡ pass.seat ∷ [] }
         requires idle { IsIdleCaller pass }
         ensures host { self.new ≡ with_joined self.old pass self.new.pass.seen }
+        ensures history { IsHistory self.new.pass.table.config self.new.pass.seen }
         ensures own { Grows self.old.pass.seats self.old.pass.seen self.new.pass.seen }
         ensures came { Grows pass.seats pass.seen self.new.pass.seen }
         ensures reached { SweepsNothing self.old.pass self.new.pass }
@@ -129,6 +130,7 @@ impl Host {
         requires marker { IsMarkers pass }
         requires out { IsOut pass }
         ensures host { self.new ≡ with_joined self.old pass self.new.pass.seen }
+        ensures history { IsHistory self.new.pass.table.config self.new.pass.seen }
         ensures own { Grows self.old.pass.seats self.old.pass.seen self.new.pass.seen }
         ensures came { Grows pass.seats pass.seen self.new.pass.seen }
         ensures reached { SweepsNothing self.old.pass self.new.pass }
@@ -144,6 +146,7 @@ impl Host {
         requires of_table { pass.table ≡ heap.now }
         requires done { IsDone pass }
         ensures host { self.new ≡ with_joined self.old pass self.new.pass.seen }
+        ensures history { IsHistory self.new.pass.table.config self.new.pass.seen }
         ensures own { Grows self.old.pass.seats self.old.pass.seen self.new.pass.seen }
         ensures came { Grows pass.seats pass.seen self.new.pass.seen }
         ensures reached { SweepsNothing self.old.pass self.new.pass }

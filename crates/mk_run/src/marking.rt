@@ -158,7 +158,6 @@ pub(crate) fn run_beside<E: Engine + Send, P: Pace + Sync, R: Threads + Wait + S
     let Ended { joined, engine } = ended;
     let Joined { mut host, texts } = joined;
     host.join_marker(heap, pass);
-    host.is_in_order();
     Ended {
         joined: Joined { host, texts },
         engine,

@@ -32,7 +32,6 @@ fn join_marker(heap: &Heap, pass: Pass, ended: Ended) -> Ended
         left,
     } = ended;
     host.join_marker(heap, pass);
-    host.is_in_order();
     Ended { host, dones, left }
 }
 

@@ -47,7 +47,6 @@ fn call<E: Engine, R: Threads + Wait + Sync>(
     let mut caller = host.caller_again(heap, 0);
     let answer = answer_to(rt, &mut caller, engine, op);
     host.join_caller(heap, caller.finish());
-    host.is_in_order();
     answer
 }
 

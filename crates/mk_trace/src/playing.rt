@@ -31,7 +31,6 @@ fn opened(alloc: Global, config: &Config) -> Result<(Heap, Host), NoMemory>
     let (heap, mut host) = Heap::new(alloc, config)?;
     let caller = host.caller(&heap).finish();
     host.join_caller(&heap, caller);
-    host.is_in_order();
     Ok((heap, host))
 }
 

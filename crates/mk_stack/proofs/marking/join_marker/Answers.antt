@@ -5,4 +5,4 @@ use Rattle.mk_stack.proofs.marking.join_marker.Goals as goal
 pub returns : goal.returns
 returns c = λ j lists all marker ended. marker_joined j c.args.pass
     (record { host = c.join_marker.new.self; dones = c.args.ended.dones; left = c.args.ended.left }) all marker.alone
-    ended c.join_marker.ensures.host c.join_marker.ensures.own c.is_in_order.ensures.history refl refl
+    ended c.join_marker.ensures.host c.join_marker.ensures.own c.join_marker.ensures.history refl refl

@@ -13,16 +13,16 @@ returns c =
     c.finish-caller.ensures.pass in
     let home : CallerIsHome w k = first_home w h c.caller.new.self k c.finish-caller.result one
     c.in_ok-heap.ensures.host c.caller.ensures.host c.join_caller.ensures.host seats c.join_caller.ensures.overs
-    c.is_in_order.ensures.history in
+    c.join_caller.ensures.history in
     record {
       config = c.in_ok-heap.ensures.config;
       home = home;
       no_call =
           joined_first w h c.caller.result c.finish-caller.result k c.args.config.now c.in_ok-heap.ensures.host
           c.caller.ensures.caller c.finish-caller.ensures.pass c.join_caller.ensures.came c.in_ok-heap.ensures.config
-          c.requires.one home.table c.is_in_order.ensures.history;
+          c.requires.one home.table c.join_caller.ensures.history;
       empty =
           opened_empty w h c.caller.new.self c.finish-caller.result k _ c.in_ok-heap.ensures.host c.caller.ensures.host
           c.join_caller.ensures.own c.join_caller.ensures.came (c.finish-caller.ensures.pass
-          ∙ c.caller.ensures.caller.pass) c.in_ok-heap.ensures.config home.table c.is_in_order.ensures.history;
+          ∙ c.caller.ensures.caller.pass) c.in_ok-heap.ensures.config home.table c.join_caller.ensures.history;
     }
