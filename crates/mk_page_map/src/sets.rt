@@ -19,12 +19,23 @@ fn lowest(word: u64) -> u64
 
 /// The place of the lowest 1 that isn't below this one.
 fn lowest_from(word: u64, from: u64) -> Option<u64>
+    requires { from < 64 }
     ensures { IsNext (λ place. bit_at word place == 1) from 64 result }
 {
-    if from >= 64 {
-        return None;
+    let rest = word >> from;
+    if rest == 0 {
+        None
+    } else {
+        Some(from + lowest(rest))
     }
-    let rest = word & (u64::MAX << from);
+}
+
+/// The place of the lowest 1 that is above this one.
+fn lowest_above(word: u64, place: u64) -> Option<u64>
+    requires { place < 64 }
+    ensures { IsNext (λ place. bit_at word place == 1) (place + 1) 64 result }
+{
+    let rest = word & (u64::MAX << place << 1);
     if rest == 0 { None } else { Some(lowest(rest)) }
 }
 
@@ -41,7 +52,7 @@ pub(crate) fn next_in(sets: &[u64], set: usize, from: u64) -> Option<u64>
     if let Some(bit) = lowest_from(here, from % 64) {
         return Some(64 * word + bit);
     }
-    let later = lowest_from(sets[summary], word + 1)?;
+    let later = lowest_above(sets[summary], word)?;
     let there = sets[summary + 1 + later as usize];
     Some(64 * later + lowest(there))
 }

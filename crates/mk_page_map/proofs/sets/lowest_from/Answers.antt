@@ -6,5 +6,5 @@ returns-then-rest-eq0 c = none_is_next c.args.word c.args.from c.if-rest-eq0.tru
 
 pub returns-else-rest-eq0 : goal.returns-else-rest-eq0
 returns-else-rest-eq0 c =
-    lowest_is_next c.args.word c.args.from c.lowest.result c.if-from-ge64.false c.lowest.ensures.within
-    c.lowest.ensures.one c.lowest.ensures.lowest
+    lowest_is_next c.args.word c.args.from c.lowest.result c.ranges.word.fits c.lowest.ensures.one
+    c.lowest.ensures.lowest
