@@ -1,10 +1,10 @@
 -- The first cell among those that a word has as bits.
-use Rattle.std.proofs.{Common.{IfNone, IfSome, ltb-false, w64}, lemmas.Nat.Bits.bit_at-trailing_zeros}
+use Rattle.std.proofs.{Common.{IfNone, IfSome, bit_and, ltb-false, w64}, lemmas.Nat.Bits.bit_at-trailing_zeros}
 use Rattle.std.specs.{Bool.then_some, Int.trailing_zeros}
 use Rattle.mk_laws.proofs.Vocabulary.{Bool, Option, Words, ℕ, ap, arith, bit_at, cells_under, eq-eqb, false, has_bit}
-use Rattle.mk_laws.proofs.Vocabulary.{has_bit_without, header_at, header_of, ltb-true, nat_lt, no_bit, slice_index}
-use Rattle.mk_laws.proofs.Vocabulary.{subst, sym, true, without, ◌<◌, ◌==◌, ◌^◌, ◌∙◌, ◌≡◌, ◌≤◌}
-use Rattle.mk_tracing.{proofs.NoGrays.{no_gray, no_gray_found}, specs.Grays.{AllAreBlack, HasNoGray, IsGray}}
+use Rattle.mk_laws.proofs.Vocabulary.{has_bit_without, header_at, header_of, ltb-true, nat_lt, no_bit, refl}
+use Rattle.mk_laws.proofs.Vocabulary.{slice_index, subst, sym, true, without, ◌-◌, ◌<◌, ◌==◌, ◌^◌, ◌≡◌, ◌≤◌}
+use Rattle.mk_tracing.{proofs.NoGrays.{no_gray, no_gray_found}, specs.Grays.{AllAreBlack, HasNoGray, IsGray, gray_bits}}
 
 -- what holds of a value that is told where a test holds, and what holds where it doesn't
 
@@ -44,23 +44,26 @@ ungray_are_black marks blacks n none k lt marked = grind (arith, has_bit_without
 pub gray_is_not_black : (marks blacks k : ℕ) → has_bit (without marks blacks) k ≡ true → has_bit blacks k ≡ false
 gray_is_not_black marks blacks k one = grind (arith, has_bit_without)
 
--- the words of a page as they were found, with no gray cell
+-- the bits of a page as they were found, with no gray cell
 
-pub no_gray_there : (w : Words) (p marks blacks : ℕ) → marks ≡ slice_index w.marks p → blacks ≡ slice_index w.blacks p
-    → without marks blacks ≡ 0 → HasNoGray w p
-no_gray_there w p marks blacks m b none =
-    no_gray w p (ungray_are_black _ _ _ (λ k lt. no_bit (without (slice_index w.marks p) (slice_index w.blacks p)) k
-    ((λ i. without (sym m i) (sym b i)) ∙ none)))
+pub no_marks : (w : Words) (p : ℕ) → slice_index w.marks p ≡ 0 → 0 ≡ gray_bits w p
+no_marks w p none =
+    let zero : slice_index w.marks p - bit_and (slice_index w.marks p) (slice_index w.blacks p) ≡ 0 =
+    omega (arith, none) in
+    sym zero
 
-pub no_gray_under : (w : Words) (p header marks blacks : ℕ) → header ≡ header_at w p → marks ≡ slice_index w.marks p
-    → blacks ≡ slice_index w.blacks p
-    → ((k : ℕ) → k < cells_under (header_of header) → has_bit (without marks blacks) k ≡ false) → HasNoGray w p
-no_gray_under w p header marks blacks h m b none =
-    no_gray_found w p header marks blacks h m b (ungray_are_black marks blacks (cells_under (header_of header)) none)
+pub no_gray_there : (w : Words) (p : ℕ) → gray_bits w p ≡ 0 → HasNoGray w p
+no_gray_there w p none = no_gray w p (ungray_are_black _ _ _ (λ k lt. no_bit (gray_bits w p) k none))
+
+pub no_gray_under : (w : Words) (p header grays : ℕ) → header ≡ header_at w p → grays ≡ gray_bits w p
+    → ((k : ℕ) → k < cells_under (header_of header) → has_bit grays k ≡ false) → HasNoGray w p
+no_gray_under w p header grays h is none =
+    no_gray_found w p header _ _ h refl refl
+    (ungray_are_black _ _ _ (λ k lt. subst (λ n. has_bit n k ≡ false) is (none k lt)))
 
 -- and with one
 
-pub gray_there : (pages : ℕ) (w : Words) (p k header marks blacks : ℕ) → p < pages → header ≡ header_at w p
-    → marks ≡ slice_index w.marks p → blacks ≡ slice_index w.blacks p → k < cells_under (header_of header)
-    → has_bit (without marks blacks) k ≡ true → IsGray pages w (record { page = p; index = k })
-gray_there pages w p k header marks blacks within h m b known one = grind (arith, gray_is_not_black, has_bit_without)
+pub gray_there : (pages : ℕ) (w : Words) (p k header grays : ℕ) → p < pages → header ≡ header_at w p
+    → grays ≡ gray_bits w p → k < cells_under (header_of header) → has_bit grays k ≡ true
+    → IsGray pages w (record { page = p; index = k })
+gray_there pages w p k header grays within h is known one = grind (arith, gray_is_not_black, has_bit_without)

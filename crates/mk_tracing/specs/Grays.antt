@@ -116,6 +116,10 @@ pub record BlackensOne (w : Words) (cell : Cell) (v : Words) : Type 0 where
   pub is : v ≡ record (with_blacks cell.page (2 ^ cell.index) w) { marks = v.marks }
   pub grow : OnlyGrow w.marks v.marks
 
+-- The bits of a page that are marked and not black. A bit past its cells may be one of them.
+abbrev pub gray_bits : Words → ℕ → ℕ
+gray_bits w p = without (slice_index w.marks p) (slice_index w.blacks p)
+
 -- Each marked cell of the page is black.
 abbrev pub HasNoGray : Words → ℕ → Type 0
 HasNoGray w p = without (bit_and (slice_index w.marks p) (cell_bits w p)) (slice_index w.blacks p) ≡ 0

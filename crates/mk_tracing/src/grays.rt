@@ -1,8 +1,8 @@
 //! The search for gray cells: marked, and not black.
 ghost use Rattle.std.specs.Prelude.{◌≡◌, ℕ, ◌<◌, ◌≤◌, true, false, IfSome, IfNone, slice_index};
 ghost use Rattle.mk_geom.specs.Headers.{header_of};
-ghost use Rattle.mk_core.specs.{Bits.{has_bit, without}, Cells.cells_under};
-ghost use Rattle.mk_tracing.specs.{Grays.{HasNoGray, LooksOn}, Noted.{AreNoted, IsGrayNoted, IsNoted}};
+ghost use Rattle.mk_core.specs.{Bits.has_bit, Cells.cells_under};
+ghost use Rattle.mk_tracing.specs.{Grays.{HasNoGray, LooksOn, gray_bits}, Noted.{AreNoted, IsGrayNoted, IsNoted}};
 ghost use Rattle.mk_tracing.specs.Stops.{MayTrace, still_words};
 
 use crate::noted::{Noted, words_scanned};
@@ -24,21 +24,20 @@ fn first_of(cells: u64, header: u64) -> Option<u64>
     (index < cells_under(header)).then_some(index)
 }
 
-/// The first gray cell of a page on which these cells are marked, and these black, not all of the same. It isn't
-/// inlined, since few pages have one when they are searched.
+/// The first gray cell of a page with these gray bits. It isn't inlined, since few pages have any when they are
+/// searched.
 #[inline(never)]
-fn gray_among(table: Table, stop: &mut Stopped, page: u64, marks: u64, blacks: u64) -> Option<Noted>
+fn gray_among(table: Table, stop: &mut Stopped, page: u64, grays: u64) -> Option<Noted>
     requires may { MayTrace table.words.now stop.old.pass }
     requires page { page < table.pages }
-    requires marks { marks ≡ slice_index (still_words stop.old.pass).marks page }
-    requires blacks { blacks ≡ slice_index (still_words stop.old.pass).blacks page }
-    requires some { 0 < without marks blacks }
+    requires grays { grays ≡ gray_bits (still_words stop.old.pass) page }
+    requires some { 0 < grays }
     ensures looks { LooksOn stop.old stop.new }
     ensures gray { IfSome result (IsGrayNoted table.entry.pages (still_words stop.old.pass)) }
     ensures none { IfNone result (HasNoGray (still_words stop.old.pass) page) }
 {
     let header = look_at(table, stop, Word::Head(page));
-    let Some(index) = first_of(without(marks, blacks), header) else {
+    let Some(index) = first_of(grays, header) else {
         return None;
     };
     Some(Noted {
@@ -47,25 +46,20 @@ fn gray_among(table: Table, stop: &mut Stopped, page: u64, marks: u64, blacks: u
     })
 }
 
-/// The first gray cell of a page. Its black word is looked at only where a cell is marked, and its header only where
-/// one of these isn't black.
+/// The gray bits of a page. Its black word is looked at only where a cell is marked.
 #[inline(always)]
-fn gray_on(table: Table, stop: &mut Stopped, page: u64) -> Option<Noted>
+fn gray_bits(table: Table, stop: &mut Stopped, page: u64) -> u64
     requires may { MayTrace table.words.now stop.old.pass }
     requires page { page < table.pages }
     ensures looks { LooksOn stop.old stop.new }
-    ensures gray { IfSome result (IsGrayNoted table.entry.pages (still_words stop.old.pass)) }
-    ensures none { IfNone result (HasNoGray (still_words stop.old.pass) page) }
+    ensures bits { result ≡ gray_bits (still_words stop.old.pass) page }
 {
     let marks = look_at(table, stop, Word::Mark(page));
     if marks == 0 {
-        return None;
+        return 0;
     }
     let blacks = look_at(table, stop, Word::Black(page));
-    if without(marks, blacks) == 0 {
-        return None;
-    }
-    gray_among(table, stop, page, marks, blacks)
+    without(marks, blacks)
 }
 
 /// The first gray cell from a page on, up to another. It goes from page in use to page in use: a free page has no cell.
@@ -82,9 +76,12 @@ fn gray_between(table: Table, stop: &mut Stopped, from: u64, to: u64) -> Option<
         if page >= to {
             return None;
         }
-        let found = gray_on(table, stop, page);
-        if let Some(gray) = found {
-            return Some(gray);
+        let grays = gray_bits(table, stop, page);
+        if grays != 0 {
+            let found = gray_among(table, stop, page, grays);
+            if let Some(gray) = found {
+                return Some(gray);
+            }
         }
         next = page + 1;
     }

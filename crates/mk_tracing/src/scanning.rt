@@ -150,9 +150,23 @@ fn scan_part(table: Table, stop: &mut Stopped, work: &mut Worklist, gray: Noted,
     }
 }
 
-/// Looks at each word of a gray cell of at least eight words, a page of it after the other, and marks what it points
-/// into.
+/// Looks at each word of a gray cell of at least eight words that stands on one page, and marks what it points into.
 #[inline(always)]
+fn scan_near(table: Table, stop: &mut Stopped, work: &mut Worklist, gray: Noted)
+    requires may { MayTrace table.words.now stop.old.pass }
+    requires due { IsDue table.pages (still_words stop.old.pass) gray }
+    requires few { gray.words < 64 }
+    ensures marks { MarksAndNotes table.entry.pages stop.old work.old stop.new work.new }
+    ensures well { words_point_well table.entry.pages (still_words stop.new.pass) gray.cell ≡ true }
+{
+    scan_part(table, stop, work, gray, 0);
+    let first = GROUP * (gray.words / GROUP);
+    scan_from(table, stop, work, gray, 0, first, gray.words - first);
+}
+
+/// The same for any cell of at least eight words, a page of it after the other. It isn't inlined, since few cells
+/// stand on several pages.
+#[inline(never)]
 fn scan_groups(table: Table, stop: &mut Stopped, work: &mut Worklist, gray: Noted)
     requires may { MayTrace table.words.now stop.old.pass }
     requires due { IsDue table.pages (still_words stop.old.pass) gray }
@@ -185,6 +199,10 @@ pub(crate) fn scan(
 {
     if gray.words < GROUP {
         return scan_few(table, stop, work, gray);
+    }
+    if gray.words < PAGE_WORDS {
+        scan_near(table, stop, work, gray);
+        return None;
     }
     scan_groups(table, stop, work, gray);
     None

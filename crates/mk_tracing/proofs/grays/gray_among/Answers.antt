@@ -1,19 +1,17 @@
-use Rattle.mk_laws.proofs.Vocabulary.{ap, false, has_bit, header_of, subst, true, ◌∙◌, ◌≡◌}
+use Rattle.mk_laws.proofs.Vocabulary.{ap, header_of, ◌∙◌}
 use Rattle.mk_tracing.{proofs.FirstBits.{gray_there, no_gray_under}, specs.{Grays.words_scanned, Stops.still_words}}
 use Rattle.mk_tracing.proofs.grays.gray_among.Goals as goal
 
 pub returns-in_default-clause-none : goal.returns-in_default-clause-none
 returns-in_default-clause-none c =
-    no_gray_under (still_words c.args.stop.now.pass) c.args.page c.look_at-header.result c.args.marks c.args.blacks
-    c.look_at-header.ensures.found c.requires.marks c.requires.blacks
-    (λ k lt. subst (λ n. has_bit n k ≡ false) c.without.ensures (c.in_default.ensures.none k lt))
+    no_gray_under (still_words c.args.stop.now.pass) c.args.page c.look_at-header.result c.args.grays
+    c.look_at-header.ensures.found c.requires.grays c.in_default.ensures.none
 
 pub returns-clause-gray : goal.returns-clause-gray
 returns-clause-gray c =
     record {
       gray = gray_there c.args.table.pages (still_words c.args.stop.now.pass) c.args.page c.in-Some.index
-          c.look_at-header.result c.args.marks c.args.blacks c.requires.page c.look_at-header.ensures.found
-          c.requires.marks c.requires.blacks c.in-Some.ensures.known
-          (subst (λ n. has_bit n c.in-Some.index ≡ true) c.without.ensures c.in-Some.ensures.one);
+          c.look_at-header.result c.args.grays c.requires.page c.look_at-header.ensures.found c.requires.grays
+          c.in-Some.ensures.known c.in-Some.ensures.one;
       words = c.words_scanned.ensures ∙ ap (λ n. words_scanned (header_of n)) c.look_at-header.ensures.found;
     }
