@@ -1,22 +1,23 @@
 -- Each step of a caller's call outside the turn leads to what the images allow.
 use Rattle.mk_laws.proofs.Vocabulary.{AccessIsAdmitted, Answer, AreAdmitted, Bool, Caller, CarriesOwn, Config, Done}
-use Rattle.mk_laws.proofs.Vocabulary.{Flight, ImageScene, IsAdmitted, IsNumber, IsPointer, IsSafe, IsSound, Kind, List}
-use Rattle.mk_laws.proofs.Vocabulary.{Meets, MeetsAll, Mirrors, Named, NeverState, None, Num, Op, ProbedOwn, Ptr, Some}
-use Rattle.mk_laws.proofs.Vocabulary.{Stage, Step, Unmapped, Value, Word, Words, World, ℕ, accessed, allocation_at}
-use Rattle.mk_laws.proofs.Vocabulary.{answer_decided, answer_of, ap, arith, asked, at_rest, bases_of, begun, bit}
-use Rattle.mk_laws.proofs.Vocabulary.{call_decided, d_of, entry_of, false, false≢true, flagged, flight_among, flight_of}
-use Rattle.mk_laws.proofs.Vocabulary.{g_of, global_at, has_p, has_r, has_some_p, header_at, header_of, i_of}
-use Rattle.mk_laws.proofs.Vocabulary.{if◌then◌else◌, image_of, image_scene_of, is_past_probe, is_put, is_same}
-use Rattle.mk_laws.proofs.Vocabulary.{is_under_turn, is_unmapped, is_unmapped_header, length, ltb-true, number_of}
-use Rattle.mk_laws.proofs.Vocabulary.{one_if, onward, page_met, placed_at, progress_read, q_of, refl, refused}
-use Rattle.mk_laws.proofs.Vocabulary.{reg_access, register_at, register_met, register_word, set-get_or, slice_index}
-use Rattle.mk_laws.proofs.Vocabulary.{slice_set, stage_behind, steps_of, subst, sym, true, with_word, word_at, word_met}
-use Rattle.mk_laws.proofs.Vocabulary.{words_of, world_behind, ◌*◌, ◌++◌, ◌+◌, ◌-◌, ◌/◌, ◌<◌, ◌==◌, ◌∙◌, ◌≡◌}
-use Rattle.mk_laws.proofs.Basics.{KnownWorld, Leads, Move, PagesShow, Ready, Writes, at_its_stage, at_reg, either_leads}
-use Rattle.mk_laws.proofs.Basics.{flight, goes_bare, is_astray, is_call_stage, not_astray, operands_of, register_small}
-use Rattle.mk_laws.proofs.{Basics.{standing, standing_at}, ImagesMoves.{Decides, Flies, Owes, Shares, is_bare}}
-use Rattle.mk_laws.proofs.Reached.{Reaches, mapped_met, of_number, reaches, sound_more, suits, unmapped_target}
-use Rattle.mk_laws.proofs.{Ready.{LeadsBy, bit_is, image_test, one_right}, ImagesKept.own_plain, NextSteps.at_enter}
+use Rattle.mk_laws.proofs.Vocabulary.{Flight, ImageScene, IsAdmitted, IsMet, IsNumber, IsPointer, IsSafe, IsSound, Kind}
+use Rattle.mk_laws.proofs.Vocabulary.{List, Meets, MeetsAll, Mirrors, Named, NeverState, None, Num, Op, ProbedOwn, Ptr}
+use Rattle.mk_laws.proofs.Vocabulary.{Some, Stage, Step, Unmapped, Value, Word, Words, World, ℕ, accessed}
+use Rattle.mk_laws.proofs.Vocabulary.{allocation_at, answer_decided, answer_of, ap, arith, asked, at_rest, bases_of}
+use Rattle.mk_laws.proofs.Vocabulary.{begun, bit, call_decided, d_of, entry_of, false, false≢true, flagged}
+use Rattle.mk_laws.proofs.Vocabulary.{flight_among, flight_of, g_of, global_at, has_p, has_r, has_some_p, header_at}
+use Rattle.mk_laws.proofs.Vocabulary.{header_of, i_of, if◌then◌else◌, image_of, image_scene_of, is_past_probe, is_put}
+use Rattle.mk_laws.proofs.Vocabulary.{is_same, is_under_turn, is_unmapped, is_unmapped_header, length, ltb-true}
+use Rattle.mk_laws.proofs.Vocabulary.{number_of, one_if, onward, page_met, placed_at, progress_read, q_of, refl}
+use Rattle.mk_laws.proofs.Vocabulary.{refused, reg_access, register_at, register_met, register_word, set-get_or}
+use Rattle.mk_laws.proofs.Vocabulary.{slice_index, slice_set, stage_behind, steps_of, subst, sym, true, with_word}
+use Rattle.mk_laws.proofs.Vocabulary.{word_at, word_met, words_of, world_behind, ◌*◌, ◌++◌, ◌+◌, ◌-◌, ◌/◌, ◌<◌, ◌==◌}
+use Rattle.mk_laws.proofs.{Vocabulary.{◌∙◌, ◌≡◌, ◌≢◌}, Basics.{KnownWorld, Leads, Move, PagesShow, Ready, Writes}}
+use Rattle.mk_laws.proofs.Basics.{at_its_stage, at_reg, either_leads, flight, goes_bare, is_astray, is_call_stage}
+use Rattle.mk_laws.proofs.Basics.{not_astray, operands_of, register_small, standing, standing_at}
+use Rattle.mk_laws.proofs.{ImagesMoves.{Decides, Flies, Owes, Shares, is_bare}, Reached.{Reaches, mapped_met}}
+use Rattle.mk_laws.proofs.{Reached.{of_number, reaches, sound_more, suits, unmapped_target}, Ready.{LeadsBy, bit_is}}
+use Rattle.mk_laws.proofs.{Ready.{image_test, one_right}, ImagesKept.own_plain, NextSteps.at_enter}
 use Rattle.mk_laws.proofs.{Refusals.{accesses, decides_nothing, refuses}, RegMoves.{flies_on, reg_leads}}
 use Rattle.mk_laws.proofs.RegMoves.{registers_behind}
 use Rattle.mk_never.{proofs.Soundness.{suited_is_sound}, specs.NeverHeap.{reply_at}}
@@ -80,6 +81,23 @@ module _ {listed : List ℕ} {safe : ℕ → Bool} {s : ImageScene} {n : NeverSt
       }) (λ y. mapped_met listed safe s n h header show (register_at n k (q_of o)) q (i_of o) (car.q refl)
       (car.some_q refl) (own_sound (q_of o)) (own_safe (q_of o)) (unmapped ∙ u)))
 
+  -- the word of pointers that an access reaches: the word of the heap there is the image of its value
+  record PointerMet (q' q i x : ℕ) : Type 0 where
+    pub to : Reaches safe s n (register_at n k q') q i IsPointer
+    pub value : x ≡ image_of bases (word_at n to.number to.place)
+    pub sound : IsSound n (word_at n to.number to.place)
+
+  pointer_met : (q' q i x : ℕ) → q ≡ image_of bases (register_at n k q') → q ≢ 0 → IsMet n (register_at n k q') i
+      → Meets n (register_at n k q') i IsPointer → x ≡ slice_index s.heap ((q - 65536) / 8 + i) → PointerMet q' q i x
+  pointer_met q' q i x same some_q probed access e =
+      let to = reaches listed safe s n h _ q i IsPointer same some_q (own_sound q')
+      (own_safe q') probed access in record {
+        to = to;
+        value = e ∙ ap (slice_index s.heap) to.word
+            ∙ h.images.heap to.number to.place to.unreleased to.mapped to.inside;
+        sound = suited_is_sound n _ _ to.kind (suits listed safe s n h to.number to.place to.exists to.inside);
+      }
+
   pub read_leads : (o : Op) (q p r l x : ℕ) → flight_among s.flights k ≡ flight Stage.Read o q p r l → d_of o < 8
       → is_astray (standing_at Stage.Read o) ≡ false → CarriesOwn bases n k (flight Stage.Read o q p r l)
       → ProbedOwn n k (flight Stage.Read o q p r l) → x ≡ slice_index s.heap ((q - 65536) / 8 + i_of o)
@@ -93,16 +111,13 @@ module _ {listed : List ℕ} {safe : ℕ → Bool} {s : ImageScene} {n : NeverSt
       decides_nothing safe s n k (Op.GetNum q' i) _ (Answer.Num x) refl (rw is) refl refl (λ bs. ap Answer.Num value
       ∙ ap (λ t. answer_of bs (reply_at t (λ a w. Number (number_of (word_at n a w))))) (sym to.target))
   read_leads (Op.GetPtr d q' i) q p r l x is ld a car pro e ad =
-      let to = reaches listed safe s n h (register_at n k q') q i IsPointer (car.q refl) (car.some_q refl)
-      (own_sound q') (own_safe q') (pro refl) ad.access in
-      let word = word_at n to.number to.place in
-      let value : x ≡ image_of bases word = e ∙ ap (slice_index s.heap) to.word
-      ∙ h.images.heap to.number to.place to.unreleased to.mapped to.inside in
-      let sound = suited_is_sound n word _ to.kind (suits listed safe s n h to.number to.place to.exists to.inside) in (
-        rw to.target (Owes k (flight Stage.Put (Op.GetPtr d q' i) q p r x) word there long (rw is) refl ld value
+      let met = pointer_met q' q i x (car.q refl) (car.some_q refl) (pro refl) ad.access e in
+      let to = met.to in
+      let word = word_at n to.number to.place in (
+        rw to.target (Owes k (flight Stage.Put (Op.GetPtr d q' i) q p r x) word there long (rw is) refl ld met.value
             (h.set.closed to.number to.place to.of_set to.mapped)),
         λ more. one_right _ (Answer.Word x) n k (Op.GetPtr d q' i)
-            (ap Answer.Word (value ∙ sound_more listed safe s n h word more sound) ∙ ap (λ t. answer_of
+            (ap Answer.Word (met.value ∙ sound_more listed safe s n h word more met.sound) ∙ ap (λ t. answer_of
             (bases_of s.allocations ++ more) (reply_at t (λ a w. Val (word_at n a w)))) (sym to.target)),
       )
   read_leads _ q p r l x is ld a car pro e ad = cc
@@ -159,15 +174,11 @@ module _ {listed : List ℕ} {safe : ℕ → Bool} {s : ImageScene} {n : NeverSt
       → IsAdmitted listed n k (Op.CasPtr q' i p' r') → (to : Reaches safe s n (register_at n k q') q i IsPointer)
       × ((x == p) ≡ is_same (word_at n to.number to.place) (register_at n k p'))
   cas_compares {q'} {i} {p'} q p r l x car pro e ad =
-      let to = reaches listed safe s n h (register_at n k q') q i IsPointer (car.q refl) (car.some_q refl)
-      (own_sound q') (own_safe q') (pro refl) ad.access in
-      let word = word_at n to.number to.place in
-      let value : x ≡ image_of bases word = e ∙ ap (slice_index s.heap) to.word
-      ∙ h.images.heap to.number to.place to.unreleased to.mapped to.inside in
-      let sound = suited_is_sound n word _ to.kind (suits listed safe s n h to.number to.place to.exists to.inside) in (
+      let met = pointer_met q' q i x (car.q refl) (car.some_q refl) (pro refl) ad.access e in
+      let to = met.to in (
         to,
-        rw value (rw (car.p refl) (image_test h word (register_at n k p') sound (own_sound p')
-            (h.set.closed to.number to.place to.of_set to.mapped) (own_safe p'))),
+        ap (λ (y : ℕ). y == p) met.value ∙ rw (car.p refl) (image_test h _ (register_at n k p') met.sound
+            (own_sound p') (h.set.closed to.number to.place to.of_set to.mapped) (own_safe p')),
       )
 
   pub cas_leads : (o : Op) (q p r l x : ℕ) → flight_among s.flights k ≡ flight Stage.Cas o q p r l
