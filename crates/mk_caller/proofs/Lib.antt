@@ -11,4 +11,3 @@ pub mod Chains
 pub mod Accessing
 pub mod After
 pub mod Comparing
-pub mod Idle

@@ -67,7 +67,7 @@ pub record IsDecidedIn (p : PassState) (o : Op) (a : Answer) (more : List Event)
       (never_then p more)
 
 -- The pass did this operation and was answered so. What it has seen begins with what it had seen. Its own steps since
--- are those of this call, in their order. Its caller has one entry more, and no call in flight.
+-- are those of this call, in their order. Its caller has one entry more, and no call in flight. The pass is in order.
 pub record Called (p : PassState) (o : Op) (a : Answer) (q : PassState) : Type 0 where
   pub more : List Event
   pub is : q ≡ record p { seen = p.seen ++ more }

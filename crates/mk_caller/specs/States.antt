@@ -3,21 +3,29 @@ use Rattle.std.specs.{Prelude.{◌≡◌, ℕ, Bool, true, false, List, [], ◌+
 use Rattle.mk_never.specs.{declared.operations.Op.Op, declared.values.Value.Value, NeverHeap.{NeverState, register_at}}
 use Rattle.mk_never.specs.Admitted.{IsAdmitted}
 use Rattle.mk_core.specs.{Accesses.caller_number, History.never_behind, Calls.at_rest, declared.events.Event.Event}
-use Rattle.mk_core.specs.{declared.events.Seat.TheVariants.Caller, declared.seats.Flight.Flight}
-use Rattle.mk_words.specs.{Seats.is_caller, OneProof.pass_prop, States.{WordsState, IsPass, PassState, call_of}}
+use Rattle.mk_core.specs.{declared.events.Seat.Seat, declared.events.Seat.TheVariants.Caller}
+use Rattle.mk_core.specs.declared.seats.Flight.{Flight}
+use Rattle.mk_words.specs.{OneProof.pass_prop, States.{WordsState, IsPass, PassState, call_of}}
 use denote.Struct.Props.{props}
 
--- What holds of a caller's pass that is home: it is that of a caller, and no call of it is in flight.
-pub record IsAtRest (p : PassState) : Type 0 where
-  pub pass : IsPass p
-  pub caller : is_caller p.seat ≡ true
+abbrev pub caller_of_pass : PassState → ℕ
+caller_of_pass p = caller_number p.seat
+
+-- the pass of a caller, and no call of it is in flight
+pub record IsIdleCaller (p : PassState) : Type 0 where
+  pub seat : p.seat ≡ Caller (caller_of_pass p)
   pub rest : call_of p ≡ at_rest
+
+-- What holds of a caller's pass that is home.
+pub record IsHomePass (p : PassState) : Type 0 where
+  pub pass : IsPass p
+  pub idle : IsIdleCaller p
 
 -- Its pass, and whether that is home. Of a pass that was lent the table and the seat are known, and no event.
 pub record CallerState : Type 0 where
   pub pass : PassState
   pub home : Bool
-  pub in_order : home ≡ true → IsAtRest pass
+  pub in_order : home ≡ true → IsHomePass pass
 
 -- The caller's pass is this one, and home,
 pub record IsAtHome (s : CallerState) (p : PassState) : Type 0 where
@@ -28,9 +36,6 @@ pub record IsAtHome (s : CallerState) (p : PassState) : Type 0 where
 pub record IsLent (s : CallerState) (p : PassState) : Type 0 where
   pub pass : s.pass ≡ record p { seats = []; seen = [] }
   pub away : s.home ≡ false
-
-abbrev pub caller_of_pass : PassState → ℕ
-caller_of_pass p = caller_number p.seat
 
 -- the heap that never reuses storage, after what the pass has seen
 abbrev pub never_of : PassState → NeverState
@@ -48,12 +53,6 @@ value_of p r = register_at (never_of p) (caller_of_pass p) r
 abbrev pub Admits : PassState → Op → Type 0
 Admits p o = IsAdmitted p.table.config.globals (never_of p) (caller_of_pass p) o
 
--- the pass of a caller, and no call of it is in flight
-pub record IsIdleCaller (p : PassState) : Type 0 where
-  pub caller : ℕ
-  pub seat : p.seat ≡ Caller caller
-  pub rest : call_of p ≡ at_rest
-
 -- The pass is that of this caller of these words.
 abbrev pub IsPassOfCaller : WordsState → ℕ → PassState → Type 0
 IsPassOfCaller w k p = (p.table ≡ w) × (k ≡ caller_of_pass p)
@@ -68,26 +67,28 @@ pub record IsOfCaller (w : WordsState) (k : ℕ) (x : Option PassState) : Type 0
   pub table : (pass_of w k x).table ≡ w
   pub seat : (pass_of w k x).seat ≡ Caller k
 
-abbrev pub IsResting : WordsState → ℕ → Option PassState → Type 0
-IsResting w k x = is_some x ≡ true → IsAtRest (pass_of w k x)
+abbrev pub HasHome : WordsState → ℕ → Option PassState → Type 0
+HasHome w k x = is_some x ≡ true → IsHomePass (pass_of w k x)
 
 -- That has one proof at most.
 
-at_rest_prop : (p : PassState) → IsProp (IsAtRest p)
-at_rest_prop p x y i = record {
+home_pass_prop : (p : PassState) → IsProp (IsHomePass p)
+home_pass_prop p x y i = record {
   pass = pass_prop p x.pass y.pass i;
-  caller = known_prop (is_caller p.seat) x.caller y.caller i;
-  rest = flight_prop (call_of p) x.rest y.rest i;
+  idle = record {
+    seat = seat_prop p.seat x.idle.seat y.idle.seat i;
+    rest = call_prop (call_of p) x.idle.rest y.idle.rest i;
+  };
 }
   where
-    known_prop : (b : Bool) → IsProp (b ≡ true)
-    known_prop b = hlevel props
+    seat_prop : (s : Seat) → IsProp (s ≡ Caller (caller_number s))
+    seat_prop s = hlevel (codes, props)
 
-    flight_prop : (f : Flight) → IsProp (f ≡ at_rest)
-    flight_prop f = hlevel (codes, props)
+    call_prop : (f : Flight) → IsProp (f ≡ at_rest)
+    call_prop f = hlevel (codes, props)
 
-pub home_prop : (home : Bool) (p : PassState) → IsProp (home ≡ true → IsAtRest p)
-home_prop home p = hlevel (props, at_rest_prop)
+pub home_prop : (home : Bool) (p : PassState) → IsProp (home ≡ true → IsHomePass p)
+home_prop home p = hlevel (props, home_pass_prop)
 
-pub rest_prop : (w : WordsState) (k : ℕ) (x : Option PassState) → IsProp (IsResting w k x)
-rest_prop w k x = home_prop (is_some x) (pass_of w k x)
+pub made_prop : (w : WordsState) (k : ℕ) (x : Option PassState) → IsProp (HasHome w k x)
+made_prop w k x = home_prop (is_some x) (pass_of w k x)

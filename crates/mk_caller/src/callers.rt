@@ -3,8 +3,8 @@ ghost use Rattle.std.specs.Prelude.{◌≡◌, ◌≢◌, IfOk, OnOk, OnErr, IfE
 ghost use Rattle.mk_never.specs.{declared.values.Value.TheVariants.Null, NeverHeap.is_same};
 ghost use Rattle.mk_core.specs.Calls.{at_rest};
 ghost use Rattle.mk_words.specs.States.{call_of};
-ghost use Rattle.mk_caller.specs.States.{Admits, IsAtHome, IsIdleCaller, IsLent, IsResting, caller_of_pass, rest_prop};
-ghost use Rattle.mk_caller.specs.States.{value_of};
+ghost use Rattle.mk_caller.specs.States.{Admits, HasHome, IsAtHome, IsIdleCaller, IsLent, caller_of_pass};
+ghost use Rattle.mk_caller.specs.States.{made_prop, value_of};
 ghost use Rattle.mk_caller.specs.{Called.{Called, Says, IsAnswered}, Causes.{FindsGateHeld, IsRefused, ProbesAWord}};
 ghost use Rattle.mk_caller.specs.Comparing.{CallComparesValues};
 ghost use Rattle.mk_never.specs.declared.operations.Op.TheVariants as op;
@@ -23,7 +23,7 @@ use std::marker::Model;
 pub struct Caller<'h> {
     table: CallerTable<'h>,
     pass: Option<Pass>,
-    ghost in_order: { IsResting table.words.now table.caller pass } by { rest_prop table.words.now table.caller pass },
+    ghost in_order: { HasHome table.words.now table.caller pass } by { made_prop table.words.now table.caller pass },
 }
 
 impl<'h> Model for Caller<'h> {

@@ -4,8 +4,8 @@ ghost use Rattle.mk_geom.specs.Storages.{free_page};
 ghost use Rattle.mk_core.specs.{declared.events.Seat.TheVariants.Host, Config.IsWithinLimits};
 ghost use Rattle.mk_core.specs.{Growing.{Grows, is_same_seat}, Moments.{marker_at, outside}};
 ghost use Rattle.mk_page_map.specs.KnownPages.{Shows};
-ghost use Rattle.mk_words.specs.{Seats.{Has, HasAll, all_seats, without_seat, is_caller, has_over}, States.now_of};
-ghost use Rattle.mk_words.specs.Finals.{history_of, config_of, HasTallies};
+ghost use Rattle.mk_words.specs.{Seats.{Has, HasAll, all_seats, without_seat, is_caller, has_over}, States.IsPass};
+ghost use Rattle.mk_words.specs.{Finals.{history_of, config_of, HasTallies}, States.now_of};
 
 use crate::finals::{Final, freed_bits, last_word};
 use crate::homes::MapHome;
@@ -179,6 +179,7 @@ impl Words {
         ensures pass { into.new ≡ record into.old { seats = into.old.seats ++ from.seats; seen = into.new.seen } }
         ensures own { Grows into.old.seats into.old.seen into.new.seen }
         ensures came { Grows from.seats from.seen into.new.seen }
+        ensures in_order { IsPass into.new }
     {
         let Pass { own } = from;
         Words::join_tokens(words, &mut into.own, own);
@@ -190,6 +191,7 @@ impl Words {
         ensures pass { into.new ≡ record into.old { seats = into.old.seats ++ from.seats; seen = into.new.seen } }
         ensures own { Grows into.old.seats into.old.seen into.new.seen }
         ensures came { Grows from.seats from.seen into.new.seen }
+        ensures in_order { IsPass into.new }
     {
         let TokenWith { token, .. } = from;
         let own = &mut into.token;
