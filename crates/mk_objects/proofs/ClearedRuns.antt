@@ -55,7 +55,8 @@ stopped_by p held =
 
 -- what each part leaves
 
-unmapped_now : {p q : PassState} {run : RunPages} → Unmaps p run q → RunIsUnmapped p.seat run (world_of p) (world_of q)
+pub unmapped_now : {p q : PassState} {run : RunPages} → Unmaps p run q
+    → RunIsUnmapped p.seat run (world_of p) (world_of q)
 unmapped_now a = reached_world a
 
 wiped_now : {p q : PassState} {run : RunPages} → Wipes p run q → RunIsWiped p.seat run (world_of p) (world_of q)

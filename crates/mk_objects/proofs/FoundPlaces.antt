@@ -54,14 +54,6 @@ cells_under_other h u class leaf other = by (header_of h) refl
     by (Some (LeafBlock k)) is = other_cells class k leaf true _ (λ e sort. other (sym (word_of-header_of h (LeafBlock
         k) is).1 ∙ (λ i. word_of (block_header (sym e i) (sym sort i)))))
 
--- A page with a header word isn't free.
-pub taken_under_other : (h u : ℕ) → h ≢ 0 → is_free_page (use_under (header_of h) u) ≡ false
-taken_under_other h u some = by (header_of h) refl
-  where
-    by : (x : Option Header) → header_of h ≡ x → is_free_page (use_under x u) ≡ false
-    by (Some Free) is = absurd (some (sym (word_of-header_of h Free is).1))
-    by x1 is = grind arith
-
 -- So a page with a free cell of a class and sort has the cells of its used word.
 pub cells_of_block : (page : Page) (class : ℕ) (leaf : Bool) → class < 8
     → has_free_cell class leaf (use_of_page page) ≡ true

@@ -10,14 +10,13 @@ use Rattle.mk_laws.proofs.Vocabulary.{progress_freed, quarantine_word, refl, run
 use Rattle.mk_laws.proofs.Vocabulary.{slice_index, slice_set, target, true, world_behind, [], ◌%◌, ◌&&◌, ◌*◌, ◌+◌, ◌-◌}
 use Rattle.mk_laws.proofs.Vocabulary.{◌/◌, ◌<◌, ◌^◌, ◌||◌, ◌∙◌, ◌≡◌}
 use Rattle.mk_objects.proofs.Vocabulary.{Acts, CallIsAt, FreesOnce, HasFreed, IsAsLeft, IsEnabledTo, IsFreedAt}
-use Rattle.mk_objects.proofs.Vocabulary.{IsOutOfStop, IsTurn, MayFree, PassState, answers_full, call_of}
+use Rattle.mk_objects.proofs.Vocabulary.{IsOutOfStop, IsTurn, MayFree, PassState, WordsState, answers_full, call_of}
 use Rattle.mk_objects.proofs.Vocabulary.{histories_keep_the_invariant, min, now_of, steady_of, value_of, words_freed}
 use Rattle.mk_objects.proofs.{Vocabulary.world_of, Looks.{acting_caller, acting_now, caller_has_call}}
 use Rattle.mk_objects.proofs.{MayAct.{free_is_acting, may_free, off_four}, Unchanged.{HasCall, OfCaller, call_behind}}
 use Rattle.mk_objects.proofs.{FreedOnce.frees_now, LoadedFrees.{loaded_undecided, value_kept}}
 use Rattle.mk_objects.proofs.{Reaching.{made_in, reaches_at_once}, Serves.out_of_stop, Takes.one_bit_more}
-use Rattle.mk_core.specs.Words.{named_word}
-use Rattle.mk_objects.specs.Retiring.{HasSeen, answer_seen, seen_free}
+use Rattle.mk_objects.specs.{Deciding.MayFreeOn, Retiring.{HasSeen, answer_seen, seen_free}}
 
 -- The look at the quarantine word of a Free's target: where its freed bit is set, the Free is a double one.
 
@@ -205,8 +204,11 @@ freed_half f i lt near clear =
     omega arith
 
 -- The holder may free what its Free has found, and stores the word that is made of both halves of the one found.
-module _ {p : PassState} {r u : ℕ} {cell : Cell} {quar : ℕ} (may : MayFree p r u cell) (turn : IsTurn p)
-    (is : quar ≡ named_word (now_of p).words (Word.Quar cell.page)) where
+module _ {w : WordsState} {p : PassState} {cell : Cell} {quar : ℕ} (free : MayFreeOn w p cell quar)
+    (turn : IsTurn p) where
+  may : MayFree p free.register free.value cell
+  may = free.may
+
   abbrev stored : ℕ
   stored = 4294967296 * (quar / 4294967296) + bit_or (quar % 4294967296) (1 * 2 ^ cell.index % 2 ^ 64)
 
@@ -217,13 +219,13 @@ module _ {p : PassState} {r u : ℕ} {cell : Cell} {quar : ℕ} (may : MayFree p
   s = slice_index (now_of p).words.snapshot cell.page
 
   undecided : is_undecided_free (call_of p) ≡ true
-  undecided = loaded_undecided u may.free may.some
+  undecided = loaded_undecided free.value may.free may.some
 
   small : (f < 2 ^ 32) × (s < 2 ^ 32)
   small = (histories_keep_the_invariant p.table.config p.seen turn.history).order.quarantined.small cell.page
 
   made : stored ≡ freed_word (now_of p).words cell
-  made = freed_word_made f s cell.index small.0 may.index may.live is
+  made = freed_word_made f s cell.index small.0 may.index may.live free.found
 
   half : f + 2 ^ cell.index < 2 ^ 32
   half = freed_half f cell.index small.0 may.index may.live

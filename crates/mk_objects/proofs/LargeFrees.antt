@@ -9,8 +9,8 @@ use Rattle.mk_objects.proofs.{Vocabulary.{now_of, with_tally, world_of}, Cleared
 use Rattle.mk_objects.proofs.DecidedFrees.{Stays, held_stays, stays_now, stays_then}
 use Rattle.mk_objects.proofs.FreedObjects.{HasRun, IsObjectAt, its_freed, its_run, large_held, object_at, own}
 use Rattle.mk_objects.proofs.SmallFrees.{freed_now, frees_counted, fresh_told_by, tally_between}
-use Rattle.mk_objects.proofs.JoinedLooks.{reached_table, reached_world}
-use Rattle.mk_objects.specs.{Deciding.ClearsRun, Unmapping.IsStillMapped}
+use Rattle.mk_objects.proofs.{JoinedLooks.{reached_table, reached_world}, Serves.out_of_stop}
+use Rattle.mk_objects.specs.{Deciding.ClearsRun, Unmapping.{IsStillMapped, MayUnmap}}
 
 -- what heads a run
 pub record HeadsRun (x : Option Header) (count : ℕ) : Type 0 where
@@ -37,7 +37,7 @@ module _ {p : PassState} {reg u : ℕ} {cell : Cell} (count : ℕ) (may : MayFre
   live : (own turn object).freed ≡ false
   live = sym (its_freed turn object may.phase) ∙ may.live
 
-  pub run_is : HasRun turn object count
+  run_is : HasRun turn object count
   run_is = its_run turn object count heads.heads live (sym heads.words)
 
   pub held_then : held_by_allocations p.table.config (map (freed_where_it_stands (now_of p).words (Some cell))
@@ -52,11 +52,14 @@ module _ {p : PassState} {reg u : ℕ} {cell : Cell} (count : ℕ) (may : MayFre
     now : IsFreedAt p.table.config p.seat cell (world_of p) (world_of q)
     now = freed_now freed
 
-    pub run_freed : (now_of q).seats.holding.freed ≡ Some (record { page = cell.page; count = count })
+    run_freed : (now_of q).seats.holding.freed ≡ Some (record { page = cell.page; count = count })
     run_freed = grind (arith, now)
 
-    pub run_mapped : (d : ℕ) → d < count → IsStillMapped (now_of q).words (record { page = cell.page; count = count }) d
+    run_mapped : (d : ℕ) → d < count → IsStillMapped (now_of q).words (record { page = cell.page; count = count }) d
     run_mapped d lt e = grind (arith, run_is, now)
+
+    pub run_may : MayUnmap q (record { page = cell.page; count = count })
+    run_may = grind (arith, run_is, run_freed, run_mapped, now, out_of_stop, reached_table)
 
     module _ {a b d r : PassState} {n : ℕ} (clears : ClearsRun q a) (looks : OnlyLooks a b)
         (tallied : SetsTally b Tally.Held n d) (looks_again : OnlyLooks d r) where

@@ -9,12 +9,11 @@ use Rattle.mk_laws.proofs.Vocabulary.{if◌then◌else◌, image_of, is_held, is
 use Rattle.mk_laws.proofs.Vocabulary.{progress_reg, refl, reg_access, register_at, register_met, register_word, shown}
 use Rattle.mk_laws.proofs.Vocabulary.{subst, sym, true, world_behind, [], ◌%◌, ◌*◌, ◌++◌, ◌+◌, ◌/◌, ◌<◌, ◌==◌, ◌∙◌, ◌∷◌}
 use Rattle.mk_laws.proofs.{Vocabulary.◌≡◌, SeatFrames.admitted_others_leave}
-use Rattle.mk_objects.proofs.Vocabulary.{Acts, CallIsAt, IsAdmittedBehind, IsAsLeft, IsBase, IsEnabledTo, IsFreeAt}
-use Rattle.mk_objects.proofs.Vocabulary.{IsTurn, Known, PassState, answers_full, call_of, event_of}
-use Rattle.mk_objects.proofs.Vocabulary.{histories_keep_the_invariant, loaded_free, now_of, steady_of, value_of}
-use Rattle.mk_objects.proofs.{Vocabulary.world_of, Reaching.{IsCallers, made_in, reaches_at_once}}
-use Rattle.mk_objects.proofs.{Unchanged.{HasCall, OfCaller, call_behind}, Looks.caller_has_call}
-use Rattle.mk_objects.{proofs.MayAct.{asked_more, step_admits}, specs.Retiring.{HasLoaded, IsUnloaded}}
+use Rattle.mk_objects.proofs.Vocabulary.{Acts, CallIsAt, IsAsLeft, IsBase, IsEnabledTo, IsFreeAt, IsTurn, Known}
+use Rattle.mk_objects.proofs.Vocabulary.{PassState, answers_full, call_of, event_of, histories_keep_the_invariant}
+use Rattle.mk_objects.proofs.{Vocabulary.{loaded_free, now_of, steady_of, value_of, world_of}, Looks.caller_has_call}
+use Rattle.mk_objects.proofs.{MayAct.asked_more, Reaching.{IsCallers, made_in, reaches_at_once}}
+use Rattle.mk_objects.{proofs.Unchanged.{HasCall, OfCaller, call_behind}, specs.Retiring.{HasLoaded, IsUnloaded}}
 use Rattle.mk_never.proofs.{Later.calls_stay, Parts.admitted_join}
 use Rattle.mk_core.{proofs.Conditions.{meets_enabled}, specs.{Effects.moment_behind, History.never_first}}
 use Rattle.mk_words.specs.{CallSteps.register_of, Steps.IsAdmittedTo}
@@ -38,11 +37,6 @@ free_call : (c : Config) (k r : ℕ) (xs : List Call) (a : Option Answer) → k 
     → IsBase (register_at (after_calls (never_first c) xs) k r)
     → AreAdmitted c.globals (after_calls (never_first c) xs) (asked (entry_of k (Op.Free r) a))
 free_call c k r xs x4 lt small base = grind (arith, free_admitted)
-
-pub free_admits : {c : Config} {es : List Event} (k r : ℕ) (x : Step) → IsHistory c es → k < c.callers → r < 8
-    → (flight_of (left c es).now (Caller k)).op ≡ Op.Free r → IsBase (register_at (never_behind c es) k r)
-    → IsAdmittedBehind c es (record { seat = Caller k; step = x })
-free_admits k r x h lt small is base = grind (arith, step_admits, free_call)
 
 -- A caller keeps its registers in the heap that never reuses storage over events of others and a step of its own that
 -- decides nothing.

@@ -2,16 +2,16 @@
 use Rattle.mk_laws.proofs.Vocabulary.{List, Op, Option, Page, Place, Some, Steady, Step, ℕ, and_parts, and_right, ap}
 use Rattle.mk_laws.proofs.Vocabulary.{arith, eqb-true, false, free_page, header_at, length, not, object_made, phase_of}
 use Rattle.mk_laws.proofs.Vocabulary.{place_on_pages, refl, slice_index_or, true, uses_of_pages, ◌<◌, ◌==◌, ◌∙◌, ◌≡◌}
+use Rattle.mk_laws.proofs.{InvariantHistories.first_fit_finds_the_place, LayoutHolders.seat_operands}
 use Rattle.mk_objects.proofs.Vocabulary.{Acts, GoesTo, HasCarved, IsTurn, IsUnplaced, MayTake, OnlyLooks, PassState}
 use Rattle.mk_objects.proofs.Vocabulary.{WordsState, bits_made, call_of, is_look, known_left, now_of, object_for}
+use Rattle.mk_objects.proofs.JoinedLooks.{goes_to, looks_call, looks_left, looks_table, looks_unplaced}
+use Rattle.mk_objects.proofs.{Serving.{place_same, serving_left, serving_marks}, Looks.{acting_caller, acting_now}}
+use Rattle.mk_objects.proofs.{MayAct.new_is_acting, Reaching.kept_by, Serves.{KnowsPlace, knows_place}}
+use Rattle.mk_objects.{proofs.Takes.{unplaced_settled}, specs.declared.objects.Shape.{Shape}}
 use Rattle.mk_geom.specs.PageUses.{place_on_uses}
 use Rattle.mk_core.specs.Calls.{has_type}
-use Rattle.mk_laws.proofs.{InvariantHistories.first_fit_finds_the_place, LayoutHolders.seat_operands}
-use Rattle.mk_objects.proofs.JoinedLooks.{goes_to, looks_object, looks_pages, looks_table, looks_unplaced}
-use Rattle.mk_objects.proofs.Looks.{acting_caller, acting_now}
-use Rattle.mk_objects.proofs.{MayAct.new_is_acting, Reaching.kept_by, Serves.KnowsPlace, Serves.knows_place}
-use Rattle.mk_objects.proofs.{Serving.serving_left, Serving.serving_marks, Takes.unplaced_settled}
-use Rattle.mk_objects.specs.{Placing.place_now_for, Shapes.object_shaped, declared.objects.Shape.Shape}
+use Rattle.mk_objects.specs.{Placing.{IsPlaced, IsServed, place_now_for}, Shapes.object_shaped}
 use Rattle.mk_turns.proofs.Sweeping.{does_sweep, other_step_sweeps, step_sweeps, step_then_sweeps, sweeps_then}
 use Rattle.mk_turns.specs.Sweeping.{SweepsNothing, is_mark}
 
@@ -20,7 +20,7 @@ use Rattle.mk_turns.specs.Sweeping.{SweepsNothing, is_mark}
 pub look_is_no_mark : (x : Step) → is_look x ≡ true → is_mark x ≡ false
 look_is_no_mark x h = grind arith
 
-pub looks_sweep : {p q : PassState} → OnlyLooks p q → SweepsNothing p q
+looks_sweep : {p q : PassState} → OnlyLooks p q → SweepsNothing p q
 looks_sweep {p} {q} looks = does_sweep is_look p q look_is_no_mark looks.does
 
 pub looks_then_sweep : {p q r : PassState} → OnlyLooks p q → SweepsNothing q r → SweepsNothing p r
@@ -69,15 +69,20 @@ pub fit_found : (p : PassState) {w : WordsState} {pages : List Page} {resident :
 fit_found p shape table limit filled is found = grind arith
 
 -- It is where the New goes, after looks too,
-pub goes_behind : {p q : PassState} (place : Place) → OnlyLooks p q → IsUnplaced p
-    → place_on_pages p.table.config.resident (now_of p).words.pages (object_for p) ≡ Some place → GoesTo q place
-goes_behind place a u fit = grind (arith, goes_to, looks_unplaced, looks_table, looks_pages, looks_object)
+pub goes_on : {p q : PassState} {place : Place} → OnlyLooks p q → GoesTo p place → GoesTo q place
+goes_on a goes = grind (arith, looks_unplaced, looks_table, looks_call, looks_left, place_same)
 
 -- and the place among the allocations.
 pub place_found : {p : PassState} {found : Option Place} → IsTurn p → IsUnplaced p
     → place_on_pages p.table.config.resident (now_of p).words.pages (object_for p) ≡ found → place_now_for p ≡ found
 place_found turn u fit =
     grind (arith, new_is_acting, first_fit_finds_the_place, unplaced_settled, acting_now, acting_caller)
+
+-- The object is placed where it was served.
+pub placed_there : {p q : PassState} {place : Place} → IsTurn p → IsUnplaced p
+    → place_on_pages p.table.config.resident (now_of p).words.pages (object_for p) ≡ Some place → IsServed p place q
+    → IsPlaced p q
+placed_there turn u fit serves = grind (arith, place_found)
 
 pub fit_within : {p : PassState} (place : Place) → IsTurn p → IsUnplaced p
     → place_on_pages p.table.config.resident (now_of p).words.pages (object_for p) ≡ Some place

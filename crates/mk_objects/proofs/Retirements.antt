@@ -7,17 +7,17 @@ use Rattle.mk_laws.proofs.Vocabulary.{subst, sym, target, true, true≢false, []
 use Rattle.mk_objects.proofs.Vocabulary.{CallIsAt, ComesTo, FreesCell, IsAsLeft, IsBase, IsFreeAt, IsOutOfStop, IsTurn}
 use Rattle.mk_objects.proofs.Vocabulary.{MayFree, OnlyLooks, PassState, WordsState, all_below_from, call_of, entry_for}
 use Rattle.mk_objects.proofs.Vocabulary.{histories_keep_the_invariant, is_freeing, is_loading, loaded_free}
-use Rattle.mk_objects.proofs.Vocabulary.{none_is_held, now_of, value_of, world_of}
-use Rattle.mk_objects.proofs.{DecidedFrees.{Decides, decided_behind, still_open}, FreeSteps.{freed_same, low_half}}
-use Rattle.mk_objects.proofs.{FreeSteps.target_same, FreedObjects.{IsObjectAt, granted, it_is_freed, its_freed}}
-use Rattle.mk_objects.proofs.{FreedObjects.object_at, FreedOnce.{due_since, due_then, none_due, once_behind}}
-use Rattle.mk_objects.proofs.JoinedLooks.{looks_call, looks_left, looks_table, reached_table, reached_world}
-use Rattle.mk_objects.proofs.JoinedLooks.{reaches_after, reaches_answered, reaches_named, reaches_so, reaches_wider}
-use Rattle.mk_objects.proofs.{Serves.out_of_stop, SmallFrees.{exact_still, none_held}}
+use Rattle.mk_objects.proofs.{Vocabulary.{none_is_held, now_of, value_of, world_of}, DecidedFrees.{Decides, Prepares}}
+use Rattle.mk_objects.proofs.DecidedFrees.{decided_behind, prepared_table, still_open}
+use Rattle.mk_objects.proofs.{FreeSteps.{freed_same, low_half, target_same}, FreedObjects.{IsObjectAt, granted}}
+use Rattle.mk_objects.proofs.{FreedObjects.{it_is_freed, its_freed, object_at}, FreedOnce.{due_since, due_then}}
+use Rattle.mk_objects.proofs.{FreedOnce.{none_due, once_behind}, JoinedLooks.{looks_call, looks_left, looks_table}}
+use Rattle.mk_objects.proofs.JoinedLooks.{reached_table, reached_world, reaches_after, reaches_answered, reaches_named}
+use Rattle.mk_objects.proofs.{JoinedLooks.{reaches_so, reaches_wider}, Serves.out_of_stop}
+use Rattle.mk_objects.{proofs.SmallFrees.{exact_still, none_held}, specs.Deciding.{IsDecidedAt, MayFreeOn, counted}}
 use Rattle.mk_core.specs.Counts.{TalliesAreExact}
 use Rattle.mk_objects.specs.Retired.{DecidesFree, FindsFreed, IsFreed, Retires, with_freed_object}
-use Rattle.mk_objects.specs.Retiring.{HasLoaded, HasSeen, IsUnloaded, entry_seen, seen_free}
-use Rattle.mk_objects.specs.Deciding.{IsDecidedAt, counted}
+use Rattle.mk_objects.specs.Retiring.{HasLoaded, HasSeen, IsUnloaded, KeepsValues, entry_seen, seen_free}
 
 -- A Free on its way: up to its `quar` it only loads, or comes to be decided.
 
@@ -200,6 +200,8 @@ found_so {l} {q} cell loaded some keeps looks still at within index =
       index = index;
     }
 
+ruleset come_facts = (Comes, comes_seeing, come_now, come_table, come_call)
+
 module _ {p q : PassState} {r u : ℕ} {cell : Cell} (unloaded : IsUnloaded p r) (x : IsFound p q r u cell) where
   pub free : IsFreeAt q r (loaded_free r u)
   free = record {
@@ -216,20 +218,21 @@ module _ {p q : PassState} {r u : ℕ} {cell : Cell} (unloaded : IsUnloaded p r)
       ≡ false → IsOutOfStop (now_of p) → (now_of p).seats.holding ≡ nothing_done → TalliesAreExact p.table.config p.seen
       → MayFree s r u cell
   may_free {s} seen still live low nothing exact =
-      grind (
-        arith,
-        comes_seeing,
-        come_now,
-        come_table,
-        free,
-        come_call,
-        target_stays,
-        within,
-        freed_same,
-        out_of_stop,
-        exact_still,
-        Comes,
-      )
+      grind (arith, come_facts, free, target_stays, within, freed_same, out_of_stop, exact_still)
+
+-- It may free it still after steps that leave its turn as it was, but for gates.
+pub still_may : {kinds : Step → Bool} {w : WordsState} {p q : PassState} {cell : Cell} {quar : ℕ} → Prepares kinds p q
+    → KeepsValues p q → MayFreeOn w p cell quar → MayFreeOn w q cell quar
+still_may a keeps m =
+    let at = reached_world a in
+    let call = ap (λ (x : PassState). call_of x) a.same ∙ a.world.call in
+    record {
+      one_table = reached_table a ∙ m.one_table;
+      register = m.register;
+      value = m.value;
+      may = grind (arith, at, call, keeps, prepared_table, target_stays, freed_same, out_of_stop, exact_still);
+      found = grind (arith, at);
+    }
 
 -- No gate is held there where none was.
 pub none_held_there : {p q : PassState} {f : Flight} → Comes p f q → none_is_held p.table.config.callers

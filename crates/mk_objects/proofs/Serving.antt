@@ -25,7 +25,7 @@ pub record IsCarvedTo (was now : TurnState) (place : Place) (n : ℕ) : Type 0 w
 
 -- What others do leaves it so.
 
-place_same : (c : Config) (u v : World) (f : Flight) → v.now.seats.holding ≡ u.now.seats.holding
+pub place_same : (c : Config) (u v : World) (f : Flight) → v.now.seats.holding ≡ u.now.seats.holding
     → v.now.words.pages ≡ u.now.words.pages → place_now c v.now f ≡ place_now c u.now f
 place_same c u v f holding pages = grind arith
 

@@ -7,8 +7,9 @@ pub use Rattle.mk_core.specs.{History.IsAdmittedBehind, Moments.none_is_held, Ne
 pub use Rattle.mk_laws.proofs.{InvariantHistories.histories_keep_the_invariant, Known.{Known, known_left}}
 pub use Rattle.mk_laws.proofs.{OthersCounts.answers_full, Tests.all_below_from}
 pub use Rattle.mk_turns.{proofs.Doing.{does_then}, specs.Doing.{Does}}
-pub use Rattle.mk_words.{proofs.Undecided.{decides_nothing}, specs.{Steps.IsEnabledTo, TurnSteps.{Acts, turn_stays}}}
-pub use Rattle.mk_words.specs.States.{IsTurn, PassState, TurnState, WordsState, call_of, event_of, now_of, world_of}
+pub use Rattle.mk_words.proofs.Undecided.{decides_nothing}
+pub use Rattle.mk_words.specs.{Steps.IsEnabledTo, TurnSteps.{Acts, turn_stays}, States.{IsTurn, PassState, TurnState}}
+pub use Rattle.mk_words.specs.States.{WordsState, call_of, event_of, now_of, world_of}
 pub use Rattle.mk_objects.specs.{Deciding.{FreesCell, MayFree, StaysSo, is_following}, Dues.{FreesOnce, IsOverQuarter}}
 pub use Rattle.mk_objects.specs.{Entries.own_calls, FreeParts.{Changes, HasGates, RunIsUnmapped, RunIsWiped, SetsGate}}
 pub use Rattle.mk_objects.specs.FreeParts.{SetsGates, SetsTally, Unmaps, Wipes, all_others, held_from, held_to}

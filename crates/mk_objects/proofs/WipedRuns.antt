@@ -9,18 +9,18 @@ use Rattle.mk_laws.proofs.Vocabulary.{others_are_held, page_at_address, phase_of
 use Rattle.mk_laws.proofs.Vocabulary.{same_Some, slice_index, stands, subst, sym, true, unmapped_header, unmaps}
 use Rattle.mk_laws.proofs.{Vocabulary.{world_behind, [], ◌*◌, ◌+◌, ◌/◌, ◌<◌, ◌∙◌, ◌≡◌, ◌≤◌}, Sorts.chosen_none}
 use Rattle.mk_objects.proofs.Vocabulary.{Acts, ComesTo, IsAsLeft, IsEnabledTo, IsOutOfStop, IsTurn, PassState, Unmaps}
-use Rattle.mk_objects.proofs.Vocabulary.{Wipes, WipesTo, all_below_from, call_of, is_acting, is_clearing, now_of}
-use Rattle.mk_objects.proofs.{Vocabulary.{option_and_then, world_of}, JoinedLooks.{reached_there, reached_world}}
-use Rattle.mk_objects.proofs.{JoinedLooks.{reaches_after, reaches_so}, Looks.{acting_caller, acting_now, acts_there}}
-use Rattle.mk_objects.proofs.MayAct.{IsActing, may_look_heap, may_unmap, may_wipe, off_four}
-use Rattle.mk_objects.proofs.Reaching.{reaches_nothing, reaches_still, reaches_still_in_stop}
-use Rattle.mk_objects.proofs.{Unchanged.{HasCall, OfCaller, acting_has_call, call_behind}, Serves.out_of_stop}
-use Rattle.mk_objects.proofs.Serving.{header_here, header_set, next_is}
+use Rattle.mk_objects.proofs.Vocabulary.{Wipes, WipesTo, WordsState, all_below_from, call_of, is_acting, is_clearing}
+use Rattle.mk_objects.proofs.Vocabulary.{now_of, option_and_then, world_of}
+use Rattle.mk_objects.proofs.JoinedLooks.{reached_table, reached_there, reached_world, reaches_after, reaches_so}
+use Rattle.mk_objects.proofs.{Looks.{acting_caller, acting_now, acts_there}, MayAct.{IsActing, may_look_heap}}
+use Rattle.mk_objects.proofs.{MayAct.{may_unmap, may_wipe, off_four}, Reaching.{reaches_nothing, reaches_still}}
+use Rattle.mk_objects.proofs.{Reaching.reaches_still_in_stop, Unchanged.{HasCall, OfCaller, acting_has_call}}
+use Rattle.mk_objects.proofs.{Unchanged.call_behind, Serves.out_of_stop, Serving.{header_here, header_set, next_is}}
 use Rattle.mk_geom.proofs.{Bridge.run_in_range, HeaderLemmas.header_of-word_of}
 use Rattle.mk_geom.specs.Addresses.{cell_under, word_at_address}
 use Rattle.mk_core.specs.{Effects.{hand_given, hand_of_cell, is_in_stop}, Cells.pointed_cell}
 use Rattle.mk_core.specs.Frames.{HoldsAll, written_of}
-use Rattle.mk_objects.specs.Unmapping.{AreWiped, IsStillMapped, MayWipe, UnmappedTo, WipedTo}
+use Rattle.mk_objects.specs.Unmapping.{MayUnmap, MayWipe, MayWipeFrom, UnmappedTo, WipedTo}
 use Rattle.mk_turns.proofs.PointedCells.{found_there}
 use Rattle.mk_words.specs.Steps.{Finds}
 
@@ -73,16 +73,15 @@ unmapped_more {c} {s} {run} {v} {n} at (OfCaller k lt) give low near room =
           (header_set v.now.words.pages p (run.page + d) _ (λ i. absurd (omega arith))) ∙ e);
     }
 
-module _ {p : PassState} (run : RunPages) (turn : IsTurn p) (give : (call_of p).stage ≡ Stage.Give)
-    (low : IsOutOfStop (now_of p)) where
+module _ {p : PassState} {run : RunPages} (turn : IsTurn p) (may : MayUnmap p run) where
   abbrev pub HasUnmapped : PassState → ℕ → Type 0
   HasUnmapped q n = ComesTo is_clearing p (λ v. UnmappedTo p.seat run (world_of p) v n) [] q
 
-  pub unmapped_none : ((d : ℕ) → d < run.count → IsStillMapped (now_of p).words run d) → HasUnmapped p 0
-  unmapped_none mapped = reaches_nothing is_clearing p (λ v. UnmappedTo p.seat run (world_of p) v 0) (record {
+  pub unmapped_none : HasUnmapped p 0
+  unmapped_none = reaches_nothing is_clearing p (λ v. UnmappedTo p.seat run (world_of p) v 0) (record {
     changes = record { call = refl; holding = refl; steady = refl; gates = λ j. refl };
     done = λ d lt. absurd (omega arith);
-    rest = λ d le lt. mapped d lt;
+    rest = λ d le lt. may.mapped d lt;
   })
 
   there_acting : (v : World) → flight_of v.now p.seat ≡ flight_of (now_of p) p.seat
@@ -90,16 +89,17 @@ module _ {p : PassState} (run : RunPages) (turn : IsTurn p) (give : (call_of p).
   there_acting v same = grind (arith, acts_there, acting_now, give_acts)
 
   there_low : (v : World) → phase_of v.now.words ≡ phase_of (now_of p).words → IsOutOfStop v.now
-  there_low v same = out_of_stop (now_of p) v.now same low
+  there_low v same = out_of_stop (now_of p) v.now same may.phase
 
   pub unmap_may : {q : PassState} {n : ℕ} → HasUnmapped q n
-      → others_are_held p.table.config.callers (now_of p).words p.seat ≡ true
-      → (now_of p).seats.holding.freed ≡ Some run → n < run.count → run.page + run.count ≤ p.table.config.pages
+      → others_are_held p.table.config.callers (now_of p).words p.seat ≡ true → n < run.count
       → IsEnabledTo q (Step.Head (run.page + n) (unmapped_header run.count n))
-  unmap_may {q} {n} reached stopped freed near within =
+  unmap_may {q} {n} reached stopped near =
+      let within = may.within in
       let v : World = left p.table.config q.seen in
       let at = reached.world in
-      let here : v.now.seats.holding.freed ≡ Some run = ap (λ (h : Holding). h.freed) at.changes.holding ∙ freed in
+      let here : v.now.seats.holding.freed ≡ Some run = ap (λ (h : Holding). h.freed) at.changes.holding
+      ∙ may.freed in
       reached_there reached (λ (x : PassState). IsEnabledTo x (Step.Head (run.page + n) (unmapped_header run.count n)))
       (may_unmap (there_acting v at.changes.call) (run.page + n) (unmapped_header run.count n) (omega arith)
       (there_low v (ap (λ (x : Steady). x.phase) at.changes.steady)) (still_stopped p v at.changes.gates stopped)
@@ -107,15 +107,15 @@ module _ {p : PassState} (run : RunPages) (turn : IsTurn p) (give : (call_of p).
       v.now.words run.page run.count (unmapped_header run.count) n near (at.rest n (omega arith) near) at.done))
 
   pub unmaps_on : {q r : PassState} {n : ℕ} → HasUnmapped q n → n < run.count
-      → run.page + run.count ≤ p.table.config.pages
       → Acts q (Step.Head (run.page + n) (unmapped_header run.count n)) r → HasUnmapped r (n + 1)
-  unmaps_on {n} reached near within a =
+  unmaps_on {n} reached near a =
+      let within = may.within in
       reaches_still (λ v. UnmappedTo p.seat run (world_of p) v n) (λ v. UnmappedTo p.seat run (world_of p) v (n + 1))
-      reached a refl refl (acting_caller p (give_acts (call_of p) give)) refl (λ w v here kept known pages.
+      reached a refl refl (acting_caller p (give_acts (call_of p) may.decided)) refl (λ w v here kept known pages.
       let on = unmapped_left here kept in
       let call = acting_has_call known.orderly.flights (there_acting v on.changes.call) in
       let room = pages.pages in
-      unmapped_more on call (ap (λ (f : Flight). f.stage) on.changes.call ∙ give)
+      unmapped_more on call (ap (λ (f : Flight). f.stage) on.changes.call ∙ may.decided)
       (there_low v (ap (λ (x : Steady). x.phase) on.changes.steady)) near (omega arith))
 
   pub unmapped_all : {q : PassState} → HasUnmapped q run.count → Unmaps p run q
@@ -258,13 +258,15 @@ module _ {p : PassState} {run : RunPages} (turn : IsTurn p) (may : MayWipe p run
       let room = pages.heap in
       wiped_more here.0 kept call (stop here.1) (omega arith))
 
-pub wiped_from : (p : PassState) {run : RunPages} {n : ℕ} → AreWiped (now_of p).words run n → WipesTo p run n p
+pub wiped_from : (p : PassState) {run : RunPages} {n : ℕ}
+    → ((i : ℕ) → i < n → slice_index (now_of p).words.heap (64 * run.page + i) ≡ 0) → WipesTo p run n p
 wiped_from p {run} {n} wiped =
     reaches_nothing is_clearing p (λ v. WipedTo p.seat run (world_of p) v n)
     (record { changes = record { call = refl; holding = refl; steady = refl; gates = λ j. refl }; zeros = wiped })
 
-pub wiped_now : {p q : PassState} {run : RunPages} {n : ℕ} → WipesTo p run n q → AreWiped (now_of q).words run n
-wiped_now a = (reached_world a).zeros
+wiped_now : {p q : PassState} {run : RunPages} {n : ℕ} → WipesTo p run n q → (i : ℕ) → i < n
+    → slice_index (now_of q).words.heap (64 * run.page + i) ≡ 0
+wiped_now a i lt = (reached_world a).zeros i lt
 
 pub wipes_then : {p q r : PassState} {run : RunPages} {n k : ℕ} → WipesTo p run n q → WipesTo q run k r
     → WipesTo p run k r
@@ -285,5 +287,15 @@ wipes_named {p} {q} {run} wipes same = subst (λ i. WipesTo p run i q) same wipe
 pub wiped_all : {p q : PassState} {run : RunPages} → WipesTo p run (64 * run.count) q → Wipes p run q
 wiped_all reached = grind (arith, reaches_so, all_below_from, eq-eqb)
 
-pub still_may : {p q : PassState} {run : RunPages} {n : ℕ} → WipesTo p run n q → MayWipe p run → MayWipe q run
+still_may : {p q : PassState} {run : RunPages} {n : ℕ} → WipesTo p run n q → MayWipe p run → MayWipe q run
 still_may a may = grind (arith, reached_there, still_stopped, still_unmapped)
+
+-- What was asked of a word is so of the next after it.
+pub wipes_from : {w : WordsState} {p q : PassState} {pages : ℕ} {run : RunPages} {n k : ℕ} → WipesTo p run n q
+    → MayWipeFrom w p pages run k → MayWipeFrom w q pages run n
+wipes_from a from = record {
+  one_table = reached_table a ∙ from.one_table;
+  all_pages = from.all_pages;
+  may = still_may a from.may;
+  wiped = wiped_now a;
+}

@@ -3,12 +3,13 @@ use Rattle.std.specs.Prelude.{◌≡◌, ◌↔◌, ◌==◌, ℕ, ◌<◌, Bool
 use Rattle.mk_geom.specs.declared.addresses.Cell.{Cell}
 use Rattle.mk_core.specs.{declared.events.Seat.Seat, declared.events.Step.Step, Allocations.freed_where_it_stands}
 use Rattle.mk_core.specs.{Counts.{TalliesAreExact, releases}, Frames.{Steady, steady_of}, History.World, Cells.is_freed}
-use Rattle.mk_core.specs.{Moments.{flight_of, is_held}, NewPlaces.{is_run_gone, target}}
-use Rattle.mk_words.specs.States.{PassState, call_of, now_of, world_of}
+use Rattle.mk_core.specs.{Moments.{flight_of, is_held}, NewPlaces.{is_run_gone, target}, Words.named_word}
+use Rattle.mk_words.specs.States.{PassState, WordsState, call_of, now_of, world_of}
 use Rattle.mk_objects.specs.{Dues.{FreesOnce, IsOverQuarter}, Placing.{IsOutOfStop, ComesTo, entry_for}}
 use Rattle.mk_objects.specs.Retiring.{IsFreeAt, is_freeing, loaded_free}
 use Rattle.mk_core.specs.declared.events.Answer.TheVariants as answer
 use Rattle.mk_core.specs.declared.events.Step.TheVariants as step
+use Rattle.mk_core.specs.declared.events.Word.TheVariants as word
 use Rattle.mk_core.specs.declared.seats.Stage.TheVariants as stage
 
 -- the kinds of step that come after the `quar`
@@ -75,6 +76,14 @@ pub record MayFree (p : PassState) (r u : ℕ) (cell : Cell) : Type 0 where
   pub phase : IsOutOfStop (now_of p)
   pub none_freed : (now_of p).seats.holding.freed ≡ None
   pub exact : TalliesAreExact p.table.config p.seen
+
+-- On these words it may free the object in this cell, whose page has this quarantine word.
+pub record MayFreeOn (w : WordsState) (p : PassState) (cell : Cell) (quar : ℕ) : Type 0 where
+  pub one_table : p.table ≡ w
+  pub register : ℕ
+  pub value : ℕ
+  pub may : MayFree p register value cell
+  pub found : quar ≡ named_word (now_of p).words (word.Quar cell.page)
 
 -- The run that the call has freed is unmapped and wiped, all gates are open, and the tallies are as they were.
 pub record ClearsRun (p q : PassState) : Type 0 where

@@ -4,9 +4,9 @@ use Rattle.mk_geom.specs.declared.pages.Page.{Page}
 use Rattle.mk_core.specs.{declared.events.Seat.Seat, declared.events.Step.Step, declared.events.Tally.Tally}
 use Rattle.mk_core.specs.{declared.seats.RunPages.RunPages, Cells.{header_in, run_headed, words_are_zero}}
 use Rattle.mk_core.specs.{Frames.{Steady, steady_of}, History.World, Moments.{flight_of, is_held, is_number_of}}
-use Rattle.mk_core.specs.NewPlaces.{is_run_unmapped}
-use Rattle.mk_words.specs.States.{PassState, now_of, world_of}
-use Rattle.mk_objects.specs.Placing.{ComesTo}
+use Rattle.mk_core.specs.NewPlaces.{is_run_gone, is_run_unmapped}
+use Rattle.mk_words.specs.States.{PassState, WordsState, call_of, now_of, world_of}
+use Rattle.mk_objects.specs.{Looking.is_acting, Placing.{ComesTo, IsOutOfStop}}
 use Rattle.mk_core.specs.declared.events.Step.TheVariants as step
 use Rattle.mk_core.specs.declared.events.Tally.TheVariants as tally
 
@@ -74,6 +74,20 @@ SetsGate kinds p gate held q = ComesTo kinds p (GateIsSet p.seat gate held (worl
 
 abbrev pub SetsGates : (Step → Bool) → PassState → (ℕ → Bool) → PassState → Type 0
 SetsGates kinds p gates q = ComesTo kinds p (HasGates p.seat p.table.config.callers gates (world_of p)) [] q
+
+-- On these words the call may hold this gate, which isn't held.
+pub record MayHold (w : WordsState) (p : PassState) (gate : ℕ) : Type 0 where
+  pub one_table : p.table ≡ w
+  pub acting : is_acting (call_of p).stage ≡ true
+  pub within : gate < p.table.config.callers
+  pub not_held : is_held (now_of p).words gate ≡ false
+
+-- On these words it may open gates: no cycle stops, and the run that it freed is unmapped and wiped.
+pub record MayOpen (w : WordsState) (p : PassState) : Type 0 where
+  pub one_table : p.table ≡ w
+  pub acting : is_acting (call_of p).stage ≡ true
+  pub phase : IsOutOfStop (now_of p)
+  pub gone : is_run_gone (now_of p).words (now_of p).seats.holding.freed ≡ true
 
 -- The holder's call is as it was, and what it has done in its turn, and its gates; what none but it changes is
 -- changed so.

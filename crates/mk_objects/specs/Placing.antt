@@ -10,7 +10,7 @@ use Rattle.mk_core.specs.{Decided.{Decided, entry_of}, Frames.{CountsAreLeft, St
 use Rattle.mk_core.specs.{Moments.{Moment, flight_of}, NewPlaces.{base_made, is_undecided_new, object_made}}
 use Rattle.mk_core.specs.{Placement.place_after, Words.{phase_of, register_word}, TurnConditions.place_now}
 use Rattle.mk_words.specs.States.{PassState, call_of, now_of, world_of}
-use Rattle.mk_turns.specs.Doing.{Does}
+use Rattle.mk_turns.specs.{Doing.Does, Sweeping.SweepsNothing}
 use Rattle.mk_objects.specs.{Entries.own_calls, declared.objects.Request.Request, Serving.{Carving, IsCellReady}}
 use Rattle.mk_objects.specs.Unchanged.{IsAsLeft}
 use Rattle.mk_never.specs.declared.operations.Op.TheVariants as op
@@ -123,6 +123,12 @@ pub record FitsNowhere (p q : PassState) : Type 0 where
 pub record GoesTo (p : PassState) (place : Place) : Type 0 where
   pub unplaced : IsUnplaced p
   pub goes : place_now p.table.config (now_of p) (call_of p) ≡ Some place
+
+-- The object was granted at the place, the tally of held words is that of the allocations, and nothing was swept.
+pub record IsServed (p : PassState) (place : Place) (q : PassState) : Type 0 where
+  pub granted : IsGranted p place q
+  pub held : HeldIsExact q
+  pub reached : SweepsNothing p q
 
 -- This many pages of the place have their headers; its cell may be taken.
 

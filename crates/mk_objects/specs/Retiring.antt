@@ -20,6 +20,10 @@ use Rattle.mk_core.specs.declared.seats.Stage.TheVariants as stage
 abbrev pub value_of : PassState → ℕ → Value
 value_of p r = register_at (never_behind p.table.config p.seen) (caller_number p.seat) r
 
+-- Those of all its registers are as they were.
+abbrev pub KeepsValues : PassState → PassState → Type 0
+KeepsValues p q = (r : ℕ) → r < 8 → value_of q r ≡ value_of p r
+
 -- The turn is for a Free of this register, at this point of the call, and the register is null or points to the first
 -- word of its allocation.
 pub record IsFreeAt (p : PassState) (r : ℕ) (f : Flight) : Type 0 where
@@ -42,6 +46,13 @@ pub record CallIsAt (s : Seat) (f : Flight) (w v : World) : Type 0 where
 -- A Free whose register held this value: null decides it.
 abbrev pub loaded_free : ℕ → ℕ → Flight
 loaded_free r u = record (begun (op.Free r)) { stage = if u == 0 then stage.Give else stage.Turn; p = u }
+
+-- The Free has loaded its register, which isn't null.
+pub record IsLoaded (p : PassState) : Type 0 where
+  pub register : ℕ
+  pub value : ℕ
+  pub free : IsFreeAt p register (loaded_free register value)
+  pub some : (value == 0) ≡ false
 
 abbrev pub entry_loaded : PassState → ℕ → List Decided
 entry_loaded p u = if u == 0 then entry_for p answer.Done else []

@@ -1,15 +1,25 @@
 -- A run while it is unmapped, and while it is wiped.
-use Rattle.std.specs.Prelude.{◌≡◌, ◌≢◌, ℕ, ◌+◌, ◌*◌, ◌<◌, ◌≤◌, true, [], Some, slice_index}
+use Rattle.std.specs.Prelude.{◌≡◌, ◌≢◌, ℕ, ◌+◌, ◌*◌, ◌/◌, ◌<◌, ◌≤◌, true, [], Some, slice_index}
 use Rattle.mk_core.specs.{declared.events.Seat.Seat, declared.seats.RunPages.RunPages, History.World}
 use Rattle.mk_core.specs.{Moments.others_are_held, NewPlaces.{is_run_unmapped, unmapped_header}}
 use Rattle.mk_core.specs.Words.{Words, header_at}
-use Rattle.mk_words.specs.States.{PassState, call_of, now_of, world_of}
-use Rattle.mk_objects.specs.{FreeParts.{Changes, is_clearing, with_pages}, Placing.ComesTo}
+use Rattle.mk_words.specs.States.{PassState, WordsState, call_of, now_of, world_of}
+use Rattle.mk_objects.specs.{FreeParts.{Changes, is_clearing, with_pages}, Placing.{ComesTo, IsOutOfStop}}
 use Rattle.mk_core.specs.declared.seats.Stage.TheVariants as stage
 
 -- The page so far after the run's head isn't unmapped.
 abbrev pub IsStillMapped : Words → RunPages → ℕ → Type 0
 IsStillMapped w run distance = header_at w (run.page + distance) ≢ unmapped_header run.count distance
+
+-- The call is decided and has freed this run, none of whose pages is unmapped yet, and no cycle stops the others.
+pub record MayUnmap (p : PassState) (run : RunPages) : Type 0 where
+  pub decided : (call_of p).stage ≡ stage.Give
+  pub phase : IsOutOfStop (now_of p)
+  pub freed : (now_of p).seats.holding.freed ≡ Some run
+  pub some : 1 ≤ run.count
+  pub few : run.count ≤ 64
+  pub within : run.page + run.count ≤ p.table.config.pages
+  pub mapped : (d : ℕ) → d < run.count → IsStillMapped (now_of p).words run d
 
 -- This many of the run's pages are unmapped, the others not.
 pub record UnmappedTo (s : Seat) (run : RunPages) (w v : World) (n : ℕ) : Type 0 where
@@ -31,10 +41,19 @@ pub record MayWipe (p : PassState) (run : RunPages) : Type 0 where
   pub few : run.count ≤ 64
   pub within : run.page + run.count ≤ p.table.config.pages
 
--- its words up to this one are wiped,
-abbrev pub AreWiped : Words → RunPages → ℕ → Type 0
-AreWiped w run n = (i : ℕ) → i < n → slice_index w.heap (64 * run.page + i) ≡ 0
+-- On these words, which have this many pages, the run may be wiped, and its words up to this one are 0.
+pub record MayWipeFrom (w : WordsState) (p : PassState) (pages : ℕ) (run : RunPages) (n : ℕ) : Type 0 where
+  pub one_table : p.table ≡ w
+  pub all_pages : pages ≡ w.config.pages
+  pub may : MayWipe p run
+  pub wiped : (i : ℕ) → i < n → slice_index (now_of p).words.heap (64 * run.page + i) ≡ 0
 
--- and are so after steps of the call
+-- A group of its words, on this page of it, is next.
+pub record MayWipeGroup (w : WordsState) (p : PassState) (pages : ℕ) (run : RunPages) (part group : ℕ) : Type 0 where
+  pub from : MayWipeFrom w p pages run (8 * group)
+  pub within : 8 * group + 8 ≤ 64 * run.count
+  pub on_page : part ≡ group / 8
+
+-- After steps of the call its words up to this one are 0.
 abbrev pub WipesTo : PassState → RunPages → ℕ → PassState → Type 0
 WipesTo p run n q = ComesTo is_clearing p (λ v. WipedTo p.seat run (world_of p) v n) [] q

@@ -2,12 +2,11 @@
 ghost use Rattle.std.specs.Prelude.{◌≡◌, ℕ, ◌<◌, true, false, IfOk, OnErr, Some, option_map};
 ghost use Rattle.mk_geom.specs.Headers.{header_of};
 ghost use Rattle.mk_core.specs.{Cells.{header_in, heads_run, run_headed, words_under}, Counts.TalliesAreExact};
-ghost use Rattle.mk_core.specs.{Moments.{none_is_held, nothing_done}, Words.named_word};
+ghost use Rattle.mk_core.specs.Moments.{none_is_held, nothing_done};
 ghost use Rattle.mk_words.specs.States.{call_of, now_of};
-ghost use Rattle.mk_objects.specs.{Deciding.{FreesCell, MayFree}, FreeParts.{HasRunAt, HoldsOthers, SetsTally, run_on}};
-ghost use Rattle.mk_objects.specs.{Looking.is_acting, Placing.IsOutOfStop, Retired.{FindsFreed, Retires}};
-ghost use Rattle.mk_objects.specs.Retiring.{IsUnloaded};
-ghost use Rattle.mk_core.specs.declared.events.Word.TheVariants as word;
+ghost use Rattle.mk_objects.specs.{Deciding.{FreesCell, MayFreeOn}, FreeParts.{HasRunAt, HoldsOthers, SetsTally}};
+ghost use Rattle.mk_objects.specs.{FreeParts.run_on, Looking.is_acting, Placing.IsOutOfStop};
+ghost use Rattle.mk_objects.specs.{Retired.{FindsFreed, Retires}, Retiring.IsUnloaded};
 
 use crate::gates::hold_gates;
 use crate::looking::look_at;
@@ -40,24 +39,14 @@ fn set_tally(words: &Words, turn: &mut Turn, tally: Tally, value: u64)
 }
 
 /// Frees an object that takes a cell of a block, of this many words, and returns whether that is due.
-fn free_small(
-    words: &Words,
-    turn: &mut Turn,
-    register: u8,
-    value: u64,
-    cell: Cell,
-    quar: u64,
-    size: u64,
-) -> bool
-    requires one_table { turn.old.pass.table ≡ words.now }
-    requires may { MayFree turn.old.pass register value cell }
+fn free_small(words: &Words, turn: &mut Turn, cell: Cell, quar: u64, size: u64) -> bool
+    requires free { MayFreeOn words.now turn.old.pass cell quar }
     requires gates { none_is_held turn.old.pass.table.config.callers (now_of turn.old.pass).words ≡ true }
-    requires quar { quar ≡ named_word (now_of turn.old.pass).words (word.Quar cell.page) }
     requires small { heads_run (header_in (now_of turn.old.pass).words cell.page) ≡ false }
     requires size { size ≡ words_under (header_in (now_of turn.old.pass).words cell.page) }
     ensures { FreesCell turn.old.pass cell result turn.new.pass }
 {
-    quarantine(words, turn, register, value, cell, quar);
+    quarantine(words, turn, cell, quar);
     let fresh = look_at(words, turn, Word::Fresh).saturating_add(size);
     set_tally(words, turn, Tally::Fresh, fresh);
     let held = look_at(words, turn, Word::Held);
@@ -66,23 +55,13 @@ fn free_small(
 
 /// Frees a large object, whose run has this many pages, while the gates of all other callers are held, and opens them.
 /// Returns whether that is due.
-fn free_stopped(
-    words: &Words,
-    turn: &mut Turn,
-    register: u8,
-    value: u64,
-    cell: Cell,
-    quar: u64,
-    count: u64,
-) -> bool
-    requires one_table { turn.old.pass.table ≡ words.now }
-    requires may { MayFree turn.old.pass register value cell }
+fn free_stopped(words: &Words, turn: &mut Turn, cell: Cell, quar: u64, count: u64) -> bool
+    requires free { MayFreeOn words.now turn.old.pass cell quar }
     requires held { HoldsOthers turn.old.pass }
-    requires quar { quar ≡ named_word (now_of turn.old.pass).words (word.Quar cell.page) }
     requires run { HasRunAt turn.old.pass cell.page count }
     ensures { FreesCell turn.old.pass cell result turn.new.pass }
 {
-    quarantine(words, turn, register, value, cell, quar);
+    quarantine(words, turn, cell, quar);
     clear_run(
         words,
         turn,
@@ -104,21 +83,17 @@ fn free_run<R: Wait>(
     rt: &R,
     words: &Words,
     turn: &mut Turn,
-    register: u8,
-    value: u64,
     cell: Cell,
     quar: u64,
     count: u64,
 ) -> bool
-    requires one_table { turn.old.pass.table ≡ words.now }
-    requires may { MayFree turn.old.pass register value cell }
+    requires free { MayFreeOn words.now turn.old.pass cell quar }
     requires gates { none_is_held turn.old.pass.table.config.callers (now_of turn.old.pass).words ≡ true }
-    requires quar { quar ≡ named_word (now_of turn.old.pass).words (word.Quar cell.page) }
     requires run { HasRunAt turn.old.pass cell.page count }
     ensures { FreesCell turn.old.pass cell result turn.new.pass }
 {
     hold_gates(rt, words, turn);
-    free_stopped(words, turn, register, value, cell, quar, count)
+    free_stopped(words, turn, cell, quar, count)
 }
 
 /// How many pages the run has that is headed under this header word.
@@ -132,27 +107,17 @@ fn run_under(header: u64) -> Option<u64>
 }
 
 /// Frees the object whose cell was found, and returns whether that is due.
-fn free_found<R: Wait>(
-    rt: &R,
-    words: &Words,
-    turn: &mut Turn,
-    register: u8,
-    value: u64,
-    cell: Cell,
-    quar: u64,
-) -> bool
-    requires one_table { turn.old.pass.table ≡ words.now }
-    requires may { MayFree turn.old.pass register value cell }
+fn free_found<R: Wait>(rt: &R, words: &Words, turn: &mut Turn, cell: Cell, quar: u64) -> bool
+    requires free { MayFreeOn words.now turn.old.pass cell quar }
     requires gates { none_is_held turn.old.pass.table.config.callers (now_of turn.old.pass).words ≡ true }
-    requires quar { quar ≡ named_word (now_of turn.old.pass).words (word.Quar cell.page) }
     ensures { FreesCell turn.old.pass cell result turn.new.pass }
 {
     let header = look_at(words, turn, Word::Head(cell.page));
     match run_under(header) {
-        Some(count) => free_run(rt, words, turn, register, value, cell, quar, count),
+        Some(count) => free_run(rt, words, turn, cell, quar, count),
         None => {
             let size = words_under(header);
-            free_small(words, turn, register, value, cell, quar, size)
+            free_small(words, turn, cell, quar, size)
         }
     }
 }
@@ -180,10 +145,10 @@ pub fn retire_object<R: Threads + Wait + Sync>(
         return Ok(Freed { due: false });
     }
     let cell = find_cell(words, turn, value);
-    let quar = look_at_quarantine(words, turn, p, value, cell);
+    let quar = look_at_quarantine(words, turn, cell);
     if is_freed(quar, cell) {
         return Err(Double);
     }
-    let due = free_found(rt, words, turn, p, value, cell, quar);
+    let due = free_found(rt, words, turn, cell, quar);
     Ok(Freed { due })
 }

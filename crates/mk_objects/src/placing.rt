@@ -1,10 +1,10 @@
 //! Placing the object of a New.
 ghost use Rattle.std.specs.Prelude.{◌≡◌, ◌==◌, true, false};
-ghost use Rattle.mk_core.specs.{Calls.d_of, Words.{header_at, phase_of, used_at}};
+ghost use Rattle.mk_core.specs.{Calls.d_of, Words.{header_at, phase_of}};
 ghost use Rattle.mk_words.specs.States.{call_of, now_of};
 ghost use Rattle.mk_turns.specs.Sweeping.{SweepsNothing};
-ghost use Rattle.mk_objects.specs.Placing.{GoesTo, HasCarved, HeldIsExact, MayTake, IsUnplaced, IsPlaced, FitsNowhere};
-ghost use Rattle.mk_objects.specs.{Placing.{IsGranted, Requests, object_for}, Shapes.object_shaped};
+ghost use Rattle.mk_objects.specs.Placing.{FitsNowhere, HeldIsExact, IsPlaced, IsServed, IsUnplaced, MayTake, Requests};
+ghost use Rattle.mk_objects.specs.{Placing.object_for, Shapes.{MayServe, ShapeGoesTo, object_shaped}};
 
 use crate::looking::{is_marking, look_at};
 use crate::objects::{Request, Shape, shape_of};
@@ -13,33 +13,19 @@ use mk_core::{Tally, Word};
 use mk_geom::Place;
 use mk_words::{Turn, Words};
 
-/// Marks the cells of the place's first page, where a cycle marks.
-fn mark_first(words: &Words, turn: &mut Turn, shape: Shape, place: Place, marking: bool)
-    requires one_table { turn.old.pass.table ≡ words.now }
-    requires shape { object_shaped shape ≡ object_for turn.old.pass }
-    requires goes { GoesTo turn.old.pass place }
-    requires free { header_at (now_of turn.old.pass).words place.page ≡ 0 }
-    requires marking { marking ≡ (phase_of (now_of turn.old.pass).words == 1) }
-    ensures carved { HasCarved turn.old.pass place 0 turn.new.pass }
-    ensures reached { SweepsNothing turn.old.pass turn.new.pass }
-{
-    if marking {
-        turn.mark(words, place.page, shape.bits());
-    }
-}
-
-/// Makes the free pages of the place a block, or a run.
+/// Makes the free pages of the place a block, or a run. Where a cycle marks, the cells of the first page are marked
+/// before that.
 fn carve(words: &Words, turn: &mut Turn, shape: Shape, place: Place, marking: bool)
-    requires one_table { turn.old.pass.table ≡ words.now }
-    requires shape { object_shaped shape ≡ object_for turn.old.pass }
-    requires goes { GoesTo turn.old.pass place }
+    requires goes { ShapeGoesTo words.now turn.old.pass shape place }
     requires free { header_at (now_of turn.old.pass).words place.page ≡ 0 }
     requires marking { marking ≡ (phase_of (now_of turn.old.pass).words == 1) }
     ensures ready { MayTake turn.old.pass place turn.new.pass }
     ensures reached { SweepsNothing turn.old.pass turn.new.pass }
 {
     let pages = shape.pages();
-    mark_first(words, turn, shape, place, marking);
+    if marking {
+        turn.mark(words, place.page, shape.bits());
+    }
     for distance in 0..pages {
         turn.head(words, place.page + distance, shape.header_word(distance));
     }
@@ -48,9 +34,7 @@ fn carve(words: &Words, turn: &mut Turn, shape: Shape, place: Place, marking: bo
 /// Makes the place's pages ready, where they are free.
 #[inline(always)]
 fn make_ready(words: &Words, turn: &mut Turn, shape: Shape, place: Place, free: bool, marking: bool)
-    requires one_table { turn.old.pass.table ≡ words.now }
-    requires shape { object_shaped shape ≡ object_for turn.old.pass }
-    requires goes { GoesTo turn.old.pass place }
+    requires goes { ShapeGoesTo words.now turn.old.pass shape place }
     requires free { free ≡ (header_at (now_of turn.old.pass).words place.page == 0) }
     requires marking { marking ≡ (phase_of (now_of turn.old.pass).words == 1) }
     ensures ready { MayTake turn.old.pass place turn.new.pass }
@@ -74,18 +58,10 @@ fn serve(
     marking: bool,
     held: u64,
 )
-    requires one_table { turn.old.pass.table ≡ words.now }
-    requires register { register ≡ d_of (call_of turn.old.pass).op }
-    requires shape { object_shaped shape ≡ object_for turn.old.pass }
-    requires goes { GoesTo turn.old.pass place }
-    requires used { used ≡ used_at (now_of turn.old.pass).words place.page }
-    requires free { free ≡ (header_at (now_of turn.old.pass).words place.page == 0) }
+    requires may { MayServe words.now turn.old.pass register shape place used free }
     requires marking { marking ≡ (phase_of (now_of turn.old.pass).words == 1) }
     requires held { held ≡ (now_of turn.old.pass).words.held }
-    requires exact { HeldIsExact turn.old.pass }
-    ensures granted { IsGranted turn.old.pass place turn.new.pass }
-    ensures held { HeldIsExact turn.new.pass }
-    ensures reached { SweepsNothing turn.old.pass turn.new.pass }
+    ensures { IsServed turn.old.pass place turn.new.pass }
 {
     make_ready(words, turn, shape, place, free, marking);
     turn.used(words, place.page, used | 1 << place.index);
@@ -104,16 +80,8 @@ fn serve_now(
     used: u64,
     free: bool,
 )
-    requires one_table { turn.old.pass.table ≡ words.now }
-    requires register { register ≡ d_of (call_of turn.old.pass).op }
-    requires shape { object_shaped shape ≡ object_for turn.old.pass }
-    requires goes { GoesTo turn.old.pass place }
-    requires used { used ≡ used_at (now_of turn.old.pass).words place.page }
-    requires free { free ≡ (header_at (now_of turn.old.pass).words place.page == 0) }
-    requires exact { HeldIsExact turn.old.pass }
-    ensures granted { IsGranted turn.old.pass place turn.new.pass }
-    ensures held { HeldIsExact turn.new.pass }
-    ensures reached { SweepsNothing turn.old.pass turn.new.pass }
+    requires { MayServe words.now turn.old.pass register shape place used free }
+    ensures { IsServed turn.old.pass place turn.new.pass }
 {
     let held = look_at(words, turn, Word::Held);
     let marking = is_marking(words, turn);

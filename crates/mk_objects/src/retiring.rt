@@ -1,11 +1,11 @@
 //! Freeing the object of a Free.
-ghost use Rattle.std.specs.Prelude.{◌≡◌, ℕ, ◌<◌, ◌==◌, ◌%◌, ◌||◌, not, true, false, Some};
+ghost use Rattle.std.specs.Prelude.{◌≡◌, ◌<◌, ◌==◌, ◌%◌, ◌||◌, not, true, false, Some};
 ghost use Rattle.mk_never.specs.declared.values.Value.TheVariants.{Null};
 ghost use Rattle.mk_core.specs.{NewPlaces.{is_undecided_free, target}, Bits.has_bit, Cells.{header_in, heads_run}};
 ghost use Rattle.mk_core.specs.{Cells.is_freed, Moments.others_are_held, Words.named_word};
 ghost use Rattle.mk_words.specs.States.{call_of, now_of};
-ghost use Rattle.mk_objects.specs.{Deciding.MayFree, Placing.OnlyLooks, Dues.FreesOnce, Retiring.{HasFreed, HasLoaded}};
-ghost use Rattle.mk_objects.specs.Retiring.{HasSeen, IsFreeAt, IsUnloaded, loaded_free, value_of};
+ghost use Rattle.mk_objects.specs.{Deciding.MayFreeOn, Placing.OnlyLooks, Dues.FreesOnce};
+ghost use Rattle.mk_objects.specs.Retiring.{HasFreed, HasLoaded, HasSeen, IsLoaded, IsUnloaded, KeepsValues, value_of};
 ghost use Rattle.mk_core.specs.declared.events.Word.TheVariants as word;
 
 use crate::looking::look_at;
@@ -45,7 +45,7 @@ pub(crate) fn find_cell(words: &Words, turn: &mut Turn, value: u64) -> Cell
         ≡ Some result }
     ensures within { result.page < turn.old.pass.table.config.pages }
     ensures index { result.index < 32 }
-    ensures keeps { (r : ℕ) → r < 8 → value_of turn.new.pass r ≡ value_of turn.old.pass r }
+    ensures keeps { KeepsValues turn.old.pass turn.new.pass }
 {
     let page = page_at(value);
     let header = look_at(words, turn, Word::Head(page));
@@ -57,39 +57,22 @@ pub(crate) fn find_cell(words: &Words, turn: &mut Turn, value: u64) -> Cell
 
 /// Looks at the quarantine word of the page of a Free's target. Where the target is freed already, that decides the
 /// Free.
-pub(crate) fn look_at_quarantine(
-    words: &Words,
-    turn: &mut Turn,
-    register: u8,
-    value: u64,
-    cell: Cell,
-) -> u64
+pub(crate) fn look_at_quarantine(words: &Words, turn: &mut Turn, cell: Cell) -> u64
     requires one_table { turn.old.pass.table ≡ words.now }
-    requires free { IsFreeAt turn.old.pass register (loaded_free register value) }
-    requires some { (value == 0) ≡ false }
+    requires loaded { IsLoaded turn.old.pass }
     requires cell { target turn.old.pass.table.config.pages (now_of turn.old.pass).words (call_of turn.old.pass)
         ≡ Some cell }
     requires within { cell.page < turn.old.pass.table.config.pages }
     ensures seen { HasSeen turn.old.pass cell turn.new.pass }
     ensures finds { result ≡ named_word (now_of turn.old.pass).words (word.Quar cell.page) }
-    ensures keeps { is_freed (now_of turn.old.pass).words cell ≡ false → (r : ℕ) → r < 8
-        → value_of turn.new.pass r ≡ value_of turn.old.pass r }
+    ensures keeps { is_freed (now_of turn.old.pass).words cell ≡ false → KeepsValues turn.old.pass turn.new.pass }
 {
     turn.look(words, Word::Quar(cell.page))
 }
 
 /// Quarantines the target of a Free, which isn't freed yet. A run's needs all other gates held.
-pub(crate) fn quarantine(
-    words: &Words,
-    turn: &mut Turn,
-    register: u8,
-    value: u64,
-    cell: Cell,
-    quar: u64,
-)
-    requires one_table { turn.old.pass.table ≡ words.now }
-    requires may { MayFree turn.old.pass register value cell }
-    requires quar { quar ≡ named_word (now_of turn.old.pass).words (word.Quar cell.page) }
+pub(crate) fn quarantine(words: &Words, turn: &mut Turn, cell: Cell, quar: u64)
+    requires free { MayFreeOn words.now turn.old.pass cell quar }
     requires gates { (not (heads_run (header_in (now_of turn.old.pass).words cell.page))
         || others_are_held turn.old.pass.table.config.callers (now_of turn.old.pass).words turn.old.pass.seat) ≡ true }
     ensures freed { HasFreed turn.old.pass cell turn.new.pass }

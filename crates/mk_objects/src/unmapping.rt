@@ -1,12 +1,10 @@
 //! The run of a large object that a Free has freed: its pages are unmapped, and then its words wiped, while the gates
 //! of all other callers are held.
-ghost use Rattle.std.specs.Prelude.{◌≡◌, ℕ, ◌+◌, ◌<◌, ◌≤◌, true, false, Some};
+ghost use Rattle.std.specs.Prelude.{◌≡◌, ◌<◌, ◌≤◌, false};
 ghost use Rattle.mk_core.specs.NewPlaces.{unmapped_header};
 ghost use Rattle.mk_geom.specs.{Headers.IsInRange, Storages.run_header};
-ghost use Rattle.mk_words.specs.{States.{call_of, now_of}, TurnSteps.IsStopped};
-ghost use Rattle.mk_objects.specs.{Deciding.ClearsRun, FreeParts.{HoldsOthers, Unmaps}, Placing.IsOutOfStop};
-ghost use Rattle.mk_objects.specs.Unmapping.{IsStillMapped};
-ghost use Rattle.mk_core.specs.declared.seats.Stage.TheVariants as stage;
+ghost use Rattle.mk_words.specs.TurnSteps.{IsStopped};
+ghost use Rattle.mk_objects.specs.{Deciding.ClearsRun, FreeParts.{HoldsOthers, Unmaps}, Unmapping.MayUnmap};
 
 use crate::gates::open_gates;
 use crate::wiping::wipe_run;
@@ -48,14 +46,8 @@ fn unmapped_header(pages: u64, distance: u64) -> u64
 /// Unmaps the pages of the run that the call has freed.
 pub(crate) fn unmap_run(words: &Words, turn: &mut Turn, run: RunPages)
     requires one_table { turn.old.pass.table ≡ words.now }
-    requires decided { (call_of turn.old.pass).stage ≡ stage.Give }
-    requires phase { IsOutOfStop (now_of turn.old.pass) }
+    requires may { MayUnmap turn.old.pass run }
     requires stopped { IsStopped turn.old.pass }
-    requires freed { (now_of turn.old.pass).seats.holding.freed ≡ Some run }
-    requires some { 1 ≤ run.count }
-    requires few { run.count ≤ 64 }
-    requires within { run.page + run.count ≤ turn.old.pass.table.config.pages }
-    requires mapped { (d : ℕ) → d < run.count → IsStillMapped (now_of turn.old.pass).words run d }
     ensures { Unmaps turn.old.pass run turn.new.pass }
 {
     for distance in 0..run.count {
@@ -70,14 +62,8 @@ pub(crate) fn unmap_run(words: &Words, turn: &mut Turn, run: RunPages)
 /// Unmaps and wipes the run that the call has freed, and opens the gates of all other callers.
 pub(crate) fn clear_run(words: &Words, turn: &mut Turn, run: RunPages)
     requires one_table { turn.old.pass.table ≡ words.now }
-    requires decided { (call_of turn.old.pass).stage ≡ stage.Give }
-    requires phase { IsOutOfStop (now_of turn.old.pass) }
+    requires may { MayUnmap turn.old.pass run }
     requires held { HoldsOthers turn.old.pass }
-    requires freed { (now_of turn.old.pass).seats.holding.freed ≡ Some run }
-    requires some { 1 ≤ run.count }
-    requires few { run.count ≤ 64 }
-    requires within { run.page + run.count ≤ turn.old.pass.table.config.pages }
-    requires mapped { (d : ℕ) → d < run.count → IsStillMapped (now_of turn.old.pass).words run d }
     ensures { ClearsRun turn.old.pass turn.new.pass }
 {
     unmap_run(words, turn, run);

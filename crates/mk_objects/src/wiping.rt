@@ -1,10 +1,7 @@
 //! The words of the run of a large object that a Free has freed and unmapped are wiped. Most are 0 already, so those of
 //! a group are looked at together first. A word that is 0 isn't stored to.
-ghost use Rattle.std.specs.Prelude.{◌≡◌, ◌+◌, ◌*◌, ◌/◌, ◌<◌, ◌≤◌, true, Some};
-ghost use Rattle.mk_core.specs.NewPlaces.{is_run_unmapped};
-ghost use Rattle.mk_words.specs.{States.{call_of, now_of}, TurnSteps.IsStopped};
-ghost use Rattle.mk_objects.specs.{FreeParts.Wipes, Unmapping.{AreWiped, MayWipe, WipesTo}};
-ghost use Rattle.mk_core.specs.declared.seats.Stage.TheVariants as stage;
+ghost use Rattle.std.specs.Prelude.{◌≡◌, ◌+◌, ◌*◌, ◌<◌, true};
+ghost use Rattle.mk_objects.specs.{FreeParts.Wipes, Unmapping.{MayWipe, MayWipeFrom, MayWipeGroup, WipesTo}};
 
 use mk_core::{RunPages, Word};
 use mk_geom::PAGE_WORDS;
@@ -26,12 +23,7 @@ fn are_zero(
     part: u64,
     group: u64,
 ) -> bool
-    requires one_table { turn.old.pass.table ≡ words.now }
-    requires pages { pages ≡ words.now.config.pages }
-    requires may { MayWipe turn.old.pass run }
-    requires group { 8 * group + 8 ≤ 64 * run.count }
-    requires part { part ≡ group / 8 }
-    requires wiped { AreWiped (now_of turn.old.pass).words run (8 * group) }
+    requires { MayWipeGroup words.now turn.old.pass pages run part group }
     ensures still { WipesTo turn.old.pass run (8 * group) turn.new.pass }
     ensures zero { result ≡ true → WipesTo turn.old.pass run (8 * group + 8) turn.new.pass }
 {
@@ -51,12 +43,7 @@ fn are_zero(
 /// its first word, so the loop over groups keeps no word number beside an address.
 #[inline(never)]
 fn wipe_words(words: &Words, turn: &mut Turn, pages: u64, run: RunPages, part: u64, group: u64)
-    requires one_table { turn.old.pass.table ≡ words.now }
-    requires pages { pages ≡ words.now.config.pages }
-    requires may { MayWipe turn.old.pass run }
-    requires group { 8 * group + 8 ≤ 64 * run.count }
-    requires part { part ≡ group / 8 }
-    requires wiped { AreWiped (now_of turn.old.pass).words run (8 * group) }
+    requires { MayWipeGroup words.now turn.old.pass pages run part group }
     ensures { WipesTo turn.old.pass run (8 * group + 8) turn.new.pass }
 {
     words.is_within_limits();
@@ -73,12 +60,7 @@ fn wipe_words(words: &Words, turn: &mut Turn, pages: u64, run: RunPages, part: u
 /// Wipes what isn't 0 of a group of words of the run, which stand on this page of it.
 #[inline(always)]
 fn wipe_group(words: &Words, turn: &mut Turn, pages: u64, run: RunPages, part: u64, group: u64)
-    requires one_table { turn.old.pass.table ≡ words.now }
-    requires pages { pages ≡ words.now.config.pages }
-    requires may { MayWipe turn.old.pass run }
-    requires group { 8 * group + 8 ≤ 64 * run.count }
-    requires part { part ≡ group / 8 }
-    requires wiped { AreWiped (now_of turn.old.pass).words run (8 * group) }
+    requires { MayWipeGroup words.now turn.old.pass pages run part group }
     ensures { WipesTo turn.old.pass run (8 * group + 8) turn.new.pass }
 {
     if are_zero(words, turn, pages, run, part, group) {
@@ -90,11 +72,8 @@ fn wipe_group(words: &Words, turn: &mut Turn, pages: u64, run: RunPages, part: u
 /// Wipes the words of a page of the run.
 #[inline(always)]
 fn wipe_page(words: &Words, turn: &mut Turn, pages: u64, run: RunPages, part: u64)
-    requires one_table { turn.old.pass.table ≡ words.now }
-    requires pages { pages ≡ words.now.config.pages }
-    requires may { MayWipe turn.old.pass run }
+    requires from { MayWipeFrom words.now turn.old.pass pages run (64 * part) }
     requires part { part < run.count }
-    requires wiped { AreWiped (now_of turn.old.pass).words run (64 * part) }
     ensures { WipesTo turn.old.pass run (64 * part + 64) turn.new.pass }
 {
     for group in PAGE_GROUPS * part..PAGE_GROUPS * part + PAGE_GROUPS {
@@ -105,12 +84,7 @@ fn wipe_page(words: &Words, turn: &mut Turn, pages: u64, run: RunPages, part: u6
 /// Wipes the words of the run that the call has freed and unmapped.
 pub(crate) fn wipe_run(words: &Words, turn: &mut Turn, run: RunPages)
     requires one_table { turn.old.pass.table ≡ words.now }
-    requires decided { (call_of turn.old.pass).stage ≡ stage.Give }
-    requires stopped { IsStopped turn.old.pass }
-    requires freed { (now_of turn.old.pass).seats.holding.freed ≡ Some run }
-    requires unmapped { is_run_unmapped (now_of turn.old.pass).words run ≡ true }
-    requires few { run.count ≤ 64 }
-    requires within { run.page + run.count ≤ turn.old.pass.table.config.pages }
+    requires may { MayWipe turn.old.pass run }
     ensures { Wipes turn.old.pass run turn.new.pass }
 {
     let pages = words.pages();

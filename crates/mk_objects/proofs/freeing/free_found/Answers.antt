@@ -2,7 +2,16 @@ use Rattle.mk_laws.proofs.Vocabulary.{Option, Steady, ℕ, ap, arith, free_page,
 use Rattle.mk_laws.proofs.Vocabulary.{slice_index_or, sym, ◌∙◌, ◌≡◌}
 use Rattle.mk_objects.proofs.{Vocabulary.{PassState, now_of, option_map}, DecidedFrees.{frees_behind, looks_prepare}}
 use Rattle.mk_objects.proofs.{DecidedFrees.still_open, JoinedLooks.{looks_left, looks_table}, LargeFrees.heads_none}
+use Rattle.mk_objects.proofs.Retirements.{still_may}
 use Rattle.mk_objects.proofs.freeing.free_found.Goals as goal
+
+pub free_small-requires-clause-free : goal.free_small-requires-clause-free
+free_small-requires-clause-free g c =
+    still_may (looks_prepare c.look_at-header.ensures.looks) c.look_at-header.ensures.keeps c.requires.free
+
+pub free_run-requires-clause-free : goal.free_run-requires-clause-free
+free_run-requires-clause-free g c =
+    still_may (looks_prepare c.look_at-header.ensures.looks) c.look_at-header.ensures.keeps c.requires.free
 
 pub free_small-requires-clause-gates : goal.free_small-requires-clause-gates
 free_small-requires-clause-gates g c =

@@ -1,6 +1,10 @@
 use Rattle.mk_laws.proofs.Vocabulary.{arith}
-use Rattle.mk_objects.proofs.DecidedFrees.{frees_behind, gates_prepare}
+use Rattle.mk_objects.proofs.{DecidedFrees.frees_behind, DecidedFrees.gates_prepare, Retirements.still_may}
 use Rattle.mk_objects.proofs.freeing.free_run.Goals as goal
+
+pub free_stopped-requires-clause-free : goal.free_stopped-requires-clause-free
+free_stopped-requires-clause-free g c =
+    still_may (gates_prepare c.hold_gates.ensures.sets) c.hold_gates.ensures.keeps c.requires.free
 
 pub returns : goal.returns
 returns g c =

@@ -6,7 +6,7 @@ pub returns : goal.returns
 returns c =
     let found : c.look_at.result ≡ (now_of c.args.turn.now.pass).words.fresh =
     c.look_at.ensures.finds ∙ ap (λ (x : Steady). x.fresh) (freed_now c.quarantine.ensures.freed).steady in
-    frees_small c.requires.may c.args.turn.now.in_order c.quarantine.ensures.freed c.look_at.ensures.looks
+    frees_small c.requires.free.may c.args.turn.now.in_order c.quarantine.ensures.freed c.look_at.ensures.looks
     c.set_tally.ensures c.look_at-held.ensures.looks c.requires.gates c.requires.small
     c.due.result c.quarantine.ensures.once c.quarantine.new.turn.in_order c.look_at-held.new.turn.in_order found
     (c.saturating_add-fresh.ensures ∙ ap (λ n. min (c.look_at.result + n) (2 ^ 64 - 1)) c.requires.size)

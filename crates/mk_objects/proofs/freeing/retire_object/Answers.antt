@@ -1,8 +1,9 @@
 -- The whole of a Free: its register is loaded, its cell found, and the quarantine word of that looked at.
-use Rattle.mk_laws.proofs.Vocabulary.{Cell, ℕ, eq-eqb, false, is_freed, ne_eqb, sym, ◌∙◌, ◌≡◌}
-use Rattle.mk_objects.proofs.Vocabulary.{MayFree, now_of}
-use Rattle.mk_objects.proofs.Retirements.{IsFound, comes_seeing, finds_freed, found_so, freed_by_word, is_never_freed}
-use Rattle.mk_objects.proofs.Retirements.{may_free, none_held_there, object_found, retires, retires_null}
+use Rattle.mk_laws.proofs.Vocabulary.{Cell, ℕ, arith, eq-eqb, false, is_freed, ne_eqb, sym, ◌∙◌, ◌≡◌}
+use Rattle.mk_objects.proofs.{Vocabulary.{MayFree, now_of}, JoinedLooks.{reached_table, reached_world}}
+use Rattle.mk_objects.proofs.Retirements.{IsFound, comes_seeing, finds_freed, found_so, free, freed_by_word}
+use Rattle.mk_objects.proofs.Retirements.{is_never_freed, may_free, none_held_there, object_found, retires}
+use Rattle.mk_objects.proofs.Retirements.{retires_null}
 use Rattle.mk_objects.proofs.freeing.retire_object.Goals.{After-find_cell-cell, After-is_freed}
 use Rattle.mk_objects.proofs.freeing.retire_object.Goals as goal
 
@@ -22,6 +23,16 @@ found g c =
     found_so c.find_cell-cell.result c.load_freed-value.ensures.loaded some (c.load_freed-value.ensures.keeps some)
     c.find_cell-cell.ensures.looks (c.find_cell-cell.ensures.keeps c.args.p c.requires.unloaded.small)
     c.find_cell-cell.ensures.cell c.find_cell-cell.ensures.within c.find_cell-cell.ensures.index
+
+pub look_at_quarantine-quar-requires-clause-loaded : goal.look_at_quarantine-quar-requires-clause-loaded
+look_at_quarantine-quar-requires-clause-loaded g c =
+    let found = found g (goal.at.look_at_quarantine-quar-requires-clause-loaded g c).After-find_cell-cell in
+    record {
+      register = c.args.p;
+      value = c.load_freed-value.result;
+      free = free c.requires.unloaded found;
+      some = found.some;
+    }
 
 -- and whether that is freed
 by_word : (g : _) (c : After-is_freed g)
@@ -50,10 +61,16 @@ may g c found bit =
     may_free c.requires.unloaded found c.look_at_quarantine-quar.ensures.seen (c.look_at_quarantine-quar.ensures.keeps
     bit c.args.p c.requires.unloaded.small) bit c.requires.phase c.requires.nothing_done c.requires.exact
 
-pub free_found-due-requires-clause-may : goal.free_found-due-requires-clause-may
-free_found-due-requires-clause-may g c =
-    let x = goal.at.free_found-due-requires-clause-may g c in
-    may g x.After-is_freed (found g x.After-find_cell-cell) (by_word g x.After-is_freed ∙ c.if-is_freed.false)
+pub free_found-due-requires-clause-free : goal.free_found-due-requires-clause-free
+free_found-due-requires-clause-free g c =
+    let x = goal.at.free_found-due-requires-clause-free g c in
+    record {
+      one_table = grind (arith, reached_table);
+      register = c.args.p;
+      value = c.load_freed-value.result;
+      may = may g x.After-is_freed (found g x.After-find_cell-cell) (by_word g x.After-is_freed ∙ c.if-is_freed.false);
+      found = grind (arith, reached_world);
+    }
 
 pub free_found-due-requires-clause-gates : goal.free_found-due-requires-clause-gates
 free_found-due-requires-clause-gates g c =

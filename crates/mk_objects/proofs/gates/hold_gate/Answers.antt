@@ -1,30 +1,21 @@
-use Rattle.mk_laws.proofs.Vocabulary.{false, is_held, is_number_of, refl, ◌<◌, ◌∙◌, ◌≡◌}
-use Rattle.mk_objects.proofs.Vocabulary.{PassState, SetsGate, is_holding, now_of}
-use Rattle.mk_objects.proofs.{JoinedLooks.reached_there, SetGates.one_acting, SetGates.set_nothing, SetGates.sets_again}
+use Rattle.mk_laws.proofs.Vocabulary.{arith, false, is_number_of, refl, ◌∙◌, ◌≡◌}
+use Rattle.mk_objects.proofs.{Vocabulary.{PassState, SetsGate, is_holding}, JoinedLooks.{reached_table, reached_there}}
+use Rattle.mk_objects.proofs.{JoinedLooks.reached_world, SetGates.{one_acting, set_nothing, sets_again}}
 use Rattle.mk_objects.proofs.gates.hold_gate.Goals as goal
 
 pub trying-init : goal.trying-init
 trying-init g c = record {
-  sets = set_nothing is_holding c.args.turn.now.pass c.args.caller c.requires.open;
+  sets = set_nothing is_holding c.args.turn.now.pass c.args.caller c.requires.may.not_held;
   keeps = λ r lt. refl;
 }
 
-pub try_hold-requires-clause-acting : goal.try_hold-requires-clause-acting
-try_hold-requires-clause-acting g c = one_acting c.trying.invariant.sets c.requires.acting
-
-pub try_hold-requires-clause-within : goal.try_hold-requires-clause-within
-try_hold-requires-clause-within g c =
-    reached_there c.trying.invariant.sets (λ (x : PassState). c.args.caller < x.table.config.callers) c.requires.within
+pub try_hold-requires-clause-may : goal.try_hold-requires-clause-may
+try_hold-requires-clause-may g c = grind (arith, reached_table, reached_world, one_acting)
 
 pub try_hold-requires-clause-another : goal.try_hold-requires-clause-another
 try_hold-requires-clause-another g c =
     reached_there c.trying.invariant.sets
     (λ (x : PassState). is_number_of x.seat c.args.caller ≡ false) c.requires.another
-
-pub try_hold-requires-clause-open : goal.try_hold-requires-clause-open
-try_hold-requires-clause-open g c =
-    reached_there c.trying.invariant.sets (λ (x : PassState). is_held (now_of x).words c.args.caller ≡ false)
-    c.trying.invariant.sets.world.set
 
 pub returns-then-try_hold-clause-sets : goal.returns-then-try_hold-clause-sets
 returns-then-try_hold-clause-sets g c =

@@ -1,20 +1,16 @@
 use Rattle.mk_laws.proofs.Vocabulary.{Seat, ap, arith, refl, subst, ◌+◌, ◌∙◌}
 use Rattle.mk_objects.proofs.Vocabulary.{PassState, SetsGate, WordsState, all_others, is_holding}
 use Rattle.mk_objects.proofs.SetGates.{caller_within, held_next, held_so_far, holds_none, none_yet_held, set_acting}
-use Rattle.mk_objects.proofs.{SetGates.{set_held, set_seat, sets_more, sets_named}, JoinedLooks.reached_there}
+use Rattle.mk_objects.proofs.SetGates.{set_held, set_seat, sets_more, sets_named}
+use Rattle.mk_objects.proofs.JoinedLooks.{reached_table, reached_there}
 use Rattle.mk_objects.proofs.gates.hold_gates.Goals as goal
 
 pub loop-caller-init : goal.loop-caller-init
 loop-caller-init g c = record { sets = holds_none c.args.turn.now.pass c.requires.open; keeps = λ r lt. refl }
 
-pub hold_other-requires-clause-acting : goal.hold_other-requires-clause-acting
-hold_other-requires-clause-acting g c = set_acting c.loop-caller.invariant.sets c.requires.acting
-
-pub hold_other-requires-clause-within : goal.hold_other-requires-clause-within
-hold_other-requires-clause-within g c = grind (arith, reached_there, caller_within)
-
-pub hold_other-requires-clause-open : goal.hold_other-requires-clause-open
-hold_other-requires-clause-open g c = grind (arith, set_held, caller_within, none_yet_held)
+pub hold_other-requires : goal.hold_other-requires
+hold_other-requires g c =
+    grind (arith, reached_there, reached_table, set_acting, set_held, caller_within, none_yet_held)
 
 pub loop-caller-preserved : goal.loop-caller-preserved
 loop-caller-preserved g c =

@@ -14,5 +14,5 @@ returns-then-not-is_own-clause-sets g c =
 
 pub returns-else-not-is_own-clause-sets : goal.returns-else-not-is_own-clause-sets
 returns-else-not-is_own-clause-sets g c =
-    set_nothing is_holding c.args.turn.now.pass c.args.caller (c.requires.open
+    set_nothing is_holding c.args.turn.now.pass c.args.caller (c.requires.not_held
     ∙ sym (others_gate g (goal.at.returns-else-not-is_own-clause-sets g c).After-is_own ∙ ap not c.if-not-is_own.false))

@@ -1,17 +1,14 @@
 use Rattle.mk_laws.proofs.Vocabulary.{arith, ◌+◌}
 use Rattle.mk_objects.proofs.{Vocabulary.{PassState, is_settling}, SetGates.{all_yet_held, caller_within, opened_next}}
 use Rattle.mk_objects.proofs.SetGates.{opened_so_far, opens_none, set_acting, set_held, set_phase, set_seat, sets_more}
-use Rattle.mk_objects.proofs.{SetGates.sets_named, JoinedLooks.reached_there}
+use Rattle.mk_objects.proofs.{SetGates.sets_named, JoinedLooks.{reached_table, reached_there}}
 use Rattle.mk_objects.proofs.gates.open_gates.Goals as goal
 
 pub loop-caller-init : goal.loop-caller-init
-loop-caller-init c = record { sets = opens_none c.args.turn.now.pass c.requires.held; gone = c.requires.gone }
+loop-caller-init c = record { sets = opens_none c.args.turn.now.pass c.requires.held; gone = c.requires.may.gone }
 
-pub open_other-requires-clause-acting : goal.open_other-requires-clause-acting
-open_other-requires-clause-acting c = set_acting c.loop-caller.invariant.sets c.requires.acting
-
-pub open_other-requires-clause-phase : goal.open_other-requires-clause-phase
-open_other-requires-clause-phase c = set_phase c.loop-caller.invariant.sets c.requires.phase
+pub open_other-requires-clause-may : goal.open_other-requires-clause-may
+open_other-requires-clause-may c = grind (arith, reached_table, set_acting, set_phase)
 
 pub open_other-requires-clause-within : goal.open_other-requires-clause-within
 open_other-requires-clause-within c = grind (arith, reached_there, caller_within)

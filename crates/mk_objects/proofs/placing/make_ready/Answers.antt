@@ -9,7 +9,7 @@ carve-requires-clause-free c = eqb-true _ 0 (sym c.requires.free ∙ c.if-free.t
 pub returns-else-free-clause-ready : goal.returns-else-free-clause-ready
 returns-else-free-clause-ready c =
     let p : PassState = c.args.turn.now.pass in
-    let k = knows_place c.args.turn.now.in_order c.requires.goes in
+    let k = knows_place c.args.turn.now.in_order c.requires.goes.goes in
     block_ready k (eqb-false (header_at (now_of p).words c.args.place.page) 0 (sym c.requires.free ∙ c.if-free.false))
 
 pub returns-else-free-clause-reached : goal.returns-else-free-clause-reached

@@ -1,8 +1,7 @@
 use Rattle.mk_laws.proofs.Vocabulary.{Some, arith, histories_keep_lengths, ltb-true, place_on_pages, ◌≡◌}
-use Rattle.mk_objects.{proofs.Vocabulary.{PassState, now_of, object_for}, specs.Shapes.{object_shaped}}
-use Rattle.mk_objects.proofs.{JoinedLooks.{granted_behind_looks, looks_nothing}, PlacedNews.{fit_found, fit_within}}
-use Rattle.mk_objects.proofs.PlacedNews.{goes_behind, place_found, shape_asked, type_asked}
-use Rattle.mk_objects.proofs.placing.place_object.Goals.{After-shape_of-shape, In-Some}
+use Rattle.mk_objects.proofs.{Vocabulary.{PassState, now_of, object_for}, PlacedNews.{fit_found, fit_within}}
+use Rattle.mk_objects.{proofs.PlacedNews.{placed_there, shape_asked, type_asked}, specs.Shapes.{object_shaped}}
+use Rattle.mk_objects.proofs.{placing.place_object.Goals.{After-shape_of-shape, In-Some}, JoinedLooks.goes_to}
 use Rattle.mk_objects.proofs.placing.place_object.Goals as goal
 
 -- the shape is that of the object
@@ -31,20 +30,11 @@ page-used-requires c =
 pub place_apart-requires-clause-shape : goal.place_apart-requires-clause-shape
 place_apart-requires-clause-shape c = grind (arith, shape_is)
 
-pub serve_now-requires-clause-shape : goal.serve_now-requires-clause-shape
-serve_now-requires-clause-shape c = grind (arith, shape_is)
-
-pub serve_now-requires-clause-goes : goal.serve_now-requires-clause-goes
-serve_now-requires-clause-goes c = grind (arith, goes_behind, looks_nothing, fit, shape_is)
+pub serve_now-requires : goal.serve_now-requires
+serve_now-requires c = grind (arith, goes_to, fit, shape_is)
 
 pub returns-in-Some-clause-placed : goal.returns-in-Some-clause-placed
 returns-in-Some-clause-placed c =
     let x = goal.at.returns-in-Some-clause-placed c in
-    let p : PassState = c.args.turn.now.pass in
-    λ h. record {
-      place = c.in-Some.place;
-      fits = place_found c.args.turn.now.in_order c.requires.unplaced
-          (fit x.In-Some (shape_is x.After-shape_of-shape));
-      granted = granted_behind_looks (looks_nothing p) c.serve_now.ensures.granted;
-      held = c.serve_now.ensures.held;
-    }
+    λ h. placed_there c.args.turn.now.in_order c.requires.unplaced (fit x.In-Some (shape_is x.After-shape_of-shape))
+    c.serve_now.ensures

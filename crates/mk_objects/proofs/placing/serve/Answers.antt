@@ -5,7 +5,7 @@ use Rattle.mk_objects.proofs.{PlacedNews.serving_sweeps, Serves.knows_place, Ser
 use Rattle.mk_objects.proofs.placing.serve.Goals as goal
 
 pub overflow_shl-place : goal.overflow_shl-place
-overflow_shl-place c = small_index (knows_place c.args.turn.now.in_order c.requires.goes)
+overflow_shl-place c = small_index (knows_place c.args.turn.now.in_order c.requires.may.object.goes)
 
 pub used-requires-clause-enabled : goal.used-requires-clause-enabled
 used-requires-clause-enabled c = grind (arith, knows_place, place_unused, one_bit_more, small_index, used_may)
@@ -15,7 +15,7 @@ grant-requires-clause-enabled c = grind (arith, knows_place, grant_may, used_on)
 
 pub grant-requires-clause-admitted : goal.grant-requires-clause-admitted
 grant-requires-clause-admitted c =
-    let k = knows_place c.args.turn.now.in_order c.requires.goes in
+    let k = knows_place c.args.turn.now.in_order c.requires.may.object.goes in
     grant_admits k (used_on k c.make_ready.ensures.ready c.used.ensures) c.used.ensures.makes.pass.history
 
 pub grant-requires-clause-register : goal.grant-requires-clause-register
@@ -26,39 +26,35 @@ grant-requires-clause-address c = grind (arith, knows_place, grant_address, used
 
 pub address-requires-clause-page : goal.address-requires-clause-page
 address-requires-clause-page c =
-    let k = knows_place c.args.turn.now.in_order c.requires.goes in
+    let k = knows_place c.args.turn.now.in_order c.requires.may.object.goes in
     omega (arith, k.within, k.history.within_limits.pages.1)
 
 pub address-requires-clause-index : goal.address-requires-clause-index
-address-requires-clause-index c = small_index (knows_place c.args.turn.now.in_order c.requires.goes)
+address-requires-clause-index c = small_index (knows_place c.args.turn.now.in_order c.requires.may.object.goes)
 
 pub storage-requires : goal.storage-requires
 storage-requires c =
-    subst (λ (o : Object). IsSized o) (sym c.requires.shape)
-    (knows_place c.args.turn.now.in_order c.requires.goes).sized
+    subst (λ (o : Object). IsSized o) (sym c.requires.may.object.shaped)
+    (knows_place c.args.turn.now.in_order c.requires.may.object.goes).sized
 
 pub overflow_add-held : goal.overflow_add-held
 overflow_add-held c = grind (arith, knows_place, few_held, words_within)
 
 pub tally-requires-clause-enabled : goal.tally-requires-clause-enabled
 tally-requires-clause-enabled c =
-    let k = knows_place c.args.turn.now.in_order c.requires.goes in
+    let k = knows_place c.args.turn.now.in_order c.requires.may.object.goes in
     tally_may k _ (grant_on k (used_on k c.make_ready.ensures.ready c.used.ensures) c.grant.ensures)
 
 -- the last step, and the tally
 
-pub returns-clause-granted : goal.returns-clause-granted
-returns-clause-granted c =
-    let k = knows_place c.args.turn.now.in_order c.requires.goes in
-    counted k (served k c.make_ready.ensures.ready c.used.ensures c.grant.ensures c.tally.ensures)
-
-pub returns-clause-held : goal.returns-clause-held
-returns-clause-held c =
-    let k = knows_place c.args.turn.now.in_order c.requires.goes in
-    counted_held k (c.requires.held ∙ c.requires.exact) (c.storage.ensures ∙ ap (λ (o : Object). words_made o)
-    c.requires.shape) (served k c.make_ready.ensures.ready c.used.ensures c.grant.ensures c.tally.ensures)
-
-pub returns-clause-reached : goal.returns-clause-reached
-returns-clause-reached c =
-    serving_sweeps c.make_ready.ensures.ready c.make_ready.ensures.reached c.used.ensures
-    c.grant.ensures c.tally.ensures refl refl refl
+pub returns : goal.returns
+returns c =
+    let k = knows_place c.args.turn.now.in_order c.requires.may.object.goes in
+    let reached = served k c.make_ready.ensures.ready c.used.ensures c.grant.ensures c.tally.ensures in
+    record {
+      granted = counted k reached;
+      held = counted_held k (c.requires.held ∙ c.requires.may.exact) (c.storage.ensures ∙ ap (λ (o : Object).
+          words_made o) c.requires.may.object.shaped) reached;
+      reached = serving_sweeps c.make_ready.ensures.ready c.make_ready.ensures.reached c.used.ensures
+          c.grant.ensures c.tally.ensures refl refl refl;
+    }

@@ -1,16 +1,18 @@
-use Rattle.mk_objects.proofs.{JoinedLooks.{granted_behind_looks, looks_call, looks_joined}, PlacedNews.looks_then_sweep}
+use Rattle.mk_laws.proofs.Vocabulary.{arith}
+use Rattle.mk_objects.proofs.JoinedLooks.{granted_behind_looks, looks_call, looks_exact, looks_joined, looks_object}
+use Rattle.mk_objects.proofs.{JoinedLooks.{looks_pages, looks_table}, PlacedNews.{goes_on, looks_then_sweep}}
 use Rattle.mk_objects.proofs.placing.serve_now.Goals as goal
 
-pub serve-requires-clause-register : goal.serve-requires-clause-register
-serve-requires-clause-register c =
-    cc (c.requires.register, looks_call (looks_joined c.look_at-held.ensures.looks c.is_marking-marking.ensures.looks))
+pub serve-requires-clause-may : goal.serve-requires-clause-may
+serve-requires-clause-may c =
+    let looks = looks_joined c.look_at-held.ensures.looks c.is_marking-marking.ensures.looks in
+    grind (arith, looks, goes_on, looks_table, looks_pages, looks_object, looks_call, looks_exact)
 
-pub returns-clause-granted : goal.returns-clause-granted
-returns-clause-granted c =
-    granted_behind_looks (looks_joined c.look_at-held.ensures.looks c.is_marking-marking.ensures.looks)
-    c.serve.ensures.granted
-
-pub returns-clause-reached : goal.returns-clause-reached
-returns-clause-reached c =
-    looks_then_sweep (looks_joined c.look_at-held.ensures.looks c.is_marking-marking.ensures.looks)
-    c.serve.ensures.reached
+pub returns : goal.returns
+returns c =
+    let looks = looks_joined c.look_at-held.ensures.looks c.is_marking-marking.ensures.looks in
+    record {
+      granted = granted_behind_looks looks c.serve.ensures.granted;
+      held = c.serve.ensures.held;
+      reached = looks_then_sweep looks c.serve.ensures.reached;
+    }

@@ -4,26 +4,23 @@ use Rattle.mk_objects.proofs.unmapping.unmap_run.Goals as goal
 
 pub loop-distance-init : goal.loop-distance-init
 loop-distance-init c = record {
-  unmapped = unmapped_none c.args.run c.args.turn.now.in_order c.requires.decided c.requires.phase c.requires.mapped;
+  unmapped = unmapped_none c.args.turn.now.in_order c.requires.may;
 }
 
 pub head-requires-clause-enabled : goal.head-requires-clause-enabled
 head-requires-clause-enabled c =
-    let d = c.loop-distance.distance in
-    rw c.unmapped_header.ensures (unmap_may c.args.run c.args.turn.now.in_order c.requires.decided c.requires.phase
-    c.loop-distance.invariant.unmapped c.requires.stopped c.requires.freed c.loop-distance-test.true c.requires.within)
+    rw c.unmapped_header.ensures (unmap_may c.args.turn.now.in_order c.requires.may c.loop-distance.invariant.unmapped
+    c.requires.stopped c.loop-distance-test.true)
 
 pub loop-distance-preserved : goal.loop-distance-preserved
 loop-distance-preserved c =
-    let d = c.loop-distance.distance in
     let a = rw c.unmapped_header.ensures at c.head.ensures in
     record {
-      unmapped = unmaps_on c.args.run c.args.turn.now.in_order c.requires.decided c.requires.phase
-          c.loop-distance.invariant.unmapped c.loop-distance-test.true c.requires.within a;
+      unmapped = unmaps_on c.args.turn.now.in_order c.requires.may c.loop-distance.invariant.unmapped
+          c.loop-distance-test.true a;
     }
 
 pub returns : goal.returns
 returns c =
     let all : c.loop-distance.distance ≡ c.args.run.count = grind arith in
-    unmapped_all c.args.run c.args.turn.now.in_order c.requires.decided c.requires.phase
-    (rw all at c.loop-distance.invariant.unmapped)
+    unmapped_all c.args.turn.now.in_order c.requires.may (rw all at c.loop-distance.invariant.unmapped)

@@ -1,19 +1,12 @@
 use Rattle.mk_laws.proofs.Vocabulary.{arith}
-use Rattle.mk_objects.proofs.WipedRuns.{still_may, wiped_all, wiped_from, wiped_now, wipes_named, wipes_then}
-use Rattle.mk_objects.{proofs.wiping.wipe_run.Goals.{Start}, specs.Unmapping.{MayWipe}}
+use Rattle.mk_objects.proofs.WipedRuns.{wiped_all, wiped_from, wipes_from, wipes_named, wipes_then}
 use Rattle.mk_objects.proofs.wiping.wipe_run.Goals as goal
-
-may : (c : Start) → MayWipe c.args.turn.now.pass c.args.run
-may c = grind arith
 
 pub loop-part-init : goal.loop-part-init
 loop-part-init c = record { wiped = wiped_from c.args.turn.now.pass (λ i lt. absurd (omega arith)) }
 
-pub wipe_page-requires-clause-may : goal.wipe_page-requires-clause-may
-wipe_page-requires-clause-may c = grind (arith, still_may, may)
-
-pub wipe_page-requires-clause-wiped : goal.wipe_page-requires-clause-wiped
-wipe_page-requires-clause-wiped c = wiped_now c.loop-part.invariant.wiped
+pub wipe_page-requires-clause-from : goal.wipe_page-requires-clause-from
+wipe_page-requires-clause-from c = wipes_from {k = 0} c.loop-part.invariant.wiped (grind arith)
 
 pub loop-part-preserved : goal.loop-part-preserved
 loop-part-preserved c = record {

@@ -4,18 +4,18 @@ use Rattle.mk_objects.proofs.{WipedRuns.wipes_on, wiping.wipe_words.Goals.{else-
 use Rattle.mk_objects.proofs.wiping.wipe_words.Goals as goal
 
 pub loop-word-init : goal.loop-word-init
-loop-word-init c = record { wiped = wiped_from c.args.turn.now.pass c.requires.wiped }
+loop-word-init c = record { wiped = wiped_from c.args.turn.now.pass c.requires.from.wiped }
 
 pub look_on_page-found-requires-clause-enabled : goal.look_on_page-found-requires-clause-enabled
 look_on_page-found-requires-clause-enabled c = grind (arith, look_may)
 
 pub look_on_page-found-requires-clause-page : goal.look_on_page-found-requires-clause-page
-look_on_page-found-requires-clause-page c = omega (arith, c.requires.part, c.loop-word-test.true)
+look_on_page-found-requires-clause-page c = omega (arith, c.requires.on_page, c.loop-word-test.true)
 
 pub wipe-requires-clause-enabled : goal.wipe-requires-clause-enabled
 wipe-requires-clause-enabled c =
-    let near : c.loop-word.word < 64 * c.args.run.count = omega (arith, c.requires.group, c.loop-word-test.true) in
-    wipe_may c.args.turn.now.in_order c.requires.may (looks_then c.args.turn.now.in_order c.requires.may
+    let near : c.loop-word.word < 64 * c.args.run.count = omega (arith, c.requires.within, c.loop-word-test.true) in
+    wipe_may c.args.turn.now.in_order c.requires.from.may (looks_then c.args.turn.now.in_order c.requires.from.may
     c.loop-word.word c.loop-word.invariant.wiped near c.look_on_page-found.ensures.acts) near
 
 pub loop-word-preserved : goal.loop-word-preserved
@@ -23,9 +23,9 @@ loop-word-preserved c =
     let p : PassState = c.args.turn.now.pass in
     let i = c.loop-word.invariant in
     let n = c.loop-word.word in
-    let near : n < 64 * c.args.run.count = omega (arith, c.requires.group, c.loop-word-test.true) in
+    let near : n < 64 * c.args.run.count = omega (arith, c.requires.within, c.loop-word-test.true) in
     let turn = c.args.turn.now.in_order in
-    let may = c.requires.may in
+    let may = c.requires.from.may in
     let seen = looks_then turn may n i.wiped near c.look_on_page-found.ensures.acts in
     elim c.if-found-ne0.branch [
       | then-found-ne0 w ↦
