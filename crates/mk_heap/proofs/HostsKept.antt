@@ -170,7 +170,6 @@ all_home is own joined x3 exists = grind (arith, ltb-true, cases_lt)
 pub next_is_idle : {h : HostState} → IsHost h → h.callers < h.pass.table.config.callers
     → IsIdleCaller (pass_for h (Caller h.callers))
 next_is_idle {h} is lt = record {
-  caller = h.callers;
   seat = refl;
   rest = (is.rests (Caller h.callers) (is.callers h.callers (omega arith) lt)).call;
 }
@@ -178,7 +177,7 @@ next_is_idle {h} is lt = record {
 -- Nor has a caller that was joined.
 pub joined_is_idle : {h : HostState} (k : ℕ) → IsHost h → Has h.pass.seats (Caller k)
     → IsIdleCaller (pass_for h (Caller k))
-joined_is_idle k is joined = record { caller = k; seat = refl; rest = (is.rests (Caller k) joined).call }
+joined_is_idle k is joined = record { seat = refl; rest = (is.rests (Caller k) joined).call }
 
 -- What a host is whose pass is home.
 

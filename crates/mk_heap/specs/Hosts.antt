@@ -1,9 +1,11 @@
 -- What contracts see of the host, and what always holds of it.
 use Rattle.std.specs.Prelude.{◌≡◌, ℕ, ◌+◌, ◌<◌, ◌≤◌, false, List, [], ◌∷◌, ◌++◌, Option, Some, None}
 use Rattle.mk_core.specs.{declared.events.Event.Event, declared.events.Seat.Seat}
-use Rattle.mk_core.specs.{declared.events.Seat.TheVariants.{Caller, Marker, Host}, Calls.at_rest}
-use Rattle.mk_core.specs.{Moments.{Moment, flight_of, marker_at, outside}, Order.host_has_turn}
-use Rattle.mk_words.specs.{Seats.{Has, all_seats, without_seat}, Rule.no_config, States.{WordsState, PassState, now_of}}
+use Rattle.mk_core.specs.{declared.events.Seat.TheVariants.{Caller, Marker, Host}, Calls.at_rest, Growing.Grows}
+use Rattle.mk_core.specs.{History.IsHistory, Moments.{Moment, flight_of, marker_at, outside}, Order.host_has_turn}
+use Rattle.mk_words.specs.{Seats.{Has, all_seats, has_over, without_seat}, Rule.no_config}
+use Rattle.mk_words.specs.States.{WordsState, PassState, now_of}
+use Rattle.mk_turns.specs.Sweeping.{SweepsNothing}
 
 -- Its pass, and how many callers and markers were made.
 pub record HostState : Type 0 where
@@ -41,6 +43,16 @@ with_marker_made h =
 abbrev pub with_joined : HostState → PassState → List Event → HostState
 with_joined h p seen =
     record h { pass = record h.pass { seats = h.pass.seats ++ p.seats; seen = seen } }
+
+-- The host takes this pass back. What it has seen then is a history, with all that either had seen. It makes no
+-- sweeping mark, and doesn't say that all is over.
+pub record TakesBack (h : HostState) (p : PassState) (g : HostState) : Type 0 where
+  pub host : g ≡ with_joined h p g.pass.seen
+  pub history : IsHistory g.pass.table.config g.pass.seen
+  pub own : Grows h.pass.seats h.pass.seen g.pass.seen
+  pub came : Grows p.seats p.seen g.pass.seen
+  pub reached : SweepsNothing h.pass g.pass
+  pub overs : has_over g.pass.seen ≡ has_over h.pass.seen
 
 -- It has seen these events.
 abbrev pub with_seen : HostState → List Event → HostState

@@ -1,11 +1,11 @@
 //! The host: it creates callers and markers, and joins them.
 ghost use Rattle.std.specs.Prelude.{◌≡◌, ◌<◌, [], ◌∷◌, Some, IsSome, true, false};
-ghost use Rattle.mk_core.specs.{Counts.IsTidy, Growing.Grows, History.IsHistory, Ranges.is_word};
+ghost use Rattle.mk_core.specs.{Counts.IsTidy, History.IsHistory, Ranges.is_word};
 ghost use Rattle.mk_words.specs.Seats.{Has, has_over};
 ghost use Rattle.mk_caller.specs.States.{IsAtHome, IsIdleCaller};
 ghost use Rattle.mk_marker.specs.Markers.{IsMarkers, IsOut};
 ghost use Rattle.mk_turns.specs.Sweeping.{SweepsNothing};
-ghost use Rattle.mk_heap.specs.Hosts.{pass_for, with_caller_made, with_caller_out, with_marker_made, with_joined};
+ghost use Rattle.mk_heap.specs.Hosts.{TakesBack, pass_for, with_caller_made, with_caller_out, with_marker_made};
 ghost use Rattle.mk_heap.specs.{Hosts.{with_seen, IsDone}, Turns.{is_register, TellsWord}};
 ghost use Rattle.mk_core.specs.declared.events.Seat.TheVariants as seat;
 
@@ -96,12 +96,7 @@ impl Host {
         requires of_table { pass.table ≡ heap.now }
         requires alone { pass.seats ≡ pass.seat ∷ [] }
         requires idle { IsIdleCaller pass }
-        ensures host { self.new ≡ with_joined self.old pass self.new.pass.seen }
-        ensures history { IsHistory self.new.pass.table.config self.new.pass.seen }
-        ensures own { Grows self.old.pass.seats self.old.pass.seen self.new.pass.seen }
-        ensures came { Grows pass.seats pass.seen self.new.pass.seen }
-        ensures reached { SweepsNothing self.old.pass self.new.pass }
-        ensures overs { has_over self.new.pass.seen ≡ has_over self.old.pass.seen }
+        ensures { TakesBack self.old pass self.new }
     {
         self.join(heap, pass);
     }
@@ -129,12 +124,7 @@ impl Host {
         requires alone { pass.seats ≡ pass.seat ∷ [] }
         requires marker { IsMarkers pass }
         requires out { IsOut pass }
-        ensures host { self.new ≡ with_joined self.old pass self.new.pass.seen }
-        ensures history { IsHistory self.new.pass.table.config self.new.pass.seen }
-        ensures own { Grows self.old.pass.seats self.old.pass.seen self.new.pass.seen }
-        ensures came { Grows pass.seats pass.seen self.new.pass.seen }
-        ensures reached { SweepsNothing self.old.pass self.new.pass }
-        ensures overs { has_over self.new.pass.seen ≡ has_over self.old.pass.seen }
+        ensures { TakesBack self.old pass self.new }
     {
         pass.is_in_order();
         self.join(heap, pass);
@@ -145,17 +135,11 @@ impl Host {
         requires one_table { self.old.pass.table ≡ heap.now }
         requires of_table { pass.table ≡ heap.now }
         requires done { IsDone pass }
-        ensures host { self.new ≡ with_joined self.old pass self.new.pass.seen }
-        ensures history { IsHistory self.new.pass.table.config self.new.pass.seen }
-        ensures own { Grows self.old.pass.seats self.old.pass.seen self.new.pass.seen }
-        ensures came { Grows pass.seats pass.seen self.new.pass.seen }
-        ensures reached { SweepsNothing self.old.pass self.new.pass }
-        ensures overs { has_over self.new.pass.seen ≡ has_over self.old.pass.seen }
+        ensures { TakesBack self.old pass self.new }
     {
         let mut home = take_home(&mut self.pass);
         home.is_in_order();
         Words::join(&heap.words, &mut home, pass);
-        home.is_in_order();
         self.pass = Some(home);
     }
 
