@@ -13,7 +13,7 @@ use Rattle.mk_alloc.proofs.OwnGives.{GivesNone, doing_gives, gives_append, other
 use Rattle.mk_alloc.proofs.Parts.{IsHolders, in_turn_then, others_lack, seen_after, seen_by, seen_then}
 use Rattle.mk_alloc.{proofs.{Going.IsCallers, ListParts.{Lacks, SomeKind}}, specs.TurnCycles.{CallIsExact}}
 use Rattle.mk_laws.proofs.{Vocabulary.{is_under_turn, ◌≤◌}, Actors.give_phase}
-use Rattle.mk_caller.{proofs.Idle.{idle}, specs.States.{IsAtRest, IsIdleCaller, never_of}}
+use Rattle.mk_caller.specs.States.{IsHomePass, IsIdleCaller, never_of}
 use Rattle.mk_words.{proofs.OverPhases.{end_is_behind_over}, specs.{Seats.CallersAreBeforeOver, Steps.may_decide}}
 use Rattle.mk_words.proofs.{Seats.others_own, TurnSteps.takes as takes_turn, Undecided.decides_nothing}
 
@@ -217,12 +217,12 @@ module _ {o : Op} {a : Answer} {p taken done q : PassState} (g : GivenBack o a p
 -- A caller may take the turn for a New or a Free, and finds no stop, and not the end of all.
 
 pub callers : {p : PassState} → IsIdleCaller p → IsCallers p
-callers {p} idle = own_seat p idle.caller idle.seat
+callers {p} idle = own_seat p (caller_of_pass p) idle.seat
 
 -- the turn that an idle caller took, from the pass that it lent
-pub took_by : {home p taken : PassState} {o : Op} → home ≡ p → IsAtRest p
+pub took_by : {home p taken : PassState} {o : Op} → home ≡ p → IsHomePass p
     → TakesTurn home (Some o) taken → Taken o p taken
-took_by {p = p} {taken = taken} {o = o} same rests takes = grind (arith, callers, idle)
+took_by {p = p} {taken = taken} {o = o} same of_home takes = grind (arith, callers)
 
 pub take_allowed : {p : PassState} (o : Op) → IsIdleCaller p → caller_of_pass p < p.table.config.callers
     → is_under_turn o ≡ true → has_operands p.table.config o ≡ true → IsEnabledTo p (Step.Take (Some o))

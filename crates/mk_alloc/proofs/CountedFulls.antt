@@ -11,15 +11,16 @@ use Rattle.mk_alloc.proofs.Vocabulary.{has_place, in_a_word, is_pending_free_at,
 use Rattle.mk_alloc.proofs.Vocabulary.{known_left, left, lt-ltb, made, meets_enabled, new_is_acting, now_of, object_for}
 use Rattle.mk_alloc.proofs.Vocabulary.{own_before, own_calls, place_now_for, refl, same_config, steady_of, subst}
 use Rattle.mk_alloc.proofs.Vocabulary.{sum_by_push, sym, true, unchanged, world_of, [], ◌++◌, ◌+◌, ◌∙◌, ◌∷◌, ◌≡◌}
-use Rattle.mk_alloc.proofs.Going.{IsCallers, but_full, exact_kept, same_phase, tidy_kept}
-use Rattle.mk_alloc.proofs.{SeekingTurns.{new_callers, still_nowhere, unplaced_kept}, Stretches.{SomeKinds, does_both}}
-use Rattle.mk_alloc.proofs.{Stretches.{does_once, widened}, CalledTurns.step_adds_none, FreedTurns.given_is_decided}
-use Rattle.mk_alloc.proofs.{FullLeaves.{leaves_then, made_leaves}, GrantParts.{calm_last, room_lacks}}
-use Rattle.mk_alloc.proofs.{OneCycles.begins_none_by, Parts.{Part, before_act}, PlacedTurns.none_freed_yet}
+use Rattle.mk_alloc.proofs.{FullLeaves.{leaves_then, made_leaves}, Going.{IsCallers, but_full, exact_kept, same_phase}}
+use Rattle.mk_alloc.proofs.{Going.tidy_kept, SeekingTurns.{new_callers, still_nowhere, unplaced_kept}}
+use Rattle.mk_alloc.proofs.{Stretches.{SomeKinds, does_both, does_once, widened}, CalledTurns.step_adds_none}
+use Rattle.mk_alloc.proofs.{FreedTurns.given_is_decided, GrantParts.{calm_last, room_lacks}, OneCycles.begins_none_by}
+use Rattle.mk_alloc.proofs.{Parts.Part, PlacedTurns.none_freed_yet}
 use Rattle.mk_laws.proofs.{Vocabulary.{Tally, Word, is_new_at, ◌-◌, ◌^◌}, InvariantHistories.first_fit_finds_the_place}
 use Rattle.mk_laws.proofs.LayoutHolders.{seat_operands}
 use Rattle.mk_core.specs.History.{IsAdmittedBehind}
-use Rattle.mk_cycle.{proofs.{BeginSteps.none_held_kept, KeptInParts.gates_then}, specs.TurnKeeps.{done_of}}
+use Rattle.mk_cycle.proofs.{Allowed.in_turn_before, BeginSteps.none_held_kept, KeptInParts.gates_then}
+use Rattle.mk_cycle.specs.TurnKeeps.{done_of}
 use Rattle.mk_objects.proofs.{Looks.acting_now, MayAct.new_step_admitted, Reaching.own_adds, Takes.unplaced_settled}
 use Rattle.mk_words.{proofs.Seats.{others_own}, specs.Steps.{Finds, IsAdmittedTo}}
 
@@ -41,10 +42,10 @@ raised_so n v f g is raised more = omega arith
 module _ {p p1 p2 : PassState} {n v : ℕ} (quiet : IsQuiet p) (u : IsUnplaced p) (look : Acts p (Step.Look Word.Full) p1)
     (finds : Finds p (Step.Look Word.Full) n p1) (tallies : Acts p1 (Step.Tally Tally.Full v) p2) where
   k1 : LeavesTurn unchanged p p1
-  k1 = calm_keeps p _ p1 look (before_act look) look.makes.pass.history refl quiet.free unchanged refl
+  k1 = calm_keeps p _ p1 look (in_turn_before look) look.makes.pass.history refl quiet.free unchanged refl
 
   k2 : LeavesTurn but_full p1 p2
-  k2 = calm_keeps p1 (Step.Tally Tally.Full v) p2 tallies (before_act tallies) tallies.makes.pass.history refl
+  k2 = calm_keeps p1 (Step.Tally Tally.Full v) p2 tallies (in_turn_before tallies) tallies.makes.pass.history refl
       (free_then p p1 k1.call quiet.free) but_full refl
 
   steady : but_full (steady_of (world_of p2)) ≡ but_full (steady_of (world_of p))
@@ -141,7 +142,7 @@ module _ {p p1 p2 : PassState} {n v : ℕ} (quiet : IsQuiet p) (u : IsUnplaced p
             ∙ ap (λ (x : Placing). has_place x) tallied_unplaced.placing;
         gone =
             ap (λ (x : Option RunPages). is_run_gone (now_of q).words x)
-            (ap (λ (h : Holding). h.freed) holding_q ∙ none_freed_yet (before_act full) tallied_unplaced.new);
+            (ap (λ (h : Holding). h.freed) holding_q ∙ none_freed_yet (in_turn_before full) tallied_unplaced.new);
       };
       phase = same_phase p q (ap (λ (s : Steady). s.phase) all_steady) quiet.phase;
       gates =
@@ -160,7 +161,9 @@ module _ {p p1 p2 : PassState} {n v : ℕ} (quiet : IsQuiet p) (u : IsUnplaced p
     does = does_both (does_once look.makes refl) (does_both (does_once tallies.makes refl) (does_once full.makes refl))
 
     part : Part counts_full p q
-    part = record { turn = before_act look; stays = λ x h. grind arith; does = does; history = full.makes.pass.history }
+    part =
+        record
+        { turn = in_turn_before look; stays = λ x h. grind arith; does = does; history = full.makes.pass.history }
 
     pub full_begins_none : BeginsNone p q
     full_begins_none = begins_none_by part (λ x h. grind arith)

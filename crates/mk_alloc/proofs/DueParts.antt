@@ -100,16 +100,14 @@ older_in {p} {q} t seat quiet e history = elim quiet.phase [
 -- One `begin`, with what stands before it and after.
 pub record RunIn (on : Bool) (p q : PassState) : Type 0 where
   pub goes : TurnGoesOn None p q
-  pub first : List Event
-  pub begin : Event
-  pub second : List Event
-  pub is : q.seen ≡ p.seen ++ (first ++ begin ∷ second)
-  pub begins : is_begin begin.step ≡ true
-  pub none_first : Lacks is_begin first
-  pub none_second : Lacks is_begin second
-  pub stopped : on ≡ false → EndsIn second
-  pub goes_on : on ≡ true → Lacks finishes second
-  pub older : IsAtPhase p 1 → At is_end first
+  pub more : List Event
+  pub is : q.seen ≡ p.seen ++ more
+  pub begin : At is_begin more
+  pub none_before : Lacks is_begin begin.before
+  pub none_behind : Lacks is_begin begin.behind
+  pub stopped : on ≡ false → EndsIn begin.behind
+  pub goes_on : on ≡ true → Lacks finishes begin.behind
+  pub older : IsAtPhase p 1 → At is_end begin.before
 
 pub no_close : (es : List Event) → Lacks finishes es → Lacks is_close es
 no_close [] h = refl
@@ -139,16 +137,19 @@ module _ {on : Bool} {p q : PassState} (t : IsTurn p) (seat : IsCallers p) (quie
       → (on ≡ false → EndsIn rest) → (on ≡ true → Lacks finishes rest) → RunIn on p q
   with_rest rest is none goes stopped goes_on = record {
     goes = goes;
-    first = old.more ++ begun.before;
-    begin = begun.begin;
-    second = begun.behind ++ rest;
+    more = (old.more ++ (begun.before ++ begun.begin ∷ begun.behind)) ++ rest;
     is =
         seen_then p.seen run.begun.seen q.seen _ rest
-        (seen_then p.seen run.idle.seen run.begun.seen old.more _ old.is begun.is) is
-        ∙ ap (λ (l : List Event). p.seen ++ l) (run_list old.more begun.before begun.behind rest begun.begin);
-    begins = begun.begins;
-    none_first = lacks_append is_begin old.more begun.before old.begins_none begun.none_before;
-    none_second = lacks_append is_begin begun.behind rest begun.none_behind none;
+        (seen_then p.seen run.idle.seen run.begun.seen old.more _ old.is begun.is) is;
+    begin = record {
+      before = old.more ++ begun.before;
+      event = begun.begin;
+      behind = begun.behind ++ rest;
+      is = run_list old.more begun.before begun.behind rest begun.begin;
+      of_kind = begun.begins;
+    };
+    none_before = lacks_append is_begin old.more begun.before old.begins_none begun.none_before;
+    none_behind = lacks_append is_begin begun.behind rest begun.none_behind none;
     stopped = λ off. ends_behind begun.behind (no_close begun.behind begun.finishes_none) (stopped off);
     goes_on = λ keeps. lacks_append finishes begun.behind rest begun.finishes_none (goes_on keeps);
     older = λ one. longer_at begun.before (old.ended one);

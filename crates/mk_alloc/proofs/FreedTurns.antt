@@ -1,25 +1,25 @@
 -- What a Free is answered, and that its turn may go on and be given back.
-use Rattle.mk_alloc.proofs.Vocabulary.{Answer, At, BeginsTurn, Bool, Config, DecidesFree, Event, FreeIsExact}
-use Rattle.mk_alloc.proofs.Vocabulary.{FreesFirst, FreesObject, Has, Holding, IsAnsweredDouble, IsDue, IsDueIn}
-use Rattle.mk_alloc.proofs.Vocabulary.{IsDueSince, IsFresh, IsHistory, IsOutOfStop, IsTurn, List, Makes, Op, PassState}
-use Rattle.mk_alloc.proofs.Vocabulary.{Placing, RunsIfDue, Seat, Some, Stage, Step, TakesTurn, TalliesAreTidy}
-use Rattle.mk_alloc.proofs.Vocabulary.{TurnGoesOn, TurnOf, ℕ, ap, append_assoc, append_cancel_left, arith, at_rest}
-use Rattle.mk_alloc.proofs.Vocabulary.{call_of, caller_of_pass, cases_Bool, does_wider, false, finishes, has_place}
-use Rattle.mk_alloc.proofs.Vocabulary.{has_step, inl, inr, is_begin, is_end, is_freeing, is_loading, is_of_cycle}
-use Rattle.mk_alloc.proofs.Vocabulary.{is_pending_free_at, none_is_held, now_of, or_from, or_parts, pass_before}
-use Rattle.mk_alloc.proofs.Vocabulary.{phase_of, refl, same_config, subst, sym, true, turn_stays, [], ⊎_elim, ◌++◌, ◌<◌}
-use Rattle.mk_alloc.proofs.{Vocabulary.{◌∙◌, ◌∷◌, ◌≡◌}, CalledTurns.{GivenBack, Taken, called, lacks_given}}
-use Rattle.mk_alloc.proofs.CalledTurns.{phase_taken, registers_taken, taken_callers, taken_is, taken_turn, turn_of}
-use Rattle.mk_alloc.proofs.{CalledTurns.within_is, DueParts.{RunIn, at_behind, end_at, ends_before, run_in, run_list}}
+use Rattle.mk_alloc.proofs.Vocabulary.{Answer, At, BeginsTurn, Bool, Config, Event, FreeIsExact, FreesFirst}
+use Rattle.mk_alloc.proofs.Vocabulary.{FreesObject, Has, Holding, IsAnsweredDouble, IsDue, IsDueIn, IsDueSince, IsFresh}
+use Rattle.mk_alloc.proofs.Vocabulary.{IsHistory, IsOutOfStop, IsTurn, List, Makes, Op, PassKeeps, PassState, Placing}
+use Rattle.mk_alloc.proofs.Vocabulary.{RunsIfDue, Seat, Some, Stage, Step, TakesTurn, TalliesAreTidy, TurnGoesOn}
+use Rattle.mk_alloc.proofs.Vocabulary.{TurnOf, ℕ, ap, append_assoc, append_cancel_left, arith, at_rest, call_of}
+use Rattle.mk_alloc.proofs.Vocabulary.{caller_of_pass, cases_Bool, does_wider, false, finishes, has_place, has_step}
+use Rattle.mk_alloc.proofs.Vocabulary.{inl, inr, is_begin, is_end, is_of_cycle, is_pending_free_at, none_is_held}
+use Rattle.mk_alloc.proofs.Vocabulary.{now_of, or_from, or_parts, pass_before, phase_of, refl, same_config, subst, sym}
+use Rattle.mk_alloc.proofs.Vocabulary.{true, turn_stays, [], ⊎_elim, ◌++◌, ◌<◌, ◌∙◌, ◌∷◌, ◌≡◌}
+use Rattle.mk_alloc.proofs.CalledTurns.{GivenBack, Taken, called, lacks_given, phase_taken, registers_taken}
+use Rattle.mk_alloc.proofs.CalledTurns.{taken_callers, taken_is, taken_turn, turn_of, within_is}
+use Rattle.mk_alloc.proofs.DueParts.{RunIn, at_behind, end_at, ends_before, run_in, run_list}
 use Rattle.mk_alloc.proofs.{Going.{IsCallers, callers_then, same_phase, then_on}, ListParts.{InFirst, InSecond, IsAt}}
 use Rattle.mk_alloc.proofs.ListParts.{Lacks, SomeKind, cycle_in, lacks_append, lacks_at, lacks_first, none_at, only_at}
 use Rattle.mk_alloc.proofs.{ListParts.stands, Parts.{Part, part_lacks, seen_by, seen_then}}
+use Rattle.mk_alloc.{proofs.UnsweptTurns.{kinds_by_engine, kinds_then, turn_by_engine}, specs.TurnCycles.{CycleIsOn}}
 use Rattle.mk_alloc.proofs.{CycleParts.{EndsIn, begins_held}, Stretches.{SomeKinds, Within}}
 use Rattle.mk_laws.proofs.Vocabulary.{register_at}
 use Rattle.mk_never.specs.Admitted.{IsBase}
 use Rattle.mk_core.specs.Cycles.{BeginsAndEndsIn, BeginsIn}
-use Rattle.mk_alloc.specs.TurnCycles.{CycleIsOn}
-use Rattle.mk_objects.specs.{Retired.{FindsFreed, Retires}, Retiring.IsUnloaded}
+use Rattle.mk_objects.specs.{Retired.{DecidesFree, FindsFreed, Retires}, Retiring.{IsUnloaded, is_freeing, is_loading}}
 use Rattle.mk_caller.specs.States as caller
 
 -- What the turn of a Free does with cycles, by the events after its `take`.
@@ -55,14 +55,11 @@ module _ (on : Bool) {c : Config} {s : Seat} {es : List Event} (t : TurnOf c s e
       }
 
   -- One that is due begins one cycle.
-  pub due_exact : (xs : List Event) (begin : Event) (ys : List Event) → t.behind ≡ xs ++ begin ∷ ys
-      → is_begin begin.step ≡ true → Lacks is_begin xs → Lacks is_begin ys → (on ≡ false → EndsIn ys)
-      → (on ≡ true → Lacks finishes ys) → (CycleIsOn t → At is_end xs) → FreesFirst t → FreeIsExact on t
-  due_exact xs begin ys is begins none_before none_behind stopped goes_on older frees = record {
-    begins = (
-      (λ b. frees.due),
-      (λ d. record { before = xs; event = begin; behind = ys; is = is; of_kind = begins }),
-    );
+  pub due_exact : (first : BeginsIn t) → Lacks is_begin first.before → Lacks is_begin first.behind
+      → (on ≡ false → EndsIn first.behind) → (on ≡ true → Lacks finishes first.behind)
+      → (CycleIsOn t → At is_end first.before) → FreesFirst t → FreeIsExact on t
+  due_exact first none_before none_behind stopped goes_on older frees = record {
+    begins = ((λ b. frees.due), (λ d. first));
     first = λ d. frees;
     undue = λ n. absurd (n frees.due);
     stopped = λ off b. ended (stopped off);
@@ -75,15 +72,21 @@ module _ (on : Bool) {c : Config} {s : Seat} {es : List Event} (t : TurnOf c s e
     older = λ keeps one b. subst (λ (l : List Event). At is_end l) (sym (there b).before_is) (older one);
   }
     where
-      there : (b : BeginsIn t) → IsAt xs ys b.before b.behind
+      there : (b : BeginsIn t) → IsAt first.before first.behind b.before b.behind
       there b =
-          only_at is_begin xs begin ys none_before none_behind
-          (record { before = b.before; event = b.event; behind = b.behind; is = sym is ∙ b.is; of_kind = b.of_kind })
+          only_at is_begin first.before first.event first.behind none_before none_behind (record {
+            before = b.before;
+            event = b.event;
+            behind = b.behind;
+            is = sym first.is ∙ b.is;
+            of_kind = b.of_kind;
+          })
 
-      ended : EndsIn ys → BeginsAndEndsIn t
+      ended : EndsIn first.behind → BeginsAndEndsIn t
       ended e =
-          cycle_in _ xs e.to_close e.to_release e.to_end _ begin e.close e.release e.end (is ∙ ap (λ (l : List Event).
-          xs ++ begin ∷ l) e.is) begins e.closes e.releases e.ends e.none_closed e.none_released e.none_ended
+          cycle_in _ first.before e.to_close e.to_release e.to_end _ first.event e.close e.release e.end
+          (first.is ∙ ap (λ (l : List Event). first.before ++ first.event ∷ l) e.is) first.of_kind e.closes e.releases
+          e.ends e.none_closed e.none_released e.none_ended
 
 -- The turn of a Free, from its `take` to where it is given back.
 
@@ -203,14 +206,21 @@ module _ {p taken decided done q : PassState} {r : ℕ} {a : Answer} (g : GivenB
   pub runs_exactly : {flag : Bool} → phase_of (now_of decided).words ≡ phase_of (now_of taken).words
       → RunIn flag decided done → IsDueSince taken decided → FreeIsExact flag turn
   runs_exactly {flag} phase run due =
-      due_exact flag turn (x.does.more ++ run.first) run.begin (run.second ++ g.gives.others) (behind_is
-      (run.first ++ run.begin ∷ run.second) run.is ∙ run_list x.does.more run.first run.second g.gives.others run.begin)
-      run.begins (lacks_append is_begin x.does.more run.first
-      (part_lacks is_begin x begins_held (λ y h. let k = within y h in grind arith)) run.none_first)
-      (lacks_append is_begin run.second g.gives.others run.none_second (lacks_given g is_begin begins_held))
-      (λ off. ends_before g.gives.others (run.stopped off)) (λ keeps. lacks_append finishes run.second g.gives.others
+      let b = run.begin in
+      due_exact flag turn (record {
+        before = x.does.more ++ b.before;
+        event = b.event;
+        behind = b.behind ++ g.gives.others;
+        is =
+            behind_is run.more run.is ∙ ap (λ (l : List Event). (x.does.more ++ l) ++ g.gives.others) b.is
+            ∙ run_list x.does.more b.before b.behind g.gives.others b.event;
+        of_kind = b.of_kind;
+      }) (lacks_append is_begin x.does.more b.before
+      (part_lacks is_begin x begins_held (λ y h. let k = within y h in grind arith)) run.none_before)
+      (lacks_append is_begin b.behind g.gives.others run.none_behind (lacks_given g is_begin begins_held))
+      (λ off. ends_before g.gives.others (run.stopped off)) (λ keeps. lacks_append finishes b.behind g.gives.others
       (run.goes_on keeps) (lacks_given g finishes (λ x h. grind arith))) (λ one. at_behind x.does.more
-      (run.older (phase ∙ sym (phase_taken g) ∙ one))) (frees_first (run.first ++ run.begin ∷ run.second) run.is due)
+      (run.older (phase ∙ sym (phase_taken g) ∙ one))) (frees_first run.more run.is due)
 
 -- The register that the turn's Free loads is null or points to a first word, as before.
 pub unloaded : {p taken : PassState} {r : ℕ} → IsCallers p → Has p.seats p.seat
@@ -263,8 +273,12 @@ module _ {flag due : Bool} {r : ℕ} {p taken retired done : PassState} (f : Fre
   runs is = run_in f.decided seat_decided decides.quiet (f.run.runs is) f.history
 
   module _ {q : PassState} (gives : Makes done Step.Give q) (rests : call_of q ≡ at_rest) where
-    abbrev pub given : GivenBack (Op.Free r) Answer.Done p taken done q
+    abbrev given : GivenBack (Op.Free r) Answer.Done p taken done q
     given = record { took = f.took; fresh = f.begins.fresh; on = freed; gives = gives; rests = rests }
+
+    pub freed_by_engine : {sweeps : Bool} {begins : Config → Seat → List Event → List Event → Type 0}
+        → PassKeeps sweeps begins retired done → PassKeeps sweeps begins p q
+    freed_by_engine run = turn_by_engine given (kinds_then (λ x h. grind arith) f.retires.decides.does run)
 
     told : IsDueIn (turn_of given) → due ≡ true
     told is_due = elim (cases_Bool due) [
@@ -275,7 +289,7 @@ module _ {flag due : Bool} {r : ℕ} {p taken retired done : PassState} (f : Fre
     tells : due ≡ true → IsDueIn (turn_of given)
     tells is =
         let x = runs is in
-        due_in given (λ x h. h) freeing (x.first ++ x.begin ∷ x.second) x.is (f.retires.is_due is)
+        due_in given (λ x h. h) freeing x.more x.is (f.retires.is_due is)
 
     pub freed_object : FreesObject flag p r due q
     freed_object = record {
@@ -297,8 +311,12 @@ module _ {r : ℕ} {p taken done : PassState} (f : Refuses r p taken done) where
   refused = decided_on f.begins.fresh f.begins.phase f.begins.tidy (λ x h. grind arith) f.finds.decides
 
   module _ {q : PassState} (gives : Makes done Step.Give q) (rests : call_of q ≡ at_rest) where
-    abbrev pub given_double : GivenBack (Op.Free r) Answer.Double p taken done q
+    abbrev given_double : GivenBack (Op.Free r) Answer.Double p taken done q
     given_double = record { took = f.took; fresh = f.begins.fresh; on = refused; gives = gives; rests = rests }
+
+    pub refused_by_engine : {sweeps : Bool} {begins : Config → Seat → List Event → List Event → Type 0}
+        → PassKeeps sweeps begins p q
+    refused_by_engine = turn_by_engine given_double (kinds_by_engine (λ x h. grind arith) f.finds.decides.does)
 
     loading : Part is_loading taken done
     loading = record {

@@ -5,17 +5,16 @@ use Rattle.mk_alloc.proofs.Vocabulary.{KeepsGates, LeavesTurn, List, Looks, None
 use Rattle.mk_alloc.proofs.Vocabulary.{PlacedAllocation, Some, Stage, Steady, Step, TalliesAreTidy, TurnGoesOn, ℕ}
 use Rattle.mk_alloc.proofs.Vocabulary.{and_from, ap, append-nil, arith, call_of, caller_of_pass, calm_keeps}
 use Rattle.mk_alloc.proofs.Vocabulary.{does_nothing, ends, entry_of, eq-eqb, free_then, fresh_words_of, full_answers}
-use Rattle.mk_alloc.proofs.Vocabulary.{gates_behind, gone_is_unmapped, has_place, held_by_allocations, in_a_word, inl}
-use Rattle.mk_alloc.proofs.Vocabulary.{inr, is_look, is_pending_free, now_of, off_four, or_left, own_calls, phase_of}
-use Rattle.mk_alloc.proofs.Vocabulary.{refl, releases, same_config, steady_of, subst, sym, true, turn_stays, unchanged}
-use Rattle.mk_alloc.proofs.Vocabulary.{world_of, ◌++◌, ◌==◌, ◌||◌, ◌∙◌, ◌≡◌, ◌⊎◌}
-use Rattle.mk_laws.proofs.Vocabulary.{Word}
+use Rattle.mk_alloc.proofs.Vocabulary.{gates_behind, gone_is_unmapped, held_by_allocations, in_a_word, inl, inr}
+use Rattle.mk_alloc.proofs.Vocabulary.{is_look, now_of, off_four, or_left, own_calls, phase_of, refl, releases}
+use Rattle.mk_alloc.proofs.Vocabulary.{same_config, steady_of, subst, sym, true, turn_stays, unchanged, world_of, ◌++◌}
+use Rattle.mk_alloc.proofs.{Vocabulary.{◌==◌, ◌||◌, ◌∙◌, ◌≡◌, ◌⊎◌}, CalmStretches.{cycles_in_turn, goes_undecided}}
+use Rattle.mk_alloc.proofs.{CalmStretches.is_of_cycles, Stretches.{does_both, does_once, does_stretch, widened}}
+use Rattle.mk_alloc.proofs.{CycleParts.{begin_done, finish_done}, Parts.{Part, seen_behind}}
+use Rattle.mk_laws.proofs.Vocabulary.{OwnCycle, Word}
 use Rattle.mk_core.specs.Counts.{TalliesAreExact}
-use Rattle.mk_alloc.proofs.CalmStretches.{cycles_in_turn, goes_undecided, is_of_cycles}
-use Rattle.mk_alloc.proofs.Stretches.{does_both, does_once, does_stretch, widened}
-use Rattle.mk_alloc.proofs.{CycleParts.begin_done, CycleParts.finish_done, Parts.Part, Parts.seen_behind}
-use Rattle.mk_cycle.proofs.{Allowed.look_allowed, Allowed.protocol, BeginSteps.none_held_kept, MayAct.may_act}
-use Rattle.mk_cycle.specs.EngineLaw.{IsFreeForCycle}
+use Rattle.mk_cycle.proofs.{Allowed.{look_allowed, protocol}, BeginSteps.none_held_kept, MayAct.may_act}
+use Rattle.mk_cycle.specs.{EngineLaw.IsFreeForCycle, TurnKeeps.{IsGone, done_of}}
 use Rattle.mk_words.proofs.Tallies.{settled_tallies}
 
 -- What keeps a turn quiet, and that a quiet one may look at the phase and, once its call is decided, be given back.
@@ -80,13 +79,14 @@ quiet_kept quiet k gates =
 pub quiet_looked : {p q : PassState} → IsQuiet p → Looks p q → IsQuiet q
 quiet_looked quiet k = quiet_kept quiet k.keeps k.gates
 
+-- Of what was done in the turn a cycle's begin and its end change the own cycle alone.
+still_free : {p q : PassState} {cycle : OwnCycle} → IsFreeForCycle p → call_of q ≡ call_of p
+    → done_of (now_of q) ≡ record (done_of (now_of p)) { cycle = cycle } → IsGone q → IsFreeForCycle q
+still_free free call done gone = grind (arith, Done)
+
 pub quiet_begun : {p q : PassState} → IsQuiet p → BeginsCycle p q → IsQuiet q
 quiet_begun {p} {q} quiet b = record {
-  free = record {
-    decided = ap is_pending_free b.call ∙ quiet.free.decided;
-    unplaced = ap (λ (x : Done). has_place x.placing) b.done ∙ quiet.free.unplaced;
-    gone = b.gone;
-  };
+  free = still_free quiet.free b.call b.done b.gone;
   phase = inr (ap (λ (s : Steady). s.phase) b.steady);
   gates = none_held_kept p q b.pass b.gates quiet.gates;
   exact = b.exact quiet.exact;
@@ -95,11 +95,7 @@ quiet_begun {p} {q} quiet b = record {
 
 pub quiet_finished : {p q : PassState} → IsQuiet p → FinishesCycle p q → IsQuiet q
 quiet_finished {p} {q} quiet f = record {
-  free = record {
-    decided = ap is_pending_free f.call ∙ quiet.free.decided;
-    unplaced = ap (λ (x : Done). has_place x.placing) f.done ∙ quiet.free.unplaced;
-    gone = f.gone;
-  };
+  free = still_free quiet.free f.call f.done f.gone;
   phase = inl f.phase;
   gates = cc (same_config p q f.pass, f.gates);
   exact = f.exact quiet.exact;

@@ -1,12 +1,12 @@
 -- Parts of a turn, one after the other: each pass knows whose turn it is, and what its part lacks.
-use Rattle.mk_alloc.proofs.Vocabulary.{Acts, Does, Event, Has, IsHistory, IsTurn, List, Makes, Moment, PassState, Step}
+use Rattle.mk_alloc.proofs.Vocabulary.{Does, Event, Has, IsHistory, IsTurn, List, Makes, Moment, PassState, Step}
 use Rattle.mk_alloc.proofs.Vocabulary.{actor_of, ap, append_assoc, cases_Bool, does_nothing, does_step}
 use Rattle.mk_alloc.proofs.Vocabulary.{earlier_part_is_history, event_of, false, has_step, inl, inr, left, or_from}
-use Rattle.mk_alloc.proofs.Vocabulary.{own_before, pass_before, refl, subst, sym, true, turn_stays, [], ⊎_elim, ◌++◌}
-use Rattle.mk_alloc.proofs.{Vocabulary.{◌∙◌, ◌∷◌, ◌≡◌, ◌≢◌}, Stretches.{AreOfTurn, IsOwn, SomeKinds, Stretch}}
-use Rattle.mk_alloc.proofs.Stretches.{does_once, does_stretch, first_of, holds_behind, holds_none, no_kinds}
-use Rattle.mk_alloc.proofs.{Stretches.others_stretch, ListParts.{Lacks, SomeKind, lacks_append}}
+use Rattle.mk_alloc.proofs.Vocabulary.{refl, subst, sym, true, turn_stays, [], ⊎_elim, ◌++◌, ◌∙◌, ◌∷◌, ◌≡◌, ◌≢◌}
 use Rattle.mk_laws.proofs.{Basics.is_holders, FramesHolders.acts_as_holder}
+use Rattle.mk_alloc.proofs.Stretches.{AreOfTurn, IsOwn, SomeKinds, Stretch, does_once, does_stretch, first_of}
+use Rattle.mk_alloc.proofs.Stretches.{holds_behind, holds_none, no_kinds, others_stretch}
+use Rattle.mk_alloc.proofs.ListParts.{Lacks, SomeKind, lacks_append}
 
 -- What stretches of a turn lack, by their kinds of step: what they don't do, others don't do either, where it is the
 -- turn's holder's.
@@ -95,10 +95,6 @@ behind_part {kinds} {p} {q} x = in_turn_then kinds p q x.stays x.turn x.does x.h
 
 pub behind_step : {p : PassState} {s : Step} {q : PassState} → IsTurn p → Makes p s q → turn_stays s ≡ true → IsTurn q
 behind_step {p} {s} {q} t m stays = in_turn_then turn_stays p q (λ x h. h) t (does_once m stays) m.pass.history
-
--- before a step of the turn's holder
-pub before_act : {p : PassState} {s : Step} {q : PassState} → Acts p s q → IsTurn p
-before_act a = record { own = own_before a.makes; holds = a.holds; history = (pass_before a.makes).history }
 
 -- what a part lacks
 

@@ -1,19 +1,20 @@
 -- A New seeks room: the parts of its turn one after the other.
 use Rattle.mk_laws.proofs.Vocabulary.{eqb-false, inr, is_undecided_new}
-use Rattle.mk_alloc.proofs.Vocabulary.{Answer, AsksRoom, BeginsCycle, Config, Does, Done, FinishesCycle, FitsNowhere}
-use Rattle.mk_alloc.proofs.Vocabulary.{Flight, HasNoPlace, IsAtPhase, IsHistory, IsOutOfStop, IsPlaced, IsQuiet, IsTurn}
-use Rattle.mk_alloc.proofs.Vocabulary.{IsUnplaced, List, Looks, Misfits, None, Object, OnlyLooks, Option, PassState}
-use Rattle.mk_alloc.proofs.Vocabulary.{PlacedAllocation, Seeks, Some, Steady, TurnGoesOn, ℕ, acting_caller, ap, arith}
-use Rattle.mk_alloc.proofs.Vocabulary.{call_of, false, is_look, looks_left, new_is_acting, now_of, object_for}
-use Rattle.mk_alloc.proofs.Vocabulary.{object_made, only_seen, own_seat, phase_of, place_after, place_now_for, refl}
-use Rattle.mk_alloc.proofs.{Vocabulary.{subst, world_of, ◌==◌, ◌∙◌, ◌≡◌}, Going.{IsCallers, begun_on, finished_on}}
-use Rattle.mk_alloc.proofs.{Going.{look_part, looked_on, on_then, same_phase}, GrantParts.{calm_last, finish_room}}
-use Rattle.mk_alloc.proofs.GrantParts.{grants_none, last_behind, no_place, none_behind, none_last, none_then}
-use Rattle.mk_alloc.proofs.GrantParts.{nowhere_then, part_begun, room_kept, room_lacks, room_then}
+use Rattle.mk_alloc.proofs.Vocabulary.{Answer, AsksRoom, BeginsCycle, Bool, Config, Does, Done, FinishesCycle}
+use Rattle.mk_alloc.proofs.Vocabulary.{FitsNowhere, Flight, HasNoPlace, IsAtPhase, IsHistory, IsOutOfStop, IsPlaced}
+use Rattle.mk_alloc.proofs.Vocabulary.{IsQuiet, IsTurn, IsUnplaced, List, Looks, Misfits, None, Object, OnlyLooks}
+use Rattle.mk_alloc.proofs.Vocabulary.{Option, PassState, PlacedAllocation, Seeks, Some, Steady, TurnGoesOn, ℕ}
+use Rattle.mk_alloc.proofs.Vocabulary.{acting_caller, ap, arith, call_of, false, is_look, looks_left, new_is_acting}
+use Rattle.mk_alloc.proofs.Vocabulary.{now_of, object_for, object_made, only_seen, own_seat, phase_of, place_after}
+use Rattle.mk_alloc.proofs.Vocabulary.{place_now_for, refl, subst, world_of, ◌==◌, ◌∙◌, ◌≡◌}
+use Rattle.mk_alloc.proofs.Going.{IsCallers, begun_on, finished_on, look_part, looked_on, on_then, same_phase}
+use Rattle.mk_alloc.proofs.GrantParts.{calm_last, finish_room, grants_none, last_behind, no_place, none_behind}
+use Rattle.mk_alloc.proofs.GrantParts.{none_last, none_then, nowhere_then, part_begun, room_kept, room_lacks, room_then}
 use Rattle.mk_alloc.proofs.{CalmStretches.{cycles_in_turn, is_of_cycles}, CycleParts.{begin_done, finish_done}}
 use Rattle.mk_alloc.proofs.{FullLeaves.{cycles_leave, leaves_then}, Parts.Part, PlacedTurns.{looked_beside, place_part}}
-use Rattle.mk_alloc.{proofs.{PlacedTurns.placed_on, Stretches.widened}, specs.Rooms.{MisfitsIdly, SeeksRoom}}
+use Rattle.mk_alloc.proofs.{PlacedTurns.placed_on, Stretches.widened}
 use Rattle.mk_core.specs.Allocations.{place_among_allocations}
+use Rattle.mk_alloc.specs.Rooms.{IsPlacedOr, MisfitsIdly, NeedsRoom, SeeksRoom}
 use Rattle.mk_objects.{proofs.JoinedLooks.{looks_object, looks_unplaced}, specs.declared.objects.Request.{Request}}
 use Rattle.mk_words.specs.States.{WordsState}
 
@@ -40,6 +41,18 @@ seeks_then {a} {p} {q} {r} x y =
 -- a try after one part
 pub misfits_then : {p q r : PassState} → Seeks None p q → Misfits q r → Misfits p r
 misfits_then x m = record { turn = m.turn; seeks = seeks_then x m.seeks; unplaced = m.unplaced; nowhere = m.nowhere }
+
+pub idly_then : {p q r : PassState} → Seeks None p q → MisfitsIdly q r → MisfitsIdly p r
+idly_then x m = record { misfits = misfits_then x m.misfits; idle = m.idle }
+
+-- with what it says of the whole where the object misfits
+pub tried_then : {misfit whole : PassState → PassState → Type 0} {is_placed : Bool} {p q r : PassState}
+    → Seeks None p q → IsPlacedOr misfit is_placed q r → (is_placed ≡ false → misfit q r → whole p r)
+    → IsPlacedOr whole is_placed p r
+tried_then x t misfits = record {
+  placed = λ granted. seeks_then x (t.placed granted);
+  misfits = λ none. misfits none (t.misfits none);
+}
 
 pub still_nowhere : (p q : PassState) → (world_of q).allocations ≡ (world_of p).allocations
     → q.table.config ≡ p.table.config → object_for q ≡ object_for p → place_now_for p ≡ None → place_now_for q ≡ None
@@ -81,6 +94,14 @@ still_seeks room turn seeks unplaced = record {
 pub misfit_seeks : {w : WordsState} {p q : PassState} {request : Request} → SeeksRoom w p request → Misfits p q
     → SeeksRoom w q request
 misfit_seeks room m = still_seeks room m.turn m.seeks m.unplaced
+
+pub still_needs : {w : WordsState} {old new : ℕ} {p q : PassState} {request : Request} → NeedsRoom w old p request
+    → new ≡ old → Misfits p q → NeedsRoom w new q request
+still_needs needs same m = record {
+  seeks = misfit_seeks needs.seeks m;
+  nowhere = m.nowhere;
+  made_for = same ∙ needs.made_for;
+}
 
 module _ {w : WordsState} {p : PassState} {request : Request} (asked : SeeksRoom w p request) where
   -- A part that grants nothing leaves the New undecided,

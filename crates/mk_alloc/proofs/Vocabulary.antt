@@ -31,21 +31,20 @@ pub use Rattle.mk_caller.proofs.{OneStep.own_seat, OwnSteps.{by_append, calls_by
 pub use Rattle.mk_caller.specs.Called.{own_calls, own_steps, stages_made, step_at}
 pub use Rattle.mk_caller.specs.States.{CallerState, caller_of_pass}
 pub use Rattle.mk_turns.proofs.{Doing.{does_nothing, does_step, does_then}, Sweeping.{only_seen, only_seen_by}}
-pub use Rattle.mk_turns.{proofs.Sweeping.{sweeps_then}, specs.{Doing.{Does, are_of}, Sweeping.SweepsNothing}}
-pub use Rattle.mk_cycle.proofs.{Begun.{begun_then, finish_begins_none}, Calm.frees_none, CleaningSteps.calm_keeps}
-pub use Rattle.mk_cycle.proofs.{KeptInParts.{free_then, gates_behind, same_config}, OwnSteps.no_more_calls}
-pub use Rattle.mk_cycle.specs.{BeginCycle.BeginsCycle, Begun.EachIsBegun, EngineLaw.{IsAtPhase, is_pending_free}}
-pub use Rattle.mk_cycle.specs.{EngineLaw.is_pending_free_at, FinishCycle.FinishesCycle, Kinds.{begins_marking, clears}}
-pub use Rattle.mk_cycle.specs.Kinds.{closes_marks, holds_gates, is_giving_back, sets_tallies}
-pub use Rattle.mk_cycle.specs.TurnKeeps.{Done, KeepsGates, LeavesTurn, unchanged}
+pub use Rattle.mk_turns.specs.Doing.{Does, are_of}
+pub use Rattle.mk_cycle.proofs.{Calm.frees_none, CleaningSteps.calm_keeps, KeptInParts.{free_then, gates_behind}}
+pub use Rattle.mk_cycle.{proofs.{KeptInParts.same_config, OwnSteps.no_more_calls}, specs.TurnKeeps.{unchanged}}
+pub use Rattle.mk_cycle.specs.{BeginCycle.BeginsCycle, EngineLaw.{IsAtPhase, is_pending_free, is_pending_free_at}}
+pub use Rattle.mk_cycle.specs.{FinishCycle.FinishesCycle, Kinds.{begins_marking, clears, closes_marks, holds_gates}}
+pub use Rattle.mk_cycle.specs.{Kinds.{is_giving_back, sets_tallies}, TurnKeeps.{Done, KeepsGates, LeavesTurn}}
 pub use Rattle.mk_waiting.specs.Taking.{TakesTurn, is_take, waits_for}
 pub use Rattle.mk_objects.proofs.{JoinedLooks.{does_wider, looks_left}, Looks.acting_caller}
-pub use Rattle.mk_objects.{proofs.MayAct.{new_is_acting, off_four}, specs.Retired.{DecidesFree, IsDueSince}}
-pub use Rattle.mk_objects.specs.{Retiring.{is_freeing, is_loading}, Placing.{object_for, place_now_for, FitsNowhere}}
-pub use Rattle.mk_objects.specs.Placing.{IsOutOfStop, IsPlaced, IsUnplaced, OnlyLooks, is_look, is_placing}
+pub use Rattle.mk_objects.proofs.MayAct.{new_is_acting, off_four}
+pub use Rattle.mk_objects.specs.{Retired.IsDueSince, Placing.{object_for, place_now_for, FitsNowhere, IsOutOfStop}}
+pub use Rattle.mk_objects.specs.Placing.{IsPlaced, IsUnplaced, OnlyLooks, is_look, is_placing}
 pub use Rattle.mk_alloc.specs.{DueCycles.{EndsOlder, RunsIfDue}, Leaving.OwnLeaveAllButReleased}
 pub use Rattle.mk_alloc.specs.Rooms.{AnswersFull, AsksRoom, BeginsNone, GrantsNone, Misfits, RunsOne, Seeks, asks_room}
 pub use Rattle.mk_alloc.specs.TurnCalls.{CalledInTurn, FreesObject, IsAnsweredDouble, IsAnsweredFull}
 pub use Rattle.mk_alloc.specs.TurnCycles.{EndsExactly, FreeIsExact, FreesFirst, HasNoPlace, IsDueIn, RunsOneCycle}
 pub use Rattle.mk_alloc.specs.TurnCycles.{TurnsOfAreExact, finishes, has_step, is_grant, is_of_cycle, is_want, lets_go}
-pub use Rattle.mk_alloc.specs.{TurnCycles.within_turn, Underway.{BeginsTurn, IsQuiet, Looks, TurnGoesOn}}
+pub use Rattle.mk_alloc.specs.{TurnCycles.within_turn, Underway.{BeginsTurn, IsQuiet, Looks, PassKeeps, TurnGoesOn}}

@@ -1,5 +1,5 @@
 -- A New asks for room: it begins and ends cycles only where its object has no place.
-use Rattle.std.specs.Prelude.{◌≡◌, Bool, true, false, ◌||◌, List, ◌∷◌, ◌++◌, Option, Some, None}
+use Rattle.std.specs.Prelude.{◌≡◌, ℕ, Bool, true, false, ◌||◌, List, ◌∷◌, ◌++◌, Option, Some, None}
 use Rattle.mk_core.specs.{declared.events.Answer.Answer, declared.events.Event.Event, declared.events.Step.Step}
 use Rattle.mk_core.specs.{declared.seats.Object.Object, declared.seats.OwnCycle.TheVariants.Ended}
 use Rattle.mk_core.specs.Cycles.{At, is_begin, is_end}
@@ -60,6 +60,12 @@ pub record SeeksRoom (w : WordsState) (p : PassState) (request : Request) : Type
   pub quiet : IsQuiet p
   pub unplaced : IsUnplaced p
 
+-- It has no place now, and the engine that may make room is made for the table's pages.
+pub record NeedsRoom (w : WordsState) (pages : ℕ) (p : PassState) (request : Request) : Type 0 where
+  pub seeks : SeeksRoom w p request
+  pub nowhere : place_now_for p ≡ None
+  pub made_for : pages ≡ w.config.pages
+
 -- The turn of a New went on, and asked for room so. Until it is answered it is granted nothing and leaves all but what
 -- is released, and then it lets nothing go.
 pub record Seeks (a : Option Answer) (p q : PassState) : Type 0 where
@@ -83,9 +89,13 @@ pub record MisfitsIdly (p q : PassState) : Type 0 where
 
 -- though one was begun and ended in the turn.
 pub record MisfitsAtLast (p q : PassState) : Type 0 where
-  pub misfits : Misfits p q
-  pub idle : IsAtPhase q 0
+  pub idly : MisfitsIdly p q
   pub ended : (now_of q).seats.holding.cycle ≡ Ended
+
+-- It was granted, or else it misfits so.
+pub record IsPlacedOr (misfit : PassState → PassState → Type 0) (is_placed : Bool) (p q : PassState) : Type 0 where
+  pub placed : is_placed ≡ true → Seeks (Some answer.Done) p q
+  pub misfits : is_placed ≡ false → misfit p q
 
 -- It was answered Full, and all allocations stay.
 pub record AnswersFull (p q : PassState) : Type 0 where

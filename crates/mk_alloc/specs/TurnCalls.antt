@@ -1,11 +1,11 @@
 -- A call under the turn, in the history: a New, or a Free.
-use Rattle.std.specs.Prelude.{◌≡◌, ◌↔◌, ℕ, Bool, true, List, ◌∷◌, ◌++◌, Some}
+use Rattle.std.specs.Prelude.{◌≡◌, ◌<◌, ◌↔◌, ℕ, Bool, true, List, [], ◌∷◌, ◌++◌, Some}
 use Rattle.mk_never.specs.declared.operations.Op.{Op}
 use Rattle.mk_core.specs.{declared.events.Answer.Answer, declared.events.Event.Event, Allocations.census_of_allocations}
 use Rattle.mk_core.specs.{Calls.at_rest, Decided.{entry_of, flagged}, Placement.FindsNoPlace}
 use Rattle.mk_geom.specs.declared.pages.Census.{Census}
 use Rattle.mk_words.specs.{States.{PassState, world_of, call_of, event_of}, Steps.Makes, TurnSteps.turn_stays}
-use Rattle.mk_caller.specs.{States.caller_of_pass, Called.{own_calls, IsDecidedIn}}
+use Rattle.mk_caller.specs.{States.{CallerState, caller_of_pass}, Called.{own_calls, IsDecidedIn}}
 use Rattle.mk_turns.specs.Doing.{Does}
 use Rattle.mk_waiting.specs.Taking.{TakesTurn}
 use Rattle.mk_alloc.specs.{Leaving.OwnLeaveAllButReleased, TurnCycles.{EndsExactly, IsDueIn}}
@@ -13,6 +13,14 @@ use Rattle.mk_objects.specs.Retiring.{is_loading}
 use Rattle.mk_never.specs.declared.operations.Op.TheVariants as op
 use Rattle.mk_core.specs.declared.events.Answer.TheVariants as answer
 use Rattle.mk_core.specs.declared.events.Step.TheVariants as step
+
+-- A caller may call so, with an engine that is made for this many pages: its pass is home, it exists, no other seat is
+-- in its pass, and its heap has so many pages.
+pub record MayTakeTurns (pages : ℕ) (s : CallerState) : Type 0 where
+  pub home : s.home ≡ true
+  pub exists : caller_of_pass s.pass < s.pass.table.config.callers
+  pub alone : s.pass.seats ≡ s.pass.seat ∷ []
+  pub made_for : pages ≡ s.pass.table.config.pages
 
 -- The pass waited for the turn, did this operation, was answered so, and gave the turn back. What it has seen begins
 -- with what it had seen, and its turn is what stands between its `take` and its `give`. Its caller has one entry more,

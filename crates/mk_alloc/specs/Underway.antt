@@ -1,12 +1,13 @@
 -- A turn on its way, from one part of its call to the next.
-use Rattle.std.specs.Prelude.{◌≡◌, true, ◌++◌, Option, Some, None, is_some}
+use Rattle.std.specs.Prelude.{◌≡◌, ℕ, Bool, true, false, List, ◌++◌, Option, Some, None, is_some}
 use Rattle.mk_never.specs.declared.operations.Op.{Op}
-use Rattle.mk_core.specs.{declared.events.Answer.Answer, Counts.{TalliesAreExact, TalliesAreTidy}, Decided.entry_of}
+use Rattle.mk_core.specs.{declared.config.Config.Config, declared.events.Answer.Answer, declared.events.Event.Event}
+use Rattle.mk_core.specs.{declared.events.Seat.Seat, Counts.{TalliesAreExact, TalliesAreTidy}, Decided.entry_of}
 use Rattle.mk_core.specs.Moments.{none_is_held}
-use Rattle.mk_words.specs.{States.{PassState, call_of, now_of}, TurnSteps.{IsFresh, turn_stays}}
+use Rattle.mk_words.specs.{States.{PassState, WordsState, call_of, now_of}, TurnSteps.{IsFresh, turn_stays}}
 use Rattle.mk_caller.specs.{States.caller_of_pass, Called.own_calls}
-use Rattle.mk_turns.specs.Doing.{Does}
-use Rattle.mk_cycle.specs.{EngineLaw.IsFreeForCycle, TurnKeeps.{KeepsGates, LeavesTurn, unchanged}}
+use Rattle.mk_turns.specs.{Doing.Does, Sweeping.SweepsNothing}
+use Rattle.mk_cycle.specs.{Begun.EachIsBegun, EngineLaw.IsFreeForCycle, TurnKeeps.{KeepsGates, LeavesTurn, unchanged}}
 use Rattle.mk_objects.specs.Placing.{IsOutOfStop, is_look}
 use Rattle.mk_core.specs.declared.seats.Stage.TheVariants as stage
 
@@ -39,3 +40,16 @@ pub record Looks (p q : PassState) : Type 0 where
   pub does : Does is_look p q
   pub keeps : LeavesTurn unchanged p q
   pub gates : KeepsGates p q
+
+-- A cycle may run in it: the turn of this table is quiet, and the engine is made for the table's pages.
+pub record MayRunCycle (w : WordsState) (pages : ℕ) (p : PassState) : Type 0 where
+  pub one_table : p.table ≡ w
+  pub made_for : pages ≡ w.config.pages
+  pub quiet : IsQuiet p
+
+-- What an engine keeps to from one to the other: where it doesn't sweep it makes no sweeping mark, and after each
+-- `begin` it does its part.
+pub record PassKeeps (sweeps : Bool) (begins : Config → Seat → List Event → List Event → Type 0) (p q : PassState)
+    : Type 0 where
+  pub reached : sweeps ≡ false → SweepsNothing p q
+  pub begun : EachIsBegun begins p q

@@ -1,8 +1,6 @@
 //! The cycle that a free begins where it is due.
-ghost use Rattle.std.specs.Prelude.{◌≡◌, false};
-ghost use Rattle.mk_turns.specs.Sweeping.{SweepsNothing};
-ghost use Rattle.mk_cycle.specs.Begun.{EachIsBegun};
-ghost use Rattle.mk_alloc.specs.{DueCycles.{EndsOlder, RunsCycle, RunsIfDue}, Underway.IsQuiet};
+ghost use Rattle.std.specs.Prelude.{◌≡◌};
+ghost use Rattle.mk_alloc.specs.{DueCycles.{EndsOlder, RunsCycle, RunsIfDue}, Underway.{MayRunCycle, PassKeeps}};
 
 use crate::turns::is_cycle_on;
 use mk_cycle::{Engine, begin_cycle, finish_cycle};
@@ -17,12 +15,10 @@ fn finish_older<E: Engine, R: Threads + Wait + Sync>(
     turn: Turn,
     engine: &mut E,
 ) -> Turn
-    requires one_table { turn.pass.table ≡ words.now }
-    requires made_for { E.made_for engine.old ≡ words.now.config.pages }
-    requires quiet { IsQuiet turn.pass }
+    requires may_run { MayRunCycle words.now (E.made_for engine.old) turn.pass }
     ensures made_for { E.made_for engine.new ≡ E.made_for engine.old }
     ensures ends { EndsOlder turn.pass result.pass }
-    ensures reached { E.sweeps ≡ false → SweepsNothing turn.pass result.pass }
+    ensures engine { PassKeeps E.sweeps E.begins turn.pass result.pass }
 {
     let mut turn = turn;
     if is_cycle_on(words, &mut turn) {
@@ -42,13 +38,10 @@ fn run_cycle<E: Engine, R: Threads + Wait + Sync>(
     turn: Turn,
     engine: &mut E,
 ) -> Turn
-    requires one_table { turn.pass.table ≡ words.now }
-    requires made_for { E.made_for engine.old ≡ words.now.config.pages }
-    requires quiet { IsQuiet turn.pass }
+    requires may_run { MayRunCycle words.now (E.made_for engine.old) turn.pass }
     ensures made_for { E.made_for engine.new ≡ E.made_for engine.old }
     ensures runs { RunsCycle E.on turn.pass result.pass }
-    ensures reached { E.sweeps ≡ false → SweepsNothing turn.pass result.pass }
-    ensures begun { EachIsBegun E.begins turn.pass result.pass }
+    ensures engine { PassKeeps E.sweeps E.begins turn.pass result.pass }
 {
     let mut turn = finish_older(rt, words, turn, engine);
     begin_cycle(rt, words, &mut turn, engine);
@@ -68,13 +61,10 @@ fn run_apart<E: Engine, R: Threads + Wait + Sync>(
     turn: Turn,
     engine: &mut E,
 ) -> Turn
-    requires one_table { turn.pass.table ≡ words.now }
-    requires made_for { E.made_for engine.old ≡ words.now.config.pages }
-    requires quiet { IsQuiet turn.pass }
+    requires may_run { MayRunCycle words.now (E.made_for engine.old) turn.pass }
     ensures made_for { E.made_for engine.new ≡ E.made_for engine.old }
     ensures runs { RunsCycle E.on turn.pass result.pass }
-    ensures reached { E.sweeps ≡ false → SweepsNothing turn.pass result.pass }
-    ensures begun { EachIsBegun E.begins turn.pass result.pass }
+    ensures engine { PassKeeps E.sweeps E.begins turn.pass result.pass }
 {
     run_cycle(rt, words, turn, engine)
 }
@@ -87,13 +77,10 @@ pub(crate) fn run_if_due<E: Engine, R: Threads + Wait + Sync>(
     engine: &mut E,
     due: bool,
 ) -> Turn
-    requires one_table { turn.pass.table ≡ words.now }
-    requires made_for { E.made_for engine.old ≡ words.now.config.pages }
-    requires quiet { IsQuiet turn.pass }
+    requires may_run { MayRunCycle words.now (E.made_for engine.old) turn.pass }
     ensures made_for { E.made_for engine.new ≡ E.made_for engine.old }
     ensures runs { RunsIfDue E.on due turn.pass result.pass }
-    ensures reached { E.sweeps ≡ false → SweepsNothing turn.pass result.pass }
-    ensures begun { EachIsBegun E.begins turn.pass result.pass }
+    ensures engine { PassKeeps E.sweeps E.begins turn.pass result.pass }
 {
     if due {
         run_apart(rt, words, turn, engine)

@@ -4,7 +4,7 @@ ghost use Rattle.mk_never.specs.Admitted.{IsBase};
 ghost use Rattle.mk_caller.specs.States.{caller_of_pass, value_of};
 ghost use Rattle.mk_turns.specs.Sweeping.{SweepsNothing};
 ghost use Rattle.mk_cycle.specs.Begun.{EachIsBegun};
-ghost use Rattle.mk_alloc.specs.TurnCalls.{FreesObject, IsAnsweredDouble};
+ghost use Rattle.mk_alloc.specs.TurnCalls.{FreesObject, IsAnsweredDouble, MayTakeTurns};
 
 use crate::cycles::run_if_due;
 use crate::turns::{give, take};
@@ -24,12 +24,9 @@ pub fn free_object<E: Engine, R: Threads + Wait + Sync>(
     engine: &mut E,
     p: u8,
 ) -> Result<Freed, Double>
-    requires home { caller.old.home ≡ true }
-    requires exists { caller_of_pass caller.old.pass < caller.old.pass.table.config.callers }
-    requires alone { caller.old.pass.seats ≡ caller.old.pass.seat ∷ [] }
+    requires may { MayTakeTurns (E.made_for engine.old) caller.old }
     requires register { p < 8 }
     requires base { IsBase (value_of caller.old.pass p) }
-    requires made_for { E.made_for engine.old ≡ caller.old.pass.table.config.pages }
     ensures home { caller.new.home ≡ true }
     ensures made_for { E.made_for engine.new ≡ E.made_for engine.old }
     ensures freed { IfOk result (λ freed. FreesObject E.on caller.old.pass p freed.due caller.new.pass) }

@@ -1,11 +1,10 @@
 //! Making objects.
-ghost use Rattle.std.specs.Prelude.{◌≡◌, ◌<◌, ◌∷◌, [], OnOk, IfErr, IfSome, Some, None, true, false, length};
+ghost use Rattle.std.specs.Prelude.{◌≡◌, ◌<◌, ◌∷◌, [], OnOk, IfErr, IfSome, Some, true, false, length};
 ghost use Rattle.mk_caller.specs.States.{caller_of_pass};
 ghost use Rattle.mk_turns.specs.Sweeping.{SweepsNothing};
 ghost use Rattle.mk_cycle.specs.Begun.{EachIsBegun};
-ghost use Rattle.mk_objects.specs.Placing.{place_now_for};
-ghost use Rattle.mk_alloc.specs.Rooms.{CountsFull, RunsOne, Seeks, SeeksRoom, answer_with};
-ghost use Rattle.mk_alloc.specs.TurnCalls.{CalledInTurn, IsAnsweredFull};
+ghost use Rattle.mk_alloc.specs.Rooms.{CountsFull, NeedsRoom, RunsOne, Seeks, answer_with};
+ghost use Rattle.mk_alloc.specs.{TurnCalls.{CalledInTurn, IsAnsweredFull, MayTakeTurns}, Underway.PassKeeps};
 ghost use Rattle.mk_never.specs.declared.operations.Op.TheVariants as op;
 ghost use Rattle.mk_core.specs.declared.events.Answer.TheVariants as answer;
 
@@ -39,15 +38,12 @@ fn make_room_or_count<E: Engine, R: Threads + Wait + Sync>(
     request: Request,
     engine: &mut E,
 ) -> (Turn, Option<Census>)
-    requires seeks { SeeksRoom words.now turn.pass request }
-    requires nowhere { place_now_for turn.pass ≡ None }
-    requires made_for { E.made_for engine.old ≡ words.now.config.pages }
+    requires needs { NeedsRoom words.now (E.made_for engine.old) turn.pass request }
     ensures made_for { E.made_for engine.new ≡ E.made_for engine.old }
     ensures seeks { Seeks (Some (answer_with result.1)) turn.pass result.0.pass }
     ensures full { IfSome result.1 (CountsFull turn.pass result.0.pass) }
     ensures one { RunsOne turn.pass result.0.pass }
-    ensures reached { E.sweeps ≡ false → SweepsNothing turn.pass result.0.pass }
-    ensures begun { EachIsBegun E.begins turn.pass result.0.pass }
+    ensures engine { PassKeeps E.sweeps E.begins turn.pass result.0.pass }
 {
     let (mut turn, placed) = make_room(rt, words, turn, request, engine);
     if placed {
@@ -68,12 +64,9 @@ pub fn new_object<E: Engine, R: Threads + Wait + Sync>(
     d: u8,
     ty: u64,
 ) -> Result<(), Full>
-    requires home { caller.old.home ≡ true }
-    requires exists { caller_of_pass caller.old.pass < caller.old.pass.table.config.callers }
-    requires alone { caller.old.pass.seats ≡ caller.old.pass.seat ∷ [] }
+    requires may { MayTakeTurns (E.made_for engine.old) caller.old }
     requires register { d < 8 }
     requires ty { ty < length caller.old.pass.table.config.types }
-    requires made_for { E.made_for engine.old ≡ caller.old.pass.table.config.pages }
     ensures home { caller.new.home ≡ true }
     ensures made_for { E.made_for engine.new ≡ E.made_for engine.old }
     ensures made { OnOk result (CalledInTurn E.on caller.old.pass (op.New d ty false) answer.Done caller.new.pass) }

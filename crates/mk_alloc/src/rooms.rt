@@ -1,13 +1,12 @@
 //! Room for the object of a New: where it fits nowhere, cycles are finished and begun.
-ghost use Rattle.std.specs.Prelude.{◌≡◌, Some, None, true, false};
+ghost use Rattle.std.specs.Prelude.{◌≡◌, false};
 ghost use Rattle.mk_words.specs.States.{now_of};
 ghost use Rattle.mk_turns.specs.Sweeping.{SweepsNothing};
-ghost use Rattle.mk_cycle.specs.{Begun.EachIsBegun, EngineLaw.IsAtPhase};
+ghost use Rattle.mk_cycle.specs.EngineLaw.{IsAtPhase};
 ghost use Rattle.mk_core.specs.Effects.{cycle_ended};
-ghost use Rattle.mk_objects.specs.Placing.{OnlyLooks, place_now_for};
-ghost use Rattle.mk_alloc.specs.Rooms.{BeginsNone, EndsOnly, Misfits, MisfitsAtLast, MisfitsIdly, RunsOne, Seeks};
-ghost use Rattle.mk_alloc.specs.Rooms.{SeeksRoom};
-ghost use Rattle.mk_core.specs.declared.events.Answer.TheVariants as answer;
+ghost use Rattle.mk_objects.specs.Placing.{OnlyLooks};
+ghost use Rattle.mk_alloc.specs.Rooms.{BeginsNone, EndsOnly, IsPlacedOr, Misfits, MisfitsAtLast, MisfitsIdly};
+ghost use Rattle.mk_alloc.specs.{Rooms.{NeedsRoom, RunsOne, SeeksRoom}, Underway.PassKeeps};
 
 use crate::turns::is_cycle_on;
 use mk_cycle::{Engine, begin_cycle, finish_cycle};
@@ -20,8 +19,7 @@ use std::thread::Threads;
 #[inline(always)]
 pub(crate) fn try_place(words: &Words, turn: &mut Turn, request: Request) -> bool
     requires { SeeksRoom words.now turn.old.pass request }
-    ensures placed { result ≡ true → Seeks (Some answer.Done) turn.old.pass turn.new.pass }
-    ensures misfits { result ≡ false → Misfits turn.old.pass turn.new.pass }
+    ensures tried { IsPlacedOr Misfits result turn.old.pass turn.new.pass }
     ensures looks { result ≡ false → OnlyLooks turn.old.pass turn.new.pass }
     ensures begins { BeginsNone turn.old.pass turn.new.pass }
     ensures reached { SweepsNothing turn.old.pass turn.new.pass }
@@ -39,17 +37,14 @@ fn finish_and_place<E: Engine, R: Threads + Wait + Sync>(
     request: Request,
     engine: &mut E,
 ) -> (Turn, bool)
-    requires seeks { SeeksRoom words.now turn.pass request }
-    requires nowhere { place_now_for turn.pass ≡ None }
-    requires made_for { E.made_for engine.old ≡ words.now.config.pages }
+    requires needs { NeedsRoom words.now (E.made_for engine.old) turn.pass request }
     requires on { IsAtPhase turn.pass 1 }
     ensures made_for { E.made_for engine.new ≡ E.made_for engine.old }
-    ensures placed { result.1 ≡ true → Seeks (Some answer.Done) turn.pass result.0.pass }
-    ensures misfits { result.1 ≡ false → MisfitsIdly turn.pass result.0.pass }
+    ensures tried { IsPlacedOr MisfitsIdly result.1 turn.pass result.0.pass }
     ensures cycle { result.1 ≡ false → (now_of result.0.pass).seats.holding.cycle
         ≡ cycle_ended (now_of turn.pass).seats.holding.cycle }
     ensures ends { EndsOnly turn.pass result.0.pass }
-    ensures reached { E.sweeps ≡ false → SweepsNothing turn.pass result.0.pass }
+    ensures engine { PassKeeps E.sweeps E.begins turn.pass result.0.pass }
 {
     let (mut turn, _) = finish_cycle(rt, words, turn, engine);
     let placed = try_place(words, &mut turn, request);
@@ -64,14 +59,11 @@ fn place_behind_older<E: Engine, R: Threads + Wait + Sync>(
     request: Request,
     engine: &mut E,
 ) -> (Turn, bool)
-    requires seeks { SeeksRoom words.now turn.pass request }
-    requires nowhere { place_now_for turn.pass ≡ None }
-    requires made_for { E.made_for engine.old ≡ words.now.config.pages }
+    requires needs { NeedsRoom words.now (E.made_for engine.old) turn.pass request }
     ensures made_for { E.made_for engine.new ≡ E.made_for engine.old }
-    ensures placed { result.1 ≡ true → Seeks (Some answer.Done) turn.pass result.0.pass }
-    ensures misfits { result.1 ≡ false → MisfitsIdly turn.pass result.0.pass }
+    ensures tried { IsPlacedOr MisfitsIdly result.1 turn.pass result.0.pass }
     ensures begins { BeginsNone turn.pass result.0.pass }
-    ensures reached { E.sweeps ≡ false → SweepsNothing turn.pass result.0.pass }
+    ensures engine { PassKeeps E.sweeps E.begins turn.pass result.0.pass }
 {
     let mut turn = turn;
     let is_on = is_cycle_on(words, &mut turn);
@@ -91,16 +83,12 @@ fn place_behind_cycle<E: Engine, R: Threads + Wait + Sync>(
     request: Request,
     engine: &mut E,
 ) -> (Turn, bool)
-    requires seeks { SeeksRoom words.now turn.pass request }
-    requires nowhere { place_now_for turn.pass ≡ None }
-    requires made_for { E.made_for engine.old ≡ words.now.config.pages }
+    requires needs { NeedsRoom words.now (E.made_for engine.old) turn.pass request }
     requires idle { IsAtPhase turn.pass 0 }
     ensures made_for { E.made_for engine.new ≡ E.made_for engine.old }
-    ensures placed { result.1 ≡ true → Seeks (Some answer.Done) turn.pass result.0.pass }
-    ensures misfits { result.1 ≡ false → MisfitsAtLast turn.pass result.0.pass }
+    ensures tried { IsPlacedOr MisfitsAtLast result.1 turn.pass result.0.pass }
     ensures one { RunsOne turn.pass result.0.pass }
-    ensures reached { E.sweeps ≡ false → SweepsNothing turn.pass result.0.pass }
-    ensures begun { EachIsBegun E.begins turn.pass result.0.pass }
+    ensures engine { PassKeeps E.sweeps E.begins turn.pass result.0.pass }
 {
     let mut turn = turn;
     begin_cycle(rt, words, &mut turn, engine);
@@ -118,15 +106,11 @@ pub(crate) fn make_room<E: Engine, R: Threads + Wait + Sync>(
     request: Request,
     engine: &mut E,
 ) -> (Turn, bool)
-    requires seeks { SeeksRoom words.now turn.pass request }
-    requires nowhere { place_now_for turn.pass ≡ None }
-    requires made_for { E.made_for engine.old ≡ words.now.config.pages }
+    requires needs { NeedsRoom words.now (E.made_for engine.old) turn.pass request }
     ensures made_for { E.made_for engine.new ≡ E.made_for engine.old }
-    ensures placed { result.1 ≡ true → Seeks (Some answer.Done) turn.pass result.0.pass }
-    ensures misfits { result.1 ≡ false → MisfitsAtLast turn.pass result.0.pass }
+    ensures tried { IsPlacedOr MisfitsAtLast result.1 turn.pass result.0.pass }
     ensures one { RunsOne turn.pass result.0.pass }
-    ensures reached { E.sweeps ≡ false → SweepsNothing turn.pass result.0.pass }
-    ensures begun { EachIsBegun E.begins turn.pass result.0.pass }
+    ensures engine { PassKeeps E.sweeps E.begins turn.pass result.0.pass }
 {
     let (turn, placed) = place_behind_older(rt, words, turn, request, engine);
     if placed {

@@ -166,7 +166,6 @@ first_split {w} k {h = h} p u some is =
       alone = refl;
       seen = refl;
       idle = record {
-        caller = k;
         seat = refl;
         rest = (host.rests (Caller k) (host.callers k (omega arith) some)).call;
       };

@@ -1,6 +1,6 @@
 -- A caller's turn for a New, from its `take` to its `give`.
-use Rattle.mk_laws.proofs.Vocabulary.{Answer, Bool, IsHistory, Op, Some, Step, ℕ, ap, arith, at_rest, false, length}
-use Rattle.mk_laws.proofs.Vocabulary.{lt-ltb, refl, ◌<◌, ◌∙◌, ◌≡◌}
+use Rattle.mk_laws.proofs.Vocabulary.{Answer, Bool, Caller, IsHistory, Op, Some, Step, ℕ, ap, arith, at_rest}
+use Rattle.mk_laws.proofs.Vocabulary.{caller_number, false, length, lt-ltb, refl, sym, ◌<◌, ◌∙◌, ◌≡◌}
 use Rattle.mk_heap_tests.proofs.Vocabulary.{IsEnabledTo, IsPassFor, IsPassOfObjects, IsTurn, PassState, WordsState}
 use Rattle.mk_heap_tests.proofs.Vocabulary.{caller_of_pass, now_of}
 use Rattle.mk_alloc.proofs.CalledTurns.{Taken, callers, take_allowed, taken_phase, taken_same}
@@ -54,11 +54,12 @@ module _ {w : WordsState} {k : ℕ} {o : Op} {p q : PassState} (is : IsPassFor w
         ap (λ (x : PassState). x.seats) gives.is ∙ ap (λ (x : PassState). x.seats) on.does.is
             ∙ ap (λ (x : PassState). x.seats) taken_is,
       ) in
+      let seat = all.1 ∙ is.seat in
       record {
         table = all.0 ∙ is.table;
-        seat = all.1 ∙ is.seat;
+        seat = seat;
         alone = all.2 ∙ is.alone;
-        idle = record { caller = k; seat = all.1 ∙ is.seat; rest = rests };
+        idle = record { seat = seat ∙ ap (λ s. Caller (caller_number s)) (sym seat); rest = rests };
       }
 
 module _ {w : WordsState} {k : ℕ} {p q : PassState} (is : IsPassFor w k p) (few : k < w.config.callers)

@@ -7,9 +7,10 @@ use Rattle.mk_run.proofs.Vocabulary.{CallerState, EachIsBegun, Grows, Has, IsAtH
 use Rattle.mk_run.proofs.Vocabulary.{Item, PassState, StaysBeside, WordsState, config_of, has_first, script_names}
 use Rattle.mk_run.proofs.{Vocabulary.⊎_elim, JoinedScripts.same_or_later, UnsweptHistories.{markers_sweep, none_sweeps}}
 use Rattle.mk_core.specs.History.{AreEnabledFrom}
+use Rattle.mk_alloc.specs.Underway.{PassKeeps}
 use Rattle.mk_cycle.proofs.Begun.{HaveNoBegin, begun_append, kinds_begin_none, others_begin_none}
 use Rattle.mk_cycle.specs.Begun.{AreBegunFirst, CyclesAreBegun, IsBegunFirst}
-use Rattle.mk_run.specs.{Keeping.{PassKeeps, ScriptsKeep, SeatKeeps}, Scripts.is_beside_turns, Unswept.IsUnswept}
+use Rattle.mk_run.specs.{Keeping.{ScriptsKeep, SeatKeeps}, Scripts.is_beside_turns, Unswept.IsUnswept}
 use Rattle.mk_run.proofs.UnsweptScripts.{first_sweeps, others_on as others_sweep_on, seat_on as seat_sweeps_on}
 
 beside_begins_none : HaveNoBegin is_beside_turns
@@ -48,7 +49,7 @@ module _ {sweeps : Bool} {begins : Config → Seat → List Event → List Event
   seat_on : (p q : PassState) → PassKeeps sweeps begins p q → SeatKeeps sweeps begins p.table.config p.seat p.seen
       → SeatKeeps sweeps begins p.table.config p.seat q.seen
   seat_on p q more before = record {
-    unswept = λ off. seat_sweeps_on p q (more.unswept off) (before.unswept off);
+    unswept = λ off. seat_sweeps_on p q (more.reached off) (before.unswept off);
     begun = subst (λ (l : List Event). AreBegunFirst begins p.table.config p.seat [] l) (sym more.begun.is)
         (begun_append begins p.table.config p.seat [] p.seen more.begun.more before.begun more.begun.each);
   }

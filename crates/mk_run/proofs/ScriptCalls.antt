@@ -6,14 +6,13 @@ use Rattle.mk_laws.proofs.Vocabulary.{Option, Seat, Some, Stage, Step, ℕ, and_
 use Rattle.mk_laws.proofs.Vocabulary.{caller_number, calls, entry_of, false, flagged, if◌then◌else◌, is_under_turn}
 use Rattle.mk_laws.proofs.Vocabulary.{length, map, map-append, never_behind, refl, subst, sym, true, true≢false, []}
 use Rattle.mk_laws.proofs.Vocabulary.{◌&&◌, ◌++◌, ◌+◌, ◌<◌, ◌==◌, ◌∙◌, ◌∷◌, ◌≡◌, ◌≤◌}
-use Rattle.mk_run.proofs.Vocabulary.{Answers, FindsGateHeld, FollowsScript, Has, IsAdmittedByOwnCalls, IsAtRest}
-use Rattle.mk_run.proofs.Vocabulary.{IsChecked, IsFedWith, IsScript, Item, PassState, StaysBeside, answers_in, calls_by}
-use Rattle.mk_run.proofs.Vocabulary.{config_of, feed, is_refusal, next_op, script_names, seen_then}
+use Rattle.mk_run.proofs.Vocabulary.{Answers, FindsGateHeld, FollowsScript, Has, IsAdmittedByOwnCalls, IsChecked}
+use Rattle.mk_run.proofs.Vocabulary.{IsFedWith, IsHomePass, IsScript, Item, PassState, StaysBeside, answers_in}
+use Rattle.mk_run.proofs.Vocabulary.{calls_by, config_of, feed, is_refusal, next_op, script_names, seen_then}
 use Rattle.mk_never.proofs.Later.{calls_stay}
 use Rattle.mk_core.specs.Growing.{Finding, own_from}
 use Rattle.mk_alloc.proofs.ExactTurns.{stay_exact_behind_calls, stay_exact_behind_turns, stay_exact_where_held}
 use Rattle.mk_alloc.specs.{TurnCalls.CalledInTurn, TurnCycles.TurnsOfAreExact}
-use Rattle.mk_caller.proofs.Idle.{idle}
 use Rattle.mk_caller.specs.{Called.{Called, own_calls, stages_made, step_at}, States.{Admits, caller_of_pass}}
 use Rattle.mk_check.proofs.{AdmittedScripts.next_is_admitted, FeedLaws.{feed_push, ops-feed_push}}
 use Rattle.mk_check.specs.{Feed.{Fed, Scope, note, take_answer}, Blocks.Blocks, Declarations.globals_of}
@@ -314,9 +313,9 @@ pub exists_on : (p q : PassState) (k : ℕ) (program : List Item) → q ≡ reco
     → p.table.config ≡ config_of program p.table.config.markers → caller_of_pass q < q.table.config.callers
 exists_on p q k program is number script config = grind arith
 
-pub seat_is : (p : PassState) {q : PassState} (k : ℕ) → q ≡ record p { seen = q.seen } → IsAtRest q
+pub seat_is : (p : PassState) {q : PassState} (k : ℕ) → q ≡ record p { seen = q.seen } → IsHomePass q
     → caller_of_pass p ≡ k → p.seat ≡ Caller k
-seat_is p k is rests number = grind (arith, idle)
+seat_is p k is of_home number = cc (is, of_home.idle.seat, number)
 
 module _ {on : Bool} {program : List Item} {k : ℕ} {p q : PassState} {s : Script} (run : IsRunning on program k p q s)
     (seat : p.seat ≡ Caller k) (o : Op) (next : next_op program k (answers_in p.table.config k q.seen) ≡ Some o) where

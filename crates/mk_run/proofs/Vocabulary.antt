@@ -5,7 +5,7 @@ pub use Rattle.mk_alloc.proofs.{CalmStretches.is_of_cycles, CycleParts.{finish_d
 pub use Rattle.mk_alloc.{proofs.Parts.{has_then, history_before, in_turn_then, seen_then}, specs.TurnCycles.{has_step}}
 pub use Rattle.mk_alloc.proofs.UnsweptTurns.{calls_sweep_nothing, sweep_nothing_where_held}
 pub use Rattle.mk_caller.proofs.OwnSteps.{calls_by}
-pub use Rattle.mk_caller.specs.{Causes.FindsGateHeld, States.{CallerState, IsAtHome, IsAtRest}}
+pub use Rattle.mk_caller.specs.{Causes.FindsGateHeld, States.{CallerState, IsAtHome, IsHomePass}}
 pub use Rattle.mk_check.specs.{Declarations.config_of, Feed.{feed, is_refusal}, Feeding.next_op}
 pub use Rattle.mk_check.specs.{Laws.{IsChecked, IsScript}, declared.text.Text.Text}
 pub use Rattle.mk_cycle.{proofs.Begun.{begun_then}, specs.Begun.{EachIsBegun}}

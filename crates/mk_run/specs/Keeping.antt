@@ -3,20 +3,12 @@
 use Rattle.std.specs.Prelude.{◌≡◌, ◌≤◌, ℕ, Bool, false, List, []}
 use Rattle.mk_core.specs.{declared.config.Config.Config, declared.events.Event.Event, declared.events.Seat.Seat}
 use Rattle.mk_core.specs.declared.events.Seat.TheVariants.{Caller, Host}
-use Rattle.mk_words.specs.States.{PassState}
-use Rattle.mk_turns.specs.Sweeping.{SweepsNothing}
-use Rattle.mk_cycle.specs.Begun.{AreBegunFirst, EachIsBegun}
+use Rattle.mk_cycle.specs.Begun.{AreBegunFirst}
 use Rattle.mk_script.specs.declared.items.Item.{Item}
 use Rattle.mk_check.specs.Laws.{IsScript}
 use Rattle.mk_run.specs.UnsweptSeats.{SeatSweepsNothing}
 
--- in what its pass saw since,
-pub record PassKeeps (sweeps : Bool) (begins : Config → Seat → List Event → List Event → Type 0) (p q : PassState)
-    : Type 0 where
-  pub unswept : sweeps ≡ false → SweepsNothing p q
-  pub begun : EachIsBegun begins p q
-
--- in a history,
+-- in a history, as `PassKeeps` of mk_alloc says of what its pass saw since,
 pub record SeatKeeps (sweeps : Bool) (begins : Config → Seat → List Event → List Event → Type 0) (c : Config) (s : Seat)
     (es : List Event) : Type 0 where
   pub unswept : sweeps ≡ false → SeatSweepsNothing c s es

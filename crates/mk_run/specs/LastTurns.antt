@@ -4,7 +4,8 @@ use Rattle.mk_core.specs.{declared.config.Config.Config, declared.events.Event.E
 use Rattle.mk_core.specs.{declared.events.Seat.TheVariants.{Caller, Host}, Growing.Grows, History.World}
 use Rattle.mk_words.specs.{Seats.{Has, HasCallers, has_over}, States.{WordsState, PassState}}
 use Rattle.mk_heap.specs.{Ending.{CallersAreJoined, MakesToldCycle, SaysOver}, Hosts.{HostState, with_seen}}
-use Rattle.mk_run.specs.{HostTurns.{cycles_begun, cycles_asked}, Keeping.PassKeeps}
+use Rattle.mk_run.specs.HostTurns.{cycles_begun, cycles_asked}
+use Rattle.mk_alloc.specs.Underway.{PassKeeps}
 
 -- The host's seat is home and so are those of all callers, and it has not said that all is over.
 pub record HasAllHome (w : WordsState) (h : HostState) : Type 0 where

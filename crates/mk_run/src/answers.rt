@@ -5,6 +5,7 @@ ghost use Rattle.mk_never.specs.declared.operations.Op.{Op};
 ghost use Rattle.mk_caller.specs.{Causes.{FindsGateHeld, IsRefused}, Moves.is_access, States.{caller_of_pass, Admits}};
 ghost use Rattle.mk_turns.specs.Sweeping.{SweepsNothing};
 ghost use Rattle.mk_cycle.specs.Begun.{EachIsBegun};
+ghost use Rattle.mk_alloc.specs.TurnCalls.{MayTakeTurns};
 ghost use Rattle.mk_run.specs.Scripts.{IsCalled, IsAdmittedByOwnCalls, Answers, AsksFor, AsksBesideTurns, IsPutOff};
 ghost use Rattle.mk_run.specs.Scripts.{StaysBeside};
 
@@ -125,11 +126,8 @@ pub fn answer_now<E: Engine, R: Threads + Wait + Sync>(
     engine: &mut E,
     op: Op,
 ) -> Result<Answer, Held>
-    requires home { caller.old.home ≡ true }
-    requires exists { caller_of_pass caller.old.pass < caller.old.pass.table.config.callers }
-    requires alone { caller.old.pass.seats ≡ caller.old.pass.seat ∷ [] }
+    requires may { MayTakeTurns (E.made_for engine.old) caller.old }
     requires admitted { Admits caller.old.pass op }
-    requires made_for { E.made_for engine.old ≡ caller.old.pass.table.config.pages }
     ensures home { caller.new.home ≡ true }
     ensures made_for { E.made_for engine.new ≡ E.made_for engine.old }
     ensures answers { IfOk result (λ told. Answers E.on caller.old.pass op told caller.new.pass) }
@@ -163,11 +161,8 @@ pub fn answer_to<E: Engine, R: Threads + Wait + Sync>(
     engine: &mut E,
     op: Op,
 ) -> Answer
-    requires home { caller.old.home ≡ true }
-    requires exists { caller_of_pass caller.old.pass < caller.old.pass.table.config.callers }
-    requires alone { caller.old.pass.seats ≡ caller.old.pass.seat ∷ [] }
+    requires may { MayTakeTurns (E.made_for engine.old) caller.old }
     requires admitted { IsAdmittedByOwnCalls caller.old.pass op }
-    requires made_for { E.made_for engine.old ≡ caller.old.pass.table.config.pages }
     ensures home { caller.new.home ≡ true }
     ensures made_for { E.made_for engine.new ≡ E.made_for engine.old }
     ensures answers { Answers E.on caller.old.pass op result caller.new.pass }
@@ -228,12 +223,9 @@ pub(crate) fn answer_put_off<E: Engine, R: Threads + Wait + Sync>(
     feed: &Feed,
     op: Op,
 ) -> Answer
-    requires home { caller.old.home ≡ true }
-    requires exists { caller_of_pass caller.old.pass < caller.old.pass.table.config.callers }
-    requires alone { caller.old.pass.seats ≡ caller.old.pass.seat ∷ [] }
+    requires may { MayTakeTurns (E.made_for engine.old) caller.old }
     requires asks { AsksFor feed.now op }
     requires admitted { IsAdmittedByOwnCalls caller.old.pass op }
-    requires made_for { E.made_for engine.old ≡ caller.old.pass.table.config.pages }
     ensures home { caller.new.home ≡ true }
     ensures made_for { E.made_for engine.new ≡ E.made_for engine.old }
     ensures answers { Answers E.on caller.old.pass op result caller.new.pass }

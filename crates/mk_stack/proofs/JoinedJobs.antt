@@ -10,7 +10,7 @@ use Rattle.mk_laws.proofs.Vocabulary.{List, Some, ℕ, ap, arith, drop, get_or, 
 use Rattle.mk_laws.proofs.Vocabulary.{◌+◌, ◌<◌, ◌∙◌, ◌∷◌, ◌≡◌, ◌≤◌, ◌⊎◌}
 use Rattle.mk_never.specs.declared.never_heap.NoMemory.{NoMemory}
 use Rattle.mk_core.specs.History.{calls_from}
-use Rattle.mk_caller.{proofs.Idle.{idle}, specs.States.{IsIdleCaller}}
+use Rattle.mk_caller.specs.States.{IsIdleCaller}
 use Rattle.mk_heap.specs.Hosts.{with_caller_made}
 use Rattle.mk_stack.specs.{Joining.{HasWorked, IsBetweenJobs}, JobLists.HasDone, Ready.IsReadyForJobs}
 use Rattle.mk_words.{proofs.Seats.{has_first, has_left, has_right, others_own, without_keeps}, specs.Seats.{has_over}}
@@ -56,7 +56,7 @@ is_ready ready is idle = grind arith
 
 pub next_ready : {w : WordsState} {markers n : ℕ} {h : HostState} (s : CallerState) → HasHandedOut w markers n h
     → IsAtHome s (pass_for h (Caller h.callers)) → IsBetweenJobs w n s.pass
-next_ready {n} {h} s made is = let rests = s.in_order is.home in grind (arith, idle)
+next_ready {n} {h} s made is = let of_home = s.in_order is.home in grind arith
 
 pub next_unasked : {w : WordsState} {markers n : ℕ} {h : HostState} (s : CallerState) → HasHandedOut w markers n h
     → IsAtHome s (pass_for h (Caller h.callers)) → replied_to s.pass ≡ []

@@ -1,14 +1,13 @@
 use Rattle.mk_alloc.proofs.{Vocabulary.{Op, PassState, ap, refl, sym, ◌∙◌}, CalledTurns.{Taken, taken_is, took_by}}
-use Rattle.mk_alloc.proofs.FreedTurns.{Frees, Refuses, double_answered, freed, freed_object, given, given_double}
-use Rattle.mk_alloc.proofs.{FreedTurns.unloaded, UnsweptTurns.{freeing_then_begun, freeing_then_sweeps, loading_begun}}
-use Rattle.mk_alloc.proofs.UnsweptTurns.{loading_sweeps, turn_begun, turn_sweeps}
+use Rattle.mk_alloc.proofs.FreedTurns.{Frees, Refuses, double_answered, freed, freed_by_engine, freed_object}
+use Rattle.mk_alloc.proofs.FreedTurns.{refused_by_engine, unloaded}
 use Rattle.mk_alloc.proofs.freeing.free_object.Goals.{After-run_if_due-turn, After-take-turn}
 use Rattle.mk_objects.specs.Retired.{FindsFreed}
 use Rattle.mk_alloc.proofs.freeing.free_object.Goals as goal
 
 -- the turn of the call, as it was taken
 took : (g : _) (c : After-take-turn g) → Taken (Op.Free c.args.p) c.args.caller.now.pass c.take-turn.result.pass
-took g c = took_by c.lend-home.ensures.pass (c.args.caller.now.in_order c.requires.home) c.take-turn.ensures.takes
+took g c = took_by c.lend-home.ensures.pass (c.args.caller.now.in_order c.requires.may.home) c.take-turn.ensures.takes
 
 pub retire_object-requires-clause-unloaded : goal.retire_object-requires-clause-unloaded
 retire_object-requires-clause-unloaded g c κs within =
@@ -18,10 +17,10 @@ retire_object-requires-clause-unloaded g c κs within =
 
 -- The object was freed: the turn goes on to the end of a cycle that is due.
 frees : (g : _) (c : After-run_if_due-turn g)
-    → Taken (Op.Free c.args.p) c.args.caller.now.pass c.take-turn.result.pass → Frees g.E.Engine.on c.in-Ok.freed.due
-    c.args.p c.args.caller.now.pass c.take-turn.result.pass c.retire_object.new.turn.pass c.run_if_due-turn.result.pass
-frees g c took = record {
-  took = took;
+    → Frees g.E.Engine.on c.in-Ok.freed.due c.args.p c.args.caller.now.pass c.take-turn.result.pass
+    c.retire_object.new.turn.pass c.run_if_due-turn.result.pass
+frees g c = record {
+  took = took_by c.lend-home.ensures.pass (c.args.caller.now.in_order c.requires.may.home) c.take-turn.ensures.takes;
   begins = c.take-turn.ensures.begins;
   retires = c.in-Ok.ensures.freed;
   decided = c.retire_object.new.turn.in_order;
@@ -32,48 +31,43 @@ frees g c took = record {
 pub give-requires-clause-one_table : goal.give-requires-clause-one_table
 give-requires-clause-one_table g c =
     let x = goal.at.give-requires-clause-one_table g c in
-    let took = took g x.After-take-turn in
-    ap (λ (x : PassState). x.table) (freed (frees g x.After-run_if_due-turn took)).does.is
-    ∙ ap (λ (x : PassState). x.table) (taken_is took) ∙ sym c.words-words.ensures
+    let f = frees g x.After-run_if_due-turn in
+    ap (λ (x : PassState). x.table) (freed f).does.is ∙ ap (λ (x : PassState). x.table) (taken_is f.took)
+    ∙ sym c.words-words.ensures
 
 pub give-requires-clause-quiet : goal.give-requires-clause-quiet
 give-requires-clause-quiet g c =
-    let x = goal.at.give-requires-clause-quiet g c in
-    (freed (frees g x.After-run_if_due-turn (took g x.After-take-turn))).quiet
+    (freed (frees g (goal.at.give-requires-clause-quiet g c).After-run_if_due-turn)).quiet
 
 pub give-requires-clause-decided : goal.give-requires-clause-decided
 give-requires-clause-decided g c =
-    let x = goal.at.give-requires-clause-decided g c in
-    (freed (frees g x.After-run_if_due-turn (took g x.After-take-turn))).decided refl
+    (freed (frees g (goal.at.give-requires-clause-decided g c).After-run_if_due-turn)).decided refl
 
 pub back-requires-clause-one_table : goal.back-requires-clause-one_table
 back-requires-clause-one_table g c =
     let x = goal.at.back-requires-clause-one_table g c in
-    let took = took g x.After-take-turn in
-    ap (λ (x : PassState). x.table) c.give.ensures.gives.is ∙ ap (λ (x : PassState). x.table)
-    (freed (frees g x.After-run_if_due-turn took)).does.is ∙ ap (λ (x : PassState). x.table) (taken_is took)
+    let f = frees g x.After-run_if_due-turn in
+    ap (λ (x : PassState). x.table) c.give.ensures.gives.is ∙ ap (λ (x : PassState). x.table) (freed f).does.is
+    ∙ ap (λ (x : PassState). x.table) (taken_is f.took)
     ∙ sym (ap (λ (x : PassState). x.table) c.lend-home.ensures.lent.pass)
 
 pub returns-in-Ok-clause-freed : goal.returns-in-Ok-clause-freed
 returns-in-Ok-clause-freed g c =
     let x = goal.at.returns-in-Ok-clause-freed g c in
     rw c.back.ensures.pass
-    (freed_object (frees g x.After-run_if_due-turn (took g x.After-take-turn)) c.give.ensures.gives
-    c.give.ensures.rests)
+    (freed_object (frees g x.After-run_if_due-turn) c.give.ensures.gives c.give.ensures.rests)
 
 pub returns-in-Ok-clause-reached : goal.returns-in-Ok-clause-reached
 returns-in-Ok-clause-reached g c =
     let x = goal.at.returns-in-Ok-clause-reached g c in
-    λ none. rw c.back.ensures.pass (turn_sweeps
-    (given (frees g x.After-run_if_due-turn (took g x.After-take-turn)) c.give.ensures.gives c.give.ensures.rests)
-    (freeing_then_sweeps c.in-Ok.ensures.freed.decides (c.run_if_due-turn.ensures.reached none)))
+    rw c.back.ensures.pass (freed_by_engine (frees g x.After-run_if_due-turn) c.give.ensures.gives
+    c.give.ensures.rests c.run_if_due-turn.ensures.engine).reached
 
 pub returns-in-Ok-clause-begun : goal.returns-in-Ok-clause-begun
 returns-in-Ok-clause-begun g c =
     let x = goal.at.returns-in-Ok-clause-begun g c in
-    rw c.back.ensures.pass (turn_begun
-    (given (frees g x.After-run_if_due-turn (took g x.After-take-turn)) c.give.ensures.gives c.give.ensures.rests)
-    (freeing_then_begun c.in-Ok.ensures.freed.decides c.run_if_due-turn.ensures.begun))
+    rw c.back.ensures.pass (freed_by_engine (frees g x.After-run_if_due-turn) c.give.ensures.gives
+    c.give.ensures.rests c.run_if_due-turn.ensures.engine).begun
 
 -- It was freed before.
 refuses : (g : _) (c : After-take-turn g) {q : PassState} → FindsFreed c.take-turn.result.pass c.args.p q
@@ -89,12 +83,11 @@ returns-in-Err-clause-double g c =
 pub returns-in-Err-clause-reached : goal.returns-in-Err-clause-reached
 returns-in-Err-clause-reached g c =
     let x = goal.at.returns-in-Err-clause-reached g c in
-    λ none. rw c.back-in-Err.ensures.pass
-    (turn_sweeps (given_double (refuses g x.After-take-turn c.in-Err.ensures.double)
-    c.give-in-Err.ensures.gives c.give-in-Err.ensures.rests) (loading_sweeps c.in-Err.ensures.double.decides))
+    rw c.back-in-Err.ensures.pass (refused_by_engine (refuses g x.After-take-turn c.in-Err.ensures.double)
+    c.give-in-Err.ensures.gives c.give-in-Err.ensures.rests {begins = g.E.Engine.begins}).reached
 
 pub returns-in-Err-clause-begun : goal.returns-in-Err-clause-begun
 returns-in-Err-clause-begun g c =
     let x = goal.at.returns-in-Err-clause-begun g c in
-    rw c.back-in-Err.ensures.pass (turn_begun (given_double (refuses g x.After-take-turn c.in-Err.ensures.double)
-    c.give-in-Err.ensures.gives c.give-in-Err.ensures.rests) (loading_begun c.in-Err.ensures.double.decides))
+    rw c.back-in-Err.ensures.pass (refused_by_engine (refuses g x.After-take-turn c.in-Err.ensures.double)
+    c.give-in-Err.ensures.gives c.give-in-Err.ensures.rests {sweeps = g.E.Engine.sweeps}).begun

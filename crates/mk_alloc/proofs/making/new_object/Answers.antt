@@ -1,20 +1,14 @@
-use Rattle.mk_alloc.proofs.Vocabulary.{Answer, Bool, EachIsBegun, Flight, IsAnsweredFull, Misfits, Op, PassState}
-use Rattle.mk_alloc.proofs.Vocabulary.{SweepsNothing, ℕ, ap, arith, false, refl, ◌≡◌}
+use Rattle.mk_alloc.proofs.Vocabulary.{Answer, Bool, Flight, IsAnsweredFull, Misfits, Op, PassKeeps, PassState, ℕ, ap}
+use Rattle.mk_alloc.proofs.{Vocabulary.{arith, false, refl}, OneCycles.{none_runs_one, none_then_one}}
+use Rattle.mk_alloc.{proofs.SeekingTurns.{misfit_seeks, misfits_then, seeks_then}, proofs.NewTurns.{new_called}}
+use Rattle.mk_alloc.proofs.UnsweptTurns.{none_by_engine, part_then, turn_by_engine}
+use Rattle.mk_alloc.proofs.{making.new_object.Goals.{After-give, After-give-2, After-take-turn}, CalledTurns.took_by}
 use Rattle.mk_alloc.proofs.NewTurns.{NewGiven, begun_quiet, begun_unplaced, census_told, given, is_answered_full}
-use Rattle.mk_alloc.proofs.{NewTurns.new_called, SeekingTurns.{misfit_seeks, misfits_then, seeks_then}}
-use Rattle.mk_alloc.proofs.UnsweptTurns.{none_begun, part_then_begun, part_then_sweeps, turn_begun, turn_sweeps}
-use Rattle.mk_alloc.proofs.making.new_object.Goals.{After-give, After-give-2, After-take-turn}
-use Rattle.mk_alloc.proofs.{CalledTurns.{Taken, took_by}, OneCycles.{none_runs_one, none_then_one}}
 use Rattle.mk_geom.specs.declared.pages.Census.{Census}
 use Rattle.mk_alloc.specs.Rooms.{CountsFull, SeeksRoom, answer_with}
 use Rattle.mk_alloc.proofs.making.new_object.Goals as goal
 
--- the turn of the call, as it was taken
-took : (g : _) (c : After-take-turn g)
-    → Taken (Op.New c.args.d c.args.ty false) c.args.caller.now.pass c.take-turn.result.pass
-took g c = took_by c.lend-home.ensures.pass (c.args.caller.now.in_order c.requires.home) c.take-turn.ensures.takes
-
--- and what it requests
+-- what the turn of the call requests
 sought : (g : _) (c : After-take-turn g)
     → SeeksRoom c.words-words.result.now c.take-turn.result.pass (record { register = c.args.d; ty = c.args.ty })
 sought g c = record {
@@ -28,19 +22,24 @@ sought g c = record {
 pub try_place-requires : goal.try_place-requires
 try_place-requires g c = sought g (goal.at.try_place-requires g c).After-take-turn
 
-pub make_room_or_count-turn-requires-clause-seeks : goal.make_room_or_count-turn-requires-clause-seeks
-make_room_or_count-turn-requires-clause-seeks g c κs within =
-    misfit_seeks (sought g (goal.at.make_room_or_count-turn-requires-clause-seeks g c).After-take-turn)
-    (c.try_place.ensures.misfits c.if-try_place.false)
+pub make_room_or_count-turn-requires-clause-needs : goal.make_room_or_count-turn-requires-clause-needs
+make_room_or_count-turn-requires-clause-needs g c κs within =
+    let misfits = c.try_place.ensures.tried.misfits c.if-try_place.false in
+    record {
+      seeks = misfit_seeks
+          (sought g (goal.at.make_room_or_count-turn-requires-clause-needs g c).After-take-turn) misfits;
+      nowhere = misfits.nowhere;
+      made_for = grind arith;
+    }
 
 -- The object is placed at once,
 at_once : (g : _) (c : After-give g)
-    → Taken (Op.New c.args.d c.args.ty false) c.args.caller.now.pass c.take-turn.result.pass → NewGiven c.args.d
-    c.args.ty Answer.Done c.args.caller.now.pass c.take-turn.result.pass c.try_place.new.turn.pass c.give.result
-at_once g c took = record {
-  took = took;
+    → NewGiven c.args.d c.args.ty Answer.Done c.args.caller.now.pass c.take-turn.result.pass c.try_place.new.turn.pass
+    c.give.result
+at_once g c = record {
+  took = took_by c.lend-home.ensures.pass (c.args.caller.now.in_order c.requires.may.home) c.take-turn.ensures.takes;
   begins = c.take-turn.ensures.begins;
-  seeks = c.try_place.ensures.placed c.if-try_place.true;
+  seeks = c.try_place.ensures.tried.placed c.if-try_place.true;
   runs = none_runs_one c.try_place.ensures.begins;
   gives = c.give.ensures.gives;
   rests = c.give.ensures.rests;
@@ -49,74 +48,64 @@ at_once g c took = record {
 pub returns-then-try_place-clause-made : goal.returns-then-try_place-clause-made
 returns-then-try_place-clause-made g c =
     let x = goal.at.returns-then-try_place-clause-made g c in
-    rw c.back.ensures.pass (new_called (at_once g x.After-give (took g x.After-take-turn)) g.E.Engine.on)
+    rw c.back.ensures.pass (new_called (at_once g x.After-give) g.E.Engine.on)
+
+at_once_by_engine : (g : _) (c : After-give g)
+    → PassKeeps g.E.Engine.sweeps g.E.Engine.begins c.args.caller.now.pass c.give.result
+at_once_by_engine g c =
+    turn_by_engine (given (at_once g c)) (none_by_engine c.try_place.ensures.begins c.try_place.ensures.reached)
 
 pub returns-then-try_place-clause-reached : goal.returns-then-try_place-clause-reached
 returns-then-try_place-clause-reached g c =
-    let x = goal.at.returns-then-try_place-clause-reached g c in
-    λ none. rw c.back.ensures.pass (turn_sweeps (given (at_once g x.After-give (took g x.After-take-turn)))
-    c.try_place.ensures.reached)
+    rw c.back.ensures.pass
+    (at_once_by_engine g (goal.at.returns-then-try_place-clause-reached g c).After-give).reached
 
 pub returns-then-try_place-clause-begun : goal.returns-then-try_place-clause-begun
 returns-then-try_place-clause-begun g c =
-    let x = goal.at.returns-then-try_place-clause-begun g c in
-    rw c.back.ensures.pass (turn_begun (given (at_once g x.After-give (took g x.After-take-turn))) (none_begun
-    c.try_place.ensures.begins))
+    rw c.back.ensures.pass
+    (at_once_by_engine g (goal.at.returns-then-try_place-clause-begun g c).After-give).begun
 
 -- or it isn't, and room is made, or the answer is Full.
-later : (g : _) (c : After-give-2 g) → Taken (Op.New c.args.d c.args.ty false) c.args.caller.now.pass
-    c.take-turn.result.pass → NewGiven c.args.d c.args.ty (answer_with c.make_room_or_count-turn.result.1)
-    c.args.caller.now.pass c.take-turn.result.pass c.make_room_or_count-turn.result.0.pass c.give-2.result
-later g c took = record {
-  took = took;
+later : (g : _) (c : After-give-2 g)
+    → NewGiven c.args.d c.args.ty (answer_with c.make_room_or_count-turn.result.1) c.args.caller.now.pass
+    c.take-turn.result.pass c.make_room_or_count-turn.result.0.pass c.give-2.result
+later g c = record {
+  took = took_by c.lend-home.ensures.pass (c.args.caller.now.in_order c.requires.may.home) c.take-turn.ensures.takes;
   begins = c.take-turn.ensures.begins;
-  seeks = seeks_then (c.try_place.ensures.misfits c.if-try_place.false).seeks c.make_room_or_count-turn.ensures.seeks;
+  seeks = seeks_then (c.try_place.ensures.tried.misfits c.if-try_place.false).seeks
+      c.make_room_or_count-turn.ensures.seeks;
   runs = none_then_one c.try_place.ensures.begins c.make_room_or_count-turn.ensures.one;
   gives = c.give-2.ensures.gives;
   rests = c.give-2.ensures.rests;
 }
 
--- nothing is swept in its turn,
-later_sweeps : (g : _) (c : After-give-2 g) → Taken (Op.New c.args.d c.args.ty false) c.args.caller.now.pass
-    c.take-turn.result.pass → g.E.Engine.sweeps ≡ false → SweepsNothing c.args.caller.now.pass c.give-2.result
-later_sweeps g c took none =
-    turn_sweeps (given (later g c took)) (part_then_sweeps (c.try_place.ensures.misfits
-    c.if-try_place.false).seeks.on.does c.try_place.ensures.reached (c.make_room_or_count-turn.ensures.reached none))
-
--- and after each begin the engine does its part.
-later_begun : (g : _) (c : After-give-2 g) → Taken (Op.New c.args.d c.args.ty false) c.args.caller.now.pass
-    c.take-turn.result.pass → EachIsBegun g.E.Engine.begins c.args.caller.now.pass c.give-2.result
-later_begun g c took =
-    turn_begun (given (later g c took)) (part_then_begun (c.try_place.ensures.misfits
-    c.if-try_place.false).seeks.on.does (none_begun c.try_place.ensures.begins) c.make_room_or_count-turn.ensures.begun)
+later_by_engine : (g : _) (c : After-give-2 g)
+    → PassKeeps g.E.Engine.sweeps g.E.Engine.begins c.args.caller.now.pass c.give-2.result
+later_by_engine g c =
+    let tried = c.try_place.ensures in
+    turn_by_engine (given (later g c)) (part_then (tried.tried.misfits c.if-try_place.false).seeks.on.does
+    (none_by_engine tried.begins tried.reached) c.make_room_or_count-turn.ensures.engine)
 
 pub returns-in-None-clause-made : goal.returns-in-None-clause-made
 returns-in-None-clause-made g c =
     let x = goal.at.returns-in-None-clause-made g c in
-    let o = Op.New c.args.d c.args.ty false in
-    let p : PassState = c.args.caller.now.pass in
-    rw c.back-2.ensures.pass (rw c.in-None.is at (new_called (later g x.After-give-2 (took g x.After-take-turn))
-    g.E.Engine.on))
+    rw c.back-2.ensures.pass (rw c.in-None.is at (new_called (later g x.After-give-2) g.E.Engine.on))
 
 pub returns-in-None-clause-reached : goal.returns-in-None-clause-reached
 returns-in-None-clause-reached g c =
-    let x = goal.at.returns-in-None-clause-reached g c in
-    λ none. rw c.back-2.ensures.pass (later_sweeps g x.After-give-2 (took g x.After-take-turn) none)
+    rw c.back-2.ensures.pass (later_by_engine g (goal.at.returns-in-None-clause-reached g c).After-give-2).reached
 
 pub returns-in-None-clause-begun : goal.returns-in-None-clause-begun
 returns-in-None-clause-begun g c =
-    let x = goal.at.returns-in-None-clause-begun g c in
-    rw c.back-2.ensures.pass (later_begun g x.After-give-2 (took g x.After-take-turn))
+    rw c.back-2.ensures.pass (later_by_engine g (goal.at.returns-in-None-clause-begun g c).After-give-2).begun
 
 pub returns-in-Some-clause-reached : goal.returns-in-Some-clause-reached
 returns-in-Some-clause-reached g c =
-    let x = goal.at.returns-in-Some-clause-reached g c in
-    λ none. rw c.back-2.ensures.pass (later_sweeps g x.After-give-2 (took g x.After-take-turn) none)
+    rw c.back-2.ensures.pass (later_by_engine g (goal.at.returns-in-Some-clause-reached g c).After-give-2).reached
 
 pub returns-in-Some-clause-begun : goal.returns-in-Some-clause-begun
 returns-in-Some-clause-begun g c =
-    let x = goal.at.returns-in-Some-clause-begun g c in
-    rw c.back-2.ensures.pass (later_begun g x.After-give-2 (took g x.After-take-turn))
+    rw c.back-2.ensures.pass (later_by_engine g (goal.at.returns-in-Some-clause-begun g c).After-give-2).begun
 
 -- With Full come the counts of the pages where it misfits at last.
 full_is : {on : Bool} {d ty : ℕ} {p taken tried done q : PassState} {census : Census}
@@ -135,6 +124,7 @@ returns-in-Some-clause-full g c =
     let tried : PassState = c.try_place.new.turn.pass in
     let done : PassState = c.make_room_or_count-turn.result.0.pass in
     let q : PassState = c.give-2.result in
-    let m = rw c.in-Some.is at (later g x.After-give-2 (took g x.After-take-turn)) in
+    let m = rw c.in-Some.is at (later g x.After-give-2) in
     let full = rw c.in-Some.is at c.make_room_or_count-turn.ensures.full in
-    rw c.back-2.ensures.pass (full_is {on = g.E.Engine.on} m (c.try_place.ensures.misfits c.if-try_place.false) full)
+    rw c.back-2.ensures.pass (full_is {on = g.E.Engine.on} m (c.try_place.ensures.tried.misfits c.if-try_place.false)
+    full)

@@ -1,29 +1,28 @@
-use Rattle.mk_alloc.proofs.{Vocabulary.sweeps_then, SeekingTurns.{misfits_finished, room_finished, seeks_finished}}
-use Rattle.mk_alloc.proofs.{SeekingTurns.seeks_then, OneCycles.finish_then_none}
+use Rattle.mk_alloc.proofs.SeekingTurns.{misfits_finished, room_finished, seeks_finished, tried_then}
+use Rattle.mk_alloc.proofs.{UnsweptTurns.{engine_then, finished_by_engine, none_by_engine}, OneCycles.finish_then_none}
 use Rattle.mk_alloc.proofs.rooms.finish_and_place.Goals as goal
 
 pub try_place-placed-requires : goal.try_place-placed-requires
 try_place-placed-requires g c =
-    room_finished c.requires.seeks c.requires.nowhere c.finish_cycle-turn.ensures.law
+    room_finished c.requires.needs.seeks c.requires.needs.nowhere c.finish_cycle-turn.ensures.law
     c.finish_cycle-turn.result.0.in_order
 
-pub returns-clause-placed : goal.returns-clause-placed
-returns-clause-placed g c placed =
-    seeks_then (seeks_finished c.requires.seeks c.requires.nowhere c.finish_cycle-turn.ensures.law
-    c.finish_cycle-turn.result.0.in_order.history) (c.try_place-placed.ensures.placed placed)
-
-pub returns-clause-misfits : goal.returns-clause-misfits
-returns-clause-misfits g c misfits =
-    misfits_finished c.requires.seeks c.requires.nowhere c.finish_cycle-turn.ensures.law
-    c.finish_cycle-turn.result.0.in_order.history (c.try_place-placed.ensures.misfits misfits)
-    (c.try_place-placed.ensures.looks misfits)
-
-pub returns-clause-reached : goal.returns-clause-reached
-returns-clause-reached g c none =
-    sweeps_then c.args.turn.pass c.finish_cycle-turn.result.0.pass c.try_place-placed.new.turn.pass
-    c.finish_cycle-turn.ensures.law.pass (c.finish_cycle-turn.ensures.reached none) c.try_place-placed.ensures.reached
+pub returns-clause-tried : goal.returns-clause-tried
+returns-clause-tried g c =
+    let needs = c.requires.needs in
+    let law = c.finish_cycle-turn.ensures.law in
+    let history = c.finish_cycle-turn.result.0.in_order.history in
+    tried_then (seeks_finished needs.seeks needs.nowhere law history) c.try_place-placed.ensures.tried
+    (λ none misfits. misfits_finished needs.seeks needs.nowhere law history misfits
+    (c.try_place-placed.ensures.looks none))
 
 pub returns-clause-ends : goal.returns-clause-ends
 returns-clause-ends g c =
-    finish_then_none c.requires.seeks.turn c.finish_cycle-turn.ensures.law c.finish_cycle-turn.result.0.in_order.history
-    c.try_place-placed.ensures.begins
+    finish_then_none c.args.turn.in_order c.finish_cycle-turn.ensures.law
+    c.finish_cycle-turn.result.0.in_order.history c.try_place-placed.ensures.begins
+
+pub returns-clause-engine : goal.returns-clause-engine
+returns-clause-engine g c =
+    let finished = c.finish_cycle-turn.ensures in
+    engine_then finished.law.pass (finished_by_engine c.args.turn.in_order.own finished.law finished.reached)
+    (none_by_engine c.try_place-placed.ensures.begins c.try_place-placed.ensures.reached)

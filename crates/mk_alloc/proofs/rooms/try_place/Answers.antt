@@ -2,15 +2,15 @@ use Rattle.mk_alloc.proofs.{Vocabulary.{cases_Bool, inl, inr}, OneCycles.{looks_
 use Rattle.mk_alloc.proofs.SeekingTurns.{misfits_here, seeks_placed}
 use Rattle.mk_alloc.proofs.rooms.try_place.Goals as goal
 
-pub returns-clause-placed : goal.returns-clause-placed
-returns-clause-placed c placed =
+pub returns-clause-tried : goal.returns-clause-tried
+returns-clause-tried c =
     let room = c.requires in
-    seeks_placed room.turn room.unplaced room.quiet (c.place_object.ensures.placed placed)
-    c.place_object.new.turn.in_order.history
-
-pub returns-clause-misfits : goal.returns-clause-misfits
-returns-clause-misfits c misfits =
-    misfits_here c.requires (c.place_object.ensures.nowhere misfits) c.place_object.new.turn.in_order
+    let turn = c.place_object.new.turn.in_order in
+    record {
+      placed = λ placed. seeks_placed room.turn room.unplaced room.quiet (c.place_object.ensures.placed placed)
+          turn.history;
+      misfits = λ none. misfits_here room (c.place_object.ensures.nowhere none) turn;
+    }
 
 pub returns-clause-begins : goal.returns-clause-begins
 returns-clause-begins c =

@@ -1,4 +1,5 @@
-use Rattle.mk_heap_tests.proofs.{Vocabulary.BothMayAllocate, HeldObjects.{both_may, first_on, pass_of_objects}}
+use Rattle.mk_heap_tests.proofs.Vocabulary.{BothMayAllocate}
+use Rattle.mk_heap_tests.proofs.HeldObjects.{both_may, first_on, pass_of_objects}
 use Rattle.mk_heap_tests.proofs.retiring.fill_and_retire.Goals.{After-new-other}
 use Rattle.mk_laws.proofs.Vocabulary.{arith}
 use Rattle.mk_heap_tests.proofs.retiring.fill_and_retire.Goals as goal
@@ -17,7 +18,13 @@ pub make_many-of_second-requires-clause-may : goal.make_many-of_second-requires-
 make_many-of_second-requires-clause-may g c x2 within = grind (arith, first_on, may)
 
 pub retire_nine-requires-clause-first : goal.retire_nine-requires-clause-first
-retire_nine-requires-clause-first g c x2 within = grind (arith, pass_of_objects)
+retire_nine-requires-clause-first g c x2 within =
+    let made = c.make_many-of_first.ensures in
+    pass_of_objects c.requires.callers.first c.new-one.ensures made.same made.may.ready
+    c.finish.ensures.pass c.finish.ensures.idle
 
 pub retire_nine-requires-clause-second : goal.retire_nine-requires-clause-second
-retire_nine-requires-clause-second g c x2 within = grind (arith, pass_of_objects)
+retire_nine-requires-clause-second g c x2 within =
+    let made = c.make_many-of_second.ensures in
+    pass_of_objects c.requires.callers.second c.new-other.ensures made.same made.may.ready
+    c.finish-2.ensures.pass c.finish-2.ensures.idle

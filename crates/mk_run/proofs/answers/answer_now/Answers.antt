@@ -11,22 +11,22 @@ new_object-requires-clause-ty g c κs within =
 pub returns-in-Ok-clause-answers : goal.returns-in-Ok-clause-answers
 returns-in-Ok-clause-answers g c =
     answered_new c.args.op c.in-New.full
-    (c.args.caller.now.in_order c.requires.home).pass.own c.in-New.is c.in-Ok.ensures.made
+    (c.args.caller.now.in_order c.requires.may.home).pass.own c.in-New.is c.in-Ok.ensures.made
 
 pub returns-in-Err-clause-answers : goal.returns-in-Err-clause-answers
 returns-in-Err-clause-answers g c =
     answered_new c.args.op c.in-New.full
-    (c.args.caller.now.in_order c.requires.home).pass.own c.in-New.is c.in-Err.ensures.full.called
+    (c.args.caller.now.in_order c.requires.may.home).pass.own c.in-New.is c.in-Err.ensures.full.called
 
 pub returns-in-Ok-free_object-clause-answers : goal.returns-in-Ok-free_object-clause-answers
 returns-in-Ok-free_object-clause-answers g c =
     answered_free c.args.op
-    (c.args.caller.now.in_order c.requires.home).pass.own c.in-Free.is c.in-Ok-free_object.ensures.freed.called
+    (c.args.caller.now.in_order c.requires.may.home).pass.own c.in-Free.is c.in-Ok-free_object.ensures.freed.called
 
 pub returns-in-Err-free_object-clause-answers : goal.returns-in-Err-free_object-clause-answers
 returns-in-Err-free_object-clause-answers g c =
     answered_free c.args.op
-    (c.args.caller.now.in_order c.requires.home).pass.own c.in-Free.is c.in-Err-free_object.ensures.double.called
+    (c.args.caller.now.in_order c.requires.may.home).pass.own c.in-Free.is c.in-Err-free_object.ensures.double.called
 
 pub returns-in-Ok-call : goal.returns-in-Ok-call
 returns-in-Ok-call g c =
@@ -34,7 +34,8 @@ returns-in-Ok-call g c =
     let q = c.call.new.caller.pass in
     let called = c.in-Ok-call.ensures.called in
     let entered : is_under_turn c.args.op ≡ false = search rules in
-    let answers = answered_by_call g.E.Engine.on (c.args.caller.now.in_order c.requires.home).pass.own entered called in
+    let answers = answered_by_call g.E.Engine.on
+    (c.args.caller.now.in_order c.requires.may.home).pass.own entered called in
     record {
       home = c.call.ensures.home;
       made_for = refl;
@@ -61,6 +62,6 @@ returns-in-Err-call g c =
       beside = entered;
       held = held;
       reached =
-          λ off. sweep_nothing_where_held p c.args.op q (c.args.caller.now.in_order c.requires.home).pass.own held;
+          λ off. sweep_nothing_where_held p c.args.op q (c.args.caller.now.in_order c.requires.may.home).pass.own held;
       begun = beside_begun g.E.Engine.begins none.beside;
     }

@@ -5,44 +5,44 @@ use Rattle.mk_run.proofs.answers.answer_put_off.Goals as goal
 
 pub new_object-requires-clause-register : goal.new_object-requires-clause-register
 new_object-requires-clause-register g c κs within =
-    let history = (c.args.caller.now.in_order c.requires.home).pass.history in
+    let history = (c.args.caller.now.in_order c.requires.may.home).pass.history in
     (rw c.in-New.is at (c.requires.admitted c.args.caller.now.pass.seen history refl)).in_range.0
 
 pub free_object-requires-clause-register : goal.free_object-requires-clause-register
 free_object-requires-clause-register g c κs within =
-    let history = (c.args.caller.now.in_order c.requires.home).pass.history in
+    let history = (c.args.caller.now.in_order c.requires.may.home).pass.history in
     (rw c.in-Free.is at (c.requires.admitted c.args.caller.now.pass.seen history refl)).in_range
 
 pub new_object-requires-clause-ty : goal.new_object-requires-clause-ty
 new_object-requires-clause-ty g c κs within =
     let p = c.args.caller.now.pass in
     type_exists p c.args.op c.in-New.d c.in-New.ty c.in-New.full c.in-New.is
-    (c.requires.admitted p.seen (c.args.caller.now.in_order c.requires.home).pass.history refl)
+    (c.requires.admitted p.seen (c.args.caller.now.in_order c.requires.may.home).pass.history refl)
 
 pub returns-in-Ok-clause-answers : goal.returns-in-Ok-clause-answers
 returns-in-Ok-clause-answers g c =
     answered_new c.args.op c.in-New.full
-    (c.args.caller.now.in_order c.requires.home).pass.own c.in-New.is c.in-Ok.ensures.made
+    (c.args.caller.now.in_order c.requires.may.home).pass.own c.in-New.is c.in-Ok.ensures.made
 
 pub returns-in-Err-clause-answers : goal.returns-in-Err-clause-answers
 returns-in-Err-clause-answers g c =
     answered_new c.args.op c.in-New.full
-    (c.args.caller.now.in_order c.requires.home).pass.own c.in-New.is c.in-Err.ensures.full.called
+    (c.args.caller.now.in_order c.requires.may.home).pass.own c.in-New.is c.in-Err.ensures.full.called
 
 pub returns-in-Ok-free_object-clause-answers : goal.returns-in-Ok-free_object-clause-answers
 returns-in-Ok-free_object-clause-answers g c =
     answered_free c.args.op
-    (c.args.caller.now.in_order c.requires.home).pass.own c.in-Free.is c.in-Ok-free_object.ensures.freed.called
+    (c.args.caller.now.in_order c.requires.may.home).pass.own c.in-Free.is c.in-Ok-free_object.ensures.freed.called
 
 pub returns-in-Err-free_object-clause-answers : goal.returns-in-Err-free_object-clause-answers
 returns-in-Err-free_object-clause-answers g c =
     answered_free c.args.op
-    (c.args.caller.now.in_order c.requires.home).pass.own c.in-Free.is c.in-Err-free_object.ensures.double.called
+    (c.args.caller.now.in_order c.requires.may.home).pass.own c.in-Free.is c.in-Err-free_object.ensures.double.called
 
 pub answer_when_open-requires : goal.answer_when_open-requires
 answer_when_open-requires g c = record {
-  home = c.requires.home;
-  exists = c.requires.exists;
+  home = c.requires.may.home;
+  exists = c.requires.may.exists;
   asks = record { op = c.args.op; asks = c.requires.asks; beside = search rules; admitted = c.requires.admitted };
 }
 

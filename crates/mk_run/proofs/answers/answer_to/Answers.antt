@@ -6,7 +6,7 @@ use Rattle.mk_run.proofs.answers.answer_to.Goals as goal
 
 pub answer_now-requires-clause-admitted : goal.answer_now-requires-clause-admitted
 answer_now-requires-clause-admitted g c x2 within =
-    let rests = c.args.caller.now.in_order c.requires.home in grind arith
+    let rests = c.args.caller.now.in_order c.requires.may.home in grind arith
 
 pub call_until_open-requires : goal.call_until_open-requires
 call_until_open-requires g c =
@@ -14,7 +14,7 @@ call_until_open-requires g c =
     let none = makes_none true c.in-Err.ensures.held in
     record {
       home = c.answer_now.ensures.home;
-      exists = subst (λ (q : PassState). caller_of_pass q < q.table.config.callers) (sym none.is) c.requires.exists;
+      exists = subst (λ (q : PassState). caller_of_pass q < q.table.config.callers) (sym none.is) c.requires.may.exists;
       entered = c.in-Err.ensures.beside;
       admitted = stays_admitted_after c.args.op c.requires.admitted none;
     }

@@ -21,4 +21,4 @@ pub returns-clause-keeps : goal.returns-clause-keeps
 returns-clause-keeps g c =
     script_keeps c.new-caller.result c.run_script-text.new.caller.pass c.finish.result c.requires.pass
     c.new-caller.ensures (record
-    { unswept = c.run_script-text.ensures.reached; begun = c.run_script-text.ensures.begun }) c.finish.ensures.pass
+    { reached = c.run_script-text.ensures.reached; begun = c.run_script-text.ensures.begun }) c.finish.ensures.pass

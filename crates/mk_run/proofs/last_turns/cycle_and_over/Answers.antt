@@ -21,7 +21,7 @@ returns g c =
         is = c.over.ensures.host ∙ ap (λ (x : HostState). with_seen x over.pass.seen) c.cycle.ensures.host;
         still = still_behind_both c.args.heap.now h cycled over at.seat c.cycle.ensures.host told c.over.ensures.over;
         keeps = record {
-          unswept = λ off. sweeps_then h.pass cycled.pass over.pass moved (c.cycle.ensures.reached off)
+          reached = λ off. sweeps_then h.pass cycled.pass over.pass moved (c.cycle.ensures.reached off)
               (c.over.ensures.reached off);
           begun = begun_then begins _ cycled.pass over.pass moved c.cycle.ensures.begun (over_begun begins cycled.pass
               over.pass c.over.ensures.over);

@@ -13,7 +13,7 @@ returns-else-with_cycle-clause-host g c =
       is = c.over.ensures.host;
       still = still_behind_over at.seat c.over.ensures.over;
       keeps = record {
-        unswept = c.over.ensures.reached;
+        reached = c.over.ensures.reached;
         begun = over_begun g.E.Engine.begins p q c.over.ensures.over;
       };
     }

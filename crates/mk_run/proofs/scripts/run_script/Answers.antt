@@ -1,4 +1,4 @@
-use Rattle.mk_laws.proofs.Vocabulary.{ap, arith, sym, ◌∙◌, ◌≡◌}
+use Rattle.mk_laws.proofs.Vocabulary.{ap, arith, subst, sym, [], ◌∙◌, ◌∷◌, ◌≡◌}
 use Rattle.mk_run.proofs.Vocabulary.{IsAdmittedByOwnCalls, IsChecked, PassState, answers_in, begun_then, nothing_sweeps}
 use Rattle.mk_run.proofs.{Vocabulary.{rules, sweeps_then}, PutOff.{IsAnsweredAs, answered_at_once, answered_later}}
 use Rattle.mk_run.proofs.{PutOff.{put_off_admitted, put_off_is}, ScriptCalls.{asked_stays_admitted, exists_on}}
@@ -66,20 +66,18 @@ answer_put_off-answer-requires-clause-asks g c κs within = record {
   next = λ program k answers fed. sym (c.in-Some.ensures.next program k answers fed);
 }
 
-pub answer_put_off-answer-requires-clause-exists : goal.answer_put_off-answer-requires-clause-exists
-answer_put_off-answer-requires-clause-exists g c κs within =
-    let x = goal.at.answer_put_off-answer-requires-clause-exists g c in
-    exists_on c.args.caller.now.pass c.answer_at_once.new.caller.pass c.args.k c.args.program.now
-    (put_off g x.In-None) c.requires.number c.requires.script c.requires.config
-
-pub answer_put_off-answer-requires-clause-alone : goal.answer_put_off-answer-requires-clause-alone
-answer_put_off-answer-requires-clause-alone g c κs within = grind (arith, put_off)
-
-pub answer_put_off-answer-requires-clause-made_for : goal.answer_put_off-answer-requires-clause-made_for
-answer_put_off-answer-requires-clause-made_for g c κs within =
-    let x = goal.at.answer_put_off-answer-requires-clause-made_for g c in
-    c.instructions.invariant.made_for ∙ c.requires.ready.engine
-    ∙ ap (λ (q : PassState). q.table.config.pages) (sym (put_off g x.In-None))
+pub answer_put_off-answer-requires-clause-may : goal.answer_put_off-answer-requires-clause-may
+answer_put_off-answer-requires-clause-may g c κs within =
+    let x = goal.at.answer_put_off-answer-requires-clause-may g c in
+    let is = put_off g x.In-None in
+    record {
+      home = c.answer_at_once.ensures.home;
+      exists = exists_on c.args.caller.now.pass c.answer_at_once.new.caller.pass c.args.k c.args.program.now
+          is c.requires.number c.requires.script c.requires.config;
+      alone = subst (λ (q : PassState). q.seats ≡ q.seat ∷ []) (sym is) c.requires.alone;
+      made_for = c.instructions.invariant.made_for ∙ c.requires.ready.engine
+          ∙ ap (λ (q : PassState). q.table.config.pages) (sym is);
+    }
 
 pub instructions-smaller : goal.instructions-smaller
 instructions-smaller g c = omega (arith, c.in_ok-take_answer.ensures.ops, c.instructions-test.true)

@@ -4,11 +4,13 @@ use Rattle.mk_trace.proofs.{ExactPlays.call_stays_exact, JoinedCalls.Joined, cal
 use Rattle.mk_laws.proofs.Vocabulary.{ap, arith, ◌∙◌}
 use Rattle.mk_trace.proofs.calls.call.Goals as goal
 
-pub answer_to-answer-requires-clause-exists : goal.answer_to-answer-requires-clause-exists
-answer_to-answer-requires-clause-exists g c x2 within = grind (arith, made_exists)
-
-pub answer_to-answer-requires-clause-alone : goal.answer_to-answer-requires-clause-alone
-answer_to-answer-requires-clause-alone g c x2 within = grind (arith, made_alone)
+pub answer_to-answer-requires-clause-may : goal.answer_to-answer-requires-clause-may
+answer_to-answer-requires-clause-may g c x2 within = record {
+  home = c.caller_again-caller.ensures.caller.home;
+  exists = grind (arith, made_exists);
+  alone = grind (arith, made_alone);
+  made_for = grind arith;
+}
 
 pub answer_to-answer-requires-clause-admitted : goal.answer_to-answer-requires-clause-admitted
 answer_to-answer-requires-clause-admitted g c κs within =
