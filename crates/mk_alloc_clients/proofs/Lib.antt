@@ -1,3 +1,3 @@
-mod OnePage
+mod NumberTurns
 mod Owned
 pub mod OwnedCalls

@@ -1,7 +1,7 @@
 -- An object of one number: what makes it, and what is known where that, or a later call, is given up.
 use Rattle.std.specs.Prelude.{◌≡◌, ℕ, ◌+◌, ◌<◌, true, false, List, [], ◌∷◌, Some}
 use Rattle.mk_never.specs.{declared.operations.Op.Op, Types.kinds_of}
-use Rattle.mk_core.specs.{declared.seats.Object.Object, Decided.Decided}
+use Rattle.mk_core.specs.Decided.{Decided}
 use Rattle.mk_words.specs.{States.{PassState, TurnState}, Steps.Finds}
 use Rattle.mk_caller.specs.States.{CallerState, IsIdleCaller, caller_of_pass}
 use Rattle.mk_objects.specs.Placing.{FitsNowhere}
@@ -14,15 +14,10 @@ use Rattle.mk_core.specs.declared.events.Answer.TheVariants as answer
 use Rattle.mk_core.specs.declared.events.Step.TheVariants as step
 use Rattle.mk_alloc_clients.specs.declared.outcomes.Unfinished.TheVariants as unfinished
 
--- It has one word, and no pointer.
-abbrev pub one_number : Object
-one_number = record { words = 1; leaf = true }
-
--- The pass is that of a caller on a heap of one page. It has no other seat, and the type is that of one number.
+-- The pass is that of a caller. It has no other seat, and the type is that of one number.
 pub record SuitsNumber (p : PassState) (d ty : ℕ) : Type 0 where
   pub exists : caller_of_pass p < p.table.config.callers
   pub alone : p.seats ≡ p.seat ∷ []
-  pub one_page : p.table.config.pages ≡ 1
   pub register : d < 8
   pub number : kinds_of p.table.config.types ty ≡ Number ∷ []
 

@@ -8,7 +8,6 @@ mod laws;
 mod making;
 mod numbers;
 mod outcomes;
-mod placing;
 mod threads;
 
 pub use laws::owned_numbers_stay;

@@ -1,4 +1,4 @@
-//! An object of one number, made by the steps of a turn.
+//! An object of one number, made in a turn of its own.
 ghost use Rattle.std.specs.Prelude.{◌≡◌, Bool, OnOk, IfErr, true, false};
 ghost use Rattle.mk_alloc.specs.TurnCalls.{CalledInTurn};
 ghost use Rattle.mk_alloc_clients.specs.{Making.{IsUnmade, SuitsNumber}, Owned.HasNumber};
@@ -6,11 +6,11 @@ ghost use Rattle.mk_never.specs.declared.operations.Op.TheVariants as op;
 ghost use Rattle.mk_core.specs.declared.events.Answer.TheVariants as answer;
 
 use crate::outcomes::Unmade;
-use crate::placing::place_number;
 use mk_caller::Caller;
 use mk_never::Op;
+use mk_objects::{Request, place_object};
 
-/// Creates an object of one number by the steps of a turn, in a heap of one page.
+/// Creates an object of one number in a turn, unless another seat has the turn or nothing fits.
 pub fn make_number(caller: &mut Caller, d: u8, ty: u64) -> Result<(), Unmade>
     requires home { caller.old.home ≡ true }
     requires suits { SuitsNumber caller.old.pass d ty }
@@ -30,7 +30,7 @@ pub fn make_number(caller: &mut Caller, d: u8, ty: u64) -> Result<(), Unmade>
         }
         Ok(mut turn) => {
             turn.is_in_order();
-            if !place_number(words, &mut turn, d) {
+            if !place_object(words, &mut turn, Request { register: d, ty }) {
                 return Err(Unmade::NoRoom(turn));
             }
             let home = turn.give(words);
