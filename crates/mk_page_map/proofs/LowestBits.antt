@@ -1,5 +1,5 @@
 -- The lowest 1 of a word, from a place on or above one, and a word with one bit put.
-use Rattle.std.proofs.Common.{bit_and, bit_or, eq-eqb, le-ltb, lt-ltb, min, pow-add, shr-shr, ◌/◌, ◌^◌}
+use Rattle.std.proofs.Common.{bit_and, bit_or, eq-eqb, le-ltb, lt-ltb, pow-add, shr-shr, ◌/◌, ◌^◌}
 use Rattle.std.proofs.lemmas.Nat.Bits.{bit_at-lt, bit_at-pow_other, bit_at-pow_same, bit_at-zero, bit_at_above}
 use Rattle.std.proofs.lemmas.Nat.Bits.{bit_at_and, bit_at_clear_other, bit_at_clear_same, bit_at_mask_below}
 use Rattle.std.proofs.lemmas.Nat.Bits.{bit_at_mask_inside, bit_at_ones, bit_at_ones_above, bit_at_set_other}
@@ -47,16 +47,15 @@ mask_above place within =
 
 rest_kept : (word place k : ℕ) → place < k → k < 64 → bit_at (rest_above word place) k ≡ bit_at word k
 rest_kept word place k above within =
-    let one : bit_at (2 ^ 64 - 2 ^ (place + 1)) k ≡ 1 = bit_at_mask_inside (place + 1) 64 k (omega arith) within in
-    ap (λ mask. bit_at (bit_and word mask) k) (mask_above place (omega arith))
-    ∙ bit_at_and word (2 ^ 64 - 2 ^ (place + 1)) k ∙ ap (min (bit_at word k)) one
-    ∙ (let few = bit_at-lt word k in omega arith)
+    let mask = mask_above place (omega arith) in
+    let one = bit_at_mask_inside (place + 1) 64 k (omega arith) within in
+    grind (arith, mask, one, bit_at_and, bit_at-lt)
 
 rest_dropped : (word place k : ℕ) → place < 64 → k ≤ place → bit_at (rest_above word place) k ≡ 0
 rest_dropped word place k fits below =
-    let none : bit_at (2 ^ 64 - 2 ^ (place + 1)) k ≡ 0 = bit_at_mask_below (place + 1) 64 k (omega arith) in
-    ap (λ mask. bit_at (bit_and word mask) k) (mask_above place fits)
-    ∙ bit_at_and word (2 ^ 64 - 2 ^ (place + 1)) k ∙ ap (min (bit_at word k)) none ∙ omega arith
+    let mask = mask_above place fits in
+    let none = bit_at_mask_below (place + 1) 64 k (omega arith) in
+    grind (arith, mask, none, bit_at_and)
 
 pub lowest_is_above : (word place next : ℕ) → place < 64 → next < 64 → bit_at (rest_above word place) next ≡ 1
     → ((below : ℕ) → below < next → bit_at (rest_above word place) below ≡ 0)

@@ -45,6 +45,11 @@ OthersStay before after page =
     (set number : ℕ) → set < 20 → number < 4096 → (number ≡ page → ⊥)
     → is_member after set number ≡ is_member before set number
 
+-- a page is in the sets of blocks that it was in, and with freed cells where it was so
+abbrev pub StaysInOtherSets : List ℕ → List ℕ → ℕ → Type 0
+StaysInOtherSets before after page =
+    (set : ℕ) → set < 19 → (set ≡ 16 → ⊥) → (set ≡ 17 → ⊥) → is_member after set page ≡ is_member before set page
+
 -- the sets and the count of resident pages fit the pages
 pub record FitPages (pages : List Page) (sets : List ℕ) (resident : ℕ) : Type 0 where
   pub few : length pages ≤ 4096

@@ -25,11 +25,10 @@ impl PageMap {
             used,
         } = self.pages[place];
         let before = kind_of(found);
-        let after = kind_of(header);
-        self.pages[place] = Page { header, used };
-        sort_by_header(&mut self.sets, page, before, after, used);
         let was_resident = u64::from(before.is_resident());
-        self.resident = self.resident + u64::from(after.is_resident()) - was_resident;
+        self.pages[place] = Page { header, used };
+        let is_resident = sort_by_header(&mut self.sets, page, before, header, used);
+        self.resident = self.resident + u64::from(is_resident) - was_resident;
     }
 
     /// A used word was stored.

@@ -1,6 +1,6 @@
 //! What pages are by their header words.
 ghost use Rattle.std.specs.Prelude.{◌≡◌, ℕ, ◌<◌, is_some, not};
-ghost use Rattle.mk_geom.specs.{Classes.cells_of, Headers.header_of, PageUses.{first_where, is_free_page}};
+ghost use Rattle.mk_geom.specs.{Classes.cells_of, Headers.header_of, PageUses.first_where};
 ghost use Rattle.mk_geom.specs.{PageUses.is_resident_page, PageWords.{bits_of, use_under}};
 ghost use Rattle.mk_page_map.specs.PageSets.{HasClass, use_of_kind};
 
@@ -29,12 +29,6 @@ pub(crate) fn kind_of(header: u64) -> PageKind
 }
 
 impl PageKind {
-    pub(crate) fn is_free(self) -> bool
-        ensures { (used : ℕ) → is_free_page (use_of_kind self used) ≡ result }
-    {
-        matches!(self, PageKind::Free)
-    }
-
     pub(crate) fn is_resident(self) -> bool
         ensures { (used : ℕ) → is_resident_page (use_of_kind self used) ≡ result }
     {

@@ -1,6 +1,6 @@
 //! Sets of page numbers, as bits: 64 pages in a word, and 64 words in a set, after a summary of which of them aren't 0.
 //! So a set's next page is found by two words of it and the summary.
-ghost use Rattle.std.specs.{Prelude.{◌≡◌, ℕ, ◌+◌, ◌*◌, ◌<◌, ◌==◌, nat_lt, not}, Int.bit_at};
+ghost use Rattle.std.specs.{Prelude.{◌≡◌, ℕ, ◌+◌, ◌*◌, ◌<◌, ◌==◌, false, true, nat_lt, not}, Int.bit_at};
 ghost use Rattle.mk_page_map.specs.{Members.IsNext, PageSets.{AreSets, OtherWordsStay, OthersStay, is_member}};
 ghost use Rattle.mk_page_map.specs.PageSets.{word_in_set};
 
@@ -62,6 +62,7 @@ fn with_bit(word: u64, place: u64, is_one: bool) -> u64
     requires { place < 64 }
     ensures this { (bit_at result place == 1) ≡ is_one }
     ensures others { (other : ℕ) → other < 64 → (other ≡ place → ⊥) → bit_at result other ≡ bit_at word other }
+    ensures none { word ≡ 0 → is_one ≡ false → result ≡ 0 }
 {
     let bit = 1u64 << place;
     if is_one { word | bit } else { word & !bit }
@@ -121,5 +122,44 @@ pub(crate) fn put(sets: &mut [u64], set: usize, page: u64, inside: bool)
     let bits = sets[SET_WORDS * set + 1 + word as usize];
     if has_one(bits, page % 64) != inside {
         store_word(sets, set, word, with_turned(bits, page % 64));
+    }
+}
+
+/// Puts a page into a set that it mostly isn't in: it is stored without a look.
+#[inline(always)]
+pub(crate) fn insert(sets: &mut [u64], set: usize, page: u64)
+    requires sets { AreSets sets.old }
+    requires set { set < 20 }
+    requires page { page < 4096 }
+    ensures sets { AreSets sets.new }
+    ensures this { is_member sets.new set page ≡ true }
+    ensures other_sets { (other : ℕ) → other < 20 → (other ≡ set → ⊥)
+        → is_member sets.new other page ≡ is_member sets.old other page }
+    ensures other_pages { OthersStay sets.old sets.new page }
+{
+    let word = page / 64;
+    let bits = sets[SET_WORDS * set + 1 + word as usize];
+    store_word(sets, set, word, with_bit(bits, page % 64, true));
+}
+
+/// Takes a page out of a set that it mostly is in. Where others are left in its word, the summary stays.
+#[inline(always)]
+pub(crate) fn remove(sets: &mut [u64], set: usize, page: u64)
+    requires sets { AreSets sets.old }
+    requires set { set < 20 }
+    requires page { page < 4096 }
+    ensures sets { AreSets sets.new }
+    ensures this { is_member sets.new set page ≡ false }
+    ensures other_sets { (other : ℕ) → other < 20 → (other ≡ set → ⊥)
+        → is_member sets.new other page ≡ is_member sets.old other page }
+    ensures other_pages { OthersStay sets.old sets.new page }
+{
+    let word = page / 64;
+    let place = SET_WORDS * set + 1 + word as usize;
+    let rest = with_bit(sets[place], page % 64, false);
+    sets[place] = rest;
+    if rest == 0 {
+        let summary = SET_WORDS * set;
+        sets[summary] = with_bit(sets[summary], word, false);
     }
 }

@@ -1,12 +1,13 @@
 //! The sets that a page is in by what stands on it.
 ghost use Rattle.std.specs.Prelude.{◌≡◌, ℕ, ◌<◌, ◌≤◌, ◌==◌, ◌&&◌, IfOk, false, true, nat_lt, not};
 ghost use Rattle.mk_books.specs.FreeCells.{class_place};
-ghost use Rattle.mk_geom.specs.PageUses.{is_free_page};
-ghost use Rattle.mk_page_map.specs.PageSets.{AreSets, HasClass, IsInItsSets, OthersStay, is_member, is_of_set};
+ghost use Rattle.mk_geom.specs.{Headers.header_of, PageWords.use_under};
+ghost use Rattle.mk_geom.specs.PageUses.{PartOfRun, is_free_page, is_resident_page};
+ghost use Rattle.mk_page_map.specs.PageSets.{AreSets, HasClass, IsInItsSets, OthersStay, StaysInOtherSets, is_member};
 ghost use Rattle.mk_page_map.specs.PageSets.{use_of_kind};
 
-use crate::kinds::{PageKind, has_free_cell};
-use crate::sets::{SET_WORDS, ones_below, put, store_word};
+use crate::kinds::{PageKind, has_free_cell, kind_of};
+use crate::sets::{SET_WORDS, insert, ones_below, put, remove, store_word};
 use std::alloc::{AllocError, Global};
 
 /// The set of the free pages. Sets 0 to 15 have the blocks with a free cell.
@@ -34,89 +35,109 @@ pub(crate) fn block_set(class: u64, leaf: bool) -> usize
     if leaf { 8 + class } else { class }
 }
 
-/// Takes a block out of the set that it is in.
-fn leave_blocks(sets: &mut [u64], page: u64, kind: PageKind)
+/// Puts a page among the free ones, where it may be marked.
+#[inline(always)]
+fn put_free(sets: &mut [u64], page: u64)
+    requires sets { AreSets sets.old }
+    requires page { page < 4096 }
+    ensures sets { AreSets sets.new }
+    ensures free { is_member sets.new 16 page ≡ true }
+    ensures in_use { is_member sets.new 17 page ≡ false }
+    ensures uncleaned { is_member sets.new 19 page ≡ true }
+    ensures other_sets { StaysInOtherSets sets.old sets.new page }
+    ensures other_pages { OthersStay sets.old sets.new page }
+{
+    insert(sets, FREE, page);
+    remove(sets, IN_USE, page);
+    insert(sets, UNCLEANED, page);
+}
+
+/// Puts a free page among those in use. It is no more among the free pages that may be marked.
+#[inline(always)]
+fn put_in_use(sets: &mut [u64], page: u64)
+    requires sets { AreSets sets.old }
+    requires page { page < 4096 }
+    ensures sets { AreSets sets.new }
+    ensures free { is_member sets.new 16 page ≡ false }
+    ensures in_use { is_member sets.new 17 page ≡ true }
+    ensures other_sets { StaysInOtherSets sets.old sets.new page }
+    ensures other_pages { OthersStay sets.old sets.new page }
+{
+    remove(sets, FREE, page);
+    insert(sets, IN_USE, page);
+    remove(sets, UNCLEANED, page);
+}
+
+/// Takes a page out of the sets that it is in, but that of the pages in use, so that it is sorted as one of a run.
+#[inline(always)]
+fn leave_sets(sets: &mut [u64], page: u64, kind: PageKind)
     requires sets { AreSets sets.old }
     requires page { page < 4096 }
     requires class { HasClass kind }
     requires sorted { (used : ℕ) × IsInItsSets sets.old page (use_of_kind kind used) }
     ensures sets { AreSets sets.new }
-    ensures left { (set : ℕ) → set < 16 → is_member sets.new set page ≡ false }
-    ensures other_sets { (set : ℕ) → 16 ≤ set → set < 20 → is_member sets.new set page ≡ is_member sets.old set page }
+    ensures sorted { IsInItsSets sets.new page (PartOfRun false) }
+    ensures quarantined { is_member sets.new 18 page ≡ is_member sets.old 18 page }
     ensures other_pages { OthersStay sets.old sets.new page }
 {
-    if let PageKind::Block { class, leaf } = kind {
-        put(sets, block_set(class, leaf), page, false);
+    match kind {
+        PageKind::Free => put_in_use(sets, page),
+        PageKind::Block { class, leaf } => remove(sets, block_set(class, leaf), page),
+        PageKind::Run { .. } => {}
     }
 }
 
-/// Puts a block that is in no set of blocks into its own, where it has a free cell.
-fn join_blocks(sets: &mut [u64], page: u64, kind: PageKind, used: u64)
+/// Puts a page that is sorted as one of a run into the sets that it is of.
+#[inline(always)]
+fn join_sets(sets: &mut [u64], page: u64, kind: PageKind, used: u64)
     requires sets { AreSets sets.old }
     requires page { page < 4096 }
     requires class { HasClass kind }
-    requires left { (set : ℕ) → set < 16 → is_member sets.old set page ≡ false }
+    requires sorted { IsInItsSets sets.old page (PartOfRun false) }
     ensures sets { AreSets sets.new }
-    ensures joined { (set : ℕ) → set < 16 → is_member sets.new set page ≡ is_of_set set (use_of_kind kind used) }
-    ensures other_sets { (set : ℕ) → 16 ≤ set → set < 20 → is_member sets.new set page ≡ is_member sets.old set page }
+    ensures sorted { IsInItsSets sets.new page (use_of_kind kind used) }
+    ensures uncleaned { is_free_page (use_of_kind kind used) ≡ true → is_member sets.new 19 page ≡ true }
+    ensures quarantined { is_member sets.new 18 page ≡ is_member sets.old 18 page }
     ensures other_pages { OthersStay sets.old sets.new page }
 {
-    if let PageKind::Block { class, leaf } = kind {
-        put(
+    match kind {
+        PageKind::Free => put_free(sets, page),
+        PageKind::Block { class, leaf } => put(
             sets,
             block_set(class, leaf),
             page,
             has_free_cell(class, used),
-        );
+        ),
+        PageKind::Run { .. } => {}
     }
 }
 
-/// Puts a page among the free ones, where it may be marked, or among those in use.
+/// Sorts a page anew whose header word has changed, and returns whether it is resident now. It leaves its sets before
+/// the new word is read, so that each kind of page goes a way of its own.
 #[inline(always)]
-fn put_free(sets: &mut [u64], page: u64, is_free: bool)
-    requires sets { AreSets sets.old }
-    requires page { page < 4096 }
-    ensures sets { AreSets sets.new }
-    ensures free { is_member sets.new 16 page ≡ is_free }
-    ensures in_use { is_member sets.new 17 page ≡ not is_free }
-    ensures uncleaned { is_member sets.new 19 page ≡ is_free }
-    ensures other_sets { (set : ℕ) → set < 19 → (set ≡ 16 → ⊥) → (set ≡ 17 → ⊥)
-        → is_member sets.new set page ≡ is_member sets.old set page }
-    ensures other_pages { OthersStay sets.old sets.new page }
-{
-    put(sets, FREE, page, is_free);
-    put(sets, IN_USE, page, !is_free);
-    put(sets, UNCLEANED, page, is_free);
-}
-
-/// Sorts a page anew whose header word has changed. One that stays in use stays there.
 pub(crate) fn sort_by_header(
     sets: &mut [u64],
     page: u64,
     before: PageKind,
-    after: PageKind,
+    header: u64,
     used: u64,
-)
+) -> bool
     requires sets { AreSets sets.old }
     requires page { page < 4096 }
-    requires class_before { HasClass before }
-    requires class_after { HasClass after }
+    requires class { HasClass before }
     requires sorted { IsInItsSets sets.old page (use_of_kind before used) }
+    ensures resident { (word : ℕ) → is_resident_page (use_under (header_of header) word) ≡ result }
     ensures sets { AreSets sets.new }
-    ensures sorted { IsInItsSets sets.new page (use_of_kind after used) }
-    ensures uncleaned { is_free_page (use_of_kind after used) ≡ true → is_member sets.new 19 page ≡ true }
-    ensures other_sets { (set : ℕ) → 18 ≤ set → set < 19 → is_member sets.new set page ≡ is_member sets.old set page }
+    ensures sorted { IsInItsSets sets.new page (use_under (header_of header) used) }
+    ensures uncleaned { header ≡ 0 → is_member sets.new 19 page ≡ true }
+    ensures quarantined { is_member sets.new 18 page ≡ is_member sets.old 18 page }
     ensures other_pages { OthersStay sets.old sets.new page }
 {
-    leave_blocks(sets, page, before);
-    join_blocks(sets, page, after, used);
-    let was_free = before.is_free();
-    let is_free = after.is_free();
-    if is_free {
-        put_free(sets, page, true);
-    } else if was_free {
-        put_free(sets, page, false);
-    }
+    leave_sets(sets, page, before);
+    let after = kind_of(header);
+    let is_resident = after.is_resident();
+    join_sets(sets, page, after, used);
+    is_resident
 }
 
 /// Sorts a page anew whose used word has changed. A block that has a free cell before and after stays where it is.

@@ -1,9 +1,8 @@
-use Rattle.mk_page_map.proofs.Vocabulary.{List, Page, ℕ, ap, arith, drop, is_free_page, length, length-set, page_at}
-use Rattle.mk_page_map.proofs.Vocabulary.{set, sym, take, true, ◌++◌, ◌+◌, ◌<◌, ◌∙◌, ◌≡◌, ◌≤◌}
-use Rattle.mk_page_map.proofs.Storing.{Stores, counted_anew, page_read, page_within, resident_byte, store_fits}
-use Rattle.mk_page_map.proofs.{Storing.store_shows, Uncleaned.{others_kept, this_uncleaned}, Fitting.resident_one}
-use Rattle.mk_page_map.proofs.{FreeSets.written, page_map.PageMap.header_stored.Goals.After-from}
-use Rattle.mk_geom.specs.{Headers.header_of, PageWords.use_under}
+use Rattle.mk_page_map.proofs.Vocabulary.{List, Page, ℕ, ap, arith, drop, length, length-set, page_at, set, take, true}
+use Rattle.mk_page_map.proofs.{Vocabulary.{◌++◌, ◌+◌, ◌<◌, ◌∙◌, ◌≡◌, ◌≤◌}, Storing.{Stores, counted_anew, page_read}}
+use Rattle.mk_page_map.proofs.Storing.{page_within, resident_byte, store_fits, store_shows}
+use Rattle.mk_page_map.proofs.{Uncleaned.{others_kept, this_uncleaned}, Fitting.resident_one, FreeSets.written}
+use Rattle.mk_page_map.proofs.page_map.PageMap.header_stored.Goals.{After-from}
 use Rattle.mk_page_map.proofs.page_map.PageMap.header_stored.Goals as goal
 
 abbrev now : After-from → Page
@@ -13,7 +12,7 @@ within : (c : After-from) → c.args.page < length c.self.inside.pages.items
 within c = grind (arith, page_within)
 
 stores : (c : After-from) → Stores c.self.inside.pages.items c.self.inside.sets.items c.deref_mut.result.now
-    c.sort_by_header.new.sets c.self.inside.resident c.args.page (now c)
+    c.sort_by_header-is_resident.new.sets c.self.inside.resident c.args.page (now c)
 stores c = grind (arith, within)
 
 was_counted : (c : After-from)
@@ -30,8 +29,8 @@ enough c = counted_anew c.self.inside.pages.items c.args.page c.self.inside.resi
 pub overflow_sub-self : goal.overflow_sub-self
 overflow_sub-self c = enough c
 
-same_sets : (c : After-from) → take c.self.inside.sets.len (c.sort_by_header.new.sets ++ drop
-    (length c.sort_by_header.new.sets) c.self.inside.sets.items) ≡ c.sort_by_header.new.sets
+same_sets : (c : After-from) → take c.self.inside.sets.len (c.sort_by_header-is_resident.new.sets ++ drop
+    (length c.sort_by_header-is_resident.new.sets) c.self.inside.sets.items) ≡ c.sort_by_header-is_resident.new.sets
 same_sets c = grind (arith, written, within)
 
 pub invariant_of-self : goal.invariant_of-self
@@ -50,14 +49,14 @@ returns-clause-shows c pages freed shows =
 pub returns-clause-freed : goal.returns-clause-freed
 returns-clause-freed c free =
     let x = (goal.at.returns-clause-freed c).After-from in
-    this_uncleaned (set c.self.inside.pages.items c.args.page (now x)) c.sort_by_header.new.sets _ c.args.page true
-    (omega (arith, within x, length-set c.self.inside.pages.items c.args.page (now x))) (same_sets x)
-    (c.sort_by_header.ensures.uncleaned (ap is_free_page (sym (c.kind_of-after.ensures.kind c.index.result.now.used))
-    ∙ ap (λ (n : ℕ). is_free_page (use_under (header_of n) c.index.result.now.used)) free))
+    this_uncleaned (set c.self.inside.pages.items c.args.page (now x)) c.sort_by_header-is_resident.new.sets _
+    c.args.page true (omega (arith, within x, length-set c.self.inside.pages.items c.args.page (now x))) (same_sets x)
+    (c.sort_by_header-is_resident.ensures.uncleaned free)
 
 pub returns-clause-others : goal.returns-clause-others
 returns-clause-others c number differ =
     let x = (goal.at.returns-clause-others c).After-from in
     others_kept c.args.self.now c.self.inside.pages.items (set c.self.inside.pages.items c.args.page (now x))
     c.self.inside.sets.items _ number c.self.view_is c.deref_mut.ensures.value (same_sets x) (length-set
-    c.self.inside.pages.items c.args.page (now x)) c.self.invariant.few c.sort_by_header.ensures.other_pages differ
+    c.self.inside.pages.items c.args.page (now x)) c.self.invariant.few
+    c.sort_by_header-is_resident.ensures.other_pages differ
