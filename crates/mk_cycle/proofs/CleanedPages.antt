@@ -1,11 +1,11 @@
 -- Pages are cleaned one by one, and others are passed over: what is known of those before goes on.
 use Rattle.mk_laws.proofs.Vocabulary.{Steady, ℕ, ap, arith, cases_lt, false, header_at, sym, ◌+◌, ◌<◌, ◌∙◌, ◌≡◌, ◌≤◌}
+use Rattle.mk_cycle.proofs.Vocabulary.{Cleans, IsClean, IsTurn, PassState, WordsState, below_more, now_of}
+use Rattle.mk_page_map.specs.Members.{is_in_use, page_at}
 use Rattle.mk_laws.proofs.FreePages.{free_pages_have_nothing}
-use Rattle.mk_cycle.proofs.Vocabulary.{Cleans, IsClean, IsTurn, PassState, WasUndirty, WordsState, below_more, now_of}
-use Rattle.mk_cycle.proofs.CleaningSteps.{cleaned_table, cleans_nothing, cleans_then}
-use Rattle.mk_cycle.proofs.{Undirty.{undirty_earlier, undirty_later, undirty_now}, PageByPage.no_header}
-use Rattle.mk_cycle.{proofs.SettledPages.{no_cells, no_snapshot}, specs.Cleaning.{HasTakenSnapshot, IsCleanedPage}}
-use Rattle.mk_page_map.specs.Members.{has_freed_cells, is_in_use, page_at}
+use Rattle.mk_cycle.proofs.CleaningSteps.{clean_stays, cleaned_table, cleans_nothing, cleans_then, halves}
+use Rattle.mk_cycle.proofs.{PageByPage.no_header, Undirty.undirty_earlier, Undirty.undirty_later, Undirty.undirty_now}
+use Rattle.mk_cycle.specs.{Cleaning.HasTakenSnapshot, Cleaning.IsReadyPage, Freeing.IsQuarantineWord}
 use Rattle.mk_words.specs.{PageMaps.HasNoMarks, States.TurnState}
 
 -- The pages below one are looked through, before a cycle begins.
@@ -33,6 +33,18 @@ pub bare_stays : {p q : PassState} {page : ℕ} → Cleans p q → HasNoMarks (n
     → HasNoMarks (now_of q).words page
 bare_stays k h = grind arith
 
+-- A page without marks that has taken its snapshot is clean.
+pub clean_bare : {p q : PassState} {page : ℕ} → Cleans p q → HasNoMarks (now_of p).words page
+    → HasTakenSnapshot q page → IsClean q page
+clean_bare k bare taken =
+    let still = bare_stays k bare in
+    record { unmarked = still.unmarked; unscanned = still.unscanned; snapshot = taken }
+
+-- Where the quarantine word is 0, nothing is freed, and the snapshot is empty.
+pub no_quarantine : {p : PassState} (page n : ℕ) → IsTurn p → IsQuarantineWord p page n → n ≡ 0
+    → HasTakenSnapshot p page
+no_quarantine page n t is none = let half = halves page n t is in grind arith
+
 -- The headers stay.
 same_header : {p q : PassState} (page : ℕ) → Cleans p q
     → header_at (now_of q).words page ≡ header_at (now_of p).words page
@@ -55,34 +67,31 @@ free_bare_more {p} {q} {n} k before here = below_more _ _ (free_stay_bare n k be
 
 -- Pages below this one are ready.
 abbrev pub AreReady : PassState → PassState → ℕ → Type 0
-AreReady o p n = (page : ℕ) → page < n → IsCleanedPage page o p
+AreReady o p n = (page : ℕ) → page < n → IsReadyPage page o p
 
-pub ready_stays : {o p q : PassState} {page : ℕ} → Cleans p q → IsCleanedPage page o p → IsCleanedPage page o q
-ready_stays k h = grind (arith, bare_stays, undirty_later)
+pub ready_later : {o p q : PassState} {page : ℕ} → Cleans p q → IsReadyPage page o p → IsReadyPage page o q
+ready_later k h = record { clean = clean_stays k h.clean; undirty = undirty_later h.undirty k }
 
-pub ready_more : {o p q : PassState} {n : ℕ} → Cleans o p → Cleans p q → AreReady o p n
-    → HasNoMarks (now_of q).words n → WasUndirty n p q → AreReady o q (n + 1)
-ready_more {o} {p} {q} {n} first k before bare undirty =
-    below_more _ _ (λ page lt. ready_stays k (before page lt))
-    (record { bare = bare; undirty = undirty_earlier first undirty })
+pub ready_earlier : {o p q : PassState} {page : ℕ} → Cleans o p → IsReadyPage page p q → IsReadyPage page o q
+ready_earlier k h = record { clean = h.clean; undirty = undirty_earlier k h.undirty }
+
+pub ready_more : {o p q : PassState} {n : ℕ} → Cleans o p → Cleans p q → AreReady o p n → IsReadyPage n p q
+    → AreReady o q (n + 1)
+ready_more first k before here =
+    below_more _ _ (λ page lt. ready_later k (before page lt)) (ready_earlier first here)
+
+-- A free page that has no marks is ready.
+ready_free : {o p : PassState} {page : ℕ} → IsTurn p → Cleans o p → HasNoMarks (now_of p).words page
+    → header_at (now_of p).words page ≡ 0 → IsReadyPage page o p
+ready_free {o} {p} {page} t k bare free =
+    let nothing = free_pages_have_nothing p.table.config p.seen t.history page free in
+    record {
+      clean = clean_bare (cleans_nothing p) bare (nothing.snapshot ∙ sym nothing.freed);
+      undirty = undirty_now page k nothing.dirty;
+    }
 
 pub ready_past : {o p : PassState} (from n pages : ℕ) → IsTurn p → Cleans o p → FreeAreBare o pages → n ≤ pages
     → AreReady o p from
     → ((page : ℕ) → from ≤ page → page < n → is_in_use (now_of p).words.pages page ≡ false) → AreReady o p n
 ready_past from n pages t k free few before more page lt =
-    grind (arith, cases_lt, no_header, free_stay_bare, undirty_now, free_pages_have_nothing)
-
--- The snapshots below this one are taken.
-abbrev pub AreTaken : PassState → ℕ → Type 0
-AreTaken p n = (page : ℕ) → page < n → HasTakenSnapshot p page
-
-pub taken_more : {p q : PassState} (n : ℕ) → Cleans p q → AreTaken p n → HasTakenSnapshot q n → AreTaken q (n + 1)
-taken_more n k before here = below_more _ _ (λ page lt. k.snapshot page (before page lt)) here
-
-pub taken_past : {p : PassState} (from n : ℕ) → IsTurn p → AreTaken p from
-    → ((page : ℕ) → from ≤ page → page < n → has_freed_cells (now_of p).words.freed page ≡ false) → AreTaken p n
-taken_past from n t before more page lt = grind (arith, cases_lt, no_cells, no_snapshot)
-
-pub clean_ready : {o p q : PassState} {page : ℕ} → IsCleanedPage page o p → Cleans p q → HasTakenSnapshot q page
-    → IsClean q page
-clean_ready h k taken = grind arith
+    grind (arith, cases_lt, no_header, free_stay_bare, ready_free)

@@ -6,6 +6,7 @@ use Rattle.mk_laws.proofs.Vocabulary.{zero, ◌*◌, ◌+◌, ◌/◌, ◌^◌, 
 use Rattle.mk_cycle.proofs.Vocabulary.{GivesNothingBack, IsTurn, PassState, Released, SamePage, bit_and, held_below}
 use Rattle.mk_cycle.proofs.Vocabulary.{held_unmarked, now_of, released_below, released_on, words_unmarked}
 use Rattle.mk_cycle.proofs.{CleaningSteps.halves, GivingSteps.none_then, PageSteps.same_header, SumsBelow.sum_same}
+use Rattle.mk_cycle.specs.ReleasedPages.{WasReleasedOn}
 
 pub same_released : (a b : Released) → a.count ≡ b.count → a.words ≡ b.words → a.kept ≡ b.kept → a ≡ b
 same_released a b count words kept = grind arith
@@ -84,6 +85,17 @@ pub none_held : (w : Words) (page : ℕ) → record { count = 0; words = 0; kept
 none_held w page none =
     (grind arith)
     ∙ ap (λ (r : Released). if is_unmapped_header (header_in w page) then 0 else r.words) none
+
+pub told_none : (w : Words) (page : ℕ) → slice_index w.snapshot page ≡ 0
+    → WasReleasedOn w page (record { count = 0; words = 0; kept = 0 }) 0
+told_none w page none =
+    let nothing = nothing_on w page none in
+    record {
+      released = nothing;
+      held = none_held w page nothing;
+      few = record { count = omega arith; words = omega arith; kept = omega arith };
+      part = omega arith;
+    }
 
 pub held_same : (p q : PassState) (page : ℕ) → (now_of q).words.marks ≡ (now_of p).words.marks → SamePage p q page
     → held_unmarked (now_of q).words page ≡ held_unmarked (now_of p).words page

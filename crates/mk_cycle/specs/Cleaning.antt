@@ -1,7 +1,7 @@
 -- What is made ready for a `begin`: no mark is left of the cycle before, and the freed cells are the snapshot.
 use Rattle.std.specs.Prelude.{◌≡◌, ℕ, List, ◌++◌, slice_index}
 use Rattle.mk_core.specs.{declared.events.Event.Event, History.left}
-use Rattle.mk_words.specs.{PageMaps.HasNoMarks, States.{PassState, now_of}}
+use Rattle.mk_words.specs.States.{PassState, now_of}
 use Rattle.mk_turns.specs.Doing.{Does}
 use Rattle.mk_cycle.specs.{Kinds.clears, TurnKeeps.{LeavesTurn, KeepsGates, but_cleaned}}
 
@@ -23,15 +23,15 @@ pub record WasUndirty (page : ℕ) (p q : PassState) : Type 0 where
   pub is : q.seen ≡ p.seen ++ (before ++ behind)
   pub zero : slice_index (left p.table.config (p.seen ++ before)).now.words.dirty page ≡ 0
 
--- From one to the other pages were cleaned: no mark is left on this one, and its dirty word was 0.
-pub record IsCleanedPage (page : ℕ) (p q : PassState) : Type 0 where
-  pub bare : HasNoMarks (now_of q).words page
-  pub undirty : WasUndirty page p q
-
 pub record IsClean (p : PassState) (page : ℕ) : Type 0 where
   pub unmarked : IsUnmarked p page
   pub unscanned : IsUnscanned p page
   pub snapshot : HasTakenSnapshot p page
+
+-- From one to the other pages were cleaned: this one is clean, and its dirty word was 0.
+pub record IsReadyPage (page : ℕ) (p q : PassState) : Type 0 where
+  pub clean : IsClean q page
+  pub undirty : WasUndirty page p q
 
 -- From one to the other pages were cleaned: what is clean stays so.
 pub record Cleans (p q : PassState) : Type 0 where

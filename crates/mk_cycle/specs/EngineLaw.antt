@@ -38,6 +38,11 @@ pub record IsTurnAt (n : ℕ) (w : WordsState) (p : PassState) : Type 0 where
   pub free : IsFreeForCycle p
   pub phase : IsAtPhase p n
 
+-- and the words have this many pages
+pub record IsTurnAmong (n : ℕ) (w : WordsState) (p : PassState) (pages : ℕ) : Type 0 where
+  pub is_turn : IsTurnAt n w p
+  pub count : pages ≡ w.config.pages
+
 -- What an engine does in `begin`: it looks, marks, and holds gates that it opens again.
 pub record BeginsMarking (p q : PassState) : Type 0 where
   pub does : Does begins_marking p q

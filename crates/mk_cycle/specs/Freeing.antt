@@ -6,9 +6,9 @@ use Rattle.mk_core.specs.{Frames.Steady, Moments.is_held, StopConditions.has_set
 use Rattle.mk_core.specs.Words.{header_at, quarantine_word, used_at}
 use Rattle.mk_page_map.specs.Members.{has_freed_cells}
 use Rattle.mk_laws.specs.Zeros.{IsWordOfMapped}
-use Rattle.mk_words.specs.States.{PassState, world_of, now_of}
+use Rattle.mk_words.specs.States.{PassState, WordsState, world_of, now_of}
 use Rattle.mk_turns.specs.Doing.{Does}
-use Rattle.mk_cycle.specs.{Kinds.is_giving_back, TurnKeeps.LeavesTurn}
+use Rattle.mk_cycle.specs.{EngineLaw.IsTurnAmong, Kinds.is_giving_back, TurnKeeps.LeavesTurn}
 
 -- without what is given back, and the count of fresh words
 abbrev pub but_pages : Steady → Steady
@@ -72,6 +72,14 @@ pub record AreFreeCells (p : PassState) (page header cells : ℕ) : Type 0 where
 -- It holds of the page's released cells.
 abbrev pub HasFreeCells : PassState → ℕ → Type 0
 HasFreeCells p page = AreFreeCells p page (header_at (now_of p).words page) (left_unmarked (now_of p).words page)
+
+-- A turn on these words, which have this many pages, may give back the released cells of this one, whose header word is
+-- this.
+pub record MayGiveBackOn (w : WordsState) (p : PassState) (pages page header : ℕ) : Type 0 where
+  pub turn : IsTurnAmong 4 w p pages
+  pub within : page < w.config.pages
+  pub is_header : header ≡ header_at (now_of p).words page
+  pub cells : HasFreeCells p page
 
 abbrev pub IsQuarantineWord : PassState → ℕ → ℕ → Type 0
 IsQuarantineWord p page n =

@@ -1,5 +1,5 @@
 -- What the words of the pages say of a `release`, up to when its cells are given back.
-use Rattle.std.specs.Prelude.{ℕ, zero, suc, ◌+◌, ◌*◌, ◌≤◌, bit_and, count_ones, if◌then◌else◌, slice_index}
+use Rattle.std.specs.Prelude.{ℕ, zero, suc, ◌≡◌, ◌+◌, ◌*◌, ◌≤◌, bit_and, count_ones, if◌then◌else◌, slice_index}
 use Rattle.mk_core.specs.{Cells.{left_unmarked, header_in, is_unmapped_header, words_under}, Words.Words}
 use Rattle.mk_cycle.specs.declared.finishing.Released.{Released}
 
@@ -48,3 +48,10 @@ pub record IsOfOnePage (r : Released) : Type 0 where
   pub count : r.count ≤ 64
   pub words : r.words ≤ 64 * 4096
   pub kept : r.kept ≤ 64
+
+-- This was released on a page, and so many of its words were held until then.
+pub record WasReleasedOn (w : Words) (page : ℕ) (r : Released) (words : ℕ) : Type 0 where
+  pub released : r ≡ released_on w page
+  pub held : words ≡ held_unmarked w page
+  pub few : IsOfOnePage r
+  pub part : words ≤ r.words

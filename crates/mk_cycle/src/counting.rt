@@ -5,7 +5,7 @@ ghost use Rattle.mk_core.specs.{Bits.without, Cells.{is_unmapped_header, words_u
 ghost use Rattle.mk_core.specs.Words.{named_word};
 ghost use Rattle.mk_geom.specs.Headers.{header_of};
 ghost use Rattle.mk_words.specs.States.{now_of};
-ghost use Rattle.mk_cycle.specs.{ReleasedPages.IsOfOnePage, EngineLaw.{IsTurnAt, is_register}};
+ghost use Rattle.mk_cycle.specs.{ReleasedPages.IsOfOnePage, EngineLaw.{IsTurnAmong, is_register}};
 ghost use Rattle.mk_cycle.specs.Freeing.{GivesNothingBack};
 
 use crate::finishing::Released;
@@ -41,8 +41,7 @@ pub(crate) fn held_words(header: &ReadHeader, words: u64) -> u64
 /// Looks at a word that is no register, while nothing is given back, in a table of this many pages.
 #[inline(always)]
 pub(crate) fn look(turn: &mut Turn, words: &Words, pages: u64, x: Word) -> u64
-    requires turn { IsTurnAt 4 words.now turn.old.pass }
-    requires pages { pages ≡ words.now.config.pages }
+    requires turn { IsTurnAmong 4 words.now turn.old.pass pages }
     requires in_range { is_word words.now.config x ≡ true }
     requires no_register { is_register x ≡ false }
     ensures frees { GivesNothingBack turn.old.pass turn.new.pass }

@@ -1,9 +1,8 @@
 //! Released cells are given back page by page, and pages on which nothing is left are free again.
-ghost use Rattle.std.specs.Prelude.{◌≡◌, ◌<◌, ◌≤◌};
-ghost use Rattle.mk_core.specs.{Cells.left_unmarked, Words.header_at};
+ghost use Rattle.std.specs.Prelude.{◌≡◌};
+ghost use Rattle.mk_core.specs.Cells.{left_unmarked};
 ghost use Rattle.mk_words.specs.States.{now_of};
-ghost use Rattle.mk_cycle.specs.{EngineLaw.IsTurnAt, Freeing.{GivesBack, HasFreeCells, IsQuarantineWord}};
-ghost use Rattle.mk_cycle.specs.ReleasedPages.{IsOfOnePage, held_unmarked, released_on};
+ghost use Rattle.mk_cycle.specs.{Freeing.{GivesBack, IsQuarantineWord, MayGiveBackOn}, ReleasedPages.WasReleasedOn};
 
 use crate::bits::FREED_END;
 use crate::counting::{self, held_words, released_cells};
@@ -16,6 +15,7 @@ use mk_core::{Word, without};
 use mk_words::{Turn, Words};
 
 /// Gives back the released cells of a page: those of the snapshot that have no mark.
+#[inline(always)]
 fn give_back(
     turn: &mut Turn,
     words: &Words,
@@ -25,13 +25,9 @@ fn give_back(
     quarantine: u64,
     gone: u64,
 )
-    requires turn { IsTurnAt 4 words.now turn.old.pass }
-    requires pages { pages ≡ words.now.config.pages }
-    requires within { page < words.now.config.pages }
-    requires header { header.now ≡ header_at (now_of turn.old.pass).words page }
+    requires may { MayGiveBackOn words.now turn.old.pass pages page header.now }
     requires quarantine { IsQuarantineWord turn.old.pass page quarantine }
     requires gone { gone ≡ left_unmarked (now_of turn.old.pass).words page }
-    requires cells { HasFreeCells turn.old.pass page }
     ensures { GivesBack page turn.old.pass turn.new.pass }
 {
     let used = look_among(turn, words, pages, Word::Used(page));
@@ -52,16 +48,9 @@ pub(crate) fn release_cells(
     page: u64,
     header: &ReadHeader,
 ) -> Settled
-    requires turn { IsTurnAt 4 words.now turn.old.pass }
-    requires pages { pages ≡ words.now.config.pages }
-    requires within { page < words.now.config.pages }
-    requires header { header.now ≡ header_at (now_of turn.old.pass).words page }
-    requires cells { HasFreeCells turn.old.pass page }
+    requires may { MayGiveBackOn words.now turn.old.pass pages page header.now }
     ensures gives { GivesBack page turn.old.pass turn.new.pass }
-    ensures released { result.released ≡ released_on (now_of turn.old.pass).words page }
-    ensures held { result.held ≡ held_unmarked (now_of turn.old.pass).words page }
-    ensures few { IsOfOnePage result.released }
-    ensures part { result.held ≤ result.released.words }
+    ensures told { WasReleasedOn (now_of turn.old.pass).words page result.released result.held }
 {
     let quarantine = counting::look(turn, words, pages, Word::Quar(page));
     let snapshot = quarantine / FREED_END;

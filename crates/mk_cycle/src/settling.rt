@@ -1,12 +1,12 @@
 //! Page by page, what was released is counted and given back, and pages on which nothing is left are freed: in one
 //! pass, which looks at the pages that have freed cells, and at the later pages of their runs.
-ghost use Rattle.std.specs.Prelude.{◌≡◌, ◌<◌, ◌≤◌, ℕ};
-ghost use Rattle.mk_core.specs.{Cells.{head_page, left_unmarked}, Words.header_at};
+ghost use Rattle.std.specs.Prelude.{◌≡◌, ◌<◌, ℕ};
+ghost use Rattle.mk_core.specs.Cells.{head_page, left_unmarked};
 ghost use Rattle.mk_page_map.specs.Members.{IsNext};
 ghost use Rattle.mk_words.specs.States.{now_of};
 ghost use Rattle.mk_cycle.specs.{EngineLaw.IsTurnAt, Freeing.{Frees, FreesPage, HasFreeCells, IsOccupied}};
-ghost use Rattle.mk_cycle.specs.{Freeing.{IsSettledPage, may_be_unsettled}, ReleasedPages.{IsOfOnePage, held_below}};
-ghost use Rattle.mk_cycle.specs.ReleasedPages.{held_unmarked, released_below, released_on};
+ghost use Rattle.mk_cycle.specs.Freeing.{IsSettledPage, MayGiveBackOn, may_be_unsettled};
+ghost use Rattle.mk_cycle.specs.ReleasedPages.{WasReleasedOn, held_below, released_below};
 
 use crate::finishing::Released;
 use crate::freeing::release_cells;
@@ -45,18 +45,11 @@ fn settle_taken(
     page: u64,
     header: &ReadHeader,
 ) -> Settled
-    requires turn { IsTurnAt 4 words.now turn.old.pass }
-    requires pages { pages ≡ words.now.config.pages }
-    requires within { page < words.now.config.pages }
-    requires header { header.now ≡ header_at (now_of turn.old.pass).words page }
-    requires cells { HasFreeCells turn.old.pass page }
+    requires may { MayGiveBackOn words.now turn.old.pass pages page header.now }
     requires settled { (r : ℕ) → r < page → IsSettledPage turn.old.pass r }
     ensures frees { FreesPage page turn.old.pass turn.new.pass }
     ensures settled { IsSettledPage turn.new.pass page }
-    ensures released { result.released ≡ released_on (now_of turn.old.pass).words page }
-    ensures held { result.held ≡ held_unmarked (now_of turn.old.pass).words page }
-    ensures few { IsOfOnePage result.released }
-    ensures part { result.held ≤ result.released.words }
+    ensures told { WasReleasedOn (now_of turn.old.pass).words page result.released result.held }
 {
     let here = release_cells(turn, words, pages, page, header);
     free_unused(turn, words, page, header.head_page(page));

@@ -3,7 +3,8 @@ ghost use Rattle.std.specs.Prelude.{◌≡◌, ◌<◌, ◌+◌, ◌*◌, ◌/�
 ghost use Rattle.mk_core.specs.{Bits.has_bit, Cells.words_under};
 ghost use Rattle.mk_geom.specs.Headers.{header_of};
 ghost use Rattle.mk_words.specs.States.{now_of};
-ghost use Rattle.mk_cycle.specs.{EngineLaw.IsTurnAt, Freeing.{AreFreeCells, GivesNothingBack, IsZero, IsUnmappedWord}};
+ghost use Rattle.mk_cycle.specs.EngineLaw.{IsTurnAmong};
+ghost use Rattle.mk_cycle.specs.Freeing.{AreFreeCells, GivesNothingBack, IsUnmappedWord, IsZero};
 
 use crate::bits::lowest_bit;
 use crate::reading::ReadHeader;
@@ -16,8 +17,7 @@ const PAGE_PAIRS: u64 = 32;
 /// Looks at a word of the heap, which is on this page.
 #[inline(always)]
 fn look_at_heap(turn: &mut Turn, words: &Words, pages: u64, page: u64, word: u64) -> u64
-    requires turn { IsTurnAt 4 words.now turn.old.pass }
-    requires pages { pages ≡ words.now.config.pages }
+    requires turn { IsTurnAmong 4 words.now turn.old.pass pages }
     requires within { word < 64 * words.now.config.pages }
     requires page { page ≡ word / 64 }
     ensures frees { GivesNothingBack turn.old.pass turn.new.pass }
@@ -29,8 +29,7 @@ fn look_at_heap(turn: &mut Turn, words: &Words, pages: u64, page: u64, word: u64
 /// Sets a word of no mapped allocation, which is on this page, to 0.
 #[inline(always)]
 fn wipe_word(turn: &mut Turn, words: &Words, pages: u64, page: u64, word: u64)
-    requires turn { IsTurnAt 4 words.now turn.old.pass }
-    requires pages { pages ≡ words.now.config.pages }
+    requires turn { IsTurnAmong 4 words.now turn.old.pass pages }
     requires page { page ≡ word / 64 }
     requires unmapped { IsUnmappedWord turn.old.pass word }
     ensures frees { GivesNothingBack turn.old.pass turn.new.pass }
@@ -44,8 +43,7 @@ fn wipe_word(turn: &mut Turn, words: &Words, pages: u64, page: u64, word: u64)
 /// Sets a pair of words to 0. The pairs begin at even words, so that both are on one page.
 #[inline(always)]
 fn wipe_pair(turn: &mut Turn, words: &Words, pages: u64, pair: u64)
-    requires turn { IsTurnAt 4 words.now turn.old.pass }
-    requires pages { pages ≡ words.now.config.pages }
+    requires turn { IsTurnAmong 4 words.now turn.old.pass pages }
     requires first { IsUnmappedWord turn.old.pass (2 * pair) }
     requires second { IsUnmappedWord turn.old.pass (2 * pair + 1) }
     ensures frees { GivesNothingBack turn.old.pass turn.new.pass }
@@ -60,8 +58,7 @@ fn wipe_pair(turn: &mut Turn, words: &Words, pages: u64, pair: u64)
 
 /// Sets this many pairs of words, from a first one on, to 0.
 fn wipe_cell(turn: &mut Turn, words: &Words, pages: u64, first: u64, pairs: u64)
-    requires turn { IsTurnAt 4 words.now turn.old.pass }
-    requires pages { pages ≡ words.now.config.pages }
+    requires turn { IsTurnAmong 4 words.now turn.old.pass pages }
     requires unmapped { (i : ℕ) → i < 2 * pairs → IsUnmappedWord turn.old.pass (2 * first + i) }
     ensures frees { GivesNothingBack turn.old.pass turn.new.pass }
     ensures zeros { (i : ℕ) → i < 2 * pairs → IsZero turn.new.pass (2 * first + i) }
@@ -74,8 +71,7 @@ fn wipe_cell(turn: &mut Turn, words: &Words, pages: u64, first: u64, pairs: u64)
 
 /// Sets the words of those cells of a page to 0 whose bits are set. It goes from bit to bit.
 fn wipe_cells(turn: &mut Turn, words: &Words, pages: u64, page: u64, cells: u64, pairs: u64)
-    requires turn { IsTurnAt 4 words.now turn.old.pass }
-    requires pages { pages ≡ words.now.config.pages }
+    requires turn { IsTurnAmong 4 words.now turn.old.pass pages }
     requires within { page < words.now.config.pages }
     requires few { pairs < 2049 }
     requires unmapped { (k i : ℕ) → has_bit cells k ≡ true → i < 2 * pairs
@@ -103,8 +99,7 @@ pub(crate) fn wipe_released(
     header: &ReadHeader,
     cells: u64,
 )
-    requires turn { IsTurnAt 4 words.now turn.old.pass }
-    requires pages { pages ≡ words.now.config.pages }
+    requires turn { IsTurnAmong 4 words.now turn.old.pass pages }
     requires within { page < words.now.config.pages }
     requires cells { AreFreeCells turn.old.pass page header.now cells }
     ensures frees { GivesNothingBack turn.old.pass turn.new.pass }

@@ -22,8 +22,8 @@ cleared g c =
       cleans = cleans_then c.clean_pages.ensures.cleans next;
       turn = turn;
       holds = c.tally.new.self.in_order;
-      clean = λ page lt. clean_stays next (c.clean_pages.ensures.clean page
-          (subst (λ (w : WordsState). page < w.config.pages) turn.one_table lt));
+      clean = λ page lt. clean_stays next (c.clean_pages.ensures.ready page
+          (subst (λ (w : WordsState). page < w.config.pages) turn.one_table lt)).clean;
       fresh = ap (λ (w : World). w.now.words.fresh) c.tally.ensures.world;
     }
 
@@ -42,8 +42,8 @@ begin-requires-2-clause-free g c =
 pub returns-clause-law : goal.returns-clause-law
 returns-clause-law g c =
     let x = cleared g (goal.at.returns-clause-law g c).After-tally in
-    begins_cycle x (λ page lt. undirty_later
-    (c.clean_pages.ensures.undirty page (subst (λ (w : WordsState). page < w.config.pages) c.requires.one_table lt))
+    begins_cycle x (λ page lt. undirty_later (c.clean_pages.ensures.ready page
+    (subst (λ (w : WordsState). page < w.config.pages) c.requires.one_table lt)).undirty
     (tallied (cleaned_turn c.clean_pages.ensures.cleans (record {
       one_table = c.requires.one_table;
       free = c.requires.free;

@@ -1,60 +1,52 @@
 use Rattle.mk_laws.proofs.Vocabulary.{cases_eq, inl, inr, sym, ◌∙◌, ◌≡◌}
-use Rattle.mk_cycle.proofs.{Vocabulary.{Cleans, WasUndirty}, Undirty.{undirty_earlier, undirty_later, undirty_now}}
-use Rattle.mk_cycle.proofs.{CleaningSteps.cleans_then, cleaning.clean_page.Goals.After-look_before-dirty}
-use Rattle.mk_cycle.specs.Cleaning.{IsUnmarked, IsUnscanned}
+use Rattle.mk_cycle.proofs.{Vocabulary.{Cleans, WasUndirty}, CleanedPages.{clean_bare, no_quarantine}}
+use Rattle.mk_cycle.proofs.{Undirty.{undirty_earlier, undirty_later, undirty_now}, CleaningSteps.cleans_then}
+use Rattle.mk_cycle.proofs.cleaning.clean_page.Goals.{After-look_before-quarantine}
 use Rattle.mk_cycle.proofs.cleaning.clean_page.Goals as goal
 
--- what the three looks say
-looks : (c : After-look_before-dirty) → Cleans c.args.turn.now.pass c.look_before-dirty.new.turn.pass
-looks c =
-    cleans_then c.look_before-marks.ensures.cleans
-    (cleans_then c.look_before-blacks.ensures.cleans c.look_before-dirty.ensures.cleans)
+-- up to the look at the dirty word, which was 0 then if it was found to be
+to_dirty : (c : After-look_before-quarantine) → Cleans c.args.turn.now.pass c.look_before-dirty.new.turn.pass
+to_dirty c = cleans_then c.clear_colours.ensures.cleans c.look_before-dirty.ensures.cleans
 
-unmarked : (c : After-look_before-dirty) → c.look_before-marks.result ≡ 0
-    → IsUnmarked c.look_before-dirty.new.turn.pass c.args.page
-unmarked c none =
-    (cleans_then c.look_before-blacks.ensures.cleans c.look_before-dirty.ensures.cleans).unmarked c.args.page
-    (sym c.look_before-marks.ensures.reads ∙ none)
-
-unscanned : (c : After-look_before-dirty) → c.look_before-blacks.result ≡ 0
-    → IsUnscanned c.look_before-dirty.new.turn.pass c.args.page
-unscanned c none =
-    c.look_before-dirty.ensures.cleans.unscanned c.args.page (sym c.look_before-blacks.ensures.reads ∙ none)
-
-undirty : (c : After-look_before-dirty) → c.look_before-dirty.result ≡ 0
+undirty : (c : After-look_before-quarantine) → c.look_before-dirty.result ≡ 0
     → WasUndirty c.args.page c.args.turn.now.pass c.look_before-dirty.new.turn.pass
-undirty c none = undirty_now c.args.page (looks c) (sym c.look_before-dirty.ensures.reads ∙ none)
+undirty c none = undirty_now c.args.page (to_dirty c) (sym c.look_before-dirty.ensures.reads ∙ none)
+
+-- and with both looks
+looks : (c : After-look_before-quarantine) → Cleans c.args.turn.now.pass c.look_before-quarantine.new.turn.pass
+looks c = cleans_then (to_dirty c) c.look_before-quarantine.ensures.cleans
 
 pub returns-then-are_zero-clause-cleans : goal.returns-then-are_zero-clause-cleans
-returns-then-are_zero-clause-cleans c = looks (goal.at.returns-then-are_zero-clause-cleans c).After-look_before-dirty
+returns-then-are_zero-clause-cleans c =
+    looks (goal.at.returns-then-are_zero-clause-cleans c).After-look_before-quarantine
 
-pub returns-then-are_zero-clause-bare : goal.returns-then-are_zero-clause-bare
-returns-then-are_zero-clause-bare c =
-    let x = (goal.at.returns-then-are_zero-clause-bare c).After-look_before-dirty in
+pub returns-then-are_zero-clause-ready : goal.returns-then-are_zero-clause-ready
+returns-then-are_zero-clause-ready c =
+    let last = c.look_before-quarantine.ensures in
+    let found = c.are_zero.ensures in
     record {
-      unmarked = unmarked x (c.are_zero.ensures.marks c.if-are_zero.true);
-      unscanned = unscanned x (c.are_zero.ensures.blacks c.if-are_zero.true);
+      clean = clean_bare (cleans_then c.look_before-dirty.ensures.cleans last.cleans) c.clear_colours.ensures.bare
+          (no_quarantine _ _ c.look_before-quarantine.new.turn.in_order last.reads
+          (found.quarantine c.if-are_zero.true));
+      undirty = undirty_later (undirty (goal.at.returns-then-are_zero-clause-ready c).After-look_before-quarantine
+          (found.dirty c.if-are_zero.true)) last.cleans;
     }
-
-pub returns-then-are_zero-clause-undirty : goal.returns-then-are_zero-clause-undirty
-returns-then-are_zero-clause-undirty c =
-    undirty (goal.at.returns-then-are_zero-clause-undirty c).After-look_before-dirty
-    (c.are_zero.ensures.dirty c.if-are_zero.true)
-
-pub clean_words-requires-clause-marks : goal.clean_words-requires-clause-marks
-clean_words-requires-clause-marks c = unmarked (goal.at.clean_words-requires-clause-marks c).After-look_before-dirty
-
-pub clean_words-requires-clause-blacks : goal.clean_words-requires-clause-blacks
-clean_words-requires-clause-blacks c = unscanned (goal.at.clean_words-requires-clause-blacks c).After-look_before-dirty
 
 pub returns-clause-cleans : goal.returns-clause-cleans
 returns-clause-cleans c =
-    cleans_then (looks (goal.at.returns-clause-cleans c).After-look_before-dirty) c.clean_words.ensures.cleans
+    cleans_then (looks (goal.at.returns-clause-cleans c).After-look_before-quarantine)
+    (cleans_then c.copy_freed.ensures.cleans c.clear_dirty.ensures.cleans)
 
-pub returns-clause-undirty : goal.returns-clause-undirty
-returns-clause-undirty c =
-    let x = (goal.at.returns-clause-undirty c).After-look_before-dirty in
-    elim (cases_eq c.look_before-dirty.result 0) [
-      | inl none ↦ undirty_later (undirty x none) c.clean_words.ensures.cleans
-      | inr some ↦ undirty_earlier (looks x) (c.clean_words.ensures.undirty some)
-    ]
+pub returns-clause-ready : goal.returns-clause-ready
+returns-clause-ready c =
+    let x = (goal.at.returns-clause-ready c).After-look_before-quarantine in
+    let last = c.clear_dirty.ensures in
+    let then = cleans_then c.look_before-quarantine.ensures.cleans c.copy_freed.ensures.cleans in
+    record {
+      clean = clean_bare (cleans_then c.look_before-dirty.ensures.cleans (cleans_then then last.cleans))
+          c.clear_colours.ensures.bare (last.cleans.snapshot _ c.copy_freed.ensures.snapshot);
+      undirty = elim (cases_eq c.look_before-dirty.result 0) [
+        | inl none ↦ undirty_later (undirty x none) (cleans_then then last.cleans)
+        | inr some ↦ undirty_earlier (cleans_then (to_dirty x) then) (last.undirty some)
+      ];
+    }

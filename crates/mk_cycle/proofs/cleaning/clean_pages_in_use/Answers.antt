@@ -16,7 +16,7 @@ loop-page-preserved c =
       pages = pages;
       below = ready_more i.pages.cleans x.cleans
           (ready_past c.loop-page.from n c.args.words.now.config.pages c.loop-page.turn.in_order i.pages.cleans
-          c.requires.bare (let begun = pages.begun in omega arith) i.below next.3) x.bare x.undirty;
+          c.requires.bare (let begun = pages.begun in omega arith) i.below next.3) x.ready;
     }
 
 pub returns-clause-ready : goal.returns-clause-ready

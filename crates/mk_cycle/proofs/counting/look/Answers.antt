@@ -2,4 +2,4 @@ use Rattle.mk_cycle.proofs.GivingSteps.{look_frees}
 use Rattle.mk_cycle.proofs.counting.look.Goals as goal
 
 pub returns-clause-frees : goal.returns-clause-frees
-returns-clause-frees c = look_frees c.requires.turn c.look_among.ensures.acts
+returns-clause-frees c = look_frees c.requires.turn.is_turn c.look_among.ensures.acts

@@ -11,21 +11,22 @@ use Rattle.mk_cycle.proofs.freeing.give_back.Goals as goal
 -- The look gives nothing back, nor does the wiping.
 
 looked : (c : After-look_among-used) → GivesNothingBack c.args.turn.now.pass c.look_among-used.new.turn.pass
-looked c = look_frees c.requires.turn c.look_among-used.ensures.acts
+looked c = look_frees c.requires.may.turn.is_turn c.look_among-used.ensures.acts
 
 wiped : (c : After-wipe_released) → GivesNothingBack c.args.turn.now.pass c.wipe_released.new.turn.pass
-wiped c = none_then (look_frees c.requires.turn c.look_among-used.ensures.acts) c.wipe_released.ensures.frees
+wiped c =
+    none_then (look_frees c.requires.may.turn.is_turn c.look_among-used.ensures.acts) c.wipe_released.ensures.frees
 
 given : (c : After-used) → GivesCells c.args.words.now c.args.turn.now.pass c.wipe_released.new.turn.pass
     c.used.new.self.pass c.args.page c.look_among-used.result c.args.gone c.args.quarantine
 given c =
     let look = c.look_among-used in
-    let first = look_frees c.requires.turn look.ensures.acts in
+    let first = look_frees c.requires.may.turn.is_turn look.ensures.acts in
     record {
       begun = c.args.turn.now.in_order;
       wiped = none_then first c.wipe_released.ensures.frees;
-      turn = c.requires.turn;
-      within = c.requires.within;
+      turn = c.requires.may.turn.is_turn;
+      within = c.requires.may.within;
       is_used =
           look.ensures.reads ∙ same_used c.args.turn.now.pass look.new.turn.pass c.args.page (first.same c.args.page);
       is_gone = c.requires.gone;
@@ -35,19 +36,22 @@ given c =
     }
 
 pub wipe_released-requires-clause-turn : goal.wipe_released-requires-clause-turn
-wipe_released-requires-clause-turn c =
-    freed_turn (looked (goal.at.wipe_released-requires-clause-turn c).After-look_among-used).frees c.requires.turn
+wipe_released-requires-clause-turn c = record {
+  is_turn = freed_turn (looked (goal.at.wipe_released-requires-clause-turn c).After-look_among-used).frees
+      c.requires.may.turn.is_turn;
+  count = c.requires.may.turn.count;
+}
 
 pub wipe_released-requires-clause-cells : goal.wipe_released-requires-clause-cells
 wipe_released-requires-clause-cells c =
     let some : ℕ = bit_and c.look_among-used.result c.args.gone in
     still_free (looked (goal.at.wipe_released-requires-clause-cells c).After-look_among-used).frees
-    (subst (λ (n : ℕ). AreFreeCells c.args.turn.now.pass c.args.page n some) (sym c.requires.header)
-    (some_free some c.requires.cells (λ k has. subst (λ (n : ℕ). has_bit n k ≡ true) c.requires.gone
+    (subst (λ (n : ℕ). AreFreeCells c.args.turn.now.pass c.args.page n some) (sym c.requires.may.is_header)
+    (some_free some c.requires.may.cells (λ k has. subst (λ (n : ℕ). has_bit n k ≡ true) c.requires.gone
     (gone_too c.look_among-used.result c.args.gone k has))))
 
 turn : (c : After-wipe_released) → IsTurnAt 4 c.args.words.now c.wipe_released.new.turn.pass
-turn c = freed_turn (wiped c).frees c.requires.turn
+turn c = freed_turn (wiped c).frees c.requires.may.turn.is_turn
 
 pub used-requires-clause-one_table : goal.used-requires-clause-one_table
 used-requires-clause-one_table c = (turn (goal.at.used-requires-clause-one_table c).After-wipe_released).one_table
@@ -58,11 +62,11 @@ used-requires-clause-enabled c =
     let first = looked at.After-look_among-used in
     let p = c.args.turn.now.pass in
     let b = c.wipe_released.new.turn.pass in
-    used_allowed c.wipe_released.new.turn.in_order (turn at.After-wipe_released) _ _ c.requires.within
+    used_allowed c.wipe_released.new.turn.in_order (turn at.After-wipe_released) _ _ c.requires.may.within
     (ap (λ (n : ℕ). gives_back (now_of b).words c.args.page n) c.without.ensures
     ∙ gives_here _ c.look_among-used.result c.args.gone _ (wiped at.After-wipe_released)
     (c.look_among-used.ensures.reads ∙ same_used p c.look_among-used.new.turn.pass _ (first.same _)) c.requires.gone
-    (ap (λ (n : ℕ). words_under (header_of n)) c.requires.header) c.wipe_released.ensures.zeros)
+    (ap (λ (n : ℕ). words_under (header_of n)) c.requires.may.is_header) c.wipe_released.ensures.zeros)
 
 pub quar-requires-clause-one_table : goal.quar-requires-clause-one_table
 quar-requires-clause-one_table c = (turn_d (given (goal.at.quar-requires-clause-one_table c).After-used)).one_table
@@ -70,7 +74,7 @@ quar-requires-clause-one_table c = (turn_d (given (goal.at.quar-requires-clause-
 pub quar-requires-clause-enabled : goal.quar-requires-clause-enabled
 quar-requires-clause-enabled c =
     let x = given (goal.at.quar-requires-clause-enabled c).After-used in
-    quar_allowed c.used.new.self.in_order (turn_d x) _ _ c.requires.within
+    quar_allowed c.used.new.self.in_order (turn_d x) _ _ c.requires.may.within
     (cc (c.without-freed.ensures, drops_here x))
 
 pub quar-requires-clause-admitted : goal.quar-requires-clause-admitted

@@ -49,11 +49,11 @@ loop-page-preserved c =
       begun = omega (arith, within, same_pages);
       settled = settled_more p pages x.frees c.loop-page.turn.in_order c.max-end.result (omega (arith, furthest))
           (λ s far lt few. omega (arith, end, furthest, far, few, limits)) c.settle_taken-here.result.released
-          c.settle_taken-here.result.held before x.settled x.released x.held;
-      count = omega (arith, i.count, x.few.count, after);
-      words = omega (arith, i.words, x.few.words, after);
-      kept = omega (arith, i.kept, x.few.kept, after);
-      few = omega (arith, i.few, x.part, x.few.words, after);
+          c.settle_taken-here.result.held before x.settled x.told.released x.told.held;
+      count = omega (arith, i.count, x.told.few.count, after);
+      words = omega (arith, i.words, x.told.few.words, after);
+      kept = omega (arith, i.kept, x.told.few.kept, after);
+      few = omega (arith, i.few, x.told.part, x.told.few.words, after);
     }
 
 same_pages : (c : In_default) → c.loop-page.turn.pass.table.config.pages ≡ c.args.words.now.config.pages

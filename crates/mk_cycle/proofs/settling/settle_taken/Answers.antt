@@ -3,11 +3,12 @@ use Rattle.mk_cycle.proofs.{SettledPages.{head_before, none_at}, FreeingSteps.fr
 use Rattle.mk_cycle.proofs.settling.settle_taken.Goals as goal
 
 pub free_unused-requires-clause-turn : goal.free_unused-requires-clause-turn
-free_unused-requires-clause-turn c = freed_turn c.release_cells-here.ensures.gives.frees.frees c.requires.turn
+free_unused-requires-clause-turn c =
+    freed_turn c.release_cells-here.ensures.gives.frees.frees c.requires.may.turn.is_turn
 
 pub free_unused-requires-clause-head : goal.free_unused-requires-clause-head
 free_unused-requires-clause-head c =
-    cc (c.head_page.ensures, c.requires.header, c.release_cells-here.ensures.gives.header)
+    cc (c.head_page.ensures, c.requires.may.is_header, c.release_cells-here.ensures.gives.header)
 
 pub free_unused-requires-clause-none_at_head : goal.free_unused-requires-clause-none_at_head
 free_unused-requires-clause-none_at_head c =
