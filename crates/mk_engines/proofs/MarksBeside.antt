@@ -9,10 +9,11 @@ use Rattle.mk_cycle.proofs.KeptInParts.{free_then, gates_then, keeps_at_once, ke
 use Rattle.mk_cycle.specs.{TurnKeeps.{KeepsGates, LeavesTurn, unchanged}, Holding.IsHeldOrOwn, Kinds.begins_marking}
 use Rattle.mk_engines.proofs.Since.{done_then, nothing_done, nothing_keeps, rule_then}
 use Rattle.mk_engines.specs.Beside.{FindsInRoot, GoesBeside, IsBeside, KeepsOtherGates, LooksAt, MarksBeside}
-use Rattle.mk_engines.specs.Beside.{MarksReachedAlone, StaysWell, done_since, found_well, is_same_root, looks_at}
+use Rattle.mk_engines.specs.Beside.{MarksReachedAlone, MaySetGate, SetsGate, StaysWell, done_since, found_well}
+use Rattle.mk_engines.specs.Beside.{is_same_root, looks_at}
 use Rattle.mk_tracing.specs.{Grays.TracesReached, Stops.is_root}
 use Rattle.mk_turns.{proofs.Doing.{does_nothing, does_then}, specs.Doing.{Does}}
-use Rattle.mk_words.specs.States.{PassState, TurnState, event_of, now_of}
+use Rattle.mk_words.specs.States.{PassState, TurnState, WordsState, event_of, now_of}
 
 -- The turn goes on being free, and the cycle marking.
 pub still_beside : {p q : PassState} → IsBeside p → LeavesTurn unchanged p q → IsBeside q
@@ -138,6 +139,20 @@ gates_on {t} {u} v on a b = gates_then t.pass u.pass v.pass on.marks.keeps.call.
 pub others_on : (caller : ℕ) {t u : TurnState} (v : TurnState) → GoesBeside t u → KeepsOtherGates caller t.pass u.pass
     → KeepsOtherGates caller u.pass v.pass → KeepsOtherGates caller t.pass v.pass
 others_on caller v on a b j lt ne = grind (arith, same_config)
+
+pub may_on : {w : WordsState} {t u : TurnState} {caller : ℕ} → MaySetGate w t.pass caller → GoesBeside t u
+    → MaySetGate w u.pass caller
+may_on {caller = caller} may on = record {
+  one_table = on.table ∙ may.one_table;
+  beside = on.beside;
+  within = may.within;
+  another = ap (λ (p : PassState). is_number_of p.seat caller) on.marks.does.is ∙ may.another;
+}
+
+pub sets_then : {caller : ℕ} {held : Bool} {t u v : TurnState} → GoesBeside t u → KeepsOtherGates caller t.pass u.pass
+    → SetsGate caller held u v → SetsGate caller held t v
+sets_then {caller} {v = v} on others sets =
+    record { on = goes_then on sets.on; others = others_on caller v on others sets.others; set = sets.set }
 
 pub held_is : (p : PassState) (caller : ℕ) → is_held (now_of p).words caller ≡ true → IsHeldOrOwn p caller
 held_is p caller h = or_right (is_number_of p.seat caller) (is_held (now_of p).words caller) h

@@ -2,8 +2,8 @@
 use Rattle.std.specs.Prelude.{◌≡◌, ◌≢◌, ℕ, ◌<◌, Bool, true, false, ◌&&◌, ◌||◌, ◌==◌, not, List, [], ◌∷◌, length, drop}
 use Rattle.std.specs.List.{list_all, list_any}
 use Rattle.mk_core.specs.{declared.events.Event.Event, declared.events.Step.Step, declared.events.Word.Word}
-use Rattle.mk_core.specs.{Cells.points_well, Growing.Finding, Moments.is_held, Words.Words}
-use Rattle.mk_words.specs.States.{PassState, TurnState, world_of, now_of, event_of}
+use Rattle.mk_core.specs.{Cells.points_well, Growing.Finding, Moments.{is_held, is_number_of}, Words.Words}
+use Rattle.mk_words.specs.States.{PassState, TurnState, WordsState, world_of, now_of, event_of}
 use Rattle.mk_turns.specs.Doing.{Does, done_in}
 use Rattle.mk_tracing.specs.{Grays.TracesReached, Stops.is_root, Tracing.OwnStepsKeep}
 use Rattle.mk_cycle.specs.{EngineLaw.{IsFreeForCycle, IsAtPhase}, Holding.IsHeldOrOwn, Kinds.begins_marking}
@@ -100,3 +100,16 @@ IsOpenToLook p x = (k r : ℕ) → x ≡ word.Reg k r → IsHeldOrOwn p k
 abbrev pub KeepsOtherGates : ℕ → PassState → PassState → Type 0
 KeepsOtherGates caller p q =
     (j : ℕ) → j < p.table.config.callers → j ≢ caller → is_held (now_of q).words j ≡ is_held (now_of p).words j
+
+-- On these words, beside the callers, the gate of this other caller may be held or opened.
+pub record MaySetGate (w : WordsState) (p : PassState) (caller : ℕ) : Type 0 where
+  pub one_table : p.table ≡ w
+  pub beside : IsBeside p
+  pub within : caller < w.config.callers
+  pub another : is_number_of p.seat caller ≡ false
+
+-- The turn went on, and this gate is held then, or not. The others are as they were.
+pub record SetsGate (caller : ℕ) (held : Bool) (t u : TurnState) : Type 0 where
+  pub on : GoesBeside t u
+  pub others : KeepsOtherGates caller t.pass u.pass
+  pub set : is_held (now_of u.pass).words caller ≡ held

@@ -1,8 +1,8 @@
 //! The gate of another caller is held while its registers are looked at.
-ghost use Rattle.std.specs.Prelude.{◌≡◌, ◌<◌, true, false, not};
-ghost use Rattle.mk_core.specs.Moments.{is_held, is_number_of};
+ghost use Rattle.std.specs.Prelude.{◌≡◌, true, false, not};
+ghost use Rattle.mk_core.specs.Moments.{is_held};
 ghost use Rattle.mk_words.specs.States.{now_of};
-ghost use Rattle.mk_engines.specs.Beside.{GoesBeside, IsBeside, KeepsOtherGates};
+ghost use Rattle.mk_engines.specs.Beside.{MaySetGate, SetsGate};
 
 use crate::steps::{look_at, try_hold};
 use crossbeam_utils::Backoff;
@@ -15,14 +15,9 @@ const HELD: u64 = 2;
 
 /// Holds a gate that isn't held, once its caller is in no call.
 fn wait_and_hold<R: Wait>(rt: &R, words: &Words, turn: &mut Turn, caller: u64)
-    requires one_table { turn.old.pass.table ≡ words.now }
-    requires beside { IsBeside turn.old.pass }
-    requires within { caller < words.now.config.callers }
-    requires another { is_number_of turn.old.pass.seat caller ≡ false }
+    requires may { MaySetGate words.now turn.old.pass caller }
     requires open { is_held (now_of turn.old.pass).words caller ≡ false }
-    ensures on { GoesBeside turn.old turn.new }
-    ensures others { KeepsOtherGates caller turn.old.pass turn.new.pass }
-    ensures held { is_held (now_of turn.new.pass).words caller ≡ true }
+    ensures { SetsGate caller true turn.old turn.new }
 {
     let backoff = Backoff::new();
     'trying: for _ in rt.forever() {
@@ -36,13 +31,8 @@ fn wait_and_hold<R: Wait>(rt: &R, words: &Words, turn: &mut Turn, caller: u64)
 
 /// Holds the gate of another caller. Returns whether it wasn't held before.
 pub(crate) fn hold_gate<R: Wait>(rt: &R, words: &Words, turn: &mut Turn, caller: u64) -> bool
-    requires one_table { turn.old.pass.table ≡ words.now }
-    requires beside { IsBeside turn.old.pass }
-    requires within { caller < words.now.config.callers }
-    requires another { is_number_of turn.old.pass.seat caller ≡ false }
-    ensures on { GoesBeside turn.old turn.new }
-    ensures others { KeepsOtherGates caller turn.old.pass turn.new.pass }
-    ensures held { is_held (now_of turn.new.pass).words caller ≡ true }
+    requires may { MaySetGate words.now turn.old.pass caller }
+    ensures sets { SetsGate caller true turn.old turn.new }
     ensures was { is_held (now_of turn.old.pass).words caller ≡ not result }
 {
     if look_at(words, turn, Word::Gate(caller)) == HELD {

@@ -4,7 +4,7 @@ ghost use Rattle.std.specs.Prelude.{◌≡◌, ◌<◌, ℕ, true, false};
 ghost use Rattle.mk_core.specs.{Moments.is_number_of, Ranges.is_word};
 ghost use Rattle.mk_cycle.specs.{Begun.IsBegun, Holding.IsHeldOrOwn, TurnKeeps.KeepsGates};
 ghost use Rattle.mk_tracing.specs.Stops.{is_root};
-ghost use Rattle.mk_engines.specs.{Beside.{GoesBeside, IsBeside, IsOpenToLook, LooksAt}, Roots.MarksRoots};
+ghost use Rattle.mk_engines.specs.{Beside.{GoesBeside, IsBeside, IsOpenToLook, LooksAt, MaySetGate}, Roots.MarksRoots};
 ghost use Rattle.mk_core.specs.declared.events.Word.TheVariants as word;
 
 use crate::gates::hold_gate;
@@ -52,10 +52,7 @@ fn mark_registers_of(words: &Words, turn: &mut Turn, caller: u64)
 /// Marks what another caller's registers point into. Its gate is held meanwhile, and held after it only if it was
 /// before.
 fn mark_registers_held<R: Wait>(rt: &R, words: &Words, turn: &mut Turn, caller: u64)
-    requires one_table { turn.old.pass.table ≡ words.now }
-    requires beside { IsBeside turn.old.pass }
-    requires within { caller < words.now.config.callers }
-    requires another { is_number_of turn.old.pass.seat caller ≡ false }
+    requires may { MaySetGate words.now turn.old.pass caller }
     ensures on { GoesBeside turn.old turn.new }
     ensures gates { KeepsGates turn.old.pass turn.new.pass }
     ensures looked { (r : ℕ) → r < 8 → LooksAt (word.Reg caller r) turn.old.pass turn.new.pass }

@@ -1,11 +1,11 @@
 //! Steps of a turn while a cycle marks, beside callers and markers.
-ghost use Rattle.std.specs.Prelude.{◌≡◌, ◌<◌, true, false};
-ghost use Rattle.mk_core.specs.{Cells.is_marked, Moments.{is_held, is_number_of}, Ranges.is_word, Words.named_word};
+ghost use Rattle.std.specs.Prelude.{◌≡◌, true, false};
+ghost use Rattle.mk_core.specs.{Cells.is_marked, Moments.is_held, Ranges.is_word, Words.named_word};
 ghost use Rattle.mk_words.specs.States.{now_of};
 ghost use Rattle.mk_cycle.specs.TurnKeeps.{KeepsGates};
 ghost use Rattle.mk_tracing.specs.{Grays.{IsInHand, HandPointsInto}, Stops.{hand_of, is_root}};
-ghost use Rattle.mk_engines.specs.Beside.{FindsInRoot, GoesBeside, IsBeside, IsOpenToLook, KeepsOtherGates};
-ghost use Rattle.mk_engines.specs.Beside.{gives_no_hand};
+ghost use Rattle.mk_engines.specs.Beside.{FindsInRoot, GoesBeside, IsBeside, IsOpenToLook, MaySetGate};
+ghost use Rattle.mk_engines.specs.Beside.{SetsGate, gives_no_hand};
 
 use mk_core::{Word, bit};
 use mk_geom::Cell;
@@ -55,28 +55,18 @@ pub(crate) fn mark_cell(words: &Words, turn: &mut Turn, cell: Cell)
 
 /// Tries to hold the gate of another caller, which isn't held yet. Returns whether it is held then.
 pub(crate) fn try_hold(words: &Words, turn: &mut Turn, caller: u64) -> bool
-    requires one_table { turn.old.pass.table ≡ words.now }
-    requires beside { IsBeside turn.old.pass }
-    requires within { caller < words.now.config.callers }
-    requires another { is_number_of turn.old.pass.seat caller ≡ false }
+    requires may { MaySetGate words.now turn.old.pass caller }
     requires open { is_held (now_of turn.old.pass).words caller ≡ false }
-    ensures on { GoesBeside turn.old turn.new }
-    ensures others { KeepsOtherGates caller turn.old.pass turn.new.pass }
-    ensures held { is_held (now_of turn.new.pass).words caller ≡ result }
+    ensures { SetsGate caller result turn.old turn.new }
 {
     turn.try_hold(words, caller).is_ok()
 }
 
 /// Opens the gate of another caller, which is held.
 pub(crate) fn open_gate(words: &Words, turn: &mut Turn, caller: u64)
-    requires one_table { turn.old.pass.table ≡ words.now }
-    requires beside { IsBeside turn.old.pass }
-    requires within { caller < words.now.config.callers }
-    requires another { is_number_of turn.old.pass.seat caller ≡ false }
+    requires may { MaySetGate words.now turn.old.pass caller }
     requires held { is_held (now_of turn.old.pass).words caller ≡ true }
-    ensures on { GoesBeside turn.old turn.new }
-    ensures others { KeepsOtherGates caller turn.old.pass turn.new.pass }
-    ensures opened { is_held (now_of turn.new.pass).words caller ≡ false }
+    ensures { SetsGate caller false turn.old turn.new }
 {
     turn.open_gate(words, caller);
 }

@@ -1,5 +1,17 @@
-use Rattle.mk_engines.proofs.MarksBeside.{goes_then}
+use Rattle.mk_laws.proofs.Vocabulary.{arith}
+use Rattle.mk_engines.proofs.MarksBeside.{may_on, sets_then}
 use Rattle.mk_engines.proofs.gates.hold_gate.Goals as goal
 
-pub returns-clause-on : goal.returns-clause-on
-returns-clause-on g c = goes_then c.look_at.ensures.on c.wait_and_hold.ensures.on
+pub wait_and_hold-requires-clause-may : goal.wait_and_hold-requires-clause-may
+wait_and_hold-requires-clause-may g c = may_on c.requires.may c.look_at.ensures.on
+
+pub returns-clause-sets : goal.returns-clause-sets
+returns-clause-sets g c =
+    sets_then c.look_at.ensures.on (λ j lt other. c.look_at.ensures.gates j lt) c.wait_and_hold.ensures
+
+pub returns-then-look_at-eq-HELD-clause-sets : goal.returns-then-look_at-eq-HELD-clause-sets
+returns-then-look_at-eq-HELD-clause-sets g c = record {
+  on = c.look_at.ensures.on;
+  others = λ j lt other. c.look_at.ensures.gates j lt;
+  set = grind arith;
+}

@@ -1,13 +1,18 @@
 use Rattle.mk_laws.proofs.Vocabulary.{refl, ◌∙◌}
-use Rattle.mk_engines.proofs.MarksBeside.{goes_nowhere, goes_then, others_on}
+use Rattle.mk_engines.proofs.MarksBeside.{goes_nowhere, goes_then, may_on, others_on, sets_then}
 use Rattle.mk_engines.proofs.gates.wait_and_hold.Goals as goal
 
 pub trying-init : goal.trying-init
 trying-init g c =
-    record { on = goes_nowhere c.args.turn.now c.requires.beside; others = λ j lt ne. refl; waits = c.requires.open }
+    record
+    { on = goes_nowhere c.args.turn.now c.requires.may.beside; others = λ j lt ne. refl; waits = c.requires.open }
 
-pub returns-then-try_hold-clause-on : goal.returns-then-try_hold-clause-on
-returns-then-try_hold-clause-on g c = goes_then c.trying.invariant.on c.try_hold.ensures.on
+pub try_hold-requires-clause-may : goal.try_hold-requires-clause-may
+try_hold-requires-clause-may g c = may_on c.requires.may c.trying.invariant.on
+
+pub returns-then-try_hold : goal.returns-then-try_hold
+returns-then-try_hold g c =
+    sets_then c.trying.invariant.on c.trying.invariant.others (rw c.if-try_hold.true at c.try_hold.ensures)
 
 pub trying-preserved : goal.trying-preserved
 trying-preserved g c = record {
@@ -15,5 +20,5 @@ trying-preserved g c = record {
   others =
       others_on c.args.caller c.try_hold.new.turn c.trying.invariant.on
       c.trying.invariant.others c.try_hold.ensures.others;
-  waits = c.try_hold.ensures.held ∙ c.if-try_hold.false;
+  waits = c.try_hold.ensures.set ∙ c.if-try_hold.false;
 }
