@@ -1,10 +1,10 @@
 -- What is told of what comes after a line, and where a script then stops.
 use Rattle.mk_check.proofs.Vocabulary.{Answer, Bool, HasStopped, Instruction, IsTree, KeptState, List, Node, None}
-use Rattle.mk_check.proofs.Vocabulary.{Option, Place, PlaceIsWithin, Sequel, Some, TakesLine, ℕ, after_answer, ap}
-use Rattle.mk_check.proofs.Vocabulary.{arith, asks_at, false, kept_in, length, node_at, not, refl, sequel_to}
-use Rattle.mk_check.proofs.Vocabulary.{sequels_of, subst, sym, true, with_kept, ◌&&◌, ◌∙◌, ◌≡◌}
+use Rattle.mk_check.proofs.Vocabulary.{Option, Place, PlaceFits, PlaceIsWithin, Sequel, Some, TakesLine, ℕ}
+use Rattle.mk_check.proofs.Vocabulary.{after_answer, ap, arith, asks_at, false, kept_in, length, node_at, not, refl}
+use Rattle.mk_check.proofs.Vocabulary.{sequel_to, sequels_of, subst, sym, true, with_kept, ◌&&◌, ◌∙◌, ◌≡◌}
 use Rattle.mk_check.proofs.{NextRounds.{kept_left, left_with, stops_behind_block}, AtOnce.{asks_so, stopped_here}}
-use Rattle.mk_check.proofs.{Moves.below_length, TreeNodes.is_at}
+use Rattle.mk_check.proofs.{Moves.{below_length, line_fits}, TreeNodes.is_at}
 use Rattle.mk_check.specs.{AtOnce.{LeavesToOp, TakesAtOnce}, Steps.{is_show, is_silent, keeping_register, with_value}}
 use Rattle.mk_check.specs.{Feed.is_refusal, Spots.sequels_by, declared.feeding.tree.Sequels.Sequels}
 
@@ -43,6 +43,9 @@ line_told nodes line instruction by = record {
 
 asks_is_known : Sequel.Asks ≡ Sequel.Other → ⊥
 asks_is_known e = absurd cc
+
+begins_is_known : Sequel.Begins ≡ Sequel.Other → ⊥
+begins_is_known e = absurd cc
 
 ends_is_known : Sequel.Ends ≡ Sequel.Other → ⊥
 ends_is_known e = absurd cc
@@ -159,3 +162,29 @@ module _ (nodes : List Node) {p : Place} (tree : IsTree nodes) (w : PlaceIsWithi
         let l = unkept_here Sequel.Ends ends_is_known e in
         at_end a _ t accepted l leaves (nothing_kept l.instruction a _ l.shown l.keeps)
         (ap (with_kept t) (kept_left leaves.leaves))
+
+    -- the `repeat` after the line
+
+    pub begins_within : s.unkept ≡ Sequel.Begins → PlaceIsWithin (length nodes) (record p { at = s.next })
+    begins_within e =
+        let l = unkept_here Sequel.Begins begins_is_known e in within_next l.line l.instruction s.next l.is
+
+    pub begins_fits : s.unkept ≡ Sequel.Begins → PlaceFits nodes p → PlaceFits nodes (record p { at = s.next })
+    begins_fits e fits =
+        let l = unkept_here Sequel.Begins begins_is_known e in line_fits nodes (is_at tree w l.is) fits
+
+    pub none_at_repeat : (a : Answer) {t : Place} → is_refusal a ≡ false → s.unkept ≡ Sequel.Begins
+        → HasStopped nodes (record p { at = s.next }) t → TakesLine nodes a p t
+    none_at_repeat a {t = t} accepted e stopped =
+        let l = unkept_here Sequel.Begins begins_is_known e in
+        record {
+          line = l.line;
+          instruction = l.instruction;
+          next = s.next;
+          here = l.is;
+          taken = record {
+            silent = silent l.instruction a accepted l.shown;
+            stopped = subst (λ (k : KeptState). HasStopped nodes (with_kept (record p { at = s.next }) k) t)
+                (sym (nothing_kept l.instruction a (kept_in p) l.shown l.keeps)) stopped;
+          };
+        }

@@ -31,7 +31,7 @@ instruction_of_node (node.Choice number first second next) = Nothing
 abbrev pub sequel_to : Node → Sequel
 sequel_to node.Done = sequel.Ends
 sequel_to (node.Line line instruction next) = if is_asking instruction then sequel.Asks else sequel.Other
-sequel_to (node.Rounds rounds body next) = sequel.Other
+sequel_to (node.Rounds rounds body next) = sequel.Begins
 sequel_to (node.Choice number first second next) = sequel.Other
 
 abbrev pub no_sequels : Sequels

@@ -1,8 +1,5 @@
 //! Lines of a script, with numbers for their names.
 
-use crate::text::is_refusal;
-use mk_core::Answer;
-
 /// A line that is neither the head nor the end of a block. Registers, types and globals are numbered
 /// from 0, in the order of their declarations. An operation has its own variant here, so that it is told from the
 /// others once, where it is asked for.
@@ -98,8 +95,7 @@ pub enum Instruction {
 
 impl Instruction {
     ghost use Rattle.std.specs.Prelude.{◌≡◌, ℕ, List, is_some};
-    ghost use Rattle.mk_core.specs.declared.events.Answer.{Answer};
-    ghost use Rattle.mk_check.specs.Steps.{is_asking, is_print, is_show, is_silent, keeping_register};
+    ghost use Rattle.mk_check.specs.Steps.{is_asking, is_print, is_show, keeping_register};
 
     /// Whether it asks for an operation.
     #[inline(always)]
@@ -128,14 +124,6 @@ impl Instruction {
         ensures { result ≡ is_show self.now }
     {
         matches!(self, Instruction::Show { .. })
-    }
-
-    /// Whether it prints nothing when it takes this answer.
-    #[inline(always)]
-    pub fn is_silent(&self, answer: Answer) -> bool
-        ensures { result ≡ is_silent self.now answer }
-    {
-        !is_refusal(answer) && !self.shows()
     }
 
     /// The number register that keeps its answer.

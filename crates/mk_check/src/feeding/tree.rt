@@ -61,11 +61,12 @@ impl Frame {
     }
 }
 
-/// What comes next: a line that asks for an operation, or the end of a block.
+/// What comes next: a line that asks for an operation, the end of a block, or a `repeat`.
 #[derive(Clone, Copy)]
 pub enum Sequel {
     Asks,
     Ends,
+    Begins,
     /// Something else.
     Other,
 }
@@ -86,7 +87,7 @@ impl Sequel {
                 }
             }
             Node::Done => Sequel::Ends,
-            Node::Rounds { .. } => Sequel::Other,
+            Node::Rounds { .. } => Sequel::Begins,
             Node::Choice { .. } => Sequel::Other,
         }
     }

@@ -1,7 +1,7 @@
 //! A script that goes on after an answer at which nothing is printed. No memory is taken.
 ghost use Rattle.std.specs.Prelude.{◌≡◌, ◌<◌, length, false, IsTrue};
 ghost use Rattle.mk_check.specs.{AtOnce.{ClosesToOp, LeavesToOp, TakesLine}, Feed.is_refusal, Spots.sequels_of};
-ghost use Rattle.mk_check.specs.Trees.{FramesAreWithin, IsTree, PlaceFits, PlaceIsWithin, node_at};
+ghost use Rattle.mk_check.specs.Trees.{FramesAreWithin, HasStopped, IsTree, PlaceFits, PlaceIsWithin, node_at};
 ghost use Rattle.mk_core.specs.declared.events.Answer.TheVariants as answer;
 
 use crate::feeding::running::Running;
@@ -42,6 +42,30 @@ impl Running {
             return false;
         }
         self.go_round(rounds - 1, body, next);
+        true
+    }
+
+    /// Begins the first round of the `repeat` at this node, if an operation comes first in it. Returns whether that is
+    /// so.
+    #[inline(always)]
+    fn begin_to_op(&mut self, tree: &Tree, next: usize) -> bool
+        requires within { PlaceIsWithin (length tree.now) (record self.old { at = next }) }
+        requires fits { PlaceFits tree.now (record self.old { at = next }) }
+        ensures begun { IsTrue result → HasStopped tree.now (record self.old { at = next }) self.new }
+        ensures refused { result ≡ false → self.new ≡ self.old }
+    {
+        let Node::Rounds {
+            rounds,
+            body,
+            next: after,
+        } = tree.node(next)
+        else {
+            return false;
+        };
+        if rounds == 0 || !tree.asks(body) {
+            return false;
+        }
+        self.enter(rounds, body, after);
         true
     }
 
@@ -91,10 +115,11 @@ impl Running {
     }
 
     /// The same where other lines come before the operation.
-    #[inline(never)]
+    #[inline(always)]
     fn take_silently(&mut self, tree: &Tree, answer: Answer) -> bool
         requires within { PlaceIsWithin (length tree.now) self.old }
         requires fits { PlaceFits tree.now self.old }
+        requires accepted { is_refusal answer ≡ false }
         ensures taken { IsTrue result → TakesLine tree.now answer self.old self.new }
         ensures refused { result ≡ false → self.new ≡ self.old }
     {
@@ -106,10 +131,28 @@ impl Running {
         else {
             return false;
         };
-        if !instruction.is_silent(answer) {
+        if instruction.shows() {
             return false;
         }
         self.take_to_op(tree, next, instruction, answer)
+    }
+
+    /// The same where neither an operation nor the end of a block comes next. It isn't inlined: mostly one does.
+    #[inline(never)]
+    fn go_on_further(&mut self, tree: &Tree, answer: Answer) -> bool
+        requires within { PlaceIsWithin (length tree.now) self.old }
+        requires fits { PlaceFits tree.now self.old }
+        requires accepted { is_refusal answer ≡ false }
+        ensures taken { IsTrue result → TakesLine tree.now answer self.old self.new }
+        ensures refused { result ≡ false → self.new ≡ self.old }
+    {
+        let sequels = tree.sequels(self.at());
+        if let Sequel::Begins = sequels.unkept {
+            if self.begin_to_op(tree, sequels.next) {
+                return true;
+            }
+        }
+        self.take_silently(tree, answer)
     }
 
     /// Takes an answer and goes on to the next operation, where that comes before anything is printed, with at most one
@@ -128,13 +171,13 @@ impl Running {
                 if self.take_number_at_once(tree, sequels, value) {
                     return true;
                 }
-                self.take_silently(tree, answer)
+                self.go_on_further(tree, answer)
             }
             Answer::Done | Answer::Word(_) => {
                 if self.go_on_at_once(tree, sequels, answer) {
                     return true;
                 }
-                self.take_silently(tree, answer)
+                self.go_on_further(tree, answer)
             }
             _ => false,
         }

@@ -1,5 +1,5 @@
-use Rattle.mk_check.proofs.Vocabulary.{Node, ap, node_at, sym, ◌∙◌, ◌≡◌}
-use Rattle.mk_check.proofs.{Moves.line_fits, TreeNodes.is_at, feeding.running.Running.take_silently.Goals.In-Line}
+use Rattle.mk_check.proofs.{Vocabulary.{Node, ap, node_at, sym, ◌∙◌, ◌≡◌}, Moves.line_fits, Sequels.silent}
+use Rattle.mk_check.proofs.{TreeNodes.is_at, feeding.running.Running.take_silently.Goals.In-Line}
 use Rattle.mk_check.proofs.feeding.running.Running.take_silently.Goals as goal
 
 here : (c : In-Line) → node_at c.args.tree.now c.args.self.now.at
@@ -11,3 +11,7 @@ take_to_op-requires-clause-fits c =
     let l = c.in-Line in
     line_fits _ (is_at l.ensures.tree c.requires.within (here ((goal.at.take_to_op-requires-clause-fits c).In-Line)))
     c.requires.fits
+
+pub take_to_op-requires-clause-silent : goal.take_to_op-requires-clause-silent
+take_to_op-requires-clause-silent c =
+    silent c.in-Line.instruction c.args.answer c.requires.accepted (sym c.shows.ensures ∙ c.if-shows.false)
