@@ -15,8 +15,8 @@ const FIRST: u64 = 50;
 const LONGEST: u64 = 1000;
 
 /// One who waits: it pauses as `Backoff` does, which spins for longer each time and then yields the processor a few
-/// times, and then sleeps, each time twice as long as before. After a sleep it spins again, since one look alone may
-/// often come too early or too late. It is seen as its next sleep, in microseconds.
+/// times, and then sleeps, each time twice as long as before. After a sleep it looks once and sleeps again, so that who
+/// holds the turn isn't disturbed. It is seen as its next sleep, in microseconds.
 #[derive(Drop)]
 pub struct Patience {
     backoff: Backoff,
@@ -65,7 +65,6 @@ impl Patience {
         }
         let sleep = Duration::from_micros(self.micros);
         self.micros = (2 * self.micros).min(LONGEST);
-        self.backoff.reset();
         Some(sleep)
     }
 
