@@ -1,10 +1,10 @@
 -- A script that goes on at once after an answer.
 -- Private functions alone cite these words.
-use Rattle.std.specs.Prelude.{◌≡◌, ℕ, ◌-◌, true, List, length, take}
+use Rattle.std.specs.Prelude.{◌≡◌, ℕ, ◌-◌, true, false, List, length, take}
 use Rattle.mk_core.specs.declared.events.Answer.{Answer}
 use Rattle.mk_check.specs.{declared.feeding.instructions.Instruction.Instruction, declared.feeding.tree.Node.Node}
-use Rattle.mk_check.specs.{Spots.asks_at, Steps.{after_answer, is_silent}, Trees.{HasStopped, LeavesBlock, Place}}
-use Rattle.mk_check.specs.Trees.{kept_in, node_at, with_kept}
+use Rattle.mk_check.specs.{Spots.asks_at, Steps.{after_answer, is_silent}, Feed.is_refusal}
+use Rattle.mk_check.specs.Trees.{HasStopped, LeavesBlock, Place, PlaceFits, PlaceIsWithin, kept_in, node_at, with_kept}
 use Rattle.mk_check.specs.declared.feeding.tree.Node.TheVariants as node
 
 -- The innermost block is left, or begins its next round, and an operation comes next.
@@ -23,6 +23,12 @@ pub record TakesAtOnce (nodes : List Node) (next : ℕ) (instruction : Instructi
     Type 0 where
   pub silent : is_silent instruction a ≡ true
   pub stopped : HasStopped nodes (with_kept (record old { at = next }) (after_answer instruction a (kept_in old))) new
+
+-- The script is within its tree, its open blocks have room for those that may follow, and the answer refuses nothing.
+pub record MayTake (nodes : List Node) (a : Answer) (p : Place) : Type 0 where
+  pub within : PlaceIsWithin (length nodes) p
+  pub fits : PlaceFits nodes p
+  pub accepted : is_refusal a ≡ false
 
 -- The place's node is a line, which takes an answer at which it prints nothing, and the script stops at the next
 -- operation.

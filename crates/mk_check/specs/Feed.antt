@@ -1,7 +1,6 @@
 -- A script fed with answers: the operations that it asks for, and its text.
-use Rattle.std.specs.Prelude.{ℕ, zero, suc, ◌+◌, ◌-◌, ◌%◌, ◌^◌, Bool, true, false, List, [], ◌∷◌, ◌++◌, length}
-use Rattle.std.specs.Prelude.{replicate, slice_index, slice_set, ◌==◌, if◌then◌else◌, Option, Some, None, is_some}
-use Rattle.std.specs.Fmt.{decimal}
+use Rattle.std.specs.Prelude.{ℕ, zero, suc, ◌+◌, ◌-◌, ◌%◌, ◌^◌, Bool, true, false, List, [], ◌∷◌, ◌++◌, replicate}
+use Rattle.std.specs.{Prelude.{slice_index, slice_set, ◌==◌, if◌then◌else◌, Option, Some, None, is_some}, Fmt.decimal}
 use lib.Chars.{codes}
 use Rattle.mk_never.specs.declared.operations.Op.{Op}
 use Rattle.mk_core.specs.{declared.events.Answer.Answer, Decided.flagged}
@@ -183,12 +182,13 @@ scope_of program script = record {
   numbers = number_names script;
 }
 
--- a script before its first line: all number registers are 0, and its name is printed
+-- a script before its first line: its eight number registers are 0, and one more, which stands for names that aren't
+-- declared; and its name is printed
 abbrev pub fed_before_lines : Scope → ScriptText → Fed
 fed_before_lines scope script =
     record {
       left = Done;
-      numbers = replicate (length scope.numbers) 0;
+      numbers = replicate 9 0;
       ops = [];
       text = codes "script " ++ (script.name ++ newline);
     }

@@ -64,7 +64,7 @@ impl Feed {
         let lines = script_at(items, script);
         let names = Names::of(alloc, items, lines.items)?;
         let (tree, at) = tree_of(alloc, &names, lines.line, lines.items)?;
-        let mut running = Running::begin(alloc, at, names.numbers(), lines.name)?;
+        let mut running = Running::begin(alloc, at, lines.name)?;
         running.run(alloc, &tree)?;
         Ok(Feed {
             tree,

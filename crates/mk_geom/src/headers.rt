@@ -79,9 +79,11 @@ pub fn decode(word: u64) -> Option<Header>
 pub fn is_unmapped(word: u64) -> bool
     ensures { result ≡ is_unmapped_header (header_of word) }
 {
-    match word % 16 {
-        11 => matches!(word / 16, 1..=64),
-        12 => matches!(word / 16, 1..=63),
-        _ => false,
+    let kind = word % 16;
+    if !(11..=12).contains(&kind) {
+        return false;
     }
+    // Of a run's pages, 64 at most, all but the first are later ones.
+    let most = if kind == 11 { 64 } else { 63 };
+    (1..=most).contains(&(word / 16))
 }

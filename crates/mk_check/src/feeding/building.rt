@@ -4,7 +4,7 @@ ghost use Rattle.mk_check.specs.{Blocks.blocks_from, Steps.{Done, numbered}, Nam
 ghost use Rattle.mk_check.specs.Trees.{IsBelow, steps_at, trees};
 ghost use Rattle.mk_check.specs.declared.feeding.instructions.Element.TheVariants as element;
 
-use crate::feeding::instructions::{Element, Instruction};
+use crate::feeding::instructions::{Element, Instruction, NumberRegister};
 use crate::feeding::names::Names;
 use crate::feeding::tree::{Node, Tree};
 use mk_never::NoMemory;
@@ -103,7 +103,7 @@ impl Builder {
         self.grow(node, part.second)
     }
 
-    fn add_if(&mut self, number: usize) -> Result<(), NoMemory>
+    fn add_if(&mut self, number: NumberRegister) -> Result<(), NoMemory>
         requires { IsSoundlyBuilt self.old }
         ensures { OnOk result ((line : ℕ) → AddsLine line (element.If number) self.old self.new) }
     {

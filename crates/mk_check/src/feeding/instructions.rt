@@ -1,5 +1,50 @@
 //! Lines of a script, with numbers for their names.
 
+use std::marker::Model;
+
+/// A script has eight number registers. One more stands for each name that isn't declared, and no checked script has
+/// one.
+pub const NUMBER_REGISTERS: usize = 9;
+
+/// A number register, by its place among them.
+#[derive(Clone, Copy)]
+pub struct NumberRegister {
+    place: usize,
+}
+
+impl Model for NumberRegister {
+    ghost use Rattle.std.specs.Prelude.{ℕ, ◌<◌};
+
+    ghost Value = { ℕ };
+
+    ghost view = { λ r. r.place };
+
+    ghost inverse = { λ n. record { place = n } };
+
+    ghost invariant = { λ r. r.place < 9 };
+}
+
+impl NumberRegister {
+    ghost use Rattle.std.specs.Prelude.{◌≡◌, ◌<◌};
+
+    /// The register at this place.
+    pub fn at(place: usize) -> NumberRegister
+        requires { place < 9 }
+        ensures { result ≡ place }
+    {
+        NumberRegister { place }
+    }
+
+    /// Its place.
+    #[inline(always)]
+    pub fn place(self) -> usize
+        ensures is { result ≡ self }
+        ensures within { result < 9 }
+    {
+        self.place
+    }
+}
+
 /// A line that is neither the head nor the end of a block. Registers, types and globals are numbered
 /// from 0, in the order of their declarations. An operation has its own variant here, so that it is told from the
 /// others once, where it is asked for.
@@ -8,21 +53,21 @@ pub enum Instruction {
     /// A declaration.
     Nothing,
     Const {
-        number: usize,
+        number: NumberRegister,
         value: u64,
     },
     Add {
-        number: usize,
-        left: usize,
-        right: usize,
+        number: NumberRegister,
+        left: NumberRegister,
+        right: NumberRegister,
     },
     Sub {
-        number: usize,
-        left: usize,
-        right: usize,
+        number: NumberRegister,
+        left: NumberRegister,
+        right: NumberRegister,
     },
     Print {
-        number: usize,
+        number: NumberRegister,
     },
     New {
         d: u8,
@@ -64,29 +109,29 @@ pub enum Instruction {
     /// The number is read when it runs.
     SetNum {
         q: u8,
-        number: usize,
+        number: NumberRegister,
         i: u64,
     },
     GetNum {
         q: u8,
-        number: usize,
+        number: NumberRegister,
         i: u64,
     },
     CasPtr {
         q: u8,
         p: u8,
         r: u8,
-        number: usize,
+        number: NumberRegister,
         i: u64,
     },
     Same {
         p: u8,
         q: u8,
-        number: usize,
+        number: NumberRegister,
     },
     IsNull {
         p: u8,
-        number: usize,
+        number: NumberRegister,
     },
     Show {
         p: u8,
@@ -127,7 +172,7 @@ impl Instruction {
     }
 
     /// The number register that keeps its answer.
-    pub fn keeping_register(&self) -> Option<usize>
+    pub fn keeping_register(&self) -> Option<NumberRegister>
         ensures { result ≡ keeping_register self.now }
     {
         match self {
@@ -145,7 +190,7 @@ impl Instruction {
 pub enum Element {
     Line(Instruction),
     Repeat(u64),
-    If(usize),
+    If(NumberRegister),
     Else,
     End,
 }

@@ -4,7 +4,7 @@ ghost use Rattle.mk_script.specs.Scopes.{names_of};
 ghost use Rattle.mk_check.specs.{Declarations.number_of_name, NamesInScope.referred_names};
 ghost use Rattle.mk_check.specs.{Feed.scope_of, Steps.{instruction_of, number_place}};
 
-use crate::feeding::instructions::{Element, Instruction};
+use crate::feeding::instructions::{Element, Instruction, NumberRegister};
 use mk_never::NoMemory;
 use mk_script::{Item, Name, Sort, declared_name};
 use std::alloc::Global;
@@ -73,13 +73,6 @@ impl<'a> Names<'a> {
         })
     }
 
-    /// How many number registers there are.
-    pub fn numbers(&self) -> usize
-        ensures { result ≡ length self.now.numbers }
-    {
-        self.numbers.len()
-    }
-
     fn ty(&self, name: &Name) -> u64
         ensures { result ≡ number_of_name name.now self.now.types }
     {
@@ -100,10 +93,11 @@ impl<'a> Names<'a> {
         number_of_name(&self.pointers, name) as u8
     }
 
-    fn number(&self, name: &Name) -> usize
+    fn number(&self, name: &Name) -> NumberRegister
+        requires { HasFew self.now }
         ensures { result ≡ number_place self.now name.now }
     {
-        number_of_name(&self.numbers, name)
+        NumberRegister::at(number_of_name(&self.numbers, name))
     }
 
     /// An instruction on an object that keeps no number.

@@ -11,7 +11,7 @@ mod at_once;
 mod printing;
 mod quiet;
 
-use crate::feeding::instructions::Instruction;
+use crate::feeding::instructions::{Instruction, NUMBER_REGISTERS, NumberRegister};
 use crate::feeding::tree::{Frame, Node, Tree};
 use arrayvec::ArrayVec;
 use mk_core::Answer;
@@ -26,7 +26,7 @@ use std::marker::Model;
 pub struct Running {
     at: usize,
     frames: ArrayVec<Frame, 32>,
-    numbers: ArrayVec<u64, 8>,
+    numbers: [u64; NUMBER_REGISTERS],
     text: Vec<u8>,
 }
 
@@ -35,7 +35,7 @@ impl Model for Running {
 
     ghost Value = { Place };
 
-    ghost view = { λ r. record { at = r.at; frames = r.frames.items; numbers = r.numbers.items; text = r.text.items } };
+    ghost view = { λ r. record { at = r.at; frames = r.frames.items; numbers = r.numbers; text = r.text.items } };
 }
 
 fn answered_number(answer: Answer) -> u64
@@ -47,16 +47,6 @@ fn answered_number(answer: Answer) -> u64
     }
 }
 
-/// This many number registers, which are 0.
-fn registers(count: usize) -> ArrayVec<u64, 8>
-    requires { count ≤ 8 }
-    ensures { result.items ≡ replicate count 0 }
-{
-    let mut registers = ArrayVec::from([0; 8]);
-    registers.truncate(count);
-    registers
-}
-
 fn copy_frames(to: &mut ArrayVec<Frame, 32>, from: &ArrayVec<Frame, 32>)
     ensures { to.new.items ≡ from.now.items }
 {
@@ -66,30 +56,20 @@ fn copy_frames(to: &mut ArrayVec<Frame, 32>, from: &ArrayVec<Frame, 32>)
     }
 }
 
-fn copy_numbers(to: &mut ArrayVec<u64, 8>, from: &ArrayVec<u64, 8>)
-    ensures { to.new.items ≡ from.now.items }
-{
-    to.clear();
-    if to.try_extend_from_slice(from.as_slice()).is_err() {
-        unreachable!()
-    }
-}
-
 impl Running {
-    /// A script before its first line, with as many number registers as `numbers`.
-    pub fn begin(alloc: Global, at: usize, numbers: usize, name: &Name) -> Result<Running, NoMemory>
-        requires { numbers ≤ 8 }
+    /// A script before its first line.
+    pub fn begin(alloc: Global, at: usize, name: &Name) -> Result<Running, NoMemory>
         ensures { IfOk result (λ r. r ≡ record {
           at = at;
           frames = [];
-          numbers = replicate numbers 0;
+          numbers = replicate 9 0;
           text = codes "script " ++ (name.now ++ newline);
         }) }
     {
         let mut running = Running {
             at,
             frames: ArrayVec::new(),
-            numbers: registers(numbers),
+            numbers: [0; NUMBER_REGISTERS],
             text: Vec::new(alloc),
         };
         running.print(b"script ")?;
@@ -100,12 +80,12 @@ impl Running {
 
     /// Room for a script, which takes no memory yet.
     pub fn empty(alloc: Global) -> Running
-        ensures { result ≡ record { at = 0; frames = []; numbers = []; text = [] } }
+        ensures { result ≡ record { at = 0; frames = []; numbers = replicate 9 0; text = [] } }
     {
         Running {
             at: 0,
             frames: ArrayVec::new(),
-            numbers: ArrayVec::new(),
+            numbers: [0; NUMBER_REGISTERS],
             text: Vec::new(alloc),
         }
     }
@@ -116,7 +96,7 @@ impl Running {
     {
         self.at = other.at;
         copy_frames(&mut self.frames, &other.frames);
-        copy_numbers(&mut self.numbers, &other.numbers);
+        self.numbers = other.numbers;
     }
 
     /// Becomes a copy of another at another node, with no text. No memory is taken.
@@ -146,19 +126,17 @@ impl Running {
     }
 
     #[inline(always)]
-    fn number(&self, number: usize) -> u64
+    fn number(&self, number: NumberRegister) -> u64
         ensures { result ≡ slice_index self.now.numbers number }
     {
-        self.numbers.get(number).copied().unwrap_or(0)
+        self.numbers[number.place()]
     }
 
     #[inline(always)]
-    fn set(&mut self, number: usize, value: u64)
+    fn set(&mut self, number: NumberRegister, value: u64)
         ensures { self.new ≡ record self.old { numbers = slice_set self.old.numbers number value } }
     {
-        if number < self.numbers.len() {
-            self.numbers[number] = value;
-        }
+        self.numbers[number.place()] = value;
     }
 
     /// The operation that an instruction asks for.
@@ -250,7 +228,7 @@ impl Running {
     }
 
     /// Begins a branch.
-    fn choose(&mut self, number: usize, first: usize, second: usize, next: usize)
+    fn choose(&mut self, number: NumberRegister, first: usize, second: usize, next: usize)
         requires { length self.old.frames < 32 }
         ensures { self.new ≡ place_in_branch self.old number first second next }
     {

@@ -1,7 +1,7 @@
 //! A script's lines as a tree, whose nodes name one another by their places.
 ghost use Rattle.std.specs.Prelude.{◌≡◌, ◌<◌, ◌++◌, [], ◌∷◌, length, OnOk};
 
-use crate::feeding::instructions::Instruction;
+use crate::feeding::instructions::{Instruction, NumberRegister};
 use mk_never::NoMemory;
 use std::alloc::Global;
 use std::marker::Model;
@@ -21,7 +21,7 @@ pub enum Node {
         next: usize,
     },
     Choice {
-        number: usize,
+        number: NumberRegister,
         first: usize,
         second: usize,
         next: usize,
@@ -98,7 +98,7 @@ impl Sequel {
 #[derive(Clone, Copy)]
 pub struct Sequels {
     pub next: usize,
-    pub register: usize,
+    pub register: NumberRegister,
     /// After an answer that no register keeps.
     pub unkept: Sequel,
     /// After one that the register keeps.
@@ -113,7 +113,7 @@ impl Sequels {
     {
         Sequels {
             next: 0,
-            register: 0,
+            register: NumberRegister::at(0),
             unkept: Sequel::Other,
             kept: Sequel::Other,
         }
@@ -136,7 +136,7 @@ impl Sequels {
             },
             None => Sequels {
                 next,
-                register: 0,
+                register: NumberRegister::at(0),
                 unkept: sequel,
                 kept: Sequel::Other,
             },

@@ -1,6 +1,6 @@
 //! A script that goes on after an answer at which nothing is printed. No memory is taken.
 ghost use Rattle.std.specs.Prelude.{◌≡◌, ◌<◌, length, false, IsTrue};
-ghost use Rattle.mk_check.specs.{AtOnce.{ClosesToOp, LeavesToOp, TakesLine}, Feed.is_refusal, Spots.sequels_of};
+ghost use Rattle.mk_check.specs.{AtOnce.{ClosesToOp, LeavesToOp, MayTake, TakesLine}, Spots.sequels_of};
 ghost use Rattle.mk_check.specs.Trees.{FramesAreWithin, HasStopped, IsTree, PlaceFits, PlaceIsWithin, node_at};
 ghost use Rattle.mk_core.specs.declared.events.Answer.TheVariants as answer;
 
@@ -79,47 +79,47 @@ impl Running {
         ensures taken { IsTrue result → TakesLine tree.now (answer.Num value) self.old self.new }
         ensures refused { result ≡ false → self.new ≡ self.old }
     {
-        if let Sequel::Asks = sequels.kept {
-            self.set(sequels.register, value);
-            self.at = sequels.next;
-            return true;
+        if let Sequel::Ends = sequels.kept {
+            let left = self.leave_to_op(tree);
+            if left {
+                self.set(sequels.register, value);
+            }
+            return left;
         }
-        let Sequel::Ends = sequels.kept else {
+        let Sequel::Asks = sequels.kept else {
             return false;
         };
-        let left = self.leave_to_op(tree);
-        if left {
-            self.set(sequels.register, value);
-        }
-        left
+        self.set(sequels.register, value);
+        self.at = sequels.next;
+        true
     }
 
-    /// The same with an answer that no register keeps.
+    /// The same with an answer that no register keeps, and also where a `repeat` comes next whose rounds begin so.
     #[inline(always)]
     fn go_on_at_once(&mut self, tree: &Tree, sequels: &Sequels, answer: Answer) -> bool
         requires tree { IsTree tree.now }
-        requires within { PlaceIsWithin (length tree.now) self.old }
+        requires may { MayTake tree.now answer self.old }
         requires sequels { sequels.now ≡ sequels_of tree.now (node_at tree.now self.old.at) }
-        requires accepted { is_refusal answer ≡ false }
         ensures taken { IsTrue result → TakesLine tree.now answer self.old self.new }
         ensures refused { result ≡ false → self.new ≡ self.old }
     {
-        if let Sequel::Asks = sequels.unkept {
-            self.at = sequels.next;
-            return true;
-        }
         if let Sequel::Ends = sequels.unkept {
             return self.leave_to_op(tree);
         }
-        false
+        if let Sequel::Begins = sequels.unkept {
+            return self.begin_to_op(tree, sequels.next);
+        }
+        let Sequel::Asks = sequels.unkept else {
+            return false;
+        };
+        self.at = sequels.next;
+        true
     }
 
-    /// The same where other lines come before the operation.
-    #[inline(always)]
-    fn take_silently(&mut self, tree: &Tree, answer: Answer) -> bool
-        requires within { PlaceIsWithin (length tree.now) self.old }
-        requires fits { PlaceFits tree.now self.old }
-        requires accepted { is_refusal answer ≡ false }
+    /// The same where other lines come before the operation. It isn't inlined: mostly none do.
+    #[inline(never)]
+    fn go_on_further(&mut self, tree: &Tree, answer: Answer) -> bool
+        requires may { MayTake tree.now answer self.old }
         ensures taken { IsTrue result → TakesLine tree.now answer self.old self.new }
         ensures refused { result ≡ false → self.new ≡ self.old }
     {
@@ -135,24 +135,6 @@ impl Running {
             return false;
         }
         self.take_to_op(tree, next, instruction, answer)
-    }
-
-    /// The same where neither an operation nor the end of a block comes next. It isn't inlined: mostly one does.
-    #[inline(never)]
-    fn go_on_further(&mut self, tree: &Tree, answer: Answer) -> bool
-        requires within { PlaceIsWithin (length tree.now) self.old }
-        requires fits { PlaceFits tree.now self.old }
-        requires accepted { is_refusal answer ≡ false }
-        ensures taken { IsTrue result → TakesLine tree.now answer self.old self.new }
-        ensures refused { result ≡ false → self.new ≡ self.old }
-    {
-        let sequels = tree.sequels(self.at());
-        if let Sequel::Begins = sequels.unkept {
-            if self.begin_to_op(tree, sequels.next) {
-                return true;
-            }
-        }
-        self.take_silently(tree, answer)
     }
 
     /// Takes an answer and goes on to the next operation, where that comes before anything is printed, with at most one

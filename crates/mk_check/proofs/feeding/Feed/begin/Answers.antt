@@ -1,10 +1,10 @@
 use Rattle.std.proofs.Common.{codes}
 use Rattle.mk_check.proofs.Vocabulary.{FeedStandsFor, HasFew, Item, List, Node, Place, PlaceFits, Scope, ScriptText, ℕ}
-use Rattle.mk_check.proofs.Vocabulary.{ap, arith, blocks_from, depth_of, fed_before_lines, length, numbered, replicate}
-use Rattle.mk_check.proofs.Vocabulary.{scope_of, script_of, script_scope, steps_at, subst, sym, trees, [], ◌++◌, ◌∙◌}
-use Rattle.mk_check.{proofs.{Vocabulary.◌≡◌, Stands.{start_stands, start_stops}}, specs.Feed.{newline}}
-use Rattle.mk_check.proofs.feeding.Feed.begin.Goals.{In_ok-names, In_ok-run, In_ok-running}
-use Rattle.mk_check.proofs.{FewBlocks.text_has_few_blocks, FewNames.text_has_few}
+use Rattle.mk_check.proofs.Vocabulary.{ap, arith, blocks_from, depth_of, fed_before_lines, numbered, scope_of}
+use Rattle.mk_check.proofs.Vocabulary.{script_of, script_scope, steps_at, subst, sym, trees, [], ◌++◌, ◌∙◌, ◌≡◌}
+use Rattle.mk_check.proofs.{Stands.{start_stands, start_stops}, feeding.Feed.begin.Goals.{In_ok-names, In_ok-run}}
+use Rattle.mk_check.proofs.{feeding.Feed.begin.Goals.In_ok-running, FewBlocks.text_has_few_blocks}
+use Rattle.mk_check.{proofs.FewNames.{text_has_few}, specs.Feed.{newline}}
 use Rattle.mk_check.proofs.feeding.Feed.begin.Goals as goal
 
 -- the names are those that the script may use
@@ -30,12 +30,6 @@ steps c =
     let named : c.in_ok-names.names ≡ scope = cc (c.in_ok-names.ensures, lines.ensures.items) in
     cc (c.in_ok-tree.ensures.steps, named, lines.ensures.line, lines.ensures.items)
 
-pub begin-requires : goal.begin-requires
-begin-requires c =
-    let named = names ((goal.at.begin-requires c).In_ok-names) in
-    let few = (text_has_few c.args.items.now c.args.script c.requires.text).numbers in
-    omega (arith, c.numbers.ensures, ap (λ (s : Scope). length s.numbers) named)
-
 -- it has room for its blocks
 fits : (c : In_ok-running) → PlaceFits c.in_ok-tree.tree c.in_ok-running.running
 fits c =
@@ -58,7 +52,6 @@ begins c steps =
     let scope = script_scope program k in
     let named : c.in_ok-names.names ≡ scope = cc (c.in_ok-names.ensures, c.script_at-lines.ensures.items) in
     let script : ScriptText = script_of program k in
-    let count : c.numbers.result ≡ length scope.numbers = cc (c.numbers.ensures, named) in
     let at = c.in_ok-tree.at in
     let place : c.in_ok-running.running ≡ record {
       at = at;
@@ -66,17 +59,12 @@ begins c steps =
       numbers = (fed_before_lines scope script).numbers;
       text = (fed_before_lines scope script).text;
     } =
-    c.in_ok-running.ensures ∙ (ap (λ (n : ℕ). let p : Place = record {
-      at = at;
-      frames = [];
-      numbers = replicate n 0;
-      text = codes "script " ++ (lines.result.name.now ++ newline);
-    } in p) count ∙ ap (λ (name : List ℕ). let p : Place = record {
+    c.in_ok-running.ensures ∙ ap (λ (name : List ℕ). let p : Place = record {
       at = at;
       frames = [];
       numbers = (fed_before_lines scope script).numbers;
       text = codes "script " ++ (name ++ newline);
-    } in p) lines.ensures.name) in
+    } in p) lines.ensures.name in
     start_stands program k (record { nodes = c.in_ok-tree.tree; place = c.run.new.self }) (start_stops c.in_ok-tree.tree
     scope script c.in_ok-tree.at c.in_ok-running.running c.run.new.self steps place c.in_ok-run.ensures)
 
