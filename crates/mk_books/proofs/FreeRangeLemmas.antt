@@ -1,7 +1,7 @@
 -- Ranges of free pages, page by page.
 use Rattle.std.proofs.Common.{Bool, List, None, Option, Some, ℕ, ap, arith, drop, drop-drop, false, get_or}
-use Rattle.std.proofs.Common.{if◌then◌else◌, le-leb, length, length-drop, max, option_map, refl, suc, true, zero, []}
-use Rattle.std.{proofs.{Common.{◌+◌, ◌-◌, ◌<◌, ◌∙◌, ◌∷◌, ◌≡◌, ◌≤◌}, lemmas.Bool.lt-leb}, specs.Option.{option_or}}
+use Rattle.std.proofs.Common.{if◌then◌else◌, le-leb, length, length-drop, max, option_map, refl, suc, sym, true, zero}
+use Rattle.std.{proofs.{Common.{[], ◌+◌, ◌-◌, ◌<◌, ◌∙◌, ◌∷◌, ◌≡◌, ◌≤◌}, lemmas.Bool.lt-leb}, specs.Option.{option_or}}
 use Rattle.std.proofs.lemmas.List.{at_drop_more, drop-map, length-map}
 use Rattle.mk_geom.specs.PageUses.{PageUse, free_range, is_free_page, longest_free_range, range_start}
 use Rattle.mk_geom.specs.{PageWords.{use_of_page, uses_of_pages}, declared.pages.Page.Page}
@@ -118,7 +118,8 @@ range_start_from-end range count pages begun short =
     ∙ length-drop range pages in
     ap (option_map (λ p. p + range)) (range_start-none count (uses_of_pages rest) (omega arith))
 
--- what a loop knows of the first range: past a page that isn't free, at a range that is long enough, and at the end
+-- the first range that is known, and the lowest from there on: past a page that isn't free, at a range that is long
+-- enough, and at the end
 pub first-skip : (first : Option ℕ) (range n count : ℕ) (pages : List Page) → range ≤ n → n < length pages
     → free_range_from range pages + range ≡ n → (first ≡ None → n < range + count)
     → option_or first (range_start_from range count pages) ≡ option_or first (range_start_from (n + 1) count pages)
@@ -134,5 +135,31 @@ pub first-end : (first : Option ℕ) (range count : ℕ) (pages : List Page) →
     → (first ≡ None → length pages < range + count) → option_or first (range_start_from range count pages) ≡ first
 first-end x0 range count pages begun short = grind (arith, range_start_from-end)
 
-pub first-known : (first : Option ℕ) (range : ℕ) → option_or first (Some range) ≡ None → ⊥
-first-known x0 range none = grind arith
+-- what a loop knows of the ranges at page n: where the one begins that ends there, and the first that is long enough
+pub record SeesRanges (first : Option ℕ) (range n count : ℕ) (pages : List Page) : Type 0 where
+  pub begun : range ≤ n
+  pub free : free_range_from range pages + range ≡ n + free_range_from n pages
+  pub short : first ≡ None → n < range + count
+  pub lowest : option_or first (range_start_from range count pages) ≡ range_start count (uses_of_pages pages)
+
+-- and past a page: one that isn't free, one with which the range is long enough, and one with which it is too short
+pub past_taken : {first : Option ℕ} {range n count : ℕ} {pages : List Page} (d : Page) → 1 ≤ count → n < length pages
+    → is_free_page (use_of_page (get_or pages n d)) ≡ false → SeesRanges first range n count pages
+    → SeesRanges first (n + 1) (n + 1) count pages
+past_taken {first} {range} {n} {count} {pages} d some within taken sees = record {
+  begun = omega arith;
+  free = omega arith;
+  short = λ none. omega arith;
+  lowest = sym (first-skip first range n count pages sees.begun within
+      (omega (arith, free_range_from-taken n pages d within taken, sees.free)) sees.short) ∙ sees.lowest;
+}
+
+pub past_long : {first : Option ℕ} {range n count : ℕ} {pages : List Page} (d : Page) → 1 ≤ count → n < length pages
+    → is_free_page (use_of_page (get_or pages n d)) ≡ true → count ≤ n + 1 - range
+    → SeesRanges first range n count pages → SeesRanges (option_or first (Some range)) range (n + 1) count pages
+past_long d some within free long sees = grind (arith, first-here, free_range_from-free)
+
+pub past_short : {first : Option ℕ} {range n count : ℕ} {pages : List Page} (d : Page) → n < length pages
+    → is_free_page (use_of_page (get_or pages n d)) ≡ true → n + 1 - range < count
+    → SeesRanges first range n count pages → SeesRanges first range (n + 1) count pages
+past_short d within free short sees = grind (arith, free_range_from-free)

@@ -1,13 +1,13 @@
 -- The sets of blocks, by class and sort.
-use Rattle.std.proofs.lemmas.Bool.{and_parts, cond-false, cond-true, lt-leb, not-true}
-use Rattle.std.proofs.{Common.eqb-true, Common.le-leb, Common.lt-ltb, Common.nat_le, Math.Nat.div-le_self}
-use Rattle.mk_page_map.proofs.Vocabulary.{Bool, IsInItsSets, List, Nothing, PageUse, ℕ, ap, arith, cases_eq, cases_lt}
-use Rattle.mk_page_map.proofs.Vocabulary.{false, first_where, has_free_cell, inl, inr, is_member, is_of_set, is_some}
-use Rattle.mk_page_map.proofs.Vocabulary.{nat_lt, not, refl, sym, true, use_of_kind, ◌%◌, ◌<◌, ◌∙◌, ◌≡◌, ◌≤◌}
-use Rattle.mk_geom.specs.PageUses.{Cells, PartOfRun, is_same_sort}
-use Rattle.mk_geom.specs.{Classes.cells_of, Classes.class_words_of, PageWords.bits_of}
-use Rattle.mk_books.{proofs.FreeCellLemmas.cells_taken_alike, specs.FreeCells.class_place}
-use Rattle.mk_page_map.specs.declared.kinds.PageKind.TheVariants.{Block}
+use Rattle.std.proofs.{lemmas.Bool.{and_parts, cond-false, cond-true, lt-leb, not-true}, Common.{eqb-true, le-leb}}
+use Rattle.std.proofs.{Common.{lt-ltb, nat_le}, Math.Nat.div-le_self}
+use Rattle.mk_page_map.proofs.Vocabulary.{Bool, IsInItsSets, List, Nothing, PageUse, PartOfRun, PutsPage, SortsPage, ℕ}
+use Rattle.mk_page_map.proofs.Vocabulary.{ap, arith, cases_eq, cases_lt, false, first_where, has_free_cell, inl, inr}
+use Rattle.mk_page_map.proofs.Vocabulary.{is_free_page, is_member, is_of_set, is_some, nat_lt, not, refl, sym, true}
+use Rattle.mk_page_map.proofs.Vocabulary.{use_of_kind, ◌%◌, ◌<◌, ◌∙◌, ◌≡◌, ◌≤◌}
+use Rattle.mk_geom.specs.{Classes.{cells_of, class_words_of}, PageUses.{Cells, is_same_sort}, PageWords.bits_of}
+use Rattle.mk_books.{proofs.FreeCellLemmas.{cells_taken_alike}, specs.FreeCells.{class_place}}
+use Rattle.mk_page_map.specs.{PageSets.PutsFree, declared.kinds.PageKind.TheVariants.Block}
 
 pub of_block_set : (set : ℕ) (use' : PageUse) → set < 16
     → is_of_set set use' ≡ has_free_cell (set % 8) (nat_le 8 set) use'
@@ -46,11 +46,6 @@ nothing_of_set set block = of_block_set set Nothing block
 pub cells_few : (class : ℕ) → class < 8 → cells_of class ≤ 64
 cells_few class known = div-le_self 64 (class_words_of class)
 
--- what a put of a page into one set, or out of it, leaves of the others
-abbrev pub OtherSetsStay : List ℕ → List ℕ → ℕ → ℕ → Type 0
-OtherSetsStay before after page place =
-    (other : ℕ) → other < 20 → (other ≡ place → ⊥) → is_member after other page ≡ is_member before other page
-
 -- each set of the first 18
 pub each_set : (P : ℕ → Type 0) → ((set : ℕ) → set < 16 → P set) → P 16 → P 17 → (set : ℕ) → set < 18 → P set
 each_set P blocks free in_use set is_set = grind (arith, cases_lt)
@@ -59,58 +54,53 @@ each_set P blocks free in_use set is_set = grind (arith, cases_lt)
 pub run_of_set : (set : ℕ) → set < 16 → is_of_set set (PartOfRun false) ≡ false
 run_of_set set block = of_block_set set (PartOfRun false) block
 
--- a block is in the sets but its own where a page of a run is
-run_elsewhere : (set class : ℕ) (leaf : Bool) (used : ℕ) → set < 18 → (set ≡ class_place class leaf → ⊥)
-    → is_of_set set (use_of_kind (Block class leaf) used) ≡ is_of_set set (PartOfRun false)
-run_elsewhere set class leaf used is_set other = each_set (λ s. (s ≡ class_place class leaf → ⊥) → is_of_set s
-    (use_of_kind (Block class leaf) used) ≡ is_of_set s (PartOfRun false))
+-- but for one set the page is where a page of a run is
+abbrev pub IsRunElsewhere : ℕ → PageUse → Type 0
+IsRunElsewhere place stands =
+    (set : ℕ) → set < 18 → (set ≡ place → ⊥) → is_of_set set stands ≡ is_of_set set (PartOfRun false)
+
+pub block_elsewhere : {place : ℕ} (class used : ℕ) (leaf : Bool) → place ≡ class_place class leaf
+    → IsRunElsewhere place (use_of_kind (Block class leaf) used)
+block_elsewhere class used leaf is set is_set other = each_set (λ s. (s ≡ class_place class leaf → ⊥)
+    → is_of_set s (use_of_kind (Block class leaf) used) ≡ is_of_set s (PartOfRun false))
     (λ s block differ. of_other_set s class leaf (bits_of (cells_of class) used) block differ
-    ∙ sym (run_of_set s block)) (λ _. refl) (λ _. refl) set is_set other
+    ∙ sym (run_of_set s block)) (λ _. refl) (λ _. refl) set is_set (λ same. other (same ∙ sym is))
 
--- a block that leaves its own set is sorted as a page of a run then, and a page that is sorted so joins its own again
-pub left_blocks : (before after : List ℕ) (page class : ℕ) {place : ℕ} (used : ℕ) (leaf : Bool) → class < 8
-    → place ≡ class_place class leaf → is_member after place page ≡ false → OtherSetsStay before after page place
-    → IsInItsSets before page (use_of_kind (Block class leaf) used) → IsInItsSets after page (PartOfRun false)
-left_blocks before after page class {place} used leaf known is out stay sorted set is_set =
-    elim (cases_eq set place) [
-      | inl same ↦ ap (λ s. is_member after s page) same ∙ out
-          ∙ sym (run_of_set set (omega (arith, is, same, place_within class leaf known)))
-      | inr other ↦ stay set (omega arith) other ∙ sorted set is_set
-          ∙ run_elsewhere set class leaf used is_set (λ same. other (same ∙ sym is))
-    ]
+-- a page is sorted by its put into the one set in which it may be where no page of a run is
+pub sorted_in_place : {before after : List ℕ} {page place : ℕ} (was stands : PageUse) {inside : Bool} → place < 16
+    → PutsPage before after place page inside → inside ≡ is_of_set place stands → IsRunElsewhere place was
+    → IsRunElsewhere place stands → IsInItsSets before page was → SortsPage before after page stands
+sorted_in_place {after} {page} {place} was stands block puts own run_before run_now sorted = record {
+  are_sets = puts.are_sets;
+  sorted = λ set is_set. elim (cases_eq set place) [
+    | inl same ↦ ap (λ s. is_member after s page) same ∙ puts.this ∙ own ∙ ap (λ s. is_of_set s stands) (sym same)
+    | inr other ↦ puts.other_sets set (omega arith) other ∙ sorted set is_set ∙ run_before set is_set other
+        ∙ sym (run_now set is_set other)
+  ];
+  quarantined = puts.other_sets 18 (omega arith) (λ same. absurd (omega arith));
+  other_pages = puts.other_pages;
+}
 
-pub joined_blocks : (before after : List ℕ) (page class : ℕ) {place : ℕ} (used : ℕ) (leaf free : Bool) → class < 8
-    → place ≡ class_place class leaf → free ≡ is_some (first_where not (bits_of (cells_of class) used))
-    → is_member after place page ≡ free → OtherSetsStay before after page place
-    → IsInItsSets before page (PartOfRun false) → IsInItsSets after page (use_of_kind (Block class leaf) used)
-joined_blocks before after page class {place} used leaf free known is is_free put stay sorted set is_set =
-    elim (cases_eq set place) [
-      | inl same ↦ ap (λ s. is_member after s page) same ∙ put ∙ is_free ∙ sym (free_in_own_set class leaf used known)
-          ∙ ap (λ s. is_of_set s (use_of_kind (Block class leaf) used)) (sym is ∙ sym same)
-      | inr other ↦ stay set (omega arith) other ∙ sorted set is_set
-          ∙ sym (run_elsewhere set class leaf used is_set (λ same. other (same ∙ sym is)))
-    ]
+-- a block leaves its own set, and a page joins that of the block that it is now
+pub left_blocks : {before after : List ℕ} {page place : ℕ} (class used : ℕ) (leaf : Bool) → class < 8
+    → place ≡ class_place class leaf → PutsPage before after place page false
+    → IsInItsSets before page (use_of_kind (Block class leaf) used) → SortsPage before after page (PartOfRun false)
+left_blocks {place} class used leaf known is puts sorted =
+    let block : place < 16 = omega (arith, is, place_within class leaf known) in
+    sorted_in_place (use_of_kind (Block class leaf) used) (PartOfRun false) block puts (sym (run_of_set place block))
+    (block_elsewhere class used leaf is) (λ _ _ _. refl) sorted
 
--- used words tell blocks of one class and sort apart in their own set alone
-same_elsewhere : (set class : ℕ) (leaf : Bool) (earlier used : ℕ) → set < 18 → (set ≡ class_place class leaf → ⊥)
-    → is_of_set set (use_of_kind (Block class leaf) earlier) ≡ is_of_set set (use_of_kind (Block class leaf) used)
-same_elsewhere set class leaf earlier used is_set other =
-    run_elsewhere set class leaf earlier is_set other ∙ sym (run_elsewhere set class leaf used is_set other)
+pub joined_blocks : {before after : List ℕ} {page place : ℕ} (class used : ℕ) (leaf : Bool) {free : Bool}
+    (was : PageUse) → class < 8 → place ≡ class_place class leaf
+    → free ≡ is_some (first_where not (bits_of (cells_of class) used)) → PutsPage before after place page free
+    → IsRunElsewhere place was → IsInItsSets before page was
+    → SortsPage before after page (use_of_kind (Block class leaf) used)
+joined_blocks class used leaf was known is is_free puts run_before sorted =
+    sorted_in_place was (use_of_kind (Block class leaf) used) (omega (arith, is, place_within class leaf known)) puts
+    (is_free ∙ sym (free_in_own_set class leaf used known) ∙ ap (λ s. is_of_set s
+    (use_of_kind (Block class leaf) used)) (sym is)) run_before (block_elsewhere class used leaf is) sorted
 
--- a block whose used word changes
-pub sorted_anew : (before after : List ℕ) (page class : ℕ) {place : ℕ} (earlier used : ℕ) (leaf free : Bool) → class < 8
-    → place ≡ class_place class leaf → place < 16 → free ≡ is_some (first_where not (bits_of (cells_of class) used))
-    → is_member after place page ≡ free → OtherSetsStay before after page place → IsInItsSets before page
-    (use_of_kind (Block class leaf) earlier) → IsInItsSets after page (use_of_kind (Block class leaf) used)
-sorted_anew before after page class {place} earlier used leaf free known is low is_free put stay sorted set is_set =
-    elim (cases_eq set place) [
-      | inl same ↦ ap (λ s. is_member after s page) same ∙ put ∙ is_free ∙ sym (free_in_own_set class leaf used known)
-          ∙ ap (λ s. is_of_set s (use_of_kind (Block class leaf) used)) (sym is ∙ sym same)
-      | inr other ↦ stay set (omega arith) other ∙ sorted set is_set
-          ∙ same_elsewhere set class leaf earlier used is_set (λ same. other (same ∙ sym is))
-    ]
-
--- and one that has a free cell with both used words, or with neither
+-- a block that has a free cell with both used words, or with neither
 pub sorted_alike : (sets : List ℕ) (page class earlier used : ℕ) (leaf : Bool) → class < 8
     → is_some (first_where not (bits_of (cells_of class) earlier))
     ≡ is_some (first_where not (bits_of (cells_of class) used))
@@ -121,5 +111,34 @@ sorted_alike sets page class earlier used leaf known alike sorted set is_set = s
       | inl own ↦ ap (λ s. is_of_set s (use_of_kind (Block class leaf) earlier)) own
           ∙ free_in_own_set class leaf earlier known ∙ alike ∙ sym (free_in_own_set class leaf used known)
           ∙ ap (λ s. is_of_set s (use_of_kind (Block class leaf) used)) (sym own)
-      | inr other ↦ same_elsewhere set class leaf earlier used is_set other
+      | inr other ↦ block_elsewhere class earlier leaf refl set is_set other
+          ∙ sym (block_elsewhere class used leaf refl set is_set other)
     ]
+
+-- the three puts of a page that gets free, or in use
+pub puts_free : {first second third last : List ℕ} {page : ℕ} {is_free : Bool} → PutsPage first second 16 page is_free
+    → PutsPage second third 17 page (not is_free) → PutsPage third last 19 page is_free
+    → PutsFree first last page is_free
+puts_free free in_use uncleaned = record {
+  are_sets = uncleaned.are_sets;
+  free = uncleaned.other_sets 16 (omega arith) (λ same. absurd (omega arith))
+      ∙ in_use.other_sets 16 (omega arith) (λ same. absurd (omega arith)) ∙ free.this;
+  in_use = uncleaned.other_sets 17 (omega arith) (λ same. absurd (omega arith)) ∙ in_use.this;
+  uncleaned = uncleaned.this;
+  other_sets = λ s is_set not_free not_in_use. grind arith;
+  other_pages = λ s number is_set few differ. grind arith;
+}
+
+-- and how it is sorted then
+pub sorted_free : {before after : List ℕ} {page : ℕ} (was stands : PageUse)
+    → PutsFree before after page (is_free_page stands)
+    → ((set : ℕ) → set < 16 → is_of_set set was ≡ is_of_set set stands) → IsInItsSets before page was
+    → SortsPage before after page stands
+sorted_free {after} {page} was stands puts same sorted = record {
+  are_sets = puts.are_sets;
+  sorted = each_set (λ s. is_member after s page ≡ is_of_set s stands)
+      (λ s block. puts.other_sets s (omega arith) (omega arith) (omega arith) ∙ sorted s (omega arith) ∙ same s block)
+      puts.free puts.in_use;
+  quarantined = puts.other_sets 18 (omega arith) (omega arith) (omega arith);
+  other_pages = puts.other_pages;
+}

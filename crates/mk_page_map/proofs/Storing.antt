@@ -1,10 +1,9 @@
 -- A store of a page's header or used word keeps a map in step.
 use Rattle.std.{proofs.{Common.slice_index_or, lemmas.List.get_or_read}, specs.Int.{from_bool}}
-use Rattle.mk_page_map.proofs.Vocabulary.{AreSets, Bool, FitPages, IsInItsSets, KnownPages, List, OthersStay, Page}
-use Rattle.mk_page_map.proofs.Vocabulary.{PageKind, Shows, ℕ, ap, arith, free_page, is_member, is_resident_page, length}
-use Rattle.mk_page_map.proofs.Vocabulary.{page_at, resident_pages, set, subst, sym, use_of_kind, use_of_page}
-use Rattle.mk_page_map.proofs.{Vocabulary.{uses_of_pages, ◌+◌, ◌<◌, ◌∙◌, ◌≡◌, ◌≤◌}, Fitting.{Changes, fit_changed}}
-use Rattle.mk_page_map.proofs.{Fitting.{resident_changed, resident_one}, Showing.{changed_shows, known_by}}
+use Rattle.mk_page_map.proofs.Vocabulary.{Bool, FitPages, KnownPages, List, Page, PageKind, Shows, SortsPage, ℕ, arith}
+use Rattle.mk_page_map.proofs.Vocabulary.{free_page, is_resident_page, length, page_at, resident_pages, set, subst, sym}
+use Rattle.mk_page_map.proofs.Vocabulary.{use_of_kind, use_of_page, uses_of_pages, ◌+◌, ◌<◌, ◌≡◌, ◌≤◌}
+use Rattle.mk_page_map.proofs.{Fitting.{fit_changed, resident_changed, resident_one}, Showing.{changed_shows, known_by}}
 use Rattle.mk_geom.specs.{Headers.header_of, PageWords.use_under}
 
 -- a store: the pages and the sets before it, the sets as they were passed on and left, and the page then
@@ -12,21 +11,19 @@ pub record Stores (held : List Page) (sets slice after : List ℕ) (resident pag
   pub fit : FitPages held sets resident
   pub within : page < length held
   pub is_slice : slice ≡ sets
-  pub are_sets : AreSets after
-  pub sorted : IsInItsSets after page (use_of_page now)
-  pub quarantine : (s : ℕ) → 18 ≤ s → s < 19 → is_member after s page ≡ is_member slice s page
-  pub others : OthersStay slice after page
+  pub sorts : SortsPage slice after page (use_of_page now)
 
-changes_of : {held : List Page} {sets slice after : List ℕ} {resident page : ℕ} {now : Page}
-    → Stores held sets slice after resident page now → Changes held sets after page now
-changes_of stores = grind arith
+sorts_them : {held : List Page} {sets slice after : List ℕ} {resident page : ℕ} {now : Page}
+    → Stores held sets slice after resident page now → SortsPage sets after page (use_of_page now)
+sorts_them {after} {page} {now} stores =
+    subst (λ (xs : List ℕ). SortsPage xs after page (use_of_page now)) stores.is_slice stores.sorts
 
 pub store_fits : {held : List Page} {sets slice after : List ℕ} (vec : List ℕ) {resident : ℕ}
     (count : ℕ) {page : ℕ} {now : Page} → Stores held sets slice after resident page now → vec ≡ after
     → count + resident_one (page_at held page) ≡ resident + resident_one now → FitPages (set held page now) vec count
 store_fits {held} vec count {page} {now} stores written counted =
     subst (λ (xs : List ℕ). FitPages (set held page now) xs count) (sym written)
-    (fit_changed count stores.fit (changes_of stores) counted)
+    (fit_changed now count stores.fit stores.within (sorts_them stores) counted)
 
 pub store_shows : {known : KnownPages} {held pages : List Page} {sets slice after : List ℕ} (vec : List ℕ)
     {freed : List ℕ} {resident page : ℕ} {now : Page} (stored : Page) → Stores held sets slice after resident page now
@@ -34,11 +31,9 @@ pub store_shows : {known : KnownPages} {held pages : List Page} {sets slice afte
     → Shows (known_by (set held page now) vec) (set pages page stored) freed
 store_shows {held} {pages} {sets} {after} vec {freed} {page} {now} stored stores written view same shows =
     let shows_before = subst (λ (k : KnownPages). Shows k pages freed) (sym view) shows in
-    let changes = changes_of stores in
     subst (λ (p : Page). Shows (known_by (set held page now) vec) (set pages page p) freed) (same
     shows_before.page_by_page) (subst (λ (xs : List ℕ). Shows (known_by (set held page now) xs) (set pages page now)
-    freed) (sym written) (changed_shows held sets after now stores.fit.few changes.others (λ s quarantine
-    is_set. stores.quarantine s quarantine is_set ∙ ap (λ xs. is_member xs s page) stores.is_slice) shows_before))
+    freed) (sym written) (changed_shows held sets after now stores.fit.few (sorts_them stores) shows_before))
 
 -- a page of the map, and its words as they were read
 pub page_within : (known : KnownPages) (held : List Page) (sets : List ℕ) (page : ℕ) → known_by held sets ≡ known

@@ -1,10 +1,10 @@
 -- Which pages a map has as uncleaned, by its sets.
 use Rattle.std.{proofs.{lemmas.List.get_or_past, lemmas.List.FromFn.length-range_with_len}, specs.List.{range_with_len}}
-use Rattle.mk_page_map.proofs.Vocabulary.{AreSets, Bool, FitPages, IsNext, KnownPages, List, Option, OthersStay, Page}
-use Rattle.mk_page_map.proofs.Vocabulary.{Shows, ℕ, ap, arith, cases_eq, cases_lt, false, inl, inr, is_member, length}
-use Rattle.mk_page_map.{proofs.Vocabulary.{length-map, refl, subst, sym, ◌<◌, ◌∙◌, ◌≡◌, ◌≤◌}, proofs.Reading.{Reads}}
-use Rattle.mk_page_map.proofs.{Showing.{known_by, member_at, member_of_freed}, Fitting.fit_again, NextPages.same_next}
-use Rattle.mk_page_map.specs.{KnownPages.is_uncleaned, PageSets.members}
+use Rattle.mk_page_map.proofs.Vocabulary.{Bool, FitPages, IsNext, KnownPages, List, Option, OthersStay, Page, PutsPage}
+use Rattle.mk_page_map.proofs.Vocabulary.{Shows, ℕ, ap, arith, cases_lt, false, is_member, length, length-map, refl}
+use Rattle.mk_page_map.proofs.{Vocabulary.{subst, sym, ◌<◌, ◌∙◌, ◌≡◌, ◌≤◌}, Showing.{known_by, member_at}}
+use Rattle.mk_page_map.proofs.{Showing.{member_of_freed, set_stays}, Fitting.fit_again, NextPages.same_next}
+use Rattle.mk_page_map.{proofs.Reading.{Reads}, specs.{KnownPages.is_uncleaned, PageSets.members}}
 
 pub uncleaned_at : (held : List Page) (sets : List ℕ) (number : ℕ) → number < length held
     → is_uncleaned (known_by held sets) number ≡ is_member sets 19 number
@@ -30,52 +30,52 @@ uncleaned_others held now sets after number long few others differ =
     uncleaned_alike held now sets after number long (λ within. others 19 number (omega arith) (omega arith) differ)
 
 -- where all else of a page stays in the sets
-pub record ChangesUncleaned (held : List Page) (sets slice after : List ℕ) (resident page : ℕ) : Type 0 where
+pub record ChangesUncleaned (held : List Page) (sets slice after : List ℕ) (resident page : ℕ) (inside : Bool)
+    : Type 0 where
   pub fit : FitPages held sets resident
   pub within : page < length held
   pub is_slice : slice ≡ sets
-  pub are_sets : AreSets after
-  pub other_sets : (s : ℕ) → s < 20 → (s ≡ 19 → ⊥) → is_member after s page ≡ is_member slice s page
-  pub others : OthersStay slice after page
+  pub puts : PutsPage slice after 19 page inside
 
-same_sets : {held : List Page} {sets slice after : List ℕ} {resident page : ℕ}
-    → ChangesUncleaned held sets slice after resident page
-    → (s number : ℕ) → s < 19 → number < length held → is_member after s number ≡ is_member sets s number
-same_sets {sets} {after} {page} r s number is_set within = elim (cases_eq number page) [
-  | inl same ↦ ap (is_member after s) same ∙ r.other_sets s (omega arith) (λ e. absurd (omega arith))
-      ∙ ap (λ xs. is_member xs s page) r.is_slice ∙ ap (is_member sets s) (sym same)
-  | inr differ ↦ r.others s number (omega arith) (omega (arith, r.fit.few)) differ
-      ∙ ap (λ xs. is_member xs s number) r.is_slice
-]
+puts_it : {held : List Page} {sets slice after : List ℕ} {resident page : ℕ} {inside : Bool}
+    → ChangesUncleaned held sets slice after resident page inside → PutsPage sets after 19 page inside
+puts_it {after} {page} {inside} r = subst (λ (xs : List ℕ). PutsPage xs after 19 page inside) r.is_slice r.puts
+
+same_freed : {held : List Page} {sets slice after : List ℕ} {resident page : ℕ} {inside : Bool}
+    → ChangesUncleaned held sets slice after resident page inside
+    → (number : ℕ) → number < length held → is_member after 18 number ≡ is_member sets 18 number
+same_freed {sets} {after} {page} r number within = set_stays sets after page 18 number (omega arith)
+    (omega (arith, r.fit.few)) (puts_it r).other_pages ((puts_it r).other_sets 18 (omega arith) (omega arith))
 
 pub still_fits : {held : List Page} {sets slice after : List ℕ} (vec : List ℕ) {resident page : ℕ}
-    → ChangesUncleaned held sets slice after resident page → vec ≡ after → FitPages held vec resident
-still_fits {held} {after} vec {resident} {page} r written =
+    {inside : Bool} → ChangesUncleaned held sets slice after resident page inside → vec ≡ after
+    → FitPages held vec resident
+still_fits {held} vec {resident} r written =
     subst (λ (xs : List ℕ). FitPages held xs resident) (sym written)
-    (fit_again r.fit r.are_sets r.within (λ s is_set. same_sets r s page (omega arith) r.within)
-    (subst (λ (xs : List ℕ). OthersStay xs after page) r.is_slice r.others))
+    (fit_again (omega arith) r.within (puts_it r) r.fit)
 
 pub still_shows : {known : KnownPages} {held pages : List Page} {sets slice after : List ℕ}
-    (vec : List ℕ) {freed : List ℕ} {resident page : ℕ} → ChangesUncleaned held sets slice after resident page → vec
-    ≡ after → known_by held sets ≡ known → Shows known pages freed → Shows (known_by held vec) pages freed
+    (vec : List ℕ) {freed : List ℕ} {resident page : ℕ} {inside : Bool}
+    → ChangesUncleaned held sets slice after resident page inside → vec ≡ after → known_by held sets ≡ known
+    → Shows known pages freed → Shows (known_by held vec) pages freed
 still_shows {held} {pages} {sets} {after} vec {freed} r written view shows =
     let before = subst (λ (k : KnownPages). Shows k pages freed) (sym view) shows in
     let long : length held ≡ length pages = ap length before.page_by_page in
-    let stays = same_sets r in
     subst (λ (xs : List ℕ). Shows (known_by held xs) pages freed) (sym written) (record {
       page_by_page = before.page_by_page;
       freed_words = before.freed_words;
       quarantined = λ number within. member_at after 18 (length held) number (omega arith)
-          ∙ stays 18 number (omega arith) (omega arith) ∙ member_of_freed held sets before number within;
+          ∙ same_freed r number (omega arith) ∙ member_of_freed held sets before number within;
     })
 
 pub others_uncleaned : (known : KnownPages) {held : List Page} {sets slice after : List ℕ} (vec : List ℕ)
-    {resident page : ℕ} (number : ℕ) → ChangesUncleaned held sets slice after resident page → vec ≡ after
+    {resident page : ℕ} {inside : Bool} (number : ℕ) → ChangesUncleaned held sets slice after resident page inside
+    → vec ≡ after
     → known_by held sets ≡ known → (number ≡ page → ⊥)
     → is_uncleaned (known_by held vec) number ≡ is_uncleaned known number
 others_uncleaned known {held} {sets} {after} vec {page} number r written view differ =
     ap (λ xs. is_uncleaned (known_by held xs) number) written ∙ uncleaned_others held held sets after number refl
-    r.fit.few (subst (λ (xs : List ℕ). OthersStay xs after page) r.is_slice r.others) differ
+    r.fit.few (puts_it r).other_pages differ
     ∙ ap (λ k. is_uncleaned k number) view
 
 pub this_uncleaned : (held : List Page) (after vec : List ℕ) (page : ℕ) (inside : Bool) → page < length held
@@ -97,12 +97,10 @@ pub all_kept : (known : KnownPages) (held now : List Page) (sets : List ℕ) {sl
     → length held ≤ 4096 → OthersStay slice after page → is_member after 19 page ≡ is_member slice 19 page
     → is_uncleaned (known_by now vec) number ≡ is_uncleaned known number
 all_kept known held now sets {after} vec {page} number view is_slice written long few others same =
-    elim (cases_eq number page) [
-      | inr differ ↦ others_kept known held now sets vec number view is_slice written long few others differ
-      | inl here ↦ ap (λ xs. is_uncleaned (known_by now xs) number) written ∙ uncleaned_alike held now sets after
-          number long (λ within. ap (is_member after 19) here ∙ same ∙ ap (λ xs. is_member xs 19 page) is_slice ∙ ap
-          (is_member sets 19) (sym here)) ∙ ap (λ k. is_uncleaned k number) view
-    ]
+    ap (λ xs. is_uncleaned (known_by now xs) number) written ∙ uncleaned_alike held now sets after number long
+    (λ within. set_stays sets after page 19 number (omega arith) (omega arith) (subst
+    (λ (xs : List ℕ). OthersStay xs after page) is_slice others) (same ∙ ap (λ xs. is_member xs 19 page) is_slice))
+    ∙ ap (λ k. is_uncleaned k number) view
 
 -- the next page of the set
 pub next_of_uncleaned : {known : KnownPages} {held : List Page} {sets slice : List ℕ} {resident count : ℕ} (from : ℕ)

@@ -4,10 +4,10 @@ pub use Rattle.std.proofs.Common.{get_or-set_other, get_or-set_same, inl, inr, l
 pub use Rattle.std.proofs.Common.{refl, replicate, set, subst, suc, sym, take, true, w64, zero, [], ◌%◌, ◌*◌, ◌++◌, ◌+◌}
 pub use Rattle.std.proofs.{Common.{◌-◌, ◌<◌, ◌∙◌, ◌≡◌, ◌≤◌}, lemmas.Bool.{cases_eq, cases_lt}, lemmas.List.length-map}
 pub use Rattle.std.specs.{Int.bit_at, Option.is_some}
-pub use Rattle.mk_geom.specs.PageUses.{Nothing, PageUse, first_where, is_free_page, is_resident_page, range_start}
-pub use Rattle.mk_geom.specs.{PageUses.resident_pages, PageWords.{use_of_page, uses_of_pages}, Storages.free_page}
-pub use Rattle.mk_geom.specs.declared.pages.Page.{Page}
+pub use Rattle.mk_geom.specs.PageUses.{Nothing, PageUse, PartOfRun, first_where, is_free_page, is_resident_page}
+pub use Rattle.mk_geom.specs.{PageUses.{range_start, resident_pages}, PageWords.{use_of_page, uses_of_pages}}
+pub use Rattle.mk_geom.specs.{Storages.free_page, declared.pages.Page.Page}
 pub use Rattle.mk_books.proofs.FreeRangeLemmas.{range_start_from}
 pub use Rattle.mk_page_map.specs.{KnownPages.{KnownPages, Shows}, Members.{IsNext, has_free_cell, is_in_use, page_at}}
-pub use Rattle.mk_page_map.specs.PageSets.{AreSets, FitPages, HasClass, IsInItsSets, OthersStay, is_member, is_of_set}
-pub use Rattle.mk_page_map.specs.{PageSets.use_of_kind, declared.kinds.PageKind.PageKind}
+pub use Rattle.mk_page_map.specs.PageSets.{AreSets, FitPages, HasClass, IsInItsSets, OthersStay, PutsPage, SortsPage}
+pub use Rattle.mk_page_map.specs.{PageSets.{is_member, is_of_set, use_of_kind}, declared.kinds.PageKind.PageKind}

@@ -39,16 +39,46 @@ OtherWordsStay before after set word =
     (other place : ℕ) → place < 64 → (other ≡ set → place ≡ word → ⊥)
     → word_in_set after other place ≡ word_in_set before other place
 
+-- a word of a set is stored
+pub record StoresWord (before after : List ℕ) (set word bits : ℕ) : Type 0 where
+  pub are_sets : AreSets after
+  pub this : word_in_set after set word ≡ bits
+  pub others : OtherWordsStay before after set word
+
 -- all other pages are in the sets that they were in
 abbrev pub OthersStay : List ℕ → List ℕ → ℕ → Type 0
 OthersStay before after page =
     (set number : ℕ) → set < 20 → number < 4096 → (number ≡ page → ⊥)
     → is_member after set number ≡ is_member before set number
 
+-- A page is put into a set, or taken out: of the other sets it is in those that it was in.
+pub record PutsPage (before after : List ℕ) (set page : ℕ) (inside : Bool) : Type 0 where
+  pub are_sets : AreSets after
+  pub this : is_member after set page ≡ inside
+  pub other_sets : (other : ℕ) → other < 20 → (other ≡ set → ⊥)
+      → is_member after other page ≡ is_member before other page
+  pub other_pages : OthersStay before after page
+
 -- a page is in the sets of blocks that it was in, and with freed cells where it was so
 abbrev pub StaysInOtherSets : List ℕ → List ℕ → ℕ → Type 0
 StaysInOtherSets before after page =
     (set : ℕ) → set < 19 → (set ≡ 16 → ⊥) → (set ≡ 17 → ⊥) → is_member after set page ≡ is_member before set page
+
+-- A page is put among the free ones, where it may be marked, or out of them and among those in use.
+pub record PutsFree (before after : List ℕ) (page : ℕ) (is_free : Bool) : Type 0 where
+  pub are_sets : AreSets after
+  pub free : is_member after 16 page ≡ is_free
+  pub in_use : is_member after 17 page ≡ not is_free
+  pub uncleaned : is_member after 19 page ≡ is_free
+  pub other_sets : StaysInOtherSets before after page
+  pub other_pages : OthersStay before after page
+
+-- A page is sorted by what stands on it now. It is with freed cells where it was so.
+pub record SortsPage (before after : List ℕ) (page : ℕ) (stands : PageUse) : Type 0 where
+  pub are_sets : AreSets after
+  pub sorted : IsInItsSets after page stands
+  pub quarantined : is_member after 18 page ≡ is_member before 18 page
+  pub other_pages : OthersStay before after page
 
 -- the sets and the count of resident pages fit the pages
 pub record FitPages (pages : List Page) (sets : List ℕ) (resident : ℕ) : Type 0 where

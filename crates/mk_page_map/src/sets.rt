@@ -1,8 +1,7 @@
 //! Sets of page numbers, as bits: 64 pages in a word, and 64 words in a set, after a summary of which of them aren't 0.
 //! So a set's next page is found by two words of it and the summary.
 ghost use Rattle.std.specs.{Prelude.{◌≡◌, ℕ, ◌+◌, ◌*◌, ◌<◌, ◌==◌, false, true, nat_lt, not}, Int.bit_at};
-ghost use Rattle.mk_page_map.specs.{Members.IsNext, PageSets.{AreSets, OtherWordsStay, OthersStay, is_member}};
-ghost use Rattle.mk_page_map.specs.PageSets.{word_in_set};
+ghost use Rattle.mk_page_map.specs.{Members.IsNext, PageSets.{AreSets, PutsPage, StoresWord, is_member}};
 
 /// A summary and 64 words.
 pub(crate) const SET_WORDS: usize = 65;
@@ -98,9 +97,7 @@ pub(crate) fn store_word(sets: &mut [u64], set: usize, word: u64, bits: u64)
     requires sets { AreSets sets.old }
     requires set { set < 20 }
     requires word { word < 64 }
-    ensures sets { AreSets sets.new }
-    ensures this { word_in_set sets.new set word ≡ bits }
-    ensures others { OtherWordsStay sets.old sets.new set word }
+    ensures { StoresWord sets.old sets.new set word bits }
 {
     let summary = SET_WORDS * set;
     sets[summary + 1 + word as usize] = bits;
@@ -112,11 +109,7 @@ pub(crate) fn put(sets: &mut [u64], set: usize, page: u64, inside: bool)
     requires sets { AreSets sets.old }
     requires set { set < 20 }
     requires page { page < 4096 }
-    ensures sets { AreSets sets.new }
-    ensures this { is_member sets.new set page ≡ inside }
-    ensures other_sets { (other : ℕ) → other < 20 → (other ≡ set → ⊥)
-        → is_member sets.new other page ≡ is_member sets.old other page }
-    ensures other_pages { OthersStay sets.old sets.new page }
+    ensures { PutsPage sets.old sets.new set page inside }
 {
     let word = page / 64;
     let bits = sets[SET_WORDS * set + 1 + word as usize];
@@ -131,11 +124,7 @@ pub(crate) fn insert(sets: &mut [u64], set: usize, page: u64)
     requires sets { AreSets sets.old }
     requires set { set < 20 }
     requires page { page < 4096 }
-    ensures sets { AreSets sets.new }
-    ensures this { is_member sets.new set page ≡ true }
-    ensures other_sets { (other : ℕ) → other < 20 → (other ≡ set → ⊥)
-        → is_member sets.new other page ≡ is_member sets.old other page }
-    ensures other_pages { OthersStay sets.old sets.new page }
+    ensures { PutsPage sets.old sets.new set page true }
 {
     let word = page / 64;
     let bits = sets[SET_WORDS * set + 1 + word as usize];
@@ -148,11 +137,7 @@ pub(crate) fn remove(sets: &mut [u64], set: usize, page: u64)
     requires sets { AreSets sets.old }
     requires set { set < 20 }
     requires page { page < 4096 }
-    ensures sets { AreSets sets.new }
-    ensures this { is_member sets.new set page ≡ false }
-    ensures other_sets { (other : ℕ) → other < 20 → (other ≡ set → ⊥)
-        → is_member sets.new other page ≡ is_member sets.old other page }
-    ensures other_pages { OthersStay sets.old sets.new page }
+    ensures { PutsPage sets.old sets.new set page false }
 {
     let word = page / 64;
     let place = SET_WORDS * set + 1 + word as usize;

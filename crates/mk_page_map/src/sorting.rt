@@ -3,7 +3,7 @@ ghost use Rattle.std.specs.Prelude.{◌≡◌, ℕ, ◌<◌, ◌≤◌, ◌==◌
 ghost use Rattle.mk_books.specs.FreeCells.{class_place};
 ghost use Rattle.mk_geom.specs.{Headers.header_of, PageWords.use_under};
 ghost use Rattle.mk_geom.specs.PageUses.{PartOfRun, is_free_page, is_resident_page};
-ghost use Rattle.mk_page_map.specs.PageSets.{AreSets, HasClass, IsInItsSets, OthersStay, StaysInOtherSets, is_member};
+ghost use Rattle.mk_page_map.specs.PageSets.{AreSets, HasClass, IsInItsSets, PutsFree, PutsPage, SortsPage, is_member};
 ghost use Rattle.mk_page_map.specs.PageSets.{use_of_kind};
 
 use crate::kinds::{PageKind, has_free_cell, kind_of};
@@ -40,12 +40,7 @@ pub(crate) fn block_set(class: u64, leaf: bool) -> usize
 fn put_free(sets: &mut [u64], page: u64)
     requires sets { AreSets sets.old }
     requires page { page < 4096 }
-    ensures sets { AreSets sets.new }
-    ensures free { is_member sets.new 16 page ≡ true }
-    ensures in_use { is_member sets.new 17 page ≡ false }
-    ensures uncleaned { is_member sets.new 19 page ≡ true }
-    ensures other_sets { StaysInOtherSets sets.old sets.new page }
-    ensures other_pages { OthersStay sets.old sets.new page }
+    ensures { PutsFree sets.old sets.new page true }
 {
     insert(sets, FREE, page);
     remove(sets, IN_USE, page);
@@ -57,11 +52,7 @@ fn put_free(sets: &mut [u64], page: u64)
 fn put_in_use(sets: &mut [u64], page: u64)
     requires sets { AreSets sets.old }
     requires page { page < 4096 }
-    ensures sets { AreSets sets.new }
-    ensures free { is_member sets.new 16 page ≡ false }
-    ensures in_use { is_member sets.new 17 page ≡ true }
-    ensures other_sets { StaysInOtherSets sets.old sets.new page }
-    ensures other_pages { OthersStay sets.old sets.new page }
+    ensures { PutsFree sets.old sets.new page false }
 {
     remove(sets, FREE, page);
     insert(sets, IN_USE, page);
@@ -75,10 +66,7 @@ fn leave_sets(sets: &mut [u64], page: u64, kind: PageKind)
     requires page { page < 4096 }
     requires class { HasClass kind }
     requires sorted { (used : ℕ) × IsInItsSets sets.old page (use_of_kind kind used) }
-    ensures sets { AreSets sets.new }
-    ensures sorted { IsInItsSets sets.new page (PartOfRun false) }
-    ensures quarantined { is_member sets.new 18 page ≡ is_member sets.old 18 page }
-    ensures other_pages { OthersStay sets.old sets.new page }
+    ensures { SortsPage sets.old sets.new page (PartOfRun false) }
 {
     match kind {
         PageKind::Free => put_in_use(sets, page),
@@ -94,11 +82,8 @@ fn join_sets(sets: &mut [u64], page: u64, kind: PageKind, used: u64)
     requires page { page < 4096 }
     requires class { HasClass kind }
     requires sorted { IsInItsSets sets.old page (PartOfRun false) }
-    ensures sets { AreSets sets.new }
-    ensures sorted { IsInItsSets sets.new page (use_of_kind kind used) }
+    ensures sorts { SortsPage sets.old sets.new page (use_of_kind kind used) }
     ensures uncleaned { is_free_page (use_of_kind kind used) ≡ true → is_member sets.new 19 page ≡ true }
-    ensures quarantined { is_member sets.new 18 page ≡ is_member sets.old 18 page }
-    ensures other_pages { OthersStay sets.old sets.new page }
 {
     match kind {
         PageKind::Free => put_free(sets, page),
@@ -127,11 +112,8 @@ pub(crate) fn sort_by_header(
     requires class { HasClass before }
     requires sorted { IsInItsSets sets.old page (use_of_kind before used) }
     ensures resident { (word : ℕ) → is_resident_page (use_under (header_of header) word) ≡ result }
-    ensures sets { AreSets sets.new }
-    ensures sorted { IsInItsSets sets.new page (use_under (header_of header) used) }
+    ensures sorts { SortsPage sets.old sets.new page (use_under (header_of header) used) }
     ensures uncleaned { header ≡ 0 → is_member sets.new 19 page ≡ true }
-    ensures quarantined { is_member sets.new 18 page ≡ is_member sets.old 18 page }
-    ensures other_pages { OthersStay sets.old sets.new page }
 {
     leave_sets(sets, page, before);
     let after = kind_of(header);
@@ -146,10 +128,8 @@ pub(crate) fn sort_by_used(sets: &mut [u64], page: u64, kind: PageKind, before: 
     requires page { page < 4096 }
     requires class { HasClass kind }
     requires sorted { IsInItsSets sets.old page (use_of_kind kind before) }
-    ensures sets { AreSets sets.new }
-    ensures sorted { IsInItsSets sets.new page (use_of_kind kind after) }
-    ensures other_sets { (set : ℕ) → 18 ≤ set → set < 20 → is_member sets.new set page ≡ is_member sets.old set page }
-    ensures other_pages { OthersStay sets.old sets.new page }
+    ensures sorts { SortsPage sets.old sets.new page (use_of_kind kind after) }
+    ensures uncleaned { is_member sets.new 19 page ≡ is_member sets.old 19 page }
 {
     if let PageKind::Block { class, leaf } = kind {
         let is_open = has_free_cell(class, after);
@@ -163,11 +143,7 @@ pub(crate) fn sort_by_used(sets: &mut [u64], page: u64, kind: PageKind, before: 
 pub(crate) fn sort_by_quarantine(sets: &mut [u64], page: u64, freed: u64)
     requires sets { AreSets sets.old }
     requires page { page < 4096 }
-    ensures sets { AreSets sets.new }
-    ensures quarantined { is_member sets.new 18 page ≡ not (freed == 0) }
-    ensures other_sets { (set : ℕ) → set < 18 → is_member sets.new set page ≡ is_member sets.old set page }
-    ensures uncleaned { is_member sets.new 19 page ≡ is_member sets.old 19 page }
-    ensures other_pages { OthersStay sets.old sets.new page }
+    ensures { PutsPage sets.old sets.new 18 page (not (freed == 0)) }
 {
     put(sets, QUARANTINED, page, freed != 0);
 }

@@ -17,14 +17,14 @@ loop-word-preserved c =
     let held = c.loop-word.sets.items in
     let is = written c.store_word.new.sets held c.loop-word.sets.len (omega (
       arith,
-      c.store_word.ensures.sets.long,
+      c.store_word.ensures.are_sets.long,
       c.loop-word.invariant.are_sets.long,
       c.loop-word.sets.ok.0,
     )) in
     let before = subst (λ (xs : List ℕ). HaveFreeBelow xs c.loop-word.word c.args.pages)
     (sym c.deref_mut.ensures.value) c.loop-word.invariant.free in
     record {
-      are_sets = subst AreSets (sym is) c.store_word.ensures.sets;
+      are_sets = subst AreSets (sym is) c.store_word.ensures.are_sets;
       free = subst (λ (xs : List ℕ). HaveFreeBelow xs (c.loop-word.word + 1) c.args.pages) (sym is)
           (one_word_more c.deref_mut.result.now c.store_word.new.sets c.args.pages
           c.ones_below.result before c.store_word.ensures.this c.store_word.ensures.others c.ones_below.ensures);

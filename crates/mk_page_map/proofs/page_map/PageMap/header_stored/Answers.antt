@@ -59,4 +59,4 @@ returns-clause-others c number differ =
     others_kept c.args.self.now c.self.inside.pages.items (set c.self.inside.pages.items c.args.page (now x))
     c.self.inside.sets.items _ number c.self.view_is c.deref_mut.ensures.value (same_sets x) (length-set
     c.self.inside.pages.items c.args.page (now x)) c.self.invariant.few
-    c.sort_by_header-is_resident.ensures.other_pages differ
+    c.sort_by_header-is_resident.ensures.sorts.other_pages differ

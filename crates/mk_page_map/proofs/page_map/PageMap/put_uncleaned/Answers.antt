@@ -7,7 +7,7 @@ within : (c : After-put) → c.args.page < length c.self.inside.pages.items
 within c = grind (arith, page_within)
 
 changes : (c : After-put) → ChangesUncleaned c.self.inside.pages.items c.self.inside.sets.items c.deref_mut.result.now
-    c.put.new.sets c.self.inside.resident c.args.page
+    c.put.new.sets c.self.inside.resident c.args.page c.args.inside
 changes c = grind (arith, within)
 
 same_sets : (c : After-put) → take c.self.inside.sets.len

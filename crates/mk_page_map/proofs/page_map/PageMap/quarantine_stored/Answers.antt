@@ -1,5 +1,5 @@
-use Rattle.mk_page_map.proofs.Vocabulary.{FitPages, KnownPages, List, OthersStay, Shows, ℕ, ap, arith, drop, is_member}
-use Rattle.mk_page_map.proofs.Vocabulary.{length, set, subst, sym, take, ◌++◌, ◌<◌, ◌∙◌, ◌≡◌}
+use Rattle.mk_page_map.proofs.Vocabulary.{FitPages, KnownPages, List, PutsPage, Shows, ℕ, arith, drop, length, nat_eq}
+use Rattle.mk_page_map.proofs.Vocabulary.{not, refl, set, subst, sym, take, ◌++◌, ◌<◌, ◌≡◌}
 use Rattle.mk_page_map.proofs.Showing.{known_by, quarantine_shows}
 use Rattle.mk_page_map.proofs.page_map.PageMap.quarantine_stored.Goals.{After-sort_by_quarantine}
 use Rattle.mk_page_map.proofs.{Fitting.fit_again, FreeSets.written, Storing.page_within, Uncleaned.all_kept}
@@ -12,15 +12,16 @@ same_sets : (c : After-sort_by_quarantine) → take c.self.inside.sets.len (c.so
     (length c.sort_by_quarantine.new.sets) c.self.inside.sets.items) ≡ c.sort_by_quarantine.new.sets
 same_sets c = grind (arith, written, within)
 
-others : (c : After-sort_by_quarantine) → OthersStay c.self.inside.sets.items c.sort_by_quarantine.new.sets c.args.page
-others c = grind arith
+puts : (c : After-sort_by_quarantine) → PutsPage c.self.inside.sets.items c.sort_by_quarantine.new.sets 18 c.args.page
+    (not (nat_eq c.args.freed 0))
+puts c = subst (λ (xs : List ℕ). PutsPage xs c.sort_by_quarantine.new.sets 18 c.args.page
+    (not (nat_eq c.args.freed 0))) c.deref_mut.ensures.value c.sort_by_quarantine.ensures
 
 pub invariant_of-self : goal.invariant_of-self
 invariant_of-self c =
     let x = (goal.at.invariant_of-self c).After-sort_by_quarantine in
-    subst (λ (xs : List ℕ). FitPages c.self.inside.pages.items xs c.self.inside.resident) (sym (same_sets x)) (fit_again
-    c.self.invariant c.sort_by_quarantine.ensures.sets (within x) (λ s is_set. c.sort_by_quarantine.ensures.other_sets s
-    is_set ∙ ap (λ xs. is_member xs s c.args.page) c.deref_mut.ensures.value) (others x))
+    subst (λ (xs : List ℕ). FitPages c.self.inside.pages.items xs c.self.inside.resident) (sym (same_sets x))
+    (fit_again (omega arith) (within x) (puts x) c.self.invariant)
 
 pub returns-clause-shows : goal.returns-clause-shows
 returns-clause-shows c pages freed_words shows =
@@ -29,7 +30,11 @@ returns-clause-shows c pages freed_words shows =
     subst (λ (xs : List ℕ). Shows (known_by c.self.inside.pages.items xs) pages
     (set freed_words c.args.page c.args.freed)) (sym (same_sets x))
     (quarantine_shows c.self.inside.pages.items c.self.inside.sets.items c.sort_by_quarantine.new.sets c.args.freed
-    c.self.invariant.few (within x) (others x) c.sort_by_quarantine.ensures.quarantined before)
+    c.self.invariant.few (within x) (puts x) before)
 
 pub returns-clause-uncleaned : goal.returns-clause-uncleaned
-returns-clause-uncleaned c number = grind (arith, all_kept, same_sets)
+returns-clause-uncleaned c number =
+    let x = (goal.at.returns-clause-uncleaned c).After-sort_by_quarantine in
+    all_kept c.args.self.now c.self.inside.pages.items c.self.inside.pages.items c.self.inside.sets.items _ number
+    c.self.view_is c.deref_mut.ensures.value (same_sets x) refl c.self.invariant.few
+    c.sort_by_quarantine.ensures.other_pages (c.sort_by_quarantine.ensures.other_sets 19 (omega arith) (omega arith))

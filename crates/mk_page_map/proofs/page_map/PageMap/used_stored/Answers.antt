@@ -41,5 +41,5 @@ returns-clause-uncleaned c number =
     let x = (goal.at.returns-clause-uncleaned c).After-sort_by_used in
     all_kept c.args.self.now c.self.inside.pages.items (set c.self.inside.pages.items c.args.page (now x))
     c.self.inside.sets.items _ number c.self.view_is c.deref_mut.ensures.value (same_sets x)
-    (length-set c.self.inside.pages.items c.args.page (now x)) c.self.invariant.few c.sort_by_used.ensures.other_pages
-    (c.sort_by_used.ensures.other_sets 19 (omega arith) (omega arith))
+    (length-set c.self.inside.pages.items c.args.page (now x)) c.self.invariant.few
+    c.sort_by_used.ensures.sorts.other_pages c.sort_by_used.ensures.uncleaned
