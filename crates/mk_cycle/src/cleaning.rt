@@ -67,8 +67,8 @@ fn clear_dirty(turn: &mut Turn, words: &Words, page: u64, dirty: u64)
 
 /// Makes the freed cells of a page with this quarantine word its snapshot.
 #[inline(always)]
-fn copy_freed(turn: &mut Turn, words: &Words, page: u64, quarantine: u64)
-    requires turn { IsTurnAt 0 words.now turn.old.pass }
+fn copy_freed(turn: &mut Turn, words: &Words, pages: u64, page: u64, quarantine: u64)
+    requires turn { IsTurnAmong 0 words.now turn.old.pass pages }
     requires within { page < words.now.config.pages }
     requires found { IsQuarantineWord turn.old.pass page quarantine }
     ensures cleans { Cleans turn.old.pass turn.new.pass }
@@ -76,7 +76,7 @@ fn copy_freed(turn: &mut Turn, words: &Words, page: u64, quarantine: u64)
 {
     let freed = quarantine % FREED_END;
     if quarantine / FREED_END != freed {
-        turn.quar(words, page, freed + FREED_END * freed);
+        turn.quar_still_freed(words, pages, page, freed + FREED_END * freed);
     }
 }
 
@@ -118,7 +118,7 @@ fn clean_page(turn: &mut Turn, words: &Words, pages: u64, page: u64)
     if are_zero(dirty, quarantine) {
         return;
     }
-    copy_freed(turn, words, page, quarantine);
+    copy_freed(turn, words, pages, page, quarantine);
     clear_dirty(turn, words, page, dirty);
 }
 

@@ -3,16 +3,17 @@ use Rattle.mk_laws.proofs.Vocabulary.{Access, Bool, Config, Flight, IsHistory, L
 use Rattle.mk_laws.proofs.Vocabulary.{Page, Seat, Some, Step, Store, Tally, Word, Words, World, ℕ, accessed, ap, arith}
 use Rattle.mk_laws.proofs.Vocabulary.{cases_eq, earlier_part_is_history, enabled_meets, false, free_page}
 use Rattle.mk_laws.proofs.Vocabulary.{get_or-set_other, get_or-set_same, header_at, histories_keep_lengths, inl, inr}
-use Rattle.mk_laws.proofs.Vocabulary.{is_in_range, length, ltb-true, nat_lt, refl, subst, sym, tally_word, true, []}
-use Rattle.mk_laws.proofs.{Vocabulary.{◌++◌, ◌<◌, ◌∙◌, ◌∷◌, ◌≡◌, ◌≢◌}, SameWords.Behind}
-use Rattle.mk_page_map.specs.KnownPages.{KnownPages, Shows, is_uncleaned, with_header, with_used}
+use Rattle.mk_laws.proofs.Vocabulary.{is_in_range, length, length-set, ltb-true, nat_lt, not, refl, set_by, slice_index}
+use Rattle.mk_laws.proofs.Vocabulary.{subst, sym, tally_word, true, [], ◌++◌, ◌<◌, ◌==◌, ◌∙◌, ◌∷◌, ◌≡◌, ◌≢◌}
+use Rattle.mk_laws.proofs.SameWords.{Behind}
+use Rattle.mk_page_map.specs.KnownPages.{KnownPages, Shows, is_quarantined_page, is_uncleaned, with_header, with_used}
 use Rattle.mk_page_map.specs.Members.{IsNext, page_at}
 use Rattle.mk_words.proofs.{FreeTurns.{map_left, map_stays, page_words}, TurnSteps.{acts, gates_still}, Made.own_before}
 use Rattle.mk_words.proofs.{Seats.others_own, Unmarked.{is_mark, stays_unmarked}}
 use Rattle.mk_words.specs.PageMaps.{HasNoMarks, HeaderIsTold, IsMapOf, IsNextUncleaned, IsToldOf, MarkIsTold}
-use Rattle.mk_words.specs.{PageMaps.{UsedIsTold, is_told, page_told}, States.{IsTurn, PassState, TurnState, call_of}}
-use Rattle.mk_words.specs.{States.{event_of, now_of}, TurnSteps.{Acts, HasMap, gates_stay, world_at}}
-use Rattle.mk_words.specs.{OneProof.turn_prop, Steps.{IsEnabledTo, Makes}}
+use Rattle.mk_words.specs.{PageMaps.{QuarantineIsTold, UsedIsTold, is_told, page_told}, States.{IsTurn, PassState}}
+use Rattle.mk_words.specs.{States.{TurnState, call_of, event_of, now_of}, TurnSteps.{Acts, HasMap, gates_stay}}
+use Rattle.mk_words.specs.{TurnSteps.world_at, OneProof.turn_prop, Steps.{IsEnabledTo, Makes}}
 
 no_mark : (s : Step) → is_told s ≡ false → is_mark s ≡ false
 no_mark (Step.Mark p v) untold = cc
@@ -157,6 +158,21 @@ told_stays x0 is = grind arith
 pub untold_mark : (map : KnownPages) (w : Words) (page : ℕ) → header_at w page ≢ 0 → IsMapOf map w
     → MarkIsTold map page map
 untold_mark map w page some shows = grind arith
+
+-- Nor need a quarantine word whose freed half stays.
+pub untold_quar : (map : KnownPages) (w : Words) (page freed : ℕ) → freed ≡ slice_index w.freed page → IsMapOf map w
+    → QuarantineIsTold map page freed map
+untold_quar map w page freed same shows = record {
+  shows = λ pages old s. record {
+    page_by_page = s.page_by_page;
+    freed_words = length-set old page freed ∙ s.freed_words;
+    quarantined = λ number lt. set_by (λ (n : ℕ). is_quarantined_page map number ≡ not (n == 0)) old page number freed
+        0 (λ here. (let near : number < length w.pages = grind arith in
+        shows.words.quarantined number near ∙ ap (λ (n : ℕ). not (n == 0)) (ap (slice_index w.freed) here ∙ sym same)))
+        (s.quarantined number lt);
+  };
+  uncleaned = λ number. refl;
+}
 
 -- What a map shows it shows by another name too.
 pub shows_that : (w : Words) (map same : KnownPages) → same ≡ map → IsMapOf map w → IsMapOf same w

@@ -1,5 +1,5 @@
 //! The steps of the turn's holder.
-ghost use Rattle.std.specs.Prelude.{◌≡◌, ◌≢◌, true};
+ghost use Rattle.std.specs.Prelude.{◌≡◌, ◌≢◌, ◌%◌, ◌^◌, true, slice_index};
 ghost use Rattle.mk_core.specs.declared.accesses.Access.TheVariants.{Load};
 ghost use Rattle.mk_core.specs.{declared.accesses.TableWord.TheVariants.Named, Accesses.{register_met, reg_access}};
 ghost use Rattle.mk_core.specs.{Calls.{d_of, progress_reg}, Words.header_at};
@@ -76,6 +76,23 @@ impl<G: Gates> TurnAt<G> {
     {
         let quar = TableWord::Named(Word::Quar(page));
         self.perform_told(words, Step::Quar { page, value: v }, quar, Access::Store(v));
+    }
+
+    /// Stores a page's quarantine word whose freed half stays, in a table of this many pages. The map knows the freed
+    /// half alone, so it needn't be told.
+    #[inline(always)]
+    pub fn quar_still_freed(&mut self, words: &Words, pages: u64, page: u64, v: u64)
+        requires one_table { self.old.pass.table ≡ words.now }
+        requires pages { pages ≡ words.now.config.pages }
+        requires freed { v % 2 ^ 32 ≡ slice_index (now_of self.old.pass).words.freed page }
+        requires enabled { IsEnabledTo self.old.pass (step.Quar page v) }
+        requires admitted { IsAdmittedTo self.old.pass (step.Quar page v) }
+        ensures { Acts self.old.pass (step.Quar page v) self.new.pass }
+    {
+        let step = Step::Quar { page, value: v };
+        let quar = TableWord::Named(Word::Quar(page));
+        self.pass
+            .perform_near(words, pages, page, step, quar, Access::Store(v));
     }
 
     /// Clears a page's marks.
