@@ -6,7 +6,7 @@ use Rattle.mk_laws.proofs.Vocabulary.{points_well, refl, slice_index, slice_set,
 use Rattle.mk_laws.proofs.{Vocabulary.{◌<◌, ◌^◌, ◌||◌, ◌∙◌, ◌≡◌, ◌≤◌, ◌⊎◌}, Tests.all_below_from}
 use Rattle.mk_core.proofs.WordBits.{bit_for_has, bit_for_small, bits_added, bits_stay}
 use Rattle.mk_core.specs.{Cells.words_point_well, StopConditions.may_turn_black}
-use Rattle.mk_tracing.specs.Grays.{BlackensOne, ColoursMore, IsGray, MarksMore}
+use Rattle.mk_tracing.specs.Grays.{BlackensOne, ColoursMore, IsGray, MarksMore, is_black, with_blacks}
 
 -- how many numbers below one a test doesn't hold of, and the sum of these counts over pages
 
@@ -138,3 +138,14 @@ colours_then w one two = grind (arith, bits_stay)
 pub one_fewer_white : {pages : ℕ} {w v x : Words} {cell : Cell} → IsGray pages w cell → pages ≡ length w.blacks → v ≡ w
     → BlackensOne v cell x → white_cells pages x.blacks < white_cells pages w.blacks
 one_fewer_white gray count same one = grind (arith, cells_few, white_cells, fewer_white)
+
+-- the blackened cell is black
+pub black_now : {pages : ℕ} {w v : Words} (x : Words) (cell : Cell) → IsGray pages w cell → pages ≡ length x.blacks
+    → v ≡ with_blacks cell.page (2 ^ cell.index) x → is_black v cell ≡ true
+black_now {w = w} x cell gray count is =
+    let few : cells_under (header_in w cell.page) ≤ 32 = cells_few _ in
+    let known = gray.index in
+    let within = gray.page in
+    ap (λ (y : Words). is_black y cell) is ∙ bits_added x.blacks cell.page (2 ^ cell.index) cell.index (omega arith)
+    (subst (λ n. has_bit n cell.index
+    ≡ true) (bit_for_small cell.index (omega arith)) (bit_for_has cell.index (omega arith)))

@@ -1,9 +1,10 @@
 -- Black and dirty words that are cleared.
-use Rattle.mk_laws.proofs.Vocabulary.{List, Words, ℕ, ap, arith, cases_eq, cases_lt, get_or-set_other, get_or-set_same}
-use Rattle.mk_laws.proofs.Vocabulary.{get_or_past, head_page, inl, inr, length, refl, set-get_or, set_past, slice_index}
-use Rattle.mk_laws.proofs.Vocabulary.{slice_set, subst, sym, ◌+◌, ◌<◌, ◌∙◌, ◌≡◌, ◌≢◌}
+use Rattle.std.proofs.lemmas.Nat.{le_or_l, le_or_r}
+use Rattle.mk_laws.proofs.Vocabulary.{List, Words, ℕ, ap, arith, bit_or, cases_eq, cases_lt, get_or-set_other}
+use Rattle.mk_laws.proofs.Vocabulary.{get_or-set_same, get_or_past, head_page, inl, inr, length, no_bit, refl}
+use Rattle.mk_laws.proofs.Vocabulary.{set-get_or, set_past, slice_index, slice_set, subst, sym, ◌+◌, ◌<◌, ◌∙◌, ◌≡◌, ◌≢◌}
 use Rattle.mk_tracing.{proofs.DirtyWords.{dirty_is_one}, specs.Stops.{still_words}}
-use Rattle.mk_tracing.specs.Grays.{BlacksFewer, DirtyFewer, DirtyIsUnscanned, HasDirtyPart, IsCleaner}
+use Rattle.mk_tracing.specs.Grays.{BlacksFewer, DirtyFewer, DirtyIsUnscanned, HasDirtyPart, IsCleaner, IsUnmarked}
 use Rattle.mk_words.specs.States.{PassState}
 
 -- a word that is cleared, and the others
@@ -56,13 +57,23 @@ black_cleared w v page e = ap (λ (x : Words). slice_index x.blacks page) e ∙ 
 pub dirt_cleared : (w v : Words) (page : ℕ) → v ≡ dirtied_as w (slice_set w.dirty page 0) → slice_index v.dirty page ≡ 0
 dirt_cleared w v page e = ap (λ (x : Words). slice_index x.dirty page) e ∙ cleared_here w.dirty page
 
--- No page is dirty that wasn't, where a dirty word is cleared, and where black ones are.
-
-pub dirt_stays : (w v : Words) (page : ℕ) → v ≡ dirtied_as w (slice_set w.dirty page 0) → IsCleaner w v
-dirt_stays w v page e p z = ap (λ (x : Words). slice_index x.dirty p) e ∙ cleared_stays w.dirty page p z
-
 pub same_dirt : {w v : Words} (p : ℕ) → BlacksFewer w v → slice_index v.dirty p ≡ slice_index w.dirty p
 same_dirt p fewer = ap (λ (x : Words). slice_index x.dirty p) fewer.is
+
+-- Black and dirty words are cleared: a dirty one, black ones, and some after others.
+
+pub dirt_cleaner : (w v : Words) (page : ℕ) → v ≡ dirtied_as w (slice_set w.dirty page 0) → IsCleaner w v
+dirt_cleaner w v page e =
+    subst (λ (x : Words). IsCleaner w x) (sym e) (record { is = refl; fewer = λ p z. cleared_stays w.dirty page p z })
+
+pub blacks_cleaner : {w v : Words} → BlacksFewer w v → IsCleaner w v
+blacks_cleaner fewer = grind (arith, same_dirt)
+
+pub cleaner_then : {u v w : Words} → IsCleaner u v → IsCleaner v w → IsCleaner u w
+cleaner_then {w = w} one two = record {
+  is = two.is ∙ ap (λ (x : Words). record x { blacks = w.blacks; dirty = w.dirty }) one.is;
+  fewer = λ p z. two.fewer p (one.fewer p z);
+}
 
 -- A dirty page whose black word is cleared, and that of its head.
 pub cleared_unscanned : (v : Words) (page : ℕ) → slice_index v.blacks page ≡ 0
@@ -80,6 +91,18 @@ head_part p page head some is = grind (arith, dirty_is_one)
 -- such a part is one in the same words but for the black ones
 pub part_kept : {w v : Words} {page : ℕ} → BlacksFewer w v → HasDirtyPart w page → HasDirtyPart v page
 part_kept fewer h = grind arith
+
+-- A page without marks goes on having none, and one has none whose mark word was found to be 0.
+
+pub unmarked_kept : {w v : Words} (p : ℕ) → IsCleaner w v → IsUnmarked w p → IsUnmarked v p
+unmarked_kept p cleaner none k lt = grind arith
+
+pub no_mark_found : {w v : Words} (p : ℕ) {found : ℕ} → v ≡ w → found ≡ slice_index w.marks p → found ≡ 0
+    → IsUnmarked v p
+no_mark_found p same is none k lt = grind (arith, no_bit)
+
+pub no_bit_of_either : (a b : ℕ) → bit_or a b ≡ 0 → (a ≡ 0) × (b ≡ 0)
+no_bit_of_either a b none = let left = le_or_l a b in let right = le_or_r a b in (omega arith, omega arith)
 
 -- what holds of each page below one, and of the next
 pub pages_then : (P Q : ℕ → Type 0) (i : ℕ) → ((p : ℕ) → P p → Q p) → ((p : ℕ) → p < i → P p) → Q i → (p : ℕ)

@@ -17,3 +17,4 @@ pub mod DirtyWords
 pub mod ScannedWords
 pub mod PointedCells
 pub mod NotedCells
+pub mod Notes

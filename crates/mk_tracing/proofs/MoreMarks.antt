@@ -2,8 +2,9 @@
 use Rattle.mk_laws.proofs.Vocabulary.{Cell, List, None, Option, Page, Some, Words, ℕ, ap, arith, bit_or, has_bit}
 use Rattle.mk_laws.proofs.Vocabulary.{histories_keep_lengths, is_marked, is_none_or, length, pointed_cell, points_well}
 use Rattle.mk_laws.proofs.Vocabulary.{refl, slice_index, slice_set, subst, sym, true, ◌<◌, ◌^◌, ◌∙◌, ◌≡◌, ◌≢◌}
-use Rattle.mk_core.proofs.{WordBits.{bit_for_has, bit_for_small, bits_added, bits_stay}, PointedPages.pointed_within}
-use Rattle.mk_tracing.specs.{Grays.{IsInHand, MarksMore}, Stops.{hand_of, still_words}}
+use Rattle.mk_core.proofs.WordBits.{bit_for_has, bit_for_small, bit_of_power, bits_added, bits_stay, more_bits}
+use Rattle.mk_core.proofs.PointedPages.{pointed_within}
+use Rattle.mk_tracing.specs.{Grays.{GraysOne, IsInHand, MarksMore, with_marks}, Stops.{hand_of, still_words}}
 use Rattle.mk_turns.proofs.PointedCells.{outside_none}
 use Rattle.mk_words.specs.States.{PassState}
 
@@ -45,6 +46,10 @@ pub marked_now : (w v : Words) (cell : Cell) → cell.page < length w.marks → 
 marked_now w v cell lt small e =
     ap (λ (x : Words). is_marked x cell) e ∙ bits_added _ cell.page (2 ^ cell.index) cell.index lt
     (subst (λ n. has_bit n cell.index ≡ true) (bit_for_small cell.index small) (bit_for_has cell.index small))
+
+-- No cell turns gray but the marked one.
+pub turns_gray : (w v : Words) (cell : Cell) → v ≡ with_marks cell.page (2 ^ cell.index) w → GraysOne w cell true v
+turns_gray w v cell is pages one gray = grind (arith, more_bits, bit_of_power)
 
 -- null points into nothing
 pub zero_none : (pages : ℕ) (ps : List Page) → pointed_cell pages ps 0 ≡ None

@@ -1,10 +1,11 @@
 -- Noted cells stay so while marks are added and cells are blackened, and are gray where they aren't black.
-use Rattle.std.proofs.Common.{IfSome}
-use Rattle.mk_laws.proofs.Vocabulary.{Cell, None, OnlyGrow, Option, Some, Words, ℕ, arith, cells_under, false, has_bit}
-use Rattle.mk_laws.proofs.Vocabulary.{header_at, header_of, is_marked, slice_index, subst, sym, true, ◌+◌, ◌-◌, ◌<◌}
-use Rattle.mk_laws.proofs.Vocabulary.{◌≡◌}
-use Rattle.mk_tracing.specs.{Grays.MarksMore, Grays.with_blacks, Grays.words_scanned, Noted.AreNoted, Noted.IsGrayNoted}
-use Rattle.mk_tracing.specs.{Noted.IsNoted, declared.noted.Noted.Noted, declared.worklist.Worklist.Worklist}
+use Rattle.std.{proofs.Common.IfSome, specs.List.All}
+use Rattle.mk_laws.proofs.Vocabulary.{Cell, List, None, OnlyGrow, Option, Some, Words, ℕ, arith, cells_under, false}
+use Rattle.mk_laws.proofs.Vocabulary.{has_bit, header_at, header_of, is_marked, slice_index, subst, sym, true, ◌+◌, ◌-◌}
+use Rattle.mk_laws.proofs.Vocabulary.{◌<◌, ◌≡◌}
+use Rattle.mk_core.proofs.WordBits.{bits_stay}
+use Rattle.mk_tracing.specs.Grays.{IsGray, MarksMore, with_blacks, words_scanned}
+use Rattle.mk_tracing.specs.{Noted.IsGrayNoted, Noted.IsNoted, declared.noted.Noted.Noted}
 
 -- Headers stay, and marks are only added.
 record Stays (w v : Words) : Type 0 where
@@ -20,16 +21,13 @@ black_stays page bits w v is = grind arith
 one_stays : (pages : ℕ) {w v : Words} (noted : Noted) → Stays w v → IsNoted pages w noted → IsNoted pages v noted
 one_stays pages noted stays is = grind arith
 
-pub noted_same : {w v : Words} (pages : ℕ) (work : Worklist) → v ≡ w → AreNoted pages w work → AreNoted pages v work
-noted_same pages work same noted = subst (λ (y : Words). AreNoted pages y work) (sym same) noted
+pub all_more : {pages : ℕ} {w v : Words} (cells : List Noted) → MarksMore w v → All (IsNoted pages w) cells
+    → All (IsNoted pages v) cells
+all_more cells more all k d lt = one_stays _ _ (more_stays more) (all k d lt)
 
-pub noted_more : (pages : ℕ) {w v : Words} (work : Worklist) → MarksMore w v → AreNoted pages w work
-    → AreNoted pages v work
-noted_more pages {w = w} {v = v} work more noted k d lt = one_stays pages _ (more_stays more) (noted k d lt)
-
-pub noted_black : (pages page bits : ℕ) (w v : Words) (work : Worklist) → v ≡ with_blacks page bits w
-    → AreNoted pages w work → AreNoted pages v work
-noted_black pages page bits w v work is noted k d lt = grind (arith, one_stays, black_stays)
+pub all_black : {pages : ℕ} (page bits : ℕ) {w v : Words} (cells : List Noted) → v ≡ with_blacks page bits w
+    → All (IsNoted pages w) cells → All (IsNoted pages v) cells
+all_black page bits {w} {v} cells is all k d lt = one_stays _ _ (black_stays page bits w v is) (all k d lt)
 
 pub one_same : {pages : ℕ} {w v : Words} {noted : Noted} → v ≡ w → IsNoted pages w noted → IsNoted pages v noted
 one_same {pages} {noted = noted} same is = subst (λ (y : Words). IsNoted pages y noted) (sym same) is
@@ -37,9 +35,11 @@ one_same {pages} {noted = noted} same is = subst (λ (y : Words). IsNoted pages 
 pub one_more : {pages : ℕ} {w v : Words} {noted : Noted} → MarksMore w v → IsNoted pages w noted → IsNoted pages v noted
 one_more {pages} {w} {v} {noted} more = one_stays pages noted (more_stays more)
 
-pub last_black : (pages page bits : ℕ) (w v : Words) (last : Option Noted) → v ≡ with_blacks page bits w
-    → IfSome last (IsNoted pages w) → IfSome last (IsNoted pages v)
-last_black pages page bits w v last is = grind (arith, black_stays, one_stays)
+-- A cell that is gray after another was blackened was so before.
+pub gray_before : {pages : ℕ} (page bits : ℕ) {w v : Words} {cell : Cell} → v ≡ with_blacks page bits w
+    → IsGray pages v cell
+    → IsGray pages w cell
+gray_before page bits is gray = grind (arith, bits_stay)
 
 -- A cell is noted that is marked, by the header word that was found at its page.
 

@@ -7,10 +7,9 @@ use Rattle.mk_laws.proofs.Vocabulary.{subst, true, ◌%◌, ◌*◌, ◌+◌, �
 use Rattle.mk_core.specs.Words.{named_word}
 use Rattle.mk_laws.proofs.{InvariantHistories.histories_keep_the_invariant, Protocols.lists_keep_the_protocol}
 use Rattle.mk_tracing.proofs.MoreMarks.{marked_as, more_then, well_more, well_none, zero_none}
-use Rattle.mk_tracing.proofs.{ScannedWords.notes_then, StopSteps.looks_from, StopSteps.looks_then}
+use Rattle.mk_tracing.proofs.{Notes.notes_then, StopSteps.looks_from, StopSteps.looks_then}
 use Rattle.mk_tracing.specs.Grays.{GlobalIsWell, LooksOn, MarksMore, RegistersAreWell, RootsPointWell}
-use Rattle.mk_tracing.specs.Stops.{IsWanted, is_root, still_words}
-use Rattle.mk_tracing.specs.{Scans.MarksAndNotes, declared.worklist.Worklist.Worklist}
+use Rattle.mk_tracing.specs.{Noted.Notes, Scans.MarksAndNotes, Stops.IsWanted, Stops.is_root, Stops.still_words}
 use Rattle.mk_turns.proofs.PointedCells.{outside_none}
 use Rattle.mk_words.specs.States.{PassState, TurnState, WordsState, now_of}
 
@@ -43,16 +42,16 @@ next_root {pages} {w} {v} {x} {root} {i} are before more here = record {
 }
 
 -- The same in a stop with a list of what is noted.
-pub record RootsNoted (pages : ℕ) (t : TurnState) (had : Worklist) (u : TurnState) (has : Worklist) (root : ℕ → Word)
+pub record RootsNoted (pages : ℕ) (t : TurnState) (had : Notes) (u : TurnState) (has : Notes) (root : ℕ → Word)
     (n : ℕ) : Type 0 where
   pub marks : MarksAndNotes pages t had u has
   pub well : (k : ℕ) → k < n → points_well pages (still_words u.pass) (named_word (still_words t.pass) (root k)) ≡ true
 
-pub no_root_noted : {pages : ℕ} {t u : TurnState} {a b : Worklist} {root : ℕ → Word} → MarksAndNotes pages t a u b
+pub no_root_noted : {pages : ℕ} {t u : TurnState} {a b : Notes} {root : ℕ → Word} → MarksAndNotes pages t a u b
     → RootsNoted pages t a u b root 0
 no_root_noted marks = record { marks = marks; well = λ k lt. absurd (omega arith) }
 
-pub next_root_noted : {pages : ℕ} {t u v : TurnState} {a b c : Worklist} {root : ℕ → Word} {i : ℕ}
+pub next_root_noted : {pages : ℕ} {t u v : TurnState} {a b c : Notes} {root : ℕ → Word} {i : ℕ}
     → ((k : ℕ) → is_root (root k) ≡ true) → RootsNoted pages t a u b root i → MarksAndNotes pages u b v c
     → points_well pages (still_words v.pass) (named_word (still_words u.pass) (root i)) ≡ true
     → RootsNoted pages t a v c root (i + 1)

@@ -2,11 +2,9 @@
 use Rattle.mk_laws.proofs.Vocabulary.{Cell, Words, ℕ, arith, cases_lt, first_word, inl, inr, points_well, slice_index}
 use Rattle.mk_laws.proofs.Vocabulary.{subst, sym, true, ◌+◌, ◌<◌, ◌≡◌, ◌≤◌}
 use Rattle.mk_core.specs.Cells.{words_point_well}
-use Rattle.mk_tracing.proofs.{Blackened.{cell_kept, gray_kept, scan_done}, MoreMarks.{more_same, more_then, well_more}}
-use Rattle.mk_tracing.proofs.{NotedCells.noted_more, StopSteps.{looks_from, on_then}}
-use Rattle.mk_tracing.specs.{Grays.{LooksOn, MarksMore, MarksOn}, Noted.IsDue, Scans.{MarksAndNotes, Scans}}
-use Rattle.mk_tracing.specs.{Stops.{IsWanted, still_words}, declared.noted.Noted.Noted}
-use Rattle.mk_tracing.specs.declared.worklist.Worklist.{Worklist}
+use Rattle.mk_tracing.proofs.{Blackened.{cell_kept, gray_kept, scan_done}, MoreMarks.well_more}
+use Rattle.mk_tracing.{proofs.Notes.{looks_alone, notes_then}, specs.{Stops.still_words, declared.noted.Noted.Noted}}
+use Rattle.mk_tracing.specs.{Grays.{LooksOn, MarksMore}, Noted.{IsDue, Notes}, Scans.{MarksAndNotes, Scans}}
 use Rattle.mk_words.specs.States.{TurnState}
 
 -- A cell stays due through looks, and after marks.
@@ -17,33 +15,13 @@ due_same {pages} {gray = gray} due same = subst (λ (y : Words). IsDue pages y g
 pub due_kept : {pages : ℕ} {w v : Words} {gray : Noted} → IsDue pages w gray → MarksMore w v → IsDue pages v gray
 due_kept due more = grind (arith, gray_kept)
 
--- Marks one after the other, where nothing is noted in the list, a look alone, and nothing at all.
-
-pub notes_then : {pages : ℕ} {t u v : TurnState} {a b c : Worklist} → MarksAndNotes pages t a u b
-    → MarksAndNotes pages u b v c → MarksAndNotes pages t a v c
-notes_then one two = record {
-  on = on_then one.on two.on;
-  more = more_then _ _ _ one.more two.more;
-  noted = λ h. two.noted (one.noted h);
-}
-
-pub marks_alone : {pages : ℕ} {t u : TurnState} {work : Worklist} → MarksOn t u
-    → MarksMore (still_words t.pass) (still_words u.pass) → MarksAndNotes pages t work u work
-marks_alone {work = work} on more = record { on = on; more = more; noted = noted_more _ work more }
-
-pub looks_alone : {pages : ℕ} {t u : TurnState} {work : Worklist} → LooksOn t u → MarksAndNotes pages t work u work
-looks_alone looks = marks_alone looks.on (more_same _ _ looks.words)
-
-pub marks_nothing : {pages : ℕ} {t : TurnState} {work : Worklist} → IsWanted t.pass → MarksAndNotes pages t work t work
-marks_nothing wanted = looks_alone (looks_from wanted)
-
 -- No word yet, words up to another after those before it, and fewer of them.
 
-pub none_scanned : {pages : ℕ} {t u : TurnState} {a b : Worklist} {cell : Cell} {from end : ℕ} → end ≤ from
+pub none_scanned : {pages : ℕ} {t u : TurnState} {a b : Notes} {cell : Cell} {from end : ℕ} → end ≤ from
     → MarksAndNotes pages t a u b → Scans pages t a u b cell from end
 none_scanned none marks = record { marks = marks; well = λ k le lt. absurd (omega arith) }
 
-pub scans_then : {pages : ℕ} {t u v : TurnState} {a b c : Worklist} {cell : Cell} {from i end : ℕ}
+pub scans_then : {pages : ℕ} {t u v : TurnState} {a b c : Notes} {cell : Cell} {from i end : ℕ}
     → Scans pages t a u b cell from i → Scans pages u b v c cell i end → Scans pages t a v c cell from end
 scans_then {pages} {t} {u} {v} {cell = cell} {i = i} one two = record {
   marks = notes_then one.marks two.marks;
@@ -54,12 +32,18 @@ scans_then {pages} {t} {u} {v} {cell = cell} {i = i} one two = record {
   ];
 }
 
-pub scans_to : {pages : ℕ} {t u : TurnState} {a b : Worklist} {cell : Cell} {from end : ℕ} (n : ℕ) → n ≤ end
+-- the same notes under another name
+pub scans_as : {pages : ℕ} {t u : TurnState} {a b c : Notes} {cell : Cell} {from end : ℕ} → b ≡ c
+    → Scans pages t a u b cell from end → Scans pages t a u c cell from end
+scans_as {pages} {t} {u} {a} {cell = cell} {from} {end} same scans =
+    subst (λ (n : Notes). Scans pages t a u n cell from end) same scans
+
+pub scans_to : {pages : ℕ} {t u : TurnState} {a b : Notes} {cell : Cell} {from end : ℕ} (n : ℕ) → n ≤ end
     → Scans pages t a u b cell from end → Scans pages t a u b cell from n
 scans_to n le all = record { marks = all.marks; well = λ k lo hi. all.well k lo (omega arith) }
 
 -- One word, which was looked at, and what it points into then marked.
-pub one_scanned : {pages : ℕ} {t u v : TurnState} {a b : Worklist} {cell : Cell} {i value : ℕ} → LooksOn t u → value
+pub one_scanned : {pages : ℕ} {t u v : TurnState} {a b : Notes} {cell : Cell} {i value : ℕ} → LooksOn t u → value
     ≡ slice_index (still_words t.pass).heap (first_word (still_words t.pass) cell + i) → MarksAndNotes pages u a v b
     → points_well pages (still_words v.pass) value ≡ true → Scans pages t a v b cell i (i + 1)
 one_scanned {pages} {t} {u} {v} {cell = cell} {i = i} looks found marks well = record {
@@ -70,7 +54,7 @@ one_scanned {pages} {t} {u} {v} {cell = cell} {i = i} looks found marks well = r
 }
 
 -- All words of a cell.
-pub all_scanned : {pages : ℕ} {t u : TurnState} {a b : Worklist} {gray : Noted} → IsDue pages (still_words t.pass) gray
+pub all_scanned : {pages : ℕ} {t u : TurnState} {a b : Notes} {gray : Noted} → IsDue pages (still_words t.pass) gray
     → Scans pages t a u b gray.cell 0 gray.words → words_point_well pages (still_words u.pass) gray.cell ≡ true
 all_scanned {pages} {gray = gray} due all =
     scan_done pages gray.cell all.marks.more (λ j lt. all.well j (omega arith) (subst (λ n. j < n) (sym due.words) lt))

@@ -163,9 +163,19 @@ pub record DirtyFewer (w v : Words) : Type 0 where
   pub is : v ≡ record w { dirty = v.dirty }
   pub fewer : (p : ℕ) → slice_index w.dirty p ≡ 0 → slice_index v.dirty p ≡ 0
 
--- No page is dirty that wasn't.
-abbrev pub IsCleaner : Words → Words → Type 0
-IsCleaner w v = (p : ℕ) → slice_index w.dirty p ≡ 0 → slice_index v.dirty p ≡ 0
+-- Black and dirty words, and no others, are cleared.
+pub record IsCleaner (w v : Words) : Type 0 where
+  pub is : v ≡ record w { blacks = v.blacks; dirty = v.dirty }
+  pub fewer : (p : ℕ) → slice_index w.dirty p ≡ 0 → slice_index v.dirty p ≡ 0
+
+-- No cell of the page is marked.
+abbrev pub IsUnmarked : Words → ℕ → Type 0
+IsUnmarked w p = (k : ℕ) → k < cells_under (header_in w p) → has_bit (slice_index w.marks p) k ≡ false
+
+-- No cell turns gray but for this one, where it was white.
+abbrev pub GraysOne : Words → Cell → Bool → Words → Type 0
+GraysOne w cell was_white v =
+    (pages : ℕ) (one : Cell) → IsGray pages v one → IsGray pages w one ⊎ ((was_white ≡ true) × (one ≡ cell))
 
 -- Such steps make no sweeping mark.
 abbrev pub ReachedMarksSweepNothing : Type 0

@@ -24,8 +24,8 @@ fn mark_in_stop(table: Table, stop: &mut Stopped, work: &mut Worklist)
     ensures clean { (p : ℕ) → p < table.entry.pages → slice_index (still_words stop.new.pass).dirty p ≡ 0 }
     ensures roots { RootsPointWell table.entry.pages (still_words stop.new.pass) }
 {
-    clean_dirty(table, stop);
-    work.forget();
+    let is_unmarked = clean_dirty(table, stop);
+    work.forget(is_unmarked);
     mark_roots(table, stop, work);
     trace(table, stop, work);
 }

@@ -1,7 +1,7 @@
 //! Dirty pages: their black words are cleared, so that their cells are scanned again, and then their dirty words. A
 //! word that is 0 isn't stored to.
 ghost use Rattle.std.specs.Prelude.{◌≡◌, ◌≢◌, ℕ, ◌<◌, true, false, slice_index};
-ghost use Rattle.mk_tracing.specs.Grays.{BlacksFewer, HasDirtyPart, IsCleaner, DirtyIsUnscanned, MarksOn};
+ghost use Rattle.mk_tracing.specs.Grays.{BlacksFewer, HasDirtyPart, IsCleaner, IsUnmarked, DirtyIsUnscanned, MarksOn};
 ghost use Rattle.mk_tracing.specs.{Grays.without_blacks, Stops.{MayTrace, still_words}};
 
 use crate::stepping::{clear_black, look_at, undirty_page};
@@ -60,15 +60,19 @@ fn clean_if_dirty(table: Table, stop: &mut Stopped, page: u64)
 }
 
 /// Clears all dirty words. The cells of dirty pages, and the runs with such a page, are scanned again. It goes from
-/// page in use to page in use: no free page is dirty.
-pub(crate) fn clean_dirty(table: Table, stop: &mut Stopped)
+/// page in use to page in use: no free page is dirty. Returns true only where no cell is marked.
+pub(crate) fn clean_dirty(table: Table, stop: &mut Stopped) -> bool
     requires may { MayTrace table.words.now stop.old.pass }
     ensures on { MarksOn stop.old stop.new }
     ensures clean { (p : ℕ) → p < table.entry.pages → slice_index (still_words stop.new.pass).dirty p ≡ 0 }
+    ensures unmarked { result ≡ true → (p : ℕ) → p < table.entry.pages → IsUnmarked (still_words stop.new.pass) p }
 {
+    let mut marks = 0;
     let mut from = 0;
     while let Some(page) = stop.next_in_use(from) {
         clean_if_dirty(table, stop, page);
+        marks |= look_at(table, stop, Word::Mark(page));
         from = page + 1;
     }
+    marks == 0
 }

@@ -1,9 +1,9 @@
 //! The search for gray cells: marked, and not black.
-ghost use Rattle.std.specs.Prelude.{◌≡◌, ℕ, ◌<◌, ◌≤◌, true, false, IfSome, IfNone, slice_index};
+ghost use Rattle.std.specs.Prelude.{◌≡◌, ℕ, ◌<◌, ◌≤◌, true, false, [], IfSome, IfNone, slice_index};
 ghost use Rattle.mk_geom.specs.Headers.{header_of};
 ghost use Rattle.mk_core.specs.{Bits.has_bit, Cells.cells_under};
-ghost use Rattle.mk_tracing.specs.{Grays.{HasNoGray, LooksOn, gray_bits}, Noted.{AreNoted, IsGrayNoted, IsNoted}};
-ghost use Rattle.mk_tracing.specs.Stops.{MayTrace, still_words};
+ghost use Rattle.mk_tracing.specs.{Grays.{HasNoGray, LooksOn, gray_bits, is_black}, Stops.{MayTrace, still_words}};
+ghost use Rattle.mk_tracing.specs.Noted.{AreNoted, IsGrayNoted, IsNoted, listed, with_last};
 
 use crate::noted::{Noted, words_scanned};
 use crate::stepping::look_at;
@@ -95,6 +95,7 @@ fn is_gray(table: Table, stop: &mut Stopped, noted: Noted) -> bool
     requires noted { IsNoted table.pages (still_words stop.old.pass) noted }
     ensures looks { LooksOn stop.old stop.new }
     ensures gray { result ≡ true → IsGrayNoted table.entry.pages (still_words stop.old.pass) noted }
+    ensures black { result ≡ false → is_black (still_words stop.old.pass) noted.cell ≡ true }
 {
     let Cell { page, index } = noted.cell;
     !has_cell(look_at(table, stop, Word::Black(page)), index)
@@ -104,10 +105,11 @@ fn is_gray(table: Table, stop: &mut Stopped, noted: Noted) -> bool
 #[inline(always)]
 fn gray_noted(table: Table, stop: &mut Stopped, work: &mut Worklist) -> Option<Noted>
     requires may { MayTrace table.words.now stop.old.pass }
-    requires noted { AreNoted table.pages (still_words stop.old.pass) work.old }
+    requires noted { AreNoted table.pages (still_words stop.old.pass) (listed work.old) }
     ensures looks { LooksOn stop.old stop.new }
-    ensures noted { AreNoted table.entry.pages (still_words stop.old.pass) work.new }
+    ensures noted { AreNoted table.entry.pages (still_words stop.old.pass) (with_last work.new result) }
     ensures gray { IfSome result (IsGrayNoted table.entry.pages (still_words stop.old.pass)) }
+    ensures none { IfNone result (work.new.cells.items ≡ []) }
 {
     while let Some(noted) = work.pop() {
         if is_gray(table, stop, noted) {
@@ -135,19 +137,23 @@ fn gray_somewhere(table: Table, stop: &mut Stopped, from: u64) -> Option<Noted>
     gray_between(table, stop, 0, from.min(table.pages))
 }
 
-/// A gray cell: one of the list, or else one that is found page by page. None where no page has any.
+/// A gray cell: one of the list, or else one that is found page by page, unless the list was whole. None where no page
+/// has any.
 #[inline(always)]
 fn another_gray(table: Table, stop: &mut Stopped, work: &mut Worklist) -> Option<Noted>
     requires may { MayTrace table.words.now stop.old.pass }
-    requires noted { AreNoted table.pages (still_words stop.old.pass) work.old }
+    requires noted { AreNoted table.pages (still_words stop.old.pass) (listed work.old) }
     ensures looks { LooksOn stop.old stop.new }
-    ensures noted { AreNoted table.entry.pages (still_words stop.old.pass) work.new }
+    ensures noted { AreNoted table.entry.pages (still_words stop.old.pass) (with_last work.new result) }
     ensures gray { IfSome result (IsGrayNoted table.entry.pages (still_words stop.old.pass)) }
     ensures none { IfNone result ((p : ℕ) → p < table.entry.pages → HasNoGray (still_words stop.old.pass) p) }
 {
     let noted = gray_noted(table, stop, work);
     if let Some(gray) = noted {
         return Some(gray);
+    }
+    if work.is_whole {
+        return None;
     }
     let Some(gray) = gray_somewhere(table, stop, work.page) else {
         return None;
@@ -165,10 +171,9 @@ pub(crate) fn next_gray(
     last: Option<Noted>,
 ) -> Option<Noted>
     requires may { MayTrace table.words.now stop.old.pass }
-    requires last { IfSome last (IsNoted table.pages (still_words stop.old.pass)) }
-    requires noted { AreNoted table.pages (still_words stop.old.pass) work.old }
+    requires noted { AreNoted table.pages (still_words stop.old.pass) (with_last work.old last) }
     ensures looks { LooksOn stop.old stop.new }
-    ensures noted { AreNoted table.entry.pages (still_words stop.new.pass) work.new }
+    ensures noted { AreNoted table.entry.pages (still_words stop.new.pass) (with_last work.new result) }
     ensures gray { IfSome result (IsGrayNoted table.entry.pages (still_words stop.old.pass)) }
     ensures none { IfNone result ((p : ℕ) → p < table.entry.pages → HasNoGray (still_words stop.old.pass) p) }
 {

@@ -1,5 +1,5 @@
 //! What is noted of a marked cell: what follows from its page's header word, which is looked at once.
-ghost use Rattle.std.specs.Prelude.{◌≡◌, ◌<◌, ◌+◌, Some, None, IfSome, IfNone};
+ghost use Rattle.std.specs.Prelude.{◌≡◌, ◌<◌, ◌≤◌, ◌+◌, Some, None, IfSome, IfNone};
 ghost use Rattle.mk_core.specs.Cells.{cells_under};
 ghost use Rattle.mk_geom.specs.{Addresses.cell_of_block, Headers.header_of};
 ghost use Rattle.mk_tracing.specs.Grays.{words_scanned};
@@ -34,6 +34,7 @@ impl Noted {
         ensures cell { IfSome result (λ noted. noted.cell ≡ cell) }
         ensures known { IfSome result (λ noted. noted.cell.index < cells_under (header_of header)) }
         ensures words { IfSome result (λ noted. noted.words ≡ words_scanned (header_of header)) }
+        ensures none { IfNone result (cells_under (header_of header) ≤ cell.index) }
     {
         if cell.index >= cells_under(header) {
             return None;

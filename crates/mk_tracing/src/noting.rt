@@ -1,8 +1,9 @@
 //! Marks by the values of words, each noted for the scan that is due then.
-ghost use Rattle.std.specs.Prelude.{◌≡◌, ◌≢◌, ◌<◌, true, IfSome};
+ghost use Rattle.std.specs.Prelude.{◌≡◌, ◌≢◌, ◌<◌, Some, true};
 ghost use Rattle.mk_core.specs.{Cells.{is_marked, points_well}, Words.header_at};
 ghost use Rattle.mk_geom.specs.Addresses.{is_heap_address, page_at_address};
-ghost use Rattle.mk_tracing.specs.{Grays.IsInHand, Noted.IsNoted, Scans.MarksAndNotes, Stops.{MayTrace, still_words}};
+ghost use Rattle.mk_tracing.specs.{Grays.{IsGray, IsInHand}, Noted.{IsAmong, listed, with_last}, Scans.MarksAndNotes};
+ghost use Rattle.mk_tracing.specs.Stops.{MayTrace, still_words};
 
 use crate::noted::Noted;
 use crate::stepping::look_at;
@@ -21,8 +22,10 @@ fn note(table: Table, stop: &mut Stopped, work: &mut Worklist, cell: Cell)
     requires may { MayTrace table.words.now stop.old.pass }
     requires page { cell.page < table.pages }
     requires marked { is_marked (still_words stop.old.pass) cell ≡ true }
-    ensures marks { MarksAndNotes table.entry.pages stop.old work.old stop.new work.new }
+    ensures marks { MarksAndNotes table.entry.pages stop.old (listed work.old) stop.new (listed work.new) }
     ensures words { still_words stop.new.pass ≡ still_words stop.old.pass }
+    ensures noted { work.new.is_whole ≡ true → IsGray table.entry.pages (still_words stop.old.pass) cell
+        → IsAmong work.new.cells.items cell }
 {
     let header = look_at(table, stop, Word::Head(cell.page));
     work.extend(Noted::under(header, cell));
@@ -34,7 +37,7 @@ fn mark_under(stop: &mut Stopped, work: &mut Worklist, table: Table, header: u64
     requires may { MayTrace table.words.now stop.old.pass }
     requires hand { value ≢ 0 → IsInHand stop.old.pass value }
     requires header { header ≡ header_at (still_words stop.old.pass) (page_at_address value) }
-    ensures marks { MarksAndNotes table.entry.pages stop.old work.old stop.new work.new }
+    ensures marks { MarksAndNotes table.entry.pages stop.old (listed work.old) stop.new (listed work.new) }
     ensures well { points_well table.entry.pages (still_words stop.new.pass) value ≡ true }
 {
     let Some(cell) = lookup(table.pages, header, value) else {
@@ -61,9 +64,8 @@ fn mark_pointed(
     requires page { page ≡ page_at_address value }
     requires within { page < table.pages }
     requires inside { is_heap_address table.pages value ≡ true }
-    ensures marks { MarksAndNotes table.entry.pages stop.old work.old stop.new work.new }
+    ensures marks { MarksAndNotes table.entry.pages stop.old (listed work.old) stop.new (with_last work.new result) }
     ensures well { points_well table.entry.pages (still_words stop.new.pass) value ≡ true }
-    ensures one { IfSome result (IsNoted table.entry.pages (still_words stop.new.pass)) }
 {
     let header = look_at(table, stop, Word::Head(page));
     if header == 0 || header > LAST_BLOCK {
@@ -86,9 +88,8 @@ pub(crate) fn mark_value(
 ) -> Option<Noted>
     requires may { MayTrace table.words.now stop.old.pass }
     requires hand { value ≢ 0 → IsInHand stop.old.pass value }
-    ensures marks { MarksAndNotes table.entry.pages stop.old work.old stop.new work.new }
+    ensures marks { MarksAndNotes table.entry.pages stop.old (listed work.old) stop.new (with_last work.new result) }
     ensures well { points_well table.entry.pages (still_words stop.new.pass) value ≡ true }
-    ensures one { IfSome result (IsNoted table.entry.pages (still_words stop.new.pass)) }
 {
     let Some(page) = heap_page(table.pages, value) else {
         return None;
@@ -108,10 +109,9 @@ pub(crate) fn mark_and_note(
 ) -> Noted
     requires may { MayTrace table.words.now stop.old.pass }
     requires hand { value ≢ 0 → IsInHand stop.old.pass value }
-    requires last { IsNoted table.pages (still_words stop.old.pass) last }
-    ensures marks { MarksAndNotes table.entry.pages stop.old work.old stop.new work.new }
+    ensures marks { MarksAndNotes table.entry.pages stop.old (with_last work.old (Some last)) stop.new
+        (with_last work.new (Some result)) }
     ensures well { points_well table.entry.pages (still_words stop.new.pass) value ≡ true }
-    ensures last { IsNoted table.entry.pages (still_words stop.new.pass) result }
 {
     let Some(noted) = mark_value(table, stop, work, value) else {
         return last;
@@ -127,7 +127,7 @@ pub(crate) fn mark_and_note(
 fn mark_apart(stop: &mut Stopped, work: &mut Worklist, table: Table, value: u64)
     requires may { MayTrace table.words.now stop.old.pass }
     requires hand { value ≢ 0 → IsInHand stop.old.pass value }
-    ensures marks { MarksAndNotes table.entry.pages stop.old work.old stop.new work.new }
+    ensures marks { MarksAndNotes table.entry.pages stop.old (listed work.old) stop.new (listed work.new) }
     ensures well { points_well table.entry.pages (still_words stop.new.pass) value ≡ true }
 {
     let noted = mark_value(table, stop, work, value);
@@ -139,7 +139,7 @@ fn mark_apart(stop: &mut Stopped, work: &mut Worklist, table: Table, value: u64)
 pub(crate) fn mark_address(table: Table, stop: &mut Stopped, work: &mut Worklist, value: u64)
     requires may { MayTrace table.words.now stop.old.pass }
     requires hand { value ≢ 0 → IsInHand stop.old.pass value }
-    ensures marks { MarksAndNotes table.entry.pages stop.old work.old stop.new work.new }
+    ensures marks { MarksAndNotes table.entry.pages stop.old (listed work.old) stop.new (listed work.new) }
     ensures well { points_well table.entry.pages (still_words stop.new.pass) value ≡ true }
 {
     if value < HEAP_START {

@@ -2,7 +2,7 @@
 ghost use Rattle.std.specs.Prelude.{◌≡◌, ℕ, ◌+◌, ◌<◌, ◌≤◌, true, slice_index};
 ghost use Rattle.mk_core.specs.{Cells.points_well, Ranges.is_word, Words.named_word};
 ghost use Rattle.mk_tracing.specs.Grays.{GlobalIsWell, LooksOn, RegistersAreWell, RootsPointWell};
-ghost use Rattle.mk_tracing.specs.{Scans.MarksAndNotes, Stops.{MayTrace, is_root, still_words}};
+ghost use Rattle.mk_tracing.specs.{Noted.listed, Scans.MarksAndNotes, Stops.{MayTrace, is_root, still_words}};
 
 use crate::noting::mark_address;
 use crate::stepping::look_at_root;
@@ -26,7 +26,7 @@ fn mark_root(table: Table, stop: &mut Stopped, work: &mut Worklist, x: Word)
     requires may { MayTrace table.words.now stop.old.pass }
     requires word { is_word table.words.now.config x ≡ true }
     requires root { is_root x ≡ true }
-    ensures marks { MarksAndNotes table.entry.pages stop.old work.old stop.new work.new }
+    ensures marks { MarksAndNotes table.entry.pages stop.old (listed work.old) stop.new (listed work.new) }
     ensures well { points_well table.entry.pages (still_words stop.new.pass)
         (named_word (still_words stop.old.pass) x) ≡ true }
 {
@@ -38,7 +38,7 @@ fn mark_root(table: Table, stop: &mut Stopped, work: &mut Worklist, x: Word)
 fn mark_registers_of(table: Table, stop: &mut Stopped, work: &mut Worklist, caller: u64)
     requires may { MayTrace table.words.now stop.old.pass }
     requires caller { caller < table.words.now.config.callers }
-    ensures marks { MarksAndNotes table.entry.pages stop.old work.old stop.new work.new }
+    ensures marks { MarksAndNotes table.entry.pages stop.old (listed work.old) stop.new (listed work.new) }
     ensures well { RegistersAreWell table.entry.words.now.config stop.old.pass stop.new.pass caller }
 {
     for register in 0..REGISTERS {
@@ -49,7 +49,7 @@ fn mark_registers_of(table: Table, stop: &mut Stopped, work: &mut Worklist, call
 /// Marks what the registers of all callers point into.
 fn mark_registers(table: Table, stop: &mut Stopped, work: &mut Worklist)
     requires may { MayTrace table.words.now stop.old.pass }
-    ensures marks { MarksAndNotes table.entry.pages stop.old work.old stop.new work.new }
+    ensures marks { MarksAndNotes table.entry.pages stop.old (listed work.old) stop.new (listed work.new) }
     ensures well { (k : ℕ) → k < table.entry.words.now.config.callers
         → RegistersAreWell table.entry.words.now.config stop.old.pass stop.new.pass k }
 {
@@ -77,7 +77,7 @@ fn are_before_heap(table: Table, stop: &mut Stopped, first: u64) -> bool
 fn mark_group(table: Table, stop: &mut Stopped, work: &mut Worklist, first: u64)
     requires may { MayTrace table.words.now stop.old.pass }
     requires group { first + 8 ≤ 64 }
-    ensures marks { MarksAndNotes table.entry.pages stop.old work.old stop.new work.new }
+    ensures marks { MarksAndNotes table.entry.pages stop.old (listed work.old) stop.new (listed work.new) }
     ensures well { (i : ℕ) → i < 8 → GlobalIsWell table.entry.words.now.config stop.old.pass stop.new.pass (first + i) }
 {
     if are_before_heap(table, stop, first) {
@@ -91,7 +91,7 @@ fn mark_group(table: Table, stop: &mut Stopped, work: &mut Worklist, first: u64)
 /// Marks what the globals point into.
 fn mark_globals(table: Table, stop: &mut Stopped, work: &mut Worklist)
     requires may { MayTrace table.words.now stop.old.pass }
-    ensures marks { MarksAndNotes table.entry.pages stop.old work.old stop.new work.new }
+    ensures marks { MarksAndNotes table.entry.pages stop.old (listed work.old) stop.new (listed work.new) }
     ensures well { (g : ℕ) → g < 64 → GlobalIsWell table.entry.words.now.config stop.old.pass stop.new.pass g }
 {
     for group in 0..GROUPS {
@@ -103,7 +103,7 @@ fn mark_globals(table: Table, stop: &mut Stopped, work: &mut Worklist)
 /// all before the heap each is looked at once more, and marked before the next. What is marked is noted.
 pub(crate) fn mark_roots(table: Table, stop: &mut Stopped, work: &mut Worklist)
     requires may { MayTrace table.words.now stop.old.pass }
-    ensures marks { MarksAndNotes table.entry.pages stop.old work.old stop.new work.new }
+    ensures marks { MarksAndNotes table.entry.pages stop.old (listed work.old) stop.new (listed work.new) }
     ensures roots { RootsPointWell table.entry.pages (still_words stop.new.pass) }
 {
     mark_registers(table, stop, work);

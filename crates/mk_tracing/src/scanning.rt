@@ -1,8 +1,8 @@
 //! The scan of a gray cell: its words are looked at, and what they point into is marked. Most words are null or small
 //! numbers, so those of a group are looked at together first.
-ghost use Rattle.std.specs.Prelude.{◌≡◌, ℕ, ◌+◌, ◌*◌, ◌/◌, ◌<◌, ◌≤◌, min, true, IfSome, slice_index};
+ghost use Rattle.std.specs.Prelude.{◌≡◌, ℕ, ◌+◌, ◌*◌, ◌/◌, ◌<◌, ◌≤◌, min, true, Some, slice_index};
 ghost use Rattle.mk_core.specs.Cells.{first_word, words_point_well};
-ghost use Rattle.mk_tracing.specs.{Grays.LooksOn, Noted.{IsDue, IsNoted}, Scans.{MarksAndNotes, Scans}};
+ghost use Rattle.mk_tracing.specs.{Grays.LooksOn, Noted.{IsDue, listed, with_last}, Scans.{MarksAndNotes, Scans}};
 ghost use Rattle.mk_tracing.specs.Stops.{MayTrace, still_words};
 
 use crate::noted::Noted;
@@ -53,9 +53,8 @@ fn scan_rest(
     requires may { MayTrace table.words.now stop.old.pass }
     requires due { IsDue table.pages (still_words stop.old.pass) gray }
     requires few { gray.words ≤ 64 }
-    requires one { IsNoted table.pages (still_words stop.old.pass) noted }
-    ensures scans { Scans table.entry.pages stop.old work.old stop.new work.new gray.cell from gray.words }
-    ensures last { IsNoted table.entry.pages (still_words stop.new.pass) result }
+    ensures { Scans table.entry.pages stop.old (with_last work.old (Some noted)) stop.new
+        (with_last work.new (Some result)) gray.cell from gray.words }
 {
     let mut last = noted;
     for i in from..gray.words {
@@ -73,8 +72,8 @@ fn scan_few(table: Table, stop: &mut Stopped, work: &mut Worklist, gray: Noted) 
     requires may { MayTrace table.words.now stop.old.pass }
     requires due { IsDue table.pages (still_words stop.old.pass) gray }
     requires few { gray.words ≤ 64 }
-    ensures scans { Scans table.entry.pages stop.old work.old stop.new work.new gray.cell 0 gray.words }
-    ensures last { IfSome result (IsNoted table.entry.pages (still_words stop.new.pass)) }
+    ensures { Scans table.entry.pages stop.old (listed work.old) stop.new (with_last work.new result) gray.cell 0
+        gray.words }
 {
     for i in 0..gray.words {
         let value = look_at_word(table, stop, gray, 0, i);
@@ -103,7 +102,8 @@ fn scan_from(
     requires due { IsDue table.pages (still_words stop.old.pass) gray }
     requires within { first + count ≤ gray.words }
     requires part { (i : ℕ) → i < count → part ≡ (first + i) / 64 }
-    ensures { Scans table.entry.pages stop.old work.old stop.new work.new gray.cell first (first + count) }
+    ensures { Scans table.entry.pages stop.old (listed work.old) stop.new (listed work.new) gray.cell first
+        (first + count) }
 {
     for i in 0..count {
         let value = look_at_word(table, stop, gray, part, first + i);
@@ -125,7 +125,8 @@ fn scan_group(
     requires due { IsDue table.pages (still_words stop.old.pass) gray }
     requires group { 8 * group + 8 ≤ gray.words }
     requires part { part ≡ group / 8 }
-    ensures { Scans table.entry.pages stop.old work.old stop.new work.new gray.cell (8 * group) (8 * group + 8) }
+    ensures { Scans table.entry.pages stop.old (listed work.old) stop.new (listed work.new) gray.cell (8 * group)
+        (8 * group + 8) }
 {
     let first = GROUP * group;
     if are_before_heap(table, stop, gray, part, first) {
@@ -140,8 +141,8 @@ fn scan_part(table: Table, stop: &mut Stopped, work: &mut Worklist, gray: Noted,
     requires may { MayTrace table.words.now stop.old.pass }
     requires due { IsDue table.pages (still_words stop.old.pass) gray }
     requires part { 64 * part ≤ gray.words }
-    ensures { Scans table.entry.pages stop.old work.old stop.new work.new gray.cell (64 * part)
-        (min (64 * part + 64) (8 * (gray.words / 8))) }
+    ensures { Scans table.entry.pages stop.old (listed work.old) stop.new (listed work.new) gray.cell
+        (64 * part) (min (64 * part + 64) (8 * (gray.words / 8))) }
 {
     let first = PAGE_GROUPS * part;
     let end = (first + PAGE_GROUPS).min(gray.words / GROUP);
@@ -156,7 +157,7 @@ fn scan_near(table: Table, stop: &mut Stopped, work: &mut Worklist, gray: Noted)
     requires may { MayTrace table.words.now stop.old.pass }
     requires due { IsDue table.pages (still_words stop.old.pass) gray }
     requires few { gray.words < 64 }
-    ensures marks { MarksAndNotes table.entry.pages stop.old work.old stop.new work.new }
+    ensures marks { MarksAndNotes table.entry.pages stop.old (listed work.old) stop.new (listed work.new) }
     ensures well { words_point_well table.entry.pages (still_words stop.new.pass) gray.cell ≡ true }
 {
     scan_part(table, stop, work, gray, 0);
@@ -170,7 +171,7 @@ fn scan_near(table: Table, stop: &mut Stopped, work: &mut Worklist, gray: Noted)
 fn scan_groups(table: Table, stop: &mut Stopped, work: &mut Worklist, gray: Noted)
     requires may { MayTrace table.words.now stop.old.pass }
     requires due { IsDue table.pages (still_words stop.old.pass) gray }
-    ensures marks { MarksAndNotes table.entry.pages stop.old work.old stop.new work.new }
+    ensures marks { MarksAndNotes table.entry.pages stop.old (listed work.old) stop.new (listed work.new) }
     ensures well { words_point_well table.entry.pages (still_words stop.new.pass) gray.cell ≡ true }
 {
     let last = gray.words / PAGE_WORDS;
@@ -193,9 +194,8 @@ pub(crate) fn scan(
 ) -> Option<Noted>
     requires may { MayTrace table.words.now stop.old.pass }
     requires due { IsDue table.pages (still_words stop.old.pass) gray }
-    ensures marks { MarksAndNotes table.entry.pages stop.old work.old stop.new work.new }
+    ensures marks { MarksAndNotes table.entry.pages stop.old (listed work.old) stop.new (with_last work.new result) }
     ensures well { words_point_well table.entry.pages (still_words stop.new.pass) gray.cell ≡ true }
-    ensures last { IfSome result (IsNoted table.entry.pages (still_words stop.new.pass)) }
 {
     if gray.words < GROUP {
         return scan_few(table, stop, work, gray);

@@ -1,7 +1,7 @@
 //! What the hand points into is marked, if it isn't yet.
 ghost use Rattle.std.specs.Prelude.{◌≡◌, ◌<◌, true};
 ghost use Rattle.mk_core.specs.Cells.{is_marked};
-ghost use Rattle.mk_tracing.specs.Grays.{HandPointsInto, MarksMore, MarksOn, LooksOn};
+ghost use Rattle.mk_tracing.specs.Grays.{GraysOne, HandPointsInto, MarksMore, MarksOn, LooksOn};
 ghost use Rattle.mk_tracing.specs.Stops.{MayTrace, hand_of, still_words};
 
 use crate::stepping::{look_at, mark_cell};
@@ -32,6 +32,7 @@ pub(crate) fn mark_white(table: Table, stop: &mut Stopped, cell: Cell) -> bool
     ensures on { MarksOn stop.old stop.new }
     ensures more { MarksMore (still_words stop.old.pass) (still_words stop.new.pass) }
     ensures marked { is_marked (still_words stop.new.pass) cell ≡ true }
+    ensures one { GraysOne (still_words stop.old.pass) cell result (still_words stop.new.pass) }
 {
     if is_marked(table, stop, cell) {
         return false;

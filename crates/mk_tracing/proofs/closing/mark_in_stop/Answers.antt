@@ -1,17 +1,22 @@
-use Rattle.mk_laws.proofs.Vocabulary.{Words, ap, slice_index, ◌∙◌}
-use Rattle.mk_tracing.proofs.{Closes.roots_more, StopSteps.on_then}
+use Rattle.mk_laws.proofs.Vocabulary.{Words, ap, slice_index, sym, ◌∙◌}
+use Rattle.mk_tracing.proofs.{Closes.roots_more, Notes.none_noted, Notes.noted_after, StopSteps.on_then}
 use Rattle.mk_tracing.proofs.closing.mark_in_stop.Goals as goal
 
 pub returns-clause-on : goal.returns-clause-on
-returns-clause-on c = on_then (on_then c.clean_dirty.ensures.on c.mark_roots.ensures.marks.on) c.trace.ensures.on
+returns-clause-on c =
+    on_then (on_then c.clean_dirty-is_unmarked.ensures.on c.mark_roots.ensures.marks.on) c.trace.ensures.on
 
 pub returns-clause-clean : goal.returns-clause-clean
 returns-clause-clean c p lt =
     ap (λ (w : Words). slice_index w.dirty p) c.trace.ensures.more.is
-    ∙ ap (λ (w : Words). slice_index w.dirty p) c.mark_roots.ensures.marks.more.is ∙ c.clean_dirty.ensures.clean p lt
+    ∙ ap (λ (w : Words). slice_index w.dirty p) c.mark_roots.ensures.marks.more.is
+    ∙ c.clean_dirty-is_unmarked.ensures.clean p lt
 
 pub returns-clause-roots : goal.returns-clause-roots
 returns-clause-roots c = roots_more c.trace.ensures.more c.mark_roots.ensures.roots
 
 pub trace-requires-clause-noted : goal.trace-requires-clause-noted
-trace-requires-clause-noted c = c.mark_roots.ensures.marks.noted (c.forget.ensures.none _ _)
+trace-requires-clause-noted c =
+    noted_after (none_noted c.forget.new.self c.forget.ensures.none
+    (λ whole. c.clean_dirty-is_unmarked.ensures.unmarked (sym c.forget.ensures.whole
+    ∙ whole))) c.mark_roots.ensures.marks

@@ -1,11 +1,12 @@
 use Rattle.mk_laws.proofs.Vocabulary.{ℕ, slice_index, ◌-◌, ◌<◌, ◌≡◌}
-use Rattle.mk_tracing.specs.{Grays.MarksOn, Stops.still_words}
+use Rattle.mk_tracing.specs.{Grays.IsUnmarked, Grays.MarksOn, Stops.still_words}
 use Rattle.mk_tracing.proofs.dirty.clean_dirty.Given as goal
 
 abbrev pub invariant-loop-page : goal.invariant-loop-page
 invariant-loop-page l = record {
   on : MarksOn l.fn.stop l.stop;
   clean : (p : ℕ) → p < l.from → slice_index (still_words l.stop.pass).dirty p ≡ 0;
+  unmarked : l.marks ≡ 0 → (p : ℕ) → p < l.from → IsUnmarked (still_words l.stop.pass) p;
 }
 
 abbrev pub decreases-loop-page : goal.decreases-loop-page

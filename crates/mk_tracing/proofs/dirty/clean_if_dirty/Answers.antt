@@ -1,5 +1,6 @@
 use Rattle.mk_laws.proofs.Vocabulary.{sym, ◌∙◌}
-use Rattle.mk_tracing.proofs.{Clearing.dirt_cleared, Clearing.dirt_stays, Clearing.same_dirt, StopSteps.on_then}
+use Rattle.mk_tracing.proofs.Clearing.{blacks_cleaner, cleaner_then, dirt_cleaner, dirt_cleared, same_dirt}
+use Rattle.mk_tracing.proofs.StopSteps.{on_then}
 use Rattle.mk_tracing.proofs.dirty.clean_if_dirty.Goals as goal
 
 pub undirty_page-requires-clause-own : goal.undirty_page-requires-clause-own
@@ -16,14 +17,15 @@ pub returns-then-unblack_if_dirty-clause-on : goal.returns-then-unblack_if_dirty
 returns-then-unblack_if_dirty-clause-on c = on_then c.unblack_if_dirty.ensures.on c.undirty_page.ensures.on
 
 pub returns-then-unblack_if_dirty-clause-fewer : goal.returns-then-unblack_if_dirty-clause-fewer
-returns-then-unblack_if_dirty-clause-fewer c p z =
-    dirt_stays _ _ c.args.page c.undirty_page.ensures.words p (same_dirt p c.unblack_if_dirty.ensures.fewer ∙ z)
+returns-then-unblack_if_dirty-clause-fewer c =
+    cleaner_then (blacks_cleaner c.unblack_if_dirty.ensures.fewer)
+    (dirt_cleaner _ _ c.args.page c.undirty_page.ensures.words)
 
 pub returns-then-unblack_if_dirty-clause-clean : goal.returns-then-unblack_if_dirty-clause-clean
 returns-then-unblack_if_dirty-clause-clean c = dirt_cleared _ _ c.args.page c.undirty_page.ensures.words
 
 pub returns-else-unblack_if_dirty-clause-fewer : goal.returns-else-unblack_if_dirty-clause-fewer
-returns-else-unblack_if_dirty-clause-fewer c p z = same_dirt p c.unblack_if_dirty.ensures.fewer ∙ z
+returns-else-unblack_if_dirty-clause-fewer c = blacks_cleaner c.unblack_if_dirty.ensures.fewer
 
 pub returns-else-unblack_if_dirty-clause-clean : goal.returns-else-unblack_if_dirty-clause-clean
 returns-else-unblack_if_dirty-clause-clean c =

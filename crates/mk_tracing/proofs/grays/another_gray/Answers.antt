@@ -1,4 +1,4 @@
-use Rattle.mk_tracing.proofs.StopSteps.{looks_then}
+use Rattle.mk_tracing.proofs.{Notes.none_gray, Notes.none_last, Notes.noted_as, StopSteps.looks_then}
 use Rattle.mk_tracing.proofs.grays.another_gray.Goals as goal
 
 pub returns-in_default-gray_somewhere-clause-looks : goal.returns-in_default-gray_somewhere-clause-looks
@@ -7,3 +7,8 @@ returns-in_default-gray_somewhere-clause-looks c =
 
 pub returns-clause-looks : goal.returns-clause-looks
 returns-clause-looks c = looks_then c.gray_noted-noted.ensures.looks c.gray_somewhere.ensures.looks
+
+pub returns-then-work-clause-none : goal.returns-then-work-clause-none
+returns-then-work-clause-none c =
+    none_gray (noted_as (none_last c.gray_noted-noted.new.work) c.in_default.ensures.noted) c.if-work.true
+    c.in_default.ensures.none

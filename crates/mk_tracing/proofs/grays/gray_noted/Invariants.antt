@@ -1,11 +1,11 @@
 use Rattle.std.proofs.Common.{vec_len}
-use Rattle.mk_tracing.specs.{Grays.LooksOn, Noted.AreNoted, Stops.still_words}
+use Rattle.mk_tracing.specs.{Grays.LooksOn, Noted.AreNoted, Noted.listed, Stops.still_words}
 use Rattle.mk_tracing.proofs.grays.gray_noted.Given as goal
 
 abbrev pub invariant-loop-noted : goal.invariant-loop-noted
 invariant-loop-noted l = record {
   looks : LooksOn l.fn.stop l.stop;
-  noted : AreNoted l.table.pages (still_words l.fn.stop.pass) l.work;
+  noted : AreNoted l.table.pages (still_words l.fn.stop.pass) (listed l.work);
 }
 
 abbrev pub decreases-loop-noted : goal.decreases-loop-noted

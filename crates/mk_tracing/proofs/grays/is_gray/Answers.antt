@@ -1,10 +1,13 @@
-use Rattle.mk_laws.proofs.Vocabulary.{Bool, false, not, refl, sym, true, ◌∙◌, ◌≡◌}
+use Rattle.mk_laws.proofs.Vocabulary.{Bool, arith, false, not, refl, sym, true, ◌∙◌, ◌≡◌}
 use Rattle.mk_tracing.proofs.NotedCells.{noted_gray}
 use Rattle.mk_tracing.proofs.grays.is_gray.Goals as goal
 
 isnt : (b : Bool) → not b ≡ true → b ≡ false
 isnt true e = sym e
 isnt false e = refl
+
+pub returns-clause-black : goal.returns-clause-black
+returns-clause-black c is = grind arith
 
 pub returns-clause-gray : goal.returns-clause-gray
 returns-clause-gray c is =

@@ -1,7 +1,8 @@
 use Rattle.std.proofs.Common.{IfNone}
-use Rattle.mk_laws.proofs.Vocabulary.{Words, ℕ, subst, sym, ◌<◌}
+use Rattle.mk_laws.proofs.Vocabulary.{Words, ℕ, ap, subst, sym, ◌<◌, ◌∙◌}
+use Rattle.mk_tracing.{proofs.Notes.{black_left_out, none_last, noted_as}, proofs.StopSteps.{looks_from, looks_then}}
 use Rattle.mk_tracing.proofs.grays.next_gray.Goals.{After-another_gray, in-Some+else-is_gray, in_default}
-use Rattle.mk_tracing.{proofs.StopSteps.{looks_from, looks_then}, specs.Grays.{HasNoGray, LooksOn}}
+use Rattle.mk_tracing.specs.{Grays.{HasNoGray, LooksOn}, Noted.with_last}
 use Rattle.mk_words.specs.States.{TurnState}
 use Rattle.mk_tracing.proofs.grays.next_gray.Goals as goal
 
@@ -13,6 +14,19 @@ looked c = elim c.match-last.branch [
   | in_default w ↦
       subst (λ (s : TurnState). LooksOn c.args.stop.now s) (sym w.stop-is) (looks_from c.requires.may.wanted)
 ]
+
+pub another_gray-requires-clause-noted : goal.another_gray-requires-clause-noted
+another_gray-requires-clause-noted c =
+    let work = c.args.work.now in
+    elim c.match-last.branch [
+      | in-Some+else-is_gray w ↦
+          rw w.stop-is
+          (rw w.is_gray.ensures.looks.words (black_left_out work w.in-Some.noted
+          (w.is_gray.ensures.black w.if-is_gray.false)
+          (noted_as (ap (with_last work) w.in-Some.is) c.requires.noted)))
+      | in_default w ↦
+          rw w.stop-is (noted_as (ap (with_last work) w.in_default.is ∙ none_last work) c.requires.noted)
+    ]
 
 pub returns-clause-looks : goal.returns-clause-looks
 returns-clause-looks c =

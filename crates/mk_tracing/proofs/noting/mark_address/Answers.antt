@@ -1,4 +1,4 @@
-use Rattle.mk_tracing.{proofs.RootMarks.before_well, proofs.ScannedWords.marks_nothing, specs.Stops.still_words}
+use Rattle.mk_tracing.{proofs.Notes.marks_nothing, proofs.RootMarks.before_well, specs.Stops.still_words}
 use Rattle.mk_tracing.proofs.noting.mark_address.Goals as goal
 
 pub returns-then-value-lt-HEAP_START-clause-marks : goal.returns-then-value-lt-HEAP_START-clause-marks

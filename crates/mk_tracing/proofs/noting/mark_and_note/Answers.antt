@@ -1,14 +1,9 @@
-use Rattle.mk_tracing.proofs.NotedCells.{one_more}
+use Rattle.mk_tracing.proofs.Notes.{last_goes, last_stays}
 use Rattle.mk_tracing.proofs.noting.mark_and_note.Goals as goal
 
-pub returns-in_default-clause-last : goal.returns-in_default-clause-last
-returns-in_default-clause-last c = one_more c.mark_value.ensures.marks.more c.requires.last
+pub returns-in_default-clause-marks : goal.returns-in_default-clause-marks
+returns-in_default-clause-marks c = last_stays c.mark_value.new.work c.args.last c.in_default.ensures.marks
 
 pub returns-clause-marks : goal.returns-clause-marks
 returns-clause-marks c =
-    let marks = c.mark_value.ensures.marks in
-    record {
-      on = marks.on;
-      more = marks.more;
-      noted = λ h. c.push.ensures.each _ _ (marks.noted h) (one_more marks.more c.requires.last);
-    }
+    last_goes c.mark_value.new.work c.push.new.self c.args.last c.in-Some.noted c.in-Some.ensures.marks c.push.ensures

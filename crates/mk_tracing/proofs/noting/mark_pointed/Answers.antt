@@ -1,17 +1,19 @@
 use Rattle.mk_laws.proofs.Vocabulary.{Words, arith, pointed_cell, subst, sym, ◌%◌, ◌-◌, ◌/◌, ◌∙◌, ◌≡◌}
 use Rattle.mk_geom.specs.Addresses.{cell_of_block}
+use Rattle.mk_tracing.proofs.Notes.{last_added, looks_alone, none_last, notes_as, notes_then, told_among, white_then}
 use Rattle.mk_tracing.proofs.PointedCells.{hand_points, pointed_here, points_on, well_marked, well_nowhere}
-use Rattle.mk_tracing.proofs.ScannedWords.{looks_alone, marks_alone, notes_then}
 use Rattle.mk_tracing.proofs.{FirstBits.if_told, NotedCells.noted_marked, noting.mark_pointed.Goals.After-in_block}
 use Rattle.mk_tracing.specs.{Grays.MarksMore, Stops.still_words}
 use Rattle.mk_tracing.proofs.noting.mark_pointed.Goals as goal
 
 pub returns-then-header-eq0-clause-marks : goal.returns-then-header-eq0-clause-marks
 returns-then-header-eq0-clause-marks c =
-    notes_then (looks_alone c.look_at-header.ensures.looks) c.mark_under.ensures.marks
+    notes_as (sym (none_last c.mark_under.new.work))
+    (notes_then (looks_alone c.look_at-header.ensures.looks) c.mark_under.ensures.marks)
 
 pub returns-in_default-clause-marks : goal.returns-in_default-clause-marks
-returns-in_default-clause-marks c = looks_alone c.look_at-header.ensures.looks
+returns-in_default-clause-marks c =
+    notes_as (sym (none_last c.args.work.now)) (looks_alone c.look_at-header.ensures.looks)
 
 -- what the value points into, by the header word that was found
 under : (c : After-in_block) → pointed_cell c.args.table.pages (still_words c.args.stop.now.pass).pages c.args.value
@@ -34,8 +36,11 @@ mark_white-requires-clause-reached c =
 
 pub returns-clause-marks : goal.returns-clause-marks
 returns-clause-marks c =
+    let white = c.mark_white.ensures in
     notes_then (looks_alone c.look_at-header.ensures.looks)
-    (marks_alone c.mark_white.ensures.on c.mark_white.ensures.more)
+    (white_then white.on white.more white.one (last_added c.args.work.now c.then_some.result white.on.wanted
+    (grind (arith, if_told, noted_marked)))
+    (λ was whole gray. told_among c.args.work.now.cells.items c.in-Some.noted c.then_some.ensures was))
 
 pub returns-clause-well : goal.returns-clause-well
 returns-clause-well c =
@@ -43,6 +48,3 @@ returns-clause-well c =
     well_marked c.args.table.pages _ x c.args.value c.in-Some.noted.cell
     (subst (λ (y : Words). MarksMore y x) c.look_at-header.ensures.looks.words c.mark_white.ensures.more)
     (under (goal.at.returns-clause-well c).After-in_block ∙ c.in-Some.ensures.some) c.mark_white.ensures.marked
-
-pub returns-clause-one : goal.returns-clause-one
-returns-clause-one c = grind (arith, if_told, noted_marked)

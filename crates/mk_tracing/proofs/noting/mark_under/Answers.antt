@@ -1,7 +1,7 @@
-use Rattle.mk_laws.proofs.Vocabulary.{Some, Words, ℕ, arith, pointed_cell, points_well, refl, subst, sym, true, ◌∙◌}
-use Rattle.mk_laws.proofs.Vocabulary.{◌≡◌}
+use Rattle.mk_laws.proofs.Vocabulary.{Some, Words, ℕ, arith, pointed_cell, points_well, refl, subst, sym, true}
+use Rattle.mk_laws.proofs.Vocabulary.{true≢false, ◌∙◌, ◌≡◌}
 use Rattle.mk_tracing.proofs.PointedCells.{hand_points, pointed_under, well_marked, well_nowhere}
-use Rattle.mk_tracing.proofs.{ScannedWords.{marks_alone, marks_nothing, notes_then}, noting.mark_under.Goals.In-Some}
+use Rattle.mk_tracing.proofs.{Notes.marks_nothing, Notes.white_then, noting.mark_under.Goals.In-Some}
 use Rattle.mk_tracing.specs.Stops.{still_words}
 use Rattle.mk_tracing.proofs.noting.mark_under.Goals as goal
 
@@ -28,7 +28,8 @@ mark_white-requires-clause-reached c =
 
 pub returns-then-mark_white-clause-marks : goal.returns-then-mark_white-clause-marks
 returns-then-mark_white-clause-marks c =
-    notes_then (marks_alone c.mark_white.ensures.on c.mark_white.ensures.more) c.note.ensures.marks
+    let white = c.mark_white.ensures in
+    white_then white.on white.more white.one c.note.ensures.marks (λ was. c.note.ensures.noted)
 
 pub returns-then-mark_white-clause-well : goal.returns-then-mark_white-clause-well
 returns-then-mark_white-clause-well c =
@@ -38,7 +39,10 @@ returns-then-mark_white-clause-well c =
     (points (goal.at.returns-then-mark_white-clause-well c).In-Some) c.mark_white.ensures.marked)
 
 pub returns-else-mark_white-clause-marks : goal.returns-else-mark_white-clause-marks
-returns-else-mark_white-clause-marks c = marks_alone c.mark_white.ensures.on c.mark_white.ensures.more
+returns-else-mark_white-clause-marks c =
+    let white = c.mark_white.ensures in
+    white_then white.on white.more white.one (marks_nothing white.on.wanted)
+    (λ was. absurd (true≢false (sym was ∙ c.if-mark_white.false)))
 
 pub returns-else-mark_white-clause-well : goal.returns-else-mark_white-clause-well
 returns-else-mark_white-clause-well c =

@@ -1,9 +1,10 @@
-use Rattle.mk_tracing.{proofs.MoreMarks.well_none, proofs.ScannedWords.marks_nothing, specs.Stops.still_words}
+use Rattle.mk_laws.proofs.Vocabulary.{None}
+use Rattle.mk_tracing.{proofs.MoreMarks.well_none, proofs.Notes.last_added, specs.Stops.still_words}
 use Rattle.mk_turns.proofs.PointedCells.{outside_none}
 use Rattle.mk_tracing.proofs.noting.mark_value.Goals as goal
 
 pub returns-in_default-clause-marks : goal.returns-in_default-clause-marks
-returns-in_default-clause-marks c = marks_nothing c.requires.may.wanted
+returns-in_default-clause-marks c = last_added c.args.work.now None c.requires.may.wanted tt
 
 pub returns-in_default-clause-well : goal.returns-in_default-clause-well
 returns-in_default-clause-well c =

@@ -1,14 +1,20 @@
-use Rattle.mk_tracing.{proofs.{MoreMarks.more_same, NotedCells.{noted_cell, noted_same}}, specs.Stops.{still_words}}
+use Rattle.mk_tracing.proofs.Notes.{added_among, last_added, list_added, looks_alone, notes_then}
+use Rattle.mk_tracing.{proofs.NotedCells.{noted_cell}, specs.Stops.{still_words}}
 use Rattle.mk_tracing.proofs.noting.note.Goals as goal
 
 pub returns-clause-marks : goal.returns-clause-marks
 returns-clause-marks c =
     let look = c.look_at-header.ensures in
-    let v = still_words c.look_at-header.new.stop.pass in
-    record {
-      on = look.looks.on;
-      more = more_same _ _ look.looks.words;
-      noted = λ h. c.extend.ensures.each _ v (noted_same c.args.table.pages c.args.work.now look.looks.words h)
-          (noted_cell _ _ v c.args.cell _ c.under.result look.looks.words look.found c.requires.page c.requires.marked
-          c.under.ensures.cell c.under.ensures.known c.under.ensures.words);
-    }
+    let under = c.under.ensures in
+    let wanted = look.looks.on.wanted in
+    notes_then (looks_alone look.looks)
+    (notes_then (last_added c.args.work.now c.under.result wanted
+    (noted_cell _ _ (still_words c.look_at-header.new.stop.pass) c.args.cell _ c.under.result look.looks.words
+    look.found c.requires.page c.requires.marked under.cell under.known under.words))
+    (list_added c.args.work.now c.under.result c.extend.new.self wanted c.extend.ensures))
+
+pub returns-clause-noted : goal.returns-clause-noted
+returns-clause-noted c whole gray =
+    let under = c.under.ensures in
+    added_among c.args.work.now c.under.result c.extend.new.self c.extend.ensures whole under.cell under.none
+    (rw c.look_at-header.ensures.found gray.index)

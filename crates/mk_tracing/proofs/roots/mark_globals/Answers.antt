@@ -1,5 +1,5 @@
 use Rattle.mk_laws.proofs.Vocabulary.{arith}
-use Rattle.mk_tracing.proofs.{RootMarks.groups_then, ScannedWords.marks_nothing, ScannedWords.notes_then}
+use Rattle.mk_tracing.proofs.{Notes.marks_nothing, Notes.notes_then, RootMarks.groups_then}
 use Rattle.mk_tracing.proofs.roots.mark_globals.Goals as goal
 
 pub loop-group-init : goal.loop-group-init

@@ -1,6 +1,6 @@
 use Rattle.mk_laws.proofs.Vocabulary.{refl}
-use Rattle.mk_tracing.{proofs.RootMarks.before_well, proofs.RootMarks.next_root_noted, proofs.RootMarks.no_root_noted}
-use Rattle.mk_tracing.{proofs.ScannedWords.looks_alone, specs.Stops.still_words}
+use Rattle.mk_tracing.{proofs.Notes.looks_alone, proofs.RootMarks.before_well, proofs.RootMarks.next_root_noted}
+use Rattle.mk_tracing.{proofs.RootMarks.no_root_noted, specs.Stops.still_words}
 use Rattle.mk_tracing.proofs.roots.mark_group.Goals as goal
 
 pub returns-then-are_before_heap-clause-marks : goal.returns-then-are_before_heap-clause-marks

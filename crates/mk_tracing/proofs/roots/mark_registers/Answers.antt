@@ -1,5 +1,5 @@
 use Rattle.mk_laws.proofs.Vocabulary.{arith}
-use Rattle.mk_tracing.proofs.{RootMarks.registers_then, ScannedWords.marks_nothing, ScannedWords.notes_then}
+use Rattle.mk_tracing.proofs.{Notes.marks_nothing, Notes.notes_then, RootMarks.registers_then}
 use Rattle.mk_tracing.proofs.roots.mark_registers.Goals as goal
 
 pub loop-caller-init : goal.loop-caller-init

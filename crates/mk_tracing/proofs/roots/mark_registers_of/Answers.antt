@@ -1,5 +1,5 @@
 use Rattle.mk_laws.proofs.Vocabulary.{refl}
-use Rattle.mk_tracing.proofs.{RootMarks.next_root_noted, RootMarks.no_root_noted, ScannedWords.marks_nothing}
+use Rattle.mk_tracing.proofs.{Notes.marks_nothing, RootMarks.next_root_noted, RootMarks.no_root_noted}
 use Rattle.mk_tracing.proofs.roots.mark_registers_of.Goals as goal
 
 pub loop-register-init : goal.loop-register-init

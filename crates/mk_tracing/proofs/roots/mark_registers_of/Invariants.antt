@@ -1,7 +1,7 @@
 use Rattle.mk_laws.proofs.Vocabulary.{Word}
-use Rattle.mk_tracing.proofs.RootMarks.{RootsNoted}
+use Rattle.mk_tracing.{proofs.RootMarks.RootsNoted, specs.Noted.listed}
 use Rattle.mk_tracing.proofs.roots.mark_registers_of.Given as goal
 
 abbrev pub invariant-loop-register : goal.invariant-loop-register
 invariant-loop-register l =
-    RootsNoted l.table.pages l.fn.stop l.fn.work l.stop l.work (Word.Reg l.caller) l.register
+    RootsNoted l.table.pages l.fn.stop (listed l.fn.work) l.stop (listed l.work) (Word.Reg l.caller) l.register

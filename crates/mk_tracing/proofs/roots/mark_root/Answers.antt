@@ -1,4 +1,4 @@
-use Rattle.mk_tracing.proofs.ScannedWords.{looks_alone, notes_then}
+use Rattle.mk_tracing.proofs.Notes.{looks_alone, notes_then}
 use Rattle.mk_tracing.proofs.roots.mark_root.Goals as goal
 
 pub returns-clause-marks : goal.returns-clause-marks

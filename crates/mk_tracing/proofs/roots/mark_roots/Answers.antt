@@ -1,5 +1,5 @@
 use Rattle.mk_laws.proofs.Vocabulary.{arith, ◌≡◌}
-use Rattle.mk_tracing.proofs.{RootMarks.all_roots_well, ScannedWords.notes_then}
+use Rattle.mk_tracing.proofs.{Notes.notes_then, RootMarks.all_roots_well}
 use Rattle.mk_tracing.proofs.roots.mark_roots.Goals as goal
 
 pub returns-clause-marks : goal.returns-clause-marks

@@ -1,5 +1,13 @@
-use Rattle.mk_tracing.proofs.ScannedWords.{all_scanned}
+use Rattle.mk_laws.proofs.Vocabulary.{sym}
+use Rattle.mk_tracing.proofs.{Notes.none_last, Notes.notes_as, ScannedWords.all_scanned}
 use Rattle.mk_tracing.proofs.scanning.scan.Goals as goal
 
 pub returns-then-gray-lt-GROUP-clause-well : goal.returns-then-gray-lt-GROUP-clause-well
-returns-then-gray-lt-GROUP-clause-well c = all_scanned c.requires.due c.scan_few.ensures.scans
+returns-then-gray-lt-GROUP-clause-well c = all_scanned c.requires.due c.scan_few.ensures
+
+pub returns-then-gray-lt-PAGE_WORDS-clause-marks : goal.returns-then-gray-lt-PAGE_WORDS-clause-marks
+returns-then-gray-lt-PAGE_WORDS-clause-marks c =
+    notes_as (sym (none_last c.scan_near.new.work)) c.scan_near.ensures.marks
+
+pub returns-clause-marks : goal.returns-clause-marks
+returns-clause-marks c = notes_as (sym (none_last c.scan_groups.new.work)) c.scan_groups.ensures.marks

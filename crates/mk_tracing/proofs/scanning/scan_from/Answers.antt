@@ -1,5 +1,6 @@
 use Rattle.mk_laws.proofs.Vocabulary.{arith, ◌+◌}
-use Rattle.mk_tracing.proofs.ScannedWords.{due_kept, marks_nothing, none_scanned, one_scanned, scans_then, scans_to}
+use Rattle.mk_tracing.proofs.ScannedWords.{due_kept, none_scanned, one_scanned, scans_then, scans_to}
+use Rattle.mk_tracing.proofs.Notes.{marks_nothing}
 use Rattle.mk_tracing.proofs.scanning.scan_from.Goals as goal
 
 pub loop-i-init : goal.loop-i-init

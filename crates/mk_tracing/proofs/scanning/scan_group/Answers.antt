@@ -1,5 +1,5 @@
 use Rattle.mk_laws.proofs.Vocabulary.{ℕ, arith, first_word, slice_index, subst, ◌*◌, ◌+◌, ◌-◌, ◌<◌}
-use Rattle.mk_tracing.{proofs.RootMarks.before_well, proofs.ScannedWords.due_same, proofs.ScannedWords.looks_alone}
+use Rattle.mk_tracing.{proofs.Notes.looks_alone, proofs.RootMarks.before_well, proofs.ScannedWords.due_same}
 use Rattle.mk_tracing.{proofs.ScannedWords.none_scanned, proofs.ScannedWords.scans_then, specs.Stops.still_words}
 use Rattle.mk_tracing.proofs.scanning.scan_group.Goals as goal
 

@@ -1,6 +1,7 @@
 use Rattle.mk_laws.proofs.Vocabulary.{ℕ, arith, ◌*◌, ◌+◌, ◌/◌, ◌≤◌}
-use Rattle.mk_tracing.proofs.ScannedWords.{all_scanned, due_kept, marks_nothing, none_scanned, scans_then, scans_to}
-use Rattle.mk_tracing.{proofs.scanning.scan_groups.Goals.{After-scan_part-2}, specs.Scans.{Scans}}
+use Rattle.mk_tracing.proofs.ScannedWords.{all_scanned, due_kept, none_scanned, scans_then, scans_to}
+use Rattle.mk_tracing.proofs.{Notes.marks_nothing, scanning.scan_groups.Goals.After-scan_part-2}
+use Rattle.mk_tracing.specs.{Noted.listed, Scans.Scans}
 use Rattle.mk_tracing.proofs.scanning.scan_groups.Goals as goal
 
 pub loop-part-init : goal.loop-part-init
@@ -18,8 +19,8 @@ scan_part-requires-2-clause-due c = due_kept c.requires.due c.loop-part.invarian
 
 -- All groups are scanned.
 groups_scanned : (c : After-scan_part-2)
-    → Scans c.args.table.pages c.args.stop.now c.args.work.now c.scan_part-2.new.stop c.scan_part-2.new.work
-    c.args.gray.cell 0 (8 * (c.args.gray.words / 8))
+    → Scans c.args.table.pages c.args.stop.now (listed c.args.work.now) c.scan_part-2.new.stop
+    (listed c.scan_part-2.new.work) c.args.gray.cell 0 (8 * (c.args.gray.words / 8))
 groups_scanned c =
     let end = c.loop-part-test.false in
     let last : ℕ = c.args.gray.words / 64 in

@@ -1,6 +1,6 @@
 use Rattle.mk_laws.proofs.Vocabulary.{arith, ◌*◌, ◌/◌}
-use Rattle.mk_tracing.{proofs.ScannedWords.all_scanned, proofs.ScannedWords.due_kept, proofs.ScannedWords.scans_then}
-use Rattle.mk_tracing.{proofs.ScannedWords.scans_to, proofs.scanning.scan_near.Goals.After-scan_from, specs.Scans.Scans}
+use Rattle.mk_tracing.proofs.ScannedWords.{all_scanned, due_kept, scans_then, scans_to}
+use Rattle.mk_tracing.{proofs.scanning.scan_near.Goals.{After-scan_from}, specs.{Noted.listed, Scans.Scans}}
 use Rattle.mk_tracing.proofs.scanning.scan_near.Goals as goal
 
 pub scan_from-requires-clause-due : goal.scan_from-requires-clause-due
@@ -11,8 +11,8 @@ scan_from-requires-clause-part c i lt = let few = c.requires.few in omega arith
 
 -- all words are scanned
 scanned : (c : After-scan_from)
-    → Scans c.args.table.pages c.args.stop.now c.args.work.now c.scan_from.new.stop c.scan_from.new.work
-    c.args.gray.cell 0 c.args.gray.words
+    → Scans c.args.table.pages c.args.stop.now (listed c.args.work.now) c.scan_from.new.stop
+    (listed c.scan_from.new.work) c.args.gray.cell 0 c.args.gray.words
 scanned c =
     let few = c.requires.few in
     scans_to c.args.gray.words (omega arith)

@@ -1,5 +1,5 @@
 use Rattle.mk_laws.proofs.Vocabulary.{arith, ◌*◌, ◌+◌}
-use Rattle.mk_tracing.proofs.ScannedWords.{due_kept, marks_nothing, none_scanned, scans_then, scans_to}
+use Rattle.mk_tracing.proofs.{ScannedWords.{due_kept, none_scanned, scans_then, scans_to}, Notes.marks_nothing}
 use Rattle.mk_tracing.proofs.scanning.scan_part.Goals as goal
 
 pub loop-group-init : goal.loop-group-init

@@ -1,6 +1,6 @@
-use Rattle.mk_laws.proofs.Vocabulary.{arith}
-use Rattle.mk_tracing.proofs.Blackened.{blackens_one, cells_few}
-use Rattle.mk_tracing.proofs.{NotedCells.last_black, NotedCells.noted_black, StopSteps.on_then}
+use Rattle.mk_laws.proofs.Vocabulary.{arith, histories_keep_lengths, sym, ◌∙◌, ◌≡◌}
+use Rattle.mk_tracing.{proofs.Blackened.black_now, proofs.Blackened.blackens_one, proofs.Blackened.cells_few}
+use Rattle.mk_tracing.{proofs.Notes.blackened_left_out, proofs.StopSteps.on_then, specs.Stops.still_words}
 use Rattle.mk_tracing.proofs.tracing.blacken.Goals as goal
 
 pub blacken_cell-requires-clause-index : goal.blacken_cell-requires-clause-index
@@ -13,7 +13,10 @@ pub returns-clause-one : goal.returns-clause-one
 returns-clause-one c = grind (arith, blackens_one)
 
 pub returns-clause-noted : goal.returns-clause-noted
-returns-clause-noted c noted = grind (arith, noted_black)
-
-pub returns-clause-last : goal.returns-clause-last
-returns-clause-last c = grind (arith, last_black)
+returns-clause-noted c noted =
+    let p = c.scan_if_due-last.new.stop.pass in
+    let sized : c.args.table.pages ≡ p.table.config.pages = grind arith in
+    let black = black_now (still_words p) c.args.gray.cell c.requires.gray.gray
+    (sized ∙ sym (histories_keep_lengths p.table.config p.seen).blacks) c.blacken_cell.ensures.words in
+    blackened_left_out c.args.work.now c.args.gray c.blacken_cell.ensures.words black c.scan_if_due-last.ensures.marks
+    noted

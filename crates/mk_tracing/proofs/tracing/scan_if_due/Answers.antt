@@ -1,8 +1,8 @@
-use Rattle.mk_laws.proofs.Vocabulary.{Bool, Cell, Words, ℕ, arith, cell_words, false, has_no_pointers, header_in}
+use Rattle.mk_laws.proofs.Vocabulary.{Bool, Cell, None, Words, ℕ, arith, cell_words, false, has_no_pointers, header_in}
 use Rattle.mk_laws.proofs.Vocabulary.{if◌then◌else◌, inl, inr, refl, subst, sym, true, ◌<◌, ◌∙◌, ◌≡◌, ◌⊎◌}
 use Rattle.mk_core.specs.Cells.{words_point_well}
-use Rattle.mk_tracing.{proofs.Blackened.gray_turns, proofs.Blackened.scan_done, proofs.MoreMarks.more_same}
-use Rattle.mk_tracing.{proofs.ScannedWords.marks_nothing, specs.Grays.words_scanned, specs.Stops.still_words}
+use Rattle.mk_tracing.proofs.{Blackened.gray_turns, Blackened.scan_done, MoreMarks.more_same, Notes.last_added}
+use Rattle.mk_tracing.specs.{Grays.words_scanned, Stops.still_words}
 use Rattle.mk_tracing.proofs.tracing.scan_if_due.Goals as goal
 
 -- Where no word of a cell is scanned, it has no pointers, or no words.
@@ -18,7 +18,7 @@ none_scanned pages w cell none = by (has_no_pointers (header_in w cell.page)) re
         (λ j lt. absurd (let bad : j < 0 = subst (λ n. j < n) e lt in omega arith)))
 
 pub returns-then-gray-eq0-clause-marks : goal.returns-then-gray-eq0-clause-marks
-returns-then-gray-eq0-clause-marks c = marks_nothing c.requires.may.wanted
+returns-then-gray-eq0-clause-marks c = last_added c.args.work.now None c.requires.may.wanted tt
 
 pub returns-then-gray-eq0-clause-turns : goal.returns-then-gray-eq0-clause-turns
 returns-then-gray-eq0-clause-turns c =

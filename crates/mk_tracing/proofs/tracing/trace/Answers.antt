@@ -1,14 +1,13 @@
 use Rattle.mk_laws.proofs.Vocabulary.{Words, arith, histories_keep_lengths, subst, sym, ◌∙◌, ◌≡◌}
-use Rattle.mk_tracing.proofs.{Blackened.{colours_same, colours_then, one_fewer_white}, StopSteps.{on_from, on_then}}
-use Rattle.mk_tracing.specs.{Grays.ColoursMore, Stops.still_words}
+use Rattle.mk_tracing.proofs.{Blackened.{colours_same, colours_then, one_fewer_white}, Notes.{none_last, noted_as}}
+use Rattle.mk_tracing.{proofs.StopSteps.{on_from, on_then}, specs.{Grays.ColoursMore, Stops.still_words}}
 use Rattle.mk_tracing.proofs.tracing.trace.Goals as goal
 
 pub loop-gray-init : goal.loop-gray-init
 loop-gray-init c = record {
   on = on_from c.requires.may.wanted;
   more = colours_same _;
-  last = tt;
-  noted = c.requires.noted;
+  noted = noted_as (sym (none_last c.args.work.now)) c.requires.noted;
 }
 
 pub loop-gray-smaller : goal.loop-gray-smaller
@@ -27,8 +26,7 @@ loop-gray-preserved c =
       on = on_then (on_then c.loop-gray.invariant.on looks.on) black.on;
       more = colours_then w
           (subst (λ (y : Words). ColoursMore w y) (sym looks.words) c.loop-gray.invariant.more) black.one;
-      last = black.last;
-      noted = black.noted c.next_gray.ensures.noted;
+      noted = black.noted c.in-Some.ensures.noted;
     }
 
 pub returns-clause-on : goal.returns-clause-on

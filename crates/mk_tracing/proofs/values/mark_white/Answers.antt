@@ -1,6 +1,7 @@
-use Rattle.mk_laws.proofs.Vocabulary.{Cell, Words, arith, subst, sym, ◌<◌, ◌^◌, ◌≡◌}
-use Rattle.mk_tracing.proofs.{MoreMarks.{marked_now, marks_length, more_marked, more_same}, PointedCells.points_on}
-use Rattle.mk_tracing.{proofs.StopSteps.{on_then, reached_within}, specs.Grays.{with_marks}}
+use Rattle.mk_laws.proofs.Vocabulary.{Cell, Words, arith, inl, subst, sym, ◌<◌, ◌^◌, ◌≡◌}
+use Rattle.mk_tracing.proofs.MoreMarks.{marked_now, marks_length, more_marked, more_same, turns_gray}
+use Rattle.mk_tracing.proofs.{PointedCells.points_on, StopSteps.on_then, StopSteps.reached_within}
+use Rattle.mk_tracing.specs.Grays.{IsGray, with_marks}
 use Rattle.mk_tracing.proofs.values.mark_white.Goals as goal
 
 pub is_marked-requires-clause-page : goal.is_marked-requires-clause-page
@@ -28,6 +29,15 @@ marked_from w v x cell same is = cc (is, same)
 pub returns-clause-more : goal.returns-clause-more
 returns-clause-more c =
     more_marked _ _ c.args.cell.page (2 ^ c.args.cell.index)
+    (marked_from _ _ _ c.args.cell c.is_marked.ensures.looks.words c.mark_cell.ensures.words)
+
+pub returns-then-is_marked-clause-one : goal.returns-then-is_marked-clause-one
+returns-then-is_marked-clause-one c pages one gray =
+    inl (subst (λ (y : Words). IsGray pages y one) c.is_marked.ensures.looks.words gray)
+
+pub returns-clause-one : goal.returns-clause-one
+returns-clause-one c =
+    turns_gray _ _ c.args.cell
     (marked_from _ _ _ c.args.cell c.is_marked.ensures.looks.words c.mark_cell.ensures.words)
 
 pub returns-clause-marked : goal.returns-clause-marked
