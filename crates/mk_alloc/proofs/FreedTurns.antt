@@ -14,8 +14,8 @@ use Rattle.mk_alloc.proofs.DueParts.{RunIn, at_behind, end_at, ends_before, run_
 use Rattle.mk_alloc.proofs.{Going.{IsCallers, callers_then, same_phase, then_on}, ListParts.{InFirst, InSecond, IsAt}}
 use Rattle.mk_alloc.proofs.ListParts.{Lacks, SomeKind, cycle_in, lacks_append, lacks_at, lacks_first, none_at, only_at}
 use Rattle.mk_alloc.proofs.{ListParts.stands, Parts.{Part, part_lacks, seen_by, seen_then}}
-use Rattle.mk_alloc.{proofs.UnsweptTurns.{kinds_by_engine, kinds_then, turn_by_engine}, specs.TurnCycles.{CycleIsOn}}
-use Rattle.mk_alloc.proofs.{CycleParts.{EndsIn, begins_held}, Stretches.{SomeKinds, Within}}
+use Rattle.mk_alloc.proofs.{UnsweptTurns.{kinds_keep, kinds_then, turn_keeps}, CycleParts.{EndsIn, begins_held}}
+use Rattle.mk_alloc.{proofs.Stretches.{SomeKinds, Within}, specs.TurnCycles.{CycleIsOn}}
 use Rattle.mk_laws.proofs.Vocabulary.{register_at}
 use Rattle.mk_never.specs.Admitted.{IsBase}
 use Rattle.mk_core.specs.Cycles.{BeginsAndEndsIn, BeginsIn}
@@ -276,9 +276,9 @@ module _ {flag due : Bool} {r : ℕ} {p taken retired done : PassState} (f : Fre
     abbrev given : GivenBack (Op.Free r) Answer.Done p taken done q
     given = record { took = f.took; fresh = f.begins.fresh; on = freed; gives = gives; rests = rests }
 
-    pub freed_by_engine : {sweeps : Bool} {begins : Config → Seat → List Event → List Event → Type 0}
+    pub freed_keeps : {sweeps : Bool} {begins : Config → Seat → List Event → List Event → Type 0}
         → PassKeeps sweeps begins retired done → PassKeeps sweeps begins p q
-    freed_by_engine run = turn_by_engine given (kinds_then (λ x h. grind arith) f.retires.decides.does run)
+    freed_keeps run = turn_keeps given (kinds_then (λ x h. grind arith) f.retires.decides.does run)
 
     told : IsDueIn (turn_of given) → due ≡ true
     told is_due = elim (cases_Bool due) [
@@ -314,9 +314,9 @@ module _ {r : ℕ} {p taken done : PassState} (f : Refuses r p taken done) where
     abbrev given_double : GivenBack (Op.Free r) Answer.Double p taken done q
     given_double = record { took = f.took; fresh = f.begins.fresh; on = refused; gives = gives; rests = rests }
 
-    pub refused_by_engine : {sweeps : Bool} {begins : Config → Seat → List Event → List Event → Type 0}
+    pub refused_keeps : {sweeps : Bool} {begins : Config → Seat → List Event → List Event → Type 0}
         → PassKeeps sweeps begins p q
-    refused_by_engine = turn_by_engine given_double (kinds_by_engine (λ x h. grind arith) f.finds.decides.does)
+    refused_keeps = turn_keeps given_double (kinds_keep (λ x h. grind arith) f.finds.decides.does)
 
     loading : Part is_loading taken done
     loading = record {

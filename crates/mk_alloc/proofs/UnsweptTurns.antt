@@ -1,4 +1,4 @@
--- Calls sweep nothing, and what engines do in turns.
+-- Calls sweep nothing, and what engines keep to in turns.
 use Rattle.mk_alloc.proofs.Vocabulary.{Acts, Answer, BeginsNone, Bool, Config, Does, EndsOlder, Event, FinishesCycle}
 use Rattle.mk_alloc.proofs.Vocabulary.{Has, IsOutOfStop, List, Op, PassKeeps, PassState, Seat, Some, Stage, Step, ap}
 use Rattle.mk_alloc.proofs.Vocabulary.{arith, false, is_begin, is_take, not, not-true, now_of, only_seen, or_parts}
@@ -44,24 +44,24 @@ full_sweeps {p} {q} {r} {s} {x} {y} {z} a b d first second third =
 pub older_same : {p q : PassState} → IsOutOfStop (now_of p) → EndsOlder p q → q ≡ record p { seen = q.seen }
 older_same phase older = grind arith
 
--- What an engine does in the parts of a turn: in those without the steps of which its law speaks, it does nothing.
+-- What an engine keeps to in the parts of a turn: in those without the steps of which that speaks, it does nothing.
 
 abbrev pub HaveNone : SomeKinds → Type 0
 HaveNone kinds = (x : Step) → kinds x ≡ true → (is_mark x || is_begin x) ≡ false
 
 module _ {sweeps : Bool} {begins : Config → Seat → List Event → List Event → Type 0} where
-  pub nothing_by_engine : {p : PassState} → PassKeeps sweeps begins p p
-  nothing_by_engine {p} = record { reached = λ none. nothing_sweeps p; begun = nothing_begun begins p }
+  pub keeps_still : {p : PassState} → PassKeeps sweeps begins p p
+  keeps_still {p} = record { reached = λ none. nothing_sweeps p; begun = nothing_begun begins p }
 
-  pub kinds_by_engine : {kinds : SomeKinds} {p q : PassState} → HaveNone kinds → Does kinds p q
+  pub kinds_keep : {kinds : SomeKinds} {p q : PassState} → HaveNone kinds → Does kinds p q
       → PassKeeps sweeps begins p q
-  kinds_by_engine {kinds} {p} {q} apart d = record {
+  kinds_keep {kinds} {p} {q} apart d = record {
     reached = λ none. does_sweep kinds p q (λ x h. (or_parts (is_mark x) (is_begin x) (apart x h)).0) d;
     begun = does_begin_none begins kinds p q (λ x h. (or_parts (is_mark x) (is_begin x) (apart x h)).1) d;
   }
 
-  pub none_by_engine : {p q : PassState} → BeginsNone p q → SweepsNothing p q → PassKeeps sweeps begins p q
-  none_by_engine none unswept = record {
+  pub unbegun_keeps : {p q : PassState} → BeginsNone p q → SweepsNothing p q → PassKeeps sweeps begins p q
+  unbegun_keeps none unswept = record {
     reached = λ off. unswept;
     begun = record {
       more = none.more;
@@ -70,33 +70,33 @@ module _ {sweeps : Bool} {begins : Config → Seat → List Event → List Event
     };
   }
 
-  pub finished_by_engine : {p q : PassState} → Has p.seats p.seat → FinishesCycle p q
+  pub finish_keeps : {p q : PassState} → Has p.seats p.seat → FinishesCycle p q
       → (sweeps ≡ false → SweepsNothing p q) → PassKeeps sweeps begins p q
-  finished_by_engine {p} {q} own law reached = record {
+  finish_keeps {p} {q} own law reached = record {
     reached = reached;
     begun = finish_begins_none begins p q own law;
   }
 
   -- one part after another
 
-  pub engine_then : {p q r : PassState} → q ≡ record p { seen = q.seen } → PassKeeps sweeps begins p q
+  pub keeps_then : {p q r : PassState} → q ≡ record p { seen = q.seen } → PassKeeps sweeps begins p q
       → PassKeeps sweeps begins q r → PassKeeps sweeps begins p r
-  engine_then {p} {q} {r} same one two = record {
+  keeps_then {p} {q} {r} same one two = record {
     reached = λ none. sweeps_then p q r same (one.reached none) (two.reached none);
     begun = begun_then begins p q r same one.begun two.begun;
   }
 
   pub part_then : {kinds : SomeKinds} {p q r : PassState} → Does kinds p q → PassKeeps sweeps begins p q
       → PassKeeps sweeps begins q r → PassKeeps sweeps begins p r
-  part_then {p = p} {q = q} d one two = engine_then (only_seen p q d.more d.is) one two
+  part_then {p = p} {q = q} d one two = keeps_then (only_seen p q d.more d.is) one two
 
   pub kinds_then : {kinds : SomeKinds} {p q r : PassState} → HaveNone kinds → Does kinds p q
       → PassKeeps sweeps begins q r → PassKeeps sweeps begins p r
-  kinds_then apart d rest = part_then d (kinds_by_engine apart d) rest
+  kinds_then apart d rest = part_then d (kinds_keep apart d) rest
 
   -- A turn from the wait for it to its `give`.
-  pub turn_by_engine : {o : Op} {a : Answer} {p taken done q : PassState} → GivenBack o a p taken done q
+  pub turn_keeps : {o : Op} {a : Answer} {p taken done q : PassState} → GivenBack o a p taken done q
       → PassKeeps sweeps begins taken done → PassKeeps sweeps begins p q
-  turn_by_engine {o} {p = p} {taken} g inside =
+  turn_keeps {o} {p = p} {taken} g inside =
       kinds_then {kinds = is_take} (λ x h. grind arith) (taking_does p (Some o) taken g.took.own g.took.takes)
-      (part_then g.on.does inside (kinds_by_engine {kinds = is_give} (λ x h. grind arith) (does_once g.gives refl)))
+      (part_then g.on.does inside (kinds_keep {kinds = is_give} (λ x h. grind arith) (does_once g.gives refl)))

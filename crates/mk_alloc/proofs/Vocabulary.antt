@@ -33,10 +33,10 @@ pub use Rattle.mk_caller.specs.States.{CallerState, caller_of_pass}
 pub use Rattle.mk_turns.proofs.{Doing.{does_nothing, does_step, does_then}, Sweeping.{only_seen, only_seen_by}}
 pub use Rattle.mk_turns.specs.Doing.{Does, are_of}
 pub use Rattle.mk_cycle.proofs.{Calm.frees_none, CleaningSteps.calm_keeps, KeptInParts.{free_then, gates_behind}}
-pub use Rattle.mk_cycle.{proofs.{KeptInParts.same_config, OwnSteps.no_more_calls}, specs.TurnKeeps.{unchanged}}
-pub use Rattle.mk_cycle.specs.{BeginCycle.BeginsCycle, EngineLaw.{IsAtPhase, is_pending_free, is_pending_free_at}}
-pub use Rattle.mk_cycle.specs.{FinishCycle.FinishesCycle, Kinds.{begins_marking, clears, closes_marks, holds_gates}}
-pub use Rattle.mk_cycle.specs.{Kinds.{is_giving_back, sets_tallies}, TurnKeeps.{Done, KeepsGates, LeavesTurn}}
+pub use Rattle.mk_cycle.proofs.{KeptInParts.same_config, OwnSteps.no_more_calls}
+pub use Rattle.mk_cycle.specs.{TurnKeeps.{unchanged, Done, KeepsGates, LeavesTurn}, BeginCycle.BeginsCycle}
+pub use Rattle.mk_cycle.specs.{EngineLaw.{IsAtPhase, is_pending_free, is_pending_free_at}, FinishCycle.FinishesCycle}
+pub use Rattle.mk_cycle.specs.Kinds.{begins_marking, clears, closes_marks, holds_gates, is_giving_back, sets_tallies}
 pub use Rattle.mk_waiting.specs.Taking.{TakesTurn, is_take, waits_for}
 pub use Rattle.mk_objects.proofs.{JoinedLooks.{does_wider, looks_left}, Looks.acting_caller}
 pub use Rattle.mk_objects.proofs.MayAct.{new_is_acting, off_four}

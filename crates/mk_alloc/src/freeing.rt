@@ -1,10 +1,8 @@
 //! Freeing objects.
-ghost use Rattle.std.specs.Prelude.{◌≡◌, ◌<◌, ◌∷◌, [], IfOk, OnErr, true, false};
+ghost use Rattle.std.specs.Prelude.{◌≡◌, ◌<◌, ◌∷◌, [], IfOk, OnErr, true};
 ghost use Rattle.mk_never.specs.Admitted.{IsBase};
 ghost use Rattle.mk_caller.specs.States.{caller_of_pass, value_of};
-ghost use Rattle.mk_turns.specs.Sweeping.{SweepsNothing};
-ghost use Rattle.mk_cycle.specs.Begun.{EachIsBegun};
-ghost use Rattle.mk_alloc.specs.TurnCalls.{FreesObject, IsAnsweredDouble, MayTakeTurns};
+ghost use Rattle.mk_alloc.specs.{TurnCalls.{FreesObject, IsAnsweredDouble, MayTakeTurns}, Underway.PassKeeps};
 
 use crate::cycles::run_if_due;
 use crate::turns::{give, take};
@@ -31,8 +29,7 @@ pub fn free_object<E: Engine, R: Threads + Wait + Sync>(
     ensures made_for { E.made_for engine.new ≡ E.made_for engine.old }
     ensures freed { IfOk result (λ freed. FreesObject E.on caller.old.pass p freed.due caller.new.pass) }
     ensures double { OnErr result (IsAnsweredDouble E.on caller.old.pass p caller.new.pass) }
-    ensures reached { E.sweeps ≡ false → SweepsNothing caller.old.pass caller.new.pass }
-    ensures begun { EachIsBegun E.begins caller.old.pass caller.new.pass }
+    ensures keeps { PassKeeps E.sweeps E.begins caller.old.pass caller.new.pass }
 {
     let words = caller.words();
     let home = caller.lend();

@@ -1,8 +1,6 @@
 //! Making objects.
 ghost use Rattle.std.specs.Prelude.{◌≡◌, ◌<◌, ◌∷◌, [], OnOk, IfErr, IfSome, Some, true, false, length};
 ghost use Rattle.mk_caller.specs.States.{caller_of_pass};
-ghost use Rattle.mk_turns.specs.Sweeping.{SweepsNothing};
-ghost use Rattle.mk_cycle.specs.Begun.{EachIsBegun};
 ghost use Rattle.mk_alloc.specs.Rooms.{CountsFull, NeedsRoom, RunsOne, Seeks, answer_with};
 ghost use Rattle.mk_alloc.specs.{TurnCalls.{CalledInTurn, IsAnsweredFull, MayTakeTurns}, Underway.PassKeeps};
 ghost use Rattle.mk_never.specs.declared.operations.Op.TheVariants as op;
@@ -43,7 +41,7 @@ fn make_room_or_count<E: Engine, R: Threads + Wait + Sync>(
     ensures seeks { Seeks (Some (answer_with result.1)) turn.pass result.0.pass }
     ensures full { IfSome result.1 (CountsFull turn.pass result.0.pass) }
     ensures one { RunsOne turn.pass result.0.pass }
-    ensures engine { PassKeeps E.sweeps E.begins turn.pass result.0.pass }
+    ensures keeps { PassKeeps E.sweeps E.begins turn.pass result.0.pass }
 {
     let (mut turn, placed) = make_room(rt, words, turn, request, engine);
     if placed {
@@ -72,8 +70,7 @@ pub fn new_object<E: Engine, R: Threads + Wait + Sync>(
     ensures made { OnOk result (CalledInTurn E.on caller.old.pass (op.New d ty false) answer.Done caller.new.pass) }
     ensures full { IfErr result (λ full.
         IsAnsweredFull E.on caller.old.pass (op.New d ty false) full.census caller.new.pass) }
-    ensures reached { E.sweeps ≡ false → SweepsNothing caller.old.pass caller.new.pass }
-    ensures begun { EachIsBegun E.begins caller.old.pass caller.new.pass }
+    ensures keeps { PassKeeps E.sweeps E.begins caller.old.pass caller.new.pass }
 {
     let words = caller.words();
     let home = caller.lend();

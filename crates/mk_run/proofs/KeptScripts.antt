@@ -1,20 +1,18 @@
 -- What an engine keeps to in the steps of the scripts' callers and of the host, up to the whole run.
 use Rattle.mk_laws.proofs.Vocabulary.{At, Bool, Caller, Config, Event, Host, IsHistory, List, Marker, Seat, ℕ, arith}
-use Rattle.mk_laws.proofs.Vocabulary.{enabled_in_parts, enabled_meets, false, group_of, is_begin, is_open_to, left}
-use Rattle.mk_laws.proofs.Vocabulary.{length, ltb-true, refl, seat_exists, subst, sym, through, true, true≢false, []}
-use Rattle.mk_laws.proofs.Vocabulary.{◌++◌, ◌+◌, ◌∙◌, ◌∷◌, ◌≡◌, ◌≤◌}
-use Rattle.mk_run.proofs.Vocabulary.{CallerState, EachIsBegun, Grows, Has, IsAtHome, IsFirstPass, IsScript, IsWhole}
-use Rattle.mk_run.proofs.Vocabulary.{Item, PassState, StaysBeside, WordsState, config_of, has_first, script_names}
-use Rattle.mk_run.proofs.{Vocabulary.⊎_elim, JoinedScripts.same_or_later, UnsweptHistories.{markers_sweep, none_sweeps}}
+use Rattle.mk_laws.proofs.Vocabulary.{enabled_in_parts, enabled_meets, false, group_of, is_begin, is_open_to, length}
+use Rattle.mk_laws.proofs.Vocabulary.{ltb-true, refl, seat_exists, subst, sym, through, true, true≢false, [], ◌++◌, ◌+◌}
+use Rattle.mk_laws.proofs.Vocabulary.{◌∙◌, ◌∷◌, ◌≡◌, ◌≤◌}
+use Rattle.mk_run.proofs.Vocabulary.{CallerState, Grows, Has, IsAtHome, IsFirstPass, IsScript, IsWhole, Item, PassKeeps}
+use Rattle.mk_run.proofs.Vocabulary.{PassState, StaysBeside, WordsState, config_of, has_first, script_names, ⊎_elim}
 use Rattle.mk_core.specs.History.{AreEnabledFrom}
-use Rattle.mk_alloc.specs.Underway.{PassKeeps}
-use Rattle.mk_cycle.proofs.Begun.{HaveNoBegin, begun_append, kinds_begin_none, others_begin_none}
+use Rattle.mk_cycle.proofs.Begun.{begun_append, kinds_begin_none, others_begin_none}
 use Rattle.mk_cycle.specs.Begun.{AreBegunFirst, CyclesAreBegun, IsBegunFirst}
-use Rattle.mk_run.specs.{Keeping.{ScriptsKeep, SeatKeeps}, Scripts.is_beside_turns, Unswept.IsUnswept}
 use Rattle.mk_run.proofs.UnsweptScripts.{first_sweeps, others_on as others_sweep_on, seat_on as seat_sweeps_on}
-
-beside_begins_none : HaveNoBegin is_beside_turns
-beside_begins_none x0 h = grind arith
+use Rattle.mk_run.proofs.{JoinedScripts.same_or_later, UnsweptHistories.markers_sweep, UnsweptHistories.none_sweeps}
+use Rattle.mk_run.specs.{Keeping.ScriptsKeep, Keeping.SeatKeeps, Scripts.is_beside_turns, Unswept.IsUnswept}
+use Rattle.mk_turns.proofs.Sweeping.{kinds_sweep}
+use Rattle.mk_words.specs.States.{world_of}
 
 nowhere : (before : List Event) (e : Event) (behind : List Event) → [] ≡ before ++ e ∷ behind → ⊥
 nowhere [] e behind is = cc
@@ -26,17 +24,23 @@ open_to_its_seat : {c : Config} {es : List Event} (b : At is_begin es) → IsHis
 unfolding AreEnabledFrom
 open_to_its_seat b history = grind (arith, enabled_in_parts, enabled_meets)
 
--- a call beside the turn
-pub beside_begun : (begins : Config → Seat → List Event → List Event → Type 0) {p q : PassState} → StaysBeside p q
-    → EachIsBegun begins p q
-beside_begun begins {p = p} h = record {
-  more = h.more;
-  is = h.is;
-  each = λ b own. absurd (kinds_begin_none is_beside_turns p.table.config p.seat (left p.table.config p.seen)
-      h.more beside_begins_none h.steps b own);
-}
-
 module _ {sweeps : Bool} {begins : Config → Seat → List Event → List Event → Type 0} where
+  -- a call beside the turn
+  pub beside_keeps : {p q : PassState} → StaysBeside p q → PassKeeps sweeps begins p q
+  beside_keeps {p} h = record {
+    reached = λ off. record {
+      more = h.more;
+      is = h.is;
+      none = kinds_sweep is_beside_turns p.table.config p.seat (world_of p) h.more (λ x beside. grind arith) h.steps;
+    };
+    begun = record {
+      more = h.more;
+      is = h.is;
+      each = λ b own. absurd (kinds_begin_none is_beside_turns p.table.config p.seat (world_of p) h.more
+          (λ x beside. grind arith) h.steps b own);
+    };
+  }
+
   -- before the first event
   first_keeps : (c : Config) (s : Seat) (es : List Event) → es ≡ [] → SeatKeeps sweeps begins c s es
   first_keeps c s es is = record {

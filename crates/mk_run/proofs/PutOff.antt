@@ -1,9 +1,9 @@
 -- An operation that isn't answered at once, and what it is answered later.
 use Rattle.mk_laws.proofs.Vocabulary.{Answer, Bool, Config, Event, List, Op, Seat, arith, false, is_under_turn, refl}
 use Rattle.mk_laws.proofs.Vocabulary.{subst, sym, true, true≢false, ◌∙◌, ◌≡◌}
-use Rattle.mk_run.proofs.Vocabulary.{Answers, CallerState, EachIsBegun, FindsGateHeld, IsAdmittedByOwnCalls, PassState}
-use Rattle.mk_run.proofs.{Vocabulary.{StaysBeside, SweepsNothing, begun_then, sweeps_then}, KeptScripts.beside_begun}
-use Rattle.mk_run.{proofs.ScriptCalls.{makes_none, none_then_answers, stays_admitted_after}, specs.Scripts.{IsPutOff}}
+use Rattle.mk_run.proofs.Vocabulary.{Answers, CallerState, FindsGateHeld, IsAdmittedByOwnCalls, PassKeeps, PassState}
+use Rattle.mk_run.{proofs.{Vocabulary.{StaysBeside, keeps_then}, KeptScripts.beside_keeps}, specs.Scripts.{IsPutOff}}
+use Rattle.mk_run.proofs.ScriptCalls.{makes_none, none_then_answers, stays_admitted_after}
 
 pub turn_put_off : (p : PassState) (o : Op) → is_under_turn o ≡ true → IsPutOff p o p
 turn_put_off p o under = record { turn = λ is. refl; held = λ beside. absurd (true≢false (sym under ∙ beside)) }
@@ -31,33 +31,24 @@ module _ {p : PassState} {o : Op} {q : PassState} (h : IsPutOff p o q) where
     pub put_off_then : Answers on p o told r
     put_off_then = answers_by_test (is_under_turn o) refl
 
--- The caller is told this of an operation, at once or later, and the engine began what it begins.
+-- The caller is told this of an operation, at once or later, and the pass keeps to what its engine does.
 pub record IsAnsweredAs (on sweeps : Bool) (begins : Config → Seat → List Event → List Event → Type 0) (p : PassState)
     (o : Op) (told : Answer) (q : CallerState) : Type 0 where
   pub home : q.home ≡ true
   pub answers : Answers on p o told q.pass
-  pub reached : sweeps ≡ false → SweepsNothing p q.pass
-  pub begun : EachIsBegun begins p q.pass
+  pub keeps : PassKeeps sweeps begins p q.pass
 
-module _ (on sweeps : Bool) (begins : Config → Seat → List Event → List Event → Type 0) (p : PassState) (o : Op)
-    (told : Answer) (q : CallerState) where
+module _ {on sweeps : Bool} {begins : Config → Seat → List Event → List Event → Type 0} {p : PassState} {o : Op}
+    {told : Answer} (q : CallerState) where
   pub answered_at_once : q.home ≡ true → ((on : Bool) → Answers on p o told q.pass) → StaysBeside p q.pass
-      → SweepsNothing p q.pass → IsAnsweredAs on sweeps begins p o told q
-  answered_at_once home answers beside reached = record {
-    home = home;
-    answers = answers on;
-    reached = λ off. reached;
-    begun = beside_begun begins beside;
-  }
+      → IsAnsweredAs on sweeps begins p o told q
+  answered_at_once home answers beside = record { home = home; answers = answers on; keeps = beside_keeps beside }
 
-  pub answered_later : (r : CallerState) → IsPutOff p o q.pass → StaysBeside p q.pass → SweepsNothing p q.pass
-      → r.home ≡ true → Answers on q.pass o told r.pass → (sweeps ≡ false → SweepsNothing q.pass r.pass)
-      → EachIsBegun begins q.pass r.pass → IsAnsweredAs on sweeps begins p o told r
-  answered_later r off beside reached home answers more begun =
-      let is = put_off_is off in
-      record {
-        home = home;
-        answers = put_off_then off answers;
-        reached = λ none. sweeps_then p q.pass r.pass is reached (more none);
-        begun = begun_then begins p q.pass r.pass is (beside_begun begins beside) begun;
-      }
+  pub answered_later : (r : CallerState) → IsPutOff p o q.pass → StaysBeside p q.pass → r.home ≡ true
+      → Answers on q.pass o told r.pass → PassKeeps sweeps begins q.pass r.pass
+      → IsAnsweredAs on sweeps begins p o told r
+  answered_later r off beside home answers more = record {
+    home = home;
+    answers = put_off_then off answers;
+    keeps = keeps_then (put_off_is off) (beside_keeps beside) more;
+  }

@@ -6,9 +6,10 @@ use Rattle.mk_laws.proofs.Vocabulary.{Option, Seat, Some, Stage, Step, ℕ, and_
 use Rattle.mk_laws.proofs.Vocabulary.{caller_number, calls, entry_of, false, flagged, if◌then◌else◌, is_under_turn}
 use Rattle.mk_laws.proofs.Vocabulary.{length, map, map-append, never_behind, refl, subst, sym, true, true≢false, []}
 use Rattle.mk_laws.proofs.Vocabulary.{◌&&◌, ◌++◌, ◌+◌, ◌<◌, ◌==◌, ◌∙◌, ◌∷◌, ◌≡◌, ◌≤◌}
-use Rattle.mk_run.proofs.Vocabulary.{Answers, FindsGateHeld, FollowsScript, Has, IsAdmittedByOwnCalls, IsChecked}
-use Rattle.mk_run.proofs.Vocabulary.{IsFedWith, IsHomePass, IsScript, Item, PassState, StaysBeside, answers_in}
-use Rattle.mk_run.proofs.Vocabulary.{calls_by, config_of, feed, is_refusal, next_op, script_names, seen_then}
+use Rattle.mk_run.proofs.Vocabulary.{Answers, CallerState, FindsGateHeld, FollowsScript, Has, IsAdmittedByOwnCalls}
+use Rattle.mk_run.proofs.Vocabulary.{IsChecked, IsFedWith, IsHomePass, IsScript, Item, PassState, StaysBeside}
+use Rattle.mk_run.proofs.Vocabulary.{answers_in, calls_by, config_of, feed, has_first, is_refusal, next_op}
+use Rattle.mk_run.{proofs.Vocabulary.{script_names, seen_then}, specs.Scripts.{unflagged}}
 use Rattle.mk_never.proofs.Later.{calls_stay}
 use Rattle.mk_core.specs.Growing.{Finding, own_from}
 use Rattle.mk_alloc.proofs.ExactTurns.{stay_exact_behind_calls, stay_exact_behind_turns, stay_exact_where_held}
@@ -18,7 +19,6 @@ use Rattle.mk_check.proofs.{AdmittedScripts.next_is_admitted, FeedLaws.{feed_pus
 use Rattle.mk_check.specs.{Feed.{Fed, Scope, note, take_answer}, Blocks.Blocks, Declarations.globals_of}
 use Rattle.mk_check.specs.{Feeding.{FeedStandsFor, FeedState}, Laws.{AreNotedBy, ops_of_caller}, Output.answers_among}
 use Rattle.mk_run.specs.Scripts.{IsCalled, IsRunning, MakesNoCall, Script, ScriptTakesAnswer, as_told, is_beside_turns}
-use Rattle.mk_run.specs.Scripts.{unflagged}
 use Rattle.mk_turns.{proofs.Doing.{does_step, done_in_parts, of_kinds_in_parts}, specs.Doing.{are_of, done_in}}
 use Rattle.mk_words.proofs.Made.{own_before}
 
@@ -177,14 +177,15 @@ answered_by_call on {p = p} {o = o} {q = q} own entered h = record {
   beside = λ besides. called_beside h.called;
 }
 
-pub answered_in_turn : {on : Bool} {p : PassState} {o : Op} {a : Answer} {q : PassState} → Has p.seats p.seat
+answered_in_turn : {on : Bool} {p : PassState} {o : Op} {a : Answer} {q : PassState} → p.seats ≡ p.seat ∷ []
     → unflagged o ≡ o → is_under_turn o ≡ true → CalledInTurn on p o a q → Answers on p o (as_told a) q
-answered_in_turn {on} {p} {o} {a} {q} own plain turn h = record {
+answered_in_turn {on} {p} {o} {a} {q} alone plain turn h = record {
   answer = a;
   is_told = refl;
   is = seen_alone p h.more q h.is;
   entry = ap (λ (r : PassState). own_calls p r.seen) h.is ∙ h.entry;
-  exact = stay_exact_behind_turns on p o a q own h;
+  exact =
+      stay_exact_behind_turns on p o a q (subst (λ (l : List Seat). Has l p.seat) (sym alone) (has_first p.seat [])) h;
   in_turn = λ under. subst (λ (x : Op). CalledInTurn on p x a q) (sym plain) h;
   beside = λ besides. absurd (true≢false (sym turn ∙ besides));
 }
@@ -235,18 +236,25 @@ pub stays_admitted_after : {on : Bool} {p : PassState} (o : Op) {q : PassState} 
     → MakesNoCall on p q → IsAdmittedByOwnCalls q o
 stays_admitted_after o stays h es history own = grind (arith, same_own)
 
--- A New.
+-- A New or a Free is admitted now, and what its caller is told of it.
+
+pub admitted_now : (s : CallerState) {o : Op} → s.home ≡ true → IsAdmittedByOwnCalls s.pass o → Admits s.pass o
+admitted_now s home stays = stays s.pass.seen (s.in_order home).pass.history refl
+
+pub type_exists : (p : PassState) {o : Op} {d ty : ℕ} {full : Bool} → o ≡ Op.New d ty full → Admits p o
+    → ty < length p.table.config.types
+type_exists p is admits = grind (arith, calls_stay)
 
 flagged_alike : (d ty : ℕ) (full : Bool) (a : Answer) → flagged (Op.New d ty false) a ≡ flagged (Op.New d ty full) a
 flagged_alike d ty full x3 = grind arith
 
-pub answered_new : {on : Bool} {p : PassState} (o : Op) {d ty : ℕ} (full : Bool) {a : Answer} {q : PassState}
-    → Has p.seats p.seat
-    → o ≡ Op.New d ty full → CalledInTurn on p (Op.New d ty false) a q → Answers on p o (as_told a) q
+pub answered_new : {on : Bool} {p : PassState} {o : Op} {d ty : ℕ} {full : Bool} {a told : Answer} {q : PassState}
+    → p.seats ≡ p.seat ∷ [] → o ≡ Op.New d ty full → told ≡ as_told a → CalledInTurn on p (Op.New d ty false) a q
+    → Answers on p o told q
 unfolding answered_in_turn
-answered_new {on} {p} o {d = d} {ty = ty} full {a = a} {q = q} own is h =
-    let made = answered_in_turn own refl refl h in
-    subst (λ (x : Op). Answers on p x (as_told a) q) (sym is) (record {
+answered_new {on} {p} {o} {d} {ty} {full} {a} {q = q} alone is told h =
+    let made = answered_in_turn alone refl refl h in
+    rw (is, told) (record {
       answer = a;
       is_told = refl;
       is = made.is;
@@ -256,14 +264,10 @@ answered_new {on} {p} o {d = d} {ty = ty} full {a = a} {q = q} own is h =
       beside = λ besides. absurd (true≢false besides);
     })
 
-pub answered_free : {on : Bool} {p : PassState} (o : Op) {r : ℕ} {a : Answer} {q : PassState} → Has p.seats p.seat
-    → o ≡ Op.Free r → CalledInTurn on p (Op.Free r) a q → Answers on p o (as_told a) q
-answered_free {on} {p} o {r = r} {a = a} {q = q} own is h =
-    subst (λ (x : Op). Answers on p x (as_told a) q) (sym is) (answered_in_turn own refl refl h)
-
-pub type_exists : (p : PassState) (o : Op) (d ty : ℕ) (full : Bool) → o ≡ Op.New d ty full → Admits p o
-    → ty < length p.table.config.types
-type_exists p o d ty full is admits = grind (arith, calls_stay)
+pub answered_free : {on : Bool} {p : PassState} {o : Op} {r : ℕ} {a told : Answer} {q : PassState}
+    → p.seats ≡ p.seat ∷ [] → o ≡ Op.Free r → told ≡ as_told a → CalledInTurn on p (Op.Free r) a q
+    → Answers on p o told q
+answered_free alone is told h = rw (is, told) (answered_in_turn alone refl refl h)
 
 -- A script's next operation, and its answer.
 

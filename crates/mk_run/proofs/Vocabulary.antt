@@ -2,17 +2,15 @@
 pub use Rattle.std.proofs.{Common.{IfOk, rules, ⊎_elim}, lemmas.List.append_cancel_left, lemmas.Option.slice_get_within}
 pub use Rattle.mk_core.specs.Growing.{Grows}
 pub use Rattle.mk_alloc.proofs.{CalmStretches.is_of_cycles, CycleParts.{finish_does, finish_in}, ListParts.Lacks}
-pub use Rattle.mk_alloc.{proofs.Parts.{has_then, history_before, in_turn_then, seen_then}, specs.TurnCycles.{has_step}}
-pub use Rattle.mk_alloc.proofs.UnsweptTurns.{calls_sweep_nothing, sweep_nothing_where_held}
+pub use Rattle.mk_alloc.proofs.{Parts.{has_then, history_before, in_turn_then, seen_then}, UnsweptTurns.keeps_then}
+pub use Rattle.mk_alloc.specs.{TurnCycles.has_step, Underway.PassKeeps}
 pub use Rattle.mk_caller.proofs.OwnSteps.{calls_by}
 pub use Rattle.mk_caller.specs.{Causes.FindsGateHeld, States.{CallerState, IsAtHome, IsHomePass}}
 pub use Rattle.mk_check.specs.{Declarations.config_of, Feed.{feed, is_refusal}, Feeding.next_op}
 pub use Rattle.mk_check.specs.{Laws.{IsChecked, IsScript}, declared.text.Text.Text}
-pub use Rattle.mk_cycle.{proofs.Begun.{begun_then}, specs.Begun.{EachIsBegun}}
 pub use Rattle.mk_heap.proofs.MovedHosts.{turn_moves}
 pub use Rattle.mk_heap.specs.{Ending.SaysOver, Hosts.{HostState, with_joined}, Reports.IsWhole}
 pub use Rattle.mk_script.specs.{Scopes.script_names, declared.items.Item.Item}
-pub use Rattle.mk_turns.{proofs.Sweeping.{nothing_sweeps, sweeps_then}, specs.Sweeping.{SweepsNothing}}
 pub use Rattle.mk_words.proofs.Seats.{has_first, has_left, others_append, others_none, others_own}
 pub use Rattle.mk_words.specs.{Seats.{Has, HasCallers}, States.{PassState, WordsState}, TurnSteps.turn_stays}
 pub use Rattle.mk_run.specs.{Ready.{AreReadyFrom, IsReadyScript}, HostTurns.HostComesLast}

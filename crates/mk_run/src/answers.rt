@@ -3,9 +3,7 @@ ghost use Rattle.std.specs.Prelude.{◌≡◌, ◌<◌, ◌∷◌, [], IfOk, IfE
 ghost use Rattle.mk_core.specs.Calls.{is_under_turn};
 ghost use Rattle.mk_never.specs.declared.operations.Op.{Op};
 ghost use Rattle.mk_caller.specs.{Causes.{FindsGateHeld, IsRefused}, Moves.is_access, States.{caller_of_pass, Admits}};
-ghost use Rattle.mk_turns.specs.Sweeping.{SweepsNothing};
-ghost use Rattle.mk_cycle.specs.Begun.{EachIsBegun};
-ghost use Rattle.mk_alloc.specs.TurnCalls.{MayTakeTurns};
+ghost use Rattle.mk_alloc.specs.{TurnCalls.MayTakeTurns, Underway.PassKeeps};
 ghost use Rattle.mk_run.specs.Scripts.{IsCalled, IsAdmittedByOwnCalls, Answers, AsksFor, AsksBesideTurns, IsPutOff};
 ghost use Rattle.mk_run.specs.Scripts.{StaysBeside};
 
@@ -103,7 +101,6 @@ fn call_until_open<R: Wait>(rt: &R, caller: &mut Caller, op: Op) -> Answer
     requires admitted { IsAdmittedByOwnCalls caller.old.pass op }
     ensures home { caller.new.home ≡ true }
     ensures answers { (on : Bool) → Answers on caller.old.pass op result caller.new.pass }
-    ensures reached { SweepsNothing caller.old.pass caller.new.pass }
 {
     let words = caller.words();
     let number = caller.number();
@@ -134,8 +131,7 @@ pub fn answer_now<E: Engine, R: Threads + Wait + Sync>(
     ensures called { IfOk result (λ told. is_under_turn op ≡ false → IsCalled caller.old.pass op told caller.new.pass) }
     ensures beside { OnErr result (is_under_turn op ≡ false) }
     ensures held { OnErr result (FindsGateHeld caller.old.pass op caller.new.pass) }
-    ensures reached { E.sweeps ≡ false → SweepsNothing caller.old.pass caller.new.pass }
-    ensures begun { EachIsBegun E.begins caller.old.pass caller.new.pass }
+    ensures keeps { PassKeeps E.sweeps E.begins caller.old.pass caller.new.pass }
 {
     match op {
         Op::New { d, ty, .. } => match new_object(rt, caller, engine, d, ty) {
@@ -166,8 +162,7 @@ pub fn answer_to<E: Engine, R: Threads + Wait + Sync>(
     ensures home { caller.new.home ≡ true }
     ensures made_for { E.made_for engine.new ≡ E.made_for engine.old }
     ensures answers { Answers E.on caller.old.pass op result caller.new.pass }
-    ensures reached { E.sweeps ≡ false → SweepsNothing caller.old.pass caller.new.pass }
-    ensures begun { EachIsBegun E.begins caller.old.pass caller.new.pass }
+    ensures keeps { PassKeeps E.sweeps E.begins caller.old.pass caller.new.pass }
 {
     match answer_now(rt, caller, engine, op) {
         Ok(told) => told,
@@ -185,7 +180,6 @@ fn answer_when_open<R: Wait>(rt: &R, caller: &mut Caller, feed: &Feed) -> Answer
     ensures home { caller.new.home ≡ true }
     ensures answers { (op : Op) (on : Bool) → AsksFor feed.now op
         → Answers on caller.old.pass op result caller.new.pass }
-    ensures reached { SweepsNothing caller.old.pass caller.new.pass }
 {
     let Some(op) = feed.op() else { unreachable!() };
     call_until_open(rt, caller, op)
@@ -201,7 +195,6 @@ pub(crate) fn answer_at_once(caller: &mut Caller, op: Op) -> Option<Answer>
     ensures answers { IfSome result (λ told. (on : Bool) → Answers on caller.old.pass op told caller.new.pass) }
     ensures put_off { IfNone result (IsPutOff caller.old.pass op caller.new.pass) }
     ensures beside { StaysBeside caller.old.pass caller.new.pass }
-    ensures reached { SweepsNothing caller.old.pass caller.new.pass }
 {
     match op {
         Op::New { .. } | Op::Free { .. } => None,
@@ -229,8 +222,7 @@ pub(crate) fn answer_put_off<E: Engine, R: Threads + Wait + Sync>(
     ensures home { caller.new.home ≡ true }
     ensures made_for { E.made_for engine.new ≡ E.made_for engine.old }
     ensures answers { Answers E.on caller.old.pass op result caller.new.pass }
-    ensures reached { E.sweeps ≡ false → SweepsNothing caller.old.pass caller.new.pass }
-    ensures begun { EachIsBegun E.begins caller.old.pass caller.new.pass }
+    ensures keeps { PassKeeps E.sweeps E.begins caller.old.pass caller.new.pass }
 {
     match op {
         Op::New { d, ty, .. } => {

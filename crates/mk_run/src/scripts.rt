@@ -1,11 +1,10 @@
 //! The run of one script.
-ghost use Rattle.std.specs.Prelude.{◌≡◌, ℕ, List, ◌+◌, [], ◌∷◌, count_by, IfOk, OnOk, true, false};
+ghost use Rattle.std.specs.Prelude.{◌≡◌, ℕ, List, ◌+◌, [], ◌∷◌, count_by, IfOk, OnOk, true};
 ghost use Rattle.mk_core.specs.declared.events.Answer.{Answer};
 ghost use Rattle.mk_script.specs.declared.items.Item.{Item};
 ghost use Rattle.mk_check.specs.{Declarations.config_of, Feed.feed as feed_with, Feeding.IsWaiting, Laws.IsScript};
 ghost use Rattle.mk_caller.specs.States.{caller_of_pass};
-ghost use Rattle.mk_turns.specs.Sweeping.{SweepsNothing};
-ghost use Rattle.mk_cycle.specs.Begun.{EachIsBegun};
+ghost use Rattle.mk_alloc.specs.Underway.{PassKeeps};
 ghost use Rattle.mk_run.specs.{Ready.IsReadyScript, Running.{answers_in, FollowsScript, EndsScript, IsTextOf}};
 ghost use Rattle.mk_run.specs.Scripts.{CountsHaveRoom, IsFedWith, ScriptTakesAnswer, script_of};
 
@@ -103,8 +102,7 @@ pub fn run_script<E: Engine, P: Pace, R: Threads + Wait + Sync>(
     ensures follows { FollowsScript E.on program.now k caller.new.pass.table.config caller.new.pass.seen }
     ensures ends { IfOk result (λ text. EndsScript program.now k caller.new.pass.table.config caller.new.pass.seen) }
     ensures text { IfOk result (IsTextOf program.now k caller.new.pass.table.config caller.new.pass.seen) }
-    ensures reached { E.sweeps ≡ false → SweepsNothing caller.old.pass caller.new.pass }
-    ensures begun { EachIsBegun E.begins caller.old.pass caller.new.pass }
+    ensures keeps { PassKeeps E.sweeps E.begins caller.old.pass caller.new.pass }
 {
     // The program is well typed, so its scripts ask for nothing that isn't admitted.
     let _well_typed = program.program();

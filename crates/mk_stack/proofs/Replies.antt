@@ -67,17 +67,13 @@ pub record Happens (p : PassState) (o : Op) (a : Answer) (q : PassState) : Type 
   pub image : a ≡ answer_of bases (reply_of n (caller_of_pass p) o)
   pub did : replied_to q ≡ replied_to p ++ record { op = o; reply = reply_of n (caller_of_pass p) o } ∷ []
 
-module _ (p : PassState) (o : Op) (a : Answer) (more : List Event) (once : flagged o a ≡ o)
-    (history : IsHistory p.table.config (p.seen ++ more)) (entry : own_calls p (p.seen ++ more) ≡ own_calls p p.seen ++
-    record { caller = caller_of_pass p; op = o; answer = a } ∷ []) (decided : IsDecidedIn p o a more) where
+module _ {p : PassState} {o : Op} {a : Answer} {more : List Event} {decided : IsDecidedIn p o a more}
+    (one : OneCall p o a more decided) where
   abbrev c : Config
   c = p.table.config
 
   abbrev k : ℕ
   k = caller_of_pass p
-
-  abbrev x : Decided
-  x = record { caller = caller_of_pass p; op = o; answer = a }
 
   abbrev before : List Event
   before = before_call decided
@@ -85,10 +81,7 @@ module _ (p : PassState) (o : Op) (a : Answer) (more : List Event) (once : flagg
   abbrev through : List Event
   through = through_call decided
 
-  one : OneCall p o a more decided
-  one = one_call {p = p} once history entry decided
-
-  admitted : AreAdmitted c.globals (never_behind c before) (asked (x ∷ []))
+  admitted : AreAdmitted c.globals (never_behind c before) (asked (record { caller = k; op = o; answer = a } ∷ []))
   admitted = rw one.decides at (comes_last c before decided.event one.through).admitted
 
   abbrev here : Replied
@@ -117,8 +110,8 @@ pub from_called : {p q : PassState} {o : Op} {a : Answer} → Called p o a q →
     → IsHistory q.table.config q.seen → Happens p o a q
 from_called {p} {q} {o} {a} h once history =
     subst (Happens p o a) (sym h.is)
-    (happens p o a h.more once (subst (λ (r : PassState). IsHistory r.table.config r.seen) h.is history) (h.entry ∙ ap
-    (λ (y : Op). own_calls p p.seen ++ record { caller = caller_of_pass p; op = y; answer = a } ∷ []) once) h.decided)
+    (happens (one_call once (subst (λ (r : PassState). IsHistory r.table.config r.seen) h.is history) (h.entry ∙ ap
+    (λ (y : Op). own_calls p p.seen ++ record { caller = caller_of_pass p; op = y; answer = a } ∷ []) once) h.decided))
 
 flagged_once : (o : Op) (a : Answer) → flagged (flagged o a) a ≡ flagged o a
 flagged_once x0 a = grind arith
@@ -126,8 +119,8 @@ flagged_once x0 a = grind arith
 pub from_turn : {on : Bool} {p q : PassState} {o : Op} {a : Answer} → CalledInTurn on p o a q
     → IsHistory q.table.config q.seen → Happens p (flagged o a) a q
 from_turn {on} {p} {q} {o} {a} h history =
-    subst (Happens p (flagged o a) a) (sym h.is) (happens p (flagged o a) a h.more (flagged_once o a)
-    (subst (λ (r : PassState). IsHistory r.table.config r.seen) h.is history) h.entry h.decided)
+    subst (Happens p (flagged o a) a) (sym h.is) (happens (one_call (flagged_once o a)
+    (subst (λ (r : PassState). IsHistory r.table.config r.seen) h.is history) h.entry h.decided))
 
 -- The caller found its gate held, and asked nothing.
 pub record Stays (p q : PassState) : Type 0 where

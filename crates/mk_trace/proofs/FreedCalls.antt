@@ -1,15 +1,14 @@
 -- What is freed and quarantined over a call of the caller, and all that the call does.
-use Rattle.mk_trace.proofs.Vocabulary.{Answer, AreLater, CallerIsHome, Calls, Config, EndsTell, Event, FlagsBehind}
-use Rattle.mk_trace.proofs.Vocabulary.{FlagsBehindCall, HoldsMostAtEnd, HostState, IsHistory, LeavesAllocations}
-use Rattle.mk_trace.proofs.Vocabulary.{NeverState, Op, PassState, PlacedAllocation, QuarantinesMostWhereFreed, Step}
-use Rattle.mk_trace.proofs.Vocabulary.{WordsState, World, after_free, allocation_at, calls_from, entry_of}
-use Rattle.mk_trace.proofs.Vocabulary.{exists_placed, has_step, is_begin, is_of_cycle, is_release, is_under_turn}
-use Rattle.mk_trace.proofs.Vocabulary.{lacks_append, left, never_behind, none_at, number_freed, placed_at}
-use Rattle.mk_trace.proofs.Vocabulary.{reach_is_kept, register_at, unflagged, world_behind}
-use Rattle.mk_trace.proofs.{EndsInLists.{first_at, lacks_by}, FlagSteps.{is_freed_behind, is_freed_there, later_left}}
-use Rattle.mk_trace.{proofs.FlagSteps.{others_kept, points_there, twins, was_unfreed}, specs.Peaks.{greatest_from}}
-use Rattle.mk_trace.proofs.{FreeCalls.{flagged_free, is_free_call}, FreedMost.{FreesBefore, MostWhereFreed}}
-use Rattle.mk_trace.proofs.FreedMost.{ReleasesLate, free_most, no_more_without_free}
+use Rattle.mk_trace.proofs.Vocabulary.{Answer, AreLater, CallerIsHome, Calls, Config, Event, FlagsBehind}
+use Rattle.mk_trace.proofs.Vocabulary.{FlagsBehindCall, HostState, IsHistory, NeverState, Op, PassState}
+use Rattle.mk_trace.proofs.Vocabulary.{PlacedAllocation, QuarantinesMostWhereFreed, Step, WordsState, World, after_free}
+use Rattle.mk_trace.proofs.Vocabulary.{allocation_at, calls_from, entry_of, exists_placed, has_step, is_begin}
+use Rattle.mk_trace.proofs.Vocabulary.{is_of_cycle, is_release, is_under_turn, lacks_append, left, never_behind}
+use Rattle.mk_trace.proofs.Vocabulary.{none_at, number_freed, placed_at, reach_is_kept, register_at, unflagged}
+use Rattle.mk_trace.proofs.{Vocabulary.world_behind, EndsInLists.{first_at, lacks_by}}
+use Rattle.mk_trace.proofs.FlagSteps.{is_freed_behind, is_freed_there, later_left, others_kept, points_there, twins}
+use Rattle.mk_trace.proofs.{FlagSteps.was_unfreed, FreeCalls.{flagged_free, is_free_call}}
+use Rattle.mk_trace.proofs.FreedMost.{FreesBefore, MostWhereFreed, ReleasesLate, free_most, no_more_without_free}
 use Rattle.mk_trace.proofs.FreedWords.{large_weight, quarantined_is, reserved_is, storage_weight, weighed}
 use Rattle.mk_trace.proofs.JoinedCalls.{InTurn, Joined, acts, before, before_lacks, beside_leaves, called, decided}
 use Rattle.mk_trace.proofs.JoinedCalls.{ends_told, exact, held_at_end, in_parts, last, whole}
@@ -19,6 +18,7 @@ use Rattle.mk_laws.proofs.Vocabulary.{false, inl, inr, left_in_parts, length, ne
 use Rattle.mk_laws.proofs.Vocabulary.{[], ◌*◌, ◌++◌, ◌+◌, ◌<◌, ◌∙◌, ◌∷◌, ◌≡◌}
 use Rattle.mk_never.specs.Reach.IsReachable.{by_register}
 use Rattle.mk_alloc.specs.TurnCycles.{FreeIsExact, FreesFirst, IsDueIn}
+use Rattle.mk_trace.specs.{Peaks.greatest_from, Players.DoesCall}
 
 -- What a call does to the flags of allocations: its operation frees one, or none.
 
@@ -146,19 +146,11 @@ module _ {on : Bool} {h : HostState} {o : Op} {told : Answer} {q : PassState} {f
       (flags_behind c es j.own.more (whole j) o made.answer (decided j made))
 
 -- All that a call of the one caller does.
-pub record Does (on : Bool) (c : Config) (es : List Event) (o : Op) (told : Answer) (fs : List Event) : Type 0 where
-  pub calls : Calls c es o told fs
-  pub held : HoldsMostAtEnd c es fs
-  pub ends : on ≡ false → EndsTell c es fs
-  pub beside : is_under_turn o ≡ false → LeavesAllocations c es fs
-  pub quarantines : QuarantinesMostWhereFreed c es o fs
-  pub flags : FlagsBehindCall c es o fs
-
 pub call_does : {on : Bool} {h : HostState} {o : Op} {told : Answer} {q : PassState} {fs : List Event}
-    (w : WordsState) → CallerIsHome w h → Joined on h o told q fs → Does on w.config h.pass.seen o told fs
+    (w : WordsState) → CallerIsHome w h → Joined on h o told q fs → DoesCall on w.config h.pass.seen o told fs
 call_does {on} {h} {o} {told} {q} {fs} w home j =
     let made = called j (callers_at_home home) in
-    subst (λ (x : WordsState). Does on x.config h.pass.seen o told fs) home.table (record {
+    subst (λ (x : WordsState). DoesCall on x.config h.pass.seen o told fs) home.table (record {
       calls = made;
       held = held_at_end j made;
       ends = λ off. ends_told j off made;

@@ -10,6 +10,7 @@ pub mod Looking
 pub mod Numbers
 pub mod PeakBounds
 pub mod Peaks
+pub mod Players
 pub mod Playing
 pub mod Printed
 pub mod Reading

@@ -1,14 +1,13 @@
 //! The calls of the one caller of a heap. Between them the host has its seat, and so has seen all.
 ghost use Rattle.std.specs.Prelude.{◌≡◌, ◌+◌, ◌<◌, ◌≤◌, IfOk, false};
-ghost use Rattle.mk_core.specs.{Calls.is_under_turn, Counts.ends, History.never_behind};
-ghost use Rattle.mk_trace.specs.Calls.{CallerIsHome, MayCome, MayBePlayed, Calls, PlaysEvent, most_held};
-ghost use Rattle.mk_trace.specs.{Calls.HoldsMostAtEnd, Ends.{EndsTell, IsBetweenCycles, LeavesAllocations}};
-ghost use Rattle.mk_trace.specs.{ExactPlays.StayExact, Freeing.{FlagsBehindCall, FreesItsSlot, FreesSlot}};
-ghost use Rattle.mk_trace.specs.{Freeing.QuarantinesMostWhereFreed, Ledgers.Keeps, Traces.slot_of};
+ghost use Rattle.mk_core.specs.{Counts.ends, History.never_behind};
+ghost use Rattle.mk_trace.specs.{Calls.{CallerIsHome, MayCome, MayBePlayed, Calls, PlaysEvent}, ExactPlays.StayExact};
+ghost use Rattle.mk_trace.specs.{Freeing.{FreesItsSlot, FreesSlot}, Players.{DoesCall, IsBetweenCalls}};
+ghost use Rattle.mk_trace.specs.Traces.{slot_of};
 
-use crate::ledger::Ledger;
 use crate::looking::{look, object_to_free};
 use crate::operations::{first_op, is_full_answer, is_under_turn, later_ops};
+use crate::player::Player;
 use crate::settling::settle;
 use crate::trace::TraceEvent;
 use mk_check::is_refusal;
@@ -34,15 +33,9 @@ fn call<E: Engine, R: Threads + Wait + Sync>(
     requires made_for { E.made_for engine.old ≡ heap.now.config.pages }
     ensures home { CallerIsHome heap.now host.new }
     ensures made_for { E.made_for engine.new ≡ E.made_for engine.old }
-    ensures calls { Calls heap.now.config host.old.pass.seen op result host.new.pass.seen }
-    ensures held { HoldsMostAtEnd heap.now.config host.old.pass.seen host.new.pass.seen }
-    ensures ends { E.on ≡ false → EndsTell heap.now.config host.old.pass.seen host.new.pass.seen }
+    ensures does { DoesCall E.on heap.now.config host.old.pass.seen op result host.new.pass.seen }
     ensures exact { E.on ≡ false → E.sweeps ≡ false
         → StayExact heap.now.config host.old.pass.seen host.new.pass.seen }
-    ensures quarantines { QuarantinesMostWhereFreed heap.now.config host.old.pass.seen op host.new.pass.seen }
-    ensures flags { FlagsBehindCall heap.now.config host.old.pass.seen op host.new.pass.seen }
-    ensures beside { is_under_turn op ≡ false →
-        LeavesAllocations heap.now.config host.old.pass.seen host.new.pass.seen }
 {
     let mut caller = host.caller_again(heap, 0);
     let answer = answer_to(rt, &mut caller, engine, op);
@@ -57,42 +50,34 @@ fn answer<E: Engine, R: Threads + Wait + Sync>(
     rt: &R,
     alloc: Global,
     heap: &Heap,
-    host: &mut Host,
-    engine: &mut E,
-    ledger: &mut Ledger,
+    player: &mut Player<E>,
     slot: u64,
     op: Op,
 ) -> Result<Answer, NoMemory>
     requires slot { slot < 64 }
-    requires points { FreesSlot (never_behind heap.now.config host.old.pass.seen) slot op }
+    requires points { FreesSlot (never_behind heap.now.config player.old.host.pass.seen) slot op }
     requires off { E.on ≡ false }
     requires unswept { E.sweeps ≡ false }
-    requires home { CallerIsHome heap.now host.old }
-    requires idle { IsBetweenCycles heap.now.config host.old.pass.seen }
-    requires few { ends host.old.pass.seen < 18446744073709551615 }
-    requires admitted { MayCome heap.now.config host.old.pass.seen op }
-    requires made_for { E.made_for engine.old ≡ heap.now.config.pages }
-    requires held { ledger.old.held ≡ most_held heap.now.config host.old.pass.seen }
-    requires keeps { Keeps heap.now.config host.old.pass.seen ledger.old.freed }
-    ensures home { CallerIsHome heap.now host.new }
-    ensures idle { IsBetweenCycles heap.now.config host.new.pass.seen }
-    ensures made_for { E.made_for engine.new ≡ E.made_for engine.old }
-    ensures calls { IfOk result (λ told. Calls heap.now.config host.old.pass.seen op told host.new.pass.seen) }
-    ensures held { IfOk result (λ told. ledger.new.held ≡ most_held heap.now.config host.new.pass.seen) }
-    ensures ends { IfOk result (λ told. ends host.new.pass.seen ≤ ends host.old.pass.seen + 1) }
-    ensures exact { IfOk result (λ told. StayExact heap.now.config host.old.pass.seen host.new.pass.seen) }
-    ensures keeps { IfOk result (λ told. Keeps heap.now.config host.new.pass.seen ledger.new.freed) }
+    requires between { IsBetweenCalls E.made_for heap.now player.old }
+    requires few { ends player.old.host.pass.seen < 18446744073709551615 }
+    requires admitted { MayCome heap.now.config player.old.host.pass.seen op }
+    ensures between { IfOk result (λ told. IsBetweenCalls E.made_for heap.now player.new) }
+    ensures calls { IfOk result (λ told.
+        Calls heap.now.config player.old.host.pass.seen op told player.new.host.pass.seen) }
+    ensures ends { IfOk result (λ told. ends player.new.host.pass.seen ≤ ends player.old.host.pass.seen + 1) }
+    ensures exact { IfOk result (λ told.
+        StayExact heap.now.config player.old.host.pass.seen player.new.host.pass.seen) }
 {
     if is_under_turn(op) {
-        let freed = object_to_free(rt, heap, host, slot, op);
-        let told = call(rt, heap, host, engine, op);
-        let now = look(rt, heap, host, Word::Held);
-        ledger.held = ledger.held.max(now);
-        ledger.freed.note(freed)?;
-        settle(rt, alloc, heap, host, &mut ledger.freed)?;
+        let freed = object_to_free(rt, heap, &mut player.host, slot, op);
+        let told = call(rt, heap, &mut player.host, &mut player.engine, op);
+        let now = look(rt, heap, &mut player.host, Word::Held);
+        player.ledger.held = player.ledger.held.max(now);
+        player.ledger.freed.note(freed)?;
+        settle(rt, alloc, heap, &mut player.host, &mut player.ledger.freed)?;
         Ok(told)
     } else {
-        Ok(call(rt, heap, host, engine, op))
+        Ok(call(rt, heap, &mut player.host, &mut player.engine, op))
     }
 }
 
@@ -101,38 +86,29 @@ pub(crate) fn refuses<E: Engine, R: Threads + Wait + Sync>(
     rt: &R,
     alloc: Global,
     heap: &Heap,
-    host: &mut Host,
-    engine: &mut E,
-    ledger: &mut Ledger,
+    player: &mut Player<E>,
     event: TraceEvent,
 ) -> Result<bool, NoMemory>
     requires slot { slot_of event < 64 }
     requires off { E.on ≡ false }
     requires unswept { E.sweeps ≡ false }
-    requires home { CallerIsHome heap.now host.old }
-    requires idle { IsBetweenCycles heap.now.config host.old.pass.seen }
-    requires few { ends host.old.pass.seen + 6 < 18446744073709551615 }
-    requires admitted { MayBePlayed heap.now.config host.old.pass.seen event }
-    requires frees { FreesItsSlot (never_behind heap.now.config host.old.pass.seen) event }
-    requires made_for { E.made_for engine.old ≡ heap.now.config.pages }
-    requires held { ledger.old.held ≡ most_held heap.now.config host.old.pass.seen }
-    requires keeps { Keeps heap.now.config host.old.pass.seen ledger.old.freed }
-    ensures home { CallerIsHome heap.now host.new }
-    ensures idle { IsBetweenCycles heap.now.config host.new.pass.seen }
-    ensures made_for { E.made_for engine.new ≡ E.made_for engine.old }
+    requires between { IsBetweenCalls E.made_for heap.now player.old }
+    requires few { ends player.old.host.pass.seen + 6 < 18446744073709551615 }
+    requires admitted { MayBePlayed heap.now.config player.old.host.pass.seen event }
+    requires frees { FreesItsSlot (never_behind heap.now.config player.old.host.pass.seen) event }
+    ensures between { IfOk result (λ refused. IsBetweenCalls E.made_for heap.now player.new) }
     ensures plays { IfOk result (λ refused.
-        PlaysEvent heap.now.config host.old.pass.seen event refused host.new.pass.seen) }
-    ensures held { IfOk result (λ refused. ledger.new.held ≡ most_held heap.now.config host.new.pass.seen) }
-    ensures ends { IfOk result (λ refused. ends host.new.pass.seen ≤ ends host.old.pass.seen + 6) }
-    ensures exact { IfOk result (λ refused. StayExact heap.now.config host.old.pass.seen host.new.pass.seen) }
-    ensures keeps { IfOk result (λ refused. Keeps heap.now.config host.new.pass.seen ledger.new.freed) }
+        PlaysEvent heap.now.config player.old.host.pass.seen event refused player.new.host.pass.seen) }
+    ensures ends { IfOk result (λ refused. ends player.new.host.pass.seen ≤ ends player.old.host.pass.seen + 6) }
+    ensures exact { IfOk result (λ refused.
+        StayExact heap.now.config player.old.host.pass.seen player.new.host.pass.seen) }
 {
     let slot = event.slot();
-    let first = answer(rt, alloc, heap, host, engine, ledger, slot, first_op(event))?;
+    let first = answer(rt, alloc, heap, player, slot, first_op(event))?;
     let mut refused = is_refusal(first);
     let ops = later_ops(alloc, is_full_answer(first), event)?;
     for op in ops.iter() {
-        let later = answer(rt, alloc, heap, host, engine, ledger, slot, *op)?;
+        let later = answer(rt, alloc, heap, player, slot, *op)?;
         let also = is_refusal(later);
         refused |= also;
     }

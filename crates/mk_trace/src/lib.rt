@@ -15,6 +15,7 @@ mod looking;
 mod operations;
 mod parsing;
 mod peaks;
+mod player;
 mod playing;
 mod resolving;
 mod settling;

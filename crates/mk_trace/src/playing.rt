@@ -1,14 +1,15 @@
 //! Playing traces.
 ghost use Rattle.std.specs.Prelude.{◌≡◌, ◌+◌, ◌<◌, [], false, if◌then◌else◌, IfOk};
 ghost use Rattle.mk_core.specs.{Config.IsWithinLimits, Counts.ends};
-ghost use Rattle.mk_trace.specs.{Calls.{CallerIsHome, SameCalls, HasPlayed, most_held}, Ends.IsBetweenCycles};
-ghost use Rattle.mk_trace.specs.{ExactPlays.StayExact, Ledgers.Keeps, Playing.{history_of, IsPlayed, ArePeaks}};
+ghost use Rattle.mk_trace.specs.{Calls.{CallerIsHome, SameCalls, HasPlayed}, ExactPlays.StayExact};
+ghost use Rattle.mk_trace.specs.{Players.IsBetweenCalls, Playing.{history_of, IsPlayed, ArePeaks}};
 ghost use Rattle.mk_trace.specs.Playing as spec;
 
 use crate::calls::refuses;
 use crate::configs::config_of;
 use crate::ledger::Ledger;
 use crate::peaks::Peaks;
+use crate::player::Player;
 use crate::trace::Trace;
 use mk_core::Config;
 use mk_cycle::Engine;
@@ -48,30 +49,23 @@ fn play_events<E: Engine, R: Threads + Wait + Sync>(
     alloc: Global,
     heap: &Heap,
     trace: &Trace,
-    host: &mut Host,
-    engine: &mut E,
-    ledger: &mut Ledger,
+    player: &mut Player<E>,
 ) -> Result<u64, NoMemory>
     requires config { heap.now.config ≡ spec.config_of trace.now }
     requires off { E.on ≡ false }
     requires unswept { E.sweeps ≡ false }
-    requires home { CallerIsHome heap.now host.old }
-    requires idle { IsBetweenCycles heap.now.config host.old.pass.seen }
-    requires none_ended { ends host.old.pass.seen ≡ 0 }
-    requires no_call { SameCalls heap.now.config [] host.old.pass.seen }
-    requires made_for { E.made_for engine.old ≡ heap.now.config.pages }
-    requires held { ledger.old.held ≡ most_held heap.now.config host.old.pass.seen }
-    requires keeps { Keeps heap.now.config host.old.pass.seen ledger.old.freed }
-    ensures home { CallerIsHome heap.now host.new }
-    ensures held { IfOk result (λ refused. ledger.new.held ≡ most_held heap.now.config host.new.pass.seen) }
-    ensures keeps { IfOk result (λ refused. Keeps heap.now.config host.new.pass.seen ledger.new.freed) }
-    ensures played { IfOk result (λ refused. HasPlayed trace.now trace.now.events refused host.new.pass.seen) }
-    ensures exact { IfOk result (λ refused. StayExact heap.now.config host.old.pass.seen host.new.pass.seen) }
+    requires between { IsBetweenCalls E.made_for heap.now player.old }
+    requires none_ended { ends player.old.host.pass.seen ≡ 0 }
+    requires no_call { SameCalls heap.now.config [] player.old.host.pass.seen }
+    ensures between { IfOk result (λ refused. IsBetweenCalls E.made_for heap.now player.new) }
+    ensures played { IfOk result (λ refused. HasPlayed trace.now trace.now.events refused player.new.host.pass.seen) }
+    ensures exact { IfOk result (λ refused.
+        StayExact heap.now.config player.old.host.pass.seen player.new.host.pass.seen) }
 {
     let events = trace.events();
     let mut refused = 0;
     for event in events {
-        let is_refused = refuses(rt, alloc, heap, host, engine, ledger, *event)?;
+        let is_refused = refuses(rt, alloc, heap, player, *event)?;
         refused = with_refusal(refused, is_refused);
     }
     Ok(refused)
@@ -89,10 +83,15 @@ fn play_by<E: Engine, R: Threads + Wait + Sync>(
     ensures peaks { IfOk result (λ peaks. ArePeaks trace.now (history_of peaks) peaks) }
 {
     let config = config_of(alloc, trace)?;
-    let mut engine = E::make(alloc, config.pages)?;
-    let (heap, mut host) = opened(alloc, &config)?;
-    let mut ledger = Ledger::new(alloc);
-    let refused = play_events(rt, alloc, &heap, trace, &mut host, &mut engine, &mut ledger)?;
+    let engine = E::make(alloc, config.pages)?;
+    let (heap, host) = opened(alloc, &config)?;
+    let mut player = Player {
+        host,
+        engine,
+        ledger: Ledger::new(alloc),
+    };
+    let refused = play_events(rt, alloc, &heap, trace, &mut player)?;
+    let Player { host, ledger, .. } = player;
     let held = ledger.held_at_most();
     let report = heap.close(host);
     Ok(Peaks {

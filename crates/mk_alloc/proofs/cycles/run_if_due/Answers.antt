@@ -1,5 +1,5 @@
-use Rattle.mk_alloc.proofs.UnsweptTurns.{nothing_by_engine}
+use Rattle.mk_alloc.proofs.UnsweptTurns.{keeps_still}
 use Rattle.mk_alloc.proofs.cycles.run_if_due.Goals as goal
 
-pub returns-else-due-clause-engine : goal.returns-else-due-clause-engine
-returns-else-due-clause-engine g c = nothing_by_engine
+pub returns-else-due-clause-keeps : goal.returns-else-due-clause-keeps
+returns-else-due-clause-keeps g c = keeps_still

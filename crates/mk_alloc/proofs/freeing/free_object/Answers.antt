@@ -1,7 +1,6 @@
 use Rattle.mk_alloc.proofs.{Vocabulary.{Op, PassState, ap, refl, sym, ◌∙◌}, CalledTurns.{Taken, taken_is, took_by}}
-use Rattle.mk_alloc.proofs.FreedTurns.{Frees, Refuses, double_answered, freed, freed_by_engine, freed_object}
-use Rattle.mk_alloc.proofs.FreedTurns.{refused_by_engine, unloaded}
-use Rattle.mk_alloc.proofs.freeing.free_object.Goals.{After-run_if_due-turn, After-take-turn}
+use Rattle.mk_alloc.proofs.FreedTurns.{Frees, Refuses, double_answered, freed, freed_keeps, freed_object, refused_keeps}
+use Rattle.mk_alloc.proofs.{FreedTurns.unloaded, freeing.free_object.Goals.{After-run_if_due-turn, After-take-turn}}
 use Rattle.mk_objects.specs.Retired.{FindsFreed}
 use Rattle.mk_alloc.proofs.freeing.free_object.Goals as goal
 
@@ -57,17 +56,11 @@ returns-in-Ok-clause-freed g c =
     rw c.back.ensures.pass
     (freed_object (frees g x.After-run_if_due-turn) c.give.ensures.gives c.give.ensures.rests)
 
-pub returns-in-Ok-clause-reached : goal.returns-in-Ok-clause-reached
-returns-in-Ok-clause-reached g c =
-    let x = goal.at.returns-in-Ok-clause-reached g c in
-    rw c.back.ensures.pass (freed_by_engine (frees g x.After-run_if_due-turn) c.give.ensures.gives
-    c.give.ensures.rests c.run_if_due-turn.ensures.engine).reached
-
-pub returns-in-Ok-clause-begun : goal.returns-in-Ok-clause-begun
-returns-in-Ok-clause-begun g c =
-    let x = goal.at.returns-in-Ok-clause-begun g c in
-    rw c.back.ensures.pass (freed_by_engine (frees g x.After-run_if_due-turn) c.give.ensures.gives
-    c.give.ensures.rests c.run_if_due-turn.ensures.engine).begun
+pub returns-in-Ok-clause-keeps : goal.returns-in-Ok-clause-keeps
+returns-in-Ok-clause-keeps g c =
+    let x = goal.at.returns-in-Ok-clause-keeps g c in
+    rw c.back.ensures.pass (freed_keeps (frees g x.After-run_if_due-turn) c.give.ensures.gives
+    c.give.ensures.rests c.run_if_due-turn.ensures.keeps)
 
 -- It was freed before.
 refuses : (g : _) (c : After-take-turn g) {q : PassState} → FindsFreed c.take-turn.result.pass c.args.p q
@@ -80,14 +73,8 @@ returns-in-Err-clause-double g c =
     rw c.back-in-Err.ensures.pass (double_answered g.E.Engine.on
     (refuses g x.After-take-turn c.in-Err.ensures.double) c.give-in-Err.ensures.gives c.give-in-Err.ensures.rests)
 
-pub returns-in-Err-clause-reached : goal.returns-in-Err-clause-reached
-returns-in-Err-clause-reached g c =
-    let x = goal.at.returns-in-Err-clause-reached g c in
-    rw c.back-in-Err.ensures.pass (refused_by_engine (refuses g x.After-take-turn c.in-Err.ensures.double)
-    c.give-in-Err.ensures.gives c.give-in-Err.ensures.rests {begins = g.E.Engine.begins}).reached
-
-pub returns-in-Err-clause-begun : goal.returns-in-Err-clause-begun
-returns-in-Err-clause-begun g c =
-    let x = goal.at.returns-in-Err-clause-begun g c in
-    rw c.back-in-Err.ensures.pass (refused_by_engine (refuses g x.After-take-turn c.in-Err.ensures.double)
-    c.give-in-Err.ensures.gives c.give-in-Err.ensures.rests {sweeps = g.E.Engine.sweeps}).begun
+pub returns-in-Err-clause-keeps : goal.returns-in-Err-clause-keeps
+returns-in-Err-clause-keeps g c =
+    let x = goal.at.returns-in-Err-clause-keeps g c in
+    rw c.back-in-Err.ensures.pass (refused_keeps (refuses g x.After-take-turn c.in-Err.ensures.double)
+    c.give-in-Err.ensures.gives c.give-in-Err.ensures.rests)

@@ -1,4 +1,4 @@
-use Rattle.mk_alloc.proofs.{UnsweptTurns.{none_by_engine, part_then}, OneCycles.one_then_none, SeekingTurns.seeks_then}
+use Rattle.mk_alloc.proofs.{UnsweptTurns.{part_then, unbegun_keeps}, OneCycles.one_then_none, SeekingTurns.seeks_then}
 use Rattle.mk_alloc.proofs.making.make_room_or_count.Goals as goal
 
 -- The object is placed, or it isn't.
@@ -10,8 +10,8 @@ returns-clause-seeks g c =
 pub returns-clause-one : goal.returns-clause-one
 returns-clause-one g c = one_then_none c.make_room-turn.ensures.one c.answer_full.ensures.begins
 
-pub returns-clause-engine : goal.returns-clause-engine
-returns-clause-engine g c =
+pub returns-clause-keeps : goal.returns-clause-keeps
+returns-clause-keeps g c =
     let tried = c.make_room-turn.ensures in
-    part_then (tried.tried.misfits c.if-placed.false).idly.misfits.seeks.on.does tried.engine
-    (none_by_engine c.answer_full.ensures.begins c.answer_full.ensures.reached)
+    part_then (tried.tried.misfits c.if-placed.false).idly.misfits.seeks.on.does tried.keeps
+    (unbegun_keeps c.answer_full.ensures.begins c.answer_full.ensures.reached)

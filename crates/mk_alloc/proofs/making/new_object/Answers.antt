@@ -1,11 +1,11 @@
 use Rattle.mk_alloc.proofs.Vocabulary.{Answer, Bool, Flight, IsAnsweredFull, Misfits, Op, PassKeeps, PassState, ℕ, ap}
 use Rattle.mk_alloc.proofs.{Vocabulary.{arith, false, refl}, OneCycles.{none_runs_one, none_then_one}}
-use Rattle.mk_alloc.{proofs.SeekingTurns.{misfit_seeks, misfits_then, seeks_then}, proofs.NewTurns.{new_called}}
-use Rattle.mk_alloc.proofs.UnsweptTurns.{none_by_engine, part_then, turn_by_engine}
-use Rattle.mk_alloc.proofs.{making.new_object.Goals.{After-give, After-give-2, After-take-turn}, CalledTurns.took_by}
+use Rattle.mk_alloc.proofs.{SeekingTurns.{misfit_seeks, misfits_then, seeks_then}, UnsweptTurns.{part_then, turn_keeps}}
+use Rattle.mk_alloc.proofs.{UnsweptTurns.unbegun_keeps, making.new_object.Goals.{After-give, After-give-2}}
+use Rattle.mk_alloc.proofs.{making.new_object.Goals.After-take-turn, CalledTurns.took_by}
 use Rattle.mk_alloc.proofs.NewTurns.{NewGiven, begun_quiet, begun_unplaced, census_told, given, is_answered_full}
+use Rattle.mk_alloc.{proofs.NewTurns.{new_called}, specs.Rooms.{CountsFull, SeeksRoom, answer_with}}
 use Rattle.mk_geom.specs.declared.pages.Census.{Census}
-use Rattle.mk_alloc.specs.Rooms.{CountsFull, SeeksRoom, answer_with}
 use Rattle.mk_alloc.proofs.making.new_object.Goals as goal
 
 -- what the turn of the call requests
@@ -50,20 +50,11 @@ returns-then-try_place-clause-made g c =
     let x = goal.at.returns-then-try_place-clause-made g c in
     rw c.back.ensures.pass (new_called (at_once g x.After-give) g.E.Engine.on)
 
-at_once_by_engine : (g : _) (c : After-give g)
-    → PassKeeps g.E.Engine.sweeps g.E.Engine.begins c.args.caller.now.pass c.give.result
-at_once_by_engine g c =
-    turn_by_engine (given (at_once g c)) (none_by_engine c.try_place.ensures.begins c.try_place.ensures.reached)
-
-pub returns-then-try_place-clause-reached : goal.returns-then-try_place-clause-reached
-returns-then-try_place-clause-reached g c =
-    rw c.back.ensures.pass
-    (at_once_by_engine g (goal.at.returns-then-try_place-clause-reached g c).After-give).reached
-
-pub returns-then-try_place-clause-begun : goal.returns-then-try_place-clause-begun
-returns-then-try_place-clause-begun g c =
-    rw c.back.ensures.pass
-    (at_once_by_engine g (goal.at.returns-then-try_place-clause-begun g c).After-give).begun
+pub returns-then-try_place-clause-keeps : goal.returns-then-try_place-clause-keeps
+returns-then-try_place-clause-keeps g c =
+    let x = goal.at.returns-then-try_place-clause-keeps g c in
+    rw c.back.ensures.pass (turn_keeps (given (at_once g x.After-give))
+    (unbegun_keeps c.try_place.ensures.begins c.try_place.ensures.reached))
 
 -- or it isn't, and room is made, or the answer is Full.
 later : (g : _) (c : After-give-2 g)
@@ -79,33 +70,25 @@ later g c = record {
   rests = c.give-2.ensures.rests;
 }
 
-later_by_engine : (g : _) (c : After-give-2 g)
+later_keeps : (g : _) (c : After-give-2 g)
     → PassKeeps g.E.Engine.sweeps g.E.Engine.begins c.args.caller.now.pass c.give-2.result
-later_by_engine g c =
+later_keeps g c =
     let tried = c.try_place.ensures in
-    turn_by_engine (given (later g c)) (part_then (tried.tried.misfits c.if-try_place.false).seeks.on.does
-    (none_by_engine tried.begins tried.reached) c.make_room_or_count-turn.ensures.engine)
+    turn_keeps (given (later g c)) (part_then (tried.tried.misfits c.if-try_place.false).seeks.on.does
+    (unbegun_keeps tried.begins tried.reached) c.make_room_or_count-turn.ensures.keeps)
 
 pub returns-in-None-clause-made : goal.returns-in-None-clause-made
 returns-in-None-clause-made g c =
     let x = goal.at.returns-in-None-clause-made g c in
     rw c.back-2.ensures.pass (rw c.in-None.is at (new_called (later g x.After-give-2) g.E.Engine.on))
 
-pub returns-in-None-clause-reached : goal.returns-in-None-clause-reached
-returns-in-None-clause-reached g c =
-    rw c.back-2.ensures.pass (later_by_engine g (goal.at.returns-in-None-clause-reached g c).After-give-2).reached
+pub returns-in-None-clause-keeps : goal.returns-in-None-clause-keeps
+returns-in-None-clause-keeps g c =
+    rw c.back-2.ensures.pass (later_keeps g (goal.at.returns-in-None-clause-keeps g c).After-give-2)
 
-pub returns-in-None-clause-begun : goal.returns-in-None-clause-begun
-returns-in-None-clause-begun g c =
-    rw c.back-2.ensures.pass (later_by_engine g (goal.at.returns-in-None-clause-begun g c).After-give-2).begun
-
-pub returns-in-Some-clause-reached : goal.returns-in-Some-clause-reached
-returns-in-Some-clause-reached g c =
-    rw c.back-2.ensures.pass (later_by_engine g (goal.at.returns-in-Some-clause-reached g c).After-give-2).reached
-
-pub returns-in-Some-clause-begun : goal.returns-in-Some-clause-begun
-returns-in-Some-clause-begun g c =
-    rw c.back-2.ensures.pass (later_by_engine g (goal.at.returns-in-Some-clause-begun g c).After-give-2).begun
+pub returns-in-Some-clause-keeps : goal.returns-in-Some-clause-keeps
+returns-in-Some-clause-keeps g c =
+    rw c.back-2.ensures.pass (later_keeps g (goal.at.returns-in-Some-clause-keeps g c).After-give-2)
 
 -- With Full come the counts of the pages where it misfits at last.
 full_is : {on : Bool} {d ty : ℕ} {p taken tried done q : PassState} {census : Census}

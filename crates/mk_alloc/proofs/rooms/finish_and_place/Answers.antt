@@ -1,5 +1,5 @@
 use Rattle.mk_alloc.proofs.SeekingTurns.{misfits_finished, room_finished, seeks_finished, tried_then}
-use Rattle.mk_alloc.proofs.{UnsweptTurns.{engine_then, finished_by_engine, none_by_engine}, OneCycles.finish_then_none}
+use Rattle.mk_alloc.proofs.{UnsweptTurns.{finish_keeps, keeps_then, unbegun_keeps}, OneCycles.finish_then_none}
 use Rattle.mk_alloc.proofs.rooms.finish_and_place.Goals as goal
 
 pub try_place-placed-requires : goal.try_place-placed-requires
@@ -21,8 +21,8 @@ returns-clause-ends g c =
     finish_then_none c.args.turn.in_order c.finish_cycle-turn.ensures.law
     c.finish_cycle-turn.result.0.in_order.history c.try_place-placed.ensures.begins
 
-pub returns-clause-engine : goal.returns-clause-engine
-returns-clause-engine g c =
+pub returns-clause-keeps : goal.returns-clause-keeps
+returns-clause-keeps g c =
     let finished = c.finish_cycle-turn.ensures in
-    engine_then finished.law.pass (finished_by_engine c.args.turn.in_order.own finished.law finished.reached)
-    (none_by_engine c.try_place-placed.ensures.begins c.try_place-placed.ensures.reached)
+    keeps_then finished.law.pass (finish_keeps c.args.turn.in_order.own finished.law finished.reached)
+    (unbegun_keeps c.try_place-placed.ensures.begins c.try_place-placed.ensures.reached)

@@ -19,8 +19,8 @@ returns-clause-tried g c =
 pub returns-clause-one : goal.returns-clause-one
 returns-clause-one g c = none_then_one c.place_behind_older-turn.ensures.begins c.place_behind_cycle.ensures.one
 
-pub returns-clause-engine : goal.returns-clause-engine
-returns-clause-engine g c =
+pub returns-clause-keeps : goal.returns-clause-keeps
+returns-clause-keeps g c =
     let older = c.place_behind_older-turn.ensures in
-    part_then (older.tried.misfits c.if-placed.false).misfits.seeks.on.does older.engine
-    c.place_behind_cycle.ensures.engine
+    part_then (older.tried.misfits c.if-placed.false).misfits.seeks.on.does older.keeps
+    c.place_behind_cycle.ensures.keeps

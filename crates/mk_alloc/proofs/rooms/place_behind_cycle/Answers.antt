@@ -1,5 +1,5 @@
 use Rattle.mk_alloc.proofs.{Vocabulary.{Done, Misfits, ap, cycle_ended, ◌∙◌}, OneCycles.begin_then_ends}
-use Rattle.mk_alloc.proofs.{SeekingTurns.{idly_then, misfits_begun, still_needs, tried_then}, UnsweptTurns.engine_then}
+use Rattle.mk_alloc.proofs.{SeekingTurns.{idly_then, misfits_begun, still_needs, tried_then}, UnsweptTurns.keeps_then}
 use Rattle.mk_alloc.proofs.rooms.place_behind_cycle.Goals.{After-begin_cycle}
 use Rattle.mk_alloc.proofs.rooms.place_behind_cycle.Goals as goal
 
@@ -28,8 +28,8 @@ returns-clause-one g c =
     begin_then_ends c.args.turn.in_order c.begin_cycle.ensures.law c.begin_cycle.new.turn.in_order.history
     c.finish_and_place.ensures.ends
 
-pub returns-clause-engine : goal.returns-clause-engine
-returns-clause-engine g c =
+pub returns-clause-keeps : goal.returns-clause-keeps
+returns-clause-keeps g c =
     let begins = c.begin_cycle.ensures in
-    engine_then begins.law.pass (record { reached = begins.reached; begun = begins.begun })
-    c.finish_and_place.ensures.engine
+    keeps_then begins.law.pass (record { reached = begins.reached; begun = begins.begun })
+    c.finish_and_place.ensures.keeps

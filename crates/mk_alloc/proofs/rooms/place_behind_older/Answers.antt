@@ -1,7 +1,7 @@
 use Rattle.mk_alloc.proofs.Vocabulary.{BeginsNone, Misfits, arith, refl, sym, ◌∙◌}
 use Rattle.mk_alloc.proofs.OneCycles.{ends_none, looks_begins_none, none_then_none}
 use Rattle.mk_alloc.proofs.SeekingTurns.{idly_then, misfits_seen, phase_seen, seen_at, still_needs, tried_then}
-use Rattle.mk_alloc.proofs.UnsweptTurns.{kinds_by_engine, kinds_then}
+use Rattle.mk_alloc.proofs.UnsweptTurns.{kinds_keep, kinds_then}
 use Rattle.mk_alloc.proofs.rooms.place_behind_older.Goals.{After-is_cycle_on-is_on}
 use Rattle.mk_alloc.proofs.rooms.place_behind_older.Goals as goal
 
@@ -30,9 +30,9 @@ pub returns-then-not-is_on-clause-begins : goal.returns-then-not-is_on-clause-be
 returns-then-not-is_on-clause-begins g c =
     begins_none g (goal.at.returns-then-not-is_on-clause-begins g c).After-is_cycle_on-is_on
 
-pub returns-then-not-is_on-clause-engine : goal.returns-then-not-is_on-clause-engine
-returns-then-not-is_on-clause-engine g c =
-    kinds_by_engine (λ x h. grind arith) c.is_cycle_on-is_on.ensures.looks.does
+pub returns-then-not-is_on-clause-keeps : goal.returns-then-not-is_on-clause-keeps
+returns-then-not-is_on-clause-keeps g c =
+    kinds_keep (λ x h. grind arith) c.is_cycle_on-is_on.ensures.looks.does
 
 pub finish_and_place-requires-clause-needs : goal.finish_and_place-requires-clause-needs
 finish_and_place-requires-clause-needs g c κs within =
@@ -49,6 +49,6 @@ returns-clause-begins g c =
     none_then_none (begins_none g (goal.at.returns-clause-begins g c).After-is_cycle_on-is_on)
     (ends_none c.finish_and_place.ensures.ends)
 
-pub returns-clause-engine : goal.returns-clause-engine
-returns-clause-engine g c =
-    kinds_then (λ x h. grind arith) c.is_cycle_on-is_on.ensures.looks.does c.finish_and_place.ensures.engine
+pub returns-clause-keeps : goal.returns-clause-keeps
+returns-clause-keeps g c =
+    kinds_then (λ x h. grind arith) c.is_cycle_on-is_on.ensures.looks.does c.finish_and_place.ensures.keeps

@@ -1,6 +1,6 @@
 use Rattle.mk_laws.proofs.Vocabulary.{Bool, false, is_under_turn, true, ◌≡◌}
-use Rattle.mk_run.proofs.Vocabulary.{Answers, calls_sweep_nothing, nothing_sweeps, rules, sweep_nothing_where_held}
-use Rattle.mk_run.proofs.{ScriptCalls.{answered_by_call, held_beside, stays_still}, PutOff.{held_put_off, turn_put_off}}
+use Rattle.mk_run.proofs.{Vocabulary.{Answers, rules}, ScriptCalls.{answered_by_call, held_beside, stays_still}}
+use Rattle.mk_run.proofs.PutOff.{held_put_off, turn_put_off}
 use Rattle.mk_run.proofs.answers.answer_at_once.Goals as goal
 
 pub returns-in-New : goal.returns-in-New
@@ -11,7 +11,6 @@ returns-in-New c =
       answers = tt;
       put_off = turn_put_off p c.args.op (search rules);
       beside = stays_still p;
-      reached = nothing_sweeps p;
     }
 
 pub returns-in-Ok : goal.returns-in-Ok
@@ -27,7 +26,6 @@ returns-in-Ok c =
       answers = answers;
       put_off = tt;
       beside = (answers true).beside entered;
-      reached = calls_sweep_nothing p c.args.op called.answer q called.called;
     }
 
 pub returns-in-Err : goal.returns-in-Err
@@ -41,5 +39,4 @@ returns-in-Err c =
       answers = tt;
       put_off = held_put_off entered held;
       beside = held_beside held;
-      reached = sweep_nothing_where_held p c.args.op q (c.args.caller.now.in_order c.requires.home).pass.own held;
     }

@@ -1,43 +1,34 @@
 use Rattle.mk_laws.proofs.Vocabulary.{false, is_under_turn, refl, ◌≡◌}
-use Rattle.mk_run.proofs.{Vocabulary.rules, ScriptCalls.{answered_free, answered_new, type_exists}}
-use Rattle.mk_run.proofs.KeptScripts.{beside_begun}
+use Rattle.mk_run.proofs.{Vocabulary.rules, ScriptCalls.{admitted_now, answered_free, answered_new, type_exists}}
+use Rattle.mk_run.proofs.KeptScripts.{beside_keeps}
 use Rattle.mk_run.proofs.answers.answer_put_off.Goals as goal
 
 pub new_object-requires-clause-register : goal.new_object-requires-clause-register
 new_object-requires-clause-register g c κs within =
-    let history = (c.args.caller.now.in_order c.requires.may.home).pass.history in
-    (rw c.in-New.is at (c.requires.admitted c.args.caller.now.pass.seen history refl)).in_range.0
-
-pub free_object-requires-clause-register : goal.free_object-requires-clause-register
-free_object-requires-clause-register g c κs within =
-    let history = (c.args.caller.now.in_order c.requires.may.home).pass.history in
-    (rw c.in-Free.is at (c.requires.admitted c.args.caller.now.pass.seen history refl)).in_range
+    (rw c.in-New.is at (admitted_now c.args.caller.now c.requires.may.home c.requires.admitted)).in_range.0
 
 pub new_object-requires-clause-ty : goal.new_object-requires-clause-ty
 new_object-requires-clause-ty g c κs within =
-    let p = c.args.caller.now.pass in
-    type_exists p c.args.op c.in-New.d c.in-New.ty c.in-New.full c.in-New.is
-    (c.requires.admitted p.seen (c.args.caller.now.in_order c.requires.may.home).pass.history refl)
+    type_exists c.args.caller.now.pass c.in-New.is
+    (admitted_now c.args.caller.now c.requires.may.home c.requires.admitted)
+
+pub free_object-requires-clause-register : goal.free_object-requires-clause-register
+free_object-requires-clause-register g c κs within =
+    (rw c.in-Free.is at (admitted_now c.args.caller.now c.requires.may.home c.requires.admitted)).in_range
 
 pub returns-in-Ok-clause-answers : goal.returns-in-Ok-clause-answers
-returns-in-Ok-clause-answers g c =
-    answered_new c.args.op c.in-New.full
-    (c.args.caller.now.in_order c.requires.may.home).pass.own c.in-New.is c.in-Ok.ensures.made
+returns-in-Ok-clause-answers g c = answered_new c.requires.may.alone c.in-New.is refl c.in-Ok.ensures.made
 
 pub returns-in-Err-clause-answers : goal.returns-in-Err-clause-answers
-returns-in-Err-clause-answers g c =
-    answered_new c.args.op c.in-New.full
-    (c.args.caller.now.in_order c.requires.may.home).pass.own c.in-New.is c.in-Err.ensures.full.called
+returns-in-Err-clause-answers g c = answered_new c.requires.may.alone c.in-New.is refl c.in-Err.ensures.full.called
 
 pub returns-in-Ok-free_object-clause-answers : goal.returns-in-Ok-free_object-clause-answers
 returns-in-Ok-free_object-clause-answers g c =
-    answered_free c.args.op
-    (c.args.caller.now.in_order c.requires.may.home).pass.own c.in-Free.is c.in-Ok-free_object.ensures.freed.called
+    answered_free c.requires.may.alone c.in-Free.is refl c.in-Ok-free_object.ensures.freed.called
 
 pub returns-in-Err-free_object-clause-answers : goal.returns-in-Err-free_object-clause-answers
 returns-in-Err-free_object-clause-answers g c =
-    answered_free c.args.op
-    (c.args.caller.now.in_order c.requires.may.home).pass.own c.in-Free.is c.in-Err-free_object.ensures.double.called
+    answered_free c.requires.may.alone c.in-Free.is refl c.in-Err-free_object.ensures.double.called
 
 pub answer_when_open-requires : goal.answer_when_open-requires
 answer_when_open-requires g c = record {
@@ -54,6 +45,5 @@ returns-in_default g c =
       home = c.answer_when_open.ensures.home;
       made_for = refl;
       answers = answers;
-      reached = λ off. c.answer_when_open.ensures.reached;
-      begun = beside_begun g.E.Engine.begins (answers.beside entered);
+      keeps = beside_keeps (answers.beside entered);
     }

@@ -1,6 +1,6 @@
 use Rattle.mk_laws.proofs.Vocabulary.{arith, subst, sym, true, ◌<◌}
-use Rattle.mk_run.proofs.{Vocabulary.{PassState, sweeps_then}, ScriptCalls.{makes_none, none_then_answers}}
-use Rattle.mk_run.proofs.{ScriptCalls.stays_admitted_after, KeptScripts.beside_begun}
+use Rattle.mk_run.proofs.{Vocabulary.PassState, ScriptCalls.{makes_none, none_then_answers, stays_admitted_after}}
+use Rattle.mk_run.proofs.KeptScripts.{beside_keeps}
 use Rattle.mk_caller.specs.States.{caller_of_pass}
 use Rattle.mk_run.proofs.answers.answer_to.Goals as goal
 
@@ -21,15 +21,11 @@ call_until_open-requires g c =
 
 pub returns-in-Err : goal.returns-in-Err
 returns-in-Err g c =
-    let p = c.args.caller.now.pass in
-    let q = c.answer_now.new.caller.pass in
-    let r = c.call_until_open.new.caller.pass in
     let none = makes_none g.E.Engine.on c.in-Err.ensures.held in
     let answers = none_then_answers none c.in-Err.ensures.beside (c.call_until_open.ensures.answers g.E.Engine.on) in
     record {
       home = c.call_until_open.ensures.home;
       made_for = c.answer_now.ensures.made_for;
       answers = answers;
-      reached = λ off. sweeps_then p q r none.is (c.answer_now.ensures.reached off) c.call_until_open.ensures.reached;
-      begun = beside_begun g.E.Engine.begins (answers.beside c.in-Err.ensures.beside);
+      keeps = beside_keeps (answers.beside c.in-Err.ensures.beside);
     }

@@ -1,5 +1,4 @@
 use Rattle.mk_laws.proofs.Vocabulary.{refl, true}
-use Rattle.mk_run.proofs.Vocabulary.{calls_sweep_nothing, nothing_sweeps, sweep_nothing_where_held, sweeps_then}
 use Rattle.mk_run.proofs.ScriptCalls.{answered_by_call, makes_none, none_then_answers, none_then_none, stays_still}
 use Rattle.mk_run.proofs.ScriptCalls.{still_admitted}
 use Rattle.mk_run.proofs.answers.call_until_open.Goals as goal
@@ -18,20 +17,10 @@ pub held-preserved : goal.held-preserved
 held-preserved g c = record {
   home = c.call.ensures.home;
   none = λ on. none_then_none (c.held.invariant.none on) (makes_none on c.in-Err.ensures.held);
-  reached =
-      sweeps_then _ _ _ (c.held.invariant.none true).is c.held.invariant.reached (sweep_nothing_where_held _ _ _
-      (c.held.caller.in_order c.held.invariant.home).pass.own c.in-Err.ensures.held);
 }
-
-pub returns-in-Ok-clause-reached : goal.returns-in-Ok-clause-reached
-returns-in-Ok-clause-reached g c =
-    let called = c.in-Ok.ensures.called in
-    sweeps_then _ _ _ (c.held.invariant.none true).is c.held.invariant.reached (calls_sweep_nothing _ _ called.answer _
-    called.called)
 
 pub held-init : goal.held-init
 held-init g c = record {
   home = c.requires.home;
   none = λ on. record { is = refl; entries = refl; exact = λ e. e; beside = stays_still c.args.caller.now.pass };
-  reached = nothing_sweeps c.args.caller.now.pass;
 }

@@ -20,5 +20,4 @@ run_script-text-requires-clause-alone g c x2 within = grind arith
 pub returns-clause-keeps : goal.returns-clause-keeps
 returns-clause-keeps g c =
     script_keeps c.new-caller.result c.run_script-text.new.caller.pass c.finish.result c.requires.pass
-    c.new-caller.ensures (record
-    { reached = c.run_script-text.ensures.reached; begun = c.run_script-text.ensures.begun }) c.finish.ensures.pass
+    c.new-caller.ensures c.run_script-text.ensures.keeps c.finish.ensures.pass

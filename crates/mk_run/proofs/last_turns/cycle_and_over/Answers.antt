@@ -1,5 +1,5 @@
 use Rattle.mk_laws.proofs.Vocabulary.{ap, arith, subst, sym, ◌∙◌}
-use Rattle.mk_run.proofs.Vocabulary.{HasCallers, HostState, WordsState, begun_then, sweeps_then}
+use Rattle.mk_run.proofs.Vocabulary.{HasCallers, HostState, WordsState, keeps_then}
 use Rattle.mk_heap.{proofs.BegunHosts.over_begun, specs.Hosts.with_seen}
 use Rattle.mk_run.proofs.{HostTurns.both_begin, LastTurns.last_turns, LastTurns.still_behind_both}
 use Rattle.mk_run.proofs.last_turns.cycle_and_over.Goals as goal
@@ -10,22 +10,17 @@ over-requires-clause-joined g c x2 within = grind arith
 pub returns : goal.returns
 returns g c =
     let at = c.requires.all_home in
-    let begins = g.E.Engine.begins in
     let h = c.args.host.now in
     let cycled = c.cycle.new.self in
     let over = c.over.new.self in
     let told = c.cycle.ensures.cycle in
-    let moved = ap (λ (x : HostState). x.pass) c.cycle.ensures.host in
     record {
       host = record {
         is = c.over.ensures.host ∙ ap (λ (x : HostState). with_seen x over.pass.seen) c.cycle.ensures.host;
         still = still_behind_both c.args.heap.now h cycled over at.seat c.cycle.ensures.host told c.over.ensures.over;
-        keeps = record {
-          reached = λ off. sweeps_then h.pass cycled.pass over.pass moved (c.cycle.ensures.reached off)
-              (c.over.ensures.reached off);
-          begun = begun_then begins _ cycled.pass over.pass moved c.cycle.ensures.begun (over_begun begins cycled.pass
-              over.pass c.over.ensures.over);
-        };
+        keeps = keeps_then (ap (λ (x : HostState). x.pass) c.cycle.ensures.host)
+            (record { reached = c.cycle.ensures.reached; begun = c.cycle.ensures.begun })
+            (record { reached = c.over.ensures.reached; begun = over_begun _ _ _ c.over.ensures.over });
       };
       turns =
           rw (c.over.ensures.engine c.cycle.ensures.idle) (last_turns c.args.heap.now h cycled over at.seat

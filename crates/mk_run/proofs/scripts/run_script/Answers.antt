@@ -1,11 +1,11 @@
 use Rattle.mk_laws.proofs.Vocabulary.{ap, arith, subst, sym, [], ◌∙◌, ◌∷◌, ◌≡◌}
-use Rattle.mk_run.proofs.Vocabulary.{IsAdmittedByOwnCalls, IsChecked, PassState, answers_in, begun_then, nothing_sweeps}
-use Rattle.mk_run.proofs.{Vocabulary.{rules, sweeps_then}, PutOff.{IsAnsweredAs, answered_at_once, answered_later}}
-use Rattle.mk_run.proofs.{PutOff.{put_off_admitted, put_off_is}, ScriptCalls.{asked_stays_admitted, exists_on}}
-use Rattle.mk_run.proofs.ScriptCalls.{follows_now, refused_within, runs_on, seat_is, then_seen}
-use Rattle.mk_run.proofs.scripts.run_script.Goals.{In-None, In-Some, Joined-answer_at_once, in-None}
-use Rattle.mk_run.{proofs.scripts.run_script.Goals.{in-Some-answer_at_once}, specs.Scripts.{script_of}}
+use Rattle.mk_run.proofs.Vocabulary.{IsAdmittedByOwnCalls, IsChecked, PassState, answers_in, keeps_then, rules}
+use Rattle.mk_run.proofs.PutOff.{IsAnsweredAs, answered_at_once, answered_later, put_off_admitted, put_off_is}
+use Rattle.mk_run.proofs.ScriptCalls.{asked_stays_admitted, exists_on, follows_now, refused_within, runs_on, seat_is}
+use Rattle.mk_run.proofs.{ScriptCalls.then_seen, scripts.run_script.Goals.{In-None, In-Some, Joined-answer_at_once}}
+use Rattle.mk_run.{proofs.scripts.run_script.Goals.{in-None, in-Some-answer_at_once}, specs.Scripts.{script_of}}
 use Rattle.mk_cycle.proofs.Begun.{nothing_begun}
+use Rattle.mk_turns.proofs.Sweeping.{nothing_sweeps}
 use Rattle.mk_run.proofs.scripts.run_script.Goals as goal
 
 -- the script's next operation is admitted
@@ -30,19 +30,16 @@ answer_at_once-requires-clause-admitted g c =
 joined : (g : _) (c : Joined-answer_at_once g) → IsAnsweredAs g.E.Engine.on g.E.Engine.sweeps g.E.Engine.begins
     c.instructions.caller.pass c.in-Some.op c.match-answer_at_once.answer c.match-answer_at_once.caller
 joined g c =
-    let p = c.instructions.caller.pass in
     let q = c.answer_at_once.new.caller in
     let now = c.answer_at_once.ensures in
     elim c.match-answer_at_once.branch [
       | in-Some-answer_at_once w ↦
           rw (w.caller-is, w.answer-is)
-          (answered_at_once g.E.Engine.on g.E.Engine.sweeps g.E.Engine.begins p c.in-Some.op
-          w.in-Some-answer_at_once.answer q now.home w.in-Some-answer_at_once.ensures.answers now.beside now.reached)
+          (answered_at_once q now.home w.in-Some-answer_at_once.ensures.answers now.beside)
       | in-None w ↦
           let later = w.answer_put_off-answer in
-          rw (w.caller-is, w.answer-is) (answered_later g.E.Engine.on g.E.Engine.sweeps g.E.Engine.begins p c.in-Some.op
-          later.result q later.new.caller w.in-None.ensures.put_off now.beside now.reached later.ensures.home
-          later.ensures.answers later.ensures.reached later.ensures.begun)
+          rw (w.caller-is, w.answer-is) (answered_later q later.new.caller w.in-None.ensures.put_off now.beside
+          later.ensures.home later.ensures.answers later.ensures.keeps)
     ]
 
 -- what the pass is when an operation was put off
@@ -104,8 +101,7 @@ instructions-preserved g c =
         | in-None w ↦ cc (w.engine-is, w.answer_put_off-answer.ensures.made_for, c.instructions.invariant.made_for)
       ];
       refused = refused_within on.fed;
-      reached = λ none. sweeps_then p q r run.is (c.instructions.invariant.reached none) (j.reached none);
-      begun = begun_then g.E.Engine.begins p q r run.is c.instructions.invariant.begun j.begun;
+      keeps = keeps_then run.is c.instructions.invariant.keeps j.keeps;
     }
 
 pub returns-in_err-take_answer : goal.returns-in_err-take_answer
@@ -126,8 +122,7 @@ returns-in_err-take_answer g c =
           c.in-Some.op (sym (c.in-Some.ensures.next program k _ run.fed.feed)) j.answers;
       ends = search rules;
       text = search rules;
-      reached = λ none. sweeps_then p q r run.is (c.instructions.invariant.reached none) (j.reached none);
-      begun = begun_then g.E.Engine.begins p q r run.is c.instructions.invariant.begun j.begun;
+      keeps = keeps_then run.is c.instructions.invariant.keeps j.keeps;
     }
 
 pub instructions-init : goal.instructions-init

@@ -1,5 +1,5 @@
-use Rattle.mk_laws.proofs.Vocabulary.{false, true, ◌-◌, ◌≡◌, ◌≤◌}
-use Rattle.mk_run.{proofs.Vocabulary.{EachIsBegun, SweepsNothing}, specs.Scripts.{IsRunning, script_of}}
+use Rattle.mk_laws.proofs.Vocabulary.{true, ◌-◌, ◌≡◌, ◌≤◌}
+use Rattle.mk_run.{proofs.Vocabulary.{PassKeeps}, specs.Scripts.{IsRunning, script_of}}
 use Rattle.mk_run.proofs.scripts.run_script.Given as goal
 
 abbrev pub invariant-instructions : goal.invariant-instructions
@@ -8,8 +8,7 @@ invariant-instructions g l = record {
   running : IsRunning g.E.Engine.on l.fn.program l.fn.k l.fn.caller.pass l.caller.pass (script_of l.feed l.counts);
   made_for : g.E.Engine.made_for l.engine ≡ g.E.Engine.made_for l.fn.ready.engine;
   refused : l.counts.refused ≤ l.counts.ops;
-  reached : g.E.Engine.sweeps ≡ false → SweepsNothing l.fn.caller.pass l.caller.pass;
-  begun : EachIsBegun g.E.Engine.begins l.fn.caller.pass l.caller.pass;
+  keeps : PassKeeps g.E.Engine.sweeps g.E.Engine.begins l.fn.caller.pass l.caller.pass;
 }
 
 abbrev pub decreases-instructions : goal.decreases-instructions

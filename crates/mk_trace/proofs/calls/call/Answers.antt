@@ -1,6 +1,6 @@
-use Rattle.mk_trace.proofs.{Vocabulary.{HostState, PassState}, FreedCalls.{Does, call_does}}
+use Rattle.mk_trace.proofs.{Vocabulary.{HostState, PassState}, ExactPlays.call_stays_exact}
 use Rattle.mk_trace.proofs.OneCaller.{joined_home, made_admits, made_alone, made_exists, made_seats}
-use Rattle.mk_trace.proofs.{ExactPlays.call_stays_exact, JoinedCalls.Joined, calls.call.Goals.After-join_caller}
+use Rattle.mk_trace.proofs.{FreedCalls.call_does, JoinedCalls.Joined, calls.call.Goals.After-join_caller}
 use Rattle.mk_laws.proofs.Vocabulary.{ap, arith, ◌∙◌}
 use Rattle.mk_trace.proofs.calls.call.Goals as goal
 
@@ -42,30 +42,12 @@ joined g c = record {
       ∙ ap (λ (x : HostState). x.pass.table) c.caller_again-caller.ensures.host) at c.join_caller.ensures.history;
 }
 
-did : (g : _) (c : After-join_caller g) → Does g.E.Engine.on c.args.heap.now.config c.args.host.now.pass.seen c.args.op
-    c.answer_to-answer.result c.join_caller.new.self.pass.seen
-did g c = call_does c.args.heap.now c.requires.home (joined g c)
-
-pub returns-clause-calls : goal.returns-clause-calls
-returns-clause-calls g c = (did g (goal.at.returns-clause-calls g c).After-join_caller).calls
-
-pub returns-clause-held : goal.returns-clause-held
-returns-clause-held g c = (did g (goal.at.returns-clause-held g c).After-join_caller).held
-
-pub returns-clause-ends : goal.returns-clause-ends
-returns-clause-ends g c = (did g (goal.at.returns-clause-ends g c).After-join_caller).ends
-
-pub returns-clause-beside : goal.returns-clause-beside
-returns-clause-beside g c = (did g (goal.at.returns-clause-beside g c).After-join_caller).beside
-
-pub returns-clause-quarantines : goal.returns-clause-quarantines
-returns-clause-quarantines g c = (did g (goal.at.returns-clause-quarantines g c).After-join_caller).quarantines
-
-pub returns-clause-flags : goal.returns-clause-flags
-returns-clause-flags g c = (did g (goal.at.returns-clause-flags g c).After-join_caller).flags
+pub returns-clause-does : goal.returns-clause-does
+returns-clause-does g c =
+    call_does c.args.heap.now c.requires.home (joined g (goal.at.returns-clause-does g c).After-join_caller)
 
 pub returns-clause-exact : goal.returns-clause-exact
 returns-clause-exact g c =
     λ off unswept. rw c.requires.home.table at (call_stays_exact (joined g (goal.at.returns-clause-exact g
     c).After-join_caller) (rw c.caller_again-caller.ensures.caller.pass at
-    (c.answer_to-answer.ensures.reached unswept)) off)
+    (c.answer_to-answer.ensures.keeps.reached unswept)) off)

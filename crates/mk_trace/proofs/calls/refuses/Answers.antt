@@ -7,12 +7,8 @@ use Rattle.mk_trace.proofs.calls.refuses.Goals as goal
 
 pub loop-op-init : goal.loop-op-init
 loop-op-init g c = record {
-  home = c.answer.ensures.home;
-  idle = c.answer.ensures.idle;
-  made_for = c.answer.ensures.made_for;
-  held = c.in_ok-first.ensures.held;
+  between = c.in_ok-first.ensures.between;
   ends = (let first = c.in_ok-first.ensures.ends in omega (arith, first));
-  keeps = c.in_ok-first.ensures.keeps;
   exact = c.in_ok-first.ensures.exact;
   calls =
       called_first c.args.event c.is_full_answer.result c.is_refusal-refused.result c.deref-op-items.result.now
@@ -34,8 +30,8 @@ answer-requires-in-loop-op-clause-admitted g c κs within =
     let i = c.loop-op.op-index in
     let o : Op = get_or ops i (New 0 0 false) in
     let there = get_or_default ops i (New 0 0 false) o c.loop-op-test.true in
-    may_come_now c.args.heap.now.config c.args.host.now.pass.seen c.args.event ops i c.loop-op.refused
-    c.loop-op.host.pass.seen c.loop-op.invariant.calls o c.loop-op-test.true there c.requires.admitted
+    may_come_now c.args.heap.now.config c.args.player.now.host.pass.seen c.args.event ops i c.loop-op.refused
+    c.loop-op.player.host.pass.seen c.loop-op.invariant.calls o c.loop-op-test.true there c.requires.admitted
 
 pub answer-requires-in-loop-op-clause-few : goal.answer-requires-in-loop-op-clause-few
 answer-requires-in-loop-op-clause-few g c κs within =
@@ -56,16 +52,12 @@ loop-op-preserved g c =
     let o : Op = get_or ops i (New 0 0 false) in
     let there = get_or_default ops i (New 0 0 false) o c.loop-op-test.true in
     record {
-      home = c.answer-in-loop-op.ensures.home;
-      idle = c.answer-in-loop-op.ensures.idle;
-      made_for = c.answer-in-loop-op.ensures.made_for ∙ c.loop-op.invariant.made_for;
-      held = c.in_ok-later.ensures.held;
+      between = c.in_ok-later.ensures.between;
       ends = (let one = c.in_ok-later.ensures.ends in omega (arith, c.loop-op.invariant.ends, one));
-      keeps = c.in_ok-later.ensures.keeps;
       exact = λ before. c.in_ok-later.ensures.exact (c.loop-op.invariant.exact before);
       calls =
-          called_one_more _ _ _ ops i c.loop-op.refused c.loop-op.host.pass.seen c.loop-op.invariant.calls o
-          c.loop-op-test.true there c.in_ok-later.later c.answer-in-loop-op.new.host.pass.seen _
+          called_one_more _ _ _ ops i c.loop-op.refused c.loop-op.player.host.pass.seen c.loop-op.invariant.calls o
+          c.loop-op-test.true there c.in_ok-later.later c.answer-in-loop-op.new.player.host.pass.seen _
           c.in_ok-later.ensures.calls (ap (λ (b : Bool). c.loop-op.refused || b) c.is_refusal-also.ensures);
     }
 

@@ -3,7 +3,7 @@ use Rattle.mk_trace.proofs.{Vocabulary.{A, IsEventOf, IsPlayable}, FewEvents.few
 use Rattle.mk_trace.proofs.Played.{event_at, may_be_played, next_played, null_between, one_counted, played_all}
 use Rattle.mk_trace.proofs.{Played.{played_first, slot_is_global, still_few}, FreedSlots.frees_its_slot}
 use Rattle.mk_trace.proofs.{Playable.is_playable, playing.play_events.Goals.In-loop-event}
-use Rattle.mk_laws.proofs.Vocabulary.{arith, get_or, refl, ◌∙◌}
+use Rattle.mk_laws.proofs.Vocabulary.{arith, get_or, refl}
 use Rattle.mk_trace.proofs.playing.play_events.Goals as goal
 
 -- Before an event: the trace is playable, the event is one of its, and a history came before.
@@ -21,14 +21,10 @@ here g c =
 
 pub loop-event-init : goal.loop-event-init
 loop-event-init g c = record {
-  home = c.requires.home;
-  made_for = c.requires.made_for;
-  idle = c.requires.idle;
-  keeps = c.requires.keeps;
+  between = c.requires.between;
   exact = λ before. before;
-  held = c.requires.held;
   played =
-      played_first c.args.trace.now c.args.heap.now.config c.events-events.result.now c.args.host.now.pass.seen
+      played_first c.args.trace.now c.args.heap.now.config c.events-events.result.now c.args.player.now.host.pass.seen
       c.requires.config c.requires.no_call;
   ends = (let none = c.requires.none_ended in omega (arith, none));
   few = omega arith;
@@ -42,12 +38,13 @@ refuses-requires-clause-slot g c κs within =
 pub refuses-requires-clause-frees : goal.refuses-requires-clause-frees
 refuses-requires-clause-frees g c κs within =
     let x = (goal.at.refuses-requires-clause-frees g c).In-loop-event in
-    frees_its_slot c.loop-event.invariant.home.one c.loop-event.invariant.home.history _
+    frees_its_slot c.loop-event.invariant.between.home.one c.loop-event.invariant.between.home.history _
 
 pub refuses-requires-clause-admitted : goal.refuses-requires-clause-admitted
 refuses-requires-clause-admitted g c κs within =
     let x = (goal.at.refuses-requires-clause-admitted g c).In-loop-event in
-    may_be_played c.loop-event.host.pass.seen _ c.requires.config (playable g x) c.loop-event.invariant.home.history
+    may_be_played c.loop-event.player.host.pass.seen _ c.requires.config (playable g x)
+    c.loop-event.invariant.between.home.history
     (null_between c.args.heap.now.config c.requires.config c.loop-event.invariant.played) (here g x) refl
 
 pub refuses-requires-clause-few : goal.refuses-requires-clause-few
@@ -61,15 +58,11 @@ loop-event-preserved g c =
     let event = get_or events i (A 0) in
     let is_refused = c.in_ok-is_refused.is_refused in
     record {
-      home = c.refuses.ensures.home;
-      made_for = c.refuses.ensures.made_for ∙ c.loop-event.invariant.made_for;
-      idle = c.refuses.ensures.idle;
-      keeps = c.in_ok-is_refused.ensures.keeps;
+      between = c.in_ok-is_refused.ensures.between;
       exact = λ before'. c.in_ok-is_refused.ensures.exact (c.loop-event.invariant.exact before');
-      held = c.in_ok-is_refused.ensures.held;
       played =
           next_played events i c.with_refusal-refused.result c.requires.config (playable g x)
-          c.loop-event.invariant.home.history c.loop-event-test.true
+          c.loop-event.invariant.between.home.history c.loop-event-test.true
           (get_or_default events i (A 0) event c.loop-event-test.true)
           (here g x) c.loop-event.invariant.played c.in_ok-is_refused.ensures.plays
           (one_counted is_refused c.loop-event.refused c.with_refusal-refused.result c.with_refusal-refused.ensures);
