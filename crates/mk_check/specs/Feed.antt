@@ -182,8 +182,8 @@ scope_of program script = record {
   numbers = number_names script;
 }
 
--- a script before its first line: its eight number registers are 0, and one more, which stands for names that aren't
--- declared; and its name is printed
+-- a script before its first line: its name is printed, and its number registers are 0, as is the place after them,
+-- which a name that isn't declared has
 abbrev pub fed_before_lines : Scope → ScriptText → Fed
 fed_before_lines scope script =
     record {

@@ -1,8 +1,10 @@
 //! Rules for lines: what is wrong with each.
-ghost use Rattle.std.specs.{Prelude.{◌≡◌, ℕ, false, List, Some, is_some, option_map}, Option.option_copied};
+ghost use Rattle.std.specs.Prelude.{◌≡◌, ℕ, false, List, Some, is_some, option_map};
+ghost use Rattle.std.specs.Option.{option_copied, option_or};
 ghost use Rattle.mk_script.specs.{declared.items.Item.Item, Scopes.is_script};
-ghost use Rattle.mk_check.specs.{Lookups.around, Rules.{at_of, fault_of_sort, is_declaration, is_number_access}};
-ghost use Rattle.mk_check.specs.Rules.{is_pointer_access, is_pointer_line, is_number_line};
+ghost use Rattle.mk_script.specs.Sorts.{is_declaration, is_number_access, is_pointer_access, is_pointer_line};
+ghost use Rattle.mk_script.specs.Sorts.{is_number_line};
+ghost use Rattle.mk_check.specs.{Lookups.around, Rules.{at_of, fault_of_sort}};
 ghost use Rattle.mk_check.specs.Typing as rule;
 ghost use Rattle.mk_check.specs.declared.typing_faults.TypeKind.TheVariants as kind;
 
@@ -33,10 +35,12 @@ fn offset_fault(word: Option<&TypeWord>) -> Option<TypeKind>
     unless(word.is_some(), TypeKind::Offset)
 }
 
+/// A word inside its type that is a number.
 fn number_word_fault(word: Option<&TypeWord>) -> Option<TypeKind>
-    ensures { result ≡ rule.unless (rule.is_number_word (option_copied word.entry)) kind.Kind }
+    ensures { result ≡ option_or (rule.unless (is_some (option_copied word.entry)) kind.Offset)
+        (rule.unless (rule.is_number_word (option_copied word.entry)) kind.Kind) }
 {
-    unless(matches!(word, Some(TypeWord::Number)), TypeKind::Kind)
+    offset_fault(word).or(unless(matches!(word, Some(TypeWord::Number)), TypeKind::Kind))
 }
 
 impl<'a> Lookups<'a> {
@@ -148,11 +152,13 @@ impl<'a> Lookups<'a> {
         )
     }
 
+    /// A word inside its type that is a pointer to where the register is declared to point.
     fn pointer_word_fault(&self, word: Option<&TypeWord>, register: &Name) -> Option<TypeKind>
-        ensures { result ≡ rule.kind_fault (rule.pointed_place (option_copied word.entry))
-            (rule.pointer_at register.now (around self.now).script) }
+        ensures { result ≡ option_or (rule.unless (is_some (option_copied word.entry)) kind.Offset)
+            (rule.kind_fault (rule.pointed_place (option_copied word.entry))
+            (rule.pointer_at register.now (around self.now).script)) }
     {
-        kind_fault(pointed_place(word), self.declared_place(register))
+        offset_fault(word).or(kind_fault(pointed_place(word), self.declared_place(register)))
     }
 
     fn declaration_fault(&self, item: &Item) -> Option<TypeKind>
@@ -180,7 +186,6 @@ impl<'a> Lookups<'a> {
                 let word = self.word_behind(pointer, *index);
                 self.number_fault(number)
                     .or(self.pointer_fault(pointer))
-                    .or(offset_fault(word))
                     .or(number_word_fault(word))
             }
             Item::Setn {
@@ -191,13 +196,13 @@ impl<'a> Lookups<'a> {
                 let word = self.word_behind(pointer, *index);
                 self.pointer_fault(pointer)
                     .or(self.number_fault(number))
-                    .or(offset_fault(word))
                     .or(number_word_fault(word))
             }
             _ => None,
         }
     }
 
+    #[tactic(auto, using(crate::proofs::RuleLemmas::offset_once))]
     fn pointer_access_fault(&self, item: &Item) -> Option<TypeKind>
         ensures { result ≡ fault_of_sort is_pointer_access (around self.now) item.now }
     {
@@ -210,7 +215,6 @@ impl<'a> Lookups<'a> {
                 let word = self.word_behind(pointer, *index);
                 self.pointer_fault(loaded)
                     .or(self.pointer_fault(pointer))
-                    .or(offset_fault(word))
                     .or(self.pointer_word_fault(word, loaded))
             }
             Item::Setp {
@@ -221,7 +225,6 @@ impl<'a> Lookups<'a> {
                 let word = self.word_behind(pointer, *index);
                 self.pointer_fault(pointer)
                     .or(self.pointer_fault(stored))
-                    .or(offset_fault(word))
                     .or(self.pointer_word_fault(word, stored))
             }
             Item::Casp {
@@ -236,7 +239,6 @@ impl<'a> Lookups<'a> {
                     .or(self.pointer_fault(pointer))
                     .or(self.pointer_fault(expected))
                     .or(self.pointer_fault(stored))
-                    .or(offset_fault(word))
                     .or(self.pointer_word_fault(word, expected))
                     .or(self.pointer_word_fault(word, stored))
             }

@@ -8,6 +8,7 @@ pub mod Names
 pub mod Operands
 pub mod ScopeOf
 pub mod Scopes
+pub mod Sorts
 pub mod Spaced
 pub mod Stops
 pub mod Words

@@ -1,8 +1,7 @@
 -- A line's words as a text. Private functions alone cite these.
-use Rattle.std.specs.{Prelude.{ℕ, List, [], ◌∷◌, ◌++◌}, Fmt.decimal}
+use Rattle.std.specs.Prelude.{Bool, if◌then◌else◌, ℕ, List, [], ◌∷◌, ◌++◌, drop}
 use lib.Chars.{codes}
-use Rattle.mk_script.specs.{Canonical.at_text, declared.printing.Operand.Operand}
-use Rattle.mk_script.specs.declared.printing.Operand.TheVariants.{Name, Number, At}
+use Rattle.mk_script.specs.{Canonical.words_of_item, declared.items.Item.Item}
 
 -- words after another, each with a space before it
 abbrev pub spaced_words : List (List ℕ) → List ℕ
@@ -14,7 +13,6 @@ abbrev pub joined_words : List (List ℕ) → List ℕ
 joined_words [] = []
 joined_words (word ∷ words) = word ++ spaced_words words
 
-abbrev pub operand_text : Operand → List ℕ
-operand_text (Name name) = name.now
-operand_text (Number number) = decimal number
-operand_text (At at) = at_text at.now
+-- what stands after the first word of a line of some sort
+abbrev pub operands_of_sort : (Item → Bool) → Item → List ℕ
+operands_of_sort is_of_sort item = if is_of_sort item then spaced_words (drop 1 (words_of_item item)) else []

@@ -1,7 +1,9 @@
 //! The canonical text of a program.
-ghost use Rattle.std.specs.{Prelude.{◌≡◌, ◌++◌, [], ◌∷◌, IfOk, map, slice_index_or}, Fmt.decimal};
+ghost use Rattle.std.specs.{Prelude.{◌≡◌, ◌++◌, [], ◌∷◌, IfOk, slice_index_or}, Fmt.decimal};
 ghost use Rattle.mk_script.specs.Canonical.{at_text, numbers_before, fields_behind, words_of_item, line_text};
-ghost use Rattle.mk_script.specs.{Canonical.canonical_text, Spaced.{spaced_words, joined_words, operand_text}};
+ghost use Rattle.mk_script.specs.{Canonical.canonical_text, Spaced.{spaced_words, joined_words, operands_of_sort}};
+ghost use Rattle.mk_script.specs.Sorts.{is_declaration, is_number_access, is_pointer_access, is_pointer_line};
+ghost use Rattle.mk_script.specs.Sorts.{is_number_line};
 ghost use lib.Chars.{codes};
 
 use crate::{At, Item, Name, Program, TypeWord};
@@ -14,14 +16,6 @@ use std::marker::Model;
 #[derive(Drop)]
 struct Printer {
     text: Vec<u8>,
-}
-
-/// What stands after a line's first word.
-#[derive(Clone, Copy)]
-enum Operand<'a> {
-    Name(&'a Name),
-    Number(u64),
-    At(&'a At),
 }
 
 impl Model for Printer {
@@ -66,7 +60,7 @@ impl Printer {
     }
 
     /// Appends a place of a type.
-    fn place(self, at: &At) -> Result<Printer, NoMemory>
+    fn at(self, at: &At) -> Result<Printer, NoMemory>
         ensures { IfOk result (λ printer. printer ≡ self ++ at_text at.now) }
     {
         let named = self.piece(at.name.as_bytes())?;
@@ -83,16 +77,25 @@ impl Printer {
         self.space()?.piece(word)
     }
 
-    /// Appends an operand after another word.
-    fn operand(self, operand: &Operand) -> Result<Printer, NoMemory>
-        ensures { IfOk result (λ printer. printer ≡ self ++ (codes " " ++ operand_text operand.now)) }
+    /// Appends a name after another word.
+    fn name(self, name: &Name) -> Result<Printer, NoMemory>
+        ensures { IfOk result (λ printer. printer ≡ self ++ spaced_words (name.now ∷ [])) }
     {
-        let behind = self.space()?;
-        match operand {
-            Operand::Name(name) => behind.piece(name.as_bytes()),
-            Operand::Number(number) => behind.digits(*number),
-            Operand::At(at) => behind.place(at),
-        }
+        self.word(name.as_bytes())
+    }
+
+    /// Appends a number after another word.
+    fn number(self, number: u64) -> Result<Printer, NoMemory>
+        ensures { IfOk result (λ printer. printer ≡ self ++ spaced_words (decimal number ∷ [])) }
+    {
+        self.space()?.digits(number)
+    }
+
+    /// Appends a place of a type after another word.
+    fn place(self, at: &At) -> Result<Printer, NoMemory>
+        ensures { IfOk result (λ printer. printer ≡ self ++ spaced_words (at_text at.now ∷ [])) }
+    {
+        self.space()?.at(at)
     }
 
     /// Appends the field of this many neighbouring numbers, if there are any.
@@ -116,7 +119,7 @@ impl Printer {
             match word {
                 TypeWord::Number => count += 1,
                 TypeWord::Pointer(at) => {
-                    printer = printer.numbers(count)?.word(b"p:")?.place(at)?;
+                    printer = printer.numbers(count)?.word(b"p:")?.at(at)?;
                     count = 0;
                 }
             }
@@ -124,157 +127,128 @@ impl Printer {
         printer.numbers(count)
     }
 
-    /// Appends operands after another word.
-    fn operands(self, operands: &[Operand]) -> Result<Printer, NoMemory>
-        ensures { IfOk result (λ printer. printer ≡ self ++ spaced_words (map operand_text operands.now)) }
+    /// Appends the operands of a declaration, and of another line nothing.
+    fn declaration(self, item: &Item) -> Result<Printer, NoMemory>
+        ensures { IfOk result (λ printer. printer ≡ self ++ operands_of_sort is_declaration item.now) }
     {
-        let mut printer = self;
-        for operand in operands {
-            printer = printer.operand(operand)?;
-        }
-        Ok(printer)
-    }
-
-    /// Appends a line's first word, and operands after it.
-    fn line_words(self, keyword: &[u8], operands: &[Operand]) -> Result<Printer, NoMemory>
-        ensures { IfOk result (λ printer. printer ≡ self ++ joined_words
-            (keyword.now ∷ map operand_text operands.now)) }
-    {
-        self.piece(keyword)?.operands(operands)
-    }
-
-    /// Appends the words of a line.
-    fn words(self, item: &Item) -> Result<Printer, NoMemory>
-        ensures { IfOk result (λ printer. printer ≡ self ++ joined_words (words_of_item item.now)) }
-    {
-        let keyword = first_word(item);
         match item {
-            Item::TypeLine { name, words } => self
-                .line_words(keyword, &[Operand::Name(name)])?
-                .fields(words.as_slice()),
-            Item::Else | Item::End => self.line_words(keyword, &[]),
-            Item::Repeat { rounds } => self.line_words(keyword, &[Operand::Number(*rounds)]),
-            Item::Script { name: only }
-            | Item::Num { name: only }
-            | Item::Free { pointer: only }
-            | Item::Clear { pointer: only }
-            | Item::Show { pointer: only }
-            | Item::Print { number: only }
-            | Item::If { number: only } => self.line_words(keyword, &[Operand::Name(only)]),
-            Item::Heap { pages, resident } => self.line_words(
-                keyword,
-                &[Operand::Number(*pages), Operand::Number(*resident)],
-            ),
-            Item::Ptr { name, at } => self.line_words(
-                keyword,
-                &[Operand::Name(name), Operand::At(at)],
-            ),
-            Item::Const { number, value } => self.line_words(
-                keyword,
-                &[Operand::Name(number), Operand::Number(*value)],
-            ),
-            Item::Global {
-                name: first,
-                ty: second,
-            }
-            | Item::New {
-                pointer: first,
-                ty: second,
-            }
-            | Item::Move {
-                copied: first,
-                pointer: second,
-            }
-            | Item::Loadg {
-                loaded: first,
-                global: second,
-            }
-            | Item::Storeg {
-                stored: first,
-                global: second,
-            }
-            | Item::Isnull {
-                number: first,
-                pointer: second,
-            } => self.line_words(keyword, &[Operand::Name(first), Operand::Name(second)]),
+            Item::Heap { pages, resident } => self.number(*pages)?.number(*resident),
+            Item::TypeLine { name, words } => self.name(name)?.fields(words.as_slice()),
+            Item::Global { name, ty } => self.name(name)?.name(ty),
+            Item::Ptr { name, at } => self.name(name)?.place(at),
+            Item::Script { name } | Item::Num { name } => self.name(name),
+            _ => Ok(self),
+        }
+    }
+
+    /// The same of a line that reads or writes a number after a pointer.
+    fn number_access(self, item: &Item) -> Result<Printer, NoMemory>
+        ensures { IfOk result (λ printer. printer ≡ self ++ operands_of_sort is_number_access item.now) }
+    {
+        match item {
             Item::Getn {
-                number: first,
+                number,
                 pointer,
                 index,
-            }
-            | Item::Getp {
-                loaded: first,
-                pointer,
-                index,
-            }
-            | Item::Lea {
-                moved: first,
-                pointer,
-                index,
-            } => self.line_words(
-                keyword,
-                &[
-                    Operand::Name(first),
-                    Operand::Name(pointer),
-                    Operand::Number(*index),
-                ],
-            ),
+            } => self.name(number)?.name(pointer)?.number(*index),
             Item::Setn {
                 pointer,
                 index,
-                number: last,
-            }
-            | Item::Setp {
+                number,
+            } => self.name(pointer)?.number(*index)?.name(number),
+            _ => Ok(self),
+        }
+    }
+
+    /// The same of a line that reads or writes a pointer there.
+    fn pointer_access(self, item: &Item) -> Result<Printer, NoMemory>
+        ensures { IfOk result (λ printer. printer ≡ self ++ operands_of_sort is_pointer_access item.now) }
+    {
+        match item {
+            Item::Getp {
+                loaded,
                 pointer,
                 index,
-                stored: last,
-            } => self.line_words(
-                keyword,
-                &[
-                    Operand::Name(pointer),
-                    Operand::Number(*index),
-                    Operand::Name(last),
-                ],
-            ),
-            Item::Same {
-                number,
-                first,
-                second,
-            }
-            | Item::Add {
-                number,
-                left: first,
-                right: second,
-            }
-            | Item::Sub {
-                number,
-                left: first,
-                right: second,
-            } => self.line_words(
-                keyword,
-                &[
-                    Operand::Name(number),
-                    Operand::Name(first),
-                    Operand::Name(second),
-                ],
-            ),
+            } => self.name(loaded)?.name(pointer)?.number(*index),
+            Item::Setp {
+                pointer,
+                index,
+                stored,
+            } => self.name(pointer)?.number(*index)?.name(stored),
             Item::Casp {
                 number,
                 pointer,
                 index,
                 expected,
                 stored,
-            } => self.line_words(
-                keyword,
-                &[
-                    Operand::Name(number),
-                    Operand::Name(pointer),
-                    Operand::Number(*index),
-                    Operand::Name(expected),
-                    Operand::Name(stored),
-                ],
-            ),
+            } => self
+                .name(number)?
+                .name(pointer)?
+                .number(*index)?
+                .name(expected)?
+                .name(stored),
+            _ => Ok(self),
         }
+    }
+
+    /// The same of another line that changes a pointer register, a global or the heap.
+    fn pointer_line(self, item: &Item) -> Result<Printer, NoMemory>
+        ensures { IfOk result (λ printer. printer ≡ self ++ operands_of_sort is_pointer_line item.now) }
+    {
+        match item {
+            Item::New { pointer, ty } => self.name(pointer)?.name(ty),
+            Item::Free { pointer } | Item::Clear { pointer } => self.name(pointer),
+            Item::Lea {
+                moved,
+                pointer,
+                index,
+            } => self.name(moved)?.name(pointer)?.number(*index),
+            Item::Move { copied, pointer } => self.name(copied)?.name(pointer),
+            Item::Loadg { loaded, global } => self.name(loaded)?.name(global),
+            Item::Storeg { stored, global } => self.name(stored)?.name(global),
+            _ => Ok(self),
+        }
+    }
+
+    /// The same of another line that has a number or reads registers.
+    fn number_line(self, item: &Item) -> Result<Printer, NoMemory>
+        ensures { IfOk result (λ printer. printer ≡ self ++ operands_of_sort is_number_line item.now) }
+    {
+        match item {
+            Item::Same {
+                number,
+                first,
+                second,
+            } => self.name(number)?.name(first)?.name(second),
+            Item::Add {
+                number,
+                left,
+                right,
+            }
+            | Item::Sub {
+                number,
+                left,
+                right,
+            } => self.name(number)?.name(left)?.name(right),
+            Item::Isnull { number, pointer } => self.name(number)?.name(pointer),
+            Item::Const { number, value } => self.name(number)?.number(*value),
+            Item::Print { number } | Item::If { number } => self.name(number),
+            Item::Show { pointer } => self.name(pointer),
+            Item::Repeat { rounds } => self.number(*rounds),
+            _ => Ok(self),
+        }
+    }
+
+    /// Appends the words of a line.
+    fn words(self, item: &Item) -> Result<Printer, NoMemory>
+        ensures { IfOk result (λ printer. printer ≡ self ++ joined_words (words_of_item item.now)) }
+    {
+        self.piece(first_word(item))?
+            .declaration(item)?
+            .number_access(item)?
+            .pointer_access(item)?
+            .pointer_line(item)?
+            .number_line(item)
     }
 
     /// Appends a newline.

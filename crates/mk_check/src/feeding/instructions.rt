@@ -2,8 +2,8 @@
 
 use std::marker::Model;
 
-/// A script has eight number registers. One more stands for each name that isn't declared, and no checked script has
-/// one.
+/// A script has at most eight number registers. A name that isn't declared has the place after the declared ones, so
+/// there is one place more. No checked script has such a name.
 pub const NUMBER_REGISTERS: usize = 9;
 
 /// A number register, by its place among them.
