@@ -57,25 +57,9 @@ fn make(core: &mut Core, seat: Seat, steps: &[Step]) -> Result<Option<Answer>, N
     Ok(last)
 }
 
-/// Two objects of half a page are made, and both are freed, the second after the `begin` of the first one's free. The
-/// host ends that cycle, which gives the first one back, and only that. A third object stands where the first one was.
-#[test]
-fn what_is_freed_behind_the_begin_stays(rt: HostRuntime) -> Result<(), Fail> {
-    let mut types = TypeTable::new(rt.alloc());
-    types
-        .add(Vec::from_elem(rt.alloc(), Kind::Num, 32)?)
-        .expect(&rt, "memory");
-    let config = Config {
-        pages: 1,
-        resident: 1,
-        callers: 1,
-        markers: 0,
-        types,
-        globals: GlobalTable::new(rt.alloc()),
-    };
-    let mut core = Core::start(rt.alloc(), &config).expect(&rt, "memory");
-    let caller = Seat::Caller(0);
-    let made = [
+/// Two objects are made.
+fn two_made() -> [Step; 11] {
+    [
         new(0),
         head(125),
         used(1),
@@ -87,9 +71,12 @@ fn what_is_freed_behind_the_begin_stays(rt: HostRuntime) -> Result<(), Fail> {
         Step::Grant,
         held(64),
         Step::Give,
-    ];
-    assert_eq!(rt; make(&mut core, caller, &made), Ok(Some(Answer::Done)));
-    let freed = [
+    ]
+}
+
+/// Both are freed, the second after the `begin` of the first one's free.
+fn both_freed() -> [Step; 11] {
+    [
         free(0),
         Step::Reg,
         quar(1),
@@ -101,39 +88,47 @@ fn what_is_freed_behind_the_begin_stays(rt: HostRuntime) -> Result<(), Fail> {
         quar(4_294_967_299),
         fresh(32),
         Step::Give,
-    ];
-    assert_eq!(rt; make(&mut core, caller, &freed), Ok(Some(Answer::Done)));
-    let cleared = [
+    ]
+}
+
+/// The registers are null again.
+fn registers_cleared() -> [Step; 6] {
+    [
         Step::Enter(Op::Clear { d: 0 }),
         Step::Reg,
         Step::Leave,
         Step::Enter(Op::Clear { d: 1 }),
         Step::Reg,
         Step::Leave,
-    ];
-    assert_eq!(rt; make(&mut core, caller, &cleared), Ok(Some(Answer::Done)));
+    ]
+}
 
-    let closed = [
+/// The host closes the cycle.
+fn cycle_closed() -> [Step; 5] {
+    [
         Step::Take(None),
         Step::Hold(0),
         Step::Want,
         Step::Close,
         Step::Release,
-    ];
-    assert_eq!(rt; make(&mut core, Seat::Host, &closed), Ok(None));
-    let both = make(&mut core, Seat::Host, &[used(0)]);
-    assert_eq!(rt; both, Err(NotEnabled { condition: 7 }));
-    let ended = [
+    ]
+}
+
+/// It gives the first object back, and only that.
+fn first_given_back() -> [Step; 6] {
+    [
         used(2),
         quar(2),
         held(32),
         Step::End,
         Step::Open(0),
         Step::Give,
-    ];
-    assert_eq!(rt; make(&mut core, Seat::Host, &ended), Ok(None));
+    ]
+}
 
-    let third = [
+/// A third object is made, after a cycle that gives the second one back.
+fn third_made() -> [Step; 17] {
+    [
         new(2),
         quar(8_589_934_594),
         fresh(0),
@@ -151,8 +146,47 @@ fn what_is_freed_behind_the_begin_stays(rt: HostRuntime) -> Result<(), Fail> {
         Step::Grant,
         held(32),
         Step::Give,
-    ];
-    assert_eq!(rt; make(&mut core, caller, &third), Ok(Some(Answer::Done)));
+    ]
+}
+
+/// What was freed before the `begin` is given back in that cycle, and what was freed after it stays. A third object
+/// stands where the first one was.
+#[test]
+fn what_is_freed_after_the_begin_stays(rt: HostRuntime) -> Result<(), Fail> {
+    let mut types = TypeTable::new(rt.alloc());
+    types
+        .add(Vec::from_elem(rt.alloc(), Kind::Num, 32)?)
+        .expect(&rt, "memory");
+    let config = Config {
+        pages: 1,
+        resident: 1,
+        callers: 1,
+        markers: 0,
+        types,
+        globals: GlobalTable::new(rt.alloc()),
+    };
+    let mut core = Core::start(rt.alloc(), &config).expect(&rt, "memory");
+    let caller = Seat::Caller(0);
+    assert_eq!(rt;
+        make(&mut core, caller, &two_made()),
+        Ok(Some(Answer::Done))
+    );
+    assert_eq!(rt;
+        make(&mut core, caller, &both_freed()),
+        Ok(Some(Answer::Done))
+    );
+    assert_eq!(rt;
+        make(&mut core, caller, &registers_cleared()),
+        Ok(Some(Answer::Done))
+    );
+    assert_eq!(rt; make(&mut core, Seat::Host, &cycle_closed()), Ok(None));
+    let both = make(&mut core, Seat::Host, &[used(0)]);
+    assert_eq!(rt; both, Err(NotEnabled { condition: 7 }));
+    assert_eq!(rt; make(&mut core, Seat::Host, &first_given_back()), Ok(None));
+    assert_eq!(rt;
+        make(&mut core, caller, &third_made()),
+        Ok(Some(Answer::Done))
+    );
     let shown = [Step::Enter(Op::IsNull { p: 2 }), Step::Reg, Step::Leave];
     assert_eq!(rt; make(&mut core, caller, &shown), Ok(Some(Answer::Num(0))));
     Ok(())

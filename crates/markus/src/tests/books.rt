@@ -26,11 +26,15 @@ const FRAGMENTED: [Page; 6] = [
     FREE_PAGE,
 ];
 
-/// A run of a page whose storage isn't mapped.
-const UNMAPPED: Page = Page {
-    header: 11 + 16,
-    used: 1,
-};
+/// A run of a page whose storage isn't mapped, and two free pages.
+const AFTER_UNMAPPED: [Page; 3] = [
+    Page {
+        header: 11 + 16,
+        used: 1,
+    },
+    FREE_PAGE,
+    FREE_PAGE,
+];
 
 fn cell(page: u64, index: u64) -> Option<Place> {
     Some(Place {
@@ -49,7 +53,7 @@ fn carved(page: u64) -> Option<Place> {
 }
 
 #[test]
-fn books_are_those_of_the_pages(rt: HostRuntime) {
+fn the_first_place_that_fits_is_found(rt: HostRuntime) {
     for (limit, words, leaf, expected) in [
         (6, 32, false, cell(2, 0)),
         (6, 32, true, cell(1, 1)),
@@ -66,9 +70,11 @@ fn books_are_those_of_the_pages(rt: HostRuntime) {
             "{words} words, limit {limit}"
         );
     }
-    let behind = [UNMAPPED, FREE_PAGE, FREE_PAGE];
-    assert_eq!(rt; first_fit(&behind, 2, 65, true), carved(1));
+    assert_eq!(rt; first_fit(&AFTER_UNMAPPED, 2, 65, true), carved(1));
+}
 
+#[test]
+fn books_are_those_of_the_pages(rt: HostRuntime) {
     let mut free_cells = [0; 16];
     free_cells[7] = 1;
     free_cells[15] = 1;
@@ -80,11 +86,14 @@ fn books_are_those_of_the_pages(rt: HostRuntime) {
     };
     assert_eq!(rt; census(&FRAGMENTED), expected);
     assert_eq!(rt; free_pages(&FRAGMENTED), 2);
-    assert_eq!(rt; census(&behind).resident, 0);
-    assert_eq!(rt; census(&behind).longest_range, 2);
+    assert_eq!(rt; census(&AFTER_UNMAPPED).resident, 0);
+    assert_eq!(rt; census(&AFTER_UNMAPPED).longest_range, 2);
     assert_eq!(rt; held_by_pages(&FRAGMENTED), 64 + 32 + 32 + 64);
-    assert_eq!(rt; held_by_pages(&behind), 0);
+    assert_eq!(rt; held_by_pages(&AFTER_UNMAPPED), 0);
+}
 
+#[test]
+fn a_cycle_is_due_by_what_is_fresh_and_held(rt: HostRuntime) {
     for (fresh, held, expected) in [
         (16, 64, false),
         (18, 64, true),
@@ -93,5 +102,9 @@ fn books_are_those_of_the_pages(rt: HostRuntime) {
     ] {
         assert_eq!(rt; due(fresh, held), expected, "{fresh} of {held}");
     }
+}
+
+#[test]
+fn marked_cells_are_not_given_back(rt: HostRuntime) {
     assert_eq!(rt; freeable(0b111, 0b11 << 32, 0b01), 0b10);
 }
