@@ -1,16 +1,18 @@
 -- A Free is decided, and parts of its turn come before that and after it.
 use Rattle.mk_laws.proofs.Vocabulary.{Answer, Bool, Cell, Flight, Holding, List, Page, PlacedAllocation, RunPages, Seat}
-use Rattle.mk_laws.proofs.Vocabulary.{Some, Steady, Step, Tally, Words, World, ℕ, all_below-at, ap, arith, cond}
-use Rattle.mk_laws.proofs.Vocabulary.{flight_of, freed_released, freed_where_it_stands, is_held, map, not, refl, sym}
-use Rattle.mk_laws.proofs.Vocabulary.{true, [], ◌+◌, ◌↔◌, ◌∙◌, ◌∷◌, ◌≡◌}
+use Rattle.mk_laws.proofs.Vocabulary.{Some, Steady, Step, Tally, Words, World, ℕ, all_below-at, ap, arith, cond, false}
+use Rattle.mk_laws.proofs.Vocabulary.{flight_of, free_page, freed_released, freed_where_it_stands, header_in, header_of}
+use Rattle.mk_laws.proofs.Vocabulary.{heads_run, is_held, map, not, refl, slice_index_or, sym, true, [], ◌+◌, ◌↔◌, ◌∙◌}
+use Rattle.mk_laws.proofs.Vocabulary.{◌∷◌, ◌≡◌}
 use Rattle.mk_objects.proofs.Vocabulary.{Changes, ComesTo, FreesCell, HasFreed, IsOverQuarter, IsTrue, IsTurn}
 use Rattle.mk_objects.proofs.Vocabulary.{OnlyLooks, PassState, SetsGates, SetsTally, StaysSo, Unmaps, Wipes, WordsState}
-use Rattle.mk_objects.proofs.Vocabulary.{all_below_from, entry_for, is_clearing, is_following, is_freeing, is_look}
-use Rattle.mk_objects.proofs.Vocabulary.{is_settling, none_is_held, now_of, steady_of, sum_by-cons, world_of}
-use Rattle.mk_core.specs.Counts.{releases}
-use Rattle.mk_objects.proofs.JoinedLooks.{AreAmong, reached_world, reaches_after, reaches_answered, reaches_so}
+use Rattle.mk_objects.proofs.Vocabulary.{all_below_from, does_then, entry_for, is_clearing, is_counting, is_following}
+use Rattle.mk_objects.proofs.Vocabulary.{is_freeing, is_look, is_tallying, none_is_held, now_of, steady_of, sum_by-cons}
+use Rattle.mk_objects.proofs.{Vocabulary.world_of, JoinedLooks.{AreAmong, reached_world, reaches_after}}
+use Rattle.mk_objects.proofs.JoinedLooks.{reaches_answered, reaches_so, reaches_wider}
 use Rattle.mk_objects.proofs.FreedOnce.{FreesNot, once_behind}
-use Rattle.mk_objects.specs.{Deciding.IsDecidedAt, Deciding.counted, FreeParts.IsButGates}
+use Rattle.mk_core.specs.Counts.{releases}
+use Rattle.mk_objects.specs.{Deciding.{IsDecidedAt, counted}, FreeParts.IsButGates}
 
 -- What stays over each part.
 
@@ -47,10 +49,10 @@ wipes_stay a = reaches_so a (λ at. changes_stay at.changes refl refl refl)
 pub unmaps_stay : {p q : PassState} {run : RunPages} → Unmaps p run q → Stays is_clearing p q
 unmaps_stay a = reaches_so a (λ at. changes_stay at.changes refl refl refl)
 
-pub fresh_stays : {p q : PassState} {n : ℕ} → SetsTally p Tally.Fresh n q → Stays is_settling p q
+pub fresh_stays : {p q : PassState} {n : ℕ} → SetsTally p Tally.Fresh n q → Stays is_tallying p q
 fresh_stays a = reaches_so a (λ at. changes_stay at refl refl refl)
 
-pub held_stays : {p q : PassState} {n : ℕ} → SetsTally p Tally.Held n q → Stays is_settling p q
+pub held_stays : {p q : PassState} {n : ℕ} → SetsTally p Tally.Held n q → Stays is_tallying p q
 held_stays a = reaches_so a (λ at. changes_stay at refl refl refl)
 
 pub stays_then : {one two kinds : Step → Bool} → AreAmong one kinds → AreAmong two kinds → {p q r : PassState}
@@ -83,7 +85,7 @@ abbrev pub Decides : (Step → Bool) → PassState → Answer → PassState → 
 Decides kinds p a q = ComesTo kinds p (IsDecidedAt p.seat (world_of p)) (entry_for p a) q
 
 pub freed_decides : {p q : PassState} {cell : Cell} → HasFreed p cell q → Decides is_freeing p Answer.Done q
-freed_decides a = grind (arith, reaches_so, freed_releases)
+freed_decides a = reaches_wider (λ x h. grind arith) (reaches_so a (λ at. grind (arith, freed_releases)))
 
 -- what follows leaves it decided,
 
@@ -144,14 +146,18 @@ module _ {kinds : Step → Bool} {p q : PassState} (a : Prepares kinds p q) wher
   so : Stays kinds p q
   so = reaches_so a (λ at. stays_by _ _ _ (λ x. x) at.call at.holding at.steady refl refl refl)
 
-  pub frees_behind : {r : PassState} {cell : Cell} {due : Bool} → AreAmong kinds is_freeing → FreesNot kinds
+  pub frees_behind : {r : PassState} {cell : Cell} {due : Bool} → AreAmong kinds is_freeing
+      → (heads_run (header_in (now_of p).words cell.page) ≡ false → AreAmong kinds is_counting) → FreesNot kinds
       → IsTurn p → IsTurn q → FreesCell q cell due r → FreesCell p cell due r
-  frees_behind {r} {cell} {due} among not turn behind f = record {
+  frees_behind {r} {cell} {due} among among_small not turn behind f = record {
     reaches = decides_behind among so f.reaches;
     allocations = f.allocations ∙ ap (λ (ps : List Page). map (freed_where_it_stands
         (record (now_of q).words { pages = ps }) (Some cell)) (world_of q).allocations)
         (ap (λ (x : Steady). x.pages) now.steady) ∙ ap (λ (xs : List PlacedAllocation). map
         (freed_where_it_stands (now_of p).words (Some cell)) xs) (ap (λ (x : Steady). x.allocations) now.steady);
+    small = λ no_run. does_then is_counting p q r (reaches_wider (among_small no_run) a).does
+        (f.small (ap (λ (x : Steady). heads_run (header_of (slice_index_or x.pages cell.page free_page).header))
+        now.steady ∙ no_run));
     once = once_behind not a.does turn behind f.once;
     gone = f.gone;
     gates = rw prepared_table f.gates;

@@ -1,15 +1,15 @@
 -- A large object is freed and counted, while all others are stopped.
 use Rattle.mk_laws.proofs.Vocabulary.{Bool, Cell, Header, None, Option, RunPages, Some, Steady, Tally, ℕ, ap, arith}
 use Rattle.mk_laws.proofs.Vocabulary.{false, freed_where_it_stands, fresh_words_of, header_in, heads_run, if◌then◌else◌}
-use Rattle.mk_laws.proofs.Vocabulary.{in_a_word, is_held, map, run_headed, subst, sym, true, words_under, ◌*◌, ◌+◌, ◌<◌}
-use Rattle.mk_laws.proofs.Vocabulary.{◌^◌, ◌↔◌, ◌∙◌, ◌≡◌}
+use Rattle.mk_laws.proofs.Vocabulary.{in_a_word, is_held, map, run_headed, subst, sym, true, true≢false, words_under}
+use Rattle.mk_laws.proofs.Vocabulary.{◌*◌, ◌+◌, ◌<◌, ◌^◌, ◌↔◌, ◌∙◌, ◌≡◌}
 use Rattle.mk_objects.proofs.Vocabulary.{Changes, FreesCell, FreesOnce, HasFreed, IsFreedAt, IsTrue, IsTurn, MayFree}
 use Rattle.mk_objects.proofs.Vocabulary.{OnlyLooks, PassState, SetsTally, StaysSo, held_by_allocations, is_following}
-use Rattle.mk_objects.proofs.{Vocabulary.{now_of, with_tally, world_of}, ClearedRuns.{IsGoneIn, still_gone}}
-use Rattle.mk_objects.proofs.DecidedFrees.{Stays, held_stays, stays_now, stays_then}
-use Rattle.mk_objects.proofs.FreedObjects.{HasRun, IsObjectAt, its_freed, its_run, large_held, object_at, own}
-use Rattle.mk_objects.proofs.SmallFrees.{freed_now, frees_counted, fresh_told_by, tally_between}
-use Rattle.mk_objects.proofs.{JoinedLooks.{reached_table, reached_world}, Serves.out_of_stop}
+use Rattle.mk_objects.proofs.{Vocabulary.{now_of, with_tally, world_of}, DecidedFrees.{Stays, held_stays, stays_now}}
+use Rattle.mk_objects.proofs.{DecidedFrees.stays_then, FreedObjects.{HasRun, IsObjectAt, its_freed, its_run}}
+use Rattle.mk_objects.proofs.{FreedObjects.{large_held, object_at, own}, JoinedLooks.{reached_table, reached_world}}
+use Rattle.mk_objects.proofs.{JoinedLooks.reaches_wider, SmallFrees.{freed_now, frees_counted, fresh_told_by}}
+use Rattle.mk_objects.proofs.{SmallFrees.tally_between, ClearedRuns.{IsGoneIn, still_gone}, Serves.out_of_stop}
 use Rattle.mk_objects.specs.{Deciding.ClearsRun, Unmapping.{IsStillMapped, MayUnmap}}
 
 -- what heads a run
@@ -20,6 +20,9 @@ pub record HeadsRun (x : Option Header) (count : ℕ) : Type 0 where
 same_count : (page n count : ℕ) → ◌≡◌ {A = Option RunPages} (Some (record { page = page; count = n }))
     (Some (record { page = page; count = count })) → n ≡ count
 same_count page n count is = grind arith
+
+pub heads_some : (x : Option Header) (page : ℕ) (run : RunPages) → run_headed x page ≡ Some run → heads_run x ≡ true
+heads_some x0 page run is = grind arith
 
 -- and what heads none
 pub heads_none : (x : Option Header) (page : ℕ) → run_headed x page ≡ None → heads_run x ≡ false
@@ -97,5 +100,7 @@ module _ {p : PassState} {reg u : ℕ} {cell : Cell} (count : ℕ) (may : MayFre
         pub frees_large : FreesCell p cell due r
         frees_large =
             frees_counted due freed follows once behind last (subst (λ (x : PassState). IsGoneIn (world_of x))
-            (sym sets.same) (still_gone sets.does cleared last clears.gone)) none_held_now
+            (sym sets.same)
+            (still_gone (reaches_wider (λ x h. grind arith) sets).does cleared last clears.gone)) none_held_now
             (sym (ap (λ (x : Steady). x.held) changed.steady)) found held_exact (found ∙ fresh_exact) fits is_due
+            (λ no_run. absurd (true≢false (sym heads.heads ∙ no_run)))

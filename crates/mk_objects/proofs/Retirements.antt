@@ -1,23 +1,25 @@
 -- A Free's whole turn: its register was null, or its object was freed, or found freed.
 use Rattle.mk_laws.proofs.Vocabulary.{Answer, Bool, Cell, Flight, List, Null, PlacedAllocation, Ptr, Seat, Some, Stage}
 use Rattle.mk_laws.proofs.Vocabulary.{Steady, Step, Value, World, ℕ, allocation_at, ap, arith, false, flight_of}
-use Rattle.mk_laws.proofs.Vocabulary.{freed_where_it_stands, has_bit, if◌then◌else◌, is_freed, is_held, is_run_gone}
-use Rattle.mk_laws.proofs.Vocabulary.{length, map, never_behind, nothing_done, quarantine_word, refl, slice_index}
-use Rattle.mk_laws.proofs.Vocabulary.{subst, sym, target, true, true≢false, [], ◌%◌, ◌<◌, ◌==◌, ◌^◌, ◌∙◌, ◌≡◌}
-use Rattle.mk_objects.proofs.Vocabulary.{CallIsAt, ComesTo, FreesCell, IsAsLeft, IsBase, IsFreeAt, IsOutOfStop, IsTurn}
-use Rattle.mk_objects.proofs.Vocabulary.{MayFree, OnlyLooks, PassState, WordsState, all_below_from, call_of, entry_for}
-use Rattle.mk_objects.proofs.Vocabulary.{histories_keep_the_invariant, is_freeing, is_loading, loaded_free}
-use Rattle.mk_objects.proofs.{Vocabulary.{none_is_held, now_of, value_of, world_of}, DecidedFrees.{Decides, Prepares}}
-use Rattle.mk_objects.proofs.DecidedFrees.{decided_behind, prepared_table, still_open}
+use Rattle.mk_laws.proofs.Vocabulary.{freed_where_it_stands, has_bit, if◌then◌else◌, is_freed, is_held, is_large}
+use Rattle.mk_laws.proofs.Vocabulary.{is_run_gone, kinds_of, length, map, never_behind, nothing_done, placed_at}
+use Rattle.mk_laws.proofs.Vocabulary.{quarantine_word, refl, slice_index, subst, sym, target, true, true≢false, [], ◌%◌}
+use Rattle.mk_laws.proofs.Vocabulary.{◌<◌, ◌==◌, ◌^◌, ◌∙◌, ◌≡◌}
+use Rattle.mk_objects.proofs.Vocabulary.{CallIsAt, ComesTo, Does, FreesCell, IsAsLeft, IsBase, IsFreeAt, IsOutOfStop}
+use Rattle.mk_objects.proofs.Vocabulary.{IsTurn, MayFree, OnlyLooks, PassState, WordsState, all_below_from, call_of}
+use Rattle.mk_objects.proofs.Vocabulary.{does_then, entry_for, histories_keep_the_invariant, is_counting, is_freeing}
+use Rattle.mk_objects.proofs.Vocabulary.{is_loading, loaded_free, none_is_held, now_of, value_of, world_of}
+use Rattle.mk_objects.proofs.DecidedFrees.{Decides, Prepares, decided_behind, prepared_table, still_open}
 use Rattle.mk_objects.proofs.{FreeSteps.{freed_same, low_half, target_same}, FreedObjects.{IsObjectAt, granted}}
-use Rattle.mk_objects.proofs.{FreedObjects.{it_is_freed, its_freed, object_at}, FreedOnce.{due_since, due_then}}
-use Rattle.mk_objects.proofs.{FreedOnce.{none_due, once_behind}, JoinedLooks.{looks_call, looks_left, looks_table}}
-use Rattle.mk_objects.proofs.JoinedLooks.{reached_table, reached_world, reaches_after, reaches_answered, reaches_named}
-use Rattle.mk_objects.proofs.{JoinedLooks.{reaches_so, reaches_wider}, Serves.out_of_stop}
-use Rattle.mk_objects.{proofs.SmallFrees.{exact_still, none_held}, specs.Deciding.{IsDecidedAt, MayFreeOn, counted}}
+use Rattle.mk_objects.proofs.FreedObjects.{it_is_freed, its_freed, its_size, object_at}
+use Rattle.mk_objects.proofs.FreedOnce.{due_since, due_then, none_due, once_behind}
+use Rattle.mk_objects.proofs.JoinedLooks.{looks_call, looks_left, looks_table, reached_table, reached_world}
+use Rattle.mk_objects.proofs.JoinedLooks.{reaches_after, reaches_answered, reaches_named, reaches_so, reaches_wider}
+use Rattle.mk_objects.proofs.{Serves.out_of_stop, SmallFrees.{exact_still, none_held}}
 use Rattle.mk_core.specs.Counts.{TalliesAreExact}
-use Rattle.mk_objects.specs.Retired.{DecidesFree, FindsFreed, IsFreed, Retires, with_freed_object}
-use Rattle.mk_objects.specs.Retiring.{HasLoaded, HasSeen, IsUnloaded, KeepsValues, entry_seen, seen_free}
+use Rattle.mk_objects.specs.{Deciding.{IsDecidedAt, MayFreeOn, counted}, Retiring.{HasLoaded, HasSeen, IsUnloaded}}
+use Rattle.mk_objects.specs.{Retiring.{KeepsValues, entry_seen, seen_free}, Retired.{DecidesFree, FindsFreed, IsFreed}}
+use Rattle.mk_objects.specs.Retired.{Retires, freeing_kinds, kinds_for, with_freed_object}
 
 -- A Free on its way: up to its `quar` it only loads, or comes to be decided.
 
@@ -109,6 +111,8 @@ retires_null {p} {q} {r} {u} unloaded loaded none null nothing gates exact turn 
     let same : f.op ≡ (call_of p).op = sym (ap (λ (x : Flight). x.op) unloaded.call) in
     record {
       decides = leaves_all Answer.Done named give same nothing gates exact;
+      steps = subst (λ (v : Value). Does (freeing_kinds p.table.config (world_of p).allocations v) p q) (sym null)
+          loaded.does;
       unfreed = λ freed. subst (λ (v : Value). IsFreed (never_behind p.table.config p.seen) v) null freed;
       allocations = cc (same_allocations Answer.Done named give same nothing gates exact, null);
       is_due = λ yes_due. absurd (true≢false (sym yes_due));
@@ -239,6 +243,28 @@ pub none_held_there : {p q : PassState} {f : Flight} → Comes p f q → none_is
     (now_of p).words ≡ true → none_is_held q.table.config.callers (now_of q).words ≡ true
 none_held_there {p} {q} come none = still_open p q (come_table come) (come_now come).gates none
 
+steps_by : {p t : PassState} (heads large : Bool) → heads ≡ large → Does is_freeing p t
+    → (heads ≡ false → Does is_counting p t) → Does (if large then is_freeing else is_counting) p t
+steps_by {p} {t} true large is all small = subst (λ b. Does (if b then is_freeing else is_counting) p t) is all
+steps_by {p} {t} false large is all small =
+    subst (λ b. Does (if b then is_freeing else is_counting) p t) is (small refl)
+
+-- the steps of its Free are of the kinds for its size
+freed_steps : {p q t : PassState} {r : ℕ} {f : Flight} {cell : Cell} {due : Bool} → Comes p f q
+    → (x : IsObjectAt q r cell) → value_of q r ≡ value_of p r → FreesCell q cell due t → IsTurn q
+    → Does is_freeing p t → Does (kinds_for p r) p t
+freed_steps {p} {q} {t} come x keeps freed behind all =
+    let table = come_table come in
+    let same : (world_of q).allocations ≡ (world_of p).allocations =
+    ap (λ (s : Steady). s.allocations) (come_now come).steady in
+    let is = its_size behind x
+    ∙ ap (λ (w : WordsState). is_large (kinds_of w.config.types (placed_at (world_of q).allocations x.number).ty))
+    (sym table) ∙ ap (λ (xs : List PlacedAllocation). is_large (kinds_of p.table.config.types
+    (placed_at xs x.number).ty)) same in
+    subst (λ (v : Value). Does (freeing_kinds p.table.config (world_of p).allocations v) p t)
+    (sym (sym keeps ∙ x.value)) (steps_by _ _ is all (λ no_run. does_then is_counting p q t
+    (reaches_wider (λ y h. grind arith) come).does (freed.small no_run)))
+
 -- Its object was freed.
 pub retires : {p q t : PassState} {r u : ℕ} {cell : Cell} {due : Bool} → IsUnloaded p r → Comes p (loaded_free r u) q
     → MayFree q r u cell → value_of q r ≡ value_of p r → IsOutOfStop (now_of p) → FreesCell q cell due t
@@ -255,6 +281,7 @@ retires {p} {q} {t} {r} {u} {cell} {due} unloaded come may keeps low f turn behi
     let exactly = rw (← table) at f.exactly in
     record {
       decides = decides_free d f.gone (rw (← table) at f.gates) f.exact;
+      steps = freed_steps come object keeps f behind d.does;
       unfreed = not_never_freed come turn behind object keeps low may.live;
       allocations = f.allocations ∙ with_it_freed come turn behind object keeps low;
       is_due = λ is. due_since once (exactly.0 is);

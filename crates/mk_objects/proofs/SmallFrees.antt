@@ -3,13 +3,13 @@ use Rattle.mk_laws.proofs.Vocabulary.{Bool, Cell, Header, List, None, Option, Pl
 use Rattle.mk_laws.proofs.Vocabulary.{all_below-at, ap, arith, false, fresh_words_of, header_in, heads_run}
 use Rattle.mk_laws.proofs.Vocabulary.{if◌then◌else◌, in_a_word, is_held, not, not-true, run_headed, subst, sym, true}
 use Rattle.mk_laws.proofs.{Vocabulary.{words_under, ◌*◌, ◌+◌, ◌-◌, ◌<◌, ◌^◌, ◌↔◌, ◌∙◌, ◌≡◌}, Tallies.fresh_is_told}
-use Rattle.mk_objects.proofs.Vocabulary.{Changes, FreesCell, FreesOnce, HasFreed, IsAsLeft, IsFreedAt, IsTrue, IsTurn}
-use Rattle.mk_objects.proofs.Vocabulary.{MayFree, OnlyLooks, PassState, SetsTally, StaysSo, held_by_allocations}
-use Rattle.mk_objects.proofs.Vocabulary.{is_following, min, none_is_held, now_of, steady_of, with_tally, words_freed}
-use Rattle.mk_objects.proofs.{Vocabulary.world_of, ClearedRuns.{IsGoneIn, still_gone}}
-use Rattle.mk_objects.proofs.DecidedFrees.{Stays, decides_before, freed_decides, fresh_stays, stays_now}
-use Rattle.mk_objects.proofs.JoinedLooks.{reached_table, reached_world, reaches_after, reaches_wider}
-use Rattle.mk_objects.proofs.{FreedObjects.{object_at, small_held}, FreedOnce.once_before}
+use Rattle.mk_objects.proofs.Vocabulary.{Changes, Does, FreesCell, FreesOnce, HasFreed, IsAsLeft, IsFreedAt, IsTrue}
+use Rattle.mk_objects.proofs.Vocabulary.{IsTurn, MayFree, OnlyLooks, PassState, SetsTally, StaysSo, does_then}
+use Rattle.mk_objects.proofs.Vocabulary.{held_by_allocations, is_counting, is_following, min, none_is_held, now_of}
+use Rattle.mk_objects.{proofs.Vocabulary.{steady_of, with_tally, words_freed, world_of}, proofs.FreedOnce.{once_before}}
+use Rattle.mk_objects.proofs.{ClearedRuns.{IsGoneIn, still_gone}, DecidedFrees.{Stays, decides_before, freed_decides}}
+use Rattle.mk_objects.proofs.{DecidedFrees.{fresh_stays, stays_now}, JoinedLooks.{reached_table, reached_world}}
+use Rattle.mk_objects.proofs.{JoinedLooks.{reaches_after, reaches_wider}, FreedObjects.{object_at, small_held}}
 use Rattle.mk_core.specs.Counts.{TalliesAreExact}
 
 -- After a `quar` the call is decided.
@@ -73,13 +73,16 @@ pub frees_counted : {p q r : PassState} {cell : Cell} {held fresh : ℕ} (due : 
     → ((j : ℕ) → j < p.table.config.callers → is_held (now_of r).words j ≡ false)
     → held ≡ (now_of r).words.held → fresh ≡ (now_of r).words.fresh → held ≡ held_by_allocations p.table.config
     (world_of r).allocations → fresh ≡ in_a_word (fresh_words_of p.table.config (world_of r).allocations)
-    → held < 2 ^ 64 → IsTrue due ↔ (held < 4 * fresh) → FreesCell p cell due r
-frees_counted {p} {q} {r} due freed follows once turn behind gone gates held fresh held_exact fresh_exact fits is_due =
+    → held < 2 ^ 64 → IsTrue due ↔ (held < 4 * fresh)
+    → (heads_run (header_in (now_of p).words cell.page) ≡ false → Does is_counting p r) → FreesCell p cell due r
+frees_counted {p} {q} {r} due freed follows once turn behind gone gates held fresh held_exact fresh_exact fits is_due
+    small =
     let table : p.table ≡ q.table = sym (reached_table freed) in
     let stays = stays_now follows in
     record {
       reaches = decides_before (freed_decides freed) follows;
       allocations = stays.allocations ∙ ap (λ (x : Steady). x.allocations) (freed_now freed).steady;
+      small = small;
       once = once_before (λ x h. grind arith) once table follows.does turn behind stays.allocations;
       gone = gone;
       gates = gates;
@@ -126,5 +129,8 @@ module _ {p q a b r : PassState} {reg u : ℕ} {cell : Cell} {n : ℕ} (may : Ma
       pub frees_small : FreesCell p cell due r
       frees_small =
           frees_counted due freed follows once behind last (subst (λ (x : PassState). IsGoneIn (world_of x)) (sym
-          sets.same) (still_gone sets.does behind last (grind (arith, freed_there, no_run)))) none_held_now found_held
+          sets.same) (still_gone (reaches_wider (λ x h. grind arith) sets).does behind last
+          (grind (arith, freed_there, no_run)))) none_held_now found_held
           (sym (ap (λ (x : Steady). x.fresh) changed.steady)) (found_held ∙ held_exact) fresh_exact fits is_due
+          (λ no_run. does_then is_counting p q r freed.does
+          (reaches_wider (λ x h. grind arith) (fresh_stays sets)).does)

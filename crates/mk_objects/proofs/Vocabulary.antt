@@ -13,10 +13,10 @@ pub use Rattle.mk_words.specs.States.{WordsState, call_of, event_of, now_of, wor
 pub use Rattle.mk_objects.specs.{Deciding.{FreesCell, MayFree, StaysSo, is_following}, Dues.{FreesOnce, IsOverQuarter}}
 pub use Rattle.mk_objects.specs.{Entries.own_calls, FreeParts.{Changes, HasGates, RunIsUnmapped, RunIsWiped, SetsGate}}
 pub use Rattle.mk_objects.specs.FreeParts.{SetsGates, SetsTally, Unmaps, Wipes, all_others, held_from, held_to}
-pub use Rattle.mk_objects.specs.FreeParts.{is_clearing, is_holding, is_settling, with_tally}
+pub use Rattle.mk_objects.specs.FreeParts.{is_clearing, is_holding, is_settling, is_tallying, with_tally}
 pub use Rattle.mk_objects.specs.{Looking.{is_acting, is_steady_word}, Placing.{ComesTo, GoesTo, HasCarved, IsGrantedAt}}
 pub use Rattle.mk_objects.specs.Placing.{IsOutOfStop, IsUnplaced, MayTake, OnlyLooks, entry_for, is_look, is_placing}
 pub use Rattle.mk_objects.specs.{Placing.{object_at_place, object_for}, Retired.freed_and_fresh}
 pub use Rattle.mk_objects.specs.Retiring.{CallIsAt, HasFreed, IsFreeAt, IsFreedAt, is_freeing, is_loading, loaded_free}
-pub use Rattle.mk_objects.specs.{Retiring.value_of, Serving.{Carving, IsCellReady, Serving}, Unchanged.IsAsLeft}
-pub use Rattle.mk_objects.specs.Unmapping.{WipesTo}
+pub use Rattle.mk_objects.specs.{Retiring.{is_counting, value_of}, Serving.{Carving, IsCellReady, Serving}}
+pub use Rattle.mk_objects.specs.{Unchanged.IsAsLeft, Unmapping.WipesTo}

@@ -2,11 +2,13 @@
 use Rattle.std.specs.Prelude.{◌≡◌, ◌↔◌, ◌==◌, ℕ, ◌<◌, Bool, true, false, IsTrue, [], map, Some, None}
 use Rattle.mk_geom.specs.declared.addresses.Cell.{Cell}
 use Rattle.mk_core.specs.{declared.events.Seat.Seat, declared.events.Step.Step, Allocations.freed_where_it_stands}
-use Rattle.mk_core.specs.{Counts.{TalliesAreExact, releases}, Frames.{Steady, steady_of}, History.World, Cells.is_freed}
-use Rattle.mk_core.specs.{Moments.{flight_of, is_held}, NewPlaces.{is_run_gone, target}, Words.named_word}
+use Rattle.mk_core.specs.{Counts.{TalliesAreExact, releases}, Frames.{Steady, steady_of}, History.World}
+use Rattle.mk_core.specs.{Cells.{header_in, heads_run, is_freed}, Moments.{flight_of, is_held}}
+use Rattle.mk_core.specs.{NewPlaces.{is_run_gone, target}, Words.named_word}
 use Rattle.mk_words.specs.States.{PassState, WordsState, call_of, now_of, world_of}
 use Rattle.mk_objects.specs.{Dues.{FreesOnce, IsOverQuarter}, Placing.{IsOutOfStop, ComesTo, entry_for}}
-use Rattle.mk_objects.specs.Retiring.{IsFreeAt, is_freeing, loaded_free}
+use Rattle.mk_objects.specs.Retiring.{IsFreeAt, is_counting, is_freeing, loaded_free}
+use Rattle.mk_turns.specs.Doing.{Does}
 use Rattle.mk_core.specs.declared.events.Answer.TheVariants as answer
 use Rattle.mk_core.specs.declared.events.Step.TheVariants as step
 use Rattle.mk_core.specs.declared.events.Word.TheVariants as word
@@ -54,11 +56,13 @@ pub record StaysSo (s : Seat) (w v : World) : Type 0 where
   pub fresh_words : v.now.fresh_words ≡ w.now.fresh_words
   pub allocations : v.allocations ≡ w.allocations
 
--- The object of the cell was freed, by one event of the turn, and it is known whether that is due.
+-- The object of the cell was freed, by one event of the turn, and it is known whether that is due. Where it heads no
+-- run no gate was held.
 pub record FreesCell (p : PassState) (cell : Cell) (due : Bool) (q : PassState) : Type 0 where
   pub reaches : ComesTo is_freeing p (IsDecidedAt p.seat (world_of p)) (entry_for p answer.Done) q
   pub allocations : (world_of q).allocations ≡ map (freed_where_it_stands (now_of p).words (Some cell))
       (world_of p).allocations
+  pub small : heads_run (header_in (now_of p).words cell.page) ≡ false → Does is_counting p q
   pub once : FreesOnce p q
   pub gone : is_run_gone (now_of q).words (now_of q).seats.holding.freed ≡ true
   pub gates : (j : ℕ) → j < p.table.config.callers → is_held (now_of q).words j ≡ false

@@ -22,6 +22,11 @@ is_clearing (step.Head p v) = true
 is_clearing (step.Wipe n) = true
 is_clearing _ = false
 
+abbrev pub is_tallying : Step → Bool
+is_tallying (step.Look x) = true
+is_tallying (step.Tally n v) = true
+is_tallying _ = false
+
 abbrev pub is_settling : Step → Bool
 is_settling (step.Look x) = true
 is_settling (step.Open j) = true
@@ -105,7 +110,7 @@ with_tally tally.Released n x = record x { released = n }
 with_tally tally.Full n x = record x { full = n }
 
 abbrev pub SetsTally : PassState → Tally → ℕ → PassState → Type 0
-SetsTally p t n q = ComesTo is_settling p (Changes p.seat (with_tally t n) (world_of p)) [] q
+SetsTally p t n q = ComesTo is_tallying p (Changes p.seat (with_tally t n) (world_of p)) [] q
 
 abbrev pub with_pages : List Page → Steady → Steady
 with_pages pages x = record x { pages = pages }

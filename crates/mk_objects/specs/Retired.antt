@@ -1,13 +1,15 @@
 -- What comes of a Free's turn: its object is freed, or it is found freed already.
-use Rattle.std.specs.Prelude.{◌≡◌, ℕ, Bool, true, false, List, ◌∷◌, ◌++◌, slice_set}
+use Rattle.std.specs.Prelude.{◌≡◌, ℕ, Bool, true, false, if◌then◌else◌, List, ◌∷◌, ◌++◌, slice_set}
 use Rattle.mk_never.specs.{declared.values.Value.Value, declared.values.Value.TheVariants.{Null, Num, Ptr}}
-use Rattle.mk_never.specs.NeverHeap.{NeverState, allocation_at}
-use Rattle.mk_core.specs.{declared.events.Answer.Answer, declared.events.Event.Event, declared.events.Step.Step}
-use Rattle.mk_core.specs.{Allocations.{PlacedAllocation, placed_at}, Counts.{IsDue, TalliesAreExact, TalliesAreTidy}}
-use Rattle.mk_core.specs.{History.never_behind, Moments.none_is_held, NewPlaces.is_run_gone, Words.phase_of}
+use Rattle.mk_never.specs.{NeverHeap.{NeverState, allocation_at}, Types.{is_large, kinds_of}}
+use Rattle.mk_core.specs.{declared.config.Config.Config, declared.events.Answer.Answer, declared.events.Event.Event}
+use Rattle.mk_core.specs.{declared.events.Step.Step, Allocations.{PlacedAllocation, placed_at}}
+use Rattle.mk_core.specs.{Counts.{IsDue, TalliesAreExact, TalliesAreTidy}, History.never_behind, Moments.none_is_held}
+use Rattle.mk_core.specs.{NewPlaces.is_run_gone, Words.phase_of}
 use Rattle.mk_words.specs.States.{PassState, call_of, now_of, world_of}
 use Rattle.mk_turns.specs.Doing.{Does}
-use Rattle.mk_objects.specs.{Entries.own_calls, Placing.entry_for, Retiring.{is_freeing, is_loading, value_of}}
+use Rattle.mk_objects.specs.{Entries.own_calls, Placing.entry_for, Retiring.{is_counting, is_freeing, is_loading}}
+use Rattle.mk_objects.specs.Retiring.{value_of}
 use Rattle.mk_core.specs.declared.events.Answer.TheVariants as answer
 use Rattle.mk_core.specs.declared.seats.Stage.TheVariants as stage
 
@@ -49,9 +51,19 @@ pub record DecidesFree (kinds : Step → Bool) (a : Answer) (p q : PassState) : 
   pub exact : TalliesAreExact q.table.config q.seen
   pub tidy : TalliesAreTidy p.table.config p.seen → TalliesAreTidy q.table.config q.seen
 
--- The object was freed, or the register was null.
+-- the kinds of step by which what the value points to is freed
+abbrev pub freeing_kinds : Config → List PlacedAllocation → Value → Step → Bool
+freeing_kinds c xs (Ptr number ty offset) =
+    if is_large (kinds_of c.types (placed_at xs number).ty) then is_freeing else is_counting
+freeing_kinds c xs _ = is_loading
+
+abbrev pub kinds_for : PassState → ℕ → Step → Bool
+kinds_for p r = freeing_kinds p.table.config (world_of p).allocations (value_of p r)
+
+-- The object was freed, or the register was null, and then words were only looked at.
 pub record Retires (p : PassState) (r : ℕ) (due : Bool) (q : PassState) : Type 0 where
   pub decides : DecidesFree is_freeing answer.Done p q
+  pub steps : Does (kinds_for p r) p q
   pub unfreed : IsFreed (never_behind p.table.config p.seen) (value_of p r) → ⊥
   pub allocations : (world_of q).allocations ≡ with_freed_object (value_of p r) (world_of p).allocations
   pub is_due : due ≡ true → IsDueSince p q

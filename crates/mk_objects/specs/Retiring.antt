@@ -63,6 +63,14 @@ is_loading (step.Look x) = true
 is_loading step.Reg = true
 is_loading _ = false
 
+-- the kinds of step by which a small object is freed: no gate is held, and no word of the heap changes
+abbrev pub is_counting : Step → Bool
+is_counting (step.Look x) = true
+is_counting step.Reg = true
+is_counting (step.Quar p v) = true
+is_counting (step.Tally n v) = true
+is_counting _ = false
+
 -- the kinds of step by which an object is freed
 abbrev pub is_freeing : Step → Bool
 is_freeing (step.Look x) = true
@@ -115,4 +123,5 @@ pub record IsFreedAt (c : Config) (s : Seat) (cell : Cell) (w v : World) : Type 
   pub gates : (j : ℕ) → is_held v.now.words j ≡ is_held w.now.words j
 
 abbrev pub HasFreed : PassState → Cell → PassState → Type 0
-HasFreed p cell q = ComesTo is_freeing p (IsFreedAt p.table.config p.seat cell (world_of p)) (entry_for p answer.Done) q
+HasFreed p cell q =
+    ComesTo is_counting p (IsFreedAt p.table.config p.seat cell (world_of p)) (entry_for p answer.Done) q

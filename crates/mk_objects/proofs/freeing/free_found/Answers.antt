@@ -30,10 +30,12 @@ free_small-requires-clause-small g c =
 
 pub returns-in-Some : goal.returns-in-Some
 returns-in-Some g c =
-    frees_behind (looks_prepare c.look_at-header.ensures.looks) (λ x h. grind arith) (λ x h. grind arith)
+    frees_behind (looks_prepare c.look_at-header.ensures.looks) (λ x h. grind arith) (λ no_run x h. grind arith)
+    (λ x h. grind arith)
     c.args.turn.now.in_order c.look_at-header.new.turn.in_order c.free_run.ensures
 
 pub returns-in-None : goal.returns-in-None
 returns-in-None g c =
-    frees_behind (looks_prepare c.look_at-header.ensures.looks) (λ x h. grind arith) (λ x h. grind arith)
+    frees_behind (looks_prepare c.look_at-header.ensures.looks) (λ x h. grind arith) (λ no_run x h. grind arith)
+    (λ x h. grind arith)
     c.args.turn.now.in_order c.look_at-header.new.turn.in_order c.free_small.ensures

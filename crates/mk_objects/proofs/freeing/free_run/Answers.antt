@@ -1,5 +1,5 @@
-use Rattle.mk_laws.proofs.Vocabulary.{arith}
-use Rattle.mk_objects.proofs.{DecidedFrees.frees_behind, DecidedFrees.gates_prepare, Retirements.still_may}
+use Rattle.mk_laws.proofs.Vocabulary.{arith, sym, true≢false, ◌∙◌}
+use Rattle.mk_objects.proofs.{DecidedFrees.{frees_behind, gates_prepare}, LargeFrees.heads_some, Retirements.still_may}
 use Rattle.mk_objects.proofs.freeing.free_run.Goals as goal
 
 pub free_stopped-requires-clause-free : goal.free_stopped-requires-clause-free
@@ -8,5 +8,6 @@ free_stopped-requires-clause-free g c =
 
 pub returns : goal.returns
 returns g c =
-    frees_behind (gates_prepare c.hold_gates.ensures.sets) (λ x h. grind arith) (λ x h. grind arith)
+    frees_behind (gates_prepare c.hold_gates.ensures.sets) (λ x h. grind arith)
+    (λ no_run. absurd (true≢false (sym (heads_some _ _ _ c.requires.run) ∙ no_run))) (λ x h. grind arith)
     c.args.turn.now.in_order c.hold_gates.new.turn.in_order c.free_stopped.ensures
