@@ -5,21 +5,22 @@ use Rattle.mk_core.specs.{declared.events.Seat.TheVariants.Marker, Cycles.{Relea
 use Rattle.mk_core.specs.{Cycles.before_close, History.left}
 use Rattle.mk_words.specs.{Seats.Has, States.PassState}
 use Rattle.mk_laws.specs.Releases.{allocation_behind}
-use Rattle.mk_cycle.specs.{declared.finishing.Released.Released, BeginCycle.BeginsCycle}
+use Rattle.mk_cycle.specs.{declared.finishing.Released.Released, BeginCycle.BeginsCycle, Closing.IsClosedBy}
 use Rattle.mk_cycle.specs.FinishCycle.{FinishesCycle, HasReleased}
-use Rattle.mk_sweep.specs.Swept.{IsSwept}
+use Rattle.mk_sweep.specs.{Swept.IsSwept, Sweeps.Sweeps}
 
 -- The seats of all markers stand in the list: none was made, or all are joined again.
 abbrev pub HasMarkers : List Seat → Type 0
 HasMarkers seats = (k : ℕ) → k < 8 → Has seats (Marker k)
 
 -- From what the one pass had seen to what the other has seen one cycle was begun and, directly after it, finished. It
--- released so much.
-pub record MakesWholeCycle (p q : PassState) (released : Released) : Type 0 where
+-- released so much, and it was closed by a sweep that looked at so many heap words.
+pub record MakesWholeCycle (p q : PassState) (released : Released) (looks : ℕ) : Type 0 where
   pub begun : PassState
   pub begins : BeginsCycle p begun
   pub finishes : FinishesCycle begun q
   pub counted : HasReleased begun q released
+  pub closed : IsClosedBy (λ x y. Sweeps x y looks) begun q
 
 -- A cycle stands there that released each allocation of its snapshot that wasn't swept at its `close`.
 pub record ReleasesUnswept (p q : PassState) : Type 0 where

@@ -13,20 +13,21 @@ use std::alloc::Global;
 use std::sync::Wait;
 use std::thread::Threads;
 
-/// Makes a whole cycle with an engine of its own.
+/// Makes a whole cycle with an engine of its own, and tells at how many heap words it looked.
 pub(crate) fn sweep_alone<R: Threads + Wait + Sync>(
     rt: &R,
     alloc: Global,
     words: &Words,
     turn: Turn,
-) -> Result<(Turn, Released), NoMemory>
+) -> Result<(Turn, Released, u64), NoMemory>
     requires one_table { turn.pass.table ≡ words.now }
     requires phase { IsAtPhase turn.pass 0 }
     requires free { IsFreeForCycle turn.pass }
     requires markers { HasMarkers turn.pass.seats }
-    ensures cycle { IfOk result (λ made. MakesWholeCycle turn.pass made.0.pass made.1) }
+    ensures cycle { IfOk result (λ made. MakesWholeCycle turn.pass made.0.pass made.1 made.2) }
     ensures unswept { IfOk result (λ made. ReleasesUnswept turn.pass made.0.pass) }
 {
     let mut engine = SweepEngine::make(alloc, words.pages())?;
-    Ok(sweep_cycle(rt, words, turn, &mut engine))
+    let (turn, released) = sweep_cycle(rt, words, turn, &mut engine);
+    Ok((turn, released, engine.looks()))
 }

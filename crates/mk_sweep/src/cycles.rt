@@ -24,7 +24,7 @@ pub fn sweep_cycle<R: Threads + Wait + Sync>(
     requires markers { HasMarkers turn.pass.seats }
     ensures made_for { ⟦<SweepEngine as Engine>⟧.made_for engine.new
         ≡ ⟦<SweepEngine as Engine>⟧.made_for engine.old }
-    ensures cycle { MakesWholeCycle turn.pass result.0.pass result.1 }
+    ensures cycle { MakesWholeCycle turn.pass result.0.pass result.1 engine.new.looks }
     ensures unswept { ReleasesUnswept turn.pass result.0.pass }
 {
     let mut turn = turn;

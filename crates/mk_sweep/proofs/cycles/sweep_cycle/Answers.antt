@@ -7,6 +7,7 @@ returns-clause-cycle g c = record {
   begins = c.begin_cycle.ensures.law;
   finishes = c.finish_cycle-turn.ensures.law;
   counted = c.finish_cycle-turn.ensures.released;
+  closed = c.finish_cycle-turn.ensures.closed;
 }
 
 pub returns-clause-unswept : goal.returns-clause-unswept
