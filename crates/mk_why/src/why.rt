@@ -81,6 +81,7 @@ impl<E: Engine> Engine for Why<E> {
         requires marking { IsAtPhase turn.old.pass 1 }
         requires free { IsFreeForCycle turn.old.pass }
         ensures made_for { ⟦<Why<E> as Engine>⟧.made_for self.new ≡ ⟦<Why<E> as Engine>⟧.made_for self.old }
+        ensures found { self.new.found ≡ self.old.found }
         ensures kept { self.new.kept ≡ self.old.kept }
         ensures law { BeginsMarking turn.old.pass turn.new.pass }
         ensures reached { E.sweeps ≡ false → SweepsNothing turn.old.pass turn.new.pass }
