@@ -1,15 +1,17 @@
 -- Each call of a job is its next operation, and what its caller's registers hold after it.
 use Rattle.std.proofs.Common.{IfSome}
-use Rattle.mk_stack.proofs.Vocabulary.{Answer, Asks, Called, CallerState, Ended, HasStackTypes, HoldsAt, IsHistory}
-use Rattle.mk_stack.proofs.Vocabulary.{Kind, Op, PassState, Point, Reply, after_op, caller_of_pass, clear, flagged}
-use Rattle.mk_stack.proofs.Vocabulary.{kinds_of, never_of, next_point, op_at, register_at, replied_to, reply_of}
-use Rattle.mk_stack.proofs.{Vocabulary.value_of, Replies.{Happens, from_called, from_turn}, AtPoints.holds_still}
-use Rattle.mk_stack.proofs.{NodeKinds.IsStackState, PointSteps.{admits, asks}}
-use Rattle.mk_laws.proofs.Vocabulary.{Bool, List, Option, Some, ℕ, ap, arith, false, is_under_turn, refl, subst, sym}
-use Rattle.mk_laws.proofs.{Vocabulary.{true, [], ◌++◌, ◌<◌, ◌∙◌, ◌∷◌, ◌≡◌}, CallSorts.flag_is, LastEvents.stands}
+use Rattle.mk_stack.proofs.Vocabulary.{Answer, Asks, Called, CallerState, Ended, HasStackTypes, HoldsAt, IsHistory, Job}
+use Rattle.mk_stack.proofs.Vocabulary.{Kind, Null, Op, PassState, Point, Reply, after_op, caller_of_pass, clear}
+use Rattle.mk_stack.proofs.Vocabulary.{flagged, kinds_of, never_of, next_point, op_at, register_at, replied_to}
+use Rattle.mk_stack.proofs.{Vocabulary.{reply_of, value_of}, AtPoints.holds_still, Heaps.{other_register, set_register}}
+use Rattle.mk_stack.proofs.{NodeKinds.IsStackState, PointSteps.{admits, asks}, Replies.{Happens, from_called}}
+use Rattle.mk_stack.proofs.Replies.{from_turn}
+use Rattle.mk_laws.proofs.Vocabulary.{Bool, List, Option, Some, ℕ, ap, arith, false, is_under_turn, length, refl, subst}
+use Rattle.mk_laws.proofs.{Vocabulary.{sym, true, [], ◌*◌, ◌++◌, ◌+◌, ◌<◌, ◌∙◌, ◌∷◌, ◌≡◌}, CallSorts.flag_is}
+use Rattle.mk_laws.proofs.LastEvents.{stands}
 use Rattle.mk_caller.specs.States.{Admits}
 use Rattle.mk_run.specs.Scripts.{Answers, IsCalled, as_told, unflagged}
-use Rattle.mk_stack.specs.{Advancing.StaysEnded, Ready.IsReady}
+use Rattle.mk_stack.specs.{Advancing.{Forgets, StaysEnded}, Passes.{KeepsNoNode, other_node}, Ready.IsReady}
 
 -- The state at which an operation was decided
 pub place_state : {p q : PassState} {o : Op} {a : Answer} → HasStackTypes p.table.config → (h : Happens p o a q)
@@ -102,3 +104,23 @@ clears {p} {q} r lt called d =
       leads = (Ended d, clear lt, refl);
       did = h.did;
     }
+
+-- A Clear changes its own register alone.
+pub forgets : {p q : PassState} (d : ℕ) → d < 8 → Called p (Op.Clear d) Answer.Done q → Forgets p d q
+forgets {p} {q} d lt called =
+    let h = from_called called refl called.pass.history in
+    let k : ℕ = caller_of_pass p in
+    let all : 8 * k + 7 < length h.n.registers = h.caller in (
+      h.after d lt ∙ set_register h.n k d Null (omega (arith, lt, all)),
+      λ r below other. h.after r below ∙ other_register h.n k d r Null other ∙ h.before r below,
+    )
+
+apart : (j : Job) → 2 ≡ other_node j → ⊥
+apart x0 = grind arith
+
+pub both_forgotten : (p q r : PassState) (j : Job) {d : ℕ} → d ≡ other_node j → Forgets p 2 q → Forgets q d r
+    → KeepsNoNode j r
+both_forgotten p q r j is one two = (
+  two.1 2 (omega arith) (λ e. apart j (e ∙ is)) ∙ one.0,
+  subst (λ (x : ℕ). value_of r x ≡ Null) is two.0,
+)

@@ -1,10 +1,11 @@
 -- The operations of a job: which one a point asks, where its answer leads, and what its caller's registers hold there.
 -- Private functions alone cite this.
-use Rattle.std.specs.Prelude.{◌≡◌, ℕ, ◌==◌, Bool, true, false, Option, Some, None, if◌then◌else◌}
+use Rattle.std.specs.Prelude.{◌≡◌, ℕ, ◌<◌, ◌==◌, Bool, true, false, Option, Some, None, if◌then◌else◌}
 use Rattle.mk_never.specs.{declared.operations.Op.Op, declared.types.Kind.TheVariants.To, declared.values.Value.Value}
-use Rattle.mk_never.specs.{declared.values.Value.TheVariants.Ptr, Admitted.IsOfKind}
+use Rattle.mk_never.specs.{declared.values.Value.TheVariants.{Null, Ptr}, Admitted.IsOfKind}
 use Rattle.mk_core.specs.declared.events.Answer.{Answer}
 use Rattle.mk_words.specs.States.{PassState}
+use Rattle.mk_caller.specs.States.{value_of}
 use Rattle.mk_stack.specs.{declared.jobs.Job.Job, declared.jobs.Job.TheVariants.{Push, Pop}, declared.jobs.Done.Done}
 use Rattle.mk_stack.specs.{declared.jobs.Done.TheVariants.{Pushed, Full, Popped, Empty}, declared.points.Point.Point}
 use Rattle.mk_stack.specs.declared.points.Point.TheVariants.{Founding, Placing, Founded, Starting, Checking, Making}
@@ -105,6 +106,10 @@ HoldsAt v (Ended d) = Unit {0}
 -- The caller has ended a job, whatever became of it, and is still there.
 abbrev pub StaysEnded : PassState → PassState → Type 0
 StaysEnded p q = (d : Done) → GoesToPoint p (Ended d) q (Ended d)
+
+-- The register is null, and the others are as they were.
+abbrev pub Forgets : PassState → ℕ → PassState → Type 0
+Forgets p d q = (value_of q d ≡ Null) × ((r : ℕ) → r < 8 → (r ≡ d → ⊥) → value_of q r ≡ value_of p r)
 
 -- What may become of a job
 abbrev pub IsFit : Job → Done → Type 0

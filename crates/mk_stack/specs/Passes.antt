@@ -1,11 +1,11 @@
 -- Jobs in the history of a running heap: what a caller's operations were replied there.
 use Rattle.std.specs.Prelude.{◌≡◌, ℕ, List, ◌++◌, slice_get, Option, Some, None}
-use Rattle.mk_never.specs.Types.{kinds_of}
+use Rattle.mk_never.specs.{Types.kinds_of, declared.values.Value.TheVariants.Null}
 use Rattle.mk_core.specs.{declared.config.Config.Config, declared.events.Event.Event, Decided.asked}
 use Rattle.mk_core.specs.History.{calls, never_first}
 use Rattle.mk_words.specs.States.{PassState}
-use Rattle.mk_caller.specs.States.{caller_of_pass}
-use Rattle.mk_stack.specs.{declared.jobs.Job.Job, declared.jobs.Done.Done}
+use Rattle.mk_caller.specs.States.{caller_of_pass, value_of}
+use Rattle.mk_stack.specs.{declared.jobs.Job.Job, declared.jobs.Job.TheVariants.{Push, Pop}, declared.jobs.Done.Done}
 use Rattle.mk_stack.specs.{declared.jobs.Done.TheVariants.{Popped, Empty}, declared.points.Point.Point}
 use Rattle.mk_stack.specs.{declared.points.Point.TheVariants.{Starting, Ended}, Jobs.{Replied, Leads, node_kinds}}
 use Rattle.mk_stack.specs.{Jobs.top_kinds, Interleavings.own_replied}
@@ -33,6 +33,15 @@ pub record GoesToPoint (p : PassState) (s : Point) (q : PassState) (t : Point) :
 -- Its caller did the job, and this became of it.
 abbrev pub DoesJob : PassState → Job → Done → PassState → Type 0
 DoesJob p job done q = GoesToPoint p (Starting job) q (Ended done)
+
+-- the register that has a job's other node: of a push the new one, and of a pop the one below the uppermost
+abbrev pub other_node : Job → ℕ
+other_node (Push n) = 1
+other_node Pop = 3
+
+-- Its caller's registers that had the nodes of the job are null.
+abbrev pub KeepsNoNode : Job → PassState → Type 0
+KeepsNoNode job q = (value_of q 2 ≡ Null) × (value_of q (other_node job) ≡ Null)
 
 -- what became of a pop
 abbrev pub popped : Option ℕ → Done

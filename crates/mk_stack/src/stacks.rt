@@ -1,7 +1,8 @@
 //! Numbers on a stack that callers share.
 ghost use Rattle.std.specs.Prelude.{◌≡◌, ◌<◌, OnOk, OnErr};
 ghost use Rattle.mk_caller.specs.States.{value_of};
-ghost use Rattle.mk_stack.specs.{Advancing.{HoldsAt, IsFit, IsGoal, StaysEnded}, Passes.{DoesJob, GoesToPoint, popped}};
+ghost use Rattle.mk_stack.specs.Advancing.{Forgets, HoldsAt, IsFit, IsGoal, StaysEnded};
+ghost use Rattle.mk_stack.specs.Passes.{DoesJob, GoesToPoint, KeepsNoNode, other_node, popped};
 ghost use Rattle.mk_stack.specs.Ready.{IsReady, IsReadyForJobs};
 
 use crate::advancing::{BELOW, NODE, UPPERMOST, next_point, op_at};
@@ -64,6 +65,7 @@ fn forget<R: Wait>(rt: &R, caller: &mut Caller, register: u8)
     ensures ready { IsReady caller.new }
     ensures pass { caller.new.pass ≡ record caller.old.pass { seen = caller.new.pass.seen } }
     ensures ended { StaysEnded caller.old.pass caller.new.pass }
+    ensures forgets { Forgets caller.old.pass register caller.new.pass }
 {
     let backoff = Backoff::new();
     'tries: for _ in rt.forever() {
@@ -78,6 +80,7 @@ fn forget<R: Wait>(rt: &R, caller: &mut Caller, register: u8)
 /// The register that has a job's other node: of a push the new one, and of a pop the one below.
 fn other_node(job: Job) -> u8
     ensures register { result < 8 }
+    ensures node { result ≡ other_node job }
 {
     match job {
         Job::Push(_) => NODE,
@@ -96,6 +99,7 @@ pub fn do_job<E: Engine, R: Threads + Wait + Sync>(
     ensures ready { IsReadyForJobs E.made_for caller.new engine.new }
     ensures does { DoesJob caller.old.pass job result caller.new.pass }
     ensures fit { IsFit job result }
+    ensures keeps { KeepsNoNode job caller.new.pass }
 {
     let Point::Ended(done) = go(rt, caller, engine, Point::Starting(job)) else {
         unreachable!()
@@ -116,6 +120,7 @@ pub fn push<E: Engine, R: Threads + Wait + Sync>(
     ensures ready { IsReadyForJobs E.made_for caller.new engine.new }
     ensures pushed { OnOk result (DoesJob caller.old.pass (Job.Push n) Done.Pushed caller.new.pass) }
     ensures full { OnErr result (DoesJob caller.old.pass (Job.Push n) Done.Full caller.new.pass) }
+    ensures keeps { KeepsNoNode (Job.Push n) caller.new.pass }
 {
     match do_job(rt, caller, engine, Job::Push(n)) {
         Done::Pushed => Ok(()),
@@ -132,6 +137,7 @@ pub fn pop<E: Engine, R: Threads + Wait + Sync>(
     requires ready { IsReadyForJobs E.made_for caller.old engine.old }
     ensures ready { IsReadyForJobs E.made_for caller.new engine.new }
     ensures does { DoesJob caller.old.pass Job.Pop (popped result) caller.new.pass }
+    ensures keeps { KeepsNoNode Job.Pop caller.new.pass }
 {
     match do_job(rt, caller, engine, Job::Pop) {
         Done::Popped(n) => Some(n),

@@ -1,6 +1,6 @@
-use Rattle.mk_stack.proofs.Vocabulary.{Done, GoesToPoint, PassState, Starting}
+use Rattle.mk_stack.proofs.{Vocabulary.{Done, GoesToPoint, PassState, Starting}, Going.{goes_through, jobs_on}}
+use Rattle.mk_stack.proofs.{Going.seen_then, Advances.both_forgotten, JobGoals.{fit_as, job_ends}}
 use Rattle.mk_laws.proofs.Vocabulary.{subst}
-use Rattle.mk_stack.proofs.{Going.goes_through, Going.jobs_on, Going.seen_then, JobGoals.fit_as, JobGoals.job_ends}
 use Rattle.mk_stack.proofs.stacks.do_job.Goals as goal
 
 pub unreachable-requires : goal.unreachable-requires
@@ -27,3 +27,8 @@ returns-clause-ready g c =
     let ready = c.go.ensures.ready in
     jobs_on c.go.new.engine ready c.forget-2.ensures.ready.home (seen_then c.go.new.caller.pass c.forget.new.caller.pass
     c.forget-2.new.caller.pass c.forget.ensures.pass c.forget-2.ensures.pass) ready.made
+
+pub returns-clause-keeps : goal.returns-clause-keeps
+returns-clause-keeps g c =
+    both_forgotten c.go.new.caller.pass c.forget.new.caller.pass c.forget-2.new.caller.pass c.args.job
+    c.other_node.ensures.node c.forget.ensures.forgets c.forget-2.ensures.forgets

@@ -1,5 +1,6 @@
-use Rattle.mk_stack.proofs.{Vocabulary.Empty, Going.{goes_held, goes_through, ready_on, seen_then}}
-use Rattle.mk_stack.proofs.{Advances.{clears, ready_state}, PointSteps.may_clear, Replies.stays_held}
+use Rattle.mk_stack.proofs.{Vocabulary.Empty, Advances.{clears, forgets, ready_state}, Going.{goes_held, goes_through}}
+use Rattle.mk_stack.proofs.{Going.{ready_on, seen_then}, PointSteps.may_clear, Replies.stays_held}
+use Rattle.mk_laws.proofs.Vocabulary.{◌∙◌}
 use Rattle.mk_stack.proofs.stacks.forget.Goals as goal
 
 pub clear-requires-clause-admitted : goal.clear-requires-clause-admitted
@@ -10,10 +11,12 @@ pub returns-in-Ok : goal.returns-in-Ok
 returns-in-Ok g c =
     let before = c.tries.invariant in
     let on = clears c.args.register c.requires.register c.in-Ok.ensures.called in
+    let none = forgets c.args.register c.requires.register c.in-Ok.ensures.called in
     record {
       ready = ready_on before.ready c.clear.ensures.home (on Empty).is;
       pass = seen_then c.args.caller.now.pass c.tries.caller.pass c.clear.new.self.pass before.is (on Empty).is;
       ended = λ d. goes_through (before.ended d) (on d);
+      forgets = (none.0, λ r lt other. none.1 r lt other ∙ before.registers r lt);
     }
 
 pub tries-preserved : goal.tries-preserved
@@ -23,5 +26,6 @@ tries-preserved g c =
     record {
       ready = ready_on before.ready c.clear.ensures.home held.is;
       ended = λ d. goes_held _ (before.ended d) held;
+      registers = λ r lt. held.registers r lt ∙ before.registers r lt;
       is = seen_then c.args.caller.now.pass c.tries.caller.pass c.clear.new.self.pass before.is held.is;
     }
