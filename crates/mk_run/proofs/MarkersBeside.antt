@@ -9,7 +9,7 @@ use Rattle.mk_heap.specs.Hosts.{pass_for, with_marker_made}
 use Rattle.mk_run.proofs.WholeRuns.{all_callers_home, still_joined, still_texts}
 use Rattle.mk_run.proofs.{HostTurns.still_last, JoinedScripts.same_or_later, LaterLists.of_one}
 use Rattle.mk_run.specs.{Marking.IsMarkersPass, declared.joining.Joined.Joined}
-use Rattle.mk_words.proofs.Seats.{has_right, without_keeps}
+use Rattle.mk_words.{proofs.Seats.has_right, proofs.Seats.without_keeps, specs.Seats.has_over}
 
 -- A marker that has done nothing is out.
 
@@ -31,10 +31,11 @@ pub marker_joined : {on with_cycle : Bool} {program : List Item} (markers : ℕ)
     → w.config ≡ config_of program markers → IsOver on with_cycle program w (j + 1) before
     → after.host ≡ with_joined before.host p after.host.pass.seen
     → Grows before.host.pass.seats before.host.pass.seen after.host.pass.seen → p.seats ≡ Marker j ∷ []
-    → IsHistory after.host.pass.table.config after.host.pass.seen → after.texts ≡ before.texts
+    → IsHistory after.host.pass.table.config after.host.pass.seen
+    → has_over after.host.pass.seen ≡ has_over before.host.pass.seen → after.texts ≡ before.texts
     → IsOver on with_cycle program w j after
 marker_joined {on} {with_cycle} {program} markers {w = w} j p {before = before} after made over is own alone history
-    same =
+    overs same =
     let h = before.host in
     let fs = after.host.pass.seen in
     let still : CallersAreStill h.pass fs = λ k has. of_one (Caller k) has own in
@@ -48,6 +49,7 @@ marker_joined {on} {with_cycle} {program} markers {w = w} j p {before = before} 
       last =
           still_last w.config h.pass over.own (all_callers_home markers made over.is_host) own
           (subst (λ (t : WordsState). IsHistory t.config fs) table history) over.last;
+      over = overs ∙ over.over;
       is_host = rw is (still_joined fs over.is_host still _ (λ k has. has_left h.pass.seats p.seats (Caller k) has));
       markers = λ i le lt. rw seats (⊎_elim (λ (e : i ≡ j). has_right h.pass.seats p.seats (Marker i)
           (subst (λ (n : ℕ). Has p.seats (Marker n)) (sym e) mine)) (λ (later : j + 1 ≤ i). has_left h.pass.seats

@@ -1,11 +1,12 @@
 -- A run of all scripts, when the heap is closed.
-use Rattle.mk_laws.proofs.Vocabulary.{Bool, Caller, Config, Event, List, Seat, ℕ, arith, subst, sym, [], ◌+◌, ◌∙◌, ◌∷◌}
-use Rattle.mk_laws.proofs.Vocabulary.{◌≡◌, ◌≤◌}
+use Rattle.mk_laws.proofs.Vocabulary.{Bool, Caller, Config, Event, List, Seat, ℕ, arith, subst, sym, true, [], ◌+◌, ◌∙◌}
+use Rattle.mk_laws.proofs.Vocabulary.{◌∷◌, ◌≡◌, ◌≤◌}
 use Rattle.mk_run.proofs.Vocabulary.{AreTextsFrom, CallersAreStill, EndsScript, FollowsScript, Grows, Has, HasCallers}
 use Rattle.mk_run.proofs.Vocabulary.{HasJoined, HostComesLast, HostState, IsOver, IsRunOf, IsScript, IsTextOf, IsWhole}
 use Rattle.mk_run.proofs.Vocabulary.{Item, Outcome, Text, WordsState, config_of, slice_get_within}
 use Rattle.mk_run.{proofs.LaterLists.{still_ends, still_follows, still_text}, specs.declared.joining.Joined.{Joined}}
 use Rattle.mk_heap.specs.{Ending.CallersAreJoined, Hosts.AllAreJoined, Reports.HasCounts}
+use Rattle.mk_words.specs.Seats.{has_over}
 use Rattle.mk_heap.specs.Reports as report
 
 pub all_callers_joined : {on : Bool} {program : List Item} {w : WordsState} {h : HostState}
@@ -56,13 +57,14 @@ all_joined {on} {program} {w} {joined} over = record {
 pub is_run : {on with_cycle : Bool} {program : List Item} (markers : ℕ) {w : WordsState} {h : HostState}
     (outcome : Outcome)
     → w.config ≡ config_of program markers → HasJoined on program w 0 h
-    → HostComesLast w.config.callers with_cycle h.pass.seen
+    → HostComesLast w.config.callers with_cycle h.pass.seen → has_over h.pass.seen ≡ true
     → AreTextsFrom program 0 w.config h.pass.seen outcome.texts.items → report.history_of outcome.report ≡ h.pass.seen
     → report.config_of outcome.report ≡ w.config
     → IsWhole (report.config_of outcome.report) (report.history_of outcome.report)
     → HasCounts (report.config_of outcome.report) (report.history_of outcome.report) outcome.report
     → IsRunOf on with_cycle program markers outcome
-is_run {on} {with_cycle} {program} markers {w = w} {h = h} outcome made joined last texts history config whole counts =
+is_run {on} {with_cycle} {program} markers {w = w} {h = h} outcome made joined last over texts history config whole
+    counts =
     let c = config_of program markers in
     let es = report.history_of outcome.report in
     let same : report.config_of outcome.report ≡ c = config ∙ made in
@@ -76,6 +78,7 @@ is_run {on} {with_cycle} {program} markers {w = w} {h = h} outcome made joined l
       ends = λ k is.
           rw history (subst (λ (d : Config). EndsScript program k d h.pass.seen) made (texts.ends k (omega arith) is));
       host = rw history (subst (λ (d : Config). HostComesLast d.callers with_cycle h.pass.seen) made last);
+      over = rw history over;
       count = omega arith;
       texts = λ k text at. rw history (subst (λ (d : Config). IsTextOf program k d h.pass.seen text) made
           (subst (λ (j : ℕ). IsTextOf program j w.config h.pass.seen text) (omega arith) (texts.each k text at)));

@@ -1,7 +1,7 @@
 -- Markers on threads of their own, beside the scripts.
-use Rattle.std.specs.Prelude.{◌≡◌, ℕ, ◌<◌, ◌≤◌, Bool, List, [], ◌∷◌, IfOk}
+use Rattle.std.specs.Prelude.{◌≡◌, ℕ, ◌<◌, ◌≤◌, Bool, true, List, [], ◌∷◌, IfOk}
 use Rattle.mk_core.specs.declared.events.Seat.TheVariants.{Marker, Host}
-use Rattle.mk_words.specs.{Seats.Has, States.{WordsState, PassState}}
+use Rattle.mk_words.specs.{Seats.{Has, has_over}, States.{WordsState, PassState}}
 use Rattle.mk_marker.specs.Markers.{IsOut}
 use Rattle.mk_script.specs.declared.items.Item.{Item}
 use Rattle.mk_run.specs.{HostTurns.HostComesLast, Joining.{HasJoined, AreTextsFrom}, declared.joining.Joined.Joined}
@@ -21,5 +21,6 @@ pub record IsOver (on with_cycle : Bool) (program : List Item) (w : WordsState) 
   pub is_host : HasJoined on program w 0 joined.host
   pub own : Has joined.host.pass.seats Host
   pub last : HostComesLast w.config.callers with_cycle joined.host.pass.seen
+  pub over : has_over joined.host.pass.seen ≡ true
   pub markers : (i : ℕ) → j ≤ i → i < joined.host.markers → Has joined.host.pass.seats (Marker i)
   pub texts : IfOk joined.texts (λ texts. AreTextsFrom program 0 w.config joined.host.pass.seen texts.items)

@@ -5,6 +5,7 @@ use Rattle.mk_core.specs.{declared.events.Seat.TheVariants.Caller, Decided.asked
 use Rattle.mk_script.specs.{declared.items.Item.Item, Scopes.script_names}
 use Rattle.mk_check.specs.{Declarations.config_of, Feed.{feed, has_ended, is_refusal}, Laws.{AreNotedBy, IsScript}}
 use Rattle.mk_check.specs.{Output.answers_among, declared.text.Text.Text}
+use Rattle.mk_words.specs.Seats.{has_over}
 use Rattle.mk_heap.specs.Reports.{IsWhole, HasCounts}
 use Rattle.mk_alloc.specs.TurnCycles.{TurnsOfAreExact}
 use Rattle.mk_run.specs.{declared.outcomes.Outcome.Outcome, HostTurns.HostComesLast}
@@ -31,7 +32,7 @@ pub record IsTextOf (program : List Item) (k : ℕ) (c : Config) (es : List Even
   pub refused : text.refused ≡ count_by is_refusal (answers_in c k es)
 
 -- All scripts of the program ran to their ends on a heap of its configuration, and these are their texts. The host came
--- after them, where asked with a last cycle.
+-- after them, where asked with a last cycle, and said that all is over.
 pub record IsRunOf (on with_cycle : Bool) (program : List Item) (markers : ℕ) (outcome : Outcome) : Type 0 where
   pub config : report.config_of outcome.report ≡ config_of program markers
   pub whole : IsWhole (config_of program markers) (report.history_of outcome.report)
@@ -42,6 +43,7 @@ pub record IsRunOf (on with_cycle : Bool) (program : List Item) (markers : ℕ) 
       → EndsScript program k (config_of program markers) (report.history_of outcome.report)
   pub host :
       HostComesLast (config_of program markers).callers with_cycle (report.history_of outcome.report)
+  pub over : has_over (report.history_of outcome.report) ≡ true
   pub count : length outcome.texts.items ≡ length (script_names program)
   pub texts : (k : ℕ) (text : Text) → slice_get outcome.texts.items k ≡ Some text
       → IsTextOf program k (config_of program markers) (report.history_of outcome.report) text

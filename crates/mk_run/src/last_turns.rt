@@ -1,5 +1,6 @@
 //! The host's last turns, when the scripts are joined.
 ghost use Rattle.std.specs.Prelude.{◌≡◌, true};
+ghost use Rattle.mk_words.specs.Seats.{has_over};
 ghost use Rattle.mk_run.specs.LastTurns.{BeginsAsAsked, GoesOnAlone, HasAllHome, TakesLastTurns};
 
 use mk_cycle::Engine;
@@ -19,6 +20,7 @@ fn cycle_and_over<E: Engine, R: Threads + Wait + Sync>(
     ensures host { GoesOnAlone E.sweeps E.begins host.old host.new }
     ensures turns { TakesLastTurns (E.tells engine.new) heap.now host.new.pass }
     ensures cycles { BeginsAsAsked true host.old.pass.seen host.new.pass.seen }
+    ensures over { has_over host.new.pass.seen ≡ true }
 {
     host.cycle(rt, heap, engine);
     host.over(rt, heap, engine);
@@ -37,6 +39,7 @@ pub(crate) fn take_last_turns<E: Engine, R: Threads + Wait + Sync>(
     ensures host { GoesOnAlone E.sweeps E.begins host.old host.new }
     ensures turns { with_cycle ≡ true → TakesLastTurns (E.tells engine.new) heap.now host.new.pass }
     ensures cycles { BeginsAsAsked with_cycle host.old.pass.seen host.new.pass.seen }
+    ensures over { has_over host.new.pass.seen ≡ true }
 {
     if with_cycle {
         cycle_and_over(rt, heap, host, engine);

@@ -1,6 +1,6 @@
 use Rattle.mk_laws.proofs.Vocabulary.{ap, arith, subst, sym, ◌∙◌}
 use Rattle.mk_run.proofs.Vocabulary.{HasCallers, HostState, WordsState, keeps_then}
-use Rattle.mk_heap.{proofs.BegunHosts.over_begun, specs.Hosts.with_seen}
+use Rattle.mk_heap.{proofs.BegunHosts.over_begun, proofs.ClientSteps.has_said_over, specs.Hosts.with_seen}
 use Rattle.mk_run.proofs.{HostTurns.both_begin, LastTurns.last_turns, LastTurns.still_behind_both}
 use Rattle.mk_run.proofs.last_turns.cycle_and_over.Goals as goal
 
@@ -29,4 +29,5 @@ returns g c =
           both_begin h cycled over at.own
           (subst (λ (w : WordsState). HasCallers w.config h.pass.seats) (sym at.table) at.callers)
           c.cycle.ensures.host told.makes c.over.ensures.over;
+      over = has_said_over c.over.ensures.over;
     }

@@ -1,6 +1,6 @@
 use Rattle.mk_laws.proofs.Vocabulary.{false, subst, sym, ◌≡◌}
 use Rattle.mk_run.proofs.Vocabulary.{HasCallers, WordsState, rules}
-use Rattle.mk_heap.proofs.BegunHosts.{over_begun}
+use Rattle.mk_heap.proofs.{BegunHosts.over_begun, ClientSteps.has_said_over}
 use Rattle.mk_run.proofs.{HostTurns.over_begins, LastTurns.still_behind_over}
 use Rattle.mk_run.proofs.last_turns.take_last_turns.Goals as goal
 
@@ -24,3 +24,6 @@ returns-else-with_cycle-clause-cycles g c =
     let unasked : c.args.with_cycle ≡ false = search rules in
     rw unasked (over_begins at.own (subst (λ (w : WordsState). HasCallers w.config c.args.host.now.pass.seats)
     (sym at.table) at.callers) c.over.ensures.over)
+
+pub returns-else-with_cycle-clause-over : goal.returns-else-with_cycle-clause-over
+returns-else-with_cycle-clause-over g c = has_said_over c.over.ensures.over

@@ -33,7 +33,8 @@ returns g t c =
     record {
       over =
           marker_joined c.args.run.now.markers number c.join-pass.result.0 (record { host = new; texts = joined.texts })
-          c.args.run.now.made_for before c.join_marker.ensures.host own pass.alone c.join_marker.ensures.history refl;
+          c.args.run.now.made_for before c.join_marker.ensures.host own pass.alone c.join_marker.ensures.history
+          c.join_marker.ensures.overs refl;
       turns = λ asked. last_turns_joined old new c.join-pass.result.0
           c.join_marker.ensures.host own (c.join-pass.ensures.second.1.0 asked);
       keep =

@@ -37,6 +37,7 @@ returns g c =
         last =
             comes_last w.config h.pass (all_callers_home c.args.run.now.markers c.args.run.now.made_for joined.is_host)
             joined.without_host last.host.still last.cycles;
+        over = last.over;
         markers = λ i le lt. absurd (omega arith);
         texts =
             IfOk-weaker c.run_from-host.result.texts (λ texts. AreTextsFrom program 0 w.config h.pass.seen texts.items)

@@ -19,7 +19,7 @@ returns g c =
     record {
       runs =
           is_run markers (record { texts = c.in_ok-texts.field-0; report = c.close-report.result }) made
-          beside.over.is_host beside.over.last texts end.history end.config end.whole end.counts;
+          beside.over.is_host beside.over.last beside.over.over texts end.history end.config end.whole end.counts;
       cycle = λ asked. run_ends_with_cycle (config_of program markers) c.close-report.result made
           (beside.turns asked) end.history end.config end.whole;
       reached = run_is_unswept program markers made end.config end.history end.whole beside.keep;
