@@ -2,7 +2,7 @@
 ghost use Rattle.std.specs.Prelude.{◌≡◌, ◌≢◌, ◌⊎◌, map, string_bytes, length, false, None, IsSomeAnd};
 ghost use Rattle.mk_io.specs.{Bytes.{Appends, AppendsPart}, Faults.Rose};
 ghost use Rattle.mk_commands.specs.Commands.{command_of};
-ghost use Rattle.mk_outputs.specs.{Outputs.{HasAnswered, IsStatusOn}, Statuses.{IsBeforeWriting, IsRefusal}};
+ghost use Rattle.mk_outputs.specs.{Outputs.{HasAnswered, HasNoRead, IsStatusOn}, Statuses.{IsBeforeWriting, IsRefusal}};
 
 use mk_commands::command_in;
 use mk_io::{Failed, Sink, Source, write_all};
@@ -60,8 +60,8 @@ pub fn markus<S: Source, K: Sink, P: Pace + Sync, R: Threads + Wait + Sync>(
         HasAnswered (map (λ word. string_bytes word) words.now) (S.left source.old) (S.left source.new)
         (λ output. K.has_room sink.old (length output) ≡ false) }
 
-    // What a refusal leaves.
-    ensures unread { result ≡ Status.Usage → source.new ≡ source.old }
+    // What is left as it was.
+    ensures unread { HasNoRead (command_of (map (λ word. string_bytes word) words.now)) → source.new ≡ source.old }
     ensures unwritten { IsBeforeWriting result → sink.new ≡ sink.old }
 
     // Where no count of faults rises, the status is that of the command on the text.

@@ -199,3 +199,9 @@ IsStatusOf (asked.Gen request) left status = (status ≡ NoMemory) ⊎ (status �
 abbrev pub IsStatusOn : Option Command → Option (List ℕ) → Status → Type 0
 IsStatusOn (Some command) left status = IsStatusOf command left status
 IsStatusOn None left status = Unit {0}
+
+-- Words of no form have no read, and `gen` has none, whatever it answers.
+abbrev pub HasNoRead : Option Command → Type 0
+HasNoRead (Some (asked.OnText on_text)) = ⊥
+HasNoRead (Some (asked.Gen request)) = Unit {0}
+HasNoRead None = Unit {0}

@@ -1,9 +1,9 @@
 //! What a command writes, or why it is refused.
-ghost use Rattle.std.specs.Prelude.{◌≡◌, ◌≢◌, ◌≤◌, ◌⊎◌, Ok, Err, false, IfOk, IfErr, OnOk};
+ghost use Rattle.std.specs.Prelude.{◌≡◌, ◌≢◌, ◌≤◌, ◌⊎◌, Ok, Err, Some, false, IfOk, IfErr, OnOk};
 ghost use Rattle.mk_io.specs.{Bytes.TakesAll, Faults.Rose};
 ghost use Rattle.mk_script.specs.Grammar.{program_of};
 ghost use Rattle.mk_commands.specs.Commands.{AreWithin, IsWithin};
-ghost use Rattle.mk_outputs.specs.Outputs.{IsOutputOfCommand, IsOutput, IsOutputOf, IsStatusOf, status_on};
+ghost use Rattle.mk_outputs.specs.Outputs.{IsOutputOfCommand, IsOutput, IsOutputOf, IsStatusOf, HasNoRead, status_on};
 ghost use Rattle.mk_outputs.specs.{Outputs.{status_of_program, status_of_text}, Statuses.{IsBeforeWriting, IsOfText}};
 
 use crate::generating::summed;
@@ -39,6 +39,7 @@ pub fn output_of<S: Source, P: Pace + Sync, R: Threads + Wait + Sync>(
     ensures read_fault { result ≡ Err Status.ReadFault → Rose (S.faults source.old) (S.faults source.new) }
     ensures sound { result ≡ Err Status.ReadFault → S.never_fails source.old ≡ false }
     ensures read_whole { result ≢ Err Status.ReadFault → S.faults source.new ≡ S.faults source.old }
+    ensures unread { HasNoRead (Some command) → source.new ≡ source.old }
 {
     match command {
         Command::OnText(command) => {
