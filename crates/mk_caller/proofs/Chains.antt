@@ -16,8 +16,7 @@ pub go : {p q r : PassState} {o : Op} {ss ts : List Step} {f : Flight} → IsAtF
     → IsAtFlight p o (ss ++ ts) (X f).answer (X f).flight r
 go a x1 same b = grind (arith, joined)
 
--- and of one that is
--- a probe that finds the page mapped
+-- and of one that is a probe that finds the page mapped
 pub go_probed : {p q r : PassState} {o : Op} {ss : List Step} {f : Flight} → IsAtFlight p o ss None f q → f.op ≡ o
     → CallGoesOn q Step.Probe passes r → IsAtFlight p o (ss ++ Step.Probe ∷ []) (passes f).answer (passes f).flight r
 go_probed at same probes = go at passes same probes

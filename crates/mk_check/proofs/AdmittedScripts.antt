@@ -257,3 +257,5 @@ scripts_are_admitted program callers calls checked enough are =
     all_admitted checked (heap_of program callers) calls (λ k is. start_fits program (lines_of program k)
     (text_has_few program k checked.of_some_text) callers k (omega arith)) are.callers
     (λ k is. noted_asked k (are.ops k is).answers calls checked (are.ops k is).are_noted)
+
+pub ruleset what_scripts_ask_is_noted_facts = (first_are_noted, answers_are_noted, others_are_ignored)

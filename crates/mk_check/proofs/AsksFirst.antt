@@ -7,8 +7,8 @@ use Rattle.mk_check.proofs.Vocabulary.{and_parts, ap, arith, asks_first, false, 
 use Rattle.mk_check.proofs.Vocabulary.{is_print, is_some, kept_in, length, length_push, node_at, not, op_asked, refl}
 use Rattle.mk_check.proofs.Vocabulary.{slice_get, slice_get_within, steps_at, steps_from, subst, suc, sym, take}
 use Rattle.mk_check.proofs.Vocabulary.{take_all, take_more, trees, true, with_kept, zero, [], ◌&&◌, ◌++◌, ◌+◌, ◌-◌, ◌<◌}
-use Rattle.mk_check.proofs.{Vocabulary.{◌∙◌, ◌∷◌, ◌≡◌}, Moves.{FramesAreWithin_pop, asks_at, end_goes_on, line_goes_on}}
-use Rattle.mk_check.proofs.TreeNodes.{IsAt, IsAtBlock, steps_at-trees}
+use Rattle.mk_check.proofs.{Vocabulary.{◌∙◌, ◌∷◌, ◌≡◌}, Moves.{FramesAreWithin_pop, asks_at, block_finds_room}}
+use Rattle.mk_check.proofs.{Moves.{end_goes_on, line_goes_on}, TreeNodes.{IsAt, IsAtBlock, found_block, steps_at-trees}}
 use Rattle.mk_check.specs.Trees.{LeavesBlock, MovesToOp, node_after, node_to_go_on, place_in_block, resumed_node}
 
 pub asked_so : (numbers : List ℕ) (instruction : Instruction)
@@ -167,3 +167,5 @@ module _ (nodes : List Node) where
         fits = moves.fits;
       }
   left_to_op {p} q false at first leaves none = grind arith
+
+pub ruleset step_to_op_facts = (found_block, block_finds_room, first_in_block)

@@ -169,8 +169,3 @@ end_added {b} line sound = record {
   };
   parts = cc (put_parts 0 sound, sound.first);
 }
-
--- no part is open, or one
-pub none_added : {b : Built} (c : Built) (line : ℕ) (e : Element) → IsSoundlyBuilt b → b.parts ≡ [] → c ≡ b
-    → with_element line e [] ≡ [] → AddsLine line e b c
-none_added c line e sound none same nothing = grind arith

@@ -1,13 +1,10 @@
 -- Counts of parts, as a script is read from its end.
 use Rattle.std.proofs.{lemmas.List.{length-reverse, reverse-append, reverse-reverse, set_at}, Common.set}
 use Rattle.std.proofs.lemmas.Grind.{reverse_onto}
-use Rattle.mk_check.proofs.Vocabulary.{Bool, Item, List, Part, PartCount, ℕ, ap, append_assoc, arith}
-use Rattle.mk_check.proofs.Vocabulary.{before_next_script, branch, cases_lt, counts_of, drop, drop_more, false, get_or}
-use Rattle.mk_check.proofs.Vocabulary.{get_or_at, if◌then◌else◌, is_script, length, length-append, outermost_blocks}
-use Rattle.mk_check.proofs.Vocabulary.{refl, reverse, suc, take, take_more, true, with_item, zero, [], ◌*◌, ◌++◌, ◌+◌}
-use Rattle.mk_check.{proofs.Vocabulary.{◌-◌, ◌<◌, ◌∙◌, ◌∷◌, ◌≡◌}, specs.Lengths.{length_of}}
-use Rattle.mk_check.specs.Counts.{counts_with, innermost_count, saturated_count, with_count, with_innermost}
-use Rattle.mk_script.specs.{declared.items.Item.TheVariants.{Else, End, If, Repeat}, Scopes.is_instruction}
+use Rattle.mk_check.proofs.Vocabulary.{Bool, Item, List, Part, PartCount, ℕ, ap, arith, branch, cases_lt, counts_of}
+use Rattle.mk_check.proofs.Vocabulary.{get_or, get_or_at, if◌then◌else◌, length, length-append, refl, reverse, suc}
+use Rattle.mk_check.proofs.Vocabulary.{with_item, zero, [], ◌*◌, ◌++◌, ◌+◌, ◌-◌, ◌<◌, ◌∙◌, ◌∷◌, ◌≡◌}
+use Rattle.mk_check.specs.{Counts.{counts_with, saturated_count, with_count, with_innermost}, Lengths.length_of}
 
 saturated_count-rounds : (rounds body : ℕ)
     → saturated_count (1 + rounds * (1 + body)) ≡ saturated_count (1 + rounds * (1 + saturated_count body))
@@ -33,12 +30,6 @@ pub counts-with_item : (line : ℕ) (item : Item) (parts : List Part)
     → counts_of (with_item line item parts) ≡ counts_with item (counts_of parts)
 unfolding with_lines
 counts-with_item line item parts = grind (arith, with_lines, saturated_count-repeat, counts-with_line)
-
--- the items that open and end no part
-pub counts_with-line : (item : Item) (counts : List PartCount) → ((rounds : ℕ) → item ≡ Repeat rounds → ⊥)
-    → ((number : List ℕ) → item ≡ If number → ⊥) → (item ≡ Else → ⊥) → (item ≡ End → ⊥)
-    → counts_with item counts ≡ (if is_instruction item then with_count 1 counts else counts)
-counts_with-line item counts not_repeat not_if not_else not_end = grind arith
 
 -- The innermost part is the last in memory.
 
@@ -69,28 +60,3 @@ pub reverse-none : (f : PartCount → PartCount) (xs : List PartCount) (n : ℕ)
     → reverse xs ≡ with_innermost f (reverse xs)
 reverse-none f [] n counted none = refl
 reverse-none f (x ∷ xs) n counted none = absurd (omega arith)
-
-pub lines-innermost : (parts : List Part)
-    → (innermost_count (counts_of parts)).lines ≡ saturated_count (length_of (outermost_blocks parts))
-lines-innermost x0 = grind arith
-
--- Where a script ends.
-
-before_next_script-other : (item : Item) (items : List Item) → is_script item ≡ false
-    → before_next_script (item ∷ items) ≡ item ∷ before_next_script items
-before_next_script-other item items h = grind arith
-
-module _ (items : List Item) (i : ℕ) (item : Item) (within : i < length items) (read : item ≡ get_or items i item) where
-  pub before_next_script-end : is_script item ≡ true → before_next_script (drop i items) ≡ []
-  before_next_script-end h = grind (arith, drop_more)
-
-  pub before_next_script-more : is_script item ≡ false → take i items ++ before_next_script (drop i items)
-      ≡ take (i + 1) items ++ before_next_script (drop (i + 1) items)
-  before_next_script-more h =
-      rw (
-        drop_more items i item within,
-        take_more items i item within,
-        ← read,
-        before_next_script-other item (drop (i + 1) items) h,
-        append_assoc,
-      ) refl

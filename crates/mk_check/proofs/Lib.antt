@@ -15,7 +15,6 @@ pub mod Moves
 pub mod TreeNodes
 pub mod Numbered
 pub mod NumberedParts
-pub mod OtherLines
 pub mod Stands
 pub mod Spots
 pub mod StepLaws

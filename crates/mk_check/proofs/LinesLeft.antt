@@ -5,8 +5,8 @@ use Rattle.mk_check.proofs.Vocabulary.{Scope, ScriptText, Some, ℕ, append_asso
 use Rattle.mk_check.proofs.Vocabulary.{fed_before_answers, fed_before_lines, feed, first_op, if◌then◌else◌}
 use Rattle.mk_check.proofs.Vocabulary.{is_end_of_block, is_some, length, length_push, next_op, note, op_of}
 use Rattle.mk_check.proofs.Vocabulary.{outermost_blocks, parts_from, refl, run, script_of, script_scope, suc, sym}
-use Rattle.mk_check.proofs.Vocabulary.{take_answer, take_answers, true, with_answer, with_item, with_line, zero, []}
-use Rattle.mk_check.{proofs.Vocabulary.{◌++◌, ◌+◌, ◌==◌, ◌∙◌, ◌∷◌, ◌≡◌}, specs.Feed.{then_run}}
+use Rattle.mk_check.proofs.Vocabulary.{take_answer, take_answers, true, with_answer, with_item, zero, [], ◌++◌, ◌+◌}
+use Rattle.mk_check.{proofs.Vocabulary.{◌==◌, ◌∙◌, ◌∷◌, ◌≡◌}, specs.Feed.{then_run}}
 use Rattle.mk_check.specs.{Blocks.{AllFrom, AllLines, AllPlaced, followed_by}, Feed.{number_in, run_line, run_rounds}}
 
 module _ (P : ℕ → Item → Type 0) where
@@ -15,11 +15,6 @@ module _ (P : ℕ → Item → Type 0) where
   AllPlacedParts : List Part → Type 0
   AllPlacedParts [] = Unit {0}
   AllPlacedParts (part ∷ parts) = AllPlaced P part.blocks × AllPlaced P (branch part.second) × AllPlacedParts parts
-
-  AllPlacedParts-with_line : (line : ℕ) (item : Item) (parts : List Part) → P line item → AllPlacedParts parts
-      → AllPlacedParts (with_line line item parts)
-  unfolding AllPlacedParts
-  AllPlacedParts-with_line line item x2 here h = grind arith
 
   AllPlacedParts-with_item : (line : ℕ) (item : Item) (parts : List Part) → P line item → AllPlacedParts parts
       → AllPlacedParts (with_item line item parts)

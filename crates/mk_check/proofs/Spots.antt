@@ -1,16 +1,12 @@
 -- A tree with marks that gets one more node.
 use Rattle.std.proofs.lemmas.List.{get_or-map, get_or_default}
-use Rattle.mk_check.proofs.Vocabulary.{IsBelow, IsTree, List, Node, ℕ, ap, arith, asks_at, asks_first, cases_lt, get_or}
-use Rattle.mk_check.proofs.Vocabulary.{get_or_append_left, get_or_at, inl, inr, instruction_of_node, is_asking, length}
-use Rattle.mk_check.proofs.Vocabulary.{length-map, length_push, map-append, node_at, op_asked, op_of_node, refl}
-use Rattle.mk_check.proofs.Vocabulary.{sequels_of, steps_at, steps_from, subst, sym, trees, [], ◌++◌, ◌<◌, ◌∷◌, ◌≡◌}
+use Rattle.mk_check.proofs.Vocabulary.{IsBelow, IsTree, List, Node, ℕ, ap, arith, asks_first, cases_lt, get_or}
+use Rattle.mk_check.proofs.Vocabulary.{get_or_append_left, get_or_at, inl, inr, instruction_of_node, length, length-map}
+use Rattle.mk_check.proofs.Vocabulary.{length_push, map-append, node_at, op_asked, op_of_node, refl, sequels_of}
+use Rattle.mk_check.proofs.Vocabulary.{steps_at, steps_from, subst, sym, trees, [], ◌++◌, ◌<◌, ◌∷◌, ◌≡◌}
 use Rattle.mk_check.proofs.TreeNodes.{IsBelow-more, IsTree_push, steps_at-trees, steps_from_same}
 use Rattle.mk_check.{proofs.Builds.{steps_at_push}, specs.declared.feeding.tree.Spot.{Spot}}
 use Rattle.mk_check.specs.Spots.{IsMarked, IsMarkedTree, end_spot, nodes_of, sequels_before, spot_at}
-
--- whether a node asks for an operation, by its instruction
-pub asks_by_instruction : (n : Node) → is_asking (instruction_of_node n) ≡ asks_at n
-asks_by_instruction x0 = grind arith
 
 -- the operation that it asks for
 pub op_by_instruction : (numbers : List ℕ) (n : Node) → op_asked numbers (instruction_of_node n) ≡ op_of_node numbers n

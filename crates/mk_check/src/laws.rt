@@ -19,7 +19,7 @@ pub fn the_next_operation_is_admitted()
 
 /// A caller's operations are those that its script notes: before any call, and still with one call more, whether
 /// it is what the script asks for next or another caller's.
-#[tactic(auto, using(crate::proofs::AdmittedScripts::first_are_noted, crate::proofs::AdmittedScripts::answers_are_noted, crate::proofs::AdmittedScripts::others_are_ignored))]
+#[tactic(auto, using(crate::proofs::AdmittedScripts::what_scripts_ask_is_noted_facts))]
 pub fn what_scripts_ask_is_noted()
     ensures at_first { (program : List Item) (k : ℕ) → AreNotedBy program k [] [] }
     ensures answered { (program : List Item) (k : ℕ) (answers : List Answer) (calls : List Call)

@@ -33,3 +33,5 @@ all_below-at zero k test h lt = absurd (omega arith)
 all_below-at (suc n) k test h lt =
     let b = and_parts (all_below n test) (test n) h in
     elim (cases_eq k n) [ inl e ↦ ap test e ∙ b.1 | inr ne ↦ all_below-at n k test b.0 (omega arith) ]
+
+pub ruleset all_below_facts = (all_below_zero_is, all_below_more_is, all_below_not_is)

@@ -46,3 +46,14 @@ earlier_part_is_history c es more h = record {
   enabled = ((enabled_in_parts c es more).0 h.enabled).0;
   admitted = ((admitted_in_parts c es more).0 h.admitted).0;
 }
+
+pub ruleset histories_are_of_two_parts_facts
+    = (
+      left_in_parts,
+      enabled_in_parts,
+      calls_in_parts,
+      never_in_parts,
+      replies_in_parts,
+      admitted_in_parts,
+      earlier_part_is_history,
+    )

@@ -147,3 +147,5 @@ made_is_mapped o distance sized lt = elim (cases_Bool (is_small_object o)) [
 pub unmapped_is_unmapped : (count distance : ℕ) → (1 ≤ count) × (count ≤ 64) → distance < count
     → is_unmapped_header (header_of (unmapped_header count distance)) ≡ true
 unmapped_is_unmapped count x1 range lt = grind (arith, header_of-word_of)
+
+pub ruleset headers_show_their_objects_facts = (header_shows, part_head, later_cells)

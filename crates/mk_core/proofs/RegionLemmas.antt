@@ -8,6 +8,7 @@ use Rattle.mk_core.proofs.Vocabulary.{slice_index, slice_index_or, slice_set, su
 use Rattle.mk_core.proofs.{Vocabulary.{◌*◌, ◌++◌, ◌+◌, ◌/◌, ◌<◌, ◌^◌, ◌∙◌, ◌∷◌, ◌≡◌}, PageByPage.{dirty_at, dirty_set}}
 use Rattle.mk_core.proofs.{PageByPage.{heap_at, heap_set, length_pages, zeros}, Spread.{length_spread, set_later}}
 use Rattle.mk_core.{proofs.Spread.{spread_at, spread_set, word_at, word_set}, specs.Words.{word_in}}
+use Rattle.mk_core.proofs.LayoutLemmas.{indexes_within, names_apart}
 use Rattle.mk_geom.specs.Storages.{free_page}
 use Rattle.mk_core.specs.Layout.{AccessesStandAtTheirIndexes, AreOfPages, ChangesStandAtTheirIndexes, FirstWordsAreZero}
 use Rattle.mk_core.specs.Layout.{IsOfTable, ListHasAllWords, WordsStandAtTheirIndexes, gap, in_order, index_of, joined}
@@ -263,3 +264,7 @@ accesses_change pages w x (Exchange old new) h t = made x (Exchange old new) h t
 accesses_change pages w x (Or bits) h t = made x (Or bits) h t
 accesses_change pages w x (Add n) h t = made x (Add n) h t
 accesses_change pages w x (Sub n) h t = made x (Sub n) h t
+
+pub ruleset words_have_indexes_of_their_own_facts = (names_apart, indexes_within, words_stand, words_change)
+
+pub ruleset words_are_one_list_facts = (has_all_words, first_are_zero, accesses_change)

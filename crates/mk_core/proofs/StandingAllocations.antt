@@ -197,3 +197,5 @@ cell_is_known c w a sized b has =
     let is : (cell_of_storage (storage_of c a)).index ≡ b.index =
     ap (λ (k : Cell). k.index) (placed_cell c a sized b) in
     omega (arith, part_cells (object_placed c a) _ (first_page_shows c w a sized has), b.known)
+
+pub ruleset an_allocation_has_its_cell_facts = (storage_holds, standing_has_storage, headers_show_storage, pointers_hit)

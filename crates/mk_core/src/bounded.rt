@@ -3,7 +3,7 @@ ghost use Rattle.std.specs.Prelude.{◌≡◌, ℕ, Bool, ◌<◌};
 ghost use Rattle.mk_core.specs.Bounded.{all_below};
 
 /// Whether the test holds of each number below this one.
-#[tactic(auto, using(crate::proofs::AllBelow::all_below_zero_is, crate::proofs::AllBelow::all_below_more_is, crate::proofs::AllBelow::all_below_not_is))]
+#[tactic(auto, using(crate::proofs::AllBelow::all_below_facts))]
 pub(crate) fn all_below<F: Fn(u64) -> bool>(count: u64, test: F) -> bool
     requires { F.IsAlwaysCallable test }
     ensures { (asked : ℕ → Bool) → ((k : ℕ) (answer : Bool) → k < count → F.post test k answer → answer ≡ asked k)

@@ -11,7 +11,7 @@ use crate::Event;
 /// What a list of events leaves, decides and asks for is what its earlier part does, and then its later part
 /// after that. The earlier part of a history is a history.
 
-#[tactic(auto, using(crate::proofs::HistoryParts::left_in_parts, crate::proofs::HistoryParts::enabled_in_parts, crate::proofs::HistoryParts::calls_in_parts, crate::proofs::HistoryParts::never_in_parts, crate::proofs::HistoryParts::replies_in_parts, crate::proofs::HistoryParts::admitted_in_parts, crate::proofs::HistoryParts::earlier_part_is_history))]
+#[tactic(auto, using(crate::proofs::HistoryParts::histories_are_of_two_parts_facts))]
 pub fn histories_are_of_two_parts()
     ensures left { (c : Config) (es more : List Event) → LeftInParts c es more }
     ensures enabled { (c : Config) (es more : List Event) → EnabledInParts c es more }

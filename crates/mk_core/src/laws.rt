@@ -5,7 +5,7 @@ ghost use Rattle.mk_core.specs.Layout.{FirstWordsAreZero, AccessesStandAtTheirIn
 
 /// Each word of the table has an index of its own. The words as one list have each at its index, and a
 /// change of a word is a change there alone.
-#[tactic(auto, using(crate::proofs::LayoutLemmas::names_apart, crate::proofs::LayoutLemmas::indexes_within, crate::proofs::RegionLemmas::words_stand, crate::proofs::RegionLemmas::words_change))]
+#[tactic(auto, using(crate::proofs::RegionLemmas::words_have_indexes_of_their_own_facts))]
 pub fn words_have_indexes_of_their_own()
     ensures apart { NamesAreApart }
     ensures of_the_table { IndexesAreOfTheTable }
@@ -16,7 +16,7 @@ pub fn words_have_indexes_of_their_own()
 
 /// The words as one list are as many as the table's, the first are all 0, and an access changes its word
 /// there as it changes a word of the table.
-#[tactic(auto, using(crate::proofs::RegionLemmas::has_all_words, crate::proofs::RegionLemmas::first_are_zero, crate::proofs::RegionLemmas::accesses_change))]
+#[tactic(auto, using(crate::proofs::RegionLemmas::words_are_one_list_facts))]
 pub fn words_are_one_list()
     ensures count { ListHasAllWords }
     ensures first { FirstWordsAreZero }

@@ -7,7 +7,7 @@ ghost use Rattle.mk_core.specs.StandingAllocations.{UnreleasedStorageIsOfAllocat
 
 /// The header words that the pages of an object get, mapped or not, show where it begins, its cells and
 /// their words, and whether they are scanned.
-#[tactic(auto, using(crate::proofs::ObjectHeaders::header_shows, crate::proofs::ObjectHeaders::part_head, crate::proofs::ObjectHeaders::later_cells))]
+#[tactic(auto, using(crate::proofs::ObjectHeaders::headers_show_their_objects_facts))]
 pub fn headers_show_their_objects()
     ensures parts { HeadersShowParts }
     ensures heads { PartsNameTheirHeads }
@@ -17,7 +17,7 @@ pub fn headers_show_their_objects()
 
 /// An allocation that stands on the heap has a storage there, which the headers of its pages show. An
 /// address in it points, by lookup, into its cell, which begins at its base and has its words.
-#[tactic(auto, using(crate::proofs::StandingAllocations::storage_holds, crate::proofs::StandingAllocations::standing_has_storage, crate::proofs::StandingAllocations::headers_show_storage, crate::proofs::StandingAllocations::pointers_hit))]
+#[tactic(auto, using(crate::proofs::StandingAllocations::an_allocation_has_its_cell_facts))]
 pub fn an_allocation_has_its_cell()
     ensures words { StorageHoldsObjects }
     ensures storage { StandingHasStorage }

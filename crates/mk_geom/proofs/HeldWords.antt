@@ -4,13 +4,13 @@ use Rattle.std.proofs.Common.{if◌then◌else◌, inl, inr, length, ne_eqb, ref
 use Rattle.std.proofs.{Common.{◌<◌, ◌∙◌, ◌∷◌, ◌≡◌, ◌≢◌, ◌≤◌}, lemmas.Bool.{cases_Bool, cond-false, cond-true}}
 use Rattle.std.proofs.{lemmas.Bool.{false_from_ne_true, false≢true}, lemmas.List.Elements.{All-head, All-tail}}
 use Rattle.std.{proofs.lemmas.List.Sums.{sum_by-cons, sum_by-set}, specs.List.{count_by}}
-use Rattle.mk_geom.proofs.{ListSearch.{Contains-head, Contains-tail, find_cases}, PageSums.{sum_below, sum_below-add}}
-use Rattle.mk_geom.proofs.PageSums.{sum_below-block, sum_below-zero, sum_by-range}
-use Rattle.mk_geom.proofs.{PointedCells.{class_has_words, first_in_page}, Standing.{cell_stands_at, cell_within}}
-use Rattle.mk_geom.proofs.Standing.{class_of_cell, has_words, large_is_run, small_is_cell, stands_from, stands_parts}
-use Rattle.mk_geom.proofs.{Standing.storage_in, TakenCells.{cell_taken_by, cell_taken_from, get_or-taken_cells}}
-use Rattle.mk_geom.proofs.TakenCells.{length-taken_cells, none_taken, same_index, taken_cells-set, taken_same}
-use Rattle.mk_geom.proofs.{Bridge.same_uses, ClassTable.class_words_within}
+use Rattle.mk_geom.proofs.{Bridge.{same_census, same_uses}, ListSearch.{Contains-head, Contains-tail, find_cases}}
+use Rattle.mk_geom.proofs.PageSums.{sum_below, sum_below-add, sum_below-block, sum_below-zero, sum_by-range}
+use Rattle.mk_geom.proofs.Standing.{cell_stands_at, cell_within, class_of_cell, has_words, large_is_run, small_is_cell}
+use Rattle.mk_geom.proofs.Standing.{stands_from, stands_parts, storage_in}
+use Rattle.mk_geom.proofs.TakenCells.{cell_taken_by, cell_taken_from, get_or-taken_cells, length-taken_cells}
+use Rattle.mk_geom.proofs.TakenCells.{none_taken, same_index, taken_cells-set, taken_same}
+use Rattle.mk_geom.proofs.{ClassTable.class_words_within, PointedCells.{class_has_words, first_in_page}}
 use Rattle.mk_geom.specs.{Classes.{cells_of, class_words_of}, PageUses.{Cells, PageUse, PartOfRun, held_by_use}}
 use Rattle.mk_geom.specs.{PageUses.held_by_uses, Storages.{AreLaidOut, IsCell, IsStorage, LieApart, PagesStandFor}}
 use Rattle.mk_geom.specs.Storages.{Storage, class_of_storage, first_page, is_cell_taken, is_small, last_page, stands_on}
@@ -240,3 +240,5 @@ pub pages_hold_mapped_words : (pages : List Page) (storages : List Storage) → 
 pages_hold_mapped_words pages storages stand =
     ap held_by_uses (same_uses pages storages stand) ∙ sum_by-range held_by_use (use_of_storages storages) _ ∙ held_sum
     _ storages stand.laid_out
+
+pub ruleset pages_show_what_stands_there_facts = (same_uses, same_census, pages_hold_mapped_words)

@@ -7,7 +7,7 @@ ghost use Rattle.mk_geom.specs.Laws.{PointersHitCells, UsedCellHasStorage, Cells
 ghost use Rattle.mk_geom.specs.Laws.{AddressesOfWordsPointIn, CellHasFirstWord, FoundCellIsPlace, FoundRunIsPlace};
 
 /// Place, fits, census and the words that are held may be read off the pages as they are.
-#[tactic(auto, using(crate::proofs::Bridge::same_uses, crate::proofs::Bridge::same_census, crate::proofs::HeldWords::pages_hold_mapped_words))]
+#[tactic(auto, using(crate::proofs::HeldWords::pages_show_what_stands_there_facts))]
 pub fn pages_show_what_stands_there()
     ensures uses { PagesShowUses }
     ensures places { PagesShowPlaces }

@@ -234,3 +234,5 @@ pub free_pages_have_nothing : OfHistories (Leaves FreePagesHaveNothing)
 free_pages_have_nothing c es h =
     free_page c (left c es) (never_behind c es) (known_world c es h.within_limits h.enabled)
     (histories_keep_the_invariant c es h) (dirty_pages_have_allocations c es h)
+
+pub ruleset free_pages_have_nothing_facts = (free_pages_have_nothing, dirty_pages_have_allocations)

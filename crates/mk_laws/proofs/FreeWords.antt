@@ -168,3 +168,6 @@ free_cells_are_zero = of_worlds (λ c w n known all. free_cells known all)
 
 pub words_behind_cells_are_zero : OfHistories (Leaves WordsBehindCellsAreZero)
 words_behind_cells_are_zero = of_worlds (λ c w n known all. behind_is_zero known all)
+
+pub ruleset free_cells_are_zero_facts
+    = (words_of_none_are_zero, unmapped_words_are_zero, free_cells_are_zero, words_behind_cells_are_zero)

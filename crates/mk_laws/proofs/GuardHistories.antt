@@ -392,3 +392,7 @@ marking_guards c m g early = (g.guarded (grind (arith, eqb-true))).black
 
 pub others_at_first : GuardPremisesAtFirst
 others_at_first c = grind arith
+
+pub ruleset marks_stand_behind_lists_facts = (others_at_first, marks_stand_behind_lists)
+
+pub ruleset marks_are_closed_facts = (close_finds_marks_closed, stopped_marks_are_closed)

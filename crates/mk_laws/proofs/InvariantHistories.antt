@@ -158,3 +158,7 @@ closes_find_marks_closed c es h before behind seat is =
     let on = ((enabled_in_parts c before (e ∷ behind)).0 parts.enabled).1.0 in
     close_finds_marks_closed c before seat earlier.within_limits earlier.enabled on
     (told_to_guard c (left c before) _ (world_is_known earlier) all) all.marks
+
+pub ruleset pages_show_the_storage_facts = (pages_show_the_storage, first_fit_finds_the_place)
+
+pub ruleset marks_are_closed_facts = (closes_find_marks_closed, marks_stay_closed)

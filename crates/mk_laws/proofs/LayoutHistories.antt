@@ -174,3 +174,5 @@ pages_have_header_words c es limits on others = (histories_are_laid_out c es lim
 pub few_pages_are_resident : LayoutHasFewResidentPages
 few_pages_are_resident c es limits on others =
     resident_few c (left c es) (histories_keep_lengths c es).pages (histories_are_laid_out c es limits on others).room
+
+pub ruleset pages_are_in_order_facts = (pages_have_header_words, few_pages_are_resident)

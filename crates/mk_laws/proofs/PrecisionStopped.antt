@@ -134,3 +134,5 @@ keeps_only_the_touched c es h k unswept i quarantined unreleased =
 -- What isn't touched is released.
 pub releases_the_untouched : OfHistories ReleasesTheUntouched
 releases_the_untouched c es h k unswept i quarantined untouched = grind (arith, keeps_only_the_touched)
+
+pub ruleset untouched_is_released_facts = (keeps_only_the_touched, releases_the_untouched)

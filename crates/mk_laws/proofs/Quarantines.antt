@@ -29,3 +29,5 @@ told_from c done (e ∷ es) h =
 pub snapshot_is_the_cycles : OfHistories SnapshotIsTheCycles
 unfolding left_from
 snapshot_is_the_cycles c es h = snapshots_are_of_cycles c es h.within_limits h.enabled (told_from c [] es h)
+
+pub ruleset pages_are_in_order_facts = (pages_have_header_words, few_pages_are_resident)

@@ -124,3 +124,5 @@ releases_none_reached c es h r = none_reached c es h r
 
 pub no_others_release : OfHistories NoOthersRelease
 no_others_release c es h front rest e is other i u = grind (arith, left_in_parts, stays_put)
+
+pub ruleset releases_are_exact_facts = (releases_are_exact, releases_none_reached, no_others_release)

@@ -42,3 +42,5 @@ kept c es e h unset g never = grind (arith, append_assoc, left_more, one_more)
 
 pub unset_globals_are_zero : OfHistories UnsetGlobalsAreZero
 unset_globals_are_zero = holds_of_histories UnsetGlobalsAreZero first_unset kept
+
+pub ruleset unset_words_are_zero_facts = (registers_of_no_caller_are_zero, unset_globals_are_zero)

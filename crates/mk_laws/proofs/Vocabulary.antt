@@ -1,7 +1,7 @@
 -- The words of the heap and of its steps, and the lemmas of std and of the crates below that several proofs name.
 pub use Rattle.std.proofs.Common.{Bool, List, [], ap, append-nil, append_assoc, arith, drop, false, get_or, inl, inr}
 pub use Rattle.std.proofs.Common.{length, length-set, map, refl, subst, suc, sym, take, true, zero, ℕ, ◌%◌, ◌*◌, ◌++◌}
-pub use Rattle.std.{proofs.Common.{◌+◌, ◌-◌, ◌/◌, ◌<◌, ◌^◌, ◌↔◌, ◌∙◌, ◌∷◌, ◌≡◌, ◌≢◌, ◌≤◌, ◌⊎◌}, specs.Prelude.{◌==◌}}
+pub use Rattle.std.{proofs.Common.{◌+◌, ◌-◌, ◌/◌, ◌<◌, ◌^◌, ◌↔◌, ◌∙◌, ◌∷◌, ◌≡◌, ◌≢◌, ◌≤◌, ◌⊎◌}, specs.List.{list_any}}
 pub use Rattle.std.proofs.lemmas.Bool.{and_from, and_parts, and_right, cases_Bool, cases_eq, cases_lt, cond-false}
 pub use Rattle.std.proofs.lemmas.Bool.{cond-true, eq-eqb, eqb-false, eqb-true, false_from_ne_true, false≢true, le-leb}
 pub use Rattle.std.proofs.lemmas.Bool.{leb-true, lt-ltb, ltb-true, ne_eqb, not-true, or_cases, or_from, or_left}
@@ -9,8 +9,8 @@ pub use Rattle.std.proofs.lemmas.Bool.{or_parts, or_right, true≢false}
 pub use Rattle.std.proofs.lemmas.List.{get_or-set_other, get_or-set_same, get_or_append_left, get_or_past, length-map}
 pub use Rattle.std.proofs.{lemmas.List.{map-append, set-get_or, set_past}, lemmas.List.Folds.list_any-append}
 pub use Rattle.std.proofs.{lemmas.Nat.mul-le, lemmas.Option.{none-some, same_Some}}
-pub use Rattle.std.specs.{Int.bit_at, List.list_any, Prelude.{◌||◌, None, Option, Some, bit_or, cond, if◌then◌else◌}}
-pub use Rattle.std.specs.Prelude.{is_none, is_some, nat_le, nat_lt, not, slice_index, slice_index_or, slice_set, ◌&&◌}
+pub use Rattle.std.specs.Prelude.{◌==◌, ◌||◌, None, Option, Some, bit_or, cond, if◌then◌else◌, is_none, is_some, nat_le}
+pub use Rattle.std.specs.{Prelude.{nat_lt, not, slice_index, slice_index_or, slice_set, ◌&&◌}, Int.bit_at}
 pub use Rattle.mk_geom.specs.{declared.addresses.Cell.Cell, declared.headers.Header.Header}
 pub use Rattle.mk_geom.specs.declared.headers.Header.TheVariants.{Block, Free, Later, LeafBlock, LeafRun, Run}
 pub use Rattle.mk_geom.specs.{declared.pages.Page.Page, declared.pages.Place.Place, Addresses.{address_of, cell_at}}

@@ -11,14 +11,14 @@ pub fn events_keep_the_marks()
 {}
 
 /// So it stands after every list along which the layout says so, as it does of the first world.
-#[tactic(auto, using(crate::proofs::GuardHistories::others_at_first, crate::proofs::GuardHistories::marks_stand_behind_lists))]
+#[tactic(auto, using(crate::proofs::GuardHistories::marks_stand_behind_lists_facts))]
 pub fn marks_stand_behind_lists()
     ensures at_first { GuardPremisesAtFirst }
     ensures along { MarksStandBehindLists }
 {}
 
 /// Then words of black cells are guarded while a cycle marks; a `close` finds the marks closed, and they stay so.
-#[tactic(auto, using(crate::proofs::GuardHistories::close_finds_marks_closed, crate::proofs::GuardHistories::stopped_marks_are_closed))]
+#[tactic(auto, using(crate::proofs::GuardHistories::marks_are_closed_facts))]
 pub fn marks_are_closed()
     ensures guarded { MarkingGuards }
     ensures at_close { CloseFindsMarksClosed }

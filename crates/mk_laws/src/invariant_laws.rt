@@ -40,7 +40,7 @@ pub fn allocations_stand_apart()
 {}
 
 /// Where nothing is on its way, the pages show the unreleased storage, and first fit over them finds the place.
-#[tactic(auto, using(crate::proofs::InvariantHistories::pages_show_the_storage, crate::proofs::InvariantHistories::first_fit_finds_the_place))]
+#[tactic(auto, using(crate::proofs::InvariantHistories::pages_show_the_storage_facts))]
 pub fn pages_show_the_storage()
     ensures shown { OfHistories PagesShowTheStorage }
     ensures first_fit { OfHistories FirstFitFindsThePlace }
@@ -52,14 +52,14 @@ pub fn black_cells_are_guarded()
 {}
 
 /// Each `close` finds the marks closed, and they stay so up to the `release`.
-#[tactic(auto, using(crate::proofs::InvariantHistories::closes_find_marks_closed, crate::proofs::InvariantHistories::marks_stay_closed))]
+#[tactic(auto, using(crate::proofs::InvariantHistories::marks_are_closed_facts))]
 pub fn marks_are_closed()
     ensures at_close { OfHistories ClosesFindMarksClosed }
     ensures stopped { OfHistories MarksStayClosed }
 {}
 
 /// Each page has a header word, and at most as many pages are resident as the configuration allows.
-#[tactic(auto, using(crate::proofs::Quarantines::pages_have_header_words, crate::proofs::Quarantines::few_pages_are_resident))]
+#[tactic(auto, using(crate::proofs::Quarantines::pages_are_in_order_facts))]
 pub fn pages_are_in_order()
     ensures words { OfHistories PagesHaveHeaderWords }
     ensures few { OfHistories FewPagesAreResident }

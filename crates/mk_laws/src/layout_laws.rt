@@ -17,7 +17,7 @@ pub fn histories_are_laid_out()
 {}
 
 /// Each page then has a header word, and at most as many pages are resident as may be.
-#[tactic(auto, using(crate::proofs::LayoutHistories::pages_have_header_words, crate::proofs::LayoutHistories::few_pages_are_resident))]
+#[tactic(auto, using(crate::proofs::LayoutHistories::pages_are_in_order_facts))]
 pub fn pages_are_in_order()
     ensures words { LayoutHasHeaderWords }
     ensures few { LayoutHasFewResidentPages }

@@ -4,7 +4,7 @@ ghost use Rattle.mk_laws.specs.Theorems.{OfHistories};
 ghost use Rattle.mk_laws.specs.Precision.{FreesTheUntouched, KeepsOnlyTheTouched, ReleasesTheUntouched};
 
 /// A cycle without a sweeping mark releases each allocation of its snapshot that isn't touched; what it keeps is.
-#[tactic(auto, using(crate::proofs::PrecisionStopped::keeps_only_the_touched, crate::proofs::PrecisionStopped::releases_the_untouched))]
+#[tactic(auto, using(crate::proofs::PrecisionStopped::untouched_is_released_facts))]
 pub fn untouched_is_released()
     ensures kept { OfHistories KeepsOnlyTheTouched }
     ensures released { OfHistories ReleasesTheUntouched }

@@ -24,7 +24,7 @@ pub fn snapshots_tell()
 
 /// A `release` releases the allocations of its cycle's snapshot whose cells have no mark, and none that is reached;
 /// no other event releases any.
-#[tactic(auto, using(crate::proofs::Releases::releases_are_exact, crate::proofs::Releases::releases_none_reached, crate::proofs::Releases::no_others_release))]
+#[tactic(auto, using(crate::proofs::Releases::releases_are_exact_facts))]
 pub fn releases_are_exact()
     ensures exact { OfHistories ReleasesAreExact }
     ensures none_reached { OfHistories ReleasesNoneReached }
@@ -34,7 +34,7 @@ pub fn releases_are_exact()
 
 /// While the phase isn't releasing, words are 0 in cells without an allocation, after the cells of a page, and on
 /// free pages.
-#[tactic(auto, using(crate::proofs::FreeWords::words_of_none_are_zero, crate::proofs::FreeWords::unmapped_words_are_zero, crate::proofs::FreeWords::free_cells_are_zero, crate::proofs::FreeWords::words_behind_cells_are_zero))]
+#[tactic(auto, using(crate::proofs::FreeWords::free_cells_are_zero_facts))]
 pub fn free_cells_are_zero()
     ensures of_none { OfHistories (Leaves WordsOfNoneAreZero) }
     ensures unmapped { OfHistories (Leaves UnmappedWordsAreZero) }
@@ -44,14 +44,14 @@ pub fn free_cells_are_zero()
 
 /// A page without a header has its used word, its quarantine word and its dirty word 0: on each dirty page an
 /// unreleased allocation stands.
-#[tactic(auto, using(crate::proofs::FreePages::free_pages_have_nothing, crate::proofs::FreePages::dirty_pages_have_allocations))]
+#[tactic(auto, using(crate::proofs::FreePages::free_pages_have_nothing_facts))]
 pub fn free_pages_have_nothing()
     ensures free { OfHistories (Leaves FreePagesHaveNothing) }
     ensures dirty { OfHistories (Leaves DirtyPagesHaveAllocations) }
 {}
 
 /// Registers of callers that the configuration doesn't have hold 0, and so do globals that no `setg` stored to.
-#[tactic(auto, using(crate::proofs::UnsetWords::registers_of_no_caller_are_zero, crate::proofs::UnsetWords::unset_globals_are_zero))]
+#[tactic(auto, using(crate::proofs::UnsetWords::unset_words_are_zero_facts))]
 pub fn unset_words_are_zero()
     ensures registers { OfHistories (Leaves RegistersOfNoCallerAreZero) }
     ensures globals { OfHistories UnsetGlobalsAreZero }

@@ -30,3 +30,5 @@ pub admitted_append : (globals : List ℕ) (n : NeverState) (earlier later : Lis
     → AdmittedInParts globals n earlier later
 admitted_append globals n earlier later =
     (admitted_split globals n earlier later, admitted_join globals n earlier later)
+
+pub ruleset calls_in_two_parts_facts = (after_append, replies_append, admitted_append)

@@ -26,3 +26,5 @@ bit_one x0 h = grind arith
 -- what a Same replies
 pub same_tells : (n : NeverState) (caller p q : ℕ) → SameTells n caller p q
 same_tells n caller p q = grind (arith, equal_from_same, bit_one, same_from_equal)
+
+pub ruleset same_compares_values_facts = (same_compares, apart, same_tells)

@@ -95,3 +95,5 @@ reached_is_inside n x1 i x3 number place meets reaches = grind (arith, if_by)
 
 pub store_is_inside : (n : NeverState) (c : ℕ) (op : Op) (number place : ℕ) → StoreIsInside n c op number place
 store_is_inside n c x2 number place access stores = grind (arith, reached_is_inside)
+
+pub ruleset a_load_gives_what_was_last_stored_facts = (calls_keep, store_is_inside, store_leaves, load_gives_stored)

@@ -88,3 +88,5 @@ start_is_typed listed types callers =
 pub stays_typed : (listed : List ℕ) (types : List (List Kind)) (callers : ℕ) (calls : List Call)
     → StaysTyped listed types callers calls
 stays_typed listed types callers calls admitted = grind (arith, calls_keep, start_is_typed)
+
+pub ruleset the_state_stays_typed_facts = (start_is_typed, calls_keep, stays_typed)

@@ -194,3 +194,5 @@ unreached_stays n (x ∷ xs) number there reached =
           → IsReachable n number
       was_there (inl old) = old
       was_there (inr granted) = let new : number ≡ length n.allocations = granted.1 in absurd (omega arith)
+
+pub ruleset the_unreached_stays_so_facts = (access_is_to_reached, reach_grows_by_grants, unreached_stays)

@@ -13,7 +13,7 @@ use crate::{Kind, Op, Value};
 /// Words, registers and globals hold what their types say, along admitted calls. A pointer that they hold
 /// names an allocation that exists, of the pointer's type, and a word of it; where a type has no words, its
 /// place 0.
-#[tactic(auto, using(crate::proofs::TypedCalls::start_is_typed, crate::proofs::TypedCalls::calls_keep, crate::proofs::TypedCalls::stays_typed))]
+#[tactic(auto, using(crate::proofs::TypedCalls::the_state_stays_typed_facts))]
 pub fn the_state_stays_typed()
     ensures start { (globals : List ℕ) (types : List (List Kind)) (callers : ℕ)
         → IsTyped globals (start_of types callers) }
@@ -61,7 +61,7 @@ pub fn others_leave_registers()
 {}
 
 /// A comparison says whether two values are equal, so it tells two allocations apart.
-#[tactic(auto, using(crate::proofs::Sameness::same_compares, crate::proofs::Sameness::apart, crate::proofs::Sameness::same_tells))]
+#[tactic(auto, using(crate::proofs::Sameness::same_compares_values_facts))]
 pub fn same_compares_values()
     ensures values { (v w : Value) → IsTrue (is_same v w) ↔ (v ≡ w) }
     ensures apart { (number number' ty ty' offset offset' : ℕ) → number ≢ number'
@@ -70,7 +70,7 @@ pub fn same_compares_values()
 {}
 
 /// A word changes by stores to it alone, and a load from it gives what was last stored.
-#[tactic(auto, using(crate::proofs::Stores::calls_keep, crate::proofs::Stores::store_is_inside, crate::proofs::Stores::store_leaves, crate::proofs::Stores::load_gives_stored))]
+#[tactic(auto, using(crate::proofs::Stores::a_load_gives_what_was_last_stored_facts))]
 pub fn a_load_gives_what_was_last_stored()
     ensures unstored { (n : NeverState) (calls : List Call) (number place : ℕ) → UnstoredStays n calls number place }
     ensures inside { (n : NeverState) (caller : ℕ) (op : Op) (number place : ℕ)
@@ -90,7 +90,7 @@ pub fn what_is_reached()
 
 /// What isn't reached never is again: accesses get to reached allocations alone, and an operation adds no more
 /// to what is reached than the allocation that it grants.
-#[tactic(auto, using(crate::proofs::Unreached::access_is_to_reached, crate::proofs::Unreached::reach_grows_by_grants, crate::proofs::Unreached::unreached_stays))]
+#[tactic(auto, using(crate::proofs::Unreached::the_unreached_stays_so_facts))]
 pub fn the_unreached_stays_so()
     ensures accessed { (n : NeverState) (caller q i number place : ℕ) → AccessIsToReached n caller q i number place }
     ensures grown { (n : NeverState) (caller : ℕ) (op : Op) (number : ℕ) → ReachGrowsByGrants n caller op number }
@@ -98,7 +98,7 @@ pub fn the_unreached_stays_so()
 {}
 
 /// Calls in two parts leave, reply and are admitted as the earlier ones and then, after these, the later ones.
-#[tactic(auto, using(crate::proofs::Parts::after_append, crate::proofs::Parts::replies_append, crate::proofs::Parts::admitted_append))]
+#[tactic(auto, using(crate::proofs::Parts::calls_in_two_parts_facts))]
 pub fn calls_in_two_parts()
     ensures left { (n : NeverState) (earlier later : List Call) → LeavesInParts n earlier later }
     ensures replies { (n : NeverState) (earlier later : List Call) → RepliesInParts n earlier later }

@@ -2,9 +2,8 @@
 use Rattle.std.proofs.Common.{List, None, ℕ, ap, false, inl, inr, refl, subst, sym, ◌++◌, ◌∙◌, ◌≡◌}
 use Rattle.std.proofs.lemmas.Bool.{cases_Bool}
 use Rattle.mk_geom.specs.{Addresses.{cell_at, is_heap_address, page_at_address}, declared.pages.Page.Page}
-use Rattle.mk_core.proofs.Histories.{left_more}
-use Rattle.mk_core.specs.{Words.{Words, header_at, named_word}, Cells.pointed_cell, History.{World, first_world}}
-use Rattle.mk_core.specs.{declared.events.Step.Step, declared.events.Word.Word, declared.seats.Holding.Holding}
+use Rattle.mk_core.{proofs.Histories.{left_more}, specs.{declared.events.Step.Step, declared.events.Word.Word}}
+use Rattle.mk_core.specs.{Cells.pointed_cell, History.{World, first_world}, Words.{Words, header_at, named_word}}
 use Rattle.mk_turns.specs.Pointing.{LooksForCell}
 use Rattle.mk_words.specs.{States.{PassState, TurnState, event_of, now_of}, Steps.Finds, TurnSteps.Acts}
 
@@ -14,11 +13,6 @@ found_there p q x n f =
     ap (λ (r : PassState). named_word (now_of r).words x) f.makes.is
     ∙ ap (λ (w : World). named_word w.now.words x) (left_more p.table.config (first_world p.table.config)
     (p.seen ++ f.makes.others) (event_of p (Step.Look x))) ∙ sym f.finds
-
--- A look at a header gives no hand.
-pub header_hand : (p q : PassState) (page : ℕ) → Acts p (Step.Look (Word.Head page)) q
-    → (now_of q).seats.holding.hand ≡ (now_of p).seats.holding.hand
-header_hand p q page a = ap (λ (w : World). w.now.seats.holding.hand) a.world ∙ ap (λ (h : Holding). h.hand) a.holding
 
 -- what lies outside the heap points into nothing
 pub outside_none : (pages : ℕ) (ps : List Page) (u : ℕ) → is_heap_address pages u ≡ false

@@ -112,3 +112,5 @@ other_step_sweeps p q s m other =
 pub step_then_sweeps : (p q r : PassState) (s : Step) → Makes p s q → is_mark s ≡ false
     → SweepsNothing q r → SweepsNothing p r
 step_then_sweeps p q r s m other rest = sweeps_then p q r (only_seen_by p q s m) (other_step_sweeps p q s m other) rest
+
+pub ruleset what_sweeps_nothing_adds_up_facts = (nothing_sweeps, sweeps_then, step_sweeps)

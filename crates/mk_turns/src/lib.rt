@@ -22,7 +22,7 @@ pub fn what_is_done_adds_up()
 
 /// Where nothing is done nothing is swept, nor where nothing is swept by one part and then by the other, by steps that
 /// aren't marks, or by a step that is no sweeping mark.
-#[tactic(auto, using(crate::proofs::Sweeping::nothing_sweeps, crate::proofs::Sweeping::sweeps_then, crate::proofs::Sweeping::step_sweeps))]
+#[tactic(auto, using(crate::proofs::Sweeping::what_sweeps_nothing_adds_up_facts))]
 pub fn what_sweeps_nothing_adds_up()
     ensures nothing { NothingSweepsNothing }
     ensures in_turn { NothingIsSweptInTurn }

@@ -2,8 +2,8 @@
 use Rattle.mk_laws.proofs.Vocabulary.{Block, Config, Flight, Group, Header, Marker, MarkerState, Moment, Option, Some}
 use Rattle.mk_laws.proofs.Vocabulary.{Step, Word, ℕ, and_from, ap, arith, at_rest, cell_seen, cells_of, cells_under}
 use Rattle.mk_laws.proofs.Vocabulary.{eq-eqb, group_of, has_next_word, has_phase, has_seen_cell, header_of, holder_may}
-use Rattle.mk_laws.proofs.Vocabulary.{is_attending, is_in_range, is_none, is_some, lt-ltb, marker_may, outside, refl}
-use Rattle.mk_laws.proofs.Vocabulary.{subst, sym, true, ◌%◌, ◌<◌, ◌==◌, ◌∙◌, ◌≡◌}
+use Rattle.mk_laws.proofs.Vocabulary.{is_attending, is_in_range, is_none, is_some, lt-ltb, marker_may, refl, subst, sym}
+use Rattle.mk_laws.proofs.Vocabulary.{true, ◌%◌, ◌<◌, ◌==◌, ◌∙◌, ◌≡◌}
 use Rattle.mk_core.proofs.Conditions.{meets_enabled}
 use Rattle.mk_words.specs.{Markers.Marks, Markers.marker_in, States.PassState, Steps.IsEnabledTo, Steps.Makes}
 use Rattle.mk_words_clients.specs.Clients.{IsAttending, IsOutside}
@@ -48,10 +48,6 @@ mark_may p k seat few some = marker_step p Step.Mmark k seat few refl refl some
 
 pub attended : {p q : PassState} {n : ℕ} → IsOutside p → Marks p Step.Attend n q → n % 8 ≡ 1 → IsAttending q
 attended o m is = grind (arith, seat_kept, eq-eqb)
-
-pub is_outside : {p q : PassState} {s : Step} (k : ℕ) → p.seat ≡ Marker k → k < 8 → Makes p s q → marker_in q ≡ outside
-    → IsOutside q
-is_outside {p} {q} {s} k seat few m out = record { number = k; seat = seat_kept m ∙ seat; few = few; out = out }
 
 -- A look at a page's header shows a cell of its block.
 pub seen_cell : {p q : PassState} {page n : ℕ} (class k : ℕ) → IsAttending p → Marks p (Step.Mlook (Word.Head page)) n q

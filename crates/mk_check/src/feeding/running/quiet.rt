@@ -6,7 +6,7 @@ ghost use Rattle.mk_check.specs.Steps as steps;
 
 use crate::feeding::instructions::Instruction;
 use crate::feeding::running::{Running, answered_number};
-use crate::feeding::tree::{Frame, Node, Tree};
+use crate::feeding::tree::{Node, Tree};
 use mk_core::Answer;
 
 impl Running {
@@ -60,7 +60,7 @@ impl Running {
     }
 
     /// Runs a line that asks for no operation, or begins a block.
-    #[tactic(auto, using(crate::proofs::TreeNodes::found_block, crate::proofs::Moves::block_finds_room, crate::proofs::AsksFirst::first_in_block))]
+    #[tactic(auto, using(crate::proofs::AsksFirst::step_to_op_facts))]
     fn step_to_op(&mut self, tree: &Tree) -> bool
         requires within { PlaceIsWithin (length tree.now) self.old }
         requires fits { PlaceFits tree.now self.old }
