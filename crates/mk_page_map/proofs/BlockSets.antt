@@ -100,21 +100,6 @@ joined_blocks class used leaf was known is is_free puts run_before sorted =
     (is_free ∙ sym (free_in_own_set class leaf used known) ∙ ap (λ s. is_of_set s
     (use_of_kind (Block class leaf) used)) (sym is)) run_before (block_elsewhere class used leaf is) sorted
 
--- a block that has a free cell with both used words, or with neither
-pub sorted_alike : (sets : List ℕ) (page class earlier used : ℕ) (leaf : Bool) → class < 8
-    → is_some (first_where not (bits_of (cells_of class) earlier))
-    ≡ is_some (first_where not (bits_of (cells_of class) used))
-    → IsInItsSets sets page (use_of_kind (Block class leaf) earlier)
-    → IsInItsSets sets page (use_of_kind (Block class leaf) used)
-sorted_alike sets page class earlier used leaf known alike sorted set is_set = sorted set is_set
-    ∙ elim (cases_eq set (class_place class leaf)) [
-      | inl own ↦ ap (λ s. is_of_set s (use_of_kind (Block class leaf) earlier)) own
-          ∙ free_in_own_set class leaf earlier known ∙ alike ∙ sym (free_in_own_set class leaf used known)
-          ∙ ap (λ s. is_of_set s (use_of_kind (Block class leaf) used)) (sym own)
-      | inr other ↦ block_elsewhere class earlier leaf refl set is_set other
-          ∙ sym (block_elsewhere class used leaf refl set is_set other)
-    ]
-
 -- the three puts of a page that gets free, or in use
 pub puts_free : {first second third last : List ℕ} {page : ℕ} {is_free : Bool} → PutsPage first second 16 page is_free
     → PutsPage second third 17 page (not is_free) → PutsPage third last 19 page is_free

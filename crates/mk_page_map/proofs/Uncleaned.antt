@@ -1,10 +1,12 @@
 -- Which pages a map has as uncleaned, by its sets.
-use Rattle.std.{proofs.{lemmas.List.get_or_past, lemmas.List.FromFn.length-range_with_len}, specs.List.{range_with_len}}
+use Rattle.std.{proofs.Common.◌&&◌, proofs.Common.◌==◌, proofs.Common.◌||◌, proofs.lemmas.List.get_or_past}
+use Rattle.std.{proofs.lemmas.List.FromFn.length-range_with_len, specs.List.range_with_len}
 use Rattle.mk_page_map.proofs.Vocabulary.{Bool, FitPages, IsNext, KnownPages, List, Option, OthersStay, Page, PutsPage}
-use Rattle.mk_page_map.proofs.Vocabulary.{Shows, ℕ, ap, arith, cases_lt, false, is_member, length, length-map, refl}
-use Rattle.mk_page_map.proofs.{Vocabulary.{subst, sym, ◌<◌, ◌∙◌, ◌≡◌, ◌≤◌}, Showing.{known_by, member_at}}
-use Rattle.mk_page_map.proofs.{Showing.{member_of_freed, set_stays}, Fitting.fit_again, NextPages.same_next}
-use Rattle.mk_page_map.{proofs.Reading.{Reads}, specs.{KnownPages.is_uncleaned, PageSets.members}}
+use Rattle.mk_page_map.proofs.Vocabulary.{Shows, ℕ, ap, arith, cases_lt, false, is_member, length, length-map, not}
+use Rattle.mk_page_map.proofs.Vocabulary.{page_at, refl, subst, sym, ◌<◌, ◌∙◌, ◌≡◌, ◌≤◌}
+use Rattle.mk_page_map.proofs.Showing.{known_by, member_at, member_of_freed, set_stays}
+use Rattle.mk_page_map.proofs.{Fitting.fit_again, NextPages.same_next, Reading.Reads}
+use Rattle.mk_page_map.specs.{KnownPages.is_uncleaned, KnownPages.is_uncleaned_under, PageSets.members}
 
 pub uncleaned_at : (held : List Page) (sets : List ℕ) (number : ℕ) → number < length held
     → is_uncleaned (known_by held sets) number ≡ is_member sets 19 number
@@ -81,6 +83,16 @@ others_uncleaned known {held} {sets} {after} vec {page} number r written view di
 pub this_uncleaned : (held : List Page) (after vec : List ℕ) (page : ℕ) (inside : Bool) → page < length held
     → vec ≡ after → is_member after 19 page ≡ inside → is_uncleaned (known_by held vec) page ≡ inside
 this_uncleaned held after vec page inside within written put = grind (arith, known_by, uncleaned_at)
+
+-- a header word is stored: what it says of the page that is found there
+pub header_uncleaned : (known : KnownPages) (held : List Page) (sets : List ℕ) {slice : List ℕ} (after : List ℕ)
+    {found : Page} (page header : ℕ) {was_free : Bool} → known_by held sets ≡ known → page < length held
+    → found ≡ page_at held page
+    → slice ≡ sets → was_free ≡ (found.header == 0)
+    → is_member after 19 page ≡ (header == 0 || (not was_free && is_member slice 19 page))
+    → is_member after 19 page ≡ is_uncleaned_under known page header
+header_uncleaned known held sets {slice} after page header view within read is_slice free is =
+    grind (arith, uncleaned_at)
 
 -- a store of a word of a page: what the set has of other pages, and of this one where it stays there
 

@@ -1,5 +1,5 @@
 -- What a page map knows, and what it is to be right about a heap.
-use Rattle.std.specs.Prelude.{◌≡◌, ℕ, ◌<◌, Bool, false, List, length, slice_index_or, slice_set}
+use Rattle.std.specs.Prelude.{◌≡◌, ℕ, ◌<◌, ◌==◌, ◌&&◌, ◌||◌, Bool, false, not, List, length, slice_index_or, slice_set}
 use Rattle.mk_geom.specs.declared.pages.Page.{Page}
 use Rattle.mk_page_map.specs.Members.{page_at, has_freed_cells}
 
@@ -17,6 +17,15 @@ is_quarantined_page known number = slice_index_or known.quarantined number false
 -- Since it was freed, or marked as a free page, nobody has said that no mark is left on it.
 abbrev pub is_uncleaned : KnownPages → ℕ → Bool
 is_uncleaned known number = slice_index_or known.uncleaned number false
+
+-- whether a page has header 0, so that it is free
+abbrev pub is_bare : KnownPages → ℕ → Bool
+is_bare known number = (page_at known.pages number).header == 0
+
+-- Whether a page is uncleaned after this header word was stored: where it is free now, it is; where it was free before,
+-- it is no more; and else it is as it was.
+abbrev pub is_uncleaned_under : KnownPages → ℕ → ℕ → Bool
+is_uncleaned_under known number header = header == 0 || (not (is_bare known number) && is_uncleaned known number)
 
 -- It is right about a heap that has these pages and freed cells.
 pub record Shows (known : KnownPages) (pages : List Page) (freed : List ℕ) : Type 0 where

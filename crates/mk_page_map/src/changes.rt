@@ -1,7 +1,8 @@
 //! What a page map is told of: each word of a page that is stored, and which free pages may be marked.
-ghost use Rattle.std.specs.Prelude.{◌≡◌, ℕ, ◌<◌, true, List, length, slice_set};
+ghost use Rattle.std.specs.Prelude.{◌≡◌, ℕ, ◌<◌, ◌||◌, false, List, length, slice_set};
 ghost use Rattle.mk_geom.specs.declared.pages.Page.{Page};
-ghost use Rattle.mk_page_map.specs.{KnownPages.{Shows, is_uncleaned, with_header, with_used}, Members.page_at};
+ghost use Rattle.mk_page_map.specs.{KnownPages.{Shows, is_bare, is_uncleaned, is_uncleaned_under}};
+ghost use Rattle.mk_page_map.specs.KnownPages.{with_header, with_used};
 
 use crate::kinds::kind_of;
 use crate::page_map::PageMap;
@@ -10,12 +11,12 @@ use crate::sorting::{UNCLEANED, sort_by_header, sort_by_quarantine, sort_by_used
 use mk_geom::Page;
 
 impl PageMap {
-    /// A header word was stored. A page that is freed may be marked.
+    /// A header word was stored. A page that is freed may be marked, and one that is put in use is no free page.
     pub fn header_stored(&mut self, page: u64, header: u64)
         requires { page < length self.old.pages }
         ensures shows { (pages : List Page) (freed : List ℕ) → Shows self.old pages freed
             → Shows self.new (with_header pages page header) freed }
-        ensures freed { header ≡ 0 → is_uncleaned self.new page ≡ true }
+        ensures this { is_uncleaned self.new page ≡ is_uncleaned_under self.old page header }
         ensures others { (number : ℕ) → (number ≡ page → ⊥)
             → is_uncleaned self.new number ≡ is_uncleaned self.old number }
     {
@@ -75,7 +76,7 @@ impl PageMap {
         requires { page < length self.old.pages }
         ensures shows { (pages : List Page) (freed : List ℕ) → Shows self.old pages freed
             → Shows self.new pages freed }
-        ensures marked { (page_at self.old.pages page).header ≡ 0 → is_uncleaned self.new page ≡ true }
+        ensures this { is_uncleaned self.new page ≡ (is_bare self.old page || is_uncleaned self.old page) }
         ensures others { (number : ℕ) → (number ≡ page → ⊥)
             → is_uncleaned self.new number ≡ is_uncleaned self.old number }
     {
@@ -89,6 +90,7 @@ impl PageMap {
         requires { page < length self.old.pages }
         ensures shows { (pages : List Page) (freed : List ℕ) → Shows self.old pages freed
             → Shows self.new pages freed }
+        ensures this { is_uncleaned self.new page ≡ false }
         ensures others { (number : ℕ) → (number ≡ page → ⊥)
             → is_uncleaned self.new number ≡ is_uncleaned self.old number }
     {

@@ -1,7 +1,7 @@
 //! What pages are by their header words.
-ghost use Rattle.std.specs.Prelude.{◌≡◌, ℕ, ◌<◌, is_some, not};
+ghost use Rattle.std.specs.Prelude.{◌≡◌, ℕ, ◌<◌, ◌==◌, is_some, not};
 ghost use Rattle.mk_geom.specs.{Classes.cells_of, Headers.header_of, PageUses.first_where};
-ghost use Rattle.mk_geom.specs.{PageUses.is_resident_page, PageWords.{bits_of, use_under}};
+ghost use Rattle.mk_geom.specs.{PageUses.is_free_page, PageUses.is_resident_page, PageWords.{bits_of, use_under}};
 ghost use Rattle.mk_page_map.specs.PageSets.{HasClass, use_of_kind};
 
 use mk_geom::{Header, cells, decode};
@@ -16,6 +16,7 @@ pub(crate) enum PageKind {
 
 pub(crate) fn kind_of(header: u64) -> PageKind
     ensures class { HasClass result }
+    ensures free { (used : ℕ) → is_free_page (use_of_kind result used) ≡ (header == 0) }
     ensures kind { (used : ℕ) → use_under (header_of header) used ≡ use_of_kind result used }
 {
     match decode(header) {

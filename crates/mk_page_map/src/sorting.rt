@@ -1,5 +1,5 @@
 //! The sets that a page is in by what stands on it.
-ghost use Rattle.std.specs.Prelude.{◌≡◌, ℕ, ◌<◌, ◌≤◌, ◌==◌, ◌&&◌, IfOk, false, true, nat_lt, not};
+ghost use Rattle.std.specs.Prelude.{◌≡◌, ℕ, ◌<◌, ◌≤◌, ◌==◌, ◌&&◌, ◌||◌, IfOk, false, true, nat_lt, not};
 ghost use Rattle.mk_books.specs.FreeCells.{class_place};
 ghost use Rattle.mk_geom.specs.{Headers.header_of, PageWords.use_under};
 ghost use Rattle.mk_geom.specs.PageUses.{PartOfRun, is_free_page, is_resident_page};
@@ -66,7 +66,9 @@ fn leave_sets(sets: &mut [u64], page: u64, kind: PageKind)
     requires page { page < 4096 }
     requires class { HasClass kind }
     requires sorted { (used : ℕ) × IsInItsSets sets.old page (use_of_kind kind used) }
-    ensures { SortsPage sets.old sets.new page (PartOfRun false) }
+    ensures sorts { SortsPage sets.old sets.new page (PartOfRun false) }
+    ensures uncleaned { (used : ℕ) → is_member sets.new 19 page
+        ≡ (not (is_free_page (use_of_kind kind used)) && is_member sets.old 19 page) }
 {
     match kind {
         PageKind::Free => put_in_use(sets, page),
@@ -83,7 +85,8 @@ fn join_sets(sets: &mut [u64], page: u64, kind: PageKind, used: u64)
     requires class { HasClass kind }
     requires sorted { IsInItsSets sets.old page (PartOfRun false) }
     ensures sorts { SortsPage sets.old sets.new page (use_of_kind kind used) }
-    ensures uncleaned { is_free_page (use_of_kind kind used) ≡ true → is_member sets.new 19 page ≡ true }
+    ensures uncleaned { is_member sets.new 19 page
+        ≡ (is_free_page (use_of_kind kind used) || is_member sets.old 19 page) }
 {
     match kind {
         PageKind::Free => put_free(sets, page),
@@ -113,7 +116,8 @@ pub(crate) fn sort_by_header(
     requires sorted { IsInItsSets sets.old page (use_of_kind before used) }
     ensures resident { (word : ℕ) → is_resident_page (use_under (header_of header) word) ≡ result }
     ensures sorts { SortsPage sets.old sets.new page (use_under (header_of header) used) }
-    ensures uncleaned { header ≡ 0 → is_member sets.new 19 page ≡ true }
+    ensures uncleaned { is_member sets.new 19 page
+        ≡ (header == 0 || (not (is_free_page (use_of_kind before used)) && is_member sets.old 19 page)) }
 {
     leave_sets(sets, page, before);
     let after = kind_of(header);

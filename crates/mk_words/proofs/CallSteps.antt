@@ -31,9 +31,6 @@ grants c m (Caller k) opens order = refl
 grants c m (Marker k) opens order = cc
 grants c m Host opens order = grind arith
 
-pub grants_to : (p : PassState) → IsEnabledTo p Step.Grant → is_caller p.seat ≡ true
-grants_to p enabled = grind (arith, enabled_meets, grants)
-
 call_behind : (c : Config) (m : Moment) (seat : Seat) (k : ℕ) (s : Step) → seat ≡ Caller k → k < length m.seats.flights
     → flight_of (moment_behind c m (record { seat = seat; step = s })) seat
     ≡ (progress c m (flight_of m seat) (found c m (record { seat = seat; step = s })) s).flight

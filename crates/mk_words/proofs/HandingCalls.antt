@@ -47,14 +47,6 @@ take_access tid me seat o number p p_is is =
 
 -- the event that a call picked is its own
 
-pub takes_own : (me n : Mine) (found : ℕ) (picked e : Event) → picked ≡ e → takes_map picked no_step me found n
-    → takes_map e no_step me found n
-takes_own me n found picked e is on = subst (λ (d : Event). takes_map d no_step me found n) is on
-
-pub gives_own : (me n : Mine) (picked e : Event) → picked ≡ e → gives_map picked no_step me 0 n
-    → gives_map e no_step me 0 n
-gives_own me n picked e is on = subst (λ (d : Event). gives_map d no_step me 0 n) is on
-
 -- what a `take` tells
 
 pub take_tells : (tid qid : TableId) (me n : Mine) (seat : Seat) (o : Option Op) (number found : ℕ) → qid ≡ tid

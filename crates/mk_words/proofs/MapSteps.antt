@@ -4,10 +4,10 @@ use Rattle.mk_laws.proofs.Vocabulary.{Page, Seat, Some, Step, Store, Tally, Word
 use Rattle.mk_laws.proofs.Vocabulary.{cases_eq, earlier_part_is_history, enabled_meets, false, free_page}
 use Rattle.mk_laws.proofs.Vocabulary.{get_or-set_other, get_or-set_same, header_at, histories_keep_lengths, inl, inr}
 use Rattle.mk_laws.proofs.Vocabulary.{is_in_range, length, length-set, ltb-true, nat_lt, not, refl, set_by, slice_index}
-use Rattle.mk_laws.proofs.Vocabulary.{subst, sym, tally_word, true, [], ◌++◌, ◌<◌, ◌==◌, ◌∙◌, ◌∷◌, ◌≡◌, ◌≢◌}
+use Rattle.mk_laws.proofs.Vocabulary.{subst, sym, tally_word, true, [], ◌++◌, ◌<◌, ◌==◌, ◌||◌, ◌∙◌, ◌∷◌, ◌≡◌, ◌≢◌}
 use Rattle.mk_laws.proofs.SameWords.{Behind}
-use Rattle.mk_page_map.specs.KnownPages.{KnownPages, Shows, is_quarantined_page, is_uncleaned, with_header, with_used}
-use Rattle.mk_page_map.specs.Members.{IsNext, page_at}
+use Rattle.mk_page_map.specs.KnownPages.{KnownPages, Shows, is_bare, is_quarantined_page, is_uncleaned}
+use Rattle.mk_page_map.specs.{KnownPages.{is_uncleaned_under, with_header, with_used}, Members.{IsNext, page_at}}
 use Rattle.mk_words.proofs.{FreeTurns.{map_left, map_stays, page_words}, TurnSteps.{acts, gates_still}, Made.own_before}
 use Rattle.mk_words.proofs.{Seats.others_own, Unmarked.{is_mark, stays_unmarked}}
 use Rattle.mk_words.specs.PageMaps.{HasNoMarks, HeaderIsTold, IsMapOf, IsNextUncleaned, IsToldOf, MarkIsTold}
@@ -70,6 +70,13 @@ same_marks w v page marks blacks h = grind arith
 
 -- over plain words
 
+freed_is : (old : KnownPages) (page header : ℕ) → header ≡ 0 → is_uncleaned_under old page header ≡ true
+freed_is old page header free = rw free refl
+
+marked_is : (old : KnownPages) (page : ℕ) → (page_at old.pages page).header ≡ 0
+    → (is_bare old page || is_uncleaned old page) ≡ true
+marked_is old page free = rw free refl
+
 told_header : (w : Words) (page v : ℕ) (old new : KnownPages) → HeaderIsTold old page v new → page < length old.pages
     → IsMapOf old w → IsMapOf new (record w { pages = with_header w.pages page v })
 told_header w page v old new told within m = record {
@@ -80,7 +87,7 @@ told_header w page v old new told within m = record {
         let now : Page = record { header = v; used = (page_at w.pages page).used } in
         let free : v ≡ 0 = sym (ap (λ (x : Page). x.header) (get_or-set_same w.pages page now free_page lt))
         ∙ ap (λ i. (page_at (with_header w.pages page v) i).header) (sym here) ∙ bare in
-        both (is_uncleaned new page) (told.freed free) (ap (is_uncleaned new) (sym here) ∙ cleaned)
+        both (is_uncleaned new page) (told.this ∙ freed_is old page v free) (ap (is_uncleaned new) (sym here) ∙ cleaned)
     | inr ne ↦
         let now : Page = record { header = v; used = (page_at w.pages page).used } in
         same_marks w (record w { pages = with_header w.pages page v }) number refl refl (m.unmarked number
@@ -114,7 +121,7 @@ told_mark c m seat page v old new told shows = record {
   unmarked = λ number bare cleaned. elim (cases_eq number page) [
     | inl here ↦
         let free : (page_at old.pages page).header ≡ 0 = grind arith in
-        both (is_uncleaned new page) (told.marked free) (ap (is_uncleaned new) (sym here) ∙ cleaned)
+        both (is_uncleaned new page) (told.this ∙ marked_is old page free) (ap (is_uncleaned new) (sym here) ∙ cleaned)
     | inr ne ↦
         stays_unmarked c m seat (Step.Mark page v) number (λ p is same. (let e : page ≡ p = cc in ne (same ∙ sym e)))
         (shows.unmarked number bare (sym (told.others number ne) ∙ cleaned))
@@ -173,10 +180,6 @@ untold_quar map w page freed same shows = record {
   };
   uncleaned = λ number. refl;
 }
-
--- What a map shows it shows by another name too.
-pub shows_that : (w : Words) (map same : KnownPages) → same ≡ map → IsMapOf map w → IsMapOf same w
-shows_that w map same is shows = subst (λ (m : KnownPages). IsMapOf m w) (sym is) shows
 
 pub map_that : {held : Bool} {p : PassState} {map same : KnownPages} → same ≡ map → HasMap held p map
     → HasMap held p same

@@ -1,8 +1,9 @@
 -- The page map of a heap: what it shows of the words, and the steps by which it changes hands or has to follow.
-use Rattle.std.specs.Prelude.{◌≡◌, ℕ, ◌<◌, ◌≤◌, ◌%◌, ◌^◌, Bool, true, false, slice_index, slice_set, Option, Some, None}
-use Rattle.std.specs.Prelude.{List, []}
+use Rattle.std.specs.Prelude.{◌≡◌, ℕ, ◌<◌, ◌≤◌, ◌%◌, ◌^◌, ◌||◌, Bool, true, false, slice_index, slice_set, Option, Some}
+use Rattle.std.specs.Prelude.{None, List, []}
 use Rattle.mk_geom.specs.declared.pages.Page.{Page}
-use Rattle.mk_page_map.specs.{Members.page_at, KnownPages.{KnownPages, Shows, is_uncleaned, with_header, with_used}}
+use Rattle.mk_page_map.specs.KnownPages.{KnownPages, Shows, is_bare, is_uncleaned, is_uncleaned_under, with_header}
+use Rattle.mk_page_map.specs.KnownPages.{with_used}
 use Rattle.mk_core.specs.{declared.events.Step.Step, Words.{Words, header_at}}
 use Rattle.mk_core.specs.declared.events.Step.TheVariants as step
 
@@ -62,7 +63,7 @@ page_told _ = 0
 pub record HeaderIsTold (old : KnownPages) (page header : ℕ) (new : KnownPages) : Type 0 where
   pub shows : (pages : List Page) (freed : List ℕ) → Shows old pages freed
       → Shows new (with_header pages page header) freed
-  pub freed : header ≡ 0 → is_uncleaned new page ≡ true
+  pub this : is_uncleaned new page ≡ is_uncleaned_under old page header
   pub others : (number : ℕ) → (number ≡ page → ⊥) → is_uncleaned new number ≡ is_uncleaned old number
 
 pub record UsedIsTold (old : KnownPages) (page used : ℕ) (new : KnownPages) : Type 0 where
@@ -78,7 +79,7 @@ pub record QuarantineIsTold (old : KnownPages) (page now_freed : ℕ) (new : Kno
 pub record MarkIsTold (old : KnownPages) (page : ℕ) (new : KnownPages) : Type 0 where
   pub shows : (pages : List Page) (freed : List ℕ) → Shows old pages freed
       → Shows new pages freed
-  pub marked : (page_at old.pages page).header ≡ 0 → is_uncleaned new page ≡ true
+  pub this : is_uncleaned new page ≡ (is_bare old page || is_uncleaned old page)
   pub others : (number : ℕ) → (number ≡ page → ⊥) → is_uncleaned new number ≡ is_uncleaned old number
 
 abbrev pub IsToldOf : Step → KnownPages → KnownPages → Type 0

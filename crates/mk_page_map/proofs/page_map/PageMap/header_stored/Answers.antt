@@ -1,8 +1,8 @@
-use Rattle.mk_page_map.proofs.Vocabulary.{List, Page, ℕ, ap, arith, drop, length, length-set, page_at, set, take, true}
-use Rattle.mk_page_map.proofs.{Vocabulary.{◌++◌, ◌+◌, ◌<◌, ◌∙◌, ◌≡◌, ◌≤◌}, Storing.{Stores, counted_anew, page_read}}
-use Rattle.mk_page_map.proofs.Storing.{page_within, resident_byte, store_fits, store_shows}
-use Rattle.mk_page_map.proofs.{Uncleaned.{others_kept, this_uncleaned}, Fitting.resident_one, FreeSets.written}
-use Rattle.mk_page_map.proofs.page_map.PageMap.header_stored.Goals.{After-from}
+use Rattle.mk_page_map.proofs.Vocabulary.{List, Page, ℕ, ap, arith, drop, is_resident_page, length, length-set, page_at}
+use Rattle.mk_page_map.proofs.Vocabulary.{set, take, ◌++◌, ◌+◌, ◌<◌, ◌∙◌, ◌≡◌, ◌≤◌}
+use Rattle.mk_page_map.proofs.{Uncleaned.{header_uncleaned, others_kept, this_uncleaned}, Fitting.resident_one}
+use Rattle.mk_page_map.proofs.{FreeSets.written, Storing.{Stores, counted_anew, page_read, page_within, resident_byte}}
+use Rattle.mk_page_map.proofs.{Storing.{store_fits, store_shows}, page_map.PageMap.header_stored.Goals.After-from}
 use Rattle.mk_page_map.proofs.page_map.PageMap.header_stored.Goals as goal
 
 abbrev now : After-from → Page
@@ -17,7 +17,10 @@ stores c = grind (arith, within)
 
 was_counted : (c : After-from)
     → c.from-was_resident.result ≡ resident_one (page_at c.self.inside.pages.items c.args.page)
-was_counted c = grind (arith, resident_byte, resident_one, page_read, within)
+was_counted c =
+    resident_byte c.index.result.now _ _ (λ used. ap is_resident_page (c.kind_of-before.ensures.kind used)
+    ∙ c.is_resident.ensures used) c.from-was_resident.ensures
+    ∙ ap resident_one (page_read c.self.inside.pages.items c.args.page c.index.result.now (within c) c.index.ensures)
 
 is_counted : (c : After-from) → c.from.result ≡ resident_one (now c)
 is_counted c = grind (arith, resident_byte, now)
@@ -46,12 +49,16 @@ returns-clause-shows c pages freed shows =
     (λ same. ap (λ (n : ℕ). record { header = c.args.header; used = n })
     (ap (λ (p : Page). p.used) read ∙ ap (λ (ps : List Page). (page_at ps c.args.page).used) same)) shows
 
-pub returns-clause-freed : goal.returns-clause-freed
-returns-clause-freed c free =
-    let x = (goal.at.returns-clause-freed c).After-from in
-    this_uncleaned (set c.self.inside.pages.items c.args.page (now x)) c.sort_by_header-is_resident.new.sets _
-    c.args.page true (omega (arith, within x, length-set c.self.inside.pages.items c.args.page (now x))) (same_sets x)
-    (c.sort_by_header-is_resident.ensures.uncleaned free)
+pub returns-clause-this : goal.returns-clause-this
+returns-clause-this c =
+    let x = (goal.at.returns-clause-this c).After-from in
+    let held = c.self.inside.pages.items in
+    let read = page_read held c.args.page c.index.result.now (within x) c.index.ensures in
+    this_uncleaned (set held c.args.page (now x)) c.sort_by_header-is_resident.new.sets _
+    c.args.page _ (omega (arith, within x, length-set held c.args.page (now x))) (same_sets x)
+    (header_uncleaned c.args.self.now held c.self.inside.sets.items _ c.args.page c.args.header c.self.view_is
+    (within x) read c.deref_mut.ensures.value (c.kind_of-before.ensures.free c.index.result.now.used)
+    c.sort_by_header-is_resident.ensures.uncleaned)
 
 pub returns-clause-others : goal.returns-clause-others
 returns-clause-others c number differ =
