@@ -10,7 +10,7 @@ use Rattle.mk_core.specs.{Cycles.is_give, Growing.{AreOfOthers, Finding, is_same
 use Rattle.mk_cycle.specs.Begun.{AreBegunFirst, DoesNothing, EachIsBegun, IsBegun, IsBegunFirst}
 use Rattle.mk_cycle.specs.{FinishCycle.FinishesCycle, Kinds.{begins_marking, closes_marks}}
 use Rattle.mk_turns.{proofs.{Doing.{not_own, own_in_parts}, Sweeping.only_seen}, specs.Doing.{Does, are_of}}
-use Rattle.mk_words.proofs.Seats.{same_self}
+use Rattle.mk_words.{proofs.Seats.{same_self}, specs.Opening.{is_open}}
 
 -- These kinds of step have no `begin` among them.
 abbrev pub HaveNoBegin : (Step → Bool) → Type 0
@@ -208,18 +208,22 @@ module _ (begins : Config → Seat → List Event → List Event → Type 0) whe
       let closing = only_seen m.held r.closing r.marks.does.more r.marks.does.is in
       let closed = only_seen_by r.closing r.closed Step.Close r.close in
       let released = only_seen_by r.closed m.released Step.Release r.release in
-      let freed = only_seen m.released m.freed m.frees.more m.frees.is in
+      let opened = only_seen m.released m.opened m.opens.more m.opens.is in
+      let freed = only_seen m.opened m.freed m.frees.more m.frees.is in
       let ended = only_seen_by m.freed m.ended Step.End m.end in
       let own_held = has_on p m.held held own in
       let own_closing = has_on m.held r.closing closing own_held in
       let own_closed = has_on r.closing r.closed closed own_closing in
       let own_released = has_on r.closed m.released released own_closed in
-      let own_freed = has_on m.released m.freed freed own_released in
+      let own_opened = has_on m.released m.opened opened own_released in
+      let own_freed = has_on m.opened m.freed freed own_opened in
       begun_then p m.held q held (does_begin_none holds_gates p m.held (begins_none holds_gates refl) m.holds)
       (begun_then m.held r.closing q closing (does_begin_none closes_marks m.held r.closing
       (begins_none closes_marks refl) r.marks.does) (begun_then r.closing r.closed q closed
       (step_begins_none r.closing r.closed Step.Close own_closing r.close refl) (begun_then r.closed m.released q
       released (step_begins_none r.closed m.released Step.Release own_closed r.release refl) (begun_then m.released
-      m.freed q freed (does_begin_none is_giving_back m.released m.freed (begins_none is_giving_back refl) m.frees)
+      m.opened q opened (does_begin_none is_open m.released m.opened (begins_none is_open refl) m.opens) (begun_then
+      m.opened m.freed q freed
+      (does_begin_none is_giving_back m.opened m.freed (begins_none is_giving_back refl) m.frees)
       (begun_then m.freed m.ended q ended (step_begins_none m.freed m.ended Step.End own_freed m.end refl)
-      (does_begin_none sets_tallies m.ended q (begins_none sets_tallies refl) m.behind))))))
+      (does_begin_none sets_tallies m.ended q (begins_none sets_tallies refl) m.behind)))))))

@@ -144,11 +144,14 @@ module _ {p g e q : PassState} {r : Released} (gives : GivesAllBack p g) (free :
     makes = record {
       held = gives.held;
       released = gives.released;
+      opened = gives.opened;
       freed = g;
       ended = e;
       holds = gives.holds.does;
       releases = gives.releases.makes;
-      frees = gives.frees.does;
+      opens = gives.opens;
+      none_held = gives.none_held;
+      frees = gives.gives;
       end = a.makes;
       behind = sets.does;
     };

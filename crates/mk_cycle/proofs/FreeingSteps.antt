@@ -14,7 +14,7 @@ use Rattle.mk_cycle.proofs.{Calm.stores_none, KeptInParts.{free_then, keeps_at_o
 use Rattle.mk_cycle.proofs.{OwnSteps.{done_in, keeps_call, keeps_counts}, CleaningSteps.{quar_frees_none, zero_stays}}
 use Rattle.mk_core.specs.Growing.{Finding}
 use Rattle.mk_cycle.specs.Freeing.{IsUnmapped, but_pages}
-use Rattle.mk_turns.{proofs.Doing.{none_own, others_are_so}, specs.Doing.{are_of}}
+use Rattle.mk_turns.{proofs.Doing.{none_own, others_are_so}, specs.Doing.{Does, are_of}}
 use Rattle.mk_words.proofs.Seats.{others_own}
 
 pub frees_nothing : (p : PassState) → Frees p p
@@ -146,6 +146,17 @@ pub open_gives : (c : Config) (w : World) (seat : Seat) (j : ℕ)
     → FreesAt w (world_behind c w (record { seat = seat; step = Step.Open j }))
 open_gives c w seat j = record { steady = refl; marks = refl; gates = still_open w.now.words.gates j; zeros = λ n h. h }
 
+-- what others do is nothing of the pass's own
+pub others_do : {p : PassState} (kinds : Step → Bool) (more : List Event) → IsTurn p → AreOfOthers p.seats more
+    → Does kinds p (record p { seen = p.seen ++ more })
+others_do {p} kinds more t others = record {
+  more = more;
+  is = refl;
+  own_or_others = others_are_so p.seats p.seat more t.own others;
+  of_kinds = ap (λ (xs : List Finding). are_of kinds xs)
+      (none_own p.table.config p.seats p.seat (world_of p) more t.own others);
+}
+
 -- what others leave is left
 pub others_free : {p : PassState} (more : List Event) → IsTurn p → AreOfOthers p.seats more
     → IsHistory p.table.config (p.seen ++ more) → IsAtPhase p 4 → Frees p (record p { seen = p.seen ++ more })
@@ -158,13 +169,7 @@ others_free {p} more t others history at =
     let turn = frame.turn t.holds in
     let finds = holder_finds c p.seat p.seen more history away t.holds in
     record {
-      does = record {
-        more = more;
-        is = refl;
-        own_or_others = others_are_so p.seats p.seat more t.own others;
-        of_kinds = ap (λ (xs : List Finding). are_of is_giving_back xs)
-            (none_own c p.seats p.seat (world_of p) more t.own others);
-      };
+      does = others_do is_giving_back more t others;
       keeps = record {
         call = record {
           pass = refl;

@@ -8,6 +8,8 @@ use Rattle.mk_cycle.proofs.CountedPages.{held_alike_below, told_alike_below}
 use Rattle.mk_cycle.proofs.{BeginSteps.all_from, FreeingSteps.freed_phase, FreeingSteps.frees_then}
 use Rattle.mk_cycle.proofs.{HeldReleased.held_alike, ReleasedCounts.told_from, ReleasedCounts.told_to}
 use Rattle.mk_cycle.specs.{GivingAll.GivesAllBack, Releasing.ReleasesUnmarked}
+use Rattle.mk_turns.specs.Doing.{Does}
+use Rattle.mk_words.specs.Opening.{is_open}
 
 pub held_phase : (p q : PassState) (n : ℕ) → HoldsGates p q → IsAtPhase p n → IsAtPhase q n
 held_phase p q n k at = ap (λ (s : Steady). s.phase) k.keeps.steady ∙ at
@@ -18,21 +20,27 @@ none_held_then callers {p = p} {q = q} k h =
     all_from callers (λ j. not (is_held (now_of q).words j)) (λ j lt. ap not (k.gates j
     (not-true (is_held (now_of p).words j) (all_below-at callers j (λ i. not (is_held (now_of p).words i)) h lt))))
 
-pub gives_all_back : {p h r o q : PassState} → HoldsGates p h → ReleasesUnmarked h r → GivesNothingBack r o → Frees o q
+pub gives_all_back : {p h r o q : PassState} → HoldsGates p h → ReleasesUnmarked h r → Does is_open r o
+    → GivesNothingBack r o → Frees o q
     → none_is_held r.table.config.callers (now_of o).words ≡ true
     → ((page : ℕ) → page < p.table.config.pages → IsSettledPage q page) → GivesAllBack p q
-gives_all_back {p} {h} {r} {o} {q} holds releases opens frees none settled =
+gives_all_back {p} {h} {r} {o} {q} holds releases only opens frees none settled =
     let same : r.table.config ≡ p.table.config = grind arith in
     let all : Frees r q = frees_then opens.frees frees in
+    let none_held = subst (λ (c : Config). none_is_held c.callers (now_of o).words ≡ true) same none in
     record {
       held = h;
       released = r;
       holds = holds;
       releases = releases;
+      opened = o;
+      opens = only;
+      none_held = none_held;
+      gives = frees.does;
       frees = all;
       phase = freed_phase all (ap (λ (s : Steady). s.phase) releases.steady);
       gates = none_held_then p.table.config.callers frees
-          (subst (λ (c : Config). none_is_held c.callers (now_of o).words ≡ true) same none);
+          none_held;
       settled = settled;
     }
 

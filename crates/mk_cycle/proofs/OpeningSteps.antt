@@ -5,11 +5,12 @@ use Rattle.mk_laws.proofs.Vocabulary.{inl, inr, is_held, is_number_of, is_one_of
 use Rattle.mk_laws.proofs.Vocabulary.{slice_index, subst, sym, true, [], ◌++◌, ◌==◌, ◌||◌, ◌∙◌, ◌∷◌, ◌≡◌}
 use Rattle.mk_laws.proofs.{Actors.is_holders, FramesHolders.acts_as_holder, Known.holds_turn, LastEvents.comes_last}
 use Rattle.mk_laws.proofs.{Orderly.same_holder, OrderlyLists.actor_of, ProtocolFrames.others_leave, Views.view_of}
-use Rattle.mk_cycle.proofs.Vocabulary.{GivesNothingBack, IsAtPhase, IsFreeForCycle, IsTurn, Makes, PassState, event_of}
-use Rattle.mk_cycle.proofs.{Vocabulary.{now_of, stands, world_at}, FreeingSteps.{freed_free, freed_phase, frees_step}}
-use Rattle.mk_cycle.proofs.{FreeingSteps.{open_gives, others_free}, GivingSteps.{none_at_once, none_then, state_there}}
-use Rattle.mk_cycle.proofs.{Allowed.protocol, MayAct.may_act}
+use Rattle.mk_cycle.proofs.Vocabulary.{GivesNothingBack, IsAtPhase, IsFreeForCycle, IsTurn, Makes, PassState}
+use Rattle.mk_cycle.proofs.Vocabulary.{does_nothing, does_step, does_then, event_of, now_of, stands, world_at}
+use Rattle.mk_cycle.proofs.FreeingSteps.{freed_free, freed_phase, frees_step, open_gives, others_do, others_free}
+use Rattle.mk_cycle.proofs.{GivingSteps.{none_at_once, none_then, state_there}, Allowed.protocol, MayAct.may_act}
 use Rattle.mk_core.specs.{Growing.AreOfOthers, Words.page_of}
+use Rattle.mk_turns.specs.Doing.{Does}
 use Rattle.mk_words.proofs.{Seats.others_own, TurnSteps.{acts, still_turn}}
 use Rattle.mk_words.specs.Opening.{OnlyOpen, Opens, OthersMayOpen, is_open}
 
@@ -27,18 +28,35 @@ opens_itself {p} e t h is =
     (acts_as_holder c (now_of p) e.seat e.step (actor_of c (now_of p) e.seat e.step orderly last.meets)
     (open_is_holders e.step is)) (holds_turn c (now_of p) p.seat orderly t.holds)
 
+-- gates are opened, and nothing is given back
+pub record OpensOnly (p q : PassState) : Type 0 where
+  pub does : Does is_open p q
+  pub none : GivesNothingBack p q
+
 -- one event further
 record Further (p q : PassState) : Type 0 where
-  none : GivesNothingBack p q
+  only : OpensOnly p q
   turn : IsTurn q
 
 behind : PassState → List Event → PassState
 behind p es = record p { seen = p.seen ++ es }
 
+record LeavesAll (p q : PassState) : Type 0 where
+  none : GivesNothingBack p q
+  turn : IsTurn q
+
+another_leaves : {p : PassState} (e : Event) → IsTurn p → IsAtPhase p 4
+    → IsHistory p.table.config (p.seen ++ e ∷ []) → is_one_of p.seats e.seat ≡ false → LeavesAll p (behind p (e ∷ []))
+unfolding behind AreOfOthers
+another_leaves e t at h other =
+    grind (arith, earlier_part_is_history, others_leave, others_own, others_free, state_there)
+
 by_another : {p : PassState} (e : Event) → IsTurn p → IsAtPhase p 4 → IsHistory p.table.config (p.seen ++ e ∷ [])
     → is_one_of p.seats e.seat ≡ false → Further p (behind p (e ∷ []))
 unfolding behind AreOfOthers
-by_another e t at h other = grind (arith, earlier_part_is_history, others_leave, others_own, others_free, state_there)
+by_another e t at h other =
+    let x = another_leaves e t at h other in
+    record { only = record { does = others_do is_open (e ∷ []) t (other, tt); none = x.none }; turn = x.turn }
 
 by_itself : {p : PassState} (j : ℕ) → IsTurn p → IsFreeForCycle p → IsAtPhase p 4 → IsHistory p.table.config
     (p.seen ++ event_of p (Step.Open j) ∷ []) → Further p (behind p (event_of p (Step.Open j) ∷ []))
@@ -55,13 +73,16 @@ by_itself {p} j t free at h =
     let a = acts p (Step.Open j) q makes t.holds in
     let next : IsTurn q = still_turn p (Step.Open j) q makes refl t in
     record {
-      none = record {
-        frees = frees_step a t next refl refl free at (open_gives p.table.config (world_at a.makes) p.seat j);
-        same = λ r. ap (λ (w : World). record {
-          page = page_of w.now.words r;
-          freed = slice_index w.now.words.freed r;
-          snapshot = slice_index w.now.words.snapshot r;
-        }) a.world ∙ state_there _ _ a.turn.steady r;
+      only = record {
+        does = does_step is_open p q (Step.Open j) makes refl;
+        none = record {
+          frees = frees_step a t next refl refl free at (open_gives p.table.config (world_at a.makes) p.seat j);
+          same = λ r. ap (λ (w : World). record {
+            page = page_of w.now.words r;
+            freed = slice_index w.now.words.freed r;
+            snapshot = slice_index w.now.words.snapshot r;
+          }) a.world ∙ state_there _ _ a.turn.steady r;
+        };
       };
       turn = next;
     }
@@ -79,10 +100,11 @@ opens_one {p} e t free at h is = by e.step refl is (opens_itself e t h is)
     by _ at_step kind same = cc
 
 opens_all : (more : List Event) (p : PassState) → IsTurn p → IsFreeForCycle p → IsAtPhase p 4 → OnlyOpen p.seats more
-    → IsHistory p.table.config (p.seen ++ more) → GivesNothingBack p (behind p more)
+    → IsHistory p.table.config (p.seen ++ more) → OpensOnly p (behind p more)
 unfolding behind OnlyOpen
 opens_all [] p t free at only h =
-    subst (λ (es : List Event). GivesNothingBack p (record p { seen = es })) (sym (append-nil p.seen)) (none_at_once p)
+    subst (λ (es : List Event). OpensOnly p (record p { seen = es })) (sym (append-nil p.seen))
+    (record { does = does_nothing is_open p; none = none_at_once p })
 opens_all (e ∷ es) p t free at only h =
     let c : Config = p.table.config in
     let split : (p.seen ++ e ∷ []) ++ es ≡ p.seen ++ e ∷ es = append_assoc p.seen (e ∷ []) es in
@@ -92,12 +114,15 @@ opens_all (e ∷ es) p t free at only h =
       | inl other ↦ by_another e t at first other
       | inr opens ↦ opens_one e t free at first opens
     ] in
-    let rest = opens_all es (record p { seen = p.seen ++ e ∷ [] }) one.turn (freed_free one.none.frees free)
-    (freed_phase one.none.frees at) only.1 whole in
-    subst (λ (xs : List Event). GivesNothingBack p (record p { seen = xs })) split (none_then one.none rest)
+    let rest = opens_all es (record p { seen = p.seen ++ e ∷ [] }) one.turn
+    (freed_free one.only.none.frees free) (freed_phase one.only.none.frees at) only.1 whole in
+    subst (λ (xs : List Event). OpensOnly p (record p { seen = xs })) split (record {
+      does = does_then is_open _ _ _ one.only.does rest.does;
+      none = none_then one.only.none rest.none;
+    })
 
 pub opens_frees : {p q : PassState} → IsTurn p → IsFreeForCycle p → IsAtPhase p 4 → Opens p q
-    → IsHistory q.table.config q.seen → GivesNothingBack p q
+    → IsHistory q.table.config q.seen → OpensOnly p q
 unfolding behind
 opens_frees t free at o h = grind (arith, opens_all)
 

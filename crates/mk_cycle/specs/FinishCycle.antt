@@ -4,22 +4,26 @@ use Rattle.std.specs.Prelude.{if◌then◌else◌}
 use Rattle.mk_core.specs.Allocations.{PlacedAllocation, held_by_allocations, storage_words, with_released}
 use Rattle.mk_core.specs.{Counts.{TalliesAreExact, TalliesAreTidy}, Cycles.is_quarantined, Effects.cycle_ended}
 use Rattle.mk_core.specs.Moments.{none_is_held}
-use Rattle.mk_words.specs.{States.{PassState, world_of, now_of, call_of}, Steps.Makes}
+use Rattle.mk_words.specs.{States.{PassState, world_of, now_of, call_of}, Opening.is_open, Steps.Makes}
 use Rattle.mk_turns.specs.Doing.{Does}
 use Rattle.mk_cycle.specs.{declared.finishing.Released.Released, EngineLaw.IsAtPhase}
 use Rattle.mk_cycle.specs.{Kinds.{holds_gates, is_giving_back, sets_tallies}, Releasing.{MakesRelease, words_released}}
 use Rattle.mk_cycle.specs.TurnKeeps.{done_of, IsGone}
 use Rattle.mk_core.specs.declared.events.Step.TheVariants as step
 
--- One `want`, one `close`, one `release` and one `end`, in this order, with what belongs to each.
+-- One `want`, one `close`, one `release` and one `end`, in this order, with what belongs to each. The gates are opened
+-- first after the `release`, and only then is anything wiped or given back, so that nobody waits for it.
 pub record MakesFinish (p q : PassState) : Type 0 where
   pub held : PassState
   pub released : PassState
+  pub opened : PassState
   pub freed : PassState
   pub ended : PassState
   pub holds : Does holds_gates p held
   pub releases : MakesRelease held released
-  pub frees : Does is_giving_back released freed
+  pub opens : Does is_open released opened
+  pub none_held : none_is_held p.table.config.callers (now_of opened).words ≡ true
+  pub frees : Does is_giving_back opened freed
   pub end : Makes freed step.End ended
   pub behind : Does sets_tallies ended q
 

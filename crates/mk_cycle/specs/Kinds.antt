@@ -41,7 +41,7 @@ holds_gates (step.Look x) = true
 holds_gates (step.Hold j) = true
 holds_gates _ = false
 
--- after a `release`: the gates are opened, and what is released is wiped and given back
+-- After a `release` what is released is wiped and given back. A gate is opened only while one is held.
 abbrev pub is_giving_back : Step → Bool
 is_giving_back (step.Look x) = true
 is_giving_back (step.Open j) = true

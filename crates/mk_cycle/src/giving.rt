@@ -1,7 +1,8 @@
 //! The stop of a cycle, and what comes after it up to the `end`.
 ghost use Rattle.std.specs.Prelude.{◌≡◌, true};
 ghost use Rattle.mk_core.specs.Moments.{none_is_held};
-ghost use Rattle.mk_words.specs.States.{now_of};
+ghost use Rattle.mk_turns.specs.Doing.{Does};
+ghost use Rattle.mk_words.specs.{Opening.is_open, States.now_of};
 ghost use Rattle.mk_cycle.specs.{Closing.ClosesAsPromised, EngineLaw.{IsFreeForCycle, IsAtPhase}};
 ghost use Rattle.mk_cycle.specs.{FinishCycle.{HasReleased, HoldsFewer}, Freeing.GivesNothingBack};
 ghost use Rattle.mk_cycle.specs.GivingAll.{GivesAllBack};
@@ -19,7 +20,8 @@ fn open_gates(words: &Words, stop: Stopped) -> Turn
     requires one_table { stop.pass.table ≡ words.now }
     requires free { IsFreeForCycle stop.pass }
     requires phase { IsAtPhase stop.pass 4 }
-    ensures opens { GivesNothingBack stop.pass result.pass }
+    ensures opens { Does is_open stop.pass result.pass }
+    ensures frees { GivesNothingBack stop.pass result.pass }
     ensures gates { none_is_held stop.pass.table.config.callers (now_of result.pass).words ≡ true }
 {
     stop.holds_gates();

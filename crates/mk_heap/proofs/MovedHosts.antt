@@ -11,7 +11,8 @@ use Rattle.mk_heap.{proofs.HostsKept.{still_rests}, specs.{Ending.TakesIdleTurn,
 use Rattle.mk_turns.specs.Doing.{AreOwnOrOfOthers, Does}
 use Rattle.mk_waiting.{proofs.Waiting.{joined_lists, waits_more}, specs.Taking.{TakesTurn, Waits, is_take, waits_for}}
 use Rattle.mk_words.proofs.Seats.{has_not, only_one, others_append, others_one, others_own, same_seat, same_self}
-use Rattle.mk_words.{proofs.Made.{own_before}, specs.{Seats.Has, States.{PassState, event_of, now_of}, Steps.Makes}}
+use Rattle.mk_words.proofs.Made.{own_before}
+use Rattle.mk_words.specs.{Opening.is_open, Seats.Has, States.{PassState, event_of, now_of}, Steps.Makes}
 
 -- The host's pass has seen more: no event of a seat that is home, but for its own.
 pub record MovesOn (p q : PassState) : Type 0 where
@@ -92,7 +93,8 @@ finish_moves p q r v f =
     let closed : MovesOn p release.closed =
     moves_more p release.closing release.closed Step.Close closing release.close in
     let released : MovesOn p m.released = moves_more p release.closed m.released Step.Release closed release.release in
-    let freed : MovesOn p m.freed = moves_does is_giving_back p m.released m.freed released m.frees in
+    let opened : MovesOn p m.opened = moves_does is_open p m.released m.opened released m.opens in
+    let freed : MovesOn p m.freed = moves_does is_giving_back p m.opened m.freed opened m.frees in
     moves_does sets_tallies p m.ended r (moves_more p m.freed m.ended Step.End freed m.end) m.behind
 
 pub begin_moves : (p q r : PassState) → MovesOn p q → BeginsCycle q r → MovesOn p r

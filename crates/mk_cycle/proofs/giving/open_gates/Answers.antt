@@ -7,5 +7,10 @@ open_all-requires-clause-enabled c =
 
 pub returns-clause-opens : goal.returns-clause-opens
 returns-clause-opens c =
-    opens_frees c.args.stop.in_order c.requires.free c.requires.phase c.open_all.ensures.opens
-    c.open_all.result.in_order.history
+    (opens_frees c.args.stop.in_order c.requires.free c.requires.phase c.open_all.ensures.opens
+    c.open_all.result.in_order.history).does
+
+pub returns-clause-frees : goal.returns-clause-frees
+returns-clause-frees c =
+    (opens_frees c.args.stop.in_order c.requires.free c.requires.phase c.open_all.ensures.opens
+    c.open_all.result.in_order.history).none
