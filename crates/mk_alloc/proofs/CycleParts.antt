@@ -19,6 +19,7 @@ ends_marking x = is_of_cycles x
 abbrev pub gives_room : SomeKinds
 gives_room Step.Begin = false
 gives_room Step.Want = false
+gives_room (Step.Hold j) = false
 gives_room x = is_of_cycles x
 
 -- A `begin` is the holder's.
@@ -58,12 +59,17 @@ module _ {p q : PassState} (law : FinishesCycle p q) where
   ends_marks = does_both (widened (λ x h. grind arith) law.makes.holds)
       (widened (λ x h. grind arith) law.makes.releases.marks.does)
 
+  -- the gates are opened, and what is released is given back
+  pub gives_back : Does is_giving_back law.makes.released law.makes.freed
+  gives_back = does_both (widened (λ x h. grind arith) law.makes.opens) law.makes.frees
+
   pub gives_room_back : Does gives_room closing q
   gives_room_back =
       let m = law.makes in
       let r = m.releases in
-      does_both (does_once r.close refl) (does_both (does_once r.release refl) (does_both (widened
-      (λ x h. grind arith) m.frees) (does_both (does_once m.end refl) (widened (λ x h. grind arith) m.behind))))
+      does_both (does_once r.close refl) (does_both (does_once r.release refl) (does_both
+      (widened (λ x h. grind arith) gives_back)
+      (does_both (does_once m.end refl) (widened (λ x h. grind arith) m.behind))))
 
   pub part_closing : IsTurn p → Part ends_marking p closing
   part_closing t = record {
@@ -101,7 +107,8 @@ finish_in p q own law t history =
     let x = step_behind (part_closing law t) r.close refl in
     let y = step_behind (nothing_part x.turn) r.release refl in
     let gives : Part is_giving_back m.released m.freed =
-    record { turn = y.turn; stays = λ x h. grind arith; does = m.frees; history = (pass_before m.end).history } in
+    record
+    { turn = y.turn; stays = λ x h. grind arith; does = gives_back law; history = (pass_before m.end).history } in
     let z = step_behind gives m.end refl in
     let more : List Event = x.before ++ event_of r.closing Step.Close
     ∷ (y.before ++ event_of r.closed Step.Release ∷ (z.before ++ event_of m.freed Step.End ∷ m.behind.more)) in

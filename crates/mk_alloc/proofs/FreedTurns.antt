@@ -1,5 +1,5 @@
 -- What a Free is answered, and that its turn may go on and be given back.
-use Rattle.mk_alloc.proofs.Vocabulary.{Answer, At, BeginsTurn, Bool, Config, Does, Event, FreeIsExact, FreesFirst}
+use Rattle.mk_alloc.proofs.Vocabulary.{Answer, At, BeginsTurn, Bool, Config, Event, FreeIsExact, FreesFirst}
 use Rattle.mk_alloc.proofs.Vocabulary.{FreesObject, Has, Holding, IsAnsweredDouble, IsDue, IsDueIn, IsDueSince, IsFresh}
 use Rattle.mk_alloc.proofs.Vocabulary.{IsHistory, IsOutOfStop, IsTurn, List, Makes, Op, PassKeeps, PassState, Placing}
 use Rattle.mk_alloc.proofs.Vocabulary.{RunsIfDue, Seat, Some, Stage, Step, TakesTurn, TalliesAreTidy, TurnGoesOn}
@@ -19,8 +19,7 @@ use Rattle.mk_alloc.{proofs.Stretches.{SomeKinds, Within}, specs.TurnCycles.{Cyc
 use Rattle.mk_laws.proofs.Vocabulary.{register_at}
 use Rattle.mk_never.specs.Admitted.{IsBase}
 use Rattle.mk_core.specs.Cycles.{BeginsAndEndsIn, BeginsIn}
-use Rattle.mk_objects.specs.{Retired.{DecidesFree, FindsFreed, Retires, kinds_for}, Retiring.{IsUnloaded, is_freeing}}
-use Rattle.mk_objects.specs.Retiring.{is_loading}
+use Rattle.mk_objects.specs.{Retired.{DecidesFree, FindsFreed, Retires}, Retiring.{IsUnloaded, is_freeing, is_loading}}
 use Rattle.mk_caller.specs.States as caller
 
 -- What the turn of a Free does with cycles, by the events after its `take`.
@@ -299,8 +298,9 @@ module _ {flag due : Bool} {r : ℕ} {p taken retired done : PassState} (f : Fre
         | inr is ↦ rests_exactly given (λ x h. h) freeing flag (f.run.rests is) (f.retires.not_due is)
       ]);
       is_due = (tells, told);
-      steps = λ undue. subst (λ (y : PassState). Does (kinds_for taken r) taken y) (sym (f.run.rests undue))
-          f.retires.steps;
+      freed = retired;
+      steps = f.retires.steps;
+      runs = f.run;
     }
 
 -- The turn of one whose object was freed already.

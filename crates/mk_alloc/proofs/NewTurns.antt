@@ -1,5 +1,5 @@
 -- What the turn of a New does with cycles, and what it is answered.
-use Rattle.mk_laws.proofs.Vocabulary.{Page, histories_keep_lengths, or_right, uses_of_pages}
+use Rattle.mk_laws.proofs.Vocabulary.{Page, histories_keep_lengths, uses_of_pages}
 use Rattle.mk_laws.proofs.{InvariantHistories.pages_show_the_storage, PlacementTheorems.fulls_fit_nowhere}
 use Rattle.mk_alloc.proofs.Vocabulary.{Answer, AnswersFull, At, BeginsTurn, Bool, CalledInTurn, Config, Event, Flight}
 use Rattle.mk_alloc.proofs.Vocabulary.{HasNoPlace, Holding, IsAnsweredFull, IsQuiet, IsTurn, IsUnplaced, List, Makes}
@@ -8,8 +8,8 @@ use Rattle.mk_alloc.proofs.Vocabulary.{Some, Steady, Step, TurnOf, World, ℕ, a
 use Rattle.mk_alloc.proofs.Vocabulary.{append_cancel_left, arith, asks_room, at_rest, call_of, event_of, false}
 use Rattle.mk_alloc.proofs.Vocabulary.{gone_is_unmapped, has_operands, is_begin, is_grant, is_undecided_new, is_want}
 use Rattle.mk_alloc.proofs.Vocabulary.{length, lets_go, lt-ltb, made, now_of, object_for, object_made, off_four}
-use Rattle.mk_alloc.proofs.Vocabulary.{only_seen, only_seen_by, or_left, refl, subst, sym, true, unreleased_storage}
-use Rattle.mk_alloc.proofs.Vocabulary.{within_turn, world_of, [], ⊎_elim, ◌&&◌, ◌++◌, ◌<◌, ◌∙◌, ◌∷◌, ◌≡◌}
+use Rattle.mk_alloc.proofs.Vocabulary.{only_seen, only_seen_by, refl, subst, sym, true, unreleased_storage, within_turn}
+use Rattle.mk_alloc.proofs.Vocabulary.{world_of, [], ⊎_elim, ◌&&◌, ◌++◌, ◌<◌, ◌∙◌, ◌∷◌, ◌≡◌}
 use Rattle.mk_alloc.proofs.CalledTurns.{GivenBack, Taken, called, done_is, given_turn, lacks_given, taken_is, turn_of}
 use Rattle.mk_alloc.proofs.{CalledTurns.within_is, FullLeaves.{leaves_then, made_leaves, taking_leaves}}
 use Rattle.mk_alloc.proofs.{ListParts.{InFirst, InSecond, SomeKind, lacks_at, stands}, Parts.{seen_after, seen_by}}
@@ -17,7 +17,7 @@ use Rattle.mk_alloc.proofs.{CycleParts.begins_held, GrantParts.last_before, OneC
 use Rattle.mk_geom.proofs.Bridge.{same_census}
 use Rattle.mk_geom.specs.{PageUses.census_among, Storages.census_of, declared.pages.Census.Census}
 use Rattle.mk_core.specs.Allocations.{census_of_allocations}
-use Rattle.mk_alloc.specs.TurnCycles.{NewIsExact}
+use Rattle.mk_alloc.specs.TurnCycles.{NewIsExact, is_hold}
 
 -- Directly after its `take` the turn of a New is quiet, and its object has no place yet.
 
@@ -78,8 +78,9 @@ module _ {d ty : ℕ} {a : Answer} {p taken done q : PassState} (m : NewGiven d 
 
   pub exact : NewIsExact turn o
   exact = record {
-    begins = room_at is_begin (λ x h. or_left (is_begin x) (is_want x) h);
-    ends = room_at is_want (λ x h. or_right (is_begin x) (is_want x) h);
+    begins = room_at is_begin (λ x h. grind arith);
+    ends = room_at is_want (λ x h. grind arith);
+    holds = room_at is_hold (λ x h. grind arith);
     one = one_before m.seeks.on.does.more m.gives.others one_done (lacks_given given is_begin begins_held);
     keeps =
         last_before m.seeks.on.does.more m.gives.others (m.seeks.last m.seeks.on.does.more (seen_by m.seeks.on.does))

@@ -9,13 +9,13 @@ use Rattle.mk_cycle.specs.EngineLaw.{IsAtPhase}
 use Rattle.mk_objects.specs.Placing.{IsUnplaced, Requests, object_for, place_now_for}
 use Rattle.mk_objects.specs.declared.objects.Request.{Request}
 use Rattle.mk_alloc.specs.{Leaving.OwnLeaveAllButReleased, TurnCycles.{HasNoPlace, RunsOneCycle, has_step, is_grant}}
-use Rattle.mk_alloc.specs.{TurnCycles.{is_want, lets_go}, Underway.{IsQuiet, TurnGoesOn}}
+use Rattle.mk_alloc.specs.{TurnCycles.{is_hold, is_want, lets_go}, Underway.{IsQuiet, TurnGoesOn}}
 use Rattle.mk_core.specs.declared.events.Answer.TheVariants as answer
 use Rattle.mk_core.specs.declared.events.Step.TheVariants as step
 
--- the steps that begin a cycle, or its end
+-- the steps that begin a cycle, or its end, and those that hold the gates of others for either
 abbrev pub asks_room : Step → Bool
-asks_room s = is_begin s || is_want s
+asks_room s = is_begin s || is_want s || is_hold s
 
 -- Each of them that was seen since came where the object had no place.
 abbrev pub AsksRoom : Object → PassState → PassState → Type 0

@@ -1,5 +1,5 @@
 -- A call under the turn, in the history: a New, or a Free.
-use Rattle.std.specs.Prelude.{◌≡◌, ◌<◌, ◌↔◌, ℕ, Bool, true, false, List, [], ◌∷◌, ◌++◌, Some}
+use Rattle.std.specs.Prelude.{◌≡◌, ◌<◌, ◌↔◌, ℕ, Bool, true, List, [], ◌∷◌, ◌++◌, Some}
 use Rattle.mk_never.specs.declared.operations.Op.{Op}
 use Rattle.mk_core.specs.{declared.events.Answer.Answer, declared.events.Event.Event, Allocations.census_of_allocations}
 use Rattle.mk_core.specs.{Calls.at_rest, Decided.{entry_of, flagged}, Placement.FindsNoPlace}
@@ -8,7 +8,7 @@ use Rattle.mk_words.specs.{States.{PassState, world_of, call_of, event_of}, Step
 use Rattle.mk_caller.specs.{States.{CallerState, caller_of_pass}, Called.{own_calls, IsDecidedIn}}
 use Rattle.mk_turns.specs.Doing.{Does}
 use Rattle.mk_waiting.specs.Taking.{TakesTurn}
-use Rattle.mk_alloc.specs.{Leaving.OwnLeaveAllButReleased, TurnCycles.{EndsExactly, IsDueIn}}
+use Rattle.mk_alloc.specs.{DueCycles.RunsIfDue, Leaving.OwnLeaveAllButReleased, TurnCycles.{EndsExactly, IsDueIn}}
 use Rattle.mk_objects.specs.{Retired.kinds_for, Retiring.is_loading}
 use Rattle.mk_never.specs.declared.operations.Op.TheVariants as op
 use Rattle.mk_core.specs.declared.events.Answer.TheVariants as answer
@@ -51,12 +51,14 @@ pub record IsAnsweredFull (on : Bool) (p : PassState) (o : Op) (census : Census)
   pub counts : census ≡ census_of_allocations p.table.config (world_of q).allocations
   pub leaves : OwnLeaveAllButReleased p q
 
--- The object was freed, or the register was null; and whether that was due. Where it wasn't, no gate was held for a
--- small object, and for null nothing was stored but in the turn word.
+-- The object was freed, or the register was null; and whether that was due. For a small object no gate was held, and
+-- for null nothing was stored but in the turn word. Then a cycle ran where it was due, and else nothing more was done.
 pub record FreesObject (on : Bool) (p : PassState) (r : ℕ) (due : Bool) (q : PassState) : Type 0 where
   pub called : CalledInTurn on p (op.Free r) answer.Done q
   pub is_due : (due ≡ true) ↔ IsDueIn called.ends.turn
-  pub steps : due ≡ false → Does (kinds_for called.taken r) called.taken called.done
+  pub freed : PassState
+  pub steps : Does (kinds_for called.taken r) called.taken freed
+  pub runs : RunsIfDue on due freed called.done
 
 -- The object was freed already. Nothing is stored but in the turn word.
 pub record IsAnsweredDouble (on : Bool) (p : PassState) (r : ℕ) (q : PassState) : Type 0 where

@@ -14,6 +14,11 @@ abbrev pub is_want : Step → Bool
 is_want step.Want = true
 is_want _ = false
 
+-- what keeps another caller from its next call
+abbrev pub is_hold : Step → Bool
+is_hold (step.Hold j) = true
+is_hold _ = false
+
 -- what ends a cycle that is on
 abbrev pub finishes : Step → Bool
 finishes step.Want = true
@@ -78,11 +83,12 @@ pub record FreeIsExact (on : Bool) {c : Config} {s : Seat} {es : List Event} (t 
 abbrev pub HasNoPlace : Config → Object → List Event → Type 0
 HasNoPlace c o es = FitsAmongAllocations c o.words o.leaf (left c es).allocations → ⊥
 
--- A New begins a cycle, and ends one, only where its object has no place. It begins one at most, and ends it. After
--- the grant of its object it lets nothing go.
+-- A New begins a cycle, ends one, and holds the gates of others, only where its object has no place. It begins one
+-- cycle at most, and ends it. After the grant of its object it lets nothing go.
 pub record NewIsExact {c : Config} {s : Seat} {es : List Event} (t : TurnOf c s es) (o : Object) : Type 0 where
   pub begins : (b : BeginsIn t) → HasNoPlace c o (within_turn t b.before)
   pub ends : (w : At is_want t.behind) → HasNoPlace c o (within_turn t w.before)
+  pub holds : (h : At is_hold t.behind) → HasNoPlace c o (within_turn t h.before)
   pub one : RunsOneCycle t.behind
   pub keeps : (g : At is_grant t.behind) → has_step lets_go g.behind ≡ false
 

@@ -6,9 +6,9 @@ use Rattle.mk_laws.proofs.Vocabulary.{heads_run, is_held, map, not, refl, slice_
 use Rattle.mk_laws.proofs.Vocabulary.{◌∷◌, ◌≡◌}
 use Rattle.mk_objects.proofs.Vocabulary.{Changes, ComesTo, FreesCell, HasFreed, IsOverQuarter, IsTrue, IsTurn}
 use Rattle.mk_objects.proofs.Vocabulary.{OnlyLooks, PassState, SetsGates, SetsTally, StaysSo, Unmaps, Wipes, WordsState}
-use Rattle.mk_objects.proofs.Vocabulary.{all_below_from, does_then, entry_for, is_clearing, is_counting, is_following}
-use Rattle.mk_objects.proofs.Vocabulary.{is_freeing, is_look, is_tallying, none_is_held, now_of, steady_of, sum_by-cons}
-use Rattle.mk_objects.proofs.{Vocabulary.world_of, JoinedLooks.{AreAmong, reached_world, reaches_after}}
+use Rattle.mk_objects.proofs.Vocabulary.{all_below_from, does_then, entry_for, is_clearing, is_following, is_freeing}
+use Rattle.mk_objects.proofs.Vocabulary.{is_freeing_small, is_look, is_tallying, none_is_held, now_of, steady_of}
+use Rattle.mk_objects.proofs.{Vocabulary.{sum_by-cons, world_of}, JoinedLooks.{AreAmong, reached_world, reaches_after}}
 use Rattle.mk_objects.proofs.JoinedLooks.{reaches_answered, reaches_so, reaches_wider}
 use Rattle.mk_objects.proofs.FreedOnce.{FreesNot, once_behind}
 use Rattle.mk_core.specs.Counts.{releases}
@@ -147,7 +147,7 @@ module _ {kinds : Step → Bool} {p q : PassState} (a : Prepares kinds p q) wher
   so = reaches_so a (λ at. stays_by _ _ _ (λ x. x) at.call at.holding at.steady refl refl refl)
 
   pub frees_behind : {r : PassState} {cell : Cell} {due : Bool} → AreAmong kinds is_freeing
-      → (heads_run (header_in (now_of p).words cell.page) ≡ false → AreAmong kinds is_counting) → FreesNot kinds
+      → (heads_run (header_in (now_of p).words cell.page) ≡ false → AreAmong kinds is_freeing_small) → FreesNot kinds
       → IsTurn p → IsTurn q → FreesCell q cell due r → FreesCell p cell due r
   frees_behind {r} {cell} {due} among among_small not turn behind f = record {
     reaches = decides_behind among so f.reaches;
@@ -155,7 +155,7 @@ module _ {kinds : Step → Bool} {p q : PassState} (a : Prepares kinds p q) wher
         (record (now_of q).words { pages = ps }) (Some cell)) (world_of q).allocations)
         (ap (λ (x : Steady). x.pages) now.steady) ∙ ap (λ (xs : List PlacedAllocation). map
         (freed_where_it_stands (now_of p).words (Some cell)) xs) (ap (λ (x : Steady). x.allocations) now.steady);
-    small = λ no_run. does_then is_counting p q r (reaches_wider (among_small no_run) a).does
+    small = λ no_run. does_then is_freeing_small p q r (reaches_wider (among_small no_run) a).does
         (f.small (ap (λ (x : Steady). heads_run (header_of (slice_index_or x.pages cell.page free_page).header))
         now.steady ∙ no_run));
     once = once_behind not a.does turn behind f.once;

@@ -7,11 +7,11 @@ use Rattle.mk_laws.proofs.Vocabulary.{quarantine_word, refl, slice_index, subst,
 use Rattle.mk_laws.proofs.Vocabulary.{◌<◌, ◌==◌, ◌^◌, ◌∙◌, ◌≡◌}
 use Rattle.mk_objects.proofs.Vocabulary.{CallIsAt, ComesTo, Does, FreesCell, IsAsLeft, IsBase, IsFreeAt, IsOutOfStop}
 use Rattle.mk_objects.proofs.Vocabulary.{IsTurn, MayFree, OnlyLooks, PassState, WordsState, all_below_from, call_of}
-use Rattle.mk_objects.proofs.Vocabulary.{does_then, entry_for, histories_keep_the_invariant, is_counting, is_freeing}
-use Rattle.mk_objects.proofs.Vocabulary.{is_loading, loaded_free, none_is_held, now_of, value_of, world_of}
-use Rattle.mk_objects.proofs.DecidedFrees.{Decides, Prepares, decided_behind, prepared_table, still_open}
-use Rattle.mk_objects.proofs.{FreeSteps.{freed_same, low_half, target_same}, FreedObjects.{IsObjectAt, granted}}
-use Rattle.mk_objects.proofs.FreedObjects.{it_is_freed, its_freed, its_size, object_at}
+use Rattle.mk_objects.proofs.Vocabulary.{does_then, entry_for, histories_keep_the_invariant, is_freeing}
+use Rattle.mk_objects.proofs.Vocabulary.{is_freeing_small, is_loading, loaded_free, none_is_held, now_of, value_of}
+use Rattle.mk_objects.proofs.{Vocabulary.world_of, DecidedFrees.{Decides, Prepares, decided_behind, prepared_table}}
+use Rattle.mk_objects.proofs.{DecidedFrees.still_open, FreeSteps.{freed_same, low_half, target_same}}
+use Rattle.mk_objects.proofs.FreedObjects.{IsObjectAt, granted, it_is_freed, its_freed, its_size, object_at}
 use Rattle.mk_objects.proofs.FreedOnce.{due_since, due_then, none_due, once_behind}
 use Rattle.mk_objects.proofs.JoinedLooks.{looks_call, looks_left, looks_table, reached_table, reached_world}
 use Rattle.mk_objects.proofs.JoinedLooks.{reaches_after, reaches_answered, reaches_named, reaches_so, reaches_wider}
@@ -244,10 +244,10 @@ pub none_held_there : {p q : PassState} {f : Flight} → Comes p f q → none_is
 none_held_there {p} {q} come none = still_open p q (come_table come) (come_now come).gates none
 
 steps_by : {p t : PassState} (heads large : Bool) → heads ≡ large → Does is_freeing p t
-    → (heads ≡ false → Does is_counting p t) → Does (if large then is_freeing else is_counting) p t
-steps_by {p} {t} true large is all small = subst (λ b. Does (if b then is_freeing else is_counting) p t) is all
+    → (heads ≡ false → Does is_freeing_small p t) → Does (if large then is_freeing else is_freeing_small) p t
+steps_by {p} {t} true large is all small = subst (λ b. Does (if b then is_freeing else is_freeing_small) p t) is all
 steps_by {p} {t} false large is all small =
-    subst (λ b. Does (if b then is_freeing else is_counting) p t) is (small refl)
+    subst (λ b. Does (if b then is_freeing else is_freeing_small) p t) is (small refl)
 
 -- the steps of its Free are of the kinds for its size
 freed_steps : {p q t : PassState} {r : ℕ} {f : Flight} {cell : Cell} {due : Bool} → Comes p f q
@@ -262,7 +262,7 @@ freed_steps {p} {q} {t} come x keeps freed behind all =
     (sym table) ∙ ap (λ (xs : List PlacedAllocation). is_large (kinds_of p.table.config.types
     (placed_at xs x.number).ty)) same in
     subst (λ (v : Value). Does (freeing_kinds p.table.config (world_of p).allocations v) p t)
-    (sym (sym keeps ∙ x.value)) (steps_by _ _ is all (λ no_run. does_then is_counting p q t
+    (sym (sym keeps ∙ x.value)) (steps_by _ _ is all (λ no_run. does_then is_freeing_small p q t
     (reaches_wider (λ y h. grind arith) come).does (freed.small no_run)))
 
 -- Its object was freed.

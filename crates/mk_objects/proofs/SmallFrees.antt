@@ -5,7 +5,7 @@ use Rattle.mk_laws.proofs.Vocabulary.{if◌then◌else◌, in_a_word, is_held, n
 use Rattle.mk_laws.proofs.{Vocabulary.{words_under, ◌*◌, ◌+◌, ◌-◌, ◌<◌, ◌^◌, ◌↔◌, ◌∙◌, ◌≡◌}, Tallies.fresh_is_told}
 use Rattle.mk_objects.proofs.Vocabulary.{Changes, Does, FreesCell, FreesOnce, HasFreed, IsAsLeft, IsFreedAt, IsTrue}
 use Rattle.mk_objects.proofs.Vocabulary.{IsTurn, MayFree, OnlyLooks, PassState, SetsTally, StaysSo, does_then}
-use Rattle.mk_objects.proofs.Vocabulary.{held_by_allocations, is_counting, is_following, min, none_is_held, now_of}
+use Rattle.mk_objects.proofs.Vocabulary.{held_by_allocations, is_following, is_freeing_small, min, none_is_held, now_of}
 use Rattle.mk_objects.{proofs.Vocabulary.{steady_of, with_tally, words_freed, world_of}, proofs.FreedOnce.{once_before}}
 use Rattle.mk_objects.proofs.{ClearedRuns.{IsGoneIn, still_gone}, DecidedFrees.{Stays, decides_before, freed_decides}}
 use Rattle.mk_objects.proofs.{DecidedFrees.{fresh_stays, stays_now}, JoinedLooks.{reached_table, reached_world}}
@@ -74,7 +74,7 @@ pub frees_counted : {p q r : PassState} {cell : Cell} {held fresh : ℕ} (due : 
     → held ≡ (now_of r).words.held → fresh ≡ (now_of r).words.fresh → held ≡ held_by_allocations p.table.config
     (world_of r).allocations → fresh ≡ in_a_word (fresh_words_of p.table.config (world_of r).allocations)
     → held < 2 ^ 64 → IsTrue due ↔ (held < 4 * fresh)
-    → (heads_run (header_in (now_of p).words cell.page) ≡ false → Does is_counting p r) → FreesCell p cell due r
+    → (heads_run (header_in (now_of p).words cell.page) ≡ false → Does is_freeing_small p r) → FreesCell p cell due r
 frees_counted {p} {q} {r} due freed follows once turn behind gone gates held fresh held_exact fresh_exact fits is_due
     small =
     let table : p.table ≡ q.table = sym (reached_table freed) in
@@ -132,5 +132,5 @@ module _ {p q a b r : PassState} {reg u : ℕ} {cell : Cell} {n : ℕ} (may : Ma
           sets.same) (still_gone (reaches_wider (λ x h. grind arith) sets).does behind last
           (grind (arith, freed_there, no_run)))) none_held_now found_held
           (sym (ap (λ (x : Steady). x.fresh) changed.steady)) (found_held ∙ held_exact) fresh_exact fits is_due
-          (λ no_run. does_then is_counting p q r freed.does
+          (λ no_run. does_then is_freeing_small p q r freed.does
           (reaches_wider (λ x h. grind arith) (fresh_stays sets)).does)

@@ -18,5 +18,5 @@ pub use Rattle.mk_objects.specs.{Looking.{is_acting, is_steady_word}, Placing.{C
 pub use Rattle.mk_objects.specs.Placing.{IsOutOfStop, IsUnplaced, MayTake, OnlyLooks, entry_for, is_look, is_placing}
 pub use Rattle.mk_objects.specs.{Placing.{object_at_place, object_for}, Retired.freed_and_fresh}
 pub use Rattle.mk_objects.specs.Retiring.{CallIsAt, HasFreed, IsFreeAt, IsFreedAt, is_freeing, is_loading, loaded_free}
-pub use Rattle.mk_objects.specs.{Retiring.{is_counting, value_of}, Serving.{Carving, IsCellReady, Serving}}
+pub use Rattle.mk_objects.specs.{Retiring.{is_freeing_small, value_of}, Serving.{Carving, IsCellReady, Serving}}
 pub use Rattle.mk_objects.specs.{Unchanged.IsAsLeft, Unmapping.WipesTo}

@@ -7,7 +7,7 @@ use Rattle.mk_core.specs.{Cells.{header_in, heads_run, is_freed}, Moments.{fligh
 use Rattle.mk_core.specs.{NewPlaces.{is_run_gone, target}, Words.named_word}
 use Rattle.mk_words.specs.States.{PassState, WordsState, call_of, now_of, world_of}
 use Rattle.mk_objects.specs.{Dues.{FreesOnce, IsOverQuarter}, Placing.{IsOutOfStop, ComesTo, entry_for}}
-use Rattle.mk_objects.specs.Retiring.{IsFreeAt, is_counting, is_freeing, loaded_free}
+use Rattle.mk_objects.specs.Retiring.{IsFreeAt, is_freeing_small, is_freeing, loaded_free}
 use Rattle.mk_turns.specs.Doing.{Does}
 use Rattle.mk_core.specs.declared.events.Answer.TheVariants as answer
 use Rattle.mk_core.specs.declared.events.Step.TheVariants as step
@@ -62,7 +62,7 @@ pub record FreesCell (p : PassState) (cell : Cell) (due : Bool) (q : PassState) 
   pub reaches : ComesTo is_freeing p (IsDecidedAt p.seat (world_of p)) (entry_for p answer.Done) q
   pub allocations : (world_of q).allocations ≡ map (freed_where_it_stands (now_of p).words (Some cell))
       (world_of p).allocations
-  pub small : heads_run (header_in (now_of p).words cell.page) ≡ false → Does is_counting p q
+  pub small : heads_run (header_in (now_of p).words cell.page) ≡ false → Does is_freeing_small p q
   pub once : FreesOnce p q
   pub gone : is_run_gone (now_of q).words (now_of q).seats.holding.freed ≡ true
   pub gates : (j : ℕ) → j < p.table.config.callers → is_held (now_of q).words j ≡ false

@@ -8,7 +8,7 @@ use Rattle.mk_core.specs.{Counts.{IsDue, TalliesAreExact, TalliesAreTidy}, Histo
 use Rattle.mk_core.specs.{NewPlaces.is_run_gone, Words.phase_of}
 use Rattle.mk_words.specs.States.{PassState, call_of, now_of, world_of}
 use Rattle.mk_turns.specs.Doing.{Does}
-use Rattle.mk_objects.specs.{Entries.own_calls, Placing.entry_for, Retiring.{is_counting, is_freeing, is_loading}}
+use Rattle.mk_objects.specs.{Entries.own_calls, Placing.entry_for, Retiring.{is_freeing_small, is_freeing, is_loading}}
 use Rattle.mk_objects.specs.Retiring.{value_of}
 use Rattle.mk_core.specs.declared.events.Answer.TheVariants as answer
 use Rattle.mk_core.specs.declared.seats.Stage.TheVariants as stage
@@ -54,7 +54,7 @@ pub record DecidesFree (kinds : Step → Bool) (a : Answer) (p q : PassState) : 
 -- the kinds of step by which what the value points to is freed
 abbrev pub freeing_kinds : Config → List PlacedAllocation → Value → Step → Bool
 freeing_kinds c xs (Ptr number ty offset) =
-    if is_large (kinds_of c.types (placed_at xs number).ty) then is_freeing else is_counting
+    if is_large (kinds_of c.types (placed_at xs number).ty) then is_freeing else is_freeing_small
 freeing_kinds c xs _ = is_loading
 
 abbrev pub kinds_for : PassState → ℕ → Step → Bool

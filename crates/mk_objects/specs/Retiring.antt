@@ -64,12 +64,12 @@ is_loading step.Reg = true
 is_loading _ = false
 
 -- the kinds of step by which a small object is freed: no gate is held, and no word of the heap changes
-abbrev pub is_counting : Step → Bool
-is_counting (step.Look x) = true
-is_counting step.Reg = true
-is_counting (step.Quar p v) = true
-is_counting (step.Tally n v) = true
-is_counting _ = false
+abbrev pub is_freeing_small : Step → Bool
+is_freeing_small (step.Look x) = true
+is_freeing_small step.Reg = true
+is_freeing_small (step.Quar p v) = true
+is_freeing_small (step.Tally n v) = true
+is_freeing_small _ = false
 
 -- the kinds of step by which an object is freed
 abbrev pub is_freeing : Step → Bool
@@ -124,4 +124,4 @@ pub record IsFreedAt (c : Config) (s : Seat) (cell : Cell) (w v : World) : Type 
 
 abbrev pub HasFreed : PassState → Cell → PassState → Type 0
 HasFreed p cell q =
-    ComesTo is_counting p (IsFreedAt p.table.config p.seat cell (world_of p)) (entry_for p answer.Done) q
+    ComesTo is_freeing_small p (IsFreedAt p.table.config p.seat cell (world_of p)) (entry_for p answer.Done) q

@@ -10,7 +10,7 @@ use Rattle.mk_core.proofs.EventsAt.{at_each, ◌and◌}
 use Rattle.mk_core.specs.{Allocations.unreleased_storage, Bounded.all_below, Cells.pointed_cell}
 use Rattle.mk_core.specs.{Cycles.{NoneSweepsFrom, is_give}, History.{CallsAreAdmitted, calls_from, left_from}}
 use Rattle.mk_alloc.proofs.{ListParts.lacks_second, OwnGives.{none_more, one_more}}
-use Rattle.mk_alloc.specs.TurnCycles.{EndsExactly, TurnsOfAreExact, is_want}
+use Rattle.mk_alloc.specs.TurnCycles.{EndsExactly, TurnsOfAreExact, is_hold, is_want}
 use Rattle.mk_quarantine.proofs.Bounds.{quarantine_of_one_is_bounded}
 use Rattle.mk_run.{proofs.UnsweptHistories.{unswept_is_precise}, specs.Unswept.{IsUnswept}}
 use Rattle.mk_trace.specs.{Grammar.along, Peaks.{found_by_ends_from, greatest_from}, Playing.IsPlayed}
@@ -72,6 +72,7 @@ ends_exactly = record {
   exact = record {
     begins = λ b. absurd (none_at is_begin making refl b);
     ends = λ w. absurd (none_at is_want making refl w);
+    holds = λ h. absurd (none_at is_hold making refl h);
     one = λ b. absurd (none_at is_begin making refl b);
     keeps = λ g. (or_parts (lets_go g.event.step) (has_step lets_go g.behind)
         (lacks_second lets_go g.before (g.event ∷ g.behind) (ap (has_step lets_go) (sym g.is) ∙ refl))).1;
