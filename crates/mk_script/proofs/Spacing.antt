@@ -1,10 +1,8 @@
 -- Words with a space before each, and lines of them.
-use Rattle.std.proofs.Common.{IfOk, add-one, drop-cons, slice_index_or}
-use Rattle.mk_script.proofs.Vocabulary.{At, Item, List, Result, ℕ, ap, append-nil, append_assoc, arith, at_text, codes}
-use Rattle.mk_script.proofs.Vocabulary.{drop, get_or, joined_words, length, refl, spaced_words, suc, sym, words_of_item}
-use Rattle.mk_script.proofs.Vocabulary.{[], ◌++◌, ◌+◌, ◌<◌, ◌∙◌, ◌∷◌, ◌≡◌}
-use Rattle.mk_script.specs.Sorts.{is_declaration, is_number_access, is_number_line, is_pointer_access, is_pointer_line}
-use Rattle.mk_script.specs.{Canonical.line_text, Canonical.numbers_before, Spaced.operands_of_sort}
+use Rattle.std.proofs.Common.{IfOk, add-one, drop-cons}
+use Rattle.mk_script.proofs.Vocabulary.{At, List, Result, ℕ, ap, append-nil, append_assoc, arith, at_text, codes, drop}
+use Rattle.mk_script.proofs.Vocabulary.{get_or, joined_words, length, refl, spaced_words, suc, sym, [], ◌++◌, ◌+◌, ◌<◌}
+use Rattle.mk_script.{proofs.Vocabulary.{◌∙◌, ◌∷◌, ◌≡◌}, specs.Canonical.{line_text, numbers_before}}
 
 pub spaced_words-append : (xs ys : List (List ℕ)) → spaced_words (xs ++ ys) ≡ spaced_words xs ++ spaced_words ys
 spaced_words-append [] ys = refl
@@ -20,13 +18,6 @@ line_text-joined [] = refl
 line_text-joined (word ∷ []) = simp append-nil
 line_text-joined (word ∷ next ∷ words) = ap (λ t. word ++ (codes " " ++ t)) (line_text-joined (next ∷ words))
     ∙ simp append_assoc
-
--- a line's words are its first word and the operands of its sort
-pub sorts_together : (item : Item) → joined_words (words_of_item item) ≡ slice_index_or (words_of_item item) 0 []
-    ++ (operands_of_sort is_declaration item ++ (operands_of_sort is_number_access item
-    ++ (operands_of_sort is_pointer_access item ++ (operands_of_sort is_pointer_line item
-    ++ operands_of_sort is_number_line item))))
-sorts_together x0 = grind (arith, append-nil)
 
 -- where a text is at hand, another form of it is
 pub then_same : {E : Type 0} (r : Result (List ℕ) E) (x y : List ℕ) → IfOk r (λ p. p ≡ x) → x ≡ y → IfOk r (λ p. p ≡ y)

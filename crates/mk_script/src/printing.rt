@@ -243,12 +243,36 @@ impl Printer {
     fn words(self, item: &Item) -> Result<Printer, NoMemory>
         ensures { IfOk result (λ printer. printer ≡ self ++ joined_words (words_of_item item.now)) }
     {
-        self.piece(first_word(item))?
-            .declaration(item)?
-            .number_access(item)?
-            .pointer_access(item)?
-            .pointer_line(item)?
-            .number_line(item)
+        let printer = self.piece(first_word(item))?;
+        match item {
+            Item::Heap { .. }
+            | Item::TypeLine { .. }
+            | Item::Global { .. }
+            | Item::Script { .. }
+            | Item::Ptr { .. }
+            | Item::Num { .. } => printer.declaration(item),
+            Item::Getn { .. } | Item::Setn { .. } => printer.number_access(item),
+            Item::Getp { .. } | Item::Setp { .. } | Item::Casp { .. } => {
+                printer.pointer_access(item)
+            }
+            Item::New { .. }
+            | Item::Free { .. }
+            | Item::Lea { .. }
+            | Item::Move { .. }
+            | Item::Clear { .. }
+            | Item::Loadg { .. }
+            | Item::Storeg { .. } => printer.pointer_line(item),
+            Item::Same { .. }
+            | Item::Isnull { .. }
+            | Item::Show { .. }
+            | Item::Const { .. }
+            | Item::Add { .. }
+            | Item::Sub { .. }
+            | Item::Print { .. }
+            | Item::Repeat { .. }
+            | Item::If { .. } => printer.number_line(item),
+            Item::Else | Item::End => Ok(printer),
+        }
     }
 
     /// Appends a newline.
