@@ -65,6 +65,7 @@ runs_stand_in_one_history program markers sweep last_cycle outcome tell bytes ru
       cycles = λ k is. (runs.follows k is).exact;
       roots = begun;
       host = runs.host;
+      over = runs.over;
       precise = λ none. unswept_is_precise c es kept (unswept none);
       bounded = quarantine_of_run_is_bounded runs;
       told = told;

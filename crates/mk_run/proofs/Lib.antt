@@ -1,4 +1,4 @@
-mod HostTurns
+pub mod HostTurns
 mod JoinedScripts
 mod LaterLists
 mod ReadyScripts

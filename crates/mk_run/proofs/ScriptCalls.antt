@@ -130,9 +130,6 @@ next_admitted {program} {c} k {es = es} answers o checked is_script is history n
 
 -- What is said of an answer does to a script what the answer does.
 
-flagged_so : (o : Op) (a : Answer) → flagged o (as_told a) ≡ flagged o a
-flagged_so o x1 = grind arith
-
 noted_so : (fed : Fed) (o : Option Op) (line : ℕ) (w : ℕ)
     → note fed o line (Answer.Word 0) ≡ note fed o line (Answer.Word w)
 noted_so fed x1 line w = grind arith
@@ -345,11 +342,6 @@ module _ {on : Bool} {program : List Item} {k : ℕ} {p q : PassState} {s : Scri
       }
 
 -- One answer more is counted.
-
-pub one_more_op : {program : List Item} {k : ℕ} {answers : List Answer} (told : Answer) {s : Script} (t : Script)
-    → IsFedWith program k answers s → ScriptTakesAnswer told s t → t.ops ≡ s.ops + 1
-one_more_op {program} {k} {answers} told t fed takes =
-    (takes program k answers fed).ops ∙ length-append answers (told ∷ []) ∙ ap (λ (n : ℕ). n + 1) (sym fed.ops)
 
 pub refused_within : {program : List Item} {k : ℕ} {answers : List Answer} {s : Script}
     → IsFedWith program k answers s → s.refused ≤ s.ops

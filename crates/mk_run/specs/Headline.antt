@@ -9,6 +9,7 @@ use Rattle.mk_heap.specs.Reports.{IsWhole}
 use Rattle.mk_engines.specs.Roots.{CyclesMarkRootsFirst}
 use Rattle.mk_alloc.specs.TurnCycles.{TurnsOfAreExact}
 use Rattle.mk_laws.specs.{Precision.CyclesArePrecise, Promises.KeepsAllPromises}
+use Rattle.mk_words.specs.Seats.{has_over}
 use Rattle.mk_quarantine.specs.Bounds.{QuarantineIsBounded}
 use Rattle.mk_run.specs.{declared.outcomes.Outcome.Outcome, HostTurns.HostComesLast, Running.{answers_in, IsRunOf}}
 use Rattle.mk_run.specs.Unswept.{IsUnswept}
@@ -54,6 +55,8 @@ pub record StandsInOneHistory (program : List Item) (markers : ℕ) (sweep last_
   -- No step of a script stands after one of the host. The host begins one cycle where a last one is asked for, and else
   -- none.
   pub host : HostComesLast (config_of program markers).callers last_cycle history
+  -- And it has said to the markers that all is over.
+  pub over : has_over history ≡ true
   -- Unless a sweep makes the marks, each cycle releases all of its snapshot that no pointer led to from the `begin` to
   -- the `close`, and after its `end` that storage counts as free.
   pub precise : sweep ≡ false → CyclesArePrecise (config_of program markers) history

@@ -94,7 +94,7 @@ advances {p} {q} s {told} leads types history is holds answers called =
     let next = of_asked _ is (asks (place_state types h) s (holds_still h.before s holds)) in
     subst (Advances p s q) (ap (next_point s) (sym t.is_told) ∙ sym leads) (steps_so h (next t.answer h.bases h.image))
 
-pub clears : {p q : PassState} (r : ℕ) → r < 8 → Called p (Op.Clear r) Answer.Done q
+pub clears : {p q : PassState} (r : ℕ) → r < 4 → Called p (Op.Clear r) Answer.Done q
     → StaysEnded p q
 clears {p} {q} r lt called d =
     let h = from_called called refl called.pass.history in

@@ -12,14 +12,15 @@ use Rattle.mk_laws.proofs.Vocabulary.{◌≤◌}
 use Rattle.mk_never.specs.declared.never_heap.NoMemory.{NoMemory}
 use Rattle.mk_core.specs.{declared.seats.Presence.TheVariants.{Attending, Out, Visiting}, Growing.is_same_seat}
 use Rattle.mk_core.specs.MarkerConditions.{is_out}
-use Rattle.mk_heap.proofs.MovedHosts.{MovesOn}
+use Rattle.mk_heap.proofs.{ClientSteps.has_said_over, MovedHosts.MovesOn}
 use Rattle.mk_heap.specs.{Ending.{CallersAreJoined, SaysOver}, Hosts.{with_marker_made, with_seen}}
 use Rattle.mk_marker.specs.Markers.{attends}
-use Rattle.mk_run.proofs.{LastTurns.over_moves, MarkersBeside.first_marker}
+use Rattle.mk_run.proofs.HostTurns.{comes_last, host_is_still, over_begins, still_last}
+use Rattle.mk_run.proofs.{LastTurns.{over_moves, still_behind_over}, MarkersBeside.first_marker}
 use Rattle.mk_stack.specs.{Joining.{HaveEnded, HaveFoundedAndWorked, IsReader}, StackRuns.IsStackRun}
 use Rattle.mk_stack.specs.declared.working.Ended.{Ended}
 use Rattle.mk_words.proofs.Seats.{has_first, has_left, has_right, others_own, without_keeps}
-use Rattle.mk_words.specs.Markers.{marker_in}
+use Rattle.mk_words.specs.{Markers.marker_in, Seats.{HasCallers, has_over}}
 
 both_ok : {V U : Type 0} (P : V → Type 0) (Q : U → Type 0) (R : V → U → Type 0) (x : Result V NoMemory) (y : Result U
     NoMemory) → ((v : V) (u : U) → P v → Q u → R v u) → IfOk x P → IfOk y Q → IfOk x (λ v. IfOk y (λ u. R v u))
@@ -44,6 +45,9 @@ module _ (w : WordsState) (markers : ℕ) (lists : List Jobs) (joined : Joined) 
 
   table : g.pass.table ≡ w
   table = same_table h g reads ∙ did.worked.table
+
+  reader_home : HasCallers w.config g.pass.seats
+  reader_home k lt = callers_home h g reads k (home k lt)
 
   last_history : IsHistory w.config i.pass.seen
   last_history = rw (ap (λ (x : HostState). x.pass.table) is ∙ table) at over.gives.pass.history
@@ -75,6 +79,11 @@ module _ (w : WordsState) (markers : ℕ) (lists : List Jobs) (joined : Joined) 
       subst (λ (x : HostState). HaveEnded w markers lists (record ended { host = x })) (sym same) (record {
         table = ap (λ (x : HostState). x.pass.table) is ∙ table;
         own = subst (λ (x : HostState). Has x.pass.seats Host) (sym is) (host_home h g reads did.worked.own);
+        over = has_said_over over;
+        last = comes_last w.config g.pass reader_home (host_is_still (without_keeps (Caller 0) h.pass.seats Host refl
+            did.worked.own) reads.own did.worked.without_host) (still_behind_over
+            (same_seat h g reads ∙ did.worked.seat)
+            over) (over_begins (host_home h g reads did.worked.own) (rw table reader_home) over);
         count =
             (let now = ap (λ (x : HostState). x.callers) is ∙ same_callers h g reads in
             let then = did.worked.count in omega (arith, now, then));
@@ -126,8 +135,9 @@ pub marker_joined : {w : WordsState} (j : ℕ) {lists : List Jobs} (p : PassStat
     → after.host ≡ with_joined before.host p after.host.pass.seen
     → Grows before.host.pass.seats before.host.pass.seen after.host.pass.seen
     → IsHistory after.host.pass.table.config after.host.pass.seen → after.dones ≡ before.dones
-    → after.left ≡ before.left → HaveEnded w j lists after
-marker_joined {w} j {lists} p {before} after all alone ended is grows history dones left =
+    → after.left ≡ before.left → has_over after.host.pass.seen ≡ has_over before.host.pass.seen
+    → HaveEnded w j lists after
+marker_joined {w} j {lists} p {before} after all alone ended is grows history dones left overs =
     let h = before.host in
     let fs = after.host.pass.seen in
     let seats : after.host.pass.seats ≡ h.pass.seats ++ p.seats = ap (λ (x : HostState). x.pass.seats) is in
@@ -141,6 +151,9 @@ marker_joined {w} j {lists} p {before} after all alone ended is grows history do
     record {
       table = table;
       own = subst (λ (l : List Seat). Has l Host) (sym seats) (has_left h.pass.seats p.seats Host ended.own);
+      over = overs ∙ ended.over;
+      last = still_last w.config h.pass ended.own (λ k lt. ended.callers k (omega (arith, lt, all))) grows last
+          ended.last;
       count = ap (λ (x : HostState). x.callers) is ∙ ended.count;
       callers = λ k lt. rw seats (has_left h.pass.seats p.seats (Caller k) (ended.callers k lt));
       markers = λ i le lt. rw seats (⊎_elim (λ (e : i ≡ j). has_right h.pass.seats p.seats (Marker i)

@@ -12,6 +12,7 @@ use Rattle.mk_never.specs.declared.never_heap.NoMemory.{NoMemory}
 use Rattle.mk_core.specs.History.{calls_from}
 use Rattle.mk_caller.specs.States.{IsIdleCaller}
 use Rattle.mk_heap.specs.Hosts.{with_caller_made}
+use Rattle.mk_run.proofs.HostTurns.{host_is_still, unseen_by_host}
 use Rattle.mk_stack.specs.{Joining.{HasWorked, IsBetweenJobs}, JobLists.HasDone, Ready.IsReadyForJobs}
 use Rattle.mk_words.{proofs.Seats.{has_first, has_left, has_right, others_own, without_keeps}, specs.Seats.{has_over}}
 
@@ -76,7 +77,7 @@ none_done items c es first k x5 is = grind arith
 
 pub none_joined : {w : WordsState} {markers n : ℕ} (joined : Joined) → HasHandedOut w markers n joined.host
     → IfOk joined.dones (λ all. all.items ≡ []) → HaveWorked w markers [] n [] joined
-none_joined {w} {n} joined made none = grind (arith, none_done)
+none_joined {w} {n} joined made none = grind (arith, none_done, unseen_by_host)
 
 pub same_or_later : (k j : ℕ) → k ≤ j → (j ≡ k) ⊎ (k + 1 ≤ j)
 same_or_later k j le = grind arith
@@ -126,6 +127,7 @@ one_joined {w} {first} {k} jobs {others} {worked} {joined} all one rest is own c
       own = subst (λ (x : HostState). Has x.pass.seats Host) (sym is) (has_left h.pass.seats p.seats Host rest.own);
       count = (let n = ap (λ (x : HostState). x.callers) is in let m = rest.count in omega arith);
       seats = λ j le lt. subst (λ (x : HostState). Has x.pass.seats (Caller j)) (sym is) (has j le lt);
+      without_host = host_is_still rest.own own rest.without_host;
       before_over = overs ∙ rest.before_over;
       same_markers = ap (λ (x : HostState). x.markers) is ∙ rest.same_markers;
       done =

@@ -236,7 +236,8 @@ module _ {callers : ℕ} {n : NeverState} {top : Option ℕ} {role : ℕ → Rol
       let number : number_of (word_at n local.a 0) ≡ x = grind (arith, num_is, gets) in
       stays held (λ p. p) (λ f. f) (local.owes ∙ ap (λ (y : ℕ). Some (Popped y)) number) (λ b. refl)
   steps (clear {d = y} {r = x} lt) u rest local held said =
-      by_register inv c x Null lt local (idle inv c exists held (λ p. p) (λ f. f)) refl nothing (λ b. refl)
+      by_register inv c x Null (omega (arith, lt)) local (idle inv c exists held (λ p. p) (λ f. f)) refl nothing
+      (λ b. refl)
 
   -- No Free is answered Double.
   pub single : {s : Point} {o : Op} {r : Reply} {next : Point} → Asks s o r next → (u : Option Done)

@@ -26,7 +26,7 @@ done_without (Push n) = Full
 done_without Pop = Empty
 
 -- Register 0 has the top, 1 the node that is pushed, 2 the uppermost node, and 3 the one below it. When a job has
--- ended, its caller may set registers to null.
+-- ended, its caller may set these to null; the other registers are never touched.
 -- At a point the operation is asked, is replied so, and leads to the next point.
 pub data Asks : Point → Op → Reply → Point → Type 0 where
   found : Asks Founding (op.New 0 1 false) reply.Done Placing
@@ -52,7 +52,7 @@ pub data Asks : Point → Op → Reply → Point → Type 0 where
   free : Asks Freeing (op.Free 2) reply.Done Reading
   free_again : Asks Freeing (op.Free 2) reply.Double Reading
   read : {n : ℕ} → Asks Reading (op.GetNum 2 0) (reply.Num n) (Ended (Popped n))
-  clear : {d : Done} {r : ℕ} → r < 8 → Asks (Ended d) (op.Clear r) reply.Done (Ended d)
+  clear : {d : Done} {r : ℕ} → r < 4 → Asks (Ended d) (op.Clear r) reply.Done (Ended d)
 
 -- an operation, and what it was replied
 pub record Replied : Type 0 where

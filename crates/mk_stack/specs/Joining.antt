@@ -1,11 +1,12 @@
 -- Callers on threads of their own: what each hands back, and the host that has joined some of them.
 -- Private functions alone cite these words.
-use Rattle.std.specs.Prelude.{◌≡◌, ℕ, ◌+◌, ◌<◌, ◌≤◌, false, List, [], ◌∷◌, ◌++◌, length, IfOk}
+use Rattle.std.specs.Prelude.{◌≡◌, ℕ, ◌+◌, ◌<◌, ◌≤◌, true, false, List, [], ◌∷◌, ◌++◌, length, IfOk}
 use Rattle.mk_core.specs.{declared.config.Config.Config, declared.events.Seat.TheVariants.{Caller, Marker, Host}}
-use Rattle.mk_core.specs.Growing.{Grows}
+use Rattle.mk_core.specs.Growing.{AreOfOthers, Grows}
 use Rattle.mk_words.specs.{Seats.{Has, has_over, without_seat}, States.{WordsState, PassState}}
 use Rattle.mk_caller.specs.States.{IsIdleCaller}
 use Rattle.mk_heap.specs.Hosts.{HostState, with_caller_out, with_joined}
+use Rattle.mk_run.specs.HostTurns.{HostComesLast}
 use Rattle.mk_stack.specs.{declared.job_lists.Jobs.Jobs, declared.jobs.Job.Job, declared.joining.Callers.Callers}
 use Rattle.mk_stack.specs.{declared.joining.Worked.Worked, declared.joining.Joined.Joined}
 use Rattle.mk_stack.specs.{declared.points.Point.TheVariants.{Founding, Founded}, declared.working.Ended.Ended}
@@ -48,6 +49,7 @@ pub record HaveWorked (w : WordsState) (markers : ℕ) (first : List Replied) (k
   pub own : Has joined.host.pass.seats Host
   pub count : joined.host.callers ≡ k + length lists
   pub seats : (j : ℕ) → k ≤ j → j < k + length lists → Has joined.host.pass.seats (Caller j)
+  pub without_host : AreOfOthers (Host ∷ []) joined.host.pass.seen
   pub before_over : has_over joined.host.pass.seen ≡ false
   pub same_markers : joined.host.markers ≡ markers
   pub done : IfOk joined.dones (λ all. HaveDone w.config joined.host.pass.seen first k lists all.items)
@@ -78,6 +80,8 @@ pub record IsReader (h : HostState) (g : HostState) : Type 0 where
 pub record HaveEnded (w : WordsState) (j : ℕ) (lists : List Jobs) (ended : Ended) : Type 0 where
   pub table : ended.host.pass.table ≡ w
   pub own : Has ended.host.pass.seats Host
+  pub over : has_over ended.host.pass.seen ≡ true
+  pub last : HostComesLast w.config.callers false ended.host.pass.seen
   pub count : ended.host.callers ≡ length lists
   pub callers : (k : ℕ) → k < length lists → Has ended.host.pass.seats (Caller k)
   pub markers : (i : ℕ) → j ≤ i → i < ended.host.markers → Has ended.host.pass.seats (Marker i)

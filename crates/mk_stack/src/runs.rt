@@ -1,7 +1,9 @@
 //! A stack from first to last: callers do their jobs on it, each on a thread of its own.
-ghost use Rattle.std.specs.Prelude.{◌≡◌, ◌≤◌, length, IfOk};
+ghost use Rattle.std.specs.Prelude.{◌≡◌, ◌≤◌, length, true, false, IfOk};
 ghost use Rattle.mk_core.specs.Config.{IsBetween};
+ghost use Rattle.mk_words.specs.Seats.{has_over};
 ghost use Rattle.mk_heap.specs.Reports.{config_of, history_of, HasCounts, IsWhole};
+ghost use Rattle.mk_run.specs.HostTurns.{HostComesLast};
 ghost use Rattle.mk_stack.specs.StackRuns.{IsStackRun, stack_config};
 
 use crate::engines::Engines;
@@ -79,6 +81,8 @@ pub fn run_stack<E: Engine + Send, P: Pace + Sync, R: Threads + Wait + Sync>(
         config_of outcome.report ≡ stack_config pages resident (length lists.now) markers) }
     ensures whole { IfOk result (λ outcome.
         IsWhole (stack_config pages resident (length lists.now) markers) (history_of outcome.report)) }
+    ensures host { IfOk result (λ outcome. HostComesLast (length lists.now) false (history_of outcome.report)) }
+    ensures over { IfOk result (λ outcome. has_over (history_of outcome.report) ≡ true) }
     ensures counts { IfOk result (λ outcome.
         HasCounts (config_of outcome.report) (history_of outcome.report) outcome.report) }
     ensures runs { IfOk result (λ outcome.

@@ -61,7 +61,7 @@ pub fn found_stack<E: Engine, R: Threads + Wait + Sync>(rt: &R, caller: &mut Cal
 /// node, and all that it is linked to.
 fn forget<R: Wait>(rt: &R, caller: &mut Caller, register: u8)
     requires ready { IsReady caller.old }
-    requires register { register < 8 }
+    requires register { register < 4 }
     ensures ready { IsReady caller.new }
     ensures pass { caller.new.pass ≡ record caller.old.pass { seen = caller.new.pass.seen } }
     ensures ended { StaysEnded caller.old.pass caller.new.pass }
@@ -79,7 +79,7 @@ fn forget<R: Wait>(rt: &R, caller: &mut Caller, register: u8)
 
 /// The register that has a job's other node: of a push the new one, and of a pop the one below.
 fn other_node(job: Job) -> u8
-    ensures register { result < 8 }
+    ensures register { result < 4 }
     ensures node { result ≡ other_node job }
 {
     match job {

@@ -6,3 +6,4 @@ pub returns : goal.returns
 returns c = λ j lists all marker ended. marker_joined j c.args.pass
     (record { host = c.join_marker.new.self; dones = c.args.ended.dones; left = c.args.ended.left }) all marker.alone
     ended c.join_marker.ensures.host c.join_marker.ensures.own c.join_marker.ensures.history refl refl
+    c.join_marker.ensures.overs
