@@ -52,6 +52,7 @@ mod tests {
     use super::{Made, hold_first};
     use crate::beginnings::split_callers;
     use crate::configs::one_page;
+    use mk_caller::Refusal;
     use mk_never::Kind;
     use std::test::Fail;
 
@@ -66,5 +67,12 @@ mod tests {
         let split = split_callers(rt.alloc(), &config).expect(&rt, "memory");
         assert_eq!(rt; hold_first(split), Some(expected));
         Ok(())
+    }
+
+    #[test]
+    fn refusals_have_numbers(rt: HostRuntime) {
+        assert_eq!(rt; Refusal::Fault as u8, 1);
+        assert_eq!(rt; Refusal::Null as u8, 2);
+        assert_eq!(rt; Refusal::Held as u8, 4);
     }
 }

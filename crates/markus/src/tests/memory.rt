@@ -28,6 +28,12 @@ fn never_reuses_in_memory(rt: HostRuntime) -> Result<(), Fail> {
     Ok(())
 }
 
+#[test]
+fn refusals_of_a_reader_have_numbers(rt: HostRuntime) {
+    assert_eq!(rt; ReadStop::ReadFault as u8, 1);
+    assert_eq!(rt; ReadStop::TooLong as u8, 2);
+}
+
 /// A reader that gives a byte at a time, as many as `left`, and then an error.
 #[derive(Drop)]
 struct BrokenReader {

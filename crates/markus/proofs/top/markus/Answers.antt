@@ -1,7 +1,7 @@
 use Rattle.std.proofs.Common.{List, None, Option, Some, ℕ, inl, ◌≡◌}
 use Rattle.mk_commands.specs.declared.commands.Command.{Command}
-use Rattle.mk_outputs.specs.{Outputs.IsStatusOn, declared.statuses.Status.Status}
-use Rattle.mk_outputs.specs.declared.statuses.Status.TheVariants.{NoMemory}
+use Rattle.mk_outputs.specs.Outputs.{IsStatusOn}
+use Rattle.mk_outputs.specs.{declared.statuses.Status.Status, declared.statuses.Status.TheVariants.NoMemory}
 use Rattle.markus.proofs.top.markus.Goals as goal
 
 no_memory_may_come : (command : Option Command) (left : Option (List ℕ)) (status : Status) → status ≡ NoMemory
