@@ -1,5 +1,5 @@
-//! Two stacks of numbers in plain Rust, which do the jobs of `ours.rattle`: a vector under a lock, and Treiber's stack with
-//! counted pointers, whose nodes are used again but never freed.
+//! Two stacks of numbers in plain Rust, which do the jobs of `ours.rattle`: a vector under a lock, and Treiber's stack
+//! with counted pointers, whose nodes are used again but never freed.
 //!
 //! usage: plain lock|counted CALLERS DEPTH PAIRS
 //! Each caller pushes DEPTH numbers first, and then PAIRS times a number that it pops again.
