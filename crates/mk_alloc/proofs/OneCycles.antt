@@ -2,10 +2,10 @@
 use Rattle.mk_alloc.proofs.Vocabulary.{At, BeginsCycle, BeginsNone, Does, Event, FinishesCycle, IsHistory, IsPlaced}
 use Rattle.mk_alloc.proofs.Vocabulary.{IsTurn, List, PassState, RunsOne, RunsOneCycle, ap, append_assoc, arith, false}
 use Rattle.mk_alloc.proofs.Vocabulary.{has_step, is_begin, is_end, is_look, subst, sym, ⊎_elim, ◌++◌, ◌∙◌, ◌∷◌, ◌≡◌}
-use Rattle.mk_alloc.proofs.{CycleParts.{begin_in, begins_held, finish_in}, DueParts.{at_behind, end_at}}
-use Rattle.mk_alloc.proofs.ListParts.{InFirst, InSecond, Lacks, lacks_append, lacks_at, none_at, only_at, stands}
-use Rattle.mk_alloc.proofs.{Parts.{AreApart, Part, part_lacks, seen_by, seen_then}, Going.look_part}
-use Rattle.mk_alloc.proofs.{GrantParts.first_behind, PlacedTurns.place_part, Stretches.SomeKinds}
+use Rattle.mk_alloc.proofs.{CycleParts.{begin_in, begins_held, finish_in}, ListParts.{InFirst, InSecond, Lacks}}
+use Rattle.mk_alloc.proofs.{ListParts.{lacks_append, lacks_at, none_at, only_at, stands}, Parts.{AreApart, Part}}
+use Rattle.mk_alloc.proofs.{Parts.{part_lacks, seen_by, seen_then}, DueParts.{at_behind, end_at}, Going.look_part}
+use Rattle.mk_alloc.proofs.{GrantParts.first_behind, PlacedTurns.{place_part, served_by}, Stretches.SomeKinds}
 use Rattle.mk_laws.proofs.Longer.{longer_at}
 use Rattle.mk_alloc.specs.Rooms.{EndsOnly}
 
@@ -53,7 +53,7 @@ begins_none_by {kinds} {p} {q} x apart = record {
 }
 
 pub placed_begins_none : {p q : PassState} → IsTurn p → IsPlaced p q → IsHistory q.table.config q.seen → BeginsNone p q
-placed_begins_none t placed history = begins_none_by (place_part t placed.granted.does history) (λ x h. grind arith)
+placed_begins_none t placed history = begins_none_by (place_part t (served_by placed) history) (λ x h. grind arith)
 
 pub looks_begins_none : {p q : PassState} → IsTurn p → Does is_look p q → IsHistory q.table.config q.seen
     → BeginsNone p q

@@ -65,6 +65,10 @@ leaves_beside {p} {es} {more} own s =
       freed = cc (h.behind, (l.own.holding h.holds).1);
     })) es more s (record { gates = λ j. refl; counts = record { ends = refl; fulls = refl }; freed = refl })
 
+-- the kinds of step that granted an object
+pub served_by : {p q : PassState} → IsPlaced p q → Does is_placing p q
+served_by placed = widened (λ x h. grind arith) placed.granted.does
+
 pub place_part : {p q : PassState} → IsTurn p → Does is_placing p q → IsHistory q.table.config q.seen
     → Part is_placing p q
 place_part t d history = record { turn = t; stays = λ x h. grind arith; does = d; history = history }
@@ -155,7 +159,7 @@ module _ {p q : PassState} (t : IsTurn p) (u : IsUnplaced p) (quiet : IsQuiet p)
   releases_same = grind (arith, allocations, granted, sum_by_push)
 
   counts : CountsAreLeft p.table.config p.seen q.seen
-  counts = counts_beside t placed.granted.does history
+  counts = counts_beside t (served_by placed) history
 
   decided : (call_of q).stage ≡ Stage.Give
   decided = grind arith
@@ -167,10 +171,10 @@ module _ {p q : PassState} (t : IsTurn p) (u : IsUnplaced p) (quiet : IsQuiet p)
       unplaced =
           ap (λ (w : World). has_place w.now.seats.holding.placing) there
           ∙ ap (λ (x : Placing). has_place x) placed.granted.world.placing;
-      gone = gone_beside t placed.granted.does history (none_freed_yet t u.new);
+      gone = gone_beside t (served_by placed) history (none_freed_yet t u.new);
     };
     phase = same_phase p q (ap (λ (s : Steady). s.phase) steady) quiet.phase;
-    gates = none_held_kept p q placed.granted.same (gates_beside t placed.granted.does history) quiet.gates;
+    gates = none_held_kept p q placed.granted.same (gates_beside t (served_by placed) history) quiet.gates;
     exact = record {
       held = placed.held;
       fresh = ap (λ (s : Steady). s.fresh) steady ∙ quiet.exact.fresh ∙ ap in_a_word (sym fresh_same);

@@ -7,12 +7,12 @@ use Rattle.mk_alloc.proofs.Vocabulary.{Option, PassState, PlacedAllocation, Seek
 use Rattle.mk_alloc.proofs.Vocabulary.{acting_caller, ap, arith, call_of, false, is_look, looks_left, new_is_acting}
 use Rattle.mk_alloc.proofs.Vocabulary.{now_of, object_for, object_made, only_seen, own_seat, phase_of, place_after}
 use Rattle.mk_alloc.proofs.Vocabulary.{place_now_for, refl, subst, world_of, ◌==◌, ◌∙◌, ◌≡◌}
+use Rattle.mk_alloc.proofs.{CalmStretches.{cycles_in_turn, is_of_cycles}, CycleParts.{begin_done, finish_done}}
 use Rattle.mk_alloc.proofs.Going.{IsCallers, begun_on, finished_on, look_part, looked_on, on_then, same_phase}
 use Rattle.mk_alloc.proofs.GrantParts.{calm_last, finish_room, grants_none, last_behind, no_place, none_behind}
 use Rattle.mk_alloc.proofs.GrantParts.{none_last, none_then, nowhere_then, part_begun, room_kept, room_lacks, room_then}
-use Rattle.mk_alloc.proofs.{CalmStretches.{cycles_in_turn, is_of_cycles}, CycleParts.{begin_done, finish_done}}
-use Rattle.mk_alloc.proofs.{FullLeaves.{cycles_leave, leaves_then}, Parts.Part, PlacedTurns.{looked_beside, place_part}}
-use Rattle.mk_alloc.proofs.{PlacedTurns.placed_on, Stretches.widened}
+use Rattle.mk_alloc.proofs.PlacedTurns.{looked_beside, place_part, placed_on, served_by}
+use Rattle.mk_alloc.proofs.{FullLeaves.{cycles_leave, leaves_then}, Parts.Part, Stretches.widened}
 use Rattle.mk_core.specs.Allocations.{place_among_allocations}
 use Rattle.mk_alloc.specs.Rooms.{IsPlacedOr, MisfitsIdly, NeedsRoom, SeeksRoom}
 use Rattle.mk_objects.{proofs.JoinedLooks.{looks_object, looks_unplaced}, specs.declared.objects.Request.{Request}}
@@ -70,7 +70,7 @@ unplaced_kept u call placing phase = grind (arith, same_phase)
 pub seeks_placed : {p q : PassState} → IsTurn p → IsUnplaced p → IsQuiet p → IsPlaced p q
     → IsHistory q.table.config q.seen → Seeks (Some Answer.Done) p q
 seeks_placed {p} t u quiet placed history =
-    let x = place_part t placed.granted.does history in
+    let x = place_part t (served_by placed) history in
     record {
       on = placed_on t u quiet placed history;
       room = room_lacks (object_for p) x (λ x h. grind arith);

@@ -1,14 +1,14 @@
 -- A part of a turn after another, and after looks.
-use Rattle.mk_laws.proofs.Vocabulary.{Answer, Bool, Config, Decided, Flight, Holding, List, Op, Place, Seat, Some}
-use Rattle.mk_laws.proofs.Vocabulary.{Steady, Step, World, and_from, and_parts, ap, append-nil, append_assoc, arith}
-use Rattle.mk_laws.proofs.Vocabulary.{caller_number, entry_of, flight_of, is_undecided_new, left, phase_of}
+use Rattle.mk_laws.proofs.Vocabulary.{Answer, Bool, Config, Decided, Flight, Holding, List, Object, Op, Place, Seat}
+use Rattle.mk_laws.proofs.Vocabulary.{Some, Steady, Step, World, and_from, and_parts, ap, append-nil, append_assoc}
+use Rattle.mk_laws.proofs.Vocabulary.{arith, caller_number, entry_of, flight_of, is_undecided_new, left, phase_of}
 use Rattle.mk_laws.proofs.Vocabulary.{place_on_pages, refl, subst, sym, true, [], ◌++◌, ◌∙◌, ◌∷◌, ◌≡◌}
 use Rattle.mk_objects.proofs.Vocabulary.{ComesTo, Does, GoesTo, IsAsLeft, IsGrantedAt, IsOutOfStop, IsUnplaced}
 use Rattle.mk_objects.proofs.Vocabulary.{OnlyLooks, PassState, call_of, does_then, entry_for, is_look, now_of}
 use Rattle.mk_objects.proofs.{Vocabulary.{object_for, own_calls, world_of}, Reaching.{counts_then, reaches_nothing}}
 use Rattle.mk_objects.proofs.{Reaching.seeing, Unchanged.{left_joined, left_same}}
 use Rattle.mk_core.specs.Growing.{Finding}
-use Rattle.mk_objects.specs.Placing.{HeldIsExact, IsGranted}
+use Rattle.mk_objects.specs.Placing.{HeldIsExact, IsGranted, serves_at}
 use Rattle.mk_turns.specs.Doing.{are_of}
 
 are_wider : (narrow wide : Step → Bool) → ((s : Step) → narrow s ≡ true → wide s ≡ true) → (xs : List Finding)
@@ -112,6 +112,10 @@ pub looks_joined : {p q r : PassState} → OnlyLooks p q → OnlyLooks q r → O
 looks_joined a b =
     reaches_after (λ x h. h) (λ x h. h) (λ x. IsAsLeft x.seat (world_of x)) a b (λ v a b. left_joined a b)
 
+-- The object that a New creates is the same after looks.
+same_object : {p q : PassState} → OnlyLooks p q → object_for q ≡ object_for p
+same_object {p} {q} a = cc (looks_table a, looks_call a)
+
 -- What is granted after looks is granted.
 granted_over : {c : Config} {s : Seat} {place : Place} {w u v : World} → IsAsLeft s w u → IsGrantedAt c s place u v
     → IsGrantedAt c s place w v
@@ -120,7 +124,8 @@ granted_over a b = grind arith
 pub granted_behind_looks : {p q r : PassState} {place : Place} → OnlyLooks p q → IsGranted q place r
     → IsGranted p place r
 granted_behind_looks {p} {place = place} a b =
-    reaches_answered (λ x h. grind arith) (λ x h. h) (λ x. IsGrantedAt x.table.config x.seat place (world_of x))
+    reaches_answered (λ x h. grind arith) (λ x h. subst (λ (o : Object). serves_at o place x ≡ true) (same_object a) h)
+    (λ x. IsGrantedAt x.table.config x.seat place (world_of x))
     Answer.Done a (ap (λ (f : Flight). f.op) a.world.call) b (λ v a b. granted_over a b)
 
 -- Looks leave a New unplaced, and the tally as it is.

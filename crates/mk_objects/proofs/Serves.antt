@@ -1,22 +1,22 @@
 -- The turn's holder serves its New, step by step.
 use Rattle.mk_laws.proofs.Vocabulary.{Config, Flight, IsHistory, IsSized, List, Moment, Object, Page, Place, Seat, Some}
-use Rattle.mk_laws.proofs.Vocabulary.{Steady, Step, Unplaced, World, ℕ, ap, arith, eqb-false, eqb-true, false}
-use Rattle.mk_laws.proofs.Vocabulary.{flight_of, ground_of, has_bit, header_at, header_made, histories_keep_lengths}
-use Rattle.mk_laws.proofs.Vocabulary.{inl, inr, is_phase, is_undecided_new, is_used_once, layout_scene_of, left, length}
-use Rattle.mk_laws.proofs.Vocabulary.{made_is_mapped, made_shows, no_bit, object_made, object_now, pages_made}
-use Rattle.mk_laws.proofs.Vocabulary.{pages_some, part_not_free, phase_of, place_now, place_on_pages, refl, small_pages}
-use Rattle.mk_laws.proofs.Vocabulary.{subst, sym, true, used_at, ◌+◌, ◌<◌, ◌==◌, ◌∙◌, ◌≡◌, ◌≢◌, ◌⊎◌}
-use Rattle.mk_laws.proofs.{Fits.{FitsInBlock, FitsOnFreePages, fits}, LayoutHolders.made_sized}
-use Rattle.mk_laws.proofs.LayoutReadings.{free_unused}
+use Rattle.mk_laws.proofs.Vocabulary.{Steady, Step, Unplaced, World, ℕ, and_from, ap, arith, eq-eqb, eqb-false}
+use Rattle.mk_laws.proofs.Vocabulary.{eqb-true, false, flight_of, ground_of, has_bit, header_at, header_made}
+use Rattle.mk_laws.proofs.Vocabulary.{histories_keep_lengths, inl, inr, is_phase, is_undecided_new, is_used_once}
+use Rattle.mk_laws.proofs.Vocabulary.{layout_scene_of, left, length, made_is_mapped, made_shows, no_bit, object_made}
+use Rattle.mk_laws.proofs.Vocabulary.{object_now, pages_made, pages_some, part_not_free, phase_of, place_now}
+use Rattle.mk_laws.proofs.Vocabulary.{place_on_pages, refl, small_pages, subst, sym, true, used_at, ◌+◌, ◌<◌, ◌==◌, ◌∙◌}
+use Rattle.mk_laws.proofs.{Vocabulary.{◌≡◌, ◌≢◌, ◌⊎◌}, Fits.{FitsInBlock, FitsOnFreePages, fits}}
+use Rattle.mk_laws.proofs.{LayoutHolders.made_sized, LayoutReadings.free_unused}
 use Rattle.mk_objects.proofs.Vocabulary.{Acts, Carving, GoesTo, HasCarved, IsAsLeft, IsCellReady, IsEnabledTo}
 use Rattle.mk_objects.proofs.Vocabulary.{IsOutOfStop, IsTurn, MayTake, PassState, Serving, bits_made, call_of}
-use Rattle.mk_objects.proofs.Vocabulary.{histories_keep_the_invariant, is_placing, known_left, now_of, object_for}
-use Rattle.mk_objects.proofs.{Vocabulary.world_of, Looks.{acting_caller, acting_now, acts_there}}
-use Rattle.mk_objects.proofs.MayAct.{IsActing, may_carve, may_mark_place, new_is_acting}
-use Rattle.mk_objects.proofs.Reaching.{IsCallers, reaches_first, reaches_nothing, reaches_still}
-use Rattle.mk_objects.proofs.Serving.{carving_carves, carving_left, carving_marked, carving_more, carving_unmarked}
-use Rattle.mk_objects.proofs.{Serving.{ready_carved, serving_left, serving_marks}, FoundPlaces.found_clear}
-use Rattle.mk_objects.proofs.{JoinedLooks.reaches_so, Unchanged.acting_has_call}
+use Rattle.mk_objects.proofs.Vocabulary.{histories_keep_the_invariant, known_left, now_of, object_for, world_of}
+use Rattle.mk_objects.proofs.{Looks.{acting_caller, acting_now, acts_there}, MayAct.{IsActing, may_carve}}
+use Rattle.mk_objects.proofs.{MayAct.{may_mark_place, new_is_acting}, Reaching.{IsCallers, reaches_first}}
+use Rattle.mk_objects.proofs.{Reaching.{reaches_nothing, reaches_still}, Serving.{carving_carves, carving_left}}
+use Rattle.mk_objects.proofs.Serving.{carving_marked, carving_more, carving_unmarked, ready_carved, serving_left}
+use Rattle.mk_objects.proofs.{Serving.serving_marks, FoundPlaces.found_clear, JoinedLooks.reaches_so}
+use Rattle.mk_objects.{proofs.Unchanged.{acting_has_call}, specs.Placing.{serves_at}}
 
 -- What is known of the place before the first step that serves.
 pub record KnowsPlace (p : PassState) (place : Place) : Type 0 where
@@ -126,10 +126,13 @@ module _ {p : PassState} {place : Place} (k : KnowsPlace p place) (free : header
           subst (λ n. IsEnabledTo p (Step.Mark place.page n)) (sym are) (may_mark_place k.acting place.page
           (bits_made (object_for p)) k.within one (serving_marks k.serving one free))
 
+      own_cells : serves_at (object_for p) place (Step.Mark place.page (bits_made (object_for p))) ≡ true
+      own_cells = and_from _ _ (eq-eqb place.page _ refl) (eq-eqb (bits_made (object_for p)) _ refl)
+
       pub marks_first : {q : PassState} → Acts p (Step.Mark place.page bits) q → HasCarved p place 0 q
       marks_first {q} a =
           reaches_first (λ w. Carving p.table.config p.seat (object_for p) place (world_of p) w 0)
-          (subst (λ n. Acts p (Step.Mark place.page n) q) are a) refl refl k.caller refl (λ v kept known pages.
+          (subst (λ n. Acts p (Step.Mark place.page n) q) are a) own_cells refl k.caller refl (λ v kept known pages.
           let serving = serving_left k.serving kept in
           let call = acting_has_call known.orderly.flights (served_acting k serving) in
           let some = pages_some (object_for p) k.sized in
@@ -138,7 +141,8 @@ module _ {p : PassState} {place : Place} (k : KnowsPlace p place) (free : header
 
     pub marks_none : (phase_of (now_of p).words == 1) ≡ false → HasCarved p place 0 p
     marks_none other =
-        reaches_nothing is_placing p (λ w. Carving p.table.config p.seat (object_for p) place (world_of p) w 0)
+        reaches_nothing (serves_at (object_for p) place) p
+        (λ w. Carving p.table.config p.seat (object_for p) place (world_of p) w 0)
         (carving_unmarked k.serving (none k.goes.unplaced.phase) (λ d lt. frees.free d lt))
       where
         none : IsOutOfStop (now_of p) → phase_of (now_of p).words ≡ 0
@@ -179,7 +183,8 @@ module _ {p : PassState} {place : Place} (k : KnowsPlace p place) (free : header
 pub block_ready : {p : PassState} {place : Place} → KnowsPlace p place → header_at (now_of p).words place.page ≢ 0
     → MayTake p place p
 block_ready {p} {place} k some =
-    reaches_nothing is_placing p (IsCellReady p.table.config p.seat (object_for p) place (world_of p)) (record {
+    reaches_nothing (serves_at (object_for p) place) p
+    (IsCellReady p.table.config p.seat (object_for p) place (world_of p)) (record {
       serving = k.serving;
       stand = λ d lt.
           let block = block_of k some in

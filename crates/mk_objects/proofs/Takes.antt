@@ -9,13 +9,13 @@ use Rattle.mk_laws.proofs.Vocabulary.{storage_words, sym, true, used_at, words_m
 use Rattle.mk_laws.proofs.{Vocabulary.{◌≡◌, ◌≤◌}, Tracked.unplaced_settles}
 use Rattle.mk_objects.proofs.Vocabulary.{Acts, ComesTo, IsCellReady, IsEnabledTo, IsGrantedAt, IsOutOfStop, IsUnplaced}
 use Rattle.mk_objects.proofs.Vocabulary.{Known, MayTake, PassState, call_of, entry_for, held_by_allocations, is_acting}
-use Rattle.mk_objects.proofs.Vocabulary.{is_placing, known_left, now_of, object_at_place, object_for, world_of}
+use Rattle.mk_objects.proofs.Vocabulary.{known_left, now_of, object_at_place, object_for, world_of}
 use Rattle.mk_objects.proofs.{FoundPlaces.{held_is_little, held_one_more}, MayAct.{IsActing, grant_admitted, may_grant}}
 use Rattle.mk_objects.proofs.{MayAct.{may_take, may_tally, off_four, register_small}, Reaching.{IsCallers, reaches_on}}
 use Rattle.mk_objects.proofs.{Reaching.reaches_still, Serves.{KnowsPlace, block_of, free_pages_of, out_of_stop}}
 use Rattle.mk_objects.proofs.{Serves.{place_unused, served_acting}, Serving.{IsTakenAt, granted_behind, granted_left}}
 use Rattle.mk_objects.proofs.Serving.{ready_left, ready_takes, taken_behind, taken_left, tallied_behind}
-use Rattle.mk_objects.{proofs.{Looks.acts_there, Unchanged.acting_has_call}, specs.Placing.{HeldIsExact}}
+use Rattle.mk_objects.{proofs.{Looks.acts_there, Unchanged.acting_has_call}, specs.Placing.{HeldIsExact, serves_at}}
 use Rattle.mk_core.{proofs.WordBits.{bit_for_small, bit_is_none, bit_of_power, zero_from_bits}, specs.Bits.{bit_for}}
 use Rattle.mk_words.specs.{Steps.IsAdmittedTo, TurnSteps.granted_address}
 
@@ -50,7 +50,8 @@ module _ {p : PassState} {place : Place} (k : KnowsPlace p place) where
 
   -- `used`
   abbrev pub HasTaken : PassState → Type 0
-  HasTaken q = ComesTo is_placing p (IsTakenAt p.table.config p.seat (object_for p) place (world_of p)) [] q
+  HasTaken q = ComesTo (serves_at (object_for p) place) p
+      (IsTakenAt p.table.config p.seat (object_for p) place (world_of p)) [] q
 
   pub used_may : {q : PassState} {used : ℕ} → MayTake p place q → used_at (now_of p).words place.page ≡ used
       → IsEnabledTo q (Step.Used place.page (used + 2 ^ place.index))
@@ -95,7 +96,8 @@ module _ {p : PassState} {place : Place} (k : KnowsPlace p place) where
   grant_admits reached history = grind (arith, taken_new, operands, grant_admitted, ltb-true)
 
   abbrev pub HasGranted : PassState → Type 0
-  HasGranted q = ComesTo is_placing p (IsGrantedAt p.table.config p.seat place (world_of p)) (entry_for p Answer.Done) q
+  HasGranted q = ComesTo (serves_at (object_for p) place) p (IsGrantedAt p.table.config p.seat place (world_of p))
+      (entry_for p Answer.Done) q
 
   pub grant_on : {q r : PassState} → HasTaken q → Acts q Step.Grant r → HasGranted r
   grant_on reached a =
@@ -123,7 +125,8 @@ module _ {p : PassState} {place : Place} (k : KnowsPlace p place) where
   tally_may n reached = grind (arith, may_tally, granted_acting)
 
   abbrev pub HasCounted : ℕ → PassState → Type 0
-  HasCounted n q = ComesTo is_placing p (λ w. IsGrantedAt p.table.config p.seat place (world_of p) w ×
+  HasCounted n q =
+      ComesTo (serves_at (object_for p) place) p (λ w. IsGrantedAt p.table.config p.seat place (world_of p) w ×
       (w.now.words.held ≡ n)) (entry_for p Answer.Done) q
 
   pub tally_on : {q r : PassState} {n : ℕ} → HasGranted q → Acts q (Step.Tally Tally.Held n) r → HasCounted n r

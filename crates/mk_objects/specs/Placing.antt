@@ -1,5 +1,6 @@
 -- Placing the object of a New: what is asked, and what comes of it.
-use Rattle.std.specs.Prelude.{◌≡◌, ℕ, ◌%◌, ◌^◌, ◌⊎◌, Bool, true, false, List, [], ◌∷◌, ◌++◌, Option, Some, None}
+use Rattle.std.specs.Prelude.{◌≡◌, ℕ, ◌%◌, ◌^◌, ◌⊎◌, ◌==◌, ◌&&◌, Bool, true, false, List, [], ◌∷◌, ◌++◌, Option, Some}
+use Rattle.std.specs.Prelude.{None}
 use Rattle.mk_geom.specs.{declared.pages.Page.Page, declared.pages.Place.Place, Addresses.address_of}
 use Rattle.mk_core.specs.{declared.config.Config.Config, declared.events.Answer.Answer, declared.events.Seat.Seat}
 use Rattle.mk_core.specs.{declared.events.Seat.TheVariants.Caller, declared.events.Step.Step}
@@ -7,7 +8,7 @@ use Rattle.mk_core.specs.{declared.seats.Flight.Flight, declared.seats.Object.Ob
 use Rattle.mk_core.specs.{declared.seats.Placing.TheVariants.{Unplaced, Granted}, Accesses.caller_number}
 use Rattle.mk_core.specs.{Allocations.{PlacedAllocation, held_by_allocations, type_made}, Calls.d_of}
 use Rattle.mk_core.specs.{Decided.{Decided, entry_of}, Frames.{CountsAreLeft, Steady, steady_of}, History.{World, left}}
-use Rattle.mk_core.specs.{Moments.{Moment, flight_of}, NewPlaces.{base_made, is_undecided_new, object_made}}
+use Rattle.mk_core.specs.{Moments.{Moment, flight_of}, NewPlaces.{base_made, bits_made, is_undecided_new, object_made}}
 use Rattle.mk_core.specs.{Placement.place_after, Words.{phase_of, register_word}, TurnConditions.place_now}
 use Rattle.mk_words.specs.States.{PassState, call_of, now_of, world_of}
 use Rattle.mk_turns.specs.{Doing.Does, Sweeping.SweepsNothing}
@@ -60,6 +61,11 @@ is_placing step.Grant = true
 is_placing (step.Tally n v) = true
 is_placing _ = false
 
+-- Those that serve an object at its place: what is marked there are the cells that its first page has then.
+abbrev pub serves_at : Object → Place → Step → Bool
+serves_at o place (step.Mark page cells) = page == place.page && cells == bits_made o
+serves_at o place s = is_placing s
+
 -- The pass's seat did only steps of these kinds, which added these entries to its calls, and came to a world of this
 -- sort. No cycle has ended, and no call was answered Full.
 pub record ComesTo (kinds : Step → Bool) (p : PassState) (sort : World
@@ -104,7 +110,7 @@ abbrev pub entry_for : PassState → Answer → List Decided
 entry_for p a = entry_of (caller_number p.seat) (call_of p).op (Some a)
 
 abbrev pub IsGranted : PassState → Place → PassState → Type 0
-IsGranted p place q = ComesTo is_placing p (IsGrantedAt p.table.config p.seat place (world_of p))
+IsGranted p place q = ComesTo (serves_at (object_for p) place) p (IsGrantedAt p.table.config p.seat place (world_of p))
     (entry_for p answer.Done) q
 
 -- The object of the New was granted at its place, and the tally of held words is that of the allocations.
@@ -133,8 +139,9 @@ pub record IsServed (p : PassState) (place : Place) (q : PassState) : Type 0 whe
 -- This many pages of the place have their headers; its cell may be taken.
 
 abbrev pub HasCarved : PassState → Place → ℕ → PassState → Type 0
-HasCarved p place n q = ComesTo is_placing p (λ w. Carving p.table.config p.seat (object_for p) place (world_of p) w n)
-    [] q
+HasCarved p place n q = ComesTo (serves_at (object_for p) place) p
+    (λ w. Carving p.table.config p.seat (object_for p) place (world_of p) w n) [] q
 
 abbrev pub MayTake : PassState → Place → PassState → Type 0
-MayTake p place q = ComesTo is_placing p (IsCellReady p.table.config p.seat (object_for p) place (world_of p)) [] q
+MayTake p place q = ComesTo (serves_at (object_for p) place) p
+    (IsCellReady p.table.config p.seat (object_for p) place (world_of p)) [] q
