@@ -31,5 +31,7 @@ pub mod TypedScripts
 pub mod AdmittedScripts
 mod DecidedStages
 pub mod GivenAnswers
+pub mod Observed
+pub mod ObservedSteps
 pub mod WrittenLines
 pub mod Vocabulary

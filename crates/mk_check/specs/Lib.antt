@@ -12,6 +12,8 @@ pub mod Rules
 pub mod AtOnce
 pub mod Spots
 pub mod NamesInScope
+pub mod Observed
+pub mod ObservedSteps
 pub mod Output
 pub mod Steps
 pub mod Trees

@@ -5,7 +5,8 @@ ghost use Rattle.mk_core.specs.declared.events.Answer.{Answer};
 ghost use Rattle.mk_script.specs.{declared.items.Item.Item, Scopes.script_names};
 ghost use Rattle.mk_check.specs.Laws.{IsChecked, IsScript, AreNotedBy, AnswersAreNoted, OthersAreIgnored};
 ghost use Rattle.mk_check.specs.{Laws.{AreAdmittedFor, NextIsAdmitted, AreOfScripts}, Output.EndedCallsAreAnswered};
-ghost use Rattle.mk_check.specs.WrittenBlocks.{ScriptsAreTheirLines};
+ghost use Rattle.mk_check.specs.ObservedSteps.{EachCallIsAskedFor};
+ghost use Rattle.mk_check.specs.{Observed.{ToldIsEnough, AnswersAreTold, ObservedRunsAreAdmitted, NoneIsLeftOver}, WrittenBlocks.{ScriptsAreTheirLines}};
 
 /// What a script asks for next is admitted: after any admitted calls, whatever their other callers did, if
 /// its own are those that it noted so far.
@@ -45,4 +46,26 @@ pub fn blocks_are_lines()
 #[tactic(auto, using(crate::proofs::GivenAnswers::ended_calls_are_answered))]
 pub fn ended_calls_are_answered()
     ensures { EndedCallsAreAnswered }
+{}
+
+/// What a script is told of answers does to it what they do.
+#[tactic(auto, using(crate::proofs::Observed::feed_told))]
+pub fn told_is_enough()
+    ensures { ToldIsEnough }
+{}
+
+/// Where the answers are the images of the replies, a script is told the same of both.
+pub fn answers_are_told()
+    ensures { AnswersAreTold }
+{}
+
+/// The calls of a run that can be observed are admitted, and no script is told more than it asked for.
+pub fn observed_runs_are_admitted()
+    ensures admitted { ObservedRunsAreAdmitted }
+    ensures none_left { NoneIsLeftOver }
+{}
+
+/// Each call of a run that can be observed is what its script asks for, told the replies before it.
+pub fn each_call_is_asked_for()
+    ensures { EachCallIsAskedFor }
 {}

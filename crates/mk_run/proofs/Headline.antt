@@ -28,7 +28,7 @@ as_many k (x ∷ xs) = more_answers k (x.caller == k) x xs (as_many k xs) refl
 exists : (c : Config) (k : ℕ) → k < c.callers → seat_exists c (Caller k) ≡ true
 exists c k less = grind (arith, nat_tests)
 
-all_given : {c : Config} {es : List Event} (k : ℕ) → IsWhole c es → k < c.callers
+pub all_given : {c : Config} {es : List Event} (k : ℕ) → IsWhole c es → k < c.callers
     → answers_given c es k ≡ answers_in c k es
 all_given {c} {es} k whole less =
     let answers = serves c es k whole.history.enabled in

@@ -8,6 +8,7 @@ mod ScriptCalls
 mod WholeRuns
 pub mod BoundedRuns
 pub mod Headline
+pub mod ObservedRuns
 pub mod LastTurns
 pub mod HostTurnParts
 pub mod LastCycles

@@ -2,6 +2,7 @@ pub mod Ready
 pub mod Joining
 pub mod Marking
 pub mod Headline
+pub mod ObservedRuns
 pub mod Running
 pub mod Scripts
 pub mod LastCycle
