@@ -12,10 +12,12 @@ use Rattle.mk_alloc.proofs.{Vocabulary.{◌<◌, ◌∙◌, ◌∷◌, ◌≡◌
 use Rattle.mk_alloc.proofs.OwnGives.{GivesNone, doing_gives, gives_append, others_give}
 use Rattle.mk_alloc.proofs.Parts.{IsHolders, in_turn_then, others_lack, seen_after, seen_by, seen_then}
 use Rattle.mk_alloc.{proofs.{Going.IsCallers, ListParts.{Lacks, SomeKind}}, specs.TurnCycles.{CallIsExact}}
-use Rattle.mk_laws.proofs.{Vocabulary.{is_under_turn, ◌≤◌}, Actors.give_phase}
+use Rattle.mk_caller.proofs.{Below.Laws.Vocabulary.{is_under_turn, ◌≤◌}, Below.Laws.Actors.give_phase}
+use Rattle.mk_caller.proofs.Below.Words.TurnSteps.takes as takes_turn
+use Rattle.mk_caller.proofs.{Below.Words.OverPhases.end_is_behind_over, Below.Words.Seats.others_own}
+use Rattle.mk_caller.proofs.Below.Words.Undecided.{decides_nothing}
+use Rattle.mk_caller.specs.{Below.Words.Seats.CallersAreBeforeOver, Below.Words.Steps.may_decide}
 use Rattle.mk_caller.specs.States.{IsHomePass, IsIdleCaller, never_of}
-use Rattle.mk_words.{proofs.OverPhases.{end_is_behind_over}, specs.{Seats.CallersAreBeforeOver, Steps.may_decide}}
-use Rattle.mk_words.proofs.{Seats.others_own, TurnSteps.takes as takes_turn, Undecided.decides_nothing}
 
 -- Waiting and taking the turn add no entry, nor does a `give`.
 

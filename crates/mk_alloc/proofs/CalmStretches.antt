@@ -1,6 +1,6 @@
 -- Stretches of a turn that isn't for an undecided Free, in which nothing is granted and no New is full: no call of the
 -- holder's is decided, and up to a `release` the unreleased storage stays as it is.
-use Rattle.mk_laws.proofs.{Vocabulary.{group_of, is_of_turn}, Protocols.protocol_of}
+use Rattle.mk_caller.proofs.{Below.Laws.Vocabulary.{group_of, is_of_turn}, Below.Laws.Protocols.protocol_of}
 use Rattle.mk_alloc.proofs.Vocabulary.{AreOfOthers, Caller, Config, Event, Flight, Has, List, Moment, PassState}
 use Rattle.mk_alloc.proofs.Vocabulary.{PlacedAllocation, Steady, Step, Storage, World, ℕ, allocations_by, ap, arith}
 use Rattle.mk_alloc.proofs.Vocabulary.{caller_of_pass, calls_by, event_of, false, flight_of, frees_none}

@@ -16,13 +16,14 @@ use Rattle.mk_alloc.proofs.{Going.tidy_kept, SeekingTurns.{new_callers, still_no
 use Rattle.mk_alloc.proofs.{Stretches.{SomeKinds, does_both, does_once, widened}, CalledTurns.step_adds_none}
 use Rattle.mk_alloc.proofs.{FreedTurns.given_is_decided, GrantParts.{calm_last, room_lacks}, OneCycles.begins_none_by}
 use Rattle.mk_alloc.proofs.{Parts.Part, PlacedTurns.none_freed_yet}
-use Rattle.mk_laws.proofs.{Vocabulary.{Tally, Word, is_new_at, ◌-◌, ◌^◌}, InvariantHistories.first_fit_finds_the_place}
-use Rattle.mk_laws.proofs.LayoutHolders.{seat_operands}
+use Rattle.mk_caller.proofs.Below.Laws.Vocabulary.{Tally, Word, is_new_at, ◌-◌, ◌^◌}
+use Rattle.mk_caller.proofs.Below.Laws.InvariantHistories.{first_fit_finds_the_place}
+use Rattle.mk_caller.proofs.{Below.Laws.LayoutHolders.seat_operands, Below.Words.Seats.others_own}
+use Rattle.mk_alloc.proofs.{Looks.acting_now, MayAct.new_step_admitted, Reaching.own_adds, Takes.unplaced_settled}
+use Rattle.mk_caller.specs.Below.Words.Steps.{Finds, IsAdmittedTo}
 use Rattle.mk_core.specs.History.{IsAdmittedBehind}
 use Rattle.mk_cycle.proofs.{Allowed.in_turn_before, BeginSteps.none_held_kept, KeptInParts.gates_then}
 use Rattle.mk_cycle.specs.TurnKeeps.{done_of}
-use Rattle.mk_objects.proofs.{Looks.acting_now, MayAct.new_step_admitted, Reaching.own_adds, Takes.unplaced_settled}
-use Rattle.mk_words.{proofs.Seats.{others_own}, specs.Steps.{Finds, IsAdmittedTo}}
 
 abbrev counts_full : SomeKinds
 counts_full (Step.Look x) = true

@@ -1,7 +1,8 @@
 -- One entry more among a caller's calls is that of one event, which decides it. What the other events decide is of
 -- other callers, and leaves the caller its registers.
-use Rattle.mk_laws.proofs.Vocabulary.{admitted_in_parts, admitted_keep, answered, answers_of, bases_of, flagged}
-use Rattle.mk_laws.proofs.{Vocabulary.{never_in_parts, replies_of}, ImagesHistories.one_event}
+use Rattle.mk_caller.proofs.Below.Laws.Vocabulary.{admitted_in_parts, admitted_keep, answered, answers_of, bases_of}
+use Rattle.mk_caller.proofs.Below.Laws.Vocabulary.{flagged, never_in_parts, replies_of}
+use Rattle.mk_caller.proofs.Below.Laws.ImagesHistories.{one_event}
 use Rattle.mk_alloc.proofs.Vocabulary.{Answer, Bool, Config, Decided, Event, IsHistory, KeepsRegisters, List, Op}
 use Rattle.mk_alloc.proofs.Vocabulary.{PassState, Some, World, ℕ, after_calls, ap, append-nil, append_assoc, arith}
 use Rattle.mk_alloc.proofs.Vocabulary.{asked, by_append, call_decided, caller_of_pass, calls, calls_by, calls_in_parts}

@@ -16,10 +16,10 @@ use Rattle.mk_alloc.proofs.ListParts.{Lacks, SomeKind, cycle_in, lacks_append, l
 use Rattle.mk_alloc.proofs.{ListParts.stands, Parts.{Part, part_lacks, seen_by, seen_then}}
 use Rattle.mk_alloc.proofs.{UnsweptTurns.{kinds_keep, kinds_then, turn_keeps}, CycleParts.{EndsIn, begins_held}}
 use Rattle.mk_alloc.{proofs.Stretches.{SomeKinds, Within}, specs.TurnCycles.{CycleIsOn}}
-use Rattle.mk_laws.proofs.Vocabulary.{register_at}
+use Rattle.mk_caller.proofs.Below.Laws.Vocabulary.{register_at}
+use Rattle.mk_alloc.specs.{Retired.{DecidesFree, FindsFreed, Retires}, Retiring.{IsUnloaded, is_freeing, is_loading}}
 use Rattle.mk_never.specs.Admitted.{IsBase}
 use Rattle.mk_core.specs.Cycles.{BeginsAndEndsIn, BeginsIn}
-use Rattle.mk_objects.specs.{Retired.{DecidesFree, FindsFreed, Retires}, Retiring.{IsUnloaded, is_freeing, is_loading}}
 use Rattle.mk_caller.specs.States as caller
 
 -- What the turn of a Free does with cycles, by the events after its `take`.

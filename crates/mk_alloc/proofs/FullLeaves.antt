@@ -1,7 +1,9 @@
 -- Each own event of a call that is answered Full leaves all but what is released.
-use Rattle.mk_laws.proofs.Vocabulary.{changed_at, get_or-set_other, holder_may, is_mapped, kinds_of, length-map}
-use Rattle.mk_laws.proofs.{Vocabulary.{no_longer_fresh, placed_at, with_released}, Basics.{WorldBehind, exists_placed}}
-use Rattle.mk_laws.proofs.{Basics.{stands_of, unmapped_is}, GrantMoves.wiped_outside, ImagesBefore.words_are}
+use Rattle.mk_caller.proofs.Below.Laws.Vocabulary.{changed_at, get_or-set_other, holder_may, is_mapped, kinds_of}
+use Rattle.mk_caller.proofs.Below.Laws.Vocabulary.{length-map, no_longer_fresh, placed_at, with_released}
+use Rattle.mk_caller.proofs.Below.Laws.Basics.{WorldBehind, exists_placed, stands_of, unmapped_is}
+use Rattle.mk_caller.proofs.{Below.Laws.GrantMoves.wiped_outside, Below.Laws.ImagesBefore.words_are}
+use Rattle.mk_caller.proofs.Below.Words.Doing.{not_own}
 use Rattle.mk_alloc.proofs.Vocabulary.{Bool, Cell, Config, Event, Flight, Has, IsHistory, List, Makes, Moment, Op}
 use Rattle.mk_alloc.proofs.Vocabulary.{Option, OwnLeaveAllButReleased, PassState, PlacedAllocation, Seat, Some, Step}
 use Rattle.mk_alloc.proofs.Vocabulary.{TakesTurn, World, ℕ, allocations_by, and_parts, ap, append_assoc, arith, call_of}
@@ -16,7 +18,6 @@ use Rattle.mk_alloc.proofs.{FreedTurns.is_quar, Going.IsCallers, Parts.{Part, se
 use Rattle.mk_core.proofs.RegisterAccesses.{tally_leaves_registers}
 use Rattle.mk_core.specs.{Growing.AreOfOthers, History.left_from, TurnConditions.may_wipe}
 use Rattle.mk_alloc.specs.Leaving.{KeepsItsWords, LeavesAllButReleased, OwnLeaveFrom, StaysOrIsReleased}
-use Rattle.mk_turns.proofs.Doing.{not_own}
 
 -- the kinds of the call's own steps
 

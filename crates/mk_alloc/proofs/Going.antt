@@ -11,11 +11,10 @@ use Rattle.mk_alloc.proofs.Vocabulary.{same_config, steady_of, subst, sym, true,
 use Rattle.mk_alloc.proofs.{Vocabulary.{◌==◌, ◌||◌, ◌∙◌, ◌≡◌, ◌⊎◌}, CalmStretches.{cycles_in_turn, goes_undecided}}
 use Rattle.mk_alloc.proofs.{CalmStretches.is_of_cycles, Stretches.{does_both, does_once, does_stretch, widened}}
 use Rattle.mk_alloc.proofs.{CycleParts.{begin_done, finish_done}, Parts.{Part, seen_behind}}
-use Rattle.mk_laws.proofs.Vocabulary.{OwnCycle, Word}
+use Rattle.mk_caller.proofs.{Below.Laws.Vocabulary.{OwnCycle, Word}, Below.Words.Tallies.settled_tallies}
 use Rattle.mk_core.specs.Counts.{TalliesAreExact}
 use Rattle.mk_cycle.proofs.{Allowed.{look_allowed, protocol}, BeginSteps.none_held_kept, MayAct.may_act}
 use Rattle.mk_cycle.specs.{EngineLaw.IsFreeForCycle, TurnKeeps.{IsGone, done_of}}
-use Rattle.mk_words.proofs.Tallies.{settled_tallies}
 
 -- What keeps a turn quiet, and that a quiet one may look at the phase and, once its call is decided, be given back.
 

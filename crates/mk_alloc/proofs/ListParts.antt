@@ -1,5 +1,5 @@
 -- Lists in parts: where an event stands, and what they have of a kind.
-use Rattle.mk_laws.proofs.Vocabulary.{Cycle}
+use Rattle.mk_caller.proofs.Below.Laws.Vocabulary.{Cycle}
 use Rattle.mk_alloc.proofs.Vocabulary.{At, Bool, Event, List, Step, ap, append-nil, append_cancel_left, false, has_step}
 use Rattle.mk_alloc.proofs.Vocabulary.{inl, inr, is_begin, is_close, is_end, is_release, list_any-append, or_from}
 use Rattle.mk_alloc.proofs.Vocabulary.{or_parts, refl, sym, true, true≢false, [], ⊎_elim, ◌++◌, ◌||◌, ◌∙◌, ◌∷◌, ◌≡◌}

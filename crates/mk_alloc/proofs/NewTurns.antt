@@ -1,6 +1,7 @@
 -- What the turn of a New does with cycles, and what it is answered.
-use Rattle.mk_laws.proofs.Vocabulary.{Page, histories_keep_lengths, uses_of_pages}
-use Rattle.mk_laws.proofs.{InvariantHistories.pages_show_the_storage, PlacementTheorems.fulls_fit_nowhere}
+use Rattle.mk_caller.proofs.Below.Laws.Vocabulary.{Page, histories_keep_lengths, uses_of_pages}
+use Rattle.mk_caller.proofs.Below.Laws.InvariantHistories.{pages_show_the_storage}
+use Rattle.mk_caller.proofs.Below.Laws.PlacementTheorems.{fulls_fit_nowhere}
 use Rattle.mk_alloc.proofs.Vocabulary.{Answer, AnswersFull, At, BeginsTurn, Bool, CalledInTurn, Config, Event, Flight}
 use Rattle.mk_alloc.proofs.Vocabulary.{HasNoPlace, Holding, IsAnsweredFull, IsQuiet, IsTurn, IsUnplaced, List, Makes}
 use Rattle.mk_alloc.proofs.Vocabulary.{Misfits, Object, Op, PassState, PlacedAllocation, RunsOne, RunsOneCycle, Seeks}

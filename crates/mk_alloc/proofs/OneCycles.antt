@@ -6,7 +6,7 @@ use Rattle.mk_alloc.proofs.{CycleParts.{begin_in, begins_held, finish_in}, ListP
 use Rattle.mk_alloc.proofs.{ListParts.{lacks_append, lacks_at, none_at, only_at, stands}, Parts.{AreApart, Part}}
 use Rattle.mk_alloc.proofs.{Parts.{part_lacks, seen_by, seen_then}, DueParts.{at_behind, end_at}, Going.look_part}
 use Rattle.mk_alloc.proofs.{GrantParts.first_behind, PlacedTurns.{place_part, served_by}, Stretches.SomeKinds}
-use Rattle.mk_laws.proofs.Longer.{longer_at}
+use Rattle.mk_caller.proofs.Below.Laws.Longer.{longer_at}
 use Rattle.mk_alloc.specs.Rooms.{EndsOnly}
 
 -- lists

@@ -3,7 +3,7 @@ use Rattle.mk_alloc.proofs.Vocabulary.{Does, Event, Has, IsHistory, IsTurn, List
 use Rattle.mk_alloc.proofs.Vocabulary.{actor_of, ap, append_assoc, cases_Bool, does_nothing, does_step}
 use Rattle.mk_alloc.proofs.Vocabulary.{earlier_part_is_history, event_of, false, has_step, inl, inr, left, or_from}
 use Rattle.mk_alloc.proofs.Vocabulary.{refl, subst, sym, true, turn_stays, [], ⊎_elim, ◌++◌, ◌∙◌, ◌∷◌, ◌≡◌, ◌≢◌}
-use Rattle.mk_laws.proofs.{Basics.is_holders, FramesHolders.acts_as_holder}
+use Rattle.mk_caller.proofs.{Below.Laws.Basics.is_holders, Below.Laws.FramesHolders.acts_as_holder}
 use Rattle.mk_alloc.proofs.Stretches.{AreOfTurn, IsOwn, SomeKinds, Stretch, does_once, does_stretch, first_of}
 use Rattle.mk_alloc.proofs.Stretches.{holds_behind, holds_none, no_kinds, others_stretch}
 use Rattle.mk_alloc.proofs.ListParts.{Lacks, SomeKind, lacks_append}

@@ -1,5 +1,8 @@
 -- A New seeks room: the parts of its turn one after the other.
-use Rattle.mk_laws.proofs.Vocabulary.{eqb-false, inr, is_undecided_new}
+use Rattle.mk_caller.proofs.Below.Laws.Vocabulary.{eqb-false, inr, is_undecided_new}
+use Rattle.mk_alloc.proofs.JoinedLooks.{looks_object, looks_unplaced}
+use Rattle.mk_alloc.specs.declared.objects.Request.{Request}
+use Rattle.mk_caller.specs.Below.Words.States.{WordsState}
 use Rattle.mk_alloc.proofs.Vocabulary.{Answer, AsksRoom, BeginsCycle, Bool, Config, Does, Done, FinishesCycle}
 use Rattle.mk_alloc.proofs.Vocabulary.{FitsNowhere, Flight, HasNoPlace, IsAtPhase, IsHistory, IsOutOfStop, IsPlaced}
 use Rattle.mk_alloc.proofs.Vocabulary.{IsQuiet, IsTurn, IsUnplaced, List, Looks, Misfits, None, Object, OnlyLooks}
@@ -15,8 +18,6 @@ use Rattle.mk_alloc.proofs.PlacedTurns.{looked_beside, place_part, placed_on, se
 use Rattle.mk_alloc.proofs.{FullLeaves.{cycles_leave, leaves_then}, Parts.Part, Stretches.widened}
 use Rattle.mk_core.specs.Allocations.{place_among_allocations}
 use Rattle.mk_alloc.specs.Rooms.{IsPlacedOr, MisfitsIdly, NeedsRoom, SeeksRoom}
-use Rattle.mk_objects.{proofs.JoinedLooks.{looks_object, looks_unplaced}, specs.declared.objects.Request.{Request}}
-use Rattle.mk_words.specs.States.{WordsState}
 
 -- An undecided New is a caller's.
 pub new_callers : {p : PassState} → IsUnplaced p → IsCallers p

@@ -7,9 +7,9 @@ use Rattle.mk_alloc.proofs.{CalledTurns.GivenBack, ListParts.none_at, OwnGives.s
 use Rattle.mk_core.specs.Cycles.{is_give}
 use Rattle.mk_alloc.specs.Laws.{CallsSweepNothing, SweepNothingWhereHeld}
 use Rattle.mk_cycle.proofs.Begun.{begun_then, does_begin_none, finish_begins_none, nothing_begun}
-use Rattle.mk_turns.proofs.Sweeping.{does_sweep, kinds_sweep, nothing_sweeps, other_step_sweeps, step_then_sweeps}
-use Rattle.mk_turns.{proofs.Sweeping.{sweeps_then}, specs.Sweeping.{HaveNoMark, SweepsNothing, is_mark}}
-use Rattle.mk_waiting.proofs.TakesAlone.{taking_does}
+use Rattle.mk_caller.proofs.Below.Words.Sweeping.{does_sweep, kinds_sweep, nothing_sweeps, other_step_sweeps}
+use Rattle.mk_caller.proofs.{Below.Words.Sweeping.{step_then_sweeps, sweeps_then}, Below.Words.TakesAlone.taking_does}
+use Rattle.mk_caller.specs.Below.Words.Sweeping.{HaveNoMark, SweepsNothing, is_mark}
 
 -- A call with `enter` and `leave` marks nothing.
 

@@ -1,6 +1,6 @@
 -- The cycle that a due Free begins.
 use Rattle.std.specs.Prelude.{◌≡◌, Bool, true, false}
-use Rattle.mk_words.specs.States.{PassState}
+use Rattle.mk_caller.specs.Below.Words.States.{PassState}
 use Rattle.mk_cycle.specs.{BeginCycle.BeginsCycle, EngineLaw.IsAtPhase, FinishCycle.FinishesCycle}
 use Rattle.mk_alloc.specs.Underway.{Looks}
 

@@ -3,9 +3,8 @@ use Rattle.std.specs.Prelude.{Bool, List}
 use Rattle.mk_never.specs.declared.operations.Op.{Op}
 use Rattle.mk_core.specs.{declared.config.Config.Config, declared.events.Answer.Answer, declared.events.Seat.Seat}
 use Rattle.mk_core.specs.{declared.events.Event.Event, Growing.Grows}
-use Rattle.mk_words.specs.{States.PassState, Seats.Has}
+use Rattle.mk_caller.specs.{Below.Words.States.PassState, Below.Words.Seats.Has, Below.Words.Sweeping.SweepsNothing}
 use Rattle.mk_caller.specs.{Called.Called, Causes.FindsGateHeld}
-use Rattle.mk_turns.specs.Sweeping.{SweepsNothing}
 use Rattle.mk_alloc.specs.{TurnCalls.CalledInTurn, TurnCycles.TurnsOfAreExact}
 
 -- the turns of the pass's seat

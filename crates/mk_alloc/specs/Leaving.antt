@@ -4,7 +4,7 @@ use Rattle.mk_never.specs.Types.{kinds_of}
 use Rattle.mk_core.specs.{declared.config.Config.Config, declared.events.Event.Event, declared.events.Seat.Seat}
 use Rattle.mk_core.specs.{Allocations.{PlacedAllocation, is_mapped, placed_at}, Growing.is_same_seat}
 use Rattle.mk_core.specs.History.{World, world_behind}
-use Rattle.mk_words.specs.States.{PassState, world_of}
+use Rattle.mk_caller.specs.Below.Words.States.{PassState, world_of}
 
 -- An allocation is as it was, but that it may be released, and no longer fresh.
 pub record StaysOrIsReleased (a b : PlacedAllocation) : Type 0 where

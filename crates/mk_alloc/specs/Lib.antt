@@ -1,3 +1,4 @@
+pub mod Below
 pub mod TurnCycles
 pub mod TurnCalls
 pub mod Laws
@@ -5,3 +6,18 @@ pub mod Underway
 pub mod DueCycles
 pub mod Rooms
 pub mod Leaving
+pub mod Unchanged
+pub mod Shapes
+pub mod Serving
+pub mod Entries
+pub mod Placing
+pub mod Looking
+pub mod Retiring
+pub mod Dues
+pub mod FreeParts
+pub mod Unmapping
+pub mod Deciding
+pub mod Retired
+pub mod Bounds
+pub mod GivenBack
+pub mod KeptAllocations

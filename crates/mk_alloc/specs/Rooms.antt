@@ -4,10 +4,9 @@ use Rattle.mk_core.specs.{declared.events.Answer.Answer, declared.events.Event.E
 use Rattle.mk_core.specs.{declared.seats.Object.Object, declared.seats.OwnCycle.TheVariants.Ended}
 use Rattle.mk_core.specs.Cycles.{At, is_begin, is_end}
 use Rattle.mk_geom.specs.{declared.pages.Census.Census, PageUses.census_among, PageWords.uses_of_pages}
-use Rattle.mk_words.specs.States.{IsTurn, PassState, WordsState, event_of, now_of, world_of}
+use Rattle.mk_caller.specs.Below.Words.States.{IsTurn, PassState, WordsState, event_of, now_of, world_of}
+use Rattle.mk_alloc.specs.{Placing.{IsUnplaced, Requests, object_for, place_now_for}, declared.objects.Request.Request}
 use Rattle.mk_cycle.specs.EngineLaw.{IsAtPhase}
-use Rattle.mk_objects.specs.Placing.{IsUnplaced, Requests, object_for, place_now_for}
-use Rattle.mk_objects.specs.declared.objects.Request.{Request}
 use Rattle.mk_alloc.specs.{Leaving.OwnLeaveAllButReleased, TurnCycles.{HasNoPlace, RunsOneCycle, has_step, is_grant}}
 use Rattle.mk_alloc.specs.{TurnCycles.{is_hold, is_want, lets_go}, Underway.{IsQuiet, TurnGoesOn}}
 use Rattle.mk_core.specs.declared.events.Answer.TheVariants as answer

@@ -4,12 +4,11 @@ use Rattle.mk_never.specs.declared.operations.Op.{Op}
 use Rattle.mk_core.specs.{declared.events.Answer.Answer, declared.events.Event.Event, Allocations.census_of_allocations}
 use Rattle.mk_core.specs.{Calls.at_rest, Decided.{entry_of, flagged}, Placement.FindsNoPlace}
 use Rattle.mk_geom.specs.declared.pages.Census.{Census}
-use Rattle.mk_words.specs.{States.{PassState, world_of, call_of, event_of}, Steps.Makes, TurnSteps.turn_stays}
+use Rattle.mk_caller.specs.{Below.Words.States.{PassState, world_of, call_of, event_of}, Below.Words.Steps.Makes}
+use Rattle.mk_caller.specs.{Below.Words.TurnSteps.turn_stays, Below.Words.Doing.Does, Below.Words.Taking.TakesTurn}
+use Rattle.mk_alloc.specs.{Retired.kinds_for, Retiring.is_loading}
 use Rattle.mk_caller.specs.{States.{CallerState, caller_of_pass}, Called.{own_calls, IsDecidedIn}}
-use Rattle.mk_turns.specs.Doing.{Does}
-use Rattle.mk_waiting.specs.Taking.{TakesTurn}
 use Rattle.mk_alloc.specs.{DueCycles.RunsIfDue, Leaving.OwnLeaveAllButReleased, TurnCycles.{EndsExactly, IsDueIn}}
-use Rattle.mk_objects.specs.{Retired.kinds_for, Retiring.is_loading}
 use Rattle.mk_never.specs.declared.operations.Op.TheVariants as op
 use Rattle.mk_core.specs.declared.events.Answer.TheVariants as answer
 use Rattle.mk_core.specs.declared.events.Step.TheVariants as step

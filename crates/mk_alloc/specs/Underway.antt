@@ -4,11 +4,12 @@ use Rattle.mk_never.specs.declared.operations.Op.{Op}
 use Rattle.mk_core.specs.{declared.config.Config.Config, declared.events.Answer.Answer, declared.events.Event.Event}
 use Rattle.mk_core.specs.{declared.events.Seat.Seat, Counts.{TalliesAreExact, TalliesAreTidy}, Decided.entry_of}
 use Rattle.mk_core.specs.Moments.{none_is_held}
-use Rattle.mk_words.specs.{States.{PassState, WordsState, call_of, now_of}, TurnSteps.{IsFresh, turn_stays}}
+use Rattle.mk_caller.specs.Below.Words.States.{PassState, WordsState, call_of, now_of}
+use Rattle.mk_caller.specs.{Below.Words.TurnSteps.{IsFresh, turn_stays}, Below.Words.Doing.Does}
+use Rattle.mk_caller.specs.Below.Words.Sweeping.{SweepsNothing}
+use Rattle.mk_alloc.specs.Placing.{IsOutOfStop, is_look}
 use Rattle.mk_caller.specs.{States.caller_of_pass, Called.own_calls}
-use Rattle.mk_turns.specs.{Doing.Does, Sweeping.SweepsNothing}
 use Rattle.mk_cycle.specs.{Begun.EachIsBegun, EngineLaw.IsFreeForCycle, TurnKeeps.{KeepsGates, LeavesTurn, unchanged}}
-use Rattle.mk_objects.specs.Placing.{IsOutOfStop, is_look}
 use Rattle.mk_core.specs.declared.seats.Stage.TheVariants as stage
 
 -- Nothing is under way that a cycle or a `give` waits for, and the tallies are what they count.

@@ -4,7 +4,7 @@ ghost use Rattle.mk_alloc.specs.{DueCycles.{EndsOlder, RunsCycle, RunsIfDue}, Un
 
 use crate::turns::is_cycle_on;
 use mk_cycle::{Engine, begin_cycle, finish_cycle};
-use mk_words::{Turn, Words};
+use mk_caller::lower::words::{Turn, Words};
 use std::sync::Wait;
 use std::thread::Threads;
 

@@ -9,7 +9,7 @@ use crate::turns::{give, take};
 use mk_caller::Caller;
 use mk_cycle::Engine;
 use mk_never::Op;
-use mk_objects::{Double, Freed, retire_object};
+use crate::retirement::{Double, Freed, retire_object};
 use std::sync::Wait;
 use std::thread::Threads;
 

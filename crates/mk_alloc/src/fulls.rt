@@ -1,14 +1,13 @@
 //! A New for whose object there is no room.
 ghost use Rattle.std.specs.Prelude.{◌≡◌, None};
 ghost use Rattle.mk_core.specs.declared.seats.OwnCycle.TheVariants.{Ended};
-ghost use Rattle.mk_words.specs.States.{now_of};
-ghost use Rattle.mk_turns.specs.Sweeping.{SweepsNothing};
+ghost use Rattle.mk_caller.specs.{Below.Words.States.now_of, Below.Words.Sweeping.SweepsNothing};
+ghost use Rattle.mk_alloc.specs.Placing.{IsUnplaced, place_now_for};
 ghost use Rattle.mk_cycle.specs.EngineLaw.{IsAtPhase};
-ghost use Rattle.mk_objects.specs.Placing.{IsUnplaced, place_now_for};
 ghost use Rattle.mk_alloc.specs.{Rooms.{AnswersFull, BeginsNone}, Underway.IsQuiet};
 
 use mk_core::{Tally, Word};
-use mk_words::{Turn, Words};
+use mk_caller::lower::words::{Turn, Words};
 
 /// Decides the New, and counts it.
 pub(crate) fn answer_full(words: &Words, turn: &mut Turn)

@@ -14,8 +14,8 @@ use mk_caller::Caller;
 use mk_cycle::Engine;
 use mk_geom::Census;
 use mk_never::Op;
-use mk_objects::Request;
-use mk_words::{Turn, Words};
+use crate::objects::Request;
+use mk_caller::lower::words::{Turn, Words};
 use std::sync::Wait;
 use std::thread::Threads;
 

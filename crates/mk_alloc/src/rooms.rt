@@ -1,17 +1,17 @@
 //! Room for the object of a New: where it fits nowhere, cycles are finished and begun.
 ghost use Rattle.std.specs.Prelude.{◌≡◌, false};
-ghost use Rattle.mk_words.specs.States.{now_of};
-ghost use Rattle.mk_turns.specs.Sweeping.{SweepsNothing};
+ghost use Rattle.mk_caller.specs.{Below.Words.States.now_of, Below.Words.Sweeping.SweepsNothing};
+ghost use Rattle.mk_alloc.specs.Placing.{OnlyLooks};
 ghost use Rattle.mk_cycle.specs.EngineLaw.{IsAtPhase};
 ghost use Rattle.mk_core.specs.Effects.{cycle_ended};
-ghost use Rattle.mk_objects.specs.Placing.{OnlyLooks};
 ghost use Rattle.mk_alloc.specs.Rooms.{BeginsNone, EndsOnly, IsPlacedOr, Misfits, MisfitsAtLast, MisfitsIdly};
 ghost use Rattle.mk_alloc.specs.{Rooms.{NeedsRoom, RunsOne, SeeksRoom}, Underway.PassKeeps};
 
 use crate::turns::is_cycle_on;
 use mk_cycle::{Engine, begin_cycle, finish_cycle};
-use mk_objects::{Request, place_object};
-use mk_words::{Turn, Words};
+use crate::objects::Request;
+use crate::placing::place_object;
+use mk_caller::lower::words::{Turn, Words};
 use std::sync::Wait;
 use std::thread::Threads;
 

@@ -1,17 +1,17 @@
 //! Parts of a turn that every call has.
 ghost use Rattle.std.specs.Prelude.{◌≡◌, ◌==◌, ◌<◌, ◌∷◌, [], Some, true};
 ghost use Rattle.mk_core.specs.{Calls.{at_rest, has_operands, is_under_turn}, Words.phase_of};
-ghost use Rattle.mk_words.specs.{States.{call_of, now_of}, Steps.Makes};
+ghost use Rattle.mk_caller.specs.{Below.Words.States.{call_of, now_of}, Below.Words.Steps.Makes};
+ghost use Rattle.mk_caller.specs.Below.Words.Taking.{TakesTurn};
 ghost use Rattle.mk_caller.specs.States.{IsIdleCaller, caller_of_pass};
-ghost use Rattle.mk_waiting.specs.Taking.{TakesTurn};
 ghost use Rattle.mk_alloc.specs.Underway.{BeginsTurn, IsQuiet, Looks};
 ghost use Rattle.mk_core.specs.declared.events.Step.TheVariants as step;
 ghost use Rattle.mk_core.specs.declared.seats.Stage.TheVariants as stage;
 
 use mk_core::{Phase, Word};
 use mk_never::Op;
-use mk_waiting::take_turn;
-use mk_words::{Pass, Turn, Words};
+use mk_caller::lower::words::take_turn;
+use mk_caller::lower::words::{Pass, Turn, Words};
 use std::sync::Wait;
 
 /// Waits for the turn, and takes it for an operation of a caller whose seat is the pass's only one.

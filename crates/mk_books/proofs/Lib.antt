@@ -4,3 +4,16 @@ pub mod UsedBitLemmas
 pub mod FreeRangeLemmas
 pub mod FreeCellLemmas
 pub mod PlaceLemmas
+pub mod LowestBits
+pub mod SetWords
+pub mod NextPages
+pub mod BlockSets
+pub mod FreeSets
+pub mod FitStays
+pub mod Showing
+pub mod Reading
+pub mod Storing
+pub mod FreeRanges
+pub mod FirstFit
+pub mod Uncleaned
+pub mod Vocabulary

@@ -1,2 +1,6 @@
 pub mod Quarantine
 pub mod FreeCells
+pub mod Members
+pub mod KnownPages
+pub mod PageSets
+pub mod Laws

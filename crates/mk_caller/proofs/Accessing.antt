@@ -1,12 +1,35 @@
 -- The parts that several calls have in common.
-use Rattle.mk_laws.proofs.Vocabulary.{ap, at_rest, begun, onward, progress_reg, q_of, refl, refused, stage_refused}
-use Rattle.mk_laws.proofs.Vocabulary.{true, [], ◌∙◌, ◌∷◌, ◌≡◌, ◌≢◌}
+use Rattle.mk_words.proofs.Below.Laws.Vocabulary.{ap}
+use Rattle.mk_words.proofs.Below.Laws.Vocabulary.{at_rest}
+use Rattle.mk_words.proofs.Below.Laws.Vocabulary.{begun}
+use Rattle.mk_words.proofs.Below.Laws.Vocabulary.{onward}
+use Rattle.mk_words.proofs.Below.Laws.Vocabulary.{progress_reg}
+use Rattle.mk_words.proofs.Below.Laws.Vocabulary.{q_of}
+use Rattle.mk_words.proofs.Below.Laws.Vocabulary.{refl}
+use Rattle.mk_words.proofs.Below.Laws.Vocabulary.{refused}
+use Rattle.mk_words.proofs.Below.Laws.Vocabulary.{stage_refused}
+use Rattle.mk_words.proofs.Below.Laws.Vocabulary.{true}
+use Rattle.mk_words.proofs.Below.Laws.Vocabulary.{[]}
+use Rattle.mk_words.proofs.Below.Laws.Vocabulary.{◌∙◌}
+use Rattle.mk_words.proofs.Below.Laws.Vocabulary.{◌∷◌}
+use Rattle.mk_words.proofs.Below.Laws.Vocabulary.{◌≡◌}
+use Rattle.mk_words.proofs.Below.Laws.Vocabulary.{◌≢◌}
+use Rattle.mk_words.proofs.Below.Laws.Vocabulary.{Answer}
+use Rattle.mk_words.proofs.Below.Laws.Vocabulary.{Flight}
+use Rattle.mk_words.proofs.Below.Laws.Vocabulary.{List}
+use Rattle.mk_words.proofs.Below.Laws.Vocabulary.{None}
+use Rattle.mk_words.proofs.Below.Laws.Vocabulary.Null as NullValue
+use Rattle.mk_words.proofs.Below.Laws.Vocabulary.{Op}
+use Rattle.mk_words.proofs.Below.Laws.Vocabulary.{Progress}
+use Rattle.mk_words.proofs.Below.Laws.Vocabulary.{Some}
+use Rattle.mk_words.proofs.Below.Laws.Vocabulary.{Stage}
+use Rattle.mk_words.proofs.Below.Laws.Vocabulary.{Step}
+use Rattle.mk_words.proofs.Below.Laws.Vocabulary.{ℕ}
 use Rattle.mk_caller.proofs.Chains.{access_finds_null, access_finds_some, access_is_small, called, either_to, go}
 use Rattle.mk_caller.proofs.{Chains.{null_steps, of_same, on_to, refused_puts, to, value_kept}, Onward.store_goes_on}
 use Rattle.mk_caller.specs.Moves.{IsAtFlight, MayBeginCall, behind_q, is_access, refused_register, refused_steps}
 use Rattle.mk_caller.specs.{Moves.stores_register, Called.Called, States.{never_of, value_of}}
 use Rattle.mk_words.specs.States.{PassState, call_of}
-use Rattle.mk_laws.proofs.Vocabulary.{Answer, Flight, List, None, Null as NullValue, Op, Progress, Some, Stage, Step, ℕ}
 
 pub marks_and_leaves : {p q r : PassState} → IsAtFlight p (call_of p).op (Step.Dirty ∷ []) None
     (onward (call_of p) None).flight q → IsAtFlight q (call_of q).op (Step.Leave ∷ []) None at_rest r

@@ -1,8 +1,9 @@
 -- What a call leaves in its caller's registers.
-use Rattle.mk_laws.proofs.Vocabulary.{Answer, Bool, NeverState, Null, Num, Op, Ptr, Some, Unmapped, Value, WordOf, ℕ}
-use Rattle.mk_laws.proofs.Vocabulary.{after_free, ap, arith, false, get_or-set_other, get_or-set_same, if◌then◌else◌}
-use Rattle.mk_laws.proofs.Vocabulary.{is_same, never_behind, refl, register_at, true, with_register, with_word, word_at}
-use Rattle.mk_laws.proofs.{Vocabulary.{◌*◌, ◌++◌, ◌+◌, ◌<◌, ◌∙◌, ◌≡◌, ◌≢◌}, OtherCalls.never_continues}
+use Rattle.mk_words.proofs.Below.Laws.Vocabulary.{Answer, Bool, NeverState, Null, Num, Op, Ptr, Some, Unmapped, Value}
+use Rattle.mk_words.proofs.Below.Laws.Vocabulary.{WordOf, ℕ, after_free, ap, arith, false, get_or-set_other}
+use Rattle.mk_words.proofs.Below.Laws.Vocabulary.{get_or-set_same, if◌then◌else◌, is_same, never_behind, refl}
+use Rattle.mk_words.proofs.Below.Laws.Vocabulary.{register_at, true, with_register, with_word, word_at, ◌*◌, ◌++◌, ◌+◌}
+use Rattle.mk_words.proofs.{Below.Laws.Vocabulary.{◌<◌, ◌∙◌, ◌≡◌, ◌≢◌}, Below.Laws.OtherCalls.never_continues}
 use Rattle.mk_never.specs.{NeverHeap.{after_op, left_at}, Admitted.IsCaller, declared.values.Target.Target}
 use Rattle.mk_never.specs.declared.values.Target.TheVariants.{Nothing}
 use Rattle.mk_caller.specs.{States.{caller_of_pass, never_of, value_of}, Called.Called}

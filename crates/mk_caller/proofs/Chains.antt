@@ -1,8 +1,9 @@
 -- A call step by step, from its beginning to its end.
-use Rattle.mk_laws.proofs.Vocabulary.{Answer, Event, Flight, KeepsRegisters, List, NeverState, None, Op, Option}
-use Rattle.mk_laws.proofs.Vocabulary.{Progress, Some, Stage, Step, Unmapped, ℕ, ap, append_assoc, arith, at_rest, begun}
-use Rattle.mk_laws.proofs.Vocabulary.{d_of, if◌then◌else◌, ne_eqb, onward, progress_reg, q_of, refl, refused}
-use Rattle.mk_laws.proofs.Vocabulary.{stage_refused, subst, true, [], ◌++◌, ◌<◌, ◌==◌, ◌∙◌, ◌∷◌, ◌≡◌, ◌≢◌}
+use Rattle.mk_words.proofs.Below.Laws.Vocabulary.{Answer, Event, Flight, KeepsRegisters, List, NeverState, None, Op}
+use Rattle.mk_words.proofs.Below.Laws.Vocabulary.{Option, Progress, Some, Stage, Step, Unmapped, ℕ, ap, append_assoc}
+use Rattle.mk_words.proofs.Below.Laws.Vocabulary.{arith, at_rest, begun, d_of, if◌then◌else◌, ne_eqb, onward}
+use Rattle.mk_words.proofs.Below.Laws.Vocabulary.{progress_reg, q_of, refl, refused, stage_refused, subst, true, []}
+use Rattle.mk_words.proofs.Below.Laws.Vocabulary.{◌++◌, ◌<◌, ◌==◌, ◌∙◌, ◌∷◌, ◌≡◌, ◌≢◌}
 use Rattle.mk_never.specs.{Admitted.OperandsAreInRange, declared.values.Target.Target}
 use Rattle.mk_caller.proofs.Joined.{joined, joined_on}
 use Rattle.mk_caller.specs.Moves.{CallGoesOn, IsAtFlight, MakesSteps, MayBeginCall, is_access, loads, passes}

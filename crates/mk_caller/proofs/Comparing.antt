@@ -1,7 +1,7 @@
 -- A compare and exchange compares values: its answer is that of the heap that never reuses storage.
-use Rattle.mk_laws.proofs.Vocabulary.{Answer, Bool, List, NeverState, Op, Unmapped, Value, WordOf, ℕ, answer_of, ap}
-use Rattle.mk_laws.proofs.Vocabulary.{arith, bit, is_same, one_if, refl, register_at, sym, target_of, true, word_at}
-use Rattle.mk_laws.proofs.Vocabulary.{◌↔◌, ◌∙◌, ◌≡◌}
+use Rattle.mk_words.proofs.Below.Laws.Vocabulary.{Answer, Bool, List, NeverState, Op, Unmapped, Value, WordOf, ℕ}
+use Rattle.mk_words.proofs.Below.Laws.Vocabulary.{answer_of, ap, arith, bit, is_same, one_if, refl, register_at, sym}
+use Rattle.mk_words.proofs.Below.Laws.Vocabulary.{target_of, true, word_at, ◌↔◌, ◌∙◌, ◌≡◌}
 use Rattle.mk_never.proofs.Sameness.{equal_from_same, same_from_equal}
 use Rattle.mk_never.specs.declared.values.Target.TheVariants.{Nothing}
 use Rattle.mk_never.specs.{NeverHeap.reply_at, declared.operations.Reply.Reply, declared.values.Target.Target}

@@ -1,11 +1,12 @@
 -- When a step of a call is enabled and admitted.
-use Rattle.mk_laws.proofs.Vocabulary.{Answer, AreAdmitted, Bool, Caller, Config, Flight, Group, IsAdmitted, IsHistory}
-use Rattle.mk_laws.proofs.Vocabulary.{List, Moment, NeverState, None, Op, Option, Seat, Some, Stage, Step, ℕ, and_from}
-use Rattle.mk_laws.proofs.Vocabulary.{and_parts, answer_decided, ap, arith, asked, comes_next, entry_of, false}
-use Rattle.mk_laws.proofs.Vocabulary.{group_of, has_gates, has_operands, has_phase, holder_may, is_in_range}
-use Rattle.mk_laws.proofs.Vocabulary.{is_under_turn, length, lt-ltb, ltb-true, marker_may, nat_lt, outside, phase_of}
-use Rattle.mk_laws.proofs.{Vocabulary.{refl, register_met, true, ◌&&◌, ◌<◌, ◌≡◌}, LastEvents.{goes_on_by, stands}}
-use Rattle.mk_laws.proofs.LayoutHolders.{seat_operands}
+use Rattle.mk_words.proofs.Below.Laws.Vocabulary.{Answer, AreAdmitted, Bool, Caller, Config, Flight, Group, IsAdmitted}
+use Rattle.mk_words.proofs.Below.Laws.Vocabulary.{IsHistory, List, Moment, NeverState, None, Op, Option, Seat, Some}
+use Rattle.mk_words.proofs.Below.Laws.Vocabulary.{Stage, Step, ℕ, and_from, and_parts, answer_decided, ap, arith, asked}
+use Rattle.mk_words.proofs.Below.Laws.Vocabulary.{comes_next, entry_of, false, group_of, has_gates, has_operands}
+use Rattle.mk_words.proofs.Below.Laws.Vocabulary.{has_phase, holder_may, is_in_range, is_under_turn, length, lt-ltb}
+use Rattle.mk_words.proofs.Below.Laws.Vocabulary.{ltb-true, marker_may, nat_lt, outside, phase_of, refl, register_met}
+use Rattle.mk_words.proofs.{Below.Laws.Vocabulary.{true, ◌&&◌, ◌<◌, ◌≡◌}, Below.Laws.LastEvents.{goes_on_by, stands}}
+use Rattle.mk_words.proofs.Below.Laws.LayoutHolders.{seat_operands}
 use Rattle.mk_never.specs.Admitted.{IsCaller, OperandsAreInRange}
 use Rattle.mk_core.proofs.Conditions.{meets_enabled}
 use Rattle.mk_caller.{proofs.OneStep.{flagged_same}, specs.{Moves.MayBeginCall, States.{Admits, never_of}}}

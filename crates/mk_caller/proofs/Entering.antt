@@ -1,6 +1,6 @@
 -- The first step: it begins the call, or finds the gate held.
 use Rattle.std.proofs.Common.{Err, Ok, OnErr, OnOk, Result}
-use Rattle.mk_laws.proofs.Vocabulary.{None, Op, Step, ap, append-nil, begun, refl, still, ◌∙◌}
+use Rattle.mk_words.proofs.Below.Laws.Vocabulary.{None, Op, Step, ap, append-nil, begun, refl, still, ◌∙◌}
 use Rattle.mk_caller.proofs.{OneStep.one_step, Onward.enters}
 use Rattle.mk_caller.specs.{Called.own_calls, Causes.FindsGateHeld, Moves.{CallMoves, MayBeginCall}}
 use Rattle.mk_words.specs.{States.{PassState, call_of}, CallSteps.FindsHeld, Steps.Goes, declared.call_steps.Held.Held}

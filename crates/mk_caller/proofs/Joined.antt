@@ -1,7 +1,7 @@
 -- Steps of a call, one after the other.
-use Rattle.mk_laws.proofs.Vocabulary.{Answer, Config, Decided, Event, KeepsRegisters, List, None, Op, Option, Some}
-use Rattle.mk_laws.proofs.Vocabulary.{Step, ap, append-nil, append_assoc, arith, entry_of, left_in_parts, never_behind}
-use Rattle.mk_laws.proofs.Vocabulary.{subst, sym, ◌++◌, ◌∙◌, ◌∷◌, ◌≡◌}
+use Rattle.mk_words.proofs.Below.Laws.Vocabulary.{Answer, Config, Decided, Event, KeepsRegisters, List, None, Op}
+use Rattle.mk_words.proofs.Below.Laws.Vocabulary.{Option, Some, Step, ap, append-nil, append_assoc, arith, entry_of}
+use Rattle.mk_words.proofs.Below.Laws.Vocabulary.{left_in_parts, never_behind, subst, sym, ◌++◌, ◌∙◌, ◌∷◌, ◌≡◌}
 use Rattle.mk_caller.proofs.{OneStep.keeps_both, OwnSteps.steps_append, OwnSteps.steps_from}
 use Rattle.mk_caller.specs.Called.{IsDecidedIn, own_calls, own_steps}
 use Rattle.mk_caller.specs.{Moves.IsDecidedAs, Moves.MakesSteps, States.caller_of_pass, States.never_of}

@@ -1,3 +1,4 @@
+pub mod Below
 pub mod OwnSteps
 pub mod OneStep
 pub mod Joined

@@ -1,12 +1,15 @@
 -- One step of a call: what it adds to the list, to the calls and to the heap that never reuses storage.
-use Rattle.mk_laws.proofs.Vocabulary.{Answer, AreOfOthers, Caller, Config, Decided, Event, Flight, IsHistory}
-use Rattle.mk_laws.proofs.Vocabulary.{KeepsRegisters, List, NeverState, None, Op, Option, Progress, Seat, Some, Stage}
-use Rattle.mk_laws.proofs.Vocabulary.{Step, ℕ, after_calls, answered, answers_of, ap, append-nil, append_assoc, arith}
-use Rattle.mk_laws.proofs.Vocabulary.{asked, bases_of, call_decided, caller_number, calls, entry_of, false, first_world}
-use Rattle.mk_laws.proofs.Vocabulary.{flagged, is_under_turn, left, never_behind, refl, replies_of, subst, sym, true}
-use Rattle.mk_laws.proofs.{Vocabulary.{world_behind, [], ◌++◌, ◌<◌, ◌∙◌, ◌∷◌, ◌≡◌}, LastEvents.{comes_last, stands}}
-use Rattle.mk_laws.proofs.{OtherCalls.{never_continues, registers_are_left}, FramesLongerLists.call_on}
-use Rattle.mk_laws.proofs.{ImagesHistories.one_event, InvariantHistories.told_to_images}
+use Rattle.mk_words.proofs.Below.Laws.Vocabulary.{Answer, AreOfOthers, Caller, Config, Decided, Event, Flight}
+use Rattle.mk_words.proofs.Below.Laws.Vocabulary.{IsHistory, KeepsRegisters, List, NeverState, None, Op, Option}
+use Rattle.mk_words.proofs.Below.Laws.Vocabulary.{Progress, Seat, Some, Stage, Step, ℕ, after_calls, answered}
+use Rattle.mk_words.proofs.Below.Laws.Vocabulary.{answers_of, ap, append-nil, append_assoc, arith, asked, bases_of}
+use Rattle.mk_words.proofs.Below.Laws.Vocabulary.{call_decided, caller_number, calls, entry_of, false, first_world}
+use Rattle.mk_words.proofs.Below.Laws.Vocabulary.{flagged, is_under_turn, left, never_behind, refl, replies_of, subst}
+use Rattle.mk_words.proofs.Below.Laws.Vocabulary.{sym, true, world_behind, [], ◌++◌, ◌<◌, ◌∙◌, ◌∷◌, ◌≡◌}
+use Rattle.mk_words.proofs.Below.Laws.LastEvents.{comes_last, stands}
+use Rattle.mk_words.proofs.Below.Laws.OtherCalls.{never_continues, registers_are_left}
+use Rattle.mk_words.proofs.{Below.Laws.FramesLongerLists.call_on, Below.Laws.ImagesHistories.one_event}
+use Rattle.mk_words.proofs.Below.Laws.InvariantHistories.{told_to_images}
 use Rattle.mk_core.{proofs.Histories.{calls_more}, specs.Ranges.{is_word_met}}
 use Rattle.mk_caller.proofs.OwnSteps.{by_append, calls_by, others_add_none, own_entry, own_step}
 use Rattle.mk_caller.specs.{Moves.{IsDecidedAs, IsUnderway, MakesSteps, is_past_decision}, Called.own_calls}

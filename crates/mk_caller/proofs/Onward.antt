@@ -1,8 +1,9 @@
 -- How a call goes on after a step, of whatever kind: the operation stays, and what is undecided goes on undecided.
-use Rattle.mk_laws.proofs.Vocabulary.{Answer, Bool, Config, Flight, None, Op, Progress, Some, Stage, Step, ℕ, ap, arith}
-use Rattle.mk_laws.proofs.Vocabulary.{at_rest, begun, false, header_of, if◌then◌else◌, is_under_turn}
-use Rattle.mk_laws.proofs.Vocabulary.{is_unmapped_header, onward, progress_read, progress_reg, refl, refused}
-use Rattle.mk_laws.proofs.Vocabulary.{stage_behind, steps_of, subst, sym, true, ◌∙◌, ◌≡◌}
+use Rattle.mk_words.proofs.Below.Laws.Vocabulary.{Answer, Bool, Config, Flight, None, Op, Progress, Some, Stage, Step}
+use Rattle.mk_words.proofs.Below.Laws.Vocabulary.{ℕ, ap, arith, at_rest, begun, false, header_of, if◌then◌else◌}
+use Rattle.mk_words.proofs.Below.Laws.Vocabulary.{is_under_turn, is_unmapped_header, onward, progress_read}
+use Rattle.mk_words.proofs.Below.Laws.Vocabulary.{progress_reg, refl, refused, stage_behind, steps_of, subst, sym, true}
+use Rattle.mk_words.proofs.Below.Laws.Vocabulary.{◌∙◌, ◌≡◌}
 use Rattle.mk_core.specs.{Calls.progress_getg, Effects.progress_probe, Ranges.is_word_met}
 use Rattle.mk_caller.proofs.{Enabling.caller_exists, OneStep.goes_underway, OneStep.one_step}
 use Rattle.mk_caller.specs.{Moves.CallMoves, Moves.IsUnderway, Moves.MayBeginCall, Moves.is_past_decision}

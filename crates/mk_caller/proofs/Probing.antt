@@ -1,14 +1,18 @@
 -- What a probe says of the heap that never reuses storage.
-use Rattle.mk_laws.proofs.Vocabulary.{AreOfOthers, Bool, Caller, CarriesOwn, Config, Event, Flight, IsHistory, IsMet}
-use Rattle.mk_laws.proofs.Vocabulary.{IsSound, List, Meets, NeverState, Null, Num, Op, Ptr, Seat, Stage, Step, Unmapped}
-use Rattle.mk_laws.proofs.Vocabulary.{Value, WordOf, World, ℕ, ap, bases_of, caller_number, false, flight_of, header_at}
-use Rattle.mk_laws.proofs.Vocabulary.{header_in, header_of, i_of, if◌then◌else◌, image_scene_of, is_unmapped_header}
-use Rattle.mk_laws.proofs.Vocabulary.{left, never_behind, page_met, q_of, refl, register_at, subst, sym, target_of}
-use Rattle.mk_laws.proofs.Vocabulary.{true, [], ◌*◌, ◌++◌, ◌+◌, ◌<◌, ◌∙◌, ◌∷◌, ◌≡◌, ◌≢◌}
-use Rattle.mk_laws.proofs.{FramesLongerLists.meets_register, LastEvents.{Stands, stands}, OrderlyLists.not_astray}
-use Rattle.mk_laws.proofs.{OtherCalls.{never_continues, registers_are_left}, ProbesStill.{pages_tell, ready}}
-use Rattle.mk_laws.proofs.{Reached.{mapped_met, unmapped_target}, Stages.{calls_stand, is_call_stage}}
-use Rattle.mk_laws.{proofs.Standings.{InCall, standing}, specs.Images.{has_q, has_some_q}}
+use Rattle.mk_words.proofs.Below.Laws.Vocabulary.{AreOfOthers, Bool, Caller, CarriesOwn, Config, Event, Flight}
+use Rattle.mk_words.proofs.Below.Laws.Vocabulary.{IsHistory, IsMet, IsSound, List, Meets, NeverState, Null, Num, Op}
+use Rattle.mk_words.proofs.Below.Laws.Vocabulary.{Ptr, Seat, Stage, Step, Unmapped, Value, WordOf, World, ℕ, ap}
+use Rattle.mk_words.proofs.Below.Laws.Vocabulary.{bases_of, caller_number, false, flight_of, header_at, header_in}
+use Rattle.mk_words.proofs.Below.Laws.Vocabulary.{header_of, i_of, if◌then◌else◌, image_scene_of, is_unmapped_header}
+use Rattle.mk_words.proofs.Below.Laws.Vocabulary.{left, never_behind, page_met, q_of, refl, register_at, subst, sym}
+use Rattle.mk_words.proofs.Below.Laws.Vocabulary.{target_of, true, [], ◌*◌, ◌++◌, ◌+◌, ◌<◌, ◌∙◌, ◌∷◌, ◌≡◌, ◌≢◌}
+use Rattle.mk_words.proofs.{Below.Laws.FramesLongerLists.meets_register, Below.Laws.LastEvents.{Stands, stands}}
+use Rattle.mk_words.proofs.Below.Laws.OrderlyLists.{not_astray}
+use Rattle.mk_words.proofs.Below.Laws.OtherCalls.{never_continues, registers_are_left}
+use Rattle.mk_words.proofs.Below.Laws.ProbesStill.{pages_tell, ready}
+use Rattle.mk_words.proofs.Below.Laws.Reached.{mapped_met, unmapped_target}
+use Rattle.mk_words.proofs.{Below.Laws.Stages.{calls_stand, is_call_stage}, Below.Laws.Standings.{InCall, standing}}
+use Rattle.mk_words.specs.Below.Laws.Images.{has_q, has_some_q}
 use Rattle.mk_caller.proofs.{Enabling.met_is_small, OneStep.own_seat, WordsMet.access_meets}
 use Rattle.mk_caller.specs.{States.{caller_of_pass, never_of, value_of}, Causes.{Probes, ProbesAWord}}
 use Rattle.mk_caller.specs.Moves.{IsUnderway, is_access}

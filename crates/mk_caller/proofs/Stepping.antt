@@ -1,10 +1,11 @@
 -- Each step of a call, from what is known of a call on its way: it may be made, and the call goes on.
-use Rattle.mk_laws.proofs.Vocabulary.{Answer, Bool, Group, None, Null, Stage, Step, ℕ, and_parts, arith, comes_next}
-use Rattle.mk_laws.proofs.Vocabulary.{false, group_of, header_of, i_of, if◌then◌else◌, is_in_range, is_put}
-use Rattle.mk_laws.proofs.Vocabulary.{is_unmapped_header, leb-true, ltb-true, onward, refl, refused, register_met, true}
-use Rattle.mk_laws.proofs.Vocabulary.{word_met, ◌*◌, ◌+◌, ◌-◌, ◌/◌, ◌<◌, ◌^◌, ◌↔◌, ◌≡◌, ◌≤◌}
+use Rattle.mk_words.proofs.Below.Laws.Vocabulary.{Answer, Bool, Group, None, Null, Stage, Step, ℕ, and_parts, arith}
+use Rattle.mk_words.proofs.Below.Laws.Vocabulary.{comes_next, false, group_of, header_of, i_of, if◌then◌else◌}
+use Rattle.mk_words.proofs.Below.Laws.Vocabulary.{is_in_range, is_put, is_unmapped_header, leb-true, ltb-true, onward}
+use Rattle.mk_words.proofs.Below.Laws.Vocabulary.{refl, refused, register_met, true, word_met, ◌*◌, ◌+◌, ◌-◌, ◌/◌, ◌<◌}
+use Rattle.mk_words.proofs.Below.Laws.Vocabulary.{◌^◌, ◌↔◌, ◌≡◌, ◌≤◌}
+use Rattle.mk_words.specs.Below.Laws.Images.{has_q, has_some_q}
 use Rattle.mk_core.specs.{Effects.progress_probe, Ranges.is_word_met}
-use Rattle.mk_laws.specs.Images.{has_q, has_some_q}
 use Rattle.mk_caller.proofs.Enabling.{admitted, enabled, idly_admitted, met_is_small, put_decides_nothing}
 use Rattle.mk_caller.{proofs.WordsMet.{null_tells, word_is_met}, specs.States.{value_of}}
 use Rattle.mk_caller.specs.Moves.{CallMoves, IsUnderway, is_access, is_past_decision, loads_register, stores_register}

@@ -1,12 +1,14 @@
 -- What the words that a call loads show of its registers' values, and the heap word that it accesses.
-use Rattle.mk_laws.proofs.Vocabulary.{AccessIsAdmitted, Caller, CarriesOwn, Config, Event, Flight, IsHistory, IsSafe}
-use Rattle.mk_laws.proofs.Vocabulary.{IsSound, Kind, List, Meets, NeverState, Null, Num, Op, Ptr, Value, World, ℕ}
-use Rattle.mk_laws.proofs.Vocabulary.{and_from, ap, arith, bases_of, false, flight_of, histories_keep_lengths, i_of}
-use Rattle.mk_laws.proofs.Vocabulary.{image_of, is_put, le-leb, left, lt-ltb, never_behind, q_of, register_at}
-use Rattle.mk_laws.proofs.Vocabulary.{register_word, sym, true, ◌%◌, ◌*◌, ◌+◌, ◌/◌, ◌<◌, ◌↔◌, ◌∙◌, ◌≡◌}
+use Rattle.mk_words.proofs.Below.Laws.Vocabulary.{AccessIsAdmitted, Caller, CarriesOwn, Config, Event, Flight}
+use Rattle.mk_words.proofs.Below.Laws.Vocabulary.{IsHistory, IsSafe, IsSound, Kind, List, Meets, NeverState, Null, Num}
+use Rattle.mk_words.proofs.Below.Laws.Vocabulary.{Op, Ptr, Value, World, ℕ, and_from, ap, arith, bases_of, false}
+use Rattle.mk_words.proofs.Below.Laws.Vocabulary.{flight_of, histories_keep_lengths, i_of, image_of, is_put, le-leb}
+use Rattle.mk_words.proofs.Below.Laws.Vocabulary.{left, lt-ltb, never_behind, q_of, register_at, register_word, sym}
+use Rattle.mk_words.proofs.Below.Laws.Vocabulary.{true, ◌%◌, ◌*◌, ◌+◌, ◌/◌, ◌<◌, ◌↔◌, ◌∙◌, ◌≡◌}
+use Rattle.mk_words.proofs.{Below.Laws.ImagesKept.base_at, Below.Laws.LastEvents.stands, Below.Laws.Pairs.shows_plain}
+use Rattle.mk_words.proofs.{Below.Laws.ProbesStill.ready, Below.Laws.Ready.image_zero}
+use Rattle.mk_words.specs.Below.Laws.Images.{has_q, has_some_q}
 use Rattle.mk_core.specs.Ranges.{is_word_met}
-use Rattle.mk_laws.{proofs.ImagesKept.base_at, proofs.LastEvents.stands, proofs.Pairs.shows_plain}
-use Rattle.mk_laws.{proofs.ProbesStill.ready, proofs.Ready.image_zero, specs.Images.has_q, specs.Images.has_some_q}
 use Rattle.mk_caller.specs.{Moves.is_access, States.Admits, States.value_of}
 use Rattle.mk_words.specs.{CallSteps.register_of, States.PassState, States.call_of}
 
@@ -57,7 +59,7 @@ word_for {c} {es} k h has some meets = by (register_at n k (q_of f.op)) (car.q h
     w : World
     w = left c es
 
-    st : Rattle.mk_laws.proofs.LastEvents.Stands c es
+    st : Rattle.mk_words.proofs.Below.Laws.LastEvents.Stands c es
     st = stands c es h
 
     car : CarriesOwn (bases_of w.allocations) n k f

@@ -1,3 +1,4 @@
+pub mod Below
 pub mod States
 pub mod Called
 pub mod Causes

@@ -8,6 +8,7 @@ mod accesses;
 mod callers;
 mod calls;
 mod laws;
+pub mod lower;
 mod refusals;
 mod steps;
 mod tables;

@@ -1,9 +1,10 @@
 -- The steps that a turn which is free for a cycle may make at phase 0.
-use Rattle.mk_laws.proofs.Vocabulary.{Bool, Cell, Config, Flight, None, Option, Protocol, Seat, Step, Tally, Word}
-use Rattle.mk_laws.proofs.Vocabulary.{Words, ℕ, ap, arith, eq-eqb, false, frees, has_gates, if◌then◌else◌, is_phase}
-use Rattle.mk_laws.proofs.Vocabulary.{is_run_cell, lt-ltb, nat_lt, not, others_are_held, phase_of, quarantine_word}
-use Rattle.mk_laws.proofs.Vocabulary.{refl, slice_index, subst, sym, target, true, ◌%◌, ◌&&◌, ◌/◌, ◌<◌, ◌==◌, ◌^◌, ◌||◌}
-use Rattle.mk_laws.proofs.{Vocabulary.{◌∙◌, ◌≡◌}, Protocols.lists_keep_the_protocol}
+use Rattle.mk_words.proofs.Below.Laws.Vocabulary.{Bool, Cell, Config, Flight, None, Option, Protocol, Seat, Step, Tally}
+use Rattle.mk_words.proofs.Below.Laws.Vocabulary.{Word, Words, ℕ, ap, arith, eq-eqb, false, frees, has_gates}
+use Rattle.mk_words.proofs.Below.Laws.Vocabulary.{if◌then◌else◌, is_phase, is_run_cell, lt-ltb, nat_lt, not}
+use Rattle.mk_words.proofs.Below.Laws.Vocabulary.{others_are_held, phase_of, quarantine_word, refl, slice_index, subst}
+use Rattle.mk_words.proofs.Below.Laws.Vocabulary.{sym, target, true, ◌%◌, ◌&&◌, ◌/◌, ◌<◌, ◌==◌, ◌^◌, ◌||◌, ◌∙◌, ◌≡◌}
+use Rattle.mk_words.proofs.Below.Laws.Protocols.{lists_keep_the_protocol}
 use Rattle.mk_cycle.proofs.Vocabulary.{Acts, IsEnabledTo, IsFreeForCycle, IsTurn, IsTurnAt, PassState, WordsState}
 use Rattle.mk_cycle.proofs.{Vocabulary.{call_of, drops, now_of}, Calm.no_target, MayAct.may_act}
 use Rattle.mk_core.specs.{Ranges.is_word, TurnConditions.takes_snapshot}

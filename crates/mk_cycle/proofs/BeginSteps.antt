@@ -1,10 +1,11 @@
 -- The `begin` of a cycle, and the calls around it.
 use Rattle.std.proofs.Common.{filter}
-use Rattle.mk_laws.proofs.Vocabulary.{Bool, Config, List, PlacedAllocation, Step, Storage, World, ℕ, all_below}
-use Rattle.mk_laws.proofs.Vocabulary.{all_below-at, all_below_more_is, all_below_zero_is, and_from, ap, arith, eq-eqb}
-use Rattle.mk_laws.proofs.Vocabulary.{false, has_clean_page, if◌then◌else◌, is_held, is_mapped, length, map}
-use Rattle.mk_laws.proofs.Vocabulary.{no_longer_fresh, not, refl, slice_index, storage_of, subst, suc, sym, true, zero}
-use Rattle.mk_laws.proofs.Vocabulary.{[], ◌%◌, ◌&&◌, ◌+◌, ◌/◌, ◌<◌, ◌==◌, ◌^◌, ◌∙◌, ◌∷◌, ◌≡◌, ◌≤◌}
+use Rattle.mk_words.proofs.Below.Laws.Vocabulary.{Bool, Config, List, PlacedAllocation, Step, Storage, World, ℕ}
+use Rattle.mk_words.proofs.Below.Laws.Vocabulary.{all_below, all_below-at, all_below_more_is, all_below_zero_is}
+use Rattle.mk_words.proofs.Below.Laws.Vocabulary.{and_from, ap, arith, eq-eqb, false, has_clean_page, if◌then◌else◌}
+use Rattle.mk_words.proofs.Below.Laws.Vocabulary.{is_held, is_mapped, length, map, no_longer_fresh, not, refl}
+use Rattle.mk_words.proofs.Below.Laws.Vocabulary.{slice_index, storage_of, subst, suc, sym, true, zero, [], ◌%◌, ◌&&◌}
+use Rattle.mk_words.proofs.Below.Laws.Vocabulary.{◌+◌, ◌/◌, ◌<◌, ◌==◌, ◌^◌, ◌∙◌, ◌∷◌, ◌≡◌, ◌≤◌}
 use Rattle.mk_cycle.proofs.Vocabulary.{Acts, Cleans, CountsAreLeft, IsAtPhase, IsClean, IsEnabledTo, IsFreeForCycle}
 use Rattle.mk_cycle.proofs.Vocabulary.{IsGone, IsTurn, IsTurnAt, KeepsGates, PassState, WasUndirty, WordsState, call_of}
 use Rattle.mk_cycle.proofs.Vocabulary.{count_by-le-length, done_of, made, now_of, stands, steady_of, world_at, world_of}

@@ -1,15 +1,16 @@
 -- What an engine does after each `begin`, in parts, by kinds of step, and at the `begin` itself.
 use Rattle.std.proofs.{Common.⊎_elim, lemmas.List.append_cancel_left, lemmas.List.Folds.list_all-append}
-use Rattle.mk_laws.proofs.Vocabulary.{At, Bool, Config, Event, List, Seat, Step, World, and_parts, ap, append-nil}
-use Rattle.mk_laws.proofs.Vocabulary.{append_assoc, arith, false, found, if◌then◌else◌, is_begin, left, list_any, not}
-use Rattle.mk_laws.proofs.Vocabulary.{not-true, or_from, refl, subst, sym, through, true, true≢false, world_behind, []}
-use Rattle.mk_laws.proofs.Vocabulary.{◌&&◌, ◌++◌, ◌∙◌, ◌∷◌, ◌≡◌}
+use Rattle.mk_words.proofs.Below.Laws.Vocabulary.{At, Bool, Config, Event, List, Seat, Step, World, and_parts, ap}
+use Rattle.mk_words.proofs.Below.Laws.Vocabulary.{append-nil, append_assoc, arith, false, found, if◌then◌else◌}
+use Rattle.mk_words.proofs.Below.Laws.Vocabulary.{is_begin, left, list_any, not, not-true, or_from, refl, subst, sym}
+use Rattle.mk_words.proofs.Below.Laws.Vocabulary.{through, true, true≢false, world_behind, [], ◌&&◌, ◌++◌, ◌∙◌, ◌∷◌}
+use Rattle.mk_words.proofs.{Below.Laws.Vocabulary.◌≡◌, Doing.{not_own, own_in_parts}, Sweeping.only_seen}
+use Rattle.mk_words.specs.Doing.{Does, are_of}
 use Rattle.mk_cycle.proofs.Vocabulary.{Has, Makes, PassState, does_step, event_of, holds_gates, is_giving_back}
 use Rattle.mk_cycle.proofs.{Vocabulary.{only_seen_by, sets_tallies}, InParts.{InFirst, InSecond, in_parts}}
 use Rattle.mk_core.specs.{Cycles.is_give, Growing.{AreOfOthers, Finding, is_same_seat, own_from}}
 use Rattle.mk_cycle.specs.Begun.{AreBegunFirst, DoesNothing, EachIsBegun, IsBegun, IsBegunFirst}
 use Rattle.mk_cycle.specs.{FinishCycle.FinishesCycle, Kinds.{begins_marking, closes_marks}}
-use Rattle.mk_turns.{proofs.{Doing.{not_own, own_in_parts}, Sweeping.only_seen}, specs.Doing.{Does, are_of}}
 use Rattle.mk_words.{proofs.Seats.{same_self}, specs.Opening.{is_open}}
 
 -- These kinds of step have no `begin` among them.

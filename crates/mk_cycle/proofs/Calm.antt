@@ -1,7 +1,8 @@
 -- Steps of the turn's holder that go on with its call and with what it has done in its turn as they were.
-use Rattle.mk_laws.proofs.Vocabulary.{Bool, Cell, Config, Flight, Holding, Moment, None, Option, Seat, Step, Word}
-use Rattle.mk_laws.proofs.Vocabulary.{Words, ℕ, arith, cell_freed, false, if◌then◌else◌, is_end, is_heap_store}
-use Rattle.mk_laws.proofs.Vocabulary.{is_phase, not, progress, sees_double, still, target, true, ◌&&◌, ◌≡◌}
+use Rattle.mk_words.proofs.Below.Laws.Vocabulary.{Bool, Cell, Config, Flight, Holding, Moment, None, Option, Seat, Step}
+use Rattle.mk_words.proofs.Below.Laws.Vocabulary.{Word, Words, ℕ, arith, cell_freed, false, if◌then◌else◌, is_end}
+use Rattle.mk_words.proofs.Below.Laws.Vocabulary.{is_heap_store, is_phase, not, progress, sees_double, still, target}
+use Rattle.mk_words.proofs.Below.Laws.Vocabulary.{true, ◌&&◌, ◌≡◌}
 use Rattle.mk_cycle.proofs.{Vocabulary.{holding_behind, is_pending_free}, OwnSteps.done_in}
 use Rattle.mk_core.specs.Effects.{progress_look}
 

@@ -1,7 +1,7 @@
 -- Bits of cells that are given back.
 use Rattle.std.proofs.lemmas.Nat.Bits.{bit_at-lt, bit_at_and, same_from_bits}
-use Rattle.mk_laws.proofs.Vocabulary.{Bool, ℕ, ap, arith, has_bit, has_bit_without, not, quarantine_word, sym, without}
-use Rattle.mk_laws.proofs.Vocabulary.{◌%◌, ◌&&◌, ◌-◌, ◌/◌, ◌<◌, ◌^◌, ◌∙◌, ◌≡◌}
+use Rattle.mk_words.proofs.Below.Laws.Vocabulary.{Bool, ℕ, ap, arith, has_bit, has_bit_without, not, quarantine_word}
+use Rattle.mk_words.proofs.Below.Laws.Vocabulary.{sym, without, ◌%◌, ◌&&◌, ◌-◌, ◌/◌, ◌<◌, ◌^◌, ◌∙◌, ◌≡◌}
 use Rattle.mk_cycle.proofs.Vocabulary.{and_le_l, bit_and}
 use Rattle.mk_core.proofs.WordBits.{bit_is_none, bit_is_one, zero_from_bits}
 

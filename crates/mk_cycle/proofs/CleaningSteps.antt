@@ -5,12 +5,13 @@ use Rattle.mk_cycle.proofs.Vocabulary.{is_pending_free, made, now_of, stands, st
 use Rattle.mk_cycle.proofs.Calm.{calm_done, calm_still, ends_none, frees_none, is_calm, stores_none}
 use Rattle.mk_cycle.proofs.KeptInParts.{free_then, gates_behind, gates_then, keeps_at_once, keeps_then}
 use Rattle.mk_cycle.proofs.{Allowed.{in_turn_before, on_table}, OwnSteps.{keeps_call, keeps_counts}}
-use Rattle.mk_laws.proofs.Vocabulary.{Config, Flight, IsHistory, List, Moment, None, PlacedAllocation, Seat, Steady}
-use Rattle.mk_laws.proofs.Vocabulary.{Step, Tally, Word, Words, World, ℕ, ap, arith, cases_eq, cases_lt, false}
-use Rattle.mk_laws.proofs.Vocabulary.{flight_of, freed_where_it_stands, get_or-set_other, get_or-set_same, inl, inr}
-use Rattle.mk_laws.proofs.Vocabulary.{length, map, progress, quarantine_word, refl, set-get_or, set_past, slice_index}
-use Rattle.mk_laws.proofs.Vocabulary.{slice_set, still, subst, sym, true, world_behind, [], ◌%◌, ◌++◌, ◌/◌, ◌<◌, ◌^◌}
-use Rattle.mk_laws.proofs.{Vocabulary.{◌∙◌, ◌∷◌, ◌≡◌}, LastEvents.Stands}
+use Rattle.mk_words.proofs.Below.Laws.Vocabulary.{Config, Flight, IsHistory, List, Moment, None, PlacedAllocation, Seat}
+use Rattle.mk_words.proofs.Below.Laws.Vocabulary.{Steady, Step, Tally, Word, Words, World, ℕ, ap, arith, cases_eq}
+use Rattle.mk_words.proofs.Below.Laws.Vocabulary.{cases_lt, false, flight_of, freed_where_it_stands, get_or-set_other}
+use Rattle.mk_words.proofs.Below.Laws.Vocabulary.{get_or-set_same, inl, inr, length, map, progress, quarantine_word}
+use Rattle.mk_words.proofs.Below.Laws.Vocabulary.{refl, set-get_or, set_past, slice_index, slice_set, still, subst, sym}
+use Rattle.mk_words.proofs.Below.Laws.Vocabulary.{true, world_behind, [], ◌%◌, ◌++◌, ◌/◌, ◌<◌, ◌^◌, ◌∙◌, ◌∷◌, ◌≡◌}
+use Rattle.mk_words.proofs.Below.Laws.LastEvents.{Stands}
 use Rattle.mk_cycle.specs.{Cleaning.HasTakenSnapshot, TurnKeeps.but_cleaned}
 
 pub cleans_nothing : (p : PassState) → Cleans p p

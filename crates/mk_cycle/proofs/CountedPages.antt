@@ -1,8 +1,8 @@
 -- What was released is counted page by page.
 use Rattle.std.proofs.{Common.count_ones, lemmas.Nat.ones_le_self}
-use Rattle.mk_laws.proofs.Vocabulary.{Words, ℕ, ap, arith, header_at, header_in, header_of, if◌then◌else◌}
-use Rattle.mk_laws.proofs.Vocabulary.{is_unmapped_header, quarantine_word, refl, slice_index, suc, without, words_under}
-use Rattle.mk_laws.proofs.Vocabulary.{zero, ◌*◌, ◌+◌, ◌/◌, ◌^◌, ◌∙◌, ◌≡◌}
+use Rattle.mk_words.proofs.Below.Laws.Vocabulary.{Words, ℕ, ap, arith, header_at, header_in, header_of, if◌then◌else◌}
+use Rattle.mk_words.proofs.Below.Laws.Vocabulary.{is_unmapped_header, quarantine_word, refl, slice_index, suc, without}
+use Rattle.mk_words.proofs.Below.Laws.Vocabulary.{words_under, zero, ◌*◌, ◌+◌, ◌/◌, ◌^◌, ◌∙◌, ◌≡◌}
 use Rattle.mk_cycle.proofs.Vocabulary.{GivesNothingBack, IsTurn, PassState, Released, SamePage, bit_and, held_below}
 use Rattle.mk_cycle.proofs.Vocabulary.{held_unmarked, now_of, released_below, released_on, words_unmarked}
 use Rattle.mk_cycle.proofs.{CleaningSteps.halves, GivingSteps.none_then, PageSteps.same_header, SumsBelow.sum_same}

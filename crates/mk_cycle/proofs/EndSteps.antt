@@ -1,7 +1,7 @@
 -- The `end` of a cycle.
 use Rattle.std.proofs.lemmas.List.Sums.{sum_by-append}
-use Rattle.mk_laws.proofs.Vocabulary.{Step, World, ℕ, ap, arith, ends, eq-eqb, refl, [], ◌%◌, ◌++◌, ◌+◌, ◌-◌, ◌<◌, ◌^◌}
-use Rattle.mk_laws.proofs.Vocabulary.{◌∷◌, ◌≡◌}
+use Rattle.mk_words.proofs.Below.Laws.Vocabulary.{Step, World, ℕ, ap, arith, ends, eq-eqb, refl, [], ◌%◌, ◌++◌, ◌+◌}
+use Rattle.mk_words.proofs.Below.Laws.Vocabulary.{◌-◌, ◌<◌, ◌^◌, ◌∷◌, ◌≡◌}
 use Rattle.mk_cycle.proofs.Vocabulary.{Acts, IsAtPhase, IsEnabledTo, IsFreeForCycle, IsGone, IsSettledPage, IsTurn}
 use Rattle.mk_cycle.proofs.Vocabulary.{KeepsGates, PassState, call_of, count_by-le-length, done_of, event_of}
 use Rattle.mk_cycle.proofs.Vocabulary.{full_answers, made, now_of, steady_of, world_at, world_of}

@@ -1,7 +1,7 @@
 -- All of a finish: what was released is given back, the cycle ends, and the tallies are set.
-use Rattle.mk_laws.proofs.Vocabulary.{Config, PlacedAllocation, Steady, Step, TalliesAreTidy, Words, ℕ, all_below-at}
-use Rattle.mk_laws.proofs.Vocabulary.{ap, arith, ends, has_place, in_a_word, is_held, map, not, refl, subst, sym, true}
-use Rattle.mk_laws.proofs.Vocabulary.{with_released, [], ◌+◌, ◌<◌, ◌∙◌, ◌≡◌}
+use Rattle.mk_words.proofs.Below.Laws.Vocabulary.{Config, PlacedAllocation, Steady, Step, TalliesAreTidy, Words, ℕ}
+use Rattle.mk_words.proofs.Below.Laws.Vocabulary.{all_below-at, ap, arith, ends, has_place, in_a_word, is_held, map}
+use Rattle.mk_words.proofs.Below.Laws.Vocabulary.{not, refl, subst, sym, true, with_released, [], ◌+◌, ◌<◌, ◌∙◌, ◌≡◌}
 use Rattle.mk_cycle.proofs.Vocabulary.{Acts, CountsAreLeft, Done, HasReleased, HoldsFewer, IsAtPhase, IsFreeForCycle}
 use Rattle.mk_cycle.proofs.Vocabulary.{IsTurn, KeepsCall, KeepsGates, PassState, Released, done_of, full_answers}
 use Rattle.mk_cycle.proofs.Vocabulary.{is_pending_free, now_of, releases, steady_of, world_of}

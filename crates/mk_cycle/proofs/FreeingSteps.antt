@@ -1,11 +1,13 @@
 -- Cells are given back step by step.
-use Rattle.mk_laws.proofs.Vocabulary.{AreOfOthers, Bool, Config, Event, Flight, Holding, IsHistory, List, Moment}
-use Rattle.mk_laws.proofs.Vocabulary.{PlacedAllocation, Seat, Steady, Step, World, ℕ, ap, arith, cases_eq, cases_lt}
-use Rattle.mk_laws.proofs.Vocabulary.{earlier_part_is_history, eq-eqb, eqb-false, false, flight_of, get_or-set_other}
-use Rattle.mk_laws.proofs.Vocabulary.{get_or-set_same, inl, inr, is_held, is_phase, is_run_gone, length, ne_eqb}
-use Rattle.mk_laws.proofs.Vocabulary.{progress, refl, set_past, slice_index, slice_set, still, subst, sym, true}
-use Rattle.mk_laws.proofs.{Vocabulary.{world_behind, ◌++◌, ◌∙◌, ◌≡◌, ◌≢◌}, ProtocolFrames.others_leave}
-use Rattle.mk_laws.proofs.RunsStill.{HolderFinds}
+use Rattle.mk_words.proofs.Below.Laws.Vocabulary.{AreOfOthers, Bool, Config, Event, Flight, Holding, IsHistory, List}
+use Rattle.mk_words.proofs.Below.Laws.Vocabulary.{Moment, PlacedAllocation, Seat, Steady, Step, World, ℕ, ap, arith}
+use Rattle.mk_words.proofs.Below.Laws.Vocabulary.{cases_eq, cases_lt, earlier_part_is_history, eq-eqb, eqb-false, false}
+use Rattle.mk_words.proofs.Below.Laws.Vocabulary.{flight_of, get_or-set_other, get_or-set_same, inl, inr, is_held}
+use Rattle.mk_words.proofs.Below.Laws.Vocabulary.{is_phase, is_run_gone, length, ne_eqb, progress, refl, set_past}
+use Rattle.mk_words.proofs.Below.Laws.Vocabulary.{slice_index, slice_set, still, subst, sym, true, world_behind, ◌++◌}
+use Rattle.mk_words.proofs.{Below.Laws.Vocabulary.{◌∙◌, ◌≡◌, ◌≢◌}, Below.Laws.ProtocolFrames.others_leave}
+use Rattle.mk_words.proofs.{Below.Laws.RunsStill.HolderFinds, Doing.{none_own, others_are_so}}
+use Rattle.mk_words.specs.Doing.{Does, are_of}
 use Rattle.mk_cycle.proofs.Vocabulary.{Acts, Frees, IsAtPhase, IsFreeForCycle, IsTurn, IsTurnAt, LeavesTurn, PassState}
 use Rattle.mk_cycle.proofs.Vocabulary.{WordsState, does_nothing, does_step, does_then, event_of, holder_finds}
 use Rattle.mk_cycle.proofs.Vocabulary.{holding_behind, is_giving_back, is_pending_free, made, now_of, steady_of}
@@ -14,7 +16,6 @@ use Rattle.mk_cycle.proofs.{Calm.stores_none, KeptInParts.{free_then, keeps_at_o
 use Rattle.mk_cycle.proofs.{OwnSteps.{done_in, keeps_call, keeps_counts}, CleaningSteps.{quar_frees_none, zero_stays}}
 use Rattle.mk_core.specs.Growing.{Finding}
 use Rattle.mk_cycle.specs.Freeing.{IsUnmapped, but_pages}
-use Rattle.mk_turns.{proofs.Doing.{none_own, others_are_so}, specs.Doing.{Does, are_of}}
 use Rattle.mk_words.proofs.Seats.{others_own}
 
 pub frees_nothing : (p : PassState) → Frees p p

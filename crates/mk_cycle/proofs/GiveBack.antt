@@ -1,7 +1,7 @@
 -- Giving back: the used bits, and then the quarantine bits.
-use Rattle.mk_laws.proofs.Vocabulary.{List, Step, ℕ, and_parts, ap, arith, gives_back, has_bit, header_at, header_in}
-use Rattle.mk_laws.proofs.Vocabulary.{quarantine_word, slice_index, sym, true, used_at, without, words_under, ◌%◌, ◌*◌}
-use Rattle.mk_laws.proofs.Vocabulary.{◌+◌, ◌-◌, ◌/◌, ◌<◌, ◌^◌, ◌∙◌, ◌≡◌}
+use Rattle.mk_words.proofs.Below.Laws.Vocabulary.{List, Step, ℕ, and_parts, ap, arith, gives_back, has_bit, header_at}
+use Rattle.mk_words.proofs.Below.Laws.Vocabulary.{header_in, quarantine_word, slice_index, sym, true, used_at, without}
+use Rattle.mk_words.proofs.Below.Laws.Vocabulary.{words_under, ◌%◌, ◌*◌, ◌+◌, ◌-◌, ◌/◌, ◌<◌, ◌^◌, ◌∙◌, ◌≡◌}
 use Rattle.mk_cycle.proofs.Vocabulary.{Acts, FreesPage, GivesNothingBack, IsTurn, IsTurnAt, IsZero, PageState}
 use Rattle.mk_cycle.proofs.Vocabulary.{PassState, WordsState, and_le_l, bit_and, drops, left_unmarked, now_of}
 use Rattle.mk_cycle.proofs.{Vocabulary.page_state, CellBits.{has_bit_and, high_part, low_part, none_in_both}}

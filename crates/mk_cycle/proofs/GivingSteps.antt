@@ -6,17 +6,19 @@ use Rattle.mk_cycle.proofs.{Vocabulary.{world_at, world_of}, Allowed.{in_turn_af
 use Rattle.mk_cycle.proofs.{Allowed.protocol, FreeingSteps.{FreesAt, frees_calmly, frees_nothing, frees_step}}
 use Rattle.mk_cycle.proofs.FreeingSteps.{frees_then, leaves_words, quar_gives, still_unmapped, wipe_gives}
 use Rattle.mk_cycle.{proofs.{Calm.no_target, KeptInParts.same_config, MayAct.may_act}, specs.Freeing.{IsUnmapped}}
-use Rattle.mk_laws.proofs.Vocabulary.{AreOfPages, Bool, Cell, Config, Flight, List, MayHold, None, OfFreedRun, OfMapped}
-use Rattle.mk_laws.proofs.Vocabulary.{OfReleased, Option, Page, RunPages, Some, Steady, Step, Word, Words, World, ℕ}
-use Rattle.mk_laws.proofs.Vocabulary.{address_of, all_below-at, and_parts, ap, arith, carves, cases_lt, empties, eq-eqb}
-use Rattle.mk_laws.proofs.Vocabulary.{eqb-true, free_page, frees, get_or-set_other, get_or-set_same, get_or_past}
-use Rattle.mk_laws.proofs.Vocabulary.{gives_back, header_at, if◌then◌else◌, inl, inr, is_released_cell, is_run_cell}
-use Rattle.mk_laws.proofs.Vocabulary.{is_run_gone, is_run_unmapped, is_some_and, is_used_once, leb-true, length, lt-ltb}
-use Rattle.mk_laws.proofs.Vocabulary.{ltb-true, nat_le, nat_lt, not, object_made, others_are_held, phase_of, place_now}
-use Rattle.mk_laws.proofs.Vocabulary.{pointed_cell, refl, set_past, slice_index, slice_index_or, slice_set, subst, sym}
-use Rattle.mk_laws.proofs.Vocabulary.{takes_cell, target, true, unmaps, used_at, words_are_zero, world_behind}
-use Rattle.mk_laws.proofs.Vocabulary.{zero_scene_of, ◌%◌, ◌&&◌, ◌*◌, ◌++◌, ◌+◌, ◌-◌, ◌/◌, ◌<◌, ◌==◌, ◌^◌, ◌||◌, ◌∙◌}
-use Rattle.mk_laws.proofs.Vocabulary.{◌≡◌, ◌≢◌}
+use Rattle.mk_words.proofs.Below.Laws.Vocabulary.{AreOfPages, Bool, Cell, Config, Flight, List, MayHold, None}
+use Rattle.mk_words.proofs.Below.Laws.Vocabulary.{OfFreedRun, OfMapped, OfReleased, Option, Page, RunPages, Some}
+use Rattle.mk_words.proofs.Below.Laws.Vocabulary.{Steady, Step, Word, Words, World, ℕ, address_of, all_below-at}
+use Rattle.mk_words.proofs.Below.Laws.Vocabulary.{and_parts, ap, arith, carves, cases_lt, empties, eq-eqb, eqb-true}
+use Rattle.mk_words.proofs.Below.Laws.Vocabulary.{free_page, frees, get_or-set_other, get_or-set_same, get_or_past}
+use Rattle.mk_words.proofs.Below.Laws.Vocabulary.{gives_back, header_at, if◌then◌else◌, inl, inr, is_released_cell}
+use Rattle.mk_words.proofs.Below.Laws.Vocabulary.{is_run_cell, is_run_gone, is_run_unmapped, is_some_and, is_used_once}
+use Rattle.mk_words.proofs.Below.Laws.Vocabulary.{leb-true, length, lt-ltb, ltb-true, nat_le, nat_lt, not, object_made}
+use Rattle.mk_words.proofs.Below.Laws.Vocabulary.{others_are_held, phase_of, place_now, pointed_cell, refl, set_past}
+use Rattle.mk_words.proofs.Below.Laws.Vocabulary.{slice_index, slice_index_or, slice_set, subst, sym, takes_cell}
+use Rattle.mk_words.proofs.Below.Laws.Vocabulary.{target, true, unmaps, used_at, words_are_zero, world_behind}
+use Rattle.mk_words.proofs.Below.Laws.Vocabulary.{zero_scene_of, ◌%◌, ◌&&◌, ◌*◌, ◌++◌, ◌+◌, ◌-◌, ◌/◌, ◌<◌, ◌==◌, ◌^◌}
+use Rattle.mk_words.proofs.Below.Laws.Vocabulary.{◌||◌, ◌∙◌, ◌≡◌, ◌≢◌}
 use Rattle.mk_core.specs.{Cells.is_in_run, TurnConditions.{is_in_gone_run, takes_snapshot}, Words.page_of}
 use Rattle.mk_words.specs.TurnSteps.{turn_stays}
 

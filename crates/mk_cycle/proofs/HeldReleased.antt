@@ -1,16 +1,18 @@
 -- What a `release` releases is held no longer: of that, the small allocations were held.
 use Rattle.std.proofs.Math.Bool.{and-false}
-use Rattle.mk_laws.proofs.Vocabulary.{Bool, Config, Event, Header, IsHistory, List, Object, Option, PlacedAllocation}
-use Rattle.mk_laws.proofs.Vocabulary.{ShowsPart, Step, Storage, Words, ℕ, address_of, ap, append-nil, arith, cases_Bool}
-use Rattle.mk_laws.proofs.Vocabulary.{cell_of_allocation, cells_begin, cond, false, false_from_ne_true, get_or}
-use Rattle.mk_laws.proofs.Vocabulary.{header_at, header_in, header_shows, if◌then◌else◌, inl, inr, is_large}
-use Rattle.mk_laws.proofs.Vocabulary.{is_left_unmarked, is_mapped, is_resident_page, is_run_gone, is_small_object}
-use Rattle.mk_laws.proofs.Vocabulary.{is_some_and, is_unmapped_header, kinds_of, left, map, never_granted, not}
-use Rattle.mk_laws.proofs.Vocabulary.{object_placed, pages_some, phase_of, placed_at, pointed_cell, refl, run_begins}
-use Rattle.mk_laws.proofs.Vocabulary.{storage_of, storage_words, subst, suc, sym, true, true≢false, typed_size}
-use Rattle.mk_laws.proofs.Vocabulary.{use_under, used_at, with_released, words_under, words_within, zero, [], ◌&&◌, ◌*◌}
-use Rattle.mk_laws.proofs.{Vocabulary.{◌+◌, ◌/◌, ◌||◌, ◌∙◌, ◌∷◌, ◌≡◌}, Settled.{gone_is_unmapped, unmapped_run}}
-use Rattle.mk_laws.proofs.{ForImages.gone_is, UnmappedRuns.unmapped_runs_take_no_memory}
+use Rattle.mk_words.proofs.Below.Laws.Vocabulary.{Bool, Config, Event, Header, IsHistory, List, Object, Option}
+use Rattle.mk_words.proofs.Below.Laws.Vocabulary.{PlacedAllocation, ShowsPart, Step, Storage, Words, ℕ, address_of, ap}
+use Rattle.mk_words.proofs.Below.Laws.Vocabulary.{append-nil, arith, cases_Bool, cell_of_allocation, cells_begin, cond}
+use Rattle.mk_words.proofs.Below.Laws.Vocabulary.{false, false_from_ne_true, get_or, header_at, header_in, header_shows}
+use Rattle.mk_words.proofs.Below.Laws.Vocabulary.{if◌then◌else◌, inl, inr, is_large, is_left_unmarked, is_mapped}
+use Rattle.mk_words.proofs.Below.Laws.Vocabulary.{is_resident_page, is_run_gone, is_small_object, is_some_and}
+use Rattle.mk_words.proofs.Below.Laws.Vocabulary.{is_unmapped_header, kinds_of, left, map, never_granted, not}
+use Rattle.mk_words.proofs.Below.Laws.Vocabulary.{object_placed, pages_some, phase_of, placed_at, pointed_cell, refl}
+use Rattle.mk_words.proofs.Below.Laws.Vocabulary.{run_begins, storage_of, storage_words, subst, suc, sym, true}
+use Rattle.mk_words.proofs.Below.Laws.Vocabulary.{true≢false, typed_size, use_under, used_at, with_released}
+use Rattle.mk_words.proofs.Below.Laws.Vocabulary.{words_under, words_within, zero, [], ◌&&◌, ◌*◌, ◌+◌, ◌/◌, ◌||◌, ◌∙◌}
+use Rattle.mk_words.proofs.{Below.Laws.Vocabulary.{◌∷◌, ◌≡◌}, Below.Laws.Settled.{gone_is_unmapped, unmapped_run}}
+use Rattle.mk_words.proofs.{Below.Laws.ForImages.gone_is, Below.Laws.UnmappedRuns.unmapped_runs_take_no_memory}
 use Rattle.mk_cycle.proofs.Vocabulary.{Acts, HoldsFewer, IsAtPhase, IsGone, IsTurn, PassState, allocations_stand}
 use Rattle.mk_cycle.proofs.Vocabulary.{cells_unmarked, held_below, held_by_allocations, left_unmarked, made, now_of}
 use Rattle.mk_cycle.proofs.Vocabulary.{sum_below, sum_by, sum_by-cons, world_of}

@@ -1,8 +1,9 @@
 -- Gates are held one after the other.
-use Rattle.mk_laws.proofs.Vocabulary.{Bool, List, Step, Word, World, ℕ, and_from, ap, arith, cases_eq, cases_lt, eq-eqb}
-use Rattle.mk_laws.proofs.Vocabulary.{eqb-true, false, get_or-set_other, get_or-set_same, if◌then◌else◌, inl, inr}
-use Rattle.mk_laws.proofs.Vocabulary.{is_held, is_number_of, length, lt-ltb, ne_eqb, not, others_are_held, refl}
-use Rattle.mk_laws.proofs.Vocabulary.{set_past, slice_index, slice_set, sym, true, ◌<◌, ◌==◌, ◌||◌, ◌∙◌, ◌≡◌}
+use Rattle.mk_words.proofs.Below.Laws.Vocabulary.{Bool, List, Step, Word, World, ℕ, and_from, ap, arith, cases_eq}
+use Rattle.mk_words.proofs.Below.Laws.Vocabulary.{cases_lt, eq-eqb, eqb-true, false, get_or-set_other, get_or-set_same}
+use Rattle.mk_words.proofs.Below.Laws.Vocabulary.{if◌then◌else◌, inl, inr, is_held, is_number_of, length, lt-ltb}
+use Rattle.mk_words.proofs.Below.Laws.Vocabulary.{ne_eqb, not, others_are_held, refl, set_past, slice_index, slice_set}
+use Rattle.mk_words.proofs.Below.Laws.Vocabulary.{sym, true, ◌<◌, ◌==◌, ◌||◌, ◌∙◌, ◌≡◌}
 use Rattle.mk_cycle.proofs.Vocabulary.{Acts, HoldsGates, IsEnabledTo, IsFreeForCycle, IsTurn, PassState, WordsState}
 use Rattle.mk_cycle.proofs.Vocabulary.{does_nothing, does_step, does_then, holds_gates, now_of, world_at}
 use Rattle.mk_cycle.proofs.{Allowed.in_turn_before, Allowed.protocol, BeginSteps.all_from, CleaningSteps.calm_keeps}

@@ -1,6 +1,6 @@
 -- Where an event of a list in two parts stands.
 use Rattle.std.proofs.Common.{⊎_elim}
-use Rattle.mk_laws.proofs.Vocabulary.{Event, List, ap, inl, inr, refl, sym, [], ◌++◌, ◌∙◌, ◌∷◌, ◌≡◌, ◌⊎◌}
+use Rattle.mk_words.proofs.Below.Laws.Vocabulary.{Event, List, ap, inl, inr, refl, sym, [], ◌++◌, ◌∙◌, ◌∷◌, ◌≡◌, ◌⊎◌}
 
 -- It stands in the first, or in the second.
 

@@ -1,6 +1,7 @@
 -- What is kept in parts is kept.
-use Rattle.mk_laws.proofs.Vocabulary.{Config, Steady, Step, World, ℕ, ap, arith, cases_eq, eq-eqb, inl, inr, is_held}
-use Rattle.mk_laws.proofs.Vocabulary.{ne_eqb, refl, slice_index, subst, sym, world_behind, ◌<◌, ◌==◌, ◌∙◌, ◌≡◌, ◌≢◌}
+use Rattle.mk_words.proofs.Below.Laws.Vocabulary.{Config, Steady, Step, World, ℕ, ap, arith, cases_eq, eq-eqb, inl, inr}
+use Rattle.mk_words.proofs.Below.Laws.Vocabulary.{is_held, ne_eqb, refl, slice_index, subst, sym, world_behind, ◌<◌}
+use Rattle.mk_words.proofs.Below.Laws.Vocabulary.{◌==◌, ◌∙◌, ◌≡◌, ◌≢◌}
 use Rattle.mk_cycle.proofs.Vocabulary.{Acts, Done, IsFreeForCycle, KeepsCall, KeepsGates, LeavesTurn, PassState}
 use Rattle.mk_cycle.proofs.Vocabulary.{event_of, world_at}
 

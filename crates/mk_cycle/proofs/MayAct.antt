@@ -1,9 +1,11 @@
 -- A turn that is free for a cycle may make every step of any holder whose conditions on words are met.
-use Rattle.mk_laws.proofs.Vocabulary.{AreAdmitted, Bool, Config, Decided, Group, Holds, IsHistory, List, MarkerState}
-use Rattle.mk_laws.proofs.Vocabulary.{Moment, Op, Protocol, Seat, Stage, Step, ℕ, arith, asked, comes_next, eq-eqb}
-use Rattle.mk_laws.proofs.Vocabulary.{false, flight_of, has_gates, has_phase, holder_may, is_in_range, is_of_turn}
-use Rattle.mk_laws.proofs.Vocabulary.{is_open_to, is_under_turn, lt-ltb, marker_may, not, phase_of, seat_exists, subst}
-use Rattle.mk_laws.{proofs.Vocabulary.{sym, true, ◌&&◌, ◌≡◌}, specs.Protocol.{has_stage}}
+use Rattle.mk_words.proofs.Below.Laws.Vocabulary.{AreAdmitted, Bool, Config, Decided, Group, Holds, IsHistory, List}
+use Rattle.mk_words.proofs.Below.Laws.Vocabulary.{MarkerState, Moment, Op, Protocol, Seat, Stage, Step, ℕ, arith, asked}
+use Rattle.mk_words.proofs.Below.Laws.Vocabulary.{comes_next, eq-eqb, false, flight_of, has_gates, has_phase}
+use Rattle.mk_words.proofs.Below.Laws.Vocabulary.{holder_may, is_in_range, is_of_turn, is_open_to, is_under_turn}
+use Rattle.mk_words.proofs.Below.Laws.Vocabulary.{lt-ltb, marker_may, not, phase_of, seat_exists, subst, sym, true}
+use Rattle.mk_words.proofs.Below.Laws.Vocabulary.{◌&&◌, ◌≡◌}
+use Rattle.mk_words.specs.Below.Laws.Protocol.{has_stage}
 use Rattle.mk_cycle.proofs.Vocabulary.{IsEnabledTo, PassState, call_of, event_of, is_pending_free, now_of}
 use Rattle.mk_cycle.proofs.{Calm.{calm_still, is_calm}, OwnSteps.{no_more_calls, undecided}}
 use Rattle.mk_core.{proofs.Conditions.{meets_enabled}, specs.{History.never_first, Readings.is_idle}}

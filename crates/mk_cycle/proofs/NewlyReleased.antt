@@ -1,7 +1,8 @@
 -- Lists of allocations after a `release`: what is new there, counted and weighed.
 use Rattle.std.proofs.Common.{filter}
-use Rattle.mk_laws.proofs.Vocabulary.{Bool, List, PlacedAllocation, ℕ, ap, arith, cond, false, get_or, if◌then◌else◌}
-use Rattle.mk_laws.proofs.Vocabulary.{length, map, not, refl, suc, true, zero, [], ◌&&◌, ◌+◌, ◌∷◌, ◌≡◌}
+use Rattle.mk_words.proofs.Below.Laws.Vocabulary.{Bool, List, PlacedAllocation, ℕ, ap, arith, cond, false, get_or}
+use Rattle.mk_words.proofs.Below.Laws.Vocabulary.{if◌then◌else◌, length, map, not, refl, suc, true, zero, [], ◌&&◌, ◌+◌}
+use Rattle.mk_words.proofs.Below.Laws.Vocabulary.{◌∷◌, ◌≡◌}
 use Rattle.mk_cycle.proofs.Vocabulary.{count_by, newly_released, releases, sum_by, sum_by-cons}
 use Rattle.mk_cycle.specs.FinishCycle.{is_newly_released}
 

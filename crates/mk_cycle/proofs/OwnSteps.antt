@@ -1,15 +1,16 @@
 -- What a step of the turn's holder keeps, of whatever kind.
 use Rattle.std.proofs.lemmas.List.Sums.{sum_by-append}
-use Rattle.mk_laws.proofs.Vocabulary.{Caller, Config, Event, Holding, Holds, Host, IsHistory, List, Marker, Moment}
-use Rattle.mk_laws.proofs.Vocabulary.{None, Option, Progress, Protocol, RunPages, Seat, Some, Steady, Step, World, ℕ}
-use Rattle.mk_laws.proofs.Vocabulary.{answer_decided, ap, append-nil, arith, at_rest, calls, false, flight_of}
-use Rattle.mk_laws.proofs.Vocabulary.{get_or-set_same, is_end, is_heap_store, is_run_gone, left, length, progress, refl}
-use Rattle.mk_laws.proofs.Vocabulary.{still, subst, sym, true, true≢false, world_behind, [], ◌++◌, ◌<◌, ◌∙◌, ◌∷◌, ◌≡◌}
+use Rattle.mk_words.proofs.Below.Laws.Vocabulary.{Caller, Config, Event, Holding, Holds, Host, IsHistory, List, Marker}
+use Rattle.mk_words.proofs.Below.Laws.Vocabulary.{Moment, None, Option, Progress, Protocol, RunPages, Seat, Some}
+use Rattle.mk_words.proofs.Below.Laws.Vocabulary.{Steady, Step, World, ℕ, answer_decided, ap, append-nil, arith}
+use Rattle.mk_words.proofs.Below.Laws.Vocabulary.{at_rest, calls, false, flight_of, get_or-set_same, is_end}
+use Rattle.mk_words.proofs.Below.Laws.Vocabulary.{is_heap_store, is_run_gone, left, length, progress, refl, still}
+use Rattle.mk_words.proofs.Below.Laws.Vocabulary.{subst, sym, true, true≢false, world_behind, [], ◌++◌, ◌<◌, ◌∙◌, ◌∷◌}
+use Rattle.mk_words.proofs.{Below.Laws.Vocabulary.◌≡◌, Below.Laws.RunWords.gone_behind}
 use Rattle.mk_cycle.proofs.Vocabulary.{Acts, CountsAreLeft, Done, Has, IsGone, KeepsCall, PassState, call_of, event_of}
 use Rattle.mk_cycle.proofs.Vocabulary.{holder_finds, holding_behind, made, now_of, stands, steady_of, world_at}
 use Rattle.mk_cycle.proofs.Vocabulary.{world_of}
 use Rattle.mk_core.{proofs.Histories.calls_more, specs.Effects.moment_behind}
-use Rattle.mk_laws.proofs.RunWords.{gone_behind}
 use Rattle.mk_words.proofs.Made.{Made}
 
 -- what a holding shows of what was done

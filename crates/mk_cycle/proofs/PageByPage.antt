@@ -1,9 +1,11 @@
 -- Pages are settled one by one, and pages without freed cells are passed over: what is known of those before, and of
 -- those still to come, goes on.
 use Rattle.std.proofs.Common.{le-ltb, ltb-false}
-use Rattle.mk_laws.proofs.Vocabulary.{Free, Header, Option, Some, Words, ℕ, and_from, ap, arith, cases_lt, eq-eqb}
-use Rattle.mk_laws.proofs.Vocabulary.{false, header_at, header_in, header_of, inl, inr, lt-ltb, not, or_parts, refl}
-use Rattle.mk_laws.proofs.Vocabulary.{run_count, slice_index, sym, use_under, used_at, ◌+◌, ◌<◌, ◌∙◌, ◌≡◌, ◌≤◌}
+use Rattle.mk_words.proofs.Below.Laws.Vocabulary.{Free, Header, Option, Some, Words, ℕ, and_from, ap, arith, cases_lt}
+use Rattle.mk_words.proofs.Below.Laws.Vocabulary.{eq-eqb, false, header_at, header_in, header_of, inl, inr, lt-ltb, not}
+use Rattle.mk_words.proofs.Below.Laws.Vocabulary.{or_parts, refl, run_count, slice_index, sym, use_under, used_at, ◌+◌}
+use Rattle.mk_words.proofs.Below.Laws.Vocabulary.{◌<◌, ◌∙◌, ◌≡◌, ◌≤◌}
+use Rattle.mk_books.specs.Members.{IsNext, has_freed_cells, is_in_use}
 use Rattle.mk_cycle.proofs.Vocabulary.{Frees, FreesPage, HasFreeCells, IsOccupied, IsSettledPage, IsTurn, PassState}
 use Rattle.mk_cycle.proofs.Vocabulary.{Released, SamePage, below_more, held_below, held_unmarked, now_of}
 use Rattle.mk_cycle.proofs.{Vocabulary.{released_below, released_on}, CountedPages.{counted_more, held_more, held_same}}
@@ -11,7 +13,6 @@ use Rattle.mk_cycle.{proofs.CountedPages.{none_held, nothing_on, same_released, 
 use Rattle.mk_cycle.proofs.SettledPages.{free_cells_stay, head_elsewhere, no_cells, no_snapshot, none_left}
 use Rattle.mk_cycle.proofs.{SettledPages.{same_occupied, still_settled}, FreeingSteps.{frees_nothing, frees_then}}
 use Rattle.mk_geom.{proofs.HeaderLemmas.{word_of-header_of}, specs.PageUses.{is_free_page}}
-use Rattle.mk_page_map.specs.Members.{IsNext, has_freed_cells, is_in_use}
 use Rattle.mk_cycle.specs.Freeing.{may_be_unsettled}
 
 -- The pages below this one are settled and counted, and the others are as they were; those that also aren't before the

@@ -1,7 +1,8 @@
 -- A page's released cells are given back.
-use Rattle.mk_laws.proofs.Vocabulary.{Bool, List, Words, ℕ, and_from, ap, arith, cell_words, eq-eqb, gives_back}
-use Rattle.mk_laws.proofs.Vocabulary.{has_bit, header_at, header_in, not, slice_index, subst, sym, true, used_at}
-use Rattle.mk_laws.proofs.Vocabulary.{without, words_under, ◌*◌, ◌+◌, ◌-◌, ◌<◌, ◌||◌, ◌∙◌, ◌≡◌}
+use Rattle.mk_words.proofs.Below.Laws.Vocabulary.{Bool, List, Words, ℕ, and_from, ap, arith, cell_words, eq-eqb}
+use Rattle.mk_words.proofs.Below.Laws.Vocabulary.{gives_back, has_bit, header_at, header_in, not, slice_index, subst}
+use Rattle.mk_words.proofs.Below.Laws.Vocabulary.{sym, true, used_at, without, words_under, ◌*◌, ◌+◌, ◌-◌, ◌<◌, ◌||◌}
+use Rattle.mk_words.proofs.Below.Laws.Vocabulary.{◌∙◌, ◌≡◌}
 use Rattle.mk_cycle.proofs.Vocabulary.{FreesPage, GivesNothingBack, PageState, PassState, SamePage, bit_and, drops}
 use Rattle.mk_cycle.proofs.{Vocabulary.{left_unmarked, now_of}, CellBits.{left_within, none_beyond, none_of_itself}}
 use Rattle.mk_cycle.proofs.{CellBits.{part_within, rest_away, taken_away}, BeginSteps.all_from, FreeingSteps.frees_then}

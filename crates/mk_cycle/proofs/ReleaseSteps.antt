@@ -1,6 +1,7 @@
 -- The `close` and the `release` of a cycle.
-use Rattle.mk_laws.proofs.Vocabulary.{Config, Steady, Step, Words, World, ℕ, ap, arith, fresh_words_of, map, phase_of}
-use Rattle.mk_laws.proofs.Vocabulary.{refl, subst, with_released, [], ◌%◌, ◌+◌, ◌<◌, ◌^◌, ◌∙◌, ◌≡◌}
+use Rattle.mk_words.proofs.Below.Laws.Vocabulary.{Config, Steady, Step, Words, World, ℕ, ap, arith, fresh_words_of, map}
+use Rattle.mk_words.proofs.Below.Laws.Vocabulary.{phase_of, refl, subst, with_released, [], ◌%◌, ◌+◌, ◌<◌, ◌^◌, ◌∙◌}
+use Rattle.mk_words.proofs.Below.Laws.Vocabulary.{◌≡◌}
 use Rattle.mk_cycle.proofs.Vocabulary.{Acts, IsAtPhase, IsFreeForCycle, IsTurn, LeavesTurn, PassState}
 use Rattle.mk_cycle.proofs.Vocabulary.{count_by-le-length, made, steady_of, world_at, world_of}
 use Rattle.mk_cycle.proofs.{Allowed.protocol, BeginSteps.counts_then, CleaningSteps.calm_keeps, KeptInParts.calls_then}

@@ -3,19 +3,21 @@ use Rattle.std.proofs.Math.Bool.{and-false}
 use Rattle.mk_cycle.proofs.Vocabulary.{Acts, AreFreeCells, HasFreeCells, IsAtPhase, IsGone, IsOccupied, IsTurn}
 use Rattle.mk_cycle.proofs.Vocabulary.{PassState, allocations_stand, holder_finds, left_unmarked, made, now_of, stands}
 use Rattle.mk_cycle.{proofs.Vocabulary.{world_at}, specs.Freeing.{is_occupied_page}}
-use Rattle.mk_laws.proofs.Vocabulary.{Bool, Config, Event, Header, InPlot, IsFreedCell, IsHistory, IsWordOf}
-use Rattle.mk_laws.proofs.Vocabulary.{IsWordOfMapped, List, Object, Option, PlacedAllocation, Placing, ShowsPart}
-use Rattle.mk_laws.proofs.Vocabulary.{Steady, Step, World, ℕ, and_parts, ap, arith, cases_eq, cells_begin, changed_at}
-use Rattle.mk_laws.proofs.Vocabulary.{eq-eqb, false, has_bit, has_bit_without, has_place, head_page, header_at}
-use Rattle.mk_laws.proofs.Vocabulary.{header_in, header_shows, inl, inr, is_large, is_mapped, is_phase, is_run_gone}
-use Rattle.mk_laws.proofs.Vocabulary.{is_small_object, is_unmapped_header, kinds_of, large_is_not_small, map, ne_eqb}
-use Rattle.mk_laws.proofs.Vocabulary.{not, object_placed, or_right, pages_made, pages_some, phase_of, placed_at}
-use Rattle.mk_laws.proofs.Vocabulary.{plot_of, refl, released_where_left, slice_index, storage_of, subst, sym, true}
-use Rattle.mk_laws.proofs.Vocabulary.{true≢false, typed_size, used_at, with_released, words_under, ◌&&◌, ◌*◌, ◌++◌, ◌+◌}
-use Rattle.mk_laws.proofs.{Vocabulary.{◌/◌, ◌<◌, ◌==◌, ◌||◌, ◌∙◌, ◌≡◌}, FreeWords.unmapped_words_are_zero}
-use Rattle.mk_laws.proofs.{InvariantHistories.allocations_are_disjoint, MappedWords.mapped_stays}
+use Rattle.mk_words.proofs.Below.Laws.Vocabulary.{Bool, Config, Event, Header, InPlot, IsFreedCell, IsHistory, IsWordOf}
+use Rattle.mk_words.proofs.Below.Laws.Vocabulary.{IsWordOfMapped, List, Object, Option, PlacedAllocation, Placing}
+use Rattle.mk_words.proofs.Below.Laws.Vocabulary.{ShowsPart, Steady, Step, World, ℕ, and_parts, ap, arith, cases_eq}
+use Rattle.mk_words.proofs.Below.Laws.Vocabulary.{cells_begin, changed_at, eq-eqb, false, has_bit, has_bit_without}
+use Rattle.mk_words.proofs.Below.Laws.Vocabulary.{has_place, head_page, header_at, header_in, header_shows, inl, inr}
+use Rattle.mk_words.proofs.Below.Laws.Vocabulary.{is_large, is_mapped, is_phase, is_run_gone, is_small_object}
+use Rattle.mk_words.proofs.Below.Laws.Vocabulary.{is_unmapped_header, kinds_of, large_is_not_small, map, ne_eqb, not}
+use Rattle.mk_words.proofs.Below.Laws.Vocabulary.{object_placed, or_right, pages_made, pages_some, phase_of, placed_at}
+use Rattle.mk_words.proofs.Below.Laws.Vocabulary.{plot_of, refl, released_where_left, slice_index, storage_of, subst}
+use Rattle.mk_words.proofs.Below.Laws.Vocabulary.{sym, true, true≢false, typed_size, used_at, with_released}
+use Rattle.mk_words.proofs.Below.Laws.Vocabulary.{words_under, ◌&&◌, ◌*◌, ◌++◌, ◌+◌, ◌/◌, ◌<◌, ◌==◌, ◌||◌, ◌∙◌, ◌≡◌}
+use Rattle.mk_words.proofs.Below.Laws.FreeWords.{unmapped_words_are_zero}
+use Rattle.mk_words.proofs.{Below.Laws.InvariantHistories.allocations_are_disjoint, Below.Laws.MappedWords.mapped_stays}
+use Rattle.mk_words.specs.Below.Laws.FreeWords.{IsOfNoneMapped}
 use Rattle.mk_core.proofs.StandingAllocations.{placed_cell}
-use Rattle.mk_laws.specs.FreeWords.{IsOfNoneMapped}
 
 pub plus_zero : (n : ℕ) → n + 0 ≡ n
 plus_zero n = omega arith

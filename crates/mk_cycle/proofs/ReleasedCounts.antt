@@ -1,11 +1,12 @@
 -- The words of the pages after a `release` say what it released.
-use Rattle.mk_laws.proofs.Vocabulary.{Bool, Cell, Config, Event, IsHistory, List, PlacedAllocation, Steady, Step, Words}
-use Rattle.mk_laws.proofs.Vocabulary.{World, ℕ, and_from, and_parts, ap, arith, cell_of_allocation, cells_begin, cond}
-use Rattle.mk_laws.proofs.Vocabulary.{false, fresh_words_of, has_bit, has_bit_of, has_bit_without, header_in}
-use Rattle.mk_laws.proofs.Vocabulary.{is_cycling, is_large, is_mapped, is_quarantined, kinds_of, left, length, map}
-use Rattle.mk_laws.proofs.Vocabulary.{never_granted, not, not-true, phase_of, placed_at, refl, released_where_left}
-use Rattle.mk_laws.proofs.Vocabulary.{slice_index, storage_words, sym, true, true≢false, with_released, words_under}
-use Rattle.mk_laws.proofs.Vocabulary.{◌&&◌, ◌++◌, ◌+◌, ◌||◌, ◌∙◌, ◌≡◌, ◌≢◌}
+use Rattle.mk_words.proofs.Below.Laws.Vocabulary.{Bool, Cell, Config, Event, IsHistory, List, PlacedAllocation, Steady}
+use Rattle.mk_words.proofs.Below.Laws.Vocabulary.{Step, Words, World, ℕ, and_from, and_parts, ap, arith}
+use Rattle.mk_words.proofs.Below.Laws.Vocabulary.{cell_of_allocation, cells_begin, cond, false, fresh_words_of, has_bit}
+use Rattle.mk_words.proofs.Below.Laws.Vocabulary.{has_bit_of, has_bit_without, header_in, is_cycling, is_large}
+use Rattle.mk_words.proofs.Below.Laws.Vocabulary.{is_mapped, is_quarantined, kinds_of, left, length, map, never_granted}
+use Rattle.mk_words.proofs.Below.Laws.Vocabulary.{not, not-true, phase_of, placed_at, refl, released_where_left}
+use Rattle.mk_words.proofs.Below.Laws.Vocabulary.{slice_index, storage_words, sym, true, true≢false, with_released}
+use Rattle.mk_words.proofs.Below.Laws.Vocabulary.{words_under, ◌&&◌, ◌++◌, ◌+◌, ◌||◌, ◌∙◌, ◌≡◌, ◌≢◌}
 use Rattle.mk_cycle.proofs.Vocabulary.{Acts, HasReleased, IsAtPhase, IsTurn, PassState, Released, allocations_stand}
 use Rattle.mk_cycle.proofs.Vocabulary.{and_le_l, cells_unmarked, count_by, left_unmarked, made, newly_released, now_of}
 use Rattle.mk_cycle.proofs.Vocabulary.{released_below, stands, sum_below, sum_by, words_unmarked, world_at, world_of}

@@ -1,5 +1,5 @@
 -- A stop in which the marks are closed, and what they leave unmarked is released.
-use Rattle.mk_laws.proofs.Vocabulary.{Config, Steady, Step, ℕ, ap, refl, subst, sym, ◌∙◌, ◌≡◌}
+use Rattle.mk_words.proofs.Below.Laws.Vocabulary.{Config, Steady, Step, ℕ, ap, refl, subst, sym, ◌∙◌, ◌≡◌}
 use Rattle.mk_cycle.proofs.Vocabulary.{Acts, HasFreeCells, HasReleased, HoldsFewer, IsAtPhase, IsFreeForCycle}
 use Rattle.mk_cycle.proofs.Vocabulary.{IsOccupied, IsTurn, LeavesTurn, PassState, WordsState, held_below, now_of}
 use Rattle.mk_cycle.proofs.Vocabulary.{released_below, world_of}

@@ -1,6 +1,6 @@
 -- The bits that are left of a word after its lowest is taken away.
-use Rattle.mk_laws.proofs.Vocabulary.{Bool, ℕ, arith, false, has_bit, has_bit_without, not, subst, sym, true}
-use Rattle.mk_laws.proofs.Vocabulary.{true≢false, without, ◌&&◌, ◌<◌, ◌^◌, ◌∙◌, ◌≡◌}
+use Rattle.mk_words.proofs.Below.Laws.Vocabulary.{Bool, ℕ, arith, false, has_bit, has_bit_without, not, subst, sym}
+use Rattle.mk_words.proofs.Below.Laws.Vocabulary.{true, true≢false, without, ◌&&◌, ◌<◌, ◌^◌, ◌∙◌, ◌≡◌}
 use Rattle.mk_cycle.proofs.Vocabulary.{and_le_l, bit_and}
 use Rattle.mk_core.proofs.WordBits.{bit_for_has, bit_for_small, bit_of_power}
 

@@ -4,13 +4,15 @@ use Rattle.mk_cycle.proofs.Vocabulary.{IsOccupied, IsSettledPage, IsTurn, PassSt
 use Rattle.mk_cycle.proofs.Vocabulary.{left_unmarked, now_of, page_state, stands, world_of}
 use Rattle.mk_cycle.proofs.PageSteps.{page_at_once, page_then, same_header, same_left, same_used}
 use Rattle.mk_cycle.proofs.{CleaningSteps.halves, GivingSteps.still_unmapped_word}
-use Rattle.mk_laws.proofs.Vocabulary.{Bool, Header, IsFreedCell, Option, Some, Words, ℕ, and_from, and_parts, ap, arith}
-use Rattle.mk_laws.proofs.Vocabulary.{empties, eq-eqb, eqb-false, eqb-true, false, false_from_ne_true, has_bit}
-use Rattle.mk_laws.proofs.Vocabulary.{has_bit_without, head_page, head_page_under, header_at, header_in, header_of, inl}
-use Rattle.mk_laws.proofs.Vocabulary.{inr, is_phase, is_released_in, ne_eqb, no_bit, not, not-true, or_cases}
-use Rattle.mk_laws.proofs.Vocabulary.{quarantine_word, refl, run_count, slice_index, subst, sym, true, true≢false}
-use Rattle.mk_laws.proofs.Vocabulary.{used_at, without, ◌&&◌, ◌+◌, ◌-◌, ◌/◌, ◌<◌, ◌==◌, ◌^◌, ◌||◌, ◌∙◌, ◌≡◌, ◌≢◌, ◌≤◌}
-use Rattle.mk_laws.proofs.{Vocabulary.◌⊎◌, FreePages.free_pages_have_nothing}
+use Rattle.mk_words.proofs.Below.Laws.Vocabulary.{Bool, Header, IsFreedCell, Option, Some, Words, ℕ, and_from}
+use Rattle.mk_words.proofs.Below.Laws.Vocabulary.{and_parts, ap, arith, empties, eq-eqb, eqb-false, eqb-true, false}
+use Rattle.mk_words.proofs.Below.Laws.Vocabulary.{false_from_ne_true, has_bit, has_bit_without, head_page}
+use Rattle.mk_words.proofs.Below.Laws.Vocabulary.{head_page_under, header_at, header_in, header_of, inl, inr, is_phase}
+use Rattle.mk_words.proofs.Below.Laws.Vocabulary.{is_released_in, ne_eqb, no_bit, not, not-true, or_cases}
+use Rattle.mk_words.proofs.Below.Laws.Vocabulary.{quarantine_word, refl, run_count, slice_index, subst, sym, true}
+use Rattle.mk_words.proofs.Below.Laws.Vocabulary.{true≢false, used_at, without, ◌&&◌, ◌+◌, ◌-◌, ◌/◌, ◌<◌, ◌==◌, ◌^◌}
+use Rattle.mk_words.proofs.Below.Laws.Vocabulary.{◌||◌, ◌∙◌, ◌≡◌, ◌≢◌, ◌≤◌, ◌⊎◌}
+use Rattle.mk_words.proofs.Below.Laws.FreePages.{free_pages_have_nothing}
 use Rattle.mk_core.proofs.WordBits.{zero_from_bits}
 use Rattle.mk_cycle.specs.Freeing.{GivesBack, is_occupied_page}
 

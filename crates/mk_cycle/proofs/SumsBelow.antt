@@ -1,7 +1,7 @@
 -- Counts that are counted in parts: the elements of a list by a key, and the bits of a word one by one.
-use Rattle.mk_laws.proofs.Vocabulary.{Bool, List, ℕ, ap, arith, cases_eq, cond, eq-eqb, false, get_or, inl, inr, length}
-use Rattle.mk_laws.proofs.Vocabulary.{ne_eqb, refl, suc, sym, true, true≢false, zero, [], ◌&&◌, ◌*◌, ◌+◌, ◌<◌, ◌==◌}
-use Rattle.mk_laws.proofs.Vocabulary.{◌∙◌, ◌∷◌, ◌≡◌, ◌≤◌}
+use Rattle.mk_words.proofs.Below.Laws.Vocabulary.{Bool, List, ℕ, ap, arith, cases_eq, cond, eq-eqb, false, get_or, inl}
+use Rattle.mk_words.proofs.Below.Laws.Vocabulary.{inr, length, ne_eqb, refl, suc, sym, true, true≢false, zero, [], ◌&&◌}
+use Rattle.mk_words.proofs.Below.Laws.Vocabulary.{◌*◌, ◌+◌, ◌<◌, ◌==◌, ◌∙◌, ◌∷◌, ◌≡◌, ◌≤◌}
 use Rattle.mk_cycle.proofs.Vocabulary.{count_by, sum_below, sum_by, sum_by-cons}
 
 pub sum_same : (n : ℕ) (f g : ℕ → ℕ) → ((i : ℕ) → i < n → f i ≡ g i) → sum_below n f ≡ sum_below n g

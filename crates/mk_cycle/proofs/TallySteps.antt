@@ -1,6 +1,6 @@
 -- Looks and tallies after an `end`.
-use Rattle.mk_laws.proofs.Vocabulary.{Config, Steady, Step, Tally, Word, Words, World, ℕ, ap, arith, in_a_word, refl}
-use Rattle.mk_laws.proofs.Vocabulary.{subst, tally_word, world_behind, ◌+◌, ◌-◌, ◌∙◌, ◌≡◌}
+use Rattle.mk_words.proofs.Below.Laws.Vocabulary.{Config, Steady, Step, Tally, Word, Words, World, ℕ, ap, arith}
+use Rattle.mk_words.proofs.Below.Laws.Vocabulary.{in_a_word, refl, subst, tally_word, world_behind, ◌+◌, ◌-◌, ◌∙◌, ◌≡◌}
 use Rattle.mk_cycle.proofs.Vocabulary.{Acts, IsFreeForCycle, PassState, does_step, does_then, event_of, now_of}
 use Rattle.mk_cycle.{proofs.Vocabulary.{sets_tallies, steady_of, world_at, world_of}, proofs.CleaningSteps.{calm_keeps}}
 use Rattle.mk_cycle.proofs.{KeptInParts.{gates_behind, gates_then, keeps_then}, Allowed.in_turn_before}

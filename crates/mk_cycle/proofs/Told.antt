@@ -1,6 +1,6 @@
 -- What is said of the world in which marks are closed, from wider parts of a turn.
-use Rattle.mk_laws.proofs.Vocabulary.{Config, Event, IsHistory, List, Step, World, ap, append_assoc, arith, [], ◌++◌}
-use Rattle.mk_laws.proofs.Vocabulary.{◌≡◌}
+use Rattle.mk_words.proofs.Below.Laws.Vocabulary.{Config, Event, IsHistory, List, Step, World, ap, append_assoc, arith}
+use Rattle.mk_words.proofs.Below.Laws.Vocabulary.{[], ◌++◌, ◌≡◌}
 use Rattle.mk_cycle.{proofs.Vocabulary.{Has, Makes, PassState, made}, specs.Telling.{IsToldAtClose, IsToldOf}}
 
 -- at the step that closes them

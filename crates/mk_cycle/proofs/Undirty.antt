@@ -1,6 +1,7 @@
 -- A dirty word was 0 at a moment, from wider parts of a turn.
-use Rattle.mk_laws.proofs.Vocabulary.{List, Step, ℕ, ap, append-nil, append_assoc, arith, cases_lt, get_or-set_same}
-use Rattle.mk_laws.proofs.Vocabulary.{get_or_past, inl, inr, length, set_past, slice_index, slice_set, ◌∙◌, ◌≡◌}
+use Rattle.mk_words.proofs.Below.Laws.Vocabulary.{List, Step, ℕ, ap, append-nil, append_assoc, arith, cases_lt}
+use Rattle.mk_words.proofs.Below.Laws.Vocabulary.{get_or-set_same, get_or_past, inl, inr, length, set_past, slice_index}
+use Rattle.mk_words.proofs.Below.Laws.Vocabulary.{slice_set, ◌∙◌, ◌≡◌}
 use Rattle.mk_cycle.proofs.Vocabulary.{Acts, Cleans, PassState, WasUndirty, now_of}
 
 -- where it is 0 now

@@ -3,9 +3,9 @@ pub use Rattle.std.proofs.Common.{below_more, bit_and, count_by, sum_by}
 pub use Rattle.std.proofs.{lemmas.List.Sums.{count_by-le-length, sum_by-cons}, lemmas.Nat.and_le_l}
 pub use Rattle.mk_core.specs.{Allocations.held_by_allocations, Cells.left_unmarked, Counts.{full_answers, releases}}
 pub use Rattle.mk_core.specs.{Effects.holding_behind, Frames.{CountsAreLeft, steady_of}, TurnConditions.drops}
-pub use Rattle.mk_laws.proofs.{InvariantHistories.allocations_stand, LastEvents.stands, RunsStill.holder_finds}
-pub use Rattle.mk_turns.proofs.{Doing.{does_nothing, does_step, does_then}, Sweeping.{does_sweep, only_seen_by}}
-pub use Rattle.mk_turns.proofs.Sweeping.{other_step_sweeps, sweeps_then}
+pub use Rattle.mk_words.proofs.{Below.Laws.InvariantHistories.allocations_stand, Below.Laws.LastEvents.stands}
+pub use Rattle.mk_words.proofs.{Below.Laws.RunsStill.holder_finds, Doing.{does_nothing, does_step, does_then}}
+pub use Rattle.mk_words.proofs.Sweeping.{does_sweep, only_seen_by, other_step_sweeps, sweeps_then}
 pub use Rattle.mk_words.{proofs.Made.{made}, specs.{Steps.{IsEnabledTo, Makes}, TurnSteps.{Acts, world_at}, Seats.Has}}
 pub use Rattle.mk_words.specs.States.{IsTurn, PassState, WordsState, call_of, event_of, now_of, world_of}
 pub use Rattle.mk_cycle.specs.{Cleaning.{Cleans, IsClean, WasUndirty}, EngineLaw.{IsAtPhase, IsFreeForCycle, IsTurnAt}}

@@ -3,7 +3,7 @@ use Rattle.std.specs.Prelude.{◌≡◌, ◌<◌, ℕ, map}
 use Rattle.mk_core.specs.{declared.seats.OwnCycle.TheVariants.Begun, Allocations.no_longer_fresh}
 use Rattle.mk_core.specs.{Counts.{TalliesAreExact, TalliesAreTidy}, Frames.{Steady, steady_of, CountsAreLeft}}
 use Rattle.mk_words.specs.{States.{PassState, world_of, now_of, call_of}, Steps.Makes}
-use Rattle.mk_turns.specs.Doing.{Does}
+use Rattle.mk_words.specs.Doing.{Does}
 use Rattle.mk_cycle.specs.{Cleaning.WasUndirty, Kinds.{clears, begins_marking}, TurnKeeps.{done_of, IsGone, KeepsGates}}
 use Rattle.mk_core.specs.declared.events.Step.TheVariants as step
 

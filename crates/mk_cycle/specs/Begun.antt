@@ -4,7 +4,7 @@ use Rattle.std.specs.{Prelude.{◌≡◌, false, ◌&&◌, List, [], ◌++◌}, 
 use Rattle.mk_core.specs.{declared.config.Config.Config, declared.events.Event.Event, declared.events.Seat.Seat}
 use Rattle.mk_core.specs.{Cycles.{At, is_begin, is_give, through}, Growing.is_same_seat}
 use Rattle.mk_words.specs.{States.PassState, Steps.Makes}
-use Rattle.mk_turns.specs.Doing.{Does}
+use Rattle.mk_words.specs.Doing.{Does}
 use Rattle.mk_cycle.specs.Kinds.{clears}
 use Rattle.mk_core.specs.declared.events.Step.TheVariants as step
 

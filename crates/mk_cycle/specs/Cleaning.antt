@@ -2,7 +2,7 @@
 use Rattle.std.specs.Prelude.{◌≡◌, ℕ, List, ◌++◌, slice_index}
 use Rattle.mk_core.specs.{declared.events.Event.Event, History.left}
 use Rattle.mk_words.specs.States.{PassState, now_of}
-use Rattle.mk_turns.specs.Doing.{Does}
+use Rattle.mk_words.specs.Doing.{Does}
 use Rattle.mk_cycle.specs.{Kinds.clears, TurnKeeps.{LeavesTurn, KeepsGates, but_cleaned}}
 
 abbrev pub IsUnmarked : PassState → ℕ → Type 0

@@ -3,7 +3,7 @@
 use Rattle.std.specs.Prelude.{◌≡◌, List, ◌++◌, Bool, false}
 use Rattle.mk_core.specs.{declared.config.Config.Config, declared.events.Event.Event, History.World}
 use Rattle.mk_words.specs.States.{PassState}
-use Rattle.mk_turns.specs.Sweeping.{SweepsNothing}
+use Rattle.mk_words.specs.Sweeping.{SweepsNothing}
 use Rattle.mk_cycle.specs.{Holding.HoldsGates, Releasing.MakesRelease, Telling.IsToldAtClose}
 
 -- From what the one pass had seen to what the other has seen gates were held, then the engine did this, and then came

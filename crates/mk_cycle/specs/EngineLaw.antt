@@ -3,9 +3,8 @@ use Rattle.std.specs.Prelude.{◌≡◌, ℕ, Bool, true, false}
 use Rattle.mk_never.specs.declared.operations.Op.{Op}
 use Rattle.mk_core.specs.{declared.events.Word.Word, declared.seats.Flight.Flight, declared.seats.Stage.Stage}
 use Rattle.mk_core.specs.{Words.phase_of, ClosedMarks.MarksAreClosed}
-use Rattle.mk_laws.specs.Protocol.{has_place}
+use Rattle.mk_words.specs.{Below.Laws.Protocol.has_place, Doing.{Does, count_done}}
 use Rattle.mk_words.specs.{States.{PassState, WordsState, world_of, now_of, call_of}, Steps.IsEnabledTo}
-use Rattle.mk_turns.specs.Doing.{Does, count_done}
 use Rattle.mk_cycle.specs.{Kinds.{is_want, begins_marking, closes_marks}, TurnKeeps.{LeavesTurn, KeepsGates, IsGone}}
 use Rattle.mk_cycle.specs.TurnKeeps.{unchanged, but_phase}
 use Rattle.mk_never.specs.declared.operations.Op.TheVariants as op

@@ -5,7 +5,7 @@ use Rattle.mk_core.specs.Allocations.{PlacedAllocation, held_by_allocations, sto
 use Rattle.mk_core.specs.{Counts.{TalliesAreExact, TalliesAreTidy}, Cycles.is_quarantined, Effects.cycle_ended}
 use Rattle.mk_core.specs.Moments.{none_is_held}
 use Rattle.mk_words.specs.{States.{PassState, world_of, now_of, call_of}, Opening.is_open, Steps.Makes}
-use Rattle.mk_turns.specs.Doing.{Does}
+use Rattle.mk_words.specs.Doing.{Does}
 use Rattle.mk_cycle.specs.{declared.finishing.Released.Released, EngineLaw.IsAtPhase}
 use Rattle.mk_cycle.specs.{Kinds.{holds_gates, is_giving_back, sets_tallies}, Releasing.{MakesRelease, words_released}}
 use Rattle.mk_cycle.specs.TurnKeeps.{done_of, IsGone}

@@ -4,10 +4,9 @@ use Rattle.mk_geom.specs.{declared.pages.Page.Page, Headers.header_of}
 use Rattle.mk_core.specs.{Bits.has_bit, Cells.{head_page, is_unmapped_header, left_unmarked, words_under}}
 use Rattle.mk_core.specs.{Frames.Steady, Moments.is_held, StopConditions.has_settled_page, Words.{Words, page_of}}
 use Rattle.mk_core.specs.Words.{header_at, quarantine_word, used_at}
-use Rattle.mk_page_map.specs.Members.{has_freed_cells}
-use Rattle.mk_laws.specs.Zeros.{IsWordOfMapped}
+use Rattle.mk_books.specs.Members.{has_freed_cells}
+use Rattle.mk_words.specs.{Below.Laws.Zeros.IsWordOfMapped, Doing.Does}
 use Rattle.mk_words.specs.States.{PassState, WordsState, world_of, now_of}
-use Rattle.mk_turns.specs.Doing.{Does}
 use Rattle.mk_cycle.specs.{EngineLaw.IsTurnAmong, Kinds.is_giving_back, TurnKeeps.LeavesTurn}
 
 -- without what is given back, and the count of fresh words

@@ -2,7 +2,7 @@
 use Rattle.std.specs.Prelude.{◌≡◌, ℕ, ◌<◌, true}
 use Rattle.mk_core.specs.Moments.{none_is_held}
 use Rattle.mk_words.specs.{Opening.is_open, States.{PassState, now_of}}
-use Rattle.mk_turns.specs.Doing.{Does}
+use Rattle.mk_words.specs.Doing.{Does}
 use Rattle.mk_cycle.specs.{EngineLaw.IsAtPhase, Freeing.{Frees, IsSettledPage}, Holding.HoldsGates}
 use Rattle.mk_cycle.specs.{Kinds.is_giving_back, Releasing.ReleasesUnmarked}
 

@@ -2,7 +2,7 @@
 use Rattle.std.specs.Prelude.{◌≡◌, ℕ, ◌||◌, true}
 use Rattle.mk_core.specs.Moments.{is_held, is_number_of}
 use Rattle.mk_words.specs.States.{PassState, now_of}
-use Rattle.mk_turns.specs.Doing.{Does}
+use Rattle.mk_words.specs.Doing.{Does}
 use Rattle.mk_cycle.specs.{Kinds.holds_gates, TurnKeeps.{LeavesTurn, unchanged}}
 
 -- From one to the other gates were held: those that are held stay so.

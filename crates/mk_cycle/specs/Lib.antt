@@ -1,3 +1,4 @@
+pub mod Below
 pub mod Kinds
 pub mod TurnKeeps
 pub mod EngineLaw
@@ -14,3 +15,10 @@ pub mod Tallying
 pub mod Telling
 pub mod Begun
 pub mod Closing
+pub mod Tracing
+pub mod Stops
+pub mod Grays
+pub mod Noted
+pub mod Scans
+pub mod Beside
+pub mod Roots

@@ -3,7 +3,7 @@ use Rattle.std.specs.Prelude.{◌≡◌, ℕ, ◌+◌, ◌-◌}
 use Rattle.mk_core.specs.{declared.events.Tally.Tally, Counts.in_a_word, Frames.{Steady, steady_of, CountsAreLeft}}
 use Rattle.mk_core.specs.Words.{Words}
 use Rattle.mk_words.specs.States.{PassState, world_of}
-use Rattle.mk_turns.specs.Doing.{Does}
+use Rattle.mk_words.specs.Doing.{Does}
 use Rattle.mk_cycle.specs.{Kinds.sets_tallies, TurnKeeps.{KeepsCall, KeepsGates}}
 use Rattle.mk_core.specs.declared.events.Tally.TheVariants as tally
 

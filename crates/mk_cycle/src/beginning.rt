@@ -1,6 +1,6 @@
 //! The beginning of a cycle.
 ghost use Rattle.std.specs.Prelude.{◌≡◌, false};
-ghost use Rattle.mk_turns.specs.Sweeping.{SweepsNothing};
+ghost use Rattle.mk_words.specs.Sweeping.{SweepsNothing};
 ghost use Rattle.mk_cycle.specs.{BeginCycle.BeginsCycle, Begun.{EachIsBegun, IsBegunLast}};
 ghost use Rattle.mk_cycle.specs.EngineLaw.{IsFreeForCycle, IsAtPhase};
 

@@ -2,7 +2,7 @@
 ghost use Rattle.std.specs.Prelude.{◌≡◌, ℕ, Bool, false, IfOk, List};
 ghost use Rattle.mk_core.specs.{declared.config.Config.Config, declared.events.Event.Event, declared.events.Seat.Seat};
 ghost use Rattle.mk_core.specs.History.{World};
-ghost use Rattle.mk_turns.specs.Sweeping.{SweepsNothing};
+ghost use Rattle.mk_words.specs.Sweeping.{SweepsNothing};
 ghost use Rattle.mk_words.specs.States.{PassState};
 ghost use Rattle.mk_cycle.specs.{Begun.IsBegun, EngineLaw.{IsFreeForCycle, IsAtPhase, BeginsMarking, ClosesMarks}};
 ghost use Rattle.mk_cycle.specs.Telling.{IsToldOf};

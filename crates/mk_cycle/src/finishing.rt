@@ -1,6 +1,6 @@
 //! The end of a cycle.
 ghost use Rattle.std.specs.Prelude.{◌≡◌, false};
-ghost use Rattle.mk_turns.specs.Sweeping.{SweepsNothing};
+ghost use Rattle.mk_words.specs.Sweeping.{SweepsNothing};
 ghost use Rattle.mk_cycle.specs.{Closing.IsClosedBy, EngineLaw.{IsFreeForCycle, IsAtPhase}};
 ghost use Rattle.mk_cycle.specs.{FinishCycle.{FinishesCycle, HasReleased}, Telling.IsToldAtClose};
 

@@ -1,25 +1,55 @@
 //! Cycles: engines make the marks, and what was freed before a cycle and isn't marked in it is given back.
 //!
-//! `begin_cycle` and `finish_cycle` do what a cycle of the history is made of, and nothing else. Start with `engine`:
-//! what an engine owes; then `beginning` and `finishing`.
+//! `begin_cycle` and `finish_cycle` do what a cycle of the history is made of, and nothing else. An `Engine` marks: two of
+//! them trace, `StopEngine` in the stop and `MostlyEngine` also beside the callers. They make only marks that pointers
+//! lead to, so their cycles are precise. Start with `engine`: what an engine owes; then `beginning` and `finishing`, and
+//! `closing` for what all engines do in the stop.
 #![tactic(auto)]
 
 mod beginning;
 mod bits;
 mod cleaning;
+mod closing;
 mod counting;
+mod dirty;
 mod engine;
 mod finishing;
 mod freeing;
+mod gates;
 mod giving;
+mod grays;
 mod holding;
+mod laws;
+pub mod lower;
+mod mostly_engine;
+mod noted;
+mod noting;
 mod reading;
 mod releasing;
+mod roots;
+mod roots_beside;
+mod scanning;
 mod settling;
+mod stepping;
+mod steps_beside;
+mod stop_engine;
+mod stopping;
+mod tables;
 mod tallying;
+mod tracing;
 mod turn_steps;
+mod values;
+mod values_beside;
+mod waiting;
 mod wiping;
+mod worklist;
 
 pub use beginning::begin_cycle;
+pub use closing::close_marks;
 pub use engine::Engine;
 pub use finishing::{Released, finish_cycle};
+pub use laws::reached_marks_sweep_nothing;
+pub use mostly_engine::MostlyEngine;
+pub use stop_engine::StopEngine;
+pub use waiting::want_and_wait;
+pub use worklist::Worklist;

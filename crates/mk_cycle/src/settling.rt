@@ -2,7 +2,7 @@
 //! pass, which looks at the pages that have freed cells, and at the later pages of their runs.
 ghost use Rattle.std.specs.Prelude.{◌≡◌, ◌<◌, ℕ};
 ghost use Rattle.mk_core.specs.Cells.{head_page, left_unmarked};
-ghost use Rattle.mk_page_map.specs.Members.{IsNext};
+ghost use Rattle.mk_books.specs.Members.{IsNext};
 ghost use Rattle.mk_words.specs.States.{now_of};
 ghost use Rattle.mk_cycle.specs.{EngineLaw.IsTurnAt, Freeing.{Frees, FreesPage, HasFreeCells, IsOccupied}};
 ghost use Rattle.mk_cycle.specs.Freeing.{IsSettledPage, MayGiveBackOn, may_be_unsettled};

@@ -1,15 +1,18 @@
 -- What the engine does after each `begin` of the host's.
 use Rattle.std.proofs.Common.{⊎_elim}
-use Rattle.mk_laws.proofs.Vocabulary.{Config, Event, List, None, Seat, Step, Word, arith, false, refl, subst, sym, ◌≡◌}
+use Rattle.mk_alloc.proofs.Below.Laws.Vocabulary.{Config, Event, List, None, Seat, Step, Word, arith, false, refl}
+use Rattle.mk_alloc.proofs.{Below.Laws.Vocabulary.{subst, sym, ◌≡◌}, Below.Cycles.Begun.{begun_then, does_begin_none}}
+use Rattle.mk_alloc.proofs.Below.Cycles.Begun.{finish_begins_none, has_on, step_begins_none}
+use Rattle.mk_alloc.proofs.Below.Words.Sweeping.{only_seen, only_seen_by, other_step_sweeps, others_sweep}
+use Rattle.mk_alloc.proofs.{Below.Words.Sweeping.{step_then_sweeps, sweeps_then}, Below.Words.TakesAlone.taking_does}
+use Rattle.mk_alloc.proofs.Below.Words.Unswept.{taking_sweeps}
+use Rattle.mk_alloc.specs.{Below.Cycles.BeginCycle.BeginsCycle, Below.Cycles.Begun.EachIsBegun}
+use Rattle.mk_alloc.specs.{Below.Cycles.EngineLaw.IsAtPhase, Below.Cycles.FinishCycle.FinishesCycle}
+use Rattle.mk_alloc.specs.{Below.Words.Sweeping.{SweepsNothing, is_mark}, Below.Words.Taking.{TakesTurn, is_take}}
+use Rattle.mk_alloc.specs.{Below.Words.Seats.Has, Below.Words.States.{PassState, world_of}, Below.Words.Steps.Makes}
 use Rattle.mk_core.specs.Growing.{Grows}
-use Rattle.mk_cycle.proofs.Begun.{begun_then, does_begin_none, finish_begins_none, has_on, step_begins_none}
-use Rattle.mk_cycle.specs.{BeginCycle.BeginsCycle, Begun.EachIsBegun, EngineLaw.IsAtPhase, FinishCycle.FinishesCycle}
 use Rattle.mk_heap.proofs.MovedHosts.{MovesOn, idle_moves, taken_own, turn_moves}
 use Rattle.mk_heap.specs.Ending.{EndsCycle, SaysOver, TakesIdleTurn}
-use Rattle.mk_turns.proofs.Sweeping.{only_seen, only_seen_by, other_step_sweeps, others_sweep, step_then_sweeps}
-use Rattle.mk_turns.{proofs.Sweeping.{sweeps_then}, specs.Sweeping.{SweepsNothing, is_mark}}
-use Rattle.mk_waiting.{proofs.{TakesAlone.taking_does, Unswept.taking_sweeps}, specs.Taking.{TakesTurn, is_take}}
-use Rattle.mk_words.specs.{Seats.Has, States.{PassState, world_of}, Steps.Makes}
 
 module _ (begins : Config → Seat → List Event → List Event → Type 0) where
   -- It finishes the cycle that is on, if one is.

@@ -1,19 +1,21 @@
 -- Where all are joined nobody holds the turn, so the tallies are the counts.
 use Rattle.std.proofs.Common.{count_ones}
-use Rattle.mk_laws.proofs.Vocabulary.{Caller, Config, Event, Flight, IsHistory, IsTidy, List, Moment, PlacedAllocation}
-use Rattle.mk_laws.proofs.Vocabulary.{Protocol, Seat, Words, ℕ, and_from, and_parts, ap, arith, cases_eq, eq-eqb, false}
-use Rattle.mk_laws.proofs.Vocabulary.{host_has_turn, inl, inr, is_quarantined, left, lt-ltb, not, not-true, phase_of}
-use Rattle.mk_laws.proofs.Vocabulary.{placed_at, refl, seat_exists, slice_index, subst, suc, sym, true, true≢false}
-use Rattle.mk_laws.proofs.Vocabulary.{zero, ◌%◌, ◌+◌, ◌-◌, ◌<◌, ◌^◌, ◌∙◌, ◌≡◌, ◌≢◌, ◌⊎◌}
-use Rattle.mk_laws.proofs.{InvariantHistories.histories_keep_the_invariant, Known.known_left, Protocols.protocol_of}
-use Rattle.mk_laws.proofs.Tallies.{tallies_tell}
+use Rattle.mk_alloc.proofs.Below.Laws.Vocabulary.{Caller, Config, Event, Flight, IsHistory, IsTidy, List, Moment}
+use Rattle.mk_alloc.proofs.Below.Laws.Vocabulary.{PlacedAllocation, Protocol, Seat, Words, ℕ, and_from, and_parts, ap}
+use Rattle.mk_alloc.proofs.Below.Laws.Vocabulary.{arith, cases_eq, eq-eqb, false, host_has_turn, inl, inr}
+use Rattle.mk_alloc.proofs.Below.Laws.Vocabulary.{is_quarantined, left, lt-ltb, not, not-true, phase_of, placed_at}
+use Rattle.mk_alloc.proofs.Below.Laws.Vocabulary.{refl, seat_exists, slice_index, subst, suc, sym, true, true≢false}
+use Rattle.mk_alloc.proofs.Below.Laws.Vocabulary.{zero, ◌%◌, ◌+◌, ◌-◌, ◌<◌, ◌^◌, ◌∙◌, ◌≡◌, ◌≢◌, ◌⊎◌}
+use Rattle.mk_alloc.proofs.{Below.Laws.InvariantHistories.histories_keep_the_invariant, Below.Laws.Known.known_left}
+use Rattle.mk_alloc.proofs.{Below.Laws.Protocols.protocol_of, Below.Laws.Tallies.tallies_tell}
+use Rattle.mk_alloc.proofs.Below.Cycles.CellCounts.{cells_are_as_many}
+use Rattle.mk_alloc.specs.{Below.Cycles.ReleasedPages.sum_below, Below.Words.Finals.{HasTallies, freed_cells}}
+use Rattle.mk_alloc.specs.{Below.Words.Seats.{Has, HasAll}, Below.Words.States.{WordsState, now_of}}
+use Rattle.mk_alloc.specs.Below.Words.Finals as final
+use Rattle.mk_alloc.specs.Below.Words.declared.finals.Final.{Final}
 use Rattle.mk_core.specs.Readings.{is_in_turn}
-use Rattle.mk_cycle.{proofs.CellCounts.{cells_are_as_many}, specs.ReleasedPages.{sum_below}}
 use Rattle.mk_heap.{proofs.HostsKept.{all_home}, specs.declared.reports.Report.{Report}}
 use Rattle.mk_heap.specs.{Hosts.{AllAreJoined, HostState, IsHost, Rests}, Reports.{HasCounts, IsWhole, quarantined}}
-use Rattle.mk_words.specs.{Finals.{HasTallies, freed_cells}, Seats.{Has, HasAll}, States.{WordsState, now_of}}
-use Rattle.mk_words.specs.declared.finals.Final.{Final}
-use Rattle.mk_words.specs.Finals as final
 
 -- The freed bits of the quarantine words are as many as the allocations that are freed and unreleased.
 

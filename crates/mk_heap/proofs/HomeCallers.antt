@@ -1,20 +1,23 @@
 -- Where all callers are home, nobody makes a step of the turn's holder while the host waits for the turn: the phase
 -- stays.
 use Rattle.std.{proofs.Common.{⊎_elim}, specs.List.{list_all}}
-use Rattle.mk_laws.proofs.Vocabulary.{Bool, Caller, Config, Event, Host, IsHistory, List, Marker, Moment, None, Seat}
-use Rattle.mk_laws.proofs.Vocabulary.{Step, World, ℕ, and_parts, ap, arith, cases_lt, earlier_part_is_history}
-use Rattle.mk_laws.proofs.Vocabulary.{enabled_in_parts, enabled_meets, false, false_from_ne_true, first_world, group_of}
-use Rattle.mk_laws.proofs.Vocabulary.{inl, inr, is_one_of, is_open_to, left, left_in_parts, list_any, list_any-append}
-use Rattle.mk_laws.proofs.Vocabulary.{ltb-true, not, not-true, or_cases, or_from, or_parts, phase_of, refl, seat_exists}
-use Rattle.mk_laws.proofs.Vocabulary.{subst, sym, true, true≢false, world_behind, [], ◌&&◌, ◌++◌, ◌<◌, ◌||◌, ◌∙◌, ◌∷◌}
-use Rattle.mk_laws.proofs.{Vocabulary.{◌≡◌, ◌≢◌, ◌≤◌, ◌⊎◌}, CyclePhases.{AsksPhase, moves_phase, phase_behind}}
-use Rattle.mk_laws.proofs.Actors.{Meets, is_holders}
+use Rattle.mk_alloc.proofs.Below.Laws.Vocabulary.{Bool, Caller, Config, Event, Host, IsHistory, List, Marker, Moment}
+use Rattle.mk_alloc.proofs.Below.Laws.Vocabulary.{None, Seat, Step, World, ℕ, and_parts, ap, arith, cases_lt}
+use Rattle.mk_alloc.proofs.Below.Laws.Vocabulary.{earlier_part_is_history, enabled_in_parts, enabled_meets, false}
+use Rattle.mk_alloc.proofs.Below.Laws.Vocabulary.{false_from_ne_true, first_world, group_of, inl, inr, is_one_of}
+use Rattle.mk_alloc.proofs.Below.Laws.Vocabulary.{is_open_to, left, left_in_parts, list_any, list_any-append, ltb-true}
+use Rattle.mk_alloc.proofs.Below.Laws.Vocabulary.{not, not-true, or_cases, or_from, or_parts, phase_of, refl}
+use Rattle.mk_alloc.proofs.Below.Laws.Vocabulary.{seat_exists, subst, sym, true, true≢false, world_behind, [], ◌&&◌}
+use Rattle.mk_alloc.proofs.Below.Laws.Vocabulary.{◌++◌, ◌<◌, ◌||◌, ◌∙◌, ◌∷◌, ◌≡◌, ◌≢◌, ◌≤◌, ◌⊎◌}
+use Rattle.mk_alloc.proofs.Below.Laws.CyclePhases.{AsksPhase, moves_phase, phase_behind}
+use Rattle.mk_alloc.proofs.{Below.Laws.Actors.{Meets, is_holders}, Below.Words.Waiting.waits_more}
+use Rattle.mk_alloc.proofs.Below.Words.Overs.{none_over, over_is_hosts}
+use Rattle.mk_alloc.specs.Below.Words.Taking.{TakesTurn, Waits, is_take, waits_for}
+use Rattle.mk_alloc.specs.Below.Words.Seats.{Has, HasCallers, has_over, is_over}
+use Rattle.mk_alloc.specs.{Below.Words.States.{PassState, now_of}, Below.Words.Steps.Makes}
 use Rattle.mk_core.specs.{Growing.{AreOfOthers, Grows, is_same_seat}, History.{AreEnabledFrom, left_from}}
 use Rattle.mk_heap.proofs.MovedHosts.{MovesOn}
 use Rattle.mk_heap.specs.{Ending.CallersAreJoined, Hosts.{HostState, IsHost, with_joined}}
-use Rattle.mk_waiting.{proofs.Waiting.{waits_more}, specs.Taking.{TakesTurn, Waits, is_take, waits_for}}
-use Rattle.mk_words.proofs.Overs.{none_over, over_is_hosts}
-use Rattle.mk_words.specs.{Seats.{Has, HasCallers, has_over, is_over}, States.{PassState, now_of}, Steps.Makes}
 
 -- Whether an `over` stands among what the host has seen. It comes by the host's own step alone.
 

@@ -1,20 +1,21 @@
 -- What always holds of the host holds of the first, and is kept where a caller or a marker is made or joined.
 use Rattle.std.proofs.{Common.{IsSome, replicate, ⊎_elim}, lemmas.List.{get_or-replicate, length-replicate}}
-use Rattle.mk_laws.proofs.Vocabulary.{Bool, Caller, Config, Event, Host, IsEnabled, IsHistory, IsWithinLimits, List}
-use Rattle.mk_laws.proofs.Vocabulary.{Marker, Moment, None, Option, Seat, Some, Step, ℕ, ap, arith, cases_lt}
-use Rattle.mk_laws.proofs.Vocabulary.{earlier_part_is_history, enabled_meets, false, first_moment, first_world, get_or}
-use Rattle.mk_laws.proofs.Vocabulary.{get_or_past, host_has_turn, left, lt-ltb, ltb-true, marker_at, ne_eqb, not}
-use Rattle.mk_laws.proofs.Vocabulary.{outside, refl, subst, sym, true, [], ◌++◌, ◌+◌, ◌<◌, ◌∙◌, ◌∷◌, ◌≡◌, ◌≤◌}
-use Rattle.mk_laws.proofs.ProtocolFrames.{others_leave}
+use Rattle.mk_alloc.proofs.Below.Laws.Vocabulary.{Bool, Caller, Config, Event, Host, IsEnabled, IsHistory}
+use Rattle.mk_alloc.proofs.Below.Laws.Vocabulary.{IsWithinLimits, List, Marker, Moment, None, Option, Seat, Some, Step}
+use Rattle.mk_alloc.proofs.Below.Laws.Vocabulary.{ℕ, ap, arith, cases_lt, earlier_part_is_history, enabled_meets, false}
+use Rattle.mk_alloc.proofs.Below.Laws.Vocabulary.{first_moment, first_world, get_or, get_or_past, host_has_turn, left}
+use Rattle.mk_alloc.proofs.Below.Laws.Vocabulary.{lt-ltb, ltb-true, marker_at, ne_eqb, not, outside, refl, subst, sym}
+use Rattle.mk_alloc.proofs.Below.Laws.Vocabulary.{true, [], ◌++◌, ◌+◌, ◌<◌, ◌∙◌, ◌∷◌, ◌≡◌, ◌≤◌}
+use Rattle.mk_alloc.proofs.{Below.Laws.ProtocolFrames.others_leave, Below.Words.Seats.{has_all, has_either, has_left}}
+use Rattle.mk_alloc.proofs.Below.Words.Seats.{only_one, others_own, without_keeps, without_less}
+use Rattle.mk_alloc.proofs.{Below.Words.LongerLists.longer_lists, Below.Words.Owed.history_more}
+use Rattle.mk_alloc.specs.{Below.Callers.States.IsIdleCaller, Below.Words.Seats.{Has, HasAll}}
+use Rattle.mk_alloc.specs.Below.Words.States.{PassState, WordsState, now_of}
 use Rattle.mk_core.{proofs.{Conditions.meets_enabled, Histories.last_enabled}, specs.{Growing.Grows, History.left_from}}
 use Rattle.atomic_table.specs.Seated.{TableId}
-use Rattle.mk_caller.specs.States.{IsIdleCaller}
 use Rattle.mk_heap.specs.Hosts.{AllAreJoined, HostState, IsDone, IsHost, IsWholeHost, Rests, first_host, host_of}
 use Rattle.mk_heap.specs.Hosts.{pass_for, with_caller_made, with_caller_out, with_joined, with_marker_made}
 use Rattle.mk_marker.{proofs.OutMarkers.{out_is_outside}, specs.Markers.{IsMarkers, IsOut}}
-use Rattle.mk_words.proofs.Seats.{has_all, has_either, has_left, only_one, others_own, without_keeps, without_less}
-use Rattle.mk_words.proofs.{LongerLists.longer_lists, Owed.history_more}
-use Rattle.mk_words.specs.{Seats.{Has, HasAll}, States.{PassState, WordsState, now_of}}
 
 -- A marker that is made is out, and one that is out is done.
 

@@ -1,3 +1,4 @@
+pub mod Below
 pub mod HostsKept
 pub mod Ended
 pub mod MovedHosts

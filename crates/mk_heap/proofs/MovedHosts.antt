@@ -1,18 +1,20 @@
 -- The host's pass goes on: it waits for the turn, and makes steps of its own.
 use Rattle.std.specs.List.{list_all}
-use Rattle.mk_laws.proofs.Vocabulary.{Bool, Caller, Event, Host, IsHistory, List, Marker, None, Op, Option, Seat, Step}
-use Rattle.mk_laws.proofs.Vocabulary.{Word, and_parts, ap, append_assoc, arith, false, host_has_turn, inl, inr}
-use Rattle.mk_laws.proofs.Vocabulary.{is_one_of, left, not, not-true, or_cases, refl, subst, sym, true, true≢false, []}
-use Rattle.mk_laws.proofs.Vocabulary.{◌&&◌, ◌++◌, ◌||◌, ◌∙◌, ◌∷◌, ◌≡◌, ◌⊎◌}
+use Rattle.mk_alloc.proofs.Below.Laws.Vocabulary.{Bool, Caller, Event, Host, IsHistory, List, Marker, None, Op, Option}
+use Rattle.mk_alloc.proofs.Below.Laws.Vocabulary.{Seat, Step, Word, and_parts, ap, append_assoc, arith, false}
+use Rattle.mk_alloc.proofs.Below.Laws.Vocabulary.{host_has_turn, inl, inr, is_one_of, left, not, not-true, or_cases}
+use Rattle.mk_alloc.proofs.Below.Laws.Vocabulary.{refl, subst, sym, true, true≢false, [], ◌&&◌, ◌++◌, ◌||◌, ◌∙◌, ◌∷◌}
+use Rattle.mk_alloc.proofs.{Below.Laws.Vocabulary.{◌≡◌, ◌⊎◌}, Below.Words.Waiting.{joined_lists, waits_more}}
+use Rattle.mk_alloc.proofs.Below.Words.Seats.{has_not, only_one, others_append, others_one, others_own, same_seat}
+use Rattle.mk_alloc.proofs.{Below.Words.Seats.same_self, Below.Words.Made.own_before}
+use Rattle.mk_alloc.specs.Below.Cycles.Kinds.{begins_marking, clears, closes_marks, holds_gates, is_giving_back}
+use Rattle.mk_alloc.specs.{Below.Cycles.Kinds.sets_tallies, Below.Cycles.BeginCycle.BeginsCycle}
+use Rattle.mk_alloc.specs.{Below.Cycles.FinishCycle.FinishesCycle, Below.Words.Doing.{AreOwnOrOfOthers, Does}}
+use Rattle.mk_alloc.specs.{Below.Words.Taking.{TakesTurn, Waits, is_take, waits_for}, Below.Words.Opening.is_open}
+use Rattle.mk_alloc.specs.{Below.Words.Seats.Has, Below.Words.States.{PassState, event_of, now_of}}
+use Rattle.mk_alloc.specs.Below.Words.Steps.{Makes}
 use Rattle.mk_core.specs.Growing.{AreOfOthers, is_same_seat}
-use Rattle.mk_cycle.specs.Kinds.{begins_marking, clears, closes_marks, holds_gates, is_giving_back, sets_tallies}
-use Rattle.mk_cycle.specs.{BeginCycle.BeginsCycle, FinishCycle.FinishesCycle}
 use Rattle.mk_heap.{proofs.HostsKept.{still_rests}, specs.{Ending.TakesIdleTurn, Hosts.{HostState, IsHost, Rests}}}
-use Rattle.mk_turns.specs.Doing.{AreOwnOrOfOthers, Does}
-use Rattle.mk_waiting.{proofs.Waiting.{joined_lists, waits_more}, specs.Taking.{TakesTurn, Waits, is_take, waits_for}}
-use Rattle.mk_words.proofs.Seats.{has_not, only_one, others_append, others_one, others_own, same_seat, same_self}
-use Rattle.mk_words.proofs.Made.{own_before}
-use Rattle.mk_words.specs.{Opening.is_open, Seats.Has, States.{PassState, event_of, now_of}, Steps.Makes}
 
 -- The host's pass has seen more: no event of a seat that is home, but for its own.
 pub record MovesOn (p q : PassState) : Type 0 where

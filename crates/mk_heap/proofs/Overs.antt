@@ -1,23 +1,26 @@
 -- The host says that all is over, and gives its turn back.
 use Rattle.std.proofs.lemmas.List.Sums.{count_by-le-length}
-use Rattle.mk_laws.proofs.Vocabulary.{Config, Event, Host, IsHistory, List, None, Seat, Steady, Step, TalliesAreTidy}
-use Rattle.mk_laws.proofs.Vocabulary.{Word, World, ℕ, and_from, ap, append-nil, arith, eq-eqb, false, has_phase}
-use Rattle.mk_laws.proofs.Vocabulary.{host_has_turn, inl, inr, left, ne_eqb, phase_of, refl, subst, true, ◌%◌, ◌+◌, ◌/◌}
-use Rattle.mk_laws.proofs.Vocabulary.{◌^◌, ◌∙◌, ◌≡◌, ◌≤◌, ◌⊎◌}
+use Rattle.mk_alloc.proofs.Below.Laws.Vocabulary.{Config, Event, Host, IsHistory, List, None, Seat, Steady, Step}
+use Rattle.mk_alloc.proofs.Below.Laws.Vocabulary.{TalliesAreTidy, Word, World, ℕ, and_from, ap, append-nil, arith}
+use Rattle.mk_alloc.proofs.Below.Laws.Vocabulary.{eq-eqb, false, has_phase, host_has_turn, inl, inr, left, ne_eqb}
+use Rattle.mk_alloc.proofs.Below.Laws.Vocabulary.{phase_of, refl, subst, true, ◌%◌, ◌+◌, ◌/◌, ◌^◌, ◌∙◌, ◌≡◌, ◌≤◌, ◌⊎◌}
+use Rattle.mk_alloc.proofs.{Below.Laws.Actors.give_phase, Below.Laws.Settled.gone_is_unmapped}
+use Rattle.mk_alloc.proofs.{Below.Laws.Tallies.counts_tidy_more, Below.Cycles.KeptInParts.{free_then, gates_behind}}
+use Rattle.mk_alloc.proofs.Below.Cycles.KeptInParts.{keeps_less, same_config}
+use Rattle.mk_alloc.proofs.Below.Cycles.OwnSteps.{keeps_call, keeps_counts, steady_behind}
+use Rattle.mk_alloc.proofs.{Below.Cycles.Allowed.protocol, Below.Cycles.BeginSteps.none_held_kept}
+use Rattle.mk_alloc.proofs.{Below.Cycles.CleaningSteps.calm_keeps, Below.Cycles.MayAct.may_act, Below.Words.Made.made}
+use Rattle.mk_alloc.proofs.{Below.Words.OverPhases.end_is_behind_over, Below.Words.Tallies.settled_tallies}
+use Rattle.mk_alloc.specs.{Below.Cycles.BeginCycle.BeginsCycle, Below.Cycles.EngineLaw.{IsAtPhase, IsFreeForCycle}}
+use Rattle.mk_alloc.specs.{Below.Cycles.FinishCycle.FinishesCycle, Below.Cycles.TurnKeeps.{LeavesTurn, but_phase}}
+use Rattle.mk_alloc.specs.{Below.Cycles.TurnKeeps.unchanged, Below.Words.Taking.TakesTurn}
+use Rattle.mk_alloc.specs.{Below.Words.Seats.{Has, has_over}, Below.Words.States.{IsTurn, PassState, now_of}}
+use Rattle.mk_alloc.specs.{Below.Words.Steps.{Finds, IsAdmittedTo, IsEnabledTo}, Below.Words.TurnSteps.{Acts, IsFresh}}
+use Rattle.mk_alloc.specs.Below.Words.TurnSteps.{world_at}
 use Rattle.mk_core.proofs.Histories.{calls_more}
 use Rattle.mk_core.specs.{Counts.TalliesAreExact, Frames.CountsAreLeft, Frames.steady_of, Moments.none_is_held}
-use Rattle.mk_laws.proofs.{Actors.give_phase, Settled.gone_is_unmapped, Tallies.counts_tidy_more}
-use Rattle.mk_cycle.proofs.KeptInParts.{free_then, gates_behind, keeps_less, same_config}
-use Rattle.mk_cycle.proofs.OwnSteps.{keeps_call, keeps_counts, steady_behind}
-use Rattle.mk_cycle.proofs.{Allowed.protocol, BeginSteps.none_held_kept, CleaningSteps.calm_keeps, MayAct.may_act}
-use Rattle.mk_cycle.specs.{BeginCycle.BeginsCycle, EngineLaw.IsAtPhase, EngineLaw.IsFreeForCycle}
-use Rattle.mk_cycle.specs.{FinishCycle.FinishesCycle, TurnKeeps.LeavesTurn, TurnKeeps.but_phase, TurnKeeps.unchanged}
 use Rattle.mk_heap.proofs.{HomeCallers.taken_overs, MovedHosts.taken_own, MovedHosts.turn_moves}
 use Rattle.mk_heap.specs.Ending.{IsIdleTurn, TakesIdleTurn}
-use Rattle.mk_waiting.specs.Taking.{TakesTurn}
-use Rattle.mk_words.proofs.{Made.made, OverPhases.end_is_behind_over, Tallies.settled_tallies}
-use Rattle.mk_words.specs.{Seats.Has, Seats.has_over, States.IsTurn, States.PassState, States.now_of, Steps.Finds}
-use Rattle.mk_words.specs.{Steps.IsAdmittedTo, Steps.IsEnabledTo, TurnSteps.Acts, TurnSteps.IsFresh, TurnSteps.world_at}
 
 -- The host's turn before an `over`: whether a cycle is on, and that none is after the end of one.
 

@@ -1,7 +1,7 @@
 -- What the client keeps of its callers' passes.
 use Rattle.std.specs.Prelude.{◌≡◌, ℕ, ◌<◌, [], ◌∷◌}
 use Rattle.mk_core.specs.declared.events.Seat.TheVariants.{Caller}
-use Rattle.mk_words.specs.States.{WordsState, PassState}
+use Rattle.mk_alloc.specs.Below.Words.States.{WordsState, PassState}
 
 -- the pass of one of the heap's callers, which has the events of that seat alone
 pub record IsPassOf (w : WordsState) (p : PassState) : Type 0 where

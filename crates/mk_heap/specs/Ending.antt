@@ -2,10 +2,10 @@
 use Rattle.std.specs.Prelude.{◌≡◌, ◌⊎◌, ℕ, ◌<◌, true, None}
 use Rattle.mk_core.specs.{declared.events.Seat.TheVariants.{Caller, Host}, declared.config.Config.Config}
 use Rattle.mk_core.specs.{Counts.{TalliesAreExact, TalliesAreTidy}, History.World, Moments.none_is_held}
-use Rattle.mk_words.specs.{Seats.Has, States.{PassState, now_of}, Steps.Makes}
-use Rattle.mk_waiting.specs.Taking.{TakesTurn}
-use Rattle.mk_cycle.specs.{EngineLaw.{IsAtPhase, IsFreeForCycle}, BeginCycle.BeginsCycle, FinishCycle.FinishesCycle}
-use Rattle.mk_cycle.specs.Telling.{IsToldAtClose}
+use Rattle.mk_alloc.specs.{Below.Words.Seats.Has, Below.Words.States.{PassState, now_of}, Below.Words.Steps.Makes}
+use Rattle.mk_alloc.specs.{Below.Words.Taking.TakesTurn, Below.Cycles.EngineLaw.{IsAtPhase, IsFreeForCycle}}
+use Rattle.mk_alloc.specs.{Below.Cycles.BeginCycle.BeginsCycle, Below.Cycles.FinishCycle.FinishesCycle}
+use Rattle.mk_alloc.specs.Below.Cycles.Telling.{IsToldAtClose}
 use Rattle.mk_heap.specs.Hosts.{HostState}
 use Rattle.mk_core.specs.declared.events.Step.TheVariants as step
 use Rattle.mk_core.specs.declared.events.Word.TheVariants as word

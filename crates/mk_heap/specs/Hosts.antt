@@ -3,9 +3,8 @@ use Rattle.std.specs.Prelude.{◌≡◌, ℕ, ◌+◌, ◌<◌, ◌≤◌, false
 use Rattle.mk_core.specs.{declared.events.Event.Event, declared.events.Seat.Seat}
 use Rattle.mk_core.specs.{declared.events.Seat.TheVariants.{Caller, Marker, Host}, Calls.at_rest, Growing.Grows}
 use Rattle.mk_core.specs.{History.IsHistory, Moments.{Moment, flight_of, marker_at, outside}, Order.host_has_turn}
-use Rattle.mk_words.specs.{Seats.{Has, all_seats, has_over, without_seat}, Rule.no_config}
-use Rattle.mk_words.specs.States.{WordsState, PassState, now_of}
-use Rattle.mk_turns.specs.Sweeping.{SweepsNothing}
+use Rattle.mk_alloc.specs.{Below.Words.Seats.{Has, all_seats, has_over, without_seat}, Below.Words.Rule.no_config}
+use Rattle.mk_alloc.specs.{Below.Words.States.{WordsState, PassState, now_of}, Below.Words.Sweeping.SweepsNothing}
 
 -- Its pass, and how many callers and markers were made.
 pub record HostState : Type 0 where

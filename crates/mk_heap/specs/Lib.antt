@@ -1,3 +1,4 @@
+pub mod Below
 pub mod Hosts
 pub mod Reports
 pub mod Turns

@@ -5,7 +5,7 @@ use Rattle.mk_core.specs.{Order.seat_exists, Allocations.{PlacedAllocation, held
 use Rattle.mk_core.specs.{Counts.{IsTidy, ends, releases, full_answers, in_a_word}, Cycles.is_quarantined}
 use Rattle.mk_core.specs.History.{left, IsHistory}
 use Rattle.mk_heap.specs.{declared.reports.Report.Report, Hosts.Rests}
-use Rattle.mk_words.specs.Finals as final
+use Rattle.mk_alloc.specs.Below.Words.Finals as final
 
 -- the history of the heap, and what it was made for
 

@@ -1,8 +1,7 @@
 -- What the host does with the turn: it waits for it, looks at a word, and gives it back.
 use Rattle.std.specs.Prelude.{ℕ, Bool, true, false, None}
 use Rattle.mk_core.specs.declared.events.Word.{Word}
-use Rattle.mk_words.specs.{States.PassState, Steps.{Makes, Finds}}
-use Rattle.mk_waiting.specs.Taking.{TakesTurn}
+use Rattle.mk_alloc.specs.{Below.Words.States.PassState, Below.Words.Steps.{Makes, Finds}, Below.Words.Taking.TakesTurn}
 use Rattle.mk_core.specs.declared.events.Step.TheVariants as step
 use Rattle.mk_core.specs.declared.events.Word.TheVariants as word
 

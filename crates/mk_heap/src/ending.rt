@@ -1,8 +1,8 @@
 //! The host's cycles, and the end of a heap.
 ghost use Rattle.std.specs.Prelude.{◌≡◌, None, false};
-ghost use Rattle.mk_words.specs.{Seats.{Has, HasCallers, has_over}, Steps.IsEnabledTo};
-ghost use Rattle.mk_cycle.specs.{Begun.EachIsBegun, EngineLaw.IsAtPhase};
-ghost use Rattle.mk_turns.specs.Sweeping.{SweepsNothing};
+ghost use Rattle.mk_alloc.specs.{Below.Words.Seats.{Has, HasCallers, has_over}, Below.Words.Steps.IsEnabledTo};
+ghost use Rattle.mk_alloc.specs.{Below.Cycles.Begun.EachIsBegun, Below.Cycles.EngineLaw.IsAtPhase};
+ghost use Rattle.mk_alloc.specs.Below.Words.Sweeping.{SweepsNothing};
 ghost use Rattle.mk_heap.specs.Ending.{CallersAreJoined, IsIdleTurn, MakesToldCycle, SaysOver, TakesIdleTurn};
 ghost use Rattle.mk_heap.specs.Hosts.{with_seen};
 ghost use Rattle.mk_core.specs.declared.events.Seat.TheVariants as seat;
@@ -11,9 +11,9 @@ ghost use Rattle.mk_core.specs.declared.events.Step.TheVariants as step;
 use crate::heaps::Heap;
 use crate::hosts::{Host, take_home};
 use mk_core::{Phase, Word};
-use mk_cycle::{Engine, begin_cycle, finish_cycle};
-use mk_waiting::take_turn;
-use mk_words::{Pass, Turn, Words};
+use mk_alloc::lower::cycles::{Engine, begin_cycle, finish_cycle};
+use mk_alloc::lower::words::take_turn;
+use mk_alloc::lower::words::{Pass, Turn, Words};
 use std::sync::Wait;
 use std::thread::Threads;
 

@@ -7,7 +7,7 @@ use crate::hosts::Host;
 use crate::reports::Report;
 use mk_core::Config;
 use mk_never::NoMemory;
-use mk_words::Words;
+use mk_alloc::lower::words::Words;
 use std::alloc::Global;
 use std::marker::Model;
 
@@ -18,7 +18,7 @@ pub struct Heap {
 }
 
 impl Model for Heap {
-    ghost use Rattle.mk_words.specs.States.{WordsState};
+    ghost use Rattle.mk_alloc.specs.Below.Words.States.{WordsState};
 
     ghost Value = { WordsState };
 

@@ -1,13 +1,12 @@
 //! A heap, and its host, which creates callers and markers, joins them, and closes the heap.
 //!
-//! The report of `Heap::close` has the whole history, to proofs alone, and its tallies. Start with `heaps` and `hosts`;
-//! `clients` has a small program.
+//! The report of `Heap::close` has the whole history, to proofs alone, and its tallies. Start with `heaps` and `hosts`.
 #![tactic(auto)]
 
-mod clients;
 mod ending;
 mod heaps;
 mod hosts;
+pub mod lower;
 mod reports;
 
 pub use heaps::Heap;

@@ -1,6 +1,6 @@
 //! What is reported of a heap that is closed.
 
-use mk_words::Final;
+use mk_alloc::lower::words::Final;
 
 /// The counts of the heap's history: storage words held and fresh, freed and unreleased allocations, released ones,
 /// cycles ended and Full answers. The history itself stays known, to proofs alone.

@@ -8,11 +8,11 @@ use Rattle.mk_heap_tests.proofs.Vocabulary.{BothMayAllocate, CallerState, Err, I
 use Rattle.mk_heap_tests.proofs.Vocabulary.{MayAllocate, Ok, OnOk, PassState, Result, WordsState, caller_of_pass}
 use Rattle.mk_heap_tests.proofs.{Vocabulary.value_of, JoinedHosts.{has_registers, null_at_first, pass_after}}
 use Rattle.mk_never.specs.{Admitted.IsBase, NeverHeap.after_op}
-use Rattle.mk_alloc.specs.TurnCalls.{CalledInTurn, FreesObject, IsAnsweredDouble, IsAnsweredFull}
-use Rattle.mk_alloc.specs.declared.making.Full.{Full}
-use Rattle.mk_caller.{proofs.After.{set_same}, specs.States.{never_then}}
+use Rattle.mk_run.specs.Below.Objects.TurnCalls.{CalledInTurn, FreesObject, IsAnsweredDouble, IsAnsweredFull}
+use Rattle.mk_run.specs.{Below.Objects.declared.making.Full.Full, Below.Callers.States.never_then}
+use Rattle.mk_run.specs.{Below.Objects.declared.retirement.Double.Double, Below.Objects.declared.retirement.Freed.Freed}
+use Rattle.mk_run.proofs.Below.Callers.After.{set_same}
 use Rattle.mk_heap_tests.specs.HeldObjects.{BothGoOn, GoesOn, HoldsObjects, MayMakeObjects}
-use Rattle.mk_objects.specs.{declared.freeing.Double.Double, declared.freeing.Freed.Freed}
 use Rattle.mk_run.specs.Joining.{IsFirstPass}
 
 -- what calls ask of such a caller

@@ -3,16 +3,16 @@ use Rattle.mk_laws.proofs.Vocabulary.{Answer, Bool, Caller, IsHistory, Op, Some,
 use Rattle.mk_laws.proofs.Vocabulary.{caller_number, false, length, lt-ltb, refl, sym, ◌<◌, ◌∙◌, ◌≡◌}
 use Rattle.mk_heap_tests.proofs.Vocabulary.{IsEnabledTo, IsPassFor, IsPassOfObjects, IsTurn, PassState, WordsState}
 use Rattle.mk_heap_tests.proofs.Vocabulary.{caller_of_pass, now_of}
-use Rattle.mk_alloc.proofs.CalledTurns.{Taken, callers, take_allowed, taken_phase, taken_same}
-use Rattle.mk_alloc.proofs.FreedTurns.{Frees, Refuses, double_answered, freed, freed_object, refused, unloaded}
-use Rattle.mk_alloc.proofs.NewTurns.{begun_quiet, begun_unplaced, operands_of}
-use Rattle.mk_alloc.proofs.{Going.give_allowed, SeekingTurns.seeks_placed}
-use Rattle.mk_alloc.specs.{Rooms.Seeks, TurnCalls.CalledInTurn, Underway.BeginsTurn, Underway.TurnGoesOn}
-use Rattle.mk_heap.proofs.MovedHosts.{taken_own}
+use Rattle.mk_run.proofs.Below.Objects.CalledTurns.{Taken, callers, take_allowed, taken_phase, taken_same}
+use Rattle.mk_run.proofs.Below.Objects.FreedTurns.{Frees, Refuses, double_answered, freed, freed_object, refused}
+use Rattle.mk_run.proofs.{Below.Objects.FreedTurns.unloaded, Below.Objects.NewTurns.{begun_quiet, begun_unplaced}}
+use Rattle.mk_run.proofs.{Below.Objects.NewTurns.operands_of, Below.Objects.Going.give_allowed}
+use Rattle.mk_run.proofs.{Below.Objects.SeekingTurns.seeks_placed, Below.Heaps.MovedHosts.taken_own}
+use Rattle.mk_run.specs.{Below.Objects.Rooms.Seeks, Below.Objects.TurnCalls.CalledInTurn}
+use Rattle.mk_run.specs.{Below.Objects.Underway.{BeginsTurn, TurnGoesOn}, Below.Objects.Placing.{IsOutOfStop, IsPlaced}}
+use Rattle.mk_run.specs.{Below.Objects.Placing.IsUnplaced, Below.Objects.Retired.{FindsFreed, Retires}}
+use Rattle.mk_run.specs.{Below.Objects.Retiring.IsUnloaded, Below.Words.States.call_of, Below.Words.Steps.Makes}
 use Rattle.mk_heap_tests.{proofs.HeldObjects.free_keeps, proofs.JoinedHosts.alone_in, specs.Taken.IsTaken}
-use Rattle.mk_objects.specs.Placing.{IsOutOfStop, IsPlaced, IsUnplaced}
-use Rattle.mk_objects.specs.{Retired.FindsFreed, Retired.Retires, Retiring.IsUnloaded}
-use Rattle.mk_words.specs.{States.call_of, Steps.Makes}
 
 abbrev pub first_new : Op
 first_new = Op.New 0 0 false

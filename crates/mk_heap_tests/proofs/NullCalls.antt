@@ -4,9 +4,10 @@ use Rattle.mk_laws.proofs.Vocabulary.{Answer, Bool, Null, Op, Some, ℕ, ap, ari
 use Rattle.mk_laws.proofs.Vocabulary.{◌≡◌, ◌≢◌}
 use Rattle.mk_heap_tests.proofs.Vocabulary.{Err, HoldsNull, IsCaller, Ok, OnOk, PassState, Result, caller_of_pass}
 use Rattle.mk_heap_tests.proofs.Vocabulary.{value_of}
-use Rattle.mk_caller.proofs.After.{calls_leave_other_registers}
-use Rattle.mk_caller.specs.{Called.Called, Called.IsAnswered, Called.Says, Causes.FindsGateHeld, Causes.IsRefused}
-use Rattle.mk_caller.specs.{Laws.destination, States.Admits, States.never_of, declared.refusals.Refusal.Refusal}
+use Rattle.mk_run.proofs.Below.Callers.After.{calls_leave_other_registers}
+use Rattle.mk_run.specs.Below.Callers.Called.{Called, IsAnswered, Says}
+use Rattle.mk_run.specs.{Below.Callers.Causes.{FindsGateHeld, IsRefused}, Below.Callers.Laws.destination}
+use Rattle.mk_run.specs.{Below.Callers.States.{Admits, never_of}, Below.Callers.declared.refusals.Refusal.Refusal}
 use Rattle.mk_heap_tests.{proofs.JoinedHosts.globals_are, proofs.JoinedHosts.has_registers, specs.Passes.StaysNull}
 
 of_a_caller : {p : PassState} → HoldsNull p → IsCaller (never_of p) (caller_of_pass p)

@@ -2,8 +2,7 @@
 use Rattle.std.specs.Prelude.{◌≡◌, ℕ, ◌<◌, true, [], ◌∷◌, length}
 use Rattle.mk_never.specs.Admitted.{IsBase}
 use Rattle.mk_core.specs.declared.events.Seat.TheVariants.{Caller}
-use Rattle.mk_words.specs.States.{PassState, WordsState}
-use Rattle.mk_caller.specs.States.{CallerState, value_of}
+use Rattle.mk_run.specs.{Below.Words.States.{PassState, WordsState}, Below.Callers.States.{CallerState, value_of}}
 use Rattle.mk_heap_tests.specs.Passes.{IsPassFor}
 
 -- Each of the caller's registers is null, or points to an object's first word.

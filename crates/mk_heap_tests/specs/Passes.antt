@@ -4,11 +4,9 @@ use Rattle.std.specs.Prelude.{◌≡◌, ℕ, ◌<◌, true, false, [], ◌∷�
 use Rattle.mk_never.specs.declared.values.Value.TheVariants.{Null}
 use Rattle.mk_core.specs.{declared.events.Seat.TheVariants.{Caller, Marker, Host}, Moments.none_is_held}
 use Rattle.mk_core.specs.Order.{host_has_turn}
-use Rattle.mk_words.specs.{Seats.{Has, has_over}, States.{WordsState, PassState, now_of}}
-use Rattle.mk_caller.specs.States.{value_of, IsIdleCaller}
-use Rattle.mk_marker.specs.Markers.{IsOut}
-use Rattle.mk_cycle.specs.EngineLaw.{IsAtPhase, IsFreeForCycle}
-use Rattle.mk_heap.specs.Hosts.{HostState}
+use Rattle.mk_run.specs.{Below.Words.Seats.{Has, has_over}, Below.Words.States.{WordsState, PassState, now_of}}
+use Rattle.mk_run.specs.{Below.Callers.States.{value_of, IsIdleCaller}, Below.Markers.Markers.IsOut}
+use Rattle.mk_run.specs.{Below.Cycles.EngineLaw.{IsAtPhase, IsFreeForCycle}, Below.Heaps.Hosts.HostState}
 use Rattle.mk_run.specs.Joining.{IsFirstPass}
 
 -- a caller's pass, whose register 1 is null

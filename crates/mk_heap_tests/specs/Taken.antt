@@ -2,8 +2,8 @@
 use Rattle.std.specs.Prelude.{Option}
 use Rattle.mk_never.specs.declared.operations.Op.{Op}
 use Rattle.mk_core.specs.Counts.{TalliesAreExact, TalliesAreTidy}
-use Rattle.mk_words.specs.{Seats.CallersAreBeforeOver, States.{IsTurn, PassState}, TurnSteps.IsFresh}
-use Rattle.mk_waiting.specs.Taking.{TakesTurn}
+use Rattle.mk_run.specs.{Below.Words.Seats.CallersAreBeforeOver, Below.Words.States.{IsTurn, PassState}}
+use Rattle.mk_run.specs.{Below.Words.TurnSteps.IsFresh, Below.Words.Taking.TakesTurn}
 
 -- The pass has taken the turn for this, and has made no step in it.
 pub record IsTaken (p : PassState) (o : Option Op) (q : PassState) : Type 0 where

@@ -1,13 +1,13 @@
 //! What the tests begin with: a heap that nobody has used, or its words alone, and the passes of its two callers.
 ghost use Rattle.std.specs.Prelude.{◌≡◌, ◌<◌, length, IfOk};
 ghost use Rattle.mk_core.specs.Config.{IsWithinLimits};
-ghost use Rattle.mk_heap.specs.Hosts.{first_host, with_caller_made};
+ghost use Rattle.mk_run.specs.Below.Heaps.Hosts.{first_host, with_caller_made};
 ghost use Rattle.mk_heap_tests.specs.Passes.{AreOfTwo, IsHostsPass, IsPassFor};
 
 use mk_core::{Config, Seat};
-use mk_heap::{Heap, Host, Report};
+use mk_run::lower::heaps::{Heap, Host, Report};
 use mk_never::NoMemory;
-use mk_words::{Pass, Words};
+use mk_run::lower::words::{Pass, Words};
 use std::alloc::Global;
 
 /// A heap, its host, and the passes of its two callers.

@@ -1,13 +1,13 @@
 //! Two callers at once, each on a thread of its own, whose calls are on registers that stay null.
 ghost use Rattle.std.specs.Prelude.{◌≡◌, ◌<◌, true};
-ghost use Rattle.mk_heap.specs.Hosts.{first_host, with_caller_made};
+ghost use Rattle.mk_run.specs.Below.Heaps.Hosts.{first_host, with_caller_made};
 ghost use Rattle.mk_run.specs.Joining.{IsFirstPass};
 ghost use Rattle.mk_heap_tests.specs.Passes.{AreOfTwo, HoldsNull, IsPassFor, StaysNull};
 
 use crate::beginnings::{TwoCallers, close};
-use mk_caller::{Caller, Refusal};
-use mk_heap::{Heap, Report};
-use mk_words::{Held, Pass};
+use mk_run::lower::callers::{Caller, Refusal};
+use mk_run::lower::heaps::{Heap, Report};
+use mk_run::lower::words::{Held, Pass};
 use std::thread;
 use std::thread::Threads;
 

@@ -1,7 +1,7 @@
 //! Which frees are due, on one page of 32 objects.
 
 use crate::runs::{printed, run_of};
-use mk_engines::StopEngine;
+use mk_run::lower::cycles::StopEngine;
 use mk_run::{NoPace, Outcome};
 use std::alloc::Global;
 use std::sync::Wait;

@@ -1,10 +1,10 @@
 //! A gate that the host holds: its caller's call is refused, and that of another caller is made.
 ghost use Rattle.std.specs.Prelude.{◌≡◌, true};
-ghost use Rattle.mk_heap.specs.Clients.{IsPassOf};
+ghost use Rattle.mk_run.specs.Below.Heaps.Clients.{IsPassOf};
 ghost use Rattle.mk_heap_tests.specs.Passes.{AreOfTwo, IsHostsPass};
 
 use crate::beginnings::Split;
-use mk_caller::Caller;
+use mk_run::lower::callers::Caller;
 
 /// Clears a register, and says whether the caller's gate was open.
 fn clear(caller: &mut Caller) -> bool
@@ -52,7 +52,7 @@ mod tests {
     use super::{Made, hold_first};
     use crate::beginnings::split_callers;
     use crate::configs::one_page;
-    use mk_caller::Refusal;
+    use mk_run::lower::callers::Refusal;
     use mk_never::Kind;
     use std::test::Fail;
 

@@ -1,20 +1,20 @@
 //! A marker that comes before a cycle, to a cycle that is on, and when all is over. All is done on one thread.
 ghost use Rattle.std.specs.Prelude.{◌≡◌, ◌<◌, length, true, false, IfOk, IfSome};
 ghost use Rattle.mk_core.specs.Config.{IsWithinLimits};
-ghost use Rattle.mk_marker.specs.Markers.{attends};
+ghost use Rattle.mk_run.specs.Below.Markers.Markers.{attends};
 ghost use Rattle.mk_run.specs.Joining.{IsFirstPass};
 ghost use Rattle.mk_heap_tests.specs.Passes.{HostIsMarking, IsHostsPass, IsMarkerOut};
 
 use crate::beginnings::Split;
 use crate::objects::make;
 use crate::turns::take;
-use mk_caller::Caller;
+use mk_run::lower::callers::Caller;
 use mk_core::{Config, Phase, Seat, Word};
-use mk_cycle::{Engine, begin_cycle};
-use mk_heap::{Heap, Report};
-use mk_marker::{Marker, Work};
+use mk_run::lower::cycles::{Engine, begin_cycle};
+use mk_run::lower::heaps::{Heap, Report};
+use mk_run::lower::markers::{Marker, Work};
 use mk_never::NoMemory;
-use mk_words::{Pass, Turn, Words};
+use mk_run::lower::words::{Pass, Turn, Words};
 use std::alloc::Global;
 use std::sync::Wait;
 use std::thread::Threads;
@@ -155,9 +155,9 @@ pub(crate) fn come_when_over<E: Engine, R: Threads + Wait + Sync>(
 mod tests {
     use super::{come_to_a_cycle, come_when_over, split_for_one};
     use crate::configs::one_page;
-    use mk_cycle::Engine;
-    use mk_engines::MostlyEngine;
-    use mk_marker::Work;
+    use mk_run::lower::cycles::Engine;
+    use mk_run::lower::cycles::MostlyEngine;
+    use mk_run::lower::markers::Work;
     use mk_never::Kind;
     use std::test::Fail;
 

@@ -1,13 +1,13 @@
 //! Objects of two words that callers make and free by direct calls, on one page of 32 cells.
 ghost use Rattle.std.specs.Prelude.{◌≡◌, ◌<◌};
-ghost use Rattle.mk_heap.specs.Hosts.{first_host, with_caller_made};
+ghost use Rattle.mk_run.specs.Below.Heaps.Hosts.{first_host, with_caller_made};
 ghost use Rattle.mk_heap_tests.specs.{HeldObjects.{BothGoOn, BothMayAllocate, GoesOn, MayAllocate}, Passes.AreOfTwo};
 
 use crate::beginnings::{TwoCallers, close};
-use mk_alloc::{Double, Freed, free_object, new_object};
-use mk_caller::Caller;
-use mk_cycle::Engine;
-use mk_heap::Report;
+use mk_run::lower::objects::{Double, Freed, free_object, new_object};
+use mk_run::lower::callers::Caller;
+use mk_run::lower::cycles::Engine;
+use mk_run::lower::heaps::Report;
 use std::sync::Wait;
 use std::thread::Threads;
 
@@ -138,8 +138,8 @@ mod tests {
     use super::{Answers, fill_a_page};
     use crate::beginnings::two_callers;
     use crate::configs::one_page;
-    use mk_cycle::Engine;
-    use mk_engines::StopEngine;
+    use mk_run::lower::cycles::Engine;
+    use mk_run::lower::cycles::StopEngine;
     use mk_never::Kind;
     use std::test::Fail;
 

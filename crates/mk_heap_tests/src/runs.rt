@@ -1,7 +1,7 @@
 //! Runs of texts, with an engine and a pace of one's own.
 
 use mk_check::check;
-use mk_cycle::Engine;
+use mk_run::lower::cycles::Engine;
 use mk_run::{Outcome, Pace, run_all};
 use mk_script::parse;
 use std::alloc::{AllocError, Global};

@@ -2,16 +2,16 @@
 //! or its gate held, is told so.
 ghost use Rattle.std.specs.Prelude.{◌≡◌, ◌<◌, length, IfSome};
 ghost use Rattle.mk_core.specs.Config.{IsWithinLimits};
-ghost use Rattle.mk_words.specs.Steps.{IsEnabledTo};
+ghost use Rattle.mk_run.specs.Below.Words.Steps.{IsEnabledTo};
 ghost use Rattle.mk_heap_tests.specs.{Passes.IsPassFor, Taken.IsTaken};
 ghost use Rattle.mk_core.specs.declared.events.Step.TheVariants as step;
 
 use crate::beginnings::split_callers;
-use mk_alloc::{Request, place_object};
+use mk_run::lower::objects::{Request, place_object};
 use mk_core::Config;
 use mk_never::{NoMemory, Op};
-use mk_waiting::take_turn;
-use mk_words::{Pass, Turn, Words};
+use mk_run::lower::words::take_turn;
+use mk_run::lower::words::{Pass, Turn, Words};
 use std::alloc::Global;
 use std::sync::Wait;
 

@@ -139,3 +139,4 @@ pub mod UnmappedRuns
 pub mod UnsetWords
 pub mod Promises
 pub mod Basics
+pub mod PointedCells

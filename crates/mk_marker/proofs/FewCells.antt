@@ -1,6 +1,6 @@
 -- A page has at most 32 cells.
-use Rattle.mk_laws.proofs.Vocabulary.{Header, None, Option, Some, ℕ, arith, cell_ends, cells_of, cells_under, header_of}
-use Rattle.mk_laws.proofs.Vocabulary.{mul-le, refl, ◌<◌, ◌≡◌}
+use Rattle.mk_words.proofs.Below.Laws.Vocabulary.{Header, None, Option, Some, ℕ, arith, cell_ends, cells_of}
+use Rattle.mk_words.proofs.Below.Laws.Vocabulary.{cells_under, header_of, mul-le, refl, ◌<◌, ◌≡◌}
 use Rattle.mk_geom.proofs.{ClassTable.class_words_within, HeaderLemmas.word_of-header_of}
 
 few_of_class : (class k : ℕ) → class < 8 → k < cells_of class → k < 32

@@ -2,7 +2,6 @@ pub mod Did
 pub mod Moving
 pub mod FewCells
 pub mod Scanned
-pub mod PointedCells
 pub mod MarkBits
 pub mod NewMarks
 pub mod MarkedCells

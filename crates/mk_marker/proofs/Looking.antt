@@ -1,17 +1,17 @@
 -- Looks at pages, one after the other.
 use Rattle.std.proofs.Common.{IfNone, IfSome}
-use Rattle.mk_laws.proofs.Vocabulary.{Caller, Config, Host, IsMarking, List, Marker, MarkerState, Moment, None, Option}
-use Rattle.mk_laws.proofs.Vocabulary.{Seat, SeenHeader, Some, Step, Word, ℕ, and_parts, ap, append_assoc, arith}
-use Rattle.mk_laws.proofs.Vocabulary.{cells_under, has_bit, has_bit_without, header_at, header_of, inl, inr}
-use Rattle.mk_laws.proofs.Vocabulary.{is_attending, marker_at, marker_behind, not, not-true, refl, subst, sym, true}
-use Rattle.mk_laws.proofs.Vocabulary.{without, [], ◌++◌, ◌+◌, ◌<◌, ◌∙◌, ◌∷◌, ◌≡◌, ◌≢◌, ◌≤◌, ◌⊎◌}
-use Rattle.mk_laws.proofs.Known.{Known, known_left}
+use Rattle.mk_words.proofs.Below.Laws.Vocabulary.{Caller, Config, Host, IsMarking, List, Marker, MarkerState, Moment}
+use Rattle.mk_words.proofs.Below.Laws.Vocabulary.{None, Option, Seat, SeenHeader, Some, Step, Word, ℕ, and_parts, ap}
+use Rattle.mk_words.proofs.Below.Laws.Vocabulary.{append_assoc, arith, cells_under, has_bit, has_bit_without, header_at}
+use Rattle.mk_words.proofs.Below.Laws.Vocabulary.{header_of, inl, inr, is_attending, marker_at, marker_behind, not}
+use Rattle.mk_words.proofs.Below.Laws.Vocabulary.{not-true, refl, subst, sym, true, without, [], ◌++◌, ◌+◌, ◌<◌, ◌∙◌}
+use Rattle.mk_words.proofs.{Below.Laws.Vocabulary.{◌∷◌, ◌≡◌, ◌≢◌, ◌≤◌, ◌⊎◌}, Below.Laws.Known.{Known, known_left}}
+use Rattle.mk_words.proofs.Doing.{of_kinds_in_parts}
 use Rattle.mk_core.specs.{Growing.Finding, Words.named_word}
 use Rattle.mk_marker.proofs.{Did.{did_nothing, did_then, seat_kept}, MarkedCells.marks_are_of_cells}
 use Rattle.mk_marker.specs.{Doing.{Did, finding, is_markers_look, looking}, Markers.{IsBetweenScans, attends}}
 use Rattle.mk_marker.specs.{Markers.between_scans, Steps.{IsMarkedIn, LooksInVain, MovesMarker, SeesCell}}
 use Rattle.mk_marker.specs.{Working.{SeesACell, SeesNoWork}, declared.cells.MarkedCell.MarkedCell}
-use Rattle.mk_turns.proofs.Doing.{of_kinds_in_parts}
 use Rattle.mk_words.specs.{Markers.marker_in, States.{PassState, now_of}}
 
 -- one more step

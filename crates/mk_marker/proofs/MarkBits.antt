@@ -1,14 +1,17 @@
 -- What an event leaves of the marks while a cycle marks: each is of a cell, or of one that a New is to carve.
-use Rattle.mk_laws.proofs.Vocabulary.{Bool, Chosen, Config, HeaderGoesOn, Holding, IsMarking, IsPlaced, IsSized}
-use Rattle.mk_laws.proofs.Vocabulary.{IsWithinLimits, ItGivesBack, ItTakes, Moment, Object, Place, Placing, Seat, Stage}
-use Rattle.mk_laws.proofs.Vocabulary.{Step, Unplaced, Used, UsedStep, World, ℕ, and_parts, ap, arith, cells_made}
-use Rattle.mk_laws.proofs.Vocabulary.{cells_under, chosen, eqb-true, false, flight_of, has_bit, has_place, header_at}
-use Rattle.mk_laws.proofs.Vocabulary.{header_in, header_made, header_of, held_by_pages, if◌then◌else◌, inl, inr}
-use Rattle.mk_laws.proofs.Vocabulary.{is_decided, is_run_gone, made_shows, ne_eqb, nothing_done, object_made}
-use Rattle.mk_laws.proofs.Vocabulary.{object_now, pages_some, part_cells, phase_of, placed_now, slice_index, subst, sym}
-use Rattle.mk_laws.proofs.Vocabulary.{true, true≢false, undecided_new, used_step, ◌&&◌, ◌+◌, ◌<◌, ◌==◌, ◌∙◌, ◌≡◌, ◌⊎◌}
-use Rattle.mk_laws.proofs.LayoutHolders.{giver_has_turn, holding_object, made_sized, new_has_turn, placed_undecided}
-use Rattle.mk_laws.proofs.{Actors.Meets, Behind.object_kind, Known.Known, OthersMoves.WorldBehind}
+use Rattle.mk_words.proofs.Below.Laws.Vocabulary.{Bool, Chosen, Config, HeaderGoesOn, Holding, IsMarking, IsPlaced}
+use Rattle.mk_words.proofs.Below.Laws.Vocabulary.{IsSized, IsWithinLimits, ItGivesBack, ItTakes, Moment, Object, Place}
+use Rattle.mk_words.proofs.Below.Laws.Vocabulary.{Placing, Seat, Stage, Step, Unplaced, Used, UsedStep, World, ℕ}
+use Rattle.mk_words.proofs.Below.Laws.Vocabulary.{and_parts, ap, arith, cells_made, cells_under, chosen, eqb-true}
+use Rattle.mk_words.proofs.Below.Laws.Vocabulary.{false, flight_of, has_bit, has_place, header_at, header_in}
+use Rattle.mk_words.proofs.Below.Laws.Vocabulary.{header_made, header_of, held_by_pages, if◌then◌else◌, inl, inr}
+use Rattle.mk_words.proofs.Below.Laws.Vocabulary.{is_decided, is_run_gone, made_shows, ne_eqb, nothing_done}
+use Rattle.mk_words.proofs.Below.Laws.Vocabulary.{object_made, object_now, pages_some, part_cells, phase_of, placed_now}
+use Rattle.mk_words.proofs.Below.Laws.Vocabulary.{slice_index, subst, sym, true, true≢false, undecided_new, used_step}
+use Rattle.mk_words.proofs.Below.Laws.Vocabulary.{◌&&◌, ◌+◌, ◌<◌, ◌==◌, ◌∙◌, ◌≡◌, ◌⊎◌}
+use Rattle.mk_words.proofs.Below.Laws.LayoutHolders.{giver_has_turn, holding_object, made_sized, new_has_turn}
+use Rattle.mk_words.proofs.{Below.Laws.LayoutHolders.placed_undecided, Below.Laws.Actors.Meets}
+use Rattle.mk_words.proofs.{Below.Laws.Behind.object_kind, Below.Laws.Known.Known, Below.Laws.OthersMoves.WorldBehind}
 
 -- the cell of a place whose first page is to be carved
 pub record IsToCarve (c : Config) (m : Moment) (p k : ℕ) : Type 0 where

@@ -1,15 +1,20 @@
 -- While a cycle marks, each mark on a page that has a header is of a cell.
-use Rattle.mk_laws.proofs.Vocabulary.{AreOfPages, Config, Event, GuardPremises, HeaderGoesOn, IsHistory, IsMarking}
-use Rattle.mk_laws.proofs.Vocabulary.{IsPlotShown, IsWithinLimits, LayoutStands, List, Placing, PlotStands, Seat, Step}
-use Rattle.mk_laws.proofs.Vocabulary.{World, ℕ, all_below, all_below-at, and_parts, append-nil, append_assoc, arith}
-use Rattle.mk_laws.proofs.Vocabulary.{cases_lt, cells_under, earlier_part_is_history, eqb-true, false, get_or_past}
-use Rattle.mk_laws.proofs.Vocabulary.{has_bit, has_clean_page, header_at, header_in, header_made, inl, inr, left}
-use Rattle.mk_laws.proofs.Vocabulary.{never_behind, no_bit, object_now, pages_some, phase_of, plot_of, refl}
-use Rattle.mk_laws.proofs.Vocabulary.{slice_index, subst, sym, true, true≢false, [], ◌&&◌, ◌++◌, ◌+◌, ◌<◌, ◌==◌, ◌∙◌}
-use Rattle.mk_laws.proofs.{Vocabulary.{◌∷◌, ◌≡◌, ◌≢◌, ◌⊎◌}, Phases.{is_phase_step, over_phase, phase_stays}}
-use Rattle.mk_laws.proofs.{Actors.Meets, Changes.{headers_kind, is_head}, FoundHeaders.{head_finds, head_keeps}}
-use Rattle.mk_laws.proofs.{InvariantHistories.told_to_guard, KeptGuard.goes_equal, Known.Known}
-use Rattle.mk_laws.{proofs.{LastEvents.{comes_last, stands}, OthersMoves.WorldBehind}, specs.Guard.{Guard, MarksStand}}
+use Rattle.mk_words.proofs.Below.Laws.Vocabulary.{AreOfPages, Config, Event, GuardPremises, HeaderGoesOn, IsHistory}
+use Rattle.mk_words.proofs.Below.Laws.Vocabulary.{IsMarking, IsPlotShown, IsWithinLimits, LayoutStands, List, Placing}
+use Rattle.mk_words.proofs.Below.Laws.Vocabulary.{PlotStands, Seat, Step, World, ℕ, all_below, all_below-at, and_parts}
+use Rattle.mk_words.proofs.Below.Laws.Vocabulary.{append-nil, append_assoc, arith, cases_lt, cells_under}
+use Rattle.mk_words.proofs.Below.Laws.Vocabulary.{earlier_part_is_history, eqb-true, false, get_or_past, has_bit}
+use Rattle.mk_words.proofs.Below.Laws.Vocabulary.{has_clean_page, header_at, header_in, header_made, inl, inr, left}
+use Rattle.mk_words.proofs.Below.Laws.Vocabulary.{never_behind, no_bit, object_now, pages_some, phase_of, plot_of, refl}
+use Rattle.mk_words.proofs.Below.Laws.Vocabulary.{slice_index, subst, sym, true, true≢false, [], ◌&&◌, ◌++◌, ◌+◌, ◌<◌}
+use Rattle.mk_words.proofs.Below.Laws.Vocabulary.{◌==◌, ◌∙◌, ◌∷◌, ◌≡◌, ◌≢◌, ◌⊎◌}
+use Rattle.mk_words.proofs.{Below.Laws.Phases.{is_phase_step, over_phase, phase_stays}, Below.Laws.Actors.Meets}
+use Rattle.mk_words.proofs.Below.Laws.Changes.{headers_kind, is_head}
+use Rattle.mk_words.proofs.Below.Laws.FoundHeaders.{head_finds, head_keeps}
+use Rattle.mk_words.proofs.{Below.Laws.InvariantHistories.told_to_guard, Below.Laws.KeptGuard.goes_equal}
+use Rattle.mk_words.proofs.{Below.Laws.Known.Known, Below.Laws.LastEvents.{comes_last, stands}}
+use Rattle.mk_words.proofs.Below.Laws.OthersMoves.{WorldBehind}
+use Rattle.mk_words.specs.Below.Laws.Guard.{Guard, MarksStand}
 use Rattle.mk_core.specs.History.{left_from}
 use Rattle.mk_marker.proofs.MarkBits.{IsCell, IsToCarve, MarksAreOfCells, made_has, marking_not_four, still_a_cell}
 use Rattle.mk_marker.proofs.NewMarks.{new_mark}

@@ -1,18 +1,20 @@
 -- One step of a marker: what it leaves.
-use Rattle.mk_laws.proofs.Vocabulary.{Bool, Caller, Config, Host, List, Marker, MarkerState, Moment, None, Seat, Some}
-use Rattle.mk_laws.proofs.Vocabulary.{Step, Word, World, ℕ, ap, append_assoc, arith, bit_or, cells_under, eq-eqb, found}
-use Rattle.mk_laws.proofs.Vocabulary.{has_bit, header_of, histories_keep_lengths, if◌then◌else◌, is_attending, left}
-use Rattle.mk_laws.proofs.Vocabulary.{lt-ltb, marker_at, marker_behind, refl, scan_begun, scan_page, slice_index}
-use Rattle.mk_laws.proofs.Vocabulary.{slice_set, subst, sym, true, words_under, world_behind, [], ◌%◌, ◌*◌, ◌++◌, ◌+◌}
-use Rattle.mk_laws.proofs.{Vocabulary.{◌-◌, ◌<◌, ◌∙◌, ◌∷◌, ◌≡◌, ◌≤◌}, Changes.marks_kind}
+use Rattle.mk_words.proofs.Below.Laws.Vocabulary.{Bool, Caller, Config, Host, List, Marker, MarkerState, Moment, None}
+use Rattle.mk_words.proofs.Below.Laws.Vocabulary.{Seat, Some, Step, Word, World, ℕ, ap, append_assoc, arith, bit_or}
+use Rattle.mk_words.proofs.Below.Laws.Vocabulary.{cells_under, eq-eqb, found, has_bit, header_of}
+use Rattle.mk_words.proofs.Below.Laws.Vocabulary.{histories_keep_lengths, if◌then◌else◌, is_attending, left, lt-ltb}
+use Rattle.mk_words.proofs.Below.Laws.Vocabulary.{marker_at, marker_behind, refl, scan_begun, scan_page, slice_index}
+use Rattle.mk_words.proofs.Below.Laws.Vocabulary.{slice_set, subst, sym, true, words_under, world_behind, [], ◌%◌, ◌*◌}
+use Rattle.mk_words.proofs.Below.Laws.Vocabulary.{◌++◌, ◌+◌, ◌-◌, ◌<◌, ◌∙◌, ◌∷◌, ◌≡◌, ◌≤◌}
+use Rattle.mk_words.proofs.{Below.Laws.Changes.marks_kind, Doing.{done_in_parts, none_own, others_are_so}}
+use Rattle.mk_words.proofs.Doing.{own_or_others_in_parts}
+use Rattle.mk_words.specs.Doing.{AreOwnOrOfOthers}
 use Rattle.mk_core.proofs.{Conditions.meets_enabled, WordBits.{bit_for_has, bits_added}}
 use Rattle.mk_core.specs.{Accesses.scan_bit, Bits.bit_for, Frames.{Attends, ScanIsLeft}, Growing.own_from}
 use Rattle.mk_core.specs.{Words.named_word, declared.seats.Presence.TheVariants.Attending}
 use Rattle.mk_marker.specs.Steps.{ClaimsMarked, IsMarkedIn, IsOf, IsScanning, IsScanOf, MarksGrow, Moved, MovesMarker}
 use Rattle.mk_marker.specs.{Steps.words_left, Doing.finding, Markers.{attends, between_scans}, Scanning.words_scanned}
 use Rattle.mk_marker.specs.{Working.IsBlackIn, declared.cells.MarkedCell.MarkedCell}
-use Rattle.mk_turns.proofs.Doing.{done_in_parts, none_own, others_are_so, own_or_others_in_parts}
-use Rattle.mk_turns.specs.Doing.{AreOwnOrOfOthers}
 use Rattle.mk_words.proofs.{Made.{made, own_before}, Seats.same_self}
 use Rattle.mk_words.specs.{Markers.{Marks, marker_in}, Seats.Has, States.{PassState, WordsState, event_of, now_of}}
 use Rattle.mk_words.specs.Steps.{Finds, IsEnabledTo, Makes, found_by}

@@ -1,23 +1,27 @@
 -- The marks that an event adds are of cells, or of those that a New is to carve.
 use Rattle.std.proofs.lemmas.Nat.Bits.{bit_at_ones_above}
-use Rattle.mk_laws.proofs.Vocabulary.{Among, AsChosen, AsUsed, Bool, ByFit, Caller, Cell, Chosen, Config, Granted, Hand}
-use Rattle.mk_laws.proofs.Vocabulary.{HeaderGoesOn, Host, IsMarking, IsPlaced, IsWithinLimits, LayoutStands, List}
-use Rattle.mk_laws.proofs.Vocabulary.{Marker, MarkerStands, Moment, None, Object, Option, Place, Placing, Seat}
-use Rattle.mk_laws.proofs.Vocabulary.{SeenHeader, Some, Step, Unplaced, Used, World, ℕ, and_parts, ap, arith}
-use Rattle.mk_laws.proofs.Vocabulary.{cases_Bool, cases_lt, cell_at, cell_seen, cells_made, cells_of, cells_under}
-use Rattle.mk_laws.proofs.Vocabulary.{chosen, claims_placed, class_made, eqb-true, false, flight_of, ground_of, has_bit}
-use Rattle.mk_laws.proofs.Vocabulary.{has_place, header_at, header_in, header_made, if◌then◌else◌, inl, inr}
-use Rattle.mk_laws.proofs.Vocabulary.{is_attending, is_phase, is_small_object, is_some, marker_at, marker_of, marks_is}
-use Rattle.mk_laws.proofs.Vocabulary.{marks_place, object_made, object_now, or_cases, page_at_address, pages_some}
-use Rattle.mk_laws.proofs.Vocabulary.{place_claim, place_now, placed_now, pointed_cell, refl, seen_bit, seen_page}
-use Rattle.mk_laws.proofs.Vocabulary.{slice_index, subst, sym, true, true≢false, ◌+◌, ◌-◌, ◌<◌, ◌==◌, ◌^◌, ◌∙◌, ◌≡◌}
-use Rattle.mk_laws.proofs.{Vocabulary.◌⊎◌, Changes.{reg_table, tally_table}}
-use Rattle.mk_laws.proofs.{LayoutHolders.{first_header, holding_object, new_has_turn}, Actors.Meets, Behind.object_kind}
-use Rattle.mk_laws.proofs.{Known.Known, OthersMoves.WorldBehind, Serving.placed_claim}
+use Rattle.mk_words.proofs.Below.Laws.Vocabulary.{Among, AsChosen, AsUsed, Bool, ByFit, Caller, Cell, Chosen, Config}
+use Rattle.mk_words.proofs.Below.Laws.Vocabulary.{Granted, Hand, HeaderGoesOn, Host, IsMarking, IsPlaced}
+use Rattle.mk_words.proofs.Below.Laws.Vocabulary.{IsWithinLimits, LayoutStands, List, Marker, MarkerStands, Moment}
+use Rattle.mk_words.proofs.Below.Laws.Vocabulary.{None, Object, Option, Place, Placing, Seat, SeenHeader, Some, Step}
+use Rattle.mk_words.proofs.Below.Laws.Vocabulary.{Unplaced, Used, World, ℕ, and_parts, ap, arith, cases_Bool, cases_lt}
+use Rattle.mk_words.proofs.Below.Laws.Vocabulary.{cell_at, cell_seen, cells_made, cells_of, cells_under, chosen}
+use Rattle.mk_words.proofs.Below.Laws.Vocabulary.{claims_placed, class_made, eqb-true, false, flight_of, ground_of}
+use Rattle.mk_words.proofs.Below.Laws.Vocabulary.{has_bit, has_place, header_at, header_in, header_made, if◌then◌else◌}
+use Rattle.mk_words.proofs.Below.Laws.Vocabulary.{inl, inr, is_attending, is_phase, is_small_object, is_some, marker_at}
+use Rattle.mk_words.proofs.Below.Laws.Vocabulary.{marker_of, marks_is, marks_place, object_made, object_now, or_cases}
+use Rattle.mk_words.proofs.Below.Laws.Vocabulary.{page_at_address, pages_some, place_claim, place_now, placed_now}
+use Rattle.mk_words.proofs.Below.Laws.Vocabulary.{pointed_cell, refl, seen_bit, seen_page, slice_index, subst, sym}
+use Rattle.mk_words.proofs.Below.Laws.Vocabulary.{true, true≢false, ◌+◌, ◌-◌, ◌<◌, ◌==◌, ◌^◌, ◌∙◌, ◌≡◌, ◌⊎◌}
+use Rattle.mk_words.proofs.Below.Laws.Changes.{reg_table, tally_table}
+use Rattle.mk_words.proofs.Below.Laws.LayoutHolders.{first_header, holding_object, new_has_turn}
+use Rattle.mk_words.proofs.{Below.Laws.Actors.Meets, Below.Laws.Behind.object_kind, Below.Laws.Known.Known}
+use Rattle.mk_words.proofs.{Below.Laws.OthersMoves.WorldBehind, Below.Laws.Serving.placed_claim}
+use Rattle.mk_words.proofs.Below.Laws.PointedCells.{found_is_cell, pointed_is_cell}
+use Rattle.mk_marker.proofs.MarkBits.{IsCell}
 use Rattle.mk_core.proofs.{WordBits.{bit_is_one, bit_of_cell, bit_of_power, more_bits}, PlacesNow.PlacedNow}
 use Rattle.mk_core.proofs.ServingSteps.{MarksPlace}
 use Rattle.mk_core.specs.{NewPlaces.bits_made, StopConditions.{is_bit_of, marks_by_hand}}
-use Rattle.mk_marker.proofs.{MarkBits.IsCell, PointedCells.{found_is_cell, pointed_is_cell}}
 
 -- no other kind changes the marks while a cycle marks
 abbrev pub is_marking_step : Step → Bool

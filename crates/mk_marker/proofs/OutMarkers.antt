@@ -1,8 +1,8 @@
 -- A marker that is out is in the middle of nothing.
-use Rattle.mk_laws.proofs.Vocabulary.{Config, IsHistory, IsIdle, MarkerState, Seat, ap, arith, false, is_attending}
-use Rattle.mk_laws.proofs.Vocabulary.{left, marker_at, marker_of, outside, subst, true, ◌∙◌, ◌≡◌}
+use Rattle.mk_words.proofs.Below.Laws.Vocabulary.{Config, IsHistory, IsIdle, MarkerState, Seat, ap, arith, false}
+use Rattle.mk_words.proofs.Below.Laws.Vocabulary.{is_attending, left, marker_at, marker_of, outside, subst, true, ◌∙◌}
+use Rattle.mk_words.proofs.{Below.Laws.Vocabulary.◌≡◌, Below.Laws.Known.known_left, Below.Laws.Protocols.protocol_of}
 use Rattle.mk_core.specs.MarkerConditions.{is_out}
-use Rattle.mk_laws.proofs.{Known.known_left, Protocols.protocol_of}
 use Rattle.mk_marker.specs.Markers.{IsMarkers, IsOut}
 use Rattle.mk_words.specs.{Markers.marker_in, States.PassState, States.now_of}
 

@@ -1,5 +1,6 @@
 -- What a call did, from its parts.
-use Rattle.mk_laws.proofs.Vocabulary.{MarkerState, Seat, Step, Word, ℕ, ap, arith, subst, sym, ◌%◌, ◌∙◌, ◌≡◌, ◌≢◌}
+use Rattle.mk_words.proofs.Below.Laws.Vocabulary.{MarkerState, Seat, Step, Word, ℕ, ap, arith, subst, sym, ◌%◌, ◌∙◌}
+use Rattle.mk_words.proofs.Below.Laws.Vocabulary.{◌≡◌, ◌≢◌}
 use Rattle.mk_core.specs.{MarkerConditions.is_out, Phases.phase_number, declared.phases.Phase.Phase}
 use Rattle.mk_marker.proofs.{Did.did_then, Did.seat_kept, Looking.did_more}
 use Rattle.mk_marker.specs.Steps.{LooksInVain, Moved, MovesMarker, ScansCell, SeesCell}

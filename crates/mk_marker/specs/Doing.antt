@@ -3,7 +3,7 @@ use Rattle.std.specs.Prelude.{◌≡◌, ℕ, Bool, true, false, List, ◌++◌,
 use Rattle.mk_core.specs.{declared.events.Seat.Seat, declared.events.Word.Word, declared.events.Step.Step}
 use Rattle.mk_core.specs.{declared.events.Event.Event, Growing.Finding}
 use Rattle.mk_words.specs.States.{PassState}
-use Rattle.mk_turns.specs.Doing.{AreOwnOrOfOthers, done_in}
+use Rattle.mk_words.specs.Doing.{AreOwnOrOfOthers, done_in}
 use Rattle.mk_core.specs.declared.events.Word.TheVariants as word
 use Rattle.mk_core.specs.declared.events.Step.TheVariants as step
 

@@ -4,7 +4,7 @@ use Rattle.std.specs.Prelude.{◌≡◌, ℕ, true, List, [], ◌∷◌, ◌++�
 use Rattle.mk_geom.specs.Headers.{header_of}
 use Rattle.mk_core.specs.{declared.events.Seat.Seat, Bits.has_bit, Cells.{words_under, has_no_pointers}}
 use Rattle.mk_core.specs.Growing.{Finding}
-use Rattle.mk_turns.specs.Doing.{are_of}
+use Rattle.mk_words.specs.Doing.{are_of}
 use Rattle.mk_marker.specs.Doing.{finding, is_of_scan, count_loads}
 use Rattle.mk_core.specs.declared.events.Step.TheVariants as step
 

@@ -5,7 +5,7 @@ use Rattle.mk_core.specs.{declared.seats.Scan.Scan, declared.seats.SeenHeader.Se
 use Rattle.mk_core.specs.{Accesses.{scan_page, scan_bit}, Bits.{has_bit, bit_for}, Effects.marker_behind}
 use Rattle.mk_core.specs.{Frames.OnlyGrow, Growing.Finding}
 use Rattle.mk_words.specs.{States.{WordsState, PassState, IsPass, now_of}, Markers.marker_in}
-use Rattle.mk_turns.specs.Doing.{are_of}
+use Rattle.mk_words.specs.Doing.{are_of}
 use Rattle.mk_marker.specs.{declared.cells.MarkedCell.MarkedCell, Markers.{IsMarkers, IsBetweenScans, between_scans}}
 use Rattle.mk_marker.specs.{Markers.attends, Doing.{Did, finding, is_markers_look, is_of_scan, count_loads}}
 use Rattle.mk_marker.specs.{Scanning.Scans, Working.{SeesNoWork, SeesACell}}

@@ -4,7 +4,7 @@ use Rattle.mk_geom.specs.Headers.{header_of}
 use Rattle.mk_core.specs.{declared.events.Seat.Seat, declared.phases.Phase.Phase, Phases.phase_number}
 use Rattle.mk_core.specs.{Bits.{has_bit, without}, Cells.cells_under, Growing.Finding}
 use Rattle.mk_words.specs.States.{PassState, now_of}
-use Rattle.mk_turns.specs.Doing.{are_of}
+use Rattle.mk_words.specs.Doing.{are_of}
 use Rattle.mk_marker.specs.{declared.markers.Work.Work, declared.markers.Work.TheVariants.{Worked, Idle, Wanted}}
 use Rattle.mk_marker.specs.{Markers.{attends, IsOut}, Doing.{Did, finding, looking, is_markers_look}, Scanning.Scans}
 use Rattle.mk_core.specs.declared.events.Word.TheVariants as word

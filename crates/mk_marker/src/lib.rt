@@ -5,7 +5,6 @@
 #![tactic(auto)]
 
 mod cells;
-mod clients;
 mod headers;
 mod markers;
 mod phases;

@@ -3,3 +3,11 @@ pub mod Outputs
 pub mod Statuses
 pub mod Summary
 pub mod SummedTexts
+pub mod Draws
+pub mod Generated
+pub mod GeneratedText
+pub mod Laws
+pub mod Given
+pub mod Commands
+pub mod Told
+pub mod Naming

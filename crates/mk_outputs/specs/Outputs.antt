@@ -10,16 +10,17 @@ use Rattle.mk_check.specs.{declared.typing_faults.TypeStop.TypeStop, Typing.{Typ
 use Rattle.mk_check.specs.Declarations.{config_of}
 use Rattle.mk_core.specs.{declared.config.Config.Config, declared.events.Event.Event, History.AreEnabled}
 use Rattle.mk_laws.specs.Promises.{KeepsAllPromises}
-use Rattle.mk_run.specs.{Headline.StandsInOneHistory, LastCycle.EndsWithCycle}
-use Rattle.mk_why.specs.{declared.kept.Kept.Kept, Chains.AreKept}
+use Rattle.mk_trace.specs.{Below.Runs.Headline.StandsInOneHistory, Below.Runs.LastCycle.EndsWithCycle}
+use Rattle.mk_trace.specs.{Below.Chains.declared.kept.Kept.Kept, Below.Chains.Chains.AreKept}
+use Rattle.mk_outputs.specs.declared.commands.Command.{Command}
+use Rattle.mk_outputs.specs.declared.commands.Command.TheVariants as asked
+use Rattle.mk_outputs.specs.{Generated.generated_program, declared.commands.TextCommand.TextCommand}
+use Rattle.mk_outputs.specs.declared.commands.TextCommand.TheVariants.{Run, Check, Print, Replay, Trace}
+use Rattle.mk_outputs.specs.{declared.commands.Request.Request, Commands.command_of}
 use Rattle.mk_replay.specs.{declared.schedule.Entry.Entry, declared.replaying.ReplayStop.ReplayStop}
 use Rattle.mk_replay.specs.{Schedules.replay_of, Replays.{history_of, refusal_of}}
-use Rattle.mk_gen.specs.Generated.{generated_program}
 use Rattle.mk_trace.specs.{declared.faults.TraceStop.TraceStop, declared.peaks.Peaks.Peaks, Traces.{Contents, trace_of}}
 use Rattle.mk_trace.specs.{Playing.{IsPlayed, ArePeaks}, Printed.peaks_text}
-use Rattle.mk_commands.specs.{declared.commands.Command.Command, declared.commands.TextCommand.TextCommand}
-use Rattle.mk_commands.specs.declared.commands.TextCommand.TheVariants.{Run, Check, Print, Replay, Trace}
-use Rattle.mk_commands.specs.{declared.commands.Request.Request, Commands.command_of}
 use Rattle.mk_outputs.specs.{declared.statuses.Status.Status, declared.statuses.Status.TheVariants.{Ok, NoMemory}}
 use Rattle.mk_outputs.specs.declared.statuses.Status.TheVariants.{ReadFault, Text, IllTyped, Limit, NotEnabled}
 use Rattle.mk_outputs.specs.{KeptText.kept_text, Summary.summary}
@@ -29,7 +30,6 @@ use Rattle.mk_check.specs.declared.typing_faults.TypeStop.TheVariants as typing
 use Rattle.mk_check.specs.Output.{output as output_behind}
 use Rattle.mk_replay.specs.declared.replaying.ReplayStop.TheVariants as replay
 use Rattle.mk_trace.specs.declared.faults.TraceStop.TheVariants as trace
-use Rattle.mk_commands.specs.declared.commands.Command.TheVariants as asked
 
 -- where a program is well typed, this status; else that of its least ill-typed line
 abbrev pub typed_or : Option TypingFault → Status → Status

@@ -1,73 +1,31 @@
-//! Generated programs, and the summaries of their runs.
-ghost use Rattle.std.specs.Prelude.{◌≡◌, ◌≤◌, ◌++◌, length, string_bytes, IfOk, OnOk, false};
-ghost use Rattle.mk_gen.specs.Generated.{generated_program};
-ghost use Rattle.mk_run.specs.Headline.{StandsInOneHistory};
-ghost use Rattle.mk_commands.specs.Commands.{IsWithin};
-ghost use Rattle.mk_outputs.specs.{Summary.{summary, total_line}, SummedTexts.{line_of_text, summary_of_texts, AreFew}};
-ghost use Rattle.mk_commands.specs.declared.commands.Command.TheVariants as Command;
+//! The programs of the generator.
+ghost use Rattle.std.specs.Prelude.{◌≡◌, ◌≤◌, IfOk};
+ghost use Rattle.mk_outputs.specs.Generated.{generated_program};
 
-use crate::running::outcome_of;
-use mk_check::Text;
-use mk_commands::{Options, Request};
-use mk_gen::generate;
+use crate::text::generated_text;
+use mk_check::{Checked, TypeStop, check};
 use mk_never::NoMemory;
-use mk_run::Pace;
+use mk_script::{TextStop, parse};
 use std::alloc::Global;
-use std::sync::Wait;
-use std::thread::Threads;
 
-/// What `gen` writes, whole: the summary of a generated program, which runs to its end.
-pub fn summed<P: Pace + Sync, R: Threads + Wait + Sync>(
-    rt: &R,
-    alloc: Global,
-    request: Request,
-    pace: &P,
-) -> Result<Vec<u8>, NoMemory>
-    requires { IsWithin (Command.Gen request) }
-    ensures { IfOk result (λ bytes. StandsInOneHistory (generated_program request.start request.count)
-        request.markers false false (summary (generated_program request.start request.count)) bytes.items) }
+/// The program that the draws of START make, of COUNT / 48 turns a script. Its only refusal is NoMemory.
+pub fn generate(alloc: Global, start: u64, count: u64) -> Result<Checked, NoMemory>
+    requires { count ≤ 3000000 }
+    ensures { IfOk result (λ checked. checked ≡ generated_program start count) }
 {
-    let program = generate(alloc, request.start, request.count)?;
-    let options = Options {
-        markers: request.markers,
-        sweep: false,
-        why: false,
+    let text = generated_text(alloc, start, count)?;
+    let program = match parse(alloc, text.as_bytes()) {
+        Ok(program) => program,
+        Err(stop) => match stop {
+            TextStop::NoMemory => return Err(NoMemory),
+            _ => unreachable!(),
+        },
     };
-    let (outcome, _) = outcome_of(rt, alloc, &program, options, pace)?;
-    let lines = summary_of(alloc, &outcome.texts)?;
-    Ok(lines.into_bytes())
-}
-
-/// The summary of scripts that are named `s0`, `s1` and so on.
-fn summary_of(alloc: Global, texts: &[Text]) -> Result<String, NoMemory>
-    requires scripts { length texts.now ≤ 4 }
-    requires calls { AreFew texts.now }
-    ensures { IfOk result (λ lines. string_bytes lines ≡ summary_of_texts texts.now) }
-{
-    let mut lines = String::new(alloc);
-    let mut number = 0;
-    let mut total = 0;
-    for text in texts {
-        push_line(&mut lines, number, text)?;
-        number += 1;
-        total += text.ops;
+    match check(alloc, program) {
+        Ok(checked) => Ok(checked),
+        Err(stop) => match stop {
+            TypeStop::NoMemory => Err(NoMemory),
+            TypeStop::IllTyped { .. } => unreachable!(),
+        },
     }
-    push_total(&mut lines, total)?;
-    Ok(lines)
-}
-
-/// Appends the line of a script.
-fn push_line(lines: &mut String, number: u64, text: &Text) -> Result<(), NoMemory>
-    ensures { OnOk result (string_bytes lines.new ≡ string_bytes lines.old ++ line_of_text number text.now) }
-{
-    let ops = text.ops;
-    let refused = text.refused;
-    Ok(writeln!(lines, "script s{number} ops {ops} refused {refused}")?)
-}
-
-/// Appends the line of all scripts.
-fn push_total(lines: &mut String, ops: u64) -> Result<(), NoMemory>
-    ensures { OnOk result (string_bytes lines.new ≡ string_bytes lines.old ++ total_line ops) }
-{
-    Ok(writeln!(lines, "total {ops}")?)
 }

@@ -2,19 +2,19 @@
 ghost use Rattle.std.specs.Prelude.{◌≡◌, ◌≢◌, ◌≤◌, ◌⊎◌, Ok, Err, Some, false, IfOk, IfErr, OnOk};
 ghost use Rattle.mk_io.specs.{Bytes.TakesAll, Faults.Rose};
 ghost use Rattle.mk_script.specs.Grammar.{program_of};
-ghost use Rattle.mk_commands.specs.Commands.{AreWithin, IsWithin};
+ghost use Rattle.mk_outputs.specs.Commands.{AreWithin, IsWithin};
 ghost use Rattle.mk_outputs.specs.Outputs.{IsOutputOfCommand, IsOutput, IsOutputOf, IsStatusOf, HasNoRead, status_on};
 ghost use Rattle.mk_outputs.specs.{Outputs.{status_of_program, status_of_text}, Statuses.{IsBeforeWriting, IsOfText}};
 
-use crate::generating::summed;
+use crate::summing::summed;
 use crate::replays::replayed;
 use crate::running::told;
 use crate::statuses::Status;
 use crate::traces::played;
 use mk_check::check;
-use mk_commands::{Command, Options, TextCommand};
+use crate::commands::{Command, Options, TextCommand};
 use mk_io::{Source, read_all};
-use mk_run::Pace;
+use mk_trace::lower::runs::Pace;
 use mk_script::{Program, parse, print};
 use std::alloc::Global;
 use std::sync::Wait;

@@ -9,7 +9,7 @@ ghost use Rattle.mk_outputs.specs.{Outputs.{IsOutputOnSchedule, status_on, statu
 use crate::statuses::Status;
 use crate::texts::joined;
 use mk_check::check;
-use mk_commands::TextCommand;
+use crate::commands::TextCommand;
 use mk_replay::{Schedule, parse_replay, replay};
 use mk_script::Program;
 use std::alloc::Global;

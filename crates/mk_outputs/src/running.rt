@@ -1,23 +1,22 @@
 //! The run of a program on the heap.
 ghost use Rattle.std.specs.Prelude.{◌≡◌, ◌≤◌, IfOk, option_map, true, false};
 ghost use Rattle.mk_check.specs.Declarations.{config_of};
-ghost use Rattle.mk_cycle.specs.Begun.{CyclesAreBegun};
-ghost use Rattle.mk_engines.specs.Roots.{CyclesMarkRootsFirst};
-ghost use Rattle.mk_heap.specs.Reports.{history_of};
-ghost use Rattle.mk_run.specs.{Headline.cycles_go_on, Running.IsRunOf, Unswept.IsUnswept};
+ghost use Rattle.mk_trace.specs.{Below.Cycles.Begun.CyclesAreBegun, Below.Cycles.Roots.CyclesMarkRootsFirst};
+ghost use Rattle.mk_trace.specs.{Below.Heaps.Reports.history_of, Below.Runs.Headline.cycles_go_on};
+ghost use Rattle.mk_trace.specs.{Below.Runs.Running.IsRunOf, Below.Runs.Unswept.IsUnswept};
+ghost use Rattle.mk_outputs.specs.declared.commands.TextCommand.TheVariants as TextCommand;
 ghost use Rattle.mk_outputs.specs.Outputs.{IsOutputOf, TellsKept};
-ghost use Rattle.mk_commands.specs.declared.commands.TextCommand.TheVariants as TextCommand;
 
 use crate::kept_text::push_kept;
 use crate::texts::joined;
 use mk_check::Checked;
-use mk_commands::Options;
-use mk_cycle::Engine;
-use mk_engines::{MostlyEngine, StopEngine};
+use crate::commands::Options;
+use mk_trace::lower::cycles::Engine;
+use mk_trace::lower::cycles::{MostlyEngine, StopEngine};
 use mk_never::NoMemory;
-use mk_run::{Outcome, Pace, run_all, run_why};
-use mk_sweep::SweepEngine;
-use mk_why::Kept;
+use mk_trace::lower::runs::{Outcome, Pace, run_all, run_why};
+use mk_trace::lower::sweeps::SweepEngine;
+use mk_trace::lower::chains::Kept;
 use std::alloc::Global;
 use std::sync::Wait;
 use std::thread::Threads;

@@ -3,7 +3,7 @@ ghost use Rattle.std.specs.Prelude.{◌≡◌, ◌⊎◌, IfOk, IfErr, OnOk};
 ghost use Rattle.mk_outputs.specs.{Outputs.{IsOutputOnTrace, TellsOfPlay, status_on}, Statuses.IsOfText};
 
 use crate::statuses::Status;
-use mk_commands::TextCommand;
+use crate::commands::TextCommand;
 use mk_never::NoMemory;
 use mk_trace::{Trace, parse_trace, play, print_peaks};
 use std::alloc::Global;

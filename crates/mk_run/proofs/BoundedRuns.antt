@@ -2,9 +2,10 @@
 use Rattle.mk_laws.proofs.Vocabulary.{AreOfOthers, Bool, Caller, Config, Event, Host, List, Seat, ℕ, false, is_one_of}
 use Rattle.mk_laws.proofs.Vocabulary.{subst, sym, true, true≢false, [], ◌∙◌, ◌∷◌, ◌≡◌}
 use Rattle.mk_run.proofs.Vocabulary.{HostComesLast, IsRunOf, Item, Outcome, config_of, ⊎_elim}
-use Rattle.mk_alloc.proofs.ListParts.{InFirst, InSecond, stands}
-use Rattle.mk_quarantine.proofs.{Bounds.quarantines_are_bounded, EndedCycles.others_at, EndedCycles.others_behind}
-use Rattle.mk_quarantine.specs.Bounds.{HostBeginsLast, QuarantineIsBounded}
+use Rattle.mk_heap.proofs.Below.Objects.ListParts.{InFirst, InSecond, stands}
+use Rattle.mk_heap.proofs.Below.Objects.Bounds.{quarantines_are_bounded}
+use Rattle.mk_heap.proofs.Below.Objects.EndedCycles.{others_at, others_behind}
+use Rattle.mk_heap.specs.Below.Objects.Bounds.{HostBeginsLast, QuarantineIsBounded}
 use Rattle.mk_heap.specs.Reports as report
 
 -- Where the host comes last, so does each of its cycles.

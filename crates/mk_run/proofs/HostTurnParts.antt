@@ -5,13 +5,12 @@ use Rattle.mk_laws.proofs.Vocabulary.{or_parts, phase_of, refl, subst, sym, true
 use Rattle.mk_laws.proofs.{Vocabulary.◌≤◌, CyclePhases.{close_is, moves_phase, phase_behind}}
 use Rattle.mk_run.proofs.Vocabulary.{Has, Lacks, PassState, finish_does, has_step, has_then, in_turn_then, is_of_cycles}
 use Rattle.mk_run.proofs.Vocabulary.{turn_stays}
-use Rattle.mk_alloc.proofs.{CalmStretches.cycles_in_turn, ListParts.SomeKind, Parts.made_as}
-use Rattle.mk_alloc.specs.TurnCycles.{finishes}
+use Rattle.mk_heap.proofs.{Below.Objects.CalmStretches.cycles_in_turn, Below.Objects.ListParts.SomeKind}
+use Rattle.mk_heap.proofs.{Below.Objects.Parts.made_as, Below.Objects.JoinedLooks.does_wider}
+use Rattle.mk_heap.proofs.{Below.Words.Doing.does_then, Below.Words.TurnSteps.takes}
+use Rattle.mk_heap.specs.{Below.Objects.TurnCycles.finishes, Below.Words.Doing.Does, Below.Words.Taking.TakesTurn}
+use Rattle.mk_heap.specs.Below.Words.States.{IsTurn}
 use Rattle.mk_heap.specs.Ending.{EndsCycle}
-use Rattle.mk_objects.proofs.JoinedLooks.{does_wider}
-use Rattle.mk_turns.{proofs.Doing.{does_then}, specs.Doing.{Does}}
-use Rattle.mk_waiting.specs.Taking.{TakesTurn}
-use Rattle.mk_words.{proofs.TurnSteps.{takes}, specs.States.{IsTurn}}
 
 -- Outside of phases 1 and 2 no cycle is closed before another is begun.
 

@@ -6,7 +6,7 @@ use Rattle.mk_laws.proofs.Vocabulary.{subst, sym, true, [], ◌++◌, ◌+◌, �
 use Rattle.mk_run.proofs.Vocabulary.{CallersAreStill, Grows, Has, HasCallers, HostComesLast, HostState, Lacks}
 use Rattle.mk_run.proofs.Vocabulary.{PassState, SaysOver, append_cancel_left, has_step, others_append, others_none}
 use Rattle.mk_run.proofs.Vocabulary.{others_own, seen_then}
-use Rattle.mk_alloc.proofs.CycleParts.{BeginIn}
+use Rattle.mk_heap.proofs.Below.Objects.CycleParts.{BeginIn}
 use Rattle.mk_heap.{proofs.HomeCallers.others_hold_none, specs.Ending.MakesCycle, specs.Hosts.with_seen}
 use Rattle.mk_run.proofs.LastOvers.{Unbegun, idle_unbegun, over_unbegun, unbegun_made, unheld_unbegun}
 use Rattle.mk_run.proofs.LastCycles.{begins as begins_in, ends, h_idle, t_ended}

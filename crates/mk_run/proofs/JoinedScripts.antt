@@ -8,11 +8,11 @@ use Rattle.mk_run.proofs.Vocabulary.{PassState, Text, WordsState, answers_in, ha
 use Rattle.mk_run.proofs.Vocabulary.{slice_get_within, with_joined, ⊎_elim}
 use Rattle.mk_never.specs.declared.never_heap.NoMemory.{NoMemory}
 use Rattle.mk_core.specs.History.{calls_from}
-use Rattle.mk_caller.specs.States.{IsIdleCaller}
+use Rattle.mk_heap.specs.Below.Callers.States.{IsIdleCaller}
+use Rattle.mk_heap.proofs.Below.Words.Seats.{has_right, without_keeps}
 use Rattle.mk_check.proofs.AdmittedScripts.{first_are_noted}
 use Rattle.mk_heap.specs.Hosts.{pass_for, with_caller_made}
 use Rattle.mk_run.proofs.LaterLists.{of_one, still_ends, still_follows, still_text}
-use Rattle.mk_words.proofs.Seats.{has_right, without_keeps}
 
 -- Before the first call.
 

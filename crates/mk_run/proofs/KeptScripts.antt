@@ -6,13 +6,12 @@ use Rattle.mk_laws.proofs.Vocabulary.{◌∙◌, ◌∷◌, ◌≡◌, ◌≤◌
 use Rattle.mk_run.proofs.Vocabulary.{CallerState, Grows, Has, IsAtHome, IsFirstPass, IsScript, IsWhole, Item, PassKeeps}
 use Rattle.mk_run.proofs.Vocabulary.{PassState, StaysBeside, WordsState, config_of, has_first, script_names, ⊎_elim}
 use Rattle.mk_core.specs.History.{AreEnabledFrom}
-use Rattle.mk_cycle.proofs.Begun.{begun_append, kinds_begin_none, others_begin_none}
-use Rattle.mk_cycle.specs.Begun.{AreBegunFirst, CyclesAreBegun, IsBegunFirst}
+use Rattle.mk_heap.proofs.Below.Cycles.Begun.{begun_append, kinds_begin_none, others_begin_none}
+use Rattle.mk_heap.proofs.Below.Words.Sweeping.{kinds_sweep}
+use Rattle.mk_heap.specs.{Below.Cycles.Begun.{AreBegunFirst, CyclesAreBegun, IsBegunFirst}, Below.Words.States.world_of}
 use Rattle.mk_run.proofs.UnsweptScripts.{first_sweeps, others_on as others_sweep_on, seat_on as seat_sweeps_on}
 use Rattle.mk_run.proofs.{JoinedScripts.same_or_later, UnsweptHistories.markers_sweep, UnsweptHistories.none_sweeps}
 use Rattle.mk_run.specs.{Keeping.ScriptsKeep, Keeping.SeatKeeps, Scripts.is_beside_turns, Unswept.IsUnswept}
-use Rattle.mk_turns.proofs.Sweeping.{kinds_sweep}
-use Rattle.mk_words.specs.States.{world_of}
 
 nowhere : (before : List Event) (e : Event) (behind : List Event) → [] ≡ before ++ e ∷ behind → ⊥
 nowhere [] e behind is = cc

@@ -8,15 +8,15 @@ use Rattle.mk_run.proofs.Vocabulary.{has_then, history_before, in_turn_then, oth
 use Rattle.mk_run.proofs.{Vocabulary.turn_stays, HostTurnParts.{behind_first, closes_no_more, finish_stays, idle_own}}
 use Rattle.mk_run.proofs.HostTurnParts.{idle_turn, stays, to_idle, unfinished_unclosed}
 use Rattle.mk_core.specs.Growing.{is_same_seat}
-use Rattle.mk_alloc.proofs.CycleParts.{BeginIn, FinishIn, begin_does, begin_in, begins_held}
-use Rattle.mk_alloc.proofs.ListParts.{IsAt, lacks_append, lacks_first, lacks_second, only_at}
-use Rattle.mk_alloc.proofs.OwnGives.{GivesNone, doing_gives, gives_append, others_give}
-use Rattle.mk_alloc.proofs.Parts.{others_lack, seen_behind}
-use Rattle.mk_cycle.specs.Telling.{IsToldAtClose}
+use Rattle.mk_heap.proofs.Below.Objects.CycleParts.{BeginIn, FinishIn, begin_does, begin_in, begins_held}
+use Rattle.mk_heap.proofs.Below.Objects.ListParts.{IsAt, lacks_append, lacks_first, lacks_second, only_at}
+use Rattle.mk_heap.proofs.Below.Objects.OwnGives.{GivesNone, doing_gives, gives_append, others_give}
+use Rattle.mk_heap.proofs.{Below.Objects.Parts.{others_lack, seen_behind}, Below.Words.Doing.does_then}
+use Rattle.mk_heap.proofs.Below.Words.Made.{pass_before}
+use Rattle.mk_heap.specs.{Below.Cycles.Telling.IsToldAtClose, Below.Words.Doing.Does}
+use Rattle.mk_heap.specs.Below.Words.States.{IsTurn, event_of}
 use Rattle.mk_heap.{proofs.MovedHosts.{MovesOn, moves_does, moves_more}, specs.Ending.{MakesCycle}}
 use Rattle.mk_run.specs.LastCycle.{MakesLastCycle, give_of}
-use Rattle.mk_turns.{proofs.Doing.{does_then}, specs.Doing.{Does}}
-use Rattle.mk_words.{proofs.Made.{pass_before}, specs.States.{IsTurn, event_of}}
 
 module _ {p q : PassState} (m : MakesCycle p q) where
   abbrev taken : PassState

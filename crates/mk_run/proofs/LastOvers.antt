@@ -8,14 +8,15 @@ use Rattle.mk_run.proofs.Vocabulary.{append_cancel_left, finish_does, finish_in,
 use Rattle.mk_run.proofs.Vocabulary.{is_of_cycles, others_append, others_own, seen_then, turn_stays}
 use Rattle.mk_run.proofs.{LastTurns.{cycle_moves, over_moves, still_behind_over}, HostTurnParts.{idle_turn, stays}}
 use Rattle.mk_run.proofs.{HostTurnParts.turn_taken, LastCycles.last_cycle}
-use Rattle.mk_alloc.proofs.{Parts.{behind_step, made_as, others_lack, seen_made}, CycleParts.begins_held}
-use Rattle.mk_alloc.{proofs.ListParts.{lacks_append, lacks_one}, specs.TurnCycles.{within_turn}}
+use Rattle.mk_heap.proofs.Below.Objects.Parts.{behind_step, made_as, others_lack, seen_made}
+use Rattle.mk_heap.proofs.{Below.Objects.CycleParts.begins_held, Below.Objects.ListParts.{lacks_append, lacks_one}}
+use Rattle.mk_heap.proofs.{Below.Words.Waiting.waits_more, Below.Words.Made.pass_before}
+use Rattle.mk_heap.specs.{Below.Objects.TurnCycles.within_turn, Below.Words.Doing.Does}
+use Rattle.mk_heap.specs.{Below.Words.Taking.{TakesTurn, Waits}, Below.Words.States.{IsTurn, event_of}}
+use Rattle.mk_heap.specs.Below.Words.Steps.{Makes}
 use Rattle.mk_heap.proofs.HomeCallers.{HoldersStepNone, others_hold_none, waiting_holds_none}
 use Rattle.mk_heap.specs.{Ending.EndsCycle, declared.reports.Report.Report}
 use Rattle.mk_run.specs.LastCycle.{EndsWithCycle, MakesLastCycle}
-use Rattle.mk_turns.specs.Doing.{Does}
-use Rattle.mk_waiting.{proofs.Waiting.{waits_more}, specs.Taking.{TakesTurn, Waits}}
-use Rattle.mk_words.{proofs.Made.{pass_before}, specs.{States.{IsTurn, event_of}, Steps.Makes}}
 use Rattle.mk_heap.specs.Reports as report
 
 -- From what the one pass had seen to what the other has seen no cycle is begun.

@@ -6,7 +6,7 @@ use Rattle.mk_run.proofs.Vocabulary.{TakesLastTurns, WordsState, has_left, other
 use Rattle.mk_core.specs.Growing.{is_same_seat}
 use Rattle.mk_heap.proofs.MovedHosts.{MovesOn, begin_moves, finish_moves, idle_moves, moves_more}
 use Rattle.mk_heap.specs.{Ending.MakesCycle, Ending.MakesToldCycle, Hosts.with_seen}
-use Rattle.mk_words.proofs.Seats.{others_fewer}
+use Rattle.mk_heap.proofs.Below.Words.Seats.{others_fewer}
 
 -- Callers whose seats are home make no step in the host's turns.
 

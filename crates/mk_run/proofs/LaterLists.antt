@@ -4,8 +4,7 @@ use Rattle.mk_laws.proofs.Vocabulary.{Answer, Bool, Caller, Config, Event, List,
 use Rattle.mk_laws.proofs.Vocabulary.{◌∙◌, ◌∷◌, ◌≡◌}
 use Rattle.mk_run.proofs.Vocabulary.{EndsScript, FollowsScript, Grows, Has, IsTextOf, Item, Text, answers_in, calls_by}
 use Rattle.mk_run.proofs.{Vocabulary.{feed, has_first, is_refusal, others_own}, ScriptCalls.{same_answers, still_noted}}
-use Rattle.mk_alloc.proofs.ExactTurns.{stay_exact_behind_others}
-use Rattle.mk_caller.proofs.OwnSteps.{others_add_none}
+use Rattle.mk_heap.proofs.{Below.Objects.ExactTurns.stay_exact_behind_others, Below.Callers.OwnSteps.others_add_none}
 use Rattle.mk_check.specs.Feed.{has_ended}
 
 -- a list that goes on by events of none of these seats goes on by none of one of them

@@ -1,3 +1,4 @@
+pub mod Below
 pub mod HostTurns
 mod JoinedScripts
 mod LaterLists

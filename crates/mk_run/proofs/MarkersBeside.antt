@@ -9,7 +9,8 @@ use Rattle.mk_heap.specs.Hosts.{pass_for, with_marker_made}
 use Rattle.mk_run.proofs.WholeRuns.{all_callers_home, still_joined, still_texts}
 use Rattle.mk_run.proofs.{HostTurns.still_last, JoinedScripts.same_or_later, LaterLists.of_one}
 use Rattle.mk_run.specs.{Marking.IsMarkersPass, declared.joining.Joined.Joined}
-use Rattle.mk_words.{proofs.Seats.has_right, proofs.Seats.without_keeps, specs.Seats.has_over}
+use Rattle.mk_heap.proofs.Below.Words.Seats.{has_right, without_keeps}
+use Rattle.mk_heap.specs.Below.Words.Seats.{has_over}
 
 -- A marker that has done nothing is out.
 

@@ -12,15 +12,16 @@ use Rattle.mk_run.proofs.Vocabulary.{answers_in, calls_by, config_of, feed, has_
 use Rattle.mk_run.{proofs.Vocabulary.{script_names, seen_then}, specs.Scripts.{unflagged}}
 use Rattle.mk_never.proofs.Later.{calls_stay}
 use Rattle.mk_core.specs.Growing.{Finding, own_from}
-use Rattle.mk_alloc.proofs.ExactTurns.{stay_exact_behind_calls, stay_exact_behind_turns, stay_exact_where_held}
-use Rattle.mk_alloc.specs.{TurnCalls.CalledInTurn, TurnCycles.TurnsOfAreExact}
-use Rattle.mk_caller.specs.{Called.{Called, own_calls, stages_made, step_at}, States.{Admits, caller_of_pass}}
+use Rattle.mk_heap.proofs.Below.Objects.ExactTurns.{stay_exact_behind_calls, stay_exact_behind_turns}
+use Rattle.mk_heap.proofs.{Below.Objects.ExactTurns.stay_exact_where_held, Below.Words.Doing.{does_step, done_in_parts}}
+use Rattle.mk_heap.proofs.{Below.Words.Doing.of_kinds_in_parts, Below.Words.Made.own_before}
+use Rattle.mk_heap.specs.{Below.Objects.TurnCalls.CalledInTurn, Below.Objects.TurnCycles.TurnsOfAreExact}
+use Rattle.mk_heap.specs.Below.Callers.Called.{Called, own_calls, stages_made, step_at}
+use Rattle.mk_heap.specs.{Below.Callers.States.{Admits, caller_of_pass}, Below.Words.Doing.{are_of, done_in}}
 use Rattle.mk_check.proofs.{AdmittedScripts.next_is_admitted, FeedLaws.{feed_push, ops-feed_push}}
 use Rattle.mk_check.specs.{Feed.{Fed, Scope, note, take_answer}, Blocks.Blocks, Declarations.globals_of}
 use Rattle.mk_check.specs.{Feeding.{FeedStandsFor, FeedState}, Laws.{AreNotedBy, ops_of_caller}, Output.answers_among}
 use Rattle.mk_run.specs.Scripts.{IsCalled, IsRunning, MakesNoCall, Script, ScriptTakesAnswer, as_told, is_beside_turns}
-use Rattle.mk_turns.{proofs.Doing.{does_step, done_in_parts, of_kinds_in_parts}, specs.Doing.{are_of, done_in}}
-use Rattle.mk_words.proofs.Made.{own_before}
 
 -- Calls that need no turn, and those that find their gate held, make only steps beside all turns.
 

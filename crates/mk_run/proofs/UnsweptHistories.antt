@@ -6,8 +6,8 @@ use Rattle.mk_core.proofs.Conditions.{enabled_events_meet_all}
 use Rattle.mk_core.specs.{Cycles.NoneSweeps, Cycles.NoneSweepsFrom, History.AreEnabledFrom, History.left_from}
 use Rattle.mk_laws.specs.{Precision.CyclesArePrecise, Promises.KeepsAllPromises}
 use Rattle.mk_run.specs.Unswept.{IsUnswept}
-use Rattle.mk_turns.{proofs.Sweeping.other_steps_sweep, specs.Sweeping.SweepsNothingFrom}
-use Rattle.mk_words.proofs.Seats.{same_self}
+use Rattle.mk_heap.proofs.{Below.Words.Sweeping.other_steps_sweep, Below.Words.Seats.same_self}
+use Rattle.mk_heap.specs.Below.Words.Sweeping.{SweepsNothingFrom}
 
 -- A marker makes none: its marks are of a kind of their own.
 

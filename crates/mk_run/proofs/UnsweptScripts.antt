@@ -1,7 +1,8 @@
 -- A seat that makes no sweeping mark, as its pass sees more.
 use Rattle.mk_laws.proofs.Vocabulary.{Config, Event, List, Seat, arith, subst, sym, [], ◌≡◌}
 use Rattle.mk_run.{proofs.Vocabulary.{Grows, Has, PassState}, specs.UnsweptSeats.{SeatSweepsNothing}}
-use Rattle.mk_turns.{proofs.Sweeping.{others_sweep, sweeps_append}, specs.Sweeping.{SweepsNothing, SweepsNothingFrom}}
+use Rattle.mk_heap.proofs.Below.Words.Sweeping.{others_sweep, sweeps_append}
+use Rattle.mk_heap.specs.Below.Words.Sweeping.{SweepsNothing, SweepsNothingFrom}
 
 -- before the first event
 

@@ -6,11 +6,9 @@ use Rattle.mk_script.specs.declared.items.Item.{Item}
 use Rattle.mk_check.specs.{Declarations.config_of, Feed.{feed, has_ended}, Laws.{AreNotedBy, IsScript}, Output.output}
 use Rattle.mk_check.specs.declared.text.Text.{Text}
 use Rattle.mk_heap.specs.Reports.{IsWhole}
-use Rattle.mk_engines.specs.Roots.{CyclesMarkRootsFirst}
-use Rattle.mk_alloc.specs.TurnCycles.{TurnsOfAreExact}
+use Rattle.mk_heap.specs.{Below.Cycles.Roots.CyclesMarkRootsFirst, Below.Objects.TurnCycles.TurnsOfAreExact}
+use Rattle.mk_heap.specs.{Below.Words.Seats.has_over, Below.Objects.Bounds.QuarantineIsBounded}
 use Rattle.mk_laws.specs.{Precision.CyclesArePrecise, Promises.KeepsAllPromises}
-use Rattle.mk_words.specs.Seats.{has_over}
-use Rattle.mk_quarantine.specs.Bounds.{QuarantineIsBounded}
 use Rattle.mk_run.specs.{declared.outcomes.Outcome.Outcome, HostTurns.HostComesLast, Running.{answers_in, IsRunOf}}
 use Rattle.mk_run.specs.Unswept.{IsUnswept}
 use Rattle.mk_heap.specs.Reports as report

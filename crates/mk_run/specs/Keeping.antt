@@ -3,7 +3,7 @@
 use Rattle.std.specs.Prelude.{◌≡◌, ◌≤◌, ℕ, Bool, false, List, []}
 use Rattle.mk_core.specs.{declared.config.Config.Config, declared.events.Event.Event, declared.events.Seat.Seat}
 use Rattle.mk_core.specs.declared.events.Seat.TheVariants.{Caller, Host}
-use Rattle.mk_cycle.specs.Begun.{AreBegunFirst}
+use Rattle.mk_heap.specs.Below.Cycles.Begun.{AreBegunFirst}
 use Rattle.mk_script.specs.declared.items.Item.{Item}
 use Rattle.mk_check.specs.Laws.{IsScript}
 use Rattle.mk_run.specs.UnsweptSeats.{SeatSweepsNothing}

@@ -3,7 +3,7 @@ use Rattle.std.specs.Prelude.{◌≡◌, ℕ, ◌<◌, false, List, [], ◌∷�
 use Rattle.mk_core.specs.{declared.config.Config.Config, declared.events.Event.Event, declared.events.Seat.Seat}
 use Rattle.mk_core.specs.{declared.events.Seat.TheVariants.{Caller, Host}, Cycles.{TurnOf, BeginsAndEndsIn}}
 use Rattle.mk_core.specs.{Cycles.{before_close, is_close}, Growing.AreOfOthers, History.{World, left}}
-use Rattle.mk_alloc.specs.TurnCycles.{has_step, within_turn}
+use Rattle.mk_heap.specs.Below.Objects.TurnCycles.{has_step, within_turn}
 use Rattle.mk_core.specs.declared.events.Step.TheVariants as step
 
 -- the event by which the seat gives its turn back

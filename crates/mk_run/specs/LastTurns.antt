@@ -2,10 +2,10 @@
 use Rattle.std.specs.Prelude.{◌≡◌, ℕ, Bool, false, List, [], ◌∷◌, ◌++◌}
 use Rattle.mk_core.specs.{declared.config.Config.Config, declared.events.Event.Event, declared.events.Seat.Seat}
 use Rattle.mk_core.specs.{declared.events.Seat.TheVariants.{Caller, Host}, Growing.Grows, History.World}
-use Rattle.mk_words.specs.{Seats.{Has, HasCallers, has_over}, States.{WordsState, PassState}}
+use Rattle.mk_heap.specs.{Below.Words.Seats.{Has, HasCallers, has_over}, Below.Words.States.{WordsState, PassState}}
+use Rattle.mk_heap.specs.Below.Objects.Underway.{PassKeeps}
 use Rattle.mk_heap.specs.{Ending.{CallersAreJoined, MakesToldCycle, SaysOver}, Hosts.{HostState, with_seen}}
 use Rattle.mk_run.specs.HostTurns.{cycles_begun, cycles_asked}
-use Rattle.mk_alloc.specs.Underway.{PassKeeps}
 
 -- The host's seat is home and so are those of all callers, and it has not said that all is over.
 pub record HasAllHome (w : WordsState) (h : HostState) : Type 0 where

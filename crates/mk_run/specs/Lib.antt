@@ -1,3 +1,4 @@
+pub mod Below
 pub mod Ready
 pub mod Joining
 pub mod Marking

@@ -1,8 +1,8 @@
 -- Markers on threads of their own, beside the scripts.
 use Rattle.std.specs.Prelude.{◌≡◌, ℕ, ◌<◌, ◌≤◌, Bool, true, List, [], ◌∷◌, IfOk}
 use Rattle.mk_core.specs.declared.events.Seat.TheVariants.{Marker, Host}
-use Rattle.mk_words.specs.{Seats.{Has, has_over}, States.{WordsState, PassState}}
-use Rattle.mk_marker.specs.Markers.{IsOut}
+use Rattle.mk_heap.specs.{Below.Words.Seats.{Has, has_over}, Below.Words.States.{WordsState, PassState}}
+use Rattle.mk_heap.specs.Below.Markers.Markers.{IsOut}
 use Rattle.mk_script.specs.declared.items.Item.{Item}
 use Rattle.mk_run.specs.{HostTurns.HostComesLast, Joining.{HasJoined, AreTextsFrom}, declared.joining.Joined.Joined}
 

@@ -5,9 +5,8 @@ use Rattle.mk_core.specs.{declared.events.Seat.TheVariants.Caller, Decided.asked
 use Rattle.mk_script.specs.{declared.items.Item.Item, Scopes.script_names}
 use Rattle.mk_check.specs.{Declarations.config_of, Feed.{feed, has_ended, is_refusal}, Laws.{AreNotedBy, IsScript}}
 use Rattle.mk_check.specs.{Output.answers_among, declared.text.Text.Text}
-use Rattle.mk_words.specs.Seats.{has_over}
+use Rattle.mk_heap.specs.{Below.Words.Seats.has_over, Below.Objects.TurnCycles.TurnsOfAreExact}
 use Rattle.mk_heap.specs.Reports.{IsWhole, HasCounts}
-use Rattle.mk_alloc.specs.TurnCycles.{TurnsOfAreExact}
 use Rattle.mk_run.specs.{declared.outcomes.Outcome.Outcome, HostTurns.HostComesLast}
 use Rattle.mk_heap.specs.Reports as report
 

@@ -4,10 +4,10 @@ use Rattle.mk_never.specs.declared.operations.Op.{Op}
 use Rattle.mk_core.specs.{declared.events.Answer.Answer, declared.events.Event.Event, declared.events.Group.Group}
 use Rattle.mk_core.specs.{declared.events.Step.Step, Calls.is_under_turn, Decided.entry_of, History.IsHistory}
 use Rattle.mk_core.specs.Order.{group_of}
-use Rattle.mk_turns.specs.Doing.{are_of, done_in}
-use Rattle.mk_words.specs.States.{PassState}
-use Rattle.mk_caller.specs.{States.{caller_of_pass, Admits}, Called.{own_calls, Called}, Causes.FindsGateHeld}
-use Rattle.mk_alloc.specs.{Laws.OwnAreExact, TurnCalls.CalledInTurn}
+use Rattle.mk_heap.specs.{Below.Words.Doing.{are_of, done_in}, Below.Words.States.PassState}
+use Rattle.mk_heap.specs.{Below.Callers.States.{caller_of_pass, Admits}, Below.Callers.Called.{own_calls, Called}}
+use Rattle.mk_heap.specs.{Below.Callers.Causes.FindsGateHeld, Below.Objects.Laws.OwnAreExact}
+use Rattle.mk_heap.specs.Below.Objects.TurnCalls.{CalledInTurn}
 use Rattle.mk_script.specs.declared.items.Item.{Item}
 use Rattle.mk_check.specs.{Feed.is_refusal, Feeding.{FeedState, FeedStandsFor, StandsForSome, next_op}}
 use Rattle.mk_run.specs.{declared.scripts.Counts.Counts, Running.{answers_in, FollowsScript}}

@@ -2,19 +2,20 @@
 ghost use Rattle.std.specs.Prelude.{◌≡◌, ◌<◌, ◌∷◌, [], IfOk, IfErr, OnErr, IfSome, IfNone, true, false, Bool};
 ghost use Rattle.mk_core.specs.Calls.{is_under_turn};
 ghost use Rattle.mk_never.specs.declared.operations.Op.{Op};
-ghost use Rattle.mk_caller.specs.{Causes.{FindsGateHeld, IsRefused}, Moves.is_access, States.{caller_of_pass, Admits}};
-ghost use Rattle.mk_alloc.specs.{TurnCalls.MayTakeTurns, Underway.PassKeeps};
+ghost use Rattle.mk_heap.specs.{Below.Callers.Causes.{FindsGateHeld, IsRefused}, Below.Callers.Moves.is_access};
+ghost use Rattle.mk_heap.specs.{Below.Callers.States.{caller_of_pass, Admits}, Below.Objects.TurnCalls.MayTakeTurns};
+ghost use Rattle.mk_heap.specs.Below.Objects.Underway.{PassKeeps};
 ghost use Rattle.mk_run.specs.Scripts.{IsCalled, IsAdmittedByOwnCalls, Answers, AsksFor, AsksBesideTurns, IsPutOff};
 ghost use Rattle.mk_run.specs.Scripts.{StaysBeside};
 
-use mk_alloc::{free_object, new_object};
-use mk_caller::{Caller, Refusal};
+use mk_heap::lower::objects::{free_object, new_object};
+use mk_heap::lower::callers::{Caller, Refusal};
 use mk_check::Feed;
 use mk_core::Answer;
-use mk_cycle::Engine;
+use mk_heap::lower::cycles::Engine;
 use mk_never::Op;
-use mk_waiting::Patience;
-use mk_words::Held;
+use mk_heap::lower::words::Patience;
+use mk_heap::lower::words::Held;
 use std::sync::Wait;
 use std::thread::Threads;
 

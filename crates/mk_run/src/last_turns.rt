@@ -1,9 +1,9 @@
 //! The host's last turns, when the scripts are joined.
 ghost use Rattle.std.specs.Prelude.{◌≡◌, true};
-ghost use Rattle.mk_words.specs.Seats.{has_over};
+ghost use Rattle.mk_heap.specs.Below.Words.Seats.{has_over};
 ghost use Rattle.mk_run.specs.LastTurns.{BeginsAsAsked, GoesOnAlone, HasAllHome, TakesLastTurns};
 
-use mk_cycle::Engine;
+use mk_heap::lower::cycles::Engine;
 use mk_heap::{Heap, Host};
 use std::sync::Wait;
 use std::thread::Threads;

@@ -8,6 +8,7 @@ mod answers;
 mod joining;
 mod last_turns;
 pub mod laws;
+pub mod lower;
 mod marking;
 mod outcomes;
 mod paces;

@@ -1,6 +1,6 @@
 //! Markers on threads of their own, beside the scripts.
 ghost use Rattle.std.specs.{Prelude.{◌≡◌, ◌+◌, true, false}, Thread.IsSync};
-ghost use Rattle.mk_marker.specs.Markers.{attends};
+ghost use Rattle.mk_heap.specs.Below.Markers.Markers.{attends};
 ghost use Rattle.mk_run.specs.{Joining.HasMade, Keeping.ScriptsKeep, LastTurns.TakesLastTurns};
 ghost use Rattle.mk_run.specs.{Marking.{IsMarkersPass, IsOver}, Ready.IsReadyRun};
 ghost use denote.Param.Send.{IsSend};
@@ -11,11 +11,11 @@ use crate::paces::Pace;
 use crate::ready::ReadyRun;
 use crate::runs::Run;
 use mk_core::Phase;
-use mk_cycle::Engine;
+use mk_heap::lower::cycles::Engine;
 use mk_heap::{Heap, Host};
-use mk_marker::{Marker, NotMarking, Work};
-use mk_waiting::Patience;
-use mk_words::{Pass, Words};
+use mk_heap::lower::markers::{Marker, NotMarking, Work};
+use mk_heap::lower::words::Patience;
+use mk_heap::lower::words::{Pass, Words};
 use std::sync::Wait;
 use std::thread;
 use std::thread::Threads;

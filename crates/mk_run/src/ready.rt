@@ -5,7 +5,7 @@ ghost use Rattle.mk_run.specs.Ready.{IsReadyRun};
 
 use mk_check::{Checked, Feed};
 use mk_core::Config;
-use mk_cycle::Engine;
+use mk_heap::lower::cycles::Engine;
 use mk_never::NoMemory;
 use std::alloc::Global;
 use std::collections::VecDeque;

@@ -1,7 +1,7 @@
 //! The run of a program.
 ghost use Rattle.std.specs.Prelude.{◌≡◌, ◌≤◌, IfOk, true, false};
 ghost use Rattle.mk_check.specs.Declarations.{config_of};
-ghost use Rattle.mk_cycle.specs.Begun.{CyclesAreBegun};
+ghost use Rattle.mk_heap.specs.Below.Cycles.Begun.{CyclesAreBegun};
 ghost use Rattle.mk_heap.specs.Reports.{history_of};
 ghost use Rattle.mk_run.specs.{LastCycle.EndsWithCycle, Running.IsRunOf, Unswept.IsUnswept};
 
@@ -12,7 +12,7 @@ use crate::paces::Pace;
 use crate::ready::ReadyRun;
 use crate::runs::Run;
 use mk_check::Checked;
-use mk_cycle::Engine;
+use mk_heap::lower::cycles::Engine;
 use mk_heap::Heap;
 use mk_never::NoMemory;
 use std::alloc::Global;

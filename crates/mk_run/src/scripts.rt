@@ -3,18 +3,17 @@ ghost use Rattle.std.specs.Prelude.{◌≡◌, ℕ, List, ◌+◌, [], ◌∷◌
 ghost use Rattle.mk_core.specs.declared.events.Answer.{Answer};
 ghost use Rattle.mk_script.specs.declared.items.Item.{Item};
 ghost use Rattle.mk_check.specs.{Declarations.config_of, Feed.feed as feed_with, Feeding.IsWaiting, Laws.IsScript};
-ghost use Rattle.mk_caller.specs.States.{caller_of_pass};
-ghost use Rattle.mk_alloc.specs.Underway.{PassKeeps};
+ghost use Rattle.mk_heap.specs.{Below.Callers.States.caller_of_pass, Below.Objects.Underway.PassKeeps};
 ghost use Rattle.mk_run.specs.{Ready.IsReadyScript, Running.{answers_in, FollowsScript, EndsScript, IsTextOf}};
 ghost use Rattle.mk_run.specs.Scripts.{CountsHaveRoom, IsFedWith, ScriptTakesAnswer, script_of};
 
 use crate::answers::{answer_at_once, answer_put_off};
 use crate::paces::Pace;
 use crate::ready::ReadyScript;
-use mk_caller::Caller;
+use mk_heap::lower::callers::Caller;
 use mk_check::{Checked, Feed, Text, is_refusal};
 use mk_core::Answer;
-use mk_cycle::Engine;
+use mk_heap::lower::cycles::Engine;
 use mk_never::NoMemory;
 use std::alloc::Global;
 use std::sync::Wait;

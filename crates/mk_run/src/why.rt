@@ -1,7 +1,7 @@
 //! The run of a program with a last cycle, and what that cycle keeps.
 ghost use Rattle.std.specs.Prelude.{◌≡◌, ◌≤◌, IfOk, true, false};
 ghost use Rattle.mk_check.specs.Declarations.{config_of};
-ghost use Rattle.mk_cycle.specs.Begun.{CyclesAreBegun};
+ghost use Rattle.mk_heap.specs.Below.Cycles.Begun.{CyclesAreBegun};
 ghost use Rattle.mk_heap.specs.Reports.{history_of};
 ghost use Rattle.mk_why.specs.Chains.{AreKept};
 ghost use Rattle.mk_run.specs.{LastCycle.EndsWithCycle, Running.IsRunOf, Unswept.IsUnswept};
@@ -10,7 +10,7 @@ use crate::outcomes::Outcome;
 use crate::paces::Pace;
 use crate::running::run_with_cycle;
 use mk_check::Checked;
-use mk_cycle::Engine;
+use mk_heap::lower::cycles::Engine;
 use mk_never::NoMemory;
 use mk_why::{Kept, Why};
 use std::alloc::Global;

@@ -9,7 +9,7 @@ use Rattle.mk_stack.proofs.Replies.{from_turn}
 use Rattle.mk_laws.proofs.Vocabulary.{Bool, List, Option, Some, ℕ, ap, arith, false, is_under_turn, length, refl, subst}
 use Rattle.mk_laws.proofs.{Vocabulary.{sym, true, [], ◌*◌, ◌++◌, ◌+◌, ◌<◌, ◌∙◌, ◌∷◌, ◌≡◌}, CallSorts.flag_is}
 use Rattle.mk_laws.proofs.LastEvents.{stands}
-use Rattle.mk_caller.specs.States.{Admits}
+use Rattle.mk_run.specs.Below.Callers.States.{Admits}
 use Rattle.mk_run.specs.Scripts.{Answers, IsCalled, as_told, unflagged}
 use Rattle.mk_stack.specs.{Advancing.{Forgets, StaysEnded}, Passes.{KeepsNoNode, other_node}, Ready.IsReady}
 

@@ -12,15 +12,15 @@ use Rattle.mk_laws.proofs.Vocabulary.{◌≤◌}
 use Rattle.mk_never.specs.declared.never_heap.NoMemory.{NoMemory}
 use Rattle.mk_core.specs.{declared.seats.Presence.TheVariants.{Attending, Out, Visiting}, Growing.is_same_seat}
 use Rattle.mk_core.specs.MarkerConditions.{is_out}
-use Rattle.mk_heap.proofs.{ClientSteps.has_said_over, MovedHosts.MovesOn}
-use Rattle.mk_heap.specs.{Ending.{CallersAreJoined, SaysOver}, Hosts.{with_marker_made, with_seen}}
-use Rattle.mk_marker.specs.Markers.{attends}
+use Rattle.mk_run.proofs.{Below.Heaps.ClientSteps.has_said_over, Below.Heaps.MovedHosts.MovesOn}
+use Rattle.mk_run.proofs.Below.Words.Seats.{has_first, has_left, has_right, others_own, without_keeps}
+use Rattle.mk_run.specs.Below.Heaps.Ending.{CallersAreJoined, SaysOver}
+use Rattle.mk_run.specs.{Below.Heaps.Hosts.{with_marker_made, with_seen}, Below.Markers.Markers.attends}
+use Rattle.mk_run.specs.{Below.Words.Markers.marker_in, Below.Words.Seats.{HasCallers, has_over}}
 use Rattle.mk_run.proofs.HostTurns.{comes_last, host_is_still, over_begins, still_last}
 use Rattle.mk_run.proofs.{LastTurns.{over_moves, still_behind_over}, MarkersBeside.first_marker}
 use Rattle.mk_stack.specs.{Joining.{HaveEnded, HaveFoundedAndWorked, IsReader}, StackRuns.IsStackRun}
 use Rattle.mk_stack.specs.declared.working.Ended.{Ended}
-use Rattle.mk_words.proofs.Seats.{has_first, has_left, has_right, others_own, without_keeps}
-use Rattle.mk_words.specs.{Markers.marker_in, Seats.{HasCallers, has_over}}
 
 both_ok : {V U : Type 0} (P : V → Type 0) (Q : U → Type 0) (R : V → U → Type 0) (x : Result V NoMemory) (y : Result U
     NoMemory) → ((v : V) (u : U) → P v → Q u → R v u) → IfOk x P → IfOk y Q → IfOk x (λ v. IfOk y (λ u. R v u))

@@ -10,11 +10,11 @@ use Rattle.mk_laws.proofs.Vocabulary.{List, Some, ℕ, ap, arith, drop, get_or, 
 use Rattle.mk_laws.proofs.Vocabulary.{◌+◌, ◌<◌, ◌∙◌, ◌∷◌, ◌≡◌, ◌≤◌, ◌⊎◌}
 use Rattle.mk_never.specs.declared.never_heap.NoMemory.{NoMemory}
 use Rattle.mk_core.specs.History.{calls_from}
-use Rattle.mk_caller.specs.States.{IsIdleCaller}
-use Rattle.mk_heap.specs.Hosts.{with_caller_made}
+use Rattle.mk_run.specs.{Below.Callers.States.IsIdleCaller, Below.Heaps.Hosts.with_caller_made}
+use Rattle.mk_run.specs.Below.Words.Seats.{has_over}
+use Rattle.mk_run.proofs.Below.Words.Seats.{has_first, has_left, has_right, others_own, without_keeps}
 use Rattle.mk_run.proofs.HostTurns.{host_is_still, unseen_by_host}
 use Rattle.mk_stack.specs.{Joining.{HasWorked, IsBetweenJobs}, JobLists.HasDone, Ready.IsReadyForJobs}
-use Rattle.mk_words.{proofs.Seats.{has_first, has_left, has_right, others_own, without_keeps}, specs.Seats.{has_over}}
 
 -- What a caller did stands where the list goes on by events of others.
 

@@ -9,9 +9,10 @@ use Rattle.mk_laws.proofs.Vocabulary.{bases_of, eq-eqb, if◌then◌else◌, len
 use Rattle.mk_laws.proofs.{Vocabulary.{◌<◌, ◌==◌, ◌∙◌, ◌∷◌, ◌≡◌}, LastEvents.{comes_last, stands}}
 use Rattle.mk_never.specs.Admitted.{IsCaller}
 use Rattle.mk_core.proofs.{Histories.calls_more, HistoryParts.calls_in_parts}
-use Rattle.mk_alloc.{proofs.OneCalls.{OneCall, before_call, one_call, through_call}, specs.TurnCalls.{CalledInTurn}}
-use Rattle.mk_caller.{proofs.OwnSteps.{calls_by}, specs.{Called.{IsDecidedIn, own_calls}, Causes.FindsGateHeld}}
-use Rattle.mk_words.specs.States.{event_of}
+use Rattle.mk_run.proofs.Below.Objects.OneCalls.{OneCall, before_call, one_call, through_call}
+use Rattle.mk_run.proofs.Below.Callers.OwnSteps.{calls_by}
+use Rattle.mk_run.specs.{Below.Objects.TurnCalls.CalledInTurn, Below.Callers.Called.{IsDecidedIn, own_calls}}
+use Rattle.mk_run.specs.{Below.Callers.Causes.FindsGateHeld, Below.Words.States.event_of}
 
 -- A caller's operations in two parts
 

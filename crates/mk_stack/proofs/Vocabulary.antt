@@ -1,5 +1,8 @@
 -- The words that the proofs of this crate share: they import them from here.
-pub use Rattle.mk_caller.specs.{Called.Called, States.{CallerState, IsAtHome, caller_of_pass, never_of, value_of}}
+pub use Rattle.mk_run.specs.{Below.Callers.Called.Called, Below.Callers.States.{CallerState, IsAtHome, caller_of_pass}}
+pub use Rattle.mk_run.specs.{Below.Callers.States.{never_of, value_of}, Below.Heaps.Hosts.{HostState, pass_for}}
+pub use Rattle.mk_run.specs.{Below.Heaps.Hosts.with_joined, Below.Words.Seats.Has}
+pub use Rattle.mk_run.specs.Below.Words.States.{PassState, WordsState}
 pub use Rattle.mk_laws.proofs.Vocabulary.{Decided, asked, flagged, AreOfOthers, IsHistory, calls, calls_from, left}
 pub use Rattle.mk_laws.proofs.Vocabulary.{never_behind, answer_of, Config, Answer, Event, Seat, Caller, Host}
 pub use Rattle.mk_laws.proofs.Vocabulary.{AreAdmitted, Call, NeverState, after_calls, after_free, allocation_at, bit}
@@ -8,7 +11,6 @@ pub use Rattle.mk_laws.proofs.Vocabulary.{target_of, with_freed, with_global, wi
 pub use Rattle.mk_laws.proofs.Vocabulary.{word_at, words_of, IsTyped, kinds_of, Op, Kind, Number, To, Unmapped, WordOf}
 pub use Rattle.mk_laws.proofs.Vocabulary.{Value, Null, Num, Ptr}
 pub use Rattle.mk_core.specs.{Growing.Grows, History.never_first}
-pub use Rattle.mk_heap.specs.Hosts.{HostState, pass_for, with_joined}
 pub use Rattle.mk_never.specs.{NeverHeap.{Allocation, after_op, left_at, reply_at, reply_of}, Types.zero_words}
 pub use Rattle.mk_never.specs.{declared.operations.Reply.Reply, declared.values.Target.Target}
 pub use Rattle.mk_stack.specs.Advancing.{HoldsAt, IsPointerTo, MayPointTo, next_point, op_at}
@@ -27,4 +29,3 @@ pub use Rattle.mk_stack.specs.{declared.points.Point.Point, declared.points.Poin
 pub use Rattle.mk_stack.specs.declared.points.Point.TheVariants.{Filling, Following, Founded, Founding, Freeing}
 pub use Rattle.mk_stack.specs.declared.points.Point.TheVariants.{Linking, Looking, Making, Peeking, Placing, Publishing}
 pub use Rattle.mk_stack.specs.declared.points.Point.TheVariants.{Reading, Starting, Taking, Testing}
-pub use Rattle.mk_words.specs.{Seats.Has, States.{PassState, WordsState}}

@@ -8,7 +8,7 @@ use Rattle.mk_stack.proofs.PointSteps.{admits, kept, loads_link, loads_number, l
 use Rattle.mk_stack.proofs.{AtPoints.holds_still, Going.seen_then, Replies.{Stays, from_called}}
 use Rattle.mk_laws.proofs.Vocabulary.{IsAdmitted, List, Some, ℕ, ap, append-nil, append_assoc, arith, false}
 use Rattle.mk_laws.proofs.{Vocabulary.{is_under_turn, refl, subst, sym, [], ◌++◌, ◌∙◌, ◌∷◌, ◌≡◌}, CallSorts.flag_is}
-use Rattle.mk_caller.specs.States.{Admits}
+use Rattle.mk_run.specs.Below.Callers.States.{Admits}
 use Rattle.mk_run.specs.Scripts.{IsCalled, as_told}
 use Rattle.mk_stack.specs.Walks.{Walks, descend, found_down, go, lack, meet, number_read, op_down, peek, read, start}
 use Rattle.mk_stack.specs.{Walks.stop, Ready.IsReady, declared.walking.Found.Found}

@@ -3,9 +3,8 @@
 use Rattle.std.specs.Prelude.{◌≡◌, ℕ, ◌+◌, ◌<◌, ◌≤◌, true, false, List, [], ◌∷◌, ◌++◌, length, IfOk}
 use Rattle.mk_core.specs.{declared.config.Config.Config, declared.events.Seat.TheVariants.{Caller, Marker, Host}}
 use Rattle.mk_core.specs.Growing.{AreOfOthers, Grows}
-use Rattle.mk_words.specs.{Seats.{Has, has_over, without_seat}, States.{WordsState, PassState}}
-use Rattle.mk_caller.specs.States.{IsIdleCaller}
-use Rattle.mk_heap.specs.Hosts.{HostState, with_caller_out, with_joined}
+use Rattle.mk_run.specs.{Below.Words.Seats.{Has, has_over, without_seat}, Below.Words.States.{WordsState, PassState}}
+use Rattle.mk_run.specs.{Below.Callers.States.IsIdleCaller, Below.Heaps.Hosts.{HostState, with_caller_out, with_joined}}
 use Rattle.mk_run.specs.HostTurns.{HostComesLast}
 use Rattle.mk_stack.specs.{declared.job_lists.Jobs.Jobs, declared.jobs.Job.Job, declared.joining.Callers.Callers}
 use Rattle.mk_stack.specs.{declared.joining.Worked.Worked, declared.joining.Joined.Joined}

@@ -4,8 +4,8 @@ ghost use Rattle.mk_stack.specs.{JobLists.DoesJobs, Ready.IsReadyForJobs};
 
 use crate::jobs::{Done, Job};
 use crate::stacks::do_job;
-use mk_caller::Caller;
-use mk_cycle::Engine;
+use mk_run::lower::callers::Caller;
+use mk_run::lower::cycles::Engine;
 use mk_never::NoMemory;
 use mk_run::Pace;
 use std::alloc::Global;

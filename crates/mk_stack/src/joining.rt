@@ -1,6 +1,6 @@
 //! Callers on threads of their own, and the host that joins them.
 ghost use Rattle.std.specs.{Prelude.{◌≡◌, ◌+◌, ◌<◌, ◌∷◌, [], drop, slice_get, IfSome, List, ℕ}, Thread.IsSync};
-ghost use Rattle.mk_caller.specs.States.{IsIdleCaller};
+ghost use Rattle.mk_run.specs.Below.Callers.States.{IsIdleCaller};
 ghost use Rattle.mk_stack.specs.{Jobs.Replied, Joining.{AreCallersFrom, HasHandedOut, HasWorked, HaveWorked}};
 ghost use Rattle.mk_stack.specs.{Joining.IsBetweenJobs, Passes.replied_to};
 ghost use denote.Param.Send.{IsSend};
@@ -8,12 +8,12 @@ ghost use denote.Param.Send.{IsSend};
 use crate::engines::CallerEngines;
 use crate::job_lists::{Dones, Jobs, run_jobs};
 use crate::shared::Run;
-use mk_caller::Caller;
-use mk_cycle::Engine;
-use mk_heap::{Heap, Host};
+use mk_run::lower::callers::Caller;
+use mk_run::lower::cycles::Engine;
+use mk_run::lower::heaps::{Heap, Host};
 use mk_never::NoMemory;
 use mk_run::{Pace, with_first};
-use mk_words::Pass;
+use mk_run::lower::words::Pass;
 use std::sync::Wait;
 use std::thread;
 use std::thread::Threads;

@@ -1,6 +1,6 @@
 //! Markers on threads of their own, beside the callers.
 ghost use Rattle.std.specs.{Prelude.{◌≡◌, ◌+◌, ◌∷◌, [], length, List, ℕ}, Thread.IsSync};
-ghost use Rattle.mk_marker.specs.Markers.{IsMarkers, IsOut};
+ghost use Rattle.mk_run.specs.Below.Markers.Markers.{IsMarkers, IsOut};
 ghost use Rattle.mk_run.specs.Marking.{IsMarkersPass};
 ghost use Rattle.mk_stack.specs.{Engines.AreEnginesOf, Joining.{HasHandedOut, HaveEnded}, declared.job_lists.Jobs.Jobs};
 ghost use denote.Param.Send.{IsSend};
@@ -8,10 +8,10 @@ ghost use denote.Param.Send.{IsSend};
 use crate::engines::Engines;
 use crate::shared::Run;
 use crate::working::{Ended, work};
-use mk_cycle::Engine;
-use mk_heap::{Heap, Host};
+use mk_run::lower::cycles::Engine;
+use mk_run::lower::heaps::{Heap, Host};
 use mk_run::{Pace, mark_until_over};
-use mk_words::Pass;
+use mk_run::lower::words::Pass;
 use std::sync::Wait;
 use std::thread;
 use std::thread::Threads;

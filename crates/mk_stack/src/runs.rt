@@ -1,8 +1,8 @@
 //! A stack from first to last: callers do their jobs on it, each on a thread of its own.
 ghost use Rattle.std.specs.Prelude.{◌≡◌, ◌≤◌, length, true, false, IfOk};
 ghost use Rattle.mk_core.specs.Config.{IsBetween};
-ghost use Rattle.mk_words.specs.Seats.{has_over};
-ghost use Rattle.mk_heap.specs.Reports.{config_of, history_of, HasCounts, IsWhole};
+ghost use Rattle.mk_run.specs.{Below.Words.Seats.has_over, Below.Heaps.Reports.{config_of, history_of, HasCounts}};
+ghost use Rattle.mk_run.specs.Below.Heaps.Reports.{IsWhole};
 ghost use Rattle.mk_run.specs.HostTurns.{HostComesLast};
 ghost use Rattle.mk_stack.specs.StackRuns.{IsStackRun, stack_config};
 
@@ -12,8 +12,8 @@ use crate::marking::work_beside;
 use crate::shared::Run;
 use crate::working::Ended;
 use mk_core::{Config, GlobalTable};
-use mk_cycle::Engine;
-use mk_heap::{Heap, Report};
+use mk_run::lower::cycles::Engine;
+use mk_run::lower::heaps::{Heap, Report};
 use mk_never::{Kind, NoMemory, TypeTable};
 use mk_run::Pace;
 use std::alloc::Global;

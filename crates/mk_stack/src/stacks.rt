@@ -1,6 +1,6 @@
 //! Numbers on a stack that callers share.
 ghost use Rattle.std.specs.Prelude.{◌≡◌, ◌<◌, OnOk, OnErr};
-ghost use Rattle.mk_caller.specs.States.{value_of};
+ghost use Rattle.mk_run.specs.Below.Callers.States.{value_of};
 ghost use Rattle.mk_stack.specs.Advancing.{Forgets, HoldsAt, IsFit, IsGoal, StaysEnded};
 ghost use Rattle.mk_stack.specs.Passes.{DoesJob, GoesToPoint, KeepsNoNode, other_node, popped};
 ghost use Rattle.mk_stack.specs.Ready.{IsReady, IsReadyForJobs};
@@ -9,10 +9,10 @@ use crate::advancing::{BELOW, NODE, UPPERMOST, next_point, op_at};
 use crate::jobs::{Done, Job};
 use crate::points::Point;
 use crossbeam_utils::Backoff;
-use mk_caller::Caller;
-use mk_cycle::Engine;
+use mk_run::lower::callers::Caller;
+use mk_run::lower::cycles::Engine;
 use mk_run::answer_now;
-use mk_words::Held;
+use mk_run::lower::words::Held;
 use std::sync::Wait;
 use std::thread::Threads;
 

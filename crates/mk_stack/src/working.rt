@@ -1,6 +1,6 @@
 //! All that happens on a stack: it is founded, callers do their jobs, and what is left is read.
 ghost use Rattle.std.specs.{Prelude.{◌≡◌, ◌<◌, IfOk, false}, Thread.IsSync};
-ghost use Rattle.mk_words.specs.Seats.{Has, has_over};
+ghost use Rattle.mk_run.specs.Below.Words.Seats.{Has, has_over};
 ghost use Rattle.mk_stack.specs.{Engines.{AreEnginesFrom, AreEnginesOf}, Joining.{HasHandedOut, HaveEnded}};
 ghost use Rattle.mk_stack.specs.Joining.{HaveFoundedAndWorked, IsReader, ReadsStack};
 ghost use denote.Param.Send.{IsSend};
@@ -12,8 +12,8 @@ use crate::joining::{Callers, Joined, run_from};
 use crate::shared::Run;
 use crate::stacks::found_stack;
 use crate::walking::read_stack;
-use mk_cycle::Engine;
-use mk_heap::Host;
+use mk_run::lower::cycles::Engine;
+use mk_run::lower::heaps::Host;
 use mk_never::NoMemory;
 use mk_run::Pace;
 use std::sync::Wait;

@@ -3,18 +3,19 @@
 use Rattle.std.specs.Prelude.{⊤}
 use Rattle.mk_sweep.proofs.Vocabulary.{Caller, Cell, Config, Event, HasMarkers, Holds, Host, Marker, Moment, Seat}
 use Rattle.mk_sweep.proofs.Vocabulary.{Steady, Step, World, has_bit, is_marked, world_behind}
-use Rattle.mk_laws.proofs.Vocabulary.{Bool, IsEnabled, List, ℕ, ap, arith, cases_Bool, enabled_meets, false}
-use Rattle.mk_laws.proofs.Vocabulary.{false_from_ne_true, holder_number, inl, inr, is_one_of, list_any, refl}
-use Rattle.mk_laws.proofs.Vocabulary.{slice_index, subst, sym, true, true≢false, [], ◌++◌, ◌+◌, ◌<◌, ◌∙◌, ◌∷◌, ◌≡◌}
-use Rattle.mk_laws.proofs.{Known.{Known, holds_turn, known_behind}, OthersMoves.{OthersMove, WorldBehind, others_move}}
-use Rattle.mk_laws.proofs.{Actors.is_holders, FramesHolders.acts_as_holder, Orderly.{same_holder, turn_of}}
-use Rattle.mk_laws.proofs.{OrderlyLists.actor_of, PrecisionStepKinds.both_fail, Protocols.protocol_of}
-use Rattle.mk_laws.proofs.{Stretches.None_of, TurnFrame.turn_after, Views.{HoldsTurn, view_of}}
+use Rattle.mk_cycle.proofs.Below.Laws.Vocabulary.{Bool, IsEnabled, List, ℕ, ap, arith, cases_Bool, enabled_meets, false}
+use Rattle.mk_cycle.proofs.Below.Laws.Vocabulary.{false_from_ne_true, holder_number, inl, inr, is_one_of, list_any}
+use Rattle.mk_cycle.proofs.Below.Laws.Vocabulary.{refl, slice_index, subst, sym, true, true≢false, [], ◌++◌, ◌+◌, ◌<◌}
+use Rattle.mk_cycle.proofs.{Below.Laws.Vocabulary.{◌∙◌, ◌∷◌, ◌≡◌}, Below.Laws.Known.{Known, holds_turn, known_behind}}
+use Rattle.mk_cycle.proofs.{Below.Laws.OthersMoves.{OthersMove, WorldBehind, others_move}, Below.Laws.Actors.is_holders}
+use Rattle.mk_cycle.proofs.{Below.Laws.FramesHolders.acts_as_holder, Below.Laws.Orderly.{same_holder, turn_of}}
+use Rattle.mk_cycle.proofs.{Below.Laws.OrderlyLists.actor_of, Below.Laws.PrecisionStepKinds.both_fail}
+use Rattle.mk_cycle.proofs.{Below.Laws.Protocols.protocol_of, Below.Laws.Stretches.None_of}
+use Rattle.mk_cycle.proofs.{Below.Laws.TurnFrame.turn_after, Below.Laws.Views.{HoldsTurn, view_of}}
+use Rattle.mk_cycle.proofs.Below.Words.Seats.{not_both, same_self}
+use Rattle.mk_cycle.specs.{Tracing.OwnStepsKeep, Below.Words.Doing.AreOwnOrOfOthers}
 use Rattle.mk_core.specs.{Growing.is_same_seat, History.{AreEnabledFrom, left_from}}
 use Rattle.mk_sweep.specs.Unswept.{LeaveUnmarked, OthersLeaveUnmarked}
-use Rattle.mk_tracing.specs.Tracing.{OwnStepsKeep}
-use Rattle.mk_turns.specs.Doing.{AreOwnOrOfOthers}
-use Rattle.mk_words.proofs.Seats.{not_both, same_self}
 
 -- The turn word names a seat that may hold the turn, so it does.
 

@@ -4,10 +4,11 @@ use Rattle.mk_sweep.proofs.Vocabulary.{IsSettled, MarksMore, PointWell, TurnStat
 use Rattle.mk_sweep.proofs.Vocabulary.{cells_under, first_word, has_no_pointers, header_in, left, now_of, points_well}
 use Rattle.mk_sweep.proofs.Vocabulary.{still_words, word_points_well, words_below, world_of}
 use Rattle.mk_sweep.proofs.{ScannedCells.{unused_is_zero, used_word}, CountedWords.some_there, EachOnce.looked_at_once}
-use Rattle.mk_laws.proofs.Vocabulary.{Bool, List, ℕ, all_below-at, ap, arith, eqb-true, false, refl, slice_index, subst}
-use Rattle.mk_laws.proofs.Vocabulary.{sym, true, ◌+◌, ◌<◌, ◌==◌, ◌∙◌, ◌≡◌}
+use Rattle.mk_cycle.proofs.Below.Laws.Vocabulary.{Bool, List, ℕ, all_below-at, ap, arith, eqb-true, false, refl}
+use Rattle.mk_cycle.proofs.Below.Laws.Vocabulary.{slice_index, subst, sym, true, ◌+◌, ◌<◌, ◌==◌, ◌∙◌, ◌≡◌}
+use Rattle.mk_cycle.proofs.MoreMarks.{well_more, well_none, zero_none}
+use Rattle.mk_cycle.specs.Grays.{RootsPointWell}
 use Rattle.mk_core.specs.Cells.{is_used}
-use Rattle.mk_tracing.{proofs.MoreMarks.{well_more, well_none, zero_none}, specs.Grays.{RootsPointWell}}
 
 pub roots_stay : {pages : ℕ} {w v : Words} → MarksMore w v → RootsPointWell pages w → RootsPointWell pages v
 roots_stay {pages} {w} {v} more roots = grind (arith, well_more)

@@ -3,11 +3,12 @@ use Rattle.std.proofs.{Common.{count_by, filter, length-append, sum_by}, lemmas.
 use Rattle.std.{proofs.lemmas.List.Sums.{sum_by-append, sum_by-cons}, specs.List.{Contains, range_with_len}}
 use Rattle.mk_sweep.proofs.Vocabulary.{Words, cells_under, has_bit, has_no_pointers, header_in, used_at, words_below}
 use Rattle.mk_sweep.proofs.Vocabulary.{words_if, words_of_cells, words_on, words_under}
-use Rattle.mk_laws.proofs.Vocabulary.{Bool, List, ℕ, and_from, and_parts, ap, arith, cases_eq, cases_lt, cond, eq-eqb}
-use Rattle.mk_laws.proofs.Vocabulary.{false, get_or, if◌then◌else◌, inl, inr, le-leb, leb-true, length, lt-ltb}
-use Rattle.mk_laws.proofs.Vocabulary.{ltb-true, nat_le, nat_lt, ne_eqb, refl, subst, suc, sym, true, true≢false, zero}
-use Rattle.mk_laws.proofs.Vocabulary.{[], ◌&&◌, ◌*◌, ◌++◌, ◌+◌, ◌<◌, ◌==◌, ◌∙◌, ◌∷◌, ◌≡◌, ◌≢◌, ◌≤◌, ◌⊎◌}
-use Rattle.mk_laws.proofs.CoveredWords.{one_part}
+use Rattle.mk_cycle.proofs.Below.Laws.Vocabulary.{Bool, List, ℕ, and_from, and_parts, ap, arith, cases_eq, cases_lt}
+use Rattle.mk_cycle.proofs.Below.Laws.Vocabulary.{cond, eq-eqb, false, get_or, if◌then◌else◌, inl, inr, le-leb}
+use Rattle.mk_cycle.proofs.Below.Laws.Vocabulary.{leb-true, length, lt-ltb, ltb-true, nat_le, nat_lt, ne_eqb, refl}
+use Rattle.mk_cycle.proofs.Below.Laws.Vocabulary.{subst, suc, sym, true, true≢false, zero, [], ◌&&◌, ◌*◌, ◌++◌, ◌+◌}
+use Rattle.mk_cycle.proofs.Below.Laws.Vocabulary.{◌<◌, ◌==◌, ◌∙◌, ◌∷◌, ◌≡◌, ◌≢◌, ◌≤◌, ◌⊎◌}
+use Rattle.mk_cycle.proofs.Below.Laws.CoveredWords.{one_part}
 use Rattle.mk_cycle.{proofs.SumsBelow.{counted_by_key, sum_same}, specs.ReleasedPages.{sum_below}}
 
 -- how often it stands there

@@ -1,6 +1,6 @@
 -- The kinds of steps in the parts of a sweeping cycle; and what is swept where values and allocations are the same.
-use Rattle.mk_laws.proofs.Vocabulary.{Bool, List, ℕ, ap, arith, false, is_close, is_release, slice_index, subst, sym}
-use Rattle.mk_laws.proofs.{Vocabulary.{true, ◌∙◌, ◌≡◌}, Actors.is_holders}
+use Rattle.mk_cycle.proofs.Below.Laws.Vocabulary.{Bool, List, ℕ, ap, arith, false, is_close, is_release, slice_index}
+use Rattle.mk_cycle.proofs.{Below.Laws.Vocabulary.{subst, sym, true, ◌∙◌, ◌≡◌}, Below.Laws.Actors.is_holders}
 use Rattle.mk_sweep.proofs.Vocabulary.{Config, InGlobal, InRegister, InWord, IsScannedWord, IsSwept, IsSweptValue}
 use Rattle.mk_sweep.proofs.Vocabulary.{PlacedAllocation, Step, World, is_tracing}
 use Rattle.mk_sweep.proofs.BesideTurn.{LeaveTheMarks, LeaveTheTurn}

@@ -1,13 +1,11 @@
 -- Which heap words were looked at: in parts, and by one step.
 use Rattle.mk_sweep.proofs.Vocabulary.{Event, PassState, Step, heap_looks}
-use Rattle.mk_laws.proofs.Vocabulary.{Bool, List, and_parts, ap, append-nil, append_assoc, arith, refl, sym, true, []}
-use Rattle.mk_laws.proofs.Vocabulary.{◌++◌, ◌∙◌, ◌∷◌, ◌≡◌}
+use Rattle.mk_cycle.proofs.Below.Laws.Vocabulary.{Bool, List, and_parts, ap, append-nil, append_assoc, arith, refl, sym}
+use Rattle.mk_cycle.proofs.{Below.Laws.Vocabulary.{true, [], ◌++◌, ◌∙◌, ◌∷◌, ◌≡◌}, Parts.{done_by_one, more_in_parts}}
+use Rattle.mk_cycle.proofs.{Parts.{more_of_nothing, more_of_step}, Below.Words.Doing.done_in_parts}
+use Rattle.mk_cycle.specs.{Tracing.is_waiting, Below.Words.Doing.{Does, are_of, done_in}, Below.Words.Steps.Makes}
 use Rattle.mk_core.specs.Growing.{Finding, own_from}
 use Rattle.mk_sweep.specs.Sweeping.{word_looked_at, words_looked_at}
-use Rattle.mk_tracing.proofs.Parts.{done_by_one, more_in_parts, more_of_nothing, more_of_step}
-use Rattle.mk_tracing.specs.Tracing.{is_waiting}
-use Rattle.mk_turns.{proofs.Doing.done_in_parts, specs.Doing.Does, specs.Doing.are_of, specs.Doing.done_in}
-use Rattle.mk_words.specs.Steps.{Makes}
 
 looked_at_in_parts : (xs ys : List Finding) → words_looked_at (xs ++ ys) ≡ words_looked_at xs ++ words_looked_at ys
 looked_at_in_parts [] ys = refl

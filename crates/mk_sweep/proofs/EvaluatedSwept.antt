@@ -3,8 +3,9 @@
 use Rattle.std.specs.List.{list_all}
 use Rattle.mk_sweep.proofs.Vocabulary.{Config, Event, InRegister, InWord, IsSwept, IsSweptValue, Step, World, left}
 use Rattle.mk_sweep.proofs.Vocabulary.{placed_at}
-use Rattle.mk_laws.proofs.Vocabulary.{Bool, List, None, Op, Some, Tally, Word, ℕ, and_parts, arith, false, false≢true}
-use Rattle.mk_laws.proofs.Vocabulary.{leb-true, ltb-true, refl, small, suc, true, zero, [], ◌&&◌, ◌++◌, ◌∷◌, ◌≡◌}
+use Rattle.mk_cycle.proofs.Below.Laws.Vocabulary.{Bool, List, None, Op, Some, Tally, Word, ℕ, and_parts, arith, false}
+use Rattle.mk_cycle.proofs.Below.Laws.Vocabulary.{false≢true, leb-true, ltb-true, refl, small, suc, true, zero, []}
+use Rattle.mk_cycle.proofs.Below.Laws.Vocabulary.{◌&&◌, ◌++◌, ◌∷◌, ◌≡◌}
 use Rattle.mk_core.proofs.Schedules.{by, c0, fault, first_fault, host, pointer_page}
 use Rattle.mk_core.proofs.SmallCycles.{begun_in_stop, by_host, marked_in_stop, three_objects}
 use Rattle.mk_core.proofs.{EvaluatedReach.below_two, ListTests.list_all-at, ListTests.numbered_all}

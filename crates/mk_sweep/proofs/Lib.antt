@@ -1,3 +1,4 @@
+pub mod Below
 pub mod Vocabulary
 pub mod Blacks
 pub mod Closed

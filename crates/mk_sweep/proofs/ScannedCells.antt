@@ -3,23 +3,27 @@ use Rattle.mk_sweep.proofs.Vocabulary.{Cell, Config, Event, IsHistory, IsScanned
 use Rattle.mk_sweep.proofs.Vocabulary.{World, cell_of_allocation, cell_words, cells_under, first_word, has_bit}
 use Rattle.mk_sweep.proofs.Vocabulary.{has_no_pointers, header_at, header_in, header_of, is_mapped, is_phase, left}
 use Rattle.mk_sweep.proofs.Vocabulary.{never_behind, phase_of, placed_at, storage_of, storage_words, used_at}
-use Rattle.mk_laws.proofs.Vocabulary.{Among, Bool, Claim, HasHeader, Invariant, IsClaimed, IsShown, IsSized, IsWordOf}
-use Rattle.mk_laws.proofs.Vocabulary.{List, None, Object, Placing, ShowsPart, ℕ, and_from, and_parts, ap, append-nil}
-use Rattle.mk_laws.proofs.Vocabulary.{arith, cells_begin, claim_of, claims_of, claims_on, claims_placed, eq-eqb, false}
-use Rattle.mk_laws.proofs.Vocabulary.{first_page_shows, ground_of, has_place, header_made, header_on, heads_run, inl}
-use Rattle.mk_laws.proofs.Vocabulary.{inr, is_freed, is_large, is_released_in, is_small_object, is_unmapped_header}
-use Rattle.mk_laws.proofs.Vocabulary.{kinds_of, large_count, large_is_not_small, made_is_mapped, not, not-true}
-use Rattle.mk_laws.proofs.Vocabulary.{object_now, object_placed, pages_made, pages_some, part_has_no_pointers, refl}
-use Rattle.mk_laws.proofs.Vocabulary.{small_heads_none, subst, sym, true, true≢false, typed_size, unmapped_is_unmapped}
-use Rattle.mk_laws.proofs.Vocabulary.{words_are_zero, words_within, ◌&&◌, ◌++◌, ◌+◌, ◌/◌, ◌<◌, ◌==◌, ◌||◌, ◌∙◌, ◌≡◌}
-use Rattle.mk_laws.proofs.{Vocabulary.{◌≢◌, ◌⊎◌}, Claims.{claim_among, claim_is}}
-use Rattle.mk_laws.proofs.InvariantHistories.{allocations_stand, histories_keep_the_invariant}
-use Rattle.mk_laws.proofs.{FreeWords.free_cells_are_zero, Freed.gone_terrain, KnownWorlds.{KnownWorld, known_world}}
-use Rattle.mk_laws.proofs.{MappedWords.mapped_stays, ReadingsStands.freed_cell, Serving.{Laid, own_claim}}
-use Rattle.mk_laws.proofs.{Settled.{unmapped_run, unreleased_are_apart}, TellGuard.guard_in}
+use Rattle.mk_cycle.proofs.Below.Laws.Vocabulary.{Among, Bool, Claim, HasHeader, Invariant, IsClaimed, IsShown, IsSized}
+use Rattle.mk_cycle.proofs.Below.Laws.Vocabulary.{IsWordOf, List, None, Object, Placing, ShowsPart, ℕ, and_from}
+use Rattle.mk_cycle.proofs.Below.Laws.Vocabulary.{and_parts, ap, append-nil, arith, cells_begin, claim_of, claims_of}
+use Rattle.mk_cycle.proofs.Below.Laws.Vocabulary.{claims_on, claims_placed, eq-eqb, false, first_page_shows, ground_of}
+use Rattle.mk_cycle.proofs.Below.Laws.Vocabulary.{has_place, header_made, header_on, heads_run, inl, inr, is_freed}
+use Rattle.mk_cycle.proofs.Below.Laws.Vocabulary.{is_large, is_released_in, is_small_object, is_unmapped_header}
+use Rattle.mk_cycle.proofs.Below.Laws.Vocabulary.{kinds_of, large_count, large_is_not_small, made_is_mapped, not}
+use Rattle.mk_cycle.proofs.Below.Laws.Vocabulary.{not-true, object_now, object_placed, pages_made, pages_some}
+use Rattle.mk_cycle.proofs.Below.Laws.Vocabulary.{part_has_no_pointers, refl, small_heads_none, subst, sym, true}
+use Rattle.mk_cycle.proofs.Below.Laws.Vocabulary.{true≢false, typed_size, unmapped_is_unmapped, words_are_zero}
+use Rattle.mk_cycle.proofs.Below.Laws.Vocabulary.{words_within, ◌&&◌, ◌++◌, ◌+◌, ◌/◌, ◌<◌, ◌==◌, ◌||◌, ◌∙◌, ◌≡◌, ◌≢◌}
+use Rattle.mk_cycle.proofs.{Below.Laws.Vocabulary.◌⊎◌, Below.Laws.Claims.{claim_among, claim_is}}
+use Rattle.mk_cycle.proofs.Below.Laws.InvariantHistories.{allocations_stand, histories_keep_the_invariant}
+use Rattle.mk_cycle.proofs.{Below.Laws.FreeWords.free_cells_are_zero, Below.Laws.Freed.gone_terrain}
+use Rattle.mk_cycle.proofs.{Below.Laws.KnownWorlds.{KnownWorld, known_world}, Below.Laws.MappedWords.mapped_stays}
+use Rattle.mk_cycle.proofs.{Below.Laws.ReadingsStands.freed_cell, Below.Laws.Serving.{Laid, own_claim}}
+use Rattle.mk_cycle.proofs.{Below.Laws.Settled.{unmapped_run, unreleased_are_apart}, Below.Laws.TellGuard.guard_in}
+use Rattle.mk_cycle.specs.{Below.Laws.LayoutScene.Unmapped, Below.Laws.SettledPages.StandsUsed}
+use Rattle.mk_cycle.specs.Below.Laws.Terrain.{IsCellOf}
 use Rattle.mk_core.proofs.{PointedAllocations.{cell_word_is_its_own, taken_cell_is}, StandingAllocations.cell_is_known}
 use Rattle.mk_core.specs.{Cells.is_used, ClosedMarks.is_scanned_allocation, Effects.{is_mapped_cell, is_ungranted}}
-use Rattle.mk_laws.specs.{LayoutScene.Unmapped, SettledPages.StandsUsed, Terrain.IsCellOf}
 
 -- the mapped allocation that isn't leaf and has this cell
 pub record OfScanned (c : Config) (xs : List PlacedAllocation) (cell : Cell) : Type 0 where

@@ -8,20 +8,23 @@ use Rattle.mk_sweep.proofs.{BesideTurn.still_holds, CycleParts.{close_apart, clo
 use Rattle.mk_sweep.proofs.CycleParts.{holding_leaves_turn, no_kind, nothing_leaves_marks, nothing_leaves_turn}
 use Rattle.mk_sweep.proofs.CycleParts.{release_apart, release_of_holder, swept_alike, tracing_leaves_turn}
 use Rattle.mk_sweep.{proofs.UnsweptReleased.{unswept_is_released}, specs.Unswept.{LeaveUnmarked, OthersLeaveUnmarked}}
-use Rattle.mk_laws.proofs.Vocabulary.{Bool, IsLeft, List, Releasing, ℕ, and_parts, ap, append_assoc, arith}
-use Rattle.mk_laws.proofs.Vocabulary.{before_close, earlier_part_is_history, enabled_in_parts, enabled_meets, false}
-use Rattle.mk_laws.proofs.Vocabulary.{false_from_ne_true, is_close, is_release, left_from, left_in_parts, not, not-true}
-use Rattle.mk_laws.proofs.Vocabulary.{refl, subst, sym, true, [], ◌++◌, ◌∙◌, ◌∷◌, ◌≡◌}
-use Rattle.mk_laws.proofs.{ReadingsKeptPlaces.{StaysPut, keeps_cell, put_step, stays_put}, CyclePhases.phase_moves}
-use Rattle.mk_laws.proofs.{FramesHolders.{acts_as_holder, holds_is}, Known.{Known, known_left}, KnownWorlds.known_world}
-use Rattle.mk_laws.proofs.{LastEvents.{ComesLast, comes_last}, OneStep.precise_begun, OrderlyLists.actor_of}
-use Rattle.mk_laws.proofs.{OthersMoves.WorldBehind, Precise.IsPrecise, ProtocolFrames.others_leave}
-use Rattle.mk_laws.{proofs.Stretches.{None_of, none_joined}, specs.Releases.{allocation_behind}}
+use Rattle.mk_cycle.proofs.Below.Laws.Vocabulary.{Bool, IsLeft, List, Releasing, ℕ, and_parts, ap, append_assoc, arith}
+use Rattle.mk_cycle.proofs.Below.Laws.Vocabulary.{before_close, earlier_part_is_history, enabled_in_parts}
+use Rattle.mk_cycle.proofs.Below.Laws.Vocabulary.{enabled_meets, false, false_from_ne_true, is_close, is_release}
+use Rattle.mk_cycle.proofs.Below.Laws.Vocabulary.{left_from, left_in_parts, not, not-true, refl, subst, sym, true, []}
+use Rattle.mk_cycle.proofs.Below.Laws.Vocabulary.{◌++◌, ◌∙◌, ◌∷◌, ◌≡◌}
+use Rattle.mk_cycle.proofs.Below.Laws.ReadingsKeptPlaces.{StaysPut, keeps_cell, put_step, stays_put}
+use Rattle.mk_cycle.proofs.{Below.Laws.CyclePhases.phase_moves, Below.Laws.FramesHolders.{acts_as_holder, holds_is}}
+use Rattle.mk_cycle.proofs.{Below.Laws.Known.{Known, known_left}, Below.Laws.KnownWorlds.known_world}
+use Rattle.mk_cycle.proofs.{Below.Laws.LastEvents.{ComesLast, comes_last}, Below.Laws.OneStep.precise_begun}
+use Rattle.mk_cycle.proofs.{Below.Laws.OrderlyLists.actor_of, Below.Laws.OthersMoves.WorldBehind}
+use Rattle.mk_cycle.proofs.{Below.Laws.Precise.IsPrecise, Below.Laws.ProtocolFrames.others_leave}
+use Rattle.mk_cycle.proofs.{Below.Laws.Stretches.{None_of, none_joined}, Parts.{kinds_keep, others_keep}}
+use Rattle.mk_cycle.proofs.{Below.Words.Doing.others_are_so, Below.Words.Seats.others_own}
+use Rattle.mk_cycle.specs.{Below.Laws.Releases.allocation_behind, Tracing.OwnStepsKeep}
+use Rattle.mk_cycle.specs.Below.Words.Doing.{AreOwnOrOfOthers}
 use Rattle.mk_core.specs.Cycles.{IsInSnapshot}
 use Rattle.mk_cycle.{proofs.GivingAll.{held_phase}, specs.{Holding.HoldsGates, Kinds.holds_gates}}
-use Rattle.mk_tracing.{proofs.Parts.{kinds_keep, others_keep}, specs.Tracing.{OwnStepsKeep}}
-use Rattle.mk_turns.{proofs.Doing.{others_are_so}, specs.Doing.{AreOwnOrOfOthers}}
-use Rattle.mk_words.proofs.Seats.{others_own}
 
 -- What was seen up to and after each part of the cycle, by a pass with this beginning.
 pub record SweepParts (p : PassState) (looks : ℕ) (es : List Event) : Type 0 where

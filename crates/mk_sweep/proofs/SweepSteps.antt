@@ -6,21 +6,22 @@ use Rattle.mk_sweep.proofs.Vocabulary.{event_of, has_no_pointers, header_in, is_
 use Rattle.mk_sweep.proofs.Vocabulary.{phase_of, placed_at, pointed_cell, still_words, untouched_of, world_of}
 use Rattle.mk_sweep.proofs.{Done.{looks_in_parts, looks_of_nothing, looks_of_step}, Kept.unmapped_kept}
 use Rattle.mk_sweep.proofs.ScannedCells.{mapped_cell, scanned_stands}
-use Rattle.mk_laws.proofs.Vocabulary.{Bool, Hand, Holding, List, None, Option, Some, Word, ℕ, address_of, and_from}
-use Rattle.mk_laws.proofs.Vocabulary.{and_parts, ap, append-nil, arith, eq-eqb, false, found, if◌then◌else◌, lt-ltb}
-use Rattle.mk_laws.proofs.Vocabulary.{ne_eqb, or_else, page_at_address, refl, slice_index, subst, sym, true}
-use Rattle.mk_laws.proofs.Vocabulary.{word_points, [], ◌&&◌, ◌*◌, ◌++◌, ◌+◌, ◌<◌, ◌^◌, ◌∙◌, ◌∷◌, ◌≡◌}
-use Rattle.mk_laws.proofs.{InvariantHistories.allocations_stand, MappedWords.mapped_stays}
+use Rattle.mk_cycle.proofs.Below.Laws.Vocabulary.{Bool, Hand, Holding, List, None, Option, Some, Word, ℕ, address_of}
+use Rattle.mk_cycle.proofs.Below.Laws.Vocabulary.{and_from, and_parts, ap, append-nil, arith, eq-eqb, false, found}
+use Rattle.mk_cycle.proofs.Below.Laws.Vocabulary.{if◌then◌else◌, lt-ltb, ne_eqb, or_else, page_at_address, refl}
+use Rattle.mk_cycle.proofs.Below.Laws.Vocabulary.{slice_index, subst, sym, true, word_points, [], ◌&&◌, ◌*◌, ◌++◌, ◌+◌}
+use Rattle.mk_cycle.proofs.Below.Laws.Vocabulary.{◌<◌, ◌^◌, ◌∙◌, ◌∷◌, ◌≡◌}
+use Rattle.mk_cycle.proofs.{Below.Laws.InvariantHistories.allocations_stand, Below.Laws.MappedWords.mapped_stays}
+use Rattle.mk_cycle.proofs.{MaySteps.{marks_by, may_look, may_mark_by_hand}, Stilled.{but_phase, found_now, hand_now}}
+use Rattle.mk_cycle.proofs.Stilled.{is_stopped_step, look_words, phase_there, root_hand, still_wanted, stopped_traces}
+use Rattle.mk_cycle.proofs.{Stilled.words_there, Parts.{traces_alike, traces_nothing, traces_then}}
+use Rattle.mk_cycle.proofs.{Steps.step_untouched, Below.Words.PointedCells.{found_there, looked_for}}
+use Rattle.mk_cycle.specs.{Stops.{IsWanted, hand_of, is_page_word, is_root}, Tracing.{Traces, is_marking}}
+use Rattle.mk_cycle.specs.{Below.Words.Pointing.{LooksForCell, MayLookAtHeaders}, Below.Words.Steps.Finds}
+use Rattle.mk_cycle.specs.Below.Words.TurnSteps.{world_at}
 use Rattle.mk_core.{proofs.PointedPages.{pointed_within}, specs.declared.seats.Source.TheVariants.{Marked, Unmarked}}
 use Rattle.mk_core.specs.{Effects.{hand_given, is_in_stop, is_mapped_cell}, Ranges.is_word, Words.named_word}
 use Rattle.mk_sweep.specs.{Sweeping.{HasInHand, IsReachedCell, IsSweeping, word_looked_at}, Swept.IsSweptCell}
-use Rattle.mk_tracing.proofs.{MaySteps.{marks_by, may_look, may_mark_by_hand}, Stilled.{but_phase, found_now, hand_now}}
-use Rattle.mk_tracing.proofs.Stilled.{is_stopped_step, look_words, phase_there, root_hand, still_wanted, stopped_traces}
-use Rattle.mk_tracing.proofs.{Stilled.words_there, Parts.{traces_alike, traces_nothing, traces_then}}
-use Rattle.mk_tracing.proofs.Steps.{step_untouched}
-use Rattle.mk_tracing.specs.{Stops.{IsWanted, hand_of, is_page_word, is_root}, Tracing.{Traces, is_marking}}
-use Rattle.mk_turns.{proofs.PointedCells.{found_there, looked_for}, specs.Pointing.{LooksForCell, MayLookAtHeaders}}
-use Rattle.mk_words.specs.{Steps.Finds, TurnSteps.world_at}
 
 -- Where values and allocations are the same, so is what a sweep looks at and marks.
 module _ (c : Config) (v w : World) (same : untouched_of v ≡ untouched_of w) where

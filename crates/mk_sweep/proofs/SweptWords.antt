@@ -2,8 +2,8 @@
 use Rattle.mk_sweep.proofs.Vocabulary.{MarksMore, SweepsOn, TurnState, Words, points_well, still_words}
 use Rattle.mk_sweep.proofs.{SweepSteps.{sweeps_from, sweeps_then, then_quiet}, WordLists.{both_well, none_well}}
 use Rattle.mk_sweep.{proofs.WordLists.{one_well}, specs.Sweeping.{IsSweeping, SweepsWords}}
-use Rattle.mk_laws.proofs.Vocabulary.{List, ℕ, arith, slice_index, subst, true, [], ◌++◌, ◌∷◌, ◌≡◌}
-use Rattle.mk_tracing.proofs.MoreMarks.{more_same, more_then}
+use Rattle.mk_cycle.proofs.Below.Laws.Vocabulary.{List, ℕ, arith, slice_index, subst, true, [], ◌++◌, ◌∷◌, ◌≡◌}
+use Rattle.mk_cycle.proofs.MoreMarks.{more_same, more_then}
 
 pub no_words : {pages : ℕ} {t : TurnState} → IsSweeping t.pass → SweepsWords pages t t []
 no_words sweeping = grind (arith, sweeps_from, more_same, none_well)

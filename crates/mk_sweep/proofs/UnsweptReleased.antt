@@ -2,13 +2,14 @@
 use Rattle.mk_sweep.proofs.Vocabulary.{Config, Event, PassState, PlacedAllocation, Untouched, WordsState, World}
 use Rattle.mk_sweep.proofs.Vocabulary.{before_release, cell_of_allocation, flight_of, is_marked, left, placed_at}
 use Rattle.mk_sweep.proofs.{Vocabulary.{world_behind, world_of}, Unswept.unswept_stays_unmarked}
-use Rattle.mk_laws.proofs.Vocabulary.{List, ℕ, ap, cases_Bool, false, inl, inr, left_in_parts, length, refl, subst, sym}
-use Rattle.mk_laws.proofs.{Vocabulary.{true≢false, [], ◌++◌, ◌<◌, ◌∙◌, ◌∷◌, ◌≡◌}, Ground.{AreOfOne, allocation_step}}
-use Rattle.mk_laws.proofs.{Ground.{goes_on, is_there, of_one_joined}, OlderAllocations.{AreOlder, older_behind}}
-use Rattle.mk_laws.proofs.{Marking.{More, one_more}, PrecisionStepKinds.{is_grant, release_is}}
-use Rattle.mk_laws.proofs.{Releases.releases_are_exact, Stretches.{at_release, history_through}}
+use Rattle.mk_cycle.proofs.Below.Laws.Vocabulary.{List, ℕ, ap, cases_Bool, false, inl, inr, left_in_parts, length, refl}
+use Rattle.mk_cycle.proofs.Below.Laws.Vocabulary.{subst, sym, true≢false, [], ◌++◌, ◌<◌, ◌∙◌, ◌∷◌, ◌≡◌}
+use Rattle.mk_cycle.proofs.Below.Laws.Ground.{AreOfOne, allocation_step, goes_on, is_there, of_one_joined}
+use Rattle.mk_cycle.proofs.{Below.Laws.OlderAllocations.{AreOlder, older_behind}, Below.Laws.Marking.{More, one_more}}
+use Rattle.mk_cycle.proofs.Below.Laws.PrecisionStepKinds.{is_grant, release_is}
+use Rattle.mk_cycle.proofs.{Below.Laws.Releases.releases_are_exact, Below.Laws.Stretches.{at_release, history_through}}
+use Rattle.mk_cycle.specs.Below.Laws.Releases.{allocation_before, allocation_behind}
 use Rattle.mk_core.specs.History.{left_from}
-use Rattle.mk_laws.specs.Releases.{allocation_before, allocation_behind}
 use Rattle.mk_sweep.specs.Unswept.{LeaveUnmarked, UnsweptIsReleased}
 
 same_cell : (c : Config) {a b : PlacedAllocation} → AreOfOne a b → cell_of_allocation c b ≡ cell_of_allocation c a

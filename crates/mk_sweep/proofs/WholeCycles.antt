@@ -1,11 +1,11 @@
 -- The parts of a whole cycle, read off what beginning and finishing it ensure.
 use Rattle.mk_sweep.proofs.Vocabulary.{AreOfOthers, Event, Has, HasMarkers, IsEnabledTo, IsHistory, PassState, Step}
 use Rattle.mk_sweep.proofs.{Vocabulary.{Sweeps, event_of}, SweepCycles.{SweepParts, cycle, is_released_by_it}}
-use Rattle.mk_laws.proofs.Vocabulary.{List, ℕ, ap, append-nil, append_assoc, arith, subst, [], ◌++◌, ◌∙◌, ◌∷◌, ◌≡◌}
+use Rattle.mk_cycle.proofs.Below.Laws.Vocabulary.{List, ℕ, ap, append-nil, append_assoc, arith, subst, [], ◌++◌, ◌∙◌}
+use Rattle.mk_cycle.proofs.{Below.Laws.Vocabulary.{◌∷◌, ◌≡◌}, Below.Words.Sweeping.only_seen_by}
 use Rattle.mk_cycle.specs.{Begun.{DoesNothing, IsBegunLast}, Closing.IsClosedBy, Holding.HoldsGates}
 use Rattle.mk_cycle.specs.Releasing.{MakesRelease}
 use Rattle.mk_sweep.specs.SweepCycle.{ReleasesUnswept}
-use Rattle.mk_turns.proofs.Sweeping.{only_seen_by}
 
 module _ (p b q : PassState) (looks : ℕ) (same : b ≡ record p { seen = b.seen })
     (last : IsBegunLast DoesNothing p b) (closed : IsClosedBy (λ x y. Sweeps x y looks) b q) where

@@ -3,9 +3,8 @@ use Rattle.std.{proofs.lemmas.List.Elements.{Contains-append_cases, Contains-pus
 use Rattle.mk_sweep.proofs.Vocabulary.{MarksMore, PointWell, Words, cells_under, has_bit, has_no_pointers, head_page}
 use Rattle.mk_sweep.proofs.Vocabulary.{header_at, header_in, header_of, points_well, used_at, words_below, words_if}
 use Rattle.mk_sweep.proofs.Vocabulary.{words_of_cells, words_on, words_under}
-use Rattle.mk_laws.proofs.Vocabulary.{List, ℕ, ap, arith, false, inl, inr, slice_index, suc, sym, true, zero, [], ◌*◌}
-use Rattle.mk_laws.proofs.Vocabulary.{◌++◌, ◌+◌, ◌∙◌, ◌∷◌, ◌≡◌, ◌≤◌}
-use Rattle.mk_tracing.proofs.MoreMarks.{well_more}
+use Rattle.mk_cycle.proofs.Below.Laws.Vocabulary.{List, ℕ, ap, arith, false, inl, inr, slice_index, suc, sym, true}
+use Rattle.mk_cycle.proofs.{Below.Laws.Vocabulary.{zero, [], ◌*◌, ◌++◌, ◌+◌, ◌∙◌, ◌∷◌, ◌≡◌, ◌≤◌}, MoreMarks.well_more}
 
 -- The head of a page's run doesn't lie after it.
 

@@ -1,3 +1,4 @@
+pub mod Below
 pub mod Swept
 pub mod Sweeping
 pub mod Sweeps

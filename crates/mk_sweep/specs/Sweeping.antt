@@ -5,11 +5,9 @@ use Rattle.mk_geom.specs.declared.addresses.Cell.{Cell}
 use Rattle.mk_core.specs.{declared.events.Step.Step, declared.seats.Hand.Hand, Bits.has_bit}
 use Rattle.mk_core.specs.Cells.{cells_under, has_no_pointers, header_in, pointed_cell, word_points_well, words_under}
 use Rattle.mk_core.specs.{Frames.OnlyGrow, Growing.Finding, Words.{Words, used_at}}
-use Rattle.mk_laws.specs.SettledPages.{IsSettled}
-use Rattle.mk_words.specs.States.{PassState, TurnState, world_of}
-use Rattle.mk_turns.specs.Doing.{Does, done_in}
-use Rattle.mk_tracing.specs.{Grays.{AllAreBlack, MarksMore}, Stops.{IsWanted, hand_of, still_words}}
-use Rattle.mk_tracing.specs.Tracing.{Traces, is_marking}
+use Rattle.mk_cycle.specs.{Below.Laws.SettledPages.IsSettled, Below.Words.States.{PassState, TurnState, world_of}}
+use Rattle.mk_cycle.specs.{Below.Words.Doing.{Does, done_in}, Grays.{AllAreBlack, MarksMore}, Stops.{IsWanted, hand_of}}
+use Rattle.mk_cycle.specs.{Stops.still_words, Tracing.{Traces, is_marking}}
 use Rattle.mk_sweep.specs.Swept.{IsSweptValue, SweepsBy}
 use Rattle.mk_core.specs.declared.events.Step.TheVariants as step
 use Rattle.mk_core.specs.declared.events.Word.TheVariants as word

@@ -1,8 +1,7 @@
 -- What `close_marks` of the sweep engine does: one sweep, in the stop.
 use Rattle.std.specs.Prelude.{◌≡◌, ℕ, ◌≤◌, ◌==◌, true, count_by, length}
 use Rattle.mk_core.specs.{Allocations.placed_at, ClosedMarks.is_marked_allocation}
-use Rattle.mk_words.specs.States.{PassState, now_of, world_of}
-use Rattle.mk_tracing.specs.Tracing.{Traces, is_tracing}
+use Rattle.mk_cycle.specs.{Below.Words.States.{PassState, now_of, world_of}, Tracing.{Traces, is_tracing}}
 use Rattle.mk_sweep.specs.{Swept.{IsScannedWord, IsSwept, SweepsBy, scanned_words}, Sweeping.heap_looks}
 
 pub record Sweeps (p q : PassState) (looks : ℕ) : Type 0 where

@@ -5,8 +5,7 @@ use Rattle.mk_core.specs.{declared.config.Config.Config, declared.events.Event.E
 use Rattle.mk_core.specs.{Allocations.{cell_of_allocation, placed_at}, Cells.is_marked}
 use Rattle.mk_core.specs.{Cycles.{Releasing, IsInSnapshot, before_release}, Growing.is_same_seat}
 use Rattle.mk_core.specs.History.{World, IsHistory, world_behind}
-use Rattle.mk_words.specs.States.{PassState, now_of, world_of}
-use Rattle.mk_laws.specs.Releases.{allocation_behind}
+use Rattle.mk_cycle.specs.{Below.Words.States.{PassState, now_of, world_of}, Below.Laws.Releases.allocation_behind}
 use Rattle.mk_cycle.specs.EngineLaw.{IsAtPhase}
 use Rattle.mk_sweep.specs.{Swept.IsSwept, Sweeps.Sweeps}
 

@@ -1,14 +1,13 @@
 //! After the sweep each marked cell is blackened: its words were looked at, or are 0, or aren't scanned.
 ghost use Rattle.std.specs.Prelude.{◌≡◌, ℕ, ◌<◌, ◌≤◌, [], true, slice_index};
 ghost use Rattle.mk_core.specs.{Cells.{cells_under, header_in}, StopConditions.may_turn_black};
-ghost use Rattle.mk_laws.specs.Guard.{CellsAreClosed};
-ghost use Rattle.mk_tracing.specs.{Grays.is_black, Stops.still_words};
+ghost use Rattle.mk_cycle.specs.{Below.Laws.Guard.CellsAreClosed, Grays.is_black, Stops.still_words};
 ghost use Rattle.mk_sweep.specs.Sweeping.{BlacksMore, IsSweeping, PageIsBlack, SweepsOn};
 
 use crate::stepping::look_at;
 use mk_core::{Word, bit, cells_under, has_bit};
 use mk_geom::Cell;
-use mk_words::{Stopped, Words};
+use mk_cycle::lower::words::{Stopped, Words};
 
 /// Blackens a cell, if it is marked.
 fn blacken_if_marked(words: &Words, stop: &mut Stopped, marked: bool, cell: Cell)

@@ -1,9 +1,9 @@
 //! Before a sweep all black words are cleared, and then all dirty words.
 ghost use Rattle.std.specs.Prelude.{◌≡◌, ℕ, ◌<◌, [], slice_index};
-ghost use Rattle.mk_tracing.specs.{Grays.{BlacksFewer, DirtyFewer}, Stops.still_words};
+ghost use Rattle.mk_cycle.specs.{Grays.{BlacksFewer, DirtyFewer}, Stops.still_words};
 ghost use Rattle.mk_sweep.specs.Sweeping.{IsSweeping, SweepsOn};
 
-use mk_words::{Stopped, Words};
+use mk_cycle::lower::words::{Stopped, Words};
 
 /// Clears all black words.
 pub(crate) fn unblack_all(words: &Words, stop: &mut Stopped)

@@ -1,16 +1,15 @@
 //! What the engine does in the stop: it wants the close, and sweeps until the marks may be closed.
 ghost use Rattle.std.specs.Prelude.{◌≡◌, ℕ, ◌<◌, length, slice_index};
 ghost use Rattle.mk_cycle.specs.EngineLaw.{ClosesMarks, IsAtPhase, IsFreeForCycle};
-ghost use Rattle.mk_laws.specs.Guard.{CellsAreClosed};
-ghost use Rattle.mk_tracing.specs.Stops.{still_words};
+ghost use Rattle.mk_cycle.specs.{Below.Laws.Guard.CellsAreClosed, Stops.still_words};
 ghost use Rattle.mk_sweep.specs.{Sweeping.{IsSweeping, PageIsBlack, PointWell, SweepsOn, words_below}, Sweeps.Sweeps};
 
 use crate::blackening::blacken_all;
 use crate::clearing::{unblack_all, undirty_all};
 use crate::roots::mark_roots;
 use crate::sweeping::sweep_pages;
-use mk_tracing::want_and_wait;
-use mk_words::{Stopped, Words};
+use mk_cycle::want_and_wait;
+use mk_cycle::lower::words::{Stopped, Words};
 use std::sync::Wait;
 
 /// Marks whatever the roots and the words of the allocations point into, and blackens all that is marked. Returns how

@@ -5,7 +5,7 @@ ghost use Rattle.mk_sweep.specs.SweepCycle.{HasMarkers, MakesWholeCycle, Release
 
 use crate::sweep_engine::SweepEngine;
 use mk_cycle::{Engine, Released, begin_cycle, finish_cycle};
-use mk_words::{Turn, Words};
+use mk_cycle::lower::words::{Turn, Words};
 use std::sync::Wait;
 use std::thread::Threads;
 

@@ -6,10 +6,10 @@
 
 mod blackening;
 mod clearing;
-mod clients;
 mod closing;
 mod cycles;
 mod laws;
+pub mod lower;
 mod roots;
 mod stepping;
 mod sweep_engine;

@@ -2,8 +2,7 @@
 //! marked.
 ghost use Rattle.std.specs.{Prelude.{◌≡◌, ℕ, ◌+◌, ◌<◌, ◌≤◌, true, false, length}, List.range_with_len};
 ghost use Rattle.mk_core.specs.{Cells.{has_no_pointers, header_in}, Words.{header_at, used_at}};
-ghost use Rattle.mk_words.specs.States.{world_of};
-ghost use Rattle.mk_tracing.specs.Stops.{still_words};
+ghost use Rattle.mk_cycle.specs.{Below.Words.States.world_of, Stops.still_words};
 ghost use Rattle.mk_sweep.specs.{Swept.IsScannedWord, Sweeping.{IsSweeping, SweepsWords, words_below, words_if}};
 ghost use Rattle.mk_sweep.specs.Sweeping.{words_on};
 
@@ -11,7 +10,7 @@ use crate::stepping::{look_at, look_at_word};
 use crate::values::mark_value;
 use mk_core::{Word, cells_under, has_bit, has_no_pointers, words_under};
 use mk_geom::PAGE_WORDS;
-use mk_words::{Stopped, Words};
+use mk_cycle::lower::words::{Stopped, Words};
 
 /// Looks at this many words, from the first one on, and marks what each points into.
 fn sweep_words(words: &Words, stop: &mut Stopped, first: u64, size: u64)

@@ -1,14 +1,14 @@
 //! What values point into, and the marks by them.
 ghost use Rattle.std.specs.Prelude.{◌≡◌, ◌<◌, [], true};
 ghost use Rattle.mk_core.specs.Cells.{is_marked, points_well};
-ghost use Rattle.mk_tracing.specs.{Grays.MarksMore, Stops.{hand_of, still_words}};
+ghost use Rattle.mk_cycle.specs.{Grays.MarksMore, Stops.{hand_of, still_words}};
 ghost use Rattle.mk_sweep.specs.Sweeping.{HasInHand, IsSweeping, SweepsOn};
 
 use crate::stepping::{look_at, mark_cell};
 use mk_core::{Word, has_bit};
 use mk_geom::Cell;
-use mk_turns::cell_pointed;
-use mk_words::{Stopped, Words};
+use mk_cycle::lower::words::cell_pointed;
+use mk_cycle::lower::words::{Stopped, Words};
 
 /// Whether the cell is marked.
 fn is_marked(words: &Words, stop: &mut Stopped, cell: Cell) -> bool

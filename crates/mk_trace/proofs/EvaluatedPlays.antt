@@ -9,12 +9,12 @@ use Rattle.mk_core.proofs.{Schedules.{by, c0, fault, first_fault}, EvaluatedHist
 use Rattle.mk_core.proofs.EventsAt.{at_each, ◌and◌}
 use Rattle.mk_core.specs.{Allocations.unreleased_storage, Bounded.all_below, Cells.pointed_cell}
 use Rattle.mk_core.specs.{Cycles.{NoneSweepsFrom, is_give}, History.{CallsAreAdmitted, calls_from, left_from}}
-use Rattle.mk_alloc.proofs.{ListParts.lacks_second, OwnGives.{none_more, one_more}}
-use Rattle.mk_alloc.specs.TurnCycles.{EndsExactly, TurnsOfAreExact, is_hold, is_want}
-use Rattle.mk_quarantine.proofs.Bounds.{quarantine_of_one_is_bounded}
+use Rattle.mk_run.proofs.{Below.Objects.ListParts.lacks_second, Below.Objects.OwnGives.{none_more, one_more}}
+use Rattle.mk_run.proofs.{Below.Objects.Bounds.quarantine_of_one_is_bounded, Below.Words.Sweeping.other_steps_sweep}
+use Rattle.mk_run.specs.Below.Objects.TurnCycles.{EndsExactly, TurnsOfAreExact, is_hold, is_want}
+use Rattle.mk_run.specs.Below.Words.Sweeping.{is_mark}
 use Rattle.mk_run.{proofs.UnsweptHistories.{unswept_is_precise}, specs.Unswept.{IsUnswept}}
 use Rattle.mk_trace.specs.{Grammar.along, Peaks.{found_by_ends_from, greatest_from}, Playing.IsPlayed}
-use Rattle.mk_turns.{proofs.Sweeping.{other_steps_sweep}, specs.Sweeping.{is_mark}}
 
 unfoldable pub stored_and_made : Contents
 stored_and_made = record { pages = 1; resident = 1; slots = 2 ∷ []; events = W 0 1 5 ∷ A 0 ∷ [] }

@@ -17,7 +17,7 @@ use Rattle.mk_laws.proofs.Vocabulary.{Bool, List, Some, ℕ, ap, append_assoc, a
 use Rattle.mk_laws.proofs.Vocabulary.{false, inl, inr, left_in_parts, length, never_in_parts, refl, subst, sym, true}
 use Rattle.mk_laws.proofs.Vocabulary.{[], ◌*◌, ◌++◌, ◌+◌, ◌<◌, ◌∙◌, ◌∷◌, ◌≡◌}
 use Rattle.mk_never.specs.Reach.IsReachable.{by_register}
-use Rattle.mk_alloc.specs.TurnCycles.{FreeIsExact, FreesFirst, IsDueIn}
+use Rattle.mk_run.specs.Below.Objects.TurnCycles.{FreeIsExact, FreesFirst, IsDueIn}
 use Rattle.mk_trace.specs.{Peaks.greatest_from, Players.DoesCall}
 
 -- What a call does to the flags of allocations: its operation frees one, or none.

@@ -10,11 +10,12 @@ use Rattle.mk_laws.proofs.Vocabulary.{◌==◌, ◌||◌, ◌∙◌, ◌∷◌, 
 use Rattle.mk_never.proofs.{Later.op_stays, Parts.{admitted_split, after_append}}
 use Rattle.mk_never.specs.{Admitted.IsCaller, NeverHeap.after_op}
 use Rattle.mk_core.specs.Counts.{is_full_answer}
-use Rattle.mk_caller.{proofs.OwnSteps.{calls_by, others_add_none}, specs.States.{IsAtHome, caller_of_pass}}
-use Rattle.mk_heap.specs.Hosts.{AllAreJoined, with_caller_made, with_caller_out, with_joined, with_seen}
+use Rattle.mk_run.proofs.{Below.Callers.OwnSteps.{calls_by, others_add_none}, Below.Words.Seats.{has_all, has_right}}
+use Rattle.mk_run.specs.Below.Callers.States.{IsAtHome, caller_of_pass}
+use Rattle.mk_run.specs.Below.Heaps.Hosts.{AllAreJoined, with_caller_made, with_caller_out, with_joined, with_seen}
+use Rattle.mk_run.specs.Below.Words.Seats.{has_over}
 use Rattle.mk_run.specs.Scripts.{IsAdmittedByOwnCalls, as_told}
 use Rattle.mk_trace.specs.Calls.{CallsAll, MayCome, SameCalls}
-use Rattle.mk_words.{proofs.Seats.{has_all, has_right}, specs.Seats.{has_over}}
 
 by_test : (x : Decided) (xs ys : List Decided) (b : Bool) → b ≡ true → ys ≡ xs → (if b then x ∷ ys else ys) ≡ x ∷ xs
 by_test x xs ys x3 is same = grind arith

@@ -10,9 +10,8 @@ use Rattle.mk_laws.proofs.Vocabulary.{Bool, List, ℕ, ap, arith, false, get_or,
 use Rattle.mk_laws.proofs.Vocabulary.{map-append, refl, subst, sym, take, [], ◌++◌, ◌+◌, ◌<◌, ◌∙◌, ◌∷◌, ◌≡◌, ◌≤◌}
 use Rattle.mk_laws.proofs.Promises.{histories_keep_all_promises}
 use Rattle.mk_core.specs.History.{calls_from}
-use Rattle.mk_caller.specs.States.{IsAtHome}
-use Rattle.mk_heap.specs.Reports.{IsWhole}
-use Rattle.mk_quarantine.proofs.Bounds.{quarantine_of_one_is_bounded}
+use Rattle.mk_run.specs.{Below.Callers.States.IsAtHome, Below.Heaps.Reports.IsWhole}
+use Rattle.mk_run.proofs.Below.Objects.Bounds.{quarantine_of_one_is_bounded}
 use Rattle.mk_run.proofs.UnsweptHistories.{unswept_is_precise}
 use Rattle.mk_trace.specs.Calls.{AreNull, EventsAreAdmitted, HasPlayed, MayBePlayed, PlaysEvent, SameCalls}
 use Rattle.mk_trace.specs.{Playing.{IsPlayed, ops_played}, Traces.slot_of}

@@ -5,7 +5,7 @@ use Rattle.std.{specs.HashMap.HashMap, specs.List.position_from, specs.Map.looku
 use Rattle.mk_laws.proofs.Vocabulary.{List, Some, ℕ, ap, arith, cond, drop, get_or, length, subst, sym, [], ◌+◌, ◌<◌}
 use Rattle.mk_laws.proofs.Vocabulary.{◌∙◌, ◌≡◌}
 use Rattle.mk_trace.proofs.Vocabulary.{at_drop_more, slot_number}
-use Rattle.mk_check.specs.Lookups.{value_for_name}
+use Rattle.mk_run.specs.Below.Checks.Lookups.{value_for_name}
 use Rattle.mk_trace.specs.{Reading.AreSlotNumbers, declared.lines.Slot.Slot}
 
 -- the map has the numbers of these slots, of which the first has the number `from`

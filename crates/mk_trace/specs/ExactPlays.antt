@@ -3,7 +3,7 @@
 use Rattle.std.specs.Prelude.{false, List}
 use Rattle.mk_core.specs.{declared.config.Config.Config, declared.events.Event.Event}
 use Rattle.mk_core.specs.declared.events.Seat.TheVariants.{Caller, Host}
-use Rattle.mk_alloc.specs.TurnCycles.{TurnsOfAreExact}
+use Rattle.mk_run.specs.Below.Objects.TurnCycles.{TurnsOfAreExact}
 use Rattle.mk_run.specs.UnsweptSeats.{SeatSweepsNothing}
 use Rattle.mk_trace.specs.Playing.{MakesNoCycle}
 

@@ -9,14 +9,14 @@ use Rattle.mk_core.specs.{declared.config.Config.Config, declared.events.Answer.
 use Rattle.mk_core.specs.{declared.events.Seat.Seat, declared.events.Seat.TheVariants.{Caller, Host}, Calls.at_rest}
 use Rattle.mk_core.specs.{Counts.{is_full_answer, IsTidy}, Decided.{asked, answered}, Growing.is_same_seat}
 use Rattle.mk_core.specs.{History.{left, calls, IsHistory, RefinesNever}, Moments.flight_of}
-pub use Rattle.mk_check.specs.Feed.{is_refusal}
+pub use Rattle.mk_run.specs.Below.Checks.Feed.{is_refusal}
 use Rattle.mk_laws.specs.Precision.{CyclesArePrecise}
-use Rattle.mk_alloc.specs.TurnCycles.{TurnsOfAreExact, is_of_cycle}
-use Rattle.mk_quarantine.specs.Bounds.{QuarantineIsBounded}
+use Rattle.mk_run.specs.Below.Objects.TurnCycles.{TurnsOfAreExact, is_of_cycle}
+use Rattle.mk_run.specs.Below.Heaps.Reports as report
+use Rattle.mk_run.specs.Below.Objects.Bounds.{QuarantineIsBounded}
 use Rattle.mk_run.specs.Unswept.{IsUnswept}
 use Rattle.mk_trace.specs.{declared.trace.TraceEvent.TraceEvent, declared.trace.TraceEvent.TheVariants.{A, K, F, C, W}}
 use Rattle.mk_trace.specs.{declared.peaks.Peaks.Peaks, Peaks.{HistoryPeaks, peaks_of}, Traces.Contents}
-use Rattle.mk_heap.specs.Reports as report
 
 -- The type of a slot's objects: a pointer to such an object, and numbers.
 abbrev pub slot_type : ℕ → ℕ → List Kind

@@ -1,7 +1,7 @@
 -- What the reader of lines finds on its way.
 -- Private functions alone cite these words.
 use Rattle.std.specs.{Prelude.{◌≡◌, ℕ, List, Ok, Err}, declared.result.Result.Result, Borrow.Bor, HashMap.HashMap}
-use Rattle.mk_check.specs.Lookups.{value_for_name}
+use Rattle.mk_run.specs.Below.Checks.Lookups.{value_for_name}
 use Rattle.mk_script.specs.declared.faults.LineFault.{LineFault}
 use Rattle.mk_trace.specs.{declared.faults.TraceStop.TraceStop, declared.lines.Line.Line, declared.lines.Slot.Slot}
 use Rattle.mk_trace.specs.{Grammar.text_fault_at, declared.lines.HeapPages.HeapPages, Lines.{LinesSoFar, slot_number}}

@@ -12,6 +12,7 @@ pub mod laws;
 mod ledger;
 mod lines;
 mod looking;
+pub mod lower;
 mod operations;
 mod parsing;
 mod peaks;

@@ -4,7 +4,7 @@ ghost use Rattle.mk_script.specs.Canonical.{line_text};
 ghost use Rattle.mk_trace.specs.Printed.{text_of_counts, text_of_ages, peaks_text};
 ghost use lib.Chars.{codes};
 
-use mk_heap::Report;
+use mk_run::lower::heaps::Report;
 use mk_never::NoMemory;
 use std::alloc::Global;
 

@@ -7,7 +7,7 @@ ghost use Rattle.mk_trace.specs.Looking.{HostOnlyLooks};
 use crate::ledger::{Freed, FreedObject, count_age};
 use crate::looking::{is_quarantined, look};
 use mk_core::Word;
-use mk_heap::{Heap, Host};
+use mk_run::lower::heaps::{Heap, Host};
 use mk_never::NoMemory;
 use std::alloc::Global;
 use std::mem;

@@ -1,8 +1,8 @@
 -- How many entries of a table there are, and how large tables are.
 use Rattle.std.proofs.{lemmas.List.Sums.{count_by-le-length, sum_by-cons, sum_by-set}, Common.count_by}
-use Rattle.mk_laws.proofs.Vocabulary.{List, None, Option, Some, ℕ, ap, arith, cond, eqb-true, false, is_some, length}
-use Rattle.mk_laws.proofs.Vocabulary.{length-set, refl, slice_index_or, slice_set, suc, [], ◌*◌, ◌+◌, ◌<◌, ◌∷◌, ◌≡◌}
-use Rattle.mk_laws.proofs.Vocabulary.{◌≤◌}
+use Rattle.mk_sweep.proofs.Below.Laws.Vocabulary.{List, None, Option, Some, ℕ, ap, arith, cond, eqb-true, false}
+use Rattle.mk_sweep.proofs.Below.Laws.Vocabulary.{is_some, length, length-set, refl, slice_index_or, slice_set, suc, []}
+use Rattle.mk_sweep.proofs.Below.Laws.Vocabulary.{◌*◌, ◌+◌, ◌<◌, ◌∷◌, ◌≡◌, ◌≤◌}
 use Rattle.mk_why.specs.{Sizes.pages_for, States.WhyState}
 
 -- How many entries of a table there are, with one more, and with none.

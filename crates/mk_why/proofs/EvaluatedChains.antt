@@ -1,7 +1,7 @@
 -- Why objects are kept at the closes of two small cycles: by a register, by a chain of one link, and by no chain.
 use Rattle.mk_why.proofs.Vocabulary.{Config, IsWhy, Register, Root, World, word_of_root}
-use Rattle.mk_laws.proofs.Vocabulary.{Bool, List, None, Some, ℕ, arith, false, false≢true, leb-true, ltb-true, refl}
-use Rattle.mk_laws.proofs.Vocabulary.{small, subst, true, zero, [], ◌∷◌, ◌≡◌}
+use Rattle.mk_sweep.proofs.Below.Laws.Vocabulary.{Bool, List, None, Some, ℕ, arith, false, false≢true, leb-true}
+use Rattle.mk_sweep.proofs.Below.Laws.Vocabulary.{ltb-true, refl, small, subst, true, zero, [], ◌∷◌, ◌≡◌}
 use Rattle.mk_core.proofs.{ListTests.{list_all-at, numbered_all}, Schedules.{by, c0, host, pointer_page}}
 use Rattle.mk_core.proofs.{SmallCycles.{begun_in_stop, marked_in_stop, three_objects}, MoreSchedules.exchanged}
 use Rattle.mk_core.proofs.TouchedTests.{is_into_members, points_into}

@@ -5,8 +5,8 @@ use Rattle.mk_why.proofs.Vocabulary.{IsSearch, IsSearched, IsWay, LinksLead, Poi
 use Rattle.mk_why.proofs.Vocabulary.{Tables, View, Words, base_at, entry_at, is_scanned_allocation, is_still_word}
 use Rattle.mk_why.proofs.Vocabulary.{is_word, links_in, links_of, named_word, placed_at, storage_of, word_of_root}
 use Rattle.mk_why.proofs.{Vocabulary.world_in, Searches.{Stays, links_stay, noted_stays, same_links}}
-use Rattle.mk_laws.proofs.Vocabulary.{IsWordOf, List, Option, ℕ, and_from, ap, arith, length, lt-ltb, refl, slice_index}
-use Rattle.mk_laws.proofs.Vocabulary.{subst, sym, true, [], ◌*◌, ◌+◌, ◌<◌, ◌∷◌, ◌≡◌, ◌≤◌}
+use Rattle.mk_sweep.proofs.Below.Laws.Vocabulary.{IsWordOf, List, Option, ℕ, and_from, ap, arith, length, lt-ltb, refl}
+use Rattle.mk_sweep.proofs.Below.Laws.Vocabulary.{slice_index, subst, sym, true, [], ◌*◌, ◌+◌, ◌<◌, ◌∷◌, ◌≡◌, ◌≤◌}
 use Rattle.mk_why.specs.{Chains.IsRoot, Searching.{IsExplored, IsFoundAt, IsFoundWithin, IsOnward, PointsAtBase}}
 use Rattle.mk_why.specs.Searching.{root_numbered, root_word}
 

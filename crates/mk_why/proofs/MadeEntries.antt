@@ -6,10 +6,10 @@ use Rattle.std.specs.List.Sorted.{IsStrictlyIncreasing}
 use Rattle.mk_why.proofs.Vocabulary.{AreEntriesBelow, AreWays, BeginApart, Config, Found, IsLedBack, IsTold, IsWay}
 use Rattle.mk_why.proofs.Vocabulary.{IsWhy, Link, LinksLead, Root, Start, Storage, View, base_at, entry_at, is_kept}
 use Rattle.mk_why.proofs.Vocabulary.{placed_at, world_in}
-use Rattle.mk_laws.proofs.Vocabulary.{List, None, Option, Some, ℕ, and_parts, ap, arith, cases_lt, false, inl, inr}
-use Rattle.mk_laws.proofs.Vocabulary.{length, length-map, lt-ltb, map, map-append, not-true, refl, slice_index}
-use Rattle.mk_laws.proofs.Vocabulary.{slice_index_or, subst, sym, true, [], ◌*◌, ◌++◌, ◌+◌, ◌<◌, ◌∙◌, ◌∷◌, ◌≡◌}
-use Rattle.mk_laws.proofs.MappedWords.{mapped_stays}
+use Rattle.mk_sweep.proofs.Below.Laws.Vocabulary.{List, None, Option, Some, ℕ, and_parts, ap, arith, cases_lt, false}
+use Rattle.mk_sweep.proofs.Below.Laws.Vocabulary.{inl, inr, length, length-map, lt-ltb, map, map-append, not-true, refl}
+use Rattle.mk_sweep.proofs.Below.Laws.Vocabulary.{slice_index, slice_index_or, subst, sym, true, [], ◌*◌, ◌++◌, ◌+◌}
+use Rattle.mk_sweep.proofs.{Below.Laws.Vocabulary.{◌<◌, ◌∙◌, ◌∷◌, ◌≡◌}, Below.Laws.MappedWords.mapped_stays}
 use Rattle.mk_why.specs.Entries.{IsLed, IsMadeOf, IsOneMore, IsToldWhy, IsWayOf, back_to, root_of, step_back}
 use Rattle.mk_why.specs.{Chains.IsEntryOf, Listing.IsKeptAt, declared.found.Way.Way, declared.kept.Kept.Kept}
 

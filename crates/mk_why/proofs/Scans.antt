@@ -4,9 +4,9 @@ use Rattle.mk_why.proofs.Vocabulary.{AreEntriesBelow, Config, Found, IsFirstWord
 use Rattle.mk_why.proofs.Vocabulary.{IsSearched, IsTold, IsWhy, LinksLead, Root, Storage, Tables, View, Words, World}
 use Rattle.mk_why.proofs.Vocabulary.{base_at, entry_at, is_scanned_allocation, links_in, links_of, placed_at}
 use Rattle.mk_why.proofs.Vocabulary.{storage_words, view_of, word_of_root, world_in}
-use Rattle.mk_laws.proofs.Vocabulary.{List, None, Option, Some, ℕ, ap, arith, cases_lt, get_or_past, length}
-use Rattle.mk_laws.proofs.Vocabulary.{slice_index, slice_index_or, subst, sym, true, [], ◌+◌, ◌-◌, ◌<◌, ◌∙◌, ◌∷◌, ◌≡◌}
-use Rattle.mk_laws.proofs.Vocabulary.{◌≤◌}
+use Rattle.mk_sweep.proofs.Below.Laws.Vocabulary.{List, None, Option, Some, ℕ, ap, arith, cases_lt, get_or_past, length}
+use Rattle.mk_sweep.proofs.Below.Laws.Vocabulary.{slice_index, slice_index_or, subst, sym, true, [], ◌+◌, ◌-◌, ◌<◌, ◌∙◌}
+use Rattle.mk_sweep.proofs.Below.Laws.Vocabulary.{◌∷◌, ◌≡◌, ◌≤◌}
 use Rattle.mk_why.specs.{Chains.AreKept, Chains.IsChain, Chains.IsEntryOf, declared.kept.Kept.Kept}
 
 -- What is done after the scan of an allocation's words.

@@ -3,10 +3,10 @@ use Rattle.std.proofs.Common.{below_more}
 use Rattle.mk_why.proofs.Vocabulary.{AreWays, Config, FindsMore, Found, IsFound, IsFoundThrough, IsNoted, IsSearch}
 use Rattle.mk_why.proofs.Vocabulary.{IsStill, IsWay, LooksWhileStill, Root, SearchesOn, Tables, TurnState, View}
 use Rattle.mk_why.proofs.Vocabulary.{entry_at, links_in, links_of, view_by, word_of_root}
-use Rattle.mk_laws.proofs.Vocabulary.{List, None, Option, Some, ℕ, ap, arith, cases_Bool, cases_eq, cases_lt, false}
-use Rattle.mk_laws.proofs.Vocabulary.{get_or-set_other, get_or-set_same, inl, inr, is_some, length, length-set, refl}
-use Rattle.mk_laws.proofs.Vocabulary.{slice_index, slice_set, subst, sym, true, true≢false, ◌*◌, ◌+◌, ◌<◌, ◌∙◌, ◌≡◌}
-use Rattle.mk_laws.proofs.Vocabulary.{◌≢◌, ◌≤◌, ◌⊎◌}
+use Rattle.mk_sweep.proofs.Below.Laws.Vocabulary.{List, None, Option, Some, ℕ, ap, arith, cases_Bool, cases_eq}
+use Rattle.mk_sweep.proofs.Below.Laws.Vocabulary.{cases_lt, false, get_or-set_other, get_or-set_same, inl, inr, is_some}
+use Rattle.mk_sweep.proofs.Below.Laws.Vocabulary.{length, length-set, refl, slice_index, slice_set, subst, sym, true}
+use Rattle.mk_sweep.proofs.Below.Laws.Vocabulary.{true≢false, ◌*◌, ◌+◌, ◌<◌, ◌∙◌, ◌≡◌, ◌≢◌, ◌≤◌, ◌⊎◌}
 use Rattle.mk_why.proofs.Looks.{looks_at_nothing, looks_then}
 use Rattle.mk_why.specs.{Searching.IsFoundAt, Searching.IsFoundWithin, Searching.IsQueued, declared.found.Way.Way}
 

@@ -1,6 +1,6 @@
 -- What chains lead to is swept, link by link.
 use Rattle.mk_why.proofs.Vocabulary.{Config, Global, LinksLead, Register, Root, World, word_of_root}
-use Rattle.mk_laws.proofs.Vocabulary.{List, ℕ, refl, slice_index, subst, [], ◌*◌, ◌+◌, ◌∷◌}
+use Rattle.mk_sweep.proofs.Below.Laws.Vocabulary.{List, ℕ, refl, slice_index, subst, [], ◌*◌, ◌+◌, ◌∷◌}
 use Rattle.mk_sweep.specs.Swept.{InGlobal, InRegister, InWord, IsSwept, IsSweptValue}
 use Rattle.mk_why.specs.SweptChains.{ChainsAreSwept}
 

@@ -5,7 +5,7 @@ use Rattle.mk_geom.specs.{Addresses.address_of, StorageWords.IsWordOf}
 use Rattle.mk_core.specs.{declared.config.Config.Config, Allocations.{placed_at, storage_of, storage_words}}
 use Rattle.mk_core.specs.{ClosedMarks.{is_marked_allocation, is_scanned_allocation}, History.World}
 use Rattle.mk_core.specs.{Touched.PointsIntoAllocation, Words.{Words, register_word}}
-use Rattle.mk_cycle.specs.FinishCycle.{is_in_snapshot_of_cycle}
+use Rattle.mk_sweep.specs.Below.Cycles.FinishCycle.{is_in_snapshot_of_cycle}
 use Rattle.mk_why.specs.{declared.kept.Kept.Kept, declared.kept.Root.Root}
 use Rattle.mk_why.specs.declared.kept.Root.TheVariants.{Register, Global}
 

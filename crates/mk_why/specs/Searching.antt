@@ -4,7 +4,7 @@ use Rattle.std.specs.Prelude.{length, slice_index, slice_index_or, Option, Some,
 use Rattle.mk_geom.specs.StorageWords.{IsWordOf}
 use Rattle.mk_core.specs.{declared.config.Config.Config, declared.events.Word.Word, Allocations.{placed_at, storage_of}}
 use Rattle.mk_core.specs.{ClosedMarks.is_scanned_allocation, Touched.PointsIntoAllocation}
-use Rattle.mk_words.specs.States.{TurnState}
+use Rattle.mk_sweep.specs.Below.Words.States.{TurnState}
 use Rattle.mk_why.specs.{declared.found.Found.Found, declared.found.Way.Way, Stops.{world_in, LooksWhileStill, View}}
 use Rattle.mk_why.specs.{Stops.{base_at, view_by}, declared.found.Way.TheVariants.{Start, Link}}
 use Rattle.mk_why.specs.{declared.kept.Root.Root, declared.kept.Root.TheVariants.{Global, Register}}

@@ -4,9 +4,9 @@ use Rattle.std.specs.Prelude.{◌≡◌, ℕ, Bool, true, false, List, []}
 use Rattle.mk_core.specs.{declared.events.Step.Step, declared.config.Config.Config}
 use Rattle.mk_core.specs.{Allocations.{PlacedAllocation, placed_at}, History.World, Moments.nothing_done}
 use Rattle.mk_core.specs.{Readings.NoneAttends, Words.Words}
-use Rattle.mk_words.specs.{States.{PassState, TurnState, now_of, world_of}, TurnSteps.IsStopped}
-use Rattle.mk_turns.specs.Doing.{Does}
-use Rattle.mk_cycle.specs.{EngineLaw.{IsAtPhase, IsFreeForCycle}, TurnKeeps.{LeavesTurn, but_phase}}
+use Rattle.mk_sweep.specs.{Below.Words.States.{PassState, TurnState, now_of, world_of}, Below.Words.TurnSteps.IsStopped}
+use Rattle.mk_sweep.specs.{Below.Words.Doing.Does, Below.Cycles.EngineLaw.{IsAtPhase, IsFreeForCycle}}
+use Rattle.mk_sweep.specs.Below.Cycles.TurnKeeps.{LeavesTurn, but_phase}
 use Rattle.mk_core.specs.declared.events.Step.TheVariants as step
 
 -- the words but the phase, and the allocations

@@ -9,6 +9,7 @@ mod found;
 mod kept;
 mod laws;
 mod listing;
+pub mod lower;
 mod searching;
 mod stepping;
 mod tables;

@@ -10,7 +10,7 @@ use crate::stepping::look_at;
 use crate::tables::Tables;
 use mk_core::{Word, cells_under, has_bit, words_under};
 use mk_geom::{Cell, HEAP_START, PAGE_WORDS, WORD_BYTES};
-use mk_words::{Stopped, Words};
+use mk_sweep::lower::words::{Stopped, Words};
 
 /// The bits of a quarantine word's snapshot stand after those of the freed cells.
 const SNAPSHOT: u64 = 1 << 32;

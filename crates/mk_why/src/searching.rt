@@ -15,7 +15,7 @@ use crate::tables::Tables;
 use crate::values::{base_pointed, scanned_size};
 use mk_core::Word;
 use mk_geom::{HEAP_START, WORD_BYTES};
-use mk_words::{Stopped, Words};
+use mk_sweep::lower::words::{Stopped, Words};
 
 /// How many registers a caller has.
 const REGISTERS: u64 = 8;

@@ -1,11 +1,11 @@
 //! Looks in the stop, when the close is wanted and no marker attends.
 ghost use Rattle.std.specs.Prelude.{◌≡◌, true};
 ghost use Rattle.mk_core.specs.{Ranges.is_word, Words.named_word};
-ghost use Rattle.mk_tracing.specs.Stops.{is_still_word};
+ghost use Rattle.mk_sweep.specs.Below.Cycles.Stops.{is_still_word};
 ghost use Rattle.mk_why.specs.Stops.{IsStill, LooksWhileStill, view_by};
 
 use mk_core::Word;
-use mk_words::{Stopped, Words};
+use mk_sweep::lower::words::{Stopped, Words};
 
 /// Looks at any word but the phase.
 pub(crate) fn look_at(words: &Words, stop: &mut Stopped, x: Word) -> u64

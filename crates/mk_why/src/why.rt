@@ -1,8 +1,8 @@
 //! The engine that reports why.
 ghost use Rattle.std.specs.Prelude.{◌≡◌, [], IfOk, false, length};
 ghost use Rattle.mk_core.specs.{declared.config.Config.Config, History.World};
-ghost use Rattle.mk_cycle.specs.{Begun.IsBegun, EngineLaw.{BeginsMarking, IsAtPhase, IsFreeForCycle}};
-ghost use Rattle.mk_turns.specs.Sweeping.{SweepsNothing};
+ghost use Rattle.mk_sweep.specs.{Below.Cycles.Begun.IsBegun, Below.Cycles.EngineLaw.{BeginsMarking, IsAtPhase}};
+ghost use Rattle.mk_sweep.specs.{Below.Cycles.EngineLaw.IsFreeForCycle, Below.Words.Sweeping.SweepsNothing};
 ghost use Rattle.mk_why.specs.{Chains.AreKept, Listing.IsTold, Sizes.pages_for, States.HasKeptNothing};
 ghost use Rattle.mk_why.specs.Stops.{IsClosedBefore, IsToldBefore, view_of};
 
@@ -11,9 +11,9 @@ use crate::kept::Kept;
 use crate::listing::list_kept;
 use crate::searching::search;
 use crate::tables::Tables;
-use mk_cycle::Engine;
+use mk_sweep::lower::cycles::Engine;
 use mk_never::NoMemory;
-use mk_words::{Stopped, Turn, Words};
+use mk_sweep::lower::words::{Stopped, Turn, Words};
 use std::alloc::Global;
 use std::marker::Model;
 use std::sync::Wait;

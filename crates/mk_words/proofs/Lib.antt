@@ -1,3 +1,4 @@
+pub mod Below
 pub mod Seats
 pub mod Tidy
 pub mod LongerLists
@@ -20,3 +21,9 @@ pub mod Closing
 pub mod Markers
 pub mod Opening
 pub mod Tallies
+pub mod Doing
+pub mod PointedCells
+pub mod Sweeping
+pub mod Waiting
+pub mod Unswept
+pub mod TakesAlone

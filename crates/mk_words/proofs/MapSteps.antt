@@ -6,8 +6,8 @@ use Rattle.mk_laws.proofs.Vocabulary.{get_or-set_other, get_or-set_same, header_
 use Rattle.mk_laws.proofs.Vocabulary.{is_in_range, length, length-set, ltb-true, nat_lt, not, refl, set_by, slice_index}
 use Rattle.mk_laws.proofs.Vocabulary.{subst, sym, tally_word, true, [], ◌++◌, ◌<◌, ◌==◌, ◌||◌, ◌∙◌, ◌∷◌, ◌≡◌, ◌≢◌}
 use Rattle.mk_laws.proofs.SameWords.{Behind}
-use Rattle.mk_page_map.specs.KnownPages.{KnownPages, Shows, is_bare, is_quarantined_page, is_uncleaned}
-use Rattle.mk_page_map.specs.{KnownPages.{is_uncleaned_under, with_header, with_used}, Members.{IsNext, page_at}}
+use Rattle.mk_books.specs.KnownPages.{KnownPages, Shows, is_bare, is_quarantined_page, is_uncleaned, is_uncleaned_under}
+use Rattle.mk_books.specs.{KnownPages.{with_header, with_used}, Members.{IsNext, page_at}}
 use Rattle.mk_words.proofs.{FreeTurns.{map_left, map_stays, page_words}, TurnSteps.{acts, gates_still}, Made.own_before}
 use Rattle.mk_words.proofs.{Seats.others_own, Unmarked.{is_mark, stays_unmarked}}
 use Rattle.mk_words.specs.PageMaps.{HasNoMarks, HeaderIsTold, IsMapOf, IsNextUncleaned, IsToldOf, MarkIsTold}

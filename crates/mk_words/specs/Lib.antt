@@ -1,3 +1,4 @@
+pub mod Below
 pub mod Indexes
 pub mod PageMaps
 pub mod Seats
@@ -12,3 +13,9 @@ pub mod Finals
 pub mod Markers
 pub mod Opening
 pub mod Laws
+pub mod Doing
+pub mod Pointing
+pub mod Sweeping
+pub mod Sleeps
+pub mod Taking
+pub mod Unswept

@@ -2,8 +2,8 @@
 use Rattle.std.specs.Prelude.{◌≡◌, ℕ, ◌<◌, ◌≤◌, ◌%◌, ◌^◌, ◌||◌, Bool, true, false, slice_index, slice_set, Option, Some}
 use Rattle.std.specs.Prelude.{None, List, []}
 use Rattle.mk_geom.specs.declared.pages.Page.{Page}
-use Rattle.mk_page_map.specs.KnownPages.{KnownPages, Shows, is_bare, is_uncleaned, is_uncleaned_under, with_header}
-use Rattle.mk_page_map.specs.KnownPages.{with_used}
+use Rattle.mk_books.specs.KnownPages.{KnownPages, Shows, is_bare, is_uncleaned, is_uncleaned_under, with_header}
+use Rattle.mk_books.specs.KnownPages.{with_used}
 use Rattle.mk_core.specs.{declared.events.Step.Step, Words.{Words, header_at}}
 use Rattle.mk_core.specs.declared.events.Step.TheVariants as step
 

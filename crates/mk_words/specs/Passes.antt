@@ -1,7 +1,7 @@
 -- What a pass is made of, and what always holds of it.
 use Rattle.std.specs.Prelude.{◌≡◌, ℕ, List, [], ◌∷◌}
 use Rattle.atomic_table.specs.Seated.{TableId}
-use Rattle.mk_page_map.specs.KnownPages.{KnownPages}
+use Rattle.mk_books.specs.KnownPages.{KnownPages}
 use Rattle.mk_core.specs.{declared.events.Seat.Seat, History.IsHistory, Counts.IsTidy}
 use Rattle.mk_words.specs.{Seats.{CallersAreBeforeOver, Has}, States.PassState, Rule.{Mine, no_part}}
 

@@ -2,7 +2,7 @@
 use Rattle.std.specs.Prelude.{◌≡◌, ◌≢◌, ℕ, List, [], ◌∷◌, ◌++◌}
 use mathlib.Core.Option.{Option, some, none}
 use lib.ListN.{get_elem?}
-use Rattle.mk_page_map.specs.KnownPages.{KnownPages}
+use Rattle.mk_books.specs.KnownPages.{KnownPages}
 use Rattle.mk_core.specs.{declared.config.Config.Config, declared.events.Seat.Seat}
 use Rattle.mk_core.specs.{declared.events.Seat.TheVariants.Host, declared.events.Step.TheVariants.Leave}
 use Rattle.mk_core.specs.{declared.events.Event.Event, declared.accesses.Access.Access}

@@ -7,7 +7,7 @@ use Rattle.mk_core.specs.{declared.seats.Flight.Flight, Accesses.granted_base, C
 use Rattle.mk_core.specs.{Moments.{nothing_done, none_is_held, others_are_held}, Words.phase_of, Ranges.has_phase}
 use Rattle.mk_core.specs.{TurnConditions.held_by_pages, Readings.Holds, History.{World, world_behind, left}}
 use Rattle.mk_core.specs.{Frames.{OwnIsLeft, HoldsAll, TurnIsLeft, CountsAreLeft, written_of}, Effects.progress}
-use Rattle.mk_page_map.specs.KnownPages.{KnownPages}
+use Rattle.mk_books.specs.KnownPages.{KnownPages}
 use Rattle.mk_words.specs.{PageMaps.{IsMapOf, is_told}, States.{PassState, world_of, now_of, call_of, event_of}}
 use Rattle.mk_words.specs.Steps.{Makes, found_by}
 use Rattle.mk_core.specs.declared.events.Step.TheVariants as step

@@ -17,7 +17,7 @@ use std::marker::{Brand, Model, PhantomData};
 /// The slots that a token holds.
 pub(crate) trait Slots {
     ghost use Rattle.std.specs.Prelude.{List, ℕ};
-    ghost use Rattle.mk_page_map.specs.KnownPages.{KnownPages};
+    ghost use Rattle.mk_books.specs.KnownPages.{KnownPages};
 
     ghost such: { List (ℕ × KnownPages) → Type 0 };
 }

@@ -13,9 +13,9 @@ use crate::indexes::page_of;
 use crate::passes::Pass;
 use crate::tokens::TurnToken;
 use crate::words::Words;
+use mk_books::PageMap;
 use mk_core::{Access, Seat, Step, TableWord};
 use mk_never::Op;
-use mk_page_map::PageMap;
 use std::marker::{Model, PhantomData};
 
 /// The turn of a table while the gates are as `G` says, with the pass of the seat that has it, and the map of the

@@ -3,7 +3,7 @@ ghost use Rattle.std.specs.Prelude.{◌≡◌, ◌≤◌, [], ◌∷◌, ◌++�
 ghost use Rattle.mk_geom.specs.Storages.{free_page};
 ghost use Rattle.mk_core.specs.{declared.events.Seat.TheVariants.Host, Config.IsWithinLimits};
 ghost use Rattle.mk_core.specs.{Growing.{Grows, is_same_seat}, Moments.{marker_at, outside}};
-ghost use Rattle.mk_page_map.specs.KnownPages.{Shows};
+ghost use Rattle.mk_books.specs.KnownPages.{Shows};
 ghost use Rattle.mk_words.specs.{Seats.{Has, HasAll, all_seats, without_seat, is_caller, has_over}, States.IsPass};
 ghost use Rattle.mk_words.specs.{Finals.{history_of, config_of, HasTallies}, States.now_of};
 
@@ -15,9 +15,9 @@ use crate::rule::{OneHistory, View};
 use crate::telling::{HandOver, Handing, Remember, Settle, Together};
 use crate::tokens::{SeatToken, TokenWith};
 use atomic_table::Table;
+use mk_books::PageMap;
 use mk_core::{Config, Seat, Word};
 use mk_never::{NoMemory, TypeTable};
-use mk_page_map::PageMap;
 use std::alloc::Global;
 use std::marker::{Brand, Model, PhantomData};
 

@@ -4,7 +4,7 @@
 use super::texts::behind;
 use super::{ample, run_at};
 use mk_outputs::Status;
-use mk_run::Pace;
+use mk_outputs::lower::runs::Pace;
 use std::alloc::Global;
 use std::sync::Wait;
 use std::sync::atomic::{AtomicBool, AtomicU64, Ordering};

@@ -1,5 +1,5 @@
 use Rattle.std.proofs.Common.{List, None, Option, Some, ℕ, inl, ◌≡◌}
-use Rattle.mk_commands.specs.declared.commands.Command.{Command}
+use Rattle.mk_outputs.specs.declared.commands.Command.{Command}
 use Rattle.mk_outputs.specs.Outputs.{IsStatusOn}
 use Rattle.mk_outputs.specs.{declared.statuses.Status.Status, declared.statuses.Status.TheVariants.NoMemory}
 use Rattle.markus.proofs.top.markus.Goals as goal

@@ -1,4 +1,4 @@
-use Rattle.mk_laws.proofs.Vocabulary.{sym, ◌∙◌}
+use Rattle.mk_words.proofs.Below.Laws.Vocabulary.{sym, ◌∙◌}
 use Rattle.mk_caller.proofs.Accessing.{refuses}
 use Rattle.mk_caller.proofs.accesses.refuse.Goals as goal
 

@@ -1,4 +1,4 @@
-use Rattle.mk_laws.proofs.Vocabulary.{refl}
+use Rattle.mk_words.proofs.Below.Laws.Vocabulary.{refl}
 use Rattle.mk_caller.proofs.Chains.{called, faults, go, go_on, reached, sees_further, sees_more}
 use Rattle.mk_caller.{proofs.Comparing.{compares_values}, specs.Moves.{call_ends, exchanges, loads, passes}}
 use Rattle.mk_caller.proofs.calls.cas_ptr.Goals as goal

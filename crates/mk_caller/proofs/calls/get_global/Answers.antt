@@ -1,4 +1,4 @@
-use Rattle.mk_laws.proofs.Vocabulary.{refl}
+use Rattle.mk_words.proofs.Below.Laws.Vocabulary.{refl}
 use Rattle.mk_caller.{proofs.Chains.{called, go, go_on, stores}, specs.Moves.{loads_global}}
 use Rattle.mk_caller.proofs.calls.get_global.Goals as goal
 

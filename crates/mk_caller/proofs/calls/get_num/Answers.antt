@@ -1,4 +1,4 @@
-use Rattle.mk_laws.proofs.Vocabulary.{refl}
+use Rattle.mk_words.proofs.Below.Laws.Vocabulary.{refl}
 use Rattle.mk_caller.proofs.Chains.{called, faults, go, go_on, go_probed, reached, sees_further, sees_more}
 use Rattle.mk_caller.specs.Moves.{call_ends, reads}
 use Rattle.mk_caller.proofs.calls.get_num.Goals as goal

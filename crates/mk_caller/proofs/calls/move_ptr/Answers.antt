@@ -1,4 +1,4 @@
-use Rattle.mk_laws.proofs.Vocabulary.{refl}
+use Rattle.mk_words.proofs.Below.Laws.Vocabulary.{refl}
 use Rattle.mk_caller.{proofs.Chains.called, proofs.Chains.go, proofs.Chains.stores, specs.Moves.loads}
 use Rattle.mk_caller.proofs.calls.move_ptr.Goals as goal
 

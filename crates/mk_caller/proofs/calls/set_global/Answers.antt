@@ -1,4 +1,4 @@
-use Rattle.mk_laws.proofs.Vocabulary.{refl}
+use Rattle.mk_words.proofs.Below.Laws.Vocabulary.{refl}
 use Rattle.mk_caller.{proofs.Chains.{called, go, go_on}, specs.Moves.{call_ends, loads, writes}}
 use Rattle.mk_caller.proofs.calls.set_global.Goals as goal
 

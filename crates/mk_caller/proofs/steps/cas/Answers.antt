@@ -1,4 +1,4 @@
-use Rattle.mk_laws.proofs.Vocabulary.{Stage, Step, ap, refl}
+use Rattle.mk_words.proofs.Below.Laws.Vocabulary.{Stage, Step, ap, refl}
 use Rattle.mk_caller.{proofs.{Onward.{moves, write_next}, Stepping.{may_access, met}}, specs.Moves.{is_written}}
 use Rattle.mk_caller.proofs.steps.cas.Goals as goal
 

@@ -1,4 +1,4 @@
-use Rattle.mk_laws.proofs.Vocabulary.{sym, ◌∙◌}
+use Rattle.mk_words.proofs.Below.Laws.Vocabulary.{sym, ◌∙◌}
 use Rattle.mk_caller.proofs.{Onward.load_next, Onward.moves, Stepping.may_load, Stepping.null_is}
 use Rattle.mk_caller.proofs.steps.load.Goals as goal
 

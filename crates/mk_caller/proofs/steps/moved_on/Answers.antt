@@ -1,4 +1,4 @@
-use Rattle.mk_laws.proofs.Vocabulary.{arith}
+use Rattle.mk_words.proofs.Below.Laws.Vocabulary.{arith}
 use Rattle.mk_caller.proofs.Stepping.{moved_within}
 use Rattle.mk_caller.proofs.steps.moved_on.Goals as goal
 

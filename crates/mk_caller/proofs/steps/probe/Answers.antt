@@ -1,4 +1,4 @@
-use Rattle.mk_laws.proofs.Vocabulary.{Stage, Step, arith, refl, sym, ◌∙◌}
+use Rattle.mk_words.proofs.Below.Laws.Vocabulary.{Stage, Step, arith, refl, sym, ◌∙◌}
 use Rattle.mk_caller.proofs.Stepping.{may_access, met, met_bounds, probe_passed, probe_refused}
 use Rattle.mk_caller.proofs.{Onward.moves, Onward.probe_next, Probing.probes_a_word, Probing.probes_unmapped}
 use Rattle.mk_caller.proofs.steps.probe.Goals as goal

@@ -1,4 +1,4 @@
-use Rattle.mk_laws.proofs.Vocabulary.{Step, refl}
+use Rattle.mk_words.proofs.Below.Laws.Vocabulary.{Step, refl}
 use Rattle.mk_caller.proofs.{Onward.moves, Onward.read_next, Stepping.may_access}
 use Rattle.mk_caller.proofs.steps.read.Goals as goal
 

@@ -1,4 +1,4 @@
-use Rattle.mk_laws.proofs.Vocabulary.{Step, World, ap, refl, subst, ◌<◌}
+use Rattle.mk_words.proofs.Below.Laws.Vocabulary.{Step, World, ap, refl, subst, ◌<◌}
 use Rattle.mk_cycle.proofs.Vocabulary.{WordsState, clears, does_sweep, only_seen_by, other_step_sweeps, sweeps_then}
 use Rattle.mk_cycle.proofs.{Allowed.tally_allowed, BeginSteps.{IsCleared, begin_allowed, begins_cycle, begun_free}}
 use Rattle.mk_cycle.proofs.Begun.{begin_begun, begins_none, begun_then, does_begin_none}

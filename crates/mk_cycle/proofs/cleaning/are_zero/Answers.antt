@@ -1,5 +1,5 @@
 use Rattle.std.proofs.lemmas.Nat.{le_or_l, le_or_r}
-use Rattle.mk_laws.proofs.Vocabulary.{arith, eqb-true}
+use Rattle.mk_words.proofs.Below.Laws.Vocabulary.{arith, eqb-true}
 use Rattle.mk_cycle.proofs.cleaning.are_zero.Goals as goal
 
 pub returns-clause-dirty : goal.returns-clause-dirty

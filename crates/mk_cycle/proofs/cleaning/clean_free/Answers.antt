@@ -1,4 +1,4 @@
-use Rattle.mk_laws.proofs.Vocabulary.{subst, sym}
+use Rattle.mk_words.proofs.Below.Laws.Vocabulary.{subst, sym}
 use Rattle.mk_cycle.proofs.Vocabulary.{Cleans, now_of}
 use Rattle.mk_words.specs.{PageMaps.HasNoMarks, States.TurnState}
 use Rattle.mk_cycle.proofs.cleaning.clean_free.Goals as goal

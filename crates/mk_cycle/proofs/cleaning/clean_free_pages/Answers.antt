@@ -1,4 +1,4 @@
-use Rattle.mk_laws.proofs.Vocabulary.{arith}
+use Rattle.mk_words.proofs.Below.Laws.Vocabulary.{arith}
 use Rattle.mk_cycle.proofs.CleanedPages.{cleans_past, cleans_to_none, free_bare_more, free_bare_past, same_pages}
 use Rattle.mk_cycle.proofs.cleaning.clean_free_pages.Goals as goal
 

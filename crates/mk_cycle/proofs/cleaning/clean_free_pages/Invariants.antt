@@ -1,4 +1,4 @@
-use Rattle.mk_laws.proofs.Vocabulary.{◌-◌}
+use Rattle.mk_words.proofs.Below.Laws.Vocabulary.{◌-◌}
 use Rattle.mk_cycle.proofs.CleanedPages.{CleansTo, FreeAreBare}
 use Rattle.mk_cycle.proofs.cleaning.clean_free_pages.Given as goal
 

@@ -1,4 +1,4 @@
-use Rattle.mk_laws.proofs.Vocabulary.{cases_eq, inl, inr, sym, ◌∙◌, ◌≡◌}
+use Rattle.mk_words.proofs.Below.Laws.Vocabulary.{cases_eq, inl, inr, sym, ◌∙◌, ◌≡◌}
 use Rattle.mk_cycle.proofs.{Vocabulary.{Cleans, WasUndirty}, CleanedPages.{clean_bare, no_quarantine}}
 use Rattle.mk_cycle.proofs.{Undirty.{undirty_earlier, undirty_later, undirty_now}, CleaningSteps.cleans_then}
 use Rattle.mk_cycle.proofs.cleaning.clean_page.Goals.{After-look_before-quarantine}

@@ -1,4 +1,4 @@
-use Rattle.mk_laws.proofs.Vocabulary.{arith}
+use Rattle.mk_words.proofs.Below.Laws.Vocabulary.{arith}
 use Rattle.mk_cycle.proofs.CleanedPages.{cleans_past, cleans_to_none, ready_more, ready_past, same_pages}
 use Rattle.mk_cycle.proofs.cleaning.clean_pages_in_use.Goals as goal
 

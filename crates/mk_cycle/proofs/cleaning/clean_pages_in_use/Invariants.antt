@@ -1,4 +1,4 @@
-use Rattle.mk_laws.proofs.Vocabulary.{◌-◌}
+use Rattle.mk_words.proofs.Below.Laws.Vocabulary.{◌-◌}
 use Rattle.mk_cycle.proofs.CleanedPages.{AreReady, CleansTo}
 use Rattle.mk_cycle.proofs.cleaning.clean_pages_in_use.Given as goal
 

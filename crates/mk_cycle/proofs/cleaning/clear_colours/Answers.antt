@@ -1,4 +1,4 @@
-use Rattle.mk_laws.proofs.Vocabulary.{sym, ◌∙◌}
+use Rattle.mk_words.proofs.Below.Laws.Vocabulary.{sym, ◌∙◌}
 use Rattle.mk_cycle.proofs.CleaningSteps.{cleans_then}
 use Rattle.mk_cycle.proofs.cleaning.clear_colours.Goals as goal
 

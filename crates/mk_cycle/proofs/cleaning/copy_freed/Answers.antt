@@ -1,4 +1,4 @@
-use Rattle.mk_laws.proofs.Vocabulary.{ℕ, ap, arith, quarantine_word, refl, sym, ◌∙◌}
+use Rattle.mk_words.proofs.Below.Laws.Vocabulary.{ℕ, ap, arith, quarantine_word, refl, sym, ◌∙◌}
 use Rattle.mk_cycle.proofs.CleaningSteps.{cleans_nothing, halves, has_snapshot, snapshot_taken}
 use Rattle.mk_cycle.proofs.{Allowed.snapshot_allowed, MayAct.calm_admitted}
 use Rattle.mk_cycle.proofs.cleaning.copy_freed.Goals as goal

@@ -1,4 +1,4 @@
-use Rattle.mk_laws.proofs.Vocabulary.{Config, Step, ap, is_end, refl, subst, ◌<◌, ◌∙◌}
+use Rattle.mk_words.proofs.Below.Laws.Vocabulary.{Config, Step, ap, is_end, refl, subst, ◌<◌, ◌∙◌}
 use Rattle.mk_cycle.{proofs.Vocabulary.{PassState, does_step, only_seen_by}, specs.Closing.{ClosesAsPromised}}
 use Rattle.mk_cycle.proofs.FinishedCycles.{ended_free, finishes_cycle, gives_call, gives_free, has_released}
 use Rattle.mk_cycle.proofs.{finishing.finish_cycle.Goals.After-count_cycle, ClosedBy.promised_later}

@@ -1,5 +1,5 @@
-use Rattle.mk_laws.proofs.Vocabulary.{Step, ℕ, ap, gives_back, has_bit, header_of, quarantine_word, refl, subst, sym}
-use Rattle.mk_laws.proofs.Vocabulary.{true, words_under, ◌-◌, ◌/◌, ◌^◌, ◌∙◌, ◌≡◌}
+use Rattle.mk_words.proofs.Below.Laws.Vocabulary.{Step, ℕ, ap, gives_back, has_bit, header_of, quarantine_word, refl}
+use Rattle.mk_words.proofs.Below.Laws.Vocabulary.{subst, sym, true, words_under, ◌-◌, ◌/◌, ◌^◌, ◌∙◌, ◌≡◌}
 use Rattle.mk_cycle.proofs.Vocabulary.{Acts, AreFreeCells, GivesNothingBack, IsTurnAt, bit_and, now_of}
 use Rattle.mk_cycle.proofs.GiveBack.{GivesCells, drops_here, gives_all, gives_here, gone_too, turn_d}
 use Rattle.mk_cycle.proofs.GivingSteps.{look_frees, none_then, quar_allowed, used_allowed}

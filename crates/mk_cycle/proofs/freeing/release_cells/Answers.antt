@@ -1,5 +1,5 @@
 -- A page's quarantine and mark words are looked at once each, and say what is released on it.
-use Rattle.mk_laws.proofs.Vocabulary.{ap, header_at, sym, ◌/◌, ◌^◌, ◌∙◌, ◌≡◌}
+use Rattle.mk_words.proofs.Below.Laws.Vocabulary.{ap, header_at, sym, ◌/◌, ◌^◌, ◌∙◌, ◌≡◌}
 use Rattle.mk_cycle.proofs.Vocabulary.{GivesNothingBack, PassState, Released, left_unmarked, now_of, released_on}
 use Rattle.mk_cycle.proofs.CountedPages.{counted_on, held_by_header, snapshot_told, told_none}
 use Rattle.mk_cycle.proofs.SettledPages.{free_cells_stay, gives_none, gives_then, marked_gone, none_left_on}

@@ -1,4 +1,4 @@
-use Rattle.mk_laws.proofs.Vocabulary.{head_page, refl, subst, sym, ◌<◌, ◌∙◌}
+use Rattle.mk_words.proofs.Below.Laws.Vocabulary.{head_page, refl, subst, sym, ◌<◌, ◌∙◌}
 use Rattle.mk_cycle.proofs.{Vocabulary.{HoldsGates, WordsState, now_of}, ClosedBy.{promised_later, promised_when_held}}
 use Rattle.mk_cycle.proofs.GivingAll.{all_held, all_told, gives_all_back}
 use Rattle.mk_cycle.proofs.{SettledPages.{free_cells_stay, same_occupied}, FreeingSteps.frees_then}

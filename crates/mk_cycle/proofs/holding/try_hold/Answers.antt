@@ -1,4 +1,4 @@
-use Rattle.mk_laws.proofs.Vocabulary.{subst, sym, ◌<◌}
+use Rattle.mk_words.proofs.Below.Laws.Vocabulary.{subst, sym, ◌<◌}
 use Rattle.mk_cycle.proofs.{Vocabulary.WordsState, HoldingSteps.{hold_allowed, hold_holds}}
 use Rattle.mk_cycle.proofs.holding.try_hold.Goals as goal
 

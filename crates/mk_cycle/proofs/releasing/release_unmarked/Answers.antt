@@ -1,4 +1,4 @@
-use Rattle.mk_laws.proofs.Vocabulary.{Step, ap, append_assoc, refl, ◌∙◌}
+use Rattle.mk_words.proofs.Below.Laws.Vocabulary.{Step, ap, append_assoc, refl, ◌∙◌}
 use Rattle.mk_cycle.proofs.Vocabulary.{PassState, only_seen_by, other_step_sweeps, sweeps_then}
 use Rattle.mk_cycle.proofs.ReleasedStops.{StopReleases, stop_holds, stop_leaves_cells, stop_leaves_occupied}
 use Rattle.mk_cycle.proofs.{ReleasedStops.{stop_releases, stop_tells}, Told.{told_closing, told_earlier, told_later}}

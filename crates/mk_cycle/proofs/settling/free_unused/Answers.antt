@@ -1,4 +1,4 @@
-use Rattle.mk_laws.proofs.Vocabulary.{Page, ap, sym, ◌∙◌}
+use Rattle.mk_words.proofs.Below.Laws.Vocabulary.{Page, ap, sym, ◌∙◌}
 use Rattle.mk_cycle.proofs.GivingSteps.{head_allowed, head_frees, head_state, none_at_once}
 use Rattle.mk_cycle.proofs.{PageSteps.page_at_once, SettledPages.empties_here, SettledPages.freed_settles}
 use Rattle.mk_cycle.proofs.settling.free_unused.Goals as goal

@@ -1,4 +1,4 @@
-use Rattle.mk_laws.proofs.Vocabulary.{arith}
+use Rattle.mk_words.proofs.Below.Laws.Vocabulary.{arith}
 use Rattle.mk_cycle.proofs.PageByPage.{next_in_run, next_past}
 use Rattle.mk_cycle.proofs.settling.next_to_settle.Goals as goal
 

@@ -1,4 +1,5 @@
-use Rattle.mk_laws.proofs.Vocabulary.{Page, ℕ, ap, arith, header_in, in_a_word, run_count, ◌+◌, ◌<◌, ◌∙◌, ◌≡◌}
+use Rattle.mk_words.proofs.Below.Laws.Vocabulary.{Page, ℕ, ap, arith, header_in, in_a_word, run_count, ◌+◌, ◌<◌, ◌∙◌}
+use Rattle.mk_words.proofs.Below.Laws.Vocabulary.{◌≡◌}
 use Rattle.mk_cycle.proofs.{Vocabulary.{PassState, now_of}, PageByPage.{AreSettledBelow, settled_more, settled_none}}
 use Rattle.mk_cycle.proofs.{PageByPage.settled_to, settling.settle_pages.Goals.{After-page-word, In_default}}
 use Rattle.mk_cycle.proofs.FreeingSteps.{freed_table}

@@ -1,4 +1,4 @@
-use Rattle.mk_laws.proofs.Vocabulary.{◌*◌, ◌-◌, ◌≤◌}
+use Rattle.mk_words.proofs.Below.Laws.Vocabulary.{◌*◌, ◌-◌, ◌≤◌}
 use Rattle.mk_cycle.proofs.PageByPage.{AreSettledBelow}
 use Rattle.mk_cycle.proofs.settling.settle_pages.Given as goal
 

@@ -1,4 +1,4 @@
-use Rattle.mk_laws.proofs.Vocabulary.{ℕ, subst, sym, ◌≤◌}
+use Rattle.mk_words.proofs.Below.Laws.Vocabulary.{ℕ, subst, sym, ◌≤◌}
 use Rattle.mk_cycle.proofs.{SettledPages.{head_before, none_at}, FreeingSteps.freed_turn, PageSteps.page_then}
 use Rattle.mk_cycle.proofs.settling.settle_taken.Goals as goal
 

@@ -1,4 +1,4 @@
-use Rattle.mk_laws.proofs.Vocabulary.{◌-◌}
+use Rattle.mk_words.proofs.Below.Laws.Vocabulary.{◌-◌}
 use Rattle.mk_cycle.proofs.TallySteps.{set_by}
 use Rattle.mk_cycle.proofs.tallying.lower.Goals as goal
 

@@ -1,4 +1,4 @@
-use Rattle.mk_laws.proofs.Vocabulary.{in_a_word, ◌+◌}
+use Rattle.mk_words.proofs.Below.Laws.Vocabulary.{in_a_word, ◌+◌}
 use Rattle.mk_cycle.proofs.TallySteps.{set_by}
 use Rattle.mk_cycle.proofs.tallying.raise.Goals as goal
 

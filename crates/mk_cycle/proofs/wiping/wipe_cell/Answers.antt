@@ -1,4 +1,4 @@
-use Rattle.mk_laws.proofs.Vocabulary.{ℕ, arith, subst, ◌*◌, ◌+◌, ◌<◌, ◌≡◌}
+use Rattle.mk_words.proofs.Below.Laws.Vocabulary.{ℕ, arith, subst, ◌*◌, ◌+◌, ◌<◌, ◌≡◌}
 use Rattle.mk_cycle.proofs.Vocabulary.{GivesNothingBack, IsUnmappedWord, IsZero, PassState, below_more}
 use Rattle.mk_cycle.proofs.GivingSteps.{none_at_once, none_then, still_unmapped_word}
 use Rattle.mk_cycle.proofs.wiping.wipe_cell.Goals as goal

@@ -1,4 +1,4 @@
-use Rattle.mk_laws.proofs.Vocabulary.{ℕ, ◌*◌, ◌+◌, ◌<◌}
+use Rattle.mk_words.proofs.Below.Laws.Vocabulary.{ℕ, ◌*◌, ◌+◌, ◌<◌}
 use Rattle.mk_cycle.proofs.Vocabulary.{GivesNothingBack, IsZero}
 use Rattle.mk_cycle.proofs.wiping.wipe_cell.Given as goal
 

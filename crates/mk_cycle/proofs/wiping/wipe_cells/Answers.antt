@@ -1,6 +1,6 @@
 use Rattle.std.proofs.Math.Nat.{mul_left_comm}
-use Rattle.mk_laws.proofs.Vocabulary.{ℕ, ap, arith, cases_Bool, false, has_bit, inl, inr, no_bit, subst, sym, true}
-use Rattle.mk_laws.proofs.Vocabulary.{true≢false, without, ◌*◌, ◌+◌, ◌<◌, ◌^◌, ◌∙◌, ◌≡◌, ◌⊎◌}
+use Rattle.mk_words.proofs.Below.Laws.Vocabulary.{ℕ, ap, arith, cases_Bool, false, has_bit, inl, inr, no_bit, subst}
+use Rattle.mk_words.proofs.Below.Laws.Vocabulary.{sym, true, true≢false, without, ◌*◌, ◌+◌, ◌<◌, ◌^◌, ◌∙◌, ◌≡◌, ◌⊎◌}
 use Rattle.mk_cycle.proofs.{Vocabulary.{IsUnmappedWord, IsZero}, GivingSteps.{none_at_once, none_then}}
 use Rattle.mk_cycle.proofs.{GivingSteps.still_unmapped_word, RestBits.{fewer_left, left_among, taken_or_gone}}
 use Rattle.mk_cycle.proofs.wiping.wipe_cells.Goals as goal

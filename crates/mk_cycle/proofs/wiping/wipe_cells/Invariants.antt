@@ -1,4 +1,4 @@
-use Rattle.mk_laws.proofs.Vocabulary.{ℕ, false, has_bit, true, ◌*◌, ◌+◌, ◌<◌, ◌≡◌}
+use Rattle.mk_words.proofs.Below.Laws.Vocabulary.{ℕ, false, has_bit, true, ◌*◌, ◌+◌, ◌<◌, ◌≡◌}
 use Rattle.mk_cycle.proofs.Vocabulary.{GivesNothingBack, IsZero}
 use Rattle.mk_cycle.proofs.wiping.wipe_cells.Given as goal
 

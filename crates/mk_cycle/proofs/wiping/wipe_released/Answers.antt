@@ -1,4 +1,4 @@
-use Rattle.mk_laws.proofs.Vocabulary.{ℕ, subst, sym, ◌*◌, ◌+◌, ◌<◌, ◌∙◌}
+use Rattle.mk_words.proofs.Below.Laws.Vocabulary.{ℕ, subst, sym, ◌*◌, ◌+◌, ◌<◌, ◌∙◌}
 use Rattle.mk_cycle.proofs.{Vocabulary.{IsUnmappedWord, IsZero}, GivingSteps.none_at_once}
 use Rattle.mk_cycle.proofs.wiping.wipe_released.Goals as goal
 

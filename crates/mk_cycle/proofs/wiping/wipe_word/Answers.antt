@@ -1,4 +1,4 @@
-use Rattle.mk_laws.proofs.Vocabulary.{◌∙◌}
+use Rattle.mk_words.proofs.Below.Laws.Vocabulary.{◌∙◌}
 use Rattle.mk_cycle.proofs.GivingSteps.{none_then, still_unmapped_word, wipe_allowed, wipe_frees, wiped}
 use Rattle.mk_cycle.proofs.FreeingSteps.{freed_turn}
 use Rattle.mk_cycle.proofs.wiping.wipe_word.Goals as goal

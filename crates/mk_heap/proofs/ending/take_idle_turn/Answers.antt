@@ -1,9 +1,9 @@
-use Rattle.mk_laws.proofs.Vocabulary.{arith, refl, ◌%◌, ◌∙◌, ◌≡◌}
+use Rattle.mk_alloc.proofs.Below.Laws.Vocabulary.{arith, refl, ◌%◌, ◌∙◌, ◌≡◌}
+use Rattle.mk_alloc.proofs.Below.Words.Sweeping.{other_step_sweeps, step_then_sweeps}
 use Rattle.mk_core.proofs.PhaseTests.{in_word, not_in_word}
 use Rattle.mk_heap.proofs.BegunHosts.{taken_then_sweeps}
 use Rattle.mk_heap.proofs.Overs.{HasLooked, finished, found_none, found_one, host_has, looked_idle, phase_found}
 use Rattle.mk_heap.proofs.{HomeCallers.taken_phase, ending.take_idle_turn.Goals.After-look-found}
-use Rattle.mk_turns.proofs.Sweeping.{other_step_sweeps, step_then_sweeps}
 use Rattle.mk_heap.proofs.ending.take_idle_turn.Goals as goal
 
 -- The host took the turn, and looked at the phase.

@@ -1,5 +1,5 @@
 use Rattle.mk_laws.proofs.Vocabulary.{arith}
-use Rattle.mk_heap.proofs.ClientSteps.{may_clear}
+use Rattle.mk_run.proofs.Below.Heaps.ClientSteps.{may_clear}
 use Rattle.mk_heap_tests.proofs.gates.clear.Goals as goal
 
 pub clear-requires-clause-admitted : goal.clear-requires-clause-admitted

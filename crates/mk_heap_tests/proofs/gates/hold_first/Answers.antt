@@ -1,7 +1,7 @@
 use Rattle.mk_laws.proofs.Vocabulary.{Host, Seat, ap, arith, is_number_of, subst, sym, ◌<◌, ◌∙◌, ◌≡◌}
 use Rattle.mk_heap_tests.proofs.Vocabulary.{PassState, WordsState}
-use Rattle.mk_cycle.proofs.HoldingSteps.{hold_allowed}
-use Rattle.mk_heap.proofs.{ClientSteps.pass_of_later, Overs.fresh_free}
+use Rattle.mk_run.proofs.{Below.Cycles.HoldingSteps.hold_allowed, Below.Heaps.ClientSteps.pass_of_later}
+use Rattle.mk_run.proofs.Below.Heaps.Overs.{fresh_free}
 use Rattle.mk_heap_tests.proofs.{JoinedHosts.none_is_held_at, JoinedHosts.pass_of, LateMarkers.host_may}
 use Rattle.mk_heap_tests.proofs.gates.hold_first.Goals as goal
 

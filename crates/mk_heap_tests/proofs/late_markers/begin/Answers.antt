@@ -1,5 +1,5 @@
 use Rattle.mk_core.proofs.PhaseTests.{not_in_word}
-use Rattle.mk_heap.proofs.Overs.{HasLooked, looked_idle}
+use Rattle.mk_run.proofs.Below.Heaps.Overs.{HasLooked, looked_idle}
 use Rattle.mk_heap_tests.proofs.LateMarkers.{host_may, looked_table, marking}
 use Rattle.mk_heap_tests.proofs.late_markers.begin.Goals.{After-look-found}
 use Rattle.mk_heap_tests.proofs.late_markers.begin.Goals as goal

@@ -1,4 +1,4 @@
-use Rattle.mk_laws.proofs.Vocabulary.{arith, cases_lt}
+use Rattle.mk_words.proofs.Below.Laws.Vocabulary.{arith, cases_lt}
 use Rattle.mk_marker.proofs.Looking.{looked_at_none, looked_on, sees_then}
 use Rattle.mk_marker.proofs.cells.find_between.Goals as goal
 

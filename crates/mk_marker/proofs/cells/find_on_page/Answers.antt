@@ -1,4 +1,4 @@
-use Rattle.mk_laws.proofs.Vocabulary.{ℕ, has_bit, subst, sym, true, ◌∙◌, ◌≡◌}
+use Rattle.mk_words.proofs.Below.Laws.Vocabulary.{ℕ, has_bit, subst, sym, true, ◌∙◌, ◌≡◌}
 use Rattle.mk_marker.proofs.Looking.{a_cell, no_cell_yet, nothing_to_scan, two_looks}
 use Rattle.mk_marker.proofs.cells.find_on_page.Goals as goal
 

@@ -1,5 +1,5 @@
 use Rattle.std.proofs.{Common.w64, Math.Facts.Fits-lt-pow, lemmas.Nat.Bits.bit_at-trailing_zeros}
-use Rattle.mk_laws.proofs.Vocabulary.{ℕ, ap, arith, bit_at, eq-eqb, ◌<◌, ◌^◌, ◌∙◌}
+use Rattle.mk_words.proofs.Below.Laws.Vocabulary.{ℕ, ap, arith, bit_at, eq-eqb, ◌<◌, ◌^◌, ◌∙◌}
 use Rattle.mk_marker.proofs.cells.lowest_bit.Goals as goal
 
 pub returns : goal.returns

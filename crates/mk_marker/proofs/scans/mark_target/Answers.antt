@@ -1,4 +1,4 @@
-use Rattle.mk_laws.proofs.Vocabulary.{refl}
+use Rattle.mk_words.proofs.Below.Laws.Vocabulary.{refl}
 use Rattle.mk_marker.proofs.Scanned.{goes_once, goes_then}
 use Rattle.mk_marker.proofs.scans.mark_target.Goals as goal
 

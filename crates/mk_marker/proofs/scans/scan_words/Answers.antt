@@ -1,4 +1,4 @@
-use Rattle.mk_laws.proofs.Vocabulary.{arith}
+use Rattle.mk_words.proofs.Below.Laws.Vocabulary.{arith}
 use Rattle.mk_marker.proofs.{Did.still_of, Scanned.goes_nowhere, Scanned.goes_then}
 use Rattle.mk_marker.proofs.scans.scan_words.Goals as goal
 

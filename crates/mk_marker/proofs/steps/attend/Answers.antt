@@ -1,4 +1,4 @@
-use Rattle.mk_laws.proofs.Vocabulary.{Step}
+use Rattle.mk_words.proofs.Below.Laws.Vocabulary.{Step}
 use Rattle.mk_marker.proofs.Moving.{known_phase, moves}
 use Rattle.mk_marker.proofs.steps.attend.Goals as goal
 

@@ -1,4 +1,4 @@
-use Rattle.mk_laws.proofs.Vocabulary.{subst, sym, ◌<◌}
+use Rattle.mk_words.proofs.Below.Laws.Vocabulary.{subst, sym, ◌<◌}
 use Rattle.mk_marker.proofs.Moving.{blackened, moved}
 use Rattle.mk_words.specs.States.{WordsState}
 use Rattle.mk_marker.proofs.steps.blacken.Goals as goal

@@ -1,7 +1,7 @@
 use Rattle.mk_laws.proofs.Vocabulary.{arith, subst, sym, true, ◌<◌}
 use Rattle.mk_run.proofs.{Vocabulary.PassState, ScriptCalls.{makes_none, none_then_answers, stays_admitted_after}}
 use Rattle.mk_run.proofs.KeptScripts.{beside_keeps}
-use Rattle.mk_caller.specs.States.{caller_of_pass}
+use Rattle.mk_heap.specs.Below.Callers.States.{caller_of_pass}
 use Rattle.mk_run.proofs.answers.answer_to.Goals as goal
 
 pub answer_now-requires-clause-admitted : goal.answer_now-requires-clause-admitted

@@ -1,5 +1,5 @@
 use Rattle.mk_laws.proofs.Vocabulary.{false, ◌≡◌}
-use Rattle.mk_marker.specs.Markers.{attends}
+use Rattle.mk_heap.specs.Below.Markers.Markers.{attends}
 use Rattle.mk_run.proofs.marking.mark_until_over.Given as goal
 
 abbrev pub invariant-cycles : goal.invariant-cycles

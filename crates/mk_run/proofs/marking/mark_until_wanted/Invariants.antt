@@ -1,5 +1,5 @@
 use Rattle.mk_laws.proofs.Vocabulary.{true, ◌≡◌}
-use Rattle.mk_marker.specs.Markers.{attends}
+use Rattle.mk_heap.specs.Below.Markers.Markers.{attends}
 use Rattle.mk_run.proofs.marking.mark_until_wanted.Given as goal
 
 abbrev pub invariant-cells : goal.invariant-cells

@@ -4,8 +4,7 @@ use Rattle.mk_run.proofs.PutOff.{IsAnsweredAs, answered_at_once, answered_later,
 use Rattle.mk_run.proofs.ScriptCalls.{asked_stays_admitted, exists_on, follows_now, refused_within, runs_on, seat_is}
 use Rattle.mk_run.proofs.{ScriptCalls.then_seen, scripts.run_script.Goals.{In-None, In-Some, Joined-answer_at_once}}
 use Rattle.mk_run.{proofs.scripts.run_script.Goals.{in-None, in-Some-answer_at_once}, specs.Scripts.{script_of}}
-use Rattle.mk_cycle.proofs.Begun.{nothing_begun}
-use Rattle.mk_turns.proofs.Sweeping.{nothing_sweeps}
+use Rattle.mk_heap.proofs.{Below.Cycles.Begun.nothing_begun, Below.Words.Sweeping.nothing_sweeps}
 use Rattle.mk_run.proofs.scripts.run_script.Goals as goal
 
 -- the script's next operation is admitted

@@ -1,5 +1,5 @@
 use Rattle.mk_sweep.proofs.Vocabulary.{BlacksMore, PageIsBlack, SweepsOn, still_words}
-use Rattle.mk_laws.proofs.Vocabulary.{ℕ, [], ◌<◌}
+use Rattle.mk_cycle.proofs.Below.Laws.Vocabulary.{ℕ, [], ◌<◌}
 use Rattle.mk_sweep.proofs.blackening.blacken_all.Given as goal
 
 abbrev pub invariant-loop-page : goal.invariant-loop-page

@@ -1,6 +1,6 @@
 use Rattle.mk_sweep.proofs.{Vocabulary.{has_bit, still_words}, Blacks.{blacks_same, blacks_then, cells_then}}
 use Rattle.mk_sweep.proofs.{Blacks.{closed_kept, may_turn}, SweepSteps.{quiet_then, sweeps_from}}
-use Rattle.mk_laws.proofs.Vocabulary.{arith, slice_index, true, ◌∙◌, ◌≡◌}
+use Rattle.mk_cycle.proofs.Below.Laws.Vocabulary.{arith, slice_index, true, ◌∙◌, ◌≡◌}
 use Rattle.mk_sweep.proofs.blackening.blacken_cells.Goals as goal
 
 pub loop-index-init : goal.loop-index-init

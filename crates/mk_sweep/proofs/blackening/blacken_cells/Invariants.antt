@@ -1,5 +1,5 @@
 use Rattle.mk_sweep.proofs.Vocabulary.{BlacksMore, SweepsOn, has_bit, still_words}
-use Rattle.mk_laws.proofs.Vocabulary.{ℕ, slice_index, true, [], ◌<◌, ◌≡◌}
+use Rattle.mk_cycle.proofs.Below.Laws.Vocabulary.{ℕ, slice_index, true, [], ◌<◌, ◌≡◌}
 use Rattle.mk_sweep.proofs.blackening.blacken_cells.Given as goal
 
 abbrev pub invariant-loop-index : goal.invariant-loop-index

@@ -1,6 +1,6 @@
 use Rattle.mk_sweep.proofs.Vocabulary.{BlacksMore, CellsAreClosed, Words, cells_under, header_in, header_of}
 use Rattle.mk_sweep.proofs.{Vocabulary.still_words, SweepSteps.quiet_then}
-use Rattle.mk_laws.proofs.Vocabulary.{ap, subst, sym, ◌∙◌}
+use Rattle.mk_cycle.proofs.Below.Laws.Vocabulary.{ap, subst, sym, ◌∙◌}
 use Rattle.mk_sweep.proofs.blackening.blacken_page.Goals as goal
 
 pub blacken_cells-requires-clause-count : goal.blacken_cells-requires-clause-count

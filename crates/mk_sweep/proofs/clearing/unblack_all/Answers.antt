@@ -1,7 +1,7 @@
 use Rattle.mk_sweep.proofs.{Vocabulary.still_words, SweepSteps.{on_unblack, quiet_then, sweeps_from}}
-use Rattle.mk_laws.proofs.Vocabulary.{arith, slice_index, ◌≡◌}
-use Rattle.mk_tracing.proofs.Clearing.{black_cleared, blacks_cleared, blacks_same, blacks_then, pages_then}
-use Rattle.mk_tracing.proofs.{MaySteps.may_unblack_page, Stilled.unblack_words}
+use Rattle.mk_cycle.proofs.{Below.Laws.Vocabulary.{arith, slice_index, ◌≡◌}, Clearing.{black_cleared, blacks_cleared}}
+use Rattle.mk_cycle.proofs.{Clearing.{blacks_same, blacks_then, pages_then}, MaySteps.may_unblack_page}
+use Rattle.mk_cycle.proofs.Stilled.{unblack_words}
 use Rattle.mk_sweep.proofs.clearing.unblack_all.Goals as goal
 
 pub loop-page-init : goal.loop-page-init

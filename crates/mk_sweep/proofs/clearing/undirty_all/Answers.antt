@@ -1,8 +1,8 @@
 use Rattle.mk_sweep.proofs.{Vocabulary.still_words, SweepSteps.{on_undirty, quiet_then, sweeps_from}}
 use Rattle.mk_sweep.proofs.WordLists.{head_is_near}
-use Rattle.mk_laws.proofs.Vocabulary.{arith, slice_index, ◌≡◌}
-use Rattle.mk_tracing.proofs.Clearing.{dirt_cleared, dirty_cleared, dirty_same, dirty_then, pages_then}
-use Rattle.mk_tracing.proofs.{MaySteps.may_undirty_page, Stilled.undirty_words}
+use Rattle.mk_cycle.proofs.{Below.Laws.Vocabulary.{arith, slice_index, ◌≡◌}, Clearing.{dirt_cleared, dirty_cleared}}
+use Rattle.mk_cycle.proofs.{Clearing.{dirty_same, dirty_then, pages_then}, MaySteps.may_undirty_page}
+use Rattle.mk_cycle.proofs.Stilled.{undirty_words}
 use Rattle.mk_sweep.proofs.clearing.undirty_all.Goals as goal
 
 pub loop-page-init : goal.loop-page-init

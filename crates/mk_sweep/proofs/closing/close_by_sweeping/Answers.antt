@@ -1,7 +1,7 @@
 use Rattle.mk_sweep.proofs.Vocabulary.{CellsAreClosed, PageIsBlack, PointWell, TurnState, WordsState, still_words}
 use Rattle.mk_sweep.proofs.{Vocabulary.words_below, SweptMarks.{SweepsInStop, closes, sweeping_behind, sweeps}}
 use Rattle.mk_sweep.proofs.{Kept.ready_of, closing.close_by_sweeping.Goals.After-sweep_in_stop}
-use Rattle.mk_laws.proofs.Vocabulary.{ℕ, ap, arith, length, slice_index, subst, sym, ◌<◌, ◌∙◌, ◌≡◌}
+use Rattle.mk_cycle.proofs.Below.Laws.Vocabulary.{ℕ, ap, arith, length, slice_index, subst, sym, ◌<◌, ◌∙◌, ◌≡◌}
 use Rattle.mk_sweep.proofs.closing.close_by_sweeping.Goals as goal
 
 pub want_and_wait-requires-clause-ready : goal.want_and_wait-requires-clause-ready

@@ -1,5 +1,5 @@
 use Rattle.mk_sweep.proofs.Vocabulary.{PointWell, SweepsOn, Words, still_words, words_below}
-use Rattle.mk_laws.proofs.Vocabulary.{List, ℕ, ap, length, slice_index, subst, sym, ◌∙◌}
+use Rattle.mk_cycle.proofs.Below.Laws.Vocabulary.{List, ℕ, ap, length, slice_index, subst, sym, ◌∙◌}
 use Rattle.mk_sweep.proofs.Closed.{closed_behind, well_when_black}
 use Rattle.mk_sweep.proofs.{Blacks.closed_kept, SweepSteps.quiet_then, SweepSteps.then_quiet}
 use Rattle.mk_sweep.proofs.closing.sweep_in_stop.Goals as goal

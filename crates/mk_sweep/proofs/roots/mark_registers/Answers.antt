@@ -1,6 +1,5 @@
-use Rattle.mk_laws.proofs.Vocabulary.{arith}
+use Rattle.mk_cycle.proofs.{Below.Laws.Vocabulary.arith, MoreMarks.{more_same, more_then}, RootMarks.registers_then}
 use Rattle.mk_sweep.proofs.SweepSteps.{quiet_then, sweeps_from}
-use Rattle.mk_tracing.proofs.{MoreMarks.more_same, MoreMarks.more_then, RootMarks.registers_then}
 use Rattle.mk_sweep.proofs.roots.mark_registers.Goals as goal
 
 pub loop-caller-init : goal.loop-caller-init

@@ -1,4 +1,4 @@
-use Rattle.mk_laws.proofs.Vocabulary.{refl}
+use Rattle.mk_cycle.proofs.Below.Laws.Vocabulary.{refl}
 use Rattle.mk_sweep.proofs.RootSteps.{next_root_swept, no_root_swept}
 use Rattle.mk_sweep.proofs.roots.mark_registers_of.Goals as goal
 

@@ -1,4 +1,4 @@
-use Rattle.mk_laws.proofs.Vocabulary.{Word}
+use Rattle.mk_cycle.proofs.Below.Laws.Vocabulary.{Word}
 use Rattle.mk_sweep.proofs.RootSteps.{RootsSwept}
 use Rattle.mk_sweep.proofs.roots.mark_registers_of.Given as goal
 

@@ -1,5 +1,5 @@
 use Rattle.mk_sweep.proofs.SweepSteps.{quiet_then}
-use Rattle.mk_tracing.proofs.RootMarks.{all_roots_well}
+use Rattle.mk_cycle.proofs.RootMarks.{all_roots_well}
 use Rattle.mk_sweep.proofs.roots.mark_roots.Goals as goal
 
 pub returns-clause-on : goal.returns-clause-on

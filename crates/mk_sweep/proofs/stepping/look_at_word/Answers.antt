@@ -1,7 +1,6 @@
 use Rattle.mk_sweep.proofs.Vocabulary.{IsScannedWord, WordsState, world_of}
-use Rattle.mk_laws.proofs.Vocabulary.{Word, refl, subst, sym}
+use Rattle.mk_cycle.proofs.{Below.Laws.Vocabulary.{Word, refl, subst, sym}, MaySteps.may_look, Stilled.look_finds}
 use Rattle.mk_sweep.proofs.SweepSteps.{on_word, word_in_hand, word_named}
-use Rattle.mk_tracing.proofs.{MaySteps.may_look, Stilled.look_finds}
 use Rattle.mk_sweep.proofs.stepping.look_at_word.Goals as goal
 
 pub look-requires-clause-enabled : goal.look-requires-clause-enabled

@@ -1,6 +1,5 @@
 use Rattle.mk_sweep.proofs.{Vocabulary.{IsEnabledTo, Step}, SweepSteps.{may_mark_reached, on_mark, reached_within}}
-use Rattle.mk_laws.proofs.Vocabulary.{subst, sym}
-use Rattle.mk_tracing.proofs.Stilled.{mark_words}
+use Rattle.mk_cycle.proofs.{Below.Laws.Vocabulary.{subst, sym}, Stilled.mark_words}
 use Rattle.mk_sweep.proofs.stepping.mark_cell.Goals as goal
 
 pub bit-requires : goal.bit-requires

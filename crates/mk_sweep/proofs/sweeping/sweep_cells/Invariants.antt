@@ -1,5 +1,5 @@
 use Rattle.mk_sweep.{proofs.Vocabulary.{words_of_cells}, specs.Sweeping.{SweepsWords}}
-use Rattle.mk_laws.proofs.Vocabulary.{length, ◌*◌, ◌≡◌, ◌≤◌}
+use Rattle.mk_cycle.proofs.Below.Laws.Vocabulary.{length, ◌*◌, ◌≡◌, ◌≤◌}
 use Rattle.mk_sweep.proofs.sweeping.sweep_cells.Given as goal
 
 abbrev pub invariant-loop-index : goal.invariant-loop-index

@@ -1,6 +1,6 @@
 use Rattle.std.proofs.lemmas.List.FromFn.{length-range_with_len}
 use Rattle.mk_sweep.{proofs.{Vocabulary.words_if, SweptWords.no_words}, specs.Sweeping.{SweepsWords}}
-use Rattle.mk_laws.proofs.Vocabulary.{Bool, ap, length, subst, sym}
+use Rattle.mk_cycle.proofs.Below.Laws.Vocabulary.{Bool, ap, length, subst, sym}
 use Rattle.mk_sweep.proofs.sweeping.sweep_if_used.Goals as goal
 
 pub returns-then-not-used-clause-sweeps : goal.returns-then-not-used-clause-sweeps

@@ -1,7 +1,7 @@
 use Rattle.mk_sweep.proofs.Vocabulary.{Words, has_no_pointers, header_at, header_in, header_of, still_words, used_at}
 use Rattle.mk_sweep.proofs.{Vocabulary.words_on, SweptWords.{quiet_words, same_words, words_then}}
 use Rattle.mk_sweep.proofs.WordLists.{words_of_bare}
-use Rattle.mk_laws.proofs.Vocabulary.{ap, length, sym, ◌∙◌}
+use Rattle.mk_cycle.proofs.Below.Laws.Vocabulary.{ap, length, sym, ◌∙◌}
 use Rattle.mk_sweep.proofs.sweeping.sweep_page.Goals as goal
 
 pub returns-then-has_no_pointers-clause-sweeps : goal.returns-then-has_no_pointers-clause-sweeps

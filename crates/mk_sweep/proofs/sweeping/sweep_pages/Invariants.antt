@@ -1,5 +1,5 @@
 use Rattle.mk_sweep.{proofs.Vocabulary.{still_words, words_below}, specs.Sweeping.{SweepsWords}}
-use Rattle.mk_laws.proofs.Vocabulary.{length, ◌*◌, ◌≡◌, ◌≤◌}
+use Rattle.mk_cycle.proofs.Below.Laws.Vocabulary.{length, ◌*◌, ◌≡◌, ◌≤◌}
 use Rattle.mk_sweep.proofs.sweeping.sweep_pages.Given as goal
 
 abbrev pub invariant-loop-page : goal.invariant-loop-page

@@ -1,9 +1,9 @@
 use Rattle.mk_sweep.proofs.Vocabulary.{SweepsOn, Words, WordsState, now_of, pointed_cell, still_words}
-use Rattle.mk_laws.proofs.Vocabulary.{Some, ap, sym, [], ◌∙◌, ◌≡◌}
+use Rattle.mk_cycle.proofs.{Below.Laws.Vocabulary.{Some, ap, sym, [], ◌∙◌, ◌≡◌}, MoreMarks.{marks_length, more_same}}
+use Rattle.mk_cycle.proofs.MoreMarks.{then_more, then_well}
 use Rattle.mk_core.proofs.PointedPages.{pointed_within}
 use Rattle.mk_sweep.proofs.SweepSteps.{hand_kept, may_look_at_headers, quiet_then, sweeps_for_cell, words_for_cell}
 use Rattle.mk_sweep.proofs.values.mark_value.Goals.{After-cell_pointed, After-is_marked}
-use Rattle.mk_tracing.proofs.MoreMarks.{marks_length, more_same, then_more, then_well}
 use Rattle.mk_sweep.proofs.values.mark_value.Goals as goal
 
 pub cell_pointed-requires-clause-may : goal.cell_pointed-requires-clause-may

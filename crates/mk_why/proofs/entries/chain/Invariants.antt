@@ -1,5 +1,5 @@
 use Rattle.mk_why.proofs.Vocabulary.{AreWays, BeginApart, Config, IsLedBack, IsWay, View}
-use Rattle.mk_laws.proofs.Vocabulary.{ℕ}
+use Rattle.mk_sweep.proofs.Below.Laws.Vocabulary.{ℕ}
 use Rattle.mk_why.proofs.entries.chain.Given as goal
 
 abbrev pub invariant-loop-link : goal.invariant-loop-link

@@ -1,5 +1,5 @@
 use Rattle.mk_why.proofs.{Vocabulary.AreEntriesBelow, MadeEntries.{entries_more, no_entries}}
-use Rattle.mk_laws.proofs.Vocabulary.{ap, arith, length, subst, ◌∙◌, ◌≡◌}
+use Rattle.mk_sweep.proofs.Below.Laws.Vocabulary.{ap, arith, length, subst, ◌∙◌, ◌≡◌}
 use Rattle.mk_why.proofs.entries.list_entries.Goals as goal
 
 pub loop-base-init : goal.loop-base-init

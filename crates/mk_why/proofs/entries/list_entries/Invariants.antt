@@ -1,5 +1,5 @@
 use Rattle.mk_why.proofs.Vocabulary.{AreEntriesBelow, Config, IsTold, View, entry_at}
-use Rattle.mk_laws.proofs.Vocabulary.{None, ℕ, [], ◌≡◌}
+use Rattle.mk_sweep.proofs.Below.Laws.Vocabulary.{None, ℕ, [], ◌≡◌}
 use Rattle.mk_why.proofs.entries.list_entries.Given as goal
 
 abbrev pub invariant-loop-base : goal.invariant-loop-base

@@ -1,5 +1,5 @@
 use Rattle.mk_why.{proofs.{Vocabulary.{Found, Storage, entry_at}, MadeEntries.read_at}, specs.Entries.{IsMadeOf}}
-use Rattle.mk_laws.proofs.Vocabulary.{Option, arith, subst, sym, ◌≡◌}
+use Rattle.mk_sweep.proofs.Below.Laws.Vocabulary.{Option, arith, subst, sym, ◌≡◌}
 use Rattle.mk_why.proofs.entries.push_entry.Goals as goal
 
 pub returns-clause-more : goal.returns-clause-more

@@ -1,6 +1,6 @@
 use Rattle.mk_why.proofs.{Vocabulary.view_by, Lists.{IsKeptCell, cells_more, has_kept_at, kept_at, lists_cell}}
 use Rattle.mk_why.proofs.{Lists.{lists_nothing, lists_then}, listing.list_cells.Goals.After-has_bit-in-loop-index}
-use Rattle.mk_laws.proofs.Vocabulary.{ℕ, arith, sym, true, ◌∙◌, ◌≡◌}
+use Rattle.mk_sweep.proofs.Below.Laws.Vocabulary.{ℕ, arith, sym, true, ◌∙◌, ◌≡◌}
 use Rattle.mk_why.proofs.listing.list_cells.Goals as goal
 
 pub loop-index-init : goal.loop-index-init

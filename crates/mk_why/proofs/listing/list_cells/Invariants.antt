@@ -1,6 +1,6 @@
 use Rattle.mk_why.proofs.Vocabulary.{IsListed, ListsOn, base_at, cell_of_allocation, is_kept, placed_at, view_by}
 use Rattle.mk_why.proofs.Vocabulary.{world_in}
-use Rattle.mk_laws.proofs.Vocabulary.{ℕ, true, ◌<◌, ◌≡◌}
+use Rattle.mk_sweep.proofs.Below.Laws.Vocabulary.{ℕ, true, ◌<◌, ◌≡◌}
 use Rattle.mk_why.proofs.listing.list_cells.Given as goal
 
 abbrev pub invariant-loop-index : goal.invariant-loop-index

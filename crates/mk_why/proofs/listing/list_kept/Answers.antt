@@ -1,7 +1,7 @@
 use Rattle.mk_why.proofs.Vocabulary.{IsListed, ListsOn, View, base_at, cell_of_allocation, is_kept, placed_at, view_by}
 use Rattle.mk_why.proofs.{Vocabulary.world_in, Lists.{kept_page, lists_nothing, lists_then, none_listed, pages_more}}
 use Rattle.mk_why.proofs.Looks.{looks_at_nothing, looks_then}
-use Rattle.mk_laws.proofs.Vocabulary.{ℕ, arith, subst, true, ◌∙◌, ◌≡◌}
+use Rattle.mk_sweep.proofs.Below.Laws.Vocabulary.{ℕ, arith, subst, true, ◌∙◌, ◌≡◌}
 use Rattle.mk_why.proofs.listing.list_kept.Goals as goal
 
 pub loop-page-init : goal.loop-page-init

@@ -1,6 +1,6 @@
 use Rattle.mk_why.proofs.Vocabulary.{IsListed, ListsOn, LooksWhileStill, base_at, cell_of_allocation, is_kept}
 use Rattle.mk_why.proofs.Vocabulary.{placed_at, view_by, world_in}
-use Rattle.mk_laws.proofs.Vocabulary.{ℕ, true, ◌<◌, ◌≡◌}
+use Rattle.mk_sweep.proofs.Below.Laws.Vocabulary.{ℕ, true, ◌<◌, ◌≡◌}
 use Rattle.mk_why.proofs.listing.list_kept.Given as goal
 
 abbrev pub invariant-loop-page : goal.invariant-loop-page

@@ -1,6 +1,6 @@
 use Rattle.mk_why.proofs.Vocabulary.{AreOfKept, IsListed, ListsOn, View, base_at, cell_of_allocation, header_at}
 use Rattle.mk_why.proofs.{Vocabulary.{is_kept, placed_at, world_in}, Lists.snapshot_read, Looks.looks_then}
-use Rattle.mk_laws.proofs.Vocabulary.{ℕ, ap, slice_index, subst, sym, true, ◌*◌, ◌+◌, ◌^◌, ◌∙◌, ◌≡◌}
+use Rattle.mk_sweep.proofs.Below.Laws.Vocabulary.{ℕ, ap, slice_index, subst, sym, true, ◌*◌, ◌+◌, ◌^◌, ◌∙◌, ◌≡◌}
 use Rattle.mk_why.proofs.listing.list_page.Goals as goal
 
 pub list_cells-requires-clause-header : goal.list_cells-requires-clause-header

@@ -1,6 +1,6 @@
 use Rattle.mk_why.proofs.{Vocabulary.view_by, Explored.{found_by, noted_by}, Pointed.begins_at}
 use Rattle.mk_why.proofs.{Searches.{Notes, grows_nothing, notes}, searching.note_value.Goals.After-note}
-use Rattle.mk_laws.proofs.Vocabulary.{arith}
+use Rattle.mk_sweep.proofs.Below.Laws.Vocabulary.{arith}
 use Rattle.mk_why.proofs.searching.note_value.Goals as goal
 
 pub returns-in_default-clause-noted : goal.returns-in_default-clause-noted

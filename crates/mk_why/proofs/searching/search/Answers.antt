@@ -1,6 +1,6 @@
 use Rattle.mk_why.proofs.Vocabulary.{AreWays, IsFound, IsSearched, View, view_by, word_of_root}
 use Rattle.mk_why.proofs.{Searches.{empty_search, noted_stays, view_search}, Explored.explored, Looks.looks_then}
-use Rattle.mk_laws.proofs.Vocabulary.{ℕ, subst}
+use Rattle.mk_sweep.proofs.Below.Laws.Vocabulary.{ℕ, subst}
 use Rattle.mk_why.proofs.searching.search.Goals as goal
 
 pub search_roots-requires-clause-search : goal.search_roots-requires-clause-search

@@ -2,7 +2,7 @@ use Rattle.mk_why.proofs.Vocabulary.{IsFirstWord, IsSearch, IsSearched, Searches
 use Rattle.mk_why.proofs.Scans.{done_from, entry_read, links_there, one_more_fits, queue_read, queued_base}
 use Rattle.mk_why.proofs.{Scans.queued_within, Searches.{looks_search, part_noted, through_stays, view_search}}
 use Rattle.mk_why.{proofs.searching.search_from.Goals.{After-index-base, In-Some}, specs.Searching.{AreScannedFrom}}
-use Rattle.mk_laws.proofs.Vocabulary.{Some, arith, length, refl, slice_index, subst, sym, ◌+◌, ◌<◌, ◌≡◌}
+use Rattle.mk_sweep.proofs.Below.Laws.Vocabulary.{Some, arith, length, refl, slice_index, subst, sym, ◌+◌, ◌<◌, ◌≡◌}
 use Rattle.mk_why.proofs.searching.search_from.Goals as goal
 
 -- the base at this place of the queue

@@ -1,7 +1,7 @@
 use Rattle.mk_why.proofs.{Vocabulary.{IsSearch, IsSearched, links_of, view_by}, Explored.{all_done, done_more}}
 use Rattle.mk_why.proofs.{Explored.near_next, Searches.{grows_nothing, grows_then, limit_of, view_search}}
 use Rattle.mk_why.proofs.Looks.{looks_at_nothing, looks_then}
-use Rattle.mk_laws.proofs.Vocabulary.{ℕ, arith, slice_index, ◌+◌, ◌<◌}
+use Rattle.mk_sweep.proofs.Below.Laws.Vocabulary.{ℕ, arith, slice_index, ◌+◌, ◌<◌}
 use Rattle.mk_why.proofs.searching.search_queue.Goals as goal
 
 pub loop-place-init : goal.loop-place-init

@@ -1,5 +1,5 @@
 use Rattle.mk_why.proofs.Vocabulary.{FindsMore, IsSearch, IsSearched, LooksWhileStill, links_of, view_by}
-use Rattle.mk_laws.proofs.Vocabulary.{ℕ, slice_index, ◌*◌, ◌+◌, ◌-◌, ◌<◌, ◌≤◌}
+use Rattle.mk_sweep.proofs.Below.Laws.Vocabulary.{ℕ, slice_index, ◌*◌, ◌+◌, ◌-◌, ◌<◌, ◌≤◌}
 use Rattle.mk_why.proofs.searching.search_queue.Given as goal
 
 abbrev pub invariant-loop-place : goal.invariant-loop-place

@@ -1,7 +1,7 @@
 use Rattle.mk_why.proofs.Vocabulary.{IsNoted, IsWay, PointsIntoAllocation, Start, View, is_still_word, is_word}
 use Rattle.mk_why.proofs.{Vocabulary.{named_word, view_by, world_in}, Explored.{root_is_still, root_is_word}}
 use Rattle.mk_why.proofs.{Explored.root_named, Searches.{looks_search, part_noted, view_search}}
-use Rattle.mk_laws.proofs.Vocabulary.{ap, refl, subst, sym, ◌∙◌}
+use Rattle.mk_sweep.proofs.Below.Laws.Vocabulary.{ap, refl, subst, sym, ◌∙◌}
 use Rattle.mk_why.proofs.searching.search_root.Goals as goal
 
 pub look_at-value-requires-clause-word : goal.look_at-value-requires-clause-word

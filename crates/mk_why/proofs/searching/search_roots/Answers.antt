@@ -1,5 +1,5 @@
 use Rattle.mk_why.proofs.Vocabulary.{IsNoted, view_by, word_of_root}
-use Rattle.mk_laws.proofs.Vocabulary.{ap, arith, subst, sym, ◌∙◌, ◌≡◌}
+use Rattle.mk_sweep.proofs.Below.Laws.Vocabulary.{ap, arith, subst, sym, ◌∙◌, ◌≡◌}
 use Rattle.mk_why.proofs.Searches.{root_noted, searches_nothing, searches_then, view_search}
 use Rattle.mk_why.proofs.{Explored.numbered_root, Explored.root_at, searching.search_roots.Goals.After-root_numbered}
 use Rattle.mk_why.specs.{Chains.IsRoot, Searching.root_numbered}

@@ -1,5 +1,5 @@
 use Rattle.mk_why.{proofs.Vocabulary.{IsNoted, SearchesOn, view_by, word_of_root}, specs.Searching.{root_numbered}}
-use Rattle.mk_laws.proofs.Vocabulary.{ℕ, ◌<◌}
+use Rattle.mk_sweep.proofs.Below.Laws.Vocabulary.{ℕ, ◌<◌}
 use Rattle.mk_why.proofs.searching.search_roots.Given as goal
 
 abbrev pub invariant-loop-number : goal.invariant-loop-number

@@ -1,7 +1,7 @@
 use Rattle.mk_why.proofs.Vocabulary.{IsNoted, IsWay, Link, PointsIntoAllocation, View, view_by, world_in}
 use Rattle.mk_why.proofs.Searches.{looks_search, more_noted, part_noted, searches_nothing, searches_then, through_stays}
 use Rattle.mk_why.proofs.{Searches.view_search, Explored.onward_way, Looks.looks_then}
-use Rattle.mk_laws.proofs.Vocabulary.{arith, slice_index, subst, sym, ◌*◌, ◌+◌, ◌∙◌, ◌≡◌}
+use Rattle.mk_sweep.proofs.Below.Laws.Vocabulary.{arith, slice_index, subst, sym, ◌*◌, ◌+◌, ◌∙◌, ◌≡◌}
 use Rattle.mk_why.proofs.searching.search_words.Goals as goal
 
 pub loop-i-init : goal.loop-i-init

@@ -1,5 +1,5 @@
 use Rattle.mk_why.proofs.Vocabulary.{IsNoted, SearchesOn, view_by}
-use Rattle.mk_laws.proofs.Vocabulary.{ℕ, slice_index, ◌+◌, ◌<◌}
+use Rattle.mk_sweep.proofs.Below.Laws.Vocabulary.{ℕ, slice_index, ◌+◌, ◌<◌}
 use Rattle.mk_why.proofs.searching.search_words.Given as goal
 
 abbrev pub invariant-loop-i : goal.invariant-loop-i

@@ -1,6 +1,5 @@
 use Rattle.mk_why.proofs.{Vocabulary.{WordsState, is_word}, Looks.{look_admitted, look_enabled, look_on, wanted_now}}
-use Rattle.mk_laws.proofs.Vocabulary.{subst, sym, true, ◌≡◌}
-use Rattle.mk_tracing.proofs.Stilled.{look_finds}
+use Rattle.mk_sweep.proofs.{Below.Laws.Vocabulary.{subst, sym, true, ◌≡◌}, Below.Cycles.Stilled.look_finds}
 use Rattle.mk_why.proofs.stepping.look_at.Goals as goal
 
 pub look-requires-clause-enabled : goal.look-requires-clause-enabled

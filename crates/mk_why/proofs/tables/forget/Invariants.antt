@@ -1,4 +1,4 @@
-use Rattle.mk_laws.proofs.Vocabulary.{None, ℕ, length, slice_index_or, ◌<◌, ◌≡◌}
+use Rattle.mk_sweep.proofs.Below.Laws.Vocabulary.{None, ℕ, length, slice_index_or, ◌<◌, ◌≡◌}
 use Rattle.mk_why.proofs.tables.forget.Given as goal
 
 abbrev pub invariant-loop-place : goal.invariant-loop-place

@@ -2,7 +2,7 @@ use Rattle.std.proofs.Math.Nat.{mul-le-mul}
 use Rattle.mk_why.proofs.{Vocabulary.{Cell, LooksWhileStill, now_of, view_by}, Looks.{looks_for_cell, looks_then}}
 use Rattle.mk_why.proofs.{Looks.may_look_at_headers, Pointed.{none_at, none_at_unused, some_at_used}}
 use Rattle.mk_why.proofs.values.base_pointed.Goals.{After-cell_pointed, In-Some}
-use Rattle.mk_laws.proofs.Vocabulary.{None, Option, arith, lt-ltb, pointed_cell, ◌*◌, ◌<◌, ◌≡◌, ◌≤◌}
+use Rattle.mk_sweep.proofs.Below.Laws.Vocabulary.{None, Option, arith, lt-ltb, pointed_cell, ◌*◌, ◌<◌, ◌≡◌, ◌≤◌}
 use Rattle.mk_core.proofs.PointedPages.{pointed_within}
 use Rattle.mk_why.proofs.values.base_pointed.Goals as goal
 

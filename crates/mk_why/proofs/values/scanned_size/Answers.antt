@@ -1,4 +1,4 @@
-use Rattle.mk_laws.proofs.Vocabulary.{arith, lt-ltb, sym, ◌/◌, ◌∙◌}
+use Rattle.mk_sweep.proofs.Below.Laws.Vocabulary.{arith, lt-ltb, sym, ◌/◌, ◌∙◌}
 use Rattle.mk_why.proofs.Pointed.{bare_at, begins_at, scanned_at, whole_at, within_at}
 use Rattle.mk_why.proofs.values.scanned_size.Goals as goal
 

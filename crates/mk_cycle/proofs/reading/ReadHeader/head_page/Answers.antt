@@ -1,4 +1,4 @@
-use Rattle.mk_laws.proofs.Vocabulary.{Header, Option, ℕ, arith, head_page_under, ◌-◌, ◌≡◌}
+use Rattle.mk_words.proofs.Below.Laws.Vocabulary.{Header, Option, ℕ, arith, head_page_under, ◌-◌, ◌≡◌}
 use Rattle.mk_cycle.specs.ReadHeaders.{distance_under}
 use Rattle.mk_cycle.proofs.reading.ReadHeader.head_page.Goals as goal
 

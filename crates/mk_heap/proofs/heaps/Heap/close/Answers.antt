@@ -1,4 +1,4 @@
-use Rattle.mk_laws.proofs.Vocabulary.{ap, subst, sym, ◌∙◌}
+use Rattle.mk_alloc.proofs.Below.Laws.Vocabulary.{ap, subst, sym, ◌∙◌}
 use Rattle.mk_heap.proofs.{Ended.{HasAllHome, ends_counted, ends_whole, home}, HostsKept.{home_host, home_is}}
 use Rattle.mk_heap.proofs.{HostsKept.{home_view, is_home}, heaps.Heap.close.Goals.After-is_in_order}
 use Rattle.mk_heap.specs.Hosts.{AllAreJoined, HostState}

@@ -1,4 +1,4 @@
-use Rattle.mk_laws.proofs.Vocabulary.{subst, sym, ◌<◌}
+use Rattle.mk_alloc.proofs.Below.Laws.Vocabulary.{subst, sym, ◌<◌}
 use Rattle.mk_heap.proofs.HostsKept.{caller_out_is_host, home_is, home_view, is_home, joined_is_idle, still_host}
 use Rattle.mk_heap.specs.Hosts.{HostState}
 use Rattle.mk_heap.proofs.hosts.Host.caller_again.Goals as goal

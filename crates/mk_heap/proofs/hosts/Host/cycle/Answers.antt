@@ -1,13 +1,13 @@
-use Rattle.mk_laws.proofs.Vocabulary.{None, arith, refl, subst, sym, ◌∙◌}
-use Rattle.mk_cycle.specs.{Begun.EachIsBegun, EngineLaw.IsAtPhase}
+use Rattle.mk_alloc.proofs.Below.Laws.Vocabulary.{None, arith, refl, subst, sym, ◌∙◌}
+use Rattle.mk_alloc.proofs.Below.Words.Sweeping.{other_step_sweeps, sweeps_then}
+use Rattle.mk_alloc.specs.{Below.Cycles.Begun.EachIsBegun, Below.Cycles.EngineLaw.IsAtPhase}
+use Rattle.mk_alloc.specs.{Below.Words.Sweeping.SweepsNothing, Below.Words.Taking.TakesTurn}
+use Rattle.mk_alloc.specs.Below.Words.States.{PassState}
 use Rattle.mk_heap.proofs.{HomeCallers.{hosts_seat, none_by_phase, step_overs}, MovedHosts.{MovesOn, begin_moves}}
 use Rattle.mk_heap.proofs.MovedHosts.{finish_moves, idle_moves, moved_is_host, moves_more, taken_own}
 use Rattle.mk_heap.proofs.Overs.{cycle_idle, give_allowed, given_no_turn, given_phase, idle_may_give}
 use Rattle.mk_heap.proofs.{BegunHosts.{cycle_begun, idle_then_sweeps}, HostsKept.{home_is, home_view, is_home}}
 use Rattle.mk_heap.{proofs.hosts.Host.cycle.Goals.{After-finish_cycle-turn}, specs.Hosts.{HostState}}
-use Rattle.mk_turns.{proofs.Sweeping.{other_step_sweeps, sweeps_then}, specs.Sweeping.{SweepsNothing}}
-use Rattle.mk_waiting.specs.Taking.{TakesTurn}
-use Rattle.mk_words.specs.States.{PassState}
 use Rattle.mk_heap.proofs.hosts.Host.cycle.Goals as goal
 
 pub give-back-requires-clause-enabled : goal.give-back-requires-clause-enabled

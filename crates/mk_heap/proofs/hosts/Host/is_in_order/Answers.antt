@@ -1,4 +1,4 @@
-use Rattle.mk_laws.proofs.Vocabulary.{IsHistory, IsTidy, subst}
+use Rattle.mk_alloc.proofs.Below.Laws.Vocabulary.{IsHistory, IsTidy, subst}
 use Rattle.mk_heap.{proofs.HostsKept.home_is, proofs.HostsKept.home_view, specs.Hosts.HostState}
 use Rattle.mk_heap.proofs.hosts.Host.is_in_order.Goals as goal
 

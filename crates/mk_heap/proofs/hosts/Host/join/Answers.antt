@@ -1,9 +1,8 @@
-use Rattle.mk_laws.proofs.Vocabulary.{ap, subst, sym, ◌∙◌}
+use Rattle.mk_alloc.proofs.Below.Laws.Vocabulary.{ap, subst, sym, ◌∙◌}
+use Rattle.mk_alloc.specs.{Below.Words.Sweeping.SweepsNothing, Below.Words.Seats.has_over, Below.Words.States.PassState}
 use Rattle.mk_core.specs.Growing.{Grows}
 use Rattle.mk_heap.proofs.{HostsKept.{home_host, home_is, home_view, is_home, joined_is_host}, BegunHosts.grown_sweeps}
 use Rattle.mk_heap.{proofs.HomeCallers.{joined_overs}, specs.Hosts.{HostState, with_joined}}
-use Rattle.mk_turns.specs.Sweeping.{SweepsNothing}
-use Rattle.mk_words.specs.{Seats.has_over, States.PassState}
 use Rattle.mk_heap.proofs.hosts.Host.join.Goals as goal
 
 pub invariant_of-self : goal.invariant_of-self

@@ -1,11 +1,11 @@
-use Rattle.mk_laws.proofs.Vocabulary.{Host, Seat, ap, refl, subst, ◌∙◌, ◌≡◌}
+use Rattle.mk_alloc.proofs.Below.Laws.Vocabulary.{Host, Seat, ap, refl, subst, ◌∙◌, ◌≡◌}
+use Rattle.mk_alloc.specs.{Below.Words.Sweeping.SweepsNothing, Below.Words.Seats.{Has, has_over}}
+use Rattle.mk_alloc.specs.Below.Words.States.{PassState}
 use Rattle.mk_heap.proofs.{HomeCallers.{hosts_seat, step_overs, taken_overs}, MovedHosts.{moved_is_host, moves_more}}
 use Rattle.mk_heap.proofs.{MovedHosts.{taken_own, turn_moves}, Overs.{give_allowed, given_no_turn, look_admitted}}
 use Rattle.mk_heap.proofs.{Overs.{look_tidy, looked_may_give}, BegunHosts.{given_sweeps, taken_then_sweeps}}
 use Rattle.mk_heap.proofs.{HostsKept.{home_is, home_view, is_home}, hosts.Host.tell.Goals.After-take_turn-turn}
 use Rattle.mk_heap.specs.Hosts.{HostState}
-use Rattle.mk_turns.specs.Sweeping.{SweepsNothing}
-use Rattle.mk_words.specs.{Seats.{Has, has_over}, States.PassState}
 use Rattle.mk_heap.proofs.hosts.Host.tell.Goals as goal
 
 -- The turn is the host's.

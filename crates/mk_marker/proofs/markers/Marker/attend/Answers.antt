@@ -1,4 +1,4 @@
-use Rattle.mk_laws.proofs.Vocabulary.{subst}
+use Rattle.mk_words.proofs.Below.Laws.Vocabulary.{subst}
 use Rattle.mk_core.proofs.PhaseTests.{not_in_word}
 use Rattle.mk_marker.{proofs.Worked.finds_phase, specs.Working.FindsPhase}
 use Rattle.mk_words.specs.States.{PassState}

@@ -1,5 +1,5 @@
 use Rattle.std.proofs.{Common.rules, lemmas.Grind.common_steps}
-use Rattle.mk_laws.proofs.Vocabulary.{arith}
+use Rattle.mk_sweep.proofs.Below.Laws.Vocabulary.{arith}
 use Rattle.mk_why.proofs.Counts.{none_counted}
 use Rattle.mk_why.proofs.tables.Tables.new.Goals as goal
 

@@ -1,5 +1,5 @@
 use Rattle.std.proofs.lemmas.List.{get_or_read_under}
-use Rattle.mk_laws.proofs.Vocabulary.{None, ap, arith, is_some, length, refl, sym, ◌∙◌}
+use Rattle.mk_sweep.proofs.Below.Laws.Vocabulary.{None, ap, arith, is_some, length, refl, sym, ◌∙◌}
 use Rattle.mk_why.proofs.Counts.{room_left}
 use Rattle.mk_why.proofs.tables.Tables.note.Goals as goal
 

@@ -1,4 +1,4 @@
-use Rattle.mk_laws.proofs.Vocabulary.{arith, ◌≡◌}
+use Rattle.mk_sweep.proofs.Below.Laws.Vocabulary.{arith, ◌≡◌}
 use Rattle.mk_why.proofs.Looks.{law_kept, looks_then, still_closed, sweepless_kept}
 use Rattle.mk_why.proofs.{Counts.of_state, Pointed.apart, Telling.told_by, Telling.told_of}
 use Rattle.mk_why.proofs.why.WhyEngine.close_marks.Goals as goal

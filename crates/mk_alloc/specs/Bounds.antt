@@ -1,0 +1,82 @@
+-- How much memory quarantine takes, at each moment at which nobody holds the turn.
+use Rattle.std.specs.Prelude.{◌≡◌, ℕ, ◌+◌, ◌*◌, ◌<◌, ◌≤◌, Bool, true, false, List, [], ◌∷◌, ◌++◌}
+use Rattle.mk_geom.specs.StorageWords.{IsWordOf}
+use Rattle.mk_core.specs.{declared.config.Config.Config, declared.events.Event.Event}
+use Rattle.mk_core.specs.declared.events.Seat.TheVariants.{Caller, Host}
+use Rattle.mk_core.specs.Allocations.{fresh_words_of, held_by_allocations, is_mapped, placed_at, storage_of}
+use Rattle.mk_core.specs.{Cycles.{At, is_begin, is_give, is_release}, Growing.AreOfOthers, History.{IsHistory, left}}
+use Rattle.mk_caller.specs.{Below.Laws.UnmappedRuns.is_resident_in, Below.Laws.Promises.AtEachMoment}
+use Rattle.mk_alloc.specs.{GivenBack.given_back, KeptAllocations.{KeptAreTouched, QuarantineIsFreshOrKept, kept_mapped}}
+use Rattle.mk_alloc.specs.KeptAllocations.{quarantined_mapped}
+use Rattle.mk_alloc.specs.TurnCycles.{TurnsOfAreExact, has_step}
+
+-- the words that are held after a list of events, and those of objects that were freed since the last `begin`
+
+abbrev pub held_after : Config → List Event → ℕ
+held_after c es = held_by_allocations c (left c es).allocations
+
+abbrev pub fresh_after : Config → List Event → ℕ
+fresh_after c es = fresh_words_of c (left c es).allocations
+
+-- It holds after each front of the list that leaves the turn to nobody.
+abbrev pub WhereTurnIsFree : (Config → List Event → Type 0) → Config → List Event → Type 0
+WhereTurnIsFree claim c es =
+    (front more : List Event) → es ≡ front ++ more → (left c front).now.words.turn ≡ 0 → claim c front
+
+-- What was freed since the last `begin` is at most a quarter of what is held and was given back since,
+abbrev pub FreshIsQuarterWithGivenBack : Config → List Event → Type 0
+FreshIsQuarterWithGivenBack c es = 4 * fresh_after c es ≤ held_after c es + given_back c es
+
+-- and of what is held alone
+abbrev pub FreshIsQuarterOfHeld : Config → List Event → Type 0
+FreshIsQuarterOfHeld c es = 4 * fresh_after c es ≤ held_after c es
+
+-- where each `release` since the last `begin` stands in the turn of that `begin`: no turn is given back between them.
+abbrev pub ReleasesInTurnOfBegin : List Event → Type 0
+ReleasesInTurnOfBegin es =
+    (b : At is_begin es) → has_step is_begin b.behind ≡ false → (r : At is_release b.behind)
+    → has_step is_give r.before ≡ false
+
+abbrev pub FreshIsQuarterWhereReleasedInTurn : Config → List Event → Type 0
+FreshIsQuarterWhereReleasedInTurn c es = ReleasesInTurnOfBegin es → FreshIsQuarterOfHeld c es
+
+-- So all that quarantine holds in memory is at most a quarter of the same, and what was freed before the last `begin`.
+abbrev pub QuarantineIsQuarterAndKept : Config → List Event → Type 0
+QuarantineIsQuarterAndKept c es =
+    4 * quarantined_mapped c (left c es).allocations
+    ≤ held_after c es + given_back c es + 4 * kept_mapped c (left c es).allocations
+
+-- No page of a freed large allocation is resident.
+abbrev pub FreedRunsTakeNoMemory : Config → List Event → Type 0
+FreedRunsTakeNoMemory c es =
+    (number page : ℕ) → (placed_at (left c es).allocations number).released ≡ false
+    → is_mapped c (placed_at (left c es).allocations number) ≡ false
+    → IsWordOf (storage_of c (placed_at (left c es).allocations number)) (64 * page)
+    → is_resident_in (left c es) page ≡ false
+
+-- What quarantine costs in a history; `on` says whether cycles go on after the calls that begin them.
+pub record QuarantineIsBounded (on : Bool) (c : Config) (es : List Event) : Type 0 where
+  -- A quarter: of what is held and was given back, and of what is held alone where no `release` came in a later turn
+  -- than its `begin`; so always where calls end the cycles that they begin.
+  pub with_given_back : WhereTurnIsFree FreshIsQuarterWithGivenBack c es
+  pub released_in_turn : WhereTurnIsFree FreshIsQuarterWhereReleasedInTurn c es
+  pub of_held : on ≡ false → WhereTurnIsFree FreshIsQuarterOfHeld c es
+  -- In quarantine: what was freed since the last `begin`, and what the last cycle kept, since pointers led to it.
+  pub quarantined : AtEachMoment QuarantineIsFreshOrKept c es
+  pub kept : AtEachMoment KeptAreTouched c es
+  pub in_memory : WhereTurnIsFree QuarantineIsQuarterAndKept c es
+  -- Large ones hold no memory.
+  pub large : WhereTurnIsFree FreedRunsTakeNoMemory c es
+
+-- No caller steps after a `begin` of the host.
+abbrev pub HostBeginsLast : Config → List Event → Type 0
+HostBeginsLast c es =
+    (before : List Event) (e : Event) (behind : List Event) → es ≡ before ++ e ∷ behind → is_begin e.step ≡ true
+    → e.seat ≡ Host → (k : ℕ) → k < c.callers → AreOfOthers (Caller k ∷ []) behind
+
+-- So it is in each history in which the turns of callers are exact, and the host begins no cycle before their end.
+abbrev pub QuarantinesAreBounded : Type 0
+QuarantinesAreBounded =
+    (on : Bool) (c : Config) (es : List Event) → IsHistory c es
+    → ((k : ℕ) → k < c.callers → TurnsOfAreExact on c (Caller k) es) → HostBeginsLast c es
+    → QuarantineIsBounded on c es

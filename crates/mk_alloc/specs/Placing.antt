@@ -1,0 +1,147 @@
+-- Placing the object of a New: what is asked, and what comes of it.
+use Rattle.std.specs.Prelude.{◌≡◌, ℕ, ◌%◌, ◌^◌, ◌⊎◌, ◌==◌, ◌&&◌, Bool, true, false, List, [], ◌∷◌, ◌++◌, Option, Some}
+use Rattle.std.specs.Prelude.{None}
+use Rattle.mk_geom.specs.{declared.pages.Page.Page, declared.pages.Place.Place, Addresses.address_of}
+use Rattle.mk_core.specs.{declared.config.Config.Config, declared.events.Answer.Answer, declared.events.Seat.Seat}
+use Rattle.mk_core.specs.{declared.events.Seat.TheVariants.Caller, declared.events.Step.Step}
+use Rattle.mk_core.specs.{declared.seats.Flight.Flight, declared.seats.Object.Object}
+use Rattle.mk_core.specs.{declared.seats.Placing.TheVariants.{Unplaced, Granted}, Accesses.caller_number}
+use Rattle.mk_core.specs.{Allocations.{PlacedAllocation, held_by_allocations, type_made}, Calls.d_of}
+use Rattle.mk_core.specs.{Decided.{Decided, entry_of}, Frames.{CountsAreLeft, Steady, steady_of}, History.{World, left}}
+use Rattle.mk_core.specs.{Moments.{Moment, flight_of}, NewPlaces.{base_made, bits_made, is_undecided_new, object_made}}
+use Rattle.mk_core.specs.{Placement.place_after, Words.{phase_of, register_word}, TurnConditions.place_now}
+use Rattle.mk_caller.specs.{Below.Words.States.{PassState, call_of, now_of, world_of}, Below.Words.Doing.Does}
+use Rattle.mk_caller.specs.Below.Words.Sweeping.{SweepsNothing}
+use Rattle.mk_alloc.specs.{Entries.own_calls, declared.objects.Request.Request, Serving.{Carving, IsCellReady}}
+use Rattle.mk_alloc.specs.Unchanged.{IsAsLeft}
+use Rattle.mk_never.specs.declared.operations.Op.TheVariants as op
+use Rattle.mk_core.specs.declared.events.Answer.TheVariants as answer
+use Rattle.mk_core.specs.declared.events.Step.TheVariants as step
+use Rattle.mk_core.specs.declared.seats.Stage.TheVariants as stage
+
+-- No cycle is on, or one whose cells are being marked.
+abbrev pub IsOutOfStop : Moment → Type 0
+IsOutOfStop m = (phase_of m.words ≡ 0) ⊎ (phase_of m.words ≡ 1)
+
+-- The turn is for a New that isn't decided and has no place yet.
+pub record IsUnplaced (p : PassState) : Type 0 where
+  pub new : is_undecided_new (call_of p) ≡ true
+  pub placing : (now_of p).seats.holding.placing ≡ Unplaced
+  pub phase : IsOutOfStop (now_of p)
+
+-- It is for a New that requests this.
+pub record Requests (p : PassState) (request : Request) : Type 0 where
+  pub full : Bool
+  pub op : (call_of p).op ≡ op.New request.register request.ty full
+
+-- The tally of held words is that of the allocations.
+abbrev pub HeldIsExact : PassState → Type 0
+HeldIsExact p = (now_of p).words.held ≡ held_by_allocations p.table.config (world_of p).allocations
+
+-- the object that its New creates, and the place that first fit gives it now
+
+abbrev pub object_for : PassState → Object
+object_for p = object_made p.table.config (call_of p).op
+
+abbrev pub place_now_for : PassState → Option Place
+place_now_for p = place_after p.table.config p.seen (object_for p)
+
+-- kinds of step: looks, and those that serve a New besides
+
+abbrev pub is_look : Step → Bool
+is_look (step.Look x) = true
+is_look _ = false
+
+abbrev pub is_placing : Step → Bool
+is_placing (step.Look x) = true
+is_placing (step.Mark p v) = true
+is_placing (step.Head p v) = true
+is_placing (step.Used p v) = true
+is_placing step.Grant = true
+is_placing (step.Tally n v) = true
+is_placing _ = false
+
+-- Those that serve an object at its place: what is marked there are the cells that its first page has then.
+abbrev pub serves_at : Object → Place → Step → Bool
+serves_at o place (step.Mark page cells) = page == place.page && cells == bits_made o
+serves_at o place s = is_placing s
+
+-- The pass's seat did only steps of these kinds, which added these entries to its calls, and came to a world of this
+-- sort. No cycle has ended, and no call was answered Full.
+pub record ComesTo (kinds : Step → Bool) (p : PassState) (sort : World
+    → Type 0) (entries : List Decided) (q : PassState) : Type 0 where
+  pub same : q ≡ record p { seen = q.seen }
+  pub does : Does kinds p q
+  pub calls : own_calls p q.seen ≡ own_calls p p.seen ++ entries
+  pub world : sort (left p.table.config q.seen)
+  pub counts : CountsAreLeft p.table.config p.seen q.seen
+
+-- It only looked, and all that is the turn's holder's is as it was.
+abbrev pub OnlyLooks : PassState → PassState → Type 0
+OnlyLooks p q = ComesTo is_look p (IsAsLeft p.seat (world_of p)) [] q
+
+-- the object that a grant at a place adds to the allocations
+abbrev pub object_at_place : Config → Flight → Place → PlacedAllocation
+object_at_place c f place = record {
+  base = base_made (object_made c f.op) place;
+  ty = type_made f.op;
+  freed = false;
+  fresh = false;
+  released = false;
+}
+
+-- what none but the holder changes, with an allocation more and these pages and held words
+abbrev pub with_object : Steady → List Page → ℕ → PlacedAllocation → Steady
+with_object x pages held a = record x { pages = pages; held = held; allocations = x.allocations ++ a ∷ [] }
+
+-- Between these worlds the New was granted its object at this place: its call is decided, the object is an allocation
+-- more, its address is in the register, and all else that none but the holder changes, but pages and the tally of held
+-- words, is as it was.
+pub record IsGrantedAt (c : Config) (s : Seat) (place : Place) (w v : World) : Type 0 where
+  pub call : flight_of v.now s ≡ record (flight_of w.now s) { stage = stage.Give }
+  pub placing : v.now.seats.holding.placing ≡ Granted
+  pub steady : steady_of v
+      ≡ with_object (steady_of w) v.now.words.pages v.now.words.held (object_at_place c (flight_of w.now s) place)
+  pub register : (k : ℕ) → s ≡ Caller k → register_word v.now.words k (d_of (flight_of w.now s).op)
+      ≡ address_of (base_made (object_made c (flight_of w.now s).op) place) % 2 ^ 64
+
+-- The entry of the pass's call, where it is answered so.
+abbrev pub entry_for : PassState → Answer → List Decided
+entry_for p a = entry_of (caller_number p.seat) (call_of p).op (Some a)
+
+abbrev pub IsGranted : PassState → Place → PassState → Type 0
+IsGranted p place q = ComesTo (serves_at (object_for p) place) p (IsGrantedAt p.table.config p.seat place (world_of p))
+    (entry_for p answer.Done) q
+
+-- The object of the New was granted at its place, and the tally of held words is that of the allocations.
+pub record IsPlaced (p q : PassState) : Type 0 where
+  pub place : Place
+  pub fits : place_now_for p ≡ Some place
+  pub granted : IsGranted p place q
+  pub held : HeldIsExact q
+
+-- There is no place, and the pass only looked.
+pub record FitsNowhere (p q : PassState) : Type 0 where
+  pub nowhere : place_now_for p ≡ None
+  pub looks : OnlyLooks p q
+
+-- The New's object goes to this place.
+pub record GoesTo (p : PassState) (place : Place) : Type 0 where
+  pub unplaced : IsUnplaced p
+  pub goes : place_now p.table.config (now_of p) (call_of p) ≡ Some place
+
+-- The object was granted at the place, the tally of held words is that of the allocations, and nothing was swept.
+pub record IsServed (p : PassState) (place : Place) (q : PassState) : Type 0 where
+  pub granted : IsGranted p place q
+  pub held : HeldIsExact q
+  pub reached : SweepsNothing p q
+
+-- This many pages of the place have their headers; its cell may be taken.
+
+abbrev pub HasCarved : PassState → Place → ℕ → PassState → Type 0
+HasCarved p place n q = ComesTo (serves_at (object_for p) place) p
+    (λ w. Carving p.table.config p.seat (object_for p) place (world_of p) w n) [] q
+
+abbrev pub MayTake : PassState → Place → PassState → Type 0
+MayTake p place q = ComesTo (serves_at (object_for p) place) p
+    (IsCellReady p.table.config p.seat (object_for p) place (world_of p)) [] q

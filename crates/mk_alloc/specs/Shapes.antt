@@ -1,0 +1,25 @@
+-- The object of a shape, and what is known of it before it is served.
+use Rattle.std.specs.Prelude.{◌≡◌, ◌==◌, ℕ, Bool}
+use Rattle.mk_geom.specs.declared.pages.Place.{Place}
+use Rattle.mk_core.specs.{declared.seats.Object.Object, Calls.d_of, Words.{header_at, used_at}}
+use Rattle.mk_caller.specs.Below.Words.States.{PassState, WordsState, call_of, now_of}
+use Rattle.mk_alloc.specs.{declared.objects.Shape.Shape, Placing.{GoesTo, HeldIsExact, object_for}}
+
+abbrev pub object_shaped : Shape → Object
+object_shaped s = record { words = s.words; leaf = s.leaf }
+
+-- On these words the New's object, which has this shape, goes to this place.
+pub record ShapeGoesTo (w : WordsState) (p : PassState) (shape : Shape) (place : Place) : Type 0 where
+  pub one_table : p.table ≡ w
+  pub shaped : object_shaped shape ≡ object_for p
+  pub goes : GoesTo p place
+
+-- It may be served: this is its register, this the used word of its place's page, which is free or not. The tally of
+-- held words is exact.
+pub record MayServe (w : WordsState) (p : PassState) (d : ℕ) (shape : Shape) (place : Place) (n : ℕ) (free : Bool)
+    : Type 0 where
+  pub object : ShapeGoesTo w p shape place
+  pub register : d ≡ d_of (call_of p).op
+  pub used : n ≡ used_at (now_of p).words place.page
+  pub header : free ≡ (header_at (now_of p).words place.page == 0)
+  pub exact : HeldIsExact p

@@ -1,0 +1,145 @@
+//! Placing the object of a New.
+ghost use Rattle.std.specs.Prelude.{◌≡◌, ◌==◌, true, false};
+ghost use Rattle.mk_core.specs.{Calls.d_of, Words.{header_at, phase_of}};
+ghost use Rattle.mk_caller.specs.{Below.Words.States.{call_of, now_of}, Below.Words.Sweeping.SweepsNothing};
+ghost use Rattle.mk_alloc.specs.Placing.{FitsNowhere, HeldIsExact, IsPlaced, IsServed, IsUnplaced, MayTake, Requests};
+ghost use Rattle.mk_alloc.specs.{Placing.object_for, Shapes.{MayServe, ShapeGoesTo, object_shaped}};
+
+use crate::looking::{is_marking, look_at};
+use crate::objects::{Request, Shape, shape_of};
+use crate::seeking::{seek, seek_cell};
+use mk_core::{Tally, Word};
+use mk_geom::Place;
+use mk_caller::lower::words::{Turn, Words};
+
+/// Makes the free pages of the place a block, or a run. Where a cycle marks, the cells of the first page are marked
+/// before that.
+fn carve(words: &Words, turn: &mut Turn, shape: Shape, place: Place, marking: bool)
+    requires goes { ShapeGoesTo words.now turn.old.pass shape place }
+    requires free { header_at (now_of turn.old.pass).words place.page ≡ 0 }
+    requires marking { marking ≡ (phase_of (now_of turn.old.pass).words == 1) }
+    ensures ready { MayTake turn.old.pass place turn.new.pass }
+    ensures reached { SweepsNothing turn.old.pass turn.new.pass }
+{
+    let pages = shape.pages();
+    if marking {
+        turn.mark(words, place.page, shape.bits());
+    }
+    for distance in 0..pages {
+        turn.head(words, place.page + distance, shape.header_word(distance));
+    }
+}
+
+/// Makes the place's pages ready, where they are free.
+#[inline(always)]
+fn make_ready(words: &Words, turn: &mut Turn, shape: Shape, place: Place, free: bool, marking: bool)
+    requires goes { ShapeGoesTo words.now turn.old.pass shape place }
+    requires free { free ≡ (header_at (now_of turn.old.pass).words place.page == 0) }
+    requires marking { marking ≡ (phase_of (now_of turn.old.pass).words == 1) }
+    ensures ready { MayTake turn.old.pass place turn.new.pass }
+    ensures reached { SweepsNothing turn.old.pass turn.new.pass }
+{
+    if free {
+        carve(words, turn, shape, place, marking);
+    }
+}
+
+/// Gives the object its place, on a page with this used word, or on free pages.
+#[inline(always)]
+fn serve(
+    words: &Words,
+    turn: &mut Turn,
+    register: u8,
+    shape: Shape,
+    place: Place,
+    used: u64,
+    free: bool,
+    marking: bool,
+    held: u64,
+)
+    requires may { MayServe words.now turn.old.pass register shape place used free }
+    requires marking { marking ≡ (phase_of (now_of turn.old.pass).words == 1) }
+    requires held { held ≡ (now_of turn.old.pass).words.held }
+    ensures { IsServed turn.old.pass place turn.new.pass }
+{
+    make_ready(words, turn, shape, place, free, marking);
+    turn.used(words, place.page, used | 1 << place.index);
+    turn.grant(words, register, shape.address(place));
+    turn.tally(words, Tally::Held, held + shape.storage());
+}
+
+/// Gives the object its place, after a look at the tally of held words and one at the phase.
+#[inline(always)]
+fn serve_now(
+    words: &Words,
+    turn: &mut Turn,
+    register: u8,
+    shape: Shape,
+    place: Place,
+    used: u64,
+    free: bool,
+)
+    requires { MayServe words.now turn.old.pass register shape place used free }
+    ensures { IsServed turn.old.pass place turn.new.pass }
+{
+    let held = look_at(words, turn, Word::Held);
+    let marking = is_marking(words, turn);
+    serve(
+        words, turn, register, shape, place, used, free, marking, held,
+    );
+}
+
+/// Grants the object, which no block has a free cell for or which is large, at its place. Returns false where nothing
+/// fits. It isn't inlined: an object that goes into a block needs few registers without it.
+#[inline(never)]
+fn place_apart(words: &Words, turn: &mut Turn, register: u8, shape: Shape) -> bool
+    requires one_table { turn.old.pass.table ≡ words.now }
+    requires register { register ≡ d_of (call_of turn.old.pass).op }
+    requires shape { object_shaped shape ≡ object_for turn.old.pass }
+    requires unplaced { IsUnplaced turn.old.pass }
+    requires exact { HeldIsExact turn.old.pass }
+    ensures placed { result ≡ true → IsPlaced turn.old.pass turn.new.pass }
+    ensures nowhere { result ≡ false → FitsNowhere turn.old.pass turn.new.pass }
+    ensures reached { SweepsNothing turn.old.pass turn.new.pass }
+{
+    match seek(words, turn, shape) {
+        None => false,
+        Some(place) => {
+            let page = turn.page(place.page);
+            serve_now(
+                words,
+                turn,
+                register,
+                shape,
+                place,
+                page.used,
+                page.header == 0,
+            );
+            true
+        }
+    }
+}
+
+/// Grants the object of a New at its place. Returns false where nothing fits. It is inlined, so that no registers are
+/// saved for it.
+#[inline(always)]
+pub fn place_object(words: &Words, turn: &mut Turn, request: Request) -> bool
+    requires one_table { turn.old.pass.table ≡ words.now }
+    requires requested { Requests turn.old.pass request }
+    requires unplaced { IsUnplaced turn.old.pass }
+    requires exact { HeldIsExact turn.old.pass }
+    ensures placed { result ≡ true → IsPlaced turn.old.pass turn.new.pass }
+    ensures nowhere { result ≡ false → FitsNowhere turn.old.pass turn.new.pass }
+    ensures reached { SweepsNothing turn.old.pass turn.new.pass }
+{
+    let Request { register, ty } = request;
+    let shape = shape_of(words.types(), ty);
+    match seek_cell(words, turn, shape) {
+        None => place_apart(words, turn, register, shape),
+        Some(place) => {
+            let used = turn.page(place.page).used;
+            serve_now(words, turn, register, shape, place, used, false);
+            true
+        }
+    }
+}

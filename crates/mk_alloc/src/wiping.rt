@@ -1,0 +1,93 @@
+//! The words of the run of a large object that a Free has freed and unmapped are wiped. Most are 0 already, so those of
+//! a group are looked at together first. A word that is 0 isn't stored to.
+ghost use Rattle.std.specs.Prelude.{◌≡◌, ◌+◌, ◌*◌, ◌<◌, true};
+ghost use Rattle.mk_alloc.specs.{FreeParts.Wipes, Unmapping.{MayWipe, MayWipeFrom, MayWipeGroup, WipesTo}};
+
+use mk_core::{RunPages, Word};
+use mk_geom::PAGE_WORDS;
+use mk_caller::lower::words::{Turn, Words};
+
+/// The words of a page are groups of this many.
+const GROUP: u64 = 8;
+
+/// How many groups a page has.
+const PAGE_GROUPS: u64 = PAGE_WORDS / GROUP;
+
+/// Looks at a group of words of the run, which stand on this page of it. Returns true only where all are 0.
+#[inline(always)]
+fn are_zero(
+    words: &Words,
+    turn: &mut Turn,
+    pages: u64,
+    run: RunPages,
+    part: u64,
+    group: u64,
+) -> bool
+    requires { MayWipeGroup words.now turn.old.pass pages run part group }
+    ensures still { WipesTo turn.old.pass run (8 * group) turn.new.pass }
+    ensures zero { result ≡ true → WipesTo turn.old.pass run (8 * group + 8) turn.new.pass }
+{
+    words.is_within_limits();
+    let first = GROUP * group;
+    let mut all = 0;
+    for i in 0..GROUP {
+        let word = first + i;
+        let at = Word::Heap(PAGE_WORDS * run.page + word);
+        all |= turn.look_on_page(words, pages, run.page + part, at);
+    }
+    all == 0
+}
+
+/// Wipes a group of words of the run, which stand on this page of it. It isn't inlined, since few groups need it. It
+/// takes the group's number and not its first word, so the loop over groups keeps no word number beside an address.
+#[inline(never)]
+fn wipe_words(words: &Words, turn: &mut Turn, pages: u64, run: RunPages, part: u64, group: u64)
+    requires { MayWipeGroup words.now turn.old.pass pages run part group }
+    ensures { WipesTo turn.old.pass run (8 * group + 8) turn.new.pass }
+{
+    words.is_within_limits();
+    let first = GROUP * group;
+    for word in first..first + GROUP {
+        let at = Word::Heap(PAGE_WORDS * run.page + word);
+        let found = turn.look_on_page(words, pages, run.page + part, at);
+        if found != 0 {
+            turn.wipe(words, PAGE_WORDS * run.page + word);
+        }
+    }
+}
+
+/// Wipes what isn't 0 of a group of words of the run, which stand on this page of it.
+#[inline(always)]
+fn wipe_group(words: &Words, turn: &mut Turn, pages: u64, run: RunPages, part: u64, group: u64)
+    requires { MayWipeGroup words.now turn.old.pass pages run part group }
+    ensures { WipesTo turn.old.pass run (8 * group + 8) turn.new.pass }
+{
+    if are_zero(words, turn, pages, run, part, group) {
+        return;
+    }
+    wipe_words(words, turn, pages, run, part, group);
+}
+
+/// Wipes the words of a page of the run.
+#[inline(always)]
+fn wipe_page(words: &Words, turn: &mut Turn, pages: u64, run: RunPages, part: u64)
+    requires from { MayWipeFrom words.now turn.old.pass pages run (64 * part) }
+    requires part { part < run.count }
+    ensures { WipesTo turn.old.pass run (64 * part + 64) turn.new.pass }
+{
+    for group in PAGE_GROUPS * part..PAGE_GROUPS * part + PAGE_GROUPS {
+        wipe_group(words, turn, pages, run, part, group);
+    }
+}
+
+/// Wipes the words of the run that the call has freed and unmapped.
+pub(crate) fn wipe_run(words: &Words, turn: &mut Turn, run: RunPages)
+    requires one_table { turn.old.pass.table ≡ words.now }
+    requires may { MayWipe turn.old.pass run }
+    ensures { Wipes turn.old.pass run turn.new.pass }
+{
+    let pages = words.pages();
+    for part in 0..run.count {
+        wipe_page(words, turn, pages, run, part);
+    }
+}

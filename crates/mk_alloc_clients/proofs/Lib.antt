@@ -1,3 +1,0 @@
-mod NumberTurns
-mod Owned
-pub mod OwnedCalls

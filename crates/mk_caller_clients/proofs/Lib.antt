@@ -1,5 +1,0 @@
-pub mod Globals
-pub mod Sameness
-pub mod Beginnings
-pub mod Between
-pub mod Loading

@@ -1,0 +1,5 @@
+pub mod Clients
+pub mod Setters
+pub mod Laws
+pub mod Making
+pub mod Owned

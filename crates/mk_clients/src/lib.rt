@@ -1,0 +1,34 @@
+//! Small programs over the calls of the heap, which show that what each call asks is what earlier ones ensure, and that
+//! what they ensure is enough to say what a program gets back, whatever others do.
+//!
+//! Start with `lives`: a caller's whole life, in one thread; then `moves` and `numbers`.
+#![tactic(auto)]
+
+mod accesses;
+mod callers_at_once;
+mod calls;
+mod clearing;
+mod engines;
+mod hosts;
+mod laws;
+mod lives;
+mod making;
+mod markers;
+mod marking;
+mod moves;
+mod numbers;
+
+mod outcomes;
+mod side_by_side;
+mod stops;
+mod sweeps;
+mod turns;
+
+pub use callers_at_once::clear_at_once;
+pub use laws::owned_numbers_stay;
+pub use making::make_number;
+pub use moves::{first_register_is_null, moves_through_global, moves_through_memory, moves_through_registers};
+pub use moves::takes_out_of_global;
+pub use numbers::{load, number_in_new_object, store, store_and_load};
+pub use side_by_side::numbers_at_once;
+pub use outcomes::{Unfinished, Unmade};

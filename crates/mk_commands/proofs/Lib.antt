@@ -1,9 +1,0 @@
-pub mod Lexing
-pub mod Rows
-pub mod Walking
-pub mod Standing
-pub mod OptionWords
-pub mod Tells
-pub mod Taken
-pub mod Within
-pub mod Getting

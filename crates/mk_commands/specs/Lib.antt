@@ -1,4 +1,0 @@
-pub mod Given
-pub mod Commands
-pub mod Told
-pub mod Naming

@@ -1,0 +1,11 @@
+use Rattle.mk_words.proofs.Below.Laws.Vocabulary.{false, is_held, ◌≡◌}
+use Rattle.mk_cycle.specs.Beside.{GoesBeside, KeepsOtherGates}
+use Rattle.mk_cycle.proofs.gates.wait_and_hold.Given as goal
+use Rattle.mk_words.specs.States.{now_of}
+
+abbrev pub invariant-trying : goal.invariant-trying
+invariant-trying g l = record {
+  on : GoesBeside l.fn.turn l.turn;
+  others : KeepsOtherGates l.fn.caller l.fn.turn.pass l.turn.pass;
+  waits : is_held (now_of l.turn.pass).words l.fn.caller ≡ false;
+}

@@ -1,0 +1,5 @@
+use Rattle.mk_cycle.specs.{Noted.listed, Scans.Scans}
+use Rattle.mk_cycle.proofs.scanning.scan_few.Given as goal
+
+abbrev pub invariant-loop-i : goal.invariant-loop-i
+invariant-loop-i l = Scans l.table.pages l.fn.stop (listed l.fn.work) l.stop (listed l.work) l.gray.cell 0 l.i

@@ -1,0 +1,115 @@
+-- What the turn's holder marks beside callers and markers, while a cycle marks.
+use Rattle.std.specs.Prelude.{◌≡◌, ◌≢◌, ℕ, ◌<◌, Bool, true, false, ◌&&◌, ◌||◌, ◌==◌, not, List, [], ◌∷◌, length, drop}
+use Rattle.std.specs.List.{list_all, list_any}
+use Rattle.mk_core.specs.{declared.events.Event.Event, declared.events.Step.Step, declared.events.Word.Word}
+use Rattle.mk_core.specs.{Cells.points_well, Growing.Finding, Moments.{is_held, is_number_of}, Words.Words}
+use Rattle.mk_words.specs.States.{PassState, TurnState, WordsState, world_of, now_of, event_of}
+use Rattle.mk_words.specs.Doing.{Does, done_in}
+use Rattle.mk_cycle.specs.{Grays.TracesReached, Stops.is_root, Tracing.OwnStepsKeep}
+use Rattle.mk_cycle.specs.{EngineLaw.{IsFreeForCycle, IsAtPhase}, Holding.IsHeldOrOwn, Kinds.begins_marking}
+use Rattle.mk_cycle.specs.TurnKeeps.{LeavesTurn, unchanged}
+use Rattle.mk_core.specs.declared.events.Step.TheVariants as step
+use Rattle.mk_core.specs.declared.events.Word.TheVariants as word
+
+-- the events that a pass has seen after what it had seen
+abbrev pub seen_since : PassState → PassState → List Event
+seen_since p q = drop (length p.seen) q.seen
+
+-- what its seat did there, and what each step found
+abbrev pub done_since : PassState → PassState → List Finding
+done_since p q = done_in p (seen_since p q)
+
+-- looks at a root
+
+abbrev pub is_same_root : Word → Word → Bool
+is_same_root (word.Reg j r) (word.Reg k s) = (j == k) && (r == s)
+is_same_root (word.Global g) (word.Global h) = g == h
+is_same_root _ _ = false
+
+abbrev pub looks_at : Word → Step → Bool
+looks_at x (step.Look y) = is_same_root x y
+looks_at x _ = false
+
+abbrev pub looks_at_root : Step → Bool
+looks_at_root (step.Look x) = is_root x
+looks_at_root _ = false
+
+-- The seat looked at the root, from what the one pass had seen to what it has seen now.
+abbrev pub LooksAt : Word → PassState → PassState → Type 0
+LooksAt x p q = list_any (λ (f : Finding). looks_at x f.event.step) (done_since p q) ≡ true
+
+-- Each value that its looks found in roots points well now.
+
+abbrev pub found_well : ℕ → Words → Finding → Bool
+found_well pages w f = not (looks_at_root f.event.step) || points_well pages w f.found
+
+abbrev pub FoundPointsWell : PassState → PassState → Type 0
+FoundPointsWell p q = list_all (found_well p.table.config.pages (now_of q).words) (done_since p q) ≡ true
+
+-- Its marks are of what stood in a root, or in a cell that was marked.
+abbrev pub MarksReachedAlone : PassState → PassState → Type 0
+MarksReachedAlone p q = OwnStepsKeep TracesReached p.table.config p.seat (world_of p) (seen_since p q)
+
+-- What pointed well goes on doing so.
+abbrev pub StaysWell : PassState → PassState → Type 0
+StaysWell p q =
+    (u : ℕ) → points_well p.table.config.pages (now_of p).words u ≡ true
+    → points_well p.table.config.pages (now_of q).words u ≡ true
+
+-- The turn is free for a cycle, and the cycle that is on marks.
+pub record IsBeside (p : PassState) : Type 0 where
+  pub free : IsFreeForCycle p
+  pub marking : IsAtPhase p 1
+
+-- From one to the other its holder looked, marked, and held or opened gates.
+pub record MarksBeside (p q : PassState) : Type 0 where
+  pub does : Does begins_marking p q
+  pub keeps : LeavesTurn unchanged p q
+  pub reached : MarksReachedAlone p q
+  pub found : FoundPointsWell p q
+  pub well : StaysWell p q
+
+-- The same of a turn.
+pub record GoesBeside (t u : TurnState) : Type 0 where
+  pub table : u.pass.table ≡ t.pass.table
+  pub beside : IsBeside u.pass
+  pub marks : MarksBeside t.pass u.pass
+
+-- Its holder made one look at a root, which found this value. It is still to be marked.
+pub record FindsInRoot (x : Word) (n : ℕ) (t u : TurnState) : Type 0 where
+  pub table : u.pass.table ≡ t.pass.table
+  pub beside : IsBeside u.pass
+  pub does : Does begins_marking t.pass u.pass
+  pub keeps : LeavesTurn unchanged t.pass u.pass
+  pub reached : MarksReachedAlone t.pass u.pass
+  pub done : done_since t.pass u.pass ≡ record { event = event_of t.pass (step.Look x); found = n } ∷ []
+  pub well : StaysWell t.pass u.pass
+
+-- a word at which a look gives no hand
+abbrev pub gives_no_hand : Word → Bool
+gives_no_hand (word.Reg j r) = false
+gives_no_hand (word.Global g) = false
+gives_no_hand (word.Heap n) = false
+gives_no_hand _ = true
+
+-- A register is looked at while its caller's gate is held, or it is the holder's own.
+abbrev pub IsOpenToLook : PassState → Word → Type 0
+IsOpenToLook p x = (k r : ℕ) → x ≡ word.Reg k r → IsHeldOrOwn p k
+
+-- The other gates are held, or not, as they were.
+abbrev pub KeepsOtherGates : ℕ → PassState → PassState → Type 0
+KeepsOtherGates caller p q =
+    (j : ℕ) → j < p.table.config.callers → j ≢ caller → is_held (now_of q).words j ≡ is_held (now_of p).words j
+
+-- On these words, beside the callers, the gate of this other caller may be held or opened.
+pub record MaySetGate (w : WordsState) (p : PassState) (caller : ℕ) : Type 0 where
+  pub one_table : p.table ≡ w
+  pub beside : IsBeside p
+  pub within : caller < w.config.callers
+  pub another : is_number_of p.seat caller ≡ false
+
+-- The turn went on, and this gate is held then, or not. The others are as they were.
+pub record SetsGate (caller : ℕ) (held : Bool) (t u : TurnState) : Type 0 where
+  pub on : GoesBeside t u
+  pub others : KeepsOtherGates caller t.pass u.pass
+  pub set : is_held (now_of u.pass).words caller ≡ held

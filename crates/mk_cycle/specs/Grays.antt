@@ -1,0 +1,183 @@
+-- Gray cells, which are marked and not black, and what steps in the stop keep to.
+use Rattle.std.specs.Prelude.{◌≡◌, ◌≢◌, ◌⊎◌, ℕ, ◌+◌, ◌<◌, ◌≤◌, Bool, true, false, ⊤, slice_index, slice_set, bit_or}
+use Rattle.std.specs.Prelude.{bit_and, ◌^◌, Option, Some, if◌then◌else◌}
+use Rattle.mk_geom.specs.{declared.addresses.Cell.Cell, declared.headers.Header.Header}
+use Rattle.mk_core.specs.{declared.config.Config.Config, declared.events.Step.Step, declared.seats.Flight.Flight}
+use Rattle.mk_core.specs.{declared.seats.Hand.Hand, Bits.{has_bit, without}, Bounded.is_some_and}
+use Rattle.mk_core.specs.{Words.{Words, phase_of, register_word}, Cells.{header_in, head_page, cells_under, cell_bits}}
+use Rattle.mk_core.specs.Cells.{first_word, cell_words, is_marked, has_no_pointers, pointed_cell, points_well}
+use Rattle.mk_core.specs.{Cells.words_under, Cycles.{is_unmarked, sweeps}, Frames.OnlyGrow, Moments.Moment}
+use Rattle.mk_core.specs.StopConditions.{marks_by_hand}
+use Rattle.mk_words.specs.{States.{PassState, TurnState, now_of}, TurnSteps.IsStopped}
+use Rattle.mk_cycle.specs.{Stops.{HolderIsLoaded, IsWanted, hand_of, still_words}, Tracing.{Counted, Traces}}
+use Rattle.mk_cycle.specs.Tracing.{is_marking, is_waiting, is_want}
+use Rattle.mk_core.specs.declared.events.Step.TheVariants as step
+use Rattle.mk_core.specs.declared.events.Word.TheVariants as word
+
+abbrev pub is_black : Words → Cell → Bool
+is_black w cell = has_bit (slice_index w.blacks cell.page) cell.index
+
+-- a marked cell that isn't black
+pub record IsGray (pages : ℕ) (w : Words) (cell : Cell) : Type 0 where
+  pub page : cell.page < pages
+  pub index : cell.index < cells_under (header_in w cell.page)
+  pub marked : is_marked w cell ≡ true
+  pub not_black : is_black w cell ≡ false
+
+-- how many words of a cell under the header are scanned
+abbrev pub words_scanned : Option Header → ℕ
+words_scanned x = if has_no_pointers x then 0 else words_under x
+
+-- a word of a gray cell
+pub record IsGrayWord (pages : ℕ) (w : Words) (n : ℕ) : Type 0 where
+  pub cell : Cell
+  pub gray : IsGray pages w cell
+  pub least : first_word w cell ≤ n
+  pub below : n < first_word w cell + cell_words w cell
+
+-- The dirty word of the page is 1, or that of a page of the run headed there.
+pub record HasDirtyPart (w : Words) (page : ℕ) : Type 0 where
+  pub part : ℕ
+  pub dirty : slice_index w.dirty part ≡ 1
+  pub of : (part ≡ page) ⊎ (head_page w part ≡ page)
+
+-- A mark by the hand, whose value stood in a root or in a cell that was marked: no sweeping mark.
+pub record MarksReached (c : Config) (m : Moment) (page value : ℕ) : Type 0 where
+  pub by_hand : marks_by_hand c.pages m.words m.seats.holding.hand page value ≡ true
+  pub reached : is_some_and (λ (hand : Hand). is_unmarked hand.source) m.seats.holding.hand ≡ false
+
+-- Only words of gray cells are looked at, only what was reached is marked, and only what is dirty is looked at again.
+abbrev pub TracesReached : Config → Moment → Step → Type 0
+TracesReached c m (step.Look (word.Heap n)) = IsGrayWord c.pages m.words n
+TracesReached c m (step.Mark p v) = MarksReached c m p v
+TracesReached c m (step.Unblack p) = HasDirtyPart m.words p
+TracesReached c m _ = ⊤
+
+-- The stop goes on, its holder marks by these rules, and all else is as it was.
+pub record MarksOn (t u : TurnState) : Type 0 where
+  pub table : u.pass.table ≡ t.pass.table
+  pub wanted : IsWanted u.pass
+  pub traces : Traces is_marking TracesReached t.pass u.pass
+
+-- The stop goes on so, and the words are left.
+pub record LooksOn (t u : TurnState) : Type 0 where
+  pub on : MarksOn t u
+  pub words : still_words u.pass ≡ still_words t.pass
+
+-- The close is wanted, by this many steps between, and the holder looks until no marker is in, while the gates of all
+-- others are held. All else is as it was.
+pub record WaitsForMarkers (t u : TurnState) (wishes : ℕ) : Type 0 where
+  pub table : u.pass.table ≡ t.pass.table
+  pub ready : HolderIsLoaded u.pass
+  pub gates : IsStopped u.pass
+  pub phase : phase_of (now_of u.pass).words ≡ 2
+  pub traces : Counted is_waiting TracesReached is_want t.pass u.pass wishes
+
+-- The hand is this value, which stood in a root or in a marked cell.
+pub record IsInHand (p : PassState) (u : ℕ) : Type 0 where
+  pub hand : Hand
+  pub is : hand_of p ≡ Some hand
+  pub value : hand.value ≡ u
+  pub reached : is_unmarked hand.source ≡ false
+
+-- The hand points into the cell.
+pub record HandPointsInto (p : PassState) (cell : Cell) : Type 0 where
+  pub value : ℕ
+  pub in_hand : IsInHand p value
+  pub points : pointed_cell p.table.config.pages (still_words p).pages value ≡ Some cell
+
+-- The words with one of them changed: a page's mark or black word gets bits, or its black or dirty word is cleared.
+
+abbrev pub with_marks : ℕ → ℕ → Words → Words
+with_marks p bits w = record w { marks = slice_set w.marks p (bit_or (slice_index w.marks p) bits) }
+
+abbrev pub with_blacks : ℕ → ℕ → Words → Words
+with_blacks p bits w = record w { blacks = slice_set w.blacks p (bit_or (slice_index w.blacks p) bits) }
+
+abbrev pub without_blacks : ℕ → Words → Words
+without_blacks p w = record w { blacks = slice_set w.blacks p 0 }
+
+abbrev pub without_dirty : ℕ → Words → Words
+without_dirty p w = record w { dirty = slice_set w.dirty p 0 }
+
+-- Marks, and no others, are added.
+pub record MarksMore (w v : Words) : Type 0 where
+  pub is : v ≡ record w { marks = v.marks }
+  pub grow : OnlyGrow w.marks v.marks
+
+-- Marks and black bits, and no others, are added.
+pub record ColoursMore (w v : Words) : Type 0 where
+  pub is : v ≡ record w { marks = v.marks; blacks = v.blacks }
+  pub marks : OnlyGrow w.marks v.marks
+  pub blacks : OnlyGrow w.blacks v.blacks
+
+-- Marks are added, and one cell is blackened.
+pub record BlackensOne (w : Words) (cell : Cell) (v : Words) : Type 0 where
+  pub is : v ≡ record (with_blacks cell.page (2 ^ cell.index) w) { marks = v.marks }
+  pub grow : OnlyGrow w.marks v.marks
+
+-- The bits of a page that are marked and not black. A bit past its cells may be one of them.
+abbrev pub gray_bits : Words → ℕ → ℕ
+gray_bits w p = without (slice_index w.marks p) (slice_index w.blacks p)
+
+-- Each marked cell of the page is black.
+abbrev pub HasNoGray : Words → ℕ → Type 0
+HasNoGray w p = without (bit_and (slice_index w.marks p) (cell_bits w p)) (slice_index w.blacks p) ≡ 0
+
+-- Of a page with this many cells, each that is marked is black.
+abbrev pub AllAreBlack : ℕ → ℕ → ℕ → Type 0
+AllAreBlack count marks blacks = (k : ℕ) → k < count → has_bit marks k ≡ true → has_bit blacks k ≡ true
+
+-- What a caller's registers were points well now, and so does what a global was.
+
+abbrev pub RegistersAreWell : Config → PassState → PassState → ℕ → Type 0
+RegistersAreWell c p q k =
+    (r : ℕ) → r < 8 → points_well c.pages (still_words q) (register_word (still_words p) k r) ≡ true
+
+abbrev pub GlobalIsWell : Config → PassState → PassState → ℕ → Type 0
+GlobalIsWell c p q g = points_well c.pages (still_words q) (slice_index (still_words p).globals g) ≡ true
+
+-- What a word of a cell was points well now.
+abbrev pub WordIsWell : ℕ → PassState → PassState → Cell → ℕ → Type 0
+WordIsWell pages p q cell i =
+    points_well pages (still_words q)
+    (slice_index (still_words p).heap (first_word (still_words p) cell + i)) ≡ true
+
+-- Each register and each global points well.
+pub record RootsPointWell (pages : ℕ) (w : Words) : Type 0 where
+  pub registers : (i : ℕ) → points_well pages w (slice_index w.registers i) ≡ true
+  pub globals : (g : ℕ) → points_well pages w (slice_index w.globals g) ≡ true
+
+-- Where the page is dirty, nothing of it is black.
+pub record DirtyIsUnscanned (w : Words) (page : ℕ) : Type 0 where
+  pub own : slice_index w.dirty page ≢ 0 → slice_index w.blacks page ≡ 0
+  pub head : slice_index w.dirty page ≢ 0 → slice_index w.blacks (head_page w page) ≡ 0
+
+-- Black words, and no others, are cleared.
+pub record BlacksFewer (w v : Words) : Type 0 where
+  pub is : v ≡ record w { blacks = v.blacks }
+  pub fewer : (p : ℕ) → slice_index w.blacks p ≡ 0 → slice_index v.blacks p ≡ 0
+
+-- Dirty words, and no others, are cleared.
+pub record DirtyFewer (w v : Words) : Type 0 where
+  pub is : v ≡ record w { dirty = v.dirty }
+  pub fewer : (p : ℕ) → slice_index w.dirty p ≡ 0 → slice_index v.dirty p ≡ 0
+
+-- Black and dirty words, and no others, are cleared.
+pub record IsCleaner (w v : Words) : Type 0 where
+  pub is : v ≡ record w { blacks = v.blacks; dirty = v.dirty }
+  pub fewer : (p : ℕ) → slice_index w.dirty p ≡ 0 → slice_index v.dirty p ≡ 0
+
+-- No cell of the page is marked.
+abbrev pub IsUnmarked : Words → ℕ → Type 0
+IsUnmarked w p = (k : ℕ) → k < cells_under (header_in w p) → has_bit (slice_index w.marks p) k ≡ false
+
+-- No cell turns gray but for this one, where it was white.
+abbrev pub GraysOne : Words → Cell → Bool → Words → Type 0
+GraysOne w cell was_white v =
+    (pages : ℕ) (one : Cell) → IsGray pages v one → IsGray pages w one ⊎ ((was_white ≡ true) × (one ≡ cell))
+
+-- Such steps make no sweeping mark.
+abbrev pub ReachedMarksSweepNothing : Type 0
+ReachedMarksSweepNothing =
+    (c : Config) (m : Moment) (f : Flight) (s : Step) → TracesReached c m s → sweeps c m f s ≡ false

@@ -1,4 +1,0 @@
-pub mod Draws
-pub mod Generated
-pub mod GeneratedText
-pub mod Laws

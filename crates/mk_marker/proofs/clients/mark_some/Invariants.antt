@@ -1,9 +1,0 @@
-use Rattle.mk_laws.proofs.Vocabulary.{true, ◌≡◌}
-use Rattle.mk_marker.specs.Markers.{attends}
-use Rattle.mk_marker.proofs.clients.mark_some.Given as goal
-
-abbrev pub invariant-cells : goal.invariant-cells
-invariant-cells l = record {
-  attends : attends l.marker ≡ true;
-  pass : l.marker ≡ record l.initial.marker { seen = l.marker.seen };
-}

@@ -1,9 +1,0 @@
-use Rattle.mk_laws.proofs.Vocabulary.{is_run_gone, true, ◌≡◌}
-use Rattle.mk_objects.proofs.Vocabulary.{SetsGates, held_from, is_settling, now_of}
-use Rattle.mk_objects.proofs.gates.open_gates.Given as goal
-
-abbrev pub invariant-loop-caller : goal.invariant-loop-caller
-invariant-loop-caller l = record {
-  sets : SetsGates is_settling l.fn.turn.pass (held_from l.fn.turn.pass.seat l.caller) l.turn.pass;
-  gone : is_run_gone (now_of l.turn.pass).words (now_of l.turn.pass).seats.holding.freed ≡ true;
-}

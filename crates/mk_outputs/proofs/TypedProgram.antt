@@ -1,0 +1,62 @@
+-- The generated program is well typed.
+use Rattle.mk_outputs.proofs.Vocabulary.{Item, List, None, Number, Script, ℕ, all_names, arith, count_of_numbers}
+use Rattle.mk_outputs.proofs.Vocabulary.{declarations, draw, le-leb, next_state, refl, replicate, script_body, scripts}
+use Rattle.mk_outputs.proofs.Vocabulary.{suc, this_script, this_script-push, turns_of, zero, [], ◌++◌, ◌+◌, ◌<◌, ◌∷◌}
+use Rattle.mk_outputs.proofs.{Vocabulary.{◌≡◌, ◌≤◌}, ReadScripts.draw-lt, ReadText.numbers_some}
+use Rattle.mk_outputs.proofs.{TypedBody.body_is_typed, TypedLines.{go_on, typed_then}}
+use Rattle.mk_outputs.specs.Generated.{generated_program}
+use Rattle.mk_check.specs.{Blocks.before_next_script, Typing.Around, Typing.IsWellTyped, Typing.fault_from}
+use Rattle.mk_check.specs.{Typing.length_fault, Typing.offsets_fault, Typing.pointers_fault, Typing.typing_fault}
+
+none_before_scripts : (turns numbers x : ℕ) (names : List (List ℕ))
+    → before_next_script (scripts turns numbers x names) ≡ []
+none_before_scripts turns numbers x [] = refl
+none_before_scripts turns numbers x (name ∷ names) = refl
+
+length_fault-none : (count : ℕ) → count ≤ 1000000 → length_fault count ≡ None
+length_fault-none count small = rw (le-leb count 1000000 small) refl
+
+-- the first line of a script
+first_is_typed : (a : Around) (line turns number place : ℕ) (more : List Item) (name : List ℕ) → turns ≤ 62500
+    → before_next_script more ≡ [] → typing_fault a line (script_body turns number place ++ more) (Script name) ≡ None
+first_is_typed a line turns number place more name few none = grind (arith, length_fault-none)
+
+module _ (turns numbers : ℕ) (rest : List Item) (few : turns ≤ 62500) (some : 0 < numbers) where
+  program : List Item
+  program = declarations numbers ++ rest
+
+  scripts_are_typed : (names : List (List ℕ)) (x line : ℕ) (before : List Item)
+      → fault_from program line before (scripts turns numbers x names) ≡ None
+  unfolding program
+  scripts_are_typed [] x line before = refl
+  scripts_are_typed (name ∷ names) x line before =
+      let number = draw (next_state x) 1000 in
+      let behind = next_state (next_state x) in
+      let place = draw behind numbers in
+      let more = scripts turns numbers behind names in
+      let around : Around = record { program = program; script = this_script before } in
+      go_on line _ _ (first_is_typed around line turns number place more name few
+      (none_before_scripts turns numbers behind names)) (typed_then program [] (before ++ Script name ∷ [])
+      (script_body turns number place) more (line + 1) (this_script-push before (Script name))
+      (body_is_typed numbers turns number place rest (draw-lt behind numbers some))
+      (λ later. scripts_are_typed names behind later ((before ++ Script name ∷ []) ++ script_body turns number place)))
+
+numbers_have_types : (a : Around) (count : ℕ) → pointers_fault a (replicate count Number) ≡ None
+numbers_have_types a zero = refl
+numbers_have_types a (suc more) = numbers_have_types a more
+
+numbers_are_inside : (a : Around) (count : ℕ) → offsets_fault a (replicate count Number) ≡ None
+numbers_are_inside a zero = refl
+numbers_are_inside a (suc more) = numbers_are_inside a more
+
+declarations_are_typed : (numbers : ℕ) (rest : List Item) → fault_from (declarations numbers ++ rest) 5
+    (declarations numbers) rest ≡ None → IsWellTyped (declarations numbers ++ rest)
+declarations_are_typed numbers rest none = rw (numbers_have_types _ numbers, numbers_are_inside _ numbers) none
+
+pub generated_is_well_typed : (start count : ℕ) → count ≤ 3000000 → IsWellTyped (generated_program start count)
+unfolding generated_program program
+generated_is_well_typed start count most =
+    let numbers = count_of_numbers start in
+    let rest = scripts (turns_of count) numbers (next_state start) all_names in
+    declarations_are_typed numbers rest (scripts_are_typed (turns_of count) numbers rest (omega (arith, most))
+    (omega (arith, numbers_some start)) all_names (next_state start) 5 (declarations numbers))

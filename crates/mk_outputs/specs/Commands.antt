@@ -1,0 +1,76 @@
+-- The commands of the words.
+use Rattle.std.specs.Prelude.{ℕ, Bool, ◌≤◌, ◌&&◌, ◌||◌, nat_lt, nat_le, List, [], ◌∷◌, Option, Some, None}
+use Rattle.std.specs.{Prelude.{option_and_then, if◌then◌else◌}, Str.bytes_eq}
+use lib.Chars.{codes}
+use Rattle.mk_script.specs.Names.{number_of_word}
+use Rattle.mk_outputs.specs.{declared.commands.Command.Command, declared.commands.Command.TheVariants.{OnText, Gen}}
+use Rattle.mk_outputs.specs.declared.commands.TextCommand.{TextCommand}
+use Rattle.mk_outputs.specs.declared.commands.TextCommand.TheVariants.{Run, Check, Print, Replay, Trace}
+use Rattle.mk_outputs.specs.Given.{Given, Numbers, no_number, one_number, two_numbers, runs, gens, bare, given_by}
+
+-- the number of markers, 0 to 8, and 0 where none is given
+abbrev pub markers_of : Option (List ℕ) → Option ℕ
+markers_of None = Some 0
+markers_of (Some digits) = option_and_then (λ n. if nat_le n 8 then Some n else None) (number_of_word digits)
+
+-- A sweep goes with no markers.
+abbrev pub run_with : Bool → Bool → ℕ → Option Command
+run_with sweep why markers = if sweep && nat_lt 0 markers then None
+    else Some (OnText (Run (record { markers = markers; sweep = sweep; why = why })))
+
+abbrev pub run_of : Given → Option Command
+run_of g = option_and_then (run_with g.sweep g.why) (markers_of g.markers)
+
+abbrev pub start_of : Numbers → Option (List ℕ)
+start_of no_number = None
+start_of (one_number start) = Some start
+start_of (two_numbers start count) = Some start
+
+abbrev pub count_of : Numbers → Option (List ℕ)
+count_of (two_numbers start count) = Some count
+count_of _ = None
+
+abbrev pub gen_with : ℕ → ℕ → ℕ → Option Command
+gen_with markers start count = if nat_lt count 48 || nat_lt 3000000 count then None
+    else Some (Gen (record { start = start; count = count; markers = markers }))
+
+abbrev pub gen_from : Option ℕ → Option ℕ → Option ℕ → Option Command
+gen_from markers start count =
+    option_and_then (λ m. option_and_then (λ s. option_and_then (gen_with m s) count) start) markers
+
+abbrev pub gen_of : Given → Option Command
+gen_of g = gen_from (markers_of g.markers) (option_and_then number_of_word (start_of g.numbers))
+    (option_and_then number_of_word (count_of g.numbers))
+
+-- a command that takes no option and no further word
+abbrev pub alone_of : TextCommand → Given → Option Command
+alone_of command g = Some (OnText command)
+
+abbrev pub command_named : List ℕ → List (List ℕ) → Option Command
+command_named name words =
+    if bytes_eq name (codes "run") then option_and_then run_of (given_by runs words)
+    else if bytes_eq name (codes "check") then option_and_then (alone_of Check) (given_by bare words)
+    else if bytes_eq name (codes "print") then option_and_then (alone_of Print) (given_by bare words)
+    else if bytes_eq name (codes "replay") then option_and_then (alone_of Replay) (given_by bare words)
+    else if bytes_eq name (codes "gen") then option_and_then gen_of (given_by gens words)
+    else if bytes_eq name (codes "trace") then option_and_then (alone_of Trace) (given_by bare words)
+    else None
+
+-- There are no more markers than a heap has.
+abbrev pub AreWithin : TextCommand → Type 0
+AreWithin (Run options) = options.markers ≤ 8
+AreWithin Check = Unit {0}
+AreWithin Print = Unit {0}
+AreWithin Replay = Unit {0}
+AreWithin Trace = Unit {0}
+
+-- A program that is generated makes no more turns than a script may have.
+abbrev pub IsWithin : Command → Type 0
+IsWithin (OnText on_text) = AreWithin on_text
+IsWithin (Gen request) = (request.count ≤ 3000000) × (request.markers ≤ 8)
+
+-- The command of the words: the first names it, and the others are its numbers and options. `--markers K` and
+-- `--markers=K` may stand anywhere after the name. After `--` there are no options.
+abbrev pub command_of : List (List ℕ) → Option Command
+command_of [] = None
+command_of (name ∷ words) = command_named name words

@@ -1,0 +1,46 @@
+-- What clap is told of the commands, and what its matches hold of the words. Private functions alone cite these.
+use Rattle.std.specs.Prelude.{◌≡◌, true, List, [], ◌∷◌, Some}
+use lib.Chars.{codes}
+use Rattle.clap.specs.{Values.bool_text, Walk.{Row, Rule, Text, first_of, one_of}, Simple.{App, Shape, new_rule}}
+use Rattle.clap.specs.{Simple.new_shape, declared.builder.action.ArgAction.TheVariants.{Set, SetTrue}}
+use Rattle.mk_outputs.specs.{Commands.{start_of, count_of}, Given.{Form, runs, gens, bare, Flag, sweep_flag, why_flag}}
+use Rattle.mk_outputs.specs.Given.{Given}
+
+abbrev pub markers_rule : Rule
+markers_rule = record (new_rule (codes "markers")) { long = Some (codes "markers"); action = Some Set }
+
+abbrev pub flag_rule : Text → Rule
+flag_rule name = record (new_rule name) { long = Some name; action = Some SetTrue }
+
+abbrev pub positional_rule : Text → Rule
+positional_rule name = record (new_rule name) { action = Some Set }
+
+abbrev pub flag_name : Flag → Text
+flag_name sweep_flag = codes "sweep"
+flag_name why_flag = codes "why"
+
+abbrev pub rules_of : Form → List Rule
+rules_of runs = markers_rule ∷ flag_rule (codes "sweep") ∷ flag_rule (codes "why") ∷ []
+rules_of gens = markers_rule ∷ positional_rule (codes "start") ∷ positional_rule (codes "count") ∷ []
+rules_of bare = []
+
+abbrev pub bare_shape : Text → Shape
+bare_shape name = record (new_shape name) { disable_help_flag = true; disable_version_flag = true }
+
+abbrev pub app_with : List Rule → Text → App
+app_with rules name = record { top = record (bare_shape name) { rules = rules }; subs = [] }
+
+abbrev pub app_named : Form → Text → App
+app_named form name = app_with (rules_of form) name
+
+-- the matches have what was given
+abbrev pub HasFlags : Form → List Row → Given → Type 0
+HasFlags runs rows g = (one_of (codes "sweep") rows ≡ Some (bool_text g.sweep))
+    × (one_of (codes "why") rows ≡ Some (bool_text g.why))
+HasFlags _ rows g = Unit {0}
+
+pub record HasGiven (form : Form) (rows : List Row) (g : Given) : Type 0 where
+  pub markers : first_of (codes "markers") rows ≡ g.markers
+  pub flags : HasFlags form rows g
+  pub start : first_of (codes "start") rows ≡ start_of g.numbers
+  pub count : first_of (codes "count") rows ≡ count_of g.numbers

@@ -1,4 +1,0 @@
-pub mod Members
-pub mod KnownPages
-pub mod PageSets
-pub mod Laws

@@ -1,6 +1,0 @@
-use Rattle.mk_laws.proofs.Vocabulary.{slice_index, ◌+◌}
-use Rattle.mk_tracing.proofs.RootMarks.{LooksAtMost}
-use Rattle.mk_tracing.proofs.roots.are_before_heap.Given as goal
-
-abbrev pub invariant-loop-i : goal.invariant-loop-i
-invariant-loop-i l = LooksAtMost l.fn.stop l.stop (λ w j. slice_index w.globals (l.first + j)) l.all l.i

@@ -1,9 +1,0 @@
-use Rattle.mk_laws.proofs.Vocabulary.{ℕ, ◌<◌}
-use Rattle.mk_tracing.specs.{Grays.RegistersAreWell, Noted.listed, Scans.MarksAndNotes}
-use Rattle.mk_tracing.proofs.roots.mark_registers.Given as goal
-
-abbrev pub invariant-loop-caller : goal.invariant-loop-caller
-invariant-loop-caller l = record {
-  marks : MarksAndNotes l.table.pages l.fn.stop (listed l.fn.work) l.stop (listed l.work);
-  well : (k : ℕ) → k < l.caller → RegistersAreWell l.table.words.now.config l.fn.stop.pass l.stop.pass k;
-}

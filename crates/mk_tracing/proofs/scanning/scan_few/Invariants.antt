@@ -1,5 +1,0 @@
-use Rattle.mk_tracing.specs.{Noted.listed, Scans.Scans}
-use Rattle.mk_tracing.proofs.scanning.scan_few.Given as goal
-
-abbrev pub invariant-loop-i : goal.invariant-loop-i
-invariant-loop-i l = Scans l.table.pages l.fn.stop (listed l.fn.work) l.stop (listed l.work) l.gray.cell 0 l.i

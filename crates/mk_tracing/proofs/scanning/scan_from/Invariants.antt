@@ -1,7 +1,0 @@
-use Rattle.mk_laws.proofs.Vocabulary.{◌+◌}
-use Rattle.mk_tracing.specs.{Noted.listed, Scans.Scans}
-use Rattle.mk_tracing.proofs.scanning.scan_from.Given as goal
-
-abbrev pub invariant-loop-i : goal.invariant-loop-i
-invariant-loop-i l =
-    Scans l.table.pages l.fn.stop (listed l.fn.work) l.stop (listed l.work) l.gray.cell l.first (l.first + l.i)

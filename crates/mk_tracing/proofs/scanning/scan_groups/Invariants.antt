@@ -1,7 +1,0 @@
-use Rattle.mk_laws.proofs.Vocabulary.{◌*◌}
-use Rattle.mk_tracing.specs.{Noted.listed, Scans.Scans}
-use Rattle.mk_tracing.proofs.scanning.scan_groups.Given as goal
-
-abbrev pub invariant-loop-part : goal.invariant-loop-part
-invariant-loop-part l =
-    Scans l.table.pages l.fn.stop (listed l.fn.work) l.stop (listed l.work) l.gray.cell 0 (64 * l.part)

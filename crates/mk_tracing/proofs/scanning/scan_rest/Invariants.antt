@@ -1,9 +1,0 @@
-use Rattle.mk_laws.proofs.Vocabulary.{Some}
-use Rattle.mk_tracing.specs.{Noted.with_last, Scans.Scans}
-use Rattle.mk_tracing.proofs.scanning.scan_rest.Given as goal
-
-abbrev pub invariant-loop-i : goal.invariant-loop-i
-invariant-loop-i l =
-    Scans l.table.pages l.fn.stop (with_last l.fn.work (Some l.fn.noted)) l.stop (with_last l.work
-    (Some l.last)) l.gray.cell
-    l.from l.i

@@ -1,9 +1,0 @@
-use Rattle.mk_tracing.proofs.{Stilled.root_hand, StopSteps.looks_root}
-use Rattle.mk_tracing.proofs.stepping.look_at_root.Goals as goal
-
-pub returns-clause-looks : goal.returns-clause-looks
-returns-clause-looks c = looks_root c.requires.may.wanted c.look_among.ensures.acts c.requires.root
-
-pub returns-clause-hand : goal.returns-clause-hand
-returns-clause-hand c =
-    let look = c.look_among.ensures in root_hand c.requires.may.wanted look.acts look.finds c.requires.root

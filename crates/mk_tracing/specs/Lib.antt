@@ -1,5 +1,0 @@
-pub mod Tracing
-pub mod Stops
-pub mod Grays
-pub mod Noted
-pub mod Scans

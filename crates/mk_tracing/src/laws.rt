@@ -1,7 +1,0 @@
-//! Laws of tracing: facts alone, with no code.
-ghost use Rattle.mk_tracing.specs.Grays.{ReachedMarksSweepNothing};
-
-/// Steps by the rule of tracing in the stop make no sweeping mark.
-pub fn reached_marks_sweep_nothing()
-    ensures { ReachedMarksSweepNothing }
-{}

@@ -1,3 +1,0 @@
-pub mod Doing
-pub mod PointedCells
-pub mod Sweeping

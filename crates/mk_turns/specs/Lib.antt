@@ -1,3 +1,0 @@
-pub mod Doing
-pub mod Pointing
-pub mod Sweeping

@@ -1,3 +1,0 @@
-pub mod Sleeps
-pub mod Taking
-pub mod Unswept

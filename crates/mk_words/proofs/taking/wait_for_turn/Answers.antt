@@ -1,0 +1,19 @@
+use Rattle.mk_words.proofs.taking.wait_for_turn.Goals as goal
+use Rattle.mk_words.proofs.Waiting.{waits_more}
+
+pub waiting-preserved : goal.waiting-preserved
+waiting-preserved g c = record {
+  enabled = c.in-Err.ensures.again;
+  waits = waits_more c.args.home c.waiting.pass c.in-Err.back c.args.op c.waiting.invariant.waits
+      c.in-Err.ensures.busy.makes;
+}
+
+pub returns-in-Ok : goal.returns-in-Ok
+returns-in-Ok g c =
+    let took = c.in-Ok.ensures in
+    record {
+      takes = record { waited = c.waiting.pass; waits = c.waiting.invariant.waits; takes = took.made };
+      fresh = took.fresh;
+      exact = took.exact;
+      tidy = took.tidy;
+    }

@@ -1,5 +1,0 @@
-pub mod Enabling
-pub mod Admitting
-pub mod TurnFacts
-pub mod MarkerFacts
-pub mod CallFacts

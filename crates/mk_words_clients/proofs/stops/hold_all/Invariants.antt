@@ -1,9 +1,0 @@
-use Rattle.mk_laws.proofs.Vocabulary.{◌-◌}
-use Rattle.mk_words_clients.proofs.TurnFacts.{HoldsSoFar}
-use Rattle.mk_words_clients.proofs.stops.hold_all.Given as goal
-
-abbrev pub invariant-loop-caller : goal.invariant-loop-caller
-invariant-loop-caller l = HoldsSoFar l.words l.fn.turn.pass l.turn.pass l.caller
-
-abbrev pub decreases-loop-caller : goal.decreases-loop-caller
-decreases-loop-caller l = l.words.config.callers - l.caller
