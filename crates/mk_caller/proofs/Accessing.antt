@@ -18,7 +18,7 @@ use Rattle.mk_words.proofs.Below.Laws.Vocabulary.{Answer}
 use Rattle.mk_words.proofs.Below.Laws.Vocabulary.{Flight}
 use Rattle.mk_words.proofs.Below.Laws.Vocabulary.{List}
 use Rattle.mk_words.proofs.Below.Laws.Vocabulary.{None}
-use Rattle.mk_words.proofs.Below.Laws.Vocabulary.Null as NullValue
+use Rattle.mk_words.proofs.Below.Laws.Vocabulary.{Null as NullValue}
 use Rattle.mk_words.proofs.Below.Laws.Vocabulary.{Op}
 use Rattle.mk_words.proofs.Below.Laws.Vocabulary.{Progress}
 use Rattle.mk_words.proofs.Below.Laws.Vocabulary.{Some}
