@@ -12,6 +12,7 @@ pub mod Decided
 pub mod Effects
 pub mod Enabled
 pub mod Exchanges
+pub mod Failing
 pub mod Frames
 pub mod Growing
 pub mod HeldGates
@@ -27,6 +28,7 @@ pub mod ObjectHeaders
 pub mod Order
 pub mod PageHeaders
 pub mod Phases
+pub mod Gates
 pub mod Placement
 pub mod Ranges
 pub mod Readings

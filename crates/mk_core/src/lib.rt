@@ -12,6 +12,8 @@ mod cells;
 mod config;
 mod effects;
 mod events;
+mod failing;
+mod gates;
 mod history_laws;
 mod laws;
 mod machine;
@@ -35,12 +37,14 @@ pub use cells::{
 };
 pub use config::{Config, GlobalTable};
 pub use events::{Answer, Event, NotEnabled, Seat, Step, Tally, Word};
+pub use gates::Gate;
 pub use history_laws::{
     bits_and_sizes_agree, enabled_events_meet_all_conditions, histories_are_of_two_parts,
     what_is_touched,
 };
 pub use laws::{line_groups_stand_apart, words_are_one_list, words_have_indexes_of_their_own};
 pub use machine::Core;
+pub use mk_books::QuarantineWord;
 pub use phases::{Phase, markers_in, phase_bits};
 pub use reaching::{next_word, scan_bit, scan_page, seen_bit, seen_page, tally_word};
 pub use scans::{cell_seen, marker_behind};

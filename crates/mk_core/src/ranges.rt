@@ -1,17 +1,17 @@
 //! Conditions 4, 5 and 6 of an event: its arguments are in range, and the gates and the phase are as its
 //! kind asks. The definitions name every kind. Here `_` stands for those of which a condition asks nothing, since the
 //! proof refuses it where it takes another.
-ghost use Rattle.std.specs.Prelude.{◌≡◌, ◌*◌, nat_lt};
+ghost use Rattle.std.specs.Prelude.{◌≡◌, ◌*◌, ◌==◌, nat_lt};
 ghost use Rattle.mk_core.specs.{Moments.{is_number_of, is_held, others_are_held, none_is_held}, NewPlaces.target};
 ghost use Rattle.mk_core.specs.Ranges.{is_word, is_other_caller, is_word_met, is_in_range, is_run_cell, has_gates};
-ghost use Rattle.mk_core.specs.Ranges.{has_phase, may_look_at};
+ghost use Rattle.mk_core.specs.{Phases.phase_number, Ranges.{has_phase, may_look_at}};
 
 use crate::bounded::all_below;
 use crate::calls::word_met;
 use crate::cells::heads_run;
 use crate::machine::Core;
 use crate::table::Table;
-use crate::{Flight, Phase, Seat, Step, Word};
+use crate::{Flight, Gate, Phase, Seat, Step, Word};
 use mk_geom::{Cell, HEAP_START, PAGE_WORDS, is_unmapped};
 
 impl Seat {
@@ -31,7 +31,7 @@ impl Table {
     fn is_held(&self, caller: u64) -> bool
         ensures { result ≡ is_held self.now caller }
     {
-        self.gate(caller) == 2
+        Gate::Held.is_in(self.gate(caller))
     }
 
     /// Whether the seat may look at the word: a register is looked at by its own caller, or while that
@@ -53,23 +53,37 @@ impl Table {
     }
 }
 
+/// Whether a phase's number is that of this one.
+fn is_at(phase: u64, other: Phase) -> bool
+    ensures { result ≡ (phase == phase_number other) }
+{
+    phase == other.number()
+}
+
 /// Whether the phase is one that the kind of step asks for; where that goes by case, one that a case
 /// names.
 pub(crate) fn has_phase(phase: u64, step: Step) -> bool
     ensures { result ≡ has_phase phase step }
 {
     match step {
-        Step::Give => matches!(phase, 0 | 1 | 5),
-        Step::Head { .. } | Step::Used { .. } | Step::Quar { .. } => matches!(phase, 0 | 1 | 4),
-        Step::Grant => matches!(phase, 0 | 1),
-        Step::Open(_) => phase != 3,
-        Step::Clear(_) | Step::Full | Step::Begin => phase == 0,
-        Step::Mark { .. } => matches!(phase, 1 | 2),
-        Step::Close | Step::Black { .. } => phase == 2,
-        Step::Release => phase == 3,
-        Step::End => phase == 4,
-        Step::Want => phase == 1,
-        Step::Undirty(_) | Step::Unblack(_) => matches!(phase, 0 | 2),
+        Step::Give => is_at(phase, Phase::None)
+            || is_at(phase, Phase::Marking)
+            || is_at(phase, Phase::Over),
+        Step::Head { .. } | Step::Used { .. } | Step::Quar { .. } => {
+            is_at(phase, Phase::None)
+                || is_at(phase, Phase::Marking)
+                || is_at(phase, Phase::Releasing)
+        }
+        Step::Grant => is_at(phase, Phase::None) || is_at(phase, Phase::Marking),
+        Step::Open(_) => !is_at(phase, Phase::Closed),
+        Step::Clear(_) | Step::Full | Step::Begin => is_at(phase, Phase::None),
+        Step::Mark { .. } => is_at(phase, Phase::Marking) || is_at(phase, Phase::Wanted),
+        Step::Close | Step::Black { .. } => is_at(phase, Phase::Wanted),
+        Step::Release => is_at(phase, Phase::Closed),
+        Step::End => is_at(phase, Phase::Releasing),
+        Step::Want => is_at(phase, Phase::Marking),
+        Step::Undirty(_) | Step::Unblack(_) => is_at(phase, Phase::None)
+            || is_at(phase, Phase::Wanted),
         _ => true,
     }
 }

@@ -6,8 +6,9 @@ ghost use Rattle.mk_core.specs.{Moments.outside, Order.seat_exists, Ranges.is_in
 ghost use Rattle.mk_core.specs.Enabled.{marker_may, holder_may, meets_own, failing_in_order, failing, IsEnabled};
 ghost use Rattle.mk_core.specs.{Accesses.caller_number, Effects.{seats_behind, moment_behind, answer_by}};
 ghost use Rattle.mk_core.specs.{Effects.answer_decided, History.{left, AreEnabled, calls}, Decided.entry_of};
-ghost use Rattle.mk_core.specs.{Standing.{CoreState, CoreStandsFor}, declared.events.Event.Event};
+ghost use Rattle.mk_core.specs.{Failing.number_failing, Standing.{CoreState, CoreStandsFor}, declared.events.Event.Event};
 
+use crate::failing::Condition;
 use crate::machine::{AT_REST, NOTHING_DONE, OUTSIDE};
 use crate::order::{group, is_open_to};
 use crate::ranges::has_phase;
@@ -87,34 +88,34 @@ impl Core {
             && self.holder_may(self.flight(event.seat), event.step)
     }
 
-    /// The first of conditions 4 to 7 that fails, or 0.
-    fn failing_in_order(&self, event: Event) -> u64
-        ensures { result ≡ failing_in_order self.now.config self.now.now event }
+    /// The first condition that fails of an event that comes next in the order of its call.
+    fn failing_in_order(&self, event: Event) -> Option<Condition>
+        ensures { number_failing result ≡ failing_in_order self.now.config self.now.now event }
     {
         let flight = self.flight(event.seat);
         if !self.is_in_range(event.seat, flight, event.step) {
-            4
+            Some(Condition::Range)
         } else if !self.has_gates(event.seat, flight, event.step) {
-            5
+            Some(Condition::Gates)
         } else if !has_phase(self.table.phase(), event.step) {
-            6
+            Some(Condition::Phase)
         } else if !self.meets_own(event) {
-            7
+            Some(Condition::Own)
         } else {
-            0
+            None
         }
     }
 
-    /// The first condition that fails, or 0 where none does.
-    fn first_failing(&self, event: Event) -> u64
-        ensures { result ≡ failing self.now.config self.now.now event }
+    /// The first condition that fails.
+    fn first_failing(&self, event: Event) -> Option<Condition>
+        ensures { number_failing result ≡ failing self.now.config self.now.now event }
     {
         if !self.seat_exists(event.seat) {
-            1
+            Some(Condition::Seat)
         } else if !is_open_to(event.seat, group(event.step)) {
-            2
+            Some(Condition::Kind)
         } else if !self.is_in_order(event) {
-            3
+            Some(Condition::Order)
         } else {
             self.failing_in_order(event)
         }
@@ -163,9 +164,10 @@ impl Core {
             (self.new ≡ record { config = self.old.config; now = moment_behind self.old.config self.old.now event }) }
         ensures unchanged { OnErr result (self.new ≡ self.old) }
     {
-        let condition = self.first_failing(event);
-        if condition > 0 {
-            return Err(NotEnabled { condition });
+        if let Some(failing) = self.first_failing(event) {
+            return Err(NotEnabled {
+                condition: failing.number(),
+            });
         }
         let name = self.word_reached(event);
         let access = self.access(event);

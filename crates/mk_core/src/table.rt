@@ -8,6 +8,7 @@ ghost use Rattle.mk_core.specs.declared.events.Word.TheVariants as word;
 
 use crate::phases::phase_bits;
 use crate::{Access, Phase, TableWord, Word};
+use mk_books::QuarantineWord;
 use mk_geom::{FREE_PAGE, Page};
 use mk_never::NoMemory;
 use std::alloc::Global;
@@ -236,7 +237,11 @@ impl Table {
     pub(crate) fn quarantine(&self, page: u64) -> u64
         ensures { result ≡ quarantine_word (slice_index self.now.freed page) (slice_index self.now.snapshot page) }
     {
-        self.freed(page) as u64 + ((self.snapshot(page) as u64) << 32)
+        let halves = QuarantineWord {
+            freed: self.freed(page) as u64,
+            snapshot: self.snapshot(page) as u64,
+        };
+        halves.word()
     }
 
     /// The word of that name.
@@ -285,11 +290,12 @@ impl Table {
     fn set_quarantine(&mut self, page: u64, value: u64)
         ensures { self.new ≡ with_named self.old (word.Quar page) value }
     {
+        let halves = QuarantineWord::of(value);
         if let Some(slot) = self.freed.get_mut(page as usize) {
-            *slot = (value % (1 << 32)) as u32;
+            *slot = halves.freed as u32;
         }
         if let Some(slot) = self.snapshot.get_mut(page as usize) {
-            *slot = (value >> 32) as u32;
+            *slot = halves.snapshot as u32;
         }
     }
 

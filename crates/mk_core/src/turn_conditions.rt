@@ -14,7 +14,7 @@ use crate::placing::{PageHeaders, adds_bit, bits_made, pages_made};
 use crate::seats::Object;
 use crate::table::Table;
 use crate::{Core, Flight, OwnCycle, Phase, Placing, Stage};
-use mk_books::held_by_pages;
+use mk_books::{QuarantineWord, held_by_pages};
 use mk_geom::{Cell, Place};
 
 /// Whether no call of a caller's is undecided.
@@ -164,7 +164,8 @@ impl Core {
         ensures { result ≡ may_quarantine self.now.config self.now.now flight page value }
     {
         if self.table.is_at(Phase::Releasing) {
-            self.table.drops(page, value % (1 << 32), value >> 32)
+            let halves = QuarantineWord::of(value);
+            self.table.drops(page, halves.freed, halves.snapshot)
         } else {
             self.table.frees(self.target(flight), page, value)
                 || self.table.takes_snapshot(page, value)

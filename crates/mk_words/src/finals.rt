@@ -8,6 +8,7 @@ use crate::homes::MapHome;
 use crate::indexes::index_of;
 use crate::rule::View;
 use atomic_table::{Closed, Seat as Token};
+use mk_books::QuarantineWord;
 use mk_core::{TableWord, Word};
 use std::alloc::Global;
 
@@ -43,7 +44,7 @@ fn freed_bits_of(word: u64) -> u64
     if word == 0 {
         return 0;
     }
-    (word % (1 << 32)).count_ones() as u64
+    QuarantineWord::of(word).freed.count_ones() as u64
 }
 
 /// The freed bits of the quarantine words of this many pages.

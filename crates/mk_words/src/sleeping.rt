@@ -5,12 +5,9 @@ ghost use Rattle.mk_core.specs.Layout.{IsOfTable};
 
 use crate::indexes::index_of;
 use crate::words::Words;
-use mk_core::{TableWord, Word, phase_bits};
+use mk_core::{Gate, TableWord, Word, phase_bits};
 use std::sync::Wait;
 use std::time::Duration;
-
-/// What a gate word is while the gate is held.
-const HELD: u64 = 2;
 
 /// How many values there are of the half of a word that a sleep compares. What is slept on is always less.
 const HALF: u64 = 1 << 32;
@@ -65,8 +62,9 @@ impl Words {
     {
         self.is_within_limits();
         let word = TableWord::Named(Word::Gate(caller));
-        if self.peek(word) == HELD {
-            self.sleep_on(rt, word, HELD, at_most);
+        let found = self.peek(word);
+        if Gate::Held.is_in(found) {
+            self.sleep_on(rt, word, found, at_most);
         }
     }
 

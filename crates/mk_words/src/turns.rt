@@ -13,7 +13,7 @@ use crate::indexes::page_of;
 use crate::passes::Pass;
 use crate::tokens::TurnToken;
 use crate::words::Words;
-use mk_books::PageMap;
+use mk_books::{PageMap, QuarantineWord};
 use mk_core::{Access, Seat, Step, TableWord};
 use mk_never::Op;
 use std::marker::{Model, PhantomData};
@@ -62,7 +62,9 @@ fn tell(map: &mut PageMap, step: Step)
     match step {
         Step::Head { page, value } => map.header_stored(page, value),
         Step::Used { page, value } => map.used_stored(page, value),
-        Step::Quar { page, value } => map.quarantine_stored(page, value % (1 << 32)),
+        Step::Quar { page, value } => {
+            map.quarantine_stored(page, QuarantineWord::of(value).freed)
+        }
         Step::Mark { page, .. } => map.marked(page),
         _ => {}
     }

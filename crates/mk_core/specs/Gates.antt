@@ -1,0 +1,9 @@
+-- The number of a gate's state in its word.
+use Rattle.std.specs.Prelude.{ℕ}
+use Rattle.mk_core.specs.declared.gates.Gate.{Gate}
+use Rattle.mk_core.specs.declared.gates.Gate.TheVariants as gate
+
+abbrev pub gate_number : Gate → ℕ
+gate_number gate.Open = 0
+gate_number gate.InCall = 1
+gate_number gate.Held = 2
