@@ -1,9 +1,6 @@
-//! New objects, and objects that are freed: the calls of a script under the turn.
-//!
-//! Each call is one operation of the history, with the cycles that it asks for and no others; Full comes only where
-//! nothing fits after a cycle of that call. `place_object` and `retire_object` do one operation in a turn that is held.
-//! Start with `making` and `freeing`; `specs/TurnCalls.antt` says what they ensure, and `specs/Bounds.antt` how much
-//! memory quarantine takes.
+//! New objects and freed ones: the calls of a script under the turn, and how much memory quarantine takes.
+//! Each call is one operation with just the cycles that it asks for; Full only if nothing fits after one of its own.
+//! Start with `making` and `freeing`, then `specs/TurnCalls.antt` and, for the bound, `specs/Bounds.antt`.
 #![tactic(auto)]
 
 mod cycles;

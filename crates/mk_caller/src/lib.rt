@@ -1,7 +1,6 @@
 //! The calls of a script's thread: loads, stores, exchanges and comparisons.
-//!
-//! Each call is one operation of the history, answered as the heap that never reuses storage replies there (`Called`),
-//! and each refusal has its cause. Start with `callers`, the public calls; `calls` has their steps.
+//! Each is one operation of the history, answered as the heap that never reuses storage replies there (`Called`).
+//! Start with `callers`, the public calls; `calls` has their steps.
 #![tactic(auto)]
 
 mod accesses;

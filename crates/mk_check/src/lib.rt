@@ -1,7 +1,6 @@
 //! Types of scripts, and what a script does, given the answers to its operations.
-//!
-//! `check` accepts exactly the well-typed programs; a `Feed` asks for a script's next operation, takes its answer, and
-//! has the text so far. Start with `checked` and `feeding`, then `specs/Feed.antt`: what a script does.
+//! `check` accepts exactly the well-typed programs; a `Feed` asks for the next operation that the definition names.
+//! Start with `checked` and `feeding`, then `specs/Feed.antt`: what a script does.
 #![tactic(auto)]
 
 mod checked;

@@ -1,6 +1,5 @@
-//! Small programs over the calls of the heap, which show that what each call asks is what earlier ones ensure, and that
-//! what they ensure is enough to say what a program gets back, whatever others do.
-//!
+//! Small programs over the calls of the heap.
+//! What each call asks, earlier ones ensure; so a program knows what it gets back, whatever others do.
 //! Start with `lives`: a caller's whole life, in one thread; then `moves` and `numbers`.
 #![tactic(auto)]
 

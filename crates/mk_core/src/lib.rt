@@ -1,8 +1,6 @@
-//! The pure core: the events of a heap's history over plain words, and what callers see of them.
-//!
-//! Its definitions are what all promises rest on: which event may come next, what it leaves, and what a history is.
-//! `Core` is a machine of one thread that does just that. Start with `events`, the steps of all seats; then
-//! `specs/History.antt`, and `specs/Enabled.antt` with the conditions that it names.
+//! The events of a heap's history over plain words: which may come next, what each leaves, and what callers see.
+//! `Core` is a machine of one thread that does just what the definitions say, on which all promises rest.
+//! Start with `events`, the steps of all seats; then `specs/History.antt` and `specs/Enabled.antt`.
 #![tactic(auto)]
 
 mod accesses;

@@ -1,9 +1,6 @@
-//! Cycles: engines make the marks, and what was freed before a cycle and isn't marked in it is given back.
-//!
-//! `begin_cycle` and `finish_cycle` do what a cycle of the history is made of, and nothing else. An `Engine` marks: two of
-//! them trace, `StopEngine` in the stop and `MostlyEngine` also beside the callers. They make only marks that pointers
-//! lead to, so their cycles are precise. Start with `engine`: what an engine owes; then `beginning` and `finishing`, and
-//! `closing` for what all engines do in the stop.
+//! Cycles, and the engines that mark for them: one traces in the stop, the other beside the callers too.
+//! A cycle releases just what was freed before it and isn't marked, and does nothing else.
+//! Start with `engine`: what an engine owes; then `beginning`, `finishing`, and `closing` for the stop.
 #![tactic(auto)]
 
 mod beginning;

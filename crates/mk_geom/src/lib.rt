@@ -1,8 +1,6 @@
-//! The heap's geometry: size classes, the header word of a page, and what an address points into. A word has 64 bits, a
-//! page 64 words.
-//!
-//! Each function computes what the definition of its name says, and the laws join two views: pages as words, and
-//! storages as a list. Start with `classes` and `headers`; `specs/PageUses.antt` defines first fit.
+//! The heap's geometry: size classes, the header word of a page, and what an address points into.
+//! Each function computes what the definition of its name says; pages as words and storages as a list are one.
+//! Start with `classes` and `headers`; `specs/PageUses.antt` defines first fit.
 #![tactic(auto)]
 
 mod addresses;

@@ -1,6 +1,6 @@
-//! A heap, and its host, which creates callers and markers, joins them, and closes the heap.
-//!
-//! The report of `Heap::close` has the whole history, to proofs alone, and its tallies. Start with `heaps` and `hosts`.
+//! A heap and its host, which creates callers and markers, joins them, runs cycles and closes the heap.
+//! The report of `Heap::close` has the whole history, to proofs, and its tallies.
+//! Start with `heaps` and `hosts`, then `reports`.
 #![tactic(auto)]
 
 mod ending;

@@ -1,4 +1,6 @@
-//! Tests of the running heap, with real threads: what no clause says. `docs/GATE.md` lists them by file.
+//! Tests of the running heap, with real threads.
+//! It promises nothing: the tests try what no clause says.
+//! Start with `rows`, then `lists` and `stacks`.
 #![tactic(auto)]
 
 #[cfg(test)]

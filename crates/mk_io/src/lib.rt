@@ -1,7 +1,6 @@
 //! Where bytes come from and where they go: sources and sinks that count their faults.
-//!
-//! A source is read to its end, and a sink is written whole, or the call says what went wrong and the count of faults
-//! shows it. Start with `sources` and `sinks`, the two traits; then `read_all` and `write_all`.
+//! A source is read to its end and a sink written whole, or the call says what went wrong and the faults show it.
+//! Start with `sources` and `sinks`, the two traits; then `reading` and `writing`.
 #![tactic(auto)]
 
 mod memory;

@@ -1,6 +1,6 @@
-//! What holds of every history of a heap: facts alone, with no code. Start with `theorem_laws`, which has all promises
-//! of a history in one record (`specs/Promises.antt`). The other modules prove them, a group of facts each:
-//! `invariant_laws` joins the groups in one induction.
+//! What holds of every history of a heap: lemmas, with no code.
+//! All promises of a history are one record (`specs/Promises.antt`), proved in one induction.
+//! Start with `theorem_laws`; `invariant_laws` joins the other modules, a group of facts each.
 #![tactic(auto)]
 
 pub mod frame_laws;

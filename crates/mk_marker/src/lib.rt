@@ -1,7 +1,6 @@
-//! What one marker's thread does on a heap.
-//!
-//! A marker attends a cycle, scans a marked cell at a time, and quits when the close is wanted; each answer of
-//! `Marker::work` has its cause. Start with `markers`.
+//! What the thread of one marker does on a heap.
+//! It attends a cycle, scans a marked cell at a time and quits when the close is wanted; each answer has its cause.
+//! Start with `markers`, then `steps`.
 #![tactic(auto)]
 
 mod cells;

@@ -1,8 +1,6 @@
-//! The heap that never reuses storage: what a program may rely on, as plain data and as a machine of one thread. It has
-//! no addresses, no pages, no quarantine and no marks.
-//!
-//! Every answer of the real heap is compared with this one's. `NeverHeap::apply` replies and leaves just what the
-//! definition says. Start with `specs/NeverHeap.antt`, then `specs/Admitted.antt`: which operations may be asked.
+//! The heap that never reuses storage: what a program may rely on, as plain data and as a machine of one thread.
+//! `NeverHeap::apply` replies and leaves what the definition says; the real heap's answers are compared with it.
+//! Start with `specs/NeverHeap.antt`, then `specs/Admitted.antt`: which operations may be asked.
 #![tactic(auto)]
 
 pub mod laws;

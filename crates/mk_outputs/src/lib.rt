@@ -1,9 +1,6 @@
-//! The command line: which command its words are, what each command writes, and how the program ends.
-//!
-//! `command_in` answers the command that the words are by definition, and none where they are of no form. `output_of`
-//! gives all of what it writes at once, so nothing is written before a refusal. `generate` makes the programs of the
-//! generator: four scripts that link, store, overwrite and free, with numbers that are drawn. Start with `commands` and
-//! `specs/Commands.antt`, then `outputs` and `specs/Outputs.antt`.
+//! The command line, the generator, what each command writes, and with which status the program ends.
+//! `command_in` finds the command that the words are; `output_of` gives all of its output at once, or the refusal.
+//! Start with `commands` and `specs/Commands.antt`, then `outputs` and `specs/Outputs.antt`.
 #![tactic(auto)]
 
 mod arguments;

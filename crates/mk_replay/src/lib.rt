@@ -1,7 +1,6 @@
 //! Schedules: one given history of a heap, run event by event on the core.
-//!
-//! `replay` performs each event that is enabled, and reports the first that isn't, with the condition that fails. Start
-//! with `replaying`; `schedule_parsing` reads the text.
+//! `replay` performs each event that is enabled, and reports the first that isn't, with the condition that fails.
+//! Start with `replaying`; `schedule_parsing` reads the text.
 #![tactic(auto)]
 
 mod forms;

@@ -1,5 +1,4 @@
-//! The run of a program: each script on a thread of its own.
-//!
+//! The run of a program: each script on a thread of its own, with markers beside them.
 //! Its replies stand in one history of a heap that never reuses storage: `StandsInOneHistory` (`specs/Headline.antt`).
 //! Start with `running`, then `scripts`; `joining` and `marking` start the threads.
 #![tactic(auto)]

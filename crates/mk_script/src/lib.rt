@@ -1,7 +1,6 @@
 //! The script language: its items, the reader of its texts, and their canonical form.
-//!
-//! `parse` accepts exactly the texts of the grammar, and reports the first line that isn't; `print` writes the
-//! canonical text. Start with `items`, then `specs/Grammar.antt`.
+//! `parse` accepts exactly the texts of the grammar, or reports the first wrong line; `print` is canonical.
+//! Start with `items`, then `specs/Grammar.antt`.
 #![tactic(auto)]
 
 mod faults;

@@ -1,7 +1,6 @@
-//! Numbers on a stack that callers share: Treiber's stack, on a heap as it stands. A popped node is freed at once.
-//!
-//! The jobs of all callers stand in one order that a plain list explains, and no node leaks. Start with `stacks`,
-//! `push` and `pop`; `runs` has a whole run, and `specs/StackRuns.antt` what it promises.
+//! Numbers on a stack that callers share (Treiber, 1986), on a heap as it stands: a popped node is freed at once.
+//! The jobs of all callers stand in one order that a plain list explains, and no node leaks.
+//! Start with `stacks`, then `runs` and `specs/StackRuns.antt`.
 #![tactic(auto)]
 
 mod advancing;

@@ -1,7 +1,6 @@
-//! An engine that sweeps: in the stop it looks once at each word of each mapped allocation that isn't leaf, and follows
-//! nothing.
-//!
-//! What no such word points into is released (`sweep_cycle`). Start with `sweep_engine`; `cycles` has a whole cycle.
+//! An engine that looks in the stop once at each word that may hold a pointer, and follows nothing.
+//! What no such word points into is released (`sweep_cycle`).
+//! Start with `sweep_engine`, then `cycles`.
 #![tactic(auto)]
 
 mod blackening;

@@ -1,7 +1,6 @@
 //! Traces: the reader of their texts, the player, and the peaks of what playing one makes.
-//!
-//! The peaks that are printed are those of the history, exactly. Start with `trace` and `playing`; `specs/Peaks.antt`
-//! defines the peaks.
+//! The peaks that are printed are those of the history, exactly.
+//! Start with `trace` and `playing`; `specs/Peaks.antt` defines the peaks.
 #![tactic(auto)]
 
 mod calls;

@@ -1,7 +1,6 @@
-//! An engine that reports why freed objects are kept: which root leads to each, and through which words.
-//!
-//! Each entry is a freed object that the cycle keeps, with a shortest chain to it. Start with `why`, then
-//! `specs/Chains.antt`.
+//! An engine round another that reports why freed objects are kept: which root leads to each, and through which words.
+//! Each entry is a freed object that the cycle keeps, with a shortest chain to it.
+//! Start with `why`, then `specs/Chains.antt`.
 #![tactic(auto)]
 
 mod entries;

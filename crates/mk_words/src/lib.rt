@@ -1,9 +1,6 @@
-//! The shared words of a heap. Each access to them is one event of one history.
-//!
-//! Whoever has a `Pass` makes the steps of its seat, a `Turn` is the right to the steps of its holder, and `Stopped` to
-//! those while no caller steps; both are a `TurnAt`, which has the steps that they share. Each step call reaches the
-//! word that its event names, and what it ensures holds whatever others do. `take_turn` waits for the turn. Start with
-//! `words` and `passes`, then `specs/Rule.antt`: what the table keeps between any two steps.
+//! The words that threads share, and the passes to them: each access is one event of one history.
+//! Each step call reaches the word that its event names, and what it ensures holds whatever others do.
+//! Start with `words`, `passes` and `turns`, then `specs/Rule.antt`: what is kept between any two steps.
 #![tactic(auto)]
 
 mod adding_up;
