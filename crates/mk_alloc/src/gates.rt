@@ -6,8 +6,8 @@ ghost use Rattle.mk_alloc.specs.FreeParts.{HoldsOthers, MayHold, MayOpen, SetsGa
 ghost use Rattle.mk_alloc.specs.{FreeParts.{is_settling, no_gate}, Looking.is_acting, Retiring.KeepsValues};
 
 use crossbeam_utils::Backoff;
-use mk_core::Seat;
 use mk_caller::lower::words::{Turn, Words};
+use mk_core::Seat;
 use std::sync::Wait;
 
 /// Whether the seat is that caller's.

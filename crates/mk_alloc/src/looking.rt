@@ -4,8 +4,8 @@ ghost use Rattle.mk_core.specs.{Ranges.is_word, Words.{named_word, phase_of}};
 ghost use Rattle.mk_caller.specs.Below.Words.States.{call_of, now_of};
 ghost use Rattle.mk_alloc.specs.{Looking.{is_acting, is_steady_word}, Placing.OnlyLooks, Retiring.value_of};
 
-use mk_core::{Phase, Word};
 use mk_caller::lower::words::{Turn, Words};
+use mk_core::{Phase, Word};
 
 /// Looks at a word that none but the holder changes.
 #[inline(always)]

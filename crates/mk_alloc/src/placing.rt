@@ -8,9 +8,9 @@ ghost use Rattle.mk_alloc.specs.{Placing.object_for, Shapes.{MayServe, ShapeGoes
 use crate::looking::{is_marking, look_at};
 use crate::objects::{Request, Shape, shape_of};
 use crate::seeking::{seek, seek_cell};
+use mk_caller::lower::words::{Turn, Words};
 use mk_core::{Tally, Word};
 use mk_geom::Place;
-use mk_caller::lower::words::{Turn, Words};
 
 /// Makes the free pages of the place a block, or a run. Where a cycle marks, the cells of the first page are marked
 /// before that.

@@ -13,9 +13,9 @@ use crate::looking::look_at;
 use crate::retiring::{find_cell, is_freed, load_freed, look_at_quarantine, quarantine};
 use crate::unmapping::clear_run;
 use mk_books::due;
+use mk_caller::lower::words::{Turn, Words};
 use mk_core::{RunPages, Tally, Word, words_under};
 use mk_geom::{Cell, Header, PAGE_WORDS, decode};
-use mk_caller::lower::words::{Turn, Words};
 use std::sync::Wait;
 use std::thread::Threads;
 

@@ -9,9 +9,9 @@ ghost use Rattle.mk_alloc.specs.Retiring.{HasSeen, IsLoaded, IsUnloaded, KeepsVa
 ghost use Rattle.mk_core.specs.declared.events.Word.TheVariants as word;
 
 use crate::looking::look_at;
+use mk_caller::lower::words::{Turn, Words};
 use mk_core::{Word, has_cell};
 use mk_geom::{Cell, lookup, page_at};
-use mk_caller::lower::words::{Turn, Words};
 
 /// The low half of a quarantine word has the freed bits, and the high half the snapshot.
 const HALF_WORD: u64 = 4294967296;

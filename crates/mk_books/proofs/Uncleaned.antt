@@ -4,7 +4,8 @@ use Rattle.std.{proofs.lemmas.List.FromFn.length-range_with_len, specs.List.rang
 use Rattle.mk_books.proofs.Vocabulary.{Bool, FitPages, IsNext, KnownPages, List, Option, OthersStay, Page, PutsPage}
 use Rattle.mk_books.proofs.Vocabulary.{Shows, ℕ, ap, arith, cases_lt, false, is_member, length, length-map, not}
 use Rattle.mk_books.proofs.{Vocabulary.{page_at, refl, subst, sym, ◌<◌, ◌∙◌, ◌≡◌, ◌≤◌}, Showing.{known_by, member_at}}
-use Rattle.mk_books.proofs.{Showing.{member_of_freed, set_stays}, FitStays.fit_again, NextPages.same_next, Reading.Reads}
+use Rattle.mk_books.proofs.{Showing.{member_of_freed, set_stays}, FitStays.fit_again, NextPages.same_next}
+use Rattle.mk_books.proofs.Reading.{Reads}
 use Rattle.mk_books.specs.{KnownPages.{is_uncleaned, is_uncleaned_under}, PageSets.members}
 
 pub uncleaned_at : (held : List Page) (sets : List ℕ) (number : ℕ) → number < length held

@@ -1,14 +1,13 @@
 -- What a script is told of answers does to it what they do, and is what it is told of the replies.
-use Rattle.mk_check.proofs.Vocabulary.{Answer, Blocks, Bool, Fed, List, Op, Option, Scope, ap, arith, false, fed_before_answers}
-use Rattle.mk_check.proofs.Vocabulary.{if◌then◌else◌, map, note, refl, scope_of, script_of, take_answer, take_answers}
-use Rattle.mk_check.proofs.Vocabulary.{true, ℕ, [], ◌==◌, ◌∙◌, ◌∷◌, ◌≡◌}
+use Rattle.mk_check.proofs.Vocabulary.{Answer, Blocks, Bool, Fed, List, Op, Option, Scope, ap, arith, false}
+use Rattle.mk_check.proofs.Vocabulary.{fed_before_answers, if◌then◌else◌, map, note, refl, scope_of, script_of}
+use Rattle.mk_check.proofs.Vocabulary.{take_answer, take_answers, true, ℕ, [], ◌==◌, ◌∙◌, ◌∷◌, ◌≡◌, length}
+use Rattle.mk_check.proofs.{Vocabulary.script_names, AdmittedScripts.scripts_are_admitted}
 use Rattle.std.specs.Prelude.{filter}
-use Rattle.mk_core.specs.{Decided.{Decided, asked}, Image.{answer_of}}
+use Rattle.mk_core.specs.{Decided.{Decided, asked}, Image.answer_of}
 use Rattle.mk_never.specs.{NeverHeap.{Call, NeverState, after_op, reply_of}, declared.operations.Reply.Reply}
-use Rattle.mk_check.proofs.AdmittedScripts.{scripts_are_admitted}
-use Rattle.mk_check.proofs.Vocabulary.{length, script_names}
-use Rattle.mk_check.specs.Laws.{heap_of, ops_of_caller}
-use Rattle.mk_check.specs.{Observed.{AnswersAreTold, NoneIsLeftOver, ObservedRunsAreAdmitted, ToldIsEnough, as_told, told_of, told_to}}
+use Rattle.mk_check.specs.{Laws.{heap_of, ops_of_caller}, Observed.{AnswersAreTold, NoneIsLeftOver}}
+use Rattle.mk_check.specs.Observed.{ObservedRunsAreAdmitted, ToldIsEnough, as_told, told_of, told_to}
 
 -- A script that takes what it is told takes the answer.
 
@@ -56,7 +55,8 @@ abbrev answers : List Decided → List Answer
 answers xs = map (λ (x : Decided). x.answer) xs
 
 one_told : (x : Decided) (xs : List Decided) (told : Answer) (ts : List Answer) (own : Bool) → as_told x.answer ≡ told
-    → map as_told (answers xs) ≡ ts → map as_told (answers (if own then x ∷ xs else xs)) ≡ (if own then told ∷ ts else ts)
+    → map as_told (answers xs) ≡ ts
+    → map as_told (answers (if own then x ∷ xs else xs)) ≡ (if own then told ∷ ts else ts)
 one_told x xs told ts true a b =
     ap (λ (t : Answer). t ∷ map as_told (answers xs)) a ∙ ap (λ (l : List Answer). told ∷ l) b
 one_told x xs told ts false a b = b

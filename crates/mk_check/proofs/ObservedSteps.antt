@@ -1,11 +1,14 @@
 -- Each call of a run that can be observed is what its script asks for, told the replies before it.
 use Rattle.std.proofs.Common.{eq-eqb}
-use Rattle.mk_check.proofs.Vocabulary.{Answer, Blocks, Bool, Fed, Line, List, None, Op, Option, Scope, Some, ap, append-nil}
+use Rattle.mk_check.proofs.Vocabulary.{Answer, Blocks, Bool, Fed, Line, List, None, Op, Option, Scope, Some, ap}
+use Rattle.mk_check.proofs.Vocabulary.{append-nil}
 use Rattle.mk_check.proofs.Vocabulary.{append_assoc, arith, fed_before_answers, feed, first_op, flagged, if◌then◌else◌}
 use Rattle.mk_check.proofs.Vocabulary.{length, length-append, note, op_of, refl, script_of, script_scope, sym}
-use Rattle.mk_check.proofs.Vocabulary.{take_answer, take_answers, with_answer, ℕ, [], ◌++◌, ◌+◌, ◌==◌, ◌∙◌, ◌∷◌, ◌≡◌, ◌≤◌}
+use Rattle.mk_check.proofs.Vocabulary.{take_answer, take_answers, with_answer, ℕ, [], ◌++◌, ◌+◌, ◌==◌, ◌∙◌, ◌∷◌, ◌≡◌}
+use Rattle.mk_check.proofs.Vocabulary.{◌≤◌}
 use Rattle.mk_never.specs.NeverHeap.{Call, NeverState, after_calls, after_op, reply_of}
-use Rattle.mk_check.proofs.{AdmittedScripts.first_are_noted, Numbered.{ops-with_answer, run_agrees}, Observed.as_many_told}
+use Rattle.mk_check.proofs.{AdmittedScripts.first_are_noted, Numbered.{ops-with_answer, run_agrees}}
+use Rattle.mk_check.proofs.Observed.{as_many_told}
 use Rattle.mk_check.specs.{Laws.ops_of_caller, Observed.{told_of, told_to}}
 use Rattle.mk_check.specs.ObservedSteps.{EachCallIsAskedFor, heap_before}
 
@@ -48,7 +51,8 @@ ops_one : (scope : Scope) (fed : Fed) (left : Blocks) (a : Answer)
     → (take_answer scope fed left a).ops ≡ fed.ops ++ noted_by (first_op scope fed left) a
 ops_one scope fed (Line line item rest) a =
     (run_agrees scope rest (with_answer scope (note fed (op_of scope fed item) line a) item a)).answers
-    ∙ (ops-with_answer scope (note fed (op_of scope fed item) line a) item a ∙ ops_note fed (op_of scope fed item) line a)
+    ∙ (ops-with_answer scope (note fed (op_of scope fed item) line a) item a
+    ∙ ops_note fed (op_of scope fed item) line a)
 ops_one scope fed _ a = sym (append-nil fed.ops)
 
 ops_all : (scope : Scope) (fed : Fed) (xs : List Answer)
@@ -67,7 +71,8 @@ few_noted : (scope : Scope) (fed : Fed) (xs : List Answer) → length (noted_all
 few_noted scope fed [] = omega arith
 few_noted scope fed (a ∷ xs) =
     let next = take_answer scope fed fed.left a in
-    let more = one_more (first_op scope fed fed.left) a (noted_all scope next xs) (length xs) (few_noted scope next xs) in
+    let more =
+    one_more (first_op scope fed fed.left) a (noted_all scope next xs) (length xs) (few_noted scope next xs) in
     omega arith
 
 noted_parts : (scope : Scope) (fed : Fed) (xs ys : List Answer)

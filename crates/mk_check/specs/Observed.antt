@@ -1,9 +1,12 @@
 -- A run as it can be observed: the calls of all scripts in one order, on a heap that never reuses storage.
-use Rattle.std.specs.{Prelude.{◌≡◌, ℕ, true, List, [], ◌∷◌, length, ◌==◌, if◌then◌else◌, All, map}, List.{flat_map, range_with_len}}
-use Rattle.mk_never.specs.{declared.operations.Reply.Reply, NeverHeap.{NeverState, Call, reply_of, after_op, replies_of}}
+use Rattle.std.specs.Prelude.{◌≡◌, ℕ, true, List, [], ◌∷◌, length, ◌==◌, if◌then◌else◌, All, map}
+use Rattle.std.specs.List.{flat_map, range_with_len}
+use Rattle.mk_never.specs.{declared.operations.Reply.Reply, NeverHeap.{NeverState, Call, reply_of, after_op}}
+use Rattle.mk_never.specs.NeverHeap.{replies_of}
 use Rattle.mk_core.specs.{declared.events.Answer.Answer, Decided.{Decided, asked, answered}, Image.answers_of}
 use Rattle.mk_script.specs.{declared.items.Item.Item, Scopes.script_names}
-use Rattle.mk_check.specs.{Feed.{feed, has_ended, Fed}, Laws.{IsChecked, IsScript, AreAdmittedFor, ops_of_caller, heap_of}, Output.answers_among}
+use Rattle.mk_check.specs.{Feed.{feed, has_ended, Fed}, Laws.{IsChecked, IsScript, AreAdmittedFor, ops_of_caller}}
+use Rattle.mk_check.specs.{Laws.heap_of, Output.answers_among}
 use Rattle.mk_never.specs.declared.operations.Reply.TheVariants as reply
 use Rattle.mk_core.specs.declared.events.Answer.TheVariants as answer
 

@@ -6,7 +6,8 @@ ghost use Rattle.mk_script.specs.{declared.items.Item.Item, Scopes.script_names}
 ghost use Rattle.mk_check.specs.Laws.{IsChecked, IsScript, AreNotedBy, AnswersAreNoted, OthersAreIgnored};
 ghost use Rattle.mk_check.specs.{Laws.{AreAdmittedFor, NextIsAdmitted, AreOfScripts}, Output.EndedCallsAreAnswered};
 ghost use Rattle.mk_check.specs.ObservedSteps.{EachCallIsAskedFor};
-ghost use Rattle.mk_check.specs.{Observed.{ToldIsEnough, AnswersAreTold, ObservedRunsAreAdmitted, NoneIsLeftOver}, WrittenBlocks.{ScriptsAreTheirLines}};
+ghost use Rattle.mk_check.specs.Observed.{ToldIsEnough, AnswersAreTold, ObservedRunsAreAdmitted, NoneIsLeftOver};
+ghost use Rattle.mk_check.specs.WrittenBlocks.{ScriptsAreTheirLines};
 
 /// What a script asks for next is admitted: after any admitted calls, whatever their other callers did, if
 /// its own are those that it noted so far.

@@ -7,8 +7,8 @@ ghost use Rattle.mk_core.specs.declared.events.Answer.TheVariants as answer;
 
 use crate::outcomes::Unmade;
 use mk_heap::lower::callers::Caller;
-use mk_never::Op;
 use mk_heap::lower::objects::{Request, place_object};
+use mk_never::Op;
 
 /// Creates an object of one number in a turn, unless another seat has the turn or nothing fits.
 pub fn make_number(caller: &mut Caller, d: u8, ty: u64) -> Result<(), Unmade>

@@ -5,8 +5,8 @@ ghost use Rattle.mk_core.specs.declared.events.Seat.TheVariants.{Caller as OfCal
 ghost use Rattle.mk_heap.specs.{Below.Words.Seats.Has, Below.Callers.States.Admits};
 ghost use Rattle.mk_clients.specs.Setters.{IsOnlySetter, IsOnlyStore, TakesOut};
 
-use mk_heap::lower::callers::{Caller, Refusal};
 use mk_core::Seat;
+use mk_heap::lower::callers::{Caller, Refusal};
 use mk_heap::lower::words::{Held, Pass, Words};
 
 /// A pointer that is moved to another register is the same there.

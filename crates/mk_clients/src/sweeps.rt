@@ -4,10 +4,10 @@ ghost use Rattle.std.specs.Prelude.{◌≡◌, IfOk};
 ghost use Rattle.mk_heap.specs.Below.Cycles.EngineLaw.{IsFreeForCycle, IsAtPhase};
 ghost use Rattle.mk_sweep.specs.SweepCycle.{HasMarkers, MakesWholeCycle, ReleasesUnswept};
 
-use mk_sweep::{SweepEngine, sweep_cycle};
 use mk_heap::lower::cycles::{Engine, Released};
-use mk_never::NoMemory;
 use mk_heap::lower::words::{Turn, Words};
+use mk_never::NoMemory;
+use mk_sweep::{SweepEngine, sweep_cycle};
 use std::alloc::Global;
 use std::sync::Wait;
 use std::thread::Threads;

@@ -6,7 +6,8 @@ ghost use Rattle.mk_core.specs.{Moments.outside, Order.seat_exists, Ranges.is_in
 ghost use Rattle.mk_core.specs.Enabled.{marker_may, holder_may, meets_own, failing_in_order, failing, IsEnabled};
 ghost use Rattle.mk_core.specs.{Accesses.caller_number, Effects.{seats_behind, moment_behind, answer_by}};
 ghost use Rattle.mk_core.specs.{Effects.answer_decided, History.{left, AreEnabled, calls}, Decided.entry_of};
-ghost use Rattle.mk_core.specs.{Failing.number_failing, Standing.{CoreState, CoreStandsFor}, declared.events.Event.Event};
+ghost use Rattle.mk_core.specs.{Failing.number_failing, Standing.{CoreState, CoreStandsFor}};
+ghost use Rattle.mk_core.specs.declared.events.Event.{Event};
 
 use crate::failing::Condition;
 use crate::machine::{AT_REST, NOTHING_DONE, OUTSIDE};

@@ -9,8 +9,7 @@ use Rattle.mk_heap.proofs.{Below.Objects.CalmStretches.cycles_in_turn, Below.Obj
 use Rattle.mk_heap.proofs.{Below.Objects.Parts.made_as, Below.Objects.JoinedLooks.does_wider}
 use Rattle.mk_heap.proofs.{Below.Words.Doing.does_then, Below.Words.TurnSteps.takes}
 use Rattle.mk_heap.specs.{Below.Objects.TurnCycles.finishes, Below.Words.Doing.Does, Below.Words.Taking.TakesTurn}
-use Rattle.mk_heap.specs.Below.Words.States.{IsTurn}
-use Rattle.mk_heap.specs.Ending.{EndsCycle}
+use Rattle.mk_heap.specs.{Below.Words.States.IsTurn, Ending.EndsCycle}
 
 -- Outside of phases 1 and 2 no cycle is closed before another is begun.
 

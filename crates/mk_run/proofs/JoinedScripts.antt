@@ -5,14 +5,13 @@ use Rattle.mk_laws.proofs.Vocabulary.{sym, zero, [], ◌++◌, ◌+◌, ◌<◌,
 use Rattle.mk_run.proofs.Vocabulary.{AreTextsFrom, CallerState, EndsScript, FollowsScript, Grows, Has, HasJoined}
 use Rattle.mk_run.proofs.Vocabulary.{HasMade, HostState, IfOk, IsAtHome, IsFirstPass, IsScript, IsTextOf, Item}
 use Rattle.mk_run.proofs.Vocabulary.{PassState, Text, WordsState, answers_in, has_first, has_left, script_names}
-use Rattle.mk_run.proofs.Vocabulary.{slice_get_within, with_joined, ⊎_elim}
+use Rattle.mk_run.proofs.{Vocabulary.{slice_get_within, with_joined, ⊎_elim}, LaterLists.{of_one, still_ends}}
+use Rattle.mk_run.proofs.LaterLists.{still_follows, still_text}
 use Rattle.mk_never.specs.declared.never_heap.NoMemory.{NoMemory}
 use Rattle.mk_core.specs.History.{calls_from}
-use Rattle.mk_heap.specs.Below.Callers.States.{IsIdleCaller}
+use Rattle.mk_heap.specs.{Below.Callers.States.IsIdleCaller, Hosts.{pass_for, with_caller_made}}
 use Rattle.mk_heap.proofs.Below.Words.Seats.{has_right, without_keeps}
 use Rattle.mk_check.proofs.AdmittedScripts.{first_are_noted}
-use Rattle.mk_heap.specs.Hosts.{pass_for, with_caller_made}
-use Rattle.mk_run.proofs.LaterLists.{of_one, still_ends, still_follows, still_text}
 
 -- Before the first call.
 

@@ -12,10 +12,9 @@ use Rattle.mk_heap.proofs.Below.Objects.CycleParts.{BeginIn, FinishIn, begin_doe
 use Rattle.mk_heap.proofs.Below.Objects.ListParts.{IsAt, lacks_append, lacks_first, lacks_second, only_at}
 use Rattle.mk_heap.proofs.Below.Objects.OwnGives.{GivesNone, doing_gives, gives_append, others_give}
 use Rattle.mk_heap.proofs.{Below.Objects.Parts.{others_lack, seen_behind}, Below.Words.Doing.does_then}
-use Rattle.mk_heap.proofs.Below.Words.Made.{pass_before}
+use Rattle.mk_heap.proofs.{Below.Words.Made.pass_before, MovedHosts.{MovesOn, moves_does, moves_more}}
 use Rattle.mk_heap.specs.{Below.Cycles.Telling.IsToldAtClose, Below.Words.Doing.Does}
-use Rattle.mk_heap.specs.Below.Words.States.{IsTurn, event_of}
-use Rattle.mk_heap.{proofs.MovedHosts.{MovesOn, moves_does, moves_more}, specs.Ending.{MakesCycle}}
+use Rattle.mk_heap.specs.{Below.Words.States.{IsTurn, event_of}, Ending.MakesCycle}
 use Rattle.mk_run.specs.LastCycle.{MakesLastCycle, give_of}
 
 module _ {p q : PassState} (m : MakesCycle p q) where

@@ -11,11 +11,10 @@ use Rattle.mk_run.proofs.{HostTurnParts.turn_taken, LastCycles.last_cycle}
 use Rattle.mk_heap.proofs.Below.Objects.Parts.{behind_step, made_as, others_lack, seen_made}
 use Rattle.mk_heap.proofs.{Below.Objects.CycleParts.begins_held, Below.Objects.ListParts.{lacks_append, lacks_one}}
 use Rattle.mk_heap.proofs.{Below.Words.Waiting.waits_more, Below.Words.Made.pass_before}
+use Rattle.mk_heap.proofs.HomeCallers.{HoldersStepNone, others_hold_none, waiting_holds_none}
 use Rattle.mk_heap.specs.{Below.Objects.TurnCycles.within_turn, Below.Words.Doing.Does}
 use Rattle.mk_heap.specs.{Below.Words.Taking.{TakesTurn, Waits}, Below.Words.States.{IsTurn, event_of}}
-use Rattle.mk_heap.specs.Below.Words.Steps.{Makes}
-use Rattle.mk_heap.proofs.HomeCallers.{HoldersStepNone, others_hold_none, waiting_holds_none}
-use Rattle.mk_heap.specs.{Ending.EndsCycle, declared.reports.Report.Report}
+use Rattle.mk_heap.specs.{Below.Words.Steps.Makes, Ending.EndsCycle, declared.reports.Report.Report}
 use Rattle.mk_run.specs.LastCycle.{EndsWithCycle, MakesLastCycle}
 use Rattle.mk_heap.specs.Reports as report
 

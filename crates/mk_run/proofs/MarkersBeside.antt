@@ -4,13 +4,12 @@ use Rattle.mk_laws.proofs.Vocabulary.{Bool, Caller, Config, Host, IsHistory, Lis
 use Rattle.mk_laws.proofs.Vocabulary.{marker_at, outside, subst, sym, true, [], ◌++◌, ◌+◌, ◌<◌, ◌∙◌, ◌∷◌, ◌≡◌, ◌≤◌}
 use Rattle.mk_run.proofs.Vocabulary.{AreTextsFrom, CallersAreStill, Grows, Has, HasMade, HostState, IsOver, Item}
 use Rattle.mk_run.proofs.Vocabulary.{PassState, WordsState, config_of, has_first, has_left, with_joined, ⊎_elim}
+use Rattle.mk_run.proofs.{WholeRuns.{all_callers_home, still_joined, still_texts}, HostTurns.still_last}
+use Rattle.mk_run.proofs.{JoinedScripts.same_or_later, LaterLists.of_one}
 use Rattle.mk_core.specs.{History.left_from, MarkerConditions.is_out}
-use Rattle.mk_heap.specs.Hosts.{pass_for, with_marker_made}
-use Rattle.mk_run.proofs.WholeRuns.{all_callers_home, still_joined, still_texts}
-use Rattle.mk_run.proofs.{HostTurns.still_last, JoinedScripts.same_or_later, LaterLists.of_one}
+use Rattle.mk_heap.specs.{Hosts.{pass_for, with_marker_made}, Below.Words.Seats.has_over}
 use Rattle.mk_run.specs.{Marking.IsMarkersPass, declared.joining.Joined.Joined}
 use Rattle.mk_heap.proofs.Below.Words.Seats.{has_right, without_keeps}
-use Rattle.mk_heap.specs.Below.Words.Seats.{has_over}
 
 -- A marker that has done nothing is out.
 

@@ -1,17 +1,15 @@
 -- A run that stands in one history can be observed: its calls in their order, what each script is told, and the bytes.
 use Rattle.std.proofs.{Common.All, lemmas.List.length-replicate, lemmas.List.Elements.{All-cons, All-nil}}
-use Rattle.std.specs.List.{flat_map, range_with_len}
-use Rattle.mk_laws.proofs.Vocabulary.{Event, List, ℕ, ap, arith, asked, calls}
-use Rattle.mk_laws.proofs.Vocabulary.{length, refl, subst, suc, sym, [], ◌++◌, ◌+◌, ◌*◌, ◌<◌, ◌∙◌, ◌∷◌, ◌≡◌}
-use Rattle.std.specs.Prelude.{zero}
-use Rattle.mk_never.specs.{Admitted.AreAdmitted, NeverHeap.{Call, NeverState, after_op}}
-use Rattle.mk_never.specs.declared.values.Value.{Value}
+use Rattle.std.specs.{List.{flat_map, range_with_len}, Prelude.zero}
+use Rattle.mk_laws.proofs.Vocabulary.{Event, List, ℕ, ap, arith, asked, calls, length, refl, subst, suc, sym, [], ◌++◌}
+use Rattle.mk_laws.proofs.Vocabulary.{◌+◌, ◌*◌, ◌<◌, ◌∙◌, ◌∷◌, ◌≡◌}
+use Rattle.mk_never.specs.{Admitted.AreAdmitted, NeverHeap.{Call, NeverState, after_op}, declared.values.Value.Value}
 use Rattle.mk_never.proofs.Later.{op_stays}
 use Rattle.mk_core.specs.{History.{RefinesNever, bases_of, left, never_first}, declared.events.Answer.Answer}
 use Rattle.mk_check.proofs.Observed.{answers_told, feed_told}
 use Rattle.mk_check.specs.{Feed.{Fed, has_ended}, Observed.{ObservedRun, script_after}, Output.{output, text_behind}}
 use Rattle.mk_run.proofs.Vocabulary.{IsScript, IsWhole, Item, answers_in, config_of, feed, script_names}
-use Rattle.mk_run.{proofs.Headline.all_given, specs.ObservedRuns.{PrintedRunsCanBeObserved, RunsCanBeObserved}}
+use Rattle.mk_run.{proofs.Headline.{all_given}, specs.ObservedRuns.{PrintedRunsCanBeObserved, RunsCanBeObserved}}
 
 -- who is admitted is one of the callers
 callers_exist : (globals : List ℕ) (callers : ℕ) (n : NeverState) (xs : List Call) → length n.registers ≡ 8 * callers
@@ -20,7 +18,8 @@ callers_exist globals callers n [] long admitted = All-nil (λ (x : Call). x.cal
 callers_exist globals callers n (x ∷ xs) long admitted =
     let within = admitted.0.of_a_caller in
     All-cons (λ (y : Call). y.caller < callers) x xs (omega arith)
-    (callers_exist globals callers (after_op n x.caller x.op) xs ((op_stays n x.caller x.op).registers ∙ long) admitted.1)
+    (callers_exist globals callers (after_op n x.caller x.op) xs
+    ((op_stays n x.caller x.op).registers ∙ long) admitted.1)
 
 -- pieces that are the same at each place
 same_pieces : (f g : ℕ → List ℕ) (a n : ℕ) → ((k : ℕ) → k < a + n → f k ≡ g k)
@@ -31,7 +30,8 @@ same_pieces f g a (suc n) each =
     ∙ ap (λ more. g a ++ more) (same_pieces f g (a + 1) n (λ k less. each k (omega arith)))
 
 -- A script that is told the replies is where its answers bring it.
-same_script : (program : List Item) (markers : ℕ) (es : List Event) (k : ℕ) → RefinesNever (config_of program markers) es
+same_script :
+    (program : List Item) (markers : ℕ) (es : List Event) (k : ℕ) → RefinesNever (config_of program markers) es
     → feed program k (answers_in (config_of program markers) k es)
     ≡ script_after program (asked (calls (config_of program markers) es)) k
 same_script program markers es k refined =

@@ -5,8 +5,7 @@ use Rattle.mk_run.proofs.Vocabulary.{AreTextsFrom, CallersAreStill, EndsScript, 
 use Rattle.mk_run.proofs.Vocabulary.{HasJoined, HostComesLast, HostState, IsOver, IsRunOf, IsScript, IsTextOf, IsWhole}
 use Rattle.mk_run.proofs.Vocabulary.{Item, Outcome, Text, WordsState, config_of, slice_get_within}
 use Rattle.mk_run.{proofs.LaterLists.{still_ends, still_follows, still_text}, specs.declared.joining.Joined.{Joined}}
-use Rattle.mk_heap.specs.{Ending.CallersAreJoined, Hosts.AllAreJoined, Reports.HasCounts}
-use Rattle.mk_heap.specs.Below.Words.Seats.{has_over}
+use Rattle.mk_heap.specs.{Ending.CallersAreJoined, Hosts.AllAreJoined, Reports.HasCounts, Below.Words.Seats.has_over}
 use Rattle.mk_heap.specs.Reports as report
 
 pub all_callers_joined : {on : Bool} {program : List Item} {w : WordsState} {h : HostState}

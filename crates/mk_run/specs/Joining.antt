@@ -4,8 +4,7 @@ use Rattle.std.specs.Prelude.{◌≡◌, ℕ, ◌+◌, ◌≤◌, Bool, false, L
 use Rattle.mk_core.specs.{declared.events.Event.Event, declared.events.Seat.TheVariants.{Caller, Host}}
 use Rattle.mk_core.specs.{declared.config.Config.Config, Growing.AreOfOthers}
 use Rattle.mk_heap.specs.{Below.Words.Seats.{Has, has_over}, Below.Words.States.{WordsState, PassState}}
-use Rattle.mk_heap.specs.Below.Callers.States.{IsIdleCaller}
-use Rattle.mk_heap.specs.Hosts.{HostState}
+use Rattle.mk_heap.specs.{Below.Callers.States.IsIdleCaller, Hosts.HostState}
 use Rattle.mk_script.specs.{declared.items.Item.Item, Scopes.script_names}
 use Rattle.mk_check.specs.{Laws.IsScript, declared.text.Text.Text}
 use Rattle.mk_run.specs.{Running.{FollowsScript, EndsScript, IsTextOf}, declared.joining.Ran.Ran}

@@ -8,14 +8,13 @@ ghost use Rattle.mk_heap.specs.Below.Objects.Underway.{PassKeeps};
 ghost use Rattle.mk_run.specs.Scripts.{IsCalled, IsAdmittedByOwnCalls, Answers, AsksFor, AsksBesideTurns, IsPutOff};
 ghost use Rattle.mk_run.specs.Scripts.{StaysBeside};
 
-use mk_heap::lower::objects::{free_object, new_object};
-use mk_heap::lower::callers::{Caller, Refusal};
 use mk_check::Feed;
 use mk_core::Answer;
+use mk_heap::lower::callers::{Caller, Refusal};
 use mk_heap::lower::cycles::Engine;
+use mk_heap::lower::objects::{free_object, new_object};
+use mk_heap::lower::words::{Held, Patience};
 use mk_never::Op;
-use mk_heap::lower::words::Patience;
-use mk_heap::lower::words::Held;
 use std::sync::Wait;
 use std::thread::Threads;
 

@@ -10,9 +10,9 @@ ghost use Rattle.mk_run.specs.Scripts.{CountsHaveRoom, IsFedWith, ScriptTakesAns
 use crate::answers::{answer_at_once, answer_put_off};
 use crate::paces::Pace;
 use crate::ready::ReadyScript;
-use mk_heap::lower::callers::Caller;
 use mk_check::{Checked, Feed, Text, is_refusal};
 use mk_core::Answer;
+use mk_heap::lower::callers::Caller;
 use mk_heap::lower::cycles::Engine;
 use mk_never::NoMemory;
 use std::alloc::Global;

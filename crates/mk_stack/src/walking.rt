@@ -7,10 +7,10 @@ use crate::advancing::{
     FIRST, LINK, STACK, TOP, UPPERMOST, load, load_number, number_answered, says_yes,
 };
 use crossbeam_utils::Backoff;
-use mk_run::lower::callers::Caller;
 use mk_core::Answer;
 use mk_never::{NoMemory, Op};
 use mk_run::call;
+use mk_run::lower::callers::Caller;
 use mk_run::lower::words::Held;
 use std::alloc::Global;
 use std::sync::Wait;

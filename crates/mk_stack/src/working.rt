@@ -12,10 +12,10 @@ use crate::joining::{Callers, Joined, run_from};
 use crate::shared::Run;
 use crate::stacks::found_stack;
 use crate::walking::read_stack;
-use mk_run::lower::cycles::Engine;
-use mk_run::lower::heaps::Host;
 use mk_never::NoMemory;
 use mk_run::Pace;
+use mk_run::lower::cycles::Engine;
+use mk_run::lower::heaps::Host;
 use std::sync::Wait;
 use std::thread::Threads;
 
