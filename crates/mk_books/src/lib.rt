@@ -1,10 +1,10 @@
-//! The heap's books: where an object goes, counts of the pages, and what can be given back; and a map of the pages that
-//! answers the same without a look at them. A page whose header is no header word counts as reserved: it is neither free
-//! nor resident.
+//! The heap's books: where an object goes, counts of the pages, and what can be given back; and a map that answers such
+//! questions without a walk over the pages. A page whose header is no header word counts as reserved: it is neither
+//! free nor resident.
 //!
 //! `first_fit` finds the lowest place that there is, `census` and `held_by_pages` count exactly, and `due` says when a
-//! cycle has to come. A `PageMap` is told of each header, used and quarantine word that changes, and its answers are those
-//! of the pages that it shows (`Shows`). Start with `fitting`, then `page_map`.
+//! cycle has to come. A `PageMap` is told of each header, used and quarantine word that changes, and its answers are
+//! those of the pages that it shows (`Shows`). Start with `fitting`, then `page_map`.
 #![tactic(auto)]
 
 mod changes;

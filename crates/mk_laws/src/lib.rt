@@ -1,4 +1,4 @@
-//! What holds of every history of a heap: facts alone, with no code. Start with `theorem_laws`, which has all promises
+//! What holds of every history of a heap: facts only, with no code. Start with `theorem_laws`, which has all promises
 //! of a history in one record (`specs/Promises.antt`). The other modules prove them, a group of facts each:
 //! `invariant_laws` joins the groups in one induction.
 #![tactic(auto)]
